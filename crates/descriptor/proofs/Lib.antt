@@ -1,0 +1,6 @@
+pub mod QtdCases
+pub mod Coverage
+pub mod HeadCases
+pub mod HeadFields
+pub mod SetupFields
+pub mod Examples

@@ -1,0 +1,8 @@
+pub mod EhciQtd
+pub mod EhciQueueHead
+pub mod UsbSetup
+pub mod Slots
+pub mod Descriptors
+pub mod Heads
+pub mod Setups
+pub mod Examples

@@ -1,0 +1,3 @@
+pub mod BitLaws
+pub mod FieldLaws
+pub mod WritesLaws

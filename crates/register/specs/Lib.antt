@@ -1,0 +1,3 @@
+pub mod EhciRegisters
+pub mod Bits
+pub mod Writes

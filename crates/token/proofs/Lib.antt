@@ -1,0 +1,5 @@
+pub mod TokenLaws
+pub mod TokenFields
+pub mod PlanCases
+pub mod PortCases
+pub mod ChunkLaws

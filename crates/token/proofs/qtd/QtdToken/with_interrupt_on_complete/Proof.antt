@@ -1,0 +1,14 @@
+use Rattle.token.proofs.TokenLaws.{flag-field}
+use mathlib.Core.Path.{_∙_}
+use borrow.Author.Needs.{needs}
+use Rattle.token.proofs.qtd.QtdToken.with_interrupt_on_complete.Statement.{statement}
+use Rattle.token.proofs.qtd.QtdToken.with_interrupt_on_complete.Tie as tie
+
+with-flag-requires : tie.Need-with-flag-requires
+with-flag-requires c κs = search needs
+
+returns : tie.Need-returns
+returns c = c .with-flag .ensures ∙ flag-field (c .before .args .self .0) 15 (c .before .args .set) (search needs) (search needs)
+
+pub with-interrupt-on-complete-spec : {M : Type 1} → statement M
+with-interrupt-on-complete-spec = tie.close (tie.spec with-flag-requires returns)

@@ -1,0 +1,6 @@
+pub mod EhciQtd
+pub mod EhciPortsc
+pub mod Ports
+pub mod Tokens
+pub mod Plans
+pub mod Chunks
