@@ -4,7 +4,7 @@ use mathlib.Core.Path.{_≡_, refl, sym, ap, ap₂, _∙_}
 use mathlib.Core.Bool.{true, false}
 use mathlib.Core.List.{List, [], _∷_, _++_, append-assoc, append-nil}
 use native.Mathlib.Decide.{ℕ-discrete as decEq}
-use native.Mathlib.Nat.{add-mul-div-right, add-suc, add-zero, div-add-mod', div-le-self, mod-lt, mul-le-mul-right, sub-zero, suc-add, suc-mul, suc-sub-suc, zero-add}
+use native.Mathlib.Nat.{add-mul-div-right, add-suc, add-zero, div-add-mod', mod-lt, mul-le-mul-right, sub-zero, suc-add, suc-mul, suc-sub-suc, zero-add}
 use native.Mathlib.Numerals.{add-one}
 use native.Mathlib.Omega.{arith}
 use borrow.Author.Tests.{eq-eqb, le-leb, lt-leb, ne-eqb}
@@ -107,9 +107,6 @@ pub chunks-sum : (L C : ℕ) → 1 ≤ C → sumOf (chunksFrom 0 (chunkCount L C
 chunks-sum L C hC = omega (arith, from-sum 0 (chunkCount L C) L C, covers L C hC)
 
 -- ---- the functions' returns and turns
-
-pub count-fits : (L C : ℕ) → L < 2 ^ 64 → (L ≡ 0 → ⊥) → (L - 1) / C + 1 < 2 ^ 64
-count-fits L C h ne = omega (arith, div-le-self (L - 1) C)
 
 pub count-empty-case : (L C : ℕ) → L ≡ 0 → 1 ≡ chunkCount L C
 count-empty-case L C e = sym (count-empty L C e)

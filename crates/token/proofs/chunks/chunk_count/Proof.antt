@@ -1,4 +1,7 @@
-use Rattle.token.proofs.ChunkLaws.{count-empty-case, count-data-case, count-fits}
+use native.Mathlib.Omega.{arith}
+use native.Mathlib.Nat.{div-le-self}
+use Prim.Native.Nat.{_-_}
+use Rattle.token.proofs.ChunkLaws.{count-empty-case, count-data-case}
 use borrow.Author.Needs.{needs}
 use Rattle.token.proofs.chunks.chunk_count.Statement.{statement}
 use Rattle.token.proofs.chunks.chunk_count.Tie as tie
@@ -13,7 +16,7 @@ div-result : tie.Need-div-result
 div-result c = search needs
 
 add-result : tie.Need-add-result
-add-result c = record { fits = count-fits _ _ (search needs) (c .if1 .left) }
+add-result c = omega (arith, div-le-self (c .before .args .length - 1) (c .before .args .limit))
 
 returns-2 : tie.Need-returns-2
 returns-2 c = search count-data-case
