@@ -1,0 +1,4 @@
+pub mod Tests
+pub mod Settings
+pub mod Slots
+pub mod Ranges
