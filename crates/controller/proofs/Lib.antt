@@ -1,2 +1,7 @@
 pub mod SettingsCases
 pub mod RangesCases
+pub mod RowsCases
+pub mod OpenCases
+pub mod AddressCases
+pub mod EndpointCases
+pub mod ReaderCases

@@ -35,9 +35,9 @@ unfolding boundaryGood
 advance-boundary k b u r ne er = er ∙ rw (ne-eqb k 3 ne)
 
 module _ (e : Slot) (u : ℕ) where
-  pub phase-closed : (z n r : Bool) → e .phase ≡ 0 → z ≡ eqb (e .kind) 0 → n ≡ noRequest e → r ≡ both z n → r ≡ phaseGood e u
-  unfolding phaseGood closedGood
-  phase-closed z n r p ez en er = er ∙ rw (ez, en, p)
+  pub phase-closed : (r : Bool) → e .phase ≡ 0 → r ≡ closedGood e → r ≡ phaseGood e u
+  unfolding phaseGood
+  phase-closed r p er = er ∙ rw p
 
   pub phase-idle : (z n r : Bool) → e .phase ≡ 1 → z ≡ openKind (e .kind) → n ≡ noRequest e → r ≡ both z n → r ≡ phaseGood e u
   unfolding phaseGood idleGood

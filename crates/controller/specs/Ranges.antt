@@ -35,7 +35,7 @@ noRequest e =
     (eqb (e .request) 0 ∷ eqb (e .direction) 0 ∷ eqb (e .length) 0 ∷ eqb (e .cancel) 0 ∷ eqb (e .boundary) 0 ∷ [])
 
 unfoldable pub closedGood : Slot → Bool
-closedGood e = both (eqb (e .kind) 0) (noRequest e)
+closedGood e = every (eqb (e .kind) 0 ∷ eqb (e .id) 1 ∷ noRequest e ∷ [])
 
 unfoldable pub idleGood : Slot → Bool
 idleGood e = both (openKind (e .kind)) (noRequest e)

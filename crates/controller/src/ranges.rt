@@ -63,6 +63,13 @@ fn no_request(e: Slot) -> bool
     both(equal(e.request, 0), direction)
 }
 
+fn closed_good(e: Slot) -> bool
+    ensures { λ r. ⌜ r ≡ closedGood e ⌝ }
+{
+    let id = both(equal(e.id, 1), both(no_request(e), true));
+    both(equal(e.kind as u64, 0), id)
+}
+
 fn linked_good(e: Slot) -> bool
     ensures { λ r. ⌜ r ≡ linkedGood e ⌝ }
 {
@@ -98,7 +105,7 @@ fn phase_good(e: Slot, unanswered: u8) -> bool
 {
     let phase = e.phase;
     if phase == 0 {
-        return both(equal(e.kind as u64, 0), no_request(e));
+        return closed_good(e);
     }
     if phase == 1 {
         return both(open_kind(e.kind), no_request(e));

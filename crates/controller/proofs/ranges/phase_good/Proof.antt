@@ -3,17 +3,8 @@ use borrow.Author.Needs.{needs}
 use Rattle.controller.proofs.ranges.phase_good.Statement.{statement}
 use Rattle.controller.proofs.ranges.phase_good.Tie as tie
 
-cast-equal : tie.Need-cast-equal
-cast-equal c = search needs
-
-equal-requires : tie.Need-equal-requires
-equal-requires c κs = search needs
-
-no-request-requires : tie.Need-no-request-requires
-no-request-requires c κs = search needs
-
-both-requires : tie.Need-both-requires
-both-requires c κs = search needs
+closed-good-requires : tie.Need-closed-good-requires
+closed-good-requires c κs = search needs
 
 returns : tie.Need-returns
 returns c = search phase-closed
@@ -21,11 +12,11 @@ returns c = search phase-closed
 open-kind-requires : tie.Need-open-kind-requires
 open-kind-requires c κs = search needs
 
-no-request-requires-2 : tie.Need-no-request-requires-2
-no-request-requires-2 c κs = search needs
+no-request-requires : tie.Need-no-request-requires
+no-request-requires c κs = search needs
 
-both-requires-2 : tie.Need-both-requires-2
-both-requires-2 c κs = search needs
+both-requires : tie.Need-both-requires
+both-requires c κs = search needs
 
 returns-2 : tie.Need-returns-2
 returns-2 c = search phase-idle
@@ -49,14 +40,11 @@ pub phase-good-spec : {M : Type 1} → statement M
 phase-good-spec =
     tie.close
     (tie.spec
-    cast-equal
-    equal-requires
-    no-request-requires
-    both-requires
+    closed-good-requires
     returns
     open-kind-requires
-    no-request-requires-2
-    both-requires-2
+    no-request-requires
+    both-requires
     returns-2
     linked-good-requires
     returns-3

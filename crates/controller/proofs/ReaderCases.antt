@@ -1,0 +1,64 @@
+-- The loop and the returns of the readers.
+use Prim.Native.Nat.{ℕ, zero, suc, _+_, _-_, _≤_, _<_}
+use mathlib.Core.Path.{_≡_, refl, sym, ap, _∙_}
+use mathlib.Core.Bool.{Bool, true, false}
+use mathlib.Core.List.{List, [], _∷_}
+use native.Mathlib.Numerals.{add-one}
+use native.Mathlib.Omega.{arith}
+use borrow.Author.Tests.{eq-eqb, ne-eqb}
+use lib.Dec.{eqb}
+use lib.ListN.{drop, drop-of-length-le, getD, length, take, List·getD-eq-default}
+use lib.Seq.{drop-cons, length-take-le, take-all}
+use Rattle.controller.specs.declared.endpoint.Endpoint.{Endpoint}
+use Rattle.controller.specs.declared.endpoint.Endpoint.the-variants.{Closed, Idle, Linked, Unlinking}
+use Rattle.controller.specs.declared.endpoint.Pipe.{Pipe}
+use Rattle.controller.specs.declared.endpoint.Request.{Request}
+use Rattle.controller.specs.declared.endpoint.UnlinkBoundary.{UnlinkBoundary}
+use Rattle.controller.specs.declared.state.Ehci.{Ehci}
+use Rattle.controller.specs.Endpoints.{endpointAt, flagNumber}
+use Rattle.controller.specs.Readers.{countZero, freeCount, hasPlace, isUncollected}
+
+counted-more : (l : List ℕ) (i : ℕ) → i < length l → countZero (drop i l) ≡ flagNumber (eqb (getD l i 0) 0) + countZero (drop (i + 1) l)
+unfolding countZero
+counted-more l i h = rw (drop-cons l i 0 h, add-one i)
+
+pub zero-here : (l : List ℕ) (i n m : ℕ) → i < length l → getD l i 0 ≡ 0 → m ≡ n + 1 → n + countZero (drop i l) ≡ countZero l
+    → m + countZero (drop (i + 1) l) ≡ countZero l
+zero-here l i n m h e em inv = omega (arith, rw (eq-eqb (getD l i 0) 0 e) at (counted-more l i h))
+
+pub other-here : (l : List ℕ) (i n m : ℕ) → i < length l → (getD l i 0 ≡ 0 → ⊥) → m ≡ n → n + countZero (drop i l) ≡ countZero l
+    → m + countZero (drop (i + 1) l) ≡ countZero l
+other-here l i n m h e em inv = omega (arith, rw (ne-eqb (getD l i 0) 0 e) at (counted-more l i h))
+
+pub all-counted : (l : List ℕ) (i n : ℕ) → length l ≤ i → n + countZero (drop i l) ≡ countZero l → n ≡ countZero l
+unfolding countZero
+all-counted l i n h inv = omega (arith, rw (drop-of-length-le l h) at inv)
+
+pub place-beyond : (s : Ehci) (k p : ℕ) → 256 ≤ p → length (s .owner) ≡ 256 → false ≡ hasPlace s k p
+place-beyond s k p h e =
+    let past : length (s .owner) ≤ p = omega arith in
+    rw (List·getD-eq-default (s .owner) 0 past) (sym (ne-eqb 0 (k + 1) (λ q. omega arith)))
+
+pub front : (d : ℕ) (o : List ℕ) → length o ≡ 256 → d < 256 → d ≡ length (take d o)
+front d o e h = sym (length-take-le d o (omega arith))
+
+pub whole-row : (o : List ℕ) (d r : ℕ) → length o ≡ 256 → 256 ≤ d → r ≡ countZero o → r ≡ countZero (take d o)
+whole-row o d r e h er =
+    let past : length o ≤ d = omega arith in
+    er ∙ rw (take-all d o past)
+
+pub part-within : (d : ℕ) (o : List ℕ) → length o ≡ 256 → d < 256 → length (take d o) ≤ 256
+part-within d o e h = omega (arith, front d o e h)
+
+module _ (s : Ehci) (k : ℕ) (e : Endpoint) (ee : e ≡ endpointAt s k) where
+  pub none-closed : e ≡ Closed → false ≡ isUncollected s k
+  none-closed h = rw (sym ee ∙ h)
+
+  pub none-idle : (p : Pipe) → e ≡ Idle p → false ≡ isUncollected s k
+  none-idle p h = rw (sym ee ∙ h)
+
+  pub one-linked : (p : Pipe) (r : Request) → e ≡ Linked p r → true ≡ isUncollected s k
+  one-linked p r h = rw (sym ee ∙ h)
+
+  pub one-unlinking : (p : Pipe) (r : Request) (b : UnlinkBoundary) → e ≡ Unlinking p r b → true ≡ isUncollected s k
+  one-unlinking p r b h = rw (sym ee ∙ h)

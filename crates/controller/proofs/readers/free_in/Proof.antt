@@ -1,0 +1,29 @@
+use Rattle.controller.proofs.ReaderCases.{front, part-within, whole-row}
+use borrow.Author.Needs.{needs}
+use Rattle.controller.proofs.readers.free_in.Statement.{statement}
+use Rattle.controller.proofs.readers.free_in.Tie as tie
+
+slice-aggregate-count-zero : tie.Need-slice-aggregate-count-zero
+slice-aggregate-count-zero c = search front
+
+count-zero-requires : tie.Need-count-zero-requires
+count-zero-requires c κs = search part-within
+
+count-zero-requires-2 : tie.Need-count-zero-requires-2
+count-zero-requires-2 c κs = search needs
+
+returns : tie.Need-returns
+returns c = search needs
+
+returns-2 : tie.Need-returns-2
+returns-2 c = search whole-row
+
+pub free-in-spec : {M : Type 1} → statement M
+free-in-spec =
+    tie.close
+    (tie.spec
+    slice-aggregate-count-zero
+    count-zero-requires
+    count-zero-requires-2
+    returns
+    returns-2)

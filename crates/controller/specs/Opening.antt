@@ -1,0 +1,94 @@
+-- Document 01, "Opening a controller".
+use Prim.Native.Nat.{ℕ, _-_}
+use mathlib.Core.Bool.{Bool, not}
+use mathlib.Core.List.{List, [], _∷_, _++_}
+use lib.Dec.{eqb}
+use lib.ListN.{length, replicate}
+use Rattle.descriptor.specs.Heads.{ringHead, wordsOf}
+use Rattle.controller.specs.declared.answer.Answer.{Answer}
+use Rattle.controller.specs.declared.answer.Answer.the-variants.{Done, Refused}
+use Rattle.controller.specs.declared.answer.Refusal.{Refusal}
+use Rattle.controller.specs.declared.answer.Refusal.the-variants.{InvalidParameter}
+use Rattle.controller.specs.declared.hub.EhciRootHub.{EhciRootHub}
+use Rattle.controller.specs.declared.open.Opening.{Opening}
+use Rattle.controller.specs.declared.settings.Settings.{Settings}
+use Rattle.controller.specs.declared.state.Ehci.{Ehci}
+use Rattle.controller.specs.Answers.{first, settle}
+use Rattle.controller.specs.Hub.{openedHub}
+use Rattle.controller.specs.Settings.{settingsGood, poolLength, headsLength, framesLength, setupsLength}
+use Rattle.controller.specs.Tests.{every}
+
+-- not running, nothing begun, address 1 next, interrupts off, every descriptor free, every slot closed
+unfoldable pub freshState : Settings → Ehci
+freshState settings =
+    record {
+      settings = settings;
+      running = 0;
+      step = 0;
+      waited = 0;
+      address = 1;
+      enabled = 0;
+      pending = 0;
+      masked = 0;
+      noted = 0;
+      doorbell = 0;
+      unanswered = 0;
+      owner = replicate 256 0;
+      phases = replicate 32 0;
+      kinds = replicate 32 0;
+      ids = replicate 32 1;
+      requests = replicate 32 0;
+      directions = replicate 32 0;
+      lengths = replicate 32 0;
+      cancels = replicate 32 0;
+      boundaries = replicate 32 0;
+    }
+
+-- the settings of the state that a refused opening gives: no descriptor, so outside the ranges
+abbrev pub noSettings : Settings
+noSettings =
+    record { descriptors = 0; endpoints = 0; ports = 0; limit = 0; wait = 0; pool = 0; heads = 0; frames = 0; setups = 0 }
+
+-- the lengths of the rows that are lent
+unfoldable pub rowsFit : Settings → ℕ → ℕ → ℕ → ℕ → Bool
+rowsFit s pool heads frames setups =
+    every
+    (eqb pool (poolLength s)
+    ∷ eqb heads (headsLength s)
+    ∷ eqb frames framesLength
+    ∷ eqb setups (setupsLength s)
+    ∷ [])
+
+unfoldable pub refusedOpening : Refusal → Opening
+refusedOpening r = record { answer = Refused r; state = freshState noSettings; hub = openedHub 0 }
+
+unfoldable pub acceptedOpening : Settings → Opening
+acceptedOpening s = record { answer = Done; state = freshState s; hub = openedHub (s .ports) }
+
+-- what opening leaves
+pub record Opened : Type 0 where
+  pub opening : Opening
+  pub heads : List ℕ
+  pub frames : List ℕ
+  pub setups : List ℕ
+
+abbrev pub opened : Opening → List ℕ → List ℕ → List ℕ → Opened
+opened o heads frames setups = record { opening = o; heads = heads; frames = frames; setups = setups }
+
+-- the ring head, and every other head zero, in so many words
+unfoldable pub openedHeads : ℕ → ℕ → List ℕ
+openedHeads area words = wordsOf (ringHead area) ++ replicate (words - 17) 0
+
+-- every row zeroed but the ring head and the frame entries
+unfoldable pub openOf : Settings → ℕ → List ℕ → List ℕ → List ℕ → Opened
+openOf s pool heads frames setups =
+    settle
+    (first
+    ((not (settingsGood s), InvalidParameter)
+    ∷ (not (rowsFit s pool (length heads) (length frames) (length setups)), InvalidParameter)
+    ∷ []))
+    (λ r. opened (refusedOpening r) heads frames setups)
+    (opened (acceptedOpening s)
+    (openedHeads (s .heads) (headsLength s))
+    (replicate framesLength 1)
+    (replicate (setupsLength s) 0))

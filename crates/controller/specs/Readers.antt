@@ -1,0 +1,29 @@
+-- What a caller may ask of a state: its free descriptors, whether a slot has an uncollected request, whose a place is.
+use Prim.Native.Nat.{ℕ, _+_, suc}
+use mathlib.Core.Bool.{Bool, true, false}
+use mathlib.Core.List.{List, [], _∷_}
+use lib.Dec.{eqb}
+use lib.ListN.{getD, take}
+use Rattle.controller.specs.declared.endpoint.Endpoint.{Endpoint}
+use Rattle.controller.specs.declared.endpoint.Endpoint.the-variants.{Closed, Idle, Linked, Unlinking}
+use Rattle.controller.specs.declared.state.Ehci.{Ehci}
+use Rattle.controller.specs.Endpoints.{endpointAt, flagNumber}
+
+unfoldable pub countZero : List ℕ → ℕ
+countZero [] = 0
+countZero (x ∷ xs) = flagNumber (eqb x 0) + countZero xs
+
+unfoldable pub freeCount : Ehci → ℕ
+freeCount s = countZero (take (s .settings .descriptors) (s .owner))
+
+abbrev pub holdsRequest : Endpoint → Bool
+holdsRequest Closed = false
+holdsRequest (Idle p) = false
+holdsRequest (Linked p r) = true
+holdsRequest (Unlinking p r b) = true
+
+abbrev pub isUncollected : Ehci → ℕ → Bool
+isUncollected s k = holdsRequest (endpointAt s k)
+
+abbrev pub hasPlace : Ehci → ℕ → ℕ → Bool
+hasPlace s k place = eqb (getD (s .owner) place 0) (k + 1)

@@ -1,0 +1,127 @@
+// Opening a controller: what is decided, and the heads, the frame list and the setup packets.
+ghost use mathlib.Core.Path.{_≡_};
+ghost use Prim.Native.Nat.{_≤_, _<_, _^_};
+ghost use lib.ListN.{length};
+ghost use Rattle.controller.specs.Opening.{freshState, rowsFit, refusedOpening, openedHeads, opened, openOf};
+use crate::answer::Answer;
+use crate::answer::Refusal;
+use crate::hub::EhciRootHub;
+use crate::rows::fill_bytes;
+use crate::rows::fill_words;
+use crate::rows::put_head;
+use crate::settings::Settings;
+use crate::settings::both;
+use crate::state::Ehci;
+use descriptor::head::QueueHead;
+use descriptor::qtd::EHCI_LINK_TERMINATE;
+
+pub const FRAMES: u64 = 1024;
+
+pub struct Opening {
+    pub answer: Answer,
+    pub state: Ehci,
+    pub hub: EhciRootHub,
+}
+
+// Not running, interrupts off, every descriptor free, every slot closed.
+fn fresh_state(settings: Settings) -> Ehci
+    ensures { λ r. ⌜ r ≡ freshState settings ⌝ }
+{
+    Ehci {
+        settings,
+        running: 0,
+        step: 0,
+        waited: 0,
+        address: 1,
+        enabled: 0,
+        pending: 0,
+        masked: 0,
+        noted: 0,
+        doorbell: 0,
+        unanswered: 0,
+        owner: [0; 256],
+        phases: [0; 32],
+        kinds: [0; 32],
+        ids: [1; 32],
+        requests: [0; 32],
+        directions: [0; 32],
+        lengths: [0; 32],
+        cancels: [0; 32],
+        boundaries: [0; 32],
+    }
+}
+
+// Lengths other than those that opening fixes are refused by every call.
+pub fn rows_fit(s: Settings, pool: u64, heads: u64, frames: u64, setups: u64) -> bool
+    ensures { λ r. ⌜ r ≡ rowsFit s pool heads frames setups ⌝ }
+{
+    let setups_fit = both(setups == 8 * (s.endpoints as u64), true);
+    let frames_fit = both(frames == FRAMES, setups_fit);
+    let heads_fit = both(heads == 17 * (s.endpoints as u64 + 1), frames_fit);
+    both(pool == s.descriptors, heads_fit)
+}
+
+// A state and a hub record that no call accepts.
+fn refuse(refusal: Refusal) -> Opening
+    ensures { λ r. ⌜ r ≡ refusedOpening refusal ⌝ }
+{
+    let nothing = Settings {
+        descriptors: 0,
+        endpoints: 0,
+        ports: 0,
+        limit: 0,
+        wait: 0,
+        pool: 0,
+        heads: 0,
+        frames: 0,
+        setups: 0,
+    };
+    Opening {
+        answer: Answer::Refused(refusal),
+        state: fresh_state(nothing),
+        hub: EhciRootHub::new(0),
+    }
+}
+
+// The ring head, linked to itself; every other head zero.
+fn open_heads(heads: &mut [u32], area: u64)
+    requires { ⌜ area < 2 ^ 32 ⌝ }
+    requires { ⌜ 17 ≤ length (now heads) ⌝ }
+    ensures { λ _. ⌜ now (heads .exit) ≡ openedHeads area (length (now (heads .entry))) ⌝ }
+{
+    fill_words(heads, 0);
+    put_head(heads, 0, QueueHead::async_head(area as u32).words());
+}
+
+// `pool` is the length of the row of descriptors.
+pub fn open(
+    settings: Settings,
+    pool: u64,
+    heads: &mut [u32],
+    frames: &mut [u32],
+    setups: &mut [u8],
+) -> Opening
+    ensures { λ r. ⌜ opened r (now (heads .exit)) (now (frames .exit)) (now (setups .exit))
+        ≡ openOf settings pool (now (heads .entry)) (now (frames .entry)) (now (setups .entry)) ⌝ }
+{
+    if !settings.good() {
+        return refuse(Refusal::InvalidParameter);
+    }
+    if !rows_fit(
+        settings,
+        pool,
+        heads.len() as u64,
+        frames.len() as u64,
+        setups.len() as u64,
+    ) {
+        return refuse(Refusal::InvalidParameter);
+    }
+    open_heads(heads, settings.heads);
+    fill_words(frames, EHCI_LINK_TERMINATE);
+    fill_bytes(setups, 0);
+    Opening {
+        answer: Answer::Done,
+        state: fresh_state(settings),
+        hub: EhciRootHub::new(settings.ports),
+    }
+}

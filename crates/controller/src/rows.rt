@@ -1,0 +1,49 @@
+// The lent rows: filled, and the words of a head put.
+ghost use mathlib.Core.Path.{_≡_};
+ghost use Prim.Native.Nat.{_+_, _*_, _≤_};
+ghost use lib.ListN.{length, replicate};
+ghost use Rattle.controller.specs.Rows.{putAt};
+
+pub const HEAD_WORDS: usize = 17;
+
+pub fn fill_words(row: &mut [u32], word: u32)
+    ensures { λ _. ⌜ now (row .exit) ≡ replicate (length (now (row .entry))) word ⌝ }
+{
+    let mut i = 0;
+    while i < row.len() {
+        row[i] = word;
+        i += 1;
+    }
+}
+
+pub fn fill_bytes(row: &mut [u8], byte: u8)
+    ensures { λ _. ⌜ now (row .exit) ≡ replicate (length (now (row .entry))) byte ⌝ }
+{
+    let mut i = 0;
+    while i < row.len() {
+        row[i] = byte;
+        i += 1;
+    }
+}
+
+fn copy_words(row: &mut [u32], words: &[u32])
+    requires { ⌜ length (now row) ≡ length (now words) ⌝ }
+    ensures { λ _. ⌜ now (row .exit) ≡ now (words .entry) ⌝ }
+{
+    let mut i = 0;
+    while i < words.len() {
+        row[i] = words[i];
+        i += 1;
+    }
+}
+
+// The 17 words of a head, at its place.
+pub fn put_head(heads: &mut [u32], place: usize, words: [u32; 17])
+    requires { ⌜ place ≤ 32 ⌝ }
+    requires { ⌜ 17 * place + 17 ≤ length (now heads) ⌝ }
+    ensures { λ _. ⌜ now (heads .exit) ≡ putAt (now (heads .entry)) (17 * place) words ⌝ }
+{
+    let at = HEAD_WORDS * place;
+    let end = at + HEAD_WORDS;
+    copy_words(&mut heads[at..end], &words);
+}
