@@ -37,8 +37,8 @@ copy-done a src dst i q e h =
     q ∙ rw (take-all i src h, drop-of-length-le dst past, append-nil)
 
 -- a part of a row that was lent and comes back as some words
-pub put-done : (l w ws : List ℕ) (a : ℕ) → w ≡ ws → length ws ≡ 17 → putMid a (a + 17 - a) l w ≡ putAt l a ws
+pub put-done : (l w ws : List ℕ) (a : ℕ) → w ≡ ws → putMid a (a + length ws - a) l w ≡ putAt l a ws
 unfolding putAt
-put-done l w ws a e h =
-    let k : a + 17 - a ≡ 17 = omega arith in
-    rw (e, h, k) (rw (drop-drop 17 a l))
+put-done l w ws a e =
+    let k : a + length ws - a ≡ length ws = omega arith in
+    rw (e, k) (rw (drop-drop (length ws) a l))

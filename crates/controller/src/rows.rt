@@ -37,13 +37,20 @@ fn copy_words(row: &mut [u32], words: &[u32])
     }
 }
 
+// Some words, over those from a place on.
+pub fn put_words(row: &mut [u32], at: usize, words: &[u32])
+    requires { ⌜ at + length (now words) ≤ length (now row) ⌝ }
+    ensures { λ _. ⌜ now (row .exit) ≡ putAt (now (row .entry)) at (now (words .entry)) ⌝ }
+{
+    let end = at + words.len();
+    copy_words(&mut row[at..end], words);
+}
+
 // The 17 words of a head, at its place.
 pub fn put_head(heads: &mut [u32], place: usize, words: [u32; 17])
     requires { ⌜ place ≤ 32 ⌝ }
     requires { ⌜ 17 * place + 17 ≤ length (now heads) ⌝ }
     ensures { λ _. ⌜ now (heads .exit) ≡ putAt (now (heads .entry)) (17 * place) words ⌝ }
 {
-    let at = HEAD_WORDS * place;
-    let end = at + HEAD_WORDS;
-    copy_words(&mut heads[at..end], &words);
+    put_words(heads, HEAD_WORDS * place, &words);
 }

@@ -1,0 +1,2 @@
+pub mod BellCases
+pub mod LinkCases

@@ -1,0 +1,168 @@
+// The links of the ring and of the frame list: attaching a head, unlinking it, and its overlay.
+ghost use mathlib.Core.Path.{_≡_};
+ghost use Prim.Native.Nat.{_+_, _*_, _≤_, _<_, _^_};
+ghost use lib.Dec.{eqb};
+ghost use lib.ListN.{length};
+ghost use Rattle.schedule.specs.Links.{
+    headAddress, same, precedesOne, searchFrom, pickWord, predecessorOf, attachedRing, attachedFrames, links, withLinkWord, detached, detachOf,
+    startedOverlay, endedOverlay
+};
+use controller::rows::fill_words;
+use controller::rows::put_words;
+use controller::settings::both;
+use controller::state::Ehci;
+use descriptor::qtd::EHCI_LINK_TERMINATE;
+
+// Who gives way to a head that is unlinked.
+pub enum Predecessor {
+    // The ring head, or the frame entries.
+    First,
+    Head(u8),
+    Missing,
+}
+
+// The address of a slot's head.
+pub fn head_address(s: Ehci, k: u8) -> u32
+    requires { ⌜ s .settings .heads + 128 * (k + 1) < 2 ^ 32 ⌝ }
+    ensures { λ r. ⌜ r ≡ headAddress s k ⌝ }
+{
+    (s.settings.heads + 128 * (k as u64 + 1)) as u32
+}
+
+// A control or bulk head goes in just after the ring head.
+pub fn attach_ring(heads: &mut [u32], k: u8, link: u32)
+    requires { ⌜ 17 * (k + 1) < length (now heads) ⌝ }
+    ensures { λ _. ⌜ now (heads .exit) ≡ attachedRing (now (heads .entry)) k link ⌝ }
+{
+    let at = 17 * (k as usize + 1);
+    let first = heads[0];
+    heads[at] = first;
+    heads[0] = link;
+}
+
+// An interrupt head goes in front of every frame.
+pub fn attach_frames(heads: &mut [u32], frames: &mut [u32], k: u8, link: u32)
+    requires { ⌜ 17 * (k + 1) < length (now heads) ⌝ }
+    requires { ⌜ 0 < length (now frames) ⌝ }
+    ensures { λ _. ⌜ links (now (heads .exit)) (now (frames .exit)) ≡ attachedFrames (now (heads .entry)) (now (frames .entry)) k link ⌝ }
+{
+    let at = 17 * (k as usize + 1);
+    let first = frames[0];
+    heads[at] = first;
+    fill_words(frames, link);
+}
+
+fn same(a: bool, b: bool) -> bool
+    ensures { λ r. ⌜ r ≡ same a b ⌝ }
+{
+    if a { b } else { !b }
+}
+
+fn precedes(j: u8, k: u8, phase: u8, kind: u8, own: u8, word: u32, address: u32) -> bool
+    ensures { λ r. ⌜ r ≡ precedesOne j k phase kind own word address ⌝ }
+{
+    let leads = both(word / 32 == address / 32, true);
+    let together = both(same(own == 3, kind == 3), leads);
+    let linked = both(phase == 2, together);
+    both(j != k, linked)
+}
+
+// The lowest slot whose head precedes slot k's.
+fn search(s: Ehci, heads: &[u32], k: u8, address: u32) -> Predecessor
+    requires { ⌜ (k < 32) × (s .settings .endpoints ≤ 32) ⌝ }
+    requires { ⌜ 17 * (s .settings .endpoints + 1) ≤ length (now heads) ⌝ }
+    requires { ⌜ address ≡ headAddress s k ⌝ }
+    ensures { λ r. ⌜ r ≡ searchFrom s (now (heads .entry)) k 0 (s .settings .endpoints) ⌝ }
+{
+    let endpoints = s.settings.endpoints;
+    let slot = k as usize;
+    let own = s.kinds[slot];
+    let mut j: u8 = 0;
+    while j < endpoints {
+        let other = j as usize;
+        let word = heads[17 * (other + 1)];
+        if precedes(j, k, s.phases[other], s.kinds[other], own, word, address) {
+            return Predecessor::Head(j);
+        }
+        j += 1;
+    }
+    Predecessor::Missing
+}
+
+// Who gives way to slot k's head.
+pub fn find_predecessor(s: Ehci, heads: &[u32], frames: &[u32], k: u8, address: u32) -> Predecessor
+    requires { ⌜ (k < 32) × (s .settings .endpoints ≤ 32) ⌝ }
+    requires { ⌜ 17 * (s .settings .endpoints + 1) ≤ length (now heads) ⌝ }
+    requires { ⌜ 0 < length (now frames) ⌝ }
+    requires { ⌜ address ≡ headAddress s k ⌝ }
+    ensures { λ r. ⌜ r ≡ predecessorOf s (now (heads .entry)) (now (frames .entry)) k ⌝ }
+{
+    let slot = k as usize;
+    let first = first_word(s.kinds[slot], frames[0], heads[0]);
+    if first / 32 == address / 32 {
+        return Predecessor::First;
+    }
+    search(s, heads, k, address)
+}
+
+fn first_word(kind: u8, frame: u32, ring: u32) -> u32
+    ensures { λ r. ⌜ r ≡ pickWord (eqb kind 3) frame ring ⌝ }
+{
+    if kind == 3 { frame } else { ring }
+}
+
+// Gives the head's link to its predecessor. The head's own stays.
+pub fn detach(s: Ehci, heads: &mut [u32], frames: &mut [u32], k: u8, address: u32) -> Predecessor
+    requires { ⌜ (k < 32) × (s .settings .endpoints ≤ 32) ⌝ }
+    requires { ⌜ (17 * (k + 1) < length (now heads)) × (17 * (s .settings .endpoints + 1) ≤ length (now heads)) ⌝ }
+    requires { ⌜ 0 < length (now frames) ⌝ }
+    requires { ⌜ address ≡ headAddress s k ⌝ }
+    ensures { λ r. ⌜ detached r (now (heads .exit)) (now (frames .exit)) ≡ detachOf s (now (heads .entry)) (now (frames .entry)) k ⌝ }
+{
+    let slot = k as usize;
+    let kind = s.kinds[slot];
+    let found = find_predecessor(s, heads, frames, k, address);
+    let word = heads[17 * (slot + 1)];
+    match found {
+        Predecessor::First => {
+            if kind == 3 {
+                fill_words(frames, word);
+            } else {
+                heads[0] = word;
+            }
+        }
+        Predecessor::Head(j) => give_link(heads, j, word),
+        Predecessor::Missing => {}
+    }
+    found
+}
+
+// A link word for slot j, where the row has that head.
+fn give_link(heads: &mut [u32], j: u8, word: u32)
+    ensures { λ _. ⌜ now (heads .exit) ≡ withLinkWord (now (heads .entry)) j word ⌝ }
+{
+    let at = 17 * (j as usize + 1);
+    if at < heads.len() {
+        heads[at] = word;
+    }
+}
+
+// The overlay of a head whose request starts.
+pub fn start_overlay(heads: &mut [u32], k: u8, first: u32, token: u32)
+    requires { ⌜ 17 * (k + 1) + 6 < length (now heads) ⌝ }
+    ensures { λ _. ⌜ now (heads .exit) ≡ startedOverlay (now (heads .entry)) k first token ⌝ }
+{
+    let at = 17 * (k as usize + 1);
+    heads[at + 4] = first;
+    heads[at + 5] = EHCI_LINK_TERMINATE;
+    heads[at + 6] = token;
+}
+
+// The current descriptor and the overlay of a head whose request is collected.
+pub fn end_overlay(heads: &mut [u32], k: u8)
+    requires { ⌜ 17 * (k + 1) + 17 ≤ length (now heads) ⌝ }
+    ensures { λ _. ⌜ now (heads .exit) ≡ endedOverlay (now (heads .entry)) k ⌝ }
+{
+    let words: [u32; 14] = [0, 1, 1, 0, 0, 0, 0, 0, 0, 0, 0, 0, 0, 0];
+    put_words(heads, 17 * (k as usize + 1) + 3, &words);
+}
