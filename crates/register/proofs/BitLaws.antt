@@ -9,7 +9,7 @@ use lib.Bits.{bitAnd, and-step, or-step, and-shr, or-shr, and-le-l}
 use lib.Dec.{eqb, lit<}
 use lib.Pow.{shr-shr}
 use lib.Arith.{lt-one}
-use Rattle.register.specs.Bits.{withBits, withoutBits, anyOf, bit}
+use Rattle.register.specs.Bits.{withBits, withoutBits, onlyBits, anyOf, bit}
 
 -- 2 ^ (k + 1) - 1 - b, halved and its last digit
 not-half : (k b : ℕ) → b < 2 ^ suc k → (2 ^ suc k - 1 - b) / 2 ≡ 2 ^ k - 1 - b / 2
@@ -45,6 +45,10 @@ not-bit (suc k) (suc i) b hi hb =
 
 pub and-bit : (a b i : ℕ) → bit (bitAnd a b) i ≡ min (bit a i) (bit b i)
 and-bit a b i = rw (and-shr a b i, and-step (a / 2 ^ i) (b / 2 ^ i)) (omega arith)
+
+pub only-bit : (a b i : ℕ) → bit (onlyBits a b) i ≡ min (bit a i) (bit b i)
+unfolding onlyBits
+only-bit a b i = and-bit a b i
 
 pub with-bit : (a b i : ℕ) → bit (withBits a b) i ≡ max (bit a i) (bit b i)
 unfolding withBits

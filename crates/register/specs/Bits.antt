@@ -1,4 +1,5 @@
--- Words of 32 bits as registers use them: a word with bits set, without bits, whether any of some bits is set.
+-- Words of 32 bits as registers use them: a word with bits set, without bits, some of its bits alone, whether any of some
+-- bits is set.
 use Prim.Native.Nat.{ℕ, _-_, _+_, _*_, _/_, _%_, _^_}
 use mathlib.Core.Bool.{Bool, not}
 use lib.Bits.{bitAnd, bitOr}
@@ -11,6 +12,10 @@ withBits value bits = bitOr value bits
 -- "value without bits"
 unfoldable pub withoutBits : ℕ → ℕ → ℕ
 withoutBits value bits = bitAnd value (2 ^ 32 - 1 - bits)
+
+-- "value and bits"
+unfoldable pub onlyBits : ℕ → ℕ → ℕ
+onlyBits value bits = bitAnd value bits
 
 unfoldable pub anyOf : ℕ → ℕ → Bool
 anyOf value bits = not (eqb (bitAnd value bits) 0)

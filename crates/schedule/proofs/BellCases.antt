@@ -19,7 +19,7 @@ use Rattle.schedule.specs.Bell.{ringWord, ringOf, fallenOne, fallenFrom}
 module _ (b : Bell) (w : Writes) (cmd : ℕ) where
   pub rings : (v : ℕ) (w′ : Writes) → b .doorbell ≡ 0 → 1 ≤ b .unanswered → v ≡ withBits cmd 64 → w′ ≡ andThen w 0 v
       → _≡_ {A = Rung}
-        (record { bell = record { noted = b .noted; doorbell = 1; unanswered = b .unanswered }; writes = w′ }) (ringOf b w cmd)
+      (record { bell = record { noted = b .noted; doorbell = 1; unanswered = b .unanswered }; writes = w′ }) (ringOf b w cmd)
   unfolding ringOf ringWord
   rings v w′ d u ev ew = rw (ew, ev, eq-eqb (b .doorbell) 0 d, le-leb 1 (b .unanswered) u)
 
@@ -79,6 +79,7 @@ module _ (p q b : List ℕ) (k : ℕ) (h : k < length b) where
     where
       here : getD a k 0 ≡ getD b k 0
       here = rw (ea ∙ ap (λ (l : List ℕ). done ++ l) split-at) (getD-at done (getD b k 0) (drop (suc k) b) 0 k (fallen-length 0 k p q b))
+
       more : done ++ (fallenOne (getD p k 0) (getD q k 0) (getD b k 0) ∷ []) ≡ fallenFrom 0 (suc k) p q b
       more = rw (zero-add k) at (fallen-more 0 k p q b)
 

@@ -29,7 +29,7 @@ abbrev pub rungIf : Bool → Bell → Writes → ℕ → Rung
 rungIf true b writes command =
     record {
       bell = record { noted = b .noted; doorbell = 1; unanswered = b .unanswered };
-      writes = andThen writes 0 (ringWord command)
+      writes = andThen writes 0 (ringWord command);
     }
 rungIf false b writes command = record { bell = b; writes = writes }
 

@@ -115,7 +115,7 @@ unfoldable pub detachOf : Ehci → List ℕ → List ℕ → ℕ → Detached
 detachOf s heads frames k =
     record {
       predecessor = predecessorOf s heads frames k;
-      rows = givenLink (predecessorOf s heads frames k) (periodic s k) heads frames (linkWord heads k)
+      rows = givenLink (predecessorOf s heads frames k) (periodic s k) heads frames (linkWord heads k);
     }
 
 -- ---- the overlay

@@ -2,7 +2,15 @@
 ghost use mathlib.Core.Path.{_≡_};
 ghost use Prim.Native.Nat.{_<_, _≤_};
 ghost use Rattle.schedule.specs.Bell.{
-    commandWord, ringWord, ringOf, unlinkedOf, advancedOf, fallenOne, fallenFrom, frameOf, framesPassed
+  commandWord,
+  ringWord,
+  ringOf,
+  unlinkedOf,
+  advancedOf,
+  fallenOne,
+  fallenFrom,
+  frameOf,
+  framesPassed,
 };
 use register::bits::with_bits;
 use register::bits::without_bits;
@@ -45,7 +53,10 @@ pub fn ring(bell: Bell, writes: Writes, command: u32) -> Rung
                     doorbell: 1,
                     unanswered: bell.unanswered,
                 },
-                writes: writes.and_then(USBCMD, with_bits(command, USBCMD_INT_ASYNC_ADVANCE_DOORBELL)),
+                writes: writes.and_then(
+                    USBCMD,
+                    with_bits(command, USBCMD_INT_ASYNC_ADVANCE_DOORBELL),
+                ),
             };
         }
     }

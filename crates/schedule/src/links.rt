@@ -4,8 +4,20 @@ ghost use Prim.Native.Nat.{_+_, _*_, _≤_, _<_, _^_};
 ghost use lib.Dec.{eqb};
 ghost use lib.ListN.{length};
 ghost use Rattle.schedule.specs.Links.{
-    headAddress, same, precedesOne, searchFrom, pickWord, predecessorOf, attachedRing, attachedFrames, links, withLinkWord, detached, detachOf,
-    startedOverlay, endedOverlay
+  headAddress,
+  same,
+  precedesOne,
+  searchFrom,
+  pickWord,
+  predecessorOf,
+  attachedRing,
+  attachedFrames,
+  links,
+  withLinkWord,
+  detached,
+  detachOf,
+  startedOverlay,
+  endedOverlay,
 };
 use controller::rows::fill_words;
 use controller::rows::put_words;
@@ -52,7 +64,7 @@ pub fn attach_frames(heads: &mut [u32], frames: &mut [u32], k: u8, link: u32)
     fill_words(frames, link);
 }
 
-fn same(a: bool, b: bool) -> bool
+pub fn same(a: bool, b: bool) -> bool
     ensures { λ r. ⌜ r ≡ same a b ⌝ }
 {
     if a { b } else { !b }

@@ -25,7 +25,7 @@ same-length : tie.Need-same-length
 same-length c = search needs
 
 returns : tie.Need-returns
-returns c = 
+returns c =
     let a = c .before .before .before .before .before .before .args in
     put-done (a .row .now) _ (a .words .now) (a .at) (c .before .before .copy-words .ensures)
 

@@ -47,7 +47,7 @@ loop-less : tie.Need-loop-less Inv-loop μ-loop
 loop-less c = search needs
 
 loop-again : tie.Need-loop-again Inv-loop μ-loop
-loop-again c = 
+loop-again c =
     (omega arith, fall-turn _ _ (c .before .before .before .args .t3) (c .before .before .loop .k) (search needs) _ _ (c .before .before .loop .inv .1) (c .fallen-one .ensures))
 
 returns : tie.Need-returns Inv-loop μ-loop

@@ -46,7 +46,7 @@ same-length-2 : tie.Need-same-length-2
 same-length-2 c = search needs
 
 returns : tie.Need-returns
-returns c = 
+returns c =
     let a = c .before .before .before .before .before .before .before .before .before .before .before .before .before .before .args in
     detach-frames (a .t1) (a .heads .now) (a .frames .now) (a .k) _ (c .before .before .before .before .before .before .before .before .find-predecessor .ensures) (c .before .before .before .before .before .enum-told .given .1) (c .before .before .before .before .if1 .taken) _ (c .before .before .fill-words .ensures)
 
@@ -57,7 +57,7 @@ same-length-4 : tie.Need-same-length-4
 same-length-4 c = search needs
 
 returns-2 : tie.Need-returns-2
-returns-2 c = 
+returns-2 c =
     let a = c .before .before .before .before .before .before .before .before .before .before .args in
     detach-ring (a .t1) (a .heads .now) (a .frames .now) (a .k) _ (c .before .before .before .before .find-predecessor .ensures) (c .before .enum-told .given .1) (c .if1 .left)
 
@@ -68,7 +68,7 @@ same-length-6 : tie.Need-same-length-6
 same-length-6 c = search needs
 
 returns-3 : tie.Need-returns-3
-returns-3 c = 
+returns-3 c =
     let a = c .before .before .before .before .before .before .before .before .before .before .before .before .before .before .args in
     detach-head (a .t1) (a .heads .now) (a .frames .now) (a .k) _ (c .before .before .before .before .before .before .before .before .find-predecessor .ensures) _ (c .before .before .before .before .before .found .given .1) _ (c .before .before .give-link .ensures)
 
@@ -79,7 +79,7 @@ same-length-8 : tie.Need-same-length-8
 same-length-8 c = search needs
 
 returns-4 : tie.Need-returns-4
-returns-4 c = 
+returns-4 c =
     let a = c .before .before .before .before .before .before .before .before .before .args in
     detach-none (a .t1) (a .heads .now) (a .frames .now) (a .k) _ (c .before .before .before .find-predecessor .ensures) (c .enum-told2 .given .1)
 

@@ -16,7 +16,7 @@ first-word-requires : tie.Need-first-word-requires
 first-word-requires c κs = search needs
 
 returns : tie.Need-returns
-returns c = 
+returns c =
     let a = c .before .before .before .before .before .before .before .args in
     first-leads (a .t1) (a .heads .now) (a .frames .now) (a .k) _ _ (c .before .first-word .ensures) (c .before .before .before .before .before .before .before .pre .1 .1 .1) (c .if1 .taken)
 
@@ -24,7 +24,7 @@ search-requires : tie.Need-search-requires
 search-requires c κs = search needs
 
 returns-2 : tie.Need-returns-2
-returns-2 c = 
+returns-2 c =
     let a = c .before .before .before .before .before .before .before .before .args in
     not-first (a .t1) (a .heads .now) (a .frames .now) (a .k) _ _ (c .before .before .first-word .ensures) (c .before .before .before .before .before .before .before .before .pre .1 .1 .1) (c .before .if1 .left) _ (c .search .ensures)
 

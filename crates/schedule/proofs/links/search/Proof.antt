@@ -45,7 +45,7 @@ precedes-requires : tie.Need-precedes-requires Inv-loop μ-loop
 precedes-requires c κs = search needs
 
 returns : tie.Need-returns Inv-loop μ-loop
-returns c = 
+returns c =
     let a = c .before .before .before .before .before .before .before .before .before .args in
     found (a .t1) (a .heads .now) (a .k) (c .before .before .before .before .before .before .loop .j) (a .t1 .settings .endpoints) _ (omega arith) (at-address (c .before .before .before .before .before .before .before .before .before .args .t1) (c .before .before .before .before .before .before .before .before .before .args .heads .now) (c .before .before .before .before .before .before .before .before .before .args .k) (c .before .before .before .before .before .before .loop .j) _ _ (c .before .before .before .before .before .before .before .before .before .pre .1 .1) (c .before .precedes .ensures)) (c .if1 .taken) _ (c .before .before .before .before .before .before .loop .inv .1)
 
@@ -56,13 +56,14 @@ loop-less : tie.Need-loop-less Inv-loop μ-loop
 loop-less c = search needs
 
 loop-again : tie.Need-loop-again Inv-loop μ-loop
-loop-again c = 
-    let a = c .before .before .before .before .before .before .before .before .before .args in
-    (omega arith,
-      not-here (a .t1) (a .heads .now) (a .k) (c .before .before .before .before .before .before .loop .j) (a .t1 .settings .endpoints) _ (omega arith) (at-address (c .before .before .before .before .before .before .before .before .before .args .t1) (c .before .before .before .before .before .before .before .before .before .args .heads .now) (c .before .before .before .before .before .before .before .before .before .args .k) (c .before .before .before .before .before .before .loop .j) _ _ (c .before .before .before .before .before .before .before .before .before .pre .1 .1) (c .before .precedes .ensures)) (c .if1 .left) _ (c .before .before .before .before .before .before .loop .inv .1))
+loop-again c =
+    let a = c .before .before .before .before .before .before .before .before .before .args in (
+      omega arith,
+      not-here (a .t1) (a .heads .now) (a .k) (c .before .before .before .before .before .before .loop .j) (a .t1 .settings .endpoints) _ (omega arith) (at-address (c .before .before .before .before .before .before .before .before .before .args .t1) (c .before .before .before .before .before .before .before .before .before .args .heads .now) (c .before .before .before .before .before .before .before .before .before .args .k) (c .before .before .before .before .before .before .loop .j) _ _ (c .before .before .before .before .before .before .before .before .before .pre .1 .1) (c .before .precedes .ensures)) (c .if1 .left) _ (c .before .before .before .before .before .before .loop .inv .1),
+    )
 
 returns-2 : tie.Need-returns-2 Inv-loop μ-loop
-returns-2 c = 
+returns-2 c =
     let a = c .before .before .before .before .args in
     nowhere (a .t1) (a .heads .now) (a .k) (c .before .loop .j) (a .t1 .settings .endpoints) (omega arith) _ (c .before .loop .inv .1)
 

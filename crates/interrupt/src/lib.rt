@@ -1,0 +1,4 @@
+// Interrupts: acknowledged in the handler, drained afterwards, masked and rearmed, enabled and disabled.
+pub mod acknowledge;
+pub mod calls;
+pub mod drain;
