@@ -1,1 +1,3 @@
 pub mod Interrupts
+pub mod Once
+pub mod Examples
