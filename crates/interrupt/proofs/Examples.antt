@@ -39,7 +39,7 @@ benchState pending masked noted doorbell unanswered =
       directions = replicate 32 0;
       lengths = replicate 32 0;
       cancels = replicate 32 0;
-      boundaries = replicate 32 0
+      boundaries = replicate 32 0;
     }
 
 two-unlinks : twoUnlinks ≡ benchState 0 0 0 1 2
@@ -89,6 +89,7 @@ examples-hold = λ i. (8 ∷ 0 ∷ []) ∷ (9 ∷ 1 ∷ []) ∷ unlinked-row i �
   where
     first : drainRow firstDrain ≡ 1 ∷ 0 ∷ 1 ∷ 1 ∷ 1 ∷ []
     first = ap (λ (s : Ehci). drainRow (drainOf s 0x31)) acknowledged-is ∙ first-row
+
     second : drainRow secondDrain ≡ 2 ∷ 1 ∷ 1 ∷ 1 ∷ 0 ∷ []
     second =
         ap (λ (s : Ehci). drainRow (drainOf (drainOf s 0x31 .state) 0x31)) acknowledged-is

@@ -154,20 +154,21 @@ still u₀ a r q b inv =
       waiting = omega (arith, inv .waiting);
       note = omega (arith, inv .note, flag-le r q);
       below = inv .below;
-      one = inv .one
+      one = inv .one;
     }
 
 noted-inv : (u₀ a : ℕ) (r : Bool) (s : Ehci) (st : ℕ) → Inv u₀ a r (bellOf s)
     → Inv u₀ (a + 0) (either r (eqb (bit st 5) 1))
-      (record { noted = notedAfter s (onlyBits st 0x37); doorbell = s .doorbell; unanswered = s .unanswered })
+    (record { noted = notedAfter s (onlyBits st 0x37); doorbell = s .doorbell; unanswered = s .unanswered })
 unfolding notedAfter
 noted-inv u₀ a r s st inv = go (anyOf (onlyBits st 0x37) 0x20) refl (eqb (s .doorbell) 1) refl
   where
     q : Bool
     q = eqb (bit st 5) 1
+
     go : (x : Bool) → anyOf (onlyBits st 0x37) 0x20 ≡ x → (d : Bool) → eqb (s .doorbell) 1 ≡ d
         → Inv u₀ (a + 0) (either r q)
-          (record { noted = notedAfter s (onlyBits st 0x37); doorbell = s .doorbell; unanswered = s .unanswered })
+        (record { noted = notedAfter s (onlyBits st 0x37); doorbell = s .doorbell; unanswered = s .unanswered })
     go false e d f = rw e (still u₀ a r q (bellOf s) inv)
     go true e false f = rw (e, f) (still u₀ a r q (bellOf s) inv)
     go true e true f =
@@ -179,7 +180,7 @@ noted-inv u₀ a r s st inv = go (anyOf (onlyBits st 0x37) 0x20) refl (eqb (s .d
           waiting = b .waiting;
           note = flag-right r q (read-bit st e);
           below = omega arith;
-          one = b .one
+          one = b .one;
         })
 
 -- one more unlink that does not ring
@@ -193,7 +194,7 @@ asked-inv u₀ a r b cmd inv h =
       waiting = omega (arith, inv .waiting);
       note = inv .note;
       below = inv .below;
-      one = inv .one
+      one = inv .one;
     })
 
 -- a drain that counts and does not ring again: nothing is left to answer
@@ -208,7 +209,7 @@ counted-inv u₀ a r b cmd inv n h =
       waiting = omega (arith, inv .waiting, inv .below);
       note = omega arith;
       below = omega arith;
-      one = omega arith
+      one = omega arith;
     })
 
 step : (u₀ a : ℕ) (r : Bool) (s : Ehci) (c : Call) → Inv u₀ a r (bellOf s) → rings s c ≡ false
@@ -238,8 +239,14 @@ last u₀ a r s (Drain cmd) inv =
   where
     counted : (s .noted ≡ 0 → ⊥) → u₀ + a + 0 ≤ advancedOf (bellOf s) noWrites cmd .bell .unanswered + flagNumber r
     counted n =
-        omega (arith, inv .waiting, inv .note, inv .below, inv .one,
-        ring-unanswered (record { noted = 0; doorbell = 0; unanswered = s .unanswered - 1 }) noWrites cmd)
+        omega (
+          arith,
+          inv .waiting,
+          inv .note,
+          inv .below,
+          inv .one,
+          ring-unanswered (record { noted = 0; doorbell = 0; unanswered = s .unanswered - 1 }) noWrites cmd,
+        )
 last u₀ a r s Rearm inv = omega (arith, inv .exact, ap (λ (b : Bell). b .unanswered) (rearm-bell s))
 last u₀ a r s Enable inv = omega (arith, inv .exact, ap (λ (b : Bell). b .unanswered) (enable-bell s))
 last u₀ a r s Disable inv = omega (arith, inv .exact, ap (λ (b : Bell). b .unanswered) (disable-bell s))
@@ -262,7 +269,7 @@ once-per-ring s cs c rung none = omega (arith, stretch (s .unanswered) 0 false s
           waiting = omega (arith, rung .up);
           note = omega (arith, rung .unnoted);
           below = omega (arith, rung .unnoted);
-          one = omega (arith, rung .up)
+          one = omega (arith, rung .up);
         }
 
 -- ---- where the premise comes from, and who counts
@@ -278,6 +285,7 @@ ring-up b cmd h = go (mustRing b) refl
   where
     down : both (eqb (b .doorbell) 0) (leb 1 (b .unanswered)) ≡ true → b .doorbell ≡ 0
     down e = eqb-true (b .doorbell) 0 (both-first (eqb (b .doorbell) 0) _ e)
+
     go : (m : Bool) → mustRing b ≡ m
         → (b .doorbell ≡ 0) × (ringOf b noWrites cmd .bell .doorbell ≡ 1) × (ringOf b noWrites cmd .bell .noted ≡ b .noted)
     go true e = (down e, rw e, rw e)

@@ -44,7 +44,7 @@ benchSettings =
       pool = 0x100000;
       heads = 0x200000;
       frames = 0x300000;
-      setups = 0x400000
+      setups = 0x400000;
     }
 
 abbrev pub twoUnlinks : Ehci

@@ -37,7 +37,7 @@ after s (Unlink command) = rungState s (unlinkedOf (bellOf s) noWrites command)
 after s (Acknowledge status interrupts flag again) =
     record {
       state = acknowledgeOf s status interrupts flag again .state;
-      writes = acknowledgeOf s status interrupts flag again .writes
+      writes = acknowledgeOf s status interrupts flag again .writes;
     }
 after s (Drain command) = record { state = drainOf s command .state; writes = drainOf s command .writes }
 after s Rearm = record { state = rearmOf s .state; writes = rearmOf s .writes }

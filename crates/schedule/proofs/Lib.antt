@@ -1,2 +1,4 @@
 pub mod BellCases
+pub mod BellLaws
 pub mod LinkCases
+pub mod WalkLaws

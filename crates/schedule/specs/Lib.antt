@@ -1,2 +1,3 @@
 pub mod Bell
 pub mod Links
+pub mod Walks
