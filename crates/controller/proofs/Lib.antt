@@ -1,4 +1,5 @@
 pub mod SettingsCases
+pub mod SettingsLaws
 pub mod RangesCases
 pub mod RowsCases
 pub mod OpenCases
