@@ -5,6 +5,7 @@ pub mod RangesLaws
 pub mod SlotLaws
 pub mod RowsCases
 pub mod OpenCases
+pub mod OpenLaws
 pub mod AddressCases
 pub mod EndpointCases
 pub mod ReaderCases

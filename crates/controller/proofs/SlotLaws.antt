@@ -9,7 +9,7 @@ use borrow.Author.Tests.{eq-eqb, eqb-false, eqb-true, le-leb, le-ltb, leb-true, 
 use lib.Dec.{eqb, leb, ltb}
 use Rattle.controller.specs.declared.slot.Slot.{Slot}
 use Rattle.controller.specs.Ranges.{boundaryGood, closedGood, idleGood, linkedGood, noRequest, openKind, phaseGood, slotGood, unlinkingGood}
-use Rattle.controller.specs.Tests.{both, either, within}
+use Rattle.controller.specs.Tests.{either, within}
 use Rattle.controller.proofs.RangesCases.{phase-closed, phase-idle, phase-linked, phase-unknown, phase-unlinking}
 use Rattle.controller.proofs.SettingsCases.{within-least, within-most}
 use Rattle.controller.proofs.SettingsLaws.{both-tells, within-makes}
