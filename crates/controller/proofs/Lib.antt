@@ -1,7 +1,13 @@
 pub mod SettingsCases
+pub mod SettingsLaws
 pub mod RangesCases
+pub mod RangesLaws
+pub mod SlotLaws
 pub mod RowsCases
 pub mod OpenCases
+pub mod OpenLaws
 pub mod AddressCases
+pub mod AddressLaws
 pub mod EndpointCases
+pub mod EndpointLaws
 pub mod ReaderCases
