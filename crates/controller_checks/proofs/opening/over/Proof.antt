@@ -1,0 +1,62 @@
+-- `controller_checks::opening::over` lends the first of each row: a remainder is at most the length. Assumes nothing.
+use Prim.Native.Nat.{ℕ, _≤_}
+use mathlib.Core.Path.{_≡_, sym}
+use mathlib.Core.List.{List}
+use native.Mathlib.Omega.{arith}
+use lib.ListN.{length, take}
+use lib.Seq.{length-take-le}
+use borrow.Author.Needs.{needs}
+use Rattle.controller_checks.proofs.opening.over.Statement.{statement}
+use Rattle.controller_checks.proofs.opening.over.Tie as tie
+
+fits : (n : ℕ) (l : List ℕ) → n ≤ length l → n ≡ length (take n l)
+fits n l h = sym (length-take-le n l h)
+
+slice-relend-prefix-open : tie.Need-slice-relend-prefix-open
+slice-relend-prefix-open c = search needs
+
+slice-aggregate-open : tie.Need-slice-aggregate-open
+slice-aggregate-open c = fits _ _ (omega arith)
+
+slice-relend-prefix-open-2 : tie.Need-slice-relend-prefix-open-2
+slice-relend-prefix-open-2 c = search needs
+
+slice-aggregate-open-2 : tie.Need-slice-aggregate-open-2
+slice-aggregate-open-2 c = fits _ _ (omega arith)
+
+slice-relend-prefix-open-3 : tie.Need-slice-relend-prefix-open-3
+slice-relend-prefix-open-3 c = search needs
+
+slice-aggregate-open-3 : tie.Need-slice-aggregate-open-3
+slice-aggregate-open-3 c = fits _ _ (omega arith)
+
+open-requires : tie.Need-open-requires
+open-requires c κs = search needs
+
+same-length : tie.Need-same-length
+same-length c = search needs
+
+same-length-2 : tie.Need-same-length-2
+same-length-2 c = search needs
+
+same-length-3 : tie.Need-same-length-3
+same-length-3 c = search needs
+
+returns : tie.Need-returns
+returns c = search needs
+
+pub over-spec : {M : Type 1} → statement M
+over-spec =
+    tie.close
+    (tie.spec
+    slice-relend-prefix-open
+    slice-aggregate-open
+    slice-relend-prefix-open-2
+    slice-aggregate-open-2
+    slice-relend-prefix-open-3
+    slice-aggregate-open-3
+    open-requires
+    same-length
+    same-length-2
+    same-length-3
+    returns)
