@@ -160,18 +160,12 @@ def drain_line(c):
     line("drain", inputs, *drained(c))
 
 
-def settled_lines(c):
-    calls = {
-        "rearm": Controller.rearm,
-        "enable": lambda c: c.set_flag(1),
-        "disable": lambda c: c.set_flag(0),
-    }
-    return {label: lambda label=label, call=call: settled_line(label, call, c()) for label, call in calls.items()}
+SETTLE = {"rearm": Controller.rearm, "enable": lambda c: c.set_flag(1), "disable": lambda c: c.set_flag(0)}
 
 
-def settled_line(label, call, c):
+def settled_line(label, c):
     inputs = [c.enabled, word(c.masked)]
-    answer, writes = call(c)
+    answer, writes = SETTLE[label](c)
     line(label, inputs, answer, c.enabled, word(c.pending), word(c.masked), *written(writes))
 
 
@@ -195,9 +189,8 @@ def drain_edges():
 
 
 def settle_edges():
-    for label in ["rearm", "enable", "disable"]:
-        for enabled, masked in product(FLAGS, [0, 1, 0x27]):
-            settled_lines(lambda: Controller(enabled=enabled, pending=0x15, masked=masked))[label]()
+    for label, enabled, masked in product(SETTLE, FLAGS, [0, 1, 0x27]):
+        settled_line(label, Controller(enabled=enabled, pending=0x15, masked=masked))
 
 
 def outside_edges():
@@ -209,8 +202,8 @@ def outside_edges():
     ]:
         acknowledge_line(deepcopy(outside), 0x20, 1, 1)
         drain_line(deepcopy(outside))
-        for settle in settled_lines(lambda: deepcopy(outside)).values():
-            settle()
+        for label in SETTLE:
+            settled_line(label, deepcopy(outside))
 
 
 # The doorbell and the boundaries.
@@ -262,7 +255,8 @@ def examples():
     assert c.bell() == [1, 1, 2]
     print("drain 00000024 1 1 2 = port 0 00000020 0 1 1 1 16383 1 00000000 00080b71")
     print("drain 00000020 0 1 1 = activity 1 00000000 0 1 1 1 16383 0")
-    c.drain(COMMAND), c.drain(COMMAND)
+    c.drain(COMMAND)
+    c.drain(COMMAND)
     drain_line(c)
 
 
@@ -276,6 +270,22 @@ def before_the_ring():
     acknowledge_line(c, 0x30, 0, 1)
     drain_line(c)
     drain_line(c)
+
+
+def walk():
+    """Drawn calls one after the other, so many that every three in a row occur in every order."""
+    c, draw, calls = Controller(), 20260101, []
+    for _ in range(192):
+        calls.append(draw // 2**17 % 4)
+        draw = (draw * 1664525 + 1013904223) % 2**32
+    assert len(set(zip(calls, calls[1:], calls[2:]))) == 4**3
+    for call in calls:
+        if call == 0 and c.unlinks - c.answered < 3:
+            bell_line("unlink", Controller.unlink, c, COMMAND)
+        elif call in [1, 2]:
+            acknowledge_line(c, [0x20, 0x24][call - 1], 1, 1)
+        elif call == 3:
+            drain_line(c)
 
 
 # The links: memory by address, where the word at a head's address is its link.
@@ -355,6 +365,7 @@ def main():
     bell_edges()
     kinds_edges()
     overlay()
+    walk()
 
 
 if __name__ == "__main__":

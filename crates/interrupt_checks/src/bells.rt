@@ -15,6 +15,8 @@ use schedule::bell::unlinked;
 
 const COMMANDS: [u32; 4] = [0, 0x0008_0b31, 0x40, 0xffff_ffff];
 
+const WALK: u32 = 192;
+
 const STARTS: [u16; 5] = [0, 7, 16375, 16380, 16383];
 
 const DISTANCES: [u32; 8] = [0, 1, 8, 9, 10, 16383, 16384 + 8, 16384 + 9];
@@ -60,7 +62,10 @@ pub fn bell_edge(k: u32) {
         doorbell: (k / 4 % 2) as u8,
         unanswered: (k % 4) as u8,
     };
-    let command = COMMANDS[(k / 16 % 4) as usize];
+    lines(bell, COMMANDS[(k / 16 % 4) as usize]);
+}
+
+fn lines(bell: Bell, command: u32) {
     line(b"ring", bell, command, ring(bell, Writes::none(), command));
     unlink_line(bell, command);
     advance_line(bell, command);
@@ -116,6 +121,38 @@ pub fn drain_example() {
     let first = calls::drain_line(heard);
     let second = calls::drain_line(first);
     calls::drain_line(second);
+}
+
+// Drawn calls, one after the other: an unlink, an acknowledgment with the advance bit, one with the port change too, a
+// drain. The draw is a linear congruential generator modulo 2^32.
+pub fn walk() {
+    let mut s = states::fresh();
+    let mut draw: u32 = 20260101;
+    for _ in 0..WALK {
+        s = drawn(s, draw / 0x2_0000 % 4);
+        draw = next(draw);
+    }
+}
+
+fn next(draw: u32) -> u32 {
+    ((draw as u64 * 1664525 + 1013904223) % 0x1_0000_0000) as u32
+}
+
+fn drawn(s: Ehci, call: u32) -> Ehci {
+    match call {
+        0 => unlink_few(s),
+        1 => calls::acknowledge_line(s, 0x20, true, true),
+        2 => calls::acknowledge_line(s, 0x24, true, true),
+        _ => calls::drain_line(s),
+    }
+}
+
+// No more than three are unanswered.
+fn unlink_few(s: Ehci) -> Ehci {
+    if s.unanswered < 3 {
+        return unlink_in(s);
+    }
+    s
 }
 
 // An advance that is acknowledged before the ring does not answer it; one after it does, and once.

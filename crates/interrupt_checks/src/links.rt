@@ -24,35 +24,27 @@ fn all_equal(row: &[u32], first: u32) -> bool {
 }
 
 // The links of the ring head and of both slots, frame entry 0, and whether all entries are equal.
-fn links(heads: &[u32], frames: &[u32]) {
-    if 51 <= heads.len() {
-        if 1 <= frames.len() {
-            out::word(heads[0]);
-            out::word(heads[17]);
-            out::word(heads[34]);
-            out::word(frames[0]);
-            out::flag(all_equal(frames, frames[0]));
-        }
-    }
+fn links(heads: &[u32; 51], frames: &[u32; 1024]) {
+    out::word(heads[0]);
+    out::word(heads[17]);
+    out::word(heads[34]);
+    out::word(frames[0]);
+    out::flag(all_equal(frames, frames[0]));
     out::end();
 }
 
 // A slot's head is attached to the schedule of its kind.
-fn attach(kind: u8, heads: &mut [u32], frames: &mut [u32], k: u8, link: u32) {
+fn attach(kind: u8, heads: &mut [u32; 51], frames: &mut [u32; 1024], k: u8, link: u32) {
     if k < 2 {
-        if 51 <= heads.len() {
-            if 1 <= frames.len() {
-                if kind == 3 {
-                    attach_frames(heads, frames, k, link);
-                } else {
-                    attach_ring(heads, k, link);
-                }
-            }
+        if kind == 3 {
+            attach_frames(heads, frames, k, link);
+        } else {
+            attach_ring(heads, k, link);
         }
     }
 }
 
-fn attach_line(s: Ehci, heads: &mut [u32], frames: &mut [u32], k: u8) {
+fn attach_line(s: Ehci, heads: &mut [u32; 51], frames: &mut [u32; 1024], k: u8) {
     let slot = (k % 2) as usize;
     let kind = s.kinds[slot];
     out::text(b"attach");
@@ -70,22 +62,18 @@ fn address(s: Ehci, k: u8) -> u32 {
     0
 }
 
-fn unlink(s: Ehci, heads: &mut [u32], frames: &mut [u32], k: u8) -> Predecessor {
+fn unlink(s: Ehci, heads: &mut [u32; 51], frames: &mut [u32; 1024], k: u8) -> Predecessor {
     if k < 2 {
         if s.settings.endpoints <= 2 {
             if s.settings.heads < 0x8000_0000 {
-                if 51 <= heads.len() {
-                    if 1 <= frames.len() {
-                        return detach(s, heads, frames, k, head_address(s, k));
-                    }
-                }
+                return detach(s, heads, frames, k, head_address(s, k));
             }
         }
     }
     Predecessor::Missing
 }
 
-fn detach_line(s: Ehci, heads: &mut [u32], frames: &mut [u32], k: u8) {
+fn detach_line(s: Ehci, heads: &mut [u32; 51], frames: &mut [u32; 1024], k: u8) {
     out::text(b"detach");
     out::small(k);
     out::gives();
@@ -111,15 +99,18 @@ pub fn kinds_edge(k: u32) {
     let mut setups: [u8; 16] = [7; 16];
     let opening = open(SETTINGS, 16, &mut heads, &mut frames, &mut setups);
     let opened = opening.state;
-    let s = kinds(opened, k);
+    steps(kinds(opened, k), &mut heads, &mut frames);
+}
+
+fn steps(s: Ehci, heads: &mut [u32; 51], frames: &mut [u32; 1024]) {
     out::text(b"opened");
-    links(&heads, &frames);
-    attach_line(s, &mut heads, &mut frames, 0);
-    attach_line(s, &mut heads, &mut frames, 1);
-    detach_line(s, &mut heads, &mut frames, 0);
+    links(heads, frames);
+    attach_line(s, heads, frames, 0);
+    attach_line(s, heads, frames, 1);
+    detach_line(s, heads, frames, 0);
     let after = states::unlinked(s);
-    detach_line(after, &mut heads, &mut frames, 1);
-    detach_line(after, &mut heads, &mut frames, 1);
+    detach_line(after, heads, frames, 1);
+    detach_line(after, heads, frames, 1);
 }
 
 fn kinds(s: Ehci, k: u32) -> Ehci {

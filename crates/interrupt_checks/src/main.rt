@@ -30,6 +30,7 @@ fn main() {
     edges(Edge::Bell, 64);
     edges(Edge::Kinds, 4);
     links::overlay();
+    bells::walk();
 }
 
 // The first cases of an edge: as many as differ.
