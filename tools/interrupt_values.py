@@ -173,7 +173,7 @@ def acknowledge_edges():
     for status, first, second in product(range(64), FLAGS, FLAGS):
         acknowledge_line(Controller(up=1, unanswered=1), status, first, second)
     for status, first, second in product(range(64), FLAGS, FLAGS):
-        c = Controller(enabled=1, pending=0x12, masked=1)
+        c = Controller(enabled=1, pending=0x12, masked=2)
         acknowledge_line(c, 0xFFFFFFC0 + status, first, second)
 
 
@@ -181,9 +181,7 @@ def drain_edges():
     """Nothing unlinked; two unlinks, not noted; one, noted; two, noted. Each with every word that can be pending."""
     for bell in [(0, 0, 0), (0, 1, 2), (1, 1, 1), (1, 1, 2)]:
         for pending in [low + high for high in [0, 16, 32, 48] for low in range(8)]:
-            c = Controller(*bell, enabled=1, pending=pending)
-            if bell[2]:
-                c.wait()
+            c = Controller(*bell, enabled=1, pending=pending).wait()
             inputs = [word(pending), *bell]
             line("drains", inputs, *[part for _ in range(4) for part in drained(c)])
 

@@ -22,19 +22,19 @@ fn low(k: u32) -> u8 {
     (k % 2) as u8
 }
 
-// Each value of the low six bits with each pair of flags; the doorbell up and nothing pending, then down, with some
-// pending and every other status bit set.
+// The doorbell up and nothing pending, then down, with some pending and every other status bit set.
+const UP: [u8; 2] = [1, 0];
+
+const HEARD: [u32; 2] = [0, 0x12];
+
+const OTHERS: [u32; 2] = [0, 0xffff_ffc0];
+
+// Each value of the low six bits with each pair of flags.
 pub fn acknowledge_edge(k: u32) {
-    let flag = k / 2 % 2 == 1;
-    let again = k % 2 == 1;
-    let status = k / 4 % 64;
-    if k / 256 % 2 == 0 {
-        let up = states::with_bell(states::fresh(), 0, 1, 1);
-        acknowledge_line(up, status, flag, again);
-    } else {
-        let down = states::with_interrupt(states::fresh(), 1, 0x12, 1);
-        acknowledge_line(down, 0xffff_ffc0 + status, flag, again);
-    }
+    let at = (k / 256 % 2) as usize;
+    let bell = states::with_bell(states::fresh(), 0, UP[at], UP[at]);
+    let s = states::with_interrupt(bell, 1, HEARD[at], HEARD[at] & 2);
+    acknowledge_line(s, OTHERS[at] | k / 4 % 64, k / 2 % 2 == 1, k % 2 == 1);
 }
 
 pub fn acknowledge_line(s: Ehci, status: u32, flag: bool, again: bool) -> Ehci {
@@ -70,16 +70,20 @@ fn refused(refusal: Refusal) {
     out::small(refusal.number());
 }
 
-// Four drains of each word that can be pending: nothing unlinked; two unlinks, not noted; one, noted; two, noted.
+// Nothing unlinked; two unlinks, not noted; one, noted; two, noted.
+const NOTED: [u8; 4] = [0, 0, 1, 1];
+
+const DOORBELL: [u8; 4] = [0, 1, 1, 1];
+
+const UNANSWERED: [u8; 4] = [0, 2, 1, 2];
+
+// Four drains of each word that can be pending.
 pub fn drain_edge(k: u32) {
+    let at = (k / 32 % 4) as usize;
     let pending = k % 8 + k / 8 % 4 * 16;
     let s = states::with_interrupt(states::fresh(), 1, pending, 0);
-    match k / 32 % 4 {
-        0 => four(states::with_bell(s, 0, 0, 0)),
-        1 => four(states::waiting(states::with_bell(s, 0, 1, 2), 2)),
-        2 => four(states::waiting(states::with_bell(s, 1, 1, 1), 1)),
-        _ => four(states::waiting(states::with_bell(s, 1, 1, 2), 2)),
-    }
+    let bell = states::with_bell(s, NOTED[at], DOORBELL[at], UNANSWERED[at]);
+    four(states::waiting(bell, UNANSWERED[at]));
 }
 
 fn four(s: Ehci) {

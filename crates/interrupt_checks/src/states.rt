@@ -39,11 +39,11 @@ pub fn with_interrupt(mut s: Ehci, enabled: u8, pending: u32, masked: u32) -> Eh
 }
 
 // Slot 0, a bulk one, waits for some advances; slot 1, an interrupt one, for micro-frames after 16383.
-pub fn waiting(mut s: Ehci, advances: u16) -> Ehci {
+pub fn waiting(mut s: Ehci, advances: u8) -> Ehci {
     s.phases[0] = 3;
     s.kinds[0] = 2;
     s.requests[0] = 1;
-    s.boundaries[0] = advances;
+    s.boundaries[0] = advances as u16;
     s.phases[1] = 3;
     s.kinds[1] = 3;
     s.requests[1] = 1;
