@@ -11,6 +11,8 @@ A line is `label inputs = results`. A word is hexadecimal, of 8 digits; a number
 
 from itertools import combinations
 
+from lines import line
+
 DONE, INVALID_PARAMETER, SLOT_LIMIT_REACHED = 0, 1, 2
 MEMORY = 2**32
 NUMBERS = {"D": 256, "E": 32, "ports": 15, "C": 16384, "W": 65536}
@@ -28,10 +30,6 @@ GOOD = {
 }
 FIELDS = list(GOOD)
 SEVEN = 7
-
-
-def line(label, inputs, *results):
-    print(" ".join([label, *map(str, inputs), "=", *map(str, results)]))
 
 
 def flag(holds):

@@ -15,6 +15,8 @@ A line is `label inputs = results`. A word is hexadecimal, of 8 digits; a count 
 from copy import deepcopy
 from itertools import product
 
+from lines import line, word, words
+
 USBCMD, USBSTS, USBINTR = 0, 4, 8
 INTERRUPTS = 0x13F
 COMMAND = 0x80B31
@@ -22,18 +24,6 @@ COMMANDS = [0, COMMAND, 0x40, 0xFFFFFFFF]
 FLAGS = [0, 1]
 HEADS = 0x200000
 CONTROL, BULK, INTERRUPT = 0, 2, 3
-
-
-def word(value):
-    return f"{value:08x}"
-
-
-def words(values):
-    return " ".join(word(value) for value in values)
-
-
-def line(label, inputs, *results):
-    print(" ".join([label, *map(str, inputs), "=", *map(str, results)]))
 
 
 def bits(*numbers):

@@ -12,6 +12,8 @@ a count, a length or a number is decimal; a flag is 0 or 1.
 
 from itertools import product
 
+from lines import line, word, words
+
 PIDS = {"out": 0, "in": 1, "setup": 2}
 KINDS = ["control", "isochronous", "bulk", "interrupt"]
 DIRECTIONS = ["out", "in"]
@@ -20,21 +22,6 @@ BACKGROUNDS = [0, 0xFFFFFFFF]
 PAGE = 4096
 TOP = 2**32
 CASES = 48
-
-
-# How a line is written.
-
-
-def word(value):
-    return f"{value:08x}"
-
-
-def words(values):
-    return " ".join(word(value) for value in values)
-
-
-def line(label, inputs, *results):
-    print(" ".join([label, *map(str, inputs), "=", *map(str, results)]))
 
 
 # Words as bits: 01 and EHCI name a field by its lowest bit and its width.
