@@ -6,10 +6,10 @@ use borrow.Author.Tests.{le-ltb, lt-ltb, not-false, not-true}
 use Rattle.controller.specs.declared.answer.Refusal.the-variants.{InvalidParameter, SlotLimitReached}
 use Rattle.controller.specs.declared.calls.Allotment.{Allotment}
 use Rattle.controller.specs.declared.calls.Allotted.the-variants.{Address, Refused}
-use Rattle.controller.specs.declared.state.Ehci.{Ehci}
+use Rattle.state.specs.declared.state.Ehci.{Ehci}
 use Rattle.controller.specs.Address.{allotOf}
-use Rattle.controller.specs.Ranges.{inRanges}
-use Rattle.controller.specs.State.{withNextAddress}
+use Rattle.state.specs.Ranges.{inRanges}
+use Rattle.state.specs.State.{withNextAddress}
 
 module _ (s : Ehci) (g : Bool) (eg : g ≡ inRanges s) where
   pub allot-bad : not g ≡ true → _≡_ {A = Allotment} (record { answer = Refused InvalidParameter; state = s }) (allotOf s)

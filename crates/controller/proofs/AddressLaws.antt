@@ -7,13 +7,13 @@ use borrow.Author.Tests.{ltb-false, ltb-true}
 use lib.Dec.{ltb}
 use Rattle.controller.specs.declared.answer.Refusal.the-variants.{InvalidParameter, SlotLimitReached}
 use Rattle.controller.specs.declared.calls.Allotted.the-variants.{Address, Refused}
-use Rattle.controller.specs.declared.state.Ehci.{Ehci}
+use Rattle.state.specs.declared.state.Ehci.{Ehci}
 use Rattle.controller.specs.Address.{allotOf}
-use Rattle.controller.specs.Ranges.{inRanges}
-use Rattle.controller.specs.Slots.{slotAt}
-use Rattle.controller.specs.State.{withNextAddress}
+use Rattle.state.specs.Ranges.{inRanges}
+use Rattle.state.specs.Slots.{slotAt}
+use Rattle.state.specs.State.{withNextAddress}
 use Rattle.controller.proofs.AddressCases.{allot-bad, allot-done, allot-none}
-use Rattle.controller.proofs.RangesLaws.{Ranges, ranges-make, ranges-tell}
+use Rattle.state.proofs.RangesLaws.{Ranges, ranges-make, ranges-tell}
 
 module _ (s : Ehci) where
   pub allot-in-turn : inRanges s ≡ true → s .address ≤ 127

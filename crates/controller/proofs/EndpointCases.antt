@@ -14,10 +14,10 @@ use Rattle.controller.specs.declared.endpoint.Pipe.{Pipe}
 use Rattle.controller.specs.declared.endpoint.Request.{Request}
 use Rattle.controller.specs.declared.endpoint.UnlinkBoundary.{UnlinkBoundary}
 use Rattle.controller.specs.declared.endpoint.UnlinkBoundary.the-variants.{Async, Periodic}
-use Rattle.controller.specs.declared.slot.Slot.{Slot}
-use Rattle.controller.specs.declared.state.Ehci.{Ehci}
+use Rattle.state.specs.declared.slot.Slot.{Slot}
+use Rattle.state.specs.declared.state.Ehci.{Ehci}
 use Rattle.controller.specs.Endpoints.{kindOf, kindNumber, directionOf, directionNumber, flagNumber, pipeOf, requestOf, boundaryOf, decoded, endpointAt, boundaryNumber, slotWith, bareSlot, encoded, withEndpoint}
-use Rattle.controller.specs.Slots.{slotAt, withSlot}
+use Rattle.state.specs.Slots.{slotAt, withSlot}
 
 pub kind-control : (n : ℕ) → n ≡ 0 → Control ≡ kindOf n
 kind-control n e = rw (eq-eqb n 0 e)

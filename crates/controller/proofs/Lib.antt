@@ -1,8 +1,3 @@
-pub mod SettingsCases
-pub mod SettingsLaws
-pub mod RangesCases
-pub mod RangesLaws
-pub mod SlotLaws
 pub mod RowsCases
 pub mod OpenCases
 pub mod OpenLaws

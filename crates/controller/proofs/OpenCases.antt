@@ -15,13 +15,13 @@ use Rattle.controller.specs.declared.answer.Answer.the-variants.{Done, R
 use Rattle.controller.specs.declared.answer.Refusal.the-variants.{InvalidParameter}
 use Rattle.controller.specs.declared.hub.EhciRootHub.{EhciRootHub}
 use Rattle.controller.specs.declared.open.Opening.{Opening}
-use Rattle.controller.specs.declared.settings.Settings.{Settings}
-use Rattle.controller.specs.declared.state.Ehci.{Ehci}
+use Rattle.settings.specs.declared.settings.Settings.{Settings}
+use Rattle.state.specs.declared.state.Ehci.{Ehci}
 use Rattle.controller.specs.Hub.{openedHub}
 use Rattle.controller.specs.Opening.{freshState, rowsFit, refusedOpening, acceptedOpening, openedHeads, opened, openOf}
 use Rattle.controller.specs.Rows.{putAt}
-use Rattle.controller.specs.Settings.{settingsGood, numbersGood, eachGood, noOverlap, areaGood, poolSize, headsSize, headsLength, setupsLength}
-use Rattle.controller.proofs.SettingsCases.{both-first, both-second, numbers-tell}
+use Rattle.settings.specs.Settings.{settingsGood, numbersGood, eachGood, noOverlap, areaGood, poolSize, headsSize, headsLength, setupsLength}
+use Rattle.settings.proofs.SettingsCases.{both-first, both-second, numbers-tell}
 
 abbrev zeros : ℕ → List ℕ
 zeros n = replicate n 0

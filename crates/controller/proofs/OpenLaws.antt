@@ -13,18 +13,18 @@ use Rattle.descriptor.specs.Descriptors.{terminated}
 use Rattle.descriptor.specs.Heads.{ringHead}
 use Rattle.controller.specs.declared.answer.Answer.the-variants.{Done, Refused}
 use Rattle.controller.specs.declared.answer.Refusal.the-variants.{InvalidParameter}
-use Rattle.controller.specs.declared.settings.Settings.{Settings}
+use Rattle.settings.specs.declared.settings.Settings.{Settings}
 use Rattle.controller.specs.Endpoints.{bareSlot}
 use Rattle.controller.specs.Hub.{openedHub}
 use Rattle.controller.specs.Opening.{acceptedOpening, freshState, noSettings, Opened, opened, openedHeads, openOf, refusedOpening, rowsFit}
-use Rattle.controller.specs.Ranges.{inRanges, slotGood}
+use Rattle.state.specs.Ranges.{inRanges, slotGood}
 use Rattle.controller.specs.Readers.{countZero, freeCount}
-use Rattle.controller.specs.Settings.{framesLength, headsLength, numbersGood, poolLength, settingsGood, setupsLength}
-use Rattle.controller.specs.Slots.{slotAt}
-use Rattle.controller.specs.Tests.{both}
-use Rattle.controller.proofs.RangesLaws.{ranges-make}
-use Rattle.controller.proofs.SettingsLaws.{both-tells, Good, good-tells}
-use Rattle.controller.proofs.SlotLaws.{Phase, slot-makes}
+use Rattle.settings.specs.Settings.{framesLength, headsLength, numbersGood, poolLength, settingsGood, setupsLength}
+use Rattle.state.specs.Slots.{slotAt}
+use Rattle.settings.specs.Tests.{both}
+use Rattle.state.proofs.RangesLaws.{ranges-make}
+use Rattle.settings.proofs.SettingsLaws.{both-tells, Good, good-tells}
+use Rattle.state.proofs.SlotLaws.{Phase, slot-makes}
 
 -- ---- the state
 

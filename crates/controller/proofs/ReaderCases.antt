@@ -14,7 +14,7 @@ use Rattle.controller.specs.declared.endpoint.Endpoint.the-variants.{Clo
 use Rattle.controller.specs.declared.endpoint.Pipe.{Pipe}
 use Rattle.controller.specs.declared.endpoint.Request.{Request}
 use Rattle.controller.specs.declared.endpoint.UnlinkBoundary.{UnlinkBoundary}
-use Rattle.controller.specs.declared.state.Ehci.{Ehci}
+use Rattle.state.specs.declared.state.Ehci.{Ehci}
 use Rattle.controller.specs.Endpoints.{endpointAt, flagNumber}
 use Rattle.controller.specs.Readers.{countZero, freeCount, hasPlace, isUncollected}
 

@@ -7,10 +7,10 @@ use Rattle.controller.specs.declared.answer.Refusal.the-variants.{Invali
 use Rattle.controller.specs.declared.calls.Allotment.{Allotment}
 use Rattle.controller.specs.declared.calls.Allotted.{Allotted}
 use Rattle.controller.specs.declared.calls.Allotted.the-variants.{Address, Refused}
-use Rattle.controller.specs.declared.state.Ehci.{Ehci}
+use Rattle.state.specs.declared.state.Ehci.{Ehci}
 use Rattle.controller.specs.Answers.{refusalNumber, first, settle}
-use Rattle.controller.specs.Ranges.{inRanges}
-use Rattle.controller.specs.State.{withNextAddress}
+use Rattle.state.specs.Ranges.{inRanges}
+use Rattle.state.specs.State.{withNextAddress}
 
 abbrev pub allottedNumber : Allotted → ℕ
 allottedNumber (Address a) = 0

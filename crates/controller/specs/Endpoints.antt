@@ -12,9 +12,9 @@ use Rattle.controller.specs.declared.endpoint.Pipe.{Pipe}
 use Rattle.controller.specs.declared.endpoint.Request.{Request}
 use Rattle.controller.specs.declared.endpoint.UnlinkBoundary.{UnlinkBoundary}
 use Rattle.controller.specs.declared.endpoint.UnlinkBoundary.the-variants.{Async, Periodic}
-use Rattle.controller.specs.declared.slot.Slot.{Slot}
-use Rattle.controller.specs.declared.state.Ehci.{Ehci}
-use Rattle.controller.specs.Slots.{slotAt, withSlot}
+use Rattle.state.specs.declared.slot.Slot.{Slot}
+use Rattle.state.specs.declared.state.Ehci.{Ehci}
+use Rattle.state.specs.Slots.{slotAt, withSlot}
 
 -- ---- numbers: control 0, isochronous 1, bulk 2, interrupt 3; Out 0, In 1
 

@@ -1,12 +1,7 @@
-pub mod Tests
-pub mod Settings
-pub mod Slots
 pub mod Endpoints
 pub mod Readers
-pub mod Ranges
 pub mod Rows
 pub mod Answers
 pub mod Hub
 pub mod Opening
-pub mod State
 pub mod Address

@@ -11,12 +11,12 @@ use Rattle.controller.specs.declared.answer.Refusal.{Refusal}
 use Rattle.controller.specs.declared.answer.Refusal.the-variants.{InvalidParameter}
 use Rattle.controller.specs.declared.hub.EhciRootHub.{EhciRootHub}
 use Rattle.controller.specs.declared.open.Opening.{Opening}
-use Rattle.controller.specs.declared.settings.Settings.{Settings}
-use Rattle.controller.specs.declared.state.Ehci.{Ehci}
+use Rattle.settings.specs.declared.settings.Settings.{Settings}
+use Rattle.state.specs.declared.state.Ehci.{Ehci}
 use Rattle.controller.specs.Answers.{first, settle}
 use Rattle.controller.specs.Hub.{openedHub}
-use Rattle.controller.specs.Settings.{settingsGood, poolLength, headsLength, framesLength, setupsLength}
-use Rattle.controller.specs.Tests.{every}
+use Rattle.settings.specs.Settings.{settingsGood, poolLength, headsLength, framesLength, setupsLength}
+use Rattle.settings.specs.Tests.{every}
 
 -- not running, nothing begun, address 1 next, interrupts off, every descriptor free, every slot closed
 unfoldable pub freshState : Settings → Ehci

@@ -6,7 +6,7 @@ use lib.Dec.{eqb}
 use lib.ListN.{getD, take}
 use Rattle.controller.specs.declared.endpoint.Endpoint.{Endpoint}
 use Rattle.controller.specs.declared.endpoint.Endpoint.the-variants.{Closed, Idle, Linked, Unlinking}
-use Rattle.controller.specs.declared.state.Ehci.{Ehci}
+use Rattle.state.specs.declared.state.Ehci.{Ehci}
 use Rattle.controller.specs.Endpoints.{endpointAt, flagNumber}
 
 unfoldable pub countZero : List ℕ → ℕ

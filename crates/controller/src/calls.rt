@@ -2,8 +2,8 @@
 ghost use mathlib.Core.Path.{_≡_};
 ghost use Rattle.controller.specs.Address.{allotOf};
 use crate::answer::Refusal;
-use crate::ranges::in_ranges;
-use crate::state::Ehci;
+use state::ranges::in_ranges;
+use state::state::Ehci;
 
 pub enum Allotted {
     Address(u8),

@@ -19,10 +19,10 @@ ghost use Rattle.controller.specs.Endpoints.{
   encoded,
   withEndpoint,
 };
-use crate::slot::Slot;
-use crate::slot::slot_at;
-use crate::slot::with_slot;
-use crate::state::Ehci;
+use state::slot::Slot;
+use state::slot::slot_at;
+use state::slot::with_slot;
+use state::state::Ehci;
 use token::request::Direction;
 use token::request::EndpointType;
 

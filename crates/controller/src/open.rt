@@ -9,11 +9,11 @@ use crate::hub::EhciRootHub;
 use crate::rows::fill_bytes;
 use crate::rows::fill_words;
 use crate::rows::put_head;
-use crate::settings::Settings;
-use crate::settings::both;
-use crate::state::Ehci;
 use descriptor::head::QueueHead;
 use descriptor::qtd::EHCI_LINK_TERMINATE;
+use settings::settings::Settings;
+use settings::settings::both;
+use state::state::Ehci;
 
 pub const FRAMES: u64 = 1024;
 

@@ -6,7 +6,7 @@ ghost use Rattle.controller.specs.Endpoints.{flagOf};
 ghost use Rattle.controller.specs.Readers.{countZero, freeCount, isUncollected, hasPlace};
 use crate::endpoint::Endpoint;
 use crate::endpoint::endpoint_at;
-use crate::state::Ehci;
+use state::state::Ehci;
 
 // How many of some owners are 0.
 pub fn count_zero(owner: &[u8]) -> u16

@@ -4,9 +4,9 @@ ghost use lib.ListN.{length};
 use crate::out;
 use controller::open::Opening;
 use controller::open::open;
-use controller::ranges::in_ranges;
 use controller::readers::free_count;
-use controller::settings::Settings;
+use settings::settings::Settings;
+use state::ranges::in_ranges;
 use std::num::wrapping_add_u64 as plus;
 use std::num::wrapping_sub_u64 as less;
 

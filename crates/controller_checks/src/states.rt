@@ -4,8 +4,8 @@ use crate::out;
 use controller::calls::Allotted;
 use controller::calls::allocate_address;
 use controller::open::open;
-use controller::ranges::in_ranges;
-use controller::state::Ehci;
+use state::ranges::in_ranges;
+use state::state::Ehci;
 use std::num::wrapping_add_u64 as plus;
 
 // Running, step, waited, address and its least, enabled, and of the settings D and E.

@@ -10,14 +10,14 @@ use Rattle.register.specs.Bits.{withBits, withoutBits, onlyBits, anyOf}
 use Rattle.register.specs.Writes.{noWrites, andThen}
 use Rattle.register.specs.declared.writes.Writes.{Writes}
 use Rattle.token.specs.Tokens.{onlyIf}
-use Rattle.controller.specs.Ranges.{inRanges, restGood, machineGood, interruptGood, doorbellGood}
-use Rattle.controller.specs.Settings.{settingsGood}
-use Rattle.controller.specs.State.{withInterrupt, withBell, withBoundaries}
-use Rattle.controller.specs.Tests.{both}
+use Rattle.state.specs.Ranges.{inRanges, restGood, machineGood, interruptGood, doorbellGood}
+use Rattle.settings.specs.Settings.{settingsGood}
+use Rattle.state.specs.State.{withInterrupt, withBell, withBoundaries}
+use Rattle.settings.specs.Tests.{both}
 use Rattle.controller.specs.declared.answer.Answer.the-variants.{Done, Refused as RefusedCall}
 use Rattle.controller.specs.declared.answer.Refusal.the-variants.{InvalidParameter}
-use Rattle.controller.specs.declared.state.Ehci.{Ehci}
-use Rattle.controller.proofs.SettingsCases.{both-first, both-second, within-least}
+use Rattle.state.specs.declared.state.Ehci.{Ehci}
+use Rattle.settings.proofs.SettingsCases.{both-first, both-second, within-least}
 use Rattle.schedule.specs.Bell.{advancedOf, fallenFrom}
 use Rattle.schedule.specs.Links.{same}
 use Rattle.schedule.specs.declared.bell.Rung.{Rung}

@@ -7,11 +7,11 @@ use lib.ListN.{replicate}
 use Rattle.register.specs.Bits.{withBits, withoutBits, onlyBits, anyOf}
 use Rattle.register.specs.Writes.{noWrites, andThen}
 use Rattle.controller.specs.Opening.{freshState}
-use Rattle.controller.specs.Ranges.{inRanges, restGood, machineGood, interruptGood, doorbellGood, ownerGood, largest, slotsGood, slotGood, phaseGood, closedGood, noRequest}
-use Rattle.controller.specs.Settings.{settingsGood, numbersGood, eachGood, noOverlap, areaGood, apartAreas}
-use Rattle.controller.specs.Slots.{slotAt}
-use Rattle.controller.specs.State.{withInterrupt, withBell, withBoundaries}
-use Rattle.controller.specs.declared.state.Ehci.{Ehci}
+use Rattle.state.specs.Ranges.{inRanges, restGood, machineGood, interruptGood, doorbellGood, ownerGood, largest, slotsGood, slotGood, phaseGood, closedGood, noRequest}
+use Rattle.settings.specs.Settings.{settingsGood, numbersGood, eachGood, noOverlap, areaGood, apartAreas}
+use Rattle.state.specs.Slots.{slotAt}
+use Rattle.state.specs.State.{withInterrupt, withBell, withBoundaries}
+use Rattle.state.specs.declared.state.Ehci.{Ehci}
 use Rattle.schedule.specs.Bell.{ringWord, ringOf, unlinkedOf, advancedOf, fallenOne, fallenFrom}
 use Rattle.interrupt.specs.Interrupts.{maskWord, acknowledgeWrites, notedAfter, acknowledgedState, acknowledgeOf, countedOf, takenOf, drainOf}
 use Rattle.interrupt.specs.Examples.{Row, unlinkExamples, drainExamples, benchSettings, drainRow, firstDrain, secondDrain, twoUnlinks}

@@ -12,11 +12,11 @@ use Rattle.register.specs.declared.writes.Writes.{Writes}
 use Rattle.register.proofs.BitLaws.{with-bit, only-bit}
 use Rattle.register.proofs.FieldLaws.{any-field}
 use Rattle.controller.specs.Endpoints.{flagNumber}
-use Rattle.controller.specs.Ranges.{inRanges}
-use Rattle.controller.specs.State.{withInterrupt, withBell, withBoundaries}
-use Rattle.controller.specs.Tests.{both, either}
-use Rattle.controller.specs.declared.state.Ehci.{Ehci}
-use Rattle.controller.proofs.SettingsCases.{both-first}
+use Rattle.state.specs.Ranges.{inRanges}
+use Rattle.state.specs.State.{withInterrupt, withBell, withBoundaries}
+use Rattle.settings.specs.Tests.{both, either}
+use Rattle.state.specs.declared.state.Ehci.{Ehci}
+use Rattle.settings.proofs.SettingsCases.{both-first}
 use Rattle.schedule.specs.Links.{same}
 use Rattle.schedule.specs.Bell.{ringWord, mustRing, ringOf, unlinkedOf, advancedOf}
 use Rattle.schedule.specs.declared.bell.Bell.{Bell}

@@ -5,8 +5,8 @@ use mathlib.Core.List.{List, [], _∷_}
 use Rattle.register.specs.Writes.{noWrites}
 use Rattle.controller.specs.Endpoints.{flagNumber}
 use Rattle.controller.specs.Opening.{freshState}
-use Rattle.controller.specs.declared.settings.Settings.{Settings}
-use Rattle.controller.specs.declared.state.Ehci.{Ehci}
+use Rattle.settings.specs.declared.settings.Settings.{Settings}
+use Rattle.state.specs.declared.state.Ehci.{Ehci}
 use Rattle.schedule.specs.Bell.{distance, framesPassed}
 use Rattle.interrupt.specs.declared.calls.Drained.{Drained}
 use Rattle.interrupt.specs.declared.calls.Drained.the-variants.{Nothing, PortChange, TransferActivity, Stopped, Refused}

@@ -8,12 +8,12 @@ use Rattle.register.specs.Writes.{noWrites, andThen}
 use Rattle.register.specs.declared.writes.Writes.{Writes}
 use Rattle.token.specs.Tokens.{onlyIf}
 use Rattle.controller.specs.Answers.{refusalNumber, first, settle}
-use Rattle.controller.specs.Ranges.{inRanges}
-use Rattle.controller.specs.State.{withInterrupt, withBell, withBoundaries}
-use Rattle.controller.specs.Tests.{both}
+use Rattle.state.specs.Ranges.{inRanges}
+use Rattle.state.specs.State.{withInterrupt, withBell, withBoundaries}
+use Rattle.settings.specs.Tests.{both}
 use Rattle.controller.specs.declared.answer.Answer.the-variants.{Done, Refused as RefusedCall}
 use Rattle.controller.specs.declared.answer.Refusal.the-variants.{InvalidParameter}
-use Rattle.controller.specs.declared.state.Ehci.{Ehci}
+use Rattle.state.specs.declared.state.Ehci.{Ehci}
 use Rattle.schedule.specs.Bell.{advancedOf, fallenFrom}
 use Rattle.schedule.specs.Links.{same}
 use Rattle.schedule.specs.declared.bell.Bell.{Bell}

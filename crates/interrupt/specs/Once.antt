@@ -10,9 +10,9 @@ use Rattle.register.specs.Writes.{noWrites, listOf}
 use Rattle.register.specs.declared.writes.Write.{Write}
 use Rattle.register.specs.declared.writes.Writes.{Writes}
 use Rattle.controller.specs.Endpoints.{flagNumber}
-use Rattle.controller.specs.State.{withBell}
-use Rattle.controller.specs.Tests.{both, either}
-use Rattle.controller.specs.declared.state.Ehci.{Ehci}
+use Rattle.state.specs.State.{withBell}
+use Rattle.settings.specs.Tests.{both, either}
+use Rattle.state.specs.declared.state.Ehci.{Ehci}
 use Rattle.schedule.specs.Bell.{unlinkedOf}
 use Rattle.schedule.specs.declared.bell.Rung.{Rung}
 use Rattle.interrupt.specs.Interrupts.{bellOf, acknowledgeOf, drainOf, rearmOf, enableOf, disableOf}

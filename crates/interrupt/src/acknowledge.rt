@@ -1,7 +1,6 @@
 // What an acknowledgment writes and notes.
 ghost use mathlib.Core.Path.{_≡_};
 ghost use Rattle.interrupt.specs.Interrupts.{maskWord, acknowledgeWrites, notedAfter};
-use controller::state::Ehci;
 use register::bits::any_of;
 use register::bits::only_bits;
 use register::bits::without_bits;
@@ -18,6 +17,7 @@ use register::ehci::USBSTS_USBERRINT;
 use register::ehci::USBSTS_USBINT;
 use register::writes::Writes;
 use schedule::links::same;
+use state::state::Ehci;
 
 // What is enabled, and so what is masked.
 pub const MASKABLE: u32 = USBINTR_USBINT

@@ -19,12 +19,12 @@ use crate::drain::count_noted;
 use crate::drain::take_pending;
 use controller::answer::Answer;
 use controller::answer::Refusal;
-use controller::ranges::in_ranges;
-use controller::state::Ehci;
 use register::bits::only_bits;
 use register::bits::with_bits;
 use register::ehci::USBINTR;
 use register::writes::Writes;
+use state::ranges::in_ranges;
+use state::state::Ehci;
 
 pub enum Acknowledged {
     No,

@@ -1,10 +1,9 @@
 // What a drain counts, and what it takes.
 ghost use mathlib.Core.Path.{_≡_};
 ghost use mathlib.Core.Bool.{true};
-ghost use Rattle.controller.specs.Ranges.{inRanges};
+ghost use Rattle.state.specs.Ranges.{inRanges};
 ghost use Rattle.interrupt.specs.Interrupts.{countedOf, takenOf};
 use crate::calls::Drained;
-use controller::state::Ehci;
 use register::bits::any_of;
 use register::bits::without_bits;
 use register::ehci::USBSTS_INTERRUPT_ASYNC_ADVANCE;
@@ -15,6 +14,7 @@ use register::writes::Writes;
 use schedule::bell::Bell;
 use schedule::bell::advanced;
 use schedule::bell::fallen;
+use state::state::Ehci;
 
 pub const ACTIVITY: u32 = USBSTS_USBINT | USBSTS_USBERRINT | USBSTS_INTERRUPT_ASYNC_ADVANCE;
 

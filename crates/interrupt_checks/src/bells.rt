@@ -2,7 +2,6 @@
 use crate::calls;
 use crate::out;
 use crate::states;
-use controller::state::Ehci;
 use register::writes::Writes;
 use schedule::bell::Bell;
 use schedule::bell::Rung;
@@ -12,6 +11,7 @@ use schedule::bell::frame_of;
 use schedule::bell::frames_passed;
 use schedule::bell::ring;
 use schedule::bell::unlinked;
+use state::state::Ehci;
 
 const COMMANDS: [u32; 4] = [0, 0x0008_0b31, 0x40, 0xffff_ffff];
 

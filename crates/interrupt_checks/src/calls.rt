@@ -2,7 +2,6 @@
 use crate::out;
 use crate::states;
 use controller::answer::Refusal;
-use controller::state::Ehci;
 use interrupt::calls::Acknowledged;
 use interrupt::calls::Drained;
 use interrupt::calls::Settled;
@@ -11,6 +10,7 @@ use interrupt::calls::disable;
 use interrupt::calls::drain;
 use interrupt::calls::enable;
 use interrupt::calls::rearm;
+use state::state::Ehci;
 
 // USBINTR as read: with a bit that is never masked.
 const INTERRUPTS: u32 = 0x13f;

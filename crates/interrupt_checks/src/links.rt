@@ -3,7 +3,6 @@ use crate::out;
 use crate::states;
 use crate::states::SETTINGS;
 use controller::open::open;
-use controller::state::Ehci;
 use descriptor::head::ehci_qh_link;
 use schedule::links::Predecessor;
 use schedule::links::attach_frames;
@@ -12,6 +11,7 @@ use schedule::links::detach;
 use schedule::links::end_overlay;
 use schedule::links::head_address;
 use schedule::links::start_overlay;
+use state::state::Ehci;
 
 fn all_equal(row: &[u32], first: u32) -> bool {
     let mut equal = true;

@@ -1,7 +1,7 @@
 // A controller of two slots as it is opened, and states made of it.
 use controller::open::open;
-use controller::settings::Settings;
-use controller::state::Ehci;
+use settings::settings::Settings;
+use state::state::Ehci;
 
 pub const SETTINGS: Settings = Settings {
     descriptors: 16,

@@ -7,7 +7,7 @@ use lib.ListN.{getD}
 use Rattle.register.specs.Bits.{withBits, withoutBits}
 use Rattle.register.specs.Writes.{andThen}
 use Rattle.register.specs.declared.writes.Writes.{Writes}
-use Rattle.controller.specs.Tests.{both}
+use Rattle.settings.specs.Tests.{both}
 use Rattle.schedule.specs.declared.bell.Bell.{Bell}
 use Rattle.schedule.specs.declared.bell.Rung.{Rung}
 

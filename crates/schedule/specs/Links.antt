@@ -6,8 +6,8 @@ use lib.Dec.{eqb}
 use lib.ListN.{getD, length, replicate, set}
 use Rattle.descriptor.specs.Heads.{qhLink}
 use Rattle.controller.specs.Rows.{withHeadWord, putAt}
-use Rattle.controller.specs.Tests.{every}
-use Rattle.controller.specs.declared.state.Ehci.{Ehci}
+use Rattle.settings.specs.Tests.{every}
+use Rattle.state.specs.declared.state.Ehci.{Ehci}
 use Rattle.schedule.specs.declared.links.Predecessor.{Predecessor}
 use Rattle.schedule.specs.declared.links.Predecessor.the-variants.{First, Head, Missing}
 

@@ -4,7 +4,7 @@ use mathlib.Core.List.{List, [], _∷_}
 use mathlib.Core.Logic.{_⊎_}
 use mathlib.Core.Path.{_≡_}
 use lib.ListN.{length}
-use Rattle.controller.specs.declared.state.Ehci.{Ehci}
+use Rattle.state.specs.declared.state.Ehci.{Ehci}
 use Rattle.schedule.specs.Links.{slotLink, linkWord}
 
 -- from a link word on, the links meet the heads of these slots, in order, and then that word

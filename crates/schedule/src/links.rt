@@ -21,9 +21,9 @@ ghost use Rattle.schedule.specs.Links.{
 };
 use controller::rows::fill_words;
 use controller::rows::put_words;
-use controller::settings::both;
-use controller::state::Ehci;
 use descriptor::qtd::EHCI_LINK_TERMINATE;
+use settings::settings::both;
+use state::state::Ehci;
 
 // Who gives way to a head that is unlinked.
 pub enum Predecessor {

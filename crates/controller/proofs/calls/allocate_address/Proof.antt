@@ -1,4 +1,4 @@
-use Rattle.controller.specs.State.{withNextAddress}
+use Rattle.state.specs.State.{withNextAddress}
 use Rattle.controller.proofs.AddressCases.{allot-bad, allot-none, allot-done}
 use borrow.Author.Needs.{needs}
 use Rattle.controller.proofs.calls.allocate_address.Statement.{statement}

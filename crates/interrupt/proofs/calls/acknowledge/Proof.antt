@@ -1,4 +1,4 @@
-use Rattle.controller.specs.State.{withInterrupt, withBell}
+use Rattle.state.specs.State.{withInterrupt, withBell}
 use Rattle.interrupt.proofs.Cases.{ack-bad, ack-no, ack-yes}
 use borrow.Author.Needs.{needs}
 use Rattle.interrupt.proofs.calls.acknowledge.Statement.{statement}

@@ -1,4 +1,4 @@
-use Rattle.controller.specs.State.{withInterrupt}
+use Rattle.state.specs.State.{withInterrupt}
 use Rattle.interrupt.proofs.Cases.{disable-bad, disable-done}
 use borrow.Author.Needs.{needs}
 use Rattle.interrupt.proofs.calls.disable.Statement.{statement}

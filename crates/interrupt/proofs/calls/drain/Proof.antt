@@ -1,4 +1,4 @@
-use Rattle.controller.specs.State.{withInterrupt}
+use Rattle.state.specs.State.{withInterrupt}
 use Rattle.interrupt.proofs.Cases.{drain-bad, drain-nothing, drain-some, passed-ranges}
 use borrow.Author.Needs.{needs}
 use Rattle.interrupt.proofs.calls.drain.Statement.{statement}

@@ -1,4 +1,4 @@
-use Rattle.controller.specs.State.{withInterrupt}
+use Rattle.state.specs.State.{withInterrupt}
 use Rattle.interrupt.proofs.Cases.{rearm-bad, rearm-none, rearm-some}
 use borrow.Author.Needs.{needs}
 use Rattle.interrupt.proofs.calls.rearm.Statement.{statement}

@@ -1,4 +1,4 @@
-use Rattle.controller.specs.State.{withBell, withBoundaries}
+use Rattle.state.specs.State.{withBell, withBoundaries}
 use Rattle.interrupt.proofs.Cases.{count-none, count-one, noted-unanswered}
 use borrow.Author.Needs.{needs}
 use Rattle.interrupt.proofs.drain.count_noted.Statement.{statement}

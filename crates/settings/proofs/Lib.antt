@@ -1,0 +1,2 @@
+pub mod SettingsCases
+pub mod SettingsLaws

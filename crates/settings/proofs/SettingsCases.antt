@@ -1,0 +1,82 @@
+-- The returns of the functions on settings.
+use Prim.Native.Nat.{ℕ, _+_, _-_, _%_, _^_, _≤_, _<_}
+use mathlib.Core.Path.{_≡_, refl, sym, ap, _∙_}
+use mathlib.Core.Bool.{Bool, true, false}
+use native.Mathlib.Omega.{arith}
+use borrow.Author.Tests.{eq-eqb, ne-eqb, le-leb, lt-leb, leb-true, leb-false}
+use lib.Dec.{leb}
+use Rattle.settings.specs.declared.settings.Settings.{Settings}
+use Rattle.settings.specs.Tests.{both, within}
+use Rattle.settings.specs.Settings.{areaGood, apartAreas, numbersGood, eachGood, noOverlap, settingsGood}
+
+-- two tests that say the same of numbers are equal
+pub same-test : (a b c d : ℕ) → (a ≤ b → c ≤ d) → (c ≤ d → a ≤ b) → leb a b ≡ leb c d
+same-test a b c d f g = go (leb a b) refl
+  where
+    go : (t : Bool) → leb a b ≡ t → leb a b ≡ leb c d
+    go true e = e ∙ sym (le-leb c d (f (leb-true a b e)))
+    go false e = e ∙ sym (lt-leb c d (above (leb-false a b e)))
+      where
+        above : b < a → d < c
+        above h = by (leb c d) refl
+          where
+            by : (t : Bool) → leb c d ≡ t → d < c
+            by true q = absurd (omega (arith, g (leb-true c d q)))
+            by false q = leb-false c d q
+
+pub within-low : (x l m : ℕ) → l ≤ x → leb x m ≡ within x l m
+within-low x l m h = rw (le-leb l x h)
+
+pub within-not : (x l m : ℕ) → x < l → false ≡ within x l m
+within-not x l m h = rw (lt-leb l x h)
+
+pub area-aligned : (a n s : ℕ) → s ≤ 2 ^ 32 → a % n ≡ 0 → leb a (4294967296 - s) ≡ areaGood a n s
+unfolding areaGood
+area-aligned a n s h e = rw (eq-eqb (a % n) 0 e) (same-test a (4294967296 - s) (a + s) (2 ^ 32) (λ p. omega arith) (λ p. omega arith))
+
+pub area-not : (a n s : ℕ) → (a % n ≡ 0 → ⊥) → false ≡ areaGood a n s
+unfolding areaGood
+area-not a n s e = rw (ne-eqb (a % n) 0 e)
+
+pub apart-first : (a m b n : ℕ) → a ≤ b → leb m (b - a) ≡ apartAreas a m b n
+unfolding apartAreas
+apart-first a m b n h = rw (le-leb a b h) (same-test m (b - a) (a + m) b (λ p. omega arith) (λ p. omega arith))
+
+pub apart-second : (a m b n : ℕ) → b < a → leb n (a - b) ≡ apartAreas a m b n
+unfolding apartAreas
+apart-second a m b n h = rw (lt-leb a b h) (same-test n (a - b) (b + n) a (λ p. omega arith) (λ p. omega arith))
+
+pub both-first : (a b : Bool) → both a b ≡ true → a ≡ true
+both-first true b e = refl
+both-first false b e = e
+
+pub both-second : (a b : Bool) → both a b ≡ true → b ≡ true
+both-second true b e = e
+both-second false b e = absurd (bool-apart e)
+  where
+    bool-apart : false ≡ true → ⊥
+    bool-apart q = let z : _≡_ {A = ℕ} 0 1 = cc in omega arith
+
+pub within-most : (x l m : ℕ) → within x l m ≡ true → x ≤ m
+within-most x l m e = leb-true x m (both-second (leb l x) (leb x m) e)
+
+pub within-least : (x l m : ℕ) → within x l m ≡ true → l ≤ x
+within-least x l m e = leb-true l x (both-first (leb l x) (leb x m) e)
+
+-- settings whose numbers are good have at most 256 descriptors and 32 endpoints
+pub numbers-tell : (s : Settings) (r : Bool) → r ≡ numbersGood s → r ≡ true → (s .descriptors ≤ 256) × (s .endpoints ≤ 32)
+unfolding numbersGood
+numbers-tell s r e t =
+    let all = sym e ∙ t in (
+      within-most (s .descriptors) 1 256 (both-first _ _ all),
+      within-most (s .endpoints) 1 32 (both-first _ _ (both-second (within (s .descriptors) 1 256) _ all)),
+    )
+
+pub good-numbers : (s : Settings) (n each apart r : Bool) → n ≡ numbersGood s → n ≡ true → each ≡ eachGood s → apart ≡ noOverlap s
+    → r ≡ both each apart → r ≡ settingsGood s
+unfolding settingsGood
+good-numbers s n each apart r en t ee ea er = er ∙ rw (ee, ea, sym en ∙ t)
+
+pub good-not : (s : Settings) (n : Bool) → n ≡ numbersGood s → n ≡ false → false ≡ settingsGood s
+unfolding settingsGood
+good-not s n en t = rw (sym en ∙ t)

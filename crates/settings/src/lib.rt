@@ -1,0 +1,2 @@
+// What a controller is opened with.
+pub mod settings;

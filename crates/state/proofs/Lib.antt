@@ -1,0 +1,3 @@
+pub mod RangesCases
+pub mod RangesLaws
+pub mod SlotLaws

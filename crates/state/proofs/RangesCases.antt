@@ -1,0 +1,129 @@
+-- The returns of the functions that decide the ranges.
+use Prim.Native.Nat.{ℕ, zero, suc, _+_, _-_, _≤_, _<_, max}
+use mathlib.Core.Path.{_≡_, refl, sym, ap, _∙_}
+use mathlib.Core.Bool.{Bool, true, false, not}
+use mathlib.Core.List.{List, [], _∷_}
+use native.Mathlib.Numerals.{add-one}
+use native.Mathlib.Omega.{arith}
+use borrow.Author.Tests.{eq-eqb, ne-eqb, not-false, not-true}
+use lib.Dec.{eqb, leb, ltb}
+use lib.ListN.{drop, drop-of-length-le, getD, length, length-drop, take}
+use lib.Seq.{drop-cons, length-take-le, take-all}
+use Rattle.settings.specs.declared.settings.Settings.{Settings}
+use Rattle.settings.specs.Settings.{settingsGood}
+use Rattle.settings.proofs.SettingsCases.{both-first, numbers-tell}
+use Rattle.state.specs.declared.state.Ehci.{Ehci}
+use Rattle.state.specs.Slots.{slotAt}
+use Rattle.state.specs.declared.slot.Slot.{Slot}
+use Rattle.settings.specs.Tests.{both, either}
+use Rattle.state.specs.Ranges.{openKind, noRequest, closedGood, idleGood, linkedGood, boundaryGood, unlinkingGood, phaseGood, slotGood, slotsGood, largest, ownerGood, machineGood, interruptGood, doorbellGood, restGood, inRanges}
+
+both-assoc : (a b c : Bool) → both (both a b) c ≡ both a (both b c)
+both-assoc true b c = refl
+both-assoc false b c = refl
+
+both-true : (a : Bool) → both a true ≡ a
+both-true true = refl
+both-true false = refl
+
+pub frame-boundary : (k b u : ℕ) → k ≡ 3 → ltb b 16384 ≡ boundaryGood k b u
+unfolding boundaryGood
+frame-boundary k b u e = rw (eq-eqb k 3 e)
+
+pub advance-boundary : (k b u : ℕ) (r : Bool) → (k ≡ 3 → ⊥) → r ≡ leb b u → r ≡ boundaryGood k b u
+unfolding boundaryGood
+advance-boundary k b u r ne er = er ∙ rw (ne-eqb k 3 ne)
+
+module _ (e : Slot) (u : ℕ) where
+  pub phase-closed : (r : Bool) → e .phase ≡ 0 → r ≡ closedGood e → r ≡ phaseGood e u
+  unfolding phaseGood
+  phase-closed r p er = er ∙ rw p
+
+  pub phase-idle : (z n r : Bool) → e .phase ≡ 1 → z ≡ openKind (e .kind) → n ≡ noRequest e → r ≡ both z n → r ≡ phaseGood e u
+  unfolding phaseGood idleGood
+  phase-idle z n r p ez en er = er ∙ rw (ez, en, p)
+
+  pub phase-linked : (r : Bool) → e .phase ≡ 2 → r ≡ linkedGood e → r ≡ phaseGood e u
+  unfolding phaseGood
+  phase-linked r p er = er ∙ rw p
+
+  pub phase-unlinking : (r : Bool) → e .phase ≡ 3 → r ≡ unlinkingGood e u → r ≡ phaseGood e u
+  unfolding phaseGood
+  phase-unlinking r p er = er ∙ rw p
+
+  pub phase-unknown : (e .phase ≡ 0 → ⊥) → (e .phase ≡ 1 → ⊥) → (e .phase ≡ 2 → ⊥) → (e .phase ≡ 3 → ⊥) → false ≡ phaseGood e u
+  unfolding phaseGood
+  phase-unknown a b c d = rw (ne-eqb (e .phase) 0 a, ne-eqb (e .phase) 1 b, ne-eqb (e .phase) 2 c, ne-eqb (e .phase) 3 d)
+
+-- ---- the loop over the slots
+
+pub slots-turn : (s : Ehci) (k : ℕ) (g t r : Bool) → k < 32
+    → t ≡ slotGood (s .settings .endpoints) k (s .unanswered) (slotAt s k) → r ≡ both g t
+    → both r (slotsGood (k + 1) (32 - (k + 1)) s) ≡ both g (slotsGood k (32 - k) s)
+unfolding slotsGood
+slots-turn s k g t r h et er = rw (er, et, add-one k, more) (both-assoc g _ _)
+  where
+    more : 32 - k ≡ suc (32 - suc k)
+    more = omega arith
+
+pub slots-done : (s : Ehci) (k : ℕ) (g all : Bool) → 32 ≤ k → both g (slotsGood k (32 - k) s) ≡ all → g ≡ all
+unfolding slotsGood
+slots-done s k g all h e = sym (both-true g) ∙ (rw none at e)
+  where
+    none : 32 - k ≡ 0
+    none = omega arith
+
+-- ---- the largest
+
+pub largest-le : (l : List ℕ) (i : ℕ) → getD l i 0 ≤ largest l
+unfolding largest
+largest-le [] i = omega arith
+largest-le (x ∷ l) zero = omega arith
+largest-le (x ∷ l) (suc i) = omega (arith, largest-le l i)
+
+pub seen-more : (l : List ℕ) (i m : ℕ) → i < length l → max m (largest (drop i l)) ≡ max (max m (getD l i 0)) (largest (drop (i + 1) l))
+unfolding largest
+seen-more l i m h = rw (add-one i, drop-cons l i 0 h) (omega arith)
+
+pub seen-none : (l : List ℕ) → max 0 (largest l) ≡ largest l
+seen-none l = omega arith
+
+pub seen-larger : (l : List ℕ) (i m m′ : ℕ) → i < length l → m < getD l i 0 → m′ ≡ getD l i 0
+    → max m (largest (drop i l)) ≡ largest l → max m′ (largest (drop (i + 1) l)) ≡ largest l
+seen-larger l i m m′ h lt e inv = omega (arith, seen-more l i m h)
+
+pub seen-smaller : (l : List ℕ) (i m m′ : ℕ) → i < length l → getD l i 0 ≤ m → m′ ≡ m
+    → max m (largest (drop i l)) ≡ largest l → max m′ (largest (drop (i + 1) l)) ≡ largest l
+seen-smaller l i m m′ h le e inv = omega (arith, seen-more l i m h)
+
+pub seen-all : (l : List ℕ) (i m : ℕ) → length l ≤ i → max m (largest (drop i l)) ≡ largest l → m ≡ largest l
+unfolding largest
+seen-all l i m h e = omega (arith, rw (drop-of-length-le l h) at e)
+
+pub owned : (o : List ℕ) (d E a b : ℕ) (r : Bool) → a ≡ largest (take d o) → b ≡ largest (take (length o - d) (drop d o))
+    → r ≡ both (leb a E) (leb b 0) → r ≡ ownerGood o d E
+unfolding ownerGood
+owned o d E a b r ea eb er = er ∙ rw (ea, eb ∙ ap largest (take-all (length o - d) (drop d o) (omega (arith, length-drop d o))))
+
+pub front : (d : ℕ) (o : List ℕ) → d ≤ length o → d ≡ length (take d o)
+front d o h = sym (length-take-le d o h)
+
+module _ (s : Ehci) (g : Bool) (eg : g ≡ settingsGood (s .settings)) where
+  pub ranges-not : not g ≡ true → false ≡ inRanges s
+  unfolding inRanges
+  ranges-not t = rw (sym eg ∙ not-true g t)
+
+  pub ranges-rest : not g ≡ false → (r : Bool) → r ≡ restGood s → r ≡ inRanges s
+  unfolding inRanges
+  ranges-rest t r er = er ∙ rw (sym eg ∙ not-false g t)
+
+pub rest : (s : Ehci) (m i d o l l′ o′ d′ i′ r : Bool) → l ≡ slotsGood 0 32 s → l′ ≡ both l true
+    → o ≡ ownerGood (s .owner) (s .settings .descriptors) (s .settings .endpoints) → o′ ≡ both o l′
+    → d ≡ doorbellGood s → d′ ≡ both d o′ → i ≡ interruptGood s → i′ ≡ both i d′ → m ≡ machineGood s → r ≡ both m i′ → r ≡ restGood s
+unfolding restGood
+rest s m i d o l l′ o′ d′ i′ r el el′ eo eo′ ed ed′ ei ei′ em er = rw (er, em, ei′, ei, ed′, ed, eo′, eo, el′, el)
+
+-- an array of 256 has a place for each descriptor of good settings
+pub pool-within : (s : Settings) (o : List ℕ) (g : Bool) → g ≡ settingsGood s → not g ≡ false → length o ≡ 256 → s .descriptors ≤ length o
+unfolding settingsGood
+pool-within s o g eg t e = rw e (numbers-tell s true (sym (both-first _ _ (sym eg ∙ not-false g t))) refl .0)
