@@ -14,7 +14,7 @@ use Rattle.controller.specs.declared.endpoint.Pipe.{Pipe}
 use Rattle.controller.specs.declared.endpoint.Request.{Request}
 use Rattle.controller.specs.declared.endpoint.UnlinkBoundary.{UnlinkBoundary}
 use Rattle.controller.specs.declared.endpoint.UnlinkBoundary.the-variants.{Async, Periodic}
-use Rattle.state.specs.declared.slot.Slot.{Slot}
+use Rattle.slot.specs.declared.slot.Slot.{Slot}
 use Rattle.state.specs.declared.state.Ehci.{Ehci}
 use Rattle.controller.specs.Endpoints.{kindOf, kindNumber, directionOf, directionNumber, flagNumber, pipeOf, requestOf, boundaryOf, decoded, endpointAt, boundaryNumber, slotWith, bareSlot, encoded, withEndpoint}
 use Rattle.state.specs.Slots.{slotAt, withSlot}

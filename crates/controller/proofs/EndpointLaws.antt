@@ -20,14 +20,14 @@ use Rattle.controller.specs.declared.endpoint.Pipe.{Pipe}
 use Rattle.controller.specs.declared.endpoint.Request.{Request}
 use Rattle.controller.specs.declared.endpoint.UnlinkBoundary.{UnlinkBoundary}
 use Rattle.controller.specs.declared.endpoint.UnlinkBoundary.the-variants.{Async, Periodic}
-use Rattle.state.specs.declared.slot.Slot.{Slot}
+use Rattle.slot.specs.declared.slot.Slot.{Slot}
 use Rattle.state.specs.declared.state.Ehci.{Ehci}
 use Rattle.controller.specs.Endpoints.{boundaryNumber, boundaryOf, decoded, directionNumber, directionOf, encoded, endpointAt, flagNumber, flagOf, kindNumber, kindOf, pickBoundary, pipeOf, requestOf, withEndpoint}
-use Rattle.state.specs.Ranges.{slotGood}
+use Rattle.slot.specs.Ranges.{slotGood}
 use Rattle.state.specs.Slots.{slotAt, withSlot}
 use Rattle.controller.proofs.EndpointCases.{decode-closed, decode-idle, decode-linked, decode-unlinking}
 use Rattle.state.proofs.RangesLaws.{Ranges}
-use Rattle.state.proofs.SlotLaws.{Bounded, OpenKind, Phase, slot-makes, slot-tells}
+use Rattle.slot.proofs.SlotLaws.{Bounded, OpenKind, Phase, slot-makes, slot-tells}
 
 -- ---- numbers and what they stand for
 

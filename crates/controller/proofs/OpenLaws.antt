@@ -17,14 +17,15 @@ use Rattle.settings.specs.declared.settings.Settings.{Settings}
 use Rattle.controller.specs.Endpoints.{bareSlot}
 use Rattle.controller.specs.Hub.{openedHub}
 use Rattle.controller.specs.Opening.{acceptedOpening, freshState, noSettings, Opened, opened, openedHeads, openOf, refusedOpening, rowsFit}
-use Rattle.state.specs.Ranges.{inRanges, slotGood}
+use Rattle.slot.specs.Ranges.{slotGood}
+use Rattle.state.specs.Ranges.{inRanges}
 use Rattle.controller.specs.Readers.{countZero, freeCount}
 use Rattle.settings.specs.Settings.{framesLength, headsLength, numbersGood, poolLength, settingsGood, setupsLength}
 use Rattle.state.specs.Slots.{slotAt}
 use Rattle.settings.specs.Tests.{both}
 use Rattle.state.proofs.RangesLaws.{ranges-make}
 use Rattle.settings.proofs.SettingsLaws.{both-tells, Good, good-tells}
-use Rattle.state.proofs.SlotLaws.{Phase, slot-makes}
+use Rattle.slot.proofs.SlotLaws.{Phase, slot-makes}
 
 -- ---- the state
 

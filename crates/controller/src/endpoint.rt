@@ -19,9 +19,9 @@ ghost use Rattle.controller.specs.Endpoints.{
   encoded,
   withEndpoint,
 };
-use state::slot::Slot;
-use state::slot::slot_at;
-use state::slot::with_slot;
+use slot::slot::Slot;
+use state::slots::slot_at;
+use state::slots::with_slot;
 use state::state::Ehci;
 use token::request::Direction;
 use token::request::EndpointType;

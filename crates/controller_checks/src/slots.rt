@@ -3,8 +3,8 @@ ghost use Prim.Native.Nat.{_<_};
 use crate::out;
 use crate::states::fresh;
 use crate::states::judged;
-use state::slot::Slot;
-use state::slot::with_slot;
+use slot::slot::Slot;
+use state::slots::with_slot;
 
 // A slot of a phase and kind, with a request where the phase has one.
 fn slot(phase: u8, kind: u8) -> Slot {

@@ -7,7 +7,8 @@ use lib.ListN.{replicate}
 use Rattle.register.specs.Bits.{withBits, withoutBits, onlyBits, anyOf}
 use Rattle.register.specs.Writes.{noWrites, andThen}
 use Rattle.controller.specs.Opening.{freshState}
-use Rattle.state.specs.Ranges.{inRanges, restGood, machineGood, interruptGood, doorbellGood, ownerGood, largest, slotsGood, slotGood, phaseGood, closedGood, noRequest}
+use Rattle.slot.specs.Ranges.{slotGood, phaseGood, closedGood, noRequest}
+use Rattle.state.specs.Ranges.{inRanges, restGood, machineGood, interruptGood, doorbellGood, ownerGood, largest, slotsGood}
 use Rattle.settings.specs.Settings.{settingsGood, numbersGood, eachGood, noOverlap, areaGood, apartAreas}
 use Rattle.state.specs.Slots.{slotAt}
 use Rattle.state.specs.State.{withInterrupt, withBell, withBoundaries}

@@ -1,3 +1,2 @@
 pub mod RangesCases
 pub mod RangesLaws
-pub mod SlotLaws

@@ -5,8 +5,8 @@ use mathlib.Core.Bool.{Bool, true, false, not}
 use mathlib.Core.List.{List, [], _∷_}
 use native.Mathlib.Numerals.{add-one}
 use native.Mathlib.Omega.{arith}
-use borrow.Author.Tests.{eq-eqb, ne-eqb, not-false, not-true}
-use lib.Dec.{eqb, leb, ltb}
+use borrow.Author.Tests.{not-false, not-true}
+use lib.Dec.{leb}
 use lib.ListN.{drop, drop-of-length-le, getD, length, length-drop, take}
 use lib.Seq.{drop-cons, length-take-le, take-all}
 use Rattle.settings.specs.declared.settings.Settings.{Settings}
@@ -14,9 +14,9 @@ use Rattle.settings.specs.Settings.{settingsGood}
 use Rattle.settings.proofs.SettingsCases.{both-first, numbers-tell}
 use Rattle.state.specs.declared.state.Ehci.{Ehci}
 use Rattle.state.specs.Slots.{slotAt}
-use Rattle.state.specs.declared.slot.Slot.{Slot}
-use Rattle.settings.specs.Tests.{both, either}
-use Rattle.state.specs.Ranges.{openKind, noRequest, closedGood, idleGood, linkedGood, boundaryGood, unlinkingGood, phaseGood, slotGood, slotsGood, largest, ownerGood, machineGood, interruptGood, doorbellGood, restGood, inRanges}
+use Rattle.slot.specs.Ranges.{slotGood}
+use Rattle.settings.specs.Tests.{both}
+use Rattle.state.specs.Ranges.{slotsGood, largest, ownerGood, machineGood, interruptGood, doorbellGood, restGood, inRanges}
 
 both-assoc : (a b c : Bool) → both (both a b) c ≡ both a (both b c)
 both-assoc true b c = refl
@@ -25,35 +25,6 @@ both-assoc false b c = refl
 both-true : (a : Bool) → both a true ≡ a
 both-true true = refl
 both-true false = refl
-
-pub frame-boundary : (k b u : ℕ) → k ≡ 3 → ltb b 16384 ≡ boundaryGood k b u
-unfolding boundaryGood
-frame-boundary k b u e = rw (eq-eqb k 3 e)
-
-pub advance-boundary : (k b u : ℕ) (r : Bool) → (k ≡ 3 → ⊥) → r ≡ leb b u → r ≡ boundaryGood k b u
-unfolding boundaryGood
-advance-boundary k b u r ne er = er ∙ rw (ne-eqb k 3 ne)
-
-module _ (e : Slot) (u : ℕ) where
-  pub phase-closed : (r : Bool) → e .phase ≡ 0 → r ≡ closedGood e → r ≡ phaseGood e u
-  unfolding phaseGood
-  phase-closed r p er = er ∙ rw p
-
-  pub phase-idle : (z n r : Bool) → e .phase ≡ 1 → z ≡ openKind (e .kind) → n ≡ noRequest e → r ≡ both z n → r ≡ phaseGood e u
-  unfolding phaseGood idleGood
-  phase-idle z n r p ez en er = er ∙ rw (ez, en, p)
-
-  pub phase-linked : (r : Bool) → e .phase ≡ 2 → r ≡ linkedGood e → r ≡ phaseGood e u
-  unfolding phaseGood
-  phase-linked r p er = er ∙ rw p
-
-  pub phase-unlinking : (r : Bool) → e .phase ≡ 3 → r ≡ unlinkingGood e u → r ≡ phaseGood e u
-  unfolding phaseGood
-  phase-unlinking r p er = er ∙ rw p
-
-  pub phase-unknown : (e .phase ≡ 0 → ⊥) → (e .phase ≡ 1 → ⊥) → (e .phase ≡ 2 → ⊥) → (e .phase ≡ 3 → ⊥) → false ≡ phaseGood e u
-  unfolding phaseGood
-  phase-unknown a b c d = rw (ne-eqb (e .phase) 0 a, ne-eqb (e .phase) 1 b, ne-eqb (e .phase) 2 c, ne-eqb (e .phase) 3 d)
 
 -- ---- the loop over the slots
 

@@ -6,77 +6,20 @@ use mathlib.Core.List.{List, [], _∷_}
 use lib.Dec.{eqb, leb, ltb}
 use lib.ListN.{drop, take}
 use Rattle.register.specs.Bits.{withoutBits}
-use Rattle.state.specs.declared.slot.Slot.{Slot}
+use Rattle.slot.specs.Ranges.{flag, slotGood}
 use Rattle.state.specs.declared.state.Ehci.{Ehci}
 use Rattle.settings.specs.Settings.{settingsGood}
 use Rattle.state.specs.Slots.{slotAt}
-use Rattle.settings.specs.Tests.{both, either, every, within}
-
-abbrev pub flag : ℕ → Bool
-flag n = leb n 1
+use Rattle.settings.specs.Tests.{both, every, within}
 
 -- no bit but those of a mask
 abbrev pub only : ℕ → ℕ → Bool
 only w mask = eqb (withoutBits w mask) 0
 
-abbrev pub pick : Bool → Bool → Bool → Bool
-pick true a b = a
-pick false a b = b
-
--- ---- a slot, by its phase: closed 0, idle 1, linked 2, unlinking 3
-
--- control 0, bulk 2 or interrupt 3: an isochronous slot is never open
-unfoldable pub openKind : ℕ → Bool
-openKind kind = either (eqb kind 0) (within kind 2 3)
-
-unfoldable pub noRequest : Slot → Bool
-noRequest e =
-    every
-    (eqb (e .request) 0 ∷ eqb (e .direction) 0 ∷ eqb (e .length) 0 ∷ eqb (e .cancel) 0 ∷ eqb (e .boundary) 0 ∷ [])
-
-unfoldable pub closedGood : Slot → Bool
-closedGood e = every (eqb (e .kind) 0 ∷ eqb (e .id) 1 ∷ noRequest e ∷ [])
-
-unfoldable pub idleGood : Slot → Bool
-idleGood e = both (openKind (e .kind)) (noRequest e)
-
--- a request has an id, and a direction; while it is linked it is not cancelled
-unfoldable pub linkedGood : Slot → Bool
-linkedGood e =
-    every
-    (openKind (e .kind) ∷ leb 1 (e .request) ∷ flag (e .direction) ∷ eqb (e .cancel) 0 ∷ eqb (e .boundary) 0 ∷ [])
-
--- the boundary of control and bulk: advances still to come, at most those unanswered; of interrupt: a FRINDEX
-unfoldable pub boundaryGood : ℕ → ℕ → ℕ → Bool
-boundaryGood kind boundary unanswered = pick (eqb kind 3) (ltb boundary 16384) (leb boundary unanswered)
-
-unfoldable pub unlinkingGood : Slot → ℕ → Bool
-unlinkingGood e unanswered =
-    every
-    (openKind (e .kind)
-    ∷ leb 1 (e .request)
-    ∷ flag (e .direction)
-    ∷ flag (e .cancel)
-    ∷ boundaryGood (e .kind) (e .boundary) unanswered
-    ∷ [])
-
-unfoldable pub phaseGood : Slot → ℕ → Bool
-phaseGood e unanswered =
-    pick (eqb (e .phase) 0) (closedGood e)
-    (pick (eqb (e .phase) 1) (idleGood e)
-    (pick (eqb (e .phase) 2) (linkedGood e)
-    (pick (eqb (e .phase) 3) (unlinkingGood e unanswered) false)))
-
--- ids are at least 1; slots from E on are closed
-unfoldable pub slotGood : ℕ → ℕ → ℕ → Slot → Bool
-slotGood E k unanswered e = every (leb 1 (e .id) ∷ either (ltb k E) (eqb (e .phase) 0) ∷ phaseGood e unanswered ∷ [])
-
 -- n slots, from slot k on
 unfoldable pub slotsGood : ℕ → ℕ → Ehci → Bool
 slotsGood k zero s = true
 slotsGood k (suc n) s = both (slotGood (s .settings .endpoints) k (s .unanswered) (slotAt s k)) (slotsGood (suc k) n s)
-
--- ---- the rest
 
 unfoldable pub largest : List ℕ → ℕ
 largest [] = 0

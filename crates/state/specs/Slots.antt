@@ -1,7 +1,7 @@
 -- One slot of the state, read from and written to the arrays.
 use Prim.Native.Nat.{ℕ}
 use lib.ListN.{getD, set}
-use Rattle.state.specs.declared.slot.Slot.{Slot}
+use Rattle.slot.specs.declared.slot.Slot.{Slot}
 use Rattle.state.specs.declared.state.Ehci.{Ehci}
 
 unfoldable pub slotAt : Ehci → ℕ → Slot

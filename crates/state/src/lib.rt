@@ -1,4 +1,4 @@
 // The state of a controller and its ranges.
 pub mod ranges;
-pub mod slot;
+pub mod slots;
 pub mod state;

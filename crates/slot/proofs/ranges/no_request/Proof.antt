@@ -1,7 +1,7 @@
-use Rattle.state.specs.Ranges.{noRequest}
+use Rattle.slot.specs.Ranges.{noRequest}
 use borrow.Author.Needs.{needs}
-use Rattle.state.proofs.ranges.no_request.Statement.{statement}
-use Rattle.state.proofs.ranges.no_request.Tie as tie
+use Rattle.slot.proofs.ranges.no_request.Statement.{statement}
+use Rattle.slot.proofs.ranges.no_request.Tie as tie
 
 cast-equal : tie.Need-cast-equal
 cast-equal c = search needs

@@ -1,7 +1,7 @@
-use Rattle.state.specs.Ranges.{slotGood}
+use Rattle.slot.specs.Ranges.{slotGood}
 use borrow.Author.Needs.{needs}
-use Rattle.state.proofs.ranges.slot_good.Statement.{statement}
-use Rattle.state.proofs.ranges.slot_good.Tie as tie
+use Rattle.slot.proofs.ranges.slot_good.Statement.{statement}
+use Rattle.slot.proofs.ranges.slot_good.Tie as tie
 
 phase-good-requires : tie.Need-phase-good-requires
 phase-good-requires c κs = search needs

@@ -1,8 +1,8 @@
 use Rattle.state.specs.Slots.{slotAt}
 use mathlib.Core.Path.{refl}
 use borrow.Author.Needs.{needs}
-use Rattle.state.proofs.slot.slot_at.Statement.{statement}
-use Rattle.state.proofs.slot.slot_at.Tie as tie
+use Rattle.state.proofs.slots.slot_at.Statement.{statement}
+use Rattle.state.proofs.slots.slot_at.Tie as tie
 
 element-copy-out-t6 : tie.Need-element-copy-out-t6
 element-copy-out-t6 c = search needs

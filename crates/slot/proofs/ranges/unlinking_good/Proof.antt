@@ -1,7 +1,7 @@
-use Rattle.state.specs.Ranges.{unlinkingGood}
+use Rattle.slot.specs.Ranges.{unlinkingGood}
 use borrow.Author.Needs.{needs}
-use Rattle.state.proofs.ranges.unlinking_good.Statement.{statement}
-use Rattle.state.proofs.ranges.unlinking_good.Tie as tie
+use Rattle.slot.proofs.ranges.unlinking_good.Statement.{statement}
+use Rattle.slot.proofs.ranges.unlinking_good.Tie as tie
 
 boundary-good-requires : tie.Need-boundary-good-requires
 boundary-good-requires c κs = search needs

@@ -1,7 +1,7 @@
-use Rattle.state.specs.Ranges.{closedGood}
+use Rattle.slot.specs.Ranges.{closedGood}
 use borrow.Author.Needs.{needs}
-use Rattle.state.proofs.ranges.closed_good.Statement.{statement}
-use Rattle.state.proofs.ranges.closed_good.Tie as tie
+use Rattle.slot.proofs.ranges.closed_good.Statement.{statement}
+use Rattle.slot.proofs.ranges.closed_good.Tie as tie
 
 equal-requires : tie.Need-equal-requires
 equal-requires c κs = search needs

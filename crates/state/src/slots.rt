@@ -1,19 +1,9 @@
-// One slot of the state: its numbers, and its endpoint.
+// One slot of the state, read from and written to the arrays.
 ghost use mathlib.Core.Path.{_≡_};
 ghost use Prim.Native.Nat.{_<_};
 ghost use Rattle.state.specs.Slots.{slotAt, withSlot};
 use crate::state::Ehci;
-
-pub struct Slot {
-    pub phase: u8,
-    pub kind: u8,
-    pub id: u64,
-    pub request: u64,
-    pub direction: u8,
-    pub length: u32,
-    pub cancel: u8,
-    pub boundary: u16,
-}
+use slot::slot::Slot;
 
 pub fn slot_at(s: Ehci, k: usize) -> Slot
     requires { ⌜ k < 32 ⌝ }

@@ -1,8 +1,8 @@
 use Rattle.state.specs.Slots.{withSlot}
 use mathlib.Core.Path.{refl}
 use borrow.Author.Needs.{needs}
-use Rattle.state.proofs.slot.with_slot.Statement.{statement}
-use Rattle.state.proofs.slot.with_slot.Tie as tie
+use Rattle.state.proofs.slots.with_slot.Statement.{statement}
+use Rattle.state.proofs.slots.with_slot.Tie as tie
 
 element-write-s : tie.Need-element-write-s
 element-write-s c = search needs

@@ -7,10 +7,10 @@ use native.Mathlib.Decide.{ℕ-discrete as decEq}
 use native.Mathlib.Omega.{arith}
 use borrow.Author.Tests.{eq-eqb, eqb-false, eqb-true, le-leb, le-ltb, leb-true, lt-ltb, ltb-true, ltb-false, ne-eqb}
 use lib.Dec.{eqb, leb, ltb}
-use Rattle.state.specs.declared.slot.Slot.{Slot}
-use Rattle.state.specs.Ranges.{boundaryGood, closedGood, idleGood, linkedGood, noRequest, openKind, phaseGood, slotGood, unlinkingGood}
+use Rattle.slot.specs.declared.slot.Slot.{Slot}
+use Rattle.slot.specs.Ranges.{boundaryGood, closedGood, idleGood, linkedGood, noRequest, openKind, phaseGood, slotGood, unlinkingGood}
 use Rattle.settings.specs.Tests.{either, within}
-use Rattle.state.proofs.RangesCases.{phase-closed, phase-idle, phase-linked, phase-unknown, phase-unlinking}
+use Rattle.slot.proofs.SlotCases.{phase-closed, phase-idle, phase-linked, phase-unknown, phase-unlinking}
 use Rattle.settings.proofs.SettingsCases.{within-least, within-most}
 use Rattle.settings.proofs.SettingsLaws.{both-tells, within-makes}
 

@@ -1,7 +1,7 @@
-use Rattle.state.specs.Ranges.{linkedGood}
+use Rattle.slot.specs.Ranges.{linkedGood}
 use borrow.Author.Needs.{needs}
-use Rattle.state.proofs.ranges.linked_good.Statement.{statement}
-use Rattle.state.proofs.ranges.linked_good.Tie as tie
+use Rattle.slot.proofs.ranges.linked_good.Statement.{statement}
+use Rattle.slot.proofs.ranges.linked_good.Tie as tie
 
 cast-equal : tie.Need-cast-equal
 cast-equal c = search needs

@@ -1,7 +1,7 @@
-use Rattle.state.specs.Ranges.{openKind}
+use Rattle.slot.specs.Ranges.{openKind}
 use borrow.Author.Needs.{needs}
-use Rattle.state.proofs.ranges.open_kind.Statement.{statement}
-use Rattle.state.proofs.ranges.open_kind.Tie as tie
+use Rattle.slot.proofs.ranges.open_kind.Statement.{statement}
+use Rattle.slot.proofs.ranges.open_kind.Tie as tie
 
 within-requires : tie.Need-within-requires
 within-requires c κs = search needs

@@ -1,7 +1,7 @@
-use Rattle.state.proofs.RangesCases.{phase-closed, phase-idle, phase-linked, phase-unlinking, phase-unknown}
+use Rattle.slot.proofs.SlotCases.{phase-closed, phase-idle, phase-linked, phase-unlinking, phase-unknown}
 use borrow.Author.Needs.{needs}
-use Rattle.state.proofs.ranges.phase_good.Statement.{statement}
-use Rattle.state.proofs.ranges.phase_good.Tie as tie
+use Rattle.slot.proofs.ranges.phase_good.Statement.{statement}
+use Rattle.slot.proofs.ranges.phase_good.Tie as tie
 
 closed-good-requires : tie.Need-closed-good-requires
 closed-good-requires c κs = search needs

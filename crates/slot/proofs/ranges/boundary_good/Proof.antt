@@ -1,7 +1,7 @@
-use Rattle.state.proofs.RangesCases.{frame-boundary, advance-boundary}
+use Rattle.slot.proofs.SlotCases.{frame-boundary, advance-boundary}
 use borrow.Author.Needs.{needs}
-use Rattle.state.proofs.ranges.boundary_good.Statement.{statement}
-use Rattle.state.proofs.ranges.boundary_good.Tie as tie
+use Rattle.slot.proofs.ranges.boundary_good.Statement.{statement}
+use Rattle.slot.proofs.ranges.boundary_good.Tie as tie
 
 at-most-requires : tie.Need-at-most-requires
 at-most-requires c κs = search needs

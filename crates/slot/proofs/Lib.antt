@@ -1,0 +1,2 @@
+pub mod SlotCases
+pub mod SlotLaws

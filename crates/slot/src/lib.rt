@@ -1,0 +1,3 @@
+// One slot of the state and its ranges.
+pub mod ranges;
+pub mod slot;
