@@ -20,11 +20,18 @@ use Rattle.state.specs.declared.state.Ehci.{Ehci}
 use Rattle.controller.specs.Hub.{openedHub}
 use Rattle.controller.specs.Opening.{freshState, rowsFit, refusedOpening, acceptedOpening, openedHeads, opened, openOf}
 use Rattle.controller.specs.Rows.{putAt}
-use Rattle.settings.specs.Settings.{settingsGood, numbersGood, eachGood, noOverlap, areaGood, poolSize, headsSize, headsLength, setupsLength}
+use Rattle.settings.specs.Settings.{settingsGood, numbersGood, eachGood, noOverlap, areaGood, poolSize, headsSize, headsLength, setupsLength, poolLength, framesLength}
+use Rattle.settings.specs.Tests.{both}
+use Rattle.settings.proofs.Every.{every-4}
 use Rattle.settings.proofs.SettingsCases.{both-first, both-second, numbers-tell}
 
 abbrev zeros : ℕ → List ℕ
 zeros n = replicate n 0
+
+pub fit-is : (s : Settings) (p h f u : ℕ)
+    → both (both (both (eqb p (poolLength s)) (eqb h (headsLength s))) (eqb f framesLength)) (eqb u (setupsLength s)) ≡ rowsFit s p h f u
+unfolding rowsFit
+fit-is s p h f u = every-4 (eqb p (poolLength s)) (eqb h (headsLength s)) (eqb f framesLength) (eqb u (setupsLength s))
 
 module _ (s : Settings) (pool : ℕ) (h f u : List ℕ) (g : Bool) (eg : g ≡ settingsGood s) where
   pub open-bad : not g ≡ true → (o : Opening) → o ≡ refusedOpening InvalidParameter → opened o h f u ≡ openOf s pool h f u

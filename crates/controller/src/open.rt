@@ -12,7 +12,6 @@ use crate::rows::put_head;
 use descriptor::head::QueueHead;
 use descriptor::qtd::EHCI_LINK_TERMINATE;
 use settings::settings::Settings;
-use settings::settings::both;
 use state::state::Ehci;
 
 pub const FRAMES: u64 = 1024;
@@ -55,10 +54,11 @@ fn fresh_state(settings: Settings) -> Ehci
 pub fn rows_fit(s: Settings, pool: u64, heads: u64, frames: u64, setups: u64) -> bool
     ensures { λ r. ⌜ r ≡ rowsFit s pool heads frames setups ⌝ }
 {
-    let setups_fit = both(setups == 8 * (s.endpoints as u64), true);
-    let frames_fit = both(frames == FRAMES, setups_fit);
-    let heads_fit = both(heads == 17 * (s.endpoints as u64 + 1), frames_fit);
-    both(pool == s.descriptors, heads_fit)
+    let endpoints = s.endpoints as u64;
+    (pool == s.descriptors)
+        & (heads == 17 * (endpoints + 1))
+        & (frames == FRAMES)
+        & (setups == 8 * endpoints)
 }
 
 // A state and a hub record that no call accepts.

@@ -1,7 +1,7 @@
 -- The returns and the loop of the functions on links.
 use Prim.Native.Nat.{ℕ, zero, suc, _+_, _-_, _*_, _/_, _≤_, _<_}
 use mathlib.Core.Path.{_≡_, refl, sym, ap, _∙_}
-use mathlib.Core.Bool.{Bool, true, false}
+use mathlib.Core.Bool.{Bool, true, false, not}
 use mathlib.Core.List.{List}
 use native.Mathlib.Numerals.{add-one}
 use native.Mathlib.Omega.{arith}
@@ -9,15 +9,23 @@ use borrow.Author.Tests.{eq-eqb, ne-eqb}
 use lib.Dec.{eqb}
 use lib.ListN.{getD, length, replicate, set}
 use lib.Seq.{set-out}
+use Rattle.settings.specs.Tests.{both}
+use Rattle.settings.proofs.Every.{every-4}
 use Rattle.state.specs.declared.state.Ehci.{Ehci}
 use Rattle.schedule.specs.declared.links.Predecessor.{Predecessor}
 use Rattle.schedule.specs.declared.links.Predecessor.the-variants.{First, Head, Missing}
-use Rattle.schedule.specs.Links.{headAddress, linkWord, links, attachedFrames, precedes, precedesOne, searchFrom, pickWord, firstWord, periodic, predecessorOf, withLinkWord, detached, detachOf}
+use Rattle.schedule.specs.Links.{headAddress, linkWord, links, attachedFrames, leadsTo, precedes, precedesOne, same, searchFrom, pickWord, firstWord, periodic, predecessorOf, withLinkWord, detached, detachOf}
 
 pub frames-attached : (h f f′ : List ℕ) (k l : ℕ) → f′ ≡ replicate (length f) l
     → links (set h (17 * (k + 1)) (getD f 0 0)) f′ ≡ attachedFrames h f k l
 unfolding attachedFrames
 frames-attached h f f′ k l e = rw e
+
+pub precedes-is : (j k phase kind own word address : ℕ) (t : Bool) → t ≡ same (eqb own 3) (eqb kind 3)
+    → both (both (both (not (eqb j k)) (eqb phase 2)) t) (leadsTo word address) ≡ precedesOne j k phase kind own word address
+unfolding precedesOne
+precedes-is j k phase kind own word address t e =
+    every-4 (not (eqb j k)) (eqb phase 2) t (leadsTo word address) ∙ rw e
 
 module _ (s : Ehci) (h : List ℕ) (k : ℕ) where
   pub found : (j n : ℕ) (t : Bool) → j < n → t ≡ precedes s h k j → t ≡ true → (p : Predecessor)

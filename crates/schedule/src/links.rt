@@ -22,7 +22,6 @@ ghost use Rattle.schedule.specs.Links.{
 use controller::rows::fill_words;
 use controller::rows::put_words;
 use descriptor::qtd::EHCI_LINK_TERMINATE;
-use settings::settings::both;
 use state::state::Ehci;
 
 // Who gives way to a head that is unlinked.
@@ -73,10 +72,8 @@ pub fn same(a: bool, b: bool) -> bool
 fn precedes(j: u8, k: u8, phase: u8, kind: u8, own: u8, word: u32, address: u32) -> bool
     ensures { λ r. ⌜ r ≡ precedesOne j k phase kind own word address ⌝ }
 {
-    let leads = both(word / 32 == address / 32, true);
-    let together = both(same(own == 3, kind == 3), leads);
-    let linked = both(phase == 2, together);
-    both(j != k, linked)
+    let together = same(own == 3, kind == 3);
+    (j != k) & (phase == 2) & together & (word / 32 == address / 32)
 }
 
 // The lowest slot whose head precedes slot k's.

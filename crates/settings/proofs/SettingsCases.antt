@@ -3,11 +3,12 @@ use Prim.Native.Nat.{ℕ, _+_, _-_, _%_, _^_, _≤_, _<_}
 use mathlib.Core.Path.{_≡_, refl, sym, ap, _∙_}
 use mathlib.Core.Bool.{Bool, true, false}
 use native.Mathlib.Omega.{arith}
-use borrow.Author.Tests.{eq-eqb, ne-eqb, le-leb, lt-leb, leb-true, leb-false}
-use lib.Dec.{leb}
+use borrow.Author.Tests.{le-leb, lt-leb, leb-true, leb-false}
+use lib.Dec.{eqb, leb}
 use Rattle.settings.specs.declared.settings.Settings.{Settings}
 use Rattle.settings.specs.Tests.{both, within}
-use Rattle.settings.specs.Settings.{areaGood, apartAreas, numbersGood, eachGood, noOverlap, settingsGood}
+use Rattle.settings.specs.Settings.{areaGood, apartAreas, numbersGood, eachGood, noOverlap, settingsGood, poolSize, headsSize, framesSize, setupsSize}
+use Rattle.settings.proofs.Every.{every-4, every-5, every-6}
 
 -- two tests that say the same of numbers are equal
 pub same-test : (a b c d : ℕ) → (a ≤ b → c ≤ d) → (c ≤ d → a ≤ b) → leb a b ≡ leb c d
@@ -24,19 +25,9 @@ same-test a b c d f g = go (leb a b) refl
             by true q = absurd (omega (arith, g (leb-true c d q)))
             by false q = leb-false c d q
 
-pub within-low : (x l m : ℕ) → l ≤ x → leb x m ≡ within x l m
-within-low x l m h = rw (le-leb l x h)
-
-pub within-not : (x l m : ℕ) → x < l → false ≡ within x l m
-within-not x l m h = rw (lt-leb l x h)
-
-pub area-aligned : (a n s : ℕ) → s ≤ 2 ^ 32 → a % n ≡ 0 → leb a (4294967296 - s) ≡ areaGood a n s
+pub area-is : (a n s : ℕ) → s ≤ 2 ^ 32 → both (eqb (a % n) 0) (leb a (4294967296 - s)) ≡ areaGood a n s
 unfolding areaGood
-area-aligned a n s h e = rw (eq-eqb (a % n) 0 e) (same-test a (4294967296 - s) (a + s) (2 ^ 32) (λ p. omega arith) (λ p. omega arith))
-
-pub area-not : (a n s : ℕ) → (a % n ≡ 0 → ⊥) → false ≡ areaGood a n s
-unfolding areaGood
-area-not a n s e = rw (ne-eqb (a % n) 0 e)
+area-is a n s h = ap (both (eqb (a % n) 0)) (same-test a (4294967296 - s) (a + s) (2 ^ 32) (λ p. omega arith) (λ p. omega arith))
 
 pub apart-first : (a m b n : ℕ) → a ≤ b → leb m (b - a) ≡ apartAreas a m b n
 unfolding apartAreas
@@ -72,10 +63,26 @@ numbers-tell s r e t =
       within-most (s .endpoints) 1 32 (both-first _ _ (both-second (within (s .descriptors) 1 256) _ all)),
     )
 
-pub good-numbers : (s : Settings) (n each apart r : Bool) → n ≡ numbersGood s → n ≡ true → each ≡ eachGood s → apart ≡ noOverlap s
-    → r ≡ both each apart → r ≡ settingsGood s
+pub numbers-is : (s : Settings) → both (both (both (both (within (s .descriptors) 1 256) (within (s .endpoints) 1 32)) (within (s .ports) 1 15)) (within (s .limit) 1 16384)) (within (s .wait) 1 65536) ≡ numbersGood s
+unfolding numbersGood
+numbers-is s = every-5 (within (s .descriptors) 1 256) (within (s .endpoints) 1 32) (within (s .ports) 1 15) (within (s .limit) 1 16384) (within (s .wait) 1 65536)
+
+pub each-is : (s : Settings) (p h f u : Bool) → p ≡ areaGood (s .pool) 64 (poolSize s) → h ≡ areaGood (s .heads) 128 (headsSize s)
+    → f ≡ areaGood (s .frames) 4096 framesSize → u ≡ areaGood (s .setups) 8 (setupsSize s) → both (both (both p h) f) u ≡ eachGood s
+unfolding eachGood
+each-is s p h f u ep eh ef eu = every-4 p h f u ∙ rw (ep, eh, ef, eu)
+
+pub overlap-is : (s : Settings) (a b c d e f : Bool) → a ≡ apartAreas (s .pool) (poolSize s) (s .heads) (headsSize s)
+    → b ≡ apartAreas (s .pool) (poolSize s) (s .frames) framesSize → c ≡ apartAreas (s .pool) (poolSize s) (s .setups) (setupsSize s)
+    → d ≡ apartAreas (s .heads) (headsSize s) (s .frames) framesSize → e ≡ apartAreas (s .heads) (headsSize s) (s .setups) (setupsSize s)
+    → f ≡ apartAreas (s .frames) framesSize (s .setups) (setupsSize s) → both (both (both (both (both a b) c) d) e) f ≡ noOverlap s
+unfolding noOverlap
+overlap-is s a b c d e f ea eb ec ed ee ef = every-6 a b c d e f ∙ rw (ea, eb, ec, ed, ee, ef)
+
+pub good-numbers : (s : Settings) (n each apart : Bool) → n ≡ numbersGood s → n ≡ true → each ≡ eachGood s → apart ≡ noOverlap s
+    → both each apart ≡ settingsGood s
 unfolding settingsGood
-good-numbers s n each apart r en t ee ea er = er ∙ rw (ee, ea, sym en ∙ t)
+good-numbers s n each apart en t ee ea = rw (ee, ea, sym en ∙ t)
 
 pub good-not : (s : Settings) (n : Bool) → n ≡ numbersGood s → n ≡ false → false ≡ settingsGood s
 unfolding settingsGood

@@ -1,7 +1,6 @@
 // What a controller is opened with, and the ranges that document 01 asks of it.
 ghost use mathlib.Core.Path.{_≡_};
 ghost use Prim.Native.Nat.{_≤_, _^_};
-ghost use Rattle.settings.specs.Tests.{within, both};
 ghost use Rattle.settings.specs.Settings.{
   areaGood,
   apartAreas,
@@ -13,9 +12,9 @@ ghost use Rattle.settings.specs.Settings.{
 
 pub const DESCRIPTORS_MAX: u64 = 256;
 
-pub const ENDPOINTS_MAX: u64 = 32;
+pub const ENDPOINTS_MAX: u8 = 32;
 
-pub const PORTS_MAX: u64 = 15;
+pub const PORTS_MAX: u8 = 15;
 
 pub const LIMIT_MAX: u64 = 16384;
 
@@ -39,29 +38,13 @@ pub struct Settings {
     pub setups: u64,
 }
 
-pub fn both(a: bool, b: bool) -> bool
-    ensures { λ r. ⌜ r ≡ both a b ⌝ }
-{
-    if a { b } else { false }
-}
-
-pub fn within(x: u64, least: u64, most: u64) -> bool
-    ensures { λ r. ⌜ r ≡ within x least most ⌝ }
-{
-    if least <= x { x <= most } else { false }
-}
-
 // Aligned, and its end at or below the end of memory.
 fn area_good(address: u64, alignment: u64, size: u64) -> bool
     requires { ⌜ 1 ≤ alignment ⌝ }
     requires { ⌜ size ≤ 2 ^ 32 ⌝ }
     ensures { λ r. ⌜ r ≡ areaGood address alignment size ⌝ }
 {
-    if address % alignment == 0 {
-        address <= MEMORY_END - size
-    } else {
-        false
-    }
+    (address % alignment == 0) & (address <= MEMORY_END - size)
 }
 
 // The one that starts first ends at or before the start of the other.
@@ -74,39 +57,40 @@ fn apart(a: u64, m: u64, b: u64, n: u64) -> bool
 fn numbers_good(s: Settings) -> bool
     ensures { λ r. ⌜ r ≡ numbersGood s ⌝ }
 {
-    let wait = within(s.wait, 1, WAIT_MAX);
-    let limit = both(within(s.limit, 1, LIMIT_MAX), both(wait, true));
-    let ports = both(within(s.ports as u64, 1, PORTS_MAX), limit);
-    let endpoints = both(within(s.endpoints as u64, 1, ENDPOINTS_MAX), ports);
-    both(within(s.descriptors, 1, DESCRIPTORS_MAX), endpoints)
+    ((1 <= s.descriptors) & (s.descriptors <= DESCRIPTORS_MAX))
+        & ((1 <= s.endpoints) & (s.endpoints <= ENDPOINTS_MAX))
+        & ((1 <= s.ports) & (s.ports <= PORTS_MAX))
+        & ((1 <= s.limit) & (s.limit <= LIMIT_MAX))
+        & ((1 <= s.wait) & (s.wait <= WAIT_MAX))
 }
 
 fn each_good(s: Settings) -> bool
     requires { ⌜ (s .descriptors ≤ 256) × (s .endpoints ≤ 32) ⌝ }
     ensures { λ r. ⌜ r ≡ eachGood s ⌝ }
 {
-    let setups = both(area_good(s.setups, 8, 8 * (s.endpoints as u64)), true);
-    let frames = both(area_good(s.frames, 4096, FRAMES_SIZE), setups);
-    let heads = both(
-        area_good(s.heads, 128, 128 * (s.endpoints as u64 + 1)),
-        frames,
-    );
-    both(area_good(s.pool, 64, 64 * s.descriptors), heads)
+    let endpoints = s.endpoints as u64;
+    let pool = area_good(s.pool, 64, 64 * s.descriptors);
+    let heads = area_good(s.heads, 128, 128 * (endpoints + 1));
+    let frames = area_good(s.frames, 4096, FRAMES_SIZE);
+    let setups = area_good(s.setups, 8, 8 * endpoints);
+    pool & heads & frames & setups
 }
 
 fn no_overlap(s: Settings) -> bool
     requires { ⌜ (s .descriptors ≤ 256) × (s .endpoints ≤ 32) ⌝ }
     ensures { λ r. ⌜ r ≡ noOverlap s ⌝ }
 {
+    let endpoints = s.endpoints as u64;
     let pool = 64 * s.descriptors;
-    let heads = 128 * (s.endpoints as u64 + 1);
-    let setups = 8 * (s.endpoints as u64);
-    let last = both(apart(s.frames, FRAMES_SIZE, s.setups, setups), true);
-    let fifth = both(apart(s.heads, heads, s.setups, setups), last);
-    let fourth = both(apart(s.heads, heads, s.frames, FRAMES_SIZE), fifth);
-    let third = both(apart(s.pool, pool, s.setups, setups), fourth);
-    let second = both(apart(s.pool, pool, s.frames, FRAMES_SIZE), third);
-    both(apart(s.pool, pool, s.heads, heads), second)
+    let heads = 128 * (endpoints + 1);
+    let setups = 8 * endpoints;
+    let pool_heads = apart(s.pool, pool, s.heads, heads);
+    let pool_frames = apart(s.pool, pool, s.frames, FRAMES_SIZE);
+    let pool_setups = apart(s.pool, pool, s.setups, setups);
+    let heads_frames = apart(s.heads, heads, s.frames, FRAMES_SIZE);
+    let heads_setups = apart(s.heads, heads, s.setups, setups);
+    let frames_setups = apart(s.frames, FRAMES_SIZE, s.setups, setups);
+    pool_heads & pool_frames & pool_setups & heads_frames & heads_setups & frames_setups
 }
 
 impl Settings {
@@ -115,7 +99,7 @@ impl Settings {
         ensures { λ r. ⌜ r ≡ settingsGood self ⌝ }
     {
         if numbers_good(self) {
-            both(each_good(self), no_overlap(self))
+            each_good(self) & no_overlap(self)
         } else {
             false
         }

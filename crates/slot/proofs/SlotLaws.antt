@@ -159,7 +159,7 @@ module _ (e : Slot) (unanswered : ℕ) where
       from-linked n₀ n₁ (no n₂) = from-unlinking n₀ n₁ n₂ (decEq (e .phase) 3)
 
       from-idle : e .phase ≢ 0 → Dec (e .phase ≡ 1) → Phase e unanswered
-      from-idle n₀ (yes p) = idle-tells p (phase-idle e unanswered _ _ (idleGood e) p refl refl refl ∙ t)
+      from-idle n₀ (yes p) = idle-tells p (phase-idle e unanswered (openKind (e .kind)) (noRequest e) p refl refl ∙ t)
       from-idle n₀ (no n₁) = from-linked n₀ n₁ (decEq (e .phase) 2)
 
       from-closed : Dec (e .phase ≡ 0) → Phase e unanswered

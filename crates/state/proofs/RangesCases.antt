@@ -6,7 +6,7 @@ use mathlib.Core.List.{List, [], _∷_}
 use native.Mathlib.Numerals.{add-one}
 use native.Mathlib.Omega.{arith}
 use borrow.Author.Tests.{not-false, not-true}
-use lib.Dec.{leb}
+use lib.Dec.{eqb, leb, ltb}
 use lib.ListN.{drop, drop-of-length-le, getD, length, length-drop, take}
 use lib.Seq.{drop-cons, length-take-le, take-all}
 use Rattle.settings.specs.declared.settings.Settings.{Settings}
@@ -15,24 +15,18 @@ use Rattle.settings.proofs.SettingsCases.{both-first, numbers-tell}
 use Rattle.state.specs.declared.state.Ehci.{Ehci}
 use Rattle.state.specs.Slots.{slotAt}
 use Rattle.slot.specs.Ranges.{slotGood}
-use Rattle.settings.specs.Tests.{both}
+use Rattle.register.specs.Bits.{withoutBits}
+use Rattle.settings.specs.Tests.{both, within}
+use Rattle.settings.proofs.Every.{both-assoc, both-true, every-3, every-4, every-5}
 use Rattle.state.specs.Ranges.{slotsGood, largest, ownerGood, machineGood, interruptGood, doorbellGood, restGood, inRanges}
-
-both-assoc : (a b c : Bool) → both (both a b) c ≡ both a (both b c)
-both-assoc true b c = refl
-both-assoc false b c = refl
-
-both-true : (a : Bool) → both a true ≡ a
-both-true true = refl
-both-true false = refl
 
 -- ---- the loop over the slots
 
-pub slots-turn : (s : Ehci) (k : ℕ) (g t r : Bool) → k < 32
-    → t ≡ slotGood (s .settings .endpoints) k (s .unanswered) (slotAt s k) → r ≡ both g t
-    → both r (slotsGood (k + 1) (32 - (k + 1)) s) ≡ both g (slotsGood k (32 - k) s)
+pub slots-turn : (s : Ehci) (k : ℕ) (g t : Bool) → k < 32
+    → t ≡ slotGood (s .settings .endpoints) k (s .unanswered) (slotAt s k)
+    → both (both g t) (slotsGood (k + 1) (32 - (k + 1)) s) ≡ both g (slotsGood k (32 - k) s)
 unfolding slotsGood
-slots-turn s k g t r h et er = rw (er, et, add-one k, more) (both-assoc g _ _)
+slots-turn s k g t h et = rw (et, add-one k, more) (both-assoc g _ _)
   where
     more : 32 - k ≡ suc (32 - suc k)
     more = omega arith
@@ -71,10 +65,10 @@ pub seen-all : (l : List ℕ) (i m : ℕ) → length l ≤ i → max m (largest 
 unfolding largest
 seen-all l i m h e = omega (arith, rw (drop-of-length-le l h) at e)
 
-pub owned : (o : List ℕ) (d E a b : ℕ) (r : Bool) → a ≡ largest (take d o) → b ≡ largest (take (length o - d) (drop d o))
-    → r ≡ both (leb a E) (leb b 0) → r ≡ ownerGood o d E
+pub owned : (o : List ℕ) (d E a b : ℕ) → a ≡ largest (take d o) → b ≡ largest (take (length o - d) (drop d o))
+    → both (leb a E) (leb b 0) ≡ ownerGood o d E
 unfolding ownerGood
-owned o d E a b r ea eb er = er ∙ rw (ea, eb ∙ ap largest (take-all (length o - d) (drop d o) (omega (arith, length-drop d o))))
+owned o d E a b ea eb = rw (ea, eb ∙ ap largest (take-all (length o - d) (drop d o) (omega (arith, length-drop d o))))
 
 pub front : (d : ℕ) (o : List ℕ) → d ≤ length o → d ≡ length (take d o)
 front d o h = sym (length-take-le d o h)
@@ -84,15 +78,25 @@ module _ (s : Ehci) (g : Bool) (eg : g ≡ settingsGood (s .settings)) where
   unfolding inRanges
   ranges-not t = rw (sym eg ∙ not-true g t)
 
-  pub ranges-rest : not g ≡ false → (r : Bool) → r ≡ restGood s → r ≡ inRanges s
-  unfolding inRanges
-  ranges-rest t r er = er ∙ rw (sym eg ∙ not-false g t)
+  pub ranges-rest : not g ≡ false → (m i d o l : Bool) → m ≡ machineGood s → i ≡ interruptGood s → d ≡ doorbellGood s
+      → o ≡ ownerGood (s .owner) (s .settings .descriptors) (s .settings .endpoints) → l ≡ slotsGood 0 32 s
+      → both (both (both (both m i) d) o) l ≡ inRanges s
+  unfolding inRanges restGood
+  ranges-rest t m i d o l em ei ed eo el = every-5 m i d o l ∙ rw (em, ei, ed, eo, el, sym eg ∙ not-false g t)
 
-pub rest : (s : Ehci) (m i d o l l′ o′ d′ i′ r : Bool) → l ≡ slotsGood 0 32 s → l′ ≡ both l true
-    → o ≡ ownerGood (s .owner) (s .settings .descriptors) (s .settings .endpoints) → o′ ≡ both o l′
-    → d ≡ doorbellGood s → d′ ≡ both d o′ → i ≡ interruptGood s → i′ ≡ both i d′ → m ≡ machineGood s → r ≡ both m i′ → r ≡ restGood s
-unfolding restGood
-rest s m i d o l l′ o′ d′ i′ r el el′ eo eo′ ed ed′ ei ei′ em er = rw (er, em, ei′, ei, ed′, ed, eo′, eo, el′, el)
+module _ (s : Ehci) where
+  pub machine-is : both (both (both (leb (s .running) 1) (leb (s .step) 6)) (ltb (s .waited) (s .settings .wait))) (within (s .address) 1 128) ≡ machineGood s
+  unfolding machineGood
+  machine-is = every-4 (leb (s .running) 1) (leb (s .step) 6) (ltb (s .waited) (s .settings .wait)) (within (s .address) 1 128)
+
+  pub interrupt-is : (p m : ℕ) → p ≡ withoutBits (s .pending) 0x37 → m ≡ withoutBits (s .masked) 0x27
+      → both (both (leb (s .enabled) 1) (eqb p 0)) (eqb m 0) ≡ interruptGood s
+  unfolding interruptGood
+  interrupt-is p m ep em = every-3 (leb (s .enabled) 1) (eqb p 0) (eqb m 0) ∙ rw (ep, em)
+
+  pub doorbell-is : both (both (leb (s .doorbell) 1) (leb (s .noted) (s .doorbell))) (within (s .unanswered) (s .doorbell) 32) ≡ doorbellGood s
+  unfolding doorbellGood
+  doorbell-is = every-3 (leb (s .doorbell) 1) (leb (s .noted) (s .doorbell)) (within (s .unanswered) (s .doorbell) 32)
 
 -- an array of 256 has a place for each descriptor of good settings
 pub pool-within : (s : Settings) (o : List ℕ) (g : Bool) → g ≡ settingsGood s → not g ≡ false → length o ≡ 256 → s .descriptors ≤ length o

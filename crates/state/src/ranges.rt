@@ -2,7 +2,6 @@
 ghost use mathlib.Core.Path.{_≡_};
 ghost use Prim.Native.Nat.{_≤_};
 ghost use lib.ListN.{length};
-ghost use Rattle.settings.specs.Tests.{both, every, within};
 ghost use Rattle.state.specs.Ranges.{
   slotsGood,
   largest,
@@ -15,10 +14,6 @@ ghost use Rattle.state.specs.Ranges.{
 };
 use crate::state::Ehci;
 use register::bits::without_bits;
-use settings::settings::both;
-use settings::settings::within;
-use slot::ranges::at_most;
-use slot::ranges::equal;
 use slot::ranges::slot_good;
 use slot::slot::Slot;
 
@@ -38,10 +33,7 @@ fn slots_good(s: Ehci) -> bool
             cancel: s.cancels[k],
             boundary: s.boundaries[k],
         };
-        good = both(
-            good,
-            slot_good(s.settings.endpoints, k as u64, s.unanswered, e),
-        );
+        good = good & slot_good(s.settings.endpoints, k as u64, s.unanswered, e);
         k += 1;
     }
     good
@@ -70,33 +62,32 @@ fn owner_good(owner: &[u8], descriptors: u64, endpoints: u8) -> bool
     let end = descriptors as usize;
     let owned = largest(&owner[..end]);
     let beyond = largest(&owner[end..]);
-    both(owned <= endpoints, beyond <= 0)
+    (owned <= endpoints) & (beyond <= 0)
 }
 
 fn machine_good(s: Ehci) -> bool
     ensures { λ r. ⌜ r ≡ machineGood s ⌝ }
 {
-    let address = both(within(s.address as u64, 1, 128), true);
-    let waited = both(s.waited < s.settings.wait, address);
-    let step = both(at_most(s.step as u64, 6), waited);
-    both(at_most(s.running as u64, 1), step)
+    (s.running <= 1)
+        & (s.step <= 6)
+        & (s.waited < s.settings.wait)
+        & ((1 <= s.address) & (s.address <= 128))
 }
 
 fn interrupt_good(s: Ehci) -> bool
     ensures { λ r. ⌜ r ≡ interruptGood s ⌝ }
 {
-    let masked = both(equal(without_bits(s.masked, 0x27) as u64, 0), true);
-    let pending = both(equal(without_bits(s.pending, 0x37) as u64, 0), masked);
-    both(at_most(s.enabled as u64, 1), pending)
+    let pending = without_bits(s.pending, 0x37);
+    let masked = without_bits(s.masked, 0x27);
+    (s.enabled <= 1) & (pending == 0) & (masked == 0)
 }
 
 fn doorbell_good(s: Ehci) -> bool
     ensures { λ r. ⌜ r ≡ doorbellGood s ⌝ }
 {
-    let doorbell = s.doorbell as u64;
-    let unanswered = both(within(s.unanswered as u64, doorbell, 32), true);
-    let noted = both(at_most(s.noted as u64, doorbell), unanswered);
-    both(at_most(doorbell, 1), noted)
+    (s.doorbell <= 1)
+        & (s.noted <= s.doorbell)
+        & ((s.doorbell <= s.unanswered) & (s.unanswered <= 32))
 }
 
 pub fn in_ranges(s: Ehci) -> bool
@@ -105,12 +96,10 @@ pub fn in_ranges(s: Ehci) -> bool
     if !s.settings.good() {
         return false;
     }
-    let slots = both(slots_good(s), true);
-    let owner = both(
-        owner_good(&s.owner, s.settings.descriptors, s.settings.endpoints),
-        slots,
-    );
-    let doorbell = both(doorbell_good(s), owner);
-    let interrupt = both(interrupt_good(s), doorbell);
-    both(machine_good(s), interrupt)
+    let machine = machine_good(s);
+    let interrupt = interrupt_good(s);
+    let doorbell = doorbell_good(s);
+    let owner = owner_good(&s.owner, s.settings.descriptors, s.settings.endpoints);
+    let slots = slots_good(s);
+    machine & interrupt & doorbell & owner & slots
 }

@@ -15,11 +15,8 @@ open-kind-requires c κs = search needs
 no-request-requires : tie.Need-no-request-requires
 no-request-requires c κs = search needs
 
-both-requires : tie.Need-both-requires
-both-requires c κs = search needs
-
 returns-2 : tie.Need-returns-2
-returns-2 c = search phase-idle
+returns-2 c = phase-idle _ _ _ _ (c .before .before .if2 .taken) (c .before .open-kind .ensures) (c .no-request .ensures)
 
 linked-good-requires : tie.Need-linked-good-requires
 linked-good-requires c κs = search needs
@@ -44,7 +41,6 @@ phase-good-spec =
     returns
     open-kind-requires
     no-request-requires
-    both-requires
     returns-2
     linked-good-requires
     returns-3

@@ -21,11 +21,8 @@ part-largest-end c = search needs
 largest-requires-2 : tie.Need-largest-requires-2
 largest-requires-2 c κs = search needs
 
-both-requires : tie.Need-both-requires
-both-requires c κs = search needs
-
 returns : tie.Need-returns
-returns c = owned _ _ _ _ _ _ (c .before .before .before .largest .ensures) (c .before .largest2 .ensures) (c .both .ensures)
+returns c = owned _ _ _ _ _ (c .before .before .largest .ensures) (c .largest2 .ensures)
 
 pub owner-good-spec : {M : Type 1} → statement M
 owner-good-spec =
@@ -37,5 +34,4 @@ owner-good-spec =
     part-largest-start
     part-largest-end
     largest-requires-2
-    both-requires
     returns)

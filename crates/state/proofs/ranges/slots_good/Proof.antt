@@ -57,9 +57,6 @@ element-copy-out-t34 c = search needs
 slot-good-requires : tie.Need-slot-good-requires Inv-loop μ-loop
 slot-good-requires c κs = search needs
 
-both-requires : tie.Need-both-requires Inv-loop μ-loop
-both-requires c κs = search needs
-
 add-k : tie.Need-add-k Inv-loop μ-loop
 add-k c = search needs
 
@@ -69,8 +66,8 @@ loop-less c = search needs
 loop-again : tie.Need-loop-again Inv-loop μ-loop
 unfolding slotAt
 loop-again c =
-    let l = c .before .before .before .before .before .before .before .before .before .before .before .loop in
-    (omega arith, slots-turn _ (l .k) (l .good) _ _ (omega arith) (c .before .slot-good .ensures) (c .both .ensures) ∙ l .inv .1)
+    let l = c .before .before .before .before .before .before .before .before .before .before .loop in
+    (omega arith, slots-turn _ (l .k) (l .good) _ (omega arith) (c .slot-good .ensures) ∙ l .inv .1)
 
 returns : tie.Need-returns Inv-loop μ-loop
 returns c = slots-done _ _ _ _ (c .loop-test .left) (c .before .loop .inv .1)
@@ -95,7 +92,6 @@ slots-good-spec =
     mul-t31
     element-copy-out-t34
     slot-good-requires
-    both-requires
     add-k
     loop-less
     loop-again
