@@ -16,7 +16,7 @@ use Rattle.controller.specs.declared.endpoint.Request.{Request}
 use Rattle.controller.specs.declared.endpoint.UnlinkBoundary.{UnlinkBoundary}
 use Rattle.state.specs.declared.state.Ehci.{Ehci}
 use Rattle.controller.specs.Endpoints.{endpointAt, flagNumber}
-use Rattle.controller.specs.Readers.{countZero, freeCount, hasPlace, isUncollected}
+use Rattle.controller.specs.Readers.{countZero, freeCount, hasPlace, isOpen, isUncollected}
 
 counted-more : (l : List ℕ) (i : ℕ) → i < length l → countZero (drop i l) ≡ flagNumber (eqb (getD l i 0) 0) + countZero (drop (i + 1) l)
 unfolding countZero
@@ -62,3 +62,15 @@ module _ (s : Ehci) (k : ℕ) (e : Endpoint) (ee : e ≡ endpointAt s k) where
 
   pub one-unlinking : (p : Pipe) (r : Request) (b : UnlinkBoundary) → e ≡ Unlinking p r b → true ≡ isUncollected s k
   one-unlinking p r b h = rw (sym ee ∙ h)
+
+  pub closed-shut : e ≡ Closed → false ≡ isOpen s k
+  closed-shut h = rw (sym ee ∙ h)
+
+  pub idle-open : (p : Pipe) → e ≡ Idle p → true ≡ isOpen s k
+  idle-open p h = rw (sym ee ∙ h)
+
+  pub linked-open : (p : Pipe) (r : Request) → e ≡ Linked p r → true ≡ isOpen s k
+  linked-open p r h = rw (sym ee ∙ h)
+
+  pub unlinking-open : (p : Pipe) (r : Request) (b : UnlinkBoundary) → e ≡ Unlinking p r b → true ≡ isOpen s k
+  unlinking-open p r b h = rw (sym ee ∙ h)

@@ -4,4 +4,5 @@ pub mod Rows
 pub mod Answers
 pub mod Hub
 pub mod Opening
+pub mod Lent
 pub mod Address

@@ -16,6 +16,15 @@ countZero (x ∷ xs) = flagNumber (eqb x 0) + countZero xs
 unfoldable pub freeCount : Ehci → ℕ
 freeCount s = countZero (take (s .settings .descriptors) (s .owner))
 
+abbrev pub hasEndpoint : Endpoint → Bool
+hasEndpoint Closed = false
+hasEndpoint (Idle p) = true
+hasEndpoint (Linked p r) = true
+hasEndpoint (Unlinking p r b) = true
+
+abbrev pub isOpen : Ehci → ℕ → Bool
+isOpen s k = hasEndpoint (endpointAt s k)
+
 abbrev pub holdsRequest : Endpoint → Bool
 holdsRequest Closed = false
 holdsRequest (Idle p) = false

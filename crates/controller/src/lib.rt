@@ -3,6 +3,7 @@ pub mod answer;
 pub mod calls;
 pub mod endpoint;
 pub mod hub;
+pub mod lent;
 pub mod open;
 pub mod readers;
 pub mod rows;

@@ -3,7 +3,7 @@ ghost use mathlib.Core.Path.{_≡_};
 ghost use Prim.Native.Nat.{_≤_};
 ghost use lib.ListN.{length, take};
 ghost use Rattle.controller.specs.Endpoints.{flagOf};
-ghost use Rattle.controller.specs.Readers.{countZero, freeCount, isUncollected, hasPlace};
+ghost use Rattle.controller.specs.Readers.{countZero, freeCount, isOpen, isUncollected, hasPlace};
 use crate::endpoint::Endpoint;
 use crate::endpoint::endpoint_at;
 use state::state::Ehci;
@@ -42,6 +42,18 @@ pub fn free_count(s: Ehci) -> u16
     ensures { λ r. ⌜ r ≡ freeCount s ⌝ }
 {
     free_in(&s.owner, s.settings.descriptors)
+}
+
+// Whether a slot has an endpoint.
+pub fn is_open(s: Ehci, slot: u8) -> bool
+    ensures { λ r. ⌜ r ≡ isOpen s slot ⌝ }
+{
+    match endpoint_at(s, slot) {
+        Endpoint::Closed => false,
+        Endpoint::Idle(_) => true,
+        Endpoint::Linked(_, _) => true,
+        Endpoint::Unlinking(_, _, _) => true,
+    }
 }
 
 // Whether a slot has an uncollected request.

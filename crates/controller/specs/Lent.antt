@@ -1,0 +1,11 @@
+-- Document 01, the order of checks: "First: a lent row of a length other than opening fixed, or a state outside its ranges".
+use mathlib.Core.Bool.{Bool}
+use Rattle.settings.specs.Tests.{both}
+use Rattle.state.specs.declared.state.Ehci.{Ehci}
+use Rattle.state.specs.Ranges.{inRanges}
+use Rattle.controller.specs.declared.lent.Lengths.{Lengths}
+use Rattle.controller.specs.Opening.{rowsFit}
+
+unfoldable pub acceptsOf : Ehci → Lengths → Bool
+acceptsOf s lent =
+    both (rowsFit (s .settings) (lent .pool) (lent .heads) (lent .frames) (lent .setups)) (inRanges s)
