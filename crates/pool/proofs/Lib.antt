@@ -1,0 +1,5 @@
+pub mod Walk
+pub mod PlaceCases
+pub mod Element
+pub mod Again
+pub mod Calls

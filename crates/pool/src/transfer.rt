@@ -53,7 +53,8 @@ fn stage_at(t: Transfer, k: u64) -> QueueTransferDescriptor
     requires { ⌜ 8 ≤ 2 ^ 32 - t .setup ⌝ }
     ensures { λ r. ⌜ r ≡ stageAt t k ⌝ }
 {
-    let plan = build_control_td_plan(t.direction, t.length);
+    let direction = t.direction;
+    let plan = build_control_td_plan(direction, t.length);
     if k == 0 {
         return QueueTransferDescriptor::new(plan.setup, t.setup, 8);
     }
@@ -79,7 +80,8 @@ fn chunk_qtd(t: Transfer, k: u64, last: bool) -> QueueTransferDescriptor
 {
     let start = k * t.limit;
     let bytes = least(t.limit, t.length - start);
-    let token = chunk_token(t.direction, bytes, last);
+    let direction = t.direction;
+    let token = chunk_token(direction, bytes, last);
     QueueTransferDescriptor::new(token, t.address + start, bytes)
 }
 
