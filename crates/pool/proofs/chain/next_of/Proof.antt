@@ -1,40 +1,34 @@
+use Rattle.pool.proofs.Known.{at-length}
+use Rattle.pool.proofs.ChainCases.{next-none, next-there, next-product, next-sum, next-word}
 use borrow.Author.Needs.{needs}
 use Rattle.pool.proofs.chain.next_of.Statement.{statement}
 use Rattle.pool.proofs.chain.next_of.Tie as tie
 use Rattle.pool.proofs.chain.next_of.Reads as reads
 use Rattle.pool.proofs.chain.next_of.Lts as lts
 
--- src/chain.rt:151:17
 add-after : tie.Need-add-after
 add-after c = search needs
 
--- src/chain.rt:153:9
 returns : tie.Need-returns
-returns c = ?
+returns c = search (next-none, at-length)
 
--- src/chain.rt:156:17
 array-read-place : tie.Need-array-read-place
 array-read-place c = search needs
 
--- src/chain.rt:156:17
 cast-place : tie.Need-cast-place
 cast-place c = search needs
 
--- src/chain.rt:157:25
 mul-t12 : tie.Need-mul-t12
-mul-t12 c = ?
+mul-t12 c = search next-product
 
--- src/chain.rt:157:18
 add-t13 : tie.Need-add-t13
-add-t13 c = ?
+add-t13 c = search next-sum
 
--- src/chain.rt:157:17
 cast-t14 : tie.Need-cast-t14
-cast-t14 c = ?
+cast-t14 c = search next-word
 
--- src/chain.rt:144:1
 returns-2 : tie.Need-returns-2
-returns-2 c = ?
+returns-2 c = search (next-there, at-length)
 
 pub next-of-spec : {M : Type 1} → statement M
 next-of-spec =

@@ -1,3 +1,4 @@
+use Rattle.pool.proofs.ChainCases.{was-set, stage-active, stage-erring, stage-clean}
 use borrow.Author.Needs.{needs}
 use Rattle.pool.proofs.chain.stage_with.Statement.{statement}
 use Rattle.pool.proofs.chain.stage_with.Tie as tie
@@ -6,29 +7,23 @@ use Rattle.pool.proofs.chain.stage_with.Lts as lts
 use Rattle.token.proofs.qtd.QtdToken.active.Reads as active-reads
 use Rattle.token.proofs.qtd.QtdToken.has_error.Reads as has-error-reads
 
--- src/chain.rt:63:9
 returns : tie.Need-returns
-returns c = ?
+returns c = search was-set
 
--- src/chain.rt:65:8
 active-requires : tie.Need-active-requires
 active-requires c κs = search needs
 
--- src/chain.rt:66:9
 returns-2 : tie.Need-returns-2
-returns-2 c = ?
+returns-2 c = search stage-active
 
--- src/chain.rt:68:8
 has-error-requires : tie.Need-has-error-requires
 has-error-requires c κs = search needs
 
--- src/chain.rt:69:9
 returns-3 : tie.Need-returns-3
-returns-3 c = ?
+returns-3 c = search stage-erring
 
--- src/chain.rt:59:1
 returns-4 : tie.Need-returns-4
-returns-4 c = ?
+returns-4 c = search stage-clean
 
 pub stage-with-spec : {M : Type 1} → statement M
 stage-with-spec =

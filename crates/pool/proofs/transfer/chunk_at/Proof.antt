@@ -1,3 +1,4 @@
+use Rattle.pool.proofs.TransferCases.{small-product}
 use borrow.Author.Needs.{needs}
 use Rattle.pool.proofs.transfer.chunk_at.Statement.{statement}
 use Rattle.pool.proofs.transfer.chunk_at.Tie as tie
@@ -5,19 +6,15 @@ use Rattle.pool.proofs.transfer.chunk_at.Reads as reads
 use Rattle.pool.proofs.transfer.chunk_at.Lts as lts
 use Rattle.token.proofs.qtd.least.Reads as least-reads
 
--- src/transfer.rt:29:17
 mul-start : tie.Need-mul-start
-mul-start c = ?
+mul-start c = search small-product
 
--- src/transfer.rt:31:9
 returns : tie.Need-returns
 returns c = search needs
 
--- src/transfer.rt:33:5
 least-requires : tie.Need-least-requires
 least-requires c κs = search needs
 
--- src/transfer.rt:24:1
 returns-2 : tie.Need-returns-2
 returns-2 c = search needs
 
