@@ -54,13 +54,13 @@ module _ (a w : ℕ) (z : a ≡ 0) where
   pub failed-not : (b : Bool) → b ≡ isErring w → b ≡ false → 0 ≡ orElse a (numberIf (isErring w) w 0)
   failed-not b e t = rw (eq-eqb a 0 z, sym e ∙ t)
 
-requested-lt : (kind : EndpointType) (length limit k : ℕ) → length < 2 ^ 32 → limit ≤ 16384 → requestedAt kind length limit k < 2 ^ 32
+pub requested-lt : (kind : EndpointType) (length limit k : ℕ) → length < 2 ^ 32 → limit ≤ 16384 → requestedAt kind length limit k < 2 ^ 32
 unfolding requestedAt
 requested-lt Control length limit k h h′ = go (eqb k 1)
-    where
-      go : (b : Bool) → onlyIf b length < 2 ^ 32
-      go true = h
-      go false = omega arith
+  where
+    go : (b : Bool) → onlyIf b length < 2 ^ 32
+    go true = h
+    go false = omega arith
 requested-lt Isochronous length limit k h h′ = omega (arith, h′)
 requested-lt Bulk length limit k h h′ = omega (arith, h′)
 requested-lt Interrupt length limit k h h′ = omega (arith, h′)
@@ -79,7 +79,7 @@ see-made u asked requested w s f r ea es ef er =
 
 -- the list's end, and the place to come
 module _ (p : Places) (k : ℕ) (len : length (p .at) ≡ 256) where
-  listed-length : p .count ≤ 256 → length (listOf p) ≡ p .count
+  pub listed-length : p .count ≤ 256 → length (listOf p) ≡ p .count
   unfolding listOf
   listed-length h = length-take-le (p .count) (p .at) (omega (arith, len, h))
 
@@ -91,10 +91,10 @@ module _ (p : Places) (k : ℕ) (len : length (p .at) ≡ 256) where
 
   pub last-is : p .count ≤ 256 → leb (p .count) (k + 1) ≡ isLast (drop (k + 1) (listOf p))
   last-is h = go (leb (p .count) (k + 1)) refl
-      where
-        go : (b : Bool) → leb (p .count) (k + 1) ≡ b → b ≡ isLast (drop (k + 1) (listOf p))
-        go true e = rw (none-after h (leb→le (p .count) (k + 1) (subst (λ (b : Bool). lib.Dec.T b) (sym e) tt)))
-        go false e = rw (one-after h (nleb→lt (p .count) (k + 1) (subst (λ (b : Bool). lib.Dec.T (not b)) (sym e) tt)))
+    where
+      go : (b : Bool) → leb (p .count) (k + 1) ≡ b → b ≡ isLast (drop (k + 1) (listOf p))
+      go true e = rw (none-after h (leb→le (p .count) (k + 1) (subst (λ (b : Bool). lib.Dec.T b) (sym e) tt)))
+      go false e = rw (one-after h (nleb→lt (p .count) (k + 1) (subst (λ (b : Bool). lib.Dec.T (not b)) (sym e) tt)))
 
   module _ (base : ℕ) where
     pub next-none : p .count ≤ 256 → p .count ≤ k + 1 → Terminate ≡ nextOf base (drop (k + 1) (listOf p))

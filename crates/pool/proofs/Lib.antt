@@ -3,6 +3,7 @@ pub mod PlaceCases
 pub mod Known
 pub mod TransferCases
 pub mod ChainCases
+pub mod Turns
 pub mod Element
 pub mod Again
 pub mod Calls

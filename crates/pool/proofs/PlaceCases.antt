@@ -80,23 +80,23 @@ packed-there at rest ps count len h z r e = packed-at at ps count len h z (sym (
 -- the loop of `all_places`
 pub up-start : (n : ℕ) → upFrom 0 (n - 0) ≡ upFrom 0 n
 up-start n = ap (λ (m : ℕ). upFrom 0 m) (whole-of n)
-    where
-      whole-of : (n : ℕ) → n - 0 ≡ n
-      whole-of n = omega arith
+  where
+    whole-of : (n : ℕ) → n - 0 ≡ n
+    whole-of n = omega arith
 
 pub up-turn : (n i : ℕ) → i < n → i ∷ upFrom (i + 1) (n - (i + 1)) ≡ upFrom i (n - i)
 unfolding upFrom
 up-turn n i h = ap (λ (j : ℕ). i ∷ upFrom j (n - (i + 1))) (add-one i) ∙ ap (λ (m : ℕ). upFrom i m) (less n i h)
-    where
-      less : (n i : ℕ) → i < n → suc (n - (i + 1)) ≡ n - i
-      less n i h = omega (arith, h)
+  where
+    less : (n i : ℕ) → i < n → suc (n - (i + 1)) ≡ n - i
+    less n i h = omega (arith, h)
 
 pub up-end : (n i : ℕ) → n ≤ i → upFrom i (n - i) ≡ []
 unfolding upFrom
 up-end n i h = ap (λ (m : ℕ). upFrom i m) (none n i h)
-    where
-      none : (n i : ℕ) → n ≤ i → n - i ≡ 0
-      none n i h = omega (arith, h)
+  where
+    none : (n i : ℕ) → n ≤ i → n - i ≡ 0
+    none n i h = omega (arith, h)
 
 pub up-packed : (at : List ℕ) (n i : ℕ) → n ≤ 256 → length at ≡ 256 → i ≤ n → n ≤ i → drop i at ≡ replicate (256 - i) 0 → take i at ++ upFrom i (n - i) ≡ upFrom 0 n
     → record { count = n; at = at } ≡ packed (upFrom 0 n)

@@ -95,10 +95,7 @@ fn moved_of(requested: u64, token: QtdToken) -> u64
 
 // The k-th descriptor of a request is seen.
 pub fn see(view: View, ask: Ask, k: usize, here: QueueTransferDescriptor) -> View
-    requires { ⌜ k ≤ 256 ⌝ }
-    requires { ⌜ ask .length < 2 ^ 32 ⌝ }
-    requires { ⌜ ask .limit ≤ 16384 ⌝ }
-    requires { ⌜ view .moved ≤ k * 2 ^ 32 ⌝ }
+    requires { ⌜ (k ≤ 256) × (ask .length < 2 ^ 32) × (ask .limit ≤ 16384) × (view .moved ≤ k * 2 ^ 32) ⌝ }
     ensures { λ r. ⌜ r ≡ seeOf view (requestedAt (ask .kind) (ask .length) (ask .limit) k) (here .token) ⌝ }
 {
     let kind = ask.kind;
@@ -175,9 +172,8 @@ fn record_for(t: Transfer, places: Places, base: u64, k: usize) -> QueueTransfer
 
 // The k-th record of a chain, as it is from now on.
 pub fn written(chain: Chain, k: usize, here: QueueTransferDescriptor) -> QueueTransferDescriptor
-    requires { ⌜ k < chain .places .count ⌝ }
-    requires { ⌜ chain .places .count ≤ 256 ⌝ }
-    requires { ⌜ turnGood (chain .deed) (chain .base) k (getD (listOf (chain .places)) (k + 1) 0) ⌝ }
+    requires { ⌜ (k < chain .places .count) × (chain .places .count ≤ 256)
+        × turnGood (chain .deed) (chain .base) k (getD (listOf (chain .places)) (k + 1) 0) ⌝ }
     ensures { λ r. ⌜ r ≡ writtenOf (chain .deed) (chain .base) k (drop (k + 1) (listOf (chain .places))) here ⌝ }
 {
     let places = chain.places;

@@ -89,8 +89,7 @@ pub fn all_places(n: u64) -> Places
 
 // The k-th place of a list.
 pub fn place_at(places: Places, k: usize) -> usize
-    requires { ⌜ k < places .count ⌝ }
-    requires { ⌜ places .count ≤ 256 ⌝ }
+    requires { ⌜ (k < places .count) × (places .count ≤ 256) ⌝ }
     ensures { λ r. ⌜ r ≡ getD (listOf places) k 0 ⌝ }
 {
     let at = places.at;

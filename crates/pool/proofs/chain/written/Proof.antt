@@ -23,8 +23,8 @@ enum-known-deed c = search needs
 record-for-requires : tie.Need-record-for-requires
 record-for-requires c κs =
     let p = c .before .before .before .before .pre in
-    let g = turn-transfer _ _ _ _ _ (c .before .deed .given .1) (p .1 .1) in
-    (p .0, (p .1 .0, (g .0, (g .1, (g .2, g .3)))))
+    let g = turn-transfer _ _ _ _ _ (c .before .deed .given .1) (p .2) in
+    (p .0, (p .1, (g .0, (g .1, (g .2, g .3)))))
 
 enum-known-deed-2 : tie.Need-enum-known-deed-2
 enum-known-deed-2 c = search needs
