@@ -1,5 +1,7 @@
+pub mod Each
 pub mod Walk
 pub mod PlaceCases
+pub mod PlaceLaws
 pub mod Known
 pub mod TransferCases
 pub mod ChainCases

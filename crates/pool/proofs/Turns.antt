@@ -7,7 +7,7 @@ use native.Mathlib.Nat.{le-trans, mul-le-mul-right}
 use native.Mathlib.Numerals.{add-one}
 use native.Mathlib.Omega.{arith}
 use borrow.Author.Tests.{eqb-true}
-use lib.Dec.{eqb}
+use lib.Dec.{T, eqb, ltb, ltb→lt, nltb→le}
 use lib.ListN.{drop, getD, length, set, List·getD-eq-default}
 use Rattle.token.specs.declared.request.EndpointType.{EndpointType}
 use Rattle.token.specs.declared.request.EndpointType.the-variants.{Control, Isochronous, Bulk, Interrupt}
@@ -19,10 +19,11 @@ use Rattle.pool.specs.declared.chain.Deed.{Deed}
 use Rattle.pool.specs.declared.chain.Deed.the-variants as Deeds
 use Rattle.pool.specs.declared.chain.View.{View}
 use Rattle.pool.specs.declared.transfer.Transfer.{Transfer}
-use Rattle.pool.specs.Places.{listOf}
+use Rattle.pool.specs.Places.{Within, listOf}
 use Rattle.pool.specs.Transfers.{addressOf, requestedAt, startGood}
-use Rattle.pool.specs.Chains.{blank, AskGood, ChainGood, Seen, Within, deedGood, fillOf, filledFrom, firstError, isActive, isErring, joined, lengthOf, numberIf, orElse, seeOf, seenFrom, stageOf, startsGood, turnGood, viewOf, writtenOf}
+use Rattle.pool.specs.Chains.{blank, AskGood, ChainGood, Seen, deedGood, fillOf, filledFrom, firstError, isActive, isErring, joined, lengthOf, numberIf, orElse, seeOf, seenFrom, stageOf, startsGood, turnGood, viewOf, writtenOf}
 use Rattle.pool.proofs.Walk.{left-at, none-left}
+use Rattle.pool.proofs.Each.{each-at}
 use Rattle.pool.proofs.ChainCases.{listed-length, requested-lt}
 
 -- ---- the fill
@@ -146,19 +147,17 @@ none-moved u e =
 -- ---- what a turn asks
 
 pub listed-in : (n k p : ℕ) (ps : List ℕ) → Within n ps → k < length ps → p ≡ getD ps k 0 → p < n
-unfolding Within
-listed-in n k p ps w h e = subst (λ (q : ℕ). q < n) (sym e) (w k h)
+listed-in n k p ps w h e = subst (λ (q : ℕ). q < n) (sym e) (each-at (λ (q : ℕ). q < n) ps k w h)
 
 -- a list's next place, or 0 past its end
 after-in : (n k : ℕ) (ps : List ℕ) → Within n ps → k < length ps → getD ps (k + 1) 0 < n
-unfolding Within
-after-in n k ps w h = go (lib.Dec.ltb (k + 1) (length ps)) refl
-  where
-    go : (b : Bool) → lib.Dec.ltb (k + 1) (length ps) ≡ b → getD ps (k + 1) 0 < n
-    go true e = w (k + 1) (lib.Dec.ltb→lt (k + 1) (length ps) (subst (λ (b : Bool). lib.Dec.T b) (sym e) tt))
-    go false e =
-        let past : length ps ≤ k + 1 = lib.Dec.nltb→le (k + 1) (length ps) (subst (λ (b : Bool). lib.Dec.T (not b)) (sym e) tt) in
-        subst (λ (q : ℕ). q < n) (sym (List·getD-eq-default ps 0 past)) (omega (arith, w k h))
+after-in n k ps w h = go (ltb (k + 1) (length ps)) refl
+    where
+      go : (b : Bool) → ltb (k + 1) (length ps) ≡ b → getD ps (k + 1) 0 < n
+      go true e = each-at (λ (q : ℕ). q < n) ps (k + 1) w (ltb→lt (k + 1) (length ps) (subst (λ (b : Bool). T b) (sym e) tt))
+      go false e =
+          let past : length ps ≤ k + 1 = nltb→le (k + 1) (length ps) (subst (λ (b : Bool). T (not b)) (sym e) tt) in
+          subst (λ (q : ℕ). q < n) (sym (List·getD-eq-default ps 0 past)) (omega (arith, each-at (λ (q : ℕ). q < n) ps k w h))
 
 start-turn : (kind : EndpointType) (t : Transfer) (count k : ℕ) → k < count → startsGood kind t count → startGood kind t k
 start-turn Control t count k h g = tt

@@ -3,7 +3,7 @@ use Prim.Native.Nat.{ℕ, zero, suc, _+_, _-_, _*_, _≤_, _<_, _^_}
 use mathlib.Core.Bool.{Bool, true, false, not}
 use mathlib.Core.List.{List, [], _∷_}
 use lib.Dec.{eqb}
-use lib.ListN.{getD, length, set}
+use lib.ListN.{getD, set}
 use Rattle.token.specs.declared.request.EndpointType.{EndpointType}
 use Rattle.token.specs.declared.request.EndpointType.the-variants.{Control, Isochronous, Bulk, Interrupt}
 use Rattle.token.specs.EhciQtd.{active, errors, totalBytes}
@@ -15,7 +15,7 @@ use Rattle.pool.specs.declared.chain.Deed.{Deed}
 use Rattle.pool.specs.declared.chain.Deed.the-variants as Deeds
 use Rattle.pool.specs.declared.chain.View.{View}
 use Rattle.pool.specs.declared.transfer.Transfer.{Transfer}
-use Rattle.pool.specs.Places.{listOf}
+use Rattle.pool.specs.Places.{Within, listOf}
 use Rattle.pool.specs.Transfers.{addressOf, requestedAt, recordAt, startGood}
 
 -- the record of thirteen zero words
@@ -97,10 +97,6 @@ abbrev pub seeOf : View → ℕ → ℕ → View
 seeOf u requested token = joined u (viewOf (record { requested = requested; token = token } ∷ []))
 
 -- ---- what is asked of a caller
-
--- every listed place is one of n
-unfoldable pub Within : ℕ → List ℕ → Type 0
-Within n ps = (k : ℕ) → k < length ps → getD ps k 0 < n
 
 pub record AskGood (n : ℕ) (a : Ask) : Type 0 where
   pub few : a .places .count ≤ 256

@@ -1,5 +1,5 @@
 -- The places of a pool in the row of their owners (0 is free): which hold x, the lowest free ones taken, those of one owner freed.
-use Prim.Native.Nat.{ℕ, zero, suc, _-_}
+use Prim.Native.Nat.{ℕ, zero, suc, _+_, _-_, _<_}
 use mathlib.Core.Bool.{Bool, true, false}
 use mathlib.Core.List.{List, [], _∷_, _++_}
 use lib.Dec.{eqb}
@@ -38,3 +38,25 @@ packed ps = record { count = length ps; at = ps ++ replicate (256 - length ps) 0
 
 unfoldable pub listOf : Places → List ℕ
 listOf p = take (p .count) (p .at)
+
+-- how many of the places hold x
+abbrev pub bitOf : Bool → ℕ
+bitOf true = 1
+bitOf false = 0
+
+unfoldable pub countOf : ℕ → List ℕ → ℕ
+countOf x [] = 0
+countOf x (y ∷ ys) = bitOf (eqb y x) + countOf x ys
+
+abbrev pub Each : (ℕ → Type 0) → List ℕ → Type 0
+Each P [] = Unit
+Each P (p ∷ ps) = P p × Each P ps
+
+-- every place is one of n
+abbrev pub Within : ℕ → List ℕ → Type 0
+Within n ps = Each (λ p. p < n) ps
+
+-- every place is below all that follow it
+abbrev pub Ascending : List ℕ → Type 0
+Ascending [] = Unit
+Ascending (p ∷ ps) = Each (λ q. p < q) ps × Ascending ps
