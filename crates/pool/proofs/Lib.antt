@@ -6,6 +6,8 @@ pub mod Known
 pub mod TransferCases
 pub mod ChainCases
 pub mod Turns
+pub mod ChainLaws
+pub mod GoodLaws
 pub mod Element
 pub mod Again
 pub mod Calls

@@ -1,7 +1,7 @@
 -- What a request's descriptors say (`viewOf`), and what is written to the pool (`fillOf`).
-use Prim.Native.Nat.{ℕ, zero, suc, _+_, _-_, _*_, _≤_, _<_, _^_}
+use Prim.Native.Nat.{ℕ, zero, suc, _+_, _-_, _*_, _/_, _≤_, _<_, _^_}
 use mathlib.Core.Bool.{Bool, true, false, not}
-use mathlib.Core.List.{List, [], _∷_}
+use mathlib.Core.List.{List, [], _∷_, map}
 use lib.Dec.{eqb}
 use lib.ListN.{getD, set}
 use Rattle.token.specs.declared.request.EndpointType.{EndpointType}
@@ -15,6 +15,7 @@ use Rattle.pool.specs.declared.chain.Deed.{Deed}
 use Rattle.pool.specs.declared.chain.Deed.the-variants as Deeds
 use Rattle.pool.specs.declared.chain.View.{View}
 use Rattle.pool.specs.declared.transfer.Transfer.{Transfer}
+use Rattle.pool.specs.EhciChain.{follow}
 use Rattle.pool.specs.Places.{Within, listOf}
 use Rattle.pool.specs.Transfers.{addressOf, requestedAt, recordAt, startGood}
 
@@ -43,6 +44,18 @@ filledFrom deed base k (p ∷ ps) rs =
 
 unfoldable pub fillOf : Chain → List QueueTransferDescriptor → List QueueTransferDescriptor
 fillOf c rs = filledFrom (c .deed) (c .base) 0 (listOf (c .places)) rs
+
+-- ---- what the controller meets
+
+abbrev pub placeOf : ℕ → ℕ → ℕ
+placeOf base address = (address - base) / 64
+
+abbrev pub nextAt : ℕ → List QueueTransferDescriptor → ℕ → ℕ
+nextAt base rs address = getD rs (placeOf base address) blank .next
+
+-- the places met from a next pointer on, at most so many
+unfoldable pub metFrom : ℕ → List QueueTransferDescriptor → ℕ → ℕ → List ℕ
+metFrom base rs m w = map (placeOf base) (follow (nextAt base rs) m w)
 
 -- ---- what is seen
 
