@@ -20,7 +20,7 @@ use Rattle.pool.specs.declared.transfer.Transfer.{Transfer}
 use Rattle.pool.specs.EhciChain.{follow, stopIf}
 use Rattle.pool.specs.Places.{Ascending, Each, Within, packed, upFrom}
 use Rattle.pool.specs.Transfers.{addressOf, nextOf, recordAt}
-use Rattle.pool.specs.Chains.{blank, fillOf, filledFrom, metFrom, nextAt, placeOf, withToken, writtenOf}
+use Rattle.pool.specs.Chains.{blank, fillOf, filledFrom, metFrom, nextAt, noChain, placeOf, withToken, writtenOf}
 use Rattle.pool.proofs.Each.{each-at, each-map}
 use Rattle.pool.proofs.PlaceLaws.{list-packed, up-ascends, up-length, up-within}
 
@@ -82,12 +82,13 @@ filled-linked : (t : Transfer) (base k : ℕ) (ps : List ℕ) (rs : List Record)
 unfolding filledFrom
 filled-linked t base k [] rs up e = tt
 filled-linked t base k (p ∷ ps) rs up e =
-    let w : Record = recordAt t k ps base in
-    (ap
-    (λ (r : Record). r .next)
-    (filled-others (Deeds.Transfer t) base (suc k) ps (set rs p w) p (above p ps (up .0)) ∙ getD-set-same rs p w blank (e .0))
-    ∙ next-word t k ps base,
-    filled-linked t base (suc k) ps (set rs p w) (up .1) (set-within (length rs) rs p w ps (e .1)))
+    let w : Record = recordAt t k ps base in (
+      ap
+          (λ (r : Record). r .next)
+          (filled-others (Deeds.Transfer t) base (suc k) ps (set rs p w) p (above p ps (up .0)) ∙ getD-set-same rs p w blank (e .0))
+          ∙ next-word t k ps base,
+      filled-linked t base (suc k) ps (set rs p w) (up .1) (set-within (length rs) rs p w ps (e .1)),
+    )
 
 place-back : (base p : ℕ) → placeOf base (addressOf base p) ≡ p
 place-back base p = omega arith
@@ -125,6 +126,10 @@ pub fill-none : (base : ℕ) (deed : Deed) (rs : List Record) → fillOf (record
 unfolding fillOf filledFrom
 fill-none base deed rs = rw (list-packed [])
 
+pub fill-no-chain : (rs : List Record) → fillOf noChain rs ≡ rs
+unfolding noChain
+fill-no-chain rs = fill-none 0 Deeds.Leave rs
+
 pub fill-token : (base p w : ℕ) (rs : List Record) → fillOf (record { places = packed (p ∷ []); base = base; deed = Deeds.Token w }) rs ≡ set rs p (withToken (getD rs p blank) w)
 unfolding fillOf filledFrom
 fill-token base p w rs = rw (list-packed (p ∷ []))
@@ -134,9 +139,9 @@ unfolding upFrom
 up-at i zero k h = absurd (omega (arith, h))
 up-at i (suc n) zero h = omega arith
 up-at i (suc n) (suc k) h = up-at (suc i) n k (omega (arith, h)) ∙ along i k
-    where
-      along : (i k : ℕ) → suc i + k ≡ i + suc k
-      along i k = omega arith
+  where
+    along : (i k : ℕ) → suc i + k ≡ i + suc k
+    along i k = omega arith
 
 cleared : (base : ℕ) (rs : List Record) (i : ℕ) → i < length rs → getD (filledFrom Deeds.Clear base 0 (upFrom 0 (length rs)) rs) i blank ≡ blank
 cleared base rs i h =
@@ -144,9 +149,9 @@ cleared base rs i h =
     let l : i < length (upFrom 0 (length rs)) = omega (arith, h, up-length 0 (length rs)) in
     ap (λ (j : ℕ). getD (filledFrom Deeds.Clear base 0 (upFrom 0 (length rs)) rs) j blank) (sym at)
     ∙ filled-listed Deeds.Clear base 0 (upFrom 0 (length rs)) rs i (up-ascends 0 (length rs)) (up-within (length rs)) l
-    where
-      along : (i : ℕ) → 0 + i ≡ i
-      along i = omega arith
+  where
+    along : (i : ℕ) → 0 + i ≡ i
+    along i = omega arith
 
 -- clearing every place leaves thirteen zero words in each record
 pub fill-clear : (base : ℕ) (rs : List Record) → fillOf (record { places = packed (upFrom 0 (length rs)); base = base; deed = Deeds.Clear }) rs ≡ replicate (length rs) blank

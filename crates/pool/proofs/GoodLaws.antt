@@ -13,7 +13,7 @@ use Rattle.pool.specs.declared.chain.Deed.{Deed}
 use Rattle.pool.specs.declared.chain.Deed.the-variants as Deeds
 use Rattle.pool.specs.declared.transfer.Transfer.{Transfer}
 use Rattle.pool.specs.Places.{Within, listOf, packed, placesFrom, upFrom}
-use Rattle.pool.specs.Chains.{askGood, chainGood, deedGood, startsGood}
+use Rattle.pool.specs.Chains.{askGood, chainGood, deedGood, noAsk, noChain, startsGood}
 use Rattle.pool.proofs.PlaceLaws.{list-packed, places-few, places-within, up-length, up-within}
 
 pub packed-good : (n base : ℕ) (deed : Deed) (ps : List ℕ) → length ps ≤ 256 → Within n ps → deedGood deed base n (length ps)
@@ -30,6 +30,10 @@ packed-asks n kind len limit ps h w s l = record { few = h; within = subst (λ (
 pub empty-good : (n base : ℕ) → chainGood n (record { places = packed []; base = base; deed = Deeds.Leave })
 empty-good n base = packed-good n base Deeds.Leave [] (omega arith) tt tt
 
+pub no-chain-good : (n : ℕ) → chainGood n noChain
+unfolding noChain
+no-chain-good n = empty-good n 0
+
 pub token-good : (n base p w : ℕ) → p < n → chainGood n (record { places = packed (p ∷ []); base = base; deed = Deeds.Token w })
 token-good n base p w h = packed-good n base (Deeds.Token w) (p ∷ []) (omega arith) (h, tt) tt
 
@@ -39,6 +43,10 @@ clear-good n base h = packed-good n base Deeds.Clear (upFrom 0 n) (omega (arith,
 -- nothing is asked
 pub empty-asks : (n : ℕ) (kind : EndpointType) → askGood n (record { places = packed []; kind = kind; length = 0; limit = 0 })
 empty-asks n kind = packed-asks n kind 0 0 [] (omega arith) tt (omega arith) (omega arith)
+
+pub no-ask-good : (n : ℕ) → askGood n noAsk
+unfolding noAsk
+no-ask-good n = empty-asks n Control
 
 -- an owner's places in a row as long as the pool
 pub places-ask : (owner : List ℕ) (x m : ℕ) (kind : EndpointType) (len limit : ℕ) → length owner ≤ 256 → len < 2 ^ 32 → limit ≤ 16384
@@ -54,16 +62,16 @@ places-good owner x m base deed h g =
 -- a request's own number of descriptors
 chunks-start : (len limit count : ℕ) → 1 ≤ limit → count ≡ chunkCount len limit → (count - 1) * limit ≤ len
 chunks-start len limit count h e = by (decEq count 1)
-    where
-      by : Dec (count ≡ 1) → (count - 1) * limit ≤ len
-      by (yes one) =
-          let none : count - 1 ≡ 0 = omega (arith, one) in
-          subst (λ (m : ℕ). m * limit ≤ len) (sym none) (omega arith)
-      by (no more) =
-          let two : 1 < count = omega (arith, e, count-pos len limit h, more) in
-          let all-but : count - 2 + 1 ≡ count - 1 = omega (arith, two) in
-          let before : (count - 2 + 1) * limit < len = before-last len limit h (count - 2) (omega (arith, e, two)) in
-          subst (λ (m : ℕ). m * limit ≤ len) all-but (omega (arith, before))
+  where
+    by : Dec (count ≡ 1) → (count - 1) * limit ≤ len
+    by (yes one) =
+        let none : count - 1 ≡ 0 = omega (arith, one) in
+        subst (λ (m : ℕ). m * limit ≤ len) (sym none) (omega arith)
+    by (no more) =
+        let two : 1 < count = omega (arith, e, count-pos len limit h, more) in
+        let all-but : count - 2 + 1 ≡ count - 1 = omega (arith, two) in
+        let before : (count - 2 + 1) * limit < len = before-last len limit h (count - 2) (omega (arith, e, two)) in
+        subst (λ (m : ℕ). m * limit ≤ len) all-but (omega (arith, before))
 
 pub need-starts : (kind : EndpointType) (t : Transfer) (count : ℕ) → 1 ≤ t .limit → count ≡ needOf kind (t .length) (t .limit) → startsGood kind t count
 unfolding needOf

@@ -6,6 +6,7 @@ pub mod Known
 pub mod TransferCases
 pub mod ChainCases
 pub mod Turns
+pub mod Examples
 pub mod ChainLaws
 pub mod GoodLaws
 pub mod Element

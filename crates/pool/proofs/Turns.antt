@@ -152,12 +152,12 @@ listed-in n k p ps w h e = subst (λ (q : ℕ). q < n) (sym e) (each-at (λ (q :
 -- a list's next place, or 0 past its end
 after-in : (n k : ℕ) (ps : List ℕ) → Within n ps → k < length ps → getD ps (k + 1) 0 < n
 after-in n k ps w h = go (ltb (k + 1) (length ps)) refl
-    where
-      go : (b : Bool) → ltb (k + 1) (length ps) ≡ b → getD ps (k + 1) 0 < n
-      go true e = each-at (λ (q : ℕ). q < n) ps (k + 1) w (ltb→lt (k + 1) (length ps) (subst (λ (b : Bool). T b) (sym e) tt))
-      go false e =
-          let past : length ps ≤ k + 1 = nltb→le (k + 1) (length ps) (subst (λ (b : Bool). T (not b)) (sym e) tt) in
-          subst (λ (q : ℕ). q < n) (sym (List·getD-eq-default ps 0 past)) (omega (arith, each-at (λ (q : ℕ). q < n) ps k w h))
+  where
+    go : (b : Bool) → ltb (k + 1) (length ps) ≡ b → getD ps (k + 1) 0 < n
+    go true e = each-at (λ (q : ℕ). q < n) ps (k + 1) w (ltb→lt (k + 1) (length ps) (subst (λ (b : Bool). T b) (sym e) tt))
+    go false e =
+        let past : length ps ≤ k + 1 = nltb→le (k + 1) (length ps) (subst (λ (b : Bool). T (not b)) (sym e) tt) in
+        subst (λ (q : ℕ). q < n) (sym (List·getD-eq-default ps 0 past)) (omega (arith, each-at (λ (q : ℕ). q < n) ps k w h))
 
 start-turn : (kind : EndpointType) (t : Transfer) (count k : ℕ) → k < count → startsGood kind t count → startGood kind t k
 start-turn Control t count k h g = tt

@@ -16,7 +16,7 @@ use Rattle.pool.specs.declared.chain.Deed.the-variants as Deeds
 use Rattle.pool.specs.declared.chain.View.{View}
 use Rattle.pool.specs.declared.transfer.Transfer.{Transfer}
 use Rattle.pool.specs.EhciChain.{follow}
-use Rattle.pool.specs.Places.{Within, listOf}
+use Rattle.pool.specs.Places.{Within, listOf, packed}
 use Rattle.pool.specs.Transfers.{addressOf, requestedAt, recordAt, startGood}
 
 -- the record of thirteen zero words
@@ -45,6 +45,10 @@ filledFrom deed base k (p ∷ ps) rs =
 unfoldable pub fillOf : Chain → List QueueTransferDescriptor → List QueueTransferDescriptor
 fillOf c rs = filledFrom (c .deed) (c .base) 0 (listOf (c .places)) rs
 
+-- nothing is written
+unfoldable pub noChain : Chain
+noChain = record { places = packed []; base = 0; deed = Deeds.Leave }
+
 -- ---- what the controller meets
 
 abbrev pub placeOf : ℕ → ℕ → ℕ
@@ -69,6 +73,10 @@ seenFrom kind length limit k [] rs = []
 seenFrom kind length limit k (p ∷ ps) rs =
     record { requested = requestedAt kind length limit k; token = getD rs p blank .token }
     ∷ seenFrom kind length limit (suc k) ps rs
+
+-- nothing is asked
+unfoldable pub noAsk : Ask
+noAsk = record { places = packed []; kind = Control; length = 0; limit = 0 }
 
 abbrev pub isActive : ℕ → Bool
 isActive w = not (eqb (active w) 0)

@@ -7,8 +7,9 @@ ghost use lib.ListN.{getD, drop};
 ghost use Rattle.token.specs.EhciQtd.{totalBytes};
 ghost use Rattle.pool.specs.Places.{listOf};
 ghost use Rattle.pool.specs.Transfers.{addressOf, isLast, nextOf, requestedAt, recordAt, startGood};
-ghost use Rattle.pool.specs.Chains.{blank, isActive, isErring, numberIf, orElse, seeOf, turnGood, viewOf, withToken, writtenOf};
+ghost use Rattle.pool.specs.Chains.{blank, isActive, isErring, noAsk, noChain, numberIf, orElse, seeOf, turnGood, viewOf, withToken, writtenOf};
 use crate::places::Places;
+use crate::places::no_places;
 use crate::transfer::Transfer;
 use crate::transfer::bare_at;
 use crate::transfer::requested;
@@ -43,6 +44,29 @@ pub struct View {
     pub stage: u8,
     pub failed: u32,
     pub moved: u64,
+}
+
+// Nothing is written.
+pub fn no_chain() -> Chain
+    ensures { λ r. ⌜ r ≡ noChain ⌝ }
+{
+    Chain {
+        places: no_places(),
+        base: 0,
+        deed: Deed::Leave,
+    }
+}
+
+// Nothing is asked.
+pub fn no_ask() -> Ask
+    ensures { λ r. ⌜ r ≡ noAsk ⌝ }
+{
+    Ask {
+        places: no_places(),
+        kind: EndpointType::Control,
+        length: 0,
+        limit: 0,
+    }
 }
 
 pub fn nothing_seen() -> View

@@ -1,5 +1,6 @@
 // A request's places, and the row of owners that they are found in.
 ghost use mathlib.Core.Path.{_≡_};
+ghost use mathlib.Core.List.{[], _∷_};
 ghost use Prim.Native.Nat.{_≤_, _<_};
 ghost use lib.ListN.{length, getD};
 ghost use Rattle.pool.specs.Places.{placesFrom, markOf, clearOf, upFrom, packed, listOf};
@@ -70,6 +71,23 @@ pub fn clear(owner: &mut [u8], x: u8)
             i += 1;
         }
     }
+}
+
+pub fn no_places() -> Places
+    ensures { λ r. ⌜ r ≡ packed [] ⌝ }
+{
+    Places {
+        count: 0,
+        at: [0; 256],
+    }
+}
+
+pub fn one_place(place: u8) -> Places
+    ensures { λ r. ⌜ r ≡ packed (place ∷ []) ⌝ }
+{
+    let mut at: [u8; 256] = [0; 256];
+    at[0] = place;
+    Places { count: 1, at }
 }
 
 // Every place of a pool of n.
