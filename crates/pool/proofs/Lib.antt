@@ -12,3 +12,4 @@ pub mod GoodLaws
 pub mod Element
 pub mod Again
 pub mod Calls
+pub mod Uses
