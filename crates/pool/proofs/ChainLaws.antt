@@ -1,0 +1,169 @@
+-- What a chain does to the pool: records that it does not list stay, each listed one is written from what was there, and EHCI's walk
+-- meets a request's places in order and ends there.
+use Prim.Native.Nat.{ℕ, zero, suc, _+_, _-_, _*_, _/_, _%_, _≤_, _<_, _^_}
+use mathlib.Core.Path.{_≡_, refl, sym, ap, subst, _∙_}
+use mathlib.Core.Bool.{Bool, true, false}
+use mathlib.Core.List.{List, [], _∷_, map}
+use native.Mathlib.Omega.{arith}
+use borrow.Author.Tests.{ne-eqb}
+use lib.Dec.{eqb}
+use lib.ListN.{drop, getD, length, replicate, set, getD-replicate, length-replicate, length-set}
+use lib.Seq.{ext-getD, getD-set-other, getD-set-same}
+use Rattle.descriptor.proofs.HeadFields.{next-reads}
+use Rattle.descriptor.specs.declared.qtd.NextQtd.the-variants.{At}
+use Rattle.descriptor.specs.declared.qtd.QueueTransferDescriptor.{QueueTransferDescriptor as Record}
+use Rattle.descriptor.specs.Descriptors.{nextWord, withNext}
+use Rattle.descriptor.specs.EhciQtd.{qtdAddress, terminate}
+use Rattle.pool.specs.declared.chain.Deed.{Deed}
+use Rattle.pool.specs.declared.chain.Deed.the-variants as Deeds
+use Rattle.pool.specs.declared.transfer.Transfer.{Transfer}
+use Rattle.pool.specs.EhciChain.{follow, stopIf}
+use Rattle.pool.specs.Places.{Ascending, Each, Within, packed, upFrom}
+use Rattle.pool.specs.Transfers.{addressOf, nextOf, recordAt}
+use Rattle.pool.specs.Chains.{blank, fillOf, filledFrom, metFrom, nextAt, noChain, placeOf, withToken, writtenOf}
+use Rattle.pool.proofs.Each.{each-at, each-map}
+use Rattle.pool.proofs.PlaceLaws.{list-packed, up-ascends, up-length, up-within}
+
+pub filled-length : (deed : Deed) (base k : ℕ) (ps : List ℕ) (rs : List Record) → length (filledFrom deed base k ps rs) ≡ length rs
+unfolding filledFrom
+filled-length deed base k [] rs = refl
+filled-length deed base k (p ∷ ps) rs =
+    let w : Record = writtenOf deed base k ps (getD rs p blank) in
+    filled-length deed base (suc k) ps (set rs p w) ∙ length-set rs p w
+
+-- a record that is not listed stays
+pub filled-others : (deed : Deed) (base k : ℕ) (ps : List ℕ) (rs : List Record) (q : ℕ) → Each (λ p. q ≡ p → ⊥) ps
+    → getD (filledFrom deed base k ps rs) q blank ≡ getD rs q blank
+unfolding filledFrom
+filled-others deed base k [] rs q e = refl
+filled-others deed base k (p ∷ ps) rs q e =
+    let w : Record = writtenOf deed base k ps (getD rs p blank) in
+    filled-others deed base (suc k) ps (set rs p w) q (e .1) ∙ getD-set-other rs p q w blank (e .0)
+
+above : (p : ℕ) (ps : List ℕ) → Each (λ q. p < q) ps → Each (λ q. p ≡ q → ⊥) ps
+above p ps e = each-map (λ (q : ℕ). p < q) (λ (q : ℕ). p ≡ q → ⊥) (λ q l z. omega (arith, l, z)) ps e
+
+set-within : (n : ℕ) (rs : List Record) (p : ℕ) (w : Record) (ps : List ℕ) → Within (length rs) ps → Within (length (set rs p w)) ps
+set-within n rs p w ps e = subst (λ (m : ℕ). Within m ps) (sym (length-set rs p w)) e
+
+-- a listed record is written from what was there
+pub filled-listed : (deed : Deed) (base k : ℕ) (ps : List ℕ) (rs : List Record) (j : ℕ) → Ascending ps → Within (length rs) ps → j < length ps
+    → getD (filledFrom deed base k ps rs) (getD ps j 0) blank ≡ writtenOf deed base (k + j) (drop (suc j) ps) (getD rs (getD ps j 0) blank)
+unfolding filledFrom
+filled-listed deed base k [] rs j up e h = absurd (omega (arith, h))
+filled-listed deed base k (p ∷ ps) rs zero up e h =
+    let w : Record = writtenOf deed base k ps (getD rs p blank) in
+    let none : k ≡ k + 0 = omega arith in
+    filled-others deed base (suc k) ps (set rs p w) p (above p ps (up .0)) ∙ getD-set-same rs p w blank (e .0)
+    ∙ ap (λ (m : ℕ). writtenOf deed base m ps (getD rs p blank)) none
+filled-listed deed base k (p ∷ ps) rs (suc j) up e h =
+    let w : Record = writtenOf deed base k ps (getD rs p blank) in
+    let q : ℕ = getD ps j 0 in
+    let l : j < length ps = omega (arith, h) in
+    let apart : q ≡ p → ⊥ = λ z. omega (arith, z, each-at (λ (r : ℕ). p < r) ps j (up .0) l) in
+    let one : suc k + j ≡ k + suc j = omega arith in
+    filled-listed deed base (suc k) ps (set rs p w) j (up .1) (set-within (length rs) rs p w ps (e .1)) l
+    ∙ ap (λ (r : Record). writtenOf deed base (suc k + j) (drop (suc j) ps) r) (getD-set-other rs p q w blank apart)
+    ∙ ap (λ (m : ℕ). writtenOf deed base m (drop (suc j) ps) (getD rs q blank)) one
+
+-- ---- the chain read back
+
+-- each record's next word leads to the record after it
+abbrev Linked : ℕ → List Record → List ℕ → Type 0
+Linked base rs [] = Unit
+Linked base rs (p ∷ ps) = (getD rs p blank .next ≡ nextWord (nextOf base ps)) × Linked base rs ps
+
+next-word : (t : Transfer) (k : ℕ) (rest : List ℕ) (base : ℕ) → recordAt t k rest base .next ≡ nextWord (nextOf base rest)
+unfolding recordAt withNext
+next-word t k rest base = refl
+
+filled-linked : (t : Transfer) (base k : ℕ) (ps : List ℕ) (rs : List Record) → Ascending ps → Within (length rs) ps
+    → Linked base (filledFrom (Deeds.Transfer t) base k ps rs) ps
+unfolding filledFrom
+filled-linked t base k [] rs up e = tt
+filled-linked t base k (p ∷ ps) rs up e =
+    let w : Record = recordAt t k ps base in (
+      ap
+          (λ (r : Record). r .next)
+          (filled-others (Deeds.Transfer t) base (suc k) ps (set rs p w) p (above p ps (up .0)) ∙ getD-set-same rs p w blank (e .0))
+          ∙ next-word t k ps base,
+      filled-linked t base (suc k) ps (set rs p w) (up .1) (set-within (length rs) rs p w ps (e .1)),
+    )
+
+place-back : (base p : ℕ) → placeOf base (addressOf base p) ≡ p
+place-back base p = omega arith
+
+step : (next : ℕ → ℕ) (m w a : ℕ) → terminate w ≡ 0 → qtdAddress w ≡ a → follow next (suc m) w ≡ a ∷ follow next m (next a)
+unfolding follow
+step next m w a e f =
+    ap (λ (z : ℕ). stopIf (eqb z 1) (qtdAddress w ∷ follow next m (next (qtdAddress w)))) e ∙ ap (λ (z : ℕ). z ∷ follow next m (next z)) f
+
+met-linked : (base n : ℕ) (rs : List Record) (ps : List ℕ) (m : ℕ) → base % 64 ≡ 0 → base + 64 * n ≤ 2 ^ 32 → Within n ps → Linked base rs ps → length ps ≤ m
+    → metFrom base rs m (nextWord (nextOf base ps)) ≡ ps
+unfolding metFrom follow
+met-linked base n rs [] zero a h w l f = refl
+met-linked base n rs [] (suc m) a h w l f = refl
+met-linked base n rs (p ∷ ps) zero a h w l f = absurd (omega (arith, f))
+met-linked base n rs (p ∷ ps) (suc m) a h w l f =
+    let low : addressOf base p < 2 ^ 32 = omega (arith, h, w .0) in
+    let even : addressOf base p % 32 ≡ 0 = omega (arith, a) in
+    let reads = next-reads (addressOf base p) low even in
+    let on : nextAt base rs (addressOf base p) ≡ nextWord (nextOf base ps) = ap (λ (q : ℕ). getD rs q blank .next) (place-back base p) ∙ l .0 in
+    let rest : metFrom base rs m (nextWord (nextOf base ps)) ≡ ps = met-linked base n rs ps m a h (w .1) (l .1) (omega (arith, f)) in
+    ap (map (placeOf base)) (step (nextAt base rs) m (nextWord (nextOf base (p ∷ ps))) (addressOf base p) (reads .0) (reads .1))
+    ∙ ap (λ (q : ℕ). q ∷ map (placeOf base) (follow (nextAt base rs) m (nextAt base rs (addressOf base p)))) (place-back base p)
+    ∙ ap (λ (v : ℕ). p ∷ map (placeOf base) (follow (nextAt base rs) m v)) on
+    ∙ ap (λ (l : List ℕ). p ∷ l) rest
+
+-- from the first place on, EHCI's walk meets exactly a request's places, in order, however far it may go
+pub met-chain : (t : Transfer) (base m : ℕ) (ps : List ℕ) (rs : List Record) → base % 64 ≡ 0 → base + 64 * length rs ≤ 2 ^ 32 → Ascending ps → Within (length rs) ps
+    → length ps ≤ m → metFrom base (filledFrom (Deeds.Transfer t) base 0 ps rs) m (nextWord (nextOf base ps)) ≡ ps
+met-chain t base m ps rs a h up e f = met-linked base (length rs) (filledFrom (Deeds.Transfer t) base 0 ps rs) ps m a h e (filled-linked t base 0 ps rs up e) f
+
+-- ---- small chains
+
+pub fill-none : (base : ℕ) (deed : Deed) (rs : List Record) → fillOf (record { places = packed []; base = base; deed = deed }) rs ≡ rs
+unfolding fillOf filledFrom
+fill-none base deed rs = rw (list-packed [])
+
+pub fill-no-chain : (rs : List Record) → fillOf noChain rs ≡ rs
+unfolding noChain
+fill-no-chain rs = fill-none 0 Deeds.Leave rs
+
+pub fill-token : (base p w : ℕ) (rs : List Record) → fillOf (record { places = packed (p ∷ []); base = base; deed = Deeds.Token w }) rs ≡ set rs p (withToken (getD rs p blank) w)
+unfolding fillOf filledFrom
+fill-token base p w rs = rw (list-packed (p ∷ []))
+
+up-at : (i n k : ℕ) → k < n → getD (upFrom i n) k 0 ≡ i + k
+unfolding upFrom
+up-at i zero k h = absurd (omega (arith, h))
+up-at i (suc n) zero h = omega arith
+up-at i (suc n) (suc k) h = up-at (suc i) n k (omega (arith, h)) ∙ along i k
+  where
+    along : (i k : ℕ) → suc i + k ≡ i + suc k
+    along i k = omega arith
+
+cleared : (base : ℕ) (rs : List Record) (i : ℕ) → i < length rs → getD (filledFrom Deeds.Clear base 0 (upFrom 0 (length rs)) rs) i blank ≡ blank
+cleared base rs i h =
+    let at : getD (upFrom 0 (length rs)) i 0 ≡ i = up-at 0 (length rs) i h ∙ along i in
+    let l : i < length (upFrom 0 (length rs)) = omega (arith, h, up-length 0 (length rs)) in
+    ap (λ (j : ℕ). getD (filledFrom Deeds.Clear base 0 (upFrom 0 (length rs)) rs) j blank) (sym at)
+    ∙ filled-listed Deeds.Clear base 0 (upFrom 0 (length rs)) rs i (up-ascends 0 (length rs)) (up-within (length rs)) l
+  where
+    along : (i : ℕ) → 0 + i ≡ i
+    along i = omega arith
+
+-- clearing every place leaves thirteen zero words in each record
+pub fill-clear : (base : ℕ) (rs : List Record) → fillOf (record { places = packed (upFrom 0 (length rs)); base = base; deed = Deeds.Clear }) rs ≡ replicate (length rs) blank
+unfolding fillOf
+fill-clear base rs =
+    rw
+    (list-packed (upFrom 0 (length rs)))
+    (ext-getD
+    blank
+    (filledFrom Deeds.Clear base 0 (upFrom 0 (length rs)) rs)
+    (replicate (length rs) blank)
+    (filled-length Deeds.Clear base 0 (upFrom 0 (length rs)) rs ∙ sym (length-replicate (length rs) blank))
+    (λ i h.
+    let l : i < length rs = subst (λ (m : ℕ). i < m) (filled-length Deeds.Clear base 0 (upFrom 0 (length rs)) rs) h in
+    cleared base rs i l ∙ sym (getD-replicate (length rs) i blank blank l)))

@@ -1,0 +1,78 @@
+-- The definitions run: 01's job sheet, word for word, and what tokens say.
+use Prim.Native.Nat.{ℕ}
+use mathlib.Core.Path.{_≡_, refl}
+use mathlib.Core.List.{List, [], _∷_}
+use lib.ListN.{replicate}
+use Rattle.token.specs.declared.request.Direction.the-variants.{In, Out}
+use Rattle.token.specs.declared.request.EndpointType.the-variants.{Bulk, Control}
+use Rattle.token.specs.Chunks.{chunkCount}
+use Rattle.token.specs.Plans.{controlPlan}
+use Rattle.token.specs.Tokens.{tokenOf}
+use Rattle.descriptor.specs.declared.qtd.QueueTransferDescriptor.{QueueTransferDescriptor as Record}
+use Rattle.descriptor.specs.Descriptors.{newQtd, withNext}
+use Rattle.descriptor.specs.Slots.{pageSlots, zeroSlots}
+use Rattle.pool.specs.declared.chain.Deed.the-variants as Deeds
+use Rattle.pool.specs.declared.chain.View.{View}
+use Rattle.pool.specs.declared.transfer.Transfer.{Transfer}
+use Rattle.pool.specs.EhciChain.{follow}
+use Rattle.pool.specs.Places.{clearOf, markOf, placesFrom}
+use Rattle.pool.specs.Transfers.{bareAt, chunkQtd, recordAt, requestedAt, stageAt}
+use Rattle.pool.specs.Chains.{Seen, blank, filledFrom, firstError, lengthOf, metFrom, seenFrom, stageOf, viewOf}
+
+-- In, 18 bytes at 10000FFF; pool at 100000, setup packets at 400000
+abbrev sheet-request : Transfer
+sheet-request = record { kind = Control; direction = In; address = 268439551; length = 18; limit = 16384; setup = 4194304 }
+
+abbrev sheet-records : List Record
+sheet-records =
+    record { next = 1048640; alternate = 1; token = 528000; pages = 4194304 ∷ 0 ∷ 0 ∷ 0 ∷ 0 ∷ []; upper = zeroSlots }
+    ∷ record { next = 1048704; alternate = 1; token = 2148666752; pages = 268439551 ∷ 268439552 ∷ 0 ∷ 0 ∷ 0 ∷ []; upper = zeroSlots }
+    ∷ record { next = 1; alternate = 1; token = 2147519616; pages = 0 ∷ 0 ∷ 0 ∷ 0 ∷ 0 ∷ []; upper = zeroSlots }
+    ∷ []
+
+sheet : filledFrom (Deeds.Transfer sheet-request) 1048576 0 (0 ∷ 1 ∷ 2 ∷ []) (replicate 3 blank) ≡ sheet-records
+unfolding filledFrom recordAt bareAt stageAt controlPlan tokenOf newQtd withNext pageSlots
+sheet = refl
+
+sheet-chain : metFrom 1048576 sheet-records 256 1048576 ≡ 0 ∷ 1 ∷ 2 ∷ []
+unfolding metFrom follow
+sheet-chain = refl
+
+-- bulk In, 16385 bytes in chunks of 16384: the tokens of document 01, the second one for one byte
+abbrev two-chunks : Transfer
+two-chunks = record { kind = Bulk; direction = In; address = 268435456; length = 16385; limit = 16384; setup = 0 }
+
+tokens : recordAt two-chunks 0 (7 ∷ []) 0 .token ≡ 1073745280
+unfolding recordAt bareAt chunkQtd tokenOf newQtd withNext
+tokens = refl
+
+last-token : recordAt two-chunks 1 [] 0 .token ≡ 101760
+unfolding recordAt bareAt chunkQtd tokenOf newQtd withNext
+last-token = refl
+
+-- two of five places are taken, the lowest, and freed again
+taken : markOf (3 ∷ 0 ∷ 3 ∷ 0 ∷ 0 ∷ []) 2 5 ≡ 3 ∷ 5 ∷ 3 ∷ 5 ∷ 0 ∷ []
+unfolding markOf
+taken = refl
+
+found : placesFrom 0 (3 ∷ 5 ∷ 3 ∷ 5 ∷ 0 ∷ []) 5 256 ≡ 1 ∷ 3 ∷ []
+unfolding placesFrom
+found = refl
+
+freed : clearOf 5 (3 ∷ 5 ∷ 3 ∷ 5 ∷ 0 ∷ []) ≡ 3 ∷ 0 ∷ 3 ∷ 0 ∷ 0 ∷ []
+unfolding clearOf
+freed = refl
+
+-- a short second chunk, of 16384 and 100 bytes: 60 are left
+short : viewOf (record { requested = 16384; token = 3328 } ∷ record { requested = 100; token = 3968256 } ∷ []) ≡ record { stage = 0; failed = 0; moved = 16424 }
+unfolding viewOf stageOf firstError lengthOf
+short = refl
+
+-- halted before an active one; an active one that errs
+halted : viewOf (record { requested = 100; token = 2624832 } ∷ record { requested = 100; token = 6589824 } ∷ []) ≡ record { stage = 1; failed = 2624832; moved = 60 }
+unfolding viewOf stageOf firstError lengthOf
+halted = refl
+
+active-first : stageOf (record { requested = 100; token = 6557120 } ∷ []) ≡ 2
+unfolding stageOf
+active-first = refl

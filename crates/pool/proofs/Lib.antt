@@ -1,0 +1,15 @@
+pub mod Each
+pub mod Walk
+pub mod PlaceCases
+pub mod PlaceLaws
+pub mod Known
+pub mod TransferCases
+pub mod ChainCases
+pub mod Turns
+pub mod Examples
+pub mod ChainLaws
+pub mod GoodLaws
+pub mod Element
+pub mod Again
+pub mod Calls
+pub mod Uses

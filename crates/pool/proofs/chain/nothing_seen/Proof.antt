@@ -1,0 +1,12 @@
+use borrow.Author.Needs.{needs}
+use Rattle.pool.proofs.ChainCases.{seen-none}
+use Rattle.pool.proofs.chain.nothing_seen.Statement.{statement}
+use Rattle.pool.proofs.chain.nothing_seen.Tie as tie
+use Rattle.pool.proofs.chain.nothing_seen.Reads as reads
+use Rattle.pool.proofs.chain.nothing_seen.Lts as lts
+
+returns : tie.Need-returns
+returns c = seen-none
+
+pub nothing-seen-spec : {M : Type 1} → statement M
+nothing-seen-spec = tie.close (tie.spec returns)

@@ -1,0 +1,164 @@
+-- What a request's descriptors say (`viewOf`), and what is written to the pool (`fillOf`).
+use Prim.Native.Nat.{ℕ, zero, suc, _+_, _-_, _*_, _/_, _≤_, _<_, _^_}
+use mathlib.Core.Bool.{Bool, true, false, not}
+use mathlib.Core.List.{List, [], _∷_, map}
+use lib.Dec.{eqb}
+use lib.ListN.{getD, set}
+use Rattle.token.specs.declared.request.EndpointType.{EndpointType}
+use Rattle.token.specs.declared.request.EndpointType.the-variants.{Control, Isochronous, Bulk, Interrupt}
+use Rattle.token.specs.EhciQtd.{active, errors, totalBytes}
+use Rattle.descriptor.specs.declared.qtd.QueueTransferDescriptor.{QueueTransferDescriptor}
+use Rattle.descriptor.specs.Slots.{zeroSlots}
+use Rattle.pool.specs.declared.chain.Ask.{Ask}
+use Rattle.pool.specs.declared.chain.Chain.{Chain}
+use Rattle.pool.specs.declared.chain.Deed.{Deed}
+use Rattle.pool.specs.declared.chain.Deed.the-variants as Deeds
+use Rattle.pool.specs.declared.chain.View.{View}
+use Rattle.pool.specs.declared.transfer.Transfer.{Transfer}
+use Rattle.pool.specs.EhciChain.{follow}
+use Rattle.pool.specs.Places.{Within, listOf, packed}
+use Rattle.pool.specs.Transfers.{addressOf, requestedAt, recordAt, startGood}
+
+-- the record of thirteen zero words
+abbrev pub blank : QueueTransferDescriptor
+blank = record { next = 0; alternate = 0; token = 0; pages = zeroSlots; upper = zeroSlots }
+
+-- ---- what is written
+
+-- only the token changes
+abbrev pub withToken : QueueTransferDescriptor → ℕ → QueueTransferDescriptor
+withToken here w =
+    record { next = here .next; alternate = here .alternate; token = w; pages = here .pages; upper = here .upper }
+
+-- the k-th of a chain's records, with these places to come
+abbrev pub writtenOf : Deed → ℕ → ℕ → List ℕ → QueueTransferDescriptor → QueueTransferDescriptor
+writtenOf Deeds.Leave base k rest here = here
+writtenOf Deeds.Clear base k rest here = blank
+writtenOf (Deeds.Transfer t) base k rest here = recordAt t k rest base
+writtenOf (Deeds.Token w) base k rest here = withToken here w
+
+unfoldable pub filledFrom : Deed → ℕ → ℕ → List ℕ → List QueueTransferDescriptor → List QueueTransferDescriptor
+filledFrom deed base k [] rs = rs
+filledFrom deed base k (p ∷ ps) rs =
+    filledFrom deed base (suc k) ps (set rs p (writtenOf deed base k ps (getD rs p blank)))
+
+unfoldable pub fillOf : Chain → List QueueTransferDescriptor → List QueueTransferDescriptor
+fillOf c rs = filledFrom (c .deed) (c .base) 0 (listOf (c .places)) rs
+
+-- nothing is written
+unfoldable pub noChain : Chain
+noChain = record { places = packed []; base = 0; deed = Deeds.Leave }
+
+-- ---- what the controller meets
+
+abbrev pub placeOf : ℕ → ℕ → ℕ
+placeOf base address = (address - base) / 64
+
+abbrev pub nextAt : ℕ → List QueueTransferDescriptor → ℕ → ℕ
+nextAt base rs address = getD rs (placeOf base address) blank .next
+
+-- the places met from a next pointer on, at most so many
+unfoldable pub metFrom : ℕ → List QueueTransferDescriptor → ℕ → ℕ → List ℕ
+metFrom base rs m w = map (placeOf base) (follow (nextAt base rs) m w)
+
+-- ---- what is seen
+
+pub record Seen : Type 0 where
+  pub requested : ℕ
+  pub token : ℕ
+
+-- the descriptors at some places, in order
+unfoldable pub seenFrom : EndpointType → ℕ → ℕ → ℕ → List ℕ → List QueueTransferDescriptor → List Seen
+seenFrom kind length limit k [] rs = []
+seenFrom kind length limit k (p ∷ ps) rs =
+    record { requested = requestedAt kind length limit k; token = getD rs p blank .token }
+    ∷ seenFrom kind length limit (suc k) ps rs
+
+-- nothing is asked
+unfoldable pub noAsk : Ask
+noAsk = record { places = packed []; kind = Control; length = 0; limit = 0 }
+
+abbrev pub isActive : ℕ → Bool
+isActive w = not (eqb (active w) 0)
+
+abbrev pub isErring : ℕ → Bool
+isErring w = not (eqb (errors w) 0)
+
+abbrev pub numberIf : Bool → ℕ → ℕ → ℕ
+numberIf true a b = a
+numberIf false a b = b
+
+-- 0: every descriptor is inactive, none erring; 1: an error comes before any active one; 2: an active one comes first
+unfoldable pub stageOf : List Seen → ℕ
+stageOf [] = 0
+stageOf (s ∷ ss) = numberIf (isActive (s .token)) 2 (numberIf (isErring (s .token)) 1 (stageOf ss))
+
+-- the first erring token, 0 where none is
+unfoldable pub firstError : List Seen → ℕ
+firstError [] = 0
+firstError (s ∷ ss) = numberIf (isErring (s .token)) (s .token) (firstError ss)
+
+-- the sum of max(0, requested − bytes left)
+unfoldable pub lengthOf : List Seen → ℕ
+lengthOf [] = 0
+lengthOf (s ∷ ss) = (s .requested - totalBytes (s .token)) + lengthOf ss
+
+unfoldable pub viewOf : List Seen → View
+viewOf ss = record { stage = stageOf ss; failed = firstError ss; moved = lengthOf ss }
+
+abbrev pub orElse : ℕ → ℕ → ℕ
+orElse a b = numberIf (eqb a 0) b a
+
+-- what is seen first, then more
+abbrev pub joined : View → View → View
+joined u v =
+    record { stage = orElse (u .stage) (v .stage); failed = orElse (u .failed) (v .failed); moved = u .moved + v .moved }
+
+abbrev pub seeOf : View → ℕ → ℕ → View
+seeOf u requested token = joined u (viewOf (record { requested = requested; token = token } ∷ []))
+
+-- ---- what is asked of a caller
+
+pub record AskGood (n : ℕ) (a : Ask) : Type 0 where
+  pub few : a .places .count ≤ 256
+  pub within : Within n (listOf (a .places))
+  pub short : a .length < 2 ^ 32
+  pub limited : a .limit ≤ 16384
+
+abbrev pub askGood : ℕ → Ask → Type 0
+askGood n a = AskGood n a
+
+-- every chunk starts inside the buffer
+abbrev pub startsGood : EndpointType → Transfer → ℕ → Type 0
+startsGood Control t count = Unit
+startsGood Isochronous t count = (count - 1) * t .limit ≤ t .length
+startsGood Bulk t count = (count - 1) * t .limit ≤ t .length
+startsGood Interrupt t count = (count - 1) * t .limit ≤ t .length
+
+-- n records from base on, a buffer and a setup packet that end at or below 2^32
+abbrev pub transferGood : Transfer → ℕ → ℕ → ℕ → Type 0
+transferGood t base n count =
+    (base + 64 * n ≤ 2 ^ 32) × (t .length ≤ 2 ^ 32 - t .address) × (8 ≤ 2 ^ 32 - t .setup)
+    × startsGood (t .kind) t count
+
+abbrev pub deedGood : Deed → ℕ → ℕ → ℕ → Type 0
+deedGood Deeds.Leave base n count = Unit
+deedGood Deeds.Clear base n count = Unit
+deedGood (Deeds.Transfer t) base n count = transferGood t base n count
+deedGood (Deeds.Token w) base n count = Unit
+
+-- what one turn asks: besides, the place to come, if any, has an address
+abbrev pub turnGood : Deed → ℕ → ℕ → ℕ → Type 0
+turnGood Deeds.Leave base k place = Unit
+turnGood Deeds.Clear base k place = Unit
+turnGood (Deeds.Transfer t) base k place =
+    (addressOf base place < 2 ^ 32) × (t .length ≤ 2 ^ 32 - t .address) × (8 ≤ 2 ^ 32 - t .setup) × startGood (t .kind) t k
+turnGood (Deeds.Token w) base k place = Unit
+
+pub record ChainGood (n : ℕ) (c : Chain) : Type 0 where
+  pub few : c .places .count ≤ 256
+  pub within : Within n (listOf (c .places))
+  pub deed : deedGood (c .deed) (c .base) n (c .places .count)
+
+abbrev pub chainGood : ℕ → Chain → Type 0
+chainGood n c = ChainGood n c

@@ -1,0 +1,4 @@
+pub mod EhciChain
+pub mod Places
+pub mod Transfers
+pub mod Chains

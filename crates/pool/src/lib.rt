@@ -1,0 +1,4 @@
+pub mod chain;
+pub mod places;
+pub mod row;
+pub mod transfer;

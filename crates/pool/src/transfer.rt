@@ -1,0 +1,102 @@
+// A request's k-th descriptor.
+ghost use mathlib.Core.Path.{_≡_};
+ghost use Prim.Native.Nat.{_+_, _-_, _*_, _≤_, _^_};
+ghost use Rattle.token.specs.Chunks.{chunkAt};
+ghost use Rattle.pool.specs.Transfers.{requestedAt, stageAt, chunkQtd, bareAt, startGood};
+use descriptor::qtd::QueueTransferDescriptor;
+use token::plan::DataTd;
+use token::plan::build_control_td_plan;
+use token::plan::chunk_token;
+use token::qtd::least;
+use token::request::Direction;
+use token::request::EndpointType;
+
+// `setup` is the address of the slot's setup packet.
+pub struct Transfer {
+    pub kind: EndpointType,
+    pub direction: Direction,
+    pub address: u64,
+    pub length: u64,
+    pub limit: u64,
+    pub setup: u64,
+}
+
+fn chunk_at(k: u64, length: u64, limit: u64) -> u64
+    requires { ⌜ k ≤ 256 ⌝ }
+    requires { ⌜ limit ≤ 16384 ⌝ }
+    ensures { λ r. ⌜ r ≡ chunkAt k length limit ⌝ }
+{
+    let start = k * limit;
+    if length < start {
+        return 0;
+    }
+    least(limit, length - start)
+}
+
+// The bytes of the buffer that descriptor k is for.
+pub fn requested(kind: EndpointType, length: u64, limit: u64, k: u64) -> u64
+    requires { ⌜ k ≤ 256 ⌝ }
+    requires { ⌜ limit ≤ 16384 ⌝ }
+    ensures { λ r. ⌜ r ≡ requestedAt kind length limit k ⌝ }
+{
+    match kind {
+        EndpointType::Control => { if k == 1 { length } else { 0 } }
+        EndpointType::Isochronous => chunk_at(k, length, limit),
+        EndpointType::Bulk => chunk_at(k, length, limit),
+        EndpointType::Interrupt => chunk_at(k, length, limit),
+    }
+}
+
+// Setup, data if there is any, status.
+fn stage_at(t: Transfer, k: u64) -> QueueTransferDescriptor
+    requires { ⌜ t .length ≤ 2 ^ 32 - t .address ⌝ }
+    requires { ⌜ 8 ≤ 2 ^ 32 - t .setup ⌝ }
+    ensures { λ r. ⌜ r ≡ stageAt t k ⌝ }
+{
+    let direction = t.direction;
+    let plan = build_control_td_plan(direction, t.length);
+    if k == 0 {
+        return QueueTransferDescriptor::new(plan.setup, t.setup, 8);
+    }
+    let data = plan.data;
+    let status = plan.status;
+    match data {
+        DataTd::Absent => QueueTransferDescriptor::new(status, 0, 0),
+        DataTd::Present(token) => {
+            if k == 1 {
+                QueueTransferDescriptor::new(token, t.address, t.length)
+            } else {
+                QueueTransferDescriptor::new(status, 0, 0)
+            }
+        }
+    }
+}
+
+// A chunk that starts inside the buffer.
+fn chunk_qtd(t: Transfer, k: u64, last: bool) -> QueueTransferDescriptor
+    requires { ⌜ t .length ≤ 2 ^ 32 - t .address ⌝ }
+    requires { ⌜ k * t .limit ≤ t .length ⌝ }
+    ensures { λ r. ⌜ r ≡ chunkQtd t k last ⌝ }
+{
+    let start = k * t.limit;
+    let bytes = least(t.limit, t.length - start);
+    let direction = t.direction;
+    let token = chunk_token(direction, bytes, last);
+    QueueTransferDescriptor::new(token, t.address + start, bytes)
+}
+
+// The k-th descriptor, whatever follows.
+pub fn bare_at(t: Transfer, k: u64, last: bool) -> QueueTransferDescriptor
+    requires { ⌜ t .length ≤ 2 ^ 32 - t .address ⌝ }
+    requires { ⌜ 8 ≤ 2 ^ 32 - t .setup ⌝ }
+    requires { ⌜ startGood (t .kind) t k ⌝ }
+    ensures { λ r. ⌜ r ≡ bareAt t k last ⌝ }
+{
+    let kind = t.kind;
+    match kind {
+        EndpointType::Control => stage_at(t, k),
+        EndpointType::Isochronous => chunk_qtd(t, k, last),
+        EndpointType::Bulk => chunk_qtd(t, k, last),
+        EndpointType::Interrupt => chunk_qtd(t, k, last),
+    }
+}
