@@ -54,3 +54,23 @@ pub fn put_head(heads: &mut [u32], place: usize, words: [u32; 17])
 {
     put_words(heads, HEAD_WORDS * place, &words);
 }
+
+fn copy_bytes(row: &mut [u8], bytes: &[u8])
+    requires { ⌜ length (now row) ≡ length (now bytes) ⌝ }
+    ensures { λ _. ⌜ now (row .exit) ≡ now (bytes .entry) ⌝ }
+{
+    let mut i = 0;
+    while i < bytes.len() {
+        row[i] = bytes[i];
+        i += 1;
+    }
+}
+
+// Some bytes, over those from a place on.
+pub fn put_bytes(row: &mut [u8], at: usize, bytes: &[u8])
+    requires { ⌜ at + length (now bytes) ≤ length (now row) ⌝ }
+    ensures { λ _. ⌜ now (row .exit) ≡ putAt (now (row .entry)) at (now (bytes .entry)) ⌝ }
+{
+    let end = at + bytes.len();
+    copy_bytes(&mut row[at..end], bytes);
+}

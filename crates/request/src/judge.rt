@@ -1,0 +1,143 @@
+// Whether a request is accepted: the checks of document 01, in its order.
+ghost use mathlib.Core.Path.{_≡_};
+ghost use Prim.Native.Nat.{_≤_};
+ghost use Rattle.controller.specs.Endpoints.{directionNumber};
+ghost use Rattle.request.specs.Submit.{
+  isIsochronous,
+  isControl,
+  isInterrupt,
+  bufferGood,
+  controlGood,
+  rangesGood,
+  judgeOf,
+};
+use controller::answer::Answer;
+use controller::answer::Refusal;
+use controller::endpoint::kind_number;
+use controller::readers::free_count;
+use controller::readers::is_open;
+use controller::readers::uncollected;
+use settings::settings::MEMORY_END;
+use state::state::Ehci;
+use token::chunks::need;
+use token::request::Direction;
+use token::request::EndpointType;
+
+pub const CONTROL_MAX: u64 = 16384;
+
+// Six bytes.
+pub const SETUP_END: u64 = 0x1_0000_0000_0000;
+
+// A buffer is an address and a length; bytes 0 to 5 of a setup packet are one number, byte 0 lowest.
+pub struct TransferRequest {
+    pub kind: EndpointType,
+    pub direction: Direction,
+    pub setup: u64,
+    pub address: u64,
+    pub length: u64,
+}
+
+fn is_isochronous(kind: EndpointType) -> bool
+    ensures { λ r. ⌜ r ≡ isIsochronous kind ⌝ }
+{
+    match kind {
+        EndpointType::Control => false,
+        EndpointType::Isochronous => true,
+        EndpointType::Bulk => false,
+        EndpointType::Interrupt => false,
+    }
+}
+
+pub fn is_control(kind: EndpointType) -> bool
+    ensures { λ r. ⌜ r ≡ isControl kind ⌝ }
+{
+    match kind {
+        EndpointType::Control => true,
+        EndpointType::Isochronous => false,
+        EndpointType::Bulk => false,
+        EndpointType::Interrupt => false,
+    }
+}
+
+pub fn is_interrupt(kind: EndpointType) -> bool
+    ensures { λ r. ⌜ r ≡ isInterrupt kind ⌝ }
+{
+    match kind {
+        EndpointType::Control => false,
+        EndpointType::Isochronous => false,
+        EndpointType::Bulk => false,
+        EndpointType::Interrupt => true,
+    }
+}
+
+fn direction_bit(direction: Direction) -> u64
+    ensures { λ r. ⌜ r ≡ directionNumber direction ⌝ }
+{
+    match direction {
+        Direction::Out => 0,
+        Direction::In => 1,
+    }
+}
+
+fn buffer_good(address: u64, length: u64) -> bool
+    ensures { λ r. ⌜ r ≡ bufferGood address length ⌝ }
+{
+    if length == 0 {
+        return true;
+    }
+    if MEMORY_END < length {
+        return false;
+    }
+    address <= MEMORY_END - length
+}
+
+fn control_good(t: TransferRequest) -> bool
+    ensures { λ r. ⌜ r ≡ controlGood t ⌝ }
+{
+    let direction = t.direction;
+    let bit = direction_bit(direction);
+    (t.length <= CONTROL_MAX) & (t.setup / 128 % 2 == bit) & (t.setup < SETUP_END)
+}
+
+fn ranges_good(t: TransferRequest) -> bool
+    ensures { λ r. ⌜ r ≡ rangesGood t ⌝ }
+{
+    let kind = t.kind;
+    let buffer = buffer_good(t.address, t.length);
+    if is_control(kind) {
+        return buffer & control_good(t);
+    }
+    buffer
+}
+
+pub fn judge(s: Ehci, slot: u8, t: TransferRequest) -> Answer
+    requires { ⌜ 1 ≤ s .settings .limit ⌝ }
+    ensures { λ r. ⌜ r ≡ judgeOf s slot t ⌝ }
+{
+    let kind = t.kind;
+    if !is_open(s, slot) {
+        return Answer::Refused(Refusal::InvalidEndpoint);
+    }
+    let running = s.running;
+    if running == 0 {
+        return Answer::Refused(Refusal::NotReady);
+    }
+    if uncollected(s, slot) {
+        return Answer::Refused(Refusal::QueueFull);
+    }
+    if is_isochronous(kind) {
+        return Answer::Refused(Refusal::NotSupported);
+    }
+    let own = s.kinds[slot as usize];
+    if kind_number(kind) != own {
+        return Answer::Refused(Refusal::InvalidEndpoint);
+    }
+    if !ranges_good(t) {
+        return Answer::Refused(Refusal::InvalidParameter);
+    }
+    let free = free_count(s) as u64;
+    if free < need(kind, t.length, s.settings.limit) {
+        return Answer::Refused(Refusal::NoMemory);
+    }
+    Answer::Done
+}

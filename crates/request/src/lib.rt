@@ -1,0 +1,5 @@
+// A request on an endpoint: submitting it, and what the controller writes back.
+pub mod calls;
+pub mod judge;
+pub mod settle;
+pub mod writeback;

@@ -1,0 +1,136 @@
+// What an accepted request takes, links and writes.
+ghost use mathlib.Core.Path.{_≡_};
+ghost use Prim.Native.Nat.{_+_, _*_, _≤_, _<_, _^_};
+ghost use lib.ListN.{getD, length};
+ghost use Rattle.pool.specs.Transfers.{addressOf};
+ghost use Rattle.schedule.specs.Links.{links};
+ghost use Rattle.request.specs.Submit.{takenOf, afterId, idAt, transferOf, stateWith, linkedRows, setupsWith};
+use crate::judge::TransferRequest;
+use crate::judge::is_control;
+use crate::judge::is_interrupt;
+use controller::endpoint::Endpoint;
+use controller::endpoint::Pipe;
+use controller::endpoint::Request;
+use controller::endpoint::with_endpoint;
+use controller::rows::put_bytes;
+use descriptor::setup::setup_packet_bytes;
+use pool::places::Places;
+use pool::places::mark;
+use pool::places::places_of;
+use pool::transfer::Transfer;
+use schedule::links::attach_frames;
+use schedule::links::attach_ring;
+use schedule::links::start_overlay;
+use state::state::Ehci;
+use token::request::EndpointType;
+
+pub struct Taken {
+    pub places: Places,
+    pub owner: [u8; 256],
+}
+
+// The lowest free places, as many as are needed.
+pub fn take_places(owner: [u8; 256], descriptors: u64, count: u64, slot: u8) -> Taken
+    requires { ⌜ descriptors ≤ 256 ⌝ }
+    requires { ⌜ slot < 32 ⌝ }
+    ensures { λ r. ⌜ r ≡ takenOf owner descriptors count slot ⌝ }
+{
+    let mut marked = owner;
+    let end = descriptors as usize;
+    let n = count as usize;
+    let places = places_of(&marked[..end], 0, n);
+    mark(&mut marked[..end], n, slot + 1);
+    Taken {
+        places,
+        owner: marked,
+    }
+}
+
+// Where a request's chain begins.
+pub fn first_address(places: Places, base: u64) -> u32
+    requires { ⌜ base + 64 * getD (places .at) 0 0 < 2 ^ 32 ⌝ }
+    ensures { λ r. ⌜ r ≡ addressOf base (getD (places .at) 0 0) ⌝ }
+{
+    let place = places.at[0];
+    (base + 64 * (place as u64)) as u32
+}
+
+fn next_id(id: u64) -> u64
+    ensures { λ r. ⌜ r ≡ afterId id ⌝ }
+{
+    if id == 0xFFFF_FFFF_FFFF_FFFF {
+        1
+    } else {
+        id + 1
+    }
+}
+
+// The id that a slot's next request gets.
+pub fn id_at(s: Ehci, slot: u8) -> u64
+    requires { ⌜ slot < 32 ⌝ }
+    ensures { λ r. ⌜ r ≡ idAt s slot ⌝ }
+{
+    s.ids[slot as usize]
+}
+
+// What the slot's descriptors are made of.
+pub fn transfer(s: Ehci, slot: u8, t: TransferRequest) -> Transfer
+    requires { ⌜ s .settings .setups ≤ 2 ^ 32 ⌝ }
+    ensures { λ r. ⌜ r ≡ transferOf s slot t ⌝ }
+{
+    Transfer {
+        kind: t.kind,
+        direction: t.direction,
+        address: t.address,
+        length: t.length,
+        limit: s.settings.limit,
+        setup: s.settings.setups + 8 * (slot as u64),
+    }
+}
+
+// The slot has a linked request.
+pub fn linked_state(mut s: Ehci, owner: [u8; 256], slot: u8, t: TransferRequest) -> Ehci
+    requires { ⌜ slot < 32 ⌝ }
+    requires { ⌜ t .length < 2 ^ 32 ⌝ }
+    ensures { λ r. ⌜ r ≡ stateWith s owner slot t ⌝ }
+{
+    let k = slot as usize;
+    let id = s.ids[k];
+    let pipe = Pipe {
+        kind: t.kind,
+        next: next_id(id),
+    };
+    let request = Request {
+        id,
+        direction: t.direction,
+        length: t.length as u32,
+        cancelled: false,
+    };
+    s.owner = owner;
+    with_endpoint(s, k, Endpoint::Linked(pipe, request))
+}
+
+pub fn link_head(heads: &mut [u32], frames: &mut [u32], kind: EndpointType, slot: u8, link: u32, first: u32)
+    requires { ⌜ 17 * (slot + 1) + 6 < length (now heads) ⌝ }
+    requires { ⌜ 0 < length (now frames) ⌝ }
+    ensures { λ _. ⌜ links (now (heads .exit)) (now (frames .exit)) ≡ linkedRows (now (heads .entry)) (now (frames .entry)) kind slot link first ⌝ }
+{
+    start_overlay(heads, slot, first, 0);
+    if is_interrupt(kind) {
+        attach_frames(heads, frames, slot, link);
+    } else {
+        attach_ring(heads, slot, link);
+    }
+}
+
+// A control request has a setup packet.
+pub fn put_setup(setups: &mut [u8], slot: u8, t: TransferRequest)
+    requires { ⌜ 8 * slot + 8 ≤ length (now setups) ⌝ }
+    ensures { λ _. ⌜ now (setups .exit) ≡ setupsWith (now (setups .entry)) slot t ⌝ }
+{
+    let kind = t.kind;
+    if is_control(kind) {
+        let packet = setup_packet_bytes(t.setup, t.length);
+        put_bytes(setups, 8 * (slot as usize), &packet);
+    }
+}
