@@ -36,7 +36,7 @@ use Rattle.controller.specs.declared.endpoint.Endpoint.the-variants.{Linked}
 use Rattle.controller.specs.declared.lent.Lengths.{Lengths}
 use Rattle.controller.specs.declared.lent.Readings.{Readings}
 use Rattle.schedule.specs.Bell.{commandWord}
-use Rattle.schedule.specs.Links.{Links, attachedFrames, attachedRing, links, slotLink, startedOverlay}
+use Rattle.schedule.specs.Links.{Links, attachedFrames, attachedRing, headAddress, links, slotLink, startedOverlay}
 use Rattle.request.specs.declared.calls.Submission.{Submission}
 use Rattle.request.specs.declared.calls.Submission.the-variants.{Accepted, Refused}
 use Rattle.request.specs.declared.calls.Submitted.{Submitted}
@@ -120,11 +120,15 @@ takenOf owner D n slot =
       owner = markOf (take D owner) n (slot + 1) ++ drop D owner;
     }
 
+unfoldable pub takenFor : Ehci → ℕ → TransferRequest → Taken
+takenFor s slot t = takenOf (s .owner) (s .settings .descriptors) (needOfRequest s t) slot
+
 abbrev pub placesFor : Ehci → TransferRequest → List ℕ
 placesFor s t = placesFrom 0 (take (s .settings .descriptors) (s .owner)) 0 (needOfRequest s t)
 
-abbrev pub firstAddress : Ehci → TransferRequest → ℕ
-firstAddress s t = addressOf (s .settings .pool) (getD (placesFor s t) 0 0)
+-- where its chain begins
+abbrev pub firstIn : Ehci → Taken → ℕ
+firstIn s taken = addressOf (s .settings .pool) (getD (taken .places .at) 0 0)
 
 abbrev pub transferOf : Ehci → ℕ → TransferRequest → Transfer
 transferOf s slot t =
@@ -137,10 +141,10 @@ transferOf s slot t =
       setup = s .settings .setups + 8 * slot;
     }
 
-abbrev pub chainFor : Ehci → ℕ → TransferRequest → Chain
-chainFor s slot t =
+abbrev pub chainFor : Ehci → ℕ → TransferRequest → Taken → Chain
+chainFor s slot t taken =
     record {
-      places = takenOf (s .owner) (s .settings .descriptors) (needOfRequest s t) slot .places;
+      places = taken .places;
       base = s .settings .pool;
       deed = TransferDeed (transferOf s slot t);
     }
@@ -201,13 +205,13 @@ rowsAfter r l setups = submitted r (l .heads) (l .frames) setups
 unfoldable pub refusedSubmit : Ehci → Refusal → Submitted
 refusedSubmit s r = record { answer = Refused r; state = s; writes = noWrites; chain = noChain }
 
-unfoldable pub acceptedSubmit : Ehci → Readings → ℕ → TransferRequest → Submitted
-acceptedSubmit s readings slot t =
+unfoldable pub acceptedWith : Ehci → Readings → ℕ → TransferRequest → Taken → Submitted
+acceptedWith s readings slot t taken =
     record {
       answer = Accepted (idAt s slot);
-      state = stateWith s (takenOf (s .owner) (s .settings .descriptors) (needOfRequest s t) slot .owner) slot t;
+      state = stateWith s (taken .owner) slot t;
       writes = writesWith readings;
-      chain = chainFor s slot t;
+      chain = chainFor s slot t taken;
     }
 
 -- what an accepted request can count on
@@ -218,16 +222,16 @@ pub record Settles (s : Ehci) (heads frames setups slot : ℕ) (t : TransferRequ
   pub setup-within : 8 * slot + 8 ≤ setups
   pub few : s .settings .descriptors ≤ 256
   pub limited : 1 ≤ s .settings .limit
-  pub first-below : firstAddress s t < 2 ^ 32
-  pub head-below : s .settings .heads + 128 * (slot + 1) < 2 ^ 32
+  pub first-below : firstIn s (takenFor s slot t) < 2 ^ 32
+  pub head-below : headAddress s slot < 2 ^ 32
   pub setup-below : s .settings .setups ≤ 2 ^ 32
   pub short : t .length < 2 ^ 32
 
 unfoldable pub settledSubmit : Ehci → List ℕ → List ℕ → List ℕ → Readings → ℕ → TransferRequest → Outcome
 settledSubmit s heads frames setups readings slot t =
     rowsAfter
-    (acceptedSubmit s readings slot t)
-    (linkedRows heads frames (t .kind) slot (slotLink s slot) (firstAddress s t))
+    (acceptedWith s readings slot t (takenFor s slot t))
+    (linkedRows heads frames (t .kind) slot (slotLink s slot) (firstIn s (takenFor s slot t)))
     (setupsWith setups slot t)
 
 abbrev pub lengthsOf : ℕ → List ℕ → List ℕ → List ℕ → Lengths

@@ -1,16 +1,17 @@
 // The calls of this crate: what they decide. The descriptors that they write come out as a chain.
 ghost use mathlib.Core.Path.{_≡_};
+ghost use Prim.Native.Nat.{_≤_, _<_, _^_};
 ghost use lib.ListN.{length};
-ghost use Rattle.request.specs.Submit.{refusedSubmit, submitted, settledSubmit, Settles, submitOf};
+ghost use Rattle.request.specs.Submit.{acceptedWith, refusedSubmit, submitted, settledSubmit, Settles, submitOf};
 ghost use Rattle.request.specs.Writeback.{refusedWriteback, writebackOf};
 use crate::judge::TransferRequest;
 use crate::judge::judge;
-use crate::settle::first_address;
+use crate::settle::Taken;
 use crate::settle::id_at;
-use crate::settle::link_head;
+use crate::settle::link_rows;
 use crate::settle::linked_state;
 use crate::settle::put_setup;
-use crate::settle::take_places;
+use crate::settle::take_for;
 use crate::settle::transfer;
 use crate::writeback::in_request;
 use crate::writeback::token_chain;
@@ -19,7 +20,6 @@ use controller::answer::Refusal;
 use controller::lent::Lengths;
 use controller::lent::Readings;
 use controller::lent::accepts;
-use descriptor::head::ehci_qh_link;
 use pool::chain::Chain;
 use pool::chain::Deed;
 use pool::chain::no_chain;
@@ -27,9 +27,7 @@ use register::bits::with_bits;
 use register::ehci::USBCMD;
 use register::writes::Writes;
 use schedule::bell::command_word;
-use schedule::links::head_address;
 use state::state::Ehci;
-use token::chunks::need;
 
 // Run, periodic schedule, asynchronous schedule.
 pub const USBCMD_SCHEDULES: u32 = 0x31;
@@ -50,6 +48,28 @@ pub struct WrittenBack {
     pub answer: Answer,
     pub state: Ehci,
     pub chain: Chain,
+}
+
+// What an accepted submit answers.
+fn accepted(s: Ehci, readings: Readings, slot: u8, t: TransferRequest, taken: Taken) -> Submitted
+    requires { ⌜ (slot < 32) × (s .settings .setups ≤ 2 ^ 32) × (t .length < 2 ^ 32) ⌝ }
+    ensures { λ r. ⌜ r ≡ acceptedWith s readings slot t taken ⌝ }
+{
+    let places = taken.places;
+    let owner = taken.owner;
+    let word = command_word(with_bits(readings.command, USBCMD_SCHEDULES));
+    let id = id_at(s, slot);
+    let chain = Chain {
+        places,
+        base: s.settings.pool,
+        deed: Deed::Transfer(transfer(s, slot, t)),
+    };
+    Submitted {
+        answer: Submission::Accepted(id),
+        state: linked_state(s, owner, slot, t),
+        writes: Writes::none().and_then(USBCMD, word),
+        chain,
+    }
 }
 
 fn refuse(state: Ehci, refusal: Refusal) -> Submitted
@@ -76,23 +96,10 @@ fn settle(
     ensures { λ r. ⌜ submitted r (now (heads .exit)) (now (frames .exit)) (now (setups .exit))
         ≡ settledSubmit s (now (heads .entry)) (now (frames .entry)) (now (setups .entry)) readings slot t ⌝ }
 {
-    let count = need(t.kind, t.length, s.settings.limit);
-    let taken = take_places(s.owner, s.settings.descriptors, count, slot);
-    let first = first_address(taken.places, s.settings.pool);
-    let link = ehci_qh_link(head_address(s, slot));
-    link_head(heads, frames, t.kind, slot, link, first);
+    let taken = take_for(s, slot, t);
+    link_rows(s, heads, frames, slot, t, taken);
     put_setup(setups, slot, t);
-    let word = command_word(with_bits(readings.command, USBCMD_SCHEDULES));
-    Submitted {
-        answer: Submission::Accepted(id_at(s, slot)),
-        state: linked_state(s, taken.owner, slot, t),
-        writes: Writes::none().and_then(USBCMD, word),
-        chain: Chain {
-            places: taken.places,
-            base: s.settings.pool,
-            deed: Deed::Transfer(transfer(s, slot, t)),
-        },
-    }
+    accepted(s, readings, slot, t, taken)
 }
 
 pub fn submit(

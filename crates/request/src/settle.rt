@@ -3,8 +3,8 @@ ghost use mathlib.Core.Path.{_≡_};
 ghost use Prim.Native.Nat.{_+_, _*_, _≤_, _<_, _^_};
 ghost use lib.ListN.{getD, length};
 ghost use Rattle.pool.specs.Transfers.{addressOf};
-ghost use Rattle.schedule.specs.Links.{links};
-ghost use Rattle.request.specs.Submit.{takenOf, afterId, idAt, transferOf, stateWith, linkedRows, setupsWith};
+ghost use Rattle.schedule.specs.Links.{headAddress, links, slotLink};
+ghost use Rattle.request.specs.Submit.{takenOf, takenFor, firstIn, afterId, idAt, transferOf, stateWith, linkedRows, setupsWith};
 use crate::judge::TransferRequest;
 use crate::judge::is_control;
 use crate::judge::is_interrupt;
@@ -13,6 +13,7 @@ use controller::endpoint::Pipe;
 use controller::endpoint::Request;
 use controller::endpoint::with_endpoint;
 use controller::rows::put_bytes;
+use descriptor::head::ehci_qh_link;
 use descriptor::setup::setup_packet_bytes;
 use pool::places::Places;
 use pool::places::mark;
@@ -20,8 +21,10 @@ use pool::places::places_of;
 use pool::transfer::Transfer;
 use schedule::links::attach_frames;
 use schedule::links::attach_ring;
+use schedule::links::head_address;
 use schedule::links::start_overlay;
 use state::state::Ehci;
+use token::chunks::need;
 use token::request::EndpointType;
 
 pub struct Taken {
@@ -30,7 +33,7 @@ pub struct Taken {
 }
 
 // The lowest free places, as many as are needed.
-pub fn take_places(owner: [u8; 256], descriptors: u64, count: u64, slot: u8) -> Taken
+fn take_places(owner: [u8; 256], descriptors: u64, count: u64, slot: u8) -> Taken
     requires { ⌜ descriptors ≤ 256 ⌝ }
     requires { ⌜ slot < 32 ⌝ }
     ensures { λ r. ⌜ r ≡ takenOf owner descriptors count slot ⌝ }
@@ -46,8 +49,18 @@ pub fn take_places(owner: [u8; 256], descriptors: u64, count: u64, slot: u8) -> 
     }
 }
 
+pub fn take_for(s: Ehci, slot: u8, t: TransferRequest) -> Taken
+    requires { ⌜ (slot < 32) × (s .settings .descriptors ≤ 256) × (1 ≤ s .settings .limit) ⌝ }
+    ensures { λ r. ⌜ r ≡ takenFor s slot t ⌝ }
+{
+    let kind = t.kind;
+    let owner = s.owner;
+    let count = need(kind, t.length, s.settings.limit);
+    take_places(owner, s.settings.descriptors, count, slot)
+}
+
 // Where a request's chain begins.
-pub fn first_address(places: Places, base: u64) -> u32
+fn first_address(places: Places, base: u64) -> u32
     requires { ⌜ base + 64 * getD (places .at) 0 0 < 2 ^ 32 ⌝ }
     ensures { λ r. ⌜ r ≡ addressOf base (getD (places .at) 0 0) ⌝ }
 {
@@ -78,9 +91,11 @@ pub fn transfer(s: Ehci, slot: u8, t: TransferRequest) -> Transfer
     requires { ⌜ s .settings .setups ≤ 2 ^ 32 ⌝ }
     ensures { λ r. ⌜ r ≡ transferOf s slot t ⌝ }
 {
+    let kind = t.kind;
+    let direction = t.direction;
     Transfer {
-        kind: t.kind,
-        direction: t.direction,
+        kind,
+        direction,
         address: t.address,
         length: t.length,
         limit: s.settings.limit,
@@ -96,13 +111,15 @@ pub fn linked_state(mut s: Ehci, owner: [u8; 256], slot: u8, t: TransferRequest)
 {
     let k = slot as usize;
     let id = s.ids[k];
+    let kind = t.kind;
+    let direction = t.direction;
     let pipe = Pipe {
-        kind: t.kind,
+        kind,
         next: next_id(id),
     };
     let request = Request {
         id,
-        direction: t.direction,
+        direction,
         length: t.length as u32,
         cancelled: false,
     };
@@ -110,7 +127,14 @@ pub fn linked_state(mut s: Ehci, owner: [u8; 256], slot: u8, t: TransferRequest)
     with_endpoint(s, k, Endpoint::Linked(pipe, request))
 }
 
-pub fn link_head(heads: &mut [u32], frames: &mut [u32], kind: EndpointType, slot: u8, link: u32, first: u32)
+fn link_head(
+    heads: &mut [u32],
+    frames: &mut [u32],
+    kind: EndpointType,
+    slot: u8,
+    link: u32,
+    first: u32,
+)
     requires { ⌜ 17 * (slot + 1) + 6 < length (now heads) ⌝ }
     requires { ⌜ 0 < length (now frames) ⌝ }
     ensures { λ _. ⌜ links (now (heads .exit)) (now (frames .exit)) ≡ linkedRows (now (heads .entry)) (now (frames .entry)) kind slot link first ⌝ }
@@ -121,6 +145,27 @@ pub fn link_head(heads: &mut [u32], frames: &mut [u32], kind: EndpointType, slot
     } else {
         attach_ring(heads, slot, link);
     }
+}
+
+// The head starts at the first place taken, and goes into its schedule.
+pub fn link_rows(
+    s: Ehci,
+    heads: &mut [u32],
+    frames: &mut [u32],
+    slot: u8,
+    t: TransferRequest,
+    taken: Taken,
+)
+    requires { ⌜ (17 * (slot + 1) + 17 ≤ length (now heads)) × (0 < length (now frames)) ⌝ }
+    requires { ⌜ (firstIn s taken < 2 ^ 32) × (headAddress s slot < 2 ^ 32) ⌝ }
+    ensures { λ _. ⌜ links (now (heads .exit)) (now (frames .exit))
+        ≡ linkedRows (now (heads .entry)) (now (frames .entry)) (t .kind) slot (slotLink s slot) (firstIn s taken) ⌝ }
+{
+    let kind = t.kind;
+    let places = taken.places;
+    let first = first_address(places, s.settings.pool);
+    let link = ehci_qh_link(head_address(s, slot));
+    link_head(heads, frames, kind, slot, link, first);
 }
 
 // A control request has a setup packet.

@@ -1,0 +1,180 @@
+-- What an accepted request is: each check that it passed, as a plain fact, and what follows for the rows.
+use Prim.Native.Nat.{ℕ, zero, suc, _+_, _-_, _*_, _^_, _≤_, _<_, min}
+use mathlib.Core.Path.{_≡_, refl, sym, ap, _∙_}
+use mathlib.Core.Bool.{Bool, true, false, not}
+use mathlib.Core.List.{List, [], _∷_}
+use native.Mathlib.Decide.{ℕ-discrete as decEq}
+use native.Mathlib.Nat.{mul-le-mul-right}
+use native.Mathlib.Omega.{arith}
+use borrow.Author.Tests.{eqb-true, eqb-false, leb-true, ltb-true, ltb-false, lt-ltb, not-false, eq-eqb}
+use lib.Dec.{eqb, leb, ltb}
+use lib.ListN.{drop, getD, length, length-take, take}
+use Rattle.token.specs.Chunks.{chunkCount, needOf}
+use Rattle.token.specs.declared.request.EndpointType.{EndpointType}
+use Rattle.token.specs.declared.request.EndpointType.the-variants.{Control, Isochronous, Bulk, Interrupt}
+use Rattle.token.proofs.ChunkLaws.{covers}
+use Rattle.pool.specs.Places.{Within, packed, placesFrom}
+use Rattle.pool.proofs.PlaceLaws.{places-within}
+use Rattle.settings.specs.Tests.{both, either}
+use Rattle.settings.proofs.SettingsLaws.{both-tells}
+use Rattle.slot.proofs.SlotLaws.{slot-tells}
+use Rattle.state.specs.Slots.{slotAt}
+use Rattle.state.specs.declared.state.Ehci.{Ehci}
+use Rattle.state.proofs.RangesLaws.{Ranges}
+use Rattle.controller.specs.Answers.{Verdict, orElse}
+use Rattle.controller.specs.Endpoints.{decoded, endpointAt, flagNumber, kindNumber}
+use Rattle.controller.specs.Readers.{countZero, freeCount, isOpen, isUncollected}
+use Rattle.controller.specs.declared.answer.Answer.{Answer}
+use Rattle.controller.specs.declared.answer.Answer.the-variants.{Done, Refused}
+use Rattle.controller.specs.declared.answer.Refusal.{Refusal}
+use Rattle.controller.specs.declared.lent.Lengths.{Lengths}
+use Rattle.controller.proofs.LentLaws.{Accepted}
+use Rattle.request.specs.Submit.{Settles, answerOf, bufferGood, controlGood, firstIn, isControl, isIsochronous, judgeOf, needOfRequest, placesFor, rangesGood, takenFor, takenOf}
+use Rattle.request.specs.declared.judge.TransferRequest.{TransferRequest}
+use Rattle.request.proofs.SettleCases.{packed-first}
+
+pub answers-apart : (r : Refusal) → Refused r ≡ Done → ⊥
+answers-apart r e = let z : _≡_ {A = ℕ} 0 1 = ap numbered (sym e) in omega arith
+  where
+    numbered : Answer → ℕ
+    numbered Done = 0
+    numbered (Refused q) = 1
+
+-- a check that did not answer says false
+passes : (b : Bool) (r : Refusal) (v : Verdict) → answerOf (orElse b r v) ≡ Done → (b ≡ false) × (answerOf v ≡ Done)
+passes true r v e = absurd (answers-apart r e)
+passes false r v e = (refl, e)
+
+pub record Judged (s : Ehci) (slot : ℕ) (t : TransferRequest) : Type 0 where
+  pub opened : isOpen s slot ≡ true
+  pub runs : eqb (s .running) 0 ≡ false
+  pub bare : isUncollected s slot ≡ false
+  pub supported : isIsochronous (t .kind) ≡ false
+  pub same-kind : kindNumber (t .kind) ≡ slotAt s slot .kind
+  pub in-range : rangesGood t ≡ true
+  pub room : needOfRequest s t ≤ freeCount s
+
+pub judge-tells : (s : Ehci) (slot : ℕ) (t : TransferRequest) → judgeOf s slot t ≡ Done → Judged s slot t
+unfolding judgeOf
+judge-tells s slot t e =
+    let a = passes (not (isOpen s slot)) _ _ e in
+    let b = passes (eqb (s .running) 0) _ _ (a .1) in
+    let c = passes (isUncollected s slot) _ _ (b .1) in
+    let d = passes (isIsochronous (t .kind)) _ _ (c .1) in
+    let k = passes (not (eqb (kindNumber (t .kind)) (slotAt s slot .kind))) _ _ (d .1) in
+    let g = passes (not (rangesGood t)) _ _ (k .1) in
+    let m = passes (ltb (freeCount s) (needOfRequest s t)) _ _ (g .1) in
+    record {
+      opened = not-false (isOpen s slot) (a .0);
+      runs = b .0;
+      bare = c .0;
+      supported = d .0;
+      same-kind = eqb-true (kindNumber (t .kind)) (slotAt s slot .kind) (not-false (eqb (kindNumber (t .kind)) (slotAt s slot .kind)) (k .0));
+      in-range = not-false (rangesGood t) (g .0);
+      room = ltb-false (freeCount s) (needOfRequest s t) (m .0);
+    }
+
+-- ---- an open slot is one of the E
+
+false-true : false ≡ true → ⊥
+false-true e = let z : _≡_ {A = ℕ} 0 1 = ap numbered e in omega arith
+  where
+    numbered : Bool → ℕ
+    numbered false = 0
+    numbered true = 1
+
+pub open-below : (s : Ehci) (k : ℕ) → isOpen s k ≡ true → k < 32
+unfolding endpointAt
+open-below s k e = by (ltb k 32) refl
+  where
+    by : (b : Bool) → ltb k 32 ≡ b → k < 32
+    by true h = ltb-true k 32 h
+    by false h = absurd (false-true (rw h at e))
+
+pub open-within : (s : Ehci) (k : ℕ) → Ranges s → isOpen s k ≡ true → k < s .settings .endpoints
+unfolding endpointAt decoded
+open-within s k r e = by (ltb k (s .settings .endpoints)) refl
+  where
+    below : k < 32
+    below = open-below s k e
+
+    by : (b : Bool) → ltb k (s .settings .endpoints) ≡ b → k < s .settings .endpoints
+    by true h = ltb-true k (s .settings .endpoints) h
+    by false h =
+        let shut : slotAt s k .phase ≡ 0 = slot-tells (s .settings .endpoints) k (s .unanswered) (slotAt s k) (r .slots k below) .closed-from (ltb-false k (s .settings .endpoints) h) in
+        absurd (false-true (rw (shut, lt-ltb k 32 below) at e))
+
+-- ---- the length
+
+zeros-le : (l : List ℕ) → countZero l ≤ length l
+unfolding countZero
+zeros-le [] = omega arith
+zeros-le (x ∷ l) = by (eqb x 0) (zeros-le l)
+  where
+    by : (b : Bool) → countZero l ≤ length l → flagNumber b + countZero l ≤ length (x ∷ l)
+    by true h = omega arith
+    by false h = omega arith
+
+pub free-le : (s : Ehci) → freeCount s ≤ s .settings .descriptors
+unfolding freeCount
+free-le s = omega (arith, zeros-le (take (s .settings .descriptors) (s .owner)), length-take (s .settings .descriptors) (s .owner))
+
+-- as many chunks as there are descriptors are short
+many : (s : Ehci) (t : TransferRequest) → 1 ≤ s .settings .limit → s .settings .limit ≤ 16384 → s .settings .descriptors ≤ 256
+    → chunkCount (t .length) (s .settings .limit) ≤ freeCount s → t .length < 2 ^ 32
+many s t l m d n =
+    let few : chunkCount (t .length) (s .settings .limit) ≤ 256 = omega (arith, free-le s) in
+    omega (arith, covers (t .length) (s .settings .limit) l, mul-le-mul-right (s .settings .limit) few)
+
+short-by : (s : Ehci) (k : EndpointType) (t : TransferRequest) → t .kind ≡ k → 1 ≤ s .settings .limit → s .settings .limit ≤ 16384 → s .settings .descriptors ≤ 256
+    → needOf k (t .length) (s .settings .limit) ≤ freeCount s → rangesGood t ≡ true → t .length < 2 ^ 32
+unfolding rangesGood controlGood needOf
+short-by s Control t e l m d n g =
+    let c : controlGood t ≡ true = both-tells (bufferGood (t .address) (t .length)) _ (rw e at g) .1 in
+    omega (arith, leb-true (t .length) 16384 (both-tells (leb (t .length) 16384) _ c .0))
+short-by s Isochronous t e l m d n g = many s t l m d n
+short-by s Bulk t e l m d n g = many s t l m d n
+short-by s Interrupt t e l m d n g = many s t l m d n
+
+pub short : (s : Ehci) (k : ℕ) (t : TransferRequest) → Ranges s → Judged s k t → t .length < 2 ^ 32
+short s k t r j =
+    short-by s (t .kind) t refl (r .good .limit-least) (r .good .limit-most) (r .good .descriptors-most) (j .room) (j .in-range)
+
+-- ---- the first place
+
+first-below : (ps : List ℕ) (n : ℕ) → 1 ≤ n → Within n ps → getD ps 0 0 < n
+first-below [] n h w = omega arith
+first-below (p ∷ ps) n h w = w .0
+
+pub first-place : (s : Ehci) (k : ℕ) (t : TransferRequest) → Ranges s → firstIn s (takenFor s k t) < 2 ^ 32
+unfolding takenFor takenOf
+first-place s k t r =
+    let o = take (s .settings .descriptors) (s .owner) in
+    let ps = placesFrom 0 o 0 (needOfRequest s t) in
+    by (length o) refl ps (places-within o 0 (needOfRequest s t)) (packed-first ps)
+  where
+    by : (n : ℕ) → length (take (s .settings .descriptors) (s .owner)) ≡ n → (ps : List ℕ)
+        → Within (length (take (s .settings .descriptors) (s .owner))) ps → getD (packed ps .at) 0 0 ≡ getD ps 0 0
+        → s .settings .pool + 64 * getD (packed ps .at) 0 0 < 2 ^ 32
+    by n e [] w f = rw f (omega (arith, r .good .descriptors-least, r .good .pool-ends))
+    by n e (p ∷ ps) w f =
+        rw f (omega (arith, w .0, length-take (s .settings .descriptors) (s .owner), r .good .pool-ends))
+
+pub settles : (s : Ehci) (lent : Lengths) (k : ℕ) (t : TransferRequest) → Accepted s lent → judgeOf s k t ≡ Done
+    → Settles s (lent .heads) (lent .frames) (lent .setups) k t
+settles s lent k t a e =
+    let j = judge-tells s k t e in
+    let r = a .ranges in
+    let below = open-within s k r (j .opened) in
+    record {
+      slot-below = open-below s k (j .opened);
+      head-within = omega (arith, a .fitting .heads-fit);
+      frames-within = omega (arith, a .fitting .frames-fit);
+      setup-within = omega (arith, a .fitting .setups-fit);
+      few = r .good .descriptors-most;
+      limited = r .good .limit-least;
+      first-below = first-place s k t r;
+      head-below = omega (arith, r .good .heads-end);
+      setup-below = omega (arith, r .good .setups-end);
+      short = short s k t r j;
+    }

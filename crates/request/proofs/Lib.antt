@@ -1,0 +1,5 @@
+pub mod JudgeCases
+pub mod SettleCases
+pub mod WritebackCases
+pub mod JudgeLaws
+pub mod SubmitCases

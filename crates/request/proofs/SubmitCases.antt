@@ -1,0 +1,61 @@
+-- The returns of submit.
+use Prim.Native.Nat.{ℕ, _≤_}
+use mathlib.Core.Path.{_≡_, refl, sym, ap, _∙_}
+use mathlib.Core.Bool.{Bool, true, false, not}
+use mathlib.Core.List.{List}
+use native.Mathlib.Omega.{arith}
+use borrow.Author.Tests.{not-false, not-true}
+use Rattle.state.specs.declared.state.Ehci.{Ehci}
+use Rattle.controller.specs.Answers.{Verdict, passed, refused, first, settle}
+use Rattle.controller.specs.Lent.{acceptsOf}
+use Rattle.controller.specs.declared.answer.Answer.{Answer}
+use Rattle.controller.specs.declared.answer.Answer.the-variants.{Done, Refused}
+use Rattle.controller.specs.declared.answer.Refusal.{Refusal}
+use Rattle.controller.specs.declared.answer.Refusal.the-variants.{InvalidParameter}
+use Rattle.controller.specs.declared.lent.Lengths.{Lengths}
+use Rattle.controller.specs.declared.lent.Readings.{Readings}
+use Rattle.controller.proofs.LentLaws.{accepts-tells}
+use Rattle.request.specs.Submit.{Outcome, Settles, answerOf, judgeOf, lengthsOf, refusedSubmit, settledSubmit, submitChecks, submitOf, submitted}
+use Rattle.request.specs.declared.calls.Submitted.{Submitted}
+use Rattle.request.specs.declared.judge.TransferRequest.{TransferRequest}
+use Rattle.request.proofs.JudgeLaws.{answers-apart, settles}
+
+refusalOf : Refusal → Answer → Refusal
+refusalOf r Done = r
+refusalOf r (Refused q) = q
+
+settle-refused : {A : Type 0} (v : Verdict) (old : Refusal → A) (new : A) (r : Refusal) → answerOf v ≡ Refused r → settle v old new ≡ old r
+unfolding refusalOf
+settle-refused passed old new r e = absurd (answers-apart r (sym e))
+settle-refused (refused q) old new r e = ap old (ap (refusalOf r) e)
+
+settle-done : {A : Type 0} (v : Verdict) (old : Refusal → A) (new : A) → answerOf v ≡ Done → settle v old new ≡ new
+settle-done passed old new e = refl
+settle-done (refused q) old new e = absurd (answers-apart q e)
+
+module _ (s : Ehci) (pool : ℕ) (h f u : List ℕ) (r : Readings) (k : ℕ) (t : TransferRequest) (a : Bool) (ea : a ≡ acceptsOf s (lengthsOf pool h f u)) where
+  pub submit-bad : not a ≡ true → (x : Submitted) → x ≡ refusedSubmit s InvalidParameter → submitted x h f u ≡ submitOf s pool h f u r k t
+  unfolding submitOf
+  submit-bad n x ex = rw (ex, sym ea ∙ not-true a n)
+
+  module _ (n : not a ≡ false) (v : Answer) (ev : v ≡ judgeOf s k t) where
+    pub submit-refused : (q : Refusal) → v ≡ Refused q → (x : Submitted) → x ≡ refusedSubmit s q → submitted x h f u ≡ submitOf s pool h f u r k t
+    unfolding submitOf judgeOf
+    submit-refused q eq x ex =
+        rw (ex, sym ea ∙ not-false a n)
+        (sym (settle-refused (first (submitChecks s k t)) (λ z. submitted (refusedSubmit s z) h f u) (settledSubmit s h f u r k t) q (sym ev ∙ eq)))
+
+    pub submit-done : v ≡ Done → (x : Submitted) (h′ f′ u′ : List ℕ) → submitted x h′ f′ u′ ≡ settledSubmit s h f u r k t
+        → submitted x h′ f′ u′ ≡ submitOf s pool h f u r k t
+    unfolding submitOf judgeOf
+    submit-done d x h′ f′ u′ e =
+        e ∙ rw (sym ea ∙ not-false a n)
+        (sym (settle-done (first (submitChecks s k t)) (λ z. submitted (refusedSubmit s z) h f u) (settledSubmit s h f u r k t) (sym ev ∙ d)))
+
+module _ (s : Ehci) (lent : Lengths) (a : Bool) (ea : a ≡ acceptsOf s lent) (n : not a ≡ false) where
+  pub accepted-limit : 1 ≤ s .settings .limit
+  accepted-limit = accepts-tells s lent (sym ea ∙ not-false a n) .ranges .good .limit-least
+
+  pub accepted-settles : (k : ℕ) (t : TransferRequest) (v : Answer) → v ≡ judgeOf s k t → v ≡ Done
+      → Settles s (lent .heads) (lent .frames) (lent .setups) k t
+  accepted-settles k t v ev d = settles s lent k t (accepts-tells s lent (sym ea ∙ not-false a n)) (sym ev ∙ d)
