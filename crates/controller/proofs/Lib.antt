@@ -1,6 +1,7 @@
 pub mod RowsCases
 pub mod OpenCases
 pub mod OpenLaws
+pub mod OpenPool
 pub mod AddressCases
 pub mod AddressLaws
 pub mod EndpointCases
