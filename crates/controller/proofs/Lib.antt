@@ -7,3 +7,4 @@ pub mod AddressLaws
 pub mod EndpointCases
 pub mod EndpointLaws
 pub mod ReaderCases
+pub mod FreeLaws
