@@ -18,7 +18,7 @@ use Rattle.controller.specs.declared.open.Opening.{Opening}
 use Rattle.settings.specs.declared.settings.Settings.{Settings}
 use Rattle.state.specs.declared.state.Ehci.{Ehci}
 use Rattle.controller.specs.Hub.{openedHub}
-use Rattle.controller.specs.Opening.{freshState, rowsFit, refusedOpening, acceptedOpening, openedHeads, opened, openOf}
+use Rattle.controller.specs.Opening.{freshState, rowsFit, refusedOpening, acceptedOpening, openedHeads, decided, decideOpenOf}
 use Rattle.controller.specs.Rows.{putAt}
 use Rattle.settings.specs.Settings.{settingsGood, numbersGood, eachGood, noOverlap, areaGood, poolSize, headsSize, headsLength, setupsLength, poolLength, framesLength}
 use Rattle.settings.specs.Tests.{both}
@@ -34,14 +34,14 @@ unfolding rowsFit
 fit-is s p h f u = every-4 (eqb p (poolLength s)) (eqb h (headsLength s)) (eqb f framesLength) (eqb u (setupsLength s))
 
 module _ (s : Settings) (pool : ℕ) (h f u : List ℕ) (g : Bool) (eg : g ≡ settingsGood s) where
-  pub open-bad : not g ≡ true → (o : Opening) → o ≡ refusedOpening InvalidParameter → opened o h f u ≡ openOf s pool h f u
-  unfolding openOf
+  pub open-bad : not g ≡ true → (o : Opening) → o ≡ refusedOpening InvalidParameter → decided o h f u ≡ decideOpenOf s pool h f u
+  unfolding decideOpenOf
   open-bad t o e = rw (e, sym eg ∙ not-true g t)
 
   module _ (fit : Bool) (ef : fit ≡ rowsFit s pool (length h) (length f) (length u)) where
     pub open-short : not g ≡ false → not fit ≡ true → (o : Opening) → o ≡ refusedOpening InvalidParameter
-        → opened o h f u ≡ openOf s pool h f u
-    unfolding openOf
+        → decided o h f u ≡ decideOpenOf s pool h f u
+    unfolding decideOpenOf
     open-short t t′ o e = rw (e, sym eg ∙ not-false g t, sym ef ∙ not-true fit t′)
 
     -- rows that fit have the lengths that the settings ask
@@ -59,8 +59,8 @@ module _ (s : Settings) (pool : ℕ) (h f u : List ℕ) (g : Bool) (eg : g ≡ s
     pub open-done : not g ≡ false → not fit ≡ false → (h′ f′ u′ : List ℕ) (state : Ehci) (hub : EhciRootHub)
         → h′ ≡ openedHeads (s .heads) (length h) → f′ ≡ replicate (length f) 1 → u′ ≡ replicate (length u) 0
         → state ≡ freshState s → hub ≡ openedHub (s .ports)
-        → opened (record { answer = Done; state = state; hub = hub }) h′ f′ u′ ≡ openOf s pool h f u
-    unfolding openOf acceptedOpening
+        → decided (record { answer = Done; state = state; hub = hub }) h′ f′ u′ ≡ decideOpenOf s pool h f u
+    unfolding decideOpenOf acceptedOpening
     open-done t t′ h′ f′ u′ state hub eh ef′ eu es eb =
         let l = fit-lengths t′ in
         rw (eh, ef′, eu, es, eb, sym eg ∙ not-false g t, sym ef ∙ not-false fit t′, l .0, l .1, l .2)

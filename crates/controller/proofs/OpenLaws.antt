@@ -16,7 +16,7 @@ use Rattle.controller.specs.declared.answer.Refusal.the-variants.{Invali
 use Rattle.settings.specs.declared.settings.Settings.{Settings}
 use Rattle.controller.specs.Endpoints.{bareSlot}
 use Rattle.controller.specs.Hub.{openedHub}
-use Rattle.controller.specs.Opening.{acceptedOpening, freshState, noSettings, Opened, opened, openedHeads, openOf, refusedOpening, rowsFit}
+use Rattle.controller.specs.Opening.{acceptedOpening, freshState, noSettings, Decided, decided, openedHeads, decideOpenOf, refusedOpening, rowsFit}
 use Rattle.slot.specs.Ranges.{slotGood}
 use Rattle.state.specs.Ranges.{inRanges}
 use Rattle.controller.specs.Readers.{countZero, freeCount}
@@ -145,7 +145,7 @@ heads-words s g =
 
 -- ---- the call
 
-pub record Accepted (s : Settings) (heads frames setups : List ℕ) (o : Opened) : Type 0 where
+pub record Accepted (s : Settings) (heads frames setups : List ℕ) (o : Decided) : Type 0 where
   pub answer-done : o .opening .answer ≡ Done
   pub state-fresh : o .opening .state ≡ freshState s
   pub hub-opened : o .opening .hub ≡ openedHub (s .ports)
@@ -153,7 +153,7 @@ pub record Accepted (s : Settings) (heads frames setups : List ℕ) (o : Opened)
   pub frames-are : o .frames ≡ replicate (length frames) 1
   pub setups-are : o .setups ≡ replicate (length setups) 0
 
-pub record Denied (heads frames setups : List ℕ) (o : Opened) : Type 0 where
+pub record Denied (heads frames setups : List ℕ) (o : Decided) : Type 0 where
   pub answer-refused : o .opening .answer ≡ Refused InvalidParameter
   pub state-none : o .opening .state ≡ freshState noSettings
   pub hub-none : o .opening .hub ≡ openedHub 0
@@ -163,8 +163,8 @@ pub record Denied (heads frames setups : List ℕ) (o : Opened) : Type 0 where
 
 module _ (s : Settings) (pool : ℕ) (heads frames setups : List ℕ) where
   pub open-accepts : settingsGood s ≡ true → rowsFit s pool (length heads) (length frames) (length setups) ≡ true
-      → Accepted s heads frames setups (openOf s pool heads frames setups)
-  unfolding openOf acceptedOpening
+      → Accepted s heads frames setups (decideOpenOf s pool heads frames setups)
+  unfolding decideOpenOf acceptedOpening
   open-accepts e f =
       let l = rows-tell s pool (length heads) (length frames) (length setups) f in
       rw (e, f)
@@ -179,11 +179,11 @@ module _ (s : Settings) (pool : ℕ) (heads frames setups : List ℕ) where
 
   -- any fault of the settings or of a row's length
   pub open-refuses : both (settingsGood s) (rowsFit s pool (length heads) (length frames) (length setups)) ≡ false
-      → Denied heads frames setups (openOf s pool heads frames setups)
-  unfolding openOf refusedOpening
+      → Denied heads frames setups (decideOpenOf s pool heads frames setups)
+  unfolding decideOpenOf refusedOpening
   open-refuses e = by (settingsGood s) refl
     where
-      denied : Denied heads frames setups (opened (refusedOpening InvalidParameter) heads frames setups)
+      denied : Denied heads frames setups (decided (refusedOpening InvalidParameter) heads frames setups)
       denied =
           record {
             answer-refused = refl;
@@ -194,6 +194,6 @@ module _ (s : Settings) (pool : ℕ) (heads frames setups : List ℕ) where
             setups-kept = refl;
           }
 
-      by : (t : Bool) → settingsGood s ≡ t → Denied heads frames setups (openOf s pool heads frames setups)
+      by : (t : Bool) → settingsGood s ≡ t → Denied heads frames setups (decideOpenOf s pool heads frames setups)
       by true q = let f : rowsFit s pool (length heads) (length frames) (length setups) ≡ false = rw q at e in rw (q, f) denied
       by false q = rw q denied

@@ -4,7 +4,12 @@ use mathlib.Core.Bool.{Bool, not}
 use mathlib.Core.List.{List, [], _∷_, _++_}
 use lib.Dec.{eqb}
 use lib.ListN.{length, replicate}
+use Rattle.descriptor.specs.declared.qtd.QueueTransferDescriptor.{QueueTransferDescriptor}
 use Rattle.descriptor.specs.Heads.{ringHead, wordsOf}
+use Rattle.pool.specs.declared.chain.Chain.{Chain}
+use Rattle.pool.specs.declared.chain.Deed.the-variants.{Clear}
+use Rattle.pool.specs.Chains.{blank}
+use Rattle.pool.specs.Places.{packed, upFrom}
 use Rattle.controller.specs.declared.answer.Answer.{Answer}
 use Rattle.controller.specs.declared.answer.Answer.the-variants.{Done, Refused}
 use Rattle.controller.specs.declared.answer.Refusal.{Refusal}
@@ -13,7 +18,7 @@ use Rattle.controller.specs.declared.hub.EhciRootHub.{EhciRootHub}
 use Rattle.controller.specs.declared.open.Opening.{Opening}
 use Rattle.settings.specs.declared.settings.Settings.{Settings}
 use Rattle.state.specs.declared.state.Ehci.{Ehci}
-use Rattle.controller.specs.Answers.{first, settle}
+use Rattle.controller.specs.Answers.{Check, first, settle}
 use Rattle.controller.specs.Hub.{openedHub}
 use Rattle.settings.specs.Settings.{settingsGood, poolLength, headsLength, framesLength, setupsLength}
 use Rattle.settings.specs.Tests.{every}
@@ -65,30 +70,59 @@ refusedOpening r = record { answer = Refused r; state = freshState noSettings; h
 unfoldable pub acceptedOpening : Settings → Opening
 acceptedOpening s = record { answer = Done; state = freshState s; hub = openedHub (s .ports) }
 
--- what opening leaves
-pub record Opened : Type 0 where
+-- what is decided by the pool's length: the answer, and the rows of numbers
+pub record Decided : Type 0 where
   pub opening : Opening
   pub heads : List ℕ
   pub frames : List ℕ
   pub setups : List ℕ
 
-abbrev pub opened : Opening → List ℕ → List ℕ → List ℕ → Opened
-opened o heads frames setups = record { opening = o; heads = heads; frames = frames; setups = setups }
+abbrev pub decided : Opening → List ℕ → List ℕ → List ℕ → Decided
+decided o heads frames setups = record { opening = o; heads = heads; frames = frames; setups = setups }
 
 -- the ring head, and every other head zero, in so many words
 unfoldable pub openedHeads : ℕ → ℕ → List ℕ
 openedHeads area words = wordsOf (ringHead area) ++ replicate (words - 17) 0
 
+-- a fault of the settings, or of a row's length
+abbrev pub openChecks : Settings → ℕ → ℕ → ℕ → ℕ → List Check
+openChecks s pool heads frames setups =
+    (not (settingsGood s), InvalidParameter) ∷ (not (rowsFit s pool heads frames setups), InvalidParameter) ∷ []
+
+-- every row of numbers zeroed but the ring head and the frame entries
+unfoldable pub decideOpenOf : Settings → ℕ → List ℕ → List ℕ → List ℕ → Decided
+decideOpenOf s pool heads frames setups =
+    settle
+    (first (openChecks s pool (length heads) (length frames) (length setups)))
+    (λ r. decided (refusedOpening r) heads frames setups)
+    (decided (acceptedOpening s)
+    (openedHeads (s .heads) (headsLength s))
+    (replicate framesLength 1)
+    (replicate (setupsLength s) 0))
+
+-- every record of an opened pool is cleared; a refused opening has no descriptor, so none is
+unfoldable pub clearingOf : Opening → Chain
+clearingOf o = record { places = packed (upFrom 0 (o .state .settings .descriptors)); base = 0; deed = Clear }
+
+-- what opening leaves
+pub record Opened : Type 0 where
+  pub opening : Opening
+  pub pool : List QueueTransferDescriptor
+  pub heads : List ℕ
+  pub frames : List ℕ
+  pub setups : List ℕ
+
+abbrev pub opened : Opening → List QueueTransferDescriptor → List ℕ → List ℕ → List ℕ → Opened
+opened o pool heads frames setups = record { opening = o; pool = pool; heads = heads; frames = frames; setups = setups }
+
 -- every row zeroed but the ring head and the frame entries
-unfoldable pub openOf : Settings → ℕ → List ℕ → List ℕ → List ℕ → Opened
+unfoldable pub openOf : Settings → List QueueTransferDescriptor → List ℕ → List ℕ → List ℕ → Opened
 openOf s pool heads frames setups =
     settle
-    (first
-    ((not (settingsGood s), InvalidParameter)
-    ∷ (not (rowsFit s pool (length heads) (length frames) (length setups)), InvalidParameter)
-    ∷ []))
-    (λ r. opened (refusedOpening r) heads frames setups)
+    (first (openChecks s (length pool) (length heads) (length frames) (length setups)))
+    (λ r. opened (refusedOpening r) pool heads frames setups)
     (opened (acceptedOpening s)
+    (replicate (poolLength s) blank)
     (openedHeads (s .heads) (headsLength s))
     (replicate framesLength 1)
     (replicate (setupsLength s) 0))

@@ -1,8 +1,8 @@
-// Opening a controller: what is decided, and the heads, the frame list and the setup packets.
+// Opening a controller.
 ghost use mathlib.Core.Path.{_≡_};
 ghost use Prim.Native.Nat.{_≤_, _<_, _^_};
 ghost use lib.ListN.{length};
-ghost use Rattle.controller.specs.Opening.{freshState, rowsFit, refusedOpening, openedHeads, opened, openOf};
+ghost use Rattle.controller.specs.Opening.{freshState, rowsFit, refusedOpening, openedHeads, clearingOf, decided, decideOpenOf, opened, openOf};
 use crate::answer::Answer;
 use crate::answer::Refusal;
 use crate::hub::EhciRootHub;
@@ -11,6 +11,11 @@ use crate::rows::fill_words;
 use crate::rows::put_head;
 use descriptor::head::QueueHead;
 use descriptor::qtd::EHCI_LINK_TERMINATE;
+use descriptor::qtd::QueueTransferDescriptor;
+use pool::chain::Chain;
+use pool::chain::Deed;
+use pool::places::all_places;
+use pool::row::fill;
 use settings::settings::Settings;
 use state::state::Ehci;
 
@@ -93,16 +98,16 @@ fn open_heads(heads: &mut [u32], area: u64)
     put_head(heads, 0, QueueHead::async_head(area as u32).words());
 }
 
-// `pool` is the length of the row of descriptors.
-pub fn open(
+// What is decided: all but the pool, of which the length is given.
+pub fn decide_open(
     settings: Settings,
     pool: u64,
     heads: &mut [u32],
     frames: &mut [u32],
     setups: &mut [u8],
 ) -> Opening
-    ensures { λ r. ⌜ opened r (now (heads .exit)) (now (frames .exit)) (now (setups .exit))
-        ≡ openOf settings pool (now (heads .entry)) (now (frames .entry)) (now (setups .entry)) ⌝ }
+    ensures { λ r. ⌜ decided r (now (heads .exit)) (now (frames .exit)) (now (setups .exit))
+        ≡ decideOpenOf settings pool (now (heads .entry)) (now (frames .entry)) (now (setups .entry)) ⌝ }
 {
     if !settings.good() {
         return refuse(Refusal::InvalidParameter);
@@ -124,4 +129,39 @@ pub fn open(
         state: fresh_state(settings),
         hub: EhciRootHub::new(settings.ports),
     }
+}
+
+fn row_length(count: usize) -> u64
+    ensures { λ r. ⌜ r ≡ count ⌝ }
+{
+    count as u64
+}
+
+// A refused opening has no descriptor, so nothing is cleared then.
+fn clearing(o: Opening) -> Chain
+    requires { ⌜ o .state .settings .descriptors ≤ 256 ⌝ }
+    ensures { λ r. ⌜ r ≡ clearingOf o ⌝ }
+{
+    Chain {
+        places: all_places(o.state.settings.descriptors),
+        base: 0,
+        deed: Deed::Clear,
+    }
+}
+
+pub fn open(
+    settings: Settings,
+    rows: &mut [QueueTransferDescriptor],
+    heads: &mut [u32],
+    frames: &mut [u32],
+    setups: &mut [u8],
+) -> Opening
+    ensures { λ r. ⌜ opened r (now (rows .exit)) (now (heads .exit)) (now (frames .exit)) (now (setups .exit))
+        ≡ openOf settings (now (rows .entry)) (now (heads .entry)) (now (frames .entry)) (now (setups .entry)) ⌝ }
+{
+    let count = row_length(rows.len());
+    let opening = decide_open(settings, count, heads, frames, setups);
+    let chain = clearing(opening);
+    fill(rows, chain);
+    opening
 }

@@ -3,7 +3,7 @@ ghost use Prim.Native.Nat.{_≤_};
 ghost use lib.ListN.{length};
 use crate::out;
 use controller::open::Opening;
-use controller::open::open;
+use controller::open::decide_open;
 use controller::readers::free_count;
 use settings::settings::Settings;
 use state::ranges::in_ranges;
@@ -158,5 +158,5 @@ fn over(
     let a = (h % 601) as usize;
     let b = (f % 1026) as usize;
     let c = (u % 301) as usize;
-    open(s, pool, &mut heads[..a], &mut frames[..b], &mut setups[..c])
+    decide_open(s, pool, &mut heads[..a], &mut frames[..b], &mut setups[..c])
 }

@@ -3,7 +3,7 @@ use crate::opening::good;
 use crate::out;
 use controller::calls::Allotted;
 use controller::calls::allocate_address;
-use controller::open::open;
+use controller::open::decide_open;
 use state::ranges::in_ranges;
 use state::state::Ehci;
 use std::num::wrapping_add_u64 as plus;
@@ -23,7 +23,7 @@ pub fn fresh() -> Ehci {
     let mut heads: [u32; 153] = [0; 153];
     let mut frames: [u32; 1024] = [0; 1024];
     let mut setups: [u8; 64] = [0; 64];
-    let opening = open(good(), 16, &mut heads, &mut frames, &mut setups);
+    let opening = decide_open(good(), 16, &mut heads, &mut frames, &mut setups);
     opening.state
 }
 

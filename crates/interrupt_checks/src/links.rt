@@ -2,7 +2,7 @@
 use crate::out;
 use crate::states;
 use crate::states::SETTINGS;
-use controller::open::open;
+use controller::open::decide_open;
 use descriptor::head::ehci_qh_link;
 use schedule::links::Predecessor;
 use schedule::links::attach_frames;
@@ -97,7 +97,7 @@ pub fn kinds_edge(k: u32) {
     let mut heads: [u32; 51] = [7; 51];
     let mut frames: [u32; 1024] = [7; 1024];
     let mut setups: [u8; 16] = [7; 16];
-    let opening = open(SETTINGS, 16, &mut heads, &mut frames, &mut setups);
+    let opening = decide_open(SETTINGS, 16, &mut heads, &mut frames, &mut setups);
     let opened = opening.state;
     steps(kinds(opened, k), &mut heads, &mut frames);
 }

@@ -1,5 +1,5 @@
 // A controller of two slots as it is opened, and states made of it.
-use controller::open::open;
+use controller::open::decide_open;
 use settings::settings::Settings;
 use state::state::Ehci;
 
@@ -19,7 +19,7 @@ pub fn fresh() -> Ehci {
     let mut heads: [u32; 51] = [0; 51];
     let mut frames: [u32; 1024] = [0; 1024];
     let mut setups: [u8; 16] = [0; 16];
-    let opening = open(SETTINGS, 16, &mut heads, &mut frames, &mut setups);
+    let opening = decide_open(SETTINGS, 16, &mut heads, &mut frames, &mut setups);
     let state = opening.state;
     state
 }

@@ -1,7 +1,7 @@
 -- Calls as steps of a walk, one for each function over a slice of records, so that a walk that calls one says only what is its own.
 --     tests        a `while`'s test: the turn goes on where it holds, and the loop is left where it fails
 --     gives        a call of a covered function whose parameters and result are plain, and which has no lifetime: what it asks is had for nothing, and what it ensures is learned
---     looks        a call of a function that takes a `&[Record]`, as `token_at(rows, i)`: the slice is Copy, so it is had after the call too
+--     looks        a call of a function that takes a `&[Record]`, as `record_at(rows, i)`: the slice is Copy, so it is had after the call too
 --     reads        `record_at(&*rows, i)` where rows is a `&mut [Record]` that is used again: it is lent as a `&` for a lifetime of the call, and comes back as it was
 --     replaces     `replace(&mut *rows, i, r)` where rows is used again: the slice is lent again for a lifetime of the call, and comes back with r at i
 -- In `looks`, `reads` and `replaces` the slice and its token stand at the front, as they do after the call, so what is behind them has the same positions in the operands and after it. The operands are given for any two items in front.
@@ -43,7 +43,7 @@ use denote.Triple.Clauses.{Clauses, Ended, closing, ensured, lasts}
 use denote.Triple.Walked.{says}
 use Rattle.pool.specs.Chains.{blank}
 use Rattle.descriptor.specs.declared.qtd.QueueTransferDescriptor.{QueueTransferDescriptor as Record}
-use Rattle.pool.proofs.Again.{LentAgain, lends-again, comes-back, LentShared, lends-shared, shared-back}
+use Rattle.pool.proofs.Again.{LentMut, lends-mut, mut-back, LentRead, lends-read, read-back}
 use Rattle.pool.proofs.Element.{R}
 use Rattle.pool.proofs.row.record_at as record-at
 use Rattle.pool.proofs.row.record_at.Symbol.{name as #pool·record-at}
@@ -125,16 +125,16 @@ module _ {M : Type 1} {𝓤 : URA M} {H : Heap 𝓤} {A : Atoms 𝓤} {K : Type 
     replaces t known i r v i-fits l os k =
         rewrite t 0 (λ (m : ℕ). ‵ (MutSlice (named 0) κ R .own (at-list b o γ zs) (sliceVal (b, o) m ∷ []))) (sym len) refl $
         lft-new t tt (λ ν. move t (1 ∷ 2 ∷ []) $
-        use2 W (later (some (λ (δ : GName). ‵ (MutSlice (named 0) (ν ∷ []) R .own (at-list b o δ zs) (sliceVal (b, o) (length zs) ∷ [])) ⊛ ‵ (LentAgain R κ (ν ∷ []) q γ b o δ zs)))) (lends-again R κ (ν ∷ []) q γ b o 𝓤 H A W (named 0) (named 0) zs) $ await t tt $ pick t (λ δ. split t $
+        use2 W (later (some (λ (δ : GName). ‵ (MutSlice (named 0) (ν ∷ []) R .own (at-list b o δ zs) (sliceVal (b, o) (length zs) ∷ [])) ⊛ ‵ (LentMut R κ q γ b o (ν ∷ []) δ zs)))) (lends-mut R κ q γ b o 𝓤 H A W (named 0) zs (ν ∷ []) (named 0) (subst (Room R) (sym len) room)) $ await t tt $ pick t (λ δ. split t $
         -- [the slice lent; what is kept; ν's token; what r owns; Γ]
         move t (2 ∷ 0 ∷ 3 ∷ []) $ use3 W (raw (Replace 𝓤 H A mem run .pre (to-replace 𝓤 H A mem run b o zs ν δ i r v))) (goes-replace 𝓤 H A mem run W b o zs ν δ i r v i-fits (subst (λ (m : ℕ). i < m) (sym len) l)) $
-        calls-at t fm (Replace 𝓤 H A mem run) known (to-replace 𝓤 H A mem run b o zs ν δ i r v) (subst (λ (m : ℕ). Opds K W (raw (Replace 𝓤 H A mem run .pre (to-replace 𝓤 H A mem run b o zs ν δ i r v)) ∷ ‵ (LentAgain R κ (ν ∷ []) q γ b o δ zs) ∷ Γ) E xs (sliceVal (b, o) m ∷ vint w64 i ∷ v ∷ [])) (sym len) (os (raw (Replace 𝓤 H A mem run .pre (to-replace 𝓤 H A mem run b o zs ν δ i r v))) (‵ (LentAgain R κ (ν ∷ []) q γ b o δ zs)))) (λ w.
+        calls-at t fm (Replace 𝓤 H A mem run) known (to-replace 𝓤 H A mem run b o zs ν δ i r v) (subst (λ (m : ℕ). Opds K W (raw (Replace 𝓤 H A mem run .pre (to-replace 𝓤 H A mem run b o zs ν δ i r v)) ∷ ‵ (LentMut R κ q γ b o (ν ∷ []) δ zs) ∷ Γ) E xs (sliceVal (b, o) m ∷ vint w64 i ∷ v ∷ [])) (sym len) (os (raw (Replace 𝓤 H A mem run .pre (to-replace 𝓤 H A mem run b o zs ν δ i r v))) (‵ (LentMut R κ q γ b o (ν ∷ []) δ zs)))) (λ w.
         use1 W (later (some (λ (u : Unit {0}). ((‵ (flft (ν ∷ []) fullShare) ⊛ ‵ ftrue) ⊛ ‵ (Nothing .own u (w ∷ []))) ⊛ raw (ensured 𝓤 H A replace.ended (replace.clauses 𝓤 H A mem run) (ν ∷ [], tt) (at-list b o δ zs, (i, (r, tt))) tt u)))) (id⊢ 𝓤 _) $ await t tt $ pick t (λ u.
         split t $ move t (1 ∷ []) $ use1 W (some (λ (ws : List Record × (Unit {0} × (Unit {0} × Unit {0}))). ‵ (lasts replace.ended (ν ∷ [], tt) (at-list b o δ zs, (i, (r, tt))) ws) ⊛ raw (fact 𝓤 (ws .0 ≡ set zs i r)))) (id⊢ 𝓤 _) $ pick t (λ ws.
         split t $ move t (1 ∷ []) $ heard t (ws .0 ≡ set zs i r) (λ e. fsplit t $ fsplit t $ move t (1 ∷ []) $ feqL t (λ same.
         -- [the last list; true; the token and the unit; what is kept; Γ]
         move t (2 ∷ []) $ split t $ move t (1 ∷ []) $ peeks t Nothing (Is Nothing) (shows 𝓤 H A Nothing) u (w ∷ []) (λ is. drop t $ split t $ lft-end t tt $ move t (0 ∷ 4 ∷ 2 ∷ []) $
-        use3 W (later (‵ (MutSlice (named 0) κ R .own (at-list b o γ (ws .0)) (sliceVal (b, o) (length zs) ∷ [])) ⊛ ‵ (flft κ q))) (comes-back R κ (ν ∷ []) q γ b o 𝓤 H A W (named 0) (named 0) zs δ (ws .0) (subst (Room R) (sym len) room) same) $ await t tt $ split t $
+        use3 W (later (‵ (MutSlice (named 0) κ R .own (at-list b o γ (ws .0)) (sliceVal (b, o) (length zs) ∷ [])) ⊛ ‵ (flft κ q))) (mut-back R κ q γ b o 𝓤 H A W (named 0) zs (ν ∷ []) (named 0) (subst (Room R) (sym len) room) δ (ws .0) same) $ await t tt $ split t $
         rewrite t 0 (λ (l′ : List Record). ‵ (MutSlice (named 0) κ R .own (at-list b o γ l′) (sliceVal (b, o) (length zs) ∷ []))) e refl $
         rewrite t 0 (λ (m : ℕ). ‵ (MutSlice (named 0) κ R .own (at-list b o γ (set zs i r)) (sliceVal (b, o) m ∷ []))) len refl $
         move t (2 ∷ []) $ drop t $ move t (2 ∷ []) $ drop t $ k w (nothing-lawful 𝓤 H A W .typed u _ is .0)))))))))
@@ -146,12 +146,12 @@ module _ {M : Type 1} {𝓤 : URA M} {H : Heap 𝓤} {A : Atoms 𝓤} {K : Type 
     reads t known i i-fits l os k =
         rewrite t 0 (λ (m : ℕ). ‵ (MutSlice (named 0) κ R .own (at-list b o γ zs) (sliceVal (b, o) m ∷ []))) (sym len) refl $
         lft-new t tt (λ ν. move t (1 ∷ 2 ∷ []) $
-        use2 W (later (some (λ (δ : GName). ‵ (ShrSlice (named 0) (ν ∷ []) R .own (at-list b o δ zs) (sliceVal (b, o) (length zs) ∷ [])) ⊛ ‵ (LentShared R κ (ν ∷ []) q γ b o zs)))) (lends-shared R κ (ν ∷ []) q γ b o zs 𝓤 H A W (named 0) (named 0)) $ await t tt $ pick t (λ δ. split t $
+        use2 W (later (some (λ (δ : GName). ‵ (ShrSlice (named 0) (ν ∷ []) R .own (at-list b o δ zs) (sliceVal (b, o) (length zs) ∷ [])) ⊛ ‵ (LentRead R κ q γ b o (ν ∷ []) zs)))) (lends-read R κ q γ b o 𝓤 H A W (named 0) zs (ν ∷ []) (named 0) (subst (Room R) (sym len) room)) $ await t tt $ pick t (λ δ. split t $
         -- [the slice lent; what is kept; ν's token; Γ]
         move t (2 ∷ 0 ∷ []) $ join t $
         asks fm record-at.ended (record-at.clauses 𝓤 H A mem run) known (to-record-at 𝓤 H A mem run b o zs ν δ i) (λ r. r ≡ getD zs i blank) (λ r e. id⊢ 𝓤 _) t (‵ (flft (ν ∷ []) fullShare) ⊛ ‵ (ShrSlice (named 0) (ν ∷ []) R .own (at-list b o δ zs) (sliceVal (b, o) (length zs) ∷ [])))
-        (goes-record-at 𝓤 H A mem run W b o zs ν δ i i-fits (subst (λ (m : ℕ). i < m) (sym len) l)) (λ j. subst (λ (m : ℕ). Opds K W (j ∷ ‵ (LentShared R κ (ν ∷ []) q γ b o zs) ∷ Γ) E xs (sliceVal (b, o) m ∷ vint w64 i ∷ [])) (sym len) (os j (‵ (LentShared R κ (ν ∷ []) q γ b o zs)))) (λ r v e is.
+        (goes-record-at 𝓤 H A mem run W b o zs ν δ i i-fits (subst (λ (m : ℕ). i < m) (sym len) l)) (λ j. subst (λ (m : ℕ). Opds K W (j ∷ ‵ (LentRead R κ q γ b o (ν ∷ []) zs) ∷ Γ) E xs (sliceVal (b, o) m ∷ vint w64 i ∷ [])) (sym len) (os j (‵ (LentRead R κ q γ b o (ν ∷ []) zs)))) (λ r v e is.
         -- [the record; the token; what is kept; Γ]
         drop t $ use1 W (‵ (flft (ν ∷ []) fullShare)) (fst∗ 𝓤 (A .lft (ν ∷ []) fullShare) (emp 𝓤)) $ lft-end t tt $
-        use2 W (later (‵ (MutSlice (named 0) κ R .own (at-list b o γ zs) (sliceVal (b, o) (length zs) ∷ [])) ⊛ ‵ (flft κ q))) (shared-back R κ (ν ∷ []) q γ b o zs 𝓤 H A W (named 0) (named 0) (subst (Room R) (sym len) room)) $ await t tt $ split t $
+        use2 W (later (‵ (MutSlice (named 0) κ R .own (at-list b o γ zs) (sliceVal (b, o) (length zs) ∷ [])) ⊛ ‵ (flft κ q))) (read-back R κ q γ b o 𝓤 H A W (named 0) zs (ν ∷ []) (named 0) (subst (Room R) (sym len) room)) $ await t tt $ split t $
         rewrite t 0 (λ (m : ℕ). ‵ (MutSlice (named 0) κ R .own (at-list b o γ zs) (sliceVal (b, o) m ∷ []))) len refl $ k r v e is)))

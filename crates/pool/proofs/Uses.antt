@@ -40,7 +40,7 @@ use Rattle.pool.specs.declared.chain.Ask.{Ask}
 use Rattle.pool.proofs.chain.View as Vw
 use Rattle.pool.proofs.chain.Ask as Q
 use Rattle.pool.proofs.chain.Ask.Laws as Q′
-use Rattle.pool.proofs.Again.{LentShared, lends-shared, shared-back}
+use Rattle.pool.proofs.Again.{LentRead, lends-read, read-back}
 use Rattle.pool.proofs.Element.{R}
 use Rattle.pool.proofs.Calls.{at-list, met, asks}
 use Rattle.pool.proofs.row.fold as fold
@@ -81,11 +81,11 @@ module _ {M : Type 1} {𝓤 : URA M} {H : Heap 𝓤} {A : Atoms 𝓤} {K : Type 
         → Seq K W (‵ (MutSlice (named 0) κ R .own (at-list b o γ zs) (sv b o zs ∷ [])) ∷ ‵ (flft κ q) ∷ Γ) (runs C Λ E (seq (call #pool·fold xs d) rest) p)
     folds t known ask av is-ask good os k =
         lft-new t tt (λ ν. move t (1 ∷ 2 ∷ []) $
-        use2 W (later (some (λ (δ : GName). ‵ (ShrSlice (named 0) (ν ∷ []) R .own (at-list b o δ zs) (sv b o zs ∷ [])) ⊛ ‵ (LentShared R κ (ν ∷ []) q γ b o zs)))) (lends-shared R κ (ν ∷ []) q γ b o zs 𝓤 H A W (named 0) (named 0)) $ await t tt $ pick t (λ δ. split t $
+        use2 W (later (some (λ (δ : GName). ‵ (ShrSlice (named 0) (ν ∷ []) R .own (at-list b o δ zs) (sv b o zs ∷ [])) ⊛ ‵ (LentRead R κ q γ b o (ν ∷ []) zs)))) (lends-read R κ q γ b o 𝓤 H A W (named 0) zs (ν ∷ []) (named 0) room) $ await t tt $ pick t (λ δ. split t $
         -- [the slice lent; what is kept; ν's token; Γ]
         move t (2 ∷ 0 ∷ []) $ join t $
         asks fm fold.ended (fold.clauses 𝓤 H A mem run) known (to-fold 𝓤 H A mem run b o zs ν δ ask av) (λ u. u ≡ viewOf (seenFrom (ask .kind) (ask .length) (ask .limit) 0 (listOf (ask .places)) zs)) (λ r e. id⊢ 𝓤 _) t (‵ (flft (ν ∷ []) fullShare) ⊛ ‵ (ShrSlice (named 0) (ν ∷ []) R .own (at-list b o δ zs) (sv b o zs ∷ [])))
-        (goes-fold 𝓤 H A mem run b o zs ν δ ask av W is-ask good) (λ j. os j (‵ (LentShared R κ (ν ∷ []) q γ b o zs))) (λ u v e is.
+        (goes-fold 𝓤 H A mem run b o zs ν δ ask av W is-ask good) (λ j. os j (‵ (LentRead R κ q γ b o (ν ∷ []) zs))) (λ u v e is.
         -- [the view; the token; what is kept; Γ]
         drop t $ use1 W (‵ (flft (ν ∷ []) fullShare)) (fst∗ 𝓤 (A .lft (ν ∷ []) fullShare) (emp 𝓤)) $ lft-end t tt $
-        use2 W (later (‵ (MutSlice (named 0) κ R .own (at-list b o γ zs) (sv b o zs ∷ [])) ⊛ ‵ (flft κ q))) (shared-back R κ (ν ∷ []) q γ b o zs 𝓤 H A W (named 0) (named 0) room) $ await t tt $ split t $ k u v e is)))
+        use2 W (later (‵ (MutSlice (named 0) κ R .own (at-list b o γ zs) (sv b o zs ∷ [])) ⊛ ‵ (flft κ q))) (read-back R κ q γ b o 𝓤 H A W (named 0) zs (ν ∷ []) (named 0) room) $ await t tt $ split t $ k u v e is)))

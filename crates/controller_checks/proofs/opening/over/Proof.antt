@@ -12,26 +12,26 @@ use Rattle.controller_checks.proofs.opening.over.Tie as tie
 fits : (n : ℕ) (l : List ℕ) → n ≤ length l → n ≡ length (take n l)
 fits n l h = sym (length-take-le n l h)
 
-slice-relend-prefix-open : tie.Need-slice-relend-prefix-open
-slice-relend-prefix-open c = search needs
+slice-relend-prefix-decide-open : tie.Need-slice-relend-prefix-decide-open
+slice-relend-prefix-decide-open c = search needs
 
-slice-aggregate-open : tie.Need-slice-aggregate-open
-slice-aggregate-open c = fits _ _ (omega arith)
+slice-aggregate-decide-open : tie.Need-slice-aggregate-decide-open
+slice-aggregate-decide-open c = fits _ _ (omega arith)
 
-slice-relend-prefix-open-2 : tie.Need-slice-relend-prefix-open-2
-slice-relend-prefix-open-2 c = search needs
+slice-relend-prefix-decide-open-2 : tie.Need-slice-relend-prefix-decide-open-2
+slice-relend-prefix-decide-open-2 c = search needs
 
-slice-aggregate-open-2 : tie.Need-slice-aggregate-open-2
-slice-aggregate-open-2 c = fits _ _ (omega arith)
+slice-aggregate-decide-open-2 : tie.Need-slice-aggregate-decide-open-2
+slice-aggregate-decide-open-2 c = fits _ _ (omega arith)
 
-slice-relend-prefix-open-3 : tie.Need-slice-relend-prefix-open-3
-slice-relend-prefix-open-3 c = search needs
+slice-relend-prefix-decide-open-3 : tie.Need-slice-relend-prefix-decide-open-3
+slice-relend-prefix-decide-open-3 c = search needs
 
-slice-aggregate-open-3 : tie.Need-slice-aggregate-open-3
-slice-aggregate-open-3 c = fits _ _ (omega arith)
+slice-aggregate-decide-open-3 : tie.Need-slice-aggregate-decide-open-3
+slice-aggregate-decide-open-3 c = fits _ _ (omega arith)
 
-open-requires : tie.Need-open-requires
-open-requires c κs = search needs
+decide-open-requires : tie.Need-decide-open-requires
+decide-open-requires c κs = search needs
 
 same-length : tie.Need-same-length
 same-length c = search needs
@@ -49,13 +49,13 @@ pub over-spec : {M : Type 1} → statement M
 over-spec =
     tie.close
     (tie.spec
-    slice-relend-prefix-open
-    slice-aggregate-open
-    slice-relend-prefix-open-2
-    slice-aggregate-open-2
-    slice-relend-prefix-open-3
-    slice-aggregate-open-3
-    open-requires
+    slice-relend-prefix-decide-open
+    slice-aggregate-decide-open
+    slice-relend-prefix-decide-open-2
+    slice-aggregate-decide-open-2
+    slice-relend-prefix-decide-open-3
+    slice-aggregate-decide-open-3
+    decide-open-requires
     same-length
     same-length-2
     same-length-3
