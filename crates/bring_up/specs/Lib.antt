@@ -1,1 +1,2 @@
 pub mod BringUp
+pub mod Runs
