@@ -1,0 +1,4 @@
+pub mod Ports
+pub mod Scan
+pub mod Ranges
+pub mod Calls
