@@ -75,7 +75,10 @@ fn place_good(hub: EhciRootHub) -> bool
     }
     let at = index_of(port);
     let state = hub.states[at];
-    both(within(step as u64, 1, 6), step_fits(awaited_of(step), state))
+    both(
+        within(step as u64, 1, 6),
+        step_fits(awaited_of(step), state),
+    )
 }
 
 pub fn hub_good(hub: EhciRootHub) -> bool

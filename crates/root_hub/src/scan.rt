@@ -35,8 +35,7 @@ pub const CHANGES: u32 = EhciPortStatus::CONNECT_CHANGE
     | EhciPortStatus::ENABLE_CHANGE
     | EhciPortStatus::OVER_CURRENT_CHANGE;
 
-pub const OTHER_CHANGES: u32 =
-    EhciPortStatus::ENABLE_CHANGE | EhciPortStatus::OVER_CURRENT_CHANGE;
+pub const OTHER_CHANGES: u32 = EhciPortStatus::ENABLE_CHANGE | EhciPortStatus::OVER_CURRENT_CHANGE;
 
 pub const RESET_MS: u32 = 50;
 

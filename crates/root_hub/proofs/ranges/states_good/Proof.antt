@@ -33,7 +33,7 @@ loop-less : tie.Need-loop-less Inv-loop μ-loop
 loop-less c = search needs
 
 loop-again : tie.Need-loop-again Inv-loop μ-loop
-loop-again c = 
+loop-again c =
     let l = c .before .before .before .before .loop in
     (omega arith, ports-turn _ (l .k) (l .good) _ _ (omega arith) (c .before .state-good .ensures) (c .both .ensures) ∙ l .inv .1)
 
