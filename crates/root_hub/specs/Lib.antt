@@ -2,3 +2,4 @@ pub mod Ports
 pub mod Scan
 pub mod Ranges
 pub mod Calls
+pub mod Runs
