@@ -3,8 +3,9 @@ use Prim.Native.Nat.{ℕ, zero, suc, _+_, _-_, _*_, _≤_, _<_}
 use mathlib.Core.Bool.{Bool, true, false, not}
 use mathlib.Core.List.{List, [], _∷_, map}
 use mathlib.Core.Logic.{_⊎_, inl, inr, ⊎-elim}
-use mathlib.Core.Path.{_≡_, refl, sym, ap, _∙_}
+use mathlib.Core.Path.{_≡_, refl, sym, subst, ap, _∙_}
 use native.Mathlib.Decide.{ℕ-discrete as decEq}
+use native.Mathlib.Numerals.{add-one}
 use native.Mathlib.Omega.{arith}
 use borrow.Author.Tests.{eq-eqb, ne-eqb, eqb-true, eqb-false, le-leb, leb-true, lt-ltb, le-ltb, ltb-true, ltb-false}
 use lib.Dec.{eqb, leb, ltb}
@@ -16,6 +17,7 @@ use Rattle.register.specs.declared.writes.Write.{Write}
 use Rattle.settings.specs.Tests.{both, within}
 use Rattle.settings.proofs.SettingsCases.{both-first, both-second, within-least, within-most}
 use Rattle.settings.proofs.SettingsLaws.{both-tells, within-makes}
+use Rattle.controller.specs.Answers.{numberOf}
 use Rattle.controller.specs.declared.answer.Answer.the-variants.{Done}
 use Rattle.controller.specs.declared.answer.Refusal.the-variants.{InvalidParameter}
 use Rattle.controller.specs.declared.hub.EhciRootHub.{EhciRootHub}
@@ -34,7 +36,7 @@ use Rattle.root_hub.specs.Scan.{awaitedOf, connected, enabled, statusTur
 use Rattle.root_hub.specs.Ranges.{stateGood, statesGood, fits, stateAt, placeGood, hubGood}
 use Rattle.root_hub.specs.Calls.{withScan, refusedScan, startOf, scannedOf, turnAt, stepOf}
 use Rattle.root_hub.specs.Runs.{Right, StaysRight, EndsBy, EndsInTime, addIf, skipIf, visits, upFrom, VisitsAll, reported, Ascends, OneEventEach, ByRule, stays, reseted, probed, gone, OnlyByRule, OnlyOwn}
-use Rattle.root_hub.proofs.Cases.{start-bad, start-done, step-bad, step-none, step-done, good-most, good-place, port-some, port-most, step-fits}
+use Rattle.root_hub.proofs.Cases.{start-bad, start-done, step-bad, step-none, step-done, good-most, good-place, port-some, port-most, step-fits, place-on, place-next, place-end}
 
 -- ---- the calls by their cases
 
@@ -249,3 +251,356 @@ module _ (h : EhciRootHub) (b : Begun h) where
 
   set-sized : (n : ℕ) → length (set (h .states) (h .port - 1) n) ≡ 15
   set-sized n = length-set (h .states) (h .port - 1) n ∙ b .right .sized
+
+-- ---- where a step goes
+
+-- nothing is reported, or something of the port that the scan was at
+abbrev Tells : EhciRootHub → Scanned → Type 0
+Tells h r = (eventPort (r .reply .event) ≡ 0) ⊎ (eventPort (r .reply .event) ≡ h .port)
+
+data Moves (h : EhciRootHub) (r : Scanned) : Type 0 where
+  on : r .hub .port ≡ h .port → (r .hub .step ≡ 1 → ⊥) → (r .hub .step ≡ 0 → ⊥)
+      → rank (awaitedOf (r .hub .step)) < rank (awaitedOf (h .step)) → eventPort (r .reply .event) ≡ 0 → Moves h r
+  next : r .hub .port ≡ h .port + 1 → r .hub .step ≡ 1 → h .port < h .ports → Tells h r → Moves h r
+  over : r .hub .step ≡ 0 → r .reply .read ≡ NoRead → h .ports ≤ h .port → Tells h r → Moves h r
+
+record After (h : EhciRootHub) (r : Scanned) : Type 0 where
+  right : Right (r .hub)
+  same-ports : r .hub .ports ≡ h .ports
+  accepted : numberOf (r .reply .answer) ≡ 0
+  moves : Moves h r
+
+module _ (h : EhciRootHub) (b : Begun h) (v : ℕ) (t : Turned) (k : Turns (awaitedOf (h .step)) (stateAt h) (h .port) v t) where
+  -- the record with the port's new state, at a place
+  at : ℕ → ℕ → EhciRootHub
+  at port step = withScan h (set (h .states) (h .port - 1) (t .state)) port step
+
+  at-right : (port step : ℕ) → placeGood (at port step) ≡ true → Right (at port step)
+  unfolding at withScan
+  at-right port step p =
+      record {
+        good = hub-makes (at port step) (ports-within h (b .right .good)) (set-right h b (t .state) (k .state-most)) p;
+        sized = set-sized h b (t .state);
+      }
+
+  on-right : (t .step ≡ 0 → ⊥) → placeGood (at (h .port) (t .step)) ≡ true
+  unfolding at withScan placeGood
+  on-right n =
+      let some : h .port ≡ 0 → ⊥ = λ q. omega (arith, port-least h b) in
+      let fit = k .fitting n in
+      rw (
+        ne-eqb (h .port) 0 some,
+        le-leb (h .port) (h .ports) (port-within h b),
+        within-makes (t .step) 1 6 (some-step n) (k .step-most),
+        here-set h b (t .state),
+      )
+      fit
+    where
+      some-step : (t .step ≡ 0 → ⊥) → 1 ≤ t .step
+      some-step m = by (decEq (t .step) 0)
+        where
+          by : Dec (t .step ≡ 0) → 1 ≤ t .step
+          by (yes q) = absurd (m q)
+          by (no ne) = omega arith
+
+  next-right : h .port < h .ports → placeGood (at (h .port + 1) 1) ≡ true
+  unfolding at withScan placeGood
+  next-right l =
+      let some : h .port + 1 ≡ 0 → ⊥ = λ q. omega arith in
+      let most : h .port + 1 ≤ h .ports = omega arith in
+      rw (ne-eqb (h .port + 1) 0 some, le-leb (h .port + 1) (h .ports) most)
+
+  end-right : placeGood (at 0 0) ≡ true
+  unfolding at withScan placeGood
+  end-right = refl
+
+  after-on : (t .step ≡ 0 → ⊥) → After h (scannedOf h t (record { port = h .port; step = t .step; read = Register (portscOf (h .port)) }))
+  unfolding scannedOf at withScan
+  after-on n =
+      record {
+        right = at-right (h .port) (t .step) (on-right n);
+        same-ports = refl;
+        accepted = refl;
+        moves = on refl (k .not-first) n (k .nearer n) (⊎-elim (λ w. w) (λ w. absurd (n (w .1))) (k .eventful));
+      }
+
+  after-next : h .port < h .ports → After h (scannedOf h t (record { port = h .port + 1; step = 1; read = Register (portscOf (h .port + 1)) }))
+  unfolding scannedOf at withScan
+  after-next l =
+      record {
+        right = at-right (h .port + 1) 1 (next-right l);
+        same-ports = refl;
+        accepted = refl;
+        moves = next refl refl l (⊎-elim inl (λ w. inr (w .0)) (k .eventful));
+      }
+
+  after-end : h .ports ≤ h .port → After h (scannedOf h t (record { port = 0; step = 0; read = NoRead }))
+  unfolding scannedOf at withScan
+  after-end l =
+      record {
+        right = at-right 0 0 end-right;
+        same-ports = refl;
+        accepted = refl;
+        moves = over refl refl l (⊎-elim inl (λ w. inr (w .0)) (k .eventful));
+      }
+
+  after-turn : Dec (t .step ≡ 0) → (l : Bool) → ltb (h .port) (h .ports) ≡ l → After h (scannedOf h t (placeAfter (h .port) (h .ports) (t .step)))
+  after-turn (no n) l q = rw (← place-on (h .port) (h .ports) (t .step) _ refl n) (after-on n)
+  after-turn (yes z) true q =
+      let m : h .port < h .ports = ltb-true (h .port) (h .ports) q in
+      rw (← place-next (h .port) (h .ports) (t .step) _ refl z m) (after-next m)
+  after-turn (yes z) false q =
+      let m : h .ports ≤ h .port = ltb-false (h .port) (h .ports) q in
+      rw (← place-end (h .port) (h .ports) (t .step) z m) (after-end m)
+
+after : (h : EhciRootHub) (b : Begun h) (v : ℕ) → After h (stepOf h v)
+after h b v =
+    rw (step-is h (b .right .good) v (b .begun))
+    (after-turn h b v (turnAt h v) (turns h b v) (decEq (turnAt h v .step) 0) (ltb (h .port) (h .ports)) refl)
+
+-- ---- the start
+
+started : EhciRootHub → EhciRootHub
+started h = withScan h (h .states) 1 1
+
+module _ (h : EhciRootHub) (r : Right h) where
+  started-is : startOf h .hub ≡ started h
+  unfolding started
+  started-is = ap (λ (s : Scanned). s .hub) (start-is h (r .good))
+
+  started-place : placeGood (started h) ≡ true
+  unfolding started withScan placeGood
+  started-place = rw (le-leb 1 (h .ports) (within-least (h .ports) 1 15 (ports-within h (r .good))))
+
+  started-begun : Begun (started h)
+  unfolding started withScan
+  started-begun =
+      record {
+        right = record {
+          good = hub-makes (started h) (ports-within h (r .good)) (states-right h (r .good)) started-place;
+          sized = r .sized;
+        };
+        begun = λ z. omega arith;
+      }
+
+pub stays-right : StaysRight
+stays-right h v r = (rw (started-is h r) (started-begun h r .right), by (decEq (h .step) 0))
+  where
+    by : Dec (h .step ≡ 0) → Right (stepOf h v .hub)
+    by (yes z) = rw (step-idle h (r .good) v z) r
+    by (no n) = after h (record { right = r; begun = n }) v .right
+
+-- ---- the end
+
+-- how many readings a scan can still need
+left : EhciRootHub → ℕ
+left h = rank (awaitedOf (h .step)) + 5 * (h .ports - h .port)
+
+rank-least : (a : Awaited) → 1 ≤ rank a
+unfolding rank
+rank-least Status = omega arith
+rank-least Gone = omega arith
+rank-least Reset = omega arith
+rank-least Release = omega arith
+rank-least Again = omega arith
+rank-least Owner = omega arith
+
+rank-first : rank (awaitedOf 1) ≡ 5
+unfolding rank
+rank-first = refl
+
+left-some : (h : EhciRootHub) → left h ≤ 0 → ⊥
+unfolding left
+left-some h l = omega (arith, rank-least (awaitedOf (h .step)))
+
+-- a step that goes on comes nearer
+on-nearer : (h k : EhciRootHub) → k .ports ≡ h .ports → k .port ≡ h .port → rank (awaitedOf (k .step)) < rank (awaitedOf (h .step)) → left k < left h
+unfolding left
+on-nearer h k ep eq l = rw (ep, eq) (omega arith)
+
+next-nearer : (h k : EhciRootHub) → k .ports ≡ h .ports → k .port ≡ h .port + 1 → k .step ≡ 1 → h .port < h .ports → left k < left h
+unfolding left
+next-nearer h k ep eq es l = rw (ep, eq, es, rank-first) (omega (arith, rank-least (awaitedOf (h .step))))
+
+ends : (h : EhciRootHub) (vs : List ℕ) → Begun h → left h ≤ length vs → EndsBy h vs
+ends h [] b m = absurd (left-some h m)
+ends h (v ∷ vs) b m = go (λ c l. ends (stepOf h v .hub) vs c l) (after h b v) (after h b v .moves)
+  where
+    go : (Begun (stepOf h v .hub) → left (stepOf h v .hub) ≤ length vs → EndsBy (stepOf h v .hub) vs)
+        → After h (stepOf h v) → Moves h (stepOf h v) → EndsBy h (v ∷ vs)
+    go later a (on ep n1 n0 near ev) =
+        (a .accepted, inr (later (record { right = a .right; begun = n0 }) (omega (arith, on-nearer h (stepOf h v .hub) (a .same-ports) ep near))))
+    go later a (next ep es l ev) = (
+      a .accepted,
+      inr (later (record { right = a .right; begun = λ z. omega (arith, es, z) }) (omega (arith, next-nearer h (stepOf h v .hub) (a .same-ports) ep es l))),
+    )
+    go later a (over es er l ev) = (a .accepted, inl (er, es))
+
+started-left : (h : EhciRootHub) → 1 ≤ h .ports → left (started h) ≡ 5 * h .ports
+unfolding left started withScan rank
+started-left h l = omega arith
+
+started-port : (h : EhciRootHub) → 0 < started h .port
+unfolding started withScan
+started-port h = omega arith
+
+started-ports : (h : EhciRootHub) → 1 ≤ h .ports
+    → addIf (eqb (started h .step) 1) (started h .port) (upFrom (suc (started h .port)) (started h .ports - started h .port)) ≡ upFrom 1 (h .ports)
+unfolding started withScan
+started-ports h l = let more : h .ports ≡ suc (h .ports - 1) = omega arith in sym (ap (upFrom 1) more)
+
+pub ends-in-time : EndsInTime
+ends-in-time h vs r l =
+    rw (started-is h r)
+    (ends (started h) vs (started-begun h r) (omega (arith, started-left h (within-least (h .ports) 1 15 (ports-within h (r .good))))))
+
+-- ---- the ports in order
+
+-- a step where none is begun leaves the record as it is
+idle-stays : (h : EhciRootHub) (v : ℕ) → h .step ≡ 0 → (stepOf h v .hub ≡ h) × (eventPort (stepOf h v .reply .event) ≡ 0)
+idle-stays h v z = by (hubGood h) refl
+  where
+    by : (g : Bool) → hubGood h ≡ g → (stepOf h v .hub ≡ h) × (eventPort (stepOf h v .reply .event) ≡ 0)
+    by true e = (ap (λ (s : Scanned). s .hub) (step-idle h e v z), ap (λ (s : Scanned). eventPort (s .reply .event)) (step-idle h e v z))
+    by false e = (ap (λ (s : Scanned). s .hub) (step-out h v e), ap (λ (s : Scanned). eventPort (s .reply .event)) (step-out h v e))
+
+idle-visits : (h : EhciRootHub) (vs : List ℕ) → h .step ≡ 0 → visits h vs ≡ []
+idle-visits h [] z = refl
+idle-visits h (v ∷ vs) z =
+    let first : eqb (h .step) 1 ≡ false = rw z refl in
+    rw (first, idle-stays h v z .0) (idle-visits h vs z)
+
+idle-reports : (h : EhciRootHub) (vs : List ℕ) → h .step ≡ 0 → reported h vs ≡ []
+idle-reports h [] z = refl
+idle-reports h (v ∷ vs) z =
+    rw (eq-eqb (eventPort (stepOf h v .reply .event)) 0 (idle-stays h v z .1), idle-stays h v z .0) (idle-reports h vs z)
+
+-- from a record on: its port if it is at its first reading, and all those that follow
+all-visits : (h : EhciRootHub) (vs : List ℕ) → Begun h → left h ≤ length vs
+    → visits h vs ≡ addIf (eqb (h .step) 1) (h .port) (upFrom (suc (h .port)) (h .ports - h .port))
+all-visits h [] b m = absurd (left-some h m)
+all-visits h (v ∷ vs) b m =
+    ap (λ (l : List ℕ). addIf (eqb (h .step) 1) (h .port) l)
+    (go (λ c l. all-visits (stepOf h v .hub) vs c l) (after h b v) (after h b v .moves))
+  where
+    go : (Begun (stepOf h v .hub) → left (stepOf h v .hub) ≤ length vs
+        → visits (stepOf h v .hub) vs
+        ≡ addIf (eqb (stepOf h v .hub .step) 1) (stepOf h v .hub .port) (upFrom (suc (stepOf h v .hub .port)) (stepOf h v .hub .ports - stepOf h v .hub .port)))
+        → After h (stepOf h v) → Moves h (stepOf h v)
+        → visits (stepOf h v .hub) vs ≡ upFrom (suc (h .port)) (h .ports - h .port)
+    go later a (on ep n1 n0 near ev) =
+        later (record { right = a .right; begun = n0 }) (omega (arith, on-nearer h (stepOf h v .hub) (a .same-ports) ep near))
+        ∙ rw (ne-eqb (stepOf h v .hub .step) 1 n1, ep, a .same-ports)
+    go later a (next ep es l ev) =
+        let more : h .ports - h .port ≡ suc (h .ports - (h .port + 1)) = omega arith in
+        later (record { right = a .right; begun = λ z. omega (arith, es, z) }) (omega (arith, next-nearer h (stepOf h v .hub) (a .same-ports) ep es l))
+        ∙ rw (es, ep, a .same-ports, more, add-one (h .port))
+    go later a (over es er l ev) =
+        let none : h .ports - h .port ≡ 0 = omega arith in
+        idle-visits (stepOf h v .hub) vs es ∙ rw none
+
+pub visits-all : VisitsAll
+visits-all h vs r l =
+    let least = within-least (h .ports) 1 15 (ports-within h (r .good)) in
+    rw (started-is h r)
+    (all-visits (started h) vs (started-begun h r) (omega (arith, started-left h least)) ∙ started-ports h least)
+
+-- ---- one event each
+
+ascends : (h : EhciRootHub) (vs : List ℕ) (q : ℕ) → Begun h → q < h .port → Ascends q (reported h vs)
+ascends h [] q b l = tt
+ascends h (v ∷ vs) q b l =
+    go (λ p c m. ascends (stepOf h v .hub) vs p c m) (after h b v) (after h b v .moves)
+  where
+    -- what is told of this port, and then what follows above it
+    told : Tells h (stepOf h v) → ((p : ℕ) → p ≤ h .port → Ascends p (reported (stepOf h v .hub) vs)) → Ascends q (reported h (v ∷ vs))
+    told (inl z) rest = rw (eq-eqb (eventPort (stepOf h v .reply .event)) 0 z) (rest q (omega arith))
+    told (inr z) rest =
+        let some : eventPort (stepOf h v .reply .event) ≡ 0 → ⊥ = λ w. omega (arith, z, w) in
+        rw (ne-eqb (eventPort (stepOf h v .reply .event)) 0 some, z) (l, rest (h .port) (omega arith))
+
+    go : ((p : ℕ) → Begun (stepOf h v .hub) → p < stepOf h v .hub .port → Ascends p (reported (stepOf h v .hub) vs))
+        → After h (stepOf h v) → Moves h (stepOf h v) → Ascends q (reported h (v ∷ vs))
+    go later a (on ep n1 n0 near ev) =
+        rw (eq-eqb (eventPort (stepOf h v .reply .event)) 0 ev) (later q (record { right = a .right; begun = n0 }) (omega (arith, ep)))
+    go later a (next ep es m ev) =
+        told ev (λ p w. later p (record { right = a .right; begun = λ z. omega (arith, es, z) }) (omega (arith, ep)))
+    go later a (over es er m ev) = told ev (λ p w. rw (idle-reports (stepOf h v .hub) vs es) tt)
+
+pub one-event-each : OneEventEach
+one-event-each h vs r = rw (started-is h r) (ascends (started h) vs 0 (started-begun h r) (started-port h))
+
+-- ---- a port's state
+
+again-rule : (c d : Bool) (p v st : ℕ) (r : Scanned) → connected v ≡ c → enabled v ≡ d → st ≡ 1
+    → r .reply .event ≡ againTurn st p c d .event → ByRule Again p v st (againTurn st p c d .state) r
+again-rule true true p v st r ec ed q e = probed refl q refl ec ed e
+again-rule true false p v st r ec ed q e = stays refl e
+again-rule false d p v st r ec ed q e = stays refl e
+
+status-event : (c : Bool) (st p v : ℕ) → st ≤ 2 → (statusTurn (portState st) st c .state ≡ st) × (statusTurn (portState st) st c .event ≡ NoEvent)
+status-event true st p v h =
+    by-state (λ s. (statusTurn (portState s) s true .state ≡ s) × (statusTurn (portState s) s true .event ≡ NoEvent)) (refl, refl) (refl, refl) (refl, refl) st h
+status-event false st p v h =
+    by-state (λ s. (statusTurn (portState s) s false .state ≡ s) × (statusTurn (portState s) s false .event ≡ NoEvent)) (refl, refl) (refl, refl) (refl, refl) st h
+
+turn-rule : (a : Awaited) (p v st : ℕ) (r : Scanned) → st ≤ 2 → fits a st ≡ true → r .reply .event ≡ turnOf a st p v .event
+    → ByRule a p v st (turnOf a st p v .state) r
+turn-rule Status p v st r h f e = stays (status-event (connected v) st p v h .0) (e ∙ status-event (connected v) st p v h .1)
+turn-rule Gone p v st r h f e = gone refl (eqb-true st 2 f) refl e
+turn-rule Reset p v st r h f e = stays refl e
+turn-rule Release p v st r h f e = reseted refl (eqb-true st 0 f) refl e
+turn-rule Again p v st r h f e = again-rule (connected v) (enabled v) p v st r refl refl (eqb-true st 1 f) e
+turn-rule Owner p v st r h f e = stays refl e
+
+scanned-event : (h : EhciRootHub) (t : Turned) (p : Place) → scannedOf h t p .reply .event ≡ t .event
+unfolding scannedOf
+scanned-event h t p = refl
+
+scanned-states : (h : EhciRootHub) (t : Turned) (p : Place) → scannedOf h t p .hub .states ≡ set (h .states) (h .port - 1) (t .state)
+unfolding scannedOf withScan
+scanned-states h t p = refl
+
+pub only-by-rule : OnlyByRule
+only-by-rule h v r z =
+    let b : Begun h = record { right = r; begun = z } in
+    let t = turnAt h v in
+    let p = placeAfter (h .port) (h .ports) (t .step) in
+    let states : stepOf h v .hub .states ≡ set (h .states) (h .port - 1) (t .state)
+    = ap (λ (s : Scanned). s .hub .states) (step-is h (r .good) v z) ∙ scanned-states h t p in
+    let event : stepOf h v .reply .event ≡ t .event
+    = ap (λ (s : Scanned). s .reply .event) (step-is h (r .good) v z) ∙ scanned-event h t p in (
+      subst (λ (n : ℕ). ByRule (awaitedOf (h .step)) (h .port) v (stateAt h) n (stepOf h v))
+          (sym (ap (λ (l : List ℕ). getD l (h .port - 1) 0) states ∙ here-set h b (t .state)))
+          (turn-rule (awaitedOf (h .step)) (h .port) v (stateAt h) (stepOf h v) (here-most h b) (step-fits h (r .good) z) event),
+      λ k ne. rw states (getD-set-other (h .states) (h .port - 1) k (t .state) 0 ne),
+    )
+
+-- ---- the registers
+
+own-writes : (port : ℕ) (c : Change)
+    → (map (λ (w : Write). w .offset) (listOf (portWrites port c)) ≡ [])
+    ⊎ (map (λ (w : Write). w .offset) (listOf (portWrites port c)) ≡ portscOf port ∷ [])
+unfolding noWrites andThen
+own-writes port NoChange = inl refl
+own-writes port (Value v) = inr refl
+
+silent : map (λ (w : Write). w .offset) (listOf noWrites) ≡ []
+unfolding noWrites
+silent = refl
+
+scanned-writes : (h : EhciRootHub) (t : Turned) (p : Place) → scannedOf h t p .reply .writes ≡ portWrites (h .port) (t .change)
+unfolding scannedOf
+scanned-writes h t p = refl
+
+pub only-own : OnlyOwn
+only-own h v = by (hubGood h) refl (decEq (h .step) 0)
+  where
+    by : (g : Bool) → hubGood h ≡ g → Dec (h .step ≡ 0)
+        → (map (λ (w : Write). w .offset) (listOf (stepOf h v .reply .writes)) ≡ [])
+        ⊎ (map (λ (w : Write). w .offset) (listOf (stepOf h v .reply .writes)) ≡ portscOf (h .port) ∷ [])
+    by false e d = inl (rw (step-out h v e) silent)
+    by true e (yes z) = inl (rw (step-idle h e v z) silent)
+    by true e (no n) =
+        rw (step-is h e v n, scanned-writes h (turnAt h v) (placeAfter (h .port) (h .ports) (turnAt h v .step)))
+        (own-writes (h .port) (turnAt h v .change))
