@@ -3,3 +3,4 @@ pub mod Scan
 pub mod Ranges
 pub mod Calls
 pub mod Runs
+pub mod Examples

@@ -10,9 +10,9 @@ pub fn scan_start(hub: &mut EhciRootHub) -> ScanReply
     ensures { λ r. ⌜ (r ≡ startOf (now (hub .entry)) .reply) × (now (hub .exit) ≡ startOf (now (hub .entry)) .hub) ⌝ }
 {
     let h = *hub;
-    let s = start(h);
-    *hub = s.hub;
-    s.reply
+    let begun = start(h);
+    *hub = begun.hub;
+    begun.reply
 }
 
 pub fn scan_step(hub: &mut EhciRootHub, reading: u32) -> ScanReply
