@@ -1,6 +1,6 @@
 -- The returns of the bring-up calls, and the loop over the slots.
-use Prim.Native.Nat.{ℕ, zero, suc, _+_, _-_, _≤_, _<_}
-use mathlib.Core.Path.{_≡_, refl, sym, ap, _∙_}
+use Prim.Native.Nat.{ℕ, suc, _+_, _-_, _≤_, _<_}
+use mathlib.Core.Path.{_≡_, refl, sym, _∙_}
 use mathlib.Core.Bool.{Bool, true, false, not}
 use native.Mathlib.Decide.{ℕ-discrete as decEq}
 use native.Mathlib.Numerals.{add-one}
@@ -17,7 +17,7 @@ use Rattle.state.specs.declared.state.Ehci.{Ehci}
 use Rattle.state.specs.Ranges.{inRanges}
 use Rattle.state.specs.Slots.{slotAt}
 use Rattle.state.specs.State.{withBringUp}
-use Rattle.state.proofs.RangesLaws.{Ranges, ranges-tell}
+use Rattle.state.proofs.RangesLaws.{ranges-tell}
 use Rattle.controller.specs.declared.answer.Answer.the-variants.{Done}
 use Rattle.controller.specs.declared.answer.Refusal.the-variants.{InvalidParameter, QueueFull, Timeout}
 use Rattle.controller.specs.Endpoints.{decoded, endpointAt}
@@ -37,11 +37,11 @@ held-linked p e = rw (eq-eqb p 2 e)
 pub held-other : (p : ℕ) → (p ≡ 2 → ⊥) → eqb p 3 ≡ heldIn p
 held-other p e = rw (ne-eqb p 2 e)
 
-decoded-holds : (e : Slot) (a b c : Bool) → (e .phase ≡ 1 → ⊥) → eqb (e .phase) 2 ≡ b → eqb (e .phase) 3 ≡ c → heldIn (e .phase) ≡ holdsRequest (decoded e)
+decoded-holds : (e : Slot) (b c : Bool) → (e .phase ≡ 1 → ⊥) → eqb (e .phase) 2 ≡ b → eqb (e .phase) 3 ≡ c → heldIn (e .phase) ≡ holdsRequest (decoded e)
 unfolding decoded
-decoded-holds e a true c n q r = rw (ne-eqb (e .phase) 1 n, q)
-decoded-holds e a false true n q r = rw (ne-eqb (e .phase) 1 n, q, r)
-decoded-holds e a false false n q r = rw (ne-eqb (e .phase) 1 n, q, r)
+decoded-holds e true c n q r = rw (ne-eqb (e .phase) 1 n, q)
+decoded-holds e false true n q r = rw (ne-eqb (e .phase) 1 n, q, r)
+decoded-holds e false false n q r = rw (ne-eqb (e .phase) 1 n, q, r)
 
 idle-holds : (e : Slot) → e .phase ≡ 1 → heldIn (e .phase) ≡ holdsRequest (decoded e)
 unfolding decoded
@@ -53,7 +53,7 @@ held-is s k h = rw (lt-ltb k 32 h) (by (decEq (slotAt s k .phase) 1))
   where
     by : Dec (slotAt s k .phase ≡ 1) → heldIn (slotAt s k .phase) ≡ holdsRequest (decoded (slotAt s k))
     by (yes q) = idle-holds (slotAt s k) q
-    by (no n) = decoded-holds (slotAt s k) true _ _ n refl refl
+    by (no n) = decoded-holds (slotAt s k) _ _ n refl refl
 
 either-assoc : (a b c : Bool) → either (either a b) c ≡ either a (either b c)
 either-assoc true b c = refl

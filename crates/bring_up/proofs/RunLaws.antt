@@ -1,15 +1,15 @@
 -- Any bring-up: six ready readings, its end in time, the registers it writes, the ranges.
-use Prim.Native.Nat.{ℕ, zero, suc, _+_, _-_, _*_, _≤_, _<_}
+use Prim.Native.Nat.{ℕ, _+_, _-_, _*_, _≤_, _<_}
 use mathlib.Core.Bool.{Bool, true, false, not}
 use mathlib.Core.List.{List, [], _∷_}
-use mathlib.Core.Logic.{_⊎_, inl, inr, ⊎-elim}
+use mathlib.Core.Logic.{_⊎_, inl, inr}
 use mathlib.Core.Path.{_≡_, refl, sym, ap, _∙_}
 use native.Mathlib.Decide.{ℕ-discrete as decEq}
 use native.Mathlib.Omega.{arith}
-use borrow.Author.Tests.{eq-eqb, ne-eqb, ltb-true, ltb-false, lt-ltb, le-ltb}
-use lib.Dec.{eqb, ltb}
+use borrow.Author.Tests.{ltb-true}
+use lib.Dec.{ltb}
 use lib.ListN.{length}
-use Rattle.register.specs.Bits.{withBits, withoutBits, anyOf}
+use Rattle.register.specs.Bits.{anyOf}
 use Rattle.register.specs.Writes.{writeOf, noWrites, andThen}
 use Rattle.state.specs.declared.state.Ehci.{Ehci}
 use Rattle.state.specs.Ranges.{inRanges}
@@ -17,9 +17,9 @@ use Rattle.state.specs.Slots.{slotAt}
 use Rattle.state.specs.State.{withBringUp}
 use Rattle.state.proofs.RangesLaws.{Ranges, ranges-make, ranges-tell}
 use Rattle.controller.specs.declared.answer.Answer.the-variants.{Done}
-use Rattle.controller.specs.declared.answer.Refusal.the-variants.{InvalidParameter, QueueFull, Timeout}
+use Rattle.controller.specs.declared.answer.Refusal.the-variants.{InvalidParameter, QueueFull}
 use Rattle.controller.specs.Endpoints.{flagNumber}
-use Rattle.bring_up.specs.declared.reads.NextRead.the-variants.{Nothing, Register}
+use Rattle.bring_up.specs.declared.reads.NextRead.the-variants.{Register}
 use Rattle.bring_up.specs.declared.stage.Stage.{Stage}
 use Rattle.bring_up.specs.declared.stage.Stage.the-variants.{Stop, Halting, Reset, Resetting, Run, Starting}
 use Rattle.bring_up.specs.declared.calls.BroughtUp.{BroughtUp}

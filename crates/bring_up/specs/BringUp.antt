@@ -16,7 +16,6 @@ use Rattle.controller.specs.declared.answer.Answer.the-variants.{Done, Refused}
 use Rattle.controller.specs.declared.answer.Refusal.{Refusal}
 use Rattle.controller.specs.declared.answer.Refusal.the-variants.{InvalidParameter, QueueFull, Timeout}
 use Rattle.schedule.specs.Bell.{commandWord}
-use Rattle.bring_up.specs.declared.reads.NextRead.{NextRead}
 use Rattle.bring_up.specs.declared.reads.NextRead.the-variants.{Nothing, Register}
 use Rattle.bring_up.specs.declared.stage.Stage.{Stage}
 use Rattle.bring_up.specs.declared.stage.Stage.the-variants.{Stop, Halting, Reset, Resetting, Run, Starting}

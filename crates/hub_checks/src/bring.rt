@@ -28,13 +28,7 @@ fn opened(wait: u64) -> Ehci {
     let mut heads: [u32; 51] = [0; 51];
     let mut frames: [u32; 1024] = [0; 1024];
     let mut setups: [u8; 16] = [0; 16];
-    let opening = open(
-        settings(wait),
-        16,
-        &mut heads,
-        &mut frames,
-        &mut setups,
-    );
+    let opening = open(settings(wait), 16, &mut heads, &mut frames, &mut setups);
     let mut state = opening.state;
     state.enabled = 1;
     state.pending = 0x14;

@@ -7,7 +7,11 @@ use root_hub::calls::port_power;
 // Two ports, the first or the second in some state and at some step.
 fn at(port: u8, state: u8, now: u8) -> EhciRootHub {
     let mut h = EhciRootHub::new(2);
-    h.states[if port == 1 { 0 } else { 1 }] = state;
+    if port == 1 {
+        h.states[0] = state;
+    } else {
+        h.states[1] = state;
+    }
     h.port = port;
     h.step = now;
     h
@@ -36,11 +40,7 @@ pub fn port_edge(k: u32) {
 
 // A start in the middle of each.
 pub fn again_edge(k: u32) {
-    scan::start_line(at(
-        (k % 2) as u8 + 1,
-        (k / 2 % 3) as u8,
-        (k / 6 % 6) as u8 + 1,
-    ));
+    scan::start_line(at((k % 2) as u8 + 1, (k / 2 % 3) as u8, (k / 6 % 6) as u8 + 1));
 }
 
 fn power_line(h: EhciRootHub, port: u8, reading: u32) {

@@ -1,8 +1,7 @@
 -- The returns of the root hub's functions, and the loop over the ports.
-use Prim.Native.Nat.{ℕ, zero, suc, _+_, _-_, _≤_, _<_}
-use mathlib.Core.Path.{_≡_, refl, sym, ap, _∙_}
+use Prim.Native.Nat.{ℕ, suc, _+_, _-_, _≤_, _<_}
+use mathlib.Core.Path.{_≡_, refl, sym, _∙_}
 use mathlib.Core.Bool.{Bool, true, false, not}
-use mathlib.Core.List.{List}
 use native.Mathlib.Numerals.{add-one}
 use native.Mathlib.Omega.{arith}
 use borrow.Author.Tests.{eq-eqb, ne-eqb, le-leb, lt-leb, lt-ltb, le-ltb, eqb-false, eqb-true, leb-true, not-false, not-true}
@@ -31,13 +30,12 @@ use Rattle.root_hub.specs.declared.scan.Change.{Change}
 use Rattle.root_hub.specs.declared.scan.Change.the-variants.{Nothing as NoChange, Value}
 use Rattle.root_hub.specs.declared.scan.Place.{Place}
 use Rattle.root_hub.specs.declared.scan.Turned.{Turned}
-use Rattle.root_hub.specs.declared.calls.ScanReply.{ScanReply}
 use Rattle.root_hub.specs.declared.calls.Scanned.{Scanned}
 use Rattle.root_hub.specs.declared.calls.PortPower.{PortPower}
 use Rattle.root_hub.specs.Ports.{portState}
 use Rattle.root_hub.specs.Scan.{awaitedOf, onward, await, statusTurn, goneTurn, resetTurn, releaseTurn, againTurn, ownerTurn, turnOf, placeAfter, portWrites}
 use Rattle.root_hub.specs.Ranges.{stateGood, statesGood, fits, stateAt, placeGood, hubGood}
-use Rattle.root_hub.specs.Calls.{withScan, refusedScan, startOf, scannedOf, turnAt, stepOf, refusedPower, powerOf}
+use Rattle.root_hub.specs.Calls.{withScan, refusedScan, startOf, scannedOf, stepOf, refusedPower, powerOf}
 
 -- ---- numbers to names
 
@@ -223,9 +221,6 @@ module _ (h : EhciRootHub) where
       → f ≡ fits a (getD (h .states) i 0) → r ≡ both w f → (h .port ≡ 0 → ⊥) → h .port ≤ h .ports → r ≡ placeGood h
   unfolding placeGood
   place-begun i a w f r ei ew ea ef er e l = er ∙ rw (ew, ef, ea, ei, ne-eqb (h .port) 0 e, le-leb (h .port) (h .ports) l)
-
-  pub index-below : (i : ℕ) → i ≡ h .port - 1 → h .ports ≤ 15 → (h .port ≡ 0 → ⊥) → h .port ≤ h .ports → i < 15
-  index-below i ei m e l = omega arith
 
   pub hub-is : (w s p r : Bool) → w ≡ within (h .ports) 1 15 → w ≡ true → s ≡ statesGood 0 15 h → p ≡ placeGood h → r ≡ both s p → r ≡ hubGood h
   unfolding hubGood

@@ -1,29 +1,28 @@
 -- Any scan: the ranges, the end in time, the ports in order, one event each, a state's changes, the registers.
 use Prim.Native.Nat.{ℕ, zero, suc, _+_, _-_, _*_, _≤_, _<_}
-use mathlib.Core.Bool.{Bool, true, false, not}
+use mathlib.Core.Bool.{Bool, true, false}
 use mathlib.Core.List.{List, [], _∷_, map}
 use mathlib.Core.Logic.{_⊎_, inl, inr, ⊎-elim}
 use mathlib.Core.Path.{_≡_, refl, sym, subst, ap, _∙_}
 use native.Mathlib.Decide.{ℕ-discrete as decEq}
 use native.Mathlib.Numerals.{add-one}
 use native.Mathlib.Omega.{arith}
-use borrow.Author.Tests.{eq-eqb, ne-eqb, eqb-true, eqb-false, le-leb, leb-true, lt-ltb, le-ltb, ltb-true, ltb-false}
-use lib.Dec.{eqb, leb, ltb}
+use borrow.Author.Tests.{eq-eqb, ne-eqb, eqb-true, le-leb, leb-true, lt-ltb, ltb-true, ltb-false}
+use lib.Dec.{eqb, ltb}
 use lib.ListN.{getD, length, length-set, set}
 use lib.Seq.{getD-set-other, getD-set-same}
 use Rattle.register.specs.EhciRegisters.{portscOf}
 use Rattle.register.specs.Writes.{listOf, noWrites, andThen}
 use Rattle.register.specs.declared.writes.Write.{Write}
-use Rattle.settings.specs.Tests.{both, within}
-use Rattle.settings.proofs.SettingsCases.{both-first, both-second, within-least, within-most}
+use Rattle.settings.specs.Tests.{within}
+use Rattle.settings.proofs.SettingsCases.{both-first, both-second, within-least}
 use Rattle.settings.proofs.SettingsLaws.{both-tells, within-makes}
 use Rattle.controller.specs.Answers.{numberOf}
 use Rattle.controller.specs.declared.answer.Answer.the-variants.{Done}
 use Rattle.controller.specs.declared.answer.Refusal.the-variants.{InvalidParameter}
 use Rattle.controller.specs.declared.hub.EhciRootHub.{EhciRootHub}
 use Rattle.bring_up.specs.declared.reads.NextRead.the-variants.{Nothing as NoRead, Register}
-use Rattle.root_hub.specs.declared.ports.PortEvent.the-variants.{Nothing as NoEvent, Connected, Disconnected}
-use Rattle.root_hub.specs.declared.ports.Speed.the-variants.{High}
+use Rattle.root_hub.specs.declared.ports.PortEvent.the-variants.{Nothing as NoEvent}
 use Rattle.root_hub.specs.declared.scan.Awaited.{Awaited}
 use Rattle.root_hub.specs.declared.scan.Awaited.the-variants.{Status, Gone, Reset, Release, Again, Owner}
 use Rattle.root_hub.specs.declared.scan.Change.{Change}
@@ -35,8 +34,8 @@ use Rattle.root_hub.specs.Ports.{eventPort, portState}
 use Rattle.root_hub.specs.Scan.{awaitedOf, connected, enabled, statusTurn, againTurn, turnOf, placeAfter, portWrites}
 use Rattle.root_hub.specs.Ranges.{stateGood, statesGood, fits, stateAt, placeGood, hubGood}
 use Rattle.root_hub.specs.Calls.{withScan, refusedScan, startOf, scannedOf, turnAt, stepOf}
-use Rattle.root_hub.specs.Runs.{Right, StaysRight, EndsBy, EndsInTime, addIf, skipIf, visits, upFrom, VisitsAll, reported, Ascends, OneEventEach, ByRule, stays, reseted, probed, gone, OnlyByRule, OnlyOwn}
-use Rattle.root_hub.proofs.Cases.{start-bad, start-done, step-bad, step-none, step-done, good-most, good-place, port-some, port-most, step-fits, place-on, place-next, place-end}
+use Rattle.root_hub.specs.Runs.{Right, StaysRight, EndsBy, EndsInTime, addIf, visits, upFrom, VisitsAll, reported, Ascends, OneEventEach, ByRule, stays, reseted, probed, gone, OnlyByRule, OnlyOwn}
+use Rattle.root_hub.proofs.Cases.{start-done, step-bad, step-none, step-done, good-most, port-some, port-most, step-fits, place-on, place-next, place-end}
 
 -- ---- the calls by their cases
 

@@ -1,6 +1,6 @@
 -- Document 01, "Ports and bring-up": the calls on the ports' record.
 use Prim.Native.Nat.{ℕ, _-_}
-use mathlib.Core.Bool.{Bool, not}
+use mathlib.Core.Bool.{not}
 use mathlib.Core.List.{List, [], _∷_}
 use lib.Dec.{eqb}
 use lib.ListN.{set}
@@ -17,7 +17,6 @@ use Rattle.bring_up.specs.declared.reads.NextRead.the-variants.{Nothing as NoRe
 use Rattle.root_hub.specs.declared.ports.PortEvent.the-variants.{Nothing as NoEvent}
 use Rattle.root_hub.specs.declared.scan.Place.{Place}
 use Rattle.root_hub.specs.declared.scan.Turned.{Turned}
-use Rattle.root_hub.specs.declared.calls.ScanReply.{ScanReply}
 use Rattle.root_hub.specs.declared.calls.Scanned.{Scanned}
 use Rattle.root_hub.specs.declared.calls.PortPower.{PortPower}
 use Rattle.root_hub.specs.Scan.{awaitedOf, turnOf, placeAfter, portWrites}

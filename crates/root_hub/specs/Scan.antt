@@ -8,7 +8,6 @@ use Rattle.register.specs.Writes.{noWrites, andThen}
 use Rattle.register.specs.declared.writes.Writes.{Writes}
 use Rattle.token.specs.EhciPortsc.{currentConnect, portEnabled}
 use Rattle.token.specs.Ports.{isSet}
-use Rattle.bring_up.specs.declared.reads.NextRead.{NextRead}
 use Rattle.bring_up.specs.declared.reads.NextRead.the-variants.{Nothing as NoRead, Register}
 use Rattle.root_hub.specs.declared.ports.PortEvent.the-variants.{Nothing as NoEvent, Connected, Disconnected}
 use Rattle.root_hub.specs.declared.ports.PortState.{PortState}

@@ -1,4 +1,4 @@
-use Rattle.root_hub.proofs.Cases.{place-idle, place-beyond, place-begun, index-below}
+use Rattle.root_hub.proofs.Cases.{place-idle, place-beyond, place-begun}
 use borrow.Author.Needs.{needs}
 use Rattle.root_hub.proofs.ranges.place_good.Statement.{statement}
 use Rattle.root_hub.proofs.ranges.place_good.Tie as tie
