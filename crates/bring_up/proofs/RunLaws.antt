@@ -17,15 +17,15 @@ use Rattle.state.specs.Slots.{slotAt}
 use Rattle.state.specs.State.{withBringUp}
 use Rattle.state.proofs.RangesLaws.{Ranges, ranges-make, ranges-tell}
 use Rattle.controller.specs.declared.answer.Answer.the-variants.{Done}
-use Rattle.controller.specs.declared.answer.Refusal.the-variants.{InvalidParameter, QueueFull}
+use Rattle.controller.specs.declared.answer.Refusal.the-variants.{InvalidParameter, QueueFull, Timeout}
 use Rattle.controller.specs.Endpoints.{flagNumber}
 use Rattle.bring_up.specs.declared.reads.NextRead.the-variants.{Register}
 use Rattle.bring_up.specs.declared.stage.Stage.{Stage}
 use Rattle.bring_up.specs.declared.stage.Stage.the-variants.{Stop, Halting, Reset, Resetting, Run, Starting}
 use Rattle.bring_up.specs.declared.calls.BroughtUp.{BroughtUp}
 use Rattle.bring_up.specs.BringUp.{anyUncollected, stageOf, registerOf, ready, setUp, movedOn, refusedBringUp, startOf, onwardOf, againOf, stepOf}
-use Rattle.bring_up.specs.Runs.{Seen, seen, seenBy, row, SixReadings, Ended, GoesOn, EndsBy, EndsInTime, offsets, namedFor, OnlyNamed, StartNamed, StaysInRanges}
-use Rattle.bring_up.proofs.Cases.{start-bad, start-busy, start-done, step-bad, step-none, step-onward, step-again}
+use Rattle.bring_up.specs.Runs.{Seen, seen, seenBy, row, SixReadings, Ended, GoesOn, EndsBy, EndsInTime, NoneReady, LateAt, LateAtW, offsets, namedFor, OnlyNamed, StartNamed, StaysInRanges}
+use Rattle.bring_up.proofs.Cases.{start-bad, start-busy, start-done, step-bad, step-none, step-onward, step-again, again-more, again-late}
 
 -- ---- the calls by their cases
 
@@ -225,6 +225,46 @@ ends-in-time s vs e u l =
     let r = ranges-tell s e in
     rw (start-is s e u)
     (ends (withBringUp s 0 1 0 0) vs (bring-keeps s 0 1 0 0 (omega arith) (omega arith) (omega (arith, r .waited-below)) (omega arith) r) (λ z. omega arith) (omega arith))
+
+-- ---- a wait that is never ready
+
+again-late-is : (s : Ehci) (reg : ℕ) → s .settings .wait ≤ s .waited + 1 → againOf s reg ≡ refusedBringUp (withBringUp s 0 0 0 (s .enabled)) Timeout
+again-late-is s reg h = sym (again-late s reg _ h refl)
+
+module _ (s : Ehci) (r : Ranges s) (v : ℕ) (z : s .step ≡ 0 → ⊥) (t : ready (stageOf (s .step)) v ≡ false) where
+  last-late : s .settings .wait ≤ s .waited + 1 → stepOf s v ≡ refusedBringUp (withBringUp s 0 0 0 (s .enabled)) Timeout
+  last-late h =
+      step-waits s (ranges-make s r) v (stageOf (s .step)) z refl t ∙ again-late-is s (registerOf (stageOf (s .step))) h
+
+  more-is : s .waited + 1 < s .settings .wait
+      → stepOf s v
+      ≡ record {
+        answer = Done;
+        state = withBringUp s 0 (s .step) (s .waited + 1) (s .enabled);
+        writes = noWrites;
+        read = Register (registerOf (stageOf (s .step)));
+        wait = 0;
+      }
+  more-is h =
+      step-waits s (ranges-make s r) v (stageOf (s .step)) z refl t
+      ∙ sym (again-more s (registerOf (stageOf (s .step))) _ h refl)
+
+late : (vs : List ℕ) (s : Ehci) → Ranges s → (s .step ≡ 0 → ⊥) → 1 ≤ length vs → s .waited + length vs ≡ s .settings .wait
+    → NoneReady (stageOf (s .step)) vs → LateAt s vs
+unfolding withBringUp
+late [] s r z l e n = absurd (omega arith)
+late (v ∷ []) s r z l e n = last-late s r v z (n .0) (omega arith)
+late (v ∷ w ∷ vs) s r z l e n =
+    rw (more-is s r v z (n .0) (omega arith)) (
+      (refl, refl, z),
+      late (w ∷ vs) (withBringUp s 0 (s .step) (s .waited + 1) (s .enabled))
+          (bring-keeps s 0 (s .step) (s .waited + 1) (s .enabled) (omega arith) (r .step-most) (omega arith) (r .enabled-flag) r)
+          z (omega arith) (omega arith) (n .1),
+    )
+
+pub late-at-W : LateAtW
+late-at-W s vs e z q l n =
+    let r = ranges-tell s e in late vs s r z (omega (arith, r .waited-below)) (omega arith) n
 
 -- ---- the registers
 

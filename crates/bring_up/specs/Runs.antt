@@ -11,14 +11,16 @@ use Rattle.register.specs.declared.writes.Write.{Write}
 use Rattle.register.specs.declared.writes.Writes.{Writes}
 use Rattle.state.specs.declared.state.Ehci.{Ehci}
 use Rattle.state.specs.Ranges.{inRanges}
+use Rattle.state.specs.State.{withBringUp}
 use Rattle.controller.specs.Answers.{numberOf}
+use Rattle.controller.specs.declared.answer.Refusal.the-variants.{Timeout}
 use Rattle.schedule.specs.Bell.{commandWord}
 use Rattle.bring_up.specs.declared.reads.NextRead.{NextRead}
 use Rattle.bring_up.specs.declared.reads.NextRead.the-variants.{Nothing, Register}
 use Rattle.bring_up.specs.declared.stage.Stage.{Stage}
 use Rattle.bring_up.specs.declared.stage.Stage.the-variants.{Stop, Halting, Reset, Resetting, Run, Starting}
 use Rattle.bring_up.specs.declared.calls.BroughtUp.{BroughtUp}
-use Rattle.bring_up.specs.BringUp.{anyUncollected, stageOf, startOf, stepOf}
+use Rattle.bring_up.specs.BringUp.{anyUncollected, stageOf, ready, refusedBringUp, startOf, stepOf}
 
 -- ---- what is seen of an answer: 01's number, the writes, the milliseconds, the register to read, and whether it runs
 
@@ -91,6 +93,25 @@ EndsInTime =
     (s : Ehci) (vs : List ℕ) → inRanges s ≡ true → anyUncollected 0 32 s ≡ false
     → length vs ≡ 3 * s .settings .wait + 3 → EndsBy (startOf s .state) vs
 
+-- ---- a wait that is never ready
+
+-- none of the readings is ready for a stage
+abbrev pub NoneReady : Stage → List ℕ → Type 0
+NoneReady stage [] = Unit {0}
+NoneReady stage (v ∷ vs) = (ready stage v ≡ false) × NoneReady stage vs
+
+-- it goes on up to the last of the readings, and that answers 7 and leaves only running, the step and its reads changed
+abbrev pub LateAt : Ehci → List ℕ → Type 0
+LateAt s [] = ⊥
+LateAt s (v ∷ []) = stepOf s v ≡ refusedBringUp (withBringUp s 0 0 0 (s .enabled)) Timeout
+LateAt s (v ∷ w ∷ vs) = GoesOn (stepOf s v) × LateAt (stepOf s v .state) (w ∷ vs)
+
+-- the W-th read of a wait, and no earlier one
+abbrev pub LateAtW : Type 0
+LateAtW =
+    (s : Ehci) (vs : List ℕ) → inRanges s ≡ true → (s .step ≡ 0 → ⊥) → s .waited ≡ 0 → length vs ≡ s .settings .wait
+    → NoneReady (stageOf (s .step)) vs → LateAt s vs
+
 -- ---- the registers
 
 abbrev pub offsets : Writes → List ℕ
@@ -117,8 +138,7 @@ StartNamed = (s : Ehci) → (offsets (startOf s .writes) ≡ []) ⊎ (offsets (s
 
 -- ---- the state
 
--- what neither call changes: everything but running, the step, its reads and (at the start) the interrupt flag, and the
--- ranges hold after
+-- after both calls it is in its ranges
 abbrev pub StaysInRanges : Type 0
 StaysInRanges =
     (s : Ehci) (v : ℕ) → inRanges s ≡ true → (inRanges (startOf s .state) ≡ true) × (inRanges (stepOf s v .state) ≡ true)
