@@ -34,7 +34,7 @@ use Rattle.root_hub.specs.Ports.{eventPort, portState}
 use Rattle.root_hub.specs.Scan.{awaitedOf, connected, enabled, statusTurn, againTurn, turnOf, placeAfter, portWrites}
 use Rattle.root_hub.specs.Ranges.{stateGood, statesGood, fits, stateAt, placeGood, hubGood}
 use Rattle.root_hub.specs.Calls.{withScan, refusedScan, startOf, scannedOf, turnAt, stepOf}
-use Rattle.root_hub.specs.Runs.{Right, StaysRight, EndsBy, EndsInTime, addIf, visits, upFrom, VisitsAll, reported, Ascends, OneEventEach, ByRule, stays, reseted, probed, gone, OnlyByRule, OnlyOwn}
+use Rattle.root_hub.specs.Runs.{Right, StaysRight, EndsBy, EndsInTime, readOf, asked, stretches, upFrom, VisitsAll, reported, Ascends, OneEventEach, ByRule, stays, reseted, probed, gone, OnlyByRule, OnlyOwn}
 use Rattle.root_hub.proofs.Cases.{start-done, step-bad, step-none, step-done, good-most, port-some, port-most, step-fits, place-on, place-next, place-end}
 
 -- ---- the calls by their cases
@@ -67,7 +67,6 @@ rank Owner = 1
 record Turns (a : Awaited) (st p v : ℕ) (t : Turned) : Type 0 where
   state-most : t .state ≤ 2
   step-most : t .step ≤ 6
-  not-first : t .step ≡ 1 → ⊥
   fitting : (t .step ≡ 0 → ⊥) → fits (awaitedOf (t .step)) (t .state) ≡ true
   nearer : (t .step ≡ 0 → ⊥) → rank (awaitedOf (t .step)) < rank a
   eventful : (eventPort (t .event) ≡ 0) ⊎ ((eventPort (t .event) ≡ p) × (t .step ≡ 0))
@@ -85,7 +84,6 @@ module _ (p v : ℕ) where
       record {
         state-most = h;
         step-most = omega arith;
-        not-first = λ q. omega arith;
         fitting = λ n. absurd (n refl);
         nearer = λ n. absurd (n refl);
         eventful = inl refl;
@@ -95,15 +93,15 @@ module _ (p v : ℕ) where
   unfolding rank
   status-turns true st h =
       by-state (λ s. Turns Status s p v (statusTurn (portState s) s true))
-      (record { state-most = omega arith; step-most = omega arith; not-first = λ q. omega arith; fitting = λ n. refl; nearer = λ n. omega arith; eventful = inl refl })
-      (record { state-most = omega arith; step-most = omega arith; not-first = λ q. omega arith; fitting = λ n. refl; nearer = λ n. omega arith; eventful = inl refl })
+      (record { state-most = omega arith; step-most = omega arith; fitting = λ n. refl; nearer = λ n. omega arith; eventful = inl refl })
+      (record { state-most = omega arith; step-most = omega arith; fitting = λ n. refl; nearer = λ n. omega arith; eventful = inl refl })
       (done Status 2 NoChange 0 (omega arith))
       st h
   status-turns false st h =
       by-state (λ s. Turns Status s p v (statusTurn (portState s) s false))
       (done Status 0 NoChange 0 (omega arith))
       (done Status 1 NoChange 0 (omega arith))
-      (record { state-most = omega arith; step-most = omega arith; not-first = λ q. omega arith; fitting = λ n. refl; nearer = λ n. omega arith; eventful = inl refl })
+      (record { state-most = omega arith; step-most = omega arith; fitting = λ n. refl; nearer = λ n. omega arith; eventful = inl refl })
       st h
 
   again-turns : (c d : Bool) (st : ℕ) → st ≤ 2 → st ≡ 1 → Turns Again st p v (againTurn st p c d)
@@ -112,7 +110,6 @@ module _ (p v : ℕ) where
       record {
         state-most = omega arith;
         step-most = omega arith;
-        not-first = λ r. omega arith;
         fitting = λ n. absurd (n refl);
         nearer = λ n. absurd (n refl);
         eventful = inr (refl, refl);
@@ -121,7 +118,6 @@ module _ (p v : ℕ) where
       record {
         state-most = h;
         step-most = omega arith;
-        not-first = λ r. omega arith;
         fitting = λ n. eq-eqb st 1 q;
         nearer = λ n. omega arith;
         eventful = inl refl;
@@ -135,7 +131,6 @@ module _ (p v : ℕ) where
       record {
         state-most = omega arith;
         step-most = omega arith;
-        not-first = λ r. omega arith;
         fitting = λ n. absurd (n refl);
         nearer = λ n. absurd (n refl);
         eventful = inr (refl, refl);
@@ -144,7 +139,6 @@ module _ (p v : ℕ) where
       record {
         state-most = h;
         step-most = omega arith;
-        not-first = λ r. omega arith;
         fitting = λ n. f;
         nearer = λ n. omega arith;
         eventful = inl refl;
@@ -153,7 +147,6 @@ module _ (p v : ℕ) where
       record {
         state-most = omega arith;
         step-most = omega arith;
-        not-first = λ r. omega arith;
         fitting = λ n. refl;
         nearer = λ n. omega arith;
         eventful = inl refl;
@@ -258,9 +251,9 @@ abbrev Tells : EhciRootHub → Scanned → Type 0
 Tells h r = (eventPort (r .reply .event) ≡ 0) ⊎ (eventPort (r .reply .event) ≡ h .port)
 
 data Moves (h : EhciRootHub) (r : Scanned) : Type 0 where
-  on : r .hub .port ≡ h .port → (r .hub .step ≡ 1 → ⊥) → (r .hub .step ≡ 0 → ⊥)
-      → rank (awaitedOf (r .hub .step)) < rank (awaitedOf (h .step)) → eventPort (r .reply .event) ≡ 0 → Moves h r
-  next : r .hub .port ≡ h .port + 1 → r .hub .step ≡ 1 → h .port < h .ports → Tells h r → Moves h r
+  on : r .hub .port ≡ h .port → (r .hub .step ≡ 0 → ⊥)
+      → rank (awaitedOf (r .hub .step)) < rank (awaitedOf (h .step)) → eventPort (r .reply .event) ≡ 0 → r .reply .read ≡ Register (portscOf (h .port)) → Moves h r
+  next : r .hub .port ≡ h .port + 1 → r .hub .step ≡ 1 → h .port < h .ports → Tells h r → r .reply .read ≡ Register (portscOf (h .port + 1)) → Moves h r
   over : r .hub .step ≡ 0 → r .reply .read ≡ NoRead → h .ports ≤ h .port → Tells h r → Moves h r
 
 record After (h : EhciRootHub) (r : Scanned) : Type 0 where
@@ -320,7 +313,7 @@ module _ (h : EhciRootHub) (b : Begun h) (v : ℕ) (t : Turned) (k : Turns (awai
         right = at-right (h .port) (t .step) (on-right n);
         same-ports = refl;
         accepted = refl;
-        moves = on refl (k .not-first) n (k .nearer n) (⊎-elim (λ w. w) (λ w. absurd (n (w .1))) (k .eventful));
+        moves = on refl n (k .nearer n) (⊎-elim (λ w. w) (λ w. absurd (n (w .1))) (k .eventful)) refl;
       }
 
   after-next : h .port < h .ports → After h (scannedOf h t (record { port = h .port + 1; step = 1; read = Register (portscOf (h .port + 1)) }))
@@ -330,7 +323,7 @@ module _ (h : EhciRootHub) (b : Begun h) (v : ℕ) (t : Turned) (k : Turns (awai
         right = at-right (h .port + 1) 1 (next-right l);
         same-ports = refl;
         accepted = refl;
-        moves = next refl refl l (⊎-elim inl (λ w. inr (w .0)) (k .eventful));
+        moves = next refl refl l (⊎-elim inl (λ w. inr (w .0)) (k .eventful)) refl;
       }
 
   after-end : h .ports ≤ h .port → After h (scannedOf h t (record { port = 0; step = 0; read = NoRead }))
@@ -427,9 +420,9 @@ ends h (v ∷ vs) b m = go (λ c l. ends (stepOf h v .hub) vs c l) (after h b v)
   where
     go : (Begun (stepOf h v .hub) → left (stepOf h v .hub) ≤ length vs → EndsBy (stepOf h v .hub) vs)
         → After h (stepOf h v) → Moves h (stepOf h v) → EndsBy h (v ∷ vs)
-    go later a (on ep n1 n0 near ev) =
+    go later a (on ep n0 near ev rd) =
         (a .accepted, inr (later (record { right = a .right; begun = n0 }) (omega (arith, on-nearer h (stepOf h v .hub) (a .same-ports) ep near))))
-    go later a (next ep es l ev) = (
+    go later a (next ep es l ev rd) = (
       a .accepted,
       inr (later (record { right = a .right; begun = λ z. omega (arith, es, z) }) (omega (arith, next-nearer h (stepOf h v .hub) (a .same-ports) ep es l))),
     )
@@ -443,11 +436,6 @@ started-port : (h : EhciRootHub) → 0 < started h .port
 unfolding started withScan
 started-port h = omega arith
 
-started-ports : (h : EhciRootHub) → 1 ≤ h .ports
-    → addIf (eqb (started h .step) 1) (started h .port) (upFrom (suc (started h .port)) (started h .ports - started h .port)) ≡ upFrom 1 (h .ports)
-unfolding started withScan
-started-ports h l = let more : h .ports ≡ suc (h .ports - 1) = omega arith in sym (ap (upFrom 1) more)
-
 pub ends-in-time : EndsInTime
 ends-in-time h vs r l =
     rw (started-is h r)
@@ -455,54 +443,92 @@ ends-in-time h vs r l =
 
 -- ---- the ports in order
 
--- a step where none is begun leaves the record as it is
-idle-stays : (h : EhciRootHub) (v : ℕ) → h .step ≡ 0 → (stepOf h v .hub ≡ h) × (eventPort (stepOf h v .reply .event) ≡ 0)
+-- a step where none is begun leaves the record as it is, tells nothing and asks for nothing
+record Idles (h : EhciRootHub) (r : Scanned) : Type 0 where
+  kept : r .hub ≡ h
+  untold : eventPort (r .reply .event) ≡ 0
+  unread : r .reply .read ≡ NoRead
+
+idle-stays : (h : EhciRootHub) (v : ℕ) → h .step ≡ 0 → Idles h (stepOf h v)
 idle-stays h v z = by (hubGood h) refl
   where
-    by : (g : Bool) → hubGood h ≡ g → (stepOf h v .hub ≡ h) × (eventPort (stepOf h v .reply .event) ≡ 0)
-    by true e = (ap (λ (s : Scanned). s .hub) (step-idle h e v z), ap (λ (s : Scanned). eventPort (s .reply .event)) (step-idle h e v z))
-    by false e = (ap (λ (s : Scanned). s .hub) (step-out h v e), ap (λ (s : Scanned). eventPort (s .reply .event)) (step-out h v e))
+    refused : Idles h (refusedScan h InvalidParameter)
+    refused = record { kept = refl; untold = refl; unread = refl }
 
-idle-visits : (h : EhciRootHub) (vs : List ℕ) → h .step ≡ 0 → visits h vs ≡ []
-idle-visits h [] z = refl
-idle-visits h (v ∷ vs) z =
-    let first : eqb (h .step) 1 ≡ false = rw z refl in
-    rw (first, idle-stays h v z .0) (idle-visits h vs z)
+    by : (g : Bool) → hubGood h ≡ g → Idles h (stepOf h v)
+    by true e = subst (λ (r : Scanned). Idles h r) (sym (step-idle h e v z)) refused
+    by false e = subst (λ (r : Scanned). Idles h r) (sym (step-out h v e)) refused
+
+idle-asks : (h : EhciRootHub) (vs : List ℕ) → h .step ≡ 0 → asked h vs ≡ []
+idle-asks h [] z = refl
+idle-asks h (v ∷ vs) z = rw (idle-stays h v z .unread, idle-stays h v z .kept) (idle-asks h vs z)
 
 idle-reports : (h : EhciRootHub) (vs : List ℕ) → h .step ≡ 0 → reported h vs ≡ []
 idle-reports h [] z = refl
 idle-reports h (v ∷ vs) z =
-    rw (eq-eqb (eventPort (stepOf h v .reply .event)) 0 (idle-stays h v z .1), idle-stays h v z .0) (idle-reports h vs z)
+    rw (eq-eqb (eventPort (stepOf h v .reply .event)) 0 (idle-stays h v z .untold), idle-stays h v z .kept) (idle-reports h vs z)
 
--- from a record on: its port if it is at its first reading, and all those that follow
-all-visits : (h : EhciRootHub) (vs : List ℕ) → Begun h → left h ≤ length vs
-    → visits h vs ≡ addIf (eqb (h .step) 1) (h .port) (upFrom (suc (h .port)) (h .ports - h .port))
-all-visits h [] b m = absurd (left-some h m)
-all-visits h (v ∷ vs) b m =
-    ap (λ (l : List ℕ). addIf (eqb (h .step) 1) (h .port) l)
-    (go (λ c l. all-visits (stepOf h v .hub) vs c l) (after h b v) (after h b v .moves))
+same-stretch : (p : ℕ) (l : List ℕ) → stretches (p ∷ p ∷ l) ≡ stretches (p ∷ l)
+same-stretch p l = rw (eq-eqb p p refl)
+
+new-stretch : (p q : ℕ) (l : List ℕ) → (p ≡ q → ⊥) → stretches (p ∷ q ∷ l) ≡ p ∷ stretches (q ∷ l)
+new-stretch p q l n = rw (ne-eqb p q n)
+
+-- the registers of a port and of those that follow it
+registers : ℕ → ℕ → List ℕ
+registers port more = portscOf port ∷ map portscOf (upFrom (suc port) more)
+
+next-registers : (port ports : ℕ) → port < ports → registers port (ports - port) ≡ portscOf port ∷ registers (port + 1) (ports - (port + 1))
+unfolding registers
+next-registers port ports l =
+    let more : ports - port ≡ suc (ports - (port + 1)) = omega arith in rw (more, add-one port)
+
+last-register : (port ports : ℕ) → ports ≤ port → registers port (ports - port) ≡ portscOf port ∷ []
+unfolding registers
+last-register port ports l = let none : ports - port ≡ 0 = omega arith in rw none
+
+-- with its own register asked for, a scan asks for that and for those that follow
+all-asked : (h : EhciRootHub) (vs : List ℕ) → Begun h → left h ≤ length vs
+    → stretches (portscOf (h .port) ∷ asked h vs) ≡ registers (h .port) (h .ports - h .port)
+all-asked h [] b m = absurd (left-some h m)
+all-asked h (v ∷ vs) b m = go (λ c l. all-asked (stepOf h v .hub) vs c l) (after h b v) (after h b v .moves)
   where
     go : (Begun (stepOf h v .hub) → left (stepOf h v .hub) ≤ length vs
-        → visits (stepOf h v .hub) vs
-        ≡ addIf (eqb (stepOf h v .hub .step) 1) (stepOf h v .hub .port) (upFrom (suc (stepOf h v .hub .port)) (stepOf h v .hub .ports - stepOf h v .hub .port)))
+        → stretches (portscOf (stepOf h v .hub .port) ∷ asked (stepOf h v .hub) vs)
+        ≡ registers (stepOf h v .hub .port) (stepOf h v .hub .ports - stepOf h v .hub .port))
         → After h (stepOf h v) → Moves h (stepOf h v)
-        → visits (stepOf h v .hub) vs ≡ upFrom (suc (h .port)) (h .ports - h .port)
-    go later a (on ep n1 n0 near ev) =
-        later (record { right = a .right; begun = n0 }) (omega (arith, on-nearer h (stepOf h v .hub) (a .same-ports) ep near))
-        ∙ rw (ne-eqb (stepOf h v .hub .step) 1 n1, ep, a .same-ports)
-    go later a (next ep es l ev) =
-        let more : h .ports - h .port ≡ suc (h .ports - (h .port + 1)) = omega arith in
-        later (record { right = a .right; begun = λ z. omega (arith, es, z) }) (omega (arith, next-nearer h (stepOf h v .hub) (a .same-ports) ep es l))
-        ∙ rw (es, ep, a .same-ports, more, add-one (h .port))
-    go later a (over es er l ev) =
-        let none : h .ports - h .port ≡ 0 = omega arith in
-        idle-visits (stepOf h v .hub) vs es ∙ rw none
+        → stretches (portscOf (h .port) ∷ asked h (v ∷ vs)) ≡ registers (h .port) (h .ports - h .port)
+    go later a (on ep n0 near ev rd) =
+        let rest = later (record { right = a .right; begun = n0 }) (omega (arith, on-nearer h (stepOf h v .hub) (a .same-ports) ep near)) in
+        rw rd (same-stretch (portscOf (h .port)) (asked (stepOf h v .hub) vs) ∙ (rw (ep, a .same-ports) at rest))
+    go later a (next ep es l ev rd) =
+        let rest = later (record { right = a .right; begun = λ z. omega (arith, es, z) }) (omega (arith, next-nearer h (stepOf h v .hub) (a .same-ports) ep es l)) in
+        let apart : portscOf (h .port) ≡ portscOf (h .port + 1) → ⊥ = λ q. omega (arith, port-least h b) in
+        rw rd
+        (new-stretch (portscOf (h .port)) (portscOf (h .port + 1)) (asked (stepOf h v .hub) vs) apart
+        ∙ ap (λ (l : List ℕ). portscOf (h .port) ∷ l) (rw (ep, a .same-ports) at rest)
+        ∙ sym (next-registers (h .port) (h .ports) l))
+    go later a (over es er l ev) = rw (er, idle-asks (stepOf h v .hub) vs es) (sym (last-register (h .port) (h .ports) l))
+
+started-registers : (h : EhciRootHub) → 1 ≤ h .ports
+    → registers (started h .port) (started h .ports - started h .port) ≡ map portscOf (upFrom 1 (h .ports))
+unfolding started withScan registers
+started-registers h l = let more : h .ports ≡ suc (h .ports - 1) = omega arith in sym (ap (λ (n : ℕ). map portscOf (upFrom 1 n)) more)
+
+started-at : (h : EhciRootHub) → started h .port ≡ 1
+unfolding started withScan
+started-at h = refl
+
+start-asks : (h : EhciRootHub) → Right h → readOf (startOf h .reply .read) ≡ portscOf 1 ∷ []
+start-asks h r = ap (λ (s : Scanned). readOf (s .reply .read)) (start-is h (r .good))
 
 pub visits-all : VisitsAll
 visits-all h vs r l =
     let least = within-least (h .ports) 1 15 (ports-within h (r .good)) in
-    rw (started-is h r)
-    (all-visits (started h) vs (started-begun h r) (omega (arith, started-left h least)) ∙ started-ports h least)
+    rw (start-asks h r, started-is h r)
+    (ap (λ (p : ℕ). stretches (portscOf p ∷ asked (started h) vs)) (sym (started-at h))
+    ∙ all-asked (started h) vs (started-begun h r) (omega (arith, started-left h least))
+    ∙ started-registers h least)
 
 -- ---- one event each
 
@@ -520,9 +546,9 @@ ascends h (v ∷ vs) q b l =
 
     go : ((p : ℕ) → Begun (stepOf h v .hub) → p < stepOf h v .hub .port → Ascends p (reported (stepOf h v .hub) vs))
         → After h (stepOf h v) → Moves h (stepOf h v) → Ascends q (reported h (v ∷ vs))
-    go later a (on ep n1 n0 near ev) =
+    go later a (on ep n0 near ev rd) =
         rw (eq-eqb (eventPort (stepOf h v .reply .event)) 0 ev) (later q (record { right = a .right; begun = n0 }) (omega (arith, ep)))
-    go later a (next ep es m ev) =
+    go later a (next ep es m ev rd) =
         told ev (λ p w. later p (record { right = a .right; begun = λ z. omega (arith, es, z) }) (omega (arith, ep)))
     go later a (over es er m ev) = told ev (λ p w. rw (idle-reports (stepOf h v .hub) vs es) tt)
 

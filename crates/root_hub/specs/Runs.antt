@@ -1,7 +1,7 @@
 -- What any scan does, from its start and over the readings that it is fed, one a step.
 use Prim.Native.Nat.{ℕ, zero, suc, _-_, _*_, _<_}
 use mathlib.Core.Bool.{Bool, true, false}
-use mathlib.Core.List.{List, [], _∷_, map}
+use mathlib.Core.List.{List, [], _∷_, _++_, map}
 use mathlib.Core.Logic.{_⊎_}
 use mathlib.Core.Path.{_≡_}
 use lib.Dec.{eqb}
@@ -11,7 +11,8 @@ use Rattle.register.specs.Writes.{listOf}
 use Rattle.register.specs.declared.writes.Write.{Write}
 use Rattle.controller.specs.Answers.{numberOf}
 use Rattle.controller.specs.declared.hub.EhciRootHub.{EhciRootHub}
-use Rattle.bring_up.specs.declared.reads.NextRead.the-variants.{Nothing as NoRead}
+use Rattle.bring_up.specs.declared.reads.NextRead.{NextRead}
+use Rattle.bring_up.specs.declared.reads.NextRead.the-variants.{Nothing as NoRead, Register}
 use Rattle.root_hub.specs.declared.ports.PortEvent.the-variants.{Nothing as NoEvent, Connected, Disconnected}
 use Rattle.root_hub.specs.declared.ports.Speed.the-variants.{High}
 use Rattle.root_hub.specs.declared.scan.Awaited.{Awaited}
@@ -44,30 +45,37 @@ EndsBy h (v ∷ vs) =
 abbrev pub EndsInTime : Type 0
 EndsInTime = (h : EhciRootHub) (vs : List ℕ) → Right h → length vs ≡ 5 * h .ports → EndsBy (startOf h .hub) vs
 
--- ---- the ports
+-- ---- the ports, by the registers that the answers ask for
 
-abbrev pub addIf : Bool → ℕ → List ℕ → List ℕ
-addIf true p ps = p ∷ ps
-addIf false p ps = ps
+abbrev pub readOf : NextRead → List ℕ
+readOf NoRead = []
+readOf (Register offset) = offset ∷ []
+
+-- those of the steps that readings make
+abbrev pub asked : EhciRootHub → List ℕ → List ℕ
+asked h [] = []
+asked h (v ∷ vs) = readOf (stepOf h v .reply .read) ++ asked (stepOf h v .hub) vs
 
 abbrev pub skipIf : Bool → ℕ → List ℕ → List ℕ
 skipIf true p ps = ps
 skipIf false p ps = p ∷ ps
 
--- those that readings bring a scan to: each first reading of one
-abbrev pub visits : EhciRootHub → List ℕ → List ℕ
-visits h [] = []
-visits h (v ∷ vs) = addIf (eqb (h .step) 1) (h .port) (visits (stepOf h v .hub) vs)
+-- a list with each stretch of equal numbers taken as one
+abbrev pub stretches : List ℕ → List ℕ
+stretches [] = []
+stretches (x ∷ []) = x ∷ []
+stretches (x ∷ y ∷ l) = skipIf (eqb x y) x (stretches (y ∷ l))
 
 -- n ports, from p on
 abbrev pub upFrom : ℕ → ℕ → List ℕ
 upFrom p zero = []
 upFrom p (suc n) = p ∷ upFrom (suc p) n
 
--- every port once, in order: "Ports ascend"
+-- "Ports ascend": every port's register is read, in one stretch, and in order; and nothing else is
 abbrev pub VisitsAll : Type 0
 VisitsAll =
-    (h : EhciRootHub) (vs : List ℕ) → Right h → length vs ≡ 5 * h .ports → visits (startOf h .hub) vs ≡ upFrom 1 (h .ports)
+    (h : EhciRootHub) (vs : List ℕ) → Right h → length vs ≡ 5 * h .ports
+    → stretches (readOf (startOf h .reply .read) ++ asked (startOf h .hub) vs) ≡ map portscOf (upFrom 1 (h .ports))
 
 -- the ports of which events are reported
 abbrev pub reported : EhciRootHub → List ℕ → List ℕ
