@@ -175,12 +175,12 @@ Nearer s r = GoesOn r × (Ranges (r .state) × (leftOf (r .state) < leftOf s))
 module _ (s : Ehci) (r : Ranges s) (v : ℕ) where
   onward-goes : (st : Stage) → stageOf (s .step) ≡ st → Ended (onwardOf s st v) ⊎ Nearer s (onwardOf s st v)
   unfolding onwardOf withBringUp left leftOf
-  onward-goes Stop q = inr ((refl, refl, λ z. omega arith), (bring-keeps s 0 2 0 (s .enabled) (omega arith) (omega arith) (omega (arith, r .waited-below)) (r .enabled-flag) r, rw q (omega (arith, r .waited-below))))
-  onward-goes Halting q = inr ((refl, refl, λ z. omega arith), (bring-keeps s 0 3 0 (s .enabled) (omega arith) (omega arith) (omega (arith, r .waited-below)) (r .enabled-flag) r, rw q (omega (arith, r .waited-below))))
-  onward-goes Reset q = inr ((refl, refl, λ z. omega arith), (bring-keeps s 0 4 0 (s .enabled) (omega arith) (omega arith) (omega (arith, r .waited-below)) (r .enabled-flag) r, rw q (omega (arith, r .waited-below))))
-  onward-goes Resetting q = inr ((refl, refl, λ z. omega arith), (bring-keeps s 0 5 0 (s .enabled) (omega arith) (omega arith) (omega (arith, r .waited-below)) (r .enabled-flag) r, rw q (omega (arith, r .waited-below))))
-  onward-goes Run q = inr ((refl, refl, λ z. omega arith), (bring-keeps s 0 6 0 (s .enabled) (omega arith) (omega arith) (omega (arith, r .waited-below)) (r .enabled-flag) r, rw q (omega (arith, r .waited-below))))
-  onward-goes Starting q = inl (refl, inl (refl, refl))
+  onward-goes Stop q = inr ((refl, refl, (λ z. omega arith), refl), (bring-keeps s 0 2 0 (s .enabled) (omega arith) (omega arith) (omega (arith, r .waited-below)) (r .enabled-flag) r, rw q (omega (arith, r .waited-below))))
+  onward-goes Halting q = inr ((refl, refl, (λ z. omega arith), refl), (bring-keeps s 0 3 0 (s .enabled) (omega arith) (omega arith) (omega (arith, r .waited-below)) (r .enabled-flag) r, rw q (omega (arith, r .waited-below))))
+  onward-goes Reset q = inr ((refl, refl, (λ z. omega arith), refl), (bring-keeps s 0 4 0 (s .enabled) (omega arith) (omega arith) (omega (arith, r .waited-below)) (r .enabled-flag) r, rw q (omega (arith, r .waited-below))))
+  onward-goes Resetting q = inr ((refl, refl, (λ z. omega arith), refl), (bring-keeps s 0 5 0 (s .enabled) (omega arith) (omega arith) (omega (arith, r .waited-below)) (r .enabled-flag) r, rw q (omega (arith, r .waited-below))))
+  onward-goes Run q = inr ((refl, refl, (λ z. omega arith), refl), (bring-keeps s 0 6 0 (s .enabled) (omega arith) (omega arith) (omega (arith, r .waited-below)) (r .enabled-flag) r, rw q (omega (arith, r .waited-below))))
+  onward-goes Starting q = inl (refl, refl, inl (refl, refl))
 
   again-goes : (st : Stage) → stageOf (s .step) ≡ st → (s .step ≡ 0 → ⊥)
       → left st (s .settings .wait) (s .waited + 1) < left st (s .settings .wait) (s .waited)
@@ -189,8 +189,8 @@ module _ (s : Ehci) (r : Ranges s) (v : ℕ) where
   unfolding againOf withBringUp leftOf
   again-goes st q h less true t =
       rw t
-      (inr ((refl, refl, h), (bring-keeps s 0 (s .step) (s .waited + 1) (s .enabled) (omega arith) (r .step-most) (ltb-true (s .waited + 1) (s .settings .wait) t) (r .enabled-flag) r, rw q less)))
-  again-goes st q h less false t = rw t (inl (refl, inr (refl, refl)))
+      (inr ((refl, refl, h, ap (λ (x : Stage). Register (registerOf x)) (sym q)), (bring-keeps s 0 (s .step) (s .waited + 1) (s .enabled) (omega arith) (r .step-most) (ltb-true (s .waited + 1) (s .settings .wait) t) (r .enabled-flag) r, rw q less)))
+  again-goes st q h less false t = rw t (inl (refl, refl, inr (refl, refl)))
 
   -- a stage that waits comes nearer with each read
   waits-goes : (st : Stage) → stageOf (s .step) ≡ st → (s .step ≡ 0 → ⊥) → ready st v ≡ false
@@ -256,7 +256,7 @@ late [] s r z l e n = absurd (omega arith)
 late (v ∷ []) s r z l e n = last-late s r v z (n .0) (omega arith)
 late (v ∷ w ∷ vs) s r z l e n =
     rw (more-is s r v z (n .0) (omega arith)) (
-      (refl, refl, z),
+      (refl, refl, z, refl),
       late (w ∷ vs) (withBringUp s 0 (s .step) (s .waited + 1) (s .enabled))
           (bring-keeps s 0 (s .step) (s .waited + 1) (s .enabled) (omega arith) (r .step-most) (omega arith) (r .enabled-flag) r)
           z (omega arith) (omega arith) (n .1),

@@ -20,7 +20,7 @@ use Rattle.bring_up.specs.declared.reads.NextRead.the-variants.{Nothing,
 use Rattle.bring_up.specs.declared.stage.Stage.{Stage}
 use Rattle.bring_up.specs.declared.stage.Stage.the-variants.{Stop, Halting, Reset, Resetting, Run, Starting}
 use Rattle.bring_up.specs.declared.calls.BroughtUp.{BroughtUp}
-use Rattle.bring_up.specs.BringUp.{anyUncollected, stageOf, ready, refusedBringUp, startOf, stepOf}
+use Rattle.bring_up.specs.BringUp.{anyUncollected, stageOf, registerOf, ready, refusedBringUp, startOf, stepOf}
 
 -- ---- what is seen of an answer: 01's number, the writes, the milliseconds, the register to read, and whether it runs
 
@@ -73,14 +73,20 @@ SixReadings =
 
 -- ---- the end
 
--- in 0, running, or in 7, not running
+-- nothing to read next: in 0, running, or in 7, not running
 abbrev pub Ended : BroughtUp → Type 0
 Ended r =
-    (r .state .step ≡ 0)
+    (r .read ≡ Nothing)
+    × (r .state .step ≡ 0)
     × (((numberOf (r .answer) ≡ 0) × (r .state .running ≡ 1)) ⊎ ((numberOf (r .answer) ≡ 7) × (r .state .running ≡ 0)))
 
+-- accepted, not running, and the register that is asked for is the one that the next step takes its reading for
 abbrev pub GoesOn : BroughtUp → Type 0
-GoesOn r = (numberOf (r .answer) ≡ 0) × (r .state .running ≡ 0) × (r .state .step ≡ 0 → ⊥)
+GoesOn r =
+    (numberOf (r .answer) ≡ 0)
+    × (r .state .running ≡ 0)
+    × (r .state .step ≡ 0 → ⊥)
+    × (r .read ≡ Register (registerOf (stageOf (r .state .step))))
 
 -- it goes on up to one of the readings, and ends with that
 abbrev pub EndsBy : Ehci → List ℕ → Type 0
