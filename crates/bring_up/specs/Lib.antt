@@ -1,0 +1,2 @@
+pub mod BringUp
+pub mod Runs

@@ -1,0 +1,114 @@
+// The public calls: start and step.
+ghost use mathlib.Core.Path.{_≡_};
+ghost use Prim.Native.Nat.{_<_};
+ghost use Rattle.bring_up.specs.BringUp.{refusedBringUp, startOf, againOf, stepOf};
+use crate::busy::any_uncollected;
+use crate::reads::NextRead;
+use crate::stage::is_ready;
+use crate::stage::moved_on;
+use crate::stage::register_of;
+use crate::stage::stage_of;
+use crate::stage::stage_writes;
+use controller::answer::Answer;
+use controller::answer::Refusal;
+use register::ehci::USBCMD;
+use register::ehci::USBINTR;
+use register::writes::Writes;
+use state::ranges::in_ranges;
+use state::state::Ehci;
+
+// What a start or a step leaves: its writes, then the milliseconds to wait, then the register to read.
+pub struct BroughtUp {
+    pub answer: Answer,
+    pub state: Ehci,
+    pub writes: Writes,
+    pub read: NextRead,
+    pub wait: u32,
+}
+
+// Begins, also where one is begun or the controller runs.
+pub fn start(mut state: Ehci) -> BroughtUp
+    ensures { λ r. ⌜ r ≡ startOf state ⌝ }
+{
+    if !in_ranges(state) {
+        return refuse(state, Refusal::InvalidParameter);
+    }
+    if any_uncollected(state) {
+        return refuse(state, Refusal::QueueFull);
+    }
+    state.running = 0;
+    state.step = 1;
+    state.waited = 0;
+    state.enabled = 0;
+    BroughtUp {
+        answer: Answer::Done,
+        state,
+        writes: Writes::none().and_then(USBINTR, 0),
+        read: NextRead::Register(USBCMD),
+        wait: 0,
+    }
+}
+
+// Given the register that the last answer named.
+pub fn step(mut state: Ehci, reading: u32) -> BroughtUp
+    ensures { λ r. ⌜ r ≡ stepOf state reading ⌝ }
+{
+    if !in_ranges(state) {
+        return refuse(state, Refusal::InvalidParameter);
+    }
+    let at = state.step;
+    if at == 0 {
+        return refuse(state, Refusal::InvalidParameter);
+    }
+    let stage = stage_of(at);
+    if is_ready(stage, reading) {
+        let writes = stage_writes(stage, reading, state.settings.frames, state.settings.heads);
+        let moved = moved_on(stage);
+        let read = moved.read;
+        state.running = moved.running;
+        state.step = moved.step;
+        state.waited = 0;
+        return BroughtUp {
+            answer: Answer::Done,
+            state,
+            writes,
+            read,
+            wait: moved.wait,
+        };
+    }
+    wait_again(state, register_of(stage))
+}
+
+// The W-th read that is not ready ends the bring-up.
+fn wait_again(mut state: Ehci, register: u32) -> BroughtUp
+    requires { ⌜ state .waited < 65536 ⌝ }
+    ensures { λ r. ⌜ r ≡ againOf state register ⌝ }
+{
+    let waited = state.waited + 1;
+    state.running = 0;
+    if waited < state.settings.wait {
+        state.waited = waited;
+        return BroughtUp {
+            answer: Answer::Done,
+            state,
+            writes: Writes::none(),
+            read: NextRead::Register(register),
+            wait: 0,
+        };
+    }
+    state.step = 0;
+    state.waited = 0;
+    refuse(state, Refusal::Timeout)
+}
+
+fn refuse(state: Ehci, refusal: Refusal) -> BroughtUp
+    ensures { λ r. ⌜ r ≡ refusedBringUp state refusal ⌝ }
+{
+    BroughtUp {
+        answer: Answer::Refused(refusal),
+        state,
+        writes: Writes::none(),
+        read: NextRead::Nothing,
+        wait: 0,
+    }
+}

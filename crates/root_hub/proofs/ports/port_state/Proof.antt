@@ -1,0 +1,15 @@
+use Rattle.root_hub.proofs.Cases.{state-uninit, state-reseted, state-probed}
+use Rattle.root_hub.proofs.ports.port_state.Statement.{statement}
+use Rattle.root_hub.proofs.ports.port_state.Tie as tie
+
+returns : tie.Need-returns
+returns c = search state-uninit
+
+returns-2 : tie.Need-returns-2
+returns-2 c = search state-reseted
+
+returns-3 : tie.Need-returns-3
+returns-3 c = search state-probed
+
+pub port-state-spec : {M : Type 1} → statement M
+port-state-spec = tie.close (tie.spec returns returns-2 returns-3)

@@ -1,0 +1,16 @@
+use Rattle.root_hub.proofs.Cases.{reset-is}
+use borrow.Author.Needs.{needs}
+use Rattle.root_hub.proofs.scan.reset_turn.Statement.{statement}
+use Rattle.root_hub.proofs.scan.reset_turn.Tie as tie
+
+with-bits-requires : tie.Need-with-bits-requires
+with-bits-requires c κs = search needs
+
+without-bits-requires : tie.Need-without-bits-requires
+without-bits-requires c κs = search needs
+
+returns : tie.Need-returns
+returns c = search reset-is
+
+pub reset-turn-spec : {M : Type 1} → statement M
+reset-turn-spec = tie.close (tie.spec with-bits-requires without-bits-requires returns)

@@ -1,0 +1,6 @@
+pub mod Ports
+pub mod Scan
+pub mod Ranges
+pub mod Calls
+pub mod Runs
+pub mod Examples
