@@ -18,9 +18,9 @@ use Rattle.state.specs.Ranges.{inRanges}
 use Rattle.state.specs.Slots.{slotAt}
 use Rattle.state.specs.State.{withBringUp}
 use Rattle.state.proofs.RangesLaws.{ranges-tell}
-use Rattle.controller.specs.declared.answer.Answer.the-variants.{Done}
-use Rattle.controller.specs.declared.answer.Refusal.the-variants.{InvalidParameter, QueueFull, Timeout}
-use Rattle.controller.specs.Endpoints.{decoded, endpointAt}
+use Rattle.answer.specs.declared.answer.Answer.the-variants.{Done}
+use Rattle.answer.specs.declared.answer.Refusal.the-variants.{InvalidParameter, QueueFull, Timeout}
+use Rattle.pipe.specs.Endpoints.{decoded, endpointAt}
 use Rattle.controller.specs.Readers.{holdsRequest, isUncollected}
 use Rattle.bring_up.specs.declared.reads.NextRead.the-variants.{Nothing, Register}
 use Rattle.bring_up.specs.declared.stage.Stage.{Stage}

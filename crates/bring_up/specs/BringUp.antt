@@ -10,11 +10,11 @@ use Rattle.settings.specs.Tests.{either}
 use Rattle.state.specs.declared.state.Ehci.{Ehci}
 use Rattle.state.specs.Ranges.{inRanges}
 use Rattle.state.specs.State.{withBringUp}
-use Rattle.controller.specs.Answers.{first, settle}
+use Rattle.answer.specs.Answers.{first, settle}
 use Rattle.controller.specs.Readers.{isUncollected}
-use Rattle.controller.specs.declared.answer.Answer.the-variants.{Done, Refused}
-use Rattle.controller.specs.declared.answer.Refusal.{Refusal}
-use Rattle.controller.specs.declared.answer.Refusal.the-variants.{InvalidParameter, QueueFull, Timeout}
+use Rattle.answer.specs.declared.answer.Answer.the-variants.{Done, Refused}
+use Rattle.answer.specs.declared.answer.Refusal.{Refusal}
+use Rattle.answer.specs.declared.answer.Refusal.the-variants.{InvalidParameter, QueueFull, Timeout}
 use Rattle.schedule.specs.Bell.{commandWord}
 use Rattle.bring_up.specs.declared.reads.NextRead.the-variants.{Nothing, Register}
 use Rattle.bring_up.specs.declared.stage.Stage.{Stage}

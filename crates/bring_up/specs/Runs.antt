@@ -12,8 +12,8 @@ use Rattle.register.specs.declared.writes.Writes.{Writes}
 use Rattle.state.specs.declared.state.Ehci.{Ehci}
 use Rattle.state.specs.Ranges.{inRanges}
 use Rattle.state.specs.State.{withBringUp}
-use Rattle.controller.specs.Answers.{numberOf}
-use Rattle.controller.specs.declared.answer.Refusal.the-variants.{Timeout}
+use Rattle.answer.specs.Answers.{numberOf}
+use Rattle.answer.specs.declared.answer.Refusal.the-variants.{Timeout}
 use Rattle.schedule.specs.Bell.{commandWord}
 use Rattle.bring_up.specs.declared.reads.NextRead.{NextRead}
 use Rattle.bring_up.specs.declared.reads.NextRead.the-variants.{Nothing, Register}

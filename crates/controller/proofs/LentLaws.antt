@@ -8,8 +8,8 @@ use Rattle.state.specs.Ranges.{inRanges}
 use Rattle.state.proofs.RangesLaws.{Ranges, ranges-tell}
 use Rattle.controller.specs.declared.lent.Lengths.{Lengths}
 use Rattle.controller.specs.Lent.{acceptsOf}
-use Rattle.controller.specs.Opening.{rowsFit}
-use Rattle.controller.proofs.OpenLaws.{Fitting, rows-tell}
+use Rattle.opening.specs.Opening.{rowsFit}
+use Rattle.opening.proofs.OpenLaws.{Fitting, rows-tell}
 
 pub accepts-is : (s : Ehci) (lent : Lengths) (f g : Bool)
     → f ≡ rowsFit (s .settings) (lent .pool) (lent .heads) (lent .frames) (lent .setups) → g ≡ inRanges s

@@ -1,11 +1,5 @@
-pub mod RowsCases
-pub mod OpenCases
-pub mod OpenLaws
+pub mod ReaderCases
 pub mod LentLaws
-pub mod OpenPool
 pub mod AddressCases
 pub mod AddressLaws
-pub mod EndpointCases
-pub mod EndpointLaws
-pub mod ReaderCases
 pub mod FreeLaws

@@ -4,7 +4,7 @@ use Rattle.settings.specs.Tests.{both}
 use Rattle.state.specs.declared.state.Ehci.{Ehci}
 use Rattle.state.specs.Ranges.{inRanges}
 use Rattle.controller.specs.declared.lent.Lengths.{Lengths}
-use Rattle.controller.specs.Opening.{rowsFit}
+use Rattle.opening.specs.Opening.{rowsFit}
 
 unfoldable pub acceptsOf : Ehci → Lengths → Bool
 acceptsOf s lent =

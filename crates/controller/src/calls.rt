@@ -1,7 +1,7 @@
 // The public call of this crate: the next device address.
 ghost use mathlib.Core.Path.{_≡_};
 ghost use Rattle.controller.specs.Address.{allotOf};
-use crate::answer::Refusal;
+use answer::answer::Refusal;
 use state::ranges::in_ranges;
 use state::state::Ehci;
 

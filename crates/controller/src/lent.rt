@@ -1,7 +1,7 @@
 // What a call on a controller is lent, and the readings that it is given.
 ghost use mathlib.Core.Path.{_≡_};
 ghost use Rattle.controller.specs.Lent.{acceptsOf};
-use crate::open::rows_fit;
+use opening::open::rows_fit;
 use state::ranges::in_ranges;
 use state::state::Ehci;
 

@@ -1,9 +1,4 @@
-// The state of a controller, its ranges, opening, and the answers of calls.
-pub mod answer;
+// Calls on a state as a whole: the next address, what every call asks first, what a caller may ask.
 pub mod calls;
-pub mod endpoint;
-pub mod hub;
 pub mod lent;
-pub mod open;
 pub mod readers;
-pub mod rows;

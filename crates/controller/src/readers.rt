@@ -2,10 +2,10 @@
 ghost use mathlib.Core.Path.{_≡_};
 ghost use Prim.Native.Nat.{_≤_};
 ghost use lib.ListN.{length, take};
-ghost use Rattle.controller.specs.Endpoints.{flagOf};
+ghost use Rattle.pipe.specs.Endpoints.{flagOf};
 ghost use Rattle.controller.specs.Readers.{countZero, freeCount, isOpen, isUncollected, hasPlace};
-use crate::endpoint::Endpoint;
-use crate::endpoint::endpoint_at;
+use pipe::endpoint::Endpoint;
+use pipe::endpoint::endpoint_at;
 use state::state::Ehci;
 
 // How many of some owners are 0.

@@ -2,9 +2,9 @@
 ghost use Prim.Native.Nat.{_≤_};
 ghost use lib.ListN.{length};
 use crate::out;
-use controller::open::Opening;
-use controller::open::decide_open;
 use controller::readers::free_count;
+use opening::open::Opening;
+use opening::open::decide_open;
 use settings::settings::Settings;
 use state::ranges::in_ranges;
 use std::num::wrapping_add_u64 as plus;

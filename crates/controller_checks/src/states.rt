@@ -3,7 +3,7 @@ use crate::opening::good;
 use crate::out;
 use controller::calls::Allotted;
 use controller::calls::allocate_address;
-use controller::open::decide_open;
+use opening::open::decide_open;
 use state::ranges::in_ranges;
 use state::state::Ehci;
 use std::num::wrapping_add_u64 as plus;

@@ -3,7 +3,7 @@ use crate::out;
 use bring_up::calls::BroughtUp;
 use bring_up::calls::start;
 use bring_up::calls::step;
-use controller::open::open;
+use opening::open::open;
 use settings::settings::Settings;
 use state::state::Ehci;
 

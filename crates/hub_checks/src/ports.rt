@@ -1,7 +1,7 @@
 // Single steps of a scan at each state of a port, starts over, port power, records outside their ranges.
 use crate::out;
 use crate::scan;
-use controller::hub::EhciRootHub;
+use opening::hub::EhciRootHub;
 use root_hub::calls::port_power;
 
 // Two ports, the first or the second in some state and at some step.

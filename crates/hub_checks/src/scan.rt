@@ -1,7 +1,7 @@
 // The lines of a scan, its traces, and a walk over fifteen ports.
 use crate::bring;
 use crate::out;
-use controller::hub::EhciRootHub;
+use opening::hub::EhciRootHub;
 use root_hub::calls::ScanReply;
 use root_hub::calls::start;
 use root_hub::calls::step;

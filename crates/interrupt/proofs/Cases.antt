@@ -14,8 +14,8 @@ use Rattle.state.specs.Ranges.{inRanges, restGood, machineGood, interruptGood, 
 use Rattle.settings.specs.Settings.{settingsGood}
 use Rattle.state.specs.State.{withInterrupt, withBell, withBoundaries}
 use Rattle.settings.specs.Tests.{both}
-use Rattle.controller.specs.declared.answer.Answer.the-variants.{Done, Refused as RefusedCall}
-use Rattle.controller.specs.declared.answer.Refusal.the-variants.{InvalidParameter}
+use Rattle.answer.specs.declared.answer.Answer.the-variants.{Done, Refused as RefusedCall}
+use Rattle.answer.specs.declared.answer.Refusal.the-variants.{InvalidParameter}
 use Rattle.state.specs.declared.state.Ehci.{Ehci}
 use Rattle.settings.proofs.SettingsCases.{both-first, both-second, within-least}
 use Rattle.schedule.specs.Bell.{advancedOf, fallenFrom}

@@ -11,7 +11,7 @@ use Rattle.register.specs.Writes.{noWrites, andThen, listOf}
 use Rattle.register.specs.declared.writes.Writes.{Writes}
 use Rattle.register.proofs.BitLaws.{with-bit, only-bit}
 use Rattle.register.proofs.FieldLaws.{any-field}
-use Rattle.controller.specs.Endpoints.{flagNumber}
+use Rattle.pipe.specs.Endpoints.{flagNumber}
 use Rattle.state.specs.Ranges.{inRanges}
 use Rattle.state.specs.State.{withInterrupt, withBell, withBoundaries}
 use Rattle.settings.specs.Tests.{both, either}

@@ -3,8 +3,8 @@ use Prim.Native.Nat.{ℕ, _-_}
 use mathlib.Core.Bool.{true}
 use mathlib.Core.List.{List, [], _∷_}
 use Rattle.register.specs.Writes.{noWrites}
-use Rattle.controller.specs.Endpoints.{flagNumber}
-use Rattle.controller.specs.Opening.{freshState}
+use Rattle.pipe.specs.Endpoints.{flagNumber}
+use Rattle.opening.specs.Opening.{freshState}
 use Rattle.settings.specs.declared.settings.Settings.{Settings}
 use Rattle.state.specs.declared.state.Ehci.{Ehci}
 use Rattle.schedule.specs.Bell.{distance, framesPassed}

@@ -7,12 +7,12 @@ use Rattle.register.specs.Bits.{withBits, withoutBits, onlyBits, anyOf}
 use Rattle.register.specs.Writes.{noWrites, andThen}
 use Rattle.register.specs.declared.writes.Writes.{Writes}
 use Rattle.token.specs.Tokens.{onlyIf}
-use Rattle.controller.specs.Answers.{refusalNumber, first, settle}
+use Rattle.answer.specs.Answers.{refusalNumber, first, settle}
 use Rattle.state.specs.Ranges.{inRanges}
 use Rattle.state.specs.State.{withInterrupt, withBell, withBoundaries}
 use Rattle.settings.specs.Tests.{both}
-use Rattle.controller.specs.declared.answer.Answer.the-variants.{Done, Refused as RefusedCall}
-use Rattle.controller.specs.declared.answer.Refusal.the-variants.{InvalidParameter}
+use Rattle.answer.specs.declared.answer.Answer.the-variants.{Done, Refused as RefusedCall}
+use Rattle.answer.specs.declared.answer.Refusal.the-variants.{InvalidParameter}
 use Rattle.state.specs.declared.state.Ehci.{Ehci}
 use Rattle.schedule.specs.Bell.{advancedOf, fallenFrom}
 use Rattle.schedule.specs.Links.{same}

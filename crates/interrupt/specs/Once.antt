@@ -9,7 +9,7 @@ use Rattle.register.specs.Bits.{anyOf, bit}
 use Rattle.register.specs.Writes.{noWrites, listOf}
 use Rattle.register.specs.declared.writes.Write.{Write}
 use Rattle.register.specs.declared.writes.Writes.{Writes}
-use Rattle.controller.specs.Endpoints.{flagNumber}
+use Rattle.pipe.specs.Endpoints.{flagNumber}
 use Rattle.state.specs.State.{withBell}
 use Rattle.settings.specs.Tests.{both, either}
 use Rattle.state.specs.declared.state.Ehci.{Ehci}

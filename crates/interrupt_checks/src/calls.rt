@@ -1,7 +1,7 @@
 // The calls of `interrupt`: what each answers, leaves and writes.
 use crate::out;
 use crate::states;
-use controller::answer::Refusal;
+use answer::answer::Refusal;
 use interrupt::calls::Acknowledged;
 use interrupt::calls::Drained;
 use interrupt::calls::Settled;

@@ -2,8 +2,8 @@
 use crate::out;
 use crate::states;
 use crate::states::SETTINGS;
-use controller::open::decide_open;
 use descriptor::head::ehci_qh_link;
+use opening::open::decide_open;
 use schedule::links::Predecessor;
 use schedule::links::attach_frames;
 use schedule::links::attach_ring;

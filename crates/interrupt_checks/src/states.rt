@@ -1,5 +1,5 @@
 // A controller of two slots as it is opened, and states made of it.
-use controller::open::decide_open;
+use opening::open::decide_open;
 use settings::settings::Settings;
 use state::state::Ehci;
 

@@ -11,11 +11,11 @@ use Rattle.settings.proofs.Every.{both-true, every-3}
 use Rattle.settings.proofs.SettingsCases.{same-test}
 use Rattle.state.specs.Slots.{slotAt}
 use Rattle.state.specs.declared.state.Ehci.{Ehci}
-use Rattle.controller.specs.Endpoints.{directionNumber, endpointAt, kindNumber}
+use Rattle.pipe.specs.Endpoints.{directionNumber, endpointAt, kindNumber}
 use Rattle.controller.specs.Readers.{freeCount, isOpen, isUncollected}
-use Rattle.controller.specs.declared.answer.Answer.{Answer}
-use Rattle.controller.specs.declared.answer.Answer.the-variants.{Done, Refused}
-use Rattle.controller.specs.declared.answer.Refusal.the-variants.{InvalidParameter, InvalidEndpoint, QueueFull, NotSupported, NoMemory, NotReady}
+use Rattle.answer.specs.declared.answer.Answer.{Answer}
+use Rattle.answer.specs.declared.answer.Answer.the-variants.{Done, Refused}
+use Rattle.answer.specs.declared.answer.Refusal.the-variants.{InvalidParameter, InvalidEndpoint, QueueFull, NotSupported, NoMemory, NotReady}
 use Rattle.request.specs.Submit.{bufferGood, controlGood, isControl, isIsochronous, judgeOf, needOfRequest, rangesGood}
 use Rattle.request.specs.declared.judge.TransferRequest.{TransferRequest}
 

@@ -21,12 +21,12 @@ use Rattle.slot.proofs.SlotLaws.{slot-tells}
 use Rattle.state.specs.Slots.{slotAt}
 use Rattle.state.specs.declared.state.Ehci.{Ehci}
 use Rattle.state.proofs.RangesLaws.{Ranges}
-use Rattle.controller.specs.Answers.{Verdict, orElse}
-use Rattle.controller.specs.Endpoints.{decoded, endpointAt, flagNumber, kindNumber}
+use Rattle.answer.specs.Answers.{Verdict, orElse}
+use Rattle.pipe.specs.Endpoints.{decoded, endpointAt, flagNumber, kindNumber}
 use Rattle.controller.specs.Readers.{countZero, freeCount, isOpen, isUncollected}
-use Rattle.controller.specs.declared.answer.Answer.{Answer}
-use Rattle.controller.specs.declared.answer.Answer.the-variants.{Done, Refused}
-use Rattle.controller.specs.declared.answer.Refusal.{Refusal}
+use Rattle.answer.specs.declared.answer.Answer.{Answer}
+use Rattle.answer.specs.declared.answer.Answer.the-variants.{Done, Refused}
+use Rattle.answer.specs.declared.answer.Refusal.{Refusal}
 use Rattle.controller.specs.declared.lent.Lengths.{Lengths}
 use Rattle.controller.proofs.LentLaws.{Accepted}
 use Rattle.request.specs.Submit.{Settles, answerOf, bufferGood, controlGood, firstIn, isControl, isIsochronous, judgeOf, needOfRequest, placesFor, rangesGood, takenFor, takenOf}

@@ -21,9 +21,9 @@ use Rattle.pool.specs.declared.transfer.Transfer.{Transfer}
 use Rattle.state.specs.Slots.{slotAt}
 use Rattle.state.specs.State.{withOwner}
 use Rattle.state.specs.declared.state.Ehci.{Ehci}
-use Rattle.controller.specs.Endpoints.{withEndpoint}
-use Rattle.controller.specs.Rows.{putAt}
-use Rattle.controller.specs.declared.endpoint.Endpoint.the-variants.{Linked}
+use Rattle.pipe.specs.Endpoints.{withEndpoint}
+use Rattle.opening.specs.Rows.{putAt}
+use Rattle.pipe.specs.declared.endpoint.Endpoint.the-variants.{Linked}
 use Rattle.controller.specs.declared.lent.Readings.{Readings}
 use Rattle.schedule.specs.Bell.{commandWord}
 use Rattle.schedule.specs.Links.{Links, attachedFrames, attachedRing, headAddress, links, slotLink, startedOverlay}

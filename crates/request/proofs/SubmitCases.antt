@@ -6,12 +6,12 @@ use mathlib.Core.List.{List}
 use native.Mathlib.Omega.{arith}
 use borrow.Author.Tests.{not-false, not-true}
 use Rattle.state.specs.declared.state.Ehci.{Ehci}
-use Rattle.controller.specs.Answers.{Verdict, passed, refused, first, settle}
+use Rattle.answer.specs.Answers.{Verdict, passed, refused, first, settle}
 use Rattle.controller.specs.Lent.{acceptsOf}
-use Rattle.controller.specs.declared.answer.Answer.{Answer}
-use Rattle.controller.specs.declared.answer.Answer.the-variants.{Done, Refused}
-use Rattle.controller.specs.declared.answer.Refusal.{Refusal}
-use Rattle.controller.specs.declared.answer.Refusal.the-variants.{InvalidParameter}
+use Rattle.answer.specs.declared.answer.Answer.{Answer}
+use Rattle.answer.specs.declared.answer.Answer.the-variants.{Done, Refused}
+use Rattle.answer.specs.declared.answer.Refusal.{Refusal}
+use Rattle.answer.specs.declared.answer.Refusal.the-variants.{InvalidParameter}
 use Rattle.controller.specs.declared.lent.Lengths.{Lengths}
 use Rattle.controller.specs.declared.lent.Readings.{Readings}
 use Rattle.controller.proofs.LentLaws.{accepts-tells}

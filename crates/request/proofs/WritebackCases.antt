@@ -11,8 +11,8 @@ use Rattle.settings.proofs.SettingsLaws.{both-tells}
 use Rattle.state.specs.declared.state.Ehci.{Ehci}
 use Rattle.controller.specs.Lent.{acceptsOf}
 use Rattle.controller.specs.Readers.{isUncollected}
-use Rattle.controller.specs.declared.answer.Answer.the-variants.{Done}
-use Rattle.controller.specs.declared.answer.Refusal.the-variants.{InvalidParameter}
+use Rattle.answer.specs.declared.answer.Answer.the-variants.{Done}
+use Rattle.answer.specs.declared.answer.Refusal.the-variants.{InvalidParameter}
 use Rattle.controller.specs.declared.lent.Lengths.{Lengths}
 use Rattle.controller.proofs.LentLaws.{accepts-tells}
 use Rattle.request.specs.Writeback.{inRequest, ownerAt, refusedWriteback, tokenChain, writebackOf}

@@ -10,12 +10,12 @@ use Rattle.pool.specs.declared.chain.Chain.{Chain}
 use Rattle.pool.specs.declared.chain.Deed.the-variants.{Token}
 use Rattle.settings.specs.Tests.{both}
 use Rattle.state.specs.declared.state.Ehci.{Ehci}
-use Rattle.controller.specs.Answers.{Check, first, settle}
+use Rattle.answer.specs.Answers.{Check, first, settle}
 use Rattle.controller.specs.Lent.{acceptsOf}
 use Rattle.controller.specs.Readers.{isUncollected}
-use Rattle.controller.specs.declared.answer.Answer.the-variants.{Done, Refused}
-use Rattle.controller.specs.declared.answer.Refusal.{Refusal}
-use Rattle.controller.specs.declared.answer.Refusal.the-variants.{InvalidParameter}
+use Rattle.answer.specs.declared.answer.Answer.the-variants.{Done, Refused}
+use Rattle.answer.specs.declared.answer.Refusal.{Refusal}
+use Rattle.answer.specs.declared.answer.Refusal.the-variants.{InvalidParameter}
 use Rattle.controller.specs.declared.lent.Lengths.{Lengths}
 use Rattle.request.specs.declared.calls.WrittenBack.{WrittenBack}
 

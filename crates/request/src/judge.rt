@@ -1,7 +1,7 @@
 // Whether a request is accepted: the checks of document 01, in its order.
 ghost use mathlib.Core.Path.{_≡_};
 ghost use Prim.Native.Nat.{_≤_};
-ghost use Rattle.controller.specs.Endpoints.{directionNumber};
+ghost use Rattle.pipe.specs.Endpoints.{directionNumber};
 ghost use Rattle.request.specs.Submit.{
   isIsochronous,
   isControl,
@@ -11,12 +11,12 @@ ghost use Rattle.request.specs.Submit.{
   rangesGood,
   judgeOf,
 };
-use controller::answer::Answer;
-use controller::answer::Refusal;
-use controller::endpoint::kind_number;
+use answer::answer::Answer;
+use answer::answer::Refusal;
 use controller::readers::free_count;
 use controller::readers::is_open;
 use controller::readers::uncollected;
+use pipe::endpoint::kind_number;
 use settings::settings::MEMORY_END;
 use state::state::Ehci;
 use token::chunks::need;

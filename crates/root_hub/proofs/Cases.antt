@@ -16,9 +16,9 @@ use Rattle.token.specs.Ports.{isSet}
 use Rattle.token.specs.declared.port.EhciPortStatus.{EhciPortStatus}
 use Rattle.settings.specs.Tests.{both, within}
 use Rattle.settings.proofs.SettingsCases.{both-first, both-second, within-least, within-most}
-use Rattle.controller.specs.declared.answer.Answer.the-variants.{Done}
-use Rattle.controller.specs.declared.answer.Refusal.the-variants.{InvalidParameter}
-use Rattle.controller.specs.declared.hub.EhciRootHub.{EhciRootHub}
+use Rattle.answer.specs.declared.answer.Answer.the-variants.{Done}
+use Rattle.answer.specs.declared.answer.Refusal.the-variants.{InvalidParameter}
+use Rattle.opening.specs.declared.hub.EhciRootHub.{EhciRootHub}
 use Rattle.bring_up.specs.declared.reads.NextRead.the-variants.{Nothing as NoRead, Register}
 use Rattle.root_hub.specs.declared.ports.PortEvent.the-variants.{Nothing as NoEvent, Connected, Disconnected}
 use Rattle.root_hub.specs.declared.ports.PortState.{PortState}

@@ -7,8 +7,8 @@ use lib.ListN.{replicate}
 use Rattle.register.specs.Bits.{withBits, withoutBits}
 use Rattle.register.specs.Writes.{andThen, noWrites, packed, writeOf}
 use Rattle.register.specs.declared.writes.Write.{Write}
-use Rattle.controller.specs.declared.answer.Answer.the-variants.{Done}
-use Rattle.controller.specs.declared.hub.EhciRootHub.{EhciRootHub}
+use Rattle.answer.specs.declared.answer.Answer.the-variants.{Done}
+use Rattle.opening.specs.declared.hub.EhciRootHub.{EhciRootHub}
 use Rattle.bring_up.specs.declared.reads.NextRead.{NextRead}
 use Rattle.bring_up.specs.declared.reads.NextRead.the-variants.{Nothing as NoRead, Register}
 use Rattle.root_hub.specs.declared.ports.PortEvent.{PortEvent}

@@ -17,10 +17,10 @@ use Rattle.register.specs.declared.writes.Write.{Write}
 use Rattle.settings.specs.Tests.{within}
 use Rattle.settings.proofs.SettingsCases.{both-first, both-second, within-least}
 use Rattle.settings.proofs.SettingsLaws.{both-tells, within-makes}
-use Rattle.controller.specs.Answers.{numberOf}
-use Rattle.controller.specs.declared.answer.Answer.the-variants.{Done}
-use Rattle.controller.specs.declared.answer.Refusal.the-variants.{InvalidParameter}
-use Rattle.controller.specs.declared.hub.EhciRootHub.{EhciRootHub}
+use Rattle.answer.specs.Answers.{numberOf}
+use Rattle.answer.specs.declared.answer.Answer.the-variants.{Done}
+use Rattle.answer.specs.declared.answer.Refusal.the-variants.{InvalidParameter}
+use Rattle.opening.specs.declared.hub.EhciRootHub.{EhciRootHub}
 use Rattle.bring_up.specs.declared.reads.NextRead.the-variants.{Nothing as NoRead, Register}
 use Rattle.root_hub.specs.declared.ports.PortEvent.the-variants.{Nothing as NoEvent}
 use Rattle.root_hub.specs.declared.scan.Awaited.{Awaited}

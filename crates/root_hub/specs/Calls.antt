@@ -8,11 +8,11 @@ use Rattle.register.specs.Bits.{withBits, withoutBits}
 use Rattle.register.specs.EhciRegisters.{portscOf}
 use Rattle.register.specs.Writes.{noWrites, andThen}
 use Rattle.settings.specs.Tests.{within}
-use Rattle.controller.specs.Answers.{first, settle}
-use Rattle.controller.specs.declared.answer.Answer.the-variants.{Done, Refused}
-use Rattle.controller.specs.declared.answer.Refusal.{Refusal}
-use Rattle.controller.specs.declared.answer.Refusal.the-variants.{InvalidParameter}
-use Rattle.controller.specs.declared.hub.EhciRootHub.{EhciRootHub}
+use Rattle.answer.specs.Answers.{first, settle}
+use Rattle.answer.specs.declared.answer.Answer.the-variants.{Done, Refused}
+use Rattle.answer.specs.declared.answer.Refusal.{Refusal}
+use Rattle.answer.specs.declared.answer.Refusal.the-variants.{InvalidParameter}
+use Rattle.opening.specs.declared.hub.EhciRootHub.{EhciRootHub}
 use Rattle.bring_up.specs.declared.reads.NextRead.the-variants.{Nothing as NoRead, Register}
 use Rattle.root_hub.specs.declared.ports.PortEvent.the-variants.{Nothing as NoEvent}
 use Rattle.root_hub.specs.declared.scan.Place.{Place}

@@ -4,7 +4,7 @@ use mathlib.Core.List.{List, [], _∷_}
 use lib.ListN.{replicate}
 use Rattle.register.specs.Writes.{writeOf, listOf}
 use Rattle.register.specs.declared.writes.Write.{Write}
-use Rattle.controller.specs.declared.hub.EhciRootHub.{EhciRootHub}
+use Rattle.opening.specs.declared.hub.EhciRootHub.{EhciRootHub}
 use Rattle.bring_up.specs.declared.reads.NextRead.{NextRead}
 use Rattle.bring_up.specs.declared.reads.NextRead.the-variants.{Nothing as NoRead, Register}
 use Rattle.root_hub.specs.declared.ports.PortEvent.{PortEvent}

@@ -4,7 +4,7 @@ use mathlib.Core.Bool.{Bool, true, false}
 use lib.Dec.{eqb, leb, ltb}
 use lib.ListN.{getD}
 use Rattle.settings.specs.Tests.{both, within}
-use Rattle.controller.specs.declared.hub.EhciRootHub.{EhciRootHub}
+use Rattle.opening.specs.declared.hub.EhciRootHub.{EhciRootHub}
 use Rattle.root_hub.specs.declared.scan.Awaited.{Awaited}
 use Rattle.root_hub.specs.declared.scan.Awaited.the-variants.{Status, Gone, Reset, Release, Again, Owner}
 use Rattle.root_hub.specs.Scan.{awaitedOf}

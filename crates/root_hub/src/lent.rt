@@ -4,7 +4,7 @@ ghost use Rattle.root_hub.specs.Calls.{startOf, stepOf};
 use crate::calls::ScanReply;
 use crate::calls::start;
 use crate::calls::step;
-use controller::hub::EhciRootHub;
+use opening::hub::EhciRootHub;
 
 pub fn scan_start(hub: &mut EhciRootHub) -> ScanReply
     ensures { λ r. ⌜ (r ≡ startOf (now (hub .entry)) .reply) × (now (hub .exit) ≡ startOf (now (hub .entry)) .hub) ⌝ }

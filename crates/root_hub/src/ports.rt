@@ -1,8 +1,8 @@
 // A port's state and what a scan reports of it.
 ghost use mathlib.Core.Path.{_≡_};
 ghost use Rattle.root_hub.specs.Ports.{portState, eventPort};
-use controller::hub::RESETED;
-use controller::hub::UNINIT;
+use opening::hub::RESETED;
+use opening::hub::UNINIT;
 
 pub enum PortState {
     Uninit,

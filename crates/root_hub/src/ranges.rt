@@ -10,10 +10,10 @@ ghost use Rattle.root_hub.specs.Ranges.{
 };
 use crate::scan::Awaited;
 use crate::scan::awaited_of;
-use controller::hub::EhciRootHub;
-use controller::hub::PROBED;
-use controller::hub::RESETED;
-use controller::hub::UNINIT;
+use opening::hub::EhciRootHub;
+use opening::hub::PROBED;
+use opening::hub::RESETED;
+use opening::hub::UNINIT;
 use settings::settings::both;
 use settings::settings::within;
 

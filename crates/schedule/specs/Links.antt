@@ -5,7 +5,7 @@ use mathlib.Core.List.{List, [], _∷_}
 use lib.Dec.{eqb}
 use lib.ListN.{getD, length, replicate, set}
 use Rattle.descriptor.specs.Heads.{qhLink}
-use Rattle.controller.specs.Rows.{withHeadWord, putAt}
+use Rattle.opening.specs.Rows.{withHeadWord, putAt}
 use Rattle.settings.specs.Tests.{every}
 use Rattle.state.specs.declared.state.Ehci.{Ehci}
 use Rattle.schedule.specs.declared.links.Predecessor.{Predecessor}

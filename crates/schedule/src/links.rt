@@ -19,9 +19,9 @@ ghost use Rattle.schedule.specs.Links.{
   startedOverlay,
   endedOverlay,
 };
-use controller::rows::fill_words;
-use controller::rows::put_words;
 use descriptor::qtd::EHCI_LINK_TERMINATE;
+use opening::rows::fill_words;
+use opening::rows::put_words;
 use state::state::Ehci;
 
 // Who gives way to a head that is unlinked.

@@ -1,0 +1,2 @@
+// The answers of calls and their numbers.
+pub mod answer;

@@ -1,0 +1,4 @@
+pub mod RowsCases
+pub mod OpenCases
+pub mod OpenLaws
+pub mod OpenPool

@@ -1,0 +1,2 @@
+pub mod EndpointCases
+pub mod EndpointLaws

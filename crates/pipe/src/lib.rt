@@ -1,0 +1,2 @@
+// A slot taken apart into its endpoint, and put together again.
+pub mod endpoint;
