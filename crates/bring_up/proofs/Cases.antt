@@ -12,7 +12,7 @@ use Rattle.register.specs.Bits.{withBits, withoutBits, anyOf}
 use Rattle.register.specs.Writes.{noWrites, andThen}
 use Rattle.register.specs.declared.writes.Writes.{Writes}
 use Rattle.settings.specs.Tests.{either}
-use Rattle.state.specs.declared.slot.Slot.{Slot}
+use Rattle.slot.specs.declared.slot.Slot.{Slot}
 use Rattle.state.specs.declared.state.Ehci.{Ehci}
 use Rattle.state.specs.Ranges.{inRanges}
 use Rattle.state.specs.Slots.{slotAt}

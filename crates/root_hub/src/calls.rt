@@ -5,6 +5,7 @@ ghost use Rattle.root_hub.specs.Calls.{refusedScan, startOf, stepOf, ref
 use crate::ports::PortEvent;
 use crate::ranges::hub_good;
 use crate::ranges::index_of;
+use crate::ranges::within;
 use crate::scan::CHANGES;
 use crate::scan::RECOVERY_MS;
 use crate::scan::awaited_of;
@@ -19,7 +20,6 @@ use register::bits::with_bits;
 use register::bits::without_bits;
 use register::ehci::port_offset;
 use register::writes::Writes;
-use settings::settings::within;
 use token::port::EhciPortStatus;
 
 // What a caller is told: the writes, then the milliseconds to wait, then the register to read.

@@ -1,6 +1,7 @@
 // The ranges of the ports' record, which every call asks first.
 ghost use mathlib.Core.Path.{_≡_};
 ghost use Prim.Native.Nat.{_-_, _≤_};
+ghost use Rattle.settings.specs.Tests.{both, within};
 ghost use Rattle.root_hub.specs.Ranges.{
   stateGood,
   statesGood,
@@ -14,8 +15,18 @@ use opening::hub::EhciRootHub;
 use opening::hub::PROBED;
 use opening::hub::RESETED;
 use opening::hub::UNINIT;
-use settings::settings::both;
-use settings::settings::within;
+
+fn both(a: bool, b: bool) -> bool
+    ensures { λ r. ⌜ r ≡ both a b ⌝ }
+{
+    a & b
+}
+
+pub fn within(x: u64, least: u64, most: u64) -> bool
+    ensures { λ r. ⌜ r ≡ within x least most ⌝ }
+{
+    (least <= x) & (x <= most)
+}
 
 // The place of a port in the record.
 pub fn index_of(port: u8) -> usize
