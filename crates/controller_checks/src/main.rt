@@ -1,6 +1,6 @@
 // Prints what opening answers at each edge, whether a state is in its ranges at each bound met and broken by one, and the
 // addresses allotted, one case to a line. `tools/controller_values.py` prints the same lines from document 01.
-mod opening;
+mod openings;
 mod out;
 mod slots;
 mod states;
@@ -15,10 +15,10 @@ fn main() {
 
 fn case(k: u32) {
     match k {
-        0..=19 => opening::number(k),
-        20..=39 => opening::area(k - 20),
-        40..=103 => opening::pair(k - 40),
-        104..=112 => opening::row(k - 104),
+        0..=19 => openings::number(k),
+        20..=39 => openings::area(k - 20),
+        40..=103 => openings::pair(k - 40),
+        104..=112 => openings::row(k - 104),
         113..=128 => states::bound(k - 113),
         129..=148 => states::bits(k - 129),
         149..=193 => states::bell(k - 149),

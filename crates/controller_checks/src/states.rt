@@ -1,5 +1,5 @@
 // Whether a state is in its ranges where one of its numbers is at or past a bound, and the addresses allotted.
-use crate::opening::good;
+use crate::openings::good;
 use crate::out;
 use controller::calls::Allotted;
 use controller::calls::allocate_address;

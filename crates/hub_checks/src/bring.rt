@@ -3,7 +3,7 @@ use crate::out;
 use bring_up::calls::BroughtUp;
 use bring_up::calls::start;
 use bring_up::calls::step;
-use opening::open::open;
+use opening::open::decide_open;
 use settings::settings::Settings;
 use state::state::Ehci;
 
@@ -28,7 +28,7 @@ fn opened(wait: u64) -> Ehci {
     let mut heads: [u32; 51] = [0; 51];
     let mut frames: [u32; 1024] = [0; 1024];
     let mut setups: [u8; 16] = [0; 16];
-    let opening = open(settings(wait), 16, &mut heads, &mut frames, &mut setups);
+    let opening = decide_open(settings(wait), 16, &mut heads, &mut frames, &mut setups);
     let mut state = opening.state;
     state.enabled = 1;
     state.pending = 0x14;

@@ -6,8 +6,8 @@ use native.Mathlib.Omega.{arith}
 use lib.ListN.{length, take}
 use lib.Seq.{length-take-le}
 use borrow.Author.Needs.{needs}
-use Rattle.controller_checks.proofs.opening.over.Statement.{statement}
-use Rattle.controller_checks.proofs.opening.over.Tie as tie
+use Rattle.controller_checks.proofs.openings.over.Statement.{statement}
+use Rattle.controller_checks.proofs.openings.over.Tie as tie
 
 fits : (n : ℕ) (l : List ℕ) → n ≤ length l → n ≡ length (take n l)
 fits n l h = sym (length-take-le n l h)
