@@ -1,0 +1,3 @@
+pub mod LowestCases
+pub mod SlotLaws
+pub mod Cases
