@@ -33,7 +33,7 @@ use Rattle.endpoint.proofs.SlotLaws.{below-room, open-room}
 
 -- ---- verdicts
 
-abbrev passes : Verdict → ℕ
+abbrev pub passes : Verdict → ℕ
 passes Verdict.passed = 1
 passes (Verdict.refused r) = 0
 
@@ -42,7 +42,7 @@ let-pass : (b : Bool) (r : Refusal) (v : Verdict) → orElse b r v ≡ Verdict.p
 let-pass false r v e = (refl, e)
 let-pass true r v e = let z : _≡_ {A = ℕ} 0 1 = ap passes e in absurd (omega arith)
 
-abbrev verdictOf : Answer → Verdict
+abbrev pub verdictOf : Answer → Verdict
 verdictOf Done = Verdict.passed
 verdictOf (RefusedCall r) = Verdict.refused r
 
@@ -50,7 +50,7 @@ verdict-there : (v : Verdict) → verdictOf (settle v RefusedCall Done) ≡ v
 verdict-there Verdict.passed = refl
 verdict-there (Verdict.refused r) = refl
 
-abbrev openVerdict : Opened → Verdict
+abbrev pub openVerdict : Opened → Verdict
 openVerdict (Slot k) = Verdict.passed
 openVerdict (Refused r) = Verdict.refused r
 
@@ -58,7 +58,7 @@ open-there : (v : Verdict) (k : ℕ) → openVerdict (settle v Refused (Slot k))
 open-there Verdict.passed k = refl
 open-there (Verdict.refused r) k = refl
 
-abbrev slotOf : Opened → ℕ
+abbrev pub slotOf : Opened → ℕ
 slotOf (Slot k) = k
 slotOf (Refused r) = 0
 

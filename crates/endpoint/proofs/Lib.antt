@@ -3,3 +3,4 @@ pub mod LowestLaws
 pub mod RowLaws
 pub mod SlotLaws
 pub mod Cases
+pub mod OpenLaws
