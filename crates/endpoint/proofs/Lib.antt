@@ -4,3 +4,4 @@ pub mod RowLaws
 pub mod SlotLaws
 pub mod Cases
 pub mod OpenLaws
+pub mod ChangeLaws

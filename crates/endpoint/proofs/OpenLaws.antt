@@ -5,8 +5,8 @@ use mathlib.Core.Logic.{_≢_}
 use mathlib.Core.Bool.{Bool, true, false}
 use mathlib.Core.List.{List}
 use native.Mathlib.Omega.{arith}
-use borrow.Author.Tests.{leb-true}
-use lib.Dec.{leb}
+use borrow.Author.Tests.{le-leb, leb-false, leb-true, lt-leb, ltb-false, ltb-true}
+use lib.Dec.{leb, ltb}
 use lib.ListN.{getD, length}
 use Rattle.token.specs.declared.request.EndpointType.{EndpointType}
 use Rattle.token.specs.declared.request.EndpointType.the-variants.{Isochronous}
@@ -22,13 +22,13 @@ use Rattle.controller.specs.declared.answer.Refusal.the-variants.{SlotLimitReac
 use Rattle.controller.specs.declared.endpoint.Endpoint.the-variants.{Closed}
 use Rattle.controller.specs.Endpoints.{endpointAt, flagNumber, withEndpoint}
 use Rattle.controller.specs.Lent.{acceptsOf}
-use Rattle.controller.specs.Readers.{isOpen}
+use Rattle.controller.specs.Readers.{hasEndpoint, isOpen}
 use Rattle.controller.specs.Rows.{headWord}
 use Rattle.controller.proofs.EndpointLaws.{endpoint-keeps, endpoint-other, endpoint-same, Wide}
 use Rattle.controller.proofs.LentLaws.{accepts-tells}
 use Rattle.endpoint.specs.declared.calls.Opened.{Opened}
 use Rattle.endpoint.specs.declared.calls.Opened.the-variants.{Slot, Refused}
-use Rattle.endpoint.specs.Calls.{chosenOf, fieldsGood, isIsochronous, lentRows, lowestSlot, newEndpoint, openEndpointOf, openLeft, OpenLeft, withHead}
+use Rattle.endpoint.specs.Calls.{chosenOf, fieldsGood, isIsochronous, lentRows, lowestSlot, newEndpoint, openChecks, openEndpointOf, openLeft, OpenLeft, withHead}
 use Rattle.endpoint.proofs.Cases.{open-done, open-passed, open-refused, openVerdict, passes, slot-is, slotOf}
 use Rattle.endpoint.proofs.LowestLaws.{lower-open, lowest-closed}
 use Rattle.endpoint.proofs.RowLaws.{Only, only-all, put-inside, put-only}
@@ -165,3 +165,33 @@ module _ (s : Ehci) (pool : ℕ) (h : List ℕ) (f u : ℕ) (kind : EndpointType
   pub open-others : (k j : ℕ) → openEndpointOf s pool h f u kind a n p .opening .answer ≡ Slot k → j ≢ k
       → endpointAt (openEndpointOf s pool h f u kind a n p .opening .state) j ≡ endpointAt s j
   open-others k j e ne = rw (open-tells k e .state-is) (endpoint-other s k (newEndpoint kind) j ne)
+
+  -- ---- where every earlier check passes, 2 is answered exactly where no slot below E is closed
+
+  module _ (e : acceptsOf s (lentRows pool h f u) ≡ true) (i : isIsochronous kind ≡ false) (g : fieldsGood a n p ≡ true) where
+    pub open-accepts : (j : ℕ) → j < s .settings .endpoints → isOpen s j ≡ false
+        → openEndpointOf s pool h f u kind a n p .opening .answer ≡ Slot (lowestSlot s)
+    unfolding openEndpointOf openChecks
+    open-accepts j lt shut = rw (e, i, g, lt-leb (s .settings .endpoints) (lowestSlot s) (by (ltb j (lowestSlot s)) refl))
+      where
+        by : (t : Bool) → ltb j (lowestSlot s) ≡ t → lowestSlot s < s .settings .endpoints
+        by true q =
+            let r = accepts-tells s (lentRows pool h f u) e .ranges in
+            let o = lower-open s r j lt (ltb-true j (lowestSlot s) q) in
+            let z : _≡_ {A = ℕ} 1 0 = ap flagNumber (sym o ∙ shut) in
+            absurd (omega arith)
+        by false q = omega (arith, ltb-false j (lowestSlot s) q)
+
+    pub open-full : ((j : ℕ) → j < s .settings .endpoints → isOpen s j ≡ true)
+        → openEndpointOf s pool h f u kind a n p .opening .answer ≡ Refused SlotLimitReached
+    unfolding openEndpointOf openChecks
+    open-full all = rw (e, i, g, le-leb (s .settings .endpoints) (lowestSlot s) (by (leb (s .settings .endpoints) (lowestSlot s)) refl))
+      where
+        by : (t : Bool) → leb (s .settings .endpoints) (lowestSlot s) ≡ t → s .settings .endpoints ≤ lowestSlot s
+        by true q = leb-true (s .settings .endpoints) (lowestSlot s) q
+        by false q =
+            let r = accepts-tells s (lentRows pool h f u) e .ranges in
+            let lt = leb-false (s .settings .endpoints) (lowestSlot s) q in
+            let o = sym (ap hasEndpoint (lowest-closed s r lt)) ∙ all (lowestSlot s) lt in
+            let z : _≡_ {A = ℕ} 0 1 = ap flagNumber o in
+            absurd (omega arith)
