@@ -5,3 +5,4 @@ pub mod SlotLaws
 pub mod Cases
 pub mod OpenLaws
 pub mod ChangeLaws
+pub mod Examples
