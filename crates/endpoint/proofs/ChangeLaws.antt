@@ -1,5 +1,5 @@
 -- Close, set address and set packet size: what an answer tells of the state before and of what is left.
-use Prim.Native.Nat.{ℕ, _+_, _*_, _≤_, _<_}
+use Prim.Native.Nat.{ℕ, _+_, _*_, _%_, _≤_, _<_, max}
 use mathlib.Core.Path.{_≡_, refl, sym, ap, subst, _∙_}
 use mathlib.Core.Logic.{_≢_}
 use mathlib.Core.Bool.{Bool, true, false}
@@ -9,7 +9,9 @@ use borrow.Author.Tests.{leb-true}
 use lib.Dec.{leb}
 use lib.ListN.{getD-replicate, length, replicate}
 use lib.Seq.{getD-set-same}
+use Rattle.descriptor.specs.EhciQueueHead.{controlEndpoint, deviceAddress, endpointNumber, endpointSpeed, headOfList, inactivateOnNext, maximumPacketLength, nakReload, toggleControl}
 use Rattle.descriptor.specs.Heads.{withAddress, withPacketSize}
+use Rattle.descriptor.proofs.HeadFields.{address-reads, Characteristics, packet-reads}
 use Rattle.state.specs.declared.state.Ehci.{Ehci}
 use Rattle.state.specs.Ranges.{inRanges}
 use Rattle.state.proofs.RangesLaws.{ranges-make, ranges-tell}
@@ -17,15 +19,15 @@ use Rattle.controller.specs.declared.answer.Answer.{Answer}
 use Rattle.controller.specs.declared.answer.Answer.the-variants.{Done, Refused}
 use Rattle.controller.specs.declared.answer.Refusal.{Refusal}
 use Rattle.controller.specs.declared.endpoint.Endpoint.the-variants.{Closed}
-use Rattle.controller.specs.Endpoints.{endpointAt, withEndpoint}
+use Rattle.controller.specs.Endpoints.{encoded, endpointAt, withEndpoint}
 use Rattle.controller.specs.Lent.{acceptsOf}
 use Rattle.controller.specs.Readers.{isOpen, isUncollected}
 use Rattle.controller.specs.Rows.{headWord, withHeadWord}
-use Rattle.controller.proofs.EndpointLaws.{endpoint-keeps, endpoint-other, endpoint-same, Wide}
+use Rattle.controller.proofs.EndpointLaws.{endpoint-keeps, endpoint-other, endpoint-same, slot-wide, Wide}
 use Rattle.controller.proofs.LentLaws.{accepts-tells}
 use Rattle.endpoint.specs.Calls.{changeLeft, ChangeLeft, changeOf, closeOf, judgedOf, lentRows, setAddressOf, setPacketSizeOf, withHead}
 use Rattle.endpoint.proofs.Cases.{change-done, change-passed, change-refused, passes, verdictOf}
-use Rattle.endpoint.proofs.RowLaws.{Only, put-inside, put-only, set-only}
+use Rattle.endpoint.proofs.RowLaws.{Only, only-all, put-inside, put-only, set-only}
 use Rattle.endpoint.proofs.SlotLaws.{open-below, open-room}
 
 module _ (s : Ehci) (pool : ℕ) (h : List ℕ) (f u k : ℕ) where
@@ -97,11 +99,12 @@ module _ (s : Ehci) (pool : ℕ) (h : List ℕ) (f u k : ℕ) where
   unfolding closeOf
   close-denied r e = change-denied true (withEndpoint s k Closed) (withHead h k (replicate 17 0)) r e
 
-  pub close-length : length (closeOf s pool h f u k .heads) ≡ length h
+  -- no word but those of its head, whatever is answered
+  pub close-only : Only (17 * (k + 1)) 17 h (closeOf s pool h f u k .heads)
   unfolding closeOf
-  close-length =
-      change-by true (withEndpoint s k Closed) (withHead h k (replicate 17 0)) (λ c. length (c .heads) ≡ length h) (λ r. refl)
-      (λ from _. slot-closed from .only .same-length)
+  close-only =
+      change-by true (withEndpoint s k Closed) (withHead h k (replicate 17 0)) (λ c. Only (17 * (k + 1)) 17 h (c .heads))
+      (λ r. only-all (17 * (k + 1)) 17 h) (λ from _. slot-closed from .only)
 
   pub close-keeps : Wide s → inRanges s ≡ true → inRanges (closeOf s pool h f u k .change .state) ≡ true
   unfolding closeOf
@@ -144,10 +147,10 @@ module _ (s : Ehci) (pool : ℕ) (h : List ℕ) (f u k : ℕ) where
     word-state : changeOf s pool h f u k good s (withHeadWord h (k + 1) 1 w) .change .state ≡ s
     word-state = change-by good s (withHeadWord h (k + 1) 1 w) (λ c. c .change .state ≡ s) (λ r. refl) (λ _ _. refl)
 
-    word-length : length (changeOf s pool h f u k good s (withHeadWord h (k + 1) 1 w) .heads) ≡ length h
-    word-length =
-        change-by good s (withHeadWord h (k + 1) 1 w) (λ c. length (c .heads) ≡ length h) (λ r. refl)
-        (λ from _. word-set w from .only .same-length)
+    word-only : Only (17 * (k + 1) + 1) 1 h (changeOf s pool h f u k good s (withHeadWord h (k + 1) 1 w) .heads)
+    word-only =
+        change-by good s (withHeadWord h (k + 1) 1 w) (λ c. Only (17 * (k + 1) + 1) 1 h (c .heads))
+        (λ r. only-all (17 * (k + 1) + 1) 1 h) (λ from _. word-set w from .only)
 
   module _ (a : ℕ) where
     pub address-tells : setAddressOf s pool h f u k a .change .answer ≡ Done
@@ -167,9 +170,10 @@ module _ (s : Ehci) (pool : ℕ) (h : List ℕ) (f u k : ℕ) where
     unfolding setAddressOf
     address-state = word-state (leb a 127) (withAddress (headWord h (k + 1) 1) a)
 
-    pub address-length : length (setAddressOf s pool h f u k a .heads) ≡ length h
+    -- no word but that one, whatever is answered
+    pub address-only : Only (17 * (k + 1) + 1) 1 h (setAddressOf s pool h f u k a .heads)
     unfolding setAddressOf
-    address-length = word-length (leb a 127) (withAddress (headWord h (k + 1) 1) a)
+    address-only = word-only (leb a 127) (withAddress (headWord h (k + 1) 1) a)
 
   module _ (x : ℕ) where
     pub size-tells : setPacketSizeOf s pool h f u k x .change .answer ≡ Done
@@ -188,6 +192,47 @@ module _ (s : Ehci) (pool : ℕ) (h : List ℕ) (f u k : ℕ) where
     unfolding setPacketSizeOf
     size-state = word-state true (withPacketSize (headWord h (k + 1) 1) x)
 
-    pub size-length : length (setPacketSizeOf s pool h f u k x .heads) ≡ length h
+    -- no word but that one, whatever is answered
+    pub size-only : Only (17 * (k + 1) + 1) 1 h (setPacketSizeOf s pool h f u k x .heads)
     unfolding setPacketSizeOf
-    size-length = word-length true (withPacketSize (headWord h (k + 1) 1) x)
+    size-only = word-only true (withPacketSize (headWord h (k + 1) 1) x)
+
+-- ---- what EHCI 3.6.2 reads in the word
+
+module _ (s : Ehci) (pool : ℕ) (h : List ℕ) (f u k : ℕ) where
+  abbrev was : ℕ
+  was = headWord h (k + 1) 1
+
+  -- the address that was asked, and every other field as before
+  pub address-fields : (a : ℕ) → setAddressOf s pool h f u k a .change .answer ≡ Done
+      → Characteristics (headWord (setAddressOf s pool h f u k a .heads) (k + 1) 1) a (inactivateOnNext was)
+      (endpointNumber was) (endpointSpeed was) (toggleControl was) (headOfList was) (maximumPacketLength was)
+      (controlEndpoint was) (nakReload was)
+  address-fields a e =
+      let t = address-tells s pool h f u k a e in
+      let small : a % 128 ≡ a = omega (arith, t .0) in
+      subst
+      (λ (v : ℕ). Characteristics v a (inactivateOnNext was) (endpointNumber was) (endpointSpeed was) (toggleControl was)
+      (headOfList was) (maximumPacketLength was) (controlEndpoint was) (nakReload was)) (sym (t .1 .word))
+      (subst
+      (λ (b : ℕ). Characteristics (withAddress was a) b (inactivateOnNext was) (endpointNumber was) (endpointSpeed was)
+      (toggleControl was) (headOfList was) (maximumPacketLength was) (controlEndpoint was) (nakReload was)) small
+      (address-reads was a))
+
+  -- the size raised to 8, and every other field as before
+  pub size-fields : (x : ℕ) → x < 256 → setPacketSizeOf s pool h f u k x .change .answer ≡ Done
+      → Characteristics (headWord (setPacketSizeOf s pool h f u k x .heads) (k + 1) 1) (deviceAddress was) (inactivateOnNext was)
+      (endpointNumber was) (endpointSpeed was) (toggleControl was) (headOfList was) (max x 8) (controlEndpoint was)
+      (nakReload was)
+  size-fields x lt e =
+      subst
+      (λ (v : ℕ). Characteristics v (deviceAddress was) (inactivateOnNext was) (endpointNumber was) (endpointSpeed was)
+      (toggleControl was) (headOfList was) (max x 8) (controlEndpoint was) (nakReload was))
+      (sym (size-tells s pool h f u k x e .word)) (packet-reads was x lt)
+
+-- the arrays of the state keep their lengths
+pub close-wide : (s : Ehci) (pool : ℕ) (h : List ℕ) (f u k : ℕ) → Wide s → Wide (closeOf s pool h f u k .change .state)
+unfolding closeOf withEndpoint
+close-wide s pool h f u k w =
+    change-by s pool h f u k true (withEndpoint s k Closed) (withHead h k (replicate 17 0)) (λ c. Wide (c .change .state)) (λ r. w)
+    (λ from _. slot-wide s k (encoded Closed) w)

@@ -20,18 +20,18 @@ use Rattle.state.proofs.RangesLaws.{Ranges, ranges-make, ranges-tell}
 use Rattle.controller.specs.declared.answer.Refusal.{Refusal}
 use Rattle.controller.specs.declared.answer.Refusal.the-variants.{SlotLimitReached}
 use Rattle.controller.specs.declared.endpoint.Endpoint.the-variants.{Closed}
-use Rattle.controller.specs.Endpoints.{endpointAt, flagNumber, withEndpoint}
+use Rattle.controller.specs.Endpoints.{encoded, endpointAt, flagNumber, withEndpoint}
 use Rattle.controller.specs.Lent.{acceptsOf}
 use Rattle.controller.specs.Readers.{hasEndpoint, isOpen}
 use Rattle.controller.specs.Rows.{headWord}
-use Rattle.controller.proofs.EndpointLaws.{endpoint-keeps, endpoint-other, endpoint-same, Wide}
+use Rattle.controller.proofs.EndpointLaws.{endpoint-keeps, endpoint-other, endpoint-same, slot-wide, Wide}
 use Rattle.controller.proofs.LentLaws.{accepts-tells}
 use Rattle.endpoint.specs.declared.calls.Opened.{Opened}
 use Rattle.endpoint.specs.declared.calls.Opened.the-variants.{Slot, Refused}
 use Rattle.endpoint.specs.Calls.{chosenOf, fieldsGood, isIsochronous, lentRows, lowestSlot, newEndpoint, openChecks, openEndpointOf, openLeft, OpenLeft, withHead}
 use Rattle.endpoint.proofs.Cases.{open-done, open-passed, open-refused, openVerdict, passes, slot-is, slotOf}
 use Rattle.endpoint.proofs.LowestLaws.{lower-open, lowest-closed}
-use Rattle.endpoint.proofs.RowLaws.{Only, only-all, put-inside, put-only}
+use Rattle.endpoint.proofs.RowLaws.{Only, put-inside, put-only}
 use Rattle.endpoint.proofs.SlotLaws.{below-room}
 
 -- 01's ranges of what is asked
@@ -195,3 +195,11 @@ module _ (s : Ehci) (pool : ℕ) (h : List ℕ) (f u : ℕ) (kind : EndpointType
             let o = sym (ap hasEndpoint (lowest-closed s r lt)) ∙ all (lowestSlot s) lt in
             let z : _≡_ {A = ℕ} 0 1 = ap flagNumber o in
             absurd (omega arith)
+
+-- the arrays of the state keep their lengths
+pub open-wide : (s : Ehci) (pool : ℕ) (h : List ℕ) (f u : ℕ) (kind : EndpointType) (a n p : ℕ) → Wide s
+    → Wide (openEndpointOf s pool h f u kind a n p .opening .state)
+unfolding withEndpoint
+open-wide s pool h f u kind a n p w =
+    open-by s pool h f u kind a n p (λ o. Wide (o .opening .state)) (λ r. w)
+    (λ k from. slot-wide s k (encoded (newEndpoint kind)) w)

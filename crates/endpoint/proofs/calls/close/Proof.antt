@@ -1,4 +1,4 @@
-use mathlib.Core.Bool.{true}
+use native.Mathlib.Omega.{arith}
 use Rattle.endpoint.proofs.Cases.{change-room, close-done, close-refused}
 use borrow.Author.Needs.{needs}
 use Rattle.endpoint.proofs.calls.close.Statement.{statement}
@@ -16,12 +16,12 @@ add-put-head c = search needs
 put-head-requires : tie.Need-put-head-requires
 put-head-requires c κs =
     let a = c .before .before .before .before .before .args in
-    let r = change-room (a .state) (a .pool) (a .heads .now) (a .frames) (a .setups) (a .slot) true _ (c .before .before .before .judge .ensures) (c .before .enum-told .given .1) in (r .1, r .2)
+    let r = change-room (a .state) (a .pool) (a .heads .now) (a .frames) (a .setups) (a .slot) _ _ (c .before .before .before .judge .ensures) (c .before .enum-told .given .1) in (omega (arith, r .1), omega (arith, r .2))
 
 with-endpoint-requires : tie.Need-with-endpoint-requires
 with-endpoint-requires c κs =
     let a = c .before .before .before .before .before .before .before .before .args in
-    change-room (a .state) (a .pool) (a .heads .now) (a .frames) (a .setups) (a .slot) true _ (c .before .before .before .before .before .before .judge .ensures) (c .before .before .before .before .enum-told .given .1) .0
+    change-room (a .state) (a .pool) (a .heads .now) (a .frames) (a .setups) (a .slot) _ _ (c .before .before .before .before .before .before .judge .ensures) (c .before .before .before .before .enum-told .given .1) .0
 
 enum-known-refusal : tie.Need-enum-known-refusal
 enum-known-refusal c = search needs

@@ -1,6 +1,5 @@
 use Rattle.endpoint.proofs.Cases.{change-room, address-done, address-refused}
 use native.Mathlib.Omega.{arith}
-use lib.Dec.{leb}
 use borrow.Author.Needs.{needs}
 use Rattle.endpoint.proofs.calls.set_address.Statement.{statement}
 use Rattle.endpoint.proofs.calls.set_address.Tie as tie
@@ -26,7 +25,7 @@ mul-set-device-address c = search needs
 slice-read-set-device-address : tie.Need-slice-read-set-device-address
 slice-read-set-device-address c =
     let a = c .before .before .before .before .before .args in
-    omega (arith, change-room (a .state) (a .pool) (a .heads .now) (a .frames) (a .setups) (a .slot) (leb (a .address) 127) _ (c .before .before .before .judge .ensures) (c .before .enum-told .given .1) .2)
+    omega (arith, change-room (a .state) (a .pool) (a .heads .now) (a .frames) (a .setups) (a .slot) _ _ (c .before .before .before .judge .ensures) (c .before .enum-told .given .1) .2)
 
 set-device-address-requires : tie.Need-set-device-address-requires
 set-device-address-requires c κs = search needs
@@ -37,7 +36,7 @@ mul-heads c = search needs
 slice-write-heads : tie.Need-slice-write-heads
 slice-write-heads c =
     let a = c .before .before .before .before .before .before .args in
-    omega (arith, change-room (a .state) (a .pool) (a .heads .now) (a .frames) (a .setups) (a .slot) (leb (a .address) 127) _ (c .before .before .before .before .judge .ensures) (c .before .before .enum-told .given .1) .2)
+    omega (arith, change-room (a .state) (a .pool) (a .heads .now) (a .frames) (a .setups) (a .slot) _ _ (c .before .before .before .before .judge .ensures) (c .before .before .enum-told .given .1) .2)
 
 enum-known-refusal : tie.Need-enum-known-refusal
 enum-known-refusal c = search needs

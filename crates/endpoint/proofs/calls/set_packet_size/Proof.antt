@@ -1,4 +1,3 @@
-use mathlib.Core.Bool.{true}
 use Rattle.endpoint.proofs.Cases.{change-room, size-done, size-refused}
 use native.Mathlib.Omega.{arith}
 use borrow.Author.Needs.{needs}
@@ -26,7 +25,7 @@ mul-set-max-packet-size c = search needs
 slice-read-set-max-packet-size : tie.Need-slice-read-set-max-packet-size
 slice-read-set-max-packet-size c =
     let a = c .before .before .before .before .before .args in
-    omega (arith, change-room (a .state) (a .pool) (a .heads .now) (a .frames) (a .setups) (a .slot) true _ (c .before .before .before .judge .ensures) (c .before .enum-told .given .1) .2)
+    omega (arith, change-room (a .state) (a .pool) (a .heads .now) (a .frames) (a .setups) (a .slot) _ _ (c .before .before .before .judge .ensures) (c .before .enum-told .given .1) .2)
 
 set-max-packet-size-requires : tie.Need-set-max-packet-size-requires
 set-max-packet-size-requires c κs = search needs
@@ -37,7 +36,7 @@ mul-heads c = search needs
 slice-write-heads : tie.Need-slice-write-heads
 slice-write-heads c =
     let a = c .before .before .before .before .before .before .args in
-    omega (arith, change-room (a .state) (a .pool) (a .heads .now) (a .frames) (a .setups) (a .slot) true _ (c .before .before .before .before .judge .ensures) (c .before .before .enum-told .given .1) .2)
+    omega (arith, change-room (a .state) (a .pool) (a .heads .now) (a .frames) (a .setups) (a .slot) _ _ (c .before .before .before .before .judge .ensures) (c .before .before .enum-told .given .1) .2)
 
 enum-known-refusal : tie.Need-enum-known-refusal
 enum-known-refusal c = search needs
