@@ -1,0 +1,253 @@
+-- The returns of the calls on endpoints, and what they may count on.
+use Prim.Native.Nat.{ℕ, _+_, _*_, _≤_, _<_}
+use mathlib.Core.Path.{_≡_, refl, sym, ap, _∙_}
+use mathlib.Core.Bool.{Bool, true, false, not}
+use mathlib.Core.List.{List}
+use native.Mathlib.Omega.{arith}
+use borrow.Author.Tests.{le-leb, leb-false, leb-true, lt-leb, not-false, not-true}
+use lib.Dec.{leb}
+use lib.ListN.{length, replicate}
+use Rattle.token.specs.declared.request.EndpointType.{EndpointType}
+use Rattle.descriptor.specs.Heads.{endpointHead, withAddress, withPacketSize, wordsOf}
+use Rattle.settings.specs.Tests.{both}
+use Rattle.settings.proofs.Every.{every-3}
+use Rattle.settings.proofs.SettingsLaws.{both-tells}
+use Rattle.state.specs.declared.state.Ehci.{Ehci}
+use Rattle.controller.specs.declared.answer.Answer.{Answer}
+use Rattle.controller.specs.declared.answer.Answer.the-variants.{Done, Refused as RefusedCall}
+use Rattle.controller.specs.declared.answer.Refusal.{Refusal}
+use Rattle.controller.specs.declared.answer.Refusal.the-variants.{InvalidParameter, SlotLimitReached, InvalidEndpoint, QueueFull, NotSupported}
+use Rattle.controller.specs.declared.endpoint.Endpoint.the-variants.{Closed}
+use Rattle.controller.specs.declared.lent.Lengths.{Lengths}
+use Rattle.controller.specs.Answers.{Verdict, first, orElse, settle}
+use Rattle.controller.specs.Endpoints.{withEndpoint}
+use Rattle.controller.specs.Lent.{acceptsOf}
+use Rattle.controller.specs.Readers.{isOpen, isUncollected}
+use Rattle.controller.specs.Rows.{headWord, withHeadWord}
+use Rattle.controller.proofs.LentLaws.{accepts-tells}
+use Rattle.endpoint.specs.declared.calls.Opened.{Opened}
+use Rattle.endpoint.specs.declared.calls.Opened.the-variants.{Slot, Refused}
+use Rattle.endpoint.specs.Lowest.{lowestClosed}
+use Rattle.endpoint.specs.Calls.{changeLeft, changeOf, chosenOf, closeOf, fieldsGood, isIsochronous, judgedOf, lentRows, lowestSlot, newEndpoint, openChecks, openEndpointOf, openLeft, setAddressOf, setPacketSizeOf, slotChecks, withHead}
+use Rattle.endpoint.proofs.SlotLaws.{below-room, open-room}
+
+-- ---- verdicts
+
+abbrev pub passes : Verdict → ℕ
+passes Verdict.passed = 1
+passes (Verdict.refused r) = 0
+
+-- a check that let the call pass said false
+let-pass : (b : Bool) (r : Refusal) (v : Verdict) → orElse b r v ≡ Verdict.passed → (b ≡ false) × (v ≡ Verdict.passed)
+let-pass false r v e = (refl, e)
+let-pass true r v e = let z : _≡_ {A = ℕ} 0 1 = ap passes e in absurd (omega arith)
+
+abbrev pub verdictOf : Answer → Verdict
+verdictOf Done = Verdict.passed
+verdictOf (RefusedCall r) = Verdict.refused r
+
+verdict-there : (v : Verdict) → verdictOf (settle v RefusedCall Done) ≡ v
+verdict-there Verdict.passed = refl
+verdict-there (Verdict.refused r) = refl
+
+abbrev pub openVerdict : Opened → Verdict
+openVerdict (Slot k) = Verdict.passed
+openVerdict (Refused r) = Verdict.refused r
+
+open-there : (v : Verdict) (k : ℕ) → openVerdict (settle v Refused (Slot k)) ≡ v
+open-there Verdict.passed k = refl
+open-there (Verdict.refused r) k = refl
+
+abbrev pub slotOf : Opened → ℕ
+slotOf (Slot k) = k
+slotOf (Refused r) = 0
+
+-- ---- open endpoint: what is asked
+
+pub fields-is : (a n p : ℕ) → both (both (leb a 127) (leb n 15)) (both (leb 1 p) (leb p 1024)) ≡ fieldsGood a n p
+unfolding fieldsGood
+fields-is a n p = every-3 (leb a 127) (leb n 15) (both (leb 1 p) (leb p 1024))
+
+pub fields-tell : (a n p : ℕ) → fieldsGood a n p ≡ true → (a ≤ 127) × (n ≤ 15) × (p ≤ 1024)
+unfolding fieldsGood
+fields-tell a n p e =
+    let x = both-tells (leb a 127) _ e in
+    let y = both-tells (leb n 15) _ (x .1) in
+    let z = both-tells (both (leb 1 p) (leb p 1024)) true (y .1) in
+    let w = both-tells (leb 1 p) (leb p 1024) (z .0) in
+    (leb-true a 127 (x .0), leb-true n 15 (y .0), leb-true p 1024 (w .1))
+
+module _ (s : Ehci) (lent : Lengths) (g : Bool) (eg : g ≡ acceptsOf s lent) where
+  pub phases-suffice : not g ≡ false → length (s .phases) ≡ 32 → s .settings .endpoints ≤ length (s .phases)
+  phases-suffice t e =
+      let most = accepts-tells s lent (sym eg ∙ not-false g t) .ranges .good .endpoints-most in omega arith
+
+  module _ (kind : EndpointType) (good : Bool) where
+    pub choose-lent : not g ≡ true → Refused InvalidParameter ≡ chosenOf s lent kind good
+    unfolding chosenOf openChecks
+    choose-lent t = rw (sym eg ∙ not-true g t)
+
+    module _ (i : Bool) (ei : i ≡ isIsochronous kind) where
+      pub choose-kind : not g ≡ false → i ≡ true → Refused NotSupported ≡ chosenOf s lent kind good
+      unfolding chosenOf openChecks
+      choose-kind t t₁ = rw (sym eg ∙ not-false g t, sym ei ∙ t₁)
+
+      pub choose-fields : not g ≡ false → i ≡ false → not good ≡ true → Refused InvalidParameter ≡ chosenOf s lent kind good
+      unfolding chosenOf openChecks
+      choose-fields t t₁ t₂ = rw (sym eg ∙ not-false g t, sym ei ∙ t₁, t₂)
+
+      module _ (k : ℕ) (ek : k ≡ lowestClosed (s .phases) (s .settings .endpoints)) where
+        pub choose-none : not g ≡ false → i ≡ false → not good ≡ false → s .settings .endpoints ≤ k
+            → Refused SlotLimitReached ≡ chosenOf s lent kind good
+        unfolding chosenOf openChecks
+        choose-none t t₁ t₂ h = rw (sym eg ∙ not-false g t, sym ei ∙ t₁, t₂, sym ek, le-leb (s .settings .endpoints) k h)
+
+        pub choose-slot : not g ≡ false → i ≡ false → not good ≡ false → k < s .settings .endpoints
+            → Slot k ≡ chosenOf s lent kind good
+        unfolding chosenOf openChecks
+        choose-slot t t₁ t₂ h = rw (sym eg ∙ not-false g t, sym ei ∙ t₁, t₂, sym ek, lt-leb (s .settings .endpoints) k h)
+
+-- ---- open endpoint: what is done
+
+module _ (s : Ehci) (pool : ℕ) (h : List ℕ) (f u : ℕ) (kind : EndpointType) (a n p : ℕ) (good : Bool) (eg : good ≡ fieldsGood a n p)
+    (o : Opened) (eo : o ≡ chosenOf s (lentRows pool h f u) kind good) where
+  chosen : openVerdict o ≡ first (openChecks s (lentRows pool h f u) kind good)
+  unfolding chosenOf
+  chosen = ap openVerdict eo ∙ open-there (first (openChecks s (lentRows pool h f u) kind good)) (lowestSlot s)
+
+  pub open-refused : (r : Refusal) → o ≡ Refused r
+      → openLeft (record { answer = Refused r; state = s }) h ≡ openEndpointOf s pool h f u kind a n p
+  unfolding openEndpointOf
+  open-refused r e = rw (← eg, sym chosen ∙ ap openVerdict e)
+
+  module _ (k : ℕ) (e : o ≡ Slot k) where
+    went : first (openChecks s (lentRows pool h f u) kind good) ≡ Verdict.passed
+    went = sym chosen ∙ ap openVerdict e
+
+    pub slot-is : k ≡ lowestSlot s
+    unfolding chosenOf
+    slot-is = ap slotOf (sym e ∙ eo) ∙ rw went
+
+    -- every check let it pass
+    pub open-passed : (acceptsOf s (lentRows pool h f u) ≡ true) × (isIsochronous kind ≡ false) × (good ≡ true) × (k < s .settings .endpoints)
+    unfolding openChecks
+    open-passed =
+        let l = let-pass (not (acceptsOf s (lentRows pool h f u))) InvalidParameter _ went in
+        let i = let-pass (isIsochronous kind) NotSupported _ (l .1) in
+        let g = let-pass (not good) InvalidParameter _ (i .1) in
+        let b = let-pass (leb (s .settings .endpoints) (lowestSlot s)) SlotLimitReached _ (g .1) in (
+          not-false (acceptsOf s (lentRows pool h f u)) (l .0),
+          i .0,
+          not-false good (g .0),
+          (rw slot-is (leb-false (s .settings .endpoints) (lowestSlot s) (b .0))),
+        )
+
+    pub open-room-for : (k < 32) × (k + 1 ≤ 32) × (17 * (k + 1) + 17 ≤ length h)
+    open-room-for = below-room s pool h f u k (open-passed .0) (open-passed .3)
+
+    pub open-fields : (a ≤ 127) × (n ≤ 15) × (p ≤ 1024)
+    open-fields = fields-tell a n p (sym eg ∙ open-passed .2)
+
+    pub open-done : (s′ : Ehci) (h′ : List ℕ) → s′ ≡ withEndpoint s k (newEndpoint kind)
+        → h′ ≡ withHead h k (wordsOf (endpointHead kind a n p))
+        → openLeft (record { answer = Slot k; state = s′ }) h′ ≡ openEndpointOf s pool h f u kind a n p
+    unfolding openEndpointOf
+    open-done s′ h′ es eh = rw (es, eh, ← eg, went, slot-is)
+
+-- ---- close, set address, set packet size: what is asked
+
+module _ (s : Ehci) (lent : Lengths) (k : ℕ) (good : Bool) (g : Bool) (eg : g ≡ acceptsOf s lent) where
+  pub judge-lent : not g ≡ true → RefusedCall InvalidParameter ≡ judgedOf s lent k good
+  unfolding judgedOf slotChecks
+  judge-lent t = rw (sym eg ∙ not-true g t)
+
+  module _ (o : Bool) (eo : o ≡ isOpen s k) where
+    pub judge-shut : not g ≡ false → not o ≡ true → RefusedCall InvalidEndpoint ≡ judgedOf s lent k good
+    unfolding judgedOf slotChecks
+    judge-shut t t₁ = rw (sym eg ∙ not-false g t, sym eo ∙ not-true o t₁)
+
+    module _ (u : Bool) (eu : u ≡ isUncollected s k) where
+      pub judge-busy : not g ≡ false → not o ≡ false → u ≡ true → RefusedCall QueueFull ≡ judgedOf s lent k good
+      unfolding judgedOf slotChecks
+      judge-busy t t₁ t₂ = rw (sym eg ∙ not-false g t, sym eo ∙ not-false o t₁, sym eu ∙ t₂)
+
+      pub judge-value : not g ≡ false → not o ≡ false → u ≡ false → not good ≡ true
+          → RefusedCall InvalidParameter ≡ judgedOf s lent k good
+      unfolding judgedOf slotChecks
+      judge-value t t₁ t₂ t₃ = rw (sym eg ∙ not-false g t, sym eo ∙ not-false o t₁, sym eu ∙ t₂, t₃)
+
+      pub judge-done : not g ≡ false → not o ≡ false → u ≡ false → not good ≡ false → Done ≡ judgedOf s lent k good
+      unfolding judgedOf slotChecks
+      judge-done t t₁ t₂ t₃ = rw (sym eg ∙ not-false g t, sym eo ∙ not-false o t₁, sym eu ∙ t₂, t₃)
+
+-- ---- close, set address, set packet size: what is done
+
+module _ (s : Ehci) (pool : ℕ) (h : List ℕ) (f u k : ℕ) (good : Bool) (a : Answer)
+    (ea : a ≡ judgedOf s (lentRows pool h f u) k good) where
+  judged : verdictOf a ≡ first (slotChecks s (lentRows pool h f u) k good)
+  unfolding judgedOf
+  judged = ap verdictOf ea ∙ verdict-there (first (slotChecks s (lentRows pool h f u) k good))
+
+  pub change-refused : (r : Refusal) (s′ : Ehci) (h′ : List ℕ) → a ≡ RefusedCall r
+      → changeLeft (record { answer = RefusedCall r; state = s }) h ≡ changeOf s pool h f u k good s′ h′
+  change-refused r s′ h′ e = rw (sym judged ∙ ap verdictOf e)
+
+  pub change-done : (s′ : Ehci) (h′ : List ℕ) → a ≡ Done
+      → changeLeft (record { answer = Done; state = s′ }) h′ ≡ changeOf s pool h f u k good s′ h′
+  change-done s′ h′ e = rw (sym judged ∙ ap verdictOf e)
+
+  -- every check let it pass
+  pub change-passed : a ≡ Done
+      → (acceptsOf s (lentRows pool h f u) ≡ true) × (isOpen s k ≡ true) × (isUncollected s k ≡ false) × (good ≡ true)
+  unfolding slotChecks
+  change-passed e =
+      let l = let-pass (not (acceptsOf s (lentRows pool h f u))) InvalidParameter _ (sym judged ∙ ap verdictOf e) in
+      let o = let-pass (not (isOpen s k)) InvalidEndpoint _ (l .1) in
+      let c = let-pass (isUncollected s k) QueueFull _ (o .1) in
+      let g = let-pass (not good) InvalidParameter _ (c .1) in (
+        not-false (acceptsOf s (lentRows pool h f u)) (l .0),
+        not-false (isOpen s k) (o .0),
+        c .0,
+        not-false good (g .0),
+      )
+
+  pub change-room : a ≡ Done → (k < 32) × (k + 1 ≤ 32) × (17 * (k + 1) + 17 ≤ length h)
+  change-room e = open-room s pool h f u k (change-passed e .0) (change-passed e .1)
+
+module _ (s : Ehci) (pool : ℕ) (h : List ℕ) (f u k : ℕ) (a : Answer) where
+  pub close-refused : (r : Refusal) → a ≡ judgedOf s (lentRows pool h f u) k true → a ≡ RefusedCall r
+      → changeLeft (record { answer = RefusedCall r; state = s }) h ≡ closeOf s pool h f u k
+  unfolding closeOf
+  close-refused r ea e = change-refused s pool h f u k true a ea r _ _ e
+
+  pub close-done : a ≡ judgedOf s (lentRows pool h f u) k true → a ≡ Done → (s′ : Ehci) (h′ : List ℕ)
+      → s′ ≡ withEndpoint s k Closed → h′ ≡ withHead h k (replicate 17 0)
+      → changeLeft (record { answer = Done; state = s′ }) h′ ≡ closeOf s pool h f u k
+  unfolding closeOf
+  close-done ea e s′ h′ es eh =
+      rw (es, eh) (change-done s pool h f u k true a ea (withEndpoint s k Closed) (withHead h k (replicate 17 0)) e)
+
+  module _ (x : ℕ) where
+    pub address-refused : (r : Refusal) → a ≡ judgedOf s (lentRows pool h f u) k (leb x 127) → a ≡ RefusedCall r
+        → changeLeft (record { answer = RefusedCall r; state = s }) h ≡ setAddressOf s pool h f u k x
+    unfolding setAddressOf
+    address-refused r ea e = change-refused s pool h f u k (leb x 127) a ea r _ _ e
+
+    pub address-done : a ≡ judgedOf s (lentRows pool h f u) k (leb x 127) → a ≡ Done → (w : ℕ)
+        → w ≡ withAddress (headWord h (k + 1) 1) x
+        → changeLeft (record { answer = Done; state = s }) (withHeadWord h (k + 1) 1 w) ≡ setAddressOf s pool h f u k x
+    unfolding setAddressOf
+    address-done ea e w ew =
+        rw ew (change-done s pool h f u k (leb x 127) a ea s (withHeadWord h (k + 1) 1 (withAddress (headWord h (k + 1) 1) x)) e)
+
+    pub size-refused : (r : Refusal) → a ≡ judgedOf s (lentRows pool h f u) k true → a ≡ RefusedCall r
+        → changeLeft (record { answer = RefusedCall r; state = s }) h ≡ setPacketSizeOf s pool h f u k x
+    unfolding setPacketSizeOf
+    size-refused r ea e = change-refused s pool h f u k true a ea r _ _ e
+
+    pub size-done : a ≡ judgedOf s (lentRows pool h f u) k true → a ≡ Done → (w : ℕ)
+        → w ≡ withPacketSize (headWord h (k + 1) 1) x
+        → changeLeft (record { answer = Done; state = s }) (withHeadWord h (k + 1) 1 w) ≡ setPacketSizeOf s pool h f u k x
+    unfolding setPacketSizeOf
+    size-done ea e w ew =
+        rw ew (change-done s pool h f u k true a ea s (withHeadWord h (k + 1) 1 (withPacketSize (headWord h (k + 1) 1) x)) e)

@@ -1,0 +1,238 @@
+-- Close, set address and set packet size: what an answer tells of the state before and of what is left.
+use Prim.Native.Nat.{ℕ, _+_, _*_, _%_, _≤_, _<_, max}
+use mathlib.Core.Path.{_≡_, refl, sym, ap, subst, _∙_}
+use mathlib.Core.Logic.{_≢_}
+use mathlib.Core.Bool.{Bool, true, false}
+use mathlib.Core.List.{List}
+use native.Mathlib.Omega.{arith}
+use borrow.Author.Tests.{leb-true}
+use lib.Dec.{leb}
+use lib.ListN.{getD-replicate, length, replicate}
+use lib.Seq.{getD-set-same}
+use Rattle.descriptor.specs.EhciQueueHead.{controlEndpoint, deviceAddress, endpointNumber, endpointSpeed, headOfList, inactivateOnNext, maximumPacketLength, nakReload, toggleControl}
+use Rattle.descriptor.specs.Heads.{withAddress, withPacketSize}
+use Rattle.descriptor.proofs.HeadFields.{address-reads, Characteristics, packet-reads}
+use Rattle.state.specs.declared.state.Ehci.{Ehci}
+use Rattle.state.specs.Ranges.{inRanges}
+use Rattle.state.proofs.RangesLaws.{ranges-make, ranges-tell}
+use Rattle.controller.specs.declared.answer.Answer.{Answer}
+use Rattle.controller.specs.declared.answer.Answer.the-variants.{Done, Refused}
+use Rattle.controller.specs.declared.answer.Refusal.{Refusal}
+use Rattle.controller.specs.declared.endpoint.Endpoint.the-variants.{Closed}
+use Rattle.controller.specs.Endpoints.{encoded, endpointAt, withEndpoint}
+use Rattle.controller.specs.Lent.{acceptsOf}
+use Rattle.controller.specs.Readers.{isOpen, isUncollected}
+use Rattle.controller.specs.Rows.{headWord, withHeadWord}
+use Rattle.controller.proofs.EndpointLaws.{endpoint-keeps, endpoint-other, endpoint-same, slot-wide, Wide}
+use Rattle.controller.proofs.LentLaws.{accepts-tells}
+use Rattle.endpoint.specs.Calls.{changeLeft, ChangeLeft, changeOf, closeOf, judgedOf, lentRows, setAddressOf, setPacketSizeOf, withHead}
+use Rattle.endpoint.proofs.Cases.{change-done, change-passed, change-refused, passes, verdictOf}
+use Rattle.endpoint.proofs.RowLaws.{Only, only-all, put-inside, put-only, set-only}
+use Rattle.endpoint.proofs.SlotLaws.{open-below, open-room}
+
+module _ (s : Ehci) (pool : ℕ) (h : List ℕ) (f u k : ℕ) where
+  -- the state and the slot, where the call is accepted: open, idle and below E
+  pub record Changes : Type 0 where
+    pub accepted : acceptsOf s (lentRows pool h f u) ≡ true
+    pub is-open : isOpen s k ≡ true
+    pub is-idle : isUncollected s k ≡ false
+    pub below : k < s .settings .endpoints
+
+  module _ (good : Bool) (s′ : Ehci) (h′ : List ℕ) where
+    -- a call refuses and leaves all as it was, or does what it is for
+    pub change-by : (P : ChangeLeft → Type 0) → ((r : Refusal) → P (changeLeft (record { answer = Refused r; state = s }) h))
+        → (Changes → good ≡ true → P (changeLeft (record { answer = Done; state = s′ }) h′))
+        → P (changeOf s pool h f u k good s′ h′)
+    change-by P denied done = by (judgedOf s (lentRows pool h f u) k good) refl
+      where
+        by : (a : Answer) → a ≡ judgedOf s (lentRows pool h f u) k good → P (changeOf s pool h f u k good s′ h′)
+        by Done e =
+            let t = change-passed s pool h f u k good Done e refl in
+            let r = accepts-tells s (lentRows pool h f u) (t .0) .ranges in
+            subst P (change-done s pool h f u k good Done e s′ h′ refl)
+            (done (record { accepted = t .0; is-open = t .1; is-idle = t .2; below = open-below s k r (t .1) }) (t .3))
+        by (Refused r) e = subst P (change-refused s pool h f u k good (Refused r) e r s′ h′ refl) (denied r)
+
+    pub change-denied : (r : Refusal) → changeOf s pool h f u k good s′ h′ .change .answer ≡ Refused r
+        → (changeOf s pool h f u k good s′ h′ .change .state ≡ s) × (changeOf s pool h f u k good s′ h′ .heads ≡ h)
+    change-denied =
+        change-by (λ c. (r : Refusal) → c .change .answer ≡ Refused r → (c .change .state ≡ s) × (c .heads ≡ h))
+        (λ _ _ _. (refl, refl))
+        (λ _ _ r e. let z : _≡_ {A = ℕ} 1 0 = ap (λ (a : Answer). passes (verdictOf a)) e in absurd (omega arith))
+
+    -- what holds of what it is for holds where it answers 0
+    pub change-tells : (P : ChangeLeft → Type 0) → (Changes → good ≡ true → P (changeLeft (record { answer = Done; state = s′ }) h′))
+        → changeOf s pool h f u k good s′ h′ .change .answer ≡ Done → P (changeOf s pool h f u k good s′ h′)
+    change-tells P done =
+        change-by (λ c. c .change .answer ≡ Done → P c)
+        (λ r e. let z : _≡_ {A = ℕ} 0 1 = ap (λ (a : Answer). passes (verdictOf a)) e in absurd (omega arith))
+        (λ from g e. done from g)
+
+  word-room : Changes → 17 * (k + 1) + 1 < length h
+  word-room from = omega (arith, open-room s pool h f u k (from .accepted) (from .is-open) .2)
+
+  -- ---- close
+
+  pub record SlotClosed (c : ChangeLeft) : Type 0 where
+    pub from : Changes
+    pub state-is : c .change .state ≡ withEndpoint s k Closed
+    pub words : (i : ℕ) → i < 17 → headWord (c .heads) (k + 1) i ≡ 0
+    pub only : Only (17 * (k + 1)) 17 h (c .heads)
+
+  slot-closed : Changes
+      → SlotClosed (changeLeft (record { answer = Done; state = withEndpoint s k Closed }) (withHead h k (replicate 17 0)))
+  slot-closed from =
+      let room = open-room s pool h f u k (from .accepted) (from .is-open) .2 in
+      record {
+        from = from;
+        state-is = refl;
+        words = λ i lt. put-inside h (17 * (k + 1)) (replicate 17 0) room i lt ∙ getD-replicate {A = ℕ} 17 i 0 0 lt;
+        only = put-only h (17 * (k + 1)) (replicate 17 0) room;
+      }
+
+  pub close-tells : closeOf s pool h f u k .change .answer ≡ Done → SlotClosed (closeOf s pool h f u k)
+  unfolding closeOf
+  close-tells e = change-tells true (withEndpoint s k Closed) (withHead h k (replicate 17 0)) SlotClosed (λ from _. slot-closed from) e
+
+  pub close-denied : (r : Refusal) → closeOf s pool h f u k .change .answer ≡ Refused r
+      → (closeOf s pool h f u k .change .state ≡ s) × (closeOf s pool h f u k .heads ≡ h)
+  unfolding closeOf
+  close-denied r e = change-denied true (withEndpoint s k Closed) (withHead h k (replicate 17 0)) r e
+
+  -- no word but those of its head, whatever is answered
+  pub close-only : Only (17 * (k + 1)) 17 h (closeOf s pool h f u k .heads)
+  unfolding closeOf
+  close-only =
+      change-by true (withEndpoint s k Closed) (withHead h k (replicate 17 0)) (λ c. Only (17 * (k + 1)) 17 h (c .heads))
+      (λ r. only-all (17 * (k + 1)) 17 h) (λ from _. slot-closed from .only)
+
+  pub close-keeps : Wide s → inRanges s ≡ true → inRanges (closeOf s pool h f u k .change .state) ≡ true
+  unfolding closeOf
+  close-keeps w e =
+      change-by true (withEndpoint s k Closed) (withHead h k (replicate 17 0)) (λ c. inRanges (c .change .state) ≡ true) (λ r. e)
+      (λ from _.
+      let room = open-room s pool h f u k (from .accepted) (from .is-open) .0 in
+      ranges-make (withEndpoint s k Closed) (endpoint-keeps s k (ranges-tell s e) w room Closed tt (λ le. refl)))
+
+  pub closed-endpoint : Wide s → closeOf s pool h f u k .change .answer ≡ Done
+      → endpointAt (closeOf s pool h f u k .change .state) k ≡ Closed
+  closed-endpoint w e =
+      let t = close-tells e in
+      let room = open-room s pool h f u k (t .from .accepted) (t .from .is-open) .0 in
+      rw (t .state-is) (endpoint-same s k Closed w room tt)
+
+  -- of the others nothing changes, whatever is answered
+  pub close-others : (j : ℕ) → j ≢ k → endpointAt (closeOf s pool h f u k .change .state) j ≡ endpointAt s j
+  unfolding closeOf
+  close-others j ne =
+      change-by true (withEndpoint s k Closed) (withHead h k (replicate 17 0)) (λ c. endpointAt (c .change .state) j ≡ endpointAt s j)
+      (λ r. refl) (λ from _. endpoint-other s k Closed j ne)
+
+  -- ---- set address, set packet size: word 1 alone
+
+  pub record WordSet (w : ℕ) (c : ChangeLeft) : Type 0 where
+    pub from : Changes
+    pub word : headWord (c .heads) (k + 1) 1 ≡ w
+    pub only : Only (17 * (k + 1) + 1) 1 h (c .heads)
+
+  word-set : (w : ℕ) → Changes → WordSet w (changeLeft (record { answer = Done; state = s }) (withHeadWord h (k + 1) 1 w))
+  word-set w from =
+      record {
+        from = from;
+        word = getD-set-same h (17 * (k + 1) + 1) w 0 (word-room from);
+        only = set-only h (17 * (k + 1) + 1) w;
+      }
+
+  module _ (good : Bool) (w : ℕ) where
+    word-state : changeOf s pool h f u k good s (withHeadWord h (k + 1) 1 w) .change .state ≡ s
+    word-state = change-by good s (withHeadWord h (k + 1) 1 w) (λ c. c .change .state ≡ s) (λ r. refl) (λ _ _. refl)
+
+    word-only : Only (17 * (k + 1) + 1) 1 h (changeOf s pool h f u k good s (withHeadWord h (k + 1) 1 w) .heads)
+    word-only =
+        change-by good s (withHeadWord h (k + 1) 1 w) (λ c. Only (17 * (k + 1) + 1) 1 h (c .heads))
+        (λ r. only-all (17 * (k + 1) + 1) 1 h) (λ from _. word-set w from .only)
+
+  module _ (a : ℕ) where
+    pub address-tells : setAddressOf s pool h f u k a .change .answer ≡ Done
+        → (a ≤ 127) × WordSet (withAddress (headWord h (k + 1) 1) a) (setAddressOf s pool h f u k a)
+    unfolding setAddressOf
+    address-tells e =
+        let w : ℕ = withAddress (headWord h (k + 1) 1) a in
+        change-tells (leb a 127) s (withHeadWord h (k + 1) 1 w) (λ c. (a ≤ 127) × WordSet w c)
+        (λ from g. (leb-true a 127 g, word-set w from)) e
+
+    pub address-denied : (r : Refusal) → setAddressOf s pool h f u k a .change .answer ≡ Refused r
+        → setAddressOf s pool h f u k a .heads ≡ h
+    unfolding setAddressOf
+    address-denied r e = change-denied (leb a 127) s (withHeadWord h (k + 1) 1 (withAddress (headWord h (k + 1) 1) a)) r e .1
+
+    pub address-state : setAddressOf s pool h f u k a .change .state ≡ s
+    unfolding setAddressOf
+    address-state = word-state (leb a 127) (withAddress (headWord h (k + 1) 1) a)
+
+    -- no word but that one, whatever is answered
+    pub address-only : Only (17 * (k + 1) + 1) 1 h (setAddressOf s pool h f u k a .heads)
+    unfolding setAddressOf
+    address-only = word-only (leb a 127) (withAddress (headWord h (k + 1) 1) a)
+
+  module _ (x : ℕ) where
+    pub size-tells : setPacketSizeOf s pool h f u k x .change .answer ≡ Done
+        → WordSet (withPacketSize (headWord h (k + 1) 1) x) (setPacketSizeOf s pool h f u k x)
+    unfolding setPacketSizeOf
+    size-tells e =
+        let w : ℕ = withPacketSize (headWord h (k + 1) 1) x in
+        change-tells true s (withHeadWord h (k + 1) 1 w) (WordSet w) (λ from _. word-set w from) e
+
+    pub size-denied : (r : Refusal) → setPacketSizeOf s pool h f u k x .change .answer ≡ Refused r
+        → setPacketSizeOf s pool h f u k x .heads ≡ h
+    unfolding setPacketSizeOf
+    size-denied r e = change-denied true s (withHeadWord h (k + 1) 1 (withPacketSize (headWord h (k + 1) 1) x)) r e .1
+
+    pub size-state : setPacketSizeOf s pool h f u k x .change .state ≡ s
+    unfolding setPacketSizeOf
+    size-state = word-state true (withPacketSize (headWord h (k + 1) 1) x)
+
+    -- no word but that one, whatever is answered
+    pub size-only : Only (17 * (k + 1) + 1) 1 h (setPacketSizeOf s pool h f u k x .heads)
+    unfolding setPacketSizeOf
+    size-only = word-only true (withPacketSize (headWord h (k + 1) 1) x)
+
+-- ---- what EHCI 3.6.2 reads in the word
+
+module _ (s : Ehci) (pool : ℕ) (h : List ℕ) (f u k : ℕ) where
+  abbrev was : ℕ
+  was = headWord h (k + 1) 1
+
+  -- the address that was asked, and every other field as before
+  pub address-fields : (a : ℕ) → setAddressOf s pool h f u k a .change .answer ≡ Done
+      → Characteristics (headWord (setAddressOf s pool h f u k a .heads) (k + 1) 1) a (inactivateOnNext was)
+      (endpointNumber was) (endpointSpeed was) (toggleControl was) (headOfList was) (maximumPacketLength was)
+      (controlEndpoint was) (nakReload was)
+  address-fields a e =
+      let t = address-tells s pool h f u k a e in
+      let small : a % 128 ≡ a = omega (arith, t .0) in
+      subst
+      (λ (v : ℕ). Characteristics v a (inactivateOnNext was) (endpointNumber was) (endpointSpeed was) (toggleControl was)
+      (headOfList was) (maximumPacketLength was) (controlEndpoint was) (nakReload was)) (sym (t .1 .word))
+      (subst
+      (λ (b : ℕ). Characteristics (withAddress was a) b (inactivateOnNext was) (endpointNumber was) (endpointSpeed was)
+      (toggleControl was) (headOfList was) (maximumPacketLength was) (controlEndpoint was) (nakReload was)) small
+      (address-reads was a))
+
+  -- the size raised to 8, and every other field as before
+  pub size-fields : (x : ℕ) → x < 256 → setPacketSizeOf s pool h f u k x .change .answer ≡ Done
+      → Characteristics (headWord (setPacketSizeOf s pool h f u k x .heads) (k + 1) 1) (deviceAddress was) (inactivateOnNext was)
+      (endpointNumber was) (endpointSpeed was) (toggleControl was) (headOfList was) (max x 8) (controlEndpoint was)
+      (nakReload was)
+  size-fields x lt e =
+      subst
+      (λ (v : ℕ). Characteristics v (deviceAddress was) (inactivateOnNext was) (endpointNumber was) (endpointSpeed was)
+      (toggleControl was) (headOfList was) (max x 8) (controlEndpoint was) (nakReload was))
+      (sym (size-tells s pool h f u k x e .word)) (packet-reads was x lt)
+
+-- the arrays of the state keep their lengths
+pub close-wide : (s : Ehci) (pool : ℕ) (h : List ℕ) (f u k : ℕ) → Wide s → Wide (closeOf s pool h f u k .change .state)
+unfolding closeOf withEndpoint
+close-wide s pool h f u k w =
+    change-by s pool h f u k true (withEndpoint s k Closed) (withHead h k (replicate 17 0)) (λ c. Wide (c .change .state)) (λ r. w)
+    (λ from _. slot-wide s k (encoded Closed) w)

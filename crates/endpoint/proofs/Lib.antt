@@ -1,0 +1,8 @@
+pub mod LowestCases
+pub mod LowestLaws
+pub mod RowLaws
+pub mod SlotLaws
+pub mod Cases
+pub mod OpenLaws
+pub mod ChangeLaws
+pub mod Examples

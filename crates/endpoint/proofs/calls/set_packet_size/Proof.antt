@@ -1,0 +1,74 @@
+use Rattle.endpoint.proofs.Cases.{change-room, size-done, size-refused}
+use native.Mathlib.Omega.{arith}
+use borrow.Author.Needs.{needs}
+use Rattle.endpoint.proofs.calls.set_packet_size.Statement.{statement}
+use Rattle.endpoint.proofs.calls.set_packet_size.Tie as tie
+
+judge-requires : tie.Need-judge-requires
+judge-requires c κs = search needs
+
+enum-told : tie.Need-enum-told
+enum-told c = search needs
+
+add-at : tie.Need-add-at
+add-at c = search needs
+
+mul-at : tie.Need-mul-at
+mul-at c = search needs
+
+add-at-2 : tie.Need-add-at-2
+add-at-2 c = search needs
+
+mul-set-max-packet-size : tie.Need-mul-set-max-packet-size
+mul-set-max-packet-size c = search needs
+
+slice-read-set-max-packet-size : tie.Need-slice-read-set-max-packet-size
+slice-read-set-max-packet-size c =
+    let a = c .before .before .before .before .before .args in
+    omega (arith, change-room (a .state) (a .pool) (a .heads .now) (a .frames) (a .setups) (a .slot) _ _ (c .before .before .before .judge .ensures) (c .before .enum-told .given .1) .2)
+
+set-max-packet-size-requires : tie.Need-set-max-packet-size-requires
+set-max-packet-size-requires c κs = search needs
+
+mul-heads : tie.Need-mul-heads
+mul-heads c = search needs
+
+slice-write-heads : tie.Need-slice-write-heads
+slice-write-heads c =
+    let a = c .before .before .before .before .before .before .args in
+    omega (arith, change-room (a .state) (a .pool) (a .heads .now) (a .frames) (a .setups) (a .slot) _ _ (c .before .before .before .before .judge .ensures) (c .before .before .enum-told .given .1) .2)
+
+enum-known-refusal : tie.Need-enum-known-refusal
+enum-known-refusal c = search needs
+
+same-length : tie.Need-same-length
+same-length c = search needs
+
+returns : tie.Need-returns
+returns c =
+    let a = c .before .before .before .before .before .before .args in
+    size-done (a .state) (a .pool) (a .heads .now) (a .frames) (a .setups) (a .slot) _ (a .size) (c .before .before .before .before .judge .ensures) (c .before .before .enum-told .given .1) _ (c .set-max-packet-size .ensures)
+
+returns-2 : tie.Need-returns-2
+returns-2 c =
+    let a = c .before .before .before .before .before .args in
+    size-refused (a .state) (a .pool) (a .heads .now) (a .frames) (a .setups) (a .slot) _ (a .size) _ (c .before .before .before .judge .ensures) (c .before .refusal .given .1)
+
+pub set-packet-size-spec : {M : Type 1} → statement M
+set-packet-size-spec =
+    tie.close
+    (tie.spec
+    judge-requires
+    enum-told
+    add-at
+    mul-at
+    add-at-2
+    mul-set-max-packet-size
+    slice-read-set-max-packet-size
+    set-max-packet-size-requires
+    mul-heads
+    slice-write-heads
+    enum-known-refusal
+    same-length
+    returns
+    returns-2)

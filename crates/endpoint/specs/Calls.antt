@@ -1,0 +1,130 @@
+-- Document 01: open endpoint, close, set address, set packet size.
+use Prim.Native.Nat.{ℕ, _+_, _*_}
+use mathlib.Core.Bool.{Bool, true, false, not}
+use mathlib.Core.List.{List, [], _∷_}
+use lib.Dec.{leb}
+use lib.ListN.{length, replicate}
+use Rattle.token.specs.declared.request.EndpointType.{EndpointType}
+use Rattle.token.specs.declared.request.EndpointType.the-variants.{Control, Isochronous, Bulk, Interrupt}
+use Rattle.descriptor.specs.Heads.{endpointHead, wordsOf, withAddress, withPacketSize}
+use Rattle.settings.specs.Tests.{every, within}
+use Rattle.state.specs.declared.state.Ehci.{Ehci}
+use Rattle.controller.specs.declared.answer.Answer.{Answer}
+use Rattle.controller.specs.declared.answer.Answer.the-variants.{Done, Refused as RefusedCall}
+use Rattle.controller.specs.declared.answer.Refusal.the-variants.{InvalidParameter, SlotLimitReached, InvalidEndpoint, QueueFull, NotSupported}
+use Rattle.controller.specs.declared.endpoint.Endpoint.{Endpoint}
+use Rattle.controller.specs.declared.endpoint.Endpoint.the-variants.{Closed, Idle}
+use Rattle.controller.specs.declared.lent.Lengths.{Lengths}
+use Rattle.controller.specs.Answers.{Check, first, refusalNumber, settle}
+use Rattle.controller.specs.Endpoints.{withEndpoint}
+use Rattle.controller.specs.Lent.{acceptsOf}
+use Rattle.controller.specs.Readers.{isOpen, isUncollected}
+use Rattle.controller.specs.Rows.{headWord, putAt, withHeadWord}
+use Rattle.endpoint.specs.declared.calls.Change.{Change}
+use Rattle.endpoint.specs.declared.calls.EndpointOpening.{EndpointOpening}
+use Rattle.endpoint.specs.declared.calls.Opened.{Opened}
+use Rattle.endpoint.specs.declared.calls.Opened.the-variants.{Slot, Refused}
+use Rattle.endpoint.specs.Lowest.{lowestClosed}
+
+-- the lengths of the rows: the heads are lent, the others are numbers
+abbrev pub lentRows : ℕ → List ℕ → ℕ → ℕ → Lengths
+lentRows pool heads frames setups = record { pool = pool; heads = length heads; frames = frames; setups = setups }
+
+-- slot k's head is at place k + 1
+abbrev pub withHead : List ℕ → ℕ → List ℕ → List ℕ
+withHead heads k words = putAt heads (17 * (k + 1)) words
+
+-- ---- open endpoint
+
+abbrev pub openedNumber : Opened → ℕ
+openedNumber (Slot k) = 0
+openedNumber (Refused r) = refusalNumber r
+
+-- what it leaves: its result and the heads
+pub record OpenLeft : Type 0 where
+  pub opening : EndpointOpening
+  pub heads : List ℕ
+
+abbrev pub openLeft : EndpointOpening → List ℕ → OpenLeft
+openLeft opening heads = record { opening = opening; heads = heads }
+
+abbrev pub isIsochronous : EndpointType → Bool
+isIsochronous Control = false
+isIsochronous Isochronous = true
+isIsochronous Bulk = false
+isIsochronous Interrupt = false
+
+-- "address 0..=127, number 0..=15, packet size 1..=1024"
+unfoldable pub fieldsGood : ℕ → ℕ → ℕ → Bool
+fieldsGood address number packet = every (leb address 127 ∷ leb number 15 ∷ within packet 1 1024 ∷ [])
+
+abbrev pub lowestSlot : Ehci → ℕ
+lowestSlot s = lowestClosed (s .phases) (s .settings .endpoints)
+
+-- "5, then address .. (1), then 2"
+unfoldable pub openChecks : Ehci → Lengths → EndpointType → Bool → List Check
+openChecks s lent kind good =
+    (not (acceptsOf s lent), InvalidParameter)
+    ∷ (isIsochronous kind, NotSupported)
+    ∷ (not good, InvalidParameter)
+    ∷ (leb (s .settings .endpoints) (lowestSlot s), SlotLimitReached)
+    ∷ []
+
+unfoldable pub chosenOf : Ehci → Lengths → EndpointType → Bool → Opened
+chosenOf s lent kind good = settle (first (openChecks s lent kind good)) Refused (Slot (lowestSlot s))
+
+-- "Ids per slot start at 1 when it opens"
+abbrev pub newEndpoint : EndpointType → Endpoint
+newEndpoint kind = Idle (record { kind = kind; next = 1 })
+
+unfoldable pub openEndpointOf : Ehci → ℕ → List ℕ → ℕ → ℕ → EndpointType → ℕ → ℕ → ℕ → OpenLeft
+openEndpointOf s pool heads frames setups kind address number packet =
+    settle (first (openChecks s (lentRows pool heads frames setups) kind (fieldsGood address number packet)))
+    (λ r. openLeft (record { answer = Refused r; state = s }) heads)
+    (openLeft (record { answer = Slot (lowestSlot s); state = withEndpoint s (lowestSlot s) (newEndpoint kind) })
+    (withHead heads (lowestSlot s) (wordsOf (endpointHead kind address number packet))))
+
+-- ---- close, set address, set packet size
+
+pub record ChangeLeft : Type 0 where
+  pub change : Change
+  pub heads : List ℕ
+
+abbrev pub changeLeft : Change → List ℕ → ChangeLeft
+changeLeft change heads = record { change = change; heads = heads }
+
+-- "3, 4, 1": the last where a value is out of its range
+unfoldable pub slotChecks : Ehci → Lengths → ℕ → Bool → List Check
+slotChecks s lent k good =
+    (not (acceptsOf s lent), InvalidParameter)
+    ∷ (not (isOpen s k), InvalidEndpoint)
+    ∷ (isUncollected s k, QueueFull)
+    ∷ (not good, InvalidParameter)
+    ∷ []
+
+unfoldable pub judgedOf : Ehci → Lengths → ℕ → Bool → Answer
+judgedOf s lent k good = settle (first (slotChecks s lent k good)) RefusedCall Done
+
+-- a call on slot k that leaves a state and heads where it is not refused
+abbrev pub changeOf : Ehci → ℕ → List ℕ → ℕ → ℕ → ℕ → Bool → Ehci → List ℕ → ChangeLeft
+changeOf s pool heads frames setups k good s′ heads′ =
+    settle (first (slotChecks s (lentRows pool heads frames setups) k good))
+    (λ r. changeLeft (record { answer = RefusedCall r; state = s }) heads)
+    (changeLeft (record { answer = Done; state = s′ }) heads′)
+
+-- "Close zeroes the head"
+unfoldable pub closeOf : Ehci → ℕ → List ℕ → ℕ → ℕ → ℕ → ChangeLeft
+closeOf s pool heads frames setups k =
+    changeOf s pool heads frames setups k true (withEndpoint s k Closed) (withHead heads k (replicate 17 0))
+
+-- the characteristics are a head's word 1; "set address (0..=127)"
+unfoldable pub setAddressOf : Ehci → ℕ → List ℕ → ℕ → ℕ → ℕ → ℕ → ChangeLeft
+setAddressOf s pool heads frames setups k address =
+    changeOf s pool heads frames setups k (leb address 127) s
+    (withHeadWord heads (k + 1) 1 (withAddress (headWord heads (k + 1) 1) address))
+
+-- "Set packet size takes a byte": every byte is in its range
+unfoldable pub setPacketSizeOf : Ehci → ℕ → List ℕ → ℕ → ℕ → ℕ → ℕ → ChangeLeft
+setPacketSizeOf s pool heads frames setups k size =
+    changeOf s pool heads frames setups k true s
+    (withHeadWord heads (k + 1) 1 (withPacketSize (headWord heads (k + 1) 1) size))

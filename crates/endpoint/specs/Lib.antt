@@ -1,0 +1,3 @@
+pub mod Lowest
+pub mod Calls
+pub mod Examples

@@ -1,0 +1,3 @@
+// The calls on endpoints: opening, closing, and the changes of a head.
+pub mod calls;
+pub mod lowest;
