@@ -1,0 +1,5 @@
+pub mod AnswerCases
+pub mod AskCases
+pub mod UnlinkCases
+pub mod SlotFacts
+pub mod CallCases

@@ -1,0 +1,4 @@
+pub mod Answers
+pub mod Unlinks
+pub mod Asks
+pub mod Calls
