@@ -3,3 +3,6 @@ pub mod AskCases
 pub mod UnlinkCases
 pub mod SlotFacts
 pub mod CallCases
+pub mod Splits
+pub mod FreedLaws
+pub mod RangeLaws
