@@ -235,3 +235,48 @@ module _ (s : Ehci) (k : ℕ) (g : Ranges s) (w : Wide s) (low : k < 32) (below 
 
       none : (i : ℕ) → s .settings .descriptors ≤ i → getD o i 0 ≡ 0
       none i h = freed-past (s .owner) (s .settings .descriptors) (k + 1) i h ∙ g .unowned i h
+
+-- ---- the calls
+
+module _ (s : Ehci) (pool : ℕ) (h f : List ℕ) (setups : ℕ) (rd : Readings) (k id : ℕ) (inside : inRanges s ≡ true) (w : Wide s) where
+  g : Ranges s
+  g = ranges-tell s inside
+
+  low-of : (x : Endpoint) → endpointAt s k ≡ x → hasEndpoint x ≡ true → (k < 32) × (k < s .settings .endpoints)
+  unfolding g
+  low-of x e o = open-below s k g (ap hasEndpoint e ∙ o)
+
+  good-of : (x : Endpoint) → endpointAt s k ≡ x → hasEndpoint x ≡ true → EndpointGood (s .unanswered) x
+  unfolding g
+  good-of x e o = subst (λ (y : Endpoint). EndpointGood (s .unanswered) y) e (endpoint-good s k g (low-of x e o .0))
+
+  unlink-keeps : (p : Pipe) (r q : Request) → endpointAt s k ≡ Linked p r → q .id ≡ r .id → s .unanswered < 32
+      → inRanges (unlinkOf s h f rd k p q .came .state) ≡ true
+  unfolding g
+  unlink-keeps p r q e i u =
+      let low = low-of (Linked p r) e refl in
+      let good : LinkedGood p r = good-of (Linked p r) e refl in
+      unlink-split s h f rd k p q (λ (l : Left). inRanges (l .came .state) ≡ true) inside
+      (λ found. ranges-make (waitingOf s rd k p q .state)
+      (waiting-keeps s k g w (low .0) (low .1) rd p q (good .pipe) (omega (arith, i, good .request-least)) u))
+
+  pub cancel-keeps : inRanges (cancelOf s pool h f setups rd k id .came .state) ≡ true
+  unfolding g
+  cancel-keeps =
+      cancel-split s pool h f setups rd k id (λ (l : Left). inRanges (l .came .state) ≡ true) (λ x. inside)
+      (λ p r ok e u i. unlink-keeps p r (marked r) e refl u)
+      (λ p r u ok e i. ranges-make (markedOf s k p r u .state)
+      (mark-keeps s k g w (low-of (Unlinking p r u) e refl .0) (low-of (Unlinking p r u) e refl .1) p r u (good-of (Unlinking p r u) e refl)))
+
+  pub collect-keeps : (v : View) → inRanges (collectOf s pool h f setups rd v k id .came .state) ≡ true
+  unfolding g
+  collect-keeps v =
+      collect-split s pool h f setups rd k id v (λ (l : Gathered). inRanges (l .came .state) ≡ true) (λ x. inside) inside
+      (λ p r ok e u i n. unlink-keeps p r r e refl u)
+      (λ p r u ok e i t. ranges-make (finishOf s v k p r .state) (ends p r u e))
+    where
+      ends : (p : Pipe) (r : Request) (u : UnlinkBoundary) → endpointAt s k ≡ Unlinking p r u → Ranges (finishOf s v k p r .state)
+      ends p r u e =
+          let low = low-of (Unlinking p r u) e refl in
+          let good : UnlinkingGood (s .unanswered) p r u = good-of (Unlinking p r u) e refl in
+          finish-keeps s k g w (low .0) (low .1) v p r (good .pipe)
