@@ -6,3 +6,5 @@ pub mod CallCases
 pub mod Splits
 pub mod FreedLaws
 pub mod RangeLaws
+pub mod StayLaws
+pub mod CollectLaws
