@@ -8,3 +8,4 @@ pub mod FreedLaws
 pub mod RangeLaws
 pub mod StayLaws
 pub mod CollectLaws
+pub mod CallLaws

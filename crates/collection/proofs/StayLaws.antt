@@ -143,13 +143,13 @@ waiting-owner s rd k p r = refl
 -- ---- the calls
 
 module _ (s : Ehci) (pool : ℕ) (h f : List ℕ) (setups : ℕ) (rd : Readings) (k id : ℕ) where
-  unlink-state : (p : Pipe) (r : Request) → StateStays s k (unlinkOf s h f rd k p r .came .state)
+  pub unlink-state : (p : Pipe) (r : Request) → StateStays s k (unlinkOf s h f rd k p r .came .state)
   unlink-state p r = unlink-split s h f rd k p r (λ (l : Left). StateStays s k (l .came .state)) (state-same s k) (λ e. waiting-stays s rd k p r)
 
-  unlink-rows : (p : Pipe) (r : Request) → RowsStay h f (unlinkOf s h f rd k p r .rows)
+  pub unlink-rows : (p : Pipe) (r : Request) → RowsStay h f (unlinkOf s h f rd k p r .rows)
   unlink-rows p r = unlink-split s h f rd k p r (λ (l : Left). RowsStay h f (l .rows)) (rows-same h f) (λ e. detach-stays s h f k)
 
-  unlink-owner : (p : Pipe) (r : Request) → unlinkOf s h f rd k p r .came .state .owner ≡ s .owner
+  pub unlink-owner : (p : Pipe) (r : Request) → unlinkOf s h f rd k p r .came .state .owner ≡ s .owner
   unlink-owner p r = unlink-split s h f rd k p r (λ (l : Left). l .came .state .owner ≡ s .owner) refl (λ e. waiting-owner s rd k p r)
 
   pub cancel-state : StateStays s k (cancelOf s pool h f setups rd k id .came .state)
