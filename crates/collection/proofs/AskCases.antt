@@ -59,6 +59,9 @@ module _ (s : Ehci) (pool k : ℕ) (b : Bool) (eb : b ≡ askable (s .settings) 
   unfolding askable
   ask-pool t = leb-true (s .settings .descriptors) 256 (both-tells (leb (s .settings .descriptors) 256) _ (sym eb ∙ not-false b t) .0)
 
+  pub ask-passed : not b ≡ false → askable (s .settings) pool k ≡ true
+  ask-passed t = sym eb ∙ not-false b t
+
   pub ask-bad : (a : Ask) → a ≡ noAsk → not b ≡ true → a ≡ askOf s pool k
   unfolding askOf
   ask-bad a ea t = ea ∙ rw (sym eb ∙ not-true b t)

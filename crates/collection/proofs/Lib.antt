@@ -1,5 +1,6 @@
 pub mod AnswerCases
 pub mod AskCases
+pub mod AskLaws
 pub mod UnlinkCases
 pub mod SlotFacts
 pub mod CallCases

@@ -1,7 +1,8 @@
 // Which records a collect looks at.
 ghost use mathlib.Core.Path.{_≡_};
-ghost use Prim.Native.Nat.{_≤_, _<_};
+ghost use Prim.Native.Nat.{_≤_, _<_, _^_};
 ghost use lib.ListN.{length, take};
+ghost use Rattle.pool.specs.Chains.{askGood};
 ghost use Rattle.pool.specs.Places.{packed, placesFrom};
 ghost use Rattle.collection.specs.Asks.{askable, requestAsk, askOf};
 use controller::endpoint::Endpoint;
@@ -26,6 +27,7 @@ fn owned_by(owner: &[u8], descriptors: u64, x: u8) -> Places
 fn ask_for(s: Ehci, slot: u8, p: Pipe, r: Request) -> Ask
     requires { ⌜ (slot < 255) × (s .settings .descriptors ≤ 256) ⌝ }
     ensures { λ a. ⌜ a ≡ requestAsk s slot p r ⌝ }
+    ensures { λ a. ⌜ a .length < 2 ^ 32 ⌝ }
 {
     let places = owned_by(&s.owner, s.settings.descriptors, slot + 1);
     let kind = p.kind;
@@ -46,6 +48,7 @@ fn may_ask(s: Settings, pool: u64, slot: u8) -> bool
 // Nothing is asked where the state could not say it, or the slot has no request.
 pub fn ask(state: Ehci, pool: u64, slot: u8) -> Ask
     ensures { λ r. ⌜ r ≡ askOf state pool slot ⌝ }
+    ensures { λ r. ⌜ askGood pool r ⌝ }
 {
     if !may_ask(state.settings, pool, slot) {
         return no_ask();

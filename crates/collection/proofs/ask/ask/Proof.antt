@@ -1,4 +1,5 @@
-use Rattle.collection.proofs.AskCases.{ask-bad, ask-closed, ask-idle, ask-linked, ask-pool, ask-slot, ask-unlinking}
+use Rattle.collection.proofs.AskLaws.{none-good, some-good}
+use Rattle.collection.proofs.AskCases.{ask-passed, ask-bad, ask-closed, ask-idle, ask-linked, ask-pool, ask-slot, ask-unlinking}
 use borrow.Author.Needs.{needs}
 use Rattle.collection.proofs.ask.ask.Statement.{statement}
 use Rattle.collection.proofs.ask.ask.Tie as tie
@@ -10,7 +11,7 @@ no-ask-requires : tie.Need-no-ask-requires
 no-ask-requires c κs = search needs
 
 returns : tie.Need-returns
-returns c = search ask-bad
+returns c = (search ask-bad, search none-good)
 
 endpoint-at-requires : tie.Need-endpoint-at-requires
 endpoint-at-requires c κs = search needs
@@ -40,16 +41,16 @@ ask-for-requires-2 : tie.Need-ask-for-requires-2
 ask-for-requires-2 c κs = (search ask-slot, search ask-pool)
 
 returns-2 : tie.Need-returns-2
-returns-2 c = search ask-closed
+returns-2 c = (search ask-closed, search none-good)
 
 returns-3 : tie.Need-returns-3
-returns-3 c = search ask-idle
+returns-3 c = (search ask-idle, search none-good)
 
 returns-4 : tie.Need-returns-4
-returns-4 c = search ask-linked
+returns-4 c = (search ask-linked, search (some-good, ask-passed))
 
 returns-5 : tie.Need-returns-5
-returns-5 c = search ask-unlinking
+returns-5 c = (search ask-unlinking, search (some-good, ask-passed))
 
 pub ask-spec : {M : Type 1} → statement M
 ask-spec =

@@ -13,7 +13,7 @@ cast-t10 : tie.Need-cast-t10
 cast-t10 c = search needs
 
 returns : tie.Need-returns
-returns c = search asked-for
+returns c = (search asked-for, search needs)
 
 pub ask-for-spec : {M : Type 1} → statement M
 ask-for-spec = tie.close (tie.spec add-owned-by owned-by-requires cast-t10 returns)
