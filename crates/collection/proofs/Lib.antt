@@ -10,3 +10,4 @@ pub mod RangeLaws
 pub mod StayLaws
 pub mod CollectLaws
 pub mod CallLaws
+pub mod Examples

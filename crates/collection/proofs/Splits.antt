@@ -68,9 +68,9 @@ module _ (s : Ehci) (pool : ℕ) (h f : List ℕ) (setups : ℕ) (rd : Readings)
 
   pub collect-split : (v : View) (P : Gathered → Type 0) → ((x : Refusal) → P (gathered (refusedCollect s x) h f)) → P (gathered (pendingCollect s) h f)
       → ((p : Pipe) (r : Request) → Fits → endpointAt s k ≡ Linked p r → s .unanswered < 32 → r .id ≡ id → (v .stage ≡ 2 → ⊥)
-          → P (pendingLeft (unlinkOf s h f rd k p r)))
+      → P (pendingLeft (unlinkOf s h f rd k p r)))
       → ((p : Pipe) (r : Request) (u : UnlinkBoundary) → Fits → endpointAt s k ≡ Unlinking p r u → r .id ≡ id → passedBoundary u (rd .frame) ≡ true
-          → P (gathered (finishOf s v k p r) (endedOverlay h k) f))
+      → P (gathered (finishOf s v k p r) (endedOverlay h k) f))
       → P (collectOf s pool h f setups rd v k id)
   unfolding collectOf linkedOf unlinkingOf
   collect-split v P old waits unlinks ends = by (acceptsOf s (lengthsOf pool h f setups)) refl

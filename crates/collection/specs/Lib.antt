@@ -2,3 +2,4 @@ pub mod Answers
 pub mod Unlinks
 pub mod Asks
 pub mod Calls
+pub mod Examples
