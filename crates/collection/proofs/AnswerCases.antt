@@ -1,6 +1,5 @@
 -- The returns of the answers.
-use Prim.Native.Nat.{ℕ}
-use mathlib.Core.Path.{_≡_, refl, sym, _∙_}
+use mathlib.Core.Path.{_≡_}
 use mathlib.Core.Bool.{Bool, true, false}
 use borrow.Author.Tests.{eq-eqb, ne-eqb}
 use Rattle.register.specs.Writes.{noWrites}
@@ -11,7 +10,6 @@ use Rattle.controller.specs.declared.answer.Answer.{Answer}
 use Rattle.controller.specs.declared.answer.Answer.the-variants.{Refused as RefusedCall}
 use Rattle.controller.specs.declared.answer.Refusal.{Refusal}
 use Rattle.collection.specs.declared.answer.Cancellation.{Cancellation}
-use Rattle.collection.specs.declared.answer.Collected.{Collected}
 use Rattle.collection.specs.declared.answer.Collected.the-variants.{Complete, Pending, Cancelled, Failed, Refused}
 use Rattle.collection.specs.declared.answer.Collection.{Collection}
 use Rattle.collection.specs.Answers.{outcomeOf, pendingCollect, pendingOf, refusedCancel, refusedCollect}

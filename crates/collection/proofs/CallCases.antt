@@ -1,10 +1,10 @@
 -- The returns of cancel and collect.
 use Prim.Native.Nat.{ℕ, _+_, _≤_, _<_}
-use mathlib.Core.Path.{_≡_, refl, sym, ap, _∙_}
+use mathlib.Core.Path.{_≡_, sym, ap, _∙_}
 use mathlib.Core.Bool.{Bool, true, false, not}
 use mathlib.Core.List.{List, _++_}
 use borrow.Author.Tests.{eq-eqb, le-leb, lt-leb, ne-eqb, not-false, not-true}
-use lib.ListN.{drop, length, take}
+use lib.ListN.{drop, take}
 use Rattle.register.specs.Writes.{noWrites}
 use Rattle.register.specs.declared.writes.Writes.{Writes}
 use Rattle.pool.specs.Places.{clearOf}
@@ -26,8 +26,8 @@ use Rattle.collection.specs.declared.answer.Cancellation.{Cancellation}
 use Rattle.collection.specs.declared.answer.Collected.{Collected}
 use Rattle.collection.specs.declared.answer.Collection.{Collection}
 use Rattle.collection.specs.Answers.{outcomeOf, pendingCollect, pendingOf, refusedCancel, refusedCollect}
-use Rattle.collection.specs.Unlinks.{Left, left, passedBoundary, unlinkOf}
-use Rattle.collection.specs.Calls.{Ended, Gathered, cancelOf, collectOf, ended, finishOf, freed, gathered, lengthsOf, linkedOf, marked, markedOf, unlinkingOf}
+use Rattle.collection.specs.Unlinks.{left, passedBoundary, unlinkOf}
+use Rattle.collection.specs.Calls.{Ended, cancelOf, collectOf, ended, finishOf, freed, gathered, lengthsOf, linkedOf, marked, markedOf, unlinkingOf}
 
 -- ---- cancel
 

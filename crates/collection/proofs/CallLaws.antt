@@ -20,7 +20,7 @@ use Rattle.controller.specs.Rows.{headWord}
 use Rattle.controller.specs.declared.answer.Answer.{Answer}
 use Rattle.controller.specs.declared.answer.Answer.the-variants.{Done, Refused as RefusedCall}
 use Rattle.controller.specs.declared.answer.Refusal.{Refusal}
-use Rattle.controller.specs.declared.endpoint.Endpoint.the-variants.{Linked, Unlinking}
+use Rattle.controller.specs.declared.endpoint.Endpoint.the-variants.{Linked}
 use Rattle.controller.specs.declared.endpoint.Pipe.{Pipe}
 use Rattle.controller.specs.declared.endpoint.Request.{Request}
 use Rattle.controller.specs.declared.lent.Readings.{Readings}
@@ -32,12 +32,12 @@ use Rattle.collection.specs.declared.answer.Collected.{Collected}
 use Rattle.collection.specs.declared.answer.Collected.the-variants.{Complete, Pending, Cancelled, Failed, Refused}
 use Rattle.collection.specs.Answers.{outcomeOf, pendingCollect, refusedCancel, refusedCollect}
 use Rattle.collection.specs.Unlinks.{Left, bellOf, boundedOf, left, unlinkOf, waitingOf}
-use Rattle.collection.specs.Calls.{Gathered, cancelOf, collectOf, finishOf, gathered, lengthsOf, linkedOf, marked, pendingLeft}
+use Rattle.collection.specs.Calls.{Gathered, cancelOf, collectOf, finishOf, gathered, lengthsOf, marked, pendingLeft}
 use Rattle.collection.proofs.CallCases.{collect-looks, linked-unlinks, linked-waits}
 use Rattle.collection.proofs.CollectLaws.{ended-length, ended-others}
 use Rattle.collection.proofs.SlotFacts.{open-below}
 use Rattle.collection.proofs.Splits.{cancel-split, collect-split, unlink-split}
-use Rattle.collection.proofs.StayLaws.{RowsStay, unlink-rows}
+use Rattle.collection.proofs.StayLaws.{unlink-rows}
 
 true-false : true ≡ false → ⊥
 true-false q = let z : _≡_ {A = ℕ} 0 1 = cc in omega arith

@@ -1,16 +1,14 @@
 -- What a collect that passes leaves, what a collect that waits leaves, and what the answers say.
-use Prim.Native.Nat.{ℕ, zero, suc, _+_, _-_, _*_, _≤_, _<_}
-use mathlib.Core.Path.{_≡_, refl, sym, ap, subst, _∙_}
+use Prim.Native.Nat.{ℕ, _+_, _-_, _*_, _≤_, _<_}
+use mathlib.Core.Path.{_≡_, refl, sym, ap, _∙_}
 use mathlib.Core.Logic.{_≢_}
 use mathlib.Core.Bool.{Bool, true, false}
-use mathlib.Core.List.{List, [], _∷_, _++_}
+use mathlib.Core.List.{List, [], _++_}
 use native.Mathlib.Decide.{ℕ-discrete as decEq}
 use native.Mathlib.Omega.{arith}
-use borrow.Author.Tests.{eq-eqb, eqb-false, eqb-true}
 use lib.Dec.{eqb}
-use lib.ListN.{drop, getD, length, length-append, length-drop, length-take, take}
+use lib.ListN.{drop, getD, length, length-append, length-drop, take}
 use lib.Seq.{getD-append-add, getD-drop, getD-take, length-take-le, take-append-seam}
-use Rattle.register.specs.Writes.{noWrites}
 use Rattle.pool.specs.Chains.{Seen, firstError, lengthOf, viewOf}
 use Rattle.pool.specs.Places.{clearOf, placesFrom}
 use Rattle.pool.specs.declared.chain.View.{View}
@@ -18,31 +16,25 @@ use Rattle.pool.proofs.PlaceLaws.{clear-none, clear-others, places-none}
 use Rattle.state.specs.declared.state.Ehci.{Ehci}
 use Rattle.state.specs.Slots.{withSlot}
 use Rattle.state.specs.State.{withOwner}
-use Rattle.controller.specs.Answers.{refusalNumber}
 use Rattle.controller.specs.Endpoints.{endpointAt, withEndpoint}
 use Rattle.controller.specs.Lent.{acceptsOf}
 use Rattle.controller.specs.Rows.{headWord, putAt}
-use Rattle.controller.specs.declared.answer.Answer.the-variants.{Done, Refused as RefusedCall}
-use Rattle.controller.specs.declared.answer.Refusal.{Refusal}
-use Rattle.controller.specs.declared.answer.Refusal.the-variants.{InvalidEndpoint, InvalidParameter, NoMemory, NotReady, NotSupported, QueueFull, SlotLimitReached, Timeout}
-use Rattle.controller.specs.declared.endpoint.Endpoint.{Endpoint}
-use Rattle.controller.specs.declared.endpoint.Endpoint.the-variants.{Closed, Idle, Linked, Unlinking}
+use Rattle.controller.specs.declared.endpoint.Endpoint.the-variants.{Idle, Unlinking}
 use Rattle.controller.specs.declared.endpoint.Pipe.{Pipe}
 use Rattle.controller.specs.declared.endpoint.Request.{Request}
 use Rattle.controller.specs.declared.endpoint.UnlinkBoundary.{UnlinkBoundary}
 use Rattle.controller.specs.declared.lent.Readings.{Readings}
 use Rattle.controller.proofs.EndpointLaws.{Wide, endpoint-same}
-use Rattle.schedule.specs.Links.{Links, endedOverlay, endedWords, links}
+use Rattle.schedule.specs.Links.{endedOverlay, endedWords}
 use Rattle.collection.specs.declared.answer.Collected.{Collected}
 use Rattle.collection.specs.declared.answer.Collected.the-variants.{Complete, Pending, Cancelled, Failed, Refused}
 use Rattle.collection.specs.declared.answer.Completion.{Completion}
-use Rattle.collection.specs.Answers.{collectedNumber, outcomeOf, pendingCollect, refusedCancel, refusedCollect}
-use Rattle.collection.specs.Unlinks.{Left, left, passedBoundary, unlinkOf, waitingOf}
-use Rattle.collection.specs.Calls.{Gathered, cancelOf, collectOf, ended, finishOf, freed, gathered, lengthsOf, unlinkingOf}
+use Rattle.collection.specs.Answers.{collectedNumber, outcomeOf, pendingCollect}
+use Rattle.collection.specs.Unlinks.{passedBoundary}
+use Rattle.collection.specs.Calls.{Gathered, collectOf, finishOf, freed, gathered, lengthsOf}
 use Rattle.collection.proofs.CallCases.{collect-ends, unlinking-ends, unlinking-waits}
 use Rattle.collection.proofs.FreedLaws.{freed-front}
 use Rattle.collection.proofs.RangeLaws.{owner-wide}
-use Rattle.collection.proofs.Splits.{cancel-split, collect-split, unlink-split}
 
 -- ---- words put over others
 

@@ -1,9 +1,8 @@
 -- The definitions, run.
-use Prim.Native.Nat.{ℕ}
 use mathlib.Core.Path.{_≡_, refl}
 use mathlib.Core.Bool.{true, false}
-use mathlib.Core.List.{List, [], _∷_}
-use Rattle.register.specs.Bits.{withBits, withoutBits}
+use mathlib.Core.List.{[], _∷_}
+use Rattle.register.specs.Bits.{withoutBits}
 use Rattle.register.specs.Writes.{andThen, noWrites}
 use Rattle.pool.specs.Places.{clearOf}
 use Rattle.settings.specs.Settings.{settingsGood, numbersGood, eachGood, noOverlap, areaGood, apartAreas}
@@ -15,8 +14,8 @@ use Rattle.controller.specs.Endpoints.{decoded, endpointAt, withEndpoint}
 use Rattle.controller.specs.Lent.{acceptsOf}
 use Rattle.controller.specs.Opening.{rowsFit}
 use Rattle.controller.specs.Rows.{putAt}
-use Rattle.schedule.specs.Bell.{ringOf, ringWord, unlinkedOf}
-use Rattle.schedule.specs.Links.{detachOf, endedOverlay, precedesOne, predecessorOf, searchFrom}
+use Rattle.schedule.specs.Bell.{ringOf, unlinkedOf}
+use Rattle.schedule.specs.Links.{detachOf, endedOverlay, predecessorOf}
 use Rattle.collection.specs.Answers.{outcomeOf}
 use Rattle.collection.specs.Unlinks.{boundedOf, unlinkOf, waitingOf}
 use Rattle.collection.specs.Calls.{cancelOf, collectOf, finishOf, freed, lengthsOf, linkedOf, unlinkingOf}

@@ -1,19 +1,15 @@
 -- Cancel and collect leave a state in its ranges in them, and the lengths of the rows as they were.
-use Prim.Native.Nat.{ℕ, _+_, _*_, _%_, _≤_, _<_}
-use mathlib.Core.Path.{_≡_, refl, sym, ap, subst, _∙_}
-use mathlib.Core.Logic.{_≢_}
+use Prim.Native.Nat.{ℕ, _+_, _≤_, _<_}
+use mathlib.Core.Path.{_≡_, refl, ap, subst, _∙_}
 use mathlib.Core.Bool.{Bool, true, false}
-use mathlib.Core.List.{List, [], _∷_, _++_}
+use mathlib.Core.List.{List}
 use native.Mathlib.Decide.{ℕ-discrete as decEq}
 use native.Mathlib.Omega.{arith}
-use lib.ListN.{drop, getD, length, length-append, length-drop, length-replicate, length-set, length-take, set, take}
-use lib.Seq.{getD-drop, getD-take, length-take-le}
+use lib.ListN.{getD}
 use Rattle.register.specs.Writes.{noWrites}
 use Rattle.token.specs.declared.request.EndpointType.{EndpointType}
 use Rattle.token.specs.declared.request.EndpointType.the-variants.{Control, Isochronous, Bulk, Interrupt}
-use Rattle.pool.specs.Places.{clearOf}
 use Rattle.pool.specs.declared.chain.View.{View}
-use Rattle.pool.proofs.PlaceLaws.{clear-hit-at, clear-length, clear-miss-at}
 use Rattle.slot.specs.Ranges.{slotGood}
 use Rattle.slot.specs.declared.slot.Slot.{Slot}
 use Rattle.slot.proofs.SlotLaws.{Phase, slot-makes, slot-tells}
@@ -22,20 +18,19 @@ use Rattle.state.specs.Ranges.{inRanges}
 use Rattle.state.specs.Slots.{slotAt}
 use Rattle.state.specs.State.{withBell, withOwner}
 use Rattle.state.proofs.RangesLaws.{Ranges, ranges-make, ranges-tell}
-use Rattle.controller.specs.Endpoints.{endpointAt, withEndpoint}
-use Rattle.controller.specs.Readers.{hasEndpoint, isOpen}
+use Rattle.controller.specs.Endpoints.{endpointAt}
+use Rattle.controller.specs.Readers.{hasEndpoint}
 use Rattle.controller.specs.declared.endpoint.Endpoint.{Endpoint}
-use Rattle.controller.specs.declared.endpoint.Endpoint.the-variants.{Closed, Idle, Linked, Unlinking}
+use Rattle.controller.specs.declared.endpoint.Endpoint.the-variants.{Idle, Linked, Unlinking}
 use Rattle.controller.specs.declared.endpoint.Pipe.{Pipe}
 use Rattle.controller.specs.declared.endpoint.Request.{Request}
 use Rattle.controller.specs.declared.endpoint.UnlinkBoundary.{UnlinkBoundary}
 use Rattle.controller.specs.declared.lent.Readings.{Readings}
-use Rattle.controller.proofs.EndpointLaws.{EndpointGood, LinkedGood, OpenPipe, UnlinkingGood, Passable, Suits, Wide, endpoint-keeps, good-proper}
+use Rattle.controller.proofs.EndpointLaws.{EndpointGood, LinkedGood, OpenPipe, UnlinkingGood, Passable, Suits, Wide, endpoint-keeps}
 use Rattle.schedule.specs.Bell.{mustRing, ringOf, rungIf, unlinkedOf}
 use Rattle.schedule.specs.declared.bell.Bell.{Bell}
-use Rattle.collection.specs.declared.unlink.Bounded.{Bounded}
 use Rattle.collection.specs.Unlinks.{Left, bellOf, boundedOf, unlinkOf, waitingOf}
-use Rattle.collection.specs.Calls.{Gathered, cancelOf, collectOf, finishOf, freed, marked, markedOf, pendingLeft}
+use Rattle.collection.specs.Calls.{Gathered, cancelOf, collectOf, finishOf, freed, marked, markedOf}
 use Rattle.collection.proofs.FreedLaws.{freed-hit, freed-miss, freed-past}
 use Rattle.collection.proofs.SlotFacts.{endpoint-good, open-below}
 use Rattle.collection.proofs.Splits.{cancel-split, collect-split, unlink-split}

@@ -15,7 +15,7 @@ use Rattle.controller.specs.Endpoints.{endpointAt}
 use Rattle.controller.specs.Lent.{acceptsOf}
 use Rattle.controller.specs.Readers.{hasEndpoint, isOpen}
 use Rattle.controller.specs.declared.endpoint.Endpoint.{Endpoint}
-use Rattle.controller.specs.declared.endpoint.Endpoint.the-variants.{Closed, Idle, Linked, Unlinking}
+use Rattle.controller.specs.declared.endpoint.Endpoint.the-variants.{Closed, Linked, Unlinking}
 use Rattle.controller.specs.declared.endpoint.Pipe.{Pipe}
 use Rattle.controller.specs.declared.endpoint.Request.{Request}
 use Rattle.controller.specs.declared.endpoint.UnlinkBoundary.{UnlinkBoundary}

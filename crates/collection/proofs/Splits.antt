@@ -1,7 +1,7 @@
 -- What holds of each thing that a call may leave holds of what it leaves.
-use Prim.Native.Nat.{ℕ, _≤_, _<_}
-use mathlib.Core.Path.{_≡_, refl, sym, ap, _∙_}
-use mathlib.Core.Bool.{Bool, true, false, not}
+use Prim.Native.Nat.{ℕ, _<_}
+use mathlib.Core.Path.{_≡_, refl}
+use mathlib.Core.Bool.{Bool, true, false}
 use mathlib.Core.List.{List}
 use borrow.Author.Tests.{eqb-false, eqb-true, leb-false}
 use lib.Dec.{eqb, leb}
@@ -18,7 +18,6 @@ use Rattle.controller.specs.declared.endpoint.Request.{Request}
 use Rattle.controller.specs.declared.endpoint.UnlinkBoundary.{UnlinkBoundary}
 use Rattle.controller.specs.declared.lent.Readings.{Readings}
 use Rattle.schedule.specs.Links.{detachOf, endedOverlay}
-use Rattle.schedule.specs.declared.links.Predecessor.{Predecessor}
 use Rattle.collection.specs.Answers.{pendingCollect, refusedCancel, refusedCollect}
 use Rattle.collection.specs.Unlinks.{Left, isMissing, left, passedBoundary, unlinkOf, waitingOf}
 use Rattle.collection.specs.Calls.{Gathered, cancelOf, collectOf, finishOf, gathered, lengthsOf, linkedOf, marked, markedOf, pendingLeft, unlinkingOf}

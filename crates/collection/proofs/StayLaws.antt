@@ -1,32 +1,28 @@
 -- What cancel and collect leave alone.
 use Prim.Native.Nat.{ℕ, _+_, _*_, _≤_, _<_}
-use mathlib.Core.Path.{_≡_, refl, sym, ap, subst, _∙_}
+use mathlib.Core.Path.{_≡_, refl}
 use mathlib.Core.Logic.{_≢_}
 use mathlib.Core.Bool.{Bool, true, false}
-use mathlib.Core.List.{List, [], _∷_, _++_}
+use mathlib.Core.List.{List}
 use native.Mathlib.Omega.{arith}
-use lib.ListN.{drop, getD, length, length-append, length-replicate, length-set, replicate, set, take}
+use lib.ListN.{length, length-replicate, length-set, set}
 use lib.Seq.{getD-set-other}
 use Rattle.pool.specs.declared.chain.View.{View}
 use Rattle.state.specs.declared.state.Ehci.{Ehci}
 use Rattle.state.specs.Slots.{slotAt, withSlot}
 use Rattle.state.specs.State.{withBell, withOwner}
-use Rattle.settings.specs.declared.settings.Settings.{Settings}
-use Rattle.controller.specs.Answers.{refusalNumber}
 use Rattle.controller.specs.Endpoints.{endpointAt, withEndpoint}
 use Rattle.controller.specs.Rows.{headWord}
-use Rattle.controller.specs.declared.answer.Answer.the-variants.{Done, Refused as RefusedCall}
-use Rattle.controller.specs.declared.answer.Refusal.{Refusal}
 use Rattle.controller.specs.declared.endpoint.Endpoint.{Endpoint}
 use Rattle.controller.specs.declared.endpoint.Pipe.{Pipe}
 use Rattle.controller.specs.declared.endpoint.Request.{Request}
 use Rattle.controller.specs.declared.lent.Readings.{Readings}
 use Rattle.controller.proofs.EndpointLaws.{endpoint-other}
-use Rattle.schedule.specs.Links.{Links, detachOf, givenLink, linkWord, links, periodic, predecessorOf, startGiven}
+use Rattle.schedule.specs.Links.{Links, detachOf, givenLink, linkWord, links, periodic, predecessorOf}
 use Rattle.schedule.specs.declared.links.Predecessor.{Predecessor}
 use Rattle.schedule.specs.declared.links.Predecessor.the-variants.{First, Head, Missing}
-use Rattle.collection.specs.Unlinks.{Left, bellOf, boundedOf, unlinkOf, waitingOf}
-use Rattle.collection.specs.Calls.{Gathered, cancelOf, collectOf, finishOf, marked, markedOf}
+use Rattle.collection.specs.Unlinks.{Left, unlinkOf, waitingOf}
+use Rattle.collection.specs.Calls.{Gathered, cancelOf, collectOf, finishOf, marked}
 use Rattle.collection.proofs.Splits.{cancel-split, collect-split, unlink-split}
 
 -- ---- the rows of an unlink

@@ -1,7 +1,7 @@
 -- The returns of unlinking.
 use Prim.Native.Nat.{ℕ, _+_, _<_}
-use mathlib.Core.Path.{_≡_, refl, sym, ap, subst, _∙_}
-use mathlib.Core.Bool.{Bool, true, false}
+use mathlib.Core.Path.{_≡_, sym, ap, _∙_}
+use mathlib.Core.Bool.{Bool}
 use mathlib.Core.List.{List}
 use lib.Dec.{eqb}
 use Rattle.register.specs.Writes.{noWrites}
@@ -20,7 +20,7 @@ use Rattle.controller.specs.declared.endpoint.UnlinkBoundary.{UnlinkBoundary}
 use Rattle.controller.specs.declared.endpoint.UnlinkBoundary.the-variants.{Async, Periodic}
 use Rattle.controller.specs.declared.lent.Readings.{Readings}
 use Rattle.schedule.specs.Bell.{frameOf, framesPassed, unlinkedOf}
-use Rattle.schedule.specs.Links.{Detached, Links, links, detached, detachOf, givenLink, linkWord, periodic, predecessorOf}
+use Rattle.schedule.specs.Links.{Detached, links, detached, detachOf, predecessorOf}
 use Rattle.schedule.specs.declared.bell.Bell.{Bell}
 use Rattle.schedule.specs.declared.bell.Rung.{Rung}
 use Rattle.schedule.specs.declared.links.Predecessor.{Predecessor}
@@ -28,7 +28,7 @@ use Rattle.schedule.specs.declared.links.Predecessor.the-variants.{First, Head,
 use Rattle.collection.specs.declared.answer.Cancellation.{Cancellation}
 use Rattle.collection.specs.declared.unlink.Bounded.{Bounded}
 use Rattle.collection.specs.Answers.{refusedCancel}
-use Rattle.collection.specs.Unlinks.{Left, askedOf, bellOf, boundedOf, frameBelow, left, passedBoundary, unlinkOf, waitingOf}
+use Rattle.collection.specs.Unlinks.{askedOf, bellOf, boundedOf, frameBelow, left, passedBoundary, unlinkOf, waitingOf}
 
 -- ---- the boundary
 

@@ -2,8 +2,6 @@
 use Prim.Native.Nat.{ℕ}
 use mathlib.Core.List.{List, [], _∷_, _++_}
 use lib.ListN.{getD, replicate}
-use Rattle.register.specs.Writes.{listOf, writeOf}
-use Rattle.register.specs.declared.writes.Write.{Write}
 use Rattle.pool.specs.declared.chain.View.{View}
 use Rattle.settings.specs.declared.settings.Settings.{Settings}
 use Rattle.state.specs.declared.state.Ehci.{Ehci}
