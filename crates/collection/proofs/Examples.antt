@@ -1,0 +1,144 @@
+-- The definitions, run.
+use mathlib.Core.Path.{_≡_, refl}
+use mathlib.Core.Bool.{true, false}
+use mathlib.Core.List.{[], _∷_}
+use Rattle.register.specs.Bits.{withoutBits}
+use Rattle.register.specs.Writes.{andThen, noWrites}
+use Rattle.pool.specs.Places.{clearOf}
+use Rattle.settings.specs.Settings.{settingsGood, numbersGood, eachGood, noOverlap, areaGood, apartAreas}
+use Rattle.slot.specs.Ranges.{slotGood, phaseGood, closedGood, noRequest, idleGood, linkedGood, unlinkingGood, boundaryGood, openKind}
+use Rattle.state.specs.Ranges.{inRanges, restGood, machineGood, interruptGood, doorbellGood, ownerGood, largest, slotsGood}
+use Rattle.state.specs.Slots.{slotAt, withSlot}
+use Rattle.state.specs.State.{withBell, withOwner}
+use Rattle.controller.specs.Endpoints.{decoded, endpointAt, withEndpoint}
+use Rattle.controller.specs.Lent.{acceptsOf}
+use Rattle.controller.specs.Opening.{rowsFit}
+use Rattle.controller.specs.Rows.{putAt}
+use Rattle.schedule.specs.Bell.{ringOf, unlinkedOf}
+use Rattle.schedule.specs.Links.{detachOf, endedOverlay, predecessorOf}
+use Rattle.collection.specs.Answers.{outcomeOf}
+use Rattle.collection.specs.Unlinks.{boundedOf, unlinkOf, waitingOf}
+use Rattle.collection.specs.Calls.{cancelOf, collectOf, finishOf, freed, lengthsOf, linkedOf, unlinkingOf}
+use Rattle.collection.specs.Examples.{cancelRow, cancelled, collectRow, collected, noFrames, oneRequest, ringOfOne, seen}
+
+-- ---- the states are in their ranges, but the last
+
+linked-fits : acceptsOf (oneRequest 2 2 0 0 0) (lengthsOf 4 ringOfOne noFrames 16) ≡ true
+unfolding acceptsOf rowsFit inRanges restGood machineGood interruptGood doorbellGood ownerGood largest slotsGood slotGood phaseGood closedGood idleGood noRequest linkedGood unlinkingGood boundaryGood openKind settingsGood numbersGood eachGood noOverlap areaGood apartAreas slotAt withoutBits
+linked-fits = refl
+
+crowded-fits : acceptsOf (oneRequest 2 2 0 0 32) (lengthsOf 4 ringOfOne noFrames 16) ≡ true
+unfolding acceptsOf rowsFit inRanges restGood machineGood interruptGood doorbellGood ownerGood largest slotsGood slotGood phaseGood closedGood idleGood noRequest linkedGood unlinkingGood boundaryGood openKind settingsGood numbersGood eachGood noOverlap areaGood apartAreas slotAt withoutBits
+crowded-fits = refl
+
+waiting-fits : acceptsOf (oneRequest 3 2 0 1 1) (lengthsOf 4 ringOfOne noFrames 16) ≡ true
+unfolding acceptsOf rowsFit inRanges restGood machineGood interruptGood doorbellGood ownerGood largest slotsGood slotGood phaseGood closedGood idleGood noRequest linkedGood unlinkingGood boundaryGood openKind settingsGood numbersGood eachGood noOverlap areaGood apartAreas slotAt withoutBits
+waiting-fits = refl
+
+passed-fits : acceptsOf (oneRequest 3 2 0 0 0) (lengthsOf 4 ringOfOne noFrames 16) ≡ true
+unfolding acceptsOf rowsFit inRanges restGood machineGood interruptGood doorbellGood ownerGood largest slotsGood slotGood phaseGood closedGood idleGood noRequest linkedGood unlinkingGood boundaryGood openKind settingsGood numbersGood eachGood noOverlap areaGood apartAreas slotAt withoutBits
+passed-fits = refl
+
+marked-fits : acceptsOf (oneRequest 3 2 1 0 0) (lengthsOf 4 ringOfOne noFrames 16) ≡ true
+unfolding acceptsOf rowsFit inRanges restGood machineGood interruptGood doorbellGood ownerGood largest slotsGood slotGood phaseGood closedGood idleGood noRequest linkedGood unlinkingGood boundaryGood openKind settingsGood numbersGood eachGood noOverlap areaGood apartAreas slotAt withoutBits
+marked-fits = refl
+
+frames-fits : acceptsOf (oneRequest 3 3 0 16380 0) (lengthsOf 4 ringOfOne noFrames 16) ≡ true
+unfolding acceptsOf rowsFit inRanges restGood machineGood interruptGood doorbellGood ownerGood largest slotsGood slotGood phaseGood closedGood idleGood noRequest linkedGood unlinkingGood boundaryGood openKind settingsGood numbersGood eachGood noOverlap areaGood apartAreas slotAt withoutBits
+frames-fits = refl
+
+outside : acceptsOf (oneRequest 1 2 0 0 0) (lengthsOf 4 ringOfOne noFrames 16) ≡ false
+unfolding acceptsOf rowsFit inRanges restGood machineGood interruptGood doorbellGood ownerGood largest slotsGood slotGood phaseGood closedGood idleGood noRequest linkedGood unlinkingGood boundaryGood openKind settingsGood numbersGood eachGood noOverlap areaGood apartAreas slotAt withoutBits
+outside = refl
+
+-- ---- cancel: answer, writes, the ring head's link; the slot's phase, mark, boundary; unanswered; place 0's owner
+
+-- linked: marked and unlinked, boundary 1, the doorbell rung, the ring head alone again
+pub cancel-linked : cancelRow (cancelled (oneRequest 2 2 0 0 0) 0 1) ≡ 0 ∷ 1 ∷ 0x200002 ∷ 3 ∷ 1 ∷ 1 ∷ 1 ∷ 1 ∷ []
+unfolding cancelOf endpointAt decoded slotAt unlinkOf waitingOf boundedOf unlinkedOf ringOf detachOf predecessorOf withEndpoint withSlot withBell noWrites andThen
+cancel-linked = rw linked-fits
+
+-- unlinking: marked only
+pub cancel-waiting : cancelRow (cancelled (oneRequest 3 2 0 1 1) 0 1) ≡ 0 ∷ 0 ∷ 0x200082 ∷ 3 ∷ 1 ∷ 1 ∷ 1 ∷ 1 ∷ []
+unfolding cancelOf endpointAt decoded slotAt unlinkOf waitingOf boundedOf unlinkedOf ringOf detachOf predecessorOf withEndpoint withSlot withBell noWrites andThen
+cancel-waiting = rw waiting-fits
+
+-- a wrong id
+pub cancel-wrong-id : cancelRow (cancelled (oneRequest 2 2 0 0 0) 0 2) ≡ 3 ∷ 0 ∷ 0x200082 ∷ 2 ∷ 0 ∷ 0 ∷ 0 ∷ 1 ∷ []
+unfolding cancelOf endpointAt decoded slotAt unlinkOf waitingOf boundedOf unlinkedOf ringOf detachOf predecessorOf withEndpoint withSlot withBell noWrites andThen
+cancel-wrong-id = rw linked-fits
+
+-- a closed slot, and one that does not exist
+pub cancel-closed-slot : cancelRow (cancelled (oneRequest 2 2 0 0 0) 1 1) ≡ 3 ∷ 0 ∷ 0x200082 ∷ 2 ∷ 0 ∷ 0 ∷ 0 ∷ 1 ∷ []
+unfolding cancelOf endpointAt decoded slotAt unlinkOf waitingOf boundedOf unlinkedOf ringOf detachOf predecessorOf withEndpoint withSlot withBell noWrites andThen
+cancel-closed-slot = rw linked-fits
+
+pub cancel-no-slot : cancelRow (cancelled (oneRequest 2 2 0 0 0) 40 1) ≡ 3 ∷ 0 ∷ 0x200082 ∷ 2 ∷ 0 ∷ 0 ∷ 0 ∷ 1 ∷ []
+unfolding cancelOf endpointAt decoded slotAt unlinkOf waitingOf boundedOf unlinkedOf ringOf detachOf predecessorOf withEndpoint withSlot withBell noWrites andThen
+cancel-no-slot = rw linked-fits
+
+-- linked, with 32 unlinks unanswered
+pub cancel-crowded-slot : cancelRow (cancelled (oneRequest 2 2 0 0 32) 0 1) ≡ 1 ∷ 0 ∷ 0x200082 ∷ 2 ∷ 0 ∷ 0 ∷ 32 ∷ 1 ∷ []
+unfolding cancelOf endpointAt decoded slotAt unlinkOf waitingOf boundedOf unlinkedOf ringOf detachOf predecessorOf withEndpoint withSlot withBell noWrites andThen
+cancel-crowded-slot = rw crowded-fits
+
+-- a state outside its ranges
+pub cancel-outside : cancelRow (cancelled (oneRequest 1 2 0 0 0) 0 1) ≡ 1 ∷ 0 ∷ 0x200082 ∷ 1 ∷ 0 ∷ 0 ∷ 0 ∷ 1 ∷ []
+unfolding cancelOf endpointAt decoded slotAt unlinkOf waitingOf boundedOf unlinkedOf ringOf detachOf predecessorOf withEndpoint withSlot withBell noWrites andThen
+cancel-outside = rw outside
+
+-- ---- collect: answer, its value, writes, the ring head's link, the slot's overlay next; then as above
+
+-- an active descriptor comes first
+pub collect-active-first : collectRow (collected (oneRequest 2 2 0 0 0) 0 (seen 2 0 0) 0 1) ≡ 9 ∷ 0 ∷ 0 ∷ 0x200082 ∷ 7 ∷ 2 ∷ 0 ∷ 0 ∷ 0 ∷ 1 ∷ []
+unfolding collectOf linkedOf unlinkingOf finishOf freed clearOf outcomeOf endpointAt decoded slotAt unlinkOf waitingOf boundedOf unlinkedOf ringOf detachOf predecessorOf endedOverlay putAt withEndpoint withSlot withOwner withBell noWrites andThen
+collect-active-first = rw linked-fits
+
+-- every descriptor inactive: unlinked
+pub collect-all-inactive : collectRow (collected (oneRequest 2 2 0 0 0) 0 (seen 0 0 20000) 0 1) ≡ 9 ∷ 0 ∷ 1 ∷ 0x200002 ∷ 7 ∷ 3 ∷ 0 ∷ 1 ∷ 1 ∷ 1 ∷ []
+unfolding collectOf linkedOf unlinkingOf finishOf freed clearOf outcomeOf endpointAt decoded slotAt unlinkOf waitingOf boundedOf unlinkedOf ringOf detachOf predecessorOf endedOverlay putAt withEndpoint withSlot withOwner withBell noWrites andThen
+collect-all-inactive = rw linked-fits
+
+-- an error before any active one: unlinked
+pub collect-error-first : collectRow (collected (oneRequest 2 2 0 0 0) 0 (seen 1 0x48 0) 0 1) ≡ 9 ∷ 0 ∷ 1 ∷ 0x200002 ∷ 7 ∷ 3 ∷ 0 ∷ 1 ∷ 1 ∷ 1 ∷ []
+unfolding collectOf linkedOf unlinkingOf finishOf freed clearOf outcomeOf endpointAt decoded slotAt unlinkOf waitingOf boundedOf unlinkedOf ringOf detachOf predecessorOf endedOverlay putAt withEndpoint withSlot withOwner withBell noWrites andThen
+collect-error-first = rw linked-fits
+
+-- one advance to come
+pub collect-not-answered : collectRow (collected (oneRequest 3 2 0 1 1) 0 (seen 0 0 20000) 0 1) ≡ 9 ∷ 0 ∷ 0 ∷ 0x200082 ∷ 7 ∷ 3 ∷ 0 ∷ 1 ∷ 1 ∷ 1 ∷ []
+unfolding collectOf linkedOf unlinkingOf finishOf freed clearOf outcomeOf endpointAt decoded slotAt unlinkOf waitingOf boundedOf unlinkedOf ringOf detachOf predecessorOf endedOverlay putAt withEndpoint withSlot withOwner withBell noWrites andThen
+collect-not-answered = rw waiting-fits
+
+-- none to come: complete, freed, idle
+pub collect-complete : collectRow (collected (oneRequest 3 2 0 0 0) 0 (seen 0 0 20000) 0 1) ≡ 0 ∷ 20000 ∷ 0 ∷ 0x200082 ∷ 1 ∷ 1 ∷ 0 ∷ 0 ∷ 0 ∷ 0 ∷ []
+unfolding collectOf linkedOf unlinkingOf finishOf freed clearOf outcomeOf endpointAt decoded slotAt unlinkOf waitingOf boundedOf unlinkedOf ringOf detachOf predecessorOf endedOverlay putAt withEndpoint withSlot withOwner withBell noWrites andThen
+collect-complete = rw passed-fits
+
+-- failed, with the token
+pub collect-failed : collectRow (collected (oneRequest 3 2 0 0 0) 0 (seen 1 0x48 16384) 0 1) ≡ 11 ∷ 0x48 ∷ 0 ∷ 0x200082 ∷ 1 ∷ 1 ∷ 0 ∷ 0 ∷ 0 ∷ 0 ∷ []
+unfolding collectOf linkedOf unlinkingOf finishOf freed clearOf outcomeOf endpointAt decoded slotAt unlinkOf waitingOf boundedOf unlinkedOf ringOf detachOf predecessorOf endedOverlay putAt withEndpoint withSlot withOwner withBell noWrites andThen
+collect-failed = rw passed-fits
+
+-- cancelled, whatever the tokens say
+pub collect-cancelled : collectRow (collected (oneRequest 3 2 1 0 0) 0 (seen 1 0x48 16384) 0 1) ≡ 10 ∷ 0 ∷ 0 ∷ 0x200082 ∷ 1 ∷ 1 ∷ 0 ∷ 0 ∷ 0 ∷ 0 ∷ []
+unfolding collectOf linkedOf unlinkingOf finishOf freed clearOf outcomeOf endpointAt decoded slotAt unlinkOf waitingOf boundedOf unlinkedOf ringOf detachOf predecessorOf endedOverlay putAt withEndpoint withSlot withOwner withBell noWrites andThen
+collect-cancelled = rw marked-fits
+
+-- interrupt, start 16380: now 4, pending; now 5, passed
+pub collect-eight : collectRow (collected (oneRequest 3 3 0 16380 0) 4 (seen 0 0 20000) 0 1) ≡ 9 ∷ 0 ∷ 0 ∷ 0x200082 ∷ 7 ∷ 3 ∷ 0 ∷ 16380 ∷ 0 ∷ 1 ∷ []
+unfolding collectOf linkedOf unlinkingOf finishOf freed clearOf outcomeOf endpointAt decoded slotAt unlinkOf waitingOf boundedOf unlinkedOf ringOf detachOf predecessorOf endedOverlay putAt withEndpoint withSlot withOwner withBell noWrites andThen
+collect-eight = rw frames-fits
+
+pub collect-nine : collectRow (collected (oneRequest 3 3 0 16380 0) 5 (seen 0 0 20000) 0 1) ≡ 0 ∷ 20000 ∷ 0 ∷ 0x200082 ∷ 1 ∷ 1 ∷ 0 ∷ 0 ∷ 0 ∷ 0 ∷ []
+unfolding collectOf linkedOf unlinkingOf finishOf freed clearOf outcomeOf endpointAt decoded slotAt unlinkOf waitingOf boundedOf unlinkedOf ringOf detachOf predecessorOf endedOverlay putAt withEndpoint withSlot withOwner withBell noWrites andThen
+collect-nine = rw frames-fits
+
+-- a wrong id
+pub collect-wrong-id : collectRow (collected (oneRequest 3 2 0 0 0) 0 (seen 0 0 20000) 0 2) ≡ 3 ∷ 0 ∷ 0 ∷ 0x200082 ∷ 7 ∷ 3 ∷ 0 ∷ 0 ∷ 0 ∷ 1 ∷ []
+unfolding collectOf linkedOf unlinkingOf finishOf freed clearOf outcomeOf endpointAt decoded slotAt unlinkOf waitingOf boundedOf unlinkedOf ringOf detachOf predecessorOf endedOverlay putAt withEndpoint withSlot withOwner withBell noWrites andThen
+collect-wrong-id = rw passed-fits
+
+-- a closed slot
+pub collect-closed-slot : collectRow (collected (oneRequest 3 2 0 0 0) 0 (seen 0 0 20000) 1 1) ≡ 3 ∷ 0 ∷ 0 ∷ 0x200082 ∷ 7 ∷ 3 ∷ 0 ∷ 0 ∷ 0 ∷ 1 ∷ []
+unfolding collectOf linkedOf unlinkingOf finishOf freed clearOf outcomeOf endpointAt decoded slotAt unlinkOf waitingOf boundedOf unlinkedOf ringOf detachOf predecessorOf endedOverlay putAt withEndpoint withSlot withOwner withBell noWrites andThen
+collect-closed-slot = rw passed-fits

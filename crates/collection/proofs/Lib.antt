@@ -1,0 +1,13 @@
+pub mod AnswerCases
+pub mod AskCases
+pub mod AskLaws
+pub mod UnlinkCases
+pub mod SlotFacts
+pub mod CallCases
+pub mod Splits
+pub mod FreedLaws
+pub mod RangeLaws
+pub mod StayLaws
+pub mod CollectLaws
+pub mod CallLaws
+pub mod Examples

@@ -1,0 +1,13 @@
+use Rattle.collection.proofs.AnswerCases.{collect-refused}
+use borrow.Author.Needs.{needs}
+use Rattle.collection.proofs.answer.refuse_collect.Statement.{statement}
+use Rattle.collection.proofs.answer.refuse_collect.Tie as tie
+
+none-requires : tie.Need-none-requires
+none-requires c κs = search needs
+
+returns : tie.Need-returns
+returns c = search collect-refused
+
+pub refuse-collect-spec : {M : Type 1} → statement M
+refuse-collect-spec = tie.close (tie.spec none-requires returns)

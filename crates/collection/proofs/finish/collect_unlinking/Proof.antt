@@ -1,0 +1,37 @@
+use Rattle.collection.proofs.CallCases.{unlinking-ends, unlinking-waits}
+use borrow.Author.Needs.{needs}
+use Rattle.collection.proofs.finish.collect_unlinking.Statement.{statement}
+use Rattle.collection.proofs.finish.collect_unlinking.Tie as tie
+
+passed-requires : tie.Need-passed-requires
+passed-requires c κs = search needs
+
+still-pending-requires : tie.Need-still-pending-requires
+still-pending-requires c κs = search needs
+
+returns : tie.Need-returns
+returns c = search unlinking-waits
+
+end-overlay-requires : tie.Need-end-overlay-requires
+end-overlay-requires c κs = search needs
+
+finish-requires : tie.Need-finish-requires
+finish-requires c κs = search needs
+
+same-length : tie.Need-same-length
+same-length c = search needs
+
+returns-2 : tie.Need-returns-2
+returns-2 c = search unlinking-ends
+
+pub collect-unlinking-spec : {M : Type 1} → statement M
+collect-unlinking-spec =
+    tie.close
+    (tie.spec
+    passed-requires
+    still-pending-requires
+    returns
+    end-overlay-requires
+    finish-requires
+    same-length
+    returns-2)

@@ -1,0 +1,45 @@
+-- Which records a collect looks at: those of the slot's request, in the order of their places.
+use Prim.Native.Nat.{ℕ, _+_}
+use mathlib.Core.Bool.{Bool, true, false}
+use mathlib.Core.List.{[], _∷_}
+use lib.Dec.{eqb, leb, ltb}
+use lib.ListN.{take}
+use Rattle.pool.specs.Chains.{noAsk}
+use Rattle.pool.specs.Places.{packed, placesFrom}
+use Rattle.pool.specs.declared.chain.Ask.{Ask}
+use Rattle.settings.specs.Tests.{every}
+use Rattle.settings.specs.declared.settings.Settings.{Settings}
+use Rattle.state.specs.declared.state.Ehci.{Ehci}
+use Rattle.controller.specs.Endpoints.{endpointAt}
+use Rattle.controller.specs.declared.endpoint.Endpoint.{Endpoint}
+use Rattle.controller.specs.declared.endpoint.Endpoint.the-variants.{Closed, Idle, Linked, Unlinking}
+use Rattle.controller.specs.declared.endpoint.Pipe.{Pipe}
+use Rattle.controller.specs.declared.endpoint.Request.{Request}
+
+-- what a state in its ranges, a pool that fits and the number of a slot have
+unfoldable pub askable : Settings → ℕ → ℕ → Bool
+askable s pool slot =
+    every (leb (s .descriptors) 256 ∷ eqb (s .descriptors) pool ∷ leb (s .limit) 16384 ∷ ltb slot 32 ∷ [])
+
+-- the places that the slot owns, among the pool's
+unfoldable pub requestAsk : Ehci → ℕ → Pipe → Request → Ask
+requestAsk s slot p r =
+    record {
+      places = packed (placesFrom 0 (take (s .settings .descriptors) (s .owner)) (slot + 1) 256);
+      kind = p .kind;
+      length = r .length;
+      limit = s .settings .limit;
+    }
+
+abbrev pub askAt : Endpoint → Ehci → ℕ → Ask
+askAt Closed s slot = noAsk
+askAt (Idle p) s slot = noAsk
+askAt (Linked p r) s slot = requestAsk s slot p r
+askAt (Unlinking p r b) s slot = requestAsk s slot p r
+
+abbrev pub askIf : Bool → Ask → Ask
+askIf true a = a
+askIf false a = noAsk
+
+unfoldable pub askOf : Ehci → ℕ → ℕ → Ask
+askOf s pool slot = askIf (askable (s .settings) pool slot) (askAt (endpointAt s slot) s slot)

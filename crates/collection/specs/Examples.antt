@@ -1,0 +1,83 @@
+-- Cancel and collect on one controller: what the definitions give beside what document 01 says.
+use Prim.Native.Nat.{ℕ}
+use mathlib.Core.List.{List, [], _∷_, _++_}
+use lib.ListN.{getD, replicate}
+use Rattle.pool.specs.declared.chain.View.{View}
+use Rattle.settings.specs.declared.settings.Settings.{Settings}
+use Rattle.state.specs.declared.state.Ehci.{Ehci}
+use Rattle.controller.specs.Answers.{numberOf}
+use Rattle.controller.specs.declared.lent.Readings.{Readings}
+use Rattle.collection.specs.Answers.{collectedNumber, collectedValue}
+use Rattle.collection.specs.Unlinks.{Left}
+use Rattle.collection.specs.Calls.{Gathered, cancelOf, collectOf}
+
+abbrev pub fewSettings : Settings
+fewSettings =
+    record {
+      descriptors = 4;
+      endpoints = 2;
+      ports = 1;
+      limit = 16384;
+      wait = 1;
+      pool = 0x100000;
+      heads = 0x200000;
+      frames = 0x300000;
+      setups = 0x400000;
+    }
+
+-- slot 0 has request 1, In, 20000 bytes in places 0 and 1; phase, kind, cancelled, boundary and unanswered unlinks as given
+abbrev pub oneRequest : ℕ → ℕ → ℕ → ℕ → ℕ → Ehci
+oneRequest phase kind cancel boundary unanswered =
+    record {
+      settings = fewSettings;
+      running = 1;
+      step = 0;
+      waited = 0;
+      address = 1;
+      enabled = 1;
+      pending = 0;
+      masked = 0;
+      noted = 0;
+      doorbell = 0;
+      unanswered = unanswered;
+      owner = 1 ∷ 1 ∷ replicate 254 0;
+      phases = phase ∷ replicate 31 0;
+      kinds = kind ∷ replicate 31 0;
+      ids = 2 ∷ replicate 31 1;
+      requests = 1 ∷ replicate 31 0;
+      directions = 1 ∷ replicate 31 0;
+      lengths = 20000 ∷ replicate 31 0;
+      cancels = cancel ∷ replicate 31 0;
+      boundaries = boundary ∷ replicate 31 0;
+    }
+
+-- the ring head leads to slot 0's head, and that back to the ring head
+abbrev pub ringOfOne : List ℕ
+ringOfOne = 0x200082 ∷ (replicate 16 0 ++ (0x200002 ∷ replicate 33 7))
+
+abbrev pub noFrames : List ℕ
+noFrames = replicate 1024 1
+
+abbrev pub readings : ℕ → Readings
+readings frame = record { command = 0x31; frame = frame }
+
+abbrev pub seen : ℕ → ℕ → ℕ → View
+seen stage failed moved = record { stage = stage; failed = failed; moved = moved }
+
+abbrev pub cancelled : Ehci → ℕ → ℕ → Left
+cancelled s slot id = cancelOf s 4 ringOfOne noFrames 16 (readings 0) slot id
+
+abbrev pub collected : Ehci → ℕ → View → ℕ → ℕ → Gathered
+collected s frame view slot id = collectOf s 4 ringOfOne noFrames 16 (readings frame) view slot id
+
+-- answer; the slot's phase, its mark and boundary, unanswered; the ring head's link
+abbrev pub stateRow : Ehci → List ℕ
+stateRow s = getD (s .phases) 0 0 ∷ getD (s .cancels) 0 0 ∷ getD (s .boundaries) 0 0 ∷ s .unanswered ∷ getD (s .owner) 0 0 ∷ []
+
+abbrev pub cancelRow : Left → List ℕ
+cancelRow l = numberOf (l .came .answer) ∷ l .came .writes .count ∷ getD (l .rows .heads) 0 0 ∷ stateRow (l .came .state)
+
+abbrev pub collectRow : Gathered → List ℕ
+collectRow g =
+    collectedNumber (g .came .answer) ∷ collectedValue (g .came .answer) ∷ g .came .writes .count
+    ∷ getD (g .rows .heads) 0 0 ∷ getD (g .rows .heads) 21 0 ∷ stateRow (g .came .state)

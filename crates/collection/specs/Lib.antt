@@ -1,0 +1,5 @@
+pub mod Answers
+pub mod Unlinks
+pub mod Asks
+pub mod Calls
+pub mod Examples

@@ -1,0 +1,102 @@
+// What cancel and collect answer.
+ghost use mathlib.Core.Path.{_≡_};
+ghost use Rattle.collection.specs.Answers.{collectedNumber, pendingOf, outcomeOf, refusedCancel, refusedCollect, pendingCollect};
+use controller::answer::Answer;
+use controller::answer::Refusal;
+use pool::chain::View;
+use register::writes::Writes;
+use state::state::Ehci;
+
+// What a request that is complete gives: how many bytes were moved.
+pub struct Completion {
+    pub length: u64,
+}
+
+pub enum Collected {
+    Complete(Completion),
+    Pending,
+    Cancelled,
+    Failed(u32),
+    Refused(Refusal),
+}
+
+// What a cancel leaves, and an unlink.
+pub struct Cancellation {
+    pub answer: Answer,
+    pub state: Ehci,
+    pub writes: Writes,
+}
+
+pub struct Collection {
+    pub answer: Collected,
+    pub state: Ehci,
+    pub writes: Writes,
+}
+
+impl Collected {
+    pub fn number(self) -> u8
+        ensures { λ r. ⌜ r ≡ collectedNumber self ⌝ }
+    {
+        match self {
+            Collected::Complete(_) => 0,
+            Collected::Pending => 9,
+            Collected::Cancelled => 10,
+            Collected::Failed(_) => 11,
+            Collected::Refused(refusal) => refusal.number(),
+        }
+    }
+}
+
+// The answer of a collect that unlinks.
+pub fn pending_of(answer: Answer) -> Collected
+    ensures { λ r. ⌜ r ≡ pendingOf answer ⌝ }
+{
+    match answer {
+        Answer::Done => Collected::Pending,
+        Answer::Refused(refusal) => Collected::Refused(refusal),
+    }
+}
+
+// The answer of a collect whose boundary has passed.
+pub fn outcome_of(cancelled: bool, view: View) -> Collected
+    ensures { λ r. ⌜ r ≡ outcomeOf cancelled view ⌝ }
+{
+    if cancelled {
+        return Collected::Cancelled;
+    }
+    let failed = view.failed;
+    if failed != 0 {
+        return Collected::Failed(failed);
+    }
+    Collected::Complete(Completion { length: view.moved })
+}
+
+pub fn refuse_cancel(state: Ehci, refusal: Refusal) -> Cancellation
+    ensures { λ r. ⌜ r ≡ refusedCancel state refusal ⌝ }
+{
+    Cancellation {
+        answer: Answer::Refused(refusal),
+        state,
+        writes: Writes::none(),
+    }
+}
+
+pub fn refuse_collect(state: Ehci, refusal: Refusal) -> Collection
+    ensures { λ r. ⌜ r ≡ refusedCollect state refusal ⌝ }
+{
+    Collection {
+        answer: Collected::Refused(refusal),
+        state,
+        writes: Writes::none(),
+    }
+}
+
+pub fn still_pending(state: Ehci) -> Collection
+    ensures { λ r. ⌜ r ≡ pendingCollect state ⌝ }
+{
+    Collection {
+        answer: Collected::Pending,
+        state,
+        writes: Writes::none(),
+    }
+}
