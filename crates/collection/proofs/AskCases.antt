@@ -17,12 +17,12 @@ use Rattle.settings.specs.declared.settings.Settings.{Settings}
 use Rattle.settings.proofs.Every.{every-4}
 use Rattle.settings.proofs.SettingsLaws.{both-tells}
 use Rattle.state.specs.declared.state.Ehci.{Ehci}
-use Rattle.controller.specs.Endpoints.{endpointAt}
-use Rattle.controller.specs.declared.endpoint.Endpoint.{Endpoint}
-use Rattle.controller.specs.declared.endpoint.Endpoint.the-variants.{Closed, Idle, Linked, Unlinking}
-use Rattle.controller.specs.declared.endpoint.Pipe.{Pipe}
-use Rattle.controller.specs.declared.endpoint.Request.{Request}
-use Rattle.controller.specs.declared.endpoint.UnlinkBoundary.{UnlinkBoundary}
+use Rattle.pipe.specs.Endpoints.{endpointAt}
+use Rattle.pipe.specs.declared.endpoint.Endpoint.{Endpoint}
+use Rattle.pipe.specs.declared.endpoint.Endpoint.the-variants.{Closed, Idle, Linked, Unlinking}
+use Rattle.pipe.specs.declared.endpoint.Pipe.{Pipe}
+use Rattle.pipe.specs.declared.endpoint.Request.{Request}
+use Rattle.pipe.specs.declared.endpoint.UnlinkBoundary.{UnlinkBoundary}
 use Rattle.collection.specs.Asks.{askable, askOf, requestAsk}
 
 pub front : (d : ℕ) (o : List ℕ) → d ≤ length o → d ≡ length (take d o)

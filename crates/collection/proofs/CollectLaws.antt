@@ -16,15 +16,15 @@ use Rattle.pool.proofs.PlaceLaws.{clear-none, clear-others, places-none}
 use Rattle.state.specs.declared.state.Ehci.{Ehci}
 use Rattle.state.specs.Slots.{withSlot}
 use Rattle.state.specs.State.{withOwner}
-use Rattle.controller.specs.Endpoints.{endpointAt, withEndpoint}
+use Rattle.pipe.specs.Endpoints.{endpointAt, withEndpoint}
 use Rattle.controller.specs.Lent.{acceptsOf}
-use Rattle.controller.specs.Rows.{headWord, putAt}
-use Rattle.controller.specs.declared.endpoint.Endpoint.the-variants.{Idle, Unlinking}
-use Rattle.controller.specs.declared.endpoint.Pipe.{Pipe}
-use Rattle.controller.specs.declared.endpoint.Request.{Request}
-use Rattle.controller.specs.declared.endpoint.UnlinkBoundary.{UnlinkBoundary}
+use Rattle.opening.specs.Rows.{headWord, putAt}
+use Rattle.pipe.specs.declared.endpoint.Endpoint.the-variants.{Idle, Unlinking}
+use Rattle.pipe.specs.declared.endpoint.Pipe.{Pipe}
+use Rattle.pipe.specs.declared.endpoint.Request.{Request}
+use Rattle.pipe.specs.declared.endpoint.UnlinkBoundary.{UnlinkBoundary}
 use Rattle.controller.specs.declared.lent.Readings.{Readings}
-use Rattle.controller.proofs.EndpointLaws.{Wide, endpoint-same}
+use Rattle.pipe.proofs.EndpointLaws.{Wide, endpoint-same}
 use Rattle.schedule.specs.Links.{endedOverlay, endedWords}
 use Rattle.collection.specs.declared.answer.Collected.{Collected}
 use Rattle.collection.specs.declared.answer.Collected.the-variants.{Complete, Pending, Cancelled, Failed, Refused}

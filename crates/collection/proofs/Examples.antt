@@ -10,10 +10,10 @@ use Rattle.slot.specs.Ranges.{slotGood, phaseGood, closedGood, noRequest, idleG
 use Rattle.state.specs.Ranges.{inRanges, restGood, machineGood, interruptGood, doorbellGood, ownerGood, largest, slotsGood}
 use Rattle.state.specs.Slots.{slotAt, withSlot}
 use Rattle.state.specs.State.{withBell, withOwner}
-use Rattle.controller.specs.Endpoints.{decoded, endpointAt, withEndpoint}
+use Rattle.pipe.specs.Endpoints.{decoded, endpointAt, withEndpoint}
 use Rattle.controller.specs.Lent.{acceptsOf}
-use Rattle.controller.specs.Opening.{rowsFit}
-use Rattle.controller.specs.Rows.{putAt}
+use Rattle.opening.specs.Opening.{rowsFit}
+use Rattle.opening.specs.Rows.{putAt}
 use Rattle.schedule.specs.Bell.{ringOf, unlinkedOf}
 use Rattle.schedule.specs.Links.{detachOf, endedOverlay, predecessorOf}
 use Rattle.collection.specs.Answers.{outcomeOf}

@@ -18,15 +18,15 @@ use Rattle.state.specs.Ranges.{inRanges}
 use Rattle.state.specs.Slots.{slotAt}
 use Rattle.state.specs.State.{withBell, withOwner}
 use Rattle.state.proofs.RangesLaws.{Ranges, ranges-make, ranges-tell}
-use Rattle.controller.specs.Endpoints.{endpointAt}
+use Rattle.pipe.specs.Endpoints.{endpointAt}
 use Rattle.controller.specs.Readers.{hasEndpoint}
-use Rattle.controller.specs.declared.endpoint.Endpoint.{Endpoint}
-use Rattle.controller.specs.declared.endpoint.Endpoint.the-variants.{Idle, Linked, Unlinking}
-use Rattle.controller.specs.declared.endpoint.Pipe.{Pipe}
-use Rattle.controller.specs.declared.endpoint.Request.{Request}
-use Rattle.controller.specs.declared.endpoint.UnlinkBoundary.{UnlinkBoundary}
+use Rattle.pipe.specs.declared.endpoint.Endpoint.{Endpoint}
+use Rattle.pipe.specs.declared.endpoint.Endpoint.the-variants.{Idle, Linked, Unlinking}
+use Rattle.pipe.specs.declared.endpoint.Pipe.{Pipe}
+use Rattle.pipe.specs.declared.endpoint.Request.{Request}
+use Rattle.pipe.specs.declared.endpoint.UnlinkBoundary.{UnlinkBoundary}
 use Rattle.controller.specs.declared.lent.Readings.{Readings}
-use Rattle.controller.proofs.EndpointLaws.{EndpointGood, LinkedGood, OpenPipe, UnlinkingGood, Passable, Suits, Wide, endpoint-keeps}
+use Rattle.pipe.proofs.EndpointLaws.{EndpointGood, LinkedGood, OpenPipe, UnlinkingGood, Passable, Suits, Wide, endpoint-keeps}
 use Rattle.schedule.specs.Bell.{mustRing, ringOf, rungIf, unlinkedOf}
 use Rattle.schedule.specs.declared.bell.Bell.{Bell}
 use Rattle.collection.specs.Unlinks.{Left, bellOf, boundedOf, unlinkOf, waitingOf}

@@ -11,17 +11,17 @@ use Rattle.slot.proofs.SlotLaws.{slot-tells}
 use Rattle.state.specs.declared.state.Ehci.{Ehci}
 use Rattle.state.specs.Slots.{slotAt}
 use Rattle.state.proofs.RangesLaws.{Ranges}
-use Rattle.controller.specs.Endpoints.{endpointAt}
+use Rattle.pipe.specs.Endpoints.{endpointAt}
 use Rattle.controller.specs.Lent.{acceptsOf}
 use Rattle.controller.specs.Readers.{hasEndpoint, isOpen}
-use Rattle.controller.specs.declared.endpoint.Endpoint.{Endpoint}
-use Rattle.controller.specs.declared.endpoint.Endpoint.the-variants.{Closed, Linked, Unlinking}
-use Rattle.controller.specs.declared.endpoint.Pipe.{Pipe}
-use Rattle.controller.specs.declared.endpoint.Request.{Request}
-use Rattle.controller.specs.declared.endpoint.UnlinkBoundary.{UnlinkBoundary}
-use Rattle.controller.specs.declared.endpoint.UnlinkBoundary.the-variants.{Async, Periodic}
-use Rattle.controller.proofs.EndpointCases.{decode-closed}
-use Rattle.controller.proofs.EndpointLaws.{EndpointGood, Passable, endpoint-tells}
+use Rattle.pipe.specs.declared.endpoint.Endpoint.{Endpoint}
+use Rattle.pipe.specs.declared.endpoint.Endpoint.the-variants.{Closed, Linked, Unlinking}
+use Rattle.pipe.specs.declared.endpoint.Pipe.{Pipe}
+use Rattle.pipe.specs.declared.endpoint.Request.{Request}
+use Rattle.pipe.specs.declared.endpoint.UnlinkBoundary.{UnlinkBoundary}
+use Rattle.pipe.specs.declared.endpoint.UnlinkBoundary.the-variants.{Async, Periodic}
+use Rattle.pipe.proofs.EndpointCases.{decode-closed}
+use Rattle.pipe.proofs.EndpointLaws.{EndpointGood, Passable, endpoint-tells}
 use Rattle.controller.proofs.LentLaws.{Accepted, accepts-tells}
 use Rattle.collection.specs.Unlinks.{frameBelow}
 use Rattle.collection.specs.Calls.{lengthsOf}

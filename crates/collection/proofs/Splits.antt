@@ -7,15 +7,15 @@ use borrow.Author.Tests.{eqb-false, eqb-true, leb-false}
 use lib.Dec.{eqb, leb}
 use Rattle.pool.specs.declared.chain.View.{View}
 use Rattle.state.specs.declared.state.Ehci.{Ehci}
-use Rattle.controller.specs.Endpoints.{endpointAt}
+use Rattle.pipe.specs.Endpoints.{endpointAt}
 use Rattle.controller.specs.Lent.{acceptsOf}
-use Rattle.controller.specs.declared.answer.Refusal.{Refusal}
-use Rattle.controller.specs.declared.answer.Refusal.the-variants.{InvalidEndpoint, InvalidParameter}
-use Rattle.controller.specs.declared.endpoint.Endpoint.{Endpoint}
-use Rattle.controller.specs.declared.endpoint.Endpoint.the-variants.{Closed, Idle, Linked, Unlinking}
-use Rattle.controller.specs.declared.endpoint.Pipe.{Pipe}
-use Rattle.controller.specs.declared.endpoint.Request.{Request}
-use Rattle.controller.specs.declared.endpoint.UnlinkBoundary.{UnlinkBoundary}
+use Rattle.answer.specs.declared.answer.Refusal.{Refusal}
+use Rattle.answer.specs.declared.answer.Refusal.the-variants.{InvalidEndpoint, InvalidParameter}
+use Rattle.pipe.specs.declared.endpoint.Endpoint.{Endpoint}
+use Rattle.pipe.specs.declared.endpoint.Endpoint.the-variants.{Closed, Idle, Linked, Unlinking}
+use Rattle.pipe.specs.declared.endpoint.Pipe.{Pipe}
+use Rattle.pipe.specs.declared.endpoint.Request.{Request}
+use Rattle.pipe.specs.declared.endpoint.UnlinkBoundary.{UnlinkBoundary}
 use Rattle.controller.specs.declared.lent.Readings.{Readings}
 use Rattle.schedule.specs.Links.{detachOf, endedOverlay}
 use Rattle.collection.specs.Answers.{pendingCollect, refusedCancel, refusedCollect}

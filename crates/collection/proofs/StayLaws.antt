@@ -11,13 +11,13 @@ use Rattle.pool.specs.declared.chain.View.{View}
 use Rattle.state.specs.declared.state.Ehci.{Ehci}
 use Rattle.state.specs.Slots.{slotAt, withSlot}
 use Rattle.state.specs.State.{withBell, withOwner}
-use Rattle.controller.specs.Endpoints.{endpointAt, withEndpoint}
-use Rattle.controller.specs.Rows.{headWord}
-use Rattle.controller.specs.declared.endpoint.Endpoint.{Endpoint}
-use Rattle.controller.specs.declared.endpoint.Pipe.{Pipe}
-use Rattle.controller.specs.declared.endpoint.Request.{Request}
+use Rattle.pipe.specs.Endpoints.{endpointAt, withEndpoint}
+use Rattle.opening.specs.Rows.{headWord}
+use Rattle.pipe.specs.declared.endpoint.Endpoint.{Endpoint}
+use Rattle.pipe.specs.declared.endpoint.Pipe.{Pipe}
+use Rattle.pipe.specs.declared.endpoint.Request.{Request}
 use Rattle.controller.specs.declared.lent.Readings.{Readings}
-use Rattle.controller.proofs.EndpointLaws.{endpoint-other}
+use Rattle.pipe.proofs.EndpointLaws.{endpoint-other}
 use Rattle.schedule.specs.Links.{Links, detachOf, givenLink, linkWord, links, periodic, predecessorOf}
 use Rattle.schedule.specs.declared.links.Predecessor.{Predecessor}
 use Rattle.schedule.specs.declared.links.Predecessor.the-variants.{First, Head, Missing}

@@ -13,17 +13,17 @@ use Rattle.settings.specs.Tests.{both}
 use Rattle.settings.proofs.Every.{every-3}
 use Rattle.settings.proofs.SettingsLaws.{both-tells}
 use Rattle.state.specs.declared.state.Ehci.{Ehci}
-use Rattle.controller.specs.declared.answer.Answer.{Answer}
-use Rattle.controller.specs.declared.answer.Answer.the-variants.{Done, Refused as RefusedCall}
-use Rattle.controller.specs.declared.answer.Refusal.{Refusal}
-use Rattle.controller.specs.declared.answer.Refusal.the-variants.{InvalidParameter, SlotLimitReached, InvalidEndpoint, QueueFull, NotSupported}
-use Rattle.controller.specs.declared.endpoint.Endpoint.the-variants.{Closed}
+use Rattle.answer.specs.declared.answer.Answer.{Answer}
+use Rattle.answer.specs.declared.answer.Answer.the-variants.{Done, Refused as RefusedCall}
+use Rattle.answer.specs.declared.answer.Refusal.{Refusal}
+use Rattle.answer.specs.declared.answer.Refusal.the-variants.{InvalidParameter, SlotLimitReached, InvalidEndpoint, QueueFull, NotSupported}
+use Rattle.pipe.specs.declared.endpoint.Endpoint.the-variants.{Closed}
 use Rattle.controller.specs.declared.lent.Lengths.{Lengths}
-use Rattle.controller.specs.Answers.{Verdict, first, orElse, settle}
-use Rattle.controller.specs.Endpoints.{withEndpoint}
+use Rattle.answer.specs.Answers.{Verdict, first, orElse, settle}
+use Rattle.pipe.specs.Endpoints.{withEndpoint}
 use Rattle.controller.specs.Lent.{acceptsOf}
 use Rattle.controller.specs.Readers.{isOpen, isUncollected}
-use Rattle.controller.specs.Rows.{headWord, withHeadWord}
+use Rattle.opening.specs.Rows.{headWord, withHeadWord}
 use Rattle.controller.proofs.LentLaws.{accepts-tells}
 use Rattle.endpoint.specs.declared.calls.Opened.{Opened}
 use Rattle.endpoint.specs.declared.calls.Opened.the-variants.{Slot, Refused}

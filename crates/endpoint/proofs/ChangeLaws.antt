@@ -15,15 +15,15 @@ use Rattle.descriptor.proofs.HeadFields.{address-reads, Characteristics, packet
 use Rattle.state.specs.declared.state.Ehci.{Ehci}
 use Rattle.state.specs.Ranges.{inRanges}
 use Rattle.state.proofs.RangesLaws.{ranges-make, ranges-tell}
-use Rattle.controller.specs.declared.answer.Answer.{Answer}
-use Rattle.controller.specs.declared.answer.Answer.the-variants.{Done, Refused}
-use Rattle.controller.specs.declared.answer.Refusal.{Refusal}
-use Rattle.controller.specs.declared.endpoint.Endpoint.the-variants.{Closed}
-use Rattle.controller.specs.Endpoints.{encoded, endpointAt, withEndpoint}
+use Rattle.answer.specs.declared.answer.Answer.{Answer}
+use Rattle.answer.specs.declared.answer.Answer.the-variants.{Done, Refused}
+use Rattle.answer.specs.declared.answer.Refusal.{Refusal}
+use Rattle.pipe.specs.declared.endpoint.Endpoint.the-variants.{Closed}
+use Rattle.pipe.specs.Endpoints.{encoded, endpointAt, withEndpoint}
 use Rattle.controller.specs.Lent.{acceptsOf}
 use Rattle.controller.specs.Readers.{isOpen, isUncollected}
-use Rattle.controller.specs.Rows.{headWord, withHeadWord}
-use Rattle.controller.proofs.EndpointLaws.{endpoint-keeps, endpoint-other, endpoint-same, slot-wide, Wide}
+use Rattle.opening.specs.Rows.{headWord, withHeadWord}
+use Rattle.pipe.proofs.EndpointLaws.{endpoint-keeps, endpoint-other, endpoint-same, slot-wide, Wide}
 use Rattle.controller.proofs.LentLaws.{accepts-tells}
 use Rattle.endpoint.specs.Calls.{changeLeft, ChangeLeft, changeOf, closeOf, judgedOf, lentRows, setAddressOf, setPacketSizeOf, withHead}
 use Rattle.endpoint.proofs.Cases.{change-done, change-passed, change-refused, passes, verdictOf}

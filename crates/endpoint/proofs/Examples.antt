@@ -13,13 +13,13 @@ use Rattle.slot.specs.Ranges.{slotGood, phaseGood, closedGood, idleGood, linked
 use Rattle.state.specs.declared.state.Ehci.{Ehci}
 use Rattle.state.specs.Ranges.{inRanges, restGood, machineGood, interruptGood, doorbellGood, ownerGood, largest, slotsGood}
 use Rattle.state.specs.Slots.{slotAt, withSlot}
-use Rattle.controller.specs.declared.answer.Answer.the-variants.{Done}
-use Rattle.controller.specs.Answers.{numberOf}
+use Rattle.answer.specs.declared.answer.Answer.the-variants.{Done}
+use Rattle.answer.specs.Answers.{numberOf}
 use Rattle.controller.specs.declared.lent.Lengths.{Lengths}
-use Rattle.controller.specs.Endpoints.{decoded, endpointAt, withEndpoint}
+use Rattle.pipe.specs.Endpoints.{decoded, endpointAt, withEndpoint}
 use Rattle.controller.specs.Lent.{acceptsOf}
-use Rattle.controller.specs.Opening.{freshState, rowsFit}
-use Rattle.controller.specs.Rows.{putAt}
+use Rattle.opening.specs.Opening.{freshState, rowsFit}
+use Rattle.opening.specs.Rows.{putAt}
 use Rattle.endpoint.specs.declared.calls.Opened.the-variants.{Slot}
 use Rattle.endpoint.specs.Lowest.{closedFrom}
 use Rattle.endpoint.specs.Calls.{changeLeft, ChangeLeft, closeOf, fieldsGood, openChecks, openedNumber, openEndpointOf, openLeft, OpenLeft, setAddressOf, setPacketSizeOf, slotChecks}

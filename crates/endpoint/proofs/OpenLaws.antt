@@ -17,14 +17,14 @@ use Rattle.settings.proofs.SettingsLaws.{both-tells}
 use Rattle.state.specs.declared.state.Ehci.{Ehci}
 use Rattle.state.specs.Ranges.{inRanges}
 use Rattle.state.proofs.RangesLaws.{Ranges, ranges-make, ranges-tell}
-use Rattle.controller.specs.declared.answer.Refusal.{Refusal}
-use Rattle.controller.specs.declared.answer.Refusal.the-variants.{SlotLimitReached}
-use Rattle.controller.specs.declared.endpoint.Endpoint.the-variants.{Closed}
-use Rattle.controller.specs.Endpoints.{encoded, endpointAt, flagNumber, withEndpoint}
+use Rattle.answer.specs.declared.answer.Refusal.{Refusal}
+use Rattle.answer.specs.declared.answer.Refusal.the-variants.{SlotLimitReached}
+use Rattle.pipe.specs.declared.endpoint.Endpoint.the-variants.{Closed}
+use Rattle.pipe.specs.Endpoints.{encoded, endpointAt, flagNumber, withEndpoint}
 use Rattle.controller.specs.Lent.{acceptsOf}
 use Rattle.controller.specs.Readers.{hasEndpoint, isOpen}
-use Rattle.controller.specs.Rows.{headWord}
-use Rattle.controller.proofs.EndpointLaws.{endpoint-keeps, endpoint-other, endpoint-same, slot-wide, Wide}
+use Rattle.opening.specs.Rows.{headWord}
+use Rattle.pipe.proofs.EndpointLaws.{endpoint-keeps, endpoint-other, endpoint-same, slot-wide, Wide}
 use Rattle.controller.proofs.LentLaws.{accepts-tells}
 use Rattle.endpoint.specs.declared.calls.Opened.{Opened}
 use Rattle.endpoint.specs.declared.calls.Opened.the-variants.{Slot, Refused}

@@ -9,7 +9,7 @@ use borrow.Author.Tests.{ltb-false, ltb-true}
 use lib.Dec.{ltb}
 use lib.ListN.{drop, getD, length, length-append, length-drop, length-set, List·getD-append, set, take}
 use lib.Seq.{getD-append-add, getD-drop, getD-set-other, getD-take, length-take-le}
-use Rattle.controller.specs.Rows.{headWord, putAt}
+use Rattle.opening.specs.Rows.{headWord, putAt}
 
 -- a row that is as another but for n words from a place on
 pub record Only (at n : ℕ) (old new : List ℕ) : Type 0 where

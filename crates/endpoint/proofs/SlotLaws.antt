@@ -11,12 +11,12 @@ use Rattle.slot.proofs.SlotLaws.{slot-tells}
 use Rattle.state.specs.declared.state.Ehci.{Ehci}
 use Rattle.state.specs.Slots.{slotAt}
 use Rattle.state.proofs.RangesLaws.{Ranges}
-use Rattle.controller.specs.declared.endpoint.Endpoint.{Endpoint}
-use Rattle.controller.specs.declared.endpoint.Endpoint.the-variants.{Closed}
-use Rattle.controller.specs.Endpoints.{endpointAt, flagNumber}
+use Rattle.pipe.specs.declared.endpoint.Endpoint.{Endpoint}
+use Rattle.pipe.specs.declared.endpoint.Endpoint.the-variants.{Closed}
+use Rattle.pipe.specs.Endpoints.{endpointAt, flagNumber}
 use Rattle.controller.specs.Lent.{acceptsOf}
 use Rattle.controller.specs.Readers.{hasEndpoint, isOpen}
-use Rattle.controller.proofs.EndpointCases.{at-none, at-slot, decode-closed}
+use Rattle.pipe.proofs.EndpointCases.{at-none, at-slot, decode-closed}
 use Rattle.controller.proofs.LentLaws.{accepts-tells}
 use Rattle.endpoint.specs.Calls.{lentRows}
 

@@ -9,17 +9,17 @@ use Rattle.token.specs.declared.request.EndpointType.the-variants.{Control, Iso
 use Rattle.descriptor.specs.Heads.{endpointHead, wordsOf, withAddress, withPacketSize}
 use Rattle.settings.specs.Tests.{every, within}
 use Rattle.state.specs.declared.state.Ehci.{Ehci}
-use Rattle.controller.specs.declared.answer.Answer.{Answer}
-use Rattle.controller.specs.declared.answer.Answer.the-variants.{Done, Refused as RefusedCall}
-use Rattle.controller.specs.declared.answer.Refusal.the-variants.{InvalidParameter, SlotLimitReached, InvalidEndpoint, QueueFull, NotSupported}
-use Rattle.controller.specs.declared.endpoint.Endpoint.{Endpoint}
-use Rattle.controller.specs.declared.endpoint.Endpoint.the-variants.{Closed, Idle}
+use Rattle.answer.specs.declared.answer.Answer.{Answer}
+use Rattle.answer.specs.declared.answer.Answer.the-variants.{Done, Refused as RefusedCall}
+use Rattle.answer.specs.declared.answer.Refusal.the-variants.{InvalidParameter, SlotLimitReached, InvalidEndpoint, QueueFull, NotSupported}
+use Rattle.pipe.specs.declared.endpoint.Endpoint.{Endpoint}
+use Rattle.pipe.specs.declared.endpoint.Endpoint.the-variants.{Closed, Idle}
 use Rattle.controller.specs.declared.lent.Lengths.{Lengths}
-use Rattle.controller.specs.Answers.{Check, first, refusalNumber, settle}
-use Rattle.controller.specs.Endpoints.{withEndpoint}
+use Rattle.answer.specs.Answers.{Check, first, refusalNumber, settle}
+use Rattle.pipe.specs.Endpoints.{withEndpoint}
 use Rattle.controller.specs.Lent.{acceptsOf}
 use Rattle.controller.specs.Readers.{isOpen, isUncollected}
-use Rattle.controller.specs.Rows.{headWord, putAt, withHeadWord}
+use Rattle.opening.specs.Rows.{headWord, putAt, withHeadWord}
 use Rattle.endpoint.specs.declared.calls.Change.{Change}
 use Rattle.endpoint.specs.declared.calls.EndpointOpening.{EndpointOpening}
 use Rattle.endpoint.specs.declared.calls.Opened.{Opened}

@@ -17,19 +17,19 @@ ghost use Rattle.endpoint.specs.Calls.{
   setPacketSizeOf,
 };
 use crate::lowest::lowest_closed;
-use controller::answer::Answer;
-use controller::answer::Refusal;
-use controller::endpoint::Endpoint;
-use controller::endpoint::Pipe;
-use controller::endpoint::with_endpoint;
+use answer::answer::Answer;
+use answer::answer::Refusal;
 use controller::lent::Lengths;
 use controller::lent::accepts;
 use controller::readers::is_open;
 use controller::readers::uncollected;
-use controller::rows::put_head;
 use descriptor::head::QueueHead;
 use descriptor::head::set_device_address;
 use descriptor::head::set_max_packet_size;
+use opening::rows::put_head;
+use pipe::endpoint::Endpoint;
+use pipe::endpoint::Pipe;
+use pipe::endpoint::with_endpoint;
 use state::state::Ehci;
 use token::request::EndpointType;
 
