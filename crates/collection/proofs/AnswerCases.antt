@@ -9,9 +9,9 @@ use Rattle.state.specs.declared.state.Ehci.{Ehci}
 use Rattle.answer.specs.declared.answer.Answer.{Answer}
 use Rattle.answer.specs.declared.answer.Answer.the-variants.{Refused as RefusedCall}
 use Rattle.answer.specs.declared.answer.Refusal.{Refusal}
-use Rattle.collection.specs.declared.answer.Cancellation.{Cancellation}
-use Rattle.collection.specs.declared.answer.Collected.the-variants.{Complete, Pending, Cancelled, Failed, Refused}
-use Rattle.collection.specs.declared.answer.Collection.{Collection}
+use Rattle.collection.specs.declared.collected.Cancellation.{Cancellation}
+use Rattle.collection.specs.declared.collected.Collected.the-variants.{Complete, Pending, Cancelled, Failed, Refused}
+use Rattle.collection.specs.declared.collected.Collection.{Collection}
 use Rattle.collection.specs.Answers.{outcomeOf, pendingCollect, pendingOf, refusedCancel, refusedCollect}
 
 module _ (b : Bool) (v : View) where

@@ -22,9 +22,9 @@ use Rattle.pipe.specs.declared.endpoint.Request.{Request}
 use Rattle.pipe.specs.declared.endpoint.UnlinkBoundary.{UnlinkBoundary}
 use Rattle.controller.specs.declared.lent.Readings.{Readings}
 use Rattle.schedule.specs.Links.{endedOverlay}
-use Rattle.collection.specs.declared.answer.Cancellation.{Cancellation}
-use Rattle.collection.specs.declared.answer.Collected.{Collected}
-use Rattle.collection.specs.declared.answer.Collection.{Collection}
+use Rattle.collection.specs.declared.collected.Cancellation.{Cancellation}
+use Rattle.collection.specs.declared.collected.Collected.{Collected}
+use Rattle.collection.specs.declared.collected.Collection.{Collection}
 use Rattle.collection.specs.Answers.{outcomeOf, pendingCollect, pendingOf, refusedCancel, refusedCollect}
 use Rattle.collection.specs.Unlinks.{left, passedBoundary, unlinkOf}
 use Rattle.collection.specs.Calls.{Ended, cancelOf, collectOf, ended, finishOf, freed, gathered, lengthsOf, linkedOf, marked, markedOf, unlinkingOf}

@@ -28,8 +28,8 @@ use Rattle.controller.proofs.LentLaws.{accepts-tells}
 use Rattle.schedule.specs.Bell.{mustRing, ringOf, ringWord, rungIf, unlinkedOf}
 use Rattle.schedule.specs.Links.{endedOverlay}
 use Rattle.schedule.specs.declared.bell.Bell.{Bell}
-use Rattle.collection.specs.declared.answer.Collected.{Collected}
-use Rattle.collection.specs.declared.answer.Collected.the-variants.{Complete, Pending, Cancelled, Failed, Refused}
+use Rattle.collection.specs.declared.collected.Collected.{Collected}
+use Rattle.collection.specs.declared.collected.Collected.the-variants.{Complete, Pending, Cancelled, Failed, Refused}
 use Rattle.collection.specs.Answers.{outcomeOf, pendingCollect, refusedCancel, refusedCollect}
 use Rattle.collection.specs.Unlinks.{Left, bellOf, boundedOf, left, unlinkOf, waitingOf}
 use Rattle.collection.specs.Calls.{Gathered, cancelOf, collectOf, finishOf, gathered, lengthsOf, marked, pendingLeft}

@@ -26,9 +26,9 @@ use Rattle.pipe.specs.declared.endpoint.UnlinkBoundary.{UnlinkBoundary}
 use Rattle.controller.specs.declared.lent.Readings.{Readings}
 use Rattle.pipe.proofs.EndpointLaws.{Wide, endpoint-same}
 use Rattle.schedule.specs.Links.{endedOverlay, endedWords}
-use Rattle.collection.specs.declared.answer.Collected.{Collected}
-use Rattle.collection.specs.declared.answer.Collected.the-variants.{Complete, Pending, Cancelled, Failed, Refused}
-use Rattle.collection.specs.declared.answer.Completion.{Completion}
+use Rattle.collection.specs.declared.collected.Collected.{Collected}
+use Rattle.collection.specs.declared.collected.Collected.the-variants.{Complete, Pending, Cancelled, Failed, Refused}
+use Rattle.collection.specs.declared.collected.Completion.{Completion}
 use Rattle.collection.specs.Answers.{collectedNumber, outcomeOf, pendingCollect}
 use Rattle.collection.specs.Unlinks.{passedBoundary}
 use Rattle.collection.specs.Calls.{Gathered, collectOf, finishOf, freed, gathered, lengthsOf}

@@ -9,10 +9,10 @@ use Rattle.answer.specs.Answers.{refusalNumber}
 use Rattle.answer.specs.declared.answer.Answer.{Answer}
 use Rattle.answer.specs.declared.answer.Answer.the-variants.{Done, Refused as RefusedCall}
 use Rattle.answer.specs.declared.answer.Refusal.{Refusal}
-use Rattle.collection.specs.declared.answer.Cancellation.{Cancellation}
-use Rattle.collection.specs.declared.answer.Collected.{Collected}
-use Rattle.collection.specs.declared.answer.Collected.the-variants.{Complete, Pending, Cancelled, Failed, Refused}
-use Rattle.collection.specs.declared.answer.Collection.{Collection}
+use Rattle.collection.specs.declared.collected.Cancellation.{Cancellation}
+use Rattle.collection.specs.declared.collected.Collected.{Collected}
+use Rattle.collection.specs.declared.collected.Collected.the-variants.{Complete, Pending, Cancelled, Failed, Refused}
+use Rattle.collection.specs.declared.collected.Collection.{Collection}
 
 abbrev pub collectedNumber : Collected → ℕ
 collectedNumber (Complete c) = 0

@@ -23,8 +23,8 @@ use Rattle.pipe.specs.declared.endpoint.UnlinkBoundary.{UnlinkBoundary}
 use Rattle.controller.specs.declared.lent.Lengths.{Lengths}
 use Rattle.controller.specs.declared.lent.Readings.{Readings}
 use Rattle.schedule.specs.Links.{Links, links, endedOverlay}
-use Rattle.collection.specs.declared.answer.Cancellation.{Cancellation}
-use Rattle.collection.specs.declared.answer.Collection.{Collection}
+use Rattle.collection.specs.declared.collected.Cancellation.{Cancellation}
+use Rattle.collection.specs.declared.collected.Collection.{Collection}
 use Rattle.collection.specs.Answers.{outcomeOf, pendingCollect, pendingOf, refusedCancel, refusedCollect}
 use Rattle.collection.specs.Unlinks.{Left, left, passedBoundary, unlinkOf}
 

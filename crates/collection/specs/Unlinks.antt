@@ -23,7 +23,7 @@ use Rattle.schedule.specs.Links.{Links, links, detachOf}
 use Rattle.schedule.specs.declared.bell.Bell.{Bell}
 use Rattle.schedule.specs.declared.links.Predecessor.{Predecessor}
 use Rattle.schedule.specs.declared.links.Predecessor.the-variants.{First, Head, Missing}
-use Rattle.collection.specs.declared.answer.Cancellation.{Cancellation}
+use Rattle.collection.specs.declared.collected.Cancellation.{Cancellation}
 use Rattle.collection.specs.declared.unlink.Bounded.{Bounded}
 use Rattle.collection.specs.Answers.{refusedCancel}
 

@@ -1,6 +1,6 @@
 // Cancelling a request, and collecting it.
-pub mod answer;
 pub mod ask;
 pub mod calls;
+pub mod collected;
 pub mod finish;
 pub mod unlink;

@@ -1,7 +1,7 @@
 use Rattle.collection.proofs.AnswerCases.{cancel-refused}
 use borrow.Author.Needs.{needs}
-use Rattle.collection.proofs.answer.refuse_cancel.Statement.{statement}
-use Rattle.collection.proofs.answer.refuse_cancel.Tie as tie
+use Rattle.collection.proofs.collected.refuse_cancel.Statement.{statement}
+use Rattle.collection.proofs.collected.refuse_cancel.Tie as tie
 
 none-requires : tie.Need-none-requires
 none-requires c κs = search needs

@@ -1,7 +1,7 @@
 use Rattle.collection.proofs.AnswerCases.{collect-pending}
 use borrow.Author.Needs.{needs}
-use Rattle.collection.proofs.answer.still_pending.Statement.{statement}
-use Rattle.collection.proofs.answer.still_pending.Tie as tie
+use Rattle.collection.proofs.collected.still_pending.Statement.{statement}
+use Rattle.collection.proofs.collected.still_pending.Tie as tie
 
 none-requires : tie.Need-none-requires
 none-requires c κs = search needs

@@ -1,7 +1,7 @@
 use Rattle.collection.proofs.AnswerCases.{collect-refused}
 use borrow.Author.Needs.{needs}
-use Rattle.collection.proofs.answer.refuse_collect.Statement.{statement}
-use Rattle.collection.proofs.answer.refuse_collect.Tie as tie
+use Rattle.collection.proofs.collected.refuse_collect.Statement.{statement}
+use Rattle.collection.proofs.collected.refuse_collect.Tie as tie
 
 none-requires : tie.Need-none-requires
 none-requires c κs = search needs

@@ -1,6 +1,6 @@
 use Rattle.collection.proofs.AnswerCases.{outcome-cancelled, outcome-complete, outcome-failed}
-use Rattle.collection.proofs.answer.outcome_of.Statement.{statement}
-use Rattle.collection.proofs.answer.outcome_of.Tie as tie
+use Rattle.collection.proofs.collected.outcome_of.Statement.{statement}
+use Rattle.collection.proofs.collected.outcome_of.Tie as tie
 
 returns : tie.Need-returns
 returns c = search outcome-cancelled

@@ -1,7 +1,7 @@
 use Rattle.collection.proofs.AnswerCases.{pending-refused}
 use borrow.Author.Needs.{needs}
-use Rattle.collection.proofs.answer.pending_of.Statement.{statement}
-use Rattle.collection.proofs.answer.pending_of.Tie as tie
+use Rattle.collection.proofs.collected.pending_of.Statement.{statement}
+use Rattle.collection.proofs.collected.pending_of.Tie as tie
 
 enum-told : tie.Need-enum-told
 enum-told c = search needs
