@@ -10,4 +10,5 @@ pub mod RangeLaws
 pub mod StayLaws
 pub mod CollectLaws
 pub mod CallLaws
+pub mod MoveLaws
 pub mod Examples
