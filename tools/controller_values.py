@@ -187,8 +187,15 @@ def in_ranges(state):
     )
 
 
+def allotted(state):
+    """What the call that allots an address answers."""
+    if not in_ranges(state):
+        return INVALID_PARAMETER
+    return DONE if state["address"] <= 127 else SLOT_LIMIT_REACHED
+
+
 def state_line(label, inputs, state):
-    line(label, inputs, flag(in_ranges(state)))
+    line(label, inputs, flag(in_ranges(state)), allotted(state))
 
 
 def bound_lines():
@@ -249,12 +256,11 @@ def slot_lines():
 
 def address_lines():
     for address in [0, 1, 2, 127, 128, 129]:
-        if not in_ranges(fresh(address=address)):
-            line("address", [address], INVALID_PARAMETER, address)
-        elif address <= 127:
+        answer = allotted(fresh(address=address))
+        if answer == DONE:
             line("address", [address], DONE, address, address + 1)
         else:
-            line("address", [address], SLOT_LIMIT_REACHED, address)
+            line("address", [address], answer, address)
 
 
 def main():

@@ -27,9 +27,20 @@ pub fn fresh() -> Ehci {
     opening.state
 }
 
+// The number that a call on the state answers.
+fn answered(s: Ehci) -> u8 {
+    let allotment = allocate_address(s);
+    let answer = allotment.answer;
+    match answer {
+        Allotted::Address(_) => 0,
+        Allotted::Refused(refusal) => refusal.number(),
+    }
+}
+
 pub fn judged(s: Ehci) {
     out::gives();
     out::flag(in_ranges(s));
+    out::byte(answered(s));
     out::end();
 }
 

@@ -76,7 +76,7 @@ judge-tells s slot t e =
 
 -- ---- an open slot is one of the E
 
-false-true : false ≡ true → ⊥
+pub false-true : false ≡ true → ⊥
 false-true e = let z : _≡_ {A = ℕ} 0 1 = ap numbered e in omega arith
   where
     numbered : Bool → ℕ

@@ -3,3 +3,5 @@ pub mod SettleCases
 pub mod WritebackCases
 pub mod JudgeLaws
 pub mod SubmitCases
+pub mod SubmitLaws
+pub mod CoverLaws

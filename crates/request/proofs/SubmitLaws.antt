@@ -1,0 +1,281 @@
+-- What an accepted submit leaves: room is exact, its chain may be written and leads over its places, what stays.
+use Prim.Native.Nat.{ℕ, zero, suc, _+_, _-_, _*_, _%_, _^_, _≤_, _<_, min}
+use mathlib.Core.Path.{_≡_, refl, sym, ap, subst, _∙_}
+use mathlib.Core.Logic.{_≢_}
+use mathlib.Core.Bool.{Bool, true, false}
+use mathlib.Core.List.{List, [], _∷_, _++_}
+use native.Mathlib.Omega.{arith}
+use borrow.Author.Tests.{eqb-true, leb-true, ltb-true, ltb-false}
+use lib.Dec.{eqb, leb, ltb}
+use lib.ListN.{drop, getD, length, length-take, set, take}
+use lib.Seq.{getD-append-add, getD-drop, getD-set-other, getD-take, length-take-le, take-at}
+use Rattle.token.specs.declared.request.EndpointType.{EndpointType}
+use Rattle.token.specs.declared.request.EndpointType.the-variants.{Isochronous}
+use Rattle.descriptor.specs.Descriptors.{nextWord}
+use Rattle.descriptor.specs.declared.qtd.QueueTransferDescriptor.{QueueTransferDescriptor}
+use Rattle.pool.specs.Chains.{blank, chainGood, fillOf, metFrom}
+use Rattle.pool.specs.Places.{Each, Within, markOf, packed, placesFrom}
+use Rattle.pool.specs.Transfers.{addressOf, nextOf}
+use Rattle.pool.specs.declared.chain.Deed.the-variants.{Transfer as TransferDeed}
+use Rattle.pool.proofs.ChainLaws.{filled-others, met-chain}
+use Rattle.pool.proofs.Each.{each-at, each-map}
+use Rattle.pool.proofs.GoodLaws.{places-good, request-good}
+use Rattle.pool.proofs.PlaceLaws.{list-packed, mark-either, mark-length, mark-others, places-ascend, places-hold, places-within}
+use Rattle.slot.proofs.SlotLaws.{slot-tells}
+use Rattle.settings.proofs.SettingsLaws.{both-tells}
+use Rattle.state.specs.Slots.{slotAt}
+use Rattle.state.specs.State.{withOwner}
+use Rattle.state.specs.declared.state.Ehci.{Ehci}
+use Rattle.state.proofs.RangesLaws.{Ranges}
+use Rattle.answer.specs.declared.answer.Answer.the-variants.{Done, Refused}
+use Rattle.answer.specs.declared.answer.Refusal.the-variants.{NoMemory}
+use Rattle.pipe.specs.Endpoints.{endpointAt, kindNumber, withEndpoint}
+use Rattle.pipe.proofs.EndpointLaws.{Wide, endpoint-keeps, endpoint-other}
+use Rattle.schedule.specs.Links.{attachedFrames, attachedRing, startedOverlay}
+use Rattle.controller.specs.Readers.{freeCount, isOpen, isUncollected}
+use Rattle.controller.proofs.FreeLaws.{free-places}
+use Rattle.request.specs.Submit.{afterId, attachedBy, bufferGood, chainFor, firstIn, idAt, isInterrupt, isIsochronous, judgeOf, linkedRows, linkedWith, needOfRequest, pickNumber, placesFor, rangesGood, stateWith, takenFor, takenOf, transferOf}
+use Rattle.request.specs.declared.judge.TransferRequest.{TransferRequest}
+use Rattle.request.proofs.JudgeCases.{judge-done, judge-room}
+use Rattle.request.proofs.JudgeLaws.{Judged, answers-apart, false-true, open-below, open-within}
+use Rattle.request.proofs.SettleCases.{packed-first}
+
+-- ---- room: where every earlier check is passed, 6 exactly when too few descriptors are free
+
+module _ (s : Ehci) (k : ℕ) (t : TransferRequest) (o : isOpen s k ≡ true) (runs : s .running ≡ 0 → ⊥) (bare : isUncollected s k ≡ false)
+    (supported : isIsochronous (t .kind) ≡ false) (same : kindNumber (t .kind) ≡ slotAt s k .kind) (good : rangesGood t ≡ true) where
+  pub room-lacks : freeCount s < needOfRequest s t → judgeOf s k t ≡ Refused NoMemory
+  room-lacks h =
+      sym (judge-room s k t true (sym o) refl false runs (sym bare) refl false (sym supported) refl (kindNumber (t .kind)) refl same true (sym good) refl
+        (freeCount s) (needOfRequest s t) refl refl h)
+
+  pub room-told : judgeOf s k t ≡ Refused NoMemory → freeCount s < needOfRequest s t
+  room-told e = by (ltb (freeCount s) (needOfRequest s t)) refl
+    where
+      by : (b : Bool) → ltb (freeCount s) (needOfRequest s t) ≡ b → freeCount s < needOfRequest s t
+      by true h = ltb-true (freeCount s) (needOfRequest s t) h
+      by false h =
+          absurd (answers-apart NoMemory (sym e
+          ∙ sym (judge-done s k t true (sym o) refl false runs (sym bare) refl false (sym supported) refl (kindNumber (t .kind)) refl same true (sym good) refl
+            (freeCount s) (needOfRequest s t) refl refl (ltb-false (freeCount s) (needOfRequest s t) h))))
+
+-- ---- the chain
+
+buffer-tells : (a n : ℕ) → bufferGood a n ≡ true → n ≤ 2 ^ 32 - a
+unfolding bufferGood
+buffer-tells a n e = by (eqb n 0) refl
+  where
+    by : (b : Bool) → eqb n 0 ≡ b → n ≤ 2 ^ 32 - a
+    by true h = omega (arith, eqb-true n 0 h)
+    by false h = omega (arith, leb-true (a + n) (2 ^ 32) (rw h at e))
+
+pub buffer-ends : (t : TransferRequest) → rangesGood t ≡ true → t .length ≤ 2 ^ 32 - t .address
+unfolding rangesGood
+buffer-ends t e = buffer-tells (t .address) (t .length) (both-tells (bufferGood (t .address) (t .length)) _ e .0)
+
+first-next : (base : ℕ) (ps : List ℕ) → base % 64 ≡ 0 → 1 ≤ length ps → addressOf base (getD (packed ps .at) 0 0) ≡ nextWord (nextOf base ps)
+first-next base [] a h = absurd (omega arith)
+first-next base (p ∷ ps) a h = rw (packed-first (p ∷ ps)) (omega arith)
+
+module _ (s : Ehci) (k : ℕ) (t : TransferRequest) (r : Ranges s) (j : Judged s k t) (wide : length (s .owner) ≡ 256) where
+  owners : List ℕ
+  owners = take (s .settings .descriptors) (s .owner)
+
+  owners-length : length owners ≡ s .settings .descriptors
+  unfolding owners
+  owners-length = length-take-le (s .settings .descriptors) (s .owner) (omega (arith, r .good .descriptors-most))
+
+  -- as many places as it needs
+  pub places-needed : length (placesFor s t) ≡ needOfRequest s t
+  places-needed = free-places s (needOfRequest s t) ∙ omega (arith, j .room)
+
+  -- the pool may be told to write it
+  pub submit-good : chainGood (s .settings .descriptors) (chainFor s k t (takenFor s k t))
+  unfolding takenFor takenOf owners
+  submit-good =
+      subst (λ (n : ℕ). chainGood n (chainFor s k t (takenFor s k t))) owners-length
+      (places-good (take (s .settings .descriptors) (s .owner)) 0 (needOfRequest s t) (s .settings .pool) (TransferDeed (transferOf s k t))
+        (omega (arith, owners-length, r .good .descriptors-most))
+        (request-good (transferOf s k t) (s .settings .pool) (length (take (s .settings .descriptors) (s .owner))) (length (placesFor s t))
+          (omega (arith, owners-length, r .good .pool-ends)) (buffer-ends t (j .in-range))
+          (omega (arith, open-within s k r (j .opened), r .good .setups-end)) (r .good .limit-least) places-needed))
+
+  -- from the overlay's next pointer on EHCI's walk meets exactly its places, ascending, and ends
+  pub submit-met : (rows : List QueueTransferDescriptor) (m : ℕ) → length rows ≡ s .settings .descriptors → 1 ≤ needOfRequest s t → needOfRequest s t ≤ m
+      → metFrom (s .settings .pool) (fillOf (chainFor s k t (takenFor s k t)) rows) m (firstIn s (takenFor s k t)) ≡ placesFor s t
+  unfolding takenFor takenOf fillOf owners
+  submit-met rows m e one most =
+      rw (first-next (s .settings .pool) (placesFor s t) (r .good .pool-aligned) (omega (arith, places-needed)), list-packed (placesFor s t))
+      (met-chain (transferOf s k t) (s .settings .pool) m (placesFor s t) rows (r .good .pool-aligned) (omega (arith, e, r .good .pool-ends))
+        (places-ascend 0 owners 0 (needOfRequest s t)) (subst (λ (n : ℕ). Within n (placesFor s t)) (owners-length ∙ sym e) (places-within owners 0 (needOfRequest s t)))
+        (omega (arith, places-needed)))
+
+-- ---- what stays
+
+owner-aside : (s : Ehci) (o : List ℕ) (i : ℕ) → endpointAt (withOwner s o) i ≡ endpointAt s i
+unfolding endpointAt withOwner slotAt
+owner-aside s o i = refl
+
+slot-aside : (s : Ehci) (o : List ℕ) (i : ℕ) → slotAt (withOwner s o) i ≡ slotAt s i
+unfolding withOwner slotAt
+slot-aside s o i = refl
+
+owner-wide : (s : Ehci) (o : List ℕ) → Wide s → Wide (withOwner s o)
+unfolding withOwner
+owner-wide s o w =
+    record {
+      phases-wide = w .phases-wide;
+      kinds-wide = w .kinds-wide;
+      ids-wide = w .ids-wide;
+      requests-wide = w .requests-wide;
+      directions-wide = w .directions-wide;
+      lengths-wide = w .lengths-wide;
+      cancels-wide = w .cancels-wide;
+      boundaries-wide = w .boundaries-wide;
+    }
+
+pub submit-others : (s : Ehci) (o : List ℕ) (k i : ℕ) (t : TransferRequest) → i ≢ k → endpointAt (stateWith s o k t) i ≡ endpointAt s i
+unfolding stateWith
+submit-others s o k i t ne = endpoint-other (withOwner s o) k (linkedWith s k t) i ne ∙ owner-aside s o i
+
+-- every other slot's places
+pub submit-places : (s : Ehci) (k y m : ℕ) (t : TransferRequest) → Ranges s → length (s .owner) ≡ 256 → y ≢ k + 1 → y ≢ 0
+    → placesFrom 0 (take (s .settings .descriptors) (takenFor s k t .owner)) y m ≡ placesFrom 0 (take (s .settings .descriptors) (s .owner)) y m
+unfolding takenFor takenOf
+submit-places s k y m t r wide nx nz =
+    let o = take (s .settings .descriptors) (s .owner) in
+    let long : length (markOf o (needOfRequest s t) (k + 1)) ≡ s .settings .descriptors =
+      mark-length o (needOfRequest s t) (k + 1) ∙ length-take-le (s .settings .descriptors) (s .owner) (omega (arith, r .good .descriptors-most)) in
+    rw (take-at (markOf o (needOfRequest s t) (k + 1)) (drop (s .settings .descriptors) (s .owner)) (s .settings .descriptors) long)
+    (mark-others 0 o (needOfRequest s t) (k + 1) y m nx nz)
+
+-- a record that belongs to a request is not written
+pub submit-records : (s : Ehci) (k p : ℕ) (t : TransferRequest) (rows : List QueueTransferDescriptor)
+    → (getD (take (s .settings .descriptors) (s .owner)) p 0 ≡ 0 → ⊥)
+    → getD (fillOf (chainFor s k t (takenFor s k t)) rows) p blank ≡ getD rows p blank
+unfolding takenFor takenOf fillOf
+submit-records s k p t rows ne =
+    rw (list-packed (placesFor s t))
+    (filled-others (TransferDeed (transferOf s k t)) (s .settings .pool) 0 (placesFor s t) rows p
+      (each-map (λ (q : ℕ). getD (take (s .settings .descriptors) (s .owner)) q 0 ≡ 0) (λ (q : ℕ). p ≡ q → ⊥) (λ q h e. ne (ap (λ (z : ℕ). getD (take (s .settings .descriptors) (s .owner)) z 0) e ∙ h))
+        (placesFrom 0 (take (s .settings .descriptors) (s .owner)) 0 (needOfRequest s t))
+        (places-hold (take (s .settings .descriptors) (s .owner)) 0 (needOfRequest s t))))
+
+-- of the heads' words only the ring head's link, and of the slot's head link, next, alternate and token
+module _ (heads frames : List ℕ) (k link first i : ℕ) (n0 : i ≢ 0) (n1 : i ≢ 17 * (k + 1)) (n4 : i ≢ 17 * (k + 1) + 4)
+    (n5 : i ≢ 17 * (k + 1) + 5) (n6 : i ≢ 17 * (k + 1) + 6) where
+  overlay-word : getD (startedOverlay heads k first 0) i 0 ≡ getD heads i 0
+  unfolding startedOverlay
+  overlay-word =
+      let one = set heads (17 * (k + 1) + 4) first in
+      let two = set one (17 * (k + 1) + 5) 1 in
+      getD-set-other two (17 * (k + 1) + 6) i 0 0 n6 ∙ getD-set-other one (17 * (k + 1) + 5) i 1 0 n5 ∙ getD-set-other heads (17 * (k + 1) + 4) i first 0 n4
+
+  attached-word : (b : Bool) → getD (attachedBy b (startedOverlay heads k first 0) frames k link .heads) i 0 ≡ getD heads i 0
+  unfolding attachedFrames attachedRing
+  attached-word true = getD-set-other (startedOverlay heads k first 0) (17 * (k + 1)) i (getD frames 0 0) 0 n1 ∙ overlay-word
+  attached-word false =
+      let started = startedOverlay heads k first 0 in
+      let one = set started (17 * (k + 1)) (getD started 0 0) in
+      getD-set-other one 0 i link 0 n0 ∙ getD-set-other started (17 * (k + 1)) i (getD started 0 0) 0 n1 ∙ overlay-word
+
+  pub submit-words : (kind : EndpointType) → getD (linkedRows heads frames kind k link first .heads) i 0 ≡ getD heads i 0
+  unfolding linkedRows
+  submit-words kind = attached-word (isInterrupt kind)
+
+-- ---- an accepted submit keeps the ranges
+
+each-from : (P : ℕ → Type 0) (l : List ℕ) → ((i : ℕ) → i < length l → P (getD l i 0)) → Each P l
+each-from P [] f = tt
+each-from P (x ∷ l) f = (f 0 (omega arith), each-from P l (λ i h. f (suc i) (omega arith)))
+
+append-at : (a b : List ℕ) (i : ℕ) → i < length a → getD (a ++ b) i 0 ≡ getD a i 0
+append-at [] b i h = absurd (omega arith)
+append-at (x ∷ a) b zero h = refl
+append-at (x ∷ a) b (suc i) h = append-at a b i (omega arith)
+
+id-least : (id : ℕ) → 1 ≤ afterId id
+unfolding afterId
+id-least id = by (eqb id (2 ^ 64 - 1))
+  where
+    by : (b : Bool) → 1 ≤ pickNumber b 1 (id + 1)
+    by true = omega arith
+    by false = omega arith
+
+not-isochronous : (kind : EndpointType) → isIsochronous kind ≡ false → kind ≢ Isochronous
+not-isochronous kind e q = false-true (sym e ∙ ap isIsochronous q)
+
+module _ (s : Ehci) (k : ℕ) (t : TransferRequest) (r : Ranges s) (j : Judged s k t) (w : Wide s) (wide : length (s .owner) ≡ 256) where
+  marked : List ℕ
+  marked = markOf (take (s .settings .descriptors) (s .owner)) (needOfRequest s t) (k + 1)
+
+  marked-length : length marked ≡ s .settings .descriptors
+  unfolding marked
+  marked-length =
+      mark-length (take (s .settings .descriptors) (s .owner)) (needOfRequest s t) (k + 1)
+      ∙ length-take-le (s .settings .descriptors) (s .owner) (omega (arith, r .good .descriptors-most))
+
+  below : k < s .settings .endpoints
+  below = open-within s k r (j .opened)
+
+  owned-all : Each (λ (x : ℕ). x ≤ s .settings .endpoints) marked
+  unfolding marked
+  owned-all =
+      mark-either (λ (x : ℕ). x ≤ s .settings .endpoints) (take (s .settings .descriptors) (s .owner)) (needOfRequest s t) (k + 1)
+      (each-from (λ (x : ℕ). x ≤ s .settings .endpoints) (take (s .settings .descriptors) (s .owner)) each)
+      (omega (arith, below))
+    where
+      each : (i : ℕ) → i < length (take (s .settings .descriptors) (s .owner)) → getD (take (s .settings .descriptors) (s .owner)) i 0 ≤ s .settings .endpoints
+      each i h =
+          let lt : i < s .settings .descriptors = omega (arith, length-take (s .settings .descriptors) (s .owner)) in
+          rw (getD-take (s .settings .descriptors) (s .owner) i 0 lt) (r .owned i lt)
+
+  owned-below : (i : ℕ) → i < s .settings .descriptors → getD (marked ++ drop (s .settings .descriptors) (s .owner)) i 0 ≤ s .settings .endpoints
+  owned-below i h =
+      let lt : i < length marked = omega (arith, marked-length) in
+      rw (append-at marked (drop (s .settings .descriptors) (s .owner)) i lt) (each-at (λ (x : ℕ). x ≤ s .settings .endpoints) marked i owned-all lt)
+
+  unowned-past : (i : ℕ) → s .settings .descriptors ≤ i → getD (marked ++ drop (s .settings .descriptors) (s .owner)) i 0 ≡ 0
+  unowned-past i h =
+      let at : length marked + (i - s .settings .descriptors) ≡ i = omega (arith, marked-length) in
+      let on : s .settings .descriptors + (i - s .settings .descriptors) ≡ i = omega arith in
+      ap (λ (z : ℕ). getD (marked ++ drop (s .settings .descriptors) (s .owner)) z 0) (sym at)
+      ∙ getD-append-add marked (drop (s .settings .descriptors) (s .owner)) (i - s .settings .descriptors) 0
+      ∙ getD-drop (s .settings .descriptors) (s .owner) (i - s .settings .descriptors) 0
+      ∙ ap (λ (z : ℕ). getD (s .owner) z 0) on ∙ r .unowned i h
+
+  owner-ranges : Ranges (withOwner s (takenFor s k t .owner))
+  unfolding withOwner takenFor takenOf marked
+  owner-ranges =
+      record {
+        good = r .good;
+        running-flag = r .running-flag;
+        step-most = r .step-most;
+        waited-below = r .waited-below;
+        address-least = r .address-least;
+        address-most = r .address-most;
+        enabled-flag = r .enabled-flag;
+        pending-only = r .pending-only;
+        masked-only = r .masked-only;
+        doorbell-flag = r .doorbell-flag;
+        noted-most = r .noted-most;
+        unanswered-least = r .unanswered-least;
+        unanswered-most = r .unanswered-most;
+        owned = owned-below;
+        unowned = unowned-past;
+        slots = λ i h. rw (slot-aside s (takenFor s k t .owner) i) (r .slots i h);
+      }
+
+  pub submit-keeps : Ranges (stateWith s (takenFor s k t .owner) k t)
+  unfolding stateWith withOwner
+  submit-keeps =
+      endpoint-keeps (withOwner s (takenFor s k t .owner)) k owner-ranges (owner-wide s (takenFor s k t .owner) w) (open-below s k (j .opened)) (linkedWith s k t)
+      (record {
+        pipe = record { next-least = id-least (idAt s k); never = not-isochronous (t .kind) (j .supported) };
+        request-least = slot-tells (s .settings .endpoints) k (s .unanswered) (slotAt s k) (r .slots k (open-below s k (j .opened))) .id-least;
+        uncancelled = refl;
+      })
+      (λ h. absurd (past h))
+    where
+      past : s .settings .endpoints ≤ k → ⊥
+      past h = omega (arith, h, below)
