@@ -209,7 +209,7 @@ module _ (s : Ehci) (pool : ℕ) (h f : List ℕ) (setups : ℕ) (rd : Readings)
       sym (collect-ends s pool h f setups rd v k (r .id) true (sym ok) (pendingCollect s) refl (endpointAt s k) refl p r u h e
       (unlinking-waits s h (rd .frame) v k p r u false (sym t) (pendingCollect s) refl refl) refl)
 
-  -- so a collect that answers Pending changes nothing
+  -- so a collect of an unlinking request that answers Pending changes nothing
   pub pending-changes-nothing : collectOf s pool h f setups rd v k (r .id) .came .answer ≡ Pending
       → collectOf s pool h f setups rd v k (r .id) ≡ gathered (pendingCollect s) h f
   unfolding finishOf

@@ -32,7 +32,7 @@ abbrev pub lengthsOf : ℕ → List ℕ → List ℕ → ℕ → Lengths
 lengthsOf pool heads frames setups =
     record { pool = pool; heads = length heads; frames = length frames; setups = setups }
 
--- no call leaves a linked slot while 32 unlinks are unanswered, since each of those is another slot's
+-- a linked slot while 32 unlinks are unanswered: there are 31 other slots, so no run from opening should come to it (docs/DECISIONS.md)
 abbrev pub crowdedAt : Endpoint → ℕ → Bool
 crowdedAt Closed unanswered = false
 crowdedAt (Idle p) unanswered = false

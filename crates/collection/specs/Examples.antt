@@ -1,4 +1,4 @@
--- Cancel and collect on one controller: what the definitions give beside what document 01 says.
+-- Cancel and collect on one controller: the states that proofs/Examples.antt runs the definitions on.
 use Prim.Native.Nat.{ℕ}
 use mathlib.Core.List.{List, [], _∷_, _++_}
 use lib.ListN.{getD, replicate}
@@ -70,7 +70,7 @@ cancelled s slot id = cancelOf s 4 ringOfOne noFrames 16 (readings 0) slot id
 abbrev pub collected : Ehci → ℕ → View → ℕ → ℕ → Gathered
 collected s frame view slot id = collectOf s 4 ringOfOne noFrames 16 (readings frame) view slot id
 
--- answer; the slot's phase, its mark and boundary, unanswered; the ring head's link
+-- the slot's phase, its mark and boundary; unanswered; the owner of place 0
 abbrev pub stateRow : Ehci → List ℕ
 stateRow s = getD (s .phases) 0 0 ∷ getD (s .cancels) 0 0 ∷ getD (s .boundaries) 0 0 ∷ s .unanswered ∷ getD (s .owner) 0 0 ∷ []
 

@@ -22,7 +22,7 @@ use register::writes::Writes;
 use schedule::links::end_overlay;
 use state::state::Ehci;
 
-// The first so many places that x owns become free.
+// Those of the first so many places that x owns become free.
 fn free(mut owner: [u8; 256], descriptors: u64, x: u8) -> [u8; 256]
     requires { ⌜ descriptors ≤ 256 ⌝ }
     ensures { λ r. ⌜ r ≡ freed owner descriptors x ⌝ }

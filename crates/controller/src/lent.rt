@@ -19,7 +19,7 @@ pub struct Readings {
     pub frame: u32,
 }
 
-// What every call asks first.
+// What every call on endpoints and requests asks first.
 pub fn accepts(state: Ehci, lent: Lengths) -> bool
     ensures { λ r. ⌜ r ≡ acceptsOf state lent ⌝ }
 {

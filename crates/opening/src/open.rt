@@ -55,7 +55,7 @@ fn fresh_state(settings: Settings) -> Ehci
     }
 }
 
-// Lengths other than those that opening fixes are refused by every call.
+// Lengths other than those that opening fixes are refused by every call that is lent the rows.
 pub fn rows_fit(s: Settings, pool: u64, heads: u64, frames: u64, setups: u64) -> bool
     ensures { λ r. ⌜ r ≡ rowsFit s pool heads frames setups ⌝ }
 {

@@ -120,6 +120,27 @@ pub met-chain : (t : Transfer) (base m : ℕ) (ps : List ℕ) (rs : List Record)
     → length ps ≤ m → metFrom base (filledFrom (Deeds.Transfer t) base 0 ps rs) m (nextWord (nextOf base ps)) ≡ ps
 met-chain t base m ps rs a h up e f = met-linked base (length rs) (filledFrom (Deeds.Transfer t) base 0 ps rs) ps m a h e (filled-linked t base 0 ps rs up e) f
 
+-- and the addresses that it meets are those of the places
+followed-linked : (base n : ℕ) (rs : List Record) (ps : List ℕ) (m : ℕ) → base % 64 ≡ 0 → base + 64 * n ≤ 2 ^ 32 → Within n ps → Linked base rs ps → length ps ≤ m
+    → follow (nextAt base rs) m (nextWord (nextOf base ps)) ≡ map (addressOf base) ps
+unfolding follow
+followed-linked base n rs [] zero a h w l f = refl
+followed-linked base n rs [] (suc m) a h w l f = refl
+followed-linked base n rs (p ∷ ps) zero a h w l f = absurd (omega (arith, f))
+followed-linked base n rs (p ∷ ps) (suc m) a h w l f =
+    let low : addressOf base p < 2 ^ 32 = omega (arith, h, w .0) in
+    let even : addressOf base p % 32 ≡ 0 = omega (arith, a) in
+    let reads = next-reads (addressOf base p) low even in
+    let on : nextAt base rs (addressOf base p) ≡ nextWord (nextOf base ps) = ap (λ (q : ℕ). getD rs q blank .next) (place-back base p) ∙ l .0 in
+    let rest : follow (nextAt base rs) m (nextWord (nextOf base ps)) ≡ map (addressOf base) ps = followed-linked base n rs ps m a h (w .1) (l .1) (omega (arith, f)) in
+    step (nextAt base rs) m (nextWord (nextOf base (p ∷ ps))) (addressOf base p) (reads .0) (reads .1)
+    ∙ ap (λ (v : ℕ). addressOf base p ∷ follow (nextAt base rs) m v) on ∙ ap (λ (l : List ℕ). addressOf base p ∷ l) rest
+
+pub follow-chain : (t : Transfer) (base m : ℕ) (ps : List ℕ) (rs : List Record) → base % 64 ≡ 0 → base + 64 * length rs ≤ 2 ^ 32 → Ascending ps → Within (length rs) ps
+    → length ps ≤ m → follow (nextAt base (filledFrom (Deeds.Transfer t) base 0 ps rs)) m (nextWord (nextOf base ps)) ≡ map (addressOf base) ps
+follow-chain t base m ps rs a h up e f =
+    followed-linked base (length rs) (filledFrom (Deeds.Transfer t) base 0 ps rs) ps m a h e (filled-linked t base 0 ps rs up e) f
+
 -- ---- small chains
 
 pub fill-none : (base : ℕ) (deed : Deed) (rs : List Record) → fillOf (record { places = packed []; base = base; deed = deed }) rs ≡ rs

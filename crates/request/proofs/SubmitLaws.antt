@@ -3,7 +3,7 @@ use Prim.Native.Nat.{ℕ, zero, suc, _+_, _-_, _*_, _%_, _^_, _≤_, _<_, min}
 use mathlib.Core.Path.{_≡_, refl, sym, ap, subst, _∙_}
 use mathlib.Core.Logic.{_≢_}
 use mathlib.Core.Bool.{Bool, true, false}
-use mathlib.Core.List.{List, [], _∷_, _++_}
+use mathlib.Core.List.{List, [], _∷_, _++_, map}
 use native.Mathlib.Omega.{arith}
 use borrow.Author.Tests.{eqb-true, leb-true, ltb-true, ltb-false}
 use lib.Dec.{eqb, leb, ltb}
@@ -13,11 +13,12 @@ use Rattle.token.specs.declared.request.EndpointType.{EndpointType}
 use Rattle.token.specs.declared.request.EndpointType.the-variants.{Isochronous}
 use Rattle.descriptor.specs.Descriptors.{nextWord}
 use Rattle.descriptor.specs.declared.qtd.QueueTransferDescriptor.{QueueTransferDescriptor}
-use Rattle.pool.specs.Chains.{blank, chainGood, fillOf, metFrom}
+use Rattle.pool.specs.Chains.{blank, chainGood, fillOf, nextAt}
+use Rattle.pool.specs.EhciChain.{follow}
 use Rattle.pool.specs.Places.{Each, Within, markOf, packed, placesFrom}
 use Rattle.pool.specs.Transfers.{addressOf, nextOf}
 use Rattle.pool.specs.declared.chain.Deed.the-variants.{Transfer as TransferDeed}
-use Rattle.pool.proofs.ChainLaws.{filled-others, met-chain}
+use Rattle.pool.proofs.ChainLaws.{filled-others, follow-chain}
 use Rattle.pool.proofs.Each.{each-at, each-map}
 use Rattle.pool.proofs.GoodLaws.{places-good, request-good}
 use Rattle.pool.proofs.PlaceLaws.{list-packed, mark-either, mark-length, mark-others, places-ascend, places-hold, places-within}
@@ -47,7 +48,7 @@ module _ (s : Ehci) (k : ℕ) (t : TransferRequest) (o : isOpen s k ≡ true) (r
   pub room-lacks : freeCount s < needOfRequest s t → judgeOf s k t ≡ Refused NoMemory
   room-lacks h =
       sym (judge-room s k t true (sym o) refl false runs (sym bare) refl false (sym supported) refl (kindNumber (t .kind)) refl same true (sym good) refl
-        (freeCount s) (needOfRequest s t) refl refl h)
+      (freeCount s) (needOfRequest s t) refl refl h)
 
   pub room-told : judgeOf s k t ≡ Refused NoMemory → freeCount s < needOfRequest s t
   room-told e = by (ltb (freeCount s) (needOfRequest s t)) refl
@@ -57,7 +58,7 @@ module _ (s : Ehci) (k : ℕ) (t : TransferRequest) (o : isOpen s k ≡ true) (r
       by false h =
           absurd (answers-apart NoMemory (sym e
           ∙ sym (judge-done s k t true (sym o) refl false runs (sym bare) refl false (sym supported) refl (kindNumber (t .kind)) refl same true (sym good) refl
-            (freeCount s) (needOfRequest s t) refl refl (ltb-false (freeCount s) (needOfRequest s t) h))))
+          (freeCount s) (needOfRequest s t) refl refl (ltb-false (freeCount s) (needOfRequest s t) h))))
 
 -- ---- the chain
 
@@ -95,20 +96,21 @@ module _ (s : Ehci) (k : ℕ) (t : TransferRequest) (r : Ranges s) (j : Judged s
   submit-good =
       subst (λ (n : ℕ). chainGood n (chainFor s k t (takenFor s k t))) owners-length
       (places-good (take (s .settings .descriptors) (s .owner)) 0 (needOfRequest s t) (s .settings .pool) (TransferDeed (transferOf s k t))
-        (omega (arith, owners-length, r .good .descriptors-most))
-        (request-good (transferOf s k t) (s .settings .pool) (length (take (s .settings .descriptors) (s .owner))) (length (placesFor s t))
-          (omega (arith, owners-length, r .good .pool-ends)) (buffer-ends t (j .in-range))
-          (omega (arith, open-within s k r (j .opened), r .good .setups-end)) (r .good .limit-least) places-needed))
+      (omega (arith, owners-length, r .good .descriptors-most))
+      (request-good (transferOf s k t) (s .settings .pool) (length (take (s .settings .descriptors) (s .owner))) (length (placesFor s t))
+      (omega (arith, owners-length, r .good .pool-ends)) (buffer-ends t (j .in-range))
+      (omega (arith, open-within s k r (j .opened), r .good .setups-end)) (r .good .limit-least) places-needed))
 
-  -- from the overlay's next pointer on EHCI's walk meets exactly its places, ascending, and ends
+  -- from the overlay's next pointer on EHCI's walk meets exactly its places' addresses, ascending, and ends
   pub submit-met : (rows : List QueueTransferDescriptor) (m : ℕ) → length rows ≡ s .settings .descriptors → 1 ≤ needOfRequest s t → needOfRequest s t ≤ m
-      → metFrom (s .settings .pool) (fillOf (chainFor s k t (takenFor s k t)) rows) m (firstIn s (takenFor s k t)) ≡ placesFor s t
+      → follow (nextAt (s .settings .pool) (fillOf (chainFor s k t (takenFor s k t)) rows)) m (firstIn s (takenFor s k t))
+      ≡ map (addressOf (s .settings .pool)) (placesFor s t)
   unfolding takenFor takenOf fillOf owners
   submit-met rows m e one most =
       rw (first-next (s .settings .pool) (placesFor s t) (r .good .pool-aligned) (omega (arith, places-needed)), list-packed (placesFor s t))
-      (met-chain (transferOf s k t) (s .settings .pool) m (placesFor s t) rows (r .good .pool-aligned) (omega (arith, e, r .good .pool-ends))
-        (places-ascend 0 owners 0 (needOfRequest s t)) (subst (λ (n : ℕ). Within n (placesFor s t)) (owners-length ∙ sym e) (places-within owners 0 (needOfRequest s t)))
-        (omega (arith, places-needed)))
+      (follow-chain (transferOf s k t) (s .settings .pool) m (placesFor s t) rows (r .good .pool-aligned) (omega (arith, e, r .good .pool-ends))
+      (places-ascend 0 owners 0 (needOfRequest s t)) (subst (λ (n : ℕ). Within n (placesFor s t)) (owners-length ∙ sym e) (places-within owners 0 (needOfRequest s t)))
+      (omega (arith, places-needed)))
 
 -- ---- what stays
 
@@ -145,7 +147,7 @@ unfolding takenFor takenOf
 submit-places s k y m t r wide nx nz =
     let o = take (s .settings .descriptors) (s .owner) in
     let long : length (markOf o (needOfRequest s t) (k + 1)) ≡ s .settings .descriptors =
-      mark-length o (needOfRequest s t) (k + 1) ∙ length-take-le (s .settings .descriptors) (s .owner) (omega (arith, r .good .descriptors-most)) in
+    mark-length o (needOfRequest s t) (k + 1) ∙ length-take-le (s .settings .descriptors) (s .owner) (omega (arith, r .good .descriptors-most)) in
     rw (take-at (markOf o (needOfRequest s t) (k + 1)) (drop (s .settings .descriptors) (s .owner)) (s .settings .descriptors) long)
     (mark-others 0 o (needOfRequest s t) (k + 1) y m nx nz)
 
@@ -157,9 +159,9 @@ unfolding takenFor takenOf fillOf
 submit-records s k p t rows ne =
     rw (list-packed (placesFor s t))
     (filled-others (TransferDeed (transferOf s k t)) (s .settings .pool) 0 (placesFor s t) rows p
-      (each-map (λ (q : ℕ). getD (take (s .settings .descriptors) (s .owner)) q 0 ≡ 0) (λ (q : ℕ). p ≡ q → ⊥) (λ q h e. ne (ap (λ (z : ℕ). getD (take (s .settings .descriptors) (s .owner)) z 0) e ∙ h))
-        (placesFrom 0 (take (s .settings .descriptors) (s .owner)) 0 (needOfRequest s t))
-        (places-hold (take (s .settings .descriptors) (s .owner)) 0 (needOfRequest s t))))
+    (each-map (λ (q : ℕ). getD (take (s .settings .descriptors) (s .owner)) q 0 ≡ 0) (λ (q : ℕ). p ≡ q → ⊥) (λ q h e. ne (ap (λ (z : ℕ). getD (take (s .settings .descriptors) (s .owner)) z 0) e ∙ h))
+    (placesFrom 0 (take (s .settings .descriptors) (s .owner)) 0 (needOfRequest s t))
+    (places-hold (take (s .settings .descriptors) (s .owner)) 0 (needOfRequest s t))))
 
 -- of the heads' words only the ring head's link, and of the slot's head link, next, alternate and token
 module _ (heads frames : List ℕ) (k link first i : ℕ) (n0 : i ≢ 0) (n1 : i ≢ 17 * (k + 1)) (n4 : i ≢ 17 * (k + 1) + 4)

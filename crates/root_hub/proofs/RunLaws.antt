@@ -8,8 +8,8 @@ use native.Mathlib.Decide.{ℕ-discrete as decEq}
 use native.Mathlib.Numerals.{add-one}
 use native.Mathlib.Omega.{arith}
 use borrow.Author.Tests.{eq-eqb, ne-eqb, eqb-true, le-leb, leb-true, lt-ltb, ltb-true, ltb-false}
-use lib.Dec.{ltb}
-use lib.ListN.{getD, length, length-set, set}
+use lib.Dec.{eqb, leb, ltb}
+use lib.ListN.{getD, length, length-set, replicate, set}
 use lib.Seq.{getD-set-other, getD-set-same}
 use Rattle.register.specs.EhciRegisters.{portscOf}
 use Rattle.register.specs.Writes.{listOf, noWrites, andThen}
@@ -20,6 +20,7 @@ use Rattle.settings.proofs.SettingsLaws.{both-tells, within-makes}
 use Rattle.answer.specs.Answers.{numberOf}
 use Rattle.answer.specs.declared.answer.Answer.the-variants.{Done}
 use Rattle.answer.specs.declared.answer.Refusal.the-variants.{InvalidParameter}
+use Rattle.opening.specs.Hub.{openedHub}
 use Rattle.opening.specs.declared.hub.EhciRootHub.{EhciRootHub}
 use Rattle.bring_up.specs.declared.reads.NextRead.the-variants.{Nothing as NoRead, Register}
 use Rattle.root_hub.specs.declared.ports.PortEvent.the-variants.{Nothing as NoEvent}
@@ -32,9 +33,9 @@ use Rattle.root_hub.specs.declared.scan.Turned.{Turned}
 use Rattle.root_hub.specs.declared.calls.Scanned.{Scanned}
 use Rattle.root_hub.specs.Ports.{eventPort, portState}
 use Rattle.root_hub.specs.Scan.{awaitedOf, connected, enabled, statusTurn, againTurn, turnOf, placeAfter, portWrites}
-use Rattle.root_hub.specs.Ranges.{stateGood, statesGood, fits, stateAt, placeGood, hubGood}
+use Rattle.root_hub.specs.Ranges.{pickTest, stateGood, statesGood, fits, stateAt, placeGood, hubGood}
 use Rattle.root_hub.specs.Calls.{withScan, refusedScan, startOf, scannedOf, turnAt, stepOf}
-use Rattle.root_hub.specs.Runs.{Right, StaysRight, EndsBy, EndsInTime, readOf, asked, stretches, upFrom, VisitsAll, reported, Ascends, OneEventEach, ByRule, stays, reseted, probed, gone, OnlyByRule, OnlyOwn}
+use Rattle.root_hub.specs.Runs.{Right, StaysRight, EndsBy, EndsInTime, readOf, asked, stretches, upFrom, VisitsAll, reported, Ascends, OneEventEach, ByRule, stays, reseted, probed, gone, OnlyByRule, OnlyWhenSeen, OpenedRight, RefusedOut, OnlyOwn}
 use Rattle.root_hub.proofs.Cases.{start-done, step-bad, step-none, step-done, good-most, port-some, port-most, step-fits, place-on, place-next, place-end}
 
 -- ---- the calls by their cases
@@ -600,6 +601,94 @@ only-by-rule h v r z =
           (turn-rule (awaitedOf (h .step)) (h .port) v (stateAt h) (stepOf h v) (here-most h b) (step-fits h (r .good) z) event),
       λ k ne. rw states (getD-set-other (h .states) (h .port - 1) k (t .state) 0 ne),
     )
+
+-- where a reading leads
+status-seen : (n : ℕ) (c : Bool) (st : ℕ) → st ≤ 2 → statusTurn (portState st) st c .step ≡ n
+    → (n ≡ 2 → (st ≡ 2) × (c ≡ false)) × (n ≡ 3 → (st ≡ 0) × (c ≡ true))
+status-seen n true st h =
+    by-state (λ s. statusTurn (portState s) s true .step ≡ n → (n ≡ 2 → (s ≡ 2) × (true ≡ false)) × (n ≡ 3 → (s ≡ 0) × (true ≡ true)))
+    (λ e. (λ q. absurd (omega arith), λ q. (refl, refl)))
+    (λ e. (λ q. absurd (omega arith), λ q. absurd (omega arith)))
+    (λ e. (λ q. absurd (omega arith), λ q. absurd (omega arith))) st h
+status-seen n false st h =
+    by-state (λ s. statusTurn (portState s) s false .step ≡ n → (n ≡ 2 → (s ≡ 2) × (false ≡ false)) × (n ≡ 3 → (s ≡ 0) × (false ≡ true)))
+    (λ e. (λ q. absurd (omega arith), λ q. absurd (omega arith)))
+    (λ e. (λ q. absurd (omega arith), λ q. absurd (omega arith)))
+    (λ e. (λ q. (refl, refl), λ q. absurd (omega arith))) st h
+
+again-steps : (c d : Bool) (st p n : ℕ) → againTurn st p c d .step ≡ n → (n ≡ 2 → ⊥) × (n ≡ 3 → ⊥)
+again-steps true true st p n e = (λ q. omega arith, λ q. omega arith)
+again-steps true false st p n e = (λ q. omega arith, λ q. omega arith)
+again-steps false d st p n e = (λ q. omega arith, λ q. omega arith)
+
+Seen : Awaited → ℕ → ℕ → ℕ → Type 0
+Seen a st v n =
+    (n ≡ 2 → (a ≡ Status) × (st ≡ 2) × (connected v ≡ false)) × (n ≡ 3 → (a ≡ Status) × (st ≡ 0) × (connected v ≡ true))
+
+turn-seen : (a : Awaited) (p v st n : ℕ) → st ≤ 2 → turnOf a st p v .step ≡ n → Seen a st v n
+unfolding Seen
+turn-seen Status p v st n h e =
+    let s = status-seen n (connected v) st h e in
+    (λ q. (refl, s .0 q .0, s .0 q .1), λ q. (refl, s .1 q .0, s .1 q .1))
+turn-seen Gone p v st n h e = (λ q. absurd (omega arith), λ q. absurd (omega arith))
+turn-seen Reset p v st n h e = (λ q. absurd (omega arith), λ q. absurd (omega arith))
+turn-seen Release p v st n h e = (λ q. absurd (omega arith), λ q. absurd (omega arith))
+turn-seen Again p v st n h e =
+    let s = again-steps (connected v) (enabled v) st p n e in
+    (λ q. absurd (s .0 q), λ q. absurd (s .1 q))
+turn-seen Owner p v st n h e = (λ q. absurd (omega arith), λ q. absurd (omega arith))
+
+place-kept : (port ports st n : ℕ) → 2 ≤ n → placeAfter port ports st .step ≡ n → st ≡ n
+unfolding placeAfter
+place-kept port ports st n l e = by (decEq st 0) (ltb port ports) refl
+  where
+    by : Dec (st ≡ 0) → (b : Bool) → ltb port ports ≡ b → st ≡ n
+    by (yes z) true q = absurd (omega (arith, rw (eq-eqb st 0 z, q) at e))
+    by (yes z) false q = absurd (omega (arith, rw (eq-eqb st 0 z, q) at e))
+    by (no z) b q = rw (ne-eqb st 0 z) at e
+
+scanned-step : (h : EhciRootHub) (t : Turned) (p : Place) → scannedOf h t p .hub .step ≡ p .step
+unfolding scannedOf withScan
+scanned-step h t p = refl
+
+pub only-when-seen : OnlyWhenSeen
+unfolding Seen
+only-when-seen h v r z =
+    let b : Begun h = record { right = r; begun = z } in
+    let t = turnAt h v in
+    let p = placeAfter (h .port) (h .ports) (t .step) in
+    let on : stepOf h v .hub .step ≡ p .step = ap (λ (s : Scanned). s .hub .step) (step-is h (r .good) v z) ∙ scanned-step h t p in
+    let seen = turn-seen (awaitedOf (h .step)) (h .port) v (stateAt h) (t .step) (here-most h b) refl in (
+      λ q. seen .0 (place-kept (h .port) (h .ports) (t .step) 2 (omega arith) (sym on ∙ q)),
+      λ q. seen .1 (place-kept (h .port) (h .ports) (t .step) 3 (omega arith) (sym on ∙ q)),
+    )
+
+-- ---- the record as opening makes it
+
+uninit-right : (ports k : ℕ) → stateGood ports k 0 ≡ true
+unfolding stateGood
+uninit-right ports k = by (ltb k ports)
+  where
+    by : (b : Bool) → pickTest b (leb 0 2) (eqb 0 0) ≡ true
+    by true = refl
+    by false = refl
+
+zeros-at : (n i : ℕ) → _≡_ {A = ℕ} (getD (replicate n 0) i 0) 0
+zeros-at zero i = refl
+zeros-at (suc n) zero = refl
+zeros-at (suc n) (suc i) = zeros-at n i
+
+pub opened-right : OpenedRight
+unfolding openedHub placeGood
+opened-right ports l m =
+    record {
+      good = hub-makes (openedHub ports) (within-makes ports 1 15 l m) (λ i h. rw (zeros-at 15 i) (uninit-right ports i)) refl;
+      sized = refl;
+    }
+
+pub refused-out : RefusedOut
+unfolding hubGood openedHub
+refused-out = refl
 
 -- ---- the registers
 

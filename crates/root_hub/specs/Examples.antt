@@ -13,7 +13,7 @@ use Rattle.root_hub.specs.declared.ports.Speed.the-variants.{High}
 use Rattle.root_hub.specs.declared.calls.Scanned.{Scanned}
 use Rattle.root_hub.specs.Calls.{startOf, stepOf}
 
--- what is seen of an answer, and the state of port 1 after it
+-- what is seen of an answer, and the states of the ports after it
 pub record Seen : Type 0 where
   pub event : PortEvent
   pub writes : List Write

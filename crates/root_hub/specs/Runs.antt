@@ -1,5 +1,5 @@
 -- What any scan does, from its start and over the readings that it is fed, one a step.
-use Prim.Native.Nat.{ℕ, zero, suc, _-_, _*_, _<_}
+use Prim.Native.Nat.{ℕ, zero, suc, _-_, _*_, _≤_, _<_}
 use mathlib.Core.Bool.{Bool, true, false}
 use mathlib.Core.List.{List, [], _∷_, _++_, map}
 use mathlib.Core.Logic.{_⊎_}
@@ -10,13 +10,14 @@ use Rattle.register.specs.EhciRegisters.{portscOf}
 use Rattle.register.specs.Writes.{listOf}
 use Rattle.register.specs.declared.writes.Write.{Write}
 use Rattle.answer.specs.Answers.{numberOf}
+use Rattle.opening.specs.Hub.{openedHub}
 use Rattle.opening.specs.declared.hub.EhciRootHub.{EhciRootHub}
 use Rattle.bring_up.specs.declared.reads.NextRead.{NextRead}
 use Rattle.bring_up.specs.declared.reads.NextRead.the-variants.{Nothing as NoRead, Register}
 use Rattle.root_hub.specs.declared.ports.PortEvent.the-variants.{Nothing as NoEvent, Connected, Disconnected}
 use Rattle.root_hub.specs.declared.ports.Speed.the-variants.{High}
 use Rattle.root_hub.specs.declared.scan.Awaited.{Awaited}
-use Rattle.root_hub.specs.declared.scan.Awaited.the-variants.{Gone, Release, Again}
+use Rattle.root_hub.specs.declared.scan.Awaited.the-variants.{Status, Gone, Release, Again}
 use Rattle.root_hub.specs.declared.calls.Scanned.{Scanned}
 use Rattle.root_hub.specs.Ports.{eventPort}
 use Rattle.root_hub.specs.Scan.{awaitedOf, connected, enabled}
@@ -108,6 +109,22 @@ OnlyByRule =
     (h : EhciRootHub) (v : ℕ) → Right h → (h .step ≡ 0 → ⊥)
     → ByRule (awaitedOf (h .step)) (h .port) v (stateAt h) (getD (stepOf h v .hub .states) (h .port - 1) 0) (stepOf h v)
     × ((k : ℕ) → (k ≡ h .port - 1 → ⊥) → getD (stepOf h v .hub .states) k 0 ≡ getD (h .states) k 0)
+
+-- a scan comes to a port's loss only by reading a Probed port that is not connected, and to its reset only by reading an
+-- Uninit port that is
+abbrev pub OnlyWhenSeen : Type 0
+OnlyWhenSeen =
+    (h : EhciRootHub) (v : ℕ) → Right h → (h .step ≡ 0 → ⊥)
+    → (stepOf h v .hub .step ≡ 2 → (awaitedOf (h .step) ≡ Status) × (stateAt h ≡ 2) × (connected v ≡ false))
+    × (stepOf h v .hub .step ≡ 3 → (awaitedOf (h .step) ≡ Status) × (stateAt h ≡ 0) × (connected v ≡ true))
+
+-- ---- the record as opening makes it: in its ranges where it is accepted, out of them where it is refused
+
+abbrev pub OpenedRight : Type 0
+OpenedRight = (ports : ℕ) → 1 ≤ ports → ports ≤ 15 → Right (openedHub ports)
+
+abbrev pub RefusedOut : Type 0
+RefusedOut = hubGood (openedHub 0) ≡ false
 
 -- ---- the registers
 

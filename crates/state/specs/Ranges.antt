@@ -1,5 +1,5 @@
--- The ranges of a state: what every public call asks first. Document 01's ranges of what is opened, and for the rest the
--- numbers that a call can leave.
+-- The ranges of a state: what every public call asks first. Document 01's ranges of what is opened, and for the rest
+-- bounds within which the calls' arithmetic stays; not every state within them is one that calls leave.
 use Prim.Native.Nat.{ℕ, zero, suc, _+_, _-_, max}
 use mathlib.Core.Bool.{Bool, true, false}
 use mathlib.Core.List.{List, [], _∷_}

@@ -3,7 +3,7 @@ use Prim.Native.Nat.{ℕ}
 use mathlib.Core.List.{List}
 use Rattle.state.specs.declared.state.Ehci.{Ehci}
 
--- bring-up: running, the step, the reads of its wait
+-- bring-up: running, the step, the reads of its wait; its start also turns the interrupt flag off
 unfoldable pub withBringUp : Ehci → ℕ → ℕ → ℕ → ℕ → Ehci
 withBringUp s running step waited enabled =
     record {

@@ -1,4 +1,4 @@
--- `controller_checks::opening::over` lends the first of each row: a remainder is at most the length. Assumes nothing.
+-- `controller_checks::openings::over` lends the first of each row: a remainder is at most the length. Assumes nothing.
 use Prim.Native.Nat.{ℕ, _≤_}
 use mathlib.Core.Path.{_≡_, sym}
 use mathlib.Core.List.{List}
