@@ -1,0 +1,36 @@
+// The one door: any call, over the state by value and the four lent rows.
+ghost use mathlib.Core.Path.{_≡_};
+ghost use Rattle.ehci.specs.Door.{applied, applyOf};
+use crate::call::Call;
+use crate::decide::asks;
+use crate::decide::decide;
+use crate::reply::Reply;
+use descriptor::qtd::QueueTransferDescriptor;
+use pool::row::fill;
+use pool::row::fold;
+use state::state::Ehci;
+
+fn row_length(count: usize) -> u64
+    ensures { λ r. ⌜ r ≡ count ⌝ }
+{
+    count as u64
+}
+
+pub fn apply(
+    state: Ehci,
+    rows: &mut [QueueTransferDescriptor],
+    heads: &mut [u32],
+    frames: &mut [u32],
+    setups: &mut [u8],
+    call: Call,
+) -> Reply
+    ensures { λ r. ⌜ applied r (now (rows .exit)) (now (heads .exit)) (now (frames .exit)) (now (setups .exit))
+        ≡ applyOf state (now (rows .entry)) (now (heads .entry)) (now (frames .entry)) (now (setups .entry)) call ⌝ }
+{
+    let count = row_length(rows.len());
+    let ask = asks(state, count, call);
+    let view = fold(rows, ask);
+    let decided = decide(state, count, heads, frames, setups, view, call);
+    fill(rows, decided.chain);
+    decided.reply
+}

@@ -1,0 +1,5 @@
+// One call on a controller and its four lent rows.
+pub mod call;
+pub mod decide;
+pub mod door;
+pub mod reply;
