@@ -12,6 +12,7 @@ use Rattle.register.specs.Bits.{withBits, withoutBits, anyOf}
 use Rattle.register.specs.Writes.{noWrites, andThen}
 use Rattle.register.specs.declared.writes.Writes.{Writes}
 use Rattle.settings.specs.Tests.{either}
+use Rattle.settings.proofs.Every.{either-assoc}
 use Rattle.slot.specs.declared.slot.Slot.{Slot}
 use Rattle.state.specs.declared.state.Ehci.{Ehci}
 use Rattle.state.specs.Ranges.{inRanges}
@@ -54,10 +55,6 @@ held-is s k h = rw (lt-ltb k 32 h) (by (decEq (slotAt s k .phase) 1))
     by : Dec (slotAt s k .phase ≡ 1) → heldIn (slotAt s k .phase) ≡ holdsRequest (decoded (slotAt s k))
     by (yes q) = idle-holds (slotAt s k) q
     by (no n) = decoded-holds (slotAt s k) _ _ n refl refl
-
-either-assoc : (a b c : Bool) → either (either a b) c ≡ either a (either b c)
-either-assoc true b c = refl
-either-assoc false b c = refl
 
 either-false : (a : Bool) → either a false ≡ a
 either-false true = refl

@@ -19,11 +19,12 @@ use Rattle.answer.specs.declared.answer.Refusal.{Refusal}
 use Rattle.answer.specs.declared.answer.Refusal.the-variants.{InvalidParameter, SlotLimitReached, InvalidEndpoint, QueueFull, NotSupported}
 use Rattle.pipe.specs.declared.endpoint.Endpoint.the-variants.{Closed}
 use Rattle.controller.specs.declared.lent.Lengths.{Lengths}
-use Rattle.answer.specs.Answers.{Verdict, first, orElse, settle}
+use Rattle.answer.specs.Answers.{Verdict, first, settle}
 use Rattle.pipe.specs.Endpoints.{withEndpoint}
 use Rattle.controller.specs.Lent.{acceptsOf}
 use Rattle.controller.specs.Readers.{isOpen, isUncollected}
 use Rattle.opening.specs.Rows.{headWord, withHeadWord}
+use Rattle.answer.proofs.CheckLaws.{let-pass, verdictOf}
 use Rattle.controller.proofs.LentLaws.{accepts-tells}
 use Rattle.endpoint.specs.declared.calls.Opened.{Opened}
 use Rattle.endpoint.specs.declared.calls.Opened.the-variants.{Slot, Refused}
@@ -32,19 +33,6 @@ use Rattle.endpoint.specs.Calls.{changeLeft, changeOf, chosenOf, closeOf
 use Rattle.endpoint.proofs.SlotLaws.{below-room, open-room}
 
 -- ---- verdicts
-
-abbrev pub passes : Verdict → ℕ
-passes Verdict.passed = 1
-passes (Verdict.refused r) = 0
-
--- a check that let the call pass said false
-let-pass : (b : Bool) (r : Refusal) (v : Verdict) → orElse b r v ≡ Verdict.passed → (b ≡ false) × (v ≡ Verdict.passed)
-let-pass false r v e = (refl, e)
-let-pass true r v e = let z : _≡_ {A = ℕ} 0 1 = ap passes e in absurd (omega arith)
-
-abbrev pub verdictOf : Answer → Verdict
-verdictOf Done = Verdict.passed
-verdictOf (RefusedCall r) = Verdict.refused r
 
 verdict-there : (v : Verdict) → verdictOf (settle v RefusedCall Done) ≡ v
 verdict-there Verdict.passed = refl

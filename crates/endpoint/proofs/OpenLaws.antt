@@ -25,13 +25,14 @@ use Rattle.controller.specs.Lent.{acceptsOf}
 use Rattle.controller.specs.Readers.{hasEndpoint, isOpen}
 use Rattle.opening.specs.Rows.{headWord}
 use Rattle.pipe.proofs.EndpointLaws.{endpoint-keeps, endpoint-other, endpoint-same, slot-wide, Wide}
+use Rattle.answer.proofs.CheckLaws.{verdicts-apart}
 use Rattle.controller.proofs.LentLaws.{accepts-tells}
 use Rattle.endpoint.specs.declared.calls.Opened.{Opened}
 use Rattle.endpoint.specs.declared.calls.Opened.the-variants.{Slot, Refused}
 use Rattle.endpoint.specs.Calls.{chosenOf, fieldsGood, isIsochronous, lentRows, lowestSlot, newEndpoint, openChecks, openEndpointOf, openLeft, OpenLeft, withHead}
-use Rattle.endpoint.proofs.Cases.{open-done, open-passed, open-refused, openVerdict, passes, slot-is, slotOf}
+use Rattle.endpoint.proofs.Cases.{open-done, open-passed, open-refused, openVerdict, slot-is, slotOf}
 use Rattle.endpoint.proofs.LowestLaws.{lower-open, lowest-closed}
-use Rattle.endpoint.proofs.RowLaws.{Only, put-inside, put-only}
+use Rattle.opening.proofs.RowLaws.{Only, put-inside, put-only}
 use Rattle.endpoint.proofs.SlotLaws.{below-room}
 
 -- 01's ranges of what is asked
@@ -125,7 +126,7 @@ module _ (s : Ehci) (pool : ℕ) (h : List ℕ) (f u : ℕ) (kind : EndpointType
       → SlotOpened k (openEndpointOf s pool h f u kind a n p)
   open-tells =
       open-by (λ o. (k : ℕ) → o .opening .answer ≡ Slot k → SlotOpened k o)
-      (λ r k e. let z : _≡_ {A = ℕ} 0 1 = ap (λ (o : Opened). passes (openVerdict o)) e in absurd (omega arith))
+      (λ r k e. absurd (verdicts-apart r (ap openVerdict e)))
       (λ j from k e. subst
       (λ (i : ℕ). SlotOpened i
       (openLeft (record { answer = Slot j; state = withEndpoint s j (newEndpoint kind) })
@@ -137,7 +138,7 @@ module _ (s : Ehci) (pool : ℕ) (h : List ℕ) (f u : ℕ) (kind : EndpointType
   open-denied =
       open-by (λ o. (r : Refusal) → o .opening .answer ≡ Refused r → (o .opening .state ≡ s) × (o .heads ≡ h))
       (λ _ _ _. (refl, refl))
-      (λ k from r e. let z : _≡_ {A = ℕ} 1 0 = ap (λ (o : Opened). passes (openVerdict o)) e in absurd (omega arith))
+      (λ k from r e. absurd (verdicts-apart r (sym (ap openVerdict e))))
 
   pub open-length : length (openEndpointOf s pool h f u kind a n p .heads) ≡ length h
   open-length = open-by (λ o. length (o .heads) ≡ length h) (λ r. refl) (λ k from. slot-opened k from .only .same-length)

@@ -1,12 +1,10 @@
 -- The returns of the functions that settle an accepted request.
-use Prim.Native.Nat.{ℕ, _+_, _-_, _*_, _^_, _≤_, _<_}
+use Prim.Native.Nat.{ℕ, _+_, _-_, _*_, _^_, _<_}
 use mathlib.Core.Path.{_≡_, refl, sym, ap, _∙_}
 use mathlib.Core.Bool.{Bool, true, false, not}
 use mathlib.Core.List.{List, [], _∷_, _++_}
-use native.Mathlib.Omega.{arith}
 use borrow.Author.Tests.{eq-eqb, ne-eqb}
 use lib.ListN.{drop, getD, length, take}
-use lib.Seq.{length-take-le}
 use Rattle.register.specs.Bits.{withBits}
 use Rattle.register.specs.Writes.{noWrites, andThen}
 use Rattle.register.specs.declared.writes.Writes.{Writes}
@@ -32,12 +30,6 @@ use Rattle.request.specs.declared.calls.Submission.the-variants.{Accepte
 use Rattle.request.specs.declared.calls.Submitted.{Submitted}
 use Rattle.request.specs.declared.judge.TransferRequest.{TransferRequest}
 use Rattle.request.specs.declared.settle.Taken.{Taken}
-
-pub front : (d : ℕ) (o : List ℕ) → length o ≡ 256 → d ≤ 256 → d ≡ length (take d o)
-front d o e h = sym (length-take-le d o (omega arith))
-
-pub part-within : (d : ℕ) (o : List ℕ) → length o ≡ 256 → d ≤ 256 → length (take d o) ≤ 256
-part-within d o e h = omega (arith, front d o e h)
 
 pub taken-is : (o m : List ℕ) (d n k : ℕ) (p : Places) → p ≡ packed (placesFrom 0 (take d o) 0 n) → m ≡ markOf (take d o) n (k + 1)
     → _≡_ {A = Taken} (record { places = p; owner = m ++ drop d o }) (takenOf o d n k)

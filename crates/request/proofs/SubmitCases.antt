@@ -14,11 +14,12 @@ use Rattle.answer.specs.declared.answer.Refusal.{Refusal}
 use Rattle.answer.specs.declared.answer.Refusal.the-variants.{InvalidParameter}
 use Rattle.controller.specs.declared.lent.Lengths.{Lengths}
 use Rattle.controller.specs.declared.lent.Readings.{Readings}
+use Rattle.answer.proofs.CheckLaws.{answers-apart}
 use Rattle.controller.proofs.LentLaws.{accepts-tells}
 use Rattle.request.specs.Submit.{Outcome, Settles, answerOf, judgeOf, lengthsOf, refusedSubmit, settledSubmit, submitChecks, submitOf, submitted}
 use Rattle.request.specs.declared.calls.Submitted.{Submitted}
 use Rattle.request.specs.declared.judge.TransferRequest.{TransferRequest}
-use Rattle.request.proofs.JudgeLaws.{answers-apart, settles}
+use Rattle.request.proofs.JudgeLaws.{settles}
 
 refusalOf : Refusal → Answer → Refusal
 refusalOf r Done = r

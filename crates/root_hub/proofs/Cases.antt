@@ -15,6 +15,7 @@ use Rattle.token.specs.EhciPortsc.{currentConnect, portEnabled}
 use Rattle.token.specs.Ports.{isSet}
 use Rattle.token.specs.declared.port.EhciPortStatus.{EhciPortStatus}
 use Rattle.settings.specs.Tests.{both, within}
+use Rattle.settings.proofs.Every.{both-assoc, both-true}
 use Rattle.settings.proofs.SettingsCases.{both-first, both-second, within-least, within-most}
 use Rattle.answer.specs.declared.answer.Answer.the-variants.{Done}
 use Rattle.answer.specs.declared.answer.Refusal.the-variants.{InvalidParameter}
@@ -184,14 +185,6 @@ module _ (a : Awaited) (st : ℕ) where
 
   pub fits-owner : a ≡ Owner → eqb st 1 ≡ fits a st
   fits-owner e = rw e
-
-both-assoc : (a b c : Bool) → both (both a b) c ≡ both a (both b c)
-both-assoc true b c = refl
-both-assoc false b c = refl
-
-both-true : (a : Bool) → both a true ≡ a
-both-true true = refl
-both-true false = refl
 
 pub ports-turn : (h : EhciRootHub) (k : ℕ) (g t r : Bool) → k < 15 → t ≡ stateGood (h .ports) k (getD (h .states) k 0) → r ≡ both g t
     → both r (statesGood (k + 1) (15 - (k + 1)) h) ≡ both g (statesGood k (15 - k) h)
