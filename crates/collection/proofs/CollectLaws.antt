@@ -16,7 +16,7 @@ use Rattle.state.specs.declared.state.Ehci.{Ehci}
 use Rattle.state.specs.Slots.{withSlot}
 use Rattle.state.specs.State.{withOwner}
 use Rattle.pipe.specs.Endpoints.{endpointAt, withEndpoint}
-use Rattle.controller.specs.Lent.{acceptsOf}
+use Rattle.controller.specs.Lent.{acceptsOf, lengths}
 use Rattle.opening.specs.Rows.{headWord, putAt}
 use Rattle.pipe.specs.declared.endpoint.Endpoint.the-variants.{Idle, Unlinking}
 use Rattle.pipe.specs.declared.endpoint.Pipe.{Pipe}
@@ -31,7 +31,7 @@ use Rattle.collection.specs.declared.collected.Collected.the-variants.{C
 use Rattle.collection.specs.declared.collected.Completion.{Completion}
 use Rattle.collection.specs.Answers.{collectedNumber, outcomeOf, pendingCollect}
 use Rattle.collection.specs.Unlinks.{passedBoundary}
-use Rattle.collection.specs.Calls.{Gathered, collectOf, finishOf, freed, gathered, lengthsOf}
+use Rattle.collection.specs.Calls.{Gathered, collectOf, finishOf, freed, gathered}
 use Rattle.collection.proofs.CallCases.{collect-ends, unlinking-ends, unlinking-waits}
 use Rattle.collection.proofs.FreedLaws.{freed-front}
 
@@ -147,7 +147,7 @@ outcome-decides b v = by b refl (eqb (v .failed) 0) refl
 -- ---- the call, boundary set
 
 module _ (s : Ehci) (pool : ℕ) (h f : List ℕ) (setups : ℕ) (rd : Readings) (v : View) (k : ℕ) (p : Pipe) (r : Request) (u : UnlinkBoundary)
-    (ok : acceptsOf s (lengthsOf pool h f setups) ≡ true) (e : endpointAt s k ≡ Unlinking p r u) where
+    (ok : acceptsOf s (lengths pool (length h) (length f) setups) ≡ true) (e : endpointAt s k ≡ Unlinking p r u) where
   -- passed: finished
   pub collect-passes : passedBoundary u (rd .frame) ≡ true
       → collectOf s pool h f setups rd v k (r .id) ≡ gathered (finishOf s v k p r) (endedOverlay h k) f

@@ -28,9 +28,9 @@ use Rattle.pipe.specs.declared.endpoint.UnlinkBoundary.{UnlinkBoundary}
 use Rattle.controller.specs.declared.lent.Readings.{Readings}
 use Rattle.pipe.proofs.EndpointLaws.{EndpointGood, LinkedGood, OpenPipe, UnlinkingGood, Passable, Suits, Wide, bell-wide, endpoint-keeps, owner-keeps, owner-wide}
 use Rattle.controller.proofs.ReaderLaws.{open-below, open-within}
-use Rattle.schedule.specs.Bell.{mustRing, ringOf, rungIf, unlinkedOf}
+use Rattle.schedule.specs.Bell.{bellOf, mustRing, ringOf, rungIf, unlinkedOf}
 use Rattle.schedule.specs.declared.bell.Bell.{Bell}
-use Rattle.collection.specs.Unlinks.{Left, bellOf, boundedOf, unlinkOf, waitingOf}
+use Rattle.collection.specs.Unlinks.{Left, boundedOf, unlinkOf, waitingOf}
 use Rattle.collection.specs.Calls.{Gathered, cancelOf, collectOf, finishOf, freed, marked, markedOf}
 use Rattle.collection.proofs.FreedLaws.{freed-hit, freed-miss, freed-past}
 use Rattle.collection.proofs.SlotFacts.{endpoint-good}

@@ -10,7 +10,7 @@ use Rattle.state.specs.declared.state.Ehci.{Ehci}
 use Rattle.state.specs.Slots.{slotAt}
 use Rattle.state.proofs.RangesLaws.{Ranges}
 use Rattle.pipe.specs.Endpoints.{endpointAt}
-use Rattle.controller.specs.Lent.{acceptsOf}
+use Rattle.controller.specs.Lent.{acceptsOf, lengths}
 use Rattle.controller.specs.Readers.{hasEndpoint, isOpen}
 use Rattle.pipe.specs.declared.endpoint.Endpoint.{Endpoint}
 use Rattle.pipe.specs.declared.endpoint.Endpoint.the-variants.{Linked, Unlinking}
@@ -22,7 +22,6 @@ use Rattle.pipe.proofs.EndpointLaws.{EndpointGood, Passable, endpoint-tells}
 use Rattle.controller.proofs.LentLaws.{Accepted, accepts-tells}
 use Rattle.controller.proofs.ReaderLaws.{open-below, open-within}
 use Rattle.collection.specs.Unlinks.{frameBelow}
-use Rattle.collection.specs.Calls.{lengthsOf}
 
 -- its endpoint is as the ranges say
 pub endpoint-good : (s : Ehci) (k : ℕ) → Ranges s → k < 32 → EndpointGood (s .unanswered) (endpointAt s k)
@@ -33,10 +32,10 @@ frame-passable : (u : ℕ) (b : UnlinkBoundary) → Passable u b → frameBelow 
 frame-passable u (Async n) h = tt
 frame-passable u (Periodic n) h = h
 
-module _ (s : Ehci) (pool : ℕ) (h f : List ℕ) (setups k : ℕ) (b : Bool) (eb : b ≡ acceptsOf s (lengthsOf pool h f setups)) (t : not b ≡ false)
+module _ (s : Ehci) (pool : ℕ) (h f : List ℕ) (setups k : ℕ) (b : Bool) (eb : b ≡ acceptsOf s (lengths pool (length h) (length f) setups)) (t : not b ≡ false)
     (x : Endpoint) (ex : x ≡ endpointAt s k) where
-  accepted : Accepted s (lengthsOf pool h f setups)
-  accepted = accepts-tells s (lengthsOf pool h f setups) (sym eb ∙ not-false b t)
+  accepted : Accepted s (lengths pool (length h) (length f) setups)
+  accepted = accepts-tells s (lengths pool (length h) (length f) setups) (sym eb ∙ not-false b t)
 
   ready : isOpen s k ≡ true
       → (k < 32) × (k < s .settings .endpoints) × (s .settings .endpoints ≤ 32) × (s .settings .descriptors ≤ 256)

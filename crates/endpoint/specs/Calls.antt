@@ -17,7 +17,7 @@ use Rattle.pipe.specs.declared.endpoint.Endpoint.the-variants.{Closed, Idle}
 use Rattle.controller.specs.declared.lent.Lengths.{Lengths}
 use Rattle.answer.specs.Answers.{Check, first, refusalNumber, settle}
 use Rattle.pipe.specs.Endpoints.{withEndpoint}
-use Rattle.controller.specs.Lent.{acceptsOf}
+use Rattle.controller.specs.Lent.{acceptsOf, lengths}
 use Rattle.controller.specs.Readers.{isOpen, isUncollected}
 use Rattle.opening.specs.Rows.{headWord, putAt, withHeadWord}
 use Rattle.endpoint.specs.declared.calls.Change.{Change}
@@ -25,10 +25,6 @@ use Rattle.endpoint.specs.declared.calls.EndpointOpening.{EndpointOpenin
 use Rattle.endpoint.specs.declared.calls.Opened.{Opened}
 use Rattle.endpoint.specs.declared.calls.Opened.the-variants.{Slot, Refused}
 use Rattle.endpoint.specs.Lowest.{lowestClosed}
-
--- the lengths of the rows: the heads are lent, the others are numbers
-abbrev pub lentRows : ℕ → List ℕ → ℕ → ℕ → Lengths
-lentRows pool heads frames setups = record { pool = pool; heads = length heads; frames = frames; setups = setups }
 
 -- slot k's head is at place k + 1
 abbrev pub withHead : List ℕ → ℕ → List ℕ → List ℕ
@@ -79,7 +75,7 @@ newEndpoint kind = Idle (record { kind = kind; next = 1 })
 
 unfoldable pub openEndpointOf : Ehci → ℕ → List ℕ → ℕ → ℕ → EndpointType → ℕ → ℕ → ℕ → OpenLeft
 openEndpointOf s pool heads frames setups kind address number packet =
-    settle (first (openChecks s (lentRows pool heads frames setups) kind (fieldsGood address number packet)))
+    settle (first (openChecks s (lengths pool (length heads) frames setups) kind (fieldsGood address number packet)))
     (λ r. openLeft (record { answer = Refused r; state = s }) heads)
     (openLeft (record { answer = Slot (lowestSlot s); state = withEndpoint s (lowestSlot s) (newEndpoint kind) })
     (withHead heads (lowestSlot s) (wordsOf (endpointHead kind address number packet))))
@@ -108,7 +104,7 @@ judgedOf s lent k good = settle (first (slotChecks s lent k good)) RefusedCall D
 -- a call on slot k that leaves a state and heads where it is not refused
 abbrev pub changeOf : Ehci → ℕ → List ℕ → ℕ → ℕ → ℕ → Bool → Ehci → List ℕ → ChangeLeft
 changeOf s pool heads frames setups k good s′ heads′ =
-    settle (first (slotChecks s (lentRows pool heads frames setups) k good))
+    settle (first (slotChecks s (lengths pool (length heads) frames setups) k good))
     (λ r. changeLeft (record { answer = RefusedCall r; state = s }) heads)
     (changeLeft (record { answer = Done; state = s′ }) heads′)
 

@@ -19,9 +19,9 @@ use Rattle.state.specs.declared.state.Ehci.{Ehci}
 use Rattle.settings.proofs.Every.{either-assoc, false-true}
 use Rattle.settings.proofs.SettingsCases.{both-first}
 use Rattle.schedule.specs.Links.{same}
-use Rattle.schedule.specs.Bell.{ringWord, mustRing, ringOf, unlinkedOf, advancedOf}
+use Rattle.schedule.specs.Bell.{ringWord, mustRing, ringOf, unlinkedOf, advancedOf, bellOf}
 use Rattle.schedule.specs.declared.bell.Bell.{Bell}
-use Rattle.interrupt.specs.Interrupts.{acknowledgeWrites, notedAfter, acknowledgedState, acknowledgeOf, bellOf, countedOf, drainOf, rearmOf, enableOf, disableOf}
+use Rattle.interrupt.specs.Interrupts.{acknowledgeWrites, notedAfter, acknowledgedState, acknowledgeOf, countedOf, drainOf, rearmOf, enableOf, disableOf}
 use Rattle.interrupt.specs.Once.{Call, Unlink, Acknowledge, Drain, Rearm, Enable, Disable, after, run, isRing, someRing, rings, reads, someRead, asks, asked, noneRings, AtMostOnce, JustRung, OncePerRing, RingLeaves, OnlyInDrains}
 
 -- ---- a ring is seen in the writes

@@ -24,7 +24,7 @@ use Rattle.state.specs.State.{withOwner}
 use Rattle.state.specs.declared.state.Ehci.{Ehci}
 use Rattle.answer.specs.Answers.{Check, Verdict, passed, refused, first, refusalNumber, settle}
 use Rattle.pipe.specs.Endpoints.{directionNumber, kindNumber, withEndpoint}
-use Rattle.controller.specs.Lent.{acceptsOf}
+use Rattle.controller.specs.Lent.{acceptsOf, lengths}
 use Rattle.controller.specs.Readers.{freeCount, isOpen, isUncollected}
 use Rattle.opening.specs.Rows.{putAt}
 use Rattle.answer.specs.declared.answer.Answer.{Answer}
@@ -33,7 +33,6 @@ use Rattle.answer.specs.declared.answer.Refusal.{Refusal}
 use Rattle.answer.specs.declared.answer.Refusal.the-variants.{InvalidParameter, InvalidEndpoint, QueueFull, NotSupported, NoMemory, NotReady}
 use Rattle.pipe.specs.declared.endpoint.Endpoint.{Endpoint}
 use Rattle.pipe.specs.declared.endpoint.Endpoint.the-variants.{Linked}
-use Rattle.controller.specs.declared.lent.Lengths.{Lengths}
 use Rattle.controller.specs.declared.lent.Readings.{Readings}
 use Rattle.schedule.specs.Bell.{commandWord}
 use Rattle.schedule.specs.Links.{Links, attachedFrames, attachedRing, headAddress, links, slotLink, startedOverlay}
@@ -234,13 +233,9 @@ settledSubmit s heads frames setups readings slot t =
     (linkedRows heads frames (t .kind) slot (slotLink s slot) (firstIn s (takenFor s slot t)))
     (setupsWith setups slot t)
 
-abbrev pub lengthsOf : ℕ → List ℕ → List ℕ → List ℕ → Lengths
-lengthsOf pool heads frames setups =
-    record { pool = pool; heads = length heads; frames = length frames; setups = length setups }
-
 unfoldable pub submitOf : Ehci → ℕ → List ℕ → List ℕ → List ℕ → Readings → ℕ → TransferRequest → Outcome
 submitOf s pool heads frames setups readings slot t =
     settle
-    (first ((not (acceptsOf s (lengthsOf pool heads frames setups)), InvalidParameter) ∷ submitChecks s slot t))
+    (first ((not (acceptsOf s (lengths pool (length heads) (length frames) (length setups))), InvalidParameter) ∷ submitChecks s slot t))
     (λ r. submitted (refusedSubmit s r) heads frames setups)
     (settledSubmit s heads frames setups readings slot t)
