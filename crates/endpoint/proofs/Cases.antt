@@ -21,6 +21,7 @@ use Rattle.pipe.specs.declared.endpoint.Endpoint.the-variants.{Closed}
 use Rattle.controller.specs.declared.lent.Lengths.{Lengths}
 use Rattle.answer.specs.Answers.{Verdict, first, settle}
 use Rattle.pipe.specs.Endpoints.{withEndpoint}
+use Rattle.pipe.specs.Kinds.{isIsochronous}
 use Rattle.controller.specs.Lent.{acceptsOf, lengths}
 use Rattle.controller.specs.Readers.{isOpen, isUncollected}
 use Rattle.opening.specs.Rows.{headWord, withHeadWord}
@@ -29,7 +30,7 @@ use Rattle.controller.proofs.LentLaws.{accepts-tells}
 use Rattle.endpoint.specs.declared.calls.Opened.{Opened}
 use Rattle.endpoint.specs.declared.calls.Opened.the-variants.{Slot, Refused}
 use Rattle.endpoint.specs.Lowest.{lowestClosed}
-use Rattle.endpoint.specs.Calls.{changeLeft, changeOf, chosenOf, closeOf, fieldsGood, isIsochronous, judgedOf, lowestSlot, newEndpoint, openChecks, openEndpointOf, openLeft, setAddressOf, setPacketSizeOf, slotChecks, withHead}
+use Rattle.endpoint.specs.Calls.{changeLeft, changeOf, chosenOf, closeOf, fieldsGood, judgedOf, lowestSlot, newEndpoint, openChecks, openEndpointOf, openLeft, setAddressOf, setPacketSizeOf, slotChecks, withHead}
 use Rattle.endpoint.proofs.SlotLaws.{below-room, open-room}
 
 -- ---- verdicts

@@ -21,15 +21,17 @@ use Rattle.answer.specs.declared.answer.Refusal.{Refusal}
 use Rattle.answer.specs.declared.answer.Refusal.the-variants.{SlotLimitReached}
 use Rattle.pipe.specs.declared.endpoint.Endpoint.the-variants.{Closed}
 use Rattle.pipe.specs.Endpoints.{encoded, endpointAt, flagNumber, withEndpoint}
+use Rattle.pipe.specs.Kinds.{isIsochronous}
 use Rattle.controller.specs.Lent.{acceptsOf, lengths}
 use Rattle.controller.specs.Readers.{hasEndpoint, isOpen}
 use Rattle.opening.specs.Rows.{headWord}
 use Rattle.pipe.proofs.EndpointLaws.{endpoint-keeps, endpoint-other, endpoint-same, slot-wide, Wide}
+use Rattle.pipe.proofs.KindLaws.{not-isochronous}
 use Rattle.answer.proofs.CheckLaws.{verdicts-apart}
 use Rattle.controller.proofs.LentLaws.{accepts-tells}
 use Rattle.endpoint.specs.declared.calls.Opened.{Opened}
 use Rattle.endpoint.specs.declared.calls.Opened.the-variants.{Slot, Refused}
-use Rattle.endpoint.specs.Calls.{chosenOf, fieldsGood, isIsochronous, lowestSlot, newEndpoint, openChecks, openEndpointOf, openLeft, OpenLeft, withHead}
+use Rattle.endpoint.specs.Calls.{chosenOf, fieldsGood, lowestSlot, newEndpoint, openChecks, openEndpointOf, openLeft, OpenLeft, withHead}
 use Rattle.endpoint.proofs.Cases.{open-done, open-passed, open-refused, openVerdict, slot-is, slotOf}
 use Rattle.endpoint.proofs.LowestLaws.{lower-open, lowest-closed}
 use Rattle.opening.proofs.RowLaws.{Only, put-inside, put-only}
@@ -56,9 +58,6 @@ fields-good a n p e =
       packet-most = leb-true p 1024 (w .1);
     }
 
-kind-not : (kind : EndpointType) → isIsochronous kind ≡ false → kind ≢ Isochronous
-kind-not kind e q = let z : _≡_ {A = ℕ} 1 0 = ap (λ (k : EndpointType). flagNumber (isIsochronous k)) (sym q) ∙ ap flagNumber e in absurd (omega arith)
-
 module _ (s : Ehci) (pool : ℕ) (h : List ℕ) (f u : ℕ) (kind : EndpointType) (a n p : ℕ) where
   -- the state and what is asked, where slot k is opened
   pub record Opens (k : ℕ) : Type 0 where
@@ -76,7 +75,7 @@ module _ (s : Ehci) (pool : ℕ) (h : List ℕ) (f u : ℕ) (kind : EndpointType
       let r = accepts-tells s (lengths pool (length h) f u) (t .0) .ranges in
       record {
         accepted = t .0;
-        never = kind-not kind (t .1);
+        never = not-isochronous kind (t .1);
         fields = fields-good a n p (t .2);
         below = t .3;
         was-closed = rw is (lowest-closed s r (omega (arith, t .3)));

@@ -1,11 +1,10 @@
 -- Document 01: open endpoint, close, set address, set packet size.
 use Prim.Native.Nat.{ℕ, _+_, _*_}
-use mathlib.Core.Bool.{Bool, true, false, not}
+use mathlib.Core.Bool.{Bool, true, not}
 use mathlib.Core.List.{List, [], _∷_}
 use lib.Dec.{leb}
 use lib.ListN.{length, replicate}
 use Rattle.token.specs.declared.request.EndpointType.{EndpointType}
-use Rattle.token.specs.declared.request.EndpointType.the-variants.{Control, Isochronous, Bulk, Interrupt}
 use Rattle.descriptor.specs.Heads.{endpointHead, wordsOf, withAddress, withPacketSize}
 use Rattle.settings.specs.Tests.{every, within}
 use Rattle.state.specs.declared.state.Ehci.{Ehci}
@@ -17,6 +16,7 @@ use Rattle.pipe.specs.declared.endpoint.Endpoint.the-variants.{Closed, Idle}
 use Rattle.controller.specs.declared.lent.Lengths.{Lengths}
 use Rattle.answer.specs.Answers.{Check, first, refusalNumber, settle}
 use Rattle.pipe.specs.Endpoints.{withEndpoint}
+use Rattle.pipe.specs.Kinds.{isIsochronous}
 use Rattle.controller.specs.Lent.{acceptsOf, lengths}
 use Rattle.controller.specs.Readers.{isOpen, isUncollected}
 use Rattle.opening.specs.Rows.{headWord, putAt, withHeadWord}
@@ -43,12 +43,6 @@ pub record OpenLeft : Type 0 where
 
 abbrev pub openLeft : EndpointOpening → List ℕ → OpenLeft
 openLeft opening heads = record { opening = opening; heads = heads }
-
-abbrev pub isIsochronous : EndpointType → Bool
-isIsochronous Control = false
-isIsochronous Isochronous = true
-isIsochronous Bulk = false
-isIsochronous Interrupt = false
 
 -- "address 0..=127, number 0..=15, packet size 1..=1024"
 unfoldable pub fieldsGood : ℕ → ℕ → ℕ → Bool

@@ -22,13 +22,14 @@ use Rattle.state.specs.declared.state.Ehci.{Ehci}
 use Rattle.state.proofs.RangesLaws.{Ranges}
 use Rattle.answer.specs.Answers.{Verdict, first, passed, refused}
 use Rattle.pipe.specs.Endpoints.{flagNumber, kindNumber}
+use Rattle.pipe.specs.Kinds.{isIsochronous}
 use Rattle.controller.specs.Readers.{countZero, freeCount, isOpen, isUncollected}
 use Rattle.answer.specs.declared.answer.Answer.the-variants.{Done}
 use Rattle.controller.specs.declared.lent.Lengths.{Lengths}
 use Rattle.answer.proofs.CheckLaws.{answers-apart, let-pass}
 use Rattle.controller.proofs.LentLaws.{Accepted}
 use Rattle.controller.proofs.ReaderLaws.{open-below, open-within}
-use Rattle.request.specs.Submit.{Settles, answerOf, bufferGood, controlGood, firstIn, isControl, isIsochronous, judgeOf, needOfRequest, placesFor, rangesGood, submitChecks, takenFor, takenOf}
+use Rattle.request.specs.Submit.{Settles, answerOf, bufferGood, controlGood, firstIn, judgeOf, needOfRequest, placesFor, rangesGood, submitChecks, takenFor, takenOf}
 use Rattle.request.specs.declared.judge.TransferRequest.{TransferRequest}
 use Rattle.request.proofs.SettleCases.{packed-first}
 

@@ -20,12 +20,13 @@ use Rattle.state.specs.Slots.{slotAt}
 use Rattle.state.specs.State.{withOwner}
 use Rattle.state.specs.declared.state.Ehci.{Ehci}
 use Rattle.pipe.specs.Endpoints.{withEndpoint}
+use Rattle.pipe.specs.Kinds.{isControl, isInterrupt}
 use Rattle.opening.specs.Rows.{putAt}
 use Rattle.pipe.specs.declared.endpoint.Endpoint.the-variants.{Linked}
 use Rattle.controller.specs.declared.lent.Readings.{Readings}
 use Rattle.schedule.specs.Bell.{commandWord}
 use Rattle.schedule.specs.Links.{Links, attachedFrames, attachedRing, headAddress, links, slotLink, startedOverlay}
-use Rattle.request.specs.Submit.{acceptedWith, afterId, chainFor, firstIn, idAt, isControl, isInterrupt, linkedRows, needOfRequest, settledSubmit, setupsWith, stateWith, submitted, takenFor, takenOf, transferOf, writesWith}
+use Rattle.request.specs.Submit.{acceptedWith, afterId, chainFor, firstIn, idAt, linkedRows, needOfRequest, settledSubmit, setupsWith, stateWith, submitted, takenFor, takenOf, transferOf, writesWith}
 use Rattle.request.specs.declared.calls.Submission.the-variants.{Accepted}
 use Rattle.request.specs.declared.calls.Submitted.{Submitted}
 use Rattle.request.specs.declared.judge.TransferRequest.{TransferRequest}

@@ -10,7 +10,6 @@ use lib.Dec.{eqb, leb, ltb}
 use lib.ListN.{drop, getD, length, length-take, set, take}
 use lib.Seq.{getD-append-add, getD-drop, getD-set-other, getD-take, length-take-le, take-at}
 use Rattle.token.specs.declared.request.EndpointType.{EndpointType}
-use Rattle.token.specs.declared.request.EndpointType.the-variants.{Isochronous}
 use Rattle.descriptor.specs.Descriptors.{nextWord}
 use Rattle.descriptor.specs.declared.qtd.QueueTransferDescriptor.{QueueTransferDescriptor}
 use Rattle.pool.specs.Chains.{blank, chainGood, fillOf, nextAt}
@@ -23,7 +22,6 @@ use Rattle.pool.proofs.Each.{each-at, each-map}
 use Rattle.pool.proofs.GoodLaws.{places-good, request-good}
 use Rattle.pool.proofs.PlaceLaws.{list-packed, mark-either, mark-length, mark-others, places-ascend, places-hold, places-within}
 use Rattle.slot.proofs.SlotLaws.{slot-tells}
-use Rattle.settings.proofs.Every.{false-true}
 use Rattle.settings.proofs.SettingsLaws.{both-tells}
 use Rattle.state.specs.Slots.{slotAt}
 use Rattle.state.specs.State.{withOwner}
@@ -32,13 +30,15 @@ use Rattle.state.proofs.RangesLaws.{Ranges}
 use Rattle.answer.specs.declared.answer.Answer.the-variants.{Done, Refused}
 use Rattle.answer.specs.declared.answer.Refusal.the-variants.{NoMemory}
 use Rattle.pipe.specs.Endpoints.{endpointAt, kindNumber, withEndpoint}
+use Rattle.pipe.specs.Kinds.{isInterrupt, isIsochronous}
 use Rattle.pipe.proofs.EndpointLaws.{Wide, endpoint-keeps, endpoint-other, owner-aside, owner-keeps, owner-wide}
+use Rattle.pipe.proofs.KindLaws.{not-isochronous}
 use Rattle.schedule.specs.Links.{attachedFrames, attachedRing, startedOverlay}
 use Rattle.controller.specs.Readers.{freeCount, isOpen, isUncollected}
 use Rattle.answer.proofs.CheckLaws.{answers-apart}
 use Rattle.controller.proofs.FreeLaws.{free-places}
 use Rattle.controller.proofs.ReaderLaws.{open-below, open-within}
-use Rattle.request.specs.Submit.{afterId, attachedBy, bufferGood, chainFor, firstIn, idAt, isInterrupt, isIsochronous, judgeOf, linkedRows, linkedWith, needOfRequest, pickNumber, placesFor, rangesGood, stateWith, takenFor, takenOf, transferOf}
+use Rattle.request.specs.Submit.{afterId, attachedBy, bufferGood, chainFor, firstIn, idAt, judgeOf, linkedRows, linkedWith, needOfRequest, pickNumber, placesFor, rangesGood, stateWith, takenFor, takenOf, transferOf}
 use Rattle.request.specs.declared.judge.TransferRequest.{TransferRequest}
 use Rattle.request.proofs.JudgeCases.{judge-done, judge-room}
 use Rattle.request.proofs.JudgeLaws.{Judged}
@@ -184,9 +184,6 @@ id-least id = by (eqb id (2 ^ 64 - 1))
     by : (b : Bool) → 1 ≤ pickNumber b 1 (id + 1)
     by true = omega arith
     by false = omega arith
-
-not-isochronous : (kind : EndpointType) → isIsochronous kind ≡ false → kind ≢ Isochronous
-not-isochronous kind e q = false-true (sym e ∙ ap isIsochronous q)
 
 module _ (s : Ehci) (k : ℕ) (t : TransferRequest) (r : Ranges s) (j : Judged s k t) (w : Wide s) (wide : length (s .owner) ≡ 256) where
   marked : List ℕ

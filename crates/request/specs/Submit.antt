@@ -9,7 +9,6 @@ use Rattle.register.specs.Writes.{noWrites, andThen}
 use Rattle.register.specs.declared.writes.Writes.{Writes}
 use Rattle.token.specs.Chunks.{needOf}
 use Rattle.token.specs.declared.request.EndpointType.{EndpointType}
-use Rattle.token.specs.declared.request.EndpointType.the-variants.{Control, Isochronous, Bulk, Interrupt}
 use Rattle.descriptor.specs.Setups.{setupPacket}
 use Rattle.pool.specs.Chains.{noChain}
 use Rattle.pool.specs.Places.{listIf, markOf, packed, placesFrom}
@@ -24,6 +23,7 @@ use Rattle.state.specs.State.{withOwner}
 use Rattle.state.specs.declared.state.Ehci.{Ehci}
 use Rattle.answer.specs.Answers.{Check, Verdict, passed, refused, first, refusalNumber, settle}
 use Rattle.pipe.specs.Endpoints.{directionNumber, kindNumber, withEndpoint}
+use Rattle.pipe.specs.Kinds.{isControl, isInterrupt, isIsochronous}
 use Rattle.controller.specs.Lent.{acceptsOf, lengths}
 use Rattle.controller.specs.Readers.{freeCount, isOpen, isUncollected}
 use Rattle.opening.specs.Rows.{putAt}
@@ -47,24 +47,6 @@ submissionNumber (Accepted id) = 0
 submissionNumber (Refused r) = refusalNumber r
 
 -- ---- the checks
-
-abbrev pub isControl : EndpointType → Bool
-isControl Control = true
-isControl Isochronous = false
-isControl Bulk = false
-isControl Interrupt = false
-
-abbrev pub isIsochronous : EndpointType → Bool
-isIsochronous Control = false
-isIsochronous Isochronous = true
-isIsochronous Bulk = false
-isIsochronous Interrupt = false
-
-abbrev pub isInterrupt : EndpointType → Bool
-isInterrupt Control = false
-isInterrupt Isochronous = false
-isInterrupt Bulk = false
-isInterrupt Interrupt = true
 
 -- "address + length at most 2^32 (any address at length 0)"
 unfoldable pub bufferGood : ℕ → ℕ → Bool
