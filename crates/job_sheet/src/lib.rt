@@ -1,0 +1,3 @@
+pub mod number;
+pub mod record;
+pub mod sheet;
