@@ -5,3 +5,5 @@ pub mod ReadCases
 pub mod Tables
 pub mod RecordLaws
 pub mod SheetLaws
+pub mod ListingCases
+pub mod ListingExamples

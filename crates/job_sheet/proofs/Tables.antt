@@ -9,7 +9,7 @@ use Rattle.job_sheet.specs.Sheets.{All, joined}
 use Rattle.job_sheet.specs.Reading.{upTo}
 
 module _ {A : Type 0} (w : A → List ℕ) where
-  joined-append : (xs ys : List A) → joined w (xs ++ ys) ≡ joined w xs ++ joined w ys
+  pub joined-append : (xs ys : List A) → joined w (xs ++ ys) ≡ joined w xs ++ joined w ys
   unfolding joined
   joined-append [] ys = refl
   joined-append (x ∷ xs) ys = rw (joined-append xs ys) (sym (append-assoc (w x) (joined w xs) (joined w ys)))

@@ -1,3 +1,4 @@
+pub mod listing;
 pub mod number;
 pub mod record;
 pub mod sheet;
