@@ -155,3 +155,8 @@ pub sheet-bad : (bytes : List ℕ) (n m : ℕ) (e : Endpoints) (r : Requests) (s
 unfolding sheetOf
 sheet-bad bytes n m e r s z p q t b =
     b ∙ rw (sym (tables-test bytes e r (rw (z .opens) at p) (rw (z .opens, z .submits) at q) (z .fits)) ∙ t)
+
+-- the counts of a bad sheet
+pub bad-counts : (s : Sheet) → s ≡ badSheet → (s .job .opens ≤ 8) × (s .job .submits ≤ 64)
+unfolding badSheet packed
+bad-counts s e = rw e (omega arith)

@@ -21,3 +21,7 @@ requestLine k answer id = 82 ∷ (numberField k ++ (numberField answer ++ (numbe
 
 unfoldable pub descriptorLine : ℕ → QueueTransferDescriptor → List ℕ
 descriptorLine place d = 68 ∷ (numberField place ++ (wordField (d .token) ++ (wordField (d .next) ++ (joined wordField (d .pages) ++ (10 ∷ [])))))
+
+-- "prints `bad sheet` alone"
+unfoldable pub badLine : List ℕ
+badLine = 98 ∷ 97 ∷ 100 ∷ 32 ∷ 115 ∷ 104 ∷ 101 ∷ 101 ∷ 116 ∷ 10 ∷ []

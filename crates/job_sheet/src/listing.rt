@@ -4,8 +4,9 @@ ghost use Prim.Native.Nat.{_+_, _*_, _≤_};
 ghost use lib.ListN.{length};
 ghost use Rattle.opening.specs.Rows.{putAt};
 ghost use Rattle.job_sheet.specs.Sheets.{joined};
-ghost use Rattle.job_sheet.specs.Listing.{numberField, wordField, endpointLine, requestLine, descriptorLine};
+ghost use Rattle.job_sheet.specs.Listing.{numberField, wordField, badLine, endpointLine, requestLine, descriptorLine};
 use descriptor::qtd::QueueTransferDescriptor;
+use opening::rows::put_bytes;
 use text::digits::put;
 use text::digits::put_decimal;
 use text::digits::put_hex;
@@ -81,4 +82,14 @@ pub fn put_descriptor(out: &mut [u8], at: usize, place: u64, d: QueueTransferDes
     next = put_word(out, next, d.next);
     next = put_words(out, next, &pages);
     put(out, next, b'\n')
+}
+
+// What is printed, alone, of a bad sheet.
+pub fn put_bad(out: &mut [u8], at: usize) -> usize
+    requires { ⌜ at + 10 ≤ length (now out) ⌝ }
+    ensures { λ r. ⌜ now (out .exit) ≡ putAt (now (out .entry)) at badLine ⌝ }
+    ensures { λ r. ⌜ r ≡ at + 10 ⌝ }
+{
+    put_bytes(out, at, b"bad sheet\n");
+    at + 10
 }

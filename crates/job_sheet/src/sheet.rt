@@ -155,6 +155,7 @@ fn bad_sheet() -> Sheet
 
 pub fn read_sheet(bytes: &[u8]) -> Sheet
     ensures { λ r. ⌜ r ≡ sheetOf (now (bytes .entry)) ⌝ }
+    ensures { λ r. ⌜ (r .job .opens ≤ 8) × (r .job .submits ≤ 64) ⌝ }
 {
     let n = read_sizes(bytes);
     if !n.good {

@@ -1,6 +1,6 @@
 use native.Mathlib.Omega.{arith}
 use borrow.Author.Tests.{not-false, not-true}
-use Rattle.job_sheet.proofs.ReadCases.{sheet-bad, sheet-good, sheet-sizes, sizes-known}
+use Rattle.job_sheet.proofs.ReadCases.{bad-counts, sheet-bad, sheet-good, sheet-sizes, sizes-known}
 use borrow.Author.Needs.{needs}
 use Rattle.job_sheet.proofs.sheet.read_sheet.Statement.{statement}
 use Rattle.job_sheet.proofs.sheet.read_sheet.Tie as tie
@@ -12,7 +12,9 @@ bad-sheet-requires : tie.Need-bad-sheet-requires
 bad-sheet-requires c κs = search needs
 
 returns : tie.Need-returns
-returns c = sheet-sizes _ (c .before .before .before .read-sizes .result) _ (c .before .before .before .read-sizes .ensures) (not-true _ (c .before .if1 .taken)) (c .bad-sheet .ensures)
+returns c =
+    let n = c .before .before .before .read-sizes in
+    (sheet-sizes _ (n .result) _ (n .ensures) (not-true _ (c .before .if1 .taken)) (c .bad-sheet .ensures), bad-counts _ (c .bad-sheet .ensures))
 
 read-endpoints-requires : tie.Need-read-endpoints-requires
 read-endpoints-requires c κs =
@@ -32,8 +34,8 @@ returns-2 c =
     let e = c .before .before .before .before .before .before in
     let n = e .before .before .before .read-sizes in
     let z = sizes-known _ (n .result) (n .ensures) (not-false _ (e .before .if1 .left)) in
-    sheet-good _ _ _ (e .read-endpoints .result) (c .before .before .before .before .read-requests .result) z
-    (e .read-endpoints .ensures) (c .before .before .before .before .read-requests .ensures) (c .if2 .taken)
+    let r = c .before .before .before .before .read-requests in
+    (sheet-good _ _ _ (e .read-endpoints .result) (r .result) z (e .read-endpoints .ensures) (r .ensures) (c .if2 .taken), (z .few, z .some))
 
 returns-3 : tie.Need-returns-3
 returns-3 c =
@@ -41,8 +43,11 @@ returns-3 c =
     let e = r .before .before in
     let n = e .before .before .before .read-sizes in
     let z = sizes-known _ (n .result) (n .ensures) (not-false _ (e .before .if1 .left)) in
-    sheet-bad _ _ _ (e .read-endpoints .result) (r .read-requests .result) _ z (e .read-endpoints .ensures) (r .read-requests .ensures)
-    (c .before .if2 .left) (c .bad-sheet2 .ensures)
+    let b = c .bad-sheet2 .ensures in (
+      sheet-bad _ _ _ (e .read-endpoints .result) (r .read-requests .result) _ z (e .read-endpoints .ensures) (r .read-requests .ensures)
+          (c .before .if2 .left) b,
+      bad-counts _ b,
+    )
 
 pub read-sheet-spec : {M : Type 1} → statement M
 read-sheet-spec =
