@@ -1,0 +1,23 @@
+use mathlib.Core.Path.{refl, ap, _∙_}
+use Rattle.ehci.proofs.Cases.{leave-is}
+use Rattle.ehci.specs.Decides.{acknowledgeDecided, acknowledgeReply}
+use borrow.Author.Needs.{needs}
+use Rattle.ehci.proofs.decide.on_acknowledge.Statement.{statement}
+use Rattle.ehci.proofs.decide.on_acknowledge.Tie as tie
+
+acknowledge-requires : tie.Need-acknowledge-requires
+acknowledge-requires c κs = search needs
+
+acknowledged-answer-requires : tie.Need-acknowledged-answer-requires
+acknowledged-answer-requires c κs = search needs
+
+leave-requires : tie.Need-leave-requires
+leave-requires c κs = search needs
+
+returns : tie.Need-returns
+unfolding acknowledgeDecided
+returns c = leave-is _ _ _ _ _ _ (c .leave .ensures) (c .before .acknowledged-answer .ensures) (refl) ∙ ap acknowledgeReply (c .before .before .before .before .acknowledge .ensures)
+
+pub on-acknowledge-spec : {M : Type 1} → statement M
+on-acknowledge-spec =
+    tie.close (tie.spec acknowledge-requires acknowledged-answer-requires leave-requires returns)
