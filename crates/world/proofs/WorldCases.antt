@@ -10,11 +10,15 @@ use Rattle.answer.specs.declared.answer.Answer.the-variants.{Done}
 use Rattle.settings.specs.declared.settings.Settings.{Settings}
 use Rattle.settings.specs.Settings.{numbersGood, settingsGood}
 use Rattle.state.specs.declared.state.Ehci.{Ehci}
+use Rattle.ehci.specs.declared.call.Call.{Call}
+use Rattle.ehci.specs.declared.reply.Reply.{Reply}
+use Rattle.ehci.specs.Door.{Applied, applied, applyOf}
 use Rattle.opening.specs.declared.open.Opening.{Opening}
 use Rattle.opening.specs.Opening.{Decided, Opened, decided, decideOpenOf, freshState, noSettings, openOf, opened, refusedOpening}
 use Rattle.world.specs.declared.world.World.{World}
+use Rattle.world.specs.declared.world.Called.{Called}
 use Rattle.world.specs.declared.world.OpenedRows.{OpenedRows}
-use Rattle.world.specs.Worlds.{blankState, blankWorld, bytesLent, openRows, openWorld, ownedRows, recordsLent, rowsAfter, wordsLent, worldAfter, worldOpened}
+use Rattle.world.specs.Worlds.{blankState, blankWorld, bytesLent, callRows, callWorld, calledAfter, gatheredOf, openRows, openWorld, ownedRows, recordsLent, rowsAfter, wordsLent, worldAfter, worldOpened}
 
 pub refused-state : (o : Opening) (h f u : List ℕ) (e : decided o h f u ≡ decideOpenOf noSettings 0 (0 ∷ []) (0 ∷ []) (0 ∷ [])) → o .state ≡ freshState noSettings
 unfolding decideOpenOf settingsGood numbersGood refusedOpening freshState
@@ -40,3 +44,14 @@ pub opened-in : (w : World) (s : Settings) (d h u : ℕ) (o : OpenedRows) (after
     → record { world = after; hub = o .opening .hub; answer = o .opening .answer } ≡ openWorld w s
 unfolding openWorld
 opened-in w s d h u o after ed eh eu eo ea = rw (ea, eo, ed, eh, eu)
+
+pub called-rows : (s : Ehci) (rs : List Record) (hs fs us : List ℕ) (d h u : ℕ) (c : Call) (o : Reply) (wr : List Record) (wh wf wu : List ℕ) (r : Called)
+    → applied o wr wh wf wu ≡ applyOf s (take d rs) (take h hs) fs (take u us) c → r ≡ gatheredOf o (wr ++ drop d rs) (wh ++ drop h hs) wf (wu ++ drop u us)
+    → r ≡ callRows s rs hs fs us d h u c
+unfolding callRows
+called-rows s rs hs fs us d h u c o wr wh wf wu r e er = er ∙ ap (λ (x : Applied). calledAfter x rs hs us d h u) e
+
+pub called-on : (w : World) (call : Call) (d h u : ℕ) (r : Called) → d ≡ recordsLent (w .state .settings) → h ≡ wordsLent (w .state .settings) → u ≡ bytesLent (w .state .settings)
+    → r ≡ callRows (w .state) (w .pool) (w .heads) (w .frames) (w .setups) d h u call → r ≡ callWorld w call
+unfolding callWorld
+called-on w call d h u r ed eh eu er = rw (er, ed, eh, eu)

@@ -9,9 +9,13 @@ use Rattle.answer.specs.declared.answer.Answer.the-variants.{Done, Refused}
 use Rattle.settings.specs.declared.settings.Settings.{Settings}
 use Rattle.settings.specs.Settings.{poolLength, headsLength, setupsLength}
 use Rattle.state.specs.declared.state.Ehci.{Ehci}
+use Rattle.ehci.specs.declared.call.Call.{Call}
+use Rattle.ehci.specs.declared.reply.Reply.{Reply}
+use Rattle.ehci.specs.Door.{Applied, applyOf}
 use Rattle.opening.specs.declared.open.Opening.{Opening}
 use Rattle.opening.specs.Opening.{Opened, freshState, noSettings, openOf}
 use Rattle.world.specs.declared.world.World.{World}
+use Rattle.world.specs.declared.world.Called.{Called}
 use Rattle.world.specs.declared.world.OpenedRows.{OpenedRows}
 use Rattle.world.specs.declared.world.OpenedWorld.{OpenedWorld}
 
@@ -80,3 +84,28 @@ unfoldable pub openWorld : World → Settings → OpenedWorld
 openWorld w s =
     openedWorld w
     (openRows s (w .pool) (w .heads) (w .frames) (w .setups) (recordsLent s) (wordsLent s) (bytesLent s))
+
+abbrev pub gatheredOf : Reply → List QueueTransferDescriptor → List ℕ → List ℕ → List ℕ → Called
+gatheredOf r pool heads frames setups =
+    record {
+      world = record { state = r .state; pool = pool; heads = heads; frames = frames; setups = setups };
+      answer = r .answer;
+      writes = r .writes;
+    }
+
+-- the reply; the lent parts as the call leaves them, and after each the rest of its row
+abbrev pub calledAfter : Applied → List QueueTransferDescriptor → List ℕ → List ℕ → ℕ → ℕ → ℕ → Called
+calledAfter a pool heads setups d h u =
+    gatheredOf (a .reply) (a .pool ++ drop d pool) (a .heads ++ drop h heads) (a .frames) (a .setups ++ drop u setups)
+
+-- a call that is lent the first d records, h words, all the entries and the first u bytes
+unfoldable pub callRows :
+    Ehci → List QueueTransferDescriptor → List ℕ → List ℕ → List ℕ → ℕ → ℕ → ℕ → Call → Called
+callRows s pool heads frames setups d h u call =
+    calledAfter (applyOf s (take d pool) (take h heads) frames (take u setups) call) pool heads setups d h u
+
+-- a call on a world
+unfoldable pub callWorld : World → Call → Called
+callWorld w call =
+    callRows (w .state) (w .pool) (w .heads) (w .frames) (w .setups)
+    (recordsLent (w .state .settings)) (wordsLent (w .state .settings)) (bytesLent (w .state .settings)) call

@@ -13,13 +13,21 @@ ghost use Rattle.world.specs.Worlds.{
   worldAfter,
   worldOpened,
   openWorld,
+  gatheredOf,
+  callRows,
+  callWorld,
 };
 use answer::answer::Answer;
 use descriptor::qtd::QueueTransferDescriptor;
+use ehci::call::Call;
+use ehci::door::apply;
+use ehci::reply::Answered;
+use ehci::reply::Reply;
 use opening::hub::EhciRootHub;
 use opening::open::Opening;
 use opening::open::decide_open;
 use opening::open::open;
+use register::writes::Writes;
 use settings::settings::Settings;
 use state::state::Ehci;
 
@@ -29,6 +37,12 @@ pub struct World {
     pub heads: [u32; 561],
     pub frames: [u32; 1024],
     pub setups: [u8; 256],
+}
+
+pub struct Called {
+    pub world: World,
+    pub answer: Answered,
+    pub writes: Writes,
 }
 
 pub struct OpenedWorld {
@@ -209,4 +223,67 @@ pub fn open_in(world: World, settings: Settings) -> OpenedWorld
         hub,
         answer,
     }
+}
+
+fn gathered(
+    reply: Reply,
+    pool: [QueueTransferDescriptor; 256],
+    heads: [u32; 561],
+    frames: [u32; 1024],
+    setups: [u8; 256],
+) -> Called
+    ensures { λ r. ⌜ r ≡ gatheredOf reply pool heads frames setups ⌝ }
+{
+    let state = reply.state;
+    let answer = reply.answer;
+    let writes = reply.writes;
+    Called {
+        world: World {
+            state,
+            pool,
+            heads,
+            frames,
+            setups,
+        },
+        answer,
+        writes,
+    }
+}
+
+// As in an opening, with the state and the call.
+fn lend_call(
+    state: Ehci,
+    pool: [QueueTransferDescriptor; 256],
+    heads: [u32; 561],
+    frames: [u32; 1024],
+    setups: [u8; 256],
+    d: usize,
+    h: usize,
+    u: usize,
+    call: Call,
+) -> Called
+    requires { ⌜ (d ≤ 256) × (h ≤ 561) × (u ≤ 256) ⌝ }
+    ensures { λ r. ⌜ r ≡ callRows state pool heads frames setups d h u call ⌝ }
+{
+    let mut records = pool;
+    let mut words = heads;
+    let mut entries = frames;
+    let mut bytes = setups;
+    let reply = apply(state, &mut records[..d], &mut words[..h], &mut entries, &mut bytes[..u], call);
+    gathered(reply, records, words, entries, bytes)
+}
+
+pub fn call_on(world: World, call: Call) -> Called
+    ensures { λ r. ⌜ r ≡ callWorld world call ⌝ }
+{
+    let state = world.state;
+    let settings = state.settings;
+    let d = records_lent(settings);
+    let h = words_lent(settings);
+    let u = bytes_lent(settings);
+    let pool = world.pool;
+    let heads = world.heads;
+    let frames = world.frames;
+    let setups = world.setups;
+    lend_call(state, pool, heads, frames, setups, d, h, u, call)
 }
