@@ -12,6 +12,7 @@ use Rattle.register.specs.Bits.{withBits, withoutBits, anyOf}
 use Rattle.register.specs.Writes.{noWrites, andThen}
 use Rattle.register.specs.declared.writes.Writes.{Writes}
 use Rattle.settings.specs.Tests.{either}
+use Rattle.settings.proofs.Every.{either-assoc}
 use Rattle.slot.specs.declared.slot.Slot.{Slot}
 use Rattle.state.specs.declared.state.Ehci.{Ehci}
 use Rattle.state.specs.Ranges.{inRanges}
@@ -31,12 +32,6 @@ use Rattle.bring_up.specs.BringUp.{anyUncollected, heldIn, stageOf, regi
 
 -- ---- the slots
 
-pub held-linked : (p : ℕ) → p ≡ 2 → true ≡ heldIn p
-held-linked p e = rw (eq-eqb p 2 e)
-
-pub held-other : (p : ℕ) → (p ≡ 2 → ⊥) → eqb p 3 ≡ heldIn p
-held-other p e = rw (ne-eqb p 2 e)
-
 decoded-holds : (e : Slot) (b c : Bool) → (e .phase ≡ 1 → ⊥) → eqb (e .phase) 2 ≡ b → eqb (e .phase) 3 ≡ c → heldIn (e .phase) ≡ holdsRequest (decoded e)
 unfolding decoded
 decoded-holds e true c n q r = rw (ne-eqb (e .phase) 1 n, q)
@@ -55,18 +50,14 @@ held-is s k h = rw (lt-ltb k 32 h) (by (decEq (slotAt s k .phase) 1))
     by (yes q) = idle-holds (slotAt s k) q
     by (no n) = decoded-holds (slotAt s k) _ _ n refl refl
 
-either-assoc : (a b c : Bool) → either (either a b) c ≡ either a (either b c)
-either-assoc true b c = refl
-either-assoc false b c = refl
-
 either-false : (a : Bool) → either a false ≡ a
 either-false true = refl
 either-false false = refl
 
-pub busy-turn : (s : Ehci) (k : ℕ) (b t r : Bool) → k < 32 → t ≡ heldIn (getD (s .phases) k 0) → r ≡ either b t
-    → either r (anyUncollected (k + 1) (32 - (k + 1)) s) ≡ either b (anyUncollected k (32 - k) s)
+pub busy-turn : (s : Ehci) (k : ℕ) (b : Bool) → k < 32
+    → either (either b (heldIn (getD (s .phases) k 0))) (anyUncollected (k + 1) (32 - (k + 1)) s) ≡ either b (anyUncollected k (32 - k) s)
 unfolding anyUncollected
-busy-turn s k b t r h et er = rw (er, et ∙ held-is s k h, add-one k, more) (either-assoc b _ _)
+busy-turn s k b h = rw (held-is s k h, add-one k, more) (either-assoc b _ _)
   where
     more : 32 - k ≡ suc (32 - suc k)
     more = omega arith

@@ -11,6 +11,7 @@ use lib.Dec.{ltb}
 use lib.ListN.{length}
 use Rattle.register.specs.Bits.{anyOf}
 use Rattle.register.specs.Writes.{writeOf, noWrites, andThen}
+use Rattle.settings.proofs.Every.{false-true}
 use Rattle.state.specs.declared.state.Ehci.{Ehci}
 use Rattle.state.specs.Ranges.{inRanges}
 use Rattle.state.specs.Slots.{slotAt}
@@ -18,7 +19,6 @@ use Rattle.state.specs.State.{withBringUp}
 use Rattle.state.proofs.RangesLaws.{Ranges, ranges-make, ranges-tell}
 use Rattle.answer.specs.declared.answer.Answer.the-variants.{Done}
 use Rattle.answer.specs.declared.answer.Refusal.the-variants.{InvalidParameter, QueueFull, Timeout}
-use Rattle.pipe.specs.Endpoints.{flagNumber}
 use Rattle.bring_up.specs.declared.reads.NextRead.the-variants.{Register}
 use Rattle.bring_up.specs.declared.stage.Stage.{Stage}
 use Rattle.bring_up.specs.declared.stage.Stage.the-variants.{Stop, Halting, Reset, Resetting, Run, Starting}
@@ -165,9 +165,6 @@ some-left s r = go (stageOf (s .step))
     go Run = omega arith
     go Starting = omega (arith, r .waited-below)
 
-true-false : true ≡ false → ⊥
-true-false q = let z : _≡_ {A = ℕ} 1 0 = ap (λ (b : Bool). flagNumber b) q in omega arith
-
 -- a step that goes on: in the ranges, and nearer to the end
 abbrev Nearer : Ehci → BroughtUp → Type 0
 Nearer s r = GoesOn r × (Ranges (r .state) × (leftOf (r .state) < leftOf s))
@@ -196,11 +193,11 @@ module _ (s : Ehci) (r : Ranges s) (v : ℕ) where
   waits-goes : (st : Stage) → stageOf (s .step) ≡ st → (s .step ≡ 0 → ⊥) → ready st v ≡ false
       → Ended (againOf s (registerOf st)) ⊎ Nearer s (againOf s (registerOf st))
   unfolding left
-  waits-goes Stop q h t = absurd (true-false t)
+  waits-goes Stop q h t = absurd (false-true (sym t))
   waits-goes Halting q h t = again-goes Halting q h (omega (arith, r .waited-below)) (ltb (s .waited + 1) (s .settings .wait)) refl
-  waits-goes Reset q h t = absurd (true-false t)
+  waits-goes Reset q h t = absurd (false-true (sym t))
   waits-goes Resetting q h t = again-goes Resetting q h (omega (arith, r .waited-below)) (ltb (s .waited + 1) (s .settings .wait)) refl
-  waits-goes Run q h t = absurd (true-false t)
+  waits-goes Run q h t = absurd (false-true (sym t))
   waits-goes Starting q h t = again-goes Starting q h (omega (arith, r .waited-below)) (ltb (s .waited + 1) (s .settings .wait)) refl
 
   step-goes : (st : Stage) → stageOf (s .step) ≡ st → (s .step ≡ 0 → ⊥) → (b : Bool) → ready st v ≡ b

@@ -1,7 +1,6 @@
 // The public calls: start and step.
 ghost use mathlib.Core.Path.{_≡_};
-ghost use Prim.Native.Nat.{_<_};
-ghost use Rattle.bring_up.specs.BringUp.{refusedBringUp, startOf, againOf, stepOf};
+ghost use Rattle.bring_up.specs.BringUp.{startOf, stepOf};
 use crate::busy::any_uncollected;
 use crate::reads::NextRead;
 use crate::stage::is_ready;
@@ -9,6 +8,8 @@ use crate::stage::moved_on;
 use crate::stage::register_of;
 use crate::stage::stage_of;
 use crate::stage::stage_writes;
+use crate::wait::refuse;
+use crate::wait::wait_again;
 use answer::answer::Answer;
 use answer::answer::Refusal;
 use register::ehci::USBCMD;
@@ -77,38 +78,4 @@ pub fn step(mut state: Ehci, reading: u32) -> BroughtUp
         };
     }
     wait_again(state, register_of(stage))
-}
-
-// The W-th read that is not ready ends the bring-up.
-fn wait_again(mut state: Ehci, register: u32) -> BroughtUp
-    requires { ⌜ state .waited < 65536 ⌝ }
-    ensures { λ r. ⌜ r ≡ againOf state register ⌝ }
-{
-    let waited = state.waited + 1;
-    state.running = 0;
-    if waited < state.settings.wait {
-        state.waited = waited;
-        return BroughtUp {
-            answer: Answer::Done,
-            state,
-            writes: Writes::none(),
-            read: NextRead::Register(register),
-            wait: 0,
-        };
-    }
-    state.step = 0;
-    state.waited = 0;
-    refuse(state, Refusal::Timeout)
-}
-
-fn refuse(state: Ehci, refusal: Refusal) -> BroughtUp
-    ensures { λ r. ⌜ r ≡ refusedBringUp state refusal ⌝ }
-{
-    BroughtUp {
-        answer: Answer::Refused(refusal),
-        state,
-        writes: Writes::none(),
-        read: NextRead::Nothing,
-        wait: 0,
-    }
 }

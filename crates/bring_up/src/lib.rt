@@ -3,3 +3,4 @@ pub mod busy;
 pub mod calls;
 pub mod reads;
 pub mod stage;
+pub mod wait;

@@ -2,12 +2,10 @@
 use Prim.Native.Nat.{ℕ, _+_, _≤_, _<_}
 use mathlib.Core.Path.{_≡_, sym, _∙_}
 use mathlib.Core.Bool.{Bool, true, false, not}
-use mathlib.Core.List.{List}
 use native.Mathlib.Omega.{arith}
 use borrow.Author.Tests.{leb-true, ltb-true, not-false, not-true}
 use lib.Dec.{eqb, leb, ltb}
 use lib.ListN.{length, take}
-use lib.Seq.{length-take-le}
 use Rattle.pool.specs.Chains.{noAsk}
 use Rattle.pool.specs.Places.{packed, placesFrom}
 use Rattle.pool.specs.declared.chain.Ask.{Ask}
@@ -24,15 +22,6 @@ use Rattle.pipe.specs.declared.endpoint.Pipe.{Pipe}
 use Rattle.pipe.specs.declared.endpoint.Request.{Request}
 use Rattle.pipe.specs.declared.endpoint.UnlinkBoundary.{UnlinkBoundary}
 use Rattle.collection.specs.Asks.{askable, askOf, requestAsk}
-
-pub front : (d : ℕ) (o : List ℕ) → d ≤ length o → d ≡ length (take d o)
-front d o h = sym (length-take-le d o h)
-
-pub front-256 : (d : ℕ) (o : List ℕ) → length o ≡ 256 → d ≤ 256 → d ≡ length (take d o)
-front-256 d o e h = front d o (omega arith)
-
-pub part-within : (d : ℕ) (o : List ℕ) → length o ≡ 256 → d ≤ 256 → length (take d o) ≤ 256
-part-within d o e h = omega (arith, front-256 d o e h)
 
 pub may-is : (s : Settings) (pool slot : ℕ)
     → both (both (both (leb (s .descriptors) 256) (eqb (s .descriptors) pool)) (leb (s .limit) 16384)) (ltb slot 32) ≡ askable s pool slot

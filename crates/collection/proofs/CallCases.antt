@@ -4,7 +4,7 @@ use mathlib.Core.Path.{_≡_, sym, ap, _∙_}
 use mathlib.Core.Bool.{Bool, true, false, not}
 use mathlib.Core.List.{List, _++_}
 use borrow.Author.Tests.{eq-eqb, le-leb, lt-leb, ne-eqb, not-false, not-true}
-use lib.ListN.{drop, take}
+use lib.ListN.{drop, length, take}
 use Rattle.register.specs.Writes.{noWrites}
 use Rattle.register.specs.declared.writes.Writes.{Writes}
 use Rattle.pool.specs.Places.{clearOf}
@@ -12,7 +12,7 @@ use Rattle.pool.specs.declared.chain.View.{View}
 use Rattle.state.specs.declared.state.Ehci.{Ehci}
 use Rattle.state.specs.State.{withOwner}
 use Rattle.pipe.specs.Endpoints.{endpointAt, withEndpoint}
-use Rattle.controller.specs.Lent.{acceptsOf}
+use Rattle.controller.specs.Lent.{acceptsOf, lengths}
 use Rattle.answer.specs.declared.answer.Answer.the-variants.{Done}
 use Rattle.answer.specs.declared.answer.Refusal.the-variants.{InvalidEndpoint, InvalidParameter}
 use Rattle.pipe.specs.declared.endpoint.Endpoint.{Endpoint}
@@ -27,7 +27,7 @@ use Rattle.collection.specs.declared.collected.Collected.{Collected}
 use Rattle.collection.specs.declared.collected.Collection.{Collection}
 use Rattle.collection.specs.Answers.{outcomeOf, pendingCollect, pendingOf, refusedCancel, refusedCollect}
 use Rattle.collection.specs.Unlinks.{left, passedBoundary, unlinkOf}
-use Rattle.collection.specs.Calls.{Ended, cancelOf, collectOf, ended, finishOf, freed, gathered, lengthsOf, linkedOf, marked, markedOf, unlinkingOf}
+use Rattle.collection.specs.Calls.{Ended, cancelOf, collectOf, ended, finishOf, freed, gathered, linkedOf, marked, markedOf, unlinkingOf}
 
 -- ---- cancel
 
@@ -37,7 +37,7 @@ pub marks : (s st : Ehci) (k : ℕ) (p : Pipe) (r q : Request) (u : UnlinkBounda
 marks s st k p r q u w eq es ew = rw (es, eq, ew)
 
 module _ (s : Ehci) (pool : ℕ) (h f : List ℕ) (setups : ℕ) (rd : Readings) (k id : ℕ) (b : Bool)
-    (eb : b ≡ acceptsOf s (lengthsOf pool h f setups)) (c : Cancellation) where
+    (eb : b ≡ acceptsOf s (lengths pool (length h) (length f) setups)) (c : Cancellation) where
   pub cancel-bad : not b ≡ true → c ≡ refusedCancel s InvalidParameter → left c h f ≡ cancelOf s pool h f setups rd k id
   unfolding cancelOf
   cancel-bad t ec = rw (ec, sym eb ∙ not-true b t)
@@ -114,7 +114,7 @@ module _ (s : Ehci) (h : List ℕ) (frame : ℕ) (v : View) (k : ℕ) (p : Pipe)
 -- ---- collect
 
 module _ (s : Ehci) (pool : ℕ) (h f : List ℕ) (setups : ℕ) (rd : Readings) (v : View) (k id : ℕ) (b : Bool)
-    (eb : b ≡ acceptsOf s (lengthsOf pool h f setups)) (c : Collection) where
+    (eb : b ≡ acceptsOf s (lengths pool (length h) (length f) setups)) (c : Collection) where
   pub collect-bad : not b ≡ true → c ≡ refusedCollect s InvalidParameter → gathered c h f ≡ collectOf s pool h f setups rd v k id
   unfolding collectOf
   collect-bad t ec = rw (ec, sym eb ∙ not-true b t)

@@ -12,9 +12,10 @@ use Rattle.register.specs.declared.writes.Writes.{Writes}
 use Rattle.token.specs.declared.request.EndpointType.{EndpointType}
 use Rattle.token.specs.declared.request.EndpointType.the-variants.{Control, Isochronous, Bulk, Interrupt}
 use Rattle.pool.specs.declared.chain.View.{View}
+use Rattle.settings.proofs.Every.{false-true}
 use Rattle.state.specs.declared.state.Ehci.{Ehci}
 use Rattle.pipe.specs.Endpoints.{endpointAt}
-use Rattle.controller.specs.Lent.{acceptsOf}
+use Rattle.controller.specs.Lent.{acceptsOf, lengths}
 use Rattle.controller.specs.Readers.{hasEndpoint}
 use Rattle.opening.specs.Rows.{headWord}
 use Rattle.answer.specs.declared.answer.Answer.{Answer}
@@ -25,22 +26,19 @@ use Rattle.pipe.specs.declared.endpoint.Pipe.{Pipe}
 use Rattle.pipe.specs.declared.endpoint.Request.{Request}
 use Rattle.controller.specs.declared.lent.Readings.{Readings}
 use Rattle.controller.proofs.LentLaws.{accepts-tells}
-use Rattle.schedule.specs.Bell.{mustRing, ringOf, ringWord, rungIf, unlinkedOf}
+use Rattle.controller.proofs.ReaderLaws.{open-within}
+use Rattle.schedule.specs.Bell.{bellOf, mustRing, ringOf, ringWord, rungIf, unlinkedOf}
 use Rattle.schedule.specs.Links.{endedOverlay}
 use Rattle.schedule.specs.declared.bell.Bell.{Bell}
 use Rattle.collection.specs.declared.collected.Collected.{Collected}
 use Rattle.collection.specs.declared.collected.Collected.the-variants.{Complete, Pending, Cancelled, Failed, Refused}
 use Rattle.collection.specs.Answers.{outcomeOf, pendingCollect, refusedCancel, refusedCollect}
-use Rattle.collection.specs.Unlinks.{Left, bellOf, boundedOf, left, unlinkOf, waitingOf}
-use Rattle.collection.specs.Calls.{Gathered, cancelOf, collectOf, finishOf, gathered, lengthsOf, marked, pendingLeft}
+use Rattle.collection.specs.Unlinks.{Left, boundedOf, left, unlinkOf, waitingOf}
+use Rattle.collection.specs.Calls.{Gathered, cancelOf, collectOf, finishOf, gathered, marked, pendingLeft}
 use Rattle.collection.proofs.CallCases.{collect-looks, linked-unlinks, linked-waits}
 use Rattle.collection.proofs.CollectLaws.{ended-length, ended-others}
-use Rattle.collection.proofs.SlotFacts.{open-below}
 use Rattle.collection.proofs.Splits.{cancel-split, collect-split, unlink-split}
 use Rattle.collection.proofs.StayLaws.{unlink-rows}
-
-true-false : true ≡ false → ⊥
-true-false q = let z : _≡_ {A = ℕ} 0 1 = cc in omega arith
 
 abbrev isDone : Answer → Bool
 isDone Done = true
@@ -112,20 +110,20 @@ module _ (s : Ehci) (pool : ℕ) (h f : List ℕ) (setups : ℕ) (rd : Readings)
       cancel-split s pool h f setups rd k id (KeepsLeft x) (λ y e. ap (λ (a : Answer). left (record { answer = a; state = s; writes = noWrites }) h f) e)
       (λ p r ok e u i.
       unlink-split s h f rd k p (marked r) (KeepsLeft x) (λ q. ap (λ (a : Answer). left (record { answer = a; state = s; writes = noWrites }) h f) q)
-      (λ found q. absurd (true-false (sym (waiting-done s rd k p (marked r)) ∙ ap isDone q))))
-      (λ p r u ok e i q. absurd (true-false (ap isDone q)))
+      (λ found q. absurd (false-true (sym (ap isDone q) ∙ waiting-done s rd k p (marked r)))))
+      (λ p r u ok e i q. absurd (false-true (sym (ap isDone q))))
 
   pub collect-refusal-keeps : (v : View) (x : Refusal) → collectOf s pool h f setups rd v k id .came .answer ≡ Refused x
       → collectOf s pool h f setups rd v k id ≡ gathered (refusedCollect s x) h f
   unfolding finishOf waitingOf
   collect-refusal-keeps v x =
       collect-split s pool h f setups rd k id v (KeepsGathered x) (λ y e. ap (λ (a : Collected). gathered (record { answer = a; state = s; writes = noWrites }) h f) e)
-      (λ e. absurd (true-false (ap isResult e)))
+      (λ e. absurd (false-true (sym (ap isResult e))))
       (λ p r ok e u i n.
       unlink-split s h f rd k p r (λ (l : Left). KeepsGathered x (pendingLeft l))
       (λ q. ap (λ (a : Collected). gathered (record { answer = a; state = s; writes = noWrites }) h f) q)
-      (λ found q. absurd (true-false (ap isResult q))))
-      (λ p r u ok e i t q. absurd (true-false (sym (outcome-result (r .cancelled) v) ∙ ap isResult q)))
+      (λ found q. absurd (false-true (sym (ap isResult q)))))
+      (λ p r u ok e i t q. absurd (false-true (sym (ap isResult q) ∙ outcome-result (r .cancelled) v)))
 
   -- ---- writes
 
@@ -165,11 +163,10 @@ module _ (s : Ehci) (pool : ℕ) (h f : List ℕ) (setups : ℕ) (rd : Readings)
           let rows = unlink-rows s pool h f setups rd k id p r in
           record { heads-long = rows .heads-long; frames-long = rows .frames-long; words-stay = λ place i l m o. rows .words-stay place i l m }
 
-      ends : {c : _} → acceptsOf s (lengthsOf pool h f setups) ≡ true → hasEndpoint (endpointAt s k) ≡ true → CollectRows (gathered c (endedOverlay h k) f)
+      ends : {c : _} → acceptsOf s (lengths pool (length h) (length f) setups) ≡ true → hasEndpoint (endpointAt s k) ≡ true → CollectRows (gathered c (endedOverlay h k) f)
       ends ok o =
-          let a = accepts-tells s (lengthsOf pool h f setups) ok in
-          let below = open-below s k (a .ranges) o in
-          let fits : 17 * (k + 1) + 17 ≤ length h = omega (arith, below .1, a .fitting .heads-fit) in
+          let a = accepts-tells s (lengths pool (length h) (length f) setups) ok in
+          let fits : 17 * (k + 1) + 17 ≤ length h = omega (arith, open-within s k (a .ranges) o, a .fitting .heads-fit) in
           record {
             heads-long = ended-length h k fits;
             frames-long = refl;
@@ -184,7 +181,7 @@ module _ (s : Ehci) (pool : ℕ) (h f : List ℕ) (setups : ℕ) (rd : Readings)
 -- ---- boundary not set
 
 module _ (s : Ehci) (pool : ℕ) (h f : List ℕ) (setups : ℕ) (rd : Readings) (v : View) (k : ℕ) (p : Pipe) (r : Request)
-    (ok : acceptsOf s (lengthsOf pool h f setups) ≡ true) (e : endpointAt s k ≡ Linked p r) (few : s .unanswered < 32) where
+    (ok : acceptsOf s (lengths pool (length h) (length f) setups) ≡ true) (e : endpointAt s k ≡ Linked p r) (few : s .unanswered < 32) where
   -- an active descriptor comes first: Pending, and nothing changes
   pub collect-active : v .stage ≡ 2 → collectOf s pool h f setups rd v k (r .id) ≡ gathered (pendingCollect s) h f
   collect-active t =

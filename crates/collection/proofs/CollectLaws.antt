@@ -3,12 +3,11 @@ use Prim.Native.Nat.{ℕ, _+_, _-_, _*_, _≤_, _<_}
 use mathlib.Core.Path.{_≡_, refl, sym, ap, _∙_}
 use mathlib.Core.Logic.{_≢_}
 use mathlib.Core.Bool.{Bool, true, false}
-use mathlib.Core.List.{List, [], _++_}
+use mathlib.Core.List.{List, []}
 use native.Mathlib.Decide.{ℕ-discrete as decEq}
 use native.Mathlib.Omega.{arith}
 use lib.Dec.{eqb}
-use lib.ListN.{drop, getD, length, length-append, length-drop, take}
-use lib.Seq.{getD-append-add, getD-drop, getD-take, length-take-le, take-append-seam}
+use lib.ListN.{getD, length, take}
 use Rattle.pool.specs.Chains.{Seen, firstError, lengthOf, viewOf}
 use Rattle.pool.specs.Places.{clearOf, placesFrom}
 use Rattle.pool.specs.declared.chain.View.{View}
@@ -17,68 +16,24 @@ use Rattle.state.specs.declared.state.Ehci.{Ehci}
 use Rattle.state.specs.Slots.{withSlot}
 use Rattle.state.specs.State.{withOwner}
 use Rattle.pipe.specs.Endpoints.{endpointAt, withEndpoint}
-use Rattle.controller.specs.Lent.{acceptsOf}
+use Rattle.controller.specs.Lent.{acceptsOf, lengths}
 use Rattle.opening.specs.Rows.{headWord, putAt}
 use Rattle.pipe.specs.declared.endpoint.Endpoint.the-variants.{Idle, Unlinking}
 use Rattle.pipe.specs.declared.endpoint.Pipe.{Pipe}
 use Rattle.pipe.specs.declared.endpoint.Request.{Request}
 use Rattle.pipe.specs.declared.endpoint.UnlinkBoundary.{UnlinkBoundary}
 use Rattle.controller.specs.declared.lent.Readings.{Readings}
-use Rattle.pipe.proofs.EndpointLaws.{Wide, endpoint-same}
+use Rattle.pipe.proofs.EndpointLaws.{Wide, endpoint-same, owner-wide}
+use Rattle.opening.proofs.RowLaws.{put-before, put-behind, put-inside, put-length}
 use Rattle.schedule.specs.Links.{endedOverlay, endedWords}
 use Rattle.collection.specs.declared.collected.Collected.{Collected}
 use Rattle.collection.specs.declared.collected.Collected.the-variants.{Complete, Pending, Cancelled, Failed, Refused}
 use Rattle.collection.specs.declared.collected.Completion.{Completion}
 use Rattle.collection.specs.Answers.{collectedNumber, outcomeOf, pendingCollect}
 use Rattle.collection.specs.Unlinks.{passedBoundary}
-use Rattle.collection.specs.Calls.{Gathered, collectOf, finishOf, freed, gathered, lengthsOf}
+use Rattle.collection.specs.Calls.{Gathered, collectOf, finishOf, freed, gathered}
 use Rattle.collection.proofs.CallCases.{collect-ends, unlinking-ends, unlinking-waits}
 use Rattle.collection.proofs.FreedLaws.{freed-front}
-use Rattle.collection.proofs.RangeLaws.{owner-wide}
-
--- ---- words put over others
-
-left-of : (xs ys : List ℕ) (i : ℕ) → i < length xs → getD (xs ++ ys) i 0 ≡ getD xs i 0
-left-of xs ys i h = sym (getD-take (length xs) (xs ++ ys) i 0 h) ∙ rw (take-append-seam xs ys)
-
-module _ (row words : List ℕ) (at : ℕ) (fits : at + length words ≤ length row) where
-  front : length (take at row) ≡ at
-  front = length-take-le at row (omega (arith, fits))
-
-  pub put-before : (i : ℕ) → i < at → getD (putAt row at words) i 0 ≡ getD row i 0
-  unfolding putAt
-  put-before i h = left-of (take at row) (words ++ drop (at + length words) row) i (omega (arith, h, front)) ∙ getD-take at row i 0 h
-
-  pub put-in : (j : ℕ) → j < length words → getD (putAt row at words) (at + j) 0 ≡ getD words j 0
-  unfolding putAt
-  put-in j h =
-      ap (λ (n : ℕ). getD (take at row ++ (words ++ drop (at + length words) row)) (n + j) 0) (sym front)
-      ∙ getD-append-add (take at row) (words ++ drop (at + length words) row) j 0
-      ∙ left-of words (drop (at + length words) row) j h
-
-  pub put-after : (i : ℕ) → at + length words ≤ i → getD (putAt row at words) i 0 ≡ getD row i 0
-  unfolding putAt
-  put-after i h =
-      let n = i - (at + length words) in
-      let all : i ≡ length (take at row) + (length words + n) = omega (arith, h, front) in
-      let same : at + length words + n ≡ i = omega (arith, h) in
-      ap (λ (m : ℕ). getD (take at row ++ (words ++ drop (at + length words) row)) m 0) all
-      ∙ getD-append-add (take at row) (words ++ drop (at + length words) row) (length words + n) 0
-      ∙ getD-append-add words (drop (at + length words) row) n 0
-      ∙ getD-drop (at + length words) row n 0
-      ∙ ap (λ (m : ℕ). getD row m 0) same
-
-  pub put-length : length (putAt row at words) ≡ length row
-  unfolding putAt
-  put-length =
-      omega (
-        arith,
-        fits,
-        front,
-        length-append (take at row) (words ++ drop (at + length words) row),
-        length-append words (drop (at + length words) row),
-        length-drop (at + length words) row,
-      )
 
 -- ---- the head of a collected request
 
@@ -91,7 +46,7 @@ module _ (h : List ℕ) (k : ℕ) (fits : 17 * (k + 1) + 17 ≤ length h) where
   unfolding endedOverlay
   ended-words j l =
       let same : 17 * (k + 1) + (3 + j) ≡ 17 * (k + 1) + 3 + j = omega arith in
-      ap (λ (i : ℕ). getD (putAt h (17 * (k + 1) + 3) endedWords) i 0) same ∙ put-in h endedWords (17 * (k + 1) + 3) room j l
+      ap (λ (i : ℕ). getD (putAt h (17 * (k + 1) + 3) endedWords) i 0) same ∙ put-inside h (17 * (k + 1) + 3) endedWords room j l
 
   -- its link, characteristics and capabilities stay, and so does every other head
   pub ended-others : (i : ℕ) → (17 * (k + 1) + 3 ≤ i → i < 17 * (k + 1) + 17 → ⊥) → getD (endedOverlay h k) i 0 ≡ getD h i 0
@@ -99,10 +54,10 @@ module _ (h : List ℕ) (k : ℕ) (fits : 17 * (k + 1) + 17 ≤ length h) where
   ended-others i out = by (decEq (i - (17 * (k + 1) + 2)) 0)
     where
       by : Dec (i - (17 * (k + 1) + 2) ≡ 0) → getD (putAt h (17 * (k + 1) + 3) endedWords) i 0 ≡ getD h i 0
-      by (yes e) = put-before h endedWords (17 * (k + 1) + 3) room i (omega (arith, e))
+      by (yes e) = put-before h (17 * (k + 1) + 3) endedWords room i (omega (arith, e))
       by (no n) =
           let from : 17 * (k + 1) + 3 ≤ i = omega (arith, n) in
-          put-after h endedWords (17 * (k + 1) + 3) room i (past from (decEq (i - (17 * (k + 1) + 16)) 0))
+          put-behind h (17 * (k + 1) + 3) endedWords room i (past from (decEq (i - (17 * (k + 1) + 16)) 0))
         where
           past : 17 * (k + 1) + 3 ≤ i → Dec (i - (17 * (k + 1) + 16) ≡ 0) → 17 * (k + 1) + 3 + length endedWords ≤ i
           past from (yes e) = absurd (out from (omega (arith, e)))
@@ -110,7 +65,7 @@ module _ (h : List ℕ) (k : ℕ) (fits : 17 * (k + 1) + 17 ≤ length h) where
 
   pub ended-length : length (endedOverlay h k) ≡ length h
   unfolding endedOverlay
-  ended-length = put-length h endedWords (17 * (k + 1) + 3) room
+  ended-length = put-length h (17 * (k + 1) + 3) endedWords room
 
 -- ---- a request that is finished
 
@@ -143,9 +98,6 @@ module _ (s : Ehci) (v : View) (k : ℕ) (p : Pipe) (r : Request) where
       (clear-others 0 (k + 1) (take (s .settings .descriptors) (s .owner)) (j + 1) n (λ e. ne (omega (arith, e))) (λ e. omega (arith, e)))
 
 -- ---- what the answer says of the tokens
-
-false-true : false ≡ true → ⊥
-false-true q = let z : _≡_ {A = ℕ} 0 1 = cc in omega arith
 
 abbrev lengthIn : Collected → ℕ
 lengthIn (Complete c) = c .length
@@ -195,7 +147,7 @@ outcome-decides b v = by b refl (eqb (v .failed) 0) refl
 -- ---- the call, boundary set
 
 module _ (s : Ehci) (pool : ℕ) (h f : List ℕ) (setups : ℕ) (rd : Readings) (v : View) (k : ℕ) (p : Pipe) (r : Request) (u : UnlinkBoundary)
-    (ok : acceptsOf s (lengthsOf pool h f setups) ≡ true) (e : endpointAt s k ≡ Unlinking p r u) where
+    (ok : acceptsOf s (lengths pool (length h) (length f) setups) ≡ true) (e : endpointAt s k ≡ Unlinking p r u) where
   -- passed: finished
   pub collect-passes : passedBoundary u (rd .frame) ≡ true
       → collectOf s pool h f setups rd v k (r .id) ≡ gathered (finishOf s v k p r) (endedOverlay h k) f

@@ -11,43 +11,44 @@ use Rattle.state.specs.Ranges.{inRanges, restGood, machineGood, interruptGood, 
 use Rattle.state.specs.Slots.{slotAt, withSlot}
 use Rattle.state.specs.State.{withBell, withOwner}
 use Rattle.pipe.specs.Endpoints.{decoded, endpointAt, withEndpoint}
-use Rattle.controller.specs.Lent.{acceptsOf}
+use Rattle.controller.specs.Lent.{acceptsOf, lengths}
 use Rattle.opening.specs.Opening.{rowsFit}
 use Rattle.opening.specs.Rows.{putAt}
 use Rattle.schedule.specs.Bell.{ringOf, unlinkedOf}
 use Rattle.schedule.specs.Links.{detachOf, endedOverlay, predecessorOf}
 use Rattle.collection.specs.Answers.{outcomeOf}
 use Rattle.collection.specs.Unlinks.{boundedOf, unlinkOf, waitingOf}
-use Rattle.collection.specs.Calls.{cancelOf, collectOf, finishOf, freed, lengthsOf, linkedOf, unlinkingOf}
+use Rattle.collection.specs.Calls.{cancelOf, collectOf, finishOf, freed, linkedOf, unlinkingOf}
 use Rattle.collection.specs.Examples.{cancelRow, cancelled, collectRow, collected, noFrames, oneRequest, ringOfOne, seen}
+use lib.ListN.{length}
 
 -- ---- the states are in their ranges, but the last
 
-linked-fits : acceptsOf (oneRequest 2 2 0 0 0) (lengthsOf 4 ringOfOne noFrames 16) ≡ true
+linked-fits : acceptsOf (oneRequest 2 2 0 0 0) (lengths 4 (length ringOfOne) (length noFrames) 16) ≡ true
 unfolding acceptsOf rowsFit inRanges restGood machineGood interruptGood doorbellGood ownerGood largest slotsGood slotGood phaseGood closedGood idleGood noRequest linkedGood unlinkingGood boundaryGood openKind settingsGood numbersGood eachGood noOverlap areaGood apartAreas slotAt withoutBits
 linked-fits = refl
 
-crowded-fits : acceptsOf (oneRequest 2 2 0 0 32) (lengthsOf 4 ringOfOne noFrames 16) ≡ true
+crowded-fits : acceptsOf (oneRequest 2 2 0 0 32) (lengths 4 (length ringOfOne) (length noFrames) 16) ≡ true
 unfolding acceptsOf rowsFit inRanges restGood machineGood interruptGood doorbellGood ownerGood largest slotsGood slotGood phaseGood closedGood idleGood noRequest linkedGood unlinkingGood boundaryGood openKind settingsGood numbersGood eachGood noOverlap areaGood apartAreas slotAt withoutBits
 crowded-fits = refl
 
-waiting-fits : acceptsOf (oneRequest 3 2 0 1 1) (lengthsOf 4 ringOfOne noFrames 16) ≡ true
+waiting-fits : acceptsOf (oneRequest 3 2 0 1 1) (lengths 4 (length ringOfOne) (length noFrames) 16) ≡ true
 unfolding acceptsOf rowsFit inRanges restGood machineGood interruptGood doorbellGood ownerGood largest slotsGood slotGood phaseGood closedGood idleGood noRequest linkedGood unlinkingGood boundaryGood openKind settingsGood numbersGood eachGood noOverlap areaGood apartAreas slotAt withoutBits
 waiting-fits = refl
 
-passed-fits : acceptsOf (oneRequest 3 2 0 0 0) (lengthsOf 4 ringOfOne noFrames 16) ≡ true
+passed-fits : acceptsOf (oneRequest 3 2 0 0 0) (lengths 4 (length ringOfOne) (length noFrames) 16) ≡ true
 unfolding acceptsOf rowsFit inRanges restGood machineGood interruptGood doorbellGood ownerGood largest slotsGood slotGood phaseGood closedGood idleGood noRequest linkedGood unlinkingGood boundaryGood openKind settingsGood numbersGood eachGood noOverlap areaGood apartAreas slotAt withoutBits
 passed-fits = refl
 
-marked-fits : acceptsOf (oneRequest 3 2 1 0 0) (lengthsOf 4 ringOfOne noFrames 16) ≡ true
+marked-fits : acceptsOf (oneRequest 3 2 1 0 0) (lengths 4 (length ringOfOne) (length noFrames) 16) ≡ true
 unfolding acceptsOf rowsFit inRanges restGood machineGood interruptGood doorbellGood ownerGood largest slotsGood slotGood phaseGood closedGood idleGood noRequest linkedGood unlinkingGood boundaryGood openKind settingsGood numbersGood eachGood noOverlap areaGood apartAreas slotAt withoutBits
 marked-fits = refl
 
-frames-fits : acceptsOf (oneRequest 3 3 0 16380 0) (lengthsOf 4 ringOfOne noFrames 16) ≡ true
+frames-fits : acceptsOf (oneRequest 3 3 0 16380 0) (lengths 4 (length ringOfOne) (length noFrames) 16) ≡ true
 unfolding acceptsOf rowsFit inRanges restGood machineGood interruptGood doorbellGood ownerGood largest slotsGood slotGood phaseGood closedGood idleGood noRequest linkedGood unlinkingGood boundaryGood openKind settingsGood numbersGood eachGood noOverlap areaGood apartAreas slotAt withoutBits
 frames-fits = refl
 
-outside : acceptsOf (oneRequest 1 2 0 0 0) (lengthsOf 4 ringOfOne noFrames 16) ≡ false
+outside : acceptsOf (oneRequest 1 2 0 0 0) (lengths 4 (length ringOfOne) (length noFrames) 16) ≡ false
 unfolding acceptsOf rowsFit inRanges restGood machineGood interruptGood doorbellGood ownerGood largest slotsGood slotGood phaseGood closedGood idleGood noRequest linkedGood unlinkingGood boundaryGood openKind settingsGood numbersGood eachGood noOverlap areaGood apartAreas slotAt withoutBits
 outside = refl
 

@@ -21,17 +21,16 @@ use Rattle.pipe.specs.declared.endpoint.Endpoint.{Endpoint}
 use Rattle.pipe.specs.declared.endpoint.Pipe.{Pipe}
 use Rattle.pipe.specs.declared.endpoint.Request.{Request}
 use Rattle.controller.specs.declared.lent.Readings.{Readings}
-use Rattle.pipe.proofs.EndpointLaws.{Wide, slot-wide}
-use Rattle.schedule.specs.Bell.{unlinkedOf}
+use Rattle.pipe.proofs.EndpointLaws.{Wide, bell-wide, owner-wide, slot-wide}
+use Rattle.schedule.specs.Bell.{bellOf, unlinkedOf}
 use Rattle.schedule.specs.declared.bell.Bell.{Bell}
 use Rattle.collection.specs.declared.collected.Collected.{Collected}
 use Rattle.collection.specs.declared.collected.Collected.the-variants.{Complete, Pending, Cancelled, Failed, Refused}
 use Rattle.collection.specs.declared.collected.Completion.{Completion}
-use Rattle.collection.specs.Unlinks.{Left, bellOf, boundedOf, unlinkOf, waitingOf}
+use Rattle.collection.specs.Unlinks.{Left, boundedOf, unlinkOf, waitingOf}
 use Rattle.collection.specs.Calls.{Gathered, cancelOf, collectOf, finishOf, marked, pendingLeft}
 use Rattle.collection.proofs.CollectLaws.{complete-length, failed-token}
 use Rattle.collection.proofs.FreedLaws.{freed-length}
-use Rattle.collection.proofs.RangeLaws.{bell-wide, owner-wide}
 use Rattle.collection.proofs.Splits.{cancel-split, collect-split, unlink-split}
 
 -- ---- the doorbell: it stays and nothing is written, or there is one more unlink

@@ -26,13 +26,14 @@ use Rattle.pipe.specs.declared.endpoint.Pipe.{Pipe}
 use Rattle.pipe.specs.declared.endpoint.Request.{Request}
 use Rattle.pipe.specs.declared.endpoint.UnlinkBoundary.{UnlinkBoundary}
 use Rattle.controller.specs.declared.lent.Readings.{Readings}
-use Rattle.pipe.proofs.EndpointLaws.{EndpointGood, LinkedGood, OpenPipe, UnlinkingGood, Passable, Suits, Wide, endpoint-keeps}
-use Rattle.schedule.specs.Bell.{mustRing, ringOf, rungIf, unlinkedOf}
+use Rattle.pipe.proofs.EndpointLaws.{EndpointGood, LinkedGood, OpenPipe, UnlinkingGood, Passable, Suits, Wide, bell-wide, endpoint-keeps, owner-keeps, owner-wide}
+use Rattle.controller.proofs.ReaderLaws.{open-below, open-within}
+use Rattle.schedule.specs.Bell.{bellOf, mustRing, ringOf, rungIf, unlinkedOf}
 use Rattle.schedule.specs.declared.bell.Bell.{Bell}
-use Rattle.collection.specs.Unlinks.{Left, bellOf, boundedOf, unlinkOf, waitingOf}
+use Rattle.collection.specs.Unlinks.{Left, boundedOf, unlinkOf, waitingOf}
 use Rattle.collection.specs.Calls.{Gathered, cancelOf, collectOf, finishOf, freed, marked, markedOf}
 use Rattle.collection.proofs.FreedLaws.{freed-hit, freed-miss, freed-past}
-use Rattle.collection.proofs.SlotFacts.{endpoint-good, open-below}
+use Rattle.collection.proofs.SlotFacts.{endpoint-good}
 use Rattle.collection.proofs.Splits.{cancel-split, collect-split, unlink-split}
 
 -- ---- more unanswered unlinks leave a good slot good
@@ -140,60 +141,6 @@ module _ (s : Ehci) (r : Ranges s) where
   bound-good Bulk rd h = (asked-good (rd .command) h, tt, omega (arith, asked-count (rd .command)))
   bound-good Interrupt rd h = (still-good, tt, omega arith)
 
--- ---- another row of owners
-
-pub bell-wide : (s : Ehci) (n d u : ℕ) → Wide s → Wide (withBell s n d u)
-unfolding withBell
-bell-wide s n d u w =
-    record {
-      phases-wide = w .phases-wide;
-      kinds-wide = w .kinds-wide;
-      ids-wide = w .ids-wide;
-      requests-wide = w .requests-wide;
-      directions-wide = w .directions-wide;
-      lengths-wide = w .lengths-wide;
-      cancels-wide = w .cancels-wide;
-      boundaries-wide = w .boundaries-wide;
-    }
-
-module _ (s : Ehci) (o : List ℕ) where
-  pub owner-wide : Wide s → Wide (withOwner s o)
-  unfolding withOwner
-  owner-wide w =
-      record {
-        phases-wide = w .phases-wide;
-        kinds-wide = w .kinds-wide;
-        ids-wide = w .ids-wide;
-        requests-wide = w .requests-wide;
-        directions-wide = w .directions-wide;
-        lengths-wide = w .lengths-wide;
-        cancels-wide = w .cancels-wide;
-        boundaries-wide = w .boundaries-wide;
-      }
-
-  pub owner-keeps : Ranges s → ((i : ℕ) → i < s .settings .descriptors → getD o i 0 ≤ s .settings .endpoints)
-      → ((i : ℕ) → s .settings .descriptors ≤ i → getD o i 0 ≡ 0) → Ranges (withOwner s o)
-  unfolding withOwner slotAt
-  owner-keeps r below none =
-      record {
-        good = r .good;
-        running-flag = r .running-flag;
-        step-most = r .step-most;
-        waited-below = r .waited-below;
-        address-least = r .address-least;
-        address-most = r .address-most;
-        enabled-flag = r .enabled-flag;
-        pending-only = r .pending-only;
-        masked-only = r .masked-only;
-        doorbell-flag = r .doorbell-flag;
-        noted-most = r .noted-most;
-        unanswered-least = r .unanswered-least;
-        unanswered-most = r .unanswered-most;
-        owned = below;
-        unowned = none;
-        slots = r .slots;
-      }
-
 -- ---- an unlink, a mark, an end
 
 module _ (s : Ehci) (k : ℕ) (g : Ranges s) (w : Wide s) (low : k < 32) (below : k < s .settings .endpoints) where
@@ -239,7 +186,7 @@ module _ (s : Ehci) (pool : ℕ) (h f : List ℕ) (setups : ℕ) (rd : Readings)
 
   low-of : (x : Endpoint) → endpointAt s k ≡ x → hasEndpoint x ≡ true → (k < 32) × (k < s .settings .endpoints)
   unfolding g
-  low-of x e o = open-below s k g (ap hasEndpoint e ∙ o)
+  low-of x e o = (open-below s k (ap hasEndpoint e ∙ o), open-within s k g (ap hasEndpoint e ∙ o))
 
   good-of : (x : Endpoint) → endpointAt s k ≡ x → hasEndpoint x ≡ true → EndpointGood (s .unanswered) x
   unfolding g

@@ -1,55 +1,27 @@
 -- What a call that is accepted knows of a slot with a request.
 use Prim.Native.Nat.{ℕ, _+_, _*_, _^_, _≤_, _<_}
-use mathlib.Core.Path.{_≡_, refl, sym, ap, _∙_}
+use mathlib.Core.Path.{_≡_, sym, ap, _∙_}
 use mathlib.Core.Bool.{Bool, true, false, not}
 use mathlib.Core.List.{List}
 use native.Mathlib.Omega.{arith}
-use borrow.Author.Tests.{lt-ltb, ltb-false, ltb-true, not-false}
-use lib.Dec.{ltb}
+use borrow.Author.Tests.{lt-ltb, not-false}
 use lib.ListN.{length}
-use Rattle.slot.proofs.SlotLaws.{slot-tells}
 use Rattle.state.specs.declared.state.Ehci.{Ehci}
 use Rattle.state.specs.Slots.{slotAt}
 use Rattle.state.proofs.RangesLaws.{Ranges}
 use Rattle.pipe.specs.Endpoints.{endpointAt}
-use Rattle.controller.specs.Lent.{acceptsOf}
+use Rattle.controller.specs.Lent.{acceptsOf, lengths}
 use Rattle.controller.specs.Readers.{hasEndpoint, isOpen}
 use Rattle.pipe.specs.declared.endpoint.Endpoint.{Endpoint}
-use Rattle.pipe.specs.declared.endpoint.Endpoint.the-variants.{Closed, Linked, Unlinking}
+use Rattle.pipe.specs.declared.endpoint.Endpoint.the-variants.{Linked, Unlinking}
 use Rattle.pipe.specs.declared.endpoint.Pipe.{Pipe}
 use Rattle.pipe.specs.declared.endpoint.Request.{Request}
 use Rattle.pipe.specs.declared.endpoint.UnlinkBoundary.{UnlinkBoundary}
 use Rattle.pipe.specs.declared.endpoint.UnlinkBoundary.the-variants.{Async, Periodic}
-use Rattle.pipe.proofs.EndpointCases.{decode-closed}
 use Rattle.pipe.proofs.EndpointLaws.{EndpointGood, Passable, endpoint-tells}
 use Rattle.controller.proofs.LentLaws.{Accepted, accepts-tells}
+use Rattle.controller.proofs.ReaderLaws.{open-below, open-within}
 use Rattle.collection.specs.Unlinks.{frameBelow}
-use Rattle.collection.specs.Calls.{lengthsOf}
-
-false-true : false ≡ true → ⊥
-false-true q = let z : _≡_ {A = ℕ} 0 1 = cc in omega arith
-
--- an open slot is one of the first E
-pub open-below : (s : Ehci) (k : ℕ) → Ranges s → isOpen s k ≡ true → (k < 32) × (k < s .settings .endpoints)
-unfolding endpointAt
-open-below s k r o = by (ltb k 32) refl
-  where
-    from : k < 32 → (b : Bool) → ltb k (s .settings .endpoints) ≡ b → (k < 32) × (k < s .settings .endpoints)
-    from h true e = (h, ltb-true k (s .settings .endpoints) e)
-    from h false e = absurd (false-true (ap hasEndpoint (sym shut) ∙ o))
-      where
-        none : slotAt s k .phase ≡ 0
-        none = slot-tells (s .settings .endpoints) k (s .unanswered) (slotAt s k) (r .slots k h) .closed-from (ltb-false k (s .settings .endpoints) e)
-
-        shut : endpointAt s k ≡ Closed
-        shut = rw (lt-ltb k 32 h) (sym (decode-closed (slotAt s k) (λ q. omega (arith, none, q)) (λ q. omega (arith, none, q)) (λ q. omega (arith, none, q))))
-
-    by : (b : Bool) → ltb k 32 ≡ b → (k < 32) × (k < s .settings .endpoints)
-    by true e = from (ltb-true k 32 e) (ltb k (s .settings .endpoints)) refl
-    by false e = absurd (false-true (ap (λ (x : Endpoint). hasEndpoint x) shut ∙ o))
-      where
-        shut : Closed ≡ endpointAt s k
-        shut = rw e
 
 -- its endpoint is as the ranges say
 pub endpoint-good : (s : Ehci) (k : ℕ) → Ranges s → k < 32 → EndpointGood (s .unanswered) (endpointAt s k)
@@ -60,19 +32,18 @@ frame-passable : (u : ℕ) (b : UnlinkBoundary) → Passable u b → frameBelow 
 frame-passable u (Async n) h = tt
 frame-passable u (Periodic n) h = h
 
-module _ (s : Ehci) (pool : ℕ) (h f : List ℕ) (setups k : ℕ) (b : Bool) (eb : b ≡ acceptsOf s (lengthsOf pool h f setups)) (t : not b ≡ false)
+module _ (s : Ehci) (pool : ℕ) (h f : List ℕ) (setups k : ℕ) (b : Bool) (eb : b ≡ acceptsOf s (lengths pool (length h) (length f) setups)) (t : not b ≡ false)
     (x : Endpoint) (ex : x ≡ endpointAt s k) where
-  accepted : Accepted s (lengthsOf pool h f setups)
-  accepted = accepts-tells s (lengthsOf pool h f setups) (sym eb ∙ not-false b t)
+  accepted : Accepted s (lengths pool (length h) (length f) setups)
+  accepted = accepts-tells s (lengths pool (length h) (length f) setups) (sym eb ∙ not-false b t)
 
   ready : isOpen s k ≡ true
       → (k < 32) × (k < s .settings .endpoints) × (s .settings .endpoints ≤ 32) × (s .settings .descriptors ≤ 256)
       × (length h ≡ 17 * (s .settings .endpoints + 1)) × (length f ≡ 1024) × (s .settings .heads + 128 * (s .settings .endpoints + 1) ≤ 2 ^ 32)
   ready o =
-      let a = accepted in
-      let below = open-below s k (a .ranges) o in (
-        below .0,
-        below .1,
+      let a = accepted in (
+        open-below s k o,
+        open-within s k (a .ranges) o,
         a .ranges .good .endpoints-most,
         a .ranges .good .descriptors-most,
         a .fitting .heads-fit,

@@ -5,10 +5,11 @@ use mathlib.Core.Bool.{Bool, true, false}
 use mathlib.Core.List.{List}
 use borrow.Author.Tests.{eqb-false, eqb-true, leb-false}
 use lib.Dec.{eqb, leb}
+use lib.ListN.{length}
 use Rattle.pool.specs.declared.chain.View.{View}
 use Rattle.state.specs.declared.state.Ehci.{Ehci}
 use Rattle.pipe.specs.Endpoints.{endpointAt}
-use Rattle.controller.specs.Lent.{acceptsOf}
+use Rattle.controller.specs.Lent.{acceptsOf, lengths}
 use Rattle.answer.specs.declared.answer.Refusal.{Refusal}
 use Rattle.answer.specs.declared.answer.Refusal.the-variants.{InvalidEndpoint, InvalidParameter}
 use Rattle.pipe.specs.declared.endpoint.Endpoint.{Endpoint}
@@ -20,7 +21,7 @@ use Rattle.controller.specs.declared.lent.Readings.{Readings}
 use Rattle.schedule.specs.Links.{detachOf, endedOverlay}
 use Rattle.collection.specs.Answers.{pendingCollect, refusedCancel, refusedCollect}
 use Rattle.collection.specs.Unlinks.{Left, isMissing, left, passedBoundary, unlinkOf, waitingOf}
-use Rattle.collection.specs.Calls.{Gathered, cancelOf, collectOf, finishOf, gathered, lengthsOf, linkedOf, marked, markedOf, pendingLeft, unlinkingOf}
+use Rattle.collection.specs.Calls.{Gathered, cancelOf, collectOf, finishOf, gathered, linkedOf, marked, markedOf, pendingLeft, unlinkingOf}
 
 module _ (s : Ehci) (h f : List ℕ) (rd : Readings) (k : ℕ) (p : Pipe) (r : Request) where
   pub unlink-split : (P : Left → Type 0) → P (left (refusedCancel s InvalidEndpoint) h f)
@@ -35,14 +36,14 @@ module _ (s : Ehci) (h f : List ℕ) (rd : Readings) (k : ℕ) (p : Pipe) (r : R
 
 module _ (s : Ehci) (pool : ℕ) (h f : List ℕ) (setups : ℕ) (rd : Readings) (k id : ℕ) where
   abbrev Fits : Type 0
-  Fits = acceptsOf s (lengthsOf pool h f setups) ≡ true
+  Fits = acceptsOf s (lengths pool (length h) (length f) setups) ≡ true
 
   pub cancel-split : (P : Left → Type 0) → ((x : Refusal) → P (left (refusedCancel s x) h f))
       → ((p : Pipe) (r : Request) → Fits → endpointAt s k ≡ Linked p r → s .unanswered < 32 → r .id ≡ id → P (unlinkOf s h f rd k p (marked r)))
       → ((p : Pipe) (r : Request) (u : UnlinkBoundary) → Fits → endpointAt s k ≡ Unlinking p r u → r .id ≡ id → P (left (markedOf s k p r u) h f))
       → P (cancelOf s pool h f setups rd k id)
   unfolding cancelOf
-  cancel-split P old unlinks marks = by (acceptsOf s (lengthsOf pool h f setups)) refl
+  cancel-split P old unlinks marks = by (acceptsOf s (lengths pool (length h) (length f) setups)) refl
     where
       at-linked : (p : Pipe) (r : Request) → Fits → endpointAt s k ≡ Linked p r → (b : Bool) → leb 32 (s .unanswered) ≡ b
           → (c : Bool) → eqb (r .id) id ≡ c → P (cancelOf s pool h f setups rd k id)
@@ -61,7 +62,7 @@ module _ (s : Ehci) (pool : ℕ) (h f : List ℕ) (setups : ℕ) (rd : Readings)
       at ok (Linked p r) e = at-linked p r ok e (leb 32 (s .unanswered)) refl (eqb (r .id) id) refl
       at ok (Unlinking p r u) e = at-unlinking p r u ok e (eqb (r .id) id) refl
 
-      by : (b : Bool) → acceptsOf s (lengthsOf pool h f setups) ≡ b → P (cancelOf s pool h f setups rd k id)
+      by : (b : Bool) → acceptsOf s (lengths pool (length h) (length f) setups) ≡ b → P (cancelOf s pool h f setups rd k id)
       by true ok = at ok (endpointAt s k) refl
       by false bad = rw bad (old InvalidParameter)
 
@@ -72,7 +73,7 @@ module _ (s : Ehci) (pool : ℕ) (h f : List ℕ) (setups : ℕ) (rd : Readings)
       → P (gathered (finishOf s v k p r) (endedOverlay h k) f))
       → P (collectOf s pool h f setups rd v k id)
   unfolding collectOf linkedOf unlinkingOf
-  collect-split v P old waits unlinks ends = by (acceptsOf s (lengthsOf pool h f setups)) refl
+  collect-split v P old waits unlinks ends = by (acceptsOf s (lengths pool (length h) (length f) setups)) refl
     where
       at-linked : (p : Pipe) (r : Request) → Fits → endpointAt s k ≡ Linked p r → (b : Bool) → leb 32 (s .unanswered) ≡ b
           → (c : Bool) → eqb (r .id) id ≡ c → (d : Bool) → eqb (v .stage) 2 ≡ d → P (collectOf s pool h f setups rd v k id)
@@ -94,6 +95,6 @@ module _ (s : Ehci) (pool : ℕ) (h f : List ℕ) (setups : ℕ) (rd : Readings)
       at ok (Linked p r) e = at-linked p r ok e (leb 32 (s .unanswered)) refl (eqb (r .id) id) refl (eqb (v .stage) 2) refl
       at ok (Unlinking p r u) e = at-unlinking p r u ok e (eqb (r .id) id) refl (passedBoundary u (rd .frame)) refl
 
-      by : (b : Bool) → acceptsOf s (lengthsOf pool h f setups) ≡ b → P (collectOf s pool h f setups rd v k id)
+      by : (b : Bool) → acceptsOf s (lengths pool (length h) (length f) setups) ≡ b → P (collectOf s pool h f setups rd v k id)
       by true ok = at ok (endpointAt s k) refl
       by false bad = rw bad (old InvalidParameter)

@@ -19,7 +19,7 @@ use Rattle.pipe.specs.declared.endpoint.Request.{Request}
 use Rattle.pipe.specs.declared.endpoint.UnlinkBoundary.{UnlinkBoundary}
 use Rattle.pipe.specs.declared.endpoint.UnlinkBoundary.the-variants.{Async, Periodic}
 use Rattle.controller.specs.declared.lent.Readings.{Readings}
-use Rattle.schedule.specs.Bell.{frameOf, framesPassed, unlinkedOf}
+use Rattle.schedule.specs.Bell.{bellOf, frameOf, framesPassed, unlinkedOf}
 use Rattle.schedule.specs.Links.{Detached, links, detached, detachOf, predecessorOf}
 use Rattle.schedule.specs.declared.bell.Bell.{Bell}
 use Rattle.schedule.specs.declared.bell.Rung.{Rung}
@@ -28,7 +28,7 @@ use Rattle.schedule.specs.declared.links.Predecessor.the-variants.{First, Head,
 use Rattle.collection.specs.declared.collected.Cancellation.{Cancellation}
 use Rattle.collection.specs.declared.unlink.Bounded.{Bounded}
 use Rattle.collection.specs.Answers.{refusedCancel}
-use Rattle.collection.specs.Unlinks.{askedOf, bellOf, boundedOf, frameBelow, left, passedBoundary, unlinkOf, waitingOf}
+use Rattle.collection.specs.Unlinks.{askedOf, boundedOf, frameBelow, left, passedBoundary, unlinkOf, waitingOf}
 
 -- ---- the boundary
 

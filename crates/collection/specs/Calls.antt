@@ -11,7 +11,7 @@ use Rattle.state.specs.declared.state.Ehci.{Ehci}
 use Rattle.state.specs.State.{withOwner}
 use Rattle.answer.specs.Answers.{Check, first, settle}
 use Rattle.pipe.specs.Endpoints.{endpointAt, withEndpoint}
-use Rattle.controller.specs.Lent.{acceptsOf}
+use Rattle.controller.specs.Lent.{acceptsOf, lengths}
 use Rattle.controller.specs.Readers.{isOpen, isUncollected}
 use Rattle.answer.specs.declared.answer.Answer.the-variants.{Done}
 use Rattle.answer.specs.declared.answer.Refusal.the-variants.{InvalidEndpoint, InvalidParameter}
@@ -27,10 +27,6 @@ use Rattle.collection.specs.declared.collected.Cancellation.{Cancellatio
 use Rattle.collection.specs.declared.collected.Collection.{Collection}
 use Rattle.collection.specs.Answers.{outcomeOf, pendingCollect, pendingOf, refusedCancel, refusedCollect}
 use Rattle.collection.specs.Unlinks.{Left, left, passedBoundary, unlinkOf}
-
-abbrev pub lengthsOf : ℕ → List ℕ → List ℕ → ℕ → Lengths
-lengthsOf pool heads frames setups =
-    record { pool = pool; heads = length heads; frames = length frames; setups = setups }
 
 -- a linked slot while 32 unlinks are unanswered: there are 31 other slots, so no run from opening should come to it (docs/DECISIONS.md)
 abbrev pub crowdedAt : Endpoint → ℕ → Bool
@@ -80,7 +76,7 @@ cancelAt (Unlinking p r b) s heads frames readings slot = left (markedOf s slot 
 
 unfoldable pub cancelOf : Ehci → ℕ → List ℕ → List ℕ → ℕ → Readings → ℕ → ℕ → Left
 cancelOf s pool heads frames setups readings slot id =
-    settle (first (cancelChecks s (lengthsOf pool heads frames setups) slot id))
+    settle (first (cancelChecks s (lengths pool (length heads) (length frames) setups) slot id))
     (λ x. left (refusedCancel s x) heads frames)
     (cancelAt (endpointAt s slot) s heads frames readings slot)
 
@@ -165,6 +161,6 @@ collectAt (Unlinking p r b) s heads frames readings view slot =
 
 unfoldable pub collectOf : Ehci → ℕ → List ℕ → List ℕ → ℕ → Readings → View → ℕ → ℕ → Gathered
 collectOf s pool heads frames setups readings view slot id =
-    settle (first (collectChecks s (lengthsOf pool heads frames setups) slot id))
+    settle (first (collectChecks s (lengths pool (length heads) (length frames) setups) slot id))
     (λ x. gathered (refusedCollect s x) heads frames)
     (collectAt (endpointAt s slot) s heads frames readings view slot)

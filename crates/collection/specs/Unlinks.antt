@@ -18,7 +18,7 @@ use Rattle.pipe.specs.declared.endpoint.Request.{Request}
 use Rattle.pipe.specs.declared.endpoint.UnlinkBoundary.{UnlinkBoundary}
 use Rattle.pipe.specs.declared.endpoint.UnlinkBoundary.the-variants.{Async, Periodic}
 use Rattle.controller.specs.declared.lent.Readings.{Readings}
-use Rattle.schedule.specs.Bell.{frameOf, framesPassed, unlinkedOf}
+use Rattle.schedule.specs.Bell.{bellOf, frameOf, framesPassed, unlinkedOf}
 use Rattle.schedule.specs.Links.{Links, links, detachOf}
 use Rattle.schedule.specs.declared.bell.Bell.{Bell}
 use Rattle.schedule.specs.declared.links.Predecessor.{Predecessor}
@@ -36,9 +36,6 @@ abbrev pub left : Cancellation → List ℕ → List ℕ → Left
 left c heads frames = record { came = c; rows = links heads frames }
 
 -- ---- the boundary
-
-abbrev pub bellOf : Ehci → Bell
-bellOf s = record { noted = s .noted; doorbell = s .doorbell; unanswered = s .unanswered }
 
 -- "unlinks are numbered 1, 2, ..; the boundary is that number", kept as those still to be answered, itself among them
 abbrev pub askedOf : Bell → ℕ → Bounded

@@ -1,8 +1,7 @@
 // The public calls: cancel and collect.
 ghost use mathlib.Core.Path.{_≡_};
-ghost use Prim.Native.Nat.{_<_};
 ghost use Rattle.collection.specs.Unlinks.{left};
-ghost use Rattle.collection.specs.Calls.{marked, markedOf, cancelOf, gathered, collectOf};
+ghost use Rattle.collection.specs.Calls.{cancelOf, gathered, collectOf};
 use crate::collected::Cancellation;
 use crate::collected::Collection;
 use crate::collected::refuse_cancel;
@@ -10,48 +9,20 @@ use crate::collected::refuse_collect;
 use crate::collected::still_pending;
 use crate::finish::collect_linked;
 use crate::finish::collect_unlinking;
+use crate::unlink::mark;
+use crate::unlink::marked;
 use crate::unlink::unlink;
-use answer::answer::Answer;
 use answer::answer::Refusal;
 use controller::lent::Lengths;
 use controller::lent::Readings;
 use controller::lent::accepts;
 use pipe::endpoint::Endpoint;
-use pipe::endpoint::Pipe;
-use pipe::endpoint::Request;
-use pipe::endpoint::UnlinkBoundary;
 use pipe::endpoint::endpoint_at;
-use pipe::endpoint::with_endpoint;
 use pool::chain::View;
-use register::writes::Writes;
 use state::state::Ehci;
 
 // As many unlinks as there are slots: none can be that of a slot that is still linked.
 pub const UNLINKS: u8 = 32;
-
-fn marked(r: Request) -> Request
-    ensures { λ q. ⌜ q ≡ marked r ⌝ }
-{
-    let direction = r.direction;
-    Request {
-        id: r.id,
-        direction,
-        length: r.length,
-        cancelled: true,
-    }
-}
-
-// A request that is unlinking already is only marked.
-fn mark(s: Ehci, slot: u8, p: Pipe, r: Request, b: UnlinkBoundary) -> Cancellation
-    requires { ⌜ slot < 32 ⌝ }
-    ensures { λ c. ⌜ c ≡ markedOf s slot p r b ⌝ }
-{
-    Cancellation {
-        answer: Answer::Done,
-        state: with_endpoint(s, slot as usize, Endpoint::Unlinking(p, marked(r), b)),
-        writes: Writes::none(),
-    }
-}
 
 // `pool` and `setups` are the lengths of rows that are not lent.
 pub fn cancel(

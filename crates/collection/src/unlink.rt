@@ -1,8 +1,9 @@
-// Unlinking a request: its head out of the schedule, and the boundary that it waits for.
+// Unlinking a request: its head out of the schedule, the boundary that it waits for, and the mark of a cancelled one.
 ghost use mathlib.Core.Path.{_≡_};
 ghost use Prim.Native.Nat.{_+_, _*_, _≤_, _<_, _^_};
 ghost use lib.ListN.{length};
 ghost use Rattle.pipe.specs.declared.endpoint.UnlinkBoundary.the-variants.{Async};
+ghost use Rattle.collection.specs.Calls.{marked, markedOf};
 ghost use Rattle.collection.specs.Unlinks.{askedOf, boundedOf, waitingOf, unlinkOf, left, frameBelow, passedBoundary};
 use crate::collected::Cancellation;
 use crate::collected::refuse_cancel;
@@ -114,6 +115,31 @@ pub fn unlink(
         Predecessor::First => waiting(s, readings, k, p, r),
         Predecessor::Head(_) => waiting(s, readings, k, p, r),
         Predecessor::Missing => refuse_cancel(s, Refusal::InvalidEndpoint),
+    }
+}
+
+// A request that is cancelled.
+pub fn marked(r: Request) -> Request
+    ensures { λ q. ⌜ q ≡ marked r ⌝ }
+{
+    let direction = r.direction;
+    Request {
+        id: r.id,
+        direction,
+        length: r.length,
+        cancelled: true,
+    }
+}
+
+// A request that is unlinking already is only marked.
+pub fn mark(s: Ehci, slot: u8, p: Pipe, r: Request, b: UnlinkBoundary) -> Cancellation
+    requires { ⌜ slot < 32 ⌝ }
+    ensures { λ c. ⌜ c ≡ markedOf s slot p r b ⌝ }
+{
+    Cancellation {
+        answer: Answer::Done,
+        state: with_endpoint(s, slot as usize, Endpoint::Unlinking(p, marked(r), b)),
+        writes: Writes::none(),
     }
 }
 

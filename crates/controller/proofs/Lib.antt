@@ -1,4 +1,5 @@
 pub mod ReaderCases
+pub mod ReaderLaws
 pub mod LentLaws
 pub mod AddressCases
 pub mod AddressLaws

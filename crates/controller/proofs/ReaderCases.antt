@@ -8,7 +8,7 @@ use native.Mathlib.Omega.{arith}
 use borrow.Author.Tests.{eq-eqb, ne-eqb}
 use lib.Dec.{eqb}
 use lib.ListN.{drop, drop-of-length-le, getD, length, take, List·getD-eq-default}
-use lib.Seq.{drop-cons, length-take-le, take-all}
+use lib.Seq.{drop-cons, take-all}
 use Rattle.pipe.specs.declared.endpoint.Endpoint.{Endpoint}
 use Rattle.pipe.specs.declared.endpoint.Endpoint.the-variants.{Closed, Idle, Linked, Unlinking}
 use Rattle.pipe.specs.declared.endpoint.Pipe.{Pipe}
@@ -39,16 +39,10 @@ place-beyond s k p h e =
     let past : length (s .owner) ≤ p = omega arith in
     rw (List·getD-eq-default (s .owner) 0 past) (sym (ne-eqb 0 (k + 1) (λ q. omega arith)))
 
-pub front : (d : ℕ) (o : List ℕ) → length o ≡ 256 → d < 256 → d ≡ length (take d o)
-front d o e h = sym (length-take-le d o (omega arith))
-
 pub whole-row : (o : List ℕ) (d r : ℕ) → length o ≡ 256 → 256 ≤ d → r ≡ countZero o → r ≡ countZero (take d o)
 whole-row o d r e h er =
     let past : length o ≤ d = omega arith in
     er ∙ rw (take-all d o past)
-
-pub part-within : (d : ℕ) (o : List ℕ) → length o ≡ 256 → d < 256 → length (take d o) ≤ 256
-part-within d o e h = omega (arith, front d o e h)
 
 module _ (s : Ehci) (k : ℕ) (e : Endpoint) (ee : e ≡ endpointAt s k) where
   pub none-closed : e ≡ Closed → false ≡ isUncollected s k

@@ -1,10 +1,15 @@
 -- Document 01, the order of checks: "First: a lent row of a length other than opening fixed, or a state outside its ranges".
+use Prim.Native.Nat.{ℕ}
 use mathlib.Core.Bool.{Bool}
 use Rattle.settings.specs.Tests.{both}
 use Rattle.state.specs.declared.state.Ehci.{Ehci}
 use Rattle.state.specs.Ranges.{inRanges}
 use Rattle.controller.specs.declared.lent.Lengths.{Lengths}
 use Rattle.opening.specs.Opening.{rowsFit}
+
+-- the lengths of the four rows: pool, heads, frames, setups
+abbrev pub lengths : ℕ → ℕ → ℕ → ℕ → Lengths
+lengths pool heads frames setups = record { pool = pool; heads = heads; frames = frames; setups = setups }
 
 unfoldable pub acceptsOf : Ehci → Lengths → Bool
 acceptsOf s lent =

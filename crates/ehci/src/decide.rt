@@ -337,8 +337,7 @@ pub fn decide(
 
 // Which records a call looks at: a collect those of its slot's request.
 pub fn asks(state: Ehci, pool: u64, call: Call) -> Ask
-    ensures { λ r. ⌜ r ≡ asksOf state pool call ⌝ }
-    ensures { λ r. ⌜ askGood pool r ⌝ }
+    ensures { λ r. ⌜ (r ≡ asksOf state pool call) × askGood pool r ⌝ }
 {
     match call {
         Call::StartBringUp => no_ask(),

@@ -4,8 +4,10 @@ ghost use Rattle.ehci.specs.Door.{applied, applyOf};
 use crate::call::Call;
 use crate::decide::asks;
 use crate::decide::decide;
+use crate::reply::Decided;
 use crate::reply::Reply;
 use descriptor::qtd::QueueTransferDescriptor;
+use pool::chain::Chain;
 use pool::row::fill;
 use pool::row::fold;
 use state::state::Ehci;
@@ -14,6 +16,18 @@ fn row_length(count: usize) -> u64
     ensures { λ r. ⌜ r ≡ count ⌝ }
 {
     count as u64
+}
+
+fn chain_of(decided: Decided) -> Chain
+    ensures { λ r. ⌜ r ≡ decided .chain ⌝ }
+{
+    decided.chain
+}
+
+fn reply_of(decided: Decided) -> Reply
+    ensures { λ r. ⌜ r ≡ decided .reply ⌝ }
+{
+    decided.reply
 }
 
 pub fn apply(
@@ -31,6 +45,7 @@ pub fn apply(
     let ask = asks(state, count, call);
     let view = fold(rows, ask);
     let decided = decide(state, count, heads, frames, setups, view, call);
-    fill(rows, decided.chain);
-    decided.reply
+    let chain = chain_of(decided);
+    fill(rows, chain);
+    reply_of(decided)
 }

@@ -19,32 +19,21 @@ use Rattle.answer.specs.declared.answer.Refusal.{Refusal}
 use Rattle.answer.specs.declared.answer.Refusal.the-variants.{InvalidParameter, SlotLimitReached, InvalidEndpoint, QueueFull, NotSupported}
 use Rattle.pipe.specs.declared.endpoint.Endpoint.the-variants.{Closed}
 use Rattle.controller.specs.declared.lent.Lengths.{Lengths}
-use Rattle.answer.specs.Answers.{Verdict, first, orElse, settle}
+use Rattle.answer.specs.Answers.{Verdict, first, settle}
 use Rattle.pipe.specs.Endpoints.{withEndpoint}
-use Rattle.controller.specs.Lent.{acceptsOf}
+use Rattle.pipe.specs.Kinds.{isIsochronous}
+use Rattle.controller.specs.Lent.{acceptsOf, lengths}
 use Rattle.controller.specs.Readers.{isOpen, isUncollected}
 use Rattle.opening.specs.Rows.{headWord, withHeadWord}
+use Rattle.answer.proofs.CheckLaws.{let-pass, verdictOf}
 use Rattle.controller.proofs.LentLaws.{accepts-tells}
 use Rattle.endpoint.specs.declared.calls.Opened.{Opened}
 use Rattle.endpoint.specs.declared.calls.Opened.the-variants.{Slot, Refused}
 use Rattle.endpoint.specs.Lowest.{lowestClosed}
-use Rattle.endpoint.specs.Calls.{changeLeft, changeOf, chosenOf, closeOf, fieldsGood, isIsochronous, judgedOf, lentRows, lowestSlot, newEndpoint, openChecks, openEndpointOf, openLeft, setAddressOf, setPacketSizeOf, slotChecks, withHead}
+use Rattle.endpoint.specs.Calls.{changeLeft, changeOf, chosenOf, closeOf, fieldsGood, judgedOf, lowestSlot, newEndpoint, openChecks, openEndpointOf, openLeft, setAddressOf, setPacketSizeOf, slotChecks, withHead}
 use Rattle.endpoint.proofs.SlotLaws.{below-room, open-room}
 
 -- ---- verdicts
-
-abbrev pub passes : Verdict → ℕ
-passes Verdict.passed = 1
-passes (Verdict.refused r) = 0
-
--- a check that let the call pass said false
-let-pass : (b : Bool) (r : Refusal) (v : Verdict) → orElse b r v ≡ Verdict.passed → (b ≡ false) × (v ≡ Verdict.passed)
-let-pass false r v e = (refl, e)
-let-pass true r v e = let z : _≡_ {A = ℕ} 0 1 = ap passes e in absurd (omega arith)
-
-abbrev pub verdictOf : Answer → Verdict
-verdictOf Done = Verdict.passed
-verdictOf (RefusedCall r) = Verdict.refused r
 
 verdict-there : (v : Verdict) → verdictOf (settle v RefusedCall Done) ≡ v
 verdict-there Verdict.passed = refl
@@ -110,10 +99,10 @@ module _ (s : Ehci) (lent : Lengths) (g : Bool) (eg : g ≡ acceptsOf s lent) wh
 -- ---- open endpoint: what is done
 
 module _ (s : Ehci) (pool : ℕ) (h : List ℕ) (f u : ℕ) (kind : EndpointType) (a n p : ℕ) (good : Bool) (eg : good ≡ fieldsGood a n p)
-    (o : Opened) (eo : o ≡ chosenOf s (lentRows pool h f u) kind good) where
-  chosen : openVerdict o ≡ first (openChecks s (lentRows pool h f u) kind good)
+    (o : Opened) (eo : o ≡ chosenOf s (lengths pool (length h) f u) kind good) where
+  chosen : openVerdict o ≡ first (openChecks s (lengths pool (length h) f u) kind good)
   unfolding chosenOf
-  chosen = ap openVerdict eo ∙ open-there (first (openChecks s (lentRows pool h f u) kind good)) (lowestSlot s)
+  chosen = ap openVerdict eo ∙ open-there (first (openChecks s (lengths pool (length h) f u) kind good)) (lowestSlot s)
 
   pub open-refused : (r : Refusal) → o ≡ Refused r
       → openLeft (record { answer = Refused r; state = s }) h ≡ openEndpointOf s pool h f u kind a n p
@@ -121,7 +110,7 @@ module _ (s : Ehci) (pool : ℕ) (h : List ℕ) (f u : ℕ) (kind : EndpointType
   open-refused r e = rw (← eg, sym chosen ∙ ap openVerdict e)
 
   module _ (k : ℕ) (e : o ≡ Slot k) where
-    went : first (openChecks s (lentRows pool h f u) kind good) ≡ Verdict.passed
+    went : first (openChecks s (lengths pool (length h) f u) kind good) ≡ Verdict.passed
     went = sym chosen ∙ ap openVerdict e
 
     pub slot-is : k ≡ lowestSlot s
@@ -129,14 +118,14 @@ module _ (s : Ehci) (pool : ℕ) (h : List ℕ) (f u : ℕ) (kind : EndpointType
     slot-is = ap slotOf (sym e ∙ eo) ∙ rw went
 
     -- every check let it pass
-    pub open-passed : (acceptsOf s (lentRows pool h f u) ≡ true) × (isIsochronous kind ≡ false) × (good ≡ true) × (k < s .settings .endpoints)
+    pub open-passed : (acceptsOf s (lengths pool (length h) f u) ≡ true) × (isIsochronous kind ≡ false) × (good ≡ true) × (k < s .settings .endpoints)
     unfolding openChecks
     open-passed =
-        let l = let-pass (not (acceptsOf s (lentRows pool h f u))) InvalidParameter _ went in
+        let l = let-pass (not (acceptsOf s (lengths pool (length h) f u))) InvalidParameter _ went in
         let i = let-pass (isIsochronous kind) NotSupported _ (l .1) in
         let g = let-pass (not good) InvalidParameter _ (i .1) in
         let b = let-pass (leb (s .settings .endpoints) (lowestSlot s)) SlotLimitReached _ (g .1) in (
-          not-false (acceptsOf s (lentRows pool h f u)) (l .0),
+          not-false (acceptsOf s (lengths pool (length h) f u)) (l .0),
           i .0,
           not-false good (g .0),
           (rw slot-is (leb-false (s .settings .endpoints) (lowestSlot s) (b .0))),
@@ -183,10 +172,10 @@ module _ (s : Ehci) (lent : Lengths) (k : ℕ) (good : Bool) (g : Bool) (eg : g 
 -- ---- close, set address, set packet size: what is done
 
 module _ (s : Ehci) (pool : ℕ) (h : List ℕ) (f u k : ℕ) (good : Bool) (a : Answer)
-    (ea : a ≡ judgedOf s (lentRows pool h f u) k good) where
-  judged : verdictOf a ≡ first (slotChecks s (lentRows pool h f u) k good)
+    (ea : a ≡ judgedOf s (lengths pool (length h) f u) k good) where
+  judged : verdictOf a ≡ first (slotChecks s (lengths pool (length h) f u) k good)
   unfolding judgedOf
-  judged = ap verdictOf ea ∙ verdict-there (first (slotChecks s (lentRows pool h f u) k good))
+  judged = ap verdictOf ea ∙ verdict-there (first (slotChecks s (lengths pool (length h) f u) k good))
 
   pub change-refused : (r : Refusal) (s′ : Ehci) (h′ : List ℕ) → a ≡ RefusedCall r
       → changeLeft (record { answer = RefusedCall r; state = s }) h ≡ changeOf s pool h f u k good s′ h′
@@ -198,14 +187,14 @@ module _ (s : Ehci) (pool : ℕ) (h : List ℕ) (f u k : ℕ) (good : Bool) (a :
 
   -- every check let it pass
   pub change-passed : a ≡ Done
-      → (acceptsOf s (lentRows pool h f u) ≡ true) × (isOpen s k ≡ true) × (isUncollected s k ≡ false) × (good ≡ true)
+      → (acceptsOf s (lengths pool (length h) f u) ≡ true) × (isOpen s k ≡ true) × (isUncollected s k ≡ false) × (good ≡ true)
   unfolding slotChecks
   change-passed e =
-      let l = let-pass (not (acceptsOf s (lentRows pool h f u))) InvalidParameter _ (sym judged ∙ ap verdictOf e) in
+      let l = let-pass (not (acceptsOf s (lengths pool (length h) f u))) InvalidParameter _ (sym judged ∙ ap verdictOf e) in
       let o = let-pass (not (isOpen s k)) InvalidEndpoint _ (l .1) in
       let c = let-pass (isUncollected s k) QueueFull _ (o .1) in
       let g = let-pass (not good) InvalidParameter _ (c .1) in (
-        not-false (acceptsOf s (lentRows pool h f u)) (l .0),
+        not-false (acceptsOf s (lengths pool (length h) f u)) (l .0),
         not-false (isOpen s k) (o .0),
         c .0,
         not-false good (g .0),
@@ -215,12 +204,12 @@ module _ (s : Ehci) (pool : ℕ) (h : List ℕ) (f u k : ℕ) (good : Bool) (a :
   change-room e = open-room s pool h f u k (change-passed e .0) (change-passed e .1)
 
 module _ (s : Ehci) (pool : ℕ) (h : List ℕ) (f u k : ℕ) (a : Answer) where
-  pub close-refused : (r : Refusal) → a ≡ judgedOf s (lentRows pool h f u) k true → a ≡ RefusedCall r
+  pub close-refused : (r : Refusal) → a ≡ judgedOf s (lengths pool (length h) f u) k true → a ≡ RefusedCall r
       → changeLeft (record { answer = RefusedCall r; state = s }) h ≡ closeOf s pool h f u k
   unfolding closeOf
   close-refused r ea e = change-refused s pool h f u k true a ea r _ _ e
 
-  pub close-done : a ≡ judgedOf s (lentRows pool h f u) k true → a ≡ Done → (s′ : Ehci) (h′ : List ℕ)
+  pub close-done : a ≡ judgedOf s (lengths pool (length h) f u) k true → a ≡ Done → (s′ : Ehci) (h′ : List ℕ)
       → s′ ≡ withEndpoint s k Closed → h′ ≡ withHead h k (replicate 17 0)
       → changeLeft (record { answer = Done; state = s′ }) h′ ≡ closeOf s pool h f u k
   unfolding closeOf
@@ -228,24 +217,24 @@ module _ (s : Ehci) (pool : ℕ) (h : List ℕ) (f u k : ℕ) (a : Answer) where
       rw (es, eh) (change-done s pool h f u k true a ea (withEndpoint s k Closed) (withHead h k (replicate 17 0)) e)
 
   module _ (x : ℕ) where
-    pub address-refused : (r : Refusal) → a ≡ judgedOf s (lentRows pool h f u) k (leb x 127) → a ≡ RefusedCall r
+    pub address-refused : (r : Refusal) → a ≡ judgedOf s (lengths pool (length h) f u) k (leb x 127) → a ≡ RefusedCall r
         → changeLeft (record { answer = RefusedCall r; state = s }) h ≡ setAddressOf s pool h f u k x
     unfolding setAddressOf
     address-refused r ea e = change-refused s pool h f u k (leb x 127) a ea r _ _ e
 
-    pub address-done : a ≡ judgedOf s (lentRows pool h f u) k (leb x 127) → a ≡ Done → (w : ℕ)
+    pub address-done : a ≡ judgedOf s (lengths pool (length h) f u) k (leb x 127) → a ≡ Done → (w : ℕ)
         → w ≡ withAddress (headWord h (k + 1) 1) x
         → changeLeft (record { answer = Done; state = s }) (withHeadWord h (k + 1) 1 w) ≡ setAddressOf s pool h f u k x
     unfolding setAddressOf
     address-done ea e w ew =
         rw ew (change-done s pool h f u k (leb x 127) a ea s (withHeadWord h (k + 1) 1 (withAddress (headWord h (k + 1) 1) x)) e)
 
-    pub size-refused : (r : Refusal) → a ≡ judgedOf s (lentRows pool h f u) k true → a ≡ RefusedCall r
+    pub size-refused : (r : Refusal) → a ≡ judgedOf s (lengths pool (length h) f u) k true → a ≡ RefusedCall r
         → changeLeft (record { answer = RefusedCall r; state = s }) h ≡ setPacketSizeOf s pool h f u k x
     unfolding setPacketSizeOf
     size-refused r ea e = change-refused s pool h f u k true a ea r _ _ e
 
-    pub size-done : a ≡ judgedOf s (lentRows pool h f u) k true → a ≡ Done → (w : ℕ)
+    pub size-done : a ≡ judgedOf s (lengths pool (length h) f u) k true → a ≡ Done → (w : ℕ)
         → w ≡ withPacketSize (headWord h (k + 1) 1) x
         → changeLeft (record { answer = Done; state = s }) (withHeadWord h (k + 1) 1 w) ≡ setPacketSizeOf s pool h f u k x
     unfolding setPacketSizeOf

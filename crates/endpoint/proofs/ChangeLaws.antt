@@ -1,6 +1,6 @@
 -- Close, set address and set packet size: what an answer tells of the state before and of what is left.
 use Prim.Native.Nat.{ℕ, _+_, _*_, _%_, _≤_, _<_, max}
-use mathlib.Core.Path.{_≡_, refl, sym, ap, subst, _∙_}
+use mathlib.Core.Path.{_≡_, refl, sym, subst, _∙_}
 use mathlib.Core.Logic.{_≢_}
 use mathlib.Core.Bool.{Bool, true, false}
 use mathlib.Core.List.{List}
@@ -20,20 +20,22 @@ use Rattle.answer.specs.declared.answer.Answer.the-variants.{Done, Refused}
 use Rattle.answer.specs.declared.answer.Refusal.{Refusal}
 use Rattle.pipe.specs.declared.endpoint.Endpoint.the-variants.{Closed}
 use Rattle.pipe.specs.Endpoints.{encoded, endpointAt, withEndpoint}
-use Rattle.controller.specs.Lent.{acceptsOf}
+use Rattle.controller.specs.Lent.{acceptsOf, lengths}
 use Rattle.controller.specs.Readers.{isOpen, isUncollected}
 use Rattle.opening.specs.Rows.{headWord, withHeadWord}
 use Rattle.pipe.proofs.EndpointLaws.{endpoint-keeps, endpoint-other, endpoint-same, slot-wide, Wide}
+use Rattle.answer.proofs.CheckLaws.{answers-apart}
 use Rattle.controller.proofs.LentLaws.{accepts-tells}
-use Rattle.endpoint.specs.Calls.{changeLeft, ChangeLeft, changeOf, closeOf, judgedOf, lentRows, setAddressOf, setPacketSizeOf, withHead}
-use Rattle.endpoint.proofs.Cases.{change-done, change-passed, change-refused, passes, verdictOf}
-use Rattle.endpoint.proofs.RowLaws.{Only, only-all, put-inside, put-only, set-only}
-use Rattle.endpoint.proofs.SlotLaws.{open-below, open-room}
+use Rattle.controller.proofs.ReaderLaws.{open-within}
+use Rattle.endpoint.specs.Calls.{changeLeft, ChangeLeft, changeOf, closeOf, judgedOf, setAddressOf, setPacketSizeOf, withHead}
+use Rattle.endpoint.proofs.Cases.{change-done, change-passed, change-refused}
+use Rattle.opening.proofs.RowLaws.{Only, only-all, put-inside, put-only, set-only}
+use Rattle.endpoint.proofs.SlotLaws.{open-room}
 
 module _ (s : Ehci) (pool : ℕ) (h : List ℕ) (f u k : ℕ) where
   -- the state and the slot, where the call is accepted: open, idle and below E
   pub record Changes : Type 0 where
-    pub accepted : acceptsOf s (lentRows pool h f u) ≡ true
+    pub accepted : acceptsOf s (lengths pool (length h) f u) ≡ true
     pub is-open : isOpen s k ≡ true
     pub is-idle : isUncollected s k ≡ false
     pub below : k < s .settings .endpoints
@@ -43,14 +45,14 @@ module _ (s : Ehci) (pool : ℕ) (h : List ℕ) (f u k : ℕ) where
     pub change-by : (P : ChangeLeft → Type 0) → ((r : Refusal) → P (changeLeft (record { answer = Refused r; state = s }) h))
         → (Changes → good ≡ true → P (changeLeft (record { answer = Done; state = s′ }) h′))
         → P (changeOf s pool h f u k good s′ h′)
-    change-by P denied done = by (judgedOf s (lentRows pool h f u) k good) refl
+    change-by P denied done = by (judgedOf s (lengths pool (length h) f u) k good) refl
       where
-        by : (a : Answer) → a ≡ judgedOf s (lentRows pool h f u) k good → P (changeOf s pool h f u k good s′ h′)
+        by : (a : Answer) → a ≡ judgedOf s (lengths pool (length h) f u) k good → P (changeOf s pool h f u k good s′ h′)
         by Done e =
             let t = change-passed s pool h f u k good Done e refl in
-            let r = accepts-tells s (lentRows pool h f u) (t .0) .ranges in
+            let r = accepts-tells s (lengths pool (length h) f u) (t .0) .ranges in
             subst P (change-done s pool h f u k good Done e s′ h′ refl)
-            (done (record { accepted = t .0; is-open = t .1; is-idle = t .2; below = open-below s k r (t .1) }) (t .3))
+            (done (record { accepted = t .0; is-open = t .1; is-idle = t .2; below = open-within s k r (t .1) }) (t .3))
         by (Refused r) e = subst P (change-refused s pool h f u k good (Refused r) e r s′ h′ refl) (denied r)
 
     pub change-denied : (r : Refusal) → changeOf s pool h f u k good s′ h′ .change .answer ≡ Refused r
@@ -58,14 +60,14 @@ module _ (s : Ehci) (pool : ℕ) (h : List ℕ) (f u k : ℕ) where
     change-denied =
         change-by (λ c. (r : Refusal) → c .change .answer ≡ Refused r → (c .change .state ≡ s) × (c .heads ≡ h))
         (λ _ _ _. (refl, refl))
-        (λ _ _ r e. let z : _≡_ {A = ℕ} 1 0 = ap (λ (a : Answer). passes (verdictOf a)) e in absurd (omega arith))
+        (λ _ _ r e. absurd (answers-apart r (sym e)))
 
     -- what holds of what it is for holds where it answers 0
     pub change-tells : (P : ChangeLeft → Type 0) → (Changes → good ≡ true → P (changeLeft (record { answer = Done; state = s′ }) h′))
         → changeOf s pool h f u k good s′ h′ .change .answer ≡ Done → P (changeOf s pool h f u k good s′ h′)
     change-tells P done =
         change-by (λ c. c .change .answer ≡ Done → P c)
-        (λ r e. let z : _≡_ {A = ℕ} 0 1 = ap (λ (a : Answer). passes (verdictOf a)) e in absurd (omega arith))
+        (λ r e. absurd (answers-apart r e))
         (λ from g e. done from g)
 
   word-room : Changes → 17 * (k + 1) + 1 < length h

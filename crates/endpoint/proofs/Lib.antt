@@ -1,6 +1,5 @@
 pub mod LowestCases
 pub mod LowestLaws
-pub mod RowLaws
 pub mod SlotLaws
 pub mod Cases
 pub mod OpenLaws

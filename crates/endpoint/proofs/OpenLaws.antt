@@ -21,17 +21,20 @@ use Rattle.answer.specs.declared.answer.Refusal.{Refusal}
 use Rattle.answer.specs.declared.answer.Refusal.the-variants.{SlotLimitReached}
 use Rattle.pipe.specs.declared.endpoint.Endpoint.the-variants.{Closed}
 use Rattle.pipe.specs.Endpoints.{encoded, endpointAt, flagNumber, withEndpoint}
-use Rattle.controller.specs.Lent.{acceptsOf}
+use Rattle.pipe.specs.Kinds.{isIsochronous}
+use Rattle.controller.specs.Lent.{acceptsOf, lengths}
 use Rattle.controller.specs.Readers.{hasEndpoint, isOpen}
 use Rattle.opening.specs.Rows.{headWord}
 use Rattle.pipe.proofs.EndpointLaws.{endpoint-keeps, endpoint-other, endpoint-same, slot-wide, Wide}
+use Rattle.pipe.proofs.KindLaws.{not-isochronous}
+use Rattle.answer.proofs.CheckLaws.{verdicts-apart}
 use Rattle.controller.proofs.LentLaws.{accepts-tells}
 use Rattle.endpoint.specs.declared.calls.Opened.{Opened}
 use Rattle.endpoint.specs.declared.calls.Opened.the-variants.{Slot, Refused}
-use Rattle.endpoint.specs.Calls.{chosenOf, fieldsGood, isIsochronous, lentRows, lowestSlot, newEndpoint, openChecks, openEndpointOf, openLeft, OpenLeft, withHead}
-use Rattle.endpoint.proofs.Cases.{open-done, open-passed, open-refused, openVerdict, passes, slot-is, slotOf}
+use Rattle.endpoint.specs.Calls.{chosenOf, fieldsGood, lowestSlot, newEndpoint, openChecks, openEndpointOf, openLeft, OpenLeft, withHead}
+use Rattle.endpoint.proofs.Cases.{open-done, open-passed, open-refused, openVerdict, slot-is, slotOf}
 use Rattle.endpoint.proofs.LowestLaws.{lower-open, lowest-closed}
-use Rattle.endpoint.proofs.RowLaws.{Only, put-inside, put-only}
+use Rattle.opening.proofs.RowLaws.{Only, put-inside, put-only}
 use Rattle.endpoint.proofs.SlotLaws.{below-room}
 
 -- 01's ranges of what is asked
@@ -55,27 +58,24 @@ fields-good a n p e =
       packet-most = leb-true p 1024 (w .1);
     }
 
-kind-not : (kind : EndpointType) → isIsochronous kind ≡ false → kind ≢ Isochronous
-kind-not kind e q = let z : _≡_ {A = ℕ} 1 0 = ap (λ (k : EndpointType). flagNumber (isIsochronous k)) (sym q) ∙ ap flagNumber e in absurd (omega arith)
-
 module _ (s : Ehci) (pool : ℕ) (h : List ℕ) (f u : ℕ) (kind : EndpointType) (a n p : ℕ) where
   -- the state and what is asked, where slot k is opened
   pub record Opens (k : ℕ) : Type 0 where
-    pub accepted : acceptsOf s (lentRows pool h f u) ≡ true
+    pub accepted : acceptsOf s (lengths pool (length h) f u) ≡ true
     pub never : kind ≢ Isochronous
     pub fields : FieldsGood a n p
     pub below : k < s .settings .endpoints
     pub was-closed : endpointAt s k ≡ Closed
     pub lower : (j : ℕ) → j < k → isOpen s j ≡ true
 
-  opens : (k : ℕ) → Slot k ≡ chosenOf s (lentRows pool h f u) kind (fieldsGood a n p) → Opens k
+  opens : (k : ℕ) → Slot k ≡ chosenOf s (lengths pool (length h) f u) kind (fieldsGood a n p) → Opens k
   opens k e =
       let t = open-passed s pool h f u kind a n p (fieldsGood a n p) refl (Slot k) e k refl in
       let is = slot-is s pool h f u kind a n p (fieldsGood a n p) refl (Slot k) e k refl in
-      let r = accepts-tells s (lentRows pool h f u) (t .0) .ranges in
+      let r = accepts-tells s (lengths pool (length h) f u) (t .0) .ranges in
       record {
         accepted = t .0;
-        never = kind-not kind (t .1);
+        never = not-isochronous kind (t .1);
         fields = fields-good a n p (t .2);
         below = t .3;
         was-closed = rw is (lowest-closed s r (omega (arith, t .3)));
@@ -88,9 +88,9 @@ module _ (s : Ehci) (pool : ℕ) (h : List ℕ) (f u : ℕ) (kind : EndpointType
       → P (openLeft (record { answer = Slot k; state = withEndpoint s k (newEndpoint kind) })
       (withHead h k (wordsOf (endpointHead kind a n p)))))
       → P (openEndpointOf s pool h f u kind a n p)
-  open-by P denied done = by (chosenOf s (lentRows pool h f u) kind (fieldsGood a n p)) refl
+  open-by P denied done = by (chosenOf s (lengths pool (length h) f u) kind (fieldsGood a n p)) refl
     where
-      by : (o : Opened) → o ≡ chosenOf s (lentRows pool h f u) kind (fieldsGood a n p)
+      by : (o : Opened) → o ≡ chosenOf s (lengths pool (length h) f u) kind (fieldsGood a n p)
           → P (openEndpointOf s pool h f u kind a n p)
       by (Slot k) e =
           subst P (open-done s pool h f u kind a n p (fieldsGood a n p) refl (Slot k) e k refl _ _ refl refl) (done k (opens k e))
@@ -125,7 +125,7 @@ module _ (s : Ehci) (pool : ℕ) (h : List ℕ) (f u : ℕ) (kind : EndpointType
       → SlotOpened k (openEndpointOf s pool h f u kind a n p)
   open-tells =
       open-by (λ o. (k : ℕ) → o .opening .answer ≡ Slot k → SlotOpened k o)
-      (λ r k e. let z : _≡_ {A = ℕ} 0 1 = ap (λ (o : Opened). passes (openVerdict o)) e in absurd (omega arith))
+      (λ r k e. absurd (verdicts-apart r (ap openVerdict e)))
       (λ j from k e. subst
       (λ (i : ℕ). SlotOpened i
       (openLeft (record { answer = Slot j; state = withEndpoint s j (newEndpoint kind) })
@@ -137,7 +137,7 @@ module _ (s : Ehci) (pool : ℕ) (h : List ℕ) (f u : ℕ) (kind : EndpointType
   open-denied =
       open-by (λ o. (r : Refusal) → o .opening .answer ≡ Refused r → (o .opening .state ≡ s) × (o .heads ≡ h))
       (λ _ _ _. (refl, refl))
-      (λ k from r e. let z : _≡_ {A = ℕ} 1 0 = ap (λ (o : Opened). passes (openVerdict o)) e in absurd (omega arith))
+      (λ k from r e. absurd (verdicts-apart r (sym (ap openVerdict e))))
 
   pub open-length : length (openEndpointOf s pool h f u kind a n p .heads) ≡ length h
   open-length = open-by (λ o. length (o .heads) ≡ length h) (λ r. refl) (λ k from. slot-opened k from .only .same-length)
@@ -168,7 +168,7 @@ module _ (s : Ehci) (pool : ℕ) (h : List ℕ) (f u : ℕ) (kind : EndpointType
 
   -- ---- where every earlier check passes, 2 is answered exactly where no slot below E is closed
 
-  module _ (e : acceptsOf s (lentRows pool h f u) ≡ true) (i : isIsochronous kind ≡ false) (g : fieldsGood a n p ≡ true) where
+  module _ (e : acceptsOf s (lengths pool (length h) f u) ≡ true) (i : isIsochronous kind ≡ false) (g : fieldsGood a n p ≡ true) where
     pub open-accepts : (j : ℕ) → j < s .settings .endpoints → isOpen s j ≡ false
         → openEndpointOf s pool h f u kind a n p .opening .answer ≡ Slot (lowestSlot s)
     unfolding openEndpointOf openChecks
@@ -176,7 +176,7 @@ module _ (s : Ehci) (pool : ℕ) (h : List ℕ) (f u : ℕ) (kind : EndpointType
       where
         by : (t : Bool) → ltb j (lowestSlot s) ≡ t → lowestSlot s < s .settings .endpoints
         by true q =
-            let r = accepts-tells s (lentRows pool h f u) e .ranges in
+            let r = accepts-tells s (lengths pool (length h) f u) e .ranges in
             let o = lower-open s r j lt (ltb-true j (lowestSlot s) q) in
             let z : _≡_ {A = ℕ} 1 0 = ap flagNumber (sym o ∙ shut) in
             absurd (omega arith)
@@ -190,7 +190,7 @@ module _ (s : Ehci) (pool : ℕ) (h : List ℕ) (f u : ℕ) (kind : EndpointType
         by : (t : Bool) → leb (s .settings .endpoints) (lowestSlot s) ≡ t → s .settings .endpoints ≤ lowestSlot s
         by true q = leb-true (s .settings .endpoints) (lowestSlot s) q
         by false q =
-            let r = accepts-tells s (lentRows pool h f u) e .ranges in
+            let r = accepts-tells s (lengths pool (length h) f u) e .ranges in
             let lt = leb-false (s .settings .endpoints) (lowestSlot s) q in
             let o = sym (ap hasEndpoint (lowest-closed s r lt)) ∙ all (lowestSlot s) lt in
             let z : _≡_ {A = ℕ} 0 1 = ap flagNumber o in

@@ -1,11 +1,10 @@
 -- Document 01: open endpoint, close, set address, set packet size.
 use Prim.Native.Nat.{ℕ, _+_, _*_}
-use mathlib.Core.Bool.{Bool, true, false, not}
+use mathlib.Core.Bool.{Bool, true, not}
 use mathlib.Core.List.{List, [], _∷_}
 use lib.Dec.{leb}
 use lib.ListN.{length, replicate}
 use Rattle.token.specs.declared.request.EndpointType.{EndpointType}
-use Rattle.token.specs.declared.request.EndpointType.the-variants.{Control, Isochronous, Bulk, Interrupt}
 use Rattle.descriptor.specs.Heads.{endpointHead, wordsOf, withAddress, withPacketSize}
 use Rattle.settings.specs.Tests.{every, within}
 use Rattle.state.specs.declared.state.Ehci.{Ehci}
@@ -17,7 +16,8 @@ use Rattle.pipe.specs.declared.endpoint.Endpoint.the-variants.{Closed, Idle}
 use Rattle.controller.specs.declared.lent.Lengths.{Lengths}
 use Rattle.answer.specs.Answers.{Check, first, refusalNumber, settle}
 use Rattle.pipe.specs.Endpoints.{withEndpoint}
-use Rattle.controller.specs.Lent.{acceptsOf}
+use Rattle.pipe.specs.Kinds.{isIsochronous}
+use Rattle.controller.specs.Lent.{acceptsOf, lengths}
 use Rattle.controller.specs.Readers.{isOpen, isUncollected}
 use Rattle.opening.specs.Rows.{headWord, putAt, withHeadWord}
 use Rattle.endpoint.specs.declared.calls.Change.{Change}
@@ -25,10 +25,6 @@ use Rattle.endpoint.specs.declared.calls.EndpointOpening.{EndpointOpenin
 use Rattle.endpoint.specs.declared.calls.Opened.{Opened}
 use Rattle.endpoint.specs.declared.calls.Opened.the-variants.{Slot, Refused}
 use Rattle.endpoint.specs.Lowest.{lowestClosed}
-
--- the lengths of the rows: the heads are lent, the others are numbers
-abbrev pub lentRows : ℕ → List ℕ → ℕ → ℕ → Lengths
-lentRows pool heads frames setups = record { pool = pool; heads = length heads; frames = frames; setups = setups }
 
 -- slot k's head is at place k + 1
 abbrev pub withHead : List ℕ → ℕ → List ℕ → List ℕ
@@ -47,12 +43,6 @@ pub record OpenLeft : Type 0 where
 
 abbrev pub openLeft : EndpointOpening → List ℕ → OpenLeft
 openLeft opening heads = record { opening = opening; heads = heads }
-
-abbrev pub isIsochronous : EndpointType → Bool
-isIsochronous Control = false
-isIsochronous Isochronous = true
-isIsochronous Bulk = false
-isIsochronous Interrupt = false
 
 -- "address 0..=127, number 0..=15, packet size 1..=1024"
 unfoldable pub fieldsGood : ℕ → ℕ → ℕ → Bool
@@ -79,7 +69,7 @@ newEndpoint kind = Idle (record { kind = kind; next = 1 })
 
 unfoldable pub openEndpointOf : Ehci → ℕ → List ℕ → ℕ → ℕ → EndpointType → ℕ → ℕ → ℕ → OpenLeft
 openEndpointOf s pool heads frames setups kind address number packet =
-    settle (first (openChecks s (lentRows pool heads frames setups) kind (fieldsGood address number packet)))
+    settle (first (openChecks s (lengths pool (length heads) frames setups) kind (fieldsGood address number packet)))
     (λ r. openLeft (record { answer = Refused r; state = s }) heads)
     (openLeft (record { answer = Slot (lowestSlot s); state = withEndpoint s (lowestSlot s) (newEndpoint kind) })
     (withHead heads (lowestSlot s) (wordsOf (endpointHead kind address number packet))))
@@ -108,7 +98,7 @@ judgedOf s lent k good = settle (first (slotChecks s lent k good)) RefusedCall D
 -- a call on slot k that leaves a state and heads where it is not refused
 abbrev pub changeOf : Ehci → ℕ → List ℕ → ℕ → ℕ → ℕ → Bool → Ehci → List ℕ → ChangeLeft
 changeOf s pool heads frames setups k good s′ heads′ =
-    settle (first (slotChecks s (lentRows pool heads frames setups) k good))
+    settle (first (slotChecks s (lengths pool (length heads) frames setups) k good))
     (λ r. changeLeft (record { answer = RefusedCall r; state = s }) heads)
     (changeLeft (record { answer = Done; state = s′ }) heads′)
 

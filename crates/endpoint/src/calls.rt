@@ -1,13 +1,8 @@
 // The public calls: open endpoint, close, set address, set packet size. Each is lent the heads.
 ghost use mathlib.Core.Path.{_≡_};
-ghost use Prim.Native.Nat.{_+_, _*_, _≤_};
-ghost use lib.ListN.{length};
-ghost use Rattle.descriptor.specs.Heads.{endpointHead, wordsOf};
 ghost use Rattle.endpoint.specs.Calls.{
-  isIsochronous,
   fieldsGood,
   chosenOf,
-  withHead,
   openLeft,
   openEndpointOf,
   judgedOf,
@@ -16,6 +11,7 @@ ghost use Rattle.endpoint.specs.Calls.{
   setAddressOf,
   setPacketSizeOf,
 };
+use crate::heads::write_head;
 use crate::lowest::lowest_closed;
 use answer::answer::Answer;
 use answer::answer::Refusal;
@@ -23,13 +19,13 @@ use controller::lent::Lengths;
 use controller::lent::accepts;
 use controller::readers::is_open;
 use controller::readers::uncollected;
-use descriptor::head::QueueHead;
 use descriptor::head::set_device_address;
 use descriptor::head::set_max_packet_size;
 use opening::rows::put_head;
 use pipe::endpoint::Endpoint;
 use pipe::endpoint::Pipe;
 use pipe::endpoint::with_endpoint;
+use pipe::kinds::is_isochronous;
 use state::state::Ehci;
 use token::request::EndpointType;
 
@@ -47,17 +43,6 @@ pub struct EndpointOpening {
 pub struct Change {
     pub answer: Answer,
     pub state: Ehci,
-}
-
-fn is_isochronous(kind: EndpointType) -> bool
-    ensures { λ r. ⌜ r ≡ isIsochronous kind ⌝ }
-{
-    match kind {
-        EndpointType::Control => false,
-        EndpointType::Isochronous => true,
-        EndpointType::Bulk => false,
-        EndpointType::Interrupt => false,
-    }
 }
 
 fn fields_good(address: u8, number: u8, packet: u16) -> bool
@@ -85,17 +70,6 @@ fn choose(state: Ehci, lent: Lengths, kind: EndpointType, good: bool) -> Opened
         return Opened::Refused(Refusal::SlotLimitReached);
     }
     Opened::Slot(slot)
-}
-
-// The head of a new endpoint, over the words that its slot has.
-fn write_head(heads: &mut [u32], slot: u8, kind: EndpointType, address: u8, number: u8, packet: u16)
-    requires { ⌜ (slot + 1 ≤ 32) × (17 * (slot + 1) + 17 ≤ length (now heads)) ⌝ }
-    requires { ⌜ (address ≤ 127) × (number ≤ 15) × (packet ≤ 1024) ⌝ }
-    ensures { λ _. ⌜ now (heads .exit)
-        ≡ withHead (now (heads .entry)) slot (wordsOf (endpointHead kind address number packet)) ⌝ }
-{
-    let head = QueueHead::endpoint(kind, address, number, packet);
-    put_head(heads, slot as usize + 1, head.words());
 }
 
 // `pool`, `frames` and `setups` are the lengths of the rows that are not changed.

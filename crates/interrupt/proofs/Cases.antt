@@ -18,7 +18,7 @@ use Rattle.answer.specs.declared.answer.Answer.the-variants.{Done, Refused as R
 use Rattle.answer.specs.declared.answer.Refusal.the-variants.{InvalidParameter}
 use Rattle.state.specs.declared.state.Ehci.{Ehci}
 use Rattle.settings.proofs.SettingsCases.{both-first, both-second, within-least}
-use Rattle.schedule.specs.Bell.{advancedOf, fallenFrom}
+use Rattle.schedule.specs.Bell.{advancedOf, bellOf, fallenFrom}
 use Rattle.schedule.specs.Links.{same}
 use Rattle.schedule.specs.declared.bell.Rung.{Rung}
 use Rattle.interrupt.specs.declared.calls.Acknowledged.the-variants.{No, Yes, Refused as RefusedAck}
@@ -28,7 +28,7 @@ use Rattle.interrupt.specs.declared.calls.Drainage.{Drainage}
 use Rattle.interrupt.specs.declared.calls.Settled.{Settled}
 use Rattle.interrupt.specs.declared.drain.Counted.{Counted}
 use Rattle.interrupt.specs.declared.drain.Taken.{Taken}
-use Rattle.interrupt.specs.Interrupts.{maskWord, acknowledgeWrites, notedAfter, acknowledgedState, acknowledgeOf, bellOf, withRung, countedOf, takenOf, drainOf, refusedSettled, rearmOf, enableOf, disableOf}
+use Rattle.interrupt.specs.Interrupts.{maskWord, acknowledgeWrites, notedAfter, acknowledgedState, acknowledgeOf, withRung, countedOf, takenOf, drainOf, refusedSettled, rearmOf, enableOf, disableOf}
 
 -- ---- acknowledge
 

@@ -16,11 +16,12 @@ use Rattle.state.specs.Ranges.{inRanges}
 use Rattle.state.specs.State.{withInterrupt, withBell, withBoundaries}
 use Rattle.settings.specs.Tests.{both, either}
 use Rattle.state.specs.declared.state.Ehci.{Ehci}
+use Rattle.settings.proofs.Every.{either-assoc, false-true}
 use Rattle.settings.proofs.SettingsCases.{both-first}
 use Rattle.schedule.specs.Links.{same}
-use Rattle.schedule.specs.Bell.{ringWord, mustRing, ringOf, unlinkedOf, advancedOf}
+use Rattle.schedule.specs.Bell.{ringWord, mustRing, ringOf, unlinkedOf, advancedOf, bellOf}
 use Rattle.schedule.specs.declared.bell.Bell.{Bell}
-use Rattle.interrupt.specs.Interrupts.{acknowledgeWrites, notedAfter, acknowledgedState, acknowledgeOf, bellOf, countedOf, drainOf, rearmOf, enableOf, disableOf}
+use Rattle.interrupt.specs.Interrupts.{acknowledgeWrites, notedAfter, acknowledgedState, acknowledgeOf, countedOf, drainOf, rearmOf, enableOf, disableOf}
 use Rattle.interrupt.specs.Once.{Call, Unlink, Acknowledge, Drain, Rearm, Enable, Disable, after, run, isRing, someRing, rings, reads, someRead, asks, asked, noneRings, AtMostOnce, JustRung, OncePerRing, RingLeaves, OnlyInDrains}
 
 -- ---- a ring is seen in the writes
@@ -137,10 +138,6 @@ flag-le false q = omega arith
 flag-right : (r q : Bool) → q ≡ true → 1 ≤ flagNumber (either r q)
 flag-right true q e = omega arith
 flag-right false q e = rw e (omega arith)
-
-either-assoc : (a b c : Bool) → either (either a b) c ≡ either a (either b c)
-either-assoc true b c = refl
-either-assoc false b c = refl
 
 either-none : (a : Bool) → either a false ≡ a
 either-none true = refl
@@ -273,9 +270,6 @@ once-per-ring s cs c rung none = omega (arith, stretch (s .unanswered) 0 false s
         }
 
 -- ---- where the premise comes from, and who counts
-
-false-true : false ≡ true → ⊥
-false-true q = let z : _≡_ {A = ℕ} 0 1 = cc in omega arith
 
 -- what a ring leaves: the doorbell up, and the note that was there before
 ring-up : (b : Bell) (cmd : ℕ) → someRing (listOf (ringOf b noWrites cmd .writes)) ≡ true

@@ -14,9 +14,8 @@ use Rattle.settings.specs.Tests.{both}
 use Rattle.answer.specs.declared.answer.Answer.the-variants.{Done, Refused as RefusedCall}
 use Rattle.answer.specs.declared.answer.Refusal.the-variants.{InvalidParameter}
 use Rattle.state.specs.declared.state.Ehci.{Ehci}
-use Rattle.schedule.specs.Bell.{advancedOf, fallenFrom}
+use Rattle.schedule.specs.Bell.{advancedOf, bellOf, fallenFrom}
 use Rattle.schedule.specs.Links.{same}
-use Rattle.schedule.specs.declared.bell.Bell.{Bell}
 use Rattle.schedule.specs.declared.bell.Rung.{Rung}
 use Rattle.interrupt.specs.declared.calls.Acknowledged.{Acknowledged}
 use Rattle.interrupt.specs.declared.calls.Acknowledged.the-variants.{No, Yes, Refused as RefusedAck}
@@ -94,9 +93,6 @@ acknowledgeOf s status interrupts flag again =
     (heardIf (eqb (onlyBits status 0x37) 0) s (onlyBits status 0x37) interrupts flag again)
 
 -- ---- drain
-
-abbrev pub bellOf : Ehci → Bell
-bellOf s = record { noted = s .noted; doorbell = s .doorbell; unanswered = s .unanswered }
 
 -- the state after a counted advance and what its ring wrote
 abbrev pub withRung : Ehci → Rung → Counted

@@ -13,9 +13,9 @@ use Rattle.pipe.specs.Endpoints.{flagNumber}
 use Rattle.state.specs.State.{withBell}
 use Rattle.settings.specs.Tests.{both, either}
 use Rattle.state.specs.declared.state.Ehci.{Ehci}
-use Rattle.schedule.specs.Bell.{unlinkedOf}
+use Rattle.schedule.specs.Bell.{bellOf, unlinkedOf}
 use Rattle.schedule.specs.declared.bell.Rung.{Rung}
-use Rattle.interrupt.specs.Interrupts.{bellOf, acknowledgeOf, drainOf, rearmOf, enableOf, disableOf}
+use Rattle.interrupt.specs.Interrupts.{acknowledgeOf, drainOf, rearmOf, enableOf, disableOf}
 
 -- the calls that move the doorbell or the interrupt registers; an unlink stands for the call that makes one
 pub data Call : Type 0 where

@@ -1,4 +1,5 @@
 pub mod RowsCases
+pub mod RowLaws
 pub mod OpenCases
 pub mod OpenLaws
 pub mod OpenPool

@@ -8,6 +8,7 @@ use borrow.Author.Tests.{eqb-true, leb-true, not-false, not-true}
 use lib.Dec.{eqb, leb}
 use lib.ListN.{drop, length, replicate}
 use native.Mathlib.Nat.{sub-zero, suc-sub-suc, zero-sub}
+use Rattle.token.specs.Chunks.{zeros}
 use Rattle.descriptor.specs.Descriptors.{terminated}
 use Rattle.descriptor.specs.Heads.{ringHead, wordsOf}
 use Rattle.descriptor.specs.declared.head.QueueHead.{QueueHead}
@@ -24,9 +25,6 @@ use Rattle.settings.specs.Settings.{settingsGood, numbersGood, eachGood, noOver
 use Rattle.settings.specs.Tests.{both}
 use Rattle.settings.proofs.Every.{every-4}
 use Rattle.settings.proofs.SettingsCases.{both-first, both-second, numbers-tell}
-
-abbrev zeros : ℕ → List ℕ
-zeros n = replicate n 0
 
 pub fit-is : (s : Settings) (p h f u : ℕ)
     → both (both (both (eqb p (poolLength s)) (eqb h (headsLength s))) (eqb f framesLength)) (eqb u (setupsLength s)) ≡ rowsFit s p h f u

@@ -1,14 +1,15 @@
 -- Opening: an accepted one gives a state in its ranges with every descriptor free, and rows of which each word is stated; a
 -- refused one leaves every row as it was and gives a state that is outside its ranges.
-use Prim.Native.Nat.{ℕ, zero, suc, _+_, _-_, _*_, _%_, _^_, _≤_, _<_}
+use Prim.Native.Nat.{ℕ, _+_, _-_, _*_, _%_, _^_, _≤_, _<_}
 use mathlib.Core.Path.{_≡_, refl, ap, _∙_}
 use mathlib.Core.Bool.{Bool, true, false}
 use mathlib.Core.List.{List, _∷_}
 use native.Mathlib.Omega.{arith}
 use borrow.Author.Tests.{eq-eqb, eqb-true}
 use lib.Dec.{eqb}
-use lib.ListN.{getD, getD-replicate, length, replicate, replicate-append-replicate, take}
+use lib.ListN.{getD-replicate, length, replicate, replicate-append-replicate, take}
 use Rattle.register.specs.Bits.{withoutBits}
+use Rattle.token.specs.Chunks.{zeros}
 use Rattle.descriptor.specs.Descriptors.{terminated}
 use Rattle.descriptor.specs.Heads.{ringHead}
 use Rattle.answer.specs.declared.answer.Answer.the-variants.{Done, Refused}
@@ -22,19 +23,12 @@ use Rattle.state.specs.Ranges.{inRanges}
 use Rattle.settings.specs.Settings.{framesLength, headsLength, numbersGood, poolLength, settingsGood, setupsLength}
 use Rattle.state.specs.Slots.{slotAt}
 use Rattle.settings.specs.Tests.{both}
+use Rattle.state.proofs.Arrays.{zeros-at}
 use Rattle.state.proofs.RangesLaws.{ranges-make}
 use Rattle.settings.proofs.SettingsLaws.{both-tells, Good, good-tells}
 use Rattle.slot.proofs.SlotLaws.{Phase, slot-makes}
 
 -- ---- the state
-
-abbrev zeros : ℕ → List ℕ
-zeros n = replicate n 0
-
-zeros-at : (n i : ℕ) → getD (zeros n) i 0 ≡ 0
-zeros-at zero i = refl
-zeros-at (suc n) zero = refl
-zeros-at (suc n) (suc i) = zeros-at n i
 
 module _ (s : Settings) where
   -- every slot is closed

@@ -25,6 +25,7 @@ use Rattle.state.specs.declared.state.Ehci.{Ehci}
 use Rattle.pipe.specs.Endpoints.{boundaryNumber, boundaryOf, decoded, directionNumber, directionOf, encoded, endpointAt, flagNumber, flagOf, kindNumber, kindOf, pickBoundary, pipeOf, requestOf, withEndpoint}
 use Rattle.slot.specs.Ranges.{slotGood}
 use Rattle.state.specs.Slots.{slotAt, withSlot}
+use Rattle.state.specs.State.{withBell, withOwner}
 use Rattle.pipe.proofs.EndpointCases.{decode-closed, decode-idle, decode-linked, decode-unlinking}
 use Rattle.state.proofs.RangesLaws.{Ranges}
 use Rattle.slot.proofs.SlotLaws.{Bounded, OpenKind, Phase, slot-makes, slot-tells}
@@ -405,3 +406,61 @@ module _ (s : Ehci) (k : ℕ) (r : Ranges s) (w : Wide s) (h : k < 32) where
       → Ranges (withEndpoint s k x)
   unfolding withEndpoint
   endpoint-keeps x g c = slot-keeps (encoded x) (endpoint-makes (s .unanswered) (s .settings .endpoints) k x g c)
+
+-- ---- a state with another bell, or another row of owners
+
+pub bell-wide : (s : Ehci) (n d u : ℕ) → Wide s → Wide (withBell s n d u)
+unfolding withBell
+bell-wide s n d u w =
+    record {
+      phases-wide = w .phases-wide;
+      kinds-wide = w .kinds-wide;
+      ids-wide = w .ids-wide;
+      requests-wide = w .requests-wide;
+      directions-wide = w .directions-wide;
+      lengths-wide = w .lengths-wide;
+      cancels-wide = w .cancels-wide;
+      boundaries-wide = w .boundaries-wide;
+    }
+
+module _ (s : Ehci) (o : List ℕ) where
+  pub owner-wide : Wide s → Wide (withOwner s o)
+  unfolding withOwner
+  owner-wide w =
+      record {
+        phases-wide = w .phases-wide;
+        kinds-wide = w .kinds-wide;
+        ids-wide = w .ids-wide;
+        requests-wide = w .requests-wide;
+        directions-wide = w .directions-wide;
+        lengths-wide = w .lengths-wide;
+        cancels-wide = w .cancels-wide;
+        boundaries-wide = w .boundaries-wide;
+      }
+
+  pub owner-keeps : Ranges s → ((i : ℕ) → i < s .settings .descriptors → getD o i 0 ≤ s .settings .endpoints)
+      → ((i : ℕ) → s .settings .descriptors ≤ i → getD o i 0 ≡ 0) → Ranges (withOwner s o)
+  unfolding withOwner slotAt
+  owner-keeps r below none =
+      record {
+        good = r .good;
+        running-flag = r .running-flag;
+        step-most = r .step-most;
+        waited-below = r .waited-below;
+        address-least = r .address-least;
+        address-most = r .address-most;
+        enabled-flag = r .enabled-flag;
+        pending-only = r .pending-only;
+        masked-only = r .masked-only;
+        doorbell-flag = r .doorbell-flag;
+        noted-most = r .noted-most;
+        unanswered-least = r .unanswered-least;
+        unanswered-most = r .unanswered-most;
+        owned = below;
+        unowned = none;
+        slots = r .slots;
+      }
+
+  pub owner-aside : (i : ℕ) → endpointAt (withOwner s o) i ≡ endpointAt s i
+  unfolding endpointAt withOwner slotAt
+  owner-aside i = refl

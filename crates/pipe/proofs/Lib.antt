@@ -1,2 +1,3 @@
 pub mod EndpointCases
 pub mod EndpointLaws
+pub mod KindLaws

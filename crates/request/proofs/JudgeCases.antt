@@ -12,11 +12,12 @@ use Rattle.settings.proofs.SettingsCases.{same-test}
 use Rattle.state.specs.Slots.{slotAt}
 use Rattle.state.specs.declared.state.Ehci.{Ehci}
 use Rattle.pipe.specs.Endpoints.{directionNumber, endpointAt, kindNumber}
+use Rattle.pipe.specs.Kinds.{isControl, isIsochronous}
 use Rattle.controller.specs.Readers.{freeCount, isOpen, isUncollected}
 use Rattle.answer.specs.declared.answer.Answer.{Answer}
 use Rattle.answer.specs.declared.answer.Answer.the-variants.{Done, Refused}
 use Rattle.answer.specs.declared.answer.Refusal.the-variants.{InvalidParameter, InvalidEndpoint, QueueFull, NotSupported, NoMemory, NotReady}
-use Rattle.request.specs.Submit.{bufferGood, controlGood, isControl, isIsochronous, judgeOf, needOfRequest, rangesGood}
+use Rattle.request.specs.Submit.{bufferGood, controlGood, judgeOf, needOfRequest, rangesGood}
 use Rattle.request.specs.declared.judge.TransferRequest.{TransferRequest}
 
 pub buffer-empty : (a n : ℕ) → n ≡ 0 → true ≡ bufferGood a n

@@ -1,12 +1,12 @@
 -- What an accepted request is: each check that it passed, as a plain fact, and what follows for the rows.
 use Prim.Native.Nat.{ℕ, zero, suc, _+_, _-_, _*_, _^_, _≤_, _<_, min}
-use mathlib.Core.Path.{_≡_, refl, sym, ap, _∙_}
+use mathlib.Core.Path.{_≡_, refl, _∙_}
 use mathlib.Core.Bool.{Bool, true, false, not}
 use mathlib.Core.List.{List, [], _∷_}
 use native.Mathlib.Decide.{ℕ-discrete as decEq}
 use native.Mathlib.Nat.{mul-le-mul-right}
 use native.Mathlib.Omega.{arith}
-use borrow.Author.Tests.{eqb-true, eqb-false, leb-true, ltb-true, ltb-false, lt-ltb, not-false, eq-eqb}
+use borrow.Author.Tests.{eqb-true, eqb-false, leb-true, ltb-false, not-false, eq-eqb}
 use lib.Dec.{eqb, leb, ltb}
 use lib.ListN.{drop, getD, length, length-take, take}
 use Rattle.token.specs.Chunks.{chunkCount, needOf}
@@ -17,33 +17,25 @@ use Rattle.pool.specs.Places.{Within, packed, placesFrom}
 use Rattle.pool.proofs.PlaceLaws.{places-within}
 use Rattle.settings.specs.Tests.{both, either}
 use Rattle.settings.proofs.SettingsLaws.{both-tells}
-use Rattle.slot.proofs.SlotLaws.{slot-tells}
 use Rattle.state.specs.Slots.{slotAt}
 use Rattle.state.specs.declared.state.Ehci.{Ehci}
 use Rattle.state.proofs.RangesLaws.{Ranges}
-use Rattle.answer.specs.Answers.{Verdict, orElse}
-use Rattle.pipe.specs.Endpoints.{decoded, endpointAt, flagNumber, kindNumber}
+use Rattle.answer.specs.Answers.{Verdict, first, passed, refused}
+use Rattle.pipe.specs.Endpoints.{flagNumber, kindNumber}
+use Rattle.pipe.specs.Kinds.{isIsochronous}
 use Rattle.controller.specs.Readers.{countZero, freeCount, isOpen, isUncollected}
-use Rattle.answer.specs.declared.answer.Answer.{Answer}
-use Rattle.answer.specs.declared.answer.Answer.the-variants.{Done, Refused}
-use Rattle.answer.specs.declared.answer.Refusal.{Refusal}
+use Rattle.answer.specs.declared.answer.Answer.the-variants.{Done}
 use Rattle.controller.specs.declared.lent.Lengths.{Lengths}
+use Rattle.answer.proofs.CheckLaws.{answers-apart, let-pass}
 use Rattle.controller.proofs.LentLaws.{Accepted}
-use Rattle.request.specs.Submit.{Settles, answerOf, bufferGood, controlGood, firstIn, isControl, isIsochronous, judgeOf, needOfRequest, placesFor, rangesGood, takenFor, takenOf}
+use Rattle.controller.proofs.ReaderLaws.{open-below, open-within}
+use Rattle.request.specs.Submit.{Settles, answerOf, bufferGood, controlGood, firstIn, judgeOf, needOfRequest, placesFor, rangesGood, submitChecks, takenFor, takenOf}
 use Rattle.request.specs.declared.judge.TransferRequest.{TransferRequest}
 use Rattle.request.proofs.SettleCases.{packed-first}
 
-pub answers-apart : (r : Refusal) → Refused r ≡ Done → ⊥
-answers-apart r e = let z : _≡_ {A = ℕ} 0 1 = ap numbered (sym e) in omega arith
-  where
-    numbered : Answer → ℕ
-    numbered Done = 0
-    numbered (Refused q) = 1
-
--- a check that did not answer says false
-passes : (b : Bool) (r : Refusal) (v : Verdict) → answerOf (orElse b r v) ≡ Done → (b ≡ false) × (answerOf v ≡ Done)
-passes true r v e = absurd (answers-apart r e)
-passes false r v e = (refl, e)
+passed-all : (v : Verdict) → answerOf v ≡ Done → v ≡ passed
+passed-all passed e = refl
+passed-all (refused r) e = absurd (answers-apart r e)
 
 pub record Judged (s : Ehci) (slot : ℕ) (t : TransferRequest) : Type 0 where
   pub opened : isOpen s slot ≡ true
@@ -57,13 +49,13 @@ pub record Judged (s : Ehci) (slot : ℕ) (t : TransferRequest) : Type 0 where
 pub judge-tells : (s : Ehci) (slot : ℕ) (t : TransferRequest) → judgeOf s slot t ≡ Done → Judged s slot t
 unfolding judgeOf
 judge-tells s slot t e =
-    let a = passes (not (isOpen s slot)) _ _ e in
-    let b = passes (eqb (s .running) 0) _ _ (a .1) in
-    let c = passes (isUncollected s slot) _ _ (b .1) in
-    let d = passes (isIsochronous (t .kind)) _ _ (c .1) in
-    let k = passes (not (eqb (kindNumber (t .kind)) (slotAt s slot .kind))) _ _ (d .1) in
-    let g = passes (not (rangesGood t)) _ _ (k .1) in
-    let m = passes (ltb (freeCount s) (needOfRequest s t)) _ _ (g .1) in
+    let a = let-pass (not (isOpen s slot)) _ _ (passed-all (first (submitChecks s slot t)) e) in
+    let b = let-pass (eqb (s .running) 0) _ _ (a .1) in
+    let c = let-pass (isUncollected s slot) _ _ (b .1) in
+    let d = let-pass (isIsochronous (t .kind)) _ _ (c .1) in
+    let k = let-pass (not (eqb (kindNumber (t .kind)) (slotAt s slot .kind))) _ _ (d .1) in
+    let g = let-pass (not (rangesGood t)) _ _ (k .1) in
+    let m = let-pass (ltb (freeCount s) (needOfRequest s t)) _ _ (g .1) in
     record {
       opened = not-false (isOpen s slot) (a .0);
       runs = b .0;
@@ -73,36 +65,6 @@ judge-tells s slot t e =
       in-range = not-false (rangesGood t) (g .0);
       room = ltb-false (freeCount s) (needOfRequest s t) (m .0);
     }
-
--- ---- an open slot is one of the E
-
-pub false-true : false ≡ true → ⊥
-false-true e = let z : _≡_ {A = ℕ} 0 1 = ap numbered e in omega arith
-  where
-    numbered : Bool → ℕ
-    numbered false = 0
-    numbered true = 1
-
-pub open-below : (s : Ehci) (k : ℕ) → isOpen s k ≡ true → k < 32
-unfolding endpointAt
-open-below s k e = by (ltb k 32) refl
-  where
-    by : (b : Bool) → ltb k 32 ≡ b → k < 32
-    by true h = ltb-true k 32 h
-    by false h = absurd (false-true (rw h at e))
-
-pub open-within : (s : Ehci) (k : ℕ) → Ranges s → isOpen s k ≡ true → k < s .settings .endpoints
-unfolding endpointAt decoded
-open-within s k r e = by (ltb k (s .settings .endpoints)) refl
-  where
-    below : k < 32
-    below = open-below s k e
-
-    by : (b : Bool) → ltb k (s .settings .endpoints) ≡ b → k < s .settings .endpoints
-    by true h = ltb-true k (s .settings .endpoints) h
-    by false h =
-        let shut : slotAt s k .phase ≡ 0 = slot-tells (s .settings .endpoints) k (s .unanswered) (slotAt s k) (r .slots k below) .closed-from (ltb-false k (s .settings .endpoints) h) in
-        absurd (false-true (rw (shut, lt-ltb k 32 below) at e))
 
 -- ---- the length
 

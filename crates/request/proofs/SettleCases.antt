@@ -1,12 +1,10 @@
 -- The returns of the functions that settle an accepted request.
-use Prim.Native.Nat.{ℕ, _+_, _-_, _*_, _^_, _≤_, _<_}
+use Prim.Native.Nat.{ℕ, _+_, _-_, _*_, _^_, _<_}
 use mathlib.Core.Path.{_≡_, refl, sym, ap, _∙_}
 use mathlib.Core.Bool.{Bool, true, false, not}
 use mathlib.Core.List.{List, [], _∷_, _++_}
-use native.Mathlib.Omega.{arith}
 use borrow.Author.Tests.{eq-eqb, ne-eqb}
 use lib.ListN.{drop, getD, length, take}
-use lib.Seq.{length-take-le}
 use Rattle.register.specs.Bits.{withBits}
 use Rattle.register.specs.Writes.{noWrites, andThen}
 use Rattle.register.specs.declared.writes.Writes.{Writes}
@@ -22,22 +20,17 @@ use Rattle.state.specs.Slots.{slotAt}
 use Rattle.state.specs.State.{withOwner}
 use Rattle.state.specs.declared.state.Ehci.{Ehci}
 use Rattle.pipe.specs.Endpoints.{withEndpoint}
+use Rattle.pipe.specs.Kinds.{isControl, isInterrupt}
 use Rattle.opening.specs.Rows.{putAt}
 use Rattle.pipe.specs.declared.endpoint.Endpoint.the-variants.{Linked}
 use Rattle.controller.specs.declared.lent.Readings.{Readings}
 use Rattle.schedule.specs.Bell.{commandWord}
 use Rattle.schedule.specs.Links.{Links, attachedFrames, attachedRing, headAddress, links, slotLink, startedOverlay}
-use Rattle.request.specs.Submit.{acceptedWith, afterId, chainFor, firstIn, idAt, isControl, isInterrupt, linkedRows, needOfRequest, settledSubmit, setupsWith, stateWith, submitted, takenFor, takenOf, transferOf, writesWith}
+use Rattle.request.specs.Submit.{acceptedWith, afterId, chainFor, firstIn, idAt, linkedRows, needOfRequest, settledSubmit, setupsWith, stateWith, submitted, takenFor, takenOf, transferOf, writesWith}
 use Rattle.request.specs.declared.calls.Submission.the-variants.{Accepted}
 use Rattle.request.specs.declared.calls.Submitted.{Submitted}
 use Rattle.request.specs.declared.judge.TransferRequest.{TransferRequest}
 use Rattle.request.specs.declared.settle.Taken.{Taken}
-
-pub front : (d : ℕ) (o : List ℕ) → length o ≡ 256 → d ≤ 256 → d ≡ length (take d o)
-front d o e h = sym (length-take-le d o (omega arith))
-
-pub part-within : (d : ℕ) (o : List ℕ) → length o ≡ 256 → d ≤ 256 → length (take d o) ≤ 256
-part-within d o e h = omega (arith, front d o e h)
 
 pub taken-is : (o m : List ℕ) (d n k : ℕ) (p : Places) → p ≡ packed (placesFrom 0 (take d o) 0 n) → m ≡ markOf (take d o) n (k + 1)
     → _≡_ {A = Taken} (record { places = p; owner = m ++ drop d o }) (takenOf o d n k)

@@ -7,18 +7,20 @@ use native.Mathlib.Omega.{arith}
 use borrow.Author.Tests.{not-false, not-true}
 use Rattle.state.specs.declared.state.Ehci.{Ehci}
 use Rattle.answer.specs.Answers.{Verdict, passed, refused, first, settle}
-use Rattle.controller.specs.Lent.{acceptsOf}
+use Rattle.controller.specs.Lent.{acceptsOf, lengths}
 use Rattle.answer.specs.declared.answer.Answer.{Answer}
 use Rattle.answer.specs.declared.answer.Answer.the-variants.{Done, Refused}
 use Rattle.answer.specs.declared.answer.Refusal.{Refusal}
 use Rattle.answer.specs.declared.answer.Refusal.the-variants.{InvalidParameter}
 use Rattle.controller.specs.declared.lent.Lengths.{Lengths}
 use Rattle.controller.specs.declared.lent.Readings.{Readings}
+use Rattle.answer.proofs.CheckLaws.{answers-apart}
 use Rattle.controller.proofs.LentLaws.{accepts-tells}
-use Rattle.request.specs.Submit.{Outcome, Settles, answerOf, judgeOf, lengthsOf, refusedSubmit, settledSubmit, submitChecks, submitOf, submitted}
+use Rattle.request.specs.Submit.{Outcome, Settles, answerOf, judgeOf, refusedSubmit, settledSubmit, submitChecks, submitOf, submitted}
 use Rattle.request.specs.declared.calls.Submitted.{Submitted}
 use Rattle.request.specs.declared.judge.TransferRequest.{TransferRequest}
-use Rattle.request.proofs.JudgeLaws.{answers-apart, settles}
+use Rattle.request.proofs.JudgeLaws.{settles}
+use lib.ListN.{length}
 
 refusalOf : Refusal → Answer → Refusal
 refusalOf r Done = r
@@ -33,7 +35,7 @@ settle-done : {A : Type 0} (v : Verdict) (old : Refusal → A) (new : A) → ans
 settle-done passed old new e = refl
 settle-done (refused q) old new e = absurd (answers-apart q e)
 
-module _ (s : Ehci) (pool : ℕ) (h f u : List ℕ) (r : Readings) (k : ℕ) (t : TransferRequest) (a : Bool) (ea : a ≡ acceptsOf s (lengthsOf pool h f u)) where
+module _ (s : Ehci) (pool : ℕ) (h f u : List ℕ) (r : Readings) (k : ℕ) (t : TransferRequest) (a : Bool) (ea : a ≡ acceptsOf s (lengths pool (length h) (length f) (length u))) where
   pub submit-bad : not a ≡ true → (x : Submitted) → x ≡ refusedSubmit s InvalidParameter → submitted x h f u ≡ submitOf s pool h f u r k t
   unfolding submitOf
   submit-bad n x ex = rw (ex, sym ea ∙ not-true a n)

@@ -10,7 +10,6 @@ use lib.Dec.{eqb, leb, ltb}
 use lib.ListN.{drop, getD, length, length-take, set, take}
 use lib.Seq.{getD-append-add, getD-drop, getD-set-other, getD-take, length-take-le, take-at}
 use Rattle.token.specs.declared.request.EndpointType.{EndpointType}
-use Rattle.token.specs.declared.request.EndpointType.the-variants.{Isochronous}
 use Rattle.descriptor.specs.Descriptors.{nextWord}
 use Rattle.descriptor.specs.declared.qtd.QueueTransferDescriptor.{QueueTransferDescriptor}
 use Rattle.pool.specs.Chains.{blank, chainGood, fillOf, nextAt}
@@ -31,14 +30,18 @@ use Rattle.state.proofs.RangesLaws.{Ranges}
 use Rattle.answer.specs.declared.answer.Answer.the-variants.{Done, Refused}
 use Rattle.answer.specs.declared.answer.Refusal.the-variants.{NoMemory}
 use Rattle.pipe.specs.Endpoints.{endpointAt, kindNumber, withEndpoint}
-use Rattle.pipe.proofs.EndpointLaws.{Wide, endpoint-keeps, endpoint-other}
+use Rattle.pipe.specs.Kinds.{isInterrupt, isIsochronous}
+use Rattle.pipe.proofs.EndpointLaws.{Wide, endpoint-keeps, endpoint-other, owner-aside, owner-keeps, owner-wide}
+use Rattle.pipe.proofs.KindLaws.{not-isochronous}
 use Rattle.schedule.specs.Links.{attachedFrames, attachedRing, startedOverlay}
 use Rattle.controller.specs.Readers.{freeCount, isOpen, isUncollected}
+use Rattle.answer.proofs.CheckLaws.{answers-apart}
 use Rattle.controller.proofs.FreeLaws.{free-places}
-use Rattle.request.specs.Submit.{afterId, attachedBy, bufferGood, chainFor, firstIn, idAt, isInterrupt, isIsochronous, judgeOf, linkedRows, linkedWith, needOfRequest, pickNumber, placesFor, rangesGood, stateWith, takenFor, takenOf, transferOf}
+use Rattle.controller.proofs.ReaderLaws.{open-below, open-within}
+use Rattle.request.specs.Submit.{afterId, attachedBy, bufferGood, chainFor, firstIn, idAt, judgeOf, linkedRows, linkedWith, needOfRequest, pickNumber, placesFor, rangesGood, stateWith, takenFor, takenOf, transferOf}
 use Rattle.request.specs.declared.judge.TransferRequest.{TransferRequest}
 use Rattle.request.proofs.JudgeCases.{judge-done, judge-room}
-use Rattle.request.proofs.JudgeLaws.{Judged, answers-apart, false-true, open-below, open-within}
+use Rattle.request.proofs.JudgeLaws.{Judged}
 use Rattle.request.proofs.SettleCases.{packed-first}
 
 -- ---- room: where every earlier check is passed, 6 exactly when too few descriptors are free
@@ -114,28 +117,6 @@ module _ (s : Ehci) (k : ℕ) (t : TransferRequest) (r : Ranges s) (j : Judged s
 
 -- ---- what stays
 
-owner-aside : (s : Ehci) (o : List ℕ) (i : ℕ) → endpointAt (withOwner s o) i ≡ endpointAt s i
-unfolding endpointAt withOwner slotAt
-owner-aside s o i = refl
-
-slot-aside : (s : Ehci) (o : List ℕ) (i : ℕ) → slotAt (withOwner s o) i ≡ slotAt s i
-unfolding withOwner slotAt
-slot-aside s o i = refl
-
-owner-wide : (s : Ehci) (o : List ℕ) → Wide s → Wide (withOwner s o)
-unfolding withOwner
-owner-wide s o w =
-    record {
-      phases-wide = w .phases-wide;
-      kinds-wide = w .kinds-wide;
-      ids-wide = w .ids-wide;
-      requests-wide = w .requests-wide;
-      directions-wide = w .directions-wide;
-      lengths-wide = w .lengths-wide;
-      cancels-wide = w .cancels-wide;
-      boundaries-wide = w .boundaries-wide;
-    }
-
 pub submit-others : (s : Ehci) (o : List ℕ) (k i : ℕ) (t : TransferRequest) → i ≢ k → endpointAt (stateWith s o k t) i ≡ endpointAt s i
 unfolding stateWith
 submit-others s o k i t ne = endpoint-other (withOwner s o) k (linkedWith s k t) i ne ∙ owner-aside s o i
@@ -204,9 +185,6 @@ id-least id = by (eqb id (2 ^ 64 - 1))
     by true = omega arith
     by false = omega arith
 
-not-isochronous : (kind : EndpointType) → isIsochronous kind ≡ false → kind ≢ Isochronous
-not-isochronous kind e q = false-true (sym e ∙ ap isIsochronous q)
-
 module _ (s : Ehci) (k : ℕ) (t : TransferRequest) (r : Ranges s) (j : Judged s k t) (w : Wide s) (wide : length (s .owner) ≡ 256) where
   marked : List ℕ
   marked = markOf (take (s .settings .descriptors) (s .owner)) (needOfRequest s t) (k + 1)
@@ -246,32 +224,14 @@ module _ (s : Ehci) (k : ℕ) (t : TransferRequest) (r : Ranges s) (j : Judged s
       ∙ getD-drop (s .settings .descriptors) (s .owner) (i - s .settings .descriptors) 0
       ∙ ap (λ (z : ℕ). getD (s .owner) z 0) on ∙ r .unowned i h
 
-  owner-ranges : Ranges (withOwner s (takenFor s k t .owner))
-  unfolding withOwner takenFor takenOf marked
-  owner-ranges =
-      record {
-        good = r .good;
-        running-flag = r .running-flag;
-        step-most = r .step-most;
-        waited-below = r .waited-below;
-        address-least = r .address-least;
-        address-most = r .address-most;
-        enabled-flag = r .enabled-flag;
-        pending-only = r .pending-only;
-        masked-only = r .masked-only;
-        doorbell-flag = r .doorbell-flag;
-        noted-most = r .noted-most;
-        unanswered-least = r .unanswered-least;
-        unanswered-most = r .unanswered-most;
-        owned = owned-below;
-        unowned = unowned-past;
-        slots = λ i h. rw (slot-aside s (takenFor s k t .owner) i) (r .slots i h);
-      }
+  taken-keeps : Ranges (withOwner s (takenFor s k t .owner))
+  unfolding takenFor takenOf marked
+  taken-keeps = owner-keeps s (takenFor s k t .owner) r owned-below unowned-past
 
   pub submit-keeps : Ranges (stateWith s (takenFor s k t .owner) k t)
   unfolding stateWith withOwner
   submit-keeps =
-      endpoint-keeps (withOwner s (takenFor s k t .owner)) k owner-ranges (owner-wide s (takenFor s k t .owner) w) (open-below s k (j .opened)) (linkedWith s k t)
+      endpoint-keeps (withOwner s (takenFor s k t .owner)) k taken-keeps (owner-wide s (takenFor s k t .owner) w) (open-below s k (j .opened)) (linkedWith s k t)
       (record {
         pipe = record { next-least = id-least (idAt s k); never = not-isochronous (t .kind) (j .supported) };
         request-least = slot-tells (s .settings .endpoints) k (s .unanswered) (slotAt s k) (r .slots k (open-below s k (j .opened))) .id-least;

@@ -9,7 +9,6 @@ use Rattle.register.specs.Writes.{noWrites, andThen}
 use Rattle.register.specs.declared.writes.Writes.{Writes}
 use Rattle.token.specs.Chunks.{needOf}
 use Rattle.token.specs.declared.request.EndpointType.{EndpointType}
-use Rattle.token.specs.declared.request.EndpointType.the-variants.{Control, Isochronous, Bulk, Interrupt}
 use Rattle.descriptor.specs.Setups.{setupPacket}
 use Rattle.pool.specs.Chains.{noChain}
 use Rattle.pool.specs.Places.{listIf, markOf, packed, placesFrom}
@@ -24,7 +23,8 @@ use Rattle.state.specs.State.{withOwner}
 use Rattle.state.specs.declared.state.Ehci.{Ehci}
 use Rattle.answer.specs.Answers.{Check, Verdict, passed, refused, first, refusalNumber, settle}
 use Rattle.pipe.specs.Endpoints.{directionNumber, kindNumber, withEndpoint}
-use Rattle.controller.specs.Lent.{acceptsOf}
+use Rattle.pipe.specs.Kinds.{isControl, isInterrupt, isIsochronous}
+use Rattle.controller.specs.Lent.{acceptsOf, lengths}
 use Rattle.controller.specs.Readers.{freeCount, isOpen, isUncollected}
 use Rattle.opening.specs.Rows.{putAt}
 use Rattle.answer.specs.declared.answer.Answer.{Answer}
@@ -33,7 +33,6 @@ use Rattle.answer.specs.declared.answer.Refusal.{Refusal}
 use Rattle.answer.specs.declared.answer.Refusal.the-variants.{InvalidParameter, InvalidEndpoint, QueueFull, NotSupported, NoMemory, NotReady}
 use Rattle.pipe.specs.declared.endpoint.Endpoint.{Endpoint}
 use Rattle.pipe.specs.declared.endpoint.Endpoint.the-variants.{Linked}
-use Rattle.controller.specs.declared.lent.Lengths.{Lengths}
 use Rattle.controller.specs.declared.lent.Readings.{Readings}
 use Rattle.schedule.specs.Bell.{commandWord}
 use Rattle.schedule.specs.Links.{Links, attachedFrames, attachedRing, headAddress, links, slotLink, startedOverlay}
@@ -48,24 +47,6 @@ submissionNumber (Accepted id) = 0
 submissionNumber (Refused r) = refusalNumber r
 
 -- ---- the checks
-
-abbrev pub isControl : EndpointType → Bool
-isControl Control = true
-isControl Isochronous = false
-isControl Bulk = false
-isControl Interrupt = false
-
-abbrev pub isIsochronous : EndpointType → Bool
-isIsochronous Control = false
-isIsochronous Isochronous = true
-isIsochronous Bulk = false
-isIsochronous Interrupt = false
-
-abbrev pub isInterrupt : EndpointType → Bool
-isInterrupt Control = false
-isInterrupt Isochronous = false
-isInterrupt Bulk = false
-isInterrupt Interrupt = true
 
 -- "address + length at most 2^32 (any address at length 0)"
 unfoldable pub bufferGood : ℕ → ℕ → Bool
@@ -234,13 +215,9 @@ settledSubmit s heads frames setups readings slot t =
     (linkedRows heads frames (t .kind) slot (slotLink s slot) (firstIn s (takenFor s slot t)))
     (setupsWith setups slot t)
 
-abbrev pub lengthsOf : ℕ → List ℕ → List ℕ → List ℕ → Lengths
-lengthsOf pool heads frames setups =
-    record { pool = pool; heads = length heads; frames = length frames; setups = length setups }
-
 unfoldable pub submitOf : Ehci → ℕ → List ℕ → List ℕ → List ℕ → Readings → ℕ → TransferRequest → Outcome
 submitOf s pool heads frames setups readings slot t =
     settle
-    (first ((not (acceptsOf s (lengthsOf pool heads frames setups)), InvalidParameter) ∷ submitChecks s slot t))
+    (first ((not (acceptsOf s (lengths pool (length heads) (length frames) (length setups))), InvalidParameter) ∷ submitChecks s slot t))
     (λ r. submitted (refusedSubmit s r) heads frames setups)
     (settledSubmit s heads frames setups readings slot t)

@@ -3,9 +3,6 @@ ghost use mathlib.Core.Path.{_≡_};
 ghost use Prim.Native.Nat.{_≤_};
 ghost use Rattle.pipe.specs.Endpoints.{directionNumber};
 ghost use Rattle.request.specs.Submit.{
-  isIsochronous,
-  isControl,
-  isInterrupt,
   bufferGood,
   controlGood,
   rangesGood,
@@ -17,6 +14,8 @@ use controller::readers::free_count;
 use controller::readers::is_open;
 use controller::readers::uncollected;
 use pipe::endpoint::kind_number;
+use pipe::kinds::is_control;
+use pipe::kinds::is_isochronous;
 use settings::settings::MEMORY_END;
 use state::state::Ehci;
 use token::chunks::need;
@@ -35,39 +34,6 @@ pub struct TransferRequest {
     pub setup: u64,
     pub address: u64,
     pub length: u64,
-}
-
-fn is_isochronous(kind: EndpointType) -> bool
-    ensures { λ r. ⌜ r ≡ isIsochronous kind ⌝ }
-{
-    match kind {
-        EndpointType::Control => false,
-        EndpointType::Isochronous => true,
-        EndpointType::Bulk => false,
-        EndpointType::Interrupt => false,
-    }
-}
-
-pub fn is_control(kind: EndpointType) -> bool
-    ensures { λ r. ⌜ r ≡ isControl kind ⌝ }
-{
-    match kind {
-        EndpointType::Control => true,
-        EndpointType::Isochronous => false,
-        EndpointType::Bulk => false,
-        EndpointType::Interrupt => false,
-    }
-}
-
-pub fn is_interrupt(kind: EndpointType) -> bool
-    ensures { λ r. ⌜ r ≡ isInterrupt kind ⌝ }
-{
-    match kind {
-        EndpointType::Control => false,
-        EndpointType::Isochronous => false,
-        EndpointType::Bulk => false,
-        EndpointType::Interrupt => true,
-    }
 }
 
 fn direction_bit(direction: Direction) -> u64

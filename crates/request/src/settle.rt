@@ -4,10 +4,26 @@ ghost use Prim.Native.Nat.{_+_, _*_, _≤_, _<_, _^_};
 ghost use lib.ListN.{getD, length};
 ghost use Rattle.pool.specs.Transfers.{addressOf};
 ghost use Rattle.schedule.specs.Links.{headAddress, links, slotLink};
-ghost use Rattle.request.specs.Submit.{takenOf, takenFor, firstIn, afterId, idAt, transferOf, stateWith, linkedRows, setupsWith};
+ghost use Rattle.request.specs.Submit.{
+  takenOf,
+  takenFor,
+  firstIn,
+  afterId,
+  idAt,
+  transferOf,
+  stateWith,
+  linkedRows,
+  setupsWith,
+  acceptedWith,
+  submitted,
+  settledSubmit,
+  Settles,
+};
+use crate::calls::Submission;
+use crate::calls::Submitted;
+use crate::calls::USBCMD_SCHEDULES;
 use crate::judge::TransferRequest;
-use crate::judge::is_control;
-use crate::judge::is_interrupt;
+use controller::lent::Readings;
 use descriptor::head::ehci_qh_link;
 use descriptor::setup::setup_packet_bytes;
 use opening::rows::put_bytes;
@@ -15,10 +31,18 @@ use pipe::endpoint::Endpoint;
 use pipe::endpoint::Pipe;
 use pipe::endpoint::Request;
 use pipe::endpoint::with_endpoint;
+use pipe::kinds::is_control;
+use pipe::kinds::is_interrupt;
+use pool::chain::Chain;
+use pool::chain::Deed;
 use pool::places::Places;
 use pool::places::mark;
 use pool::places::places_of;
 use pool::transfer::Transfer;
+use register::bits::with_bits;
+use register::ehci::USBCMD;
+use register::writes::Writes;
+use schedule::bell::command_word;
 use schedule::links::attach_frames;
 use schedule::links::attach_ring;
 use schedule::links::head_address;
@@ -178,4 +202,46 @@ pub fn put_setup(setups: &mut [u8], slot: u8, t: TransferRequest)
         let packet = setup_packet_bytes(t.setup, t.length);
         put_bytes(setups, 8 * (slot as usize), &packet);
     }
+}
+
+// What an accepted submit answers.
+fn accepted(s: Ehci, readings: Readings, slot: u8, t: TransferRequest, taken: Taken) -> Submitted
+    requires { ⌜ (slot < 32) × (s .settings .setups ≤ 2 ^ 32) × (t .length < 2 ^ 32) ⌝ }
+    ensures { λ r. ⌜ r ≡ acceptedWith s readings slot t taken ⌝ }
+{
+    let places = taken.places;
+    let owner = taken.owner;
+    let word = command_word(with_bits(readings.command, USBCMD_SCHEDULES));
+    let id = id_at(s, slot);
+    let chain = Chain {
+        places,
+        base: s.settings.pool,
+        deed: Deed::Transfer(transfer(s, slot, t)),
+    };
+    Submitted {
+        answer: Submission::Accepted(id),
+        state: linked_state(s, owner, slot, t),
+        writes: Writes::none().and_then(USBCMD, word),
+        chain,
+    }
+}
+
+// An accepted submit.
+pub fn settle(
+    s: Ehci,
+    heads: &mut [u32],
+    frames: &mut [u32],
+    setups: &mut [u8],
+    readings: Readings,
+    slot: u8,
+    t: TransferRequest,
+) -> Submitted
+    requires { ⌜ Settles s (length (now heads)) (length (now frames)) (length (now setups)) slot t ⌝ }
+    ensures { λ r. ⌜ submitted r (now (heads .exit)) (now (frames .exit)) (now (setups .exit))
+        ≡ settledSubmit s (now (heads .entry)) (now (frames .entry)) (now (setups .entry)) readings slot t ⌝ }
+{
+    let taken = take_for(s, slot, t);
+    link_rows(s, heads, frames, slot, t, taken);
+    put_setup(setups, slot, t);
+    accepted(s, readings, slot, t, taken)
 }

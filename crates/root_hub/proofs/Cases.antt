@@ -15,6 +15,7 @@ use Rattle.token.specs.EhciPortsc.{currentConnect, portEnabled}
 use Rattle.token.specs.Ports.{isSet}
 use Rattle.token.specs.declared.port.EhciPortStatus.{EhciPortStatus}
 use Rattle.settings.specs.Tests.{both, within}
+use Rattle.settings.proofs.Every.{both-assoc, both-true}
 use Rattle.settings.proofs.SettingsCases.{both-first, both-second, within-least, within-most}
 use Rattle.answer.specs.declared.answer.Answer.the-variants.{Done}
 use Rattle.answer.specs.declared.answer.Refusal.the-variants.{InvalidParameter}
@@ -185,18 +186,10 @@ module _ (a : Awaited) (st : ℕ) where
   pub fits-owner : a ≡ Owner → eqb st 1 ≡ fits a st
   fits-owner e = rw e
 
-both-assoc : (a b c : Bool) → both (both a b) c ≡ both a (both b c)
-both-assoc true b c = refl
-both-assoc false b c = refl
-
-both-true : (a : Bool) → both a true ≡ a
-both-true true = refl
-both-true false = refl
-
-pub ports-turn : (h : EhciRootHub) (k : ℕ) (g t r : Bool) → k < 15 → t ≡ stateGood (h .ports) k (getD (h .states) k 0) → r ≡ both g t
-    → both r (statesGood (k + 1) (15 - (k + 1)) h) ≡ both g (statesGood k (15 - k) h)
+pub ports-turn : (h : EhciRootHub) (k : ℕ) (g t : Bool) → k < 15 → t ≡ stateGood (h .ports) k (getD (h .states) k 0)
+    → both (both g t) (statesGood (k + 1) (15 - (k + 1)) h) ≡ both g (statesGood k (15 - k) h)
 unfolding statesGood
-ports-turn h k g t r l et er = rw (er, et, add-one k, more) (both-assoc g _ _)
+ports-turn h k g t l et = rw (et, add-one k, more) (both-assoc g _ _)
   where
     more : 15 - k ≡ suc (15 - suc k)
     more = omega arith
@@ -217,21 +210,21 @@ module _ (h : EhciRootHub) where
   unfolding placeGood
   place-beyond e l = rw (ne-eqb (h .port) 0 e, lt-leb (h .port) (h .ports) l)
 
-  pub place-begun : (i : ℕ) (a : Awaited) (w f r : Bool) → i ≡ h .port - 1 → w ≡ within (h .step) 1 6 → a ≡ awaitedOf (h .step)
-      → f ≡ fits a (getD (h .states) i 0) → r ≡ both w f → (h .port ≡ 0 → ⊥) → h .port ≤ h .ports → r ≡ placeGood h
+  pub place-begun : (i : ℕ) (a : Awaited) (f : Bool) → i ≡ h .port - 1 → a ≡ awaitedOf (h .step)
+      → f ≡ fits a (getD (h .states) i 0) → (h .port ≡ 0 → ⊥) → h .port ≤ h .ports → both (within (h .step) 1 6) f ≡ placeGood h
   unfolding placeGood
-  place-begun i a w f r ei ew ea ef er e l = er ∙ rw (ew, ef, ea, ei, ne-eqb (h .port) 0 e, le-leb (h .port) (h .ports) l)
+  place-begun i a f ei ea ef e l = rw (ef, ea, ei, ne-eqb (h .port) 0 e, le-leb (h .port) (h .ports) l)
 
-  pub hub-is : (w s p r : Bool) → w ≡ within (h .ports) 1 15 → w ≡ true → s ≡ statesGood 0 15 h → p ≡ placeGood h → r ≡ both s p → r ≡ hubGood h
+  pub hub-is : (s p : Bool) → within (h .ports) 1 15 ≡ true → s ≡ statesGood 0 15 h → p ≡ placeGood h → both s p ≡ hubGood h
   unfolding hubGood
-  hub-is w s p r ew t es ep er = er ∙ rw (es, ep, sym ew ∙ t)
+  hub-is s p t es ep = rw (es, ep, t)
 
-  pub hub-not : (w : Bool) → w ≡ within (h .ports) 1 15 → w ≡ false → false ≡ hubGood h
+  pub hub-not : within (h .ports) 1 15 ≡ false → false ≡ hubGood h
   unfolding hubGood
-  hub-not w ew t = rw (sym ew ∙ t)
+  hub-not t = rw t
 
-  pub ports-most : (w : Bool) → w ≡ within (h .ports) 1 15 → w ≡ true → h .ports ≤ 15
-  ports-most w ew t = within-most (h .ports) 1 15 (sym ew ∙ t)
+  pub ports-most : within (h .ports) 1 15 ≡ true → h .ports ≤ 15
+  ports-most t = within-most (h .ports) 1 15 t
 
 -- what a good record with a scan begun tells of its place
 module _ (h : EhciRootHub) (e : hubGood h ≡ true) where
@@ -316,16 +309,17 @@ module _ (h : EhciRootHub) (b : Bool) (eb : b ≡ hubGood h) where
   unfolding powerOf
   power-bad p v r t er = er ∙ rw (sym eb ∙ not-true b t)
 
-  pub power-none : (p v : ℕ) (g : Bool) (r : PortPower) → not b ≡ false → g ≡ within p 1 (h .ports) → not g ≡ true
+  pub power-none : (p v : ℕ) (r : PortPower) → not b ≡ false → not (within p 1 (h .ports)) ≡ true
       → r ≡ refusedPower InvalidParameter → r ≡ powerOf h p v
   unfolding powerOf
-  power-none p v g r t eg n er = er ∙ rw (sym eb ∙ not-false b t, sym eg ∙ not-true g n)
+  power-none p v r t n er = er ∙ rw (sym eb ∙ not-false b t, not-true (within p 1 (h .ports)) n)
 
-  pub power-done : (p v x y o : ℕ) (g : Bool) (w w′ : Writes) → not b ≡ false → g ≡ within p 1 (h .ports) → not g ≡ false
+  pub power-done : (p v x y o : ℕ) (w w′ : Writes) → not b ≡ false → not (within p 1 (h .ports)) ≡ false
       → x ≡ withBits v 4096 → y ≡ withoutBits x 42 → o ≡ portscOf p → w ≡ noWrites → w′ ≡ andThen w o y
       → _≡_ {A = PortPower} (record { answer = Done; writes = w′; wait = 20 }) (powerOf h p v)
   unfolding powerOf
-  power-done p v x y o g w w′ t eg n ex ey eo ew ew′ = rw (ew′, ew, eo, ey, ex, sym eb ∙ not-false b t, sym eg ∙ not-false g n)
+  power-done p v x y o w w′ t n ex ey eo ew ew′ =
+      rw (ew′, ew, eo, ey, ex, sym eb ∙ not-false b t, not-false (within p 1 (h .ports)) n)
 
-pub power-port : (p n : ℕ) (g : Bool) → g ≡ within p 1 n → not g ≡ false → 1 ≤ p
-power-port p n g eg t = within-least p 1 n (sym eg ∙ not-false g t)
+pub power-port : (p n : ℕ) → not (within p 1 n) ≡ false → 1 ≤ p
+power-port p n t = within-least p 1 n (not-false (within p 1 n) t)

@@ -9,7 +9,7 @@ use native.Mathlib.Numerals.{add-one}
 use native.Mathlib.Omega.{arith}
 use borrow.Author.Tests.{eq-eqb, ne-eqb, eqb-true, le-leb, leb-true, lt-ltb, ltb-true, ltb-false}
 use lib.Dec.{eqb, leb, ltb}
-use lib.ListN.{getD, length, length-set, replicate, set}
+use lib.ListN.{getD, length, length-set, set}
 use lib.Seq.{getD-set-other, getD-set-same}
 use Rattle.register.specs.EhciRegisters.{portscOf}
 use Rattle.register.specs.Writes.{listOf, noWrites, andThen}
@@ -17,6 +17,7 @@ use Rattle.register.specs.declared.writes.Write.{Write}
 use Rattle.settings.specs.Tests.{within}
 use Rattle.settings.proofs.SettingsCases.{both-first, both-second, within-least}
 use Rattle.settings.proofs.SettingsLaws.{both-tells, within-makes}
+use Rattle.state.proofs.Arrays.{zeros-at}
 use Rattle.answer.specs.Answers.{numberOf}
 use Rattle.answer.specs.declared.answer.Answer.the-variants.{Done}
 use Rattle.answer.specs.declared.answer.Refusal.the-variants.{InvalidParameter}
@@ -672,11 +673,6 @@ uninit-right ports k = by (ltb k ports)
     by : (b : Bool) → pickTest b (leb 0 2) (eqb 0 0) ≡ true
     by true = refl
     by false = refl
-
-zeros-at : (n i : ℕ) → _≡_ {A = ℕ} (getD (replicate n 0) i 0) 0
-zeros-at zero i = refl
-zeros-at (suc n) zero = refl
-zeros-at (suc n) (suc i) = zeros-at n i
 
 pub opened-right : OpenedRight
 unfolding openedHub placeGood

@@ -5,7 +5,6 @@ ghost use Rattle.root_hub.specs.Calls.{refusedScan, startOf, stepOf, ref
 use crate::ports::PortEvent;
 use crate::ranges::hub_good;
 use crate::ranges::index_of;
-use crate::ranges::within;
 use crate::scan::CHANGES;
 use crate::scan::RECOVERY_MS;
 use crate::scan::awaited_of;
@@ -118,7 +117,8 @@ pub fn port_power(hub: EhciRootHub, port: u8, reading: u32) -> PortPower
     if !hub_good(hub) {
         return no_power();
     }
-    if !within(port as u64, 1, hub.ports as u64) {
+    let ports = hub.ports;
+    if !((1 <= port) & (port <= ports)) {
         return no_power();
     }
     let value = with_bits(reading, EhciPortStatus::POWER);

@@ -1,7 +1,6 @@
 // The ranges of the ports' record, which every call asks first.
 ghost use mathlib.Core.Path.{_≡_};
 ghost use Prim.Native.Nat.{_-_, _≤_};
-ghost use Rattle.settings.specs.Tests.{both, within};
 ghost use Rattle.root_hub.specs.Ranges.{
   stateGood,
   statesGood,
@@ -15,18 +14,6 @@ use opening::hub::EhciRootHub;
 use opening::hub::PROBED;
 use opening::hub::RESETED;
 use opening::hub::UNINIT;
-
-fn both(a: bool, b: bool) -> bool
-    ensures { λ r. ⌜ r ≡ both a b ⌝ }
-{
-    a & b
-}
-
-pub fn within(x: u64, least: u64, most: u64) -> bool
-    ensures { λ r. ⌜ r ≡ within x least most ⌝ }
-{
-    (least <= x) & (x <= most)
-}
 
 // The place of a port in the record.
 pub fn index_of(port: u8) -> usize
@@ -52,7 +39,7 @@ fn states_good(hub: EhciRootHub) -> bool
     let mut good = true;
     let mut k: usize = 0;
     while k < 15 {
-        good = both(good, state_good(hub.ports, k as u64, hub.states[k]));
+        good = good & state_good(hub.ports, k as u64, hub.states[k]);
         k += 1;
     }
     good
@@ -86,17 +73,15 @@ fn place_good(hub: EhciRootHub) -> bool
     }
     let at = index_of(port);
     let state = hub.states[at];
-    both(
-        within(step as u64, 1, 6),
-        step_fits(awaited_of(step), state),
-    )
+    (1 <= step) & (step <= 6) & step_fits(awaited_of(step), state)
 }
 
 pub fn hub_good(hub: EhciRootHub) -> bool
     ensures { λ r. ⌜ r ≡ hubGood hub ⌝ }
 {
-    if within(hub.ports as u64, 1, 15) {
-        return both(states_good(hub), place_good(hub));
+    let ports = hub.ports;
+    if (1 <= ports) & (ports <= 15) {
+        return states_good(hub) & place_good(hub);
     }
     false
 }

@@ -8,6 +8,7 @@ use Rattle.register.specs.Bits.{withBits, withoutBits}
 use Rattle.register.specs.Writes.{andThen}
 use Rattle.register.specs.declared.writes.Writes.{Writes}
 use Rattle.settings.specs.Tests.{both}
+use Rattle.state.specs.declared.state.Ehci.{Ehci}
 use Rattle.schedule.specs.declared.bell.Bell.{Bell}
 use Rattle.schedule.specs.declared.bell.Rung.{Rung}
 
@@ -20,6 +21,9 @@ unfoldable pub ringWord : ℕ → ℕ
 ringWord read = withBits read 0x40
 
 -- ---- the doorbell
+
+abbrev pub bellOf : Ehci → Bell
+bellOf s = record { noted = s .noted; doorbell = s .doorbell; unanswered = s .unanswered }
 
 -- it is down and an unlink is unanswered
 abbrev pub mustRing : Bell → Bool

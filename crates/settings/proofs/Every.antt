@@ -1,8 +1,10 @@
--- Tests joined from the left, as the code has them, are those of a list.
+-- Tests that are joined: from the left, as the code has them, they are those of a list.
+use Prim.Native.Nat.{ℕ}
 use mathlib.Core.Path.{_≡_, refl, _∙_}
 use mathlib.Core.Bool.{Bool, true, false}
 use mathlib.Core.List.{[], _∷_}
-use Rattle.settings.specs.Tests.{both, every}
+use native.Mathlib.Omega.{arith}
+use Rattle.settings.specs.Tests.{both, either, every}
 
 pub both-assoc : (a b c : Bool) → both (both a b) c ≡ both a (both b c)
 both-assoc true b c = refl
@@ -11,6 +13,13 @@ both-assoc false b c = refl
 pub both-true : (a : Bool) → both a true ≡ a
 both-true true = refl
 both-true false = refl
+
+pub either-assoc : (a b c : Bool) → either (either a b) c ≡ either a (either b c)
+either-assoc true b c = refl
+either-assoc false b c = refl
+
+pub false-true : false ≡ true → ⊥
+false-true e = let z : _≡_ {A = ℕ} 0 1 = cc in omega arith
 
 pub every-2 : (a b : Bool) → both a b ≡ every (a ∷ b ∷ [])
 every-2 a b = rw (both-true b)

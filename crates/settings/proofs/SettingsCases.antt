@@ -8,7 +8,7 @@ use lib.Dec.{eqb, leb}
 use Rattle.settings.specs.declared.settings.Settings.{Settings}
 use Rattle.settings.specs.Tests.{both, within}
 use Rattle.settings.specs.Settings.{areaGood, apartAreas, numbersGood, eachGood, noOverlap, settingsGood, poolSize, headsSize, framesSize, setupsSize}
-use Rattle.settings.proofs.Every.{every-4, every-5, every-6}
+use Rattle.settings.proofs.Every.{every-4, every-5, every-6, false-true}
 
 -- two tests that say the same of numbers are equal
 pub same-test : (a b c d : ℕ) → (a ≤ b → c ≤ d) → (c ≤ d → a ≤ b) → leb a b ≡ leb c d
@@ -43,10 +43,7 @@ both-first false b e = e
 
 pub both-second : (a b : Bool) → both a b ≡ true → b ≡ true
 both-second true b e = e
-both-second false b e = absurd (bool-apart e)
-  where
-    bool-apart : false ≡ true → ⊥
-    bool-apart q = let z : _≡_ {A = ℕ} 0 1 = cc in omega arith
+both-second false b e = absurd (false-true e)
 
 pub within-most : (x l m : ℕ) → within x l m ≡ true → x ≤ m
 within-most x l m e = leb-true x m (both-second (leb l x) (leb x m) e)

@@ -8,7 +8,7 @@ use native.Mathlib.Omega.{arith}
 use borrow.Author.Tests.{not-false, not-true}
 use lib.Dec.{eqb, leb, ltb}
 use lib.ListN.{drop, drop-of-length-le, getD, length, length-drop, take}
-use lib.Seq.{drop-cons, length-take-le, take-all}
+use lib.Seq.{drop-cons, take-all}
 use Rattle.settings.specs.declared.settings.Settings.{Settings}
 use Rattle.settings.specs.Settings.{settingsGood}
 use Rattle.settings.proofs.SettingsCases.{both-first, numbers-tell}
@@ -69,9 +69,6 @@ pub owned : (o : List ℕ) (d E a b : ℕ) → a ≡ largest (take d o) → b �
     → both (leb a E) (leb b 0) ≡ ownerGood o d E
 unfolding ownerGood
 owned o d E a b ea eb = rw (ea, eb ∙ ap largest (take-all (length o - d) (drop d o) (omega (arith, length-drop d o))))
-
-pub front : (d : ℕ) (o : List ℕ) → d ≤ length o → d ≡ length (take d o)
-front d o h = sym (length-take-le d o h)
 
 module _ (s : Ehci) (g : Bool) (eg : g ≡ settingsGood (s .settings)) where
   pub ranges-not : not g ≡ true → false ≡ inRanges s

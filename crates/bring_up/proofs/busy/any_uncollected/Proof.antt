@@ -17,14 +17,8 @@ abbrev μ-loop : tie.MeasureT-loop
 loop-holds : tie.Need-loop-holds Inv-loop μ-loop
 loop-holds c = (omega arith, refl)
 
-element-copy-out-held-in : tie.Need-element-copy-out-held-in Inv-loop μ-loop
-element-copy-out-held-in c = search needs
-
-held-in-requires : tie.Need-held-in-requires Inv-loop μ-loop
-held-in-requires c κs = search needs
-
-joined-requires : tie.Need-joined-requires Inv-loop μ-loop
-joined-requires c κs = search needs
+element-copy-out-phase : tie.Need-element-copy-out-phase Inv-loop μ-loop
+element-copy-out-phase c = search needs
 
 add-k : tie.Need-add-k Inv-loop μ-loop
 add-k c = search needs
@@ -34,8 +28,7 @@ loop-less c = search needs
 
 loop-again : tie.Need-loop-again Inv-loop μ-loop
 loop-again c =
-    let l = c .before .before .before .before .loop in
-    (omega arith, busy-turn _ (l .k) (l .busy) _ _ (omega arith) (c .before .held-in .ensures) (c .joined .ensures) ∙ l .inv .1)
+    let l = c .before .before .loop in (omega arith, busy-turn _ (l .k) (l .busy) (omega arith) ∙ l .inv .1)
 
 returns : tie.Need-returns Inv-loop μ-loop
 returns c = busy-done _ _ _ _ (c .loop-test .left) (c .before .loop .inv .1)
@@ -47,9 +40,7 @@ any-uncollected-spec =
     Inv-loop
     μ-loop
     loop-holds
-    element-copy-out-held-in
-    held-in-requires
-    joined-requires
+    element-copy-out-phase
     add-k
     loop-less
     loop-again

@@ -1,4 +1,4 @@
-use Rattle.collection.proofs.AskCases.{front-256, part-within}
+use Rattle.state.proofs.Arrays.{front-256, part-within}
 use borrow.Author.Needs.{needs}
 use Rattle.collection.proofs.ask.owned_by.Statement.{statement}
 use Rattle.collection.proofs.ask.owned_by.Tie as tie

@@ -1,4 +1,4 @@
-use Rattle.collection.proofs.AskCases.{front-256}
+use Rattle.state.proofs.Arrays.{front-256}
 use Rattle.collection.proofs.CallCases.{frees}
 use borrow.Author.Needs.{needs}
 use Rattle.collection.proofs.finish.free.Statement.{statement}

@@ -1,13 +1,15 @@
-use Rattle.controller.proofs.ReaderCases.{front, part-within, whole-row}
+use Rattle.controller.proofs.ReaderCases.{whole-row}
+use Rattle.state.proofs.Arrays.{front-256, part-within}
+use native.Mathlib.Nat.{le-of-lt}
 use borrow.Author.Needs.{needs}
 use Rattle.controller.proofs.readers.free_in.Statement.{statement}
 use Rattle.controller.proofs.readers.free_in.Tie as tie
 
 slice-aggregate-count-zero : tie.Need-slice-aggregate-count-zero
-slice-aggregate-count-zero c = search front
+slice-aggregate-count-zero c = search (front-256, le-of-lt)
 
 count-zero-requires : tie.Need-count-zero-requires
-count-zero-requires c κs = search part-within
+count-zero-requires c κs = search (part-within, le-of-lt)
 
 count-zero-requires-2 : tie.Need-count-zero-requires-2
 count-zero-requires-2 c κs = search needs

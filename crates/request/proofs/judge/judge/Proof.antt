@@ -1,6 +1,6 @@
 use mathlib.Core.Path.{sym, _∙_}
 use borrow.Author.Tests.{not-false}
-use Rattle.request.proofs.JudgeLaws.{open-below}
+use Rattle.controller.proofs.ReaderLaws.{open-below}
 use Rattle.request.proofs.JudgeCases.{judge-closed, judge-stopped, judge-full, judge-isochronous, judge-kind, judge-range, judge-room, judge-done}
 use Rattle.state.specs.Slots.{slotAt}
 use borrow.Author.Needs.{needs}

@@ -1,4 +1,5 @@
-use Rattle.request.proofs.SettleCases.{front, part-within, taken-is}
+use Rattle.request.proofs.SettleCases.{taken-is}
+use Rattle.state.proofs.Arrays.{front-256, part-within}
 use borrow.Author.Needs.{needs}
 use Rattle.request.proofs.settle.take_places.Statement.{statement}
 use Rattle.request.proofs.settle.take_places.Tie as tie
@@ -7,7 +8,7 @@ array-share-prefix-marked : tie.Need-array-share-prefix-marked
 array-share-prefix-marked c = search needs
 
 slice-aggregate-places-of : tie.Need-slice-aggregate-places-of
-slice-aggregate-places-of c = search front
+slice-aggregate-places-of c = search front-256
 
 places-of-requires : tie.Need-places-of-requires
 places-of-requires c κs = search part-within
@@ -16,7 +17,7 @@ array-borrow-prefix-marked : tie.Need-array-borrow-prefix-marked
 array-borrow-prefix-marked c = search needs
 
 slice-aggregate-mark : tie.Need-slice-aggregate-mark
-slice-aggregate-mark c = search front
+slice-aggregate-mark c = search front-256
 
 add-mark : tie.Need-add-mark
 add-mark c = search needs

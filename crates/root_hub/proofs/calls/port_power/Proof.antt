@@ -12,12 +12,6 @@ no-power-requires c κs = search needs
 returns : tie.Need-returns
 returns c = search power-bad
 
-cast-within : tie.Need-cast-within
-cast-within c = search needs
-
-within-requires : tie.Need-within-requires
-within-requires c κs = search needs
-
 no-power-requires-2 : tie.Need-no-power-requires-2
 no-power-requires-2 c κs = search needs
 
@@ -49,8 +43,6 @@ port-power-spec =
     hub-good-requires
     no-power-requires
     returns
-    cast-within
-    within-requires
     no-power-requires-2
     returns-2
     with-bits-requires

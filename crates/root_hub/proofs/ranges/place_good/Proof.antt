@@ -15,20 +15,11 @@ index-of-requires c κs = search needs
 element-copy-out-state : tie.Need-element-copy-out-state
 element-copy-out-state c = search needs
 
-cast-within : tie.Need-cast-within
-cast-within c = search needs
-
-within-requires : tie.Need-within-requires
-within-requires c κs = search needs
-
 awaited-of-requires : tie.Need-awaited-of-requires
 awaited-of-requires c κs = search needs
 
 step-fits-requires : tie.Need-step-fits-requires
 step-fits-requires c κs = search needs
-
-both-requires : tie.Need-both-requires
-both-requires c κs = search needs
 
 returns-3 : tie.Need-returns-3
 returns-3 c = search place-begun
@@ -41,9 +32,6 @@ place-good-spec =
     returns-2
     index-of-requires
     element-copy-out-state
-    cast-within
-    within-requires
     awaited-of-requires
     step-fits-requires
-    both-requires
     returns-3)

@@ -23,9 +23,6 @@ element-copy-out-state-good c = search needs
 state-good-requires : tie.Need-state-good-requires Inv-loop μ-loop
 state-good-requires c κs = search needs
 
-both-requires : tie.Need-both-requires Inv-loop μ-loop
-both-requires c κs = search needs
-
 add-k : tie.Need-add-k Inv-loop μ-loop
 add-k c = search needs
 
@@ -34,8 +31,8 @@ loop-less c = search needs
 
 loop-again : tie.Need-loop-again Inv-loop μ-loop
 loop-again c =
-    let l = c .before .before .before .before .loop in
-    (omega arith, ports-turn _ (l .k) (l .good) _ _ (omega arith) (c .before .state-good .ensures) (c .both .ensures) ∙ l .inv .1)
+    let l = c .before .before .before .loop in
+    (omega arith, ports-turn _ (l .k) (l .good) _ (omega arith) (c .state-good .ensures) ∙ l .inv .1)
 
 returns : tie.Need-returns Inv-loop μ-loop
 returns c = ports-done _ _ _ _ (c .loop-test .left) (c .before .loop .inv .1)
@@ -49,7 +46,6 @@ states-good-spec =
     loop-holds
     element-copy-out-state-good
     state-good-requires
-    both-requires
     add-k
     loop-less
     loop-again

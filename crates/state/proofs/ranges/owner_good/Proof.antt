@@ -1,4 +1,5 @@
-use Rattle.state.proofs.RangesCases.{front, owned}
+use Rattle.state.proofs.Arrays.{front}
+use Rattle.state.proofs.RangesCases.{owned}
 use borrow.Author.Needs.{needs}
 use Rattle.state.proofs.ranges.owner_good.Statement.{statement}
 use Rattle.state.proofs.ranges.owner_good.Tie as tie

@@ -1,7 +1,7 @@
 use Rattle.request.proofs.SettleCases.{settled-is}
 use borrow.Author.Needs.{needs}
-use Rattle.request.proofs.calls.settle.Statement.{statement}
-use Rattle.request.proofs.calls.settle.Tie as tie
+use Rattle.request.proofs.settle.settle.Statement.{statement}
+use Rattle.request.proofs.settle.settle.Tie as tie
 
 take-for-requires : tie.Need-take-for-requires
 take-for-requires c κs = search needs

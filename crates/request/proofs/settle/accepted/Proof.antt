@@ -1,7 +1,7 @@
 use Rattle.request.proofs.SettleCases.{accepted-is}
 use borrow.Author.Needs.{needs}
-use Rattle.request.proofs.calls.accepted.Statement.{statement}
-use Rattle.request.proofs.calls.accepted.Tie as tie
+use Rattle.request.proofs.settle.accepted.Statement.{statement}
+use Rattle.request.proofs.settle.accepted.Tie as tie
 
 with-bits-requires : tie.Need-with-bits-requires
 with-bits-requires c κs = search needs

@@ -1,8 +1,8 @@
 use Rattle.state.specs.State.{withBringUp}
 use Rattle.bring_up.proofs.Cases.{again-more, again-late}
 use borrow.Author.Needs.{needs}
-use Rattle.bring_up.proofs.calls.wait_again.Statement.{statement}
-use Rattle.bring_up.proofs.calls.wait_again.Tie as tie
+use Rattle.bring_up.proofs.wait.wait_again.Statement.{statement}
+use Rattle.bring_up.proofs.wait.wait_again.Tie as tie
 
 add-waited : tie.Need-add-waited
 add-waited c = search needs

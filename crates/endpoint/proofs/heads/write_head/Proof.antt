@@ -1,6 +1,6 @@
 use borrow.Author.Needs.{needs}
-use Rattle.endpoint.proofs.calls.write_head.Statement.{statement}
-use Rattle.endpoint.proofs.calls.write_head.Tie as tie
+use Rattle.endpoint.proofs.heads.write_head.Statement.{statement}
+use Rattle.endpoint.proofs.heads.write_head.Tie as tie
 
 endpoint-requires : tie.Need-endpoint-requires
 endpoint-requires c κs = search needs

@@ -24,7 +24,7 @@ module _ (row : List ℕ) (at : ℕ) (ws : List ℕ) (h : at + length ws ≤ len
   front : length (take at row) ≡ at
   front = length-take-le at row (omega arith)
 
-  put-length : length (putAt row at ws) ≡ length row
+  pub put-length : length (putAt row at ws) ≡ length row
   unfolding putAt rest
   put-length =
       omega (
@@ -35,7 +35,7 @@ module _ (row : List ℕ) (at : ℕ) (ws : List ℕ) (h : at + length ws ≤ len
         front,
       )
 
-  put-before : (i : ℕ) → i < at → getD (putAt row at ws) i 0 ≡ getD row i 0
+  pub put-before : (i : ℕ) → i < at → getD (putAt row at ws) i 0 ≡ getD row i 0
   unfolding putAt rest
   put-before i lt = List·getD-append (take at row) (ws ++ rest) 0 i (omega (arith, front)) ∙ getD-take at row i 0 lt
 
@@ -47,7 +47,7 @@ module _ (row : List ℕ) (at : ℕ) (ws : List ℕ) (h : at + length ws ≤ len
   pub put-inside : (i : ℕ) → i < length ws → getD (putAt row at ws) (at + i) 0 ≡ getD ws i 0
   put-inside i lt = put-from i ∙ List·getD-append ws rest 0 i lt
 
-  put-behind : (i : ℕ) → at + length ws ≤ i → getD (putAt row at ws) i 0 ≡ getD row i 0
+  pub put-behind : (i : ℕ) → at + length ws ≤ i → getD (putAt row at ws) i 0 ≡ getD row i 0
   unfolding rest
   put-behind i le =
       let j : ℕ = i - (at + length ws) in

@@ -1,7 +1,7 @@
 use Rattle.collection.proofs.CallCases.{marks}
 use borrow.Author.Needs.{needs}
-use Rattle.collection.proofs.calls.mark.Statement.{statement}
-use Rattle.collection.proofs.calls.mark.Tie as tie
+use Rattle.collection.proofs.unlink.mark.Statement.{statement}
+use Rattle.collection.proofs.unlink.mark.Tie as tie
 
 marked-requires : tie.Need-marked-requires
 marked-requires c κs = search needs

@@ -1,6 +1,6 @@
 use borrow.Author.Needs.{needs}
-use Rattle.bring_up.proofs.calls.refuse.Statement.{statement}
-use Rattle.bring_up.proofs.calls.refuse.Tie as tie
+use Rattle.bring_up.proofs.wait.refuse.Statement.{statement}
+use Rattle.bring_up.proofs.wait.refuse.Tie as tie
 
 none-requires : tie.Need-none-requires
 none-requires c κs = search needs

@@ -1,0 +1,11 @@
+-- A kind that a test says is none.
+use mathlib.Core.Path.{_≡_, sym, ap, _∙_}
+use mathlib.Core.Logic.{_≢_}
+use mathlib.Core.Bool.{false}
+use Rattle.token.specs.declared.request.EndpointType.{EndpointType}
+use Rattle.token.specs.declared.request.EndpointType.the-variants.{Isochronous}
+use Rattle.settings.proofs.Every.{false-true}
+use Rattle.pipe.specs.Kinds.{isIsochronous}
+
+pub not-isochronous : (kind : EndpointType) → isIsochronous kind ≡ false → kind ≢ Isochronous
+not-isochronous kind e q = false-true (sym e ∙ ap isIsochronous q)

@@ -1,0 +1,37 @@
+// Which kind of endpoint a kind is.
+ghost use mathlib.Core.Path.{_≡_};
+ghost use Rattle.pipe.specs.Kinds.{isControl, isIsochronous, isInterrupt};
+use token::request::EndpointType;
+
+pub fn is_control(kind: EndpointType) -> bool
+    ensures { λ r. ⌜ r ≡ isControl kind ⌝ }
+{
+    match kind {
+        EndpointType::Control => true,
+        EndpointType::Isochronous => false,
+        EndpointType::Bulk => false,
+        EndpointType::Interrupt => false,
+    }
+}
+
+pub fn is_isochronous(kind: EndpointType) -> bool
+    ensures { λ r. ⌜ r ≡ isIsochronous kind ⌝ }
+{
+    match kind {
+        EndpointType::Control => false,
+        EndpointType::Isochronous => true,
+        EndpointType::Bulk => false,
+        EndpointType::Interrupt => false,
+    }
+}
+
+pub fn is_interrupt(kind: EndpointType) -> bool
+    ensures { λ r. ⌜ r ≡ isInterrupt kind ⌝ }
+{
+    match kind {
+        EndpointType::Control => false,
+        EndpointType::Isochronous => false,
+        EndpointType::Bulk => false,
+        EndpointType::Interrupt => true,
+    }
+}
