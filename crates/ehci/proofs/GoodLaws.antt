@@ -19,11 +19,11 @@ use Rattle.state.proofs.state.Ehci as S
 use Rattle.state.proofs.state.Ehci.Laws as S′
 use Rattle.answer.specs.Answers.{Verdict, first, passed, refused}
 use Rattle.opening.specs.Opening.{rowsFit}
-use Rattle.controller.specs.Lent.{acceptsOf}
+use Rattle.controller.specs.Lent.{acceptsOf, lengths}
 use Rattle.controller.specs.declared.lent.Lengths.{Lengths}
 use Rattle.controller.specs.declared.lent.Readings.{Readings}
 use Rattle.controller.proofs.LentLaws.{accepts-tells}
-use Rattle.request.specs.Submit.{acceptedWith, answerOf, chainFor, judgeOf, lengthsOf, refusedSubmit, settledSubmit, submitChecks, submitOf, takenFor}
+use Rattle.request.specs.Submit.{acceptedWith, answerOf, chainFor, judgeOf, refusedSubmit, settledSubmit, submitChecks, submitOf, takenFor}
 use Rattle.request.specs.Writeback.{inRequest, refusedWriteback, writebackOf}
 use Rattle.request.specs.declared.judge.TransferRequest.{TransferRequest}
 use Rattle.request.proofs.JudgeLaws.{judge-tells}
@@ -45,27 +45,27 @@ below-of s place q = ltb-true place (s .settings .descriptors) (both-first _ _ q
 module _ (s : Ehci) (n : ℕ) (hs fs us : List ℕ) (wide : length (s .owner) ≡ 256) where
   submit-chain : (readings : Readings) (k : ℕ) (t : TransferRequest) → chainGood n (submitOf s n hs fs us readings k t .result .chain)
   unfolding submitOf refusedSubmit settledSubmit acceptedWith judgeOf
-  submit-chain readings k t = by (acceptsOf s (lengthsOf n hs fs us)) refl (first (submitChecks s k t)) refl
+  submit-chain readings k t = by (acceptsOf s (lengths n (length hs) (length fs) (length us))) refl (first (submitChecks s k t)) refl
     where
-      by : (a : Bool) → acceptsOf s (lengthsOf n hs fs us) ≡ a → (v : Verdict) → first (submitChecks s k t) ≡ v
+      by : (a : Bool) → acceptsOf s (lengths n (length hs) (length fs) (length us)) ≡ a → (v : Verdict) → first (submitChecks s k t) ≡ v
           → chainGood n (submitOf s n hs fs us readings k t .result .chain)
       by false e v q = rw e (no-chain-good n)
       by true e (refused r) q = rw (e, q) (no-chain-good n)
       by true e passed q =
-          let told = accepts-tells s (lengthsOf n hs fs us) e in
+          let told = accepts-tells s (lengths n (length hs) (length fs) (length us)) e in
           rw (e, q)
           (subst (λ (m : ℕ). chainGood m (chainFor s k t (takenFor s k t))) (sym (told .fitting .pool-fits)) (submit-good s k t (told .ranges) (judge-tells s k t (ap answerOf q)) wide))
 
-  written-chain : (place token : ℕ) → chainGood n (writebackOf s (lengthsOf n hs fs us) place token .chain)
+  written-chain : (place token : ℕ) → chainGood n (writebackOf s (lengths n (length hs) (length fs) (length us)) place token .chain)
   unfolding writebackOf refusedWriteback
-  written-chain place token = by (acceptsOf s (lengthsOf n hs fs us)) refl (inRequest s place) refl
+  written-chain place token = by (acceptsOf s (lengths n (length hs) (length fs) (length us))) refl (inRequest s place) refl
     where
-      by : (a : Bool) → acceptsOf s (lengthsOf n hs fs us) ≡ a → (b : Bool) → inRequest s place ≡ b
-          → chainGood n (writebackOf s (lengthsOf n hs fs us) place token .chain)
+      by : (a : Bool) → acceptsOf s (lengths n (length hs) (length fs) (length us)) ≡ a → (b : Bool) → inRequest s place ≡ b
+          → chainGood n (writebackOf s (lengths n (length hs) (length fs) (length us)) place token .chain)
       by false e b q = rw e (no-chain-good n)
       by true e false q = rw (e, q) (no-chain-good n)
       by true e true q =
-          let told = accepts-tells s (lengthsOf n hs fs us) e in
+          let told = accepts-tells s (lengths n (length hs) (length fs) (length us)) e in
           rw (e, q) (token-good n (s .settings .pool) place token (omega (arith, below-of s place q, told .fitting .pool-fits)))
 
   call-chain : (v : View) (call : Call) → chainGood n (callOf s n hs fs us v call .decided .chain)

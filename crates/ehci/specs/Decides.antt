@@ -14,6 +14,7 @@ use Rattle.controller.specs.declared.calls.Allotment.{Allotment}
 use Rattle.controller.specs.declared.lent.Lengths.{Lengths}
 use Rattle.controller.specs.declared.lent.Readings.{Readings}
 use Rattle.controller.specs.Address.{allotOf}
+use Rattle.controller.specs.Lent.{lengths}
 use Rattle.endpoint.specs.Calls.{ChangeLeft, OpenLeft, closeOf, openEndpointOf, setAddressOf, setPacketSizeOf}
 use Rattle.request.specs.declared.calls.WrittenBack.{WrittenBack}
 use Rattle.request.specs.declared.judge.TransferRequest.{TransferRequest}
@@ -146,10 +147,6 @@ withFrames o frames setups = came (o .decided) (o .heads) frames setups
 abbrev pub withSetups : LinksOutcome → List ℕ → Outcome
 withSetups o setups = came (o .decided) (o .heads) (o .frames) setups
 
-abbrev pub lengthsOf : ℕ → List ℕ → List ℕ → List ℕ → Lengths
-lengthsOf pool heads frames setups =
-    record { pool = pool; heads = length heads; frames = length frames; setups = length setups }
-
 abbrev pub callOf : Ehci → ℕ → List ℕ → List ℕ → List ℕ → View → Call → Outcome
 callOf s n hs fs us v StartBringUp = came (broughtReply (startOf s)) hs fs us
 callOf s n hs fs us v (BringUpStep w) = came (broughtReply (stepOf s w)) hs fs us
@@ -159,7 +156,7 @@ callOf s n hs fs us v (Close k) = withFrames (closeDecided s n hs (length fs) (l
 callOf s n hs fs us v (SetAddress k a) = withFrames (addressDecided s n hs (length fs) (length us) k a) fs us
 callOf s n hs fs us v (SetPacketSize k size) = withFrames (packetDecided s n hs (length fs) (length us) k size) fs us
 callOf s n hs fs us v (Submit k t readings) = submitDecided s n hs fs us readings k t
-callOf s n hs fs us v (Writeback place token) = came (writebackDecided s (lengthsOf n hs fs us) place token) hs fs us
+callOf s n hs fs us v (Writeback place token) = came (writebackDecided s (lengths n (length hs) (length fs) (length us)) place token) hs fs us
 callOf s n hs fs us v (Cancel k id readings) = withSetups (cancelDecided s n hs fs (length us) readings k id) us
 callOf s n hs fs us v (Collect k id readings) = withSetups (collectDecided s n hs fs (length us) readings v k id) us
 callOf s n hs fs us v (Acknowledge x) = came (acknowledgeDecided s x) hs fs us

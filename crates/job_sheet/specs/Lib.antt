@@ -1,0 +1,4 @@
+pub mod Numbers
+pub mod Sheets
+pub mod Reading
+pub mod Listing

@@ -1,0 +1,2 @@
+// Text: numbers as digits, over the bytes from a place on.
+pub mod digits;
