@@ -1,0 +1,3 @@
+// A job run on a controller of its own, and its sheet printed.
+pub mod controller_of;
+pub mod run;

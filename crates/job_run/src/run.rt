@@ -1,0 +1,236 @@
+// A job's calls, one after the other: the endpoint records are opened, then the requests are submitted.
+ghost use mathlib.Core.Path.{_≡_};
+ghost use Prim.Native.Nat.{_≤_, _<_};
+ghost use Rattle.job_run.specs.Runs.{
+  slotGiven,
+  slotTold,
+  idGiven,
+  idTold,
+  openCall,
+  openStep,
+  openedTo,
+  slotOf,
+  kindFor,
+  directionOf,
+  submitCall,
+  submitStep,
+  submittedTo,
+  runOf,
+};
+use crate::controller_of::running_world;
+use controller::lent::Readings;
+use ehci::call::Call;
+use ehci::call::EndpointFields;
+use ehci::reply::Answered;
+use ehci::reply::Given;
+use job_sheet::record::EndpointRecord;
+use job_sheet::record::RequestRecord;
+use job_sheet::sheet::Job;
+use pipe::endpoint::kind_of;
+use request::judge::TransferRequest;
+use token::request::Direction;
+use token::request::EndpointType;
+use world::world::World;
+use world::world::call_on;
+
+// No slot has this number.
+pub const NO_SLOT: u8 = 255;
+
+// For each record the answer and the slot, NO_SLOT where none was opened; for each request the answer and the id.
+pub struct Ran {
+    pub world: World,
+    pub opened: [u8; 8],
+    pub slots: [u8; 8],
+    pub submitted: [u8; 64],
+    pub ids: [u64; 64],
+}
+
+fn slot_given(given: Given) -> u8
+    ensures { λ r. ⌜ r ≡ slotGiven given ⌝ }
+{
+    match given {
+        Given::Nothing => NO_SLOT,
+        Given::Slot(slot) => slot,
+        Given::Address(_) => NO_SLOT,
+        Given::Id(_) => NO_SLOT,
+        Given::Length(_) => NO_SLOT,
+        Given::No => NO_SLOT,
+        Given::Yes => NO_SLOT,
+        Given::Event(_) => NO_SLOT,
+        Given::Next(_, _) => NO_SLOT,
+    }
+}
+
+fn slot_told(answer: Answered) -> u8
+    ensures { λ r. ⌜ r ≡ slotTold answer ⌝ }
+{
+    match answer {
+        Answered::Done(given) => slot_given(given),
+        Answered::Pending => NO_SLOT,
+        Answered::Cancelled => NO_SLOT,
+        Answered::Failed(_) => NO_SLOT,
+        Answered::Refused(_) => NO_SLOT,
+    }
+}
+
+fn id_given(given: Given) -> u64
+    ensures { λ r. ⌜ r ≡ idGiven given ⌝ }
+{
+    match given {
+        Given::Nothing => 0,
+        Given::Slot(_) => 0,
+        Given::Address(_) => 0,
+        Given::Id(id) => id,
+        Given::Length(_) => 0,
+        Given::No => 0,
+        Given::Yes => 0,
+        Given::Event(_) => 0,
+        Given::Next(_, _) => 0,
+    }
+}
+
+fn id_told(answer: Answered) -> u64
+    ensures { λ r. ⌜ r ≡ idTold answer ⌝ }
+{
+    match answer {
+        Answered::Done(given) => id_given(given),
+        Answered::Pending => 0,
+        Answered::Cancelled => 0,
+        Answered::Failed(_) => 0,
+        Answered::Refused(_) => 0,
+    }
+}
+
+fn open_call(e: EndpointRecord) -> Call
+    ensures { λ r. ⌜ r ≡ openCall e ⌝ }
+{
+    Call::OpenEndpoint(EndpointFields {
+        kind: kind_of(e.kind),
+        address: e.address,
+        number: e.number,
+        packet: e.packet,
+    })
+}
+
+fn open_step(mut ran: Ran, k: usize, e: EndpointRecord) -> Ran
+    requires { ⌜ k < 8 ⌝ }
+    ensures { λ r. ⌜ r ≡ openStep ran k e ⌝ }
+{
+    let before = ran.world;
+    let called = call_on(before, open_call(e));
+    let answer = called.answer;
+    let after = called.world;
+    ran.world = after;
+    ran.opened[k] = answer.number();
+    ran.slots[k] = slot_told(answer);
+    ran
+}
+
+fn open_all(start: Ran, job: Job) -> Ran
+    requires { ⌜ job .opens ≤ 8 ⌝ }
+    ensures { λ r. ⌜ r ≡ openedTo (job .opens) start job ⌝ }
+{
+    let mut ran = start;
+    let mut k: usize = 0;
+    while k < job.opens {
+        let e = job.endpoints[k];
+        ran = open_step(ran, k, e);
+        k += 1;
+    }
+    ran
+}
+
+// A record that is not there has no slot.
+fn slot_of(slots: [u8; 8], record: u8) -> u8
+    ensures { λ r. ⌜ r ≡ slotOf slots record ⌝ }
+{
+    let k = record as usize;
+    if k < 8 { slots[k] } else { NO_SLOT }
+}
+
+// Its record's kind; a record that is not there is refused whatever the kind.
+fn kind_for(endpoints: [EndpointRecord; 8], record: u8) -> EndpointType
+    ensures { λ r. ⌜ r ≡ kindFor endpoints record ⌝ }
+{
+    let k = record as usize;
+    if k < 8 {
+        let e = endpoints[k];
+        kind_of(e.kind)
+    } else {
+        EndpointType::Control
+    }
+}
+
+fn direction_of(number: u8) -> Direction
+    ensures { λ r. ⌜ r ≡ directionOf number ⌝ }
+{
+    if number == 0 {
+        Direction::Out
+    } else {
+        Direction::In
+    }
+}
+
+fn submit_call(endpoints: [EndpointRecord; 8], slots: [u8; 8], t: RequestRecord) -> Call
+    ensures { λ r. ⌜ r ≡ submitCall endpoints slots t ⌝ }
+{
+    Call::Submit(
+        slot_of(slots, t.endpoint),
+        TransferRequest {
+            kind: kind_for(endpoints, t.endpoint),
+            direction: direction_of(t.direction),
+            setup: t.setup,
+            address: t.buffer,
+            length: t.length as u64,
+        },
+        Readings {
+            command: 0,
+            frame: 0,
+        },
+    )
+}
+
+fn submit_step(mut ran: Ran, endpoints: [EndpointRecord; 8], k: usize, t: RequestRecord) -> Ran
+    requires { ⌜ k < 64 ⌝ }
+    ensures { λ r. ⌜ r ≡ submitStep ran endpoints k t ⌝ }
+{
+    let before = ran.world;
+    let slots = ran.slots;
+    let called = call_on(before, submit_call(endpoints, slots, t));
+    let answer = called.answer;
+    let after = called.world;
+    ran.world = after;
+    ran.submitted[k] = answer.number();
+    ran.ids[k] = id_told(answer);
+    ran
+}
+
+fn submit_all(start: Ran, job: Job) -> Ran
+    requires { ⌜ job .submits ≤ 64 ⌝ }
+    ensures { λ r. ⌜ r ≡ submittedTo (job .submits) start job ⌝ }
+{
+    let mut ran = start;
+    let mut k: usize = 0;
+    while k < job.submits {
+        let t = job.requests[k];
+        let endpoints = job.endpoints;
+        ran = submit_step(ran, endpoints, k, t);
+        k += 1;
+    }
+    ran
+}
+
+pub fn run(job: Job) -> Ran
+    requires { ⌜ (job .opens ≤ 8) × (job .submits ≤ 64) ⌝ }
+    ensures { λ r. ⌜ r ≡ runOf job ⌝ }
+{
+    let start = Ran {
+        world: running_world(),
+        opened: [0; 8],
+        slots: [NO_SLOT; 8],
+        submitted: [0; 64],
+        ids: [0; 64],
+    };
+    let opened = open_all(start, job);
+    submit_all(opened, job)
+}

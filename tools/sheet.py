@@ -1,0 +1,158 @@
+#!/usr/bin/env python3
+"""What document 01 says that `sheet` prints, written from the document and not from the code: tools/sheet.py FILE...
+
+It reads each sheet and prints its listing; with no file it reads standard input. `tools/sheet.py --make` writes the
+sheets of examples/ and their listings."""
+import os, struct, sys
+
+D, E, C = 16, 8, 16384
+POOL, HEADS, FRAMES, SETUPS = 0x100000, 0x200000, 0x300000, 0x400000
+CONTROL, ISOCHRONOUS, BULK, INTERRUPT = range(4)
+OUT, IN, SETUP = range(3)
+
+
+def read(sheet):
+    """The two lists of records, or None."""
+    if len(sheet) < 2:
+        return None
+    n = struct.unpack_from("<H", sheet)[0]
+    if n > 8 or len(sheet) < 4 + 6 * n:
+        return None
+    endpoints = [struct.unpack_from("<BBBBH", sheet, 2 + 6 * k) for k in range(n)]
+    m = struct.unpack_from("<H", sheet, 2 + 6 * n)[0]
+    if m > 64 or len(sheet) != 4 + 6 * n + 20 * m:
+        return None
+    requests = [struct.unpack_from("<BB6sQI", sheet, 4 + 6 * n + 20 * k) for k in range(m)]
+    if any(kind > 3 or zero != 0 for kind, _, _, zero, _ in endpoints):
+        return None
+    for record, direction, setup, _, _ in requests:
+        control = record < n and endpoints[record][0] == CONTROL
+        if direction > 1 or (not control and setup != bytes(6)):
+            return None
+    return endpoints, requests
+
+
+def token(pid, size, interrupt, toggle):
+    return pid << 8 | min(size, 32767) << 16 | 3 << 10 | 128 | (32768 if interrupt else 0) | (2**31 if toggle else 0)
+
+
+def slots(address, length):
+    if length == 0:
+        return [0] * 5
+    page = address - address % 4096
+    return [address] + [page + 4096 * i if page + 4096 * i < address + length else 0 for i in range(1, 5)]
+
+
+def plan(kind, direction, slot, address, length):
+    """Token and page slots of each descriptor."""
+    if kind == CONTROL:
+        stages = [(token(SETUP, 8, False, False), slots(SETUPS + 8 * slot, 8))]
+        if length > 0:
+            stages.append((token(direction, length, False, True), slots(address, length)))
+        status = OUT if direction == IN and length > 0 else IN
+        return stages + [(token(status, 0, True, True), slots(0, 0))]
+    sizes = [min(C, length - at) for at in range(0, length, C)] or [0]
+    return [
+        (token(direction, size, k + 1 == len(sizes), False), slots(address + C * k, size)) for k, size in enumerate(sizes)
+    ]
+
+
+def open_endpoint(opened, kind, address, number, packet):
+    if kind == ISOCHRONOUS:
+        return 5
+    if address > 127 or number > 15 or not 1 <= packet <= 1024:
+        return 1
+    if len(opened) == E:
+        return 2
+    opened.append(kind)
+    return 0
+
+
+def need(kind, length):
+    if kind == CONTROL:
+        return 3 if length > 0 else 2
+    return max(1, -(-length // C))
+
+
+def listing(sheet):
+    job = read(sheet)
+    if job is None:
+        return "bad sheet\n"
+    endpoints, requests = job
+    opened, slot_of, lines = [], {}, []
+    for k, (kind, address, number, _, packet) in enumerate(endpoints):
+        answer = open_endpoint(opened, kind, address, number, packet)
+        if answer == 0:
+            slot_of[k] = len(opened) - 1
+        lines.append(f"E {k} {answer}")
+    free, busy = list(range(D)), set()
+    for k, (record, direction, setup, address, length) in enumerate(requests):
+        slot = slot_of.get(record)
+        if slot is None:
+            answer = 3
+        elif slot in busy:
+            answer = 4
+        else:
+            kind = opened[slot]
+            fits = length == 0 or address + length <= 2**32
+            if kind == CONTROL and (length > 16384 or setup[0] >> 7 != direction):
+                fits = False
+            answer = 1 if not fits else 6 if need(kind, length) > len(free) else 0
+        lines.append(f"R {k} {answer} {0 if answer else 1}")
+        if answer == 0:
+            busy.add(slot)
+            chain = plan(opened[slot], direction, slot, address, length)
+            places, free = free[: len(chain)], free[len(chain) :]
+            for i, (word, pages) in enumerate(chain):
+                after = POOL + 64 * places[i + 1] if i + 1 < len(places) else 1
+                lines.append(" ".join([f"D {places[i]}"] + [f"{w:08x}" for w in [word, after] + pages]))
+    return "".join(line + "\n" for line in lines)
+
+
+def make():
+    """The sheets of examples/: a few that show each part of the listing."""
+    endpoint = lambda kind, address, number, packet: struct.pack("<BBBBH", kind, address, number, 0, packet)
+    request = lambda record, direction, setup, address, length: struct.pack("<BB6sQI", record, direction, setup, address, length)
+    sheet = lambda es, rs: struct.pack("<H", len(es)) + b"".join(es) + struct.pack("<H", len(rs)) + b"".join(rs)
+    get = bytes([0x80, 6, 0, 1, 0, 0])
+    none = bytes(6)
+    sheets = {
+        "control-in": sheet([endpoint(0, 0, 0, 64)], [request(0, 1, get, 0x10000FFF, 18)]),
+        "empty": sheet([], []),
+        "camera": sheet(
+            [endpoint(0, 5, 0, 64), endpoint(2, 5, 1, 512), endpoint(3, 5, 2, 8)],
+            [request(1, 1, none, 0x10000FFF, 40000), request(2, 1, none, 0x20000000, 8), request(0, 0, none, 0, 0)],
+        ),
+        "refused": sheet(
+            [endpoint(1, 1, 1, 64), endpoint(2, 128, 1, 64), endpoint(2, 1, 16, 64), endpoint(2, 1, 1, 0), endpoint(2, 1, 1, 512)],
+            [
+                request(0, 1, none, 0, 0),
+                request(9, 1, none, 0, 0),
+                request(4, 1, none, 0xFFFFFFFF, 2),
+                request(4, 0, none, 0xFFFFFFFF, 1),
+                request(4, 0, none, 0, 1),
+            ],
+        ),
+        "full-pool": sheet(
+            [endpoint(2, k, 1, 512) for k in range(1, 4)],
+            [request(0, 1, none, 0x1000000, 14 * C), request(1, 1, none, 0x2000000, 3 * C), request(2, 1, none, 0x3000000, 2 * C), request(1, 0, none, 0, 0)],
+        ),
+        "bad-long": sheet([], []) + b"\0",
+        "bad-kind": sheet([endpoint(4, 0, 0, 64)], []),
+    }
+    folder = os.path.join(os.path.dirname(os.path.abspath(__file__)), "..", "examples")
+    for name, data in sheets.items():
+        open(os.path.join(folder, name + ".sheet"), "wb").write(data)
+        open(os.path.join(folder, name + ".listing"), "w").write(listing(data))
+
+
+def main():
+    if sys.argv[1:] == ["--make"]:
+        make()
+        return
+    for name in sys.argv[1:] or ["-"]:
+        data = sys.stdin.buffer.read() if name == "-" else open(name, "rb").read()
+        sys.stdout.write(listing(data))
+
+
+main()
