@@ -1,7 +1,7 @@
 -- A local array `[T; n]` of which a part, or all, is lent as a `&mut [T]`, and which is read as a value again, for any row R of one MIR type.
 --     Elems ys         the array's elements in memory, side by side
 --     apart-in         the local at the array's machine value, with what the array owns, is its elements
---     value-out        and back: the elements are the local at the machine value of the list, with what the array owns
+--     value-out        and back: the elements are the local at some machine value, with what the array owns
 --     lends            the elements are lent as a `&κ mut [T]` under a new name.      comes       once κ is over they are back, at the last list
 --     lends-part       the first k elements are lent so; the rest waits in LentPart.  comes-part  once κ is over all are back, the first ones at the last list
 --     lit-big          the operand `intBig w n`, which a large literal is, as the count 1024
@@ -23,15 +23,15 @@ use types.SemTy.{cells, Arr}
 use types.Run.{Opd}
 use types.Share.{arr-parts}
 use denote.RattleType.{RattleType}
-use denote.Laws.{Is, Tells, shows}
+use denote.Laws.{Is, shows}
 use denote.Memory.{cellAt, lone, partAt, mem, shares, partOf}
-use denote.Array.{Array, array-vals, array-tells}
+use denote.Array.{Array, arrayVal}
 use denote.ArrayMemory.{Single, array-apart, array-whole}
 use denote.Ref.{RefT}
 use denote.Slice.{sliceVal, MutSlice, Room, finally}
 use denote.Lend.{Held, lends-slice, slice-back}
 use denote.Index.{row, whole-in, whole-out}
-use denote.Steps.{only, peeks}
+use denote.Steps.{peeks}
 use borrow.Table.Elements.{at, cut-app, join-app, same-len, length-take-le}
 use borrow.Rule.Array.Share.{room-take}
 
@@ -53,14 +53,14 @@ module _ (R : RattleType) (n b : ℕ) where
         use1 W (‵ (cellAt fullShare (Array R n .mir) (v ∷ []) b 0)) (W .laws .at-raw fullShare τ b 0 v) $ fjoin ! $
         fpack ! (List Val) (λ us. fsep (cellAt fullShare (Array R n .mir) us b 0) (Array R n .own ys us)) (v ∷ []) $ by ! (array-apart 𝓤 H A W R fullShare single n ys b 0)
 
-    pub value-out : (vals : R .Denot → List Val) → Tells R (Is R) vals → ent 𝓤 (sem 𝓤 H A (Elems ys)) (sep 𝓤 (sem 𝓤 H A (fat fullShare τ b 0 (only (array-vals vals ys)))) (sem 𝓤 H A (Array R n .own ys (array-vals vals ys))))
+    pub value-out : ent 𝓤 (sem 𝓤 H A (Elems ys)) (ex 𝓤 (λ (v : Val). sep 𝓤 (sem 𝓤 H A (fat fullShare τ b 0 v)) (sem 𝓤 H A (Array R n .own ys (v ∷ [])))))
     unfolding partOf
-    value-out vals tells =
+    value-out =
         qed W (‵ (Elems ys) ∷ []) ∵ use1 W (‵ (partAt (Array R n) fullShare ys b 0)) (array-whole 𝓤 H A W R fullShare n ys b 0) $ fpick ! (λ vs. fsplit ! $ move ! (1 ∷ []) $
         peeks ! (Array R n) (Is (Array R n)) (shows 𝓤 H A (Array R n)) ys vs (λ is.
-        rewrite ! 0 (λ (us : List Val). ‵ (Array R n .own ys us)) (array-tells R vals tells n ys vs is) refl $
-        rewrite ! 1 (λ (us : List Val). ‵ (cellAt fullShare (Array R n .mir) us b 0)) (array-tells R vals tells n ys vs is) refl $
-        move ! (1 ∷ []) $ use1 W (‵ (fat fullShare τ b 0 (only (array-vals vals ys)))) (W .laws .raw-at fullShare τ b 0 _) $ done !))
+        rewrite ! 0 (λ (us : List Val). ‵ (Array R n .own ys us)) (is .1 .0 .0) refl $ rewrite ! 1 (λ (us : List Val). ‵ (cellAt fullShare (Array R n .mir) us b 0)) (is .1 .0 .0) refl $
+        move ! (1 ∷ []) $ use1 W (‵ (fat fullShare τ b 0 (arrayVal (is .0)))) (W .laws .raw-at fullShare τ b 0 _) $
+        show ! (λ (v : Val). sep 𝓤 (sem 𝓤 H A (fat fullShare τ b 0 v)) (sem 𝓤 H A (Array R n .own ys (v ∷ [])))) (arrayVal (is .0)) $ done !))
 
     pub comes : (κ : Lft) (γ : GName) → ent 𝓤 (sep 𝓤 (A .dead κ) (sep 𝓤 (A .lent κ (Held R n b 0 γ)) (sem 𝓤 H A (finally R γ ys)))) (H .⇛ (sem 𝓤 H A (Elems ys)))
     comes κ γ =

@@ -269,7 +269,14 @@ fn lend_call(
     let mut words = heads;
     let mut entries = frames;
     let mut bytes = setups;
-    let reply = apply(state, &mut records[..d], &mut words[..h], &mut entries, &mut bytes[..u], call);
+    let reply = apply(
+        state,
+        &mut records[..d],
+        &mut words[..h],
+        &mut entries,
+        &mut bytes[..u],
+        call,
+    );
     gathered(reply, records, words, entries, bytes)
 }
 

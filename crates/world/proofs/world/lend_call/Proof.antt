@@ -81,25 +81,7 @@ abbrev row-at : {X : Type 0} → ℕ → GName → List X → RefT (List X)
 row-at b γ l = record { ptr = (b, 0); name = γ; now = l }
 
 module _ {M : Type 1} (𝓤 : URA M) (H : Heap 𝓤) (A : Atoms 𝓤) (W : Given 𝓤 H A) (mem : Memory → SProp 𝓤) (run : Routine → Fun 𝓤) (st : Ehci) (rs : List Record) (hs fs us : List ℕ) (kr kh ku : ℕ) (cl : Call)
-    (is-st : Is S.the-row st (LL.vals S.the-type S′.the-laws st)) (isr : Is (Array R 256) rs (array-vals vals rs)) (ish : Is (Array u32 561) hs (array-vals (uint-vals w32) hs)) (isf : Is (Array u32 1024) fs (array-vals (uint-vals w32) fs)) (isu : Is (Array u8 256) us (array-vals (uint-vals w8) us)) (fits-r : kr < 2 ^ 64) (fits-h : kh < 2 ^ 64) (fits-u : ku < 2 ^ 64) (is-cl : Is Cl.the-row cl (EL.vals Cl.the-type Cl′.the-laws cl)) where
-  abbrev stv : Val
-  stv = LL.val S.the-type S′.the-laws st
-
-  abbrev clv : Val
-  clv = EL.val Cl.the-type Cl′.the-laws cl
-
-  abbrev vr : Val
-  vr = only (array-vals vals rs)
-
-  abbrev vh : Val
-  vh = only (array-vals (uint-vals w32) hs)
-
-  abbrev vf : Val
-  vf = only (array-vals (uint-vals w32) fs)
-
-  abbrev vu : Val
-  vu = only (array-vals (uint-vals w8) us)
-
+    (stv vr vh vf vu clv : Val) (is-st : Is S.the-row st (stv ∷ [])) (isr : Is (Array R 256) rs (vr ∷ [])) (ish : Is (Array u32 561) hs (vh ∷ [])) (isf : Is (Array u32 1024) fs (vf ∷ [])) (isu : Is (Array u8 256) us (vu ∷ [])) (fits-r : kr < 2 ^ 64) (fits-h : kh < 2 ^ 64) (fits-u : ku < 2 ^ 64) (is-cl : Is Cl.the-row cl (clv ∷ [])) where
   abbrev at : Vals f.signature tt
   at = (stv ∷ [], (vr ∷ [], (vh ∷ [], (vf ∷ [], (vu ∷ [], (vint w64 kr ∷ [], (vint w64 kh ∷ [], (vint w64 ku ∷ [], (clv ∷ [], tt)))))))))
 
@@ -134,14 +116,14 @@ module _ {M : Type 1} (𝓤 : URA M) (H : Heap 𝓤) (A : Atoms 𝓤) (W : Given
     told-apply r ws = applied r (ws .1 .0) (ws .1 .1 .0) (ws .1 .1 .1 .0) (ws .1 .1 .1 .1 .0) ≡ applyOf st rs′ hs′ fs′ us′ cl
 
   -- the rows that came back, as values
-  module _ (o : Reply) (ov : Val) (rs′ : List Record) (hs′ fs′ us′ : List ℕ) where
+  module _ (o : Reply) (ov : Val) (rs′ : List Record) (hs′ fs′ us′ : List ℕ) (nr nh nf nu : Val) where
     abbrev to-gathered : met 𝓤 H A gathered.ended (gathered.clauses 𝓤 H A mem run) .Ghost
-    to-gathered = ((tt, tt, tt, (o, (rs′, (hs′, (fs′, (us′, tt))))), (ov ∷ [], (array-vals vals rs′, (array-vals (uint-vals w32) hs′, (array-vals (uint-vals w32) fs′, (array-vals (uint-vals w8) us′, tt)))))), tt)
+    to-gathered = ((tt, tt, tt, (o, (rs′, (hs′, (fs′, (us′, tt))))), (ov ∷ [], (nr ∷ [], (nh ∷ [], (nf ∷ [], (nu ∷ [], tt)))))), tt)
 
-    goes-gathered : Is Op.the-row o (ov ∷ []) → Is (Array R 256) rs′ (array-vals vals rs′) → Is (Array u32 561) hs′ (array-vals (uint-vals w32) hs′) → Is (Array u32 1024) fs′ (array-vals (uint-vals w32) fs′) → Is (Array u8 256) us′ (array-vals (uint-vals w8) us′)
+    goes-gathered : Is Op.the-row o (ov ∷ []) → Is (Array R 256) rs′ (nr ∷ []) → Is (Array u32 561) hs′ (nh ∷ []) → Is (Array u32 1024) fs′ (nf ∷ []) → Is (Array u8 256) us′ (nu ∷ [])
         → ent 𝓤 (sem 𝓤 H A ftrue) (met 𝓤 H A gathered.ended (gathered.clauses 𝓤 H A mem run) .pre to-gathered)
     goes-gathered iso nowr nowh nowf nowu =
-        qed W (‵ ftrue ∷ []) ∵ owned ! (Array u8 256) (Is (Array u8 256)) (array-makes 𝓤 H A W u8 (uint-makes 𝓤 H A W w8) 256) us′ (only (array-vals (uint-vals w8) us′) ∷ []) nowu $ fjoin ! $ owned ! (Array u32 1024) (Is (Array u32 1024)) (array-makes 𝓤 H A W u32 (uint-makes 𝓤 H A W w32) 1024) fs′ (only (array-vals (uint-vals w32) fs′) ∷ []) nowf $ fjoin ! $ owned ! (Array u32 561) (Is (Array u32 561)) (array-makes 𝓤 H A W u32 (uint-makes 𝓤 H A W w32) 561) hs′ (only (array-vals (uint-vals w32) hs′) ∷ []) nowh $ fjoin ! $ owned ! (Array R 256) (Is (Array R 256)) (array-makes 𝓤 H A W R (LL.makes D T′.the-plain 𝓤 H A) 256) rs′ (only (array-vals vals rs′) ∷ []) nowr $ fjoin ! $
+        qed W (‵ ftrue ∷ []) ∵ owned ! (Array u8 256) (Is (Array u8 256)) (array-makes 𝓤 H A W u8 (uint-makes 𝓤 H A W w8) 256) us′ (nu ∷ []) nowu $ fjoin ! $ owned ! (Array u32 1024) (Is (Array u32 1024)) (array-makes 𝓤 H A W u32 (uint-makes 𝓤 H A W w32) 1024) fs′ (nf ∷ []) nowf $ fjoin ! $ owned ! (Array u32 561) (Is (Array u32 561)) (array-makes 𝓤 H A W u32 (uint-makes 𝓤 H A W w32) 561) hs′ (nh ∷ []) nowh $ fjoin ! $ owned ! (Array R 256) (Is (Array R 256)) (array-makes 𝓤 H A W R (LL.makes D T′.the-plain 𝓤 H A) 256) rs′ (nr ∷ []) nowr $ fjoin ! $
         owned ! Op.the-row (Is Op.the-row) (LL.makes Op.the-type Op′.the-plain 𝓤 H A) o (ov ∷ []) iso $ fjoin ! $ nothing ! $ join ! $ frame ! $ done !
 
   module _ (𝓣 : Tables 𝓤 H) (known-apply : Triple 𝓤 (𝓣 .C #apply) (met 𝓤 H A apply.ended (apply.clauses 𝓤 H A mem run))) (known-gathered : Triple 𝓤 (𝓣 .C #gathered) (met 𝓤 H A gathered.ended (gathered.clauses 𝓤 H A mem run))) where
@@ -149,7 +131,7 @@ module _ {M : Type 1} (𝓤 : URA M) (H : Heap 𝓤) (A : Atoms 𝓤) (W : Given
     walk bound =
         qed W (‵ ftrue ∷ ‵ (owns (S.the-row ∷ Array R 256 ∷ Array u32 561 ∷ Array u32 1024 ∷ Array u8 256 ∷ usize ∷ usize ∷ usize ∷ Cl.the-row ∷ []) (st, (rs, (hs, (fs, (us, (kr, (kh, (ku, (cl, tt))))))))) at) ∷ []) ∵ enter ! (𝓣 .C) (𝓣 .Λ) code.function (stv ∷ vr ∷ vh ∷ vf ∷ vu ∷ vint w64 kr ∷ vint w64 kh ∷ vint w64 ku ∷ clv ∷ []) _ $
         alloc1 ! (λ l₀. alloc1 ! (λ l₁. alloc1 ! (λ l₂. alloc1 ! (λ l₃. alloc1 ! (λ l₄. alloc1 ! (λ l₅. alloc1 ! (λ l₆. alloc1 ! (λ l₇. alloc1 ! (λ l₈. alloc1 ! (λ l₉. alloc1 ! (λ l₁₀. alloc1 ! (λ l₁₁. alloc1 ! (λ l₁₂. alloc1 ! (λ l₁₃. alloc1 ! (λ l₁₄. alloc1 ! (λ l₁₅. alloc1 ! (λ l₁₆. alloc1 ! (λ l₁₇. alloc1 ! (λ l₁₈. alloc1 ! (λ l₁₉. alloc1 ! (λ l₂₀. alloc1 ! (λ l₂₁. alloc1 ! (λ l₂₂. alloc1 ! (λ l₂₃. alloc1 ! (λ l₂₄. alloc1 ! (λ l₂₅. alloc1 ! (λ l₂₆. alloc0 ! $ params1 ! $
-        pass1 ! (init ! 50 refl (LL.lawful S.the-type S′.the-laws 𝓤 H A W .typed st _ is-st .0)) $ pass1 ! (init ! 48 refl (array-lawful 𝓤 H A W R (LL.lawful D L 𝓤 H A W) 256 .typed rs _ isr .0)) $ pass1 ! (init ! 46 refl (array-lawful 𝓤 H A W u32 (uint-lawful 𝓤 H A W w32) 561 .typed hs _ ish .0)) $ pass1 ! (init ! 44 refl (array-lawful 𝓤 H A W u32 (uint-lawful 𝓤 H A W w32) 1024 .typed fs _ isf .0)) $ pass1 ! (init ! 42 refl (array-lawful 𝓤 H A W u8 (uint-lawful 𝓤 H A W w8) 256 .typed us _ isu .0)) $ pass1 ! (init ! 40 refl (tt, record { fits = fits-r })) $ pass1 ! (init ! 38 refl (tt, record { fits = fits-h })) $ pass1 ! (init ! 36 refl (tt, record { fits = fits-u })) $ pass1 ! (init ! 34 refl (EL.lawful Cl.the-type Cl′.the-laws 𝓤 H A W tt .typed cl _ is-cl .0)) $ pass0 ! $
+        pass1 ! (init ! 50 {τ = S′.mir} {v = stv} refl (LL.lawful S.the-type S′.the-laws 𝓤 H A W .typed st _ is-st .0)) $ pass1 ! (init ! 48 refl (array-lawful 𝓤 H A W R (LL.lawful D L 𝓤 H A W) 256 .typed rs _ isr .0)) $ pass1 ! (init ! 46 refl (array-lawful 𝓤 H A W u32 (uint-lawful 𝓤 H A W w32) 561 .typed hs _ ish .0)) $ pass1 ! (init ! 44 refl (array-lawful 𝓤 H A W u32 (uint-lawful 𝓤 H A W w32) 1024 .typed fs _ isf .0)) $ pass1 ! (init ! 42 refl (array-lawful 𝓤 H A W u8 (uint-lawful 𝓤 H A W w8) 256 .typed us _ isu .0)) $ pass1 ! (init ! 40 refl (tt, record { fits = fits-r })) $ pass1 ! (init ! 38 refl (tt, record { fits = fits-h })) $ pass1 ! (init ! 36 refl (tt, record { fits = fits-u })) $ pass1 ! (init ! 34 {τ = Cl′.mir} {v = clv} refl (EL.lawful Cl.the-type Cl′.the-laws 𝓤 H A W tt .typed cl _ is-cl .0)) $ pass0 ! $
         assigns ! (of-opd ! (load ! (from ! (stop !)) (look ! 48 refl))) (from ! (stop !)) (init ! 32 refl (array-lawful 𝓤 H A W R (LL.lawful D L 𝓤 H A W) 256 .typed rs _ isr .0)) $
         assigns ! (of-opd ! (load ! (from ! (stop !)) (look ! 46 refl))) (from ! (stop !)) (init ! 30 refl (array-lawful 𝓤 H A W u32 (uint-lawful 𝓤 H A W w32) 561 .typed hs _ ish .0)) $
         assigns ! (of-opd ! (load ! (from ! (stop !)) (look ! 44 refl))) (from ! (stop !)) (init ! 28 refl (array-lawful 𝓤 H A W u32 (uint-lawful 𝓤 H A W w32) 1024 .typed fs _ isf .0)) $
@@ -164,23 +146,23 @@ module _ {M : Type 1} (𝓤 : URA M) (H : Heap 𝓤) (A : Atoms 𝓤) (W : Given
         owned ! (Array u8 256) (Is (Array u8 256)) (array-makes 𝓤 H A W u8 (uint-makes 𝓤 H A W w8) 256) us (vu ∷ []) isu $ move ! (36 ∷ 0 ∷ []) $ use2 W (‵ (Elems u8 256 l₁₃ us)) (apart-in u8 256 l₁₃ 𝓤 H A W us tt vu) $ lft-new ! tt (λ νu. move ! (1 ∷ []) $ use1 W (later (some (λ (γ : GName). ‵ (MutSlice (named 0) (νu ∷ []) u8 .own (row-at l₁₃ γ (take ku us)) (sliceVal (l₁₃, 0) ku ∷ [])) ⊛ ‵ (LentPart u8 256 l₁₃ us ku (νu ∷ []) ku γ)))) (lends-part u8 256 l₁₃ us ku (νu ∷ []) 𝓤 H A W (isu .1 .0 .1) (bound .2) (lit< tt, lit< tt)) $ await ! tt $ pick ! (λ γu. split ! $
         nothing ! $ move ! (3 ∷ 0 ∷ []) $ join ! $ move ! (5 ∷ 0 ∷ []) $ join ! $ move ! (7 ∷ 0 ∷ []) $ join ! $ move ! (9 ∷ 0 ∷ []) $ join ! $ nothing ! $ move ! (2 ∷ 0 ∷ []) $ fjoin ! $ move ! (3 ∷ 0 ∷ []) $ fjoin ! $ move ! (4 ∷ 0 ∷ []) $ fjoin ! $ move ! (5 ∷ 0 ∷ []) $ fjoin ! $ move ! (0 ∷ 1 ∷ []) $ join ! $
         passes (fmOf 𝓤 H (W .laws) 𝓣) apply.ended (apply.clauses 𝓤 H A mem run) known-apply (to-apply l₁₀ l₁₁ l₁₂ l₁₃ νr νh νf νu γr γh γf γu (take kr rs) (take kh hs) fs (take ku us)) (told-apply l₁₀ l₁₁ l₁₂ l₁₃ νr νh νf νu γr γh γf γu (take kr rs) (take kh hs) fs (take ku us)) (λ r ws. id⊢ 𝓤 _) ! (‵ (lent-four l₁₀ l₁₁ l₁₂ l₁₃ νr νh νf νu γr γh γf γu (take kr rs) (take kh hs) fs (take ku us)) ⊛ tokens νr νh νf νu) (goes-apply l₁₀ l₁₁ l₁₂ l₁₃ νr νh νf νu γr γh γf γu (take kr rs) (take kh hs) fs (take ku us))
-        (λ j. and-then ! (load ! (from ! (stop !)) (look ! 51 refl)) (and-then ! (load ! (from ! (stop !)) (look ! 25 refl)) (and-then ! (load ! (from ! (stop !)) (look ! 21 refl)) (and-then ! (load ! (from ! (stop !)) (look ! 17 refl)) (and-then ! (load ! (from ! (stop !)) (look ! 13 refl)) (and-then ! (load ! (from ! (stop !)) (look ! 35 refl)) (no-more !))))))) (λ o ov ws e iso.
+        (λ j. and-then ! (load ! (from ! (stop !)) (look ! 51 {τ = S′.mir} {v = stv} refl)) (and-then ! (load ! (from ! (stop !)) (look ! 25 refl)) (and-then ! (load ! (from ! (stop !)) (look ! 21 refl)) (and-then ! (load ! (from ! (stop !)) (look ! 17 refl)) (and-then ! (load ! (from ! (stop !)) (look ! 13 refl)) (and-then ! (load ! (from ! (stop !)) (look ! 35 {τ = Cl′.mir} {v = clv} refl)) (no-more !))))))) (λ o ov ws e iso.
         fsplit ! $ drop ! $ fsplit ! $ fsplit ! $ move ! (1 ∷ []) $ feqL ! (λ same-r. move ! (1 ∷ []) $ fsplit ! $ fsplit ! $ move ! (1 ∷ []) $ feqL ! (λ same-h. move ! (1 ∷ []) $ fsplit ! $ fsplit ! $ move ! (1 ∷ []) $ feqL ! (λ same-f. move ! (1 ∷ []) $ fsplit ! $ fsplit ! $ move ! (1 ∷ []) $ feqL ! (λ same-u. move ! (1 ∷ []) $ drop ! $
-        land ! (from ! (stop !)) (init ! 33 refl (LL.lawful Op.the-type Op′.the-laws 𝓤 H A W .typed o _ iso .0)) $ move ! (4 ∷ []) $ use1 W (tokens νr νh νf νu) (id⊢ 𝓤 _) $ split ! $ move ! (1 ∷ []) $ split ! $ move ! (1 ∷ []) $ split ! $ move ! (1 ∷ []) $ split ! $ move ! (1 ∷ []) $ drop ! $
-        move ! (3 ∷ []) $ lft-end ! tt $ move ! (0 ∷ 11 ∷ 7 ∷ []) $ use3 W (later (‵ (Elems R 256 l₁₀ (ws .1 .0 ++ drop-list kr rs)))) (comes-part R 256 l₁₀ rs kr (νr ∷ []) 𝓤 H A W (isr .1 .0 .1) (bound .0) γr (ws .1 .0)) $ await ! tt $ use1 W (‵ (fat fullShare (τ R 256 l₁₀) l₁₀ 0 (only (array-vals vals (ws .1 .0 ++ drop-list kr rs)))) ⊛ ‵ (Array R 256 .own (ws .1 .0 ++ drop-list kr rs) (array-vals vals (ws .1 .0 ++ drop-list kr rs)))) (value-out R 256 l₁₀ 𝓤 H A W (ws .1 .0 ++ drop-list kr rs) vals tells) $ split ! $ move ! (1 ∷ []) $ facts ! (Array R 256) (Is (Array R 256)) (shows 𝓤 H A (Array R 256)) (ws .1 .0 ++ drop-list kr rs) (array-vals vals (ws .1 .0 ++ drop-list kr rs)) (λ nowr.
-        move ! (3 ∷ []) $ lft-end ! tt $ move ! (0 ∷ 9 ∷ 6 ∷ []) $ use3 W (later (‵ (Elems u32 561 l₁₁ (ws .1 .1 .0 ++ drop-list kh hs)))) (comes-part u32 561 l₁₁ hs kh (νh ∷ []) 𝓤 H A W (ish .1 .0 .1) (bound .1) γh (ws .1 .1 .0)) $ await ! tt $ use1 W (‵ (fat fullShare (τ u32 561 l₁₁) l₁₁ 0 (only (array-vals (uint-vals w32) (ws .1 .1 .0 ++ drop-list kh hs)))) ⊛ ‵ (Array u32 561 .own (ws .1 .1 .0 ++ drop-list kh hs) (array-vals (uint-vals w32) (ws .1 .1 .0 ++ drop-list kh hs)))) (value-out u32 561 l₁₁ 𝓤 H A W (ws .1 .1 .0 ++ drop-list kh hs) (uint-vals w32) (uint-tells w32)) $ split ! $ move ! (1 ∷ []) $ facts ! (Array u32 561) (Is (Array u32 561)) (shows 𝓤 H A (Array u32 561)) (ws .1 .1 .0 ++ drop-list kh hs) (array-vals (uint-vals w32) (ws .1 .1 .0 ++ drop-list kh hs)) (λ nowh.
-        move ! (3 ∷ []) $ lft-end ! tt $ move ! (0 ∷ 7 ∷ 5 ∷ []) $ use3 W (later (‵ (Elems u32 1024 l₁₂ (ws .1 .1 .1 .0)))) (comes u32 1024 l₁₂ 𝓤 H A W (ws .1 .1 .1 .0) (νf ∷ []) γf) $ await ! tt $ use1 W (‵ (fat fullShare (τ u32 1024 l₁₂) l₁₂ 0 (only (array-vals (uint-vals w32) (ws .1 .1 .1 .0)))) ⊛ ‵ (Array u32 1024 .own (ws .1 .1 .1 .0) (array-vals (uint-vals w32) (ws .1 .1 .1 .0)))) (value-out u32 1024 l₁₂ 𝓤 H A W (ws .1 .1 .1 .0) (uint-vals w32) (uint-tells w32)) $ split ! $ move ! (1 ∷ []) $ facts ! (Array u32 1024) (Is (Array u32 1024)) (shows 𝓤 H A (Array u32 1024)) (ws .1 .1 .1 .0) (array-vals (uint-vals w32) (ws .1 .1 .1 .0)) (λ nowf.
-        move ! (3 ∷ []) $ lft-end ! tt $ move ! (0 ∷ 5 ∷ 4 ∷ []) $ use3 W (later (‵ (Elems u8 256 l₁₃ (ws .1 .1 .1 .1 .0 ++ drop-list ku us)))) (comes-part u8 256 l₁₃ us ku (νu ∷ []) 𝓤 H A W (isu .1 .0 .1) (bound .2) γu (ws .1 .1 .1 .1 .0)) $ await ! tt $ use1 W (‵ (fat fullShare (τ u8 256 l₁₃) l₁₃ 0 (only (array-vals (uint-vals w8) (ws .1 .1 .1 .1 .0 ++ drop-list ku us)))) ⊛ ‵ (Array u8 256 .own (ws .1 .1 .1 .1 .0 ++ drop-list ku us) (array-vals (uint-vals w8) (ws .1 .1 .1 .1 .0 ++ drop-list ku us)))) (value-out u8 256 l₁₃ 𝓤 H A W (ws .1 .1 .1 .1 .0 ++ drop-list ku us) (uint-vals w8) (uint-tells w8)) $ split ! $ move ! (1 ∷ []) $ facts ! (Array u8 256) (Is (Array u8 256)) (shows 𝓤 H A (Array u8 256)) (ws .1 .1 .1 .1 .0 ++ drop-list ku us) (array-vals (uint-vals w8) (ws .1 .1 .1 .1 .0 ++ drop-list ku us)) (λ nowu.
+        land ! (from ! (stop !)) (init ! 33 {τ = Op′.mir} {v = ov} refl (LL.lawful Op.the-type Op′.the-laws 𝓤 H A W .typed o _ iso .0)) $ move ! (4 ∷ []) $ use1 W (tokens νr νh νf νu) (id⊢ 𝓤 _) $ split ! $ move ! (1 ∷ []) $ split ! $ move ! (1 ∷ []) $ split ! $ move ! (1 ∷ []) $ split ! $ move ! (1 ∷ []) $ drop ! $
+        move ! (3 ∷ []) $ lft-end ! tt $ move ! (0 ∷ 11 ∷ 7 ∷ []) $ use3 W (later (‵ (Elems R 256 l₁₀ (ws .1 .0 ++ drop-list kr rs)))) (comes-part R 256 l₁₀ rs kr (νr ∷ []) 𝓤 H A W (isr .1 .0 .1) (bound .0) γr (ws .1 .0)) $ await ! tt $ use1 W (some (λ (v : Val). ‵ (fat fullShare (τ R 256 l₁₀) l₁₀ 0 v) ⊛ ‵ (Array R 256 .own (ws .1 .0 ++ drop-list kr rs) (v ∷ [])))) (value-out R 256 l₁₀ 𝓤 H A W (ws .1 .0 ++ drop-list kr rs)) $ pick ! (λ nr. split ! $ move ! (1 ∷ []) $ facts ! (Array R 256) (Is (Array R 256)) (shows 𝓤 H A (Array R 256)) (ws .1 .0 ++ drop-list kr rs) (nr ∷ []) (λ nowr.
+        move ! (3 ∷ []) $ lft-end ! tt $ move ! (0 ∷ 9 ∷ 6 ∷ []) $ use3 W (later (‵ (Elems u32 561 l₁₁ (ws .1 .1 .0 ++ drop-list kh hs)))) (comes-part u32 561 l₁₁ hs kh (νh ∷ []) 𝓤 H A W (ish .1 .0 .1) (bound .1) γh (ws .1 .1 .0)) $ await ! tt $ use1 W (some (λ (v : Val). ‵ (fat fullShare (τ u32 561 l₁₁) l₁₁ 0 v) ⊛ ‵ (Array u32 561 .own (ws .1 .1 .0 ++ drop-list kh hs) (v ∷ [])))) (value-out u32 561 l₁₁ 𝓤 H A W (ws .1 .1 .0 ++ drop-list kh hs)) $ pick ! (λ nh. split ! $ move ! (1 ∷ []) $ facts ! (Array u32 561) (Is (Array u32 561)) (shows 𝓤 H A (Array u32 561)) (ws .1 .1 .0 ++ drop-list kh hs) (nh ∷ []) (λ nowh.
+        move ! (3 ∷ []) $ lft-end ! tt $ move ! (0 ∷ 7 ∷ 5 ∷ []) $ use3 W (later (‵ (Elems u32 1024 l₁₂ (ws .1 .1 .1 .0)))) (comes u32 1024 l₁₂ 𝓤 H A W (ws .1 .1 .1 .0) (νf ∷ []) γf) $ await ! tt $ use1 W (some (λ (v : Val). ‵ (fat fullShare (τ u32 1024 l₁₂) l₁₂ 0 v) ⊛ ‵ (Array u32 1024 .own (ws .1 .1 .1 .0) (v ∷ [])))) (value-out u32 1024 l₁₂ 𝓤 H A W (ws .1 .1 .1 .0)) $ pick ! (λ nf. split ! $ move ! (1 ∷ []) $ facts ! (Array u32 1024) (Is (Array u32 1024)) (shows 𝓤 H A (Array u32 1024)) (ws .1 .1 .1 .0) (nf ∷ []) (λ nowf.
+        move ! (3 ∷ []) $ lft-end ! tt $ move ! (0 ∷ 5 ∷ 4 ∷ []) $ use3 W (later (‵ (Elems u8 256 l₁₃ (ws .1 .1 .1 .1 .0 ++ drop-list ku us)))) (comes-part u8 256 l₁₃ us ku (νu ∷ []) 𝓤 H A W (isu .1 .0 .1) (bound .2) γu (ws .1 .1 .1 .1 .0)) $ await ! tt $ use1 W (some (λ (v : Val). ‵ (fat fullShare (τ u8 256 l₁₃) l₁₃ 0 v) ⊛ ‵ (Array u8 256 .own (ws .1 .1 .1 .1 .0 ++ drop-list ku us) (v ∷ [])))) (value-out u8 256 l₁₃ 𝓤 H A W (ws .1 .1 .1 .1 .0 ++ drop-list ku us)) $ pick ! (λ nu. split ! $ move ! (1 ∷ []) $ facts ! (Array u8 256) (Is (Array u8 256)) (shows 𝓤 H A (Array u8 256)) (ws .1 .1 .1 .1 .0 ++ drop-list ku us) (nu ∷ []) (λ nowu.
         assigns ! (of-opd ! (load ! (from ! (stop !)) (look ! 3 refl))) (from ! (stop !)) (init ! 10 refl (array-lawful 𝓤 H A W R (LL.lawful D L 𝓤 H A W) 256 .typed (ws .1 .0 ++ drop-list kr rs) _ nowr .0)) $
         assigns ! (of-opd ! (load ! (from ! (stop !)) (look ! 2 refl))) (from ! (stop !)) (init ! 8 refl (array-lawful 𝓤 H A W u32 (uint-lawful 𝓤 H A W w32) 561 .typed (ws .1 .1 .0 ++ drop-list kh hs) _ nowh .0)) $
         assigns ! (of-opd ! (load ! (from ! (stop !)) (look ! 1 refl))) (from ! (stop !)) (init ! 6 refl (array-lawful 𝓤 H A W u32 (uint-lawful 𝓤 H A W w32) 1024 .typed (ws .1 .1 .1 .0) _ nowf .0)) $
         assigns ! (of-opd ! (load ! (from ! (stop !)) (look ! 0 refl))) (from ! (stop !)) (init ! 4 refl (array-lawful 𝓤 H A W u8 (uint-lawful 𝓤 H A W w8) 256 .typed (ws .1 .1 .1 .1 .0 ++ drop-list ku us) _ nowu .0)) $
-        gives (fmOf 𝓤 H (W .laws) 𝓣) gathered.ended (gathered.clauses 𝓤 H A mem run) known-gathered (to-gathered o ov (ws .1 .0 ++ drop-list kr rs) (ws .1 .1 .0 ++ drop-list kh hs) (ws .1 .1 .1 .0) (ws .1 .1 .1 .1 .0 ++ drop-list ku us)) (λ r. r ≡ gatheredOf o (ws .1 .0 ++ drop-list kr rs) (ws .1 .1 .0 ++ drop-list kh hs) (ws .1 .1 .1 .0) (ws .1 .1 .1 .1 .0 ++ drop-list ku us)) (λ r e′. id⊢ 𝓤 _) ! (goes-gathered o ov (ws .1 .0 ++ drop-list kr rs) (ws .1 .1 .0 ++ drop-list kh hs) (ws .1 .1 .1 .0) (ws .1 .1 .1 .1 .0 ++ drop-list ku us) iso nowr nowh nowf nowu)
-        (λ j. and-then ! (load ! (from ! (stop !)) (look ! 29 refl)) (and-then ! (load ! (from ! (stop !)) (look ! 11 refl)) (and-then ! (load ! (from ! (stop !)) (look ! 9 refl)) (and-then ! (load ! (from ! (stop !)) (look ! 7 refl)) (and-then ! (load ! (from ! (stop !)) (look ! 5 refl)) (no-more !)))))) (λ r v er is.
-        drop ! $ land ! (from ! (stop !)) (init ! 52 refl (LL.lawful Re.the-type Re′.the-laws 𝓤 H A W .typed r _ is .0)) $ returns ! (look ! 52 refl) $
+        gives (fmOf 𝓤 H (W .laws) 𝓣) gathered.ended (gathered.clauses 𝓤 H A mem run) known-gathered (to-gathered o ov (ws .1 .0 ++ drop-list kr rs) (ws .1 .1 .0 ++ drop-list kh hs) (ws .1 .1 .1 .0) (ws .1 .1 .1 .1 .0 ++ drop-list ku us) nr nh nf nu) (λ r. r ≡ gatheredOf o (ws .1 .0 ++ drop-list kr rs) (ws .1 .1 .0 ++ drop-list kh hs) (ws .1 .1 .1 .0) (ws .1 .1 .1 .1 .0 ++ drop-list ku us)) (λ r e′. id⊢ 𝓤 _) ! (goes-gathered o ov (ws .1 .0 ++ drop-list kr rs) (ws .1 .1 .0 ++ drop-list kh hs) (ws .1 .1 .1 .0) (ws .1 .1 .1 .1 .0 ++ drop-list ku us) nr nh nf nu iso nowr nowh nowf nowu)
+        (λ j. and-then ! (load ! (from ! (stop !)) (look ! 29 {τ = Op′.mir} {v = ov} refl)) (and-then ! (load ! (from ! (stop !)) (look ! 11 refl)) (and-then ! (load ! (from ! (stop !)) (look ! 9 refl)) (and-then ! (load ! (from ! (stop !)) (look ! 7 refl)) (and-then ! (load ! (from ! (stop !)) (look ! 5 refl)) (no-more !)))))) (λ r v er is.
+        drop ! $ land ! (from ! (stop !)) (init ! 52 {τ = Re′.mir} {v = v} refl (LL.lawful Re.the-type Re′.the-laws 𝓤 H A W .typed r _ is .0)) $ returns ! (look ! 52 {τ = Re′.mir} {v = v} refl) $
         forget ! 4 refl $ forget ! 6 refl $ forget ! 8 refl $ forget ! 10 refl $ forget ! 12 refl $ forget ! 14 refl $ forget ! 16 refl $ forget ! 18 refl $ forget ! 20 refl $ forget ! 22 refl $ forget ! 24 refl $ forget ! 26 refl $ forget ! 28 refl $ forget ! 0 refl $ forget ! 1 refl $ forget ! 2 refl $ forget ! 3 refl $ forget ! 34 refl $ forget ! 36 refl $ forget ! 38 refl $ forget ! 40 refl $ forget ! 42 refl $ forget ! 44 refl $ forget ! 46 refl $ forget ! 48 refl $ forget ! 50 refl $ forget ! 52 refl $
         move ! (52 ∷ 53 ∷ []) $ free1 ! $ move ! (50 ∷ 51 ∷ []) $ free1 ! $ move ! (48 ∷ 49 ∷ []) $ free1 ! $ move ! (46 ∷ 47 ∷ []) $ free1 ! $ move ! (44 ∷ 45 ∷ []) $ free1 ! $ move ! (42 ∷ 43 ∷ []) $ free1 ! $ move ! (40 ∷ 41 ∷ []) $ free1 ! $ move ! (38 ∷ 39 ∷ []) $ free1 ! $ move ! (36 ∷ 37 ∷ []) $ free1 ! $ move ! (34 ∷ 35 ∷ []) $ free1 ! $ move ! (3 ∷ 33 ∷ []) $ free1 ! $ move ! (2 ∷ 31 ∷ []) $ free1 ! $ move ! (1 ∷ 29 ∷ []) $ free1 ! $ move ! (0 ∷ 27 ∷ []) $ free1 ! $ move ! (24 ∷ 25 ∷ []) $ free1 ! $ move ! (22 ∷ 23 ∷ []) $ free1 ! $ move ! (20 ∷ 21 ∷ []) $ free1 ! $ move ! (18 ∷ 19 ∷ []) $ free1 ! $ move ! (16 ∷ 17 ∷ []) $ free1 ! $ move ! (14 ∷ 15 ∷ []) $ free1 ! $ move ! (12 ∷ 13 ∷ []) $ free1 ! $ move ! (10 ∷ 11 ∷ []) $ free1 ! $ move ! (8 ∷ 9 ∷ []) $ free1 ! $ move ! (6 ∷ 7 ∷ []) $ free1 ! $ move ! (4 ∷ 5 ∷ []) $ free1 ! $ move ! (2 ∷ 3 ∷ []) $ free1 ! $ move ! (0 ∷ 1 ∷ []) $ free1 ! $ free0 ! $
-        keep ! (0 ∷ []) $ by ! (exits r v is (called-rows st rs hs fs us kr kh ku cl o (ws .1 .0) (ws .1 .1 .0) (ws .1 .1 .1 .0) (ws .1 .1 .1 .1 .0) r e er)))))))))))))))))))))))))))))))))))))))))))))))
+        keep ! (0 ∷ []) $ by ! (exits r v is (called-rows st rs hs fs us kr kh ku cl o (ws .1 .0) (ws .1 .1 .0) (ws .1 .1 .1 .0) (ws .1 .1 .1 .1 .0) r e er)))))))))))))))))))))))))))))))))))))))))))))))))))
 
 module _ {M : Type 1} (𝓤 : URA M) (H : Heap 𝓤) (A : Atoms 𝓤) (W : Given 𝓤 H A) (mem : Memory → SProp 𝓤) (run : Routine → Fun 𝓤) (𝓣 : Tables 𝓤 H) (known-apply : Triple 𝓤 (𝓣 .C #apply) (met 𝓤 H A apply.ended (apply.clauses 𝓤 H A mem run))) (known-gathered : Triple 𝓤 (𝓣 .C #gathered) (met 𝓤 H A gathered.ended (gathered.clauses 𝓤 H A mem run))) where
   lend-call-walks : Walks 𝓤 H A f.ended stayed (WpFn 𝓤 H (𝓣 .C) (𝓣 .Λ) code.function) (f.clauses 𝓤 H A mem run)
@@ -188,7 +170,7 @@ module _ {M : Type 1} (𝓤 : URA M) (H : Heap 𝓤) (A : Atoms 𝓤) (W : Given
       (λ κs. (LL.vals S.the-type S′.the-laws, (array-vals vals, (array-vals (uint-vals w32), (array-vals (uint-vals w32), (array-vals (uint-vals w8), (uint-vals w64, (uint-vals w64, (uint-vals w64, (EL.vals Cl.the-type Cl′.the-laws, tt))))))))))
       (λ κs. (LL.tells S.the-type S′.the-laws, (array-tells R vals tells 256, (array-tells u32 (uint-vals w32) (uint-tells w32) 561, (array-tells u32 (uint-vals w32) (uint-tells w32) 1024, (array-tells u8 (uint-vals w8) (uint-tells w8) 256, (uint-tells w64, (uint-tells w64, (uint-tells w64, (EL.tells Cl.the-type Cl′.the-laws, tt))))))))))
       (λ κs qs bounds a g are. needs 𝓤 ((a .1 .1 .1 .1 .1 .0 ≤ 256) × (a .1 .1 .1 .1 .1 .1 .0 ≤ 561) × (a .1 .1 .1 .1 .1 .1 .1 .0 ≤ 256)) _
-      (walk 𝓤 H A W mem run (a .0) (a .1 .0) (a .1 .1 .0) (a .1 .1 .1 .0) (a .1 .1 .1 .1 .0) (a .1 .1 .1 .1 .1 .0) (a .1 .1 .1 .1 .1 .1 .0) (a .1 .1 .1 .1 .1 .1 .1 .0) (a .1 .1 .1 .1 .1 .1 .1 .1 .0) (are .0) (are .1 .0) (are .1 .1 .0) (are .1 .1 .1 .0) (are .1 .1 .1 .1 .0) (are .1 .1 .1 .1 .1 .0 .1) (are .1 .1 .1 .1 .1 .1 .0 .1) (are .1 .1 .1 .1 .1 .1 .1 .0 .1) (are .1 .1 .1 .1 .1 .1 .1 .1 .0) 𝓣 known-apply known-gathered))
+      (walk 𝓤 H A W mem run (a .0) (a .1 .0) (a .1 .1 .0) (a .1 .1 .1 .0) (a .1 .1 .1 .1 .0) (a .1 .1 .1 .1 .1 .0) (a .1 .1 .1 .1 .1 .1 .0) (a .1 .1 .1 .1 .1 .1 .1 .0) (a .1 .1 .1 .1 .1 .1 .1 .1 .0) (only (LL.vals S.the-type S′.the-laws (a .0))) (only (array-vals vals (a .1 .0))) (only (array-vals (uint-vals w32) (a .1 .1 .0))) (only (array-vals (uint-vals w32) (a .1 .1 .1 .0))) (only (array-vals (uint-vals w8) (a .1 .1 .1 .1 .0))) (only (EL.vals Cl.the-type Cl′.the-laws (a .1 .1 .1 .1 .1 .1 .1 .1 .0))) (are .0) (are .1 .0) (are .1 .1 .0) (are .1 .1 .1 .0) (are .1 .1 .1 .1 .0) (are .1 .1 .1 .1 .1 .0 .1) (are .1 .1 .1 .1 .1 .1 .0 .1) (are .1 .1 .1 .1 .1 .1 .1 .0 .1) (are .1 .1 .1 .1 .1 .1 .1 .1 .0) 𝓣 known-apply known-gathered))
 
   lend-call-meets : Meets 𝓤 H A f.signature (WpFn 𝓤 H (𝓣 .C) (𝓣 .Λ) code.function) (f.spec 𝓤 H A mem run)
   lend-call-meets =
