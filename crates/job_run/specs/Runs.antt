@@ -23,7 +23,7 @@ use Rattle.world.specs.Worlds.{blankWorld, callWorld, openWorld}
 use Rattle.job_sheet.specs.declared.record.EndpointRecord.{EndpointRecord}
 use Rattle.job_sheet.specs.declared.record.RequestRecord.{RequestRecord}
 use Rattle.job_sheet.specs.declared.sheet.Job.{Job}
-use Rattle.job_sheet.specs.Sheets.{noEndpoint, noRequest}
+use Rattle.job_sheet.specs.Sheets.{jobOf, noEndpoint, noRequest}
 use Rattle.job_run.specs.declared.run.Ran.{Ran}
 
 -- ---- the controller
@@ -127,7 +127,7 @@ openStep ran k e = opening ran k (callWorld (ran .world) (openCall e))
 -- the first so many
 unfoldable pub openedTo : ℕ → Ran → Job → Ran
 openedTo zero start job = start
-openedTo (suc k) start job = openStep (openedTo k start job) k (getD (job .endpoints) k noEndpoint)
+openedTo (suc k) start job = openStep (openedTo k start job) k (getD (jobOf job .endpoints) k noEndpoint)
 
 -- ---- then the requests are submitted, in order
 
@@ -137,15 +137,16 @@ pickNumber false a b = b
 
 -- "its slot the one that record's opening gave"
 abbrev pub slotOf : List ℕ → ℕ → ℕ
-slotOf slots record′ = pickNumber (ltb record′ 8) (getD slots record′ 255) 255
+slotOf slots place = pickNumber (ltb place 8) (getD slots place 0) 255
 
 abbrev pub pickKind : Bool → EndpointType → EndpointType → EndpointType
 pickKind true a b = a
 pickKind false a b = b
 
 -- "A request's kind is its record's"; one that is not there is refused whatever the kind
-abbrev pub kindFor : List EndpointRecord → ℕ → EndpointType
-kindFor endpoints record′ = pickKind (ltb record′ 8) (kindOf (getD endpoints record′ noEndpoint .kind)) Control
+abbrev pub kindFor : Job → ℕ → EndpointType
+kindFor job place =
+    pickKind (ltb place (job .opens)) (kindOf (getD (jobOf job .endpoints) place noEndpoint .kind)) Control
 
 abbrev pub pickDirection : Bool → Direction → Direction → Direction
 pickDirection true a b = a
@@ -155,11 +156,11 @@ pickDirection false a b = b
 abbrev pub directionOf : ℕ → Direction
 directionOf n = pickDirection (eqb n 0) Out In
 
-unfoldable pub submitCall : List EndpointRecord → List ℕ → RequestRecord → Call
-submitCall endpoints slots t =
+unfoldable pub submitCall : Job → List ℕ → RequestRecord → Call
+submitCall job slots t =
     Submit (slotOf slots (t .endpoint))
     (record {
-      kind = kindFor endpoints (t .endpoint);
+      kind = kindFor job (t .endpoint);
       direction = directionOf (t .direction);
       setup = t .setup;
       address = t .buffer;
@@ -177,13 +178,13 @@ submitting ran k c =
       ids = set (ran .ids) k (idTold (c .answer));
     }
 
-unfoldable pub submitStep : Ran → List EndpointRecord → ℕ → RequestRecord → Ran
-submitStep ran endpoints k t = submitting ran k (callWorld (ran .world) (submitCall endpoints (ran .slots) t))
+unfoldable pub submitStep : Ran → Job → ℕ → RequestRecord → Ran
+submitStep ran job k t = submitting ran k (callWorld (ran .world) (submitCall job (ran .slots) t))
 
 unfoldable pub submittedTo : ℕ → Ran → Job → Ran
 submittedTo zero start job = start
 submittedTo (suc k) start job =
-    submitStep (submittedTo k start job) (job .endpoints) k (getD (job .requests) k noRequest)
+    submitStep (submittedTo k start job) job k (getD (jobOf job .requests) k noRequest)
 
 -- ---- the run of a job
 

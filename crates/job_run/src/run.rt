@@ -23,6 +23,8 @@ use ehci::call::Call;
 use ehci::call::EndpointFields;
 use ehci::reply::Answered;
 use ehci::reply::Given;
+use job_sheet::job::endpoint_of;
+use job_sheet::job::request_of;
 use job_sheet::record::EndpointRecord;
 use job_sheet::record::RequestRecord;
 use job_sheet::sheet::Job;
@@ -133,7 +135,7 @@ fn open_all(start: Ran, job: Job) -> Ran
     let mut ran = start;
     let mut k: usize = 0;
     while k < job.opens {
-        let e = job.endpoints[k];
+        let e = endpoint_of(job, k);
         ran = open_step(ran, k, e);
         k += 1;
     }
@@ -141,20 +143,22 @@ fn open_all(start: Ran, job: Job) -> Ran
 }
 
 // A record that is not there has no slot.
-fn slot_of(slots: [u8; 8], record: u8) -> u8
-    ensures { λ r. ⌜ r ≡ slotOf slots record ⌝ }
+fn slot_of(slots: [u8; 8], place: u8) -> u8
+    ensures { λ r. ⌜ r ≡ slotOf slots place ⌝ }
 {
-    let k = record as usize;
+    let k = place as usize;
     if k < 8 { slots[k] } else { NO_SLOT }
 }
 
 // Its record's kind; a record that is not there is refused whatever the kind.
-fn kind_for(endpoints: [EndpointRecord; 8], record: u8) -> EndpointType
-    ensures { λ r. ⌜ r ≡ kindFor endpoints record ⌝ }
+fn kind_for(job: Job, place: u8) -> EndpointType
+    requires { ⌜ job .opens ≤ 8 ⌝ }
+    ensures { λ r. ⌜ r ≡ kindFor job place ⌝ }
 {
-    let k = record as usize;
-    if k < 8 {
-        let e = endpoints[k];
+    let k = place as usize;
+    let opens = job.opens;
+    if k < opens {
+        let e = endpoint_of(job, k);
         kind_of(e.kind)
     } else {
         EndpointType::Control
@@ -171,18 +175,23 @@ fn direction_of(number: u8) -> Direction
     }
 }
 
-fn submit_call(endpoints: [EndpointRecord; 8], slots: [u8; 8], t: RequestRecord) -> Call
-    ensures { λ r. ⌜ r ≡ submitCall endpoints slots t ⌝ }
+fn submit_call(job: Job, slots: [u8; 8], t: RequestRecord) -> Call
+    requires { ⌜ job .opens ≤ 8 ⌝ }
+    ensures { λ r. ⌜ r ≡ submitCall job slots t ⌝ }
 {
+    let slot = slot_of(slots, t.endpoint);
+    let kind = kind_for(job, t.endpoint);
+    let direction = direction_of(t.direction);
+    let request = TransferRequest {
+        kind,
+        direction,
+        setup: t.setup,
+        address: t.buffer,
+        length: t.length as u64,
+    };
     Call::Submit(
-        slot_of(slots, t.endpoint),
-        TransferRequest {
-            kind: kind_for(endpoints, t.endpoint),
-            direction: direction_of(t.direction),
-            setup: t.setup,
-            address: t.buffer,
-            length: t.length as u64,
-        },
+        slot,
+        request,
         Readings {
             command: 0,
             frame: 0,
@@ -190,13 +199,13 @@ fn submit_call(endpoints: [EndpointRecord; 8], slots: [u8; 8], t: RequestRecord)
     )
 }
 
-fn submit_step(mut ran: Ran, endpoints: [EndpointRecord; 8], k: usize, t: RequestRecord) -> Ran
-    requires { ⌜ k < 64 ⌝ }
-    ensures { λ r. ⌜ r ≡ submitStep ran endpoints k t ⌝ }
+fn submit_step(mut ran: Ran, job: Job, k: usize, t: RequestRecord) -> Ran
+    requires { ⌜ (k < 64) × (job .opens ≤ 8) ⌝ }
+    ensures { λ r. ⌜ r ≡ submitStep ran job k t ⌝ }
 {
     let before = ran.world;
     let slots = ran.slots;
-    let called = call_on(before, submit_call(endpoints, slots, t));
+    let called = call_on(before, submit_call(job, slots, t));
     let answer = called.answer;
     let after = called.world;
     ran.world = after;
@@ -206,15 +215,14 @@ fn submit_step(mut ran: Ran, endpoints: [EndpointRecord; 8], k: usize, t: Reques
 }
 
 fn submit_all(start: Ran, job: Job) -> Ran
-    requires { ⌜ job .submits ≤ 64 ⌝ }
+    requires { ⌜ (job .opens ≤ 8) × (job .submits ≤ 64) ⌝ }
     ensures { λ r. ⌜ r ≡ submittedTo (job .submits) start job ⌝ }
 {
     let mut ran = start;
     let mut k: usize = 0;
     while k < job.submits {
-        let t = job.requests[k];
-        let endpoints = job.endpoints;
-        ran = submit_step(ran, endpoints, k, t);
+        let t = request_of(job, k);
+        ran = submit_step(ran, job, k, t);
         k += 1;
     }
     ran

@@ -1,0 +1,86 @@
+-- Cases of a job's run, from what the callees say.
+use Prim.Native.Nat.{ℕ, suc, _+_, _≤_, _<_}
+use mathlib.Core.Path.{_≡_, refl, sym, ap, _∙_}
+use mathlib.Core.Bool.{Bool, true, false}
+use mathlib.Core.List.{List}
+use native.Mathlib.Numerals.{add-one}
+use borrow.Author.Tests.{le-ltb, lt-ltb}
+use lib.Dec.{eqb, eqb→eq}
+use lib.ListN.{getD, set}
+use Rattle.token.specs.declared.request.Direction.{Direction}
+use Rattle.token.specs.declared.request.Direction.the-variants.{Out, In}
+use Rattle.token.specs.declared.request.EndpointType.{EndpointType}
+use Rattle.token.specs.declared.request.EndpointType.the-variants.{Control}
+use Rattle.pipe.specs.Endpoints.{kindOf}
+use Rattle.ehci.specs.declared.call.Call.{Call}
+use Rattle.ehci.specs.declared.call.Call.the-variants.{OpenEndpoint, Submit}
+use Rattle.ehci.specs.Replies.{answeredNumber}
+use Rattle.world.specs.declared.world.Called.{Called}
+use Rattle.world.specs.declared.world.World.{World}
+use Rattle.world.specs.Worlds.{callWorld}
+use Rattle.job_sheet.specs.declared.record.EndpointRecord.{EndpointRecord}
+use Rattle.job_sheet.specs.declared.record.RequestRecord.{RequestRecord}
+use Rattle.job_sheet.specs.declared.sheet.Job.{Job}
+use Rattle.job_sheet.specs.Sheets.{jobOf, noEndpoint, noRequest}
+use Rattle.job_run.specs.declared.run.Ran.{Ran}
+use Rattle.job_run.specs.Runs.{afterCall, directionOf, idTold, kindFor, openCall, openStep, openedTo, slotOf, slotTold, submitCall, submitStep, submittedTo}
+
+pub after-is : (c : Called) (w : World) (call : Call) → c ≡ callWorld w call → c .world ≡ afterCall w call
+after-is c w call e = ap (λ (x : Called). x .world) e
+
+pub direction-out : (n : ℕ) → n ≡ 0 → Out ≡ directionOf n
+direction-out n e = rw e
+
+pub direction-in : (n : ℕ) → (n ≡ 0 → ⊥) → In ≡ directionOf n
+direction-in n ne = by (eqb n 0) refl
+  where
+    by : (b : Bool) → eqb n 0 ≡ b → In ≡ directionOf n
+    by true q = absurd (ne (eqb→eq n 0 q))
+    by false q = rw q
+
+pub slot-there : (slots : List ℕ) (place : ℕ) → place < 8 → getD slots place 0 ≡ slotOf slots place
+slot-there slots place h = rw (lt-ltb place 8 h)
+
+pub slot-none : (slots : List ℕ) (place : ℕ) → 8 ≤ place → 255 ≡ slotOf slots place
+slot-none slots place h = rw (le-ltb place 8 h)
+
+pub kind-there : (job : Job) (place : ℕ) (e : EndpointRecord) (k : EndpointType) → place < job .opens → e ≡ getD (jobOf job .endpoints) place noEndpoint
+    → k ≡ kindOf (e .kind) → k ≡ kindFor job place
+kind-there job place e k h ee ek = ek ∙ ap (λ (x : EndpointRecord). kindOf (x .kind)) ee ∙ rw (lt-ltb place (job .opens) h)
+
+pub kind-none : (job : Job) (place : ℕ) → job .opens ≤ place → Control ≡ kindFor job place
+kind-none job place h = rw (le-ltb place (job .opens) h)
+
+pub open-call-is : (e : EndpointRecord) (k : EndpointType) → k ≡ kindOf (e .kind)
+    → OpenEndpoint (record { kind = k; address = e .address; number = e .number; packet = e .packet }) ≡ openCall e
+open-call-is e k h = rw h
+
+pub submit-call-is : (job : Job) (slots : List ℕ) (t : RequestRecord) (slot : ℕ) (k : EndpointType) (d : Direction) → slot ≡ slotOf slots (t .endpoint)
+    → k ≡ kindFor job (t .endpoint) → d ≡ directionOf (t .direction)
+    → Submit slot (record { kind = k; direction = d; setup = t .setup; address = t .buffer; length = t .length }) (record { command = 0; frame = 0 }) ≡ submitCall job slots t
+unfolding submitCall
+submit-call-is job slots t slot k d es ek ed = rw (es, ek, ed)
+
+pub open-step-is : (ran : Ran) (k : ℕ) (e : EndpointRecord) (call : Call) (c : Called) (n slot : ℕ) → call ≡ openCall e → c ≡ callWorld (ran .world) call
+    → n ≡ answeredNumber (c .answer) → slot ≡ slotTold (c .answer)
+    → record { world = c .world; opened = set (ran .opened) k n; slots = set (ran .slots) k slot; submitted = ran .submitted; ids = ran .ids } ≡ openStep ran k e
+unfolding openStep
+open-step-is ran k e call c n slot el ec en es = rw (en, es, ec, el)
+
+pub submit-step-is : (ran : Ran) (job : Job) (k : ℕ) (t : RequestRecord) (call : Call) (c : Called) (n id : ℕ) → call ≡ submitCall job (ran .slots) t
+    → c ≡ callWorld (ran .world) call → n ≡ answeredNumber (c .answer) → id ≡ idTold (c .answer)
+    → record { world = c .world; opened = ran .opened; slots = ran .slots; submitted = set (ran .submitted) k n; ids = set (ran .ids) k id } ≡ submitStep ran job k t
+unfolding submitStep
+submit-step-is ran job k t call c n id el ec en ei = rw (en, ei, ec, el)
+
+-- ---- one turn more
+
+pub open-turn : (start : Ran) (job : Job) (k : ℕ) (ran next : Ran) (e : EndpointRecord) → ran ≡ openedTo k start job → e ≡ getD (jobOf job .endpoints) k noEndpoint
+    → next ≡ openStep ran k e → next ≡ openedTo (k + 1) start job
+unfolding openedTo
+open-turn start job k ran next e er ee en = en ∙ rw (er, ee) (ap (λ (m : ℕ). openedTo m start job) (sym (add-one k)))
+
+pub submit-turn : (start : Ran) (job : Job) (k : ℕ) (ran next : Ran) (t : RequestRecord) → ran ≡ submittedTo k start job → t ≡ getD (jobOf job .requests) k noRequest
+    → next ≡ submitStep ran job k t → next ≡ submittedTo (k + 1) start job
+unfolding submittedTo
+submit-turn start job k ran next t er et en = en ∙ rw (er, et) (ap (λ (m : ℕ). submittedTo m start job) (sym (add-one k)))
