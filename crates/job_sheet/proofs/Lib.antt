@@ -6,4 +6,5 @@ pub mod Tables
 pub mod RecordLaws
 pub mod SheetLaws
 pub mod ListingCases
+pub mod OutcomeCases
 pub mod ListingExamples

@@ -42,7 +42,7 @@ Put o at a p i = (p ≡ putAt o at a) × (i ≡ at + length a)
 
 module _ (o : List ℕ) (at : ℕ) (h : at ≤ length o) where
   -- one more put
-  then : (a p b q : List ℕ) (i r : ℕ) → Put o at a p i → Put p i b q r → Put o at (a ++ b) q r
+  pub then : (a p b q : List ℕ) (i r : ℕ) → Put o at a p i → Put p i b q r → Put o at (a ++ b) q r
   then a p b q i r f g = put-then o p q a b at i r h (f .0) (f .1) (g .0) (g .1)
 
   pub number-put : (p q : List ℕ) (i r n : ℕ) → Put o at (32 ∷ []) p i → Put p i (decimal n) q r → Put o at (numberField n) q r

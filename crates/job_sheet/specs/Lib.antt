@@ -2,3 +2,4 @@ pub mod Numbers
 pub mod Sheets
 pub mod Reading
 pub mod Listing
+pub mod Outcomes

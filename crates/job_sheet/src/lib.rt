@@ -2,5 +2,6 @@
 pub mod job;
 pub mod listing;
 pub mod number;
+pub mod outcome;
 pub mod record;
 pub mod sheet;
