@@ -4,26 +4,29 @@ use mathlib.Core.Path.{_≡_, refl, sym, ap, _∙_}
 use mathlib.Core.Bool.{Bool, true, false}
 use mathlib.Core.List.{List}
 use native.Mathlib.Numerals.{add-one}
-use borrow.Author.Tests.{le-ltb, lt-ltb}
-use lib.Dec.{eqb, eqb→eq}
-use lib.ListN.{getD, set}
+use native.Mathlib.Omega.{arith}
+use borrow.Author.Tests.{eqb-true, le-ltb, lt-ltb}
+use lib.Dec.{eqb}
+use lib.ListN.{getD, replicate, set}
 use Rattle.token.specs.declared.request.Direction.{Direction}
 use Rattle.token.specs.declared.request.Direction.the-variants.{Out, In}
 use Rattle.token.specs.declared.request.EndpointType.{EndpointType}
 use Rattle.token.specs.declared.request.EndpointType.the-variants.{Control}
 use Rattle.pipe.specs.Endpoints.{kindOf}
 use Rattle.ehci.specs.declared.call.Call.{Call}
-use Rattle.ehci.specs.declared.call.Call.the-variants.{OpenEndpoint, Submit}
+use Rattle.ehci.specs.declared.call.Call.the-variants.{BringUpStep, OpenEndpoint, StartBringUp, Submit}
 use Rattle.ehci.specs.Replies.{answeredNumber}
 use Rattle.world.specs.declared.world.Called.{Called}
+use Rattle.world.specs.declared.world.OpenedWorld.{OpenedWorld}
 use Rattle.world.specs.declared.world.World.{World}
-use Rattle.world.specs.Worlds.{callWorld}
+use Rattle.settings.specs.declared.settings.Settings.{Settings}
+use Rattle.world.specs.Worlds.{blankWorld, callWorld, openWorld}
 use Rattle.job_sheet.specs.declared.record.EndpointRecord.{EndpointRecord}
 use Rattle.job_sheet.specs.declared.record.RequestRecord.{RequestRecord}
 use Rattle.job_sheet.specs.declared.sheet.Job.{Job}
 use Rattle.job_sheet.specs.Sheets.{jobOf, noEndpoint, noRequest}
 use Rattle.job_run.specs.declared.run.Ran.{Ran}
-use Rattle.job_run.specs.Runs.{afterCall, directionOf, idTold, kindFor, openCall, openStep, openedTo, slotOf, slotTold, submitCall, submitStep, submittedTo}
+use Rattle.job_run.specs.Runs.{afterCall, afterCalls, directionOf, idTold, kindFor, openCall, openStep, openedTo, runOf, runningWorld, sheetSettings, slotOf, slotTold, submitCall, submitStep, submittedTo}
 
 pub after-is : (c : Called) (w : World) (call : Call) → c ≡ callWorld w call → c .world ≡ afterCall w call
 after-is c w call e = ap (λ (x : Called). x .world) e
@@ -35,7 +38,7 @@ pub direction-in : (n : ℕ) → (n ≡ 0 → ⊥) → In ≡ directionOf n
 direction-in n ne = by (eqb n 0) refl
   where
     by : (b : Bool) → eqb n 0 ≡ b → In ≡ directionOf n
-    by true q = absurd (ne (eqb→eq n 0 q))
+    by true q = absurd (ne (eqb-true n 0 q))
     by false q = rw q
 
 pub slot-there : (slots : List ℕ) (place : ℕ) → place < 8 → getD slots place 0 ≡ slotOf slots place
@@ -84,3 +87,25 @@ pub submit-turn : (start : Ran) (job : Job) (k : ℕ) (ran next : Ran) (t : Requ
     → next ≡ submitStep ran job k t → next ≡ submittedTo (k + 1) start job
 unfolding submittedTo
 submit-turn start job k ran next t er et en = en ∙ rw (er, et) (ap (λ (m : ℕ). submittedTo m start job) (sym (add-one k)))
+
+-- the last turn is over
+
+pub open-done : (start : Ran) (job : Job) (k : ℕ) (ran : Ran) → k ≤ job .opens → job .opens ≤ k → ran ≡ openedTo k start job → ran ≡ openedTo (job .opens) start job
+open-done start job k ran le ge e = let same : k ≡ job .opens = omega arith in e ∙ ap (λ (m : ℕ). openedTo m start job) same
+
+pub submit-done : (start : Ran) (job : Job) (k : ℕ) (ran : Ran) → k ≤ job .submits → job .submits ≤ k → ran ≡ submittedTo k start job → ran ≡ submittedTo (job .submits) start job
+submit-done start job k ran le ge e = let same : k ≡ job .submits = omega arith in e ∙ ap (λ (m : ℕ). submittedTo m start job) same
+
+-- ---- the controller
+
+pub running-is : (b : World) (s : Settings) (o : OpenedWorld) (w₁ w₂ w₃ w₄ w₅ w₆ w₇ : World) → b ≡ blankWorld → s ≡ sheetSettings → o ≡ openWorld b s → w₁ ≡ afterCall (o .world) StartBringUp
+    → w₂ ≡ afterCall w₁ (BringUpStep 0) → w₃ ≡ afterCall w₂ (BringUpStep 0x1000) → w₄ ≡ afterCall w₃ (BringUpStep 0) → w₅ ≡ afterCall w₄ (BringUpStep 0)
+    → w₆ ≡ afterCall w₅ (BringUpStep 0) → w₇ ≡ afterCall w₆ (BringUpStep 0) → w₇ ≡ runningWorld
+unfolding runningWorld afterCalls
+running-is b s o w₁ w₂ w₃ w₄ w₅ w₆ w₇ eb es eo e₁ e₂ e₃ e₄ e₅ e₆ e₇ = e₇ ∙ rw (e₆, e₅, e₄, e₃, e₂, e₁, eo, eb, es)
+
+pub run-is : (job : Job) (w : World) (o r : Ran) → w ≡ runningWorld
+    → o ≡ openedTo (job .opens) (record { world = w; opened = replicate 8 0; slots = replicate 8 255; submitted = replicate 64 0; ids = replicate 64 0 }) job
+    → r ≡ submittedTo (job .submits) o job → r ≡ runOf job
+unfolding runOf
+run-is job w o r ew eo er = er ∙ rw (eo, ew)

@@ -1,0 +1,34 @@
+-- What `sheet` prints of a sheet's bytes.
+use Prim.Native.Nat.{ℕ}
+use mathlib.Core.Bool.{Bool, true, false}
+use mathlib.Core.List.{List}
+use Rattle.job_sheet.specs.declared.outcome.Outcome.{Outcome}
+use Rattle.job_sheet.specs.declared.sheet.Sheet.{Sheet}
+use Rattle.job_sheet.specs.Listing.{badLine}
+use Rattle.job_sheet.specs.Outcomes.{listingOf}
+use Rattle.job_sheet.specs.Reading.{sheetOf}
+use Rattle.job_run.specs.declared.run.Ran.{Ran}
+use Rattle.job_run.specs.Runs.{runOf}
+
+-- the answers, and the pool at the end with the owner of each place
+abbrev pub outcomeOf : Ran → Outcome
+outcomeOf ran =
+    record {
+      opened = ran .opened;
+      slots = ran .slots;
+      submitted = ran .submitted;
+      ids = ran .ids;
+      owner = ran .world .state .owner;
+      pool = ran .world .pool;
+    }
+
+abbrev pub printIf : Bool → List ℕ → List ℕ
+printIf true listing = listing
+printIf false listing = badLine
+
+abbrev pub printSheet : Sheet → List ℕ
+printSheet sheet = printIf (sheet .good) (listingOf (sheet .job) (outcomeOf (runOf (sheet .job))))
+
+-- the listing of the job that these bytes are, or "bad sheet" alone
+unfoldable pub printedOf : List ℕ → List ℕ
+printedOf bytes = printSheet (sheetOf bytes)
