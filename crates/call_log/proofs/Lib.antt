@@ -1,2 +1,4 @@
 pub mod Little
+pub mod FieldsLaws
 pub mod RecordCases
+pub mod RecordLaws

@@ -10,6 +10,7 @@ use Rattle.ehci.specs.declared.call.Call.{Call}
 use Rattle.ehci.specs.declared.call.Call.the-variants as C
 use Rattle.pipe.specs.Endpoints.{directionNumber, directionOf, flagNumber, flagOf, kindNumber, kindOf}
 use Rattle.settings.specs.Tests.{both}
+use Rattle.settings.specs.declared.settings.Settings.{Settings}
 use Rattle.call_log.specs.Fields.{bytesOf, bytesSpare, fieldsOf, numbersSpare}
 use Rattle.call_log.specs.declared.fields.Fields.{Fields}
 use Rattle.call_log.specs.declared.record.Entry.{Entry}
@@ -99,11 +100,9 @@ isWord n = ltb n (2 ^ 32)
 unfoldable pub plain : Fields → Entry → Entry
 plain f e = guarded (spare f 0 0) e
 
-unfoldable pub openEntry : Fields → Entry
-openEntry f =
-    guarded (spare f 2 7)
-    (Open
-    (record {
+abbrev pub settingsOf : Fields → Settings
+settingsOf f =
+    record {
       descriptors = f .n1;
       endpoints = f .b1;
       ports = f .b2;
@@ -113,7 +112,10 @@ openEntry f =
       heads = f .n5;
       frames = f .n6;
       setups = f .n7;
-    }))
+    }
+
+unfoldable pub openEntry : Fields → Entry
+openEntry f = guarded (spare f 2 7) (Open (settingsOf f))
 
 unfoldable pub bringUpStep : Fields → Entry
 bringUpStep f = guarded (both (spare f 0 1) (isWord (f .n1))) (ACall (C.BringUpStep (f .n1 % 2 ^ 32)))
@@ -203,3 +205,46 @@ judged f = judgedAs (f .number) f
 
 unfoldable pub entryOf : List ℕ → Entry
 entryOf bs = pickEntry (eqb (length bs) 64) (judged (fieldsOf bs)) Bad
+
+-- ---- entries that have a record
+
+-- what the call's own types hold; six setup bytes; submit is given no FRINDEX
+abbrev pub OwnCall : Call → Type 0
+OwnCall C.StartBringUp = Unit
+OwnCall (C.BringUpStep reading) = reading < 2 ^ 32
+OwnCall C.AllocateAddress = Unit
+OwnCall (C.OpenEndpoint e) = e .packet < 2 ^ 16
+OwnCall (C.Close slot) = Unit
+OwnCall (C.SetAddress slot address) = Unit
+OwnCall (C.SetPacketSize slot size) = Unit
+OwnCall (C.Submit slot t r) = (t .setup < 2 ^ 48) × (r .command < 2 ^ 32) × (r .frame ≡ 0)
+OwnCall (C.Writeback place token) = token < 2 ^ 32
+OwnCall (C.Cancel slot id r) = (r .command < 2 ^ 32) × (r .frame < 2 ^ 32)
+OwnCall (C.Collect slot id r) = (r .command < 2 ^ 32) × (r .frame < 2 ^ 32)
+OwnCall (C.Acknowledge x) = (x .status < 2 ^ 32) × (x .interrupts < 2 ^ 32)
+OwnCall (C.Drain command) = command < 2 ^ 32
+OwnCall C.Rearm = Unit
+OwnCall C.Enable = Unit
+OwnCall C.Disable = Unit
+
+abbrev pub Own : Entry → Type 0
+Own (Open s) = Unit
+Own (ACall call) = OwnCall call
+Own StartScan = Unit
+Own (ScanStep reading) = reading < 2 ^ 32
+Own (PortPower port reading) = reading < 2 ^ 32
+Own Bad = ⊥
+
+-- the seven numbers fit 64 bits
+pub record NumbersFit (f : Fields) : Type 0 where
+  pub fit1 : f .n1 < 2 ^ 64
+  pub fit2 : f .n2 < 2 ^ 64
+  pub fit3 : f .n3 < 2 ^ 64
+  pub fit4 : f .n4 < 2 ^ 64
+  pub fit5 : f .n5 < 2 ^ 64
+  pub fit6 : f .n6 < 2 ^ 64
+  pub fit7 : f .n7 < 2 ^ 64
+
+pub record Representable (e : Entry) : Type 0 where
+  pub numbers : NumbersFit (fieldsFor e)
+  pub own : Own e
