@@ -2,3 +2,4 @@ pub mod Little
 pub mod FieldsLaws
 pub mod RecordCases
 pub mod RecordLaws
+pub mod LineCases

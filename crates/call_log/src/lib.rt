@@ -1,3 +1,4 @@
 // A log of calls: a record of 64 bytes is a call, and what it did is a block of lines.
 pub mod fields;
+pub mod line;
 pub mod record;
