@@ -1,3 +1,4 @@
+pub mod CallLine
 pub mod Lines
 pub mod Fields
 pub mod Records
