@@ -3,3 +3,4 @@ pub mod FieldsLaws
 pub mod RecordCases
 pub mod RecordLaws
 pub mod LineCases
+pub mod CallLineCases

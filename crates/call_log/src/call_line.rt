@@ -26,24 +26,24 @@ use ehci::reply::Given;
 use root_hub::ports::PortEvent;
 
 // An answer that gives nothing.
-fn bare_line(record: u64, call: u8, answer: u8) -> Line
+fn bare_line(n: u64, call: u8, answer: u8) -> Line
     ensures { λ r. ⌜ r .count ≤ 14 ⌝ }
-    ensures { λ r. ⌜ lineBytes r ≡ callLine record call answer [] ⌝ }
+    ensures { λ r. ⌜ lineBytes r ≡ callLine n call answer [] ⌝ }
 {
     line_of_three(
         b'C',
-        Part::Decimal(record),
+        Part::Decimal(n),
         Part::Decimal(call as u64),
         Part::Decimal(answer as u64),
     )
 }
 
-fn line_with(record: u64, call: u8, answer: u8, value: Part) -> Line
+fn line_with(n: u64, call: u8, answer: u8, value: Part) -> Line
     ensures { λ r. ⌜ r .count ≤ 14 ⌝ }
-    ensures { λ r. ⌜ lineBytes r ≡ saidLine 67 (Part.Decimal record ∷ Part.Decimal call ∷ Part.Decimal answer ∷ value ∷ []) ⌝ }
+    ensures { λ r. ⌜ lineBytes r ≡ saidLine 67 (Part.Decimal n ∷ Part.Decimal call ∷ Part.Decimal answer ∷ value ∷ []) ⌝ }
 {
     let mut cells = [Cell { part: Part::Dash }; 14];
-    cells[0] = Cell { part: Part::Decimal(record) };
+    cells[0] = Cell { part: Part::Decimal(n) };
     cells[1] = Cell { part: Part::Decimal(call as u64) };
     cells[2] = Cell { part: Part::Decimal(answer as u64) };
     cells[3] = Cell { part: value };
@@ -77,12 +77,12 @@ fn event_value(event: Event) -> u64
 }
 
 // The event and its value, of a drain.
-fn event_line(record: u64, call: u8, event: u64, value: u64) -> Line
+fn event_line(n: u64, call: u8, event: u64, value: u64) -> Line
     ensures { λ r. ⌜ r .count ≤ 14 ⌝ }
-    ensures { λ r. ⌜ lineBytes r ≡ callLine record call 0 (decimal event ∷ decimal value ∷ []) ⌝ }
+    ensures { λ r. ⌜ lineBytes r ≡ callLine n call 0 (decimal event ∷ decimal value ∷ []) ⌝ }
 {
     let mut cells = [Cell { part: Part::Dash }; 14];
-    cells[0] = Cell { part: Part::Decimal(record) };
+    cells[0] = Cell { part: Part::Decimal(n) };
     cells[1] = Cell { part: Part::Decimal(call as u64) };
     cells[2] = Cell { part: Part::Decimal(0) };
     cells[3] = Cell { part: Part::Decimal(event) };
@@ -104,12 +104,12 @@ fn register_part(read: NextRead) -> Part
 }
 
 // The register to read next, the milliseconds to wait, the event and its port.
-fn step_line(record: u64, call: u8, read: Part, wait: u32, event: u8, port: u8) -> Line
+fn step_line(n: u64, call: u8, read: Part, wait: u32, event: u8, port: u8) -> Line
     ensures { λ r. ⌜ r .count ≤ 14 ⌝ }
-    ensures { λ r. ⌜ lineBytes r ≡ saidLine 67 (Part.Decimal record ∷ Part.Decimal call ∷ Part.Decimal 0 ∷ read ∷ Part.Decimal wait ∷ Part.Decimal event ∷ Part.Decimal port ∷ []) ⌝ }
+    ensures { λ r. ⌜ lineBytes r ≡ saidLine 67 (Part.Decimal n ∷ Part.Decimal call ∷ Part.Decimal 0 ∷ read ∷ Part.Decimal wait ∷ Part.Decimal event ∷ Part.Decimal port ∷ []) ⌝ }
 {
     let mut cells = [Cell { part: Part::Dash }; 14];
-    cells[0] = Cell { part: Part::Decimal(record) };
+    cells[0] = Cell { part: Part::Decimal(n) };
     cells[1] = Cell { part: Part::Decimal(call as u64) };
     cells[2] = Cell { part: Part::Decimal(0) };
     cells[3] = Cell { part: read };
@@ -123,33 +123,33 @@ fn step_line(record: u64, call: u8, read: Part, wait: u32, event: u8, port: u8) 
     }
 }
 
-fn given_line(record: u64, call: u8, given: Given) -> Line
+fn given_line(n: u64, call: u8, given: Given) -> Line
     ensures { λ r. ⌜ r .count ≤ 14 ⌝ }
-    ensures { λ r. ⌜ lineBytes r ≡ givenLine record call given ⌝ }
+    ensures { λ r. ⌜ lineBytes r ≡ givenLine n call given ⌝ }
 {
     match given {
-        Given::Nothing => bare_line(record, call, 0),
-        Given::Slot(slot) => line_with(record, call, 0, Part::Decimal(slot as u64)),
-        Given::Address(address) => line_with(record, call, 0, Part::Decimal(address as u64)),
-        Given::Id(id) => line_with(record, call, 0, Part::Decimal(id)),
-        Given::Length(length) => line_with(record, call, 0, Part::Decimal(length)),
-        Given::No => line_with(record, call, 0, Part::Decimal(0)),
-        Given::Yes => line_with(record, call, 0, Part::Decimal(1)),
-        Given::Event(event) => event_line(record, call, event_number(event), event_value(event)),
-        Given::Next(read, wait) => step_line(record, call, register_part(read), wait, 0, 0),
+        Given::Nothing => bare_line(n, call, 0),
+        Given::Slot(slot) => line_with(n, call, 0, Part::Decimal(slot as u64)),
+        Given::Address(address) => line_with(n, call, 0, Part::Decimal(address as u64)),
+        Given::Id(id) => line_with(n, call, 0, Part::Decimal(id)),
+        Given::Length(length) => line_with(n, call, 0, Part::Decimal(length)),
+        Given::No => line_with(n, call, 0, Part::Decimal(0)),
+        Given::Yes => line_with(n, call, 0, Part::Decimal(1)),
+        Given::Event(event) => event_line(n, call, event_number(event), event_value(event)),
+        Given::Next(read, wait) => step_line(n, call, register_part(read), wait, 0, 0),
     }
 }
 
-pub fn call_line(record: u64, call: u8, answered: Answered) -> Line
+pub fn call_line(n: u64, call: u8, answered: Answered) -> Line
     ensures { λ r. ⌜ r .count ≤ 14 ⌝ }
-    ensures { λ r. ⌜ lineBytes r ≡ answeredLine record call answered ⌝ }
+    ensures { λ r. ⌜ lineBytes r ≡ answeredLine n call answered ⌝ }
 {
     match answered {
-        Answered::Done(given) => given_line(record, call, given),
-        Answered::Pending => bare_line(record, call, 9),
-        Answered::Cancelled => bare_line(record, call, 10),
-        Answered::Failed(token) => line_with(record, call, 11, Part::Word(token)),
-        Answered::Refused(refusal) => bare_line(record, call, refusal.number()),
+        Answered::Done(given) => given_line(n, call, given),
+        Answered::Pending => bare_line(n, call, 9),
+        Answered::Cancelled => bare_line(n, call, 10),
+        Answered::Failed(token) => line_with(n, call, 11, Part::Word(token)),
+        Answered::Refused(refusal) => bare_line(n, call, refusal.number()),
     }
 }
 
@@ -165,7 +165,7 @@ fn port_event_number(event: PortEvent) -> u8
 
 // A scan's start or step, or port power, which reads nothing next and has no event.
 pub fn scan_line(
-    record: u64,
+    n: u64,
     call: u8,
     answer: Answer,
     read: NextRead,
@@ -173,17 +173,17 @@ pub fn scan_line(
     event: PortEvent,
 ) -> Line
     ensures { λ r. ⌜ r .count ≤ 14 ⌝ }
-    ensures { λ r. ⌜ lineBytes r ≡ scanLine record call answer read wait event ⌝ }
+    ensures { λ r. ⌜ lineBytes r ≡ scanLine n call answer read wait event ⌝ }
 {
     match answer {
         Answer::Done => step_line(
-            record,
+            n,
             call,
             register_part(read),
             wait,
             port_event_number(event),
             event.port(),
         ),
-        Answer::Refused(refusal) => bare_line(record, call, refusal.number()),
+        Answer::Refused(refusal) => bare_line(n, call, refusal.number()),
     }
 }

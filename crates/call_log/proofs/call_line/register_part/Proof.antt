@@ -18,7 +18,7 @@ returns c = search needs
 
 -- src/call_line.rt:97:1
 returns-2 : tie.Need-returns-2
-returns-2 c = ?
+returns-2 c = rw (c .before .read .given .1)
 
 pub register-part-spec : {M : Type 1} → statement M
 register-part-spec = tie.close (tie.spec enum-told enum-known-read returns returns-2)
