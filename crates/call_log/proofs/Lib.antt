@@ -4,3 +4,4 @@ pub mod RecordCases
 pub mod RecordLaws
 pub mod LineCases
 pub mod CallLineCases
+pub mod ChangeCases

@@ -4,3 +4,4 @@ pub mod fields;
 pub mod line;
 pub mod lines;
 pub mod record;
+pub mod rows;
