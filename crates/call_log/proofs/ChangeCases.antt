@@ -8,14 +8,17 @@ use native.Mathlib.Numerals.{add-one}
 use native.Mathlib.Omega.{arith}
 use borrow.Author.Tests.{eq-eqb, ne-eqb}
 use lib.Dec.{eqb}
-use lib.ListN.{length, length-append}
+use lib.ListN.{getD, length, length-append}
 use Rattle.opening.specs.Rows.{putAt}
+use Rattle.pool.specs.Chains.{blank}
+use Rattle.register.specs.declared.writes.Write.{Write}
 use Rattle.settings.specs.Tests.{both}
-use Rattle.text.specs.Text.{decimal, hex, pickBytes}
+use Rattle.text.specs.Text.{decimal, hex, pickBytes, pickNumber}
 use Rattle.text.proofs.Puts.{put-none, put-then}
 use Rattle.text.proofs.TextLaws.{decimal-length, hex-length}
-use Rattle.call_log.specs.Changes.{headChange, portChange, upTo}
-use Rattle.call_log.specs.Lines.{headLine, lineBytes, lineOf, portLine}
+use Rattle.descriptor.specs.declared.qtd.QueueTransferDescriptor.{QueueTransferDescriptor}
+use Rattle.call_log.specs.Changes.{firstOf, frameChange, goesOn, headChange, portChange, recordChange, runEnds, sameEight, sameRecord, setupChange, shownIf, upTo}
+use Rattle.call_log.specs.Lines.{frameLine, headLine, lineBytes, lineOf, portLine, recordLine, setupLine, writeLine}
 use Rattle.call_log.specs.declared.line.Line.{Line}
 
 -- ---- a loop that puts what is said of 0, 1, ..
@@ -82,3 +85,54 @@ module _ (o : List ℕ) (at : ℕ) (t : Bool) (l : List ℕ) where
   pub shows : (p : List ℕ) (r : ℕ) (line : Line) → t ≡ false → lineBytes line ≡ l → p ≡ putAt o at (lineBytes line) → r ≡ at + length (lineBytes line)
       → (p ≡ putAt o at (pickBytes t [] l)) × (r ≡ at + length (pickBytes t [] l))
   shows p r line e f g m = rw (e, ← f) (g, m)
+
+-- an element that is there is the same by any default
+pub getD-any : {A : Type 0} (l : List A) (i : ℕ) (d e : A) → i < length l → getD l i d ≡ getD l i e
+getD-any [] i d e h = absurd (omega (arith, h))
+getD-any (x ∷ l) zero d e h = refl
+getD-any (x ∷ l) (suc i) d e h = getD-any l i d e (omega (arith, h))
+
+-- ---- frames
+
+pub frame-most : (b a : List ℕ) (i : ℕ) → length (frameChange b a i) ≤ 53
+unfolding frameChange frameLine
+frame-most b a i =
+    if-most (not (runEnds b a i (goesOn b a i))) (frameLine (firstOf b a i) i (getD a i 0)) 53
+    (omega (arith, line-three 70 (decimal (firstOf b a i)) (decimal i) (hex (getD a i 0) 8), decimal-length (firstOf b a i), decimal-length i,
+    hex-length (getD a i 0) 8))
+
+module _ (b a : List ℕ) (i first : ℕ) (on : Bool) (o : on ≡ goesOn b a i) (f : first ≡ firstOf b a i) where
+  pub frame-said : (ends : Bool) → ends ≡ runEnds b a i on → shownIf ends (frameLine first i (getD a i 0)) ≡ frameChange b a i
+  unfolding frameChange
+  frame-said ends e = rw (e, o, f)
+
+  pub first-turn : (r : ℕ) → r ≡ pickNumber on first (i + 1) → r ≡ firstOf b a (i + 1)
+  unfolding firstOf
+  first-turn r e = e ∙ rw (o, f) (sym (ap (firstOf b a) (add-one i)))
+
+pub first-zero : (b a : List ℕ) → 0 ≡ firstOf b a 0
+unfolding firstOf
+first-zero b a = refl
+
+-- ---- setups, writes, records
+
+pub setup-most : (b a : List ℕ) (k : ℕ) → length (setupChange b a k) ≤ 40
+unfolding setupChange setupLine lineOf hex
+setup-most b a k = if-most (sameEight b a (8 * k)) _ 40 (simp length-append (omega (arith, decimal-length k)))
+
+pub write-most : (o v : ℕ) → length (writeLine o v) ≤ 14
+unfolding writeLine
+write-most o v = omega (arith, line-two 87 (hex o 2) (hex v 8), hex-length o 2, hex-length v 8)
+
+pub record-most : (i : ℕ) (b a : QueueTransferDescriptor) → length (recordChange i b a) ≤ 140
+unfolding recordChange recordLine lineOf hex
+record-most i b a = if-most (sameRecord b a) _ 140 (simp length-append (omega (arith, decimal-length i)))
+
+pub record-any : (b a : List QueueTransferDescriptor) (i : ℕ) (d e : QueueTransferDescriptor) → i < length b → i < length a
+    → recordChange i (getD b i d) (getD a i e) ≡ recordChange i (getD b i blank) (getD a i blank)
+record-any b a i d e h g = rw (getD-any b i d blank h, getD-any a i e blank g)
+
+pub write-any : (ws : List Write) (i : ℕ) (d : Write) → i < length ws
+    → writeLine (getD ws i d .offset) (getD ws i d .value)
+    ≡ writeLine (getD ws i (record { offset = 0; value = 0 }) .offset) (getD ws i (record { offset = 0; value = 0 }) .value)
+write-any ws i d h = rw (getD-any ws i d (record { offset = 0; value = 0 }) h)

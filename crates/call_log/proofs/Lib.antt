@@ -5,3 +5,4 @@ pub mod RecordLaws
 pub mod LineCases
 pub mod CallLineCases
 pub mod ChangeCases
+pub mod Known

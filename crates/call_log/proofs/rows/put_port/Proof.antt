@@ -1,3 +1,10 @@
+use Prim.Native.Nat.{_+_}
+use mathlib.Core.Bool.{not}
+use lib.Dec.{eqb}
+use Rattle.settings.specs.Tests.{both}
+use Rattle.call_log.specs.Changes.{portChange}
+use Rattle.call_log.specs.Lines.{portLine}
+use Rattle.call_log.proofs.ChangeCases.{shows, stays}
 use borrow.Author.Needs.{needs}
 use Rattle.call_log.proofs.rows.put_port.Statement.{statement}
 use Rattle.call_log.proofs.rows.put_port.Tie as tie
@@ -8,7 +15,10 @@ use Rattle.call_log.proofs.lines.port_line.Reads as port-line-reads
 
 -- src/rows.rt:54:9
 returns : tie.Need-returns
-returns c = ?
+unfolding portChange
+returns c = 
+    let a = c .before .before .args in
+    stays (a .out .now) (a .at) (both (not (a .all)) (eqb (a .before) (a .after))) (portLine (a .i + 1) (a .after)) (c .if1 .taken)
 
 -- src/rows.rt:56:27
 add-port-line : tie.Need-add-port-line
@@ -32,7 +42,13 @@ same-length c = search needs
 
 -- src/rows.rt:47:1
 returns-2 : tie.Need-returns-2
-returns-2 c = ?
+unfolding portChange
+returns-2 c = 
+    let a = c .before .before .before .before .before .before .before .args in
+    let h = c .before .before .before .before .port-line in
+    let p = c .before .before .put-line in
+    shows (a .out .now) (a .at) (both (not (a .all)) (eqb (a .before) (a .after))) (portLine (a .i + 1) (a .after)) (p .last .0) (p .result) (h .result)
+    (c .before .before .before .before .before .if1 .left) (h .ensures .1) (p .ensures .0) (p .ensures .1)
 
 pub put-port-spec : {M : Type 1} → statement M
 put-port-spec =
