@@ -64,7 +64,7 @@ port-line-most p s = omega (arith, line-two 85 (decimal p) (decimal s), decimal-
 
 -- ---- a change of one place
 
-if-most : (b : Bool) (l : List ℕ) (m : ℕ) → length l ≤ m → length (pickBytes b [] l) ≤ m
+pub if-most : (b : Bool) (l : List ℕ) (m : ℕ) → length l ≤ m → length (pickBytes b [] l) ≤ m
 if-most true l m h = omega arith
 if-most false l m h = h
 

@@ -6,3 +6,4 @@ pub mod LineCases
 pub mod CallLineCases
 pub mod ChangeCases
 pub mod Known
+pub mod BlockLaws

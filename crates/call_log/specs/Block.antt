@@ -1,0 +1,31 @@
+-- A block: what a call did, as lines.
+use Prim.Native.Nat.{ℕ}
+use mathlib.Core.Bool.{Bool}
+use mathlib.Core.List.{List, [], _∷_, _++_}
+use Rattle.descriptor.specs.declared.qtd.QueueTransferDescriptor.{QueueTransferDescriptor}
+use Rattle.register.specs.declared.writes.Writes.{Writes}
+use Rattle.state.specs.declared.state.Ehci.{Ehci}
+use Rattle.call_log.specs.Changes.{frameLines, headLines, portLines, recordLines, setupLines, shownIf, writeLines}
+use Rattle.call_log.specs.Lines.{stateLine}
+
+-- the rows and the ports' states, before a call or after it
+pub record Rows : Type 0 where
+  pub pool : List QueueTransferDescriptor
+  pub heads : List ℕ
+  pub frames : List ℕ
+  pub setups : List ℕ
+  pub ports : List ℕ
+
+-- P, H, F and S lines
+unfoldable pub rowsLines : Rows → Rows → List ℕ
+rowsLines before after =
+    recordLines (before .pool) (after .pool)
+    ++ (headLines (before .heads) (after .heads)
+    ++ (frameLines (before .frames) (after .frames) ++ setupLines 32 (before .setups) (after .setups)))
+
+-- the C line; what changed; U, where an opening shows every port; Q, once a controller is opened; W; a single `.`
+unfoldable pub blockOf : List ℕ → Bool → Rows → Rows → Bool → Ehci → Writes → List ℕ
+blockOf first opening before after opened s writes =
+    first
+    ++ (rowsLines before after
+    ++ (portLines opening (before .ports) (after .ports) ++ (shownIf opened (stateLine s) ++ (writeLines writes ++ (46 ∷ 10 ∷ [])))))
