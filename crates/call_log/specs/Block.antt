@@ -2,19 +2,11 @@
 use Prim.Native.Nat.{ℕ}
 use mathlib.Core.Bool.{Bool}
 use mathlib.Core.List.{List, [], _∷_, _++_}
-use Rattle.descriptor.specs.declared.qtd.QueueTransferDescriptor.{QueueTransferDescriptor}
 use Rattle.register.specs.declared.writes.Writes.{Writes}
 use Rattle.state.specs.declared.state.Ehci.{Ehci}
 use Rattle.call_log.specs.Changes.{frameLines, headLines, portLines, recordLines, setupLines, shownIf, writeLines}
 use Rattle.call_log.specs.Lines.{stateLine}
-
--- the rows and the ports' states, before a call or after it
-pub record Rows : Type 0 where
-  pub pool : List QueueTransferDescriptor
-  pub heads : List ℕ
-  pub frames : List ℕ
-  pub setups : List ℕ
-  pub ports : List ℕ
+use Rattle.call_log.specs.declared.block.Rows.{Rows}
 
 -- P, H, F and S lines
 unfoldable pub rowsLines : Rows → Rows → List ℕ
