@@ -12,7 +12,7 @@ use Rattle.state.specs.declared.state.Ehci.{Ehci}
 use Rattle.text.specs.Text.{decimal, hex}
 use Rattle.text.proofs.Puts.{put-then}
 use Rattle.text.proofs.TextLaws.{decimal-length, hex-length}
-use Rattle.call_log.specs.Block.{blockOf, rowsLines}
+use Rattle.call_log.specs.Block.{blockOf, restLines, rowsLines}
 use Rattle.call_log.specs.Changes.{frameChange, frameLines, headChange, headLines, portChange, portLines, recordChange, recordLines, setupChange, setupLines, shownIf, upTo, writeAt, writeLines}
 use Rattle.call_log.specs.Lines.{lineBytes, lineOf, partsBytes, shownLine, stateLine, writeLine}
 use Rattle.call_log.specs.declared.block.Rows.{Rows}
@@ -59,7 +59,7 @@ writes-most w h = omega (arith, up-most (λ i. writeLine (writeAt w i .offset) (
 
 pub block-fits : (first : List ℕ) (opening : Bool) (b a : Rows) (opened : Bool) (s : Ehci) (w : Writes) → length first ≤ 296 → length (a .heads) ≤ 561
     → length (a .frames) ≤ 1024 → length (a .ports) ≤ 15 → w .count ≤ 6 → length (blockOf first opening b a opened s w) + 296 ≤ 131072
-unfolding blockOf
+unfolding blockOf restLines
 block-fits first opening b a opened s w f h g p c =
     let q : length (shownIf opened (stateLine s)) ≤ 174 = if-most (not opened) (stateLine s) 174 (shown-most _) in
     simp length-append (omega (arith, rows-most b a h g, ports-most opening (b .ports) (a .ports) p, writes-most w c))
@@ -83,3 +83,35 @@ rows-put o p q s t at i j k r b a h e l f m g n d x =
     let four = put-then o s t ((R ++ H) ++ F) S at k r h (three .0) (three .1) d x in
     let flat : ((R ++ H) ++ F) ++ S ≡ R ++ (H ++ (F ++ S)) = simp append-assoc in
     rw (← flat) four
+
+pub rest-put : (o p q t : List ℕ) (at i j r : ℕ) (opened : Bool) (s : Ehci) (w : Writes) → at ≤ length o
+    → p ≡ putAt o at (shownIf opened (stateLine s)) → i ≡ at + length (shownIf opened (stateLine s))
+    → q ≡ putAt p i (writeLines w) → j ≡ i + length (writeLines w)
+    → t ≡ putAt q j (46 ∷ 10 ∷ []) → r ≡ j + 2
+    → (t ≡ putAt o at (restLines opened s w)) × (r ≡ at + length (restLines opened s w))
+unfolding restLines
+rest-put o p q t at i j r opened s w h e l f m g n =
+    let Q = shownIf opened (stateLine s) in
+    let two = put-then o p q Q (writeLines w) at i j h e l f m in
+    let three = put-then o q t (Q ++ writeLines w) (46 ∷ 10 ∷ []) at j r h (two .0) (two .1) g n in
+    rw (← append-assoc Q (writeLines w) (46 ∷ 10 ∷ [])) three
+
+pub state-most : (opened : Bool) (s : Ehci) → length (shownIf opened (stateLine s)) ≤ 174
+state-most opened s = if-most (not opened) (stateLine s) 174 (shown-most _)
+
+pub block-put : (o p q u t first : List ℕ) (i j k r : ℕ) (opening : Bool) (b a : Rows) (opened : Bool) (s : Ehci) (w : Writes)
+    → p ≡ putAt o 0 first → i ≡ length first
+    → q ≡ putAt p i (rowsLines b a) → j ≡ i + length (rowsLines b a)
+    → u ≡ putAt q j (portLines opening (b .ports) (a .ports)) → k ≡ j + length (portLines opening (b .ports) (a .ports))
+    → t ≡ putAt u k (restLines opened s w) → r ≡ k + length (restLines opened s w)
+    → (t ≡ putAt o 0 (blockOf first opening b a opened s w)) × (r ≡ length (blockOf first opening b a opened s w))
+unfolding blockOf
+block-put o p q u t first i j k r opening b a opened s w e l f m g n d x =
+    let R = rowsLines b a in
+    let U = portLines opening (b .ports) (a .ports) in
+    let T = restLines opened s w in
+    let two = put-then o p q first R 0 i j (omega arith) e (omega arith) f m in
+    let three = put-then o q u (first ++ R) U 0 j k (omega arith) (two .0) (two .1) g n in
+    let four = put-then o u t ((first ++ R) ++ U) T 0 k r (omega arith) (three .0) (three .1) d x in
+    let flat : ((first ++ R) ++ U) ++ T ≡ first ++ (R ++ (U ++ T)) = simp append-assoc in
+    rw (← flat) (four .0, omega (arith, four .1))

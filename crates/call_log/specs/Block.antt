@@ -15,9 +15,11 @@ rowsLines before after =
     ++ (headLines (before .heads) (after .heads)
     ++ (frameLines (before .frames) (after .frames) ++ setupLines 32 (before .setups) (after .setups)))
 
--- the C line; what changed; U, where an opening shows every port; Q, once a controller is opened; W; a single `.`
+-- Q, once a controller is opened; W; then a line with a single `.`
+unfoldable pub restLines : Bool → Ehci → Writes → List ℕ
+restLines opened s writes = shownIf opened (stateLine s) ++ (writeLines writes ++ (46 ∷ 10 ∷ []))
+
+-- the C line; what changed; U, where an opening shows every port; the rest
 unfoldable pub blockOf : List ℕ → Bool → Rows → Rows → Bool → Ehci → Writes → List ℕ
 blockOf first opening before after opened s writes =
-    first
-    ++ (rowsLines before after
-    ++ (portLines opening (before .ports) (after .ports) ++ (shownIf opened (stateLine s) ++ (writeLines writes ++ (46 ∷ 10 ∷ [])))))
+    first ++ (rowsLines before after ++ (portLines opening (before .ports) (after .ports) ++ restLines opened s writes))
