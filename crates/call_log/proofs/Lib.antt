@@ -1,0 +1,10 @@
+pub mod Little
+pub mod FieldsLaws
+pub mod RecordCases
+pub mod RecordLaws
+pub mod LineCases
+pub mod CallLineCases
+pub mod ChangeCases
+pub mod Known
+pub mod BlockLaws
+pub mod RowsKnown

@@ -1,0 +1,75 @@
+use native.Mathlib.Omega.{arith}
+use Rattle.call_log.specs.Lines.{lineBytes}
+use Rattle.call_log.proofs.BlockLaws.{block-put, line-most, ports-most, rows-most}
+use Rattle.call_log.proofs.RowsKnown.{frames-length, heads-length, ports-length}
+use borrow.Author.Needs.{needs}
+use Rattle.call_log.proofs.block.put_block.Statement.{statement}
+use Rattle.call_log.proofs.block.put_block.Tie as tie
+use Rattle.call_log.proofs.block.put_block.Reads as reads
+use Rattle.call_log.proofs.block.put_block.Lts as lts
+use Rattle.call_log.proofs.block.put_port_rows.Reads as put-port-rows-reads
+use Rattle.call_log.proofs.block.put_rest.Reads as put-rest-reads
+use Rattle.call_log.proofs.block.put_rows.Reads as put-rows-reads
+use Rattle.call_log.proofs.line.put_line.Reads as put-line-reads
+
+-- src/block.rt:142:9
+put-line-requires : tie.Need-put-line-requires
+put-line-requires c κs = search needs
+
+-- src/block.rt:143:9
+put-rows-requires : tie.Need-put-rows-requires
+put-rows-requires c κs = 
+    let a = c .before .before .before .before .before .before .args in
+    let p = c .before .before .before .put-line in
+    omega (arith, c .before .before .before .before .before .before .pre .1, p .ensures .1, p .kept .0, line-most (a .first) (c .before .before .before .before .before .before .pre .0))
+
+-- src/block.rt:146:9
+put-port-rows-requires : tie.Need-put-port-rows-requires
+put-port-rows-requires c κs = 
+    let a = c .before .before .before .before .before .before .before .before .before .before .before .before .args in
+    let good = c .before .before .before .before .before .before .before .before .before .before .before .before .good .1 .1 .1 .1 .0 in
+    let l = line-most (a .first) (c .before .before .before .before .before .before .before .before .before .before .before .before .pre .0) in
+    let m = rows-most (a .before) (a .after) (omega (arith, heads-length (a .after) good)) (omega (arith, frames-length (a .after) good)) in
+    let p = c .before .before .before .before .before .before .before .before .before .put-line in
+    let q = c .before .before .before .before .before .put-rows in
+    omega (arith, c .before .before .before .before .before .before .before .before .before .before .before .before .pre .1, p .ensures .1, p .kept .0, q .ensures .1, q .kept .0)
+
+-- src/block.rt:147:5
+put-rest-requires : tie.Need-put-rest-requires
+put-rest-requires c κs = 
+    let a = c .before .before .before .before .before .before .before .before .before .before .before .before .before .before .before .before .args in
+    let good = c .before .before .before .before .before .before .before .before .before .before .before .before .before .before .before .before .good .1 .1 .1 .1 .0 in
+    let l = line-most (a .first) (c .before .before .before .before .before .before .before .before .before .before .before .before .before .before .before .before .pre .0) in
+    let m = rows-most (a .before) (a .after) (omega (arith, heads-length (a .after) good)) (omega (arith, frames-length (a .after) good)) in
+    let p = c .before .before .before .before .before .before .before .before .before .before .before .before .before .put-line in
+    let q = c .before .before .before .before .before .before .before .before .before .put-rows in
+    let u = c .before .before .before .put-port-rows in
+    let n = ports-most (a .opening) (a .before .ports) (a .after .ports) (omega (arith, ports-length (a .after) good)) in
+    (c .before .before .before .before .before .before .before .before .before .before .before .before .before .before .before .before .pre .1 .0, omega (arith, c .before .before .before .before .before .before .before .before .before .before .before .before .before .before .before .before .pre .1, p .ensures .1, p .kept .0, q .ensures .1, q .kept .0, u .ensures .1, u .kept .0))
+
+-- src/block.rt:126:1
+same-length : tie.Need-same-length
+same-length c = search needs
+
+-- src/block.rt:126:1
+returns : tie.Need-returns
+returns c = 
+    let a = c .before .before .before .before .before .before .before .before .before .before .before .before .before .before .before .before .before .before .before .args in
+    let p = c .before .before .before .before .before .before .before .before .before .before .before .before .before .before .before .before .put-line in
+    let q = c .before .before .before .before .before .before .before .before .before .before .before .before .put-rows in
+    let u = c .before .before .before .before .before .before .put-port-rows in
+    let t = c .before .before .put-rest in
+    block-put (a .out .now) (p .last .0) (q .last .0) (u .last .0) (t .last .0) (lineBytes (a .first)) (p .result) (q .result) (u .result) (t .result) (a .opening)
+    (a .before) (a .after) (a .opened) (a .s) (a .writes) (p .ensures .0) (omega (arith, p .ensures .1)) (q .ensures .0) (q .ensures .1) (u .ensures .0)
+    (u .ensures .1) (t .ensures .0) (t .ensures .1)
+
+pub put-block-spec : {M : Type 1} → statement M
+put-block-spec =
+    tie.close
+    (tie.spec
+    put-line-requires
+    put-rows-requires
+    put-port-rows-requires
+    put-rest-requires
+    same-length
+    returns)
