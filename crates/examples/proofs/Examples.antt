@@ -1,9 +1,9 @@
 -- 01's ★ examples hold, every row.
 use Prim.Native.Nat.{ℕ}
-use mathlib.Core.Path.{_≡_, refl, ap, _∙_}
-use mathlib.Core.Bool.{true}
+use mathlib.Core.Path.{_≡_, refl, ap}
+use mathlib.Core.Bool.{Bool, true, false}
 use mathlib.Core.List.{List, [], _∷_, _++_, map}
-use lib.Dec.{leb}
+use lib.Dec.{eqb, leb}
 use lib.ListN.{getD, length, replicate}
 use Rattle.register.specs.Bits.{anyOf, onlyBits, withBits, withoutBits}
 use Rattle.register.specs.Writes.{andThen, noWrites}
@@ -39,19 +39,18 @@ use Rattle.collection.specs.Calls.{cancelOf, collectOf, finishOf, unlinkingOf}
 use Rattle.collection.specs.Answers.{outcomeOf}
 use Rattle.collection.specs.Examples.{noFrames, oneRequest, ringOfOne}
 use Rattle.interrupt.specs.Interrupts.{acknowledgeOf, acknowledgedState, countedOf, drainOf, enableOf, notedAfter, takenOf}
-use Rattle.bring_up.specs.BringUp.{anyUncollected, onwardOf, startOf, stepOf}
-use Rattle.ehci.specs.declared.call.Call.{Call}
+use Rattle.bring_up.specs.BringUp.{anyUncollected, movedOn, onwardOf, ready, stageOf, startOf, stepOf}
 use Rattle.ehci.specs.declared.call.Call.the-variants.{BringUpStep, Cancel, Enable, StartBringUp}
 use Rattle.ehci.specs.Replies.{broughtReply, replied, settledReply}
 use Rattle.ehci.specs.Decides.{acknowledgeDecided, asksOf, cancelDecided, decideOf, drainDecided, openDecided, submitDecided}
 use Rattle.ehci.specs.Door.{applyOf}
-use Rattle.examples.specs.Examples.{Row, World, acknowledge, acknowledged, after, answerRow, bellRow, broughtUp, cancelCalls, drain, drainRow, drained, justOpened, openBulk, reading, replyTo, run, small, starred, submitCalls, submitOut, submitRow, twoUnlinks, unlinkRow, upCalls, world}
+use Rattle.examples.specs.Examples.{Row, World, acknowledge, acknowledged, after, answerRow, bellRow, broughtUp, drain, drainRow, drained, justOpened, openBulk, reading, replyTo, small, starred, submitOut, submitRow, twoUnlinks, unlinkRow, world}
 
 -- ---- the states that the calls come to
 
--- bring-up at a step, the interrupt flag; no slot is open
-unused : ℕ → ℕ → ℕ → Ehci
-unused running step enabled =
+-- bring-up; pending, masked, noted, doorbell, unanswered; the owners of the two places; the two slots
+stateOf : ℕ → ℕ → ℕ → List ℕ → List ℕ → Slot → Slot → Ehci
+stateOf running step enabled bell owner a b =
     record {
       settings = small;
       running = running;
@@ -59,36 +58,6 @@ unused running step enabled =
       waited = 0;
       address = 1;
       enabled = enabled;
-      pending = 0;
-      masked = 0;
-      noted = 0;
-      doorbell = 0;
-      unanswered = 0;
-      owner = replicate 256 0;
-      phases = replicate 32 0;
-      kinds = replicate 32 0;
-      ids = replicate 32 1;
-      requests = replicate 32 0;
-      directions = replicate 32 0;
-      lengths = replicate 32 0;
-      cancels = replicate 32 0;
-      boundaries = replicate 32 0;
-    }
-
-unused-good : (running step enabled : ℕ) → leb running 1 ≡ true → leb step 6 ≡ true → leb enabled 1 ≡ true → inRanges (unused running step enabled) ≡ true
-unfolding unused inRanges restGood machineGood interruptGood doorbellGood ownerGood largest slotsGood slotGood phaseGood closedGood idleGood linkedGood unlinkingGood boundaryGood openKind noRequest settingsGood numbersGood eachGood noOverlap areaGood apartAreas slotAt withoutBits
-unused-good running step enabled e f g = rw (e, f, g)
-
--- running: the interrupt registers, the note, the doorbell, those unanswered; the owners of the places; the slots
-used : List ℕ → List ℕ → Slot → Slot → Ehci
-used bell owner a b =
-    record {
-      settings = small;
-      running = 1;
-      step = 0;
-      waited = 0;
-      address = 1;
-      enabled = 1;
       pending = getD bell 0 0;
       masked = getD bell 1 0;
       noted = getD bell 2 0;
@@ -125,61 +94,76 @@ waits boundary = asked 3 1 boundary
 abbrev noBell : List ℕ
 noBell = replicate 5 0
 
+-- on the way up, no slot is open
+abbrev rising : ℕ → ℕ → ℕ → Ehci
+rising running step enabled = stateOf running step enabled noBell (0 ∷ 0 ∷ []) closed closed
+
+rising-good : (running step enabled : ℕ) → leb running 1 ≡ true → leb step 6 ≡ true → leb enabled 1 ≡ true → inRanges (rising running step enabled) ≡ true
+unfolding stateOf inRanges restGood machineGood interruptGood doorbellGood ownerGood largest slotsGood slotGood phaseGood closedGood idleGood linkedGood unlinkingGood boundaryGood openKind noRequest settingsGood numbersGood eachGood noOverlap areaGood apartAreas slotAt withoutBits
+rising-good running step enabled e f g = rw (e, f, g)
+
+-- running, interrupts on
+abbrev used : List ℕ → List ℕ → Slot → Slot → Ehci
+used bell owner a b = stateOf 1 0 1 bell owner a b
+
 abbrev oneOpen : Ehci
 oneOpen = used noBell (0 ∷ 0 ∷ []) idle closed
-
-one-open-good : inRanges oneOpen ≡ true
-unfolding used inRanges restGood machineGood interruptGood doorbellGood ownerGood largest slotsGood slotGood phaseGood closedGood idleGood linkedGood unlinkingGood boundaryGood openKind noRequest settingsGood numbersGood eachGood noOverlap areaGood apartAreas slotAt withoutBits
-one-open-good = refl
 
 abbrev twoOpen : Ehci
 twoOpen = used noBell (0 ∷ 0 ∷ []) idle idle
 
-two-open-good : inRanges twoOpen ≡ true
-unfolding used inRanges restGood machineGood interruptGood doorbellGood ownerGood largest slotsGood slotGood phaseGood closedGood idleGood linkedGood unlinkingGood boundaryGood openKind noRequest settingsGood numbersGood eachGood noOverlap areaGood apartAreas slotAt withoutBits
-two-open-good = refl
-
 abbrev oneLinked : Ehci
 oneLinked = used noBell (1 ∷ 0 ∷ []) linked idle
-
-one-linked-good : inRanges oneLinked ≡ true
-unfolding used inRanges restGood machineGood interruptGood doorbellGood ownerGood largest slotsGood slotGood phaseGood closedGood idleGood linkedGood unlinkingGood boundaryGood openKind noRequest settingsGood numbersGood eachGood noOverlap areaGood apartAreas slotAt withoutBits
-one-linked-good = refl
 
 abbrev twoLinked : Ehci
 twoLinked = used noBell (1 ∷ 2 ∷ []) linked linked
 
-two-linked-good : inRanges twoLinked ≡ true
-unfolding used inRanges restGood machineGood interruptGood doorbellGood ownerGood largest slotsGood slotGood phaseGood closedGood idleGood linkedGood unlinkingGood boundaryGood openKind noRequest settingsGood numbersGood eachGood noOverlap areaGood apartAreas slotAt withoutBits
-two-linked-good = refl
-
 abbrev oneWaits : Ehci
 oneWaits = used (0 ∷ 0 ∷ 0 ∷ 1 ∷ 1 ∷ []) (1 ∷ 2 ∷ []) (waits 1) linked
-
-one-waits-good : inRanges oneWaits ≡ true
-unfolding used inRanges restGood machineGood interruptGood doorbellGood ownerGood largest slotsGood slotGood phaseGood closedGood idleGood linkedGood unlinkingGood boundaryGood openKind noRequest settingsGood numbersGood eachGood noOverlap areaGood apartAreas slotAt withoutBits
-one-waits-good = refl
 
 abbrev twoWait : Ehci
 twoWait = used (0 ∷ 0 ∷ 0 ∷ 1 ∷ 2 ∷ []) (1 ∷ 2 ∷ []) (waits 1) (waits 2)
 
-two-wait-good : inRanges twoWait ≡ true
-unfolding used inRanges restGood machineGood interruptGood doorbellGood ownerGood largest slotsGood slotGood phaseGood closedGood idleGood linkedGood unlinkingGood boundaryGood openKind noRequest settingsGood numbersGood eachGood noOverlap areaGood apartAreas slotAt withoutBits
-two-wait-good = refl
-
 abbrev heard : Ehci
 heard = used (0x24 ∷ 0x24 ∷ 1 ∷ 1 ∷ 2 ∷ []) (1 ∷ 2 ∷ []) (waits 1) (waits 2)
-
-heard-good : inRanges heard ≡ true
-unfolding used inRanges restGood machineGood interruptGood doorbellGood ownerGood largest slotsGood slotGood phaseGood closedGood idleGood linkedGood unlinkingGood boundaryGood openKind noRequest settingsGood numbersGood eachGood noOverlap areaGood apartAreas slotAt withoutBits
-heard-good = refl
 
 abbrev counted : Ehci
 counted = used (0x20 ∷ 0x24 ∷ 0 ∷ 1 ∷ 1 ∷ []) (1 ∷ 2 ∷ []) (waits 0) (waits 1)
 
+abbrev ways : List Ehci
+ways = oneOpen ∷ twoOpen ∷ oneLinked ∷ twoLinked ∷ oneWaits ∷ twoWait ∷ heard ∷ counted ∷ []
+
+-- they are in their ranges
+ways-good : map inRanges ways ≡ replicate 8 true
+unfolding stateOf inRanges restGood machineGood interruptGood doorbellGood ownerGood largest slotsGood slotGood phaseGood closedGood idleGood linkedGood unlinkingGood boundaryGood openKind noRequest settingsGood numbersGood eachGood noOverlap areaGood apartAreas slotAt withoutBits
+ways-good = refl
+
+good : (k : ℕ) → getD (map inRanges ways) k true ≡ getD (replicate 8 true) k true
+good k = ap (λ (l : List Bool). getD l k true) ways-good
+
+one-open-good : inRanges oneOpen ≡ true
+one-open-good = good 0
+
+two-open-good : inRanges twoOpen ≡ true
+two-open-good = good 1
+
+one-linked-good : inRanges oneLinked ≡ true
+one-linked-good = good 2
+
+two-linked-good : inRanges twoLinked ≡ true
+two-linked-good = good 3
+
+one-waits-good : inRanges oneWaits ≡ true
+one-waits-good = good 4
+
+two-wait-good : inRanges twoWait ≡ true
+two-wait-good = good 5
+
+heard-good : inRanges heard ≡ true
+heard-good = good 6
+
 counted-good : inRanges counted ≡ true
-unfolding used inRanges restGood machineGood interruptGood doorbellGood ownerGood largest slotsGood slotGood phaseGood closedGood idleGood linkedGood unlinkingGood boundaryGood openKind noRequest settingsGood numbersGood eachGood noOverlap areaGood apartAreas slotAt withoutBits
-counted-good = refl
+counted-good = good 7
 
 -- ---- the rows
 
@@ -228,79 +212,73 @@ small-good : settingsGood small ≡ true
 unfolding settingsGood numbersGood eachGood noOverlap areaGood apartAreas
 small-good = refl
 
-opens : justOpened ≡ fresh (unused 0 0 0)
-unfolding justOpened openOf rowsFit acceptedOpening freshState openedHeads ringHead terminated withRows unused
+opens : justOpened ≡ fresh (rising 0 0 0)
+unfolding justOpened openOf rowsFit acceptedOpening freshState openedHeads ringHead terminated withRows stateOf
 opens = rw small-good
 
-starts : after (fresh (unused 0 0 0)) StartBringUp ≡ fresh (unused 0 1 0)
-unfolding after applyOf decideOf asksOf rowsFit replied fillOf filledFrom noChain packed listOf broughtReply startOf anyUncollected endpointAt decoded slotAt withBringUp withRows unused
-starts = rw (unused-good 0 0 0 refl refl refl)
+starts : after (fresh (rising 0 0 0)) StartBringUp ≡ fresh (rising 0 1 0)
+unfolding after applyOf decideOf asksOf rowsFit replied fillOf filledFrom noChain packed listOf broughtReply startOf anyUncollected endpointAt decoded slotAt withBringUp withRows stateOf
+starts = rw (rising-good 0 0 0 refl refl refl)
 
-stops : after (fresh (unused 0 1 0)) (BringUpStep 0x80000) ≡ fresh (unused 0 2 0)
-unfolding after applyOf decideOf asksOf rowsFit replied fillOf filledFrom noChain packed listOf broughtReply stepOf onwardOf withBringUp withRows unused
-stops = rw (unused-good 0 1 0 refl refl refl)
+-- a step whose reading is ready
+steps : (k v : ℕ) → leb k 6 ≡ true → eqb k 0 ≡ false → ready (stageOf k) v ≡ true
+    → after (fresh (rising 0 k 0)) (BringUpStep v) ≡ fresh (rising (movedOn (stageOf k) .running) (movedOn (stageOf k) .step) 0)
+unfolding after applyOf decideOf asksOf rowsFit replied fillOf filledFrom noChain packed listOf broughtReply stepOf onwardOf withBringUp withRows stateOf
+steps k v e f g = rw (rising-good 0 k 0 refl e refl, f, g)
 
-halts : after (fresh (unused 0 2 0)) (BringUpStep 0x1000) ≡ fresh (unused 0 3 0)
-unfolding after applyOf decideOf asksOf rowsFit replied fillOf filledFrom noChain packed listOf broughtReply stepOf onwardOf withBringUp withRows unused anyOf
-halts = rw (unused-good 0 2 0 refl refl refl)
+enables : after (fresh (rising 1 0 0)) Enable ≡ fresh (rising 1 0 1)
+unfolding after applyOf decideOf asksOf rowsFit replied fillOf filledFrom noChain packed listOf settledReply enableOf withInterrupt withRows stateOf
+enables = rw (rising-good 1 0 0 refl refl refl)
 
-resets : after (fresh (unused 0 3 0)) (BringUpStep 0x80000) ≡ fresh (unused 0 4 0)
-unfolding after applyOf decideOf asksOf rowsFit replied fillOf filledFrom noChain packed listOf broughtReply stepOf onwardOf withBringUp withRows unused
-resets = rw (unused-good 0 3 0 refl refl refl)
-
-reset-ends : after (fresh (unused 0 4 0)) (BringUpStep 0x80000) ≡ fresh (unused 0 5 0)
-unfolding after applyOf decideOf asksOf rowsFit replied fillOf filledFrom noChain packed listOf broughtReply stepOf onwardOf withBringUp withRows unused anyOf
-reset-ends = rw (unused-good 0 4 0 refl refl refl)
-
-runs : after (fresh (unused 0 5 0)) (BringUpStep 0x80000) ≡ fresh (unused 0 6 0)
-unfolding after applyOf decideOf asksOf rowsFit replied fillOf filledFrom noChain packed listOf broughtReply stepOf onwardOf withBringUp withRows unused
-runs = rw (unused-good 0 5 0 refl refl refl)
-
-is-up : after (fresh (unused 0 6 0)) (BringUpStep 0) ≡ fresh (unused 1 0 0)
-unfolding after applyOf decideOf asksOf rowsFit replied fillOf filledFrom noChain packed listOf broughtReply stepOf onwardOf withBringUp withRows unused anyOf
-is-up = rw (unused-good 0 6 0 refl refl refl)
-
-enables : after (fresh (unused 1 0 0)) Enable ≡ fresh (unused 1 0 1)
-unfolding after applyOf decideOf asksOf rowsFit replied fillOf filledFrom noChain packed listOf settledReply enableOf withInterrupt withRows unused
-enables = rw (unused-good 1 0 0 refl refl refl)
-
-opens-one : after (fresh (unused 1 0 1)) (openBulk 5 1) ≡ openedOne
-unfolding after applyOf decideOf asksOf rowsFit replied fillOf filledFrom noChain packed listOf openDecided openEndpointOf openChecks acceptsOf fieldsGood closedFrom withEndpoint withSlot endpointHead terminated putAt withRows unused used
-opens-one = rw (unused-good 1 0 1 refl refl refl)
+opens-one : after (fresh (rising 1 0 1)) (openBulk 5 1) ≡ openedOne
+unfolding after applyOf decideOf asksOf rowsFit replied fillOf filledFrom noChain packed listOf openDecided openEndpointOf openChecks acceptsOf fieldsGood closedFrom withEndpoint withSlot endpointHead terminated putAt withRows stateOf
+opens-one = rw (rising-good 1 0 1 refl refl refl)
 
 opens-two : after openedOne (openBulk 5 2) ≡ openedTwo
-unfolding after applyOf decideOf asksOf rowsFit replied fillOf filledFrom noChain packed listOf openDecided openEndpointOf openChecks acceptsOf fieldsGood closedFrom withEndpoint withSlot endpointHead terminated putAt withRows used
+unfolding after applyOf decideOf asksOf rowsFit replied fillOf filledFrom noChain packed listOf openDecided openEndpointOf openChecks acceptsOf fieldsGood closedFrom withEndpoint withSlot endpointHead terminated putAt withRows stateOf
 opens-two = rw one-open-good
 
 links-one : after openedTwo (submitOut 0 0x500000 512) ≡ linkedOne
-unfolding after applyOf decideOf asksOf rowsFit replied fillOf filledFrom noChain packed listOf submitDecided submitOf acceptsOf endpointAt decoded slotAt rangesGood bufferGood freeCount countZero needOf chunkCount settledSubmit acceptedWith takenFor takenPlaces placesFrom markOf stateWith afterId withOwner withEndpoint withSlot linkedRows startedOverlay attachedRing setupsWith recordAt bareAt chunkQtd newQtd tokenOf pageSlots withNext withRows used
+unfolding after applyOf decideOf asksOf rowsFit replied fillOf filledFrom noChain packed listOf submitDecided submitOf acceptsOf endpointAt decoded slotAt rangesGood bufferGood freeCount countZero needOf chunkCount settledSubmit acceptedWith takenFor takenPlaces placesFrom markOf stateWith afterId withOwner withEndpoint withSlot linkedRows startedOverlay attachedRing setupsWith recordAt bareAt chunkQtd newQtd tokenOf pageSlots withNext withRows stateOf
 links-one = rw two-open-good
 
 links-two : after linkedOne (submitOut 1 0x501000 512) ≡ linkedTwo
-unfolding after applyOf decideOf asksOf rowsFit replied fillOf filledFrom noChain packed listOf submitDecided submitOf acceptsOf endpointAt decoded slotAt rangesGood bufferGood freeCount countZero needOf chunkCount settledSubmit acceptedWith takenFor takenPlaces placesFrom markOf stateWith afterId withOwner withEndpoint withSlot linkedRows startedOverlay attachedRing setupsWith recordAt bareAt chunkQtd newQtd tokenOf pageSlots withNext withRows used
+unfolding after applyOf decideOf asksOf rowsFit replied fillOf filledFrom noChain packed listOf submitDecided submitOf acceptsOf endpointAt decoded slotAt rangesGood bufferGood freeCount countZero needOf chunkCount settledSubmit acceptedWith takenFor takenPlaces placesFrom markOf stateWith afterId withOwner withEndpoint withSlot linkedRows startedOverlay attachedRing setupsWith recordAt bareAt chunkQtd newQtd tokenOf pageSlots withNext withRows stateOf
 links-two = rw one-linked-good
 
 unlinks-one : after linkedTwo (Cancel 0 1 (reading 0x80031)) ≡ unlinkedOne
-unfolding after applyOf decideOf asksOf rowsFit replied fillOf filledFrom noChain packed listOf cancelDecided cancelOf acceptsOf endpointAt decoded slotAt unlinkOf waitingOf boundedOf unlinkedOf ringOf detachOf predecessorOf searchFrom precedesOne withEndpoint withSlot withBell withRows used
+unfolding after applyOf decideOf asksOf rowsFit replied fillOf filledFrom noChain packed listOf cancelDecided cancelOf acceptsOf endpointAt decoded slotAt unlinkOf waitingOf boundedOf unlinkedOf ringOf detachOf predecessorOf searchFrom precedesOne withEndpoint withSlot withBell withRows stateOf
 unlinks-one = rw two-linked-good
 
 unlinks-two : after unlinkedOne (Cancel 1 1 (reading 0x80071)) ≡ apart twoWait
-unfolding after applyOf decideOf asksOf rowsFit replied fillOf filledFrom noChain packed listOf cancelDecided cancelOf acceptsOf endpointAt decoded slotAt unlinkOf waitingOf boundedOf unlinkedOf ringOf detachOf predecessorOf searchFrom precedesOne withEndpoint withSlot withBell withRows used
+unfolding after applyOf decideOf asksOf rowsFit replied fillOf filledFrom noChain packed listOf cancelDecided cancelOf acceptsOf endpointAt decoded slotAt unlinkOf waitingOf boundedOf unlinkedOf ringOf detachOf predecessorOf searchFrom precedesOne withEndpoint withSlot withBell withRows stateOf
 unlinks-two = rw one-waits-good
 
 hears : after (apart twoWait) acknowledge ≡ apart heard
-unfolding after applyOf decideOf asksOf rowsFit replied fillOf filledFrom noChain packed listOf acknowledgeDecided acknowledgeOf onlyBits withBits anyOf acknowledgedState notedAfter withInterrupt withBell withRows used
+unfolding after applyOf decideOf asksOf rowsFit replied fillOf filledFrom noChain packed listOf acknowledgeDecided acknowledgeOf onlyBits withBits anyOf acknowledgedState notedAfter withInterrupt withBell withRows stateOf
 hears = rw two-wait-good
 
 counts : after (apart heard) drain ≡ apart counted
-unfolding after applyOf decideOf asksOf rowsFit replied fillOf filledFrom noChain packed listOf drainDecided drainOf anyOf withoutBits countedOf takenOf withInterrupt withBell withBoundaries advancedOf ringOf fallenFrom fallenOne withRows used
+unfolding after applyOf decideOf asksOf rowsFit replied fillOf filledFrom noChain packed listOf drainDecided drainOf anyOf withoutBits countedOf takenOf withInterrupt withBell withBoundaries advancedOf ringOf fallenFrom fallenOne withRows stateOf
 counts = rw heard-good
 
 -- ---- the calls one after another
 
 brought-up : broughtUp ≡ openedOne
-unfolding broughtUp
-brought-up = rw (opens, starts, stops, halts, resets, reset-ends, runs, is-up, enables, opens-one)
+unfolding broughtUp anyOf
+brought-up =
+    rw (
+      opens,
+      starts,
+      steps 1 0x80000 refl refl refl,
+      steps 2 0x1000 refl refl refl,
+      steps 3 0x80000 refl refl refl,
+      steps 4 0x80000 refl refl refl,
+      steps 5 0x80000 refl refl refl,
+      steps 6 0 refl refl refl,
+      enables,
+      opens-one,
+    )
 
 two-unlinks : twoUnlinks ≡ apart twoWait
 unfolding twoUnlinks
@@ -317,11 +295,11 @@ drained-is = rw (acknowledged-is, counts)
 -- ---- the rows that take a controller
 
 last-byte : submitRow 0xFFFFFFFF 1 ≡ 0 ∷ 1 ∷ []
-unfolding replyTo applyOf decideOf asksOf rowsFit replied submitDecided submitOf acceptsOf endpointAt decoded slotAt rangesGood bufferGood freeCount countZero needOf chunkCount settledSubmit acceptedWith withRows used
+unfolding replyTo applyOf decideOf asksOf rowsFit replied submitDecided submitOf acceptsOf endpointAt decoded slotAt rangesGood bufferGood freeCount countZero needOf chunkCount settledSubmit acceptedWith withRows stateOf
 last-byte = rw brought-up (rw one-open-good)
 
 past-end : submitRow 0xFFFFFFFF 2 ≡ 1 ∷ []
-unfolding replyTo applyOf decideOf asksOf rowsFit replied submitDecided submitOf acceptsOf endpointAt decoded slotAt rangesGood bufferGood freeCount countZero needOf chunkCount refusedSubmit withRows used
+unfolding replyTo applyOf decideOf asksOf rowsFit replied submitDecided submitOf acceptsOf endpointAt decoded slotAt rangesGood bufferGood freeCount countZero needOf chunkCount refusedSubmit withRows stateOf
 past-end = rw brought-up (rw one-open-good)
 
 fits : acceptsOf (oneRequest 3 3 0 16380 0) (lengths 4 (length ringOfOne) (length noFrames) 16) ≡ true
@@ -337,19 +315,19 @@ unfolding collectOf unlinkingOf finishOf outcomeOf endpointAt decoded slotAt
 passed = rw fits
 
 bell-up : bellRow (twoUnlinks .state) ≡ 0 ∷ 2 ∷ 1 ∷ []
-unfolding withRows used
+unfolding withRows stateOf
 bell-up = rw two-unlinks
 
 yes : answerRow (replyTo twoUnlinks acknowledge) ≡ 0 ∷ 1 ∷ []
-unfolding replyTo applyOf decideOf asksOf rowsFit replied acknowledgeDecided acknowledgeOf onlyBits withRows used
+unfolding replyTo applyOf decideOf asksOf rowsFit replied acknowledgeDecided acknowledgeOf onlyBits withRows stateOf
 yes = rw two-unlinks (rw two-wait-good)
 
 port-change : drainRow (replyTo acknowledged drain) ≡ 0 ∷ 1 ∷ 0 ∷ 1 ∷ 1 ∷ 1 ∷ 1 ∷ []
-unfolding replyTo applyOf decideOf asksOf rowsFit replied drainDecided drainOf anyOf withoutBits countedOf takenOf withInterrupt withBell withBoundaries advancedOf ringOf fallenFrom fallenOne noWrites andThen ringWord withBits withRows used
+unfolding replyTo applyOf decideOf asksOf rowsFit replied drainDecided drainOf anyOf withoutBits countedOf takenOf withInterrupt withBell withBoundaries advancedOf ringOf fallenFrom fallenOne noWrites andThen ringWord withBits withRows stateOf
 port-change = rw acknowledged-is (rw heard-good)
 
 activity : drainRow (replyTo drained drain) ≡ 0 ∷ 2 ∷ 1 ∷ 1 ∷ 1 ∷ 1 ∷ 0 ∷ []
-unfolding replyTo applyOf decideOf asksOf rowsFit replied drainDecided drainOf anyOf withoutBits countedOf takenOf withInterrupt withBell withBoundaries advancedOf ringOf fallenFrom fallenOne noWrites withRows used
+unfolding replyTo applyOf decideOf asksOf rowsFit replied drainDecided drainOf anyOf withoutBits countedOf takenOf withInterrupt withBell withBoundaries advancedOf ringOf fallenFrom fallenOne noWrites withRows stateOf
 activity = rw drained-is (rw counted-good)
 
 -- ---- every row
