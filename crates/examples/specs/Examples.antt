@@ -1,11 +1,10 @@
 -- Document 01, "Examples (★ proved)": one table. Each row: what the definitions give, and what 01 prints.
-use Prim.Native.Nat.{ℕ, _+_, _-_}
+use Prim.Native.Nat.{ℕ, _-_}
 use mathlib.Core.Bool.{true, false}
 use mathlib.Core.List.{List, [], _∷_, _++_}
 use lib.ListN.{length, replicate}
 use Rattle.register.specs.Writes.{listOf}
-use Rattle.token.specs.declared.qtd.QtdPid.the-variants.{Setup}
-use Rattle.token.specs.declared.qtd.QtdPid.the-variants.{In as InPid}
+use Rattle.token.specs.declared.qtd.QtdPid.the-variants.{In as InPid, Setup}
 use Rattle.token.specs.declared.request.Direction.the-variants.{Out, In}
 use Rattle.token.specs.declared.request.EndpointType.the-variants.{Bulk}
 use Rattle.token.specs.Tokens.{tokenOf}
@@ -20,7 +19,6 @@ use Rattle.pipe.specs.Endpoints.{flagNumber}
 use Rattle.opening.specs.Opening.{Opened, openOf}
 use Rattle.controller.specs.declared.lent.Readings.{Readings}
 use Rattle.schedule.specs.Bell.{distance, framesPassed}
-use Rattle.request.specs.declared.judge.TransferRequest.{TransferRequest}
 use Rattle.collection.specs.Answers.{collectedNumber}
 use Rattle.collection.specs.Examples.{collected, oneRequest, seen}
 use Rattle.interrupt.specs.Once.{someRing}
@@ -86,6 +84,7 @@ small =
 abbrev pub leftBy : Opened → World
 leftBy o = world (o .opening .state) (o .pool) (o .heads) (o .frames) (o .setups)
 
+-- over rows that hold 7s
 unfoldable pub justOpened : World
 justOpened = leftBy (openOf small (replicate 2 blank) (replicate 51 7) (replicate 1024 7) (replicate 16 7))
 
@@ -137,7 +136,7 @@ cancelCalls = Cancel 0 1 (reading 0x80031) ∷ Cancel 1 1 (reading 0x80071) ∷ 
 unfoldable pub twoUnlinks : World
 twoUnlinks = run (run broughtUp submitCalls) cancelCalls
 
--- how many of 01's numbers 1, 2, .. its unlinks have
+-- the unlinks, which 01 numbers 1, 2
 abbrev pub made : ℕ
 made = length cancelCalls
 
@@ -161,7 +160,7 @@ drained = after acknowledged drain
 abbrev pub drainRow : Reply → List ℕ
 drainRow r = answerRow r ++ (bellRow (r .state) ++ one (flagNumber (someRing (listOf (r .writes)))))
 
--- an interrupt request that is unlinked at 16380 is collected: the frames since then, whether they are enough, the answer
+-- an interrupt request that was unlinked at 16380 is collected: the frames since then, whether they are enough, the answer
 abbrev pub unlinkRow : ℕ → List ℕ
 unlinkRow now =
     distance 16380 now ∷ flagNumber (framesPassed 16380 now)
