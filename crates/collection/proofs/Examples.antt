@@ -44,10 +44,6 @@ marked-fits : acceptsOf (oneRequest 3 2 1 0 0) (lengths 4 (length ringOfOne) (le
 unfolding acceptsOf rowsFit inRanges restGood machineGood interruptGood doorbellGood ownerGood largest slotsGood slotGood phaseGood closedGood idleGood noRequest linkedGood unlinkingGood boundaryGood openKind settingsGood numbersGood eachGood noOverlap areaGood apartAreas slotAt withoutBits
 marked-fits = refl
 
-frames-fits : acceptsOf (oneRequest 3 3 0 16380 0) (lengths 4 (length ringOfOne) (length noFrames) 16) ≡ true
-unfolding acceptsOf rowsFit inRanges restGood machineGood interruptGood doorbellGood ownerGood largest slotsGood slotGood phaseGood closedGood idleGood noRequest linkedGood unlinkingGood boundaryGood openKind settingsGood numbersGood eachGood noOverlap areaGood apartAreas slotAt withoutBits
-frames-fits = refl
-
 outside : acceptsOf (oneRequest 1 2 0 0 0) (lengths 4 (length ringOfOne) (length noFrames) 16) ≡ false
 unfolding acceptsOf rowsFit inRanges restGood machineGood interruptGood doorbellGood ownerGood largest slotsGood slotGood phaseGood closedGood idleGood noRequest linkedGood unlinkingGood boundaryGood openKind settingsGood numbersGood eachGood noOverlap areaGood apartAreas slotAt withoutBits
 outside = refl
@@ -124,15 +120,6 @@ collect-failed = rw passed-fits
 pub collect-cancelled : collectRow (collected (oneRequest 3 2 1 0 0) 0 (seen 1 0x48 16384) 0 1) ≡ 10 ∷ 0 ∷ 0 ∷ 0x200082 ∷ 1 ∷ 1 ∷ 0 ∷ 0 ∷ 0 ∷ 0 ∷ []
 unfolding collectOf linkedOf unlinkingOf finishOf freed clearOf outcomeOf endpointAt decoded slotAt unlinkOf waitingOf boundedOf unlinkedOf ringOf detachOf predecessorOf endedOverlay putAt withEndpoint withSlot withOwner withBell noWrites andThen
 collect-cancelled = rw marked-fits
-
--- interrupt, start 16380: now 4, pending; now 5, passed
-pub collect-eight : collectRow (collected (oneRequest 3 3 0 16380 0) 4 (seen 0 0 20000) 0 1) ≡ 9 ∷ 0 ∷ 0 ∷ 0x200082 ∷ 7 ∷ 3 ∷ 0 ∷ 16380 ∷ 0 ∷ 1 ∷ []
-unfolding collectOf linkedOf unlinkingOf finishOf freed clearOf outcomeOf endpointAt decoded slotAt unlinkOf waitingOf boundedOf unlinkedOf ringOf detachOf predecessorOf endedOverlay putAt withEndpoint withSlot withOwner withBell noWrites andThen
-collect-eight = rw frames-fits
-
-pub collect-nine : collectRow (collected (oneRequest 3 3 0 16380 0) 5 (seen 0 0 20000) 0 1) ≡ 0 ∷ 20000 ∷ 0 ∷ 0x200082 ∷ 1 ∷ 1 ∷ 0 ∷ 0 ∷ 0 ∷ 0 ∷ []
-unfolding collectOf linkedOf unlinkingOf finishOf freed clearOf outcomeOf endpointAt decoded slotAt unlinkOf waitingOf boundedOf unlinkedOf ringOf detachOf predecessorOf endedOverlay putAt withEndpoint withSlot withOwner withBell noWrites andThen
-collect-nine = rw frames-fits
 
 -- a wrong id
 pub collect-wrong-id : collectRow (collected (oneRequest 3 2 0 0 0) 0 (seen 0 0 20000) 0 2) ≡ 3 ∷ 0 ∷ 0 ∷ 0x200082 ∷ 7 ∷ 3 ∷ 0 ∷ 0 ∷ 0 ∷ 1 ∷ []

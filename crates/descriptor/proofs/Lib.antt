@@ -3,4 +3,3 @@ pub mod Coverage
 pub mod HeadCases
 pub mod HeadFields
 pub mod SetupFields
-pub mod Examples

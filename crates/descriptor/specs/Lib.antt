@@ -5,4 +5,3 @@ pub mod Slots
 pub mod Descriptors
 pub mod Heads
 pub mod Setups
-pub mod Examples

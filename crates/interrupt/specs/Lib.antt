@@ -1,3 +1,2 @@
 pub mod Interrupts
 pub mod Once
-pub mod Examples
