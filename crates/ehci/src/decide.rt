@@ -315,7 +315,16 @@ pub fn decide(
         Call::Close(slot) => on_close(state, pool, heads, f, u, slot),
         Call::SetAddress(slot, address) => on_address(state, pool, heads, f, u, slot, address),
         Call::SetPacketSize(slot, size) => on_packet(state, pool, heads, f, u, slot, size),
-        Call::Submit(slot, request, readings) => on_submit(state, pool, heads, frames, setups, readings, slot, request),
+        Call::Submit(slot, request, readings) => on_submit(
+            state,
+            pool,
+            heads,
+            frames,
+            setups,
+            readings,
+            slot,
+            request,
+        ),
         Call::Writeback(place, token) => {
             let lent = Lengths {
                 pool,
@@ -325,8 +334,27 @@ pub fn decide(
             };
             on_writeback(state, lent, place, token)
         }
-        Call::Cancel(slot, id, readings) => on_cancel(state, pool, heads, frames, u, readings, slot, id),
-        Call::Collect(slot, id, readings) => on_collect(state, pool, heads, frames, u, readings, view, slot, id),
+        Call::Cancel(slot, id, readings) => on_cancel(
+            state,
+            pool,
+            heads,
+            frames,
+            u,
+            readings,
+            slot,
+            id,
+        ),
+        Call::Collect(slot, id, readings) => on_collect(
+            state,
+            pool,
+            heads,
+            frames,
+            u,
+            readings,
+            view,
+            slot,
+            id,
+        ),
         Call::Acknowledge(readings) => on_acknowledge(state, readings),
         Call::Drain(command) => on_drain(state, command),
         Call::Rearm => on_rearm(state),

@@ -18,14 +18,14 @@ put-line-requires c κs = search needs
 
 -- src/block.rt:143:9
 put-rows-requires : tie.Need-put-rows-requires
-put-rows-requires c κs = 
+put-rows-requires c κs =
     let a = c .before .before .before .before .before .before .args in
     let p = c .before .before .before .put-line in
     omega (arith, c .before .before .before .before .before .before .pre .1, p .ensures .1, p .kept .0, line-most (a .first) (c .before .before .before .before .before .before .pre .0))
 
 -- src/block.rt:146:9
 put-port-rows-requires : tie.Need-put-port-rows-requires
-put-port-rows-requires c κs = 
+put-port-rows-requires c κs =
     let a = c .before .before .before .before .before .before .before .before .before .before .before .before .args in
     let good = c .before .before .before .before .before .before .before .before .before .before .before .before .good .1 .1 .1 .1 .0 in
     let l = line-most (a .first) (c .before .before .before .before .before .before .before .before .before .before .before .before .pre .0) in
@@ -36,7 +36,7 @@ put-port-rows-requires c κs =
 
 -- src/block.rt:147:5
 put-rest-requires : tie.Need-put-rest-requires
-put-rest-requires c κs = 
+put-rest-requires c κs =
     let a = c .before .before .before .before .before .before .before .before .before .before .before .before .before .before .before .before .args in
     let good = c .before .before .before .before .before .before .before .before .before .before .before .before .before .before .before .before .good .1 .1 .1 .1 .0 in
     let l = line-most (a .first) (c .before .before .before .before .before .before .before .before .before .before .before .before .before .before .before .before .pre .0) in
@@ -53,7 +53,7 @@ same-length c = search needs
 
 -- src/block.rt:126:1
 returns : tie.Need-returns
-returns c = 
+returns c =
     let a = c .before .before .before .before .before .before .before .before .before .before .before .before .before .before .before .before .before .before .before .args in
     let p = c .before .before .before .before .before .before .before .before .before .before .before .before .before .before .before .before .put-line in
     let q = c .before .before .before .before .before .before .before .before .before .before .before .before .put-rows in

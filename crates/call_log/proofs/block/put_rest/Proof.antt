@@ -15,14 +15,14 @@ put-state-requires c κs = search needs
 
 -- src/block.rt:121:9
 put-writes-requires : tie.Need-put-writes-requires
-put-writes-requires c κs = 
+put-writes-requires c κs =
     let a = c .before .before .before .before .before .before .args in
     let p = c .before .before .before .put-state in
     (c .before .before .before .before .before .before .pre .0, omega (arith, c .before .before .before .before .before .before .pre .1, p .ensures .1, p .kept .0, state-most (a .opened) (a .s)))
 
 -- src/block.rt:122:5
 put-end-requires : tie.Need-put-end-requires
-put-end-requires c κs = 
+put-end-requires c κs =
     let a = c .before .before .before .before .before .before .before .before .before .before .args in
     let p = c .before .before .before .before .before .before .before .put-state in
     let q = c .before .before .before .put-writes in
@@ -34,7 +34,7 @@ same-length c = search needs
 
 -- src/block.rt:114:1
 returns : tie.Need-returns
-returns c = 
+returns c =
     let a = c .before .before .before .before .before .before .before .before .before .before .before .before .before .args in
     let p = c .before .before .before .before .before .before .before .before .before .before .put-state in
     let q = c .before .before .before .before .before .before .put-writes in

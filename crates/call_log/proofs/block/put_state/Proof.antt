@@ -11,7 +11,7 @@ use Rattle.call_log.proofs.lines.state_line.Reads as state-line-reads
 
 -- src/block.rt:97:9
 returns : tie.Need-returns
-returns c = 
+returns c =
     let a = c .before .before .args in
     stays (a .out .now) (a .at) (not (a .opened)) (stateLine (a .s)) (c .if1 .taken)
 
@@ -29,7 +29,7 @@ same-length c = search needs
 
 -- src/block.rt:91:1
 returns-2 : tie.Need-returns-2
-returns-2 c = 
+returns-2 c =
     let a = c .before .before .before .before .before .before .before .args in
     let h = c .before .before .before .before .state-line in
     let p = c .before .before .put-line in

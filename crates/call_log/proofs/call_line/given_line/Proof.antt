@@ -150,7 +150,7 @@ returns-8 c = rw (c .before .before .before .before .given5 .given .1, ← c .be
 -- src/call_line.rt:126:1
 returns-9 : tie.Need-returns-9
 unfolding stepLine
-returns-9 c = 
+returns-9 c =
     let s = c .step-line in
     rw (c .before .before .before .given6 .given .1) (s .ensures .0, s .ensures .1 ∙ step-said _ _ _ 0 0 (c .before .before .before .given6 .given .0 .0) _ (c .before .register-part .ensures))
 

@@ -46,7 +46,7 @@ bare-line-requires c κs = search needs
 
 -- src/call_line.rt:167:1
 returns : tie.Need-returns
-returns c = 
+returns c =
     let s = c .step-line in
     rw (c .before .before .before .before .enum-told .given .1, ← c .before .before .port-event-number .ensures, ← c .before .port .ensures)
     (s .ensures .0, s .ensures .1 ∙ step-said _ _ _ _ _ _ _ (c .before .before .before .register-part .ensures))

@@ -153,13 +153,15 @@ little-of-requires-7 c κs = search needs
 -- src/fields.rt:48:1
 returns : tie.Need-returns
 unfolding fieldsOf
-returns c = rw (c .before .before .before .before .before .before .before .before .before .before .before .before .little-of .ensures,
-    c .before .before .before .before .before .before .before .before .before .before .little-of2 .ensures,
-    c .before .before .before .before .before .before .before .before .little-of3 .ensures,
-    c .before .before .before .before .before .before .little-of4 .ensures,
-    c .before .before .before .before .little-of5 .ensures,
-    c .before .before .little-of6 .ensures,
-    c .little-of7 .ensures)
+returns c = rw (
+  c .before .before .before .before .before .before .before .before .before .before .before .before .little-of .ensures,
+  c .before .before .before .before .before .before .before .before .before .before .little-of2 .ensures,
+  c .before .before .before .before .before .before .before .before .little-of3 .ensures,
+  c .before .before .before .before .before .before .little-of4 .ensures,
+  c .before .before .before .before .little-of5 .ensures,
+  c .before .before .little-of6 .ensures,
+  c .little-of7 .ensures,
+)
 
 pub decode-spec : {M : Type 1} → statement M
 decode-spec =

@@ -27,7 +27,7 @@ sub-left c = search needs
 
 -- src/fields.rt:43:17
 mul-value : tie.Need-mul-value Inv-loop μ-loop
-mul-value c = 
+mul-value c =
     let l = c .before .loop in
     let bs = c .before .before .before .args .bytes .now in
     let g = turn-fits bs (l .left) (l .value) (λ i. c .before .before .shared-slice-known .given i .fits) (c .before .before .before .pre) (omega arith) (l .inv .0) (l .inv .1) in
@@ -43,7 +43,7 @@ wide-requires c κs = search needs
 
 -- src/fields.rt:43:17
 add-value : tie.Need-add-value Inv-loop μ-loop
-add-value c = 
+add-value c =
     let l = c .before .before .before .loop in
     let bs = c .before .before .before .before .before .args .bytes .now in
     let g = turn-fits bs (l .left) (l .value) (λ i. c .before .before .before .before .shared-slice-known .given i .fits) (c .before .before .before .before .before .pre) (omega arith) (l .inv .0) (l .inv .1) in
@@ -55,7 +55,7 @@ loop-less c = search needs
 
 -- src/fields.rt:41:5
 loop-again : tie.Need-loop-again Inv-loop μ-loop
-loop-again c = 
+loop-again c =
     let l = c .before .before .before .loop in
     let bs = c .before .before .before .before .before .args .bytes .now in
     let g = turn-is bs (l .left) (l .value) (λ i. c .before .before .before .before .shared-slice-known .given i .fits) (c .before .before .before .before .before .pre) (omega arith) (l .inv .0) (l .inv .1) in
@@ -63,7 +63,7 @@ loop-again c =
 
 -- src/fields.rt:35:1
 returns : tie.Need-returns Inv-loop μ-loop
-returns c = 
+returns c =
     let none : c .before .loop .left ≡ 0 = omega arith in
     c .before .loop .inv .1 ∙ rw none
 

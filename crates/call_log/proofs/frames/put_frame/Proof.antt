@@ -11,7 +11,7 @@ use Rattle.call_log.proofs.lines.frame_line.Reads as frame-line-reads
 
 -- src/frames.rt:49:9
 returns : tie.Need-returns
-returns c = 
+returns c =
     let a = c .before .before .args in
     stays (a .out .now) (a .at) (not (a .ends)) (frameLine (a .first) (a .i) (a .value)) (c .if1 .taken)
 
@@ -29,7 +29,7 @@ same-length c = search needs
 
 -- src/frames.rt:43:1
 returns-2 : tie.Need-returns-2
-returns-2 c = 
+returns-2 c =
     let a = c .before .before .before .before .before .before .before .args in
     let h = c .before .before .before .before .frame-line in
     let p = c .before .before .put-line in

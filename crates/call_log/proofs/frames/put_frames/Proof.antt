@@ -21,7 +21,7 @@ abbrev said-of : List ℕ → List ℕ → ℕ → List ℕ
 said-of before after = frameChange before after
 
 abbrev Inv-loop : tie.InvT-loop
-Inv-loop out₀ at before after place₀ first₀ i₀ out place first i = 
+Inv-loop out₀ at before after place₀ first₀ i₀ out place first i =
     (i ≤ length after) × (length out ≡ length out₀) × (out ≡ putAt out₀ at (upTo (said-of before after) i))
     × (place ≡ at + length (upTo (said-of before after) i)) × (first ≡ firstOf before after i)
 
@@ -30,7 +30,7 @@ abbrev μ-loop : tie.MeasureT-loop
 
 -- src/frames.rt:65:5
 loop-holds : tie.Need-loop-holds Inv-loop μ-loop
-loop-holds c = 
+loop-holds c =
     let a = c .before .before .before .args in
     let none = up-none (said-of (a .before .now) (a .after .now)) (a .out .now) (a .at) in
     (omega arith, refl, none .0, none .1, first-zero (a .before .now) (a .after .now))
@@ -69,7 +69,7 @@ loop-less c = search needs
 
 -- src/frames.rt:65:5
 loop-again : tie.Need-loop-again Inv-loop μ-loop
-loop-again c = 
+loop-again c =
     let a = c .before .before .before .before .before .before .before .before .before .before .before .before .before .args in
     let l = c .before .before .before .before .before .before .before .before .before .loop in
     let p = c .before .before .before .put-frame in
@@ -79,9 +79,13 @@ loop-again c =
     let e = c .before .before .before .before .before .before .run-ends in
     let said = frame-said b d (l .i) (l .first) (o .result) (o .ensures) (l .inv .4) (e .result) (e .ensures) in
     let turned = up-turn (said-of b d) (a .out .now) (l .out) (p .last .0) (a .at) (l .place) (p .result) (l .i) (omega (arith, c .before .before .before .before .before .before .before .before .before .before .before .before .before .pre)) (l .inv .2)
-          (l .inv .3) (p .ensures .0 ∙ rw said) (p .ensures .1 ∙ rw said) in
-    (omega arith, p .kept .0 ∙ l .inv .1, turned .0, turned .1,
-    first-turn b d (l .i) (l .first) (o .result) (o .ensures) (l .inv .4) (c .next-first .result) (c .next-first .ensures))
+    (l .inv .3) (p .ensures .0 ∙ rw said) (p .ensures .1 ∙ rw said) in (
+      omega arith,
+      p .kept .0 ∙ l .inv .1,
+      turned .0,
+      turned .1,
+      first-turn b d (l .i) (l .first) (o .result) (o .ensures) (l .inv .4) (c .next-first .result) (c .next-first .ensures),
+    )
 
 -- src/frames.rt:55:1
 same-length : tie.Need-same-length Inv-loop μ-loop
@@ -89,7 +93,7 @@ same-length c = c .before .loop .inv .1
 
 -- src/frames.rt:55:1
 returns : tie.Need-returns Inv-loop μ-loop
-returns c = 
+returns c =
     let l = c .before .loop in
     let all : l .i ≡ length (c .before .before .before .before .before .args .after .now) = omega arith in
     (l .inv .2 ∙ rw all, l .inv .3 ∙ rw all)

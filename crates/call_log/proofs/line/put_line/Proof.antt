@@ -18,7 +18,7 @@ put-parts-requires c κs = search needs
 
 -- src/line.rt:102:5
 put-requires-2 : tie.Need-put-requires-2
-put-requires-2 c κs = 
+put-requires-2 c κs =
     let a = c .before .before .before .before .before .before .before .before .before .before .before .args in
     omega (arith, parts-most (a .line .count) (a .line .cells), c .before .before .before .put-parts .ensures .1, c .before .before .before .put-parts .kept .0, c .before .before .before .before .before .before .before .put .kept .0, c .before .before .before .before .before .before .before .put .ensures .1)
 
@@ -28,7 +28,7 @@ same-length c = search needs
 
 -- src/line.rt:93:1
 returns : tie.Need-returns
-returns c = 
+returns c =
     let a = c .before .before .before .before .before .before .before .before .before .before .before .before .before .before .args in
     let p = c .before .before .before .before .before .before .before .before .before .before .put in
     let q = c .before .before .before .before .before .before .put-parts in

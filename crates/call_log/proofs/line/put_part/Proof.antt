@@ -55,7 +55,7 @@ same-length c = search needs
 
 -- src/line.rt:62:1
 returns : tie.Need-returns
-returns c = 
+returns c =
     let a = c .before .before .before .before .before .before .before .before .args in
     let p = c .before .before .put-spaced-decimal in
     part-put (a .out .now) (p .last .0) (a .at) (p .result) (a .part) _ (c .before .before .before .before .before .part .given .1) (p .ensures .0) (p .ensures .1)
@@ -66,7 +66,7 @@ same-length-2 c = search needs
 
 -- src/line.rt:62:1
 returns-2 : tie.Need-returns-2
-returns-2 c = 
+returns-2 c =
     let a = c .before .before .before .before .before .before .before .before .args in
     let p = c .before .before .put-spaced-hex in
     part-word (a .out .now) (p .last .0) (a .at) (p .result) (a .part) _ (c .before .before .before .before .before .part2 .given .1) (p .ensures .0) (p .ensures .1)
@@ -77,7 +77,7 @@ same-length-3 c = search needs
 
 -- src/line.rt:62:1
 returns-3 : tie.Need-returns-3
-returns-3 c = 
+returns-3 c =
     let a = c .before .before .before .before .before .before .before .before .args in
     let p = c .before .before .put-spaced-hex2 in
     part-byte (a .out .now) (p .last .0) (a .at) (p .result) (a .part) _ (c .before .before .before .before .before .part3 .given .1) (p .ensures .0) (p .ensures .1)
@@ -88,7 +88,7 @@ same-length-4 c = search needs
 
 -- src/line.rt:62:1
 returns-4 : tie.Need-returns-4
-returns-4 c = 
+returns-4 c =
     let a = c .before .before .before .before .before .before .before .before .args in
     let p = c .before .before .put-hex in
     part-joined (a .out .now) (p .last .0) (a .at) (p .result) (a .part) _ (c .before .before .before .before .before .part4 .given .1) (p .ensures .0) (p .ensures .1)
@@ -99,7 +99,7 @@ same-length-5 c = search needs
 
 -- src/line.rt:62:1
 returns-5 : tie.Need-returns-5
-returns-5 c = 
+returns-5 c =
     let a = c .before .before .before .before .before .before .before .args in
     let p = c .before .before .put-dash in
     part-put (a .out .now) (p .last .0) (a .at) (p .result) (a .part) _ (c .before .before .before .before .enum-told .given .1) (p .ensures .0) (p .ensures .1)

@@ -13,7 +13,7 @@ use Rattle.call_log.proofs.line.put_parts.Lts as lts
 use Rattle.call_log.proofs.line.put_part.Reads as put-part-reads
 
 abbrev Inv-loop : tie.InvT-loop
-Inv-loop out₀ at count cells place₀ i₀ out place i = 
+Inv-loop out₀ at count cells place₀ i₀ out place i =
     (i ≤ count) × (length out ≡ length out₀) × (place ≤ at + 21 * i) × (out ≡ putAt out₀ at (partsBytes (take i cells)))
     × (place ≡ at + length (partsBytes (take i cells)))
 
@@ -22,7 +22,7 @@ abbrev μ-loop : tie.MeasureT-loop
 
 -- src/line.rt:84:5
 loop-holds : tie.Need-loop-holds Inv-loop μ-loop
-loop-holds c = 
+loop-holds c =
     let a = c .before .args in
     let none = parts-none (a .out .now) (a .at) (a .t3) in
     (omega arith, refl, omega arith, none .0, none .1)
@@ -49,7 +49,7 @@ loop-less c = search needs
 
 -- src/line.rt:84:5
 loop-again : tie.Need-loop-again Inv-loop μ-loop
-loop-again c = 
+loop-again c =
     let a = c .before .before .before .before .before .before .before .before .args in
     let l = c .before .before .before .before .before .before .loop in
     let p = c .before .before .put-part in
@@ -63,7 +63,7 @@ same-length c = c .before .loop .inv .1
 
 -- src/line.rt:76:1
 returns : tie.Need-returns Inv-loop μ-loop
-returns c = 
+returns c =
     let l = c .before .loop in
     let all : l .i ≡ c .before .before .before .args .count = omega arith in
     (l .inv .3 ∙ rw all, l .inv .4 ∙ rw all)

@@ -23,7 +23,7 @@ same-length c = search needs
 
 -- src/line.rt:34:1
 returns : tie.Need-returns
-returns c = 
+returns c =
     let a = c .before .before .before .before .before .before .before .before .before .args in
     let p = c .before .before .before .before .before .before .put in
     let q = c .before .before .put-decimal in

@@ -18,7 +18,7 @@ same-record-requires c κs = search needs
 -- src/records.rt:43:9
 returns : tie.Need-returns
 unfolding recordChange
-returns c = 
+returns c =
     let a = c .before .before .before .args in
     stays (a .out .now) (a .at) (sameRecord (a .before) (a .after)) (recordLine (a .place) (a .after)) (sym (c .before .same-record .ensures) ∙ c .if1 .taken)
 
@@ -37,7 +37,7 @@ same-length c = search needs
 -- src/records.rt:31:1
 returns-2 : tie.Need-returns-2
 unfolding recordChange
-returns-2 c = 
+returns-2 c =
     let a = c .before .before .before .before .before .before .before .before .args in
     let h = c .before .before .before .before .record-line in
     let q = c .before .before .put-line in

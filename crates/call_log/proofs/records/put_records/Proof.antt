@@ -20,7 +20,7 @@ abbrev said-of : List QueueTransferDescriptor → List QueueTransferDescriptor �
 said-of before after i = recordChange i (getD before i blank) (getD after i blank)
 
 abbrev Inv-loop : tie.InvT-loop
-Inv-loop out₀ at before after place₀ i₀ out place i = 
+Inv-loop out₀ at before after place₀ i₀ out place i =
     (i ≤ 256) × (length out ≡ length out₀) × (out ≡ putAt out₀ at (upTo (said-of before after) i)) × (place ≡ at + length (upTo (said-of before after) i))
 
 abbrev μ-loop : tie.MeasureT-loop
@@ -28,7 +28,7 @@ abbrev μ-loop : tie.MeasureT-loop
 
 -- src/records.rt:61:5
 loop-holds : tie.Need-loop-holds Inv-loop μ-loop
-loop-holds c = 
+loop-holds c =
     let a = c .before .args in
     let none = up-none (said-of (c .before .args .t3) (c .before .args .t4)) (a .out .now) (a .at) in
     (omega arith, refl, none .0, none .1)
@@ -63,7 +63,7 @@ loop-less c = search needs
 
 -- src/records.rt:61:5
 loop-again : tie.Need-loop-again Inv-loop μ-loop
-loop-again c = 
+loop-again c =
     let a = c .before .before .before .before .before .before .before .before .before .args in
     let l = c .before .before .before .before .before .before .before .loop in
     let p = c .before .before .put-record in
@@ -71,7 +71,7 @@ loop-again c =
     let more : length (a .t4) ≡ 256 = c .before .before .before .before .before .before .before .before .before .good .1 .1 .1 .0 .1 .0 .1 in
     let said = record-any (a .t3) (a .t4) (l .i) _ _ (omega arith) (omega arith) in
     let turned = up-turn (said-of (a .t3) (a .t4)) (a .out .now) (l .out) (p .last .0) (a .at) (l .place) (p .result) (l .i) (omega (arith, c .before .before .before .before .before .before .before .before .before .pre))
-          (l .inv .2) (l .inv .3) (p .ensures .0 ∙ ap (putAt (l .out) (l .place)) said) (p .ensures .1 ∙ ap (λ (x : List ℕ). l .place + length x) said) in
+    (l .inv .2) (l .inv .3) (p .ensures .0 ∙ ap (putAt (l .out) (l .place)) said) (p .ensures .1 ∙ ap (λ (x : List ℕ). l .place + length x) said) in
     (omega arith, p .kept .0 ∙ l .inv .1, turned .0, turned .1)
 
 -- src/records.rt:49:1
@@ -80,7 +80,7 @@ same-length c = c .before .loop .inv .1
 
 -- src/records.rt:49:1
 returns : tie.Need-returns Inv-loop μ-loop
-returns c = 
+returns c =
     let l = c .before .loop in
     let all : l .i ≡ 256 = omega arith in
     (l .inv .2 ∙ rw all, l .inv .3 ∙ rw all)

@@ -15,7 +15,7 @@ use Rattle.call_log.proofs.lines.head_line.Reads as head-line-reads
 -- src/rows.rt:25:9
 returns : tie.Need-returns
 unfolding headChange
-returns c = 
+returns c =
     let a = c .before .before .args in
     stays (a .out .now) (a .at) (eqb (a .before) (a .after)) (headLine (a .i / 17) (a .i % 17) (a .after)) (eq-eqb (a .before) (a .after) (c .if1 .taken))
 
@@ -34,7 +34,7 @@ same-length c = search needs
 -- src/rows.rt:19:1
 returns-2 : tie.Need-returns-2
 unfolding headChange
-returns-2 c = 
+returns-2 c =
     let a = c .before .before .before .before .before .before .before .args in
     let h = c .before .before .before .before .head-line in
     let p = c .before .before .put-line in

@@ -16,7 +16,7 @@ use Rattle.call_log.proofs.lines.port_line.Reads as port-line-reads
 -- src/rows.rt:54:9
 returns : tie.Need-returns
 unfolding portChange
-returns c = 
+returns c =
     let a = c .before .before .args in
     stays (a .out .now) (a .at) (both (not (a .all)) (eqb (a .before) (a .after))) (portLine (a .i + 1) (a .after)) (c .if1 .taken)
 
@@ -43,7 +43,7 @@ same-length c = search needs
 -- src/rows.rt:47:1
 returns-2 : tie.Need-returns-2
 unfolding portChange
-returns-2 c = 
+returns-2 c =
     let a = c .before .before .before .before .before .before .before .args in
     let h = c .before .before .before .before .port-line in
     let p = c .before .before .put-line in

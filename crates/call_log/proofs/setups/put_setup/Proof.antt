@@ -25,7 +25,7 @@ same-eight-requires c κs = search needs
 -- src/setups.rt:35:9
 returns : tie.Need-returns
 unfolding setupChange
-returns c = 
+returns c =
     let a = c .before .before .before .before .before .args in
     let l = a .after .now in
     let p = 8 * a .slot in
@@ -108,7 +108,7 @@ same-length c = search needs
 -- src/setups.rt:26:1
 returns-2 : tie.Need-returns-2
 unfolding setupChange
-returns-2 c = 
+returns-2 c =
     let a = c .before .before .before .before .before .before .before .before .before .before .before .before .before .before .before .before .before .before .args in
     let l = a .after .now in
     let p = 8 * a .slot in

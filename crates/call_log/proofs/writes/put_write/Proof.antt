@@ -20,7 +20,7 @@ same-length c = search needs
 
 -- src/writes.rt:12:1
 returns : tie.Need-returns
-returns c = 
+returns c =
     let p = c .before .before .put-line in
     rw (← c .before .before .before .before .write-line .ensures .1) (p .ensures .0, p .ensures .1)
 

@@ -20,7 +20,7 @@ abbrev said-of : List Write → ℕ → List ℕ
 said-of list i = writeLine (getD list i (record { offset = 0; value = 0 }) .offset) (getD list i (record { offset = 0; value = 0 }) .value)
 
 abbrev Inv-loop : tie.InvT-loop
-Inv-loop out₀ at list count place₀ i₀ out place i = 
+Inv-loop out₀ at list count place₀ i₀ out place i =
     (i ≤ count) × (length out ≡ length out₀) × (out ≡ putAt out₀ at (upTo (said-of list) i)) × (place ≡ at + length (upTo (said-of list) i))
 
 abbrev μ-loop : tie.MeasureT-loop
@@ -32,7 +32,7 @@ cast-count c = search needs
 
 -- src/writes.rt:31:5
 loop-holds : tie.Need-loop-holds Inv-loop μ-loop
-loop-holds c = 
+loop-holds c =
     let a = c .before .before .before .args in
     let none = up-none (said-of (c .before .before .before .args .writes .writes)) (a .out .now) (a .at) in
     (omega arith, refl, none .0, none .1)
@@ -59,7 +59,7 @@ loop-less c = search needs
 
 -- src/writes.rt:31:5
 loop-again : tie.Need-loop-again Inv-loop μ-loop
-loop-again c = 
+loop-again c =
     let a = c .before .before .before .before .before .before .before .before .before .before .args in
     let l = c .before .before .before .before .before .before .loop in
     let p = c .before .before .put-write in
@@ -67,7 +67,7 @@ loop-again c =
     let six : length list ≡ 6 = writes-length (a .writes) (c .before .before .before .before .before .before .before .before .before .before .good .1 .1 .0) in
     let said = write-any list (l .i) _ (omega (arith, c .before .before .before .before .before .before .before .before .before .before .pre)) in
     let turned = up-turn (said-of list) (a .out .now) (l .out) (p .last .0) (a .at) (l .place) (p .result) (l .i) (omega (arith, c .before .before .before .before .before .before .before .before .before .before .pre))
-          (l .inv .2) (l .inv .3) (p .ensures .0 ∙ ap (putAt (l .out) (l .place)) said) (p .ensures .1 ∙ ap (λ (x : List ℕ). l .place + length x) said) in
+    (l .inv .2) (l .inv .3) (p .ensures .0 ∙ ap (putAt (l .out) (l .place)) said) (p .ensures .1 ∙ ap (λ (x : List ℕ). l .place + length x) said) in
     (omega arith, p .kept .0 ∙ l .inv .1, turned .0, turned .1)
 
 -- src/writes.rt:21:1
@@ -76,7 +76,7 @@ same-length c = c .before .loop .inv .1
 
 -- src/writes.rt:21:1
 returns : tie.Need-returns Inv-loop μ-loop
-returns c = 
+returns c =
     let l = c .before .loop in
     let all : l .i ≡ c .before .before .before .before .before .args .writes .count = omega arith in
     (l .inv .2 ∙ rw all, l .inv .3 ∙ rw all)

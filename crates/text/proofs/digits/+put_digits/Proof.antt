@@ -78,7 +78,7 @@ put-digits-returns-2 : (t : ℕ) → put-digits-lts.Need-returns-2 (
   put-digits-below t,
   put-digits.Post,
 ) (put-digits-at t) put-digits.Post
-put-digits-returns-2 t c = 
+put-digits-returns-2 t c =
     let a = c .before .before .before .before .before .before .before .before .args in
     let p = c .before .before .put in
     let d = c .before .before .before .decimal-digit in
@@ -127,7 +127,7 @@ put-digits-put-requires-2 : (t : ℕ) → put-digits-lts.Need-put-requires-2 (
   put-digits-below t,
   put-digits.Post,
 ) (put-digits-at t) put-digits.Post
-put-digits-put-requires-2 t c κs = 
+put-digits-put-requires-2 t c κs =
     let a = c .before .before .before .before .before .before .before .before .before .args in
     omega (arith, decimal-most (a .most - 1) (a .n / 10), c .before .before .before .before .put-digits .ensures .1, c .before .before .before .before .put-digits .kept .0, c .before .before .before .before .before .before .before .before .before .pre .1, c .before .before .before .before .before .before .before .if1 .left)
 
@@ -151,7 +151,7 @@ put-digits-returns-3 : (t : ℕ) → put-digits-lts.Need-returns-3 (
   put-digits-below t,
   put-digits.Post,
 ) (put-digits-at t) put-digits.Post
-put-digits-returns-3 t c = 
+put-digits-returns-3 t c =
     let a = c .before .before .before .before .before .before .before .before .before .before .before .before .args in
     let p = c .before .before .before .before .before .before .before .put-digits in
     let d = c .before .before .before .decimal-digit2 in

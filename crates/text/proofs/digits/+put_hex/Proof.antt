@@ -96,7 +96,7 @@ put-hex-returns-2 : (t : ℕ) → put-hex-lts.Need-returns-2 (
   put-reads.Asked,
   put-reads.Learnt,
 ) (put-hex-at t) put-hex.Post
-put-hex-returns-2 t c = 
+put-hex-returns-2 t c =
     let a = c .before .before .before .before .before .before .before .before .before .before .before .args in
     let p = c .before .before .before .before .before .before .before .put-hex in
     let d = c .before .before .before .hex-digit in
