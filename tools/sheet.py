@@ -2,8 +2,8 @@
 """What document 01 says that `sheet` prints, written from the document and not from the code: tools/sheet.py FILE...
 
 It reads each sheet and prints its listing; with no file it reads standard input. `tools/sheet.py --make` writes the
-sheets of examples/ and their listings."""
-import os, struct, sys
+sheets of examples/ and their listings, and what the program `sheet_cases` is run on and held to."""
+import os, random, struct, sys
 
 D, E, C = 16, 8, 16384
 POOL, HEADS, FRAMES, SETUPS = 0x100000, 0x200000, 0x300000, 0x400000
@@ -109,14 +109,23 @@ def listing(sheet):
     return "".join(line + "\n" for line in lines)
 
 
-def make():
+def endpoint(kind, address, number, packet):
+    return struct.pack("<BBBBH", kind, address, number, 0, packet)
+
+
+def request(record, direction, setup, address, length):
+    return struct.pack("<BB6sQI", record, direction, setup, address, length)
+
+
+def sheet(endpoints, requests):
+    return b"".join([struct.pack("<H", len(endpoints))] + endpoints + [struct.pack("<H", len(requests))] + requests)
+
+
+def shown():
     """The sheets of examples/: a few that show each part of the listing."""
-    endpoint = lambda kind, address, number, packet: struct.pack("<BBBBH", kind, address, number, 0, packet)
-    request = lambda record, direction, setup, address, length: struct.pack("<BB6sQI", record, direction, setup, address, length)
-    sheet = lambda es, rs: struct.pack("<H", len(es)) + b"".join(es) + struct.pack("<H", len(rs)) + b"".join(rs)
     get = bytes([0x80, 6, 0, 1, 0, 0])
     none = bytes(6)
-    sheets = {
+    return {
         "control-in": sheet([endpoint(0, 0, 0, 64)], [request(0, 1, get, 0x10000FFF, 18)]),
         "empty": sheet([], []),
         "camera": sheet(
@@ -140,10 +149,59 @@ def make():
         "bad-long": sheet([], []) + b"\0",
         "bad-kind": sheet([endpoint(4, 0, 0, 64)], []),
     }
-    folder = os.path.join(os.path.dirname(os.path.abspath(__file__)), "..", "examples")
-    for name, data in sheets.items():
-        open(os.path.join(folder, name + ".sheet"), "wb").write(data)
-        open(os.path.join(folder, name + ".listing"), "w").write(listing(data))
+
+
+def spoiled(data):
+    """A sheet malformed in each way: cut anywhere, longer, and each byte with each of its bits turned."""
+    for n in range(len(data)):
+        yield data[:n]
+    yield data + bytes(1)
+    yield data + bytes(600)
+    for k in range(len(data)):
+        for bit in range(8):
+            yield data[:k] + bytes([data[k] ^ 1 << bit]) + data[k + 1 :]
+
+
+def drawn(draw):
+    """A sheet by chance, mostly good."""
+    records = [
+        endpoint(
+            draw.choice([0, 0, 1, 2, 2, 2, 3]), draw.choice([0, 5, 127, 127, 128]), draw.choice([0, 1, 15, 15, 16]), draw.choice([0, 1, 64, 512, 1024, 1025])
+        )
+        for _ in range(draw.randint(0, 8))
+    ]
+    requests = []
+    for _ in range(draw.randint(0, 12)):
+        record, direction = draw.randint(0, max(1, len(records))), draw.randint(0, 1)
+        control = record < len(records) and records[record][0] == CONTROL
+        bit = direction if draw.random() < 0.9 else 1 - direction
+        setup = bytes([bit << 7 | draw.randint(0, 127)] + [draw.randint(0, 255) for _ in range(5)]) if control else bytes(6)
+        length = draw.choice([0, 1, 18, 4096, C - 1, C, C + 1, 2 * C, 50000, draw.randint(0, 300000)])
+        address = draw.choice([0, 0x10000FFF, 2**32 - length, 2**32 - length + 1, 2**32, 2**40, draw.randint(0, 2**32)])
+        requests.append(request(record, direction, setup, address, length))
+    return sheet(records, requests)
+
+
+def full():
+    """The most records of each kind, and one more."""
+    none = bytes(6)
+    eight = [endpoint(BULK, k, 1, 512) for k in range(8)]
+    many = [request(k % 8, 1, none, 0x1000000 * k, C) for k in range(64)]
+    return [sheet(eight, many), sheet(eight + eight[:1], []), sheet(eight, many + many[:1]), sheet(eight[:1], many)]
+
+
+def make():
+    top = os.path.join(os.path.dirname(os.path.abspath(__file__)), "..")
+    for name, data in shown().items():
+        open(os.path.join(top, "examples", name + ".sheet"), "wb").write(data)
+        open(os.path.join(top, "examples", name + ".listing"), "w").write(listing(data))
+    draw = random.Random(1)
+    cases = list(shown().values()) + list(spoiled(shown()["control-in"])) + full() + [drawn(draw) for _ in range(300)]
+    program = os.path.join(top, "crates", "sheet_cases")
+    with open(os.path.join(program, "stdin"), "wb") as given, open(os.path.join(program, "stdout"), "w") as wanted:
+        for data in cases:
+            given.write(struct.pack("<H", len(data)) + data)
+            wanted.write(listing(data) + ".\n")
 
 
 def main():
