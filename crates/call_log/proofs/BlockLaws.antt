@@ -30,8 +30,18 @@ shown-most : (x : Seen) → length (shownLine x) ≤ 174
 unfolding shownLine lineOf
 shown-most x =
     simp length-append
-    (omega (arith, decimal-length (x .running), decimal-length (x .flag), decimal-length (x .doorbell), decimal-length (x .note),
-    decimal-length (x .unanswered), hex-length (x .pending) 8, hex-length (x .masked) 8, decimal-length (x .free), decimal-length (x .address)))
+    (omega (
+      arith,
+      decimal-length (x .running),
+      decimal-length (x .flag),
+      decimal-length (x .doorbell),
+      decimal-length (x .note),
+      decimal-length (x .unanswered),
+      hex-length (x .pending) 8,
+      hex-length (x .masked) 8,
+      decimal-length (x .free),
+      decimal-length (x .address),
+    ))
 
 pub records-most : (b a : Rows) → length (recordLines (b .pool) (a .pool)) ≤ 35840
 records-most b a = up-most (λ i. recordChange i (getD (b .pool) i blank) (getD (a .pool) i blank)) 140 (λ i. record-most i _ _) 256

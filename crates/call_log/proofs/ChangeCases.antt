@@ -98,8 +98,13 @@ pub frame-most : (b a : List ℕ) (i : ℕ) → length (frameChange b a i) ≤ 5
 unfolding frameChange frameLine
 frame-most b a i =
     if-most (not (runEnds b a i (goesOn b a i))) (frameLine (firstOf b a i) i (getD a i 0)) 53
-    (omega (arith, line-three 70 (decimal (firstOf b a i)) (decimal i) (hex (getD a i 0) 8), decimal-length (firstOf b a i), decimal-length i,
-    hex-length (getD a i 0) 8))
+    (omega (
+      arith,
+      line-three 70 (decimal (firstOf b a i)) (decimal i) (hex (getD a i 0) 8),
+      decimal-length (firstOf b a i),
+      decimal-length i,
+      hex-length (getD a i 0) 8,
+    ))
 
 module _ (b a : List ℕ) (i first : ℕ) (on : Bool) (o : on ≡ goesOn b a i) (f : first ≡ firstOf b a i) where
   pub frame-said : (ends : Bool) → ends ≡ runEnds b a i on → shownIf ends (frameLine first i (getD a i 0)) ≡ frameChange b a i

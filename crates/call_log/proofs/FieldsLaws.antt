@@ -93,8 +93,8 @@ whole : (bs : List ℕ) → smallBytes (fieldsOf bs) ≡ take 8 bs
 unfolding bytesOf fieldsOf
 whole bs a b c d e f g k =
     let rest : spread 8 (numberAt bs 8) ++ (spread 8 (numberAt bs 16) ++ (spread 8 (numberAt bs 24) ++ (spread 8 (numberAt bs 32)
-          ++ (spread 8 (numberAt bs 40) ++ (spread 8 (numberAt bs 48) ++ spread 8 (numberAt bs 56)))))) ≡ drop 8 bs
-          = rw (b, c, d, e, f, g, k) (rw (joins bs 48, joins bs 40, joins bs 32, joins bs 24, joins bs 16) (joins bs 8)) in
+    ++ (spread 8 (numberAt bs 40) ++ (spread 8 (numberAt bs 48) ++ spread 8 (numberAt bs 56)))))) ≡ drop 8 bs
+    = rw (b, c, d, e, f, g, k) (rw (joins bs 48, joins bs 40, joins bs 32, joins bs 24, joins bs 16) (joins bs 8)) in
     ap (λ (l : List ℕ). smallBytes (fieldsOf bs) ++ l) rest ∙ ap (λ (l : List ℕ). l ++ drop 8 bs) a ∙ take-drop 8 bs
 
 pub fields-back : (bs : List ℕ) → length bs ≡ 64 → Bytes bs → bytesOf (fieldsOf bs) ≡ bs

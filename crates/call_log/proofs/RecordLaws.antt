@@ -290,15 +290,30 @@ call-back (C.Close k) h = refl
 call-back (C.SetAddress k a) h = refl
 call-back (C.SetPacketSize k z) h = refl
 call-back (C.Submit k t r) h =
-    rw (kind-low (t .kind), direction-low (t .direction), lt-ltb (t .setup) (2 ^ 48) (h .0), word-in (r .command) (h .1), kind-there (t .kind),
-    direction-there (t .direction), mod-eq-of-lt (h .1))
+    rw (
+      kind-low (t .kind),
+      direction-low (t .direction),
+      lt-ltb (t .setup) (2 ^ 48) (h .0),
+      word-in (r .command) (h .1),
+      kind-there (t .kind),
+      direction-there (t .direction),
+      mod-eq-of-lt (h .1),
+    )
     (ap (λ (z : ℕ). ACall (C.Submit k t (record { command = r .command; frame = z }))) (sym (h .2)))
 call-back (C.Writeback p t) h = rw (word-in t h, mod-eq-of-lt h)
 call-back (C.Cancel k id r) h = rw (word-in (r .command) (h .0), word-in (r .frame) (h .1), mod-eq-of-lt (h .0), mod-eq-of-lt (h .1))
 call-back (C.Collect k id r) h = rw (word-in (r .command) (h .0), word-in (r .frame) (h .1), mod-eq-of-lt (h .0), mod-eq-of-lt (h .1))
 call-back (C.Acknowledge x) h =
-    rw (flag-low (x .flag), flag-low (x .again), word-in (x .status) (h .0), word-in (x .interrupts) (h .1), flag-there (x .flag), flag-there (x .again),
-    mod-eq-of-lt (h .0), mod-eq-of-lt (h .1))
+    rw (
+      flag-low (x .flag),
+      flag-low (x .again),
+      word-in (x .status) (h .0),
+      word-in (x .interrupts) (h .1),
+      flag-there (x .flag),
+      flag-there (x .again),
+      mod-eq-of-lt (h .0),
+      mod-eq-of-lt (h .1),
+    )
 call-back (C.Drain v) h = rw (word-in v h, mod-eq-of-lt h)
 call-back C.Rearm h = refl
 call-back C.Enable h = refl

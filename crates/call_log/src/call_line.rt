@@ -14,12 +14,12 @@ ghost use Rattle.call_log.specs.CallLine.{
   stepLine,
 };
 ghost use Rattle.call_log.specs.Lines.{lineBytes, saidLine};
-use answer::answer::Answer;
-use bring_up::reads::NextRead;
 use crate::line::Cell;
 use crate::line::Line;
 use crate::line::Part;
 use crate::lines::line_of_three;
+use answer::answer::Answer;
+use bring_up::reads::NextRead;
 use ehci::reply::Answered;
 use ehci::reply::Event;
 use ehci::reply::Given;
@@ -43,9 +43,15 @@ fn line_with(n: u64, call: u8, answer: u8, value: Part) -> Line
     ensures { λ r. ⌜ lineBytes r ≡ saidLine 67 (Part.Decimal n ∷ Part.Decimal call ∷ Part.Decimal answer ∷ value ∷ []) ⌝ }
 {
     let mut cells = [Cell { part: Part::Dash }; 14];
-    cells[0] = Cell { part: Part::Decimal(n) };
-    cells[1] = Cell { part: Part::Decimal(call as u64) };
-    cells[2] = Cell { part: Part::Decimal(answer as u64) };
+    cells[0] = Cell {
+        part: Part::Decimal(n),
+    };
+    cells[1] = Cell {
+        part: Part::Decimal(call as u64),
+    };
+    cells[2] = Cell {
+        part: Part::Decimal(answer as u64),
+    };
     cells[3] = Cell { part: value };
     Line {
         letter: b'C',
@@ -82,11 +88,21 @@ fn event_line(n: u64, call: u8, event: u64, value: u64) -> Line
     ensures { λ r. ⌜ lineBytes r ≡ callLine n call 0 (decimal event ∷ decimal value ∷ []) ⌝ }
 {
     let mut cells = [Cell { part: Part::Dash }; 14];
-    cells[0] = Cell { part: Part::Decimal(n) };
-    cells[1] = Cell { part: Part::Decimal(call as u64) };
-    cells[2] = Cell { part: Part::Decimal(0) };
-    cells[3] = Cell { part: Part::Decimal(event) };
-    cells[4] = Cell { part: Part::Decimal(value) };
+    cells[0] = Cell {
+        part: Part::Decimal(n),
+    };
+    cells[1] = Cell {
+        part: Part::Decimal(call as u64),
+    };
+    cells[2] = Cell {
+        part: Part::Decimal(0),
+    };
+    cells[3] = Cell {
+        part: Part::Decimal(event),
+    };
+    cells[4] = Cell {
+        part: Part::Decimal(value),
+    };
     Line {
         letter: b'C',
         count: 5,
@@ -109,13 +125,25 @@ fn step_line(n: u64, call: u8, read: Part, wait: u32, event: u8, port: u8) -> Li
     ensures { λ r. ⌜ lineBytes r ≡ saidLine 67 (Part.Decimal n ∷ Part.Decimal call ∷ Part.Decimal 0 ∷ read ∷ Part.Decimal wait ∷ Part.Decimal event ∷ Part.Decimal port ∷ []) ⌝ }
 {
     let mut cells = [Cell { part: Part::Dash }; 14];
-    cells[0] = Cell { part: Part::Decimal(n) };
-    cells[1] = Cell { part: Part::Decimal(call as u64) };
-    cells[2] = Cell { part: Part::Decimal(0) };
+    cells[0] = Cell {
+        part: Part::Decimal(n),
+    };
+    cells[1] = Cell {
+        part: Part::Decimal(call as u64),
+    };
+    cells[2] = Cell {
+        part: Part::Decimal(0),
+    };
     cells[3] = Cell { part: read };
-    cells[4] = Cell { part: Part::Decimal(wait as u64) };
-    cells[5] = Cell { part: Part::Decimal(event as u64) };
-    cells[6] = Cell { part: Part::Decimal(port as u64) };
+    cells[4] = Cell {
+        part: Part::Decimal(wait as u64),
+    };
+    cells[5] = Cell {
+        part: Part::Decimal(event as u64),
+    };
+    cells[6] = Cell {
+        part: Part::Decimal(port as u64),
+    };
     Line {
         letter: b'C',
         count: 7,

@@ -101,20 +101,48 @@ pub fn record_line(place: u64, r: QueueTransferDescriptor) -> Line
     let pages = r.pages;
     let upper = r.upper;
     let mut cells = [Cell { part: Part::Dash }; 14];
-    cells[0] = Cell { part: Part::Decimal(place) };
-    cells[1] = Cell { part: Part::Word(r.next) };
-    cells[2] = Cell { part: Part::Word(r.alternate) };
-    cells[3] = Cell { part: Part::Word(r.token) };
-    cells[4] = Cell { part: Part::Word(pages[0]) };
-    cells[5] = Cell { part: Part::Word(pages[1]) };
-    cells[6] = Cell { part: Part::Word(pages[2]) };
-    cells[7] = Cell { part: Part::Word(pages[3]) };
-    cells[8] = Cell { part: Part::Word(pages[4]) };
-    cells[9] = Cell { part: Part::Word(upper[0]) };
-    cells[10] = Cell { part: Part::Word(upper[1]) };
-    cells[11] = Cell { part: Part::Word(upper[2]) };
-    cells[12] = Cell { part: Part::Word(upper[3]) };
-    cells[13] = Cell { part: Part::Word(upper[4]) };
+    cells[0] = Cell {
+        part: Part::Decimal(place),
+    };
+    cells[1] = Cell {
+        part: Part::Word(r.next),
+    };
+    cells[2] = Cell {
+        part: Part::Word(r.alternate),
+    };
+    cells[3] = Cell {
+        part: Part::Word(r.token),
+    };
+    cells[4] = Cell {
+        part: Part::Word(pages[0]),
+    };
+    cells[5] = Cell {
+        part: Part::Word(pages[1]),
+    };
+    cells[6] = Cell {
+        part: Part::Word(pages[2]),
+    };
+    cells[7] = Cell {
+        part: Part::Word(pages[3]),
+    };
+    cells[8] = Cell {
+        part: Part::Word(pages[4]),
+    };
+    cells[9] = Cell {
+        part: Part::Word(upper[0]),
+    };
+    cells[10] = Cell {
+        part: Part::Word(upper[1]),
+    };
+    cells[11] = Cell {
+        part: Part::Word(upper[2]),
+    };
+    cells[12] = Cell {
+        part: Part::Word(upper[3]),
+    };
+    cells[13] = Cell {
+        part: Part::Word(upper[4]),
+    };
     Line {
         letter: b'P',
         count: 14,
@@ -123,30 +151,38 @@ pub fn record_line(place: u64, r: QueueTransferDescriptor) -> Line
 }
 
 // The setup bytes are in memory order.
-pub fn setup_line(
-    slot: u64,
-    b0: u8,
-    b1: u8,
-    b2: u8,
-    b3: u8,
-    b4: u8,
-    b5: u8,
-    b6: u8,
-    b7: u8,
-) -> Line
+pub fn setup_line(slot: u64, b0: u8, b1: u8, b2: u8, b3: u8, b4: u8, b5: u8, b6: u8, b7: u8) -> Line
     ensures { λ l. ⌜ l .count ≤ 14 ⌝ }
     ensures { λ l. ⌜ lineBytes l ≡ setupLine slot (b0 ∷ b1 ∷ b2 ∷ b3 ∷ b4 ∷ b5 ∷ b6 ∷ b7 ∷ []) ⌝ }
 {
     let mut cells = [Cell { part: Part::Dash }; 14];
-    cells[0] = Cell { part: Part::Decimal(slot) };
-    cells[1] = Cell { part: Part::Byte(b0 as u32) };
-    cells[2] = Cell { part: Part::Joined(b1 as u32) };
-    cells[3] = Cell { part: Part::Joined(b2 as u32) };
-    cells[4] = Cell { part: Part::Joined(b3 as u32) };
-    cells[5] = Cell { part: Part::Joined(b4 as u32) };
-    cells[6] = Cell { part: Part::Joined(b5 as u32) };
-    cells[7] = Cell { part: Part::Joined(b6 as u32) };
-    cells[8] = Cell { part: Part::Joined(b7 as u32) };
+    cells[0] = Cell {
+        part: Part::Decimal(slot),
+    };
+    cells[1] = Cell {
+        part: Part::Byte(b0 as u32),
+    };
+    cells[2] = Cell {
+        part: Part::Joined(b1 as u32),
+    };
+    cells[3] = Cell {
+        part: Part::Joined(b2 as u32),
+    };
+    cells[4] = Cell {
+        part: Part::Joined(b3 as u32),
+    };
+    cells[5] = Cell {
+        part: Part::Joined(b4 as u32),
+    };
+    cells[6] = Cell {
+        part: Part::Joined(b5 as u32),
+    };
+    cells[7] = Cell {
+        part: Part::Joined(b6 as u32),
+    };
+    cells[8] = Cell {
+        part: Part::Joined(b7 as u32),
+    };
     Line {
         letter: b'S',
         count: 9,
@@ -189,15 +225,33 @@ fn shown_line(x: Seen) -> Line
     ensures { λ l. ⌜ lineBytes l ≡ shownLine x ⌝ }
 {
     let mut cells = [Cell { part: Part::Dash }; 14];
-    cells[0] = Cell { part: Part::Decimal(x.running as u64) };
-    cells[1] = Cell { part: Part::Decimal(x.flag as u64) };
-    cells[2] = Cell { part: Part::Decimal(x.doorbell as u64) };
-    cells[3] = Cell { part: Part::Decimal(x.note as u64) };
-    cells[4] = Cell { part: Part::Decimal(x.unanswered as u64) };
-    cells[5] = Cell { part: Part::Word(x.pending) };
-    cells[6] = Cell { part: Part::Word(x.masked) };
-    cells[7] = Cell { part: Part::Decimal(x.free as u64) };
-    cells[8] = Cell { part: Part::Decimal(x.address as u64) };
+    cells[0] = Cell {
+        part: Part::Decimal(x.running as u64),
+    };
+    cells[1] = Cell {
+        part: Part::Decimal(x.flag as u64),
+    };
+    cells[2] = Cell {
+        part: Part::Decimal(x.doorbell as u64),
+    };
+    cells[3] = Cell {
+        part: Part::Decimal(x.note as u64),
+    };
+    cells[4] = Cell {
+        part: Part::Decimal(x.unanswered as u64),
+    };
+    cells[5] = Cell {
+        part: Part::Word(x.pending),
+    };
+    cells[6] = Cell {
+        part: Part::Word(x.masked),
+    };
+    cells[7] = Cell {
+        part: Part::Decimal(x.free as u64),
+    };
+    cells[8] = Cell {
+        part: Part::Decimal(x.address as u64),
+    };
     Line {
         letter: b'Q',
         count: 9,

@@ -144,10 +144,7 @@ fn set_address(f: Fields) -> Entry
 fn set_packet_size(f: Fields) -> Entry
     ensures { λ r. ⌜ r ≡ setPacketSize f ⌝ }
 {
-    guard(
-        spare(f, 2, 0),
-        Entry::Call(Call::SetPacketSize(f.b1, f.b2)),
-    )
+    guard(spare(f, 2, 0), Entry::Call(Call::SetPacketSize(f.b1, f.b2)))
 }
 
 fn submit_request(f: Fields) -> Entry

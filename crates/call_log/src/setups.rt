@@ -17,7 +17,8 @@ fn same_eight(a: &[u8], b: &[u8], p: usize) -> bool
         & (a[p + 1] == b[p + 1])
         & (a[p + 2] == b[p + 2])
         & (a[p + 3] == b[p + 3]);
-    low & (a[p + 4] == b[p + 4])
+    low
+        & (a[p + 4] == b[p + 4])
         & (a[p + 5] == b[p + 5])
         & (a[p + 6] == b[p + 6])
         & (a[p + 7] == b[p + 7])

@@ -37,7 +37,7 @@ put-put o a b at h =
     let behind : drop (at + length a) (head ++ rest) ≡ rest = drop-at head rest (at + length a) (put-head o a at h) in
     let sum : at + length a + length b ≡ at + length (a ++ b) = simp length-append (omega arith) in
     let back : drop (at + length a + length b) (head ++ rest) ≡ drop (at + length (a ++ b)) o
-          = sym (drop-drop (length b) (at + length a) (head ++ rest)) ∙ rw behind (drop-drop (length b) (at + length a) o ∙ rw sum) in
+    = sym (drop-drop (length b) (at + length a) (head ++ rest)) ∙ rw behind (drop-drop (length b) (at + length a) o ∙ rw sum) in
     rw (whole, front, back) (simp append-assoc)
 
 pub length-put : (o a : List ℕ) (at : ℕ) → at + length a ≤ length o → length (putAt o at a) ≡ length o

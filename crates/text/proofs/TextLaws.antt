@@ -72,8 +72,10 @@ reads-up-to (suc k) n h = go (ltb n 10) refl (reads-up-to k (n / 10) tenth)
   where
     ten : n < 10 ^ k * 10
     ten = simp unary-clauses at h
+
     tenth : n / 10 < 10 ^ k
     tenth = div-lt-iff-lt-mul {k = 10} {x = n} {y = 10 ^ k} (omega arith) .1 ten
+
     go : (b : Bool) → ltb n 10 ≡ b → readDecimal (decimalUpTo k (n / 10)) 0 ≡ n / 10
         → readDecimal (pickBytes b ((48 + n) ∷ []) (decimalUpTo k (n / 10) ++ ((48 + n % 10) ∷ []))) 0 ≡ n
     go true e rec = omega arith

@@ -10,59 +10,56 @@ use Rattle.call_log.specs.Changes.{setupChange}
 use Rattle.call_log.proofs.ChangeCases.{setup-most, up-most, up-none, up-turn}
 use Rattle.call_log.proofs.setups.put_setups.Statement.{statement}
 use Rattle.call_log.proofs.setups.put_setups.Tie as tie
-use Rattle.call_log.proofs.setups.put_setups.Reads as reads
-use Rattle.call_log.proofs.setups.put_setups.Lts as lts
-use Rattle.call_log.proofs.setups.put_setup.Reads as put-setup-reads
 
 abbrev said-of : List ℕ → List ℕ → ℕ → List ℕ
 said-of before after = setupChange before after
 
 abbrev Inv-loop : tie.InvT-loop
-Inv-loop out₀ at slots before after place₀ i₀ out place i = 
+Inv-loop out₀ at slots before after place₀ i₀ out place i =
     (i ≤ slots) × (length out ≡ length out₀) × (out ≡ putAt out₀ at (upTo (said-of before after) i)) × (place ≡ at + length (upTo (said-of before after) i))
 
 abbrev μ-loop : tie.MeasureT-loop
 μ-loop out₀ at slots before after place₀ i₀ out place i = slots - i
 
--- src/setups.rt:61:5
 loop-holds : tie.Need-loop-holds Inv-loop μ-loop
-loop-holds c = 
+loop-holds c =
     let a = c .before .before .before .args in
     let none = up-none (said-of (c .before .before .before .args .before .now) (c .before .before .before .args .after .now)) (a .out .now) (a .at) in
     (omega arith, refl, none .0, none .1)
 
--- src/setups.rt:62:9
 put-setup-requires : tie.Need-put-setup-requires Inv-loop μ-loop
-put-setup-requires c κs = 
-    let a = c .before .before .before .before .before .before .args in
-    (omega (arith, up-most (said-of (a .before .now) (a .after .now)) 40 (setup-most (a .before .now) (a .after .now)) (c .before .before .loop .i), c .before .before .loop .inv .1,
-    c .before .before .loop .inv .3, c .before .before .before .before .before .before .pre), (omega (arith, c .before .before .before .before .before .before .pre), omega (arith, c .before .before .before .before .before .before .pre)))
+put-setup-requires c κs =
+    let a = c .before .before .before .before .before .before .args in (
+      omega (
+        arith,
+        up-most (said-of (a .before .now) (a .after .now)) 40 (setup-most (a .before .now) (a .after .now)) (c .before .before .loop .i),
+        c .before .before .loop .inv .1,
+        c .before .before .loop .inv .3,
+        c .before .before .before .before .before .before .pre,
+      ),
+      (omega (arith, c .before .before .before .before .before .before .pre), omega (arith, c .before .before .before .before .before .before .pre)),
+    )
 
--- src/setups.rt:63:9
 add-i : tie.Need-add-i Inv-loop μ-loop
 add-i c = search needs
 
--- src/setups.rt:61:5
 loop-less : tie.Need-loop-less Inv-loop μ-loop
 loop-less c = search needs
 
--- src/setups.rt:61:5
 loop-again : tie.Need-loop-again Inv-loop μ-loop
-loop-again c = 
+loop-again c =
     let a = c .before .before .before .before .before .before .before .before .before .args in
     let l = c .before .before .before .before .before .loop in
     let p = c .before .before .put-setup in
     let turned = up-turn (said-of (c .before .before .before .before .before .before .before .before .before .args .before .now) (c .before .before .before .before .before .before .before .before .before .args .after .now)) (a .out .now) (l .out) (p .last .0) (a .at) (l .place) (p .result) (l .i) (omega (arith, c .before .before .before .before .before .before .before .before .before .pre)) (l .inv .2) (l .inv .3)
-          (p .ensures .0) (p .ensures .1) in
+    (p .ensures .0) (p .ensures .1) in
     (omega arith, p .kept .0 ∙ l .inv .1, turned .0, turned .1)
 
--- src/setups.rt:51:1
 same-length : tie.Need-same-length Inv-loop μ-loop
 same-length c = c .before .loop .inv .1
 
--- src/setups.rt:51:1
 returns : tie.Need-returns Inv-loop μ-loop
-returns c = 
+returns c =
     let l = c .before .loop in
     let all : l .i ≡ c .before .before .before .before .before .args .slots = omega arith in
     (l .inv .2 ∙ rw all, l .inv .3 ∙ rw all)

@@ -12,54 +12,43 @@ use Rattle.call_log.proofs.ChangeCases.{up-most, up-none, up-turn, writ
 use Rattle.call_log.proofs.Known.{writes-length}
 use Rattle.call_log.proofs.writes.put_writes.Statement.{statement}
 use Rattle.call_log.proofs.writes.put_writes.Tie as tie
-use Rattle.call_log.proofs.writes.put_writes.Reads as reads
-use Rattle.call_log.proofs.writes.put_writes.Lts as lts
-use Rattle.call_log.proofs.writes.put_write.Reads as put-write-reads
 
 abbrev said-of : List Write → ℕ → List ℕ
 said-of list i = writeLine (getD list i (record { offset = 0; value = 0 }) .offset) (getD list i (record { offset = 0; value = 0 }) .value)
 
 abbrev Inv-loop : tie.InvT-loop
-Inv-loop out₀ at list count place₀ i₀ out place i = 
+Inv-loop out₀ at list count place₀ i₀ out place i =
     (i ≤ count) × (length out ≡ length out₀) × (out ≡ putAt out₀ at (upTo (said-of list) i)) × (place ≡ at + length (upTo (said-of list) i))
 
 abbrev μ-loop : tie.MeasureT-loop
 μ-loop out₀ at list count place₀ i₀ out place i = count - i
 
--- src/writes.rt:28:17
 cast-count : tie.Need-cast-count Inv-loop μ-loop
 cast-count c = search needs
 
--- src/writes.rt:31:5
 loop-holds : tie.Need-loop-holds Inv-loop μ-loop
-loop-holds c = 
+loop-holds c =
     let a = c .before .before .before .args in
     let none = up-none (said-of (c .before .before .before .args .writes .writes)) (a .out .now) (a .at) in
     (omega arith, refl, none .0, none .1)
 
--- src/writes.rt:32:21
 mul-write : tie.Need-mul-write Inv-loop μ-loop
 mul-write c = search needs
 
--- src/writes.rt:32:21
 array-copy-out-write : tie.Need-array-copy-out-write Inv-loop μ-loop
 array-copy-out-write c = omega (arith, c .before .before .before .before .before .pre)
 
--- src/writes.rt:33:9
 put-write-requires : tie.Need-put-write-requires Inv-loop μ-loop
 put-write-requires c κs = omega (arith, up-most (said-of (c .before .before .before .before .before .before .before .args .writes .writes)) 14 (λ i. write-most _ _) (c .before .before .before .loop .i), c .before .before .before .loop .inv .1, c .before .before .before .loop .inv .3, c .before .before .before .before .before .before .before .pre)
 
--- src/writes.rt:34:9
 add-i : tie.Need-add-i Inv-loop μ-loop
 add-i c = search needs
 
--- src/writes.rt:31:5
 loop-less : tie.Need-loop-less Inv-loop μ-loop
 loop-less c = search needs
 
--- src/writes.rt:31:5
 loop-again : tie.Need-loop-again Inv-loop μ-loop
-loop-again c = 
+loop-again c =
     let a = c .before .before .before .before .before .before .before .before .before .before .args in
     let l = c .before .before .before .before .before .before .loop in
     let p = c .before .before .put-write in
@@ -67,16 +56,14 @@ loop-again c =
     let six : length list ≡ 6 = writes-length (a .writes) (c .before .before .before .before .before .before .before .before .before .before .good .1 .1 .0) in
     let said = write-any list (l .i) _ (omega (arith, c .before .before .before .before .before .before .before .before .before .before .pre)) in
     let turned = up-turn (said-of list) (a .out .now) (l .out) (p .last .0) (a .at) (l .place) (p .result) (l .i) (omega (arith, c .before .before .before .before .before .before .before .before .before .before .pre))
-          (l .inv .2) (l .inv .3) (p .ensures .0 ∙ ap (putAt (l .out) (l .place)) said) (p .ensures .1 ∙ ap (λ (x : List ℕ). l .place + length x) said) in
+    (l .inv .2) (l .inv .3) (p .ensures .0 ∙ ap (putAt (l .out) (l .place)) said) (p .ensures .1 ∙ ap (λ (x : List ℕ). l .place + length x) said) in
     (omega arith, p .kept .0 ∙ l .inv .1, turned .0, turned .1)
 
--- src/writes.rt:21:1
 same-length : tie.Need-same-length Inv-loop μ-loop
 same-length c = c .before .loop .inv .1
 
--- src/writes.rt:21:1
 returns : tie.Need-returns Inv-loop μ-loop
-returns c = 
+returns c =
     let l = c .before .loop in
     let all : l .i ≡ c .before .before .before .before .before .args .writes .count = omega arith in
     (l .inv .2 ∙ rw all, l .inv .3 ∙ rw all)
