@@ -5,25 +5,16 @@ use Rattle.call_log.proofs.RowsKnown.{frames-length, heads-length, port
 use borrow.Author.Needs.{needs}
 use Rattle.call_log.proofs.block.put_block.Statement.{statement}
 use Rattle.call_log.proofs.block.put_block.Tie as tie
-use Rattle.call_log.proofs.block.put_block.Reads as reads
-use Rattle.call_log.proofs.block.put_block.Lts as lts
-use Rattle.call_log.proofs.block.put_port_rows.Reads as put-port-rows-reads
-use Rattle.call_log.proofs.block.put_rest.Reads as put-rest-reads
-use Rattle.call_log.proofs.block.put_rows.Reads as put-rows-reads
-use Rattle.call_log.proofs.line.put_line.Reads as put-line-reads
 
--- src/block.rt:142:9
 put-line-requires : tie.Need-put-line-requires
 put-line-requires c κs = search needs
 
--- src/block.rt:143:9
 put-rows-requires : tie.Need-put-rows-requires
 put-rows-requires c κs =
     let a = c .before .before .before .before .before .before .args in
     let p = c .before .before .before .put-line in
     omega (arith, c .before .before .before .before .before .before .pre .1, p .ensures .1, p .kept .0, line-most (a .first) (c .before .before .before .before .before .before .pre .0))
 
--- src/block.rt:146:9
 put-port-rows-requires : tie.Need-put-port-rows-requires
 put-port-rows-requires c κs =
     let a = c .before .before .before .before .before .before .before .before .before .before .before .before .args in
@@ -34,7 +25,6 @@ put-port-rows-requires c κs =
     let q = c .before .before .before .before .before .put-rows in
     omega (arith, c .before .before .before .before .before .before .before .before .before .before .before .before .pre .1, p .ensures .1, p .kept .0, q .ensures .1, q .kept .0)
 
--- src/block.rt:147:5
 put-rest-requires : tie.Need-put-rest-requires
 put-rest-requires c κs =
     let a = c .before .before .before .before .before .before .before .before .before .before .before .before .before .before .before .before .args in
@@ -47,11 +37,9 @@ put-rest-requires c κs =
     let n = ports-most (a .opening) (a .before .ports) (a .after .ports) (omega (arith, ports-length (a .after) good)) in
     (c .before .before .before .before .before .before .before .before .before .before .before .before .before .before .before .before .pre .1 .0, omega (arith, c .before .before .before .before .before .before .before .before .before .before .before .before .before .before .before .before .pre .1, p .ensures .1, p .kept .0, q .ensures .1, q .kept .0, u .ensures .1, u .kept .0))
 
--- src/block.rt:126:1
 same-length : tie.Need-same-length
 same-length c = search needs
 
--- src/block.rt:126:1
 returns : tie.Need-returns
 returns c =
     let a = c .before .before .before .before .before .before .before .before .before .before .before .before .before .before .before .before .before .before .before .args in

@@ -3,24 +3,16 @@ use Rattle.call_log.proofs.BlockLaws.{rest-put, state-most, writes-most
 use borrow.Author.Needs.{needs}
 use Rattle.call_log.proofs.block.put_rest.Statement.{statement}
 use Rattle.call_log.proofs.block.put_rest.Tie as tie
-use Rattle.call_log.proofs.block.put_rest.Reads as reads
-use Rattle.call_log.proofs.block.put_rest.Lts as lts
-use Rattle.call_log.proofs.block.put_end.Reads as put-end-reads
-use Rattle.call_log.proofs.block.put_state.Reads as put-state-reads
-use Rattle.call_log.proofs.writes.put_writes.Reads as put-writes-reads
 
--- src/block.rt:120:9
 put-state-requires : tie.Need-put-state-requires
 put-state-requires c κs = search needs
 
--- src/block.rt:121:9
 put-writes-requires : tie.Need-put-writes-requires
 put-writes-requires c κs =
     let a = c .before .before .before .before .before .before .args in
     let p = c .before .before .before .put-state in
     (c .before .before .before .before .before .before .pre .0, omega (arith, c .before .before .before .before .before .before .pre .1, p .ensures .1, p .kept .0, state-most (a .opened) (a .s)))
 
--- src/block.rt:122:5
 put-end-requires : tie.Need-put-end-requires
 put-end-requires c κs =
     let a = c .before .before .before .before .before .before .before .before .before .before .args in
@@ -28,11 +20,9 @@ put-end-requires c κs =
     let q = c .before .before .before .put-writes in
     omega (arith, c .before .before .before .before .before .before .before .before .before .before .pre .1, p .ensures .1, p .kept .0, q .ensures .1, q .kept .0, state-most (a .opened) (a .s), writes-most (a .writes) (c .before .before .before .before .before .before .before .before .before .before .pre .0))
 
--- src/block.rt:114:1
 same-length : tie.Need-same-length
 same-length c = search needs
 
--- src/block.rt:114:1
 returns : tie.Need-returns
 returns c =
     let a = c .before .before .before .before .before .before .before .before .before .before .before .before .before .args in

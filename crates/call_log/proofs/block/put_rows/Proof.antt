@@ -4,43 +4,31 @@ use Rattle.call_log.proofs.RowsKnown.{frames-length, heads-length}
 use borrow.Author.Needs.{needs}
 use Rattle.call_log.proofs.block.put_rows.Statement.{statement}
 use Rattle.call_log.proofs.block.put_rows.Tie as tie
-use Rattle.call_log.proofs.block.put_rows.Reads as reads
-use Rattle.call_log.proofs.block.put_rows.Lts as lts
-use Rattle.call_log.proofs.block.put_frame_rows.Reads as put-frame-rows-reads
-use Rattle.call_log.proofs.block.put_head_rows.Reads as put-head-rows-reads
-use Rattle.call_log.proofs.block.put_setup_rows.Reads as put-setup-rows-reads
-use Rattle.call_log.proofs.records.put_records.Reads as put-records-reads
 
--- src/block.rt:54:9
 put-records-requires : tie.Need-put-records-requires
 put-records-requires c κs = search needs
 
--- src/block.rt:57:9
 put-head-rows-requires : tie.Need-put-head-rows-requires
 put-head-rows-requires c κs =
     let a = c .before .before .before .before .before .before .before .before .before .before .args in
     let good = c .before .before .before .before .before .before .before .before .before .before .good .1 .1 .1 .0 in
     omega (arith, c .before .before .before .before .before .before .before .before .before .before .pre, c .before .before .before .before .before .put-records .ensures .1, c .before .before .before .before .before .put-records .kept .0, records-most (a .before) (a .after))
 
--- src/block.rt:60:9
 put-frame-rows-requires : tie.Need-put-frame-rows-requires
 put-frame-rows-requires c κs =
     let a = c .before .before .before .before .before .before .before .before .before .before .before .before .before .before .before .before .args in
     let good = c .before .before .before .before .before .before .before .before .before .before .before .before .before .before .before .before .good .1 .1 .1 .0 in
     omega (arith, c .before .before .before .before .before .before .before .before .before .before .before .before .before .before .before .before .pre, c .before .before .before .before .before .put-head-rows .ensures .1, c .before .before .before .before .before .put-head-rows .kept .0, c .before .before .before .before .before .before .before .before .before .before .before .put-records .ensures .1, c .before .before .before .before .before .before .before .before .before .before .before .put-records .kept .0, records-most (a .before) (a .after), heads-most (a .before .heads) (a .after .heads) (omega (arith, heads-length (a .after) good)))
 
--- src/block.rt:63:5
 put-setup-rows-requires : tie.Need-put-setup-rows-requires
 put-setup-rows-requires c κs =
     let a = c .before .before .before .before .before .before .before .before .before .before .before .before .before .before .before .before .before .before .before .before .before .before .args in
     let good = c .before .before .before .before .before .before .before .before .before .before .before .before .before .before .before .before .before .before .before .before .before .before .good .1 .1 .1 .0 in
     omega (arith, c .before .before .before .before .before .before .before .before .before .before .before .before .before .before .before .before .before .before .before .before .before .before .pre, c .before .before .before .before .before .put-frame-rows .ensures .1, c .before .before .before .before .before .put-frame-rows .kept .0, c .before .before .before .before .before .before .before .before .before .before .before .put-head-rows .ensures .1, c .before .before .before .before .before .before .before .before .before .before .before .put-head-rows .kept .0, c .before .before .before .before .before .before .before .before .before .before .before .before .before .before .before .before .before .put-records .ensures .1, c .before .before .before .before .before .before .before .before .before .before .before .before .before .before .before .before .before .put-records .kept .0, records-most (a .before) (a .after), heads-most (a .before .heads) (a .after .heads) (omega (arith, heads-length (a .after) good)), frames-most (a .before .frames) (a .after .frames) (omega (arith, frames-length (a .after) good)))
 
--- src/block.rt:47:1
 same-length : tie.Need-same-length
 same-length c = search needs
 
--- src/block.rt:47:1
 returns : tie.Need-returns
 returns c =
     let a = c .before .before .before .before .before .before .before .before .before .before .before .before .before .before .before .before .before .before .before .before .before .before .before .before .before .args in

@@ -4,30 +4,21 @@ use Rattle.call_log.proofs.ChangeCases.{shows, stays}
 use borrow.Author.Needs.{needs}
 use Rattle.call_log.proofs.block.put_state.Statement.{statement}
 use Rattle.call_log.proofs.block.put_state.Tie as tie
-use Rattle.call_log.proofs.block.put_state.Reads as reads
-use Rattle.call_log.proofs.block.put_state.Lts as lts
-use Rattle.call_log.proofs.line.put_line.Reads as put-line-reads
-use Rattle.call_log.proofs.lines.state_line.Reads as state-line-reads
 
--- src/block.rt:97:9
 returns : tie.Need-returns
 returns c =
     let a = c .before .before .args in
     stays (a .out .now) (a .at) (not (a .opened)) (stateLine (a .s)) (c .if1 .taken)
 
--- src/block.rt:99:9
 state-line-requires : tie.Need-state-line-requires
 state-line-requires c κs = search needs
 
--- src/block.rt:100:5
 put-line-requires : tie.Need-put-line-requires
 put-line-requires c κs = search needs
 
--- src/block.rt:91:1
 same-length : tie.Need-same-length
 same-length c = search needs
 
--- src/block.rt:91:1
 returns-2 : tie.Need-returns-2
 returns-2 c =
     let a = c .before .before .before .before .before .before .before .args in

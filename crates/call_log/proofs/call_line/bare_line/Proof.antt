@@ -5,15 +5,10 @@ use Rattle.call_log.specs.Lines.{saidLine, lineOf}
 use borrow.Author.Needs.{needs}
 use Rattle.call_log.proofs.call_line.bare_line.Statement.{statement}
 use Rattle.call_log.proofs.call_line.bare_line.Tie as tie
-use Rattle.call_log.proofs.call_line.bare_line.Reads as reads
-use Rattle.call_log.proofs.call_line.bare_line.Lts as lts
-use Rattle.call_log.proofs.lines.line_of_three.Reads as line-of-three-reads
 
--- src/call_line.rt:33:5
 line-of-three-requires : tie.Need-line-of-three-requires
 line-of-three-requires c κs = search needs
 
--- src/call_line.rt:29:1
 returns : tie.Need-returns
 unfolding saidLine lineOf callLine
 returns c = c .line-of-three .ensures

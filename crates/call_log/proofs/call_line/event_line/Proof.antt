@@ -5,30 +5,22 @@ use Rattle.call_log.specs.Lines.{lineBytes, partsBytes, lineOf}
 use borrow.Author.Needs.{needs}
 use Rattle.call_log.proofs.call_line.event_line.Statement.{statement}
 use Rattle.call_log.proofs.call_line.event_line.Tie as tie
-use Rattle.call_log.proofs.call_line.event_line.Reads as reads
-use Rattle.call_log.proofs.call_line.event_line.Lts as lts
 
--- src/call_line.rt:85:5
 array-set-from-cells : tie.Need-array-set-from-cells
 array-set-from-cells c = search needs
 
--- src/call_line.rt:86:5
 array-set-from-cells-2 : tie.Need-array-set-from-cells-2
 array-set-from-cells-2 c = search needs
 
--- src/call_line.rt:87:5
 array-set-from-cells-3 : tie.Need-array-set-from-cells-3
 array-set-from-cells-3 c = search needs
 
--- src/call_line.rt:88:5
 array-set-from-cells-4 : tie.Need-array-set-from-cells-4
 array-set-from-cells-4 c = search needs
 
--- src/call_line.rt:89:5
 array-set-from-cells-5 : tie.Need-array-set-from-cells-5
 array-set-from-cells-5 c = search needs
 
--- src/call_line.rt:80:1
 returns : tie.Need-returns
 unfolding lineBytes partsBytes lineOf callLine
 returns c = (omega arith, refl)

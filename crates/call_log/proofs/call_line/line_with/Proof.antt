@@ -4,26 +4,19 @@ use Rattle.call_log.specs.Lines.{lineBytes, partsBytes, saidLine}
 use borrow.Author.Needs.{needs}
 use Rattle.call_log.proofs.call_line.line_with.Statement.{statement}
 use Rattle.call_log.proofs.call_line.line_with.Tie as tie
-use Rattle.call_log.proofs.call_line.line_with.Reads as reads
-use Rattle.call_log.proofs.call_line.line_with.Lts as lts
 
--- src/call_line.rt:46:5
 array-set-from-cells : tie.Need-array-set-from-cells
 array-set-from-cells c = search needs
 
--- src/call_line.rt:47:5
 array-set-from-cells-2 : tie.Need-array-set-from-cells-2
 array-set-from-cells-2 c = search needs
 
--- src/call_line.rt:48:5
 array-set-from-cells-3 : tie.Need-array-set-from-cells-3
 array-set-from-cells-3 c = search needs
 
--- src/call_line.rt:49:5
 array-set-from-cells-4 : tie.Need-array-set-from-cells-4
 array-set-from-cells-4 c = search needs
 
--- src/call_line.rt:41:1
 returns : tie.Need-returns
 unfolding lineBytes partsBytes saidLine
 returns c = (omega arith, refl)

@@ -4,38 +4,28 @@ use Rattle.call_log.specs.Lines.{lineBytes, partsBytes, saidLine}
 use borrow.Author.Needs.{needs}
 use Rattle.call_log.proofs.call_line.step_line.Statement.{statement}
 use Rattle.call_log.proofs.call_line.step_line.Tie as tie
-use Rattle.call_log.proofs.call_line.step_line.Reads as reads
-use Rattle.call_log.proofs.call_line.step_line.Lts as lts
 
--- src/call_line.rt:112:5
 array-set-from-cells : tie.Need-array-set-from-cells
 array-set-from-cells c = search needs
 
--- src/call_line.rt:113:5
 array-set-from-cells-2 : tie.Need-array-set-from-cells-2
 array-set-from-cells-2 c = search needs
 
--- src/call_line.rt:114:5
 array-set-from-cells-3 : tie.Need-array-set-from-cells-3
 array-set-from-cells-3 c = search needs
 
--- src/call_line.rt:115:5
 array-set-from-cells-4 : tie.Need-array-set-from-cells-4
 array-set-from-cells-4 c = search needs
 
--- src/call_line.rt:116:5
 array-set-from-cells-5 : tie.Need-array-set-from-cells-5
 array-set-from-cells-5 c = search needs
 
--- src/call_line.rt:117:5
 array-set-from-cells-6 : tie.Need-array-set-from-cells-6
 array-set-from-cells-6 c = search needs
 
--- src/call_line.rt:118:5
 array-set-from-cells-7 : tie.Need-array-set-from-cells-7
 array-set-from-cells-7 c = search needs
 
--- src/call_line.rt:107:1
 returns : tie.Need-returns
 unfolding lineBytes partsBytes saidLine
 returns c = (omega arith, refl)

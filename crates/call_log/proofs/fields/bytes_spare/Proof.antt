@@ -2,10 +2,7 @@ use mathlib.Core.Path.{refl}
 use Rattle.call_log.specs.Fields.{bytesSpare}
 use Rattle.call_log.proofs.fields.bytes_spare.Statement.{statement}
 use Rattle.call_log.proofs.fields.bytes_spare.Tie as tie
-use Rattle.call_log.proofs.fields.bytes_spare.Reads as reads
-use Rattle.call_log.proofs.fields.bytes_spare.Lts as lts
 
--- src/fields.rt:72:1
 returns : tie.Need-returns
 unfolding bytesSpare
 returns c = refl

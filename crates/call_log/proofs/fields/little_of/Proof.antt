@@ -7,9 +7,6 @@ use borrow.Author.Needs.{needs}
 use lib.ListN.{drop, length}
 use Rattle.call_log.proofs.fields.little_of.Statement.{statement}
 use Rattle.call_log.proofs.fields.little_of.Tie as tie
-use Rattle.call_log.proofs.fields.little_of.Reads as reads
-use Rattle.call_log.proofs.fields.little_of.Lts as lts
-use Rattle.call_log.proofs.fields.wide.Reads as wide-reads
 
 abbrev Inv-loop : tie.InvT-loop
 Inv-loop bytes value₀ left₀ value left = (left ≤ length bytes) × (value ≡ little (drop left bytes))
@@ -17,15 +14,12 @@ Inv-loop bytes value₀ left₀ value left = (left ≤ length bytes) × (value �
 abbrev μ-loop : tie.MeasureT-loop
 μ-loop bytes value₀ left₀ value left = left
 
--- src/fields.rt:41:5
 loop-holds : tie.Need-loop-holds Inv-loop μ-loop
 loop-holds c = (omega arith, sym (little-done (c .before .args .bytes .now)))
 
--- src/fields.rt:42:9
 sub-left : tie.Need-sub-left Inv-loop μ-loop
 sub-left c = search needs
 
--- src/fields.rt:43:17
 mul-value : tie.Need-mul-value Inv-loop μ-loop
 mul-value c =
     let l = c .before .loop in
@@ -33,15 +27,12 @@ mul-value c =
     let g = turn-fits bs (l .left) (l .value) (λ i. c .before .before .shared-slice-known .given i .fits) (c .before .before .before .pre) (omega arith) (l .inv .0) (l .inv .1) in
     record { fits = omega (arith, g) }
 
--- src/fields.rt:43:36
 shared-slice-read-wide : tie.Need-shared-slice-read-wide Inv-loop μ-loop
 shared-slice-read-wide c = search needs
 
--- src/fields.rt:43:31
 wide-requires : tie.Need-wide-requires Inv-loop μ-loop
 wide-requires c κs = search needs
 
--- src/fields.rt:43:17
 add-value : tie.Need-add-value Inv-loop μ-loop
 add-value c =
     let l = c .before .before .before .loop in
@@ -49,11 +40,9 @@ add-value c =
     let g = turn-fits bs (l .left) (l .value) (λ i. c .before .before .before .before .shared-slice-known .given i .fits) (c .before .before .before .before .before .pre) (omega arith) (l .inv .0) (l .inv .1) in
     record { fits = omega (arith, g, c .wide .ensures) }
 
--- src/fields.rt:41:5
 loop-less : tie.Need-loop-less Inv-loop μ-loop
 loop-less c = search needs
 
--- src/fields.rt:41:5
 loop-again : tie.Need-loop-again Inv-loop μ-loop
 loop-again c =
     let l = c .before .before .before .loop in
@@ -61,7 +50,6 @@ loop-again c =
     let g = turn-is bs (l .left) (l .value) (λ i. c .before .before .before .before .shared-slice-known .given i .fits) (c .before .before .before .before .before .pre) (omega arith) (l .inv .0) (l .inv .1) in
     (omega arith, omega (arith, g, c .wide .ensures))
 
--- src/fields.rt:35:1
 returns : tie.Need-returns Inv-loop μ-loop
 returns c =
     let none : c .before .loop .left ≡ 0 = omega arith in

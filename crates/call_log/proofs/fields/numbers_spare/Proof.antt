@@ -2,10 +2,7 @@ use mathlib.Core.Path.{refl}
 use Rattle.call_log.specs.Fields.{numbersSpare}
 use Rattle.call_log.proofs.fields.numbers_spare.Statement.{statement}
 use Rattle.call_log.proofs.fields.numbers_spare.Tie as tie
-use Rattle.call_log.proofs.fields.numbers_spare.Reads as reads
-use Rattle.call_log.proofs.fields.numbers_spare.Lts as lts
 
--- src/fields.rt:84:1
 returns : tie.Need-returns
 unfolding numbersSpare
 returns c = refl

@@ -1,18 +1,13 @@
 use borrow.Author.Needs.{needs}
 use Rattle.call_log.proofs.frames.next_first.Statement.{statement}
 use Rattle.call_log.proofs.frames.next_first.Tie as tie
-use Rattle.call_log.proofs.frames.next_first.Reads as reads
-use Rattle.call_log.proofs.frames.next_first.Lts as lts
 
--- src/frames.rt:40:28
 add-result : tie.Need-add-result
 add-result c = search needs
 
--- src/frames.rt:36:1
 returns : tie.Need-returns
 returns c = search needs
 
--- src/frames.rt:36:1
 returns-2 : tie.Need-returns-2
 returns-2 c = rw (c .if1 .left)
 

@@ -4,30 +4,21 @@ use Rattle.call_log.proofs.ChangeCases.{shows, stays}
 use borrow.Author.Needs.{needs}
 use Rattle.call_log.proofs.frames.put_frame.Statement.{statement}
 use Rattle.call_log.proofs.frames.put_frame.Tie as tie
-use Rattle.call_log.proofs.frames.put_frame.Reads as reads
-use Rattle.call_log.proofs.frames.put_frame.Lts as lts
-use Rattle.call_log.proofs.line.put_line.Reads as put-line-reads
-use Rattle.call_log.proofs.lines.frame_line.Reads as frame-line-reads
 
--- src/frames.rt:49:9
 returns : tie.Need-returns
 returns c =
     let a = c .before .before .args in
     stays (a .out .now) (a .at) (not (a .ends)) (frameLine (a .first) (a .i) (a .value)) (c .if1 .taken)
 
--- src/frames.rt:51:9
 frame-line-requires : tie.Need-frame-line-requires
 frame-line-requires c κs = search needs
 
--- src/frames.rt:52:5
 put-line-requires : tie.Need-put-line-requires
 put-line-requires c κs = search needs
 
--- src/frames.rt:43:1
 same-length : tie.Need-same-length
 same-length c = search needs
 
--- src/frames.rt:43:1
 returns-2 : tie.Need-returns-2
 returns-2 c =
     let a = c .before .before .before .before .before .before .before .args in

@@ -10,12 +10,6 @@ use Rattle.call_log.specs.Changes.{firstOf, frameChange}
 use Rattle.call_log.proofs.ChangeCases.{first-turn, first-zero, frame-most, frame-said, up-most, up-none, up-turn}
 use Rattle.call_log.proofs.frames.put_frames.Statement.{statement}
 use Rattle.call_log.proofs.frames.put_frames.Tie as tie
-use Rattle.call_log.proofs.frames.put_frames.Reads as reads
-use Rattle.call_log.proofs.frames.put_frames.Lts as lts
-use Rattle.call_log.proofs.frames.goes_on.Reads as goes-on-reads
-use Rattle.call_log.proofs.frames.next_first.Reads as next-first-reads
-use Rattle.call_log.proofs.frames.put_frame.Reads as put-frame-reads
-use Rattle.call_log.proofs.frames.run_ends.Reads as run-ends-reads
 
 abbrev said-of : List ℕ → List ℕ → ℕ → List ℕ
 said-of before after = frameChange before after
@@ -28,46 +22,36 @@ Inv-loop out₀ at before after place₀ first₀ i₀ out place first i =
 abbrev μ-loop : tie.MeasureT-loop
 μ-loop out₀ at before after place₀ first₀ i₀ out place first i = length after - i
 
--- src/frames.rt:65:5
 loop-holds : tie.Need-loop-holds Inv-loop μ-loop
 loop-holds c =
     let a = c .before .before .before .args in
     let none = up-none (said-of (a .before .now) (a .after .now)) (a .out .now) (a .at) in
     (omega arith, refl, none .0, none .1, first-zero (a .before .now) (a .after .now))
 
--- src/frames.rt:66:13
 goes-on-requires : tie.Need-goes-on-requires Inv-loop μ-loop
 goes-on-requires c κs = (c .before .before .before .before .before .pre .0, omega arith)
 
--- src/frames.rt:67:13
 run-ends-requires : tie.Need-run-ends-requires Inv-loop μ-loop
 run-ends-requires c κs = (c .before .before .before .before .before .before .pre .0, omega arith)
 
--- src/frames.rt:68:55
 mul-put-frame : tie.Need-mul-put-frame Inv-loop μ-loop
 mul-put-frame c = search needs
 
--- src/frames.rt:68:55
 shared-slice-read-put-frame : tie.Need-shared-slice-read-put-frame Inv-loop μ-loop
 shared-slice-read-put-frame c = omega arith
 
--- src/frames.rt:68:9
 put-frame-requires : tie.Need-put-frame-requires Inv-loop μ-loop
 put-frame-requires c κs = omega (arith, up-most (said-of (c .before .before .before .before .before .before .before .before .before .args .before .now) (c .before .before .before .before .before .before .before .before .before .args .after .now)) 53 (frame-most (c .before .before .before .before .before .before .before .before .before .args .before .now) (c .before .before .before .before .before .before .before .before .before .args .after .now)) (c .before .before .before .before .before .loop .i), c .before .before .before .before .before .loop .inv .1, c .before .before .before .before .before .loop .inv .3, c .before .before .before .before .before .before .before .before .before .pre)
 
--- src/frames.rt:69:9
 next-first-requires : tie.Need-next-first-requires Inv-loop μ-loop
 next-first-requires c κs = omega (arith, c .before .before .before .before .before .before .before .before .before .before .before .before .pre .1)
 
--- src/frames.rt:70:9
 add-i : tie.Need-add-i Inv-loop μ-loop
 add-i c = search needs
 
--- src/frames.rt:65:5
 loop-less : tie.Need-loop-less Inv-loop μ-loop
 loop-less c = search needs
 
--- src/frames.rt:65:5
 loop-again : tie.Need-loop-again Inv-loop μ-loop
 loop-again c =
     let a = c .before .before .before .before .before .before .before .before .before .before .before .before .before .args in
@@ -87,11 +71,9 @@ loop-again c =
       first-turn b d (l .i) (l .first) (o .result) (o .ensures) (l .inv .4) (c .next-first .result) (c .next-first .ensures),
     )
 
--- src/frames.rt:55:1
 same-length : tie.Need-same-length Inv-loop μ-loop
 same-length c = c .before .loop .inv .1
 
--- src/frames.rt:55:1
 returns : tie.Need-returns Inv-loop μ-loop
 returns c =
     let l = c .before .loop in

@@ -4,23 +4,16 @@ use Rattle.call_log.proofs.LineCases.{byte-then}
 use borrow.Author.Needs.{needs}
 use Rattle.call_log.proofs.line.put_dash.Statement.{statement}
 use Rattle.call_log.proofs.line.put_dash.Tie as tie
-use Rattle.call_log.proofs.line.put_dash.Reads as reads
-use Rattle.call_log.proofs.line.put_dash.Lts as lts
-use Rattle.text.proofs.digits.put.Reads as put-reads
 
--- src/line.rt:58:9
 put-requires : tie.Need-put-requires
 put-requires c κs = search needs
 
--- src/line.rt:59:5
 put-requires-2 : tie.Need-put-requires-2
 put-requires-2 c κs = search needs
 
--- src/line.rt:53:1
 same-length : tie.Need-same-length
 same-length c = search needs
 
--- src/line.rt:53:1
 returns : tie.Need-returns
 returns c =
     let a = c .before .before .before .before .before .before .before .before .before .args in

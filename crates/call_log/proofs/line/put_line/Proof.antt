@@ -3,30 +3,21 @@ use Rattle.call_log.proofs.LineCases.{line-put, parts-most}
 use borrow.Author.Needs.{needs}
 use Rattle.call_log.proofs.line.put_line.Statement.{statement}
 use Rattle.call_log.proofs.line.put_line.Tie as tie
-use Rattle.call_log.proofs.line.put_line.Reads as reads
-use Rattle.call_log.proofs.line.put_line.Lts as lts
-use Rattle.call_log.proofs.line.put_parts.Reads as put-parts-reads
-use Rattle.text.proofs.digits.put.Reads as put-reads
 
--- src/line.rt:100:9
 put-requires : tie.Need-put-requires
 put-requires c κs = search needs
 
--- src/line.rt:101:9
 put-parts-requires : tie.Need-put-parts-requires
 put-parts-requires c κs = search needs
 
--- src/line.rt:102:5
 put-requires-2 : tie.Need-put-requires-2
 put-requires-2 c κs =
     let a = c .before .before .before .before .before .before .before .before .before .before .before .args in
     omega (arith, parts-most (a .line .count) (a .line .cells), c .before .before .before .put-parts .ensures .1, c .before .before .before .put-parts .kept .0, c .before .before .before .before .before .before .before .put .kept .0, c .before .before .before .before .before .before .before .put .ensures .1)
 
--- src/line.rt:93:1
 same-length : tie.Need-same-length
 same-length c = search needs
 
--- src/line.rt:93:1
 returns : tie.Need-returns
 returns c =
     let a = c .before .before .before .before .before .before .before .before .before .before .before .before .before .before .args in

@@ -8,9 +8,6 @@ use borrow.Author.Needs.{needs}
 use lib.ListN.{length, take}
 use Rattle.call_log.proofs.line.put_parts.Statement.{statement}
 use Rattle.call_log.proofs.line.put_parts.Tie as tie
-use Rattle.call_log.proofs.line.put_parts.Reads as reads
-use Rattle.call_log.proofs.line.put_parts.Lts as lts
-use Rattle.call_log.proofs.line.put_part.Reads as put-part-reads
 
 abbrev Inv-loop : tie.InvT-loop
 Inv-loop out₀ at count cells place₀ i₀ out place i =
@@ -20,34 +17,27 @@ Inv-loop out₀ at count cells place₀ i₀ out place i =
 abbrev μ-loop : tie.MeasureT-loop
 μ-loop out₀ at count cells place₀ i₀ out place i = count - i
 
--- src/line.rt:84:5
 loop-holds : tie.Need-loop-holds Inv-loop μ-loop
 loop-holds c =
     let a = c .before .args in
     let none = parts-none (a .out .now) (a .at) (a .t3) in
     (omega arith, refl, omega arith, none .0, none .1)
 
--- src/line.rt:85:20
 mul-cell : tie.Need-mul-cell Inv-loop μ-loop
 mul-cell c = search needs
 
--- src/line.rt:85:20
 array-copy-out-cell : tie.Need-array-copy-out-cell Inv-loop μ-loop
 array-copy-out-cell c = omega arith
 
--- src/line.rt:87:9
 put-part-requires : tie.Need-put-part-requires Inv-loop μ-loop
 put-part-requires c κs = omega arith
 
--- src/line.rt:88:9
 add-i : tie.Need-add-i Inv-loop μ-loop
 add-i c = search needs
 
--- src/line.rt:84:5
 loop-less : tie.Need-loop-less Inv-loop μ-loop
 loop-less c = search needs
 
--- src/line.rt:84:5
 loop-again : tie.Need-loop-again Inv-loop μ-loop
 loop-again c =
     let a = c .before .before .before .before .before .before .before .before .args in
@@ -57,11 +47,9 @@ loop-again c =
     let turned = parts-turn (a .out .now) (l .out) (p .last .0) (a .at) (l .place) (p .result) (l .i) (a .t3) _ (omega arith) (omega arith) (l .inv .3) (l .inv .4) (p .ensures .0) (p .ensures .1) in
     (omega arith, p .kept .0 ∙ l .inv .1, omega (arith, turned .1, parts-most (l .i + 1) (a .t3)), turned .0, turned .1)
 
--- src/line.rt:76:1
 same-length : tie.Need-same-length Inv-loop μ-loop
 same-length c = c .before .loop .inv .1
 
--- src/line.rt:76:1
 returns : tie.Need-returns Inv-loop μ-loop
 returns c =
     let l = c .before .loop in

@@ -4,24 +4,16 @@ use Rattle.call_log.proofs.LineCases.{byte-then}
 use borrow.Author.Needs.{needs}
 use Rattle.call_log.proofs.line.put_spaced_decimal.Statement.{statement}
 use Rattle.call_log.proofs.line.put_spaced_decimal.Tie as tie
-use Rattle.call_log.proofs.line.put_spaced_decimal.Reads as reads
-use Rattle.call_log.proofs.line.put_spaced_decimal.Lts as lts
-use Rattle.text.proofs.digits.put.Reads as put-reads
-use Rattle.text.proofs.digits.put_decimal.Reads as put-decimal-reads
 
--- src/line.rt:39:9
 put-requires : tie.Need-put-requires
 put-requires c κs = search needs
 
--- src/line.rt:40:5
 put-decimal-requires : tie.Need-put-decimal-requires
 put-decimal-requires c κs = search needs
 
--- src/line.rt:34:1
 same-length : tie.Need-same-length
 same-length c = search needs
 
--- src/line.rt:34:1
 returns : tie.Need-returns
 returns c =
     let a = c .before .before .before .before .before .before .before .before .before .args in

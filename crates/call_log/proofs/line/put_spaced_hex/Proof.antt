@@ -3,24 +3,16 @@ use Rattle.call_log.proofs.LineCases.{hex-then}
 use borrow.Author.Needs.{needs}
 use Rattle.call_log.proofs.line.put_spaced_hex.Statement.{statement}
 use Rattle.call_log.proofs.line.put_spaced_hex.Tie as tie
-use Rattle.call_log.proofs.line.put_spaced_hex.Reads as reads
-use Rattle.call_log.proofs.line.put_spaced_hex.Lts as lts
-use Rattle.text.proofs.digits.put.Reads as put-reads
-use Rattle.text.proofs.digits.put_hex.Reads as put-hex-reads
 
--- src/line.rt:49:9
 put-requires : tie.Need-put-requires
 put-requires c κs = search needs
 
--- src/line.rt:50:5
 put-hex-requires : tie.Need-put-hex-requires
 put-hex-requires c κs = search needs
 
--- src/line.rt:43:1
 same-length : tie.Need-same-length
 same-length c = search needs
 
--- src/line.rt:43:1
 returns : tie.Need-returns
 returns c =
     let a = c .before .before .before .before .before .before .before .before .before .args in

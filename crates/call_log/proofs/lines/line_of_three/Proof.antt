@@ -4,22 +4,16 @@ use Rattle.call_log.specs.Lines.{lineBytes, partsBytes, saidLine}
 use borrow.Author.Needs.{needs}
 use Rattle.call_log.proofs.lines.line_of_three.Statement.{statement}
 use Rattle.call_log.proofs.lines.line_of_three.Tie as tie
-use Rattle.call_log.proofs.lines.line_of_three.Reads as reads
-use Rattle.call_log.proofs.lines.line_of_three.Lts as lts
 
--- src/lines.rt:43:5
 array-set-from-cells : tie.Need-array-set-from-cells
 array-set-from-cells c = search needs
 
--- src/lines.rt:44:5
 array-set-from-cells-2 : tie.Need-array-set-from-cells-2
 array-set-from-cells-2 c = search needs
 
--- src/lines.rt:45:5
 array-set-from-cells-3 : tie.Need-array-set-from-cells-3
 array-set-from-cells-3 c = search needs
 
--- src/lines.rt:38:1
 returns : tie.Need-returns
 unfolding lineBytes partsBytes saidLine
 returns c = (omega arith, refl)

@@ -4,18 +4,13 @@ use Rattle.call_log.specs.Lines.{lineBytes, partsBytes, saidLine}
 use borrow.Author.Needs.{needs}
 use Rattle.call_log.proofs.lines.line_of_two.Statement.{statement}
 use Rattle.call_log.proofs.lines.line_of_two.Tie as tie
-use Rattle.call_log.proofs.lines.line_of_two.Reads as reads
-use Rattle.call_log.proofs.lines.line_of_two.Lts as lts
 
--- src/lines.rt:29:5
 array-set-from-cells : tie.Need-array-set-from-cells
 array-set-from-cells c = search needs
 
--- src/lines.rt:30:5
 array-set-from-cells-2 : tie.Need-array-set-from-cells-2
 array-set-from-cells-2 c = search needs
 
--- src/lines.rt:24:1
 returns : tie.Need-returns
 unfolding lineBytes partsBytes saidLine
 returns c = (omega arith, refl)

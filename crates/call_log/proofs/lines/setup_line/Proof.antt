@@ -5,46 +5,34 @@ use Rattle.text.specs.Text.{hex}
 use borrow.Author.Needs.{needs}
 use Rattle.call_log.proofs.lines.setup_line.Statement.{statement}
 use Rattle.call_log.proofs.lines.setup_line.Tie as tie
-use Rattle.call_log.proofs.lines.setup_line.Reads as reads
-use Rattle.call_log.proofs.lines.setup_line.Lts as lts
 
--- src/lines.rt:139:5
 array-set-from-cells : tie.Need-array-set-from-cells
 array-set-from-cells c = search needs
 
--- src/lines.rt:140:5
 array-set-from-cells-2 : tie.Need-array-set-from-cells-2
 array-set-from-cells-2 c = search needs
 
--- src/lines.rt:141:5
 array-set-from-cells-3 : tie.Need-array-set-from-cells-3
 array-set-from-cells-3 c = search needs
 
--- src/lines.rt:142:5
 array-set-from-cells-4 : tie.Need-array-set-from-cells-4
 array-set-from-cells-4 c = search needs
 
--- src/lines.rt:143:5
 array-set-from-cells-5 : tie.Need-array-set-from-cells-5
 array-set-from-cells-5 c = search needs
 
--- src/lines.rt:144:5
 array-set-from-cells-6 : tie.Need-array-set-from-cells-6
 array-set-from-cells-6 c = search needs
 
--- src/lines.rt:145:5
 array-set-from-cells-7 : tie.Need-array-set-from-cells-7
 array-set-from-cells-7 c = search needs
 
--- src/lines.rt:146:5
 array-set-from-cells-8 : tie.Need-array-set-from-cells-8
 array-set-from-cells-8 c = search needs
 
--- src/lines.rt:147:5
 array-set-from-cells-9 : tie.Need-array-set-from-cells-9
 array-set-from-cells-9 c = search needs
 
--- src/lines.rt:124:1
 returns : tie.Need-returns
 unfolding lineBytes partsBytes lineOf setupLine hex
 returns c = (omega arith, refl)

@@ -4,74 +4,55 @@ use Rattle.call_log.specs.Lines.{lineBytes, partsBytes, lineOf, shownLin
 use borrow.Author.Needs.{needs}
 use Rattle.call_log.proofs.lines.shown_line.Statement.{statement}
 use Rattle.call_log.proofs.lines.shown_line.Tie as tie
-use Rattle.call_log.proofs.lines.shown_line.Reads as reads
-use Rattle.call_log.proofs.lines.shown_line.Lts as lts
 
--- src/lines.rt:192:43
 cast-t5 : tie.Need-cast-t5
 cast-t5 c = search needs
 
--- src/lines.rt:192:5
 array-set-from-cells : tie.Need-array-set-from-cells
 array-set-from-cells c = search needs
 
--- src/lines.rt:193:43
 cast-t5-2 : tie.Need-cast-t5-2
 cast-t5-2 c = search needs
 
--- src/lines.rt:193:5
 array-set-from-cells-2 : tie.Need-array-set-from-cells-2
 array-set-from-cells-2 c = search needs
 
--- src/lines.rt:194:43
 cast-t5-3 : tie.Need-cast-t5-3
 cast-t5-3 c = search needs
 
--- src/lines.rt:194:5
 array-set-from-cells-3 : tie.Need-array-set-from-cells-3
 array-set-from-cells-3 c = search needs
 
--- src/lines.rt:195:43
 cast-t5-4 : tie.Need-cast-t5-4
 cast-t5-4 c = search needs
 
--- src/lines.rt:195:5
 array-set-from-cells-4 : tie.Need-array-set-from-cells-4
 array-set-from-cells-4 c = search needs
 
--- src/lines.rt:196:43
 cast-t5-5 : tie.Need-cast-t5-5
 cast-t5-5 c = search needs
 
--- src/lines.rt:196:5
 array-set-from-cells-5 : tie.Need-array-set-from-cells-5
 array-set-from-cells-5 c = search needs
 
--- src/lines.rt:197:5
 array-set-from-cells-6 : tie.Need-array-set-from-cells-6
 array-set-from-cells-6 c = search needs
 
--- src/lines.rt:198:5
 array-set-from-cells-7 : tie.Need-array-set-from-cells-7
 array-set-from-cells-7 c = search needs
 
--- src/lines.rt:199:43
 cast-t5-6 : tie.Need-cast-t5-6
 cast-t5-6 c = search needs
 
--- src/lines.rt:199:5
 array-set-from-cells-8 : tie.Need-array-set-from-cells-8
 array-set-from-cells-8 c = search needs
 
--- src/lines.rt:200:43
 cast-t5-7 : tie.Need-cast-t5-7
 cast-t5-7 c = search needs
 
--- src/lines.rt:200:5
 array-set-from-cells-9 : tie.Need-array-set-from-cells-9
 array-set-from-cells-9 c = search needs
 
--- src/lines.rt:187:1
 returns : tie.Need-returns
 unfolding lineBytes partsBytes lineOf shownLine
 returns c = (omega arith, refl)

@@ -1,14 +1,10 @@
 use Rattle.pipe.proofs.EndpointCases.{direction-out, direction-in}
 use Rattle.call_log.proofs.record.direction_of.Statement.{statement}
 use Rattle.call_log.proofs.record.direction_of.Tie as tie
-use Rattle.call_log.proofs.record.direction_of.Reads as reads
-use Rattle.call_log.proofs.record.direction_of.Lts as lts
 
--- src/record.rt:74:1
 returns : tie.Need-returns
 returns c = direction-out _ (c .if1 .taken)
 
--- src/record.rt:74:1
 returns-2 : tie.Need-returns-2
 returns-2 c = direction-in _ (c .if1 .left)
 

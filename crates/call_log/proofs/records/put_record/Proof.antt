@@ -5,36 +5,25 @@ use Rattle.call_log.proofs.ChangeCases.{shows, stays}
 use borrow.Author.Needs.{needs}
 use Rattle.call_log.proofs.records.put_record.Statement.{statement}
 use Rattle.call_log.proofs.records.put_record.Tie as tie
-use Rattle.call_log.proofs.records.put_record.Reads as reads
-use Rattle.call_log.proofs.records.put_record.Lts as lts
-use Rattle.call_log.proofs.line.put_line.Reads as put-line-reads
-use Rattle.call_log.proofs.lines.record_line.Reads as record-line-reads
-use Rattle.call_log.proofs.records.same_record.Reads as same-record-reads
 
--- src/records.rt:42:8
 same-record-requires : tie.Need-same-record-requires
 same-record-requires c κs = search needs
 
--- src/records.rt:43:9
 returns : tie.Need-returns
 unfolding recordChange
 returns c =
     let a = c .before .before .before .args in
     stays (a .out .now) (a .at) (sameRecord (a .before) (a .after)) (recordLine (a .place) (a .after)) (sym (c .before .same-record .ensures) ∙ c .if1 .taken)
 
--- src/records.rt:45:9
 record-line-requires : tie.Need-record-line-requires
 record-line-requires c κs = search needs
 
--- src/records.rt:46:5
 put-line-requires : tie.Need-put-line-requires
 put-line-requires c κs = search needs
 
--- src/records.rt:31:1
 same-length : tie.Need-same-length
 same-length c = search needs
 
--- src/records.rt:31:1
 returns-2 : tie.Need-returns-2
 unfolding recordChange
 returns-2 c =

@@ -12,9 +12,6 @@ use Rattle.call_log.specs.Changes.{recordChange}
 use Rattle.call_log.proofs.ChangeCases.{record-any, record-most, up-most, up-none, up-turn}
 use Rattle.call_log.proofs.records.put_records.Statement.{statement}
 use Rattle.call_log.proofs.records.put_records.Tie as tie
-use Rattle.call_log.proofs.records.put_records.Reads as reads
-use Rattle.call_log.proofs.records.put_records.Lts as lts
-use Rattle.call_log.proofs.records.put_record.Reads as put-record-reads
 
 abbrev said-of : List QueueTransferDescriptor → List QueueTransferDescriptor → ℕ → List ℕ
 said-of before after i = recordChange i (getD before i blank) (getD after i blank)
@@ -26,42 +23,33 @@ Inv-loop out₀ at before after place₀ i₀ out place i =
 abbrev μ-loop : tie.MeasureT-loop
 μ-loop out₀ at before after place₀ i₀ out place i = 256 - i
 
--- src/records.rt:61:5
 loop-holds : tie.Need-loop-holds Inv-loop μ-loop
 loop-holds c =
     let a = c .before .args in
     let none = up-none (said-of (c .before .args .t3) (c .before .args .t4)) (a .out .now) (a .at) in
     (omega arith, refl, none .0, none .1)
 
--- src/records.rt:62:19
 mul-old : tie.Need-mul-old Inv-loop μ-loop
 mul-old c = search needs
 
--- src/records.rt:62:19
 array-copy-out-old : tie.Need-array-copy-out-old Inv-loop μ-loop
 array-copy-out-old c = omega arith
 
--- src/records.rt:63:19
 mul-new : tie.Need-mul-new Inv-loop μ-loop
 mul-new c = search needs
 
--- src/records.rt:63:19
 array-copy-out-new : tie.Need-array-copy-out-new Inv-loop μ-loop
 array-copy-out-new c = omega arith
 
--- src/records.rt:64:9
 put-record-requires : tie.Need-put-record-requires Inv-loop μ-loop
 put-record-requires c κs = omega (arith, up-most (said-of (c .before .before .before .before .before .before .args .t3) (c .before .before .before .before .before .before .args .t4)) 140 (λ i. record-most i _ _) (c .before .before .before .before .loop .i), c .before .before .before .before .loop .inv .1, c .before .before .before .before .loop .inv .3, c .before .before .before .before .before .before .pre)
 
--- src/records.rt:65:9
 add-i : tie.Need-add-i Inv-loop μ-loop
 add-i c = search needs
 
--- src/records.rt:61:5
 loop-less : tie.Need-loop-less Inv-loop μ-loop
 loop-less c = search needs
 
--- src/records.rt:61:5
 loop-again : tie.Need-loop-again Inv-loop μ-loop
 loop-again c =
     let a = c .before .before .before .before .before .before .before .before .before .args in
@@ -74,11 +62,9 @@ loop-again c =
     (l .inv .2) (l .inv .3) (p .ensures .0 ∙ ap (putAt (l .out) (l .place)) said) (p .ensures .1 ∙ ap (λ (x : List ℕ). l .place + length x) said) in
     (omega arith, p .kept .0 ∙ l .inv .1, turned .0, turned .1)
 
--- src/records.rt:49:1
 same-length : tie.Need-same-length Inv-loop μ-loop
 same-length c = c .before .loop .inv .1
 
--- src/records.rt:49:1
 returns : tie.Need-returns Inv-loop μ-loop
 returns c =
     let l = c .before .loop in

@@ -10,9 +10,6 @@ use Rattle.call_log.specs.Changes.{headChange}
 use Rattle.call_log.proofs.ChangeCases.{head-most, up-most, up-none, up-turn}
 use Rattle.call_log.proofs.rows.put_heads.Statement.{statement}
 use Rattle.call_log.proofs.rows.put_heads.Tie as tie
-use Rattle.call_log.proofs.rows.put_heads.Reads as reads
-use Rattle.call_log.proofs.rows.put_heads.Lts as lts
-use Rattle.call_log.proofs.rows.put_head.Reads as put-head-reads
 
 abbrev said-of : List ℕ → List ℕ → ℕ → List ℕ
 said-of before after i = headChange i (getD before i 0) (getD after i 0)
@@ -24,42 +21,33 @@ Inv-loop out₀ at before after place₀ i₀ out place i =
 abbrev μ-loop : tie.MeasureT-loop
 μ-loop out₀ at before after place₀ i₀ out place i = length after - i
 
--- src/rows.rt:39:5
 loop-holds : tie.Need-loop-holds Inv-loop μ-loop
 loop-holds c =
     let a = c .before .before .before .args in
     let none = up-none (said-of (c .before .before .before .args .before .now) (c .before .before .before .args .after .now)) (a .out .now) (a .at) in
     (omega arith, refl, none .0, none .1)
 
--- src/rows.rt:40:41
 mul-put-head : tie.Need-mul-put-head Inv-loop μ-loop
 mul-put-head c = search needs
 
--- src/rows.rt:40:41
 shared-slice-read-put-head : tie.Need-shared-slice-read-put-head Inv-loop μ-loop
 shared-slice-read-put-head c = omega arith
 
--- src/rows.rt:40:52
 mul-put-head-2 : tie.Need-mul-put-head-2 Inv-loop μ-loop
 mul-put-head-2 c = search needs
 
--- src/rows.rt:40:52
 shared-slice-read-put-head-2 : tie.Need-shared-slice-read-put-head-2 Inv-loop μ-loop
 shared-slice-read-put-head-2 c = omega arith
 
--- src/rows.rt:40:9
 put-head-requires : tie.Need-put-head-requires Inv-loop μ-loop
 put-head-requires c κs = omega (arith, up-most (said-of (c .before .before .before .before .before .before .before .before .args .before .now) (c .before .before .before .before .before .before .before .before .args .after .now)) 53 (λ i. head-most i _ _) (c .before .before .before .before .loop .i), c .before .before .before .before .loop .inv .1, c .before .before .before .before .loop .inv .3, c .before .before .before .before .before .before .before .before .pre)
 
--- src/rows.rt:41:9
 add-i : tie.Need-add-i Inv-loop μ-loop
 add-i c = search needs
 
--- src/rows.rt:39:5
 loop-less : tie.Need-loop-less Inv-loop μ-loop
 loop-less c = search needs
 
--- src/rows.rt:39:5
 loop-again : tie.Need-loop-again Inv-loop μ-loop
 loop-again c =
     let a = c .before .before .before .before .before .before .before .before .before .before .before .args in
@@ -69,11 +57,9 @@ loop-again c =
     (p .ensures .0) (p .ensures .1) in
     (omega arith, p .kept .0 ∙ l .inv .1, turned .0, turned .1)
 
--- src/rows.rt:31:1
 same-length : tie.Need-same-length Inv-loop μ-loop
 same-length c = c .before .loop .inv .1
 
--- src/rows.rt:31:1
 returns : tie.Need-returns Inv-loop μ-loop
 returns c =
     let l = c .before .loop in

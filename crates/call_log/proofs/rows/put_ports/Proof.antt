@@ -11,9 +11,6 @@ use Rattle.call_log.specs.Changes.{portChange}
 use Rattle.call_log.proofs.ChangeCases.{port-most, up-most, up-none, up-turn}
 use Rattle.call_log.proofs.rows.put_ports.Statement.{statement}
 use Rattle.call_log.proofs.rows.put_ports.Tie as tie
-use Rattle.call_log.proofs.rows.put_ports.Reads as reads
-use Rattle.call_log.proofs.rows.put_ports.Lts as lts
-use Rattle.call_log.proofs.rows.put_port.Reads as put-port-reads
 
 abbrev said-of : Bool → List ℕ → List ℕ → ℕ → List ℕ
 said-of all before after i = portChange all i (getD before i 0) (getD after i 0)
@@ -25,34 +22,27 @@ Inv-loop out₀ at all before after place₀ i₀ out place i =
 abbrev μ-loop : tie.MeasureT-loop
 μ-loop out₀ at all before after place₀ i₀ out place i = length after - i
 
--- src/rows.rt:69:5
 loop-holds : tie.Need-loop-holds Inv-loop μ-loop
 loop-holds c =
     let a = c .before .before .before .args in
     let none = up-none (said-of (c .before .before .before .args .all) (c .before .before .before .args .before .now) (c .before .before .before .args .after .now)) (a .out .now) (a .at) in
     (omega arith, refl, none .0, none .1)
 
--- src/rows.rt:70:46
 shared-slice-read-put-port : tie.Need-shared-slice-read-put-port Inv-loop μ-loop
 shared-slice-read-put-port c = omega arith
 
--- src/rows.rt:70:57
 shared-slice-read-put-port-2 : tie.Need-shared-slice-read-put-port-2 Inv-loop μ-loop
 shared-slice-read-put-port-2 c = omega arith
 
--- src/rows.rt:70:9
 put-port-requires : tie.Need-put-port-requires Inv-loop μ-loop
 put-port-requires c κs = (omega (arith, c .before .before .before .before .before .before .before .before .pre .0), omega (arith, up-most (said-of (c .before .before .before .before .before .before .before .before .args .all) (c .before .before .before .before .before .before .before .before .args .before .now) (c .before .before .before .before .before .before .before .before .args .after .now)) 44 (λ i. port-most _ i _ _) (c .before .before .before .before .loop .i), c .before .before .before .before .loop .inv .1, c .before .before .before .before .loop .inv .3, c .before .before .before .before .before .before .before .before .pre))
 
--- src/rows.rt:71:9
 add-i : tie.Need-add-i Inv-loop μ-loop
 add-i c = search needs
 
--- src/rows.rt:69:5
 loop-less : tie.Need-loop-less Inv-loop μ-loop
 loop-less c = search needs
 
--- src/rows.rt:69:5
 loop-again : tie.Need-loop-again Inv-loop μ-loop
 loop-again c =
     let a = c .before .before .before .before .before .before .before .before .before .before .before .args in
@@ -62,11 +52,9 @@ loop-again c =
     (p .ensures .0) (p .ensures .1) in
     (omega arith, p .kept .0 ∙ l .inv .1, turned .0, turned .1)
 
--- src/rows.rt:60:1
 same-length : tie.Need-same-length Inv-loop μ-loop
 same-length c = c .before .loop .inv .1
 
--- src/rows.rt:60:1
 returns : tie.Need-returns Inv-loop μ-loop
 returns c =
     let l = c .before .loop in

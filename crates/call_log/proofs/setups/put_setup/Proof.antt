@@ -8,21 +8,13 @@ use Rattle.call_log.proofs.ChangeCases.{shows, stays}
 use borrow.Author.Needs.{needs}
 use Rattle.call_log.proofs.setups.put_setup.Statement.{statement}
 use Rattle.call_log.proofs.setups.put_setup.Tie as tie
-use Rattle.call_log.proofs.setups.put_setup.Reads as reads
-use Rattle.call_log.proofs.setups.put_setup.Lts as lts
-use Rattle.call_log.proofs.line.put_line.Reads as put-line-reads
-use Rattle.call_log.proofs.lines.setup_line.Reads as setup-line-reads
-use Rattle.call_log.proofs.setups.same_eight.Reads as same-eight-reads
 
--- src/setups.rt:33:13
 mul-p : tie.Need-mul-p
 mul-p c = search needs
 
--- src/setups.rt:34:8
 same-eight-requires : tie.Need-same-eight-requires
 same-eight-requires c κs = search needs
 
--- src/setups.rt:35:9
 returns : tie.Need-returns
 unfolding setupChange
 returns c =
@@ -33,79 +25,60 @@ returns c =
     (setupLine (a .slot) (getD l p 0 ∷ getD l (p + 1) 0 ∷ getD l (p + 2) 0 ∷ getD l (p + 3) 0 ∷ getD l (p + 4) 0 ∷ getD l (p + 5) 0 ∷ getD l (p + 6) 0 ∷ getD l (p + 7) 0 ∷ []))
     (sym (c .before .same-eight .ensures) ∙ c .if1 .taken)
 
--- src/setups.rt:39:9
 shared-slice-read-setup-line : tie.Need-shared-slice-read-setup-line
 shared-slice-read-setup-line c = search needs
 
--- src/setups.rt:40:15
 add-setup-line : tie.Need-add-setup-line
 add-setup-line c = search needs
 
--- src/setups.rt:40:9
 shared-slice-read-setup-line-2 : tie.Need-shared-slice-read-setup-line-2
 shared-slice-read-setup-line-2 c = search needs
 
--- src/setups.rt:41:15
 add-setup-line-2 : tie.Need-add-setup-line-2
 add-setup-line-2 c = search needs
 
--- src/setups.rt:41:9
 shared-slice-read-setup-line-3 : tie.Need-shared-slice-read-setup-line-3
 shared-slice-read-setup-line-3 c = search needs
 
--- src/setups.rt:42:15
 add-setup-line-3 : tie.Need-add-setup-line-3
 add-setup-line-3 c = search needs
 
--- src/setups.rt:42:9
 shared-slice-read-setup-line-4 : tie.Need-shared-slice-read-setup-line-4
 shared-slice-read-setup-line-4 c = search needs
 
--- src/setups.rt:43:15
 add-setup-line-4 : tie.Need-add-setup-line-4
 add-setup-line-4 c = search needs
 
--- src/setups.rt:43:9
 shared-slice-read-setup-line-5 : tie.Need-shared-slice-read-setup-line-5
 shared-slice-read-setup-line-5 c = search needs
 
--- src/setups.rt:44:15
 add-setup-line-5 : tie.Need-add-setup-line-5
 add-setup-line-5 c = search needs
 
--- src/setups.rt:44:9
 shared-slice-read-setup-line-6 : tie.Need-shared-slice-read-setup-line-6
 shared-slice-read-setup-line-6 c = search needs
 
--- src/setups.rt:45:15
 add-setup-line-6 : tie.Need-add-setup-line-6
 add-setup-line-6 c = search needs
 
--- src/setups.rt:45:9
 shared-slice-read-setup-line-7 : tie.Need-shared-slice-read-setup-line-7
 shared-slice-read-setup-line-7 c = search needs
 
--- src/setups.rt:46:15
 add-setup-line-7 : tie.Need-add-setup-line-7
 add-setup-line-7 c = search needs
 
--- src/setups.rt:46:9
 shared-slice-read-setup-line-8 : tie.Need-shared-slice-read-setup-line-8
 shared-slice-read-setup-line-8 c = search needs
 
--- src/setups.rt:37:9
 setup-line-requires : tie.Need-setup-line-requires
 setup-line-requires c κs = search needs
 
--- src/setups.rt:48:5
 put-line-requires : tie.Need-put-line-requires
 put-line-requires c κs = search needs
 
--- src/setups.rt:26:1
 same-length : tie.Need-same-length
 same-length c = search needs
 
--- src/setups.rt:26:1
 returns-2 : tie.Need-returns-2
 unfolding setupChange
 returns-2 c =

@@ -10,9 +10,6 @@ use Rattle.call_log.specs.Changes.{setupChange}
 use Rattle.call_log.proofs.ChangeCases.{setup-most, up-most, up-none, up-turn}
 use Rattle.call_log.proofs.setups.put_setups.Statement.{statement}
 use Rattle.call_log.proofs.setups.put_setups.Tie as tie
-use Rattle.call_log.proofs.setups.put_setups.Reads as reads
-use Rattle.call_log.proofs.setups.put_setups.Lts as lts
-use Rattle.call_log.proofs.setups.put_setup.Reads as put-setup-reads
 
 abbrev said-of : List ℕ → List ℕ → ℕ → List ℕ
 said-of before after = setupChange before after
@@ -24,14 +21,12 @@ Inv-loop out₀ at slots before after place₀ i₀ out place i =
 abbrev μ-loop : tie.MeasureT-loop
 μ-loop out₀ at slots before after place₀ i₀ out place i = slots - i
 
--- src/setups.rt:61:5
 loop-holds : tie.Need-loop-holds Inv-loop μ-loop
 loop-holds c =
     let a = c .before .before .before .args in
     let none = up-none (said-of (c .before .before .before .args .before .now) (c .before .before .before .args .after .now)) (a .out .now) (a .at) in
     (omega arith, refl, none .0, none .1)
 
--- src/setups.rt:62:9
 put-setup-requires : tie.Need-put-setup-requires Inv-loop μ-loop
 put-setup-requires c κs =
     let a = c .before .before .before .before .before .before .args in (
@@ -45,15 +40,12 @@ put-setup-requires c κs =
       (omega (arith, c .before .before .before .before .before .before .pre), omega (arith, c .before .before .before .before .before .before .pre)),
     )
 
--- src/setups.rt:63:9
 add-i : tie.Need-add-i Inv-loop μ-loop
 add-i c = search needs
 
--- src/setups.rt:61:5
 loop-less : tie.Need-loop-less Inv-loop μ-loop
 loop-less c = search needs
 
--- src/setups.rt:61:5
 loop-again : tie.Need-loop-again Inv-loop μ-loop
 loop-again c =
     let a = c .before .before .before .before .before .before .before .before .before .args in
@@ -63,11 +55,9 @@ loop-again c =
     (p .ensures .0) (p .ensures .1) in
     (omega arith, p .kept .0 ∙ l .inv .1, turned .0, turned .1)
 
--- src/setups.rt:51:1
 same-length : tie.Need-same-length Inv-loop μ-loop
 same-length c = c .before .loop .inv .1
 
--- src/setups.rt:51:1
 returns : tie.Need-returns Inv-loop μ-loop
 returns c =
     let l = c .before .loop in

@@ -3,130 +3,97 @@ use Rattle.call_log.specs.Changes.{sameEight}
 use borrow.Author.Needs.{needs}
 use Rattle.call_log.proofs.setups.same_eight.Statement.{statement}
 use Rattle.call_log.proofs.setups.same_eight.Tie as tie
-use Rattle.call_log.proofs.setups.same_eight.Reads as reads
-use Rattle.call_log.proofs.setups.same_eight.Lts as lts
 
--- src/setups.rt:16:16
 shared-slice-read-low : tie.Need-shared-slice-read-low
 shared-slice-read-low c = search needs
 
--- src/setups.rt:16:24
 shared-slice-read-low-2 : tie.Need-shared-slice-read-low-2
 shared-slice-read-low-2 c = search needs
 
--- src/setups.rt:17:14
 add-low : tie.Need-add-low
 add-low c = search needs
 
--- src/setups.rt:17:12
 shared-slice-read-low-3 : tie.Need-shared-slice-read-low-3
 shared-slice-read-low-3 c = search needs
 
--- src/setups.rt:17:26
 add-low-2 : tie.Need-add-low-2
 add-low-2 c = search needs
 
--- src/setups.rt:17:24
 shared-slice-read-low-4 : tie.Need-shared-slice-read-low-4
 shared-slice-read-low-4 c = search needs
 
--- src/setups.rt:18:14
 add-low-3 : tie.Need-add-low-3
 add-low-3 c = search needs
 
--- src/setups.rt:18:12
 shared-slice-read-low-5 : tie.Need-shared-slice-read-low-5
 shared-slice-read-low-5 c = search needs
 
--- src/setups.rt:18:26
 add-low-4 : tie.Need-add-low-4
 add-low-4 c = search needs
 
--- src/setups.rt:18:24
 shared-slice-read-low-6 : tie.Need-shared-slice-read-low-6
 shared-slice-read-low-6 c = search needs
 
--- src/setups.rt:19:14
 add-low-5 : tie.Need-add-low-5
 add-low-5 c = search needs
 
--- src/setups.rt:19:12
 shared-slice-read-low-7 : tie.Need-shared-slice-read-low-7
 shared-slice-read-low-7 c = search needs
 
--- src/setups.rt:19:26
 add-low-6 : tie.Need-add-low-6
 add-low-6 c = search needs
 
--- src/setups.rt:19:24
 shared-slice-read-low-8 : tie.Need-shared-slice-read-low-8
 shared-slice-read-low-8 c = search needs
 
--- src/setups.rt:20:14
 add-result : tie.Need-add-result
 add-result c = search needs
 
--- src/setups.rt:20:12
 shared-slice-read-result : tie.Need-shared-slice-read-result
 shared-slice-read-result c = search needs
 
--- src/setups.rt:20:26
 add-result-2 : tie.Need-add-result-2
 add-result-2 c = search needs
 
--- src/setups.rt:20:24
 shared-slice-read-result-2 : tie.Need-shared-slice-read-result-2
 shared-slice-read-result-2 c = search needs
 
--- src/setups.rt:21:14
 add-result-3 : tie.Need-add-result-3
 add-result-3 c = search needs
 
--- src/setups.rt:21:12
 shared-slice-read-result-3 : tie.Need-shared-slice-read-result-3
 shared-slice-read-result-3 c = search needs
 
--- src/setups.rt:21:26
 add-result-4 : tie.Need-add-result-4
 add-result-4 c = search needs
 
--- src/setups.rt:21:24
 shared-slice-read-result-4 : tie.Need-shared-slice-read-result-4
 shared-slice-read-result-4 c = search needs
 
--- src/setups.rt:22:14
 add-result-5 : tie.Need-add-result-5
 add-result-5 c = search needs
 
--- src/setups.rt:22:12
 shared-slice-read-result-5 : tie.Need-shared-slice-read-result-5
 shared-slice-read-result-5 c = search needs
 
--- src/setups.rt:22:26
 add-result-6 : tie.Need-add-result-6
 add-result-6 c = search needs
 
--- src/setups.rt:22:24
 shared-slice-read-result-6 : tie.Need-shared-slice-read-result-6
 shared-slice-read-result-6 c = search needs
 
--- src/setups.rt:23:14
 add-result-7 : tie.Need-add-result-7
 add-result-7 c = search needs
 
--- src/setups.rt:23:12
 shared-slice-read-result-7 : tie.Need-shared-slice-read-result-7
 shared-slice-read-result-7 c = search needs
 
--- src/setups.rt:23:26
 add-result-8 : tie.Need-add-result-8
 add-result-8 c = search needs
 
--- src/setups.rt:23:24
 shared-slice-read-result-8 : tie.Need-shared-slice-read-result-8
 shared-slice-read-result-8 c = search needs
 
--- src/setups.rt:11:1
 returns : tie.Need-returns
 unfolding sameEight
 returns c = refl

@@ -12,9 +12,6 @@ use Rattle.call_log.proofs.ChangeCases.{up-most, up-none, up-turn, writ
 use Rattle.call_log.proofs.Known.{writes-length}
 use Rattle.call_log.proofs.writes.put_writes.Statement.{statement}
 use Rattle.call_log.proofs.writes.put_writes.Tie as tie
-use Rattle.call_log.proofs.writes.put_writes.Reads as reads
-use Rattle.call_log.proofs.writes.put_writes.Lts as lts
-use Rattle.call_log.proofs.writes.put_write.Reads as put-write-reads
 
 abbrev said-of : List Write → ℕ → List ℕ
 said-of list i = writeLine (getD list i (record { offset = 0; value = 0 }) .offset) (getD list i (record { offset = 0; value = 0 }) .value)
@@ -26,38 +23,30 @@ Inv-loop out₀ at list count place₀ i₀ out place i =
 abbrev μ-loop : tie.MeasureT-loop
 μ-loop out₀ at list count place₀ i₀ out place i = count - i
 
--- src/writes.rt:28:17
 cast-count : tie.Need-cast-count Inv-loop μ-loop
 cast-count c = search needs
 
--- src/writes.rt:31:5
 loop-holds : tie.Need-loop-holds Inv-loop μ-loop
 loop-holds c =
     let a = c .before .before .before .args in
     let none = up-none (said-of (c .before .before .before .args .writes .writes)) (a .out .now) (a .at) in
     (omega arith, refl, none .0, none .1)
 
--- src/writes.rt:32:21
 mul-write : tie.Need-mul-write Inv-loop μ-loop
 mul-write c = search needs
 
--- src/writes.rt:32:21
 array-copy-out-write : tie.Need-array-copy-out-write Inv-loop μ-loop
 array-copy-out-write c = omega (arith, c .before .before .before .before .before .pre)
 
--- src/writes.rt:33:9
 put-write-requires : tie.Need-put-write-requires Inv-loop μ-loop
 put-write-requires c κs = omega (arith, up-most (said-of (c .before .before .before .before .before .before .before .args .writes .writes)) 14 (λ i. write-most _ _) (c .before .before .before .loop .i), c .before .before .before .loop .inv .1, c .before .before .before .loop .inv .3, c .before .before .before .before .before .before .before .pre)
 
--- src/writes.rt:34:9
 add-i : tie.Need-add-i Inv-loop μ-loop
 add-i c = search needs
 
--- src/writes.rt:31:5
 loop-less : tie.Need-loop-less Inv-loop μ-loop
 loop-less c = search needs
 
--- src/writes.rt:31:5
 loop-again : tie.Need-loop-again Inv-loop μ-loop
 loop-again c =
     let a = c .before .before .before .before .before .before .before .before .before .before .args in
@@ -70,11 +59,9 @@ loop-again c =
     (l .inv .2) (l .inv .3) (p .ensures .0 ∙ ap (putAt (l .out) (l .place)) said) (p .ensures .1 ∙ ap (λ (x : List ℕ). l .place + length x) said) in
     (omega arith, p .kept .0 ∙ l .inv .1, turned .0, turned .1)
 
--- src/writes.rt:21:1
 same-length : tie.Need-same-length Inv-loop μ-loop
 same-length c = c .before .loop .inv .1
 
--- src/writes.rt:21:1
 returns : tie.Need-returns Inv-loop μ-loop
 returns c =
     let l = c .before .loop in

@@ -25,7 +25,6 @@ abbrev put-digits-below : ℕ → In 1 put-digits-kinds.ps
 put-digits-below t =
     and 1 put-digits-kinds.ps (falls 1 put-digits-kinds.ps _<_ μ-put-digits t) put-digits.Pre
 
--- src/digits.rt:35:9
 put-digits-returns : (t : ℕ) → put-digits-lts.Need-returns (
   decimal-digit-reads.Asked,
   decimal-digit-reads.Learnt,
@@ -36,7 +35,6 @@ put-digits-returns : (t : ℕ) → put-digits-lts.Need-returns (
 ) (put-digits-at t) put-digits.Post
 put-digits-returns t c = let a = c .before .before .args in digits-none (a .out .now) (a .at) (a .most) (a .n) (c .if1 .taken)
 
--- src/digits.rt:38:29
 put-digits-decimal-digit-requires : (t : ℕ) → put-digits-lts.Need-decimal-digit-requires (
   decimal-digit-reads.Asked,
   decimal-digit-reads.Learnt,
@@ -47,7 +45,6 @@ put-digits-decimal-digit-requires : (t : ℕ) → put-digits-lts.Need-decimal-di
 ) (put-digits-at t) put-digits.Post
 put-digits-decimal-digit-requires t c κs = search needs
 
--- src/digits.rt:38:9
 put-digits-put-requires : (t : ℕ) → put-digits-lts.Need-put-requires (
   decimal-digit-reads.Asked,
   decimal-digit-reads.Learnt,
@@ -58,7 +55,6 @@ put-digits-put-requires : (t : ℕ) → put-digits-lts.Need-put-requires (
 ) (put-digits-at t) put-digits.Post
 put-digits-put-requires t c κs = omega (arith, c .before .before .before .if1 .left)
 
--- src/digits.rt:38:9
 put-digits-same-length : (t : ℕ) → put-digits-lts.Need-same-length (
   decimal-digit-reads.Asked,
   decimal-digit-reads.Learnt,
@@ -69,7 +65,6 @@ put-digits-same-length : (t : ℕ) → put-digits-lts.Need-same-length (
 ) (put-digits-at t) put-digits.Post
 put-digits-same-length t c = c .before .before .put .kept .0
 
--- src/digits.rt:38:9
 put-digits-returns-2 : (t : ℕ) → put-digits-lts.Need-returns-2 (
   decimal-digit-reads.Asked,
   decimal-digit-reads.Learnt,
@@ -85,7 +80,6 @@ put-digits-returns-2 t c =
     digits-low (a .out .now) (p .last .0) (a .at) (a .most) (a .n) (d .result) (p .result) (c .before .before .before .before .before .before .if1 .left) (omega arith) (d .ensures)
     (p .ensures .0) (p .ensures .1)
 
--- src/digits.rt:40:44
 put-digits-sub-put-digits : (t : ℕ) → put-digits-lts.Need-sub-put-digits (
   decimal-digit-reads.Asked,
   decimal-digit-reads.Learnt,
@@ -96,7 +90,6 @@ put-digits-sub-put-digits : (t : ℕ) → put-digits-lts.Need-sub-put-digits (
 ) (put-digits-at t) put-digits.Post
 put-digits-sub-put-digits t c = omega (arith, c .before .before .if1 .left)
 
--- src/digits.rt:40:9
 put-digits-put-digits-requires : (t : ℕ) → put-digits-lts.Need-put-digits-requires (
   decimal-digit-reads.Asked,
   decimal-digit-reads.Learnt,
@@ -107,7 +100,6 @@ put-digits-put-digits-requires : (t : ℕ) → put-digits-lts.Need-put-digits-re
 ) (put-digits-at t) put-digits.Post
 put-digits-put-digits-requires t c κs = (omega (arith, c .before .before .before .before .pre .0, c .before .before .if1 .left), omega (arith, c .before .before .before .before .pre .1, c .before .before .if1 .left))
 
--- src/digits.rt:41:20
 put-digits-decimal-digit-requires-2 : (t : ℕ) → put-digits-lts.Need-decimal-digit-requires-2 (
   decimal-digit-reads.Asked,
   decimal-digit-reads.Learnt,
@@ -118,7 +110,6 @@ put-digits-decimal-digit-requires-2 : (t : ℕ) → put-digits-lts.Need-decimal-
 ) (put-digits-at t) put-digits.Post
 put-digits-decimal-digit-requires-2 t c κs = omega arith
 
--- src/digits.rt:41:5
 put-digits-put-requires-2 : (t : ℕ) → put-digits-lts.Need-put-requires-2 (
   decimal-digit-reads.Asked,
   decimal-digit-reads.Learnt,
@@ -131,7 +122,6 @@ put-digits-put-requires-2 t c κs =
     let a = c .before .before .before .before .before .before .before .before .before .args in
     omega (arith, decimal-most (a .most - 1) (a .n / 10), c .before .before .before .before .put-digits .ensures .1, c .before .before .before .before .put-digits .kept .0, c .before .before .before .before .before .before .before .before .before .pre .1, c .before .before .before .before .before .before .before .if1 .left)
 
--- src/digits.rt:29:1
 put-digits-same-length-2 : (t : ℕ) → put-digits-lts.Need-same-length-2 (
   decimal-digit-reads.Asked,
   decimal-digit-reads.Learnt,
@@ -142,7 +132,6 @@ put-digits-same-length-2 : (t : ℕ) → put-digits-lts.Need-same-length-2 (
 ) (put-digits-at t) put-digits.Post
 put-digits-same-length-2 t c = c .before .before .put2 .kept .0 ∙ c .before .before .before .before .before .before .before .put-digits .kept .0
 
--- src/digits.rt:29:1
 put-digits-returns-3 : (t : ℕ) → put-digits-lts.Need-returns-3 (
   decimal-digit-reads.Asked,
   decimal-digit-reads.Learnt,

@@ -21,7 +21,6 @@ put-hex-at t = and 1 put-hex-kinds.ps (is 1 put-hex-kinds.ps μ-put-hex t) put-h
 abbrev put-hex-below : ℕ → In 1 put-hex-kinds.ps
 put-hex-below t = and 1 put-hex-kinds.ps (falls 1 put-hex-kinds.ps _<_ μ-put-hex t) put-hex.Pre
 
--- src/digits.rt:65:9
 put-hex-returns : (t : ℕ) → put-hex-lts.Need-returns (
   put-hex-below t,
   put-hex.Post,
@@ -32,7 +31,6 @@ put-hex-returns : (t : ℕ) → put-hex-lts.Need-returns (
 ) (put-hex-at t) put-hex.Post
 put-hex-returns t c = let a = c .before .before .args in hex-put-none (a .out .now) (a .at) (a .digits) (a .n) (c .if1 .taken)
 
--- src/digits.rt:67:41
 put-hex-sub-put-hex : (t : ℕ) → put-hex-lts.Need-sub-put-hex (
   put-hex-below t,
   put-hex.Post,
@@ -43,7 +41,6 @@ put-hex-sub-put-hex : (t : ℕ) → put-hex-lts.Need-sub-put-hex (
 ) (put-hex-at t) put-hex.Post
 put-hex-sub-put-hex t c = omega (arith, c .before .if1 .left)
 
--- src/digits.rt:67:9
 put-hex-put-hex-requires : (t : ℕ) → put-hex-lts.Need-put-hex-requires (
   put-hex-below t,
   put-hex.Post,
@@ -54,7 +51,6 @@ put-hex-put-hex-requires : (t : ℕ) → put-hex-lts.Need-put-hex-requires (
 ) (put-hex-at t) put-hex.Post
 put-hex-put-hex-requires t c κs = (omega (arith, c .before .before .before .pre .0, c .before .if1 .left), omega (arith, c .before .before .before .pre .1, c .before .if1 .left))
 
--- src/digits.rt:68:20
 put-hex-hex-digit-requires : (t : ℕ) → put-hex-lts.Need-hex-digit-requires (
   put-hex-below t,
   put-hex.Post,
@@ -65,7 +61,6 @@ put-hex-hex-digit-requires : (t : ℕ) → put-hex-lts.Need-hex-digit-requires (
 ) (put-hex-at t) put-hex.Post
 put-hex-hex-digit-requires t c κs = omega arith
 
--- src/digits.rt:68:5
 put-hex-put-requires : (t : ℕ) → put-hex-lts.Need-put-requires (
   put-hex-below t,
   put-hex.Post,
@@ -76,7 +71,6 @@ put-hex-put-requires : (t : ℕ) → put-hex-lts.Need-put-requires (
 ) (put-hex-at t) put-hex.Post
 put-hex-put-requires t c κs = omega (arith, c .before .before .before .before .put-hex .ensures .1, c .before .before .before .before .put-hex .kept .0, c .before .before .before .before .before .before .before .before .pre .1, c .before .before .before .before .before .before .if1 .left)
 
--- src/digits.rt:59:1
 put-hex-same-length : (t : ℕ) → put-hex-lts.Need-same-length (
   put-hex-below t,
   put-hex.Post,
@@ -87,7 +81,6 @@ put-hex-same-length : (t : ℕ) → put-hex-lts.Need-same-length (
 ) (put-hex-at t) put-hex.Post
 put-hex-same-length t c = c .before .before .put .kept .0 ∙ c .before .before .before .before .before .before .before .put-hex .kept .0
 
--- src/digits.rt:59:1
 put-hex-returns-2 : (t : ℕ) → put-hex-lts.Need-returns-2 (
   put-hex-below t,
   put-hex.Post,

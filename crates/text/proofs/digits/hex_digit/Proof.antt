@@ -2,30 +2,22 @@ use borrow.Author.Tests.{lt-ltb, le-ltb}
 use borrow.Author.Needs.{needs}
 use Rattle.text.proofs.digits.hex_digit.Statement.{statement}
 use Rattle.text.proofs.digits.hex_digit.Tie as tie
-use Rattle.text.proofs.digits.hex_digit.Reads as reads
-use Rattle.text.proofs.digits.hex_digit.Lts as lts
 
--- src/digits.rt:56:22
 cast-result : tie.Need-cast-result
 cast-result c = search needs
 
--- src/digits.rt:56:17
 add-result : tie.Need-add-result
 add-result c = search needs
 
--- src/digits.rt:56:44
 cast-result-2 : tie.Need-cast-result-2
 cast-result-2 c = search needs
 
--- src/digits.rt:56:39
 add-result-2 : tie.Need-add-result-2
 add-result-2 c = search needs
 
--- src/digits.rt:52:1
 returns : tie.Need-returns
 returns c = rw (lt-ltb _ _ (c .if1 .taken))
 
--- src/digits.rt:52:1
 returns-2 : tie.Need-returns-2
 returns-2 c = rw (le-ltb _ _ (c .if1 .left))
 

@@ -3,22 +3,16 @@ use Rattle.text.proofs.Puts.{put-one}
 use borrow.Author.Needs.{needs}
 use Rattle.text.proofs.digits.put.Statement.{statement}
 use Rattle.text.proofs.digits.put.Tie as tie
-use Rattle.text.proofs.digits.put.Reads as reads
-use Rattle.text.proofs.digits.put.Lts as lts
 
--- src/digits.rt:17:5
 slice-write-out : tie.Need-slice-write-out
 slice-write-out c = search needs
 
--- src/digits.rt:18:5
 add-result : tie.Need-add-result
 add-result c = search needs
 
--- src/digits.rt:12:1
 same-length : tie.Need-same-length
 same-length c = search needs
 
--- src/digits.rt:12:1
 returns : tie.Need-returns
 returns c = (put-one (c .args .out .now) (c .args .at) (c .args .byte) (c .pre), refl)
 
