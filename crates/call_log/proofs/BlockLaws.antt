@@ -4,6 +4,8 @@ use mathlib.Core.Bool.{Bool, not}
 use mathlib.Core.Path.{_≡_}
 use mathlib.Core.List.{List, [], _∷_, _++_, append-assoc}
 use native.Mathlib.Omega.{arith}
+use lib.Dec.{ltb}
+use Rattle.settings.specs.Tests.{both}
 use lib.ListN.{getD, length, length-append, take}
 use Rattle.opening.specs.Rows.{putAt}
 use Rattle.pool.specs.Chains.{blank}
@@ -61,8 +63,9 @@ rows-most b a h g =
     simp length-append
     (omega (arith, records-most b a, heads-most (b .heads) (a .heads) h, frames-most (b .frames) (a .frames) g, setups-most (b .setups) (a .setups)))
 
-pub ports-most : (all : Bool) (b a : List ℕ) → length a ≤ 15 → length (portLines all b a) ≤ 660
-ports-most all b a h = omega (arith, up-most (λ i. portChange all i (getD b i 0) (getD a i 0)) 44 (λ i. port-most all i _ _) (length a))
+pub ports-most : (all : Bool) (n : ℕ) (b a : List ℕ) → length a ≤ 15 → length (portLines all n b a) ≤ 660
+ports-most all n b a h =
+    omega (arith, up-most (λ i. portChange (both all (ltb i n)) i (getD b i 0) (getD a i 0)) 44 (λ i. port-most (both all (ltb i n)) i _ _) (length a))
 
 pub writes-most : (w : Writes) → w .count ≤ 6 → length (writeLines w) ≤ 84
 writes-most w h = omega (arith, up-most (λ i. writeLine (writeAt w i .offset) (writeAt w i .value)) 14 (λ i. write-most _ _) (w .count))
@@ -72,7 +75,7 @@ pub block-fits : (first : List ℕ) (opening : Bool) (b a : Rows) (opened : Bool
 unfolding blockOf restLines
 block-fits first opening b a opened s w f h g p c =
     let q : length (shownIf opened (stateLine s)) ≤ 174 = if-most (not opened) (stateLine s) 174 (shown-most _) in
-    simp length-append (omega (arith, rows-most b a h g, ports-most opening (b .ports) (a .ports) p, writes-most w c))
+    simp length-append (omega (arith, rows-most b a h g, ports-most opening (s .settings .ports) (b .ports) (a .ports) p, writes-most w c))
 
 -- ---- put one after the other
 
@@ -112,13 +115,13 @@ state-most opened s = if-most (not opened) (stateLine s) 174 (shown-most _)
 pub block-put : (o p q u t first : List ℕ) (i j k r : ℕ) (opening : Bool) (b a : Rows) (opened : Bool) (s : Ehci) (w : Writes)
     → p ≡ putAt o 0 first → i ≡ length first
     → q ≡ putAt p i (rowsLines b a) → j ≡ i + length (rowsLines b a)
-    → u ≡ putAt q j (portLines opening (b .ports) (a .ports)) → k ≡ j + length (portLines opening (b .ports) (a .ports))
+    → u ≡ putAt q j (portLines opening (s .settings .ports) (b .ports) (a .ports)) → k ≡ j + length (portLines opening (s .settings .ports) (b .ports) (a .ports))
     → t ≡ putAt u k (restLines opened s w) → r ≡ k + length (restLines opened s w)
     → (t ≡ putAt o 0 (blockOf first opening b a opened s w)) × (r ≡ length (blockOf first opening b a opened s w))
 unfolding blockOf
 block-put o p q u t first i j k r opening b a opened s w e l f m g n d x =
     let R = rowsLines b a in
-    let U = portLines opening (b .ports) (a .ports) in
+    let U = portLines opening (s .settings .ports) (b .ports) (a .ports) in
     let T = restLines opened s w in
     let two = put-then o p q first R 0 i j (omega arith) e (omega arith) f m in
     let three = put-then o q u (first ++ R) U 0 j k (omega arith) (two .0) (two .1) g n in

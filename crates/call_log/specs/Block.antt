@@ -22,4 +22,4 @@ restLines opened s writes = shownIf opened (stateLine s) ++ (writeLines writes +
 -- the C line; what changed; U, where an opening shows every port; the rest
 unfoldable pub blockOf : List ℕ → Bool → Rows → Rows → Bool → Ehci → Writes → List ℕ
 blockOf first opening before after opened s writes =
-    first ++ (rowsLines before after ++ (portLines opening (before .ports) (after .ports) ++ restLines opened s writes))
+    first ++ (rowsLines before after ++ (portLines opening (s .settings .ports) (before .ports) (after .ports) ++ restLines opened s writes))

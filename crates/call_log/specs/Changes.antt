@@ -24,12 +24,14 @@ headChange i before after = pickBytes (eqb before after) [] (headLine (i / 17) (
 abbrev pub headLines : List ℕ → List ℕ → List ℕ
 headLines before after = upTo (λ i. headChange i (getD before i 0) (getD after i 0)) (length after)
 
--- `U port state` for each port whose state changed; an accepted opening shows every port
+-- `U port state` for each port whose state changed, or that is shown whether it did or not
 unfoldable pub portChange : Bool → ℕ → ℕ → ℕ → List ℕ
 portChange all i before after = pickBytes (both (not all) (eqb before after)) [] (portLine (i + 1) after)
 
-abbrev pub portLines : Bool → List ℕ → List ℕ → List ℕ
-portLines all before after = upTo (λ i. portChange all i (getD before i 0) (getD after i 0)) (length after)
+-- an accepted opening shows every port of its controller
+abbrev pub portLines : Bool → ℕ → List ℕ → List ℕ → List ℕ
+portLines opening ports before after =
+    upTo (λ i. portChange (both opening (ltb i ports)) i (getD before i 0) (getD after i 0)) (length after)
 
 -- ---- `P place` and the record's 13 words for each descriptor record that changed
 

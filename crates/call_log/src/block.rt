@@ -77,14 +77,15 @@ fn put_port_rows(
     out: &mut [u8],
     at: usize,
     opening: bool,
+    ports: u8,
     before: [u8; 15],
     after: [u8; 15],
 ) -> usize
     requires { ⌜ at + 956 ≤ length (now out) ⌝ }
-    ensures { λ r. ⌜ now (out .exit) ≡ putAt (now (out .entry)) at (portLines opening before after) ⌝ }
-    ensures { λ r. ⌜ r ≡ at + length (portLines opening before after) ⌝ }
+    ensures { λ r. ⌜ now (out .exit) ≡ putAt (now (out .entry)) at (portLines opening ports before after) ⌝ }
+    ensures { λ r. ⌜ r ≡ at + length (portLines opening ports before after) ⌝ }
 {
-    put_ports(out, at, opening, &before, &after)
+    put_ports(out, at, opening, ports, &before, &after)
 }
 
 // The controller's line, once one is opened.
@@ -143,6 +144,6 @@ pub fn put_block(
     let ports = put_rows(out, rows, before, after);
     let old_ports = before.ports;
     let new_ports = after.ports;
-    let rest = put_port_rows(out, ports, opening, old_ports, new_ports);
+    let rest = put_port_rows(out, ports, opening, s.settings.ports, old_ports, new_ports);
     put_rest(out, rest, opened, s, writes)
 }

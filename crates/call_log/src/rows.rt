@@ -43,7 +43,7 @@ pub fn put_heads(out: &mut [u8], at: usize, before: &[u32], after: &[u32]) -> us
     place
 }
 
-// Ports are counted from 1; `all` is for an opening, which shows every port.
+// Ports are counted from 1; `all` where one is shown whether its state changed or not.
 fn put_port(out: &mut [u8], at: usize, i: usize, all: bool, before: u8, after: u8) -> usize
     requires { ⌜ i ≤ 254 ⌝ }
     requires { ⌜ at + 296 ≤ length (now out) ⌝ }
@@ -57,16 +57,25 @@ fn put_port(out: &mut [u8], at: usize, i: usize, all: bool, before: u8, after: u
     put_line(out, at, line)
 }
 
-pub fn put_ports(out: &mut [u8], at: usize, all: bool, before: &[u8], after: &[u8]) -> usize
+// An opening shows every port of its controller.
+pub fn put_ports(
+    out: &mut [u8],
+    at: usize,
+    opening: bool,
+    ports: u8,
+    before: &[u8],
+    after: &[u8],
+) -> usize
     requires { ⌜ length (now after) ≤ 255 ⌝ }
     requires { ⌜ length (now before) ≡ length (now after) ⌝ }
     requires { ⌜ at + 44 * length (now after) + 296 ≤ length (now out) ⌝ }
-    ensures { λ r. ⌜ now (out .exit) ≡ putAt (now (out .entry)) at (portLines all (now (before .entry)) (now (after .entry))) ⌝ }
-    ensures { λ r. ⌜ r ≡ at + length (portLines all (now (before .entry)) (now (after .entry))) ⌝ }
+    ensures { λ r. ⌜ now (out .exit) ≡ putAt (now (out .entry)) at (portLines opening ports (now (before .entry)) (now (after .entry))) ⌝ }
+    ensures { λ r. ⌜ r ≡ at + length (portLines opening ports (now (before .entry)) (now (after .entry))) ⌝ }
 {
     let mut place = at;
     let mut i = 0;
     while i < after.len() {
+        let all = opening & (i < ports as usize);
         place = put_port(out, place, i, all, before[i], after[i]);
         i += 1;
     }

@@ -34,7 +34,7 @@ put-rest-requires c κs =
     let p = c .before .before .before .before .before .before .before .before .before .before .before .before .before .put-line in
     let q = c .before .before .before .before .before .before .before .before .before .put-rows in
     let u = c .before .before .before .put-port-rows in
-    let n = ports-most (a .opening) (a .before .ports) (a .after .ports) (omega (arith, ports-length (a .after) good)) in
+    let n = ports-most (a .opening) (a .s .settings .ports) (a .before .ports) (a .after .ports) (omega (arith, ports-length (a .after) good)) in
     (c .before .before .before .before .before .before .before .before .before .before .before .before .before .before .before .before .pre .1 .0, omega (arith, c .before .before .before .before .before .before .before .before .before .before .before .before .before .before .before .before .pre .1, p .ensures .1, p .kept .0, q .ensures .1, q .kept .0, u .ensures .1, u .kept .0))
 
 same-length : tie.Need-same-length
