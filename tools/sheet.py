@@ -2,8 +2,9 @@
 """What document 01 says that `sheet` prints, written from the document and not from the code: tools/sheet.py FILE...
 
 It reads each sheet and prints its listing; with no file it reads standard input. `tools/sheet.py --make` writes the
-sheets of examples/ and their listings, and what the program `sheet_cases` is run on and held to."""
-import os, random, struct, sys
+sheets of examples/ and their listings; `tools/sheet.py --compare target/bin/sheet` runs the program on many sheets, good,
+refused, full and malformed in each way, and holds what it prints to this."""
+import os, random, struct, subprocess, sys
 
 D, E, C = 16, 8, 16384
 POOL, HEADS, FRAMES, SETUPS = 0x100000, 0x200000, 0x300000, 0x400000
@@ -195,19 +196,26 @@ def make():
     for name, data in shown().items():
         open(os.path.join(top, "examples", name + ".sheet"), "wb").write(data)
         open(os.path.join(top, "examples", name + ".listing"), "w").write(listing(data))
+
+
+def compare(program):
+    """How many sheets there were, and how many were printed otherwise."""
     draw = random.Random(1)
     cases = list(shown().values()) + list(spoiled(shown()["control-in"])) + full() + [drawn(draw) for _ in range(300)]
-    program = os.path.join(top, "crates", "sheet_cases")
-    with open(os.path.join(program, "stdin"), "wb") as given, open(os.path.join(program, "stdout"), "w") as wanted:
-        for data in cases:
-            given.write(struct.pack("<H", len(data)) + data)
-            wanted.write(listing(data) + ".\n")
+    printed = lambda data: subprocess.run([program], input=data, capture_output=True).stdout.decode()
+    differ = [data for data in cases if printed(data) != listing(data)]
+    for data in differ[:3]:
+        print("differs:", data.hex())
+    print(f"{len(cases)} sheets, {len(differ)} differ")
+    return 1 if differ else 0
 
 
 def main():
     if sys.argv[1:] == ["--make"]:
         make()
         return
+    if sys.argv[1:2] == ["--compare"]:
+        sys.exit(compare(sys.argv[2]))
     for name in sys.argv[1:] or ["-"]:
         data = sys.stdin.buffer.read() if name == "-" else open(name, "rb").read()
         sys.stdout.write(listing(data))

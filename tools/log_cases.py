@@ -1,0 +1,273 @@
+#!/usr/bin/env python3
+"""The log that the program `replay` is run on, and what it must print: tools/log_cases.py --make
+
+Scripts of calls, each from an opening of its own, written for 01's rules one by one, and some drawn by chance. What is
+printed is `log_model.py`'s; nothing here comes from the code."""
+import os, random, struct, sys
+
+sys.path.insert(0, os.path.dirname(os.path.abspath(__file__)))
+from log_model import BULK, CONTROL, INTERRUPT, ISOCHRONOUS, Replay
+
+OPEN, START, STEP, ADDRESS, ENDPOINT, CLOSE, SET_ADDRESS, SET_PACKET, SUBMIT, WRITEBACK, CANCEL, COLLECT = range(1, 13)
+ACKNOWLEDGE, DRAIN, REARM, ENABLE, DISABLE, SCAN, SCAN_STEP, POWER = range(13, 21)
+AREAS = (0x100000, 0x200000, 0x300000, 0x400000)
+
+
+def record(number, b=(), n=()):
+    return bytes([number, *b] + [0] * (7 - len(b))) + struct.pack("<7Q", *n, *[0] * (7 - len(n)))
+
+
+def opening(D=4, E=4, ports=2, C=16384, W=2, areas=AREAS):
+    return record(OPEN, (E, ports), (D, C, W, *areas))
+
+
+def brought_up():
+    return [record(START)] + [record(STEP, (), (v,)) for v in (0x80001, 0x1000, 0x80000, 0x80000, 0x80000, 0)]
+
+
+def started(**settings):
+    return [opening(**settings)] + brought_up()
+
+
+def endpoint(kind, address=5, number=1, packet=512):
+    return record(ENDPOINT, (kind, address, number), (packet,))
+
+
+def submit(slot, kind, direction=1, setup=None, address=0x10000FFF, length=100, command=0x80000):
+    if setup is None:
+        setup = 0x0100_0680 & ~0x80 | direction << 7 if kind == CONTROL else 0
+    return record(SUBMIT, (slot, kind, direction), (setup, address, length, command))
+
+
+def writeback(place, word):
+    return record(WRITEBACK, (), (place, word))
+
+
+def cancel(slot, id=1, command=0, frame=0):
+    return record(CANCEL, (slot,), (id, command, frame))
+
+
+def collect(slot, id=1, command=0, frame=0):
+    return record(COLLECT, (slot,), (id, command, frame))
+
+
+def acknowledge(status, interrupts=0x27, first=1, second=1):
+    return record(ACKNOWLEDGE, (first, second), (status, interrupts))
+
+
+def drain(command=0):
+    return record(DRAIN, (), (command,))
+
+
+def answered():
+    return [acknowledge(0x20), drain()]
+
+
+def openings():
+    yield [record(START), endpoint(BULK), record(SCAN), record(POWER, (1,), (0,)), collect(0)]
+    for wrong in (dict(D=0), dict(D=257), dict(E=0), dict(E=33), dict(ports=0), dict(ports=16), dict(C=0), dict(C=16385), dict(W=0), dict(W=65537)):
+        yield [opening(), record(ADDRESS), opening(**wrong), record(ADDRESS)]
+    yield [opening(areas=(0x100040, 0x200000, 0x300000, 0x400000)), opening(areas=(0x100001, 0x200000, 0x300000, 0x400000))]
+    yield [opening(areas=(2**32 - 256, 0x200000, 0x300000, 0x400000)), opening(areas=(2**32 - 192, 0x200000, 0x300000, 0x400000))]
+    yield [opening(D=256, E=32, ports=15), opening(D=1, E=1, ports=1, C=1), opening(D=256, E=32, ports=15)]
+
+
+def bring_ups():
+    yield [opening(), record(STEP, (), (0,)), record(START), record(STEP, (), (0xFFFFFFFF,)), record(STEP, (), (0,)), record(STEP, (), (0,)), record(STEP, (), (0x1000,))]
+    yield [opening(), record(START)] + [record(STEP, (), (v,)) for v in (0x71, 0, 0x1000, 0x40, 2, 0, 0x40, 0x1000, 0)] + [record(START), endpoint(BULK), submit(0, BULK)]
+    yield started() + [endpoint(BULK), submit(0, BULK), record(START), cancel(0), record(START)] + answered() + [collect(0), record(START)]
+
+
+def endpoints():
+    calls = started(E=3)
+    for kind, address, number, packet in ((ISOCHRONOUS, 128, 16, 0), (BULK, 128, 1, 8), (BULK, 1, 16, 8), (BULK, 1, 1, 0), (BULK, 1, 1, 1025)):
+        calls.append(endpoint(kind, address, number, packet))
+    calls += [endpoint(CONTROL, 0, 0, 8), endpoint(BULK, 127, 15, 1024), endpoint(INTERRUPT, 1, 2, 1)]
+    calls += [endpoint(BULK, 1, 1, 8), endpoint(BULK, 128, 1, 8), endpoint(ISOCHRONOUS, 1, 1, 8)]
+    for k in (0, 1, 2, 3, 31, 32, 255):
+        calls += [record(SET_ADDRESS, (k, 0x55)), record(SET_ADDRESS, (k, 128)), record(SET_PACKET, (k, 3)), record(SET_PACKET, (k, 255))]
+    calls += [record(CLOSE, (1,)), record(CLOSE, (1,)), endpoint(BULK, 3, 3, 3), submit(1, BULK), record(CLOSE, (1,)), record(SET_ADDRESS, (1, 128)), record(SET_PACKET, (1, 0))]
+    calls += [cancel(1), record(CLOSE, (1,)), record(SET_ADDRESS, (1, 1)), submit(1, BULK)] + answered() + [collect(1), record(CLOSE, (1,)), record(CLOSE, (0,)), record(CLOSE, (2,))]
+    yield calls
+    yield [opening()] + [record(ADDRESS)] * 129
+
+
+def submits():
+    yield [opening(), endpoint(BULK), submit(0, BULK), submit(1, BULK)]
+    calls = started(D=5, E=3) + [endpoint(CONTROL), endpoint(BULK), endpoint(INTERRUPT)]
+    for k in (3, 31, 32, 255):
+        calls.append(submit(k, BULK))
+    calls += [submit(0, ISOCHRONOUS), submit(0, BULK), submit(1, CONTROL), submit(1, INTERRUPT), submit(2, BULK), submit(2, ISOCHRONOUS)]
+    calls += [submit(0, CONTROL, length=16385), submit(0, CONTROL, 0, setup=0x80), submit(0, CONTROL, 1, setup=0), submit(1, BULK, address=0xFFFFFFFF, length=2)]
+    calls += [submit(1, BULK, address=2**32, length=1), submit(1, BULK, address=2**64 - 1, length=2**64 - 1), submit(1, BULK, length=6 * 16384), submit(1, BULK, address=2**40, length=0)]
+    calls += [submit(1, BULK), submit(0, CONTROL, 1, length=18), submit(2, INTERRUPT, length=1), submit(0, BULK), submit(2, INTERRUPT, length=16385)]
+    yield calls
+    for C, lengths in ((1, (0, 1, 5)), (512, (511, 512, 513, 1024)), (4097, (4096, 4097, 4098, 12292)), (16384, (16383, 16384, 16385, 40000))):
+        calls = started(C=C, D=8) + [endpoint(BULK), endpoint(INTERRUPT)]
+        for length in lengths:
+            calls += [submit(0, BULK, 0, length=length, command=0xFFFFFFFF), submit(1, INTERRUPT, length=length), cancel(0), cancel(1)] + answered()
+            calls += [collect(0, 1 + lengths.index(length)), collect(1, 1 + lengths.index(length), frame=9)]
+        yield calls
+    yield started(D=256, E=1, C=64) + [endpoint(BULK), submit(0, BULK, address=0xFFFFC000, length=16384), submit(0, BULK), cancel(0)] + answered() + [collect(0), submit(0, BULK, length=64 * 256 + 1)]
+    calls = started(D=7, E=3) + [endpoint(BULK), endpoint(BULK), endpoint(CONTROL)]
+    calls += [submit(0, BULK), submit(1, BULK, length=16385), submit(2, CONTROL, 0, length=0), cancel(0), cancel(2)] + answered() + answered() + [collect(0), collect(2)]
+    yield calls + [submit(0, BULK, length=16384 * 3), submit(2, CONTROL, 0, length=5)]
+
+
+def slot_in(state, E=2, D=2):
+    """A controller whose slot 0 is closed, idle, linked or unlinking, for bulk."""
+    calls = [] if state == "closed" else [endpoint(BULK)]
+    if state in ("linked", "unlinking"):
+        calls.append(submit(0, BULK, length=1))
+    if state == "unlinking":
+        calls.append(cancel(0))
+    return calls
+
+
+STATES = ("closed", "idle", "linked", "unlinking")
+
+
+def reasons():
+    """Every set of reasons for a refusal that calls can bring about: the number shows which comes first."""
+    for full in (False, True):
+        for kind in (BULK, ISOCHRONOUS):
+            for address in (127, 128):
+                for number in (15, 16):
+                    for packet in (1024, 0, 1025):
+                        yield [opening(E=1)] + ([endpoint(BULK)] if full else []) + [endpoint(kind, address, number, packet)]
+    for state in STATES:
+        for call in (record(CLOSE, (0,)), record(SET_ADDRESS, (0, 1)), record(SET_ADDRESS, (0, 128)), record(SET_PACKET, (0, 9))):
+            yield started() + slot_in(state) + [call]
+        for id in (1, 2):
+            for make in (cancel, collect):
+                yield started() + slot_in(state) + [make(0, id), make(0, id)]
+        for kind in (BULK, CONTROL, ISOCHRONOUS):
+            for length in (1, 2):
+                asked = submit(0, kind, address=0xFFFFFFFF, length=length)
+                if state in ("closed", "idle"):
+                    yield [opening()] + slot_in(state) + [asked]
+                for taken in (False, True):
+                    # slot 1 leaves no room
+                    other = [endpoint(BULK, 6)] * (2 if state == "closed" else 1) + ([submit(1, BULK, length=1 + 16384 * (state in ("closed", "idle")))] if taken else [])
+                    closing = [record(CLOSE, (0,))] if state == "closed" else []
+                    yield started(D=2, E=2) + slot_in(state) + other + closing + [asked]
+
+
+def tokens():
+    """Each bit of a token, alone, on each kind; two that err; an active one before and after."""
+    for kind, places in ((CONTROL, 3), (BULK, 2), (INTERRUPT, 2)):
+        calls, id = started(C=64) + [endpoint(kind)], 0
+        words = [[1 << bit] * places for bit in range(32)]
+        words += [[0x00400008, 0x00200040], [0x00000080, 0x00000008], [0x00000008, 0x00000080], [0x00100010, 0x00080000], [0, 0x00050000]]
+        for line in words:
+            id += 1
+            calls.append(submit(0, kind, length=64 if kind == CONTROL else 100))
+            for place, word in enumerate((line + [0])[:places]):
+                calls.append(writeback(place, word))
+            calls += [collect(0, id, command=0x31), collect(0, id)]
+            for place in range(places):
+                calls.append(writeback(place, (line + [0])[place] & ~0x80))
+            calls += [collect(0, id)] + answered() + [collect(0, id, frame=8), collect(0, id, frame=9)]
+        yield calls
+    yield started() + [endpoint(BULK), writeback(0, 1), submit(0, BULK), writeback(0, 1), writeback(1, 1), writeback(4, 1), writeback(2**64 - 1, 1), cancel(0), writeback(0, 2)] + answered() + [collect(0), writeback(0, 3)]
+
+
+def unlinks():
+    calls = started(D=8, E=4, C=512) + [endpoint(BULK), endpoint(CONTROL), endpoint(BULK), endpoint(INTERRUPT)]
+    calls += [submit(0, BULK), submit(1, CONTROL), submit(2, BULK), submit(3, INTERRUPT)]
+    calls += [cancel(0, 2), cancel(4), cancel(255), collect(0, 2), collect(4), collect(255)]
+    calls += [cancel(1, command=0), cancel(0, command=0x10031), cancel(2, command=0), cancel(1, command=5)]
+    for status in (0x24, 0, 0x20, 0x24):
+        calls += [acknowledge(status), drain(0x20031), drain(), drain(), collect(0), collect(1), collect(2)]
+    yield calls + [cancel(3, frame=16380), collect(3, frame=4), collect(3, frame=16384 * 4 + 4), collect(3, frame=5), cancel(3), collect(3)]
+    calls = started(D=32, E=32) + [endpoint(BULK, k, 1, 64) for k in range(32)] + [submit(k, BULK, length=k) for k in range(32)]
+    calls += [cancel((7 * k) % 32) for k in range(32)] + [acknowledge(0x20)]
+    for k in range(33):
+        calls += [drain(0x31), acknowledge(0x20), collect((7 * k) % 32)]
+    yield calls
+    calls = started(D=4, E=4) + [endpoint(INTERRUPT, k, 1, 8) for k in range(4)] + [submit(k, INTERRUPT, length=8) for k in range(4)]
+    yield calls + [cancel(k, frame=f) for k, f in ((1, 16383), (3, 0), (0, 8191), (2, 0xFFFFFFFF))] + [collect(k, frame=f) for k in range(4) for f in (7, 8, 9, 8199, 8200)]
+
+
+def interrupts():
+    for doorbell in (False, True):
+        calls = started() + [endpoint(BULK), endpoint(BULK), submit(0, BULK), submit(1, BULK)]
+        if doorbell:
+            calls += [cancel(0, command=0x31), cancel(1, command=0x71)]
+        for status in list(1 << k for k in range(32)) + [0x37, 0x24, 0x21, 0x10, 0xFFFFFFFF]:
+            for first, second in ((1, 1), (0, 0), (1, 0), (0, 1)):
+                calls.append(acknowledge(status, 0x3F, first, second))
+            calls += [drain(0x31), drain(0x31), drain(0), record(REARM), record(REARM), collect(0), collect(1)]
+        yield calls + [record(ENABLE), acknowledge(7), record(REARM), record(DISABLE), acknowledge(7), record(REARM)]
+    # 000's faults: an advance drained with a port change, and one acknowledged before its ring
+    yield started() + [endpoint(BULK), endpoint(BULK), submit(0, BULK), submit(1, BULK), cancel(0), cancel(1), acknowledge(0x24), drain(), drain(), collect(0), collect(1)]
+    yield started() + [endpoint(BULK), submit(0, BULK), acknowledge(0x20), cancel(0), drain(), collect(0)] + answered() + [collect(0)]
+
+
+def scans():
+    readings = (0, 1, 5, 0x1005, 0x1401, 0x2B, 0xFFFFFFFF, 4)
+    for ports in (1, 3):
+        calls = [opening(ports=ports), record(SCAN_STEP, (), (1,))] + [record(POWER, (p,), (0x2B,)) for p in (0, 1, ports, ports + 1, 255)]
+        draw = random.Random(ports)
+        for _ in range(6):
+            calls += [record(SCAN)] + [record(SCAN_STEP, (), (draw.choice(readings),)) for _ in range(5 * ports + 1)]
+        yield calls + [record(SCAN), record(SCAN_STEP, (), (1,)), record(SCAN), record(SCAN_STEP, (), (0,))]
+
+
+def drawn(seed, count):
+    """Calls by chance, with the model at hand so that many are accepted."""
+    draw, keeper, calls = random.Random(seed), Replay(), []
+    E, D = draw.choice([1, 2, 4, 8]), draw.choice([1, 3, 8, 20])
+
+    def make(call):
+        calls.append(call)
+        keeper.block(call)
+
+    for call in started(D=D, E=E, C=draw.choice([1, 64, 4096, 16384])):
+        make(call)
+    for _ in range(count):
+        k = draw.randrange(E + 1)
+        slot = keeper.controller.slots[k] if k < E else None
+        kind = slot.kind if slot and draw.random() < 0.9 else draw.randrange(4)
+        request = slot.request if slot else None
+        id = request.id if request and draw.random() < 0.95 else draw.choice([0, 1, 2**64 - 1])
+        frame, command = draw.randrange(2**32), draw.choice([0, 0x31, 0x71, 0xFFFFFFFF])
+        size = draw.choice([0, 1, keeper.controller.C, 2 * keeper.controller.C + 1, draw.randrange(200)])
+        make(
+            draw.choice(
+                [endpoint(draw.choice([0, 2, 2, 3]), draw.randrange(130), draw.randrange(17), draw.choice([8, 64, 1024]))]
+                + [submit(k, kind, draw.randrange(2), None if draw.random() < 0.9 else draw.randrange(2**48) if kind == CONTROL else 0, draw.choice([0x1000, 0xFFFFF000, 0x2000FFF]), size, command)] * 4
+                + [writeback(p, draw.choice([0, 0x80, 8, 0x40, 0x10000, draw.randrange(2**32)])) for p in (request.places if request else [draw.randrange(D + 1)])[:3]] * 2
+                + [cancel(k, id, command, frame), collect(k, id, command, frame), collect(k, id, command, frame), collect(k, id, command, frame)]
+                + [acknowledge(draw.choice([0x20, 0x24, 1, 0x37, 0]), 0x27, draw.randrange(2), draw.randrange(2)), acknowledge(0x20), drain(command), drain(command)]
+                + [record(draw.choice([REARM, ENABLE, DISABLE, ADDRESS]))]
+                + ([record(CLOSE, (k,)), record(SET_ADDRESS, (k, draw.randrange(130))), record(SET_PACKET, (k, draw.randrange(256)))] if draw.random() < 0.3 else [])
+                + ([record(START)] if draw.random() < 0.05 else [])
+                + ([record(STEP, (), (draw.choice([0, 0x1000, 2]),))] if draw.random() < 0.3 else [])
+            )
+        )
+    return calls
+
+
+def scripts():
+    for family in (openings, bring_ups, endpoints, reasons, submits, tokens, unlinks, interrupts, scans):
+        yield from family()
+    for seed in range(20):
+        yield drawn(seed, 60)
+
+
+def main():
+    if sys.argv[1:] != ["--make"]:
+        sys.exit(__doc__)
+    log = b"".join(call for script in scripts() for call in script)
+    keeper, lines = Replay(), []
+    for at in range(0, len(log), 64):
+        lines += keeper.block(log[at : at + 64])
+    program = os.path.join(os.path.dirname(os.path.abspath(__file__)), "..", "crates", "replay")
+    # last a record that is bad: its last byte is missing
+    open(os.path.join(program, "stdin"), "wb").write(log + record(DRAIN)[:63])
+    with open(os.path.join(program, "stdout"), "w") as out:
+        out.write("".join(line + "\n" for line in lines) + f"bad record {keeper.count}\n")
+
+
+main()
