@@ -1,4 +1,4 @@
-// Each call at each of its refusals, alone and with others, and at the edges of what it is given. The rows are those of
+// Each call at its refusals, alone and with others, and at the edges of what it is given. The rows are those of
 // four slots: bulk, control, interrupt, closed.
 ghost use Prim.Native.Nat.{_≤_};
 use crate::calls;
@@ -53,7 +53,7 @@ pub fn change_edge(k: u32, s: Ehci, heads: &mut [u32; 85]) {
 
 const KINDS: [u8; 3] = [2, 1, 3];
 
-// Every set of reasons to refuse a submit.
+// Reasons to refuse a submit, alone and in every pair; a busy slot is a linked one.
 pub fn submit_edge(
     k: u32,
     s: Ehci,
@@ -180,7 +180,7 @@ pub fn length_edge(
     calls::submit_line(s, worlds::lent(0), heads, frames, setups, slot, t);
 }
 
-// Slot 0's two descriptors, others, none; its request linked, unlinking, collected.
+// Slot 0's two descriptors, others, none; its request linked, unlinking, and an idle slot that still owns them.
 const PLACES: [u64; 8] = [0, 1, 2, 3, 4, 255, 256, 0xffff_ffff_ffff_ffff];
 
 const HELD: [u8; 3] = [0, 3, 1];

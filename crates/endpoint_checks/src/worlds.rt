@@ -123,7 +123,7 @@ pub fn in_phase(mut s: Ehci, slot: u8, phase: u8) -> Ehci {
     s
 }
 
-// Every descriptor is some request's.
+// Every descriptor is taken: its owner is slot 2, which is idle here.
 pub fn full(mut s: Ehci) -> Ehci {
     s.owner[0] = 3;
     s.owner[1] = 3;
