@@ -291,7 +291,7 @@ fn on_disable(state: Ehci) -> Decided
 // All four rows are judged, whatever the call. `view` is what the records of `asks` say.
 pub fn decide(
     state: Ehci,
-    pool: u64,
+    records: usize,
     heads: &mut [u32],
     frames: &mut [u32],
     setups: &mut [u8],
@@ -299,8 +299,9 @@ pub fn decide(
     call: Call,
 ) -> Decided
     ensures { λ r. ⌜ came r (now (heads .exit)) (now (frames .exit)) (now (setups .exit))
-        ≡ decideOf state pool (now (heads .entry)) (now (frames .entry)) (now (setups .entry)) view call ⌝ }
+        ≡ decideOf state records (now (heads .entry)) (now (frames .entry)) (now (setups .entry)) view call ⌝ }
 {
+    let pool = records as u64;
     let h = heads.len() as u64;
     let f = frames.len() as u64;
     let u = setups.len() as u64;
@@ -364,8 +365,8 @@ pub fn decide(
 }
 
 // Which records a call looks at: a collect those of its slot's request.
-pub fn asks(state: Ehci, pool: u64, call: Call) -> Ask
-    ensures { λ r. ⌜ (r ≡ asksOf state pool call) × askGood pool r ⌝ }
+pub fn asks(state: Ehci, records: usize, call: Call) -> Ask
+    ensures { λ r. ⌜ (r ≡ asksOf state records call) × askGood records r ⌝ }
 {
     match call {
         Call::StartBringUp => no_ask(),
@@ -378,7 +379,7 @@ pub fn asks(state: Ehci, pool: u64, call: Call) -> Ask
         Call::Submit(_, _, _) => no_ask(),
         Call::Writeback(_, _) => no_ask(),
         Call::Cancel(_, _, _) => no_ask(),
-        Call::Collect(slot, _, _) => ask(state, pool, slot),
+        Call::Collect(slot, _, _) => ask(state, records as u64, slot),
         Call::Acknowledge(_) => no_ask(),
         Call::Drain(_) => no_ask(),
         Call::Rearm => no_ask(),

@@ -12,12 +12,6 @@ use pool::row::fill;
 use pool::row::fold;
 use state::state::Ehci;
 
-fn row_length(count: usize) -> u64
-    ensures { λ r. ⌜ r ≡ count ⌝ }
-{
-    count as u64
-}
-
 fn chain_of(decided: Decided) -> Chain
     ensures { λ r. ⌜ r ≡ decided .chain ⌝ }
 {
@@ -41,10 +35,9 @@ pub fn apply(
     ensures { λ r. ⌜ applied r (now (rows .exit)) (now (heads .exit)) (now (frames .exit)) (now (setups .exit))
         ≡ applyOf state (now (rows .entry)) (now (heads .entry)) (now (frames .entry)) (now (setups .entry)) call ⌝ }
 {
-    let count = row_length(rows.len());
-    let ask = asks(state, count, call);
+    let ask = asks(state, rows.len(), call);
     let view = fold(rows, ask);
-    let decided = decide(state, count, heads, frames, setups, view, call);
+    let decided = decide(state, rows.len(), heads, frames, setups, view, call);
     let chain = chain_of(decided);
     fill(rows, chain);
     reply_of(decided)

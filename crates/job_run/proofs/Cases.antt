@@ -1,18 +1,15 @@
 -- Cases of a job's run, from what the callees say.
 use Prim.Native.Nat.{ℕ, suc, _+_, _≤_, _<_}
 use mathlib.Core.Path.{_≡_, refl, sym, ap, _∙_}
-use mathlib.Core.Bool.{Bool, true, false}
 use mathlib.Core.List.{List}
 use native.Mathlib.Numerals.{add-one}
 use native.Mathlib.Omega.{arith}
-use borrow.Author.Tests.{eqb-true, le-ltb, lt-ltb}
-use lib.Dec.{eqb}
+use borrow.Author.Tests.{le-ltb, lt-ltb}
 use lib.ListN.{getD, replicate, set}
 use Rattle.token.specs.declared.request.Direction.{Direction}
-use Rattle.token.specs.declared.request.Direction.the-variants.{Out, In}
 use Rattle.token.specs.declared.request.EndpointType.{EndpointType}
 use Rattle.token.specs.declared.request.EndpointType.the-variants.{Control}
-use Rattle.pipe.specs.Endpoints.{kindOf}
+use Rattle.pipe.specs.Endpoints.{directionOf, kindOf}
 use Rattle.ehci.specs.declared.call.Call.{Call}
 use Rattle.ehci.specs.declared.call.Call.the-variants.{BringUpStep, OpenEndpoint, StartBringUp, Submit}
 use Rattle.ehci.specs.Replies.{answeredNumber}
@@ -24,28 +21,13 @@ use Rattle.world.specs.Worlds.{blankWorld, callWorld, openWorld}
 use Rattle.job_sheet.specs.declared.record.EndpointRecord.{EndpointRecord}
 use Rattle.job_sheet.specs.declared.record.RequestRecord.{RequestRecord}
 use Rattle.job_sheet.specs.declared.sheet.Job.{Job}
+use Rattle.job_sheet.specs.Outcomes.{slotOf}
 use Rattle.job_sheet.specs.Sheets.{jobOf, noEndpoint, noRequest}
 use Rattle.job_run.specs.declared.run.Ran.{Ran}
-use Rattle.job_run.specs.Runs.{afterCall, afterCalls, directionOf, idTold, kindFor, openCall, openStep, openedTo, runOf, runningWorld, sheetSettings, slotOf, slotTold, submitCall, submitStep, submittedTo}
+use Rattle.job_run.specs.Runs.{afterCall, afterCalls, idTold, kindFor, openCall, openStep, openedTo, runOf, runningWorld, sheetSettings, slotTold, submitCall, submitStep, submittedTo}
 
 pub after-is : (c : Called) (w : World) (call : Call) → c ≡ callWorld w call → c .world ≡ afterCall w call
 after-is c w call e = ap (λ (x : Called). x .world) e
-
-pub direction-out : (n : ℕ) → n ≡ 0 → Out ≡ directionOf n
-direction-out n e = rw e
-
-pub direction-in : (n : ℕ) → (n ≡ 0 → ⊥) → In ≡ directionOf n
-direction-in n ne = by (eqb n 0) refl
-  where
-    by : (b : Bool) → eqb n 0 ≡ b → In ≡ directionOf n
-    by true q = absurd (ne (eqb-true n 0 q))
-    by false q = rw q
-
-pub slot-there : (slots : List ℕ) (place : ℕ) → place < 8 → getD slots place 0 ≡ slotOf slots place
-slot-there slots place h = rw (lt-ltb place 8 h)
-
-pub slot-none : (slots : List ℕ) (place : ℕ) → 8 ≤ place → 255 ≡ slotOf slots place
-slot-none slots place h = rw (le-ltb place 8 h)
 
 pub kind-there : (job : Job) (place : ℕ) (e : EndpointRecord) (k : EndpointType) → place < job .opens → e ≡ getD (jobOf job .endpoints) place noEndpoint
     → k ≡ kindOf (e .kind) → k ≡ kindFor job place

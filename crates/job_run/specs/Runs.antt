@@ -1,15 +1,12 @@
 -- Document 01, "Examples": a sheet's job on a running controller "with D 16, E 8, C 16384, areas 100000, 200000, 300000, 400000".
 use Prim.Native.Nat.{ℕ, zero, suc}
-use mathlib.Core.Bool.{Bool, true, false}
 use mathlib.Core.List.{List, [], _∷_}
-use lib.Dec.{eqb, ltb}
+use lib.Dec.{ltb}
 use lib.ListN.{getD, replicate, set}
-use Rattle.token.specs.declared.request.Direction.{Direction}
-use Rattle.token.specs.declared.request.Direction.the-variants.{Out, In}
 use Rattle.token.specs.declared.request.EndpointType.{EndpointType}
 use Rattle.token.specs.declared.request.EndpointType.the-variants.{Control}
 use Rattle.settings.specs.declared.settings.Settings.{Settings}
-use Rattle.pipe.specs.Endpoints.{kindOf}
+use Rattle.pipe.specs.Endpoints.{directionOf, kindOf, pickKind}
 use Rattle.ehci.specs.declared.call.Call.{Call}
 use Rattle.ehci.specs.declared.call.Call.the-variants.{StartBringUp, BringUpStep, OpenEndpoint, Submit}
 use Rattle.ehci.specs.declared.reply.Answered.{Answered}
@@ -23,6 +20,7 @@ use Rattle.world.specs.Worlds.{blankWorld, callWorld, openWorld}
 use Rattle.job_sheet.specs.declared.record.EndpointRecord.{EndpointRecord}
 use Rattle.job_sheet.specs.declared.record.RequestRecord.{RequestRecord}
 use Rattle.job_sheet.specs.declared.sheet.Job.{Job}
+use Rattle.job_sheet.specs.Outcomes.{slotOf}
 use Rattle.job_sheet.specs.Sheets.{jobOf, noEndpoint, noRequest}
 use Rattle.job_run.specs.declared.run.Ran.{Ran}
 
@@ -131,30 +129,10 @@ openedTo (suc k) start job = openStep (openedTo k start job) k (getD (jobOf job 
 
 -- ---- then the requests are submitted, in order
 
-abbrev pub pickNumber : Bool → ℕ → ℕ → ℕ
-pickNumber true a b = a
-pickNumber false a b = b
-
--- "its slot the one that record's opening gave"
-abbrev pub slotOf : List ℕ → ℕ → ℕ
-slotOf slots place = pickNumber (ltb place 8) (getD slots place 0) 255
-
-abbrev pub pickKind : Bool → EndpointType → EndpointType → EndpointType
-pickKind true a b = a
-pickKind false a b = b
-
 -- "A request's kind is its record's"; one that is not there is refused whatever the kind
 abbrev pub kindFor : Job → ℕ → EndpointType
 kindFor job place =
     pickKind (ltb place (job .opens)) (kindOf (getD (jobOf job .endpoints) place noEndpoint .kind)) Control
-
-abbrev pub pickDirection : Bool → Direction → Direction → Direction
-pickDirection true a b = a
-pickDirection false a b = b
-
--- "direction (1 In)"
-abbrev pub directionOf : ℕ → Direction
-directionOf n = pickDirection (eqb n 0) Out In
 
 unfoldable pub submitCall : Job → List ℕ → RequestRecord → Call
 submitCall job slots t =

@@ -9,9 +9,7 @@ ghost use Rattle.job_run.specs.Runs.{
   openCall,
   openStep,
   openedTo,
-  slotOf,
   kindFor,
-  directionOf,
   submitCall,
   submitStep,
   submittedTo,
@@ -25,12 +23,13 @@ use ehci::reply::Answered;
 use ehci::reply::Given;
 use job_sheet::job::endpoint_of;
 use job_sheet::job::request_of;
+use job_sheet::outcome::slot_of;
 use job_sheet::record::EndpointRecord;
 use job_sheet::record::RequestRecord;
 use job_sheet::sheet::Job;
+use pipe::endpoint::direction_of;
 use pipe::endpoint::kind_of;
 use request::judge::TransferRequest;
-use token::request::Direction;
 use token::request::EndpointType;
 use world::world::World;
 use world::world::call_on;
@@ -142,14 +141,6 @@ fn open_all(start: Ran, job: Job) -> Ran
     ran
 }
 
-// A record that is not there has no slot.
-fn slot_of(slots: [u8; 8], place: u8) -> u8
-    ensures { λ r. ⌜ r ≡ slotOf slots place ⌝ }
-{
-    let k = place as usize;
-    if k < 8 { slots[k] } else { NO_SLOT }
-}
-
 // Its record's kind; a record that is not there is refused whatever the kind.
 fn kind_for(job: Job, place: u8) -> EndpointType
     requires { ⌜ job .opens ≤ 8 ⌝ }
@@ -162,16 +153,6 @@ fn kind_for(job: Job, place: u8) -> EndpointType
         kind_of(e.kind)
     } else {
         EndpointType::Control
-    }
-}
-
-fn direction_of(number: u8) -> Direction
-    ensures { λ r. ⌜ r ≡ directionOf number ⌝ }
-{
-    if number == 0 {
-        Direction::Out
-    } else {
-        Direction::In
     }
 }
 

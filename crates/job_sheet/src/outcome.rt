@@ -70,7 +70,7 @@ fn put_places(
 }
 
 // 255 is no slot: no place has owner 256.
-fn slot_of(slots: [u8; 8], k: u8) -> u8
+pub fn slot_of(slots: [u8; 8], k: u8) -> u8
     ensures { λ r. ⌜ r ≡ slotOf slots k ⌝ }
 {
     let at = k as usize;

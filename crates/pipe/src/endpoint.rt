@@ -74,7 +74,7 @@ pub fn kind_number(kind: EndpointType) -> u8
     }
 }
 
-fn direction_of(number: u8) -> Direction
+pub fn direction_of(number: u8) -> Direction
     ensures { λ r. ⌜ r ≡ directionOf number ⌝ }
 {
     if number == 0 {
