@@ -1,0 +1,106 @@
+-- What happens in a turn, from the call, its answer, its register writes and the lent rows.
+use Prim.Native.Nat.{ℕ, _+_, _%_}
+use mathlib.Core.Bool.{Bool, true, false, not, cond}
+use mathlib.Core.List.{List, [], _∷_}
+use mathlib.Core.Path.{_≡_}
+use lib.Dec.{eqb}
+use Rattle.register.specs.Bits.{bit}
+use Rattle.register.specs.declared.writes.Write.{Write}
+use Rattle.settings.specs.Tests.{both, either}
+use Rattle.settings.specs.declared.settings.Settings.{Settings}
+use Rattle.request.specs.declared.judge.TransferRequest.{TransferRequest}
+use Rattle.ehci.specs.declared.call.Call.{Call}
+use Rattle.ehci.specs.declared.call.Call.the-variants.{StartBringUp, BringUpStep, AllocateAddress, OpenEndpoint, Close, SetAddress, SetPacketSize, Submit, Writeback, Cancel, Collect, Acknowledge, Drain, Rearm, Enable, Disable}
+use Rattle.ehci.specs.declared.reply.Answered.{Answered}
+use Rattle.ehci.specs.declared.reply.Answered.the-variants.{Done, Pending, Cancelled, Failed, Refused}
+use Rattle.ehci.specs.declared.reply.Given.{Given}
+use Rattle.ehci.specs.declared.reply.Given.the-variants as G
+use Rattle.promises.specs.Runs.{History, Rows, Turn}
+use Rattle.promises.specs.Walks.{frameWalk, isIn, ringWalk}
+
+-- ---- rings: "Only a ring .. writes 0x40"
+
+-- a write of USBCMD with the doorbell bit
+abbrev pub isRing : Write → Bool
+isRing w = both (eqb (w .offset) 0) (eqb (bit (w .value) 6) 1)
+
+abbrev pub someRing : List Write → Bool
+someRing [] = false
+someRing (w ∷ ws) = either (isRing w) (someRing ws)
+
+abbrev pub rings : Turn → Bool
+rings t = someRing (t .wrote)
+
+-- ---- heads that leave a schedule
+
+-- slot k's head is met before the call, and not after it
+abbrev pub leavesRing : Settings → ℕ → Turn → Bool
+leavesRing s k t = both (isIn (k + 1) (ringWalk s (t .before))) (not (isIn (k + 1) (ringWalk s (t .after))))
+
+abbrev pub leavesFrames : Settings → ℕ → Turn → Bool
+leavesFrames s k t = both (isIn (k + 1) (frameWalk s (t .before) 0)) (not (isIn (k + 1) (frameWalk s (t .after) 0)))
+
+-- ---- events
+
+pub data Event : Type 0 where
+  -- nothing of these
+  Other : Event
+  -- an acknowledgment reads the advance bit; a drain
+  Reads Drains : Event
+  -- slot k's request is accepted, with its id
+  Submits : ℕ → ℕ → TransferRequest → Event
+  -- slot k's head leaves the ring; it leaves the frame list, with the FRINDEX of the call
+  Unlinks : ℕ → Event
+  Parts : ℕ → ℕ → Event
+  -- slot k's request of that id is collected, with the FRINDEX of the call
+  Collects : ℕ → ℕ → ℕ → Event
+
+-- "0 Done, with its id"
+abbrev pub submitsBy : ℕ → TransferRequest → Answered → Event
+submitsBy k t (Done G.Nothing) = Other
+submitsBy k t (Done (G.Slot j)) = Other
+submitsBy k t (Done (G.Address a)) = Other
+submitsBy k t (Done (G.Id id)) = Submits k id t
+submitsBy k t (Done (G.Length n)) = Other
+submitsBy k t (Done G.No) = Other
+submitsBy k t (Done G.Yes) = Other
+submitsBy k t (Done (G.Event e)) = Other
+submitsBy k t (Done (G.Next read wait)) = Other
+submitsBy k t Pending = Other
+submitsBy k t Cancelled = Other
+submitsBy k t (Failed token) = Other
+submitsBy k t (Refused r) = Other
+
+-- 0, 10 and 11 collect; 9 and a refusal do not
+abbrev pub isCollected : Answered → Bool
+isCollected (Done given) = true
+isCollected Pending = false
+isCollected Cancelled = true
+isCollected (Failed token) = true
+isCollected (Refused r) = false
+
+abbrev pub leaving : Settings → ℕ → ℕ → Turn → Event
+leaving s k frame t = cond (leavesRing s k t) (Unlinks k) (cond (leavesFrames s k t) (Parts k frame) Other)
+
+-- one line a call
+abbrev pub happens : Settings → Call → Turn → Event
+happens s StartBringUp t = Other
+happens s (BringUpStep w) t = Other
+happens s AllocateAddress t = Other
+happens s (OpenEndpoint x) t = Other
+happens s (Close k) t = Other
+happens s (SetAddress k a) t = Other
+happens s (SetPacketSize k size) t = Other
+happens s (Submit k r readings) t = submitsBy k r (t .answer)
+happens s (Writeback place token) t = Other
+happens s (Cancel k id readings) t = leaving s k (readings .frame) t
+happens s (Collect k id readings) t =
+    cond (isCollected (t .answer)) (Collects k id (readings .frame)) (leaving s k (readings .frame) t)
+happens s (Acknowledge x) t = cond (eqb (bit (x .status) 5) 1) Reads Other
+happens s (Drain w) t = Drains
+happens s Rearm t = Other
+happens s Enable t = Other
+happens s Disable t = Other
+
+abbrev pub event : Settings → Turn → Event
+event s t = happens s (t .call) t

@@ -1,0 +1,4 @@
+pub mod Runs
+pub mod Walks
+pub mod Events
+pub mod Uses

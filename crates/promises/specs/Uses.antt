@@ -1,0 +1,82 @@
+-- The requests that are accepted and not collected, and the heads in each schedule, as the history tells them.
+use Prim.Native.Nat.{ℕ, _+_}
+use mathlib.Core.Bool.{Bool, true, false, not, cond}
+use mathlib.Core.List.{List, [], _∷_}
+use lib.Dec.{eqb}
+use Rattle.token.specs.Chunks.{needOf}
+use Rattle.pipe.specs.Kinds.{isInterrupt}
+use Rattle.settings.specs.Tests.{both}
+use Rattle.settings.specs.declared.settings.Settings.{Settings}
+use Rattle.request.specs.declared.judge.TransferRequest.{TransferRequest}
+use Rattle.promises.specs.Runs.{History, Turn}
+use Rattle.promises.specs.Walks.{chainWalk}
+use Rattle.promises.specs.Events.{Event, Other, Reads, Drains, Submits, Unlinks, Parts, Collects, event}
+
+-- ---- uncollected requests, newest first
+
+-- a request's places are those that its overlay leads to at its submit's exit
+pub record Use : Type 0 where
+  pub slot : ℕ
+  pub id : ℕ
+  pub request : TransferRequest
+  pub places : List ℕ
+
+abbrev pub isOf : ℕ → ℕ → Use → Bool
+isOf k id u = both (eqb (u .slot) k) (eqb (u .id) id)
+
+abbrev pub without : ℕ → ℕ → List Use → List Use
+without k id [] = []
+without k id (u ∷ us) = cond (isOf k id u) (without k id us) (u ∷ without k id us)
+
+abbrev pub usesAfter : Settings → Turn → Event → List Use → List Use
+usesAfter s t Other us = us
+usesAfter s t Reads us = us
+usesAfter s t Drains us = us
+usesAfter s t (Submits k id r) us = record { slot = k; id = id; request = r; places = chainWalk s (t .after) k } ∷ us
+usesAfter s t (Unlinks k) us = us
+usesAfter s t (Parts k frame) us = us
+usesAfter s t (Collects k id frame) us = without k id us
+
+unfoldable pub uses : Settings → History → List Use
+uses s [] = []
+uses s (t ∷ past) = usesAfter s t (event s t) (uses s past)
+
+-- "Need", by kind and length
+abbrev pub needOfUse : Settings → Use → ℕ
+needOfUse s u = needOf (u .request .kind) (u .request .length) (s .limit)
+
+abbrev pub needs : Settings → List Use → ℕ
+needs s [] = 0
+needs s (u ∷ us) = needOfUse s u + needs s us
+
+-- ---- the linked slots of each schedule, newest first
+
+abbrev pub remove : ℕ → List ℕ → List ℕ
+remove k [] = []
+remove k (j ∷ ks) = cond (eqb j k) (remove k ks) (j ∷ remove k ks)
+
+abbrev pub ringAfter : Event → List ℕ → List ℕ
+ringAfter Other ks = ks
+ringAfter Reads ks = ks
+ringAfter Drains ks = ks
+ringAfter (Submits k id r) ks = cond (isInterrupt (r .kind)) ks (k ∷ ks)
+ringAfter (Unlinks k) ks = remove k ks
+ringAfter (Parts k frame) ks = ks
+ringAfter (Collects k id frame) ks = ks
+
+unfoldable pub ringSlots : Settings → History → List ℕ
+ringSlots s [] = []
+ringSlots s (t ∷ past) = ringAfter (event s t) (ringSlots s past)
+
+abbrev pub framesAfter : Event → List ℕ → List ℕ
+framesAfter Other ks = ks
+framesAfter Reads ks = ks
+framesAfter Drains ks = ks
+framesAfter (Submits k id r) ks = cond (isInterrupt (r .kind)) (k ∷ ks) ks
+framesAfter (Unlinks k) ks = ks
+framesAfter (Parts k frame) ks = remove k ks
+framesAfter (Collects k id frame) ks = ks
+
+unfoldable pub frameSlots : Settings → History → List ℕ
+frameSlots s [] = []
+frameSlots s (t ∷ past) = framesAfter (event s t) (frameSlots s past)
