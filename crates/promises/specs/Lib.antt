@@ -2,3 +2,4 @@ pub mod Runs
 pub mod Walks
 pub mod Events
 pub mod Uses
+pub mod Bells
