@@ -4,3 +4,6 @@ pub mod UseInv
 pub mod UseQuiet
 pub mod UseTenants
 pub mod UseSteps
+pub mod UseAccepts
+pub mod UseCollects
+pub mod UseHeld

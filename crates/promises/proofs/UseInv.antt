@@ -43,10 +43,6 @@ abbrev tenantNumber : Tenant → ℕ
 tenantNumber Nobody = 0
 tenantNumber (Waits kind id n) = 1
 
-abbrev tenantId : Tenant → ℕ
-tenantId Nobody = 0
-tenantId (Waits kind id n) = id
-
 pub tenants-apart : (kind : EndpointType) (id n : ℕ) (x : Tenant) → x ≡ Nobody → x ≡ Waits kind id n → ⊥
 tenants-apart kind id n x e f = let z : _≡_ {A = ℕ} 0 1 = ap tenantNumber (sym e ∙ f) in omega (arith, z)
 
