@@ -1,4 +1,10 @@
 pub mod Effects
+pub mod EffectDoor
+pub mod EffectMachine
+pub mod EffectRanges
+pub mod EffectInterrupts
+pub mod EffectEndpoints
+pub mod EffectRequests
 pub mod Sound
 pub mod UseInv
 pub mod UseQuiet
