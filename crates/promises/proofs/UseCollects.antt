@@ -140,8 +140,12 @@ module _ (w : World) (view : View) (k : ℕ) (p : Pipe) (r : Request) (b : Unlin
         apart = without-apart k (r .id) us (held .apart);
         rest = λ j e. by j e (decEq j k);
         room = ap (λ (o : List ℕ). countOf 0 o + needs s (without k (r .id) us)) new-front
-            ∙ omega (arith, clear-count (k + 1) front (λ e. omega (arith, e)),
-            needs-without s (st .owner) (tenantAt st) (w .rows .pool) (w .rows .heads) k (r .id) front-few here us (held .each) (held .apart) none, held .room);
+            ∙ omega (
+              arith,
+              clear-count (k + 1) front (λ e. omega (arith, e)),
+              needs-without s (st .owner) (tenantAt st) (w .rows .pool) (w .rows .heads) k (r .id) front-few here us (held .each) (held .apart) none,
+              held .room,
+            );
       }
     where
       here : tenantId (tenantAt st k) ≡ r .id
