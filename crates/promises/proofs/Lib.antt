@@ -13,3 +13,4 @@ pub mod UseSteps
 pub mod UseAccepts
 pub mod UseCollects
 pub mod UseHeld
+pub mod RoomLaws

@@ -46,7 +46,8 @@ use Rattle.promises.specs.Uses.{Use, needs, uses}
 use Rattle.promises.specs.Walks.{chainWalk}
 use Rattle.promises.proofs.Effects.{Accepts}
 use Rattle.promises.proofs.Sound.{Sound}
-use Rattle.promises.proofs.UseInv.{Apart, Avoids, Every, Held, HeldIn, Kept, Nobody, Tenant, Waits, all-counted, every-both, every-map, overlayNext, placesAt, tenantAt, tenantOf, untold, vacant-avoids}
+use Rattle.promises.specs.Rooms.{Every, untold}
+use Rattle.promises.proofs.UseInv.{Apart, Avoids, Held, HeldIn, Kept, Nobody, Tenant, Waits, all-counted, every-both, every-map, overlayNext, placesAt, tenantAt, tenantOf, vacant-avoids}
 use Rattle.promises.proofs.UseQuiet.{met-along}
 use Rattle.promises.proofs.UseSteps.{uses-by}
 use Rattle.promises.proofs.UseTenants.{tenant-same}

@@ -40,7 +40,8 @@ use Rattle.promises.specs.Events.{Collects}
 use Rattle.promises.specs.Uses.{Use, isOf, needOfUse, needs, uses, without}
 use Rattle.promises.proofs.Effects.{Collected, withHeads}
 use Rattle.promises.proofs.Sound.{Sound}
-use Rattle.promises.proofs.UseInv.{Apart, Avoids, Every, Held, HeldIn, Kept, Nobody, Tenant, Waits, all-counted, every-map, overlayNext, placesAt, tenantAt, tenantOf, without-apart, without-avoids, without-every}
+use Rattle.promises.specs.Rooms.{Every}
+use Rattle.promises.proofs.UseInv.{Apart, Avoids, Held, HeldIn, Kept, Nobody, Tenant, Waits, all-counted, every-map, overlayNext, placesAt, tenantAt, tenantOf, without-apart, without-avoids, without-every}
 use Rattle.promises.proofs.UseSteps.{uses-by}
 
 -- a list without slot k's use is as it was where slot k has none

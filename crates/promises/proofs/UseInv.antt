@@ -22,6 +22,7 @@ use Rattle.pipe.specs.Endpoints.{endpointAt}
 use Rattle.pipe.specs.declared.endpoint.Endpoint.{Endpoint}
 use Rattle.pipe.specs.declared.endpoint.Endpoint.the-variants.{Closed, Idle, Linked, Unlinking}
 use Rattle.promises.specs.Runs.{History, World}
+use Rattle.promises.specs.Rooms.{Every, transferFor, untold}
 use Rattle.promises.specs.Uses.{Use, isOf, needOfUse, needs, uses, without}
 
 -- ---- who is in a slot
@@ -47,10 +48,6 @@ pub tenants-apart : (kind : EndpointType) (id n : ℕ) (x : Tenant) → x ≡ No
 tenants-apart kind id n x e f = let z : _≡_ {A = ℕ} 0 1 = ap tenantNumber (sym e ∙ f) in omega (arith, z)
 
 -- ---- lists of uses
-
-abbrev pub Every : (Use → Type 0) → List Use → Type 0
-Every P [] = Unit {0}
-Every P (u ∷ us) = P u × Every P us
 
 -- no use is slot k's
 abbrev pub Avoids : ℕ → List Use → Type 0
@@ -104,22 +101,6 @@ without-avoids k id j ne (u ∷ us) e = by (isOf k id u) refl (without-avoids k 
     by false q on = let r : Avoids j (u ∷ without k id us) = rw q at e in (r .0, on (r .1))
 
 -- ---- the invariant
-
--- what a use's request gives to its descriptors
-abbrev pub transferFor : Settings → Use → Transfer
-transferFor s u =
-    record {
-      kind = u .request .kind;
-      direction = u .request .direction;
-      address = u .request .address;
-      length = u .request .length;
-      limit = s .limit;
-      setup = s .setups + 8 * u .slot;
-    }
-
--- a record but for its token
-abbrev pub untold : QueueTransferDescriptor → QueueTransferDescriptor
-untold d = withToken d 0
 
 abbrev pub overlayNext : List ℕ → ℕ → ℕ
 overlayNext heads k = getD heads (17 * (k + 1) + 4) 0

@@ -13,7 +13,8 @@ use Rattle.pool.specs.Places.{Each, countOf, placesFrom}
 use Rattle.pool.specs.Transfers.{recordAt}
 use Rattle.settings.specs.declared.settings.Settings.{Settings}
 use Rattle.promises.specs.Uses.{Use, needs}
-use Rattle.promises.proofs.UseInv.{Avoids, Every, HeldBy, Kept, Nobody, Tenant, every-map, overlayNext, tenants-apart, transferFor, untold}
+use Rattle.promises.specs.Rooms.{Every, transferFor, untold}
+use Rattle.promises.proofs.UseInv.{Avoids, HeldBy, Kept, Nobody, Tenant, every-map, overlayNext, tenants-apart}
 
 -- ---- a walk reads only the next words of the records that it meets
 

@@ -47,7 +47,8 @@ use Rattle.promises.specs.Events.{Drains, Event, Other, Parts, Reads, Un
 use Rattle.promises.specs.Uses.{Use, uses, usesAfter}
 use Rattle.promises.proofs.Effects.{Closes, Counts, Hears, Joins, Marks, Opens, Passes, Rewrites, Sides, Still, Unlinked, WritesBack, besides}
 use Rattle.promises.proofs.Sound.{Sound}
-use Rattle.promises.proofs.UseInv.{Held, HeldIn, Nobody, Tenant, overlayNext, tenantAt, tenantOf, untold}
+use Rattle.promises.specs.Rooms.{untold}
+use Rattle.promises.proofs.UseInv.{Held, HeldIn, Nobody, Tenant, overlayNext, tenantAt, tenantOf}
 use Rattle.promises.proofs.UseQuiet.{held-quiet}
 use Rattle.promises.proofs.UseTenants.{tenant-bell, tenant-besides, tenant-boundaries, tenant-stays}
 
