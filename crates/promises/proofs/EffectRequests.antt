@@ -121,6 +121,8 @@ module _ (w : World) where
         rows-are = refl;
         silent = refl;
         nothing = refl;
+        call-is = refl;
+        accepted = refl;
       })))
     where
       is-in : (b : Bool) → not b ≡ false → b ≡ true

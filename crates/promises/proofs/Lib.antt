@@ -14,3 +14,4 @@ pub mod UseAccepts
 pub mod UseCollects
 pub mod UseHeld
 pub mod RoomLaws
+pub mod ExclusiveLaws

@@ -34,7 +34,7 @@ met-along base old new (suc m) w e = by (eqb (terminate w) 1) refl (met-along ba
         let f : Each (λ p. getD new p blank .next ≡ getD old p blank .next) (here ∷ metFrom base old m (nextAt base old (qtdAddress w))) = rw q at e in
         rw q (ap (λ (v : ℕ). here ∷ metFrom base new m v) (f .0) ∙ ap (λ (l : List ℕ). here ∷ l) (on (f .1)))
 
-each-all : (P : ℕ → Type 0) → ((p : ℕ) → P p) → (ps : List ℕ) → Each P ps
+pub each-all : (P : ℕ → Type 0) → ((p : ℕ) → P p) → (ps : List ℕ) → Each P ps
 each-all P f [] = tt
 each-all P f (p ∷ ps) = (f p, each-all P f ps)
 
