@@ -15,3 +15,5 @@ pub mod UseCollects
 pub mod UseHeld
 pub mod RoomLaws
 pub mod ExclusiveLaws
+pub mod CoverBytes
+pub mod CoverHolds

@@ -145,6 +145,17 @@ module _ (w : World) (k : ℕ) (t : TransferRequest) (sound : Sound (w .state .s
       (need-least (t .kind) (t .length) (s .limit) (sound .ranges .good .limit-least)) need-most)
       ∙ map-back (s .pool) (placesFor st t)
 
+  -- its records are its descriptors, in order
+  pub submitted-record : (j : ℕ) → j < length (placesFor st t)
+      → getD (acceptedWorld .rows .pool) (getD (placesFor st t) j 0) blank ≡ recordAt (transferOf st k t) j (drop (suc j) (placesFor st t)) (s .pool)
+  unfolding takenFor takenOf fillOf
+  submitted-record j h =
+      let along : 0 + j ≡ j = omega arith in
+      ap (λ (l : List ℕ). getD (filledFrom (TransferDeed (transferOf st k t)) (s .pool) 0 l (w .rows .pool)) (getD (placesFor st t) j 0) blank) (list-packed (placesFor st t))
+      ∙ filled-listed (TransferDeed (transferOf st k t)) (s .pool) 0 (placesFor st t) (w .rows .pool) j (places-ascend 0 front 0 (needOfRequest st t))
+      (subst (λ (n : ℕ). Within n (placesFor st t)) (front-length ∙ sym (sound .pool-fits)) (places-within front 0 (needOfRequest st t))) h
+      ∙ ap (λ (n : ℕ). recordAt (transferOf st k t) n (drop (suc j) (placesFor st t)) (s .pool)) along
+
   new-owner : acceptedWorld .state .owner ≡ takenFor st k t .owner
   unfolding stateWith withEndpoint withSlot withOwner
   new-owner = refl
@@ -163,7 +174,7 @@ module _ (w : World) (k : ℕ) (t : TransferRequest) (sound : Sound (w .state .s
   KeptThen u = Kept s (st .owner) (tenantAt st) (w .rows .pool) (w .rows .heads) u
 
   kept-new : placesAt s (st .owner) (tenantAt st) (w .rows .pool) (w .rows .heads) k ≡ [] → KeptNow (useOf (placesFor st t))
-  unfolding stateWith chainWalk takenFor takenOf fillOf
+  unfolding stateWith chainWalk
   kept-new none =
       record {
         below = within;
@@ -174,15 +185,8 @@ module _ (w : World) (k : ℕ) (t : TransferRequest) (sound : Sound (w .state .s
             (omega (arith, need-most, sound .ranges .good .descriptors-most)));
         as-needed = places-needed st k t (sound .ranges) judged (sound .owners);
         leads = walked;
-        written = λ j h. ap untold
-            (ap (λ (l : List ℕ). getD (filledFrom (TransferDeed (transferOf st k t)) (s .pool) 0 l (w .rows .pool)) (getD (placesFor st t) j 0) blank) (list-packed (placesFor st t))
-            ∙ filled-listed (TransferDeed (transferOf st k t)) (s .pool) 0 (placesFor st t) (w .rows .pool) j (places-ascend 0 front 0 (needOfRequest st t))
-            (subst (λ (n : ℕ). Within n (placesFor st t)) (front-length ∙ sym (sound .pool-fits)) (places-within front 0 (needOfRequest st t))) h
-            ∙ ap (λ (n : ℕ). recordAt (transferOf st k t) n (drop (suc j) (placesFor st t)) (s .pool)) (along j));
+        written = λ j h. ap untold (submitted-record j h);
       }
-    where
-      along : (i : ℕ) → 0 + i ≡ i
-      along i = omega arith
 
   -- another slot's use
   kept-old : (u : Use) → u .slot ≢ k → KeptThen u → KeptNow u

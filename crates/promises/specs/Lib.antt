@@ -4,3 +4,4 @@ pub mod Events
 pub mod Uses
 pub mod Bells
 pub mod Rooms
+pub mod Coverage
