@@ -5,4 +5,6 @@ pub mod EffectRanges
 pub mod EffectInterrupts
 pub mod EffectEndpoints
 pub mod EffectRequests
+pub mod EffectOf
 pub mod Sound
+pub mod SoundKeeps
