@@ -8,3 +8,4 @@ pub mod EffectRequests
 pub mod EffectOf
 pub mod Sound
 pub mod SoundKeeps
+pub mod Reached
