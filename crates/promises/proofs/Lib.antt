@@ -8,4 +8,5 @@ pub mod EffectRequests
 pub mod EffectOf
 pub mod Sound
 pub mod SoundKeeps
+pub mod IdleInv
 pub mod Reached
