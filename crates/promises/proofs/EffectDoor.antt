@@ -2,7 +2,7 @@
 use Prim.Native.Nat.{ℕ}
 use mathlib.Core.Bool.{Bool, true, false, not}
 use mathlib.Core.List.{List, [], _∷_}
-use mathlib.Core.Path.{_≡_, refl, sym, ap}
+use mathlib.Core.Path.{_≡_, refl, sym, ap, _∙_}
 use lib.ListN.{length}
 use Rattle.register.specs.Writes.{listOf, noWrites}
 use Rattle.register.specs.declared.writes.Writes.{Writes}
@@ -10,11 +10,13 @@ use Rattle.pool.specs.Chains.{fillOf, noChain}
 use Rattle.pool.specs.declared.chain.View.{View}
 use Rattle.pool.proofs.ChainLaws.{fill-no-chain}
 use Rattle.settings.specs.Tests.{both}
+use Rattle.state.specs.Slots.{slotAt}
 use Rattle.state.specs.declared.state.Ehci.{Ehci}
 use Rattle.state.proofs.RangesLaws.{Ranges}
 use Rattle.answer.specs.Answers.{Verdict, passed, refused, settle}
 use Rattle.answer.specs.declared.answer.Refusal.{Refusal}
 use Rattle.answer.specs.declared.answer.Refusal.the-variants.{InvalidParameter}
+use Rattle.pipe.specs.Endpoints.{endpointAt}
 use Rattle.opening.specs.Opening.{rowsFit}
 use Rattle.ehci.specs.declared.call.Call.{Call}
 use Rattle.ehci.specs.declared.reply.Answered.{Answered}
@@ -24,7 +26,7 @@ use Rattle.ehci.specs.Door.{Applied, applied, applyOf, carriedOut, seenBy}
 use Rattle.ehci.specs.Replies.{refusedReply, replied}
 use Rattle.promises.specs.Runs.{Rows, World, core, rowsOf, turnOf}
 use Rattle.promises.specs.Events.{Other, event, someRing}
-use Rattle.promises.proofs.Effects.{Effect, Sides, Still, besides, still}
+use Rattle.promises.proofs.Effects.{Effect, Idles, Sides, Still, besides, still}
 
 -- checks, then settle: what holds of a refusal and of what is new holds of what is left
 pub settled-by : {A : Type 0} (v : Verdict) (old : Refusal → A) (new : A) (P : A → Type 0)
@@ -43,6 +45,11 @@ sidesOf s =
       pending = s .pending;
       masked = s .masked;
     }
+
+-- neither bring-up nor a slot changes
+pub idles-on : (s : Ehci) (x : Sides) → x .running ≡ s .running → x .step ≡ s .step → Idles s → Idles (besides s x)
+unfolding endpointAt slotAt
+idles-on s x er es i = record { stopped = λ h. er ∙ i .stopped (λ z. h (es ∙ z)); runs = λ k u. er ∙ i .runs k u }
 
 -- the head of a slot does not leave a schedule whose words stay
 pub stays-in : (b : Bool) → both b (not b) ≡ false
@@ -64,8 +71,8 @@ module _ (w : World) (c : Call) where
 
   pub still-of : (s : Ehci) (r : Answered) (ws : Writes) (x : Sides) → s ≡ besides (w .state) x → someRing (listOf ws) ≡ false
       → event (w .state .settings) (turnOf (w .rows) c (leaves s r ws)) ≡ Other → (Ranges (w .state) → Ranges s)
-      → x .pending ≡ w .state .pending → Effect w c (leaves s r ws)
-  still-of s r ws x e silent nothing keeps pends =
+      → x .pending ≡ w .state .pending → (Idles (w .state) → Idles s) → Effect w c (leaves s r ws)
+  still-of s r ws x e silent nothing keeps pends idles =
       still
       (record {
         sides = x;
@@ -75,6 +82,7 @@ module _ (w : World) (c : Call) where
         nothing = nothing;
         keeps = keeps;
         pending-stays = pends;
+        idles = idles;
       })
 
   -- a refusal
@@ -82,7 +90,7 @@ module _ (w : World) (c : Call) where
       → event (w .state .settings) (turnOf (w .rows) c (leaves (w .state) (Refused r) noWrites)) ≡ Other
       → Effect w c (leaves (w .state) (Refused r) noWrites)
   unfolding noWrites
-  refused-still r nothing = still-of (w .state) (Refused r) noWrites (sidesOf (w .state)) refl refl nothing (λ g. g) refl
+  refused-still r nothing = still-of (w .state) (Refused r) noWrites (sidesOf (w .state)) refl refl nothing (λ g. g) refl (λ i. i)
 
   abbrev pub seen : View
   seen = seenBy (asksOf (w .state) (length (w .rows .pool)) c) (w .rows .pool)

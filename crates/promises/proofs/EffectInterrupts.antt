@@ -39,7 +39,7 @@ use Rattle.ehci.specs.Replies.{drainedAnswer, replied, settledReply}
 use Rattle.promises.specs.Runs.{World, core}
 use Rattle.promises.specs.Events.{Drains, Other, Reads, isDone, someRing}
 use Rattle.promises.proofs.Effects.{Effect, Sides, counts, hears, joins, passes}
-use Rattle.promises.proofs.EffectDoor.{refused-still, rows-kept, settled-by, sidesOf, still-of, through}
+use Rattle.promises.proofs.EffectDoor.{idles-on, refused-still, rows-kept, settled-by, sidesOf, still-of, through}
 use Rattle.promises.proofs.EffectRanges.{counted-keeps, interrupt-keeps, joined-none, note-keeps, only-falls, only-joins, only-masked, only-none}
 
 -- ---- acknowledge
@@ -111,7 +111,7 @@ module _ (w : World) (x : InterruptReadings) where
   unfolding acknowledgedState withInterrupt withBell notedAfter replied noWrites
   heard true e b q =
       let none = none-read (x .status) (eqb-true p 0 e) in
-      still-of w (Acknowledge x) _ _ _ (sidesOf s) refl refl (ap (λ (t : Bool). cond t Reads Other) none) (λ g. g) refl
+      still-of w (Acknowledge x) _ _ _ (sidesOf s) refl refl (ap (λ (t : Bool). cond t Reads Other) none) (λ g. g) refl (λ i. i)
   heard false e true q =
       hears
       (record {
@@ -122,6 +122,7 @@ module _ (w : World) (x : InterruptReadings) where
         hears = ap (λ (t : Bool). cond t Reads Other) q;
         keeps = acknowledged-keeps;
         pends = λ z. eqb-false p 0 e (joined-none (s .pending) p z .1);
+        runs-on = (refl, refl);
       })
   heard false e false q =
       joins
@@ -133,6 +134,7 @@ module _ (w : World) (x : InterruptReadings) where
         nothing = ap (λ (t : Bool). cond t Reads Other) q;
         keeps = acknowledged-keeps;
         pends = λ z. joined-none (s .pending) p z .0;
+        runs-on = (refl, refl);
       })
 
   pub acknowledge-effect : Effect w (Acknowledge x) (core w (Acknowledge x))
@@ -200,6 +202,7 @@ module _ (w : World) (command : ℕ) where
         drains = drained-as _ taken-done;
         keeps = λ r. interrupt-keeps d (d .enabled) _ (d .masked) (r .enabled-flag) (taken-only (r .pending-only)) (r .masked-only) r;
         uncounted = inl (eqb-true (d .noted) 0 e);
+        runs-on = (refl, refl);
       })
   uncounted false e =
       let noted : d .noted ≡ 0 → ⊥ = eqb-false (d .noted) 0 e in
@@ -215,6 +218,7 @@ module _ (w : World) (command : ℕ) where
         keeps = λ r.
             interrupt-keeps (countIf false d command .state) (d .enabled) _ (d .masked) (r .enabled-flag) (taken-only (r .pending-only)) (r .masked-only)
             (counted-keeps d command noted r);
+        runs-on = (refl, refl);
       })
 
   drained : (z : Bool) → eqb (d .pending) 0 ≡ z → Drained (drainIf z d (countedOf d command) (takenOf (d .pending)))
@@ -229,6 +233,7 @@ module _ (w : World) (command : ℕ) where
         drains = refl;
         keeps = λ r. r;
         uncounted = inr (eqb-true (d .pending) 0 e);
+        runs-on = (refl, refl);
       })
   drained false e = uncounted (eqb (d .noted) 0) refl
 
@@ -270,7 +275,7 @@ module _ (w : World) where
       by true = refused-still w Enable InvalidParameter refl
       by false =
           still-of w Enable _ _ _ (flagged 1 (t .masked)) refl refl refl
-          (λ r. interrupt-keeps t 1 (t .pending) (t .masked) (omega arith) (r .pending-only) (r .masked-only) r) refl
+          (λ r. interrupt-keeps t 1 (t .pending) (t .masked) (omega arith) (r .pending-only) (r .masked-only) r) refl (idles-on t _ refl refl)
 
   pub disable-effect : Effect w Disable (core w Disable)
   unfolding disableOf settledReply replied withInterrupt andThen noWrites
@@ -283,7 +288,7 @@ module _ (w : World) where
       by true = refused-still w Disable InvalidParameter refl
       by false =
           still-of w Disable _ _ _ (flagged 0 (t .masked)) refl refl refl
-          (λ r. interrupt-keeps t 0 (t .pending) (t .masked) (omega arith) (r .pending-only) (r .masked-only) r) refl
+          (λ r. interrupt-keeps t 0 (t .pending) (t .masked) (omega arith) (r .pending-only) (r .masked-only) r) refl (idles-on t _ refl refl)
 
   pub rearm-effect : Effect w Rearm (core w Rearm)
   unfolding rearmOf settledReply replied withInterrupt andThen noWrites
@@ -292,7 +297,7 @@ module _ (w : World) where
       by : (b z : Bool)
           → Effect w Rearm (carriedOut (came (settledReply (settledOr b t (rearmIf z t))) (w .rows .heads) (w .rows .frames) (w .rows .setups)) (w .rows .pool))
       by true z = refused-still w Rearm InvalidParameter refl
-      by false true = still-of w Rearm _ _ _ (sidesOf t) refl refl refl (λ r. r) refl
+      by false true = still-of w Rearm _ _ _ (sidesOf t) refl refl refl (λ r. r) refl (idles-on t _ refl refl)
       by false false =
           still-of w Rearm _ _ _ (flagged (t .enabled) 0) refl refl refl
-          (λ r. interrupt-keeps t (t .enabled) (t .pending) 0 (r .enabled-flag) (r .pending-only) (only-none 0x27 (lit< tt)) r) refl
+          (λ r. interrupt-keeps t (t .enabled) (t .pending) 0 (r .enabled-flag) (r .pending-only) (only-none 0x27 (lit< tt)) r) refl (idles-on t _ refl refl)

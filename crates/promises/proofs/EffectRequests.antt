@@ -211,7 +211,7 @@ module _ (w : World) where
     collect-effect =
         through w (Collect k id rd) collect-refused
         (collect-split s n hs fs (length us) rd k id (seen w (Collect k id rd)) Collecting collect-refused
-        (still-of w (Collect k id rd) _ _ _ (sidesOf s) refl refl (none-leaves (s .settings) k (rd .frame) _ _ refl refl) (λ g. g) refl)
+        (still-of w (Collect k id rd) _ _ _ (sidesOf s) refl refl (none-leaves (s .settings) k (rd .frame) _ _ refl refl) (λ g. g) refl (λ i. i))
         (λ p r ok e below same done. collect-unlinks p r e below)
         (λ p r u ok e same through-it. collects
         (record {

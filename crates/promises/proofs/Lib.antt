@@ -5,7 +5,11 @@ pub mod EffectRanges
 pub mod EffectInterrupts
 pub mod EffectEndpoints
 pub mod EffectRequests
+pub mod EffectOf
 pub mod Sound
+pub mod SoundKeeps
+pub mod IdleInv
+pub mod Reached
 pub mod UseInv
 pub mod UseQuiet
 pub mod UseTenants
@@ -17,3 +21,4 @@ pub mod RoomLaws
 pub mod ExclusiveLaws
 pub mod CoverBytes
 pub mod CoverHolds
+pub mod RoomPromises

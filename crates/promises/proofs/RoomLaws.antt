@@ -1,7 +1,6 @@
 -- Room is exact: what a submit answers, by the needs of the uses.
 use Prim.Native.Nat.{ℕ, _+_, _*_, _≤_, _<_}
 use mathlib.Core.Path.{_≡_, refl, sym, ap, subst, _∙_}
-use mathlib.Core.Logic.{_⊎_, inl, inr}
 use mathlib.Core.Bool.{Bool, true, false, not}
 use mathlib.Core.List.{List, [], _∷_}
 use native.Mathlib.Omega.{arith}
@@ -91,8 +90,8 @@ zero-passes (refused r) e = absurd (never r e)
     never NotReady e = omega (arith, e)
 
 module _ (s : Ehci) (k : ℕ) (t : TransferRequest) where
-  six-lacks : verdictNumber (first (submitChecks s k t)) ≡ 6 → freeCount s < needOfRequest s t
-  six-lacks e =
+  six-lacking : verdictNumber (first (submitChecks s k t)) ≡ 6 → freeCount s < needOfRequest s t
+  six-lacking e =
       last (ltb (freeCount s) (needOfRequest s t)) refl
       (past (not (rangesGood t)) InvalidParameter _ (λ q. omega (arith, q))
       (past (not (eqb (kindNumber (t .kind)) (slotAt s k .kind))) InvalidEndpoint _ (λ q. omega (arith, q))
@@ -106,19 +105,21 @@ module _ (s : Ehci) (k : ℕ) (t : TransferRequest) where
       last true q z = ltb-true (freeCount s) (needOfRequest s t) q
       last false q z = absurd (omega (arith, rw q at z))
 
-  one-of-two : beforeRoom s k t ≡ passed → (verdictNumber (first (submitChecks s k t)) ≡ 6) ⊎ (verdictNumber (first (submitChecks s k t)) ≡ 0)
-  one-of-two e =
+  -- where the earlier checks are passed the last one decides
+  room-decides : beforeRoom s k t ≡ passed → (P : ℕ → Type 0) → (freeCount s < needOfRequest s t → P 6) → (needOfRequest s t ≤ freeCount s → P 0)
+      → P (verdictNumber (first (submitChecks s k t)))
+  room-decides e P six none =
       let a = let-pass (not (isOpen s k)) _ _ e in
       let b = let-pass (eqb (s .running) 0) _ _ (a .1) in
       let c = let-pass (isUncollected s k) _ _ (b .1) in
       let d = let-pass (isIsochronous (t .kind)) _ _ (c .1) in
       let f = let-pass (not (eqb (kindNumber (t .kind)) (slotAt s k .kind))) _ _ (d .1) in
       let g = let-pass (not (rangesGood t)) _ _ (f .1) in
-      rw (a .0, b .0, c .0, d .0, f .0, g .0) (last (ltb (freeCount s) (needOfRequest s t)))
+      rw (a .0, b .0, c .0, d .0, f .0, g .0) (last (ltb (freeCount s) (needOfRequest s t)) refl)
     where
-      last : (b : Bool) → (verdictNumber (orElse b NoMemory passed) ≡ 6) ⊎ (verdictNumber (orElse b NoMemory passed) ≡ 0)
-      last true = inl refl
-      last false = inr refl
+      last : (b : Bool) → ltb (freeCount s) (needOfRequest s t) ≡ b → P (verdictNumber (orElse (ltb (freeCount s) (needOfRequest s t)) NoMemory passed))
+      last true q = rw q (six (ltb-true (freeCount s) (needOfRequest s t) q))
+      last false q = rw q (none (ltb-false (freeCount s) (needOfRequest s t) q))
 
 -- ---- room
 
@@ -131,19 +132,16 @@ unfolding freeCount
 room-here h w sound held =
     record {
       free = free;
-      lacking = λ k t readings e. omega (arith, free, six-lacks (w .state) k t (sym (submit-number w k t readings sound) ∙ e));
-      fitting = λ k t readings e. omega (arith, free, judge-passed (w .state) k t (zero-passes (first (submitChecks (w .state) k t)) (sym (submit-number w k t readings sound) ∙ e)) .room);
-      exact = λ k t readings e. by k t readings (one-of-two (w .state) k t e);
+      six-lacks = λ k t readings e. omega (arith, free, six-lacking (w .state) k t (sym (submit-number w k t readings sound) ∙ e));
+      zero-fits = λ k t readings e. omega (arith, free, judge-passed (w .state) k t (zero-passes (first (submitChecks (w .state) k t)) (sym (submit-number w k t readings sound) ∙ e)) .room);
+      lacks-six = λ k t readings e l. submit-number w k t readings sound
+          ∙ room-decides (w .state) k t e (λ n. n ≡ 6) (λ q. refl) (λ q. absurd (omega (arith, free, l, q)));
+      fits-zero = λ k t readings e l. submit-number w k t readings sound
+          ∙ room-decides (w .state) k t e (λ n. n ≡ 0) (λ q. absurd (omega (arith, free, l, q))) (λ q. refl);
     }
   where
     free : freeCount (w .state) + needs (w .state .settings) (uses (w .state .settings) h) ≡ w .state .settings .descriptors
     free = omega (arith, zeros-are (take (w .state .settings .descriptors) (w .state .owner)), held .room)
-
-    by : (k : ℕ) (t : TransferRequest) (readings : Readings)
-        → (verdictNumber (first (submitChecks (w .state) k t)) ≡ 6) ⊎ (verdictNumber (first (submitChecks (w .state) k t)) ≡ 0)
-        → (numberAt core w (Submit k t readings) ≡ 6) ⊎ (numberAt core w (Submit k t readings) ≡ 0)
-    by k t readings (inl e) = inl (submit-number w k t readings sound ∙ e)
-    by k t readings (inr e) = inr (submit-number w k t readings sound ∙ e)
 
 pub room-holds : (s : Settings) (h : History) (w : World) → Sound s w → Held s h w → Room core s h w
 room-holds s h w sound = subst (λ (z : Settings). Sound z w → Held z h w → Room core z h w) (sound .settings-are) (room-here h w) sound

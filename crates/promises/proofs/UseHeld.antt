@@ -16,12 +16,8 @@ use Rattle.state.specs.declared.state.Ehci.{Ehci}
 use Rattle.pipe.specs.Endpoints.{bareSlot, endpointAt}
 use Rattle.pipe.specs.declared.endpoint.Endpoint.the-variants.{Closed}
 use Rattle.pipe.proofs.EndpointCases.{at-none, at-slot, decode-closed}
-use Rattle.answer.specs.declared.answer.Answer.the-variants.{Done}
-use Rattle.answer.specs.declared.answer.Refusal.the-variants.{InvalidParameter}
-use Rattle.answer.proofs.CheckLaws.{answers-apart}
-use Rattle.opening.specs.Opening.{Opened, acceptedOpening, freshState, openOf, refusedOpening, rowsFit}
+use Rattle.opening.specs.Opening.{freshState}
 use Rattle.opening.proofs.OpenLaws.{fresh-slot}
-use Rattle.opening.proofs.OpenPool.{accepts, refuses-rows, refuses-settings}
 use Rattle.controller.specs.Readers.{freeCount}
 use Rattle.controller.proofs.FreeLaws.{fresh-free, zeros-are}
 use Rattle.ehci.specs.declared.call.Call.{Call}
@@ -29,6 +25,7 @@ use Rattle.ehci.specs.Door.{Applied}
 use Rattle.promises.specs.Runs.{History, Opening, Rows, World, leftBy, turnOf}
 use Rattle.promises.specs.Uses.{uses}
 use Rattle.promises.proofs.Effects.{Effect, still, hears, joins, passes, counts, opens, closes, rewrites, accepts as takes, writes-back, marks, unlinks, collects}
+use Rattle.promises.proofs.Reached.{freshRows, opening-is}
 use Rattle.promises.proofs.Sound.{Sound}
 use Rattle.promises.proofs.UseInv.{Held, HeldIn, Nobody, tenantAt, tenantOf}
 use Rattle.promises.proofs.UseSteps.{closes-held, counts-held, hears-held, joins-held, marks-held, opens-held, passes-held, rewrites-held, still-held, unlinks-held, writes-back-held}
@@ -62,33 +59,9 @@ fresh-held s rows good =
       room = omega (arith, zeros-are (take (s .descriptors) (replicate 256 0)), fresh-free s good);
     }
 
--- an accepted opening leaves a fresh state of good settings
-module _ (s : Settings) (lent : Rows) (done : openOf s (lent .pool) (lent .heads) (lent .frames) (lent .setups) .opening .answer ≡ Done) where
-  abbrev left : Opened
-  left = openOf s (lent .pool) (lent .heads) (lent .frames) (lent .setups)
-
-  abbrev fit : Bool
-  fit = rowsFit s (length (lent .pool)) (length (lent .heads)) (length (lent .frames)) (length (lent .setups))
-
-  pub opened-fresh : (settingsGood s ≡ true) × (left .opening .state ≡ freshState s)
-  unfolding refusedOpening acceptedOpening
-  opened-fresh = by (settingsGood s) refl fit refl
-    where
-      by : (g : Bool) → settingsGood s ≡ g → (f : Bool) → fit ≡ f → (settingsGood s ≡ true) × (left .opening .state ≡ freshState s)
-      by false g f e =
-          absurd (answers-apart InvalidParameter (sym (ap (λ (o : Opened). o .opening .answer) (refuses-settings s (lent .pool) (lent .heads) (lent .frames) (lent .setups) g)) ∙ done))
-      by true g false e =
-          absurd (answers-apart InvalidParameter (sym (ap (λ (o : Opened). o .opening .answer) (refuses-rows s (lent .pool) (lent .heads) (lent .frames) (lent .setups) g e)) ∙ done))
-      by true g true e = (g, ap (λ (o : Opened). o .opening .state) (accepts s (lent .pool) (lent .heads) (lent .frames) (lent .setups) g e))
-
 pub held-opens : (s : Settings) (w : World) → Opening s w → Held s [] w
 unfolding uses
-held-opens s w o =
-    let fresh = opened-fresh s (o .lent) (o .accepted) in
-    subst (λ (v : World). HeldIn s [] v) (λ i. record { state = state (fresh .1) i; rows = w .rows }) (fresh-held s (w .rows) (fresh .0))
-  where
-    state : openOf s (o .lent .pool) (o .lent .heads) (o .lent .frames) (o .lent .setups) .opening .state ≡ freshState s → freshState s ≡ w .state
-    state e = sym (ap (λ (v : World). v .state) (o .left) ∙ e)
+held-opens s w o = let is = opening-is s w o in subst (λ (v : World). HeldIn s [] v) (sym (is .1)) (fresh-held s (freshRows s) (is .0))
 
 -- ---- any call
 

@@ -42,16 +42,23 @@ Every P (u ∷ us) = P u × Every P us
 abbrev pub beforeRoom : Ehci → ℕ → TransferRequest → Verdict
 beforeRoom s k t = first (take 6 (submitChecks s k t))
 
--- "free descriptors equal D minus the sum of the needs"; a submit answers 6 only where that number is below its need, 0 only where
--- it is not, and one of the two where every earlier check is passed
+-- what a submit needs beside all that is in use is more than the pool has
+abbrev pub Lacks : Settings → History → TransferRequest → Type 0
+Lacks s h t = s .descriptors < needs s (uses s h) + needOf (t .kind) (t .length) (s .limit)
+
+abbrev pub Fits : Settings → History → TransferRequest → Type 0
+Fits s h t = needs s (uses s h) + needOf (t .kind) (t .length) (s .limit) ≤ s .descriptors
+
+-- free descriptors equal D minus the sum of the needs; a submit answers 6 only where the room lacks and 0 only where it does not; and
+-- where every earlier check is passed, it answers 6 or 0 by the room alone
 pub record Room (m : Machine) (s : Settings) (h : History) (w : World) : Type 0 where
   pub free : freeCount (w .state) + needs s (uses s h) ≡ s .descriptors
-  pub lacking : (k : ℕ) (t : TransferRequest) (readings : Readings) → numberAt m w (Submit k t readings) ≡ 6
-      → s .descriptors < needs s (uses s h) + needOf (t .kind) (t .length) (s .limit)
-  pub fitting : (k : ℕ) (t : TransferRequest) (readings : Readings) → numberAt m w (Submit k t readings) ≡ 0
-      → needs s (uses s h) + needOf (t .kind) (t .length) (s .limit) ≤ s .descriptors
-  pub exact : (k : ℕ) (t : TransferRequest) (readings : Readings) → beforeRoom (w .state) k t ≡ passed
-      → (numberAt m w (Submit k t readings) ≡ 6) ⊎ (numberAt m w (Submit k t readings) ≡ 0)
+  pub six-lacks : (k : ℕ) (t : TransferRequest) (readings : Readings) → numberAt m w (Submit k t readings) ≡ 6 → Lacks s h t
+  pub zero-fits : (k : ℕ) (t : TransferRequest) (readings : Readings) → numberAt m w (Submit k t readings) ≡ 0 → Fits s h t
+  pub lacks-six : (k : ℕ) (t : TransferRequest) (readings : Readings) → beforeRoom (w .state) k t ≡ passed → Lacks s h t
+      → numberAt m w (Submit k t readings) ≡ 6
+  pub fits-zero : (k : ℕ) (t : TransferRequest) (readings : Readings) → beforeRoom (w .state) k t ≡ passed → Fits s h t
+      → numberAt m w (Submit k t readings) ≡ 0
 
 abbrev pub RoomExact : Machine → Type 0
 RoomExact m = Always (Room m) m
