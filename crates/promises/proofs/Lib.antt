@@ -10,3 +10,4 @@ pub mod Sound
 pub mod SoundKeeps
 pub mod IdleInv
 pub mod Reached
+pub mod Order
