@@ -11,3 +11,4 @@ pub mod SoundKeeps
 pub mod IdleInv
 pub mod Reached
 pub mod Order
+pub mod RangeTheorems

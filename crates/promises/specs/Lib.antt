@@ -4,3 +4,4 @@ pub mod Events
 pub mod Uses
 pub mod Bells
 pub mod Checks
+pub mod Ranges
