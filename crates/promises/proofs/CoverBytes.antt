@@ -1,6 +1,6 @@
 -- The descriptors of a request address its buffer, byte for byte.
-use Prim.Native.Nat.{ℕ, zero, suc, _+_, _-_, _*_, _^_, _≤_, _<_, min}
-use mathlib.Core.Path.{_≡_, refl, sym, ap, ap₂, subst, _∙_}
+use Prim.Native.Nat.{ℕ, zero, suc, _+_, _-_, _*_, _^_, _≤_, _<_}
+use mathlib.Core.Path.{_≡_, refl, sym, ap, ap₂, _∙_}
 use mathlib.Core.Bool.{Bool, true, false}
 use mathlib.Core.List.{List, [], _∷_, _++_, append-nil, map}
 use native.Mathlib.Decide.{ℕ-discrete as decEq}
@@ -8,7 +8,7 @@ use native.Mathlib.Nat.{suc-mul}
 use native.Mathlib.Omega.{arith}
 use borrow.Author.Tests.{eqb-false, eqb-true, ne-eqb}
 use lib.Dec.{eqb}
-use lib.ListN.{drop, getD, length}
+use lib.ListN.{length}
 use Rattle.token.specs.Chunks.{chunkAt, chunkCount, ifEmpty, needOf}
 use Rattle.token.specs.EhciQtd.{totalBytes}
 use Rattle.token.specs.Plans.{controlPlan, pidFor}
@@ -23,7 +23,7 @@ use Rattle.pool.specs.Places.{upFrom}
 use Rattle.pool.specs.Transfers.{bareAt, bareFor, chunkQtd, isLast, recordAt, stageAt}
 use Rattle.pool.specs.declared.transfer.Transfer.{Transfer}
 use Rattle.request.proofs.CoverLaws.{chunk-byte, stage-byte}
-use Rattle.promises.specs.Coverage.{addressed, between, bytesOf, butLast, dataOf}
+use Rattle.promises.specs.Coverage.{addressed, between, bytesOf, dataOf}
 
 -- ---- runs of numbers
 

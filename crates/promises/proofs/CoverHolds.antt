@@ -1,5 +1,5 @@
 -- Every accepted submit leaves descriptors that address the call's own buffer.
-use Prim.Native.Nat.{ℕ, zero, suc, _+_, _≤_, _<_}
+use Prim.Native.Nat.{ℕ, suc, _+_, _≤_, _<_}
 use mathlib.Core.Path.{_≡_, refl, sym, ap, ap₂, subst, _∙_}
 use mathlib.Core.Bool.{Bool, true, false, cond}
 use mathlib.Core.List.{List, [], _∷_, map}
@@ -7,7 +7,6 @@ use native.Mathlib.Omega.{arith}
 use borrow.Author.Tests.{leb-true}
 use lib.Dec.{leb}
 use lib.ListN.{drop, getD, length}
-use Rattle.token.specs.declared.request.EndpointType.{EndpointType}
 use Rattle.token.specs.declared.request.EndpointType.the-variants.{Control}
 use Rattle.descriptor.specs.declared.qtd.QueueTransferDescriptor.{QueueTransferDescriptor}
 use Rattle.pool.specs.Chains.{blank}
@@ -20,14 +19,12 @@ use Rattle.request.specs.Submit.{bufferGood, controlGood, placesFor, rangesGood
 use Rattle.request.specs.declared.judge.TransferRequest.{TransferRequest}
 use Rattle.request.proofs.JudgeLaws.{Judged}
 use Rattle.request.proofs.SubmitLaws.{buffer-ends, places-needed}
-use Rattle.controller.specs.declared.lent.Readings.{Readings}
 use Rattle.ehci.specs.declared.call.Call.{Call}
 use Rattle.ehci.specs.declared.call.Call.the-variants.{Submit}
 use Rattle.ehci.specs.Door.{Applied}
 use Rattle.promises.specs.Runs.{History, Machine, Rows, Turn, World, rowsOf, turnOf}
 use Rattle.promises.specs.Coverage.{Covered, addressed, dataOf, recordsMet}
 use Rattle.promises.specs.Events.{Collects, Drains, Event, Other, Parts, Reads, Submits, Unlinks, event, leavesFrames, leavesRing, leaving, submitsBy}
-use Rattle.promises.specs.Walks.{chainWalk}
 use Rattle.promises.proofs.CoverBytes.{all-covered, recordsFrom}
 use Rattle.promises.proofs.Effects.{Accepts, Effect, still, hears, joins, passes, counts, opens, closes, rewrites, accepts, writes-back, marks, unlinks, collects}
 use Rattle.promises.proofs.Sound.{Sound}

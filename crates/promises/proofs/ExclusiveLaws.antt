@@ -1,7 +1,7 @@
 -- No place is in two uses, and of the records of uses a call changes only the token of the place that it writes back.
-use Prim.Native.Nat.{ℕ, zero, suc, _+_, _*_, _≤_, _<_}
+use Prim.Native.Nat.{ℕ, _+_, _<_}
 use mathlib.Core.Path.{_≡_, refl, sym, ap, subst, _∙_}
-use mathlib.Core.Logic.{_⊎_, inl, inr}
+use mathlib.Core.Logic.{inl, inr}
 use mathlib.Core.List.{List, [], _∷_, _++_}
 use native.Mathlib.Decide.{ℕ-discrete as decEq}
 use native.Mathlib.Omega.{arith}
@@ -16,7 +16,6 @@ use Rattle.pool.proofs.PlaceLaws.{places-ascend, places-hold, places-within}
 use Rattle.settings.specs.declared.settings.Settings.{Settings}
 use Rattle.request.proofs.SubmitLaws.{submit-records}
 use Rattle.ehci.specs.declared.call.Call.{Call}
-use Rattle.ehci.specs.declared.reply.Answered.{Answered}
 use Rattle.ehci.specs.Door.{Applied}
 use Rattle.ehci.specs.Replies.{answeredNumber}
 use Rattle.promises.specs.Runs.{History, Machine, Rows, Turn, World, rowsOf, turnOf}

@@ -10,6 +10,8 @@ pub mod Sound
 pub mod SoundKeeps
 pub mod IdleInv
 pub mod Reached
+pub mod Order
+pub mod RangeTheorems
 pub mod UseInv
 pub mod UseQuiet
 pub mod UseTenants

@@ -1,13 +1,11 @@
 -- Room is exact: what a submit answers, by the needs of the uses.
-use Prim.Native.Nat.{ℕ, _+_, _*_, _≤_, _<_}
+use Prim.Native.Nat.{ℕ, _+_, _≤_, _<_}
 use mathlib.Core.Path.{_≡_, refl, sym, ap, subst, _∙_}
 use mathlib.Core.Bool.{Bool, true, false, not}
-use mathlib.Core.List.{List, [], _∷_}
 use native.Mathlib.Omega.{arith}
 use borrow.Author.Tests.{ltb-false, ltb-true}
 use lib.Dec.{eqb, ltb}
 use lib.ListN.{length, take}
-use Rattle.token.specs.Chunks.{needOf}
 use Rattle.settings.specs.declared.settings.Settings.{Settings}
 use Rattle.settings.proofs.SettingsLaws.{both-makes}
 use Rattle.state.specs.Ranges.{inRanges}
@@ -29,7 +27,6 @@ use Rattle.controller.proofs.FreeLaws.{zeros-are}
 use Rattle.request.specs.Submit.{acceptedWith, answerOf, judgeOf, needOfRequest, rangesGood, refusedSubmit, settledSubmit, submitChecks, submitOf, submitted}
 use Rattle.request.specs.declared.judge.TransferRequest.{TransferRequest}
 use Rattle.request.proofs.JudgeLaws.{Judged, judge-tells}
-use Rattle.ehci.specs.declared.call.Call.{Call}
 use Rattle.ehci.specs.declared.call.Call.the-variants.{Submit}
 use Rattle.ehci.specs.Decides.{decideOf, submitDecided}
 use Rattle.ehci.specs.Door.{applyOf}

@@ -1,15 +1,14 @@
 -- An accepted submit: its use joins the others, and each has its own slot, places and records.
-use Prim.Native.Nat.{ℕ, zero, suc, _+_, _-_, _*_, _≤_, _<_}
+use Prim.Native.Nat.{ℕ, suc, _+_, _*_, _≤_, _<_}
 use mathlib.Core.Path.{_≡_, refl, sym, ap, subst, _∙_}
 use mathlib.Core.Logic.{_≢_}
 use mathlib.Core.Bool.{Bool, true, false, true≢false}
 use mathlib.Core.List.{List, [], _∷_, map}
 use native.Mathlib.Omega.{arith}
-use borrow.Author.Tests.{eqb-true}
 use lib.Dec.{eqb}
-use lib.ListN.{drop, getD, length, length-set, set, take}
+use lib.ListN.{drop, getD, length, set, take}
 use lib.Seq.{getD-set-other, getD-set-same, length-take-le, take-at}
-use Rattle.token.specs.Chunks.{chunkCount, ifEmpty, needOf}
+use Rattle.token.specs.Chunks.{ifEmpty, needOf}
 use Rattle.token.specs.declared.request.EndpointType.{EndpointType}
 use Rattle.token.specs.declared.request.EndpointType.the-variants.{Control, Isochronous, Bulk, Interrupt}
 use Rattle.token.proofs.ChunkLaws.{count-pos}
@@ -40,14 +39,14 @@ use Rattle.request.proofs.JudgeLaws.{Judged, free-le}
 use Rattle.request.proofs.SubmitLaws.{places-needed, submit-met, submit-others, submit-places, submit-records, submit-words}
 use Rattle.ehci.specs.declared.call.Call.{Call}
 use Rattle.ehci.specs.Door.{Applied}
-use Rattle.promises.specs.Runs.{History, Rows, World, leftBy, turnOf}
+use Rattle.promises.specs.Runs.{History, World, leftBy, turnOf}
 use Rattle.promises.specs.Events.{Submits}
 use Rattle.promises.specs.Uses.{Use, needs, uses}
 use Rattle.promises.specs.Walks.{chainWalk}
 use Rattle.promises.proofs.Effects.{Accepts}
 use Rattle.promises.proofs.Sound.{Sound}
-use Rattle.promises.specs.Rooms.{Every, untold}
-use Rattle.promises.proofs.UseInv.{Apart, Avoids, Held, HeldIn, Kept, Nobody, Tenant, Waits, all-counted, every-both, every-map, overlayNext, placesAt, tenantAt, tenantOf, vacant-avoids}
+use Rattle.promises.specs.Rooms.{untold}
+use Rattle.promises.proofs.UseInv.{Avoids, Held, HeldIn, Kept, Nobody, all-counted, every-both, every-map, overlayNext, placesAt, tenantAt, tenantOf, vacant-avoids}
 use Rattle.promises.proofs.UseQuiet.{met-along}
 use Rattle.promises.proofs.UseSteps.{uses-by}
 use Rattle.promises.proofs.UseTenants.{tenant-same}

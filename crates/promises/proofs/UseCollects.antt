@@ -1,21 +1,19 @@
 -- A collection: its use leaves the others, and its places are free.
-use Prim.Native.Nat.{ℕ, zero, suc, _+_, _-_, _*_, _≤_, _<_}
+use Prim.Native.Nat.{ℕ, _+_, _*_, _≤_, _<_}
 use mathlib.Core.Path.{_≡_, refl, sym, ap, subst, _∙_}
 use mathlib.Core.Logic.{_≢_}
-use mathlib.Core.Bool.{Bool, true, false, true≢false}
+use mathlib.Core.Bool.{false, true≢false}
 use mathlib.Core.List.{List, [], _∷_}
 use native.Mathlib.Decide.{ℕ-discrete as decEq}
 use native.Mathlib.Omega.{arith}
 use borrow.Author.Tests.{eq-eqb, ne-eqb}
-use lib.Dec.{eqb}
-use lib.ListN.{getD, length, take}
+use lib.ListN.{length, take}
 use lib.Seq.{length-take-le}
 use Rattle.descriptor.specs.declared.qtd.QueueTransferDescriptor.{QueueTransferDescriptor}
 use Rattle.pool.specs.Chains.{metFrom}
 use Rattle.pool.specs.Places.{clearOf, countOf, placesFrom}
 use Rattle.pool.specs.declared.chain.View.{View}
 use Rattle.pool.proofs.PlaceLaws.{clear-count}
-use Rattle.settings.specs.Tests.{both}
 use Rattle.settings.specs.declared.settings.Settings.{Settings}
 use Rattle.state.specs.Slots.{withSlot}
 use Rattle.state.specs.State.{withOwner}
@@ -30,7 +28,7 @@ use Rattle.pipe.proofs.EndpointLaws.{endpoint-other, owner-aside}
 use Rattle.controller.specs.Readers.{hasEndpoint}
 use Rattle.controller.proofs.ReaderLaws.{open-below, open-within}
 use Rattle.schedule.specs.Links.{endedOverlay}
-use Rattle.collection.specs.Calls.{finishOf, freed}
+use Rattle.collection.specs.Calls.{finishOf}
 use Rattle.collection.proofs.CollectLaws.{ended-others, finish-idle, finish-none, finish-others}
 use Rattle.collection.proofs.FreedLaws.{freed-front}
 use Rattle.ehci.specs.declared.call.Call.{Call}
@@ -41,7 +39,7 @@ use Rattle.promises.specs.Uses.{Use, isOf, needOfUse, needs, uses, witho
 use Rattle.promises.proofs.Effects.{Collected, withHeads}
 use Rattle.promises.proofs.Sound.{Sound}
 use Rattle.promises.specs.Rooms.{Every}
-use Rattle.promises.proofs.UseInv.{Apart, Avoids, Held, HeldIn, Kept, Nobody, Tenant, Waits, all-counted, every-map, overlayNext, placesAt, tenantAt, tenantOf, without-apart, without-avoids, without-every}
+use Rattle.promises.proofs.UseInv.{Apart, Avoids, Held, HeldIn, Kept, Nobody, Tenant, Waits, all-counted, overlayNext, tenantAt, tenantOf, without-apart, without-avoids, without-every}
 use Rattle.promises.proofs.UseSteps.{uses-by}
 
 -- a list without slot k's use is as it was where slot k has none

@@ -1,18 +1,16 @@
 -- The tie between uses and world holds of an opening, and every call keeps it.
-use Prim.Native.Nat.{ℕ, zero, suc, _+_, _≤_, _<_}
-use mathlib.Core.Path.{_≡_, refl, sym, ap, subst, _∙_}
+use Prim.Native.Nat.{ℕ, zero, suc, _+_}
+use mathlib.Core.Path.{_≡_, refl, sym, ap, subst}
 use mathlib.Core.Bool.{Bool, true, false}
-use mathlib.Core.List.{List, [], _∷_}
+use mathlib.Core.List.{[], _∷_}
 use native.Mathlib.Omega.{arith}
 use borrow.Author.Tests.{ltb-false, ltb-true, ne-eqb}
 use lib.Dec.{ltb}
-use lib.ListN.{length, replicate, take}
-use Rattle.pool.specs.Places.{countOf, placesFrom}
+use lib.ListN.{replicate, take}
+use Rattle.pool.specs.Places.{countOf}
 use Rattle.pool.proofs.PlaceLaws.{places-none}
 use Rattle.settings.specs.Settings.{settingsGood}
 use Rattle.settings.specs.declared.settings.Settings.{Settings}
-use Rattle.state.specs.Slots.{slotAt}
-use Rattle.state.specs.declared.state.Ehci.{Ehci}
 use Rattle.pipe.specs.Endpoints.{bareSlot, endpointAt}
 use Rattle.pipe.specs.declared.endpoint.Endpoint.the-variants.{Closed}
 use Rattle.pipe.proofs.EndpointCases.{at-none, at-slot, decode-closed}
@@ -27,7 +25,7 @@ use Rattle.promises.specs.Uses.{uses}
 use Rattle.promises.proofs.Effects.{Effect, still, hears, joins, passes, counts, opens, closes, rewrites, accepts as takes, writes-back, marks, unlinks, collects}
 use Rattle.promises.proofs.Reached.{freshRows, opening-is}
 use Rattle.promises.proofs.Sound.{Sound}
-use Rattle.promises.proofs.UseInv.{Held, HeldIn, Nobody, tenantAt, tenantOf}
+use Rattle.promises.proofs.UseInv.{Held, HeldIn, tenantOf}
 use Rattle.promises.proofs.UseSteps.{closes-held, counts-held, hears-held, joins-held, marks-held, opens-held, passes-held, rewrites-held, still-held, unlinks-held, writes-back-held}
 use Rattle.promises.proofs.UseAccepts.{accepts-held}
 use Rattle.promises.proofs.UseCollects.{collects-held}

@@ -1,20 +1,19 @@
 -- Calls that neither take nor free a place keep the tie between uses and world.
-use Prim.Native.Nat.{ℕ, zero, suc, _+_, _*_, _<_}
-use mathlib.Core.Path.{_≡_, refl, sym, ap, subst, _∙_}
+use Prim.Native.Nat.{ℕ, zero, suc, _+_}
+use mathlib.Core.Path.{_≡_, refl, sym, ap, _∙_}
 use mathlib.Core.Bool.{Bool, true, false}
-use mathlib.Core.List.{List, [], _∷_, map}
+use mathlib.Core.List.{List, [], _∷_}
 use lib.Dec.{eqb}
-use lib.ListN.{drop, getD, length, take}
+use lib.ListN.{getD, length, take}
 use Rattle.descriptor.specs.EhciQtd.{qtdAddress, terminate}
 use Rattle.descriptor.specs.declared.qtd.QueueTransferDescriptor.{QueueTransferDescriptor}
 use Rattle.pool.specs.Chains.{blank, metFrom, nextAt, placeOf}
-use Rattle.pool.specs.EhciChain.{follow, stopIf}
+use Rattle.pool.specs.EhciChain.{follow}
 use Rattle.pool.specs.Places.{Each, countOf, placesFrom}
-use Rattle.pool.specs.Transfers.{recordAt}
 use Rattle.settings.specs.declared.settings.Settings.{Settings}
 use Rattle.promises.specs.Uses.{Use, needs}
-use Rattle.promises.specs.Rooms.{Every, transferFor, untold}
-use Rattle.promises.proofs.UseInv.{Avoids, HeldBy, Kept, Nobody, Tenant, every-map, overlayNext, tenants-apart}
+use Rattle.promises.specs.Rooms.{untold}
+use Rattle.promises.proofs.UseInv.{HeldBy, Kept, Nobody, Tenant, every-map, overlayNext, tenants-apart}
 
 -- ---- a walk reads only the next words of the records that it meets
 

@@ -1,20 +1,20 @@
 -- Each kind of call that neither takes nor frees a place keeps the tie between uses and world.
 use Prim.Native.Nat.{ℕ, _+_, _*_, _≤_, _<_}
 use mathlib.Core.Path.{_≡_, refl, sym, ap, subst, _∙_}
-use mathlib.Core.Logic.{_≢_, _⊎_, ⊎-elim}
+use mathlib.Core.Logic.{⊎-elim}
 use mathlib.Core.Bool.{Bool, true, false, cond}
-use mathlib.Core.List.{List, [], _∷_}
+use mathlib.Core.List.{List, _∷_}
 use native.Mathlib.Decide.{ℕ-discrete as decEq}
 use native.Mathlib.Omega.{arith}
 use borrow.Author.Tests.{ltb-true}
-use lib.Dec.{eqb, ltb}
+use lib.Dec.{ltb}
 use lib.ListN.{getD, length, replicate, set, take}
 use lib.Seq.{getD-set-other, getD-set-same}
 use Rattle.token.specs.declared.request.EndpointType.{EndpointType}
 use Rattle.descriptor.specs.Descriptors.{terminated}
 use Rattle.descriptor.specs.Heads.{endpointHead, wordsOf}
 use Rattle.descriptor.specs.declared.qtd.QueueTransferDescriptor.{QueueTransferDescriptor}
-use Rattle.pool.specs.Chains.{blank, fillOf, withToken}
+use Rattle.pool.specs.Chains.{blank, withToken}
 use Rattle.pool.proofs.ChainLaws.{fill-token}
 use Rattle.settings.specs.declared.settings.Settings.{Settings}
 use Rattle.settings.proofs.SettingsLaws.{both-tells}
@@ -24,22 +24,19 @@ use Rattle.state.specs.declared.state.Ehci.{Ehci}
 use Rattle.pipe.specs.Endpoints.{endpointAt, withEndpoint}
 use Rattle.pipe.specs.declared.endpoint.Endpoint.{Endpoint}
 use Rattle.pipe.specs.declared.endpoint.Endpoint.the-variants.{Closed, Idle, Linked, Unlinking}
-use Rattle.pipe.specs.declared.endpoint.Pipe.{Pipe}
 use Rattle.pipe.specs.declared.endpoint.Request.{Request}
-use Rattle.pipe.proofs.EndpointLaws.{Wide, bell-wide}
+use Rattle.pipe.proofs.EndpointLaws.{bell-wide}
 use Rattle.controller.specs.Readers.{hasEndpoint}
-use Rattle.controller.specs.declared.lent.Readings.{Readings}
 use Rattle.controller.proofs.ReaderLaws.{open-below, open-within}
 use Rattle.opening.proofs.RowLaws.{Only, other-head, put-only}
 use Rattle.endpoint.specs.Calls.{newEndpoint, withHead}
-use Rattle.schedule.specs.Bell.{advancedOf, bellOf}
+use Rattle.schedule.specs.Bell.{bellOf}
 use Rattle.schedule.specs.Links.{detachOf, givenLink, linkWord, periodic, predecessorOf}
 use Rattle.schedule.specs.declared.links.Predecessor.{Predecessor}
 use Rattle.schedule.specs.declared.links.Predecessor.the-variants.{First, Head, Missing}
-use Rattle.request.specs.Writeback.{inRequest, ownerAt}
+use Rattle.request.specs.Writeback.{inRequest}
 use Rattle.collection.specs.Calls.{marked}
 use Rattle.collection.specs.Unlinks.{boundedOf, waitingOf}
-use Rattle.interrupt.specs.Interrupts.{withRung}
 use Rattle.ehci.specs.declared.call.Call.{Call}
 use Rattle.ehci.specs.Door.{Applied}
 use Rattle.promises.specs.Runs.{History, Rows, Turn, World, leftBy, rowsOf, turnOf}

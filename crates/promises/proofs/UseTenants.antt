@@ -11,12 +11,12 @@ use Rattle.slot.specs.declared.slot.Slot.{Slot}
 use Rattle.state.specs.Slots.{slotAt}
 use Rattle.state.specs.State.{withBell, withBoundaries, withOwner}
 use Rattle.state.specs.declared.state.Ehci.{Ehci}
-use Rattle.pipe.specs.Endpoints.{boundaryOf, decoded, encoded, endpointAt, pickEndpoint, pipeOf, requestOf, withEndpoint}
+use Rattle.pipe.specs.Endpoints.{decoded, encoded, endpointAt, withEndpoint}
 use Rattle.pipe.specs.declared.endpoint.Endpoint.{Endpoint}
 use Rattle.pipe.specs.declared.endpoint.Endpoint.the-variants.{Closed, Idle, Linked, Unlinking}
 use Rattle.pipe.proofs.EndpointLaws.{Wide, endpoint-other, kind-there, slot-same}
 use Rattle.promises.proofs.Effects.{Sides, besides}
-use Rattle.promises.proofs.UseInv.{Tenant, Nobody, Waits, tenantAt, tenantOf}
+use Rattle.promises.proofs.UseInv.{tenantAt, tenantOf}
 
 -- an endpoint that is encoded and decoded has the same tenant, whatever its boundary
 tenant-back : (x : Endpoint) → tenantOf (decoded (encoded x)) ≡ tenantOf x

@@ -16,8 +16,7 @@ use Rattle.request.specs.declared.judge.TransferRequest.{TransferRequest}
 use Rattle.ehci.specs.declared.call.Call.the-variants.{Submit}
 use Rattle.ehci.specs.declared.reply.Answered.the-variants.{Done}
 use Rattle.ehci.specs.declared.reply.Given.the-variants.{Id}
-use Rattle.promises.specs.Runs.{History, Machine, Rows, World, rowsOf}
-use Rattle.promises.specs.Rooms.{Always}
+use Rattle.promises.specs.Runs.{Always, History, Machine, Rows, World, rowsOf}
 use Rattle.promises.specs.Walks.{chainWalk}
 
 -- EHCI 3.5.3, 3.5.4: as many bytes as the token counts, each by the page words, with upper slots times 2^32

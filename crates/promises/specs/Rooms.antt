@@ -20,13 +20,9 @@ use Rattle.request.specs.declared.judge.TransferRequest.{TransferRequest}
 use Rattle.ehci.specs.declared.call.Call.{Call}
 use Rattle.ehci.specs.declared.call.Call.the-variants.{Submit, Writeback}
 use Rattle.ehci.specs.Replies.{answeredNumber}
-use Rattle.promises.specs.Runs.{History, Machine, Opening, Turn, World, historyOf, turnOf, worldOf}
+use Rattle.promises.specs.Runs.{Always, History, Machine, Turn, World, turnOf}
 use Rattle.promises.specs.Uses.{Use, needOfUse, needs, uses}
 use Rattle.promises.specs.Walks.{chainWalk}
-
--- in every world that any calls lead to from an accepted opening, of the calls so far
-abbrev pub Always : (Settings → History → World → Type 0) → Machine → Type 0
-Always P m = (s : Settings) (w : World) → Opening s w → (cs : List Call) → P s (historyOf m w cs) (worldOf m w cs)
 
 -- the number that a call answers
 abbrev pub numberAt : Machine → World → Call → ℕ
