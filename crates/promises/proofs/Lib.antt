@@ -1,2 +1,4 @@
 pub mod Effects
 pub mod Sound
+pub mod ChainLists
+pub mod WalkChains
