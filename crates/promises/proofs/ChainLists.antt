@@ -41,6 +41,13 @@ module _ (k : ℕ) where
       by (yes q) rest = inl (sym q)
       by (no ne) rest = inr (rest (rw (ne-eqb j k ne) at e))
 
+pub in-later : (i k : ℕ) (ks : List ℕ) → isIn i ks ≡ true → isIn i (k ∷ ks) ≡ true
+in-later i k ks e = by (eqb k i)
+  where
+    by : (b : Bool) → either b (isIn i ks) ≡ true
+    by true = refl
+    by false = e
+
 -- a slot's head is at the place after it
 pub in-places : (k : ℕ) (ks : List ℕ) → isIn (k + 1) (map (λ (j : ℕ). j + 1) ks) ≡ isIn k ks
 in-places k [] = refl

@@ -1,33 +1,24 @@
 -- A chain of links, walked as the controller walks it.
 use Prim.Native.Nat.{ℕ, zero, suc, _+_, _*_, _-_, _/_, _%_, _^_, _≤_, _<_}
 use mathlib.Core.Path.{_≡_, refl, sym, ap, _∙_}
-use mathlib.Core.Bool.{Bool, true, false}
+use mathlib.Core.Bool.{true}
 use mathlib.Core.List.{List, [], _∷_, _++_, append-nil, map}
 use native.Mathlib.Omega.{arith}
 use borrow.Author.Tests.{eq-eqb, ne-eqb}
-use lib.Dec.{eqb}
 use lib.ListN.{getD, length}
 use Rattle.descriptor.specs.EhciQueueHead.{linkAddress, linkTerminate}
 use Rattle.descriptor.specs.Heads.{qhLink}
-use Rattle.settings.specs.Tests.{either}
 use Rattle.settings.specs.declared.settings.Settings.{Settings}
 use Rattle.settings.proofs.SettingsLaws.{Good}
 use Rattle.state.specs.declared.state.Ehci.{Ehci}
 use Rattle.schedule.specs.Links.{slotLink}
 use Rattle.schedule.specs.Walks.{Chain}
 use Rattle.promises.specs.Walks.{endIf, headPlace, isIn, walkFrom}
-use Rattle.promises.proofs.ChainLists.{in-same}
+use Rattle.promises.proofs.ChainLists.{in-later, in-same}
 
 -- the places of slots' heads
 abbrev pub placesOf : List ℕ → List ℕ
 placesOf ks = map (λ (k : ℕ). k + 1) ks
-
-in-later : (i k : ℕ) (ks : List ℕ) → isIn i ks ≡ true → isIn i (k ∷ ks) ≡ true
-in-later i k ks e = by (eqb k i)
-  where
-    by : (b : Bool) → either b (isIn i ks) ≡ true
-    by true = refl
-    by false = e
 
 -- the address in a link word
 link-even : (h k : ℕ) → h % 128 ≡ 0 → qhLink (h + 128 * k) ≡ h + 128 * k + 2
