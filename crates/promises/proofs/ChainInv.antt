@@ -6,7 +6,7 @@ use mathlib.Core.List.{List, [], _∷_}
 use native.Mathlib.Decide.{ℕ-discrete as decEq}
 use native.Mathlib.Omega.{arith}
 use borrow.Author.Tests.{eq-eqb, le-ltb, lt-ltb, ne-eqb}
-use lib.Dec.{eqb}
+use lib.Dec.{eqb, ltb}
 use lib.ListN.{getD, length, List·getD-eq-default}
 use Rattle.settings.specs.Tests.{both}
 use Rattle.settings.specs.declared.settings.Settings.{Settings}
@@ -16,7 +16,7 @@ use Rattle.slot.proofs.SlotLaws.{Phase, slot-tells}
 use Rattle.state.specs.Slots.{slotAt}
 use Rattle.state.specs.declared.state.Ehci.{Ehci}
 use Rattle.state.proofs.RangesLaws.{Ranges}
-use Rattle.pipe.specs.Endpoints.{decoded, encoded, endpointAt, kindOf, withEndpoint}
+use Rattle.pipe.specs.Endpoints.{decoded, encoded, endpointAt, kindOf, pickEndpoint, withEndpoint}
 use Rattle.pipe.specs.Kinds.{isInterrupt}
 use Rattle.pipe.specs.declared.endpoint.Endpoint.{Endpoint}
 use Rattle.pipe.specs.declared.endpoint.Endpoint.the-variants.{Closed, Idle, Linked, Unlinking}
@@ -65,12 +65,32 @@ interrupt-is n h = by (decEq n 0) (decEq n 1) (decEq n 2)
     by (no a) (no b) (yes e) = rw e
     by (no a) (no b) (no c) = rw (ne-eqb n 0 a, ne-eqb n 1 b, ne-eqb n 2 c) (sym (eq-eqb n 3 (omega arith)))
 
-decoded-linked : (b : Bool) (u : ℕ) (e : Slot) → Phase e u → linkedIn b (decoded e) ≡ both (eqb (e .phase) 2) (same b (eqb (e .kind) 3))
+decoded-linked : (b : Bool) (e : Slot) → linkedIn b (decoded e) ≡ both (eqb (e .phase) 2) (same b (isInterrupt (kindOf (e .kind))))
 unfolding decoded
-decoded-linked b u e (Phase.closed p _ _ _) = rw p
-decoded-linked b u e (Phase.idle p _ _) = rw p
-decoded-linked b u e (Phase.linked p o _ _ _ _) = rw (p, interrupt-is (e .kind) (o .most))
-decoded-linked b u e (Phase.unlinking p _ _ _ _ _) = rw p
+decoded-linked b e = by (decEq (e .phase) 1) (decEq (e .phase) 2) (decEq (e .phase) 3)
+  where
+    by : Dec (e .phase ≡ 1) → Dec (e .phase ≡ 2) → Dec (e .phase ≡ 3)
+        → linkedIn b (decoded e) ≡ both (eqb (e .phase) 2) (same b (isInterrupt (kindOf (e .kind))))
+    by (yes p) two three = rw p
+    by (no m) (yes p) three = rw p
+    by (no m) (no n) (yes p) = rw p
+    by (no m) (no n) (no o) = rw (ne-eqb (e .phase) 1 m, ne-eqb (e .phase) 2 n, ne-eqb (e .phase) 3 o)
+
+-- it goes by the phases and the kinds alone
+pub linked-fields : (b : Bool) (s t : Ehci) (k : ℕ) → t .phases ≡ s .phases → t .kinds ≡ s .kinds
+    → linkedIn b (endpointAt t k) ≡ linkedIn b (endpointAt s k)
+unfolding endpointAt slotAt
+linked-fields b s t k p q = by (ltb k 32)
+  where
+    by : (c : Bool) → linkedIn b (pickEndpoint c (decoded (slotAt t k)) Closed) ≡ linkedIn b (pickEndpoint c (decoded (slotAt s k)) Closed)
+    by true = decoded-linked b (slotAt t k) ∙ rw (p, q) (sym (decoded-linked b (slotAt s k)))
+    by false = refl
+
+open-most : (u : ℕ) (e : Slot) → Phase e u → e .kind ≤ 3
+open-most u e (Phase.closed _ k _ _) = omega arith
+open-most u e (Phase.idle _ o _) = o .most
+open-most u e (Phase.linked _ o _ _ _ _) = o .most
+open-most u e (Phase.unlinking _ o _ _ _ _) = o .most
 
 module _ (s : Ehci) (r : Ranges s) (w : Wide s) where
   pub linked-by : (b : Bool) (k : ℕ)
@@ -82,7 +102,9 @@ module _ (s : Ehci) (r : Ranges s) (w : Wide s) where
       by (yes q) =
           let low : k < 32 = omega arith in
           rw (lt-ltb k 32 low)
-          (decoded-linked b (s .unanswered) (slotAt s k) (slot-tells (s .settings .endpoints) k (s .unanswered) (slotAt s k) (r .slots k low) .by-phase))
+          (decoded-linked b (slotAt s k)
+          ∙ rw (interrupt-is (getD (s .kinds) k 0)
+            (open-most (s .unanswered) (slotAt s k) (slot-tells (s .settings .endpoints) k (s .unanswered) (slotAt s k) (r .slots k low) .by-phase))))
       by (no ne) =
           let high : 32 ≤ k = omega arith in
           rw (le-ltb k 32 high, List·getD-eq-default (s .phases) 0 {n = k} (omega (arith, w .phases-wide)))

@@ -5,3 +5,6 @@ pub mod WalkChains
 pub mod ChainInv
 pub mod ChainDetach
 pub mod ChainEvents
+pub mod ChainSteps
+pub mod ChainLinks
+pub mod ChainKeeps
