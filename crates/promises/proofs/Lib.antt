@@ -1,5 +1,14 @@
 pub mod Effects
+pub mod EffectDoor
+pub mod EffectMachine
+pub mod EffectRanges
+pub mod EffectInterrupts
+pub mod EffectEndpoints
+pub mod EffectRequests
+pub mod EffectOf
 pub mod Sound
+pub mod SoundKeeps
+pub mod Reached
 pub mod ChainLists
 pub mod WalkChains
 pub mod ChainInv
