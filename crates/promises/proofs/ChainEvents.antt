@@ -25,10 +25,11 @@ use Rattle.promises.specs.Runs.{History, Rows, Turn, World, rowsOf, turn
 use Rattle.promises.specs.Walks.{frameWalk, isIn, ringWalk}
 use Rattle.promises.specs.Events.{Event, Other, Parts, Unlinks, event, leaving, leavesFrames, leavesRing}
 use Rattle.promises.specs.Uses.{frameSlots, remove, ringSlots}
+use Rattle.promises.specs.Chains.{placesOf}
 use Rattle.promises.proofs.Effects.{Unlinked, withLinks}
 use Rattle.promises.proofs.Sound.{Sound}
 use Rattle.promises.proofs.ChainLists.{distinct-remove, few, in-append, in-places, in-remove}
-use Rattle.promises.proofs.WalkChains.{placesOf, walk-frames, walk-ring}
+use Rattle.promises.proofs.WalkChains.{walk-frames, walk-ring}
 use Rattle.promises.proofs.ChainInv.{Chained, Schedule, Schedules, linked-within, linkedIn}
 use Rattle.promises.proofs.ChainDetach.{Parted, frames-parted, ring-parted}
 

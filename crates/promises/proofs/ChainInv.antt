@@ -104,7 +104,7 @@ module _ (s : Ehci) (r : Ranges s) (w : Wide s) where
           rw (lt-ltb k 32 low)
           (decoded-linked b (slotAt s k)
           ∙ rw (interrupt-is (getD (s .kinds) k 0)
-            (open-most (s .unanswered) (slotAt s k) (slot-tells (s .settings .endpoints) k (s .unanswered) (slotAt s k) (r .slots k low) .by-phase))))
+          (open-most (s .unanswered) (slotAt s k) (slot-tells (s .settings .endpoints) k (s .unanswered) (slotAt s k) (r .slots k low) .by-phase))))
       by (no ne) =
           let high : 32 ≤ k = omega arith in
           rw (le-ltb k 32 high, List·getD-eq-default (s .phases) 0 {n = k} (omega (arith, w .phases-wide)))

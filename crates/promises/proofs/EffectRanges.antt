@@ -210,6 +210,6 @@ counted-keeps s command some r =
       owned = r .owned;
       unowned = r .unowned;
       slots = λ k h.
-      rw (b .1, fallen-at 0 32 k (s .phases) (s .kinds) (s .boundaries) h, zero-add k)
-      (slot-falls (slotAt s k) (s .unanswered) u (s .settings .endpoints) k (r .slots k h));
+          rw (b .1, fallen-at 0 32 k (s .phases) (s .kinds) (s .boundaries) h, zero-add k)
+          (slot-falls (slotAt s k) (s .unanswered) u (s .settings .endpoints) k (r .slots k h));
     }

@@ -17,3 +17,4 @@ pub mod ChainEvents
 pub mod ChainSteps
 pub mod ChainLinks
 pub mod ChainKeeps
+pub mod ChainRuns

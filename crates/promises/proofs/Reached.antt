@@ -94,8 +94,7 @@ module _ (Inv : Settings → History → World → Type 0) (begins : (s : Settin
   reached s w o [] = (sound-opens s w o, begins s w o)
   reached s w o (c ∷ cs) =
       let before = reached s w o cs in
-      let now = worldOf core w cs in
-      (
+      let now = worldOf core w cs in (
         sound-keeps s now c (core now c) (before .0) (effect now c),
         keeps s (historyOf core w cs) now c (core now c) (before .0) (before .1) (effect now c),
       )

@@ -2,7 +2,7 @@
 use Prim.Native.Nat.{ℕ, zero, suc, _+_, _*_, _-_, _/_, _%_, _^_, _≤_, _<_}
 use mathlib.Core.Path.{_≡_, refl, sym, ap, _∙_}
 use mathlib.Core.Bool.{true}
-use mathlib.Core.List.{List, [], _∷_, _++_, append-nil, map}
+use mathlib.Core.List.{List, [], _∷_, _++_, append-nil}
 use native.Mathlib.Omega.{arith}
 use borrow.Author.Tests.{eq-eqb, ne-eqb}
 use lib.ListN.{getD, length}
@@ -14,11 +14,8 @@ use Rattle.state.specs.declared.state.Ehci.{Ehci}
 use Rattle.schedule.specs.Links.{slotLink}
 use Rattle.schedule.specs.Walks.{Chain}
 use Rattle.promises.specs.Walks.{endIf, headPlace, isIn, walkFrom}
+use Rattle.promises.specs.Chains.{placesOf}
 use Rattle.promises.proofs.ChainLists.{in-later, in-same}
-
--- the places of slots' heads
-abbrev pub placesOf : List ℕ → List ℕ
-placesOf ks = map (λ (k : ℕ). k + 1) ks
 
 -- the address in a link word
 link-even : (h k : ℕ) → h % 128 ≡ 0 → qhLink (h + 128 * k) ≡ h + 128 * k + 2
