@@ -29,7 +29,7 @@ use Rattle.promises.specs.Uses.{remove}
 use Rattle.promises.proofs.ChainLists.{Neighbours, Stands, elsewhere, first, in-append, in-same, later, neighbours, remove-first, remove-later, stands}
 use Rattle.promises.proofs.ChainInv.{Schedule, Schedules, chain-stays, linked-by, linked-within, linkedIn}
 
-same-is : (b c : Bool) → same b c ≡ true → c ≡ b
+pub same-is : (b c : Bool) → same b c ≡ true → c ≡ b
 same-is true c e = e
 same-is false c e = not-true c e
 

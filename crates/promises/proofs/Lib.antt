@@ -18,3 +18,5 @@ pub mod ChainSteps
 pub mod ChainLinks
 pub mod ChainKeeps
 pub mod ChainRuns
+pub mod ChainIds
+pub mod ChainCancels
