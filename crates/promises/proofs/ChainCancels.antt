@@ -4,9 +4,12 @@ use mathlib.Core.Path.{_≡_, refl, sym, ap, subst, _∙_}
 use mathlib.Core.Bool.{Bool, true, false, not, cond}
 use mathlib.Core.List.{List, [], _∷_}
 use mathlib.Core.Logic.{inr}
+use native.Mathlib.Decide.{ℕ-discrete as decEq}
 use borrow.Author.Tests.{eq-eqb, lt-leb}
 use lib.Dec.{eqb, leb}
 use lib.ListN.{length}
+use Rattle.settings.specs.Tests.{either}
+use Rattle.pool.specs.declared.chain.View.{View}
 use Rattle.pool.proofs.ChainLaws.{fill-no-chain}
 use Rattle.settings.specs.declared.settings.Settings.{Settings}
 use Rattle.settings.proofs.Every.{false-true}
@@ -23,20 +26,21 @@ use Rattle.opening.proofs.OpenLaws.{Fitting, rows-make}
 use Rattle.controller.specs.Lent.{acceptsOf, lengths}
 use Rattle.controller.specs.declared.lent.Readings.{Readings}
 use Rattle.schedule.specs.Links.{detachOf, predecessorOf, same}
-use Rattle.collection.specs.Calls.{cancelOf, marked}
+use Rattle.collection.specs.Calls.{cancelOf, collectOf, marked}
 use Rattle.collection.specs.Unlinks.{Left, isMissing, unlinkOf, waitingOf}
+use Rattle.collection.proofs.CallLaws.{collect-active, collect-unlinks}
 use Rattle.ehci.specs.declared.call.Call.{Call}
-use Rattle.ehci.specs.declared.call.Call.the-variants.{Cancel}
-use Rattle.ehci.specs.declared.reply.Answered.the-variants.{Done}
+use Rattle.ehci.specs.declared.call.Call.the-variants.{Cancel, Collect}
+use Rattle.ehci.specs.declared.reply.Answered.the-variants.{Done, Pending}
 use Rattle.ehci.specs.declared.reply.Given.the-variants.{Nothing}
-use Rattle.ehci.specs.Decides.{cancelCame, cancelDecided, decideOf, withSetups}
-use Rattle.ehci.specs.Door.{Applied, applyOf, carriedOut}
-use Rattle.ehci.specs.Replies.{replied}
+use Rattle.ehci.specs.Decides.{asksOf, cancelCame, cancelDecided, collectDecided, decideOf, withSetups}
+use Rattle.ehci.specs.Door.{Applied, applyOf, carriedOut, seenBy}
+use Rattle.ehci.specs.Replies.{collectedAnswer, replied}
 use Rattle.promises.specs.Runs.{History, Opening, World, core, historyOf, rowsOf, turnOf, worldOf}
 use Rattle.promises.specs.Walks.{isIn}
 use Rattle.promises.specs.Events.{Event, Parts, Unlinks, event}
 use Rattle.promises.specs.Uses.{frameSlots, ringSlots}
-use Rattle.promises.specs.Chains.{CancelUnlinks, ChainsHold, newestId}
+use Rattle.promises.specs.Chains.{CancelUnlinks, ChainsHold, CollectWaits, newestId}
 use Rattle.promises.proofs.Effects.{Unlinked, withLinks}
 use Rattle.promises.proofs.EffectDoor.{rows-kept}
 use Rattle.promises.proofs.Sound.{Sound}
@@ -132,6 +136,26 @@ module _ (s : Settings) (h : History) (w : World) (sound : Sound s w) (x : Chain
     unfolding cancel-unlinked
     cancel-unlinks = (cancel-done, unlink-event s h w (Cancel k (r .id) rd) (core w (Cancel k (r .id) rd)) sound x cancel-unlinked)
 
+    -- a collect finds the request finished or not: 9
+    collect-pends : (v : View)
+        → collectedAnswer (collectOf (w .state) (length (w .rows .pool)) (w .rows .heads) (w .rows .frames) (length (w .rows .setups)) rd v k (r .id) .came .answer) ≡ Pending
+    unfolding unlinkOf waitingOf
+    collect-pends v = by (decEq (v .stage) 2)
+      where
+        by : Dec (v .stage ≡ 2)
+            → collectedAnswer (collectOf (w .state) (length (w .rows .pool)) (w .rows .heads) (w .rows .frames) (length (w .rows .setups)) rd v k (r .id) .came .answer) ≡ Pending
+        by (yes q) =
+            rw (collect-active (w .state) (length (w .rows .pool)) (w .rows .heads) (w .rows .frames) (length (w .rows .setups)) rd v k p r accepted e roomy q) refl
+        by (no n) =
+            rw (
+              collect-unlinks (w .state) (length (w .rows .pool)) (w .rows .heads) (w .rows .frames) (length (w .rows .setups)) rd v k p r accepted e roomy n,
+              no-detach-fails p r e,
+            ) refl
+
+    pub collect-waits : core w (Collect k (r .id) rd) .reply .answer ≡ Pending
+    unfolding applyOf decideOf collectDecided replied
+    collect-waits = rw fits (collect-pends (seenBy (asksOf (w .state) (length (w .rows .pool)) (Collect k (r .id) rd)) (w .rows .pool)))
+
 -- ---- of every world of a run, where a linked slot leaves room for one more unlink
 
 -- with a slot linked, fewer than 32 unlinks are unanswered
@@ -164,6 +188,16 @@ module _ (roomy : Roomy) (s : Settings) (w : World) (o : Opening s w) (cs : List
       (subst (λ (i : Bool). Comes (l .r .id) (cond i (Parts k (rd .frame)) (Unlinks k))) kind
       (cancel-unlinks s past now (x .0) (x .1) k rd (l .p) (l .r) (l .is) (roomy s w o cs k (l .p) (l .r) (l .is))))
 
+  pends-with : LinkedAt (now .state) k → core now (Collect k (newestId s k past) rd) .reply .answer ≡ Pending
+  pends-with l =
+      let x = chained s w o cs in
+      let id : newestId s k past ≡ l .r .id = rw (l .is) at (named s w o cs .1 k) in
+      subst (λ (n : ℕ). core now (Collect k n rd) .reply .answer ≡ Pending) (sym id)
+      (collect-waits s past now (x .0) (x .1) k rd (l .p) (l .r) (l .is) (roomy s w o cs k (l .p) (l .r) (l .is)))
+
+  pends : (b : Bool) → linkedIn b (endpointAt (now .state) k) ≡ true → core now (Collect k (newestId s k past) rd) .reply .answer ≡ Pending
+  pends b e = pends-with (linked-with b (now .state) k (endpointAt (now .state) k) refl e)
+
   comes : (b : Bool) → linkedIn b (endpointAt (now .state) k) ≡ true → Comes (newestId s k past) (cond b (Parts k (rd .frame)) (Unlinks k))
   comes b e = comes-with b e (linked-with b (now .state) k (endpointAt (now .state) k) refl e)
 
@@ -174,5 +208,16 @@ cancels-unlink roomy s w o cs k rd =
       (λ e. comes roomy s w o cs k rd true (sym (x .periodic .members k) ∙ e)),
     )
 
+pub collects-wait : Roomy → CollectWaits core
+collects-wait roomy s w o cs k rd e = by (isIn k (ringSlots s before)) refl e
+  where
+    before : History
+    before = historyOf core w cs
+
+    by : (b : Bool) → isIn k (ringSlots s before) ≡ b → either b (isIn k (frameSlots s before)) ≡ true
+        → core (worldOf core w cs) (Collect k (newestId s k before) rd) .reply .answer ≡ Pending
+    by true q m = pends roomy s w o cs k rd false (sym (chained s w o cs .1 .ring .members k) ∙ q)
+    by false q m = pends roomy s w o cs k rd true (sym (chained s w o cs .1 .periodic .members k) ∙ m)
+
 pub chains-hold : Roomy → ChainsHold core
-chains-hold roomy = record { ring = ring-is; frames = frames-are; detach = cancels-unlink roomy }
+chains-hold roomy = record { ring = ring-is; frames = frames-are; cancels = cancels-unlink roomy; collects = collects-wait roomy }

@@ -4,11 +4,12 @@ use mathlib.Core.Bool.{Bool, true, false, cond}
 use mathlib.Core.List.{List, [], _∷_, _++_, map}
 use mathlib.Core.Path.{_≡_}
 use lib.Dec.{eqb}
+use Rattle.settings.specs.Tests.{either}
 use Rattle.settings.specs.declared.settings.Settings.{Settings}
 use Rattle.controller.specs.declared.lent.Readings.{Readings}
 use Rattle.ehci.specs.declared.call.Call.{Call}
-use Rattle.ehci.specs.declared.call.Call.the-variants.{Cancel}
-use Rattle.ehci.specs.declared.reply.Answered.the-variants.{Done}
+use Rattle.ehci.specs.declared.call.Call.the-variants.{Cancel, Collect}
+use Rattle.ehci.specs.declared.reply.Answered.the-variants.{Done, Pending}
 use Rattle.ehci.specs.declared.reply.Given.the-variants.{Nothing}
 use Rattle.promises.specs.Runs.{History, Machine, Opening, Turn, World, historyOf, turnOf, worldOf}
 use Rattle.promises.specs.Walks.{frameWalk, isIn, ringWalk}
@@ -46,22 +47,34 @@ module _ (m : Machine) where
       (s : Settings) (w : World) → Opening s w → (cs : List Call) (f : ℕ) → f < 1024
       → frameWalk s (worldOf m w cs .rows) f ≡ placesOf (frameSlots s (historyOf m w cs))
 
-  -- a cancel of slot k's newest request, after those calls
-  abbrev pub cancelTurn : Settings → World → List Call → ℕ → Readings → Turn
-  cancelTurn s w cs k readings =
-      turnOf (worldOf m w cs .rows) (Cancel k (newestId s k (historyOf m w cs)) readings)
-      (m (worldOf m w cs) (Cancel k (newestId s k (historyOf m w cs)) readings))
+  -- one more call after those
+  abbrev pub turnAfter : World → List Call → Call → Turn
+  turnAfter w cs c = turnOf (worldOf m w cs .rows) c (m (worldOf m w cs) c)
+
+  -- slot k's newest request, after those calls
+  abbrev pub newest : Settings → World → List Call → ℕ → ℕ
+  newest s w cs k = newestId s k (historyOf m w cs)
 
   -- no detach fails: a cancel of a linked request is done, and its head leaves its schedule
   abbrev pub CancelUnlinks : Type 0
   CancelUnlinks =
       (s : Settings) (w : World) → Opening s w → (cs : List Call) (k : ℕ) (readings : Readings)
       → (isIn k (ringSlots s (historyOf m w cs)) ≡ true
-      → (cancelTurn s w cs k readings .answer ≡ Done Nothing) × (event s (cancelTurn s w cs k readings) ≡ Unlinks k))
+      → (turnAfter w cs (Cancel k (newest s w cs k) readings) .answer ≡ Done Nothing)
+      × (event s (turnAfter w cs (Cancel k (newest s w cs k) readings)) ≡ Unlinks k))
       × (isIn k (frameSlots s (historyOf m w cs)) ≡ true
-      → (cancelTurn s w cs k readings .answer ≡ Done Nothing) × (event s (cancelTurn s w cs k readings) ≡ Parts k (readings .frame)))
+      → (turnAfter w cs (Cancel k (newest s w cs k) readings) .answer ≡ Done Nothing)
+      × (event s (turnAfter w cs (Cancel k (newest s w cs k) readings)) ≡ Parts k (readings .frame)))
+
+  -- and a collect of a linked request, which unlinks it if it is finished, answers 9
+  abbrev pub CollectWaits : Type 0
+  CollectWaits =
+      (s : Settings) (w : World) → Opening s w → (cs : List Call) (k : ℕ) (readings : Readings)
+      → either (isIn k (ringSlots s (historyOf m w cs))) (isIn k (frameSlots s (historyOf m w cs))) ≡ true
+      → turnAfter w cs (Collect k (newest s w cs k) readings) .answer ≡ Pending
 
 pub record ChainsHold (m : Machine) : Type 0 where
   pub ring : RingIs m
   pub frames : FramesAre m
-  pub detach : CancelUnlinks m
+  pub cancels : CancelUnlinks m
+  pub collects : CollectWaits m
