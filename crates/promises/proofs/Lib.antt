@@ -24,3 +24,14 @@ pub mod ExclusiveLaws
 pub mod CoverBytes
 pub mod CoverHolds
 pub mod RoomPromises
+pub mod ChainLists
+pub mod WalkChains
+pub mod ChainInv
+pub mod ChainDetach
+pub mod ChainEvents
+pub mod ChainSteps
+pub mod ChainLinks
+pub mod ChainKeeps
+pub mod ChainRuns
+pub mod ChainIds
+pub mod ChainCancels
