@@ -11,7 +11,6 @@ pub mod SoundKeeps
 pub mod IdleInv
 pub mod Reached
 pub mod Order
-pub mod RangeTheorems
 pub mod UseInv
 pub mod UseQuiet
 pub mod UseTenants
@@ -24,6 +23,7 @@ pub mod ExclusiveLaws
 pub mod CoverBytes
 pub mod CoverHolds
 pub mod RoomPromises
+pub mod RangeTheorems
 pub mod ChainLists
 pub mod WalkChains
 pub mod ChainInv
