@@ -24,3 +24,4 @@ pub mod ExclusiveLaws
 pub mod CoverBytes
 pub mod CoverHolds
 pub mod RoomPromises
+pub mod RoomWrong
