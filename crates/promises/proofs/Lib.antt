@@ -11,7 +11,6 @@ pub mod SoundKeeps
 pub mod IdleInv
 pub mod Reached
 pub mod Order
-pub mod RangeTheorems
 pub mod UseInv
 pub mod UseQuiet
 pub mod UseTenants
@@ -25,3 +24,15 @@ pub mod CoverBytes
 pub mod CoverHolds
 pub mod RoomPromises
 pub mod RoomWrong
+pub mod RangeTheorems
+pub mod ChainLists
+pub mod WalkChains
+pub mod ChainInv
+pub mod ChainDetach
+pub mod ChainEvents
+pub mod ChainSteps
+pub mod ChainLinks
+pub mod ChainKeeps
+pub mod ChainRuns
+pub mod ChainIds
+pub mod ChainCancels

@@ -1,12 +1,11 @@
 -- Wrong machines, of which room, exclusive places and coverage are refuted. Each takes descriptors for a request and writes its chain, with
 -- no checks and no schedule, in a controller with two descriptors; `plain` does it right, and on the same calls its uses are as they should be.
-use Prim.Native.Nat.{ℕ, _+_, _-_, _*_, _<_}
-use mathlib.Core.Path.{_≡_, refl, sym, ap, _∙_}
-use mathlib.Core.Bool.{Bool, true, false}
-use mathlib.Core.List.{List, [], _∷_, _++_, map}
+use Prim.Native.Nat.{ℕ, _+_, _-_}
+use mathlib.Core.Path.{_≡_, refl, sym, ap}
+use mathlib.Core.Bool.{true}
+use mathlib.Core.List.{List, [], _∷_}
 use native.Mathlib.Omega.{arith}
-use lib.Dec.{eqb, leb, ltb}
-use lib.ListN.{drop, getD, length, replicate, set, take}
+use lib.ListN.{length, replicate, set}
 use Rattle.register.specs.Writes.{noWrites}
 use Rattle.token.specs.Chunks.{chunkCount, needOf}
 use Rattle.token.specs.Tokens.{tokenOf}
@@ -15,8 +14,7 @@ use Rattle.token.specs.declared.request.EndpointType.the-variants.{Bulk}
 use Rattle.descriptor.specs.Descriptors.{newQtd, terminated, withNext}
 use Rattle.descriptor.specs.Heads.{ringHead}
 use Rattle.descriptor.specs.Slots.{pageSlots}
-use Rattle.descriptor.specs.declared.qtd.QueueTransferDescriptor.{QueueTransferDescriptor}
-use Rattle.pool.specs.Chains.{blank, fillOf, filledFrom, metFrom}
+use Rattle.pool.specs.Chains.{fillOf, filledFrom, metFrom}
 use Rattle.pool.specs.EhciChain.{follow}
 use Rattle.pool.specs.Places.{listOf, markOf, packed, placesFrom, upFrom}
 use Rattle.pool.specs.Transfers.{bareAt, chunkQtd, recordAt}

@@ -7,3 +7,4 @@ pub mod Checks
 pub mod Ranges
 pub mod Rooms
 pub mod Coverage
+pub mod Chains
