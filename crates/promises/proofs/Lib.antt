@@ -20,3 +20,4 @@ pub mod ChainKeeps
 pub mod ChainRuns
 pub mod ChainIds
 pub mod ChainCancels
+pub mod WrongChains
