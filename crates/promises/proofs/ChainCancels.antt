@@ -1,20 +1,18 @@
 -- No detach fails: a linked head is found, and a cancel of its request unlinks it.
-use Prim.Native.Nat.{ℕ, _+_, _*_, _≤_, _<_}
+use Prim.Native.Nat.{ℕ, _+_, _*_, _<_}
 use mathlib.Core.Path.{_≡_, refl, sym, ap, subst, _∙_}
-use mathlib.Core.Bool.{Bool, true, false, not, cond}
-use mathlib.Core.List.{List, [], _∷_}
+use mathlib.Core.Bool.{Bool, true, false, cond}
+use mathlib.Core.List.{List}
 use mathlib.Core.Logic.{inr}
 use native.Mathlib.Decide.{ℕ-discrete as decEq}
 use borrow.Author.Tests.{eq-eqb, lt-leb}
-use lib.Dec.{eqb, leb}
 use lib.ListN.{length}
 use Rattle.settings.specs.Tests.{either}
 use Rattle.pool.specs.declared.chain.View.{View}
-use Rattle.pool.proofs.ChainLaws.{fill-no-chain}
 use Rattle.settings.specs.declared.settings.Settings.{Settings}
 use Rattle.settings.proofs.Every.{false-true}
 use Rattle.state.specs.declared.state.Ehci.{Ehci}
-use Rattle.state.proofs.RangesLaws.{Ranges, ranges-make}
+use Rattle.state.proofs.RangesLaws.{ranges-make}
 use Rattle.pipe.specs.Endpoints.{endpointAt}
 use Rattle.pipe.specs.Kinds.{isInterrupt}
 use Rattle.pipe.specs.declared.endpoint.Endpoint.{Endpoint}
@@ -22,10 +20,10 @@ use Rattle.pipe.specs.declared.endpoint.Endpoint.the-variants.{Closed, Idle, Li
 use Rattle.pipe.specs.declared.endpoint.Pipe.{Pipe}
 use Rattle.pipe.specs.declared.endpoint.Request.{Request}
 use Rattle.opening.specs.Opening.{rowsFit}
-use Rattle.opening.proofs.OpenLaws.{Fitting, rows-make}
+use Rattle.opening.proofs.OpenLaws.{rows-make}
 use Rattle.controller.specs.Lent.{acceptsOf, lengths}
 use Rattle.controller.specs.declared.lent.Readings.{Readings}
-use Rattle.schedule.specs.Links.{detachOf, predecessorOf, same}
+use Rattle.schedule.specs.Links.{detachOf, same}
 use Rattle.collection.specs.Calls.{cancelOf, collectOf, marked}
 use Rattle.collection.specs.Unlinks.{Left, isMissing, unlinkOf, waitingOf}
 use Rattle.collection.proofs.CallLaws.{collect-active, collect-unlinks}
@@ -41,7 +39,7 @@ use Rattle.promises.specs.Walks.{isIn}
 use Rattle.promises.specs.Events.{Event, Parts, Unlinks, event}
 use Rattle.promises.specs.Uses.{frameSlots, ringSlots}
 use Rattle.promises.specs.Chains.{CancelUnlinks, ChainsHold, CollectWaits, newestId}
-use Rattle.promises.proofs.Effects.{Unlinked, withLinks}
+use Rattle.promises.proofs.Effects.{Unlinked}
 use Rattle.promises.proofs.EffectDoor.{rows-kept}
 use Rattle.promises.proofs.Sound.{Sound}
 use Rattle.promises.proofs.Reached.{reached}
@@ -49,7 +47,7 @@ use Rattle.promises.proofs.ChainInv.{Chained, linkedIn}
 use Rattle.promises.proofs.ChainDetach.{Met, at-first, at-later, frames-met, ring-met, same-is}
 use Rattle.promises.proofs.ChainEvents.{unlink-event}
 use Rattle.promises.proofs.ChainRuns.{chained, frames-are, ring-is}
-use Rattle.promises.proofs.ChainIds.{Named, holding, named-keeps, named-opens}
+use Rattle.promises.proofs.ChainIds.{Named, named-keeps, named-opens}
 
 met-found : (s : Ehci) (h f : List ℕ) (k : ℕ) (ks : List ℕ) → Met s h f k ks → isMissing (detachOf s h f k .predecessor) ≡ false
 unfolding detachOf

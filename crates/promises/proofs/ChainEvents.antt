@@ -1,5 +1,5 @@
 -- A call that unlinks is seen to: its head was met by its schedule's walk before, and is not after.
-use Prim.Native.Nat.{ℕ, _+_, _*_, _≤_, _<_}
+use Prim.Native.Nat.{ℕ, _+_, _*_, _<_}
 use mathlib.Core.Path.{_≡_, refl, sym, ap, subst, _∙_}
 use mathlib.Core.Bool.{Bool, true, false, not, cond}
 use mathlib.Core.List.{List, [], _∷_, _++_}
@@ -15,22 +15,21 @@ use Rattle.state.specs.declared.state.Ehci.{Ehci}
 use Rattle.state.proofs.RangesLaws.{Ranges}
 use Rattle.pipe.specs.Endpoints.{endpointAt}
 use Rattle.pipe.specs.Kinds.{isInterrupt}
-use Rattle.pipe.specs.declared.endpoint.Endpoint.the-variants.{Linked}
 use Rattle.pipe.proofs.EndpointLaws.{Wide}
-use Rattle.schedule.specs.Links.{detachOf, ringLink, same}
+use Rattle.schedule.specs.Links.{detachOf, ringLink}
 use Rattle.schedule.specs.Walks.{Chain, Distinct}
 use Rattle.ehci.specs.declared.call.Call.{Call}
 use Rattle.ehci.specs.Door.{Applied}
 use Rattle.promises.specs.Runs.{History, Rows, Turn, World, rowsOf, turnOf}
 use Rattle.promises.specs.Walks.{frameWalk, isIn, ringWalk}
-use Rattle.promises.specs.Events.{Event, Other, Parts, Unlinks, event, leaving, leavesFrames, leavesRing}
+use Rattle.promises.specs.Events.{Other, Parts, Unlinks, event, leavesFrames, leavesRing}
 use Rattle.promises.specs.Uses.{frameSlots, remove, ringSlots}
 use Rattle.promises.specs.Chains.{placesOf}
 use Rattle.promises.proofs.Effects.{Unlinked, withLinks}
 use Rattle.promises.proofs.Sound.{Sound}
 use Rattle.promises.proofs.ChainLists.{distinct-remove, few, in-append, in-places, in-remove}
 use Rattle.promises.proofs.WalkChains.{walk-frames, walk-ring}
-use Rattle.promises.proofs.ChainInv.{Chained, Schedule, Schedules, linked-within, linkedIn}
+use Rattle.promises.proofs.ChainInv.{Chained, Schedules, linked-within, linkedIn}
 use Rattle.promises.proofs.ChainDetach.{Parted, frames-parted, ring-parted}
 
 -- ---- the walks of a chain

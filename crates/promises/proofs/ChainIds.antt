@@ -35,7 +35,7 @@ use Rattle.promises.specs.Runs.{History, Opening, Turn, World, leftBy, t
 use Rattle.promises.specs.Events.{Collects, Drains, Event, Other, Parts, Reads, Submits, Unlinks, event, leaving, leavesFrames, leavesRing}
 use Rattle.promises.specs.Chains.{idAfter, newestId}
 use Rattle.promises.proofs.Effects as Effects
-use Rattle.promises.proofs.Effects.{Effect, besides}
+use Rattle.promises.proofs.Effects.{Effect}
 use Rattle.promises.proofs.Sound.{Sound}
 use Rattle.promises.proofs.Reached.{freshWorld, opening-is}
 

@@ -1,16 +1,15 @@
 -- The two schedules of a world: each is a chain of links through exactly the linked slots of its kind.
-use Prim.Native.Nat.{ℕ, _+_, _-_, _*_, _≤_, _<_}
-use mathlib.Core.Path.{_≡_, refl, sym, ap, subst, _∙_}
+use Prim.Native.Nat.{ℕ, _+_, _-_, _≤_, _<_}
+use mathlib.Core.Path.{_≡_, refl, sym, ap, _∙_}
 use mathlib.Core.Bool.{Bool, true, false, not}
 use mathlib.Core.List.{List, [], _∷_}
 use native.Mathlib.Decide.{ℕ-discrete as decEq}
 use native.Mathlib.Omega.{arith}
 use borrow.Author.Tests.{eq-eqb, le-ltb, lt-ltb, ne-eqb}
 use lib.Dec.{eqb, ltb}
-use lib.ListN.{getD, length, List·getD-eq-default}
+use lib.ListN.{getD, List·getD-eq-default}
 use Rattle.settings.specs.Tests.{both}
 use Rattle.settings.specs.declared.settings.Settings.{Settings}
-use Rattle.settings.proofs.Every.{false-true}
 use Rattle.slot.specs.declared.slot.Slot.{Slot}
 use Rattle.slot.proofs.SlotLaws.{Phase, slot-tells}
 use Rattle.state.specs.Slots.{slotAt}
@@ -20,12 +19,10 @@ use Rattle.pipe.specs.Endpoints.{decoded, encoded, endpointAt, kindOf, pickEndp
 use Rattle.pipe.specs.Kinds.{isInterrupt}
 use Rattle.pipe.specs.declared.endpoint.Endpoint.{Endpoint}
 use Rattle.pipe.specs.declared.endpoint.Endpoint.the-variants.{Closed, Idle, Linked, Unlinking}
-use Rattle.pipe.specs.declared.endpoint.Pipe.{Pipe}
-use Rattle.pipe.specs.declared.endpoint.Request.{Request}
 use Rattle.pipe.proofs.EndpointLaws.{Wide, endpoint-other, kind-there, slot-same}
 use Rattle.controller.specs.Readers.{hasEndpoint}
 use Rattle.controller.proofs.ReaderLaws.{open-below, open-within}
-use Rattle.schedule.specs.Links.{linkWord, periodic, ringLink, same, slotLink}
+use Rattle.schedule.specs.Links.{linkWord, periodic, ringLink, same}
 use Rattle.schedule.specs.Walks.{Chain, Distinct}
 use Rattle.promises.specs.Runs.{History, Rows, World}
 use Rattle.promises.specs.Walks.{isIn}

@@ -1,21 +1,18 @@
 -- Both schedules, kept by every call.
 use Prim.Native.Nat.{ℕ, _+_, _*_, _≤_, _<_}
 use mathlib.Core.Path.{_≡_, refl, sym, ap, subst, _∙_}
-use mathlib.Core.Bool.{Bool, true, false, not, cond}
-use mathlib.Core.List.{List, [], _∷_}
+use mathlib.Core.Bool.{Bool, true, false, cond}
+use mathlib.Core.List.{List, _∷_}
 use native.Mathlib.Decide.{ℕ-discrete as decEq}
 use native.Mathlib.Omega.{arith}
 use lib.ListN.{getD, length}
 use Rattle.settings.specs.declared.settings.Settings.{Settings}
-use Rattle.settings.proofs.Every.{false-true}
 use Rattle.state.specs.Slots.{withSlot}
 use Rattle.state.specs.State.{withBell, withOwner}
 use Rattle.state.specs.declared.state.Ehci.{Ehci}
-use Rattle.state.proofs.RangesLaws.{Ranges}
 use Rattle.pipe.specs.Endpoints.{endpointAt, withEndpoint}
 use Rattle.pipe.specs.Kinds.{isInterrupt}
-use Rattle.pipe.specs.declared.endpoint.Endpoint.{Endpoint}
-use Rattle.pipe.specs.declared.endpoint.Endpoint.the-variants.{Closed, Idle, Linked, Unlinking}
+use Rattle.pipe.specs.declared.endpoint.Endpoint.the-variants.{Unlinking}
 use Rattle.pipe.specs.declared.endpoint.Pipe.{Pipe}
 use Rattle.pipe.specs.declared.endpoint.Request.{Request}
 use Rattle.pipe.proofs.EndpointLaws.{Wide, bell-wide, owner-wide}
@@ -24,19 +21,18 @@ use Rattle.controller.specs.declared.lent.Readings.{Readings}
 use Rattle.controller.proofs.ReaderLaws.{open-below, open-within}
 use Rattle.schedule.specs.Bell.{bellOf}
 use Rattle.schedule.specs.Links.{Links, detachOf, ringLink, same, slotLink}
-use Rattle.schedule.specs.Walks.{Chain, Distinct}
+use Rattle.schedule.specs.Walks.{Chain}
 use Rattle.request.specs.Submit.{firstIn, idAt, linkedRows, linkedWith, stateWith, takenFor}
-use Rattle.request.specs.declared.judge.TransferRequest.{TransferRequest}
 use Rattle.request.proofs.SubmitLaws.{submit-others}
 use Rattle.collection.specs.Unlinks.{boundedOf, waitingOf}
 use Rattle.ehci.specs.declared.call.Call.{Call}
 use Rattle.ehci.specs.Door.{Applied}
 use Rattle.promises.specs.Runs.{History, Rows, World, leftBy, rowsOf, turnOf}
-use Rattle.promises.specs.Events.{Event, Parts, Submits, Unlinks, event}
+use Rattle.promises.specs.Events.{Parts, Submits, Unlinks, event}
 use Rattle.promises.specs.Uses.{frameSlots, framesAfter, remove, ringAfter, ringSlots}
 use Rattle.promises.proofs.Effects.{Accepts, Effect, Unlinked, withLinks}
 use Rattle.promises.proofs.Sound.{Sound}
-use Rattle.promises.proofs.ChainInv.{Chained, Schedule, Schedules, chain-stays, linked-fields, linked-here, linked-there, linked-within, linkedIn, schedule-shrinks}
+use Rattle.promises.proofs.ChainInv.{Chained, Schedule, Schedules, chain-stays, linked-fields, linked-here, linked-there, linkedIn, schedule-shrinks}
 use Rattle.promises.proofs.ChainDetach.{Parted, frames-parted, ring-parted}
 use Rattle.promises.proofs.ChainEvents.{unlink-told}
 use Rattle.promises.proofs.ChainSteps as Steps

@@ -1,6 +1,6 @@
 -- In every world of a run the walks meet exactly the linked heads, newest first.
 use Prim.Native.Nat.{ℕ, _+_, _<_}
-use mathlib.Core.Path.{_≡_, refl, sym, ap, subst, _∙_}
+use mathlib.Core.Path.{_≡_, sym, ap, subst, _∙_}
 use mathlib.Core.Bool.{Bool, true, false}
 use mathlib.Core.List.{List, [], _∷_, _++_}
 use native.Mathlib.Omega.{arith}
@@ -10,18 +10,16 @@ use Rattle.settings.specs.declared.settings.Settings.{Settings}
 use Rattle.settings.proofs.SettingsLaws.{good-tells}
 use Rattle.state.proofs.Arrays.{zeros-at}
 use Rattle.pipe.specs.Endpoints.{endpointAt}
-use Rattle.schedule.specs.Links.{ringLink}
-use Rattle.schedule.specs.Walks.{Chain}
 use Rattle.opening.specs.Opening.{freshState}
 use Rattle.opening.proofs.OpenLaws.{heads-words}
 use Rattle.ehci.specs.declared.call.Call.{Call}
-use Rattle.promises.specs.Runs.{History, Opening, Rows, World, core, historyOf, worldOf}
+use Rattle.promises.specs.Runs.{History, Opening, World, core, historyOf, worldOf}
 use Rattle.promises.specs.Walks.{frameWalk, ringWalk}
 use Rattle.promises.specs.Uses.{frameSlots, ringSlots}
 use Rattle.promises.specs.Chains.{FramesAre, RingIs, placesOf}
 use Rattle.promises.proofs.Sound.{Sound}
 use Rattle.promises.proofs.Reached.{freshWorld, opening-is, reached, sound-opens}
-use Rattle.promises.proofs.ChainInv.{Chained, Schedule, Schedules, linked-by, linked-within, linkedIn}
+use Rattle.promises.proofs.ChainInv.{Chained, linked-by, linked-within, linkedIn}
 use Rattle.promises.proofs.ChainEvents.{frame-walked, ring-walked}
 use Rattle.promises.proofs.ChainKeeps.{chained-keeps}
 

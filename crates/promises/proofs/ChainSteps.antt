@@ -1,13 +1,11 @@
 -- Calls that link and unlink nothing leave both schedules as they were.
 use Prim.Native.Nat.{ℕ, _+_, _*_, _≤_, _<_}
 use mathlib.Core.Path.{_≡_, refl, sym, ap, subst, _∙_}
-use mathlib.Core.Bool.{Bool, true, false, not, cond}
-use mathlib.Core.List.{List, [], _∷_}
-use mathlib.Core.Logic.{_≢_}
-use native.Mathlib.Decide.{ℕ-discrete as decEq}
+use mathlib.Core.Bool.{Bool, true, false}
+use mathlib.Core.List.{List, _∷_}
 use native.Mathlib.Omega.{arith}
 use borrow.Author.Tests.{ltb-false, ltb-true}
-use lib.Dec.{eqb, ltb}
+use lib.Dec.{ltb}
 use lib.ListN.{getD, length, replicate}
 use lib.Seq.{getD-set-other}
 use Rattle.descriptor.specs.Descriptors.{terminated}
@@ -18,12 +16,11 @@ use Rattle.settings.proofs.Every.{false-true}
 use Rattle.state.specs.State.{withBell, withBoundaries, withOwner}
 use Rattle.state.specs.Slots.{withSlot}
 use Rattle.state.specs.declared.state.Ehci.{Ehci}
-use Rattle.state.proofs.RangesLaws.{Ranges}
 use Rattle.pipe.specs.Endpoints.{endpointAt, withEndpoint}
 use Rattle.pipe.specs.declared.endpoint.Endpoint.{Endpoint}
-use Rattle.pipe.specs.declared.endpoint.Endpoint.the-variants.{Closed, Idle, Linked, Unlinking}
-use Rattle.pipe.proofs.EndpointLaws.{Wide, owner-aside, owner-wide}
-use Rattle.opening.specs.Rows.{putAt, withHeadWord}
+use Rattle.pipe.specs.declared.endpoint.Endpoint.the-variants.{Closed, Idle, Unlinking}
+use Rattle.pipe.proofs.EndpointLaws.{Wide, owner-wide}
+use Rattle.opening.specs.Rows.{withHeadWord}
 use Rattle.opening.proofs.RowLaws.{put-before, put-behind}
 use Rattle.controller.specs.Readers.{hasEndpoint}
 use Rattle.controller.proofs.ReaderLaws.{open-below, open-within}
@@ -37,7 +34,7 @@ use Rattle.ehci.specs.Door.{Applied}
 use Rattle.promises.specs.Runs.{History, Rows, Turn, World, leftBy, rowsOf, turnOf}
 use Rattle.promises.specs.Events.{Collects, Drains, Event, Other, Reads, event}
 use Rattle.promises.specs.Uses.{frameSlots, framesAfter, ringAfter, ringSlots}
-use Rattle.promises.proofs.Effects.{Closes, Collected, Counts, Hears, Joins, Marks, Opens, Passes, Rewrites, Sides, Still, WritesBack, besides, withHeads, withPool}
+use Rattle.promises.proofs.Effects.{Closes, Collected, Counts, Hears, Joins, Marks, Opens, Passes, Rewrites, Still, WritesBack, besides, withHeads, withPool}
 use Rattle.promises.proofs.Sound.{Sound}
 use Rattle.promises.proofs.ChainInv.{Chained, Schedule, Schedules, linked-fields, linkedIn, schedule-stays, unlinked-stays}
 

@@ -1,19 +1,18 @@
 -- A chain of links, walked as the controller walks it.
 use Prim.Native.Nat.{ℕ, zero, suc, _+_, _*_, _-_, _/_, _%_, _^_, _≤_, _<_}
-use mathlib.Core.Path.{_≡_, refl, sym, ap, _∙_}
+use mathlib.Core.Path.{_≡_, refl, ap, _∙_}
 use mathlib.Core.Bool.{true}
 use mathlib.Core.List.{List, [], _∷_, _++_, append-nil}
 use native.Mathlib.Omega.{arith}
-use borrow.Author.Tests.{eq-eqb, ne-eqb}
+use borrow.Author.Tests.{ne-eqb}
 use lib.ListN.{getD, length}
 use Rattle.descriptor.specs.EhciQueueHead.{linkAddress, linkTerminate}
 use Rattle.descriptor.specs.Heads.{qhLink}
-use Rattle.settings.specs.declared.settings.Settings.{Settings}
 use Rattle.settings.proofs.SettingsLaws.{Good}
 use Rattle.state.specs.declared.state.Ehci.{Ehci}
 use Rattle.schedule.specs.Links.{slotLink}
 use Rattle.schedule.specs.Walks.{Chain}
-use Rattle.promises.specs.Walks.{endIf, headPlace, isIn, walkFrom}
+use Rattle.promises.specs.Walks.{headPlace, isIn, walkFrom}
 use Rattle.promises.specs.Chains.{placesOf}
 use Rattle.promises.proofs.ChainLists.{in-later, in-same}
 

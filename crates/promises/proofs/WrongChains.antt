@@ -1,9 +1,9 @@
 -- Wrong machines, of which the statements on chains are refuted. Each does nothing but link and unlink, in a controller with
 -- three slots; `plain` does it right, and on the same calls its walks are those that are told.
-use Prim.Native.Nat.{ℕ, _+_, _-_, _*_, _/_, _<_}
-use mathlib.Core.Path.{_≡_, refl, sym, ap, _∙_}
+use Prim.Native.Nat.{ℕ, _+_, _-_, _*_, _/_}
+use mathlib.Core.Path.{_≡_, refl, sym, ap}
 use mathlib.Core.Bool.{Bool, true, false, cond}
-use mathlib.Core.List.{List, [], _∷_, _++_, map}
+use mathlib.Core.List.{List, [], _∷_, _++_}
 use native.Mathlib.Omega.{arith}
 use lib.Dec.{eqb}
 use lib.ListN.{getD, length, replicate, set}
@@ -13,7 +13,6 @@ use Rattle.token.specs.declared.request.EndpointType.{EndpointType}
 use Rattle.token.specs.declared.request.EndpointType.the-variants.{Bulk, Interrupt}
 use Rattle.descriptor.specs.Heads.{qhLink, ringHead}
 use Rattle.descriptor.specs.Descriptors.{terminated}
-use Rattle.pool.specs.Chains.{blank}
 use Rattle.settings.specs.Settings.{apartAreas, areaGood, eachGood, noOverlap, numbersGood, settingsGood}
 use Rattle.settings.proofs.Every.{false-true}
 use Rattle.settings.specs.declared.settings.Settings.{Settings}
