@@ -29,9 +29,9 @@ use Rattle.ehci.specs.declared.reply.Given.the-variants.{Id, Nothing}
 use Rattle.ehci.specs.Door.{Applied, applied}
 use Rattle.promises.specs.Runs.{History, Machine, Opening, Rows, World, historyOf, worldOf, worldOpened}
 use Rattle.promises.specs.Walks.{frameWalk, ringWalk, walkFrom}
-use Rattle.promises.specs.Uses.{frameSlots, ringSlots}
+use Rattle.promises.specs.Uses.{frameSlots, ringSlots, uses}
 use Rattle.promises.specs.Bells.{isUnlinks}
-use Rattle.promises.specs.Chains.{CancelUnlinks, FramesAre, RingIs, newestId, placesOf}
+use Rattle.promises.specs.Chains.{ChainsWalked, NoDetachFails, headPlaces}
 use Rattle.promises.proofs.Reached.{freshRows, freshWorld}
 
 -- three slots
@@ -162,33 +162,33 @@ abbrev past : Machine → List Call → History
 past m cs = historyOf m (freshWorld three) cs
 
 -- on these calls the right machine's walks are as told
-plain-right : (ringWalk three (now plain two) ≡ placesOf (ringSlots three (past plain two)) ++ 0 ∷ [])
-    × (ringWalk three (now plain cancelled) ≡ placesOf (ringSlots three (past plain cancelled)) ++ 0 ∷ [])
-    × (frameWalk three (now plain waiting) 1 ≡ placesOf (frameSlots three (past plain waiting)))
+plain-right : (ringWalk three (now plain two) ≡ headPlaces (ringSlots three (past plain two)) ++ 0 ∷ [])
+    × (ringWalk three (now plain cancelled) ≡ headPlaces (ringSlots three (past plain cancelled)) ++ 0 ∷ [])
+    × (frameWalk three (now plain waiting) 1 ≡ headPlaces (frameSlots three (past plain waiting)))
 unfolding ringWalk frameWalk walkFrom worldOf historyOf ringSlots frameSlots attachedRing openedHeads ringHead terminated
 plain-right = (refl, refl, refl)
 
-pub appends-wrong : RingIs appends → ⊥
+pub appends-wrong : ChainsWalked appends → ⊥
 unfolding ringWalk walkFrom worldOf historyOf ringSlots attachedRing openedHeads ringHead terminated
 appends-wrong h =
-    let first : _≡_ {A = ℕ} 1 2 = ap (λ (l : List ℕ). getD l 0 0) (h three (freshWorld three) opening two) in
+    let first : _≡_ {A = ℕ} 1 2 = ap (λ (l : List ℕ). getD l 0 0) (h three (freshWorld three) opening two .ring) in
     omega (arith, first)
 
-pub drops-wrong : RingIs drops → ⊥
+pub drops-wrong : ChainsWalked drops → ⊥
 unfolding ringWalk walkFrom worldOf historyOf ringSlots attachedRing openedHeads ringHead terminated
 drops-wrong h =
-    let first : _≡_ {A = ℕ} 1 2 = ap (λ (l : List ℕ). getD l 0 0) (h three (freshWorld three) opening cancelled) in
+    let first : _≡_ {A = ℕ} 1 2 = ap (λ (l : List ℕ). getD l 0 0) (h three (freshWorld three) opening cancelled .ring) in
     omega (arith, first)
 
-pub once-wrong : FramesAre once → ⊥
+pub once-wrong : ChainsWalked once → ⊥
 unfolding frameWalk walkFrom worldOf historyOf frameSlots openedHeads ringHead terminated
 once-wrong h =
-    let met : _≡_ {A = ℕ} 0 1 = ap (λ (l : List ℕ). length l) (h three (freshWorld three) opening waiting 1 (omega arith)) in
+    let met : _≡_ {A = ℕ} 0 1 = ap (λ (l : List ℕ). length l) (h three (freshWorld three) opening waiting .frames 1 (omega arith)) in
     omega (arith, met)
 
 -- what it answers is right; that no head leaves is seen
-pub keeps-wrong : CancelUnlinks keeps → ⊥
-unfolding ringWalk frameWalk walkFrom worldOf historyOf ringSlots newestId attachedRing openedHeads ringHead terminated
+pub keeps-wrong : NoDetachFails keeps → ⊥
+unfolding ringWalk frameWalk walkFrom worldOf historyOf ringSlots uses attachedRing openedHeads ringHead terminated
 keeps-wrong h =
-    let e = h three (freshWorld three) opening two 1 reading .0 refl .1 in
+    let e = h three (freshWorld three) opening two .0 .leaves-ring reading refl in
     false-true (ap isUnlinks e)
