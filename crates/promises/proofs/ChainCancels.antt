@@ -1,5 +1,5 @@
 -- No detach fails: a linked head is found, and a cancel of its request unlinks it.
-use Prim.Native.Nat.{ℕ, _+_, _*_, _<_}
+use Prim.Native.Nat.{ℕ, _<_}
 use mathlib.Core.Path.{_≡_, refl, sym, ap, subst, _∙_}
 use mathlib.Core.Bool.{Bool, true, false, cond}
 use mathlib.Core.List.{List}
@@ -11,8 +11,9 @@ use Rattle.settings.specs.Tests.{either}
 use Rattle.pool.specs.declared.chain.View.{View}
 use Rattle.settings.specs.declared.settings.Settings.{Settings}
 use Rattle.settings.proofs.Every.{false-true}
+use Rattle.settings.proofs.SettingsCases.{both-first}
 use Rattle.state.specs.declared.state.Ehci.{Ehci}
-use Rattle.state.proofs.RangesLaws.{ranges-make}
+use Rattle.state.specs.Ranges.{inRanges}
 use Rattle.pipe.specs.Endpoints.{endpointAt}
 use Rattle.pipe.specs.Kinds.{isInterrupt}
 use Rattle.pipe.specs.declared.endpoint.Endpoint.{Endpoint}
@@ -21,8 +22,8 @@ use Rattle.pipe.specs.declared.endpoint.Pipe.{Pipe}
 use Rattle.pipe.specs.declared.endpoint.Request.{Request}
 use Rattle.pipe.specs.declared.endpoint.UnlinkBoundary.{UnlinkBoundary}
 use Rattle.opening.specs.Opening.{rowsFit}
-use Rattle.opening.proofs.OpenLaws.{rows-make}
 use Rattle.controller.specs.Lent.{acceptsOf, lengths}
+use Rattle.controller.specs.declared.lent.Lengths.{Lengths}
 use Rattle.controller.specs.declared.lent.Readings.{Readings}
 use Rattle.schedule.specs.Links.{detachOf, same}
 use Rattle.collection.specs.Calls.{cancelOf, collectOf, marked, markedOf}
@@ -43,8 +44,9 @@ use Rattle.promises.proofs.Effects.{Unlinked}
 use Rattle.promises.proofs.EffectDoor.{rows-kept}
 use Rattle.promises.proofs.Sound.{Sound}
 use Rattle.promises.proofs.UseInv.{Kept, Nobody, Tenant, Waits, every-map, tenantAt, tenantOf, tenants-apart}
+use Rattle.promises.proofs.RangeTheorems.{sound-ranges}
 use Rattle.promises.proofs.RoomPromises.{held}
-use Rattle.promises.proofs.ChainInv.{Chained, linkedIn}
+use Rattle.promises.proofs.ChainInv.{Chained, heads-long, linkedIn}
 use Rattle.promises.proofs.ChainDetach.{Met, at-first, at-later, frames-met, ring-met, same-is}
 use Rattle.promises.proofs.ChainEvents.{unlink-event}
 use Rattle.promises.proofs.ChainRuns.{chained}
@@ -55,9 +57,6 @@ met-found s h f k ks (at-first post e p) = rw p
 met-found s h f k ks (at-later pre j post e p) = rw p
 
 module _ (s : Settings) (h : History) (w : World) (sound : Sound s w) (x : Chained s h w) (k : ℕ) where
-  heads-fit : length (w .rows .heads) ≡ 17 * (w .state .settings .endpoints + 1)
-  heads-fit = sound .heads-fit ∙ ap (λ (z : Settings). 17 * (z .endpoints + 1)) (sym (sound .settings-are))
-
   -- the head of a linked request is always found
   pub no-detach-fails : (p : Pipe) (r : Request) → endpointAt (w .state) k ≡ Linked p r
       → isMissing (detachOf (w .state) (w .rows .heads) (w .rows .frames) k .predecessor) ≡ false
@@ -66,26 +65,22 @@ module _ (s : Settings) (h : History) (w : World) (sound : Sound s w) (x : Chain
       by : (b : Bool) → isInterrupt (p .kind) ≡ b → isMissing (detachOf (w .state) (w .rows .heads) (w .rows .frames) k .predecessor) ≡ false
       by false q =
           met-found (w .state) (w .rows .heads) (w .rows .frames) k (ringSlots s h)
-          (ring-met (w .state) (sound .ranges) (sound .wide) (w .rows) (ringSlots s h) (frameSlots s h) x heads-fit (sound .frames-fit) k
+          (ring-met (w .state) (sound .ranges) (sound .wide) (w .rows) (ringSlots s h) (frameSlots s h) x (heads-long s w sound) (sound .frames-fit) k
           (ap (linkedIn false) e ∙ ap (same false) q))
       by true q =
           met-found (w .state) (w .rows .heads) (w .rows .frames) k (frameSlots s h)
-          (frames-met (w .state) (sound .ranges) (sound .wide) (w .rows) (ringSlots s h) (frameSlots s h) x heads-fit (sound .frames-fit) k
+          (frames-met (w .state) (sound .ranges) (sound .wide) (w .rows) (ringSlots s h) (frameSlots s h) x (heads-long s w sound) (sound .frames-fit) k
           (ap (linkedIn true) e ∙ ap (same true) q))
 
-  fits : rowsFit (w .state .settings) (length (w .rows .pool)) (length (w .rows .heads)) (length (w .rows .frames)) (length (w .rows .setups)) ≡ true
-  fits =
-      rows-make (w .state .settings) (length (w .rows .pool)) (length (w .rows .heads)) (length (w .rows .frames)) (length (w .rows .setups))
-      (record {
-        pool-fits = sound .pool-fits ∙ ap (λ (z : Settings). z .descriptors) (sym (sound .settings-are));
-        heads-fit = heads-fit;
-        frames-fit = sound .frames-fit;
-        setups-fit = sound .setups-fit ∙ ap (λ (z : Settings). 8 * z .endpoints) (sym (sound .settings-are));
-      })
+  abbrev lent : Lengths
+  lent = lengths (length (w .rows .pool)) (length (w .rows .heads)) (length (w .rows .frames)) (length (w .rows .setups))
 
-  accepted : acceptsOf (w .state) (lengths (length (w .rows .pool)) (length (w .rows .heads)) (length (w .rows .frames)) (length (w .rows .setups))) ≡ true
+  accepted : acceptsOf (w .state) lent ≡ true
+  accepted = sound-ranges s h w sound .accepted
+
+  fits : rowsFit (w .state .settings) (lent .pool) (lent .heads) (lent .frames) (lent .setups) ≡ true
   unfolding acceptsOf
-  accepted = rw (fits, ranges-make (w .state) (sound .ranges))
+  fits = both-first (rowsFit (w .state .settings) (lent .pool) (lent .heads) (lent .frames) (lent .setups)) (inRanges (w .state)) accepted
 
   module _ (rd : Readings) (p : Pipe) (r : Request) (e : endpointAt (w .state) k ≡ Linked p r) (roomy : w .state .unanswered < 32) where
     abbrev unlinked : Left

@@ -29,7 +29,7 @@ use Rattle.promises.proofs.Effects.{Unlinked, withLinks}
 use Rattle.promises.proofs.Sound.{Sound}
 use Rattle.promises.proofs.ChainLists.{distinct-remove, few, in-append, in-places, in-remove}
 use Rattle.promises.proofs.WalkChains.{walk-frames, walk-ring}
-use Rattle.promises.proofs.ChainInv.{Chained, Schedules, linked-within, linkedIn}
+use Rattle.promises.proofs.ChainInv.{Chained, heads-long, Schedules, linked-within, linkedIn}
 use Rattle.promises.proofs.ChainDetach.{Parted, frames-parted, ring-parted}
 
 -- ---- the walks of a chain
@@ -142,4 +142,4 @@ unlink-event s h w c a sound x u =
     let here = sound .settings-are in
     subst (λ (z : Settings). event z (turnOf (w .rows) c a) ≡ cond (isInterrupt (u .p .kind)) (Parts (u .k) (u .readings .frame)) (Unlinks (u .k))) here
     (unlink-told w c a (sound .ranges) (sound .wide) (ringSlots s h) (frameSlots s h) x
-    (sound .heads-fit ∙ ap (λ (z : Settings). 17 * (z .endpoints + 1)) (sym here)) (sound .frames-fit) u)
+    (heads-long s w sound) (sound .frames-fit) u)

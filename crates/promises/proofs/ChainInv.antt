@@ -1,5 +1,5 @@
 -- The two schedules of a world: each is a chain of links through exactly the linked slots of its kind.
-use Prim.Native.Nat.{ℕ, _+_, _-_, _≤_, _<_}
+use Prim.Native.Nat.{ℕ, _+_, _-_, _*_, _≤_, _<_}
 use mathlib.Core.Path.{_≡_, refl, sym, ap, _∙_}
 use mathlib.Core.Bool.{Bool, true, false, not}
 use mathlib.Core.List.{List, [], _∷_}
@@ -7,7 +7,7 @@ use native.Mathlib.Decide.{ℕ-discrete as decEq}
 use native.Mathlib.Omega.{arith}
 use borrow.Author.Tests.{eq-eqb, le-ltb, lt-ltb, ne-eqb}
 use lib.Dec.{eqb, ltb}
-use lib.ListN.{getD, List·getD-eq-default}
+use lib.ListN.{getD, length, List·getD-eq-default}
 use Rattle.settings.specs.Tests.{both}
 use Rattle.settings.specs.declared.settings.Settings.{Settings}
 use Rattle.slot.specs.declared.slot.Slot.{Slot}
@@ -27,6 +27,7 @@ use Rattle.schedule.specs.Walks.{Chain, Distinct}
 use Rattle.promises.specs.Runs.{History, Rows, World}
 use Rattle.promises.specs.Walks.{isIn}
 use Rattle.promises.specs.Uses.{frameSlots, remove, ringSlots}
+use Rattle.promises.proofs.Sound.{Sound}
 use Rattle.promises.proofs.ChainLists.{distinct-remove, in-later, in-remove, in-same, out-avoids}
 
 -- linked in the frame list (true), or in the ring (false)
@@ -50,6 +51,10 @@ pub record Schedules (s : Ehci) (rows : Rows) (ks js : List ℕ) : Type 0 where
 -- the invariant: the slots are those that the history tells
 abbrev pub Chained : Settings → History → World → Type 0
 Chained s h w = Schedules (w .state) (w .rows) (ringSlots s h) (frameSlots s h)
+
+-- the row of heads is as long as the state's own settings say
+pub heads-long : (s : Settings) (w : World) → Sound s w → length (w .rows .heads) ≡ 17 * (w .state .settings .endpoints + 1)
+heads-long s w sound = sound .heads-fit ∙ ap (λ (z : Settings). 17 * (z .endpoints + 1)) (sym (sound .settings-are))
 
 -- ---- linked slots by their numbers
 
