@@ -152,14 +152,17 @@ module _ (s : Settings) (h : History) (w : World) (sound : Sound s w) (x : Chain
 -- ---- every use
 
 -- with a slot linked, fewer than 32 unlinks are unanswered
-abbrev pub Roomy : Settings → History → World → Type 0
-Roomy s h w = (k : ℕ) (p : Pipe) (r : Request) → endpointAt (w .state) k ≡ Linked p r → w .state .unanswered < 32
+abbrev RoomAt : Settings → History → World → Type 0
+RoomAt s h w = (k : ℕ) (p : Pipe) (r : Request) → endpointAt (w .state) k ≡ Linked p r → w .state .unanswered < 32
+
+abbrev pub Roomy : Type 0
+Roomy = Always RoomAt core
 
 abbrev idOf : Tenant → ℕ
 idOf Nobody = 0
 idOf (Waits kind id n) = id
 
-module _ (s : Settings) (h : History) (w : World) (sound : Sound s w) (x : Chained s h w) (roomy : Roomy s h w) (u : Use)
+module _ (s : Settings) (h : History) (w : World) (sound : Sound s w) (x : Chained s h w) (roomy : RoomAt s h w) (u : Use)
     (holds : tenantAt (w .state) (u .slot) ≡ Waits (u .request .kind) (u .id) (u .request .length)) where
   abbrev k : ℕ
   k = u .slot
@@ -222,7 +225,7 @@ module _ (s : Settings) (h : History) (w : World) (sound : Sound s w) (x : Chain
   use-detaches (Unlinking p r b) e = unlinking-detaches p r b e
 
 -- where a linked slot leaves room for one more unlink, in every world of a run
-pub detaches : Always Roomy core → NoDetachFails core
+pub detaches : Roomy → NoDetachFails core
 detaches roomy s w o cs =
     let at = chained s w o cs in
     let past = historyOf core w cs in
