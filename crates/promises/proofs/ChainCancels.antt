@@ -1,76 +1,62 @@
 -- No detach fails: a linked head is found, and a cancel of its request unlinks it.
-use Prim.Native.Nat.{ℕ, _+_, _*_, _≤_, _<_}
+use Prim.Native.Nat.{ℕ, _<_}
 use mathlib.Core.Path.{_≡_, refl, sym, ap, subst, _∙_}
-use mathlib.Core.Bool.{Bool, true, false, not, cond}
-use mathlib.Core.List.{List, [], _∷_}
+use mathlib.Core.Bool.{Bool, true, false, cond}
+use mathlib.Core.List.{List}
 use mathlib.Core.Logic.{inr}
 use native.Mathlib.Decide.{ℕ-discrete as decEq}
 use borrow.Author.Tests.{eq-eqb, lt-leb}
-use lib.Dec.{eqb, leb}
 use lib.ListN.{length}
 use Rattle.settings.specs.Tests.{either}
 use Rattle.pool.specs.declared.chain.View.{View}
-use Rattle.pool.proofs.ChainLaws.{fill-no-chain}
 use Rattle.settings.specs.declared.settings.Settings.{Settings}
 use Rattle.settings.proofs.Every.{false-true}
+use Rattle.settings.proofs.SettingsCases.{both-first}
 use Rattle.state.specs.declared.state.Ehci.{Ehci}
-use Rattle.state.proofs.RangesLaws.{Ranges, ranges-make}
+use Rattle.state.specs.Ranges.{inRanges}
 use Rattle.pipe.specs.Endpoints.{endpointAt}
 use Rattle.pipe.specs.Kinds.{isInterrupt}
 use Rattle.pipe.specs.declared.endpoint.Endpoint.{Endpoint}
 use Rattle.pipe.specs.declared.endpoint.Endpoint.the-variants.{Closed, Idle, Linked, Unlinking}
 use Rattle.pipe.specs.declared.endpoint.Pipe.{Pipe}
 use Rattle.pipe.specs.declared.endpoint.Request.{Request}
+use Rattle.pipe.specs.declared.endpoint.UnlinkBoundary.{UnlinkBoundary}
 use Rattle.opening.specs.Opening.{rowsFit}
-use Rattle.opening.proofs.OpenLaws.{Fitting, rows-make}
 use Rattle.controller.specs.Lent.{acceptsOf, lengths}
+use Rattle.controller.specs.declared.lent.Lengths.{Lengths}
 use Rattle.controller.specs.declared.lent.Readings.{Readings}
-use Rattle.schedule.specs.Links.{detachOf, predecessorOf, same}
-use Rattle.collection.specs.Calls.{cancelOf, collectOf, marked}
-use Rattle.collection.specs.Unlinks.{Left, isMissing, unlinkOf, waitingOf}
+use Rattle.schedule.specs.Links.{detachOf, same}
+use Rattle.collection.specs.Calls.{cancelOf, collectOf, marked, markedOf}
+use Rattle.collection.specs.Unlinks.{Left, isMissing, left as leftWith, unlinkOf, waitingOf}
 use Rattle.collection.proofs.CallLaws.{collect-active, collect-unlinks}
-use Rattle.ehci.specs.declared.call.Call.{Call}
 use Rattle.ehci.specs.declared.call.Call.the-variants.{Cancel, Collect}
 use Rattle.ehci.specs.declared.reply.Answered.the-variants.{Done, Pending}
 use Rattle.ehci.specs.declared.reply.Given.the-variants.{Nothing}
 use Rattle.ehci.specs.Decides.{asksOf, cancelCame, cancelDecided, collectDecided, decideOf, withSetups}
 use Rattle.ehci.specs.Door.{Applied, applyOf, carriedOut, seenBy}
-use Rattle.ehci.specs.Replies.{collectedAnswer, replied}
-use Rattle.promises.specs.Runs.{History, Opening, World, core, historyOf, rowsOf, turnOf, worldOf}
+use Rattle.ehci.specs.Replies.{answeredNumber, collectedAnswer, replied}
+use Rattle.promises.specs.Runs.{Always, History, World, core, historyOf, rowsOf, turnOf, worldOf}
 use Rattle.promises.specs.Walks.{isIn}
-use Rattle.promises.specs.Events.{Event, Parts, Unlinks, event}
-use Rattle.promises.specs.Uses.{frameSlots, ringSlots}
-use Rattle.promises.specs.Chains.{CancelUnlinks, ChainsHold, CollectWaits, newestId}
-use Rattle.promises.proofs.Effects.{Unlinked, withLinks}
+use Rattle.promises.specs.Events.{Parts, Unlinks, event}
+use Rattle.promises.specs.Uses.{Use, frameSlots, ringSlots, uses}
+use Rattle.promises.specs.Chains.{Detaches, NoDetachFails}
+use Rattle.promises.proofs.Effects.{Unlinked}
 use Rattle.promises.proofs.EffectDoor.{rows-kept}
 use Rattle.promises.proofs.Sound.{Sound}
-use Rattle.promises.proofs.Reached.{reached}
-use Rattle.promises.proofs.ChainInv.{Chained, linkedIn}
+use Rattle.promises.proofs.UseInv.{Kept, Nobody, Tenant, Waits, every-map, tenantAt, tenantOf, tenants-apart}
+use Rattle.promises.proofs.RangeTheorems.{sound-ranges}
+use Rattle.promises.proofs.RoomPromises.{held}
+use Rattle.promises.proofs.ChainInv.{Chained, heads-long, linkedIn}
 use Rattle.promises.proofs.ChainDetach.{Met, at-first, at-later, frames-met, ring-met, same-is}
 use Rattle.promises.proofs.ChainEvents.{unlink-event}
-use Rattle.promises.proofs.ChainRuns.{chained, frames-are, ring-is}
-use Rattle.promises.proofs.ChainIds.{Named, holding, named-keeps, named-opens}
+use Rattle.promises.proofs.ChainRuns.{chained}
 
 met-found : (s : Ehci) (h f : List ℕ) (k : ℕ) (ks : List ℕ) → Met s h f k ks → isMissing (detachOf s h f k .predecessor) ≡ false
 unfolding detachOf
 met-found s h f k ks (at-first post e p) = rw p
 met-found s h f k ks (at-later pre j post e p) = rw p
 
-pub record LinkedAt (s : Ehci) (k : ℕ) : Type 0 where
-  pub p : Pipe
-  pub r : Request
-  pub is : endpointAt s k ≡ Linked p r
-
-linked-with : (b : Bool) (s : Ehci) (k : ℕ) (x : Endpoint) → endpointAt s k ≡ x → linkedIn b x ≡ true → LinkedAt s k
-linked-with b s k Closed e q = absurd (false-true q)
-linked-with b s k (Idle p) e q = absurd (false-true q)
-linked-with b s k (Linked p r) e q = record { p = p; r = r; is = e }
-linked-with b s k (Unlinking p r u) e q = absurd (false-true q)
-
 module _ (s : Settings) (h : History) (w : World) (sound : Sound s w) (x : Chained s h w) (k : ℕ) where
-  heads-fit : length (w .rows .heads) ≡ 17 * (w .state .settings .endpoints + 1)
-  heads-fit = sound .heads-fit ∙ ap (λ (z : Settings). 17 * (z .endpoints + 1)) (sym (sound .settings-are))
-
   -- the head of a linked request is always found
   pub no-detach-fails : (p : Pipe) (r : Request) → endpointAt (w .state) k ≡ Linked p r
       → isMissing (detachOf (w .state) (w .rows .heads) (w .rows .frames) k .predecessor) ≡ false
@@ -79,26 +65,22 @@ module _ (s : Settings) (h : History) (w : World) (sound : Sound s w) (x : Chain
       by : (b : Bool) → isInterrupt (p .kind) ≡ b → isMissing (detachOf (w .state) (w .rows .heads) (w .rows .frames) k .predecessor) ≡ false
       by false q =
           met-found (w .state) (w .rows .heads) (w .rows .frames) k (ringSlots s h)
-          (ring-met (w .state) (sound .ranges) (sound .wide) (w .rows) (ringSlots s h) (frameSlots s h) x heads-fit (sound .frames-fit) k
+          (ring-met (w .state) (sound .ranges) (sound .wide) (w .rows) (ringSlots s h) (frameSlots s h) x (heads-long s w sound) (sound .frames-fit) k
           (ap (linkedIn false) e ∙ ap (same false) q))
       by true q =
           met-found (w .state) (w .rows .heads) (w .rows .frames) k (frameSlots s h)
-          (frames-met (w .state) (sound .ranges) (sound .wide) (w .rows) (ringSlots s h) (frameSlots s h) x heads-fit (sound .frames-fit) k
+          (frames-met (w .state) (sound .ranges) (sound .wide) (w .rows) (ringSlots s h) (frameSlots s h) x (heads-long s w sound) (sound .frames-fit) k
           (ap (linkedIn true) e ∙ ap (same true) q))
 
-  fits : rowsFit (w .state .settings) (length (w .rows .pool)) (length (w .rows .heads)) (length (w .rows .frames)) (length (w .rows .setups)) ≡ true
-  fits =
-      rows-make (w .state .settings) (length (w .rows .pool)) (length (w .rows .heads)) (length (w .rows .frames)) (length (w .rows .setups))
-      (record {
-        pool-fits = sound .pool-fits ∙ ap (λ (z : Settings). z .descriptors) (sym (sound .settings-are));
-        heads-fit = heads-fit;
-        frames-fit = sound .frames-fit;
-        setups-fit = sound .setups-fit ∙ ap (λ (z : Settings). 8 * z .endpoints) (sym (sound .settings-are));
-      })
+  abbrev lent : Lengths
+  lent = lengths (length (w .rows .pool)) (length (w .rows .heads)) (length (w .rows .frames)) (length (w .rows .setups))
 
-  accepted : acceptsOf (w .state) (lengths (length (w .rows .pool)) (length (w .rows .heads)) (length (w .rows .frames)) (length (w .rows .setups))) ≡ true
+  accepted : acceptsOf (w .state) lent ≡ true
+  accepted = sound-ranges s h w sound .accepted
+
+  fits : rowsFit (w .state .settings) (lent .pool) (lent .heads) (lent .frames) (lent .setups) ≡ true
   unfolding acceptsOf
-  accepted = rw (fits, ranges-make (w .state) (sound .ranges))
+  fits = both-first (rowsFit (w .state .settings) (lent .pool) (lent .heads) (lent .frames) (lent .setups)) (inRanges (w .state)) accepted
 
   module _ (rd : Readings) (p : Pipe) (r : Request) (e : endpointAt (w .state) k ≡ Linked p r) (roomy : w .state .unanswered < 32) where
     abbrev unlinked : Left
@@ -156,68 +138,98 @@ module _ (s : Settings) (h : History) (w : World) (sound : Sound s w) (x : Chain
     unfolding applyOf decideOf collectDecided replied
     collect-waits = rw fits (collect-pends (seenBy (asksOf (w .state) (length (w .rows .pool)) (Collect k (r .id) rd)) (w .rows .pool)))
 
--- ---- of every world of a run, where a linked slot leaves room for one more unlink
+  -- a cancel of a request that is unlinking marks it
+  module _ (rd : Readings) (p : Pipe) (r : Request) (u : UnlinkBoundary) (e : endpointAt (w .state) k ≡ Unlinking p r u) where
+    mark-comes : core w (Cancel k (r .id) rd)
+        ≡ carriedOut (withSetups (cancelCame (leftWith (markedOf (w .state) k p r u) (w .rows .heads) (w .rows .frames))) (w .rows .setups)) (w .rows .pool)
+    unfolding applyOf decideOf cancelDecided cancelOf
+    mark-comes = rw (fits, accepted, e, eq-eqb (r .id) (r .id) refl)
+
+    mark-done : core w (Cancel k (r .id) rd) .reply .answer ≡ Done Nothing
+    unfolding replied
+    mark-done = ap (λ (z : Applied). z .reply .answer) mark-comes
+
+-- ---- every use
 
 -- with a slot linked, fewer than 32 unlinks are unanswered
+abbrev RoomAt : Settings → History → World → Type 0
+RoomAt s h w = (k : ℕ) (p : Pipe) (r : Request) → endpointAt (w .state) k ≡ Linked p r → w .state .unanswered < 32
+
 abbrev pub Roomy : Type 0
-Roomy =
-    (s : Settings) (w : World) → Opening s w → (cs : List Call) (k : ℕ) (p : Pipe) (r : Request)
-    → endpointAt (worldOf core w cs .state) k ≡ Linked p r → worldOf core w cs .state .unanswered < 32
+Roomy = Always RoomAt core
 
-named : (s : Settings) (w : World) → Opening s w → (cs : List Call) → Sound s (worldOf core w cs) × Named s (historyOf core w cs) (worldOf core w cs)
-named = reached Named named-opens (λ s h w c a sound x e. named-keeps s h w c a sound x e)
+abbrev idOf : Tenant → ℕ
+idOf Nobody = 0
+idOf (Waits kind id n) = id
 
-module _ (roomy : Roomy) (s : Settings) (w : World) (o : Opening s w) (cs : List Call) (k : ℕ) (rd : Readings) where
-  abbrev now : World
-  now = worldOf core w cs
+module _ (s : Settings) (h : History) (w : World) (sound : Sound s w) (x : Chained s h w) (roomy : RoomAt s h w) (u : Use)
+    (holds : tenantAt (w .state) (u .slot) ≡ Waits (u .request .kind) (u .id) (u .request .length)) where
+  abbrev k : ℕ
+  k = u .slot
 
-  abbrev past : History
-  past = historyOf core w cs
+  -- by what its slot is
+  linked-detaches : (p : Pipe) (r : Request) → endpointAt (w .state) k ≡ Linked p r → Detaches core s h w u
+  linked-detaches p r e = subst (λ (id : ℕ). Detaches core s h w (record { slot = k; id = id; request = u .request; places = u .places })) id made
+    where
+      id : r .id ≡ u .id
+      id = ap (λ (y : Endpoint). idOf (tenantOf y)) (sym e) ∙ ap idOf holds
 
-  abbrev Comes : ℕ → Event → Type 0
-  Comes id ev =
-      (core now (Cancel k id rd) .reply .answer ≡ Done Nothing) × (event s (turnOf (now .rows) (Cancel k id rd) (core now (Cancel k id rd))) ≡ ev)
+      room : w .state .unanswered < 32
+      room = roomy k p r e
 
-  comes-with : (b : Bool) → linkedIn b (endpointAt (now .state) k) ≡ true → (l : LinkedAt (now .state) k)
-      → Comes (newestId s k past) (cond b (Parts k (rd .frame)) (Unlinks k))
-  comes-with b e l =
-      let x = chained s w o cs in
-      let id : newestId s k past ≡ l .r .id = rw (l .is) at (named s w o cs .1 k) in
-      let kind : isInterrupt (l .p .kind) ≡ b = same-is b (isInterrupt (l .p .kind)) (sym (ap (linkedIn b) (l .is)) ∙ e) in
-      subst (λ (n : ℕ). Comes n (cond b (Parts k (rd .frame)) (Unlinks k))) (sym id)
-      (subst (λ (i : Bool). Comes (l .r .id) (cond i (Parts k (rd .frame)) (Unlinks k))) kind
-      (cancel-unlinks s past now (x .0) (x .1) k rd (l .p) (l .r) (l .is) (roomy s w o cs k (l .p) (l .r) (l .is))))
+      kind : (b : Bool) → linkedIn b (endpointAt (w .state) k) ≡ true → isInterrupt (p .kind) ≡ b
+      kind b q = same-is b (isInterrupt (p .kind)) (sym (ap (linkedIn b) e) ∙ q)
 
-  pends-with : LinkedAt (now .state) k → core now (Collect k (newestId s k past) rd) .reply .answer ≡ Pending
-  pends-with l =
-      let x = chained s w o cs in
-      let id : newestId s k past ≡ l .r .id = rw (l .is) at (named s w o cs .1 k) in
-      subst (λ (n : ℕ). core now (Collect k n rd) .reply .answer ≡ Pending) (sym id)
-      (collect-waits s past now (x .0) (x .1) k rd (l .p) (l .r) (l .is) (roomy s w o cs k (l .p) (l .r) (l .is)))
+      made : Detaches core s h w (record { slot = k; id = r .id; request = u .request; places = u .places })
+      made =
+          record {
+            cancels = λ rd. ap answeredNumber (cancel-unlinks s h w sound x k rd p r e room .0);
+            leaves-ring = λ rd m. cancel-unlinks s h w sound x k rd p r e room .1 ∙ rw (kind false (sym (x .ring .members k) ∙ m));
+            leaves-frames = λ rd m. cancel-unlinks s h w sound x k rd p r e room .1 ∙ rw (kind true (sym (x .periodic .members k) ∙ m));
+            waits = λ rd m. ap answeredNumber (collect-waits s h w sound x k rd p r e room);
+          }
 
-  pends : (b : Bool) → linkedIn b (endpointAt (now .state) k) ≡ true → core now (Collect k (newestId s k past) rd) .reply .answer ≡ Pending
-  pends b e = pends-with (linked-with b (now .state) k (endpointAt (now .state) k) refl e)
+  off : (b : Bool) (ks : List ℕ) (y : Endpoint) → endpointAt (w .state) k ≡ y → linkedIn b y ≡ false
+      → isIn k ks ≡ linkedIn b (endpointAt (w .state) k) → isIn k ks ≡ true → ⊥
+  off b ks y e q m t = false-true (sym (m ∙ ap (linkedIn b) e ∙ q) ∙ t)
 
-  comes : (b : Bool) → linkedIn b (endpointAt (now .state) k) ≡ true → Comes (newestId s k past) (cond b (Parts k (rd .frame)) (Unlinks k))
-  comes b e = comes-with b e (linked-with b (now .state) k (endpointAt (now .state) k) refl e)
+  unlinking-detaches : (p : Pipe) (r : Request) (b : UnlinkBoundary) → endpointAt (w .state) k ≡ Unlinking p r b → Detaches core s h w u
+  unlinking-detaches p r b e = subst (λ (id : ℕ). Detaches core s h w (record { slot = k; id = id; request = u .request; places = u .places })) id made
+    where
+      id : r .id ≡ u .id
+      id = ap (λ (y : Endpoint). idOf (tenantOf y)) (sym e) ∙ ap idOf holds
 
-pub cancels-unlink : Roomy → CancelUnlinks core
-cancels-unlink roomy s w o cs k rd =
-    let x = chained s w o cs .1 in (
-      (λ e. comes roomy s w o cs k rd false (sym (x .ring .members k) ∙ e)),
-      (λ e. comes roomy s w o cs k rd true (sym (x .periodic .members k) ∙ e)),
-    )
+      not-ring : isIn k (ringSlots s h) ≡ true → ⊥
+      not-ring = off false (ringSlots s h) (Unlinking p r b) e refl (x .ring .members k)
 
-pub collects-wait : Roomy → CollectWaits core
-collects-wait roomy s w o cs k rd e = by (isIn k (ringSlots s before)) refl e
-  where
-    before : History
-    before = historyOf core w cs
+      not-frames : isIn k (frameSlots s h) ≡ true → ⊥
+      not-frames = off true (frameSlots s h) (Unlinking p r b) e refl (x .periodic .members k)
 
-    by : (b : Bool) → isIn k (ringSlots s before) ≡ b → either b (isIn k (frameSlots s before)) ≡ true
-        → core (worldOf core w cs) (Collect k (newestId s k before) rd) .reply .answer ≡ Pending
-    by true q m = pends roomy s w o cs k rd false (sym (chained s w o cs .1 .ring .members k) ∙ q)
-    by false q m = pends roomy s w o cs k rd true (sym (chained s w o cs .1 .periodic .members k) ∙ m)
+      neither : (c : Bool) → isIn k (ringSlots s h) ≡ c → either c (isIn k (frameSlots s h)) ≡ true → ⊥
+      neither true q m = not-ring q
+      neither false q m = not-frames m
 
-pub chains-hold : Roomy → ChainsHold core
-chains-hold roomy = record { ring = ring-is; frames = frames-are; cancels = cancels-unlink roomy; collects = collects-wait roomy }
+      made : Detaches core s h w (record { slot = k; id = r .id; request = u .request; places = u .places })
+      made =
+          record {
+            cancels = λ rd. ap answeredNumber (mark-done s h w sound x k rd p r b e);
+            leaves-ring = λ rd m. absurd (not-ring m);
+            leaves-frames = λ rd m. absurd (not-frames m);
+            waits = λ rd m. absurd (neither (isIn k (ringSlots s h)) refl m);
+          }
+
+  use-detaches : (y : Endpoint) → endpointAt (w .state) k ≡ y → Detaches core s h w u
+  use-detaches Closed e = absurd (tenants-apart (u .request .kind) (u .id) (u .request .length) (tenantAt (w .state) k) (ap tenantOf e) holds)
+  use-detaches (Idle p) e = absurd (tenants-apart (u .request .kind) (u .id) (u .request .length) (tenantAt (w .state) k) (ap tenantOf e) holds)
+  use-detaches (Linked p r) e = linked-detaches p r e
+  use-detaches (Unlinking p r b) e = unlinking-detaches p r b e
+
+-- where a linked slot leaves room for one more unlink, in every world of a run
+pub detaches : Roomy → NoDetachFails core
+detaches roomy s w o cs =
+    let at = chained s w o cs in
+    let past = historyOf core w cs in
+    let now = worldOf core w cs in
+    every-map (Kept s (now .state .owner) (tenantAt (now .state)) (now .rows .pool) (now .rows .heads)) (Detaches core s past now)
+    (λ u kept. use-detaches s past now (at .0) (at .1) (roomy s w o cs) u (kept .holds) (endpointAt (now .state) (u .slot)) refl)
+    (uses s past) (held s w o cs .1 .each)

@@ -34,5 +34,5 @@ pub mod ChainSteps
 pub mod ChainLinks
 pub mod ChainKeeps
 pub mod ChainRuns
-pub mod ChainIds
 pub mod ChainCancels
+pub mod WrongChains
