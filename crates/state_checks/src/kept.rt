@@ -18,6 +18,8 @@ use opening::open::decide_open;
 use pipe::endpoint::kind_of;
 use pool::chain::View;
 use pool::chain::nothing_seen;
+use pool::places::Places;
+use pool::places::no_places;
 use register::writes::Writes;
 use request::judge::TransferRequest;
 use root_hub::calls::Scanned;
@@ -60,10 +62,10 @@ struct DecidedRows {
     setups: [u8; 257],
 }
 
-// What is kept after a call, the number of places that it writes to, its line, and its writes.
+// What is kept after a call, the places that it writes to, its line, and its writes.
 pub struct Acted {
     pub kept: Kept,
-    pub places: usize,
+    pub places: Places,
     pub line: Line,
     pub writes: Writes,
 }
@@ -198,7 +200,7 @@ fn act_open(k: Kept, n: u64, settings: Settings) -> Acted {
             lent,
             view,
         },
-        places: 0,
+        places: no_places(),
         line: call_line(n, 1, answered(answer)),
         writes: Writes::none(),
     }
@@ -233,7 +235,7 @@ fn act_call(k: Kept, n: u64, number: u8, call: Call) -> Acted {
             lent,
             view,
         },
-        places: places.count,
+        places,
         line: call_line(n, number, answer),
         writes,
     }
@@ -262,7 +264,7 @@ fn act_scan(k: Kept, n: u64, number: u8, scanned: Scanned) -> Acted {
             lent,
             view,
         },
-        places: 0,
+        places: no_places(),
         line: scan_line(n, number, answer, read, reply.wait, event),
         writes,
     }
@@ -275,7 +277,7 @@ fn act_power(k: Kept, n: u64, port: u8, reading: u32) -> Acted {
     let writes = powered.writes;
     Acted {
         kept: k,
-        places: 0,
+        places: no_places(),
         line: scan_line(
             n,
             20,

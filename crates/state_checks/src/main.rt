@@ -24,7 +24,7 @@ struct Turned {
     more: bool,
 }
 
-// How many records may still come.
+// How many records may still come: fewer each time.
 fn after_turn(left: u64, more: bool) -> u64
     requires { ⌜ 0 < left ⌝ }
     ensures { λ r. ⌜ r < left ⌝ }

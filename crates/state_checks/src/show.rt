@@ -45,12 +45,14 @@ pub fn show(acted: Acted) {
     let heads = kept.heads;
     let frames = kept.frames;
     let setups = kept.setups;
+    let places = acted.places;
     let line = acted.line;
     let writes = acted.writes;
     show_line(line);
     show_writes(writes);
     io::write_all(STDOUT, b"S ");
-    io::print_decimal(STDOUT, acted.places as u64);
+    io::print_decimal(STDOUT, places.count as u64);
+    word(sums::places_sum(places));
     word(sums::state_sum(state));
     word(sums::heads_sum(heads));
     word(sums::frames_sum(frames));

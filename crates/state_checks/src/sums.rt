@@ -1,5 +1,6 @@
 // One word over many: the sum so far times a prime, plus the next, modulo 2^32.
 use opening::hub::EhciRootHub;
+use pool::places::Places;
 use settings::settings::Settings;
 use slot::slot::Slot;
 use state::slots::slot_at;
@@ -47,6 +48,10 @@ pub fn frames_sum(frames: [u32; 1025]) -> u32 {
 
 pub fn setups_sum(setups: [u8; 257]) -> u32 {
     bytes(0, &setups)
+}
+
+pub fn places_sum(places: Places) -> u32 {
+    bytes(0, &places.at)
 }
 
 fn settings_sum(s: Settings) -> u32 {
