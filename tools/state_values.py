@@ -570,6 +570,7 @@ def first_checks():
         yield [owner(at, out)] + EVERY + [owner(at, back)]
     for name, out, back in (("D", 257, 4), ("E", 33, 4), ("ports", 0, 2), ("C", 0, 512), ("C", 16385, 512), ("W", 0, 3), ("pool_at", 1, AREAS[0]), ("frames_at", AREAS[1], AREAS[2])):
         yield [setting(name, out)] + EVERY + [setting(name, back)]
+    yield EVERY
 
 
 # the numbers of a slot by its phase, each in its range
@@ -591,10 +592,14 @@ def bounds():
     yield [number("unanswered", 1), number("noted", 0), number("doorbell", 0)]
     for place, value in product((0, 15, 16, 255), (1, 8, 9, 0)):
         yield [owner(place, value), tried]
-    for phase, kind in product(range(5), range(5)):
-        yield slot(7, **(GOOD[min(phase, 3)] | {"phase": phase, "kind": kind})) + [tried]
-    for phase, name, value in product(range(4), SLOT[2:], range(3)):
-        yield slot(7, **GOOD[phase]) + slot(7, **{name: value}) + [tried]
+    for phase in range(5):
+        good = GOOD[min(phase, 3)]
+        yield slot(7, **(good | {"phase": phase}))
+        for kind in range(5):
+            yield slot(7, kind=kind) + [tried]
+        yield slot(7, kind=good["kind"])
+        for name, value in product(SLOT[2:], range(3)):
+            yield slot(7, **{name: value}) + [tried] + slot(7, **{name: good[name]})
     for boundary in range(16382, 16386):
         yield slot(7, **(GOOD[3] | {"kind": 3, "boundary": boundary})) + [tried]
     yield slot(7, **GOOD[0])
@@ -611,7 +616,9 @@ def reasons():
             if full or not running or linked or k or kind != BULK or address == 0xFFFFFFFF:
                 yield [submit(k, kind, address=address, length=700)]
     # an idle slot that has descriptors of its own: no request has them
-    yield slot(0, phase=1, request=0) + [number("running", 1), owner(0, 1), owner(1, 0)] + [record(10, (), (p, 0x80)) for p in (0, 1, 2, 3, 4, 256, TOP)]
+    places = [record(10, (), (p, 0x80)) for p in (0, 1, 2, 3, 4, 255, 256, TOP)]
+    yield slot(0, phase=1, request=0) + [number("running", 1), owner(0, 1), owner(1, 0)] + places
+    yield slot(0, phase=2, request=1) + places + slot(0, phase=3) + places
 
 
 def setups():
@@ -619,6 +626,16 @@ def setups():
     for setup in (2**48 - 1, 2**48, 2**48 + 0x80, 2**63 + 0x80, TOP):
         for k, direction in product(range(3), (0, 1)):
             yield three() + [submit(k, KINDS[k], direction, setup, length=18)]
+
+
+def ranges():
+    """Buffers about the ends of their ranges; a setup's direction bit."""
+    buffers = [(0, 0), (TOP, 0), (2**32 - 1, 1), (2**32 - 1, 2), (2**32 - 512, 512), (2**32 - 511, 512), (2**32, 1), (TOP, 1)]
+    buffers += [(0, 2**32), (1, 2**32), (0, TOP), (0, 16384), (0, 16385), (0, 2048), (0, 2049)]
+    for k, (address, length) in product(range(3), buffers):
+        yield three() + [submit(k, KINDS[k], address=address, length=length)]
+    for direction, setup in product((0, 1), (0, 0x7F, 0x80, 0xFF, 2**48 - 1, 2**48 - 129)):
+        yield three() + [submit(1, CONTROL, direction, setup, length=18)]
 
 
 def ids():
@@ -673,11 +690,24 @@ def views():
         yield [number("unanswered", 0), number("doorbell", 0), collect(k, frame=8), collect(k, frame=9), sees(0)]
 
 
+def boundaries():
+    """FRINDEX at distances from its start; the doorbell before an unlink, with each reading of USBCMD."""
+    yield three() + [submit(2, INTERRUPT), cancel(2)]
+    for start, distance in product((0, 7, 16375, 16380, 16383), (0, 1, 8, 9, 10, 16383, 16384 + 8, 16384 + 9)):
+        yield slot(2, phase=3, request=1, boundary=start) + [collect(2, 1, start + distance + 0xFFF00000)]
+    yield three() + [submit(0, BULK)]
+    bells = [(0, 0, 0)] + [(u, d, n) for u in (1, 2, 31) for d, n in ((0, 0), (1, 0), (1, 1))]
+    for (unanswered, doorbell, noted), command in product(bells, (0, 0x80B31, 0x40, 0xFFFFFFFF)):
+        yield slot(0, phase=2, request=1, cancel=0, boundary=0) + [record(68, (), (0, AREAS[1] + 128 + 2))]
+        yield [number("unanswered", unanswered), number("doorbell", doorbell), number("noted", noted), record(11, (0,), (1, command, 0))]
+
+
 def interrupts():
     yield three() + [submit(0, BULK), submit(1, CONTROL), submit(2, INTERRUPT), cancel(2, frame=16383)]
     for up, others in ((1, 0), (0, 0xFFFFFFC0)):
         yield [number("unanswered", up), number("doorbell", up)]
-        for status, first, second in product(range(64), (0, 1), (0, 1)):
+        flags = [(s, *pair) for s in range(64) for pair in ((s & 1, s >> 1 & 1), (s >> 2 & 1, s >> 3 & 1))]
+        for status, first, second in flags:
             yield [number("pending", 0x12 * (1 - up)), number("masked", 2 * (1 - up)), number("noted", 0), record(13, (first, second), (status | others, 0x13F))]
     yield slot(0, phase=3) + slot(1, phase=3)
     for noted, doorbell, unanswered in ((0, 0, 0), (0, 1, 2), (1, 1, 1), (1, 1, 2)):
@@ -723,7 +753,7 @@ def hubs():
 
 
 def records():
-    for family in (openings, first_checks, bounds, reasons, setups, ids, words, links, unanswered, views, interrupts, bring_ups, hubs):
+    for family in (openings, first_checks, bounds, reasons, setups, ranges, ids, words, links, unanswered, views, boundaries, interrupts, bring_ups, hubs):
         for script in family():
             yield from script
 

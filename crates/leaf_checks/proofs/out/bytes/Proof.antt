@@ -1,8 +1,8 @@
--- `hub_checks::out::smalls` is safe and ends: the measure is the number of values that are left. Assumes nothing.
+-- `leaf_checks::out::bytes` is safe and ends: the measure is the number of bytes that are left. Assumes nothing.
 use Prim.Native.Nat.{_-_}
 use borrow.Author.Needs.{needs}
-use Rattle.hub_checks.proofs.out.smalls.Statement.{statement}
-use Rattle.hub_checks.proofs.out.smalls.Tie as tie
+use Rattle.leaf_checks.proofs.out.bytes.Statement.{statement}
+use Rattle.leaf_checks.proofs.out.bytes.Tie as tie
 
 abbrev Inv-loop : tie.InvT-loop
 Inv-loop values k₀ k-end k = Unit {0}
@@ -13,11 +13,11 @@ abbrev μ-loop : tie.MeasureT-loop
 loop-holds : tie.Need-loop-holds Inv-loop μ-loop
 loop-holds c = search needs
 
-shared-slice-read-small : tie.Need-shared-slice-read-small Inv-loop μ-loop
-shared-slice-read-small c = search needs
+shared-slice-read-byte : tie.Need-shared-slice-read-byte Inv-loop μ-loop
+shared-slice-read-byte c = search needs
 
-small-requires : tie.Need-small-requires Inv-loop μ-loop
-small-requires c κs = search needs
+byte-requires : tie.Need-byte-requires Inv-loop μ-loop
+byte-requires c κs = search needs
 
 add-k : tie.Need-add-k Inv-loop μ-loop
 add-k c = search needs
@@ -31,15 +31,15 @@ loop-again c = search needs
 returns : tie.Need-returns Inv-loop μ-loop
 returns c = search needs
 
-pub smalls-spec : {M : Type 1} → statement M
-smalls-spec =
+pub bytes-spec : {M : Type 1} → statement M
+bytes-spec =
     tie.close
     (tie.spec
     Inv-loop
     μ-loop
     loop-holds
-    shared-slice-read-small
-    small-requires
+    shared-slice-read-byte
+    byte-requires
     add-k
     loop-less
     loop-again

@@ -1,8 +1,8 @@
--- `interrupt_checks::out::words` is safe and ends: the measure is the number of words that are left. Assumes nothing.
+-- `leaf_checks::out::shorts` is safe and ends: the measure is the number of numbers that are left. Assumes nothing.
 use Prim.Native.Nat.{_-_}
 use borrow.Author.Needs.{needs}
-use Rattle.interrupt_checks.proofs.out.words.Statement.{statement}
-use Rattle.interrupt_checks.proofs.out.words.Tie as tie
+use Rattle.leaf_checks.proofs.out.shorts.Statement.{statement}
+use Rattle.leaf_checks.proofs.out.shorts.Tie as tie
 
 abbrev Inv-loop : tie.InvT-loop
 Inv-loop values k₀ k-end k = Unit {0}
@@ -13,14 +13,14 @@ abbrev μ-loop : tie.MeasureT-loop
 loop-holds : tie.Need-loop-holds Inv-loop μ-loop
 loop-holds c = search needs
 
-mul-word : tie.Need-mul-word Inv-loop μ-loop
-mul-word c = search needs
+mul-short : tie.Need-mul-short Inv-loop μ-loop
+mul-short c = search needs
 
-shared-slice-read-word : tie.Need-shared-slice-read-word Inv-loop μ-loop
-shared-slice-read-word c = search needs
+shared-slice-read-short : tie.Need-shared-slice-read-short Inv-loop μ-loop
+shared-slice-read-short c = search needs
 
-word-requires : tie.Need-word-requires Inv-loop μ-loop
-word-requires c κs = search needs
+short-requires : tie.Need-short-requires Inv-loop μ-loop
+short-requires c κs = search needs
 
 add-k : tie.Need-add-k Inv-loop μ-loop
 add-k c = search needs
@@ -34,16 +34,16 @@ loop-again c = search needs
 returns : tie.Need-returns Inv-loop μ-loop
 returns c = search needs
 
-pub words-spec : {M : Type 1} → statement M
-words-spec =
+pub shorts-spec : {M : Type 1} → statement M
+shorts-spec =
     tie.close
     (tie.spec
     Inv-loop
     μ-loop
     loop-holds
-    mul-word
-    shared-slice-read-word
-    word-requires
+    mul-short
+    shared-slice-read-short
+    short-requires
     add-k
     loop-less
     loop-again
