@@ -673,7 +673,9 @@ def links():
             yield three() + [submit(other, KINDS[other]), submit(k, KINDS[k])] + broken + [cancel(k), collect(k), sees(2), collect(k), sees(1, 8), collect(k), sees(0)]
     for kind in (BULK, INTERRUPT):
         yield three() + [record(6, (0,)), record(5, (kind, 5, 0), (64,)), record(5, (kind, 5, 3), (64,)), submit(0, kind), submit(3, kind)]
-        yield [head(3, 0, 1), cancel(0), collect(0), head(3, 0, AREAS[1] + 128 + 2), cancel(0), cancel(3)]
+        yield [head(3, 0, 1), cancel(0), collect(0), head(3, 0, AREAS[1] + 128 + 2)]
+        # slot 3 leads to slot 0's head: as an idle slot, as a waiting one, as a linked one
+        yield slot(3, phase=1, request=0, direction=0, length=0) + [cancel(0)] + slot(3, phase=3, request=1) + [cancel(0)] + slot(3, phase=2) + [cancel(0), cancel(3)]
 
 
 def unanswered():
@@ -693,7 +695,7 @@ def views():
 def boundaries():
     """FRINDEX at distances from its start; the doorbell before an unlink, with each reading of USBCMD."""
     yield three() + [submit(2, INTERRUPT), cancel(2)]
-    for start, distance in product((0, 7, 16375, 16380, 16383), (0, 1, 8, 9, 10, 16383, 16384 + 8, 16384 + 9)):
+    for start, distance in product((0, 7, 16375, 16380, 16383), (0, 1, 8, 9, 10, 8192, 16383, 16384 + 8, 16384 + 9)):
         yield slot(2, phase=3, request=1, boundary=start) + [collect(2, 1, start + distance + 0xFFF00000)]
     yield three() + [submit(0, BULK)]
     bells = [(0, 0, 0)] + [(u, d, n) for u in (1, 2, 31) for d, n in ((0, 0), (1, 0), (1, 1))]
