@@ -1,6 +1,7 @@
 // Changes that no call makes, by the numbers of a record.
 use crate::kept::Kept;
 use crate::kept::Lent;
+use crate::kept::Rows;
 use call_log::fields::Fields;
 use opening::hub::EhciRootHub;
 use pool::chain::View;
@@ -142,21 +143,28 @@ fn hub_with(mut h: EhciRootHub, f: Fields) -> EhciRootHub {
     h
 }
 
-pub fn changed(k: Kept, f: Fields) -> Kept {
-    let state = k.state;
-    let hub = k.hub;
-    let heads = k.heads;
-    let frames = k.frames;
-    let setups = k.setups;
-    let lent = k.lent;
-    let view = k.view;
-    Kept {
-        state: state_with(state, f),
-        hub: hub_with(hub, f),
+fn rows_with(rows: Rows, f: Fields) -> Rows {
+    let heads = rows.heads;
+    let frames = rows.frames;
+    let setups = rows.setups;
+    let lent = rows.lent;
+    let view = rows.view;
+    Rows {
         heads: heads_with(heads, f),
         frames: frames_with(frames, f),
         setups: setups_with(setups, f),
         lent: lent_with(lent, f),
         view: view_with(view, f),
+    }
+}
+
+pub fn changed(k: Kept, f: Fields) -> Kept {
+    let state = k.state;
+    let hub = k.hub;
+    let rows = k.rows;
+    Kept {
+        state: state_with(state, f),
+        hub: hub_with(hub, f),
+        rows: rows_with(rows, f),
     }
 }

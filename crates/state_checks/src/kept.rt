@@ -37,9 +37,7 @@ pub struct Lent {
 }
 
 // Each row is one longer than any opening lends it. `view` is what a collect sees of the pool.
-pub struct Kept {
-    pub state: Ehci,
-    pub hub: EhciRootHub,
+pub struct Rows {
     pub heads: [u32; 562],
     pub frames: [u32; 1025],
     pub setups: [u8; 257],
@@ -47,19 +45,21 @@ pub struct Kept {
     pub view: View,
 }
 
+pub struct Kept {
+    pub state: Ehci,
+    pub hub: EhciRootHub,
+    pub rows: Rows,
+}
+
 // What opening or a call decides, and the rows then.
 struct OpenedRows {
     opening: Opening,
-    heads: [u32; 562],
-    frames: [u32; 1025],
-    setups: [u8; 257],
+    rows: Rows,
 }
 
 struct DecidedRows {
     decided: Decided,
-    heads: [u32; 562],
-    frames: [u32; 1025],
-    setups: [u8; 257],
+    rows: Rows,
 }
 
 // What is kept after a call, the places that it writes to, its line, and its writes.
@@ -93,26 +93,29 @@ pub fn blank() -> Kept {
     Kept {
         state,
         hub,
-        heads,
-        frames,
-        setups,
-        lent: Lent {
-            pool: 0,
-            heads: 0,
-            frames: 0,
-            setups: 0,
+        rows: Rows {
+            heads,
+            frames,
+            setups,
+            lent: Lent {
+                pool: 0,
+                heads: 0,
+                frames: 0,
+                setups: 0,
+            },
+            view: nothing_seen(),
         },
-        view: nothing_seen(),
     }
 }
 
 // The first of each row is lent. Each length fits: the remainders are for the proof.
 fn lend_open(
     settings: Settings,
-    lent: Lent,
     heads: [u32; 562],
     frames: [u32; 1025],
     setups: [u8; 257],
+    lent: Lent,
+    view: View,
 ) -> OpenedRows {
     let h = (lent.heads % 563) as usize;
     let f = (lent.frames % 1026) as usize;
@@ -129,18 +132,22 @@ fn lend_open(
     );
     OpenedRows {
         opening,
-        heads: words,
-        frames: entries,
-        setups: bytes,
+        rows: Rows {
+            heads: words,
+            frames: entries,
+            setups: bytes,
+            lent,
+            view,
+        },
     }
 }
 
 fn lend_call(
     state: Ehci,
-    lent: Lent,
     heads: [u32; 562],
     frames: [u32; 1025],
     setups: [u8; 257],
+    lent: Lent,
     view: View,
     call: Call,
 ) -> DecidedRows {
@@ -162,10 +169,32 @@ fn lend_call(
     );
     DecidedRows {
         decided,
-        heads: words,
-        frames: entries,
-        setups: bytes,
+        rows: Rows {
+            heads: words,
+            frames: entries,
+            setups: bytes,
+            lent,
+            view,
+        },
     }
+}
+
+fn opened(settings: Settings, rows: Rows) -> OpenedRows {
+    let heads = rows.heads;
+    let frames = rows.frames;
+    let setups = rows.setups;
+    let lent = rows.lent;
+    let view = rows.view;
+    lend_open(settings, heads, frames, setups, lent, view)
+}
+
+fn called(state: Ehci, rows: Rows, call: Call) -> DecidedRows {
+    let heads = rows.heads;
+    let frames = rows.frames;
+    let setups = rows.setups;
+    let lent = rows.lent;
+    let view = rows.view;
+    lend_call(state, heads, frames, setups, lent, view, call)
 }
 
 fn answered(answer: Answer) -> Answered {
@@ -177,29 +206,15 @@ fn answered(answer: Answer) -> Answered {
 
 // What a refused opening gives is taken too: no call accepts it.
 fn act_open(k: Kept, n: u64, settings: Settings) -> Acted {
-    let lent = k.lent;
-    let view = k.view;
-    let before = k.heads;
-    let entries = k.frames;
-    let packets = k.setups;
-    let o = lend_open(settings, lent, before, entries, packets);
-    let heads = o.heads;
-    let frames = o.frames;
-    let setups = o.setups;
+    let before = k.rows;
+    let o = opened(settings, before);
+    let rows = o.rows;
     let opening = o.opening;
     let state = opening.state;
     let hub = opening.hub;
     let answer = opening.answer;
     Acted {
-        kept: Kept {
-            state,
-            hub,
-            heads,
-            frames,
-            setups,
-            lent,
-            view,
-        },
+        kept: Kept { state, hub, rows },
         places: no_places(),
         line: call_line(n, 1, answered(answer)),
         writes: Writes::none(),
@@ -207,17 +222,9 @@ fn act_open(k: Kept, n: u64, settings: Settings) -> Acted {
 }
 
 fn act_call(k: Kept, n: u64, number: u8, call: Call) -> Acted {
-    let before = k.state;
     let hub = k.hub;
-    let lent = k.lent;
-    let view = k.view;
-    let words = k.heads;
-    let entries = k.frames;
-    let packets = k.setups;
-    let x = lend_call(before, lent, words, entries, packets, view, call);
-    let heads = x.heads;
-    let frames = x.frames;
-    let setups = x.setups;
+    let x = called(k.state, k.rows, call);
+    let rows = x.rows;
     let decided = x.decided;
     let chain = decided.chain;
     let places = chain.places;
@@ -226,15 +233,7 @@ fn act_call(k: Kept, n: u64, number: u8, call: Call) -> Acted {
     let answer = reply.answer;
     let writes = reply.writes;
     Acted {
-        kept: Kept {
-            state,
-            hub,
-            heads,
-            frames,
-            setups,
-            lent,
-            view,
-        },
+        kept: Kept { state, hub, rows },
         places,
         line: call_line(n, number, answer),
         writes,
@@ -243,11 +242,7 @@ fn act_call(k: Kept, n: u64, number: u8, call: Call) -> Acted {
 
 fn act_scan(k: Kept, n: u64, number: u8, scanned: Scanned) -> Acted {
     let state = k.state;
-    let heads = k.heads;
-    let frames = k.frames;
-    let setups = k.setups;
-    let lent = k.lent;
-    let view = k.view;
+    let rows = k.rows;
     let hub = scanned.hub;
     let reply = scanned.reply;
     let answer = reply.answer;
@@ -255,15 +250,7 @@ fn act_scan(k: Kept, n: u64, number: u8, scanned: Scanned) -> Acted {
     let event = reply.event;
     let writes = reply.writes;
     Acted {
-        kept: Kept {
-            state,
-            hub,
-            heads,
-            frames,
-            setups,
-            lent,
-            view,
-        },
+        kept: Kept { state, hub, rows },
         places: no_places(),
         line: scan_line(n, number, answer, read, reply.wait, event),
         writes,

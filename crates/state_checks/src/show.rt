@@ -42,9 +42,10 @@ pub fn show(acted: Acted) {
     let kept = acted.kept;
     let state = kept.state;
     let hub = kept.hub;
-    let heads = kept.heads;
-    let frames = kept.frames;
-    let setups = kept.setups;
+    let rows = kept.rows;
+    let heads = rows.heads;
+    let frames = rows.frames;
+    let setups = rows.setups;
     let places = acted.places;
     let line = acted.line;
     let writes = acted.writes;
