@@ -516,7 +516,7 @@ KINDS = [BULK, CONTROL, INTERRUPT]
 def three():
     """A running controller of four slots: bulk, control, interrupt, closed."""
     opened = [record(5, (kind, 5, k), (64,)) for k, kind in enumerate(KINDS)]
-    return opening() + [record(2)] + [record(3, (), (v,)) for v in (0, 0x1000, 0, 0, 0, 0)] + opened
+    return opening() + [number("running", 1)] + opened
 
 
 # Every call, such that it is accepted where slot 0 is idle, slot 1 linked and slot 2 unlinking.
