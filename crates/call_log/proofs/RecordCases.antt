@@ -6,7 +6,8 @@ use borrow.Author.Tests.{eq-eqb, ne-eqb}
 use lib.Dec.{eqb}
 use lib.ListN.{length}
 use Rattle.call_log.specs.Fields.{fieldsOf}
-use Rattle.call_log.specs.Records.{entryOf, judged, judgedAs, pickEntry}
+use Rattle.call_log.specs.Records.{entryOf, judged, judgedAs}
+use Rattle.text.specs.Text.{pick}
 use Rattle.call_log.specs.declared.fields.Fields.{Fields}
 use Rattle.call_log.specs.declared.record.Entry.{Entry}
 use Rattle.call_log.specs.declared.record.Entry.the-variants.{Bad}

@@ -1,9 +1,9 @@
 use mathlib.Core.Path.{refl}
 use native.Mathlib.Omega.{arith}
-use Rattle.job_sheet.proofs.NumberLaws.{number-both}
+use Rattle.text.proofs.NumberLaws.{number-both}
 use borrow.Author.Needs.{needs}
-use Rattle.job_sheet.proofs.number.number32.Statement.{statement}
-use Rattle.job_sheet.proofs.number.number32.Tie as tie
+use Rattle.text.proofs.number.number32.Statement.{statement}
+use Rattle.text.proofs.number.number32.Tie as tie
 
 number16-requires : tie.Need-number16-requires
 number16-requires c κs = search needs

@@ -1,8 +1,8 @@
-// Little-endian numbers among the bytes of a sheet.
+// Little-endian numbers among bytes.
 ghost use mathlib.Core.Path.{_≡_};
 ghost use Prim.Native.Nat.{_+_, _≤_};
 ghost use lib.ListN.{length};
-ghost use Rattle.job_sheet.specs.Numbers.{numberAt};
+ghost use Rattle.text.specs.Numbers.{numberAt};
 
 pub fn number16(bytes: &[u8], at: usize) -> u16
     requires { ⌜ at + 2 ≤ length (now bytes) ⌝ }

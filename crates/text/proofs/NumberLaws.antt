@@ -7,7 +7,7 @@ use native.Mathlib.Omega.{arith}
 use lib.Dec.{lit<}
 use lib.ListN.{drop, getD, length, length-drop, take}
 use lib.Seq.{drop-cons, drop-drop, getD-drop, length-take-le, take-add}
-use Rattle.job_sheet.specs.Numbers.{littleEndian, numberAt, numberOf}
+use Rattle.text.specs.Numbers.{littleEndian, numberAt, numberOf}
 
 -- what is known of a slice of bytes
 abbrev pub Bytes : List ℕ → Type 0

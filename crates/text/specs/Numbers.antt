@@ -1,4 +1,4 @@
--- Document 01, "Job sheets": little-endian numbers.
+-- Little-endian numbers.
 use Prim.Native.Nat.{ℕ, zero, suc, _+_, _*_, _/_, _%_}
 use mathlib.Core.List.{List, [], _∷_}
 use lib.ListN.{drop, take}

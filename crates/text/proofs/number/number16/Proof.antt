@@ -1,10 +1,10 @@
 use mathlib.Core.Path.{refl}
 use Prim.Native.Nat.{_+_}
 use native.Mathlib.Omega.{arith}
-use Rattle.job_sheet.proofs.NumberLaws.{number-both, number-one}
+use Rattle.text.proofs.NumberLaws.{number-both, number-one}
 use borrow.Author.Needs.{needs}
-use Rattle.job_sheet.proofs.number.number16.Statement.{statement}
-use Rattle.job_sheet.proofs.number.number16.Tie as tie
+use Rattle.text.proofs.number.number16.Statement.{statement}
+use Rattle.text.proofs.number.number16.Tie as tie
 
 shared-slice-read-low : tie.Need-shared-slice-read-low
 shared-slice-read-low c = search needs
