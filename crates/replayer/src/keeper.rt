@@ -1,4 +1,18 @@
 // The controller that a log is replayed on, and what one record does to it.
+ghost use mathlib.Core.Path.{_≡_};
+ghost use Rattle.replayer.specs.Replays.{
+  actOf,
+  callEffect,
+  effectOf,
+  freshKeeper,
+  noEffect,
+  openEffect,
+  powerEffect,
+  rowsOf,
+  scanEffect,
+};
+ghost use Rattle.root_hub.specs.Calls.{powerOf};
+ghost use Rattle.world.specs.Worlds.{callWorld, openWorld};
 use answer::answer::Answer;
 use bring_up::reads::NextRead;
 use call_log::block::Rows;
@@ -34,7 +48,9 @@ pub struct Acted {
     pub writes: Writes,
 }
 
-pub fn fresh_keeper() -> Keeper {
+pub fn fresh_keeper() -> Keeper
+    ensures { λ r. ⌜ r ≡ freshKeeper ⌝ }
+{
     Keeper {
         world: blank_world(),
         hub: EhciRootHub::new(0),
@@ -42,7 +58,9 @@ pub fn fresh_keeper() -> Keeper {
     }
 }
 
-pub fn rows_of(k: Keeper) -> Rows {
+pub fn rows_of(k: Keeper) -> Rows
+    ensures { λ r. ⌜ r ≡ rowsOf k ⌝ }
+{
     let world = k.world;
     let hub = k.hub;
     let pool = world.pool;
@@ -60,7 +78,9 @@ pub fn rows_of(k: Keeper) -> Rows {
 }
 
 // A refused opening leaves the earlier controller as it was.
-fn act_open(k: Keeper, n: u64, settings: Settings) -> Acted {
+fn act_open(k: Keeper, n: u64, number: u8, settings: Settings) -> Acted
+    ensures { λ r. ⌜ effectOf r ≡ openEffect k n number (openWorld (k .world) settings) ⌝ }
+{
     let before = k.world;
     let opened = open_in(before, settings);
     let answer = opened.answer;
@@ -73,39 +93,44 @@ fn act_open(k: Keeper, n: u64, settings: Settings) -> Acted {
                 hub,
                 opened: true,
             },
-            line: call_line(n, 1, Answered::Done(Given::Nothing)),
+            line: call_line(n, number, Answered::Done(Given::Nothing)),
             opening: true,
             writes: Writes::none(),
         },
         Answer::Refused(refusal) => Acted {
             keeper: k,
-            line: call_line(n, 1, Answered::Refused(refusal)),
+            line: call_line(n, number, Answered::Refused(refusal)),
             opening: false,
             writes: Writes::none(),
         },
     }
 }
 
-fn act_call(k: Keeper, n: u64, number: u8, call: Call) -> Acted {
+fn act_call(k: Keeper, n: u64, number: u8, call: Call) -> Acted
+    ensures { λ r. ⌜ effectOf r ≡ callEffect k n number (callWorld (k .world) call) ⌝ }
+{
     let before = k.world;
     let hub = k.hub;
     let called = call_on(before, call);
     let world = called.world;
     let answer = called.answer;
     let writes = called.writes;
+    let line = call_line(n, number, answer);
     Acted {
         keeper: Keeper {
             world,
             hub,
             opened: k.opened,
         },
-        line: call_line(n, number, answer),
+        line,
         opening: false,
         writes,
     }
 }
 
-fn act_scan(k: Keeper, n: u64, number: u8, scanned: Scanned) -> Acted {
+fn act_scan(k: Keeper, n: u64, number: u8, scanned: Scanned) -> Acted
+    ensures { λ r. ⌜ effectOf r ≡ scanEffect k n number scanned ⌝ }
+{
     let world = k.world;
     let hub = scanned.hub;
     let reply = scanned.reply;
@@ -113,57 +138,65 @@ fn act_scan(k: Keeper, n: u64, number: u8, scanned: Scanned) -> Acted {
     let read = reply.read;
     let event = reply.event;
     let writes = reply.writes;
+    let line = scan_line(n, number, answer, read, reply.wait, event);
     Acted {
         keeper: Keeper {
             world,
             hub,
             opened: k.opened,
         },
-        line: scan_line(n, number, answer, read, reply.wait, event),
+        line,
         opening: false,
         writes,
     }
 }
 
 // Port power reads nothing next and has no event.
-fn act_power(k: Keeper, n: u64, port: u8, reading: u32) -> Acted {
+fn act_power(k: Keeper, n: u64, number: u8, port: u8, reading: u32) -> Acted
+    ensures { λ r. ⌜ effectOf r ≡ powerEffect k n number (powerOf (k .hub) port reading) ⌝ }
+{
     let hub = k.hub;
     let powered = root_hub::calls::port_power(hub, port, reading);
     let answer = powered.answer;
     let writes = powered.writes;
+    let line = scan_line(
+        n,
+        number,
+        answer,
+        NextRead::Nothing,
+        powered.wait,
+        PortEvent::Nothing,
+    );
     Acted {
         keeper: k,
-        line: scan_line(
-            n,
-            20,
-            answer,
-            NextRead::Nothing,
-            powered.wait,
-            PortEvent::Nothing,
-        ),
+        line,
         opening: false,
         writes,
     }
 }
 
-fn act_nothing(k: Keeper, n: u64) -> Acted {
+fn act_nothing(k: Keeper, n: u64, number: u8) -> Acted
+    ensures { λ r. ⌜ effectOf r ≡ noEffect k n number ⌝ }
+{
     Acted {
         keeper: k,
-        line: call_line(n, 0, Answered::Pending),
+        line: call_line(n, number, Answered::Pending),
         opening: false,
         writes: Writes::none(),
     }
 }
 
-// A bad record does nothing; the program stops at it.
-pub fn act(k: Keeper, n: u64, number: u8, entry: Entry) -> Acted {
+// A bad record does nothing; the log ends at it.
+pub fn act(k: Keeper, n: u64, number: u8, entry: Entry) -> Acted
+    ensures { λ r. ⌜ effectOf r ≡ actOf k n number entry ⌝ }
+{
     let hub = k.hub;
     match entry {
-        Entry::Open(settings) => act_open(k, n, settings),
+        Entry::Open(settings) => act_open(k, n, number, settings),
         Entry::Call(call) => act_call(k, n, number, call),
         Entry::StartScan => act_scan(k, n, number, root_hub::calls::start(hub)),
         Entry::ScanStep(reading) => act_scan(k, n, number, root_hub::calls::step(hub, reading)),
-        Entry::PortPower(port, reading) => act_power(k, n, port, reading),
-        Entry::Bad => act_nothing(k, n),
+        Entry::PortPower(port, reading) => act_power(k, n, number, port, reading),
+        Entry::Bad => act_nothing(k, n, number),
     }
 }

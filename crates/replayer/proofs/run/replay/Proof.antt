@@ -1,7 +1,7 @@
 use Prim.Native.Nat.{_≤_}
 use native.Mathlib.Omega.{arith}
-use Rattle.replay.proofs.main.Statement.{statement}
-use Rattle.replay.proofs.main.Tie as tie
+use Rattle.replayer.proofs.run.replay.Statement.{statement}
+use Rattle.replayer.proofs.run.replay.Tie as tie
 
 abbrev Inv-loop : tie.InvT-loop
 Inv-loop keeper₀ left₀ keeper left = left ≤ 18446744073709551615
@@ -15,11 +15,11 @@ fresh-keeper-requires c κs = tt
 loop-holds : tie.Need-loop-holds Inv-loop μ-loop
 loop-holds c = omega arith
 
-sub-turn : tie.Need-sub-turn Inv-loop μ-loop
-sub-turn c = omega arith
+sub-next-record : tie.Need-sub-next-record Inv-loop μ-loop
+sub-next-record c = omega arith
 
-turn-requires : tie.Need-turn-requires Inv-loop μ-loop
-turn-requires c κs = tt
+next-record-requires : tie.Need-next-record-requires Inv-loop μ-loop
+next-record-requires c κs = tt
 
 after-turn-requires : tie.Need-after-turn-requires Inv-loop μ-loop
 after-turn-requires c κs = omega arith
@@ -33,16 +33,16 @@ loop-again c = omega arith
 returns : tie.Need-returns Inv-loop μ-loop
 returns c = tt
 
-pub main-spec : {M : Type 1} → statement M
-main-spec =
+pub replay-spec : {M : Type 1} → statement M
+replay-spec =
     tie.close
     (tie.spec
     Inv-loop
     μ-loop
     fresh-keeper-requires
     loop-holds
-    sub-turn
-    turn-requires
+    sub-next-record
+    next-record-requires
     after-turn-requires
     loop-less
     loop-again
