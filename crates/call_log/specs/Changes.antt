@@ -10,6 +10,7 @@ use Rattle.register.specs.declared.writes.Write.{Write}
 use Rattle.register.specs.declared.writes.Writes.{Writes}
 use Rattle.register.specs.Writes.{listOf, writeOf}
 use Rattle.settings.specs.Tests.{both, either}
+use Rattle.text.specs.Numbers.{numberAt}
 use Rattle.text.specs.Text.{linesTo, onlyIf, pick}
 use Rattle.call_log.specs.Lines.{frameLine, headLine, portLine, recordLine, setupLine, writeLine}
 
@@ -71,9 +72,9 @@ frameLines before after = linesTo (frameChange before after) (length after)
 
 -- ---- `S slot` and 16 hex digits for each setup packet that changed
 
+-- eight bytes say one number and no other eight do
 unfoldable pub sameEight : List ℕ → List ℕ → ℕ → Bool
-sameEight a b p =
-    both (both (both (both (both (both (both (eqb (getD a p 0) (getD b p 0)) (eqb (getD a (p + 1) 0) (getD b (p + 1) 0))) (eqb (getD a (p + 2) 0) (getD b (p + 2) 0))) (eqb (getD a (p + 3) 0) (getD b (p + 3) 0))) (eqb (getD a (p + 4) 0) (getD b (p + 4) 0))) (eqb (getD a (p + 5) 0) (getD b (p + 5) 0))) (eqb (getD a (p + 6) 0) (getD b (p + 6) 0))) (eqb (getD a (p + 7) 0) (getD b (p + 7) 0))
+sameEight a b p = eqb (numberAt a p 8) (numberAt b p 8)
 
 unfoldable pub setupChange : List ℕ → List ℕ → ℕ → List ℕ
 setupChange before after slot =

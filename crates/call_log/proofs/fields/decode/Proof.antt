@@ -1,3 +1,5 @@
+use mathlib.Core.Path.{refl}
+use Rattle.call_log.proofs.FieldsLaws.{fields-ext}
 use Rattle.call_log.specs.Fields.{fieldsOf}
 use borrow.Author.Needs.{needs}
 use Rattle.call_log.proofs.fields.decode.Statement.{statement}
@@ -51,15 +53,9 @@ number64-requires-7 c κs = search needs
 returns : tie.Need-returns
 unfolding fieldsOf
 returns c =
-    rw (
-      c .before .before .before .before .before .before .number64 .ensures,
-      c .before .before .before .before .before .number642 .ensures,
-      c .before .before .before .before .number643 .ensures,
-      c .before .before .before .number644 .ensures,
-      c .before .before .number645 .ensures,
-      c .before .number646 .ensures,
-      c .number647 .ensures,
-    )
+    fields-ext (fieldsOf (c .before .before .before .before .before .before .before .before .before .before .before .before .before .before .before .before .args .bytes .now)) _ _ _ _ _ _ _ _ _ _ _ _ _ _ _ refl refl refl refl refl refl refl refl (c .before .before .before .before .before .before .number64 .ensures)
+    (c .before .before .before .before .before .number642 .ensures) (c .before .before .before .before .number643 .ensures) (c .before .before .before .number644 .ensures) (c .before .before .number645 .ensures) (c .before .number646 .ensures)
+    (c .number647 .ensures)
 
 pub decode-spec : {M : Type 1} → statement M
 decode-spec =
