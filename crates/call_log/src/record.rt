@@ -1,7 +1,6 @@
 // A record of a log: the call that it says.
 ghost use mathlib.Core.Path.{_≡_};
 ghost use Prim.Native.Nat.{_%_, _^_, _≤_, _<_};
-ghost use Rattle.pipe.specs.Endpoints.{directionOf};
 ghost use Rattle.call_log.specs.Records.{
   guarded,
   plain,
@@ -30,10 +29,10 @@ use controller::lent::Readings;
 use ehci::call::Call;
 use ehci::call::EndpointFields;
 use ehci::call::InterruptReadings;
+use pipe::endpoint::direction_of;
 use pipe::endpoint::kind_of;
 use request::judge::TransferRequest;
 use settings::settings::Settings;
-use token::request::Direction;
 
 // A register value or a token is below this, a packet size and six setup bytes below those.
 const WORD_END: u64 = 0x1_0000_0000;
@@ -69,16 +68,6 @@ fn low_size(n: u64) -> u16
     ensures { λ r. ⌜ r ≡ n % 2 ^ 16 ⌝ }
 {
     (n % SIZE_END) as u16
-}
-
-fn direction_of(number: u8) -> Direction
-    ensures { λ r. ⌜ r ≡ directionOf number ⌝ }
-{
-    if number == 0 {
-        Direction::Out
-    } else {
-        Direction::In
-    }
 }
 
 // A call with no parameters.
