@@ -23,6 +23,7 @@ pub mod ExclusiveLaws
 pub mod CoverBytes
 pub mod CoverHolds
 pub mod RoomPromises
+pub mod RoomWrong
 pub mod RangeTheorems
 pub mod ChainLists
 pub mod WalkChains
