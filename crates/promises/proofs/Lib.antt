@@ -35,4 +35,6 @@ pub mod ChainLinks
 pub mod ChainKeeps
 pub mod ChainRuns
 pub mod ChainCancels
+pub mod ChainCollects
+pub mod ChainUses
 pub mod WrongChains
