@@ -290,7 +290,7 @@ fn place_of(qtd: &CoherentBox<QueueTransferDescriptor>) -> usize {
     dma_api::place_of(Area::Descriptors, qtd.dma_addr().as_u64())
 }
 
-fn descriptor_words(qtd: &QueueTransferDescriptor) -> [u32; 13] {
+pub(super) fn descriptor_words(qtd: &QueueTransferDescriptor) -> [u32; 13] {
     let mut words = [0; 13];
     words[..3].copy_from_slice(&[qtd.next_qtd, qtd.alt_next_qtd, qtd.token]);
     words[3..8].copy_from_slice(&qtd.buffer);
@@ -299,7 +299,7 @@ fn descriptor_words(qtd: &QueueTransferDescriptor) -> [u32; 13] {
 }
 
 /// A head's words in 01's order, by their names in 000.
-pub fn words_of_head(head: &QueueHead) -> [u32; 17] {
+pub(super) fn words_of_head(head: &QueueHead) -> [u32; 17] {
     let mut words = [0; 17];
     words[..4].copy_from_slice(&[head.horizontal_link, head.endpoint_chars, head.endpoint_caps, head.current_qtd]);
     words[4..].copy_from_slice(&descriptor_words(&head.overlay));

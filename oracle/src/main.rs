@@ -6,9 +6,12 @@ extern crate anyhow;
 extern crate log;
 
 mod backend;
+mod compare;
 mod err;
+mod generate;
 mod regs;
 mod replica;
+mod scripts;
 mod tags;
 
 use std::io::{Read, Write};
@@ -24,6 +27,15 @@ pub struct DeviceAddressInfo {
     pub port_speed: usb_if::host::hub::Speed,
 }
 
+const USAGE: &str = "usage: oracle < LOG, or oracle and one of
+  compare SEED SCRIPTS STEPS KEPT-LOG PORT..   call scripts on both sides, compared after every call
+  departures                                   each listed departure: its fewest calls, repaired and as 000 does them
+  fixed                                        the fixed list, as a log
+  incident                                     the double count, as a log
+  leaves                                       000's leaves against 01's formulas
+  sheet < SHEET                                the listing of a job sheet
+NOREPAIR=TAG,.. leaves repairs out; ORIGINAL, at build time, is where the published files are.";
+
 fn main() {
     // A function of 000 may run on a thread of its own; a panic anywhere ends the program.
     let usual = std::panic::take_hook();
@@ -37,9 +49,13 @@ fn main() {
     let words: Vec<String> = std::env::args().skip(1).collect();
     match words.iter().map(|word| word.as_str()).collect::<Vec<_>>()[..] {
         [] => replay(),
+        ["compare", seed, scripts, steps, keep, ref port @ ..] => compare(seed, scripts, steps, keep, port),
+        ["fixed"] => std::io::stdout().write_all(&scripts::fixed_log()).unwrap(),
+        ["incident"] => std::io::stdout().write_all(&scripts::log_of(&scripts::double_count())).unwrap(),
+        ["departures"] => scripts::show_departures(),
         ["leaves"] => backend::kmod::ehci::leaves::run(),
         _ => {
-            eprintln!("usage: oracle | oracle leaves");
+            eprintln!("{USAGE}");
             std::process::exit(2);
         }
     }
@@ -64,4 +80,27 @@ fn replay() {
         }
     }
     eprint!("{}", tags::report());
+}
+
+fn number(word: &str) -> u64 {
+    word.parse().unwrap_or_else(|_| {
+        eprintln!("oracle: {word} is no number");
+        std::process::exit(2);
+    })
+}
+
+/// 0: equal; 1: a difference; 3: equal, but some kind and answer was never met.
+fn compare(seed: &str, scripts: &str, steps: &str, keep: &str, port: &[&str]) {
+    let outcome = compare::run(compare::Options {
+        seed: number(seed),
+        scripts: number(scripts),
+        steps: number(steps),
+        port: port.iter().map(|word| word.to_string()).collect(),
+        keep: keep.to_string(),
+    });
+    std::process::exit(match outcome {
+        compare::Outcome::Equal => 0,
+        compare::Outcome::Differs => 1,
+        compare::Outcome::Poor => 3,
+    });
 }

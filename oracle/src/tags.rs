@@ -49,31 +49,36 @@ pub const TAGS: [(&str, Sort, &str); 31] = [
 ];
 
 struct Met {
-    off: Option<String>,
+    off: Vec<&'static str>,
     counts: BTreeMap<&'static str, u64>,
 }
 
-static MET: Mutex<Met> = Mutex::new(Met { off: None, counts: BTreeMap::new() });
+static MET: Mutex<Met> = Mutex::new(Met { off: Vec::new(), counts: BTreeMap::new() });
 
 fn name_of(tag: &str) -> &'static str {
-    TAGS.iter().find(|(name, ..)| *name == tag).unwrap_or_else(|| panic!("no tag {tag}")).0
+    let Some((name, ..)) = TAGS.iter().find(|(name, ..)| *name == tag) else {
+        eprintln!("oracle: there is no tag {tag}");
+        std::process::exit(2);
+    };
+    name
 }
 
-/// Leaves one repair out.
-pub fn leave_out(tag: &str) {
-    MET.lock().unwrap().off = Some(name_of(tag).to_string());
+/// Leaves these repairs out, names by commas, and no other.
+pub fn leave_out(tags: &str) {
+    let names = tags.split(',').filter(|tag| !tag.is_empty()).map(name_of);
+    MET.lock().unwrap().off = names.collect();
 }
 
 /// Counts a departure, and says whether it is to be repaired.
 pub fn repaired(tag: &'static str) -> bool {
     let mut met = MET.lock().unwrap();
     *met.counts.entry(name_of(tag)).or_default() += 1;
-    met.off.as_deref() != Some(tag)
+    !met.off.contains(&tag)
 }
 
 /// Whether this repair is made, without counting.
 pub fn stands(tag: &str) -> bool {
-    MET.lock().unwrap().off.as_deref() != Some(tag)
+    !MET.lock().unwrap().off.contains(&tag)
 }
 
 /// Counts a rule that is 01's alone.
@@ -83,6 +88,12 @@ pub fn rule(tag: &'static str) {
 
 pub fn count(tag: &str) -> u64 {
     MET.lock().unwrap().counts.get(tag).copied().unwrap_or(0)
+}
+
+/// How many calls were answered without 000: it has no such call, check or state.
+pub fn without_original() -> u64 {
+    let tags = ["N6", "N7", "N10", "N11", "N15", "N16", "N17", "01-range", "01-before", "01-slot", "01-writeback", "01-step", "01-port"];
+    tags.into_iter().map(count).sum()
 }
 
 /// The tags that were met, one to a line.

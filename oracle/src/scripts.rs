@@ -1,0 +1,365 @@
+//! Scripts written by hand: for each departure the fewest calls that show it, and 01's rules one by one. With short
+//! scripts by chance they are the fixed list.
+use blocks::record::{Record, call};
+
+use crate::generate::{Generator, opening};
+use crate::replica::Replica;
+use crate::tags;
+
+const CONTROL: u8 = 0;
+const ISOCHRONOUS: u8 = 1;
+const BULK: u8 = 2;
+const INTERRUPT: u8 = 3;
+const AREAS: [u64; 4] = [0x100000, 0x200000, 0x300000, 0x400000];
+const HIGH: u64 = 1 << 32;
+
+type Calls = Vec<Record>;
+
+// ---- calls in short
+
+fn bare(number: u8) -> Record {
+    Record::new(number, &[], &[])
+}
+
+fn open(d: u64, e: u8, ports: u8, limit: u64, wait: u64) -> Record {
+    opening(d, e, ports, limit, wait, AREAS)
+}
+
+fn step(reading: u64) -> Record {
+    Record::new(call::STEP, &[], &[reading])
+}
+
+fn brought_up() -> Calls {
+    let mut calls = vec![bare(call::START)];
+    calls.extend([0x80001, 0x1000, 0x80000, 0x80000, 0x80000, 0].map(step));
+    calls
+}
+
+fn started(d: u64, e: u8, limit: u64) -> Calls {
+    let mut calls = vec![open(d, e, 2, limit, 2)];
+    calls.extend(brought_up());
+    calls
+}
+
+fn endpoint(kind: u8, address: u8, number: u8, packet: u64) -> Record {
+    Record::new(call::ENDPOINT, &[kind, address, number], &[packet])
+}
+
+fn bulk() -> Record {
+    endpoint(BULK, 5, 1, 512)
+}
+
+fn on(number: u8, slot: u8) -> Record {
+    Record::new(number, &[slot], &[])
+}
+
+fn submit(slot: u8, kind: u8, incoming: u8, address: u64, length: u64) -> Record {
+    let setup = if kind == CONTROL { 0x0100_0600 | (incoming as u64) << 7 } else { 0 };
+    Record::new(call::SUBMIT, &[slot, kind, incoming], &[setup, address, length, 0x80031])
+}
+
+/// A bulk request of one descriptor.
+fn one(slot: u8) -> Record {
+    submit(slot, BULK, 1, 0x1000_0000, 512)
+}
+
+fn writeback(place: u64, token: u64) -> Record {
+    Record::new(call::WRITEBACK, &[], &[place, token])
+}
+
+fn cancel(slot: u8, id: u64, frame: u64) -> Record {
+    Record::new(call::CANCEL, &[slot], &[id, 0x80031, frame])
+}
+
+fn collect(slot: u8, id: u64, frame: u64) -> Record {
+    Record::new(call::COLLECT, &[slot], &[id, 0x80031, frame])
+}
+
+fn acknowledge(status: u64) -> Record {
+    Record::new(call::ACKNOWLEDGE, &[1, 1], &[status, 0x27])
+}
+
+fn drain() -> Record {
+    Record::new(call::DRAIN, &[], &[0x80031])
+}
+
+fn scan(readings: &[u64]) -> Calls {
+    let mut calls = vec![bare(call::SCAN)];
+    calls.extend(readings.iter().map(|reading| Record::new(call::SCAN_STEP, &[], &[*reading])));
+    calls
+}
+
+fn power(port: u8) -> Record {
+    Record::new(call::POWER, &[port], &[0x2b])
+}
+
+fn with(mut calls: Calls, more: &[Record]) -> Calls {
+    calls.extend_from_slice(more);
+    calls
+}
+
+// ---- one script for each departure
+
+/// The incident: two unlinks, one ring, and an advance that shares its drain with a port change.
+pub fn double_count() -> Calls {
+    let both = [bulk(), endpoint(BULK, 5, 2, 512), one(0), one(1), cancel(0, 1, 0), cancel(1, 1, 0)];
+    with(with(started(4, 2, 16384), &both), &[acknowledge(0x24), drain(), drain(), collect(0, 1, 0)])
+}
+
+/// For each tag the fewest calls that show it.
+pub fn departures() -> Vec<(&'static str, Calls)> {
+    let running = || started(4, 2, 16384);
+    let linked = || with(running(), &[bulk(), one(0)]);
+    let rung = || with(linked(), &[cancel(0, 1, 0)]);
+    let keeps_bell = Record::new(call::SUBMIT, &[0, BULK, 1], &[0, 0x1000_0000, 512, 0x71]);
+    let bring_up_bell = with(vec![open(1, 1, 1, 1, 1), bare(call::START)], &[step(0x80b71)]);
+    let unplugged = with(vec![open(1, 1, 1, 1, 1)], &scan(&[1, 1, 1, 5]));
+    vec![
+        ("K1", vec![open(1, 1, 1, 1, 1), bulk()]),
+        ("K2", with(rung(), &[bulk(), one(1), cancel(1, 1, 0), acknowledge(0x24), drain(), drain()])),
+        ("K3", with(linked(), &[acknowledge(0x20), cancel(0, 1, 0), drain()])),
+        ("K4", with(running(), &[bulk(), keeps_bell])),
+        ("K4", bring_up_bell),
+        ("N1", with(rung(), &[acknowledge(0x20), drain(), collect(0, 1, 0)])),
+        ("N2", vec![open(1, 1, 1, 1, 1), endpoint(BULK, 5, 1, 1)]),
+        ("N3", with(running(), &[bulk(), submit(0, CONTROL, 1, 0, 0)])),
+        ("N4", with(running(), &[bulk(), submit(0, ISOCHRONOUS, 1, 0, 0)])),
+        ("N4", with(linked(), &[submit(0, CONTROL, 1, 0, 0)])),
+        ("N5", with(vec![open(1, 1, 1, 1, 1), bare(call::START)], &[step(0), step(0)])),
+        ("N6", with(linked(), &[Record::new(call::SET_ADDRESS, &[0, 9], &[])])),
+        ("N6", with(linked(), &[Record::new(call::SET_PACKET, &[0, 64], &[])])),
+        ("N6", vec![open(1, 1, 1, 1, 1), bulk(), Record::new(call::SET_ADDRESS, &[0, 200], &[])]),
+        ("N7", with(linked(), &[bare(call::START)])),
+        ("N8", vec![open(1, 1, 2, 1, 1), power(1)]),
+        ("N10", vec![open(1, 1, 1, 16384, 1), bulk(), one(0)]),
+        ("N11", with(running(), &[bulk(), submit(0, BULK, 1, HIGH - 1, 2)])),
+        ("N11", with(running(), &[endpoint(CONTROL, 5, 0, 64), submit(0, CONTROL, 1, 0x1000_0000, 40000)])),
+        ("N12", with(started(1, 1, 16384), &[endpoint(CONTROL, 5, 0, 64), submit(0, CONTROL, 1, 0, 0)])),
+        ("N13", rung()),
+        ("N15", vec![open(1, 1, 1, 1, 1), endpoint(ISOCHRONOUS, 5, 1, 512)]),
+        ("N16", with(linked(), &[on(call::CLOSE, 0)])),
+        ("N17", vec![open(1, 1, 0, 1, 1)]),
+        ("N20", with(rung(), &[acknowledge(0x20), drain(), collect(0, 1, 0), on(call::CLOSE, 0)])),
+        ("C", with(running(), &[bulk(), submit(0, BULK, 1, 0x1000_0000, 16385)])),
+        ("P4", with(unplugged, &scan(&[0, 0]))),
+    ]
+}
+
+/// What each departure does: the calls, and for those that differ the block with the repair and without.
+pub fn show_departures() {
+    for (tag, calls) in departures() {
+        tags::leave_out("");
+        let right = blocks_of(&calls);
+        tags::leave_out(tag);
+        let left = blocks_of(&calls);
+        println!("== {tag}");
+        let first = (0..calls.len()).find(|i| right[*i] != left[*i]).expect("a departure that does not show");
+        println!("{} calls; the first that differs is call {first}, {}", calls.len(), call::NAMES[calls[first].number as usize]);
+        for i in first..calls.len() {
+            print!("01 and the port:\n{}000:\n{}", right[i], left[i]);
+        }
+    }
+    tags::leave_out("");
+}
+
+/// The blocks of a script from a fresh program.
+pub fn blocks_of(calls: &[Record]) -> Vec<String> {
+    let mut replica = Replica::default();
+    calls.iter().map(|record| replica.block(&record.bytes()).unwrap()).collect()
+}
+
+// ---- 01's rules one by one
+
+fn openings() -> Vec<Calls> {
+    let good = open(4, 4, 2, 16384, 2);
+    let at = |areas| opening(4, 4, 2, 16384, 2, areas);
+    let mut out: Vec<Calls> = vec![vec![good, open(256, 32, 15, 1, 65536), open(1, 1, 1, 16384, 1), open(256, 32, 15, 1, 1)]];
+    for wrong in [
+        open(0, 4, 2, 1, 1), open(257, 4, 2, 1, 1), open(1, 0, 2, 1, 1), open(1, 33, 2, 1, 1), open(1, 1, 0, 1, 1),
+        open(1, 1, 16, 1, 1), open(1, 1, 1, 0, 1), open(1, 1, 1, 16385, 1), open(1, 1, 1, 1, 0), open(1, 1, 1, 1, 65537),
+        at([0x100020, 0x200000, 0x300000, 0x400000]), at([0x100000, 0x200040, 0x300000, 0x400000]),
+        at([0x100000, 0x200000, 0x300800, 0x400000]), at([0x100000, 0x200000, 0x300000, 0x400004]),
+        at([HIGH - 192, 0x200000, 0x300000, 0x400000]), at([0x200200, 0x200000, 0x300000, 0x400000]),
+        at([u64::MAX - 63, 0x200000, 0x300000, 0x400000]),
+    ] {
+        out.push(vec![good, bulk(), bare(call::ADDRESS), wrong, bare(call::ADDRESS), bulk()]);
+    }
+    // areas that touch each other and end at 2^32
+    out.push(vec![at([HIGH - 256, HIGH - 896, 0x300000, 0x400000]), bulk(), at([0x100000, 0x200000, 0, 4096]), bulk()]);
+    out
+}
+
+fn bring_ups() -> Vec<Calls> {
+    let begun = || vec![open(1, 1, 1, 1, 2), bare(call::START)];
+    vec![
+        vec![open(1, 1, 1, 1, 2), step(0)],
+        with(begun(), &[0x71, 0, 0x1000, 0x42, 2, 0, 0x40, 0x1000, 0, 0].map(step)),
+        with(begun(), &[0xffff_ffff, 0, 0, 0x1000].map(step)),
+        with(begun(), &[0, 0x1000, 0, 2, 2, 0].map(step)),
+        with(begun(), &[0, 0x1000, 0, 0, 0, 0x1000, 0x1000, 0].map(step)),
+        with(with(begun(), &[step(0), step(0x1000), bare(call::START)]), &[0, 0x1000, 0, 0, 0, 0].map(step)),
+        with(started(1, 1, 1), &[bare(call::ENABLE), bare(call::START), bulk(), submit(0, BULK, 1, 0, 0)]),
+    ]
+}
+
+fn endpoints() -> Vec<Calls> {
+    let mut wrong = started(4, 3, 16384);
+    for (kind, address, number, packet) in [
+        (ISOCHRONOUS, 128, 16, 0), (BULK, 128, 1, 8), (BULK, 1, 16, 8), (BULK, 1, 1, 0), (BULK, 1, 1, 1025),
+        (CONTROL, 0, 0, 8), (BULK, 127, 15, 1024), (INTERRUPT, 1, 2, 1), (BULK, 1, 1, 8), (BULK, 128, 1, 8), (ISOCHRONOUS, 1, 1, 8),
+    ] {
+        wrong.push(endpoint(kind, address, number, packet));
+    }
+    for slot in [0, 2, 3, 32, 255] {
+        for value in [0, 7, 127, 128, 255] {
+            wrong.push(Record::new(call::SET_ADDRESS, &[slot, value], &[]));
+            wrong.push(Record::new(call::SET_PACKET, &[slot, value], &[]));
+        }
+    }
+    let reopened = [on(call::CLOSE, 1), on(call::CLOSE, 1), on(call::CLOSE, 3), endpoint(BULK, 3, 3, 64), on(call::CLOSE, 0), on(call::CLOSE, 1)];
+    let busy = [bulk(), one(0), on(call::CLOSE, 0), cancel(0, 1, 0), on(call::CLOSE, 0), Record::new(call::SET_ADDRESS, &[0, 200], &[])];
+    let done = [acknowledge(0x20), drain(), collect(0, 1, 0), on(call::CLOSE, 0), on(call::CLOSE, 0)];
+    vec![
+        with(wrong, &reopened),
+        with(with(started(4, 1, 16384), &busy), &done),
+        with(vec![open(1, 1, 1, 1, 1)], &[bare(call::ADDRESS); 129]),
+    ]
+}
+
+fn submits() -> Vec<Calls> {
+    let kinds = [endpoint(CONTROL, 5, 0, 64), bulk(), endpoint(INTERRUPT, 5, 2, 8)];
+    let all = |d, limit| with(started(d, 3, limit), &kinds);
+    let setup = |bits: u64, incoming| Record::new(call::SUBMIT, &[0, CONTROL, incoming], &[bits, 0x1000, 4, 0]);
+    let mut out = vec![
+        vec![open(4, 2, 1, 16384, 1), bulk(), one(0), one(1), one(255)],
+        with(all(8, 16384), &[one(3), submit(1, ISOCHRONOUS, 1, 0, 0), submit(1, CONTROL, 1, HIGH, 1), one(1), submit(1, CONTROL, 1, 0, 0), submit(1, ISOCHRONOUS, 0, HIGH, 1)]),
+        with(all(8, 16384), &[submit(1, BULK, 1, HIGH - 1, 1), submit(0, CONTROL, 0, HIGH - 16384, 16384), submit(2, INTERRUPT, 1, HIGH - 8, 8)]),
+        with(all(8, 16384), &[submit(1, BULK, 1, HIGH - 1, 2), submit(0, CONTROL, 0, 0, 16385), submit(1, BULK, 1, u64::MAX, u64::MAX), submit(1, BULK, 1, u64::MAX, 0), submit(2, INTERRUPT, 0, HIGH, 0)]),
+        with(all(8, 16384), &[setup(0, 1), setup(0x80, 0), setup(0xffff_ffff_ffff, 1), setup(0x1f, 0)]),
+        with(all(3, 16384), &[submit(1, BULK, 1, 0, 16385), submit(0, CONTROL, 1, 0, 1), submit(0, CONTROL, 1, 0, 0), submit(2, INTERRUPT, 1, 0, 16385), submit(2, INTERRUPT, 1, 0, 16384), submit(0, CONTROL, 0, HIGH, 9)]),
+    ];
+    for limit in [1, 512, 4097, 16384] {
+        for length in [0, 1, limit - 1, limit, limit + 1, 2 * limit, 3 * limit + 1, 4 * limit, 4 * limit + 1] {
+            out.push(with(started(4, 1, limit), &[bulk(), submit(0, BULK, 0, 0x1000_0fff, length), submit(0, BULK, 0, 0, 1)]));
+        }
+    }
+    for (address, length) in [(0x1000_0fff, 1), (0x1000_0fff, 2), (0x1000_0fff, 16384), (0x1000_0000, 4096), (0x1000_0001, 4096), (0, 16384), (HIGH - 16384, 16384)] {
+        out.push(with(all(8, 16384), &[submit(0, CONTROL, 1, address, length), submit(1, BULK, 0, address, length), submit(2, INTERRUPT, 1, address, length)]));
+    }
+    out
+}
+
+fn unlinks() -> Vec<Calls> {
+    let bulks = |n: u8| with(started(8, 4, 16384), &(0..n).map(|k| endpoint(BULK, k, 1, 64)).collect::<Calls>());
+    let polls = |n: u8| with(started(8, 4, 16384), &(0..n).map(|k| endpoint(INTERRUPT, k, 1, 8)).collect::<Calls>());
+    let asked = |kind, n: u8| (0..n).map(move |k| submit(k, kind, 1, 0x1000_0000, 8)).collect::<Calls>();
+    let answered = [acknowledge(0x20), drain()];
+    let mut out = vec![
+        with(with(bulks(1), &[cancel(0, 1, 0), collect(0, 7, 0), one(0), cancel(0, 2, 0), collect(0, 2, 0), cancel(1, 1, 0), collect(255, 1, 0)]), &[cancel(0, 1, 0), cancel(0, 1, 0), collect(0, 1, 0)]),
+        // the starred distance: start 16380; 8 at 4, 9 at 5
+        with(with(polls(1), &asked(INTERRUPT, 1)), &[writeback(0, 0x0003_8d00), collect(0, 1, 16380), collect(0, 1, 4), collect(0, 1, 5), collect(0, 1, 5)]),
+        with(with(polls(1), &asked(INTERRUPT, 1)), &[cancel(0, 1, 0xffff_7ffc), collect(0, 1, 0x8004), collect(0, 1, 0x4005)]),
+        double_count(),
+        with(double_count(), &[drain(), acknowledge(0x20), drain(), collect(1, 1, 0), collect(0, 1, 0)]),
+    ];
+    for order in [[0, 1, 2], [0, 2, 1], [1, 0, 2], [1, 2, 0], [2, 0, 1], [2, 1, 0]] {
+        let mut calls = with(bulks(3), &asked(BULK, 3));
+        calls.extend(order.map(|k| cancel(k, 1, 0)));
+        for k in order {
+            calls.extend(answered);
+            calls.push(collect(k, 1, 0));
+        }
+        out.push(with(calls, &[submit(1, BULK, 0, 0, 9)]));
+        let mut calls = with(polls(3), &asked(INTERRUPT, 3));
+        calls.extend(order.map(|k| cancel(k, 1, k as u64)));
+        calls.extend(order.map(|k| collect(k, 1, k as u64 + 8)));
+        calls.extend(order.map(|k| collect(k, 1, k as u64 + 9)));
+        out.push(calls);
+    }
+    out
+}
+
+/// Every error bit, before and after an active token; bytes left; late writebacks.
+fn tokens() -> Vec<Calls> {
+    let two = |first: u64, second: u64| {
+        let calls = with(started(4, 1, 64), &[bulk(), submit(0, BULK, 1, 0x1000, 100), writeback(0, first), writeback(1, second)]);
+        with(calls, &[collect(0, 1, 0), collect(0, 1, 0), acknowledge(0x20), drain(), collect(0, 1, 0)])
+    };
+    let mut out: Vec<Calls> = (0..8).map(|bit| two(1 << bit, 0x80)).collect();
+    out.extend((0..8).map(|bit| two(0x80, 1 << bit)));
+    out.extend((0..8).map(|bit| two(0x0010_0000, 1 << bit)));
+    out.extend([two(0x7fff_0000, 0x0005_0000), two(0x0040_0000, 0x0024_0000), two(0x48, 0x08), two(0x00080d88, 0)]);
+    let late = with(started(4, 1, 64), &[bulk(), submit(0, BULK, 1, 0x1000, 100), writeback(0, 8), collect(0, 1, 0), writeback(0, 0), writeback(1, 0x80)]);
+    out.push(with(late, &[acknowledge(0x20), drain(), collect(0, 1, 0), writeback(0, 1)]));
+    let control = with(started(4, 1, 64), &[endpoint(CONTROL, 1, 0, 8), submit(0, CONTROL, 1, 0x1000, 18), writeback(0, 0x0008_0e00), writeback(1, 0x0002_0d00), writeback(2, 0x0c00)]);
+    out.push(with(control, &[collect(0, 1, 0), acknowledge(0x20), drain(), collect(0, 1, 0), submit(0, CONTROL, 0, 0, 0)]));
+    out.push(with(started(2, 1, 64), &[bulk(), writeback(0, 1), one(0), writeback(0, 1), writeback(1, 1), writeback(2, 1), writeback(u64::MAX, 1)]));
+    out
+}
+
+fn interrupts() -> Vec<Calls> {
+    let flags = |first, second| Record::new(call::ACKNOWLEDGE, &[first, second], &[0x3f, 0xffff_ffff]);
+    let mut out: Vec<Calls> = (0..14).map(|bit| vec![open(1, 1, 1, 1, 1), acknowledge(1 << bit), drain(), drain(), bare(call::REARM), bare(call::REARM)]).collect();
+    for (first, second) in [(0, 0), (0, 1), (1, 0), (1, 1)] {
+        out.push(vec![open(1, 1, 1, 1, 1), bare(call::ENABLE), flags(first, second), drain(), drain(), drain(), drain(), bare(call::REARM)]);
+        out.push(vec![open(1, 1, 1, 1, 1), flags(first, second), bare(call::REARM), bare(call::DISABLE), drain(), flags(first, second)]);
+    }
+    out
+}
+
+fn ports() -> Vec<Calls> {
+    let fresh = |n| vec![open(1, 1, n, 1, 1)];
+    let found = || with(fresh(1), &scan(&[1, 1, 0x101, 0x1005]));
+    vec![
+        with(fresh(1), &[Record::new(call::SCAN_STEP, &[], &[1]), power(0), power(1), power(2), power(255)]),
+        with(found(), &scan(&[0x1001])),
+        with(found(), &scan(&[0x102a, 0x102a])),
+        with(with(found(), &scan(&[0])), &scan(&[0, 0])),
+        with(fresh(1), &scan(&[0x1003, 0x102b, 0x112f, 0x1001, 0x1403])),
+        with(with(fresh(1), &scan(&[1, 1, 1, 0])), &scan(&[1, 1, 1])),
+        with(with(fresh(1), &scan(&[1, 1])), &scan(&[1, 1, 1, 5, 0])),
+        with(fresh(3), &scan(&[0, 1, 0x1005, 0x1105, 5, 1, 1, 1, 1, 1])),
+        with(with(fresh(3), &scan(&[1, 1, 1, 5, 1, 1, 1, 5, 1, 1, 1, 5])), &scan(&[5, 0, 0, 5])),
+        with(fresh(15), &scan(&[0; 15])),
+    ]
+}
+
+/// The scripts of the fixed list: those by hand, then short ones by chance.
+fn fixed() -> Calls {
+    let mut calls: Calls = vec![bare(call::START), bulk(), one(0), bare(call::SCAN), power(1), drain()];
+    let by_hand = [openings(), bring_ups(), endpoints(), submits(), unlinks(), tokens(), interrupts(), ports()];
+    let scripts: Vec<Calls> = departures().into_iter().map(|(_, calls)| calls).chain(by_hand.into_iter().flatten()).collect();
+    let written = scripts.len();
+    calls.extend(scripts.into_iter().flatten());
+    let mut replica = Replica::default();
+    for script in 0..DRAWN {
+        let mut generator = Generator::new(2026, script);
+        let mut make = |record: Record, replica: &mut Replica| {
+            replica.block(&record.bytes()).unwrap();
+            calls.push(record);
+        };
+        make(generator.opening(), &mut replica);
+        if script % 8 != 0 {
+            brought_up().into_iter().for_each(|record| make(record, &mut replica));
+        }
+        for _ in 0..6 + script % 12 {
+            let record = generator.next(replica.controller.as_ref().unwrap());
+            make(record, &mut replica);
+        }
+    }
+    eprintln!("{written} scripts by hand, {DRAWN} by chance, {} calls", calls.len());
+    calls
+}
+
+const DRAWN: u64 = 150;
+
+/// The fixed list as a log. Its last record is cut short.
+pub fn fixed_log() -> Vec<u8> {
+    let mut log: Vec<u8> = fixed().iter().flat_map(|record| record.bytes()).collect();
+    log.extend_from_slice(&drain().bytes()[..63]);
+    log
+}
+
+pub fn log_of(calls: &[Record]) -> Vec<u8> {
+    calls.iter().flat_map(|record| record.bytes()).collect()
+}
