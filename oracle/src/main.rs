@@ -34,6 +34,7 @@ const USAGE: &str = "usage: oracle < LOG, or oracle and one of
   incident                                     the double count, as a log
   leaves                                       000's leaves against 01's formulas
   sheet < SHEET                                the listing of a job sheet
+  tags                                         the repairs that can be left out
 NOREPAIR=TAG,.. leaves repairs out; ORIGINAL, at build time, is where the published files are.";
 
 fn main() {
@@ -53,6 +54,7 @@ fn main() {
         ["fixed"] => std::io::stdout().write_all(&scripts::fixed_log()).unwrap(),
         ["incident"] => std::io::stdout().write_all(&scripts::log_of(&scripts::double_count())).unwrap(),
         ["departures"] => scripts::show_departures(),
+        ["tags"] => tags::repairs().iter().for_each(|tag| println!("{tag}")),
         ["leaves"] => backend::kmod::ehci::leaves::run(),
         _ => {
             eprintln!("{USAGE}");

@@ -69,6 +69,12 @@ pub fn leave_out(tags: &str) {
     MET.lock().unwrap().off = names.collect();
 }
 
+/// The repairs that can be left out.
+pub fn repairs() -> Vec<&'static str> {
+    let repair = |(tag, sort, _): &(&'static str, Sort, &str)| *sort == Departure || matches!(*tag, "N11" | "N17");
+    TAGS.iter().filter(|entry| repair(entry)).map(|(tag, ..)| *tag).collect()
+}
+
 /// Counts a departure, and says whether it is to be repaired.
 pub fn repaired(tag: &'static str) -> bool {
     let mut met = MET.lock().unwrap();
