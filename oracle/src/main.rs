@@ -12,6 +12,7 @@ mod generate;
 mod regs;
 mod replica;
 mod scripts;
+mod sheet;
 mod tags;
 
 use std::io::{Read, Write};
@@ -33,6 +34,7 @@ const USAGE: &str = "usage: oracle < LOG, or oracle and one of
   fixed                                        the fixed list, as a log
   incident                                     the double count, as a log
   leaves                                       000's leaves against 01's formulas
+  leaves LINES                                 the lines of the port's leaf_checks against 000's leaves
   sheet < SHEET                                the listing of a job sheet
   tags                                         the repairs that can be left out
 NOREPAIR=TAG,.. leaves repairs out; ORIGINAL, at build time, is where the published files are.";
@@ -56,6 +58,8 @@ fn main() {
         ["departures"] => scripts::show_departures(),
         ["tags"] => tags::repairs().iter().for_each(|tag| println!("{tag}")),
         ["leaves"] => backend::kmod::ehci::leaves::run(),
+        ["leaves", lines] => hold(lines),
+        ["sheet"] => list(),
         _ => {
             eprintln!("{USAGE}");
             std::process::exit(2);
@@ -105,4 +109,20 @@ fn compare(seed: &str, scripts: &str, steps: &str, keep: &str, port: &[&str]) {
         compare::Outcome::Differs => 1,
         compare::Outcome::Poor => 3,
     });
+}
+
+fn hold(lines: &str) {
+    let text = std::fs::read_to_string(lines).unwrap_or_else(|error| {
+        eprintln!("oracle: {lines} cannot be read: {error}");
+        std::process::exit(2);
+    });
+    if !backend::kmod::ehci::leaves::hold(&text) {
+        std::process::exit(1);
+    }
+}
+
+fn list() {
+    let mut sheet = Vec::new();
+    std::io::stdin().read_to_end(&mut sheet).unwrap();
+    print!("{}", sheet::listing(&sheet));
 }
