@@ -125,4 +125,5 @@ fn list() {
     let mut sheet = Vec::new();
     std::io::stdin().read_to_end(&mut sheet).unwrap();
     print!("{}", sheet::listing(&sheet));
+    eprint!("{}", tags::report());
 }

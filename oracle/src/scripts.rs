@@ -103,7 +103,7 @@ fn with(mut calls: Calls, more: &[Record]) -> Calls {
 /// The incident: two unlinks, one ring, and an advance that shares its drain with a port change.
 pub fn double_count() -> Calls {
     let both = [bulk(), endpoint(BULK, 5, 2, 512), one(0), one(1), cancel(0, 1, 0), cancel(1, 1, 0)];
-    with(with(started(4, 2, 16384), &both), &[acknowledge(0x24), drain(), drain(), collect(0, 1, 0)])
+    with(with(started(4, 2, 16384), &both), &[acknowledge(0x24), drain(), drain(), collect(0, 1, 0), collect(1, 1, 0)])
 }
 
 /// For each tag the fewest calls that show it.
