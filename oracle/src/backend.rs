@@ -23,7 +23,8 @@ pub mod ty {
                     TransferRequest::Interrupt { direction, buffer } => (TransferKind::Interrupt, direction, buffer),
                     TransferRequest::Isochronous { .. } => return Err(TransferError::NotSupported),
                 };
-                let mapping = buffer.map(|b| dma_api::StreamingMap { address: b.address, length: b.len, items: PhantomData });
+                let mapping =
+                    buffer.map(|b| dma_api::StreamingMap { address: b.address, length: b.len, items: PhantomData });
                 Ok(Self { kind, direction, mapping, transfer_len: 0, iso_packet_actual_lengths: Vec::new() })
             }
 
@@ -227,6 +228,10 @@ pub mod kmod {
 
         pub mod leaves {
             include!("leaves.rs");
+        }
+
+        pub mod probes {
+            include!("probes.rs");
         }
     }
 }

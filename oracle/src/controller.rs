@@ -440,8 +440,7 @@ impl Controller {
 
 // ---- requests
 
-const TYPES: [RequestType; 4] =
-    [RequestType::Standard, RequestType::Class, RequestType::Vendor, RequestType::Reserved];
+const TYPES: [RequestType; 4] = [RequestType::Standard, RequestType::Class, RequestType::Vendor, RequestType::Reserved];
 
 fn setup_of(bytes: [u8; 6]) -> ControlSetup {
     let recipient = match bytes[0] & 0x1f {

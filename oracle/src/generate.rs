@@ -191,6 +191,7 @@ impl Generator {
         let count = c.settings.endpoints as u64;
         match self.draw.below(40) {
             0 => self.draw.of(&[count as u8, 31, 32, 255]),
+            1..8 => self.draw.below(count) as u8,
             _ => self.draw.below(count.min(6)) as u8,
         }
     }
@@ -292,7 +293,7 @@ impl Generator {
         let recipient = if self.draw.one_in(20) { self.draw.below(32) } else { self.draw.below(4) };
         let bit = if self.draw.one_in(15) { 1 - incoming } else { incoming };
         let setup = match kind {
-            0 => (self.draw.next() & 0xffff_ffff_ff60) << 8 >> 8 & 0xffff_ffff_ff60 | bit << 7 | recipient,
+            0 => self.draw.next() & 0xffff_ffff_ff60 | bit << 7 | recipient,
             _ => 0,
         };
         let command = self.draw.command();
@@ -333,7 +334,8 @@ impl Generator {
         let whole = flight.places.len() <= 8 || self.draw.one_in(10);
         let clean = !self.draw.one_in(4);
         for (place, token) in flight.places.iter().zip(&flight.tokens).take(if whole { 256 } else { 3 }) {
-            let token = if clean { (token & !0x7fff_0080) as u64 | self.draw.below(9) << 16 } else { self.token(*token) };
+            let token =
+                if clean { (token & !0x7fff_0080) as u64 | self.draw.below(9) << 16 } else { self.token(*token) };
             self.plan.push_back(Record::new(call::WRITEBACK, &[], &[*place as u64, token]));
         }
         let (command, frame) = (self.draw.command(), self.draw.frame());

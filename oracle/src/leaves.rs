@@ -178,7 +178,9 @@ fn descriptors() -> u64 {
     let mut count = 0;
     for base in [0u64, 0x1000_0000, (1 << 32) - 5 * 4096] {
         for offset in 0..4096 {
-            for length in edges.into_iter().chain([(4096 - offset) % 4096, 8192 - offset, 12288 - offset, 16384 - offset]) {
+            for length in
+                edges.into_iter().chain([(4096 - offset) % 4096, 8192 - offset, 12288 - offset, 16384 - offset])
+            {
                 let (address, token) = (base + offset, offset as u32);
                 let words = descriptor_words(&QueueTransferDescriptor::new(QtdToken(token), address, length as usize));
                 let mut expected = [1, 1, token, 0, 0, 0, 0, 0, 0, 0, 0, 0, 0];
@@ -321,7 +323,11 @@ fn said(words: &[&str]) -> Option<String> {
         "error_counter" => hex(&[QtdToken(word(1) as u32).with_error_counter(number(2) as u8).raw()]),
         "flags" => {
             let (token, flag) = (QtdToken(word(1) as u32), number(2) == 1);
-            hex(&[token.with_active(flag).raw(), token.with_interrupt_on_complete(flag).raw(), token.with_data_toggle(flag).raw()])
+            hex(&[
+                token.with_active(flag).raw(),
+                token.with_interrupt_on_complete(flag).raw(),
+                token.with_data_toggle(flag).raw(),
+            ])
         }
         "read" => {
             let token = QtdToken(word(1) as u32);
@@ -367,7 +373,17 @@ fn said(words: &[&str]) -> Option<String> {
         }
         "port_offset" => hex(&[EhciRegisters::port_offset(number(1) as u8) as u32]),
         "offsets" => {
-            let all = [USBCMD, USBSTS, USBINTR, FRINDEX, CTRLDSSEGMENT, PERIODICLISTBASE, ASYNCLISTADDR, CONFIGFLAG, PORTSC_BASE];
+            let all = [
+                USBCMD,
+                USBSTS,
+                USBINTR,
+                FRINDEX,
+                CTRLDSSEGMENT,
+                PERIODICLISTBASE,
+                ASYNCLISTADDR,
+                CONFIGFLAG,
+                PORTSC_BASE,
+            ];
             hex(&all.map(|offset| offset as u32))
         }
         "usbcmd" => hex(&[

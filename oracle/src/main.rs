@@ -35,8 +35,10 @@ const USAGE: &str = "usage: oracle < LOG, or oracle and one of
   incident                                     the double count, as a log
   leaves                                       000's leaves against 01's formulas
   leaves LINES                                 the lines of the port's leaf_checks against 000's leaves
+  probes                                       what 000 does where no call shows it
   sheet < SHEET                                the listing of a job sheet
   tags                                         the repairs that can be left out
+  waits                                        the longest waits that 01 allows, as a log
 NOREPAIR=TAG,.. leaves repairs out; ORIGINAL, at build time, is where the published files are.";
 
 fn main() {
@@ -55,7 +57,9 @@ fn main() {
         ["compare", seed, scripts, steps, keep, ref port @ ..] => compare(seed, scripts, steps, keep, port),
         ["fixed"] => std::io::stdout().write_all(&scripts::fixed_log()).unwrap(),
         ["incident"] => std::io::stdout().write_all(&scripts::log_of(&scripts::double_count())).unwrap(),
+        ["waits"] => std::io::stdout().write_all(&scripts::log_of(&scripts::long_waits())).unwrap(),
         ["departures"] => scripts::show_departures(),
+        ["probes"] => backend::kmod::ehci::probes::run(),
         ["tags"] => tags::repairs().iter().for_each(|tag| println!("{tag}")),
         ["leaves"] => backend::kmod::ehci::leaves::run(),
         ["leaves", lines] => hold(lines),

@@ -142,7 +142,8 @@ fn prepare() {
             trace: Vec::new(),
         }));
         for (signal, handler) in [(SIGSEGV, on_fault as *const ()), (SIGTRAP, on_step as *const ())] {
-            let action = SigAction { handler: handler as usize, mask: [0; 16], flags: SA_SIGINFO | SA_NODEFER, restorer: 0 };
+            let action =
+                SigAction { handler: handler as usize, mask: [0; 16], flags: SA_SIGINFO | SA_NODEFER, restorer: 0 };
             assert_eq!(sigaction(signal, &action, std::ptr::null_mut()), 0);
         }
     }

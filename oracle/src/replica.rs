@@ -12,6 +12,8 @@ use crate::tags;
 pub struct Replica {
     pub controller: Option<Controller>,
     pub rows: Rows,
+    /// The rows as the lines printed so far say.
+    told: Rows,
     ports: Vec<u8>,
     records: u64,
     /// Calls by kind and answer.
@@ -20,7 +22,14 @@ pub struct Replica {
 
 impl Default for Replica {
     fn default() -> Self {
-        Self { controller: None, rows: Rows::BLANK, ports: Vec::new(), records: 0, met: BTreeMap::new() }
+        Self {
+            controller: None,
+            rows: Rows::BLANK,
+            told: Rows::BLANK,
+            ports: Vec::new(),
+            records: 0,
+            met: BTreeMap::new(),
+        }
     }
 }
 
@@ -42,6 +51,8 @@ impl Replica {
         if let Some(controller) = &self.controller {
             controller.show(&mut self.rows);
             self.rows.changes(&before, &mut out);
+            self.told.read(&out);
+            assert!(self.told == self.rows, "what was printed is not what 000 has in its memory");
             let ports = controller.ports();
             for (i, state) in ports.iter().enumerate() {
                 if opening || *state != self.ports[i] {
@@ -68,6 +79,7 @@ impl Replica {
     pub fn restart(&mut self) {
         self.controller = None;
         self.rows = Rows::BLANK;
+        self.told = Rows::BLANK;
         self.ports.clear();
         self.records = 0;
     }
@@ -89,7 +101,14 @@ impl Replica {
         let Record { number, b, n } = *record;
         if number == call::OPEN {
             let areas = [n[3], n[4], n[5], n[6]];
-            return self.open(Settings { descriptors: n[0], endpoints: b[0], ports: b[1], limit: n[1], wait: n[2], areas });
+            return self.open(Settings {
+                descriptors: n[0],
+                endpoints: b[0],
+                ports: b[1],
+                limit: n[1],
+                wait: n[2],
+                areas,
+            });
         }
         let rows = &mut self.rows;
         let Some(c) = &mut self.controller else {
@@ -131,7 +150,9 @@ impl Replica {
         } else if reply.answer == answer::DONE {
             label += match record.number {
                 call::ACKNOWLEDGE => ["", ", yes"][(value(0) == "1") as usize],
-                call::DRAIN => [", Nothing", ", PortChange", ", TransferActivity", ", Stopped"][value(0).parse::<usize>().unwrap()],
+                call::DRAIN => {
+                    [", Nothing", ", PortChange", ", TransferActivity", ", Stopped"][value(0).parse::<usize>().unwrap()]
+                }
                 call::SCAN_STEP => ["", ", Connected", ", Disconnected"][value(2).parse::<usize>().unwrap()],
                 _ => "",
             };

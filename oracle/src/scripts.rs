@@ -130,6 +130,7 @@ pub fn departures() -> Vec<(&'static str, Calls)> {
         ("N6", with(linked(), &[Record::new(call::SET_PACKET, &[0, 64], &[])])),
         ("N6", vec![open(1, 1, 1, 1, 1), bulk(), Record::new(call::SET_ADDRESS, &[0, 200], &[])]),
         ("N7", with(linked(), &[bare(call::START)])),
+        ("N7", with(rung(), &brought_up())),
         ("N8", vec![open(1, 1, 2, 1, 1), power(1)]),
         ("N10", vec![open(1, 1, 1, 16384, 1), bulk(), one(0)]),
         ("N11", with(running(), &[bulk(), submit(0, BULK, 1, HIGH - 1, 2)])),
@@ -141,6 +142,7 @@ pub fn departures() -> Vec<(&'static str, Calls)> {
         ("N17", vec![open(1, 1, 0, 1, 1)]),
         ("N20", with(rung(), &[acknowledge(0x20), drain(), collect(0, 1, 0), on(call::CLOSE, 0)])),
         ("C", with(running(), &[bulk(), submit(0, BULK, 1, 0x1000_0000, 16385)])),
+        ("C", with(running(), &[bulk(), submit(0, BULK, 1, 0x1000_0fff, 20480)])),
         ("P4", with(unplugged, &scan(&[0, 0]))),
     ]
 }
@@ -154,8 +156,12 @@ pub fn show_departures() {
         let left = blocks_of(&calls);
         println!("== {tag}");
         let first = (0..calls.len()).find(|i| right[*i] != left[*i]).expect("a departure that does not show");
-        println!("{} calls; the first that differs is call {first}, {}", calls.len(), call::NAMES[calls[first].number as usize]);
-        for i in first..calls.len() {
+        println!(
+            "{} calls; the first that differs is call {first}, {}",
+            calls.len(),
+            call::NAMES[calls[first].number as usize]
+        );
+        for i in (first..calls.len()).filter(|i| right[*i] != left[*i]) {
             print!("01 and the port:\n{}000:\n{}", right[i], left[i]);
         }
     }
@@ -173,13 +179,25 @@ pub fn blocks_of(calls: &[Record]) -> Vec<String> {
 fn openings() -> Vec<Calls> {
     let good = open(4, 4, 2, 16384, 2);
     let at = |areas| opening(4, 4, 2, 16384, 2, areas);
-    let mut out: Vec<Calls> = vec![vec![good, open(256, 32, 15, 1, 65536), open(1, 1, 1, 16384, 1), open(256, 32, 15, 1, 1)]];
+    let mut out: Vec<Calls> =
+        vec![vec![good, open(256, 32, 15, 1, 65536), open(1, 1, 1, 16384, 1), open(256, 32, 15, 1, 1)]];
     for wrong in [
-        open(0, 4, 2, 1, 1), open(257, 4, 2, 1, 1), open(1, 0, 2, 1, 1), open(1, 33, 2, 1, 1), open(1, 1, 0, 1, 1),
-        open(1, 1, 16, 1, 1), open(1, 1, 1, 0, 1), open(1, 1, 1, 16385, 1), open(1, 1, 1, 1, 0), open(1, 1, 1, 1, 65537),
-        at([0x100020, 0x200000, 0x300000, 0x400000]), at([0x100000, 0x200040, 0x300000, 0x400000]),
-        at([0x100000, 0x200000, 0x300800, 0x400000]), at([0x100000, 0x200000, 0x300000, 0x400004]),
-        at([HIGH - 192, 0x200000, 0x300000, 0x400000]), at([0x200200, 0x200000, 0x300000, 0x400000]),
+        open(0, 4, 2, 1, 1),
+        open(257, 4, 2, 1, 1),
+        open(1, 0, 2, 1, 1),
+        open(1, 33, 2, 1, 1),
+        open(1, 1, 0, 1, 1),
+        open(1, 1, 16, 1, 1),
+        open(1, 1, 1, 0, 1),
+        open(1, 1, 1, 16385, 1),
+        open(1, 1, 1, 1, 0),
+        open(1, 1, 1, 1, 65537),
+        at([0x100020, 0x200000, 0x300000, 0x400000]),
+        at([0x100000, 0x200040, 0x300000, 0x400000]),
+        at([0x100000, 0x200000, 0x300800, 0x400000]),
+        at([0x100000, 0x200000, 0x300000, 0x400004]),
+        at([HIGH - 192, 0x200000, 0x300000, 0x400000]),
+        at([0x200200, 0x200000, 0x300000, 0x400000]),
         at([u64::MAX - 63, 0x200000, 0x300000, 0x400000]),
     ] {
         out.push(vec![good, bulk(), bare(call::ADDRESS), wrong, bare(call::ADDRESS), bulk()]);
@@ -205,8 +223,17 @@ fn bring_ups() -> Vec<Calls> {
 fn endpoints() -> Vec<Calls> {
     let mut wrong = started(4, 3, 16384);
     for (kind, address, number, packet) in [
-        (ISOCHRONOUS, 128, 16, 0), (BULK, 128, 1, 8), (BULK, 1, 16, 8), (BULK, 1, 1, 0), (BULK, 1, 1, 1025),
-        (CONTROL, 0, 0, 8), (BULK, 127, 15, 1024), (INTERRUPT, 1, 2, 1), (BULK, 1, 1, 8), (BULK, 128, 1, 8), (ISOCHRONOUS, 1, 1, 8),
+        (ISOCHRONOUS, 128, 16, 0),
+        (BULK, 128, 1, 8),
+        (BULK, 1, 16, 8),
+        (BULK, 1, 1, 0),
+        (BULK, 1, 1, 1025),
+        (CONTROL, 0, 0, 8),
+        (BULK, 127, 15, 1024),
+        (INTERRUPT, 1, 2, 1),
+        (BULK, 1, 1, 8),
+        (BULK, 128, 1, 8),
+        (ISOCHRONOUS, 1, 1, 8),
     ] {
         wrong.push(endpoint(kind, address, number, packet));
     }
@@ -216,8 +243,22 @@ fn endpoints() -> Vec<Calls> {
             wrong.push(Record::new(call::SET_PACKET, &[slot, value], &[]));
         }
     }
-    let reopened = [on(call::CLOSE, 1), on(call::CLOSE, 1), on(call::CLOSE, 3), endpoint(BULK, 3, 3, 64), on(call::CLOSE, 0), on(call::CLOSE, 1)];
-    let busy = [bulk(), one(0), on(call::CLOSE, 0), cancel(0, 1, 0), on(call::CLOSE, 0), Record::new(call::SET_ADDRESS, &[0, 200], &[])];
+    let reopened = [
+        on(call::CLOSE, 1),
+        on(call::CLOSE, 1),
+        on(call::CLOSE, 3),
+        endpoint(BULK, 3, 3, 64),
+        on(call::CLOSE, 0),
+        on(call::CLOSE, 1),
+    ];
+    let busy = [
+        bulk(),
+        one(0),
+        on(call::CLOSE, 0),
+        cancel(0, 1, 0),
+        on(call::CLOSE, 0),
+        Record::new(call::SET_ADDRESS, &[0, 200], &[]),
+    ];
     let done = [acknowledge(0x20), drain(), collect(0, 1, 0), on(call::CLOSE, 0), on(call::CLOSE, 0)];
     vec![
         with(wrong, &reopened),
@@ -232,19 +273,73 @@ fn submits() -> Vec<Calls> {
     let setup = |bits: u64, incoming| Record::new(call::SUBMIT, &[0, CONTROL, incoming], &[bits, 0x1000, 4, 0]);
     let mut out = vec![
         vec![open(4, 2, 1, 16384, 1), bulk(), one(0), one(1), one(255)],
-        with(all(8, 16384), &[one(3), submit(1, ISOCHRONOUS, 1, 0, 0), submit(1, CONTROL, 1, HIGH, 1), one(1), submit(1, CONTROL, 1, 0, 0), submit(1, ISOCHRONOUS, 0, HIGH, 1)]),
-        with(all(8, 16384), &[submit(1, BULK, 1, HIGH - 1, 1), submit(0, CONTROL, 0, HIGH - 16384, 16384), submit(2, INTERRUPT, 1, HIGH - 8, 8)]),
-        with(all(8, 16384), &[submit(1, BULK, 1, HIGH - 1, 2), submit(0, CONTROL, 0, 0, 16385), submit(1, BULK, 1, u64::MAX, u64::MAX), submit(1, BULK, 1, u64::MAX, 0), submit(2, INTERRUPT, 0, HIGH, 0)]),
+        with(
+            all(8, 16384),
+            &[
+                one(3),
+                submit(1, ISOCHRONOUS, 1, 0, 0),
+                submit(1, CONTROL, 1, HIGH, 1),
+                one(1),
+                submit(1, CONTROL, 1, 0, 0),
+                submit(1, ISOCHRONOUS, 0, HIGH, 1),
+            ],
+        ),
+        with(
+            all(8, 16384),
+            &[
+                submit(1, BULK, 1, HIGH - 1, 1),
+                submit(0, CONTROL, 0, HIGH - 16384, 16384),
+                submit(2, INTERRUPT, 1, HIGH - 8, 8),
+            ],
+        ),
+        with(
+            all(8, 16384),
+            &[
+                submit(1, BULK, 1, HIGH - 1, 2),
+                submit(0, CONTROL, 0, 0, 16385),
+                submit(1, BULK, 1, u64::MAX, u64::MAX),
+                submit(1, BULK, 1, u64::MAX, 0),
+                submit(2, INTERRUPT, 0, HIGH, 0),
+            ],
+        ),
         with(all(8, 16384), &[setup(0, 1), setup(0x80, 0), setup(0xffff_ffff_ffff, 1), setup(0x1f, 0)]),
-        with(all(3, 16384), &[submit(1, BULK, 1, 0, 16385), submit(0, CONTROL, 1, 0, 1), submit(0, CONTROL, 1, 0, 0), submit(2, INTERRUPT, 1, 0, 16385), submit(2, INTERRUPT, 1, 0, 16384), submit(0, CONTROL, 0, HIGH, 9)]),
+        with(
+            all(3, 16384),
+            &[
+                submit(1, BULK, 1, 0, 16385),
+                submit(0, CONTROL, 1, 0, 1),
+                submit(0, CONTROL, 1, 0, 0),
+                submit(2, INTERRUPT, 1, 0, 16385),
+                submit(2, INTERRUPT, 1, 0, 16384),
+                submit(0, CONTROL, 0, HIGH, 9),
+            ],
+        ),
     ];
     for limit in [1, 512, 4097, 16384] {
         for length in [0, 1, limit - 1, limit, limit + 1, 2 * limit, 3 * limit + 1, 4 * limit, 4 * limit + 1] {
-            out.push(with(started(4, 1, limit), &[bulk(), submit(0, BULK, 0, 0x1000_0fff, length), submit(0, BULK, 0, 0, 1)]));
+            out.push(with(
+                started(4, 1, limit),
+                &[bulk(), submit(0, BULK, 0, 0x1000_0fff, length), submit(0, BULK, 0, 0, 1)],
+            ));
         }
     }
-    for (address, length) in [(0x1000_0fff, 1), (0x1000_0fff, 2), (0x1000_0fff, 16384), (0x1000_0000, 4096), (0x1000_0001, 4096), (0, 16384), (HIGH - 16384, 16384)] {
-        out.push(with(all(8, 16384), &[submit(0, CONTROL, 1, address, length), submit(1, BULK, 0, address, length), submit(2, INTERRUPT, 1, address, length)]));
+    for (address, length) in [
+        (0x1000_0fff, 1),
+        (0x1000_0fff, 2),
+        (0x1000_0fff, 16384),
+        (0x1000_0000, 4096),
+        (0x1000_0001, 4096),
+        (0, 16384),
+        (HIGH - 16384, 16384),
+    ] {
+        out.push(with(
+            all(8, 16384),
+            &[
+                submit(0, CONTROL, 1, address, length),
+                submit(1, BULK, 0, address, length),
+                submit(2, INTERRUPT, 1, address, length),
+            ],
+        ));
     }
     out
 }
@@ -255,13 +350,38 @@ fn unlinks() -> Vec<Calls> {
     let asked = |kind, n: u8| (0..n).map(move |k| submit(k, kind, 1, 0x1000_0000, 8)).collect::<Calls>();
     let answered = [acknowledge(0x20), drain()];
     let mut out = vec![
-        with(with(bulks(1), &[cancel(0, 1, 0), collect(0, 7, 0), one(0), cancel(0, 2, 0), collect(0, 2, 0), cancel(1, 1, 0), collect(255, 1, 0)]), &[cancel(0, 1, 0), cancel(0, 1, 0), collect(0, 1, 0)]),
+        with(
+            with(
+                bulks(1),
+                &[
+                    cancel(0, 1, 0),
+                    collect(0, 7, 0),
+                    one(0),
+                    cancel(0, 2, 0),
+                    collect(0, 2, 0),
+                    cancel(1, 1, 0),
+                    collect(255, 1, 0),
+                ],
+            ),
+            &[cancel(0, 1, 0), cancel(0, 1, 0), collect(0, 1, 0)],
+        ),
         // the starred distance: start 16380; 8 at 4, 9 at 5
-        with(with(polls(1), &asked(INTERRUPT, 1)), &[writeback(0, 0x0003_8d00), collect(0, 1, 16380), collect(0, 1, 4), collect(0, 1, 5), collect(0, 1, 5)]),
-        with(with(polls(1), &asked(INTERRUPT, 1)), &[cancel(0, 1, 0xffff_7ffc), collect(0, 1, 0x8004), collect(0, 1, 0x4005)]),
+        with(
+            with(polls(1), &asked(INTERRUPT, 1)),
+            &[writeback(0, 0x0003_8d00), collect(0, 1, 16380), collect(0, 1, 4), collect(0, 1, 5), collect(0, 1, 5)],
+        ),
+        with(
+            with(polls(1), &asked(INTERRUPT, 1)),
+            &[cancel(0, 1, 0xffff_7ffc), collect(0, 1, 0x8004), collect(0, 1, 0x4005)],
+        ),
         double_count(),
         with(double_count(), &[drain(), acknowledge(0x20), drain(), collect(1, 1, 0), collect(0, 1, 0)]),
     ];
+    let mut many = with(started(32, 32, 16384), &(0..32).map(|k| endpoint(BULK, k, 1, 64)).collect::<Calls>());
+    many.extend(asked(BULK, 32));
+    many.extend((0..32).map(|k| cancel(7 * k % 32, 1, 0)));
+    (0..32).for_each(|k| many.extend([acknowledge(0x20), drain(), collect(7 * k % 32, 1, 0)]));
+    out.push(many);
     for order in [[0, 1, 2], [0, 2, 1], [1, 0, 2], [1, 2, 0], [2, 0, 1], [2, 1, 0]] {
         let mut calls = with(bulks(3), &asked(BULK, 3));
         calls.extend(order.map(|k| cancel(k, 1, 0)));
@@ -282,27 +402,75 @@ fn unlinks() -> Vec<Calls> {
 /// Every error bit, before and after an active token; bytes left; late writebacks.
 fn tokens() -> Vec<Calls> {
     let two = |first: u64, second: u64| {
-        let calls = with(started(4, 1, 64), &[bulk(), submit(0, BULK, 1, 0x1000, 100), writeback(0, first), writeback(1, second)]);
+        let calls = with(
+            started(4, 1, 64),
+            &[bulk(), submit(0, BULK, 1, 0x1000, 100), writeback(0, first), writeback(1, second)],
+        );
         with(calls, &[collect(0, 1, 0), collect(0, 1, 0), acknowledge(0x20), drain(), collect(0, 1, 0)])
     };
     let mut out: Vec<Calls> = (0..8).map(|bit| two(1 << bit, 0x80)).collect();
     out.extend((0..8).map(|bit| two(0x80, 1 << bit)));
     out.extend((0..8).map(|bit| two(0x0010_0000, 1 << bit)));
     out.extend([two(0x7fff_0000, 0x0005_0000), two(0x0040_0000, 0x0024_0000), two(0x48, 0x08), two(0x00080d88, 0)]);
-    let late = with(started(4, 1, 64), &[bulk(), submit(0, BULK, 1, 0x1000, 100), writeback(0, 8), collect(0, 1, 0), writeback(0, 0), writeback(1, 0x80)]);
+    let late = with(
+        started(4, 1, 64),
+        &[
+            bulk(),
+            submit(0, BULK, 1, 0x1000, 100),
+            writeback(0, 8),
+            collect(0, 1, 0),
+            writeback(0, 0),
+            writeback(1, 0x80),
+        ],
+    );
     out.push(with(late, &[acknowledge(0x20), drain(), collect(0, 1, 0), writeback(0, 1)]));
-    let control = with(started(4, 1, 64), &[endpoint(CONTROL, 1, 0, 8), submit(0, CONTROL, 1, 0x1000, 18), writeback(0, 0x0008_0e00), writeback(1, 0x0002_0d00), writeback(2, 0x0c00)]);
-    out.push(with(control, &[collect(0, 1, 0), acknowledge(0x20), drain(), collect(0, 1, 0), submit(0, CONTROL, 0, 0, 0)]));
-    out.push(with(started(2, 1, 64), &[bulk(), writeback(0, 1), one(0), writeback(0, 1), writeback(1, 1), writeback(2, 1), writeback(u64::MAX, 1)]));
+    let control = with(
+        started(4, 1, 64),
+        &[
+            endpoint(CONTROL, 1, 0, 8),
+            submit(0, CONTROL, 1, 0x1000, 18),
+            writeback(0, 0x0008_0e00),
+            writeback(1, 0x0002_0d00),
+            writeback(2, 0x0c00),
+        ],
+    );
+    out.push(with(
+        control,
+        &[collect(0, 1, 0), acknowledge(0x20), drain(), collect(0, 1, 0), submit(0, CONTROL, 0, 0, 0)],
+    ));
+    out.push(with(
+        started(2, 1, 64),
+        &[bulk(), writeback(0, 1), one(0), writeback(0, 1), writeback(1, 1), writeback(2, 1), writeback(u64::MAX, 1)],
+    ));
     out
 }
 
 fn interrupts() -> Vec<Calls> {
     let flags = |first, second| Record::new(call::ACKNOWLEDGE, &[first, second], &[0x3f, 0xffff_ffff]);
-    let mut out: Vec<Calls> = (0..14).map(|bit| vec![open(1, 1, 1, 1, 1), acknowledge(1 << bit), drain(), drain(), bare(call::REARM), bare(call::REARM)]).collect();
+    let mut out: Vec<Calls> = (0..14)
+        .map(|bit| {
+            vec![open(1, 1, 1, 1, 1), acknowledge(1 << bit), drain(), drain(), bare(call::REARM), bare(call::REARM)]
+        })
+        .collect();
     for (first, second) in [(0, 0), (0, 1), (1, 0), (1, 1)] {
-        out.push(vec![open(1, 1, 1, 1, 1), bare(call::ENABLE), flags(first, second), drain(), drain(), drain(), drain(), bare(call::REARM)]);
-        out.push(vec![open(1, 1, 1, 1, 1), flags(first, second), bare(call::REARM), bare(call::DISABLE), drain(), flags(first, second)]);
+        out.push(vec![
+            open(1, 1, 1, 1, 1),
+            bare(call::ENABLE),
+            flags(first, second),
+            drain(),
+            drain(),
+            drain(),
+            drain(),
+            bare(call::REARM),
+        ]);
+        out.push(vec![
+            open(1, 1, 1, 1, 1),
+            flags(first, second),
+            bare(call::REARM),
+            bare(call::DISABLE),
+            drain(),
+            flags(first, second),
+        ]);
     }
     out
 }
@@ -328,7 +496,8 @@ fn ports() -> Vec<Calls> {
 fn fixed() -> Calls {
     let mut calls: Calls = vec![bare(call::START), bulk(), one(0), bare(call::SCAN), power(1), drain()];
     let by_hand = [openings(), bring_ups(), endpoints(), submits(), unlinks(), tokens(), interrupts(), ports()];
-    let scripts: Vec<Calls> = departures().into_iter().map(|(_, calls)| calls).chain(by_hand.into_iter().flatten()).collect();
+    let scripts: Vec<Calls> =
+        departures().into_iter().map(|(_, calls)| calls).chain(by_hand.into_iter().flatten()).collect();
     let written = scripts.len();
     calls.extend(scripts.into_iter().flatten());
     let mut replica = Replica::default();
@@ -358,6 +527,15 @@ pub fn fixed_log() -> Vec<u8> {
     let mut log: Vec<u8> = fixed().iter().flat_map(|record| record.bytes()).collect();
     log.extend_from_slice(&drain().bytes()[..63]);
     log
+}
+
+/// The longest waits that 01 allows: ready at the 65,536th read, and not ready then.
+pub fn long_waits() -> Calls {
+    let mut calls = vec![open(1, 1, 1, 1, 65536), bare(call::START), step(0)];
+    calls.extend(std::iter::repeat_n(step(0), 65535));
+    calls.extend([step(0x1000), bare(call::START), step(0)]);
+    calls.extend(std::iter::repeat_n(step(0), 65536));
+    with(calls, &[step(0)])
 }
 
 pub fn log_of(calls: &[Record]) -> Vec<u8> {

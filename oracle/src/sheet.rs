@@ -35,7 +35,8 @@ impl Bytes<'_> {
 
     fn endpoint(&mut self) -> Option<Endpoint> {
         let [kind, address, number, zero] = [(); 4].map(|()| self.take(1));
-        let endpoint = Endpoint { kind: kind? as u8, address: address? as u8, number: number? as u8, packet: self.take(2)? };
+        let endpoint =
+            Endpoint { kind: kind? as u8, address: address? as u8, number: number? as u8, packet: self.take(2)? };
         (endpoint.kind <= 3 && zero? == 0).then_some(endpoint)
     }
 
@@ -59,7 +60,8 @@ fn read(sheet: &[u8]) -> Option<(Vec<Endpoint>, Vec<Request>)> {
 /// The answer and the value after it of one call.
 fn call_on(replica: &mut Replica, record: Record) -> (u8, u64) {
     let block = replica.block(&record.bytes()).unwrap();
-    let words: Vec<u64> = block.lines().next().unwrap().split(' ').skip(3).map_while(|word| word.parse().ok()).collect();
+    let words: Vec<u64> =
+        block.lines().next().unwrap().split(' ').skip(3).map_while(|word| word.parse().ok()).collect();
     (words[0] as u8, words.get(1).copied().unwrap_or(0))
 }
 

@@ -98,7 +98,21 @@ pub fn count(tag: &str) -> u64 {
 
 /// How many calls were answered without 000: it has no such call, check or state.
 pub fn without_original() -> u64 {
-    let tags = ["N6", "N7", "N10", "N11", "N15", "N16", "N17", "01-range", "01-before", "01-slot", "01-writeback", "01-step", "01-port"];
+    let tags = [
+        "N6",
+        "N7",
+        "N10",
+        "N11",
+        "N15",
+        "N16",
+        "N17",
+        "01-range",
+        "01-before",
+        "01-slot",
+        "01-writeback",
+        "01-step",
+        "01-port",
+    ];
     tags.into_iter().map(count).sum()
 }
 

@@ -26,9 +26,27 @@ pub mod call {
     pub const LAST: u8 = 20;
 
     pub const NAMES: [&str; 21] = [
-        "", "open", "start bring-up", "bring-up step", "allocate address", "open endpoint", "close", "set address",
-        "set packet size", "submit", "writeback", "cancel", "collect", "acknowledge", "drain", "rearm", "enable",
-        "disable", "start scan", "scan step", "port power",
+        "",
+        "open",
+        "start bring-up",
+        "bring-up step",
+        "allocate address",
+        "open endpoint",
+        "close",
+        "set address",
+        "set packet size",
+        "submit",
+        "writeback",
+        "cancel",
+        "collect",
+        "acknowledge",
+        "drain",
+        "rearm",
+        "enable",
+        "disable",
+        "start scan",
+        "scan step",
+        "port power",
     ];
 }
 
@@ -78,8 +96,7 @@ impl Record {
             return None;
         }
         let number = |i: usize| u64::from_le_bytes(bytes[8 + 8 * i..16 + 8 * i].try_into().unwrap());
-        let record =
-            Self { number: bytes[0], b: bytes[1..8].try_into().unwrap(), n: std::array::from_fn(number) };
+        let record = Self { number: bytes[0], b: bytes[1..8].try_into().unwrap(), n: std::array::from_fn(number) };
         record.fits().then_some(record)
     }
 

@@ -10,7 +10,8 @@ pub struct Rows {
 }
 
 impl Rows {
-    pub const BLANK: Self = Self { pool: [[0; 13]; 256], heads: [[0; 17]; 33], frames: [0; 1024], setups: [[0; 8]; 32] };
+    pub const BLANK: Self =
+        Self { pool: [[0; 13]; 256], heads: [[0; 17]; 33], frames: [0; 1024], setups: [[0; 8]; 32] };
 
     /// Lines P, H, F and S for what differs from `before`.
     pub fn changes(&self, before: &Self, out: &mut String) {
@@ -52,6 +53,25 @@ impl Rows {
                 writeln!(out, "F {first} {} {value:08x}", after - 1).unwrap();
             }
             first = after;
+        }
+    }
+
+    /// Takes the lines of a block over: what a reader of the block knows.
+    pub fn read(&mut self, block: &str) {
+        for line in block.lines() {
+            let words: Vec<&str> = line.split(' ').collect();
+            let place = |i: usize| words[i].parse::<usize>().unwrap();
+            let value = |i: usize| u32::from_str_radix(words[i], 16).unwrap();
+            match words[0] {
+                "P" => self.pool[place(1)] = std::array::from_fn(|i| value(2 + i)),
+                "H" => self.heads[place(1)][place(2)] = value(3),
+                "F" => self.frames[place(1)..=place(2)].fill(value(3)),
+                "S" => {
+                    let byte = |i: usize| u8::from_str_radix(&words[2][2 * i..2 * i + 2], 16).unwrap();
+                    self.setups[place(1)] = std::array::from_fn(byte);
+                }
+                _ => {}
+            }
         }
     }
 }
