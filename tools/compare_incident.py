@@ -1,14 +1,11 @@
 #!/usr/bin/env python3
 """The double count as a log, and what was printed of it: tools/compare_incident.py writes examples/double-count.log and
 examples/double-count.txt. It needs what tools/compare needs."""
-import importlib.machinery, importlib.util, os, subprocess
+import os
 
-HERE = os.path.dirname(os.path.abspath(__file__))
-loader = importlib.machinery.SourceFileLoader("compare", os.path.join(HERE, "compare"))
-compare = importlib.util.module_from_spec(importlib.util.spec_from_loader("compare", loader))
-loader.exec_module(compare)
+from compare_run import ORACLE, TOP, build, program, written
 
-EXAMPLE = os.path.join(compare.TOP, "examples", "double-count")
+EXAMPLE = os.path.join(TOP, "examples", "double-count")
 CALLS = {
     8: "open endpoint: bulk, address 5, number 1", 9: "open endpoint: bulk, address 5, number 2", 10: "submit on slot 0", 11: "submit on slot 1",
     12: "cancel slot 0", 13: "cancel slot 1", 14: "acknowledge, USBSTS 0x24: an advance and a port change", 15: "drain", 16: "drain",
@@ -38,13 +35,10 @@ def blocks(text):
 
 
 def main():
-    compare.build()
-    replay = compare.program("replay", "REPLAY")
-    log = subprocess.run([compare.ORACLE, "incident"], capture_output=True, check=True).stdout
-    told = lambda words, off: blocks(
-        subprocess.run(words, input=log, capture_output=True, check=True, env=dict(os.environ, NOREPAIR=off)).stdout.decode()
-    )
-    sides = [("port", told([replay], "")), ("000", told([compare.ORACLE], "K2,N1,N13")), ("000/N1", told([compare.ORACLE], "K2"))]
+    build()
+    log = written([ORACLE, "incident"])
+    told = lambda words, off: blocks(written(words, log, NOREPAIR=off).decode())
+    sides = [("port", told([program("replay", "REPLAY")], "")), ("000", told([ORACLE], "K2,N1,N13")), ("000/N1", told([ORACLE], "K2"))]
     with open(EXAMPLE + ".log", "wb") as out:
         out.write(log)
     with open(EXAMPLE + ".txt", "w") as out:

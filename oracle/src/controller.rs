@@ -96,7 +96,8 @@ pub struct Flight {
     pub unlinking: bool,
 }
 
-struct Pause;
+/// The kernel's delay is noted and does not wait.
+pub(super) struct Pause;
 
 impl KernelOp for Pause {
     fn delay(&self, duration: Duration) {
@@ -105,11 +106,24 @@ impl KernelOp for Pause {
 }
 
 /// The futures that are driven here never wait.
-fn finished<T>(future: impl Future<Output = T>) -> T {
+pub(super) fn finished<T>(future: impl Future<Output = T>) -> T {
     match Box::pin(future).as_mut().poll(&mut Context::from_waker(std::task::Waker::noop())) {
         Poll::Ready(value) => value,
         Poll::Pending => panic!("a future of 000 waits"),
     }
+}
+
+/// 000's controller over fresh registers. The memory has been laid out.
+pub(super) fn new_ehci(ports: u8) -> Ehci {
+    let params = EhciNewParams { mmio: regs::fresh(ports), dma: DeviceDma, kernel: &Pause };
+    Ehci::new(params).ok().unwrap()
+}
+
+/// 000's endpoint of device 5, outside any slot.
+pub(super) fn new_endpoint(ehci: &Ehci, transfer_type: EndpointType) -> (EndpointInfo, EhciEndpoint) {
+    let info = EndpointInfo { address: EndpointAddress(1), transfer_type, max_packet_size: 512 };
+    let raw = EhciEndpoint::new(ehci.regs, ehci.schedule.clone(), ehci.kernel.clone(), 5, info);
+    (info, raw.ok().unwrap())
 }
 
 /// The root hub. While a scan stands at a read its states are looked at from outside.
@@ -160,9 +174,7 @@ impl Controller {
     pub fn open(settings: Settings, rows: &mut Rows) -> Self {
         let (d, e) = (settings.descriptors as usize, settings.endpoints as usize);
         dma_api::lay_out([d, e + 1, 1, e], settings.areas);
-        let mmio = regs::fresh(settings.ports);
-        let params = EhciNewParams { mmio, dma: DeviceDma, kernel: &Pause };
-        let mut ehci = Ehci::new(params).ok().unwrap();
+        let mut ehci = new_ehci(settings.ports);
         let handler = ehci.event_handler.take().unwrap();
         let hub = Arc::new(Hub(UnsafeCell::new(ehci.root_hub.take().unwrap())));
         rows.pool[..d].fill([0; 13]);
@@ -442,7 +454,8 @@ impl Controller {
 
 const TYPES: [RequestType; 4] = [RequestType::Standard, RequestType::Class, RequestType::Vendor, RequestType::Reserved];
 
-fn setup_of(bytes: [u8; 6]) -> ControlSetup {
+/// A setup packet's first six bytes in 000's types, which have no direction bit.
+pub(super) fn setup_of(bytes: [u8; 6]) -> ControlSetup {
     let recipient = match bytes[0] & 0x1f {
         0 => Recipient::Device,
         1 => Recipient::Interface,

@@ -7,6 +7,9 @@ use crate::backend::kmod::ehci::controller::{Controller, Flight};
 
 const KIB16: u64 = 16384;
 
+/// Four areas far apart: those of 01's sheet.
+pub const AREAS: [u64; 4] = [0x100000, 0x200000, 0x300000, 0x400000];
+
 struct Draw(u64);
 
 impl Draw {
@@ -108,7 +111,7 @@ impl Generator {
     /// Areas far apart, or touching each other from 0 on or up to 2^32, in some order.
     fn areas(&mut self, d: u64, e: u64) -> [u64; 4] {
         if self.draw.one_in(2) {
-            return [0x100000, 0x200000, 0x300000, 0x400000];
+            return AREAS;
         }
         let sizes = [64 * d, 128 * (e + 1), 4096, 8 * e];
         let by = [64, 128, 4096, 8];

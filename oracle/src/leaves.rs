@@ -1,6 +1,6 @@
 // 000's leaves: against 01's formulas, over all values where that is cheap, and against the lines that the port's program
 // `leaf_checks` printed.
-use super::controller::{descriptor_words, words_of_head};
+use super::controller::{descriptor_words, new_ehci, new_endpoint, setup_of, words_of_head};
 use super::*;
 use crate::regs;
 use usb_if::endpoint::TransferBuffer;
@@ -23,48 +23,19 @@ fn started(pid: QtdPid, bytes: usize, interrupt: bool, toggle: bool) -> u32 {
 }
 
 fn plan(direction: Direction, length: usize) -> ControlTdPlan {
-    let setup = ControlSetup {
-        request_type: RequestType::Standard,
-        recipient: Recipient::Device,
-        request: Request::GetDescriptor,
-        value: 0,
-        index: 0,
-    };
     let buffer = (length > 0).then_some(TransferBuffer { address: 0, len: length });
-    build_control_td_plan(&TransferRequest::Control { setup, direction, buffer }).unwrap()
+    build_control_td_plan(&TransferRequest::Control { setup: setup_of([0; 6]), direction, buffer }).unwrap()
 }
 
 fn setup_bytes(number: u64, length: usize) -> [u8; 8] {
-    let bytes = number.to_le_bytes();
-    let setup = ControlSetup {
-        request_type: [RequestType::Standard, RequestType::Class, RequestType::Vendor, RequestType::Reserved]
-            [(bytes[0] >> 5 & 3) as usize],
-        recipient: match bytes[0] & 0x1f {
-            0 => Recipient::Device,
-            1 => Recipient::Interface,
-            2 => Recipient::Endpoint,
-            3 => Recipient::Other,
-            more => Recipient::Reserved(more),
-        },
-        request: Request::Other(bytes[1]),
-        value: u16::from_le_bytes([bytes[2], bytes[3]]),
-        index: u16::from_le_bytes([bytes[4], bytes[5]]),
-    };
-    setup_packet_bytes(&setup, DIRECTIONS[(bytes[0] >> 7) as usize], length)
+    let bytes: [u8; 6] = number.to_le_bytes()[..6].try_into().unwrap();
+    setup_packet_bytes(&setup_of(bytes), DIRECTIONS[(bytes[0] >> 7) as usize], length)
 }
 
-struct Pause;
-
-impl KernelOp for Pause {
-    fn delay(&self, _: Duration) {}
-}
-
-/// An endpoint of 000's, for the functions that change its head or its ids.
+/// For the functions that change a head or an id.
 fn an_endpoint() -> EhciEndpoint {
-    dma_api::lay_out([1, 2, 1, 1], [0x100000, 0x200000, 0x300000, 0x400000]);
-    let params = EhciNewParams { mmio: regs::fresh(1), dma: DeviceDma, kernel: &Pause };
-    let ehci = Ehci::new(params).ok().unwrap();
-    EhciEndpoint::new(ehci.regs, ehci.schedule.clone(), ehci.kernel.clone(), 5, EndpointInfo::control()).ok().unwrap()
+    dma_api::lay_out([1, 2, 1, 1], crate::generate::AREAS);
+    new_endpoint(&new_ehci(1), EndpointType::Control).1
 }
 
 // ---- 01's formulas
@@ -308,111 +279,117 @@ fn hex(words: &[u32]) -> String {
 
 /// What 000 says to the left side of a line.
 fn said(words: &[&str]) -> Option<String> {
-    let number = |i: usize| words[i].parse::<u64>().unwrap();
-    let word = |i: usize| u64::from_str_radix(words[i], 16).unwrap();
-    let pid = |i: usize| PIDS.iter().find(|(name, _)| *name == words[i]).unwrap().1;
-    let direction = |i: usize| DIRECTIONS[(words[i] == "in") as usize];
-    let head = || {
-        let kind = KINDS.iter().find(|(name, _)| *name == words[1]).unwrap().1;
-        words_of_head(&QueueHead::endpoint(number(2) as u8, number(3) as u8, kind, number(4) as u16))
-    };
+    token_line(words).or_else(|| memory_line(words)).or_else(|| register_line(words))
+}
+
+fn number(word: &str) -> usize {
+    word.parse().unwrap()
+}
+
+fn raw(word: &str) -> u64 {
+    u64::from_str_radix(word, 16).unwrap()
+}
+
+fn named<T: Copy>(items: &[(&str, T)], word: &str) -> T {
+    items.iter().find(|(name, _)| *name == word).unwrap().1
+}
+
+fn token_line(words: &[&str]) -> Option<String> {
+    let token = || QtdToken(raw(words[1]) as u32);
+    let pid = || named(&PIDS, words[1]);
     Some(match words[0] {
-        "new" => hex(&[QtdToken::new(pid(1), number(2) as usize).raw()]),
-        "started" => hex(&[started(pid(1), number(2) as usize, number(3) == 1, number(4) == 1)]),
-        "chunk" => hex(&[started(pid(1), number(2) as usize, number(3) == 1, false)]),
-        "error_counter" => hex(&[QtdToken(word(1) as u32).with_error_counter(number(2) as u8).raw()]),
+        "new" => hex(&[QtdToken::new(pid(), number(words[2])).raw()]),
+        "started" => hex(&[started(pid(), number(words[2]), words[3] == "1", words[4] == "1")]),
+        "chunk" => hex(&[started(pid(), number(words[2]), words[3] == "1", false)]),
+        "error_counter" => hex(&[token().with_error_counter(number(words[2]) as u8).raw()]),
         "flags" => {
-            let (token, flag) = (QtdToken(word(1) as u32), number(2) == 1);
-            hex(&[
-                token.with_active(flag).raw(),
-                token.with_interrupt_on_complete(flag).raw(),
-                token.with_data_toggle(flag).raw(),
-            ])
+            let on = words[2] == "1";
+            let changed =
+                [token().with_active(on), token().with_interrupt_on_complete(on), token().with_data_toggle(on)];
+            hex(&changed.map(|token| token.raw()))
         }
-        "read" => {
-            let token = QtdToken(word(1) as u32);
-            format!("{} {} {}", token.total_bytes(), token.active() as u8, token.has_error() as u8)
-        }
+        "read" => format!("{} {} {}", token().total_bytes(), token().active() as u8, token().has_error() as u8),
         "control" => {
-            let made = plan(direction(1), number(2) as usize);
+            let made = plan(DIRECTIONS[(words[1] == "in") as usize], number(words[2]));
             let data = made.data.map_or("none".to_string(), |token| hex(&[token.raw()]));
             format!("{} {data} {}", hex(&[made.setup.raw()]), hex(&[made.status.raw()]))
         }
-        "slots" => hex(&QueueTransferDescriptor::new(QtdToken(0), word(1), number(2) as usize).buffer),
-        "descriptor" => {
-            hex(&descriptor_words(&QueueTransferDescriptor::new(QtdToken(word(1) as u32), word(2), number(3) as usize)))
-        }
-        "setup" => {
-            let bytes = setup_bytes(word(1), number(2) as usize);
-            bytes.iter().map(|byte| format!("{byte:02x}")).collect::<Vec<_>>().join(" ")
-        }
+        _ => return None,
+    })
+}
+
+fn memory_line(words: &[&str]) -> Option<String> {
+    let head = || {
+        let [address, endpoint, packet] = [2, 3, 4].map(|i: usize| number(words[i]));
+        words_of_head(&QueueHead::endpoint(address as u8, endpoint as u8, named(&KINDS, words[1]), packet as u16))
+    };
+    let descriptor = |token: u64, address: &str, length: &str| {
+        QueueTransferDescriptor::new(QtdToken(token as u32), raw(address), number(length))
+    };
+    let changed = |change: fn(&mut EhciEndpoint, u8)| {
+        let mut endpoint = an_endpoint();
+        endpoint.qh.modify_cpu(|qh| qh.endpoint_chars = raw(words[1]) as u32);
+        change(&mut endpoint, number(words[2]) as u8);
+        hex(&[endpoint.qh.read_cpu().endpoint_chars])
+    };
+    Some(match words[0] {
+        "slots" => hex(&descriptor(0, words[1], words[2]).buffer),
+        "descriptor" => hex(&descriptor_words(&descriptor(raw(words[1]), words[2], words[3]))),
+        "setup" => setup_bytes(raw(words[1]), number(words[2])).map(|byte| format!("{byte:02x}")).join(" "),
         "head" => hex(&head()[..3]),
         "head_whole" => hex(&head()),
-        "ring_head" => hex(&words_of_head(&QueueHead::async_head(word(1) as u32))),
-        "links" => {
-            let next = |at| {
-                let mut qtd = QueueTransferDescriptor::terminated();
-                qtd.set_next(at);
-                qtd.next_qtd
-            };
-            hex(&[ehci_qh_link(word(1) as u32), next(Some(word(1) as u32)), next(None)])
-        }
-        "set_address" | "set_packet_size" => {
-            let mut endpoint = an_endpoint();
-            endpoint.qh.modify_cpu(|qh| qh.endpoint_chars = word(1) as u32);
-            match words[0] {
-                "set_address" => endpoint.set_device_address(number(2) as u8),
-                _ => endpoint.set_max_packet_size(number(2) as u8),
-            }
-            hex(&[endpoint.qh.read_cpu().endpoint_chars])
-        }
+        "ring_head" => hex(&words_of_head(&QueueHead::async_head(raw(words[1]) as u32))),
+        "links" => hex(&[ehci_qh_link(raw(words[1]) as u32), next_of(Some(raw(words[1]) as u32)), next_of(None)]),
+        "set_address" => changed(EhciEndpoint::set_device_address),
+        "set_packet_size" => changed(EhciEndpoint::set_max_packet_size),
+        _ => return None,
+    })
+}
+
+fn next_of(address: Option<u32>) -> u32 {
+    let mut qtd = QueueTransferDescriptor::terminated();
+    qtd.set_next(address);
+    qtd.next_qtd
+}
+
+const OFFSETS: [usize; 9] =
+    [USBCMD, USBSTS, USBINTR, FRINDEX, CTRLDSSEGMENT, PERIODICLISTBASE, ASYNCLISTADDR, CONFIGFLAG, PORTSC_BASE];
+const COMMANDS: [u32; 5] =
+    [USBCMD_RUN_STOP, USBCMD_HCRESET, USBCMD_PERIODIC_ENABLE, USBCMD_ASYNC_ENABLE, USBCMD_INT_ASYNC_ADVANCE_DOORBELL];
+const STATUSES: [u32; 7] = [
+    USBSTS_USBINT,
+    USBSTS_USBERRINT,
+    USBSTS_PORT_CHANGE,
+    USBSTS_FRAME_LIST_ROLLOVER,
+    USBSTS_HOST_SYSTEM_ERROR,
+    USBSTS_INTERRUPT_ASYNC_ADVANCE,
+    USBSTS_HALTED,
+];
+const INTERRUPTS: [u32; 4] = [USBINTR_USBINT, USBINTR_USBERRINT, USBINTR_PORT_CHANGE, USBINTR_ASYNC_ADVANCE];
+const PORT_BITS: [u32; 8] = [
+    EhciPortStatus::CURRENT_CONNECT,
+    PORT_CONNECT_CHANGE,
+    EhciPortStatus::PORT_ENABLED,
+    PORT_ENABLE_CHANGE,
+    PORT_OVER_CURRENT_CHANGE,
+    PORT_RESET,
+    PORT_POWER,
+    PORT_OWNER,
+];
+
+fn register_line(words: &[&str]) -> Option<String> {
+    Some(match words[0] {
         "port" => {
-            let status = EhciPortStatus::from_raw(word(1) as u32);
-            let ready = status.is_high_speed_device_ready();
-            format!("{} {} {}", status.connected() as u8, status.enabled() as u8, ready as u8)
+            let status = EhciPortStatus::from_raw(raw(words[1]) as u32);
+            let bits = [status.connected(), status.enabled(), status.is_high_speed_device_ready()];
+            bits.map(|bit| (bit as u8).to_string()).join(" ")
         }
-        "port_offset" => hex(&[EhciRegisters::port_offset(number(1) as u8) as u32]),
-        "offsets" => {
-            let all = [
-                USBCMD,
-                USBSTS,
-                USBINTR,
-                FRINDEX,
-                CTRLDSSEGMENT,
-                PERIODICLISTBASE,
-                ASYNCLISTADDR,
-                CONFIGFLAG,
-                PORTSC_BASE,
-            ];
-            hex(&all.map(|offset| offset as u32))
-        }
-        "usbcmd" => hex(&[
-            USBCMD_RUN_STOP,
-            USBCMD_HCRESET,
-            USBCMD_PERIODIC_ENABLE,
-            USBCMD_ASYNC_ENABLE,
-            USBCMD_INT_ASYNC_ADVANCE_DOORBELL,
-        ]),
-        "usbsts" => hex(&[
-            USBSTS_USBINT,
-            USBSTS_USBERRINT,
-            USBSTS_PORT_CHANGE,
-            USBSTS_FRAME_LIST_ROLLOVER,
-            USBSTS_HOST_SYSTEM_ERROR,
-            USBSTS_INTERRUPT_ASYNC_ADVANCE,
-            USBSTS_HALTED,
-        ]),
-        "usbintr" => hex(&[USBINTR_USBINT, USBINTR_USBERRINT, USBINTR_PORT_CHANGE, USBINTR_ASYNC_ADVANCE]),
-        "portsc" => hex(&[
-            EhciPortStatus::CURRENT_CONNECT,
-            PORT_CONNECT_CHANGE,
-            EhciPortStatus::PORT_ENABLED,
-            PORT_ENABLE_CHANGE,
-            PORT_OVER_CURRENT_CHANGE,
-            PORT_RESET,
-            PORT_POWER,
-            PORT_OWNER,
-        ]),
+        "port_offset" => hex(&[EhciRegisters::port_offset(number(words[1]) as u8) as u32]),
+        "offsets" => hex(&OFFSETS.map(|offset| offset as u32)),
+        "usbcmd" => hex(&COMMANDS),
+        "usbsts" => hex(&STATUSES),
+        "usbintr" => hex(&INTERRUPTS),
+        "portsc" => hex(&PORT_BITS),
         _ => return None,
     })
 }

@@ -30,6 +30,7 @@ pub struct DeviceAddressInfo {
 
 const USAGE: &str = "usage: oracle < LOG, or oracle and one of
   compare SEED SCRIPTS STEPS KEPT-LOG PORT..   call scripts on both sides, compared after every call
+  chunks                                       requests of one to six chunks, as a log
   departures                                   each listed departure: its fewest calls, repaired and as 000 does them
   fixed                                        the fixed list, as a log
   incident                                     the double count, as a log
@@ -57,6 +58,7 @@ fn main() {
         ["compare", seed, scripts, steps, keep, ref port @ ..] => compare(seed, scripts, steps, keep, port),
         ["fixed"] => std::io::stdout().write_all(&scripts::fixed_log()).unwrap(),
         ["incident"] => std::io::stdout().write_all(&scripts::log_of(&scripts::double_count())).unwrap(),
+        ["chunks"] => std::io::stdout().write_all(&scripts::log_of(&scripts::chunk_edges())).unwrap(),
         ["waits"] => std::io::stdout().write_all(&scripts::log_of(&scripts::long_waits())).unwrap(),
         ["departures"] => scripts::show_departures(),
         ["probes"] => backend::kmod::ehci::probes::run(),

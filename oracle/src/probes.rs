@@ -1,24 +1,17 @@
 // What 000 does where no call of a log can show it. One line to a probe, for docs/DIFFERENCES.md.
-use super::controller::words_of_head;
+use super::controller::{finished, new_ehci, new_endpoint, words_of_head};
 use super::*;
 use crate::regs::{self, Access, Now, Stepped};
-use usb_if::endpoint::{EndpointAddress, TransferBuffer};
-
-struct Pause;
-
-impl KernelOp for Pause {
-    fn delay(&self, _: Duration) {}
-}
+use usb_if::endpoint::TransferBuffer;
 
 fn controller(ports: u8) -> Ehci {
-    dma_api::lay_out([4, 4, 1, 4], [0x100000, 0x200000, 0x300000, 0x400000]);
-    Ehci::new(EhciNewParams { mmio: regs::fresh(ports), dma: DeviceDma, kernel: &Pause }).ok().unwrap()
+    dma_api::lay_out([4, 4, 1, 4], crate::generate::AREAS);
+    new_ehci(ports)
 }
 
 fn endpoint(ehci: &Ehci, transfer_type: EndpointType) -> EndpointHandle {
-    let info = EndpointInfo { address: EndpointAddress(1), transfer_type, max_packet_size: 512 };
-    let raw = EhciEndpoint::new(ehci.regs, ehci.schedule.clone(), ehci.kernel.clone(), 5, info);
-    EndpointHandle::new(info, raw.ok().unwrap())
+    let (info, raw) = new_endpoint(ehci, transfer_type);
+    EndpointHandle::new(info, raw)
 }
 
 fn some_bytes() -> Option<TransferBuffer> {
@@ -27,13 +20,6 @@ fn some_bytes() -> Option<TransferBuffer> {
 
 fn bulk() -> TransferRequest {
     TransferRequest::Bulk { direction: Direction::In, buffer: some_bytes() }
-}
-
-fn ready<T>(future: impl Future<Output = T>) -> T {
-    match Box::pin(future).as_mut().poll(&mut Context::from_waker(std::task::Waker::noop())) {
-        Poll::Ready(value) => value,
-        Poll::Pending => panic!("a future of 000 waits"),
-    }
 }
 
 pub fn run() {
@@ -81,11 +67,11 @@ fn fields() {
 /// N5: how often a wait reads, and that it goes on at the read after 01's longest.
 fn waits() {
     let mut ehci = controller(1);
-    let (result, trace) = regs::traced(|| ready(ehci.init_controller()));
+    let (result, trace) = regs::traced(|| finished(ehci.init_controller()));
     let reads = trace.iter().filter(|access| matches!(access, Access::Read(regs::USBSTS, _))).count();
     println!("N5: never halted: {reads} reads of USBSTS, then {:?}", result.unwrap_err());
     let mut ehci = controller(1);
-    let (run, _, _) = Stepped::start(move || ready(ehci.init_controller()).is_ok());
+    let (run, _, _) = Stepped::start(move || finished(ehci.init_controller()).is_ok());
     let step = |reading| run.step::<bool>(reading).0;
     step(0);
     let late = (1..=65536).all(|_| matches!(step(0), Now::Reads(regs::USBSTS)));
@@ -97,10 +83,10 @@ fn resets() {
     let ehci = controller(1);
     let handle = endpoint(&ehci, EndpointType::Bulk);
     handle.with_raw_mut::<EhciEndpoint, _>(|raw| raw.qh.modify_cpu(|qh| qh.overlay.next_qtd = 0x100000));
-    let idle = ready(handle.reset());
+    let idle = finished(handle.reset());
     let next = handle.with_raw_mut::<EhciEndpoint, _>(|raw| raw.qh.read_cpu().overlay.next_qtd);
     handle.submit(bulk()).unwrap();
-    println!("N14: reset idle: {idle:?}, overlay next {next:08x}; in flight: {:?}", ready(handle.reset()));
+    println!("N14: reset idle: {idle:?}, overlay next {next:08x}; in flight: {:?}", finished(handle.reset()));
     let isochronous = endpoint(&ehci, EndpointType::Isochronous).info().transfer_type;
     println!("N15: an endpoint of kind {isochronous:?} is made");
 }

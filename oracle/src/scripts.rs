@@ -2,7 +2,7 @@
 //! scripts by chance they are the fixed list.
 use blocks::record::{Record, call};
 
-use crate::generate::{Generator, opening};
+use crate::generate::{AREAS, Generator, opening};
 use crate::replica::Replica;
 use crate::tags;
 
@@ -10,7 +10,6 @@ const CONTROL: u8 = 0;
 const ISOCHRONOUS: u8 = 1;
 const BULK: u8 = 2;
 const INTERRUPT: u8 = 3;
-const AREAS: [u64; 4] = [0x100000, 0x200000, 0x300000, 0x400000];
 const HIGH: u64 = 1 << 32;
 
 type Calls = Vec<Record>;
@@ -527,6 +526,35 @@ pub fn fixed_log() -> Vec<u8> {
     let mut log: Vec<u8> = fixed().iter().flat_map(|record| record.bytes()).collect();
     log.extend_from_slice(&drain().bytes()[..63]);
     log
+}
+
+/// Requests of one to six chunks: limits, lengths about their multiples, offsets in a page, both kinds, both directions.
+pub fn chunk_edges() -> Calls {
+    let mut calls = Vec::new();
+    for limit in [1, 2, 3, 63, 64, 512, 1000, 4095, 4096, 4097, 8192, 12289, 16383, 16384] {
+        calls.extend(started(5, 2, limit));
+        calls.extend([bulk(), endpoint(INTERRUPT, 5, 2, 8)]);
+        let lengths = (0..6).flat_map(|k| [(k * limit).saturating_sub(1), k * limit, k * limit + 1]);
+        let offsets = [0, 1, 0x7ff, 0xffe, 0xfff];
+        let asked = lengths.flat_map(|length| offsets.map(|offset| (length, 0x1000_0000 + offset)));
+        let mut id = 0;
+        for (turn, (length, address)) in asked.enumerate() {
+            let incoming = turn as u8 % 2;
+            // more than five chunks find no room, and take no id
+            if length <= 5 * limit {
+                id += 1;
+            }
+            calls.extend([
+                submit(0, BULK, incoming, address, length),
+                cancel(0, id, 0),
+                acknowledge(0x20),
+                drain(),
+                collect(0, id, 0),
+            ]);
+            calls.extend([submit(1, INTERRUPT, incoming, address, length), cancel(1, id, 0), collect(1, id, 9)]);
+        }
+    }
+    calls
 }
 
 /// The longest waits that 01 allows: ready at the 65,536th read, and not ready then.

@@ -3,10 +3,8 @@
 use blocks::record::{Record, call};
 
 use crate::backend::kmod::ehci::controller::answer;
-use crate::generate::opening;
+use crate::generate::{AREAS, opening};
 use crate::replica::Replica;
-
-const AREAS: [u64; 4] = [0x100000, 0x200000, 0x300000, 0x400000];
 
 struct Endpoint {
     kind: u8,
