@@ -5,7 +5,7 @@ use std::time::{Duration, Instant};
 
 use blocks::record::{Record, call};
 
-use crate::generate::Generator;
+use crate::generate::{Generator, plain};
 use crate::replica::Replica;
 use crate::tags::{self, Sort};
 
@@ -170,6 +170,9 @@ pub fn run(options: Options) -> Outcome {
         run.progress(script + 1);
     }
     eprintln!();
+    if !run.every_bad_record() {
+        return Outcome::Differs;
+    }
     run.summary(began)
 }
 
@@ -181,18 +184,20 @@ impl Run {
         }
     }
 
+    /// Both sides from the beginning.
+    fn restart(&mut self) {
+        self.replica.restart();
+        self.log.clear();
+        self.port = Some(Port::start(&self.options.port));
+    }
+
     /// One opening and the calls after it. False: a difference was printed.
     fn script(&mut self, script: u64) -> bool {
         let mut generator = Generator::new(self.options.seed, script);
         if self.port.is_none() {
-            self.replica.restart();
-            self.log.clear();
-            self.port = Some(Port::start(&self.options.port));
-            for _ in 0..6 {
-                let record = generator.any_call();
-                if !self.same(&record.bytes()) {
-                    return false;
-                }
+            self.restart();
+            if !(0..6).all(|_| self.same(&generator.any_call().bytes())) {
+                return false;
             }
         }
         if !self.same(&generator.opening().bytes()) {
@@ -205,6 +210,21 @@ impl Run {
             }
         }
         !generator.ends_badly() || self.ends(&generator.bad())
+    }
+
+    /// Every call's record wrong in every way, and cut short.
+    fn every_bad_record(&mut self) -> bool {
+        for record in (1..=call::LAST).map(|number| plain(number, 0)) {
+            let wrong = record.spoilings().into_iter().map(|wrong| wrong.bytes().to_vec());
+            let cut = [1, 8, 63].map(|length| record.bytes()[..length].to_vec());
+            for bytes in wrong.chain(cut) {
+                self.restart();
+                if !self.ends(&bytes) {
+                    return false;
+                }
+            }
+        }
+        true
     }
 
     /// One call on both sides.

@@ -77,22 +77,14 @@ impl Generator {
         let record = self.any_call();
         match self.draw.below(6) {
             0 => record.bytes()[..1 + self.draw.below(63) as usize].to_vec(),
-            _ => record.spoiled(self.draw.next()).bytes().to_vec(),
+            _ => self.draw.of(&record.spoilings()).bytes().to_vec(),
         }
     }
 
-    /// Some call with small parameters, whatever the state.
+    /// Some call but opening, whatever the state.
     pub fn any_call(&mut self) -> Record {
         let slot = self.draw.below(3) as u8;
-        let number = 2 + self.draw.below(call::LAST as u64 - 1) as u8;
-        match number {
-            call::ENDPOINT => Record::new(number, &[2, 1, 1], &[64]),
-            call::SUBMIT => Record::new(number, &[slot, 2, 1], &[0, 0x1000, 64, 0]),
-            call::CLOSE | call::SET_ADDRESS | call::SET_PACKET | call::POWER => Record::new(number, &[slot], &[]),
-            call::CANCEL | call::COLLECT => Record::new(number, &[slot], &[1, 0, 0]),
-            call::ACKNOWLEDGE => Record::new(number, &[1, 1], &[0x24, 0x27]),
-            _ => Record::new(number, &[], &[]),
-        }
+        plain(2 + self.draw.below(call::LAST as u64 - 1) as u8, slot)
     }
 
     // ---- opening
@@ -375,4 +367,17 @@ impl Generator {
 
 pub fn opening(d: u64, e: u8, ports: u8, limit: u64, wait: u64, areas: [u64; 4]) -> Record {
     Record::new(call::OPEN, &[e, ports], &[d, limit, wait, areas[0], areas[1], areas[2], areas[3]])
+}
+
+/// A good record of this call, with small parameters.
+pub fn plain(number: u8, slot: u8) -> Record {
+    match number {
+        call::OPEN => opening(4, 4, 2, KIB16, 1, AREAS),
+        call::ENDPOINT => Record::new(number, &[2, 1, 1], &[64]),
+        call::SUBMIT => Record::new(number, &[slot, 2, 1], &[0, 0x1000, 64, 0]),
+        call::CLOSE | call::SET_ADDRESS | call::SET_PACKET | call::POWER => Record::new(number, &[slot], &[]),
+        call::CANCEL | call::COLLECT => Record::new(number, &[slot], &[1, 0, 0]),
+        call::ACKNOWLEDGE => Record::new(number, &[1, 1], &[0x24, 0x27]),
+        _ => Record::new(number, &[], &[]),
+    }
 }

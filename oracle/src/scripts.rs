@@ -108,27 +108,27 @@ pub fn double_count() -> Calls {
 /// For each tag the fewest calls that show it.
 pub fn departures() -> Vec<(&'static str, Calls)> {
     let running = || started(4, 2, 16384);
-    let linked = || with(running(), &[bulk(), one(0)]);
-    let rung = || with(linked(), &[cancel(0, 1, 0)]);
+    let asked = || with(running(), &[bulk(), one(0)]);
+    let rung = || with(asked(), &[cancel(0, 1, 0)]);
     let keeps_bell = Record::new(call::SUBMIT, &[0, BULK, 1], &[0, 0x1000_0000, 512, 0x71]);
     let bring_up_bell = with(vec![open(1, 1, 1, 1, 1), bare(call::START)], &[step(0x80b71)]);
     let unplugged = with(vec![open(1, 1, 1, 1, 1)], &scan(&[1, 1, 1, 5]));
     vec![
         ("K1", vec![open(1, 1, 1, 1, 1), bulk()]),
         ("K2", with(rung(), &[bulk(), one(1), cancel(1, 1, 0), acknowledge(0x24), drain(), drain()])),
-        ("K3", with(linked(), &[acknowledge(0x20), cancel(0, 1, 0), drain()])),
+        ("K3", with(asked(), &[acknowledge(0x20), cancel(0, 1, 0), drain()])),
         ("K4", with(running(), &[bulk(), keeps_bell])),
         ("K4", bring_up_bell),
         ("N1", with(rung(), &[acknowledge(0x20), drain(), collect(0, 1, 0)])),
         ("N2", vec![open(1, 1, 1, 1, 1), endpoint(BULK, 5, 1, 1)]),
         ("N3", with(running(), &[bulk(), submit(0, CONTROL, 1, 0, 0)])),
         ("N4", with(running(), &[bulk(), submit(0, ISOCHRONOUS, 1, 0, 0)])),
-        ("N4", with(linked(), &[submit(0, CONTROL, 1, 0, 0)])),
+        ("N4", with(asked(), &[submit(0, CONTROL, 1, 0, 0)])),
         ("N5", with(vec![open(1, 1, 1, 1, 1), bare(call::START)], &[step(0), step(0)])),
-        ("N6", with(linked(), &[Record::new(call::SET_ADDRESS, &[0, 9], &[])])),
-        ("N6", with(linked(), &[Record::new(call::SET_PACKET, &[0, 64], &[])])),
+        ("N6", with(asked(), &[Record::new(call::SET_ADDRESS, &[0, 9], &[])])),
+        ("N6", with(asked(), &[Record::new(call::SET_PACKET, &[0, 64], &[])])),
         ("N6", vec![open(1, 1, 1, 1, 1), bulk(), Record::new(call::SET_ADDRESS, &[0, 200], &[])]),
-        ("N7", with(linked(), &[bare(call::START)])),
+        ("N7", with(asked(), &[bare(call::START)])),
         ("N7", with(rung(), &brought_up())),
         ("N8", vec![open(1, 1, 2, 1, 1), power(1)]),
         ("N10", vec![open(1, 1, 1, 16384, 1), bulk(), one(0)]),
@@ -137,7 +137,7 @@ pub fn departures() -> Vec<(&'static str, Calls)> {
         ("N12", with(started(1, 1, 16384), &[endpoint(CONTROL, 5, 0, 64), submit(0, CONTROL, 1, 0, 0)])),
         ("N13", rung()),
         ("N15", vec![open(1, 1, 1, 1, 1), endpoint(ISOCHRONOUS, 5, 1, 512)]),
-        ("N16", with(linked(), &[on(call::CLOSE, 0)])),
+        ("N16", with(asked(), &[on(call::CLOSE, 0)])),
         ("N17", vec![open(1, 1, 0, 1, 1)]),
         ("N20", with(rung(), &[acknowledge(0x20), drain(), collect(0, 1, 0), on(call::CLOSE, 0)])),
         ("C", with(running(), &[bulk(), submit(0, BULK, 1, 0x1000_0000, 16385)])),
@@ -220,227 +220,128 @@ fn bring_ups() -> Vec<Calls> {
 }
 
 fn endpoints() -> Vec<Calls> {
-    let mut wrong = started(4, 3, 16384);
-    for (kind, address, number, packet) in [
-        (ISOCHRONOUS, 128, 16, 0),
-        (BULK, 128, 1, 8),
-        (BULK, 1, 16, 8),
-        (BULK, 1, 1, 0),
-        (BULK, 1, 1, 1025),
-        (CONTROL, 0, 0, 8),
-        (BULK, 127, 15, 1024),
-        (INTERRUPT, 1, 2, 1),
-        (BULK, 1, 1, 8),
-        (BULK, 128, 1, 8),
-        (ISOCHRONOUS, 1, 1, 8),
-    ] {
-        wrong.push(endpoint(kind, address, number, packet));
+    let mut asked = started(4, 3, 16384);
+    for (kind, address, number) in [(ISOCHRONOUS, 128, 16), (BULK, 128, 1), (BULK, 1, 16)] {
+        asked.push(endpoint(kind, address, number, 8));
     }
+    asked.extend([0, 1025].map(|packet| endpoint(BULK, 1, 1, packet)));
+    asked.extend([endpoint(CONTROL, 0, 0, 8), endpoint(BULK, 127, 15, 1024), endpoint(INTERRUPT, 1, 2, 1)]);
+    // no slot is closed any more
+    asked.extend([endpoint(BULK, 1, 1, 8), endpoint(BULK, 128, 1, 8), endpoint(ISOCHRONOUS, 1, 1, 8)]);
     for slot in [0, 2, 3, 32, 255] {
         for value in [0, 7, 127, 128, 255] {
-            wrong.push(Record::new(call::SET_ADDRESS, &[slot, value], &[]));
-            wrong.push(Record::new(call::SET_PACKET, &[slot, value], &[]));
+            asked.push(Record::new(call::SET_ADDRESS, &[slot, value], &[]));
+            asked.push(Record::new(call::SET_PACKET, &[slot, value], &[]));
         }
     }
-    let reopened = [
-        on(call::CLOSE, 1),
-        on(call::CLOSE, 1),
-        on(call::CLOSE, 3),
-        endpoint(BULK, 3, 3, 64),
-        on(call::CLOSE, 0),
-        on(call::CLOSE, 1),
-    ];
-    let busy = [
-        bulk(),
-        one(0),
-        on(call::CLOSE, 0),
-        cancel(0, 1, 0),
-        on(call::CLOSE, 0),
-        Record::new(call::SET_ADDRESS, &[0, 200], &[]),
-    ];
-    let done = [acknowledge(0x20), drain(), collect(0, 1, 0), on(call::CLOSE, 0), on(call::CLOSE, 0)];
+    asked.extend([1, 1, 3].map(|slot| on(call::CLOSE, slot)));
+    asked.extend([endpoint(BULK, 3, 3, 64), on(call::CLOSE, 0), on(call::CLOSE, 1)]);
+    let close = on(call::CLOSE, 0);
+    let mut busy = with(started(4, 1, 16384), &[bulk(), one(0), close, cancel(0, 1, 0), close]);
+    busy.push(Record::new(call::SET_ADDRESS, &[0, 200], &[]));
+    busy.extend([acknowledge(0x20), drain(), collect(0, 1, 0), close, close]);
+    vec![asked, busy, with(vec![open(1, 1, 1, 1, 1)], &[bare(call::ADDRESS); 129])]
+}
+
+/// A control, a bulk and an interrupt endpoint in slots 0 to 2.
+fn three(d: u64) -> Calls {
+    with(started(d, 3, 16384), &[endpoint(CONTROL, 5, 0, 64), bulk(), endpoint(INTERRUPT, 5, 2, 8)])
+}
+
+fn refused_submits() -> Vec<Calls> {
+    let setup = |bits: u64, incoming| Record::new(call::SUBMIT, &[0, CONTROL, incoming], &[bits, 0x1000, 4, 0]);
+    let kinds = [submit(1, ISOCHRONOUS, 1, 0, 0), submit(1, CONTROL, 1, HIGH, 1)];
+    let busy = [one(1), submit(1, CONTROL, 1, 0, 0), submit(1, ISOCHRONOUS, 0, HIGH, 1)];
+    let past =
+        [submit(1, BULK, 1, HIGH - 1, 2), submit(0, CONTROL, 0, 0, 16385), submit(1, BULK, 1, u64::MAX, u64::MAX)];
+    let empty = [submit(1, BULK, 1, u64::MAX, 0), submit(2, INTERRUPT, 0, HIGH, 0)];
+    let room = [submit(1, BULK, 1, 0, 16385), submit(0, CONTROL, 1, 0, 1), submit(0, CONTROL, 1, 0, 0)];
+    let none = [submit(2, INTERRUPT, 1, 0, 16385), submit(2, INTERRUPT, 1, 0, 16384), submit(0, CONTROL, 0, HIGH, 9)];
     vec![
-        with(wrong, &reopened),
-        with(with(started(4, 1, 16384), &busy), &done),
-        with(vec![open(1, 1, 1, 1, 1)], &[bare(call::ADDRESS); 129]),
+        vec![open(4, 2, 1, 16384, 1), bulk(), one(0), one(1), one(255)],
+        with(with(three(8), &[one(3)]), &kinds),
+        with(three(8), &busy),
+        with(with(three(8), &past), &empty),
+        with(three(8), &[setup(0, 1), setup(0x80, 0), setup(0xffff_ffff_ffff, 1), setup(0x1f, 0)]),
+        with(with(three(3), &room), &none),
     ]
 }
 
 fn submits() -> Vec<Calls> {
-    let kinds = [endpoint(CONTROL, 5, 0, 64), bulk(), endpoint(INTERRUPT, 5, 2, 8)];
-    let all = |d, limit| with(started(d, 3, limit), &kinds);
-    let setup = |bits: u64, incoming| Record::new(call::SUBMIT, &[0, CONTROL, incoming], &[bits, 0x1000, 4, 0]);
-    let mut out = vec![
-        vec![open(4, 2, 1, 16384, 1), bulk(), one(0), one(1), one(255)],
-        with(
-            all(8, 16384),
-            &[
-                one(3),
-                submit(1, ISOCHRONOUS, 1, 0, 0),
-                submit(1, CONTROL, 1, HIGH, 1),
-                one(1),
-                submit(1, CONTROL, 1, 0, 0),
-                submit(1, ISOCHRONOUS, 0, HIGH, 1),
-            ],
-        ),
-        with(
-            all(8, 16384),
-            &[
-                submit(1, BULK, 1, HIGH - 1, 1),
-                submit(0, CONTROL, 0, HIGH - 16384, 16384),
-                submit(2, INTERRUPT, 1, HIGH - 8, 8),
-            ],
-        ),
-        with(
-            all(8, 16384),
-            &[
-                submit(1, BULK, 1, HIGH - 1, 2),
-                submit(0, CONTROL, 0, 0, 16385),
-                submit(1, BULK, 1, u64::MAX, u64::MAX),
-                submit(1, BULK, 1, u64::MAX, 0),
-                submit(2, INTERRUPT, 0, HIGH, 0),
-            ],
-        ),
-        with(all(8, 16384), &[setup(0, 1), setup(0x80, 0), setup(0xffff_ffff_ffff, 1), setup(0x1f, 0)]),
-        with(
-            all(3, 16384),
-            &[
-                submit(1, BULK, 1, 0, 16385),
-                submit(0, CONTROL, 1, 0, 1),
-                submit(0, CONTROL, 1, 0, 0),
-                submit(2, INTERRUPT, 1, 0, 16385),
-                submit(2, INTERRUPT, 1, 0, 16384),
-                submit(0, CONTROL, 0, HIGH, 9),
-            ],
-        ),
-    ];
+    let mut out = refused_submits();
     for limit in [1, 512, 4097, 16384] {
         for length in [0, 1, limit - 1, limit, limit + 1, 2 * limit, 3 * limit + 1, 4 * limit, 4 * limit + 1] {
-            out.push(with(
-                started(4, 1, limit),
-                &[bulk(), submit(0, BULK, 0, 0x1000_0fff, length), submit(0, BULK, 0, 0, 1)],
-            ));
+            let asked = [bulk(), submit(0, BULK, 0, 0x1000_0fff, length), submit(0, BULK, 0, 0, 1)];
+            out.push(with(started(4, 1, limit), &asked));
         }
     }
-    for (address, length) in [
-        (0x1000_0fff, 1),
-        (0x1000_0fff, 2),
-        (0x1000_0fff, 16384),
-        (0x1000_0000, 4096),
-        (0x1000_0001, 4096),
-        (0, 16384),
-        (HIGH - 16384, 16384),
-    ] {
-        out.push(with(
-            all(8, 16384),
-            &[
-                submit(0, CONTROL, 1, address, length),
-                submit(1, BULK, 0, address, length),
-                submit(2, INTERRUPT, 1, address, length),
-            ],
-        ));
+    let edge = [1, 2, 16384].map(|length| (0x1000_0fff, length));
+    let whole = [(0x1000_0000, 4096), (0x1000_0001, 4096), (0, 16384), (HIGH - 16384, 16384), (HIGH - 1, 1)];
+    for (address, length) in edge.into_iter().chain(whole) {
+        let each = |(slot, kind, incoming)| submit(slot, kind, incoming, address, length);
+        out.push(with(three(8), &[(0, CONTROL, 1), (1, BULK, 0), (2, INTERRUPT, 1)].map(each)));
     }
     out
 }
 
+/// So many endpoints of a kind, each with a request.
+fn linked(kind: u8, count: u8) -> Calls {
+    let mut calls = started(count as u64, count, 16384);
+    calls.extend((0..count).map(|k| endpoint(kind, k, 1, 64)));
+    calls.extend((0..count).map(|k| submit(k, kind, 1, 0x1000_0000, 8)));
+    calls
+}
+
 fn unlinks() -> Vec<Calls> {
-    let bulks = |n: u8| with(started(8, 4, 16384), &(0..n).map(|k| endpoint(BULK, k, 1, 64)).collect::<Calls>());
-    let polls = |n: u8| with(started(8, 4, 16384), &(0..n).map(|k| endpoint(INTERRUPT, k, 1, 8)).collect::<Calls>());
-    let asked = |kind, n: u8| (0..n).map(move |k| submit(k, kind, 1, 0x1000_0000, 8)).collect::<Calls>();
-    let answered = [acknowledge(0x20), drain()];
-    let mut out = vec![
-        with(
-            with(
-                bulks(1),
-                &[
-                    cancel(0, 1, 0),
-                    collect(0, 7, 0),
-                    one(0),
-                    cancel(0, 2, 0),
-                    collect(0, 2, 0),
-                    cancel(1, 1, 0),
-                    collect(255, 1, 0),
-                ],
-            ),
-            &[cancel(0, 1, 0), cancel(0, 1, 0), collect(0, 1, 0)],
-        ),
-        // the starred distance: start 16380; 8 at 4, 9 at 5
-        with(
-            with(polls(1), &asked(INTERRUPT, 1)),
-            &[writeback(0, 0x0003_8d00), collect(0, 1, 16380), collect(0, 1, 4), collect(0, 1, 5), collect(0, 1, 5)],
-        ),
-        with(
-            with(polls(1), &asked(INTERRUPT, 1)),
-            &[cancel(0, 1, 0xffff_7ffc), collect(0, 1, 0x8004), collect(0, 1, 0x4005)],
-        ),
-        double_count(),
-        with(double_count(), &[drain(), acknowledge(0x20), drain(), collect(1, 1, 0), collect(0, 1, 0)]),
-    ];
-    let mut many = with(started(32, 32, 16384), &(0..32).map(|k| endpoint(BULK, k, 1, 64)).collect::<Calls>());
-    many.extend(asked(BULK, 32));
-    many.extend((0..32).map(|k| cancel(7 * k % 32, 1, 0)));
-    (0..32).for_each(|k| many.extend([acknowledge(0x20), drain(), collect(7 * k % 32, 1, 0)]));
-    out.push(many);
+    let names = [cancel(0, 2, 0), collect(0, 2, 0), cancel(1, 1, 0), collect(255, 1, 0)];
+    let twice = [cancel(0, 1, 0), cancel(0, 1, 0), collect(0, 1, 0)];
+    let idle = with(started(8, 1, 16384), &[bulk(), cancel(0, 1, 0), collect(0, 7, 0), one(0)]);
+    // the starred distance: start 16380; 8 at 4, 9 at 5
+    let near = [writeback(0, 0x0003_8d00), collect(0, 1, 16380), collect(0, 1, 4), collect(0, 1, 5), collect(0, 1, 5)];
+    let far = [cancel(0, 1, 0xffff_7ffc), collect(0, 1, 0x8004), collect(0, 1, 0x4005)];
+    let answered = [drain(), acknowledge(0x20), drain(), collect(1, 1, 0), collect(0, 1, 0)];
+    let mut out =
+        vec![with(with(idle, &names), &twice), with(linked(INTERRUPT, 1), &near), with(linked(INTERRUPT, 1), &far)];
+    out.extend([double_count(), with(double_count(), &answered)]);
+    out.push(unlinked((0..32).map(|k| 7 * k % 32)));
     for order in [[0, 1, 2], [0, 2, 1], [1, 0, 2], [1, 2, 0], [2, 0, 1], [2, 1, 0]] {
-        let mut calls = with(bulks(3), &asked(BULK, 3));
-        calls.extend(order.map(|k| cancel(k, 1, 0)));
-        for k in order {
-            calls.extend(answered);
-            calls.push(collect(k, 1, 0));
-        }
-        out.push(with(calls, &[submit(1, BULK, 0, 0, 9)]));
-        let mut calls = with(polls(3), &asked(INTERRUPT, 3));
-        calls.extend(order.map(|k| cancel(k, 1, k as u64)));
-        calls.extend(order.map(|k| collect(k, 1, k as u64 + 8)));
-        calls.extend(order.map(|k| collect(k, 1, k as u64 + 9)));
-        out.push(calls);
+        out.push(with(unlinked(order.into_iter()), &[submit(1, BULK, 0, 0, 9)]));
+        let mut polls = linked(INTERRUPT, 3);
+        polls.extend(order.map(|k| cancel(k, 1, k as u64)));
+        polls.extend(order.map(|k| collect(k, 1, k as u64 + 8)));
+        polls.extend(order.map(|k| collect(k, 1, k as u64 + 9)));
+        out.push(polls);
     }
     out
+}
+
+/// Bulk requests unlinked in this order, then answered and collected one by one.
+fn unlinked(order: impl ExactSizeIterator<Item = u8> + Clone) -> Calls {
+    let mut calls = linked(BULK, order.len() as u8);
+    calls.extend(order.clone().map(|k| cancel(k, 1, 0)));
+    calls.extend(order.flat_map(|k| [acknowledge(0x20), drain(), collect(k, 1, 0)]));
+    calls
 }
 
 /// Every error bit, before and after an active token; bytes left; late writebacks.
 fn tokens() -> Vec<Calls> {
+    let answered = [acknowledge(0x20), drain(), collect(0, 1, 0)];
+    let asked = || with(started(4, 1, 64), &[bulk(), submit(0, BULK, 1, 0x1000, 100)]);
     let two = |first: u64, second: u64| {
-        let calls = with(
-            started(4, 1, 64),
-            &[bulk(), submit(0, BULK, 1, 0x1000, 100), writeback(0, first), writeback(1, second)],
-        );
-        with(calls, &[collect(0, 1, 0), collect(0, 1, 0), acknowledge(0x20), drain(), collect(0, 1, 0)])
+        let left = [writeback(0, first), writeback(1, second), collect(0, 1, 0), collect(0, 1, 0)];
+        with(with(asked(), &left), &answered)
     };
     let mut out: Vec<Calls> = (0..8).map(|bit| two(1 << bit, 0x80)).collect();
     out.extend((0..8).map(|bit| two(0x80, 1 << bit)));
     out.extend((0..8).map(|bit| two(0x0010_0000, 1 << bit)));
-    out.extend([two(0x7fff_0000, 0x0005_0000), two(0x0040_0000, 0x0024_0000), two(0x48, 0x08), two(0x00080d88, 0)]);
-    let late = with(
-        started(4, 1, 64),
-        &[
-            bulk(),
-            submit(0, BULK, 1, 0x1000, 100),
-            writeback(0, 8),
-            collect(0, 1, 0),
-            writeback(0, 0),
-            writeback(1, 0x80),
-        ],
-    );
-    out.push(with(late, &[acknowledge(0x20), drain(), collect(0, 1, 0), writeback(0, 1)]));
-    let control = with(
-        started(4, 1, 64),
-        &[
-            endpoint(CONTROL, 1, 0, 8),
-            submit(0, CONTROL, 1, 0x1000, 18),
-            writeback(0, 0x0008_0e00),
-            writeback(1, 0x0002_0d00),
-            writeback(2, 0x0c00),
-        ],
-    );
-    out.push(with(
-        control,
-        &[collect(0, 1, 0), acknowledge(0x20), drain(), collect(0, 1, 0), submit(0, CONTROL, 0, 0, 0)],
-    ));
-    out.push(with(
-        started(2, 1, 64),
-        &[bulk(), writeback(0, 1), one(0), writeback(0, 1), writeback(1, 1), writeback(2, 1), writeback(u64::MAX, 1)],
-    ));
+    out.extend([two(0x7fff_0000, 0x0005_0000), two(0x0040_0000, 0x0024_0000), two(0x48, 0x08), two(0x0008_0d88, 0)]);
+    let late = [writeback(0, 8), collect(0, 1, 0), writeback(0, 0), writeback(1, 0x80)];
+    out.push(with(with(with(asked(), &late), &answered), &[writeback(0, 1)]));
+    let control = with(started(4, 1, 64), &[endpoint(CONTROL, 1, 0, 8), submit(0, CONTROL, 1, 0x1000, 18)]);
+    let stages = [writeback(0, 0x0008_0e00), writeback(1, 0x0002_0d00), writeback(2, 0x0c00), collect(0, 1, 0)];
+    out.push(with(with(with(control, &stages), &answered), &[submit(0, CONTROL, 0, 0, 0)]));
+    let places = [writeback(0, 1), one(0), writeback(0, 1), writeback(1, 1), writeback(2, 1), writeback(u64::MAX, 1)];
+    out.push(with(with(started(2, 1, 64), &[bulk()]), &places));
     out
 }
 

@@ -121,27 +121,28 @@ impl Record {
         bytes
     }
 
-    /// One word of the record with a value that it must not have, of those that this call has.
-    pub fn spoiled(mut self, choice: u64) -> Self {
+    /// This record with one thing wrong, in each way that there is for its call.
+    pub fn spoilings(&self) -> Vec<Self> {
         let (most, bits) = SHAPES[self.number as usize];
-        let ways = 1 + 7 + 7;
-        for way in (0..ways).map(|i| (choice + i) % ways) {
-            match way {
-                0 => {
-                    self.number = if choice & 1 == 0 { 0 } else { call::LAST + 1 + (choice % 200) as u8 };
-                    return self;
+        let mut out = [0, call::LAST + 1, 255].map(|number| Self { number, ..*self }).to_vec();
+        for i in 0..7 {
+            let mut record = *self;
+            match most.get(i) {
+                Some(255) => {}
+                limit => {
+                    record.b[i] = limit.map_or(1, |most| most + 1);
+                    out.push(record);
                 }
-                1..=7 if most.get(way as usize - 1) != Some(&255) => {
-                    self.b[way as usize - 1] = most.get(way as usize - 1).copied().unwrap_or(0) + 1;
-                    return self;
+            }
+            let mut record = *self;
+            match bits.get(i) {
+                Some(64) => {}
+                limit => {
+                    record.n[i] = 1 << limit.unwrap_or(&0);
+                    out.push(record);
                 }
-                8..=14 if bits.get(way as usize - 8) != Some(&64) => {
-                    self.n[way as usize - 8] = 1 << bits.get(way as usize - 8).copied().unwrap_or(0);
-                    return self;
-                }
-                _ => {}
             }
         }
-        unreachable!()
+        out
     }
 }
