@@ -74,17 +74,11 @@ impl Generator {
 
     /// A record that no program may take, some of them cut short.
     pub fn bad(&mut self) -> Vec<u8> {
-        let record = self.any_call();
+        let record = plain(1 + self.draw.below(call::LAST as u64) as u8, 0);
         match self.draw.below(6) {
             0 => record.bytes()[..1 + self.draw.below(63) as usize].to_vec(),
             _ => self.draw.of(&record.spoilings()).bytes().to_vec(),
         }
-    }
-
-    /// Some call but opening, whatever the state.
-    pub fn any_call(&mut self) -> Record {
-        let slot = self.draw.below(3) as u8;
-        plain(2 + self.draw.below(call::LAST as u64 - 1) as u8, slot)
     }
 
     // ---- opening
@@ -231,8 +225,8 @@ impl Generator {
     /// Mostly one, seldom more than there are.
     fn addresses(&mut self) -> Record {
         let address = Record::new(call::ADDRESS, &[], &[]);
-        if self.draw.one_in(12) {
-            self.plan.extend(std::iter::repeat_n(address, 130));
+        if self.draw.one_in(3) {
+            self.plan.extend(std::iter::repeat_n(address, 128));
         }
         address
     }
