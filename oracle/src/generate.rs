@@ -64,7 +64,9 @@ impl Generator {
         for _ in 0..8 {
             draw.next();
         }
-        Self { draw, plan: VecDeque::new() }
+        // the first script allots every address
+        let plan = if script == 0 { vec![Record::new(call::ADDRESS, &[], &[]); 128] } else { vec![] };
+        Self { draw, plan: plan.into() }
     }
 
     /// Whether this script ends in a bad record.
@@ -196,10 +198,13 @@ impl Generator {
         match self.draw.below(1000) {
             0..60 => self.endpoint(),
             60..500 if kind.is_none() && !self.draw.one_in(5) => self.endpoint(),
-            60..360 => self.submit(c, slot, kind),
+            60..360 => match flight {
+                Some(flight) if !self.draw.one_in(4) => self.onward(slot, &flight),
+                _ => self.submit(c, slot, kind),
+            },
             360..440 => self.writeback(c, &flight),
             440..560 => match flight {
-                Some(flight) if !flight.unlinking => self.finish(slot, &flight),
+                Some(flight) => self.onward(slot, &flight),
                 _ => self.collect(slot, id),
             },
             560..680 => self.collect(slot, id),
@@ -225,8 +230,8 @@ impl Generator {
     /// Mostly one, seldom more than there are.
     fn addresses(&mut self) -> Record {
         let address = Record::new(call::ADDRESS, &[], &[]);
-        if self.draw.one_in(3) {
-            self.plan.extend(std::iter::repeat_n(address, 128));
+        if self.draw.one_in(24) {
+            self.plan.extend([address; 128]);
         }
         address
     }
@@ -316,6 +321,11 @@ impl Generator {
                 Record::new(call::WRITEBACK, &[], &[place, self.draw.word()])
             }
         }
+    }
+
+    /// A request brought further.
+    fn onward(&mut self, slot: u8, flight: &Flight) -> Record {
+        if flight.unlinking { self.collect(slot, flight.id) } else { self.finish(slot, flight) }
     }
 
     /// A request to its end: its descriptors written back, the unlink, its answer, the collection.
