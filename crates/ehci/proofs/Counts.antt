@@ -8,7 +8,7 @@ use Rattle.token.specs.declared.request.EndpointType.{EndpointType}
 use Rattle.token.specs.declared.request.EndpointType.the-variants.{Control, Isochronous, Bulk, Interrupt}
 use Rattle.state.specs.declared.state.Ehci.{Ehci}
 use Rattle.controller.specs.declared.lent.Readings.{Readings}
-use Rattle.schedule.specs.Bell.{advancedOf, bellOf, mustRing, ringOf, rungIf, unlinkedOf}
+use Rattle.schedule.specs.Bell.{advancedOf, mustRing, ringOf, rungIf, unlinkedOf}
 use Rattle.schedule.specs.Links.{same}
 use Rattle.schedule.specs.declared.bell.Bell.{Bell}
 use Rattle.collection.specs.Unlinks.{boundedOf}

@@ -6,7 +6,6 @@ use mathlib.Core.List.{List, [], _∷_}
 use lib.Dec.{eqb, leb, ltb}
 use lib.ListN.{length}
 use Rattle.register.specs.Bits.{anyOf, onlyBits, withoutBits}
-use Rattle.register.specs.Writes.{noWrites}
 use Rattle.settings.specs.Tests.{both}
 use Rattle.settings.proofs.Every.{false-true}
 use Rattle.settings.proofs.SettingsLaws.{both-tells}
@@ -44,7 +43,7 @@ use Rattle.interrupt.specs.declared.calls.Acknowledgement.{Acknowledgement}
 use Rattle.interrupt.specs.declared.calls.Drainage.{Drainage}
 use Rattle.interrupt.specs.declared.calls.Drained.the-variants.{PortChange, TransferActivity, Stopped}
 use Rattle.interrupt.specs.declared.calls.Settled.{Settled}
-use Rattle.bring_up.specs.BringUp.{againOf, anyUncollected, onwardOf, pickBroughtUp, ready, registerOf, stageOf, stageStep, startOf, stepOf}
+use Rattle.bring_up.specs.BringUp.{againOf, anyUncollected, onwardOf, pickBroughtUp, ready, registerOf, stageOf, startOf, stepOf}
 use Rattle.bring_up.specs.declared.calls.BroughtUp.{BroughtUp}
 use Rattle.bring_up.specs.declared.stage.Stage.{Stage}
 use Rattle.ehci.specs.declared.call.Call.{Call}
@@ -55,7 +54,7 @@ use Rattle.ehci.specs.declared.reply.Answered.{Answered}
 use Rattle.ehci.specs.declared.reply.Answered.the-variants.{Done, Pending, Cancelled, Failed, Refused}
 use Rattle.ehci.specs.Replies.{broughtReply, changedReply, collectedAnswer, drainedAnswer, refusedReply, replied, settledReply}
 use Rattle.ehci.specs.Decides.{Outcome, acknowledgeDecided, acknowledgeReply, addressDecided, allotDecided, allotReply, callOf, came, cancelCame, cancelDecided, changeCame, closeDecided, collectCame, collectDecided, decideOf, drainDecided, drainReply, fitting, openCame, openDecided, packetDecided, submitCame, submitDecided, withFrames, withSetups, writebackDecided, writtenReply}
-use Rattle.ehci.specs.Refusals.{leftBy, stopped}
+use Rattle.ehci.specs.Refusals.{leftBy}
 use Rattle.ehci.proofs.Counts.{acknowledged-few, bounded-few, counted-few, none-few, one-few, stage-few}
 
 -- ---- checks that never answer 7

@@ -7,7 +7,6 @@ use lib.ListN.{length}
 use native.Mathlib.Omega.{arith}
 use Rattle.register.specs.Writes.{noWrites}
 use Rattle.descriptor.specs.declared.qtd.QueueTransferDescriptor.{QueueTransferDescriptor}
-use Rattle.pool.specs.Chains.{fillOf, noChain}
 use Rattle.pool.proofs.ChainLaws.{fill-no-chain}
 use Rattle.state.specs.declared.state.Ehci.{Ehci}
 use Rattle.answer.specs.Answers.{refusalNumber}
