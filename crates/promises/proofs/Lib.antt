@@ -1,2 +1,4 @@
 pub mod Effects
 pub mod Sound
+pub mod Pictures
+pub mod Boundary

@@ -3,3 +3,4 @@ pub mod Walks
 pub mod Events
 pub mod Uses
 pub mod Bells
+pub mod Boundaries
