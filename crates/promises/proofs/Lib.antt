@@ -2,3 +2,5 @@ pub mod Effects
 pub mod Sound
 pub mod Pictures
 pub mod Boundary
+pub mod Once
+pub mod Waits

@@ -92,6 +92,11 @@ module _ (m : Machine) (s : Settings) (w : World) where
       × (isInterrupt (kindAt s k (past cs)) ≡ true
       → Collectable cs k id readings ↔ ((parting s k (past cs) ≡ true) × (id ≡ idOf s k (past cs)) × NineOn (parted s k (past cs)) (readings .frame)))
 
+  -- so a request that left the ring passes exactly where the advances counted have reached its number
+  abbrev pub PassesExactly : Type 0
+  PassesExactly = (cs : List Call) (k : ℕ)
+      → Passes cs k ↔ ((unlinking s k (past cs) ≡ true) × (number s k (past cs) ≤ counted s (past cs)))
+
   -- a cancelled request is collected as 10
   abbrev pub CancelledCollects : Type 0
   CancelledCollects = (cs : List Call) (k id : ℕ) (readings : Readings) → cancelled s k (past cs) ≡ true
