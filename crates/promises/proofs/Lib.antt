@@ -4,3 +4,5 @@ pub mod Pictures
 pub mod Boundary
 pub mod Once
 pub mod Waits
+pub mod Numbers
+pub mod BoundaryExact

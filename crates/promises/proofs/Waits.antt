@@ -35,7 +35,7 @@ module _ (m : Machine) (s : Settings) (w : World) (exact : PassesExactly m s w) 
         → (unlinking s k (hist (ds ++ c ∷ cs)) ≡ true) × (number s k (hist (ds ++ c ∷ cs)) ≡ asked s (hist cs) + 1) × (linked s k (hist (ds ++ c ∷ cs)) ≡ false)
     unfolding historyOf unlinking number linked
     goes-on [] q = (rw mine, rw mine, rw (an-unlink k (event s (turn m s w cs c)) mine .1, mine))
-    goes-on (d ∷ ds) q = go (unlinksOf s k t) refl (submits s k t) refl (partsOf s k t) (goes-on ds (q .1))
+    goes-on (d ∷ ds) q = go (unlinksOf s k t) refl (submits s k t) refl (goes-on ds (q .1))
       where
         h : History
         h = hist (ds ++ c ∷ cs)
@@ -47,14 +47,14 @@ module _ (m : Machine) (s : Settings) (w : World) (exact : PassesExactly m s w) 
         off true e = refl
         off false e = e
 
-        go : (a : Bool) → unlinksOf s k t ≡ a → (b : Bool) → submits s k t ≡ b → (p : Bool)
+        go : (a : Bool) → unlinksOf s k t ≡ a → (b : Bool) → submits s k t ≡ b
             → (unlinking s k h ≡ true) × (number s k h ≡ asked s (hist cs) + 1) × (linked s k h ≡ false)
             → (cond (unlinksOf s k t) true (cond (renews s k t) false (unlinking s k h)) ≡ true)
             × (cond (unlinksOf s k t) (asked s h + 1) (number s k h) ≡ asked s (hist cs) + 1)
             × (cond (submits s k t) true (cond (either (unlinksOf s k t) (partsOf s k t)) false (linked s k h)) ≡ false)
-        go true ea b eb p rec = absurd (false≢true (sym (rec .2) ∙ orderly (ds ++ c ∷ cs) d k .0 ea .0))
-        go false ea true eb p rec = absurd (true≢false (sym (rec .0) ∙ orderly (ds ++ c ∷ cs) d k .2 eb .1))
-        go false ea false eb p rec = (rw (ea, eb, q .0) (rec .0), rw ea (rec .1), rw (eb, ea) (off (partsOf s k t) (rec .2)))
+        go true ea b eb rec = absurd (false≢true (sym (rec .2) ∙ orderly (ds ++ c ∷ cs) d k .0 ea .0))
+        go false ea true eb rec = absurd (true≢false (sym (rec .0) ∙ orderly (ds ++ c ∷ cs) d k .2 eb .1))
+        go false ea false eb rec = (rw (ea, eb, q .0) (rec .0), rw ea (rec .1), rw (eb, ea) (off (partsOf s k t) (rec .2)))
 
     few : asked s (hist cs) + 1 ≤ counted s (hist cs) + 32
     unfolding historyOf asked counted
