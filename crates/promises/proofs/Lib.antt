@@ -6,3 +6,5 @@ pub mod Once
 pub mod Waits
 pub mod Numbers
 pub mod BoundaryExact
+pub mod BellWaiting
+pub mod BellSlots
