@@ -8,3 +8,4 @@ pub mod Numbers
 pub mod BoundaryExact
 pub mod BellWaiting
 pub mod BellSlots
+pub mod BellInvariant
