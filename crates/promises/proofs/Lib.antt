@@ -9,3 +9,5 @@ pub mod BoundaryExact
 pub mod BellWaiting
 pub mod BellSlots
 pub mod BellInvariant
+pub mod BellFacts
+pub mod BellSteps

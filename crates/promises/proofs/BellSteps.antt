@@ -1,0 +1,187 @@
+-- The doorbell's invariant lasts, effect by effect.
+use Prim.Native.Nat.{ℕ, suc, _+_, _-_, _%_, _≤_, _<_}
+use mathlib.Core.Bool.{Bool, true, false, not, cond, true≢false, false≢true}
+use mathlib.Core.List.{List, [], _∷_}
+use mathlib.Core.Logic.{_⊎_, inl, inr, ⊎-elim}
+use mathlib.Core.Path.{_≡_, refl, sym, ap, subst, _∙_}
+use native.Mathlib.Decide.{ℕ-discrete as decEq}
+use native.Mathlib.Omega.{arith}
+use borrow.Author.Tests.{eq-eqb, eqb-true, ne-eqb}
+use lib.Dec.{eqb, leb, ltb}
+use Rattle.register.specs.Writes.{listOf, noWrites}
+use Rattle.register.specs.declared.writes.Writes.{Writes}
+use Rattle.settings.specs.Tests.{both, either}
+use Rattle.settings.specs.declared.settings.Settings.{Settings}
+use Rattle.token.specs.declared.request.EndpointType.{EndpointType}
+use Rattle.token.specs.declared.request.EndpointType.the-variants.{Control, Isochronous, Bulk, Interrupt}
+use Rattle.state.specs.Slots.{withSlot}
+use Rattle.state.specs.State.{withBell, withBoundaries, withOwner}
+use Rattle.state.specs.declared.state.Ehci.{Ehci}
+use Rattle.pipe.specs.Endpoints.{endpointAt, flagNumber, withEndpoint}
+use Rattle.pipe.specs.Kinds.{isInterrupt}
+use Rattle.pipe.specs.declared.endpoint.Endpoint.{Endpoint}
+use Rattle.pipe.specs.declared.endpoint.Endpoint.the-variants.{Closed, Idle, Linked, Unlinking}
+use Rattle.pipe.specs.declared.endpoint.Pipe.{Pipe}
+use Rattle.pipe.specs.declared.endpoint.Request.{Request}
+use Rattle.pipe.specs.declared.endpoint.UnlinkBoundary.{UnlinkBoundary}
+use Rattle.pipe.specs.declared.endpoint.UnlinkBoundary.the-variants.{Async, Periodic}
+use Rattle.pipe.proofs.EndpointLaws.{Proper, Suits, bell-wide, endpoint-other, endpoint-same, owner-aside, owner-wide}
+use Rattle.controller.specs.Readers.{hasEndpoint}
+use Rattle.controller.proofs.ReaderLaws.{open-below}
+use Rattle.schedule.specs.Bell.{advancedOf, bellOf, fallenFrom, frameOf}
+use Rattle.request.specs.Submit.{linkedWith, stateWith, takenFor}
+use Rattle.request.proofs.SubmitLaws.{submit-others}
+use Rattle.collection.specs.Calls.{finishOf, marked}
+use Rattle.collection.specs.Unlinks.{askedOf, boundedOf, passedBoundary, waitingOf}
+use Rattle.collection.proofs.SlotFacts.{endpoint-good}
+use Rattle.interrupt.specs.Interrupts.{noteIf, withRung}
+use Rattle.endpoint.specs.Calls.{newEndpoint}
+use Rattle.ehci.specs.declared.call.Call.{Call}
+use Rattle.ehci.specs.Door.{Applied}
+use Rattle.promises.specs.Runs.{History, Turn, World, leftBy, turnOf}
+use Rattle.promises.specs.Events.{Event, Other, Reads, Drains, Submits, Unlinks, Parts, Collects, event, rings, someRing}
+use Rattle.promises.specs.Bells.{Answered, Bell, Quiet, Rung, bell, drains, idOf, isAnswered, isDrains, isReads, isUnlinks, isUp, kindAt, linked, parting, reads, unlinking, unlinks}
+use Rattle.promises.proofs.Effects
+use Rattle.promises.proofs.Effects.{Effect, Sides, Still, Hears, Joins, Passes, Counts, Opens, Closes, Rewrites, Accepts, WritesBack, Marks, Unlinked, Collected, besides}
+use Rattle.promises.proofs.Sound.{Sound}
+use Rattle.promises.proofs.BellWaiting.{isLeft, waitsFor}
+use Rattle.promises.proofs.BellSlots.{Apart, Aside, Free, Going, Joined, Leaving, Slot, aside-collects, aside-drains, aside-other, aside-parts, aside-reads, aside-submits, aside-unlinks}
+use Rattle.promises.proofs.BellInvariant.{BellInv, Calm, calm-bell, drain-inv, one-inv, opening-inv, read-inv, still-inv, unlink-inv}
+use Rattle.promises.proofs.BellFacts.{advance-doorbell, advance-noted, advance-rings, advance-unanswered, all-fall, bell-aside, besides-aside, fresh-closed, idle-is, silent-none, silent-submit, unlink-doorbell, unlink-noted, unlink-rings, unlink-unanswered}
+
+abbrev pub StateInv : Settings → History → Ehci → Type 0
+StateInv s h e = BellInv s h (e .noted) (e .doorbell) (e .unanswered) (e .pending) (endpointAt e)
+
+-- a note only while the doorbell is up
+noted-up : (b : Bell) (n d : ℕ) → n ≡ flagNumber (isAnswered b) → d ≡ flagNumber (isUp b) → noteIf (eqb d 1) n ≡ d
+noted-up Quiet n d en ed = rw ed en
+noted-up Rung n d en ed = rw ed
+noted-up Answered n d en ed = rw ed
+
+not-noted : (b : Bool) (n : ℕ) → n ≡ flagNumber b → n ≡ 0 → b ≡ false
+not-noted true n e z = absurd (omega arith)
+not-noted false n e z = refl
+
+flag-none : (b : Bool) (n : ℕ) → n ≡ flagNumber b → (n ≡ 1 → ⊥) → b ≡ false
+flag-none true n e z = absurd (z e)
+flag-none false n e z = refl
+
+not-both : (a b : Bool) → b ≡ false → both a b ≡ false
+not-both true b e = e
+not-both false b e = refl
+
+module _ (s : Settings) (w : World) (c : Call) (a : Applied) (h : History) (sound : Sound s w) (g : StateInv s h (w .state)) where
+  abbrev old : Ehci
+  old = w .state
+
+  abbrev t : Turn
+  t = turnOf (w .rows) c a
+
+  abbrev Next : Ehci → Type 0
+  Next e = StateInv s (t ∷ h) e
+
+  -- the event, by the settings of the run
+  is : (x : Event) → event (old .settings) t ≡ x → event s t ≡ x
+  is x e = subst (λ (z : Settings). event z t ≡ x) (sound .settings-are) e
+
+  calm : (x : Event) → event s t ≡ x → isReads x ≡ false → isUnlinks x ≡ false → both (isDrains x) (isAnswered (bell s h)) ≡ false → rings t ≡ false → Calm s t h
+  calm x e r u d q = record {
+    no-ring = q;
+    no-read = ap isReads e ∙ r;
+    no-count = ap (λ (y : Event). both (isDrains y) (isAnswered (bell s h))) e ∙ d;
+    no-unlink = ap isUnlinks e ∙ u;
+  }
+
+  aside-of : (k : ℕ) (x : Event) → event s t ≡ x → Aside k x → Aside k (event s t)
+  aside-of k x e y = subst (Aside k) (sym e) y
+
+  no-writes : a .reply .writes ≡ noWrites → rings t ≡ false
+  no-writes e = ap (λ (y : Writes). someRing (listOf y)) e ∙ silent-none
+
+  pub still-step : Still w c a → Next (a .reply .state)
+  still-step x =
+      let e = is Other (x .nothing) in
+      subst Next (sym (x .state-is))
+      (still-inv s t h (calm Other e refl refl refl (x .silent)) (old .noted) (old .doorbell) (old .unanswered) (old .pending) (x .sides .pending) (endpointAt old) (endpointAt (besides old (x .sides))) g
+      (λ n z. g .pend n (sym (x .pending-stays) ∙ z)) (besides-aside old (x .sides)) (λ k. aside-of k Other e (aside-other k)))
+
+  pub joins-step : Joins w c a → Next (a .reply .state)
+  joins-step x =
+      let e = is Other (x .nothing) in
+      subst Next (sym (x .state-is))
+      (still-inv s t h (calm Other e refl refl refl (x .silent)) (old .noted) (old .doorbell) (old .unanswered) (old .pending) (x .sides .pending) (endpointAt old) (endpointAt (besides old (x .sides))) g
+      (λ n z. g .pend n (x .pends z)) (besides-aside old (x .sides)) (λ k. aside-of k Other e (aside-other k)))
+
+  pub passes-step : Passes w c a → Next (a .reply .state)
+  passes-step x =
+      let e = is Drains (x .drains) in
+      let none : isAnswered (bell s h) ≡ false = unnoted (x .uncounted) in
+      subst Next (sym (x .state-is))
+      (still-inv s t h (calm Drains e refl refl none (x .silent)) (old .noted) (old .doorbell) (old .unanswered) (old .pending) (x .sides .pending) (endpointAt old) (endpointAt (besides old (x .sides))) g
+      (λ n z. absurd (true≢false (sym (one (isAnswered (bell s h)) n) ∙ none))) (besides-aside old (x .sides)) (λ k. aside-of k Drains e (aside-drains k)))
+    where
+      unnoted : (old .noted ≡ 0) ⊎ (old .pending ≡ 0) → isAnswered (bell s h) ≡ false
+      unnoted (inl z) = not-noted (isAnswered (bell s h)) (old .noted) (g .note) z
+      unnoted (inr z) = flag-none (isAnswered (bell s h)) (old .noted) (g .note) (λ n. g .pend n z)
+
+      one : (b : Bool) → old .noted ≡ 1 → isAnswered (bell s h) ≡ true
+      one b n = go (isAnswered (bell s h)) (sym (g .note) ∙ n)
+        where
+          go : (b : Bool) → flagNumber b ≡ 1 → b ≡ true
+          go true q = refl
+          go false q = absurd (omega arith)
+
+  pub rewrites-step : Rewrites w c a → Next (a .reply .state)
+  rewrites-step x =
+      let e = is Other (x .nothing) in
+      subst Next (sym (x .state-is))
+      (still-inv s t h (calm Other e refl refl refl (no-writes (x .silent))) (old .noted) (old .doorbell) (old .unanswered) (old .pending) (old .pending) (endpointAt old) (endpointAt old) g
+      (g .pend) (λ k. refl) (λ k. aside-of k Other e (aside-other k)))
+
+  pub writes-back-step : WritesBack w c a → Next (a .reply .state)
+  writes-back-step x =
+      let e = is Other (x .nothing) in
+      subst Next (sym (x .state-is))
+      (still-inv s t h (calm Other e refl refl refl (no-writes (x .silent))) (old .noted) (old .doorbell) (old .unanswered) (old .pending) (old .pending) (endpointAt old) (endpointAt old) g
+      (g .pend) (λ k. refl) (λ k. aside-of k Other e (aside-other k)))
+
+  pub hears-step : Hears w c a → Next (a .reply .state)
+  unfolding withBell
+  hears-step x =
+      let e = is Reads (x .hears) in
+      let noted = noteIf (eqb (old .doorbell) 1) (old .noted) in
+      let heard = withBell old noted (old .doorbell) (old .unanswered) in
+      subst Next (sym (x .state-is))
+      (read-inv s t h (x .silent) (ap isReads e) (ap isDrains e) (ap isUnlinks e) (λ k. aside-of k Reads e (aside-reads k))
+      (old .noted) (old .doorbell) (old .unanswered) (old .pending) (x .sides .pending) noted (endpointAt old) (endpointAt (besides heard (x .sides))) g
+      (noted-up (bell s h) (old .noted) (old .doorbell) (g .note) (g .up)) (x .pends)
+      (λ k. besides-aside heard (x .sides) k ∙ bell-aside old noted (old .doorbell) (old .unanswered) k))
+
+  pub counts-step : Counts w c a → Next (a .reply .state)
+  unfolding withBell withBoundaries
+  counts-step x =
+      let e = is Drains (x .drains) in
+      let b = bellOf old in
+      let rung = advancedOf b noWrites (x .command) in
+      let after = withRung old rung .state in
+      let got : BellInv s (t ∷ h) 0 (flagNumber (leb 1 (old .unanswered - 1))) (old .unanswered - 1) (x .sides .pending) (endpointAt (besides after (x .sides))) =
+      drain-inv s t h (old .noted) (old .doorbell) (old .unanswered) (old .pending) (endpointAt old) (endpointAt (besides after (x .sides))) g (x .noted)
+      (ap isDrains e) (ap isReads e) (ap isUnlinks e) (ap (λ (y : Writes). someRing (listOf y)) (x .writes-are) ∙ advance-rings b (x .command))
+      (λ k. aside-of k Drains e (aside-drains k))
+      (λ k. besides-aside after (x .sides) k ∙ all-fall old (rung .bell .noted) (rung .bell .doorbell) (rung .bell .unanswered) k) (x .sides .pending) in
+      subst Next (sym (x .state-is))
+      (subst (λ (n : ℕ). BellInv s (t ∷ h) n (rung .bell .doorbell) (rung .bell .unanswered) (x .sides .pending) (endpointAt (besides after (x .sides)))) (sym (advance-noted b (x .command)))
+      (subst (λ (d : ℕ). BellInv s (t ∷ h) 0 d (rung .bell .unanswered) (x .sides .pending) (endpointAt (besides after (x .sides)))) (sym (advance-doorbell b (x .command)))
+      (subst (λ (u : ℕ). BellInv s (t ∷ h) 0 (flagNumber (leb 1 (old .unanswered - 1))) u (x .sides .pending) (endpointAt (besides after (x .sides)))) (sym (advance-unanswered b (x .command))) got)))
+
+  -- ---- one slot changes
+
+  -- what of a slot stays where a turn neither submits to it, nor unlinks it, nor collects it
+  module _ (x : Event) (e : event s t ≡ x) (silent : rings t ≡ false) (r : isReads x ≡ false) (u : isUnlinks x ≡ false) (d : isDrains x ≡ false)
+      (k : ℕ) (known : k < 32) (others : (j : ℕ) → (j ≡ k → ⊥) → Aside j x) where
+    one-step : (y : Endpoint) → Proper y → ((v : ℕ) → waitsFor (suc v) y ≡ waitsFor (suc v) (endpointAt old k)) → Slot s k (t ∷ h) (old .unanswered) y → Next (withEndpoint old k y)
+    unfolding withEndpoint withSlot
+    one-step y proper waits slot =
+        one-inv s t h (calm x e r u (ap (λ (b : Bool). both b (isAnswered (bell s h))) d) silent) (old .noted) (old .doorbell) (old .unanswered) (old .pending) (old .pending)
+        (endpointAt old) (endpointAt (withEndpoint old k y)) g (g .pend) k y (endpoint-same old k y (sound .wide) known proper) (endpoint-other old k y) waits slot
+        (λ j ne. aside-of j x e (others j ne))
