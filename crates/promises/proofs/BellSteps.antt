@@ -25,13 +25,13 @@ use Rattle.pipe.specs.declared.endpoint.Pipe.{Pipe}
 use Rattle.pipe.specs.declared.endpoint.Request.{Request}
 use Rattle.pipe.specs.declared.endpoint.UnlinkBoundary.{UnlinkBoundary}
 use Rattle.pipe.specs.declared.endpoint.UnlinkBoundary.the-variants.{Async, Periodic}
-use Rattle.pipe.proofs.EndpointLaws.{Proper, Suits, bell-wide, endpoint-other, endpoint-same, owner-aside, owner-wide}
+use Rattle.pipe.proofs.EndpointLaws.{EndpointGood, Proper, Suits, bell-wide, endpoint-other, endpoint-same, owner-aside, owner-wide}
 use Rattle.controller.specs.Readers.{hasEndpoint}
 use Rattle.controller.proofs.ReaderLaws.{open-below}
 use Rattle.schedule.specs.Bell.{advancedOf, bellOf, fallenFrom, frameOf}
-use Rattle.request.specs.Submit.{linkedWith, stateWith, takenFor}
+use Rattle.request.specs.Submit.{idAt, linkedWith, stateWith, takenFor}
 use Rattle.request.proofs.SubmitLaws.{submit-others}
-use Rattle.collection.specs.Calls.{finishOf, marked}
+use Rattle.collection.specs.Calls.{finishOf, freed, marked}
 use Rattle.collection.specs.Unlinks.{askedOf, boundedOf, passedBoundary, waitingOf}
 use Rattle.collection.proofs.SlotFacts.{endpoint-good}
 use Rattle.interrupt.specs.Interrupts.{noteIf, withRung}
@@ -45,8 +45,9 @@ use Rattle.promises.proofs.Effects
 use Rattle.promises.proofs.Effects.{Effect, Sides, Still, Hears, Joins, Passes, Counts, Opens, Closes, Rewrites, Accepts, WritesBack, Marks, Unlinked, Collected, besides}
 use Rattle.promises.proofs.Sound.{Sound}
 use Rattle.promises.proofs.BellWaiting.{isLeft, waitsFor}
-use Rattle.promises.proofs.BellSlots.{Apart, Aside, Free, Going, Joined, Leaving, Slot, aside-collects, aside-drains, aside-other, aside-parts, aside-reads, aside-submits, aside-unlinks}
-use Rattle.promises.proofs.BellInvariant.{BellInv, Calm, calm-bell, drain-inv, one-inv, opening-inv, read-inv, still-inv, unlink-inv}
+use Rattle.promises.proofs.BellSlots.{Apart, Aside, Free, Going, Joined, Leaving, Slot, aside-collects, aside-drains, aside-other, aside-parts, aside-reads, aside-submits, aside-unlinks, slot-on}
+use Rattle.promises.proofs.BellInvariant.{BellInv, Calm, calm-counted, drain-inv, one-inv, opening-inv, read-inv, still-inv, unlink-inv}
+use Rattle.promises.proofs.BellTurns.{apart-now, free-now, going-now, joined-now}
 use Rattle.promises.proofs.BellFacts.{advance-doorbell, advance-noted, advance-rings, advance-unanswered, all-fall, bell-aside, besides-aside, fresh-closed, idle-is, silent-none, silent-submit, unlink-doorbell, unlink-noted, unlink-rings, unlink-unanswered}
 
 abbrev pub StateInv : Settings → History → Ehci → Type 0
@@ -185,3 +186,86 @@ module _ (s : Settings) (w : World) (c : Call) (a : Applied) (h : History) (soun
         one-inv s t h (calm x e r u (ap (λ (b : Bool). both b (isAnswered (bell s h))) d) silent) (old .noted) (old .doorbell) (old .unanswered) (old .pending) (old .pending)
         (endpointAt old) (endpointAt (withEndpoint old k y)) g (g .pend) k y (endpoint-same old k y (sound .wide) known proper) (endpoint-other old k y) waits slot
         (λ j ne. aside-of j x e (others j ne))
+
+    -- and the owners of places
+    owned-step : (o : List ℕ) (y : Endpoint) → Proper y → ((v : ℕ) → waitsFor (suc v) y ≡ waitsFor (suc v) (endpointAt old k)) → Slot s k (t ∷ h) (old .unanswered) y → Next (withEndpoint (withOwner old o) k y)
+    unfolding withEndpoint withSlot withOwner
+    owned-step o y proper waits slot =
+        one-inv s t h (calm x e r u (ap (λ (b : Bool). both b (isAnswered (bell s h))) d) silent) (old .noted) (old .doorbell) (old .unanswered) (old .pending) (old .pending)
+        (endpointAt old) (endpointAt (withEndpoint (withOwner old o) k y)) g (g .pend) k y (endpoint-same (withOwner old o) k y (owner-wide old o (sound .wide)) known proper)
+        (λ j ne. endpoint-other (withOwner old o) k y j ne ∙ owner-aside old o j) waits slot (λ j ne. aside-of j x e (others j ne))
+
+  -- slot k has an endpoint, so it is one of the 32
+  within : (k : ℕ) (y : Endpoint) → endpointAt old k ≡ y → hasEndpoint y ≡ true → k < 32
+  within k y e q = open-below old k (ap hasEndpoint e ∙ q)
+
+  slot-is : (k : ℕ) (y : Endpoint) → endpointAt old k ≡ y → Slot s k h (old .unanswered) y
+  slot-is k y e = subst (Slot s k h (old .unanswered)) e (g .slot k)
+
+  stays : (k : ℕ) (x : Event) → event s t ≡ x → Aside k x → rings t ≡ false → isReads x ≡ false → isUnlinks x ≡ false → isDrains x ≡ false → (y : Endpoint) → Slot s k h (old .unanswered) y → Slot s k (t ∷ h) (old .unanswered) y
+  stays k x e y q r u d z slot =
+      slot-on s k t h (aside-of k x e y) (calm-counted s t h (calm x e r u (ap (λ (b : Bool). both b (isAnswered (bell s h))) d) q)) (old .unanswered) (old .unanswered) (omega arith) z slot
+
+  pub opens-step : Opens w c a → Next (a .reply .state)
+  opens-step x =
+      let e = is Other (x .nothing) in
+      let q = no-writes (x .silent) in
+      subst Next (sym (x .state-is))
+      (one-step Other e q refl refl refl (x .k) (omega (arith, x .below, sound .ranges .good .endpoints-most, ap (λ (z : Settings). z .endpoints) (sound .settings-are))) (λ j ne. aside-other j) (newEndpoint (x .kind)) tt
+      (λ v. ap (waitsFor (suc v)) (sym (x .closed)))
+      (stays (x .k) Other e (aside-other (x .k)) q refl refl refl (newEndpoint (x .kind)) (slot-is (x .k) Closed (x .closed))))
+
+  pub closes-step : Closes w c a → Next (a .reply .state)
+  closes-step x =
+      let e = is Other (x .nothing) in
+      let q = no-writes (x .silent) in
+      subst Next (sym (x .state-is))
+      (one-step Other e q refl refl refl (x .k) (within (x .k) (Idle (x .p)) (x .idle) refl) (λ j ne. aside-other j) Closed tt
+      (λ v. ap (waitsFor (suc v)) (sym (x .idle)))
+      (stays (x .k) Other e (aside-other (x .k)) q refl refl refl Closed (slot-is (x .k) (Idle (x .p)) (x .idle))))
+
+  marked-slot : (k : ℕ) (h : History) (u : ℕ) (p : Pipe) (r : Request) (b : UnlinkBoundary) → Leaving s k h u p r b → Leaving s k h u p (marked r) b
+  marked-slot k h u p r (Async n) y = record { off = y .off; going = y .going; in-frames = y .in-frames; kind-is = y .kind-is; id-is = y .id-is; rings-for = y .rings-for; left = y .left; fits = y .fits }
+  marked-slot k h u p r (Periodic n) y = record { off = y .off; in-ring = y .in-ring; apart = y .apart; kind-is = y .kind-is; id-is = y .id-is; counts-frames = y .counts-frames; from = y .from }
+
+  pub marks-step : Marks w c a → Next (a .reply .state)
+  marks-step x =
+      let e = is Other (x .nothing) in
+      let q = no-writes (x .silent) in
+      let known = within (x .k) (Unlinking (x .p) (x .r) (x .u)) (x .unlinking) refl in
+      let good = subst (EndpointGood (old .unanswered)) (x .unlinking) (endpoint-good old (x .k) (sound .ranges) known) in
+      subst Next (sym (x .state-is))
+      (one-step Other e q refl refl refl (x .k) known (λ j ne. aside-other j) (Unlinking (x .p) (marked (x .r)) (x .u)) (good .suits)
+      (λ v. ap (waitsFor (suc v)) (sym (x .unlinking)))
+      (stays (x .k) Other e (aside-other (x .k)) q refl refl refl (Unlinking (x .p) (marked (x .r)) (x .u))
+      (marked-slot (x .k) h (old .unanswered) (x .p) (x .r) (x .u) (slot-is (x .k) (Unlinking (x .p) (x .r) (x .u)) (x .unlinking)))))
+
+  pub accepts-step : Accepts w c a → Next (a .reply .state)
+  unfolding stateWith
+  accepts-step x =
+      let e = is (Submits (x .k) (idAt old (x .k)) (x .t)) (x .submits) in
+      let idle = idle-is (endpointAt old (x .k)) (x .judged .opened) (x .judged .bare) in
+      subst Next (sym (x .state-is))
+      (owned-step (Submits (x .k) (idAt old (x .k)) (x .t)) e (ap (λ (y : Writes). someRing (listOf y)) (x .writes-are) ∙ silent-submit (x .readings)) refl refl refl (x .k) (open-below old (x .k) (x .judged .opened))
+      (λ j ne. aside-submits j (x .k) ne (idAt old (x .k)) (x .t)) (takenFor old (x .k) (x .t) .owner) (linkedWith old (x .k) (x .t)) tt
+      (λ v. ap (waitsFor (suc v)) (sym (idle .1)))
+      (joined-now s (x .k) t h (idAt old (x .k)) (x .t) e _ _ refl refl))
+
+  passed-none : (v : ℕ) (b : UnlinkBoundary) (frame : ℕ) → passedBoundary b frame ≡ true → isLeft (suc v) b ≡ false
+  passed-none v (Async n) frame e = ne-eqb n (suc v) (λ q. absurd (omega (arith, eqb-true n 0 e)))
+  passed-none v (Periodic n) frame e = refl
+
+  leaving-off : (k : ℕ) (u : ℕ) (p : Pipe) (r : Request) (b : UnlinkBoundary) → Leaving s k h u p r b → linked s k h ≡ false
+  leaving-off k u p r (Async n) y = y .off
+  leaving-off k u p r (Periodic n) y = y .off
+
+  pub collects-step : Collected w c a → Next (a .reply .state)
+  unfolding finishOf
+  collects-step x =
+      let e = is (Collects (x .k) (x .r .id) (x .frame)) (x .collects) in
+      let here = slot-is (x .k) (Unlinking (x .p) (x .r) (x .u)) (x .unlinking) in
+      subst Next (sym (x .state-is))
+      (owned-step (Collects (x .k) (x .r .id) (x .frame)) e (no-writes (x .silent)) refl refl refl (x .k) (within (x .k) (Unlinking (x .p) (x .r) (x .u)) (x .unlinking) refl)
+      (λ j ne. aside-collects j (x .k) ne (x .r .id) (x .frame)) (freed (old .owner) (old .settings .descriptors) (x .k + 1)) (Idle (x .p)) tt
+      (λ v. sym (ap (waitsFor (suc v)) (x .unlinking) ∙ passed-none v (x .u) (x .frame) (x .passed)))
+      (free-now s (x .k) t h (x .r .id) (x .frame) e (leaving-off (x .k) (old .unanswered) (x .p) (x .r) (x .u) here)))

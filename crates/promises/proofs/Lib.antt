@@ -10,4 +10,5 @@ pub mod BellWaiting
 pub mod BellSlots
 pub mod BellInvariant
 pub mod BellFacts
+pub mod BellTurns
 pub mod BellSteps
