@@ -85,7 +85,7 @@ module _ (s : Settings) (w : World) (c : Call) (a : Applied) (h : History) (soun
   is : (x : Event) → event (old .settings) t ≡ x → event s t ≡ x
   is x e = subst (λ (z : Settings). event z t ≡ x) (sound .settings-are) e
 
-  calm : (x : Event) → event s t ≡ x → isReads x ≡ false → isUnlinks x ≡ false → both (isDrains x) (isAnswered (bell s h)) ≡ false → rings t ≡ false → Calm s t h
+  pub calm : (x : Event) → event s t ≡ x → isReads x ≡ false → isUnlinks x ≡ false → both (isDrains x) (isAnswered (bell s h)) ≡ false → rings t ≡ false → Calm s t h
   calm x e r u d q = record {
     no-ring = q;
     no-read = ap isReads e ∙ r;
@@ -93,7 +93,7 @@ module _ (s : Settings) (w : World) (c : Call) (a : Applied) (h : History) (soun
     no-unlink = ap isUnlinks e ∙ u;
   }
 
-  aside-of : (k : ℕ) (x : Event) → event s t ≡ x → Aside k x → Aside k (event s t)
+  pub aside-of : (k : ℕ) (x : Event) → event s t ≡ x → Aside k x → Aside k (event s t)
   aside-of k x e y = subst (Aside k) (sym e) y
 
   no-writes : a .reply .writes ≡ noWrites → rings t ≡ false
@@ -196,10 +196,10 @@ module _ (s : Settings) (w : World) (c : Call) (a : Applied) (h : History) (soun
         (λ j ne. endpoint-other (withOwner old o) k y j ne ∙ owner-aside old o j) waits slot (λ j ne. aside-of j x e (others j ne))
 
   -- slot k has an endpoint, so it is one of the 32
-  within : (k : ℕ) (y : Endpoint) → endpointAt old k ≡ y → hasEndpoint y ≡ true → k < 32
+  pub within : (k : ℕ) (y : Endpoint) → endpointAt old k ≡ y → hasEndpoint y ≡ true → k < 32
   within k y e q = open-below old k (ap hasEndpoint e ∙ q)
 
-  slot-is : (k : ℕ) (y : Endpoint) → endpointAt old k ≡ y → Slot s k h (old .unanswered) y
+  pub slot-is : (k : ℕ) (y : Endpoint) → endpointAt old k ≡ y → Slot s k h (old .unanswered) y
   slot-is k y e = subst (Slot s k h (old .unanswered)) e (g .slot k)
 
   stays : (k : ℕ) (x : Event) → event s t ≡ x → Aside k x → rings t ≡ false → isReads x ≡ false → isUnlinks x ≡ false → isDrains x ≡ false → (y : Endpoint) → Slot s k h (old .unanswered) y → Slot s k (t ∷ h) (old .unanswered) y

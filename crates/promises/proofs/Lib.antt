@@ -12,3 +12,4 @@ pub mod BellInvariant
 pub mod BellFacts
 pub mod BellTurns
 pub mod BellSteps
+pub mod BellUnlinks
