@@ -22,6 +22,7 @@ use Rattle.pipe.specs.declared.endpoint.Pipe.{Pipe}
 use Rattle.pipe.specs.declared.endpoint.Request.{Request}
 use Rattle.pipe.specs.declared.endpoint.UnlinkBoundary.{UnlinkBoundary}
 use Rattle.opening.specs.Rows.{withHeadWord}
+use Rattle.controller.specs.Readers.{isUncollected}
 use Rattle.controller.specs.declared.lent.Readings.{Readings}
 use Rattle.schedule.specs.Bell.{advancedOf, bellOf}
 use Rattle.schedule.specs.Links.{detachOf, endedOverlay, slotLink}
@@ -75,6 +76,11 @@ besides s x =
       boundaries = s .boundaries;
     }
 
+-- while bring-up is begun the controller does not run, and a request is uncollected only while it does
+pub record Idles (s : Ehci) : Type 0 where
+  pub stopped : (s .step ≡ 0 → ⊥) → s .running ≡ 0
+  pub runs : (k : ℕ) → isUncollected s k ≡ true → s .running ≡ 1
+
 abbrev pub withHeads : Rows → List ℕ → Rows
 withHeads rows heads = record { pool = rows .pool; heads = heads; frames = rows .frames; setups = rows .setups }
 
@@ -104,6 +110,7 @@ module _ (w : World) (c : Call) (a : Applied) where
     pub keeps : Ranges old → Ranges new
     -- what is pending is only lost by a drain
     pub pending-stays : sides .pending ≡ old .pending
+    pub idles : Idles old → Idles new
 
   -- an acknowledgment that reads the advance bit: noted if the doorbell is up
   pub record Hears : Type 0 where
@@ -114,6 +121,7 @@ module _ (w : World) (c : Call) (a : Applied) where
     pub hears : event (old .settings) (turnOf (w .rows) c a) ≡ Reads
     pub keeps : Ranges old → Ranges new
     pub pends : sides .pending ≡ 0 → ⊥
+    pub runs-on : (sides .running ≡ old .running) × (sides .step ≡ old .step)
 
   -- an acknowledgment that does not: more may be pending
   pub record Joins : Type 0 where
@@ -124,6 +132,7 @@ module _ (w : World) (c : Call) (a : Applied) where
     pub nothing : event (old .settings) (turnOf (w .rows) c a) ≡ Other
     pub keeps : Ranges old → Ranges new
     pub pends : sides .pending ≡ 0 → old .pending ≡ 0
+    pub runs-on : (sides .running ≡ old .running) × (sides .step ≡ old .step)
 
   -- a drain that finds nothing noted, or nothing pending
   pub record Passes : Type 0 where
@@ -134,6 +143,7 @@ module _ (w : World) (c : Call) (a : Applied) where
     pub drains : event (old .settings) (turnOf (w .rows) c a) ≡ Drains
     pub keeps : Ranges old → Ranges new
     pub uncounted : (old .noted ≡ 0) ⊎ (old .pending ≡ 0)
+    pub runs-on : (sides .running ≡ old .running) × (sides .step ≡ old .step)
 
   -- a drain that counts a noted advance
   pub record Counts : Type 0 where
@@ -145,6 +155,7 @@ module _ (w : World) (c : Call) (a : Applied) where
     pub rows-are : rowsOf a ≡ w .rows
     pub drains : event (old .settings) (turnOf (w .rows) c a) ≡ Drains
     pub keeps : Ranges old → Ranges new
+    pub runs-on : (sides .running ≡ old .running) × (sides .step ≡ old .step)
 
   pub record Opens : Type 0 where
     pub k : ℕ

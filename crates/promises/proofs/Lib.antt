@@ -1,5 +1,15 @@
 pub mod Effects
+pub mod EffectDoor
+pub mod EffectMachine
+pub mod EffectRanges
+pub mod EffectInterrupts
+pub mod EffectEndpoints
+pub mod EffectRequests
+pub mod EffectOf
 pub mod Sound
+pub mod SoundKeeps
+pub mod IdleInv
+pub mod Reached
 pub mod Pictures
 pub mod Boundary
 pub mod Once

@@ -71,6 +71,13 @@ submitsBy k t Cancelled = Other
 submitsBy k t (Failed token) = Other
 submitsBy k t (Refused r) = Other
 
+abbrev pub isDone : Answered → Bool
+isDone (Done given) = true
+isDone Pending = false
+isDone Cancelled = false
+isDone (Failed token) = false
+isDone (Refused r) = false
+
 -- 0, 10 and 11 collect; 9 and a refusal do not
 abbrev pub isCollected : Answered → Bool
 isCollected (Done given) = true
@@ -82,7 +89,7 @@ isCollected (Refused r) = false
 abbrev pub leaving : Settings → ℕ → ℕ → Turn → Event
 leaving s k frame t = cond (leavesRing s k t) (Unlinks k) (cond (leavesFrames s k t) (Parts k frame) Other)
 
--- one line a call
+-- one line a call; a call that is refused does nothing
 abbrev pub happens : Settings → Call → Turn → Event
 happens s StartBringUp t = Other
 happens s (BringUpStep w) t = Other
@@ -96,8 +103,8 @@ happens s (Writeback place token) t = Other
 happens s (Cancel k id readings) t = leaving s k (readings .frame) t
 happens s (Collect k id readings) t =
     cond (isCollected (t .answer)) (Collects k id (readings .frame)) (leaving s k (readings .frame) t)
-happens s (Acknowledge x) t = cond (eqb (bit (x .status) 5) 1) Reads Other
-happens s (Drain w) t = Drains
+happens s (Acknowledge x) t = cond (both (isDone (t .answer)) (eqb (bit (x .status) 5) 1)) Reads Other
+happens s (Drain w) t = cond (isDone (t .answer)) Drains Other
 happens s Rearm t = Other
 happens s Enable t = Other
 happens s Disable t = Other
