@@ -8,6 +8,7 @@ use borrow.Author.Tests.{eqb-true, leb-true, leb-false}
 use lib.Dec.{eqb, leb}
 use lib.ListN.{length, length-append}
 use Rattle.register.specs.Bits.{bit}
+use Rattle.settings.specs.Tests.{both}
 use Rattle.settings.specs.declared.settings.Settings.{Settings}
 use Rattle.request.specs.declared.judge.TransferRequest.{TransferRequest}
 use Rattle.pipe.specs.Kinds.{isInterrupt}
@@ -18,7 +19,7 @@ use Rattle.ehci.specs.declared.reply.Answered.{Answered}
 use Rattle.ehci.specs.declared.reply.Answered.the-variants.{Done, Pending, Cancelled, Failed, Refused}
 use Rattle.ehci.specs.declared.reply.Given.the-variants as G
 use Rattle.promises.specs.Runs.{History, Machine, Turn, World, historyOf, turnOf, worldOf}
-use Rattle.promises.specs.Events.{Event, Other, Reads, Drains, Submits, Unlinks, Parts, Collects, event, happens, isCollected, leaving, leavesFrames, leavesRing, rings, submitsBy}
+use Rattle.promises.specs.Events.{Event, Other, Reads, Drains, Submits, Unlinks, Parts, Collects, event, happens, isCollected, isDone, leaving, leavesFrames, leavesRing, rings, submitsBy}
 use Rattle.promises.specs.Bells.{Boundary, collects, isCollectsOf, kindAt, none, reads, unlinksOf}
 use Rattle.promises.specs.Boundaries.{At, BoundaryKept, BoundaryNumbered, RungAndAnswered, past, turn}
 
@@ -113,8 +114,8 @@ module _ (s : Settings) (k : ℕ) (t : Turn) where
   is-collection (Collect j id readings) e =
       let x = if-event (isCollectsOf k) (isCollected (t .answer)) (Collects j id (readings .frame)) (leaving s j (readings .frame) t) (left-only j (readings .frame)) e in
       (id, readings, ap (λ (i : ℕ). Collect i id readings) (eqb-true j k (x .1)), x .0)
-  is-collection (Acknowledge x) e = absurd (false≢true (sym (if-none (isCollectsOf k) (eqb (bit (x .status) 5) 1) Reads Other refl refl) ∙ e))
-  is-collection (Drain x) e = absurd (false≢true e)
+  is-collection (Acknowledge x) e = absurd (false≢true (sym (if-none (isCollectsOf k) (both (isDone (t .answer)) (eqb (bit (x .status) 5) 1)) Reads Other refl refl) ∙ e))
+  is-collection (Drain x) e = absurd (false≢true (sym (if-none (isCollectsOf k) (isDone (t .answer)) Drains Other refl refl) ∙ e))
   is-collection Rearm e = absurd (false≢true e)
   is-collection Enable e = absurd (false≢true e)
   is-collection Disable e = absurd (false≢true e)

@@ -13,9 +13,8 @@ use Rattle.pipe.specs.Endpoints.{flagNumber, pickKind}
 use Rattle.ehci.specs.declared.call.Call.{Call}
 use Rattle.ehci.specs.declared.call.Call.the-variants.{StartBringUp, BringUpStep, AllocateAddress, OpenEndpoint, Close, SetAddress, SetPacketSize, Submit, Writeback, Cancel, Collect, Acknowledge, Drain, Rearm, Enable, Disable}
 use Rattle.ehci.specs.declared.reply.Answered.{Answered as Answer}
-use Rattle.ehci.specs.declared.reply.Answered.the-variants.{Done, Pending, Cancelled, Failed, Refused}
 use Rattle.promises.specs.Runs.{History, Turn}
-use Rattle.promises.specs.Events.{Event, Other, Reads, Drains, Submits, Unlinks, Parts, Collects, event, rings}
+use Rattle.promises.specs.Events.{Event, Other, Reads, Drains, Submits, Unlinks, Parts, Collects, event, isDone, rings}
 
 -- ---- what a turn does
 
@@ -227,13 +226,6 @@ parted s k [] = 0
 parted s k (t ∷ past) = partedAt k (event s t) (parted s k past)
 
 -- a cancel of it was accepted
-abbrev pub isDone : Answer → Bool
-isDone (Done given) = true
-isDone Pending = false
-isDone Cancelled = false
-isDone (Failed token) = false
-isDone (Refused r) = false
-
 abbrev pub cancelsBy : ℕ → Call → Answer → Bool
 cancelsBy k StartBringUp a = false
 cancelsBy k (BringUpStep w) a = false
