@@ -23,3 +23,4 @@ pub mod BellFacts
 pub mod BellTurns
 pub mod BellSteps
 pub mod BellUnlinks
+pub mod BoundaryCalls
