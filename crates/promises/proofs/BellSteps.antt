@@ -82,7 +82,7 @@ module _ (s : Settings) (w : World) (c : Call) (a : Applied) (h : History) (soun
   Next e = StateInv s (t ∷ h) e
 
   -- the event, by the settings of the run
-  is : (x : Event) → event (old .settings) t ≡ x → event s t ≡ x
+  pub is : (x : Event) → event (old .settings) t ≡ x → event s t ≡ x
   is x e = subst (λ (z : Settings). event z t ≡ x) (sound .settings-are) e
 
   pub calm : (x : Event) → event s t ≡ x → isReads x ≡ false → isUnlinks x ≡ false → both (isDrains x) (isAnswered (bell s h)) ≡ false → rings t ≡ false → Calm s t h
@@ -96,7 +96,7 @@ module _ (s : Settings) (w : World) (c : Call) (a : Applied) (h : History) (soun
   pub aside-of : (k : ℕ) (x : Event) → event s t ≡ x → Aside k x → Aside k (event s t)
   aside-of k x e y = subst (Aside k) (sym e) y
 
-  no-writes : a .reply .writes ≡ noWrites → rings t ≡ false
+  pub no-writes : a .reply .writes ≡ noWrites → rings t ≡ false
   no-writes e = ap (λ (y : Writes). someRing (listOf y)) e ∙ silent-none
 
   pub still-step : Still w c a → Next (a .reply .state)
@@ -113,6 +113,10 @@ module _ (s : Settings) (w : World) (c : Call) (a : Applied) (h : History) (soun
       (still-inv s t h (calm Other e refl refl refl (x .silent)) (old .noted) (old .doorbell) (old .unanswered) (old .pending) (x .sides .pending) (endpointAt old) (endpointAt (besides old (x .sides))) g
       (λ n z. g .pend n (x .pends z)) (besides-aside old (x .sides)) (λ k. aside-of k Other e (aside-other k)))
 
+  pub unnoted : (old .noted ≡ 0) ⊎ (old .pending ≡ 0) → isAnswered (bell s h) ≡ false
+  unnoted (inl z) = not-noted (isAnswered (bell s h)) (old .noted) (g .note) z
+  unnoted (inr z) = flag-none (isAnswered (bell s h)) (old .noted) (g .note) (λ n. g .pend n z)
+
   pub passes-step : Passes w c a → Next (a .reply .state)
   passes-step x =
       let e = is Drains (x .drains) in
@@ -121,10 +125,6 @@ module _ (s : Settings) (w : World) (c : Call) (a : Applied) (h : History) (soun
       (still-inv s t h (calm Drains e refl refl none (x .silent)) (old .noted) (old .doorbell) (old .unanswered) (old .pending) (x .sides .pending) (endpointAt old) (endpointAt (besides old (x .sides))) g
       (λ n z. absurd (true≢false (sym (one (isAnswered (bell s h)) n) ∙ none))) (besides-aside old (x .sides)) (λ k. aside-of k Drains e (aside-drains k)))
     where
-      unnoted : (old .noted ≡ 0) ⊎ (old .pending ≡ 0) → isAnswered (bell s h) ≡ false
-      unnoted (inl z) = not-noted (isAnswered (bell s h)) (old .noted) (g .note) z
-      unnoted (inr z) = flag-none (isAnswered (bell s h)) (old .noted) (g .note) (λ n. g .pend n z)
-
       one : (b : Bool) → old .noted ≡ 1 → isAnswered (bell s h) ≡ true
       one b n = go (isAnswered (bell s h)) (sym (g .note) ∙ n)
         where

@@ -78,7 +78,7 @@ module _ (s : Settings) (w : World) (c : Call) (a : Applied) (h : History) (soun
   here : Joined s (x .k) h (x .p) (x .r)
   here = slot-is s w c a h sound g (x .k) (Linked (x .p) (x .r)) (x .linked)
 
-  same-id : x .asked .id ≡ x .r .id
+  pub same-id : x .asked .id ≡ x .r .id
   same-id = go (x .same-request)
     where
       go : (x .asked ≡ x .r) ⊎ (x .asked ≡ marked (x .r)) → x .asked .id ≡ x .r .id
@@ -97,19 +97,19 @@ module _ (s : Settings) (w : World) (c : Call) (a : Applied) (h : History) (soun
     abbrev waits : Endpoint
     waits = Unlinking (x .p) (x .asked) (Async (old .unanswered + 1))
 
-    abbrev after : Ehci
+    abbrev pub after : Ehci
     after = withEndpoint base (x .k) waits
 
-    bounded : boundedOf (bellOf old) (x .p .kind) (x .readings) ≡ askedOf (bellOf old) (x .readings .command)
+    pub bounded : boundedOf (bellOf old) (x .p .kind) (x .readings) ≡ askedOf (bellOf old) (x .readings .command)
     bounded = counts-advances (x .p .kind) kind (bellOf old) (x .readings) .0
 
-    e : event s t ≡ Unlinks (x .k)
+    pub e : event s t ≡ Unlinks (x .k)
     e = named ∙ ap (λ (b : Bool). cond b (Parts (x .k) (x .readings .frame)) (Unlinks (x .k))) kind
 
-    mine : endpointAt after (x .k) ≡ waits
+    pub mine : endpointAt after (x .k) ≡ waits
     mine = endpoint-same base (x .k) waits (bell-wide old (rung .bell .noted) (rung .bell .doorbell) (rung .bell .unanswered) (sound .wide)) known (counts-advances (x .p .kind) kind (bellOf old) (x .readings) .1 (old .unanswered + 1))
 
-    others : (j : ℕ) → (j ≡ x .k → ⊥) → endpointAt after j ≡ endpointAt old j
+    pub others : (j : ℕ) → (j ≡ x .k → ⊥) → endpointAt after j ≡ endpointAt old j
     others j ne = endpoint-other base (x .k) waits j ne ∙ bell-aside old (rung .bell .noted) (rung .bell .doorbell) (rung .bell .unanswered) j
 
     was : (v : ℕ) → waitsFor v (endpointAt old (x .k)) ≡ false
@@ -118,7 +118,7 @@ module _ (s : Settings) (w : World) (c : Call) (a : Applied) (h : History) (soun
     now : (v : ℕ) → waitsFor v (endpointAt after (x .k)) ≡ eqb (old .unanswered + 1) v
     now v = ap (waitsFor v) mine
 
-    rang : rings t ≡ eqb (old .doorbell) 0
+    pub rang : rings t ≡ eqb (old .doorbell) 0
     unfolding waitingOf
     rang =
         ap (λ (y : Writes). someRing (listOf y)) (x .writes-are ∙ ap (λ (b : Bounded). b .rung .writes) bounded)
@@ -147,31 +147,38 @@ module _ (s : Settings) (w : World) (c : Call) (a : Applied) (h : History) (soun
     abbrev waits-frames : Endpoint
     waits-frames = Unlinking (x .p) (x .asked) (Periodic (frameOf (x .readings .frame)))
 
-    abbrev apart : Ehci
+    abbrev pub apart : Ehci
     apart = withEndpoint (withBell old (old .noted) (old .doorbell) (old .unanswered)) (x .k) waits-frames
 
-    ep : event s t ≡ Parts (x .k) (x .readings .frame)
+    pub ep : event s t ≡ Parts (x .k) (x .readings .frame)
     ep = named ∙ ap (λ (b : Bool). cond b (Parts (x .k) (x .readings .frame)) (Unlinks (x .k))) kind
 
-    bounded-frames : boundedOf (bellOf old) (x .p .kind) (x .readings) ≡ record { boundary = Periodic (frameOf (x .readings .frame)); rung = record { bell = bellOf old; writes = noWrites } }
+    pub bounded-frames : boundedOf (bellOf old) (x .p .kind) (x .readings) ≡ record { boundary = Periodic (frameOf (x .readings .frame)); rung = record { bell = bellOf old; writes = noWrites } }
     unfolding boundedOf
     bounded-frames = ap (λ (k : EndpointType). boundedOf (bellOf old) k (x .readings)) (sym (interrupt-is (x .p .kind) kind))
+
+    pub quiet-frames : rings t ≡ false
+    unfolding waitingOf
+    quiet-frames = ap (λ (y : Writes). someRing (listOf y)) (x .writes-are ∙ ap (λ (b : Bounded). b .rung .writes) bounded-frames) ∙ silent-none
+
+    pub mine-frames : endpointAt apart (x .k) ≡ waits-frames
+    mine-frames =
+        endpoint-same (withBell old (old .noted) (old .doorbell) (old .unanswered)) (x .k) waits-frames (bell-wide old (old .noted) (old .doorbell) (old .unanswered) (sound .wide)) known
+        (subst (λ (k : EndpointType). Suits k (Periodic (frameOf (x .readings .frame)))) (interrupt-is (x .p .kind) kind) tt)
+
+    pub others-frames : (j : ℕ) → (j ≡ x .k → ⊥) → endpointAt apart j ≡ endpointAt old j
+    others-frames j ne = endpoint-other (withBell old (old .noted) (old .doorbell) (old .unanswered)) (x .k) waits-frames j ne ∙ bell-aside old (old .noted) (old .doorbell) (old .unanswered) j
 
     by-frames : Next (a .reply .state)
     unfolding waitingOf withEndpoint withSlot withBell
     by-frames =
         subst Next (sym (x .state-is ∙ ap (λ (b : Bounded). waitingFor old (x .k) (x .p) (x .asked) b .state) bounded-frames))
-        (one-inv s t h (calm s w c a h sound g (Parts (x .k) (x .readings .frame)) ep refl refl refl quiet)
+        (one-inv s t h (calm s w c a h sound g (Parts (x .k) (x .readings .frame)) ep refl refl refl quiet-frames)
         (old .noted) (old .doorbell) (old .unanswered) (old .pending) (old .pending) (endpointAt old) (endpointAt apart) g (g .pend) (x .k) waits-frames
-        (endpoint-same (withBell old (old .noted) (old .doorbell) (old .unanswered)) (x .k) waits-frames (bell-wide old (old .noted) (old .doorbell) (old .unanswered) (sound .wide)) known
-        (subst (λ (k : EndpointType). Suits k (Periodic (frameOf (x .readings .frame)))) (interrupt-is (x .p .kind) kind) tt))
-        (λ j ne. endpoint-other (withBell old (old .noted) (old .doorbell) (old .unanswered)) (x .k) waits-frames j ne ∙ bell-aside old (old .noted) (old .doorbell) (old .unanswered) j)
+        mine-frames others-frames
         (λ v. ap (waitsFor (suc v)) (sym (x .linked)))
         (apart-now s (x .k) t h (x .readings .frame) ep (x .p) (x .r) (x .asked) here same-id kind)
         (λ j ne. aside-of s w c a h sound g j (Parts (x .k) (x .readings .frame)) ep (aside-parts j (x .k) ne (x .readings .frame))))
-      where
-        quiet : rings t ≡ false
-        quiet = ap (λ (y : Writes). someRing (listOf y)) (x .writes-are ∙ ap (λ (b : Bounded). b .rung .writes) bounded-frames) ∙ silent-none
 
   pub unlinks-step : Next (a .reply .state)
   unlinks-step = go (isInterrupt (x .p .kind)) refl

@@ -24,3 +24,4 @@ pub mod BellTurns
 pub mod BellSteps
 pub mod BellUnlinks
 pub mod BoundaryCalls
+pub mod BellSummary
