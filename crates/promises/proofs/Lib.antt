@@ -25,3 +25,4 @@ pub mod BellSteps
 pub mod BellUnlinks
 pub mod BoundaryCalls
 pub mod BellSummary
+pub mod BoundaryCore
