@@ -26,3 +26,4 @@ pub mod BellUnlinks
 pub mod BoundaryCalls
 pub mod BellSummary
 pub mod BoundaryCore
+pub mod BoundaryCancels

@@ -16,7 +16,7 @@ use Rattle.ehci.specs.declared.reply.Answered.{Answered}
 use Rattle.ehci.specs.declared.reply.Answered.the-variants.{Cancelled}
 use Rattle.promises.specs.Runs.{History, Machine, Opening, Turn, World, historyOf, turnOf, worldOf}
 use Rattle.promises.specs.Events.{isCollected, rings}
-use Rattle.promises.specs.Bells.{Boundary, asked, bell, cancelled, collects, counted, idOf, isUp, kindAt, linked, none, number, parted, parting, partsOf, reads, someTurn, submits, unlinking, unlinksOf}
+use Rattle.promises.specs.Bells.{Boundary, asked, bell, cancelled, collects, counted, idOf, isAnswered, isUp, kindAt, linked, none, number, parted, parting, partsOf, reads, someTurn, submits, unlinking, unlinksOf}
 
 -- ---- by numbers: t is turn number n of h, so n turns are older
 
@@ -115,6 +115,21 @@ module _ (m : Machine) (s : Settings) (w : World) where
       → (counted s (past cs) ≤ asked s (past cs))
       × (asked s (past cs) ≤ counted s (past cs) + 32)
       × (isUp (bell s (past cs)) ≡ ltb (counted s (past cs)) (asked s (past cs)))
+
+  -- a linked slot never finds 32 unlinks unanswered
+  abbrev pub Uncrowded : Type 0
+  Uncrowded = (cs : List Call) (k : ℕ) → linked s k (past cs) ≡ true → asked s (past cs) < counted s (past cs) + 32
+
+  -- what the state says is what the history says: unanswered is the number of control and bulk unlinks not yet answered, at most 32; the doorbell is
+  -- up exactly while there is one; a note says that an acknowledgment has read the advance bit since the ring, and that only while it is up
+  abbrev pub StateSays : Type 0
+  StateSays = (cs : List Call)
+      → (asked s (past cs) ≡ counted s (past cs) + worldOf m w cs .state .unanswered)
+      × (worldOf m w cs .state .unanswered ≤ 32)
+      × (worldOf m w cs .state .doorbell ≡ flagNumber (isUp (bell s (past cs))))
+      × (worldOf m w cs .state .doorbell ≡ flagNumber (ltb 0 (worldOf m w cs .state .unanswered)))
+      × (worldOf m w cs .state .noted ≡ flagNumber (isAnswered (bell s (past cs))))
+      × (worldOf m w cs .state .noted ≤ worldOf m w cs .state .doorbell)
 
   -- the call c, after the calls cs, unlinks k when n unlinks are unanswered: n is at most 31; and after any calls ds that do not collect k,
   -- k's request can be collected where n + 1 advances or more have been counted since, and nowhere else
