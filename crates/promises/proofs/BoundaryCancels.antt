@@ -37,7 +37,7 @@ use Rattle.ehci.specs.Replies.{collectedAnswer, replied}
 use Rattle.promises.specs.Runs.{History, Opening, Turn, World, core, historyOf, turnOf, worldOf}
 use Rattle.promises.specs.Events.{event, isDone}
 use Rattle.promises.specs.Bells.{bell, cancelled, cancelsBy, isAnswered, isUp, linked, renews}
-use Rattle.promises.specs.Boundaries.{Always, CancelledCollects, StateSays, Uncrowded}
+use Rattle.promises.specs.Boundaries.{EveryRun, CancelledCollects, StateSays, Uncrowded}
 use Rattle.promises.proofs.EffectOf.{effect}
 use Rattle.promises.proofs.Sound.{Sound}
 use Rattle.promises.proofs.BellWaiting.{fallen, waitsFor}
@@ -222,14 +222,14 @@ module _ (named : NamedAlways) where
       let now = worldOf core w cs in
       marks-keep s now c (historyOf core w cs) (b .0) (summary s now c (core now c) (historyOf core w cs) (b .0) (b .1) (effect now c) (named s w o cs c)) (marks-reached s w o cs) k e
 
-  pub cancelled-collects : Always CancelledCollects core
+  pub cancelled-collects : EveryRun CancelledCollects core
   cancelled-collects s w o cs k id rd e done =
       let x = collect-found (worldOf core w cs) k id rd done in
       x .answer-is ∙ outcome-marked (x .r .cancelled) _ (sym (ap isMarked (x .unlinking)) ∙ marks-reached s w o cs k e)
 
   -- ---- what the state says
 
-  pub state-says : Always StateSays core
+  pub state-says : EveryRun StateSays core
   state-says s w o cs =
       let b = bells-reached named s w o cs in
       let r = b .0 .ranges in
@@ -242,7 +242,7 @@ module _ (named : NamedAlways) where
         r .noted-most,
       )
 
-  pub uncrowded : Always Uncrowded core
+  pub uncrowded : EveryRun Uncrowded core
   uncrowded s w o cs k on =
       let b = bells-reached named s w o cs in
       omega (arith, b .1 .owing, has-room s (historyOf core w cs) (worldOf core w cs .state) (b .1) k on)

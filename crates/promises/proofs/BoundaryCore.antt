@@ -26,7 +26,7 @@ use Rattle.ehci.specs.declared.call.Call.the-variants.{Collect}
 use Rattle.promises.specs.Runs.{History, Opening, Turn, World, core, historyOf, turnOf, worldOf}
 use Rattle.promises.specs.Events.{Event, Other, Reads, Drains, Submits, Unlinks, Parts, Collects, event, isCollected}
 use Rattle.promises.specs.Bells.{asked, bell, counted, idOf, isPartsOf, isSubmitsOf, isUnlinksOf, isUp, kindAt, linked, number, parted, parting, unlinking}
-use Rattle.promises.specs.Boundaries.{Always, BoundaryKept, BoundaryNumbered, Exact, FramesKept, NineOn, OnePasses, OnlyAnswered, Orderly, PassesExactly, UpExactly, Waits}
+use Rattle.promises.specs.Boundaries.{EveryRun, BoundaryKept, BoundaryNumbered, Exact, FramesKept, NineOn, OnePasses, OnlyAnswered, Orderly, PassesExactly, UpExactly, Waits}
 use Rattle.promises.proofs.Effects.{Unlinked}
 use Rattle.promises.proofs.EffectOf.{effect}
 use Rattle.promises.proofs.Reached.{opening-is, sound-opens}
@@ -195,35 +195,35 @@ module _ (named : NamedAlways) where
         bells-keep s now c (core now c) (historyOf core w cs) (before .0) (before .1) (effect now c) (named s w o cs c),
       )
 
-  pub exact : Always Exact core
+  pub exact : EveryRun Exact core
   exact s w o cs k id rd = let b = bells-reached s w o cs in exact-now s (historyOf core w cs) (worldOf core w cs) (b .0) (b .1) k id rd
 
-  pub up-exactly : Always UpExactly core
+  pub up-exactly : EveryRun UpExactly core
   up-exactly s w o cs = let b = bells-reached s w o cs in up-now s (historyOf core w cs) (worldOf core w cs) (b .0) (b .1)
 
-  pub orderly : Always Orderly core
+  pub orderly : EveryRun Orderly core
   orderly s w o cs c k =
       let b = bells-reached s w o cs in
       let now = worldOf core w cs in
       orderly-now s (historyOf core w cs) now (b .0) (b .1) c (summary s now c (core now c) (historyOf core w cs) (b .0) (b .1) (effect now c) (named s w o cs c)) k
 
-  pub by-number-alone : Always PassesExactly core
+  pub by-number-alone : EveryRun PassesExactly core
   by-number-alone s w o = passes-exactly core s w (orderly s w o) (exact s w o)
 
-  pub boundary-kept : Always BoundaryKept core
+  pub boundary-kept : EveryRun BoundaryKept core
   boundary-kept s w o = boundary core s w (exact s w o) (up-exactly s w o)
 
-  pub boundary-numbered : Always BoundaryNumbered core
+  pub boundary-numbered : EveryRun BoundaryNumbered core
   boundary-numbered s w o = by-numbers core s w (boundary-kept s w o)
 
-  pub frames-counted : Always FramesKept core
+  pub frames-counted : EveryRun FramesKept core
   frames-counted s w o = frames-kept core s w (exact s w o)
 
-  pub one-at-a-time : Always OnePasses core
+  pub one-at-a-time : EveryRun OnePasses core
   one-at-a-time s w o = one-passes core s w (by-number-alone s w o) (up-exactly s w o)
 
-  pub only-answered : Always OnlyAnswered core
+  pub only-answered : EveryRun OnlyAnswered core
   only-answered s w o = answered-only core s w (by-number-alone s w o) (up-exactly s w o)
 
-  pub order-13 : Always Waits core
+  pub order-13 : EveryRun Waits core
   order-13 s w o = waits core s w (by-number-alone s w o) (up-exactly s w o) (orderly s w o)

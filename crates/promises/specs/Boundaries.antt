@@ -43,8 +43,8 @@ NineOn start reading = 9 ≤ (reading % 16384 + (16384 - start % 16384)) % 16384
 -- ---- of a machine m, the settings s, and the world w that an opening with them leaves
 
 -- a statement holds of a machine where it holds of each of its runs
-abbrev pub Always : (Machine → Settings → World → Type 0) → Machine → Type 0
-Always P m = (s : Settings) (w : World) → Opening s w → P m s w
+abbrev pub EveryRun : (Machine → Settings → World → Type 0) → Machine → Type 0
+EveryRun P m = (s : Settings) (w : World) → Opening s w → P m s w
 
 module _ (m : Machine) (s : Settings) (w : World) where
   -- the history of the calls cs; one more call after them; what it answers
