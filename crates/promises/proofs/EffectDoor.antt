@@ -1,8 +1,8 @@
 -- The door: a call that finds the rows as opening fixed them does what its crate says, and any other is refused.
 use Prim.Native.Nat.{ℕ}
 use mathlib.Core.Bool.{Bool, true, false, not}
-use mathlib.Core.List.{List, [], _∷_}
-use mathlib.Core.Path.{_≡_, refl, sym, ap, _∙_}
+use mathlib.Core.List.{List}
+use mathlib.Core.Path.{_≡_, refl, ap, _∙_}
 use lib.ListN.{length}
 use Rattle.register.specs.Writes.{listOf, noWrites}
 use Rattle.register.specs.declared.writes.Writes.{Writes}
@@ -24,9 +24,9 @@ use Rattle.ehci.specs.declared.reply.Answered.the-variants.{Refused}
 use Rattle.ehci.specs.Decides.{asksOf, callOf, decideOf}
 use Rattle.ehci.specs.Door.{Applied, applied, applyOf, carriedOut, seenBy}
 use Rattle.ehci.specs.Replies.{refusedReply, replied}
-use Rattle.promises.specs.Runs.{Rows, World, core, rowsOf, turnOf}
+use Rattle.promises.specs.Runs.{Rows, World, core, turnOf}
 use Rattle.promises.specs.Events.{Other, event, someRing}
-use Rattle.promises.proofs.Effects.{Effect, Idles, Sides, Still, besides, still}
+use Rattle.promises.proofs.Effects.{Effect, Idles, Sides, besides, still}
 
 -- checks, then settle: what holds of a refusal and of what is new holds of what is left
 pub settled-by : {A : Type 0} (v : Verdict) (old : Refusal → A) (new : A) (P : A → Type 0)

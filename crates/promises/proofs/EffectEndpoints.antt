@@ -1,12 +1,12 @@
 -- Open endpoint, close, set address, set packet size.
 use Prim.Native.Nat.{ℕ, _+_}
-use mathlib.Core.Bool.{Bool, true, false}
+use mathlib.Core.Bool.{true, false}
 use mathlib.Core.List.{List}
-use mathlib.Core.Path.{_≡_, refl, sym, ap, _∙_}
+use mathlib.Core.Path.{_≡_, refl, sym}
 use lib.Dec.{leb}
 use lib.ListN.{length, replicate}
 use Rattle.register.specs.Writes.{noWrites}
-use Rattle.descriptor.specs.Heads.{endpointHead, withAddress, withPacketSize, wordsOf}
+use Rattle.descriptor.specs.Heads.{withAddress, withPacketSize}
 use Rattle.settings.proofs.Every.{false-true}
 use Rattle.state.specs.declared.state.Ehci.{Ehci}
 use Rattle.pipe.specs.Endpoints.{endpointAt, withEndpoint}
@@ -15,7 +15,7 @@ use Rattle.pipe.specs.declared.endpoint.Endpoint.the-variants.{Closed, Idle, Li
 use Rattle.pipe.specs.declared.endpoint.Pipe.{Pipe}
 use Rattle.opening.specs.Rows.{headWord, withHeadWord}
 use Rattle.controller.specs.Readers.{hasEndpoint, holdsRequest}
-use Rattle.endpoint.specs.Calls.{ChangeLeft, OpenLeft, changeOf, closeOf, setAddressOf, setPacketSizeOf, withHead}
+use Rattle.endpoint.specs.Calls.{ChangeLeft, closeOf, setAddressOf, setPacketSizeOf, withHead}
 use Rattle.endpoint.proofs.ChangeLaws.{Changes, change-by}
 use Rattle.endpoint.proofs.OpenLaws.{open-by}
 use Rattle.ehci.specs.declared.call.Call.{Call}

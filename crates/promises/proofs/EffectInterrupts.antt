@@ -1,20 +1,18 @@
 -- Acknowledge, drain, rearm, enable, disable.
-use Prim.Native.Nat.{ℕ, _+_, _-_, _*_, _/_, _%_, _^_, _≤_, _<_, max, min}
+use Prim.Native.Nat.{ℕ, _-_, _≤_, _<_, min}
 use mathlib.Core.Bool.{Bool, true, false, not, cond}
-use mathlib.Core.List.{List, [], _∷_}
-use mathlib.Core.Logic.{_⊎_, inl, inr}
-use mathlib.Core.Path.{_≡_, refl, sym, ap, subst, _∙_}
+use mathlib.Core.List.{[], _∷_}
+use mathlib.Core.Logic.{inl, inr}
+use mathlib.Core.Path.{_≡_, refl, sym, ap, _∙_}
 use native.Mathlib.Omega.{arith}
 use borrow.Author.Tests.{eq-eqb, eqb-false, eqb-true, ne-eqb}
 use lib.Dec.{eqb, lit<}
 use Rattle.register.specs.Bits.{anyOf, bit, onlyBits, withBits, withoutBits}
 use Rattle.register.specs.Writes.{andThen, listOf, noWrites}
-use Rattle.register.specs.declared.writes.Writes.{Writes}
 use Rattle.register.proofs.BitLaws.{only-bit}
 use Rattle.register.proofs.FieldLaws.{any-field}
 use Rattle.settings.specs.Tests.{both}
 use Rattle.settings.proofs.SettingsCases.{both-second}
-use Rattle.token.specs.Tokens.{onlyIf}
 use Rattle.state.specs.Ranges.{inRanges}
 use Rattle.state.specs.State.{withBell, withBoundaries, withInterrupt}
 use Rattle.state.specs.declared.state.Ehci.{Ehci}
@@ -22,15 +20,10 @@ use Rattle.state.proofs.RangesLaws.{Ranges}
 use Rattle.answer.specs.Answers.{first}
 use Rattle.answer.specs.declared.answer.Answer.the-variants.{Done}
 use Rattle.answer.specs.declared.answer.Refusal.the-variants.{InvalidParameter}
-use Rattle.schedule.specs.Bell.{advancedOf, bellOf}
 use Rattle.schedule.specs.Links.{same}
-use Rattle.interrupt.specs.Interrupts.{acknowledgeOf, acknowledgeWrites, acknowledgedState, countIf, countedOf, disableOf, drainIf, drainOf, enableOf, heardIf, maskWord, noteIf, notedAfter, rearmIf, rearmOf, settledOr, takenOf}
+use Rattle.interrupt.specs.Interrupts.{acknowledgeOf, acknowledgeWrites, acknowledgedState, countIf, countedOf, disableOf, drainIf, drainOf, enableOf, heardIf, noteIf, notedAfter, rearmIf, rearmOf, settledOr, takenOf}
 use Rattle.interrupt.specs.declared.calls.Acknowledgement.{Acknowledgement}
 use Rattle.interrupt.specs.declared.calls.Drainage.{Drainage}
-use Rattle.interrupt.specs.declared.calls.Settled.{Settled}
-use Rattle.interrupt.specs.declared.drain.Counted.{Counted}
-use Rattle.interrupt.specs.declared.drain.Taken.{Taken}
-use Rattle.ehci.specs.declared.call.Call.{Call}
 use Rattle.ehci.specs.declared.call.Call.the-variants.{Acknowledge, Disable, Drain, Enable, Rearm}
 use Rattle.ehci.specs.declared.call.InterruptReadings.{InterruptReadings}
 use Rattle.ehci.specs.Decides.{acknowledgeDecided, acknowledgeReply, came, drainDecided, drainReply}

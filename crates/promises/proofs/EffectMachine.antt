@@ -1,17 +1,15 @@
 -- Bring-up and the allotment of addresses: they touch neither slots, owners nor doorbell.
 use Prim.Native.Nat.{ℕ, zero, suc, _+_, _≤_, _<_}
 use mathlib.Core.Bool.{Bool, true, false, not}
-use mathlib.Core.List.{List, [], _∷_}
+use mathlib.Core.List.{[], _∷_}
 use mathlib.Core.Path.{_≡_, refl, sym, ap, subst, _∙_}
 use native.Mathlib.Decide.{ℕ-discrete as decEq}
 use native.Mathlib.Omega.{arith}
 use borrow.Author.Tests.{eqb-false, ltb-false, ltb-true}
 use lib.Dec.{eqb, ltb}
-use lib.ListN.{set, take}
-use Rattle.register.specs.Bits.{bit, withBits, withoutBits}
+use Rattle.register.specs.Bits.{withBits, withoutBits}
 use Rattle.register.specs.Writes.{andThen, listOf, noWrites}
-use Rattle.register.specs.declared.writes.Writes.{Writes}
-use Rattle.settings.specs.Tests.{both, either}
+use Rattle.settings.specs.Tests.{either}
 use Rattle.state.specs.declared.state.Ehci.{Ehci}
 use Rattle.settings.proofs.Every.{false-true}
 use Rattle.state.specs.Ranges.{inRanges}
@@ -20,7 +18,6 @@ use Rattle.state.specs.State.{withBringUp, withNextAddress}
 use Rattle.state.proofs.RangesLaws.{Ranges, ranges-make, ranges-tell}
 use Rattle.answer.specs.Answers.{first, passed}
 use Rattle.answer.proofs.CheckLaws.{let-pass}
-use Rattle.answer.specs.declared.answer.Refusal.{Refusal}
 use Rattle.answer.specs.declared.answer.Refusal.the-variants.{InvalidParameter, QueueFull, SlotLimitReached}
 use Rattle.pipe.specs.Endpoints.{endpointAt}
 use Rattle.pipe.proofs.EndpointCases.{at-none}
@@ -30,7 +27,7 @@ use Rattle.controller.specs.declared.calls.Allotment.{Allotment}
 use Rattle.controller.proofs.AddressLaws.{allot-keeps}
 use Rattle.schedule.specs.Bell.{commandWord}
 use Rattle.schedule.proofs.BellLaws.{command-clear}
-use Rattle.bring_up.specs.BringUp.{againOf, anyUncollected, command, movedOn, onwardOf, pickBroughtUp, ready, registerOf, stageOf, stageWrites, startOf, stepOf, setUp}
+use Rattle.bring_up.specs.BringUp.{againOf, anyUncollected, movedOn, onwardOf, pickBroughtUp, ready, registerOf, stageOf, stageWrites, startOf, stepOf, setUp}
 use Rattle.bring_up.specs.declared.calls.BroughtUp.{BroughtUp}
 use Rattle.bring_up.specs.declared.stage.Stage.{Stage}
 use Rattle.bring_up.specs.declared.stage.Stage.the-variants.{Stop, Halting, Reset, Resetting, Run, Starting}
@@ -40,9 +37,9 @@ use Rattle.ehci.specs.Decides.{allotDecided, allotReply, came}
 use Rattle.ehci.specs.Door.{carriedOut}
 use Rattle.ehci.specs.Replies.{broughtReply, replied}
 use Rattle.promises.specs.Runs.{World, core}
-use Rattle.promises.specs.Events.{isRing, someRing}
+use Rattle.promises.specs.Events.{someRing}
 use Rattle.promises.proofs.Effects.{Effect, Idles, Sides, besides}
-use Rattle.promises.proofs.EffectDoor.{idles-on, refused-still, settled-by, sidesOf, still-of, through}
+use Rattle.promises.proofs.EffectDoor.{idles-on, refused-still, settled-by, still-of, through}
 
 -- a USBCMD write that is no ring
 pub command-silent : (v : ℕ) → someRing (listOf (andThen noWrites 0 (commandWord v))) ≡ false

@@ -1,28 +1,25 @@
 -- The interrupt calls keep a state in its ranges.
-use Prim.Native.Nat.{ℕ, _+_, _-_, _*_, _/_, _%_, _^_, _≤_, _<_, max, min}
+use Prim.Native.Nat.{ℕ, _-_, _^_, _≤_, _<_, min}
 use mathlib.Core.Bool.{Bool, true, false, not}
-use mathlib.Core.List.{List}
-use mathlib.Core.Path.{_≡_, refl, sym, ap, _∙_}
+use mathlib.Core.Path.{_≡_, refl, sym, _∙_}
 use native.Mathlib.Omega.{arith}
 use native.Mathlib.Nat.{zero-add, zero-div}
 use lib.Dec.{lit<}
 use borrow.Author.Tests.{eqb-true, eqb-false, leb-true, ne-eqb}
-use lib.Bits.{and-le-l, and-le-r, bitAnd, bitOr, or-add-and}
+use lib.Bits.{and-le-l, and-le-r, or-add-and}
 use lib.Dec.{eqb, leb}
-use lib.ListN.{getD}
 use Rattle.register.specs.Bits.{bit, onlyBits, withBits, withoutBits}
 use Rattle.register.proofs.BitLaws.{only-bit, same-word, with-bit, without-bit}
 use Rattle.settings.specs.Tests.{both}
 use Rattle.slot.specs.Ranges.{slotGood}
 use Rattle.slot.specs.declared.slot.Slot.{Slot}
-use Rattle.slot.proofs.SlotLaws.{Bounded, NoRequest, Phase, SlotGood, slot-makes, slot-tells}
+use Rattle.slot.proofs.SlotLaws.{Bounded, NoRequest, Phase, slot-makes, slot-tells}
 use Rattle.state.specs.Slots.{slotAt}
 use Rattle.state.specs.State.{withBell, withBoundaries, withInterrupt}
 use Rattle.state.specs.declared.state.Ehci.{Ehci}
 use Rattle.state.proofs.RangesLaws.{Ranges}
-use Rattle.schedule.specs.Bell.{advancedOf, bellOf, fallIf, fallenFrom, fallenOne, mustRing, ringOf}
+use Rattle.schedule.specs.Bell.{advancedOf, bellOf, fallIf, fallenOne, ringOf}
 use Rattle.schedule.specs.declared.bell.Bell.{Bell}
-use Rattle.schedule.specs.declared.bell.Rung.{Rung}
 use Rattle.schedule.proofs.BellLaws.{fallen-at}
 use Rattle.register.specs.Writes.{noWrites}
 use Rattle.interrupt.specs.Interrupts.{withRung}
@@ -210,6 +207,6 @@ counted-keeps s command some r =
       owned = r .owned;
       unowned = r .unowned;
       slots = λ k h.
-      rw (b .1, fallen-at 0 32 k (s .phases) (s .kinds) (s .boundaries) h, zero-add k)
-      (slot-falls (slotAt s k) (s .unanswered) u (s .settings .endpoints) k (r .slots k h));
+          rw (b .1, fallen-at 0 32 k (s .phases) (s .kinds) (s .boundaries) h, zero-add k)
+          (slot-falls (slotAt s k) (s .unanswered) u (s .settings .endpoints) k (r .slots k h));
     }

@@ -2,29 +2,26 @@
 use Prim.Native.Nat.{ℕ, _+_, _<_}
 use mathlib.Core.Bool.{Bool, true, false, not, cond}
 use mathlib.Core.List.{List, [], _∷_}
-use mathlib.Core.Logic.{_⊎_, inl, inr}
-use mathlib.Core.Path.{_≡_, refl, sym, ap, _∙_}
-use lib.Dec.{eqb, ltb}
+use mathlib.Core.Logic.{inl, inr}
+use mathlib.Core.Path.{_≡_, refl, sym, ap}
+use lib.Dec.{eqb}
 use lib.ListN.{length}
 use Rattle.register.specs.Writes.{noWrites}
-use Rattle.pool.specs.Chains.{fillOf}
 use Rattle.pool.specs.declared.chain.View.{View}
 use Rattle.settings.specs.Tests.{both}
 use Rattle.settings.specs.declared.settings.Settings.{Settings}
 use Rattle.settings.proofs.Every.{false-true}
 use Rattle.state.specs.declared.state.Ehci.{Ehci}
-use Rattle.answer.specs.Answers.{Verdict, first, passed}
+use Rattle.answer.specs.Answers.{first, passed}
 use Rattle.answer.specs.declared.answer.Refusal.{Refusal}
 use Rattle.answer.specs.declared.answer.Refusal.the-variants.{InvalidParameter}
 use Rattle.answer.proofs.CheckLaws.{let-pass}
 use Rattle.pipe.specs.Endpoints.{endpointAt}
-use Rattle.pipe.specs.declared.endpoint.Endpoint.the-variants.{Linked, Unlinking}
+use Rattle.pipe.specs.declared.endpoint.Endpoint.the-variants.{Linked}
 use Rattle.pipe.specs.declared.endpoint.Pipe.{Pipe}
 use Rattle.pipe.specs.declared.endpoint.Request.{Request}
-use Rattle.pipe.specs.declared.endpoint.UnlinkBoundary.{UnlinkBoundary}
 use Rattle.controller.specs.Lent.{acceptsOf, lengths}
 use Rattle.controller.specs.declared.lent.Readings.{Readings}
-use Rattle.schedule.specs.Links.{detachOf}
 use Rattle.request.specs.Submit.{Outcome, acceptedWith, answerOf, judgeOf, refusedSubmit, settledSubmit, submitChecks, submitOf}
 use Rattle.request.specs.Writeback.{inRequest, refusedWriteback, writebackChecks, writebackOf}
 use Rattle.request.specs.declared.calls.WrittenBack.{WrittenBack}
@@ -32,9 +29,8 @@ use Rattle.request.specs.declared.judge.TransferRequest.{TransferRequest}
 use Rattle.request.proofs.JudgeLaws.{judge-tells}
 use Rattle.collection.specs.Answers.{outcomeOf}
 use Rattle.collection.specs.Calls.{Gathered, finishOf, marked, pendingLeft}
-use Rattle.collection.specs.Unlinks.{Left, isMissing, unlinkOf, waitingOf}
+use Rattle.collection.specs.Unlinks.{Left, unlinkOf, waitingOf}
 use Rattle.collection.proofs.Splits.{cancel-split, collect-split, unlink-split}
-use Rattle.ehci.specs.declared.call.Call.{Call}
 use Rattle.ehci.specs.declared.call.Call.the-variants.{Cancel, Collect, Submit, Writeback}
 use Rattle.ehci.specs.declared.reply.Answered.the-variants.{Refused}
 use Rattle.ehci.specs.Decides.{cancelCame, cancelDecided, collectCame, collectDecided, submitCame, submitDecided, withSetups, writebackDecided, writtenReply, came}
@@ -121,6 +117,8 @@ module _ (w : World) where
         rows-are = refl;
         silent = refl;
         nothing = refl;
+        call-is = refl;
+        accepted = refl;
       })))
     where
       is-in : (b : Bool) → not b ≡ false → b ≡ true

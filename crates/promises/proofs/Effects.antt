@@ -1,11 +1,11 @@
 -- What a call can do to a world: eleven kinds, whatever the call. Every invariant goes by these and not by the calls.
-use Prim.Native.Nat.{ℕ, _+_, _≤_, _<_}
-use mathlib.Core.Bool.{Bool, true, false}
-use mathlib.Core.List.{List, [], _∷_}
+use Prim.Native.Nat.{ℕ, _+_, _<_}
+use mathlib.Core.Bool.{true, false}
+use mathlib.Core.List.{List}
 use mathlib.Core.Path.{_≡_}
 use mathlib.Core.Logic.{_⊎_}
 use lib.Dec.{eqb}
-use lib.ListN.{length, replicate}
+use lib.ListN.{replicate}
 use Rattle.register.specs.Writes.{listOf, noWrites}
 use Rattle.register.specs.declared.writes.Writes.{Writes}
 use Rattle.descriptor.specs.Heads.{endpointHead, wordsOf}
@@ -36,7 +36,9 @@ use Rattle.collection.specs.Calls.{finishOf, marked}
 use Rattle.pool.specs.declared.chain.View.{View}
 use Rattle.interrupt.specs.Interrupts.{noteIf, withRung}
 use Rattle.ehci.specs.declared.call.Call.{Call}
-use Rattle.ehci.specs.declared.reply.Answered.{Answered}
+use Rattle.ehci.specs.declared.call.Call.the-variants.{Writeback}
+use Rattle.ehci.specs.declared.reply.Answered.the-variants.{Done}
+use Rattle.ehci.specs.declared.reply.Given.the-variants.{Nothing}
 use Rattle.ehci.specs.Door.{Applied}
 use Rattle.promises.specs.Runs.{Rows, World, rowsOf, turnOf}
 use Rattle.promises.specs.Events.{Other, Reads, Drains, Submits, Collects, event, leaving, someRing}
@@ -214,6 +216,9 @@ module _ (w : World) (c : Call) (a : Applied) where
     pub rows-are : rowsOf a ≡ withPool (w .rows) (fillOf (tokenChain old place token) (w .rows .pool))
     pub silent : wrote ≡ noWrites
     pub nothing : event (old .settings) (turnOf (w .rows) c a) ≡ Other
+    -- only this call writes a token
+    pub call-is : c ≡ Writeback place token
+    pub accepted : a .reply .answer ≡ Done Nothing
 
   -- a cancel of a request that is unlinking
   pub record Marks : Type 0 where

@@ -1,7 +1,7 @@
 -- While bring-up is begun the controller does not run; a request is uncollected only while it does.
-use Prim.Native.Nat.{ℕ, _+_, _≤_, _<_}
+use Prim.Native.Nat.{ℕ}
 use mathlib.Core.Bool.{Bool, true, false}
-use mathlib.Core.List.{List, [], _∷_}
+use mathlib.Core.List.{List}
 use mathlib.Core.Path.{_≡_, refl, sym, ap, subst, _∙_}
 use native.Mathlib.Decide.{ℕ-discrete as decEq}
 use native.Mathlib.Omega.{arith}
@@ -20,7 +20,7 @@ use Rattle.pipe.specs.declared.endpoint.Request.{Request}
 use Rattle.pipe.specs.declared.endpoint.UnlinkBoundary.{UnlinkBoundary}
 use Rattle.pipe.specs.declared.endpoint.Endpoint.{Endpoint}
 use Rattle.pipe.specs.declared.endpoint.Endpoint.the-variants.{Closed, Idle, Linked, Unlinking}
-use Rattle.pipe.proofs.EndpointLaws.{Proper, endpoint-other, endpoint-same}
+use Rattle.pipe.proofs.EndpointLaws.{endpoint-other, endpoint-same}
 use Rattle.opening.specs.Opening.{freshState}
 use Rattle.controller.specs.Readers.{holdsRequest, isUncollected}
 use Rattle.schedule.specs.Bell.{fallenFrom}
@@ -30,8 +30,8 @@ use Rattle.collection.specs.Calls.{finishOf}
 use Rattle.collection.specs.Unlinks.{waitingOf}
 use Rattle.ehci.specs.declared.call.Call.{Call}
 use Rattle.ehci.specs.Door.{Applied}
-use Rattle.promises.specs.Runs.{History, World, leftBy, turnOf}
-use Rattle.promises.proofs.Effects.{Accepts, Closes, Collected, Counts, Effect, Hears, Idles, Joins, Marks, Opens, Passes, Rewrites, Still, Unlinked, WritesBack, accepts, besides, closes, collects, counts, hears, joins, marks, opens, passes, rewrites, still, unlinks, writes-back}
+use Rattle.promises.specs.Runs.{World}
+use Rattle.promises.proofs.Effects.{Effect, Idles, accepts, besides, closes, collects, counts, hears, joins, marks, opens, passes, rewrites, still, unlinks, writes-back}
 use Rattle.promises.proofs.EffectDoor.{idles-on}
 use Rattle.promises.proofs.Sound.{Sound, slot-low}
 

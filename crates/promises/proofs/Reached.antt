@@ -1,5 +1,5 @@
 -- A run begins in what opening leaves, and every world of it is sound.
-use Prim.Native.Nat.{ℕ, _+_, _-_, _*_, _^_}
+use Prim.Native.Nat.{ℕ, _-_, _*_}
 use mathlib.Core.Bool.{Bool, true, false}
 use mathlib.Core.List.{List, [], _∷_}
 use mathlib.Core.Path.{_≡_, refl, sym, ap, subst, _∙_}
@@ -9,12 +9,10 @@ use Rattle.pool.specs.Chains.{blank}
 use Rattle.settings.specs.Settings.{framesLength, headsLength, poolLength, settingsGood, setupsLength}
 use Rattle.settings.specs.declared.settings.Settings.{Settings}
 use Rattle.settings.proofs.SettingsLaws.{good-tells}
-use Rattle.state.specs.Ranges.{inRanges}
-use Rattle.state.proofs.RangesLaws.{ranges-make, ranges-tell}
-use Rattle.answer.specs.declared.answer.Answer.the-variants.{Done}
+use Rattle.state.proofs.RangesLaws.{ranges-tell}
 use Rattle.answer.specs.declared.answer.Refusal.the-variants.{InvalidParameter}
 use Rattle.answer.proofs.CheckLaws.{answers-apart}
-use Rattle.opening.specs.Opening.{Opened, acceptedOpening, freshState, openOf, openedHeads, refusedOpening, rowsFit}
+use Rattle.opening.specs.Opening.{Opened, acceptedOpening, freshState, openedHeads, refusedOpening, rowsFit}
 use Rattle.opening.proofs.OpenLaws.{fresh-in-ranges, heads-words}
 use Rattle.opening.proofs.OpenPool.{accepts, refuses-rows, refuses-settings}
 use Rattle.ehci.specs.declared.call.Call.{Call}
@@ -94,8 +92,7 @@ module _ (Inv : Settings → History → World → Type 0) (begins : (s : Settin
   reached s w o [] = (sound-opens s w o, begins s w o)
   reached s w o (c ∷ cs) =
       let before = reached s w o cs in
-      let now = worldOf core w cs in
-      (
+      let now = worldOf core w cs in (
         sound-keeps s now c (core now c) (before .0) (effect now c),
         keeps s (historyOf core w cs) now c (core now c) (before .0) (before .1) (effect now c),
       )

@@ -1,54 +1,23 @@
 -- Every world of a run is in its ranges, and its rows have the lengths that opening fixed.
-use Prim.Native.Nat.{ℕ, zero, suc, _+_, _*_, _≤_, _<_}
-use mathlib.Core.Bool.{Bool, true, false}
+use Prim.Native.Nat.{ℕ, _+_, _*_, _≤_, _<_}
+use mathlib.Core.Bool.{true}
 use mathlib.Core.List.{List}
-use mathlib.Core.Logic.{_⊎_, ⊎-elim}
-use mathlib.Core.Path.{_≡_, refl, sym, ap, subst, _∙_}
+use mathlib.Core.Path.{_≡_, sym, ap, subst, _∙_}
 use native.Mathlib.Omega.{arith}
-use lib.ListN.{length, length-replicate, length-set, replicate, set}
-use Rattle.descriptor.specs.Heads.{endpointHead, wordsOf}
-use Rattle.descriptor.specs.Setups.{setupPacket}
-use Rattle.descriptor.specs.Descriptors.{terminated}
-use Rattle.pool.specs.Chains.{fillOf}
-use Rattle.pool.specs.declared.chain.Chain.{Chain}
-use Rattle.pool.specs.declared.chain.View.{View}
-use Rattle.pool.proofs.ChainLaws.{filled-length}
-use Rattle.pool.specs.Places.{listIf}
+use lib.ListN.{length}
 use Rattle.settings.specs.declared.settings.Settings.{Settings}
-use Rattle.settings.proofs.SettingsLaws.{Good}
-use Rattle.state.specs.State.{withBell, withBoundaries, withOwner}
 use Rattle.state.specs.Slots.{withSlot}
 use Rattle.state.specs.declared.state.Ehci.{Ehci}
 use Rattle.state.proofs.RangesLaws.{Ranges}
 use Rattle.pipe.specs.Endpoints.{encoded, endpointAt, withEndpoint}
-use Rattle.pipe.specs.Kinds.{isControl, isInterrupt}
 use Rattle.pipe.specs.declared.endpoint.Endpoint.{Endpoint}
-use Rattle.pipe.specs.declared.endpoint.Endpoint.the-variants.{Closed, Idle, Linked, Unlinking}
-use Rattle.pipe.specs.declared.endpoint.Pipe.{Pipe}
-use Rattle.pipe.specs.declared.endpoint.Request.{Request}
-use Rattle.pipe.proofs.EndpointLaws.{EndpointGood, OpenPipe, Wide, bell-wide, endpoint-keeps, owner-wide, slot-wide}
-use Rattle.opening.proofs.RowLaws.{put-length}
+use Rattle.pipe.proofs.EndpointLaws.{EndpointGood, Wide, slot-wide}
 use Rattle.controller.specs.Readers.{hasEndpoint, isOpen}
 use Rattle.controller.proofs.ReaderLaws.{open-below, open-within}
-use Rattle.controller.specs.declared.lent.Readings.{Readings}
-use Rattle.schedule.specs.Bell.{advancedOf, bellOf, fallenFrom}
-use Rattle.schedule.specs.Links.{Links, attachedFrames, attachedRing, detachOf, endedOverlay, givenLink, linkWord, periodic, predecessorOf, startedOverlay}
-use Rattle.schedule.specs.declared.links.Predecessor.{Predecessor}
-use Rattle.schedule.specs.declared.links.Predecessor.the-variants.{First, Head, Missing}
-use Rattle.endpoint.specs.Calls.{newEndpoint, withHead}
-use Rattle.request.specs.Submit.{attachedBy, linkedRows, setupsWith, stateWith, takenFor, takenOf}
-use Rattle.request.specs.declared.judge.TransferRequest.{TransferRequest}
-use Rattle.request.proofs.SubmitLaws.{submit-keeps}
-use Rattle.collection.specs.Calls.{finishOf, marked}
-use Rattle.collection.specs.Unlinks.{waitingOf}
-use Rattle.collection.proofs.CollectLaws.{ended-length}
-use Rattle.collection.proofs.MoveLaws.{finish-long}
-use Rattle.collection.proofs.RangeLaws.{finish-keeps, mark-keeps, waiting-keeps}
 use Rattle.collection.proofs.SlotFacts.{endpoint-good}
-use Rattle.ehci.specs.declared.call.Call.{Call}
 use Rattle.ehci.specs.Door.{Applied}
 use Rattle.promises.specs.Runs.{Rows, World, leftBy, rowsOf}
-use Rattle.promises.proofs.Effects.{Accepts, Closes, Collected, Counts, Effect, Hears, Joins, Marks, Opens, Passes, Rewrites, Sides, Still, Unlinked, WritesBack, accepts, besides, closes, collects, counts, hears, joins, marks, opens, passes, rewrites, still, unlinks, withHeads, withLinks, withPool, writes-back}
+use Rattle.promises.proofs.Effects.{Sides, besides, withHeads}
 
 pub record Sound (s : Settings) (w : World) : Type 0 where
   pub settings-are : w .state .settings ≡ s

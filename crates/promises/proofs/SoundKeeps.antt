@@ -1,7 +1,7 @@
 -- Whatever a call does, a sound world stays sound.
 use Prim.Native.Nat.{ℕ, zero, suc, _+_, _*_, _≤_, _<_}
 use mathlib.Core.Bool.{Bool, true, false}
-use mathlib.Core.List.{List, [], _∷_}
+use mathlib.Core.List.{List}
 use mathlib.Core.Logic.{_⊎_, ⊎-elim}
 use mathlib.Core.Path.{_≡_, refl, sym, ap, subst, _∙_}
 use native.Mathlib.Omega.{arith}
@@ -20,16 +20,16 @@ use Rattle.state.specs.Slots.{withSlot}
 use Rattle.state.specs.State.{withBell, withBoundaries, withOwner}
 use Rattle.state.specs.declared.state.Ehci.{Ehci}
 use Rattle.state.proofs.RangesLaws.{Ranges}
-use Rattle.pipe.specs.Endpoints.{encoded, withEndpoint}
+use Rattle.pipe.specs.Endpoints.{withEndpoint}
 use Rattle.pipe.specs.Kinds.{isControl, isInterrupt}
 use Rattle.pipe.specs.declared.endpoint.Endpoint.{Endpoint}
 use Rattle.pipe.specs.declared.endpoint.Request.{Request}
 use Rattle.pipe.specs.declared.endpoint.Endpoint.the-variants.{Closed, Idle, Linked, Unlinking}
-use Rattle.pipe.proofs.EndpointLaws.{LinkedGood, UnlinkingGood, Wide, bell-wide, endpoint-keeps, owner-wide, slot-wide}
+use Rattle.pipe.proofs.EndpointLaws.{LinkedGood, UnlinkingGood, bell-wide, endpoint-keeps, owner-wide, slot-wide}
 use Rattle.opening.proofs.RowLaws.{put-length}
 use Rattle.controller.proofs.ReaderLaws.{open-within}
-use Rattle.schedule.specs.Bell.{advancedOf, bellOf, fallenFrom}
-use Rattle.schedule.specs.Links.{attachedFrames, attachedRing, detachOf, endedOverlay, givenLink, linkWord, periodic, predecessorOf, startedOverlay}
+use Rattle.schedule.specs.Bell.{fallenFrom}
+use Rattle.schedule.specs.Links.{attachedFrames, attachedRing, detachOf, givenLink, linkWord, periodic, predecessorOf, startedOverlay}
 use Rattle.schedule.specs.declared.links.Predecessor.{Predecessor}
 use Rattle.schedule.specs.declared.links.Predecessor.the-variants.{First, Head, Missing}
 use Rattle.endpoint.specs.Calls.{newEndpoint}
@@ -43,9 +43,9 @@ use Rattle.collection.proofs.MoveLaws.{finish-long}
 use Rattle.collection.proofs.RangeLaws.{finish-keeps, mark-keeps, waiting-keeps}
 use Rattle.ehci.specs.declared.call.Call.{Call}
 use Rattle.ehci.specs.Door.{Applied}
-use Rattle.promises.specs.Runs.{Rows, World, leftBy, rowsOf}
-use Rattle.promises.proofs.Effects.{Accepts, Closes, Collected, Counts, Effect, Hears, Joins, Marks, Opens, Passes, Rewrites, Sides, Still, Unlinked, WritesBack, accepts, besides, closes, collects, counts, hears, joins, marks, opens, passes, rewrites, still, unlinks, writes-back}
-use Rattle.promises.proofs.Sound.{RowsSound, Sound, StateSound, both-sound, endpoint-sound, head-within, heads-sound, rows-sound, sides-sound, sides-wide, slot-below, slot-good, slot-low, state-sound}
+use Rattle.promises.specs.Runs.{World, leftBy}
+use Rattle.promises.proofs.Effects.{Accepts, Closes, Collected, Counts, Effect, Hears, Joins, Marks, Opens, Passes, Rewrites, Still, Unlinked, WritesBack, accepts, besides, closes, collects, counts, hears, joins, marks, opens, passes, rewrites, still, unlinks, writes-back}
+use Rattle.promises.proofs.Sound.{Sound, both-sound, endpoint-sound, head-within, heads-sound, rows-sound, sides-sound, sides-wide, slot-below, slot-good, slot-low, state-sound}
 
 -- ---- lengths
 

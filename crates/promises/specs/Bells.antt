@@ -1,10 +1,9 @@
 -- The doorbell, as the history tells it: rings, their answers, and unlinks by their numbers. No field of the state is read.
-use Prim.Native.Nat.{ℕ, _+_, _≤_, _<_}
+use Prim.Native.Nat.{ℕ, _+_}
 use mathlib.Core.Bool.{Bool, true, false, cond}
-use mathlib.Core.List.{List, [], _∷_, _++_}
+use mathlib.Core.List.{[], _∷_, _++_}
 use mathlib.Core.Path.{_≡_}
 use lib.Dec.{eqb}
-use lib.ListN.{length}
 use Rattle.settings.specs.Tests.{both, either}
 use Rattle.settings.specs.declared.settings.Settings.{Settings}
 use Rattle.token.specs.declared.request.EndpointType.{EndpointType}

@@ -1,8 +1,7 @@
 -- What happens in a turn, from the call, its answer, its register writes and the lent rows.
-use Prim.Native.Nat.{ℕ, _+_, _%_}
+use Prim.Native.Nat.{ℕ, _+_}
 use mathlib.Core.Bool.{Bool, true, false, not, cond}
 use mathlib.Core.List.{List, [], _∷_}
-use mathlib.Core.Path.{_≡_}
 use lib.Dec.{eqb}
 use Rattle.register.specs.Bits.{bit}
 use Rattle.register.specs.declared.writes.Write.{Write}
@@ -13,9 +12,8 @@ use Rattle.ehci.specs.declared.call.Call.{Call}
 use Rattle.ehci.specs.declared.call.Call.the-variants.{StartBringUp, BringUpStep, AllocateAddress, OpenEndpoint, Close, SetAddress, SetPacketSize, Submit, Writeback, Cancel, Collect, Acknowledge, Drain, Rearm, Enable, Disable}
 use Rattle.ehci.specs.declared.reply.Answered.{Answered}
 use Rattle.ehci.specs.declared.reply.Answered.the-variants.{Done, Pending, Cancelled, Failed, Refused}
-use Rattle.ehci.specs.declared.reply.Given.{Given}
 use Rattle.ehci.specs.declared.reply.Given.the-variants as G
-use Rattle.promises.specs.Runs.{History, Rows, Turn}
+use Rattle.promises.specs.Runs.{Turn}
 use Rattle.promises.specs.Walks.{frameWalk, isIn, ringWalk}
 
 -- ---- rings: "Only a ring .. writes 0x40"

@@ -3,4 +3,9 @@ pub mod Walks
 pub mod Events
 pub mod Uses
 pub mod Bells
+pub mod Checks
+pub mod Ranges
+pub mod Rooms
+pub mod Coverage
+pub mod Chains
 pub mod Boundaries

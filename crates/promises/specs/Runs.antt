@@ -73,3 +73,7 @@ pub record Opening (s : Settings) (w : World) : Type 0 where
   pub lent : Rows
   pub accepted : openOf s (lent .pool) (lent .heads) (lent .frames) (lent .setups) .opening .answer ≡ Done
   pub left : w ≡ worldOpened (openOf s (lent .pool) (lent .heads) (lent .frames) (lent .setups))
+
+-- in every world that any calls lead to from an accepted opening, of the calls so far
+abbrev pub Always : (Settings → History → World → Type 0) → Machine → Type 0
+Always P m = (s : Settings) (w : World) → Opening s w → (cs : List Call) → P s (historyOf m w cs) (worldOf m w cs)

@@ -1,6 +1,6 @@
 -- The requests that are accepted and not collected, and the heads in each schedule, as the history tells them.
 use Prim.Native.Nat.{ℕ, _+_}
-use mathlib.Core.Bool.{Bool, true, false, not, cond}
+use mathlib.Core.Bool.{Bool, not, cond}
 use mathlib.Core.List.{List, [], _∷_}
 use lib.Dec.{eqb}
 use Rattle.token.specs.Chunks.{needOf}

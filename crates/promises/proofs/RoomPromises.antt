@@ -1,0 +1,31 @@
+-- Room, exclusive places, chains of requests and coverage, of this port, over any calls from any accepted opening.
+use mathlib.Core.List.{List}
+use Rattle.settings.specs.declared.settings.Settings.{Settings}
+use Rattle.ehci.specs.declared.call.Call.{Call}
+use Rattle.promises.specs.Runs.{Opening, World, core, historyOf, worldOf}
+use Rattle.promises.specs.Rooms.{ChainsLead, ExclusivePlaces, RoomExact}
+use Rattle.promises.specs.Coverage.{Coverage}
+use Rattle.promises.proofs.EffectOf.{effect}
+use Rattle.promises.proofs.Reached.{reached}
+use Rattle.promises.proofs.Sound.{Sound}
+use Rattle.promises.proofs.UseInv.{Held}
+use Rattle.promises.proofs.UseHeld.{held-keeps, held-opens}
+use Rattle.promises.proofs.RoomLaws.{room-holds}
+use Rattle.promises.proofs.ExclusiveLaws.{exclusive-holds, led-holds}
+use Rattle.promises.proofs.CoverHolds.{covered-holds}
+
+-- the uses of every history are tied to its world
+pub held : (s : Settings) (w : World) → Opening s w → (cs : List Call) → Sound s (worldOf core w cs) × Held s (historyOf core w cs) (worldOf core w cs)
+held = reached Held held-opens held-keeps
+
+pub room-exact : RoomExact core
+room-exact s w o cs = let now = held s w o cs in room-holds s (historyOf core w cs) (worldOf core w cs) (now .0) (now .1)
+
+pub exclusive-places : ExclusivePlaces core
+exclusive-places s w o cs = let now = held s w o cs in exclusive-holds core effect s (historyOf core w cs) (worldOf core w cs) (now .0) (now .1)
+
+pub chains-lead : ChainsLead core
+chains-lead s w o cs = led-holds s (historyOf core w cs) (worldOf core w cs) (held s w o cs .1)
+
+pub buffers-covered : Coverage core
+buffers-covered s w o cs = covered-holds core effect s (historyOf core w cs) (worldOf core w cs) (held s w o cs .0)

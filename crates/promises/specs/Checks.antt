@@ -1,0 +1,127 @@
+-- Document 01, "Order of checks", call by call: what is asked, in its order, and what each answers. The first that holds answers.
+use Prim.Native.Nat.{ℕ, _+_}
+use mathlib.Core.Bool.{Bool, false, not}
+use mathlib.Core.List.{List, [], _∷_}
+use mathlib.Core.Path.{_≡_}
+use lib.Dec.{eqb, leb, ltb}
+use lib.ListN.{length}
+use Rattle.settings.specs.Tests.{both}
+use Rattle.state.specs.Slots.{slotAt}
+use Rattle.state.specs.declared.state.Ehci.{Ehci}
+use Rattle.pipe.specs.Endpoints.{endpointAt, kindNumber}
+use Rattle.pipe.specs.Kinds.{isIsochronous}
+use Rattle.pipe.specs.declared.endpoint.Endpoint.{Endpoint}
+use Rattle.pipe.specs.declared.endpoint.Endpoint.the-variants.{Closed, Idle, Linked, Unlinking}
+use Rattle.answer.specs.Answers.{Check, Verdict, first, passed, refused}
+use Rattle.answer.specs.declared.answer.Refusal.the-variants.{InvalidParameter, SlotLimitReached, InvalidEndpoint, QueueFull, NotSupported, NoMemory, Timeout, NotReady}
+use Rattle.controller.specs.Lent.{acceptsOf, lengths}
+use Rattle.controller.specs.Readers.{freeCount, isOpen, isUncollected}
+use Rattle.schedule.specs.Links.{detachOf}
+use Rattle.endpoint.specs.Calls.{fieldsGood, lowestSlot}
+use Rattle.request.specs.Submit.{needOfRequest, rangesGood}
+use Rattle.request.specs.Writeback.{inRequest}
+use Rattle.collection.specs.Calls.{crowded, wrongId}
+use Rattle.collection.specs.Unlinks.{isMissing}
+use Rattle.bring_up.specs.BringUp.{anyUncollected, ready, stageOf}
+use Rattle.ehci.specs.declared.call.Call.{Call}
+use Rattle.ehci.specs.declared.call.Call.the-variants.{StartBringUp, BringUpStep, AllocateAddress, OpenEndpoint, Close, SetAddress, SetPacketSize, Submit, Writeback, Cancel, Collect, Acknowledge, Drain, Rearm, Enable, Disable}
+use Rattle.ehci.specs.declared.reply.Answered.{Answered}
+use Rattle.ehci.specs.declared.reply.Answered.the-variants.{Done, Pending, Cancelled, Failed, Refused}
+use Rattle.ehci.specs.Decides.{asksOf}
+use Rattle.ehci.specs.Door.{seenBy}
+use Rattle.promises.specs.Runs.{Machine, World}
+
+-- "First: a lent row of a length other than opening fixed, or a state outside its ranges, 1."
+abbrev pub unfit : World → Bool
+unfit w =
+    not
+    (acceptsOf (w .state)
+    (lengths (length (w .rows .pool)) (length (w .rows .heads)) (length (w .rows .frames)) (length (w .rows .setups))))
+
+-- "the W-th read of a wait is not ready"
+abbrev pub late : Ehci → ℕ → Bool
+late s v = both (not (ready (stageOf (s .step)) v)) (not (ltb (s .waited + 1) (s .settings .wait)))
+
+-- no linked head leads to the slot's: only where a lent link was altered
+abbrev pub lost : World → ℕ → Bool
+lost w k = isMissing (detachOf (w .state) (w .rows .heads) (w .rows .frames) k .predecessor)
+
+abbrev pub lostAt : Endpoint → Bool → Bool
+lostAt Closed b = false
+lostAt (Idle p) b = false
+lostAt (Linked p r) b = b
+lostAt (Unlinking p r u) b = false
+
+-- a collect unlinks where no descriptor is active before an error
+abbrev pub finished : World → Call → Bool
+finished w c = not (eqb (seenBy (asksOf (w .state) (length (w .rows .pool)) c) (w .rows .pool) .stage) 2)
+
+abbrev pub furtherChecks : World → Call → List Check
+-- "Starting bring-up: 4."
+furtherChecks w StartBringUp = (anyUncollected 0 32 (w .state), QueueFull) ∷ []
+-- "a step with none begun (or after 7): 1"; 7
+furtherChecks w (BringUpStep v) = (eqb (w .state .step) 0, InvalidParameter) ∷ (late (w .state) v, Timeout) ∷ []
+-- "address after 127"
+furtherChecks w AllocateAddress = (ltb 127 (w .state .address), SlotLimitReached) ∷ []
+-- "Open endpoint: 5, then address .. (1), then 2"
+furtherChecks w (OpenEndpoint x) =
+    (isIsochronous (x .kind), NotSupported)
+    ∷ (not (fieldsGood (x .address) (x .number) (x .packet)), InvalidParameter)
+    ∷ (leb (w .state .settings .endpoints) (lowestSlot (w .state)), SlotLimitReached)
+    ∷ []
+-- "Close, set address (0..=127), set packet size: 3, 4, 1."
+furtherChecks w (Close k) = (not (isOpen (w .state) k), InvalidEndpoint) ∷ (isUncollected (w .state) k, QueueFull) ∷ []
+furtherChecks w (SetAddress k a) =
+    (not (isOpen (w .state) k), InvalidEndpoint)
+    ∷ (isUncollected (w .state) k, QueueFull)
+    ∷ (not (leb a 127), InvalidParameter)
+    ∷ []
+furtherChecks w (SetPacketSize k size) =
+    (not (isOpen (w .state) k), InvalidEndpoint) ∷ (isUncollected (w .state) k, QueueFull) ∷ []
+-- "Submit: slot open 3, running 8, nothing uncollected 4, isochronous 5, kind equals the slot's 3, ranges 1, room 6."
+furtherChecks w (Submit k t readings) =
+    (not (isOpen (w .state) k), InvalidEndpoint)
+    ∷ (eqb (w .state .running) 0, NotReady)
+    ∷ (isUncollected (w .state) k, QueueFull)
+    ∷ (isIsochronous (t .kind), NotSupported)
+    ∷ (not (eqb (kindNumber (t .kind)) (slotAt (w .state) k .kind)), InvalidEndpoint)
+    ∷ (not (rangesGood t), InvalidParameter)
+    ∷ (ltb (freeCount (w .state)) (needOfRequest (w .state) t), NoMemory)
+    ∷ []
+-- "Writeback (place, token): 1 unless an uncollected request has that descriptor"
+furtherChecks w (Writeback place token) = (not (inRequest (w .state) place), InvalidParameter) ∷ []
+-- "Cancel: 3 if not open, nothing uncollected, or wrong id." What stands before and after is met in no run (docs/DECISIONS.md)
+furtherChecks w (Cancel k id readings) =
+    (crowded (w .state) k, InvalidParameter)
+    ∷ (not (isOpen (w .state) k), InvalidEndpoint)
+    ∷ (not (isUncollected (w .state) k), InvalidEndpoint)
+    ∷ (wrongId (w .state) k id, InvalidEndpoint)
+    ∷ (lostAt (endpointAt (w .state) k) (lost w k), InvalidEndpoint)
+    ∷ []
+-- "Collect: 3 if not open; 9 if nothing uncollected; 3 on a wrong id." Likewise
+furtherChecks w (Collect k id readings) =
+    (crowded (w .state) k, InvalidParameter)
+    ∷ (not (isOpen (w .state) k), InvalidEndpoint)
+    ∷ (wrongId (w .state) k id, InvalidEndpoint)
+    ∷ (lostAt (endpointAt (w .state) k) (both (finished w (Collect k id readings)) (lost w k)), InvalidEndpoint)
+    ∷ []
+furtherChecks w (Acknowledge x) = []
+furtherChecks w (Drain command) = []
+furtherChecks w Rearm = []
+furtherChecks w Enable = []
+furtherChecks w Disable = []
+
+abbrev pub checksOf : World → Call → List Check
+checksOf w c = (unfit w, InvalidParameter) ∷ furtherChecks w c
+
+-- what an answer says of the checks
+abbrev pub verdictIn : Answered → Verdict
+verdictIn (Done given) = passed
+verdictIn Pending = passed
+verdictIn Cancelled = passed
+verdictIn (Failed token) = passed
+verdictIn (Refused r) = refused r
+
+-- for every world and call, and not only for those of a run
+abbrev pub InOrder : Machine → Type 0
+InOrder m = (w : World) (c : Call) → verdictIn (m w c .reply .answer) ≡ first (checksOf w c)

@@ -1,0 +1,59 @@
+-- Coverage: which bytes the descriptors of an accepted request address, as the controller reads them.
+use Prim.Native.Nat.{ℕ}
+use mathlib.Core.List.{List, [], _∷_, _++_, map}
+use mathlib.Core.Path.{_≡_}
+use lib.ListN.{getD}
+use Rattle.token.specs.EhciQtd.{totalBytes}
+use Rattle.token.specs.declared.request.EndpointType.{EndpointType}
+use Rattle.token.specs.declared.request.EndpointType.the-variants.{Control, Isochronous, Bulk, Interrupt}
+use Rattle.descriptor.specs.EhciQtd.{byteAddress}
+use Rattle.descriptor.specs.declared.qtd.QueueTransferDescriptor.{QueueTransferDescriptor}
+use Rattle.pool.specs.Chains.{blank}
+use Rattle.pool.specs.Places.{upFrom}
+use Rattle.settings.specs.declared.settings.Settings.{Settings}
+use Rattle.controller.specs.declared.lent.Readings.{Readings}
+use Rattle.request.specs.declared.judge.TransferRequest.{TransferRequest}
+use Rattle.ehci.specs.declared.call.Call.the-variants.{Submit}
+use Rattle.ehci.specs.declared.reply.Answered.the-variants.{Done}
+use Rattle.ehci.specs.declared.reply.Given.the-variants.{Id}
+use Rattle.promises.specs.Runs.{Always, History, Machine, Rows, World, rowsOf}
+use Rattle.promises.specs.Walks.{chainWalk}
+
+-- EHCI 3.5.3, 3.5.4: as many bytes as the token counts, each by the page words, with upper slots times 2^32
+abbrev pub bytesOf : QueueTransferDescriptor → List ℕ
+bytesOf d = map (byteAddress (d .pages) (d .upper)) (upFrom 0 (totalBytes (d .token)))
+
+abbrev pub addressed : List QueueTransferDescriptor → List ℕ
+addressed [] = []
+addressed (d ∷ ds) = bytesOf d ++ addressed ds
+
+-- all but the last, of a descriptor and those that follow it
+abbrev pub butLast : QueueTransferDescriptor → List QueueTransferDescriptor → List QueueTransferDescriptor
+butLast d [] = []
+butLast d (e ∷ es) = d ∷ butLast e es
+
+-- a control request's chain begins with its setup and ends with its status: its data is between
+abbrev pub between : List QueueTransferDescriptor → List QueueTransferDescriptor
+between [] = []
+between (setup ∷ []) = []
+between (setup ∷ d ∷ ds) = butLast d ds
+
+-- the descriptors for the buffer: of a control request those between setup and status, of any other all
+abbrev pub dataOf : EndpointType → List QueueTransferDescriptor → List QueueTransferDescriptor
+dataOf Control ds = between ds
+dataOf Isochronous ds = ds
+dataOf Bulk ds = ds
+dataOf Interrupt ds = ds
+
+-- the records that slot k's overlay leads through
+abbrev pub recordsMet : Settings → Rows → ℕ → List QueueTransferDescriptor
+recordsMet s rows k = map (λ p. getD (rows .pool) p blank) (chainWalk s rows k)
+
+-- at the exit of each accepted submit they address the call's own buffer, byte for byte: each byte once, in order, and no other
+abbrev pub Covered : Machine → Settings → History → World → Type 0
+Covered m s h w =
+    (k id : ℕ) (t : TransferRequest) (readings : Readings) → m w (Submit k t readings) .reply .answer ≡ Done (Id id)
+    → addressed (dataOf (t .kind) (recordsMet s (rowsOf (m w (Submit k t readings))) k)) ≡ upFrom (t .address) (t .length)
+
+abbrev pub Coverage : Machine → Type 0
+Coverage m = Always (Covered m) m
