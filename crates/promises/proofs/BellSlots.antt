@@ -18,7 +18,8 @@ use Rattle.pipe.specs.declared.endpoint.UnlinkBoundary.{UnlinkBoundary}
 use Rattle.pipe.specs.declared.endpoint.UnlinkBoundary.the-variants.{Async, Periodic}
 use Rattle.promises.specs.Runs.{History, Turn}
 use Rattle.promises.specs.Events.{Event, Other, Reads, Drains, Submits, Unlinks, Parts, Collects, event}
-use Rattle.promises.specs.Bells.{asked, collects, counted, idAfter, idOf, isCollectsOf, isPartsOf, isSubmitsOf, isUnlinksOf, kindAfter, kindAt, linked, number, parted, partedAt, parting, partsOf, renews, submits, unlinking, unlinksOf}
+use Rattle.promises.specs.Bells.{asked, collects, counted, isCollectsOf, isPartsOf, isSubmitsOf, isUnlinksOf, kindAfter, kindAt, linked, number, parted, partedAt, parting, partsOf, renews, submits, unlinking, unlinksOf}
+use Rattle.promises.specs.Chains.{idAfter, newestId}
 use Rattle.promises.proofs.BellWaiting.{fallen}
 
 -- ---- a slot
@@ -35,7 +36,7 @@ pub record Joined (s : Settings) (k : ℕ) (h : History) (p : Pipe) (r : Request
   pub in-ring : unlinking s k h ≡ false
   pub in-frames : parting s k h ≡ false
   pub kind-is : kindAt s k h ≡ p .kind
-  pub id-is : idOf s k h ≡ r .id
+  pub id-is : newestId s k h ≡ r .id
 
 -- one that left the ring and waits for n more advances, of u that are owed
 pub record Going (s : Settings) (k : ℕ) (h : History) (u : ℕ) (p : Pipe) (r : Request) (n : ℕ) : Type 0 where
@@ -43,7 +44,7 @@ pub record Going (s : Settings) (k : ℕ) (h : History) (u : ℕ) (p : Pipe) (r 
   pub going : unlinking s k h ≡ true
   pub in-frames : parting s k h ≡ false
   pub kind-is : kindAt s k h ≡ p .kind
-  pub id-is : idOf s k h ≡ r .id
+  pub id-is : newestId s k h ≡ r .id
   pub rings-for : isInterrupt (p .kind) ≡ false
   pub left : n ≡ number s k h - counted s h
   pub fits : n ≤ u
@@ -54,7 +55,7 @@ pub record Apart (s : Settings) (k : ℕ) (h : History) (p : Pipe) (r : Request)
   pub in-ring : unlinking s k h ≡ false
   pub apart : parting s k h ≡ true
   pub kind-is : kindAt s k h ≡ p .kind
-  pub id-is : idOf s k h ≡ r .id
+  pub id-is : newestId s k h ≡ r .id
   pub counts-frames : isInterrupt (p .kind) ≡ true
   pub from : start ≡ parted s k h % 16384
 
@@ -131,11 +132,11 @@ module _ (s : Settings) (k : ℕ) (t : Turn) (h : History) (a : Aside k (event s
       go (Parts j frame) e = refl
       go (Collects j id frame) e = refl
 
-  pub same-id : idOf s k (t ∷ h) ≡ idOf s k h
-  unfolding idOf
+  pub same-id : newestId s k (t ∷ h) ≡ newestId s k h
+  unfolding newestId
   same-id = go (event s t) (a .no-submit)
     where
-      go : (x : Event) → isSubmitsOf k x ≡ false → idAfter k x (idOf s k h) ≡ idOf s k h
+      go : (x : Event) → isSubmitsOf k x ≡ false → idAfter k x (newestId s k h) ≡ newestId s k h
       go Other e = refl
       go Reads e = refl
       go Drains e = refl

@@ -40,7 +40,7 @@ use Rattle.ehci.specs.declared.call.Call.{Call}
 use Rattle.ehci.specs.Door.{Applied}
 use Rattle.promises.specs.Runs.{History, Turn, World, leftBy, turnOf}
 use Rattle.promises.specs.Events.{Event, Other, Reads, Drains, Submits, Unlinks, Parts, Collects, event, rings, someRing}
-use Rattle.promises.specs.Bells.{Answered, Bell, Quiet, Rung, bell, drains, idOf, isAnswered, isDrains, isReads, isUnlinks, isUp, kindAt, linked, parting, reads, unlinking, unlinks}
+use Rattle.promises.specs.Bells.{Answered, Bell, Quiet, Rung, bell, drains, isAnswered, isDrains, isReads, isUnlinks, isUp, kindAt, linked, parting, reads, unlinking, unlinks}
 use Rattle.promises.proofs.Effects
 use Rattle.promises.proofs.Effects.{Effect, Sides, Still, Hears, Joins, Passes, Counts, Opens, Closes, Rewrites, Accepts, WritesBack, Marks, Unlinked, Collected, besides}
 use Rattle.promises.proofs.Sound.{Sound}

@@ -14,7 +14,8 @@ use Rattle.pipe.specs.declared.endpoint.Pipe.{Pipe}
 use Rattle.pipe.specs.declared.endpoint.Request.{Request}
 use Rattle.promises.specs.Runs.{History, Turn}
 use Rattle.promises.specs.Events.{Event, Submits, Unlinks, Parts, Collects, event}
-use Rattle.promises.specs.Bells.{asked, counted, idOf, isCollectsOf, isPartsOf, isSubmitsOf, isUnlinksOf, kindAt, linked, number, parted, parting, unlinking}
+use Rattle.promises.specs.Bells.{asked, counted, isCollectsOf, isPartsOf, isSubmitsOf, isUnlinksOf, kindAt, linked, number, parted, parting, unlinking}
+use Rattle.promises.specs.Chains.{newestId}
 use Rattle.promises.proofs.BellSlots.{Apart, Free, Going, Joined}
 
 module _ (s : Settings) (k : ℕ) (t : Turn) (h : History) where
@@ -23,7 +24,7 @@ module _ (s : Settings) (k : ℕ) (t : Turn) (h : History) where
 
   -- it is submitted to
   pub joined-now : (id : ℕ) (q : TransferRequest) → event s t ≡ Submits k id q → (p : Pipe) (r : Request) → q .kind ≡ p .kind → id ≡ r .id → Joined s k (t ∷ h) p r
-  unfolding linked unlinking parting kindAt idOf
+  unfolding linked unlinking parting kindAt newestId
   joined-now id q e p r kind same = record {
     on = rw (e, itself);
     in-ring = rw (e, itself);
@@ -35,7 +36,7 @@ module _ (s : Settings) (k : ℕ) (t : Turn) (h : History) where
   -- it leaves the ring
   pub going-now : event s t ≡ Unlinks k → (p : Pipe) (r q : Request) → Joined s k h p r → q .id ≡ r .id → isInterrupt (p .kind) ≡ false → (u : ℕ) → asked s h ≡ counted s h + u
       → counted s (t ∷ h) ≡ counted s h → Going s k (t ∷ h) (u + 1) p q (u + 1)
-  unfolding linked unlinking parting kindAt idOf number
+  unfolding linked unlinking parting kindAt newestId number
   going-now e p r q j same ring u owing still = record {
     off = rw (e, itself);
     going = rw (e, itself);
@@ -49,7 +50,7 @@ module _ (s : Settings) (k : ℕ) (t : Turn) (h : History) where
 
   -- it leaves the frame list
   pub apart-now : (frame : ℕ) → event s t ≡ Parts k frame → (p : Pipe) (r q : Request) → Joined s k h p r → q .id ≡ r .id → isInterrupt (p .kind) ≡ true → Apart s k (t ∷ h) p q (frame % 16384)
-  unfolding linked unlinking parting kindAt idOf parted
+  unfolding linked unlinking parting kindAt newestId parted
   apart-now frame e p r q j same frames = record {
     off = rw (e, itself);
     in-ring = rw e (j .in-ring);

@@ -39,6 +39,7 @@ use Rattle.promises.specs.Events.{event, isDone}
 use Rattle.promises.specs.Bells.{bell, cancelled, cancelsBy, isAnswered, isUp, linked, renews}
 use Rattle.promises.specs.Boundaries.{EveryRun, CancelledCollects, StateSays, Uncrowded}
 use Rattle.promises.proofs.EffectOf.{effect}
+use Rattle.promises.proofs.ChainCancels.{Roomy}
 use Rattle.promises.proofs.Sound.{Sound}
 use Rattle.promises.proofs.BellWaiting.{fallen, waitsFor}
 use Rattle.promises.proofs.BellSlots.{Leaving, Slot}
@@ -46,7 +47,7 @@ use Rattle.promises.proofs.BellInvariant.{BellInv, room}
 use Rattle.promises.proofs.BellSteps.{StateInv}
 use Rattle.promises.proofs.BellSummary.{Kept, Summary, summary}
 use Rattle.promises.proofs.BoundaryCalls.{Found, by-door, collect-found}
-use Rattle.promises.proofs.BoundaryCore.{NamedAlways, bells-reached}
+use Rattle.promises.proofs.BoundaryCore.{bells-reached, named}
 
 -- ---- the mark of a cancelled request
 
@@ -213,36 +214,39 @@ unfolding outcomeOf
 outcome-marked true v e = refl
 outcome-marked false v e = absurd (false≢true e)
 
-module _ (named : NamedAlways) where
-  marks-reached : (s : Settings) (w : World) → Opening s w → (cs : List Call) → MarkedInv s (historyOf core w cs) (worldOf core w cs .state)
-  unfolding worldOf historyOf cancelled
-  marks-reached s w o [] k e = absurd (false≢true e)
-  marks-reached s w o (c ∷ cs) k e =
-      let b = bells-reached named s w o cs in
-      let now = worldOf core w cs in
-      marks-keep s now c (historyOf core w cs) (b .0) (summary s now c (core now c) (historyOf core w cs) (b .0) (b .1) (effect now c) (named s w o cs c)) (marks-reached s w o cs) k e
+marks-reached : (s : Settings) (w : World) → Opening s w → (cs : List Call) → MarkedInv s (historyOf core w cs) (worldOf core w cs .state)
+unfolding worldOf historyOf cancelled
+marks-reached s w o [] k e = absurd (false≢true e)
+marks-reached s w o (c ∷ cs) k e =
+    let b = bells-reached s w o cs in
+    let now = worldOf core w cs in
+    marks-keep s now c (historyOf core w cs) (b .0) (summary s now c (core now c) (historyOf core w cs) (b .0) (b .1) (effect now c) (named s w o cs c)) (marks-reached s w o cs) k e
 
-  pub cancelled-collects : EveryRun CancelledCollects core
-  cancelled-collects s w o cs k id rd e done =
-      let x = collect-found (worldOf core w cs) k id rd done in
-      x .answer-is ∙ outcome-marked (x .r .cancelled) _ (sym (ap isMarked (x .unlinking)) ∙ marks-reached s w o cs k e)
+pub cancelled-collects : EveryRun CancelledCollects core
+cancelled-collects s w o cs k id rd e done =
+    let x = collect-found (worldOf core w cs) k id rd done in
+    x .answer-is ∙ outcome-marked (x .r .cancelled) _ (sym (ap isMarked (x .unlinking)) ∙ marks-reached s w o cs k e)
 
-  -- ---- what the state says
+-- ---- what the state says
 
-  pub state-says : EveryRun StateSays core
-  state-says s w o cs =
-      let b = bells-reached named s w o cs in
-      let r = b .0 .ranges in
-      (
-        b .1 .owing,
-        r .unanswered-most,
-        b .1 .up,
-        b .1 .up ∙ ap flagNumber (b .1 .owed),
-        b .1 .note,
-        r .noted-most,
-      )
+pub state-says : EveryRun StateSays core
+state-says s w o cs =
+    let b = bells-reached s w o cs in
+    let r = b .0 .ranges in
+    (
+      b .1 .owing,
+      r .unanswered-most,
+      b .1 .up,
+      b .1 .up ∙ ap flagNumber (b .1 .owed),
+      b .1 .note,
+      r .noted-most,
+    )
 
-  pub uncrowded : EveryRun Uncrowded core
-  uncrowded s w o cs k on =
-      let b = bells-reached named s w o cs in
-      omega (arith, b .1 .owing, has-room s (historyOf core w cs) (worldOf core w cs .state) (b .1) k on)
+pub uncrowded : EveryRun Uncrowded core
+uncrowded s w o cs k on =
+    let b = bells-reached s w o cs in
+    omega (arith, b .1 .owing, has-room s (historyOf core w cs) (worldOf core w cs .state) (b .1) k on)
+
+-- so no unlink of a linked slot is refused for want of a number
+pub roomy : Roomy
+roomy s w o cs k p r at = linked-room s (historyOf core w cs) (worldOf core w cs .state) (bells-reached s w o cs .1) k p r at

@@ -1,4 +1,4 @@
--- The statements of specs/Boundaries.antt, of `core`; `named` is the promise on chains: which schedule an unlinked head leaves.
+-- The statements of specs/Boundaries.antt, of `core`.
 use Prim.Native.Nat.{ℕ, suc, _+_, _-_, _%_, _≤_, _<_}
 use mathlib.Core.Bool.{Bool, true, false, cond, true≢false, false≢true}
 use mathlib.Core.List.{List, [], _∷_}
@@ -25,13 +25,16 @@ use Rattle.ehci.specs.declared.call.Call.{Call}
 use Rattle.ehci.specs.declared.call.Call.the-variants.{Collect}
 use Rattle.promises.specs.Runs.{History, Opening, Turn, World, core, historyOf, turnOf, worldOf}
 use Rattle.promises.specs.Events.{Event, Other, Reads, Drains, Submits, Unlinks, Parts, Collects, event, isCollected}
-use Rattle.promises.specs.Bells.{asked, bell, counted, idOf, isPartsOf, isSubmitsOf, isUnlinksOf, isUp, kindAt, linked, number, parted, parting, unlinking}
+use Rattle.promises.specs.Bells.{asked, bell, counted, isPartsOf, isSubmitsOf, isUnlinksOf, isUp, kindAt, linked, number, parted, parting, unlinking}
+use Rattle.promises.specs.Chains.{newestId}
 use Rattle.promises.specs.Boundaries.{EveryRun, BoundaryKept, BoundaryNumbered, Exact, FramesKept, NineOn, OnePasses, OnlyAnswered, Orderly, PassesExactly, UpExactly, Waits}
 use Rattle.promises.proofs.Effects.{Unlinked}
 use Rattle.promises.proofs.EffectOf.{effect}
 use Rattle.promises.proofs.Reached.{opening-is, sound-opens}
 use Rattle.promises.proofs.Sound.{Sound}
 use Rattle.promises.proofs.SoundKeeps.{sound-keeps}
+use Rattle.promises.proofs.ChainEvents.{unlink-event}
+use Rattle.promises.proofs.ChainRuns.{chained}
 use Rattle.promises.proofs.BellSlots.{Aside, Leaving, Slot}
 use Rattle.promises.proofs.BellInvariant.{BellInv, opening-inv}
 use Rattle.promises.proofs.BellFacts.{fresh-closed}
@@ -66,10 +69,10 @@ module _ (s : Settings) (h : History) (w : World) (sound : Sound s w) (g : State
     Collectable = isCollected (core w (Collect k id rd) .reply .answer) ≡ true
 
     abbrev ByNumber : Type 0
-    ByNumber = (unlinking s k h ≡ true) × (id ≡ idOf s k h) × (number s k h ≤ counted s h)
+    ByNumber = (unlinking s k h ≡ true) × (id ≡ newestId s k h) × (number s k h ≤ counted s h)
 
     abbrev ByFrames : Type 0
-    ByFrames = (parting s k h ≡ true) × (id ≡ idOf s k h) × NineOn (parted s k h) (rd .frame)
+    ByFrames = (parting s k h ≡ true) × (id ≡ newestId s k h) × NineOn (parted s k h) (rd .frame)
 
     slot-of : (x : Endpoint) → endpointAt (w .state) k ≡ x → Slot s k h (w .state .unanswered) x
     slot-of x e = subst (Slot s k h (w .state .unanswered)) e (g .slot k)
@@ -179,51 +182,53 @@ module _ (s : Settings) (h : History) (w : World) (sound : Sound s w) (g : State
 
 -- ---- of a run
 
-abbrev pub NamedAlways : Type 0
-NamedAlways = (s : Settings) (w : World) → Opening s w → (cs : List Call) (c : Call)
+-- which schedule an unlinked head leaves
+pub named : (s : Settings) (w : World) → Opening s w → (cs : List Call) (c : Call)
     → (x : Unlinked (worldOf core w cs) c (core (worldOf core w cs) c)) → Named s (worldOf core w cs) c (core (worldOf core w cs) c) x
+named s w o cs c x =
+    let at = chained s w o cs in
+    unlink-event s (historyOf core w cs) (worldOf core w cs) c (core (worldOf core w cs) c) (at .0) (at .1) x
 
-module _ (named : NamedAlways) where
-  pub bells-reached : (s : Settings) (w : World) → Opening s w → (cs : List Call) → Sound s (worldOf core w cs) × StateInv s (historyOf core w cs) (worldOf core w cs .state)
-  unfolding worldOf historyOf
-  bells-reached s w o [] = (sound-opens s w o, bells-open s w o)
-  bells-reached s w o (c ∷ cs) =
-      let before = bells-reached s w o cs in
-      let now = worldOf core w cs in
-      (
-        sound-keeps s now c (core now c) (before .0) (effect now c),
-        bells-keep s now c (core now c) (historyOf core w cs) (before .0) (before .1) (effect now c) (named s w o cs c),
-      )
+pub bells-reached : (s : Settings) (w : World) → Opening s w → (cs : List Call) → Sound s (worldOf core w cs) × StateInv s (historyOf core w cs) (worldOf core w cs .state)
+unfolding worldOf historyOf
+bells-reached s w o [] = (sound-opens s w o, bells-open s w o)
+bells-reached s w o (c ∷ cs) =
+    let before = bells-reached s w o cs in
+    let now = worldOf core w cs in
+    (
+      sound-keeps s now c (core now c) (before .0) (effect now c),
+      bells-keep s now c (core now c) (historyOf core w cs) (before .0) (before .1) (effect now c) (named s w o cs c),
+    )
 
-  pub exact : EveryRun Exact core
-  exact s w o cs k id rd = let b = bells-reached s w o cs in exact-now s (historyOf core w cs) (worldOf core w cs) (b .0) (b .1) k id rd
+pub exact : EveryRun Exact core
+exact s w o cs k id rd = let b = bells-reached s w o cs in exact-now s (historyOf core w cs) (worldOf core w cs) (b .0) (b .1) k id rd
 
-  pub up-exactly : EveryRun UpExactly core
-  up-exactly s w o cs = let b = bells-reached s w o cs in up-now s (historyOf core w cs) (worldOf core w cs) (b .0) (b .1)
+pub up-exactly : EveryRun UpExactly core
+up-exactly s w o cs = let b = bells-reached s w o cs in up-now s (historyOf core w cs) (worldOf core w cs) (b .0) (b .1)
 
-  pub orderly : EveryRun Orderly core
-  orderly s w o cs c k =
-      let b = bells-reached s w o cs in
-      let now = worldOf core w cs in
-      orderly-now s (historyOf core w cs) now (b .0) (b .1) c (summary s now c (core now c) (historyOf core w cs) (b .0) (b .1) (effect now c) (named s w o cs c)) k
+pub orderly : EveryRun Orderly core
+orderly s w o cs c k =
+    let b = bells-reached s w o cs in
+    let now = worldOf core w cs in
+    orderly-now s (historyOf core w cs) now (b .0) (b .1) c (summary s now c (core now c) (historyOf core w cs) (b .0) (b .1) (effect now c) (named s w o cs c)) k
 
-  pub by-number-alone : EveryRun PassesExactly core
-  by-number-alone s w o = passes-exactly core s w (orderly s w o) (exact s w o)
+pub by-number-alone : EveryRun PassesExactly core
+by-number-alone s w o = passes-exactly core s w (orderly s w o) (exact s w o)
 
-  pub boundary-kept : EveryRun BoundaryKept core
-  boundary-kept s w o = boundary core s w (exact s w o) (up-exactly s w o)
+pub boundary-kept : EveryRun BoundaryKept core
+boundary-kept s w o = boundary core s w (exact s w o) (up-exactly s w o)
 
-  pub boundary-numbered : EveryRun BoundaryNumbered core
-  boundary-numbered s w o = by-numbers core s w (boundary-kept s w o)
+pub boundary-numbered : EveryRun BoundaryNumbered core
+boundary-numbered s w o = by-numbers core s w (boundary-kept s w o)
 
-  pub frames-counted : EveryRun FramesKept core
-  frames-counted s w o = frames-kept core s w (exact s w o)
+pub frames-counted : EveryRun FramesKept core
+frames-counted s w o = frames-kept core s w (exact s w o)
 
-  pub one-at-a-time : EveryRun OnePasses core
-  one-at-a-time s w o = one-passes core s w (by-number-alone s w o) (up-exactly s w o)
+pub one-at-a-time : EveryRun OnePasses core
+one-at-a-time s w o = one-passes core s w (by-number-alone s w o) (up-exactly s w o)
 
-  pub only-answered : EveryRun OnlyAnswered core
-  only-answered s w o = answered-only core s w (by-number-alone s w o) (up-exactly s w o)
+pub only-answered : EveryRun OnlyAnswered core
+only-answered s w o = answered-only core s w (by-number-alone s w o) (up-exactly s w o)
 
-  pub order-13 : EveryRun Waits core
-  order-13 s w o = waits core s w (by-number-alone s w o) (up-exactly s w o) (orderly s w o)
+pub order-13 : EveryRun Waits core
+order-13 s w o = waits core s w (by-number-alone s w o) (up-exactly s w o) (orderly s w o)

@@ -13,7 +13,8 @@ use Rattle.controller.specs.declared.lent.Readings.{Readings}
 use Rattle.ehci.specs.declared.call.Call.{Call}
 use Rattle.promises.specs.Runs.{History, Machine, Turn, World, historyOf}
 use Rattle.promises.specs.Events.{Event, Other, Reads, Drains, Submits, Unlinks, Parts, Collects, event}
-use Rattle.promises.specs.Bells.{counted, idOf, isCollectsOf, isSubmitsOf, isUnlinksOf, kindAfter, kindAt, number, renews, unlinking, unlinksOf}
+use Rattle.promises.specs.Bells.{counted, isCollectsOf, isSubmitsOf, isUnlinksOf, kindAfter, kindAt, number, renews, unlinking, unlinksOf}
+use Rattle.promises.specs.Chains.{newestId}
 use Rattle.promises.specs.Boundaries.{Exact, FramesKept, Orderly, PassesExactly, past, turn}
 
 -- a turn that does not submit to k leaves the kind of its request
@@ -63,9 +64,9 @@ module _ (m : Machine) (s : Settings) (w : World) (orderly : Orderly m s w) wher
     λ p. let e = exact cs k (p .1) (p .2) .0 (unlinking-kind cs k (p .0)) .0 (p .3) in (e .0, e .2),
     λ q. (
       q .0,
-      idOf s k (past m s w cs),
+      newestId s k (past m s w cs),
       none-read,
-      exact cs k (idOf s k (past m s w cs)) none-read .0 (unlinking-kind cs k (q .0)) .1 (q .0, refl, q .1),
+      exact cs k (newestId s k (past m s w cs)) none-read .0 (unlinking-kind cs k (q .0)) .1 (q .0, refl, q .1),
     ),
   )
     where

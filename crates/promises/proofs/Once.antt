@@ -15,7 +15,7 @@ use Rattle.controller.specs.declared.lent.Readings.{Readings}
 use Rattle.ehci.specs.declared.call.Call.{Call}
 use Rattle.promises.specs.Runs.{History, Machine, Turn, World, historyOf}
 use Rattle.promises.specs.Events.{Event, Other, Reads, Drains, Submits, Unlinks, Parts, Collects, event, rings}
-use Rattle.promises.specs.Bells.{Answered, Bell, Quiet, Rung, asked, bell, collects, counted, drains, idOf, isAnswered, isDrains, isReads, isUnlinks, isUnlinksOf, isUp, next, none, number, reads, renews, someTurn, unlinking, unlinks, unlinksOf}
+use Rattle.promises.specs.Bells.{Answered, Bell, Quiet, Rung, asked, bell, collects, counted, drains, isAnswered, isDrains, isReads, isUnlinks, isUnlinksOf, isUp, next, none, number, reads, renews, someTurn, unlinking, unlinks, unlinksOf}
 use Rattle.promises.specs.Boundaries.{Exact, Once, OnePasses, OnlyAnswered, Passes, PassesExactly, UpExactly, past, turn}
 
 -- ---- of any history

@@ -168,7 +168,7 @@ number s k (t ∷ past) = cond (unlinksOf s k t) (asked s past + 1) (number s k 
 
 -- ---- a slot's request
 
--- its kind and its id: those of the last one that was accepted
+-- its kind: that of the last one that was accepted
 abbrev pub kindAfter : ℕ → Event → EndpointType → EndpointType
 kindAfter k Other old = old
 kindAfter k Reads old = old
@@ -181,19 +181,6 @@ kindAfter k (Collects j id frame) old = old
 unfoldable pub kindAt : Settings → ℕ → History → EndpointType
 kindAt s k [] = Control
 kindAt s k (t ∷ past) = kindAfter k (event s t) (kindAt s k past)
-
-abbrev pub idAfter : ℕ → Event → ℕ → ℕ
-idAfter k Other old = old
-idAfter k Reads old = old
-idAfter k Drains old = old
-idAfter k (Submits j id r) old = cond (eqb j k) id old
-idAfter k (Unlinks j) old = old
-idAfter k (Parts j frame) old = old
-idAfter k (Collects j id frame) old = old
-
-unfoldable pub idOf : Settings → ℕ → History → ℕ
-idOf s k [] = 0
-idOf s k (t ∷ past) = idAfter k (event s t) (idOf s k past)
 
 -- it was accepted, and its head has left no schedule since
 unfoldable pub linked : Settings → ℕ → History → Bool

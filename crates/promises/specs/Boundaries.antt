@@ -16,7 +16,8 @@ use Rattle.ehci.specs.declared.reply.Answered.{Answered}
 use Rattle.ehci.specs.declared.reply.Answered.the-variants.{Cancelled}
 use Rattle.promises.specs.Runs.{History, Machine, Opening, Turn, World, historyOf, turnOf, worldOf}
 use Rattle.promises.specs.Events.{isCollected, rings}
-use Rattle.promises.specs.Bells.{Boundary, asked, bell, cancelled, collects, counted, idOf, isAnswered, isUp, kindAt, linked, none, number, parted, parting, partsOf, reads, someTurn, submits, unlinking, unlinksOf}
+use Rattle.promises.specs.Bells.{Boundary, asked, bell, cancelled, collects, counted, isAnswered, isUp, kindAt, linked, none, number, parted, parting, partsOf, reads, someTurn, submits, unlinking, unlinksOf}
+use Rattle.promises.specs.Chains.{newestId}
 
 -- ---- by numbers: t is turn number n of h, so n turns are older
 
@@ -88,9 +89,9 @@ module _ (m : Machine) (s : Settings) (w : World) where
   abbrev pub Exact : Type 0
   Exact = (cs : List Call) (k id : ℕ) (readings : Readings)
       → (isInterrupt (kindAt s k (past cs)) ≡ false
-      → Collectable cs k id readings ↔ ((unlinking s k (past cs) ≡ true) × (id ≡ idOf s k (past cs)) × (number s k (past cs) ≤ counted s (past cs))))
+      → Collectable cs k id readings ↔ ((unlinking s k (past cs) ≡ true) × (id ≡ newestId s k (past cs)) × (number s k (past cs) ≤ counted s (past cs))))
       × (isInterrupt (kindAt s k (past cs)) ≡ true
-      → Collectable cs k id readings ↔ ((parting s k (past cs) ≡ true) × (id ≡ idOf s k (past cs)) × NineOn (parted s k (past cs)) (readings .frame)))
+      → Collectable cs k id readings ↔ ((parting s k (past cs) ≡ true) × (id ≡ newestId s k (past cs)) × NineOn (parted s k (past cs)) (readings .frame)))
 
   -- so a request that left the ring passes exactly where the advances counted have reached its number
   abbrev pub PassesExactly : Type 0
