@@ -52,3 +52,4 @@ pub mod BoundaryCalls
 pub mod BellSummary
 pub mod BoundaryCore
 pub mod BoundaryCancels
+pub mod FaultHolds

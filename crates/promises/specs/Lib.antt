@@ -9,3 +9,4 @@ pub mod Rooms
 pub mod Coverage
 pub mod Chains
 pub mod Boundaries
+pub mod Faults
