@@ -88,7 +88,7 @@ carried us us′ b b′ f f′ rung e one (x ∷ xs) a = go (isForgotten (x .slo
 
 -- ---- what a hold keeps
 
-fits-kept : (b : Bell) (x y : Endpoint) (c : Reach) → Kept x y → Fits b x c → Fits b y c
+pub fits-kept : (b : Bell) (x y : Endpoint) (c : Reach) → Kept x y → Fits b x c → Fits b y c
 fits-kept b x y c (Kept.same e) g = subst (λ (z : Endpoint). Fits b z c) (sym e) g
 fits-kept b x y c (Kept.bare h i) g = absurd (none x h g)
   where
@@ -100,7 +100,7 @@ fits-kept b x y c (Kept.bare h i) g = absurd (none x h g)
 fits-kept b x y c (Kept.marks p r u h i) g = subst (λ (z : Endpoint). Fits b z c) (sym i) (subst (λ (z : Endpoint). Fits b z c) h g)
 
 -- a turn that is not about k, and does not ring, leaves its hold where it was
-farther-aside : (k : ℕ) (e : Event) (c : Reach) → isUnlinksOf k e ≡ false → isPartsOf k e ≡ false → farther k false e c ≡ c
+pub farther-aside : (k : ℕ) (e : Event) (c : Reach) → isUnlinksOf k e ≡ false → isPartsOf k e ≡ false → farther k false e c ≡ c
 farther-aside k e Met u p = go e u p
   where
     go : (e : Event) → isUnlinksOf k e ≡ false → isPartsOf k e ≡ false → departed k false e ≡ Met
@@ -115,7 +115,7 @@ farther-aside k e Unrung u p = refl
 farther-aside k e Unanswered u p = refl
 farther-aside k e (Since start) u p = refl
 
-uses-aside : (s : Settings) (t : Turn) (us : List Use) (e : Event) → ((k : ℕ) → Aside k e) → usesAfter s t e us ≡ us
+pub uses-aside : (s : Settings) (t : Turn) (us : List Use) (e : Event) → ((k : ℕ) → Aside k e) → usesAfter s t e us ≡ us
 uses-aside s t us Other a = refl
 uses-aside s t us Reads a = refl
 uses-aside s t us Drains a = refl
@@ -124,7 +124,7 @@ uses-aside s t us (Unlinks j) a = refl
 uses-aside s t us (Parts j frame) a = refl
 uses-aside s t us (Collects j id frame) a = absurd (true≢false (sym (eq-eqb j j refl) ∙ a j .no-collect))
 
-joined-aside : (s : Settings) (t : Turn) (xs : List Hold) (e : Event) → ((k : ℕ) → Aside k e) → joined s t e xs ≡ xs
+pub joined-aside : (s : Settings) (t : Turn) (xs : List Hold) (e : Event) → ((k : ℕ) → Aside k e) → joined s t e xs ≡ xs
 joined-aside s t xs Other a = refl
 joined-aside s t xs Reads a = refl
 joined-aside s t xs Drains a = refl
@@ -134,7 +134,7 @@ joined-aside s t xs (Parts j frame) a = refl
 joined-aside s t xs (Collects j id frame) a = refl
 
 -- a collection of another slot leaves the use
-used-stays : (k id j : ℕ) (places : List ℕ) (us : List Use) → (j ≡ k → ⊥) → usedBy j places us → usedBy j places (without k id us)
+pub used-stays : (k id j : ℕ) (places : List ℕ) (us : List Use) → (j ≡ k → ⊥) → usedBy j places us → usedBy j places (without k id us)
 used-stays k id j places [] ne g = g
 used-stays k id j places (u ∷ us) ne g = go (isOf k id u) refl g (used-stays k id j places us ne)
   where
@@ -150,18 +150,24 @@ used-stays k id j places (u ∷ us) ne g = go (isOf k id u) refl g (used-stays k
     go false q (inr h) rec = inr (rec h)
 
 -- the bell after a turn that rings
-bell-rings : (s : Settings) (t : Turn) (h : History) → rings t ≡ true → bell s (t ∷ h) ≡ Rung
+pub bell-rings : (s : Settings) (t : Turn) (h : History) → rings t ≡ true → bell s (t ∷ h) ≡ Rung
 unfolding bell
 bell-rings s t h e = rw e
 
--- a hold of which no ring is awaited does not go by the bell
-fits-any : (b b′ : Bell) (x : Endpoint) (c : Reach) → (c ≡ Unanswered → ⊥) → Fits b x c → Fits b′ x c
+-- a hold that awaits no answer does not go by the bell
+abbrev pub awaits : Reach → Bool
+awaits Met = false
+awaits Unrung = false
+awaits Unanswered = true
+awaits (Since start) = false
+
+pub fits-any : (b b′ : Bell) (x : Endpoint) (c : Reach) → awaits c ≡ false → Fits b x c → Fits b′ x c
 fits-any b b′ Closed c n g = g
 fits-any b b′ (Idle p) c n g = g
 fits-any b b′ (Linked p r) c n g = g
 fits-any b b′ (Unlinking p r (Async m)) Met n g = g
 fits-any b b′ (Unlinking p r (Async m)) Unrung n g = g
-fits-any b b′ (Unlinking p r (Async m)) Unanswered n g = absurd (n refl)
+fits-any b b′ (Unlinking p r (Async m)) Unanswered n g = absurd (true≢false n)
 fits-any b b′ (Unlinking p r (Async m)) (Since start) n g = g
 fits-any b b′ (Unlinking p r (Periodic m)) c n g = frames c g
   where

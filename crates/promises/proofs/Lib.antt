@@ -53,3 +53,4 @@ pub mod BellSummary
 pub mod BoundaryCore
 pub mod BoundaryCancels
 pub mod FaultHolds
+pub mod FaultSteps
