@@ -54,3 +54,4 @@ pub mod BoundaryCore
 pub mod BoundaryCancels
 pub mod FaultHolds
 pub mod FaultSteps
+pub mod FaultTheorem
