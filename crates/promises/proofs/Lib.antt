@@ -55,3 +55,4 @@ pub mod BoundaryCancels
 pub mod FaultHolds
 pub mod FaultSteps
 pub mod FaultTheorem
+pub mod WrongRuns
