@@ -56,3 +56,4 @@ pub mod FaultHolds
 pub mod FaultSteps
 pub mod FaultTheorem
 pub mod WrongRuns
+pub mod WrongBells
