@@ -57,3 +57,4 @@ pub mod FaultSteps
 pub mod FaultTheorem
 pub mod WrongRuns
 pub mod WrongBells
+pub mod WrongEarly

@@ -1,45 +1,32 @@
--- 000's three faults, as machines made from `core`: the statements on boundaries, and that no place is given too soon, are false of them.
+-- 000's three faults, as machines made from `core`; runs call by call; and a test for the picture of a boundary.
 use Prim.Native.Nat.{ℕ}
-use mathlib.Core.Path.{_≡_, refl, sym, ap, subst, _∙_}
-use mathlib.Core.Bool.{Bool, true, false, not, true≢false, false≢true}
+use mathlib.Core.Path.{_≡_, refl, sym, ap, _∙_}
+use mathlib.Core.Bool.{Bool, true, false, not}
 use mathlib.Core.List.{List, [], _∷_, _++_}
 use lib.Dec.{eqb}
-use lib.ListN.{getD, replicate}
-use Rattle.register.specs.Bits.{anyOf, bit, withBits}
-use Rattle.register.specs.Writes.{andThen, noWrites}
+use Rattle.register.specs.Bits.{anyOf}
 use Rattle.settings.specs.Tests.{both, either}
 use Rattle.settings.specs.declared.settings.Settings.{Settings}
 use Rattle.state.specs.State.{withBell}
 use Rattle.state.specs.declared.state.Ehci.{Ehci}
-use Rattle.pipe.specs.Kinds.{isInterrupt}
-use Rattle.schedule.specs.Bell.{commandWord, ringWord}
-use Rattle.interrupt.specs.Interrupts.{acknowledgeWrites, maskWord}
 use Rattle.ehci.specs.declared.call.Call.{Call}
-use Rattle.ehci.specs.declared.call.Call.the-variants.{Cancel, Collect, Drain}
-use Rattle.ehci.specs.declared.reply.Answered.the-variants.{Done, Cancelled}
-use Rattle.ehci.specs.declared.reply.Given.the-variants as G
-use Rattle.ehci.specs.declared.reply.Event.the-variants as E
 use Rattle.ehci.specs.Door.{Applied, applied}
 use Rattle.promises.specs.Runs.{History, Machine, Turn, World, core, historyOf, leftBy, turnOf, worldOf}
-use Rattle.promises.specs.Walks.{chainWalk, ringWalk, walkFrom}
-use Rattle.promises.specs.Events.{event, isCollected, rings}
-use Rattle.promises.specs.Bells.{Boundary, kindAt, none, reads, unlinksOf}
-use Rattle.promises.specs.Boundaries.{BoundaryKept, EveryRun}
-use Rattle.promises.specs.Faults.{NeverGiven, holds, isHeld, mayRead}
-use Rattle.promises.proofs.Reached.{freshWorld}
-use Rattle.promises.proofs.WrongRuns.{acknowledges, apartFirst, apartOne, apartTwo, collected, collected-second, drained, drained-first, drained-second, freeOne, freeSecond, heard, heard-two, againOne, againSecond, isDrain, linked, linkedOne, linkedTwo, one, openedTwo, opening, reading, readsAdvance, replies, request, small, stateOf, submits, submitted, submitted-again, submitted-second, submitted-two, two, unlinked, unlinked-first, unlinked-second, up-world, upCalls, waits}
+use Rattle.promises.specs.Events.{rings}
+use Rattle.promises.specs.Bells.{Boundary, none, reads, unlinksOf}
+use Rattle.promises.proofs.WrongRuns.{Plainly, isDrain, readsAdvance}
 
 -- ---- machines
 
 -- the same but for its note
-abbrev noting : ℕ → Ehci → Ehci
+abbrev pub noting : ℕ → Ehci → Ehci
 noting n s = withBell s n (s .doorbell) (s .unanswered)
 
-abbrev noteBefore : Bool → ℕ → World → World
+abbrev pub noteBefore : Bool → ℕ → World → World
 noteBefore true n w = record { state = noting n (w .state); rows = w .rows }
 noteBefore false n w = w
 
-abbrev noteAfter : Bool → Applied → Applied
+abbrev pub noteAfter : Bool → Applied → Applied
 noteAfter true a =
     applied (record { state = noting 1 (a .reply .state); answer = a .reply .answer; writes = a .reply .writes }) (a .pool) (a .heads) (a .frames) (a .setups)
 noteAfter false a = a
@@ -49,7 +36,7 @@ abbrev pub twice : Machine
 twice w c = noteAfter (both (isDrain c) (both (eqb (w .state .noted) 1) (anyOf (w .state .pending) 4))) (core w c)
 
 -- an advance is noted with the doorbell down, too; such a note waits for the next ring
-abbrev isEarly : World → Bool
+abbrev pub isEarly : World → Bool
 isEarly w = both (eqb (w .state .noted) 1) (eqb (w .state .doorbell) 0)
 
 abbrev pub early : Machine
@@ -62,11 +49,11 @@ any w c = core (noteBefore (both (isDrain c) (both (eqb (w .state .doorbell) 1) 
 -- ---- a run, call by call
 
 module _ (m : Machine) (w : World) (cs : List Call) (c : Call) (now : World) (a : Applied) (e : worldOf m w cs ≡ now) (q : m now c ≡ a) where
-  goes-on : worldOf m w (c ∷ cs) ≡ leftBy a
+  pub goes-on : worldOf m w (c ∷ cs) ≡ leftBy a
   unfolding worldOf
   goes-on = ap (λ (x : World). leftBy (m x c)) e ∙ ap leftBy q
 
-  is-told : (past : History) → historyOf m w cs ≡ past → historyOf m w (c ∷ cs) ≡ turnOf (now .rows) c a ∷ past
+  pub is-told : (past : History) → historyOf m w cs ≡ past → historyOf m w (c ∷ cs) ≡ turnOf (now .rows) c a ∷ past
   unfolding historyOf
   is-told past h =
       ap (λ (x : World). turnOf (x .rows) c (m x c) ∷ historyOf m w cs) e
@@ -76,11 +63,11 @@ module _ (m : Machine) (w : World) (cs : List Call) (c : Call) (now : World) (a 
 -- ---- a test for the picture of a boundary
 
 module _ (s : Settings) (k : ℕ) where
-  abbrev ring? : History → Bool
+  abbrev pub ring? : History → Bool
   ring? [] = false
   ring? (t ∷ h) = either (rings t) (both (not (reads s t)) (both (not (unlinksOf s k t)) (ring? h)))
 
-  abbrev boundary? : History → Bool
+  abbrev pub boundary? : History → Bool
   boundary? [] = false
   boundary? (t ∷ h) = both (not (unlinksOf s k t)) (either (both (reads s t) (ring? h)) (boundary? h))
 
@@ -98,5 +85,16 @@ module _ (s : Settings) (k : ℕ) where
   boundary-found (t ∷ since) ack between ring before r a q u =
       rw (u .0, boundary-found since ack between ring before r a q (u .1)) (either-true (both (reads s t) (ring? (since ++ ack ∷ between ++ ring ∷ before))))
 
-  found : (h : History) → Boundary s k h → boundary? h ≡ true
+  pub found : (h : History) → Boundary s k h → boundary? h ≡ true
   found h b = ap boundary? (b .picture) ∙ boundary-found (b .since) (b .ack) (b .between) (b .ring) (b .before) (b .rung) (b .read) (b .first) (b .unlinked-by-then)
+
+-- ---- with no note, and in no drain and no acknowledgment that reads the advance bit, they do as `core` does
+
+pub twice-plainly : Plainly twice
+twice-plainly w c d r n = rw d
+
+pub early-plainly : Plainly early
+early-plainly w c d r n = rw (r, n)
+
+pub any-plainly : Plainly any
+any-plainly w c d r n = rw d
