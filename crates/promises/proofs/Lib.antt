@@ -58,3 +58,4 @@ pub mod FaultTheorem
 pub mod WrongRuns
 pub mod WrongBells
 pub mod WrongEarly
+pub mod WrongTwice
