@@ -193,7 +193,7 @@ module _ (s : Settings) (w : World) (c : Call) (a : Applied) (h : History) (soun
       let st = withRung old rung .state in
       let rang : rings turn ≡ leb 1 (old .unanswered - 1) = ap (λ (y : Writes). someRing (listOf y)) (x .writes-are) ∙ advance-rings b (x .command) in
       let falls : (k : ℕ) → endpointAt (a .reply .state) k ≡ fallen (endpointAt old k) =
-          λ k. at (besides st (x .sides)) (x .state-is) k ∙ besides-aside st (x .sides) k ∙ all-fall old (rung .bell .noted) (rung .bell .doorbell) (rung .bell .unanswered) k in
+      λ k. at (besides st (x .sides)) (x .state-is) k ∙ besides-aside st (x .sides) k ∙ all-fall old (rung .bell .noted) (rung .bell .doorbell) (rung .bell .unanswered) k in
       Summary.advances
       (record {
         event-is = en;
@@ -253,7 +253,7 @@ module _ (s : Settings) (w : World) (c : Call) (a : Applied) (h : History) (soun
   unfolding waitingOf
   goes-summary x named kind =
       let st : a .reply .state ≡ after s w c a h sound g x named kind =
-          x .state-is ∙ ap (λ (b : Bounded). waitingFor old (x .k) (x .p) (x .asked) b .state) (bounded s w c a h sound g x named kind) in
+      x .state-is ∙ ap (λ (b : Bounded). waitingFor old (x .k) (x .p) (x .asked) b .state) (bounded s w c a h sound g x named kind) in
       Summary.goes
       (record {
         k = x .k;
@@ -272,7 +272,7 @@ module _ (s : Settings) (w : World) (c : Call) (a : Applied) (h : History) (soun
   unfolding waitingOf
   departs-summary x named kind =
       let st : a .reply .state ≡ apart s w c a h sound g x named kind =
-          x .state-is ∙ ap (λ (b : Bounded). waitingFor old (x .k) (x .p) (x .asked) b .state) (bounded-frames s w c a h sound g x named kind) in
+      x .state-is ∙ ap (λ (b : Bounded). waitingFor old (x .k) (x .p) (x .asked) b .state) (bounded-frames s w c a h sound g x named kind) in
       let en = ep s w c a h sound g x named kind in
       Summary.departs
       (record {

@@ -232,8 +232,7 @@ cancelled-collects s w o cs k id rd e done =
 pub state-says : EveryRun StateSays core
 state-says s w o cs =
     let b = bells-reached s w o cs in
-    let r = b .0 .ranges in
-    (
+    let r = b .0 .ranges in (
       b .1 .owing,
       r .unanswered-most,
       b .1 .up,

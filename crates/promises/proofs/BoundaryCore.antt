@@ -194,8 +194,7 @@ unfolding worldOf historyOf
 bells-reached s w o [] = (sound-opens s w o, bells-open s w o)
 bells-reached s w o (c ∷ cs) =
     let before = bells-reached s w o cs in
-    let now = worldOf core w cs in
-    (
+    let now = worldOf core w cs in (
       sound-keeps s now c (core now c) (before .0) (effect now c),
       bells-keep s now c (core now c) (historyOf core w cs) (before .0) (before .1) (effect now c) (named s w o cs c),
     )

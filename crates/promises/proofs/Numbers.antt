@@ -182,10 +182,10 @@ by-numbers m s w kept cs k c u collection unlink at col kind at-u un l =
     let r = run-of m s w (at .0) cs collection (at .1) (at .2) in
     let is = is-collection s k (turn m s w (r .1) (r .0)) (r .0) (sym (ap (collects s k) (r .2)) ∙ col) in
     let done : isCollected (m (worldOf m w (r .1)) (Collect k (is .0) (is .1)) .reply .answer) ≡ true
-        = subst (λ (x : Call). isCollected (m (worldOf m w (r .1)) x .reply .answer) ≡ true) (is .2) (is .3) in
+    = subst (λ (x : Call). isCollected (m (worldOf m w (r .1)) x .reply .answer) ≡ true) (is .2) (is .3) in
     let b : Boundary s k (at .1) =
-        subst (Boundary s k) (sym (r .3))
-        (kept (r .1) k (is .0) (is .1) done (subst (λ (x : History). isInterrupt (kindAt s k x) ≡ false) (r .3) kind) .1) in
+    subst (Boundary s k) (sym (r .3))
+    (kept (r .1) k (is .0) (is .1) done (subst (λ (x : History). isInterrupt (kindAt s k x) ≡ false) (r .3) kind) .1) in
     subst (λ (x : History). RungAndAnswered s x u c) (sym (at .2))
     (subst (RungAndAnswered s (at .0 ++ collection ∷ at .1) u) (at .3)
     (numbered s k (at .0) (at .1) collection b u unlink (subst (λ (x : History). At x u unlink) (at .2) at-u) un (omega (arith, at .3, l))))

@@ -106,7 +106,7 @@ module _ (m : Machine) (plainly : Plainly m) (n : ℕ)
   pub not-kept : EveryRun BoundaryKept m → ⊥
   not-kept kept =
       let done : isCollected (m (worldOf m w stale) (Collect 0 1 (reading 0x80031)) .reply .answer) ≡ true
-          = ap (λ (x : World). isCollected (m x (Collect 0 1 (reading 0x80031)) .reply .answer)) w4 ∙ ap (λ (a : Applied). isCollected (a .reply .answer)) collects-one in
+      = ap (λ (x : World). isCollected (m x (Collect 0 1 (reading 0x80031)) .reply .answer)) w4 ∙ ap (λ (a : Applied). isCollected (a .reply .answer)) collects-one in
       let kind : isInterrupt (kindAt small 0 (historyOf m w stale)) ≡ false = ap (λ (h : History). isInterrupt (kindAt small 0 h)) told ∙ bulk in
       let b = kept small w opening stale 0 1 (reading 0x80031) done kind .1 in
       true≢false (sym (found small 0 (historyOf m w stale) b) ∙ (ap (boundary? small 0) told ∙ no-boundary))
@@ -128,11 +128,11 @@ module _ (m : Machine) (plainly : Plainly m) (n : ℕ)
   not-held-back never =
       let cs : List Call = Collect 0 1 (reading 0x80031) ∷ stale in
       let accepted : event small (turnOf (worldOf m w cs .rows) (submits 0 0x502000) (m (worldOf m w cs) (submits 0 0x502000))) ≡ Submits 0 2 (request 0x502000)
-          = ap (λ (x : World). event small (turnOf (x .rows) (submits 0 0x502000) (m x (submits 0 0x502000)))) w5
-          ∙ ap (λ (a : Applied). event small (turnOf (freeOne .rows) (submits 0 0x502000) a)) submits-again in
+      = ap (λ (x : World). event small (turnOf (x .rows) (submits 0 0x502000) (m x (submits 0 0x502000)))) w5
+      ∙ ap (λ (a : Applied). event small (turnOf (freeOne .rows) (submits 0 0x502000) a)) submits-again in
       let met : isIn 0 (chainWalk small (rowsOf (m (worldOf m w cs) (submits 0 0x502000))) 0) ≡ true
-          = ap (λ (x : World). isIn 0 (chainWalk small (rowsOf (m x (submits 0 0x502000))) 0)) w5
-          ∙ ap (λ (a : Applied). isIn 0 (chainWalk small (rowsOf a) 0)) submits-again ∙ given in
+      = ap (λ (x : World). isIn 0 (chainWalk small (rowsOf (m x (submits 0 0x502000))) 0)) w5
+      ∙ ap (λ (a : Applied). isIn 0 (chainWalk small (rowsOf a) 0)) submits-again ∙ given in
       true≢false (sym (ap (mayRead small 0) told-more ∙ still-read) ∙ never small w opening cs (submits 0 0x502000) 0 2 (request 0x502000) 0 accepted met)
 
 -- ---- the two machines

@@ -157,7 +157,7 @@ no-boundary = refl
 pub twice-boundary : EveryRun BoundaryKept twice → ⊥
 twice-boundary kept =
     let done : isCollected (twice (now shared) (Collect 1 1 (reading 0x80031)) .reply .answer) ≡ true
-        = ap (λ (x : World). isCollected (twice x (Collect 1 1 (reading 0x80031)) .reply .answer)) w7 ∙ ap (λ (a : Applied). isCollected (a .reply .answer)) collected-second in
+    = ap (λ (x : World). isCollected (twice x (Collect 1 1 (reading 0x80031)) .reply .answer)) w7 ∙ ap (λ (a : Applied). isCollected (a .reply .answer)) collected-second in
     let kind : isInterrupt (kindAt small 1 (past shared)) ≡ false = ap (λ (h : History). isInterrupt (kindAt small 1 h)) is-so ∙ bulk in
     let b = kept small w opening shared 1 1 (reading 0x80031) done kind .1 in
     true≢false (sym (found small 1 (past shared) b) ∙ (ap (boundary? small 1) is-so ∙ no-boundary))
@@ -174,7 +174,7 @@ pub twice-gives : EveryRun NeverGiven twice → ⊥
 twice-gives never =
     let again : Call = submits 1 0x502000 in
     let accepted : event small (turnOf (now after .rows) again (twice (now after) again)) ≡ Submits 1 2 (request 0x502000)
-        = ap (λ (x : World). event small (turnOf (x .rows) again (twice x again))) w8 ∙ ap (λ (a : Applied). event small (turnOf (freeSecond .rows) again a)) submitted-second in
+    = ap (λ (x : World). event small (turnOf (x .rows) again (twice x again))) w8 ∙ ap (λ (a : Applied). event small (turnOf (freeSecond .rows) again a)) submitted-second in
     let met : isIn 1 (chainWalk small (rowsOf (twice (now after) again)) 1) ≡ true
-        = ap (λ (x : World). isIn 1 (chainWalk small (rowsOf (twice x again)) 1)) w8 ∙ ap (λ (a : Applied). isIn 1 (chainWalk small (rowsOf a) 1)) submitted-second ∙ given in
+    = ap (λ (x : World). isIn 1 (chainWalk small (rowsOf (twice x again)) 1)) w8 ∙ ap (λ (a : Applied). isIn 1 (chainWalk small (rowsOf a) 1)) submitted-second ∙ given in
     true≢false (sym (ap (mayRead small 1) is-so-after ∙ still-read) ∙ never small w opening after again 1 2 (request 0x502000) 1 accepted met)
