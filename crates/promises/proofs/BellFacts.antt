@@ -1,34 +1,32 @@
 -- What the kinds of effect do to the doorbell, and to the endpoints of the slots.
 use Prim.Native.Nat.{ℕ, _+_, _-_, _≤_, _<_}
 use mathlib.Core.Bool.{Bool, true, false, not, true≢false, false≢true}
-use mathlib.Core.List.{List, [], _∷_}
-use mathlib.Core.Path.{_≡_, refl, sym, ap, _∙_}
+use mathlib.Core.Path.{_≡_, refl, ap, _∙_}
 use native.Mathlib.Omega.{arith}
 use borrow.Author.Tests.{eqb-false, le-leb, ltb-true}
 use lib.Dec.{eqb, leb, ltb}
 use lib.ListN.{getD}
-use Rattle.register.specs.Bits.{bit, withBits}
+use Rattle.register.specs.Bits.{withBits}
 use Rattle.register.specs.Writes.{andThen, listOf, noWrites}
 use Rattle.settings.specs.Tests.{both}
 use Rattle.slot.specs.declared.slot.Slot.{Slot}
 use Rattle.state.specs.Slots.{slotAt}
 use Rattle.state.specs.State.{withBell, withBoundaries}
 use Rattle.state.specs.declared.state.Ehci.{Ehci}
-use Rattle.pipe.specs.Endpoints.{boundaryOf, decoded, endpointAt, flagNumber, pickBoundary, pickEndpoint, pipeOf, requestOf}
+use Rattle.pipe.specs.Endpoints.{decoded, endpointAt, flagNumber, pickBoundary, pickEndpoint, pipeOf, requestOf}
 use Rattle.pipe.specs.declared.endpoint.Endpoint.{Endpoint}
 use Rattle.pipe.specs.declared.endpoint.Endpoint.the-variants.{Closed, Idle, Linked, Unlinking}
 use Rattle.pipe.specs.declared.endpoint.Pipe.{Pipe}
 use Rattle.pipe.specs.declared.endpoint.Request.{Request}
-use Rattle.pipe.specs.declared.endpoint.UnlinkBoundary.{UnlinkBoundary}
 use Rattle.opening.specs.Opening.{freshState}
 use Rattle.opening.proofs.OpenLaws.{fresh-slot}
 use Rattle.controller.specs.Readers.{hasEndpoint, holdsRequest}
 use Rattle.controller.specs.declared.lent.Readings.{Readings}
-use Rattle.schedule.specs.Bell.{advancedOf, commandWord, fallIf, fallenFrom, fallenOne, ringOf, ringWord, rungIf, unlinkedOf}
+use Rattle.schedule.specs.Bell.{advancedOf, fallIf, fallenFrom, fallenOne, ringOf, rungIf, unlinkedOf}
 use Rattle.schedule.specs.declared.bell.Bell.{Bell}
 use Rattle.schedule.proofs.BellLaws.{command-clear, fallen-at, ring-set}
 use Rattle.request.specs.Submit.{writesWith}
-use Rattle.promises.specs.Events.{isRing, someRing}
+use Rattle.promises.specs.Events.{someRing}
 use Rattle.promises.proofs.Effects.{Sides, besides}
 use Rattle.promises.proofs.BellWaiting.{fallen}
 

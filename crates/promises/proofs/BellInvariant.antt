@@ -1,7 +1,7 @@
 -- What ties the doorbell and the slots to the history; and that it lasts, by kinds of turn.
 use Prim.Native.Nat.{ℕ, suc, _+_, _-_, _≤_, _<_}
-use mathlib.Core.Bool.{Bool, true, false, not, cond, true≢false, false≢true}
-use mathlib.Core.List.{List, [], _∷_}
+use mathlib.Core.Bool.{Bool, true, false, not, true≢false}
+use mathlib.Core.List.{[], _∷_}
 use mathlib.Core.Path.{_≡_, refl, sym, ap, subst, _∙_}
 use native.Mathlib.Decide.{ℕ-discrete as decEq}
 use native.Mathlib.Omega.{arith}
@@ -13,10 +13,10 @@ use Rattle.pipe.specs.Endpoints.{flagNumber}
 use Rattle.pipe.specs.declared.endpoint.Endpoint.{Endpoint}
 use Rattle.pipe.specs.declared.endpoint.Endpoint.the-variants.{Closed}
 use Rattle.promises.specs.Runs.{History, Turn}
-use Rattle.promises.specs.Events.{Event, event, rings}
-use Rattle.promises.specs.Bells.{Answered, Bell, Quiet, Rung, asked, bell, counted, drained, drains, heard, isAnswered, isUp, linked, next, parting, reads, unlinking, unlinks}
+use Rattle.promises.specs.Events.{event, rings}
+use Rattle.promises.specs.Bells.{Answered, Bell, Quiet, Rung, asked, bell, counted, drains, heard, isAnswered, isUp, linked, next, parting, reads, unlinking, unlinks}
 use Rattle.promises.proofs.BellWaiting.{fallen, most, waiting, waiting-fall, waiting-none, waiting-same, waiting-set, waitsFor}
-use Rattle.promises.proofs.BellSlots.{Aside, Free, Slot, slot-falls, slot-on}
+use Rattle.promises.proofs.BellSlots.{Aside, Slot, slot-falls, slot-on}
 
 -- of a state: noted, doorbell, unanswered, pending, and each slot's endpoint
 pub record BellInv (s : Settings) (h : History) (n d u p : ℕ) (f : ℕ → Endpoint) : Type 0 where

@@ -1,14 +1,12 @@
 -- What the history says of a slot, tied to its endpoint; and how it stays where a turn is about something else.
-use Prim.Native.Nat.{ℕ, _+_, _-_, _%_, _≤_, _<_}
-use mathlib.Core.Bool.{Bool, true, false, cond, true≢false, false≢true}
-use mathlib.Core.List.{List, [], _∷_}
+use Prim.Native.Nat.{ℕ, _+_, _-_, _%_, _≤_}
+use mathlib.Core.Bool.{true, false}
+use mathlib.Core.List.{_∷_}
 use mathlib.Core.Path.{_≡_, refl, sym, ap, _∙_}
 use native.Mathlib.Omega.{arith}
 use borrow.Author.Tests.{ne-eqb}
 use lib.Dec.{eqb}
-use Rattle.settings.specs.Tests.{either}
 use Rattle.settings.specs.declared.settings.Settings.{Settings}
-use Rattle.token.specs.declared.request.EndpointType.{EndpointType}
 use Rattle.pipe.specs.Kinds.{isInterrupt}
 use Rattle.pipe.specs.declared.endpoint.Endpoint.{Endpoint}
 use Rattle.pipe.specs.declared.endpoint.Endpoint.the-variants.{Closed, Idle, Linked, Unlinking}
@@ -18,7 +16,7 @@ use Rattle.pipe.specs.declared.endpoint.UnlinkBoundary.{UnlinkBoundary}
 use Rattle.pipe.specs.declared.endpoint.UnlinkBoundary.the-variants.{Async, Periodic}
 use Rattle.promises.specs.Runs.{History, Turn}
 use Rattle.promises.specs.Events.{Event, Other, Reads, Drains, Submits, Unlinks, Parts, Collects, event}
-use Rattle.promises.specs.Bells.{asked, collects, counted, isCollectsOf, isPartsOf, isSubmitsOf, isUnlinksOf, kindAfter, kindAt, linked, number, parted, partedAt, parting, partsOf, renews, submits, unlinking, unlinksOf}
+use Rattle.promises.specs.Bells.{counted, isCollectsOf, isPartsOf, isSubmitsOf, isUnlinksOf, kindAfter, kindAt, linked, number, parted, partedAt, parting, unlinking}
 use Rattle.promises.specs.Chains.{idAfter, newestId}
 use Rattle.promises.proofs.BellWaiting.{fallen}
 

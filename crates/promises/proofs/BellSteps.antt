@@ -1,54 +1,48 @@
 -- The doorbell's invariant lasts, effect by effect.
-use Prim.Native.Nat.{ℕ, suc, _+_, _-_, _%_, _≤_, _<_}
-use mathlib.Core.Bool.{Bool, true, false, not, cond, true≢false, false≢true}
-use mathlib.Core.List.{List, [], _∷_}
-use mathlib.Core.Logic.{_⊎_, inl, inr, ⊎-elim}
+use Prim.Native.Nat.{ℕ, suc, _+_, _-_, _<_}
+use mathlib.Core.Bool.{Bool, true, false, true≢false}
+use mathlib.Core.List.{List, _∷_}
+use mathlib.Core.Logic.{_⊎_, inl, inr}
 use mathlib.Core.Path.{_≡_, refl, sym, ap, subst, _∙_}
-use native.Mathlib.Decide.{ℕ-discrete as decEq}
 use native.Mathlib.Omega.{arith}
-use borrow.Author.Tests.{eq-eqb, eqb-true, ne-eqb}
-use lib.Dec.{eqb, leb, ltb}
+use borrow.Author.Tests.{eqb-true, ne-eqb}
+use lib.Dec.{eqb, leb}
 use Rattle.register.specs.Writes.{listOf, noWrites}
 use Rattle.register.specs.declared.writes.Writes.{Writes}
-use Rattle.settings.specs.Tests.{both, either}
+use Rattle.settings.specs.Tests.{both}
 use Rattle.settings.specs.declared.settings.Settings.{Settings}
-use Rattle.token.specs.declared.request.EndpointType.{EndpointType}
-use Rattle.token.specs.declared.request.EndpointType.the-variants.{Control, Isochronous, Bulk, Interrupt}
 use Rattle.state.specs.Slots.{withSlot}
 use Rattle.state.specs.State.{withBell, withBoundaries, withOwner}
 use Rattle.state.specs.declared.state.Ehci.{Ehci}
 use Rattle.pipe.specs.Endpoints.{endpointAt, flagNumber, withEndpoint}
-use Rattle.pipe.specs.Kinds.{isInterrupt}
 use Rattle.pipe.specs.declared.endpoint.Endpoint.{Endpoint}
-use Rattle.pipe.specs.declared.endpoint.Endpoint.the-variants.{Closed, Idle, Linked, Unlinking}
+use Rattle.pipe.specs.declared.endpoint.Endpoint.the-variants.{Closed, Idle, Unlinking}
 use Rattle.pipe.specs.declared.endpoint.Pipe.{Pipe}
 use Rattle.pipe.specs.declared.endpoint.Request.{Request}
 use Rattle.pipe.specs.declared.endpoint.UnlinkBoundary.{UnlinkBoundary}
 use Rattle.pipe.specs.declared.endpoint.UnlinkBoundary.the-variants.{Async, Periodic}
-use Rattle.pipe.proofs.EndpointLaws.{EndpointGood, Proper, Suits, bell-wide, endpoint-other, endpoint-same, owner-aside, owner-wide}
+use Rattle.pipe.proofs.EndpointLaws.{EndpointGood, Proper, endpoint-other, endpoint-same, owner-aside, owner-wide}
 use Rattle.controller.specs.Readers.{hasEndpoint}
 use Rattle.controller.proofs.ReaderLaws.{open-below}
-use Rattle.schedule.specs.Bell.{advancedOf, bellOf, fallenFrom, frameOf}
+use Rattle.schedule.specs.Bell.{advancedOf, bellOf}
 use Rattle.request.specs.Submit.{idAt, linkedWith, stateWith, takenFor}
-use Rattle.request.proofs.SubmitLaws.{submit-others}
 use Rattle.collection.specs.Calls.{finishOf, freed, marked}
-use Rattle.collection.specs.Unlinks.{askedOf, boundedOf, passedBoundary, waitingOf}
+use Rattle.collection.specs.Unlinks.{passedBoundary}
 use Rattle.collection.proofs.SlotFacts.{endpoint-good}
 use Rattle.interrupt.specs.Interrupts.{noteIf, withRung}
 use Rattle.endpoint.specs.Calls.{newEndpoint}
 use Rattle.ehci.specs.declared.call.Call.{Call}
 use Rattle.ehci.specs.Door.{Applied}
-use Rattle.promises.specs.Runs.{History, Turn, World, leftBy, turnOf}
-use Rattle.promises.specs.Events.{Event, Other, Reads, Drains, Submits, Unlinks, Parts, Collects, event, rings, someRing}
-use Rattle.promises.specs.Bells.{Answered, Bell, Quiet, Rung, bell, drains, isAnswered, isDrains, isReads, isUnlinks, isUp, kindAt, linked, parting, reads, unlinking, unlinks}
-use Rattle.promises.proofs.Effects
-use Rattle.promises.proofs.Effects.{Effect, Sides, Still, Hears, Joins, Passes, Counts, Opens, Closes, Rewrites, Accepts, WritesBack, Marks, Unlinked, Collected, besides}
+use Rattle.promises.specs.Runs.{History, Turn, World, turnOf}
+use Rattle.promises.specs.Events.{Event, Other, Reads, Drains, Submits, Collects, event, rings, someRing}
+use Rattle.promises.specs.Bells.{Answered, Bell, Quiet, Rung, bell, drains, isAnswered, isDrains, isReads, isUnlinks, isUp, linked, unlinking}
+use Rattle.promises.proofs.Effects.{Still, Hears, Joins, Passes, Counts, Opens, Closes, Rewrites, Accepts, WritesBack, Marks, Collected, besides}
 use Rattle.promises.proofs.Sound.{Sound}
 use Rattle.promises.proofs.BellWaiting.{isLeft, waitsFor}
-use Rattle.promises.proofs.BellSlots.{Apart, Aside, Free, Going, Joined, Leaving, Slot, aside-collects, aside-drains, aside-other, aside-parts, aside-reads, aside-submits, aside-unlinks, slot-on}
-use Rattle.promises.proofs.BellInvariant.{BellInv, Calm, calm-counted, drain-inv, one-inv, opening-inv, read-inv, still-inv, unlink-inv}
-use Rattle.promises.proofs.BellTurns.{apart-now, free-now, going-now, joined-now}
-use Rattle.promises.proofs.BellFacts.{advance-doorbell, advance-noted, advance-rings, advance-unanswered, all-fall, bell-aside, besides-aside, fresh-closed, idle-is, silent-none, silent-submit, unlink-doorbell, unlink-noted, unlink-rings, unlink-unanswered}
+use Rattle.promises.proofs.BellSlots.{Aside, Leaving, Slot, aside-collects, aside-drains, aside-other, aside-reads, aside-submits, slot-on}
+use Rattle.promises.proofs.BellInvariant.{BellInv, Calm, calm-counted, drain-inv, one-inv, read-inv, still-inv}
+use Rattle.promises.proofs.BellTurns.{free-now, joined-now}
+use Rattle.promises.proofs.BellFacts.{advance-doorbell, advance-noted, advance-rings, advance-unanswered, all-fall, bell-aside, besides-aside, idle-is, silent-none, silent-submit}
 
 abbrev pub StateInv : Settings → History → Ehci → Type 0
 StateInv s h e = BellInv s h (e .noted) (e .doorbell) (e .unanswered) (e .pending) (endpointAt e)

@@ -1,15 +1,12 @@
 -- An effect in seven forms: its event, whether it rings, and what becomes of each slot.
-use Prim.Native.Nat.{ℕ, suc, _+_, _-_, _%_, _≤_, _<_}
-use mathlib.Core.Bool.{Bool, true, false, cond, true≢false, false≢true}
-use mathlib.Core.List.{List, [], _∷_}
-use mathlib.Core.Logic.{_⊎_, inl, inr}
-use mathlib.Core.Path.{_≡_, refl, sym, ap, subst, _∙_}
+use Prim.Native.Nat.{ℕ, _+_, _-_, _%_, _<_}
+use mathlib.Core.Bool.{Bool, true, false}
+use mathlib.Core.Path.{_≡_, refl, ap, subst, _∙_}
 use native.Mathlib.Decide.{ℕ-discrete as decEq}
 use native.Mathlib.Omega.{arith}
 use lib.Dec.{eqb, leb}
 use Rattle.register.specs.Writes.{listOf, noWrites}
 use Rattle.register.specs.declared.writes.Writes.{Writes}
-use Rattle.settings.specs.Tests.{both}
 use Rattle.settings.specs.declared.settings.Settings.{Settings}
 use Rattle.state.specs.State.{withBell, withOwner}
 use Rattle.state.specs.declared.state.Ehci.{Ehci}
@@ -21,7 +18,7 @@ use Rattle.pipe.specs.declared.endpoint.Pipe.{Pipe}
 use Rattle.pipe.specs.declared.endpoint.Request.{Request}
 use Rattle.pipe.specs.declared.endpoint.UnlinkBoundary.{UnlinkBoundary}
 use Rattle.pipe.specs.declared.endpoint.UnlinkBoundary.the-variants.{Async, Periodic}
-use Rattle.pipe.proofs.EndpointLaws.{EndpointGood, Proper, Suits, endpoint-other, endpoint-same, owner-aside, owner-wide}
+use Rattle.pipe.proofs.EndpointLaws.{EndpointGood, Proper, endpoint-other, endpoint-same, owner-aside, owner-wide}
 use Rattle.controller.specs.Readers.{holdsRequest}
 use Rattle.controller.proofs.ReaderLaws.{open-below}
 use Rattle.schedule.specs.Bell.{advancedOf, bellOf}
@@ -36,14 +33,14 @@ use Rattle.endpoint.specs.Calls.{newEndpoint}
 use Rattle.ehci.specs.declared.call.Call.{Call}
 use Rattle.ehci.specs.Door.{Applied}
 use Rattle.promises.specs.Runs.{History, Turn, World, turnOf}
-use Rattle.promises.specs.Events.{Event, Other, Reads, Drains, Submits, Unlinks, Parts, Collects, event, rings, someRing}
-use Rattle.promises.specs.Bells.{Answered, bell, isAnswered, isDrains, isReads, isUnlinks}
-use Rattle.promises.proofs.Effects.{Effect, Still, Hears, Joins, Passes, Counts, Opens, Closes, Rewrites, Accepts, WritesBack, Marks, Unlinked, Collected, besides}
+use Rattle.promises.specs.Events.{Other, Reads, Drains, Submits, Unlinks, Parts, Collects, event, rings, someRing}
+use Rattle.promises.specs.Bells.{Answered, bell, isDrains, isReads, isUnlinks}
+use Rattle.promises.proofs.Effects.{Effect, Counts, Accepts, Marks, Unlinked, Collected, besides}
 use Rattle.promises.proofs.Sound.{Sound}
 use Rattle.promises.proofs.BellWaiting.{fallen}
 use Rattle.promises.proofs.BellSlots.{Aside, aside-drains, aside-other}
 use Rattle.promises.proofs.BellInvariant.{Calm, answered}
-use Rattle.promises.proofs.BellFacts.{advance-rings, all-fall, bell-aside, besides-aside, idle-is, silent-none, silent-submit}
+use Rattle.promises.proofs.BellFacts.{advance-rings, all-fall, bell-aside, besides-aside, idle-is, silent-submit}
 use Rattle.promises.proofs.BellSteps.{StateInv, aside-of, calm, is, no-writes, unnoted, within}
 use Rattle.promises.proofs.BellUnlinks.{Named, after, apart, bounded, bounded-frames, e, ep, mine, mine-frames, others, others-frames, quiet-frames, rang}
 

@@ -1,20 +1,19 @@
 -- What the history says of slot k after a turn that submits to it, unlinks it, or collects it.
-use Prim.Native.Nat.{ℕ, _+_, _-_, _%_, _≤_, _<_}
-use mathlib.Core.Bool.{Bool, true, false, cond}
-use mathlib.Core.List.{List, [], _∷_}
-use mathlib.Core.Path.{_≡_, refl, sym, ap, _∙_}
+use Prim.Native.Nat.{ℕ, _+_, _-_, _%_}
+use mathlib.Core.Bool.{true, false}
+use mathlib.Core.List.{_∷_}
+use mathlib.Core.Path.{_≡_, refl, sym, _∙_}
 use native.Mathlib.Omega.{arith}
 use borrow.Author.Tests.{eq-eqb}
 use lib.Dec.{eqb}
-use Rattle.settings.specs.Tests.{either}
 use Rattle.settings.specs.declared.settings.Settings.{Settings}
 use Rattle.request.specs.declared.judge.TransferRequest.{TransferRequest}
 use Rattle.pipe.specs.Kinds.{isInterrupt}
 use Rattle.pipe.specs.declared.endpoint.Pipe.{Pipe}
 use Rattle.pipe.specs.declared.endpoint.Request.{Request}
 use Rattle.promises.specs.Runs.{History, Turn}
-use Rattle.promises.specs.Events.{Event, Submits, Unlinks, Parts, Collects, event}
-use Rattle.promises.specs.Bells.{asked, counted, isCollectsOf, isPartsOf, isSubmitsOf, isUnlinksOf, kindAt, linked, number, parted, parting, unlinking}
+use Rattle.promises.specs.Events.{Submits, Unlinks, Parts, Collects, event}
+use Rattle.promises.specs.Bells.{asked, counted, kindAt, linked, number, parted, parting, unlinking}
 use Rattle.promises.specs.Chains.{newestId}
 use Rattle.promises.proofs.BellSlots.{Apart, Free, Going, Joined}
 

@@ -1,14 +1,12 @@
 -- The doorbell's invariant lasts where a request is unlinked; so it lasts through every effect, and holds in every world of a run.
-use Prim.Native.Nat.{ℕ, suc, _+_, _-_, _%_, _≤_, _<_}
+use Prim.Native.Nat.{ℕ, suc, _+_, _-_, _<_}
 use mathlib.Core.Bool.{Bool, true, false, cond, true≢false, false≢true}
-use mathlib.Core.List.{List, [], _∷_}
+use mathlib.Core.List.{_∷_}
 use mathlib.Core.Logic.{_⊎_, inl, inr}
 use mathlib.Core.Path.{_≡_, refl, sym, ap, subst, _∙_}
-use native.Mathlib.Omega.{arith}
 use lib.Dec.{eqb}
 use Rattle.register.specs.Writes.{listOf, noWrites}
 use Rattle.register.specs.declared.writes.Writes.{Writes}
-use Rattle.settings.specs.Tests.{both}
 use Rattle.settings.specs.declared.settings.Settings.{Settings}
 use Rattle.token.specs.declared.request.EndpointType.{EndpointType}
 use Rattle.token.specs.declared.request.EndpointType.the-variants.{Control, Isochronous, Bulk, Interrupt}
@@ -18,10 +16,8 @@ use Rattle.state.specs.declared.state.Ehci.{Ehci}
 use Rattle.pipe.specs.Endpoints.{endpointAt, withEndpoint}
 use Rattle.pipe.specs.Kinds.{isInterrupt}
 use Rattle.pipe.specs.declared.endpoint.Endpoint.{Endpoint}
-use Rattle.pipe.specs.declared.endpoint.Endpoint.the-variants.{Closed, Idle, Linked, Unlinking}
-use Rattle.pipe.specs.declared.endpoint.Pipe.{Pipe}
+use Rattle.pipe.specs.declared.endpoint.Endpoint.the-variants.{Linked, Unlinking}
 use Rattle.pipe.specs.declared.endpoint.Request.{Request}
-use Rattle.pipe.specs.declared.endpoint.UnlinkBoundary.{UnlinkBoundary}
 use Rattle.pipe.specs.declared.endpoint.UnlinkBoundary.the-variants.{Async, Periodic}
 use Rattle.pipe.proofs.EndpointLaws.{Suits, bell-wide, endpoint-other, endpoint-same}
 use Rattle.schedule.specs.Bell.{bellOf, frameOf, unlinkedOf}
@@ -33,8 +29,8 @@ use Rattle.collection.specs.declared.unlink.Bounded.{Bounded}
 use Rattle.ehci.specs.declared.call.Call.{Call}
 use Rattle.ehci.specs.Door.{Applied}
 use Rattle.promises.specs.Runs.{History, Turn, World, turnOf}
-use Rattle.promises.specs.Events.{Event, Unlinks, Parts, event, rings, someRing}
-use Rattle.promises.specs.Bells.{bell, isAnswered, isDrains, isReads, isUnlinks}
+use Rattle.promises.specs.Events.{Unlinks, Parts, event, rings, someRing}
+use Rattle.promises.specs.Bells.{bell, isDrains, isReads, isUnlinks}
 use Rattle.promises.proofs.Effects.{Effect, Unlinked}
 use Rattle.promises.proofs.Sound.{Sound}
 use Rattle.promises.proofs.BellWaiting.{waitsFor}

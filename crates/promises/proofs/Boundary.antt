@@ -1,19 +1,18 @@
 -- Of any machine that keeps the exact rule and has a ring out exactly while an unlink is unanswered: a collection has its boundary behind it.
 use mathlib.Core.Path.{_≡_, refl, sym, ap, _∙_}
-use mathlib.Core.List.{List, [], _∷_, _++_}
-use mathlib.Core.Bool.{Bool, true, false, cond, true≢false, false≢true, _&&_, _||_}
-use Prim.Native.Nat.{ℕ, zero, suc, _+_, _≤_, _<_}
+use mathlib.Core.List.{List, [], _∷_}
+use mathlib.Core.Bool.{Bool, true, false, cond, true≢false, false≢true}
+use Prim.Native.Nat.{ℕ, _+_, _≤_}
 use native.Mathlib.Omega.{arith}
-use borrow.Author.Tests.{leb-true, leb-false, lt-ltb, le-ltb, ltb-true}
+use borrow.Author.Tests.{leb-true, leb-false, lt-ltb, le-ltb}
 use lib.Dec.{leb, ltb}
 use Rattle.settings.specs.Tests.{both}
 use Rattle.settings.specs.declared.settings.Settings.{Settings}
 use Rattle.pipe.specs.Endpoints.{flagNumber}
-use Rattle.pipe.specs.Kinds.{isInterrupt}
 use Rattle.ehci.specs.declared.call.Call.{Call}
 use Rattle.promises.specs.Runs.{History, Machine, Turn, World, historyOf}
 use Rattle.promises.specs.Events.{Event, Other, Reads, Drains, Submits, Unlinks, Parts, Collects, event, rings}
-use Rattle.promises.specs.Bells.{Answered, Bell, Boundary, Quiet, Rung, asked, bell, collects, counted, drained, drains, heard, isAnswered, isDrains, isReads, isUnlinks, isUnlinksOf, isUp, next, number, reads, renews, unlinking, unlinks, unlinksOf}
+use Rattle.promises.specs.Bells.{Answered, Bell, Boundary, Quiet, Rung, asked, bell, counted, drains, isAnswered, isDrains, isReads, isUnlinks, isUnlinksOf, isUp, next, number, reads, renews, unlinking, unlinks, unlinksOf}
 use Rattle.promises.specs.Boundaries.{BoundaryKept, Exact, UpExactly, past, turn}
 use Rattle.promises.proofs.Pictures.{Ringing, rung-now, rings-on, answers, longer}
 

@@ -1,41 +1,31 @@
 -- What a collect and a cancel answer, by the endpoint that they find.
-use Prim.Native.Nat.{ℕ, _+_, _*_, _<_}
-use mathlib.Core.Bool.{Bool, true, false, not, true≢false, false≢true}
-use mathlib.Core.List.{List, [], _∷_}
-use mathlib.Core.Path.{_≡_, refl, sym, ap, subst, _∙_}
-use native.Mathlib.Omega.{arith}
+use Prim.Native.Nat.{ℕ, _+_, _*_}
+use mathlib.Core.Bool.{Bool, true, false, false≢true}
+use mathlib.Core.Path.{_≡_, refl, sym, ap, _∙_}
 use borrow.Author.Tests.{eq-eqb}
-use lib.Dec.{eqb, leb}
 use lib.ListN.{length}
 use Rattle.register.specs.Writes.{noWrites}
-use Rattle.pool.specs.declared.chain.View.{View}
 use Rattle.settings.specs.declared.settings.Settings.{Settings}
-use Rattle.settings.specs.Tests.{both}
-use Rattle.state.specs.Ranges.{inRanges}
 use Rattle.state.specs.declared.state.Ehci.{Ehci}
 use Rattle.state.proofs.RangesLaws.{ranges-make}
-use Rattle.answer.specs.declared.answer.Refusal.{Refusal}
 use Rattle.answer.specs.declared.answer.Refusal.the-variants.{InvalidParameter}
-use Rattle.token.specs.declared.request.EndpointType.{EndpointType}
-use Rattle.pipe.specs.Endpoints.{endpointAt, withEndpoint}
-use Rattle.pipe.specs.declared.endpoint.Endpoint.{Endpoint}
-use Rattle.pipe.specs.declared.endpoint.Endpoint.the-variants.{Closed, Idle, Linked, Unlinking}
+use Rattle.pipe.specs.Endpoints.{endpointAt}
+use Rattle.pipe.specs.declared.endpoint.Endpoint.the-variants.{Unlinking}
 use Rattle.pipe.specs.declared.endpoint.Pipe.{Pipe}
 use Rattle.pipe.specs.declared.endpoint.Request.{Request}
 use Rattle.pipe.specs.declared.endpoint.UnlinkBoundary.{UnlinkBoundary}
 use Rattle.opening.specs.Opening.{rowsFit}
-use Rattle.opening.proofs.OpenLaws.{Fitting, rows-make}
+use Rattle.opening.proofs.OpenLaws.{rows-make}
 use Rattle.controller.specs.Lent.{acceptsOf, lengths}
 use Rattle.controller.specs.declared.lent.Readings.{Readings}
-use Rattle.schedule.specs.Links.{endedOverlay}
-use Rattle.collection.specs.Answers.{outcomeOf, pendingCollect, refusedCollect}
-use Rattle.collection.specs.Calls.{Gathered, collectOf, finishOf, gathered, pendingLeft, unlinkingOf}
+use Rattle.collection.specs.Answers.{outcomeOf}
+use Rattle.collection.specs.Calls.{Gathered, collectOf, finishOf, pendingLeft, unlinkingOf}
 use Rattle.collection.specs.Unlinks.{Left, passedBoundary, unlinkOf, waitingOf}
 use Rattle.collection.proofs.Splits.{collect-split, unlink-split}
 use Rattle.ehci.specs.declared.call.Call.{Call}
-use Rattle.ehci.specs.declared.call.Call.the-variants.{Cancel, Collect}
+use Rattle.ehci.specs.declared.call.Call.the-variants.{Collect}
 use Rattle.ehci.specs.declared.reply.Answered.{Answered}
-use Rattle.ehci.specs.declared.reply.Answered.the-variants.{Cancelled, Refused}
+use Rattle.ehci.specs.declared.reply.Answered.the-variants.{Refused}
 use Rattle.ehci.specs.Decides.{callOf, collectCame, collectDecided, decideOf, withSetups}
 use Rattle.ehci.specs.Door.{Applied, applyOf, carriedOut}
 use Rattle.ehci.specs.Replies.{collectedAnswer, refusedReply, replied}

@@ -1,17 +1,15 @@
 -- A cancelled request is collected as 10; a linked slot finds room; and what the state says is what the history says.
-use Prim.Native.Nat.{ℕ, suc, _+_, _-_, _≤_, _<_}
+use Prim.Native.Nat.{ℕ, _+_, _-_, _<_}
 use mathlib.Core.Bool.{Bool, true, false, cond, true≢false, false≢true}
 use mathlib.Core.List.{List, [], _∷_}
 use mathlib.Core.Path.{_≡_, refl, sym, ap, subst, _∙_}
 use native.Mathlib.Decide.{ℕ-discrete as decEq}
 use native.Mathlib.Omega.{arith}
 use borrow.Author.Tests.{eq-eqb, eqb-true, lt-ltb, ne-eqb}
-use lib.Dec.{eqb, ltb}
+use lib.Dec.{eqb}
 use lib.ListN.{length}
-use Rattle.register.specs.Writes.{noWrites}
-use Rattle.settings.specs.Tests.{both, either}
+use Rattle.settings.specs.Tests.{both}
 use Rattle.settings.specs.declared.settings.Settings.{Settings}
-use Rattle.state.specs.Slots.{slotAt}
 use Rattle.state.specs.declared.state.Ehci.{Ehci}
 use Rattle.pipe.specs.Endpoints.{decoded, encoded, endpointAt, flagNumber, pickEndpoint, withEndpoint}
 use Rattle.pipe.specs.declared.endpoint.Endpoint.{Endpoint}
@@ -26,7 +24,7 @@ use Rattle.controller.specs.declared.lent.Readings.{Readings}
 use Rattle.controller.proofs.ReaderLaws.{open-below}
 use Rattle.collection.specs.Answers.{outcomeOf}
 use Rattle.collection.specs.Calls.{marked}
-use Rattle.collection.specs.Unlinks.{Left, boundedOf, unlinkOf, waitingOf}
+use Rattle.collection.specs.Unlinks.{Left, unlinkOf, waitingOf}
 use Rattle.collection.proofs.Splits.{cancel-split, unlink-split}
 use Rattle.ehci.specs.declared.call.Call.{Call}
 use Rattle.ehci.specs.declared.call.Call.the-variants.{StartBringUp, BringUpStep, AllocateAddress, OpenEndpoint, Close, SetAddress, SetPacketSize, Submit, Writeback, Cancel, Collect, Acknowledge, Drain, Rearm, Enable, Disable}
@@ -35,18 +33,18 @@ use Rattle.ehci.specs.Decides.{cancelCame, cancelDecided, withSetups}
 use Rattle.ehci.specs.Door.{Applied, carriedOut}
 use Rattle.ehci.specs.Replies.{collectedAnswer, replied}
 use Rattle.promises.specs.Runs.{History, Opening, Turn, World, core, historyOf, turnOf, worldOf}
-use Rattle.promises.specs.Events.{event, isDone}
-use Rattle.promises.specs.Bells.{bell, cancelled, cancelsBy, isAnswered, isUp, linked, renews}
+use Rattle.promises.specs.Events.{isDone}
+use Rattle.promises.specs.Bells.{cancelled, cancelsBy, linked, renews}
 use Rattle.promises.specs.Boundaries.{EveryRun, CancelledCollects, StateSays, Uncrowded}
 use Rattle.promises.proofs.EffectOf.{effect}
 use Rattle.promises.proofs.ChainCancels.{Roomy}
 use Rattle.promises.proofs.Sound.{Sound}
 use Rattle.promises.proofs.BellWaiting.{fallen, waitsFor}
 use Rattle.promises.proofs.BellSlots.{Leaving, Slot}
-use Rattle.promises.proofs.BellInvariant.{BellInv, room}
+use Rattle.promises.proofs.BellInvariant.{room}
 use Rattle.promises.proofs.BellSteps.{StateInv}
 use Rattle.promises.proofs.BellSummary.{Kept, Summary, summary}
-use Rattle.promises.proofs.BoundaryCalls.{Found, by-door, collect-found}
+use Rattle.promises.proofs.BoundaryCalls.{by-door, collect-found}
 use Rattle.promises.proofs.BoundaryCore.{bells-reached, named}
 
 -- ---- the mark of a cancelled request

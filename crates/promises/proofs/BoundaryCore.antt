@@ -1,14 +1,13 @@
 -- The statements of specs/Boundaries.antt, of `core`.
-use Prim.Native.Nat.{ℕ, suc, _+_, _-_, _%_, _≤_, _<_}
-use mathlib.Core.Bool.{Bool, true, false, cond, true≢false, false≢true}
+use Prim.Native.Nat.{ℕ, _+_, _-_, _≤_}
+use mathlib.Core.Bool.{Bool, true, false, true≢false, false≢true}
 use mathlib.Core.List.{List, [], _∷_}
 use mathlib.Core.Logic.{_↔_}
 use mathlib.Core.Path.{_≡_, refl, sym, ap, subst, _∙_}
 use native.Mathlib.Omega.{arith}
 use borrow.Author.Tests.{eq-eqb, eqb-true, le-leb, le-ltb, leb-true, lt-ltb, ltb-false, ltb-true}
-use lib.Dec.{eqb, leb, ltb}
+use lib.Dec.{ltb}
 use Rattle.settings.specs.declared.settings.Settings.{Settings}
-use Rattle.state.specs.declared.state.Ehci.{Ehci}
 use Rattle.pipe.specs.Endpoints.{endpointAt}
 use Rattle.pipe.specs.Kinds.{isInterrupt}
 use Rattle.pipe.specs.declared.endpoint.Endpoint.{Endpoint}
@@ -19,12 +18,12 @@ use Rattle.pipe.specs.declared.endpoint.UnlinkBoundary.{UnlinkBoundary}
 use Rattle.pipe.specs.declared.endpoint.UnlinkBoundary.the-variants.{Async, Periodic}
 use Rattle.opening.specs.Opening.{freshState}
 use Rattle.controller.specs.declared.lent.Readings.{Readings}
-use Rattle.schedule.specs.Bell.{distance, framesPassed}
+use Rattle.schedule.specs.Bell.{distance}
 use Rattle.collection.specs.Unlinks.{passedBoundary}
 use Rattle.ehci.specs.declared.call.Call.{Call}
 use Rattle.ehci.specs.declared.call.Call.the-variants.{Collect}
 use Rattle.promises.specs.Runs.{History, Opening, Turn, World, core, historyOf, turnOf, worldOf}
-use Rattle.promises.specs.Events.{Event, Other, Reads, Drains, Submits, Unlinks, Parts, Collects, event, isCollected}
+use Rattle.promises.specs.Events.{event, isCollected}
 use Rattle.promises.specs.Bells.{asked, bell, counted, isPartsOf, isSubmitsOf, isUnlinksOf, isUp, kindAt, linked, number, parted, parting, unlinking}
 use Rattle.promises.specs.Chains.{newestId}
 use Rattle.promises.specs.Boundaries.{EveryRun, BoundaryKept, BoundaryNumbered, Exact, FramesKept, NineOn, OnePasses, OnlyAnswered, Orderly, PassesExactly, UpExactly, Waits}
@@ -35,8 +34,8 @@ use Rattle.promises.proofs.Sound.{Sound}
 use Rattle.promises.proofs.SoundKeeps.{sound-keeps}
 use Rattle.promises.proofs.ChainEvents.{unlink-event}
 use Rattle.promises.proofs.ChainRuns.{chained}
-use Rattle.promises.proofs.BellSlots.{Aside, Leaving, Slot}
-use Rattle.promises.proofs.BellInvariant.{BellInv, opening-inv}
+use Rattle.promises.proofs.BellSlots.{Leaving, Slot}
+use Rattle.promises.proofs.BellInvariant.{opening-inv}
 use Rattle.promises.proofs.BellFacts.{fresh-closed}
 use Rattle.promises.proofs.BellSteps.{StateInv}
 use Rattle.promises.proofs.BellUnlinks.{Named, bells-keep}

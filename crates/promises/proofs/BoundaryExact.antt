@@ -1,19 +1,17 @@
 -- Of any machine that keeps the exact rules and takes each event in its place: what left the ring passes by number.
-use Prim.Native.Nat.{ℕ, _≤_}
+use Prim.Native.Nat.{ℕ}
 use mathlib.Core.Bool.{Bool, true, false, cond, true≢false, false≢true}
 use mathlib.Core.List.{List, [], _∷_}
-use mathlib.Core.Path.{_≡_, refl, sym, ap, _∙_}
-use lib.Dec.{eqb}
+use mathlib.Core.Path.{_≡_, refl, ap, _∙_}
 use Rattle.settings.specs.Tests.{either}
 use Rattle.settings.specs.declared.settings.Settings.{Settings}
 use Rattle.token.specs.declared.request.EndpointType.{EndpointType}
-use Rattle.pipe.specs.Endpoints.{pickKind}
 use Rattle.pipe.specs.Kinds.{isInterrupt}
 use Rattle.controller.specs.declared.lent.Readings.{Readings}
 use Rattle.ehci.specs.declared.call.Call.{Call}
 use Rattle.promises.specs.Runs.{History, Machine, Turn, World, historyOf}
 use Rattle.promises.specs.Events.{Event, Other, Reads, Drains, Submits, Unlinks, Parts, Collects, event}
-use Rattle.promises.specs.Bells.{counted, isCollectsOf, isSubmitsOf, isUnlinksOf, kindAfter, kindAt, number, renews, unlinking, unlinksOf}
+use Rattle.promises.specs.Bells.{isSubmitsOf, isUnlinksOf, kindAfter, kindAt, renews, unlinking, unlinksOf}
 use Rattle.promises.specs.Chains.{newestId}
 use Rattle.promises.specs.Boundaries.{Exact, FramesKept, Orderly, PassesExactly, past, turn}
 

@@ -1,40 +1,26 @@
 -- What the controller may still read is in use; so no submit is given a place of it.
-use Prim.Native.Nat.{ℕ, suc, _+_, _-_, _%_, _≤_, _<_}
-use mathlib.Core.Bool.{Bool, true, false, cond, not, true≢false, false≢true}
-use mathlib.Core.List.{List, [], _∷_, _++_}
+use Prim.Native.Nat.{ℕ, _-_, _≤_}
+use mathlib.Core.Bool.{Bool, true, false, cond, true≢false}
+use mathlib.Core.List.{List, [], _∷_}
 use mathlib.Core.Logic.{_⊎_, inl, inr}
-use mathlib.Core.Path.{_≡_, refl, sym, ap, subst, _∙_}
-use native.Mathlib.Decide.{ℕ-discrete as decEq}
-use native.Mathlib.Omega.{arith}
-use borrow.Author.Tests.{eq-eqb, eqb-false, eqb-true, leb-false, leb-true, ne-eqb}
-use lib.Dec.{eqb, leb}
-use Rattle.settings.specs.Tests.{both, either}
+use mathlib.Core.Path.{_≡_, refl, sym, subst, _∙_}
+use borrow.Author.Tests.{eq-eqb, eqb-true}
+use lib.Dec.{eqb}
+use Rattle.settings.specs.Tests.{both}
 use Rattle.settings.specs.declared.settings.Settings.{Settings}
-use Rattle.state.specs.declared.state.Ehci.{Ehci}
-use Rattle.pipe.specs.Endpoints.{endpointAt}
 use Rattle.pipe.specs.declared.endpoint.Endpoint.{Endpoint}
 use Rattle.pipe.specs.declared.endpoint.Endpoint.the-variants.{Closed, Idle, Linked, Unlinking}
-use Rattle.pipe.specs.declared.endpoint.Pipe.{Pipe}
-use Rattle.pipe.specs.declared.endpoint.Request.{Request}
 use Rattle.pipe.specs.declared.endpoint.UnlinkBoundary.{UnlinkBoundary}
 use Rattle.pipe.specs.declared.endpoint.UnlinkBoundary.the-variants.{Async, Periodic}
 use Rattle.controller.specs.Readers.{holdsRequest}
-use Rattle.schedule.specs.Bell.{framesPassed, frameOf}
-use Rattle.collection.specs.Calls.{marked}
-use Rattle.collection.specs.Unlinks.{passedBoundary}
-use Rattle.ehci.specs.declared.call.Call.{Call}
-use Rattle.ehci.specs.Door.{Applied}
-use Rattle.promises.specs.Runs.{History, Turn, World, turnOf}
-use Rattle.promises.specs.Walks.{chainWalk, isIn}
-use Rattle.promises.specs.Events.{Event, Other, Reads, Drains, Submits, Unlinks, Parts, Collects, event, rings}
-use Rattle.promises.specs.Uses.{Use, isOf, uses, usesAfter, without}
-use Rattle.promises.specs.Bells.{Answered, Bell, Quiet, Rung, bell, isCollectsOf, isPartsOf, isReads, isSubmitsOf, isUnlinksOf, isUp}
-use Rattle.promises.specs.Faults.{Hold, Met, Reach, Since, Unanswered, Unrung, departed, farther, holds, isForgotten, isHeld, joined, mayRead, nineOn, onward, rungBy}
-use Rattle.promises.proofs.BellWaiting.{fallen}
-use Rattle.promises.proofs.BellSlots.{Aside, Slot}
-use Rattle.promises.proofs.BellInvariant.{BellInv, Calm, calm-bell}
-use Rattle.promises.proofs.BellSteps.{StateInv}
-use Rattle.promises.proofs.BellSummary.{Kept, Summary}
+use Rattle.schedule.specs.Bell.{frameOf}
+use Rattle.promises.specs.Runs.{History, Turn}
+use Rattle.promises.specs.Events.{Event, Other, Reads, Drains, Submits, Unlinks, Parts, Collects, rings}
+use Rattle.promises.specs.Uses.{Use, isOf, usesAfter, without}
+use Rattle.promises.specs.Bells.{Bell, Rung, bell, isPartsOf, isUnlinksOf}
+use Rattle.promises.specs.Faults.{Hold, Met, Reach, Since, Unanswered, Unrung, departed, farther, isForgotten, joined, onward}
+use Rattle.promises.proofs.BellSlots.{Aside}
+use Rattle.promises.proofs.BellSummary.{Kept}
 
 -- ---- a hold, by the bell and its slot's endpoint
 

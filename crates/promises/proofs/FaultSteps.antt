@@ -1,13 +1,12 @@
 -- What the controller may still read stays in use, form by form of an effect.
-use Prim.Native.Nat.{ℕ, suc, _+_, _-_, _%_, _≤_, _<_}
-use mathlib.Core.Bool.{Bool, true, false, cond, true≢false, false≢true}
-use mathlib.Core.List.{List, [], _∷_}
-use mathlib.Core.Logic.{_⊎_, inl, inr}
+use Prim.Native.Nat.{ℕ, _+_, _-_, _%_, _≤_}
+use mathlib.Core.Bool.{Bool, true, false, true≢false}
+use mathlib.Core.List.{List, _∷_}
+use mathlib.Core.Logic.{inl, inr}
 use mathlib.Core.Path.{_≡_, refl, sym, ap, subst, _∙_}
 use native.Mathlib.Decide.{ℕ-discrete as decEq}
 use native.Mathlib.Omega.{arith}
 use borrow.Author.Tests.{eq-eqb, eqb-false, eqb-true, le-leb, ne-eqb}
-use lib.Dec.{eqb, leb}
 use Rattle.settings.specs.Tests.{both}
 use Rattle.settings.specs.declared.settings.Settings.{Settings}
 use Rattle.pipe.specs.Endpoints.{endpointAt}
@@ -23,14 +22,14 @@ use Rattle.ehci.specs.declared.call.Call.{Call}
 use Rattle.ehci.specs.Door.{Applied}
 use Rattle.promises.specs.Runs.{History, Turn, World, turnOf}
 use Rattle.promises.specs.Walks.{chainWalk}
-use Rattle.promises.specs.Events.{Event, Other, Reads, Drains, Submits, Unlinks, Parts, Collects, event, rings}
+use Rattle.promises.specs.Events.{Event, Reads, Drains, Submits, Unlinks, Parts, Collects, event, rings}
 use Rattle.promises.specs.Uses.{Use, uses, usesAfter, without}
-use Rattle.promises.specs.Bells.{Answered, Bell, Quiet, Rung, bell, drains, isAnswered, isDrains, isReads, reads}
-use Rattle.promises.specs.Faults.{Hold, Met, Reach, Since, Unanswered, Unrung, farther, holds, isForgotten, joined, nineOn, onward, rungBy}
+use Rattle.promises.specs.Bells.{Answered, Bell, Rung, bell, drains, isAnswered, isDrains, isReads, reads}
+use Rattle.promises.specs.Faults.{Hold, Met, Reach, Since, Unanswered, Unrung, farther, holds, isForgotten, joined, onward}
 use Rattle.promises.proofs.Sound.{Sound}
 use Rattle.promises.proofs.BellWaiting.{fallen}
 use Rattle.promises.proofs.BellSlots.{Aside, Leaving, Slot, aside-collects, aside-parts, aside-submits}
-use Rattle.promises.proofs.BellInvariant.{BellInv, Calm, calm-bell}
+use Rattle.promises.proofs.BellInvariant.{Calm, calm-bell}
 use Rattle.promises.proofs.BellSteps.{StateInv}
 use Rattle.promises.proofs.BellSummary.{Advances, Answers, Comes, Departs, Ends, Goes, Kept, Quiets, Summary}
 use Rattle.promises.proofs.FaultHolds.{AllHeld, Fits, Gone, Held, InSchedule, bell-rings, carried, farther-aside, fits-any, fits-kept, joined-aside, used-stays, usedBy, uses-aside}

@@ -3,7 +3,7 @@ use Prim.Native.Nat.{ℕ}
 use mathlib.Core.Bool.{Bool, true, false, true≢false, false≢true}
 use mathlib.Core.List.{List, [], _∷_, _++_}
 use mathlib.Core.Logic.{_⊎_, inl, inr}
-use mathlib.Core.Path.{_≡_, refl, sym, ap, subst, _∙_}
+use mathlib.Core.Path.{_≡_, refl, sym, ap, _∙_}
 use borrow.Author.Tests.{eqb-true}
 use lib.Dec.{eqb}
 use Rattle.settings.specs.Tests.{either}
@@ -14,7 +14,7 @@ use Rattle.pipe.specs.declared.endpoint.Endpoint.{Endpoint}
 use Rattle.ehci.specs.declared.call.Call.{Call}
 use Rattle.promises.specs.Runs.{History, Opening, Turn, World, core, historyOf, worldOf}
 use Rattle.promises.specs.Walks.{chainWalk, isIn}
-use Rattle.promises.specs.Events.{Event, Submits, event}
+use Rattle.promises.specs.Events.{Submits, event}
 use Rattle.promises.specs.Uses.{Use, uses}
 use Rattle.promises.specs.Rooms.{Distinct, placesOf}
 use Rattle.promises.specs.Bells.{Bell, bell}

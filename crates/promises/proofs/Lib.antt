@@ -56,6 +56,7 @@ pub mod FaultHolds
 pub mod FaultSteps
 pub mod FaultTheorem
 pub mod WrongRuns
+pub mod WrongCalls
 pub mod WrongBells
 pub mod WrongEarly
 pub mod WrongTwice

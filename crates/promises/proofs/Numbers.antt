@@ -18,8 +18,8 @@ use Rattle.ehci.specs.declared.call.Call.the-variants.{StartBringUp, BringUpSte
 use Rattle.ehci.specs.declared.reply.Answered.{Answered}
 use Rattle.ehci.specs.declared.reply.Answered.the-variants.{Done, Pending, Cancelled, Failed, Refused}
 use Rattle.ehci.specs.declared.reply.Given.the-variants as G
-use Rattle.promises.specs.Runs.{History, Machine, Turn, World, historyOf, turnOf, worldOf}
-use Rattle.promises.specs.Events.{Event, Other, Reads, Drains, Submits, Unlinks, Parts, Collects, event, happens, isCollected, isDone, leaving, leavesFrames, leavesRing, rings, submitsBy}
+use Rattle.promises.specs.Runs.{History, Machine, Turn, World, historyOf, worldOf}
+use Rattle.promises.specs.Events.{Event, Other, Reads, Drains, Unlinks, Parts, Collects, happens, isCollected, isDone, leaving, leavesFrames, leavesRing, submitsBy}
 use Rattle.promises.specs.Bells.{Boundary, collects, isCollectsOf, kindAt, none, reads, unlinksOf}
 use Rattle.promises.specs.Boundaries.{At, BoundaryKept, BoundaryNumbered, RungAndAnswered, past, turn}
 

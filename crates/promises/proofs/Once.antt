@@ -2,21 +2,19 @@
 use mathlib.Core.Path.{_≡_, refl, sym, ap, _∙_}
 use mathlib.Core.List.{List, [], _∷_, _++_}
 use mathlib.Core.Bool.{Bool, true, false, cond, true≢false, false≢true}
-use Prim.Native.Nat.{ℕ, zero, suc, _+_, _≤_, _<_}
+use Prim.Native.Nat.{ℕ, _+_, _≤_, _<_}
 use native.Mathlib.Omega.{arith}
-use borrow.Author.Tests.{eqb-true, leb-true, leb-false, ltb-true, ltb-false, lt-ltb}
-use lib.Dec.{eqb, leb, ltb}
+use borrow.Author.Tests.{eqb-true, leb-true, leb-false, ltb-true, lt-ltb}
+use lib.Dec.{eqb, leb}
 use lib.ListN.{length, take}
 use Rattle.settings.specs.Tests.{both, either}
 use Rattle.settings.specs.declared.settings.Settings.{Settings}
 use Rattle.pipe.specs.Endpoints.{flagNumber}
-use Rattle.pipe.specs.Kinds.{isInterrupt}
-use Rattle.controller.specs.declared.lent.Readings.{Readings}
 use Rattle.ehci.specs.declared.call.Call.{Call}
 use Rattle.promises.specs.Runs.{History, Machine, Turn, World, historyOf}
 use Rattle.promises.specs.Events.{Event, Other, Reads, Drains, Submits, Unlinks, Parts, Collects, event, rings}
-use Rattle.promises.specs.Bells.{Answered, Bell, Quiet, Rung, asked, bell, collects, counted, drains, isAnswered, isDrains, isReads, isUnlinks, isUnlinksOf, isUp, next, none, number, reads, renews, someTurn, unlinking, unlinks, unlinksOf}
-use Rattle.promises.specs.Boundaries.{Exact, Once, OnePasses, OnlyAnswered, Passes, PassesExactly, UpExactly, past, turn}
+use Rattle.promises.specs.Bells.{Answered, Bell, Quiet, Rung, asked, bell, counted, drains, isAnswered, isDrains, isReads, isUnlinks, isUnlinksOf, isUp, next, none, number, reads, renews, someTurn, unlinking, unlinks, unlinksOf}
+use Rattle.promises.specs.Boundaries.{Once, OnePasses, OnlyAnswered, Passes, PassesExactly, UpExactly, past, turn}
 
 -- ---- of any history
 not-both : (x : Event) → (both (isReads x) (isDrains x)) ≡ false

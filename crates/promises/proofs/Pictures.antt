@@ -1,7 +1,7 @@
 -- Pictures of the past, and how they grow by a turn.
-use mathlib.Core.Path.{_≡_, refl, sym, ap, _∙_}
-use mathlib.Core.List.{List, [], _∷_, _++_}
-use mathlib.Core.Bool.{Bool, true, false}
+use mathlib.Core.Path.{_≡_, refl, ap}
+use mathlib.Core.List.{[], _∷_, _++_}
+use mathlib.Core.Bool.{true, false}
 use Prim.Native.Nat.{ℕ}
 use Rattle.settings.specs.declared.settings.Settings.{Settings}
 use Rattle.promises.specs.Runs.{History, Turn}

@@ -1,17 +1,17 @@
 -- Of any machine that keeps the exact rule, has a ring out exactly while an unlink is unanswered, and takes each event in its place: how long an unlink waits.
-use Prim.Native.Nat.{ℕ, _+_, _≤_, _<_}
+use Prim.Native.Nat.{ℕ, _+_, _≤_}
 use mathlib.Core.Bool.{Bool, true, false, cond, true≢false, false≢true}
 use mathlib.Core.List.{List, [], _∷_, _++_}
 use mathlib.Core.Path.{_≡_, refl, sym, ap, _∙_}
 use native.Mathlib.Omega.{arith}
 use lib.ListN.{length, take}
-use Rattle.settings.specs.Tests.{both, either}
+use Rattle.settings.specs.Tests.{either}
 use Rattle.settings.specs.declared.settings.Settings.{Settings}
 use Rattle.pipe.specs.Endpoints.{flagNumber}
 use Rattle.ehci.specs.declared.call.Call.{Call}
 use Rattle.promises.specs.Runs.{History, Machine, Turn, World, historyOf}
 use Rattle.promises.specs.Events.{Event, Other, Reads, Drains, Submits, Unlinks, Parts, Collects, event}
-use Rattle.promises.specs.Bells.{asked, bell, collects, counted, isAnswered, isPartsOf, isSubmitsOf, isUnlinks, isUnlinksOf, linked, none, number, partsOf, renews, submits, unlinking, unlinksOf}
+use Rattle.promises.specs.Bells.{asked, bell, collects, counted, isAnswered, isSubmitsOf, isUnlinks, isUnlinksOf, linked, none, number, partsOf, renews, submits, unlinking, unlinksOf}
 use Rattle.promises.specs.Boundaries.{Orderly, PassesExactly, UpExactly, Waits, past, turn}
 use Rattle.promises.proofs.Once.{none-counted}
 

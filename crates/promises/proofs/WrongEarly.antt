@@ -1,33 +1,32 @@
 -- An advance that was read before the ring is counted after it: of `early` and `any` the boundary is not kept, and a place is given too soon.
 use Prim.Native.Nat.{ℕ}
-use mathlib.Core.Path.{_≡_, refl, sym, ap, subst, _∙_}
-use mathlib.Core.Bool.{Bool, true, false, true≢false, false≢true}
-use mathlib.Core.List.{List, [], _∷_}
-use lib.Dec.{eqb}
-use lib.ListN.{getD, replicate}
-use Rattle.register.specs.Bits.{anyOf, bit, withBits, withoutBits}
+use mathlib.Core.Path.{_≡_, refl, sym, ap, _∙_}
+use mathlib.Core.Bool.{true, false, true≢false}
+use mathlib.Core.List.{List, _∷_}
+use Rattle.register.specs.Bits.{anyOf, withBits}
 use Rattle.register.specs.Writes.{andThen, noWrites}
 use Rattle.pool.specs.Chains.{metFrom}
 use Rattle.pool.specs.EhciChain.{follow}
 use Rattle.state.specs.State.{withBell}
 use Rattle.pipe.specs.Kinds.{isInterrupt}
-use Rattle.schedule.specs.Bell.{commandWord, ringWord}
+use Rattle.schedule.specs.Bell.{ringWord}
 use Rattle.request.specs.Submit.{writesWith}
-use Rattle.interrupt.specs.Interrupts.{acknowledgeWrites, maskWord}
+use Rattle.interrupt.specs.Interrupts.{acknowledgeWrites}
 use Rattle.ehci.specs.declared.call.Call.{Call}
 use Rattle.ehci.specs.declared.call.Call.the-variants.{Cancel, Collect, Drain}
 use Rattle.ehci.specs.declared.reply.Answered.the-variants.{Done, Cancelled}
 use Rattle.ehci.specs.declared.reply.Given.the-variants as G
 use Rattle.ehci.specs.declared.reply.Event.the-variants as E
 use Rattle.ehci.specs.Door.{Applied}
-use Rattle.promises.specs.Runs.{History, Machine, Turn, World, core, historyOf, leftBy, rowsOf, turnOf, worldOf}
+use Rattle.promises.specs.Runs.{History, Machine, Turn, World, historyOf, rowsOf, turnOf, worldOf}
 use Rattle.promises.specs.Walks.{chainWalk, isIn, ringWalk, walkFrom}
 use Rattle.promises.specs.Events.{Submits, event, isCollected}
 use Rattle.promises.specs.Bells.{kindAt}
 use Rattle.promises.specs.Boundaries.{BoundaryKept, EveryRun}
-use Rattle.promises.specs.Faults.{NeverGiven, holds, isHeld, mayRead}
+use Rattle.promises.specs.Faults.{NeverGiven, holds, mayRead}
 use Rattle.promises.proofs.Reached.{freshWorld}
-use Rattle.promises.proofs.WrongRuns.{acknowledges, againOne, apartOne, collected, drained, freeOne, heard, linked, linkedOne, one, openedTwo, opening, reading, replies, request, small, stateOf, submits, submitted, submitted-again, unlinked, up-world, upCalls, waits, Plainly}
+use Rattle.promises.proofs.WrongRuns.{acknowledges, linked, one, openedTwo, opening, reading, replies, request, small, stateOf, submits, up-world, upCalls, waits, Plainly}
+use Rattle.promises.proofs.WrongCalls.{againOne, apartOne, collected, drained, freeOne, heard, linkedOne, submitted, submitted-again, unlinked}
 use Rattle.promises.proofs.WrongBells.{any, any-plainly, boundary?, early, early-plainly, found, goes-on, is-told, noteAfter}
 
 -- newest first: one request; the advance bit is read; only then it is unlinked, which rings; a drain

@@ -1,16 +1,14 @@
 -- A note that stays where a port change shares the drain is counted again: of `twice` the boundary is not kept, and a place is given too soon.
-use Prim.Native.Nat.{ℕ}
 use mathlib.Core.Path.{_≡_, refl, sym, ap, _∙_}
-use mathlib.Core.Bool.{Bool, true, false, true≢false, false≢true}
-use mathlib.Core.List.{List, [], _∷_}
-use lib.Dec.{eqb}
-use Rattle.register.specs.Bits.{anyOf, bit, withBits}
+use mathlib.Core.Bool.{true, false, true≢false}
+use mathlib.Core.List.{List, _∷_}
+use Rattle.register.specs.Bits.{anyOf, withBits}
 use Rattle.register.specs.Writes.{andThen, noWrites}
 use Rattle.pool.specs.Chains.{metFrom}
 use Rattle.pool.specs.EhciChain.{follow}
 use Rattle.state.specs.State.{withBell}
 use Rattle.pipe.specs.Kinds.{isInterrupt}
-use Rattle.schedule.specs.Bell.{commandWord, ringWord}
+use Rattle.schedule.specs.Bell.{ringWord}
 use Rattle.request.specs.Submit.{writesWith}
 use Rattle.interrupt.specs.Interrupts.{acknowledgeWrites}
 use Rattle.ehci.specs.declared.call.Call.{Call}
@@ -19,14 +17,15 @@ use Rattle.ehci.specs.declared.reply.Answered.the-variants.{Done, Cancelled}
 use Rattle.ehci.specs.declared.reply.Given.the-variants as G
 use Rattle.ehci.specs.declared.reply.Event.the-variants as E
 use Rattle.ehci.specs.Door.{Applied}
-use Rattle.promises.specs.Runs.{History, Turn, World, core, historyOf, rowsOf, turnOf, worldOf}
+use Rattle.promises.specs.Runs.{History, Turn, World, historyOf, rowsOf, turnOf, worldOf}
 use Rattle.promises.specs.Walks.{chainWalk, isIn, ringWalk, walkFrom}
 use Rattle.promises.specs.Events.{Submits, event, isCollected}
 use Rattle.promises.specs.Bells.{kindAt}
 use Rattle.promises.specs.Boundaries.{BoundaryKept, EveryRun}
 use Rattle.promises.specs.Faults.{NeverGiven, holds, mayRead}
 use Rattle.promises.proofs.Reached.{freshWorld}
-use Rattle.promises.proofs.WrongRuns.{acknowledges, againSecond, apartFirst, apartTwo, collected-second, drained-first, drained-second, freeSecond, heard-two, linked, linkedOne, linkedTwo, one, openedTwo, opening, reading, replies, request, small, stateOf, submits, submitted, submitted-second, submitted-two, two, unlinked-first, unlinked-second, up-world, upCalls, waits}
+use Rattle.promises.proofs.WrongRuns.{acknowledges, linked, one, openedTwo, opening, reading, replies, request, small, stateOf, submits, two, up-world, upCalls, waits}
+use Rattle.promises.proofs.WrongCalls.{againSecond, apartFirst, apartTwo, collected-second, drained-first, drained-second, freeSecond, heard-two, linkedOne, linkedTwo, submitted, submitted-second, submitted-two, unlinked-first, unlinked-second}
 use Rattle.promises.proofs.WrongBells.{boundary?, found, goes-on, is-told, noteAfter, twice, twice-plainly}
 
 abbrev w : World

@@ -3,7 +3,7 @@ use Prim.Native.Nat.{ℕ}
 use mathlib.Core.Bool.{Bool, true, false, cond}
 use mathlib.Core.List.{List, [], _∷_}
 use mathlib.Core.Path.{_≡_}
-use lib.Dec.{eqb, leb}
+use lib.Dec.{eqb}
 use Rattle.settings.specs.Tests.{both, either}
 use Rattle.settings.specs.declared.settings.Settings.{Settings}
 use Rattle.schedule.specs.Bell.{framesPassed, frameOf}
@@ -12,7 +12,7 @@ use Rattle.ehci.specs.declared.call.Call.{Call}
 use Rattle.promises.specs.Runs.{History, Machine, Turn, World}
 use Rattle.promises.specs.Walks.{chainWalk, isIn}
 use Rattle.promises.specs.Events.{Event, Other, Reads, Drains, Submits, Unlinks, Parts, Collects, event, rings}
-use Rattle.promises.specs.Bells.{isReads, reads}
+use Rattle.promises.specs.Bells.{isReads}
 use Rattle.promises.specs.Boundaries.{past, turn}
 
 -- how far the controller is from having forgotten a request's head
