@@ -1,15 +1,14 @@
 -- A linked head is found by its predecessor, and taking it out leaves both schedules' chains.
-use Prim.Native.Nat.{ℕ, _+_, _*_, _/_, _%_, _≤_, _<_}
+use Prim.Native.Nat.{ℕ, _+_, _*_, _/_, _<_}
 use mathlib.Core.Path.{_≡_, refl, sym, ap, subst, _∙_}
 use mathlib.Core.Bool.{Bool, true, false, not}
 use mathlib.Core.List.{List, [], _∷_, _++_}
-use mathlib.Core.Logic.{_⊎_}
 use native.Mathlib.Omega.{arith}
-use borrow.Author.Tests.{eq-eqb, eqb-false, eqb-true, ne-eqb, not-true}
+use borrow.Author.Tests.{eq-eqb, eqb-false, ne-eqb, not-true}
 use lib.Dec.{eqb}
 use lib.ListN.{getD, getD-replicate, length, replicate}
 use lib.Seq.{getD-set-other}
-use Rattle.settings.specs.Tests.{both, either, every}
+use Rattle.settings.specs.Tests.{both, either}
 use Rattle.settings.proofs.Every.{false-true}
 use Rattle.settings.proofs.SettingsCases.{both-first, both-second}
 use Rattle.state.specs.declared.state.Ehci.{Ehci}
@@ -19,14 +18,14 @@ use Rattle.pipe.specs.Kinds.{isInterrupt}
 use Rattle.pipe.specs.declared.endpoint.Endpoint.{Endpoint}
 use Rattle.pipe.specs.declared.endpoint.Endpoint.the-variants.{Closed, Idle, Linked, Unlinking}
 use Rattle.pipe.proofs.EndpointLaws.{Wide}
-use Rattle.schedule.specs.Links.{Links, detachOf, firstWord, headAddress, leadsTo, linkWord, periodic, precedes, precedesOne, predecessorOf, ringLink, same, slotLink, withLinkWord, withRingLink}
-use Rattle.schedule.specs.Walks.{Avoids, Chain, Distinct, In}
+use Rattle.schedule.specs.Links.{Links, detachOf, firstWord, headAddress, linkWord, periodic, precedes, precedesOne, predecessorOf, ringLink, same, slotLink, withLinkWord, withRingLink}
+use Rattle.schedule.specs.Walks.{Chain, Distinct}
 use Rattle.schedule.specs.declared.links.Predecessor.the-variants.{First, Head}
 use Rattle.schedule.proofs.WalkLaws.{finds-first, finds-later, first-leaves, later-leaves, leads-here}
 use Rattle.promises.specs.Runs.{Rows}
 use Rattle.promises.specs.Walks.{isIn}
 use Rattle.promises.specs.Uses.{remove}
-use Rattle.promises.proofs.ChainLists.{Neighbours, Stands, elsewhere, first, in-append, in-same, later, neighbours, remove-first, remove-later, stands}
+use Rattle.promises.proofs.ChainLists.{Stands, elsewhere, first, in-append, later, neighbours, remove-first, remove-later, stands}
 use Rattle.promises.proofs.ChainInv.{Schedule, Schedules, chain-stays, linked-by, linked-within, linkedIn}
 
 pub same-is : (b c : Bool) → same b c ≡ true → c ≡ b

@@ -1,5 +1,5 @@
 -- A call that unlinks is seen to: its head was met by its schedule's walk before, and is not after.
-use Prim.Native.Nat.{ℕ, _+_, _*_, _≤_, _<_}
+use Prim.Native.Nat.{ℕ, _+_, _*_, _<_}
 use mathlib.Core.Path.{_≡_, refl, sym, ap, subst, _∙_}
 use mathlib.Core.Bool.{Bool, true, false, not, cond}
 use mathlib.Core.List.{List, [], _∷_, _++_}
@@ -15,22 +15,21 @@ use Rattle.state.specs.declared.state.Ehci.{Ehci}
 use Rattle.state.proofs.RangesLaws.{Ranges}
 use Rattle.pipe.specs.Endpoints.{endpointAt}
 use Rattle.pipe.specs.Kinds.{isInterrupt}
-use Rattle.pipe.specs.declared.endpoint.Endpoint.the-variants.{Linked}
 use Rattle.pipe.proofs.EndpointLaws.{Wide}
-use Rattle.schedule.specs.Links.{detachOf, ringLink, same}
+use Rattle.schedule.specs.Links.{detachOf, ringLink}
 use Rattle.schedule.specs.Walks.{Chain, Distinct}
 use Rattle.ehci.specs.declared.call.Call.{Call}
 use Rattle.ehci.specs.Door.{Applied}
 use Rattle.promises.specs.Runs.{History, Rows, Turn, World, rowsOf, turnOf}
 use Rattle.promises.specs.Walks.{frameWalk, isIn, ringWalk}
-use Rattle.promises.specs.Events.{Event, Other, Parts, Unlinks, event, leaving, leavesFrames, leavesRing}
+use Rattle.promises.specs.Events.{Other, Parts, Unlinks, event, leavesFrames, leavesRing}
 use Rattle.promises.specs.Uses.{frameSlots, remove, ringSlots}
-use Rattle.promises.specs.Chains.{placesOf}
+use Rattle.promises.specs.Chains.{headPlaces}
 use Rattle.promises.proofs.Effects.{Unlinked, withLinks}
 use Rattle.promises.proofs.Sound.{Sound}
 use Rattle.promises.proofs.ChainLists.{distinct-remove, few, in-append, in-places, in-remove}
 use Rattle.promises.proofs.WalkChains.{walk-frames, walk-ring}
-use Rattle.promises.proofs.ChainInv.{Chained, Schedule, Schedules, linked-within, linkedIn}
+use Rattle.promises.proofs.ChainInv.{Chained, heads-long, Schedules, linked-within, linkedIn}
 use Rattle.promises.proofs.ChainDetach.{Parted, frames-parted, ring-parted}
 
 -- ---- the walks of a chain
@@ -38,19 +37,19 @@ use Rattle.promises.proofs.ChainDetach.{Parted, frames-parted, ring-par
 module _ (s : Ehci) (g : Good (s .settings)) (rows : Rows) (ks : List ℕ) (d : Distinct ks)
     (within : (i : ℕ) → isIn i ks ≡ true → i < s .settings .endpoints) where
   pub ring-walked : Chain s (rows .heads) (ringLink (rows .heads)) ks (s .settings .heads + 2)
-      → ringWalk (s .settings) rows ≡ placesOf ks ++ 0 ∷ []
+      → ringWalk (s .settings) rows ≡ headPlaces ks ++ 0 ∷ []
   unfolding ringWalk
   ring-walked c =
       walk-ring s g (rows .heads) (s .settings .endpoints) (ringLink (rows .heads)) ks c within (few (s .settings .endpoints) ks d within)
 
-  pub frame-walked : (f : ℕ) → Chain s (rows .heads) (getD (rows .frames) f 0) ks 1 → frameWalk (s .settings) rows f ≡ placesOf ks
+  pub frame-walked : (f : ℕ) → Chain s (rows .heads) (getD (rows .frames) f 0) ks 1 → frameWalk (s .settings) rows f ≡ headPlaces ks
   unfolding frameWalk
   frame-walked f c =
       walk-frames s g (rows .heads) (s .settings .endpoints) (getD (rows .frames) f 0) ks c within (few (s .settings .endpoints) ks d within)
 
-in-ring-places : (k : ℕ) (ks : List ℕ) → isIn (k + 1) (placesOf ks ++ 0 ∷ []) ≡ isIn k ks
+in-ring-places : (k : ℕ) (ks : List ℕ) → isIn (k + 1) (headPlaces ks ++ 0 ∷ []) ≡ isIn k ks
 in-ring-places k ks =
-    in-append (k + 1) (placesOf ks) (0 ∷ []) ∙ rw (ne-eqb 0 (k + 1) (λ e. omega arith), in-places k ks) (by (isIn k ks))
+    in-append (k + 1) (headPlaces ks) (0 ∷ []) ∙ rw (ne-eqb 0 (k + 1) (λ e. omega arith), in-places k ks) (by (isIn k ks))
   where
     by : (b : Bool) → either b false ≡ b
     by true = refl
@@ -59,11 +58,11 @@ in-ring-places k ks =
 -- ---- a turn by the slots before and after
 
 module _ (s : Ehci) (g : Good (s .settings)) (t : Turn) (k : ℕ) where
-  ring-left : (ks ls : List ℕ) → ringWalk (s .settings) (t .before) ≡ placesOf ks ++ 0 ∷ [] → ringWalk (s .settings) (t .after) ≡ placesOf ls ++ 0 ∷ []
+  ring-left : (ks ls : List ℕ) → ringWalk (s .settings) (t .before) ≡ headPlaces ks ++ 0 ∷ [] → ringWalk (s .settings) (t .after) ≡ headPlaces ls ++ 0 ∷ []
       → leavesRing (s .settings) k t ≡ both (isIn k ks) (not (isIn k ls))
   ring-left ks ls a b = rw (a, b, in-ring-places k ks, in-ring-places k ls)
 
-  frames-left : (js ms : List ℕ) → frameWalk (s .settings) (t .before) 0 ≡ placesOf js → frameWalk (s .settings) (t .after) 0 ≡ placesOf ms
+  frames-left : (js ms : List ℕ) → frameWalk (s .settings) (t .before) 0 ≡ headPlaces js → frameWalk (s .settings) (t .after) 0 ≡ headPlaces ms
       → leavesFrames (s .settings) k t ≡ both (isIn k js) (not (isIn k ms))
   frames-left js ms a b = rw (a, b, in-places k js, in-places k ms)
 
@@ -81,12 +80,12 @@ module _ (w : World) (c : Call) (a : Applied) (r : Ranges (w .state)) (wide : Wi
   abbrev turn : Turn
   turn = turnOf (w .rows) c a
 
-  ring-before : ringWalk (w .state .settings) (w .rows) ≡ placesOf ks ++ 0 ∷ []
+  ring-before : ringWalk (w .state .settings) (w .rows) ≡ headPlaces ks ++ 0 ∷ []
   ring-before =
       ring-walked (w .state) (r .good) (w .rows) ks (x .ring .apart)
       (λ i m. linked-within false (w .state) i r (sym (x .ring .members i) ∙ m)) (x .ring .chain)
 
-  frames-before : frameWalk (w .state .settings) (w .rows) 0 ≡ placesOf js
+  frames-before : frameWalk (w .state .settings) (w .rows) 0 ≡ headPlaces js
   frames-before =
       frame-walked (w .state) (r .good) (w .rows) js (x .periodic .apart)
       (λ i m. linked-within true (w .state) i r (sym (x .periodic .members i) ∙ m)) 0 (x .periodic .chain)
@@ -98,14 +97,14 @@ module _ (w : World) (c : Call) (a : Applied) (r : Ranges (w .state)) (wide : Wi
         withLinks (w .rows) (detachOf (w .state) (w .rows .heads) (w .rows .frames) (u .k) .rows .heads)
         (detachOf (w .state) (w .rows .heads) (w .rows .frames) (u .k) .rows .frames)
 
-    ring-after : ringWalk (w .state .settings) (rowsOf a) ≡ placesOf ls ++ 0 ∷ []
+    ring-after : ringWalk (w .state .settings) (rowsOf a) ≡ headPlaces ls ++ 0 ∷ []
     unfolding left
     ring-after =
         ap (ringWalk (w .state .settings)) (u .rows-are)
         ∙ ring-walked (w .state) (r .good) left ls dl
         (λ i m. linked-within false (w .state) i r (sym (x .ring .members i) ∙ wl i m)) (p .ring)
 
-    frames-after : frameWalk (w .state .settings) (rowsOf a) 0 ≡ placesOf ms
+    frames-after : frameWalk (w .state .settings) (rowsOf a) 0 ≡ headPlaces ms
     unfolding left
     frames-after =
         ap (λ (rows : Rows). frameWalk (w .state .settings) rows 0) (u .rows-are)
@@ -143,4 +142,4 @@ unlink-event s h w c a sound x u =
     let here = sound .settings-are in
     subst (λ (z : Settings). event z (turnOf (w .rows) c a) ≡ cond (isInterrupt (u .p .kind)) (Parts (u .k) (u .readings .frame)) (Unlinks (u .k))) here
     (unlink-told w c a (sound .ranges) (sound .wide) (ringSlots s h) (frameSlots s h) x
-    (sound .heads-fit ∙ ap (λ (z : Settings). 17 * (z .endpoints + 1)) (sym here)) (sound .frames-fit) u)
+    (heads-long s w sound) (sound .frames-fit) u)

@@ -1,6 +1,6 @@
 -- The two schedules of a world: each is a chain of links through exactly the linked slots of its kind.
 use Prim.Native.Nat.{ℕ, _+_, _-_, _*_, _≤_, _<_}
-use mathlib.Core.Path.{_≡_, refl, sym, ap, subst, _∙_}
+use mathlib.Core.Path.{_≡_, refl, sym, ap, _∙_}
 use mathlib.Core.Bool.{Bool, true, false, not}
 use mathlib.Core.List.{List, [], _∷_}
 use native.Mathlib.Decide.{ℕ-discrete as decEq}
@@ -10,7 +10,6 @@ use lib.Dec.{eqb, ltb}
 use lib.ListN.{getD, length, List·getD-eq-default}
 use Rattle.settings.specs.Tests.{both}
 use Rattle.settings.specs.declared.settings.Settings.{Settings}
-use Rattle.settings.proofs.Every.{false-true}
 use Rattle.slot.specs.declared.slot.Slot.{Slot}
 use Rattle.slot.proofs.SlotLaws.{Phase, slot-tells}
 use Rattle.state.specs.Slots.{slotAt}
@@ -20,16 +19,15 @@ use Rattle.pipe.specs.Endpoints.{decoded, encoded, endpointAt, kindOf, pickEndp
 use Rattle.pipe.specs.Kinds.{isInterrupt}
 use Rattle.pipe.specs.declared.endpoint.Endpoint.{Endpoint}
 use Rattle.pipe.specs.declared.endpoint.Endpoint.the-variants.{Closed, Idle, Linked, Unlinking}
-use Rattle.pipe.specs.declared.endpoint.Pipe.{Pipe}
-use Rattle.pipe.specs.declared.endpoint.Request.{Request}
 use Rattle.pipe.proofs.EndpointLaws.{Wide, endpoint-other, kind-there, slot-same}
 use Rattle.controller.specs.Readers.{hasEndpoint}
 use Rattle.controller.proofs.ReaderLaws.{open-below, open-within}
-use Rattle.schedule.specs.Links.{linkWord, periodic, ringLink, same, slotLink}
+use Rattle.schedule.specs.Links.{linkWord, periodic, ringLink, same}
 use Rattle.schedule.specs.Walks.{Chain, Distinct}
 use Rattle.promises.specs.Runs.{History, Rows, World}
 use Rattle.promises.specs.Walks.{isIn}
 use Rattle.promises.specs.Uses.{frameSlots, remove, ringSlots}
+use Rattle.promises.proofs.Sound.{Sound}
 use Rattle.promises.proofs.ChainLists.{distinct-remove, in-later, in-remove, in-same, out-avoids}
 
 -- linked in the frame list (true), or in the ring (false)
@@ -53,6 +51,10 @@ pub record Schedules (s : Ehci) (rows : Rows) (ks js : List ℕ) : Type 0 where
 -- the invariant: the slots are those that the history tells
 abbrev pub Chained : Settings → History → World → Type 0
 Chained s h w = Schedules (w .state) (w .rows) (ringSlots s h) (frameSlots s h)
+
+-- the row of heads is as long as the state's own settings say
+pub heads-long : (s : Settings) (w : World) → Sound s w → length (w .rows .heads) ≡ 17 * (w .state .settings .endpoints + 1)
+heads-long s w sound = sound .heads-fit ∙ ap (λ (z : Settings). 17 * (z .endpoints + 1)) (sym (sound .settings-are))
 
 -- ---- linked slots by their numbers
 

@@ -1,42 +1,37 @@
 -- Both schedules, kept by every call.
 use Prim.Native.Nat.{ℕ, _+_, _*_, _≤_, _<_}
 use mathlib.Core.Path.{_≡_, refl, sym, ap, subst, _∙_}
-use mathlib.Core.Bool.{Bool, true, false, not, cond}
-use mathlib.Core.List.{List, [], _∷_}
+use mathlib.Core.Bool.{Bool, true, false, cond}
+use mathlib.Core.List.{List, _∷_}
 use native.Mathlib.Decide.{ℕ-discrete as decEq}
 use native.Mathlib.Omega.{arith}
 use lib.ListN.{getD, length}
 use Rattle.settings.specs.declared.settings.Settings.{Settings}
-use Rattle.settings.proofs.Every.{false-true}
 use Rattle.state.specs.Slots.{withSlot}
 use Rattle.state.specs.State.{withBell, withOwner}
 use Rattle.state.specs.declared.state.Ehci.{Ehci}
-use Rattle.state.proofs.RangesLaws.{Ranges}
 use Rattle.pipe.specs.Endpoints.{endpointAt, withEndpoint}
 use Rattle.pipe.specs.Kinds.{isInterrupt}
-use Rattle.pipe.specs.declared.endpoint.Endpoint.{Endpoint}
-use Rattle.pipe.specs.declared.endpoint.Endpoint.the-variants.{Closed, Idle, Linked, Unlinking}
+use Rattle.pipe.specs.declared.endpoint.Endpoint.the-variants.{Linked, Unlinking}
 use Rattle.pipe.specs.declared.endpoint.Pipe.{Pipe}
 use Rattle.pipe.specs.declared.endpoint.Request.{Request}
 use Rattle.pipe.proofs.EndpointLaws.{Wide, bell-wide, owner-wide}
-use Rattle.controller.specs.Readers.{hasEndpoint}
 use Rattle.controller.specs.declared.lent.Readings.{Readings}
 use Rattle.controller.proofs.ReaderLaws.{open-below, open-within}
 use Rattle.schedule.specs.Bell.{bellOf}
 use Rattle.schedule.specs.Links.{Links, detachOf, ringLink, same, slotLink}
-use Rattle.schedule.specs.Walks.{Chain, Distinct}
+use Rattle.schedule.specs.Walks.{Chain}
 use Rattle.request.specs.Submit.{firstIn, idAt, linkedRows, linkedWith, stateWith, takenFor}
-use Rattle.request.specs.declared.judge.TransferRequest.{TransferRequest}
 use Rattle.request.proofs.SubmitLaws.{submit-others}
 use Rattle.collection.specs.Unlinks.{boundedOf, waitingOf}
 use Rattle.ehci.specs.declared.call.Call.{Call}
 use Rattle.ehci.specs.Door.{Applied}
 use Rattle.promises.specs.Runs.{History, Rows, World, leftBy, rowsOf, turnOf}
-use Rattle.promises.specs.Events.{Event, Parts, Submits, Unlinks, event}
+use Rattle.promises.specs.Events.{Parts, Submits, Unlinks, event}
 use Rattle.promises.specs.Uses.{frameSlots, framesAfter, remove, ringAfter, ringSlots}
 use Rattle.promises.proofs.Effects.{Accepts, Effect, Unlinked, withLinks}
-use Rattle.promises.proofs.Sound.{Sound}
-use Rattle.promises.proofs.ChainInv.{Chained, Schedule, Schedules, chain-stays, linked-fields, linked-here, linked-there, linked-within, linkedIn, schedule-shrinks}
+use Rattle.promises.proofs.Sound.{Sound, slot-low}
+use Rattle.promises.proofs.ChainInv.{Chained, heads-long, Schedule, Schedules, chain-stays, linked-fields, linked-here, linked-there, linkedIn, schedule-shrinks}
 use Rattle.promises.proofs.ChainDetach.{Parted, frames-parted, ring-parted}
 use Rattle.promises.proofs.ChainEvents.{unlink-told}
 use Rattle.promises.proofs.ChainSteps as Steps
@@ -118,9 +113,6 @@ module _ (s : Ehci) (readings : Readings) (k : ℕ) (p : Pipe) (r : Request) whe
   waiting-settings = refl
 
 module _ (s : Settings) (h : History) (w : World) (c : Call) (a : Applied) (sound : Sound s w) (x : Chained s h w) where
-  heads-fit : length (w .rows .heads) ≡ 17 * (w .state .settings .endpoints + 1)
-  heads-fit = sound .heads-fit ∙ ap (λ (z : Settings). 17 * (z .endpoints + 1)) (sym (sound .settings-are))
-
   module _ (u : Unlinked w c a) where
     abbrev waits : Ehci
     waits = waitingOf (w .state) (u .readings) (u .k) (u .p) (u .asked) .state
@@ -132,10 +124,10 @@ module _ (s : Settings) (h : History) (w : World) (c : Call) (a : Applied) (soun
     kind-says b i e = ap (linkedIn b) (u .linked) ∙ ap (same b) e
 
     low : u .k < 32
-    low = open-below (w .state) (u .k) (ap hasEndpoint (u .linked))
+    low = slot-low s w sound (u .k) (Linked (u .p) (u .r)) (u .linked) refl
 
     told : event (w .state .settings) (turnOf (w .rows) c a) ≡ cond (isInterrupt (u .p .kind)) (Parts (u .k) (u .readings .frame)) (Unlinks (u .k))
-    told = unlink-told w c a (sound .ranges) (sound .wide) (ringSlots s h) (frameSlots s h) x heads-fit (sound .frames-fit) u
+    told = unlink-told w c a (sound .ranges) (sound .wide) (ringSlots s h) (frameSlots s h) x (heads-long s w sound) (sound .frames-fit) u
 
     unlinks-by : (b : Bool) → isInterrupt (u .p .kind) ≡ b → Chained s (turnOf (w .rows) c a ∷ h) (leftBy a)
     unlinks-by false e =
@@ -143,13 +135,13 @@ module _ (s : Settings) (h : History) (w : World) (c : Call) (a : Applied) (soun
         (ring-unlinked (w .state) waits (w .rows) parted (ringSlots s h) (frameSlots s h) x (u .k) (waiting-settings (w .state) (u .readings) (u .k) (u .p) (u .asked))
         (waiting-others (w .state) (u .readings) (u .k) (u .p) (u .asked)) (waiting-now (w .state) (u .readings) (u .k) (u .p) (u .asked) (sound .wide) low)
         (kind-says true false e)
-        (ring-parted (w .state) (sound .ranges) (sound .wide) (w .rows) (ringSlots s h) (frameSlots s h) x heads-fit (sound .frames-fit) (u .k) (kind-says false false e)))
+        (ring-parted (w .state) (sound .ranges) (sound .wide) (w .rows) (ringSlots s h) (frameSlots s h) x (heads-long s w sound) (sound .frames-fit) (u .k) (kind-says false false e)))
     unlinks-by true e =
         Steps.chained-after s h w c a sound x (Parts (u .k) (u .readings .frame)) (told ∙ rw e) waits (withLinks (w .rows) (parted .heads) (parted .frames)) (u .state-is) (u .rows-are)
         (frames-unlinked (w .state) waits (w .rows) parted (ringSlots s h) (frameSlots s h) x (u .k) (waiting-settings (w .state) (u .readings) (u .k) (u .p) (u .asked))
         (waiting-others (w .state) (u .readings) (u .k) (u .p) (u .asked)) (waiting-now (w .state) (u .readings) (u .k) (u .p) (u .asked) (sound .wide) low)
         (kind-says false true e)
-        (frames-parted (w .state) (sound .ranges) (sound .wide) (w .rows) (ringSlots s h) (frameSlots s h) x heads-fit (sound .frames-fit) (u .k) (kind-says true true e)))
+        (frames-parted (w .state) (sound .ranges) (sound .wide) (w .rows) (ringSlots s h) (frameSlots s h) x (heads-long s w sound) (sound .frames-fit) (u .k) (kind-says true true e)))
 
     pub unlinks-keeps : Chained s (turnOf (w .rows) c a ∷ h) (leftBy a)
     unlinks-keeps = unlinks-by (isInterrupt (u .p .kind)) refl
@@ -181,7 +173,7 @@ module _ (s : Settings) (h : History) (w : World) (c : Call) (a : Applied) (soun
     bare b = bare-unlinked b (endpointAt (w .state) (y .k)) (y .judged .bare)
 
     room : 17 * (y .k + 1) + 17 ≤ length (w .rows .heads)
-    room = omega (arith, heads-fit, open-within (w .state) (y .k) (sound .ranges) (y .judged .opened))
+    room = omega (arith, heads-long s w sound, open-within (w .state) (y .k) (sound .ranges) (y .judged .opened))
 
     accepts-by : (b : Bool) → isInterrupt (y .t .kind) ≡ b
         → Schedules takes (withLinks (w .rows) (attached .heads) (attached .frames)) (cond b (ringSlots s h) (y .k ∷ ringSlots s h)) (cond b (y .k ∷ frameSlots s h) (frameSlots s h))

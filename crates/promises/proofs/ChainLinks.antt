@@ -1,39 +1,33 @@
 -- An accepted submit puts its slot first in its schedule; an unlink takes its slot out; neither touches the other schedule.
 use Prim.Native.Nat.{ℕ, _+_, _*_, _≤_, _<_}
 use mathlib.Core.Path.{_≡_, refl, sym, ap, subst, _∙_}
-use mathlib.Core.Bool.{Bool, true, false, not, cond}
-use mathlib.Core.List.{List, [], _∷_}
+use mathlib.Core.Bool.{Bool, true, false}
+use mathlib.Core.List.{List, _∷_}
 use mathlib.Core.Logic.{_≢_}
 use native.Mathlib.Decide.{ℕ-discrete as decEq}
 use native.Mathlib.Omega.{arith}
-use lib.ListN.{getD, length, length-set, replicate}
+use lib.ListN.{getD, length, length-set}
 use lib.Seq.{getD-set-other}
 use Rattle.settings.specs.declared.settings.Settings.{Settings}
 use Rattle.settings.proofs.Every.{false-true}
-use Rattle.state.specs.Slots.{withSlot}
-use Rattle.state.specs.State.{withBell, withOwner}
 use Rattle.state.specs.declared.state.Ehci.{Ehci}
-use Rattle.state.proofs.RangesLaws.{Ranges}
 use Rattle.token.specs.declared.request.EndpointType.{EndpointType}
-use Rattle.pipe.specs.Endpoints.{endpointAt, withEndpoint}
+use Rattle.pipe.specs.Endpoints.{endpointAt}
 use Rattle.pipe.specs.Kinds.{isInterrupt}
 use Rattle.pipe.specs.declared.endpoint.Endpoint.{Endpoint}
 use Rattle.pipe.specs.declared.endpoint.Endpoint.the-variants.{Closed, Idle, Linked, Unlinking}
-use Rattle.pipe.proofs.EndpointLaws.{Wide, bell-wide, owner-wide}
 use Rattle.opening.specs.Rows.{withHeadWord}
 use Rattle.controller.specs.Readers.{holdsRequest}
-use Rattle.controller.proofs.ReaderLaws.{open-below, open-within}
-use Rattle.schedule.specs.Links.{Links, attachedFrames, attachedRing, linkWord, links, ringLink, slotLink, startedOverlay, withLinkWord, withRingLink}
+use Rattle.schedule.specs.Links.{Links, attachedFrames, attachedRing, linkWord, links, ringLink, slotLink, startedOverlay}
 use Rattle.schedule.specs.Walks.{Avoids, Chain}
 use Rattle.schedule.proofs.WalkLaws.{attach-first, frames-first}
-use Rattle.request.specs.Submit.{firstIn, linkedRows, linkedWith, stateWith, takenFor}
-use Rattle.request.specs.declared.judge.TransferRequest.{TransferRequest}
+use Rattle.request.specs.Submit.{linkedRows}
 use Rattle.request.proofs.SubmitLaws.{submit-words}
 use Rattle.promises.specs.Runs.{Rows}
 use Rattle.promises.specs.Walks.{isIn}
 use Rattle.promises.proofs.Effects.{withLinks}
 use Rattle.promises.proofs.ChainLists.{out-avoids}
-use Rattle.promises.proofs.ChainInv.{Schedule, Schedules, chain-stays, linked-fields, linked-here, linked-there, linkedIn, schedule-grows, schedule-stays}
+use Rattle.promises.proofs.ChainInv.{Schedule, Schedules, chain-stays, linkedIn, schedule-grows, schedule-stays}
 
 pub bare-unlinked : (b : Bool) (x : Endpoint) → holdsRequest x ≡ false → linkedIn b x ≡ false
 bare-unlinked b Closed e = refl

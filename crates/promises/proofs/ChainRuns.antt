@@ -2,26 +2,32 @@
 use Prim.Native.Nat.{ℕ, _+_, _<_}
 use mathlib.Core.Path.{_≡_, refl, sym, ap, subst, _∙_}
 use mathlib.Core.Bool.{Bool, true, false}
-use mathlib.Core.List.{List, [], _∷_, _++_}
+use mathlib.Core.List.{List, [], _∷_, _++_, map}
+use native.Mathlib.Decide.{ℕ-discrete as decEq}
 use native.Mathlib.Omega.{arith}
+use borrow.Author.Tests.{eq-eqb, ne-eqb}
 use lib.ListN.{getD, getD-replicate, replicate}
 use Rattle.settings.specs.Settings.{settingsGood}
 use Rattle.settings.specs.declared.settings.Settings.{Settings}
+use Rattle.settings.specs.Tests.{either}
+use Rattle.settings.proofs.Every.{false-true}
 use Rattle.settings.proofs.SettingsLaws.{good-tells}
 use Rattle.state.proofs.Arrays.{zeros-at}
 use Rattle.pipe.specs.Endpoints.{endpointAt}
-use Rattle.schedule.specs.Links.{ringLink}
-use Rattle.schedule.specs.Walks.{Chain}
+use Rattle.pipe.specs.declared.endpoint.Endpoint.{Endpoint}
+use Rattle.pipe.specs.declared.endpoint.Endpoint.the-variants.{Closed, Idle, Linked, Unlinking}
 use Rattle.opening.specs.Opening.{freshState}
 use Rattle.opening.proofs.OpenLaws.{heads-words}
 use Rattle.ehci.specs.declared.call.Call.{Call}
-use Rattle.promises.specs.Runs.{History, Opening, Rows, World, core, historyOf, worldOf}
-use Rattle.promises.specs.Walks.{frameWalk, ringWalk}
-use Rattle.promises.specs.Uses.{frameSlots, ringSlots}
-use Rattle.promises.specs.Chains.{FramesAre, RingIs, placesOf}
+use Rattle.promises.specs.Runs.{History, Opening, World, core, historyOf, worldOf}
+use Rattle.promises.specs.Walks.{frameWalk, isIn, ringWalk}
+use Rattle.promises.specs.Uses.{Use, frameSlots, ringSlots, uses}
+use Rattle.promises.specs.Chains.{ChainsWalked, headPlaces, isLinked}
 use Rattle.promises.proofs.Sound.{Sound}
 use Rattle.promises.proofs.Reached.{freshWorld, opening-is, reached, sound-opens}
-use Rattle.promises.proofs.ChainInv.{Chained, Schedule, Schedules, linked-by, linked-within, linkedIn}
+use Rattle.promises.proofs.UseInv.{Avoids, Held, Nobody, tenantOf, tenants-apart}
+use Rattle.promises.proofs.RoomPromises.{held}
+use Rattle.promises.proofs.ChainInv.{Chained, linked-by, linked-within, linkedIn}
 use Rattle.promises.proofs.ChainEvents.{frame-walked, ring-walked}
 use Rattle.promises.proofs.ChainKeeps.{chained-keeps}
 
@@ -55,24 +61,57 @@ chained = reached Chained chained-opens (λ s h w c a sound x e. chained-keeps s
 -- ---- the walks of a world
 
 module _ (s : Settings) (h : History) (w : World) (sound : Sound s w) (x : Chained s h w) where
-  pub ring-told : ringWalk s (w .rows) ≡ placesOf (ringSlots s h) ++ 0 ∷ []
+  pub ring-told : ringWalk s (w .rows) ≡ headPlaces (ringSlots s h) ++ 0 ∷ []
   ring-told =
-      subst (λ (z : Settings). ringWalk z (w .rows) ≡ placesOf (ringSlots s h) ++ 0 ∷ []) (sound .settings-are)
+      subst (λ (z : Settings). ringWalk z (w .rows) ≡ headPlaces (ringSlots s h) ++ 0 ∷ []) (sound .settings-are)
       (ring-walked (w .state) (sound .ranges .good) (w .rows) (ringSlots s h) (x .ring .apart)
       (λ i m. linked-within false (w .state) i (sound .ranges) (sym (x .ring .members i) ∙ m)) (x .ring .chain))
 
-  pub frames-told : (f : ℕ) → f < 1024 → frameWalk s (w .rows) f ≡ placesOf (frameSlots s h)
+  pub frames-told : (f : ℕ) → f < 1024 → frameWalk s (w .rows) f ≡ headPlaces (frameSlots s h)
   frames-told f low =
-      subst (λ (z : Settings). frameWalk z (w .rows) f ≡ placesOf (frameSlots s h)) (sound .settings-are)
+      subst (λ (z : Settings). frameWalk z (w .rows) f ≡ headPlaces (frameSlots s h)) (sound .settings-are)
       (frame-walked (w .state) (sound .ranges .good) (w .rows) (frameSlots s h) (x .periodic .apart)
       (λ i m. linked-within true (w .state) i (sound .ranges) (sym (x .periodic .members i) ∙ m)) f (rw (x .even f low) (x .periodic .chain)))
 
-pub ring-is : RingIs core
-ring-is s w o cs =
-    let at = chained s w o cs in
-    ring-told s (historyOf core w cs) (worldOf core w cs) (at .0) (at .1)
+-- ---- each linked head is that of an uncollected request
 
-pub frames-are : FramesAre core
-frames-are s w o cs =
+-- a slot that is none of the uses'
+out-of-uses : (k : ℕ) (us : List Use) → isIn k (map (λ u. u .slot) us) ≡ false → Avoids k us
+out-of-uses k [] e = tt
+out-of-uses k (u ∷ us) e = by (decEq (u .slot) k) (λ q. out-of-uses k us q)
+  where
+    by : Dec (u .slot ≡ k) → (isIn k (map (λ u. u .slot) us) ≡ false → Avoids k us) → Avoids k (u ∷ us)
+    by (yes q) rest = absurd (false-true (sym e ∙ rw (eq-eqb (u .slot) k q)))
+    by (no ne) rest = (ne, rest (rw (ne-eqb (u .slot) k ne) at e))
+
+linked-held : (b : Bool) (x : Endpoint) → linkedIn b x ≡ true → tenantOf x ≡ Nobody → ⊥
+linked-held b Closed e q = false-true e
+linked-held b (Idle p) e q = false-true e
+linked-held b (Linked p r) e q = tenants-apart (p .kind) (r .id) (r .length) (tenantOf (Linked p r)) q refl
+linked-held b (Unlinking p r u) e q = false-true e
+
+module _ (s : Settings) (h : History) (w : World) (x : Chained s h w) (held-by : Held s h w) where
+  in-uses : (b : Bool) (k : ℕ) → linkedIn b (endpointAt (w .state) k) ≡ true → isIn k (map (λ u. u .slot) (uses s h)) ≡ true
+  in-uses b k e = by (isIn k (map (λ u. u .slot) (uses s h))) refl
+    where
+      by : (c : Bool) → isIn k (map (λ u. u .slot) (uses s h)) ≡ c → c ≡ true
+      by true q = refl
+      by false q = absurd (linked-held b (endpointAt (w .state) k) e (held-by .rest k (out-of-uses k (uses s h) q) .0))
+
+  linked-used : (k : ℕ) → isLinked s h k ≡ true → isIn k (map (λ u. u .slot) (uses s h)) ≡ true
+  linked-used k e = by (isIn k (ringSlots s h)) refl e
+    where
+      by : (b : Bool) → isIn k (ringSlots s h) ≡ b → either b (isIn k (frameSlots s h)) ≡ true → isIn k (map (λ u. u .slot) (uses s h)) ≡ true
+      by true q m = in-uses false k (sym (x .ring .members k) ∙ q)
+      by false q m = in-uses true k (sym (x .periodic .members k) ∙ m)
+
+pub chains-walked : ChainsWalked core
+chains-walked s w o cs =
     let at = chained s w o cs in
-    frames-told s (historyOf core w cs) (worldOf core w cs) (at .0) (at .1)
+    let past = historyOf core w cs in
+    let now = worldOf core w cs in
+    record {
+      ring = ring-told s past now (at .0) (at .1);
+      frames = frames-told s past now (at .0) (at .1);
+      uncollected = linked-used s past now (at .1) (held s w o cs .1);
+    }

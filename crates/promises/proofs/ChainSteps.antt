@@ -1,13 +1,11 @@
 -- Calls that link and unlink nothing leave both schedules as they were.
 use Prim.Native.Nat.{ℕ, _+_, _*_, _≤_, _<_}
 use mathlib.Core.Path.{_≡_, refl, sym, ap, subst, _∙_}
-use mathlib.Core.Bool.{Bool, true, false, not, cond}
-use mathlib.Core.List.{List, [], _∷_}
-use mathlib.Core.Logic.{_≢_}
-use native.Mathlib.Decide.{ℕ-discrete as decEq}
+use mathlib.Core.Bool.{Bool, true, false}
+use mathlib.Core.List.{List, _∷_}
 use native.Mathlib.Omega.{arith}
 use borrow.Author.Tests.{ltb-false, ltb-true}
-use lib.Dec.{eqb, ltb}
+use lib.Dec.{ltb}
 use lib.ListN.{getD, length, replicate}
 use lib.Seq.{getD-set-other}
 use Rattle.descriptor.specs.Descriptors.{terminated}
@@ -18,15 +16,12 @@ use Rattle.settings.proofs.Every.{false-true}
 use Rattle.state.specs.State.{withBell, withBoundaries, withOwner}
 use Rattle.state.specs.Slots.{withSlot}
 use Rattle.state.specs.declared.state.Ehci.{Ehci}
-use Rattle.state.proofs.RangesLaws.{Ranges}
 use Rattle.pipe.specs.Endpoints.{endpointAt, withEndpoint}
 use Rattle.pipe.specs.declared.endpoint.Endpoint.{Endpoint}
-use Rattle.pipe.specs.declared.endpoint.Endpoint.the-variants.{Closed, Idle, Linked, Unlinking}
-use Rattle.pipe.proofs.EndpointLaws.{Wide, owner-aside, owner-wide}
-use Rattle.opening.specs.Rows.{putAt, withHeadWord}
+use Rattle.pipe.specs.declared.endpoint.Endpoint.the-variants.{Closed, Idle, Unlinking}
+use Rattle.pipe.proofs.EndpointLaws.{Wide, owner-wide}
+use Rattle.opening.specs.Rows.{withHeadWord}
 use Rattle.opening.proofs.RowLaws.{put-before, put-behind}
-use Rattle.controller.specs.Readers.{hasEndpoint}
-use Rattle.controller.proofs.ReaderLaws.{open-below, open-within}
 use Rattle.schedule.specs.Links.{endedOverlay, linkWord, ringLink}
 use Rattle.endpoint.specs.Calls.{newEndpoint, withHead}
 use Rattle.request.specs.Writeback.{tokenChain}
@@ -37,9 +32,9 @@ use Rattle.ehci.specs.Door.{Applied}
 use Rattle.promises.specs.Runs.{History, Rows, Turn, World, leftBy, rowsOf, turnOf}
 use Rattle.promises.specs.Events.{Collects, Drains, Event, Other, Reads, event}
 use Rattle.promises.specs.Uses.{frameSlots, framesAfter, ringAfter, ringSlots}
-use Rattle.promises.proofs.Effects.{Closes, Collected, Counts, Hears, Joins, Marks, Opens, Passes, Rewrites, Sides, Still, WritesBack, besides, withHeads, withPool}
-use Rattle.promises.proofs.Sound.{Sound}
-use Rattle.promises.proofs.ChainInv.{Chained, Schedule, Schedules, linked-fields, linkedIn, schedule-stays, unlinked-stays}
+use Rattle.promises.proofs.Effects.{Closes, Collected, Counts, Hears, Joins, Marks, Opens, Passes, Rewrites, Still, WritesBack, besides, withHeads, withPool}
+use Rattle.promises.proofs.Sound.{Sound, slot-below, slot-low}
+use Rattle.promises.proofs.ChainInv.{Chained, heads-long, Schedule, Schedules, linked-fields, linkedIn, schedule-stays, unlinked-stays}
 
 -- ---- two schedules under a change that links and unlinks nothing
 
@@ -145,18 +140,9 @@ module _ (s : Settings) (h : History) (w : World) (c : Call) (a : Applied) (soun
       who b i =
           unlinked-stays b t k e wide low (linked-fields b (w .state) t k p kinds ∙ old b) (new b) i ∙ linked-fields b (w .state) t i p kinds
 
-  -- an open slot's head is in the row
+  -- a slot's head is in the row
   head-within : (k : ℕ) → k < w .state .settings .endpoints → 17 * (k + 1) + 17 ≤ length (w .rows .heads)
-  head-within k low =
-      let fit : length (w .rows .heads) ≡ 17 * (w .state .settings .endpoints + 1) =
-      sound .heads-fit ∙ ap (λ (z : Settings). 17 * (z .endpoints + 1)) (sym (sound .settings-are)) in
-      omega (arith, fit, low)
-
-  opened-within : (k : ℕ) (e : Endpoint) → endpointAt (w .state) k ≡ e → hasEndpoint e ≡ true → k < w .state .settings .endpoints
-  opened-within k e q o = open-within (w .state) k (sound .ranges) (ap hasEndpoint q ∙ o)
-
-  opened-below : (k : ℕ) (e : Endpoint) → endpointAt (w .state) k ≡ e → hasEndpoint e ≡ true → k < 32
-  opened-below k e q o = open-below (w .state) k (ap hasEndpoint q ∙ o)
+  head-within k low = omega (arith, heads-long s w sound, low)
 
   -- words put over a whole head
   put-ring : (k : ℕ) (ws : List ℕ) → length ws ≡ 17 → k < w .state .settings .endpoints → ringLink (withHead (w .rows .heads) k ws) ≡ ringLink (w .rows .heads)
@@ -184,26 +170,26 @@ module _ (s : Settings) (h : History) (w : World) (c : Call) (a : Applied) (soun
 
   pub closes-keeps : Closes w c a → Chained s (turn ∷ h) (leftBy a)
   closes-keeps y =
-      let low = opened-within (y .k) (Idle (y .p)) (y .idle) refl in
+      let low = slot-below s w sound (y .k) (Idle (y .p)) (y .idle) refl in
       slot-keeps (y .k) Closed (withHead (w .rows .heads) (y .k) (replicate 17 0)) Other (y .nothing)
-      (w .state) (y .state-is) (y .rows-are) refl refl refl (sound .wide) (opened-below (y .k) (Idle (y .p)) (y .idle) refl)
+      (w .state) (y .state-is) (y .rows-are) refl refl refl (sound .wide) (slot-low s w sound (y .k) (Idle (y .p)) (y .idle) refl)
       (λ b. ap (linkedIn b) (y .idle)) (λ b. refl)
       (put-ring (y .k) (replicate 17 0) refl low) (put-links (y .k) (replicate 17 0) refl low) refl refl
 
   pub marks-keeps : Marks w c a → Chained s (turn ∷ h) (leftBy a)
   marks-keeps y =
       slot-keeps (y .k) (Unlinking (y .p) (marked (y .r)) (y .u)) (w .rows .heads) Other (y .nothing)
-      (w .state) (y .state-is) (y .rows-are) refl refl refl (sound .wide) (opened-below (y .k) (Unlinking (y .p) (y .r) (y .u)) (y .unlinking) refl)
+      (w .state) (y .state-is) (y .rows-are) refl refl refl (sound .wide) (slot-low s w sound (y .k) (Unlinking (y .p) (y .r) (y .u)) (y .unlinking) refl)
       (λ b. ap (linkedIn b) (y .unlinking)) (λ b. refl) refl (λ i ne. refl) refl refl
 
   pub collected-keeps : Collected w c a → Chained s (turn ∷ h) (leftBy a)
   unfolding finishOf withOwner
   collected-keeps y =
-      let room = head-within (y .k) (opened-within (y .k) (Unlinking (y .p) (y .r) (y .u)) (y .unlinking) refl) in
+      let room = head-within (y .k) (slot-below s w sound (y .k) (Unlinking (y .p) (y .r) (y .u)) (y .unlinking) refl) in
       slot-keeps (y .k) (Idle (y .p)) (endedOverlay (w .rows .heads) (y .k)) (Collects (y .k) (y .r .id) (y .frame)) (y .collects)
       (withOwner (w .state) (freed (w .state .owner) (w .state .settings .descriptors) (y .k + 1))) (y .state-is) (y .rows-are) refl refl refl
       (owner-wide (w .state) (freed (w .state .owner) (w .state .settings .descriptors) (y .k + 1)) (sound .wide))
-      (opened-below (y .k) (Unlinking (y .p) (y .r) (y .u)) (y .unlinking) refl)
+      (slot-low s w sound (y .k) (Unlinking (y .p) (y .r) (y .u)) (y .unlinking) refl)
       (λ b. ap (linkedIn b) (y .unlinking)) (λ b. refl)
       (ended-others (w .rows .heads) (y .k) room 0 (λ m n. omega arith))
       (λ i ne. ended-others (w .rows .heads) (y .k) room (17 * (i + 1)) (λ m n. omega arith)) refl refl

@@ -10,7 +10,7 @@ use borrow.Author.Tests.{eqb-false, eqb-true, ne-eqb}
 use lib.Dec.{eqb}
 use lib.ListN.{length}
 use Rattle.token.specs.Chunks.{chunkAt, chunkCount, ifEmpty, needOf}
-use Rattle.token.specs.EhciQtd.{totalBytes}
+use Rattle.token.specs.EhciQtd.{currentPage, totalBytes}
 use Rattle.token.specs.Plans.{controlPlan, pidFor}
 use Rattle.token.specs.declared.request.EndpointType.{EndpointType}
 use Rattle.token.specs.declared.request.EndpointType.the-variants.{Control, Isochronous, Bulk, Interrupt}
@@ -23,7 +23,7 @@ use Rattle.pool.specs.Places.{upFrom}
 use Rattle.pool.specs.Transfers.{bareAt, bareFor, chunkQtd, isLast, recordAt, stageAt}
 use Rattle.pool.specs.declared.transfer.Transfer.{Transfer}
 use Rattle.request.proofs.CoverLaws.{chunk-byte, stage-byte}
-use Rattle.promises.specs.Coverage.{addressed, between, bytesOf, dataOf}
+use Rattle.promises.specs.Coverage.{addressed, between, byteOf, bytesOf, dataOf}
 
 -- ---- runs of numbers
 
@@ -51,12 +51,16 @@ map-up f a i (suc n) h =
     let x : a + suc i ≡ suc (a + i) = omega arith in
     ap₂ (λ (p : ℕ) (l : List ℕ). p ∷ l) (h i (omega arith) (omega arith)) (map-up f a (suc i) n (λ j l m. h j (omega (arith, l)) (omega (arith, m))) ∙ ap (λ (p : ℕ). upFrom p n) x)
 
--- a descriptor of n bytes whose j-th byte is at a + j
-run-of : (d : QueueTransferDescriptor) (a n : ℕ) → totalBytes (d .token) ≡ n → ((j : ℕ) → j < n → byteAddress (d .pages) (d .upper) j ≡ a + j) → bytesOf d ≡ upFrom a n
-run-of d a n e h =
+-- a descriptor of n bytes from its first page on, whose j-th byte is at a + j
+run-of : (d : QueueTransferDescriptor) (a n : ℕ) → currentPage (d .token) ≡ 0 → totalBytes (d .token) ≡ n
+    → ((j : ℕ) → j < n → byteAddress (d .pages) (d .upper) j ≡ a + j) → bytesOf d ≡ upFrom a n
+run-of d a n p e h =
     let x : a + 0 ≡ a = omega arith in
-    ap (λ (m : ℕ). map (byteAddress (d .pages) (d .upper)) (upFrom 0 m)) e
-    ∙ map-up (byteAddress (d .pages) (d .upper)) a 0 n (λ j l m. h j (omega (arith, m))) ∙ ap (λ (p : ℕ). upFrom p n) x
+    ap (λ (m : ℕ). map (byteOf d) (upFrom 0 m)) e
+    ∙ map-up (byteOf d) a 0 n (λ j l m. ap (byteAddress (d .pages) (d .upper)) (first-page j) ∙ h j (omega (arith, m))) ∙ ap (λ (q : ℕ). upFrom q n) x
+  where
+    first-page : (j : ℕ) → 4096 * currentPage (d .token) + j ≡ j
+    first-page j = omega (arith, p)
 
 -- ---- one descriptor
 
@@ -70,6 +74,7 @@ chunk-run : (t : Transfer) (k : ℕ) (last : Bool) → t .limit ≤ 16384 → t 
 unfolding chunkQtd newQtd
 chunk-run t k last l e =
     run-of (chunkQtd t k last) (t .address + k * t .limit) (chunkAt k (t .length) (t .limit))
+    (token-reads (pidFor (t .direction)) (chunkAt k (t .length) (t .limit)) last false .page-is)
     (token-reads (pidFor (t .direction)) (chunkAt k (t .length) (t .limit)) last false .bytes-is ∙ omega (arith, l))
     (λ j h. chunk-byte t k j last h (omega (arith, e, h)) l ∙ omega arith)
 
@@ -77,7 +82,7 @@ chunk-run t k last l e =
 stage-run : (t : Transfer) → (t .length ≡ 0 → ⊥) → t .length ≤ 16384 → t .length ≤ 2 ^ 32 - t .address → bytesOf (stageAt t 1) ≡ upFrom (t .address) (t .length)
 unfolding stageAt newQtd controlPlan
 stage-run t ne l e =
-    run-of (stageAt t 1) (t .address) (t .length)
+    run-of (stageAt t 1) (t .address) (t .length) (rw (ne-eqb (t .length) 0 ne) (token-reads (pidFor (t .direction)) (t .length) false true .page-is))
     (rw (ne-eqb (t .length) 0 ne) (token-reads (pidFor (t .direction)) (t .length) false true .bytes-is ∙ omega (arith, l)))
     (λ j h. stage-byte t j h (omega (arith, e, h)) l)
 

@@ -19,7 +19,7 @@ use Rattle.ehci.specs.declared.call.Call.{Call}
 use Rattle.ehci.specs.Door.{Applied}
 use Rattle.ehci.specs.Replies.{answeredNumber}
 use Rattle.promises.specs.Runs.{History, Machine, Rows, Turn, World, rowsOf, turnOf}
-use Rattle.promises.specs.Rooms.{Distinct, Every, Exclusive, Led, RecordStays, TokenWritten, placesOf}
+use Rattle.promises.specs.Rooms.{Distinct, Every, Exclusive, Led, RecordStays, TokenWritten, placesInUse}
 use Rattle.promises.specs.Uses.{Use, uses}
 use Rattle.promises.specs.Walks.{chainWalk}
 use Rattle.promises.proofs.Effects.{Accepts, Effect, WritesBack, still, hears, joins, passes, counts, opens, closes, rewrites, accepts, writes-back, marks, unlinks, collects}
@@ -54,38 +54,38 @@ module _ (w : World) (sound : Sound (w .state .settings) w) where
 
   -- what holds of the places of each use holds of all
   each-places : (P : ℕ → Type 0) (Q : Use → Type 0) → ((u : Use) → KeptHere u → Q u → Each P (placesFrom 0 front (u .slot + 1) 256))
-      → (us : List Use) → Every KeptHere us → Every Q us → Each P (placesOf us)
+      → (us : List Use) → Every KeptHere us → Every Q us → Each P (placesInUse us)
   each-places P Q f [] e q = tt
   each-places P Q f (u ∷ us) e q =
-      each-append P (u .places) (placesOf us) (subst (Each P) (sym (e .0 .places-are)) (f u (e .0) (q .0))) (each-places P Q f us (e .1) (q .1))
+      each-append P (u .places) (placesInUse us) (subst (Each P) (sym (e .0 .places-are)) (f u (e .0) (q .0))) (each-places P Q f us (e .1) (q .1))
 
   any : (us : List Use) → Every (λ u. Unit {0}) us
   any [] = tt
   any (u ∷ us) = (tt, any us)
 
   -- no place of a use is free
-  owned : (us : List Use) → Every KeptHere us → Each (λ p. getD front p 0 ≡ 0 → ⊥) (placesOf us)
+  owned : (us : List Use) → Every KeptHere us → Each (λ p. getD front p 0 ≡ 0 → ⊥) (placesInUse us)
   owned us e =
       each-places (λ p. getD front p 0 ≡ 0 → ⊥) (λ u. Unit {0})
       (λ u kept q. each-map (λ p. getD front p 0 ≡ u .slot + 1) (λ p. getD front p 0 ≡ 0 → ⊥) (λ p x z. omega (arith, x, z)) (placesFrom 0 front (u .slot + 1) 256) (places-hold front (u .slot + 1) 256)) us e (any us)
 
   -- and none of another slot's
-  owned-not : (k : ℕ) (us : List Use) → Every KeptHere us → Avoids k us → Each (λ p. getD front p 0 ≡ k + 1 → ⊥) (placesOf us)
+  owned-not : (k : ℕ) (us : List Use) → Every KeptHere us → Avoids k us → Each (λ p. getD front p 0 ≡ k + 1 → ⊥) (placesInUse us)
   owned-not k us e a =
       each-places (λ p. getD front p 0 ≡ k + 1 → ⊥) (λ u. u .slot ≡ k → ⊥)
       (λ u kept ne. each-map (λ p. getD front p 0 ≡ u .slot + 1) (λ p. getD front p 0 ≡ k + 1 → ⊥) (λ p x z. ne (omega (arith, x, z))) (placesFrom 0 front (u .slot + 1) 256) (places-hold front (u .slot + 1) 256)) us e a
 
-  all-distinct : (us : List Use) → Every KeptHere us → Apart us → Distinct (placesOf us)
+  all-distinct : (us : List Use) → Every KeptHere us → Apart us → Distinct (placesInUse us)
   all-distinct [] e a = tt
   all-distinct (u ∷ us) e a =
-      distinct-append (u .places) (placesOf us) (subst Distinct (sym (e .0 .places-are)) (distinct-ascending (placesFrom 0 front (u .slot + 1) 256) (places-ascend 0 front (u .slot + 1) 256)))
+      distinct-append (u .places) (placesInUse us) (subst Distinct (sym (e .0 .places-are)) (distinct-ascending (placesFrom 0 front (u .slot + 1) 256) (places-ascend 0 front (u .slot + 1) 256)))
       (all-distinct us (e .1) (a .1))
-      (subst (Each (λ p. Each (λ q. p ≡ q → ⊥) (placesOf us))) (sym (e .0 .places-are))
-      (each-map (λ p. getD front p 0 ≡ u .slot + 1) (λ p. Each (λ q. p ≡ q → ⊥) (placesOf us))
-      (λ p x. each-map (λ q. getD front q 0 ≡ u .slot + 1 → ⊥) (λ q. p ≡ q → ⊥) (λ q n z. n (ap (λ (i : ℕ). getD front i 0) (sym z) ∙ x)) (placesOf us) (owned-not (u .slot) us (e .1) (a .0)))
+      (subst (Each (λ p. Each (λ q. p ≡ q → ⊥) (placesInUse us))) (sym (e .0 .places-are))
+      (each-map (λ p. getD front p 0 ≡ u .slot + 1) (λ p. Each (λ q. p ≡ q → ⊥) (placesInUse us))
+      (λ p x. each-map (λ q. getD front q 0 ≡ u .slot + 1 → ⊥) (λ q. p ≡ q → ⊥) (λ q n z. n (ap (λ (i : ℕ). getD front i 0) (sym z) ∙ x)) (placesInUse us) (owned-not (u .slot) us (e .1) (a .0)))
       (placesFrom 0 front (u .slot + 1) 256) (places-hold front (u .slot + 1) 256)))
 
-  all-within : (us : List Use) → Every KeptHere us → Within (s .descriptors) (placesOf us)
+  all-within : (us : List Use) → Every KeptHere us → Within (s .descriptors) (placesInUse us)
   all-within us e =
       each-places (λ p. p < s .descriptors) (λ u. Unit {0})
       (λ u kept q. subst (λ (n : ℕ). Within n (placesFrom 0 front (u .slot + 1) 256)) front-length (places-within front (u .slot + 1) 256)) us e (any us)
@@ -100,13 +100,13 @@ module _ (w : World) (sound : Sound (w .state .settings) w) where
     t = turnOf (w .rows) c a
 
     -- the pool stays
-    pool-stays : (rows : Rows) → rowsOf a ≡ rows → rows .pool ≡ w .rows .pool → Each (RecordStays t) (placesOf us)
-    pool-stays rows q z = each-all (RecordStays t) (λ p. inl (ap (λ (r : Rows). getD (r .pool) p blank) q ∙ ap (λ (l : List QueueTransferDescriptor). getD l p blank) z)) (placesOf us)
+    pool-stays : (rows : Rows) → rowsOf a ≡ rows → rows .pool ≡ w .rows .pool → Each (RecordStays t) (placesInUse us)
+    pool-stays rows q z = each-all (RecordStays t) (λ p. inl (ap (λ (r : Rows). getD (r .pool) p blank) q ∙ ap (λ (l : List QueueTransferDescriptor). getD l p blank) z)) (placesInUse us)
 
-    submit-stays : Accepts w c a → Each (RecordStays t) (placesOf us)
+    submit-stays : Accepts w c a → Each (RecordStays t) (placesInUse us)
     submit-stays x =
         each-map (λ p. getD front p 0 ≡ 0 → ⊥) (RecordStays t)
-        (λ p n. inl (ap (λ (r : Rows). getD (r .pool) p blank) (x .rows-are) ∙ submit-records (w .state) (x .k) p (x .t) (w .rows .pool) n)) (placesOf us) (owned us e)
+        (λ p n. inl (ap (λ (r : Rows). getD (r .pool) p blank) (x .rows-are) ∙ submit-records (w .state) (x .k) p (x .t) (w .rows .pool) n)) (placesInUse us) (owned us e)
 
     token-written : WritesBack w c a → (p : ℕ) → RecordStays t p
     token-written x p = by (decEq p (x .place))
@@ -130,7 +130,7 @@ module _ (w : World) (sound : Sound (w .state .settings) w) where
         by (yes q) = inr (subst (TokenWritten t) (sym q) here)
         by (no ne) = inl (after p ∙ getD-set-other (w .rows .pool) (x .place) p (withToken (getD (w .rows .pool) (x .place) blank) (x .token)) blank ne)
 
-    records-stay : Effect w c a → Each (RecordStays t) (placesOf us)
+    records-stay : Effect w c a → Each (RecordStays t) (placesInUse us)
     records-stay (still x) = pool-stays _ (x .rows-are) refl
     records-stay (hears x) = pool-stays _ (x .rows-are) refl
     records-stay (joins x) = pool-stays _ (x .rows-are) refl
@@ -140,7 +140,7 @@ module _ (w : World) (sound : Sound (w .state .settings) w) where
     records-stay (closes x) = pool-stays _ (x .rows-are) refl
     records-stay (rewrites x) = pool-stays _ (x .rows-are) refl
     records-stay (accepts x) = submit-stays x
-    records-stay (writes-back x) = each-all (RecordStays t) (token-written x) (placesOf us)
+    records-stay (writes-back x) = each-all (RecordStays t) (token-written x) (placesInUse us)
     records-stay (marks x) = pool-stays _ (x .rows-are) refl
     records-stay (unlinks x) = pool-stays _ (x .rows-are) refl
     records-stay (collects x) = pool-stays _ (x .rows-are) refl

@@ -23,6 +23,7 @@ pub mod ExclusiveLaws
 pub mod CoverBytes
 pub mod CoverHolds
 pub mod RoomPromises
+pub mod RoomWrong
 pub mod RangeTheorems
 pub mod ChainLists
 pub mod WalkChains
@@ -33,8 +34,10 @@ pub mod ChainSteps
 pub mod ChainLinks
 pub mod ChainKeeps
 pub mod ChainRuns
-pub mod ChainIds
 pub mod ChainCancels
+pub mod ChainCollects
+pub mod ChainUses
+pub mod WrongChains
 pub mod Pictures
 pub mod Boundary
 pub mod Once

@@ -1,21 +1,15 @@
 -- Every world of a run is in its ranges; a state that is in them is refused for nothing else.
-use Prim.Native.Nat.{ℕ, _+_, _*_}
+use Prim.Native.Nat.{ℕ}
 use mathlib.Core.Bool.{true}
 use mathlib.Core.List.{List, [], _∷_}
 use mathlib.Core.Logic.{_⊎_, inl, inr}
-use mathlib.Core.Path.{_≡_, refl, sym, ap, subst, _∙_}
+use mathlib.Core.Path.{_≡_, refl, sym, subst}
 use lib.ListN.{length}
-use Rattle.settings.specs.Tests.{both}
 use Rattle.settings.specs.declared.settings.Settings.{Settings}
-use Rattle.state.specs.Ranges.{inRanges}
-use Rattle.state.proofs.RangesLaws.{ranges-make}
-use Rattle.opening.specs.Opening.{rowsFit}
-use Rattle.opening.proofs.OpenLaws.{rows-make}
 use Rattle.token.specs.declared.request.EndpointType.{EndpointType}
 use Rattle.pipe.specs.Endpoints.{endpointAt}
 use Rattle.pipe.specs.declared.endpoint.Endpoint.{Endpoint}
 use Rattle.pipe.specs.declared.endpoint.Endpoint.the-variants.{Closed, Idle, Linked, Unlinking}
-use Rattle.controller.specs.Lent.{acceptsOf}
 use Rattle.controller.specs.Readers.{holdsRequest}
 use Rattle.ehci.specs.declared.call.Call.{Call}
 use Rattle.promises.specs.Runs.{History, Opening, World, core, historyOf, worldOf}
@@ -24,29 +18,13 @@ use Rattle.promises.specs.Ranges.{InRanges, RangesKept, RunsWhileHeld}
 use Rattle.promises.proofs.Effects.{Idles}
 use Rattle.promises.proofs.IdleInv.{idles-keeps, idles-opens}
 use Rattle.promises.proofs.Reached.{opening-is, reached}
+use Rattle.promises.proofs.RoomLaws.{let-in}
 use Rattle.promises.proofs.RoomPromises.{held}
 use Rattle.promises.proofs.Sound.{Sound}
 use Rattle.promises.proofs.UseInv.{HeldIn, Nobody, Waits, tenantOf, tenants-apart}
 
 pub sound-ranges : (s : Settings) (h : History) (w : World) → Sound s w → InRanges s h w
-unfolding acceptsOf
-sound-ranges s h w g =
-    let e = g .settings-are in
-    let d : s .descriptors ≡ w .state .settings .descriptors = sym (ap (λ (z : Settings). z .descriptors) e) in
-    let n : s .endpoints ≡ w .state .settings .endpoints = sym (ap (λ (z : Settings). z .endpoints) e) in
-    record {
-      settings-stay = e;
-      accepted = rw (
-        rows-make (w .state .settings) _ _ _ _
-            (record {
-              pool-fits = g .pool-fits ∙ d;
-              heads-fit = g .heads-fit ∙ ap (λ (z : ℕ). 17 * (z + 1)) n;
-              frames-fit = g .frames-fit;
-              setups-fit = g .setups-fit ∙ ap (λ (z : ℕ). 8 * z) n;
-            }),
-        ranges-make (w .state) (g .ranges),
-      );
-    }
+sound-ranges s h w g = record { settings-stay = g .settings-are; accepted = let-in w (subst (λ (z : Settings). Sound z w) (sym (g .settings-are)) g) }
 
 -- what runs, and while it does
 abbrev pub Runs : Settings → History → World → Type 0

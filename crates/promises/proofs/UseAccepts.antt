@@ -137,11 +137,11 @@ module _ (w : World) (k : ℕ) (t : TransferRequest) (sound : Sound (w .state .s
   pub walked : chainWalk s (acceptedWorld .rows) k ≡ placesFor st t
   unfolding chainWalk metFrom
   walked =
-      ap (metFrom (s .pool) (acceptedWorld .rows .pool) (s .descriptors))
+      ap (metFrom (s .pool) (acceptedWorld .rows .pool) (s .descriptors + 1))
       (submit-starts (w .rows .heads) (w .rows .frames) k (slotLink st k) (firstIn st (takenFor st k t)) (omega (arith, within, sound .heads-fit)) (t .kind))
       ∙ ap (map (placeOf (s .pool)))
-      (submit-met st k t (sound .ranges) judged (sound .owners) (w .rows .pool) (s .descriptors) (sound .pool-fits)
-      (need-least (t .kind) (t .length) (s .limit) (sound .ranges .good .limit-least)) need-most)
+      (submit-met st k t (sound .ranges) judged (sound .owners) (w .rows .pool) (s .descriptors + 1) (sound .pool-fits)
+      (need-least (t .kind) (t .length) (s .limit) (sound .ranges .good .limit-least)) (omega (arith, need-most)))
       ∙ map-back (s .pool) (placesFor st t)
 
   -- its records are its descriptors, in order
@@ -196,8 +196,8 @@ module _ (w : World) (k : ℕ) (t : TransferRequest) (sound : Sound (w .state .s
         places-are = kept .places-are ∙ sym (ap (λ (o : List ℕ). placesFrom 0 (take (s .descriptors) o) (u .slot + 1) 256) new-owner
             ∙ submit-places st k (u .slot + 1) 256 t (sound .ranges) (sound .owners) (λ e. ne (omega (arith, e))) (λ e. omega (arith, e)));
         as-needed = kept .as-needed;
-        leads = ap (metFrom (s .pool) (acceptedWorld .rows .pool) (s .descriptors)) word
-            ∙ met-along (s .pool) (w .rows .pool) (acceptedWorld .rows .pool) (s .descriptors) (overlayNext (w .rows .heads) (u .slot))
+        leads = ap (metFrom (s .pool) (acceptedWorld .rows .pool) (s .descriptors + 1)) word
+            ∙ met-along (s .pool) (w .rows .pool) (acceptedWorld .rows .pool) (s .descriptors + 1) (overlayNext (w .rows .heads) (u .slot))
             (subst (Each (λ p. getD (acceptedWorld .rows .pool) p blank .next ≡ getD (w .rows .pool) p blank .next)) (sym (kept .leads)) nexts)
             ∙ kept .leads;
         written = λ j h. ap untold (each-at Same (u .places) j same h) ∙ kept .written j h;

@@ -127,7 +127,7 @@ module _ (w : World) (view : View) (k : ℕ) (p : Pipe) (r : Request) (b : Unlin
         holds = tenant-elsewhere (u .slot) ne ∙ kept .holds;
         places-are = kept .places-are ∙ sym (finish-others st view k p r (u .slot) 256 ne);
         as-needed = kept .as-needed;
-        leads = ap (metFrom (s .pool) (w .rows .pool) (s .descriptors)) (word-elsewhere (u .slot) ne) ∙ kept .leads;
+        leads = ap (metFrom (s .pool) (w .rows .pool) (s .descriptors + 1)) (word-elsewhere (u .slot) ne) ∙ kept .leads;
         written = kept .written;
       }
 

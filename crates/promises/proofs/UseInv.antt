@@ -111,7 +111,7 @@ module _ (s : Settings) (owner : List ℕ) (tenant : ℕ → Tenant) (pool : Lis
     pub holds : tenant (u .slot) ≡ Waits (u .request .kind) (u .id) (u .request .length)
     pub places-are : u .places ≡ placesAt (u .slot)
     pub as-needed : length (u .places) ≡ needOfUse s u
-    pub leads : metFrom (s .pool) pool (s .descriptors) (overlayNext heads (u .slot)) ≡ u .places
+    pub leads : metFrom (s .pool) pool (s .descriptors + 1) (overlayNext heads (u .slot)) ≡ u .places
     -- the records are those that its submit wrote, but for their tokens
     pub written : (j : ℕ) → j < length (u .places)
         → untold (getD pool (getD (u .places) j 0) blank) ≡ untold (recordAt (transferFor s u) j (drop (suc j) (u .places)) (s .pool))

@@ -50,8 +50,8 @@ module _ (s : Settings) (owner owner′ : List ℕ) (tenant tenant′ : ℕ → 
         holds = same-tenant (u .slot) ∙ kept .holds;
         places-are = kept .places-are ∙ ap (λ (o : List ℕ). placesFrom 0 o (u .slot + 1) 256) (sym same-owner);
         as-needed = kept .as-needed;
-        leads = ap (metFrom (s .pool) pool′ (s .descriptors)) word
-            ∙ met-along (s .pool) pool pool′ (s .descriptors) (overlayNext heads (u .slot)) (each-all (λ p. getD pool′ p blank .next ≡ getD pool p blank .next) next (metFrom (s .pool) pool (s .descriptors) (overlayNext heads (u .slot)))) ∙ kept .leads;
+        leads = ap (metFrom (s .pool) pool′ (s .descriptors + 1)) word
+            ∙ met-along (s .pool) pool pool′ (s .descriptors + 1) (overlayNext heads (u .slot)) (each-all (λ p. getD pool′ p blank .next ≡ getD pool p blank .next) next (metFrom (s .pool) pool (s .descriptors + 1) (overlayNext heads (u .slot)))) ∙ kept .leads;
         written = λ j h. same-record (getD (u .places) j 0) ∙ kept .written j h;
       }
     where

@@ -1,20 +1,19 @@
 -- A chain of links, walked as the controller walks it.
 use Prim.Native.Nat.{ℕ, zero, suc, _+_, _*_, _-_, _/_, _%_, _^_, _≤_, _<_}
-use mathlib.Core.Path.{_≡_, refl, sym, ap, _∙_}
+use mathlib.Core.Path.{_≡_, refl, ap, _∙_}
 use mathlib.Core.Bool.{true}
 use mathlib.Core.List.{List, [], _∷_, _++_, append-nil}
 use native.Mathlib.Omega.{arith}
-use borrow.Author.Tests.{eq-eqb, ne-eqb}
+use borrow.Author.Tests.{ne-eqb}
 use lib.ListN.{getD, length}
 use Rattle.descriptor.specs.EhciQueueHead.{linkAddress, linkTerminate}
 use Rattle.descriptor.specs.Heads.{qhLink}
-use Rattle.settings.specs.declared.settings.Settings.{Settings}
 use Rattle.settings.proofs.SettingsLaws.{Good}
 use Rattle.state.specs.declared.state.Ehci.{Ehci}
 use Rattle.schedule.specs.Links.{slotLink}
 use Rattle.schedule.specs.Walks.{Chain}
-use Rattle.promises.specs.Walks.{endIf, headPlace, isIn, walkFrom}
-use Rattle.promises.specs.Chains.{placesOf}
+use Rattle.promises.specs.Walks.{headPlace, isIn, walkFrom}
+use Rattle.promises.specs.Chains.{headPlaces}
 use Rattle.promises.proofs.ChainLists.{in-later, in-same}
 
 -- the address in a link word
@@ -54,7 +53,7 @@ module _ (s : Ehci) (g : Good (s .settings)) where
     -- from a word on, the walk meets the slots of its chain, and goes on as the chain's last word does
     walk-on : (e : ℕ) (rest : List ℕ) → ((m : ℕ) → walkFrom (s .settings) heads (suc m) e ≡ rest)
         → (n w : ℕ) (ks : List ℕ) → Chain s heads w ks e → ((i : ℕ) → isIn i ks ≡ true → i < s .settings .endpoints) → length ks ≤ n
-        → walkFrom (s .settings) heads (suc n) w ≡ placesOf ks ++ rest
+        → walkFrom (s .settings) heads (suc n) w ≡ headPlaces ks ++ rest
     walk-on e rest last n w [] c b l = ap (walkFrom (s .settings) heads (suc n)) c ∙ last n
     walk-on e rest last zero w (k ∷ ks) c b l = absurd (omega arith)
     walk-on e rest last (suc n) w (k ∷ ks) c b l =
@@ -79,14 +78,14 @@ module _ (s : Ehci) (g : Good (s .settings)) where
     -- the ring's walk comes back to the ring head; a frame's walk ends
     pub walk-ring : (n w : ℕ) (ks : List ℕ) → Chain s heads w ks (s .settings .heads + 2)
         → ((i : ℕ) → isIn i ks ≡ true → i < s .settings .endpoints) → length ks ≤ n
-        → walkFrom (s .settings) heads (n + 1) w ≡ placesOf ks ++ 0 ∷ []
+        → walkFrom (s .settings) heads (n + 1) w ≡ headPlaces ks ++ 0 ∷ []
     walk-ring n w ks c b l =
         let more : n + 1 ≡ suc n = omega arith in
         rw more (walk-on (s .settings .heads + 2) (0 ∷ []) ring-ends n w ks c b l)
 
     pub walk-frames : (n w : ℕ) (ks : List ℕ) → Chain s heads w ks 1
         → ((i : ℕ) → isIn i ks ≡ true → i < s .settings .endpoints) → length ks ≤ n
-        → walkFrom (s .settings) heads (n + 1) w ≡ placesOf ks
+        → walkFrom (s .settings) heads (n + 1) w ≡ headPlaces ks
     walk-frames n w ks c b l =
         let more : n + 1 ≡ suc n = omega arith in
-        rw more (walk-on 1 [] terminates n w ks c b l) ∙ append-nil (placesOf ks)
+        rw more (walk-on 1 [] terminates n w ks c b l) ∙ append-nil (headPlaces ks)

@@ -1,24 +1,27 @@
--- Chains: in every world of a run the controller meets exactly the linked heads of each schedule, newest first, and no detach fails.
+-- Chains, over any calls: the controller meets exactly the linked heads of each schedule, newest first, and no detach fails. Statements
+-- of any machine; that each request's overlay leads through its descriptors is `ChainsLead`.
 use Prim.Native.Nat.{ℕ, _+_, _<_}
 use mathlib.Core.Bool.{Bool, true, false, cond}
 use mathlib.Core.List.{List, [], _∷_, _++_, map}
 use mathlib.Core.Path.{_≡_}
 use lib.Dec.{eqb}
+use lib.ListN.{getD}
+use Rattle.descriptor.specs.declared.qtd.QueueTransferDescriptor.{QueueTransferDescriptor}
+use Rattle.pool.specs.Chains.{blank, isActive, isErring}
 use Rattle.settings.specs.Tests.{either}
 use Rattle.settings.specs.declared.settings.Settings.{Settings}
 use Rattle.controller.specs.declared.lent.Readings.{Readings}
 use Rattle.ehci.specs.declared.call.Call.{Call}
 use Rattle.ehci.specs.declared.call.Call.the-variants.{Cancel, Collect}
-use Rattle.ehci.specs.declared.reply.Answered.the-variants.{Done, Pending}
-use Rattle.ehci.specs.declared.reply.Given.the-variants.{Nothing}
-use Rattle.promises.specs.Runs.{History, Machine, Opening, Turn, World, historyOf, turnOf, worldOf}
+use Rattle.promises.specs.Runs.{Always, History, Machine, Turn, World, turnOf}
 use Rattle.promises.specs.Walks.{frameWalk, isIn, ringWalk}
 use Rattle.promises.specs.Events.{Collects, Drains, Event, Other, Parts, Reads, Submits, Unlinks, event}
-use Rattle.promises.specs.Uses.{frameSlots, ringSlots}
+use Rattle.promises.specs.Uses.{Use, frameSlots, ringSlots, uses}
+use Rattle.promises.specs.Rooms.{Every, numberAt}
 
 -- slot k's head is at place k + 1
-abbrev pub placesOf : List ℕ → List ℕ
-placesOf ks = map (λ (k : ℕ). k + 1) ks
+abbrev pub headPlaces : List ℕ → List ℕ
+headPlaces ks = map (λ (k : ℕ). k + 1) ks
 
 -- the id of slot k's newest accepted request
 abbrev pub idAfter : ℕ → Event → ℕ → ℕ
@@ -34,47 +37,44 @@ unfoldable pub newestId : Settings → ℕ → History → ℕ
 newestId s k [] = 0
 newestId s k (t ∷ past) = idAfter k (event s t) (newestId s k past)
 
-module _ (m : Machine) where
-  -- the ring's walk is the linked control and bulk heads, newest first, and back to the ring head
-  abbrev pub RingIs : Type 0
-  RingIs =
-      (s : Settings) (w : World) → Opening s w → (cs : List Call)
-      → ringWalk s (worldOf m w cs .rows) ≡ placesOf (ringSlots s (historyOf m w cs)) ++ 0 ∷ []
+-- slot k's head is in a schedule
+abbrev pub isLinked : Settings → History → ℕ → Bool
+isLinked s h k = either (isIn k (ringSlots s h)) (isIn k (frameSlots s h))
 
-  -- every frame entry's walk is the linked interrupt heads, newest first, and ends
-  abbrev pub FramesAre : Type 0
-  FramesAre =
-      (s : Settings) (w : World) → Opening s w → (cs : List Call) (f : ℕ) → f < 1024
-      → frameWalk s (worldOf m w cs .rows) f ≡ placesOf (frameSlots s (historyOf m w cs))
+-- the ring's walk is the linked control and bulk heads, newest first, and back to the ring head; every frame entry's walk is the linked
+-- interrupt heads, newest first, and ends; and each linked head is that of an uncollected request
+pub record Walked (s : Settings) (h : History) (w : World) : Type 0 where
+  pub ring : ringWalk s (w .rows) ≡ headPlaces (ringSlots s h) ++ 0 ∷ []
+  pub frames : (f : ℕ) → f < 1024 → frameWalk s (w .rows) f ≡ headPlaces (frameSlots s h)
+  pub uncollected : (k : ℕ) → isLinked s h k ≡ true → isIn k (map (λ u. u .slot) (uses s h)) ≡ true
 
-  -- one more call after those
-  abbrev pub turnAfter : World → List Call → Call → Turn
-  turnAfter w cs c = turnOf (worldOf m w cs .rows) c (m (worldOf m w cs) c)
+abbrev pub ChainsWalked : Machine → Type 0
+ChainsWalked m = Always Walked m
 
-  -- slot k's newest request, after those calls
-  abbrev pub newest : Settings → World → List Call → ℕ → ℕ
-  newest s w cs k = newestId s k (historyOf m w cs)
+-- one more call, as its caller sees it
+abbrev pub turnBy : Machine → World → Call → Turn
+turnBy m w c = turnOf (w .rows) c (m w c)
 
-  -- no detach fails: a cancel of a linked request is done, and its head leaves its schedule
-  abbrev pub CancelUnlinks : Type 0
-  CancelUnlinks =
-      (s : Settings) (w : World) → Opening s w → (cs : List Call) (k : ℕ) (readings : Readings)
-      → (isIn k (ringSlots s (historyOf m w cs)) ≡ true
-      → (turnAfter w cs (Cancel k (newest s w cs k) readings) .answer ≡ Done Nothing)
-      × (event s (turnAfter w cs (Cancel k (newest s w cs k) readings)) ≡ Unlinks k))
-      × (isIn k (frameSlots s (historyOf m w cs)) ≡ true
-      → (turnAfter w cs (Cancel k (newest s w cs k) readings) .answer ≡ Done Nothing)
-      × (event s (turnAfter w cs (Cancel k (newest s w cs k) readings)) ≡ Parts k (readings .frame)))
+-- "if, in order, every descriptor is inactive, or an error comes before any active one"
+abbrev pub isFinished : List QueueTransferDescriptor → List ℕ → Bool
+isFinished pool [] = true
+isFinished pool (p ∷ ps) =
+    cond (isActive (getD pool p blank .token)) false (cond (isErring (getD pool p blank .token)) true (isFinished pool ps))
 
-  -- and a collect of a linked request, which unlinks it if it is finished, answers 9
-  abbrev pub CollectWaits : Type 0
-  CollectWaits =
-      (s : Settings) (w : World) → Opening s w → (cs : List Call) (k : ℕ) (readings : Readings)
-      → either (isIn k (ringSlots s (historyOf m w cs))) (isIn k (frameSlots s (historyOf m w cs))) ≡ true
-      → turnAfter w cs (Collect k (newest s w cs k) readings) .answer ≡ Pending
+-- a cancel of an uncollected request is done, and its head leaves the schedule that it is in; a collect of it while it is linked answers
+-- 9, and its head leaves if it is finished
+pub record Detaches (m : Machine) (s : Settings) (h : History) (w : World) (u : Use) : Type 0 where
+  pub cancels : (readings : Readings) → numberAt m w (Cancel (u .slot) (u .id) readings) ≡ 0
+  pub waits : (readings : Readings) → isLinked s h (u .slot) ≡ true → numberAt m w (Collect (u .slot) (u .id) readings) ≡ 9
+  pub leaves-ring : (readings : Readings) → isIn (u .slot) (ringSlots s h) ≡ true
+      → event s (turnBy m w (Cancel (u .slot) (u .id) readings)) ≡ Unlinks (u .slot)
+  pub leaves-frames : (readings : Readings) → isIn (u .slot) (frameSlots s h) ≡ true
+      → event s (turnBy m w (Cancel (u .slot) (u .id) readings)) ≡ Parts (u .slot) (readings .frame)
+  pub ends-ring : (readings : Readings) → isIn (u .slot) (ringSlots s h) ≡ true
+      → event s (turnBy m w (Collect (u .slot) (u .id) readings)) ≡ cond (isFinished (w .rows .pool) (u .places)) (Unlinks (u .slot)) Other
+  pub ends-frames : (readings : Readings) → isIn (u .slot) (frameSlots s h) ≡ true
+      → event s (turnBy m w (Collect (u .slot) (u .id) readings))
+      ≡ cond (isFinished (w .rows .pool) (u .places)) (Parts (u .slot) (readings .frame)) Other
 
-pub record ChainsHold (m : Machine) : Type 0 where
-  pub ring : RingIs m
-  pub frames : FramesAre m
-  pub cancels : CancelUnlinks m
-  pub collects : CollectWaits m
+abbrev pub NoDetachFails : Machine → Type 0
+NoDetachFails m = Always (λ s h w. Every (Detaches m s h w) (uses s h)) m

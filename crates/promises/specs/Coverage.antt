@@ -1,9 +1,9 @@
 -- Coverage: which bytes the descriptors of an accepted request address, as the controller reads them.
-use Prim.Native.Nat.{ℕ}
+use Prim.Native.Nat.{ℕ, _+_, _*_}
 use mathlib.Core.List.{List, [], _∷_, _++_, map}
 use mathlib.Core.Path.{_≡_}
 use lib.ListN.{getD}
-use Rattle.token.specs.EhciQtd.{totalBytes}
+use Rattle.token.specs.EhciQtd.{currentPage, totalBytes}
 use Rattle.token.specs.declared.request.EndpointType.{EndpointType}
 use Rattle.token.specs.declared.request.EndpointType.the-variants.{Control, Isochronous, Bulk, Interrupt}
 use Rattle.descriptor.specs.EhciQtd.{byteAddress}
@@ -19,9 +19,13 @@ use Rattle.ehci.specs.declared.reply.Given.the-variants.{Id}
 use Rattle.promises.specs.Runs.{Always, History, Machine, Rows, World, rowsOf}
 use Rattle.promises.specs.Walks.{chainWalk}
 
--- EHCI 3.5.3, 3.5.4: as many bytes as the token counts, each by the page words, with upper slots times 2^32
+-- EHCI 3.5.3, 3.5.4: byte j of a descriptor, by its page words from the token's current page on, with upper slots times 2^32
+abbrev pub byteOf : QueueTransferDescriptor → ℕ → ℕ
+byteOf d j = byteAddress (d .pages) (d .upper) (4096 * currentPage (d .token) + j)
+
+-- as many bytes as the token counts
 abbrev pub bytesOf : QueueTransferDescriptor → List ℕ
-bytesOf d = map (byteAddress (d .pages) (d .upper)) (upFrom 0 (totalBytes (d .token)))
+bytesOf d = map (byteOf d) (upFrom 0 (totalBytes (d .token)))
 
 abbrev pub addressed : List QueueTransferDescriptor → List ℕ
 addressed [] = []

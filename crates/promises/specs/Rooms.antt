@@ -62,9 +62,9 @@ RoomExact m = Always (Room m) m
 -- ---- exclusive places
 
 -- the places of all uses
-abbrev pub placesOf : List Use → List ℕ
-placesOf [] = []
-placesOf (u ∷ us) = u .places ++ placesOf us
+abbrev pub placesInUse : List Use → List ℕ
+placesInUse [] = []
+placesInUse (u ∷ us) = u .places ++ placesInUse us
 
 -- none is listed twice
 abbrev pub Distinct : List ℕ → Type 0
@@ -90,9 +90,9 @@ RecordStays t p = (recordAfter t p ≡ recordBefore t p) ⊎ TokenWritten t p
 -- "no place is in two uncollected requests" and none twice in one; of their records any next call changes only the token of the place
 -- that it writes back
 pub record Exclusive (m : Machine) (s : Settings) (h : History) (w : World) : Type 0 where
-  pub distinct : Distinct (placesOf (uses s h))
-  pub within : Within (s .descriptors) (placesOf (uses s h))
-  pub records : (c : Call) → Each (RecordStays (turnOf (w .rows) c (m w c))) (placesOf (uses s h))
+  pub distinct : Distinct (placesInUse (uses s h))
+  pub within : Within (s .descriptors) (placesInUse (uses s h))
+  pub records : (c : Call) → Each (RecordStays (turnOf (w .rows) c (m w c))) (placesInUse (uses s h))
 
 abbrev pub ExclusivePlaces : Machine → Type 0
 ExclusivePlaces m = Always (Exclusive m) m

@@ -33,9 +33,10 @@ ringWalk s rows = walkFrom s (rows .heads) (s .endpoints + 1) (getD (rows .heads
 unfoldable pub frameWalk : Settings → Rows → ℕ → List ℕ
 frameWalk s rows f = walkFrom s (rows .heads) (s .endpoints + 1) (getD (rows .frames) f 0)
 
--- EHCI 3.5.1: the descriptors that slot k's overlay leads to, by its next pointer, which is word 4 of its head
+-- EHCI 3.5.1: the descriptors that slot k's overlay leads to, by its next pointer, which is word 4 of its head; a chain of so many
+-- as there are has come to its end
 unfoldable pub chainWalk : Settings → Rows → ℕ → List ℕ
-chainWalk s rows k = metFrom (s .pool) (rows .pool) (s .descriptors) (getD (rows .heads) (17 * (k + 1) + 4) 0)
+chainWalk s rows k = metFrom (s .pool) (rows .pool) (s .descriptors + 1) (getD (rows .heads) (17 * (k + 1) + 4) 0)
 
 abbrev pub isIn : ℕ → List ℕ → Bool
 isIn p [] = false
