@@ -16,7 +16,7 @@ use Rattle.promises.specs.Runs.{History, Opening, Turn, World, core, his
 use Rattle.promises.specs.Walks.{chainWalk, isIn}
 use Rattle.promises.specs.Events.{Submits, event}
 use Rattle.promises.specs.Uses.{Use, uses}
-use Rattle.promises.specs.Rooms.{Distinct, placesOf}
+use Rattle.promises.specs.Rooms.{Distinct, placesInUse}
 use Rattle.promises.specs.Bells.{Bell, bell}
 use Rattle.promises.specs.Boundaries.{EveryRun, turn}
 use Rattle.promises.specs.Faults.{Hold, NeverGiven, holds, isHeld, mayRead}
@@ -30,12 +30,12 @@ use Rattle.promises.proofs.FaultSteps.{HeldInv, holds-keep}
 
 -- ---- what is read is in use
 
-used-in : (place k : ℕ) (places : List ℕ) (us : List Use) → usedBy k places us → isIn place places ≡ true → isIn place (placesOf us) ≡ true
+used-in : (place k : ℕ) (places : List ℕ) (us : List Use) → usedBy k places us → isIn place places ≡ true → isIn place (placesInUse us) ≡ true
 used-in place k places [] g e = absurd g
-used-in place k places (u ∷ us) g e = in-append place (u .places) (placesOf us) ∙ go g (used-in place k places us)
+used-in place k places (u ∷ us) g e = in-append place (u .places) (placesInUse us) ∙ go g (used-in place k places us)
   where
-    go : ((u .slot ≡ k) × (u .places ≡ places)) ⊎ usedBy k places us → (usedBy k places us → isIn place places ≡ true → isIn place (placesOf us) ≡ true)
-        → either (isIn place (u .places)) (isIn place (placesOf us)) ≡ true
+    go : ((u .slot ≡ k) × (u .places ≡ places)) ⊎ usedBy k places us → (usedBy k places us → isIn place places ≡ true → isIn place (placesInUse us) ≡ true)
+        → either (isIn place (u .places)) (isIn place (placesInUse us)) ≡ true
     go (inl x) rec = rw (ap (isIn place) (x .1) ∙ e)
     go (inr x) rec = rw (rec x e) (either-true (isIn place (u .places)))
       where
@@ -43,11 +43,11 @@ used-in place k places (u ∷ us) g e = in-append place (u .places) (placesOf us
         either-true true = refl
         either-true false = refl
 
-held-in : (us : List Use) (b : Bell) (f : ℕ → Endpoint) (place : ℕ) (xs : List Hold) → AllHeld us b f xs → isHeld place xs ≡ true → isIn place (placesOf us) ≡ true
+held-in : (us : List Use) (b : Bell) (f : ℕ → Endpoint) (place : ℕ) (xs : List Hold) → AllHeld us b f xs → isHeld place xs ≡ true → isIn place (placesInUse us) ≡ true
 held-in us b f place [] a e = absurd (false≢true e)
 held-in us b f place (x ∷ xs) a e = go (isIn place (x .places)) refl e (held-in us b f place xs (a .1))
   where
-    go : (c : Bool) → isIn place (x .places) ≡ c → either c (isHeld place xs) ≡ true → (isHeld place xs ≡ true → isIn place (placesOf us) ≡ true) → isIn place (placesOf us) ≡ true
+    go : (c : Bool) → isIn place (x .places) ≡ c → either c (isHeld place xs) ≡ true → (isHeld place xs ≡ true → isIn place (placesInUse us) ≡ true) → isIn place (placesInUse us) ≡ true
     go true q e rec = used-in place (x .slot) (x .places) us (a .0 .used) q
     go false q e rec = rec e
 
@@ -84,7 +84,7 @@ holds-reached s w o (c ∷ cs) =
     holds-keep s now c (core now c) (historyOf core w cs) (b .0) (b .1) (summary s now c (core now c) (historyOf core w cs) (b .0) (b .1) (effect now c) (named s w o cs c)) (holds-reached s w o cs)
 
 distinct-now : (s : Settings) (w : World) → Opening s w → (cs : List Call) (c : Call) (k id : ℕ) (r : _) → event s (turn core s w cs c) ≡ Submits k id r
-    → Distinct (chainWalk s (turn core s w cs c .after) k ++ placesOf (uses s (historyOf core w cs)))
+    → Distinct (chainWalk s (turn core s w cs c .after) k ++ placesInUse (uses s (historyOf core w cs)))
 unfolding historyOf uses
 distinct-now s w o cs c k id r e = rw e at (exclusive-places s w o (c ∷ cs) .distinct)
 
@@ -99,8 +99,8 @@ never-given s w o cs c k id r place e given = go (isHeld place (holds s h)) refl
     t = turn core s w cs c
 
     -- the submit's places are none of those in use before it
-    fresh : isIn place (placesOf (uses s h)) ≡ false
-    fresh = distinct-apart place (chainWalk s (t .after) k) (placesOf (uses s h)) (distinct-now s w o cs c k id r e) given
+    fresh : isIn place (placesInUse (uses s h)) ≡ false
+    fresh = distinct-apart place (chainWalk s (t .after) k) (placesInUse (uses s h)) (distinct-now s w o cs c k id r e) given
 
     go : (b : Bool) → isHeld place (holds s h) ≡ b → isHeld place (holds s h) ≡ false
     go true q = absurd (true≢false (sym (held-in (uses s h) (bell s h) (endpointAt (worldOf core w cs .state)) place (holds s h) (holds-reached s w o cs) q) ∙ fresh))
