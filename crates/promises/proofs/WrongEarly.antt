@@ -25,7 +25,7 @@ use Rattle.promises.specs.Bells.{kindAt}
 use Rattle.promises.specs.Boundaries.{BoundaryKept, EveryRun}
 use Rattle.promises.specs.Faults.{NeverGiven, holds, mayRead}
 use Rattle.promises.proofs.Reached.{freshWorld}
-use Rattle.promises.proofs.WrongRuns.{acknowledges, linked, one, openedTwo, opening, reading, replies, request, small, stateOf, submits, up-world, upCalls, waits, Plainly}
+use Rattle.promises.proofs.WrongRuns.{acknowledges, linked, one, openedTwo, opening, plain-rises, reading, replies, request, small, stateOf, submits, up-world, upCalls, waits, Plainly}
 use Rattle.promises.proofs.WrongCalls.{againOne, apartOne, collected, drained, freeOne, heard, linkedOne, submitted, submitted-again, unlinked}
 use Rattle.promises.proofs.WrongBells.{any, any-plainly, boundary?, early, early-plainly, found, goes-on, is-told, noteAfter}
 
@@ -54,7 +54,7 @@ module _ (m : Machine) (plainly : Plainly m) (n : ℕ)
   submits-again = plainly freeOne (submits 0 0x502000) refl refl refl ∙ submitted-again
 
   w1 : worldOf m w (submits 0 0x500000 ∷ upCalls) ≡ linkedOne (one 0 0 0 0 0 linked)
-  w1 = goes-on m w upCalls (submits 0 0x500000) openedTwo _ (up-world m plainly) submits-one
+  w1 = goes-on m w upCalls (submits 0 0x500000) openedTwo _ (up-world m (plain-rises m plainly)) submits-one
 
   w2 : worldOf m w (acknowledges 0x20 ∷ submits 0 0x500000 ∷ upCalls) ≡ linkedOne (one 0x20 0x20 n 0 0 linked)
   w2 = goes-on m w (submits 0 0x500000 ∷ upCalls) (acknowledges 0x20) (linkedOne (one 0 0 0 0 0 linked)) _ w1 hears
@@ -92,7 +92,7 @@ module _ (m : Machine) (plainly : Plainly m) (n : ℕ)
       is-told m w (Cancel 0 1 (reading 0x80031) ∷ acknowledges 0x20 ∷ submits 0 0x500000 ∷ upCalls) (Drain 0x80031) (apartOne (one 0x20 0x20 n 1 1 (waits 1))) _ w3 counts (t3 ∷ t2 ∷ t1 ∷ up)
       (is-told m w (acknowledges 0x20 ∷ submits 0 0x500000 ∷ upCalls) (Cancel 0 1 (reading 0x80031)) (linkedOne (one 0x20 0x20 n 0 0 linked)) _ w2 leaves (t2 ∷ t1 ∷ up)
       (is-told m w (submits 0 0x500000 ∷ upCalls) (acknowledges 0x20) (linkedOne (one 0 0 0 0 0 linked)) _ w1 hears (t1 ∷ up)
-      (is-told m w upCalls (submits 0 0x500000) openedTwo _ (up-world m plainly) submits-one up refl)))
+      (is-told m w upCalls (submits 0 0x500000) openedTwo _ (up-world m (plain-rises m plainly)) submits-one up refl)))
 
   bulk : isInterrupt (kindAt small 0 (t4 ∷ t3 ∷ t2 ∷ t1 ∷ up)) ≡ false
   unfolding kindAt ringWalk walkFrom

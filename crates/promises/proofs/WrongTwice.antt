@@ -24,7 +24,7 @@ use Rattle.promises.specs.Bells.{kindAt}
 use Rattle.promises.specs.Boundaries.{BoundaryKept, EveryRun}
 use Rattle.promises.specs.Faults.{NeverGiven, holds, mayRead}
 use Rattle.promises.proofs.Reached.{freshWorld}
-use Rattle.promises.proofs.WrongRuns.{acknowledges, linked, one, openedTwo, opening, reading, replies, request, small, stateOf, submits, two, up-world, upCalls, waits}
+use Rattle.promises.proofs.WrongRuns.{acknowledges, linked, one, openedTwo, opening, plain-rises, reading, replies, request, small, stateOf, submits, two, up-world, upCalls, waits}
 use Rattle.promises.proofs.WrongCalls.{againSecond, apartFirst, apartTwo, collected-second, drained-first, drained-second, freeSecond, heard-two, linkedOne, linkedTwo, submitted, submitted-second, submitted-two, unlinked-first, unlinked-second}
 use Rattle.promises.proofs.WrongBells.{boundary?, found, goes-on, is-told, noteAfter, twice, twice-plainly}
 
@@ -74,7 +74,7 @@ unfolding stateOf withBell anyOf
 drains-second = drained-second
 
 w1 : now c1 ≡ linkedOne (one 0 0 0 0 0 linked)
-w1 = goes-on twice w upCalls (submits 0 0x500000) openedTwo _ (up-world twice twice-plainly) submitted
+w1 = goes-on twice w upCalls (submits 0 0x500000) openedTwo _ (up-world twice (plain-rises twice twice-plainly)) submitted
 
 w2 : now c2 ≡ linkedTwo
 w2 = goes-on twice w c1 (submits 1 0x501000) (linkedOne (one 0 0 0 0 0 linked)) _ w1 submitted-two
@@ -138,7 +138,7 @@ is-so =
     (is-told twice w c3 (Cancel 1 1 (reading 0x80071)) apartFirst _ w3 unlinked-second (t3 ∷ t2 ∷ t1 ∷ up)
     (is-told twice w c2 (Cancel 0 1 (reading 0x80031)) linkedTwo _ w2 unlinked-first (t2 ∷ t1 ∷ up)
     (is-told twice w c1 (submits 1 0x501000) (linkedOne (one 0 0 0 0 0 linked)) _ w1 submitted-two (t1 ∷ up)
-    (is-told twice w upCalls (submits 0 0x500000) openedTwo _ (up-world twice twice-plainly) submitted up refl))))))
+    (is-told twice w upCalls (submits 0 0x500000) openedTwo _ (up-world twice (plain-rises twice twice-plainly)) submitted up refl))))))
 
 is-so-after : past after ≡ t8 ∷ told
 is-so-after = is-told twice w shared (Collect 1 1 (reading 0x80031)) (apartTwo (two 0 0x24 0 0 0 (waits 0) (waits 0))) _ w7 collected-second told is-so
