@@ -63,3 +63,4 @@ pub mod WrongCalls
 pub mod WrongBells
 pub mod WrongEarly
 pub mod WrongTwice
+pub mod WrongFrames
