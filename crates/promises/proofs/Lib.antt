@@ -64,3 +64,4 @@ pub mod WrongBells
 pub mod WrongEarly
 pub mod WrongTwice
 pub mod WrongFrames
+pub mod WrongNever

@@ -1,13 +1,12 @@
 -- A collect that takes FRINDEX to be 9 on: of this machine the frames are not kept, and a place is given too soon.
-use Prim.Native.Nat.{ℕ, _+_, _≤_}
+use Prim.Native.Nat.{ℕ, _+_}
 use mathlib.Core.Path.{_≡_, refl, sym, ap, _∙_}
-use mathlib.Core.Bool.{Bool, true, false, true≢false, false≢true}
-use mathlib.Core.List.{List, [], _∷_, _++_}
+use mathlib.Core.Bool.{true, false, true≢false, false≢true}
+use mathlib.Core.List.{List, [], _∷_}
 use native.Mathlib.Omega.{arith}
-use lib.ListN.{getD, length, replicate}
-use Rattle.register.specs.Bits.{withBits, withoutBits}
-use Rattle.register.specs.Writes.{andThen, noWrites}
-use Rattle.register.specs.declared.writes.Writes.{Writes}
+use lib.ListN.{length, replicate}
+use Rattle.register.specs.Bits.{withoutBits}
+use Rattle.register.specs.Writes.{noWrites}
 use Rattle.token.specs.Chunks.{chunkCount, needOf}
 use Rattle.token.specs.Tokens.{tokenOf}
 use Rattle.token.specs.declared.request.Direction.the-variants.{Out}
@@ -45,12 +44,11 @@ use Rattle.collection.specs.Calls.{cancelOf, collectOf, finishOf, freed, unlink
 use Rattle.collection.specs.Answers.{outcomeOf}
 use Rattle.ehci.specs.declared.call.Call.{Call}
 use Rattle.ehci.specs.declared.call.Call.the-variants.{StartBringUp, BringUpStep, AllocateAddress, OpenEndpoint, Close, SetAddress, SetPacketSize, Submit, Writeback, Cancel, Collect, Acknowledge, Drain, Rearm, Enable, Disable}
-use Rattle.ehci.specs.declared.reply.Answered.{Answered}
 use Rattle.ehci.specs.declared.reply.Answered.the-variants.{Done, Cancelled}
 use Rattle.ehci.specs.declared.reply.Given.the-variants as G
 use Rattle.ehci.specs.Replies.{replied}
 use Rattle.ehci.specs.Decides.{asksOf, cancelDecided, collectDecided, decideOf, openDecided, submitDecided}
-use Rattle.ehci.specs.Door.{Applied, applied, applyOf}
+use Rattle.ehci.specs.Door.{Applied, applyOf}
 use Rattle.promises.specs.Runs.{History, Machine, Turn, World, core, historyOf, leftBy, rowsOf, turnOf, worldOf}
 use Rattle.promises.specs.Walks.{chainWalk, frameWalk, isIn, ringWalk, walkFrom}
 use Rattle.promises.specs.Events.{Submits, event, isCollected}
@@ -58,7 +56,7 @@ use Rattle.promises.specs.Bells.{kindAt, parted}
 use Rattle.promises.specs.Boundaries.{EveryRun, FramesKept}
 use Rattle.promises.specs.Faults.{NeverGiven, holds, mayRead}
 use Rattle.promises.proofs.Reached.{freshWorld}
-use Rattle.promises.proofs.WrongRuns.{Rises, chunk, closed, fresh, headOf, headsOf, next, noBell, opening, replies, reading, rising, rising-good, run-world, runCalls, small, stateOf, used}
+use Rattle.promises.proofs.WrongRuns.{Rises, chunk, closed, fresh, headsOf, next, noBell, opening, replies, reading, rising, rising-good, run-world, runCalls, small, stateOf, used}
 use Rattle.promises.proofs.WrongBells.{goes-on, is-told}
 
 -- ---- the machine: a collect takes FRINDEX to be 9 on from what was read
@@ -153,3 +151,99 @@ collects = rw (states-good .2)
 links-again : core free (submits 0x502000) ≡ replies (Done (G.Id 2)) (writesWith (reading 0x80031)) again
 unfolding applyOf decideOf asksOf rowsFit replied fillOf filledFrom noChain packed listOf submitDecided submitOf acceptsOf endpointAt decoded slotAt rangesGood bufferGood freeCount countZero needOf chunkCount settledSubmit acceptedWith takenFor takenPlaces placesFrom markOf stateWith afterId withOwner withEndpoint withSlot linkedRows startedOverlay attachedFrames setupsWith recordAt bareAt chunkQtd newQtd tokenOf pageSlots withNext stateOf
 links-again = rw (states-good .3)
+
+-- ---- the run: its collect reads the FRINDEX that its unlink read
+
+abbrev w : World
+w = freshWorld small
+
+abbrev up : List Call
+up = openInterrupt ∷ runCalls
+
+abbrev shortly : List Call
+shortly = Cancel 0 1 (reading 0x80031) ∷ submits 0x500000 ∷ up
+
+abbrev after : List Call
+after = Collect 0 1 (reading 0x80031) ∷ shortly
+
+rises : Rises hasty
+rises w StartBringUp e n = refl
+rises w (BringUpStep v) e n = refl
+rises w AllocateAddress e n = absurd (false≢true e)
+rises w (OpenEndpoint x) e n = refl
+rises w (Close k) e n = absurd (false≢true e)
+rises w (SetAddress k a) e n = absurd (false≢true e)
+rises w (SetPacketSize k size) e n = absurd (false≢true e)
+rises w (Submit k r readings) e n = absurd (false≢true e)
+rises w (Writeback place token) e n = absurd (false≢true e)
+rises w (Cancel k id readings) e n = absurd (false≢true e)
+rises w (Collect k id readings) e n = absurd (false≢true e)
+rises w (Acknowledge x) e n = absurd (false≢true e)
+rises w (Drain v) e n = absurd (false≢true e)
+rises w Rearm e n = absurd (false≢true e)
+rises w Enable e n = absurd (false≢true e)
+rises w Disable e n = absurd (false≢true e)
+
+w0 : worldOf hasty w up ≡ opened
+unfolding stateOf
+w0 = next hasty rises runCalls openInterrupt (fresh (rising 1 0)) opened (run-world hasty rises) refl refl opens
+
+w1 : worldOf hasty w (submits 0x500000 ∷ up) ≡ linked
+w1 = goes-on hasty w up (submits 0x500000) opened _ w0 links
+
+w2 : worldOf hasty w shortly ≡ parts
+w2 = goes-on hasty w (submits 0x500000 ∷ up) (Cancel 0 1 (reading 0x80031)) linked _ w1 unlinks
+
+w3 : worldOf hasty w after ≡ free
+w3 = goes-on hasty w shortly (Collect 0 1 (reading 0x80031)) parts _ w2 collects
+
+abbrev t1 : Turn
+t1 = turnOf (opened .rows) (submits 0x500000) (replies (Done (G.Id 1)) (writesWith (reading 0x80031)) linked)
+
+abbrev t2 : Turn
+t2 = turnOf (linked .rows) (Cancel 0 1 (reading 0x80031)) (replies (Done G.Nothing) noWrites parts)
+
+abbrev t3 : Turn
+t3 = turnOf (parts .rows) (Collect 0 1 (reading 0x80031)) (replies Cancelled noWrites free)
+
+abbrev told : History
+told = t2 ∷ t1 ∷ historyOf hasty w up
+
+is-so : historyOf hasty w shortly ≡ told
+is-so =
+    is-told hasty w (submits 0x500000 ∷ up) (Cancel 0 1 (reading 0x80031)) linked _ w1 unlinks (t1 ∷ historyOf hasty w up)
+    (is-told hasty w up (submits 0x500000) opened _ w0 links (historyOf hasty w up) refl)
+
+is-so-after : historyOf hasty w after ≡ t3 ∷ told
+is-so-after = is-told hasty w shortly (Collect 0 1 (reading 0x80031)) parts _ w2 collects told is-so
+
+-- ---- refuted
+
+by-frames : (isInterrupt (kindAt small 0 told) ≡ true) × (parted small 0 told ≡ 0)
+unfolding kindAt parted ringWalk frameWalk walkFrom
+by-frames = (refl, refl)
+
+pub hasty-frames : EveryRun FramesKept hasty → ⊥
+hasty-frames kept =
+    let done : isCollected (hasty (worldOf hasty w shortly) (Collect 0 1 (reading 0x80031)) .reply .answer) ≡ true
+    = ap (λ (x : World). isCollected (hasty x (Collect 0 1 (reading 0x80031)) .reply .answer)) w2 ∙ ap (λ (a : Applied). isCollected (a .reply .answer)) collects in
+    let kind : isInterrupt (kindAt small 0 (historyOf hasty w shortly)) ≡ true = ap (λ (h : History). isInterrupt (kindAt small 0 h)) is-so ∙ by-frames .0 in
+    let at : parted small 0 (historyOf hasty w shortly) ≡ 0 = ap (parted small 0) is-so ∙ by-frames .1 in
+    omega (arith, kept small w opening shortly 0 1 (reading 0x80031) done kind .1, at)
+
+still-read : mayRead small 0 (t3 ∷ told) ≡ true
+unfolding mayRead holds historyOf ringWalk frameWalk walkFrom chainWalk metFrom follow
+still-read = refl
+
+given : isIn 0 (chainWalk small (again .rows) 0) ≡ true
+unfolding chainWalk metFrom follow
+given = refl
+
+pub hasty-gives : EveryRun NeverGiven hasty → ⊥
+hasty-gives never =
+    let c : Call = submits 0x502000 in
+    let accepted : event small (turnOf (worldOf hasty w after .rows) c (hasty (worldOf hasty w after) c)) ≡ Submits 0 2 (asks 0x502000)
+    = ap (λ (x : World). event small (turnOf (x .rows) c (hasty x c))) w3 ∙ ap (λ (a : Applied). event small (turnOf (free .rows) c a)) links-again in
+    let met : isIn 0 (chainWalk small (rowsOf (hasty (worldOf hasty w after) c)) 0) ≡ true
+    = ap (λ (x : World). isIn 0 (chainWalk small (rowsOf (hasty x c)) 0)) w3 ∙ ap (λ (a : Applied). isIn 0 (chainWalk small (rowsOf a) 0)) links-again ∙ given in
+    true≢false (sym (ap (mayRead small 0) is-so-after ∙ still-read) ∙ never small w opening after c 0 2 (asks 0x502000) 0 accepted met)
