@@ -35,7 +35,7 @@ use Rattle.ehci.specs.Replies.{collectedAnswer, replied}
 use Rattle.promises.specs.Runs.{History, Opening, Turn, World, core, historyOf, turnOf, worldOf}
 use Rattle.promises.specs.Events.{isDone}
 use Rattle.promises.specs.Bells.{cancelled, cancelsBy, linked, renews}
-use Rattle.promises.specs.Boundaries.{EveryRun, CancelledCollects, StateSays, Uncrowded}
+use Rattle.promises.specs.Boundaries.{CancelledAnswered, CancelledCollects, EveryRun, StateSays, Uncrowded}
 use Rattle.promises.proofs.EffectOf.{effect}
 use Rattle.promises.proofs.ChainCancels.{Roomy}
 use Rattle.promises.proofs.Sound.{Sound}
@@ -45,7 +45,8 @@ use Rattle.promises.proofs.BellInvariant.{room}
 use Rattle.promises.proofs.BellSteps.{StateInv}
 use Rattle.promises.proofs.BellSummary.{Kept, Summary, summary}
 use Rattle.promises.proofs.BoundaryCalls.{by-door, collect-found}
-use Rattle.promises.proofs.BoundaryCore.{bells-reached, named}
+use Rattle.promises.proofs.BoundaryCore.{bells-reached, exact, named}
+use Rattle.promises.proofs.BoundaryExact.{answered-cancelled}
 
 -- ---- the mark of a cancelled request
 
@@ -224,6 +225,9 @@ pub cancelled-collects : EveryRun CancelledCollects core
 cancelled-collects s w o cs k id rd e done =
     let x = collect-found (worldOf core w cs) k id rd done in
     x .answer-is ∙ outcome-marked (x .r .cancelled) _ (sym (ap isMarked (x .unlinking)) ∙ marks-reached s w o cs k e)
+
+pub cancelled-answered : EveryRun CancelledAnswered core
+cancelled-answered s w o = answered-cancelled core s w (exact s w o) (cancelled-collects s w o)
 
 -- ---- what the state says
 

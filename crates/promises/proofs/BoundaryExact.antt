@@ -13,7 +13,7 @@ use Rattle.promises.specs.Runs.{History, Machine, Turn, World, historyOf
 use Rattle.promises.specs.Events.{Event, Other, Reads, Drains, Submits, Unlinks, Parts, Collects, event}
 use Rattle.promises.specs.Bells.{isSubmitsOf, isUnlinksOf, kindAfter, kindAt, renews, unlinking, unlinksOf}
 use Rattle.promises.specs.Chains.{newestId}
-use Rattle.promises.specs.Boundaries.{Exact, FramesKept, Orderly, PassesExactly, past, turn}
+use Rattle.promises.specs.Boundaries.{CancelledAnswered, CancelledCollects, Exact, FramesKept, Orderly, PassesExactly, past, turn}
 
 -- a turn that does not submit to k leaves the kind of its request
 kind-stays : (k : ℕ) (x : Event) (old : EndpointType) → isSubmitsOf k x ≡ false → kindAfter k x old ≡ old
@@ -76,3 +76,11 @@ pub frames-kept : (m : Machine) (s : Settings) (w : World) → Exact m s w → F
 frames-kept m s w exact cs k id readings done kind =
     let e = exact cs k id readings .1 kind .0 done in
     (e .0, e .2)
+
+-- and what is cancelled is collected as such, once it is answered
+pub answered-cancelled : (m : Machine) (s : Settings) (w : World) → Exact m s w → CancelledCollects m s w → CancelledAnswered m s w
+answered-cancelled m s w exact cancels cs k rd e =
+    let id = newestId s k (past m s w cs) in (
+      (λ kind off reached. cancels cs k id rd e (exact cs k id rd .0 kind .1 (off, refl, reached))),
+      (λ kind off nine. cancels cs k id rd e (exact cs k id rd .1 kind .1 (off, refl, nine))),
+    )

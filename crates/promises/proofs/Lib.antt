@@ -59,6 +59,7 @@ pub mod FaultHolds
 pub mod FaultSteps
 pub mod FaultTheorem
 pub mod WrongRuns
+pub mod WrongUp
 pub mod WrongCalls
 pub mod WrongBells
 pub mod WrongEarly

@@ -14,7 +14,7 @@ use Rattle.ehci.specs.Door.{Applied, applied}
 use Rattle.promises.specs.Runs.{History, Machine, Turn, World, core, historyOf, leftBy, turnOf, worldOf}
 use Rattle.promises.specs.Events.{rings}
 use Rattle.promises.specs.Bells.{Boundary, none, reads, unlinksOf}
-use Rattle.promises.proofs.WrongRuns.{Plainly, isDrain, readsAdvance}
+use Rattle.promises.proofs.WrongUp.{Plainly, isDrain, readsAdvance}
 
 -- ---- machines
 

@@ -25,7 +25,8 @@ use Rattle.promises.specs.Bells.{kindAt}
 use Rattle.promises.specs.Boundaries.{BoundaryKept, EveryRun}
 use Rattle.promises.specs.Faults.{NeverGiven, holds, mayRead}
 use Rattle.promises.proofs.Reached.{freshWorld}
-use Rattle.promises.proofs.WrongRuns.{acknowledges, linked, one, openedTwo, opening, plain-rises, reading, replies, request, small, stateOf, submits, up-world, upCalls, waits, Plainly}
+use Rattle.promises.proofs.WrongRuns.{acknowledges, linked, one, openedTwo, opening, reading, replies, request, small, stateOf, submits, waits}
+use Rattle.promises.proofs.WrongUp.{plain-rises, up-world, upCalls, Plainly}
 use Rattle.promises.proofs.WrongCalls.{againOne, apartOne, collected, drained, freeOne, heard, linkedOne, submitted, submitted-again, unlinked}
 use Rattle.promises.proofs.WrongBells.{any, any-plainly, boundary?, early, early-plainly, found, goes-on, is-told, noteAfter}
 

@@ -56,7 +56,8 @@ use Rattle.promises.specs.Bells.{kindAt, parted}
 use Rattle.promises.specs.Boundaries.{EveryRun, FramesKept}
 use Rattle.promises.specs.Faults.{NeverGiven, holds, mayRead}
 use Rattle.promises.proofs.Reached.{freshWorld}
-use Rattle.promises.proofs.WrongRuns.{Rises, chunk, closed, fresh, headsOf, next, noBell, opening, replies, reading, rising, rising-good, run-world, runCalls, small, stateOf, used}
+use Rattle.promises.proofs.WrongRuns.{chunk, closed, fresh, headsOf, noBell, opening, replies, reading, rising, rising-good, small, stateOf, used}
+use Rattle.promises.proofs.WrongUp.{Rises, next, run-world, runCalls}
 use Rattle.promises.proofs.WrongBells.{goes-on, is-told}
 
 -- ---- the machine: a collect takes FRINDEX to be 9 on from what was read

@@ -41,7 +41,8 @@ use Rattle.promises.specs.Bells.{asked, bell, counted, kindAt, number, u
 use Rattle.promises.specs.Chains.{newestId}
 use Rattle.promises.specs.Boundaries.{EveryRun, Exact}
 use Rattle.promises.proofs.Reached.{freshWorld}
-use Rattle.promises.proofs.WrongRuns.{Plainly, acknowledges, isDrain, linked, one, openedTwo, opening, plain-rises, reading, replies, small, stateOf, submits, up-world, upCalls, waits}
+use Rattle.promises.proofs.WrongRuns.{acknowledges, linked, one, openedTwo, opening, reading, replies, small, stateOf, submits, waits}
+use Rattle.promises.proofs.WrongUp.{Plainly, isDrain, plain-rises, up-world, upCalls}
 use Rattle.promises.proofs.WrongCalls.{apartOne, linkedOne, submitted}
 use Rattle.promises.proofs.WrongBells.{goes-on, is-told, noteBefore}
 

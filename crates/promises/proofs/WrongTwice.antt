@@ -24,7 +24,8 @@ use Rattle.promises.specs.Bells.{kindAt}
 use Rattle.promises.specs.Boundaries.{BoundaryKept, EveryRun}
 use Rattle.promises.specs.Faults.{NeverGiven, holds, mayRead}
 use Rattle.promises.proofs.Reached.{freshWorld}
-use Rattle.promises.proofs.WrongRuns.{acknowledges, linked, one, openedTwo, opening, plain-rises, reading, replies, request, small, stateOf, submits, two, up-world, upCalls, waits}
+use Rattle.promises.proofs.WrongRuns.{acknowledges, linked, one, openedTwo, opening, reading, replies, request, small, stateOf, submits, two, waits}
+use Rattle.promises.proofs.WrongUp.{plain-rises, up-world, upCalls}
 use Rattle.promises.proofs.WrongCalls.{againSecond, apartFirst, apartTwo, collected-second, drained-first, drained-second, freeSecond, heard-two, linkedOne, linkedTwo, submitted, submitted-second, submitted-two, unlinked-first, unlinked-second}
 use Rattle.promises.proofs.WrongBells.{boundary?, found, goes-on, is-told, noteAfter, twice, twice-plainly}
 

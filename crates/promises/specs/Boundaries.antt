@@ -103,6 +103,14 @@ module _ (m : Machine) (s : Settings) (w : World) where
   CancelledCollects = (cs : List Call) (k id : ℕ) (readings : Readings) → cancelled s k (past cs) ≡ true
       → Collectable cs k id readings → answerTo cs (Collect k id readings) ≡ Cancelled
 
+  -- so once its unlink is answered its collect answers 10; an interrupt request's, with FRINDEX 9 on
+  abbrev pub CancelledAnswered : Type 0
+  CancelledAnswered = (cs : List Call) (k : ℕ) (readings : Readings) → cancelled s k (past cs) ≡ true
+      → (isInterrupt (kindAt s k (past cs)) ≡ false → unlinking s k (past cs) ≡ true → number s k (past cs) ≤ counted s (past cs)
+      → answerTo cs (Collect k (newestId s k (past cs)) readings) ≡ Cancelled)
+      × (isInterrupt (kindAt s k (past cs)) ≡ true → parting s k (past cs) ≡ true → NineOn (parted s k (past cs)) (readings .frame)
+      → answerTo cs (Collect k (newestId s k (past cs)) readings) ≡ Cancelled)
+
   -- each event has its place: only a linked slot leaves the ring or the frame list, by its kind; only a slot with no request is submitted to
   abbrev pub Orderly : Type 0
   Orderly = (cs : List Call) (c : Call) (k : ℕ)
