@@ -11,6 +11,7 @@ pub mod SoundKeeps
 pub mod IdleInv
 pub mod Reached
 pub mod Order
+pub mod Same
 pub mod UseInv
 pub mod UseQuiet
 pub mod UseTenants
