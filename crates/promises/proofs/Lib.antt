@@ -56,6 +56,7 @@ pub mod BoundaryCalls
 pub mod BellSummary
 pub mod BoundaryCore
 pub mod BoundaryCancels
+pub mod ChainTheorems
 pub mod FaultHolds
 pub mod FaultSteps
 pub mod FaultTheorem
