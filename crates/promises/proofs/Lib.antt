@@ -18,6 +18,8 @@ pub mod UseSteps
 pub mod UseAccepts
 pub mod UseCollects
 pub mod UseHeld
+pub mod OpenedInv
+pub mod OpenedVerdict
 pub mod RoomLaws
 pub mod ExclusiveLaws
 pub mod CoverBytes
