@@ -29,22 +29,13 @@ use Rattle.collection.specs.Unlinks.{boundedOf, waitingOf}
 use Rattle.ehci.specs.declared.call.Call.{Call}
 use Rattle.ehci.specs.Door.{Applied}
 use Rattle.promises.specs.Runs.{History, Opening, Turn, World, leftBy, turnOf}
-use Rattle.promises.specs.Opened.{Change, ClosesSlot, Halted, Open, OpensSlot, Running, Same, Shut, SlotKind, change, runsAfter, runsIn, slotAfter, slotIn}
+use Rattle.promises.specs.Opened.{Change, ClosesSlot, Halted, Open, OpensSlot, Running, Same, Shut, SlotKind, change, kindAt, kindIn, runsAfter, runsIn, slotAfter, slotIn}
 use Rattle.promises.proofs.Effects.{Effect, Sides, Still, Switches, accepts, besides, closes, collects, counts, hears, joins, marks, opens, passes, rewrites, still, unlinks, writes-back}
 use Rattle.promises.proofs.Reached.{opening-is}
 use Rattle.promises.proofs.Sound.{Sound, slot-low}
 use Rattle.promises.proofs.UseHeld.{fresh-closed}
 
 -- ---- the kind of a slot
-
-abbrev pub kindIn : Endpoint → SlotKind
-kindIn Closed = Shut
-kindIn (Idle p) = Open (p .kind)
-kindIn (Linked p r) = Open (p .kind)
-kindIn (Unlinking p r b) = Open (p .kind)
-
-abbrev pub kindAt : Ehci → ℕ → SlotKind
-kindAt s k = kindIn (endpointAt s k)
 
 -- an endpoint that is encoded and decoded has the same kind
 kind-again : (x : Endpoint) → kindIn (decoded (encoded x)) ≡ kindIn x

@@ -28,10 +28,10 @@ use Rattle.promises.specs.Runs.{History, World}
 use Rattle.promises.specs.Walks.{isIn}
 use Rattle.promises.specs.Uses.{Use, needs, uses}
 use Rattle.promises.specs.Rooms.{Every}
-use Rattle.promises.specs.Opened.{hasKind, isHeld, isShut, runsIn, slotIn, submitAsks, wanted}
+use Rattle.promises.specs.Opened.{hasKind, isHeld, isShut, kindIn, runsIn, slotIn, submitAsks, wanted}
 use Rattle.promises.proofs.Sound.{Sound}
 use Rattle.promises.proofs.UseInv.{Avoids, Held, Nobody, Tenant, Waits, every-map, tenantAt, tenantOf}
-use Rattle.promises.proofs.OpenedInv.{Told, kind-slot, kindIn}
+use Rattle.promises.proofs.OpenedInv.{Told, kind-slot}
 
 -- ---- an uncollected request
 

@@ -1,4 +1,5 @@
--- What a caller knows of the slots and of the controller from its calls and their answers; and what submit asks, read off that. No state.
+-- What a caller knows of the slots and of the controller from its calls and their answers; and what submit asks, read off that. No
+-- state; at the end, the law that ties the state to it.
 use Prim.Native.Nat.{ℕ, _+_}
 use mathlib.Core.Bool.{Bool, true, false, not, cond}
 use mathlib.Core.List.{List, [], _∷_, _++_, map}
@@ -6,11 +7,15 @@ use mathlib.Core.Path.{_≡_}
 use lib.Dec.{eqb, ltb}
 use Rattle.token.specs.Chunks.{needOf}
 use Rattle.token.specs.declared.request.EndpointType.{EndpointType}
-use Rattle.pipe.specs.Endpoints.{kindNumber}
+use Rattle.pipe.specs.Endpoints.{endpointAt, flagNumber, kindNumber}
 use Rattle.pipe.specs.Kinds.{isIsochronous}
+use Rattle.pipe.specs.declared.endpoint.Endpoint.{Endpoint}
+use Rattle.pipe.specs.declared.endpoint.Endpoint.the-variants.{Closed, Idle, Linked, Unlinking}
 use Rattle.settings.specs.declared.settings.Settings.{Settings}
+use Rattle.state.specs.declared.state.Ehci.{Ehci}
 use Rattle.answer.specs.Answers.{Check, Verdict, first}
 use Rattle.answer.specs.declared.answer.Refusal.the-variants.{InvalidParameter, InvalidEndpoint, QueueFull, NotSupported, NoMemory, NotReady}
+use Rattle.controller.specs.Readers.{isUncollected}
 use Rattle.controller.specs.declared.lent.Readings.{Readings}
 use Rattle.request.specs.Submit.{rangesGood}
 use Rattle.request.specs.declared.judge.TransferRequest.{TransferRequest}
@@ -21,7 +26,7 @@ use Rattle.ehci.specs.declared.reply.Answered.{Answered}
 use Rattle.ehci.specs.declared.reply.Answered.the-variants.{Done, Pending, Cancelled, Failed, Refused}
 use Rattle.ehci.specs.declared.reply.Given.the-variants as G
 use Rattle.ehci.specs.Replies.{answeredNumber}
-use Rattle.promises.specs.Runs.{Always, History, Machine, Turn}
+use Rattle.promises.specs.Runs.{Always, History, Machine, Turn, World}
 use Rattle.promises.specs.Walks.{isIn}
 use Rattle.promises.specs.Events.{isDone}
 use Rattle.promises.specs.Uses.{Use, needs, uses}
@@ -164,3 +169,23 @@ SubmitVerdict m =
     (λ s h w. (k : ℕ) (t : TransferRequest) (readings : Readings)
     → verdictIn (m w (Submit k t readings) .reply .answer) ≡ first (submitAsks s h k t))
     m
+
+-- ---- the law that ties the state's fields to the history
+
+abbrev pub kindIn : Endpoint → SlotKind
+kindIn Closed = Shut
+kindIn (Idle p) = Open (p .kind)
+kindIn (Linked p r) = Open (p .kind)
+kindIn (Unlinking p r b) = Open (p .kind)
+
+abbrev pub kindAt : Ehci → ℕ → SlotKind
+kindAt s k = kindIn (endpointAt s k)
+
+-- in every reached world: which slots are open, and of which kind; whether the controller runs; which slots have an uncollected request
+pub record Tied (s : Settings) (h : History) (w : World) : Type 0 where
+  pub slots : (k : ℕ) → slotIn k h ≡ kindAt (w .state) k
+  pub runs : w .state .running ≡ flagNumber (runsIn h)
+  pub held : (k : ℕ) → isHeld s h k ≡ isUncollected (w .state) k
+
+abbrev pub FieldsTied : Machine → Type 0
+FieldsTied m = Always Tied m
