@@ -6,6 +6,7 @@ pub mod EffectInterrupts
 pub mod EffectEndpoints
 pub mod EffectRequests
 pub mod EffectOf
+pub mod SlotViews
 pub mod Sound
 pub mod SoundKeeps
 pub mod IdleInv

@@ -17,7 +17,7 @@ use Rattle.state.specs.declared.state.Ehci.{Ehci}
 use Rattle.pipe.specs.Endpoints.{decoded, encoded, endpointAt, flagNumber, kindOf, withEndpoint}
 use Rattle.pipe.specs.declared.endpoint.Endpoint.{Endpoint}
 use Rattle.pipe.specs.declared.endpoint.Endpoint.the-variants.{Closed, Idle, Linked, Unlinking}
-use Rattle.pipe.proofs.EndpointLaws.{Wide, bell-wide, endpoint-other, kind-there, owner-wide, slot-same}
+use Rattle.pipe.proofs.EndpointLaws.{Wide, bell-wide, endpoint-other, kind-there, owner-aside, owner-wide}
 use Rattle.opening.specs.Opening.{freshState}
 use Rattle.controller.specs.Readers.{isOpen}
 use Rattle.controller.proofs.ReaderLaws.{open-below}
@@ -32,6 +32,7 @@ use Rattle.promises.specs.Runs.{History, Opening, Turn, World, leftBy, t
 use Rattle.promises.specs.Opened.{Change, ClosesSlot, Halted, Open, OpensSlot, Running, Same, Shut, SlotKind, change, kindAt, kindIn, runsAfter, runsIn, slotAfter, slotIn}
 use Rattle.promises.proofs.Effects.{Effect, Sides, Still, Switches, accepts, besides, closes, collects, counts, hears, joins, marks, opens, passes, rewrites, still, unlinks, writes-back}
 use Rattle.promises.proofs.Reached.{opening-is}
+use Rattle.promises.proofs.SlotViews.{view-bell, view-besides, view-boundaries, view-same, view-stays}
 use Rattle.promises.proofs.Sound.{Sound, slot-low}
 use Rattle.promises.proofs.UseHeld.{fresh-closed}
 
@@ -46,25 +47,19 @@ kind-again (Linked p r) = rw (kind-there (p .kind))
 kind-again (Unlinking p r b) = rw (kind-there (p .kind))
 
 module _ (s : Ehci) (k : ℕ) (x : Endpoint) (w : Wide s) (low : k < 32) where
-  kind-same : kindAt (withEndpoint s k x) k ≡ kindIn x
-  unfolding endpointAt withEndpoint
-  kind-same = rw (lt-ltb k 32 low, slot-same s k (encoded x) w low) (kind-again x)
-
   -- slot k is given that endpoint
   kind-given : (j : ℕ) → kindAt (withEndpoint s k x) j ≡ cond (eqb k j) (kindIn x) (kindAt s j)
   kind-given j = by (decEq k j)
     where
       by : Dec (k ≡ j) → kindAt (withEndpoint s k x) j ≡ cond (eqb k j) (kindIn x) (kindAt s j)
-      by (yes e) = ap (kindAt (withEndpoint s k x)) (sym e) ∙ kind-same ∙ sym (ap (λ (b : Bool). cond b (kindIn x) (kindAt s j)) (eq-eqb k j e))
+      by (yes e) =
+          ap (kindAt (withEndpoint s k x)) (sym e) ∙ view-same kindIn kind-again s k x w low
+          ∙ sym (ap (λ (b : Bool). cond b (kindIn x) (kindAt s j)) (eq-eqb k j e))
       by (no ne) = ap kindIn (endpoint-other s k x j (λ e. ne (sym e))) ∙ sym (ap (λ (b : Bool). cond b (kindIn x) (kindAt s j)) (ne-eqb k j ne))
 
   -- an endpoint of the same kind
   kind-stays : kindIn x ≡ kindAt s k → (j : ℕ) → kindAt (withEndpoint s k x) j ≡ kindAt s j
-  kind-stays e j = by (decEq k j)
-    where
-      by : Dec (k ≡ j) → kindAt (withEndpoint s k x) j ≡ kindAt s j
-      by (yes q) = ap (kindAt (withEndpoint s k x)) (sym q) ∙ kind-same ∙ e ∙ ap (kindAt s) q
-      by (no ne) = ap kindIn (endpoint-other s k x j (λ q. ne (sym q)))
+  kind-stays = view-stays kindIn kind-again s k x w low
 
 -- the kind of an open slot is what its number stands for
 pub kind-slot : (s : Ehci) (k : ℕ) → isOpen s k ≡ true → kindAt s k ≡ Open (kindOf (slotAt s k .kind))
@@ -78,32 +73,6 @@ kind-slot s k o = by (ltb k 32) refl (eqb (slotAt s k .phase) 1) refl (eqb (slot
     by true a false p false q true r o = rw (a, p, q, r)
     by true a false p false q false r o = absurd (false-true (rw (a, p, q, r) at o))
     by false a x p y q z r o = absurd (false-true (rw a at o))
-
--- ---- what changes no kind
-
-kind-besides : (s : Ehci) (x : Sides) (j : ℕ) → kindAt (besides s x) j ≡ kindAt s j
-unfolding endpointAt slotAt
-kind-besides s x j = refl
-
-kind-bell : (s : Ehci) (n d u j : ℕ) → kindAt (withBell s n d u) j ≡ kindAt s j
-unfolding endpointAt slotAt withBell
-kind-bell s n d u j = refl
-
-kind-owner : (s : Ehci) (o : List ℕ) (j : ℕ) → kindAt (withOwner s o) j ≡ kindAt s j
-unfolding endpointAt slotAt withOwner
-kind-owner s o j = refl
-
-kind-boundaries : (s : Ehci) (l : List ℕ) (j : ℕ) → kindAt (withBoundaries s l) j ≡ kindAt s j
-unfolding endpointAt slotAt withBoundaries decoded
-kind-boundaries s l j = by (ltb j 32) refl (eqb (slotAt s j .phase) 1) refl (eqb (slotAt s j .phase) 2) refl (eqb (slotAt s j .phase) 3) refl
-  where
-    by : (a : Bool) → ltb j 32 ≡ a → (x : Bool) → eqb (slotAt s j .phase) 1 ≡ x → (y : Bool) → eqb (slotAt s j .phase) 2 ≡ y → (z : Bool) → eqb (slotAt s j .phase) 3 ≡ z
-        → kindAt (withBoundaries s l) j ≡ kindAt s j
-    by false a x p y q z r = rw a
-    by true a true p y q z r = rw (a, p)
-    by true a false p true q z r = rw (a, p, q)
-    by true a false p false q true r = rw (a, p, q, r)
-    by true a false p false q false r = rw (a, p, q, r)
 
 -- ---- the invariant
 
@@ -143,7 +112,7 @@ module _ (w : World) (c : Call) (a : Applied) (h : History) (told : Told h (w .s
   still-told x = by (change t) refl (x .switches)
     where
       kinds : (k : ℕ) → slotIn k h ≡ kindAt new k
-      kinds k = told .slots k ∙ sym (ap (λ (y : Ehci). kindAt y k) (x .state-is) ∙ kind-besides old (x .sides) k)
+      kinds k = told .slots k ∙ sym (ap (λ (y : Ehci). kindAt y k) (x .state-is) ∙ view-besides kindIn old (x .sides) k)
 
       run : new .running ≡ x .sides .running
       run = ap (λ (y : Ehci). y .running) (x .state-is)
@@ -169,17 +138,17 @@ module _ (w : World) (c : Call) (a : Applied) (h : History) (told : Told h (w .s
     unfolding withBell withBoundaries stateWith waitingOf finishOf withOwner withEndpoint withSlot
     told-here (still x) = still-told x
     told-here (hears x) =
-        unchanged (x .same) (λ k. ap (λ (y : Ehci). kindAt y k) (x .state-is) ∙ kind-besides _ (x .sides) k ∙ kind-bell old _ _ _ k)
+        unchanged (x .same) (λ k. ap (λ (y : Ehci). kindAt y k) (x .state-is) ∙ view-besides kindIn _ (x .sides) k ∙ view-bell kindIn old _ _ _ k)
         (ap (λ (y : Ehci). y .running) (x .state-is) ∙ x .runs-on .0)
     told-here (joins x) =
-        unchanged (x .same) (λ k. ap (λ (y : Ehci). kindAt y k) (x .state-is) ∙ kind-besides old (x .sides) k)
+        unchanged (x .same) (λ k. ap (λ (y : Ehci). kindAt y k) (x .state-is) ∙ view-besides kindIn old (x .sides) k)
         (ap (λ (y : Ehci). y .running) (x .state-is) ∙ x .runs-on .0)
     told-here (passes x) =
-        unchanged (x .same) (λ k. ap (λ (y : Ehci). kindAt y k) (x .state-is) ∙ kind-besides old (x .sides) k)
+        unchanged (x .same) (λ k. ap (λ (y : Ehci). kindAt y k) (x .state-is) ∙ view-besides kindIn old (x .sides) k)
         (ap (λ (y : Ehci). y .running) (x .state-is) ∙ x .runs-on .0)
     told-here (counts x) =
         unchanged (x .same)
-        (λ k. ap (λ (y : Ehci). kindAt y k) (x .state-is) ∙ kind-besides _ (x .sides) k ∙ kind-boundaries _ _ k ∙ kind-bell old _ _ _ k)
+        (λ k. ap (λ (y : Ehci). kindAt y k) (x .state-is) ∙ view-besides kindIn _ (x .sides) k ∙ view-boundaries kindIn (λ p r b c. refl) _ _ k ∙ view-bell kindIn old _ _ _ k)
         (ap (λ (y : Ehci). y .running) (x .state-is) ∙ x .runs-on .0)
     told-here (opens x) =
         given-told (OpensSlot (x .k) (x .kind)) (x .k) (newEndpoint (x .kind)) (x .changes) (x .state-is) (sound .wide)
@@ -193,8 +162,8 @@ module _ (w : World) (c : Call) (a : Applied) (h : History) (told : Told h (w .s
         unchanged (x .same)
         (λ j. ap (λ (y : Ehci). kindAt y j) (x .state-is)
         ∙ kind-stays (withOwner old _) (x .k) (linkedWith old (x .k) (x .t)) (owner-wide old _ (sound .wide)) (open-below old (x .k) (x .judged .opened))
-        (sym (kind-owner old _ (x .k) ∙ kind-slot old (x .k) (x .judged .opened) ∙ ap (λ (n : ℕ). Open (kindOf n)) (sym (x .judged .same-kind)) ∙ ap Open (kind-there (x .t .kind)))) j
-        ∙ kind-owner old _ j)
+        (sym (ap kindIn (owner-aside old _ (x .k)) ∙ kind-slot old (x .k) (x .judged .opened) ∙ ap (λ (n : ℕ). Open (kindOf n)) (sym (x .judged .same-kind)) ∙ ap Open (kind-there (x .t .kind)))) j
+        ∙ ap kindIn (owner-aside old _ j))
         (ap (λ (y : Ehci). y .running) (x .state-is))
     told-here (writes-back x) =
         unchanged (x .same) (λ k. ap (λ (y : Ehci). kindAt y k) (x .state-is)) (ap (λ (y : Ehci). y .running) (x .state-is))
@@ -208,15 +177,15 @@ module _ (w : World) (c : Call) (a : Applied) (h : History) (told : Told h (w .s
         unchanged (x .same)
         (λ j. ap (λ (y : Ehci). kindAt y j) (x .state-is)
         ∙ kind-stays (withBell old _ _ _) (x .k) (Unlinking (x .p) (x .asked) (boundedOf (bellOf old) (x .p .kind) (x .readings) .boundary)) (bell-wide old _ _ _ (sound .wide)) (slot-low _ w sound (x .k) (Linked (x .p) (x .r)) (x .linked) refl)
-        (sym (kind-bell old _ _ _ (x .k) ∙ ap kindIn (x .linked))) j
-        ∙ kind-bell old _ _ _ j)
+        (sym (view-bell kindIn old _ _ _ (x .k) ∙ ap kindIn (x .linked))) j
+        ∙ view-bell kindIn old _ _ _ j)
         (ap (λ (y : Ehci). y .running) (x .state-is))
     told-here (collects x) =
         unchanged (x .same)
         (λ j. ap (λ (y : Ehci). kindAt y j) (x .state-is)
         ∙ kind-stays (withOwner old _) (x .k) (Idle (x .p)) (owner-wide old _ (sound .wide)) (slot-low _ w sound (x .k) (Unlinking (x .p) (x .r) (x .u)) (x .unlinking) refl)
-        (sym (kind-owner old _ (x .k) ∙ ap kindIn (x .unlinking))) j
-        ∙ kind-owner old _ j)
+        (sym (ap kindIn (owner-aside old _ (x .k)) ∙ ap kindIn (x .unlinking))) j
+        ∙ ap kindIn (owner-aside old _ j))
         (ap (λ (y : Ehci). y .running) (x .state-is))
 
 pub told-keeps : (s : Settings) (h : History) (w : World) (c : Call) (a : Applied) → Sound s w → Told h (w .state) → Effect w c a
