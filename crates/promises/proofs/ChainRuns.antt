@@ -3,9 +3,7 @@ use Prim.Native.Nat.{ℕ, _+_, _<_}
 use mathlib.Core.Path.{_≡_, refl, sym, ap, subst, _∙_}
 use mathlib.Core.Bool.{Bool, true, false}
 use mathlib.Core.List.{List, [], _∷_, _++_, map}
-use native.Mathlib.Decide.{ℕ-discrete as decEq}
 use native.Mathlib.Omega.{arith}
-use borrow.Author.Tests.{eq-eqb, ne-eqb}
 use lib.ListN.{getD, getD-replicate, replicate}
 use Rattle.settings.specs.Settings.{settingsGood}
 use Rattle.settings.specs.declared.settings.Settings.{Settings}
@@ -21,11 +19,11 @@ use Rattle.opening.proofs.OpenLaws.{heads-words}
 use Rattle.ehci.specs.declared.call.Call.{Call}
 use Rattle.promises.specs.Runs.{History, Opening, World, core, historyOf, worldOf}
 use Rattle.promises.specs.Walks.{frameWalk, isIn, ringWalk}
-use Rattle.promises.specs.Uses.{Use, frameSlots, ringSlots, uses}
+use Rattle.promises.specs.Uses.{frameSlots, ringSlots, uses}
 use Rattle.promises.specs.Chains.{ChainsWalked, headPlaces, isLinked}
 use Rattle.promises.proofs.Sound.{Sound}
 use Rattle.promises.proofs.Reached.{freshWorld, opening-is, reached, sound-opens}
-use Rattle.promises.proofs.UseInv.{Avoids, Held, Nobody, tenantOf, tenants-apart}
+use Rattle.promises.proofs.UseInv.{Held, Nobody, tenantOf, tenants-apart}
 use Rattle.promises.proofs.OpenedVerdict.{out-of-uses}
 use Rattle.promises.proofs.RoomPromises.{held}
 use Rattle.promises.proofs.ChainInv.{Chained, linked-by, linked-within, linkedIn}

@@ -12,14 +12,10 @@ use Rattle.state.specs.Slots.{slotAt, withSlot}
 use Rattle.state.specs.State.{withBell, withBoundaries, withOwner}
 use Rattle.state.specs.declared.state.Ehci.{Ehci}
 use Rattle.state.proofs.Arrays.{zeros-at}
-use lib.Dec.{eqb, ltb}
-use lib.ListN.{getD}
+use lib.Dec.{ltb}
 use Rattle.pipe.specs.Endpoints.{decoded, endpointAt, pickEndpoint, withEndpoint}
-use Rattle.pipe.specs.declared.endpoint.Pipe.{Pipe}
-use Rattle.pipe.specs.declared.endpoint.Request.{Request}
-use Rattle.pipe.specs.declared.endpoint.UnlinkBoundary.{UnlinkBoundary}
 use Rattle.pipe.specs.declared.endpoint.Endpoint.{Endpoint}
-use Rattle.pipe.specs.declared.endpoint.Endpoint.the-variants.{Closed, Idle, Linked, Unlinking}
+use Rattle.pipe.specs.declared.endpoint.Endpoint.the-variants.{Closed, Idle}
 use Rattle.pipe.proofs.EndpointLaws.{endpoint-other, endpoint-same}
 use Rattle.opening.specs.Opening.{freshState}
 use Rattle.controller.specs.Readers.{holdsRequest, isUncollected}

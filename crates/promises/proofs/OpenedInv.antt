@@ -1,14 +1,12 @@
 -- The tie between the slots and the running that a history tells of and a state.
-use Prim.Native.Nat.{ℕ, _≤_, _<_}
+use Prim.Native.Nat.{ℕ, _<_}
 use mathlib.Core.Bool.{Bool, true, false, cond}
-use mathlib.Core.List.{List, [], _∷_}
+use mathlib.Core.List.{[], _∷_}
 use mathlib.Core.Path.{_≡_, refl, sym, ap, subst, _∙_}
 use native.Mathlib.Decide.{ℕ-discrete as decEq}
 use native.Mathlib.Omega.{arith}
-use borrow.Author.Tests.{eq-eqb, lt-ltb, ne-eqb}
+use borrow.Author.Tests.{eq-eqb, ne-eqb}
 use lib.Dec.{eqb, ltb}
-use Rattle.slot.specs.declared.slot.Slot.{Slot}
-use Rattle.token.specs.declared.request.EndpointType.{EndpointType}
 use Rattle.settings.specs.declared.settings.Settings.{Settings}
 use Rattle.settings.proofs.Every.{false-true}
 use Rattle.state.specs.Slots.{slotAt, withSlot}
@@ -29,8 +27,8 @@ use Rattle.collection.specs.Unlinks.{boundedOf, waitingOf}
 use Rattle.ehci.specs.declared.call.Call.{Call}
 use Rattle.ehci.specs.Door.{Applied}
 use Rattle.promises.specs.Runs.{History, Opening, Turn, World, leftBy, turnOf}
-use Rattle.promises.specs.Opened.{Change, ClosesSlot, Halted, Open, OpensSlot, Running, Same, Shut, SlotKind, change, kindAt, kindIn, runsAfter, runsIn, slotAfter, slotIn}
-use Rattle.promises.proofs.Effects.{Effect, Sides, Still, Switches, accepts, besides, closes, collects, counts, hears, joins, marks, opens, passes, rewrites, still, unlinks, writes-back}
+use Rattle.promises.specs.Opened.{Change, ClosesSlot, Halted, Open, OpensSlot, Running, Same, SlotKind, change, kindAt, kindIn, runsAfter, runsIn, slotAfter, slotIn}
+use Rattle.promises.proofs.Effects.{Effect, Still, Switches, accepts, closes, collects, counts, hears, joins, marks, opens, passes, rewrites, still, unlinks, writes-back}
 use Rattle.promises.proofs.Reached.{opening-is}
 use Rattle.promises.proofs.SlotViews.{view-bell, view-besides, view-boundaries, view-same, view-stays}
 use Rattle.promises.proofs.Sound.{Sound, slot-low}

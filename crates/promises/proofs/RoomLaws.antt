@@ -25,13 +25,12 @@ use Rattle.ehci.specs.declared.call.Call.the-variants.{Submit}
 use Rattle.ehci.specs.Decides.{decideOf, submitDecided}
 use Rattle.ehci.specs.Door.{applyOf}
 use Rattle.ehci.specs.Replies.{answeredNumber, submittedAnswer}
-use Rattle.promises.specs.Runs.{History, World, core}
-use Rattle.promises.specs.Checks.{verdictIn}
-use Rattle.promises.specs.Opened.{beforeRoom, earlierChecks, submitAsks, wanted}
+use Rattle.promises.specs.Runs.{History, Machine, World, core}
+use Rattle.promises.specs.Opened.{beforeRoom, earlierChecks, submitAsks, verdictNumber, wanted}
 use Rattle.promises.specs.Rooms.{Fits, Lacks, Room, numberAt}
 use Rattle.promises.proofs.OpenedInv.{Told}
 use Rattle.promises.proofs.OpenedVerdict.{asks-told, free-is}
-use Rattle.promises.proofs.Order.{first-goes, in-order}
+use Rattle.promises.proofs.Order.{first-goes}
 use Rattle.promises.proofs.Sound.{Sound}
 use Rattle.promises.proofs.UseInv.{Held}
 
@@ -48,10 +47,6 @@ module _ (w : World) (sound : Sound (w .state .settings) w) where
   let-in = both-makes _ (inRanges (w .state)) rows-fit (ranges-make (w .state) (sound .ranges))
 
 -- ---- the number that submit's checks give
-
-abbrev verdictNumber : Verdict → ℕ
-verdictNumber passed = 0
-verdictNumber (refused r) = refusalNumber r
 
 submit-number : (w : World) (k : ℕ) (t : TransferRequest) (readings : Readings) → Sound (w .state .settings) w
     → numberAt core w (Submit k t readings) ≡ verdictNumber (first (submitChecks (w .state) k t))
@@ -104,61 +99,63 @@ module _ (lacks : Bool) where
   passed-last [] e = let-pass lacks NoMemory passed e .0
   passed-last (c ∷ cs) e = passed-last cs (let-pass (c .0) (c .1) _ e .1)
 
--- ---- room
+-- ---- room, of any machine that answers a submit by the history
+
+module _ (m : Machine) (s : Settings) (h : History) (w : World) (k : ℕ) (t : TransferRequest) (readings : Readings)
+    (said : numberAt m w (Submit k t readings) ≡ verdictNumber (first (submitAsks s h k t))) where
+  abbrev answered : ℕ
+  answered = numberAt m w (Submit k t readings)
+
+  abbrev lacks : Bool
+  lacks = ltb (s .descriptors) (wanted s h t)
+
+  six-lacks : answered ≡ 6 → Lacks s h t
+  six-lacks e = ltb-true (s .descriptors) (wanted s h t) (six-last lacks (earlierChecks s h k t) none (sym said ∙ e))
+    where
+      none : NoSix (earlierChecks s h k t)
+      none = ((λ q. omega (arith, q)), ((λ q. omega (arith, q)), ((λ q. omega (arith, q)), ((λ q. omega (arith, q)), ((λ q. omega (arith, q)), ((λ q. omega (arith, q)), tt))))))
+
+  zero-fits : answered ≡ 0 → Fits s h t
+  zero-fits e =
+      ltb-false (s .descriptors) (wanted s h t)
+      (passed-last lacks (earlierChecks s h k t) (zero-passes (first (submitAsks s h k t)) (sym said ∙ e)))
+
+  -- where the earlier checks are passed the last one decides
+  room-decides : beforeRoom s h k t ≡ passed → answered ≡ verdictNumber (orElse lacks NoMemory passed)
+  room-decides e = said ∙ ap verdictNumber (first-goes (earlierChecks s h k t) ((lacks, NoMemory) ∷ []) e)
+
+  lacks-six : beforeRoom s h k t ≡ passed → Lacks s h t → answered ≡ 6
+  lacks-six e l = room-decides e ∙ ap (λ (b : Bool). verdictNumber (orElse b NoMemory passed)) (lt-ltb (s .descriptors) (wanted s h t) l)
+
+  fits-zero : beforeRoom s h k t ≡ passed → Fits s h t → answered ≡ 0
+  fits-zero e l = room-decides e ∙ ap (λ (b : Bool). verdictNumber (orElse b NoMemory passed)) (le-ltb (s .descriptors) (wanted s h t) l)
+
+-- ---- of this port
 
 module _ (h : History) (w : World) (sound : Sound (w .state .settings) w) (held : Held (w .state .settings) h w) (told : Told h (w .state)) where
   abbrev s : Settings
   s = w .state .settings
 
-  module _ (k : ℕ) (t : TransferRequest) (readings : Readings) where
-    -- no state is asked
-    verdict-here : verdictIn (core w (Submit k t readings) .reply .answer) ≡ first (submitAsks s h k t)
-    verdict-here = in-order w (Submit k t readings) ∙ rw (let-in w sound) (sym (asks-told h w sound held told k t))
-
-    number-here : numberAt core w (Submit k t readings) ≡ verdictNumber (first (submitAsks s h k t))
-    number-here = submit-number w k t readings sound ∙ sym (ap verdictNumber (asks-told h w sound held told k t))
-
-    abbrev lacks : Bool
-    lacks = ltb (s .descriptors) (wanted s h t)
-
-    six-lacks : numberAt core w (Submit k t readings) ≡ 6 → Lacks s h t
-    six-lacks e = ltb-true (s .descriptors) (wanted s h t) (six-last lacks (earlierChecks s h k t) none (sym number-here ∙ e))
-      where
-        none : NoSix (earlierChecks s h k t)
-        none = ((λ q. omega (arith, q)), ((λ q. omega (arith, q)), ((λ q. omega (arith, q)), ((λ q. omega (arith, q)), ((λ q. omega (arith, q)), ((λ q. omega (arith, q)), tt))))))
-
-    zero-fits : numberAt core w (Submit k t readings) ≡ 0 → Fits s h t
-    zero-fits e =
-        ltb-false (s .descriptors) (wanted s h t)
-        (passed-last lacks (earlierChecks s h k t) (zero-passes (first (submitAsks s h k t)) (sym number-here ∙ e)))
-
-    -- where the earlier checks are passed the last one decides
-    room-decides : beforeRoom s h k t ≡ passed → numberAt core w (Submit k t readings) ≡ verdictNumber (orElse lacks NoMemory passed)
-    room-decides e = number-here ∙ ap verdictNumber (first-goes (earlierChecks s h k t) ((lacks, NoMemory) ∷ []) e)
-
-    lacks-six : beforeRoom s h k t ≡ passed → Lacks s h t → numberAt core w (Submit k t readings) ≡ 6
-    lacks-six e l = room-decides e ∙ ap (λ (b : Bool). verdictNumber (orElse b NoMemory passed)) (lt-ltb (s .descriptors) (wanted s h t) l)
-
-    fits-zero : beforeRoom s h k t ≡ passed → Fits s h t → numberAt core w (Submit k t readings) ≡ 0
-    fits-zero e l = room-decides e ∙ ap (λ (b : Bool). verdictNumber (orElse b NoMemory passed)) (le-ltb (s .descriptors) (wanted s h t) l)
+  verdict-here : (k : ℕ) (t : TransferRequest) (readings : Readings) → numberAt core w (Submit k t readings) ≡ verdictNumber (first (submitAsks s h k t))
+  verdict-here k t readings = submit-number w k t readings sound ∙ sym (ap verdictNumber (asks-told h w sound held told k t))
 
   room-here : Room core s h w
   room-here =
       record {
         free = free-is h w sound held told;
-        six-lacks = six-lacks;
-        zero-fits = zero-fits;
-        lacks-six = lacks-six;
-        fits-zero = fits-zero;
+        six-lacks = λ k t readings. six-lacks core s h w k t readings (verdict-here k t readings);
+        zero-fits = λ k t readings. zero-fits core s h w k t readings (verdict-here k t readings);
+        lacks-six = λ k t readings. lacks-six core s h w k t readings (verdict-here k t readings);
+        fits-zero = λ k t readings. fits-zero core s h w k t readings (verdict-here k t readings);
       }
 
 pub room-holds : (s : Settings) (h : History) (w : World) → Sound s w → Held s h w → Told h (w .state) → Room core s h w
 room-holds s h w sound = subst (λ (z : Settings). Sound z w → Held z h w → Told h (w .state) → Room core z h w) (sound .settings-are) (room-here h w) sound
 
 pub verdict-holds : (s : Settings) (h : History) (w : World) → Sound s w → Held s h w → Told h (w .state) → (k : ℕ) (t : TransferRequest) (readings : Readings)
-    → verdictIn (core w (Submit k t readings) .reply .answer) ≡ first (submitAsks s h k t)
+    → numberAt core w (Submit k t readings) ≡ verdictNumber (first (submitAsks s h k t))
 verdict-holds s h w sound =
     subst
     (λ (z : Settings). Sound z w → Held z h w → Told h (w .state) → (k : ℕ) (t : TransferRequest) (readings : Readings)
-    → verdictIn (core w (Submit k t readings) .reply .answer) ≡ first (submitAsks z h k t))
+    → numberAt core w (Submit k t readings) ≡ verdictNumber (first (submitAsks z h k t)))
     (sound .settings-are) (verdict-here h w) sound

@@ -22,8 +22,6 @@ use Rattle.settings.specs.Settings.{apartAreas, areaGood, eachGood, noOverlap, 
 use Rattle.settings.specs.declared.settings.Settings.{Settings}
 use Rattle.state.specs.State.{withOwner}
 use Rattle.state.specs.declared.state.Ehci.{Ehci}
-use Rattle.answer.specs.declared.answer.Refusal.the-variants.{InvalidEndpoint, NotReady}
-use Rattle.answer.proofs.CheckLaws.{verdicts-apart}
 use Rattle.opening.specs.Opening.{Opened, acceptedOpening, freshState, openedHeads, rowsFit}
 use Rattle.opening.proofs.OpenPool.{accepts}
 use Rattle.controller.specs.Readers.{countZero, freeCount}
@@ -176,16 +174,18 @@ first-room : RoomExact first → ⊥
 unfolding historyOf worldOf uses chainWalk metFrom follow takenOf placesFrom markOf packed listOf fillOf filledFrom recordAt bareAt chunkQtd newQtd withNext startedOverlay freshState withOwner openedHeads ringHead terminated needOf chunkCount freeCount countZero
 first-room r = let three : _≡_ {A = ℕ} 3 2 = r pair (freshWorld pair) opening calls .free in omega (arith, three)
 
--- a submit to a slot that was never opened is accepted
+-- a submit to a slot that was never opened is accepted, and not answered 3
 plain-verdict : SubmitVerdict plain → ⊥
 unfolding historyOf worldOf slotIn
-plain-verdict v = verdicts-apart InvalidEndpoint (sym (v pair (freshWorld pair) opening [] 0 byte reads))
+plain-verdict v = let three : _≡_ {A = ℕ} 0 3 = v pair (freshWorld pair) opening [] 0 byte reads in omega (arith, three)
 
--- one to an open slot of its kind is, but the controller does not run
+-- one to an open slot of its kind is accepted before bring-up, and not answered 8
 eager-verdict : SubmitVerdict eager → ⊥
 unfolding historyOf worldOf slotIn runsIn
 eager-verdict v =
-    verdicts-apart NotReady (sym (v pair (freshWorld pair) opening (OpenEndpoint (record { kind = Bulk; address = 1; number = 1; packet = 512 }) ∷ []) 0 byte reads))
+    let opens : Call = OpenEndpoint (record { kind = Bulk; address = 1; number = 1; packet = 512 }) in
+    let eight : _≡_ {A = ℕ} 0 8 = v pair (freshWorld pair) opening (opens ∷ []) 0 byte reads in
+    omega (arith, eight)
 
 -- no byte is addressed where one is asked
 short-coverage : Coverage short → ⊥

@@ -13,7 +13,7 @@ use Rattle.pipe.specs.declared.endpoint.Endpoint.{Endpoint}
 use Rattle.pipe.specs.declared.endpoint.Endpoint.the-variants.{Closed, Idle, Linked, Unlinking}
 use Rattle.settings.specs.declared.settings.Settings.{Settings}
 use Rattle.state.specs.declared.state.Ehci.{Ehci}
-use Rattle.answer.specs.Answers.{Check, Verdict, first}
+use Rattle.answer.specs.Answers.{Check, Verdict, first, passed, refusalNumber, refused}
 use Rattle.answer.specs.declared.answer.Refusal.the-variants.{InvalidParameter, InvalidEndpoint, QueueFull, NotSupported, NoMemory, NotReady}
 use Rattle.controller.specs.Readers.{isUncollected}
 use Rattle.controller.specs.declared.lent.Readings.{Readings}
@@ -29,8 +29,7 @@ use Rattle.ehci.specs.Replies.{answeredNumber}
 use Rattle.promises.specs.Runs.{Always, History, Machine, Turn, World}
 use Rattle.promises.specs.Walks.{isIn}
 use Rattle.promises.specs.Events.{isDone}
-use Rattle.promises.specs.Uses.{Use, needs, uses}
-use Rattle.promises.specs.Checks.{verdictIn}
+use Rattle.promises.specs.Uses.{needs, uses}
 
 -- ---- what a turn does to them
 
@@ -43,7 +42,7 @@ pub data Change : Type 0 where
   -- from now on the controller does not run; it runs
   Halted Running : Change
 
--- "0 Done, with its slot"
+-- an endpoint that is opened is answered with its slot
 abbrev pub opensBy : EndpointType → Answered → Change
 opensBy kind (Done G.Nothing) = Same
 opensBy kind (Done (G.Slot k)) = OpensSlot k kind
@@ -161,13 +160,16 @@ wanted s h t = needs s (uses s h) + needOf (t .kind) (t .length) (s .limit)
 abbrev pub submitAsks : Settings → History → ℕ → TransferRequest → List Check
 submitAsks s h k t = earlierChecks s h k t ++ (ltb (s .descriptors) (wanted s h t), NoMemory) ∷ []
 
--- in every reached world each submit is accepted or refused as the history says: 3, 8, 4, 5, 3, 1, 6 exactly where it is due, and 0 where
--- none is
+abbrev pub verdictNumber : Verdict → ℕ
+verdictNumber passed = 0
+verdictNumber (refused r) = refusalNumber r
+
+-- in every reached world a submit answers what the history says: 3, 8, 4, 5, 3, 1 or 6 exactly where it is due, and 0 where none is
 abbrev pub SubmitVerdict : Machine → Type 0
 SubmitVerdict m =
     Always
     (λ s h w. (k : ℕ) (t : TransferRequest) (readings : Readings)
-    → verdictIn (m w (Submit k t readings) .reply .answer) ≡ first (submitAsks s h k t))
+    → answeredNumber (m w (Submit k t readings) .reply .answer) ≡ verdictNumber (first (submitAsks s h k t)))
     m
 
 -- ---- the law that ties the state's fields to the history
