@@ -21,6 +21,7 @@ pub mod UseCollects
 pub mod UseHeld
 pub mod OpenedInv
 pub mod OpenedVerdict
+pub mod OpenedExamples
 pub mod RoomLaws
 pub mod ExclusiveLaws
 pub mod CoverBytes
