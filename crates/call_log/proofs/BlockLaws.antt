@@ -1,32 +1,32 @@
 -- A whole block fits in 131,072 bytes, with room for a line besides.
-use Prim.Native.Nat.{ℕ, _+_, _*_, _≤_}
+use Prim.Native.Nat.{ℕ, _+_, _*_, _≤_, min}
 use mathlib.Core.Bool.{Bool, not}
 use mathlib.Core.Path.{_≡_}
 use mathlib.Core.List.{List, [], _∷_, _++_, append-assoc}
 use native.Mathlib.Omega.{arith}
-use lib.Dec.{ltb}
-use Rattle.settings.specs.Tests.{both}
-use lib.ListN.{getD, length, length-append, take}
+use lib.ListN.{getD, length, length-append, length-take, take}
 use Rattle.opening.specs.Rows.{putAt}
 use Rattle.pool.specs.Chains.{blank}
 use Rattle.register.specs.declared.writes.Writes.{Writes}
 use Rattle.state.specs.declared.state.Ehci.{Ehci}
-use Rattle.text.specs.Text.{decimal, hex}
+use Rattle.register.specs.Writes.{listOf}
+use Rattle.text.specs.Text.{onlyIf}
+use Rattle.text.proofs.LineLaws.{lines-most, only-most}
 use Rattle.text.proofs.Puts.{put-then}
 use Rattle.text.proofs.TextLaws.{decimal-length, hex-length}
 use Rattle.call_log.specs.Block.{blockOf, restLines, rowsLines}
-use Rattle.call_log.specs.Changes.{frameChange, frameLines, headChange, headLines, portChange, portLines, recordChange, recordLines, setupChange, setupLines, shownIf, upTo, writeAt, writeLines}
+use Rattle.call_log.specs.Changes.{frameChange, frameLines, headChange, headLines, portChange, portLines, recordChange, recordLines, setupChange, setupLines, writeAt, writeLines}
 use Rattle.call_log.specs.Lines.{lineBytes, lineOf, partsBytes, shownLine, stateLine, writeLine}
 use Rattle.call_log.specs.declared.block.Rows.{Rows}
 use Rattle.call_log.specs.declared.line.Line.{Line}
 use Rattle.call_log.specs.declared.lines.Seen.{Seen}
-use Rattle.call_log.proofs.ChangeCases.{frame-most, head-most, if-most, port-most, record-most, setup-most, up-most, write-most}
+use Rattle.call_log.proofs.ChangeCases.{frame-most, head-most, port-most, record-most, setup-most, write-most}
 use Rattle.call_log.proofs.LineCases.{parts-most}
 
 -- any line that the code puts
-pub line-most : (line : Line) → line .count ≤ 14 → length (lineBytes line) ≤ 296
+pub line-most : (line : Line) → length (line .cells) ≡ 14 → length (lineBytes line) ≤ 296
 unfolding lineBytes
-line-most line h = simp length-append (omega (arith, parts-most (line .count) (line .cells)))
+line-most line h = simp length-append (omega (arith, parts-most (line .count) (line .cells) 14 (omega arith)))
 
 shown-most : (x : Seen) → length (shownLine x) ≤ 174
 unfolding shownLine lineOf
@@ -46,16 +46,16 @@ shown-most x =
     ))
 
 pub records-most : (b a : Rows) → length (recordLines (b .pool) (a .pool)) ≤ 35840
-records-most b a = up-most (λ i. recordChange i (getD (b .pool) i blank) (getD (a .pool) i blank)) 140 (λ i. record-most i _ _) 256
+records-most b a = lines-most (λ i. recordChange i (getD (b .pool) i blank) (getD (a .pool) i blank)) 140 (λ i. record-most i _ _) 256
 
 pub heads-most : (b a : List ℕ) → length a ≤ 561 → length (headLines b a) ≤ 29733
-heads-most b a h = omega (arith, up-most (λ i. headChange i (getD b i 0) (getD a i 0)) 53 (λ i. head-most i _ _) (length a))
+heads-most b a h = omega (arith, lines-most (λ i. headChange i (getD b i 0) (getD a i 0)) 53 (λ i. head-most i _ _) (length a))
 
 pub frames-most : (b a : List ℕ) → length a ≤ 1024 → length (frameLines b a) ≤ 54272
-frames-most b a h = omega (arith, up-most (frameChange b a) 53 (frame-most b a) (length a))
+frames-most b a h = omega (arith, lines-most (frameChange b a) 53 (frame-most b a) (length a))
 
 pub setups-most : (b a : List ℕ) → length (setupLines 32 b a) ≤ 1280
-setups-most b a = up-most (setupChange b a) 40 (setup-most b a) 32
+setups-most b a = lines-most (setupChange b a) 40 (setup-most b a) 32
 
 pub rows-most : (b a : Rows) → length (a .heads) ≤ 561 → length (a .frames) ≤ 1024 → length (rowsLines b a) ≤ 121125
 unfolding rowsLines
@@ -65,16 +65,17 @@ rows-most b a h g =
 
 pub ports-most : (all : Bool) (n : ℕ) (b a : List ℕ) → length a ≤ 15 → length (portLines all n b a) ≤ 660
 ports-most all n b a h =
-    omega (arith, up-most (λ i. portChange (both all (ltb i n)) i (getD b i 0) (getD a i 0)) 44 (λ i. port-most (both all (ltb i n)) i _ _) (length a))
+    omega (arith, lines-most (λ i. portChange all i (getD b i 0) (getD a i 0)) 44 (λ i. port-most all i _ _) (min n (length a)))
 
-pub writes-most : (w : Writes) → w .count ≤ 6 → length (writeLines w) ≤ 84
-writes-most w h = omega (arith, up-most (λ i. writeLine (writeAt w i .offset) (writeAt w i .value)) 14 (λ i. write-most _ _) (w .count))
+pub writes-most : (w : Writes) → length (w .writes) ≡ 6 → length (writeLines w) ≤ 84
+writes-most w h =
+    omega (arith, lines-most (λ i. writeLine (writeAt w i .offset) (writeAt w i .value)) 14 (λ i. write-most _ _) (length (listOf w)), length-take (w .count) (w .writes))
 
 pub block-fits : (first : List ℕ) (opening : Bool) (b a : Rows) (opened : Bool) (s : Ehci) (w : Writes) → length first ≤ 296 → length (a .heads) ≤ 561
-    → length (a .frames) ≤ 1024 → length (a .ports) ≤ 15 → w .count ≤ 6 → length (blockOf first opening b a opened s w) + 296 ≤ 131072
+    → length (a .frames) ≤ 1024 → length (a .ports) ≤ 15 → length (w .writes) ≡ 6 → length (blockOf first opening b a opened s w) + 296 ≤ 131072
 unfolding blockOf restLines
 block-fits first opening b a opened s w f h g p c =
-    let q : length (shownIf opened (stateLine s)) ≤ 174 = if-most (not opened) (stateLine s) 174 (shown-most _) in
+    let q : length (onlyIf opened (stateLine s)) ≤ 174 = only-most opened (stateLine s) 174 (shown-most _) in
     simp length-append (omega (arith, rows-most b a h g, ports-most opening (s .settings .ports) (b .ports) (a .ports) p, writes-most w c))
 
 -- ---- put one after the other
@@ -98,19 +99,19 @@ rows-put o p q s t at i j k r b a h e l f m g n d x =
     rw (← flat) four
 
 pub rest-put : (o p q t : List ℕ) (at i j r : ℕ) (opened : Bool) (s : Ehci) (w : Writes) → at ≤ length o
-    → p ≡ putAt o at (shownIf opened (stateLine s)) → i ≡ at + length (shownIf opened (stateLine s))
+    → p ≡ putAt o at (onlyIf opened (stateLine s)) → i ≡ at + length (onlyIf opened (stateLine s))
     → q ≡ putAt p i (writeLines w) → j ≡ i + length (writeLines w)
     → t ≡ putAt q j (46 ∷ 10 ∷ []) → r ≡ j + 2
     → (t ≡ putAt o at (restLines opened s w)) × (r ≡ at + length (restLines opened s w))
 unfolding restLines
 rest-put o p q t at i j r opened s w h e l f m g n =
-    let Q = shownIf opened (stateLine s) in
+    let Q = onlyIf opened (stateLine s) in
     let two = put-then o p q Q (writeLines w) at i j h e l f m in
     let three = put-then o q t (Q ++ writeLines w) (46 ∷ 10 ∷ []) at j r h (two .0) (two .1) g n in
     rw (← append-assoc Q (writeLines w) (46 ∷ 10 ∷ [])) three
 
-pub state-most : (opened : Bool) (s : Ehci) → length (shownIf opened (stateLine s)) ≤ 174
-state-most opened s = if-most (not opened) (stateLine s) 174 (shown-most _)
+pub state-most : (opened : Bool) (s : Ehci) → length (onlyIf opened (stateLine s)) ≤ 174
+state-most opened s = only-most opened (stateLine s) 174 (shown-most _)
 
 pub block-put : (o p q u t first : List ℕ) (i j k r : ℕ) (opening : Bool) (b a : Rows) (opened : Bool) (s : Ehci) (w : Writes)
     → p ≡ putAt o 0 first → i ≡ length first

@@ -1,4 +1,3 @@
-pub mod Little
 pub mod FieldsLaws
 pub mod RecordCases
 pub mod RecordLaws

@@ -1,10 +1,14 @@
 -- The returns of the functions that put a line.
-use Prim.Native.Nat.{ℕ, zero, suc, _+_, _-_, _*_, _≤_, _<_}
+use Prim.Native.Nat.{ℕ, zero, suc, _+_, _*_, _≤_, _<_, min}
+use mathlib.Core.Bool.{Bool, true, false}
+use borrow.Author.Tests.{leb-false, leb-true}
+use lib.Dec.{leb}
+use lib.Seq.{take-all}
 use mathlib.Core.Path.{_≡_, refl, sym, ap, _∙_}
 use mathlib.Core.List.{List, [], _∷_, _++_, append-assoc, append-nil}
 use native.Mathlib.Numerals.{add-one}
 use native.Mathlib.Omega.{arith}
-use lib.ListN.{getD, length, length-append, take}
+use lib.ListN.{getD, length, length-append, length-take, take}
 use Rattle.opening.specs.Rows.{putAt}
 use Rattle.text.specs.Text.{decimal, hex}
 use Rattle.text.proofs.Puts.{put-none, put-then}
@@ -74,18 +78,31 @@ parts-turn o p q at place r i cells d room h e l f m =
     rw (add-one i, parts-suc cells i d h)
     (put-then o p q (partsBytes (take i cells)) (partBytes (getD cells i d .part)) at place r room e l f m)
 
-pub parts-most : (n : ℕ) (cells : List Cell) → length (partsBytes (take n cells)) ≤ 21 * n
+cells-most : (cells : List Cell) → length (partsBytes cells) ≤ 21 * length cells
 unfolding partsBytes
-parts-most zero cells = omega arith
-parts-most (suc n) [] = omega arith
-parts-most (suc n) (c ∷ cells) = simp length-append (omega (arith, part-length (c .part), parts-most n cells))
+cells-most [] = omega arith
+cells-most (c ∷ cells) = simp length-append (omega (arith, part-length (c .part), cells-most cells))
 
-pub line-put : (o p q s : List ℕ) (at i j r : ℕ) (line : Line) → at ≤ length o
+pub parts-most : (n : ℕ) (cells : List Cell) (m : ℕ) → min n (length cells) ≤ m → length (partsBytes (take n cells)) ≤ 21 * m
+parts-most n cells m h = omega (arith, cells-most (take n cells), length-take n cells)
+
+-- a line has no more parts than cells
+pub parts-there : (n m : ℕ) (cells : List Cell) → length cells ≡ m → take (min n m) cells ≡ take n cells
+parts-there n m cells e = go (leb n m) refl
+  where
+    go : (b : Bool) → leb n m ≡ b → take (min n m) cells ≡ take n cells
+    go true h = let few : min n m ≡ n = omega (arith, leb-true n m h) in rw few
+    go false h =
+        let all : min n m ≡ m = omega (arith, leb-false n m h) in
+        rw all (take-all m cells (omega arith) ∙ sym (take-all n cells (omega (arith, leb-false n m h))))
+
+pub line-put : (o p q s : List ℕ) (at i j r n : ℕ) (line : Line) → length (line .cells) ≡ 14 → n ≡ min (line .count) 14 → at ≤ length o
     → p ≡ putAt o at (line .letter ∷ []) → i ≡ at + 1
-    → q ≡ putAt p i (partsBytes (take (line .count) (line .cells))) → j ≡ i + length (partsBytes (take (line .count) (line .cells)))
+    → q ≡ putAt p i (partsBytes (take n (line .cells))) → j ≡ i + length (partsBytes (take n (line .cells)))
     → s ≡ putAt q j (10 ∷ []) → r ≡ j + 1
     → (s ≡ putAt o at (lineBytes line)) × (r ≡ at + length (lineBytes line))
 unfolding lineBytes
-line-put o p q s at i j r line h e l f m g n =
-    let two = byte-then o p q (partsBytes (take (line .count) (line .cells))) at i j (line .letter) h e l f m in
-    put-then o q s (line .letter ∷ partsBytes (take (line .count) (line .cells))) (10 ∷ []) at j r h (two .0) (two .1) g n
+line-put o p q s at i j r n line whole few h e l f m g d =
+    let parts : take n (line .cells) ≡ take (line .count) (line .cells) = rw few (parts-there (line .count) 14 (line .cells) whole) in
+    let two = byte-then o p q (partsBytes (take n (line .cells))) at i j (line .letter) h e l f m in
+    rw (← parts) (put-then o q s (line .letter ∷ partsBytes (take n (line .cells))) (10 ∷ []) at j r h (two .0) (two .1) g d)

@@ -18,13 +18,14 @@ use Rattle.token.specs.declared.request.Direction.the-variants as D
 use Rattle.pipe.proofs.EndpointLaws.{direction-back, direction-there, flag-back, flag-there, kind-back, kind-there}
 use Rattle.settings.proofs.SettingsCases.{both-first, both-second}
 use Rattle.settings.specs.Tests.{both, either}
+use Rattle.text.specs.Text.{pick}
 use Rattle.call_log.specs.Fields.{bytesOf, bytesSpare, fieldsOf, numbersSpare, usedOr0}
-use Rattle.call_log.specs.Records.{row, callFields, fieldsFor, recordOf, guarded, spare, isWord, plain, settingsOf, openEntry, bringUpStep, openEndpoint, close, setAddress, setPacketSize, submit, writeback, readingsOf, slotTest, cancel, collect, acknowledge, drain, scanStep, portPower, pickEntry, judgedAs, judged, entryOf, OwnCall, Own, NumbersFit, Representable}
+use Rattle.call_log.specs.Records.{row, callFields, fieldsFor, recordOf, guarded, spare, isWord, plain, settingsOf, openEntry, bringUpStep, openEndpoint, close, setAddress, setPacketSize, submit, writeback, readingsOf, slotTest, cancel, collect, acknowledge, drain, scanStep, portPower, judgedAs, judged, entryOf, OwnCall, Own, NumbersFit, Representable}
 use Rattle.call_log.specs.declared.fields.Fields.{Fields}
 use Rattle.call_log.specs.declared.record.Entry.{Entry}
 use Rattle.call_log.specs.declared.record.Entry.the-variants.{Open, Call as ACall, StartScan, ScanStep, PortPower, Bad}
 use Rattle.call_log.proofs.FieldsLaws.{bytes-length, fields-back, fields-ext, fields-read}
-use Rattle.call_log.proofs.Little.{Bytes}
+use Rattle.text.proofs.NumberLaws.{Bytes}
 
 -- ---- what a test that holds says
 
@@ -223,7 +224,7 @@ module _ (f : Fields) (e : Entry) (ne : e ≡ Bad → ⊥) where
   only true m h k = ap fieldsFor (sym h) ∙ k refl
   only false m h k = absurd (ne (sym h))
 
-  or-else : (b : Bool) (x y : Entry) → pickEntry b x y ≡ e → (b ≡ true → x ≡ e → fieldsFor e ≡ f) → (y ≡ e → fieldsFor e ≡ f) → fieldsFor e ≡ f
+  or-else : (b : Bool) (x y : Entry) → pick b x y ≡ e → (b ≡ true → x ≡ e → fieldsFor e ≡ f) → (y ≡ e → fieldsFor e ≡ f) → fieldsFor e ≡ f
   or-else true x y h a b = a refl h
   or-else false x y h a b = b h
 
@@ -257,7 +258,7 @@ pub entry-only : (bs : List ℕ) (e : Entry) → entryOf bs ≡ e → (e ≡ Bad
 unfolding entryOf recordOf
 entry-only bs e h ne all = go (eqb (length bs) 64) refl h
   where
-    go : (b : Bool) → eqb (length bs) 64 ≡ b → pickEntry b (judged (fieldsOf bs)) Bad ≡ e → bs ≡ bytesOf (fieldsFor e)
+    go : (b : Bool) → eqb (length bs) 64 ≡ b → pick b (judged (fieldsOf bs)) Bad ≡ e → bs ≡ bytesOf (fieldsFor e)
     go true q g = sym (fields-back bs (eqb-true (length bs) 64 q) all) ∙ ap bytesOf (sym (judged-only (fieldsOf bs) e ne g))
     go false q g = absurd (ne (sym g))
 

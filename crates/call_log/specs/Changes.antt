@@ -1,37 +1,34 @@
 -- "Changed is against the words before the call": the lines of what changed, all ascending.
-use Prim.Native.Nat.{ℕ, zero, suc, _+_, _*_, _/_, _%_}
+use Prim.Native.Nat.{ℕ, zero, suc, _+_, _*_, _/_, _%_, min}
 use mathlib.Core.Bool.{Bool, not}
-use mathlib.Core.List.{List, [], _∷_, _++_}
+use mathlib.Core.List.{List, [], _∷_}
 use lib.Dec.{eqb, ltb}
 use lib.ListN.{getD, length}
 use Rattle.descriptor.specs.declared.qtd.QueueTransferDescriptor.{QueueTransferDescriptor}
 use Rattle.pool.specs.Chains.{blank}
 use Rattle.register.specs.declared.writes.Write.{Write}
 use Rattle.register.specs.declared.writes.Writes.{Writes}
-use Rattle.settings.specs.Tests.{both}
-use Rattle.text.specs.Text.{pickBytes, pickNumber}
+use Rattle.register.specs.Writes.{listOf, writeOf}
+use Rattle.settings.specs.Tests.{both, either}
+use Rattle.text.specs.Numbers.{numberAt}
+use Rattle.text.specs.Text.{linesTo, onlyIf, pick}
 use Rattle.call_log.specs.Lines.{frameLine, headLine, portLine, recordLine, setupLine, writeLine}
-
--- what is said of 0, 1, .. n - 1, in this order
-unfoldable pub upTo : (ℕ → List ℕ) → ℕ → List ℕ
-upTo f zero = []
-upTo f (suc n) = upTo f n ++ f n
 
 -- `H place word value` for each head word that changed
 unfoldable pub headChange : ℕ → ℕ → ℕ → List ℕ
-headChange i before after = pickBytes (eqb before after) [] (headLine (i / 17) (i % 17) after)
+headChange i before after = onlyIf (not (eqb before after)) (headLine (i / 17) (i % 17) after)
 
 abbrev pub headLines : List ℕ → List ℕ → List ℕ
-headLines before after = upTo (λ i. headChange i (getD before i 0) (getD after i 0)) (length after)
+headLines before after = linesTo (λ i. headChange i (getD before i 0) (getD after i 0)) (length after)
 
--- `U port state` for each port whose state changed, or that is shown whether it did or not
+-- `U port state` for each port whose state changed; an accepted opening shows every port
 unfoldable pub portChange : Bool → ℕ → ℕ → ℕ → List ℕ
-portChange all i before after = pickBytes (both (not all) (eqb before after)) [] (portLine (i + 1) after)
+portChange opening i before after = onlyIf (either opening (not (eqb before after))) (portLine (i + 1) after)
 
--- an accepted opening shows every port of its controller
+-- the ports are the controller's own
 abbrev pub portLines : Bool → ℕ → List ℕ → List ℕ → List ℕ
 portLines opening ports before after =
-    upTo (λ i. portChange (both opening (ltb i ports)) i (getD before i 0) (getD after i 0)) (length after)
+    linesTo (λ i. portChange opening i (getD before i 0) (getD after i 0)) (min ports (length after))
 
 -- ---- `P place` and the record's 13 words for each descriptor record that changed
 
@@ -42,10 +39,10 @@ unfoldable pub sameRecord : QueueTransferDescriptor → QueueTransferDescriptor 
 sameRecord a b = both (both (both (both (eqb (a .next) (b .next)) (eqb (a .alternate) (b .alternate))) (eqb (a .token) (b .token))) (sameFive (a .pages) (b .pages))) (sameFive (a .upper) (b .upper))
 
 unfoldable pub recordChange : ℕ → QueueTransferDescriptor → QueueTransferDescriptor → List ℕ
-recordChange place before after = pickBytes (sameRecord before after) [] (recordLine place after)
+recordChange place before after = onlyIf (not (sameRecord before after)) (recordLine place after)
 
 abbrev pub recordLines : List QueueTransferDescriptor → List QueueTransferDescriptor → List ℕ
-recordLines before after = upTo (λ i. recordChange i (getD before i blank) (getD after i blank)) 256
+recordLines before after = linesTo (λ i. recordChange i (getD before i blank) (getD after i blank)) 256
 
 -- ---- `F first last value` for each longest run of changed frame entries with one value
 
@@ -61,41 +58,38 @@ goesOn before after i =
 -- where the run of an entry begins
 unfoldable pub firstOf : List ℕ → List ℕ → ℕ → ℕ
 firstOf before after zero = 0
-firstOf before after (suc i) = pickNumber (goesOn before after i) (firstOf before after i) (i + 1)
+firstOf before after (suc i) = pick (goesOn before after i) (firstOf before after i) (i + 1)
 
 abbrev pub runEnds : List ℕ → List ℕ → ℕ → Bool → Bool
 runEnds before after i on = both (changed before after i) (not on)
 
-abbrev pub shownIf : Bool → List ℕ → List ℕ
-shownIf b line = pickBytes (not b) [] line
-
 unfoldable pub frameChange : List ℕ → List ℕ → ℕ → List ℕ
 frameChange before after i =
-    shownIf (runEnds before after i (goesOn before after i)) (frameLine (firstOf before after i) i (getD after i 0))
+    onlyIf (runEnds before after i (goesOn before after i)) (frameLine (firstOf before after i) i (getD after i 0))
 
 abbrev pub frameLines : List ℕ → List ℕ → List ℕ
-frameLines before after = upTo (frameChange before after) (length after)
+frameLines before after = linesTo (frameChange before after) (length after)
 
 -- ---- `S slot` and 16 hex digits for each setup packet that changed
 
+-- eight bytes say one number and no other eight do
 unfoldable pub sameEight : List ℕ → List ℕ → ℕ → Bool
-sameEight a b p =
-    both (both (both (both (both (both (both (eqb (getD a p 0) (getD b p 0)) (eqb (getD a (p + 1) 0) (getD b (p + 1) 0))) (eqb (getD a (p + 2) 0) (getD b (p + 2) 0))) (eqb (getD a (p + 3) 0) (getD b (p + 3) 0))) (eqb (getD a (p + 4) 0) (getD b (p + 4) 0))) (eqb (getD a (p + 5) 0) (getD b (p + 5) 0))) (eqb (getD a (p + 6) 0) (getD b (p + 6) 0))) (eqb (getD a (p + 7) 0) (getD b (p + 7) 0))
+sameEight a b p = eqb (numberAt a p 8) (numberAt b p 8)
 
 unfoldable pub setupChange : List ℕ → List ℕ → ℕ → List ℕ
 setupChange before after slot =
-    pickBytes (sameEight before after (8 * slot)) []
+    onlyIf (not (sameEight before after (8 * slot)))
     (setupLine slot
     (getD after (8 * slot) 0 ∷ getD after (8 * slot + 1) 0 ∷ getD after (8 * slot + 2) 0 ∷ getD after (8 * slot + 3) 0
     ∷ getD after (8 * slot + 4) 0 ∷ getD after (8 * slot + 5) 0 ∷ getD after (8 * slot + 6) 0 ∷ getD after (8 * slot + 7) 0 ∷ []))
 
 abbrev pub setupLines : ℕ → List ℕ → List ℕ → List ℕ
-setupLines slots before after = upTo (setupChange before after) slots
+setupLines slots before after = linesTo (setupChange before after) slots
 
 -- ---- `W offset value` for each register write in order
 
 abbrev pub writeAt : Writes → ℕ → Write
-writeAt w i = getD (w .writes) i (record { offset = 0; value = 0 })
+writeAt w i = getD (w .writes) i (writeOf 0 0)
 
 abbrev pub writeLines : Writes → List ℕ
-writeLines w = upTo (λ i. writeLine (writeAt w i .offset) (writeAt w i .value)) (w .count)
+writeLines w = linesTo (λ i. writeLine (writeAt w i .offset) (writeAt w i .value)) (length (listOf w))

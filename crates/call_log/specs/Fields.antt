@@ -1,21 +1,12 @@
 -- A record: 64 bytes, byte 0 the call's number, bytes 1 to 7 small parameters, then seven 64-bit little-endian numbers.
-use Prim.Native.Nat.{ℕ, zero, suc, _+_, _*_, _/_, _%_}
+use Prim.Native.Nat.{ℕ}
 use mathlib.Core.Bool.{Bool}
 use mathlib.Core.List.{List, [], _∷_, _++_}
 use lib.Dec.{eqb, leb}
-use lib.ListN.{drop, getD, take}
+use lib.ListN.{getD}
 use Rattle.settings.specs.Tests.{both, either}
+use Rattle.text.specs.Numbers.{littleEndian, numberAt}
 use Rattle.call_log.specs.declared.fields.Fields.{Fields}
-
--- the number that some bytes say, the lowest first
-unfoldable pub little : List ℕ → ℕ
-little [] = 0
-little (b ∷ bs) = b + 256 * little bs
-
--- n in so many bytes, the lowest first
-unfoldable pub spread : ℕ → ℕ → List ℕ
-spread zero n = []
-spread (suc k) n = (n % 256) ∷ spread k (n / 256)
 
 abbrev pub smallBytes : Fields → List ℕ
 smallBytes f = f .number ∷ f .b1 ∷ f .b2 ∷ f .b3 ∷ f .b4 ∷ f .b5 ∷ f .b6 ∷ f .b7 ∷ []
@@ -24,11 +15,8 @@ smallBytes f = f .number ∷ f .b1 ∷ f .b2 ∷ f .b3 ∷ f .b4 ∷ f .b5 ∷ f
 unfoldable pub bytesOf : Fields → List ℕ
 bytesOf f =
     smallBytes f
-    ++ (spread 8 (f .n1)
-    ++ (spread 8 (f .n2) ++ (spread 8 (f .n3) ++ (spread 8 (f .n4) ++ (spread 8 (f .n5) ++ (spread 8 (f .n6) ++ spread 8 (f .n7)))))))
-
-abbrev pub numberAt : List ℕ → ℕ → ℕ
-numberAt bs at = little (take 8 (drop at bs))
+    ++ (littleEndian 8 (f .n1)
+    ++ (littleEndian 8 (f .n2) ++ (littleEndian 8 (f .n3) ++ (littleEndian 8 (f .n4) ++ (littleEndian 8 (f .n5) ++ (littleEndian 8 (f .n6) ++ littleEndian 8 (f .n7)))))))
 
 unfoldable pub fieldsOf : List ℕ → Fields
 fieldsOf bs =
@@ -41,13 +29,13 @@ fieldsOf bs =
       b5 = getD bs 5 0;
       b6 = getD bs 6 0;
       b7 = getD bs 7 0;
-      n1 = numberAt bs 8;
-      n2 = numberAt bs 16;
-      n3 = numberAt bs 24;
-      n4 = numberAt bs 32;
-      n5 = numberAt bs 40;
-      n6 = numberAt bs 48;
-      n7 = numberAt bs 56;
+      n1 = numberAt bs 8 8;
+      n2 = numberAt bs 16 8;
+      n3 = numberAt bs 24 8;
+      n4 = numberAt bs 32 8;
+      n5 = numberAt bs 40 8;
+      n6 = numberAt bs 48 8;
+      n7 = numberAt bs 56 8;
     }
 
 -- parameter k is among the first so many, which are used, or it is 0

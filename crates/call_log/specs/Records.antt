@@ -11,6 +11,7 @@ use Rattle.ehci.specs.declared.call.Call.the-variants as C
 use Rattle.pipe.specs.Endpoints.{directionNumber, directionOf, flagNumber, flagOf, kindNumber, kindOf}
 use Rattle.settings.specs.Tests.{both}
 use Rattle.settings.specs.declared.settings.Settings.{Settings}
+use Rattle.text.specs.Text.{pick}
 use Rattle.call_log.specs.Fields.{bytesOf, bytesSpare, fieldsOf, numbersSpare}
 use Rattle.call_log.specs.declared.fields.Fields.{Fields}
 use Rattle.call_log.specs.declared.record.Entry.{Entry}
@@ -172,39 +173,35 @@ scanStep f = guarded (both (spare f 0 1) (isWord (f .n1))) (ScanStep (f .n1 % 2 
 unfoldable pub portPower : Fields → Entry
 portPower f = guarded (both (spare f 1 1) (isWord (f .n1))) (PortPower (f .b1) (f .n1 % 2 ^ 32))
 
-abbrev pub pickEntry : Bool → Entry → Entry → Entry
-pickEntry true a b = a
-pickEntry false a b = b
-
 unfoldable pub judgedAs : ℕ → Fields → Entry
 judgedAs n f =
-    pickEntry (eqb n 1) (openEntry f)
-    (pickEntry (eqb n 2) (plain f (ACall C.StartBringUp))
-    (pickEntry (eqb n 3) (bringUpStep f)
-    (pickEntry (eqb n 4) (plain f (ACall C.AllocateAddress))
-    (pickEntry (eqb n 5) (openEndpoint f)
-    (pickEntry (eqb n 6) (close f)
-    (pickEntry (eqb n 7) (setAddress f)
-    (pickEntry (eqb n 8) (setPacketSize f)
-    (pickEntry (eqb n 9) (submit f)
-    (pickEntry (eqb n 10) (writeback f)
-    (pickEntry (eqb n 11) (cancel f)
-    (pickEntry (eqb n 12) (collect f)
-    (pickEntry (eqb n 13) (acknowledge f)
-    (pickEntry (eqb n 14) (drain f)
-    (pickEntry (eqb n 15) (plain f (ACall C.Rearm))
-    (pickEntry (eqb n 16) (plain f (ACall C.Enable))
-    (pickEntry (eqb n 17) (plain f (ACall C.Disable))
-    (pickEntry (eqb n 18) (plain f StartScan)
-    (pickEntry (eqb n 19) (scanStep f)
-    (pickEntry (eqb n 20) (portPower f)
+    pick (eqb n 1) (openEntry f)
+    (pick (eqb n 2) (plain f (ACall C.StartBringUp))
+    (pick (eqb n 3) (bringUpStep f)
+    (pick (eqb n 4) (plain f (ACall C.AllocateAddress))
+    (pick (eqb n 5) (openEndpoint f)
+    (pick (eqb n 6) (close f)
+    (pick (eqb n 7) (setAddress f)
+    (pick (eqb n 8) (setPacketSize f)
+    (pick (eqb n 9) (submit f)
+    (pick (eqb n 10) (writeback f)
+    (pick (eqb n 11) (cancel f)
+    (pick (eqb n 12) (collect f)
+    (pick (eqb n 13) (acknowledge f)
+    (pick (eqb n 14) (drain f)
+    (pick (eqb n 15) (plain f (ACall C.Rearm))
+    (pick (eqb n 16) (plain f (ACall C.Enable))
+    (pick (eqb n 17) (plain f (ACall C.Disable))
+    (pick (eqb n 18) (plain f StartScan)
+    (pick (eqb n 19) (scanStep f)
+    (pick (eqb n 20) (portPower f)
     Bad)))))))))))))))))))
 
 abbrev pub judged : Fields → Entry
 judged f = judgedAs (f .number) f
 
 unfoldable pub entryOf : List ℕ → Entry
-entryOf bs = pickEntry (eqb (length bs) 64) (judged (fieldsOf bs)) Bad
+entryOf bs = pick (eqb (length bs) 64) (judged (fieldsOf bs)) Bad
 
 -- ---- entries that have a record
 

@@ -5,7 +5,8 @@ ghost use Prim.Native.Nat.{_+_, _≤_};
 ghost use lib.ListN.{length};
 ghost use Rattle.opening.specs.Rows.{putAt};
 ghost use Rattle.call_log.specs.Block.{blockOf, restLines, rowsLines};
-ghost use Rattle.call_log.specs.Changes.{frameLines, headLines, portLines, setupLines, shownIf};
+ghost use Rattle.call_log.specs.Changes.{frameLines, headLines, portLines, setupLines};
+ghost use Rattle.text.specs.Text.{onlyIf};
 ghost use Rattle.call_log.specs.Lines.{lineBytes, stateLine};
 use crate::frames::put_frames;
 use crate::line::Line;
@@ -91,14 +92,14 @@ fn put_port_rows(
 // The controller's line, once one is opened.
 fn put_state(out: &mut [u8], at: usize, opened: bool, s: Ehci) -> usize
     requires { ⌜ at + 296 ≤ length (now out) ⌝ }
-    ensures { λ r. ⌜ now (out .exit) ≡ putAt (now (out .entry)) at (shownIf opened (stateLine s)) ⌝ }
-    ensures { λ r. ⌜ r ≡ at + length (shownIf opened (stateLine s)) ⌝ }
+    ensures { λ r. ⌜ now (out .exit) ≡ putAt (now (out .entry)) at (onlyIf opened (stateLine s)) ⌝ }
+    ensures { λ r. ⌜ r ≡ at + length (onlyIf opened (stateLine s)) ⌝ }
 {
-    if !opened {
-        return at;
+    if opened {
+        let line = state_line(s);
+        return put_line(out, at, line);
     }
-    let line = state_line(s);
-    put_line(out, at, line)
+    at
 }
 
 // A line with a single `.`.
@@ -113,7 +114,6 @@ fn put_end(out: &mut [u8], at: usize) -> usize
 
 // The lines after the rows.
 fn put_rest(out: &mut [u8], at: usize, opened: bool, s: Ehci, writes: Writes) -> usize
-    requires { ⌜ writes .count ≤ 6 ⌝ }
     requires { ⌜ at + 850 ≤ length (now out) ⌝ }
     ensures { λ r. ⌜ now (out .exit) ≡ putAt (now (out .entry)) at (restLines opened s writes) ⌝ }
     ensures { λ r. ⌜ r ≡ at + length (restLines opened s writes) ⌝ }
@@ -134,11 +134,10 @@ pub fn put_block(
     s: Ehci,
     writes: Writes,
 ) -> usize
-    requires { ⌜ first .count ≤ 14 ⌝ }
-    requires { ⌜ writes .count ≤ 6 ⌝ }
     requires { ⌜ 131072 ≤ length (now out) ⌝ }
     ensures { λ r. ⌜ now (out .exit) ≡ putAt (now (out .entry)) 0 (blockOf (lineBytes first) opening before after opened s writes) ⌝ }
     ensures { λ r. ⌜ r ≡ length (blockOf (lineBytes first) opening before after opened s writes) ⌝ }
+    ensures { λ r. ⌜ r ≤ length (now (out .exit)) ⌝ }
 {
     let rows = put_line(out, 0, first);
     let ports = put_rows(out, rows, before, after);

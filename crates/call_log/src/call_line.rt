@@ -1,7 +1,6 @@
 // The first line of a block: the record's number, the call's, its answer, and what the answer gives.
 ghost use mathlib.Core.Path.{_≡_};
 ghost use mathlib.Core.List.{[], _∷_};
-ghost use Prim.Native.Nat.{_≤_};
 ghost use Rattle.text.specs.Text.{decimal};
 ghost use Rattle.ehci.specs.Replies.{eventNumber, eventValue};
 ghost use Rattle.call_log.specs.CallLine.{
@@ -27,7 +26,6 @@ use root_hub::ports::PortEvent;
 
 // An answer that gives nothing.
 fn bare_line(n: u64, call: u8, answer: u8) -> Line
-    ensures { λ r. ⌜ r .count ≤ 14 ⌝ }
     ensures { λ r. ⌜ lineBytes r ≡ callLine n call answer [] ⌝ }
 {
     line_of_three(
@@ -39,7 +37,6 @@ fn bare_line(n: u64, call: u8, answer: u8) -> Line
 }
 
 fn line_with(n: u64, call: u8, answer: u8, value: Part) -> Line
-    ensures { λ r. ⌜ r .count ≤ 14 ⌝ }
     ensures { λ r. ⌜ lineBytes r ≡ saidLine 67 (Part.Decimal n ∷ Part.Decimal call ∷ Part.Decimal answer ∷ value ∷ []) ⌝ }
 {
     let mut cells = [Cell { part: Part::Dash }; 14];
@@ -84,7 +81,6 @@ fn event_value(event: Event) -> u64
 
 // The event and its value, of a drain.
 fn event_line(n: u64, call: u8, event: u64, value: u64) -> Line
-    ensures { λ r. ⌜ r .count ≤ 14 ⌝ }
     ensures { λ r. ⌜ lineBytes r ≡ callLine n call 0 (decimal event ∷ decimal value ∷ []) ⌝ }
 {
     let mut cells = [Cell { part: Part::Dash }; 14];
@@ -121,7 +117,6 @@ fn register_part(read: NextRead) -> Part
 
 // The register to read next, the milliseconds to wait, the event and its port.
 fn step_line(n: u64, call: u8, read: Part, wait: u32, event: u8, port: u8) -> Line
-    ensures { λ r. ⌜ r .count ≤ 14 ⌝ }
     ensures { λ r. ⌜ lineBytes r ≡ saidLine 67 (Part.Decimal n ∷ Part.Decimal call ∷ Part.Decimal 0 ∷ read ∷ Part.Decimal wait ∷ Part.Decimal event ∷ Part.Decimal port ∷ []) ⌝ }
 {
     let mut cells = [Cell { part: Part::Dash }; 14];
@@ -152,7 +147,6 @@ fn step_line(n: u64, call: u8, read: Part, wait: u32, event: u8, port: u8) -> Li
 }
 
 fn given_line(n: u64, call: u8, given: Given) -> Line
-    ensures { λ r. ⌜ r .count ≤ 14 ⌝ }
     ensures { λ r. ⌜ lineBytes r ≡ givenLine n call given ⌝ }
 {
     match given {
@@ -169,7 +163,6 @@ fn given_line(n: u64, call: u8, given: Given) -> Line
 }
 
 pub fn call_line(n: u64, call: u8, answered: Answered) -> Line
-    ensures { λ r. ⌜ r .count ≤ 14 ⌝ }
     ensures { λ r. ⌜ lineBytes r ≡ answeredLine n call answered ⌝ }
 {
     match answered {
@@ -200,7 +193,6 @@ pub fn scan_line(
     wait: u32,
     event: PortEvent,
 ) -> Line
-    ensures { λ r. ⌜ r .count ≤ 14 ⌝ }
     ensures { λ r. ⌜ lineBytes r ≡ scanLine n call answer read wait event ⌝ }
 {
     match answer {

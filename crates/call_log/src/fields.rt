@@ -1,9 +1,9 @@
 // The numbers of a record: the call's, seven small parameters, and seven of 64 bits, the lowest byte first.
 ghost use mathlib.Core.Path.{_≡_};
-ghost use Prim.Native.Nat.{_≤_};
 ghost use lib.ListN.{length};
 ghost use Rattle.settings.specs.Tests.{both};
-ghost use Rattle.call_log.specs.Fields.{bytesSpare, fieldsOf, little, numbersSpare};
+ghost use Rattle.call_log.specs.Fields.{bytesSpare, fieldsOf, numbersSpare};
+use text::number::number64;
 
 pub const RECORD: usize = 64;
 
@@ -25,26 +25,6 @@ pub struct Fields {
     pub n7: u64,
 }
 
-fn wide(byte: u8) -> u64
-    ensures { λ r. ⌜ r ≡ byte ⌝ }
-{
-    byte as u64
-}
-
-// From the highest byte down.
-fn little_of(bytes: &[u8]) -> u64
-    requires { ⌜ length (now bytes) ≤ 8 ⌝ }
-    ensures { λ r. ⌜ r ≡ little (now (bytes .entry)) ⌝ }
-{
-    let mut value: u64 = 0;
-    let mut left = bytes.len();
-    while 0 < left {
-        left -= 1;
-        value = 256 * value + wide(bytes[left]);
-    }
-    value
-}
-
 pub fn decode(bytes: &[u8]) -> Fields
     requires { ⌜ length (now bytes) ≡ 64 ⌝ }
     ensures { λ r. ⌜ r ≡ fieldsOf (now (bytes .entry)) ⌝ }
@@ -58,13 +38,13 @@ pub fn decode(bytes: &[u8]) -> Fields
         b5: bytes[5],
         b6: bytes[6],
         b7: bytes[7],
-        n1: little_of(&bytes[8..16]),
-        n2: little_of(&bytes[16..24]),
-        n3: little_of(&bytes[24..32]),
-        n4: little_of(&bytes[32..40]),
-        n5: little_of(&bytes[40..48]),
-        n6: little_of(&bytes[48..56]),
-        n7: little_of(&bytes[56..64]),
+        n1: number64(bytes, 8),
+        n2: number64(bytes, 16),
+        n3: number64(bytes, 24),
+        n4: number64(bytes, 32),
+        n5: number64(bytes, 40),
+        n6: number64(bytes, 48),
+        n7: number64(bytes, 56),
     }
 }
 

@@ -4,8 +4,8 @@ ghost use mathlib.Core.Bool.{Bool};
 ghost use Prim.Native.Nat.{_+_, _*_, _≤_, _<_};
 ghost use lib.ListN.{length};
 ghost use Rattle.opening.specs.Rows.{putAt};
-ghost use Rattle.text.specs.Text.{pickNumber};
-ghost use Rattle.call_log.specs.Changes.{frameLines, goesOn, runEnds, shownIf};
+ghost use Rattle.text.specs.Text.{onlyIf, pick};
+ghost use Rattle.call_log.specs.Changes.{frameLines, goesOn, runEnds};
 ghost use Rattle.call_log.specs.Lines.{frameLine};
 use crate::line::put_line;
 use crate::lines::frame_line;
@@ -35,21 +35,21 @@ fn run_ends(before: &[u32], after: &[u32], i: usize, on: bool) -> bool
 // Where the run of the next entry begins.
 fn next_first(on: bool, first: usize, i: usize) -> usize
     requires { ⌜ i < 65536 ⌝ }
-    ensures { λ r. ⌜ r ≡ pickNumber on first (i + 1) ⌝ }
+    ensures { λ r. ⌜ r ≡ pick on first (i + 1) ⌝ }
 {
     if on { first } else { i + 1 }
 }
 
 fn put_frame(out: &mut [u8], at: usize, ends: bool, first: usize, i: usize, value: u32) -> usize
     requires { ⌜ at + 296 ≤ length (now out) ⌝ }
-    ensures { λ r. ⌜ now (out .exit) ≡ putAt (now (out .entry)) at (shownIf ends (frameLine first i value)) ⌝ }
-    ensures { λ r. ⌜ r ≡ at + length (shownIf ends (frameLine first i value)) ⌝ }
+    ensures { λ r. ⌜ now (out .exit) ≡ putAt (now (out .entry)) at (onlyIf ends (frameLine first i value)) ⌝ }
+    ensures { λ r. ⌜ r ≡ at + length (onlyIf ends (frameLine first i value)) ⌝ }
 {
-    if !ends {
-        return at;
+    if ends {
+        let line = frame_line(first as u64, i as u64, value);
+        return put_line(out, at, line);
     }
-    let line = frame_line(first as u64, i as u64, value);
-    put_line(out, at, line)
+    at
 }
 
 pub fn put_frames(out: &mut [u8], at: usize, before: &[u32], after: &[u32]) -> usize

@@ -1,7 +1,7 @@
 // A line: a letter, parts, and the line's end.
 ghost use mathlib.Core.Path.{_≡_};
 ghost use mathlib.Core.List.{[], _∷_};
-ghost use Prim.Native.Nat.{_+_, _*_, _≤_};
+ghost use Prim.Native.Nat.{_+_, _*_, _≤_, min};
 ghost use lib.ListN.{length, take};
 ghost use Rattle.opening.specs.Rows.{putAt};
 ghost use Rattle.text.specs.Text.{hex};
@@ -90,14 +90,20 @@ fn put_parts(out: &mut [u8], at: usize, cells: [Cell; 14], count: usize) -> usiz
     place
 }
 
+// No more than there are.
+pub fn least(n: usize, most: usize) -> usize
+    ensures { λ r. ⌜ r ≡ min n most ⌝ }
+{
+    if n < most { n } else { most }
+}
+
 pub fn put_line(out: &mut [u8], at: usize, line: Line) -> usize
-    requires { ⌜ line .count ≤ 14 ⌝ }
     requires { ⌜ at + 296 ≤ length (now out) ⌝ }
     ensures { λ r. ⌜ now (out .exit) ≡ putAt (now (out .entry)) at (lineBytes line) ⌝ }
     ensures { λ r. ⌜ r ≡ at + length (lineBytes line) ⌝ }
 {
     let cells = line.cells;
     let first = put(out, at, line.letter);
-    let last = put_parts(out, first, cells, line.count);
+    let last = put_parts(out, first, cells, least(line.count, PARTS));
     put(out, last, b'\n')
 }

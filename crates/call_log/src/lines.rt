@@ -1,8 +1,6 @@
 // The lines of a block but the first: rows, ports, the controller, register writes.
 ghost use mathlib.Core.Path.{_≡_};
 ghost use mathlib.Core.List.{[], _∷_, _++_};
-ghost use Prim.Native.Nat.{_≤_};
-ghost use lib.ListN.{length};
 ghost use Rattle.call_log.specs.Lines.{
   frameLine,
   headLine,
@@ -24,7 +22,6 @@ use descriptor::qtd::QueueTransferDescriptor;
 use state::state::Ehci;
 
 pub fn line_of_two(letter: u8, a: Part, b: Part) -> Line
-    ensures { λ r. ⌜ r .count ≤ 14 ⌝ }
     ensures { λ r. ⌜ lineBytes r ≡ saidLine letter (a ∷ b ∷ []) ⌝ }
 {
     let mut cells = [Cell { part: Part::Dash }; 14];
@@ -38,7 +35,6 @@ pub fn line_of_two(letter: u8, a: Part, b: Part) -> Line
 }
 
 pub fn line_of_three(letter: u8, a: Part, b: Part, c: Part) -> Line
-    ensures { λ r. ⌜ r .count ≤ 14 ⌝ }
     ensures { λ r. ⌜ lineBytes r ≡ saidLine letter (a ∷ b ∷ c ∷ []) ⌝ }
 {
     let mut cells = [Cell { part: Part::Dash }; 14];
@@ -53,7 +49,6 @@ pub fn line_of_three(letter: u8, a: Part, b: Part, c: Part) -> Line
 }
 
 pub fn head_line(place: u64, word: u64, value: u32) -> Line
-    ensures { λ r. ⌜ r .count ≤ 14 ⌝ }
     ensures { λ r. ⌜ lineBytes r ≡ headLine place word value ⌝ }
 {
     line_of_three(
@@ -65,7 +60,6 @@ pub fn head_line(place: u64, word: u64, value: u32) -> Line
 }
 
 pub fn frame_line(first: u64, last: u64, value: u32) -> Line
-    ensures { λ r. ⌜ r .count ≤ 14 ⌝ }
     ensures { λ r. ⌜ lineBytes r ≡ frameLine first last value ⌝ }
 {
     line_of_three(
@@ -77,7 +71,6 @@ pub fn frame_line(first: u64, last: u64, value: u32) -> Line
 }
 
 pub fn port_line(port: u8, state: u8) -> Line
-    ensures { λ r. ⌜ r .count ≤ 14 ⌝ }
     ensures { λ r. ⌜ lineBytes r ≡ portLine port state ⌝ }
 {
     line_of_two(
@@ -88,14 +81,12 @@ pub fn port_line(port: u8, state: u8) -> Line
 }
 
 pub fn write_line(offset: u32, value: u32) -> Line
-    ensures { λ r. ⌜ r .count ≤ 14 ⌝ }
     ensures { λ r. ⌜ lineBytes r ≡ writeLine offset value ⌝ }
 {
     line_of_two(b'W', Part::Byte(offset), Part::Word(value))
 }
 
 pub fn record_line(place: u64, r: QueueTransferDescriptor) -> Line
-    ensures { λ l. ⌜ l .count ≤ 14 ⌝ }
     ensures { λ l. ⌜ lineBytes l ≡ recordLine place r ⌝ }
 {
     let pages = r.pages;
@@ -152,7 +143,6 @@ pub fn record_line(place: u64, r: QueueTransferDescriptor) -> Line
 
 // The setup bytes are in memory order.
 pub fn setup_line(slot: u64, b0: u8, b1: u8, b2: u8, b3: u8, b4: u8, b5: u8, b6: u8, b7: u8) -> Line
-    ensures { λ l. ⌜ l .count ≤ 14 ⌝ }
     ensures { λ l. ⌜ lineBytes l ≡ setupLine slot (b0 ∷ b1 ∷ b2 ∷ b3 ∷ b4 ∷ b5 ∷ b6 ∷ b7 ∷ []) ⌝ }
 {
     let mut cells = [Cell { part: Part::Dash }; 14];
@@ -221,7 +211,6 @@ fn shown(s: Ehci) -> Seen
 }
 
 fn shown_line(x: Seen) -> Line
-    ensures { λ l. ⌜ l .count ≤ 14 ⌝ }
     ensures { λ l. ⌜ lineBytes l ≡ shownLine x ⌝ }
 {
     let mut cells = [Cell { part: Part::Dash }; 14];
@@ -260,7 +249,6 @@ fn shown_line(x: Seen) -> Line
 }
 
 pub fn state_line(s: Ehci) -> Line
-    ensures { λ l. ⌜ l .count ≤ 14 ⌝ }
     ensures { λ l. ⌜ lineBytes l ≡ stateLine s ⌝ }
 {
     shown_line(shown(s))

@@ -1,7 +1,6 @@
 // A record of a log: the call that it says.
 ghost use mathlib.Core.Path.{_≡_};
-ghost use Prim.Native.Nat.{_%_, _^_};
-ghost use Rattle.pipe.specs.Endpoints.{directionOf};
+ghost use Prim.Native.Nat.{_%_, _^_, _≤_, _<_};
 ghost use Rattle.call_log.specs.Records.{
   guarded,
   plain,
@@ -30,10 +29,10 @@ use controller::lent::Readings;
 use ehci::call::Call;
 use ehci::call::EndpointFields;
 use ehci::call::InterruptReadings;
+use pipe::endpoint::direction_of;
 use pipe::endpoint::kind_of;
 use request::judge::TransferRequest;
 use settings::settings::Settings;
-use token::request::Direction;
 
 // A register value or a token is below this, a packet size and six setup bytes below those.
 const WORD_END: u64 = 0x1_0000_0000;
@@ -69,16 +68,6 @@ fn low_size(n: u64) -> u16
     ensures { λ r. ⌜ r ≡ n % 2 ^ 16 ⌝ }
 {
     (n % SIZE_END) as u16
-}
-
-fn direction_of(number: u8) -> Direction
-    ensures { λ r. ⌜ r ≡ directionOf number ⌝ }
-{
-    if number == 0 {
-        Direction::Out
-    } else {
-        Direction::In
-    }
 }
 
 // A call with no parameters.
@@ -246,7 +235,9 @@ fn port_power(f: Fields) -> Entry
     )
 }
 
-fn judge(f: Fields) -> Entry
+// Calls 1 to 8, and 0, which is none.
+fn judge_first(f: Fields) -> Entry
+    requires { ⌜ f .number ≤ 8 ⌝ }
     ensures { λ r. ⌜ r ≡ judged f ⌝ }
 {
     let number = f.number;
@@ -259,12 +250,33 @@ fn judge(f: Fields) -> Entry
         6 => close_slot(f),
         7 => set_address(f),
         8 => set_packet_size(f),
+        _ => Entry::Bad,
+    }
+}
+
+// Calls 9 to 14.
+fn judge_second(f: Fields) -> Entry
+    requires { ⌜ (8 < f .number) × (f .number ≤ 14) ⌝ }
+    ensures { λ r. ⌜ r ≡ judged f ⌝ }
+{
+    let number = f.number;
+    match number {
         9 => submit_request(f),
         10 => write_back(f),
         11 => cancel_request(f),
         12 => collect_request(f),
         13 => acknowledge_interrupt(f),
-        14 => drain_events(f),
+        _ => drain_events(f),
+    }
+}
+
+// Calls 15 to 20, and numbers that no call has.
+fn judge_third(f: Fields) -> Entry
+    requires { ⌜ 14 < f .number ⌝ }
+    ensures { λ r. ⌜ r ≡ judged f ⌝ }
+{
+    let number = f.number;
+    match number {
         15 => plain_entry(f, Entry::Call(Call::Rearm)),
         16 => plain_entry(f, Entry::Call(Call::Enable)),
         17 => plain_entry(f, Entry::Call(Call::Disable)),
@@ -273,6 +285,19 @@ fn judge(f: Fields) -> Entry
         20 => port_power(f),
         _ => Entry::Bad,
     }
+}
+
+fn judge(f: Fields) -> Entry
+    ensures { λ r. ⌜ r ≡ judged f ⌝ }
+{
+    let number = f.number;
+    if number <= 8 {
+        return judge_first(f);
+    }
+    if number <= 14 {
+        return judge_second(f);
+    }
+    judge_third(f)
 }
 
 pub fn read_record(bytes: &[u8]) -> Entry

@@ -9,6 +9,7 @@ ghost use Rattle.call_log.specs.Changes.{
   portChange,
   portLines,
 };
+use crate::line::least;
 use crate::line::put_line;
 use crate::lines::head_line;
 use crate::lines::port_line;
@@ -43,21 +44,21 @@ pub fn put_heads(out: &mut [u8], at: usize, before: &[u32], after: &[u32]) -> us
     place
 }
 
-// Ports are counted from 1; `all` where one is shown whether its state changed or not.
-fn put_port(out: &mut [u8], at: usize, i: usize, all: bool, before: u8, after: u8) -> usize
+// Ports are counted from 1.
+fn put_port(out: &mut [u8], at: usize, i: usize, opening: bool, before: u8, after: u8) -> usize
     requires { ⌜ i ≤ 254 ⌝ }
     requires { ⌜ at + 296 ≤ length (now out) ⌝ }
-    ensures { λ r. ⌜ now (out .exit) ≡ putAt (now (out .entry)) at (portChange all i before after) ⌝ }
-    ensures { λ r. ⌜ r ≡ at + length (portChange all i before after) ⌝ }
+    ensures { λ r. ⌜ now (out .exit) ≡ putAt (now (out .entry)) at (portChange opening i before after) ⌝ }
+    ensures { λ r. ⌜ r ≡ at + length (portChange opening i before after) ⌝ }
 {
-    if !all & (before == after) {
-        return at;
+    if opening | (before != after) {
+        let line = port_line((i + 1) as u8, after);
+        return put_line(out, at, line);
     }
-    let line = port_line((i + 1) as u8, after);
-    put_line(out, at, line)
+    at
 }
 
-// An opening shows every port of its controller.
+// The ports are the controller's own.
 pub fn put_ports(
     out: &mut [u8],
     at: usize,
@@ -72,11 +73,11 @@ pub fn put_ports(
     ensures { λ r. ⌜ now (out .exit) ≡ putAt (now (out .entry)) at (portLines opening ports (now (before .entry)) (now (after .entry))) ⌝ }
     ensures { λ r. ⌜ r ≡ at + length (portLines opening ports (now (before .entry)) (now (after .entry))) ⌝ }
 {
+    let count = least(ports as usize, after.len());
     let mut place = at;
     let mut i = 0;
-    while i < after.len() {
-        let all = opening & (i < ports as usize);
-        place = put_port(out, place, i, all, before[i], after[i]);
+    while i < count {
+        place = put_port(out, place, i, opening, before[i], after[i]);
         i += 1;
     }
     place

@@ -7,21 +7,15 @@ ghost use Rattle.call_log.specs.Changes.{sameEight, setupChange, setupLi
 use crate::line::Line;
 use crate::line::put_line;
 use crate::lines::setup_line;
+use text::number::number64;
 
+// The packets as numbers.
 fn same_eight(a: &[u8], b: &[u8], p: usize) -> bool
     requires { ⌜ p + 8 ≤ length (now a) ⌝ }
     requires { ⌜ p + 8 ≤ length (now b) ⌝ }
     ensures { λ r. ⌜ r ≡ sameEight (now (a .entry)) (now (b .entry)) p ⌝ }
 {
-    let low = (a[p] == b[p])
-        & (a[p + 1] == b[p + 1])
-        & (a[p + 2] == b[p + 2])
-        & (a[p + 3] == b[p + 3]);
-    low
-        & (a[p + 4] == b[p + 4])
-        & (a[p + 5] == b[p + 5])
-        & (a[p + 6] == b[p + 6])
-        & (a[p + 7] == b[p + 7])
+    number64(a, p) == number64(b, p)
 }
 
 fn put_setup(out: &mut [u8], at: usize, slot: usize, before: &[u8], after: &[u8]) -> usize

@@ -11,7 +11,6 @@ use denote.Struct.Laws as LL
 use native.Mathlib.Omega.{arith}
 use Rattle.pool.specs.Chains.{chainGood}
 use Rattle.pool.specs.declared.chain.View.{View}
-use Rattle.pool.specs.declared.chain.Chain.{Chain}
 use Rattle.pool.proofs.GoodLaws.{no-chain-good, token-good}
 use Rattle.settings.proofs.SettingsCases.{both-first}
 use Rattle.state.specs.declared.state.Ehci.{Ehci}
@@ -20,7 +19,6 @@ use Rattle.state.proofs.state.Ehci.Laws as S′
 use Rattle.answer.specs.Answers.{Verdict, first, passed, refused}
 use Rattle.opening.specs.Opening.{rowsFit}
 use Rattle.controller.specs.Lent.{acceptsOf, lengths}
-use Rattle.controller.specs.declared.lent.Lengths.{Lengths}
 use Rattle.controller.specs.declared.lent.Readings.{Readings}
 use Rattle.controller.proofs.LentLaws.{accepts-tells}
 use Rattle.request.specs.Submit.{acceptedWith, answerOf, chainFor, judgeOf, refusedSubmit, settledSubmit, submitChecks, submitOf, takenFor}

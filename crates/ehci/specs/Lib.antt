@@ -1,3 +1,4 @@
 pub mod Replies
 pub mod Decides
 pub mod Door
+pub mod Refusals

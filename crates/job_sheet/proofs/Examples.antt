@@ -3,7 +3,7 @@ use mathlib.Core.Path.{_≡_, refl}
 use mathlib.Core.Bool.{true, false}
 use mathlib.Core.List.{List, [], _∷_, _++_}
 use Prim.Native.Nat.{ℕ}
-use Rattle.job_sheet.specs.Numbers.{littleEndian, numberOf}
+use Rattle.text.specs.Numbers.{littleEndian, numberOf}
 use Rattle.job_sheet.specs.Sheets.{SheetJob, bytesOf, endpointBytes, isControl, jobOf, joined, requestBytes}
 use Rattle.job_sheet.specs.Reading.{badSheet, endpointAt, endpointFits, every, filled, jobIn, packed, requestAt, requestFits, sheetFits, sheetOf, sizesFit, upTo}
 

@@ -1,5 +1,4 @@
 pub mod Examples
-pub mod NumberLaws
 pub mod Rows
 pub mod ReadCases
 pub mod Tables

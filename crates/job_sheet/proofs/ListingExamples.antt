@@ -4,12 +4,12 @@ use mathlib.Core.List.{List, [], _∷_, _++_}
 use Prim.Native.Nat.{ℕ}
 use Rattle.descriptor.specs.Slots.{zeroSlots}
 use Rattle.pool.specs.Chains.{blank}
-use Rattle.text.specs.Text.{decimal, decimalUpTo, hex}
+use Rattle.text.specs.Text.{decimal, decimalUpTo, hex, linesTo}
 use Rattle.job_sheet.specs.declared.outcome.Outcome.{Outcome}
 use Rattle.job_sheet.specs.Sheets.{joined}
 use Rattle.job_sheet.specs.Reading.{filled, packed}
 use Rattle.job_sheet.specs.Listing.{descriptorLine, endpointLine, numberField, requestLine, wordField}
-use Rattle.job_sheet.specs.Outcomes.{answeredLines, linesTo, listingOf, placeLines, slotOf}
+use Rattle.job_sheet.specs.Outcomes.{answeredLines, listingOf, placeLines, slotOf}
 use Rattle.job_sheet.proofs.Examples.{example}
 
 -- slot 0 was opened and has the first three places; the request's id is 1

@@ -3,7 +3,6 @@ use Prim.Native.Nat.{ℕ, zero, suc, _+_, _*_, _≤_, _<_}
 use mathlib.Core.Path.{_≡_, refl, _∙_}
 use mathlib.Core.Bool.{Bool, true, false}
 use mathlib.Core.List.{List, [], _∷_, _++_, append-nil}
-use native.Mathlib.Numerals.{add-one}
 use native.Mathlib.Omega.{arith}
 use borrow.Author.Tests.{le-ltb, lt-ltb, ne-eqb}
 use lib.Dec.{eqb}
@@ -11,12 +10,13 @@ use lib.ListN.{getD, length}
 use Rattle.descriptor.specs.declared.qtd.QueueTransferDescriptor.{QueueTransferDescriptor}
 use Rattle.pool.specs.Chains.{blank}
 use Rattle.opening.specs.Rows.{putAt}
-use Rattle.text.proofs.Puts.{put-none}
+use Rattle.text.specs.Text.{linesTo, onlyIf}
+use Rattle.text.proofs.LineLaws.{getD-any, hidden, lines-none, lines-turn, shown}
 use Rattle.job_sheet.specs.declared.outcome.Outcome.{Outcome}
 use Rattle.job_sheet.specs.declared.sheet.Job.{Job}
 use Rattle.job_sheet.specs.Sheets.{noRequest}
 use Rattle.job_sheet.specs.Listing.{descriptorLine, requestLine}
-use Rattle.job_sheet.specs.Outcomes.{answeredLines, linesOf, linesTo, onlyIf, placeLine, placeLines, slotOf}
+use Rattle.job_sheet.specs.Outcomes.{answeredLines, linesOf, placeLine, placeLines, slotOf}
 use Rattle.job_sheet.proofs.ListingCases.{then}
 
 -- what a function put, in at most so many bytes
@@ -34,11 +34,6 @@ pub record Lined (lines : ℕ → List ℕ) (each : ℕ) (o : List ℕ) (at : �
 abbrev absent : QueueTransferDescriptor
 absent = record { next = 0; alternate = 0; token = 0; pages = []; upper = [] }
 
-any-default : {A : Type 0} (l : List A) (i : ℕ) (d e : A) → i < length l → getD l i d ≡ getD l i e
-any-default [] i d e h = absurd (omega (arith, h))
-any-default (x ∷ l) zero d e h = refl
-any-default (x ∷ l) (suc i) d e h = any-default l i d e (omega arith)
-
 module _ (o : List ℕ) (at : ℕ) where
   pub both : (a p b q : List ℕ) (i r m n : ℕ) → at ≤ length o → Within o at a p i m → Within p i b q r n → Within o at (a ++ b) q r (m + n)
   both a p b q i r m n h f g =
@@ -46,15 +41,19 @@ module _ (o : List ℕ) (at : ℕ) where
       (e .0, (e .1, omega (arith, f .1 .1, g .1 .1)))
 
   pub shown-put : (a q : List ℕ) (r most : ℕ) (b : Bool) → b ≡ true → Within o at a q r most → Within o at (onlyIf b a) q r most
-  shown-put a q r most b t f = rw t f
+  shown-put a q r most b t f =
+      let e = shown o at b a q r t (f .0) (f .1 .0) in
+      (e .0, (e .1, f .1 .1))
 
   pub hidden-put : (a : List ℕ) (most : ℕ) (b : Bool) → b ≡ false → Within o at (onlyIf b a) o at most
-  hidden-put a most b t = rw t (put-none o at, (omega arith, omega arith))
+  hidden-put a most b t =
+      let e = hidden o at b a t in
+      (e .0, (e .1, omega arith))
 
   pub place-put : (owner : List ℕ) (pool : List QueueTransferDescriptor) (slot k : ℕ) (q : List ℕ) (r most : ℕ) → k < length pool
       → Within o at (onlyIf (eqb (getD owner k 0) (slot + 1)) (descriptorLine k (getD pool k absent))) q r most
       → Within o at (placeLine owner pool slot k) q r most
-  place-put owner pool slot k q r most h f = rw (any-default pool k blank absent h) f
+  place-put owner pool slot k q r most h f = rw (getD-any pool k blank absent h) f
 
   pub slot-put : (job : Job) (ran : Outcome) (slot k : ℕ) (q : List ℕ) (r most : ℕ) → slot ≡ slotOf (ran .slots) (getD (job .requests) k noRequest .endpoint)
       → Within o at (answeredLines ran slot k) q r most → Within o at (linesOf job ran k) q r most
@@ -73,22 +72,21 @@ module _ (o : List ℕ) (at : ℕ) where
       rw (ne-eqb (getD (ran .submitted) k 0) 0 e, append-nil) (f .0, (f .1 .0, omega (arith, f .1 .1)))
 
   module _ (lines : ℕ → List ℕ) (each : ℕ) where
-    pub lines-none : Lined lines each o at o at 0
-    unfolding linesTo
-    lines-none = record { same = refl; put = put-none o at; place = omega arith; few = omega arith }
+    pub lined-none : Lined lines each o at o at 0
+    lined-none =
+        let e = lines-none lines o at in
+        record { same = refl; put = e .0; place = e .1; few = omega arith }
 
     -- a turn of a loop
-    pub lines-turn : (p q : List ℕ) (i k r : ℕ) → at ≤ length o → Lined lines each o at p i k → length q ≡ length p
+    pub lined-turn : (p q : List ℕ) (i k r : ℕ) → at ≤ length o → Lined lines each o at p i k → length q ≡ length p
         → Within p i (lines k) q r each → Lined lines each o at q r (k + 1)
-    unfolding linesTo
-    lines-turn p q i k r h l s g =
-        let e = both (linesTo lines k) p (lines k) q i r (each * k) each h (l .put, (l .place, l .few)) g in
-        let more : each * (k + 1) ≡ each * k + each = omega arith in
-        record { same = s ∙ l .same; put = rw (add-one k) (e .0); place = rw (add-one k) (e .1 .0); few = rw more (e .1 .1) }
+    lined-turn p q i k r h l s g =
+        let e = lines-turn lines o p q at i r k h (l .put) (l .place) (g .0) (g .1 .0) in
+        record { same = s ∙ l .same; put = e .0; place = e .1; few = omega (arith, l .few, g .1 .1) }
 
-    pub lines-done : (p : List ℕ) (i k n most : ℕ) → k ≤ n → n ≤ k → each * n ≤ most → Lined lines each o at p i k
+    pub lined-done : (p : List ℕ) (i k n most : ℕ) → k ≤ n → n ≤ k → each * n ≤ most → Lined lines each o at p i k
         → Within o at (linesTo lines n) p i most
-    lines-done p i k n most a b m l =
+    lined-done p i k n most a b m l =
         let all : k ≡ n = omega arith in
         rw (← all) (l .put, (l .place, omega (arith, l .few, rw (← all) at m)))
 

@@ -14,9 +14,10 @@ use Rattle.job_sheet.specs.declared.sheet.Endpoints.{Endpoints}
 use Rattle.job_sheet.specs.declared.sheet.Requests.{Requests}
 use Rattle.job_sheet.specs.declared.sheet.Sheet.{Sheet}
 use Rattle.job_sheet.specs.declared.sheet.Sizes.{Sizes}
-use Rattle.job_sheet.specs.Numbers.{numberAt}
+use Rattle.text.specs.Numbers.{numberAt}
+use Rattle.text.specs.Text.{pick}
 use Rattle.job_sheet.specs.Sheets.{isControl, noEndpoint, noRequest}
-use Rattle.job_sheet.specs.Reading.{badSheet, endpointAt, endpointsFit, endpointsIn, endpointsOf, filled, jobIn, noSizes, opensOf, packed, pick, requestAt, requestFits, requestFitsAt, requestsFit, requestsIn, requestsOf, sheetFits, sheetOf, sizesFit, sizesOf, submitsOf}
+use Rattle.job_sheet.specs.Reading.{badSheet, endpointAt, endpointsFit, endpointsIn, endpointsOf, filled, jobIn, noSizes, opensOf, packed, requestAt, requestFits, requestFitsAt, requestsFit, requestsIn, requestsOf, sheetFits, sheetOf, sizesFit, sizesOf, submitsOf}
 use Rattle.job_sheet.proofs.Rows.{both-true, up-length, up-taken}
 
 pub endpoint-is : (bytes : List ℕ) (at packet : ℕ) → packet ≡ numberAt bytes (at + 4) 2

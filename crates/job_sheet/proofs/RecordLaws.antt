@@ -11,10 +11,10 @@ use lib.ListN.{drop, getD, length, take}
 use lib.Seq.{drop-cons, drop-drop, getD-drop, take-add}
 use Rattle.job_sheet.specs.declared.record.EndpointRecord.{EndpointRecord}
 use Rattle.job_sheet.specs.declared.record.RequestRecord.{RequestRecord}
-use Rattle.job_sheet.specs.Numbers.{littleEndian, numberAt}
+use Rattle.text.specs.Numbers.{littleEndian, numberAt}
 use Rattle.job_sheet.specs.Sheets.{GoodEndpoint, GoodRequest, endpointBytes, isControl, requestBytes}
 use Rattle.job_sheet.specs.Reading.{endpointAt, endpointFits, requestAt, requestFits, requestFitsAt}
-use Rattle.job_sheet.proofs.NumberLaws.{Bytes, number-of-bytes, part-below, part-written}
+use Rattle.text.proofs.NumberLaws.{Bytes, number-of-bytes, part-below, part-written}
 use Rattle.job_sheet.proofs.Rows.{both-true, true-both}
 
 pub endpoint-length : (e : EndpointRecord) → length (endpointBytes e) ≡ 6

@@ -8,10 +8,11 @@ use borrow.Author.Tests.{eq-eqb, le-leb}
 use lib.ListN.{drop, getD, length, length-append, length-drop, take, take-append-drop}
 use lib.Seq.{drop-at, drop-drop, take-all, take-at}
 use Rattle.job_sheet.specs.declared.sheet.Sheet.{Sheet}
-use Rattle.job_sheet.specs.Numbers.{littleEndian, numberOf}
+use Rattle.text.specs.Numbers.{littleEndian, numberOf}
+use Rattle.text.specs.Text.{pick}
 use Rattle.job_sheet.specs.Sheets.{GoodEndpoint, GoodJob, GoodRequest, SheetJob, bytesOf, endpointBytes, jobOf, joined, noEndpoint, noRequest, requestBytes}
-use Rattle.job_sheet.specs.Reading.{badSheet, endpointAt, endpointFits, endpointPlace, endpointsFit, endpointsIn, jobIn, opensOf, packed, pick, requestAt, requestFitsAt, requestPlace, requestsFit, requestsIn, sheetFits, sheetOf, sizesFit, submitsOf}
-use Rattle.job_sheet.proofs.NumberLaws.{Bytes, bytes-length, number-of-bytes, part-written}
+use Rattle.job_sheet.specs.Reading.{badSheet, endpointAt, endpointFits, endpointPlace, endpointsFit, endpointsIn, jobIn, opensOf, packed, requestAt, requestFitsAt, requestPlace, requestsFit, requestsIn, sheetFits, sheetOf, sizesFit, submitsOf}
+use Rattle.text.proofs.NumberLaws.{Bytes, bytes-length, number-of-bytes, part-written}
 use Rattle.job_sheet.proofs.Rows.{both-true, every-all, every-each, filled-taken, true-both, up-is, up-length}
 use Rattle.job_sheet.proofs.ReadCases.{Sized, sizes-fit}
 use Rattle.job_sheet.proofs.Tables.{all-at, joined-length, table-at, table-written, up-all}

@@ -1,4 +1,3 @@
-pub mod Numbers
 pub mod Sheets
 pub mod Reading
 pub mod Listing

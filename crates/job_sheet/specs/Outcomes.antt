@@ -1,26 +1,16 @@
 -- Document 01, "Job sheets": the listing of a job that was run. "All E lines, then for each request its R line followed at
 -- once by its D lines in chain order if accepted."
-use Prim.Native.Nat.{ℕ, zero, suc, _+_}
-use mathlib.Core.Bool.{Bool, true, false}
-use mathlib.Core.List.{List, [], _++_}
+use Prim.Native.Nat.{ℕ, _+_}
+use mathlib.Core.List.{List, _++_}
 use lib.Dec.{eqb, ltb}
 use lib.ListN.{getD}
 use Rattle.descriptor.specs.declared.qtd.QueueTransferDescriptor.{QueueTransferDescriptor}
 use Rattle.pool.specs.Chains.{blank}
+use Rattle.text.specs.Text.{linesTo, onlyIf, pick}
 use Rattle.job_sheet.specs.declared.outcome.Outcome.{Outcome}
 use Rattle.job_sheet.specs.declared.sheet.Job.{Job}
 use Rattle.job_sheet.specs.Sheets.{noRequest}
-use Rattle.job_sheet.specs.Reading.{pick}
 use Rattle.job_sheet.specs.Listing.{descriptorLine, endpointLine, requestLine}
-
--- the lines of 0 to n - 1, in their order
-unfoldable pub linesTo : (ℕ → List ℕ) → ℕ → List ℕ
-linesTo lines zero = []
-linesTo lines (suc n) = linesTo lines n ++ lines n
-
-abbrev pub onlyIf : Bool → List ℕ → List ℕ
-onlyIf true lines = lines
-onlyIf false lines = []
 
 -- a slot's descriptor: slot k has owner k + 1
 abbrev pub placeLine : List ℕ → List QueueTransferDescriptor → ℕ → ℕ → List ℕ

@@ -11,7 +11,8 @@ use Rattle.job_sheet.specs.declared.sheet.Job.{Job}
 use Rattle.job_sheet.specs.declared.sheet.Requests.{Requests}
 use Rattle.job_sheet.specs.declared.sheet.Sheet.{Sheet}
 use Rattle.job_sheet.specs.declared.sheet.Sizes.{Sizes}
-use Rattle.job_sheet.specs.Numbers.{numberAt}
+use Rattle.text.specs.Numbers.{numberAt}
+use Rattle.text.specs.Text.{pick}
 pub use Rattle.job_sheet.specs.Sheets.{SheetJob, isControl, noEndpoint, noRequest}
 
 unfoldable pub endpointAt : List ℕ → ℕ → EndpointRecord
@@ -94,10 +95,6 @@ unfoldable pub sizesFit : List ℕ → Bool
 sizesFit bytes =
     leb (opensOf bytes) 8 && leb (submitsOf bytes) 64
     && eqb (length bytes) (requestPlace (opensOf bytes) (submitsOf bytes))
-
-abbrev pub pick : {A : Type 0} → Bool → A → A → A
-pick true a b = a
-pick false a b = b
 
 abbrev pub noSizes : Sizes
 noSizes = record { good = false; endpoints = 0; requests = 0 }

@@ -8,7 +8,7 @@ use lib.ListN.{getD, length, take}
 use Rattle.job_sheet.specs.declared.record.EndpointRecord.{EndpointRecord}
 use Rattle.job_sheet.specs.declared.record.RequestRecord.{RequestRecord}
 use Rattle.job_sheet.specs.declared.sheet.Job.{Job}
-use Rattle.job_sheet.specs.Numbers.{littleEndian}
+use Rattle.text.specs.Numbers.{littleEndian}
 
 pub record SheetJob : Type 0 where
   pub endpoints : List EndpointRecord

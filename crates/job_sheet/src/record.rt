@@ -1,8 +1,8 @@
 // One record of a sheet.
-use crate::number::number16;
-use crate::number::number32;
-use crate::number::number48;
-use crate::number::number64;
+use text::number::number16;
+use text::number::number32;
+use text::number::number48;
+use text::number::number64;
 ghost use mathlib.Core.Path.{_≡_};
 ghost use Prim.Native.Nat.{_+_, _≤_};
 ghost use lib.ListN.{length, take};

@@ -1,5 +1,4 @@
 // A sheet's bytes read: its job, or that it is bad.
-use crate::number::number16;
 use crate::record::EndpointRecord;
 use crate::record::RequestRecord;
 use crate::record::endpoint_at;
@@ -7,6 +6,7 @@ use crate::record::endpoint_fits;
 use crate::record::is_control;
 use crate::record::request_at;
 use crate::record::request_fits;
+use text::number::number16;
 ghost use mathlib.Core.Path.{_≡_};
 ghost use Prim.Native.Nat.{_+_, _*_, _≤_};
 ghost use lib.ListN.{length, take};

@@ -1,135 +1,147 @@
-// Queue heads, the links to them and to descriptors, and the changes of their characteristics.
-ghost use Prim.Native.Nat.{_≤_};
-use crate::out;
-use crate::pick;
+// Descriptors, setup packets, heads and links, the tables of EHCI 2.3 and the writes of an answer.
+use crate::out::bytes;
+use crate::out::low_byte;
+use crate::out::low_word;
+use crate::out::word;
+use crate::out::words;
+use crate::tokens::kind;
 use descriptor::head;
 use descriptor::head::QueueHead;
 use descriptor::qtd::NextQtd;
 use descriptor::qtd::QueueTransferDescriptor;
+use descriptor::setup::setup_packet_bytes;
+use register::ehci;
+use register::writes::Write;
+use register::writes::Writes;
+use token::port::EhciPortStatus;
+use token::qtd::QtdToken;
 use token::request::EndpointType;
 
-// The last is no address of a head or a descriptor: its lower five bits are not part of a link.
-const LINKED: [u32; 4] = [0, 0x0010_0040, 0xffff_ffe0, 0xffff_ffff];
+// A buffer ends here at most.
+const TOP: u64 = 0x1_0000_0000;
 
-// Of the last two the field holds the lower seven bits.
-const DEVICES: [u8; 6] = [0, 1, 64, 127, 128, 255];
+fn thirteen(d: QueueTransferDescriptor) {
+    let pages = d.pages;
+    let upper = d.upper;
+    word(d.next);
+    word(d.alternate);
+    word(d.token);
+    words(&pages);
+    words(&upper);
+}
 
-const SIZES: [u8; 7] = [0, 1, 7, 8, 9, 64, 255];
-
-// Each kind with the smallest numbers, and with the largest.
-pub fn head_edge(k: u32) {
-    let kind = pick::kind(k / 2);
-    if pick::flag(k) {
-        whole_line(kind, 127, 15, 1024);
-    } else {
-        whole_line(kind, 0, 0, 1);
+// Fresh, and with a next one. A buffer that would end above 2^32 has no descriptor.
+fn descriptor(token: QtdToken, address: u64, length: u64, next: u32) {
+    if length == 0 {
+        thirteen(QueueTransferDescriptor::new(token, address, 0));
+    } else if address <= TOP {
+        if length <= TOP - address {
+            let d = QueueTransferDescriptor::new(token, address, length);
+            thirteen(d.set_next(NextQtd::At(next)));
+        }
     }
 }
 
-fn whole_line(kind: EndpointType, address: u8, number: u8, packet: u16)
-    requires { ⌜ (address ≤ 127) × (number ≤ 15) × (packet ≤ 1024) ⌝ }
-{
-    out::text(b"head_whole");
-    inputs(kind, address, number, packet);
-    out::gives();
-    let words = QueueHead::endpoint(kind, address, number, packet).words();
-    out::words(&words);
-    out::end();
+fn setup(setup: u64, length: u64) {
+    let packet = setup_packet_bytes(setup, length);
+    bytes(&packet);
 }
 
-// The link, the characteristics and the capabilities of an endpoint's head.
-pub fn head_line(kind: EndpointType, address: u8, number: u8, packet: u16)
-    requires { ⌜ (address ≤ 127) × (number ≤ 15) × (packet ≤ 1024) ⌝ }
-{
-    let head = QueueHead::endpoint(kind, address, number, packet);
-    out::text(b"head");
-    inputs(kind, address, number, packet);
-    out::gives();
-    out::word(head.link);
-    out::word(head.characteristics);
-    out::word(head.capabilities);
-    out::end();
+// Each number is in its range: the remainders are for the proof.
+fn opened(kind: EndpointType, address: u64, number: u64, packet: u64) {
+    let a = (address % 128) as u8;
+    let n = (number % 16) as u8;
+    let p = (packet % 1025) as u16;
+    let row = QueueHead::endpoint(kind, a, n, p).words();
+    words(&row);
 }
 
-fn inputs(kind: EndpointType, address: u8, number: u8, packet: u16) {
-    out::kind(kind);
-    out::number(address as u64);
-    out::number(number as u64);
-    out::number(packet as u64);
+// The ring head at an address, the words that lead to a head and to a descriptor there, and nowhere.
+fn ring(address: u32) {
+    let row = QueueHead::async_head(address).words();
+    words(&row);
+    word(head::ehci_qh_link(address));
+    word(NextQtd::At(address).word());
+    word(NextQtd::Terminate.word());
 }
 
 // The order of a head's words: here each word is its own place.
-pub fn order() {
-    let overlay = QueueTransferDescriptor {
-        next: 4,
-        alternate: 5,
-        token: 6,
-        pages: [7, 8, 9, 10, 11],
-        upper: [12, 13, 14, 15, 16],
-    };
-    let head = QueueHead {
+fn order() {
+    let row = QueueHead {
         link: 0,
         characteristics: 1,
         capabilities: 2,
         current: 3,
-        overlay,
-    };
-    let words = head.words();
-    out::text(b"head_order =");
-    out::words(&words);
-    out::end();
+        overlay: QueueTransferDescriptor {
+            next: 4,
+            alternate: 5,
+            token: 6,
+            pages: [7, 8, 9, 10, 11],
+            upper: [12, 13, 14, 15, 16],
+        },
+    }.words();
+    words(&row);
 }
 
-pub fn link_edge(k: u32) {
-    let address = LINKED[(k % 4) as usize];
-    ring_line(address);
-    links_line(address);
+fn tables() {
+    let offsets = ehci::offset_table();
+    words(&offsets);
+    let usbcmd = ehci::usbcmd_table();
+    words(&usbcmd);
+    let usbsts = ehci::usbsts_table();
+    words(&usbsts);
+    let usbintr = ehci::usbintr_table();
+    words(&usbintr);
+    let portsc = EhciPortStatus::table();
+    words(&portsc);
 }
 
-fn ring_line(address: u32) {
-    let words = QueueHead::async_head(address).words();
-    out::text(b"ring_head");
-    out::word(address);
-    out::gives();
-    out::words(&words);
-    out::end();
+fn write(w: Write) {
+    word(w.offset);
+    word(w.value);
 }
 
-// The words that lead to a head at an address, to a descriptor there, and nowhere.
-fn links_line(address: u32) {
-    out::text(b"links");
-    out::word(address);
-    out::gives();
-    out::word(head::ehci_qh_link(address));
-    out::word(NextQtd::At(address).word());
-    out::word(NextQtd::Terminate.word());
-    out::end();
+// The writes of an answer as they grow: the count, and every place.
+fn six(w: Writes) {
+    let all = w.writes;
+    word(w.count);
+    write(all[0]);
+    write(all[1]);
+    write(all[2]);
+    write(all[3]);
+    write(all[4]);
+    write(all[5]);
 }
 
-// Each device address over each background.
-pub fn address_edge(k: u32) {
-    address_line(pick::background(k / 6), DEVICES[(k % 6) as usize]);
+fn grown(value: u32) {
+    let none = Writes::none();
+    let one = none.and_then(ehci::CTRLDSSEGMENT, value);
+    let two = one.and_then(ehci::PERIODICLISTBASE, 0x0030_0000);
+    let three = two.and_then(ehci::ASYNCLISTADDR, 0x0020_0000);
+    let four = three.and_then(ehci::CONFIGFLAG, 1);
+    let five = four.and_then(ehci::USBSTS, 0x3f);
+    six(none);
+    six(three);
+    six(five.and_then(ehci::USBCMD, 0xffff_ffff));
 }
 
-pub fn address_line(characteristics: u32, address: u8) {
-    out::text(b"set_address");
-    out::word(characteristics);
-    out::number(address as u64);
-    out::gives();
-    out::word(head::set_device_address(characteristics, address));
-    out::end();
+fn offset(port: u8) {
+    if 1 <= port {
+        word(ehci::port_offset(port));
+    }
 }
 
-// Each size over each background.
-pub fn size_edge(k: u32) {
-    size_line(pick::background(k / 7), SIZES[(k % 7) as usize]);
-}
-
-pub fn size_line(characteristics: u32, size: u8) {
-    out::text(b"set_packet_size");
-    out::word(characteristics);
-    out::number(size as u64);
-    out::gives();
-    out::word(head::set_max_packet_size(characteristics, size));
-    out::end();
+pub fn head_line(function: u64, a: u64, b: u64, c: u64, d: u64) {
+    match function {
+        10 => descriptor(QtdToken(low_word(a)), b, c, low_word(d)),
+        11 => setup(a, b),
+        12 => opened(kind(a), b, c, d),
+        13 => ring(low_word(a)),
+        14 => word(head::set_device_address(low_word(a), low_byte(b))),
+        15 => word(head::set_max_packet_size(low_word(a), low_byte(b))),
+        16 => offset(low_byte(a)),
+        17 => grown(low_word(a)),
+        18 => tables(),
+        _ => order(),
+    }
 }

@@ -1,23 +1,25 @@
-// The parts of a line, `label inputs = results`, each part but the label after a space.
-// A word or an address is hexadecimal, in lower case and of 8 digits (an address above 32 bits has more), and a byte is
-// hexadecimal of 2 digits; a count, a length or a number is decimal; a flag is 0 or 1.
-use token::qtd::QtdPid;
-use token::request::Direction;
-use token::request::EndpointType;
+// A result is hexadecimal, of 8 digits or more, and has a space after it; a flag is 0 or 1.
+pub const STDOUT: i32 = 1;
 
-const STDOUT: i32 = 1;
-
-pub fn text(bytes: &[u8]) {
-    io::write_all(STDOUT, bytes);
-}
-
-pub fn address(value: u64) {
-    text(b" ");
+pub fn put(value: u64) {
     io::print_hex(STDOUT, value, 8);
+    io::write_all(STDOUT, b" ");
 }
 
 pub fn word(value: u32) {
-    address(value as u64);
+    put(value as u64);
+}
+
+fn byte(value: u8) {
+    put(value as u64);
+}
+
+fn short(value: u16) {
+    put(value as u64);
+}
+
+pub fn flag(set: bool) {
+    put(if set { 1 } else { 0 });
 }
 
 pub fn words(values: &[u32]) {
@@ -26,52 +28,22 @@ pub fn words(values: &[u32]) {
     }
 }
 
-pub fn byte(value: u8) {
-    text(b" ");
-    io::print_hex(STDOUT, value as u64, 2);
-}
-
-pub fn number(value: u64) {
-    text(b" ");
-    io::print_decimal(STDOUT, value);
-}
-
-pub fn flag(set: bool) {
-    if set {
-        number(1);
-    } else {
-        number(0);
+pub fn bytes(values: &[u8]) {
+    for k in 0..values.len() {
+        byte(values[k]);
     }
 }
 
-pub fn pid(pid: QtdPid) {
-    match pid {
-        QtdPid::Out => text(b" out"),
-        QtdPid::In => text(b" in"),
-        QtdPid::Setup => text(b" setup"),
+pub fn shorts(values: &[u16]) {
+    for k in 0..values.len() {
+        short(values[k]);
     }
 }
 
-pub fn direction(direction: Direction) {
-    match direction {
-        Direction::Out => text(b" out"),
-        Direction::In => text(b" in"),
-    }
+pub fn low_word(value: u64) -> u32 {
+    (value % 0x1_0000_0000) as u32
 }
 
-pub fn kind(kind: EndpointType) {
-    match kind {
-        EndpointType::Control => text(b" control"),
-        EndpointType::Isochronous => text(b" isochronous"),
-        EndpointType::Bulk => text(b" bulk"),
-        EndpointType::Interrupt => text(b" interrupt"),
-    }
-}
-
-pub fn gives() {
-    text(b" =");
-}
-
-pub fn end() {
-    text(b"\n");
+pub fn low_byte(value: u64) -> u8 {
+    (value % 256) as u8
 }

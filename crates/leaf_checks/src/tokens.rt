@@ -1,78 +1,118 @@
-// Tokens: made, changed and read.
-use crate::out;
-use crate::pick;
+// Register bits, tokens, plans and chunks, and the port's status.
+ghost use Prim.Native.Nat.{_≤_};
+use crate::out::flag;
+use crate::out::low_byte;
+use crate::out::low_word;
+use crate::out::put;
+use crate::out::shorts;
+use crate::out::word;
+use register::bits;
+use token::chunks;
+use token::plan;
+use token::plan::DataTd;
+use token::port::EhciPortStatus;
 use token::qtd::QtdPid;
 use token::qtd::QtdToken;
+use token::request::Direction;
+use token::request::EndpointType;
 
-const BYTES: [u64; 6] = [0, 1, 32766, 32767, 32768, 0xffff_ffff_ffff_ffff];
-
-const COUNTS: [u8; 6] = [0, 1, 2, 3, 4, 255];
-
-// Each pid with each count of bytes.
-pub fn new_edge(k: u32) {
-    let pid = pick::pid(k / 6);
-    let bytes = BYTES[(k % 6) as usize];
-    out::text(b"new");
-    out::pid(pid);
-    out::number(bytes);
-    out::gives();
-    out::word(QtdToken::new(pid, bytes).raw());
-    out::end();
+fn pid(k: u64) -> QtdPid {
+    match k {
+        0 => QtdPid::Out,
+        1 => QtdPid::In,
+        _ => QtdPid::Setup,
+    }
 }
 
-// Each pid with each setting of the two flags.
-pub fn started_edge(k: u32) {
-    started_line(pick::pid(k / 4), 512, pick::flag(k / 2), pick::flag(k));
+fn direction(k: u64) -> Direction {
+    if k == 0 {
+        Direction::Out
+    } else {
+        Direction::In
+    }
 }
 
-pub fn started_line(pid: QtdPid, bytes: u64, interrupt: bool, toggle: bool) {
-    out::text(b"started");
-    out::pid(pid);
-    out::number(bytes);
-    out::flag(interrupt);
-    out::flag(toggle);
-    out::gives();
-    out::word(QtdToken::started(pid, bytes, interrupt, toggle).raw());
-    out::end();
+pub fn kind(k: u64) -> EndpointType {
+    match k {
+        0 => EndpointType::Control,
+        1 => EndpointType::Isochronous,
+        2 => EndpointType::Bulk,
+        _ => EndpointType::Interrupt,
+    }
 }
 
-// Each count over each background.
-pub fn counter_edge(k: u32) {
-    counter_line(pick::background(k / 6), COUNTS[(k % 6) as usize]);
+fn bits(value: u32, chosen: u32) {
+    word(bits::with_bits(value, chosen));
+    word(bits::without_bits(value, chosen));
+    word(bits::only_bits(value, chosen));
+    flag(bits::any_of(value, chosen));
 }
 
-fn counter_line(raw: u32, count: u8) {
-    out::text(b"error_counter");
-    out::word(raw);
-    out::number(count as u64);
-    out::gives();
-    out::word(QtdToken(raw).with_error_counter(count).raw());
-    out::end();
+fn made(pid: QtdPid, bytes: u64, interrupt: bool, toggle: bool) {
+    word(QtdToken::new(pid, bytes).raw());
+    word(QtdToken::started(pid, bytes, interrupt, toggle).raw());
 }
 
-// The three flags, all set or all clear, each over the same background.
-pub fn flags_edge(k: u32) {
-    let raw = pick::background(k / 2);
-    let set = pick::flag(k);
-    out::text(b"flags");
-    out::word(raw);
-    out::flag(set);
-    out::gives();
-    out::word(QtdToken(raw).with_active(set).raw());
-    out::word(QtdToken(raw).with_interrupt_on_complete(set).raw());
-    out::word(QtdToken(raw).with_data_toggle(set).raw());
-    out::end();
+fn changed(token: QtdToken, count: u8, set: bool) {
+    word(token.with_error_counter(count).raw());
+    word(token.with_active(set).raw());
+    word(token.with_interrupt_on_complete(set).raw());
+    word(token.with_data_toggle(set).raw());
 }
 
-// What is read of a token with a single bit: the bytes, active, error.
-pub fn bit_edge(k: u32) {
-    let raw = 1 << (k % 32);
-    let token = QtdToken(raw);
-    out::text(b"read");
-    out::word(raw);
-    out::gives();
-    out::number(token.total_bytes() as u64);
-    out::flag(token.active());
-    out::flag(token.has_error());
-    out::end();
+fn read(token: QtdToken) {
+    word(token.total_bytes());
+    flag(token.active());
+    flag(token.has_error());
+}
+
+// Nothing is printed of a data stage that is absent.
+fn control(direction: Direction, length: u64) {
+    let plan = plan::build_control_td_plan(direction, length);
+    let stage = plan.data;
+    word(plan.setup.raw());
+    match stage {
+        DataTd::Absent => {}
+        DataTd::Present(token) => word(token.raw()),
+    }
+    word(plan.status.raw());
+}
+
+// Every place of the list, also those after its last chunk.
+fn list(length: u64, limit: u64)
+    requires { ⌜ (1 ≤ limit) × (limit ≤ 16384) ⌝ }
+{
+    let run = chunks::split_bulk_lengths(length, limit);
+    let lengths = run.lengths;
+    flag(run.fits);
+    put(run.count);
+    shorts(&lengths);
+}
+
+// Each limit passes: the remainder is for the proof.
+fn chunked(kind: EndpointType, length: u64, limit: u64) {
+    let whole = limit % 16384 + 1;
+    put(chunks::need(kind, length, whole));
+    put(chunks::chunk_count(length, whole));
+    list(length, whole);
+}
+
+fn port(raw: u32) {
+    let status = EhciPortStatus::from_raw(raw);
+    flag(status.connected());
+    flag(status.enabled());
+    flag(status.is_high_speed_device_ready());
+}
+
+pub fn token_line(function: u64, a: u64, b: u64, c: u64, d: u64) {
+    match function {
+        1 => bits(low_word(a), low_word(b)),
+        2 => made(pid(a), b, c == 1, d == 1),
+        3 => changed(QtdToken(low_word(a)), low_byte(b), c == 1),
+        4 => read(QtdToken(low_word(a))),
+        5 => control(direction(a), b),
+        6 => word(plan::chunk_token(direction(a), b, c == 1).raw()),
+        7 => chunked(kind(a), b, c),
+        _ => port(low_word(a)),
+    }
 }

@@ -52,7 +52,7 @@ none-leaves s k frame old new eh ef =
     rw (eh, ef, stays-in (isIn (k + 1) (ringWalk s old)), stays-in (isIn (k + 1) (frameWalk s old 0)))
 
 -- what a passing collect answers is a collection
-outcome-collected : (b : Bool) (v : View) → isCollected (collectedAnswer (outcomeOf b v)) ≡ true
+pub outcome-collected : (b : Bool) (v : View) → isCollected (collectedAnswer (outcomeOf b v)) ≡ true
 unfolding outcomeOf
 outcome-collected true v = refl
 outcome-collected false v = by (eqb (v .failed) 0) refl

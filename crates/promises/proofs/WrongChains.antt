@@ -29,9 +29,10 @@ use Rattle.ehci.specs.declared.reply.Given.the-variants.{Id, Nothing}
 use Rattle.ehci.specs.Door.{Applied, applied}
 use Rattle.promises.specs.Runs.{History, Machine, Opening, Rows, World, historyOf, worldOf, worldOpened}
 use Rattle.promises.specs.Walks.{frameWalk, ringWalk, walkFrom}
+use Rattle.promises.specs.Events.{Unlinks, event}
 use Rattle.promises.specs.Uses.{frameSlots, ringSlots, uses}
 use Rattle.promises.specs.Bells.{isUnlinks}
-use Rattle.promises.specs.Chains.{ChainsWalked, NoDetachFails, headPlaces}
+use Rattle.promises.specs.Chains.{ChainsWalked, NoDetachFails, headPlaces, turnBy}
 use Rattle.promises.proofs.Reached.{freshRows, freshWorld}
 
 -- three slots
@@ -161,12 +162,13 @@ now m cs = worldOf m (freshWorld three) cs .rows
 abbrev past : Machine → List Call → History
 past m cs = historyOf m (freshWorld three) cs
 
--- on these calls the right machine's walks are as told
+-- on these calls the right machine's walks are as told, and a cancel is seen
 plain-right : (ringWalk three (now plain two) ≡ headPlaces (ringSlots three (past plain two)) ++ 0 ∷ [])
     × (ringWalk three (now plain cancelled) ≡ headPlaces (ringSlots three (past plain cancelled)) ++ 0 ∷ [])
     × (frameWalk three (now plain waiting) 1 ≡ headPlaces (frameSlots three (past plain waiting)))
+    × (event three (turnBy plain (worldOf plain (freshWorld three) two) (Cancel 1 1 reading)) ≡ Unlinks 1)
 unfolding ringWalk frameWalk walkFrom worldOf historyOf ringSlots frameSlots attachedRing openedHeads ringHead terminated
-plain-right = (refl, refl, refl)
+plain-right = (refl, refl, refl, refl)
 
 pub appends-wrong : ChainsWalked appends → ⊥
 unfolding ringWalk walkFrom worldOf historyOf ringSlots attachedRing openedHeads ringHead terminated

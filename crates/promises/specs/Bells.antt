@@ -6,9 +6,14 @@ use mathlib.Core.Path.{_≡_}
 use lib.Dec.{eqb}
 use Rattle.settings.specs.Tests.{both, either}
 use Rattle.settings.specs.declared.settings.Settings.{Settings}
-use Rattle.pipe.specs.Endpoints.{flagNumber}
+use Rattle.token.specs.declared.request.EndpointType.{EndpointType}
+use Rattle.token.specs.declared.request.EndpointType.the-variants.{Control}
+use Rattle.pipe.specs.Endpoints.{flagNumber, pickKind}
+use Rattle.ehci.specs.declared.call.Call.{Call}
+use Rattle.ehci.specs.declared.call.Call.the-variants.{StartBringUp, BringUpStep, AllocateAddress, OpenEndpoint, Close, SetAddress, SetPacketSize, Submit, Writeback, Cancel, Collect, Acknowledge, Drain, Rearm, Enable, Disable}
+use Rattle.ehci.specs.declared.reply.Answered.{Answered as Answer}
 use Rattle.promises.specs.Runs.{History, Turn}
-use Rattle.promises.specs.Events.{Event, Other, Reads, Drains, Submits, Unlinks, Parts, Collects, event, rings}
+use Rattle.promises.specs.Events.{Event, Other, Reads, Drains, Submits, Unlinks, Parts, Collects, event, isDone, rings}
 
 -- ---- what a turn does
 
@@ -66,6 +71,15 @@ isCollectsOf k (Unlinks j) = false
 isCollectsOf k (Parts j frame) = false
 isCollectsOf k (Collects j id frame) = eqb j k
 
+abbrev pub isPartsOf : ℕ → Event → Bool
+isPartsOf k Other = false
+isPartsOf k Reads = false
+isPartsOf k Drains = false
+isPartsOf k (Submits j id r) = false
+isPartsOf k (Unlinks j) = false
+isPartsOf k (Parts j frame) = eqb j k
+isPartsOf k (Collects j id frame) = false
+
 module _ (s : Settings) where
   abbrev pub reads : Turn → Bool
   reads t = isReads (event s t)
@@ -79,11 +93,18 @@ module _ (s : Settings) where
   abbrev pub unlinksOf : ℕ → Turn → Bool
   unlinksOf k t = isUnlinksOf k (event s t)
 
+  abbrev pub partsOf : ℕ → Turn → Bool
+  partsOf k t = isPartsOf k (event s t)
+
   abbrev pub submits : ℕ → Turn → Bool
   submits k t = isSubmitsOf k (event s t)
 
   abbrev pub collects : ℕ → Turn → Bool
   collects k t = isCollectsOf k (event s t)
+
+  -- k's request is another from here on, or none
+  abbrev pub renews : ℕ → Turn → Bool
+  renews k t = either (submits k t) (collects k t)
 
 -- no turn of the list does it; a turn of the list does it
 abbrev pub none : (Turn → Bool) → History → Type 0
@@ -93,22 +114,6 @@ none p (t ∷ h) = (p t ≡ false) × none p h
 abbrev pub someTurn : (Turn → Bool) → History → Bool
 someTurn p [] = false
 someTurn p (t ∷ h) = either (p t) (someTurn p h)
-
--- ---- the boundary of a control or bulk request
-
--- the past of a collection of k, newest first, is since ++ ack ∷ between ++ ring ∷ before: `ring` rings; `ack` is the first
--- after it that reads the advance bit; and k's last unlink is the ringing turn itself, or before it
-pub record Boundary (s : Settings) (k : ℕ) (past : History) : Type 0 where
-  pub since : History
-  pub ack : Turn
-  pub between : History
-  pub ring : Turn
-  pub before : History
-  pub picture : past ≡ since ++ ack ∷ between ++ ring ∷ before
-  pub rung : rings ring ≡ true
-  pub read : reads s ack ≡ true
-  pub first : none (reads s) between
-  pub unlinked-by-then : none (unlinksOf s k) (since ++ ack ∷ between)
 
 -- ---- the doorbell
 
@@ -161,13 +166,38 @@ unfoldable pub number : Settings → ℕ → History → ℕ
 number s k [] = 0
 number s k (t ∷ past) = cond (unlinksOf s k t) (asked s past + 1) (number s k past)
 
--- k's head left the ring, and its request has not been collected since
+-- ---- a slot's request
+
+-- its kind: that of the last one that was accepted
+abbrev pub kindAfter : ℕ → Event → EndpointType → EndpointType
+kindAfter k Other old = old
+kindAfter k Reads old = old
+kindAfter k Drains old = old
+kindAfter k (Submits j id r) old = pickKind (eqb j k) (r .kind) old
+kindAfter k (Unlinks j) old = old
+kindAfter k (Parts j frame) old = old
+kindAfter k (Collects j id frame) old = old
+
+unfoldable pub kindAt : Settings → ℕ → History → EndpointType
+kindAt s k [] = Control
+kindAt s k (t ∷ past) = kindAfter k (event s t) (kindAt s k past)
+
+-- it was accepted, and its head has left no schedule since
+unfoldable pub linked : Settings → ℕ → History → Bool
+linked s k [] = false
+linked s k (t ∷ past) = cond (submits s k t) true (cond (either (unlinksOf s k t) (partsOf s k t)) false (linked s k past))
+
+-- its head left the ring, and it has not been collected since
 unfoldable pub unlinking : Settings → ℕ → History → Bool
 unlinking s k [] = false
-unlinking s k (t ∷ past) = cond (unlinksOf s k t) true (cond (collects s k t) false (unlinking s k past))
+unlinking s k (t ∷ past) = cond (unlinksOf s k t) true (cond (renews s k t) false (unlinking s k past))
 
--- ---- the boundary of an interrupt request: FRINDEX at which k's head left the frame list
+-- the same of the frame list
+unfoldable pub parting : Settings → ℕ → History → Bool
+parting s k [] = false
+parting s k (t ∷ past) = cond (partsOf s k t) true (cond (renews s k t) false (parting s k past))
 
+-- the FRINDEX at which k's head last left the frame list
 abbrev pub partedAt : ℕ → Event → ℕ → ℕ
 partedAt k Other old = old
 partedAt k Reads old = old
@@ -180,3 +210,43 @@ partedAt k (Collects j id frame) old = old
 unfoldable pub parted : Settings → ℕ → History → ℕ
 parted s k [] = 0
 parted s k (t ∷ past) = partedAt k (event s t) (parted s k past)
+
+-- a cancel of it was accepted
+abbrev pub cancelsBy : ℕ → Call → Answer → Bool
+cancelsBy k StartBringUp a = false
+cancelsBy k (BringUpStep w) a = false
+cancelsBy k AllocateAddress a = false
+cancelsBy k (OpenEndpoint x) a = false
+cancelsBy k (Close j) a = false
+cancelsBy k (SetAddress j address) a = false
+cancelsBy k (SetPacketSize j size) a = false
+cancelsBy k (Submit j r readings) a = false
+cancelsBy k (Writeback place token) a = false
+cancelsBy k (Cancel j id readings) a = both (eqb j k) (isDone a)
+cancelsBy k (Collect j id readings) a = false
+cancelsBy k (Acknowledge x) a = false
+cancelsBy k (Drain w) a = false
+cancelsBy k Rearm a = false
+cancelsBy k Enable a = false
+cancelsBy k Disable a = false
+
+unfoldable pub cancelled : Settings → ℕ → History → Bool
+cancelled s k [] = false
+cancelled s k (t ∷ past) =
+    cond (cancelsBy k (t .call) (t .answer)) true (cond (renews s k t) false (cancelled s k past))
+
+-- ---- the boundary of a control or bulk request
+
+-- the past of a collection of k, newest first, is since ++ ack ∷ between ++ ring ∷ before: `ring` rings; `ack` is the first
+-- after it that reads the advance bit; and k's last unlink is the ringing turn itself, or before it
+pub record Boundary (s : Settings) (k : ℕ) (past : History) : Type 0 where
+  pub since : History
+  pub ack : Turn
+  pub between : History
+  pub ring : Turn
+  pub before : History
+  pub picture : past ≡ since ++ ack ∷ between ++ ring ∷ before
+  pub rung : rings ring ≡ true
+  pub read : reads s ack ≡ true
+  pub first : none (reads s) between
+  pub unlinked-by-then : none (unlinksOf s k) (since ++ ack ∷ between)

@@ -1,10 +1,13 @@
 -- Chains, over any calls: the controller meets exactly the linked heads of each schedule, newest first, and no detach fails. Statements
 -- of any machine; that each request's overlay leads through its descriptors is `ChainsLead`.
 use Prim.Native.Nat.{ℕ, _+_, _<_}
-use mathlib.Core.Bool.{Bool, true, cond}
+use mathlib.Core.Bool.{Bool, true, false, cond}
 use mathlib.Core.List.{List, [], _∷_, _++_, map}
 use mathlib.Core.Path.{_≡_}
 use lib.Dec.{eqb}
+use lib.ListN.{getD}
+use Rattle.descriptor.specs.declared.qtd.QueueTransferDescriptor.{QueueTransferDescriptor}
+use Rattle.pool.specs.Chains.{blank, isActive, isErring}
 use Rattle.settings.specs.Tests.{either}
 use Rattle.settings.specs.declared.settings.Settings.{Settings}
 use Rattle.controller.specs.declared.lent.Readings.{Readings}
@@ -52,15 +55,26 @@ ChainsWalked m = Always Walked m
 abbrev pub turnBy : Machine → World → Call → Turn
 turnBy m w c = turnOf (w .rows) c (m w c)
 
--- a cancel of an uncollected request is done, and its head leaves the schedule that it is in; a collect of it while it is linked, which
--- unlinks it if it is finished, answers 9
+-- "if, in order, every descriptor is inactive, or an error comes before any active one"
+abbrev pub isFinished : List QueueTransferDescriptor → List ℕ → Bool
+isFinished pool [] = true
+isFinished pool (p ∷ ps) =
+    cond (isActive (getD pool p blank .token)) false (cond (isErring (getD pool p blank .token)) true (isFinished pool ps))
+
+-- a cancel of an uncollected request is done, and its head leaves the schedule that it is in; a collect of it while it is linked answers
+-- 9, and its head leaves if it is finished
 pub record Detaches (m : Machine) (s : Settings) (h : History) (w : World) (u : Use) : Type 0 where
   pub cancels : (readings : Readings) → numberAt m w (Cancel (u .slot) (u .id) readings) ≡ 0
+  pub waits : (readings : Readings) → isLinked s h (u .slot) ≡ true → numberAt m w (Collect (u .slot) (u .id) readings) ≡ 9
   pub leaves-ring : (readings : Readings) → isIn (u .slot) (ringSlots s h) ≡ true
       → event s (turnBy m w (Cancel (u .slot) (u .id) readings)) ≡ Unlinks (u .slot)
   pub leaves-frames : (readings : Readings) → isIn (u .slot) (frameSlots s h) ≡ true
       → event s (turnBy m w (Cancel (u .slot) (u .id) readings)) ≡ Parts (u .slot) (readings .frame)
-  pub waits : (readings : Readings) → isLinked s h (u .slot) ≡ true → numberAt m w (Collect (u .slot) (u .id) readings) ≡ 9
+  pub ends-ring : (readings : Readings) → isIn (u .slot) (ringSlots s h) ≡ true
+      → event s (turnBy m w (Collect (u .slot) (u .id) readings)) ≡ cond (isFinished (w .rows .pool) (u .places)) (Unlinks (u .slot)) Other
+  pub ends-frames : (readings : Readings) → isIn (u .slot) (frameSlots s h) ≡ true
+      → event s (turnBy m w (Collect (u .slot) (u .id) readings))
+      ≡ cond (isFinished (w .rows .pool) (u .places)) (Parts (u .slot) (readings .frame)) Other
 
 abbrev pub NoDetachFails : Machine → Type 0
 NoDetachFails m = Always (λ s h w. Every (Detaches m s h w) (uses s h)) m

@@ -9,3 +9,5 @@ pub mod Ranges
 pub mod Rooms
 pub mod Coverage
 pub mod Chains
+pub mod Boundaries
+pub mod Faults

@@ -4,3 +4,4 @@ pub mod Ranges
 pub mod Calls
 pub mod Runs
 pub mod Examples
+pub mod Refusals

@@ -5,18 +5,11 @@ const STDIN: i32 = 0;
 
 const STDOUT: i32 = 1;
 
-// What was printed is no longer than the row that it stands in.
-fn send(out: &[u8], end: usize) {
-    if end <= out.len() {
-        io::write_all(STDOUT, &out[..end]);
-    }
-}
-
 fn main() {
     // One byte more than the longest sheet: what is longer still is long.
     let mut sheet = [0u8; 1333];
     let mut out = [0u8; 131072];
     let n = io::read_full(STDIN, &mut sheet);
     let end = print_sheet(&sheet[..n], &mut out);
-    send(&out, end);
+    io::write_all(STDOUT, &out[..end]);
 }

@@ -1,3 +1,5 @@
 pub mod Puts
 pub mod TextLaws
 pub mod DigitCases
+pub mod LineLaws
+pub mod NumberLaws

@@ -1,24 +1,19 @@
 -- Bytes put after bytes are one put of both.
-use Prim.Native.Nat.{ℕ, zero, suc, _+_, _-_, _≤_, _<_}
+use Prim.Native.Nat.{ℕ, _+_, _-_, _≤_, _<_}
 use mathlib.Core.Path.{_≡_, refl, sym, ap, _∙_}
 use mathlib.Core.List.{List, [], _∷_, _++_, append-assoc, append-nil}
 use native.Mathlib.Numerals.{add-one}
 use native.Mathlib.Omega.{arith}
-use lib.ListN.{drop, length, length-append, length-drop, set, take}
+use lib.ListN.{drop, length, length-append, length-drop, set, take, take-append-drop}
 use lib.Seq.{drop-at, drop-drop, length-take-le, set-split, take-at}
 use Rattle.opening.specs.Rows.{putAt}
 
 -- nothing put changes nothing
-take-drop : (n : ℕ) (o : List ℕ) → take n o ++ drop n o ≡ o
-take-drop zero o = refl
-take-drop (suc n) [] = refl
-take-drop (suc n) (x ∷ o) = ap (λ (l : List ℕ). x ∷ l) (take-drop n o)
-
 pub put-none : (o : List ℕ) (at : ℕ) → o ≡ putAt o at []
 unfolding putAt
 put-none o at =
     let none : at + 0 ≡ at = omega arith in
-    sym (rw none (take-drop at o))
+    sym (rw none (take-append-drop at o))
 
 pub put-one : (o : List ℕ) (at x : ℕ) → at < length o → set o at x ≡ putAt o at (x ∷ [])
 unfolding putAt

@@ -1,2 +1,3 @@
-// Text: numbers as digits, over the bytes from a place on.
+// Text: numbers as digits, over the bytes from a place on; little-endian numbers among bytes.
 pub mod digits;
+pub mod number;

@@ -1,5 +1,6 @@
 use native.Mathlib.Omega.{arith}
 use Rattle.call_log.proofs.BlockLaws.{rest-put, state-most, writes-most}
+use Rattle.call_log.proofs.Known.{writes-length}
 use borrow.Author.Needs.{needs}
 use Rattle.call_log.proofs.block.put_rest.Statement.{statement}
 use Rattle.call_log.proofs.block.put_rest.Tie as tie
@@ -11,14 +12,14 @@ put-writes-requires : tie.Need-put-writes-requires
 put-writes-requires c κs =
     let a = c .before .before .before .before .before .before .args in
     let p = c .before .before .before .put-state in
-    (c .before .before .before .before .before .before .pre .0, omega (arith, c .before .before .before .before .before .before .pre .1, p .ensures .1, p .kept .0, state-most (a .opened) (a .s)))
+    omega (arith, c .before .before .before .before .before .before .pre, p .ensures .1, p .kept .0, state-most (a .opened) (a .s))
 
 put-end-requires : tie.Need-put-end-requires
 put-end-requires c κs =
     let a = c .before .before .before .before .before .before .before .before .before .before .args in
     let p = c .before .before .before .before .before .before .before .put-state in
     let q = c .before .before .before .put-writes in
-    omega (arith, c .before .before .before .before .before .before .before .before .before .before .pre .1, p .ensures .1, p .kept .0, q .ensures .1, q .kept .0, state-most (a .opened) (a .s), writes-most (a .writes) (c .before .before .before .before .before .before .before .before .before .before .pre .0))
+    omega (arith, c .before .before .before .before .before .before .before .before .before .before .pre, p .ensures .1, p .kept .0, q .ensures .1, q .kept .0, state-most (a .opened) (a .s), writes-most (a .writes) (writes-length (a .writes) (c .before .before .before .before .before .before .before .before .before .before .good .1 .1 .1 .1 .0)))
 
 same-length : tie.Need-same-length
 same-length c = search needs
@@ -30,7 +31,7 @@ returns c =
     let q = c .before .before .before .before .before .before .put-writes in
     let t = c .before .before .put-end in
     rest-put (a .out .now) (p .last .0) (q .last .0) (t .last .0) (a .at) (p .result) (q .result) (t .result) (a .opened) (a .s) (a .writes)
-    (omega (arith, c .before .before .before .before .before .before .before .before .before .before .before .before .before .pre .1)) (p .ensures .0) (p .ensures .1) (q .ensures .0) (q .ensures .1) (t .ensures .0) (t .ensures .1)
+    (omega (arith, c .before .before .before .before .before .before .before .before .before .before .before .before .before .pre)) (p .ensures .0) (p .ensures .1) (q .ensures .0) (q .ensures .1) (t .ensures .0) (t .ensures .1)
 
 pub put-rest-spec : {M : Type 1} → statement M
 put-rest-spec =

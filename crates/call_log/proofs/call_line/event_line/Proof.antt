@@ -1,4 +1,3 @@
-use native.Mathlib.Omega.{arith}
 use mathlib.Core.Path.{refl}
 use Rattle.call_log.specs.CallLine.{callLine}
 use Rattle.call_log.specs.Lines.{lineBytes, partsBytes, lineOf}
@@ -23,7 +22,7 @@ array-set-from-cells-5 c = search needs
 
 returns : tie.Need-returns
 unfolding lineBytes partsBytes lineOf callLine
-returns c = (omega arith, refl)
+returns c = refl
 
 pub event-line-spec : {M : Type 1} → statement M
 event-line-spec =

@@ -111,7 +111,7 @@ returns-9 : tie.Need-returns-9
 unfolding stepLine
 returns-9 c =
     let s = c .step-line in
-    rw (c .before .before .before .given6 .given .1) (s .ensures .0, s .ensures .1 ∙ step-said _ _ _ 0 0 (c .before .before .before .given6 .given .0 .0) _ (c .before .register-part .ensures))
+    rw (c .before .before .before .given6 .given .1) (s .ensures ∙ step-said _ _ _ 0 0 (c .before .before .before .given6 .given .0 .0) _ (c .before .register-part .ensures))
 
 pub given-line-spec : {M : Type 1} → statement M
 given-line-spec =

@@ -1,4 +1,3 @@
-use native.Mathlib.Omega.{arith}
 use mathlib.Core.Path.{refl}
 use Rattle.call_log.specs.Lines.{lineBytes, partsBytes, saidLine}
 use borrow.Author.Needs.{needs}
@@ -19,7 +18,7 @@ array-set-from-cells-4 c = search needs
 
 returns : tie.Need-returns
 unfolding lineBytes partsBytes saidLine
-returns c = (omega arith, refl)
+returns c = refl
 
 pub line-with-spec : {M : Type 1} → statement M
 line-with-spec =

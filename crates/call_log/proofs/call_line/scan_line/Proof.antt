@@ -32,7 +32,7 @@ returns : tie.Need-returns
 returns c =
     let s = c .step-line in
     rw (c .before .before .before .before .enum-told .given .1, ← c .before .before .port-event-number .ensures, ← c .before .port .ensures)
-    (s .ensures .0, s .ensures .1 ∙ step-said _ _ _ _ _ _ _ (c .before .before .before .register-part .ensures))
+    (s .ensures ∙ step-said _ _ _ _ _ _ _ (c .before .before .before .register-part .ensures))
 
 returns-2 : tie.Need-returns-2
 returns-2 c = rw (c .before .before .before .answer .given .1, ← c .before .number .ensures) (c .bare-line .ensures)

@@ -1,4 +1,3 @@
-use native.Mathlib.Omega.{arith}
 use mathlib.Core.Path.{refl}
 use Rattle.call_log.specs.Lines.{lineBytes, partsBytes, saidLine}
 use borrow.Author.Needs.{needs}
@@ -28,7 +27,7 @@ array-set-from-cells-7 c = search needs
 
 returns : tie.Need-returns
 unfolding lineBytes partsBytes saidLine
-returns c = (omega arith, refl)
+returns c = refl
 
 pub step-line-spec : {M : Type 1} → statement M
 step-line-spec =

@@ -1,5 +1,6 @@
 use Rattle.opening.specs.Rows.{putAt}
-use Rattle.call_log.specs.Changes.{upTo}
+use Rattle.text.specs.Text.{linesTo}
+use Rattle.text.proofs.LineLaws.{lines-most, lines-none, lines-turn}
 use Prim.Native.Nat.{ℕ, _+_, _-_, _*_, _≤_}
 use mathlib.Core.List.{List}
 use mathlib.Core.Path.{_≡_, refl, _∙_}
@@ -7,7 +8,7 @@ use native.Mathlib.Omega.{arith}
 use borrow.Author.Needs.{needs}
 use lib.ListN.{getD, length}
 use Rattle.call_log.specs.Changes.{firstOf, frameChange}
-use Rattle.call_log.proofs.ChangeCases.{first-turn, first-zero, frame-most, frame-said, up-most, up-none, up-turn}
+use Rattle.call_log.proofs.ChangeCases.{first-turn, first-zero, frame-most, frame-said}
 use Rattle.call_log.proofs.frames.put_frames.Statement.{statement}
 use Rattle.call_log.proofs.frames.put_frames.Tie as tie
 
@@ -16,8 +17,8 @@ said-of before after = frameChange before after
 
 abbrev Inv-loop : tie.InvT-loop
 Inv-loop out₀ at before after place₀ first₀ i₀ out place first i =
-    (i ≤ length after) × (length out ≡ length out₀) × (out ≡ putAt out₀ at (upTo (said-of before after) i))
-    × (place ≡ at + length (upTo (said-of before after) i)) × (first ≡ firstOf before after i)
+    (i ≤ length after) × (length out ≡ length out₀) × (out ≡ putAt out₀ at (linesTo (said-of before after) i))
+    × (place ≡ at + length (linesTo (said-of before after) i)) × (first ≡ firstOf before after i)
 
 abbrev μ-loop : tie.MeasureT-loop
 μ-loop out₀ at before after place₀ first₀ i₀ out place first i = length after - i
@@ -25,7 +26,7 @@ abbrev μ-loop : tie.MeasureT-loop
 loop-holds : tie.Need-loop-holds Inv-loop μ-loop
 loop-holds c =
     let a = c .before .before .before .args in
-    let none = up-none (said-of (a .before .now) (a .after .now)) (a .out .now) (a .at) in
+    let none = lines-none (said-of (a .before .now) (a .after .now)) (a .out .now) (a .at) in
     (omega arith, refl, none .0, none .1, first-zero (a .before .now) (a .after .now))
 
 goes-on-requires : tie.Need-goes-on-requires Inv-loop μ-loop
@@ -41,7 +42,7 @@ shared-slice-read-put-frame : tie.Need-shared-slice-read-put-frame Inv-loop μ-l
 shared-slice-read-put-frame c = omega arith
 
 put-frame-requires : tie.Need-put-frame-requires Inv-loop μ-loop
-put-frame-requires c κs = omega (arith, up-most (said-of (c .before .before .before .before .before .before .before .before .before .args .before .now) (c .before .before .before .before .before .before .before .before .before .args .after .now)) 53 (frame-most (c .before .before .before .before .before .before .before .before .before .args .before .now) (c .before .before .before .before .before .before .before .before .before .args .after .now)) (c .before .before .before .before .before .loop .i), c .before .before .before .before .before .loop .inv .1, c .before .before .before .before .before .loop .inv .3, c .before .before .before .before .before .before .before .before .before .pre)
+put-frame-requires c κs = omega (arith, lines-most (said-of (c .before .before .before .before .before .before .before .before .before .args .before .now) (c .before .before .before .before .before .before .before .before .before .args .after .now)) 53 (frame-most (c .before .before .before .before .before .before .before .before .before .args .before .now) (c .before .before .before .before .before .before .before .before .before .args .after .now)) (c .before .before .before .before .before .loop .i), c .before .before .before .before .before .loop .inv .1, c .before .before .before .before .before .loop .inv .3, c .before .before .before .before .before .before .before .before .before .pre)
 
 next-first-requires : tie.Need-next-first-requires Inv-loop μ-loop
 next-first-requires c κs = omega (arith, c .before .before .before .before .before .before .before .before .before .before .before .before .pre .1)
@@ -62,7 +63,7 @@ loop-again c =
     let o = c .before .before .before .before .before .before .before .goes-on in
     let e = c .before .before .before .before .before .before .run-ends in
     let said = frame-said b d (l .i) (l .first) (o .result) (o .ensures) (l .inv .4) (e .result) (e .ensures) in
-    let turned = up-turn (said-of b d) (a .out .now) (l .out) (p .last .0) (a .at) (l .place) (p .result) (l .i) (omega (arith, c .before .before .before .before .before .before .before .before .before .before .before .before .before .pre)) (l .inv .2)
+    let turned = lines-turn (said-of b d) (a .out .now) (l .out) (p .last .0) (a .at) (l .place) (p .result) (l .i) (omega (arith, c .before .before .before .before .before .before .before .before .before .before .before .before .before .pre)) (l .inv .2)
     (l .inv .3) (p .ensures .0 ∙ rw said) (p .ensures .1 ∙ rw said) in (
       omega arith,
       p .kept .0 ∙ l .inv .1,

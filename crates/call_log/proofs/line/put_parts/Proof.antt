@@ -45,7 +45,7 @@ loop-again c =
     let p = c .before .before .put-part in
     let whole : length (a .t3) ≡ 14 = c .before .before .before .before .before .before .before .before .good .1 .1 .0 .1 .0 .1 in
     let turned = parts-turn (a .out .now) (l .out) (p .last .0) (a .at) (l .place) (p .result) (l .i) (a .t3) _ (omega arith) (omega arith) (l .inv .3) (l .inv .4) (p .ensures .0) (p .ensures .1) in
-    (omega arith, p .kept .0 ∙ l .inv .1, omega (arith, turned .1, parts-most (l .i + 1) (a .t3)), turned .0, turned .1)
+    (omega arith, p .kept .0 ∙ l .inv .1, omega (arith, turned .1, parts-most (l .i + 1) (a .t3) (l .i + 1) (omega arith)), turned .0, turned .1)
 
 same-length : tie.Need-same-length Inv-loop μ-loop
 same-length c = c .before .loop .inv .1

@@ -1,4 +1,3 @@
-use native.Mathlib.Omega.{arith}
 use mathlib.Core.Path.{refl}
 use Rattle.call_log.specs.Lines.{lineBytes, partsBytes, saidLine}
 use borrow.Author.Needs.{needs}
@@ -16,7 +15,7 @@ array-set-from-cells-3 c = search needs
 
 returns : tie.Need-returns
 unfolding lineBytes partsBytes saidLine
-returns c = (omega arith, refl)
+returns c = refl
 
 pub line-of-three-spec : {M : Type 1} → statement M
 line-of-three-spec =

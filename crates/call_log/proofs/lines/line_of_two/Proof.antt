@@ -1,4 +1,3 @@
-use native.Mathlib.Omega.{arith}
 use mathlib.Core.Path.{refl}
 use Rattle.call_log.specs.Lines.{lineBytes, partsBytes, saidLine}
 use borrow.Author.Needs.{needs}
@@ -13,7 +12,7 @@ array-set-from-cells-2 c = search needs
 
 returns : tie.Need-returns
 unfolding lineBytes partsBytes saidLine
-returns c = (omega arith, refl)
+returns c = refl
 
 pub line-of-two-spec : {M : Type 1} → statement M
 line-of-two-spec = tie.close (tie.spec array-set-from-cells array-set-from-cells-2 returns)

@@ -1,4 +1,3 @@
-use native.Mathlib.Omega.{arith}
 use mathlib.Core.Path.{refl}
 use Rattle.call_log.specs.Lines.{lineBytes, partsBytes, lineOf, recordLine}
 use borrow.Author.Needs.{needs}
@@ -79,7 +78,7 @@ array-set-from-cells-14 c = search needs
 
 returns : tie.Need-returns
 unfolding lineBytes partsBytes lineOf recordLine
-returns c = (omega arith, refl)
+returns c = refl
 
 pub record-line-spec : {M : Type 1} → statement M
 record-line-spec =

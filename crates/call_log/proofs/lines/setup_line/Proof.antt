@@ -1,4 +1,3 @@
-use native.Mathlib.Omega.{arith}
 use mathlib.Core.Path.{refl}
 use Rattle.call_log.specs.Lines.{lineBytes, lineOf, partsBytes, setupLine}
 use Rattle.text.specs.Text.{hex}
@@ -35,7 +34,7 @@ array-set-from-cells-9 c = search needs
 
 returns : tie.Need-returns
 unfolding lineBytes partsBytes lineOf setupLine hex
-returns c = (omega arith, refl)
+returns c = refl
 
 pub setup-line-spec : {M : Type 1} → statement M
 setup-line-spec =

@@ -1,4 +1,3 @@
-use native.Mathlib.Omega.{arith}
 use mathlib.Core.Path.{refl, ap, _∙_}
 use Rattle.call_log.specs.Lines.{lineBytes, partsBytes, lineOf, shownLine}
 use borrow.Author.Needs.{needs}
@@ -55,7 +54,7 @@ array-set-from-cells-9 c = search needs
 
 returns : tie.Need-returns
 unfolding lineBytes partsBytes lineOf shownLine
-returns c = (omega arith, refl)
+returns c = refl
 
 pub shown-line-spec : {M : Type 1} → statement M
 shown-line-spec =

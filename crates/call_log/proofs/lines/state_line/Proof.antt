@@ -12,7 +12,7 @@ shown-line-requires : tie.Need-shown-line-requires
 shown-line-requires c κs = search needs
 
 returns : tie.Need-returns
-returns c = (c .shown-line .ensures .0, c .shown-line .ensures .1 ∙ ap shownLine (c .before .shown .ensures))
+returns c = c .shown-line .ensures ∙ ap shownLine (c .before .shown .ensures)
 
 pub state-line-spec : {M : Type 1} → statement M
 state-line-spec = tie.close (tie.spec shown-requires shown-line-requires returns)

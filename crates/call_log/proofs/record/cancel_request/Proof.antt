@@ -17,7 +17,7 @@ guard-requires c κs = search needs
 
 returns : tie.Need-returns
 unfolding cancel
-returns c = cc
+returns c = rw (← c .before .before .before .spare .ensures, ← c .before .before .before .before .before .low-word .ensures, ← c .before .before .before .before .low-word2 .ensures) (c .guard .ensures)
 
 pub cancel-request-spec : {M : Type 1} → statement M
 cancel-request-spec =

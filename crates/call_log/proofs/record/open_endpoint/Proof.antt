@@ -17,7 +17,7 @@ guard-requires c κs = search needs
 
 returns : tie.Need-returns
 unfolding openEndpoint
-returns c = cc
+returns c = rw (← c .before .before .before .spare .ensures, ← c .before .before .before .before .low-size .ensures, ← c .before .before .before .before .before .kind-of .ensures) (c .guard .ensures)
 
 pub open-endpoint-spec : {M : Type 1} → statement M
 open-endpoint-spec =

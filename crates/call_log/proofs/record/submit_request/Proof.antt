@@ -20,7 +20,7 @@ guard-requires c κs = search needs
 
 returns : tie.Need-returns
 unfolding submit
-returns c = cc
+returns c = rw (← c .before .before .before .spare .ensures, ← c .before .before .before .before .before .before .low-word .ensures, ← c .before .before .before .before .before .before .before .direction-of .ensures, ← c .before .before .before .before .before .before .before .before .kind-of .ensures) (c .guard .ensures)
 
 pub submit-request-spec : {M : Type 1} → statement M
 submit-request-spec =

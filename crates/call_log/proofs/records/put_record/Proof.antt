@@ -31,7 +31,7 @@ returns-2 c =
     let h = c .before .before .before .before .record-line in
     let q = c .before .before .put-line in
     shows (a .out .now) (a .at) (sameRecord (a .before) (a .after)) (recordLine (a .place) (a .after)) (q .last .0) (q .result) (h .result)
-    (sym (c .before .before .before .before .before .before .same-record .ensures) ∙ c .before .before .before .before .before .if1 .left) (h .ensures .1) (q .ensures .0) (q .ensures .1)
+    (sym (c .before .before .before .before .before .before .same-record .ensures) ∙ c .before .before .before .before .before .if1 .left) (h .ensures) (q .ensures .0) (q .ensures .1)
 
 pub put-record-spec : {M : Type 1} → statement M
 put-record-spec =

@@ -1,5 +1,6 @@
 use Rattle.opening.specs.Rows.{putAt}
-use Rattle.call_log.specs.Changes.{upTo}
+use Rattle.text.specs.Text.{linesTo}
+use Rattle.text.proofs.LineLaws.{lines-most, lines-none, lines-turn}
 use Prim.Native.Nat.{ℕ, _+_, _-_, _*_, _≤_}
 use mathlib.Core.List.{List}
 use mathlib.Core.Path.{_≡_, refl, ap, _∙_}
@@ -9,7 +10,7 @@ use lib.ListN.{getD, length}
 use Rattle.descriptor.specs.declared.qtd.QueueTransferDescriptor.{QueueTransferDescriptor}
 use Rattle.pool.specs.Chains.{blank}
 use Rattle.call_log.specs.Changes.{recordChange}
-use Rattle.call_log.proofs.ChangeCases.{record-any, record-most, up-most, up-none, up-turn}
+use Rattle.call_log.proofs.ChangeCases.{record-any, record-most}
 use Rattle.call_log.proofs.records.put_records.Statement.{statement}
 use Rattle.call_log.proofs.records.put_records.Tie as tie
 
@@ -18,7 +19,7 @@ said-of before after i = recordChange i (getD before i blank) (getD after i blan
 
 abbrev Inv-loop : tie.InvT-loop
 Inv-loop out₀ at before after place₀ i₀ out place i =
-    (i ≤ 256) × (length out ≡ length out₀) × (out ≡ putAt out₀ at (upTo (said-of before after) i)) × (place ≡ at + length (upTo (said-of before after) i))
+    (i ≤ 256) × (length out ≡ length out₀) × (out ≡ putAt out₀ at (linesTo (said-of before after) i)) × (place ≡ at + length (linesTo (said-of before after) i))
 
 abbrev μ-loop : tie.MeasureT-loop
 μ-loop out₀ at before after place₀ i₀ out place i = 256 - i
@@ -26,7 +27,7 @@ abbrev μ-loop : tie.MeasureT-loop
 loop-holds : tie.Need-loop-holds Inv-loop μ-loop
 loop-holds c =
     let a = c .before .args in
-    let none = up-none (said-of (c .before .args .t3) (c .before .args .t4)) (a .out .now) (a .at) in
+    let none = lines-none (said-of (c .before .args .t3) (c .before .args .t4)) (a .out .now) (a .at) in
     (omega arith, refl, none .0, none .1)
 
 mul-old : tie.Need-mul-old Inv-loop μ-loop
@@ -42,7 +43,7 @@ array-copy-out-new : tie.Need-array-copy-out-new Inv-loop μ-loop
 array-copy-out-new c = omega arith
 
 put-record-requires : tie.Need-put-record-requires Inv-loop μ-loop
-put-record-requires c κs = omega (arith, up-most (said-of (c .before .before .before .before .before .before .args .t3) (c .before .before .before .before .before .before .args .t4)) 140 (λ i. record-most i _ _) (c .before .before .before .before .loop .i), c .before .before .before .before .loop .inv .1, c .before .before .before .before .loop .inv .3, c .before .before .before .before .before .before .pre)
+put-record-requires c κs = omega (arith, lines-most (said-of (c .before .before .before .before .before .before .args .t3) (c .before .before .before .before .before .before .args .t4)) 140 (λ i. record-most i _ _) (c .before .before .before .before .loop .i), c .before .before .before .before .loop .inv .1, c .before .before .before .before .loop .inv .3, c .before .before .before .before .before .before .pre)
 
 add-i : tie.Need-add-i Inv-loop μ-loop
 add-i c = search needs
@@ -58,7 +59,7 @@ loop-again c =
     let some : length (a .t3) ≡ 256 = c .before .before .before .before .before .before .before .before .before .good .1 .1 .0 .1 .0 .1 in
     let more : length (a .t4) ≡ 256 = c .before .before .before .before .before .before .before .before .before .good .1 .1 .1 .0 .1 .0 .1 in
     let said = record-any (a .t3) (a .t4) (l .i) _ _ (omega arith) (omega arith) in
-    let turned = up-turn (said-of (a .t3) (a .t4)) (a .out .now) (l .out) (p .last .0) (a .at) (l .place) (p .result) (l .i) (omega (arith, c .before .before .before .before .before .before .before .before .before .pre))
+    let turned = lines-turn (said-of (a .t3) (a .t4)) (a .out .now) (l .out) (p .last .0) (a .at) (l .place) (p .result) (l .i) (omega (arith, c .before .before .before .before .before .before .before .before .before .pre))
     (l .inv .2) (l .inv .3) (p .ensures .0 ∙ ap (putAt (l .out) (l .place)) said) (p .ensures .1 ∙ ap (λ (x : List ℕ). l .place + length x) said) in
     (omega arith, p .kept .0 ∙ l .inv .1, turned .0, turned .1)
 

@@ -30,7 +30,7 @@ returns-2 c =
     let h = c .before .before .before .before .head-line in
     let p = c .before .before .put-line in
     shows (a .out .now) (a .at) (eqb (a .before) (a .after)) (headLine (a .i / 17) (a .i % 17) (a .after)) (p .last .0) (p .result) (h .result)
-    (ne-eqb (a .before) (a .after) (c .before .before .before .before .before .if1 .left)) (h .ensures .1) (p .ensures .0) (p .ensures .1)
+    (ne-eqb (a .before) (a .after) (c .before .before .before .before .before .if1 .left)) (h .ensures) (p .ensures .0) (p .ensures .1)
 
 pub put-head-spec : {M : Type 1} → statement M
 put-head-spec =

@@ -1,5 +1,6 @@
 use Rattle.opening.specs.Rows.{putAt}
-use Rattle.call_log.specs.Changes.{upTo}
+use Rattle.text.specs.Text.{linesTo}
+use Rattle.text.proofs.LineLaws.{lines-most, lines-none, lines-turn}
 use Prim.Native.Nat.{ℕ, _+_, _-_, _*_, _≤_}
 use mathlib.Core.List.{List}
 use mathlib.Core.Path.{_≡_, refl, _∙_}
@@ -7,7 +8,7 @@ use native.Mathlib.Omega.{arith}
 use borrow.Author.Needs.{needs}
 use lib.ListN.{getD, length}
 use Rattle.call_log.specs.Changes.{headChange}
-use Rattle.call_log.proofs.ChangeCases.{head-most, up-most, up-none, up-turn}
+use Rattle.call_log.proofs.ChangeCases.{head-most}
 use Rattle.call_log.proofs.rows.put_heads.Statement.{statement}
 use Rattle.call_log.proofs.rows.put_heads.Tie as tie
 
@@ -16,7 +17,7 @@ said-of before after i = headChange i (getD before i 0) (getD after i 0)
 
 abbrev Inv-loop : tie.InvT-loop
 Inv-loop out₀ at before after place₀ i₀ out place i =
-    (i ≤ length after) × (length out ≡ length out₀) × (out ≡ putAt out₀ at (upTo (said-of before after) i)) × (place ≡ at + length (upTo (said-of before after) i))
+    (i ≤ length after) × (length out ≡ length out₀) × (out ≡ putAt out₀ at (linesTo (said-of before after) i)) × (place ≡ at + length (linesTo (said-of before after) i))
 
 abbrev μ-loop : tie.MeasureT-loop
 μ-loop out₀ at before after place₀ i₀ out place i = length after - i
@@ -24,7 +25,7 @@ abbrev μ-loop : tie.MeasureT-loop
 loop-holds : tie.Need-loop-holds Inv-loop μ-loop
 loop-holds c =
     let a = c .before .before .before .args in
-    let none = up-none (said-of (c .before .before .before .args .before .now) (c .before .before .before .args .after .now)) (a .out .now) (a .at) in
+    let none = lines-none (said-of (c .before .before .before .args .before .now) (c .before .before .before .args .after .now)) (a .out .now) (a .at) in
     (omega arith, refl, none .0, none .1)
 
 mul-put-head : tie.Need-mul-put-head Inv-loop μ-loop
@@ -40,7 +41,7 @@ shared-slice-read-put-head-2 : tie.Need-shared-slice-read-put-head-2 Inv-loop μ
 shared-slice-read-put-head-2 c = omega arith
 
 put-head-requires : tie.Need-put-head-requires Inv-loop μ-loop
-put-head-requires c κs = omega (arith, up-most (said-of (c .before .before .before .before .before .before .before .before .args .before .now) (c .before .before .before .before .before .before .before .before .args .after .now)) 53 (λ i. head-most i _ _) (c .before .before .before .before .loop .i), c .before .before .before .before .loop .inv .1, c .before .before .before .before .loop .inv .3, c .before .before .before .before .before .before .before .before .pre)
+put-head-requires c κs = omega (arith, lines-most (said-of (c .before .before .before .before .before .before .before .before .args .before .now) (c .before .before .before .before .before .before .before .before .args .after .now)) 53 (λ i. head-most i _ _) (c .before .before .before .before .loop .i), c .before .before .before .before .loop .inv .1, c .before .before .before .before .loop .inv .3, c .before .before .before .before .before .before .before .before .pre)
 
 add-i : tie.Need-add-i Inv-loop μ-loop
 add-i c = search needs
@@ -53,7 +54,7 @@ loop-again c =
     let a = c .before .before .before .before .before .before .before .before .before .before .before .args in
     let l = c .before .before .before .before .before .before .before .loop in
     let p = c .before .before .put-head in
-    let turned = up-turn (said-of (c .before .before .before .before .before .before .before .before .before .before .before .args .before .now) (c .before .before .before .before .before .before .before .before .before .before .before .args .after .now)) (a .out .now) (l .out) (p .last .0) (a .at) (l .place) (p .result) (l .i) (omega (arith, c .before .before .before .before .before .before .before .before .before .before .before .pre)) (l .inv .2) (l .inv .3)
+    let turned = lines-turn (said-of (c .before .before .before .before .before .before .before .before .before .before .before .args .before .now) (c .before .before .before .before .before .before .before .before .before .before .before .args .after .now)) (a .out .now) (l .out) (p .last .0) (a .at) (l .place) (p .result) (l .i) (omega (arith, c .before .before .before .before .before .before .before .before .before .before .before .pre)) (l .inv .2) (l .inv .3)
     (p .ensures .0) (p .ensures .1) in
     (omega arith, p .kept .0 ∙ l .inv .1, turned .0, turned .1)
 

@@ -89,7 +89,7 @@ returns-2 c =
     let q = c .before .before .put-line in
     shows (a .out .now) (a .at) (sameEight (a .before .now) l p)
     (setupLine (a .slot) (getD l p 0 ∷ getD l (p + 1) 0 ∷ getD l (p + 2) 0 ∷ getD l (p + 3) 0 ∷ getD l (p + 4) 0 ∷ getD l (p + 5) 0 ∷ getD l (p + 6) 0 ∷ getD l (p + 7) 0 ∷ []))
-    (q .last .0) (q .result) (h .result) (sym (c .before .before .before .before .before .before .before .before .before .before .before .before .before .before .same-eight .ensures) ∙ c .before .before .before .before .before .before .before .before .before .before .before .before .before .if1 .left) (h .ensures .1) (q .ensures .0) (q .ensures .1)
+    (q .last .0) (q .result) (h .result) (sym (c .before .before .before .before .before .before .before .before .before .before .before .before .before .before .same-eight .ensures) ∙ c .before .before .before .before .before .before .before .before .before .before .before .before .before .if1 .left) (h .ensures) (q .ensures .0) (q .ensures .1)
 
 pub put-setup-spec : {M : Type 1} → statement M
 put-setup-spec =

@@ -1,5 +1,6 @@
 use Rattle.opening.specs.Rows.{putAt}
-use Rattle.call_log.specs.Changes.{upTo}
+use Rattle.text.specs.Text.{linesTo}
+use Rattle.text.proofs.LineLaws.{lines-most, lines-none, lines-turn}
 use Prim.Native.Nat.{ℕ, _+_, _-_, _*_, _≤_}
 use mathlib.Core.List.{List}
 use mathlib.Core.Path.{_≡_, refl, _∙_}
@@ -7,7 +8,7 @@ use native.Mathlib.Omega.{arith}
 use borrow.Author.Needs.{needs}
 use lib.ListN.{getD, length}
 use Rattle.call_log.specs.Changes.{setupChange}
-use Rattle.call_log.proofs.ChangeCases.{setup-most, up-most, up-none, up-turn}
+use Rattle.call_log.proofs.ChangeCases.{setup-most}
 use Rattle.call_log.proofs.setups.put_setups.Statement.{statement}
 use Rattle.call_log.proofs.setups.put_setups.Tie as tie
 
@@ -16,7 +17,7 @@ said-of before after = setupChange before after
 
 abbrev Inv-loop : tie.InvT-loop
 Inv-loop out₀ at slots before after place₀ i₀ out place i =
-    (i ≤ slots) × (length out ≡ length out₀) × (out ≡ putAt out₀ at (upTo (said-of before after) i)) × (place ≡ at + length (upTo (said-of before after) i))
+    (i ≤ slots) × (length out ≡ length out₀) × (out ≡ putAt out₀ at (linesTo (said-of before after) i)) × (place ≡ at + length (linesTo (said-of before after) i))
 
 abbrev μ-loop : tie.MeasureT-loop
 μ-loop out₀ at slots before after place₀ i₀ out place i = slots - i
@@ -24,7 +25,7 @@ abbrev μ-loop : tie.MeasureT-loop
 loop-holds : tie.Need-loop-holds Inv-loop μ-loop
 loop-holds c =
     let a = c .before .before .before .args in
-    let none = up-none (said-of (c .before .before .before .args .before .now) (c .before .before .before .args .after .now)) (a .out .now) (a .at) in
+    let none = lines-none (said-of (c .before .before .before .args .before .now) (c .before .before .before .args .after .now)) (a .out .now) (a .at) in
     (omega arith, refl, none .0, none .1)
 
 put-setup-requires : tie.Need-put-setup-requires Inv-loop μ-loop
@@ -32,7 +33,7 @@ put-setup-requires c κs =
     let a = c .before .before .before .before .before .before .args in (
       omega (
         arith,
-        up-most (said-of (a .before .now) (a .after .now)) 40 (setup-most (a .before .now) (a .after .now)) (c .before .before .loop .i),
+        lines-most (said-of (a .before .now) (a .after .now)) 40 (setup-most (a .before .now) (a .after .now)) (c .before .before .loop .i),
         c .before .before .loop .inv .1,
         c .before .before .loop .inv .3,
         c .before .before .before .before .before .before .pre,
@@ -51,7 +52,7 @@ loop-again c =
     let a = c .before .before .before .before .before .before .before .before .before .args in
     let l = c .before .before .before .before .before .loop in
     let p = c .before .before .put-setup in
-    let turned = up-turn (said-of (c .before .before .before .before .before .before .before .before .before .args .before .now) (c .before .before .before .before .before .before .before .before .before .args .after .now)) (a .out .now) (l .out) (p .last .0) (a .at) (l .place) (p .result) (l .i) (omega (arith, c .before .before .before .before .before .before .before .before .before .pre)) (l .inv .2) (l .inv .3)
+    let turned = lines-turn (said-of (c .before .before .before .before .before .before .before .before .before .args .before .now) (c .before .before .before .before .before .before .before .before .before .args .after .now)) (a .out .now) (l .out) (p .last .0) (a .at) (l .place) (p .result) (l .i) (omega (arith, c .before .before .before .before .before .before .before .before .before .pre)) (l .inv .2) (l .inv .3)
     (p .ensures .0) (p .ensures .1) in
     (omega arith, p .kept .0 ∙ l .inv .1, turned .0, turned .1)
 

@@ -14,7 +14,7 @@ same-length c = search needs
 returns : tie.Need-returns
 returns c =
     let p = c .before .before .put-line in
-    rw (← c .before .before .before .before .write-line .ensures .1) (p .ensures .0, p .ensures .1)
+    rw (← c .before .before .before .before .write-line .ensures) (p .ensures .0, p .ensures .1)
 
 pub put-write-spec : {M : Type 1} → statement M
 put-write-spec = tie.close (tie.spec write-line-requires put-line-requires same-length returns)

@@ -10,7 +10,9 @@ refused-requires : tie.Need-refused-requires
 refused-requires c κs = search needs
 
 returns : tie.Need-returns
-returns c = rows-refuse _ _ _ _ _ _ _ _ (c .before .before .rows-fit .ensures) (c .before .if1 .taken) _ (c .refused .ensures)
+returns c =
+    let a = c .before .before .before .before .before .before .args in
+    rows-refuse (a .state) (a .records) (a .heads .now) (a .frames .now) (a .setups .now) (a .view) (a .call) _ (c .before .before .rows-fit .ensures) (c .before .if1 .taken) _ (c .refused .ensures)
 
 enum-told : tie.Need-enum-told
 enum-told c = search needs
@@ -109,37 +111,51 @@ on-disable-requires : tie.Need-on-disable-requires
 on-disable-requires c κs = search needs
 
 returns-2 : tie.Need-returns-2
-returns-2 c = any-call _ _ _ _ _ _ _ _ (c .before .before .before .before .rows-fit .ensures) (c .before .before .before .if1 .left) _ (c .before .enum-told .given .1) _ (no-rows _ _ _ _ _ (c .on-start .ensures))
+returns-2 c =
+    let a = c .before .before .before .before .before .before .before .before .args in
+    any-call (a .state) (a .records) (a .heads .now) (a .frames .now) (a .setups .now) (a .view) (a .call) _ (c .before .before .before .before .rows-fit .ensures) (c .before .before .before .if1 .left) _ (c .before .enum-told .given .1) _ (no-rows _ _ _ _ _ (c .on-start .ensures))
 
 returns-3 : tie.Need-returns-3
-returns-3 c = any-call _ _ _ _ _ _ _ _ (c .before .before .before .before .before .rows-fit .ensures) (c .before .before .before .before .if1 .left) _ (c .before .before .call .given .1) _ (no-rows _ _ _ _ _ (c .on-step .ensures))
+returns-3 c =
+    let a = c .before .before .before .before .before .before .before .before .before .args in
+    any-call (a .state) (a .records) (a .heads .now) (a .frames .now) (a .setups .now) (a .view) (a .call) _ (c .before .before .before .before .before .rows-fit .ensures) (c .before .before .before .before .if1 .left) _ (c .before .before .call .given .1) _ (no-rows _ _ _ _ _ (c .on-step .ensures))
 
 returns-4 : tie.Need-returns-4
-returns-4 c = any-call _ _ _ _ _ _ _ _ (c .before .before .before .before .rows-fit .ensures) (c .before .before .before .if1 .left) _ (c .before .enum-told2 .given .1) _ (no-rows _ _ _ _ _ (c .on-allocate .ensures))
+returns-4 c =
+    let a = c .before .before .before .before .before .before .before .before .args in
+    any-call (a .state) (a .records) (a .heads .now) (a .frames .now) (a .setups .now) (a .view) (a .call) _ (c .before .before .before .before .rows-fit .ensures) (c .before .before .before .if1 .left) _ (c .before .enum-told2 .given .1) _ (no-rows _ _ _ _ _ (c .on-allocate .ensures))
 
 same-length : tie.Need-same-length
 same-length c = search needs
 
 returns-5 : tie.Need-returns-5
-returns-5 c = any-call _ _ _ _ _ _ _ _ (c .before .before .before .before .before .before .before .before .rows-fit .ensures) (c .before .before .before .before .before .before .before .if1 .left) _ (c .before .before .before .before .before .call2 .given .1) _ (heads-call _ _ _ _ _ (c .before .before .on-open .ensures))
+returns-5 c =
+    let a = c .before .before .before .before .before .before .before .before .before .before .before .before .args in
+    any-call (a .state) (a .records) (a .heads .now) (a .frames .now) (a .setups .now) (a .view) (a .call) _ (c .before .before .before .before .before .before .before .before .rows-fit .ensures) (c .before .before .before .before .before .before .before .if1 .left) _ (c .before .before .before .before .before .call2 .given .1) _ (heads-call _ _ _ _ _ (c .before .before .on-open .ensures))
 
 same-length-2 : tie.Need-same-length-2
 same-length-2 c = search needs
 
 returns-6 : tie.Need-returns-6
-returns-6 c = any-call _ _ _ _ _ _ _ _ (c .before .before .before .before .before .before .before .before .rows-fit .ensures) (c .before .before .before .before .before .before .before .if1 .left) _ (c .before .before .before .before .before .call3 .given .1) _ (heads-call _ _ _ _ _ (c .before .before .on-close .ensures))
+returns-6 c =
+    let a = c .before .before .before .before .before .before .before .before .before .before .before .before .args in
+    any-call (a .state) (a .records) (a .heads .now) (a .frames .now) (a .setups .now) (a .view) (a .call) _ (c .before .before .before .before .before .before .before .before .rows-fit .ensures) (c .before .before .before .before .before .before .before .if1 .left) _ (c .before .before .before .before .before .call3 .given .1) _ (heads-call _ _ _ _ _ (c .before .before .on-close .ensures))
 
 same-length-3 : tie.Need-same-length-3
 same-length-3 c = search needs
 
 returns-7 : tie.Need-returns-7
-returns-7 c = any-call _ _ _ _ _ _ _ _ (c .before .before .before .before .before .before .before .before .rows-fit .ensures) (c .before .before .before .before .before .before .before .if1 .left) _ (c .before .before .before .before .before .call4 .given .1) _ (heads-call _ _ _ _ _ (c .before .before .on-address .ensures))
+returns-7 c =
+    let a = c .before .before .before .before .before .before .before .before .before .before .before .before .args in
+    any-call (a .state) (a .records) (a .heads .now) (a .frames .now) (a .setups .now) (a .view) (a .call) _ (c .before .before .before .before .before .before .before .before .rows-fit .ensures) (c .before .before .before .before .before .before .before .if1 .left) _ (c .before .before .before .before .before .call4 .given .1) _ (heads-call _ _ _ _ _ (c .before .before .on-address .ensures))
 
 same-length-4 : tie.Need-same-length-4
 same-length-4 c = search needs
 
 returns-8 : tie.Need-returns-8
-returns-8 c = any-call _ _ _ _ _ _ _ _ (c .before .before .before .before .before .before .before .before .rows-fit .ensures) (c .before .before .before .before .before .before .before .if1 .left) _ (c .before .before .before .before .before .call5 .given .1) _ (heads-call _ _ _ _ _ (c .before .before .on-packet .ensures))
+returns-8 c =
+    let a = c .before .before .before .before .before .before .before .before .before .before .before .before .args in
+    any-call (a .state) (a .records) (a .heads .now) (a .frames .now) (a .setups .now) (a .view) (a .call) _ (c .before .before .before .before .before .before .before .before .rows-fit .ensures) (c .before .before .before .before .before .before .before .if1 .left) _ (c .before .before .before .before .before .call5 .given .1) _ (heads-call _ _ _ _ _ (c .before .before .on-packet .ensures))
 
 same-length-5 : tie.Need-same-length-5
 same-length-5 c = search needs
@@ -151,10 +167,14 @@ same-length-7 : tie.Need-same-length-7
 same-length-7 c = search needs
 
 returns-9 : tie.Need-returns-9
-returns-9 c = any-call _ _ _ _ _ _ _ _ (c .before .before .before .before .before .before .before .before .before .before .before .before .before .before .rows-fit .ensures) (c .before .before .before .before .before .before .before .before .before .before .before .before .before .if1 .left) _ (c .before .before .before .before .before .before .before .before .before .before .before .call6 .given .1) _ (c .before .before .before .before .before .before .on-submit .ensures)
+returns-9 c =
+    let a = c .before .before .before .before .before .before .before .before .before .before .before .before .before .before .before .before .before .before .args in
+    any-call (a .state) (a .records) (a .heads .now) (a .frames .now) (a .setups .now) (a .view) (a .call) _ (c .before .before .before .before .before .before .before .before .before .before .before .before .before .before .rows-fit .ensures) (c .before .before .before .before .before .before .before .before .before .before .before .before .before .if1 .left) _ (c .before .before .before .before .before .before .before .before .before .before .before .call6 .given .1) _ (c .before .before .before .before .before .before .on-submit .ensures)
 
 returns-10 : tie.Need-returns-10
-returns-10 c = any-call _ _ _ _ _ _ _ _ (c .before .before .before .before .before .rows-fit .ensures) (c .before .before .before .before .if1 .left) _ (c .before .before .call7 .given .1) _ (no-rows _ _ _ _ _ (c .on-writeback .ensures))
+returns-10 c =
+    let a = c .before .before .before .before .before .before .before .before .before .args in
+    any-call (a .state) (a .records) (a .heads .now) (a .frames .now) (a .setups .now) (a .view) (a .call) _ (c .before .before .before .before .before .rows-fit .ensures) (c .before .before .before .before .if1 .left) _ (c .before .before .call7 .given .1) _ (no-rows _ _ _ _ _ (c .on-writeback .ensures))
 
 same-length-8 : tie.Need-same-length-8
 same-length-8 c = search needs
@@ -163,7 +183,9 @@ same-length-9 : tie.Need-same-length-9
 same-length-9 c = search needs
 
 returns-11 : tie.Need-returns-11
-returns-11 c = any-call _ _ _ _ _ _ _ _ (c .before .before .before .before .before .before .before .before .before .before .before .rows-fit .ensures) (c .before .before .before .before .before .before .before .before .before .before .if1 .left) _ (c .before .before .before .before .before .before .before .before .call8 .given .1) _ (links-call _ _ _ _ _ (c .before .before .before .before .on-cancel .ensures))
+returns-11 c =
+    let a = c .before .before .before .before .before .before .before .before .before .before .before .before .before .before .before .args in
+    any-call (a .state) (a .records) (a .heads .now) (a .frames .now) (a .setups .now) (a .view) (a .call) _ (c .before .before .before .before .before .before .before .before .before .before .before .rows-fit .ensures) (c .before .before .before .before .before .before .before .before .before .before .if1 .left) _ (c .before .before .before .before .before .before .before .before .call8 .given .1) _ (links-call _ _ _ _ _ (c .before .before .before .before .on-cancel .ensures))
 
 same-length-10 : tie.Need-same-length-10
 same-length-10 c = search needs
@@ -172,22 +194,34 @@ same-length-11 : tie.Need-same-length-11
 same-length-11 c = search needs
 
 returns-12 : tie.Need-returns-12
-returns-12 c = any-call _ _ _ _ _ _ _ _ (c .before .before .before .before .before .before .before .before .before .before .before .rows-fit .ensures) (c .before .before .before .before .before .before .before .before .before .before .if1 .left) _ (c .before .before .before .before .before .before .before .before .call9 .given .1) _ (links-call _ _ _ _ _ (c .before .before .before .before .on-collect .ensures))
+returns-12 c =
+    let a = c .before .before .before .before .before .before .before .before .before .before .before .before .before .before .before .args in
+    any-call (a .state) (a .records) (a .heads .now) (a .frames .now) (a .setups .now) (a .view) (a .call) _ (c .before .before .before .before .before .before .before .before .before .before .before .rows-fit .ensures) (c .before .before .before .before .before .before .before .before .before .before .if1 .left) _ (c .before .before .before .before .before .before .before .before .call9 .given .1) _ (links-call _ _ _ _ _ (c .before .before .before .before .on-collect .ensures))
 
 returns-13 : tie.Need-returns-13
-returns-13 c = any-call _ _ _ _ _ _ _ _ (c .before .before .before .before .before .rows-fit .ensures) (c .before .before .before .before .if1 .left) _ (c .before .before .call10 .given .1) _ (no-rows _ _ _ _ _ (c .on-acknowledge .ensures))
+returns-13 c =
+    let a = c .before .before .before .before .before .before .before .before .before .args in
+    any-call (a .state) (a .records) (a .heads .now) (a .frames .now) (a .setups .now) (a .view) (a .call) _ (c .before .before .before .before .before .rows-fit .ensures) (c .before .before .before .before .if1 .left) _ (c .before .before .call10 .given .1) _ (no-rows _ _ _ _ _ (c .on-acknowledge .ensures))
 
 returns-14 : tie.Need-returns-14
-returns-14 c = any-call _ _ _ _ _ _ _ _ (c .before .before .before .before .before .rows-fit .ensures) (c .before .before .before .before .if1 .left) _ (c .before .before .call11 .given .1) _ (no-rows _ _ _ _ _ (c .on-drain .ensures))
+returns-14 c =
+    let a = c .before .before .before .before .before .before .before .before .before .args in
+    any-call (a .state) (a .records) (a .heads .now) (a .frames .now) (a .setups .now) (a .view) (a .call) _ (c .before .before .before .before .before .rows-fit .ensures) (c .before .before .before .before .if1 .left) _ (c .before .before .call11 .given .1) _ (no-rows _ _ _ _ _ (c .on-drain .ensures))
 
 returns-15 : tie.Need-returns-15
-returns-15 c = any-call _ _ _ _ _ _ _ _ (c .before .before .before .before .rows-fit .ensures) (c .before .before .before .if1 .left) _ (c .before .enum-told3 .given .1) _ (no-rows _ _ _ _ _ (c .on-rearm .ensures))
+returns-15 c =
+    let a = c .before .before .before .before .before .before .before .before .args in
+    any-call (a .state) (a .records) (a .heads .now) (a .frames .now) (a .setups .now) (a .view) (a .call) _ (c .before .before .before .before .rows-fit .ensures) (c .before .before .before .if1 .left) _ (c .before .enum-told3 .given .1) _ (no-rows _ _ _ _ _ (c .on-rearm .ensures))
 
 returns-16 : tie.Need-returns-16
-returns-16 c = any-call _ _ _ _ _ _ _ _ (c .before .before .before .before .rows-fit .ensures) (c .before .before .before .if1 .left) _ (c .before .enum-told4 .given .1) _ (no-rows _ _ _ _ _ (c .on-enable .ensures))
+returns-16 c =
+    let a = c .before .before .before .before .before .before .before .before .args in
+    any-call (a .state) (a .records) (a .heads .now) (a .frames .now) (a .setups .now) (a .view) (a .call) _ (c .before .before .before .before .rows-fit .ensures) (c .before .before .before .if1 .left) _ (c .before .enum-told4 .given .1) _ (no-rows _ _ _ _ _ (c .on-enable .ensures))
 
 returns-17 : tie.Need-returns-17
-returns-17 c = any-call _ _ _ _ _ _ _ _ (c .before .before .before .before .rows-fit .ensures) (c .before .before .before .if1 .left) _ (c .before .enum-told5 .given .1) _ (no-rows _ _ _ _ _ (c .on-disable .ensures))
+returns-17 c =
+    let a = c .before .before .before .before .before .before .before .before .args in
+    any-call (a .state) (a .records) (a .heads .now) (a .frames .now) (a .setups .now) (a .view) (a .call) _ (c .before .before .before .before .rows-fit .ensures) (c .before .before .before .if1 .left) _ (c .before .enum-told5 .given .1) _ (no-rows _ _ _ _ _ (c .on-disable .ensures))
 
 pub decide-spec : {M : Type 1} → statement M
 decide-spec =

@@ -2,7 +2,7 @@ use native.Mathlib.Omega.{arith}
 use Prim.Native.Nat.{_-_, _≤_}
 use borrow.Author.Needs.{needs}
 use Rattle.job_sheet.specs.Outcomes.{openedLine}
-use Rattle.job_sheet.proofs.OutcomeCases.{Lined, lines-done, lines-none, lines-turn}
+use Rattle.job_sheet.proofs.OutcomeCases.{Lined, lined-done, lined-none, lined-turn}
 use Rattle.job_sheet.proofs.outcome.put_endpoints.Statement.{statement}
 use Rattle.job_sheet.proofs.outcome.put_endpoints.Tie as tie
 
@@ -13,7 +13,7 @@ abbrev μ-loop : tie.MeasureT-loop
 μ-loop out₀ at opens opened next₀ k₀ out next k = opens - k
 
 loop-holds : tie.Need-loop-holds Inv-loop μ-loop
-loop-holds c = (omega arith, lines-none _ _ _ 44)
+loop-holds c = (omega arith, lined-none _ _ _ 44)
 
 array-read-put-endpoint : tie.Need-array-read-put-endpoint Inv-loop μ-loop
 array-read-put-endpoint c = omega arith
@@ -34,7 +34,7 @@ loop-again : tie.Need-loop-again Inv-loop μ-loop
 loop-again c =
     let l = c .before .before .before .before .before .loop in
     let e = c .before .before .put-endpoint in
-    (omega arith, lines-turn _ _ _ 44 (l .out) _ (l .next) (l .k) _ (omega arith) (l .inv .1) (e .kept .0) (e .ensures))
+    (omega arith, lined-turn _ _ _ 44 (l .out) _ (l .next) (l .k) _ (omega arith) (l .inv .1) (e .kept .0) (e .ensures))
 
 same-length : tie.Need-same-length Inv-loop μ-loop
 same-length c = c .before .loop .inv .1 .same
@@ -42,7 +42,7 @@ same-length c = c .before .loop .inv .1 .same
 returns : tie.Need-returns Inv-loop μ-loop
 returns c =
     let l = c .before .loop in
-    lines-done _ _ _ 44 _ _ (l .k) _ _ (l .inv .0) (c .loop-test .left) (omega arith) (l .inv .1)
+    lined-done _ _ _ 44 _ _ (l .k) _ _ (l .inv .0) (c .loop-test .left) (omega arith) (l .inv .1)
 
 pub put-endpoints-spec : {M : Type 1} → statement M
 put-endpoints-spec =

@@ -4,7 +4,7 @@ use mathlib.Core.Path.{_≡_}
 use lib.ListN.{length}
 use borrow.Author.Needs.{needs}
 use Rattle.job_sheet.specs.Outcomes.{placeLine, placeLines}
-use Rattle.job_sheet.proofs.OutcomeCases.{Lined, lines-done, lines-none, lines-turn, place-put}
+use Rattle.job_sheet.proofs.OutcomeCases.{Lined, lined-done, lined-none, lined-turn, place-put}
 use Rattle.job_sheet.proofs.outcome.put_places.Statement.{statement}
 use Rattle.job_sheet.proofs.outcome.put_places.Tie as tie
 
@@ -18,7 +18,7 @@ add-mark : tie.Need-add-mark Inv-loop μ-loop
 add-mark c = search needs
 
 loop-holds : tie.Need-loop-holds Inv-loop μ-loop
-loop-holds c = (omega arith, lines-none _ _ _ 86)
+loop-holds c = (omega arith, lined-none _ _ _ 86)
 
 array-read-shown : tie.Need-array-read-shown Inv-loop μ-loop
 array-read-shown c = omega arith
@@ -48,7 +48,7 @@ loop-again c =
     let a = c .before .before .before .before .before .before .before .before .args in
     let whole : length (a .t5) ≡ 256 = search needs in
     let d = place-put (l .out) (l .next) (a .t4) (a .t5) (a .slot) (l .p) _ _ 86 (omega (arith, whole)) (e .ensures) in
-    (omega arith, lines-turn _ _ _ 86 (l .out) _ (l .next) (l .p) _ (omega arith) (l .inv .1) (e .kept .0) d)
+    (omega arith, lined-turn _ _ _ 86 (l .out) _ (l .next) (l .p) _ (omega arith) (l .inv .1) (e .kept .0) d)
 
 same-length : tie.Need-same-length Inv-loop μ-loop
 same-length c = c .before .loop .inv .1 .same
@@ -57,7 +57,7 @@ returns : tie.Need-returns Inv-loop μ-loop
 unfolding placeLines
 returns c =
     let l = c .before .loop in
-    lines-done _ _ _ 86 _ _ (l .p) 16 _ (l .inv .0) (c .loop-test .left) (omega arith) (l .inv .1)
+    lined-done _ _ _ 86 _ _ (l .p) 16 _ (l .inv .0) (c .loop-test .left) (omega arith) (l .inv .1)
 
 pub put-places-spec : {M : Type 1} → statement M
 put-places-spec =

@@ -2,7 +2,7 @@ use native.Mathlib.Omega.{arith}
 use Prim.Native.Nat.{_-_, _≤_}
 use borrow.Author.Needs.{needs}
 use Rattle.job_sheet.specs.Outcomes.{linesOf}
-use Rattle.job_sheet.proofs.OutcomeCases.{Lined, lines-done, lines-none, lines-turn, slot-put}
+use Rattle.job_sheet.proofs.OutcomeCases.{Lined, lined-done, lined-none, lined-turn, slot-put}
 use Rattle.job_sheet.proofs.outcome.put_requests.Statement.{statement}
 use Rattle.job_sheet.proofs.outcome.put_requests.Tie as tie
 
@@ -13,7 +13,7 @@ abbrev μ-loop : tie.MeasureT-loop
 μ-loop out₀ at job ran slots requests next₀ k₀ out next k = job .submits - k
 
 loop-holds : tie.Need-loop-holds Inv-loop μ-loop
-loop-holds c = (omega arith, lines-none _ _ _ 1441)
+loop-holds c = (omega arith, lined-none _ _ _ 1441)
 
 mul-r : tie.Need-mul-r Inv-loop μ-loop
 mul-r c = omega arith
@@ -39,7 +39,7 @@ loop-again c =
     let l = c .before .before .before .before .before .before .before .before .loop in
     let e = c .before .before .put-answered in
     let d = slot-put (l .out) (l .next) (a .job) (a .ran) _ (l .k) _ _ 1441 (c .before .before .before .before .slot-of .ensures) (e .ensures) in
-    (omega arith, lines-turn _ _ _ 1441 (l .out) _ (l .next) (l .k) _ (omega arith) (l .inv .1) (e .kept .0) d)
+    (omega arith, lined-turn _ _ _ 1441 (l .out) _ (l .next) (l .k) _ (omega arith) (l .inv .1) (e .kept .0) d)
 
 same-length : tie.Need-same-length Inv-loop μ-loop
 same-length c = c .before .before .loop .inv .1 .same
@@ -47,7 +47,7 @@ same-length c = c .before .before .loop .inv .1 .same
 returns : tie.Need-returns Inv-loop μ-loop
 returns c =
     let l = c .before .before .loop in
-    lines-done _ _ _ 1441 _ _ (l .k) _ _ (l .inv .0) (c .if1 .left) (omega arith) (l .inv .1)
+    lined-done _ _ _ 1441 _ _ (l .k) _ _ (l .inv .0) (c .if1 .left) (omega arith) (l .inv .1)
 
 pub put-requests-spec : {M : Type 1} → statement M
 put-requests-spec =

@@ -1,0 +1,2 @@
+pub mod ActCases
+pub mod TurnCases

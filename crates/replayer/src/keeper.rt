@@ -1,0 +1,202 @@
+// The controller that a log is replayed on, and what one record does to it.
+ghost use mathlib.Core.Path.{_≡_};
+ghost use Rattle.replayer.specs.Replays.{
+  actOf,
+  callEffect,
+  effectOf,
+  freshKeeper,
+  noEffect,
+  openEffect,
+  powerEffect,
+  rowsOf,
+  scanEffect,
+};
+ghost use Rattle.root_hub.specs.Calls.{powerOf};
+ghost use Rattle.world.specs.Worlds.{callWorld, openWorld};
+use answer::answer::Answer;
+use bring_up::reads::NextRead;
+use call_log::block::Rows;
+use call_log::call_line::call_line;
+use call_log::call_line::scan_line;
+use call_log::line::Line;
+use call_log::record::Entry;
+use ehci::call::Call;
+use ehci::reply::Answered;
+use ehci::reply::Given;
+use opening::hub::EhciRootHub;
+use register::writes::Writes;
+use root_hub::calls::Scanned;
+use root_hub::ports::PortEvent;
+use settings::settings::Settings;
+use world::world::World;
+use world::world::blank_world;
+use world::world::call_on;
+use world::world::open_in;
+
+// Before a first accepted opening every call answers 1.
+pub struct Keeper {
+    pub world: World,
+    pub hub: EhciRootHub,
+    pub opened: bool,
+}
+
+// What is kept after a record, the first line of its block, and its writes.
+pub struct Acted {
+    pub keeper: Keeper,
+    pub line: Line,
+    pub opening: bool,
+    pub writes: Writes,
+}
+
+pub fn fresh_keeper() -> Keeper
+    ensures { λ r. ⌜ r ≡ freshKeeper ⌝ }
+{
+    Keeper {
+        world: blank_world(),
+        hub: EhciRootHub::new(0),
+        opened: false,
+    }
+}
+
+pub fn rows_of(k: Keeper) -> Rows
+    ensures { λ r. ⌜ r ≡ rowsOf k ⌝ }
+{
+    let world = k.world;
+    let hub = k.hub;
+    let pool = world.pool;
+    let heads = world.heads;
+    let frames = world.frames;
+    let setups = world.setups;
+    let ports = hub.states;
+    Rows {
+        pool,
+        heads,
+        frames,
+        setups,
+        ports,
+    }
+}
+
+// A refused opening leaves the earlier controller as it was.
+fn act_open(k: Keeper, n: u64, number: u8, settings: Settings) -> Acted
+    ensures { λ r. ⌜ effectOf r ≡ openEffect k n number (openWorld (k .world) settings) ⌝ }
+{
+    let before = k.world;
+    let opened = open_in(before, settings);
+    let answer = opened.answer;
+    let world = opened.world;
+    let hub = opened.hub;
+    match answer {
+        Answer::Done => Acted {
+            keeper: Keeper {
+                world,
+                hub,
+                opened: true,
+            },
+            line: call_line(n, number, Answered::Done(Given::Nothing)),
+            opening: true,
+            writes: Writes::none(),
+        },
+        Answer::Refused(refusal) => Acted {
+            keeper: k,
+            line: call_line(n, number, Answered::Refused(refusal)),
+            opening: false,
+            writes: Writes::none(),
+        },
+    }
+}
+
+fn act_call(k: Keeper, n: u64, number: u8, call: Call) -> Acted
+    ensures { λ r. ⌜ effectOf r ≡ callEffect k n number (callWorld (k .world) call) ⌝ }
+{
+    let before = k.world;
+    let hub = k.hub;
+    let called = call_on(before, call);
+    let world = called.world;
+    let answer = called.answer;
+    let writes = called.writes;
+    let line = call_line(n, number, answer);
+    Acted {
+        keeper: Keeper {
+            world,
+            hub,
+            opened: k.opened,
+        },
+        line,
+        opening: false,
+        writes,
+    }
+}
+
+fn act_scan(k: Keeper, n: u64, number: u8, scanned: Scanned) -> Acted
+    ensures { λ r. ⌜ effectOf r ≡ scanEffect k n number scanned ⌝ }
+{
+    let world = k.world;
+    let hub = scanned.hub;
+    let reply = scanned.reply;
+    let answer = reply.answer;
+    let read = reply.read;
+    let event = reply.event;
+    let writes = reply.writes;
+    let line = scan_line(n, number, answer, read, reply.wait, event);
+    Acted {
+        keeper: Keeper {
+            world,
+            hub,
+            opened: k.opened,
+        },
+        line,
+        opening: false,
+        writes,
+    }
+}
+
+// Port power reads nothing next and has no event.
+fn act_power(k: Keeper, n: u64, number: u8, port: u8, reading: u32) -> Acted
+    ensures { λ r. ⌜ effectOf r ≡ powerEffect k n number (powerOf (k .hub) port reading) ⌝ }
+{
+    let hub = k.hub;
+    let powered = root_hub::calls::port_power(hub, port, reading);
+    let answer = powered.answer;
+    let writes = powered.writes;
+    let line = scan_line(
+        n,
+        number,
+        answer,
+        NextRead::Nothing,
+        powered.wait,
+        PortEvent::Nothing,
+    );
+    Acted {
+        keeper: k,
+        line,
+        opening: false,
+        writes,
+    }
+}
+
+fn act_nothing(k: Keeper, n: u64, number: u8) -> Acted
+    ensures { λ r. ⌜ effectOf r ≡ noEffect k n number ⌝ }
+{
+    Acted {
+        keeper: k,
+        line: call_line(n, number, Answered::Pending),
+        opening: false,
+        writes: Writes::none(),
+    }
+}
+
+// A bad record does nothing; the log ends at it.
+pub fn act(k: Keeper, n: u64, number: u8, entry: Entry) -> Acted
+    ensures { λ r. ⌜ effectOf r ≡ actOf k n number entry ⌝ }
+{
+    let hub = k.hub;
+    match entry {
+        Entry::Open(settings) => act_open(k, n, number, settings),
+        Entry::Call(call) => act_call(k, n, number, call),
+        Entry::StartScan => act_scan(k, n, number, root_hub::calls::start(hub)),
+        Entry::ScanStep(reading) => act_scan(k, n, number, root_hub::calls::step(hub, reading)),
+        Entry::PortPower(port, reading) => act_power(k, n, number, port, reading),
+        Entry::Bad => act_nothing(k, n, number),
+    }
+}

@@ -1,0 +1,53 @@
+// A log from standard input, and what each record did to standard output.
+ghost use Prim.Native.Nat.{_<_};
+use crate::keeper::Keeper;
+use crate::keeper::fresh_keeper;
+use crate::turn::turn;
+
+const STDIN: i32 = 0;
+
+const STDOUT: i32 = 1;
+
+struct Kept {
+    keeper: Keeper,
+    more: bool,
+}
+
+// How many records may still come.
+fn after_turn(left: u64, more: bool) -> u64
+    requires { ⌜ 0 < left ⌝ }
+    ensures { λ r. ⌜ r < left ⌝ }
+{
+    if more { left - 1 } else { 0 }
+}
+
+// One record: read, done, and written out before the next is read.
+fn next_record(k: Keeper, n: u64) -> Kept {
+    let mut record = [0u8; 64];
+    let got = io::read_full(STDIN, &mut record);
+    if got == 0 {
+        return Kept {
+            keeper: k,
+            more: false,
+        };
+    }
+    let mut out = [0u8; 131072];
+    let turned = turn(&mut out, k, n, &record[..got]);
+    io::write_all(STDOUT, &out[..turned.end]);
+    let keeper = turned.keeper;
+    Kept {
+        keeper,
+        more: turned.more,
+    }
+}
+
+// A proved loop has to end: this one counts down from more records than any log has.
+pub fn replay() {
+    let mut keeper = fresh_keeper();
+    let mut left: u64 = u64::MAX;
+    while left > 0 {
+        let kept = next_record(keeper, u64::MAX - left);
+        keeper = kept.keeper;
+        left = after_turn(left, kept.more);
+    }
+}

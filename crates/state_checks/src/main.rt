@@ -1,0 +1,67 @@
+// Records from standard input, what each call answered and left to standard output. A record is a call's, as in a log, or a
+// change that no call makes: to a number of the state, a word of a row, the lengths lent, what a collect sees, the root hub's
+// record. `tools/state_values.py` makes the records, and what is to be printed from document 01.
+ghost use Prim.Native.Nat.{_<_};
+
+mod change;
+mod kept;
+mod show;
+mod sums;
+
+use crate::change::CHANGES;
+use crate::change::changed;
+use crate::kept::Kept;
+use crate::kept::act;
+use crate::kept::blank;
+use crate::show::show;
+use call_log::fields::decode;
+use call_log::record::read_record;
+
+const STDIN: i32 = 0;
+
+struct Turned {
+    kept: Kept,
+    more: bool,
+}
+
+// How many records may still come: fewer each time.
+fn after_turn(left: u64, more: bool) -> u64
+    requires { ⌜ 0 < left ⌝ }
+    ensures { λ r. ⌜ r < left ⌝ }
+{
+    if more { left - 1 } else { 0 }
+}
+
+// One record. Of a change nothing is printed.
+fn turn(k: Kept, n: u64) -> Turned {
+    let mut record = [0u8; 64];
+    let got = io::read_full(STDIN, &mut record);
+    if got != 64 {
+        return Turned {
+            kept: k,
+            more: false,
+        };
+    }
+    let f = decode(&record);
+    if CHANGES <= f.number {
+        return Turned {
+            kept: changed(k, f),
+            more: true,
+        };
+    }
+    let acted = act(k, n, f, read_record(&record));
+    show(acted);
+    let kept = acted.kept;
+    Turned { kept, more: true }
+}
+
+// A proved loop has to end: this one counts down from more records than there are.
+fn main() {
+    let mut kept = blank();
+    let mut left: u64 = u64::MAX;
+    while left > 0 {
+        let turned = turn(kept, u64::MAX - left);
+        kept = turned.kept;
+        left = after_turn(left, turned.more);
+    }
+}

@@ -1,0 +1,135 @@
+//! 000 as an oracle. See README.md.
+extern crate alloc;
+#[macro_use]
+extern crate anyhow;
+#[macro_use]
+extern crate log;
+
+mod backend;
+mod compare;
+mod err;
+mod generate;
+mod regs;
+mod replica;
+mod scripts;
+mod sheet;
+mod tags;
+
+use std::io::{Read, Write};
+use std::ptr::NonNull;
+
+pub use backend::kmod::osal;
+use replica::Replica;
+
+/// Names of the crate's root that 000 uses.
+pub type Mmio = NonNull<u8>;
+
+pub struct DeviceAddressInfo {
+    pub port_speed: usb_if::host::hub::Speed,
+}
+
+const USAGE: &str = "usage: oracle < LOG, or oracle and one of
+  compare SEED SCRIPTS STEPS KEPT-LOG PORT..   call scripts on both sides, compared after every call
+  chunks                                       requests of one to six chunks, as a log
+  departures                                   each listed departure: its fewest calls, repaired and as 000 does them
+  fixed                                        the fixed list, as a log
+  incident                                     the double count, as a log
+  leaves                                       000's leaves against 01's formulas
+  leaves LINES                                 the lines of the port's leaf_checks against 000's leaves
+  probes                                       what 000 does where no call shows it
+  sheet < SHEET                                the listing of a job sheet
+  tags                                         the repairs that can be left out
+  waits                                        the longest waits that 01 allows, as a log
+NOREPAIR=TAG,.. leaves repairs out; ORIGINAL, at build time, is where the published files are.";
+
+fn main() {
+    // A function of 000 may run on a thread of its own; a panic anywhere ends the program.
+    let usual = std::panic::take_hook();
+    std::panic::set_hook(Box::new(move |info| {
+        usual(info);
+        std::process::exit(101);
+    }));
+    if let Ok(tag) = std::env::var("NOREPAIR") {
+        tags::leave_out(&tag);
+    }
+    let words: Vec<String> = std::env::args().skip(1).collect();
+    match words.iter().map(|word| word.as_str()).collect::<Vec<_>>()[..] {
+        [] => replay(),
+        ["compare", seed, scripts, steps, keep, ref port @ ..] => compare(seed, scripts, steps, keep, port),
+        ["fixed"] => std::io::stdout().write_all(&scripts::fixed_log()).unwrap(),
+        ["incident"] => std::io::stdout().write_all(&scripts::log_of(&scripts::double_count())).unwrap(),
+        ["chunks"] => std::io::stdout().write_all(&scripts::log_of(&scripts::chunk_edges())).unwrap(),
+        ["waits"] => std::io::stdout().write_all(&scripts::log_of(&scripts::long_waits())).unwrap(),
+        ["departures"] => scripts::show_departures(),
+        ["probes"] => backend::kmod::ehci::probes::run(),
+        ["tags"] => tags::repairs().iter().for_each(|tag| println!("{tag}")),
+        ["leaves"] => backend::kmod::ehci::leaves::run(),
+        ["leaves", lines] => hold(lines),
+        ["sheet"] => list(),
+        _ => {
+            eprintln!("{USAGE}");
+            std::process::exit(2);
+        }
+    }
+}
+
+/// A log on standard input, its blocks on standard output, the tags on standard error.
+fn replay() {
+    let (mut input, mut output) = (std::io::stdin().lock(), std::io::stdout().lock());
+    let mut replica = Replica::default();
+    loop {
+        let mut record = Vec::new();
+        input.by_ref().take(blocks::record::SIZE as u64).read_to_end(&mut record).unwrap();
+        if record.is_empty() {
+            break;
+        }
+        let block = replica.block(&record);
+        let (Ok(text) | Err(text)) = &block;
+        output.write_all(text.as_bytes()).unwrap();
+        output.flush().unwrap();
+        if block.is_err() {
+            break;
+        }
+    }
+    eprint!("{}", tags::report());
+}
+
+fn number(word: &str) -> u64 {
+    word.parse().unwrap_or_else(|_| {
+        eprintln!("oracle: {word} is no number");
+        std::process::exit(2);
+    })
+}
+
+/// 0: equal; 1: a difference; 3: equal, but some kind and answer was never met.
+fn compare(seed: &str, scripts: &str, steps: &str, keep: &str, port: &[&str]) {
+    let outcome = compare::run(compare::Options {
+        seed: number(seed),
+        scripts: number(scripts),
+        steps: number(steps),
+        port: port.iter().map(|word| word.to_string()).collect(),
+        keep: keep.to_string(),
+    });
+    std::process::exit(match outcome {
+        compare::Outcome::Equal => 0,
+        compare::Outcome::Differs => 1,
+        compare::Outcome::Poor => 3,
+    });
+}
+
+fn hold(lines: &str) {
+    let text = std::fs::read_to_string(lines).unwrap_or_else(|error| {
+        eprintln!("oracle: {lines} cannot be read: {error}");
+        std::process::exit(2);
+    });
+    if !backend::kmod::ehci::leaves::hold(&text) {
+        std::process::exit(1);
+    }
+}
+
+fn list() {
+    let mut sheet = Vec::new();
+    std::io::stdin().read_to_end(&mut sheet).unwrap();
+    print!("{}", sheet::listing(&sheet));
+    eprint!("{}", tags::report());
+}

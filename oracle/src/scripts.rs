@@ -1,0 +1,472 @@
+//! Scripts written by hand: for each departure the fewest calls that show it, and 01's rules one by one. With short
+//! scripts by chance they are the fixed list.
+use blocks::record::{Record, call};
+
+use crate::generate::{AREAS, Generator, opening};
+use crate::replica::Replica;
+use crate::tags;
+
+const CONTROL: u8 = 0;
+const ISOCHRONOUS: u8 = 1;
+const BULK: u8 = 2;
+const INTERRUPT: u8 = 3;
+const HIGH: u64 = 1 << 32;
+
+type Calls = Vec<Record>;
+
+// ---- calls in short
+
+fn bare(number: u8) -> Record {
+    Record::new(number, &[], &[])
+}
+
+fn open(d: u64, e: u8, ports: u8, limit: u64, wait: u64) -> Record {
+    opening(d, e, ports, limit, wait, AREAS)
+}
+
+fn step(reading: u64) -> Record {
+    Record::new(call::STEP, &[], &[reading])
+}
+
+fn brought_up() -> Calls {
+    let mut calls = vec![bare(call::START)];
+    calls.extend([0x80001, 0x1000, 0x80000, 0x80000, 0x80000, 0].map(step));
+    calls
+}
+
+fn started(d: u64, e: u8, limit: u64) -> Calls {
+    let mut calls = vec![open(d, e, 2, limit, 2)];
+    calls.extend(brought_up());
+    calls
+}
+
+fn endpoint(kind: u8, address: u8, number: u8, packet: u64) -> Record {
+    Record::new(call::ENDPOINT, &[kind, address, number], &[packet])
+}
+
+fn bulk() -> Record {
+    endpoint(BULK, 5, 1, 512)
+}
+
+fn on(number: u8, slot: u8) -> Record {
+    Record::new(number, &[slot], &[])
+}
+
+fn submit(slot: u8, kind: u8, incoming: u8, address: u64, length: u64) -> Record {
+    let setup = if kind == CONTROL { 0x0100_0600 | (incoming as u64) << 7 } else { 0 };
+    Record::new(call::SUBMIT, &[slot, kind, incoming], &[setup, address, length, 0x80031])
+}
+
+/// A bulk request of one descriptor.
+fn one(slot: u8) -> Record {
+    submit(slot, BULK, 1, 0x1000_0000, 512)
+}
+
+fn writeback(place: u64, token: u64) -> Record {
+    Record::new(call::WRITEBACK, &[], &[place, token])
+}
+
+fn cancel(slot: u8, id: u64, frame: u64) -> Record {
+    Record::new(call::CANCEL, &[slot], &[id, 0x80031, frame])
+}
+
+fn collect(slot: u8, id: u64, frame: u64) -> Record {
+    Record::new(call::COLLECT, &[slot], &[id, 0x80031, frame])
+}
+
+fn acknowledge(status: u64) -> Record {
+    Record::new(call::ACKNOWLEDGE, &[1, 1], &[status, 0x27])
+}
+
+fn drain() -> Record {
+    Record::new(call::DRAIN, &[], &[0x80031])
+}
+
+fn scan(readings: &[u64]) -> Calls {
+    let mut calls = vec![bare(call::SCAN)];
+    calls.extend(readings.iter().map(|reading| Record::new(call::SCAN_STEP, &[], &[*reading])));
+    calls
+}
+
+fn power(port: u8) -> Record {
+    Record::new(call::POWER, &[port], &[0x2b])
+}
+
+fn with(mut calls: Calls, more: &[Record]) -> Calls {
+    calls.extend_from_slice(more);
+    calls
+}
+
+// ---- one script for each departure
+
+/// The incident: two unlinks, one ring, and an advance that shares its drain with a port change.
+pub fn double_count() -> Calls {
+    let both = [bulk(), endpoint(BULK, 5, 2, 512), one(0), one(1), cancel(0, 1, 0), cancel(1, 1, 0)];
+    with(with(started(4, 2, 16384), &both), &[acknowledge(0x24), drain(), drain(), collect(0, 1, 0), collect(1, 1, 0)])
+}
+
+/// For each tag the fewest calls that show it.
+pub fn departures() -> Vec<(&'static str, Calls)> {
+    let running = || started(4, 2, 16384);
+    let asked = || with(running(), &[bulk(), one(0)]);
+    let rung = || with(asked(), &[cancel(0, 1, 0)]);
+    let keeps_bell = Record::new(call::SUBMIT, &[0, BULK, 1], &[0, 0x1000_0000, 512, 0x71]);
+    let bring_up_bell = with(vec![open(1, 1, 1, 1, 1), bare(call::START)], &[step(0x80b71)]);
+    let unplugged = with(vec![open(1, 1, 1, 1, 1)], &scan(&[1, 1, 1, 5]));
+    vec![
+        ("K1", vec![open(1, 1, 1, 1, 1), bulk()]),
+        ("K2", with(rung(), &[bulk(), one(1), cancel(1, 1, 0), acknowledge(0x24), drain(), drain()])),
+        ("K3", with(asked(), &[acknowledge(0x20), cancel(0, 1, 0), drain()])),
+        ("K4", with(running(), &[bulk(), keeps_bell])),
+        ("K4", bring_up_bell),
+        ("N1", with(rung(), &[acknowledge(0x20), drain(), collect(0, 1, 0)])),
+        ("N2", vec![open(1, 1, 1, 1, 1), endpoint(BULK, 5, 1, 1)]),
+        ("N3", with(running(), &[bulk(), submit(0, CONTROL, 1, 0, 0)])),
+        ("N4", with(running(), &[bulk(), submit(0, ISOCHRONOUS, 1, 0, 0)])),
+        ("N4", with(asked(), &[submit(0, CONTROL, 1, 0, 0)])),
+        ("N5", with(vec![open(1, 1, 1, 1, 1), bare(call::START)], &[step(0), step(0)])),
+        ("N6", with(asked(), &[Record::new(call::SET_ADDRESS, &[0, 9], &[])])),
+        ("N6", with(asked(), &[Record::new(call::SET_PACKET, &[0, 64], &[])])),
+        ("N6", vec![open(1, 1, 1, 1, 1), bulk(), Record::new(call::SET_ADDRESS, &[0, 200], &[])]),
+        ("N7", with(asked(), &[bare(call::START)])),
+        ("N7", with(rung(), &brought_up())),
+        ("N8", vec![open(1, 1, 2, 1, 1), power(1)]),
+        ("N10", vec![open(1, 1, 1, 16384, 1), bulk(), one(0)]),
+        ("N11", with(running(), &[bulk(), submit(0, BULK, 1, HIGH - 1, 2)])),
+        ("N11", with(running(), &[endpoint(CONTROL, 5, 0, 64), submit(0, CONTROL, 1, 0x1000_0000, 40000)])),
+        ("N12", with(started(1, 1, 16384), &[endpoint(CONTROL, 5, 0, 64), submit(0, CONTROL, 1, 0, 0)])),
+        ("N13", rung()),
+        ("N15", vec![open(1, 1, 1, 1, 1), endpoint(ISOCHRONOUS, 5, 1, 512)]),
+        ("N16", with(asked(), &[on(call::CLOSE, 0)])),
+        ("N17", vec![open(1, 1, 0, 1, 1)]),
+        ("N20", with(rung(), &[acknowledge(0x20), drain(), collect(0, 1, 0), on(call::CLOSE, 0)])),
+        ("C", with(running(), &[bulk(), submit(0, BULK, 1, 0x1000_0000, 16385)])),
+        ("C", with(running(), &[bulk(), submit(0, BULK, 1, 0x1000_0fff, 20480)])),
+        ("P4", with(unplugged, &scan(&[0, 0]))),
+    ]
+}
+
+/// What each departure does: the calls, and for those that differ the block with the repair and without.
+pub fn show_departures() {
+    for (tag, calls) in departures() {
+        tags::leave_out("");
+        let right = blocks_of(&calls);
+        tags::leave_out(tag);
+        let left = blocks_of(&calls);
+        println!("== {tag}");
+        let first = (0..calls.len()).find(|i| right[*i] != left[*i]).expect("a departure that does not show");
+        println!(
+            "{} calls; the first that differs is call {first}, {}",
+            calls.len(),
+            call::NAMES[calls[first].number as usize]
+        );
+        for i in (first..calls.len()).filter(|i| right[*i] != left[*i]) {
+            print!("01 and the port:\n{}000:\n{}", right[i], left[i]);
+        }
+    }
+    tags::leave_out("");
+}
+
+/// The blocks of a script from a fresh program.
+pub fn blocks_of(calls: &[Record]) -> Vec<String> {
+    let mut replica = Replica::default();
+    calls.iter().map(|record| replica.block(&record.bytes()).unwrap()).collect()
+}
+
+// ---- 01's rules one by one
+
+fn openings() -> Vec<Calls> {
+    let good = open(4, 4, 2, 16384, 2);
+    let at = |areas| opening(4, 4, 2, 16384, 2, areas);
+    let mut out: Vec<Calls> =
+        vec![vec![good, open(256, 32, 15, 1, 65536), open(1, 1, 1, 16384, 1), open(256, 32, 15, 1, 1)]];
+    for wrong in [
+        open(0, 4, 2, 1, 1),
+        open(257, 4, 2, 1, 1),
+        open(1, 0, 2, 1, 1),
+        open(1, 33, 2, 1, 1),
+        open(1, 1, 0, 1, 1),
+        open(1, 1, 16, 1, 1),
+        open(1, 1, 1, 0, 1),
+        open(1, 1, 1, 16385, 1),
+        open(1, 1, 1, 1, 0),
+        open(1, 1, 1, 1, 65537),
+        at([0x100020, 0x200000, 0x300000, 0x400000]),
+        at([0x100000, 0x200040, 0x300000, 0x400000]),
+        at([0x100000, 0x200000, 0x300800, 0x400000]),
+        at([0x100000, 0x200000, 0x300000, 0x400004]),
+        at([HIGH - 192, 0x200000, 0x300000, 0x400000]),
+        at([0x200200, 0x200000, 0x300000, 0x400000]),
+        at([u64::MAX - 63, 0x200000, 0x300000, 0x400000]),
+    ] {
+        out.push(vec![good, bulk(), bare(call::ADDRESS), wrong, bare(call::ADDRESS), bulk()]);
+    }
+    // areas that touch each other and end at 2^32
+    out.push(vec![at([HIGH - 256, HIGH - 896, 0x300000, 0x400000]), bulk(), at([0x100000, 0x200000, 0, 4096]), bulk()]);
+    out
+}
+
+fn bring_ups() -> Vec<Calls> {
+    let begun = || vec![open(1, 1, 1, 1, 2), bare(call::START)];
+    vec![
+        vec![open(1, 1, 1, 1, 2), step(0)],
+        with(begun(), &[0x71, 0, 0x1000, 0x42, 2, 0, 0x40, 0x1000, 0, 0].map(step)),
+        with(begun(), &[0xffff_ffff, 0, 0, 0x1000].map(step)),
+        with(begun(), &[0, 0x1000, 0, 2, 2, 0].map(step)),
+        with(begun(), &[0, 0x1000, 0, 0, 0, 0x1000, 0x1000, 0].map(step)),
+        with(with(begun(), &[step(0), step(0x1000), bare(call::START)]), &[0, 0x1000, 0, 0, 0, 0].map(step)),
+        with(started(1, 1, 1), &[bare(call::ENABLE), bare(call::START), bulk(), submit(0, BULK, 1, 0, 0)]),
+    ]
+}
+
+fn endpoints() -> Vec<Calls> {
+    let mut asked = started(4, 3, 16384);
+    for (kind, address, number) in [(ISOCHRONOUS, 128, 16), (BULK, 128, 1), (BULK, 1, 16)] {
+        asked.push(endpoint(kind, address, number, 8));
+    }
+    asked.extend([0, 1025].map(|packet| endpoint(BULK, 1, 1, packet)));
+    asked.extend([endpoint(CONTROL, 0, 0, 8), endpoint(BULK, 127, 15, 1024), endpoint(INTERRUPT, 1, 2, 1)]);
+    // no slot is closed any more
+    asked.extend([endpoint(BULK, 1, 1, 8), endpoint(BULK, 128, 1, 8), endpoint(ISOCHRONOUS, 1, 1, 8)]);
+    for slot in [0, 2, 3, 32, 255] {
+        for value in [0, 7, 127, 128, 255] {
+            asked.push(Record::new(call::SET_ADDRESS, &[slot, value], &[]));
+            asked.push(Record::new(call::SET_PACKET, &[slot, value], &[]));
+        }
+    }
+    asked.extend([1, 1, 3].map(|slot| on(call::CLOSE, slot)));
+    asked.extend([endpoint(BULK, 3, 3, 64), on(call::CLOSE, 0), on(call::CLOSE, 1)]);
+    let close = on(call::CLOSE, 0);
+    let mut busy = with(started(4, 1, 16384), &[bulk(), one(0), close, cancel(0, 1, 0), close]);
+    busy.push(Record::new(call::SET_ADDRESS, &[0, 200], &[]));
+    busy.extend([acknowledge(0x20), drain(), collect(0, 1, 0), close, close]);
+    vec![asked, busy, with(vec![open(1, 1, 1, 1, 1)], &[bare(call::ADDRESS); 129])]
+}
+
+/// A control, a bulk and an interrupt endpoint in slots 0 to 2.
+fn three(d: u64) -> Calls {
+    with(started(d, 3, 16384), &[endpoint(CONTROL, 5, 0, 64), bulk(), endpoint(INTERRUPT, 5, 2, 8)])
+}
+
+fn refused_submits() -> Vec<Calls> {
+    let setup = |bits: u64, incoming| Record::new(call::SUBMIT, &[0, CONTROL, incoming], &[bits, 0x1000, 4, 0]);
+    let kinds = [submit(1, ISOCHRONOUS, 1, 0, 0), submit(1, CONTROL, 1, HIGH, 1)];
+    let busy = [one(1), submit(1, CONTROL, 1, 0, 0), submit(1, ISOCHRONOUS, 0, HIGH, 1)];
+    let past =
+        [submit(1, BULK, 1, HIGH - 1, 2), submit(0, CONTROL, 0, 0, 16385), submit(1, BULK, 1, u64::MAX, u64::MAX)];
+    let empty = [submit(1, BULK, 1, u64::MAX, 0), submit(2, INTERRUPT, 0, HIGH, 0)];
+    let room = [submit(1, BULK, 1, 0, 16385), submit(0, CONTROL, 1, 0, 1), submit(0, CONTROL, 1, 0, 0)];
+    let none = [submit(2, INTERRUPT, 1, 0, 16385), submit(2, INTERRUPT, 1, 0, 16384), submit(0, CONTROL, 0, HIGH, 9)];
+    vec![
+        vec![open(4, 2, 1, 16384, 1), bulk(), one(0), one(1), one(255)],
+        with(with(three(8), &[one(3)]), &kinds),
+        with(three(8), &busy),
+        with(with(three(8), &past), &empty),
+        with(three(8), &[setup(0, 1), setup(0x80, 0), setup(0xffff_ffff_ffff, 1), setup(0x1f, 0)]),
+        with(with(three(3), &room), &none),
+    ]
+}
+
+fn submits() -> Vec<Calls> {
+    let mut out = refused_submits();
+    for limit in [1, 512, 4097, 16384] {
+        for length in [0, 1, limit - 1, limit, limit + 1, 2 * limit, 3 * limit + 1, 4 * limit, 4 * limit + 1] {
+            let asked = [bulk(), submit(0, BULK, 0, 0x1000_0fff, length), submit(0, BULK, 0, 0, 1)];
+            out.push(with(started(4, 1, limit), &asked));
+        }
+    }
+    let edge = [1, 2, 16384].map(|length| (0x1000_0fff, length));
+    let whole = [(0x1000_0000, 4096), (0x1000_0001, 4096), (0, 16384), (HIGH - 16384, 16384), (HIGH - 1, 1)];
+    for (address, length) in edge.into_iter().chain(whole) {
+        let each = |(slot, kind, incoming)| submit(slot, kind, incoming, address, length);
+        out.push(with(three(8), &[(0, CONTROL, 1), (1, BULK, 0), (2, INTERRUPT, 1)].map(each)));
+    }
+    out
+}
+
+/// So many endpoints of a kind, each with a request.
+fn linked(kind: u8, count: u8) -> Calls {
+    let mut calls = started(count as u64, count, 16384);
+    calls.extend((0..count).map(|k| endpoint(kind, k, 1, 64)));
+    calls.extend((0..count).map(|k| submit(k, kind, 1, 0x1000_0000, 8)));
+    calls
+}
+
+fn unlinks() -> Vec<Calls> {
+    let names = [cancel(0, 2, 0), collect(0, 2, 0), cancel(1, 1, 0), collect(255, 1, 0)];
+    let twice = [cancel(0, 1, 0), cancel(0, 1, 0), collect(0, 1, 0)];
+    let idle = with(started(8, 1, 16384), &[bulk(), cancel(0, 1, 0), collect(0, 7, 0), one(0)]);
+    // the starred distance: start 16380; 8 at 4, 9 at 5
+    let near = [writeback(0, 0x0003_8d00), collect(0, 1, 16380), collect(0, 1, 4), collect(0, 1, 5), collect(0, 1, 5)];
+    let far = [cancel(0, 1, 0xffff_7ffc), collect(0, 1, 0x8004), collect(0, 1, 0x4005)];
+    let answered = [drain(), acknowledge(0x20), drain(), collect(1, 1, 0), collect(0, 1, 0)];
+    let mut out =
+        vec![with(with(idle, &names), &twice), with(linked(INTERRUPT, 1), &near), with(linked(INTERRUPT, 1), &far)];
+    out.extend([double_count(), with(double_count(), &answered)]);
+    out.push(unlinked((0..32).map(|k| 7 * k % 32)));
+    for order in [[0, 1, 2], [0, 2, 1], [1, 0, 2], [1, 2, 0], [2, 0, 1], [2, 1, 0]] {
+        out.push(with(unlinked(order.into_iter()), &[submit(1, BULK, 0, 0, 9)]));
+        let mut polls = linked(INTERRUPT, 3);
+        polls.extend(order.map(|k| cancel(k, 1, k as u64)));
+        polls.extend(order.map(|k| collect(k, 1, k as u64 + 8)));
+        polls.extend(order.map(|k| collect(k, 1, k as u64 + 9)));
+        out.push(polls);
+    }
+    out
+}
+
+/// Bulk requests unlinked in this order, then answered and collected one by one.
+fn unlinked(order: impl ExactSizeIterator<Item = u8> + Clone) -> Calls {
+    let mut calls = linked(BULK, order.len() as u8);
+    calls.extend(order.clone().map(|k| cancel(k, 1, 0)));
+    calls.extend(order.flat_map(|k| [acknowledge(0x20), drain(), collect(k, 1, 0)]));
+    calls
+}
+
+/// Every error bit, before and after an active token; bytes left; late writebacks.
+fn tokens() -> Vec<Calls> {
+    let answered = [acknowledge(0x20), drain(), collect(0, 1, 0)];
+    let asked = || with(started(4, 1, 64), &[bulk(), submit(0, BULK, 1, 0x1000, 100)]);
+    let two = |first: u64, second: u64| {
+        let left = [writeback(0, first), writeback(1, second), collect(0, 1, 0), collect(0, 1, 0)];
+        with(with(asked(), &left), &answered)
+    };
+    let mut out: Vec<Calls> = (0..8).map(|bit| two(1 << bit, 0x80)).collect();
+    out.extend((0..8).map(|bit| two(0x80, 1 << bit)));
+    out.extend((0..8).map(|bit| two(0x0010_0000, 1 << bit)));
+    out.extend([two(0x7fff_0000, 0x0005_0000), two(0x0040_0000, 0x0024_0000), two(0x48, 0x08), two(0x0008_0d88, 0)]);
+    let late = [writeback(0, 8), collect(0, 1, 0), writeback(0, 0), writeback(1, 0x80)];
+    out.push(with(with(with(asked(), &late), &answered), &[writeback(0, 1)]));
+    let control = with(started(4, 1, 64), &[endpoint(CONTROL, 1, 0, 8), submit(0, CONTROL, 1, 0x1000, 18)]);
+    let stages = [writeback(0, 0x0008_0e00), writeback(1, 0x0002_0d00), writeback(2, 0x0c00), collect(0, 1, 0)];
+    out.push(with(with(with(control, &stages), &answered), &[submit(0, CONTROL, 0, 0, 0)]));
+    let places = [writeback(0, 1), one(0), writeback(0, 1), writeback(1, 1), writeback(2, 1), writeback(u64::MAX, 1)];
+    out.push(with(with(started(2, 1, 64), &[bulk()]), &places));
+    out
+}
+
+fn interrupts() -> Vec<Calls> {
+    let flags = |first, second| Record::new(call::ACKNOWLEDGE, &[first, second], &[0x3f, 0xffff_ffff]);
+    let mut out: Vec<Calls> = (0..14)
+        .map(|bit| {
+            vec![open(1, 1, 1, 1, 1), acknowledge(1 << bit), drain(), drain(), bare(call::REARM), bare(call::REARM)]
+        })
+        .collect();
+    for (first, second) in [(0, 0), (0, 1), (1, 0), (1, 1)] {
+        out.push(vec![
+            open(1, 1, 1, 1, 1),
+            bare(call::ENABLE),
+            flags(first, second),
+            drain(),
+            drain(),
+            drain(),
+            drain(),
+            bare(call::REARM),
+        ]);
+        out.push(vec![
+            open(1, 1, 1, 1, 1),
+            flags(first, second),
+            bare(call::REARM),
+            bare(call::DISABLE),
+            drain(),
+            flags(first, second),
+        ]);
+    }
+    out
+}
+
+fn ports() -> Vec<Calls> {
+    let fresh = |n| vec![open(1, 1, n, 1, 1)];
+    let found = || with(fresh(1), &scan(&[1, 1, 0x101, 0x1005]));
+    vec![
+        with(fresh(1), &[Record::new(call::SCAN_STEP, &[], &[1]), power(0), power(1), power(2), power(255)]),
+        with(found(), &scan(&[0x1001])),
+        with(found(), &scan(&[0x102a, 0x102a])),
+        with(with(found(), &scan(&[0])), &scan(&[0, 0])),
+        with(fresh(1), &scan(&[0x1003, 0x102b, 0x112f, 0x1001, 0x1403])),
+        with(with(fresh(1), &scan(&[1, 1, 1, 0])), &scan(&[1, 1, 1])),
+        with(with(fresh(1), &scan(&[1, 1])), &scan(&[1, 1, 1, 5, 0])),
+        with(fresh(3), &scan(&[0, 1, 0x1005, 0x1105, 5, 1, 1, 1, 1, 1])),
+        with(with(fresh(3), &scan(&[1, 1, 1, 5, 1, 1, 1, 5, 1, 1, 1, 5])), &scan(&[5, 0, 0, 5])),
+        with(fresh(15), &scan(&[0; 15])),
+    ]
+}
+
+/// The scripts of the fixed list: those by hand, then short ones by chance.
+fn fixed() -> Calls {
+    let mut calls: Calls = vec![bare(call::START), bulk(), one(0), bare(call::SCAN), power(1), drain()];
+    let by_hand = [openings(), bring_ups(), endpoints(), submits(), unlinks(), tokens(), interrupts(), ports()];
+    let scripts: Vec<Calls> =
+        departures().into_iter().map(|(_, calls)| calls).chain(by_hand.into_iter().flatten()).collect();
+    let written = scripts.len();
+    calls.extend(scripts.into_iter().flatten());
+    let mut replica = Replica::default();
+    for script in 0..DRAWN {
+        let mut generator = Generator::new(2026, script);
+        let mut make = |record: Record, replica: &mut Replica| {
+            replica.block(&record.bytes()).unwrap();
+            calls.push(record);
+        };
+        make(generator.opening(), &mut replica);
+        if script % 8 != 0 {
+            brought_up().into_iter().for_each(|record| make(record, &mut replica));
+        }
+        for _ in 0..6 + script % 12 {
+            let record = generator.next(replica.controller.as_ref().unwrap());
+            make(record, &mut replica);
+        }
+    }
+    eprintln!("{written} scripts by hand, {DRAWN} by chance, {} calls", calls.len());
+    calls
+}
+
+const DRAWN: u64 = 150;
+
+/// The fixed list as a log. Its last record is cut short.
+pub fn fixed_log() -> Vec<u8> {
+    let mut log: Vec<u8> = fixed().iter().flat_map(|record| record.bytes()).collect();
+    log.extend_from_slice(&drain().bytes()[..63]);
+    log
+}
+
+/// Requests of one to six chunks: limits, lengths about their multiples, offsets in a page, both kinds, both directions.
+pub fn chunk_edges() -> Calls {
+    let mut calls = Vec::new();
+    for limit in [1, 2, 3, 63, 64, 512, 1000, 4095, 4096, 4097, 8192, 12289, 16383, 16384] {
+        calls.extend(started(5, 2, limit));
+        calls.extend([bulk(), endpoint(INTERRUPT, 5, 2, 8)]);
+        let lengths = (0..6).flat_map(|k| [(k * limit).saturating_sub(1), k * limit, k * limit + 1]);
+        let offsets = [0, 1, 0x7ff, 0xffe, 0xfff];
+        let asked = lengths.flat_map(|length| offsets.map(|offset| (length, 0x1000_0000 + offset)));
+        let mut id = 0;
+        for (turn, (length, address)) in asked.enumerate() {
+            let incoming = turn as u8 % 2;
+            // more than five chunks find no room, and take no id
+            if length <= 5 * limit {
+                id += 1;
+            }
+            calls.extend([
+                submit(0, BULK, incoming, address, length),
+                cancel(0, id, 0),
+                acknowledge(0x20),
+                drain(),
+                collect(0, id, 0),
+            ]);
+            calls.extend([submit(1, INTERRUPT, incoming, address, length), cancel(1, id, 0), collect(1, id, 9)]);
+        }
+    }
+    calls
+}
+
+/// The longest waits that 01 allows: ready at the 65,536th read, and not ready then.
+pub fn long_waits() -> Calls {
+    let mut calls = vec![open(1, 1, 1, 1, 65536), bare(call::START), step(0)];
+    calls.extend(std::iter::repeat_n(step(0), 65535));
+    calls.extend([step(0x1000), bare(call::START), step(0)]);
+    calls.extend(std::iter::repeat_n(step(0), 65536));
+    with(calls, &[step(0)])
+}
+
+pub fn log_of(calls: &[Record]) -> Vec<u8> {
+    calls.iter().flat_map(|record| record.bytes()).collect()
+}

@@ -1,0 +1,54 @@
+#!/usr/bin/env python3
+"""The double count as a log, and what was printed of it: tools/compare_incident.py writes examples/double-count.log and
+examples/double-count.txt. It needs what tools/compare needs."""
+import os
+
+from compare_run import ORACLE, TOP, build, program, written
+
+EXAMPLE = os.path.join(TOP, "examples", "double-count")
+CALLS = {
+    8: "open endpoint: bulk, address 5, number 1", 9: "open endpoint: bulk, address 5, number 2", 10: "submit on slot 0", 11: "submit on slot 1",
+    12: "cancel slot 0", 13: "cancel slot 1", 14: "acknowledge, USBSTS 0x24: an advance and a port change", 15: "drain", 16: "drain",
+    17: "collect slot 0", 18: "collect slot 1",
+}  # fmt: skip
+HEAD = """\
+The double count: two unlinks, one ring, and an answer that shares its drain with a port change.
+
+double-count.log opens a controller, brings it up (calls 0 to 7), and goes on as below. Each block is what was printed:
+  port    this build: replay < double-count.log
+  000     the Rust as it is: NOREPAIR=K2,N1,N13 oracle < double-count.log
+  000/N1  the Rust with one advance for an unlink, as the port has it: NOREPAIR=K2 oracle < double-count.log
+The fifth number of a Q line is how many advances are still waited for (the Rust's own counts in its lines; the first and the
+fourth number, running and note, are 01's and not the Rust's); W 00 with 0x40 in it is a ring; R 00 is the Rust's read after a
+ring. "all" stands where the three are the same. Written by tools/compare_incident.py.
+
+One answer came (call 14). The port counts it once (call 15) and rings for slot 1; call 16 counts nothing and writes nothing;
+slot 0 is collected and slot 1 waits. The Rust counts the same answer in call 15 and in call 16 and rings in both, three
+rings in all. It wants two advances for each unlink, four here; after one answer it has counted two, and slot 0's memory is
+given back (call 17, answer 10) on the first of the two answers that the Rust itself wants. With one advance for an unlink
+the same fault gives back slot 1 (call 18, answer 10), whose ring nobody has answered: the controller may still read its head.
+"""
+
+
+def blocks(text):
+    return text.split(".\n")[:-1]
+
+
+def main():
+    build()
+    log = written([ORACLE, "incident"])
+    told = lambda words, off: blocks(written(words, log, NOREPAIR=off).decode())
+    sides = [("port", told([program("replay", "REPLAY")], "")), ("000", told([ORACLE], "K2,N1,N13")), ("000/N1", told([ORACLE], "K2"))]
+    with open(EXAMPLE + ".log", "wb") as out:
+        out.write(log)
+    with open(EXAMPLE + ".txt", "w") as out:
+        out.write(HEAD)
+        for call, words in CALLS.items():
+            out.write(f"\ncall {call}: {words}\n")
+            same = len({side[call] for _, side in sides}) == 1
+            for name, side in [("all", sides[0][1])] if same else sides:
+                for line in side[call].splitlines():
+                    out.write(f"  {name:<7} {line}\n")
+
+
+main()
