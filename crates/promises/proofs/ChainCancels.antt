@@ -96,6 +96,7 @@ module _ (s : Settings) (h : History) (w : World) (sound : Sound s w) (x : Chain
           rows-are = ap rowsOf cancel-comes ∙ rows-kept w (Cancel k (r .id) rd) (unlinked .rows .heads) (unlinked .rows .frames) (w .rows .setups);
           writes-are = ap (λ (z : Applied). z .reply .writes) cancel-comes;
           leaves = refl;
+          same = refl;
         }
 
     cancel-done : core w (Cancel k (r .id) rd) .reply .answer ≡ Done Nothing

@@ -127,6 +127,7 @@ module _ (s : Settings) (h : History) (w : World) (sound : Sound s w) (x : Chain
         rows-are = ap rowsOf is ∙ rows-kept w call (unlinked .rows .heads) (unlinked .rows .frames) (w .rows .setups);
         writes-are = ap (λ (z : Applied). z .reply .writes) is;
         leaves = pending-leaves (core w call .reply .answer) (ap (λ (z : Applied). z .reply .answer) is);
+        same = refl;
       }
     where
       pending-leaves : (a : Answered) → a ≡ Pending

@@ -3,9 +3,7 @@ use Prim.Native.Nat.{ℕ, _+_, _<_}
 use mathlib.Core.Path.{_≡_, refl, sym, ap, subst, _∙_}
 use mathlib.Core.Bool.{Bool, true, false}
 use mathlib.Core.List.{List, [], _∷_, _++_, map}
-use native.Mathlib.Decide.{ℕ-discrete as decEq}
 use native.Mathlib.Omega.{arith}
-use borrow.Author.Tests.{eq-eqb, ne-eqb}
 use lib.ListN.{getD, getD-replicate, replicate}
 use Rattle.settings.specs.Settings.{settingsGood}
 use Rattle.settings.specs.declared.settings.Settings.{Settings}
@@ -21,11 +19,12 @@ use Rattle.opening.proofs.OpenLaws.{heads-words}
 use Rattle.ehci.specs.declared.call.Call.{Call}
 use Rattle.promises.specs.Runs.{History, Opening, World, core, historyOf, worldOf}
 use Rattle.promises.specs.Walks.{frameWalk, isIn, ringWalk}
-use Rattle.promises.specs.Uses.{Use, frameSlots, ringSlots, uses}
+use Rattle.promises.specs.Uses.{frameSlots, ringSlots, uses}
 use Rattle.promises.specs.Chains.{ChainsWalked, headPlaces, isLinked}
 use Rattle.promises.proofs.Sound.{Sound}
 use Rattle.promises.proofs.Reached.{freshWorld, opening-is, reached, sound-opens}
-use Rattle.promises.proofs.UseInv.{Avoids, Held, Nobody, tenantOf, tenants-apart}
+use Rattle.promises.proofs.UseInv.{Held, Nobody, tenantOf, tenants-apart}
+use Rattle.promises.proofs.OpenedVerdict.{out-of-uses}
 use Rattle.promises.proofs.RoomPromises.{held}
 use Rattle.promises.proofs.ChainInv.{Chained, linked-by, linked-within, linkedIn}
 use Rattle.promises.proofs.ChainEvents.{frame-walked, ring-walked}
@@ -74,15 +73,6 @@ module _ (s : Settings) (h : History) (w : World) (sound : Sound s w) (x : Chain
       (λ i m. linked-within true (w .state) i (sound .ranges) (sym (x .periodic .members i) ∙ m)) f (rw (x .even f low) (x .periodic .chain)))
 
 -- ---- each linked head is that of an uncollected request
-
--- a slot that is none of the uses'
-out-of-uses : (k : ℕ) (us : List Use) → isIn k (map (λ u. u .slot) us) ≡ false → Avoids k us
-out-of-uses k [] e = tt
-out-of-uses k (u ∷ us) e = by (decEq (u .slot) k) (λ q. out-of-uses k us q)
-  where
-    by : Dec (u .slot ≡ k) → (isIn k (map (λ u. u .slot) us) ≡ false → Avoids k us) → Avoids k (u ∷ us)
-    by (yes q) rest = absurd (false-true (sym e ∙ rw (eq-eqb (u .slot) k q)))
-    by (no ne) rest = (ne, rest (rw (ne-eqb (u .slot) k ne) at e))
 
 linked-held : (b : Bool) (x : Endpoint) → linkedIn b x ≡ true → tenantOf x ≡ Nobody → ⊥
 linked-held b Closed e q = false-true e

@@ -26,7 +26,8 @@ use Rattle.ehci.specs.Door.{Applied, applied, applyOf, carriedOut, seenBy}
 use Rattle.ehci.specs.Replies.{refusedReply, replied}
 use Rattle.promises.specs.Runs.{Rows, World, core, turnOf}
 use Rattle.promises.specs.Events.{Other, event, someRing}
-use Rattle.promises.proofs.Effects.{Effect, Idles, Sides, besides, still}
+use Rattle.promises.specs.Opened.{change}
+use Rattle.promises.proofs.Effects.{Effect, Idles, Sides, Switches, besides, still}
 
 -- checks, then settle: what holds of a refusal and of what is new holds of what is left
 pub settled-by : {A : Type 0} (v : Verdict) (old : Refusal → A) (new : A) (P : A → Type 0)
@@ -71,8 +72,9 @@ module _ (w : World) (c : Call) where
 
   pub still-of : (s : Ehci) (r : Answered) (ws : Writes) (x : Sides) → s ≡ besides (w .state) x → someRing (listOf ws) ≡ false
       → event (w .state .settings) (turnOf (w .rows) c (leaves s r ws)) ≡ Other → (Ranges (w .state) → Ranges s)
-      → x .pending ≡ w .state .pending → (Idles (w .state) → Idles s) → Effect w c (leaves s r ws)
-  still-of s r ws x e silent nothing keeps pends idles =
+      → x .pending ≡ w .state .pending → (Idles (w .state) → Idles s)
+      → Switches (change (turnOf (w .rows) c (leaves s r ws))) (w .state .running) (x .running) → Effect w c (leaves s r ws)
+  still-of s r ws x e silent nothing keeps pends idles switches =
       still
       (record {
         sides = x;
@@ -83,19 +85,22 @@ module _ (w : World) (c : Call) where
         keeps = keeps;
         pending-stays = pends;
         idles = idles;
+        switches = switches;
       })
 
   -- a refusal
   pub refused-still : (r : Refusal)
       → event (w .state .settings) (turnOf (w .rows) c (leaves (w .state) (Refused r) noWrites)) ≡ Other
+      → Switches (change (turnOf (w .rows) c (leaves (w .state) (Refused r) noWrites))) (w .state .running) (w .state .running)
       → Effect w c (leaves (w .state) (Refused r) noWrites)
   unfolding noWrites
-  refused-still r nothing = still-of (w .state) (Refused r) noWrites (sidesOf (w .state)) refl refl nothing (λ g. g) refl (λ i. i)
+  refused-still r nothing switches =
+      still-of (w .state) (Refused r) noWrites (sidesOf (w .state)) refl refl nothing (λ g. g) refl (λ i. i) switches
 
   abbrev pub seen : View
   seen = seenBy (asksOf (w .state) (length (w .rows .pool)) c) (w .rows .pool)
 
-  pub through : ((r : Refusal) → Effect w c (leaves (w .state) (Refused r) noWrites))
+  pub through : Effect w c (leaves (w .state) (Refused InvalidParameter) noWrites)
       → Effect w c (carriedOut (callOf (w .state) (length (w .rows .pool)) (w .rows .heads) (w .rows .frames) (w .rows .setups) seen c) (w .rows .pool))
       → Effect w c (core w c)
   unfolding applyOf decideOf refusedReply replied
@@ -105,4 +110,4 @@ module _ (w : World) (c : Call) where
           → rowsFit (w .state .settings) (length (w .rows .pool)) (length (w .rows .heads)) (length (w .rows .frames)) (length (w .rows .setups)) ≡ b
           → Effect w c (core w c)
       by true e = rw e done
-      by false e = rw e (denied InvalidParameter)
+      by false e = rw e denied

@@ -9,6 +9,7 @@ use Rattle.register.specs.Writes.{noWrites}
 use Rattle.descriptor.specs.Heads.{withAddress, withPacketSize}
 use Rattle.settings.proofs.Every.{false-true}
 use Rattle.state.specs.declared.state.Ehci.{Ehci}
+use Rattle.answer.specs.declared.answer.Refusal.the-variants.{InvalidParameter}
 use Rattle.pipe.specs.Endpoints.{endpointAt, withEndpoint}
 use Rattle.pipe.specs.declared.endpoint.Endpoint.{Endpoint}
 use Rattle.pipe.specs.declared.endpoint.Endpoint.the-variants.{Closed, Idle, Linked, Unlinking}
@@ -58,10 +59,10 @@ module _ (w : World) where
   pub open-effect : (x : EndpointFields) → Effect w (OpenEndpoint x) (core w (OpenEndpoint x))
   unfolding openDecided replied noWrites
   open-effect x =
-      through w (OpenEndpoint x) (λ r. refused-still w (OpenEndpoint x) r refl)
+      through w (OpenEndpoint x) (refused-still w (OpenEndpoint x) InvalidParameter refl refl)
       (open-by s n hs f u (x .kind) (x .address) (x .number) (x .packet)
       (λ o. Effect w (OpenEndpoint x) (carriedOut (withFrames (openCame o) (w .rows .frames) (w .rows .setups)) (w .rows .pool)))
-      (λ r. refused-still w (OpenEndpoint x) r refl)
+      (λ r. refused-still w (OpenEndpoint x) r refl refl)
       (λ k from. opens
       (record {
         k = k;
@@ -76,6 +77,7 @@ module _ (w : World) where
         rows-are = rows-kept w (OpenEndpoint x) _ (w .rows .frames) (w .rows .setups);
         silent = refl;
         nothing = refl;
+        changes = refl;
       })))
 
   abbrev Changed : Call → ChangeLeft → Type 0
@@ -87,9 +89,9 @@ module _ (w : World) where
   pub close-effect : (k : ℕ) → Effect w (Close k) (core w (Close k))
   unfolding closeDecided closeOf changedReply replied noWrites
   close-effect k =
-      through w (Close k) (λ r. refused-still w (Close k) r refl)
+      through w (Close k) (refused-still w (Close k) InvalidParameter refl refl)
       (change-by s n hs f u k true (withEndpoint s k Closed) (withHead hs k (replicate 17 0)) (Changed (Close k))
-      (λ r. refused-still w (Close k) r refl)
+      (λ r. refused-still w (Close k) r refl refl)
       (λ from g. closes
       (record {
         k = k;
@@ -99,15 +101,16 @@ module _ (w : World) where
         rows-are = rows-kept w (Close k) _ (w .rows .frames) (w .rows .setups);
         silent = refl;
         nothing = refl;
+        changes = refl;
       })))
 
   pub address-effect : (k a : ℕ) → Effect w (SetAddress k a) (core w (SetAddress k a))
   unfolding addressDecided setAddressOf changedReply replied noWrites
   address-effect k a =
       let word = withAddress (headWord hs (k + 1) 1) a in
-      through w (SetAddress k a) (λ r. refused-still w (SetAddress k a) r refl)
+      through w (SetAddress k a) (refused-still w (SetAddress k a) InvalidParameter refl refl)
       (change-by s n hs f u k (leb a 127) s (withHeadWord hs (k + 1) 1 word) (Changed (SetAddress k a))
-      (λ r. refused-still w (SetAddress k a) r refl)
+      (λ r. refused-still w (SetAddress k a) r refl refl)
       (λ from g. rewrites
       (record {
         k = k;
@@ -118,15 +121,16 @@ module _ (w : World) where
         rows-are = rows-kept w (SetAddress k a) _ (w .rows .frames) (w .rows .setups);
         silent = refl;
         nothing = refl;
+        same = refl;
       })))
 
   pub size-effect : (k size : ℕ) → Effect w (SetPacketSize k size) (core w (SetPacketSize k size))
   unfolding packetDecided setPacketSizeOf changedReply replied noWrites
   size-effect k size =
       let word = withPacketSize (headWord hs (k + 1) 1) size in
-      through w (SetPacketSize k size) (λ r. refused-still w (SetPacketSize k size) r refl)
+      through w (SetPacketSize k size) (refused-still w (SetPacketSize k size) InvalidParameter refl refl)
       (change-by s n hs f u k true s (withHeadWord hs (k + 1) 1 word) (Changed (SetPacketSize k size))
-      (λ r. refused-still w (SetPacketSize k size) r refl)
+      (λ r. refused-still w (SetPacketSize k size) r refl refl)
       (λ from g. rewrites
       (record {
         k = k;
@@ -137,4 +141,5 @@ module _ (w : World) where
         rows-are = rows-kept w (SetPacketSize k size) _ (w .rows .frames) (w .rows .setups);
         silent = refl;
         nothing = refl;
+        same = refl;
       })))

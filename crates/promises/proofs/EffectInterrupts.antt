@@ -1,5 +1,5 @@
 -- Acknowledge, drain, rearm, enable, disable.
-use Prim.Native.Nat.{ℕ, _-_, _≤_, _<_, min}
+use Prim.Native.Nat.{ℕ, _≤_, _<_, min}
 use mathlib.Core.Bool.{Bool, true, false, not, cond}
 use mathlib.Core.List.{[], _∷_}
 use mathlib.Core.Logic.{inl, inr}
@@ -104,7 +104,7 @@ module _ (w : World) (x : InterruptReadings) where
   unfolding acknowledgedState withInterrupt withBell notedAfter replied noWrites
   heard true e b q =
       let none = none-read (x .status) (eqb-true p 0 e) in
-      still-of w (Acknowledge x) _ _ _ (sidesOf s) refl refl (ap (λ (t : Bool). cond t Reads Other) none) (λ g. g) refl (λ i. i)
+      still-of w (Acknowledge x) _ _ _ (sidesOf s) refl refl (ap (λ (t : Bool). cond t Reads Other) none) (λ g. g) refl (λ i. i) refl
   heard false e true q =
       hears
       (record {
@@ -116,6 +116,7 @@ module _ (w : World) (x : InterruptReadings) where
         keeps = acknowledged-keeps;
         pends = λ z. eqb-false p 0 e (joined-none (s .pending) p z .1);
         runs-on = (refl, refl);
+        same = refl;
       })
   heard false e false q =
       joins
@@ -128,14 +129,15 @@ module _ (w : World) (x : InterruptReadings) where
         keeps = acknowledged-keeps;
         pends = λ z. joined-none (s .pending) p z .0;
         runs-on = (refl, refl);
+        same = refl;
       })
 
   pub acknowledge-effect : Effect w (Acknowledge x) (core w (Acknowledge x))
   unfolding acknowledgeOf acknowledgeDecided replied noWrites
   acknowledge-effect =
-      through w (Acknowledge x) (λ r. refused-still w (Acknowledge x) r refl)
+      through w (Acknowledge x) (refused-still w (Acknowledge x) InvalidParameter refl refl)
       (settled-by (first ((not (inRanges s), InvalidParameter) ∷ [])) _ _ Acked
-      (λ r e. refused-still w (Acknowledge x) r refl)
+      (λ r e. refused-still w (Acknowledge x) r refl refl)
       (λ e. heard (eqb p 0) refl (eqb (bit (x .status) 5) 1) refl))
 
 -- ---- drain
@@ -196,6 +198,7 @@ module _ (w : World) (command : ℕ) where
         keeps = λ r. interrupt-keeps d (d .enabled) _ (d .masked) (r .enabled-flag) (taken-only (r .pending-only)) (r .masked-only) r;
         uncounted = inl (eqb-true (d .noted) 0 e);
         runs-on = (refl, refl);
+        same = refl;
       })
   uncounted false e =
       let noted : d .noted ≡ 0 → ⊥ = eqb-false (d .noted) 0 e in
@@ -212,6 +215,7 @@ module _ (w : World) (command : ℕ) where
             interrupt-keeps (countIf false d command .state) (d .enabled) _ (d .masked) (r .enabled-flag) (taken-only (r .pending-only)) (r .masked-only)
             (counted-keeps d command noted r);
         runs-on = (refl, refl);
+        same = refl;
       })
 
   drained : (z : Bool) → eqb (d .pending) 0 ≡ z → Drained (drainIf z d (countedOf d command) (takenOf (d .pending)))
@@ -227,15 +231,16 @@ module _ (w : World) (command : ℕ) where
         keeps = λ r. r;
         uncounted = inr (eqb-true (d .pending) 0 e);
         runs-on = (refl, refl);
+        same = refl;
       })
   drained false e = uncounted (eqb (d .noted) 0) refl
 
   pub drain-effect : Effect w (Drain command) (core w (Drain command))
   unfolding drainOf drainDecided replied noWrites
   drain-effect =
-      through w (Drain command) (λ r. refused-still w (Drain command) r refl)
+      through w (Drain command) (refused-still w (Drain command) InvalidParameter refl refl)
       (settled-by (first ((not (inRanges d), InvalidParameter) ∷ [])) _ _ Drained
-      (λ r e. refused-still w (Drain command) r refl)
+      (λ r e. refused-still w (Drain command) r refl refl)
       (λ e. drained (eqb (d .pending) 0) refl))
 
 -- ---- rearm, enable, disable: only what is masked and the flag
@@ -259,38 +264,38 @@ module _ (w : World) where
   -- a flag is set, and USBINTR written
   pub enable-effect : Effect w Enable (core w Enable)
   unfolding enableOf settledReply replied withInterrupt andThen noWrites
-  enable-effect = through w Enable (λ r. refused-still w Enable r refl) (by (not (inRanges t)))
+  enable-effect = through w Enable (refused-still w Enable InvalidParameter refl refl) (by (not (inRanges t)))
     where
       by : (b : Bool)
           → Effect w Enable
           (carriedOut (came (settledReply (settledOr b t (record { answer = Done; state = withInterrupt t 1 (t .pending) (t .masked); writes = andThen noWrites 8 0x27 })))
           (w .rows .heads) (w .rows .frames) (w .rows .setups)) (w .rows .pool))
-      by true = refused-still w Enable InvalidParameter refl
+      by true = refused-still w Enable InvalidParameter refl refl
       by false =
           still-of w Enable _ _ _ (flagged 1 (t .masked)) refl refl refl
-          (λ r. interrupt-keeps t 1 (t .pending) (t .masked) (omega arith) (r .pending-only) (r .masked-only) r) refl (idles-on t _ refl refl)
+          (λ r. interrupt-keeps t 1 (t .pending) (t .masked) (omega arith) (r .pending-only) (r .masked-only) r) refl (idles-on t _ refl refl) refl
 
   pub disable-effect : Effect w Disable (core w Disable)
   unfolding disableOf settledReply replied withInterrupt andThen noWrites
-  disable-effect = through w Disable (λ r. refused-still w Disable r refl) (by (not (inRanges t)))
+  disable-effect = through w Disable (refused-still w Disable InvalidParameter refl refl) (by (not (inRanges t)))
     where
       by : (b : Bool)
           → Effect w Disable
           (carriedOut (came (settledReply (settledOr b t (record { answer = Done; state = withInterrupt t 0 (t .pending) (t .masked); writes = andThen noWrites 8 0 })))
           (w .rows .heads) (w .rows .frames) (w .rows .setups)) (w .rows .pool))
-      by true = refused-still w Disable InvalidParameter refl
+      by true = refused-still w Disable InvalidParameter refl refl
       by false =
           still-of w Disable _ _ _ (flagged 0 (t .masked)) refl refl refl
-          (λ r. interrupt-keeps t 0 (t .pending) (t .masked) (omega arith) (r .pending-only) (r .masked-only) r) refl (idles-on t _ refl refl)
+          (λ r. interrupt-keeps t 0 (t .pending) (t .masked) (omega arith) (r .pending-only) (r .masked-only) r) refl (idles-on t _ refl refl) refl
 
   pub rearm-effect : Effect w Rearm (core w Rearm)
   unfolding rearmOf settledReply replied withInterrupt andThen noWrites
-  rearm-effect = through w Rearm (λ r. refused-still w Rearm r refl) (by (not (inRanges t)) (eqb (t .masked) 0))
+  rearm-effect = through w Rearm (refused-still w Rearm InvalidParameter refl refl) (by (not (inRanges t)) (eqb (t .masked) 0))
     where
       by : (b z : Bool)
           → Effect w Rearm (carriedOut (came (settledReply (settledOr b t (rearmIf z t))) (w .rows .heads) (w .rows .frames) (w .rows .setups)) (w .rows .pool))
-      by true z = refused-still w Rearm InvalidParameter refl
-      by false true = still-of w Rearm _ _ _ (sidesOf t) refl refl refl (λ r. r) refl (idles-on t _ refl refl)
+      by true z = refused-still w Rearm InvalidParameter refl refl
+      by false true = still-of w Rearm _ _ _ (sidesOf t) refl refl refl (λ r. r) refl (idles-on t _ refl refl) refl
       by false false =
           still-of w Rearm _ _ _ (flagged (t .enabled) 0) refl refl refl
-          (λ r. interrupt-keeps t (t .enabled) (t .pending) 0 (r .enabled-flag) (r .pending-only) (only-none 0x27 (lit< tt)) r) refl (idles-on t _ refl refl)
+          (λ r. interrupt-keeps t (t .enabled) (t .pending) 0 (r .enabled-flag) (r .pending-only) (only-none 0x27 (lit< tt)) r) refl (idles-on t _ refl refl) refl

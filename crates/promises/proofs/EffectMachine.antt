@@ -16,8 +16,10 @@ use Rattle.state.specs.Ranges.{inRanges}
 use Rattle.state.specs.Slots.{slotAt}
 use Rattle.state.specs.State.{withBringUp, withNextAddress}
 use Rattle.state.proofs.RangesLaws.{Ranges, ranges-make, ranges-tell}
-use Rattle.answer.specs.Answers.{first, passed}
+use Rattle.answer.specs.Answers.{Verdict, first, passed, refused}
 use Rattle.answer.proofs.CheckLaws.{let-pass}
+use Rattle.answer.specs.declared.answer.Answer.the-variants as A
+use Rattle.answer.specs.declared.answer.Refusal.{Refusal}
 use Rattle.answer.specs.declared.answer.Refusal.the-variants.{InvalidParameter, QueueFull, SlotLimitReached}
 use Rattle.pipe.specs.Endpoints.{endpointAt}
 use Rattle.pipe.proofs.EndpointCases.{at-none}
@@ -35,11 +37,13 @@ use Rattle.bring_up.proofs.RunLaws.{stays-in-ranges}
 use Rattle.ehci.specs.declared.call.Call.the-variants.{AllocateAddress, BringUpStep, StartBringUp}
 use Rattle.ehci.specs.Decides.{allotDecided, allotReply, came}
 use Rattle.ehci.specs.Door.{carriedOut}
-use Rattle.ehci.specs.Replies.{broughtReply, replied}
+use Rattle.ehci.specs.declared.reply.Answered.the-variants.{Refused}
+use Rattle.ehci.specs.Replies.{broughtAnswer, broughtReply, replied}
 use Rattle.promises.specs.Runs.{World, core}
 use Rattle.promises.specs.Events.{someRing}
-use Rattle.promises.proofs.Effects.{Effect, Idles, Sides, besides}
-use Rattle.promises.proofs.EffectDoor.{idles-on, refused-still, settled-by, still-of, through}
+use Rattle.promises.specs.Opened.{stepsBy}
+use Rattle.promises.proofs.Effects.{Effect, Idles, Sides, Switches, besides}
+use Rattle.promises.proofs.EffectDoor.{idles-on, leaves, refused-still, settled-by, still-of, through}
 
 -- a USBCMD write that is no ring
 pub command-silent : (v : ℕ) → someRing (listOf (andThen noWrites 0 (commandWord v))) ≡ false
@@ -108,6 +112,25 @@ moved-stops Resetting h = refl
 moved-stops Run h = refl
 moved-stops Starting h = absurd (h refl)
 
+-- the last step of bring-up leaves nothing to read, and only it leaves the controller running
+moved-switches : (stage : Stage) (before : ℕ) → Switches (stepsBy (broughtAnswer A.Done (movedOn stage .read) (movedOn stage .wait))) before (movedOn stage .running)
+moved-switches Stop before = refl
+moved-switches Halting before = refl
+moved-switches Reset before = refl
+moved-switches Resetting before = refl
+moved-switches Run before = refl
+moved-switches Starting before = refl
+
+-- a step's own checks answer 1
+abbrev reasonOf : Verdict → Refusal
+reasonOf passed = InvalidParameter
+reasonOf (refused r) = r
+
+step-refuses : (a b : Bool) (r : Refusal) → first ((a, InvalidParameter) ∷ (b, InvalidParameter) ∷ []) ≡ refused r → InvalidParameter ≡ r
+step-refuses true b r e = ap reasonOf e
+step-refuses false true r e = ap reasonOf e
+step-refuses false false r e = ap reasonOf e
+
 module _ (w : World) where
   abbrev s : Ehci
   s = w .state
@@ -120,12 +143,12 @@ module _ (w : World) where
   pub start-effect : Effect w StartBringUp (core w StartBringUp)
   unfolding startOf broughtReply replied withBringUp andThen noWrites
   start-effect =
-      through w StartBringUp (λ r. refused-still w StartBringUp r refl)
+      through w StartBringUp (refused-still w StartBringUp InvalidParameter refl refl)
       (settled-by (first ((not (inRanges s), InvalidParameter) ∷ (anyUncollected 0 32 s, QueueFull) ∷ [])) _ _ Started
-      (λ r e keeps. refused-still w StartBringUp r refl)
+      (λ r e keeps. refused-still w StartBringUp r refl refl)
       (λ e keeps. still-of w StartBringUp _ _ _ (brought s 0 1 0 0) refl refl refl keeps refl
       (λ i. start-idles s (let-pass (anyUncollected 0 32 s) QueueFull passed
-      (let-pass (not (inRanges s)) InvalidParameter (first ((anyUncollected 0 32 s, QueueFull) ∷ [])) e .1) .0)))
+      (let-pass (not (inRanges s)) InvalidParameter (first ((anyUncollected 0 32 s, QueueFull) ∷ [])) e .1) .0)) refl)
       (λ g. ranges-tell _ (stays-in-ranges s 0 (ranges-make s g) .0)))
 
   abbrev Stepped : ℕ → BroughtUp → Type 0
@@ -139,16 +162,16 @@ module _ (w : World) where
     where
       by : (b : Bool) → ltb (s .waited + 1) (s .settings .wait) ≡ b → Stepped v (againOf s register)
       by true e = rw e (λ keeps. still-of w (BringUpStep v) _ _ _ (brought s 0 (s .step) (s .waited + 1) (s .enabled)) refl refl refl keeps refl
-          (step-idles s 0 (s .step) (s .waited + 1) begun (λ h. refl)))
+          (step-idles s 0 (s .step) (s .waited + 1) begun (λ h. refl)) refl)
       by false e = rw e (λ keeps. still-of w (BringUpStep v) _ _ _ (brought s 0 0 0 (s .enabled)) refl refl refl keeps refl
-          (step-idles s 0 0 0 begun (λ h. refl)))
+          (step-idles s 0 0 0 begun (λ h. refl)) refl)
 
   onward-effect : (v : ℕ) (stage : Stage) → (s .step ≡ 0 → ⊥) → Stepped v (onwardOf s stage v)
   unfolding onwardOf broughtReply replied withBringUp
   onward-effect v stage begun keeps =
       still-of w (BringUpStep v) _ _ _ (brought s (movedOn stage .running) (movedOn stage .step) 0 (s .enabled)) refl
       (stage-silent stage v (s .settings .frames) (s .settings .heads)) refl keeps refl
-      (step-idles s (movedOn stage .running) (movedOn stage .step) 0 begun (moved-stops stage))
+      (step-idles s (movedOn stage .running) (movedOn stage .step) 0 begun (moved-stops stage)) (moved-switches stage (s .running))
 
   stage-effect : (v : ℕ) (stage : Stage) (b : Bool) → (s .step ≡ 0 → ⊥) → Stepped v (pickBroughtUp b (onwardOf s stage v) (againOf s (registerOf stage)))
   stage-effect v stage true = onward-effect v stage
@@ -157,9 +180,10 @@ module _ (w : World) where
   pub step-effect : (v : ℕ) → Effect w (BringUpStep v) (core w (BringUpStep v))
   unfolding stepOf broughtReply replied noWrites
   step-effect v =
-      through w (BringUpStep v) (λ r. refused-still w (BringUpStep v) r refl)
+      through w (BringUpStep v) (refused-still w (BringUpStep v) InvalidParameter refl refl)
       (settled-by (first ((not (inRanges s), InvalidParameter) ∷ (eqb (s .step) 0, InvalidParameter) ∷ [])) _ _ (Stepped v)
-      (λ r e keeps. refused-still w (BringUpStep v) r refl)
+      (λ r e keeps. subst (λ (x : Refusal). Effect w (BringUpStep v) (leaves w (BringUpStep v) s (Refused x) noWrites)) (step-refuses (not (inRanges s)) (eqb (s .step) 0) r e)
+      (refused-still w (BringUpStep v) InvalidParameter refl refl))
       (λ e. stage-effect v (stageOf (s .step)) (ready (stageOf (s .step)) v)
       (eqb-false (s .step) 0 (let-pass (eqb (s .step) 0) InvalidParameter passed
       (let-pass (not (inRanges s)) InvalidParameter (first ((eqb (s .step) 0, InvalidParameter) ∷ [])) e .1) .0)))
@@ -173,9 +197,9 @@ module _ (w : World) where
   pub allot-effect : Effect w AllocateAddress (core w AllocateAddress)
   unfolding allotOf allotDecided replied withNextAddress noWrites
   allot-effect =
-      through w AllocateAddress (λ r. refused-still w AllocateAddress r refl)
+      through w AllocateAddress (refused-still w AllocateAddress InvalidParameter refl refl)
       (settled-by (first ((not (inRanges s), InvalidParameter) ∷ (ltb 127 (s .address), SlotLimitReached) ∷ [])) _ _ Allotted
-      (λ r e keeps. refused-still w AllocateAddress r refl)
+      (λ r e keeps. refused-still w AllocateAddress r refl refl)
       (λ e keeps. still-of w AllocateAddress _ _ _
       (record {
         running = s .running;
@@ -185,5 +209,5 @@ module _ (w : World) where
         enabled = s .enabled;
         pending = s .pending;
         masked = s .masked;
-      }) refl refl refl keeps refl (idles-on s _ refl refl))
+      }) refl refl refl keeps refl (idles-on s _ refl refl) refl)
       (λ g. ranges-tell _ (allot-keeps s (ranges-make s g))))

@@ -84,11 +84,11 @@ module _ (w : World) where
   pub submit-effect : (k : ℕ) (t : TransferRequest) (rd : Readings) → Effect w (Submit k t rd) (core w (Submit k t rd))
   unfolding submitDecided submitOf settledSubmit acceptedWith refusedSubmit replied judgeOf
   submit-effect k t rd =
-      through w (Submit k t rd) (λ r. refused-still w (Submit k t rd) r refl)
+      through w (Submit k t rd) (refused-still w (Submit k t rd) InvalidParameter refl refl)
       (settled-by
       (first ((unfit, InvalidParameter) ∷ submitChecks s k t)) _ _
       (λ (o : Outcome). Effect w (Submit k t rd) (carriedOut (submitCame o) (w .rows .pool)))
-      (λ r e. refused-still w (Submit k t rd) r refl)
+      (λ r e. refused-still w (Submit k t rd) r refl refl)
       (λ e. accepts
       (record {
         k = k;
@@ -99,15 +99,16 @@ module _ (w : World) where
         rows-are = refl;
         writes-are = refl;
         submits = refl;
+        same = refl;
       })))
 
   pub writeback-effect : (place token : ℕ) → Effect w (Writeback place token) (core w (Writeback place token))
   unfolding writebackDecided writebackOf refusedWriteback replied
   writeback-effect place token =
-      through w (Writeback place token) (λ r. refused-still w (Writeback place token) r refl)
+      through w (Writeback place token) (refused-still w (Writeback place token) InvalidParameter refl refl)
       (settled-by (first (writebackChecks s (lengths n (length hs) (length fs) (length us)) place)) _ _
       (λ (x : WrittenBack). Effect w (Writeback place token) (carriedOut (came (writtenReply x) hs fs us) (w .rows .pool)))
-      (λ r e. refused-still w (Writeback place token) r refl)
+      (λ r e. refused-still w (Writeback place token) r refl refl)
       (λ e. writes-back
       (record {
         place = place;
@@ -119,6 +120,7 @@ module _ (w : World) where
         nothing = refl;
         call-is = refl;
         accepted = refl;
+        same = refl;
       })))
     where
       is-in : (b : Bool) → not b ≡ false → b ≡ true
@@ -130,7 +132,7 @@ module _ (w : World) where
     Cancels l = Effect w (Cancel k id rd) (carriedOut (withSetups (cancelCame l) us) (w .rows .pool))
 
     cancel-refused : (x : Refusal) → Effect w (Cancel k id rd) (leaves w (Cancel k id rd) s (Refused x) noWrites)
-    cancel-refused x = refused-still w (Cancel k id rd) x (none-leaves (s .settings) k (rd .frame) _ _ refl refl)
+    cancel-refused x = refused-still w (Cancel k id rd) x (none-leaves (s .settings) k (rd .frame) _ _ refl refl) refl
 
     cancel-unlinks : (p : Pipe) (r : Request) → endpointAt s k ≡ Linked p r → s .unanswered < 32 → Cancels (unlinkOf s hs fs rd k p (marked r))
     unfolding waitingOf replied
@@ -151,12 +153,13 @@ module _ (w : World) where
           rows-are = rows-kept w (Cancel k id rd) _ _ us;
           writes-are = refl;
           leaves = refl;
+          same = refl;
         }))
 
     pub cancel-effect : Effect w (Cancel k id rd) (core w (Cancel k id rd))
     unfolding cancelDecided replied
     cancel-effect =
-        through w (Cancel k id rd) cancel-refused
+        through w (Cancel k id rd) (cancel-refused InvalidParameter)
         (cancel-split s n hs fs (length us) rd k id Cancels cancel-refused
         (λ p r ok e below same. cancel-unlinks p r e below)
         (λ p r u ok e same. marks
@@ -170,13 +173,14 @@ module _ (w : World) where
           rows-are = rows-kept w (Cancel k id rd) hs fs us;
           silent = refl;
           nothing = none-leaves (s .settings) k (rd .frame) _ _ refl refl;
+          same = refl;
         })))
 
     abbrev Collecting : Gathered → Type 0
     Collecting g = Effect w (Collect k id rd) (carriedOut (withSetups (collectCame g) us) (w .rows .pool))
 
     collect-refused : (x : Refusal) → Effect w (Collect k id rd) (leaves w (Collect k id rd) s (Refused x) noWrites)
-    collect-refused x = refused-still w (Collect k id rd) x (none-leaves (s .settings) k (rd .frame) _ _ refl refl)
+    collect-refused x = refused-still w (Collect k id rd) x (none-leaves (s .settings) k (rd .frame) _ _ refl refl) refl
 
     collect-unlinks : (p : Pipe) (r : Request) → endpointAt s k ≡ Linked p r → s .unanswered < 32 → Collecting (pendingLeft (unlinkOf s hs fs rd k p r))
     unfolding waitingOf replied
@@ -197,6 +201,7 @@ module _ (w : World) where
           rows-are = rows-kept w (Collect k id rd) _ _ us;
           writes-are = refl;
           leaves = refl;
+          same = refl;
         }))
 
     collected-as : (b : Bool) (j : ℕ) (e : Event) → b ≡ true → j ≡ id → cond b (Collects k id (rd .frame)) e ≡ Collects k j (rd .frame)
@@ -205,9 +210,9 @@ module _ (w : World) where
     pub collect-effect : Effect w (Collect k id rd) (core w (Collect k id rd))
     unfolding collectDecided finishOf replied noWrites
     collect-effect =
-        through w (Collect k id rd) collect-refused
+        through w (Collect k id rd) (collect-refused InvalidParameter)
         (collect-split s n hs fs (length us) rd k id (seen w (Collect k id rd)) Collecting collect-refused
-        (still-of w (Collect k id rd) _ _ _ (sidesOf s) refl refl (none-leaves (s .settings) k (rd .frame) _ _ refl refl) (λ g. g) refl (λ i. i))
+        (still-of w (Collect k id rd) _ _ _ (sidesOf s) refl refl (none-leaves (s .settings) k (rd .frame) _ _ refl refl) (λ g. g) refl (λ i. i) refl)
         (λ p r ok e below same done. collect-unlinks p r e below)
         (λ p r u ok e same through-it. collects
         (record {
@@ -223,4 +228,5 @@ module _ (w : World) where
           rows-are = rows-kept w (Collect k id rd) _ fs us;
           silent = refl;
           collects = collected-as _ (r .id) _ (outcome-collected (r .cancelled) (seen w (Collect k id rd))) same;
+          same = refl;
         })))

@@ -42,6 +42,7 @@ use Rattle.ehci.specs.declared.reply.Given.the-variants.{Nothing}
 use Rattle.ehci.specs.Door.{Applied}
 use Rattle.promises.specs.Runs.{Rows, World, rowsOf, turnOf}
 use Rattle.promises.specs.Events.{Other, Reads, Drains, Submits, Collects, event, leaving, someRing}
+use Rattle.promises.specs.Opened.{Change, ClosesSlot, Halted, OpensSlot, Running, Same, change}
 
 -- what of a state stands beside slots, owners and doorbell
 pub record Sides : Type 0 where
@@ -83,6 +84,14 @@ pub record Idles (s : Ehci) : Type 0 where
   pub stopped : (s .step ≡ 0 → ⊥) → s .running ≡ 0
   pub runs : (k : ℕ) → isUncollected s k ≡ true → s .running ≡ 1
 
+-- whether the controller runs, before and after a change that is none of a slot
+abbrev pub Switches : Change → ℕ → ℕ → Type 0
+Switches Same before after = after ≡ before
+Switches (OpensSlot k kind) before after = ⊥
+Switches (ClosesSlot k) before after = ⊥
+Switches Halted before after = after ≡ 0
+Switches Running before after = after ≡ 1
+
 abbrev pub withHeads : Rows → List ℕ → Rows
 withHeads rows heads = record { pool = rows .pool; heads = heads; frames = rows .frames; setups = rows .setups }
 
@@ -113,6 +122,8 @@ module _ (w : World) (c : Call) (a : Applied) where
     -- what is pending is only lost by a drain
     pub pending-stays : sides .pending ≡ old .pending
     pub idles : Idles old → Idles new
+    -- a bring-up call says whether the controller runs
+    pub switches : Switches (change (turnOf (w .rows) c a)) (old .running) (sides .running)
 
   -- an acknowledgment that reads the advance bit: noted if the doorbell is up
   pub record Hears : Type 0 where
@@ -124,6 +135,7 @@ module _ (w : World) (c : Call) (a : Applied) where
     pub keeps : Ranges old → Ranges new
     pub pends : sides .pending ≡ 0 → ⊥
     pub runs-on : (sides .running ≡ old .running) × (sides .step ≡ old .step)
+    pub same : change (turnOf (w .rows) c a) ≡ Same
 
   -- an acknowledgment that does not: more may be pending
   pub record Joins : Type 0 where
@@ -135,6 +147,7 @@ module _ (w : World) (c : Call) (a : Applied) where
     pub keeps : Ranges old → Ranges new
     pub pends : sides .pending ≡ 0 → old .pending ≡ 0
     pub runs-on : (sides .running ≡ old .running) × (sides .step ≡ old .step)
+    pub same : change (turnOf (w .rows) c a) ≡ Same
 
   -- a drain that finds nothing noted, or nothing pending
   pub record Passes : Type 0 where
@@ -146,6 +159,7 @@ module _ (w : World) (c : Call) (a : Applied) where
     pub keeps : Ranges old → Ranges new
     pub uncounted : (old .noted ≡ 0) ⊎ (old .pending ≡ 0)
     pub runs-on : (sides .running ≡ old .running) × (sides .step ≡ old .step)
+    pub same : change (turnOf (w .rows) c a) ≡ Same
 
   -- a drain that counts a noted advance
   pub record Counts : Type 0 where
@@ -158,6 +172,7 @@ module _ (w : World) (c : Call) (a : Applied) where
     pub drains : event (old .settings) (turnOf (w .rows) c a) ≡ Drains
     pub keeps : Ranges old → Ranges new
     pub runs-on : (sides .running ≡ old .running) × (sides .step ≡ old .step)
+    pub same : change (turnOf (w .rows) c a) ≡ Same
 
   pub record Opens : Type 0 where
     pub k : ℕ
@@ -172,6 +187,7 @@ module _ (w : World) (c : Call) (a : Applied) where
     pub rows-are : rowsOf a ≡ withHeads (w .rows) (withHead (w .rows .heads) k (wordsOf (endpointHead kind address endpoint packet)))
     pub silent : wrote ≡ noWrites
     pub nothing : event (old .settings) (turnOf (w .rows) c a) ≡ Other
+    pub changes : change (turnOf (w .rows) c a) ≡ OpensSlot k kind
 
   pub record Closes : Type 0 where
     pub k : ℕ
@@ -181,6 +197,7 @@ module _ (w : World) (c : Call) (a : Applied) where
     pub rows-are : rowsOf a ≡ withHeads (w .rows) (withHead (w .rows .heads) k (replicate 17 0))
     pub silent : wrote ≡ noWrites
     pub nothing : event (old .settings) (turnOf (w .rows) c a) ≡ Other
+    pub changes : change (turnOf (w .rows) c a) ≡ ClosesSlot k
 
   -- set address and set packet size: one word of an idle slot's head
   pub record Rewrites : Type 0 where
@@ -192,6 +209,7 @@ module _ (w : World) (c : Call) (a : Applied) where
     pub rows-are : rowsOf a ≡ withHeads (w .rows) (withHeadWord (w .rows .heads) (k + 1) 1 word)
     pub silent : wrote ≡ noWrites
     pub nothing : event (old .settings) (turnOf (w .rows) c a) ≡ Other
+    pub same : change (turnOf (w .rows) c a) ≡ Same
 
   pub record Accepts : Type 0 where
     pub k : ℕ
@@ -207,6 +225,7 @@ module _ (w : World) (c : Call) (a : Applied) where
     }
     pub writes-are : wrote ≡ writesWith readings
     pub submits : event (old .settings) (turnOf (w .rows) c a) ≡ Submits k (idAt old k) t
+    pub same : change (turnOf (w .rows) c a) ≡ Same
 
   pub record WritesBack : Type 0 where
     pub place : ℕ
@@ -219,6 +238,7 @@ module _ (w : World) (c : Call) (a : Applied) where
     -- only this call writes a token
     pub call-is : c ≡ Writeback place token
     pub accepted : a .reply .answer ≡ Done Nothing
+    pub same : change (turnOf (w .rows) c a) ≡ Same
 
   -- a cancel of a request that is unlinking
   pub record Marks : Type 0 where
@@ -231,6 +251,7 @@ module _ (w : World) (c : Call) (a : Applied) where
     pub rows-are : rowsOf a ≡ w .rows
     pub silent : wrote ≡ noWrites
     pub nothing : event (old .settings) (turnOf (w .rows) c a) ≡ Other
+    pub same : change (turnOf (w .rows) c a) ≡ Same
 
   -- a cancel or a collect that unlinks; a cancel marks the request
   pub record Unlinked : Type 0 where
@@ -247,6 +268,7 @@ module _ (w : World) (c : Call) (a : Applied) where
     pub rows-are : rowsOf a ≡ withLinks (w .rows) (detachOf old (w .rows .heads) (w .rows .frames) k .rows .heads) (detachOf old (w .rows .heads) (w .rows .frames) k .rows .frames)
     pub writes-are : wrote ≡ waitingOf old readings k p asked .writes
     pub leaves : event (old .settings) (turnOf (w .rows) c a) ≡ leaving (old .settings) k (readings .frame) (turnOf (w .rows) c a)
+    pub same : change (turnOf (w .rows) c a) ≡ Same
 
   pub record Collected : Type 0 where
     pub k : ℕ
@@ -261,6 +283,7 @@ module _ (w : World) (c : Call) (a : Applied) where
     pub rows-are : rowsOf a ≡ withHeads (w .rows) (endedOverlay (w .rows .heads) k)
     pub silent : wrote ≡ noWrites
     pub collects : event (old .settings) (turnOf (w .rows) c a) ≡ Collects k (r .id) frame
+    pub same : change (turnOf (w .rows) c a) ≡ Same
 
 pub data Effect (w : World) (c : Call) (a : Applied) : Type 0 where
   still : Still w c a → Effect w c a

@@ -12,14 +12,10 @@ use Rattle.state.specs.Slots.{slotAt, withSlot}
 use Rattle.state.specs.State.{withBell, withBoundaries, withOwner}
 use Rattle.state.specs.declared.state.Ehci.{Ehci}
 use Rattle.state.proofs.Arrays.{zeros-at}
-use lib.Dec.{eqb, ltb}
-use lib.ListN.{getD}
+use lib.Dec.{ltb}
 use Rattle.pipe.specs.Endpoints.{decoded, endpointAt, pickEndpoint, withEndpoint}
-use Rattle.pipe.specs.declared.endpoint.Pipe.{Pipe}
-use Rattle.pipe.specs.declared.endpoint.Request.{Request}
-use Rattle.pipe.specs.declared.endpoint.UnlinkBoundary.{UnlinkBoundary}
 use Rattle.pipe.specs.declared.endpoint.Endpoint.{Endpoint}
-use Rattle.pipe.specs.declared.endpoint.Endpoint.the-variants.{Closed, Idle, Linked, Unlinking}
+use Rattle.pipe.specs.declared.endpoint.Endpoint.the-variants.{Closed, Idle}
 use Rattle.pipe.proofs.EndpointLaws.{endpoint-other, endpoint-same}
 use Rattle.opening.specs.Opening.{freshState}
 use Rattle.controller.specs.Readers.{holdsRequest, isUncollected}
@@ -33,6 +29,7 @@ use Rattle.ehci.specs.Door.{Applied}
 use Rattle.promises.specs.Runs.{World}
 use Rattle.promises.proofs.Effects.{Effect, Idles, accepts, besides, closes, collects, counts, hears, joins, marks, opens, passes, rewrites, still, unlinks, writes-back}
 use Rattle.promises.proofs.EffectDoor.{idles-on}
+use Rattle.promises.proofs.SlotViews.{view-boundaries}
 use Rattle.promises.proofs.Sound.{Sound, slot-low}
 
 moved : (s t : Ehci) → t ≡ s → Idles s → Idles t
@@ -53,18 +50,8 @@ vacant-idles s k x same bare i = record { stopped = i .stopped; runs = λ j u. b
     by j u (no ne) = i .runs j (sym (ap holdsRequest (endpoint-other s k x j ne)) ∙ u)
 
 -- whether a slot holds a request is not a matter of its boundary
-held-alike : (b₀ b₁ b₂ b₃ : Bool) (p : Pipe) (r : Request) (u v : UnlinkBoundary)
-    → holdsRequest (pickEndpoint b₀ (pickEndpoint b₁ (Idle p) (pickEndpoint b₂ (Linked p r) (pickEndpoint b₃ (Unlinking p r u) Closed))) Closed)
-    ≡ holdsRequest (pickEndpoint b₀ (pickEndpoint b₁ (Idle p) (pickEndpoint b₂ (Linked p r) (pickEndpoint b₃ (Unlinking p r v) Closed))) Closed)
-held-alike false b₁ b₂ b₃ p r u v = refl
-held-alike true true b₂ b₃ p r u v = refl
-held-alike true false true b₃ p r u v = refl
-held-alike true false false true p r u v = refl
-held-alike true false false false p r u v = refl
-
 pub bounds-aside : (s : Ehci) (bs : List ℕ) (k : ℕ) → isUncollected (withBoundaries s bs) k ≡ isUncollected s k
-unfolding withBoundaries endpointAt slotAt decoded
-bounds-aside s bs k = held-alike (ltb k 32) (eqb (getD (s .phases) k 0) 1) (eqb (getD (s .phases) k 0) 2) (eqb (getD (s .phases) k 0) 3) _ _ _ _
+bounds-aside = view-boundaries holdsRequest (λ p r b c. refl)
 
 module _ (s : Settings) (w : World) (c : Call) (a : Applied) (g : Sound s w) (i : Idles (w .state)) where
   pub idles-keeps : Effect w c a → Idles (a .reply .state)

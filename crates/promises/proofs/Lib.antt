@@ -6,6 +6,7 @@ pub mod EffectInterrupts
 pub mod EffectEndpoints
 pub mod EffectRequests
 pub mod EffectOf
+pub mod SlotViews
 pub mod Sound
 pub mod SoundKeeps
 pub mod IdleInv
@@ -19,6 +20,9 @@ pub mod UseSteps
 pub mod UseAccepts
 pub mod UseCollects
 pub mod UseHeld
+pub mod OpenedInv
+pub mod OpenedVerdict
+pub mod OpenedExamples
 pub mod RoomLaws
 pub mod ExclusiveLaws
 pub mod CoverBytes

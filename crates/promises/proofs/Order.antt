@@ -56,7 +56,7 @@ settle-says says passed old new no-old is-new = is-new
 settle-says says (refused r) old new no-old is-new = no-old r
 
 -- and where what is new is asked more
-first-goes : (cs ds : List Check) → first cs ≡ passed → first (cs ++ ds) ≡ first ds
+pub first-goes : (cs ds : List Check) → first cs ≡ passed → first (cs ++ ds) ≡ first ds
 first-goes [] ds e = refl
 first-goes (c ∷ cs) ds e =
     let p = let-pass (c .0) (c .1) (first cs) e in

@@ -1,39 +1,36 @@
--- Room is exact: what a submit answers, by the needs of the uses.
-use Prim.Native.Nat.{ℕ, _+_, _≤_, _<_}
+-- Room is exact: what a submit answers, by the history.
+use Prim.Native.Nat.{ℕ}
 use mathlib.Core.Path.{_≡_, refl, sym, ap, subst, _∙_}
-use mathlib.Core.Bool.{Bool, true, false, not}
+use mathlib.Core.Bool.{Bool, true, false}
+use mathlib.Core.List.{List, [], _∷_, _++_}
 use native.Mathlib.Omega.{arith}
-use borrow.Author.Tests.{ltb-false, ltb-true}
-use lib.Dec.{eqb, ltb}
-use lib.ListN.{length, take}
+use borrow.Author.Tests.{le-ltb, lt-ltb, ltb-false, ltb-true}
+use lib.Dec.{ltb}
+use lib.ListN.{length}
 use Rattle.settings.specs.declared.settings.Settings.{Settings}
 use Rattle.settings.proofs.SettingsLaws.{both-makes}
 use Rattle.state.specs.Ranges.{inRanges}
-use Rattle.state.specs.Slots.{slotAt}
-use Rattle.state.specs.declared.state.Ehci.{Ehci}
 use Rattle.state.proofs.RangesLaws.{ranges-make}
-use Rattle.answer.specs.Answers.{Verdict, first, orElse, passed, refused, refusalNumber, settle}
+use Rattle.answer.specs.Answers.{Check, Verdict, first, orElse, passed, refused, refusalNumber, settle}
 use Rattle.answer.specs.declared.answer.Refusal.{Refusal}
 use Rattle.answer.specs.declared.answer.Refusal.the-variants.{InvalidParameter, SlotLimitReached, InvalidEndpoint, QueueFull, NotSupported, NoMemory, Timeout, NotReady}
 use Rattle.answer.proofs.CheckLaws.{let-pass}
-use Rattle.pipe.specs.Endpoints.{kindNumber}
-use Rattle.pipe.specs.Kinds.{isIsochronous}
 use Rattle.opening.specs.Opening.{rowsFit}
 use Rattle.opening.proofs.OpenLaws.{rows-make}
 use Rattle.controller.specs.Lent.{acceptsOf, lengths}
-use Rattle.controller.specs.Readers.{freeCount, isOpen, isUncollected}
 use Rattle.controller.specs.declared.lent.Readings.{Readings}
-use Rattle.controller.proofs.FreeLaws.{zeros-are}
-use Rattle.request.specs.Submit.{acceptedWith, answerOf, judgeOf, needOfRequest, rangesGood, refusedSubmit, settledSubmit, submitChecks, submitOf, submitted}
+use Rattle.request.specs.Submit.{acceptedWith, refusedSubmit, settledSubmit, submitChecks, submitOf, submitted}
 use Rattle.request.specs.declared.judge.TransferRequest.{TransferRequest}
-use Rattle.request.proofs.JudgeLaws.{Judged, judge-tells}
 use Rattle.ehci.specs.declared.call.Call.the-variants.{Submit}
 use Rattle.ehci.specs.Decides.{decideOf, submitDecided}
 use Rattle.ehci.specs.Door.{applyOf}
 use Rattle.ehci.specs.Replies.{answeredNumber, submittedAnswer}
-use Rattle.promises.specs.Runs.{History, World, core}
-use Rattle.promises.specs.Rooms.{Room, beforeRoom, numberAt}
-use Rattle.promises.specs.Uses.{needs, uses}
+use Rattle.promises.specs.Runs.{History, Machine, World, core}
+use Rattle.promises.specs.Opened.{beforeRoom, earlierChecks, submitAsks, verdictNumber, wanted}
+use Rattle.promises.specs.Rooms.{Fits, Lacks, Room, numberAt}
+use Rattle.promises.proofs.OpenedInv.{Told}
+use Rattle.promises.proofs.OpenedVerdict.{asks-told, free-is}
+use Rattle.promises.proofs.Order.{first-goes}
 use Rattle.promises.proofs.Sound.{Sound}
 use Rattle.promises.proofs.UseInv.{Held}
 
@@ -50,10 +47,6 @@ module _ (w : World) (sound : Sound (w .state .settings) w) where
   let-in = both-makes _ (inRanges (w .state)) rows-fit (ranges-make (w .state) (sound .ranges))
 
 -- ---- the number that submit's checks give
-
-abbrev verdictNumber : Verdict → ℕ
-verdictNumber passed = 0
-verdictNumber (refused r) = refusalNumber r
 
 submit-number : (w : World) (k : ℕ) (t : TransferRequest) (readings : Readings) → Sound (w .state .settings) w
     → numberAt core w (Submit k t readings) ≡ verdictNumber (first (submitChecks (w .state) k t))
@@ -86,59 +79,83 @@ zero-passes (refused r) e = absurd (never r e)
     never Timeout e = omega (arith, e)
     never NotReady e = omega (arith, e)
 
-module _ (s : Ehci) (k : ℕ) (t : TransferRequest) where
-  six-lacking : verdictNumber (first (submitChecks s k t)) ≡ 6 → freeCount s < needOfRequest s t
-  six-lacking e =
-      last (ltb (freeCount s) (needOfRequest s t)) refl
-      (past (not (rangesGood t)) InvalidParameter _ (λ q. omega (arith, q))
-      (past (not (eqb (kindNumber (t .kind)) (slotAt s k .kind))) InvalidEndpoint _ (λ q. omega (arith, q))
-      (past (isIsochronous (t .kind)) NotSupported _ (λ q. omega (arith, q))
-      (past (isUncollected s k) QueueFull _ (λ q. omega (arith, q))
-      (past (eqb (s .running) 0) NotReady _ (λ q. omega (arith, q))
-      (past (not (isOpen s k)) InvalidEndpoint _ (λ q. omega (arith, q)) e))))))
+-- ---- the room is asked last
+
+-- none of these answers 6
+abbrev NoSix : List Check → Type 0
+NoSix [] = Unit {0}
+NoSix (c ∷ cs) = (refusalNumber (c .1) ≡ 6 → ⊥) × NoSix cs
+
+module _ (lacks : Bool) where
+  six-last : (cs : List Check) → NoSix cs → verdictNumber (first (cs ++ (lacks, NoMemory) ∷ [])) ≡ 6 → lacks ≡ true
+  six-last [] none e = by lacks e
     where
-      last : (b : Bool) → ltb (freeCount s) (needOfRequest s t) ≡ b → verdictNumber (orElse (ltb (freeCount s) (needOfRequest s t)) NoMemory passed) ≡ 6
-          → freeCount s < needOfRequest s t
-      last true q z = ltb-true (freeCount s) (needOfRequest s t) q
-      last false q z = absurd (omega (arith, rw q at z))
+      by : (b : Bool) → verdictNumber (orElse b NoMemory passed) ≡ 6 → b ≡ true
+      by true e = refl
+      by false e = absurd (omega (arith, e))
+  six-last (c ∷ cs) none e = six-last cs (none .1) (past (c .0) (c .1) _ (none .0) e)
+
+  passed-last : (cs : List Check) → first (cs ++ (lacks, NoMemory) ∷ []) ≡ passed → lacks ≡ false
+  passed-last [] e = let-pass lacks NoMemory passed e .0
+  passed-last (c ∷ cs) e = passed-last cs (let-pass (c .0) (c .1) _ e .1)
+
+-- ---- room, of any machine that answers a submit by the history
+
+module _ (m : Machine) (s : Settings) (h : History) (w : World) (k : ℕ) (t : TransferRequest) (readings : Readings)
+    (said : numberAt m w (Submit k t readings) ≡ verdictNumber (first (submitAsks s h k t))) where
+  abbrev answered : ℕ
+  answered = numberAt m w (Submit k t readings)
+
+  abbrev lacks : Bool
+  lacks = ltb (s .descriptors) (wanted s h t)
+
+  six-lacks : answered ≡ 6 → Lacks s h t
+  six-lacks e = ltb-true (s .descriptors) (wanted s h t) (six-last lacks (earlierChecks s h k t) none (sym said ∙ e))
+    where
+      none : NoSix (earlierChecks s h k t)
+      none = ((λ q. omega (arith, q)), ((λ q. omega (arith, q)), ((λ q. omega (arith, q)), ((λ q. omega (arith, q)), ((λ q. omega (arith, q)), ((λ q. omega (arith, q)), tt))))))
+
+  zero-fits : answered ≡ 0 → Fits s h t
+  zero-fits e =
+      ltb-false (s .descriptors) (wanted s h t)
+      (passed-last lacks (earlierChecks s h k t) (zero-passes (first (submitAsks s h k t)) (sym said ∙ e)))
 
   -- where the earlier checks are passed the last one decides
-  room-decides : beforeRoom s k t ≡ passed → (P : ℕ → Type 0) → (freeCount s < needOfRequest s t → P 6) → (needOfRequest s t ≤ freeCount s → P 0)
-      → P (verdictNumber (first (submitChecks s k t)))
-  room-decides e P six none =
-      let a = let-pass (not (isOpen s k)) _ _ e in
-      let b = let-pass (eqb (s .running) 0) _ _ (a .1) in
-      let c = let-pass (isUncollected s k) _ _ (b .1) in
-      let d = let-pass (isIsochronous (t .kind)) _ _ (c .1) in
-      let f = let-pass (not (eqb (kindNumber (t .kind)) (slotAt s k .kind))) _ _ (d .1) in
-      let g = let-pass (not (rangesGood t)) _ _ (f .1) in
-      rw (a .0, b .0, c .0, d .0, f .0, g .0) (last (ltb (freeCount s) (needOfRequest s t)) refl)
-    where
-      last : (b : Bool) → ltb (freeCount s) (needOfRequest s t) ≡ b → P (verdictNumber (orElse (ltb (freeCount s) (needOfRequest s t)) NoMemory passed))
-      last true q = rw q (six (ltb-true (freeCount s) (needOfRequest s t) q))
-      last false q = rw q (none (ltb-false (freeCount s) (needOfRequest s t) q))
+  room-decides : beforeRoom s h k t ≡ passed → answered ≡ verdictNumber (orElse lacks NoMemory passed)
+  room-decides e = said ∙ ap verdictNumber (first-goes (earlierChecks s h k t) ((lacks, NoMemory) ∷ []) e)
 
--- ---- room
+  lacks-six : beforeRoom s h k t ≡ passed → Lacks s h t → answered ≡ 6
+  lacks-six e l = room-decides e ∙ ap (λ (b : Bool). verdictNumber (orElse b NoMemory passed)) (lt-ltb (s .descriptors) (wanted s h t) l)
 
-judge-passed : (s : Ehci) (k : ℕ) (t : TransferRequest) → first (submitChecks s k t) ≡ passed → Judged s k t
-unfolding judgeOf
-judge-passed s k t e = judge-tells s k t (ap answerOf e)
+  fits-zero : beforeRoom s h k t ≡ passed → Fits s h t → answered ≡ 0
+  fits-zero e l = room-decides e ∙ ap (λ (b : Bool). verdictNumber (orElse b NoMemory passed)) (le-ltb (s .descriptors) (wanted s h t) l)
 
-room-here : (h : History) (w : World) → Sound (w .state .settings) w → Held (w .state .settings) h w → Room core (w .state .settings) h w
-unfolding freeCount
-room-here h w sound held =
-    record {
-      free = free;
-      six-lacks = λ k t readings e. omega (arith, free, six-lacking (w .state) k t (sym (submit-number w k t readings sound) ∙ e));
-      zero-fits = λ k t readings e. omega (arith, free, judge-passed (w .state) k t (zero-passes (first (submitChecks (w .state) k t)) (sym (submit-number w k t readings sound) ∙ e)) .room);
-      lacks-six = λ k t readings e l. submit-number w k t readings sound
-          ∙ room-decides (w .state) k t e (λ n. n ≡ 6) (λ q. refl) (λ q. absurd (omega (arith, free, l, q)));
-      fits-zero = λ k t readings e l. submit-number w k t readings sound
-          ∙ room-decides (w .state) k t e (λ n. n ≡ 0) (λ q. absurd (omega (arith, free, l, q))) (λ q. refl);
-    }
-  where
-    free : freeCount (w .state) + needs (w .state .settings) (uses (w .state .settings) h) ≡ w .state .settings .descriptors
-    free = omega (arith, zeros-are (take (w .state .settings .descriptors) (w .state .owner)), held .room)
+-- ---- of this port
 
-pub room-holds : (s : Settings) (h : History) (w : World) → Sound s w → Held s h w → Room core s h w
-room-holds s h w sound = subst (λ (z : Settings). Sound z w → Held z h w → Room core z h w) (sound .settings-are) (room-here h w) sound
+module _ (h : History) (w : World) (sound : Sound (w .state .settings) w) (held : Held (w .state .settings) h w) (told : Told h (w .state)) where
+  abbrev s : Settings
+  s = w .state .settings
+
+  verdict-here : (k : ℕ) (t : TransferRequest) (readings : Readings) → numberAt core w (Submit k t readings) ≡ verdictNumber (first (submitAsks s h k t))
+  verdict-here k t readings = submit-number w k t readings sound ∙ sym (ap verdictNumber (asks-told h w sound held told k t))
+
+  room-here : Room core s h w
+  room-here =
+      record {
+        free = free-is h w sound held told;
+        six-lacks = λ k t readings. six-lacks core s h w k t readings (verdict-here k t readings);
+        zero-fits = λ k t readings. zero-fits core s h w k t readings (verdict-here k t readings);
+        lacks-six = λ k t readings. lacks-six core s h w k t readings (verdict-here k t readings);
+        fits-zero = λ k t readings. fits-zero core s h w k t readings (verdict-here k t readings);
+      }
+
+pub room-holds : (s : Settings) (h : History) (w : World) → Sound s w → Held s h w → Told h (w .state) → Room core s h w
+room-holds s h w sound = subst (λ (z : Settings). Sound z w → Held z h w → Told h (w .state) → Room core z h w) (sound .settings-are) (room-here h w) sound
+
+pub verdict-holds : (s : Settings) (h : History) (w : World) → Sound s w → Held s h w → Told h (w .state) → (k : ℕ) (t : TransferRequest) (readings : Readings)
+    → numberAt core w (Submit k t readings) ≡ verdictNumber (first (submitAsks s h k t))
+verdict-holds s h w sound =
+    subst
+    (λ (z : Settings). Sound z w → Held z h w → Told h (w .state) → (k : ℕ) (t : TransferRequest) (readings : Readings)
+    → numberAt core w (Submit k t readings) ≡ verdictNumber (first (submitAsks z h k t)))
+    (sound .settings-are) (verdict-here h w) sound

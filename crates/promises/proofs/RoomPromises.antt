@@ -5,12 +5,15 @@ use Rattle.ehci.specs.declared.call.Call.{Call}
 use Rattle.promises.specs.Runs.{Opening, World, core, historyOf, worldOf}
 use Rattle.promises.specs.Rooms.{ChainsLead, ExclusivePlaces, RoomExact}
 use Rattle.promises.specs.Coverage.{Coverage}
+use Rattle.promises.specs.Opened.{FieldsTied, SubmitVerdict}
 use Rattle.promises.proofs.EffectOf.{effect}
 use Rattle.promises.proofs.Reached.{reached}
 use Rattle.promises.proofs.Sound.{Sound}
 use Rattle.promises.proofs.UseInv.{Held}
 use Rattle.promises.proofs.UseHeld.{held-keeps, held-opens}
-use Rattle.promises.proofs.RoomLaws.{room-holds}
+use Rattle.promises.proofs.OpenedInv.{Told, told-keeps, told-opens}
+use Rattle.promises.proofs.OpenedVerdict.{held-is}
+use Rattle.promises.proofs.RoomLaws.{room-holds, verdict-holds}
 use Rattle.promises.proofs.ExclusiveLaws.{exclusive-holds, led-holds}
 use Rattle.promises.proofs.CoverHolds.{covered-holds}
 
@@ -18,8 +21,24 @@ use Rattle.promises.proofs.CoverHolds.{covered-holds}
 pub held : (s : Settings) (w : World) → Opening s w → (cs : List Call) → Sound s (worldOf core w cs) × Held s (historyOf core w cs) (worldOf core w cs)
 held = reached Held held-opens held-keeps
 
+-- and so are its slots, and whether the controller runs
+told : (s : Settings) (w : World) → Opening s w → (cs : List Call) → Sound s (worldOf core w cs) × Told (historyOf core w cs) (worldOf core w cs .state)
+told = reached (λ s h w. Told h (w .state)) told-opens told-keeps
+
+pub fields-tied : FieldsTied core
+fields-tied s w o cs =
+    let now = told s w o cs .1 in
+    record { slots = now .slots; runs = now .runs; held = held-is s (historyOf core w cs) (worldOf core w cs) (held s w o cs .1) }
+
 pub room-exact : RoomExact core
-room-exact s w o cs = let now = held s w o cs in room-holds s (historyOf core w cs) (worldOf core w cs) (now .0) (now .1)
+room-exact s w o cs =
+    let now = held s w o cs in
+    room-holds s (historyOf core w cs) (worldOf core w cs) (now .0) (now .1) (told s w o cs .1)
+
+pub submit-verdict : SubmitVerdict core
+submit-verdict s w o cs =
+    let now = held s w o cs in
+    verdict-holds s (historyOf core w cs) (worldOf core w cs) (now .0) (now .1) (told s w o cs .1)
 
 pub exclusive-places : ExclusivePlaces core
 exclusive-places s w o cs = let now = held s w o cs in exclusive-holds core effect s (historyOf core w cs) (worldOf core w cs) (now .0) (now .1)

@@ -1,4 +1,4 @@
--- Wrong machines, of which room, exclusive places and coverage are refuted. Each takes descriptors for a request and writes its chain, with
+-- Wrong machines, of which room, submit's verdict, exclusive places and coverage are refuted. Each takes descriptors for a request and writes its chain, with
 -- no checks and no schedule, in a controller with two descriptors; `plain` does it right, and on the same calls its uses are as they should be.
 use Prim.Native.Nat.{ℕ, _+_, _-_}
 use mathlib.Core.Path.{_≡_, refl, sym, ap}
@@ -34,12 +34,13 @@ use Rattle.ehci.specs.declared.call.Call.{Call}
 use Rattle.ehci.specs.declared.call.Call.the-variants.{StartBringUp, BringUpStep, AllocateAddress, OpenEndpoint, Close, SetAddress, SetPacketSize, Submit, Writeback, Cancel, Collect, Acknowledge, Drain, Rearm, Enable, Disable}
 use Rattle.ehci.specs.declared.reply.Answered.{Answered}
 use Rattle.ehci.specs.declared.reply.Answered.the-variants.{Done, Pending}
-use Rattle.ehci.specs.declared.reply.Given.the-variants.{Id, Nothing}
+use Rattle.ehci.specs.declared.reply.Given.the-variants.{Id, Nothing, Slot}
 use Rattle.ehci.specs.Door.{Applied, applied}
 use Rattle.promises.specs.Runs.{Machine, Opening, World, historyOf, rowsOf, worldOf, worldOpened}
 use Rattle.promises.specs.Walks.{chainWalk}
 use Rattle.promises.specs.Uses.{needs, uses}
 use Rattle.promises.specs.Rooms.{ExclusivePlaces, RoomExact, placesInUse}
+use Rattle.promises.specs.Opened.{SubmitVerdict, runsIn, slotIn}
 use Rattle.promises.specs.Coverage.{Coverage, addressed, dataOf, recordsMet}
 use Rattle.promises.proofs.Reached.{freshRows, freshWorld}
 
@@ -86,8 +87,9 @@ written w k t taken =
     applied (record { state = withOwner (w .state) (taken .owner); answer = Done (Id 1); writes = noWrites })
     (fillOf (chainFor (w .state) k t taken) (w .rows .pool)) (startedOverlay (w .rows .heads) k (firstIn (w .state) taken) 0) (w .rows .frames) (w .rows .setups)
 
--- how it submits, and what a writeback leaves
+-- what it answers to an opening of an endpoint, how it submits, and what a writeback leaves
 pub record Ways : Type 0 where
+  pub opens : Answered
   pub submit : World → ℕ → TransferRequest → Applied
   pub writeback : Ehci → ℕ → Ehci
 
@@ -95,7 +97,7 @@ abbrev machine : Ways → Machine
 machine x w StartBringUp = stays w Pending (w .state)
 machine x w (BringUpStep v) = stays w Pending (w .state)
 machine x w AllocateAddress = stays w Pending (w .state)
-machine x w (OpenEndpoint f) = stays w Pending (w .state)
+machine x w (OpenEndpoint f) = stays w (x .opens) (w .state)
 machine x w (Close k) = stays w Pending (w .state)
 machine x w (SetAddress k a) = stays w Pending (w .state)
 machine x w (SetPacketSize k size) = stays w Pending (w .state)
@@ -113,22 +115,26 @@ abbrev takesFree : World → ℕ → TransferRequest → Applied
 takesFree w k t = written w k t (takenOf (w .state .owner) 2 (needOfRequest (w .state) t) k)
 
 abbrev plain : Machine
-plain = machine (record { submit = takesFree; writeback = λ s place. s })
+plain = machine (record { opens = Pending; submit = takesFree; writeback = λ s place. s })
 
 -- a writeback frees the place
 abbrev freeing : Machine
-freeing = machine (record { submit = takesFree; writeback = λ s place. withOwner s (set (s .owner) place 0) })
+freeing = machine (record { opens = Pending; submit = takesFree; writeback = λ s place. withOwner s (set (s .owner) place 0) })
 
 -- every request is given the first places, whoever has them
 abbrev first : Machine
-first = machine (record { submit = λ w k t. written w k t (takenOf (replicate 256 0) 2 (needOfRequest (w .state) t) k); writeback = λ s place. s })
+first = machine (record { opens = Pending; submit = λ w k t. written w k t (takenOf (replicate 256 0) 2 (needOfRequest (w .state) t) k); writeback = λ s place. s })
 
 -- the last byte is left out
 abbrev clipped : TransferRequest → TransferRequest
 clipped t = record { kind = t .kind; direction = t .direction; setup = t .setup; address = t .address; length = t .length - 1 }
 
 abbrev short : Machine
-short = machine (record { submit = λ w k t. takesFree w k (clipped t); writeback = λ s place. s })
+short = machine (record { opens = Pending; submit = λ w k t. takesFree w k (clipped t); writeback = λ s place. s })
+
+-- slot 0 is open, and gets its request before bring-up
+abbrev eager : Machine
+eager = machine (record { opens = Done (Slot 0); submit = takesFree; writeback = λ s place. s })
 
 -- ---- one byte each to two slots, and a writeback between
 
@@ -167,6 +173,19 @@ first-exclusive e = e pair (freshWorld pair) opening calls .distinct .0 .0 refl
 first-room : RoomExact first → ⊥
 unfolding historyOf worldOf uses chainWalk metFrom follow takenOf placesFrom markOf packed listOf fillOf filledFrom recordAt bareAt chunkQtd newQtd withNext startedOverlay freshState withOwner openedHeads ringHead terminated needOf chunkCount freeCount countZero
 first-room r = let three : _≡_ {A = ℕ} 3 2 = r pair (freshWorld pair) opening calls .free in omega (arith, three)
+
+-- a submit to a slot that was never opened is accepted, and not answered 3
+plain-verdict : SubmitVerdict plain → ⊥
+unfolding historyOf worldOf slotIn
+plain-verdict v = let three : _≡_ {A = ℕ} 0 3 = v pair (freshWorld pair) opening [] 0 byte reads in omega (arith, three)
+
+-- one to an open slot of its kind is accepted before bring-up, and not answered 8
+eager-verdict : SubmitVerdict eager → ⊥
+unfolding historyOf worldOf slotIn runsIn
+eager-verdict v =
+    let opens : Call = OpenEndpoint (record { kind = Bulk; address = 1; number = 1; packet = 512 }) in
+    let eight : _≡_ {A = ℕ} 0 8 = v pair (freshWorld pair) opening (opens ∷ []) 0 byte reads in
+    omega (arith, eight)
 
 -- no byte is addressed where one is asked
 short-coverage : Coverage short → ⊥

@@ -32,7 +32,7 @@ use Rattle.promises.proofs.UseCollects.{collects-held}
 
 -- ---- an opening
 
-fresh-closed : (s : Settings) (k : ℕ) → endpointAt (freshState s) k ≡ Closed
+pub fresh-closed : (s : Settings) (k : ℕ) → endpointAt (freshState s) k ≡ Closed
 fresh-closed s k = by (ltb k 32) refl
   where
     by : (b : Bool) → ltb k 32 ≡ b → endpointAt (freshState s) k ≡ Closed

@@ -4,6 +4,7 @@ pub mod Events
 pub mod Uses
 pub mod Bells
 pub mod Checks
+pub mod Opened
 pub mod Ranges
 pub mod Rooms
 pub mod Coverage

@@ -3,19 +3,16 @@ use Prim.Native.Nat.{ℕ, suc, _+_, _*_, _≤_, _<_}
 use mathlib.Core.List.{List, [], _∷_, _++_}
 use mathlib.Core.Logic.{_⊎_}
 use mathlib.Core.Path.{_≡_}
-use lib.ListN.{drop, getD, length, take}
-use Rattle.token.specs.Chunks.{needOf}
+use lib.ListN.{drop, getD, length}
 use Rattle.descriptor.specs.declared.qtd.QueueTransferDescriptor.{QueueTransferDescriptor}
 use Rattle.pool.specs.Chains.{blank, withToken}
 use Rattle.pool.specs.Places.{Each, Within}
 use Rattle.pool.specs.Transfers.{recordAt}
 use Rattle.pool.specs.declared.transfer.Transfer.{Transfer}
 use Rattle.settings.specs.declared.settings.Settings.{Settings}
-use Rattle.state.specs.declared.state.Ehci.{Ehci}
-use Rattle.answer.specs.Answers.{Verdict, first, passed}
+use Rattle.answer.specs.Answers.{passed}
 use Rattle.controller.specs.Readers.{freeCount}
 use Rattle.controller.specs.declared.lent.Readings.{Readings}
-use Rattle.request.specs.Submit.{submitChecks}
 use Rattle.request.specs.declared.judge.TransferRequest.{TransferRequest}
 use Rattle.ehci.specs.declared.call.Call.{Call}
 use Rattle.ehci.specs.declared.call.Call.the-variants.{Submit, Writeback}
@@ -23,6 +20,7 @@ use Rattle.ehci.specs.Replies.{answeredNumber}
 use Rattle.promises.specs.Runs.{Always, History, Machine, Turn, World, turnOf}
 use Rattle.promises.specs.Uses.{Use, needOfUse, needs, uses}
 use Rattle.promises.specs.Walks.{chainWalk}
+use Rattle.promises.specs.Opened.{beforeRoom, wanted}
 
 -- the number that a call answers
 abbrev pub numberAt : Machine → World → Call → ℕ
@@ -34,26 +32,22 @@ Every P (u ∷ us) = P u × Every P us
 
 -- ---- room
 
--- every check of submit's list but its last, which is the room
-abbrev pub beforeRoom : Ehci → ℕ → TransferRequest → Verdict
-beforeRoom s k t = first (take 6 (submitChecks s k t))
-
--- what a submit needs beside all that is in use is more than the pool has
+-- that is more than the pool has, or it is not
 abbrev pub Lacks : Settings → History → TransferRequest → Type 0
-Lacks s h t = s .descriptors < needs s (uses s h) + needOf (t .kind) (t .length) (s .limit)
+Lacks s h t = s .descriptors < wanted s h t
 
 abbrev pub Fits : Settings → History → TransferRequest → Type 0
-Fits s h t = needs s (uses s h) + needOf (t .kind) (t .length) (s .limit) ≤ s .descriptors
+Fits s h t = wanted s h t ≤ s .descriptors
 
 -- free descriptors equal D minus the sum of the needs; a submit answers 6 only where the room lacks and 0 only where it does not; and
--- where every earlier check is passed, it answers 6 or 0 by the room alone
+-- where the history passes every earlier check, it answers 6 or 0 by the room alone
 pub record Room (m : Machine) (s : Settings) (h : History) (w : World) : Type 0 where
   pub free : freeCount (w .state) + needs s (uses s h) ≡ s .descriptors
   pub six-lacks : (k : ℕ) (t : TransferRequest) (readings : Readings) → numberAt m w (Submit k t readings) ≡ 6 → Lacks s h t
   pub zero-fits : (k : ℕ) (t : TransferRequest) (readings : Readings) → numberAt m w (Submit k t readings) ≡ 0 → Fits s h t
-  pub lacks-six : (k : ℕ) (t : TransferRequest) (readings : Readings) → beforeRoom (w .state) k t ≡ passed → Lacks s h t
+  pub lacks-six : (k : ℕ) (t : TransferRequest) (readings : Readings) → beforeRoom s h k t ≡ passed → Lacks s h t
       → numberAt m w (Submit k t readings) ≡ 6
-  pub fits-zero : (k : ℕ) (t : TransferRequest) (readings : Readings) → beforeRoom (w .state) k t ≡ passed → Fits s h t
+  pub fits-zero : (k : ℕ) (t : TransferRequest) (readings : Readings) → beforeRoom s h k t ≡ passed → Fits s h t
       → numberAt m w (Submit k t readings) ≡ 0
 
 abbrev pub RoomExact : Machine → Type 0
