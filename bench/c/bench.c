@@ -1,9 +1,10 @@
 // One life of a request, over and over: submit, the controller's writeback, collect (unlinks), acknowledge, drain, collect
 // (finishes), through the port and through plain C on states and rows of their own.
 //   bench same              both sides at once, every state and row word and every answer compared after each call
-//   bench count SIDE N K    K lives of a request with N descriptors (0: control), for callgrind: the m_* functions
+//   bench count SIDE N K    K lives of a request with N descriptors (0: control), for callgrind: the m_* functions.
+//                           SIDE is plain, port (`apply`) or named (submit by its named call, the rest by `apply`)
 //   bench time SIDE N K     the same, timed call by call
-//   bench stack SIDE        bytes of stack below the caller, the deepest byte written
+//   bench stack SIDE N      bytes of stack below the caller, the deepest byte written
 #include "plain.h"
 #include "port.h"
 #include <stdio.h>
@@ -24,8 +25,7 @@ struct side {
 
 static struct side port, plain;
 
-// A running controller with a control endpoint in slot 0 and bulk endpoints in slots 1 and 2; slot 2 has a request of one
-// descriptor, so that the ring is not empty and the first descriptor is taken.
+// A running controller with a control endpoint in slot 0 and bulk endpoints in slots 1 and 2.
 static void open_side(struct side *x)
 {
     memset(x, 0, sizeof *x);
@@ -70,6 +70,8 @@ MEASURED(port, acknowledge, port_call(&x->state, &x->rows, a, out))
 MEASURED(port, drain, port_call(&x->state, &x->rows, a, out))
 MEASURED(port, finish, port_call(&x->state, &x->rows, a, out))
 
+MEASURED(named, submit, named_submit(&x->state, &x->rows, a, out))
+
 typedef void call_on(struct side *, const struct asked *, struct answered *);
 
 enum { STEPS = 6 };
@@ -77,6 +79,7 @@ enum { STEPS = 6 };
 static const char *const names[STEPS] = {"submit", "writeback", "unlink", "acknowledge", "drain", "finish"};
 
 static call_on *const on_plain[STEPS] = {m_plain_submit, m_plain_writeback, m_plain_unlink, m_plain_acknowledge, m_plain_drain, m_plain_finish};
+static call_on *const on_named[STEPS] = {m_named_submit, m_port_writeback, m_port_unlink, m_port_acknowledge, m_port_drain, m_port_finish};
 static call_on *const on_port[STEPS] = {m_port_submit, m_port_writeback, m_port_unlink, m_port_acknowledge, m_port_drain, m_port_finish};
 
 // The six calls of a life. n is the number of descriptors, 0 for a control request of 18 bytes; the first place is `from`.
@@ -104,7 +107,7 @@ static void controller(struct side *x, u64 n, u64 from)
 
 static int same(const struct answered *a, const struct answered *b)
 {
-    return a->answer == b->answer && a->value == b->value && a->count == b->count && !memcmp(a->offsets, b->offsets, 4 * a->count)
+    return a->number == b->number && a->value == b->value && a->count == b->count && !memcmp(a->offsets, b->offsets, 4 * a->count)
         && !memcmp(a->values, b->values, 4 * a->count);
 }
 
@@ -119,27 +122,27 @@ static u64 digest_side(u64 h, const struct side *x, const struct answered *a)
 {
     h = digest(h, &x->state, sizeof x->state);
     h = digest(h, x->pool, sizeof x->pool + sizeof x->heads + sizeof x->frames + sizeof x->setups);
-    h = digest(digest(h, &a->answer, 16), a->offsets, 4 * a->count);
+    h = digest(digest(digest(h, &a->number, 1), &a->count, 12), a->offsets, 4 * a->count);
     return digest(h, a->values, 4 * a->count);
 }
 
-static void both(const struct asked *a, int step, u64 *hp, u64 *hc, u64 *calls)
+static void both(call_on *const *on, const struct asked *a, int step, u64 *hp, u64 *hc, u64 *calls)
 {
     struct answered p, c;
     memset(&p, 0, sizeof p);
     memset(&c, 0, sizeof c);
-    on_port[step](&port, a, &p);
+    on[step](&port, a, &p);
     on_plain[step](&plain, a, &c);
     (*calls)++;
     *hp = digest_side(*hp, &port, &p);
     *hc = digest_side(*hc, &plain, &c);
     if (same(&p, &c) && !memcmp(&port, &plain, sizeof(struct side) - sizeof(struct rows)))
         return;
-    printf("differ at call %lu, %s: port %u %lu %u, plain %u %lu %u\n", *calls, names[step], p.answer, p.value, p.count, c.answer, c.value, c.count);
+    printf("differ at call %lu, %s: port %u %lu %u, plain %u %lu %u\n", *calls, names[step], p.number, p.value, p.count, c.number, c.value, c.count);
     exit(1);
 }
 
-static int same_words(void)
+static int same_words(call_on *const *on)
 {
     u64 hp = 0xcbf29ce484222325, hc = hp, calls = 0;
     for (u64 n = 0; n <= D; n++) {
@@ -149,7 +152,7 @@ static int same_words(void)
             struct asked a[STEPS];
             plan(a, n, id, 0);
             for (int step = 0; step < STEPS; step++) {
-                both(&a[step], step, &hp, &hc, &calls);
+                both(on, &a[step], step, &hp, &hc, &calls);
                 if (step == 1) {
                     controller(&port, n, 0);
                     controller(&plain, n, 0);
@@ -157,21 +160,21 @@ static int same_words(void)
             }
             // What is refused: a wrong kind, a closed slot, a wrong id, a free place, a length beyond the pool.
             a[0].kind ^= 2;
-            both(&a[0], 0, &hp, &hc, &calls);
+            both(on, &a[0], 0, &hp, &hc, &calls);
             a[0].kind ^= 2;
             a[0].length = 257ul * LIMIT;
-            both(&a[0], 0, &hp, &hc, &calls);
+            both(on, &a[0], 0, &hp, &hc, &calls);
             a[0].slot = 7;
-            both(&a[0], 0, &hp, &hc, &calls);
-            both(&a[1], 1, &hp, &hc, &calls);
+            both(on, &a[0], 0, &hp, &hc, &calls);
+            both(on, &a[1], 1, &hp, &hc, &calls);
             a[2].id = 77;
-            both(&a[2], 2, &hp, &hc, &calls);
+            both(on, &a[2], 2, &hp, &hc, &calls);
         }
         port.state.noted = plain.state.noted = 1;
         struct asked a[STEPS];
         plan(a, n, 3, 0);
         for (int step = 0; step < STEPS; step++)
-            both(&a[step], step, &hp, &hc, &calls);
+            both(on, &a[step], step, &hp, &hc, &calls);
     }
     printf("%lu calls, the same words: port %016lx plain %016lx\n", calls, hp, hc);
     return hp != hc;
@@ -180,8 +183,8 @@ static int same_words(void)
 static void expect(int step, const struct answered *out)
 {
     static const u32 good[STEPS] = {0, 0, 9, 0, 0, 0};
-    if (out->answer != good[step]) {
-        printf("%s answered %u\n", names[step], out->answer);
+    if (out->number != good[step]) {
+        printf("%s answered %u\n", names[step], out->number);
         exit(1);
     }
 }
@@ -241,23 +244,23 @@ static void times(struct side *x, call_on *const *on, u64 n, u64 lives)
     }
 }
 
-enum { ROOM = 256 * 1024 };
+// The stack below the caller is painted, and then searched for the deepest byte that is no longer paint.
+enum { ROOM = 256 * 1024, NEAR = 192 };
 
-// The stack below this frame, painted.
 __attribute__((noinline)) static void paint(void)
 {
-    volatile u8 room[ROOM];
-    for (int i = 0; i < ROOM; i++)
-        room[i] = 0xa5;
+    volatile u8 *at = __builtin_frame_address(0);
+    for (int i = NEAR; i < ROOM; i++)
+        at[-i] = 0xa5;
 }
 
-__attribute__((noinline)) static u64 painted(void)
+__attribute__((noinline)) static int painted(void)
 {
-    volatile u8 room[ROOM];
-    u64 i = 0;
-    while (i < ROOM && room[i] == 0xa5)
-        i++;
-    return ROOM - i;
+    volatile u8 *at = __builtin_frame_address(0);
+    int i = ROOM - 1;
+    while (i >= NEAR && at[-i] == 0xa5)
+        i--;
+    return i;
 }
 
 static void stacks(struct side *x, call_on *const *on, u64 n)
@@ -269,23 +272,23 @@ static void stacks(struct side *x, call_on *const *on, u64 n)
     for (int step = 0; step < STEPS; step++) {
         paint();
         on[step](x, &a[step], &out);
-        u64 deep = painted();
+        int deep = painted();
         expect(step, &out);
         if (step == 1)
             controller(x, n, 0);
-        printf("%s %lu\n", names[step], deep);
+        printf("%s %d\n", names[step], deep);
     }
 }
 
 int main(int count, char **words)
 {
     if (count == 2 && !strcmp(words[1], "same"))
-        return same_words();
+        return same_words(on_port) || same_words(on_named);
     if (count < 4)
         return 2;
-    int is_port = !strcmp(words[2], "port");
-    struct side *x = is_port ? &port : &plain;
-    call_on *const *on = is_port ? on_port : on_plain;
+    int is_plain = !strcmp(words[2], "plain");
+    struct side *x = is_plain ? &plain : &port;
+    call_on *const *on = is_plain ? on_plain : strcmp(words[2], "named") ? on_port : on_named;
     u64 n = strtoul(words[3], 0, 10), k = count > 4 ? strtoul(words[4], 0, 10) : 1;
     if (!strcmp(words[1], "count"))
         lives(x, on, n, k);

@@ -10,9 +10,9 @@ enum { USBCMD = 0x00, USBSTS = 0x04, USBINTR = 0x08 };
 
 #define MEMORY_END 0x100000000ul
 
-static void answer(struct answered *out, u32 number, u64 value)
+static void answer(struct answered *out, u8 number, u64 value)
 {
-    out->answer = number;
+    out->number = number;
     out->value = value;
     out->count = 0;
 }
@@ -101,8 +101,8 @@ static int in_ranges(const struct ehci *s)
     int machine = (s->running <= 1) & (s->step <= 6) & (s->waited < s->settings.wait) & (1 <= s->address) & (s->address <= 128);
     int interrupt = (s->enabled <= 1) & ((s->pending & ~0x37u) == 0) & ((s->masked & ~0x27u) == 0);
     int doorbell = (s->doorbell <= 1) & (s->noted <= s->doorbell) & (s->doorbell <= s->unanswered) & (s->unanswered <= 32);
-    int owner = (largest(s->owner, d) <= s->settings.endpoints) & (largest(s->owner + d, 256 - d) == 0);
-    return machine & interrupt & doorbell & owner & slots_good(s);
+    int owned = largest(s->owner, d) <= s->settings.endpoints, beyond = largest(s->owner + d, 256 - d) == 0;
+    return machine & interrupt & doorbell & owned & beyond & slots_good(s);
 }
 
 static int accepts(const struct ehci *s, const struct rows *r)
@@ -215,7 +215,7 @@ static u64 need(const struct asked *a, u64 limit)
     return a->length ? (a->length - 1) / limit + 1 : 1;
 }
 
-static u32 judge(const struct ehci *s, const struct asked *a)
+static u8 judge(const struct ehci *s, const struct asked *a)
 {
     if (a->slot >= 32 || s->phases[a->slot] == CLOSED)
         return NO_ENDPOINT;
@@ -268,7 +268,7 @@ void plain_submit(struct ehci *s, const struct rows *r, const struct asked *a, s
         answer(out, INVALID, 0);
         return;
     }
-    u32 refusal = judge(s, a);
+    u8 refusal = judge(s, a);
     if (refusal) {
         answer(out, refusal, 0);
         return;

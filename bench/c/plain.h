@@ -3,7 +3,7 @@
 #include "words.h"
 
 // The events of a drain.
-enum { PORT_CHANGE, TRANSFER_ACTIVITY, STOPPED, NOTHING };
+enum { NOTHING, PORT_CHANGE, TRANSFER_ACTIVITY, STOPPED };
 
 void plain_submit(struct ehci *s, const struct rows *r, const struct asked *a, struct answered *out);
 void plain_writeback(struct ehci *s, const struct rows *r, const struct asked *a, struct answered *out);

@@ -150,22 +150,24 @@ pub fn times(count: usize, lives: usize) {
     }
 }
 
+// The stack below the caller is painted, and then searched for the deepest byte that is no longer paint.
 const ROOM: usize = 256 * 1024;
+const NEAR: usize = 192;
 
 #[inline(never)]
 fn paint() {
-    let mut room = std::mem::MaybeUninit::<[u8; ROOM]>::uninit();
-    let at = room.as_mut_ptr() as *mut u8;
-    for i in 0..ROOM {
-        unsafe { at.add(i).write_volatile(0xa5) }
+    let here = 0u8;
+    let at = std::hint::black_box(&raw const here) as *mut u8;
+    for i in NEAR..ROOM {
+        unsafe { at.sub(i).write_volatile(0xa5) }
     }
 }
 
 #[inline(never)]
 fn painted() -> usize {
-    let mut room = std::mem::MaybeUninit::<[u8; ROOM]>::uninit();
-    let at = room.as_mut_ptr() as *mut u8;
-    (0..ROOM).find(|i| unsafe { at.add(*i).read_volatile() } != 0xa5).map_or(0, |i| ROOM - i)
+    let here = 0u8;
+    let at = std::hint::black_box(&raw const here) as *mut u8;
+    (NEAR..ROOM).rev().find(|i| unsafe { at.sub(*i).read_volatile() } != 0xa5).unwrap_or(NEAR)
 }
 
 pub fn stacks(count: usize) {
