@@ -5,6 +5,7 @@
 //                           SIDE is plain, port (`apply`) or named (submit by its named call, the rest by `apply`)
 //   bench time SIDE N K     the same, timed call by call
 //   bench stack SIDE N      bytes of stack below the caller, the deepest byte written
+//   copies copies SIDE N    calls of memcpy in a call, and their bytes (the same program linked with copies.c)
 #include "plain.h"
 #include "port.h"
 #include <stdio.h>
@@ -280,6 +281,24 @@ static void stacks(struct side *x, call_on *const *on, u64 n)
     }
 }
 
+extern u64 copies __attribute__((weak)), copied __attribute__((weak));
+
+static void copying(struct side *x, call_on *const *on, u64 n)
+{
+    open_side(x);
+    struct asked a[STEPS];
+    struct answered out;
+    plan(a, n, 1, 0);
+    for (int step = 0; step < STEPS; step++) {
+        copies = copied = 0;
+        on[step](x, &a[step], &out);
+        printf("%s %lu %lu\n", names[step], copies, copied);
+        expect(step, &out);
+        if (step == 1)
+            controller(x, n, 0);
+    }
+}
+
 int main(int count, char **words)
 {
     if (count == 2 && !strcmp(words[1], "same"))
@@ -296,6 +315,8 @@ int main(int count, char **words)
         times(x, on, n, k);
     else if (!strcmp(words[1], "stack"))
         stacks(x, on, n);
+    else if (!strcmp(words[1], "copies") && &copies)
+        copying(x, on, n);
     else
         return 2;
     return 0;
