@@ -5,8 +5,8 @@ use mathlib.Core.Bool.{Bool, true, false}
 use mathlib.Core.List.{List, [], _∷_}
 use native.Mathlib.Numerals.{add-one}
 use native.Mathlib.Omega.{arith}
-use borrow.Author.Tests.{eq-eqb, ne-eqb}
-use lib.Dec.{eqb}
+use borrow.Author.Tests.{eq-eqb, eqb-true, ne-eqb, lt-ltb, le-ltb}
+use lib.Dec.{eqb, ltb}
 use lib.ListN.{drop, drop-of-length-le, getD, length, take, List·getD-eq-default}
 use lib.Seq.{drop-cons, take-all}
 use Rattle.pipe.specs.declared.endpoint.Endpoint.{Endpoint}
@@ -14,9 +14,11 @@ use Rattle.pipe.specs.declared.endpoint.Endpoint.the-variants.{Closed, Idle, Li
 use Rattle.pipe.specs.declared.endpoint.Pipe.{Pipe}
 use Rattle.pipe.specs.declared.endpoint.Request.{Request}
 use Rattle.pipe.specs.declared.endpoint.UnlinkBoundary.{UnlinkBoundary}
+use Rattle.settings.specs.Tests.{either}
+use Rattle.state.specs.Slots.{slotAt}
 use Rattle.state.specs.declared.state.Ehci.{Ehci}
-use Rattle.pipe.specs.Endpoints.{endpointAt, flagNumber}
-use Rattle.controller.specs.Readers.{countZero, freeCount, hasPlace, isOpen, isUncollected}
+use Rattle.pipe.specs.Endpoints.{decoded, endpointAt, flagNumber, pickEndpoint}
+use Rattle.controller.specs.Readers.{countZero, freeCount, hasEndpoint, hasPlace, holdsRequest, isOpen, isUncollected, openIn, phaseIn, uncollectedIn}
 
 counted-more : (l : List ℕ) (i : ℕ) → i < length l → countZero (drop i l) ≡ flagNumber (eqb (getD l i 0) 0) + countZero (drop (i + 1) l)
 unfolding countZero
@@ -68,3 +70,59 @@ module _ (s : Ehci) (k : ℕ) (e : Endpoint) (ee : e ≡ endpointAt s k) where
 
   pub unlinking-open : (p : Pipe) (r : Request) (b : UnlinkBoundary) → e ≡ Unlinking p r b → true ≡ isOpen s k
   unlinking-open p r b h = rw (sym ee ∙ h)
+
+-- ---- by the phases alone
+
+pub phase-of : (phases : List ℕ) (k : ℕ) → k < 32 → getD phases k 0 ≡ phaseIn phases k
+phase-of phases k h = rw (lt-ltb k 32 h)
+
+pub no-phase : (phases : List ℕ) (k : ℕ) → 32 ≤ k → 0 ≡ phaseIn phases k
+no-phase phases k h = rw (le-ltb k 32 h)
+
+pub open-tests : (phases : List ℕ) (k p : ℕ) → p ≡ phaseIn phases k → either (either (eqb p 1) (eqb p 2)) (eqb p 3) ≡ openIn phases k
+unfolding openIn
+open-tests phases k p e = rw e
+
+pub uncollected-tests : (phases : List ℕ) (k p : ℕ) → p ≡ phaseIn phases k → either (eqb p 2) (eqb p 3) ≡ uncollectedIn phases k
+unfolding uncollectedIn
+uncollected-tests phases k p e = rw e
+
+module _ (i : Pipe) (p : Pipe) (r : Request) (q : Pipe) (t : Request) (u : UnlinkBoundary) where
+  some-open : (a b c : Bool) → either (either a b) c ≡ hasEndpoint (pickEndpoint a (Idle i) (pickEndpoint b (Linked p r) (pickEndpoint c (Unlinking q t u) Closed)))
+  some-open true b c = refl
+  some-open false true c = refl
+  some-open false false true = refl
+  some-open false false false = refl
+
+  -- no number is 1 and one of the others
+  some-held : (a b c : Bool) → (a ≡ true → either b c ≡ false) → either b c ≡ holdsRequest (pickEndpoint a (Idle i) (pickEndpoint b (Linked p r) (pickEndpoint c (Unlinking q t u) Closed)))
+  some-held true b c h = h refl
+  some-held false true c h = refl
+  some-held false false true h = refl
+  some-held false false false h = refl
+
+idle-only : (n : ℕ) → eqb n 1 ≡ true → either (eqb n 2) (eqb n 3) ≡ false
+idle-only n h =
+    let one : n ≡ 1 = eqb-true n 1 h in
+    rw (ne-eqb n 2 (λ e. omega arith), ne-eqb n 3 (λ e. omega arith))
+
+module _ (s : Ehci) (k : ℕ) where
+  open-here : (t : Bool) → ltb k 32 ≡ t → openIn (s .phases) k ≡ isOpen s k
+  unfolding openIn endpointAt decoded slotAt
+  open-here true h = rw h (some-open _ _ _ _ _ _ (eqb (getD (s .phases) k 0) 1) (eqb (getD (s .phases) k 0) 2) (eqb (getD (s .phases) k 0) 3))
+  open-here false h = rw h
+
+  held-here : (t : Bool) → ltb k 32 ≡ t → uncollectedIn (s .phases) k ≡ isUncollected s k
+  unfolding uncollectedIn endpointAt decoded slotAt
+  held-here true h = rw h (some-held _ _ _ _ _ _ (eqb (getD (s .phases) k 0) 1) (eqb (getD (s .phases) k 0) 2) (eqb (getD (s .phases) k 0) 3) (idle-only (getD (s .phases) k 0)))
+  held-here false h = rw h
+
+  pub open-in-is : (o : Bool) → o ≡ openIn (s .phases) k → o ≡ isOpen s k
+  open-in-is o e = e ∙ open-here (ltb k 32) refl
+
+  pub uncollected-in-is : (o : Bool) → o ≡ uncollectedIn (s .phases) k → o ≡ isUncollected s k
+  uncollected-in-is o e = e ∙ held-here (ltb k 32) refl
+
+  pub free-in-is : (n : ℕ) → n ≡ countZero (take (s .settings .descriptors) (s .owner)) → n ≡ freeCount s
+  unfolding freeCount
+  free-in-is n e = e

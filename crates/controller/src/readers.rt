@@ -3,7 +3,7 @@ ghost use mathlib.Core.Path.{_≡_};
 ghost use Prim.Native.Nat.{_≤_};
 ghost use lib.ListN.{length, take};
 ghost use Rattle.pipe.specs.Endpoints.{flagOf};
-ghost use Rattle.controller.specs.Readers.{countZero, freeCount, isOpen, isUncollected, hasPlace};
+ghost use Rattle.controller.specs.Readers.{countZero, freeCount, isOpen, isUncollected, hasPlace, phaseIn, openIn, uncollectedIn};
 use pipe::endpoint::Endpoint;
 use pipe::endpoint::endpoint_at;
 use state::state::Ehci;
@@ -25,7 +25,8 @@ pub fn count_zero(owner: &[u8]) -> u16
     n
 }
 
-fn free_in(owner: &[u8], descriptors: u64) -> u16
+// `free_count` by the owners.
+pub fn free_in(owner: &[u8], descriptors: u64) -> u16
     requires { ⌜ length (now owner) ≡ 256 ⌝ }
     ensures { λ r. ⌜ r ≡ countZero (take descriptors (now (owner .entry))) ⌝ }
 {
@@ -42,6 +43,29 @@ pub fn free_count(s: Ehci) -> u16
     ensures { λ r. ⌜ r ≡ freeCount s ⌝ }
 {
     free_in(&s.owner, s.settings.descriptors)
+}
+
+// A slot's phase, of the lent phases of all. Lending them copies no state.
+fn phase_in(phases: &[u8; 32], slot: u8) -> u8
+    ensures { λ r. ⌜ r ≡ phaseIn (now (phases .entry)) slot ⌝ }
+{
+    if slot < 32 { phases[slot as usize] } else { 0 }
+}
+
+// `is_open` by the phases.
+pub fn open_in(phases: &[u8; 32], slot: u8) -> bool
+    ensures { λ r. ⌜ r ≡ openIn (now (phases .entry)) slot ⌝ }
+{
+    let phase = phase_in(phases, slot);
+    (phase == 1) | (phase == 2) | (phase == 3)
+}
+
+// `uncollected` by the phases.
+pub fn uncollected_in(phases: &[u8; 32], slot: u8) -> bool
+    ensures { λ r. ⌜ r ≡ uncollectedIn (now (phases .entry)) slot ⌝ }
+{
+    let phase = phase_in(phases, slot);
+    (phase == 2) | (phase == 3)
 }
 
 // Whether a slot has an endpoint.

@@ -10,9 +10,9 @@ ghost use Rattle.request.specs.Submit.{
 };
 use answer::answer::Answer;
 use answer::answer::Refusal;
-use controller::readers::free_count;
-use controller::readers::is_open;
-use controller::readers::uncollected;
+use controller::readers::free_in;
+use controller::readers::open_in;
+use controller::readers::uncollected_in;
 use pipe::endpoint::kind_number;
 use pipe::kinds::is_control;
 use pipe::kinds::is_isochronous;
@@ -81,14 +81,14 @@ pub fn judge(s: Ehci, slot: u8, t: TransferRequest) -> Answer
     ensures { λ r. ⌜ r ≡ judgeOf s slot t ⌝ }
 {
     let kind = t.kind;
-    if !is_open(s, slot) {
+    if !open_in(&s.phases, slot) {
         return Answer::Refused(Refusal::InvalidEndpoint);
     }
     let running = s.running;
     if running == 0 {
         return Answer::Refused(Refusal::NotReady);
     }
-    if uncollected(s, slot) {
+    if uncollected_in(&s.phases, slot) {
         return Answer::Refused(Refusal::QueueFull);
     }
     if is_isochronous(kind) {
@@ -101,7 +101,7 @@ pub fn judge(s: Ehci, slot: u8, t: TransferRequest) -> Answer
     if !ranges_good(t) {
         return Answer::Refused(Refusal::InvalidParameter);
     }
-    let free = free_count(s) as u64;
+    let free = free_in(&s.owner, s.settings.descriptors) as u64;
     if free < need(kind, t.length, s.settings.limit) {
         return Answer::Refused(Refusal::NoMemory);
     }
