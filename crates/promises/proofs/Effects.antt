@@ -1,4 +1,4 @@
--- What a call can do to a world: eleven kinds, whatever the call. Every invariant goes by these and not by the calls.
+-- What a call can do to a world: thirteen kinds, whatever the call. Every invariant goes by these and not by the calls.
 use Prim.Native.Nat.{ℕ, _+_, _<_}
 use mathlib.Core.Bool.{true, false}
 use mathlib.Core.List.{List}
