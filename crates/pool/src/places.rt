@@ -119,3 +119,16 @@ pub fn count_of(places: Places) -> usize
 {
     places.count
 }
+
+// The numbers of a list, of which the first are its places.
+pub fn list_of(places: Places) -> [u8; 256]
+    ensures { λ r. ⌜ r ≡ places .at ⌝ }
+{
+    places.at
+}
+
+pub fn wide(place: u8) -> usize
+    ensures { λ r. ⌜ r ≡ place ⌝ }
+{
+    place as usize
+}
