@@ -11,8 +11,8 @@ use crate::chain::nothing_seen;
 use crate::chain::see;
 use crate::chain::written;
 use crate::places::count_of;
+use crate::places::index_after;
 use crate::places::list_of;
-use crate::places::place_at;
 use crate::places::wide;
 use descriptor::qtd::QueueTransferDescriptor;
 
@@ -56,11 +56,14 @@ pub fn fill(rows: &mut [QueueTransferDescriptor], chain: Chain)
     ensures { λ _. ⌜ now (rows .exit) ≡ fillOf chain (now (rows .entry)) ⌝ }
 {
     let count = count_of(chain.places);
+    let list = list_of(chain.places);
     let mut k: usize = 0;
     while k < count {
-        let place = place_at(chain.places, k);
+        let place = wide(list[k]);
+        let next = index_after(count, k);
+        let after = wide(list[next]);
         let here = record_at(rows, place);
-        let r = written(chain, k, here);
+        let r = written(chain, k, next, after, here);
         replace(rows, place, r);
         k += 1;
     }
