@@ -5,7 +5,7 @@ use mathlib.Core.Bool.{Bool, true, false, not}
 use mathlib.Core.List.{List, [], _∷_}
 use native.Mathlib.Numerals.{add-one}
 use native.Mathlib.Omega.{arith}
-use borrow.Author.Tests.{eq-eqb, ne-eqb}
+use borrow.Author.Tests.{eq-eqb, le-leb, lt-leb, ne-eqb}
 use lib.Dec.{eqb, leb, leb→le, nleb→lt}
 use lib.ListN.{drop, drop-of-length-le, getD, length, length-take, take}
 use lib.Seq.{drop-cons, length-take-le}
@@ -26,7 +26,7 @@ use Rattle.pool.specs.declared.places.Places.{Places}
 use Rattle.pool.specs.declared.transfer.Transfer.{Transfer}
 use Rattle.pool.specs.Places.{listOf}
 use Rattle.pool.specs.Transfers.{addressOf, bareAt, isLast, nextOf, recordAt, requestedAt, startGood}
-use Rattle.pool.specs.Chains.{firstError, isActive, isErring, lengthOf, numberIf, orElse, seeOf, stageOf, turnGood, viewOf, withToken, writtenOf}
+use Rattle.pool.specs.Chains.{firstError, indexAfter, isActive, isErring, lengthOf, numberIf, orElse, seeOf, stageOf, toCome, turnGood, viewOf, withToken, writtenOf}
 use Rattle.pool.proofs.PlaceCases.{listed}
 
 pub seen-none : record { stage = 0; failed = 0; moved = 0 } ≡ viewOf []
@@ -89,34 +89,52 @@ module _ (p : Places) (k : ℕ) (len : length (p .at) ≡ 256) where
   one-after : p .count ≤ 256 → k + 1 < p .count → drop (k + 1) (listOf p) ≡ getD (listOf p) (k + 1) 0 ∷ drop (suc (k + 1)) (listOf p)
   one-after h l = drop-cons (listOf p) (k + 1) 0 (omega (arith, listed-length h, l))
 
-  pub last-is : p .count ≤ 256 → leb (p .count) (k + 1) ≡ isLast (drop (k + 1) (listOf p))
-  last-is h = go (leb (p .count) (k + 1)) refl
-    where
-      go : (b : Bool) → leb (p .count) (k + 1) ≡ b → b ≡ isLast (drop (k + 1) (listOf p))
-      go true e = rw (none-after h (leb→le (p .count) (k + 1) (subst (λ (b : Bool). lib.Dec.T b) (sym e) tt)))
-      go false e = rw (one-after h (nleb→lt (p .count) (k + 1) (subst (λ (b : Bool). lib.Dec.T (not b)) (sym e) tt)))
+  module _ (deed : Deed) (base : ℕ) (here : QueueTransferDescriptor) where
+    -- of the places to come only the first is looked at
+    first-only : (d : Deed) (q : ℕ) (qs : List ℕ) → writtenOf d base k (q ∷ []) here ≡ writtenOf d base k (q ∷ qs) here
+    unfolding recordAt
+    first-only Deeds.Leave q qs = refl
+    first-only Deeds.Clear q qs = refl
+    first-only (Deeds.Transfer t) q qs = refl
+    first-only (Deeds.Token w) q qs = refl
 
-  module _ (base : ℕ) where
-    pub next-none : p .count ≤ 256 → p .count ≤ k + 1 → Terminate ≡ nextOf base (drop (k + 1) (listOf p))
-    next-none h l = rw (none-after h l)
+    -- the index of the place to come, and that place, say all that the list says
+    pub to-come-is : p .count ≤ 256
+        → writtenOf deed base k (toCome (eqb (indexAfter (p .count) k) k) (getD (p .at) (indexAfter (p .count) k) 0)) here ≡ writtenOf deed base k (drop (k + 1) (listOf p)) here
+    to-come-is h = go (leb (p .count) (k + 1)) refl
+      where
+        go : (b : Bool) → leb (p .count) (k + 1) ≡ b
+            → writtenOf deed base k (toCome (eqb (indexAfter (p .count) k) k) (getD (p .at) (indexAfter (p .count) k) 0)) here ≡ writtenOf deed base k (drop (k + 1) (listOf p)) here
+        go true e = rw (e, eq-eqb k k refl, none-after h (leb→le (p .count) (k + 1) (subst (λ (b : Bool). lib.Dec.T b) (sym e) tt)))
+        go false e =
+            let l : k + 1 < p .count = nleb→lt (p .count) (k + 1) (subst (λ (b : Bool). lib.Dec.T (not b)) (sym e) tt) in
+            rw (e, ne-eqb (k + 1) k (λ z. omega (arith, z)), one-after h l, listed p (k + 1) l) (first-only deed (getD (listOf p) (k + 1) 0) (drop (suc (k + 1)) (listOf p)))
 
-    pub next-there : p .count ≤ 256 → k + 1 < p .count → At (base + 64 * getD (p .at) (k + 1) 0) ≡ nextOf base (drop (k + 1) (listOf p))
-    next-there h l = rw (one-after h l, listed p (k + 1) l)
+pub index-last : (n k : ℕ) → n ≤ k + 1 → k ≡ indexAfter n k
+index-last n k h = rw (le-leb n (k + 1) h)
 
-pub next-word : (p : Places) (k base : ℕ) → k + 1 < p .count → addressOf base (getD (listOf p) (k + 1) 0) < 2 ^ 32
-    → base + 64 * getD (p .at) (k + 1) 0 < 2 ^ 32
-next-word p k base l g = subst (λ (q : ℕ). addressOf base q < 2 ^ 32) (sym (listed p (k + 1) l)) g
+pub index-more : (n k : ℕ) → k + 1 < n → k + 1 ≡ indexAfter n k
+index-more n k h = rw (lt-leb n (k + 1) h)
 
-pub next-product : (p : Places) (k base : ℕ) → k + 1 < p .count → addressOf base (getD (listOf p) (k + 1) 0) < 2 ^ 32 → Fits w64 (64 * getD (p .at) (k + 1) 0)
-next-product p k base l g = omega (arith, next-word p k base l g)
+-- it is an index of the list
+pub index-in : (n k : ℕ) → k < n → indexAfter n k < n
+index-in n k l = go (leb n (k + 1)) refl
+  where
+    go : (b : Bool) → leb n (k + 1) ≡ b → indexAfter n k < n
+    go true e = subst (λ (b : Bool). numberIf b k (k + 1) < n) (sym e) l
+    go false e = subst (λ (b : Bool). numberIf b k (k + 1) < n) (sym e) (nleb→lt n (k + 1) (subst (λ (b : Bool). lib.Dec.T (not b)) (sym e) tt))
 
-pub next-sum : (p : Places) (k base : ℕ) → k + 1 < p .count → addressOf base (getD (listOf p) (k + 1) 0) < 2 ^ 32 → Fits w64 (base + 64 * getD (p .at) (k + 1) 0)
-next-sum p k base l g = omega (arith, next-word p k base l g)
+pub next-there : (base q : ℕ) (b : Bool) → b ≡ false → At (base + 64 * q) ≡ nextOf base (toCome b q)
+next-there base q b e = rw e
 
-pub record-made : (t : Transfer) (k base : ℕ) (rest : List ℕ) (last : Bool) (next : NextQtd) (bare r : QueueTransferDescriptor)
-    → last ≡ isLast rest → next ≡ nextOf base rest → bare ≡ bareAt t k last → r ≡ withNext bare next → r ≡ recordAt t k rest base
+pub last-to-come : (b : Bool) (q : ℕ) → b ≡ isLast (toCome b q)
+last-to-come true q = refl
+last-to-come false q = refl
+
+pub record-made : (t : Transfer) (k base q : ℕ) (last : Bool) (next : NextQtd) (bare r : QueueTransferDescriptor)
+    → next ≡ nextOf base (toCome last q) → bare ≡ bareAt t k last → r ≡ withNext bare next → r ≡ recordAt t k (toCome last q) base
 unfolding recordAt
-record-made t k base rest last next bare r el en eb er = rw (er, eb, el, en)
+record-made t k base q last next bare r en eb er = rw (er, eb, en, ← last-to-come last q)
 
 module _ (deed : Deed) (base k : ℕ) (rest : List ℕ) (here : QueueTransferDescriptor) where
   pub written-transfer : (t : Transfer) (r : QueueTransferDescriptor) → deed ≡ Deeds.Transfer t → r ≡ recordAt t k rest base → r ≡ writtenOf deed base k rest here

@@ -149,16 +149,6 @@ none-moved u e =
 pub listed-in : (n k p : ℕ) (ps : List ℕ) → Within n ps → k < length ps → p ≡ getD ps k 0 → p < n
 listed-in n k p ps w h e = subst (λ (q : ℕ). q < n) (sym e) (each-at (λ (q : ℕ). q < n) ps k w h)
 
--- a list's next place, or 0 past its end
-after-in : (n k : ℕ) (ps : List ℕ) → Within n ps → k < length ps → getD ps (k + 1) 0 < n
-after-in n k ps w h = go (ltb (k + 1) (length ps)) refl
-  where
-    go : (b : Bool) → ltb (k + 1) (length ps) ≡ b → getD ps (k + 1) 0 < n
-    go true e = each-at (λ (q : ℕ). q < n) ps (k + 1) w (ltb→lt (k + 1) (length ps) (subst (λ (b : Bool). T b) (sym e) tt))
-    go false e =
-        let past : length ps ≤ k + 1 = nltb→le (k + 1) (length ps) (subst (λ (b : Bool). T (not b)) (sym e) tt) in
-        subst (λ (q : ℕ). q < n) (sym (List·getD-eq-default ps 0 past)) (omega (arith, each-at (λ (q : ℕ). q < n) ps k w h))
-
 start-turn : (kind : EndpointType) (t : Transfer) (count k : ℕ) → k < count → startsGood kind t count → startGood kind t k
 start-turn Control t count k h g = tt
 start-turn Isochronous t count k h g = le-trans (mul-le-mul-right (t .limit) (omega (arith, h))) g
@@ -171,8 +161,6 @@ turn-of Deeds.Clear base n count k place h l g = tt
 turn-of (Deeds.Transfer t) base n count k place h l g = (omega (arith, g .0, l), g .1, g .2, start-turn (t .kind) t count k h (g .3))
 turn-of (Deeds.Token w) base n count k place h l g = tt
 
-pub chain-turn : (n : ℕ) (c : Chain) (k : ℕ) → length (c .places .at) ≡ 256 → ChainGood n c → k < c .places .count
-    → (k < c .places .count) × (c .places .count ≤ 256) × turnGood (c .deed) (c .base) k (getD (listOf (c .places)) (k + 1) 0)
-chain-turn n c k len g h =
-    let l : k < length (listOf (c .places)) = omega (arith, h, listed-length (c .places) k len (g .few)) in
-    (h, g .few, turn-of (c .deed) (c .base) n (c .places .count) k (getD (listOf (c .places)) (k + 1) 0) h (after-in n k (listOf (c .places)) (g .within) l) (g .deed))
+-- any of the list's places may come next
+pub chain-turn : (n : ℕ) (c : Chain) (k place : ℕ) → ChainGood n c → k < c .places .count → place < n → turnGood (c .deed) (c .base) k place
+chain-turn n c k place g h l = turn-of (c .deed) (c .base) n (c .places .count) k place h l (g .deed)

@@ -2,7 +2,7 @@
 use Prim.Native.Nat.{ℕ, zero, suc, _+_, _-_, _*_, _/_, _≤_, _<_, _^_}
 use mathlib.Core.Bool.{Bool, true, false, not}
 use mathlib.Core.List.{List, [], _∷_, map}
-use lib.Dec.{eqb}
+use lib.Dec.{eqb, leb}
 use lib.ListN.{getD, set}
 use Rattle.token.specs.declared.request.EndpointType.{EndpointType}
 use Rattle.token.specs.declared.request.EndpointType.the-variants.{Control, Isochronous, Bulk, Interrupt}
@@ -16,7 +16,7 @@ use Rattle.pool.specs.declared.chain.Deed.the-variants as Deeds
 use Rattle.pool.specs.declared.chain.View.{View}
 use Rattle.pool.specs.declared.transfer.Transfer.{Transfer}
 use Rattle.pool.specs.EhciChain.{follow}
-use Rattle.pool.specs.Places.{Within, listOf, packed}
+use Rattle.pool.specs.Places.{Within, listIf, listOf, packed}
 use Rattle.pool.specs.Transfers.{addressOf, requestedAt, recordAt, startGood}
 
 -- the record of thirteen zero words
@@ -29,6 +29,10 @@ blank = record { next = 0; alternate = 0; token = 0; pages = zeroSlots; upper = 
 abbrev pub withToken : QueueTransferDescriptor → ℕ → QueueTransferDescriptor
 withToken here w =
     record { next = here .next; alternate = here .alternate; token = w; pages = here .pages; upper = here .upper }
+
+-- the place to come, where this is not the last
+abbrev pub toCome : Bool → ℕ → List ℕ
+toCome last after = listIf last [] (after ∷ [])
 
 -- the k-th of a chain's records, with these places to come
 abbrev pub writtenOf : Deed → ℕ → ℕ → List ℕ → QueueTransferDescriptor → QueueTransferDescriptor
@@ -87,6 +91,10 @@ isErring w = not (eqb (errors w) 0)
 abbrev pub numberIf : Bool → ℕ → ℕ → ℕ
 numberIf true a b = a
 numberIf false a b = b
+
+-- the index of the place after the k-th of n, k where none comes
+abbrev pub indexAfter : ℕ → ℕ → ℕ
+indexAfter n k = numberIf (leb n (k + 1)) k (k + 1)
 
 -- 0: every descriptor is inactive, none erring; 1: an error comes before any active one; 2: an active one comes first
 unfoldable pub stageOf : List Seen → ℕ

@@ -3,11 +3,9 @@ ghost use mathlib.Core.Path.{_≡_};
 ghost use mathlib.Core.List.{[]};
 ghost use Prim.Native.Nat.{_+_, _-_, _*_, _≤_, _<_, _^_};
 ghost use lib.Dec.{eqb};
-ghost use lib.ListN.{getD, drop};
 ghost use Rattle.token.specs.EhciQtd.{totalBytes};
-ghost use Rattle.pool.specs.Places.{listOf};
-ghost use Rattle.pool.specs.Transfers.{addressOf, isLast, nextOf, requestedAt, recordAt, startGood};
-ghost use Rattle.pool.specs.Chains.{blank, isActive, isErring, noAsk, noChain, numberIf, orElse, seeOf, turnGood, viewOf, withToken, writtenOf};
+ghost use Rattle.pool.specs.Transfers.{addressOf, nextOf, requestedAt, recordAt, startGood};
+ghost use Rattle.pool.specs.Chains.{blank, isActive, isErring, noAsk, noChain, numberIf, orElse, seeOf, toCome, turnGood, viewOf, withToken, writtenOf};
 use crate::places::Places;
 use crate::places::no_places;
 use crate::transfer::Transfer;
@@ -152,61 +150,48 @@ fn with_token(here: QueueTransferDescriptor, token: u32) -> QueueTransferDescrip
     r
 }
 
-fn is_last(places: Places, k: usize) -> bool
-    requires { ⌜ k < places .count ⌝ }
-    requires { ⌜ places .count ≤ 256 ⌝ }
-    ensures { λ r. ⌜ r ≡ isLast (drop (k + 1) (listOf places)) ⌝ }
+// Where the chain goes on: nowhere after its last place.
+fn next_of(base: u64, last: bool, after: usize) -> NextQtd
+    requires { ⌜ addressOf base after < 2 ^ 32 ⌝ }
+    ensures { λ r. ⌜ r ≡ nextOf base (toCome last after) ⌝ }
 {
-    let count = places.count;
-    count <= k + 1
-}
-
-// Where the chain goes on after its k-th place.
-fn next_of(places: Places, base: u64, k: usize) -> NextQtd
-    requires { ⌜ k < places .count ⌝ }
-    requires { ⌜ places .count ≤ 256 ⌝ }
-    requires { ⌜ addressOf base (getD (listOf places) (k + 1) 0) < 2 ^ 32 ⌝ }
-    ensures { λ r. ⌜ r ≡ nextOf base (drop (k + 1) (listOf places)) ⌝ }
-{
-    let count = places.count;
-    let after = k + 1;
-    if count <= after {
+    if last {
         return NextQtd::Terminate;
     }
-    let at = places.at;
-    let place = at[after] as u64;
-    NextQtd::At((base + 64 * place) as u32)
+    NextQtd::At((base + 64 * (after as u64)) as u32)
 }
 
 // A request's k-th record, linked to the place to come.
-fn record_for(t: Transfer, places: Places, base: u64, k: usize) -> QueueTransferDescriptor
-    requires { ⌜ k < places .count ⌝ }
-    requires { ⌜ places .count ≤ 256 ⌝ }
-    requires { ⌜ addressOf base (getD (listOf places) (k + 1) 0) < 2 ^ 32 ⌝ }
+fn record_for(t: Transfer, base: u64, k: usize, last: bool, after: usize) -> QueueTransferDescriptor
+    requires { ⌜ addressOf base after < 2 ^ 32 ⌝ }
     requires { ⌜ t .length ≤ 2 ^ 32 - t .address ⌝ }
     requires { ⌜ 8 ≤ 2 ^ 32 - t .setup ⌝ }
     requires { ⌜ startGood (t .kind) t k ⌝ }
-    ensures { λ r. ⌜ r ≡ recordAt t k (drop (k + 1) (listOf places)) base ⌝ }
+    ensures { λ r. ⌜ r ≡ recordAt t k (toCome last after) base ⌝ }
 {
-    let last = is_last(places, k);
-    let next = next_of(places, base, k);
+    let next = next_of(base, last, after);
     let bare = bare_at(t, k as u64, last);
     bare.set_next(next)
 }
 
-// The k-th record of a chain, as it is from now on.
-pub fn written(chain: Chain, k: usize, here: QueueTransferDescriptor) -> QueueTransferDescriptor
-    requires { ⌜ (k < chain .places .count) × (chain .places .count ≤ 256)
-        × turnGood (chain .deed) (chain .base) k (getD (listOf (chain .places)) (k + 1) 0) ⌝ }
-    ensures { λ r. ⌜ r ≡ writtenOf (chain .deed) (chain .base) k (drop (k + 1) (listOf (chain .places))) here ⌝ }
+// The k-th record of a chain, as it is from now on. `next` is the index of the place `after`, k where none comes.
+pub fn written(
+    chain: Chain,
+    k: usize,
+    next: usize,
+    after: usize,
+    here: QueueTransferDescriptor,
+) -> QueueTransferDescriptor
+    requires { ⌜ turnGood (chain .deed) (chain .base) k after ⌝ }
+    ensures { λ r. ⌜ r ≡ writtenOf (chain .deed) (chain .base) k (toCome (eqb next k) after) here ⌝ }
 {
-    let places = chain.places;
     let base = chain.base;
     let deed = chain.deed;
+    let last = next == k;
     match deed {
         Deed::Leave => here,
         Deed::Clear => no_record(),
-        Deed::Transfer(t) => record_for(t, places, base, k),
+        Deed::Transfer(t) => record_for(t, base, k, last, after),
         Deed::Token(token) => with_token(here, token),
     }
 }

@@ -4,6 +4,7 @@ ghost use mathlib.Core.List.{[], _∷_};
 ghost use Prim.Native.Nat.{_≤_, _<_};
 ghost use lib.ListN.{length, getD};
 ghost use Rattle.pool.specs.Places.{placesFrom, markOf, clearOf, upFrom, packed, listOf};
+ghost use Rattle.pool.specs.Chains.{indexAfter};
 
 // The first `count` of the numbers are the places, the others are 0.
 #[repr(C)]
@@ -105,6 +106,14 @@ pub fn all_places(n: u64) -> Places
     Places { count, at }
 }
 
+// The index of the place to come after the k-th of so many, k itself where none does.
+pub fn index_after(count: usize, k: usize) -> usize
+    requires { ⌜ (k < count) × (count ≤ 256) ⌝ }
+    ensures { λ r. ⌜ r ≡ indexAfter count k ⌝ }
+{
+    if count <= k + 1 { k } else { k + 1 }
+}
+
 // The k-th place of a list.
 pub fn place_at(places: Places, k: usize) -> usize
     requires { ⌜ (k < places .count) × (places .count ≤ 256) ⌝ }
@@ -118,4 +127,17 @@ pub fn count_of(places: Places) -> usize
     ensures { λ r. ⌜ r ≡ places .count ⌝ }
 {
     places.count
+}
+
+// The numbers of a list, of which the first are its places.
+pub fn list_of(places: Places) -> [u8; 256]
+    ensures { λ r. ⌜ r ≡ places .at ⌝ }
+{
+    places.at
+}
+
+pub fn wide(place: u8) -> usize
+    ensures { λ r. ⌜ r ≡ place ⌝ }
+{
+    place as usize
 }

@@ -11,7 +11,9 @@ use crate::chain::nothing_seen;
 use crate::chain::see;
 use crate::chain::written;
 use crate::places::count_of;
-use crate::places::place_at;
+use crate::places::index_after;
+use crate::places::list_of;
+use crate::places::wide;
 use descriptor::qtd::QueueTransferDescriptor;
 
 // The record at a place.
@@ -37,9 +39,10 @@ pub fn fold(rows: &[QueueTransferDescriptor], ask: Ask) -> View
 {
     let mut view = nothing_seen();
     let count = count_of(ask.places);
+    let list = list_of(ask.places);
     let mut k: usize = 0;
     while k < count {
-        let place = place_at(ask.places, k);
+        let place = wide(list[k]);
         let here = record_at(rows, place);
         view = see(view, ask, k, here);
         k += 1;
@@ -53,11 +56,14 @@ pub fn fill(rows: &mut [QueueTransferDescriptor], chain: Chain)
     ensures { λ _. ⌜ now (rows .exit) ≡ fillOf chain (now (rows .entry)) ⌝ }
 {
     let count = count_of(chain.places);
+    let list = list_of(chain.places);
     let mut k: usize = 0;
     while k < count {
-        let place = place_at(chain.places, k);
+        let place = wide(list[k]);
+        let next = index_after(count, k);
+        let after = wide(list[next]);
         let here = record_at(rows, place);
-        let r = written(chain, k, here);
+        let r = written(chain, k, next, after, here);
         replace(rows, place, r);
         k += 1;
     }

@@ -2,11 +2,6 @@ use Rattle.pool.proofs.ChainCases.{written-transfer, written-token, tur
 use borrow.Author.Needs.{needs}
 use Rattle.pool.proofs.chain.written.Statement.{statement}
 use Rattle.pool.proofs.chain.written.Tie as tie
-use Rattle.pool.proofs.chain.written.Reads as reads
-use Rattle.pool.proofs.chain.written.Lts as lts
-use Rattle.pool.proofs.chain.no_record.Reads as no-record-reads
-use Rattle.pool.proofs.chain.record_for.Reads as record-for-reads
-use Rattle.pool.proofs.chain.with_token.Reads as with-token-reads
 
 enum-told : tie.Need-enum-told
 enum-told c = search needs
@@ -22,9 +17,8 @@ enum-known-deed c = search needs
 
 record-for-requires : tie.Need-record-for-requires
 record-for-requires c κs =
-    let p = c .before .before .before .before .pre in
-    let g = turn-transfer _ _ _ _ _ (c .before .deed .given .1) (p .2) in
-    (p .0, (p .1, (g .0, (g .1, (g .2, g .3)))))
+    let g = turn-transfer _ _ _ _ _ (c .before .deed .given .1) (c .before .before .before .pre) in
+    (g .0, (g .1, (g .2, g .3)))
 
 enum-known-deed-2 : tie.Need-enum-known-deed-2
 enum-known-deed-2 c = search needs
