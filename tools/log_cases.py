@@ -287,6 +287,20 @@ def every_call():
     return [call_of(number, halves) for number in USED if number != OPEN for halves in range(3)]
 
 
+def limits():
+    """Openings at each limit, accepted; and each area off its alignment, at the end of memory and beside each other one."""
+    for right in (dict(D=1), dict(D=256), dict(E=1), dict(E=32), dict(ports=1), dict(ports=15), dict(C=1), dict(W=1), dict(W=65536)):
+        yield [opening(**right)]
+    parts = list(zip((64, 128, 4096, 8), (64 * 4, 128 * 5, 4096, 8 * 4)))
+    for i, (by, size) in enumerate(parts):
+        places = [AREAS[i] + 1, AREAS[i] + by // 2, AREAS[i] + by, 2**32 - size, 2**32 - size + by, 2**32, 2**64 - size, 2**64 - by, 0]
+        for j, (_, other) in enumerate(parts):
+            if j != i:
+                after, before = -(-(AREAS[j] + other) // by) * by, (AREAS[j] - size) // by * by
+                places += [after, after - by, before, before + by]
+        yield [opening(areas=(*AREAS[:i], at, *AREAS[i + 1 :])) for at in places]
+
+
 def logs():
     """Lists of records, each read from a fresh start; a record shorter than 64 bytes is a last one cut short."""
     yield []
@@ -305,7 +319,7 @@ def logs():
     # what 01 says of calls before a first accepted opening, after a refused one, and after an accepted one
     calls = every_call()
     yield calls + [opening(D=0)] + calls + [opening()] + calls + [opening(E=0)] + calls
-    for script in list(openings()) + list(bring_ups()) + list(submits())[:2] + list(scans()):
+    for script in list(openings()) + list(limits()) + list(bring_ups()) + list(submits())[:2] + list(scans()):
         yield script
         yield script[:-1] + [changed(script[-1], 7, 1), script[-1]]
     draw = random.Random(2)

@@ -226,13 +226,23 @@ def full():
     return [longest, longest + bytes(1), longest[:-1], sheet(eight + eight[:1], []), sheet(eight, many + many[:1]), sheet(eight[:1], many), sheet([], many)]
 
 
+def lengths():
+    """A request of each kind, direction and length that its descriptors can depend on."""
+    for kind in (CONTROL, BULK, INTERRUPT):
+        for direction in (OUT, IN):
+            setup = bytes([direction << 7, 9, 1, 0, 0, 255]) if kind == CONTROL else bytes(6)
+            for length in (0, 1, 4097, C - 1, C, C + 1, 16 * C, 16 * C + 1):
+                yield sheet([endpoint(kind, 127, 15, 1024)], [request(0, direction, setup, 0x10000FFF, length)])
+
+
 def cases():
     draw = random.Random(1)
     yield from shown().values()
     yield from spoiled(shown()["control-in"])
     yield from out_of_range(shown()["camera"])
     yield from full()
-    for _ in range(120):
+    yield from lengths()
+    for _ in range(100):
         yield drawn(draw)
 
 
