@@ -1,12 +1,13 @@
 #!/usr/bin/env python3
-"""The log that the program `replay` is run on, and what it must print: tools/log_cases.py --make
+"""The logs that the programs `replay` and `replay_cases` are run on, and what they must print: tools/log_cases.py --make
 
-Scripts of calls, each from an opening of its own, written for 01's rules one by one, and some drawn by chance. What is
-printed is `log_model.py`'s; nothing here comes from the code."""
+For `replay` scripts of calls, each from an opening of its own, written for 01's rules one by one, and some drawn by chance.
+For `replay_cases` many logs: a record bad in each way for each call, cut anywhere, calls before any opening, openings refused
+and accepted in turn, empty logs. What is printed is `log_model.py`'s; nothing here comes from the code."""
 import os, random, struct, sys
 
 sys.path.insert(0, os.path.dirname(os.path.abspath(__file__)))
-from log_model import BULK, CONTROL, INTERRUPT, ISOCHRONOUS, Replay
+from log_model import BITS, BULK, CONTROL, INTERRUPT, ISOCHRONOUS, MOST, USED, Replay, replay
 
 OPEN, START, STEP, ADDRESS, ENDPOINT, CLOSE, SET_ADDRESS, SET_PACKET, SUBMIT, WRITEBACK, CANCEL, COLLECT = range(1, 13)
 ACKNOWLEDGE, DRAIN, REARM, ENABLE, DISABLE, SCAN, SCAN_STEP, POWER = range(13, 21)
@@ -256,18 +257,101 @@ def scripts():
         yield drawn(seed, 60)
 
 
+def changed(record, at, value):
+    return record[:at] + bytes([value]) + record[at + 1 :]
+
+
+def call_of(number, halves):
+    """A good record: each parameter is that many halves of the largest that is read, be it one that the call refuses."""
+    small, large = USED[number]
+    most, bits = MOST.get(number, {}), BITS.get(number, {})
+    b = [most.get(i, 255) * halves // 2 for i in range(small)]
+    return record(number, b, [(2 ** bits.get(i, 64) - 1) * halves // 2 for i in range(large)])
+
+
+def bad_records(number):
+    """Each parameter that has a limit above it, and each byte that is not used set."""
+    small, large = USED[number]
+    for data, bit in ((call_of(number, 0), 1), (call_of(number, 2), 128)):
+        for i, most in MOST.get(number, {}).items():
+            for value in (most + 1, 128, 255):
+                yield changed(data, 1 + i, value)
+        for i, bits in BITS.get(number, {}).items():
+            for at in range(8 + 8 * i + bits // 8, 16 + 8 * i):
+                yield changed(data, at, bit)
+        for at in (*range(1 + small, 8), *range(8 + 8 * large, 64)):
+            yield changed(data, at, bit)
+
+
+def every_call():
+    return [call_of(number, halves) for number in USED if number != OPEN for halves in range(3)]
+
+
+def limits():
+    """Openings at each limit, accepted; and each area off its alignment, at the end of memory and beside each other one."""
+    for right in (dict(D=1), dict(D=256), dict(E=1), dict(E=32), dict(ports=1), dict(ports=15), dict(C=1), dict(W=1), dict(W=65536)):
+        yield [opening(**right)]
+    parts = list(zip((64, 128, 4096, 8), (64 * 4, 128 * 5, 4096, 8 * 4)))
+    for i, (by, size) in enumerate(parts):
+        places = [AREAS[i] + 1, AREAS[i] + by // 2, AREAS[i] + by, 2**32 - size, 2**32 - size + by, 2**32, 2**64 - size, 2**64 - by, 0]
+        for j, (_, other) in enumerate(parts):
+            if j != i:
+                after, before = -(-(AREAS[j] + other) // by) * by, (AREAS[j] - size) // by * by
+                places += [after, after - by, before, before + by]
+        yield [opening(areas=(*AREAS[:i], at, *AREAS[i + 1 :])) for at in places]
+
+
+def logs():
+    """Lists of records, each read from a fresh start; a record shorter than 64 bytes is a last one cut short."""
+    yield []
+    yield []
+    after = record(ADDRESS)
+    for number in range(256):
+        if number not in USED:
+            yield [record(number), after]
+            yield [after, record(number)]
+    for number in USED:
+        yield [call_of(number, halves) for halves in range(3)]
+        for bad in bad_records(number):
+            yield [bad, after]
+        for n in range(1, 64) if number in (OPEN, SUBMIT, DRAIN) else (1, 8, 63):
+            yield [after, call_of(number, 2)[:n]]
+    # what 01 says of calls before a first accepted opening, after a refused one, and after an accepted one
+    calls = every_call()
+    yield calls + [opening(D=0)] + calls + [opening()] + calls + [opening(E=0)] + calls
+    for script in list(openings()) + list(limits()) + list(bring_ups()) + list(submits())[:2] + list(scans()):
+        yield script
+        yield script[:-1] + [changed(script[-1], 7, 1), script[-1]]
+    draw = random.Random(2)
+    for seed in range(100, 112):
+        calls = drawn(seed, 40)
+        yield calls
+        # a byte of each call by chance
+        for call in calls:
+            yield [after, changed(call, draw.randrange(64), draw.choice([0, 1, 2, 3, 128, 255]))]
+    yield []
+
+
+def make_log():
+    """The one log of `replay`, last a record that is bad: its last byte is missing."""
+    log = b"".join(call for script in scripts() for call in script) + record(DRAIN)[:63]
+    return log, replay(log)
+
+
+def make_logs():
+    """The logs of `replay_cases`: a byte above 64 begins each, and each record stands after its length."""
+    many = list(logs())
+    data = b"".join(b"\xff" + b"".join(bytes([len(call)]) + call for call in log) for log in many)
+    return data, "".join("=\n" + replay(b"".join(log)) for log in many)
+
+
 def main():
     if sys.argv[1:] != ["--make"]:
         sys.exit(__doc__)
-    log = b"".join(call for script in scripts() for call in script)
-    keeper, lines = Replay(), []
-    for at in range(0, len(log), 64):
-        lines += keeper.block(log[at : at + 64])
-    program = os.path.join(os.path.dirname(os.path.abspath(__file__)), "..", "crates", "replay")
-    # last a record that is bad: its last byte is missing
-    open(os.path.join(program, "stdin"), "wb").write(log + record(DRAIN)[:63])
-    with open(os.path.join(program, "stdout"), "w") as out:
-        out.write("".join(line + "\n" for line in lines) + f"bad record {keeper.count}\n")
+    for program, (data, printed) in (("replay", make_log()), ("replay_cases", make_logs())):
+        folder = os.path.join(os.path.dirname(os.path.abspath(__file__)), "..", "crates", program)
+        open(os.path.join(folder, "stdin"), "wb").write(data)
+        open(os.path.join(folder, "stdout"), "w").write(printed)
 
 
 main()

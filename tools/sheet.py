@@ -2,8 +2,9 @@
 """What document 01 says that `sheet` prints, written from the document and not from the code: tools/sheet.py FILE...
 
 It reads each sheet and prints its listing; with no file it reads standard input. `tools/sheet.py --make` writes the
-sheets of examples/ and their listings; `tools/sheet.py --compare target/bin/sheet` runs the program on many sheets, good,
-refused, full and malformed in each way, and holds what it prints to this."""
+sheets of examples/ and their listings, and what the program `sheet_cases` reads and must print: many sheets, good, refused,
+full, empty and malformed in each way. `tools/sheet.py --compare target/bin/sheet` runs the program on the same sheets, one
+by one, and holds what it prints to this."""
 import os, random, struct, subprocess, sys
 
 D, E, C = 16, 8, 16384
@@ -152,6 +153,10 @@ def shown():
     }
 
 
+def changed(data, at, value):
+    return data[:at] + bytes([value]) + data[at + 1 :]
+
+
 def spoiled(data):
     """A sheet malformed in each way: cut anywhere, longer, and each byte with each of its bits turned."""
     for n in range(len(data)):
@@ -160,7 +165,36 @@ def spoiled(data):
     yield data + bytes(600)
     for k in range(len(data)):
         for bit in range(8):
-            yield data[:k] + bytes([data[k] ^ 1 << bit]) + data[k + 1 :]
+            yield changed(data, k, data[k] ^ 1 << bit)
+
+
+def out_of_range(data):
+    """A good sheet cut anywhere, with other counts, and with each byte of its records that has a limit at it and above it."""
+    for n in range(len(data)):
+        yield data[:n]
+    yield data + bytes(1)
+    yield data + data
+    endpoints, requests = (len(part) for part in read(data))
+    second = 2 + 6 * endpoints
+    for at, right in ((0, endpoints), (second, requests)):
+        for count in sorted({0, right - 1, right + 1, 8, 9, 64, 65, 255} - {right}):
+            yield changed(data, at, count)
+        for count in (1, 255):
+            yield changed(data, at + 1, count)
+    for k in range(endpoints):
+        for value in (3, 4, 255):
+            yield changed(data, 2 + 6 * k, value)
+        for value in (1, 128, 255):
+            yield changed(data, 5 + 6 * k, value)
+    for k in range(requests):
+        at = second + 2 + 20 * k
+        for value in (endpoints - 1, endpoints, 8, 255):
+            yield changed(data, at, value)
+        for value in (0, 1, 2, 255):
+            yield changed(data, at + 1, value)
+        for i in range(2, 8):
+            for value in (1, 128):
+                yield changed(data, at + i, value)
 
 
 def drawn(draw):
@@ -184,11 +218,32 @@ def drawn(draw):
 
 
 def full():
-    """The most records of each kind, and one more."""
+    """The most records of each kind, and one more; a byte more than the longest sheet."""
     none = bytes(6)
     eight = [endpoint(BULK, k, 1, 512) for k in range(8)]
     many = [request(k % 8, 1, none, 0x1000000 * k, C) for k in range(64)]
-    return [sheet(eight, many), sheet(eight + eight[:1], []), sheet(eight, many + many[:1]), sheet(eight[:1], many)]
+    longest = sheet(eight, many)
+    return [longest, longest + bytes(1), longest[:-1], sheet(eight + eight[:1], []), sheet(eight, many + many[:1]), sheet(eight[:1], many), sheet([], many)]
+
+
+def lengths():
+    """A request of each kind, direction and length that its descriptors can depend on."""
+    for kind in (CONTROL, BULK, INTERRUPT):
+        for direction in (OUT, IN):
+            setup = bytes([direction << 7, 9, 1, 0, 0, 255]) if kind == CONTROL else bytes(6)
+            for length in (0, 1, 4097, C - 1, C, C + 1, 16 * C, 16 * C + 1):
+                yield sheet([endpoint(kind, 127, 15, 1024)], [request(0, direction, setup, 0x10000FFF, length)])
+
+
+def cases():
+    draw = random.Random(1)
+    yield from shown().values()
+    yield from spoiled(shown()["control-in"])
+    yield from out_of_range(shown()["camera"])
+    yield from full()
+    yield from lengths()
+    for _ in range(100):
+        yield drawn(draw)
 
 
 def make():
@@ -196,17 +251,20 @@ def make():
     for name, data in shown().items():
         open(os.path.join(top, "examples", name + ".sheet"), "wb").write(data)
         open(os.path.join(top, "examples", name + ".listing"), "w").write(listing(data))
+    many = list(cases())
+    program = os.path.join(top, "crates", "sheet_cases")
+    open(os.path.join(program, "stdin"), "wb").write(b"".join(struct.pack("<H", len(data)) + data for data in many))
+    open(os.path.join(program, "stdout"), "w").write("".join(listing(data) + ".\n" for data in many))
 
 
 def compare(program):
     """How many sheets there were, and how many were printed otherwise."""
-    draw = random.Random(1)
-    cases = list(shown().values()) + list(spoiled(shown()["control-in"])) + full() + [drawn(draw) for _ in range(300)]
+    many = list(cases())
     printed = lambda data: subprocess.run([program], input=data, capture_output=True).stdout.decode()
-    differ = [data for data in cases if printed(data) != listing(data)]
+    differ = [data for data in many if printed(data) != listing(data)]
     for data in differ[:3]:
         print("differs:", data.hex())
-    print(f"{len(cases)} sheets, {len(differ)} differ")
+    print(f"{len(many)} sheets, {len(differ)} differ")
     return 1 if differ else 0
 
 
