@@ -2,8 +2,8 @@
 ghost use mathlib.Core.Path.{_≡_};
 ghost use mathlib.Core.List.{[], _∷_};
 ghost use Prim.Native.Nat.{_≤_, _<_};
-ghost use lib.ListN.{length, getD};
-ghost use Rattle.pool.specs.Places.{placesFrom, markOf, clearOf, upFrom, packed, listOf};
+ghost use lib.ListN.{length};
+ghost use Rattle.pool.specs.Places.{placesFrom, markOf, clearOf, upFrom, packed};
 ghost use Rattle.pool.specs.Chains.{indexAfter};
 
 // The first `count` of the numbers are the places, the others are 0.
@@ -114,15 +114,6 @@ pub fn index_after(count: usize, k: usize) -> usize
     if count <= k + 1 { k } else { k + 1 }
 }
 
-// The k-th place of a list.
-pub fn place_at(places: Places, k: usize) -> usize
-    requires { ⌜ (k < places .count) × (places .count ≤ 256) ⌝ }
-    ensures { λ r. ⌜ r ≡ getD (listOf places) k 0 ⌝ }
-{
-    let at = places.at;
-    at[k] as usize
-}
-
 pub fn count_of(places: Places) -> usize
     ensures { λ r. ⌜ r ≡ places .count ⌝ }
 {
@@ -136,6 +127,7 @@ pub fn list_of(places: Places) -> [u8; 256]
     places.at
 }
 
+// A place as an index.
 pub fn wide(place: u8) -> usize
     ensures { λ r. ⌜ r ≡ place ⌝ }
 {

@@ -12,6 +12,7 @@ use Rattle.ehci.specs.declared.call.Call.{Call}
 use Rattle.ehci.specs.declared.call.Call.the-variants.{StartBringUp, BringUpStep, AllocateAddress, OpenEndpoint, Close, SetAddress, SetPacketSize, Submit, Writeback, Cancel, Collect, Acknowledge, Drain, Rearm, Enable, Disable}
 use Rattle.ehci.specs.declared.reply.Answered.{Answered}
 use Rattle.ehci.specs.declared.reply.Answered.the-variants.{Done, Pending, Cancelled, Failed, Refused}
+use Rattle.ehci.specs.declared.reply.Given.{Given}
 use Rattle.ehci.specs.declared.reply.Given.the-variants as G
 use Rattle.promises.specs.Runs.{Turn}
 use Rattle.promises.specs.Walks.{frameWalk, isIn, ringWalk}
@@ -53,17 +54,21 @@ pub data Event : Type 0 where
   -- slot k's request of that id is collected, with the FRINDEX of the call
   Collects : ℕ → ℕ → ℕ → Event
 
--- "0 Done, with its id"
+-- the id that goes with 0
+abbrev pub idIn : Given → ℕ
+idIn G.Nothing = 0
+idIn (G.Slot k) = 0
+idIn (G.Address a) = 0
+idIn (G.Id id) = id
+idIn (G.Length n) = 0
+idIn G.No = 0
+idIn G.Yes = 0
+idIn (G.Event e) = 0
+idIn (G.Next read wait) = 0
+
+-- 0 accepts
 abbrev pub submitsBy : ℕ → TransferRequest → Answered → Event
-submitsBy k t (Done G.Nothing) = Other
-submitsBy k t (Done (G.Slot j)) = Other
-submitsBy k t (Done (G.Address a)) = Other
-submitsBy k t (Done (G.Id id)) = Submits k id t
-submitsBy k t (Done (G.Length n)) = Other
-submitsBy k t (Done G.No) = Other
-submitsBy k t (Done G.Yes) = Other
-submitsBy k t (Done (G.Event e)) = Other
-submitsBy k t (Done (G.Next read wait)) = Other
+submitsBy k t (Done given) = Submits k (idIn given) t
 submitsBy k t Pending = Other
 submitsBy k t Cancelled = Other
 submitsBy k t (Failed token) = Other
