@@ -24,7 +24,11 @@ use Rattle.ehci.specs.declared.call.Call.the-variants.{Submit}
 use Rattle.ehci.specs.Door.{Applied}
 use Rattle.promises.specs.Runs.{History, Machine, Rows, Turn, World, rowsOf, turnOf}
 use Rattle.promises.specs.Coverage.{Covered, addressed, dataOf, recordsMet}
-use Rattle.promises.specs.Events.{Collects, Drains, Event, Other, Parts, Reads, Submits, Unlinks, event, leavesFrames, leavesRing, leaving, submitsBy}
+use Rattle.answer.specs.declared.answer.Refusal.the-variants.{InvalidParameter, SlotLimitReached, InvalidEndpoint, QueueFull, NotSupported, NoMemory, Timeout, NotReady}
+use Rattle.ehci.specs.declared.reply.Answered.{Answered}
+use Rattle.ehci.specs.declared.reply.Answered.the-variants.{Done, Pending, Cancelled, Failed, Refused}
+use Rattle.ehci.specs.Replies.{answeredNumber}
+use Rattle.promises.specs.Events.{Collects, Drains, Event, Other, Parts, Reads, Submits, Unlinks, event, idIn, leavesFrames, leavesRing, leaving, submitsBy}
 use Rattle.promises.proofs.CoverBytes.{all-covered, recordsFrom}
 use Rattle.promises.proofs.Effects.{Accepts, Effect, still, hears, joins, passes, counts, opens, closes, rewrites, accepts, writes-back, marks, unlinks, collects}
 use Rattle.promises.proofs.Sound.{Sound}
@@ -133,12 +137,28 @@ module _ (w : World) (c : Call) (a : Applied) (k id : ℕ) (t : TransferRequest)
       (leaving-number (w .state .settings) (x .k) (x .readings .frame) (turnOf (w .rows) c a)))
   accepted-by P f (collects x) = absurd (not-so (Collects (x .k) (x .r .id) (x .frame)) (x .collects) refl)
 
+-- 0 accepts
+zero-accepts : (k : ℕ) (t : TransferRequest) (a : Answered) → answeredNumber a ≡ 0 → (id : ℕ) × (submitsBy k t a ≡ Submits k id t)
+zero-accepts k t (Done given) e = (idIn given, refl)
+zero-accepts k t Pending e = absurd (omega (arith, e))
+zero-accepts k t Cancelled e = absurd (omega (arith, e))
+zero-accepts k t (Failed token) e = absurd (omega (arith, e))
+zero-accepts k t (Refused InvalidParameter) e = absurd (omega (arith, e))
+zero-accepts k t (Refused SlotLimitReached) e = absurd (omega (arith, e))
+zero-accepts k t (Refused InvalidEndpoint) e = absurd (omega (arith, e))
+zero-accepts k t (Refused QueueFull) e = absurd (omega (arith, e))
+zero-accepts k t (Refused NotSupported) e = absurd (omega (arith, e))
+zero-accepts k t (Refused NoMemory) e = absurd (omega (arith, e))
+zero-accepts k t (Refused Timeout) e = absurd (omega (arith, e))
+zero-accepts k t (Refused NotReady) e = absurd (omega (arith, e))
+
 pub covered-holds : (m : Machine) → ((w : World) (c : Call) → Effect w c (m w c)) → (s : Settings) (h : History) (w : World) → Sound s w → Covered m s h w
 covered-holds m effect s h w sound = subst (λ (z : Settings). Sound z w → Covered m z h w) (sound .settings-are) here sound
   where
     here : Sound (w .state .settings) w → Covered m (w .state .settings) h w
-    here good k id t readings done =
-        accepted-by w (Submit k t readings) (m w (Submit k t readings)) k id t (ap (submitsBy k t) done)
+    here good k t readings done =
+        let told = zero-accepts k t (m w (Submit k t readings) .reply .answer) done in
+        accepted-by w (Submit k t readings) (m w (Submit k t readings)) k (told .0) t (told .1)
         (λ j r. addressed (dataOf (r .kind) (recordsMet (w .state .settings) (rowsOf (m w (Submit k t readings))) j)) ≡ upFrom (r .address) (r .length))
         (λ x. ap (λ (rows : Rows). addressed (dataOf (x .t .kind) (recordsMet (w .state .settings) rows (x .k)))) (x .rows-are) ∙ covers-accepted w (x .k) (x .t) good (x .judged))
         (effect w (Submit k t readings))

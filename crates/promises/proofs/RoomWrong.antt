@@ -191,7 +191,7 @@ eager-verdict v =
 short-coverage : Coverage short → ⊥
 unfolding historyOf worldOf uses chainWalk metFrom follow takenOf placesFrom markOf packed listOf fillOf filledFrom recordAt bareAt chunkQtd newQtd withNext startedOverlay freshState withOwner openedHeads ringHead terminated needOf chunkCount tokenOf pageSlots upFrom
 short-coverage c =
-    let none : _≡_ {A = List ℕ} [] (0x500000 ∷ []) = c pair (freshWorld pair) opening [] 0 1 byte reads refl in
+    let none : _≡_ {A = List ℕ} [] (0x500000 ∷ []) = c pair (freshWorld pair) opening [] 0 byte reads refl in
     let zero : _≡_ {A = ℕ} 0 1 = ap length none in
     omega (arith, zero)
 

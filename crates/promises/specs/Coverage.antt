@@ -14,8 +14,7 @@ use Rattle.settings.specs.declared.settings.Settings.{Settings}
 use Rattle.controller.specs.declared.lent.Readings.{Readings}
 use Rattle.request.specs.declared.judge.TransferRequest.{TransferRequest}
 use Rattle.ehci.specs.declared.call.Call.the-variants.{Submit}
-use Rattle.ehci.specs.declared.reply.Answered.the-variants.{Done}
-use Rattle.ehci.specs.declared.reply.Given.the-variants.{Id}
+use Rattle.ehci.specs.Replies.{answeredNumber}
 use Rattle.promises.specs.Runs.{Always, History, Machine, Rows, World, rowsOf}
 use Rattle.promises.specs.Walks.{chainWalk}
 
@@ -56,7 +55,7 @@ recordsMet s rows k = map (λ p. getD (rows .pool) p blank) (chainWalk s rows k)
 -- at the exit of each accepted submit they address the call's own buffer, byte for byte: each byte once, in order, and no other
 abbrev pub Covered : Machine → Settings → History → World → Type 0
 Covered m s h w =
-    (k id : ℕ) (t : TransferRequest) (readings : Readings) → m w (Submit k t readings) .reply .answer ≡ Done (Id id)
+    (k : ℕ) (t : TransferRequest) (readings : Readings) → answeredNumber (m w (Submit k t readings) .reply .answer) ≡ 0
     → addressed (dataOf (t .kind) (recordsMet s (rowsOf (m w (Submit k t readings))) k)) ≡ upFrom (t .address) (t .length)
 
 abbrev pub Coverage : Machine → Type 0
