@@ -3,7 +3,7 @@ use Prim.Native.Nat.{ℕ}
 use mathlib.Core.Path.{_≡_, refl, ap}
 use mathlib.Core.Bool.{Bool, true, false}
 use native.Mathlib.Omega.{arith}
-use Rattle.answer.specs.Answers.{Verdict, passed, refused, orElse}
+use Rattle.answer.specs.Answers.{Verdict, passed, refused, orElse, settle}
 use Rattle.answer.specs.declared.answer.Answer.{Answer}
 use Rattle.answer.specs.declared.answer.Answer.the-variants.{Done, Refused}
 use Rattle.answer.specs.declared.answer.Refusal.{Refusal}
@@ -26,3 +26,9 @@ answers-apart r e = verdicts-apart r (ap verdictOf e)
 pub let-pass : (b : Bool) (r : Refusal) (v : Verdict) → orElse b r v ≡ passed → (b ≡ false) × (v ≡ passed)
 let-pass false r v e = (refl, e)
 let-pass true r v e = absurd (verdicts-apart r e)
+
+-- checks, then settle: what holds of a refusal and of what is new holds of what is left
+pub settled-by : {A : Type 0} (v : Verdict) (old : Refusal → A) (new : A) (P : A → Type 0)
+    → ((r : Refusal) → v ≡ refused r → P (old r)) → (v ≡ passed → P new) → P (settle v old new)
+settled-by passed old new P denied done = done refl
+settled-by (refused r) old new P denied done = denied r refl

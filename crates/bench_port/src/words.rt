@@ -1,6 +1,5 @@
 // A call and its reply in numbers: what an exported function may take and give.
 ghost use mathlib.Core.Path.{_≡_};
-ghost use Rattle.ehci.specs.Replies.{eventNumber};
 ghost use Rattle.bench_port.specs.Border.{
   requestOf,
   readingsOf,
@@ -16,9 +15,9 @@ use controller::lent::Readings;
 use ehci::call::Call;
 use ehci::call::InterruptReadings;
 use ehci::reply::Answered;
-use ehci::reply::Event;
 use ehci::reply::Given;
 use ehci::reply::Reply;
+use ehci::reply::event_number;
 use pipe::endpoint::direction_of;
 use pipe::endpoint::kind_of;
 use register::writes::Write;
@@ -113,17 +112,6 @@ pub fn call_of(a: Asked) -> Call
         return Call::Acknowledge(interrupts_of(a));
     }
     Call::Drain(a.command)
-}
-
-fn event_number(event: Event) -> u64
-    ensures { λ r. ⌜ r ≡ eventNumber event ⌝ }
-{
-    match event {
-        Event::Nothing => 0,
-        Event::PortChange => 1,
-        Event::TransferActivity => 2,
-        Event::Stopped => 3,
-    }
 }
 
 fn given_number(given: Given) -> u64

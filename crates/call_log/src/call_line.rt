@@ -2,7 +2,7 @@
 ghost use mathlib.Core.Path.{_≡_};
 ghost use mathlib.Core.List.{[], _∷_};
 ghost use Rattle.text.specs.Text.{decimal};
-ghost use Rattle.ehci.specs.Replies.{eventNumber, eventValue};
+ghost use Rattle.ehci.specs.Replies.{eventValue};
 ghost use Rattle.call_log.specs.CallLine.{
   answeredLine,
   callLine,
@@ -22,6 +22,7 @@ use bring_up::reads::NextRead;
 use ehci::reply::Answered;
 use ehci::reply::Event;
 use ehci::reply::Given;
+use ehci::reply::event_number;
 use root_hub::ports::PortEvent;
 
 // An answer that gives nothing.
@@ -54,17 +55,6 @@ fn line_with(n: u64, call: u8, answer: u8, value: Part) -> Line
         letter: b'C',
         count: 4,
         cells,
-    }
-}
-
-fn event_number(event: Event) -> u64
-    ensures { λ r. ⌜ r ≡ eventNumber event ⌝ }
-{
-    match event {
-        Event::Nothing => 0,
-        Event::PortChange => 1,
-        Event::TransferActivity => 2,
-        Event::Stopped => 3,
     }
 }
 

@@ -3,6 +3,7 @@ use Prim.Native.Nat.{ℕ, _+_, _≤_}
 use mathlib.Core.Path.{_≡_, refl, sym, ap, subst, _∙_}
 use mathlib.Core.Bool.{Bool, true, false, not}
 use mathlib.Core.List.{List, [], _∷_}
+use borrow.Author.Tests.{not-true}
 use lib.Dec.{eqb, leb, ltb}
 use lib.ListN.{length}
 use Rattle.register.specs.Bits.{anyOf, onlyBits, withoutBits}
@@ -15,7 +16,7 @@ use Rattle.state.specs.declared.state.Ehci.{Ehci}
 use Rattle.answer.specs.Answers.{Check, Verdict, first, orElse, passed, refused, settle}
 use Rattle.answer.specs.declared.answer.Refusal.{Refusal}
 use Rattle.answer.specs.declared.answer.Refusal.the-variants.{InvalidParameter, SlotLimitReached, InvalidEndpoint, QueueFull, NotSupported, NoMemory, Timeout, NotReady}
-use Rattle.answer.proofs.CheckLaws.{verdicts-apart}
+use Rattle.answer.proofs.CheckLaws.{settled-by, verdicts-apart}
 use Rattle.pipe.specs.Endpoints.{endpointAt}
 use Rattle.pipe.specs.declared.endpoint.Endpoint.{Endpoint}
 use Rattle.pipe.specs.declared.endpoint.Endpoint.the-variants.{Closed, Idle, Linked, Unlinking}
@@ -77,10 +78,6 @@ abbrev timeoutIn : Verdict → Bool
 timeoutIn passed = false
 timeoutIn (refused r) = isTimeout r
 
-not-true : (b : Bool) → not b ≡ true → b ≡ false
-not-true true e = absurd (false-true e)
-not-true false e = refl
-
 first-timely : (cs : List Check) → timely cs ≡ true → (r : Refusal) → first cs ≡ refused r → isTimeout r ≡ false
 first-timely [] t r e = absurd (verdicts-apart r (sym e))
 first-timely (c ∷ cs) t r e =
@@ -136,11 +133,8 @@ module _ (s : Ehci) (hs fs us : List ℕ) where
   -- checks, then settle: the refusals leave all as before, and what is left where none holds is fair
   settle-fair : {A : Type 0} (g : A → Outcome) (cs : List Check) (old : Refusal → A) (new : A) → timely cs ≡ true
       → ((r : Refusal) → g (old r) ≡ came (refusedReply s r) hs fs us) → Fair (g new) → Fair (g (settle (first cs) old new))
-  settle-fair g cs old new t same fair = by (first cs) refl
-    where
-      by : (v : Verdict) → first cs ≡ v → Fair (g (settle v old new))
-      by passed e = fair
-      by (refused r) e = subst Fair (sym (same r)) (refused-fair r (first-timely cs t r e))
+  settle-fair g cs old new t same fair =
+      settled-by (first cs) old new (λ x. Fair (g x)) (λ r e. subst Fair (sym (same r)) (refused-fair r (first-timely cs t r e))) (λ e. fair)
 
   -- ---- bring-up
 

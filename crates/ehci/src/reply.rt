@@ -2,6 +2,7 @@
 ghost use mathlib.Core.Path.{_≡_};
 ghost use Rattle.ehci.specs.Replies.{
   answeredNumber,
+  eventNumber,
   replied,
   simply,
   changedReply,
@@ -86,6 +87,18 @@ impl Answered {
             Answered::Failed(_) => 11,
             Answered::Refused(refusal) => refusal.number(),
         }
+    }
+}
+
+// The number of a drain's event.
+pub fn event_number(event: Event) -> u64
+    ensures { λ r. ⌜ r ≡ eventNumber event ⌝ }
+{
+    match event {
+        Event::Nothing => 0,
+        Event::PortChange => 1,
+        Event::TransferActivity => 2,
+        Event::Stopped => 3,
     }
 }
 

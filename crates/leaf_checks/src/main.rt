@@ -1,7 +1,6 @@
 // Records of five numbers from standard input: a function of register, token or descriptor, and what it is given. Its
 // results to standard output, a line for each record. `tools/leaf_values.py` makes the records, and what is to be printed
 // from document 01.
-ghost use Prim.Native.Nat.{_<_};
 
 mod heads;
 mod out;
@@ -9,6 +8,7 @@ mod tokens;
 
 use crate::heads::head_line;
 use crate::tokens::token_line;
+use turns::left::after_turn;
 
 const STDIN: i32 = 0;
 
@@ -54,15 +54,6 @@ fn turn() -> bool {
     true
 }
 
-// How many records may still come.
-fn after_turn(left: u64, more: bool) -> u64
-    requires { ⌜ 0 < left ⌝ }
-    ensures { λ r. ⌜ r < left ⌝ }
-{
-    if more { left - 1 } else { 0 }
-}
-
-// A proved loop has to end: this one counts down from more records than there are.
 fn main() {
     let mut left: u64 = u64::MAX;
     while left > 0 {

@@ -26,7 +26,7 @@ use Rattle.schedule.specs.Bell.{advancedOf, fallIf, fallenFrom, fallenOne, ring
 use Rattle.schedule.specs.declared.bell.Bell.{Bell}
 use Rattle.schedule.proofs.BellLaws.{command-clear, fallen-at, ring-set}
 use Rattle.request.specs.Submit.{writesWith}
-use Rattle.promises.specs.Events.{someRing}
+use Rattle.interrupt.specs.Once.{someRing}
 use Rattle.promises.proofs.Effects.{Sides, besides}
 use Rattle.promises.proofs.BellWaiting.{fallen}
 

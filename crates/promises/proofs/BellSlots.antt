@@ -16,8 +16,7 @@ use Rattle.pipe.specs.declared.endpoint.UnlinkBoundary.{UnlinkBoundary}
 use Rattle.pipe.specs.declared.endpoint.UnlinkBoundary.the-variants.{Async, Periodic}
 use Rattle.promises.specs.Runs.{History, Turn}
 use Rattle.promises.specs.Events.{Event, Other, Reads, Drains, Submits, Unlinks, Parts, Collects, event}
-use Rattle.promises.specs.Bells.{counted, isCollectsOf, isPartsOf, isSubmitsOf, isUnlinksOf, kindAfter, kindAt, linked, number, parted, partedAt, parting, unlinking}
-use Rattle.promises.specs.Chains.{idAfter, newestId}
+use Rattle.promises.specs.Bells.{counted, idAfter, isCollectsOf, isPartsOf, isSubmitsOf, isUnlinksOf, kindAfter, kindAt, linked, newestId, number, parted, partedAt, parting, unlinking}
 use Rattle.promises.proofs.BellWaiting.{fallen}
 
 -- ---- a slot

@@ -34,7 +34,8 @@ use Rattle.endpoint.specs.Calls.{newEndpoint}
 use Rattle.ehci.specs.declared.call.Call.{Call}
 use Rattle.ehci.specs.Door.{Applied}
 use Rattle.promises.specs.Runs.{History, Turn, World, turnOf}
-use Rattle.promises.specs.Events.{Event, Other, Reads, Drains, Submits, Collects, event, rings, someRing}
+use Rattle.promises.specs.Events.{Event, Other, Reads, Drains, Submits, Collects, event, rings}
+use Rattle.interrupt.specs.Once.{someRing}
 use Rattle.promises.specs.Bells.{Answered, Bell, Quiet, Rung, bell, drains, isAnswered, isDrains, isReads, isUnlinks, isUp, linked, unlinking}
 use Rattle.promises.proofs.Effects.{Still, Hears, Joins, Passes, Counts, Opens, Closes, Rewrites, Accepts, WritesBack, Marks, Collected, besides}
 use Rattle.promises.proofs.Sound.{Sound}

@@ -33,7 +33,8 @@ use Rattle.endpoint.specs.Calls.{newEndpoint}
 use Rattle.ehci.specs.declared.call.Call.{Call}
 use Rattle.ehci.specs.Door.{Applied}
 use Rattle.promises.specs.Runs.{History, Turn, World, turnOf}
-use Rattle.promises.specs.Events.{Other, Reads, Drains, Submits, Unlinks, Parts, Collects, event, rings, someRing}
+use Rattle.promises.specs.Events.{Other, Reads, Drains, Submits, Unlinks, Parts, Collects, event, rings}
+use Rattle.interrupt.specs.Once.{someRing}
 use Rattle.promises.specs.Bells.{Answered, bell, isDrains, isReads, isUnlinks}
 use Rattle.promises.proofs.Effects.{Effect, Counts, Accepts, Marks, Unlinked, Collected, besides}
 use Rattle.promises.proofs.Sound.{Sound}

@@ -13,8 +13,7 @@ use Rattle.pipe.specs.declared.endpoint.Pipe.{Pipe}
 use Rattle.pipe.specs.declared.endpoint.Request.{Request}
 use Rattle.promises.specs.Runs.{History, Turn}
 use Rattle.promises.specs.Events.{Submits, Unlinks, Parts, Collects, event}
-use Rattle.promises.specs.Bells.{asked, counted, kindAt, linked, number, parted, parting, unlinking}
-use Rattle.promises.specs.Chains.{newestId}
+use Rattle.promises.specs.Bells.{asked, counted, kindAt, linked, newestId, number, parted, parting, unlinking}
 use Rattle.promises.proofs.BellSlots.{Apart, Free, Going, Joined}
 
 module _ (s : Settings) (k : ℕ) (t : Turn) (h : History) where

@@ -29,7 +29,8 @@ use Rattle.collection.specs.declared.unlink.Bounded.{Bounded}
 use Rattle.ehci.specs.declared.call.Call.{Call}
 use Rattle.ehci.specs.Door.{Applied}
 use Rattle.promises.specs.Runs.{History, Turn, World, turnOf}
-use Rattle.promises.specs.Events.{Unlinks, Parts, event, rings, someRing}
+use Rattle.promises.specs.Events.{Unlinks, Parts, event, rings}
+use Rattle.interrupt.specs.Once.{someRing}
 use Rattle.promises.specs.Bells.{bell, isDrains, isReads, isUnlinks}
 use Rattle.promises.proofs.Effects.{Effect, Unlinked}
 use Rattle.promises.proofs.Sound.{Sound}

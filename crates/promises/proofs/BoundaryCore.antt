@@ -24,8 +24,7 @@ use Rattle.ehci.specs.declared.call.Call.{Call}
 use Rattle.ehci.specs.declared.call.Call.the-variants.{Collect}
 use Rattle.promises.specs.Runs.{History, Opening, Turn, World, core, historyOf, turnOf, worldOf}
 use Rattle.promises.specs.Events.{event, isCollected}
-use Rattle.promises.specs.Bells.{asked, bell, counted, isPartsOf, isSubmitsOf, isUnlinksOf, isUp, kindAt, linked, number, parted, parting, unlinking}
-use Rattle.promises.specs.Chains.{newestId}
+use Rattle.promises.specs.Bells.{asked, bell, counted, isPartsOf, isSubmitsOf, isUnlinksOf, isUp, kindAt, linked, newestId, number, parted, parting, unlinking}
 use Rattle.promises.specs.Boundaries.{EveryRun, BoundaryKept, BoundaryNumbered, Exact, FramesKept, NineOn, OnePasses, OnlyAnswered, Orderly, PassesExactly, UpExactly, Waits}
 use Rattle.promises.proofs.Effects.{Unlinked}
 use Rattle.promises.proofs.EffectOf.{effect}

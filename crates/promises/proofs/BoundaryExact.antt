@@ -11,8 +11,7 @@ use Rattle.controller.specs.declared.lent.Readings.{Readings}
 use Rattle.ehci.specs.declared.call.Call.{Call}
 use Rattle.promises.specs.Runs.{History, Machine, Turn, World, historyOf}
 use Rattle.promises.specs.Events.{Event, Other, Reads, Drains, Submits, Unlinks, Parts, Collects, event}
-use Rattle.promises.specs.Bells.{isSubmitsOf, isUnlinksOf, kindAfter, kindAt, renews, unlinking, unlinksOf}
-use Rattle.promises.specs.Chains.{newestId}
+use Rattle.promises.specs.Bells.{isSubmitsOf, isUnlinksOf, kindAfter, kindAt, newestId, renews, unlinking, unlinksOf}
 use Rattle.promises.specs.Boundaries.{CancelledAnswered, CancelledCollects, Exact, FramesKept, Orderly, PassesExactly, past, turn}
 
 -- a turn that does not submit to k leaves the kind of its request

@@ -3,10 +3,9 @@ use Prim.Native.Nat.{ℕ, _+_, _*_, _≤_, _<_}
 use mathlib.Core.Path.{_≡_, refl, sym, ap, subst, _∙_}
 use mathlib.Core.Bool.{Bool, true, false}
 use mathlib.Core.List.{List, _∷_}
-use mathlib.Core.Logic.{_≢_}
 use native.Mathlib.Decide.{ℕ-discrete as decEq}
 use native.Mathlib.Omega.{arith}
-use lib.ListN.{getD, length, length-set}
+use lib.ListN.{getD, length}
 use lib.Seq.{getD-set-other}
 use Rattle.settings.specs.declared.settings.Settings.{Settings}
 use Rattle.settings.proofs.Every.{false-true}
@@ -16,8 +15,8 @@ use Rattle.pipe.specs.Endpoints.{endpointAt}
 use Rattle.pipe.specs.Kinds.{isInterrupt}
 use Rattle.pipe.specs.declared.endpoint.Endpoint.{Endpoint}
 use Rattle.pipe.specs.declared.endpoint.Endpoint.the-variants.{Closed, Idle, Linked, Unlinking}
-use Rattle.opening.specs.Rows.{withHeadWord}
 use Rattle.controller.specs.Readers.{holdsRequest}
+use Rattle.schedule.proofs.OverlayLaws.{started-length, started-word}
 use Rattle.schedule.specs.Links.{Links, attachedFrames, attachedRing, linkWord, links, ringLink, slotLink, startedOverlay}
 use Rattle.schedule.specs.Walks.{Avoids, Chain}
 use Rattle.schedule.proofs.WalkLaws.{attach-first, frames-first}
@@ -38,25 +37,11 @@ bare-unlinked b (Unlinking p r u) e = refl
 -- ---- the overlay is written before the head is linked: no link changes
 
 module _ (h : List ℕ) (k first : ℕ) where
-  overlay-word : (i : ℕ) → i ≢ 17 * (k + 1) + 4 → i ≢ 17 * (k + 1) + 5 → i ≢ 17 * (k + 1) + 6 → getD (startedOverlay h k first 0) i 0 ≡ getD h i 0
-  unfolding startedOverlay
-  overlay-word i n4 n5 n6 =
-      let one = withHeadWord h (k + 1) 4 first in
-      let two = withHeadWord one (k + 1) 5 1 in
-      getD-set-other two (17 * (k + 1) + 6) i 0 0 n6 ∙ getD-set-other one (17 * (k + 1) + 5) i 1 0 n5 ∙ getD-set-other h (17 * (k + 1) + 4) i first 0 n4
-
   overlay-ring : ringLink (startedOverlay h k first 0) ≡ ringLink h
-  overlay-ring = overlay-word 0 (λ e. omega arith) (λ e. omega arith) (λ e. omega arith)
+  overlay-ring = started-word h k first 0 0 (λ e. omega arith) (λ e. omega arith) (λ e. omega arith)
 
   overlay-link : (i : ℕ) → linkWord (startedOverlay h k first 0) i ≡ linkWord h i
-  overlay-link i = overlay-word (17 * (i + 1)) (λ e. omega arith) (λ e. omega arith) (λ e. omega arith)
-
-  overlay-length : length (startedOverlay h k first 0) ≡ length h
-  unfolding startedOverlay
-  overlay-length =
-      let one = withHeadWord h (k + 1) 4 first in
-      let two = withHeadWord one (k + 1) 5 1 in
-      length-set two (17 * (k + 1) + 6) 0 ∙ length-set one (17 * (k + 1) + 5) 1 ∙ length-set h (17 * (k + 1) + 4) first
+  overlay-link i = started-word h k first 0 (17 * (i + 1)) (λ e. omega arith) (λ e. omega arith) (λ e. omega arith)
 
 -- ---- linking
 
@@ -103,7 +88,7 @@ module _ (s t : Ehci) (rows : Rows) (ks js : List ℕ) (x : Schedules s rows ks 
   avoided b ls m = out-avoids k ls (m k ∙ bare b)
 
   head-room : 17 * (k + 1) < length started
-  head-room = omega (arith, room, overlay-length h k first)
+  head-room = omega (arith, room, started-length h k first 0)
 
   -- into the ring
   module _ (kind : EndpointType) (q : isInterrupt kind ≡ false) where

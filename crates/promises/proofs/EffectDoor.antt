@@ -13,7 +13,7 @@ use Rattle.settings.specs.Tests.{both}
 use Rattle.state.specs.Slots.{slotAt}
 use Rattle.state.specs.declared.state.Ehci.{Ehci}
 use Rattle.state.proofs.RangesLaws.{Ranges}
-use Rattle.answer.specs.Answers.{Verdict, passed, refused, settle}
+use Rattle.answer.specs.Answers.{refused}
 use Rattle.answer.specs.declared.answer.Refusal.{Refusal}
 use Rattle.answer.specs.declared.answer.Refusal.the-variants.{InvalidParameter}
 use Rattle.pipe.specs.Endpoints.{endpointAt}
@@ -25,15 +25,10 @@ use Rattle.ehci.specs.Decides.{asksOf, callOf, decideOf}
 use Rattle.ehci.specs.Door.{Applied, applied, applyOf, carriedOut, seenBy}
 use Rattle.ehci.specs.Replies.{refusedReply, replied}
 use Rattle.promises.specs.Runs.{Rows, World, core, turnOf}
-use Rattle.promises.specs.Events.{Other, event, someRing}
+use Rattle.promises.specs.Events.{Other, event}
+use Rattle.interrupt.specs.Once.{someRing}
 use Rattle.promises.specs.Opened.{change}
 use Rattle.promises.proofs.Effects.{Effect, Idles, Sides, Switches, besides, still}
-
--- checks, then settle: what holds of a refusal and of what is new holds of what is left
-pub settled-by : {A : Type 0} (v : Verdict) (old : Refusal → A) (new : A) (P : A → Type 0)
-    → ((r : Refusal) → v ≡ refused r → P (old r)) → (v ≡ passed → P new) → P (settle v old new)
-settled-by passed old new P denied done = done refl
-settled-by (refused r) old new P denied done = denied r refl
 
 abbrev pub sidesOf : Ehci → Sides
 sidesOf s =

@@ -7,6 +7,7 @@ use mathlib.Core.Path.{_≡_, refl, sym, ap, _∙_}
 use native.Mathlib.Omega.{arith}
 use borrow.Author.Tests.{eq-eqb, eqb-false, eqb-true, ne-eqb}
 use lib.Dec.{eqb, lit<}
+use Rattle.answer.proofs.CheckLaws.{settled-by}
 use Rattle.register.specs.Bits.{anyOf, bit, onlyBits, withBits, withoutBits}
 use Rattle.register.specs.Writes.{andThen, listOf, noWrites}
 use Rattle.register.proofs.BitLaws.{only-bit}
@@ -30,9 +31,10 @@ use Rattle.ehci.specs.Decides.{acknowledgeDecided, acknowledgeReply, came, drai
 use Rattle.ehci.specs.Door.{carriedOut}
 use Rattle.ehci.specs.Replies.{drainedAnswer, replied, settledReply}
 use Rattle.promises.specs.Runs.{World, core}
-use Rattle.promises.specs.Events.{Drains, Other, Reads, isDone, someRing}
+use Rattle.promises.specs.Events.{Drains, Other, Reads, isDone}
+use Rattle.interrupt.specs.Once.{someRing}
 use Rattle.promises.proofs.Effects.{Effect, Sides, counts, hears, joins, passes}
-use Rattle.promises.proofs.EffectDoor.{idles-on, refused-still, rows-kept, settled-by, sidesOf, still-of, through}
+use Rattle.promises.proofs.EffectDoor.{idles-on, refused-still, rows-kept, sidesOf, still-of, through}
 use Rattle.promises.proofs.EffectRanges.{counted-keeps, interrupt-keeps, joined-none, note-keeps, only-falls, only-joins, only-masked, only-none}
 
 -- ---- acknowledge

@@ -17,7 +17,7 @@ use Rattle.state.specs.Slots.{slotAt}
 use Rattle.state.specs.State.{withBringUp, withNextAddress}
 use Rattle.state.proofs.RangesLaws.{Ranges, ranges-make, ranges-tell}
 use Rattle.answer.specs.Answers.{Verdict, first, passed, refused}
-use Rattle.answer.proofs.CheckLaws.{let-pass}
+use Rattle.answer.proofs.CheckLaws.{let-pass, settled-by}
 use Rattle.answer.specs.declared.answer.Answer.the-variants as A
 use Rattle.answer.specs.declared.answer.Refusal.{Refusal}
 use Rattle.answer.specs.declared.answer.Refusal.the-variants.{InvalidParameter, QueueFull, SlotLimitReached}
@@ -40,10 +40,10 @@ use Rattle.ehci.specs.Door.{carriedOut}
 use Rattle.ehci.specs.declared.reply.Answered.the-variants.{Refused}
 use Rattle.ehci.specs.Replies.{broughtAnswer, broughtReply, replied}
 use Rattle.promises.specs.Runs.{World, core}
-use Rattle.promises.specs.Events.{someRing}
+use Rattle.interrupt.specs.Once.{someRing}
 use Rattle.promises.specs.Opened.{stepsBy}
 use Rattle.promises.proofs.Effects.{Effect, Idles, Sides, Switches, besides}
-use Rattle.promises.proofs.EffectDoor.{idles-on, leaves, refused-still, settled-by, still-of, through}
+use Rattle.promises.proofs.EffectDoor.{idles-on, leaves, refused-still, still-of, through}
 
 -- a USBCMD write that is no ring
 pub command-silent : (v : ℕ) → someRing (listOf (andThen noWrites 0 (commandWord v))) ≡ false

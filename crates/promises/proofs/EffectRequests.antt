@@ -3,19 +3,19 @@ use Prim.Native.Nat.{ℕ, _+_, _<_}
 use mathlib.Core.Bool.{Bool, true, false, not, cond}
 use mathlib.Core.List.{List, [], _∷_}
 use mathlib.Core.Logic.{inl, inr}
-use mathlib.Core.Path.{_≡_, refl, sym, ap}
+use mathlib.Core.Path.{_≡_, refl, ap}
+use borrow.Author.Tests.{not-false}
 use lib.Dec.{eqb}
 use lib.ListN.{length}
 use Rattle.register.specs.Writes.{noWrites}
 use Rattle.pool.specs.declared.chain.View.{View}
 use Rattle.settings.specs.Tests.{both}
 use Rattle.settings.specs.declared.settings.Settings.{Settings}
-use Rattle.settings.proofs.Every.{false-true}
 use Rattle.state.specs.declared.state.Ehci.{Ehci}
 use Rattle.answer.specs.Answers.{first, passed}
 use Rattle.answer.specs.declared.answer.Refusal.{Refusal}
 use Rattle.answer.specs.declared.answer.Refusal.the-variants.{InvalidParameter}
-use Rattle.answer.proofs.CheckLaws.{let-pass}
+use Rattle.answer.proofs.CheckLaws.{let-pass, settled-by}
 use Rattle.pipe.specs.Endpoints.{endpointAt}
 use Rattle.pipe.specs.declared.endpoint.Endpoint.the-variants.{Linked}
 use Rattle.pipe.specs.declared.endpoint.Pipe.{Pipe}
@@ -40,7 +40,7 @@ use Rattle.promises.specs.Runs.{Rows, World, core}
 use Rattle.promises.specs.Events.{Collects, Event, Other, Parts, Unlinks, isCollected}
 use Rattle.promises.specs.Walks.{frameWalk, isIn, ringWalk}
 use Rattle.promises.proofs.Effects.{Effect, accepts, collects, marks, unlinks, writes-back}
-use Rattle.promises.proofs.EffectDoor.{leaves, refused-still, rows-kept, seen, settled-by, sidesOf, stays-in, still-of, through}
+use Rattle.promises.proofs.EffectDoor.{leaves, refused-still, rows-kept, seen, sidesOf, stays-in, still-of, through}
 
 -- no head leaves where the words of heads and frames stay
 pub none-leaves : (s : Settings) (k frame : ℕ) (old new : Rows) → new .heads ≡ old .heads → new .frames ≡ old .frames
@@ -113,7 +113,7 @@ module _ (w : World) where
       (record {
         place = place;
         token = token;
-        in-request = is-in (inRequest s place) (let-pass (not (inRequest s place)) InvalidParameter passed (let-pass unfit InvalidParameter (first ((not (inRequest s place), InvalidParameter) ∷ [])) e .1) .0);
+        in-request = not-false (inRequest s place) (let-pass (not (inRequest s place)) InvalidParameter passed (let-pass unfit InvalidParameter (first ((not (inRequest s place), InvalidParameter) ∷ [])) e .1) .0);
         state-is = refl;
         rows-are = refl;
         silent = refl;
@@ -122,10 +122,6 @@ module _ (w : World) where
         accepted = refl;
         same = refl;
       })))
-    where
-      is-in : (b : Bool) → not b ≡ false → b ≡ true
-      is-in true q = refl
-      is-in false q = absurd (false-true (sym q))
 
   module _ (k id : ℕ) (rd : Readings) where
     abbrev Cancels : Left → Type 0

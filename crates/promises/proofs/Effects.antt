@@ -41,7 +41,8 @@ use Rattle.ehci.specs.declared.reply.Answered.the-variants.{Done}
 use Rattle.ehci.specs.declared.reply.Given.the-variants.{Nothing}
 use Rattle.ehci.specs.Door.{Applied}
 use Rattle.promises.specs.Runs.{Rows, World, rowsOf, turnOf}
-use Rattle.promises.specs.Events.{Other, Reads, Drains, Submits, Collects, event, leaving, someRing}
+use Rattle.promises.specs.Events.{Other, Reads, Drains, Submits, Collects, event, leaving}
+use Rattle.interrupt.specs.Once.{someRing}
 use Rattle.promises.specs.Opened.{Change, ClosesSlot, Halted, OpensSlot, Running, Same, change}
 
 -- what of a state stands beside slots, owners and doorbell

@@ -27,7 +27,7 @@ use Rattle.collection.specs.Unlinks.{boundedOf, waitingOf}
 use Rattle.ehci.specs.declared.call.Call.{Call}
 use Rattle.ehci.specs.Door.{Applied}
 use Rattle.promises.specs.Runs.{History, Opening, Turn, World, leftBy, turnOf}
-use Rattle.promises.specs.Opened.{Change, ClosesSlot, Halted, Open, OpensSlot, Running, Same, SlotKind, change, kindAt, kindIn, runsAfter, runsIn, slotAfter, slotIn}
+use Rattle.promises.specs.Opened.{Change, ClosesSlot, Halted, Open, OpensSlot, Running, Same, SlotKind, change, kindNow, kindIn, runsAfter, runsIn, slotAfter, slotIn}
 use Rattle.promises.proofs.Effects.{Effect, Still, Switches, accepts, closes, collects, counts, hears, joins, marks, opens, passes, rewrites, still, unlinks, writes-back}
 use Rattle.promises.proofs.Reached.{opening-is}
 use Rattle.promises.proofs.SlotViews.{view-bell, view-besides, view-boundaries, view-same, view-stays}
@@ -46,26 +46,26 @@ kind-again (Unlinking p r b) = rw (kind-there (p .kind))
 
 module _ (s : Ehci) (k : ℕ) (x : Endpoint) (w : Wide s) (low : k < 32) where
   -- slot k is given that endpoint
-  kind-given : (j : ℕ) → kindAt (withEndpoint s k x) j ≡ cond (eqb k j) (kindIn x) (kindAt s j)
+  kind-given : (j : ℕ) → kindNow (withEndpoint s k x) j ≡ cond (eqb k j) (kindIn x) (kindNow s j)
   kind-given j = by (decEq k j)
     where
-      by : Dec (k ≡ j) → kindAt (withEndpoint s k x) j ≡ cond (eqb k j) (kindIn x) (kindAt s j)
+      by : Dec (k ≡ j) → kindNow (withEndpoint s k x) j ≡ cond (eqb k j) (kindIn x) (kindNow s j)
       by (yes e) =
-          ap (kindAt (withEndpoint s k x)) (sym e) ∙ view-same kindIn kind-again s k x w low
-          ∙ sym (ap (λ (b : Bool). cond b (kindIn x) (kindAt s j)) (eq-eqb k j e))
-      by (no ne) = ap kindIn (endpoint-other s k x j (λ e. ne (sym e))) ∙ sym (ap (λ (b : Bool). cond b (kindIn x) (kindAt s j)) (ne-eqb k j ne))
+          ap (kindNow (withEndpoint s k x)) (sym e) ∙ view-same kindIn kind-again s k x w low
+          ∙ sym (ap (λ (b : Bool). cond b (kindIn x) (kindNow s j)) (eq-eqb k j e))
+      by (no ne) = ap kindIn (endpoint-other s k x j (λ e. ne (sym e))) ∙ sym (ap (λ (b : Bool). cond b (kindIn x) (kindNow s j)) (ne-eqb k j ne))
 
   -- an endpoint of the same kind
-  kind-stays : kindIn x ≡ kindAt s k → (j : ℕ) → kindAt (withEndpoint s k x) j ≡ kindAt s j
+  kind-stays : kindIn x ≡ kindNow s k → (j : ℕ) → kindNow (withEndpoint s k x) j ≡ kindNow s j
   kind-stays = view-stays kindIn kind-again s k x w low
 
 -- the kind of an open slot is what its number stands for
-pub kind-slot : (s : Ehci) (k : ℕ) → isOpen s k ≡ true → kindAt s k ≡ Open (kindOf (slotAt s k .kind))
+pub kind-slot : (s : Ehci) (k : ℕ) → isOpen s k ≡ true → kindNow s k ≡ Open (kindOf (slotAt s k .kind))
 unfolding endpointAt decoded
 kind-slot s k o = by (ltb k 32) refl (eqb (slotAt s k .phase) 1) refl (eqb (slotAt s k .phase) 2) refl (eqb (slotAt s k .phase) 3) refl o
   where
     by : (a : Bool) → ltb k 32 ≡ a → (x : Bool) → eqb (slotAt s k .phase) 1 ≡ x → (y : Bool) → eqb (slotAt s k .phase) 2 ≡ y → (z : Bool) → eqb (slotAt s k .phase) 3 ≡ z
-        → isOpen s k ≡ true → kindAt s k ≡ Open (kindOf (slotAt s k .kind))
+        → isOpen s k ≡ true → kindNow s k ≡ Open (kindOf (slotAt s k .kind))
     by true a true p y q z r o = rw (a, p)
     by true a false p true q z r o = rw (a, p, q)
     by true a false p false q true r o = rw (a, p, q, r)
@@ -75,7 +75,7 @@ kind-slot s k o = by (ltb k 32) refl (eqb (slotAt s k .phase) 1) refl (eqb (slot
 -- ---- the invariant
 
 pub record Told (h : History) (s : Ehci) : Type 0 where
-  pub slots : (k : ℕ) → slotIn k h ≡ kindAt s k
+  pub slots : (k : ℕ) → slotIn k h ≡ kindNow s k
   pub runs : s .running ≡ flagNumber (runsIn h)
 
 pub told-opens : (s : Settings) (w : World) → Opening s w → Told [] (w .state)
@@ -94,7 +94,7 @@ module _ (w : World) (c : Call) (a : Applied) (h : History) (told : Told h (w .s
   abbrev new : Ehci
   new = a .reply .state
 
-  told-by : (x : Change) → change t ≡ x → ((k : ℕ) → slotAfter k x (slotIn k h) ≡ kindAt new k) → new .running ≡ flagNumber (runsAfter x (runsIn h))
+  told-by : (x : Change) → change t ≡ x → ((k : ℕ) → slotAfter k x (slotIn k h) ≡ kindNow new k) → new .running ≡ flagNumber (runsAfter x (runsIn h))
       → Told (t ∷ h) new
   unfolding slotIn runsIn
   told-by x e slots runs =
@@ -103,14 +103,14 @@ module _ (w : World) (c : Call) (a : Applied) (h : History) (told : Told h (w .s
         runs = runs ∙ sym (ap (λ (y : Change). flagNumber (runsAfter y (runsIn h))) e);
       }
 
-  unchanged : change t ≡ Same → ((k : ℕ) → kindAt new k ≡ kindAt old k) → new .running ≡ old .running → Told (t ∷ h) new
+  unchanged : change t ≡ Same → ((k : ℕ) → kindNow new k ≡ kindNow old k) → new .running ≡ old .running → Told (t ∷ h) new
   unchanged e kinds run = told-by Same e (λ k. told .slots k ∙ sym (kinds k)) (run ∙ told .runs)
 
   still-told : Still w c a → Told (t ∷ h) new
   still-told x = by (change t) refl (x .switches)
     where
-      kinds : (k : ℕ) → slotIn k h ≡ kindAt new k
-      kinds k = told .slots k ∙ sym (ap (λ (y : Ehci). kindAt y k) (x .state-is) ∙ view-besides kindIn old (x .sides) k)
+      kinds : (k : ℕ) → slotIn k h ≡ kindNow new k
+      kinds k = told .slots k ∙ sym (ap (λ (y : Ehci). kindNow y k) (x .state-is) ∙ view-besides kindIn old (x .sides) k)
 
       run : new .running ≡ x .sides .running
       run = ap (λ (y : Ehci). y .running) (x .state-is)
@@ -128,7 +128,7 @@ module _ (w : World) (c : Call) (a : Applied) (h : History) (told : Told h (w .s
   unfolding withEndpoint withSlot
   given-told x k y e is wide low slots run =
       told-by x e
-      (λ j. slots j ∙ ap (λ (z : SlotKind). cond (eqb k j) (kindIn y) z) (told .slots j) ∙ sym (ap (λ (z : Ehci). kindAt z j) is ∙ kind-given old k y wide low j))
+      (λ j. slots j ∙ ap (λ (z : SlotKind). cond (eqb k j) (kindIn y) z) (told .slots j) ∙ sym (ap (λ (z : Ehci). kindNow z j) is ∙ kind-given old k y wide low j))
       (ap (λ (z : Ehci). z .running) is ∙ told .runs ∙ sym (ap flagNumber run))
 
   module _ (sound : Sound (w .state .settings) w) where
@@ -136,17 +136,17 @@ module _ (w : World) (c : Call) (a : Applied) (h : History) (told : Told h (w .s
     unfolding withBell withBoundaries stateWith waitingOf finishOf withOwner withEndpoint withSlot
     told-here (still x) = still-told x
     told-here (hears x) =
-        unchanged (x .same) (λ k. ap (λ (y : Ehci). kindAt y k) (x .state-is) ∙ view-besides kindIn _ (x .sides) k ∙ view-bell kindIn old _ _ _ k)
+        unchanged (x .same) (λ k. ap (λ (y : Ehci). kindNow y k) (x .state-is) ∙ view-besides kindIn _ (x .sides) k ∙ view-bell kindIn old _ _ _ k)
         (ap (λ (y : Ehci). y .running) (x .state-is) ∙ x .runs-on .0)
     told-here (joins x) =
-        unchanged (x .same) (λ k. ap (λ (y : Ehci). kindAt y k) (x .state-is) ∙ view-besides kindIn old (x .sides) k)
+        unchanged (x .same) (λ k. ap (λ (y : Ehci). kindNow y k) (x .state-is) ∙ view-besides kindIn old (x .sides) k)
         (ap (λ (y : Ehci). y .running) (x .state-is) ∙ x .runs-on .0)
     told-here (passes x) =
-        unchanged (x .same) (λ k. ap (λ (y : Ehci). kindAt y k) (x .state-is) ∙ view-besides kindIn old (x .sides) k)
+        unchanged (x .same) (λ k. ap (λ (y : Ehci). kindNow y k) (x .state-is) ∙ view-besides kindIn old (x .sides) k)
         (ap (λ (y : Ehci). y .running) (x .state-is) ∙ x .runs-on .0)
     told-here (counts x) =
         unchanged (x .same)
-        (λ k. ap (λ (y : Ehci). kindAt y k) (x .state-is) ∙ view-besides kindIn _ (x .sides) k ∙ view-boundaries kindIn (λ p r b c. refl) _ _ k ∙ view-bell kindIn old _ _ _ k)
+        (λ k. ap (λ (y : Ehci). kindNow y k) (x .state-is) ∙ view-besides kindIn _ (x .sides) k ∙ view-boundaries kindIn (λ p r b c. refl) _ _ k ∙ view-bell kindIn old _ _ _ k)
         (ap (λ (y : Ehci). y .running) (x .state-is) ∙ x .runs-on .0)
     told-here (opens x) =
         given-told (OpensSlot (x .k) (x .kind)) (x .k) (newEndpoint (x .kind)) (x .changes) (x .state-is) (sound .wide)
@@ -155,32 +155,32 @@ module _ (w : World) (c : Call) (a : Applied) (h : History) (told : Told h (w .s
         given-told (ClosesSlot (x .k)) (x .k) Closed (x .changes) (x .state-is) (sound .wide)
         (slot-low _ w sound (x .k) (Idle (x .p)) (x .idle) refl) (λ j. refl) refl
     told-here (rewrites x) =
-        unchanged (x .same) (λ k. ap (λ (y : Ehci). kindAt y k) (x .state-is)) (ap (λ (y : Ehci). y .running) (x .state-is))
+        unchanged (x .same) (λ k. ap (λ (y : Ehci). kindNow y k) (x .state-is)) (ap (λ (y : Ehci). y .running) (x .state-is))
     told-here (accepts x) =
         unchanged (x .same)
-        (λ j. ap (λ (y : Ehci). kindAt y j) (x .state-is)
+        (λ j. ap (λ (y : Ehci). kindNow y j) (x .state-is)
         ∙ kind-stays (withOwner old _) (x .k) (linkedWith old (x .k) (x .t)) (owner-wide old _ (sound .wide)) (open-below old (x .k) (x .judged .opened))
         (sym (ap kindIn (owner-aside old _ (x .k)) ∙ kind-slot old (x .k) (x .judged .opened) ∙ ap (λ (n : ℕ). Open (kindOf n)) (sym (x .judged .same-kind)) ∙ ap Open (kind-there (x .t .kind)))) j
         ∙ ap kindIn (owner-aside old _ j))
         (ap (λ (y : Ehci). y .running) (x .state-is))
     told-here (writes-back x) =
-        unchanged (x .same) (λ k. ap (λ (y : Ehci). kindAt y k) (x .state-is)) (ap (λ (y : Ehci). y .running) (x .state-is))
+        unchanged (x .same) (λ k. ap (λ (y : Ehci). kindNow y k) (x .state-is)) (ap (λ (y : Ehci). y .running) (x .state-is))
     told-here (marks x) =
         unchanged (x .same)
-        (λ j. ap (λ (y : Ehci). kindAt y j) (x .state-is)
+        (λ j. ap (λ (y : Ehci). kindNow y j) (x .state-is)
         ∙ kind-stays old (x .k) (Unlinking (x .p) (marked (x .r)) (x .u)) (sound .wide) (slot-low _ w sound (x .k) (Unlinking (x .p) (x .r) (x .u)) (x .unlinking) refl)
         (sym (ap kindIn (x .unlinking))) j)
         (ap (λ (y : Ehci). y .running) (x .state-is))
     told-here (unlinks x) =
         unchanged (x .same)
-        (λ j. ap (λ (y : Ehci). kindAt y j) (x .state-is)
+        (λ j. ap (λ (y : Ehci). kindNow y j) (x .state-is)
         ∙ kind-stays (withBell old _ _ _) (x .k) (Unlinking (x .p) (x .asked) (boundedOf (bellOf old) (x .p .kind) (x .readings) .boundary)) (bell-wide old _ _ _ (sound .wide)) (slot-low _ w sound (x .k) (Linked (x .p) (x .r)) (x .linked) refl)
         (sym (view-bell kindIn old _ _ _ (x .k) ∙ ap kindIn (x .linked))) j
         ∙ view-bell kindIn old _ _ _ j)
         (ap (λ (y : Ehci). y .running) (x .state-is))
     told-here (collects x) =
         unchanged (x .same)
-        (λ j. ap (λ (y : Ehci). kindAt y j) (x .state-is)
+        (λ j. ap (λ (y : Ehci). kindNow y j) (x .state-is)
         ∙ kind-stays (withOwner old _) (x .k) (Idle (x .p)) (owner-wide old _ (sound .wide)) (slot-low _ w sound (x .k) (Unlinking (x .p) (x .r) (x .u)) (x .unlinking) refl)
         (sym (ap kindIn (owner-aside old _ (x .k)) ∙ ap kindIn (x .unlinking))) j
         ∙ ap kindIn (owner-aside old _ j))

@@ -28,7 +28,7 @@ use Rattle.promises.specs.Runs.{History, World}
 use Rattle.promises.specs.Walks.{isIn}
 use Rattle.promises.specs.Uses.{Use, needs, uses}
 use Rattle.promises.specs.Rooms.{Every}
-use Rattle.promises.specs.Opened.{hasKind, isHeld, isShut, kindIn, runsIn, slotIn, submitAsks, wanted}
+use Rattle.promises.specs.Opened.{hasKind, isBusy, isShut, kindIn, runsIn, slotIn, submitAsks, wanted}
 use Rattle.promises.proofs.Sound.{Sound}
 use Rattle.promises.proofs.UseInv.{Avoids, Held, Nobody, Tenant, Waits, every-map, tenantAt, tenantOf}
 use Rattle.promises.proofs.OpenedInv.{Told, kind-slot}
@@ -63,10 +63,10 @@ among-uses P k (u ∷ us) e each = by (decEq (u .slot) k) (λ q. among-uses P k 
     by (yes q) rest = subst P q (each .0)
     by (no ne) rest = rest (rw (ne-eqb (u .slot) k ne) at e)
 
-pub held-is : (s : Settings) (h : History) (w : World) → Held s h w → (k : ℕ) → isHeld s h k ≡ isUncollected (w .state) k
-held-is s h w held k = by (isHeld s h k) refl ∙ somebody-holds (endpointAt (w .state) k)
+pub held-is : (s : Settings) (h : History) (w : World) → Held s h w → (k : ℕ) → isBusy s h k ≡ isUncollected (w .state) k
+held-is s h w held k = by (isBusy s h k) refl ∙ somebody-holds (endpointAt (w .state) k)
   where
-    by : (b : Bool) → isHeld s h k ≡ b → isHeld s h k ≡ isSomebody (tenantAt (w .state) k)
+    by : (b : Bool) → isBusy s h k ≡ b → isBusy s h k ≡ isSomebody (tenantAt (w .state) k)
     by true e =
         e
         ∙ sym

@@ -3,6 +3,7 @@ use Prim.Native.Nat.{ℕ, _+_}
 use mathlib.Core.Bool.{Bool, true, false, not}
 use mathlib.Core.List.{List, [], _∷_, _++_}
 use mathlib.Core.Path.{_≡_, refl, sym, _∙_}
+use borrow.Author.Tests.{not-false}
 use lib.Dec.{eqb, ltb}
 use lib.ListN.{length}
 use Rattle.register.specs.Bits.{anyOf, onlyBits}
@@ -19,7 +20,7 @@ use Rattle.pipe.specs.declared.endpoint.Endpoint.the-variants.{Closed, Idle, Li
 use Rattle.answer.specs.Answers.{Check, Verdict, first, orElse, passed, refused, settle}
 use Rattle.answer.specs.declared.answer.Refusal.{Refusal}
 use Rattle.answer.specs.declared.answer.Refusal.the-variants.{InvalidParameter, SlotLimitReached, InvalidEndpoint, QueueFull, Timeout}
-use Rattle.answer.proofs.CheckLaws.{let-pass, verdicts-apart}
+use Rattle.answer.proofs.CheckLaws.{let-pass, settled-by, verdicts-apart}
 use Rattle.opening.specs.Opening.{rowsFit}
 use Rattle.controller.specs.Address.{allotOf}
 use Rattle.controller.specs.Lent.{acceptsOf, lengths}
@@ -52,8 +53,7 @@ use Rattle.promises.proofs.EffectDoor.{seen}
 -- checks, then settle: the answer is the first that holds, and none where what is new says none
 settle-says : {A : Type 0} (says : A → Verdict) (v : Verdict) (old : Refusal → A) (new : A) → ((r : Refusal) → says (old r) ≡ refused r) → says new ≡ passed
     → says (settle v old new) ≡ v
-settle-says says passed old new no-old is-new = is-new
-settle-says says (refused r) old new no-old is-new = no-old r
+settle-says says v old new no-old is-new = settled-by v old new (λ x. says x ≡ v) (λ r e. no-old r ∙ sym e) (λ e. is-new ∙ sym e)
 
 -- and where what is new is asked more
 pub first-goes : (cs ds : List Check) → first cs ≡ passed → first (cs ++ ds) ≡ first ds
@@ -193,16 +193,12 @@ module _ (w : World) where
   cancel-says k rd (Linked p r) h = unlink-says rd k p (marked r)
   cancel-says k rd (Unlinking p r b) h = refl
 
-  holds : (b : Bool) → not b ≡ false → b ≡ true
-  holds true q = refl
-  holds false q = absurd (false-true (sym q))
-
   cancel-order : (k id : ℕ) (rd : Readings) → verdictIn (core w (Cancel k id rd) .reply .answer) ≡ first (checksOf w (Cancel k id rd))
   unfolding cancelDecided cancelOf replied
   cancel-order k id rd =
       by-fit (Cancel k id rd)
       (settle-then (λ l. verdictIn (cancelCame l .decided .reply .answer)) (cancelChecks s lent k id) ((lostAt (endpointAt s k) (lost w k), InvalidEndpoint) ∷ []) _ _
-      (λ r. refl) (λ e. cancel-says k rd (endpointAt s k) (holds (isUncollected s k) (held e))))
+      (λ r. refl) (λ e. cancel-says k rd (endpointAt s k) (not-false (isUncollected s k) (held e))))
     where
       lent : Lengths
       lent = lengths (length (w .rows .pool)) (length (w .rows .heads)) (length (w .rows .frames)) (length (w .rows .setups))
@@ -260,7 +256,7 @@ module _ (w : World) where
       by-fit (Collect k id rd)
       (settle-then (λ g. verdictIn (collectCame g .decided .reply .answer)) (collectChecks s lent k id)
       ((lostAt (endpointAt s k) (both (finished w (Collect k id rd)) (lost w k)), InvalidEndpoint) ∷ []) _ _
-      (λ r. refl) (λ e. collect-says k rd (seen w (Collect k id rd)) (endpointAt s k) (holds (isOpen s k) (opened e))))
+      (λ r. refl) (λ e. collect-says k rd (seen w (Collect k id rd)) (endpointAt s k) (not-false (isOpen s k) (opened e))))
     where
       lent : Lengths
       lent = lengths (length (w .rows .pool)) (length (w .rows .heads)) (length (w .rows .frames)) (length (w .rows .setups))

@@ -13,7 +13,7 @@ use Rattle.state.proofs.RangesLaws.{ranges-tell}
 use Rattle.answer.specs.declared.answer.Refusal.the-variants.{InvalidParameter}
 use Rattle.answer.proofs.CheckLaws.{answers-apart}
 use Rattle.opening.specs.Opening.{Opened, acceptedOpening, freshState, openedHeads, refusedOpening, rowsFit}
-use Rattle.opening.proofs.OpenLaws.{fresh-in-ranges, heads-words}
+use Rattle.opening.proofs.OpenLaws.{fresh-in-ranges, heads-words, rows-make}
 use Rattle.opening.proofs.OpenPool.{accepts, refuses-rows, refuses-settings}
 use Rattle.ehci.specs.declared.call.Call.{Call}
 use Rattle.promises.specs.Runs.{Opening, Rows, World, core, historyOf, turnOf, worldOf, worldOpened, History, leftBy}
@@ -78,6 +78,17 @@ fresh-sound s e =
       frames-fit = length-replicate {A = ℕ} 1024 1;
       setups-fit = length-replicate {A = ℕ} (8 * s .endpoints) 0;
     }
+
+-- lent the rows that it leaves, it is accepted and leaves them so
+pub opens-fresh : (s : Settings) → settingsGood s ≡ true → Opening s (freshWorld s)
+unfolding acceptedOpening
+opens-fresh s e =
+    let g = fresh-sound s e in
+    let rows = freshRows s in
+    let fit =
+    rows-make s _ _ _ _ (record { pool-fits = g .pool-fits; heads-fit = g .heads-fit; frames-fit = g .frames-fit; setups-fit = g .setups-fit }) in
+    let whole = accepts s (rows .pool) (rows .heads) (rows .frames) (rows .setups) e fit in
+    record { lent = rows; accepted = ap (λ (o : Opened). o .opening .answer) whole; left = sym (ap worldOpened whole) }
 
 pub sound-opens : (s : Settings) (w : World) → Opening s w → Sound s w
 sound-opens s w o =

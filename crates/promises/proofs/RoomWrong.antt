@@ -1,7 +1,7 @@
 -- Wrong machines, of which room, submit's verdict, exclusive places and coverage are refuted. Each takes descriptors for a request and writes its chain, with
 -- no checks and no schedule, in a controller with two descriptors; `plain` does it right, and on the same calls its uses are as they should be.
 use Prim.Native.Nat.{ℕ, _+_, _-_}
-use mathlib.Core.Path.{_≡_, refl, sym, ap}
+use mathlib.Core.Path.{_≡_, refl, ap}
 use mathlib.Core.Bool.{true}
 use mathlib.Core.List.{List, [], _∷_}
 use native.Mathlib.Omega.{arith}
@@ -22,8 +22,7 @@ use Rattle.settings.specs.Settings.{apartAreas, areaGood, eachGood, noOverlap, 
 use Rattle.settings.specs.declared.settings.Settings.{Settings}
 use Rattle.state.specs.State.{withOwner}
 use Rattle.state.specs.declared.state.Ehci.{Ehci}
-use Rattle.opening.specs.Opening.{Opened, acceptedOpening, freshState, openedHeads, rowsFit}
-use Rattle.opening.proofs.OpenPool.{accepts}
+use Rattle.opening.specs.Opening.{freshState, openedHeads}
 use Rattle.controller.specs.Readers.{countZero, freeCount}
 use Rattle.controller.specs.declared.lent.Readings.{Readings}
 use Rattle.schedule.specs.Links.{startedOverlay}
@@ -36,13 +35,13 @@ use Rattle.ehci.specs.declared.reply.Answered.{Answered}
 use Rattle.ehci.specs.declared.reply.Answered.the-variants.{Done, Pending}
 use Rattle.ehci.specs.declared.reply.Given.the-variants.{Id, Nothing, Slot}
 use Rattle.ehci.specs.Door.{Applied, applied}
-use Rattle.promises.specs.Runs.{Machine, Opening, World, historyOf, rowsOf, worldOf, worldOpened}
+use Rattle.promises.specs.Runs.{Machine, Opening, World, historyOf, rowsOf, worldOf}
 use Rattle.promises.specs.Walks.{chainWalk}
 use Rattle.promises.specs.Uses.{needs, uses}
 use Rattle.promises.specs.Rooms.{ExclusivePlaces, RoomExact, placesInUse}
 use Rattle.promises.specs.Opened.{SubmitVerdict, runsIn, slotIn}
 use Rattle.promises.specs.Coverage.{Coverage, addressed, dataOf, recordsMet}
-use Rattle.promises.proofs.Reached.{freshRows, freshWorld}
+use Rattle.promises.proofs.Reached.{freshWorld, opens-fresh}
 
 -- ---- two descriptors, two slots
 
@@ -64,16 +63,8 @@ pair-good : settingsGood pair ≡ true
 unfolding settingsGood numbersGood eachGood noOverlap areaGood apartAreas
 pair-good = refl
 
-rows-right : rowsFit pair (length (freshRows pair .pool)) (length (freshRows pair .heads)) (length (freshRows pair .frames)) (length (freshRows pair .setups)) ≡ true
-unfolding rowsFit openedHeads ringHead terminated
-rows-right = refl
-
 opening : Opening pair (freshWorld pair)
-unfolding acceptedOpening
-opening =
-    let rows = freshRows pair in
-    let whole = accepts pair (rows .pool) (rows .heads) (rows .frames) (rows .setups) pair-good rows-right in
-    record { lent = rows; accepted = ap (λ (o : Opened). o .opening .answer) whole; left = sym (ap worldOpened whole) }
+opening = opens-fresh pair pair-good
 
 -- ---- machines that take descriptors
 

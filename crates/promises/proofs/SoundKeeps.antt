@@ -29,6 +29,7 @@ use Rattle.pipe.proofs.EndpointLaws.{LinkedGood, UnlinkingGood, bell-wide, endp
 use Rattle.opening.proofs.RowLaws.{put-length}
 use Rattle.controller.proofs.ReaderLaws.{open-within}
 use Rattle.schedule.specs.Bell.{fallenFrom}
+use Rattle.schedule.proofs.OverlayLaws.{started-length}
 use Rattle.schedule.specs.Links.{attachedFrames, attachedRing, detachOf, givenLink, linkWord, periodic, predecessorOf, startedOverlay}
 use Rattle.schedule.specs.declared.links.Predecessor.{Predecessor}
 use Rattle.schedule.specs.declared.links.Predecessor.the-variants.{First, Head, Missing}
@@ -43,8 +44,8 @@ use Rattle.collection.proofs.MoveLaws.{finish-long}
 use Rattle.collection.proofs.RangeLaws.{finish-keeps, mark-keeps, waiting-keeps}
 use Rattle.ehci.specs.declared.call.Call.{Call}
 use Rattle.ehci.specs.Door.{Applied}
-use Rattle.promises.specs.Runs.{World, leftBy}
-use Rattle.promises.proofs.Effects.{Accepts, Closes, Collected, Counts, Effect, Hears, Joins, Marks, Opens, Passes, Rewrites, Still, Unlinked, WritesBack, accepts, besides, closes, collects, counts, hears, joins, marks, opens, passes, rewrites, still, unlinks, writes-back}
+use Rattle.promises.specs.Runs.{World, leftBy, rowsOf}
+use Rattle.promises.proofs.Effects.{Accepts, Closes, Collected, Counts, Effect, Hears, Marks, Opens, Rewrites, Sides, Unlinked, WritesBack, accepts, besides, closes, collects, counts, hears, joins, marks, opens, passes, rewrites, still, unlinks, writes-back}
 use Rattle.promises.proofs.Sound.{Sound, both-sound, endpoint-sound, head-within, heads-sound, rows-sound, sides-sound, sides-wide, slot-below, slot-good, slot-low, state-sound}
 
 -- ---- lengths
@@ -66,21 +67,14 @@ detached-lengths : (s : Ehci) (h f : List ℕ) (k : ℕ)
 unfolding detachOf
 detached-lengths s h f k = given-lengths h f (linkWord h k) (periodic s k) (predecessorOf s h f k)
 
-started-length : (h : List ℕ) (k first : ℕ) → length (startedOverlay h k first 0) ≡ length h
-unfolding startedOverlay
-started-length h k first =
-    let one = set h (17 * (k + 1) + 4) first in
-    let two = set one (17 * (k + 1) + 5) 1 in
-    length-set two (17 * (k + 1) + 6) 0 ∙ length-set one (17 * (k + 1) + 5) 1 ∙ length-set h (17 * (k + 1) + 4) first
-
 linked-lengths : (h f : List ℕ) (k link first : ℕ) (b : Bool)
     → (length (attachedBy b (startedOverlay h k first 0) f k link .heads) ≡ length h)
     × (length (attachedBy b (startedOverlay h k first 0) f k link .frames) ≡ length f)
 unfolding attachedFrames attachedRing
 linked-lengths h f k link first true =
-    (length-set (startedOverlay h k first 0) _ _ ∙ started-length h k first, length-replicate (length f) link)
+    (length-set (startedOverlay h k first 0) _ _ ∙ started-length h k first 0, length-replicate (length f) link)
 linked-lengths h f k link first false =
-    (length-set (set (startedOverlay h k first 0) _ _) 0 link ∙ length-set (startedOverlay h k first 0) _ _ ∙ started-length h k first, refl)
+    (length-set (set (startedOverlay h k first 0) _ _) 0 link ∙ length-set (startedOverlay h k first 0) _ _ ∙ started-length h k first 0, refl)
 
 fill-length : (c : Chain) (rs : List _) → length (fillOf c rs) ≡ length rs
 unfolding fillOf
@@ -107,20 +101,11 @@ module _ (s : Settings) (w : World) (c : Call) (a : Applied) (g : Sound s w) whe
   abbrev st : Ehci
   st = w .state
 
-  still-sound : Still w c a → Sound s (leftBy a)
-  still-sound x =
-      both-sound s a (besides st (x .sides)) (w .rows) (x .state-is) (x .rows-are)
-      (sides-sound s w g (x .sides) (subst (λ (z : Ehci). Ranges z) (x .state-is) (x .keeps (g .ranges)))) (rows-sound s w g)
-
-  joins-sound : Joins w c a → Sound s (leftBy a)
-  joins-sound x =
-      both-sound s a (besides st (x .sides)) (w .rows) (x .state-is) (x .rows-are)
-      (sides-sound s w g (x .sides) (subst (λ (z : Ehci). Ranges z) (x .state-is) (x .keeps (g .ranges)))) (rows-sound s w g)
-
-  passes-sound : Passes w c a → Sound s (leftBy a)
-  passes-sound x =
-      both-sound s a (besides st (x .sides)) (w .rows) (x .state-is) (x .rows-are)
-      (sides-sound s w g (x .sides) (subst (λ (z : Ehci). Ranges z) (x .state-is) (x .keeps (g .ranges)))) (rows-sound s w g)
+  -- only what stands beside changes
+  beside-sound : (x : Sides) → a .reply .state ≡ besides st x → rowsOf a ≡ w .rows → (Ranges st → Ranges (a .reply .state)) → Sound s (leftBy a)
+  beside-sound x state-is rows-are keeps =
+      both-sound s a (besides st x) (w .rows) state-is rows-are
+      (sides-sound s w g x (subst (λ (z : Ehci). Ranges z) state-is (keeps (g .ranges)))) (rows-sound s w g)
 
   hears-sound : Hears w c a → Sound s (leftBy a)
   unfolding withBell
@@ -276,10 +261,10 @@ module _ (s : Settings) (w : World) (c : Call) (a : Applied) (g : Sound s w) whe
           omega (arith, open-within st (x .k) (g .ranges) (x .judged .opened), g .setups-fit, e)
 
   pub sound-keeps : Effect w c a → Sound s (leftBy a)
-  sound-keeps (still x) = still-sound x
+  sound-keeps (still x) = beside-sound (x .sides) (x .state-is) (x .rows-are) (x .keeps)
   sound-keeps (hears x) = hears-sound x
-  sound-keeps (joins x) = joins-sound x
-  sound-keeps (passes x) = passes-sound x
+  sound-keeps (joins x) = beside-sound (x .sides) (x .state-is) (x .rows-are) (x .keeps)
+  sound-keeps (passes x) = beside-sound (x .sides) (x .state-is) (x .rows-are) (x .keeps)
   sound-keeps (counts x) = counts-sound x
   sound-keeps (opens x) = opens-sound x
   sound-keeps (closes x) = closes-sound x

@@ -1,7 +1,7 @@
 -- Wrong machines, of which the statements on chains are refuted. Each does nothing but link and unlink, in a controller with
 -- three slots; `plain` does it right, and on the same calls its walks are those that are told.
 use Prim.Native.Nat.{ℕ, _+_, _-_, _*_, _/_}
-use mathlib.Core.Path.{_≡_, refl, sym, ap}
+use mathlib.Core.Path.{_≡_, refl, ap}
 use mathlib.Core.Bool.{Bool, true, false, cond}
 use mathlib.Core.List.{List, [], _∷_, _++_}
 use native.Mathlib.Omega.{arith}
@@ -17,8 +17,7 @@ use Rattle.settings.specs.Settings.{apartAreas, areaGood, eachGood, noOverlap, 
 use Rattle.settings.proofs.Every.{false-true}
 use Rattle.settings.specs.declared.settings.Settings.{Settings}
 use Rattle.pipe.specs.Kinds.{isInterrupt}
-use Rattle.opening.specs.Opening.{Opened, acceptedOpening, openedHeads, rowsFit}
-use Rattle.opening.proofs.OpenPool.{accepts}
+use Rattle.opening.specs.Opening.{openedHeads}
 use Rattle.controller.specs.declared.lent.Readings.{Readings}
 use Rattle.schedule.specs.Links.{attachedRing, linkWord, ringLink, withLinkWord, withRingLink}
 use Rattle.ehci.specs.declared.call.Call.{Call}
@@ -27,13 +26,13 @@ use Rattle.ehci.specs.declared.reply.Answered.{Answered}
 use Rattle.ehci.specs.declared.reply.Answered.the-variants.{Done, Pending}
 use Rattle.ehci.specs.declared.reply.Given.the-variants.{Id, Nothing}
 use Rattle.ehci.specs.Door.{Applied, applied}
-use Rattle.promises.specs.Runs.{History, Machine, Opening, Rows, World, historyOf, worldOf, worldOpened}
+use Rattle.promises.specs.Runs.{History, Machine, Opening, Rows, World, historyOf, worldOf}
 use Rattle.promises.specs.Walks.{frameWalk, ringWalk, walkFrom}
 use Rattle.promises.specs.Events.{Unlinks, event}
 use Rattle.promises.specs.Uses.{frameSlots, ringSlots, uses}
 use Rattle.promises.specs.Bells.{isUnlinks}
 use Rattle.promises.specs.Chains.{ChainsWalked, NoDetachFails, headPlaces, turnBy}
-use Rattle.promises.proofs.Reached.{freshRows, freshWorld}
+use Rattle.promises.proofs.Reached.{freshWorld, opens-fresh}
 
 -- three slots
 abbrev three : Settings
@@ -149,12 +148,12 @@ cancelled = Cancel 2 1 reading ∷ asks Bulk 2 ∷ two
 abbrev waiting : List Call
 waiting = asks Interrupt 0 ∷ []
 
+three-good : settingsGood three ≡ true
+unfolding settingsGood numbersGood eachGood noOverlap areaGood apartAreas
+three-good = refl
+
 opening : Opening three (freshWorld three)
-unfolding settingsGood numbersGood eachGood noOverlap areaGood apartAreas rowsFit openedHeads ringHead terminated acceptedOpening
-opening =
-    let r = freshRows three in
-    let is = accepts three (r .pool) (r .heads) (r .frames) (r .setups) refl refl in
-    record { lent = r; accepted = ap (λ (o : Opened). o .opening .answer) is; left = sym (ap worldOpened is) }
+opening = opens-fresh three three-good
 
 abbrev now : Machine → List Call → Rows
 now m cs = worldOf m (freshWorld three) cs .rows

@@ -37,8 +37,7 @@ use Rattle.slot.specs.Ranges.{boundaryGood, closedGood, idleGood, linkedGood, n
 use Rattle.pipe.specs.Kinds.{isInterrupt}
 use Rattle.promises.specs.Walks.{ringWalk, walkFrom}
 use Rattle.promises.specs.Events.{isCollected}
-use Rattle.promises.specs.Bells.{asked, bell, counted, kindAt, number, unlinking}
-use Rattle.promises.specs.Chains.{newestId}
+use Rattle.promises.specs.Bells.{asked, bell, counted, kindAt, newestId, number, unlinking}
 use Rattle.promises.specs.Boundaries.{EveryRun, Exact}
 use Rattle.promises.proofs.Reached.{freshWorld}
 use Rattle.promises.proofs.WrongRuns.{acknowledges, linked, one, openedTwo, opening, reading, replies, small, stateOf, submits, waits}

@@ -182,6 +182,20 @@ unfoldable pub kindAt : Settings → ℕ → History → EndpointType
 kindAt s k [] = Control
 kindAt s k (t ∷ past) = kindAfter k (event s t) (kindAt s k past)
 
+-- its id
+abbrev pub idAfter : ℕ → Event → ℕ → ℕ
+idAfter k Other old = old
+idAfter k Reads old = old
+idAfter k Drains old = old
+idAfter k (Submits j id r) old = cond (eqb j k) id old
+idAfter k (Unlinks j) old = old
+idAfter k (Parts j frame) old = old
+idAfter k (Collects j id frame) old = old
+
+unfoldable pub newestId : Settings → ℕ → History → ℕ
+newestId s k [] = 0
+newestId s k (t ∷ past) = idAfter k (event s t) (newestId s k past)
+
 -- it was accepted, and its head has left no schedule since
 unfoldable pub linked : Settings → ℕ → History → Bool
 linked s k [] = false

@@ -16,8 +16,7 @@ use Rattle.ehci.specs.declared.reply.Answered.{Answered}
 use Rattle.ehci.specs.declared.reply.Answered.the-variants.{Cancelled}
 use Rattle.promises.specs.Runs.{History, Machine, Opening, Turn, World, historyOf, turnOf, worldOf}
 use Rattle.promises.specs.Events.{isCollected, rings}
-use Rattle.promises.specs.Bells.{Boundary, asked, bell, cancelled, collects, counted, isAnswered, isUp, kindAt, linked, none, number, parted, parting, partsOf, reads, someTurn, submits, unlinking, unlinksOf}
-use Rattle.promises.specs.Chains.{newestId}
+use Rattle.promises.specs.Bells.{Boundary, asked, bell, cancelled, collects, counted, isAnswered, isUp, kindAt, linked, newestId, none, number, parted, parting, partsOf, reads, someTurn, submits, unlinking, unlinksOf}
 
 -- ---- by numbers: t is turn number n of h, so n turns are older
 

@@ -4,7 +4,6 @@ use Prim.Native.Nat.{ℕ, _+_, _<_}
 use mathlib.Core.Bool.{Bool, true, false, cond}
 use mathlib.Core.List.{List, [], _∷_, _++_, map}
 use mathlib.Core.Path.{_≡_}
-use lib.Dec.{eqb}
 use lib.ListN.{getD}
 use Rattle.descriptor.specs.declared.qtd.QueueTransferDescriptor.{QueueTransferDescriptor}
 use Rattle.pool.specs.Chains.{blank, isActive, isErring}
@@ -15,27 +14,13 @@ use Rattle.ehci.specs.declared.call.Call.{Call}
 use Rattle.ehci.specs.declared.call.Call.the-variants.{Cancel, Collect}
 use Rattle.promises.specs.Runs.{Always, History, Machine, Turn, World, turnOf}
 use Rattle.promises.specs.Walks.{frameWalk, isIn, ringWalk}
-use Rattle.promises.specs.Events.{Collects, Drains, Event, Other, Parts, Reads, Submits, Unlinks, event}
+use Rattle.promises.specs.Events.{Other, Parts, Unlinks, event}
 use Rattle.promises.specs.Uses.{Use, frameSlots, ringSlots, uses}
 use Rattle.promises.specs.Rooms.{Every, numberAt}
 
 -- slot k's head is at place k + 1
 abbrev pub headPlaces : List ℕ → List ℕ
 headPlaces ks = map (λ (k : ℕ). k + 1) ks
-
--- the id of slot k's newest accepted request
-abbrev pub idAfter : ℕ → Event → ℕ → ℕ
-idAfter k Other old = old
-idAfter k Reads old = old
-idAfter k Drains old = old
-idAfter k (Submits j id r) old = cond (eqb j k) id old
-idAfter k (Unlinks j) old = old
-idAfter k (Parts j frame) old = old
-idAfter k (Collects j id frame) old = old
-
-unfoldable pub newestId : Settings → ℕ → History → ℕ
-newestId s k [] = 0
-newestId s k (t ∷ past) = idAfter k (event s t) (newestId s k past)
 
 -- slot k's head is in a schedule
 abbrev pub isLinked : Settings → History → ℕ → Bool

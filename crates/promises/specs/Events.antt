@@ -1,13 +1,12 @@
 -- What happens in a turn, from the call, its answer, its register writes and the lent rows.
 use Prim.Native.Nat.{ℕ, _+_}
 use mathlib.Core.Bool.{Bool, true, false, not, cond}
-use mathlib.Core.List.{List, [], _∷_}
 use lib.Dec.{eqb}
 use Rattle.register.specs.Bits.{bit}
-use Rattle.register.specs.declared.writes.Write.{Write}
-use Rattle.settings.specs.Tests.{both, either}
+use Rattle.settings.specs.Tests.{both}
 use Rattle.settings.specs.declared.settings.Settings.{Settings}
 use Rattle.request.specs.declared.judge.TransferRequest.{TransferRequest}
+use Rattle.interrupt.specs.Once.{someRing}
 use Rattle.ehci.specs.declared.call.Call.{Call}
 use Rattle.ehci.specs.declared.call.Call.the-variants.{StartBringUp, BringUpStep, AllocateAddress, OpenEndpoint, Close, SetAddress, SetPacketSize, Submit, Writeback, Cancel, Collect, Acknowledge, Drain, Rearm, Enable, Disable}
 use Rattle.ehci.specs.declared.reply.Answered.{Answered}
@@ -19,14 +18,7 @@ use Rattle.promises.specs.Walks.{frameWalk, isIn, ringWalk}
 
 -- ---- rings: "Only a ring .. writes 0x40"
 
--- a write of USBCMD with the doorbell bit
-abbrev pub isRing : Write → Bool
-isRing w = both (eqb (w .offset) 0) (eqb (bit (w .value) 6) 1)
-
-abbrev pub someRing : List Write → Bool
-someRing [] = false
-someRing (w ∷ ws) = either (isRing w) (someRing ws)
-
+-- a write of USBCMD with the doorbell bit is one (`isRing` of the doorbell's law)
 abbrev pub rings : Turn → Bool
 rings t = someRing (t .wrote)
 

@@ -136,15 +136,15 @@ hasKind kind Shut = false
 hasKind kind (Open other) = eqb (kindNumber kind) (kindNumber other)
 
 -- slot k has a request that is accepted and not collected
-abbrev pub isHeld : Settings → History → ℕ → Bool
-isHeld s h k = isIn k (map (λ u. u .slot) (uses s h))
+abbrev pub isBusy : Settings → History → ℕ → Bool
+isBusy s h k = isIn k (map (λ u. u .slot) (uses s h))
 
 -- "Submit: slot open 3, running 8, nothing uncollected 4, isochronous 5, kind equals the slot's 3, ranges 1, room 6": all but the last
 abbrev pub earlierChecks : Settings → History → ℕ → TransferRequest → List Check
 earlierChecks s h k t =
     (isShut (slotIn k h), InvalidEndpoint)
     ∷ (not (runsIn h), NotReady)
-    ∷ (isHeld s h k, QueueFull)
+    ∷ (isBusy s h k, QueueFull)
     ∷ (isIsochronous (t .kind), NotSupported)
     ∷ (not (hasKind (t .kind) (slotIn k h)), InvalidEndpoint)
     ∷ (not (rangesGood t), InvalidParameter)
@@ -180,14 +180,14 @@ kindIn (Idle p) = Open (p .kind)
 kindIn (Linked p r) = Open (p .kind)
 kindIn (Unlinking p r b) = Open (p .kind)
 
-abbrev pub kindAt : Ehci → ℕ → SlotKind
-kindAt s k = kindIn (endpointAt s k)
+abbrev pub kindNow : Ehci → ℕ → SlotKind
+kindNow s k = kindIn (endpointAt s k)
 
 -- in every reached world: which slots are open, and of which kind; whether the controller runs; which slots have an uncollected request
 pub record Tied (s : Settings) (h : History) (w : World) : Type 0 where
-  pub slots : (k : ℕ) → slotIn k h ≡ kindAt (w .state) k
+  pub slots : (k : ℕ) → slotIn k h ≡ kindNow (w .state) k
   pub runs : w .state .running ≡ flagNumber (runsIn h)
-  pub held : (k : ℕ) → isHeld s h k ≡ isUncollected (w .state) k
+  pub held : (k : ℕ) → isBusy s h k ≡ isUncollected (w .state) k
 
 abbrev pub FieldsTied : Machine → Type 0
 FieldsTied m = Always Tied m

@@ -1,10 +1,11 @@
 // Many logs from standard input, each begun by a byte above 64; each of its records stands after a byte that says how long
 // it is. A line `=` for each log to standard output, then what is said of its records up to the first bad one.
 // `tools/log_cases.py` makes the logs, and what is to be printed from document 01.
-ghost use Prim.Native.Nat.{_<_, _≤_};
+ghost use Prim.Native.Nat.{_≤_};
 use replayer::keeper::Keeper;
 use replayer::keeper::fresh_keeper;
 use replayer::turn::turn;
+use turns::left::after_turn;
 
 const STDIN: i32 = 0;
 
@@ -86,15 +87,6 @@ fn next(log: Log) -> Log {
     next_record(log, said as usize)
 }
 
-// How many records may still come.
-fn after_turn(left: u64, more: bool) -> u64
-    requires { ⌜ 0 < left ⌝ }
-    ensures { λ r. ⌜ r < left ⌝ }
-{
-    if more { left - 1 } else { 0 }
-}
-
-// A proved loop has to end: this one counts down from more records than there are.
 fn main() {
     let mut log = fresh_log();
     let mut left: u64 = u64::MAX;

@@ -1,8 +1,8 @@
 // A log from standard input, and what each record did to standard output.
-ghost use Prim.Native.Nat.{_<_};
 use crate::keeper::Keeper;
 use crate::keeper::fresh_keeper;
 use crate::turn::turn;
+use turns::left::after_turn;
 
 const STDIN: i32 = 0;
 
@@ -11,14 +11,6 @@ const STDOUT: i32 = 1;
 struct Kept {
     keeper: Keeper,
     more: bool,
-}
-
-// How many records may still come.
-fn after_turn(left: u64, more: bool) -> u64
-    requires { ⌜ 0 < left ⌝ }
-    ensures { λ r. ⌜ r < left ⌝ }
-{
-    if more { left - 1 } else { 0 }
 }
 
 // One record: read, done, and written out before the next is read.
@@ -41,7 +33,6 @@ fn next_record(k: Keeper, n: u64) -> Kept {
     }
 }
 
-// A proved loop has to end: this one counts down from more records than any log has.
 pub fn replay() {
     let mut keeper = fresh_keeper();
     let mut left: u64 = u64::MAX;

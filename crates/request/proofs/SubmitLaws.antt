@@ -1,12 +1,12 @@
 -- What an accepted submit leaves: room is exact, its chain may be written and leads over its places, what stays.
-use Prim.Native.Nat.{ℕ, zero, suc, _+_, _-_, _*_, _%_, _^_, _≤_, _<_, min}
+use Prim.Native.Nat.{ℕ, zero, suc, _+_, _-_, _*_, _%_, _^_, _≤_, _<_}
 use mathlib.Core.Path.{_≡_, refl, sym, ap, subst, _∙_}
 use mathlib.Core.Logic.{_≢_}
 use mathlib.Core.Bool.{Bool, true, false}
 use mathlib.Core.List.{List, [], _∷_, _++_, map}
 use native.Mathlib.Omega.{arith}
 use borrow.Author.Tests.{eqb-true, leb-true, ltb-true, ltb-false}
-use lib.Dec.{eqb, leb, ltb}
+use lib.Dec.{eqb, ltb}
 use lib.ListN.{drop, getD, length, length-take, set, take}
 use lib.Seq.{getD-append-add, getD-drop, getD-set-other, getD-take, length-take-le, take-at}
 use Rattle.token.specs.declared.request.EndpointType.{EndpointType}
@@ -27,12 +27,13 @@ use Rattle.state.specs.Slots.{slotAt}
 use Rattle.state.specs.State.{withOwner}
 use Rattle.state.specs.declared.state.Ehci.{Ehci}
 use Rattle.state.proofs.RangesLaws.{Ranges}
-use Rattle.answer.specs.declared.answer.Answer.the-variants.{Done, Refused}
+use Rattle.answer.specs.declared.answer.Answer.the-variants.{Refused}
 use Rattle.answer.specs.declared.answer.Refusal.the-variants.{NoMemory}
-use Rattle.pipe.specs.Endpoints.{endpointAt, kindNumber, withEndpoint}
+use Rattle.pipe.specs.Endpoints.{endpointAt, kindNumber}
 use Rattle.pipe.specs.Kinds.{isInterrupt, isIsochronous}
 use Rattle.pipe.proofs.EndpointLaws.{Wide, endpoint-keeps, endpoint-other, owner-aside, owner-keeps, owner-wide}
 use Rattle.pipe.proofs.KindLaws.{not-isochronous}
+use Rattle.schedule.proofs.OverlayLaws.{started-word}
 use Rattle.schedule.specs.Links.{attachedFrames, attachedRing, startedOverlay}
 use Rattle.controller.specs.Readers.{freeCount, isOpen, isUncollected}
 use Rattle.answer.proofs.CheckLaws.{answers-apart}
@@ -148,11 +149,7 @@ submit-records s k p t rows ne =
 module _ (heads frames : List ℕ) (k link first i : ℕ) (n0 : i ≢ 0) (n1 : i ≢ 17 * (k + 1)) (n4 : i ≢ 17 * (k + 1) + 4)
     (n5 : i ≢ 17 * (k + 1) + 5) (n6 : i ≢ 17 * (k + 1) + 6) where
   overlay-word : getD (startedOverlay heads k first 0) i 0 ≡ getD heads i 0
-  unfolding startedOverlay
-  overlay-word =
-      let one = set heads (17 * (k + 1) + 4) first in
-      let two = set one (17 * (k + 1) + 5) 1 in
-      getD-set-other two (17 * (k + 1) + 6) i 0 0 n6 ∙ getD-set-other one (17 * (k + 1) + 5) i 1 0 n5 ∙ getD-set-other heads (17 * (k + 1) + 4) i first 0 n4
+  overlay-word = started-word heads k first 0 i n4 n5 n6
 
   attached-word : (b : Bool) → getD (attachedBy b (startedOverlay heads k first 0) frames k link .heads) i 0 ≡ getD heads i 0
   unfolding attachedFrames attachedRing

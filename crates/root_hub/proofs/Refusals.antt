@@ -5,12 +5,12 @@ use mathlib.Core.List.{[], _∷_}
 use mathlib.Core.Path.{_≡_, refl, sym, ap, _∙_}
 use lib.Dec.{eqb}
 use Rattle.settings.specs.Tests.{within}
-use Rattle.answer.specs.Answers.{Verdict, first, passed, refused, settle}
+use Rattle.answer.specs.Answers.{Verdict, first, refused, settle}
 use Rattle.answer.specs.declared.answer.Answer.{Answer}
 use Rattle.answer.specs.declared.answer.Answer.the-variants.{Done, Refused}
 use Rattle.answer.specs.declared.answer.Refusal.{Refusal}
 use Rattle.answer.specs.declared.answer.Refusal.the-variants.{InvalidParameter}
-use Rattle.answer.proofs.CheckLaws.{answers-apart}
+use Rattle.answer.proofs.CheckLaws.{answers-apart, settled-by}
 use Rattle.opening.specs.declared.hub.EhciRootHub.{EhciRootHub}
 use Rattle.root_hub.specs.Calls.{powerOf, refusedPower, refusedScan, scannedOf, startOf, stepOf}
 use Rattle.root_hub.specs.Ranges.{hubGood}
@@ -25,8 +25,9 @@ refusalIn (Refused r) = r
 -- checks, then settle: what is refused is the old with that answer
 settled-old : {A : Type 0} (says : A → Answer) (v : Verdict) (old : Refusal → A) (new : A) → says new ≡ Done → ((x : Refusal) → says (old x) ≡ Refused x)
     → (r : Refusal) → says (settle v old new) ≡ Refused r → settle v old new ≡ old r
-settled-old says passed old new done told r e = absurd (answers-apart r (sym e ∙ done))
-settled-old says (refused x) old new done told r e = ap (λ (a : Answer). old (refusalIn a)) (sym (told x) ∙ e)
+settled-old says v old new done told r =
+    settled-by v old new (λ y. says y ≡ Refused r → y ≡ old r)
+    (λ x q e. ap (λ (a : Answer). old (refusalIn a)) (sym (told x) ∙ e)) (λ q e. absurd (answers-apart r (sym e ∙ done)))
 
 start-refused : (h : EhciRootHub) (r : Refusal) → startOf h .reply .answer ≡ Refused r → startOf h ≡ refusedScan h r
 unfolding startOf

@@ -2,3 +2,4 @@ pub mod BellCases
 pub mod BellLaws
 pub mod LinkCases
 pub mod WalkLaws
+pub mod OverlayLaws

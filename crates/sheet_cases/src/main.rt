@@ -1,9 +1,10 @@
 // Many sheets from standard input, each after its length in two bytes, the lower first. What is printed of each to standard
 // output, and after it a line with a single `.`. `tools/sheet.py` makes the sheets, and what is to be printed from document
 // 01.
-ghost use Prim.Native.Nat.{_<_, _≤_};
+ghost use Prim.Native.Nat.{_≤_};
 use job_run::print::print_sheet;
 use text::number::number16;
+use turns::left::after_turn;
 
 const STDIN: i32 = 0;
 
@@ -43,15 +44,6 @@ fn turn() -> bool {
     true
 }
 
-// How many sheets may still come.
-fn after_turn(left: u64, more: bool) -> u64
-    requires { ⌜ 0 < left ⌝ }
-    ensures { λ r. ⌜ r < left ⌝ }
-{
-    if more { left - 1 } else { 0 }
-}
-
-// A proved loop has to end: this one counts down from more sheets than there are.
 fn main() {
     let mut left: u64 = u64::MAX;
     while left > 0 {

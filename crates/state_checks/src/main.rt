@@ -1,7 +1,6 @@
 // Records from standard input, what each call answered and left to standard output. A record is a call's, as in a log, or a
 // change that no call makes: to a number of the state, a word of a row, the lengths lent, what a collect sees, the root hub's
 // record. `tools/state_values.py` makes the records, and what is to be printed from document 01.
-ghost use Prim.Native.Nat.{_<_};
 
 mod change;
 mod kept;
@@ -16,20 +15,13 @@ use crate::kept::blank;
 use crate::show::show;
 use call_log::fields::decode;
 use call_log::record::read_record;
+use turns::left::after_turn;
 
 const STDIN: i32 = 0;
 
 struct Turned {
     kept: Kept,
     more: bool,
-}
-
-// How many records may still come: fewer each time.
-fn after_turn(left: u64, more: bool) -> u64
-    requires { ⌜ 0 < left ⌝ }
-    ensures { λ r. ⌜ r < left ⌝ }
-{
-    if more { left - 1 } else { 0 }
 }
 
 // One record. Of a change nothing is printed.
@@ -55,7 +47,6 @@ fn turn(k: Kept, n: u64) -> Turned {
     Turned { kept, more: true }
 }
 
-// A proved loop has to end: this one counts down from more records than there are.
 fn main() {
     let mut kept = blank();
     let mut left: u64 = u64::MAX;
