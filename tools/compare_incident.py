@@ -38,7 +38,7 @@ def main():
     build()
     log = written([ORACLE, "incident"])
     told = lambda words, off: blocks(written(words, log, NOREPAIR=off).decode())
-    sides = [("port", told([program("replay", "REPLAY")], "")), ("000", told([ORACLE], "K2,N1,N13")), ("000/N1", told([ORACLE], "K2"))]
+    sides = [("port", told(program("replay", "REPLAY"), "")), ("000", told([ORACLE], "K2,N1,N13")), ("000/N1", told([ORACLE], "K2"))]
     with open(EXAMPLE + ".log", "wb") as out:
         out.write(log)
     with open(EXAMPLE + ".txt", "w") as out:

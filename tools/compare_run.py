@@ -1,13 +1,10 @@
 """What the tools that run the Rust original share: where things are, building the oracle, finding the port's programs."""
-import os, subprocess, sys
+import os, shutil, subprocess
 
-TOP = os.path.dirname(os.path.dirname(os.path.abspath(__file__)))
+import programs
+from programs import TOP, stop
+
 ORACLE = os.path.join(TOP, "oracle", "target", "debug", "oracle")
-
-
-def stop(message):
-    print(message, file=sys.stderr)
-    sys.exit(2)
 
 
 def build():
@@ -15,17 +12,16 @@ def build():
     published = os.path.abspath(os.environ.get("ORIGINAL", os.path.join(TOP, "..", "shared", "docs", "src")))
     if not os.path.isfile(os.path.join(published, "src", "backend", "kmod", "ehci", "mod.rs")):
         stop(f"The published Rust is not at hand: {published} has no src/backend/kmod/ehci/mod.rs. Set ORIGINAL to its folder.")
+    if shutil.which("cargo") is None:
+        stop("cargo is not there: the oracle is built by a rustc of 2026 (oracle/README.md)")
     done = subprocess.run(["cargo", "build", "--offline", "--quiet"], cwd=os.path.join(TOP, "oracle"))
     if done.returncode != 0:
         stop("the oracle was not built")
 
 
 def program(name, variable):
-    """A program of the port."""
-    path = os.environ.get(variable, os.path.join(TOP, "target", "bin", name))
-    if not os.access(path, os.X_OK):
-        stop(f"{path} is not there: run `rt check {name}`, or name a program in {variable}")
-    return path
+    """The words that run a program of the port, or the one that the variable names."""
+    return programs.words(os.environ.get(variable, name))
 
 
 def written(words, data=b"", **environment):

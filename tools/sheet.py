@@ -3,9 +3,12 @@
 
 It reads each sheet and prints its listing; with no file it reads standard input. `tools/sheet.py --make` writes the
 sheets of examples/ and their listings, and what the program `sheet_cases` reads and must print: many sheets, good, refused,
-full, empty and malformed in each way. `tools/sheet.py --compare target/bin/sheet` runs the program on the same sheets, one
-by one, and holds what it prints to this."""
+full, empty and malformed in each way. `tools/sheet.py --compare sheet` runs the program on the same sheets, one by one (as
+tools/run does), and holds what it prints to this."""
 import os, random, struct, subprocess, sys
+
+sys.path.insert(0, os.path.dirname(os.path.abspath(__file__)))
+import programs
 
 D, E, C = 16, 8, 16384
 POOL, HEADS, FRAMES, SETUPS = 0x100000, 0x200000, 0x300000, 0x400000
@@ -260,7 +263,8 @@ def make():
 def compare(program):
     """How many sheets there were, and how many were printed otherwise."""
     many = list(cases())
-    printed = lambda data: subprocess.run([program], input=data, capture_output=True).stdout.decode()
+    words = programs.words(program)
+    printed = lambda data: subprocess.run(words, input=data, capture_output=True).stdout.decode()
     differ = [data for data in many if printed(data) != listing(data)]
     for data in differ[:3]:
         print("differs:", data.hex())

@@ -1,17 +1,14 @@
 // One life of a request, over and over: submit, the controller's writeback, collect (unlinks), acknowledge, drain, collect
 // (finishes), through the port and through plain C on states and rows of their own.
 //   bench same              both sides at once, every state and row word and every answer compared after each call
-//   bench count SIDE N K    K lives of a request with N descriptors (0: control), for callgrind: the m_* functions.
+//   bench count SIDE N K    K lives of a request with N descriptors (0: control), to be counted: the m_* functions.
 //                           SIDE is plain, port (`apply`) or named (submit by its named call, the rest by `apply`)
 //   bench time SIDE N K     the same, timed call by call
 //   bench stack SIDE N      bytes of stack below the caller, the deepest byte written
 //   copies copies SIDE N    calls of memcpy in a call, and their bytes (the same program linked with copies.c)
+#include "libc.h"
 #include "plain.h"
 #include "port.h"
-#include <stdio.h>
-#include <stdlib.h>
-#include <string.h>
-#include <x86intrin.h>
 
 enum { D = 256, E = 8, LIMIT = 16384 };
 
@@ -220,8 +217,8 @@ static void times(struct side *x, call_on *const *on, u64 n, u64 lives)
         took[step] = malloc(lives * sizeof(u64));
     for (int i = 0; i < 1000; i++) {
         unsigned aux;
-        u64 t = __rdtscp(&aux);
-        u64 u = __rdtscp(&aux) - t;
+        u64 t = __builtin_ia32_rdtscp(&aux);
+        u64 u = __builtin_ia32_rdtscp(&aux) - t;
         empty = u < empty ? u : empty;
     }
     open_side(x);
@@ -231,9 +228,9 @@ static void times(struct side *x, call_on *const *on, u64 n, u64 lives)
         plan(a, n, id, 0);
         for (int step = 0; step < STEPS; step++) {
             unsigned aux;
-            u64 t = __rdtscp(&aux);
+            u64 t = __builtin_ia32_rdtscp(&aux);
             on[step](x, &a[step], &out);
-            took[step][id - 1] = __rdtscp(&aux) - t - empty;
+            took[step][id - 1] = __builtin_ia32_rdtscp(&aux) - t - empty;
             expect(step, &out);
             if (step == 1)
                 controller(x, n, 0);

@@ -1,6 +1,7 @@
 // Document 01's calls on one controller, done by 000's own functions. What 000 lacks or does otherwise is put right here,
 // each time under its tag, from the call and 000's own state.
 use std::cell::UnsafeCell;
+use std::mem::offset_of;
 
 use super::super::hub::{HubInfo, PortEvent, PortState};
 use super::*;
@@ -318,12 +319,15 @@ pub(super) fn words_of_head(head: &QueueHead) -> [u32; 17] {
     words
 }
 
-/// K1: by name, or, left out, as they stand in memory.
+/// K1: by name, or, left out, as they stand in memory. Then the gap before the overlay is shown as 0: it holds what the
+/// compiler of this processor leaves there.
 fn head_words(head: &CoherentBox<QueueHead>) -> [u32; 17] {
     if tags::stands("K1") {
         words_of_head(&head.read_cpu())
     } else {
-        unsafe { *(head.as_ptr().as_ptr() as *const [u32; 17]) }
+        let mut words = unsafe { *(head.as_ptr().as_ptr() as *const [u32; 17]) };
+        words[4..offset_of!(QueueHead, overlay) / 4].fill(0);
+        words
     }
 }
 

@@ -1,12 +1,22 @@
-//! The controller's registers: one page that traps. Each access of 000 faults; the handler opens the page, lets the one
-//! instruction run by itself (the trap flag of x86-64), notes it and closes the page again. So every read and every write
-//! is seen, in order, with its value. A read has the value that the page holds, or, in a stepped function, the value that
-//! its next step is given.
+//! The controller's registers: one page that traps. Each access of 000 faults; the handler opens the page, has the one
+//! instruction carried out (how, is the processor's: `regs/`), notes it and closes the page again. So every read and every
+//! write is seen, in order, with its value. A read has the value that the page holds, or, in a stepped function, the value
+//! that its next step is given.
 use std::any::Any;
 use std::ffi::{c_int, c_void};
 use std::ptr::NonNull;
 use std::sync::mpsc::{Receiver, Sender, channel};
 use std::thread::JoinHandle;
+
+/// It can be tested on any processor.
+#[cfg(all(test, not(target_arch = "aarch64")))]
+#[path = "regs/aarch64.rs"]
+#[allow(dead_code)]
+mod aarch64;
+#[cfg_attr(all(target_os = "linux", target_arch = "x86_64"), path = "regs/x86_64.rs")]
+#[cfg_attr(all(target_os = "linux", target_arch = "aarch64"), path = "regs/aarch64.rs")]
+#[cfg_attr(not(all(target_os = "linux", any(target_arch = "x86_64", target_arch = "aarch64"))), path = "regs/other.rs")]
+mod processor;
 
 pub const USBCMD: u32 = 0x00;
 pub const USBSTS: u32 = 0x04;
@@ -25,17 +35,11 @@ pub enum Access {
 const CAPLENGTH: usize = 0x20;
 const PAGE: usize = 4096;
 
-const SIGTRAP: c_int = 5;
 const SIGSEGV: c_int = 11;
 const SA_SIGINFO: c_int = 4;
 const SA_NODEFER: c_int = 0x4000_0000;
 const OPEN: c_int = 3;
 const CLOSED: c_int = 0;
-/// The saved registers in a ucontext, and two of them.
-const GREGS: usize = 40;
-const REG_EFL: usize = 17;
-const REG_ERR: usize = 19;
-const TRAP_FLAG: u64 = 0x100;
 
 #[repr(C)]
 struct SigAction {
@@ -55,7 +59,7 @@ unsafe extern "C" {
 struct Page {
     base: *mut u8,
     trapping: bool,
-    /// The access that is being stepped over: offset, and whether it writes.
+    /// The access that is being carried out: offset, and whether it writes.
     current: Option<(u32, bool)>,
     /// In a stepped function: to say that a read has come, and to be given its value.
     stepped: Option<(Sender<Stop>, Receiver<u32>)>,
@@ -72,10 +76,6 @@ fn page() -> &'static mut Page {
 
 fn protect(protection: c_int) {
     unsafe { mprotect(page().base as *mut c_void, PAGE, protection) };
-}
-
-unsafe fn saved(context: *mut c_void, register: usize) -> *mut u64 {
-    unsafe { (context as *mut u8).add(GREGS + 8 * register) as *mut u64 }
 }
 
 fn word(offset: u32) -> *mut u32 {
@@ -104,26 +104,32 @@ unsafe extern "C" fn on_fault(_: c_int, info: *mut u8, context: *mut c_void) {
             _exit(139);
         }
         let offset = (at - base - CAPLENGTH) as u32;
-        let writes = *saved(context, REG_ERR) & 2 != 0;
+        let writes = processor::writes(context);
         let reading = if writes { None } else { awaited(offset) };
         protect(OPEN);
         if let Some(reading) = reading {
             *word(offset) = reading;
         }
         page().current = Some((offset, writes));
-        *saved(context, REG_EFL) |= TRAP_FLAG;
+        if processor::carry_out(context, word(offset)) {
+            noted();
+        }
     }
 }
 
-unsafe extern "C" fn on_step(_: c_int, _: *mut u8, context: *mut c_void) {
-    unsafe {
-        *saved(context, REG_EFL) &= !TRAP_FLAG;
-        if let Some((offset, writes)) = page().current.take() {
-            let value = *word(offset);
-            page().trace.push(if writes { Access::Write(offset, value) } else { Access::Read(offset, value) });
-            protect(CLOSED);
-        }
+/// The access has been carried out.
+fn noted() {
+    if let Some((offset, writes)) = page().current.take() {
+        let value = unsafe { *word(offset) };
+        page().trace.push(if writes { Access::Write(offset, value) } else { Access::Read(offset, value) });
+        protect(CLOSED);
     }
+}
+
+fn handle(signal: c_int, handler: unsafe extern "C" fn(c_int, *mut u8, *mut c_void)) {
+    let handler = handler as *const () as usize;
+    let action = SigAction { handler, mask: [0; 16], flags: SA_SIGINFO | SA_NODEFER, restorer: 0 };
+    assert_eq!(unsafe { sigaction(signal, &action, std::ptr::null_mut()) }, 0);
 }
 
 fn prepare() {
@@ -131,6 +137,7 @@ fn prepare() {
         if !THE_PAGE.is_null() {
             return;
         }
+        processor::prepare();
         let base = mmap(std::ptr::null_mut(), PAGE, OPEN, 0x22, -1, 0);
         assert!(base as isize != -1);
         THE_PAGE = Box::leak(Box::new(Page {
@@ -141,12 +148,8 @@ fn prepare() {
             alone: 0,
             trace: Vec::new(),
         }));
-        for (signal, handler) in [(SIGSEGV, on_fault as *const ()), (SIGTRAP, on_step as *const ())] {
-            let action =
-                SigAction { handler: handler as usize, mask: [0; 16], flags: SA_SIGINFO | SA_NODEFER, restorer: 0 };
-            assert_eq!(sigaction(signal, &action, std::ptr::null_mut()), 0);
-        }
     }
+    handle(SIGSEGV, on_fault);
 }
 
 /// Registers of 0 and a controller with so many ports.
