@@ -2,7 +2,7 @@
 
 from model.answers import ENDPOINT, FULL, INVALID, MEMORY, NOT_READY, UNSUPPORTED, Answer, need
 from model.descriptors import END, OVERLAY, descriptor, setup_packet
-from model.registers import RUN, command as command_write
+from model.registers import RUN_BITS, command as command_write
 from model.schedule import attach
 from model.state import LINKED
 from model.tokens import CONTROL, ISOCHRONOUS, chunk_plan, control_plan, descriptors_needed
@@ -60,7 +60,7 @@ def submit(state, rows, k, kind, direction, setup, address, length, command):
     rows.set_head(k, [settings.descriptor_address(places[0]), END, 0], OVERLAY)
     attach(state, rows, k)
     request = hold_request(slot, direction, length)
-    return Answer(values=(request,), writes=(command_write(command | RUN),), places=tuple(places))
+    return Answer(values=(request,), writes=(command_write(command | RUN_BITS),), places=tuple(places))
 
 
 def writeback(state, rows, place, token):
