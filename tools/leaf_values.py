@@ -1,15 +1,14 @@
 """The records that the program `leaf_checks` is run on, and what it must print (`tools/cases` writes both).
 
 A record is five numbers of 64 bits: a function of register, token or descriptor, and what it is given. What is printed is
-the model's (tools/model), written from 01, and EHCI's tables; 01's examples are copied from 01 and held to the model. A
-result is hexadecimal, of 8 digits or more."""
+the model's (tools/model), written from 01, and EHCI's tables. A result is hexadecimal, of 8 digits or more."""
 
 import random, struct
 from itertools import product
 
-from model import descriptors, tokens
+from model import descriptors, registers, tokens
 from model.registers import field, port_register, with_field
-from model.tokens import BULK, IN, OUT, SETUP, Part, token
+from model.tokens import BULK, IN, OUT, Part, token
 
 FLAGS, BACKGROUNDS, TOP = (0, 1), (0, 2**32 - 1), 2**32
 
@@ -114,21 +113,12 @@ def writes(value):
 def tables():
     """The registers' offsets, PORTSC's last; then the bits of USBCMD, USBSTS, USBINTR and PORTSC, in EHCI's order."""
     named = [0, 1, 4, 5, 6], [0, 1, 2, 3, 4, 5, 12], [0, 1, 2, 5], [0, 1, 2, 3, 5, 8, 12, 13]
-    return [0x00, 0x04, 0x08, 0x0C, 0x10, 0x14, 0x18, 0x40, 0x44] + [2**bit for bits in named for bit in bits]
+    return [*registers.OFFSETS, port_register(1)] + [2**bit for bits in named for bit in bits]
 
 
 def order():
     """Link, characteristics, capabilities, current, then the words of the overlay in a descriptor's order."""
     return list(range(17))
-
-
-EXAMPLES = [
-    (token(SETUP, 8), 0x00080E80), (token(IN, 18, 0, 1), 0x80120D80), (token(IN, 16384), 0x40000D80),
-    (token(IN, 16384, 1), 0x40008D80), (token(OUT, 0, 1), 0x00008C80), (slots(0xFFFFFFFF, 1), [0xFFFFFFFF, 0, 0, 0, 0]),
-    (slots(0x10000FFF, 16384), [0x10000FFF, 0x10001000, 0x10002000, 0x10003000, 0x10004000]),
-    (head(BULK, 5, 1, 512)[1], 0xF2002105), (control(IN, 18), [0x00080E80, 0x80120D80, 0x80008C80]),
-    (slots(0x10000FFF, 18), [0x10000FFF, 0x10001000, 0, 0, 0]),
-]  # fmt: skip
 
 
 # ---- the records: of each function its number and what it is given
@@ -169,8 +159,6 @@ TABLE = [
 
 def files():
     """The stored cases, by their names in the repository."""
-    for value, example in EXAMPLES:
-        assert value == example, f"01's example {example} is {value} in the model"
     given, out = [], []
     for number, function, cases in TABLE:
         for case in cases:

@@ -92,7 +92,7 @@ class Checks:
         """A refused opening gives a state and a record that no call accepts."""
         answer = self.world.open(settings)
         if answer.number != DONE:
-            self.world.close()
+            self.world.lose()
         return answer
 
     def call(self, number, small, numbers):

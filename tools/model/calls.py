@@ -37,13 +37,14 @@ ON_ROWS = {
 
 
 class World:
-    """Before an opening is accepted, the state and the record are those that a refused opening gives."""
+    """Rows and, once an opening is accepted, a controller."""
 
     def __init__(self, rows):
         self.rows, self.lent = rows, [0] * 4
-        self.close()
+        self.lose()
 
-    def close(self):
+    def lose(self):
+        """The constants of a refused opening, which no call accepts."""
         self.state, self.hub = State(), Hub()
 
     def open(self, settings):

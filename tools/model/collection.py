@@ -37,7 +37,7 @@ def first_erring(tokens):
 def moved(slot, limit, tokens):
     """The sum over data descriptors of max(0, requested - bytes left)."""
     requested = data_bytes(slot.kind, slot.length, limit)
-    return sum(max(0, size - bytes_left(token)) for size, token in zip(requested, tokens) if size > 0)
+    return sum(max(0, size - bytes_left(token)) for size, token in zip(requested, tokens))
 
 
 def see(state, rows, k):
@@ -58,7 +58,8 @@ def cancel(state, rows, k, id, command, frame):
     slot = state.slots[k]
     need(slot.uncollected(), ENDPOINT)
     need(slot.request == id, ENDPOINT)
-    writes = unlink(state, rows, k, command, frame) if slot.phase == LINKED else ()
+    linked = slot.phase == LINKED
+    writes = unlink(state, rows, k, command, frame) if linked else ()
     slot.cancel = 1
     return Answer(writes=writes)
 

@@ -60,8 +60,8 @@ def slot_good(state, slot):
 
 def slots_good(state):
     """Slots from E on are closed."""
-    opened = state.slots[state.settings.E :]
-    return all(slot.phase == CLOSED for slot in opened) and all(slot_good(state, slot) for slot in state.slots)
+    beyond = state.slots[state.settings.E :]
+    return all(slot.phase == CLOSED for slot in beyond) and all(slot_good(state, slot) for slot in state.slots)
 
 
 def owners_good(state):

@@ -10,6 +10,10 @@ UNINIT, RESETED, PROBED = range(3)
 NO_EVENT, CONNECTED, DISCONNECTED = range(3)
 # what a scan awaits of its port
 STATUS, GONE, RESET, RELEASE, AGAIN, OWNER = range(1, 7)
+# the states of a port of which that can be awaited
+FITTING = {
+    STATUS: (UNINIT, RESETED, PROBED), GONE: (PROBED,), RESET: (UNINIT,), RELEASE: (UNINIT,), AGAIN: (RESETED,), OWNER: (RESETED,),
+}  # fmt: skip
 
 # bits of a port's register
 IS_CONNECTED, CONNECT_CHANGE, IS_ENABLED = 1, 2, 4
@@ -23,8 +27,7 @@ def hub_good(hub):
         return False
     if hub.port == 0:
         return hub.step == 0
-    fits = {STATUS: (UNINIT, RESETED, PROBED), GONE: (PROBED,), RESET: (UNINIT,), RELEASE: (UNINIT,), AGAIN: (RESETED,), OWNER: (RESETED,)}
-    return hub.port <= hub.ports and hub.states[hub.port - 1] in fits.get(hub.step, ())
+    return hub.port <= hub.ports and hub.states[hub.port - 1] in FITTING.get(hub.step, ())
 
 
 def await_at(hub, step, wait=0, writes=()):
@@ -41,6 +44,10 @@ def go_on(hub, event=NO_EVENT, writes=()):
         return Answer(values=(None, 0, *happened), writes=writes)
     hub.port, hub.step = hub.port + 1, STATUS
     return Answer(values=(port_register(hub.port), 0, *happened), writes=writes)
+
+
+def port_write(port, value):
+    return ((port_register(port), value),)
 
 
 def set_state(hub, state):
@@ -77,20 +84,20 @@ def again(hub, v):
 
 def gone(hub, v):
     set_state(hub, UNINIT)
-    return go_on(hub, DISCONNECTED, [(port_register(hub.port), without(v | CONNECT_CHANGE, OTHER_CHANGES))])
+    return go_on(hub, DISCONNECTED, port_write(hub.port, without(v | CONNECT_CHANGE, OTHER_CHANGES)))
 
 
 def reset(hub, v):
-    return await_at(hub, RELEASE, 50, [(port_register(hub.port), without(v | POWER | IN_RESET, CHANGES))])
+    return await_at(hub, RELEASE, 50, port_write(hub.port, without(v | POWER | IN_RESET, CHANGES)))
 
 
 def release(hub, v):
     set_state(hub, RESETED)
-    return await_at(hub, AGAIN, 20, [(port_register(hub.port), without(v, IN_RESET))])
+    return await_at(hub, AGAIN, 20, port_write(hub.port, without(v, IN_RESET)))
 
 
 def owner(hub, v):
-    return go_on(hub, writes=[(port_register(hub.port), v | OWNED)])
+    return go_on(hub, writes=port_write(hub.port, v | OWNED))
 
 
 TURNS = {STATUS: status, GONE: gone, RESET: reset, RELEASE: release, AGAIN: again, OWNER: owner}
@@ -103,4 +110,4 @@ def scan_step(hub, v):
 
 def port_power(hub, port, v):
     need(1 <= port <= hub.ports, INVALID)
-    return Answer(values=(None, 20, NO_EVENT, 0), writes=[(port_register(port), without(v | POWER, CHANGES))])
+    return Answer(values=(None, 20, NO_EVENT, 0), writes=port_write(port, without(v | POWER, CHANGES)))
