@@ -34,8 +34,8 @@ def settings_good(settings):
     return aligned and below and areas_apart(settings)
 
 
-def request_empty(slot):
-    return slot.request == slot.direction == slot.length == slot.cancel == slot.boundary == 0
+def request_empty(state, slot):
+    return slot.request == slot.direction == slot.length == slot.cancel == state.still_to_come(slot) == 0
 
 
 def request_good(state, slot):
@@ -50,11 +50,11 @@ def request_good(state, slot):
 
 def slot_good(state, slot):
     if slot.phase == CLOSED:
-        return slot.kind == 0 and slot.id == 1 and request_empty(slot)
+        return slot.kind == 0 and slot.id == 1 and request_empty(state, slot)
     if slot.kind not in (CONTROL, BULK, INTERRUPT) or slot.id < 1:
         return False
     if slot.phase == IDLE:
-        return request_empty(slot)
+        return request_empty(state, slot)
     return slot.phase in (LINKED, UNLINKING) and request_good(state, slot)
 
 
