@@ -1,80 +1,87 @@
 #!/usr/bin/env python3
 """A port with one fault planted: tools/compare_faults.py N reads a log and writes blocks as `replay` does, each before the
-next record is read. It is the model of 01 (log_model.py) with the N-th change below made to its text; 0 for none.
-`tools/compare --fault N` must find each."""
-import os, sys
+next record is read. It is the model of 01 (model/) with the N-th change below made to the text of one module, in memory; 0
+for none. `tools/compare --fault N` must find each."""
+import importlib.util, os, sys
 
-MODEL = os.path.join(os.path.dirname(os.path.abspath(__file__)), "log_model.py")
+sys.path.insert(0, os.path.dirname(os.path.abspath(__file__)))
+import model
 
-# the fault in words, the model's text, the text in its place
+# the fault in words, the module, its text, the text in its place
 FAULTS = [
-    ("an unlink distance of 8 passes", "% 16384 >= 9", "% 16384 >= 8"),
-    ("an error counts after an active token", "                if word & 128:\n                    return PENDING, None, []\n                if word & 0x78:\n                    break", "                if any(w & 0x78 for w in tokens):\n                    break\n                if word & 128:\n                    return PENDING, None, []"),
-    ("an error does not end the wait", "                if word & 0x78:\n                    break\n", ""),
-    ("error means bit 6 alone at collection", "            if word & 0x78:\n                return FAILED, word, []", "            if word & 0x40:\n                return FAILED, word, []"),
-    ("the last erring token is given", "for word in tokens:\n            if word & 0x78:\n                return FAILED", "for word in reversed(tokens):\n            if word & 0x78:\n                return FAILED"),
-    ("more bytes left than asked for are taken off", "max(0, n - (word >> 16 & 0x7FFF))", "n - (word >> 16 & 0x7FFF)"),
-    ("the length comes from the request", "sum(max(0, n - (word >> 16 & 0x7FFF)) for n, word in zip(asked, tokens))", "sum(asked)"),
-    ("a later chunk starts with toggle 1", "i + 1 == len(sizes), False)", "i + 1 == len(sizes), i > 0)"),
-    ("every chunk interrupts", "token(direction, size, i + 1 == len(sizes), False)", "token(direction, size, True, False)"),
-    ("the second chunk starts at the buffer's start", "slots(address + self.C * i, size)", "slots(address, size)"),
-    ("one frame entry is written at submit", "self.rows.frames[:] = [self.head(k + 1) + 2] * 1024", "self.rows.frames[0] = self.head(k + 1) + 2"),
-    ("one frame entry is left at an unlink", "self.rows.frames[:] = [link] * 1024", "self.rows.frames[:1023] = [link] * 1023"),
-    ("the status stage has the data's direction", "status = OUT if direction == IN and length > 0 else IN", "status = direction if length > 0 else IN"),
-    ("the setup packet says length 0", 'struct.pack("<H", length)', 'struct.pack("<H", 0)'),
-    ("five full pages from any address", "page + 4096 * i if page + 4096 * i < address + length else 0", "page + 4096 * i & 0xFFFFFFFF"),
-    ("a port change clears the advance", "self.pending &= ~4\n", "self.pending &= ~0x24\n"),
-    ("one advance is counted twice", "            self.note, self.bell = False, False\n", "            self.note, self.bell = bool(self.pending & 4), False\n"),
-    ("an advance counts that nobody rang for", "if p & 0x20 and self.bell:", "if p & 0x20:"),
-    ("a ring while the doorbell is up", "if not self.bell and self.made > self.answered:", "if self.made > self.answered:"),
-    ("no ring after a drain", "            writes = self.ring_if_due(command)\n        if self.pending & 4:", "        if self.pending & 4:"),
-    ("bit 3 of USBSTS is acknowledged", "p = status & 0x37", "p = status & 0x3F"),
-    ("the second flag reading is not looked at", "if first != second:", "if False:"),
-    ("rearm writes with nothing masked", "        if self.masked == 0:\n            return []\n", ""),
-    ("Stopped stays pending", "        self.pending = 0\n        return (3, 0), writes", "        return (3, 0), writes"),
-    ("cancel does not mark once the unlink has begun", "request.cancelled = True", "request.cancelled = request.cancelled or request.boundary is None"),
-    ("a request is collected one answer early", "passed = self.answered >= request.boundary", "passed = self.answered + 1 >= request.boundary"),
-    ("an unlinked head points nowhere", "        self.ring.remove(k)\n", "        self.ring.remove(k)\n        self.rows.heads[k + 1][0] = 1\n"),
-    ("a head goes in last", "own[0] = self.rows.heads[0][0]", "own[0] = self.head(0) + 2"),
-    ("a small packet size is raised at opening", "word = address + number * 256 + 8192 + packet * 65536", "word = address + number * 256 + 8192 + max(packet, 8) * 65536"),
-    ("set packet size does not raise", "max(size, 8) << 16", "size << 16"),
-    ("an interrupt head has no mask", "2**30 + (1 if kind == INTERRUPT else 0)", "2**30"),
-    ("close leaves the head", "            self.rows.heads[k + 1] = [0] * 17\n", ""),
-    ("freed descriptors are zeroed", "        self.free = sorted(self.free + request.places)\n", "        self.free = sorted(self.free + request.places)\n        for p in request.places:\n            self.rows.pool[p] = [0] * 13\n"),
-    ("the highest free descriptors are taken", "places, self.free = self.free[: len(chain)], self.free[len(chain) :]", "places, self.free = self.free[-len(chain) :], self.free[: -len(chain)]"),
-    ("opening keeps the setup packets", "            rows.setups[k] = bytes(8)\n", "            pass\n"),
-    ("a wrong id is asked before nothing uncollected", "        if not self.busy(k):\n            return PENDING, None, []\n", "        if not self.busy(k):\n            return (PENDING if id == slot.next - 1 else ENDPOINT), None, []\n"),
-    ("room is asked before the ranges", "        if length > 0 and address + length > 2**32:", "        if self.need(kind, length) > len(self.free):\n            return MEMORY, None, []\n        if length > 0 and address + length > 2**32:"),
-    ("the kind is asked before busy", "        if self.busy(k):\n            return FULL, None, []\n        if kind == ISOCHRONOUS:", "        if kind != slot.kind:\n            return ENDPOINT, None, []\n        if self.busy(k):\n            return FULL, None, []\n        if kind == ISOCHRONOUS:"),
-    ("an id is used up by a refusal for room", "        if self.need(kind, length) > len(self.free):\n            return", "        if self.need(kind, length) > len(self.free):\n            slot.next += 1\n            return"),
-    ("the reads of all waits are counted together", "        self.waited = 0\n        if self.phase == 6:", "        if self.phase == 6:"),
-    ("bring-up's last write rings", "[(USBCMD, (v | 0x31) & ~BELL)],", "[(USBCMD, v | 0x31)],"),
-    ("running from the write on", "            self.running, self.phase = 1, 0\n            return DONE, (None, 100), writes\n        self.phase += 1", "            self.running, self.phase = 1, 0\n            return DONE, (None, 100), writes\n        self.running = int(self.phase == 5)\n        self.phase += 1"),
-    ("bring-up leaves the flag", "self.running, self.phase, self.waited, self.flag = 0, 1, 0, 0", "self.running, self.phase, self.waited = 0, 1, 0"),
-    ("a lost port is reset again", "            if state == 1 and connected:", "            if state == 1 and connected and v & 2:\n                return DONE, self.go(\"reset\"), (0, 0), []\n            if state == 1 and connected:"),
-    ("an unplugged port changes with its first reading", "                return DONE, self.go(\"gone\"), (0, 0), []", "                self.states[port - 1] = 0\n                return DONE, self.go(\"gone\"), (0, 0), []"),
-    ("the reset keeps the change bits", "(v | 0x1100) & ~0x2A", "v | 0x1100"),
-    ("address 128 is given", "if self.address > 127:", "if self.address > 128:"),
-    ("a refused opening closes the controller", "            if not good(settings):\n", "            if not good(settings):\n                self.controller = self.hub = None\n"),
-    ("a number too large is taken", "if any(n[i] >> bits for i", "if any(n[i] >> bits + 1 for i"),
+    ("an unlink distance of 8 passes", "schedule", "% 16384 >= 9", "% 16384 >= 8"),
+    ("an error counts after an active token", "collection", "        if active(token):\n            return False\n", "        if active(token):\n            return first_erring(tokens) != 0\n"),
+    ("an error does not end the wait", "collection", "        if has_error(token):\n            return True\n", ""),
+    ("error means bit 6 alone at collection", "collection", "        if has_error(token):\n            return token\n", "        if token & 0x40:\n            return token\n"),
+    ("the last erring token is given", "collection", "    for token in tokens:\n        if has_error(token):\n            return token\n", "    for token in reversed(tokens):\n        if has_error(token):\n            return token\n"),
+    ("more bytes left than asked for are taken off", "collection", "sum(max(0, size - bytes_left(token))", "sum(size - bytes_left(token)"),
+    ("the length comes from the request", "collection", "sum(max(0, size - bytes_left(token))", "sum(size"),
+    ("a later chunk starts with toggle 1", "tokens", "interrupt=i == last)", "interrupt=i == last, toggle=i > 0)"),
+    ("every chunk interrupts", "tokens", "interrupt=i == last)", "interrupt=True)"),
+    ("the second chunk starts at the buffer's start", "tokens", "address + limit * i, size)", "address, size)"),
+    ("one frame entry is written at submit", "schedule", "        rows.set_frames(own)\n", "        rows.frames[0] = own\n"),
+    ("one frame entry is left at an unlink", "schedule", "        rows.set_frames(link)\n", "        rows.frames[:1023] = [link] * 1023\n"),
+    ("the status stage has the data's direction", "tokens", "OUT if direction == IN and length > 0 else IN", "direction if length > 0 else IN"),
+    ("the setup packet says length 0", "descriptors", 'length.to_bytes(2, "little")', "bytes(2)"),
+    ("five full pages from any address", "descriptors", "page if page < address + length else 0", "page & 0xFFFFFFFF"),
+    ("a port change clears the advance", "interrupts", "        state.pending &= ~PORT_BIT\n", "        state.pending &= ~(PORT_BIT | ADVANCE)\n"),
+    ("one advance is counted twice", "schedule", "    state.noted = state.doorbell = 0\n", "    state.noted, state.doorbell = int(state.pending & 4 != 0), 0\n"),
+    ("an advance counts that nobody rang for", "interrupts", "if p & ADVANCE and state.doorbell:", "if p & ADVANCE:"),
+    ("a ring while the doorbell is up", "schedule", "if state.doorbell or state.unanswered() == 0:", "if state.unanswered() <= 0:"),
+    ("no ring after a drain", "schedule", "    state.answered += 1\n    return ring_if_due(state, command)\n", "    state.answered += 1\n    return ()\n"),
+    ("bit 3 of USBSTS is acknowledged", "interrupts", "p = status & TAKEN", "p = status & 0x3F"),
+    ("the second flag reading is not looked at", "interrupts", "if first != second:", "if False:"),
+    ("rearm writes with nothing masked", "interrupts", "    if state.masked == 0:\n        return Answer()\n", ""),
+    ("Stopped stays pending", "interrupts", "    state.pending = 0\n    return STOPPED\n", "    return STOPPED\n"),
+    ("cancel does not mark once the unlink has begun", "collection", "    slot.cancel = 1\n    return Answer(writes=writes)\n", "    slot.cancel |= linked\n    return Answer(writes=writes)\n"),
+    ("a request is collected one answer early", "schedule", "state.answered >= slot.boundary", "state.answered + 1 >= slot.boundary"),
+    ("an unlinked head points nowhere", "schedule", "    state.unlinks += 1\n", "    state.unlinks += 1\n    rows.set_head(k, [1], LINK)\n"),
+    ("a head goes in last", "schedule", "rows.set_head(k, [rows.head_word(RING, LINK)], LINK)", "rows.set_head(k, [link_value(state.settings.head_address(RING))], LINK)"),
+    ("a small packet size is raised at opening", "descriptors", "packet * 65536", "max(packet, 8) * 65536"),
+    ("set packet size does not raise", "descriptors", "with_field(word, 16, 11, max(size, 8))", "with_field(word, 16, 11, size)"),
+    ("an interrupt head has no mask", "descriptors", "2**30 + (1 if kind == INTERRUPT else 0)", "2**30"),
+    ("close leaves the head", "endpoints", "    rows.set_head(k, [0] * HEAD_WORDS)\n", ""),
+    ("freed descriptors are zeroed", "collection", "    cancelled = slot.cancel\n", "    cancelled = slot.cancel\n    for place in state.places_of(k):\n        rows.pool[place] = type(rows.pool[place])()\n"),
+    ("the highest free descriptors are taken", "requests", "state.free_places()[:count]", "state.free_places()[-count:]"),
+    ("opening keeps the setup packets", "opening", "        rows.set_setup(k, bytes(8))\n", "        pass\n"),
+    ("a wrong id is asked before nothing uncollected", "collection", "        return Answer(PENDING)\n    need(slot.request == id, ENDPOINT)\n", "        need(id == slot.id - 1, ENDPOINT)\n        return Answer(PENDING)\n    need(slot.request == id, ENDPOINT)\n"),
+    ("room is asked before the ranges", "requests", "    need(buffer_good(", "    need(len(state.free_places()) >= descriptors_needed(kind, length, settings.C), MEMORY)\n    need(buffer_good("),
+    ("the kind is asked before busy", "requests", "    need(not slot.uncollected(), FULL)\n", "    need(kind == slot.kind, ENDPOINT)\n    need(not slot.uncollected(), FULL)\n"),
+    ("an id is used up by a refusal for room", "requests", "    need(len(state.free_places()) >= count, MEMORY)\n", "    slot.id += len(state.free_places()) < count\n    need(len(state.free_places()) >= count, MEMORY)\n"),
+    ("the reads of all waits are counted together", "bring_up", "    state.waited = 0\n    if state.step == STARTING:", "    if state.step == STARTING:"),
+    ("bring-up's last write rings", "bring_up", "(command(v | RUN_BITS),)", "((USBCMD, v | RUN_BITS),)"),
+    ("running from the write on", "bring_up", "    state.step += 1\n", "    state.step += 1\n    state.running = int(state.step == STARTING)\n"),
+    ("bring-up leaves the flag", "bring_up", "state.running, state.step, state.waited, state.enabled = 0, STOP, 0, 0", "state.running, state.step, state.waited = 0, STOP, 0"),
+    ("a lost port is reset again", "root_hub", "    if state == RESETED and connected:\n", "    if state == RESETED and connected and v & 2:\n        return await_at(hub, RESET)\n    if state == RESETED and connected:\n"),
+    ("an unplugged port changes with its first reading", "root_hub", "        return await_at(hub, GONE)\n", "        set_state(hub, UNINIT)\n        return await_at(hub, GONE)\n"),
+    ("the reset keeps the change bits", "root_hub", "without(v | POWER | IN_RESET, CHANGES)", "v | POWER | IN_RESET"),
+    ("address 128 is given", "endpoints", "need(state.address <= 127, LIMIT)", "need(state.address <= 128, LIMIT)"),
+    ("a refused opening closes the controller", "blocks", "            self.world.lent = kept\n", "            self.world.lose()\n            self.opened = False\n"),
+    ("a number too large is taken", "records", "numbers[i] >> bits for", "numbers[i] >> bits + 1 for"),
 ]  # fmt: skip
 
 
-def model(n):
-    """The model's names, with the n-th fault."""
-    text = open(MODEL).read()
-    if n > 0:
-        name, old, new = FAULTS[n - 1]
-        if text.count(old) != 1:
-            sys.exit(f"fault {n}, {name}: its place is in the model {text.count(old)} times")
-        text = text.replace(old, new)
-    names = {"__name__": "log_model"}
-    exec(compile(text, MODEL, "exec"), names)
-    return names
+def plant(n):
+    """The n-th fault in its module, before any other module has it."""
+    name, module, old, new = FAULTS[n - 1]
+    spec = importlib.util.find_spec(f"model.{module}")
+    text = spec.loader.get_source(spec.name)
+    if text.count(old) != 1:
+        sys.exit(f"fault {n}, {name}: its place is in model/{module}.py {text.count(old)} times")
+    planted = importlib.util.module_from_spec(spec)
+    sys.modules[spec.name] = planted
+    setattr(model, module, planted)
+    exec(compile(text.replace(old, new), spec.origin, "exec"), planted.__dict__)
 
 
 def main():
-    keeper = model(int(sys.argv[1]))["Replay"]()
+    if len(sys.argv) != 2 or not sys.argv[1].isdigit() or int(sys.argv[1]) > len(FAULTS):
+        sys.exit(__doc__)
+    if n := int(sys.argv[1]):
+        plant(n)
+    from model.blocks import Replay
+
+    keeper = Replay()
     while record := sys.stdin.buffer.read(64):
         lines = keeper.block(record)
         sys.stdout.write("".join(line + "\n" for line in lines or [f"bad record {keeper.count}"]))

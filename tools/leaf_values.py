@@ -1,42 +1,32 @@
-#!/usr/bin/env python3
-"""The records that the program `leaf_checks` is run on, and what it must print: tools/leaf_values.py --make
+"""The records that the program `leaf_checks` is run on, and what it must print (`tools/cases` writes both).
 
 A record is five numbers of 64 bits: a function of register, token or descriptor, and what it is given. What is printed is
-computed from the formulas of document 01 and the tables of EHCI 1.0, not from the code; 01's examples are copied from it
-and held to the formulas. A result is hexadecimal, of 8 digits or more."""
+the model's (tools/model), written from 01, and EHCI's tables. A result is hexadecimal, of 8 digits or more."""
 
-import os, random, struct, sys
+import random, struct
 from itertools import product
 
-OUT, IN, SETUP = range(3)
-CONTROL, ISOCHRONOUS, BULK, INTERRUPT = range(4)
+from model import descriptors, registers, tokens
+from model.registers import field, port_register, with_field
+from model.tokens import BULK, IN, OUT, Part, token
+
 FLAGS, BACKGROUNDS, TOP = (0, 1), (0, 2**32 - 1), 2**32
 
 
-def field(value, low, width):
-    return value // 2**low % 2**width
-
-
-def with_field(value, low, width, content):
-    return value - field(value, low, width) * 2**low + content * 2**low
-
-
-# Register bits, tokens, plans and chunks (01, "Tokens and plans"; EHCI 3.5.3).
+# Register bits, tokens, plans and chunks.
 
 
 def bits(value, chosen):
+    """With the chosen bits, without them, only them, and whether any is there."""
     held = [(field(value, k, 1), field(chosen, k, 1)) for k in range(32)]
     word = lambda rule: sum(2**k for k, pair in enumerate(held) if rule(*pair))
     both = word(lambda a, b: a and b)
     return [word(lambda a, b: a or b), word(lambda a, b: a and not b), both, int(both > 0)]
 
 
-def token(pid, size, interrupt=0, toggle=0):
-    return pid * 256 + min(size, 32767) * 65536 + 3 * 1024 + 128 + interrupt * 32768 + toggle * 2**31
-
-
 def made(pid, size, interrupt, toggle):
-    return [pid * 256 + min(size, 32767) * 65536, token(pid, size, interrupt, toggle)]
+    """A token of pid and bytes alone; a fresh one, which has the error counter and active as well."""
+    return [token(pid, size) - 3 * 1024 - 128, token(pid, size, interrupt, toggle)]
 
 
 def changed(raw, count, flag):
@@ -45,12 +35,11 @@ def changed(raw, count, flag):
 
 
 def read(raw):
-    return [field(raw, 16, 15), field(raw, 7, 1), int(field(raw, 3, 4) != 0)]
+    return [tokens.bytes_left(raw), int(tokens.active(raw)), int(tokens.has_error(raw))]
 
 
 def control(direction, length):
-    data = [token(direction, length, 0, 1)] if length else []
-    return [token(SETUP, 8)] + data + [token(OUT if length and direction == IN else IN, 0, 1, 1)]
+    return [part.token for part in tokens.control_plan(direction, 0, 0, length)]
 
 
 def chunk(direction, size, last):
@@ -60,9 +49,9 @@ def chunk(direction, size, last):
 def chunked(kind, length, less):
     """The need, the chunks' number, and the list: at most 256, else it does not fit and is empty. C is one more than given."""
     limit = less + 1
-    count = -(-length // limit) if length else 1
-    sizes = [min(limit, length - limit * k) for k in range(count)] if count <= 256 else []
-    need = (3 if length else 2) if kind == CONTROL else count
+    count = tokens.descriptors_needed(BULK, length, limit)
+    sizes = tokens.chunks(length, limit) if count <= 256 else []
+    need = tokens.descriptors_needed(kind, length, limit)
     return [need, count, int(count <= 256), len(sizes)] + sizes + [0] * (256 - len(sizes))
 
 
@@ -71,54 +60,48 @@ def port(raw):
     return [connected, enabled, connected * enabled]
 
 
-# Descriptors, heads, links (01, "Descriptors, heads, links"; EHCI 3.5, 3.6; USB 9.3).
+# Descriptors, heads, links.
 
 
 def slots(address, length):
-    if length == 0:
-        return [0] * 5
-    pages = [address - address % 4096 + 4096 * i for i in range(1, 5)]
-    return [address] + [page if page < address + length else 0 for page in pages]
+    return list(descriptors.page_slots(address, length))
 
 
 def descriptor(raw, address, length, following):
+    """The lower five bits of an address are not part of a next (EHCI 3.5.1). Nothing where the buffer leaves memory."""
     if length and address + length > TOP:
         return []
-    after = following - following % 32 if length else 1
-    return [after, 1, raw] + slots(address, length) + [0] * 5
+    after = following - following % 32 if length else descriptors.END
+    return descriptors.descriptor(Part(raw, address, length), after).words()
 
 
 def setup(number, length):
-    return list(number.to_bytes(6, "little") + length.to_bytes(2, "little"))
-
-
-FRESH = [0, 1, 1] + [0] * 11
+    return list(descriptors.setup_packet(number, length))
 
 
 def head(kind, address, number, packet):
-    characteristics = address + number * 256 + 8192 + packet * 65536 + 15 * 2**28 + 16384 * (kind == CONTROL)
-    return [1, characteristics, 2**30 + (kind == INTERRUPT)] + FRESH
+    return descriptors.head(kind, address, number, packet)
 
 
 def ring(address):
-    """The lower five bits of an address are not part of a link (EHCI 3.5.1, 3.6)."""
+    """The lower five bits of an address are not part of a link (EHCI 3.6). Then a head's link, a next, and their end."""
     place = address - address % 32
-    return [place + 2, 0x00408000, 2**30] + FRESH + [place + 2, place, 1]
+    return descriptors.ring_head(place) + [descriptors.link_value(place), place, descriptors.END]
 
 
 def set_address(raw, address):
-    return [with_field(raw, 0, 7, address % 128)]
+    return [descriptors.with_address(raw, address % 128)]
 
 
 def set_packet_size(raw, size):
-    return [with_field(raw, 16, 11, max(size, 8))]
+    return [descriptors.with_packet_size(raw, size)]
 
 
 # Registers (EHCI 2.3).
 
 
 def port_offset(number):
-    return [0x44 + 4 * (number - 1)]
+    return [port_register(number)]
 
 
 def writes(value):
@@ -128,22 +111,14 @@ def writes(value):
 
 
 def tables():
+    """The registers' offsets, PORTSC's last; then the bits of USBCMD, USBSTS, USBINTR and PORTSC, in EHCI's order."""
     named = [0, 1, 4, 5, 6], [0, 1, 2, 3, 4, 5, 12], [0, 1, 2, 5], [0, 1, 2, 3, 5, 8, 12, 13]
-    return [0x00, 0x04, 0x08, 0x0C, 0x10, 0x14, 0x18, 0x40, 0x44] + [2**bit for bits in named for bit in bits]
+    return [*registers.OFFSETS, port_register(1)] + [2**bit for bits in named for bit in bits]
 
 
 def order():
     """Link, characteristics, capabilities, current, then the words of the overlay in a descriptor's order."""
     return list(range(17))
-
-
-EXAMPLES = [
-    (token(SETUP, 8), 0x00080E80), (token(IN, 18, 0, 1), 0x80120D80), (token(IN, 16384), 0x40000D80),
-    (token(IN, 16384, 1), 0x40008D80), (token(OUT, 0, 1), 0x00008C80), (slots(0xFFFFFFFF, 1), [0xFFFFFFFF, 0, 0, 0, 0]),
-    (slots(0x10000FFF, 16384), [0x10000FFF, 0x10001000, 0x10002000, 0x10003000, 0x10004000]),
-    (head(BULK, 5, 1, 512)[1], 0xF2002105), (control(IN, 18), [0x00080E80, 0x80120D80, 0x80008C80]),
-    (slots(0x10000FFF, 18), [0x10000FFF, 0x10001000, 0, 0, 0]),
-]  # fmt: skip
 
 
 # ---- the records: of each function its number and what it is given
@@ -182,26 +157,11 @@ TABLE = [
 ]  # fmt: skip
 
 
-def made_files():
-    given, out = b"", ""
+def files():
+    """The stored cases, by their names in the repository."""
+    given, out = [], []
     for number, function, cases in TABLE:
         for case in cases:
-            given += struct.pack("<5Q", number, *case, *[0] * (4 - len(case)))
-            out += "".join(f"{value:08x} " for value in [number] + function(*case)) + "\n"
-    return given, out
-
-
-def main():
-    if sys.argv[1:] != ["--make"]:
-        sys.exit(__doc__)
-    assert all(value == example for value, example in EXAMPLES)
-    folder = os.path.join(os.path.dirname(os.path.abspath(__file__)), "..", "crates", "leaf_checks")
-    given, out = made_files()
-    with open(os.path.join(folder, "stdin"), "wb") as f:
-        f.write(given)
-    with open(os.path.join(folder, "stdout"), "w") as f:
-        f.write(out)
-
-
-if __name__ == "__main__":
-    main()
+            given.append(struct.pack("<5Q", number, *case, *[0] * (4 - len(case))))
+            out.append("".join(f"{value:08x} " for value in [number] + function(*case)) + "\n")
+    return {"crates/leaf_checks/stdin": b"".join(given), "crates/leaf_checks/stdout": "".join(out).encode()}

@@ -1,21 +1,19 @@
-#!/usr/bin/env python3
-"""The logs that the programs `replay` and `replay_cases` are run on, and what they must print: tools/log_cases.py --make
+"""The logs that the programs `replay` and `replay_cases` are run on, and what they must print (`tools/cases` writes both).
 
 For `replay` scripts of calls, each from an opening of its own, written for 01's rules one by one, and some drawn by chance.
 For `replay_cases` many logs: a record bad in each way for each call, cut anywhere, calls before any opening, openings refused
-and accepted in turn, empty logs. What is printed is `log_model.py`'s; nothing here comes from the code."""
-import os, random, struct, sys
+and accepted in turn, empty logs. What is printed is the model's (model/blocks.py)."""
 
-sys.path.insert(0, os.path.dirname(os.path.abspath(__file__)))
-from log_model import BITS, BULK, CONTROL, INTERRUPT, ISOCHRONOUS, MOST, USED, Replay, replay
+import random
 
-OPEN, START, STEP, ADDRESS, ENDPOINT, CLOSE, SET_ADDRESS, SET_PACKET, SUBMIT, WRITEBACK, CANCEL, COLLECT = range(1, 13)
-ACKNOWLEDGE, DRAIN, REARM, ENABLE, DISABLE, SCAN, SCAN_STEP, POWER = range(13, 21)
+from model.blocks import Replay, replay
+from model.records import (
+    ACKNOWLEDGE, ADDRESS, BITS, CANCEL, CLOSE, COLLECT, DISABLE, DRAIN, ENABLE, MOST, OPEN, OPEN_ENDPOINT, POWER, REARM, SCAN, SCAN_STEP,
+    SET_ADDRESS, SET_PACKET, START, STEP, SUBMIT, USED, WRITEBACK, record,
+)  # fmt: skip
+from model.tokens import BULK, CONTROL, INTERRUPT, ISOCHRONOUS
+
 AREAS = (0x100000, 0x200000, 0x300000, 0x400000)
-
-
-def record(number, b=(), n=()):
-    return bytes([number, *b] + [0] * (7 - len(b))) + struct.pack("<7Q", *n, *[0] * (7 - len(n)))
 
 
 def opening(D=4, E=4, ports=2, C=16384, W=2, areas=AREAS):
@@ -31,7 +29,7 @@ def started(**settings):
 
 
 def endpoint(kind, address=5, number=1, packet=512):
-    return record(ENDPOINT, (kind, address, number), (packet,))
+    return record(OPEN_ENDPOINT, (kind, address, number), (packet,))
 
 
 def submit(slot, kind, direction=1, setup=None, address=0x10000FFF, length=100, command=0x80000):
@@ -227,18 +225,18 @@ def drawn(seed, count):
     for call in started(D=D, E=E, C=draw.choice([1, 64, 4096, 16384])):
         make(call)
     for _ in range(count):
-        k = draw.randrange(E + 1)
-        slot = keeper.controller.slots[k] if k < E else None
+        k, state = draw.randrange(E + 1), keeper.world.state
+        slot = state.slots[k] if state.is_open(k) else None
         kind = slot.kind if slot and draw.random() < 0.9 else draw.randrange(4)
-        request = slot.request if slot else None
-        id = request.id if request and draw.random() < 0.95 else draw.choice([0, 1, 2**64 - 1])
+        held = slot is not None and slot.uncollected()
+        id = slot.request if held and draw.random() < 0.95 else draw.choice([0, 1, 2**64 - 1])
         frame, command = draw.randrange(2**32), draw.choice([0, 0x31, 0x71, 0xFFFFFFFF])
-        size = draw.choice([0, 1, keeper.controller.C, 2 * keeper.controller.C + 1, draw.randrange(200)])
+        size = draw.choice([0, 1, state.settings.C, 2 * state.settings.C + 1, draw.randrange(200)])
         make(
             draw.choice(
                 [endpoint(draw.choice([0, 2, 2, 3]), draw.randrange(130), draw.randrange(17), draw.choice([8, 64, 1024]))]
                 + [submit(k, kind, draw.randrange(2), None if draw.random() < 0.9 else draw.randrange(2**48) if kind == CONTROL else 0, draw.choice([0x1000, 0xFFFFF000, 0x2000FFF]), size, command)] * 4
-                + [writeback(p, draw.choice([0, 0x80, 8, 0x40, 0x10000, draw.randrange(2**32)])) for p in (request.places if request else [draw.randrange(D + 1)])[:3]] * 2
+                + [writeback(p, draw.choice([0, 0x80, 8, 0x40, 0x10000, draw.randrange(2**32)])) for p in (state.places_of(k) if held else [draw.randrange(D + 1)])[:3]] * 2
                 + [cancel(k, id, command, frame), collect(k, id, command, frame), collect(k, id, command, frame), collect(k, id, command, frame)]
                 + [acknowledge(draw.choice([0x20, 0x24, 1, 0x37, 0]), 0x27, draw.randrange(2), draw.randrange(2)), acknowledge(0x20), drain(command), drain(command)]
                 + [record(draw.choice([REARM, ENABLE, DISABLE, ADDRESS]))]
@@ -335,23 +333,17 @@ def logs():
 def make_log():
     """The one log of `replay`, last a record that is bad: its last byte is missing."""
     log = b"".join(call for script in scripts() for call in script) + record(DRAIN)[:63]
-    return log, replay(log)
+    return log, replay(log).encode()
 
 
 def make_logs():
     """The logs of `replay_cases`: a byte above 64 begins each, and each record stands after its length."""
     many = list(logs())
     data = b"".join(b"\xff" + b"".join(bytes([len(call)]) + call for call in log) for log in many)
-    return data, "".join("=\n" + replay(b"".join(log)) for log in many)
+    return data, "".join("=\n" + replay(b"".join(log)) for log in many).encode()
 
 
-def main():
-    if sys.argv[1:] != ["--make"]:
-        sys.exit(__doc__)
-    for program, (data, printed) in (("replay", make_log()), ("replay_cases", make_logs())):
-        folder = os.path.join(os.path.dirname(os.path.abspath(__file__)), "..", "crates", program)
-        open(os.path.join(folder, "stdin"), "wb").write(data)
-        open(os.path.join(folder, "stdout"), "w").write(printed)
-
-
-main()
+def files():
+    """The stored cases, by their names in the repository."""
+    made = {"replay": make_log(), "replay_cases": make_logs()}
+    return {f"crates/{program}/{name}": data for program, pair in made.items() for name, data in zip(("stdin", "stdout"), pair)}

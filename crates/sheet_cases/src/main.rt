@@ -1,6 +1,6 @@
 // Many sheets from standard input, each after its length in two bytes, the lower first. What is printed of each to standard
-// output, and after it a line with a single `.`. `tools/sheet.py` makes the sheets, and what is to be printed from document
-// 01.
+// output, and after it a line with a single `.`. `tools/sheet_cases.py` makes the sheets, and what is to be printed from
+// document 01.
 ghost use Prim.Native.Nat.{_≤_};
 use job_run::print::print_sheet;
 use text::number::number16;

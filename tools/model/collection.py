@@ -1,0 +1,95 @@
+"""01, "Unlinking and collecting": cancel and collect."""
+
+from typing import NamedTuple
+
+from model.answers import CANCELLED, DONE, ENDPOINT, FAILED, INVALID, PENDING, Answer, need
+from model.descriptors import CURRENT, RESTING
+from model.schedule import boundary_passed, unlink
+from model.state import IDLE, LINKED, MOST_SLOTS
+from model.tokens import active, bytes_left, data_bytes, has_error
+
+
+class Seen(NamedTuple):
+    """What a request's descriptors show: whether it is finished, the first erring token (0 if none errs), the length."""
+
+    finished: bool
+    failed: int
+    length: int
+
+
+def finished(tokens):
+    """In order, every descriptor is inactive, or an error comes before any active one."""
+    for token in tokens:
+        if active(token):
+            return False
+        if has_error(token):
+            return True
+    return True
+
+
+def first_erring(tokens):
+    for token in tokens:
+        if has_error(token):
+            return token
+    return 0
+
+
+def moved(slot, limit, tokens):
+    """The sum over data descriptors of max(0, requested - bytes left)."""
+    requested = data_bytes(slot.kind, slot.length, limit)
+    return sum(max(0, size - bytes_left(token)) for size, token in zip(requested, tokens))
+
+
+def see(state, rows, k):
+    tokens = [rows.pool[place].token for place in state.places_of(k)]
+    return Seen(finished(tokens), first_erring(tokens), moved(state.slots[k], state.settings.C, tokens))
+
+
+def check_uncrowded(state, k):
+    """A linked slot while 32 unlinks are unanswered is outside the ranges: they are those of 32 other slots."""
+    linked = k < MOST_SLOTS and state.slots[k].phase == LINKED
+    need(not linked or state.unanswered() < MOST_SLOTS, INVALID)
+
+
+def cancel(state, rows, k, id, command, frame):
+    """It marks the request, and unlinks unless it is already unlinking."""
+    check_uncrowded(state, k)
+    need(state.is_open(k), ENDPOINT)
+    slot = state.slots[k]
+    need(slot.uncollected(), ENDPOINT)
+    need(slot.request == id, ENDPOINT)
+    linked = slot.phase == LINKED
+    writes = unlink(state, rows, k, command, frame) if linked else ()
+    slot.cancel = 1
+    return Answer(writes=writes)
+
+
+def collect(state, rows, k, id, command, frame, seen=None):
+    """`seen` stands in for what the pool shows."""
+    check_uncrowded(state, k)
+    need(state.is_open(k), ENDPOINT)
+    slot = state.slots[k]
+    if not slot.uncollected():
+        return Answer(PENDING)
+    need(slot.request == id, ENDPOINT)
+    seen = seen or see(state, rows, k)
+    if slot.phase == LINKED:
+        return Answer(PENDING, writes=unlink(state, rows, k, command, frame) if seen.finished else ())
+    if not boundary_passed(state, slot, frame):
+        return Answer(PENDING)
+    return gather(state, rows, k, seen)
+
+
+def gather(state, rows, k, seen):
+    """Passed: descriptors freed, current 0, overlay terminated; Cancelled, else Failed, else complete."""
+    slot = state.slots[k]
+    cancelled = slot.cancel
+    state.owner = [0 if owner == k + 1 else owner for owner in state.owner]
+    rows.set_head(k, RESTING, CURRENT)
+    slot.phase = IDLE
+    slot.forget()
+    if cancelled:
+        return Answer(CANCELLED)
+    if seen.failed:
+        return Answer(FAILED, (seen.failed,))
+    return Answer(DONE, (seen.length,))

@@ -1,0 +1,52 @@
+"""01, "Order of checks": addresses; open endpoint, close, set address, set packet size."""
+
+from model.answers import ENDPOINT, FULL, INVALID, LIMIT, UNSUPPORTED, Answer, need
+from model.descriptors import CHARACTERISTICS, HEAD_WORDS, head, with_address, with_packet_size
+from model.state import CLOSED, IDLE, Slot
+from model.tokens import ISOCHRONOUS
+
+
+def allocate_address(state):
+    """Addresses are allotted 1 to 127 in turn."""
+    need(state.address <= 127, LIMIT)
+    state.address += 1
+    return Answer(values=(state.address - 1,))
+
+
+def open_endpoint(state, rows, kind, address, number, packet):
+    """5, then the ranges (1), then 2; the lowest closed slot is used. The packet size is written as it is given."""
+    need(kind != ISOCHRONOUS, UNSUPPORTED)
+    need(address <= 127 and number <= 15 and 1 <= packet <= 1024, INVALID)
+    closed = [k for k in range(state.settings.E) if state.slots[k].phase == CLOSED]
+    need(closed, LIMIT)
+    k = closed[0]
+    state.slots[k] = Slot(IDLE, kind)
+    rows.set_head(k, head(kind, address, number, packet))
+    return Answer(values=(k,))
+
+
+def check_idle(state, k, good=True):
+    """Close, set address, set packet size: 3, 4, 1."""
+    need(state.is_open(k), ENDPOINT)
+    need(not state.slots[k].uncollected(), FULL)
+    need(good, INVALID)
+
+
+def close(state, rows, k):
+    """A closed slot keeps nothing; its head is zeroed."""
+    check_idle(state, k)
+    state.slots[k] = Slot()
+    rows.set_head(k, [0] * HEAD_WORDS)
+    return Answer()
+
+
+def set_address(state, rows, k, address):
+    check_idle(state, k, address <= 127)
+    rows.set_head(k, [with_address(rows.head_word(k, CHARACTERISTICS), address)], CHARACTERISTICS)
+    return Answer()
+
+
+def set_packet_size(state, rows, k, size):
+    check_idle(state, k)
+    rows.set_head(k, [with_packet_size(rows.head_word(k, CHARACTERISTICS), size)], CHARACTERISTICS)
+    return Answer()

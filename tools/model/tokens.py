@@ -1,0 +1,69 @@
+"""01, "Tokens and plans" (EHCI 3.5.3): tokens, what a request is cut into, how many descriptors it needs."""
+
+from typing import NamedTuple
+
+from model.registers import field
+
+CONTROL, ISOCHRONOUS, BULK, INTERRUPT = range(4)
+OUT, IN, SETUP = range(3)
+
+
+def token(pid, size, interrupt=False, toggle=False):
+    """A fresh token: error counter 3, active."""
+    word = pid * 256 + min(size, 32767) * 65536 + 3 * 1024 + 128
+    return word + 32768 * bool(interrupt) + 2**31 * bool(toggle)
+
+
+def active(word):
+    return field(word, 7, 1) == 1
+
+
+def has_error(word):
+    """Any of bits 3 to 6."""
+    return field(word, 3, 4) != 0
+
+
+def bytes_left(word):
+    return field(word, 16, 15)
+
+
+class Part(NamedTuple):
+    """What one descriptor of a request is for: its token, and where it moves how many bytes."""
+
+    token: int
+    address: int
+    length: int
+
+
+def chunks(length, limit):
+    """Chunks of the limit, then the rest; length 0 is one chunk of 0."""
+    return [min(limit, length - at) for at in range(0, length, limit)] or [0]
+
+
+def control_plan(direction, setup_at, address, length):
+    """Setup, data if there is any, status: Out after In data, otherwise In."""
+    setup = Part(token(SETUP, 8), setup_at, 8)
+    data = [Part(token(direction, length, toggle=True), address, length)] if length > 0 else []
+    status = OUT if direction == IN and length > 0 else IN
+    return [setup, *data, Part(token(status, 0, interrupt=True, toggle=True), 0, 0)]
+
+
+def chunk_plan(direction, address, length, limit):
+    """Bulk and interrupt: toggle 0, only the last interrupts."""
+    sizes = chunks(length, limit)
+    last = len(sizes) - 1
+    return [Part(token(direction, size, interrupt=i == last), address + limit * i, size) for i, size in enumerate(sizes)]
+
+
+def data_bytes(kind, length, limit):
+    """How many bytes of the buffer each descriptor of a request is asked to move."""
+    if kind == CONTROL:
+        return [0, length, 0] if length > 0 else [0, 0]
+    return chunks(length, limit)
+
+
+def descriptors_needed(kind, length, limit):
+    """Control 2, or 3 with data; else 1 at length 0, otherwise length / C rounded up."""
+    if kind == CONTROL:
+        return 3 if length > 0 else 2
+    return -(-length // limit) if length > 0 else 1
