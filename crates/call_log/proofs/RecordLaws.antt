@@ -11,10 +11,10 @@ use lib.ListN.{length}
 use Rattle.ehci.specs.declared.call.Call.{Call}
 use Rattle.ehci.specs.declared.call.Call.the-variants as C
 use Rattle.pipe.specs.Endpoints.{directionNumber, directionOf, flagNumber, flagOf, kindNumber, kindOf}
-use Rattle.token.specs.declared.request.EndpointType.{EndpointType}
-use Rattle.token.specs.declared.request.EndpointType.the-variants as K
-use Rattle.token.specs.declared.request.Direction.{Direction}
-use Rattle.token.specs.declared.request.Direction.the-variants as D
+use Rattle.token.specs.declared.kinds.EndpointType.{EndpointType}
+use Rattle.token.specs.declared.kinds.EndpointType.the-variants as K
+use Rattle.token.specs.declared.kinds.Direction.{Direction}
+use Rattle.token.specs.declared.kinds.Direction.the-variants as D
 use Rattle.pipe.proofs.EndpointLaws.{direction-back, direction-there, flag-back, flag-there, kind-back, kind-there}
 use Rattle.settings.proofs.SettingsCases.{both-first, both-second}
 use Rattle.settings.specs.Tests.{both, either}

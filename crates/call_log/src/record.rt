@@ -29,8 +29,8 @@ use controller::lent::Readings;
 use ehci::call::Call;
 use ehci::call::EndpointFields;
 use ehci::call::InterruptReadings;
-use pipe::endpoint::direction_of;
-use pipe::endpoint::kind_of;
+use pipe::endpoints::direction_of;
+use pipe::endpoints::kind_of;
 use request::judge::TransferRequest;
 use settings::settings::Settings;
 

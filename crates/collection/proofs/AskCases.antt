@@ -16,11 +16,11 @@ use Rattle.settings.proofs.Every.{every-4}
 use Rattle.settings.proofs.SettingsLaws.{both-tells}
 use Rattle.state.specs.declared.state.Ehci.{Ehci}
 use Rattle.pipe.specs.Endpoints.{endpointAt}
-use Rattle.pipe.specs.declared.endpoint.Endpoint.{Endpoint}
-use Rattle.pipe.specs.declared.endpoint.Endpoint.the-variants.{Closed, Idle, Linked, Unlinking}
-use Rattle.pipe.specs.declared.endpoint.Pipe.{Pipe}
-use Rattle.pipe.specs.declared.endpoint.Request.{Request}
-use Rattle.pipe.specs.declared.endpoint.UnlinkBoundary.{UnlinkBoundary}
+use Rattle.pipe.specs.declared.endpoints.Endpoint.{Endpoint}
+use Rattle.pipe.specs.declared.endpoints.Endpoint.the-variants.{Closed, Idle, Linked, Unlinking}
+use Rattle.pipe.specs.declared.endpoints.Pipe.{Pipe}
+use Rattle.pipe.specs.declared.endpoints.Request.{Request}
+use Rattle.pipe.specs.declared.endpoints.UnlinkBoundary.{UnlinkBoundary}
 use Rattle.collection.specs.Asks.{askable, askOf, requestAsk}
 
 pub may-is : (s : Settings) (pool slot : ℕ)

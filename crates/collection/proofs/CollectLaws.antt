@@ -18,10 +18,10 @@ use Rattle.state.specs.State.{withOwner}
 use Rattle.pipe.specs.Endpoints.{endpointAt, withEndpoint}
 use Rattle.controller.specs.Lent.{acceptsOf, lengths}
 use Rattle.opening.specs.Rows.{headWord, putAt}
-use Rattle.pipe.specs.declared.endpoint.Endpoint.the-variants.{Idle, Unlinking}
-use Rattle.pipe.specs.declared.endpoint.Pipe.{Pipe}
-use Rattle.pipe.specs.declared.endpoint.Request.{Request}
-use Rattle.pipe.specs.declared.endpoint.UnlinkBoundary.{UnlinkBoundary}
+use Rattle.pipe.specs.declared.endpoints.Endpoint.the-variants.{Idle, Unlinking}
+use Rattle.pipe.specs.declared.endpoints.Pipe.{Pipe}
+use Rattle.pipe.specs.declared.endpoints.Request.{Request}
+use Rattle.pipe.specs.declared.endpoints.UnlinkBoundary.{UnlinkBoundary}
 use Rattle.controller.specs.declared.lent.Readings.{Readings}
 use Rattle.pipe.proofs.EndpointLaws.{Wide, endpoint-same, owner-wide}
 use Rattle.opening.proofs.RowLaws.{put-before, put-behind, put-inside, put-length}

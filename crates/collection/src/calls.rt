@@ -16,8 +16,8 @@ use answer::answer::Refusal;
 use controller::lent::Lengths;
 use controller::lent::Readings;
 use controller::lent::accepts;
-use pipe::endpoint::Endpoint;
-use pipe::endpoint::endpoint_at;
+use pipe::endpoints::Endpoint;
+use pipe::endpoints::endpoint_at;
 use pool::chain::View;
 use state::state::Ehci;
 

@@ -9,11 +9,11 @@ use borrow.Author.Tests.{eq-eqb, eqb-true, ne-eqb, lt-ltb, le-ltb}
 use lib.Dec.{eqb, ltb}
 use lib.ListN.{drop, drop-of-length-le, getD, length, take, List·getD-eq-default}
 use lib.Seq.{drop-cons, take-all}
-use Rattle.pipe.specs.declared.endpoint.Endpoint.{Endpoint}
-use Rattle.pipe.specs.declared.endpoint.Endpoint.the-variants.{Closed, Idle, Linked, Unlinking}
-use Rattle.pipe.specs.declared.endpoint.Pipe.{Pipe}
-use Rattle.pipe.specs.declared.endpoint.Request.{Request}
-use Rattle.pipe.specs.declared.endpoint.UnlinkBoundary.{UnlinkBoundary}
+use Rattle.pipe.specs.declared.endpoints.Endpoint.{Endpoint}
+use Rattle.pipe.specs.declared.endpoints.Endpoint.the-variants.{Closed, Idle, Linked, Unlinking}
+use Rattle.pipe.specs.declared.endpoints.Pipe.{Pipe}
+use Rattle.pipe.specs.declared.endpoints.Request.{Request}
+use Rattle.pipe.specs.declared.endpoints.UnlinkBoundary.{UnlinkBoundary}
 use Rattle.settings.specs.Tests.{either}
 use Rattle.state.specs.Slots.{slotAt}
 use Rattle.state.specs.declared.state.Ehci.{Ehci}

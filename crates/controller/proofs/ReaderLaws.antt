@@ -11,7 +11,7 @@ use Rattle.state.specs.Slots.{slotAt}
 use Rattle.state.specs.declared.state.Ehci.{Ehci}
 use Rattle.state.proofs.RangesLaws.{Ranges}
 use Rattle.pipe.specs.Endpoints.{endpointAt}
-use Rattle.pipe.specs.declared.endpoint.Endpoint.the-variants.{Closed}
+use Rattle.pipe.specs.declared.endpoints.Endpoint.the-variants.{Closed}
 use Rattle.pipe.proofs.EndpointCases.{at-none, at-slot, decode-closed}
 use Rattle.controller.specs.Readers.{hasEndpoint, isOpen}
 

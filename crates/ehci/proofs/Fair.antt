@@ -18,11 +18,11 @@ use Rattle.answer.specs.declared.answer.Refusal.{Refusal}
 use Rattle.answer.specs.declared.answer.Refusal.the-variants.{InvalidParameter, SlotLimitReached, InvalidEndpoint, QueueFull, NotSupported, NoMemory, Timeout, NotReady}
 use Rattle.answer.proofs.CheckLaws.{settled-by, verdicts-apart}
 use Rattle.pipe.specs.Endpoints.{endpointAt}
-use Rattle.pipe.specs.declared.endpoint.Endpoint.{Endpoint}
-use Rattle.pipe.specs.declared.endpoint.Endpoint.the-variants.{Closed, Idle, Linked, Unlinking}
-use Rattle.pipe.specs.declared.endpoint.Pipe.{Pipe}
-use Rattle.pipe.specs.declared.endpoint.Request.{Request}
-use Rattle.pipe.specs.declared.endpoint.UnlinkBoundary.{UnlinkBoundary}
+use Rattle.pipe.specs.declared.endpoints.Endpoint.{Endpoint}
+use Rattle.pipe.specs.declared.endpoints.Endpoint.the-variants.{Closed, Idle, Linked, Unlinking}
+use Rattle.pipe.specs.declared.endpoints.Pipe.{Pipe}
+use Rattle.pipe.specs.declared.endpoints.Request.{Request}
+use Rattle.pipe.specs.declared.endpoints.UnlinkBoundary.{UnlinkBoundary}
 use Rattle.opening.specs.Opening.{rowsFit}
 use Rattle.controller.specs.Address.{allotOf}
 use Rattle.controller.specs.Lent.{acceptsOf, lengths}

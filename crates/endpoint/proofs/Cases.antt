@@ -7,7 +7,7 @@ use native.Mathlib.Omega.{arith}
 use borrow.Author.Tests.{le-leb, leb-false, leb-true, lt-leb, not-false, not-true}
 use lib.Dec.{leb}
 use lib.ListN.{length, replicate}
-use Rattle.token.specs.declared.request.EndpointType.{EndpointType}
+use Rattle.token.specs.declared.kinds.EndpointType.{EndpointType}
 use Rattle.descriptor.specs.Heads.{endpointHead, withAddress, withPacketSize, wordsOf}
 use Rattle.settings.specs.Tests.{both}
 use Rattle.settings.proofs.Every.{every-3}
@@ -17,7 +17,7 @@ use Rattle.answer.specs.declared.answer.Answer.{Answer}
 use Rattle.answer.specs.declared.answer.Answer.the-variants.{Done, Refused as RefusedCall}
 use Rattle.answer.specs.declared.answer.Refusal.{Refusal}
 use Rattle.answer.specs.declared.answer.Refusal.the-variants.{InvalidParameter, SlotLimitReached, InvalidEndpoint, QueueFull, NotSupported}
-use Rattle.pipe.specs.declared.endpoint.Endpoint.the-variants.{Closed}
+use Rattle.pipe.specs.declared.endpoints.Endpoint.the-variants.{Closed}
 use Rattle.controller.specs.declared.lent.Lengths.{Lengths}
 use Rattle.answer.specs.Answers.{Verdict, first, settle}
 use Rattle.pipe.specs.Endpoints.{withEndpoint}

@@ -18,7 +18,7 @@ use Rattle.state.proofs.RangesLaws.{ranges-make, ranges-tell}
 use Rattle.answer.specs.declared.answer.Answer.{Answer}
 use Rattle.answer.specs.declared.answer.Answer.the-variants.{Done, Refused}
 use Rattle.answer.specs.declared.answer.Refusal.{Refusal}
-use Rattle.pipe.specs.declared.endpoint.Endpoint.the-variants.{Closed}
+use Rattle.pipe.specs.declared.endpoints.Endpoint.the-variants.{Closed}
 use Rattle.pipe.specs.Endpoints.{encoded, endpointAt, withEndpoint}
 use Rattle.controller.specs.Lent.{acceptsOf, lengths}
 use Rattle.controller.specs.Readers.{isOpen, isUncollected}

@@ -4,8 +4,8 @@ use mathlib.Core.Path.{_≡_, refl}
 use mathlib.Core.Bool.{true}
 use mathlib.Core.List.{List}
 use Rattle.register.specs.Bits.{withoutBits}
-use Rattle.token.specs.declared.request.EndpointType.{EndpointType}
-use Rattle.token.specs.declared.request.EndpointType.the-variants.{Isochronous, Bulk, Interrupt}
+use Rattle.token.specs.declared.kinds.EndpointType.{EndpointType}
+use Rattle.token.specs.declared.kinds.EndpointType.the-variants.{Isochronous, Bulk, Interrupt}
 use Rattle.descriptor.specs.Descriptors.{terminated}
 use Rattle.descriptor.specs.Heads.{endpointHead}
 use Rattle.settings.specs.Settings.{settingsGood, numbersGood, eachGood, noOverlap, areaGood, apartAreas}

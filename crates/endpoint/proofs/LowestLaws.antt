@@ -13,7 +13,7 @@ use Rattle.slot.proofs.SlotLaws.{Phase, slot-tells}
 use Rattle.state.specs.declared.state.Ehci.{Ehci}
 use Rattle.state.specs.Slots.{slotAt}
 use Rattle.state.proofs.RangesLaws.{Ranges}
-use Rattle.pipe.specs.declared.endpoint.Endpoint.the-variants.{Closed}
+use Rattle.pipe.specs.declared.endpoints.Endpoint.the-variants.{Closed}
 use Rattle.pipe.specs.Endpoints.{boundaryOf, endpointAt, pipeOf, requestOf}
 use Rattle.controller.specs.Readers.{hasEndpoint, isOpen}
 use Rattle.pipe.proofs.EndpointCases.{at-slot, decode-closed, decode-idle, decode-linked, decode-unlinking}

@@ -8,8 +8,8 @@ use native.Mathlib.Omega.{arith}
 use borrow.Author.Tests.{le-leb, leb-false, leb-true, lt-leb, ltb-false, ltb-true}
 use lib.Dec.{leb, ltb}
 use lib.ListN.{getD, length}
-use Rattle.token.specs.declared.request.EndpointType.{EndpointType}
-use Rattle.token.specs.declared.request.EndpointType.the-variants.{Isochronous}
+use Rattle.token.specs.declared.kinds.EndpointType.{EndpointType}
+use Rattle.token.specs.declared.kinds.EndpointType.the-variants.{Isochronous}
 use Rattle.descriptor.specs.Descriptors.{terminated}
 use Rattle.descriptor.specs.Heads.{endpointHead, wordsOf}
 use Rattle.settings.specs.Tests.{both}
@@ -19,7 +19,7 @@ use Rattle.state.specs.Ranges.{inRanges}
 use Rattle.state.proofs.RangesLaws.{Ranges, ranges-make, ranges-tell}
 use Rattle.answer.specs.declared.answer.Refusal.{Refusal}
 use Rattle.answer.specs.declared.answer.Refusal.the-variants.{SlotLimitReached}
-use Rattle.pipe.specs.declared.endpoint.Endpoint.the-variants.{Closed}
+use Rattle.pipe.specs.declared.endpoints.Endpoint.the-variants.{Closed}
 use Rattle.pipe.specs.Endpoints.{encoded, endpointAt, flagNumber, withEndpoint}
 use Rattle.pipe.specs.Kinds.{isIsochronous}
 use Rattle.controller.specs.Lent.{acceptsOf, lengths}

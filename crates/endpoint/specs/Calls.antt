@@ -4,15 +4,15 @@ use mathlib.Core.Bool.{Bool, true, not}
 use mathlib.Core.List.{List, [], _∷_}
 use lib.Dec.{leb}
 use lib.ListN.{length, replicate}
-use Rattle.token.specs.declared.request.EndpointType.{EndpointType}
+use Rattle.token.specs.declared.kinds.EndpointType.{EndpointType}
 use Rattle.descriptor.specs.Heads.{endpointHead, wordsOf, withAddress, withPacketSize}
 use Rattle.settings.specs.Tests.{every, within}
 use Rattle.state.specs.declared.state.Ehci.{Ehci}
 use Rattle.answer.specs.declared.answer.Answer.{Answer}
 use Rattle.answer.specs.declared.answer.Answer.the-variants.{Done, Refused as RefusedCall}
 use Rattle.answer.specs.declared.answer.Refusal.the-variants.{InvalidParameter, SlotLimitReached, InvalidEndpoint, QueueFull, NotSupported}
-use Rattle.pipe.specs.declared.endpoint.Endpoint.{Endpoint}
-use Rattle.pipe.specs.declared.endpoint.Endpoint.the-variants.{Closed, Idle}
+use Rattle.pipe.specs.declared.endpoints.Endpoint.{Endpoint}
+use Rattle.pipe.specs.declared.endpoints.Endpoint.the-variants.{Closed, Idle}
 use Rattle.controller.specs.declared.lent.Lengths.{Lengths}
 use Rattle.answer.specs.Answers.{Check, first, refusalNumber, settle}
 use Rattle.pipe.specs.Endpoints.{withEndpoint}

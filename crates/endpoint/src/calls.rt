@@ -22,12 +22,12 @@ use controller::readers::uncollected;
 use descriptor::head::set_device_address;
 use descriptor::head::set_max_packet_size;
 use opening::rows::put_head;
-use pipe::endpoint::Endpoint;
-use pipe::endpoint::Pipe;
-use pipe::endpoint::with_endpoint;
+use pipe::endpoints::Endpoint;
+use pipe::endpoints::Pipe;
+use pipe::endpoints::with_endpoint;
 use pipe::kinds::is_isochronous;
 use state::state::Ehci;
-use token::request::EndpointType;
+use token::kinds::EndpointType;
 
 pub enum Opened {
     Slot(u8),

@@ -6,7 +6,7 @@ ghost use Rattle.descriptor.specs.Heads.{endpointHead, wordsOf};
 ghost use Rattle.endpoint.specs.Calls.{withHead};
 use descriptor::head::QueueHead;
 use opening::rows::put_head;
-use token::request::EndpointType;
+use token::kinds::EndpointType;
 
 // The head of a new endpoint, over the words that its slot has.
 pub fn write_head(

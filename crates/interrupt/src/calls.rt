@@ -21,7 +21,7 @@ use answer::answer::Answer;
 use answer::answer::Refusal;
 use register::bits::only_bits;
 use register::bits::with_bits;
-use register::ehci::USBINTR;
+use register::operational::USBINTR;
 use register::writes::Writes;
 use state::ranges::in_ranges;
 use state::state::Ehci;

@@ -6,9 +6,9 @@ use native.Mathlib.Numerals.{add-one}
 use native.Mathlib.Omega.{arith}
 use borrow.Author.Tests.{le-ltb, lt-ltb}
 use lib.ListN.{getD, replicate, set}
-use Rattle.token.specs.declared.request.Direction.{Direction}
-use Rattle.token.specs.declared.request.EndpointType.{EndpointType}
-use Rattle.token.specs.declared.request.EndpointType.the-variants.{Control}
+use Rattle.token.specs.declared.kinds.Direction.{Direction}
+use Rattle.token.specs.declared.kinds.EndpointType.{EndpointType}
+use Rattle.token.specs.declared.kinds.EndpointType.the-variants.{Control}
 use Rattle.pipe.specs.Endpoints.{directionOf, kindOf}
 use Rattle.ehci.specs.declared.call.Call.{Call}
 use Rattle.ehci.specs.declared.call.Call.the-variants.{BringUpStep, OpenEndpoint, StartBringUp, Submit}

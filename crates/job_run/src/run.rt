@@ -27,10 +27,10 @@ use job_sheet::outcome::slot_of;
 use job_sheet::record::EndpointRecord;
 use job_sheet::record::RequestRecord;
 use job_sheet::sheet::Job;
-use pipe::endpoint::direction_of;
-use pipe::endpoint::kind_of;
+use pipe::endpoints::direction_of;
+use pipe::endpoints::kind_of;
 use request::judge::TransferRequest;
-use token::request::EndpointType;
+use token::kinds::EndpointType;
 use world::world::World;
 use world::world::call_on;
 

@@ -8,13 +8,13 @@ use crate::out::shorts;
 use crate::out::word;
 use register::bits;
 use token::chunks;
+use token::kinds::Direction;
+use token::kinds::EndpointType;
 use token::plan;
 use token::plan::DataTd;
 use token::port::EhciPortStatus;
 use token::qtd::QtdPid;
 use token::qtd::QtdToken;
-use token::request::Direction;
-use token::request::EndpointType;
 
 fn pid(k: u64) -> QtdPid {
     match k {

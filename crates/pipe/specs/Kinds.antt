@@ -1,7 +1,7 @@
 -- Which kind of endpoint a kind is.
 use mathlib.Core.Bool.{Bool, true, false}
-use Rattle.token.specs.declared.request.EndpointType.{EndpointType}
-use Rattle.token.specs.declared.request.EndpointType.the-variants.{Control, Isochronous, Bulk, Interrupt}
+use Rattle.token.specs.declared.kinds.EndpointType.{EndpointType}
+use Rattle.token.specs.declared.kinds.EndpointType.the-variants.{Control, Isochronous, Bulk, Interrupt}
 
 abbrev pub isControl : EndpointType → Bool
 isControl Control = true

@@ -1,7 +1,7 @@
 // Which kind of endpoint a kind is.
 ghost use mathlib.Core.Path.{_≡_};
 ghost use Rattle.pipe.specs.Kinds.{isControl, isIsochronous, isInterrupt};
-use token::request::EndpointType;
+use token::kinds::EndpointType;
 
 pub fn is_control(kind: EndpointType) -> bool
     ensures { λ r. ⌜ r ≡ isControl kind ⌝ }

@@ -1,3 +1,3 @@
 // A slot taken apart into its endpoint, and put together again.
-pub mod endpoint;
+pub mod endpoints;
 pub mod kinds;

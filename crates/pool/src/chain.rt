@@ -13,8 +13,8 @@ use crate::transfer::bare_at;
 use crate::transfer::requested;
 use descriptor::qtd::NextQtd;
 use descriptor::qtd::QueueTransferDescriptor;
+use token::kinds::EndpointType;
 use token::qtd::QtdToken;
-use token::request::EndpointType;
 
 // What becomes of each record of a chain.
 pub enum Deed {

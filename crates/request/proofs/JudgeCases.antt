@@ -5,7 +5,7 @@ use mathlib.Core.Bool.{Bool, true, false, not}
 use native.Mathlib.Omega.{arith}
 use borrow.Author.Tests.{eq-eqb, le-leb, lt-leb, lt-ltb, le-ltb, ne-eqb, not-false, not-true}
 use lib.Dec.{eqb, leb, ltb}
-use Rattle.token.specs.declared.request.EndpointType.{EndpointType}
+use Rattle.token.specs.declared.kinds.EndpointType.{EndpointType}
 use Rattle.settings.specs.Tests.{both}
 use Rattle.settings.proofs.Every.{both-true, every-3}
 use Rattle.settings.proofs.SettingsCases.{same-test}

@@ -10,8 +10,8 @@ use borrow.Author.Tests.{eqb-true, eqb-false, leb-true, ltb-false, not-false, eq
 use lib.Dec.{eqb, leb, ltb}
 use lib.ListN.{drop, getD, length, length-take, take}
 use Rattle.token.specs.Chunks.{chunkCount, needOf}
-use Rattle.token.specs.declared.request.EndpointType.{EndpointType}
-use Rattle.token.specs.declared.request.EndpointType.the-variants.{Control, Isochronous, Bulk, Interrupt}
+use Rattle.token.specs.declared.kinds.EndpointType.{EndpointType}
+use Rattle.token.specs.declared.kinds.EndpointType.the-variants.{Control, Isochronous, Bulk, Interrupt}
 use Rattle.token.proofs.ChunkLaws.{covers}
 use Rattle.pool.specs.Places.{Within, packed, placesFrom}
 use Rattle.pool.proofs.PlaceLaws.{places-within}

@@ -13,14 +13,14 @@ use answer::answer::Refusal;
 use controller::readers::free_in;
 use controller::readers::open_in;
 use controller::readers::uncollected_in;
-use pipe::endpoint::kind_number;
+use pipe::endpoints::kind_number;
 use pipe::kinds::is_control;
 use pipe::kinds::is_isochronous;
 use settings::settings::MEMORY_END;
 use state::state::Ehci;
 use token::chunks::need;
-use token::request::Direction;
-use token::request::EndpointType;
+use token::kinds::Direction;
+use token::kinds::EndpointType;
 
 pub const CONTROL_MAX: u64 = 16384;
 

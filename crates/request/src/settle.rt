@@ -27,10 +27,10 @@ use controller::lent::Readings;
 use descriptor::head::ehci_qh_link;
 use descriptor::setup::setup_packet_bytes;
 use opening::rows::put_bytes;
-use pipe::endpoint::Endpoint;
-use pipe::endpoint::Pipe;
-use pipe::endpoint::Request;
-use pipe::endpoint::with_endpoint;
+use pipe::endpoints::Endpoint;
+use pipe::endpoints::Pipe;
+use pipe::endpoints::Request;
+use pipe::endpoints::with_endpoint;
 use pipe::kinds::is_control;
 use pipe::kinds::is_interrupt;
 use pool::chain::Chain;
@@ -40,7 +40,7 @@ use pool::places::mark;
 use pool::places::places_of;
 use pool::transfer::Transfer;
 use register::bits::with_bits;
-use register::ehci::USBCMD;
+use register::operational::USBCMD;
 use register::writes::Writes;
 use schedule::bell::command_word;
 use schedule::links::attach_frames;
@@ -49,7 +49,7 @@ use schedule::links::head_address;
 use schedule::links::start_overlay;
 use state::state::Ehci;
 use token::chunks::need;
-use token::request::EndpointType;
+use token::kinds::EndpointType;
 
 pub struct Taken {
     pub places: Places,

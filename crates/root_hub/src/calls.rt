@@ -17,7 +17,7 @@ use bring_up::reads::NextRead;
 use opening::hub::EhciRootHub;
 use register::bits::with_bits;
 use register::bits::without_bits;
-use register::ehci::port_offset;
+use register::operational::port_offset;
 use register::writes::Writes;
 use token::port::EhciPortStatus;
 

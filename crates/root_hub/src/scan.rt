@@ -26,7 +26,7 @@ use opening::hub::RESETED;
 use opening::hub::UNINIT;
 use register::bits::with_bits;
 use register::bits::without_bits;
-use register::ehci::port_offset;
+use register::operational::port_offset;
 use register::writes::Writes;
 use token::port::EhciPortStatus;
 

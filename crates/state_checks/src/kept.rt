@@ -15,7 +15,7 @@ use ehci::reply::Given;
 use opening::hub::EhciRootHub;
 use opening::open::Opening;
 use opening::open::decide_open;
-use pipe::endpoint::kind_of;
+use pipe::endpoints::kind_of;
 use pool::chain::View;
 use pool::chain::nothing_seen;
 use pool::places::Places;
@@ -26,7 +26,7 @@ use root_hub::calls::Scanned;
 use root_hub::ports::PortEvent;
 use settings::settings::Settings;
 use state::state::Ehci;
-use token::request::Direction;
+use token::kinds::Direction;
 
 // How many records, words, entries and bytes are lent.
 pub struct Lent {
