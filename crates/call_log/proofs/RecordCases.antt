@@ -8,7 +8,6 @@ use lib.Dec.{eqb, lit<}
 use lib.ListN.{length}
 use Rattle.call_log.specs.Fields.{fieldsOf}
 use Rattle.call_log.specs.Records.{entryOf, judged, judgedAs}
-use Rattle.text.specs.Text.{pick}
 use Rattle.call_log.specs.declared.fields.Fields.{Fields}
 use Rattle.call_log.specs.declared.record.Entry.{Entry}
 use Rattle.call_log.specs.declared.record.Entry.the-variants.{Bad}

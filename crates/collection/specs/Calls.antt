@@ -1,6 +1,6 @@
 -- Document 01, "Unlinking and collecting": cancel and collect.
 use Prim.Native.Nat.{ℕ, _+_}
-use mathlib.Core.Bool.{Bool, true, false, not}
+use mathlib.Core.Bool.{Bool, true, false, not, cond}
 use mathlib.Core.List.{List, [], _∷_, _++_}
 use lib.Dec.{eqb, leb}
 use lib.ListN.{drop, length, take}
@@ -99,14 +99,10 @@ pendingLeft l =
       rows = l .rows;
     }
 
-abbrev pub pickGathered : Bool → Gathered → Gathered → Gathered
-pickGathered true a b = a
-pickGathered false a b = b
-
 -- "if, in order, every descriptor is inactive, or an error comes before any active one, unlink; Pending"
 unfoldable pub linkedOf : Ehci → List ℕ → List ℕ → Readings → ℕ → ℕ → Pipe → Request → Gathered
 linkedOf s heads frames readings stage k p r =
-    pickGathered (eqb stage 2) (gathered (pendingCollect s) heads frames)
+    cond (eqb stage 2) (gathered (pendingCollect s) heads frames)
     (pendingLeft (unlinkOf s heads frames readings k p r))
 
 -- boundary set

@@ -1,13 +1,12 @@
 -- What any call decides is fair: a refusal leaves all as before (7 not running), and there are at most six writes.
 use Prim.Native.Nat.{ℕ, _+_, _≤_}
 use mathlib.Core.Path.{_≡_, refl, sym, ap, subst, _∙_}
-use mathlib.Core.Bool.{Bool, true, false, not}
+use mathlib.Core.Bool.{Bool, true, false, not, _&&_, cond}
 use mathlib.Core.List.{List, [], _∷_}
 use borrow.Author.Tests.{not-true}
 use lib.Dec.{eqb, leb, ltb}
 use lib.ListN.{length}
 use Rattle.register.specs.Bits.{anyOf, onlyBits, withoutBits}
-use Rattle.settings.specs.Tests.{both}
 use Rattle.settings.proofs.Every.{false-true}
 use Rattle.settings.proofs.SettingsLaws.{both-tells}
 use Rattle.pool.specs.declared.chain.View.{View}
@@ -35,16 +34,16 @@ use Rattle.request.specs.Submit.{acceptedWith, refusedSubmit, settledSubmit, su
 use Rattle.request.specs.Writeback.{refusedWriteback, writebackChecks, writebackOf}
 use Rattle.request.specs.declared.calls.WrittenBack.{WrittenBack}
 use Rattle.request.specs.declared.judge.TransferRequest.{TransferRequest}
-use Rattle.collection.specs.Answers.{outcomeOf, pendingCollect, pickCollected}
+use Rattle.collection.specs.Answers.{outcomeOf, pendingCollect}
 use Rattle.collection.specs.declared.collected.Collected.the-variants.{Complete, Failed as FailedCollect}
-use Rattle.collection.specs.Calls.{Gathered, cancelAt, cancelChecks, cancelOf, collectAt, collectChecks, collectOf, endIf, ended, finishOf, gathered, linkedOf, marked, pendingLeft, pickGathered, unlinkingOf, withFrames as gatheredFrames}
+use Rattle.collection.specs.Calls.{Gathered, cancelAt, cancelChecks, cancelOf, collectAt, collectChecks, collectOf, endIf, ended, finishOf, gathered, linkedOf, marked, pendingLeft, unlinkingOf, withFrames as gatheredFrames}
 use Rattle.collection.specs.Unlinks.{Left, isMissing, passedBoundary, unlinkOf, waitingOf}
-use Rattle.interrupt.specs.Interrupts.{acknowledgeOf, disableOf, drainIf, drainOf, enableOf, heardIf, pickTaken, rearmIf, rearmOf, settledOr, takenOf, countedOf}
+use Rattle.interrupt.specs.Interrupts.{acknowledgeOf, disableOf, drainIf, drainOf, enableOf, heardIf, rearmIf, rearmOf, settledOr, takenOf, countedOf}
 use Rattle.interrupt.specs.declared.calls.Acknowledgement.{Acknowledgement}
 use Rattle.interrupt.specs.declared.calls.Drainage.{Drainage}
 use Rattle.interrupt.specs.declared.calls.Drained.the-variants.{PortChange, TransferActivity, Stopped}
 use Rattle.interrupt.specs.declared.calls.Settled.{Settled}
-use Rattle.bring_up.specs.BringUp.{againOf, anyUncollected, onwardOf, pickBroughtUp, ready, registerOf, stageOf, startOf, stepOf}
+use Rattle.bring_up.specs.BringUp.{againOf, anyUncollected, onwardOf, ready, registerOf, stageOf, startOf, stepOf}
 use Rattle.bring_up.specs.declared.calls.BroughtUp.{BroughtUp}
 use Rattle.bring_up.specs.declared.stage.Stage.{Stage}
 use Rattle.ehci.specs.declared.call.Call.{Call}
@@ -72,7 +71,7 @@ isTimeout NotReady = false
 
 abbrev timely : List Check → Bool
 timely [] = true
-timely (c ∷ cs) = both (not (isTimeout (c .1))) (timely cs)
+timely (c ∷ cs) = not (isTimeout (c .1)) && timely cs
 
 abbrev timeoutIn : Verdict → Bool
 timeoutIn passed = false
@@ -149,7 +148,7 @@ module _ (s : Ehci) (hs fs us : List ℕ) where
   onward-fair stage v = result-fair _ refl (stage-few stage v (s .settings .frames) (s .settings .heads))
 
   picked-fair : (b : Bool) (x y : BroughtUp) → Fair (came (broughtReply x) hs fs us) → Fair (came (broughtReply y) hs fs us)
-      → Fair (came (broughtReply (pickBroughtUp b x y)) hs fs us)
+      → Fair (came (broughtReply (cond b x y)) hs fs us)
   picked-fair true x y fx fy = fx
   picked-fair false x y fx fy = fy
 
@@ -241,7 +240,7 @@ module _ (s : Ehci) (hs fs us : List ℕ) where
     unfolding linkedOf replied
     linked-fair stage p r = by (eqb stage 2)
       where
-        by : (b : Bool) → Fair (withSetups (collectCame (pickGathered b (gathered (pendingCollect s) hs fs) (pendingLeft (unlinkOf s hs fs readings k p r)))) us)
+        by : (b : Bool) → Fair (withSetups (collectCame (cond b (gathered (pendingCollect s) hs fs) (pendingLeft (unlinkOf s hs fs readings k p r)))) us)
         by true = result-fair _ refl none-few
         by false = gathers-fair p r
 
@@ -250,7 +249,7 @@ module _ (s : Ehci) (hs fs us : List ℕ) where
     outcome-given true v = refl
     outcome-given false v = by (eqb (v .failed) 0)
       where
-        by : (b : Bool) → isRefused (collectedAnswer (pickCollected b (Complete (record { length = v .moved })) (FailedCollect (v .failed)))) ≡ false
+        by : (b : Bool) → isRefused (collectedAnswer (cond b (Complete (record { length = v .moved })) (FailedCollect (v .failed)))) ≡ false
         by true = refl
         by false = refl
 
@@ -293,8 +292,8 @@ module _ (s : Ehci) (hs fs us : List ℕ) where
   event-given pending = by (anyOf pending 4) (anyOf pending 0x23)
     where
       by : (a b : Bool)
-          → isRefused (drainedAnswer (pickTaken a (record { event = PortChange; left = withoutBits pending 4 })
-          (pickTaken b (record { event = TransferActivity; left = withoutBits pending 0x23 }) (record { event = Stopped; left = 0 })) .event)) ≡ false
+          → isRefused (drainedAnswer (cond a (record { event = PortChange; left = withoutBits pending 4 })
+          (cond b (record { event = TransferActivity; left = withoutBits pending 0x23 }) (record { event = Stopped; left = 0 })) .event)) ≡ false
       by true b = refl
       by false true = refl
       by false false = refl

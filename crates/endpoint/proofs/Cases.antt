@@ -1,7 +1,7 @@
 -- The returns of the calls on endpoints, and what they may count on.
 use Prim.Native.Nat.{ℕ, _+_, _*_, _≤_, _<_}
 use mathlib.Core.Path.{_≡_, refl, sym, ap, _∙_}
-use mathlib.Core.Bool.{Bool, true, false, not}
+use mathlib.Core.Bool.{Bool, true, false, not, _&&_}
 use mathlib.Core.List.{List}
 use native.Mathlib.Omega.{arith}
 use borrow.Author.Tests.{le-leb, leb-false, leb-true, lt-leb, not-false, not-true}
@@ -9,7 +9,6 @@ use lib.Dec.{leb}
 use lib.ListN.{length, replicate}
 use Rattle.token.specs.declared.kinds.EndpointType.{EndpointType}
 use Rattle.descriptor.specs.Heads.{endpointHead, withAddress, withPacketSize, wordsOf}
-use Rattle.settings.specs.Tests.{both}
 use Rattle.settings.proofs.Every.{every-3}
 use Rattle.settings.proofs.SettingsLaws.{both-tells}
 use Rattle.state.specs.declared.state.Ehci.{Ehci}
@@ -53,16 +52,16 @@ slotOf (Refused r) = 0
 
 -- ---- open endpoint: what is asked
 
-pub fields-is : (a n p : ℕ) → both (both (leb a 127) (leb n 15)) (both (leb 1 p) (leb p 1024)) ≡ fieldsGood a n p
+pub fields-is : (a n p : ℕ) → (leb a 127 && leb n 15 && (leb 1 p && leb p 1024)) ≡ fieldsGood a n p
 unfolding fieldsGood
-fields-is a n p = every-3 (leb a 127) (leb n 15) (both (leb 1 p) (leb p 1024))
+fields-is a n p = every-3 (leb a 127) (leb n 15) (leb 1 p && leb p 1024)
 
 pub fields-tell : (a n p : ℕ) → fieldsGood a n p ≡ true → (a ≤ 127) × (n ≤ 15) × (p ≤ 1024)
 unfolding fieldsGood
 fields-tell a n p e =
     let x = both-tells (leb a 127) _ e in
     let y = both-tells (leb n 15) _ (x .1) in
-    let z = both-tells (both (leb 1 p) (leb p 1024)) true (y .1) in
+    let z = both-tells (leb 1 p && leb p 1024) true (y .1) in
     let w = both-tells (leb 1 p) (leb p 1024) (z .0) in
     (leb-true a 127 (x .0), leb-true n 15 (y .0), leb-true p 1024 (w .1))
 

@@ -2,7 +2,7 @@
 use Prim.Native.Nat.{ℕ, _+_, _*_, _≤_, _<_}
 use mathlib.Core.Path.{_≡_, refl, sym, ap, subst, _∙_}
 use mathlib.Core.Logic.{_≢_}
-use mathlib.Core.Bool.{Bool, true, false}
+use mathlib.Core.Bool.{Bool, true, false, _&&_}
 use mathlib.Core.List.{List}
 use native.Mathlib.Omega.{arith}
 use borrow.Author.Tests.{le-leb, leb-false, leb-true, lt-leb, ltb-false, ltb-true}
@@ -12,7 +12,6 @@ use Rattle.token.specs.declared.kinds.EndpointType.{EndpointType}
 use Rattle.token.specs.declared.kinds.EndpointType.the-variants.{Isochronous}
 use Rattle.descriptor.specs.Descriptors.{terminated}
 use Rattle.descriptor.specs.Heads.{endpointHead, wordsOf}
-use Rattle.settings.specs.Tests.{both}
 use Rattle.settings.proofs.SettingsLaws.{both-tells}
 use Rattle.state.specs.declared.state.Ehci.{Ehci}
 use Rattle.state.specs.Ranges.{inRanges}
@@ -49,7 +48,7 @@ unfolding fieldsGood
 fields-good a n p e =
     let x = both-tells (leb a 127) _ e in
     let y = both-tells (leb n 15) _ (x .1) in
-    let z = both-tells (both (leb 1 p) (leb p 1024)) true (y .1) in
+    let z = both-tells (leb 1 p && leb p 1024) true (y .1) in
     let w = both-tells (leb 1 p) (leb p 1024) (z .0) in
     record {
       address-most = leb-true a 127 (x .0);

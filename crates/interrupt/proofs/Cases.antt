@@ -13,7 +13,6 @@ use Rattle.token.specs.Tokens.{onlyIf}
 use Rattle.state.specs.Ranges.{inRanges, restGood, machineGood, interruptGood, doorbellGood}
 use Rattle.settings.specs.Settings.{settingsGood}
 use Rattle.state.specs.State.{withInterrupt, withBell, withBoundaries}
-use Rattle.settings.specs.Tests.{both}
 use Rattle.answer.specs.declared.answer.Answer.the-variants.{Done, Refused as RefusedCall}
 use Rattle.answer.specs.declared.answer.Refusal.the-variants.{InvalidParameter}
 use Rattle.state.specs.declared.state.Ehci.{Ehci}

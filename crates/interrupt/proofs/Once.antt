@@ -1,7 +1,7 @@
 -- One ring is counted at most once, and only after an acknowledgment since has read the advance bit.
 use Prim.Native.Nat.{ℕ, zero, suc, _+_, _-_, _*_, _/_, _%_, _^_, _≤_, _<_, max, min}
 use mathlib.Core.Path.{_≡_, refl, sym, ap, _∙_}
-use mathlib.Core.Bool.{Bool, true, false, not}
+use mathlib.Core.Bool.{Bool, true, false, not, _&&_, _||_}
 use mathlib.Core.List.{List, [], _∷_}
 use native.Mathlib.Omega.{arith}
 use borrow.Author.Tests.{eq-eqb, eqb-true, eqb-false, leb-true, leb-false, ne-eqb}
@@ -14,7 +14,6 @@ use Rattle.register.proofs.FieldLaws.{any-field}
 use Rattle.pipe.specs.Endpoints.{flagNumber}
 use Rattle.state.specs.Ranges.{inRanges}
 use Rattle.state.specs.State.{withInterrupt, withBell, withBoundaries}
-use Rattle.settings.specs.Tests.{both, either}
 use Rattle.state.specs.declared.state.Ehci.{Ehci}
 use Rattle.settings.proofs.Every.{either-assoc, false-true}
 use Rattle.settings.proofs.SettingsCases.{both-first}
@@ -131,20 +130,20 @@ record Inv (u₀ a : ℕ) (read : Bool) (b : Bell) : Type 0 where
   below : b .noted ≤ b .doorbell
   one : b .doorbell ≤ 1
 
-flag-le : (r q : Bool) → flagNumber r ≤ flagNumber (either r q)
+flag-le : (r q : Bool) → flagNumber r ≤ flagNumber (r || q)
 flag-le true q = omega arith
 flag-le false q = omega arith
 
-flag-right : (r q : Bool) → q ≡ true → 1 ≤ flagNumber (either r q)
+flag-right : (r q : Bool) → q ≡ true → 1 ≤ flagNumber (r || q)
 flag-right true q e = omega arith
 flag-right false q e = rw e (omega arith)
 
-either-none : (a : Bool) → either a false ≡ a
+either-none : (a : Bool) → (a || false) ≡ a
 either-none true = refl
 either-none false = refl
 
 -- nothing happens to the doorbell
-still : (u₀ a : ℕ) (r q : Bool) (b : Bell) → Inv u₀ a r b → Inv u₀ (a + 0) (either r q) b
+still : (u₀ a : ℕ) (r q : Bool) (b : Bell) → Inv u₀ a r b → Inv u₀ (a + 0) (r || q) b
 still u₀ a r q b inv =
     record {
       exact = omega (arith, inv .exact, flag-le r q);
@@ -155,7 +154,7 @@ still u₀ a r q b inv =
     }
 
 noted-inv : (u₀ a : ℕ) (r : Bool) (s : Ehci) (st : ℕ) → Inv u₀ a r (bellOf s)
-    → Inv u₀ (a + 0) (either r (eqb (bit st 5) 1))
+    → Inv u₀ (a + 0) (r || eqb (bit st 5) 1)
     (record { noted = notedAfter s (onlyBits st 0x37); doorbell = s .doorbell; unanswered = s .unanswered })
 unfolding notedAfter
 noted-inv u₀ a r s st inv = go (anyOf (onlyBits st 0x37) 0x20) refl (eqb (s .doorbell) 1) refl
@@ -164,7 +163,7 @@ noted-inv u₀ a r s st inv = go (anyOf (onlyBits st 0x37) 0x20) refl (eqb (s .d
     q = eqb (bit st 5) 1
 
     go : (x : Bool) → anyOf (onlyBits st 0x37) 0x20 ≡ x → (d : Bool) → eqb (s .doorbell) 1 ≡ d
-        → Inv u₀ (a + 0) (either r q)
+        → Inv u₀ (a + 0) (r || q)
         (record { noted = notedAfter s (onlyBits st 0x37); doorbell = s .doorbell; unanswered = s .unanswered })
     go false e d f = rw e (still u₀ a r q (bellOf s) inv)
     go true e false f = rw (e, f) (still u₀ a r q (bellOf s) inv)
@@ -182,7 +181,7 @@ noted-inv u₀ a r s st inv = go (anyOf (onlyBits st 0x37) 0x20) refl (eqb (s .d
 
 -- one more unlink that does not ring
 asked-inv : (u₀ a : ℕ) (r : Bool) (b : Bell) (cmd : ℕ) → Inv u₀ a r b
-    → someRing (listOf (unlinkedOf b noWrites cmd .writes)) ≡ false → Inv u₀ (a + 1) (either r false) (unlinkedOf b noWrites cmd .bell)
+    → someRing (listOf (unlinkedOf b noWrites cmd .writes)) ≡ false → Inv u₀ (a + 1) (r || false) (unlinkedOf b noWrites cmd .bell)
 unfolding unlinkedOf
 asked-inv u₀ a r b cmd inv h =
     rw (no-ring (record { noted = b .noted; doorbell = b .doorbell; unanswered = b .unanswered + 1 }) cmd h .1, either-none r)
@@ -196,7 +195,7 @@ asked-inv u₀ a r b cmd inv h =
 
 -- a drain that counts and does not ring again: nothing is left to answer
 counted-inv : (u₀ a : ℕ) (r : Bool) (b : Bell) (cmd : ℕ) → Inv u₀ a r b → (b .noted ≡ 0 → ⊥)
-    → someRing (listOf (advancedOf b noWrites cmd .writes)) ≡ false → Inv u₀ (a + 0) (either r false) (advancedOf b noWrites cmd .bell)
+    → someRing (listOf (advancedOf b noWrites cmd .writes)) ≡ false → Inv u₀ (a + 0) (r || false) (advancedOf b noWrites cmd .bell)
 unfolding advancedOf
 counted-inv u₀ a r b cmd inv n h =
     let down : Bell = record { noted = 0; doorbell = 0; unanswered = b .unanswered - 1 } in
@@ -210,14 +209,14 @@ counted-inv u₀ a r b cmd inv n h =
     })
 
 step : (u₀ a : ℕ) (r : Bool) (s : Ehci) (c : Call) → Inv u₀ a r (bellOf s) → rings s c ≡ false
-    → Inv u₀ (a + asks c) (either r (reads c)) (bellOf (after s c .state))
+    → Inv u₀ (a + asks c) (r || reads c) (bellOf (after s c .state))
 unfolding withBell
 step u₀ a r s (Unlink cmd) inv h = asked-inv u₀ a r (bellOf s) cmd inv h
 step u₀ a r s (Acknowledge st i f g) inv h =
-    ack-effect (λ (b : Bell). Inv u₀ (a + 0) (either r (eqb (bit st 5) 1)) b) s st i f g
+    ack-effect (λ (b : Bell). Inv u₀ (a + 0) (r || eqb (bit st 5) 1) b) s st i f g
     (still u₀ a r (eqb (bit st 5) 1) (bellOf s) inv) (noted-inv u₀ a r s st inv)
 step u₀ a r s (Drain cmd) inv h =
-    drain-effect (λ (b : Bell) (w : Writes). someRing (listOf w) ≡ false → Inv u₀ (a + 0) (either r false) b) s cmd
+    drain-effect (λ (b : Bell) (w : Writes). someRing (listOf w) ≡ false → Inv u₀ (a + 0) (r || false) b) s cmd
     (λ q. still u₀ a r false (bellOf s) inv) (λ n q. counted-inv u₀ a r (bellOf s) cmd inv n q) h
 step u₀ a r s Rearm inv h = rw (rearm-bell s) (still u₀ a r false (bellOf s) inv)
 step u₀ a r s Enable inv h = rw (enable-bell s) (still u₀ a r false (bellOf s) inv)
@@ -249,11 +248,11 @@ last u₀ a r s Enable inv = omega (arith, inv .exact, ap (λ (b : Bell). b .una
 last u₀ a r s Disable inv = omega (arith, inv .exact, ap (λ (b : Bell). b .unanswered) (disable-bell s))
 
 stretch : (u₀ a : ℕ) (r : Bool) (s : Ehci) (cs : List Call) (c : Call) → Inv u₀ a r (bellOf s) → noneRings s cs
-    → u₀ + a + (asked cs + asks c) ≤ after (run s cs) c .state .unanswered + flagNumber (either r (someRead cs))
+    → u₀ + a + (asked cs + asks c) ≤ after (run s cs) c .state .unanswered + flagNumber (r || someRead cs)
 stretch u₀ a r s [] c inv none = rw (either-none r) (omega (arith, last u₀ a r s c inv))
 stretch u₀ a r s (d ∷ cs) c inv none =
     rw (← either-assoc r (reads d) (someRead cs))
-    (omega (arith, stretch u₀ (a + asks d) (either r (reads d)) (after s d .state) cs c (step u₀ a r s d inv (none .0)) (none .1)))
+    (omega (arith, stretch u₀ (a + asks d) (r || reads d) (after s d .state) cs c (step u₀ a r s d inv (none .0)) (none .1)))
 
 -- the law
 pub once-per-ring : OncePerRing
@@ -277,7 +276,7 @@ ring-up : (b : Bell) (cmd : ℕ) → someRing (listOf (ringOf b noWrites cmd .wr
 unfolding ringOf noWrites
 ring-up b cmd h = go (mustRing b) refl
   where
-    down : both (eqb (b .doorbell) 0) (leb 1 (b .unanswered)) ≡ true → b .doorbell ≡ 0
+    down : (eqb (b .doorbell) 0 && leb 1 (b .unanswered)) ≡ true → b .doorbell ≡ 0
     down e = eqb-true (b .doorbell) 0 (both-first (eqb (b .doorbell) 0) _ e)
 
     go : (m : Bool) → mustRing b ≡ m

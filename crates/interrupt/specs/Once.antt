@@ -1,7 +1,7 @@
 -- The fault that this project shuts out, as a statement: one ring is counted at most once, and only after an
 -- acknowledgment since that ring has read the advance bit. Over any calls that move the doorbell.
 use Prim.Native.Nat.{ℕ, _+_, _≤_}
-use mathlib.Core.Bool.{Bool, true, false}
+use mathlib.Core.Bool.{Bool, true, false, _&&_, _||_}
 use mathlib.Core.List.{List, [], _∷_, _++_}
 use mathlib.Core.Path.{_≡_}
 use lib.Dec.{eqb}
@@ -11,7 +11,6 @@ use Rattle.register.specs.declared.writes.Write.{Write}
 use Rattle.register.specs.declared.writes.Writes.{Writes}
 use Rattle.pipe.specs.Endpoints.{flagNumber}
 use Rattle.state.specs.State.{withBell}
-use Rattle.settings.specs.Tests.{both, either}
 use Rattle.state.specs.declared.state.Ehci.{Ehci}
 use Rattle.schedule.specs.Bell.{bellOf, unlinkedOf}
 use Rattle.schedule.specs.declared.bell.Rung.{Rung}
@@ -53,11 +52,11 @@ run s (c ∷ cs) = run (after s c .state) cs
 
 -- a write of USBCMD with the doorbell bit
 abbrev pub isRing : Write → Bool
-isRing w = both (eqb (w .offset) 0) (eqb (bit (w .value) 6) 1)
+isRing w = eqb (w .offset) 0 && eqb (bit (w .value) 6) 1
 
 abbrev pub someRing : List Write → Bool
 someRing [] = false
-someRing (w ∷ ws) = either (isRing w) (someRing ws)
+someRing (w ∷ ws) = isRing w || someRing ws
 
 abbrev pub rings : Ehci → Call → Bool
 rings s c = someRing (listOf (after s c .writes))
@@ -73,7 +72,7 @@ reads Disable = false
 
 abbrev pub someRead : List Call → Bool
 someRead [] = false
-someRead (c ∷ cs) = either (reads c) (someRead cs)
+someRead (c ∷ cs) = reads c || someRead cs
 
 -- unlinks are numbered 1, 2, ..: how many are asked
 abbrev pub asks : Call → ℕ

@@ -1,4 +1,5 @@
 -- Document 01, "Examples": a sheet's job on a running controller "with D 16, E 8, C 16384, areas 100000, 200000, 300000, 400000".
+use mathlib.Core.Bool.{cond}
 use Prim.Native.Nat.{ℕ, zero, suc}
 use mathlib.Core.List.{List, [], _∷_}
 use lib.Dec.{ltb}
@@ -6,7 +7,7 @@ use lib.ListN.{getD, replicate, set}
 use Rattle.token.specs.declared.kinds.EndpointType.{EndpointType}
 use Rattle.token.specs.declared.kinds.EndpointType.the-variants.{Control}
 use Rattle.settings.specs.declared.settings.Settings.{Settings}
-use Rattle.pipe.specs.Endpoints.{directionOf, kindOf, pickKind}
+use Rattle.pipe.specs.Endpoints.{directionOf, kindOf}
 use Rattle.ehci.specs.declared.call.Call.{Call}
 use Rattle.ehci.specs.declared.call.Call.the-variants.{StartBringUp, BringUpStep, OpenEndpoint, Submit}
 use Rattle.ehci.specs.declared.reply.Answered.{Answered}
@@ -132,7 +133,7 @@ openedTo (suc k) start job = openStep (openedTo k start job) k (getD (jobOf job 
 -- "A request's kind is its record's"; one that is not there is refused whatever the kind
 abbrev pub kindFor : Job → ℕ → EndpointType
 kindFor job place =
-    pickKind (ltb place (job .opens)) (kindOf (getD (jobOf job .endpoints) place noEndpoint .kind)) Control
+    cond (ltb place (job .opens)) (kindOf (getD (jobOf job .endpoints) place noEndpoint .kind)) Control
 
 unfoldable pub submitCall : Job → List ℕ → RequestRecord → Call
 submitCall job slots t =

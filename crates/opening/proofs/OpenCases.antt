@@ -1,7 +1,7 @@
 -- The returns of opening.
 use Prim.Native.Nat.{ℕ, zero, suc, _+_, _-_, _*_, _%_, _^_, _≤_, _<_}
 use mathlib.Core.Path.{_≡_, refl, sym, ap, _∙_}
-use mathlib.Core.Bool.{Bool, true, false, not}
+use mathlib.Core.Bool.{Bool, true, false, not, _&&_}
 use mathlib.Core.List.{List, [], _∷_, _++_}
 use native.Mathlib.Omega.{arith}
 use borrow.Author.Tests.{eqb-true, leb-true, not-false, not-true}
@@ -22,12 +22,11 @@ use Rattle.opening.specs.Hub.{openedHub}
 use Rattle.opening.specs.Opening.{freshState, rowsFit, refusedOpening, acceptedOpening, openedHeads, decided, decideOpenOf}
 use Rattle.opening.specs.Rows.{putAt}
 use Rattle.settings.specs.Settings.{settingsGood, numbersGood, eachGood, noOverlap, areaGood, poolSize, headsSize, headsLength, setupsLength, poolLength, framesLength}
-use Rattle.settings.specs.Tests.{both}
 use Rattle.settings.proofs.Every.{every-4}
 use Rattle.settings.proofs.SettingsCases.{both-first, both-second, numbers-tell}
 
 pub fit-is : (s : Settings) (p h f u : ℕ)
-    → both (both (both (eqb p (poolLength s)) (eqb h (headsLength s))) (eqb f framesLength)) (eqb u (setupsLength s)) ≡ rowsFit s p h f u
+    → (eqb p (poolLength s) && eqb h (headsLength s) && eqb f framesLength && eqb u (setupsLength s)) ≡ rowsFit s p h f u
 unfolding rowsFit
 fit-is s p h f u = every-4 (eqb p (poolLength s)) (eqb h (headsLength s)) (eqb f framesLength) (eqb u (setupsLength s))
 

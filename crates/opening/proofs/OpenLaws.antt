@@ -2,7 +2,7 @@
 -- refused one leaves every row as it was and gives a state that is outside its ranges.
 use Prim.Native.Nat.{ℕ, _+_, _-_, _*_, _%_, _^_, _≤_, _<_}
 use mathlib.Core.Path.{_≡_, refl, ap, _∙_}
-use mathlib.Core.Bool.{Bool, true, false}
+use mathlib.Core.Bool.{Bool, true, false, _&&_}
 use mathlib.Core.List.{List, _∷_}
 use native.Mathlib.Omega.{arith}
 use borrow.Author.Tests.{eq-eqb, eqb-true}
@@ -22,7 +22,6 @@ use Rattle.slot.specs.Ranges.{slotGood}
 use Rattle.state.specs.Ranges.{inRanges}
 use Rattle.settings.specs.Settings.{framesLength, headsLength, numbersGood, poolLength, settingsGood, setupsLength}
 use Rattle.state.specs.Slots.{slotAt}
-use Rattle.settings.specs.Tests.{both}
 use Rattle.state.proofs.Arrays.{zeros-at}
 use Rattle.state.proofs.RangesLaws.{ranges-make}
 use Rattle.settings.proofs.SettingsLaws.{both-tells, Good, good-tells}
@@ -155,7 +154,7 @@ module _ (s : Settings) (pool : ℕ) (heads frames setups : List ℕ) where
       })
 
   -- any fault of the settings or of a row's length
-  pub open-refuses : both (settingsGood s) (rowsFit s pool (length heads) (length frames) (length setups)) ≡ false
+  pub open-refuses : (settingsGood s && rowsFit s pool (length heads) (length frames) (length setups)) ≡ false
       → Denied heads frames setups (decideOpenOf s pool heads frames setups)
   unfolding decideOpenOf refusedOpening
   open-refuses e = by (settingsGood s) refl

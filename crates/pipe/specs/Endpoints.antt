@@ -1,6 +1,6 @@
 -- A slot's endpoint: closed, idle, with a linked request, or with one that is unlinking.
 use Prim.Native.Nat.{ℕ}
-use mathlib.Core.Bool.{Bool, true, false, not}
+use mathlib.Core.Bool.{Bool, true, false, not, cond}
 use lib.Dec.{eqb, ltb}
 use Rattle.token.specs.declared.kinds.Direction.{Direction}
 use Rattle.token.specs.declared.kinds.Direction.the-variants.{Out, In}
@@ -18,12 +18,8 @@ use Rattle.state.specs.Slots.{slotAt, withSlot}
 
 -- ---- numbers: control 0, isochronous 1, bulk 2, interrupt 3; Out 0, In 1
 
-abbrev pub pickKind : Bool → EndpointType → EndpointType → EndpointType
-pickKind true a b = a
-pickKind false a b = b
-
 abbrev pub kindOf : ℕ → EndpointType
-kindOf n = pickKind (eqb n 0) Control (pickKind (eqb n 1) Isochronous (pickKind (eqb n 2) Bulk Interrupt))
+kindOf n = cond (eqb n 0) Control (cond (eqb n 1) Isochronous (cond (eqb n 2) Bulk Interrupt))
 
 abbrev pub kindNumber : EndpointType → ℕ
 kindNumber Control = 0
@@ -64,19 +60,15 @@ pickBoundary false n = Async n
 abbrev pub boundaryOf : Slot → UnlinkBoundary
 boundaryOf e = pickBoundary (eqb (e .kind) 3) (e .boundary)
 
-abbrev pub pickEndpoint : Bool → Endpoint → Endpoint → Endpoint
-pickEndpoint true a b = a
-pickEndpoint false a b = b
-
 unfoldable pub decoded : Slot → Endpoint
 decoded e =
-    pickEndpoint (eqb (e .phase) 1) (Idle (pipeOf e))
-    (pickEndpoint (eqb (e .phase) 2) (Linked (pipeOf e) (requestOf e))
-    (pickEndpoint (eqb (e .phase) 3) (Unlinking (pipeOf e) (requestOf e) (boundaryOf e))
+    cond (eqb (e .phase) 1) (Idle (pipeOf e))
+    (cond (eqb (e .phase) 2) (Linked (pipeOf e) (requestOf e))
+    (cond (eqb (e .phase) 3) (Unlinking (pipeOf e) (requestOf e) (boundaryOf e))
     Closed))
 
 unfoldable pub endpointAt : Ehci → ℕ → Endpoint
-endpointAt s k = pickEndpoint (ltb k 32) (decoded (slotAt s k)) Closed
+endpointAt s k = cond (ltb k 32) (decoded (slotAt s k)) Closed
 
 -- ---- and back
 

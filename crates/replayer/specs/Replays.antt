@@ -1,6 +1,6 @@
 -- A log replayed: what one record does to the controller that is kept, and the block that is shown of it.
 use Prim.Native.Nat.{ℕ}
-use mathlib.Core.Bool.{Bool, true, false}
+use mathlib.Core.Bool.{Bool, true, false, cond}
 use mathlib.Core.List.{List, [], _∷_, _++_}
 use lib.ListN.{getD, length}
 use Rattle.answer.specs.declared.answer.Answer.{Answer}
@@ -22,7 +22,7 @@ use Rattle.root_hub.specs.Calls.{powerOf, startOf, stepOf}
 use Rattle.root_hub.specs.declared.calls.PortPower.{PortPower}
 use Rattle.root_hub.specs.declared.calls.Scanned.{Scanned}
 use Rattle.root_hub.specs.declared.ports.PortEvent.the-variants as P
-use Rattle.text.specs.Text.{decimal, pick}
+use Rattle.text.specs.Text.{decimal}
 use Rattle.world.specs.Worlds.{blankWorld, callWorld, openWorld}
 use Rattle.world.specs.declared.world.Called.{Called}
 use Rattle.world.specs.declared.world.OpenedWorld.{OpenedWorld}
@@ -130,10 +130,10 @@ recordEffect k n bytes = actOf k n (getD bytes 0 0) (entryOf bytes)
 
 -- what is said of it: its block, or that it is bad
 unfoldable pub saidOf : Keeper → ℕ → List ℕ → List ℕ
-saidOf k n bytes = pick (isBad (entryOf bytes)) (badLine n) (shownOf k (recordEffect k n bytes))
+saidOf k n bytes = cond (isBad (entryOf bytes)) (badLine n) (shownOf k (recordEffect k n bytes))
 
 -- "and nothing after it"
 unfoldable pub turnedOf : Keeper → ℕ → List ℕ → Turned
 turnedOf k n bytes =
-    pick (isBad (entryOf bytes)) (record { keeper = k; end = length (saidOf k n bytes); more = false })
+    cond (isBad (entryOf bytes)) (record { keeper = k; end = length (saidOf k n bytes); more = false })
     (record { keeper = recordEffect k n bytes .keeper; end = length (saidOf k n bytes); more = true })

@@ -15,7 +15,6 @@ use Rattle.token.specs.declared.kinds.EndpointType.the-variants.{Control, Isoch
 use Rattle.token.proofs.ChunkLaws.{covers}
 use Rattle.pool.specs.Places.{Within, packed, placesFrom}
 use Rattle.pool.proofs.PlaceLaws.{places-within}
-use Rattle.settings.specs.Tests.{both, either}
 use Rattle.settings.proofs.SettingsLaws.{both-tells}
 use Rattle.state.specs.Slots.{slotAt}
 use Rattle.state.specs.declared.state.Ehci.{Ehci}

@@ -2,7 +2,7 @@
 use Prim.Native.Nat.{ℕ, zero, suc, _+_, _-_, _*_, _%_, _^_, _≤_, _<_}
 use mathlib.Core.Path.{_≡_, refl, sym, ap, subst, _∙_}
 use mathlib.Core.Logic.{_≢_}
-use mathlib.Core.Bool.{Bool, true, false}
+use mathlib.Core.Bool.{Bool, true, false, cond}
 use mathlib.Core.List.{List, [], _∷_, _++_, map}
 use native.Mathlib.Omega.{arith}
 use borrow.Author.Tests.{eqb-true, leb-true, ltb-true, ltb-false}
@@ -39,7 +39,7 @@ use Rattle.controller.specs.Readers.{freeCount, isOpen, isUncollected}
 use Rattle.answer.proofs.CheckLaws.{answers-apart}
 use Rattle.controller.proofs.FreeLaws.{free-places}
 use Rattle.controller.proofs.ReaderLaws.{open-below, open-within}
-use Rattle.request.specs.Submit.{afterId, attachedBy, bufferGood, chainFor, firstIn, idAt, judgeOf, linkedRows, linkedWith, needOfRequest, pickNumber, placesFor, rangesGood, stateWith, takenFor, takenOf, transferOf}
+use Rattle.request.specs.Submit.{afterId, attachedBy, bufferGood, chainFor, firstIn, idAt, judgeOf, linkedRows, linkedWith, needOfRequest, placesFor, rangesGood, stateWith, takenFor, takenOf, transferOf}
 use Rattle.request.specs.declared.judge.TransferRequest.{TransferRequest}
 use Rattle.request.proofs.JudgeCases.{judge-done, judge-room}
 use Rattle.request.proofs.JudgeLaws.{Judged}
@@ -178,7 +178,7 @@ id-least : (id : ℕ) → 1 ≤ afterId id
 unfolding afterId
 id-least id = by (eqb id (2 ^ 64 - 1))
   where
-    by : (b : Bool) → 1 ≤ pickNumber b 1 (id + 1)
+    by : (b : Bool) → 1 ≤ cond b 1 (id + 1)
     by true = omega arith
     by false = omega arith
 

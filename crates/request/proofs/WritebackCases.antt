@@ -6,7 +6,6 @@ use native.Mathlib.Omega.{arith}
 use borrow.Author.Tests.{le-leb, le-ltb, lt-ltb, lt-leb, ltb-true, not-false, not-true}
 use lib.Dec.{leb, ltb}
 use Rattle.pool.specs.declared.chain.Chain.{Chain}
-use Rattle.settings.specs.Tests.{both}
 use Rattle.settings.proofs.SettingsLaws.{both-tells}
 use Rattle.state.specs.declared.state.Ehci.{Ehci}
 use Rattle.controller.specs.Lent.{acceptsOf}

@@ -1,6 +1,6 @@
 -- Document 01: submit. Its checks in their order, then what it takes, links and writes.
 use Prim.Native.Nat.{ℕ, _+_, _-_, _*_, _/_, _%_, _^_, _≤_, _<_}
-use mathlib.Core.Bool.{Bool, true, false, not}
+use mathlib.Core.Bool.{Bool, true, false, not, _&&_, _||_, cond}
 use mathlib.Core.List.{List, [], _∷_, _++_}
 use lib.Dec.{eqb, leb, ltb}
 use lib.ListN.{drop, getD, length, take}
@@ -17,7 +17,7 @@ use Rattle.pool.specs.declared.chain.Chain.{Chain}
 use Rattle.pool.specs.declared.chain.Deed.the-variants.{Transfer as TransferDeed}
 use Rattle.pool.specs.declared.transfer.Transfer.{Transfer}
 use Rattle.settings.specs.Settings.{memoryEnd}
-use Rattle.settings.specs.Tests.{both, either, every}
+use Rattle.settings.specs.Tests.{every}
 use Rattle.state.specs.Slots.{slotAt}
 use Rattle.state.specs.State.{withOwner}
 use Rattle.state.specs.declared.state.Ehci.{Ehci}
@@ -50,7 +50,7 @@ submissionNumber (Refused r) = refusalNumber r
 
 -- "address + length at most 2^32 (any address at length 0)"
 unfoldable pub bufferGood : ℕ → ℕ → Bool
-bufferGood address length = either (eqb length 0) (leb (address + length) memoryEnd)
+bufferGood address length = eqb length 0 || leb (address + length) memoryEnd
 
 -- "control length at most 16384; setup direction bit equals the direction"; bytes 0 to 5 are six bytes
 unfoldable pub controlGood : TransferRequest → Bool
@@ -67,7 +67,7 @@ onlyWhere true b = b
 onlyWhere false b = true
 
 unfoldable pub rangesGood : TransferRequest → Bool
-rangesGood t = both (bufferGood (t .address) (t .length)) (onlyWhere (isControl (t .kind)) (controlGood t))
+rangesGood t = bufferGood (t .address) (t .length) && onlyWhere (isControl (t .kind)) (controlGood t)
 
 abbrev pub needOfRequest : Ehci → TransferRequest → ℕ
 needOfRequest s t = needOf (t .kind) (t .length) (s .settings .limit)
@@ -130,13 +130,9 @@ chainFor s slot t taken =
       deed = TransferDeed (transferOf s slot t);
     }
 
-abbrev pub pickNumber : Bool → ℕ → ℕ → ℕ
-pickNumber true a b = a
-pickNumber false a b = b
-
 -- "after 2^64 − 1 comes 1"
 unfoldable pub afterId : ℕ → ℕ
-afterId id = pickNumber (eqb id (2 ^ 64 - 1)) 1 (id + 1)
+afterId id = cond (eqb id (2 ^ 64 - 1)) 1 (id + 1)
 
 abbrev pub idAt : Ehci → ℕ → ℕ
 idAt s slot = slotAt s slot .id

@@ -1,12 +1,11 @@
 -- Of any machine that keeps the exact rule and has a ring out exactly while an unlink is unanswered: a collection has its boundary behind it.
 use mathlib.Core.Path.{_≡_, refl, sym, ap, _∙_}
 use mathlib.Core.List.{List, [], _∷_}
-use mathlib.Core.Bool.{Bool, true, false, cond, true≢false, false≢true}
+use mathlib.Core.Bool.{Bool, true, false, cond, true≢false, false≢true, _&&_}
 use Prim.Native.Nat.{ℕ, _+_, _≤_}
 use native.Mathlib.Omega.{arith}
 use borrow.Author.Tests.{leb-true, leb-false, lt-ltb, le-ltb}
 use lib.Dec.{leb, ltb}
-use Rattle.settings.specs.Tests.{both}
 use Rattle.settings.specs.declared.settings.Settings.{Settings}
 use Rattle.pipe.specs.Endpoints.{flagNumber}
 use Rattle.ehci.specs.declared.call.Call.{Call}
@@ -33,9 +32,9 @@ pub record Known (s : Settings) (k : ℕ) (h : History) : Type 0 where
 
 -- a turn that is not about k
 module _ (s : Settings) (k : ℕ) (t : Turn) (h : History) (other : unlinksOf s k t ≡ false) (g : Known s k h) where
-  known-on : (x : Event) → event s t ≡ x → (r : Bool) → rings t ≡ r → (b : Bell) → bell s h ≡ b → (number s k h ≤ flagNumber (both (isDrains x) (isAnswered b)) + counted s h → Boundary s k (t ∷ h))
-      × (number s k h ≡ flagNumber (both (isDrains x) (isAnswered b)) + counted s h + 1 → next r (isReads x) (isDrains x) b ≡ Rung → Ringing s k (t ∷ h))
-      × (number s k h ≡ flagNumber (both (isDrains x) (isAnswered b)) + counted s h + 1 → next r (isReads x) (isDrains x) b ≡ Answered → Boundary s k (t ∷ h))
+  known-on : (x : Event) → event s t ≡ x → (r : Bool) → rings t ≡ r → (b : Bell) → bell s h ≡ b → (number s k h ≤ flagNumber (isDrains x && isAnswered b) + counted s h → Boundary s k (t ∷ h))
+      × (number s k h ≡ flagNumber (isDrains x && isAnswered b) + counted s h + 1 → next r (isReads x) (isDrains x) b ≡ Rung → Ringing s k (t ∷ h))
+      × (number s k h ≡ flagNumber (isDrains x && isAnswered b) + counted s h + 1 → next r (isReads x) (isDrains x) b ≡ Answered → Boundary s k (t ∷ h))
   known-on x ex r er b eb = (past x r b ex eb, ring x r b ex er eb, ack x r b ex er eb)
     where
       upon : (m : ℕ) → number s k h ≤ 1 + counted s h → bell s h ≡ Answered → Boundary s k h
@@ -45,7 +44,7 @@ module _ (s : Settings) (k : ℕ) (t : Turn) (h : History) (other : unlinksOf s 
           on true f = g .passed (leb-true (number s k h) (counted s h) f)
           on false f = g .answered (omega (arith, leb-false (number s k h) (counted s h) f)) e
 
-      past : (x : Event) (r : Bool) (b : Bell) → event s t ≡ x → bell s h ≡ b → number s k h ≤ flagNumber (both (isDrains x) (isAnswered b)) + counted s h → Boundary s k (t ∷ h)
+      past : (x : Event) (r : Bool) (b : Bell) → event s t ≡ x → bell s h ≡ b → number s k h ≤ flagNumber (isDrains x && isAnswered b) + counted s h → Boundary s k (t ∷ h)
       past Other r b ex eb l = longer s k t h other (g .passed (omega arith))
       past Reads r b ex eb l = longer s k t h other (g .passed (omega arith))
       past (Submits j id q) r b ex eb l = longer s k t h other (g .passed (omega arith))
@@ -56,7 +55,7 @@ module _ (s : Settings) (k : ℕ) (t : Turn) (h : History) (other : unlinksOf s 
       past Drains r Rung ex eb l = longer s k t h other (g .passed (omega arith))
       past Drains r Answered ex eb l = longer s k t h other (upon 0 l eb)
 
-      ring : (x : Event) (r : Bool) (b : Bell) → event s t ≡ x → rings t ≡ r → bell s h ≡ b → number s k h ≡ flagNumber (both (isDrains x) (isAnswered b)) + counted s h + 1 → next r (isReads x) (isDrains x) b ≡ Rung → Ringing s k (t ∷ h)
+      ring : (x : Event) (r : Bool) (b : Bell) → event s t ≡ x → rings t ≡ r → bell s h ≡ b → number s k h ≡ flagNumber (isDrains x && isAnswered b) + counted s h + 1 → next r (isReads x) (isDrains x) b ≡ Rung → Ringing s k (t ∷ h)
       ring x true b ex er eb n e = rung-now s k t h er
       ring Other false b ex er eb n e = rings-on s k t h other (ap isReads ex) (g .waits (omega arith) (eb ∙ e))
       ring (Submits j id q) false b ex er eb n e = rings-on s k t h other (ap isReads ex) (g .waits (omega arith) (eb ∙ e))
@@ -70,7 +69,7 @@ module _ (s : Settings) (k : ℕ) (t : Turn) (h : History) (other : unlinksOf s 
       ring Drains false Rung ex er eb n e = rings-on s k t h other (ap isReads ex) (g .waits (omega arith) eb)
       ring Drains false Answered ex er eb n e = absurd (false≢true (ap isRung e))
 
-      ack : (x : Event) (r : Bool) (b : Bell) → event s t ≡ x → rings t ≡ r → bell s h ≡ b → number s k h ≡ flagNumber (both (isDrains x) (isAnswered b)) + counted s h + 1 → next r (isReads x) (isDrains x) b ≡ Answered → Boundary s k (t ∷ h)
+      ack : (x : Event) (r : Bool) (b : Bell) → event s t ≡ x → rings t ≡ r → bell s h ≡ b → number s k h ≡ flagNumber (isDrains x && isAnswered b) + counted s h + 1 → next r (isReads x) (isDrains x) b ≡ Answered → Boundary s k (t ∷ h)
       ack x true b ex er eb n e = absurd (rung-not-answered e)
       ack Other false b ex er eb n e = longer s k t h other (g .answered (omega arith) (eb ∙ e))
       ack (Submits j id q) false b ex er eb n e = longer s k t h other (g .answered (omega arith) (eb ∙ e))

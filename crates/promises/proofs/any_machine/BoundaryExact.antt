@@ -1,9 +1,8 @@
 -- Of any machine that keeps the exact rules and takes each event in its place: what left the ring passes by number.
 use Prim.Native.Nat.{ℕ}
-use mathlib.Core.Bool.{Bool, true, false, cond, true≢false, false≢true}
+use mathlib.Core.Bool.{Bool, true, false, cond, true≢false, false≢true, _||_}
 use mathlib.Core.List.{List, [], _∷_}
 use mathlib.Core.Path.{_≡_, refl, ap, _∙_}
-use Rattle.settings.specs.Tests.{either}
 use Rattle.settings.specs.declared.settings.Settings.{Settings}
 use Rattle.token.specs.declared.kinds.EndpointType.{EndpointType}
 use Rattle.pipe.specs.Kinds.{isInterrupt}
@@ -33,7 +32,7 @@ unlinks-no-submit k (Unlinks j) e = refl
 unlinks-no-submit k (Parts j frame) e = refl
 unlinks-no-submit k (Collects j id frame) e = refl
 
-renewed : (a b : Bool) → either a b ≡ false → a ≡ false
+renewed : (a b : Bool) → (a || b) ≡ false → a ≡ false
 renewed true b e = absurd (true≢false e)
 renewed false b e = refl
 

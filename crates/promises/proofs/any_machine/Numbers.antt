@@ -1,6 +1,6 @@
 -- The boundary by numbers, from its picture.
 use Prim.Native.Nat.{ℕ, _+_, _≤_, _<_}
-use mathlib.Core.Bool.{Bool, true, false, cond, true≢false, false≢true}
+use mathlib.Core.Bool.{Bool, true, false, cond, true≢false, false≢true, _&&_}
 use mathlib.Core.List.{List, [], _∷_, _++_, append-assoc}
 use mathlib.Core.Path.{_≡_, refl, sym, ap, subst, _∙_}
 use native.Mathlib.Omega.{arith}
@@ -8,7 +8,6 @@ use borrow.Author.Tests.{eqb-true, leb-true, leb-false}
 use lib.Dec.{eqb, leb}
 use lib.ListN.{length, length-append}
 use Rattle.register.specs.Bits.{bit}
-use Rattle.settings.specs.Tests.{both}
 use Rattle.settings.specs.declared.settings.Settings.{Settings}
 use Rattle.request.specs.declared.judge.TransferRequest.{TransferRequest}
 use Rattle.pipe.specs.Kinds.{isInterrupt}
@@ -114,7 +113,7 @@ module _ (s : Settings) (k : ℕ) (t : Turn) where
   is-collection (Collect j id readings) e =
       let x = if-event (isCollectsOf k) (isCollected (t .answer)) (Collects j id (readings .frame)) (leaving s j (readings .frame) t) (left-only j (readings .frame)) e in
       (id, readings, ap (λ (i : ℕ). Collect i id readings) (eqb-true j k (x .1)), x .0)
-  is-collection (Acknowledge x) e = absurd (false≢true (sym (if-none (isCollectsOf k) (both (isDone (t .answer)) (eqb (bit (x .status) 5) 1)) Reads Other refl refl) ∙ e))
+  is-collection (Acknowledge x) e = absurd (false≢true (sym (if-none (isCollectsOf k) (isDone (t .answer) && eqb (bit (x .status) 5) 1) Reads Other refl refl) ∙ e))
   is-collection (Drain x) e = absurd (false≢true (sym (if-none (isCollectsOf k) (isDone (t .answer)) Drains Other refl refl) ∙ e))
   is-collection Rearm e = absurd (false≢true e)
   is-collection Enable e = absurd (false≢true e)

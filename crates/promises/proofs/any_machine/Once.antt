@@ -1,13 +1,12 @@
 -- Of any machine that keeps the exact rule and has a ring out exactly while an unlink is unanswered: in a stretch with no ring, at most one request comes to pass.
 use mathlib.Core.Path.{_≡_, refl, sym, ap, _∙_}
 use mathlib.Core.List.{List, [], _∷_, _++_}
-use mathlib.Core.Bool.{Bool, true, false, cond, true≢false, false≢true}
+use mathlib.Core.Bool.{Bool, true, false, cond, true≢false, false≢true, _&&_, _||_}
 use Prim.Native.Nat.{ℕ, _+_, _≤_, _<_}
 use native.Mathlib.Omega.{arith}
 use borrow.Author.Tests.{eqb-true, leb-true, leb-false, ltb-true, lt-ltb}
 use lib.Dec.{eqb, leb}
 use lib.ListN.{length, take}
-use Rattle.settings.specs.Tests.{both, either}
 use Rattle.settings.specs.declared.settings.Settings.{Settings}
 use Rattle.pipe.specs.Endpoints.{flagNumber}
 use Rattle.ehci.specs.declared.call.Call.{Call}
@@ -17,7 +16,7 @@ use Rattle.promises.specs.Bells.{Answered, Bell, Quiet, Rung, asked, bel
 use Rattle.promises.specs.Boundaries.{Once, OnePasses, OnlyAnswered, Passes, PassesExactly, UpExactly, past, turn}
 
 -- ---- of any history
-not-both : (x : Event) → (both (isReads x) (isDrains x)) ≡ false
+not-both : (x : Event) → (isReads x && isDrains x) ≡ false
 not-both Other = refl
 not-both Reads = refl
 not-both Drains = refl
@@ -46,8 +45,8 @@ module _ (s : Settings) (start : History) where
       most : ℕ
       most = counted s start + flagNumber (isUp (bell s start))
 
-      go : (r d : Bool) → both r d ≡ false → (b : Bell) → (c + flagNumber (isUp b) ≤ most) × (c + flagNumber (isAnswered b) ≤ most)
-          → (flagNumber (both d (isAnswered b)) + c + flagNumber (isUp (next false r d b)) ≤ most) × (flagNumber (both d (isAnswered b)) + c + flagNumber (isAnswered (next false r d b)) ≤ most)
+      go : (r d : Bool) → (r && d) ≡ false → (b : Bell) → (c + flagNumber (isUp b) ≤ most) × (c + flagNumber (isAnswered b) ≤ most)
+          → (flagNumber (d && isAnswered b) + c + flagNumber (isUp (next false r d b)) ≤ most) × (flagNumber (d && isAnswered b) + c + flagNumber (isAnswered (next false r d b)) ≤ most)
       go true true e b i = absurd (true≢false e)
       go true false e Quiet i = omega arith
       go true false e Rung i = omega arith
@@ -65,7 +64,7 @@ module _ (s : Settings) (start : History) where
   unfolding counted
   one-at-most t stretch q = go (drains s t) (bell s (stretch ++ start)) (budget stretch q .1)
     where
-      go : (d : Bool) (b : Bell) → counted s (stretch ++ start) + flagNumber (isAnswered b) ≤ counted s start + flagNumber (isUp (bell s start)) → flagNumber (both d (isAnswered b)) + counted s (stretch ++ start) ≤ counted s start + 1
+      go : (d : Bool) (b : Bell) → counted s (stretch ++ start) + flagNumber (isAnswered b) ≤ counted s start + flagNumber (isUp (bell s start)) → flagNumber (d && isAnswered b) + counted s (stretch ++ start) ≤ counted s start + 1
       go true b i = omega (arith, flag-most (isUp (bell s start)))
       go false b i = omega (arith, flag-most (isUp (bell s start)))
 
@@ -85,8 +84,8 @@ module _ (s : Settings) (ring : Turn) (past : History) (rung : rings ring ≡ tr
       c : ℕ
       c = counted s (stretch ++ ring ∷ past)
 
-      go : (r d : Bool) → both r d ≡ false → (b : Bell) (x : Bool) → (c + flagNumber (isUp b) ≤ begun + 1) × (c + flagNumber (isAnswered b) ≤ begun + flagNumber x)
-          → (flagNumber (both d (isAnswered b)) + c + flagNumber (isUp (next false r d b)) ≤ begun + 1) × (flagNumber (both d (isAnswered b)) + c + flagNumber (isAnswered (next false r d b)) ≤ begun + flagNumber (either r x))
+      go : (r d : Bool) → (r && d) ≡ false → (b : Bell) (x : Bool) → (c + flagNumber (isUp b) ≤ begun + 1) × (c + flagNumber (isAnswered b) ≤ begun + flagNumber x)
+          → (flagNumber (d && isAnswered b) + c + flagNumber (isUp (next false r d b)) ≤ begun + 1) × (flagNumber (d && isAnswered b) + c + flagNumber (isAnswered (next false r d b)) ≤ begun + flagNumber (r || x))
       go true true e b x i = absurd (true≢false e)
       go true false e Quiet x i = omega arith
       go true false e Rung x i = omega arith
@@ -101,12 +100,12 @@ unfolding counted
 once s t stretch ring past rung q = go (drains s t) (bell s (stretch ++ ring ∷ past)) (ring-budget s ring past rung stretch q .1)
   where
     go : (d : Bool) (b : Bell) → counted s (stretch ++ ring ∷ past) + flagNumber (isAnswered b) ≤ counted s (ring ∷ past) + flagNumber (someTurn (reads s) stretch)
-        → flagNumber (both d (isAnswered b)) + counted s (stretch ++ ring ∷ past) ≤ counted s (ring ∷ past) + flagNumber (someTurn (reads s) stretch)
+        → flagNumber (d && isAnswered b) + counted s (stretch ++ ring ∷ past) ≤ counted s (ring ∷ past) + flagNumber (someTurn (reads s) stretch)
     go true b i = omega arith
     go false b i = omega arith
 
 -- an unlink counts no advance
-pub none-counted : (x : Event) → isUnlinks x ≡ true → (b : Bool) → flagNumber (both (isDrains x) b) ≡ 0
+pub none-counted : (x : Event) → isUnlinks x ≡ true → (b : Bool) → flagNumber (isDrains x && b) ≡ 0
 none-counted Other e b = refl
 none-counted Reads e b = refl
 none-counted Drains e b = absurd (false≢true e)

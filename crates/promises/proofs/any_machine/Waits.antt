@@ -1,11 +1,10 @@
 -- Of any machine that keeps the exact rule, has a ring out exactly while an unlink is unanswered, and takes each event in its place: how long an unlink waits.
 use Prim.Native.Nat.{ℕ, _+_, _≤_}
-use mathlib.Core.Bool.{Bool, true, false, cond, true≢false, false≢true}
+use mathlib.Core.Bool.{Bool, true, false, cond, true≢false, false≢true, _||_}
 use mathlib.Core.List.{List, [], _∷_, _++_}
 use mathlib.Core.Path.{_≡_, refl, sym, ap, _∙_}
 use native.Mathlib.Omega.{arith}
 use lib.ListN.{length, take}
-use Rattle.settings.specs.Tests.{either}
 use Rattle.settings.specs.declared.settings.Settings.{Settings}
 use Rattle.pipe.specs.Endpoints.{flagNumber}
 use Rattle.ehci.specs.declared.call.Call.{Call}
@@ -51,7 +50,7 @@ module _ (m : Machine) (s : Settings) (w : World) (exact : PassesExactly m s w) 
             → (unlinking s k h ≡ true) × (number s k h ≡ asked s (hist cs) + 1) × (linked s k h ≡ false)
             → (cond (unlinksOf s k t) true (cond (renews s k t) false (unlinking s k h)) ≡ true)
             × (cond (unlinksOf s k t) (asked s h + 1) (number s k h) ≡ asked s (hist cs) + 1)
-            × (cond (submits s k t) true (cond (either (unlinksOf s k t) (partsOf s k t)) false (linked s k h)) ≡ false)
+            × (cond (submits s k t) true (cond (unlinksOf s k t || partsOf s k t) false (linked s k h)) ≡ false)
         go true ea b eb rec = absurd (false≢true (sym (rec .2) ∙ orderly (ds ++ c ∷ cs) d k .0 ea .0))
         go false ea true eb rec = absurd (true≢false (sym (rec .0) ∙ orderly (ds ++ c ∷ cs) d k .2 eb .1))
         go false ea false eb rec = (rw (ea, eb, q .0) (rec .0), rw ea (rec .1), rw (eb, ea) (off (partsOf s k t) (rec .2)))

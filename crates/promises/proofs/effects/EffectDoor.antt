@@ -1,6 +1,6 @@
 -- The door: a call that finds the rows as opening fixed them does what its crate says, and any other is refused.
 use Prim.Native.Nat.{ℕ}
-use mathlib.Core.Bool.{Bool, true, false, not}
+use mathlib.Core.Bool.{Bool, true, false, not, _&&_}
 use mathlib.Core.List.{List}
 use mathlib.Core.Path.{_≡_, refl, ap, _∙_}
 use lib.ListN.{length}
@@ -9,7 +9,6 @@ use Rattle.register.specs.declared.writes.Writes.{Writes}
 use Rattle.pool.specs.Chains.{fillOf, noChain}
 use Rattle.pool.specs.declared.chain.View.{View}
 use Rattle.pool.proofs.ChainLaws.{fill-no-chain}
-use Rattle.settings.specs.Tests.{both}
 use Rattle.state.specs.Slots.{slotAt}
 use Rattle.state.specs.declared.state.Ehci.{Ehci}
 use Rattle.state.proofs.RangesLaws.{Ranges}
@@ -48,7 +47,7 @@ unfolding endpointAt slotAt
 idles-on s x er es i = record { stopped = λ h. er ∙ i .stopped (λ z. h (es ∙ z)); runs = λ k u. er ∙ i .runs k u }
 
 -- the head of a slot does not leave a schedule whose words stay
-pub stays-in : (b : Bool) → both b (not b) ≡ false
+pub stays-in : (b : Bool) → (b && not b) ≡ false
 stays-in true = refl
 stays-in false = refl
 

@@ -1,6 +1,6 @@
 -- Acknowledge, drain, rearm, enable, disable.
 use Prim.Native.Nat.{ℕ, _≤_, _<_, min}
-use mathlib.Core.Bool.{Bool, true, false, not, cond}
+use mathlib.Core.Bool.{Bool, true, false, not, cond, _&&_}
 use mathlib.Core.List.{[], _∷_}
 use mathlib.Core.Logic.{inl, inr}
 use mathlib.Core.Path.{_≡_, refl, sym, ap, _∙_}
@@ -12,7 +12,6 @@ use Rattle.register.specs.Bits.{anyOf, bit, onlyBits, withBits, withoutBits}
 use Rattle.register.specs.Writes.{andThen, listOf, noWrites}
 use Rattle.register.proofs.BitLaws.{only-bit}
 use Rattle.register.proofs.FieldLaws.{any-field}
-use Rattle.settings.specs.Tests.{both}
 use Rattle.settings.proofs.SettingsCases.{both-second}
 use Rattle.state.specs.Ranges.{inRanges}
 use Rattle.state.specs.State.{withBell, withBoundaries, withInterrupt}
@@ -91,11 +90,11 @@ module _ (w : World) (x : InterruptReadings) where
   unfolding acknowledgedState withInterrupt notedAfter
   acknowledged-keeps r =
       note-keeps (withInterrupt s (s .enabled) (withBits (s .pending) p) (withBits (s .masked) (onlyBits p 0x27))) _
-      (note-most (both (anyOf p 0x20) (eqb (s .doorbell) 1)) up r)
+      (note-most (anyOf p 0x20 && eqb (s .doorbell) 1) up r)
       (interrupt-keeps s (s .enabled) (withBits (s .pending) p) (withBits (s .masked) (onlyBits p 0x27)) (r .enabled-flag)
       (only-joins 0x37 (lit< tt) (s .pending) (x .status) (r .pending-only)) (only-masked (s .masked) p (r .masked-only)) r)
     where
-      up : both (anyOf p 0x20) (eqb (s .doorbell) 1) ≡ true → s .doorbell ≡ 1
+      up : (anyOf p 0x20 && eqb (s .doorbell) 1) ≡ true → s .doorbell ≡ 1
       up e = eqb-true (s .doorbell) 1 (both-second (anyOf p 0x20) (eqb (s .doorbell) 1) e)
 
   abbrev Acked : Acknowledgement → Type 0

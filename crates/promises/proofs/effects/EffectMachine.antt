@@ -1,6 +1,6 @@
 -- Bring-up and the allotment of addresses: they touch neither slots, owners nor doorbell.
 use Prim.Native.Nat.{ℕ, zero, suc, _+_, _≤_, _<_}
-use mathlib.Core.Bool.{Bool, true, false, not}
+use mathlib.Core.Bool.{Bool, true, false, not, _||_, cond}
 use mathlib.Core.List.{[], _∷_}
 use mathlib.Core.Path.{_≡_, refl, sym, ap, subst, _∙_}
 use native.Mathlib.Decide.{ℕ-discrete as decEq}
@@ -9,7 +9,6 @@ use borrow.Author.Tests.{eqb-false, ltb-false, ltb-true}
 use lib.Dec.{eqb, ltb}
 use Rattle.register.specs.Bits.{withBits, withoutBits}
 use Rattle.register.specs.Writes.{andThen, listOf, noWrites}
-use Rattle.settings.specs.Tests.{either}
 use Rattle.state.specs.declared.state.Ehci.{Ehci}
 use Rattle.settings.proofs.Every.{false-true}
 use Rattle.state.specs.Ranges.{inRanges}
@@ -29,7 +28,7 @@ use Rattle.controller.specs.declared.calls.Allotment.{Allotment}
 use Rattle.controller.proofs.AddressLaws.{allot-keeps}
 use Rattle.schedule.specs.Bell.{commandWord}
 use Rattle.schedule.proofs.BellLaws.{command-clear}
-use Rattle.bring_up.specs.BringUp.{againOf, anyUncollected, movedOn, onwardOf, pickBroughtUp, ready, registerOf, stageOf, stageWrites, startOf, stepOf, setUp}
+use Rattle.bring_up.specs.BringUp.{againOf, anyUncollected, movedOn, onwardOf, ready, registerOf, stageOf, stageWrites, startOf, stepOf, setUp}
 use Rattle.bring_up.specs.declared.calls.BroughtUp.{BroughtUp}
 use Rattle.bring_up.specs.declared.stage.Stage.{Stage}
 use Rattle.bring_up.specs.declared.stage.Stage.the-variants.{Stop, Halting, Reset, Resetting, Run, Starting}
@@ -74,7 +73,7 @@ brought s running step waited enabled =
 
 -- ---- who runs
 
-neither : (a b : Bool) → either a b ≡ false → (a ≡ false) × (b ≡ false)
+neither : (a b : Bool) → (a || b) ≡ false → (a ≡ false) × (b ≡ false)
 neither true b e = absurd (false-true (sym e))
 neither false b e = (refl, e)
 
@@ -173,7 +172,7 @@ module _ (w : World) where
       (stage-silent stage v (s .settings .frames) (s .settings .heads)) refl keeps refl
       (step-idles s (movedOn stage .running) (movedOn stage .step) 0 begun (moved-stops stage)) (moved-switches stage (s .running))
 
-  stage-effect : (v : ℕ) (stage : Stage) (b : Bool) → (s .step ≡ 0 → ⊥) → Stepped v (pickBroughtUp b (onwardOf s stage v) (againOf s (registerOf stage)))
+  stage-effect : (v : ℕ) (stage : Stage) (b : Bool) → (s .step ≡ 0 → ⊥) → Stepped v (cond b (onwardOf s stage v) (againOf s (registerOf stage)))
   stage-effect v stage true = onward-effect v stage
   stage-effect v stage false = again-effect v (registerOf stage)
 

@@ -1,6 +1,6 @@
 -- The interrupt calls keep a state in its ranges.
 use Prim.Native.Nat.{ℕ, _-_, _^_, _≤_, _<_, min}
-use mathlib.Core.Bool.{Bool, true, false, not}
+use mathlib.Core.Bool.{Bool, true, false, not, _&&_}
 use mathlib.Core.Path.{_≡_, refl, sym, _∙_}
 use native.Mathlib.Omega.{arith}
 use native.Mathlib.Nat.{zero-add, zero-div}
@@ -10,7 +10,6 @@ use lib.Bits.{and-le-l, and-le-r, or-add-and}
 use lib.Dec.{eqb, leb}
 use Rattle.register.specs.Bits.{bit, onlyBits, withBits, withoutBits}
 use Rattle.register.proofs.BitLaws.{only-bit, same-word, with-bit, without-bit}
-use Rattle.settings.specs.Tests.{both}
 use Rattle.slot.specs.Ranges.{slotGood}
 use Rattle.slot.specs.declared.slot.Slot.{Slot}
 use Rattle.slot.proofs.SlotLaws.{Bounded, NoRequest, Phase, slot-makes, slot-tells}
@@ -138,7 +137,7 @@ module _ (e : Slot) (u : ℕ) (some : 1 ≤ u) where
   unfolding fallenOne
   falls p b = by (eqb (e .kind) 3) refl
     where
-      by : (t : Bool) → eqb (e .kind) 3 ≡ t → Bounded (e .kind) (fallIf (both (eqb (e .phase) 3) (not (eqb (e .kind) 3))) (e .boundary)) (u - 1)
+      by : (t : Bool) → eqb (e .kind) 3 ≡ t → Bounded (e .kind) (fallIf (eqb (e .phase) 3 && not (eqb (e .kind) 3)) (e .boundary)) (u - 1)
       by true q = rw (p, q) (record { frame = λ k. b .frame k; advances = λ ne. absurd (ne (eqb-true (e .kind) 3 q)) })
       by false q =
           rw (p, q)

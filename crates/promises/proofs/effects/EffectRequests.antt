@@ -1,6 +1,6 @@
 -- Submit, writeback, cancel, collect.
 use Prim.Native.Nat.{ℕ, _+_, _<_}
-use mathlib.Core.Bool.{Bool, true, false, not, cond}
+use mathlib.Core.Bool.{Bool, true, false, not, cond, _&&_}
 use mathlib.Core.List.{List, [], _∷_}
 use mathlib.Core.Logic.{inl, inr}
 use mathlib.Core.Path.{_≡_, refl, ap}
@@ -9,7 +9,6 @@ use lib.Dec.{eqb}
 use lib.ListN.{length}
 use Rattle.register.specs.Writes.{noWrites}
 use Rattle.pool.specs.declared.chain.View.{View}
-use Rattle.settings.specs.Tests.{both}
 use Rattle.settings.specs.declared.settings.Settings.{Settings}
 use Rattle.state.specs.declared.state.Ehci.{Ehci}
 use Rattle.answer.specs.Answers.{first, passed}
@@ -44,8 +43,8 @@ use Rattle.promises.proofs.effects.EffectDoor.{leaves, refused-still, r
 
 -- no head leaves where the words of heads and frames stay
 pub none-leaves : (s : Settings) (k frame : ℕ) (old new : Rows) → new .heads ≡ old .heads → new .frames ≡ old .frames
-    → cond (both (isIn (k + 1) (ringWalk s old)) (not (isIn (k + 1) (ringWalk s new)))) (Unlinks k)
-    (cond (both (isIn (k + 1) (frameWalk s old 0)) (not (isIn (k + 1) (frameWalk s new 0)))) (Parts k frame) Other)
+    → cond (isIn (k + 1) (ringWalk s old) && not (isIn (k + 1) (ringWalk s new))) (Unlinks k)
+    (cond (isIn (k + 1) (frameWalk s old 0) && not (isIn (k + 1) (frameWalk s new 0))) (Parts k frame) Other)
     ≡ Other
 unfolding ringWalk frameWalk
 none-leaves s k frame old new eh ef =

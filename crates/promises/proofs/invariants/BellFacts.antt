@@ -1,6 +1,6 @@
 -- What the kinds of effect do to the doorbell, and to the endpoints of the slots.
 use Prim.Native.Nat.{ℕ, _+_, _-_, _≤_, _<_}
-use mathlib.Core.Bool.{Bool, true, false, not, true≢false, false≢true}
+use mathlib.Core.Bool.{Bool, true, false, not, true≢false, false≢true, _&&_, cond}
 use mathlib.Core.Path.{_≡_, refl, ap, _∙_}
 use native.Mathlib.Omega.{arith}
 use borrow.Author.Tests.{eqb-false, le-leb, ltb-true}
@@ -8,12 +8,11 @@ use lib.Dec.{eqb, leb, ltb}
 use lib.ListN.{getD}
 use Rattle.register.specs.Bits.{withBits}
 use Rattle.register.specs.Writes.{andThen, listOf, noWrites}
-use Rattle.settings.specs.Tests.{both}
 use Rattle.slot.specs.declared.slot.Slot.{Slot}
 use Rattle.state.specs.Slots.{slotAt}
 use Rattle.state.specs.State.{withBell, withBoundaries}
 use Rattle.state.specs.declared.state.Ehci.{Ehci}
-use Rattle.pipe.specs.Endpoints.{decoded, endpointAt, flagNumber, pickBoundary, pickEndpoint, pipeOf, requestOf}
+use Rattle.pipe.specs.Endpoints.{decoded, endpointAt, flagNumber, pickBoundary, pipeOf, requestOf}
 use Rattle.pipe.specs.declared.endpoints.Endpoint.{Endpoint}
 use Rattle.pipe.specs.declared.endpoints.Endpoint.the-variants.{Closed, Idle, Linked, Unlinking}
 use Rattle.pipe.specs.declared.endpoints.Pipe.{Pipe}
@@ -88,16 +87,16 @@ module _ (b : Bell) (command : ℕ) (flag : b .doorbell ≤ 1) where
   abbrev raised : Bell
   raised = record { noted = b .noted; doorbell = b .doorbell; unanswered = b .unanswered + 1 }
 
-  must : both (eqb (b .doorbell) 0) (leb 1 (b .unanswered + 1)) ≡ eqb (b .doorbell) 0
+  must : (eqb (b .doorbell) 0 && leb 1 (b .unanswered + 1)) ≡ eqb (b .doorbell) 0
   must = rw (le-leb 1 (b .unanswered + 1) (omega arith)) (go (eqb (b .doorbell) 0))
     where
-      go : (x : Bool) → both x true ≡ x
+      go : (x : Bool) → (x && true) ≡ x
       go true = refl
       go false = refl
 
   pub unlink-rings : someRing (listOf (unlinkedOf b noWrites command .writes)) ≡ eqb (b .doorbell) 0
   unfolding unlinkedOf ringOf
-  unlink-rings = rung-writes raised command (both (eqb (b .doorbell) 0) (leb 1 (b .unanswered + 1))) ∙ must
+  unlink-rings = rung-writes raised command (eqb (b .doorbell) 0 && leb 1 (b .unanswered + 1)) ∙ must
 
   pub unlink-doorbell : unlinkedOf b noWrites command .bell .doorbell ≡ 1
   unfolding unlinkedOf ringOf
@@ -109,11 +108,11 @@ module _ (b : Bell) (command : ℕ) (flag : b .doorbell ≤ 1) where
 
   pub unlink-noted : unlinkedOf b noWrites command .bell .noted ≡ b .noted
   unfolding unlinkedOf ringOf
-  unlink-noted = rung-noted raised command (both (eqb (b .doorbell) 0) (leb 1 (b .unanswered + 1)))
+  unlink-noted = rung-noted raised command (eqb (b .doorbell) 0 && leb 1 (b .unanswered + 1))
 
   pub unlink-unanswered : unlinkedOf b noWrites command .bell .unanswered ≡ b .unanswered + 1
   unfolding unlinkedOf ringOf
-  unlink-unanswered = rung-unanswered raised command (both (eqb (b .doorbell) 0) (leb 1 (b .unanswered + 1)))
+  unlink-unanswered = rung-unanswered raised command (eqb (b .doorbell) 0 && leb 1 (b .unanswered + 1))
 
 -- ---- endpoints
 
@@ -150,8 +149,8 @@ decoded-falls e = go (eqb (e .phase) 1) (eqb (e .phase) 2) (eqb (e .phase) 3) (e
     r = requestOf e
 
     go : (one two three frames : Bool)
-        → pickEndpoint one (Idle p) (pickEndpoint two (Linked p r) (pickEndpoint three (Unlinking p r (pickBoundary frames (fallIf (both three (not frames)) (e .boundary)))) Closed))
-        ≡ fallen (pickEndpoint one (Idle p) (pickEndpoint two (Linked p r) (pickEndpoint three (Unlinking p r (pickBoundary frames (e .boundary))) Closed)))
+        → cond one (Idle p) (cond two (Linked p r) (cond three (Unlinking p r (pickBoundary frames (fallIf (three && not frames) (e .boundary)))) Closed))
+        ≡ fallen (cond one (Idle p) (cond two (Linked p r) (cond three (Unlinking p r (pickBoundary frames (e .boundary))) Closed)))
     go true two three frames = refl
     go false true three frames = refl
     go false false true true = refl
@@ -174,7 +173,7 @@ module _ (s : Ehci) (n d u : ℕ) where
   unfolding endpointAt
   all-fall k = go (ltb k 32) refl
     where
-      go : (b : Bool) → ltb k 32 ≡ b → pickEndpoint b (decoded (slotAt counted k)) Closed ≡ fallen (pickEndpoint b (decoded (slotAt s k)) Closed)
+      go : (b : Bool) → ltb k 32 ≡ b → cond b (decoded (slotAt counted k)) Closed ≡ fallen (cond b (decoded (slotAt s k)) Closed)
       go true e = ap decoded (lowered-slot k (ltb-true k 32 e)) ∙ decoded-falls (slotAt s k)
       go false e = refl
 
@@ -190,6 +189,6 @@ pub fresh-closed : (s : _) (k : ℕ) → endpointAt (freshState s) k ≡ Closed
 unfolding endpointAt decoded
 fresh-closed s k = go (ltb k 32) refl
   where
-    go : (b : Bool) → ltb k 32 ≡ b → pickEndpoint b (decoded (slotAt (freshState s) k)) Closed ≡ Closed
+    go : (b : Bool) → ltb k 32 ≡ b → cond b (decoded (slotAt (freshState s) k)) Closed ≡ Closed
     go true e = ap decoded (fresh-slot s k (ltb-true k 32 e))
     go false e = refl

@@ -1,13 +1,12 @@
 -- What ties the doorbell and the slots to the history; and that it lasts, by kinds of turn.
 use Prim.Native.Nat.{ℕ, suc, _+_, _-_, _≤_, _<_}
-use mathlib.Core.Bool.{Bool, true, false, not, true≢false}
+use mathlib.Core.Bool.{Bool, true, false, not, true≢false, _&&_}
 use mathlib.Core.List.{[], _∷_}
 use mathlib.Core.Path.{_≡_, refl, sym, ap, subst, _∙_}
 use native.Mathlib.Decide.{ℕ-discrete as decEq}
 use native.Mathlib.Omega.{arith}
 use borrow.Author.Tests.{eqb-true, eqb-false, le-ltb, leb-false, leb-true, lt-ltb, ltb-false, ltb-true}
 use lib.Dec.{eqb, leb, ltb}
-use Rattle.settings.specs.Tests.{both}
 use Rattle.settings.specs.declared.settings.Settings.{Settings}
 use Rattle.pipe.specs.Endpoints.{flagNumber}
 use Rattle.pipe.specs.declared.endpoints.Endpoint.{Endpoint}
@@ -35,7 +34,7 @@ pub record BellInv (s : Settings) (h : History) (n d u p : ℕ) (f : ℕ → End
 pub record Calm (s : Settings) (t : Turn) (h : History) : Type 0 where
   pub no-ring : rings t ≡ false
   pub no-read : reads s t ≡ false
-  pub no-count : both (drains s t) (isAnswered (bell s h)) ≡ false
+  pub no-count : (drains s t && isAnswered (bell s h)) ≡ false
   pub no-unlink : unlinks s t ≡ false
 
 module _ (s : Settings) (t : Turn) (h : History) (calm : Calm s t h) where
@@ -43,7 +42,7 @@ module _ (s : Settings) (t : Turn) (h : History) (calm : Calm s t h) where
   unfolding bell
   calm-bell = rw (calm .no-ring, calm .no-read) (go (drains s t) (bell s h) (calm .no-count))
     where
-      go : (a : Bool) (b : Bell) → both a (isAnswered b) ≡ false → next false false a b ≡ b
+      go : (a : Bool) (b : Bell) → (a && isAnswered b) ≡ false → next false false a b ≡ b
       go false b e = refl
       go true Quiet e = refl
       go true Rung e = refl

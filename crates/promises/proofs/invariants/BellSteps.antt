@@ -1,6 +1,6 @@
 -- The doorbell's invariant lasts, effect by effect.
 use Prim.Native.Nat.{ℕ, suc, _+_, _-_, _<_}
-use mathlib.Core.Bool.{Bool, true, false, true≢false}
+use mathlib.Core.Bool.{Bool, true, false, true≢false, _&&_}
 use mathlib.Core.List.{List, _∷_}
 use mathlib.Core.Logic.{_⊎_, inl, inr}
 use mathlib.Core.Path.{_≡_, refl, sym, ap, subst, _∙_}
@@ -9,7 +9,6 @@ use borrow.Author.Tests.{eqb-true, ne-eqb}
 use lib.Dec.{eqb, leb}
 use Rattle.register.specs.Writes.{listOf, noWrites}
 use Rattle.register.specs.declared.writes.Writes.{Writes}
-use Rattle.settings.specs.Tests.{both}
 use Rattle.settings.specs.declared.settings.Settings.{Settings}
 use Rattle.state.specs.Slots.{withSlot}
 use Rattle.state.specs.State.{withBell, withBoundaries, withOwner}
@@ -62,7 +61,7 @@ flag-none : (b : Bool) (n : ℕ) → n ≡ flagNumber b → (n ≡ 1 → ⊥) �
 flag-none true n e z = absurd (z e)
 flag-none false n e z = refl
 
-not-both : (a b : Bool) → b ≡ false → both a b ≡ false
+not-both : (a b : Bool) → b ≡ false → (a && b) ≡ false
 not-both true b e = e
 not-both false b e = refl
 
@@ -80,11 +79,11 @@ module _ (s : Settings) (w : World) (c : Call) (a : Applied) (h : History) (soun
   pub is : (x : Event) → event (old .settings) t ≡ x → event s t ≡ x
   is x e = subst (λ (z : Settings). event z t ≡ x) (sound .settings-are) e
 
-  pub calm : (x : Event) → event s t ≡ x → isReads x ≡ false → isUnlinks x ≡ false → both (isDrains x) (isAnswered (bell s h)) ≡ false → rings t ≡ false → Calm s t h
+  pub calm : (x : Event) → event s t ≡ x → isReads x ≡ false → isUnlinks x ≡ false → (isDrains x && isAnswered (bell s h)) ≡ false → rings t ≡ false → Calm s t h
   calm x e r u d q = record {
     no-ring = q;
     no-read = ap isReads e ∙ r;
-    no-count = ap (λ (y : Event). both (isDrains y) (isAnswered (bell s h))) e ∙ d;
+    no-count = ap (λ (y : Event). (isDrains y && isAnswered (bell s h))) e ∙ d;
     no-unlink = ap isUnlinks e ∙ u;
   }
 
@@ -178,7 +177,7 @@ module _ (s : Settings) (w : World) (c : Call) (a : Applied) (h : History) (soun
     one-step : (y : Endpoint) → Proper y → ((v : ℕ) → waitsFor (suc v) y ≡ waitsFor (suc v) (endpointAt old k)) → Slot s k (t ∷ h) (old .unanswered) y → Next (withEndpoint old k y)
     unfolding withEndpoint withSlot
     one-step y proper waits slot =
-        one-inv s t h (calm x e r u (ap (λ (b : Bool). both b (isAnswered (bell s h))) d) silent) (old .noted) (old .doorbell) (old .unanswered) (old .pending) (old .pending)
+        one-inv s t h (calm x e r u (ap (λ (b : Bool). (b && isAnswered (bell s h))) d) silent) (old .noted) (old .doorbell) (old .unanswered) (old .pending) (old .pending)
         (endpointAt old) (endpointAt (withEndpoint old k y)) g (g .pend) k y (endpoint-same old k y (sound .wide) known proper) (endpoint-other old k y) waits slot
         (λ j ne. aside-of j x e (others j ne))
 
@@ -186,7 +185,7 @@ module _ (s : Settings) (w : World) (c : Call) (a : Applied) (h : History) (soun
     owned-step : (o : List ℕ) (y : Endpoint) → Proper y → ((v : ℕ) → waitsFor (suc v) y ≡ waitsFor (suc v) (endpointAt old k)) → Slot s k (t ∷ h) (old .unanswered) y → Next (withEndpoint (withOwner old o) k y)
     unfolding withEndpoint withSlot withOwner
     owned-step o y proper waits slot =
-        one-inv s t h (calm x e r u (ap (λ (b : Bool). both b (isAnswered (bell s h))) d) silent) (old .noted) (old .doorbell) (old .unanswered) (old .pending) (old .pending)
+        one-inv s t h (calm x e r u (ap (λ (b : Bool). (b && isAnswered (bell s h))) d) silent) (old .noted) (old .doorbell) (old .unanswered) (old .pending) (old .pending)
         (endpointAt old) (endpointAt (withEndpoint (withOwner old o) k y)) g (g .pend) k y (endpoint-same (withOwner old o) k y (owner-wide old o (sound .wide)) known proper)
         (λ j ne. endpoint-other (withOwner old o) k y j ne ∙ owner-aside old o j) waits slot (λ j ne. aside-of j x e (others j ne))
 
@@ -199,7 +198,7 @@ module _ (s : Settings) (w : World) (c : Call) (a : Applied) (h : History) (soun
 
   stays : (k : ℕ) (x : Event) → event s t ≡ x → Aside k x → rings t ≡ false → isReads x ≡ false → isUnlinks x ≡ false → isDrains x ≡ false → (y : Endpoint) → Slot s k h (old .unanswered) y → Slot s k (t ∷ h) (old .unanswered) y
   stays k x e y q r u d z slot =
-      slot-on s k t h (aside-of k x e y) (calm-counted s t h (calm x e r u (ap (λ (b : Bool). both b (isAnswered (bell s h))) d) q)) (old .unanswered) (old .unanswered) (omega arith) z slot
+      slot-on s k t h (aside-of k x e y) (calm-counted s t h (calm x e r u (ap (λ (b : Bool). (b && isAnswered (bell s h))) d) q)) (old .unanswered) (old .unanswered) (omega arith) z slot
 
   pub opens-step : Opens w c a → Next (a .reply .state)
   opens-step x =

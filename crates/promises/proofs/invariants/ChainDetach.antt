@@ -1,14 +1,13 @@
 -- A linked head is found by its predecessor, and taking it out leaves both schedules' chains.
 use Prim.Native.Nat.{ℕ, _+_, _*_, _/_, _<_}
 use mathlib.Core.Path.{_≡_, refl, sym, ap, subst, _∙_}
-use mathlib.Core.Bool.{Bool, true, false, not}
+use mathlib.Core.Bool.{Bool, true, false, not, _&&_, _||_}
 use mathlib.Core.List.{List, [], _∷_, _++_}
 use native.Mathlib.Omega.{arith}
 use borrow.Author.Tests.{eq-eqb, eqb-false, ne-eqb, not-true}
 use lib.Dec.{eqb}
 use lib.ListN.{getD, getD-replicate, length, replicate}
 use lib.Seq.{getD-set-other}
-use Rattle.settings.specs.Tests.{both, either}
 use Rattle.settings.proofs.Every.{false-true}
 use Rattle.settings.proofs.SettingsCases.{both-first, both-second}
 use Rattle.state.specs.declared.state.Ehci.{Ehci}
@@ -48,7 +47,7 @@ next-link s h w j k e (i ∷ pre) post c = next-link s h (linkWord h i) j k e pr
 in-neighbour : (j k : ℕ) (pre post : List ℕ) → isIn j (pre ++ j ∷ k ∷ post) ≡ true
 in-neighbour j k pre post = in-append j pre (j ∷ k ∷ post) ∙ rw (eq-eqb j j refl) (by (isIn j pre))
   where
-    by : (b : Bool) → either b true ≡ true
+    by : (b : Bool) → (b || true) ≡ true
     by true = refl
     by false = refl
 
@@ -81,7 +80,7 @@ module _ (s : Ehci) (r : Ranges s) (wide : Wide s) (h f : List ℕ) (k : ℕ) (b
   precedes-made : (j : ℕ) → isIn j ks ≡ true → (j ≡ k → ⊥) → linkWord h j ≡ slotLink s k → precedes s h k j ≡ true
   unfolding precedesOne
   precedes-made j m ne link =
-      let is : both (eqb (getD (s .phases) j 0) 2) (same b (periodic s j)) ≡ true = sym (linked-by s r wide b j) ∙ sym (x .members j) ∙ m in
+      let is : (eqb (getD (s .phases) j 0) 2 && same b (periodic s j)) ≡ true = sym (linked-by s r wide b j) ∙ sym (x .members j) ∙ m in
       rw (
         ne-eqb j k ne,
         both-first (eqb (getD (s .phases) j 0) 2) _ is,

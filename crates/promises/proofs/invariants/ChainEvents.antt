@@ -1,13 +1,12 @@
 -- A call that unlinks is seen to: its head was met by its schedule's walk before, and is not after.
 use Prim.Native.Nat.{ℕ, _+_, _*_, _<_}
 use mathlib.Core.Path.{_≡_, refl, sym, ap, subst, _∙_}
-use mathlib.Core.Bool.{Bool, true, false, not, cond}
+use mathlib.Core.Bool.{Bool, true, false, not, cond, _&&_, _||_}
 use mathlib.Core.List.{List, [], _∷_, _++_}
 use native.Mathlib.Omega.{arith}
 use borrow.Author.Tests.{eq-eqb, ne-eqb}
 use lib.Dec.{eqb}
 use lib.ListN.{getD, length}
-use Rattle.settings.specs.Tests.{both, either}
 use Rattle.settings.specs.declared.settings.Settings.{Settings}
 use Rattle.settings.proofs.SettingsCases.{both-second}
 use Rattle.settings.proofs.SettingsLaws.{Good}
@@ -51,7 +50,7 @@ in-ring-places : (k : ℕ) (ks : List ℕ) → isIn (k + 1) (headPlaces ks ++ 0 
 in-ring-places k ks =
     in-append (k + 1) (headPlaces ks) (0 ∷ []) ∙ rw (ne-eqb 0 (k + 1) (λ e. omega arith), in-places k ks) (by (isIn k ks))
   where
-    by : (b : Bool) → either b false ≡ b
+    by : (b : Bool) → (b || false) ≡ b
     by true = refl
     by false = refl
 
@@ -59,11 +58,11 @@ in-ring-places k ks =
 
 module _ (s : Ehci) (g : Good (s .settings)) (t : Turn) (k : ℕ) where
   ring-left : (ks ls : List ℕ) → ringWalk (s .settings) (t .before) ≡ headPlaces ks ++ 0 ∷ [] → ringWalk (s .settings) (t .after) ≡ headPlaces ls ++ 0 ∷ []
-      → leavesRing (s .settings) k t ≡ both (isIn k ks) (not (isIn k ls))
+      → leavesRing (s .settings) k t ≡ (isIn k ks && not (isIn k ls))
   ring-left ks ls a b = rw (a, b, in-ring-places k ks, in-ring-places k ls)
 
   frames-left : (js ms : List ℕ) → frameWalk (s .settings) (t .before) 0 ≡ headPlaces js → frameWalk (s .settings) (t .after) 0 ≡ headPlaces ms
-      → leavesFrames (s .settings) k t ≡ both (isIn k js) (not (isIn k ms))
+      → leavesFrames (s .settings) k t ≡ (isIn k js && not (isIn k ms))
   frames-left js ms a b = rw (a, b, in-places k js, in-places k ms)
 
 in-self : (k : ℕ) (ks : List ℕ) → isIn k (remove k ks) ≡ false
@@ -112,8 +111,8 @@ module _ (w : World) (c : Call) (a : Applied) (r : Ranges (w .state)) (wide : Wi
         (λ i m. linked-within true (w .state) i r (sym (x .periodic .members i) ∙ wm i m)) 0 (p .frames)
 
     left-by : event (w .state .settings) turn
-        ≡ cond (both (isIn (u .k) ks) (not (isIn (u .k) ls))) (Unlinks (u .k))
-        (cond (both (isIn (u .k) js) (not (isIn (u .k) ms))) (Parts (u .k) (u .readings .frame)) Other)
+        ≡ cond (isIn (u .k) ks && not (isIn (u .k) ls)) (Unlinks (u .k))
+        (cond (isIn (u .k) js && not (isIn (u .k) ms)) (Parts (u .k) (u .readings .frame)) Other)
     left-by =
         u .leaves
         ∙ rw (ring-left (w .state) (r .good) turn (u .k) ks ls ring-before ring-after, frames-left (w .state) (r .good) turn (u .k) js ms frames-before frames-after)

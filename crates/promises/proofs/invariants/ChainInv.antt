@@ -1,21 +1,20 @@
 -- The two schedules of a world: each is a chain of links through exactly the linked slots of its kind.
 use Prim.Native.Nat.{ℕ, _+_, _-_, _*_, _≤_, _<_}
 use mathlib.Core.Path.{_≡_, refl, sym, ap, _∙_}
-use mathlib.Core.Bool.{Bool, true, false, not}
+use mathlib.Core.Bool.{Bool, true, false, not, _&&_, cond}
 use mathlib.Core.List.{List, [], _∷_}
 use native.Mathlib.Decide.{ℕ-discrete as decEq}
 use native.Mathlib.Omega.{arith}
 use borrow.Author.Tests.{eq-eqb, le-ltb, lt-ltb, ne-eqb}
 use lib.Dec.{eqb, ltb}
 use lib.ListN.{getD, length, List·getD-eq-default}
-use Rattle.settings.specs.Tests.{both}
 use Rattle.settings.specs.declared.settings.Settings.{Settings}
 use Rattle.slot.specs.declared.slot.Slot.{Slot}
 use Rattle.slot.proofs.SlotLaws.{Phase, slot-tells}
 use Rattle.state.specs.Slots.{slotAt}
 use Rattle.state.specs.declared.state.Ehci.{Ehci}
 use Rattle.state.proofs.RangesLaws.{Ranges}
-use Rattle.pipe.specs.Endpoints.{decoded, encoded, endpointAt, kindOf, pickEndpoint, withEndpoint}
+use Rattle.pipe.specs.Endpoints.{decoded, encoded, endpointAt, kindOf, withEndpoint}
 use Rattle.pipe.specs.Kinds.{isInterrupt}
 use Rattle.pipe.specs.declared.endpoints.Endpoint.{Endpoint}
 use Rattle.pipe.specs.declared.endpoints.Endpoint.the-variants.{Closed, Idle, Linked, Unlinking}
@@ -67,12 +66,12 @@ interrupt-is n h = by (decEq n 0) (decEq n 1) (decEq n 2)
     by (no a) (no b) (yes e) = rw e
     by (no a) (no b) (no c) = rw (ne-eqb n 0 a, ne-eqb n 1 b, ne-eqb n 2 c) (sym (eq-eqb n 3 (omega arith)))
 
-decoded-linked : (b : Bool) (e : Slot) → linkedIn b (decoded e) ≡ both (eqb (e .phase) 2) (same b (isInterrupt (kindOf (e .kind))))
+decoded-linked : (b : Bool) (e : Slot) → linkedIn b (decoded e) ≡ (eqb (e .phase) 2 && same b (isInterrupt (kindOf (e .kind))))
 unfolding decoded
 decoded-linked b e = by (decEq (e .phase) 1) (decEq (e .phase) 2) (decEq (e .phase) 3)
   where
     by : Dec (e .phase ≡ 1) → Dec (e .phase ≡ 2) → Dec (e .phase ≡ 3)
-        → linkedIn b (decoded e) ≡ both (eqb (e .phase) 2) (same b (isInterrupt (kindOf (e .kind))))
+        → linkedIn b (decoded e) ≡ (eqb (e .phase) 2 && same b (isInterrupt (kindOf (e .kind))))
     by (yes p) two three = rw p
     by (no m) (yes p) three = rw p
     by (no m) (no n) (yes p) = rw p
@@ -84,7 +83,7 @@ pub linked-fields : (b : Bool) (s t : Ehci) (k : ℕ) → t .phases ≡ s .phase
 unfolding endpointAt slotAt
 linked-fields b s t k p q = by (ltb k 32)
   where
-    by : (c : Bool) → linkedIn b (pickEndpoint c (decoded (slotAt t k)) Closed) ≡ linkedIn b (pickEndpoint c (decoded (slotAt s k)) Closed)
+    by : (c : Bool) → linkedIn b (cond c (decoded (slotAt t k)) Closed) ≡ linkedIn b (cond c (decoded (slotAt s k)) Closed)
     by true = decoded-linked b (slotAt t k) ∙ rw (p, q) (sym (decoded-linked b (slotAt s k)))
     by false = refl
 
@@ -96,11 +95,11 @@ open-most u e (Phase.unlinking _ o _ _ _ _) = o .most
 
 module _ (s : Ehci) (r : Ranges s) (w : Wide s) where
   pub linked-by : (b : Bool) (k : ℕ)
-      → linkedIn b (endpointAt s k) ≡ both (eqb (getD (s .phases) k 0) 2) (same b (periodic s k))
+      → linkedIn b (endpointAt s k) ≡ (eqb (getD (s .phases) k 0) 2 && same b (periodic s k))
   unfolding endpointAt slotAt
   linked-by b k = by (decEq (k - 31) 0)
     where
-      by : Dec (k - 31 ≡ 0) → linkedIn b (endpointAt s k) ≡ both (eqb (getD (s .phases) k 0) 2) (same b (periodic s k))
+      by : Dec (k - 31 ≡ 0) → linkedIn b (endpointAt s k) ≡ (eqb (getD (s .phases) k 0) 2 && same b (periodic s k))
       by (yes q) =
           let low : k < 32 = omega arith in
           rw (lt-ltb k 32 low)
@@ -188,6 +187,6 @@ module _ (b : Bool) (s t : Ehci) (e : t .settings ≡ s .settings) (h l : List �
     schedule-shrinks now c old x =
         record { chain = c; apart = distinct-remove k ks (x .apart); members = λ i. in-remove k i ks ∙ by i (decEq i k) }
       where
-        by : (i : ℕ) → Dec (i ≡ k) → both (not (eqb i k)) (isIn i ks) ≡ linkedIn b (endpointAt t i)
+        by : (i : ℕ) → Dec (i ≡ k) → (not (eqb i k) && isIn i ks) ≡ linkedIn b (endpointAt t i)
         by i (yes q) = rw (q, eq-eqb k k refl) (sym now)
         by i (no ne) = rw (ne-eqb i k ne) (x .members i ∙ sym (others i ne))

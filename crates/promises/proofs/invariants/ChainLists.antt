@@ -1,7 +1,7 @@
 -- Lists of slots: what is in them, what is left when one is taken out, and how long a list of different slots can be.
 use Prim.Native.Nat.{ℕ, zero, suc, _+_, _≤_, _<_}
 use mathlib.Core.Path.{_≡_, refl, sym, ap, subst, _∙_}
-use mathlib.Core.Bool.{Bool, true, false, not}
+use mathlib.Core.Bool.{Bool, true, false, not, _&&_, _||_}
 use mathlib.Core.List.{List, [], _∷_, _++_, map}
 use mathlib.Core.Logic.{_⊎_, inl, inr}
 use native.Mathlib.Decide.{ℕ-discrete as decEq}
@@ -9,7 +9,6 @@ use native.Mathlib.Omega.{arith}
 use borrow.Author.Tests.{eq-eqb, ne-eqb}
 use lib.Dec.{eqb}
 use lib.ListN.{length}
-use Rattle.settings.specs.Tests.{both, either}
 use Rattle.settings.proofs.Every.{false-true}
 use Rattle.schedule.specs.Walks.{Avoids, Distinct, In}
 use Rattle.promises.specs.Walks.{isIn}
@@ -44,7 +43,7 @@ module _ (k : ℕ) where
 pub in-later : (i k : ℕ) (ks : List ℕ) → isIn i ks ≡ true → isIn i (k ∷ ks) ≡ true
 in-later i k ks e = by (eqb k i)
   where
-    by : (b : Bool) → either b (isIn i ks) ≡ true
+    by : (b : Bool) → (b || isIn i ks) ≡ true
     by true = refl
     by false = e
 
@@ -57,12 +56,12 @@ in-places k (j ∷ ks) = by (decEq j k) (in-places k ks)
     by (yes q) rest = rw (eq-eqb (j + 1) (k + 1) (omega arith), eq-eqb j k q)
     by (no ne) rest = rw (ne-eqb (j + 1) (k + 1) (λ e. ne (omega arith)), ne-eqb j k ne) rest
 
-pub in-append : (k : ℕ) (ks js : List ℕ) → isIn k (ks ++ js) ≡ either (isIn k ks) (isIn k js)
+pub in-append : (k : ℕ) (ks js : List ℕ) → isIn k (ks ++ js) ≡ (isIn k ks || isIn k js)
 in-append k [] js = refl
 in-append k (j ∷ ks) js = by (eqb j k) (in-append k ks js)
   where
-    by : (b : Bool) → isIn k (ks ++ js) ≡ either (isIn k ks) (isIn k js)
-        → either b (isIn k (ks ++ js)) ≡ either (either b (isIn k ks)) (isIn k js)
+    by : (b : Bool) → isIn k (ks ++ js) ≡ (isIn k ks || isIn k js)
+        → (b || isIn k (ks ++ js)) ≡ (b || isIn k ks || isIn k js)
     by true rest = refl
     by false rest = rest
 
@@ -73,16 +72,16 @@ module _ (k : ℕ) where
   remove-out [] a = refl
   remove-out (j ∷ ks) a = rw (ne-eqb j k (a .0)) (ap (λ (l : List ℕ). j ∷ l) (remove-out ks (a .1)))
 
-  pub in-remove : (i : ℕ) (ks : List ℕ) → isIn i (remove k ks) ≡ both (not (eqb i k)) (isIn i ks)
+  pub in-remove : (i : ℕ) (ks : List ℕ) → isIn i (remove k ks) ≡ (not (eqb i k) && isIn i ks)
   in-remove i [] = by (eqb i k)
     where
-      by : (b : Bool) → false ≡ both (not b) false
+      by : (b : Bool) → false ≡ (not b && false)
       by true = refl
       by false = refl
   in-remove i (j ∷ ks) = by (decEq j k) (decEq i k) (in-remove i ks)
     where
-      by : Dec (j ≡ k) → Dec (i ≡ k) → isIn i (remove k ks) ≡ both (not (eqb i k)) (isIn i ks)
-          → isIn i (remove k (j ∷ ks)) ≡ both (not (eqb i k)) (isIn i (j ∷ ks))
+      by : Dec (j ≡ k) → Dec (i ≡ k) → isIn i (remove k ks) ≡ (not (eqb i k) && isIn i ks)
+          → isIn i (remove k (j ∷ ks)) ≡ (not (eqb i k) && isIn i (j ∷ ks))
       by (yes q) (yes p) rest = rw (eq-eqb j k q, rest, eq-eqb i k p)
       by (yes q) (no n) rest = rw (eq-eqb j k q, rest, ne-eqb i k n, ne-eqb j i (λ e. n (omega arith)))
       by (no m) (yes p) rest = rw (ne-eqb j k m, rest, eq-eqb i k p, ne-eqb j i (λ e. m (omega arith)))
@@ -208,7 +207,7 @@ few (suc n) ks d b = omega (arith, remove-length n ks d, few n (remove n ks) (di
     below : (i : ℕ) → isIn i (remove n ks) ≡ true → i < n
     below i e = by (decEq i n)
       where
-        rest : both (not (eqb i n)) (isIn i ks) ≡ true
+        rest : (not (eqb i n) && isIn i ks) ≡ true
         rest = sym (in-remove n i ks) ∙ e
 
         by : Dec (i ≡ n) → i < n

@@ -1,12 +1,11 @@
 -- What the controller may still read is in use; so no submit is given a place of it.
 use Prim.Native.Nat.{ℕ, _-_, _≤_}
-use mathlib.Core.Bool.{Bool, true, false, cond, true≢false}
+use mathlib.Core.Bool.{Bool, true, false, cond, true≢false, _&&_}
 use mathlib.Core.List.{List, [], _∷_}
 use mathlib.Core.Logic.{_⊎_, inl, inr}
 use mathlib.Core.Path.{_≡_, refl, sym, subst, _∙_}
 use borrow.Author.Tests.{eq-eqb, eqb-true}
 use lib.Dec.{eqb}
-use Rattle.settings.specs.Tests.{both}
 use Rattle.settings.specs.declared.settings.Settings.{Settings}
 use Rattle.pipe.specs.declared.endpoints.Endpoint.{Endpoint}
 use Rattle.pipe.specs.declared.endpoints.Endpoint.the-variants.{Closed, Idle, Linked, Unlinking}
@@ -124,7 +123,7 @@ pub used-stays : (k id j : ℕ) (places : List ℕ) (us : List Use) → (j ≡ k
 used-stays k id j places [] ne g = g
 used-stays k id j places (u ∷ us) ne g = go (isOf k id u) refl g (used-stays k id j places us ne)
   where
-    slot-is : (a b : Bool) → both a b ≡ true → a ≡ true
+    slot-is : (a b : Bool) → (a && b) ≡ true → a ≡ true
     slot-is true b q = refl
     slot-is false b q = q
 

@@ -1,13 +1,12 @@
 -- What the controller may still read stays in use, form by form of an effect.
 use Prim.Native.Nat.{ℕ, _+_, _-_, _%_, _≤_}
-use mathlib.Core.Bool.{Bool, true, false, true≢false}
+use mathlib.Core.Bool.{Bool, true, false, true≢false, _&&_}
 use mathlib.Core.List.{List, _∷_}
 use mathlib.Core.Logic.{inl, inr}
 use mathlib.Core.Path.{_≡_, refl, sym, ap, subst, _∙_}
 use native.Mathlib.Decide.{ℕ-discrete as decEq}
 use native.Mathlib.Omega.{arith}
 use borrow.Author.Tests.{eq-eqb, eqb-false, eqb-true, le-leb, ne-eqb}
-use Rattle.settings.specs.Tests.{both}
 use Rattle.settings.specs.declared.settings.Settings.{Settings}
 use Rattle.pipe.specs.Endpoints.{endpointAt}
 use Rattle.pipe.specs.declared.endpoints.Endpoint.{Endpoint}
@@ -179,7 +178,7 @@ module _ (s : Settings) (w : World) (c : Call) (a : Applied) (h : History) (soun
       over (Periodic n) Unrung e n′ y = y
       over (Periodic n) Unanswered e n′ y = y
       over (Periodic n) (Since start) e n′ y =
-          true≢false (sym (ap (λ (z : ℕ). framesPassed z (q .frame)) (sym y) ∙ e) ∙ (sym (ap (λ (z : Bool). both z (framesPassed (frameOf start) (q .frame))) (eq-eqb (q .k) (q .k) refl)) ∙ n′))
+          true≢false (sym (ap (λ (z : ℕ). framesPassed z (q .frame)) (sym y) ∙ e) ∙ (sym (ap (λ (z : Bool). (z && framesPassed (frameOf start) (q .frame))) (eq-eqb (q .k) (q .k) refl)) ∙ n′))
 
       at : (x : Hold) → Held us b f x → isForgotten (x .slot) (Collects (q .k) (q .id) (q .frame)) (x .reach) ≡ false → Dec (x .slot ≡ q .k)
           → usedBy (x .slot) (x .places) (without (q .k) (q .id) us) × Fits (bell s (t ∷ h)) (f′ (x .slot)) (farther (x .slot) (rings t) (Collects (q .k) (q .id) (q .frame)) (x .reach))

@@ -1,6 +1,6 @@
 -- While bring-up is begun the controller does not run; a request is uncollected only while it does.
 use Prim.Native.Nat.{ℕ}
-use mathlib.Core.Bool.{Bool, true, false}
+use mathlib.Core.Bool.{Bool, true, false, cond}
 use mathlib.Core.List.{List}
 use mathlib.Core.Path.{_≡_, refl, sym, ap, subst, _∙_}
 use native.Mathlib.Decide.{ℕ-discrete as decEq}
@@ -13,7 +13,7 @@ use Rattle.state.specs.State.{withBell, withBoundaries, withOwner}
 use Rattle.state.specs.declared.state.Ehci.{Ehci}
 use Rattle.state.proofs.Arrays.{zeros-at}
 use lib.Dec.{ltb}
-use Rattle.pipe.specs.Endpoints.{decoded, endpointAt, pickEndpoint, withEndpoint}
+use Rattle.pipe.specs.Endpoints.{decoded, endpointAt, withEndpoint}
 use Rattle.pipe.specs.declared.endpoints.Endpoint.{Endpoint}
 use Rattle.pipe.specs.declared.endpoints.Endpoint.the-variants.{Closed, Idle}
 use Rattle.pipe.proofs.EndpointLaws.{endpoint-other, endpoint-same}
@@ -89,7 +89,7 @@ fresh-vacant : (s : Settings) (k : ℕ) → isUncollected (freshState s) k ≡ f
 unfolding freshState endpointAt slotAt decoded
 fresh-vacant s k = rw (zeros-at 32 k) (by (ltb k 32))
   where
-    by : (b : Bool) → holdsRequest (pickEndpoint b Closed Closed) ≡ false
+    by : (b : Bool) → holdsRequest (cond b Closed Closed) ≡ false
     by true = refl
     by false = refl
 

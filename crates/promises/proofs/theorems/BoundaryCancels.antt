@@ -1,6 +1,6 @@
 -- A cancelled request is collected as 10; a linked slot finds room; and what the state says is what the history says.
 use Prim.Native.Nat.{ℕ, _+_, _-_, _<_}
-use mathlib.Core.Bool.{Bool, true, false, cond, true≢false, false≢true}
+use mathlib.Core.Bool.{Bool, true, false, cond, true≢false, false≢true, _&&_}
 use mathlib.Core.List.{List, [], _∷_}
 use mathlib.Core.Path.{_≡_, refl, sym, ap, subst, _∙_}
 use native.Mathlib.Decide.{ℕ-discrete as decEq}
@@ -8,10 +8,9 @@ use native.Mathlib.Omega.{arith}
 use borrow.Author.Tests.{eq-eqb, eqb-true, lt-ltb, ne-eqb}
 use lib.Dec.{eqb}
 use lib.ListN.{length}
-use Rattle.settings.specs.Tests.{both}
 use Rattle.settings.specs.declared.settings.Settings.{Settings}
 use Rattle.state.specs.declared.state.Ehci.{Ehci}
-use Rattle.pipe.specs.Endpoints.{decoded, encoded, endpointAt, flagNumber, pickEndpoint, withEndpoint}
+use Rattle.pipe.specs.Endpoints.{decoded, encoded, endpointAt, flagNumber, withEndpoint}
 use Rattle.pipe.specs.declared.endpoints.Endpoint.{Endpoint}
 use Rattle.pipe.specs.declared.endpoints.Endpoint.the-variants.{Closed, Idle, Linked, Unlinking}
 use Rattle.pipe.specs.declared.endpoints.Pipe.{Pipe}
@@ -110,7 +109,7 @@ module _ (w : World) (k id : ℕ) (rd : Readings) (wide : Wide (w .state)) where
 abbrev pub MarkedInv : Settings → History → Ehci → Type 0
 MarkedInv s h e = (k : ℕ) → cancelled s k h ≡ true → isMarked (endpointAt e k) ≡ true
 
-both-true : (a b : Bool) → both a b ≡ true → (a ≡ true) × (b ≡ true)
+both-true : (a b : Bool) → (a && b) ≡ true → (a ≡ true) × (b ≡ true)
 both-true true b e = (refl, e)
 both-true false b e = absurd (false≢true e)
 
@@ -191,7 +190,7 @@ module _ (s : Settings) (h : History) (e : Ehci) (g : StateInv s h e) (k : ℕ) 
       (λ j ne. rw (ne-eqb j k ne)) (λ v. ap (waitsFor v) at) (λ v. rw (eq-eqb k k refl))
     where
       gone : ℕ → Endpoint
-      gone j = pickEndpoint (eqb j k) (Unlinking p r (Async (e .unanswered + 1))) (endpointAt e j)
+      gone j = cond (eqb j k) (Unlinking p r (Async (e .unanswered + 1))) (endpointAt e j)
 
   leaves-off : (u : ℕ) (p : Pipe) (r : Request) (b : UnlinkBoundary) → Leaving s k h u p r b → linked s k h ≡ false
   leaves-off u p r (Async n) y = y .off

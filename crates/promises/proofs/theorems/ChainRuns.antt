@@ -1,13 +1,12 @@
 -- In every world of a run the walks meet exactly the linked heads, newest first.
 use Prim.Native.Nat.{ℕ, _+_, _<_}
 use mathlib.Core.Path.{_≡_, refl, sym, ap, subst, _∙_}
-use mathlib.Core.Bool.{Bool, true, false}
+use mathlib.Core.Bool.{Bool, true, false, _||_}
 use mathlib.Core.List.{List, [], _∷_, _++_, map}
 use native.Mathlib.Omega.{arith}
 use lib.ListN.{getD, getD-replicate, replicate}
 use Rattle.settings.specs.Settings.{settingsGood}
 use Rattle.settings.specs.declared.settings.Settings.{Settings}
-use Rattle.settings.specs.Tests.{either}
 use Rattle.settings.proofs.Every.{false-true}
 use Rattle.settings.proofs.SettingsLaws.{good-tells}
 use Rattle.state.proofs.Arrays.{zeros-at}
@@ -91,7 +90,7 @@ module _ (s : Settings) (h : History) (w : World) (x : Chained s h w) (held-by :
   linked-used : (k : ℕ) → isLinked s h k ≡ true → isIn k (map (λ u. u .slot) (uses s h)) ≡ true
   linked-used k e = by (isIn k (ringSlots s h)) refl e
     where
-      by : (b : Bool) → isIn k (ringSlots s h) ≡ b → either b (isIn k (frameSlots s h)) ≡ true → isIn k (map (λ u. u .slot) (uses s h)) ≡ true
+      by : (b : Bool) → isIn k (ringSlots s h) ≡ b → (b || isIn k (frameSlots s h)) ≡ true → isIn k (map (λ u. u .slot) (uses s h)) ≡ true
       by true q m = in-uses false k (sym (x .ring .members k) ∙ q)
       by false q m = in-uses true k (sym (x .periodic .members k) ∙ m)
 

@@ -1,10 +1,9 @@
 -- No detach fails: what a cancel and a collect of an uncollected request do, of every use.
 use Prim.Native.Nat.{ℕ, _<_, _+_}
 use mathlib.Core.Path.{_≡_, refl, sym, ap, subst, _∙_}
-use mathlib.Core.Bool.{Bool, true, false}
+use mathlib.Core.Bool.{Bool, true, false, _||_}
 use mathlib.Core.List.{List}
 use lib.ListN.{length, take}
-use Rattle.settings.specs.Tests.{either}
 use Rattle.settings.specs.declared.settings.Settings.{Settings}
 use Rattle.settings.proofs.Every.{false-true}
 use Rattle.pipe.specs.Endpoints.{endpointAt}
@@ -82,7 +81,7 @@ module _ (s : Settings) (h : History) (w : World) (sound : Sound s w) (x : Chain
       not-frames : isIn k (frameSlots s h) ≡ true → ⊥
       not-frames = off true (frameSlots s h) (Unlinking p r b) e refl (x .periodic .members k)
 
-      neither : (c : Bool) → isIn k (ringSlots s h) ≡ c → either c (isIn k (frameSlots s h)) ≡ true → ⊥
+      neither : (c : Bool) → isIn k (ringSlots s h) ≡ c → (c || isIn k (frameSlots s h)) ≡ true → ⊥
       neither true q m = not-ring q
       neither false q m = not-frames m
 

@@ -1,12 +1,11 @@
 -- No submit is ever given a place that the controller may still read.
 use Prim.Native.Nat.{ℕ}
-use mathlib.Core.Bool.{Bool, true, false, true≢false, false≢true}
+use mathlib.Core.Bool.{Bool, true, false, true≢false, false≢true, _||_}
 use mathlib.Core.List.{List, [], _∷_, _++_}
 use mathlib.Core.Logic.{_⊎_, inl, inr}
 use mathlib.Core.Path.{_≡_, refl, sym, ap, _∙_}
 use borrow.Author.Tests.{eqb-true}
 use lib.Dec.{eqb}
-use Rattle.settings.specs.Tests.{either}
 use Rattle.settings.specs.declared.settings.Settings.{Settings}
 use Rattle.pool.specs.Places.{Each}
 use Rattle.pipe.specs.Endpoints.{endpointAt}
@@ -35,11 +34,11 @@ used-in place k places [] g e = absurd g
 used-in place k places (u ∷ us) g e = in-append place (u .places) (placesInUse us) ∙ go g (used-in place k places us)
   where
     go : ((u .slot ≡ k) × (u .places ≡ places)) ⊎ usedBy k places us → (usedBy k places us → isIn place places ≡ true → isIn place (placesInUse us) ≡ true)
-        → either (isIn place (u .places)) (isIn place (placesInUse us)) ≡ true
+        → (isIn place (u .places) || isIn place (placesInUse us)) ≡ true
     go (inl x) rec = rw (ap (isIn place) (x .1) ∙ e)
     go (inr x) rec = rw (rec x e) (either-true (isIn place (u .places)))
       where
-        either-true : (b : Bool) → either b true ≡ true
+        either-true : (b : Bool) → (b || true) ≡ true
         either-true true = refl
         either-true false = refl
 
@@ -47,7 +46,7 @@ held-in : (us : List Use) (b : Bell) (f : ℕ → Endpoint) (place : ℕ) (xs : 
 held-in us b f place [] a e = absurd (false≢true e)
 held-in us b f place (x ∷ xs) a e = go (isIn place (x .places)) refl e (held-in us b f place xs (a .1))
   where
-    go : (c : Bool) → isIn place (x .places) ≡ c → either c (isHeld place xs) ≡ true → (isHeld place xs ≡ true → isIn place (placesInUse us) ≡ true) → isIn place (placesInUse us) ≡ true
+    go : (c : Bool) → isIn place (x .places) ≡ c → (c || isHeld place xs) ≡ true → (isHeld place xs ≡ true → isIn place (placesInUse us) ≡ true) → isIn place (placesInUse us) ≡ true
     go true q e rec = used-in place (x .slot) (x .places) us (a .0 .used) q
     go false q e rec = rec e
 
@@ -57,11 +56,11 @@ each-apart : (p place : ℕ) (ps : List ℕ) → Each (λ (q : ℕ). p ≡ q →
 each-apart p place [] a e = refl
 each-apart p place (q ∷ ps) a e = go (eqb q place) refl (each-apart p place ps (a .1) e)
   where
-    go : (c : Bool) → eqb q place ≡ c → isIn place ps ≡ false → either c (isIn place ps) ≡ false
+    go : (c : Bool) → eqb q place ≡ c → isIn place ps ≡ false → (c || isIn place ps) ≡ false
     go true x rec = absurd (a .0 (e ∙ sym (eqb-true q place x)))
     go false x rec = rec
 
-apart-later : (place : ℕ) (a b : Bool) → either a b ≡ false → b ≡ false
+apart-later : (place : ℕ) (a b : Bool) → (a || b) ≡ false → b ≡ false
 apart-later place true b e = absurd (true≢false e)
 apart-later place false b e = e
 
@@ -69,7 +68,7 @@ distinct-apart : (place : ℕ) (ps qs : List ℕ) → Distinct (ps ++ qs) → is
 distinct-apart place [] qs d e = absurd (false≢true e)
 distinct-apart place (p ∷ ps) qs d e = go (eqb p place) refl e (distinct-apart place ps qs (d .1))
   where
-    go : (c : Bool) → eqb p place ≡ c → either c (isIn place ps) ≡ true → (isIn place ps ≡ true → isIn place qs ≡ false) → isIn place qs ≡ false
+    go : (c : Bool) → eqb p place ≡ c → (c || isIn place ps) ≡ true → (isIn place ps ≡ true → isIn place qs ≡ false) → isIn place qs ≡ false
     go true x e rec = apart-later place (isIn place ps) (isIn place qs) (sym (in-append place ps qs) ∙ each-apart p place (ps ++ qs) (d .0) (eqb-true p place x))
     go false x e rec = rec e
 

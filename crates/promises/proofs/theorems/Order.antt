@@ -1,6 +1,6 @@
 -- Every call asks what 01 lists, in 01's order.
 use Prim.Native.Nat.{ℕ, _+_}
-use mathlib.Core.Bool.{Bool, true, false, not}
+use mathlib.Core.Bool.{Bool, true, false, not, _&&_, cond}
 use mathlib.Core.List.{List, [], _∷_, _++_}
 use mathlib.Core.Path.{_≡_, refl, sym, _∙_}
 use borrow.Author.Tests.{not-false}
@@ -8,7 +8,6 @@ use lib.Dec.{eqb, ltb}
 use lib.ListN.{length}
 use Rattle.register.specs.Bits.{anyOf, onlyBits}
 use Rattle.pool.specs.declared.chain.View.{View}
-use Rattle.settings.specs.Tests.{both}
 use Rattle.settings.proofs.Every.{false-true}
 use Rattle.state.specs.Ranges.{inRanges}
 use Rattle.state.specs.declared.state.Ehci.{Ehci}
@@ -32,10 +31,10 @@ use Rattle.endpoint.specs.Calls.{closeOf, openChecks, openEndpointOf, setAddres
 use Rattle.request.specs.Submit.{acceptedWith, refusedSubmit, settledSubmit, submitOf}
 use Rattle.request.specs.Writeback.{refusedWriteback, writebackOf}
 use Rattle.request.specs.declared.judge.TransferRequest.{TransferRequest}
-use Rattle.collection.specs.Calls.{cancelAt, cancelChecks, cancelOf, collectAt, collectChecks, collectOf, crowded, endIf, ended, finishOf, gathered, linkedOf, marked, pendingLeft, pickGathered, unlinkingOf, withFrames}
+use Rattle.collection.specs.Calls.{cancelAt, cancelChecks, cancelOf, collectAt, collectChecks, collectOf, crowded, endIf, ended, finishOf, gathered, linkedOf, marked, pendingLeft, unlinkingOf, withFrames}
 use Rattle.collection.specs.Answers.{outcomeOf, pendingCollect}
 use Rattle.collection.specs.Unlinks.{passedBoundary, unlinkOf, waitingOf}
-use Rattle.bring_up.specs.BringUp.{againOf, anyUncollected, onwardOf, pickBroughtUp, ready, registerOf, stageOf, startOf, stepOf}
+use Rattle.bring_up.specs.BringUp.{againOf, anyUncollected, onwardOf, ready, registerOf, stageOf, startOf, stepOf}
 use Rattle.bring_up.specs.declared.stage.Stage.{Stage}
 use Rattle.interrupt.specs.declared.calls.Settled.{Settled}
 use Rattle.interrupt.specs.Interrupts.{acknowledgeOf, countedOf, disableOf, drainIf, drainOf, enableOf, heardIf, rearmIf, rearmOf, settledOr, takenOf}
@@ -123,8 +122,8 @@ module _ (w : World) where
       by false e = rw e
 
   stage-says : (stage : Stage) (v : ℕ) (b : Bool)
-      → verdictIn (broughtReply (pickBroughtUp b (onwardOf s stage v) (againOf s (registerOf stage))) .reply .answer)
-      ≡ first ((both (not b) (not (ltb (s .waited + 1) (s .settings .wait))), Timeout) ∷ [])
+      → verdictIn (broughtReply (cond b (onwardOf s stage v) (againOf s (registerOf stage))) .reply .answer)
+      ≡ first (((not b && not (ltb (s .waited + 1) (s .settings .wait))), Timeout) ∷ [])
   unfolding onwardOf broughtReply replied
   stage-says stage v true = refl
   stage-says stage v false = again-says (registerOf stage)
@@ -227,9 +226,9 @@ module _ (w : World) where
       settle-says (λ l. verdictIn (collectCame (pendingLeft l) .decided .reply .answer)) (first ((lost w k, InvalidEndpoint) ∷ [])) _ _ (λ r. refl) refl
 
   linked-says : (rd : Readings) (k : ℕ) (p : Pipe) (r : Request) (b : Bool)
-      → verdictIn (collectCame (pickGathered b (gathered (pendingCollect s) (w .rows .heads) (w .rows .frames))
+      → verdictIn (collectCame (cond b (gathered (pendingCollect s) (w .rows .heads) (w .rows .frames))
       (pendingLeft (unlinkOf s (w .rows .heads) (w .rows .frames) rd k p r))) .decided .reply .answer)
-      ≡ first ((both (not b) (lost w k), InvalidEndpoint) ∷ [])
+      ≡ first (((not b && lost w k), InvalidEndpoint) ∷ [])
   unfolding replied
   linked-says rd k p r true = refl
   linked-says rd k p r false = pending-says rd k p r
@@ -243,7 +242,7 @@ module _ (w : World) where
 
   collect-says : (k : ℕ) (rd : Readings) (v : View) (x : Endpoint) → hasEndpoint x ≡ true
       → verdictIn (collectCame (collectAt x s (w .rows .heads) (w .rows .frames) rd v k) .decided .reply .answer)
-      ≡ first ((lostAt x (both (not (eqb (v .stage) 2)) (lost w k)), InvalidEndpoint) ∷ [])
+      ≡ first ((lostAt x (not (eqb (v .stage) 2) && lost w k), InvalidEndpoint) ∷ [])
   unfolding replied linkedOf unlinkingOf
   collect-says k rd v Closed h = absurd (false-true h)
   collect-says k rd v (Idle p) h = refl
@@ -255,7 +254,7 @@ module _ (w : World) where
   collect-order k id rd =
       by-fit (Collect k id rd)
       (settle-then (λ g. verdictIn (collectCame g .decided .reply .answer)) (collectChecks s lent k id)
-      ((lostAt (endpointAt s k) (both (finished w (Collect k id rd)) (lost w k)), InvalidEndpoint) ∷ []) _ _
+      ((lostAt (endpointAt s k) (finished w (Collect k id rd) && lost w k), InvalidEndpoint) ∷ []) _ _
       (λ r. refl) (λ e. collect-says k rd (seen w (Collect k id rd)) (endpointAt s k) (not-false (isOpen s k) (opened e))))
     where
       lent : Lengths

@@ -1,11 +1,10 @@
 -- 000's three faults, as machines made from `core`; runs call by call; and a test for the picture of a boundary.
 use Prim.Native.Nat.{ℕ}
 use mathlib.Core.Path.{_≡_, refl, ap, _∙_}
-use mathlib.Core.Bool.{Bool, true, false, not}
+use mathlib.Core.Bool.{Bool, true, false, not, _&&_, _||_}
 use mathlib.Core.List.{List, [], _∷_, _++_}
 use lib.Dec.{eqb}
 use Rattle.register.specs.Bits.{anyOf}
-use Rattle.settings.specs.Tests.{both, either}
 use Rattle.settings.specs.declared.settings.Settings.{Settings}
 use Rattle.state.specs.State.{withBell}
 use Rattle.state.specs.declared.state.Ehci.{Ehci}
@@ -33,18 +32,18 @@ noteAfter false a = a
 
 -- the note stays where a port change shares the drain: the next drain counts it again
 abbrev pub twice : Machine
-twice w c = noteAfter (both (isDrain c) (both (eqb (w .state .noted) 1) (anyOf (w .state .pending) 4))) (core w c)
+twice w c = noteAfter (isDrain c && (eqb (w .state .noted) 1 && anyOf (w .state .pending) 4)) (core w c)
 
 -- an advance is noted with the doorbell down, too; such a note waits for the next ring
 abbrev pub isEarly : World → Bool
-isEarly w = both (eqb (w .state .noted) 1) (eqb (w .state .doorbell) 0)
+isEarly w = eqb (w .state .noted) 1 && eqb (w .state .doorbell) 0
 
 abbrev pub early : Machine
-early w c = noteAfter (either (readsAdvance c) (isEarly w)) (core (noteBefore (isEarly w) 0 w) c)
+early w c = noteAfter (readsAdvance c || isEarly w) (core (noteBefore (isEarly w) 0 w) c)
 
 -- a drain counts any pending advance bit
 abbrev pub any : Machine
-any w c = core (noteBefore (both (isDrain c) (both (eqb (w .state .doorbell) 1) (anyOf (w .state .pending) 0x20))) 1 w) c
+any w c = core (noteBefore (isDrain c && (eqb (w .state .doorbell) 1 && anyOf (w .state .pending) 0x20)) 1 w) c
 
 -- ---- a run, call by call
 
@@ -65,13 +64,13 @@ module _ (m : Machine) (w : World) (cs : List Call) (c : Call) (now : World) (a 
 module _ (s : Settings) (k : ℕ) where
   abbrev pub ring? : History → Bool
   ring? [] = false
-  ring? (t ∷ h) = either (rings t) (both (not (reads s t)) (both (not (unlinksOf s k t)) (ring? h)))
+  ring? (t ∷ h) = rings t || (not (reads s t) && (not (unlinksOf s k t) && ring? h))
 
   abbrev pub boundary? : History → Bool
   boundary? [] = false
-  boundary? (t ∷ h) = both (not (unlinksOf s k t)) (either (both (reads s t) (ring? h)) (boundary? h))
+  boundary? (t ∷ h) = not (unlinksOf s k t) && ((reads s t && ring? h) || boundary? h)
 
-  either-true : (b : Bool) → either b true ≡ true
+  either-true : (b : Bool) → (b || true) ≡ true
   either-true true = refl
   either-true false = refl
 
@@ -83,7 +82,7 @@ module _ (s : Settings) (k : ℕ) where
       → none (unlinksOf s k) (since ++ ack ∷ between) → boundary? (since ++ ack ∷ between ++ ring ∷ before) ≡ true
   boundary-found [] ack between ring before r a q u = rw (u .0, a, ring-found between ring before r q (u .1))
   boundary-found (t ∷ since) ack between ring before r a q u =
-      rw (u .0, boundary-found since ack between ring before r a q (u .1)) (either-true (both (reads s t) (ring? (since ++ ack ∷ between ++ ring ∷ before))))
+      rw (u .0, boundary-found since ack between ring before r a q (u .1)) (either-true (reads s t && ring? (since ++ ack ∷ between ++ ring ∷ before)))
 
   pub found : (h : History) → Boundary s k h → boundary? h ≡ true
   found h b = ap boundary? (b .picture) ∙ boundary-found (b .since) (b .ack) (b .between) (b .ring) (b .before) (b .rung) (b .read) (b .first) (b .unlinked-by-then)
