@@ -11,22 +11,22 @@ use lib.ListN.{getD}
 use Rattle.register.specs.Bits.{withBits, withoutBits, anyOf}
 use Rattle.register.specs.Writes.{noWrites, andThen}
 use Rattle.register.specs.declared.writes.Writes.{Writes}
-use Rattle.settings.proofs.Every.{either-assoc}
+use Rattle.common.proofs.TestLaws.{either-assoc}
 use Rattle.slot.specs.declared.slot.Slot.{Slot}
 use Rattle.state.specs.declared.state.Ehci.{Ehci}
 use Rattle.state.specs.Ranges.{inRanges}
 use Rattle.state.specs.Slots.{slotAt}
 use Rattle.state.specs.State.{withBringUp}
 use Rattle.state.proofs.RangesLaws.{ranges-tell}
-use Rattle.answer.specs.declared.answer.Answer.the-variants.{Done}
-use Rattle.answer.specs.declared.answer.Refusal.the-variants.{InvalidParameter, QueueFull, Timeout}
+use Rattle.common.specs.declared.answer.Answer.the-variants.{Done}
+use Rattle.common.specs.declared.answer.Refusal.the-variants.{InvalidParameter, QueueFull, Timeout}
 use Rattle.pipe.specs.Endpoints.{decoded, endpointAt}
 use Rattle.controller.specs.Readers.{holdsRequest, isUncollected}
-use Rattle.bring_up.specs.declared.reads.NextRead.the-variants.{Nothing, Register}
+use Rattle.common.specs.declared.reads.NextRead.the-variants.{Nothing, Register}
 use Rattle.bring_up.specs.declared.stage.Stage.{Stage}
 use Rattle.bring_up.specs.declared.stage.Stage.the-variants.{Stop, Halting, Reset, Resetting, Run, Starting}
 use Rattle.bring_up.specs.declared.stage.Moved.{Moved}
-use Rattle.bring_up.specs.declared.calls.BroughtUp.{BroughtUp}
+use Rattle.bring_up.specs.declared.answers.BroughtUp.{BroughtUp}
 use Rattle.bring_up.specs.BringUp.{anyUncollected, heldIn, stageOf, registerOf, ready, command, setUp, stageWrites, onTo, movedOn, refusedBringUp, startOf, onwardOf, againOf, stepOf}
 
 -- ---- the slots

@@ -9,17 +9,17 @@ use Rattle.register.specs.declared.writes.Writes.{Writes}
 use Rattle.state.specs.declared.state.Ehci.{Ehci}
 use Rattle.state.specs.Ranges.{inRanges}
 use Rattle.state.specs.State.{withBringUp}
-use Rattle.answer.specs.Answers.{first, settle}
+use Rattle.common.specs.Answers.{first, settle}
 use Rattle.controller.specs.Readers.{isUncollected}
-use Rattle.answer.specs.declared.answer.Answer.the-variants.{Done, Refused}
-use Rattle.answer.specs.declared.answer.Refusal.{Refusal}
-use Rattle.answer.specs.declared.answer.Refusal.the-variants.{InvalidParameter, QueueFull, Timeout}
+use Rattle.common.specs.declared.answer.Answer.the-variants.{Done, Refused}
+use Rattle.common.specs.declared.answer.Refusal.{Refusal}
+use Rattle.common.specs.declared.answer.Refusal.the-variants.{InvalidParameter, QueueFull, Timeout}
 use Rattle.schedule.specs.Bell.{commandWord}
-use Rattle.bring_up.specs.declared.reads.NextRead.the-variants.{Nothing, Register}
+use Rattle.common.specs.declared.reads.NextRead.the-variants.{Nothing, Register}
 use Rattle.bring_up.specs.declared.stage.Stage.{Stage}
 use Rattle.bring_up.specs.declared.stage.Stage.the-variants.{Stop, Halting, Reset, Resetting, Run, Starting}
 use Rattle.bring_up.specs.declared.stage.Moved.{Moved}
-use Rattle.bring_up.specs.declared.calls.BroughtUp.{BroughtUp}
+use Rattle.bring_up.specs.declared.answers.BroughtUp.{BroughtUp}
 
 -- ---- any slot has an uncollected request: of n slots, from slot k on
 

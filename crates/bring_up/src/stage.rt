@@ -11,7 +11,7 @@ ghost use Rattle.bring_up.specs.BringUp.{
   onTo,
   movedOn,
 };
-use crate::reads::NextRead;
+use common::reads::NextRead;
 use register::bits::any_of;
 use register::bits::with_bits;
 use register::bits::without_bits;

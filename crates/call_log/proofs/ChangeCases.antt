@@ -7,7 +7,7 @@ use native.Mathlib.Numerals.{add-one}
 use native.Mathlib.Omega.{arith}
 use lib.Dec.{eqb}
 use lib.ListN.{getD, length, length-append}
-use Rattle.opening.specs.Rows.{putAt}
+use Rattle.common.specs.Rows.{putAt}
 use Rattle.pool.specs.Chains.{blank}
 use Rattle.register.specs.declared.writes.Write.{Write}
 use Rattle.register.specs.Writes.{writeOf}

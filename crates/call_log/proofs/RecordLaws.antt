@@ -11,12 +11,12 @@ use lib.ListN.{length}
 use Rattle.ehci.specs.declared.call.Call.{Call}
 use Rattle.ehci.specs.declared.call.Call.the-variants as C
 use Rattle.pipe.specs.Endpoints.{directionNumber, directionOf, flagNumber, flagOf, kindNumber, kindOf}
-use Rattle.token.specs.declared.kinds.EndpointType.{EndpointType}
-use Rattle.token.specs.declared.kinds.EndpointType.the-variants as K
-use Rattle.token.specs.declared.kinds.Direction.{Direction}
-use Rattle.token.specs.declared.kinds.Direction.the-variants as D
+use Rattle.common.specs.declared.kinds.EndpointType.{EndpointType}
+use Rattle.common.specs.declared.kinds.EndpointType.the-variants as K
+use Rattle.common.specs.declared.kinds.Direction.{Direction}
+use Rattle.common.specs.declared.kinds.Direction.the-variants as D
 use Rattle.pipe.proofs.EndpointLaws.{direction-back, direction-there, flag-back, flag-there, kind-back, kind-there}
-use Rattle.settings.proofs.SettingsCases.{both-first, both-second}
+use Rattle.common.proofs.TestLaws.{both-first, both-second}
 use Rattle.call_log.specs.Fields.{bytesOf, bytesSpare, fieldsOf, numbersSpare, usedOr0}
 use Rattle.call_log.specs.Records.{row, callFields, fieldsFor, recordOf, guarded, spare, isWord, plain, settingsOf, openEntry, bringUpStep, openEndpoint, close, setAddress, setPacketSize, submit, writeback, readingsOf, slotTest, cancel, collect, acknowledge, drain, scanStep, portPower, judgedAs, judged, entryOf, OwnCall, Own, NumbersFit, Representable}
 use Rattle.call_log.specs.declared.fields.Fields.{Fields}

@@ -11,8 +11,7 @@ use Rattle.pool.specs.Places.{packed, placesFrom}
 use Rattle.pool.specs.declared.chain.Ask.{Ask}
 use Rattle.pool.specs.declared.places.Places.{Places}
 use Rattle.settings.specs.declared.settings.Settings.{Settings}
-use Rattle.settings.proofs.Every.{every-4}
-use Rattle.settings.proofs.SettingsLaws.{both-tells}
+use Rattle.common.proofs.TestLaws.{every-4, both-tells}
 use Rattle.state.specs.declared.state.Ehci.{Ehci}
 use Rattle.pipe.specs.Endpoints.{endpointAt}
 use Rattle.pipe.specs.declared.endpoints.Endpoint.{Endpoint}

@@ -14,7 +14,7 @@ use Rattle.pool.proofs.Each.{each-map}
 use Rattle.pool.proofs.GoodLaws.{no-ask-good, packed-asks}
 use Rattle.pool.proofs.PlaceLaws.{places-few, places-within}
 use Rattle.settings.specs.declared.settings.Settings.{Settings}
-use Rattle.settings.proofs.SettingsLaws.{both-tells}
+use Rattle.common.proofs.TestLaws.{both-tells}
 use Rattle.state.specs.declared.state.Ehci.{Ehci}
 use Rattle.pipe.specs.Endpoints.{endpointAt}
 use Rattle.pipe.specs.declared.endpoints.Endpoint.{Endpoint}

@@ -13,8 +13,8 @@ use Rattle.state.specs.declared.state.Ehci.{Ehci}
 use Rattle.state.specs.State.{withOwner}
 use Rattle.pipe.specs.Endpoints.{endpointAt, withEndpoint}
 use Rattle.controller.specs.Lent.{acceptsOf, lengths}
-use Rattle.answer.specs.declared.answer.Answer.the-variants.{Done}
-use Rattle.answer.specs.declared.answer.Refusal.the-variants.{InvalidEndpoint, InvalidParameter}
+use Rattle.common.specs.declared.answer.Answer.the-variants.{Done}
+use Rattle.common.specs.declared.answer.Refusal.the-variants.{InvalidEndpoint, InvalidParameter}
 use Rattle.pipe.specs.declared.endpoints.Endpoint.{Endpoint}
 use Rattle.pipe.specs.declared.endpoints.Endpoint.the-variants.{Closed, Idle, Linked, Unlinking}
 use Rattle.pipe.specs.declared.endpoints.Pipe.{Pipe}

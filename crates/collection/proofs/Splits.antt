@@ -10,8 +10,8 @@ use Rattle.pool.specs.declared.chain.View.{View}
 use Rattle.state.specs.declared.state.Ehci.{Ehci}
 use Rattle.pipe.specs.Endpoints.{endpointAt}
 use Rattle.controller.specs.Lent.{acceptsOf, lengths}
-use Rattle.answer.specs.declared.answer.Refusal.{Refusal}
-use Rattle.answer.specs.declared.answer.Refusal.the-variants.{InvalidEndpoint, InvalidParameter}
+use Rattle.common.specs.declared.answer.Refusal.{Refusal}
+use Rattle.common.specs.declared.answer.Refusal.the-variants.{InvalidEndpoint, InvalidParameter}
 use Rattle.pipe.specs.declared.endpoints.Endpoint.{Endpoint}
 use Rattle.pipe.specs.declared.endpoints.Endpoint.the-variants.{Closed, Idle, Linked, Unlinking}
 use Rattle.pipe.specs.declared.endpoints.Pipe.{Pipe}

@@ -12,7 +12,7 @@ use Rattle.state.specs.declared.state.Ehci.{Ehci}
 use Rattle.state.specs.Slots.{slotAt, withSlot}
 use Rattle.state.specs.State.{withBell, withOwner}
 use Rattle.pipe.specs.Endpoints.{endpointAt, withEndpoint}
-use Rattle.opening.specs.Rows.{headWord}
+use Rattle.opening.specs.Heads.{headWord}
 use Rattle.pipe.specs.declared.endpoints.Endpoint.{Endpoint}
 use Rattle.pipe.specs.declared.endpoints.Pipe.{Pipe}
 use Rattle.pipe.specs.declared.endpoints.Request.{Request}

@@ -5,10 +5,10 @@ use lib.Dec.{eqb}
 use Rattle.register.specs.Writes.{noWrites}
 use Rattle.pool.specs.declared.chain.View.{View}
 use Rattle.state.specs.declared.state.Ehci.{Ehci}
-use Rattle.answer.specs.Answers.{refusalNumber}
-use Rattle.answer.specs.declared.answer.Answer.{Answer}
-use Rattle.answer.specs.declared.answer.Answer.the-variants.{Done, Refused as RefusedCall}
-use Rattle.answer.specs.declared.answer.Refusal.{Refusal}
+use Rattle.common.specs.Answers.{refusalNumber}
+use Rattle.common.specs.declared.answer.Answer.{Answer}
+use Rattle.common.specs.declared.answer.Answer.the-variants.{Done, Refused as RefusedCall}
+use Rattle.common.specs.declared.answer.Refusal.{Refusal}
 use Rattle.collection.specs.declared.collected.Cancellation.{Cancellation}
 use Rattle.collection.specs.declared.collected.Collected.{Collected}
 use Rattle.collection.specs.declared.collected.Collected.the-variants.{Complete, Pending, Cancelled, Failed, Refused}

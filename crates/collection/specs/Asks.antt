@@ -7,7 +7,7 @@ use lib.ListN.{take}
 use Rattle.pool.specs.Chains.{noAsk}
 use Rattle.pool.specs.Places.{packed, placesFrom}
 use Rattle.pool.specs.declared.chain.Ask.{Ask}
-use Rattle.settings.specs.Tests.{every}
+use Rattle.common.specs.Tests.{every}
 use Rattle.settings.specs.declared.settings.Settings.{Settings}
 use Rattle.state.specs.declared.state.Ehci.{Ehci}
 use Rattle.pipe.specs.Endpoints.{endpointAt}

@@ -9,12 +9,12 @@ use Rattle.pool.specs.Places.{clearOf}
 use Rattle.pool.specs.declared.chain.View.{View}
 use Rattle.state.specs.declared.state.Ehci.{Ehci}
 use Rattle.state.specs.State.{withOwner}
-use Rattle.answer.specs.Answers.{Check, first, settle}
+use Rattle.common.specs.Answers.{Check, first, settle}
 use Rattle.pipe.specs.Endpoints.{endpointAt, withEndpoint}
 use Rattle.controller.specs.Lent.{acceptsOf, lengths}
 use Rattle.controller.specs.Readers.{isOpen, isUncollected}
-use Rattle.answer.specs.declared.answer.Answer.the-variants.{Done}
-use Rattle.answer.specs.declared.answer.Refusal.the-variants.{InvalidEndpoint, InvalidParameter}
+use Rattle.common.specs.declared.answer.Answer.the-variants.{Done}
+use Rattle.common.specs.declared.answer.Refusal.the-variants.{InvalidEndpoint, InvalidParameter}
 use Rattle.pipe.specs.declared.endpoints.Endpoint.{Endpoint}
 use Rattle.pipe.specs.declared.endpoints.Endpoint.the-variants.{Closed, Idle, Linked, Unlinking}
 use Rattle.pipe.specs.declared.endpoints.Pipe.{Pipe}

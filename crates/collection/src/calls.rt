@@ -12,7 +12,7 @@ use crate::finish::collect_unlinking;
 use crate::unlink::mark;
 use crate::unlink::marked;
 use crate::unlink::unlink;
-use answer::answer::Refusal;
+use common::answer::Refusal;
 use controller::lent::Lengths;
 use controller::lent::Readings;
 use controller::lent::accepts;

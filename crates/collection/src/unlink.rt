@@ -7,8 +7,8 @@ ghost use Rattle.collection.specs.Calls.{marked, markedOf};
 ghost use Rattle.collection.specs.Unlinks.{askedOf, boundedOf, waitingOf, unlinkOf, left, frameBelow, passedBoundary};
 use crate::collected::Cancellation;
 use crate::collected::refuse_cancel;
-use answer::answer::Answer;
-use answer::answer::Refusal;
+use common::answer::Answer;
+use common::answer::Refusal;
 use controller::lent::Readings;
 use pipe::endpoints::Endpoint;
 use pipe::endpoints::Pipe;
@@ -25,7 +25,7 @@ use schedule::links::Predecessor;
 use schedule::links::detach;
 use schedule::links::head_address;
 use state::state::Ehci;
-use token::kinds::EndpointType;
+use common::kinds::EndpointType;
 
 // The boundary of a request that is unlinked, and the doorbell then.
 pub struct Bounded {

@@ -17,7 +17,7 @@ use crate::qtd::EHCI_LINK_TERMINATE;
 use crate::qtd::QueueTransferDescriptor;
 use register::bits::with_bits;
 use register::bits::without_bits;
-use token::kinds::EndpointType;
+use common::kinds::EndpointType;
 
 // The type of a link that leads to a queue head.
 pub const EHCI_QH_LINK_TYPE_QH: u32 = 0b01 << 1;

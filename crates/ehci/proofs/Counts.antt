@@ -4,8 +4,8 @@ use mathlib.Core.Bool.{Bool, true, false, cond}
 use lib.Dec.{eqb}
 use native.Mathlib.Omega.{arith}
 use Rattle.register.specs.Writes.{andThen, noWrites}
-use Rattle.token.specs.declared.kinds.EndpointType.{EndpointType}
-use Rattle.token.specs.declared.kinds.EndpointType.the-variants.{Control, Isochronous, Bulk, Interrupt}
+use Rattle.common.specs.declared.kinds.EndpointType.{EndpointType}
+use Rattle.common.specs.declared.kinds.EndpointType.the-variants.{Control, Isochronous, Bulk, Interrupt}
 use Rattle.state.specs.declared.state.Ehci.{Ehci}
 use Rattle.controller.specs.declared.lent.Readings.{Readings}
 use Rattle.schedule.specs.Bell.{advancedOf, mustRing, ringOf, rungIf, unlinkedOf}

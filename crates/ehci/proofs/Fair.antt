@@ -7,15 +7,14 @@ use borrow.Author.Tests.{not-true}
 use lib.Dec.{eqb, leb, ltb}
 use lib.ListN.{length}
 use Rattle.register.specs.Bits.{anyOf, onlyBits, withoutBits}
-use Rattle.settings.proofs.Every.{false-true}
-use Rattle.settings.proofs.SettingsLaws.{both-tells}
+use Rattle.common.proofs.TestLaws.{false-true, both-tells}
 use Rattle.pool.specs.declared.chain.View.{View}
 use Rattle.state.specs.Ranges.{inRanges}
 use Rattle.state.specs.declared.state.Ehci.{Ehci}
-use Rattle.answer.specs.Answers.{Check, Verdict, first, orElse, passed, refused, settle}
-use Rattle.answer.specs.declared.answer.Refusal.{Refusal}
-use Rattle.answer.specs.declared.answer.Refusal.the-variants.{InvalidParameter, SlotLimitReached, InvalidEndpoint, QueueFull, NotSupported, NoMemory, Timeout, NotReady}
-use Rattle.answer.proofs.CheckLaws.{settled-by, verdicts-apart}
+use Rattle.common.specs.Answers.{Check, Verdict, first, orElse, passed, refused, settle}
+use Rattle.common.specs.declared.answer.Refusal.{Refusal}
+use Rattle.common.specs.declared.answer.Refusal.the-variants.{InvalidParameter, SlotLimitReached, InvalidEndpoint, QueueFull, NotSupported, NoMemory, Timeout, NotReady}
+use Rattle.common.proofs.CheckLaws.{settled-by, verdicts-apart}
 use Rattle.pipe.specs.Endpoints.{endpointAt}
 use Rattle.pipe.specs.declared.endpoints.Endpoint.{Endpoint}
 use Rattle.pipe.specs.declared.endpoints.Endpoint.the-variants.{Closed, Idle, Linked, Unlinking}
@@ -32,19 +31,19 @@ use Rattle.schedule.specs.Links.{detachOf, endedOverlay}
 use Rattle.endpoint.specs.Calls.{ChangeLeft, OpenLeft, changeOf, closeOf, fieldsGood, openChecks, openEndpointOf, setAddressOf, setPacketSizeOf, slotChecks}
 use Rattle.request.specs.Submit.{acceptedWith, refusedSubmit, settledSubmit, submitChecks, submitOf}
 use Rattle.request.specs.Writeback.{refusedWriteback, writebackChecks, writebackOf}
-use Rattle.request.specs.declared.calls.WrittenBack.{WrittenBack}
+use Rattle.request.specs.declared.answers.WrittenBack.{WrittenBack}
 use Rattle.request.specs.declared.judge.TransferRequest.{TransferRequest}
 use Rattle.collection.specs.Answers.{outcomeOf, pendingCollect}
 use Rattle.collection.specs.declared.collected.Collected.the-variants.{Complete, Failed as FailedCollect}
 use Rattle.collection.specs.Calls.{Gathered, cancelAt, cancelChecks, cancelOf, collectAt, collectChecks, collectOf, endIf, ended, finishOf, gathered, linkedOf, marked, pendingLeft, unlinkingOf, withFrames as gatheredFrames}
 use Rattle.collection.specs.Unlinks.{Left, isMissing, passedBoundary, unlinkOf, waitingOf}
 use Rattle.interrupt.specs.Interrupts.{acknowledgeOf, disableOf, drainIf, drainOf, enableOf, heardIf, rearmIf, rearmOf, settledOr, takenOf, countedOf}
-use Rattle.interrupt.specs.declared.calls.Acknowledgement.{Acknowledgement}
-use Rattle.interrupt.specs.declared.calls.Drainage.{Drainage}
-use Rattle.interrupt.specs.declared.calls.Drained.the-variants.{PortChange, TransferActivity, Stopped}
-use Rattle.interrupt.specs.declared.calls.Settled.{Settled}
+use Rattle.interrupt.specs.declared.answers.Acknowledgement.{Acknowledgement}
+use Rattle.interrupt.specs.declared.answers.Drainage.{Drainage}
+use Rattle.interrupt.specs.declared.answers.Drained.the-variants.{PortChange, TransferActivity, Stopped}
+use Rattle.interrupt.specs.declared.answers.Settled.{Settled}
 use Rattle.bring_up.specs.BringUp.{againOf, anyUncollected, onwardOf, ready, registerOf, stageOf, startOf, stepOf}
-use Rattle.bring_up.specs.declared.calls.BroughtUp.{BroughtUp}
+use Rattle.bring_up.specs.declared.answers.BroughtUp.{BroughtUp}
 use Rattle.bring_up.specs.declared.stage.Stage.{Stage}
 use Rattle.ehci.specs.declared.call.Call.{Call}
 use Rattle.ehci.specs.declared.call.Call.the-variants.{StartBringUp, BringUpStep, AllocateAddress, OpenEndpoint, Close, SetAddress, SetPacketSize, Submit, Writeback, Cancel, Collect, Acknowledge, Drain, Rearm, Enable, Disable}

@@ -39,7 +39,7 @@ use crate::reply::opened_answer;
 use crate::reply::refused;
 use crate::reply::simple;
 use crate::reply::submitted_answer;
-use answer::answer::Refusal;
+use common::answer::Refusal;
 use bring_up::calls::start;
 use bring_up::calls::step;
 use collection::ask::ask;

@@ -15,21 +15,21 @@ use Rattle.descriptor.proofs.HeadFields.{address-reads, Characteristics, packet
 use Rattle.state.specs.declared.state.Ehci.{Ehci}
 use Rattle.state.specs.Ranges.{inRanges}
 use Rattle.state.proofs.RangesLaws.{ranges-make, ranges-tell}
-use Rattle.answer.specs.declared.answer.Answer.{Answer}
-use Rattle.answer.specs.declared.answer.Answer.the-variants.{Done, Refused}
-use Rattle.answer.specs.declared.answer.Refusal.{Refusal}
+use Rattle.common.specs.declared.answer.Answer.{Answer}
+use Rattle.common.specs.declared.answer.Answer.the-variants.{Done, Refused}
+use Rattle.common.specs.declared.answer.Refusal.{Refusal}
 use Rattle.pipe.specs.declared.endpoints.Endpoint.the-variants.{Closed}
 use Rattle.pipe.specs.Endpoints.{encoded, endpointAt, withEndpoint}
 use Rattle.controller.specs.Lent.{acceptsOf, lengths}
 use Rattle.controller.specs.Readers.{isOpen, isUncollected}
-use Rattle.opening.specs.Rows.{headWord, withHeadWord}
+use Rattle.opening.specs.Heads.{headWord, withHeadWord}
 use Rattle.pipe.proofs.EndpointLaws.{endpoint-keeps, endpoint-other, endpoint-same, slot-wide, Wide}
-use Rattle.answer.proofs.CheckLaws.{answers-apart}
+use Rattle.common.proofs.CheckLaws.{answers-apart}
 use Rattle.controller.proofs.LentLaws.{accepts-tells}
 use Rattle.controller.proofs.ReaderLaws.{open-within}
 use Rattle.endpoint.specs.Calls.{changeLeft, ChangeLeft, changeOf, closeOf, judgedOf, setAddressOf, setPacketSizeOf, withHead}
 use Rattle.endpoint.proofs.Cases.{change-done, change-passed, change-refused}
-use Rattle.opening.proofs.RowLaws.{Only, only-all, put-inside, put-only, set-only}
+use Rattle.common.proofs.RowLaws.{Only, only-all, put-inside, put-only, set-only}
 use Rattle.endpoint.proofs.SlotLaws.{open-room}
 
 module _ (s : Ehci) (pool : ℕ) (h : List ℕ) (f u k : ℕ) where

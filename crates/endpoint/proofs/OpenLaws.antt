@@ -8,32 +8,32 @@ use native.Mathlib.Omega.{arith}
 use borrow.Author.Tests.{le-leb, leb-false, leb-true, lt-leb, ltb-false, ltb-true}
 use lib.Dec.{leb, ltb}
 use lib.ListN.{getD, length}
-use Rattle.token.specs.declared.kinds.EndpointType.{EndpointType}
-use Rattle.token.specs.declared.kinds.EndpointType.the-variants.{Isochronous}
+use Rattle.common.specs.declared.kinds.EndpointType.{EndpointType}
+use Rattle.common.specs.declared.kinds.EndpointType.the-variants.{Isochronous}
 use Rattle.descriptor.specs.Descriptors.{terminated}
 use Rattle.descriptor.specs.Heads.{endpointHead, wordsOf}
-use Rattle.settings.proofs.SettingsLaws.{both-tells}
+use Rattle.common.proofs.TestLaws.{both-tells}
 use Rattle.state.specs.declared.state.Ehci.{Ehci}
 use Rattle.state.specs.Ranges.{inRanges}
 use Rattle.state.proofs.RangesLaws.{Ranges, ranges-make, ranges-tell}
-use Rattle.answer.specs.declared.answer.Refusal.{Refusal}
-use Rattle.answer.specs.declared.answer.Refusal.the-variants.{SlotLimitReached}
+use Rattle.common.specs.declared.answer.Refusal.{Refusal}
+use Rattle.common.specs.declared.answer.Refusal.the-variants.{SlotLimitReached}
 use Rattle.pipe.specs.declared.endpoints.Endpoint.the-variants.{Closed}
 use Rattle.pipe.specs.Endpoints.{encoded, endpointAt, flagNumber, withEndpoint}
-use Rattle.pipe.specs.Kinds.{isIsochronous}
+use Rattle.common.specs.Kinds.{isIsochronous}
 use Rattle.controller.specs.Lent.{acceptsOf, lengths}
 use Rattle.controller.specs.Readers.{hasEndpoint, isOpen}
-use Rattle.opening.specs.Rows.{headWord}
+use Rattle.opening.specs.Heads.{headWord}
 use Rattle.pipe.proofs.EndpointLaws.{endpoint-keeps, endpoint-other, endpoint-same, slot-wide, Wide}
-use Rattle.pipe.proofs.KindLaws.{not-isochronous}
-use Rattle.answer.proofs.CheckLaws.{verdicts-apart}
+use Rattle.common.proofs.KindLaws.{not-isochronous}
+use Rattle.common.proofs.CheckLaws.{verdicts-apart}
 use Rattle.controller.proofs.LentLaws.{accepts-tells}
 use Rattle.endpoint.specs.declared.calls.Opened.{Opened}
 use Rattle.endpoint.specs.declared.calls.Opened.the-variants.{Slot, Refused}
 use Rattle.endpoint.specs.Calls.{chosenOf, fieldsGood, lowestSlot, newEndpoint, openChecks, openEndpointOf, openLeft, OpenLeft, withHead}
 use Rattle.endpoint.proofs.Cases.{open-done, open-passed, open-refused, openVerdict, slot-is, slotOf}
 use Rattle.endpoint.proofs.LowestLaws.{lower-open, lowest-closed}
-use Rattle.opening.proofs.RowLaws.{Only, put-inside, put-only}
+use Rattle.common.proofs.RowLaws.{Only, put-inside, put-only}
 use Rattle.endpoint.proofs.SlotLaws.{below-room}
 
 -- 01's ranges of what is asked

@@ -13,21 +13,21 @@ ghost use Rattle.endpoint.specs.Calls.{
 };
 use crate::heads::write_head;
 use crate::lowest::lowest_closed;
-use answer::answer::Answer;
-use answer::answer::Refusal;
+use common::answer::Answer;
+use common::answer::Refusal;
 use controller::lent::Lengths;
 use controller::lent::accepts;
 use controller::readers::is_open;
 use controller::readers::uncollected;
 use descriptor::head::set_device_address;
 use descriptor::head::set_max_packet_size;
-use opening::rows::put_head;
+use opening::heads::put_head;
 use pipe::endpoints::Endpoint;
 use pipe::endpoints::Pipe;
 use pipe::endpoints::with_endpoint;
-use pipe::kinds::is_isochronous;
+use common::kinds::is_isochronous;
 use state::state::Ehci;
-use token::kinds::EndpointType;
+use common::kinds::EndpointType;
 
 pub enum Opened {
     Slot(u8),

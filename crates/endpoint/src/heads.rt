@@ -5,8 +5,8 @@ ghost use lib.ListN.{length};
 ghost use Rattle.descriptor.specs.Heads.{endpointHead, wordsOf};
 ghost use Rattle.endpoint.specs.Calls.{withHead};
 use descriptor::head::QueueHead;
-use opening::rows::put_head;
-use token::kinds::EndpointType;
+use opening::heads::put_head;
+use common::kinds::EndpointType;
 
 // The head of a new endpoint, over the words that its slot has.
 pub fn write_head(

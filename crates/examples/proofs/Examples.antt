@@ -25,15 +25,14 @@ use Rattle.state.specs.Slots.{slotAt, withSlot}
 use Rattle.state.specs.State.{withBell, withBoundaries, withBringUp, withInterrupt, withOwner}
 use Rattle.pipe.specs.Endpoints.{bareSlot, decoded, endpointAt, withEndpoint}
 use Rattle.opening.specs.Opening.{acceptedOpening, freshState, openOf, openedHeads, rowsFit}
-use Rattle.opening.specs.Rows.{putAt}
+use Rattle.common.specs.Rows.{putAt}
 use Rattle.controller.specs.Lent.{acceptsOf, lengths}
 use Rattle.controller.specs.Readers.{countZero, freeCount}
 use Rattle.schedule.specs.Bell.{advancedOf, fallenFrom, fallenOne, ringOf, ringWord, unlinkedOf}
 use Rattle.schedule.specs.Links.{attachedRing, detachOf, precedesOne, predecessorOf, searchFrom, startedOverlay}
 use Rattle.endpoint.specs.Lowest.{closedFrom}
 use Rattle.endpoint.specs.Calls.{fieldsGood, openChecks, openEndpointOf}
-use Rattle.request.specs.Submit.{acceptedWith, afterId, bufferGood, linkedRows, rangesGood, refusedSubmit, settledSubmit, setupsWith, stateWith, submitOf, takenFor}
-use Rattle.request.specs.Submit.{takenOf as takenPlaces}
+use Rattle.request.specs.Submit.{acceptedWith, afterId, bufferGood, linkedRows, rangesGood, refusedSubmit, settledSubmit, setupsWith, stateWith, submitOf, takenFor, takenOf as takenPlaces}
 use Rattle.collection.specs.Unlinks.{boundedOf, unlinkOf, waitingOf}
 use Rattle.collection.specs.Calls.{cancelOf, collectOf, finishOf, unlinkingOf}
 use Rattle.collection.specs.Answers.{outcomeOf}

@@ -5,8 +5,8 @@ use mathlib.Core.List.{List, [], _∷_, _++_}
 use lib.ListN.{length, replicate}
 use Rattle.register.specs.Writes.{listOf}
 use Rattle.token.specs.declared.qtd.QtdPid.the-variants.{In as InPid, Setup}
-use Rattle.token.specs.declared.kinds.Direction.the-variants.{Out, In}
-use Rattle.token.specs.declared.kinds.EndpointType.the-variants.{Bulk}
+use Rattle.common.specs.declared.kinds.Direction.the-variants.{Out, In}
+use Rattle.common.specs.declared.kinds.EndpointType.the-variants.{Bulk}
 use Rattle.token.specs.Tokens.{tokenOf}
 use Rattle.token.specs.Plans.{chunkToken}
 use Rattle.descriptor.specs.declared.qtd.QueueTransferDescriptor.{QueueTransferDescriptor}

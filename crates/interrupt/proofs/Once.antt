@@ -15,8 +15,7 @@ use Rattle.pipe.specs.Endpoints.{flagNumber}
 use Rattle.state.specs.Ranges.{inRanges}
 use Rattle.state.specs.State.{withInterrupt, withBell, withBoundaries}
 use Rattle.state.specs.declared.state.Ehci.{Ehci}
-use Rattle.settings.proofs.Every.{either-assoc, false-true}
-use Rattle.settings.proofs.SettingsCases.{both-first}
+use Rattle.common.proofs.TestLaws.{either-assoc, false-true, both-first}
 use Rattle.schedule.specs.Links.{same}
 use Rattle.schedule.specs.Bell.{ringWord, mustRing, ringOf, unlinkedOf, advancedOf, bellOf}
 use Rattle.schedule.specs.declared.bell.Bell.{Bell}

@@ -11,53 +11,25 @@ ghost use Rattle.interrupt.specs.Interrupts.{
   enableOf,
   disableOf,
 };
+use crate::answers::Acknowledged;
+use crate::answers::Acknowledgement;
+use crate::answers::Drained;
+use crate::answers::Drainage;
+use crate::answers::Settled;
 use crate::acknowledge::MASKABLE;
 use crate::acknowledge::PENDING;
 use crate::acknowledge::acknowledge_writes;
 use crate::acknowledge::noted_after;
 use crate::drain::count_noted;
 use crate::drain::take_pending;
-use answer::answer::Answer;
-use answer::answer::Refusal;
+use common::answer::Answer;
+use common::answer::Refusal;
 use register::bits::only_bits;
 use register::bits::with_bits;
 use register::operational::USBINTR;
 use register::writes::Writes;
 use state::ranges::in_ranges;
 use state::state::Ehci;
-
-pub enum Acknowledged {
-    No,
-    Yes,
-    Refused(Refusal),
-}
-
-pub struct Acknowledgement {
-    pub answer: Acknowledged,
-    pub state: Ehci,
-    pub writes: Writes,
-}
-
-pub enum Drained {
-    Nothing,
-    PortChange,
-    TransferActivity,
-    Stopped,
-    Refused(Refusal),
-}
-
-pub struct Drainage {
-    pub answer: Drained,
-    pub state: Ehci,
-    pub writes: Writes,
-}
-
-// What rearm, enable and disable leave.
-pub struct Settled {
-    pub answer: Answer,
-    pub state: Ehci,
-    pub writes: Writes,
-}
 
 // Given USBSTS and USBINTR as read, and the interrupt flag as read before and after the first write of USBINTR.
 pub fn acknowledge(

@@ -3,7 +3,7 @@ ghost use mathlib.Core.Path.{_≡_};
 ghost use mathlib.Core.Bool.{true};
 ghost use Rattle.state.specs.Ranges.{inRanges};
 ghost use Rattle.interrupt.specs.Interrupts.{countedOf, takenOf};
-use crate::calls::Drained;
+use crate::answers::Drained;
 use register::bits::any_of;
 use register::bits::without_bits;
 use register::operational::USBSTS_INTERRUPT_ASYNC_ADVANCE;

@@ -6,9 +6,9 @@ use native.Mathlib.Numerals.{add-one}
 use native.Mathlib.Omega.{arith}
 use borrow.Author.Tests.{le-ltb, lt-ltb}
 use lib.ListN.{getD, replicate, set}
-use Rattle.token.specs.declared.kinds.Direction.{Direction}
-use Rattle.token.specs.declared.kinds.EndpointType.{EndpointType}
-use Rattle.token.specs.declared.kinds.EndpointType.the-variants.{Control}
+use Rattle.common.specs.declared.kinds.Direction.{Direction}
+use Rattle.common.specs.declared.kinds.EndpointType.{EndpointType}
+use Rattle.common.specs.declared.kinds.EndpointType.the-variants.{Control}
 use Rattle.pipe.specs.Endpoints.{directionOf, kindOf}
 use Rattle.ehci.specs.declared.call.Call.{Call}
 use Rattle.ehci.specs.declared.call.Call.the-variants.{BringUpStep, OpenEndpoint, StartBringUp, Submit}

@@ -4,8 +4,8 @@ use Prim.Native.Nat.{ℕ, zero, suc}
 use mathlib.Core.List.{List, [], _∷_}
 use lib.Dec.{ltb}
 use lib.ListN.{getD, replicate, set}
-use Rattle.token.specs.declared.kinds.EndpointType.{EndpointType}
-use Rattle.token.specs.declared.kinds.EndpointType.the-variants.{Control}
+use Rattle.common.specs.declared.kinds.EndpointType.{EndpointType}
+use Rattle.common.specs.declared.kinds.EndpointType.the-variants.{Control}
 use Rattle.settings.specs.declared.settings.Settings.{Settings}
 use Rattle.pipe.specs.Endpoints.{directionOf, kindOf}
 use Rattle.ehci.specs.declared.call.Call.{Call}

@@ -30,7 +30,7 @@ use job_sheet::sheet::Job;
 use pipe::endpoints::direction_of;
 use pipe::endpoints::kind_of;
 use request::judge::TransferRequest;
-use token::kinds::EndpointType;
+use common::kinds::EndpointType;
 use world::world::World;
 use world::world::call_on;
 

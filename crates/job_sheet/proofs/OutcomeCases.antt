@@ -9,7 +9,7 @@ use lib.Dec.{eqb}
 use lib.ListN.{getD, length}
 use Rattle.descriptor.specs.declared.qtd.QueueTransferDescriptor.{QueueTransferDescriptor}
 use Rattle.pool.specs.Chains.{blank}
-use Rattle.opening.specs.Rows.{putAt}
+use Rattle.common.specs.Rows.{putAt}
 use Rattle.text.specs.Text.{linesTo, onlyIf}
 use Rattle.text.proofs.LineLaws.{getD-any, hidden, lines-none, lines-turn, shown}
 use Rattle.job_sheet.specs.declared.outcome.Outcome.{Outcome}

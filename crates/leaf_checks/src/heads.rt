@@ -13,7 +13,7 @@ use descriptor::setup::setup_packet_bytes;
 use register::operational;
 use register::writes::Write;
 use register::writes::Writes;
-use token::kinds::EndpointType;
+use common::kinds::EndpointType;
 use token::port::EhciPortStatus;
 use token::qtd::QtdToken;
 

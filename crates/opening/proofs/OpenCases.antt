@@ -12,18 +12,18 @@ use Rattle.token.specs.Chunks.{zeros}
 use Rattle.descriptor.specs.Descriptors.{terminated}
 use Rattle.descriptor.specs.Heads.{ringHead, wordsOf}
 use Rattle.descriptor.specs.declared.head.QueueHead.{QueueHead}
-use Rattle.answer.specs.declared.answer.Answer.the-variants.{Done, Refused}
-use Rattle.answer.specs.declared.answer.Refusal.the-variants.{InvalidParameter}
+use Rattle.common.specs.declared.answer.Answer.the-variants.{Done, Refused}
+use Rattle.common.specs.declared.answer.Refusal.the-variants.{InvalidParameter}
 use Rattle.opening.specs.declared.hub.EhciRootHub.{EhciRootHub}
 use Rattle.opening.specs.declared.open.Opening.{Opening}
 use Rattle.settings.specs.declared.settings.Settings.{Settings}
 use Rattle.state.specs.declared.state.Ehci.{Ehci}
 use Rattle.opening.specs.Hub.{openedHub}
 use Rattle.opening.specs.Opening.{freshState, rowsFit, refusedOpening, acceptedOpening, openedHeads, decided, decideOpenOf}
-use Rattle.opening.specs.Rows.{putAt}
+use Rattle.common.specs.Rows.{putAt}
 use Rattle.settings.specs.Settings.{settingsGood, numbersGood, eachGood, noOverlap, areaGood, poolSize, headsSize, headsLength, setupsLength, poolLength, framesLength}
-use Rattle.settings.proofs.Every.{every-4}
-use Rattle.settings.proofs.SettingsCases.{both-first, both-second, numbers-tell}
+use Rattle.common.proofs.TestLaws.{every-4, both-first, both-second}
+use Rattle.settings.proofs.SettingsCases.{numbers-tell}
 
 pub fit-is : (s : Settings) (p h f u : ℕ)
     → (eqb p (poolLength s) && eqb h (headsLength s) && eqb f framesLength && eqb u (setupsLength s)) ≡ rowsFit s p h f u

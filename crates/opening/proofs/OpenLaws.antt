@@ -12,8 +12,8 @@ use Rattle.register.specs.Bits.{withoutBits}
 use Rattle.token.specs.Chunks.{zeros}
 use Rattle.descriptor.specs.Descriptors.{terminated}
 use Rattle.descriptor.specs.Heads.{ringHead}
-use Rattle.answer.specs.declared.answer.Answer.the-variants.{Done, Refused}
-use Rattle.answer.specs.declared.answer.Refusal.the-variants.{InvalidParameter}
+use Rattle.common.specs.declared.answer.Answer.the-variants.{Done, Refused}
+use Rattle.common.specs.declared.answer.Refusal.the-variants.{InvalidParameter}
 use Rattle.settings.specs.declared.settings.Settings.{Settings}
 use Rattle.pipe.specs.Endpoints.{bareSlot}
 use Rattle.opening.specs.Hub.{openedHub}
@@ -24,7 +24,8 @@ use Rattle.settings.specs.Settings.{framesLength, headsLength, numbersGood, poo
 use Rattle.state.specs.Slots.{slotAt}
 use Rattle.state.proofs.Arrays.{zeros-at}
 use Rattle.state.proofs.RangesLaws.{ranges-make}
-use Rattle.settings.proofs.SettingsLaws.{both-tells, Good, good-tells}
+use Rattle.settings.proofs.SettingsLaws.{Good, good-tells}
+use Rattle.common.proofs.TestLaws.{both-tells}
 use Rattle.slot.proofs.SlotLaws.{Phase, slot-makes}
 
 -- ---- the state

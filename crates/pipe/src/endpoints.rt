@@ -23,8 +23,8 @@ use slot::slot::Slot;
 use state::slots::slot_at;
 use state::slots::with_slot;
 use state::state::Ehci;
-use token::kinds::Direction;
-use token::kinds::EndpointType;
+use common::kinds::Direction;
+use common::kinds::EndpointType;
 
 // When an unlinking request may be collected: after so many advances, or 9 micro-frames after a FRINDEX.
 pub enum UnlinkBoundary {

@@ -11,8 +11,8 @@ use lib.ListN.{drop, drop-of-length-le, getD, length, length-take, take}
 use lib.Seq.{drop-cons, length-take-le}
 use mir.Syntax.{w32, w64}
 use mir.Val.{Fits}
-use Rattle.token.specs.declared.kinds.EndpointType.{EndpointType}
-use Rattle.token.specs.declared.kinds.EndpointType.the-variants.{Control, Isochronous, Bulk, Interrupt}
+use Rattle.common.specs.declared.kinds.EndpointType.{EndpointType}
+use Rattle.common.specs.declared.kinds.EndpointType.the-variants.{Control, Isochronous, Bulk, Interrupt}
 use Rattle.token.specs.EhciQtd.{totalBytes}
 use Rattle.token.specs.Tokens.{onlyIf}
 use Rattle.descriptor.specs.declared.qtd.NextQtd.{NextQtd}

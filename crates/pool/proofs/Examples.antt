@@ -3,8 +3,8 @@ use Prim.Native.Nat.{ℕ}
 use mathlib.Core.Path.{_≡_, refl}
 use mathlib.Core.List.{List, [], _∷_}
 use lib.ListN.{replicate}
-use Rattle.token.specs.declared.kinds.Direction.the-variants.{In, Out}
-use Rattle.token.specs.declared.kinds.EndpointType.the-variants.{Bulk, Control}
+use Rattle.common.specs.declared.kinds.Direction.the-variants.{In, Out}
+use Rattle.common.specs.declared.kinds.EndpointType.the-variants.{Bulk, Control}
 use Rattle.token.specs.Chunks.{chunkCount}
 use Rattle.token.specs.Plans.{controlPlan}
 use Rattle.token.specs.Tokens.{tokenOf}

@@ -13,7 +13,7 @@ use crate::transfer::bare_at;
 use crate::transfer::requested;
 use descriptor::qtd::NextQtd;
 use descriptor::qtd::QueueTransferDescriptor;
-use token::kinds::EndpointType;
+use common::kinds::EndpointType;
 use token::qtd::QtdToken;
 
 // What becomes of each record of a chain.

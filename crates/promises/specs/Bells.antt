@@ -5,8 +5,8 @@ use mathlib.Core.List.{[], _∷_, _++_}
 use mathlib.Core.Path.{_≡_}
 use lib.Dec.{eqb}
 use Rattle.settings.specs.declared.settings.Settings.{Settings}
-use Rattle.token.specs.declared.kinds.EndpointType.{EndpointType}
-use Rattle.token.specs.declared.kinds.EndpointType.the-variants.{Control}
+use Rattle.common.specs.declared.kinds.EndpointType.{EndpointType}
+use Rattle.common.specs.declared.kinds.EndpointType.the-variants.{Control}
 use Rattle.pipe.specs.Endpoints.{flagNumber}
 use Rattle.ehci.specs.declared.call.Call.{Call}
 use Rattle.ehci.specs.declared.call.Call.the-variants.{StartBringUp, BringUpStep, AllocateAddress, OpenEndpoint, Close, SetAddress, SetPacketSize, Submit, Writeback, Cancel, Collect, Acknowledge, Drain, Rearm, Enable, Disable}

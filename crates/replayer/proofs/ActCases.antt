@@ -3,9 +3,9 @@ use Prim.Native.Nat.{ℕ}
 use mathlib.Core.Bool.{Bool, true, false}
 use mathlib.Core.Path.{_≡_, refl, sym, ap, _∙_}
 use mathlib.Core.List.{List}
-use Rattle.answer.specs.declared.answer.Answer.the-variants as A
-use Rattle.answer.specs.declared.answer.Refusal.{Refusal}
-use Rattle.bring_up.specs.declared.reads.NextRead.the-variants as N
+use Rattle.common.specs.declared.answer.Answer.the-variants as A
+use Rattle.common.specs.declared.answer.Refusal.{Refusal}
+use Rattle.common.specs.declared.reads.NextRead.the-variants as N
 use Rattle.call_log.specs.CallLine.{answeredLine, scanLine}
 use Rattle.call_log.specs.Lines.{lineBytes}
 use Rattle.call_log.specs.declared.line.Line.{Line}

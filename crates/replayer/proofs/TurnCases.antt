@@ -10,7 +10,7 @@ use Rattle.call_log.specs.Lines.{lineBytes}
 use Rattle.call_log.specs.Records.{entryOf}
 use Rattle.call_log.specs.declared.block.Rows.{Rows}
 use Rattle.call_log.specs.declared.record.Entry.{Entry}
-use Rattle.opening.specs.Rows.{putAt}
+use Rattle.common.specs.Rows.{putAt}
 use Rattle.text.specs.Text.{decimal}
 use Rattle.text.proofs.Puts.{put-then}
 use Rattle.text.proofs.TextLaws.{decimal-length}

@@ -13,8 +13,8 @@ ghost use Rattle.replayer.specs.Replays.{
 };
 ghost use Rattle.root_hub.specs.Calls.{powerOf};
 ghost use Rattle.world.specs.Worlds.{callWorld, openWorld};
-use answer::answer::Answer;
-use bring_up::reads::NextRead;
+use common::answer::Answer;
+use common::reads::NextRead;
 use call_log::block::Rows;
 use call_log::call_line::call_line;
 use call_log::call_line::scan_line;

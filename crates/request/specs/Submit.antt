@@ -8,7 +8,7 @@ use Rattle.register.specs.Bits.{withBits}
 use Rattle.register.specs.Writes.{noWrites, andThen}
 use Rattle.register.specs.declared.writes.Writes.{Writes}
 use Rattle.token.specs.Chunks.{needOf}
-use Rattle.token.specs.declared.kinds.EndpointType.{EndpointType}
+use Rattle.common.specs.declared.kinds.EndpointType.{EndpointType}
 use Rattle.descriptor.specs.Setups.{setupPacket}
 use Rattle.pool.specs.Chains.{noChain}
 use Rattle.pool.specs.Places.{listIf, markOf, packed, placesFrom}
@@ -17,28 +17,28 @@ use Rattle.pool.specs.declared.chain.Chain.{Chain}
 use Rattle.pool.specs.declared.chain.Deed.the-variants.{Transfer as TransferDeed}
 use Rattle.pool.specs.declared.transfer.Transfer.{Transfer}
 use Rattle.settings.specs.Settings.{memoryEnd}
-use Rattle.settings.specs.Tests.{every}
+use Rattle.common.specs.Tests.{every}
 use Rattle.state.specs.Slots.{slotAt}
 use Rattle.state.specs.State.{withOwner}
 use Rattle.state.specs.declared.state.Ehci.{Ehci}
-use Rattle.answer.specs.Answers.{Check, Verdict, passed, refused, first, refusalNumber, settle}
+use Rattle.common.specs.Answers.{Check, Verdict, passed, refused, first, refusalNumber, settle}
 use Rattle.pipe.specs.Endpoints.{directionNumber, kindNumber, withEndpoint}
-use Rattle.pipe.specs.Kinds.{isControl, isInterrupt, isIsochronous}
+use Rattle.common.specs.Kinds.{isControl, isInterrupt, isIsochronous}
 use Rattle.controller.specs.Lent.{acceptsOf, lengths}
 use Rattle.controller.specs.Readers.{freeCount, isOpen, isUncollected}
-use Rattle.opening.specs.Rows.{putAt}
-use Rattle.answer.specs.declared.answer.Answer.{Answer}
-use Rattle.answer.specs.declared.answer.Answer.the-variants.{Done, Refused as RefusedCall}
-use Rattle.answer.specs.declared.answer.Refusal.{Refusal}
-use Rattle.answer.specs.declared.answer.Refusal.the-variants.{InvalidParameter, InvalidEndpoint, QueueFull, NotSupported, NoMemory, NotReady}
+use Rattle.common.specs.Rows.{putAt}
+use Rattle.common.specs.declared.answer.Answer.{Answer}
+use Rattle.common.specs.declared.answer.Answer.the-variants.{Done, Refused as RefusedCall}
+use Rattle.common.specs.declared.answer.Refusal.{Refusal}
+use Rattle.common.specs.declared.answer.Refusal.the-variants.{InvalidParameter, InvalidEndpoint, QueueFull, NotSupported, NoMemory, NotReady}
 use Rattle.pipe.specs.declared.endpoints.Endpoint.{Endpoint}
 use Rattle.pipe.specs.declared.endpoints.Endpoint.the-variants.{Linked}
 use Rattle.controller.specs.declared.lent.Readings.{Readings}
 use Rattle.schedule.specs.Bell.{commandWord}
 use Rattle.schedule.specs.Links.{Links, attachedFrames, attachedRing, headAddress, links, slotLink, startedOverlay}
-use Rattle.request.specs.declared.calls.Submission.{Submission}
-use Rattle.request.specs.declared.calls.Submission.the-variants.{Accepted, Refused}
-use Rattle.request.specs.declared.calls.Submitted.{Submitted}
+use Rattle.request.specs.declared.answers.Submission.{Submission}
+use Rattle.request.specs.declared.answers.Submission.the-variants.{Accepted, Refused}
+use Rattle.request.specs.declared.answers.Submitted.{Submitted}
 use Rattle.request.specs.declared.judge.TransferRequest.{TransferRequest}
 use Rattle.request.specs.declared.settle.Taken.{Taken}
 

@@ -14,13 +14,12 @@ use Rattle.register.specs.declared.writes.Writes.{Writes}
 use Rattle.token.specs.EhciPortsc.{currentConnect, portEnabled}
 use Rattle.token.specs.Ports.{isSet}
 use Rattle.token.specs.declared.port.EhciPortStatus.{EhciPortStatus}
-use Rattle.settings.specs.Tests.{within}
-use Rattle.settings.proofs.Every.{both-assoc, both-true}
-use Rattle.settings.proofs.SettingsCases.{both-first, both-second, within-least, within-most}
-use Rattle.answer.specs.declared.answer.Answer.the-variants.{Done}
-use Rattle.answer.specs.declared.answer.Refusal.the-variants.{InvalidParameter}
+use Rattle.common.specs.Tests.{within}
+use Rattle.common.proofs.TestLaws.{both-assoc, both-true, both-first, both-second, within-least, within-most}
+use Rattle.common.specs.declared.answer.Answer.the-variants.{Done}
+use Rattle.common.specs.declared.answer.Refusal.the-variants.{InvalidParameter}
 use Rattle.opening.specs.declared.hub.EhciRootHub.{EhciRootHub}
-use Rattle.bring_up.specs.declared.reads.NextRead.the-variants.{Nothing as NoRead, Register}
+use Rattle.common.specs.declared.reads.NextRead.the-variants.{Nothing as NoRead, Register}
 use Rattle.root_hub.specs.declared.ports.PortEvent.the-variants.{Nothing as NoEvent, Connected, Disconnected}
 use Rattle.root_hub.specs.declared.ports.PortState.{PortState}
 use Rattle.root_hub.specs.declared.ports.PortState.the-variants.{Uninit, Reseted, Probed}

@@ -14,16 +14,15 @@ use lib.Seq.{getD-set-other, getD-set-same}
 use Rattle.register.specs.EhciRegisters.{portscOf}
 use Rattle.register.specs.Writes.{listOf, noWrites, andThen}
 use Rattle.register.specs.declared.writes.Write.{Write}
-use Rattle.settings.specs.Tests.{within}
-use Rattle.settings.proofs.SettingsCases.{both-first, both-second, within-least}
-use Rattle.settings.proofs.SettingsLaws.{both-tells, within-makes}
+use Rattle.common.specs.Tests.{within}
+use Rattle.common.proofs.TestLaws.{both-first, both-second, within-least, both-tells, within-makes}
 use Rattle.state.proofs.Arrays.{zeros-at}
-use Rattle.answer.specs.Answers.{numberOf}
-use Rattle.answer.specs.declared.answer.Answer.the-variants.{Done}
-use Rattle.answer.specs.declared.answer.Refusal.the-variants.{InvalidParameter}
+use Rattle.common.specs.Answers.{numberOf}
+use Rattle.common.specs.declared.answer.Answer.the-variants.{Done}
+use Rattle.common.specs.declared.answer.Refusal.the-variants.{InvalidParameter}
 use Rattle.opening.specs.Hub.{openedHub}
 use Rattle.opening.specs.declared.hub.EhciRootHub.{EhciRootHub}
-use Rattle.bring_up.specs.declared.reads.NextRead.the-variants.{Nothing as NoRead, Register}
+use Rattle.common.specs.declared.reads.NextRead.the-variants.{Nothing as NoRead, Register}
 use Rattle.root_hub.specs.declared.ports.PortEvent.the-variants.{Nothing as NoEvent}
 use Rattle.root_hub.specs.declared.scan.Awaited.{Awaited}
 use Rattle.root_hub.specs.declared.scan.Awaited.the-variants.{Status, Gone, Reset, Release, Again, Owner}

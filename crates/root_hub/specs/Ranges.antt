@@ -3,7 +3,7 @@ use Prim.Native.Nat.{ℕ, zero, suc, _-_}
 use mathlib.Core.Bool.{Bool, true, false, _&&_, cond}
 use lib.Dec.{eqb, leb, ltb}
 use lib.ListN.{getD}
-use Rattle.settings.specs.Tests.{within}
+use Rattle.common.specs.Tests.{within}
 use Rattle.opening.specs.declared.hub.EhciRootHub.{EhciRootHub}
 use Rattle.root_hub.specs.declared.scan.Awaited.{Awaited}
 use Rattle.root_hub.specs.declared.scan.Awaited.the-variants.{Status, Gone, Reset, Release, Again, Owner}

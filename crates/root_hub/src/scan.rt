@@ -20,7 +20,7 @@ use crate::ports::PortEvent;
 use crate::ports::PortState;
 use crate::ports::Speed;
 use crate::ports::port_state;
-use bring_up::reads::NextRead;
+use common::reads::NextRead;
 use opening::hub::PROBED;
 use opening::hub::RESETED;
 use opening::hub::UNINIT;

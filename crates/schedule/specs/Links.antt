@@ -5,8 +5,9 @@ use mathlib.Core.List.{List, [], _∷_}
 use lib.Dec.{eqb}
 use lib.ListN.{getD, length, replicate, set}
 use Rattle.descriptor.specs.Heads.{qhLink}
-use Rattle.opening.specs.Rows.{withHeadWord, putAt}
-use Rattle.settings.specs.Tests.{every}
+use Rattle.opening.specs.Heads.{withHeadWord}
+use Rattle.common.specs.Rows.{putAt}
+use Rattle.common.specs.Tests.{every}
 use Rattle.state.specs.declared.state.Ehci.{Ehci}
 use Rattle.schedule.specs.declared.links.Predecessor.{Predecessor}
 use Rattle.schedule.specs.declared.links.Predecessor.the-variants.{First, Head, Missing}

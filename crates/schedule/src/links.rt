@@ -6,8 +6,8 @@ ghost use lib.Dec.{eqb};
 ghost use lib.ListN.{length};
 ghost use Rattle.schedule.specs.Links.{headAddress, same, precedesOne, searchFrom, predecessorOf, attachedRing, attachedFrames, links, withLinkWord, detached, detachOf, startedOverlay, endedOverlay};
 use descriptor::qtd::EHCI_LINK_TERMINATE;
-use opening::rows::fill_words;
-use opening::rows::put_words;
+use common::rows::fill_words;
+use common::rows::put_words;
 use state::state::Ehci;
 
 // Who gives way to a head that is unlinked.

@@ -1,29 +1,14 @@
 -- The returns of the functions on settings.
 use Prim.Native.Nat.{ℕ, _+_, _-_, _%_, _^_, _≤_, _<_}
-use mathlib.Core.Path.{_≡_, refl, sym, ap, _∙_}
+use mathlib.Core.Path.{_≡_, sym, ap, _∙_}
 use mathlib.Core.Bool.{Bool, true, false, _&&_}
 use native.Mathlib.Omega.{arith}
-use borrow.Author.Tests.{le-leb, lt-leb, leb-true, leb-false}
+use borrow.Author.Tests.{le-leb, lt-leb}
 use lib.Dec.{eqb, leb}
 use Rattle.settings.specs.declared.settings.Settings.{Settings}
-use Rattle.settings.specs.Tests.{within}
+use Rattle.common.specs.Tests.{within}
 use Rattle.settings.specs.Settings.{areaGood, apartAreas, numbersGood, eachGood, noOverlap, settingsGood, poolSize, headsSize, framesSize, setupsSize}
-use Rattle.settings.proofs.Every.{every-4, every-5, every-6, false-true}
-
--- two tests that say the same of numbers are equal
-pub same-test : (a b c d : ℕ) → (a ≤ b → c ≤ d) → (c ≤ d → a ≤ b) → leb a b ≡ leb c d
-same-test a b c d f g = go (leb a b) refl
-  where
-    go : (t : Bool) → leb a b ≡ t → leb a b ≡ leb c d
-    go true e = e ∙ sym (le-leb c d (f (leb-true a b e)))
-    go false e = e ∙ sym (lt-leb c d (above (leb-false a b e)))
-      where
-        above : b < a → d < c
-        above h = by (leb c d) refl
-          where
-            by : (t : Bool) → leb c d ≡ t → d < c
-            by true q = absurd (omega (arith, g (leb-true c d q)))
-            by false q = leb-false c d q
+use Rattle.common.proofs.TestLaws.{both-first, both-second, every-4, every-5, every-6, same-test, within-most}
 
 pub area-is : (a n s : ℕ) → s ≤ 2 ^ 32 → (eqb (a % n) 0 && leb a (4294967296 - s)) ≡ areaGood a n s
 unfolding areaGood
@@ -36,20 +21,6 @@ apart-first a m b n h = rw (le-leb a b h) (same-test m (b - a) (a + m) b (λ p. 
 pub apart-second : (a m b n : ℕ) → b < a → leb n (a - b) ≡ apartAreas a m b n
 unfolding apartAreas
 apart-second a m b n h = rw (lt-leb a b h) (same-test n (a - b) (b + n) a (λ p. omega arith) (λ p. omega arith))
-
-pub both-first : (a b : Bool) → (a && b) ≡ true → a ≡ true
-both-first true b e = refl
-both-first false b e = e
-
-pub both-second : (a b : Bool) → (a && b) ≡ true → b ≡ true
-both-second true b e = e
-both-second false b e = absurd (false-true e)
-
-pub within-most : (x l m : ℕ) → within x l m ≡ true → x ≤ m
-within-most x l m e = leb-true x m (both-second (leb l x) (leb x m) e)
-
-pub within-least : (x l m : ℕ) → within x l m ≡ true → l ≤ x
-within-least x l m e = leb-true l x (both-first (leb l x) (leb x m) e)
 
 -- settings whose numbers are good have at most 256 descriptors and 32 endpoints
 pub numbers-tell : (s : Settings) (r : Bool) → r ≡ numbersGood s → r ≡ true → (s .descriptors ≤ 256) × (s .endpoints ≤ 32)

@@ -4,7 +4,7 @@ use mathlib.Core.Bool.{Bool, true, false, _&&_}
 use mathlib.Core.List.{[], _∷_}
 use lib.Dec.{eqb, leb}
 use Rattle.settings.specs.declared.settings.Settings.{Settings}
-use Rattle.settings.specs.Tests.{every, within}
+use Rattle.common.specs.Tests.{every, within}
 
 -- where memory ends, and the rows' lengths: descriptors, 17 words a head with the ring head, frame entries, 8 bytes a slot
 abbrev pub memoryEnd : ℕ

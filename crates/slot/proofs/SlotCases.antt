@@ -4,8 +4,8 @@ use mathlib.Core.Path.{_≡_, refl, _∙_}
 use mathlib.Core.Bool.{Bool, false, _&&_, _||_}
 use borrow.Author.Tests.{eq-eqb, ne-eqb}
 use lib.Dec.{eqb, leb, ltb}
-use Rattle.settings.specs.Tests.{within}
-use Rattle.settings.proofs.Every.{every-3, every-5}
+use Rattle.common.specs.Tests.{within}
+use Rattle.common.proofs.TestLaws.{every-3, every-5}
 use Rattle.slot.specs.declared.slot.Slot.{Slot}
 use Rattle.slot.specs.Ranges.{openKind, noRequest, closedGood, idleGood, linkedGood, boundaryGood, unlinkingGood, phaseGood, slotGood}
 

@@ -9,10 +9,9 @@ use borrow.Author.Tests.{eq-eqb, eqb-false, eqb-true, le-leb, le-ltb, leb-true, 
 use lib.Dec.{eqb, leb, ltb}
 use Rattle.slot.specs.declared.slot.Slot.{Slot}
 use Rattle.slot.specs.Ranges.{boundaryGood, closedGood, idleGood, linkedGood, noRequest, openKind, phaseGood, slotGood, unlinkingGood}
-use Rattle.settings.specs.Tests.{within}
+use Rattle.common.specs.Tests.{within}
 use Rattle.slot.proofs.SlotCases.{phase-closed, phase-idle, phase-linked, phase-unknown, phase-unlinking}
-use Rattle.settings.proofs.SettingsCases.{within-least, within-most}
-use Rattle.settings.proofs.SettingsLaws.{both-tells, within-makes}
+use Rattle.common.proofs.TestLaws.{within-least, within-most, both-tells, within-makes}
 
 -- ---- the facts
 

@@ -3,7 +3,7 @@ use Prim.Native.Nat.{ℕ}
 use mathlib.Core.Bool.{Bool, true, false, _&&_, _||_, cond}
 use mathlib.Core.List.{[], _∷_}
 use lib.Dec.{eqb, leb, ltb}
-use Rattle.settings.specs.Tests.{every, within}
+use Rattle.common.specs.Tests.{every, within}
 use Rattle.slot.specs.declared.slot.Slot.{Slot}
 
 abbrev pub flag : ℕ → Bool

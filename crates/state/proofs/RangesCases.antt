@@ -11,13 +11,13 @@ use lib.ListN.{drop, drop-of-length-le, getD, length, length-drop, take}
 use lib.Seq.{drop-cons, take-all}
 use Rattle.settings.specs.declared.settings.Settings.{Settings}
 use Rattle.settings.specs.Settings.{settingsGood}
-use Rattle.settings.proofs.SettingsCases.{both-first, numbers-tell}
+use Rattle.settings.proofs.SettingsCases.{numbers-tell}
+use Rattle.common.proofs.TestLaws.{both-first, both-assoc, both-true, every-3, every-4, every-5}
 use Rattle.state.specs.declared.state.Ehci.{Ehci}
 use Rattle.state.specs.Slots.{slotAt}
 use Rattle.slot.specs.Ranges.{slotGood}
 use Rattle.register.specs.Bits.{withoutBits}
-use Rattle.settings.specs.Tests.{within}
-use Rattle.settings.proofs.Every.{both-assoc, both-true, every-3, every-4, every-5}
+use Rattle.common.specs.Tests.{within}
 use Rattle.state.specs.Ranges.{slotsGood, largest, ownerGood, machineGood, interruptGood, doorbellGood, restGood, inRanges}
 
 -- ---- the loop over the slots

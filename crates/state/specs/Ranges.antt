@@ -10,7 +10,7 @@ use Rattle.slot.specs.Ranges.{flag, slotGood}
 use Rattle.state.specs.declared.state.Ehci.{Ehci}
 use Rattle.settings.specs.Settings.{settingsGood}
 use Rattle.state.specs.Slots.{slotAt}
-use Rattle.settings.specs.Tests.{every, within}
+use Rattle.common.specs.Tests.{every, within}
 
 -- no bit but those of a mask
 abbrev pub only : ℕ → ℕ → Bool

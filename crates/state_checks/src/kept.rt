@@ -1,6 +1,6 @@
 // What is kept from record to record, and what a call does to it.
-use answer::answer::Answer;
-use bring_up::reads::NextRead;
+use common::answer::Answer;
+use common::reads::NextRead;
 use call_log::call_line::call_line;
 use call_log::call_line::scan_line;
 use call_log::fields::Fields;
@@ -26,7 +26,7 @@ use root_hub::calls::Scanned;
 use root_hub::ports::PortEvent;
 use settings::settings::Settings;
 use state::state::Ehci;
-use token::kinds::Direction;
+use common::kinds::Direction;
 
 // How many records, words, entries and bytes are lent.
 pub struct Lent {

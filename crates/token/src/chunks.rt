@@ -3,7 +3,7 @@ ghost use mathlib.Core.Path.{_≡_};
 ghost use Prim.Native.Nat.{_≤_};
 ghost use lib.ListN.{length as len};
 ghost use Rattle.token.specs.Chunks.{chunkCount, chunkLengths, chunksFrom, needOf, zeros};
-use crate::kinds::EndpointType;
+use common::kinds::EndpointType;
 use crate::qtd::least;
 
 // The most chunks that a run holds: the largest pool.

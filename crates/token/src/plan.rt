@@ -2,7 +2,7 @@
 ghost use mathlib.Core.Path.{_≡_};
 ghost use lib.Dec.{eqb};
 ghost use Rattle.token.specs.Plans.{pidFor, statusPid, controlPlan, chunkToken};
-use crate::kinds::Direction;
+use common::kinds::Direction;
 use crate::qtd::QtdPid;
 use crate::qtd::QtdToken;
 

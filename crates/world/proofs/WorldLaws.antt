@@ -3,9 +3,9 @@ use Prim.Native.Nat.{ℕ, min}
 use mathlib.Core.Path.{_≡_, refl, sym, ap, _∙_}
 use mathlib.Core.Bool.{true}
 use native.Mathlib.Omega.{arith}
-use Rattle.answer.specs.declared.answer.Answer.{Answer}
-use Rattle.answer.specs.declared.answer.Answer.the-variants.{Refused}
-use Rattle.answer.specs.declared.answer.Refusal.{Refusal}
+use Rattle.common.specs.declared.answer.Answer.{Answer}
+use Rattle.common.specs.declared.answer.Answer.the-variants.{Refused}
+use Rattle.common.specs.declared.answer.Refusal.{Refusal}
 use Rattle.settings.specs.declared.settings.Settings.{Settings}
 use Rattle.settings.specs.Settings.{headsLength, poolLength, settingsGood, setupsLength}
 use Rattle.settings.proofs.SettingsLaws.{good-tells}

@@ -17,7 +17,7 @@ ghost use Rattle.world.specs.Worlds.{
   callRows,
   callWorld,
 };
-use answer::answer::Answer;
+use common::answer::Answer;
 use descriptor::qtd::QueueTransferDescriptor;
 use ehci::call::Call;
 use ehci::door::apply;

@@ -4,8 +4,8 @@ use mathlib.Core.Bool.{Bool, true, false, cond, true≢false, false≢true, _||_
 use mathlib.Core.List.{List, [], _∷_}
 use mathlib.Core.Path.{_≡_, refl, ap, _∙_}
 use Rattle.settings.specs.declared.settings.Settings.{Settings}
-use Rattle.token.specs.declared.kinds.EndpointType.{EndpointType}
-use Rattle.pipe.specs.Kinds.{isInterrupt}
+use Rattle.common.specs.declared.kinds.EndpointType.{EndpointType}
+use Rattle.common.specs.Kinds.{isInterrupt}
 use Rattle.controller.specs.declared.lent.Readings.{Readings}
 use Rattle.ehci.specs.declared.call.Call.{Call}
 use Rattle.promises.specs.Runs.{History, Machine, Turn, World, historyOf}

@@ -7,14 +7,14 @@ use lib.Dec.{leb}
 use lib.ListN.{length, replicate}
 use Rattle.register.specs.Writes.{noWrites}
 use Rattle.descriptor.specs.Heads.{withAddress, withPacketSize}
-use Rattle.settings.proofs.Every.{false-true}
+use Rattle.common.proofs.TestLaws.{false-true}
 use Rattle.state.specs.declared.state.Ehci.{Ehci}
-use Rattle.answer.specs.declared.answer.Refusal.the-variants.{InvalidParameter}
+use Rattle.common.specs.declared.answer.Refusal.the-variants.{InvalidParameter}
 use Rattle.pipe.specs.Endpoints.{endpointAt, withEndpoint}
 use Rattle.pipe.specs.declared.endpoints.Endpoint.{Endpoint}
 use Rattle.pipe.specs.declared.endpoints.Endpoint.the-variants.{Closed, Idle, Linked, Unlinking}
 use Rattle.pipe.specs.declared.endpoints.Pipe.{Pipe}
-use Rattle.opening.specs.Rows.{headWord, withHeadWord}
+use Rattle.opening.specs.Heads.{headWord, withHeadWord}
 use Rattle.controller.specs.Readers.{hasEndpoint, holdsRequest}
 use Rattle.endpoint.specs.Calls.{ChangeLeft, closeOf, setAddressOf, setPacketSizeOf, withHead}
 use Rattle.endpoint.proofs.ChangeLaws.{Changes, change-by}

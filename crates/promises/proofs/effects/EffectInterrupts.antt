@@ -7,23 +7,23 @@ use mathlib.Core.Path.{_≡_, refl, sym, ap, _∙_}
 use native.Mathlib.Omega.{arith}
 use borrow.Author.Tests.{eq-eqb, eqb-false, eqb-true, ne-eqb}
 use lib.Dec.{eqb, lit<}
-use Rattle.answer.proofs.CheckLaws.{settled-by}
+use Rattle.common.proofs.CheckLaws.{settled-by}
 use Rattle.register.specs.Bits.{anyOf, bit, onlyBits, withBits, withoutBits}
 use Rattle.register.specs.Writes.{andThen, listOf, noWrites}
 use Rattle.register.proofs.BitLaws.{only-bit}
 use Rattle.register.proofs.FieldLaws.{any-field}
-use Rattle.settings.proofs.SettingsCases.{both-second}
+use Rattle.common.proofs.TestLaws.{both-second}
 use Rattle.state.specs.Ranges.{inRanges}
 use Rattle.state.specs.State.{withBell, withBoundaries, withInterrupt}
 use Rattle.state.specs.declared.state.Ehci.{Ehci}
 use Rattle.state.proofs.RangesLaws.{Ranges}
-use Rattle.answer.specs.Answers.{first}
-use Rattle.answer.specs.declared.answer.Answer.the-variants.{Done}
-use Rattle.answer.specs.declared.answer.Refusal.the-variants.{InvalidParameter}
+use Rattle.common.specs.Answers.{first}
+use Rattle.common.specs.declared.answer.Answer.the-variants.{Done}
+use Rattle.common.specs.declared.answer.Refusal.the-variants.{InvalidParameter}
 use Rattle.schedule.specs.Links.{same}
 use Rattle.interrupt.specs.Interrupts.{acknowledgeOf, acknowledgeWrites, acknowledgedState, countIf, countedOf, disableOf, drainIf, drainOf, enableOf, heardIf, noteIf, notedAfter, rearmIf, rearmOf, settledOr, takenOf}
-use Rattle.interrupt.specs.declared.calls.Acknowledgement.{Acknowledgement}
-use Rattle.interrupt.specs.declared.calls.Drainage.{Drainage}
+use Rattle.interrupt.specs.declared.answers.Acknowledgement.{Acknowledgement}
+use Rattle.interrupt.specs.declared.answers.Drainage.{Drainage}
 use Rattle.ehci.specs.declared.call.Call.the-variants.{Acknowledge, Disable, Drain, Enable, Rearm}
 use Rattle.ehci.specs.declared.call.InterruptReadings.{InterruptReadings}
 use Rattle.ehci.specs.Decides.{acknowledgeDecided, acknowledgeReply, came, drainDecided, drainReply}

@@ -10,16 +10,16 @@ use lib.Dec.{eqb, ltb}
 use Rattle.register.specs.Bits.{withBits, withoutBits}
 use Rattle.register.specs.Writes.{andThen, listOf, noWrites}
 use Rattle.state.specs.declared.state.Ehci.{Ehci}
-use Rattle.settings.proofs.Every.{false-true}
+use Rattle.common.proofs.TestLaws.{false-true}
 use Rattle.state.specs.Ranges.{inRanges}
 use Rattle.state.specs.Slots.{slotAt}
 use Rattle.state.specs.State.{withBringUp, withNextAddress}
 use Rattle.state.proofs.RangesLaws.{Ranges, ranges-make, ranges-tell}
-use Rattle.answer.specs.Answers.{Verdict, first, passed, refused}
-use Rattle.answer.proofs.CheckLaws.{let-pass, settled-by}
-use Rattle.answer.specs.declared.answer.Answer.the-variants as A
-use Rattle.answer.specs.declared.answer.Refusal.{Refusal}
-use Rattle.answer.specs.declared.answer.Refusal.the-variants.{InvalidParameter, QueueFull, SlotLimitReached}
+use Rattle.common.specs.Answers.{Verdict, first, passed, refused}
+use Rattle.common.proofs.CheckLaws.{let-pass, settled-by}
+use Rattle.common.specs.declared.answer.Answer.the-variants as A
+use Rattle.common.specs.declared.answer.Refusal.{Refusal}
+use Rattle.common.specs.declared.answer.Refusal.the-variants.{InvalidParameter, QueueFull, SlotLimitReached}
 use Rattle.pipe.specs.Endpoints.{endpointAt}
 use Rattle.pipe.proofs.EndpointCases.{at-none}
 use Rattle.controller.specs.Readers.{holdsRequest, isUncollected}
@@ -29,7 +29,7 @@ use Rattle.controller.proofs.AddressLaws.{allot-keeps}
 use Rattle.schedule.specs.Bell.{commandWord}
 use Rattle.schedule.proofs.BellLaws.{command-clear}
 use Rattle.bring_up.specs.BringUp.{againOf, anyUncollected, movedOn, onwardOf, ready, registerOf, stageOf, stageWrites, startOf, stepOf, setUp}
-use Rattle.bring_up.specs.declared.calls.BroughtUp.{BroughtUp}
+use Rattle.bring_up.specs.declared.answers.BroughtUp.{BroughtUp}
 use Rattle.bring_up.specs.declared.stage.Stage.{Stage}
 use Rattle.bring_up.specs.declared.stage.Stage.the-variants.{Stop, Halting, Reset, Resetting, Run, Starting}
 use Rattle.bring_up.proofs.RunLaws.{stays-in-ranges}

@@ -4,10 +4,9 @@ use mathlib.Core.Bool.{Bool, true, false, not, _&&_}
 use mathlib.Core.Path.{_≡_, refl, sym, _∙_}
 use native.Mathlib.Omega.{arith}
 use native.Mathlib.Nat.{zero-add, zero-div}
-use lib.Dec.{lit<}
+use lib.Dec.{lit<, eqb, leb}
 use borrow.Author.Tests.{eqb-true, eqb-false, leb-true, ne-eqb}
 use lib.Bits.{and-le-l, and-le-r, or-add-and}
-use lib.Dec.{eqb, leb}
 use Rattle.register.specs.Bits.{bit, onlyBits, withBits, withoutBits}
 use Rattle.register.proofs.BitLaws.{only-bit, same-word, with-bit, without-bit}
 use Rattle.slot.specs.Ranges.{slotGood}

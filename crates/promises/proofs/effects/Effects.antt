@@ -11,8 +11,8 @@ use Rattle.register.specs.declared.writes.Writes.{Writes}
 use Rattle.descriptor.specs.Heads.{endpointHead, wordsOf}
 use Rattle.descriptor.specs.declared.qtd.QueueTransferDescriptor.{QueueTransferDescriptor}
 use Rattle.pool.specs.Chains.{fillOf}
-use Rattle.token.specs.declared.kinds.EndpointType.{EndpointType}
-use Rattle.token.specs.declared.kinds.EndpointType.the-variants.{Isochronous}
+use Rattle.common.specs.declared.kinds.EndpointType.{EndpointType}
+use Rattle.common.specs.declared.kinds.EndpointType.the-variants.{Isochronous}
 use Rattle.state.specs.State.{withBell}
 use Rattle.state.specs.declared.state.Ehci.{Ehci}
 use Rattle.state.proofs.RangesLaws.{Ranges}
@@ -21,7 +21,7 @@ use Rattle.pipe.specs.declared.endpoints.Endpoint.the-variants.{Closed, Idle, L
 use Rattle.pipe.specs.declared.endpoints.Pipe.{Pipe}
 use Rattle.pipe.specs.declared.endpoints.Request.{Request}
 use Rattle.pipe.specs.declared.endpoints.UnlinkBoundary.{UnlinkBoundary}
-use Rattle.opening.specs.Rows.{withHeadWord}
+use Rattle.opening.specs.Heads.{withHeadWord}
 use Rattle.controller.specs.Readers.{isUncollected}
 use Rattle.controller.specs.declared.lent.Readings.{Readings}
 use Rattle.schedule.specs.Bell.{advancedOf, bellOf}

@@ -8,7 +8,7 @@ use borrow.Author.Tests.{eq-eqb}
 use lib.Dec.{eqb}
 use Rattle.settings.specs.declared.settings.Settings.{Settings}
 use Rattle.request.specs.declared.judge.TransferRequest.{TransferRequest}
-use Rattle.pipe.specs.Kinds.{isInterrupt}
+use Rattle.common.specs.Kinds.{isInterrupt}
 use Rattle.pipe.specs.declared.endpoints.Pipe.{Pipe}
 use Rattle.pipe.specs.declared.endpoints.Request.{Request}
 use Rattle.promises.specs.Runs.{History, Turn}

@@ -8,12 +8,11 @@ use borrow.Author.Tests.{eq-eqb, eqb-false, ne-eqb, not-true}
 use lib.Dec.{eqb}
 use lib.ListN.{getD, getD-replicate, length, replicate}
 use lib.Seq.{getD-set-other}
-use Rattle.settings.proofs.Every.{false-true}
-use Rattle.settings.proofs.SettingsCases.{both-first, both-second}
+use Rattle.common.proofs.TestLaws.{false-true, both-first, both-second}
 use Rattle.state.specs.declared.state.Ehci.{Ehci}
 use Rattle.state.proofs.RangesLaws.{Ranges}
 use Rattle.pipe.specs.Endpoints.{endpointAt}
-use Rattle.pipe.specs.Kinds.{isInterrupt}
+use Rattle.common.specs.Kinds.{isInterrupt}
 use Rattle.pipe.specs.declared.endpoints.Endpoint.{Endpoint}
 use Rattle.pipe.specs.declared.endpoints.Endpoint.the-variants.{Closed, Idle, Linked, Unlinking}
 use Rattle.pipe.proofs.EndpointLaws.{Wide}

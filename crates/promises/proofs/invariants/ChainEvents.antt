@@ -8,12 +8,12 @@ use borrow.Author.Tests.{eq-eqb, ne-eqb}
 use lib.Dec.{eqb}
 use lib.ListN.{getD, length}
 use Rattle.settings.specs.declared.settings.Settings.{Settings}
-use Rattle.settings.proofs.SettingsCases.{both-second}
+use Rattle.common.proofs.TestLaws.{both-second}
 use Rattle.settings.proofs.SettingsLaws.{Good}
 use Rattle.state.specs.declared.state.Ehci.{Ehci}
 use Rattle.state.proofs.RangesLaws.{Ranges}
 use Rattle.pipe.specs.Endpoints.{endpointAt}
-use Rattle.pipe.specs.Kinds.{isInterrupt}
+use Rattle.common.specs.Kinds.{isInterrupt}
 use Rattle.pipe.proofs.EndpointLaws.{Wide}
 use Rattle.schedule.specs.Links.{detachOf, ringLink}
 use Rattle.schedule.specs.Walks.{Chain, Distinct}

@@ -9,7 +9,7 @@ use native.Mathlib.Omega.{arith}
 use borrow.Author.Tests.{eq-eqb, ne-eqb}
 use lib.Dec.{eqb}
 use lib.ListN.{length}
-use Rattle.settings.proofs.Every.{false-true}
+use Rattle.common.proofs.TestLaws.{false-true}
 use Rattle.schedule.specs.Walks.{Avoids, Distinct, In}
 use Rattle.promises.specs.Walks.{isIn}
 use Rattle.promises.specs.Uses.{remove}

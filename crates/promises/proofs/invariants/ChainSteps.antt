@@ -12,7 +12,7 @@ use Rattle.descriptor.specs.Descriptors.{terminated}
 use Rattle.descriptor.specs.Heads.{endpointHead, wordsOf}
 use Rattle.pool.specs.Chains.{fillOf}
 use Rattle.settings.specs.declared.settings.Settings.{Settings}
-use Rattle.settings.proofs.Every.{false-true}
+use Rattle.common.proofs.TestLaws.{false-true}
 use Rattle.state.specs.State.{withBell, withBoundaries, withOwner}
 use Rattle.state.specs.Slots.{withSlot}
 use Rattle.state.specs.declared.state.Ehci.{Ehci}
@@ -20,8 +20,8 @@ use Rattle.pipe.specs.Endpoints.{endpointAt, withEndpoint}
 use Rattle.pipe.specs.declared.endpoints.Endpoint.{Endpoint}
 use Rattle.pipe.specs.declared.endpoints.Endpoint.the-variants.{Closed, Idle, Unlinking}
 use Rattle.pipe.proofs.EndpointLaws.{Wide, owner-wide}
-use Rattle.opening.specs.Rows.{withHeadWord}
-use Rattle.opening.proofs.RowLaws.{put-before, put-behind}
+use Rattle.opening.specs.Heads.{withHeadWord}
+use Rattle.common.proofs.RowLaws.{put-before, put-behind}
 use Rattle.schedule.specs.Links.{endedOverlay, linkWord, ringLink}
 use Rattle.endpoint.specs.Calls.{newEndpoint, withHead}
 use Rattle.request.specs.Writeback.{tokenChain}

@@ -8,7 +8,7 @@ use native.Mathlib.Omega.{arith}
 use borrow.Author.Tests.{eq-eqb, ne-eqb}
 use lib.Dec.{eqb, ltb}
 use Rattle.settings.specs.declared.settings.Settings.{Settings}
-use Rattle.settings.proofs.Every.{false-true}
+use Rattle.common.proofs.TestLaws.{false-true}
 use Rattle.state.specs.Slots.{slotAt, withSlot}
 use Rattle.state.specs.State.{withBell, withBoundaries, withOwner}
 use Rattle.state.specs.declared.state.Ehci.{Ehci}

@@ -10,8 +10,8 @@ use Rattle.settings.specs.Settings.{framesLength, headsLength, poolLength, sett
 use Rattle.settings.specs.declared.settings.Settings.{Settings}
 use Rattle.settings.proofs.SettingsLaws.{good-tells}
 use Rattle.state.proofs.RangesLaws.{ranges-tell}
-use Rattle.answer.specs.declared.answer.Refusal.the-variants.{InvalidParameter}
-use Rattle.answer.proofs.CheckLaws.{answers-apart}
+use Rattle.common.specs.declared.answer.Refusal.the-variants.{InvalidParameter}
+use Rattle.common.proofs.CheckLaws.{answers-apart}
 use Rattle.opening.specs.Opening.{Opened, acceptedOpening, freshState, openedHeads, refusedOpening, rowsFit}
 use Rattle.opening.proofs.OpenLaws.{fresh-in-ranges, heads-words, rows-make}
 use Rattle.opening.proofs.OpenPool.{accepts, refuses-rows, refuses-settings}

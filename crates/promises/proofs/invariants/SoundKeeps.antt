@@ -21,12 +21,12 @@ use Rattle.state.specs.State.{withBell, withBoundaries, withOwner}
 use Rattle.state.specs.declared.state.Ehci.{Ehci}
 use Rattle.state.proofs.RangesLaws.{Ranges}
 use Rattle.pipe.specs.Endpoints.{withEndpoint}
-use Rattle.pipe.specs.Kinds.{isControl, isInterrupt}
+use Rattle.common.specs.Kinds.{isControl, isInterrupt}
 use Rattle.pipe.specs.declared.endpoints.Endpoint.{Endpoint}
 use Rattle.pipe.specs.declared.endpoints.Request.{Request}
 use Rattle.pipe.specs.declared.endpoints.Endpoint.the-variants.{Closed, Idle, Linked, Unlinking}
 use Rattle.pipe.proofs.EndpointLaws.{LinkedGood, UnlinkingGood, bell-wide, endpoint-keeps, owner-wide, slot-wide}
-use Rattle.opening.proofs.RowLaws.{put-length}
+use Rattle.common.proofs.RowLaws.{put-length}
 use Rattle.controller.proofs.ReaderLaws.{open-within}
 use Rattle.schedule.specs.Bell.{fallenFrom}
 use Rattle.schedule.proofs.OverlayLaws.{started-length}

@@ -9,8 +9,8 @@ use lib.Dec.{eqb}
 use lib.ListN.{drop, getD, length, set, take}
 use lib.Seq.{getD-set-other, getD-set-same, length-take-le, take-at}
 use Rattle.token.specs.Chunks.{ifEmpty, needOf}
-use Rattle.token.specs.declared.kinds.EndpointType.{EndpointType}
-use Rattle.token.specs.declared.kinds.EndpointType.the-variants.{Control, Isochronous, Bulk, Interrupt}
+use Rattle.common.specs.declared.kinds.EndpointType.{EndpointType}
+use Rattle.common.specs.declared.kinds.EndpointType.the-variants.{Control, Isochronous, Bulk, Interrupt}
 use Rattle.token.proofs.ChunkLaws.{count-pos}
 use Rattle.descriptor.specs.declared.qtd.QueueTransferDescriptor.{QueueTransferDescriptor}
 use Rattle.pool.specs.Chains.{blank, fillOf, filledFrom, metFrom, placeOf}
@@ -25,7 +25,7 @@ use Rattle.state.specs.Slots.{withSlot}
 use Rattle.state.specs.State.{withOwner}
 use Rattle.state.specs.declared.state.Ehci.{Ehci}
 use Rattle.pipe.specs.Endpoints.{endpointAt, withEndpoint}
-use Rattle.pipe.specs.Kinds.{isInterrupt}
+use Rattle.common.specs.Kinds.{isInterrupt}
 use Rattle.pipe.specs.declared.endpoints.Endpoint.{Endpoint}
 use Rattle.pipe.specs.declared.endpoints.Endpoint.the-variants.{Closed, Idle, Linked, Unlinking}
 use Rattle.pipe.proofs.EndpointLaws.{owner-wide}

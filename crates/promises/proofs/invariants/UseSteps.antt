@@ -10,14 +10,14 @@ use borrow.Author.Tests.{ltb-true}
 use lib.Dec.{ltb}
 use lib.ListN.{getD, length, replicate, set, take}
 use lib.Seq.{getD-set-other, getD-set-same}
-use Rattle.token.specs.declared.kinds.EndpointType.{EndpointType}
+use Rattle.common.specs.declared.kinds.EndpointType.{EndpointType}
 use Rattle.descriptor.specs.Descriptors.{terminated}
 use Rattle.descriptor.specs.Heads.{endpointHead, wordsOf}
 use Rattle.descriptor.specs.declared.qtd.QueueTransferDescriptor.{QueueTransferDescriptor}
 use Rattle.pool.specs.Chains.{blank, withToken}
 use Rattle.pool.proofs.ChainLaws.{fill-token}
 use Rattle.settings.specs.declared.settings.Settings.{Settings}
-use Rattle.settings.proofs.SettingsLaws.{both-tells}
+use Rattle.common.proofs.TestLaws.{both-tells}
 use Rattle.state.specs.Slots.{withSlot}
 use Rattle.state.specs.State.{withBell, withBoundaries}
 use Rattle.state.specs.declared.state.Ehci.{Ehci}
@@ -28,7 +28,8 @@ use Rattle.pipe.specs.declared.endpoints.Request.{Request}
 use Rattle.pipe.proofs.EndpointLaws.{bell-wide}
 use Rattle.controller.specs.Readers.{hasEndpoint}
 use Rattle.controller.proofs.ReaderLaws.{open-below, open-within}
-use Rattle.opening.proofs.RowLaws.{Only, other-head, put-only}
+use Rattle.opening.proofs.HeadLaws.{other-head}
+use Rattle.common.proofs.RowLaws.{Only, put-only}
 use Rattle.endpoint.specs.Calls.{newEndpoint, withHead}
 use Rattle.schedule.specs.Bell.{bellOf}
 use Rattle.schedule.specs.Links.{detachOf, givenLink, linkWord, periodic, predecessorOf}

@@ -7,11 +7,11 @@ use mathlib.Core.Logic.{inr}
 use borrow.Author.Tests.{eq-eqb, lt-leb}
 use lib.ListN.{length}
 use Rattle.settings.specs.declared.settings.Settings.{Settings}
-use Rattle.settings.proofs.SettingsCases.{both-first}
+use Rattle.common.proofs.TestLaws.{both-first}
 use Rattle.state.specs.declared.state.Ehci.{Ehci}
 use Rattle.state.specs.Ranges.{inRanges}
 use Rattle.pipe.specs.Endpoints.{endpointAt}
-use Rattle.pipe.specs.Kinds.{isInterrupt}
+use Rattle.common.specs.Kinds.{isInterrupt}
 use Rattle.pipe.specs.declared.endpoints.Endpoint.the-variants.{Linked, Unlinking}
 use Rattle.pipe.specs.declared.endpoints.Pipe.{Pipe}
 use Rattle.pipe.specs.declared.endpoints.Request.{Request}

@@ -10,7 +10,7 @@ use lib.ListN.{getD, length, take}
 use Rattle.pool.specs.declared.chain.View.{View}
 use Rattle.settings.specs.declared.settings.Settings.{Settings}
 use Rattle.pipe.specs.Endpoints.{endpointAt}
-use Rattle.pipe.specs.Kinds.{isInterrupt}
+use Rattle.common.specs.Kinds.{isInterrupt}
 use Rattle.pipe.specs.declared.endpoints.Endpoint.the-variants.{Linked}
 use Rattle.pipe.specs.declared.endpoints.Pipe.{Pipe}
 use Rattle.pipe.specs.declared.endpoints.Request.{Request}
@@ -34,7 +34,7 @@ use Rattle.promises.proofs.invariants.Sound.{Sound, slot-low}
 use Rattle.promises.proofs.invariants.ChainInv.{Chained}
 use Rattle.promises.proofs.invariants.ChainEvents.{unlink-event}
 use lib.Dec.{eqb}
-use Rattle.token.specs.declared.kinds.EndpointType.{EndpointType}
+use Rattle.common.specs.declared.kinds.EndpointType.{EndpointType}
 use Rattle.descriptor.specs.declared.qtd.QueueTransferDescriptor.{QueueTransferDescriptor}
 use Rattle.pool.specs.Chains.{blank, isActive, isErring, numberIf, seenFrom, stageOf, viewOf}
 use Rattle.ehci.specs.declared.call.Call.{Call}

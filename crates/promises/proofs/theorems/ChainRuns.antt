@@ -7,7 +7,7 @@ use native.Mathlib.Omega.{arith}
 use lib.ListN.{getD, getD-replicate, replicate}
 use Rattle.settings.specs.Settings.{settingsGood}
 use Rattle.settings.specs.declared.settings.Settings.{Settings}
-use Rattle.settings.proofs.Every.{false-true}
+use Rattle.common.proofs.TestLaws.{false-true}
 use Rattle.settings.proofs.SettingsLaws.{good-tells}
 use Rattle.state.proofs.Arrays.{zeros-at}
 use Rattle.pipe.specs.Endpoints.{endpointAt}

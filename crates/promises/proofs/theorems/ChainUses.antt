@@ -5,9 +5,9 @@ use mathlib.Core.Bool.{Bool, true, false, _||_}
 use mathlib.Core.List.{List}
 use lib.ListN.{length, take}
 use Rattle.settings.specs.declared.settings.Settings.{Settings}
-use Rattle.settings.proofs.Every.{false-true}
+use Rattle.common.proofs.TestLaws.{false-true}
 use Rattle.pipe.specs.Endpoints.{endpointAt}
-use Rattle.pipe.specs.Kinds.{isInterrupt}
+use Rattle.common.specs.Kinds.{isInterrupt}
 use Rattle.pipe.specs.declared.endpoints.Endpoint.{Endpoint}
 use Rattle.pipe.specs.declared.endpoints.Endpoint.the-variants.{Closed, Idle, Linked, Unlinking}
 use Rattle.pipe.specs.declared.endpoints.Pipe.{Pipe}

@@ -12,8 +12,8 @@ use lib.ListN.{length}
 use Rattle.token.specs.Chunks.{chunkAt, chunkCount, ifEmpty, needOf}
 use Rattle.token.specs.EhciQtd.{currentPage, totalBytes}
 use Rattle.token.specs.Plans.{controlPlan, pidFor}
-use Rattle.token.specs.declared.kinds.EndpointType.{EndpointType}
-use Rattle.token.specs.declared.kinds.EndpointType.the-variants.{Control, Isochronous, Bulk, Interrupt}
+use Rattle.common.specs.declared.kinds.EndpointType.{EndpointType}
+use Rattle.common.specs.declared.kinds.EndpointType.the-variants.{Control, Isochronous, Bulk, Interrupt}
 use Rattle.token.proofs.ChunkLaws.{covers}
 use Rattle.token.proofs.TokenFields.{token-reads}
 use Rattle.descriptor.specs.Descriptors.{newQtd, withNext}

@@ -7,14 +7,14 @@ use native.Mathlib.Omega.{arith}
 use borrow.Author.Tests.{leb-true}
 use lib.Dec.{leb}
 use lib.ListN.{drop, getD, length}
-use Rattle.token.specs.declared.kinds.EndpointType.the-variants.{Control}
+use Rattle.common.specs.declared.kinds.EndpointType.the-variants.{Control}
 use Rattle.descriptor.specs.declared.qtd.QueueTransferDescriptor.{QueueTransferDescriptor}
 use Rattle.pool.specs.Chains.{blank}
 use Rattle.pool.specs.Places.{upFrom}
 use Rattle.pool.specs.Transfers.{recordAt}
 use Rattle.pool.specs.declared.transfer.Transfer.{Transfer}
 use Rattle.settings.specs.declared.settings.Settings.{Settings}
-use Rattle.settings.proofs.SettingsLaws.{both-tells}
+use Rattle.common.proofs.TestLaws.{both-tells}
 use Rattle.request.specs.Submit.{bufferGood, controlGood, placesFor, rangesGood, transferOf}
 use Rattle.request.specs.declared.judge.TransferRequest.{TransferRequest}
 use Rattle.request.proofs.JudgeLaws.{Judged}
@@ -24,7 +24,7 @@ use Rattle.ehci.specs.declared.call.Call.the-variants.{Submit}
 use Rattle.ehci.specs.Door.{Applied}
 use Rattle.promises.specs.Runs.{History, Machine, Rows, Turn, World, rowsOf, turnOf}
 use Rattle.promises.specs.Coverage.{Covered, addressed, dataOf, recordsMet}
-use Rattle.answer.specs.declared.answer.Refusal.the-variants.{InvalidParameter, SlotLimitReached, InvalidEndpoint, QueueFull, NotSupported, NoMemory, Timeout, NotReady}
+use Rattle.common.specs.declared.answer.Refusal.the-variants.{InvalidParameter, SlotLimitReached, InvalidEndpoint, QueueFull, NotSupported, NoMemory, Timeout, NotReady}
 use Rattle.ehci.specs.declared.reply.Answered.{Answered}
 use Rattle.ehci.specs.declared.reply.Answered.the-variants.{Done, Pending, Cancelled, Failed, Refused}
 use Rattle.ehci.specs.Replies.{answeredNumber}

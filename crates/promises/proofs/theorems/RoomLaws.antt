@@ -8,13 +8,13 @@ use borrow.Author.Tests.{le-ltb, lt-ltb, ltb-false, ltb-true}
 use lib.Dec.{ltb}
 use lib.ListN.{length}
 use Rattle.settings.specs.declared.settings.Settings.{Settings}
-use Rattle.settings.proofs.SettingsLaws.{both-makes}
+use Rattle.common.proofs.TestLaws.{both-makes}
 use Rattle.state.specs.Ranges.{inRanges}
 use Rattle.state.proofs.RangesLaws.{ranges-make}
-use Rattle.answer.specs.Answers.{Check, Verdict, first, orElse, passed, refused, refusalNumber, settle}
-use Rattle.answer.specs.declared.answer.Refusal.{Refusal}
-use Rattle.answer.specs.declared.answer.Refusal.the-variants.{InvalidParameter, SlotLimitReached, InvalidEndpoint, QueueFull, NotSupported, NoMemory, Timeout, NotReady}
-use Rattle.answer.proofs.CheckLaws.{let-pass}
+use Rattle.common.specs.Answers.{Check, Verdict, first, orElse, passed, refused, refusalNumber, settle}
+use Rattle.common.specs.declared.answer.Refusal.{Refusal}
+use Rattle.common.specs.declared.answer.Refusal.the-variants.{InvalidParameter, SlotLimitReached, InvalidEndpoint, QueueFull, NotSupported, NoMemory, Timeout, NotReady}
+use Rattle.common.proofs.CheckLaws.{let-pass}
 use Rattle.opening.specs.Opening.{rowsFit}
 use Rattle.opening.proofs.OpenLaws.{rows-make}
 use Rattle.controller.specs.Lent.{acceptsOf, lengths}

@@ -1,13 +1,13 @@
 -- What the history says to a submit of one bulk byte to slot 0, after a few calls. Newest first.
 use mathlib.Core.List.{[], _∷_}
 use mathlib.Core.Path.{_≡_, refl}
-use Rattle.token.specs.declared.kinds.Direction.the-variants.{Out}
-use Rattle.token.specs.declared.kinds.EndpointType.the-variants.{Bulk, Interrupt, Isochronous}
-use Rattle.token.specs.declared.kinds.EndpointType.{EndpointType}
+use Rattle.common.specs.declared.kinds.Direction.the-variants.{Out}
+use Rattle.common.specs.declared.kinds.EndpointType.the-variants.{Bulk, Interrupt, Isochronous}
+use Rattle.common.specs.declared.kinds.EndpointType.{EndpointType}
 use Rattle.settings.specs.declared.settings.Settings.{Settings}
-use Rattle.answer.specs.Answers.{passed, refused}
-use Rattle.answer.specs.declared.answer.Refusal.the-variants.{InvalidEndpoint, NotReady, NotSupported, QueueFull, Timeout}
-use Rattle.bring_up.specs.declared.reads.NextRead.the-variants as N
+use Rattle.common.specs.Answers.{passed, refused}
+use Rattle.common.specs.declared.answer.Refusal.the-variants.{InvalidEndpoint, NotReady, NotSupported, QueueFull, Timeout}
+use Rattle.common.specs.declared.reads.NextRead.the-variants as N
 use Rattle.request.specs.Submit.{bufferGood, rangesGood}
 use Rattle.request.specs.declared.judge.TransferRequest.{TransferRequest}
 use Rattle.ehci.specs.declared.call.Call.{Call}

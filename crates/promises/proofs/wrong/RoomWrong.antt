@@ -9,8 +9,8 @@ use lib.ListN.{length, replicate, set}
 use Rattle.register.specs.Writes.{noWrites}
 use Rattle.token.specs.Chunks.{chunkCount, needOf}
 use Rattle.token.specs.Tokens.{tokenOf}
-use Rattle.token.specs.declared.kinds.Direction.the-variants.{Out}
-use Rattle.token.specs.declared.kinds.EndpointType.the-variants.{Bulk}
+use Rattle.common.specs.declared.kinds.Direction.the-variants.{Out}
+use Rattle.common.specs.declared.kinds.EndpointType.the-variants.{Bulk}
 use Rattle.descriptor.specs.Descriptors.{newQtd, terminated, withNext}
 use Rattle.descriptor.specs.Heads.{ringHead}
 use Rattle.descriptor.specs.Slots.{pageSlots}

@@ -19,13 +19,12 @@ use Rattle.state.specs.Slots.{slotAt, withSlot}
 use Rattle.state.specs.State.{withBell, withBoundaries, withInterrupt, withOwner}
 use Rattle.pipe.specs.Endpoints.{decoded, endpointAt, withEndpoint}
 use Rattle.opening.specs.Opening.{rowsFit}
-use Rattle.opening.specs.Rows.{putAt}
+use Rattle.common.specs.Rows.{putAt}
 use Rattle.controller.specs.Lent.{acceptsOf}
 use Rattle.controller.specs.Readers.{countZero, freeCount}
 use Rattle.schedule.specs.Bell.{advancedOf, fallenFrom, fallenOne, ringOf, ringWord, unlinkedOf}
 use Rattle.schedule.specs.Links.{attachedRing, detachOf, endedOverlay, precedesOne, predecessorOf, searchFrom, startedOverlay}
-use Rattle.request.specs.Submit.{acceptedWith, afterId, bufferGood, linkedRows, rangesGood, settledSubmit, setupsWith, stateWith, submitOf, takenFor, writesWith}
-use Rattle.request.specs.Submit.{takenOf as takenPlaces}
+use Rattle.request.specs.Submit.{acceptedWith, afterId, bufferGood, linkedRows, rangesGood, settledSubmit, setupsWith, stateWith, submitOf, takenFor, writesWith, takenOf as takenPlaces}
 use Rattle.collection.specs.Unlinks.{boundedOf, unlinkOf, waitingOf}
 use Rattle.collection.specs.Calls.{cancelOf, collectOf, finishOf, freed, unlinkingOf}
 use Rattle.collection.specs.Answers.{outcomeOf}

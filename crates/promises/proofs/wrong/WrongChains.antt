@@ -8,15 +8,15 @@ use native.Mathlib.Omega.{arith}
 use lib.Dec.{eqb}
 use lib.ListN.{getD, length, replicate, set}
 use Rattle.register.specs.Writes.{noWrites}
-use Rattle.token.specs.declared.kinds.Direction.the-variants.{Out}
-use Rattle.token.specs.declared.kinds.EndpointType.{EndpointType}
-use Rattle.token.specs.declared.kinds.EndpointType.the-variants.{Bulk, Interrupt}
+use Rattle.common.specs.declared.kinds.Direction.the-variants.{Out}
+use Rattle.common.specs.declared.kinds.EndpointType.{EndpointType}
+use Rattle.common.specs.declared.kinds.EndpointType.the-variants.{Bulk, Interrupt}
 use Rattle.descriptor.specs.Heads.{qhLink, ringHead}
 use Rattle.descriptor.specs.Descriptors.{terminated}
 use Rattle.settings.specs.Settings.{apartAreas, areaGood, eachGood, noOverlap, numbersGood, settingsGood}
-use Rattle.settings.proofs.Every.{false-true}
+use Rattle.common.proofs.TestLaws.{false-true}
 use Rattle.settings.specs.declared.settings.Settings.{Settings}
-use Rattle.pipe.specs.Kinds.{isInterrupt}
+use Rattle.common.specs.Kinds.{isInterrupt}
 use Rattle.opening.specs.Opening.{openedHeads}
 use Rattle.controller.specs.declared.lent.Readings.{Readings}
 use Rattle.schedule.specs.Links.{attachedRing, linkWord, ringLink, withLinkWord, withRingLink}

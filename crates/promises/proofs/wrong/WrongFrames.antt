@@ -9,8 +9,8 @@ use Rattle.register.specs.Bits.{withoutBits}
 use Rattle.register.specs.Writes.{noWrites}
 use Rattle.token.specs.Chunks.{chunkCount, needOf}
 use Rattle.token.specs.Tokens.{tokenOf}
-use Rattle.token.specs.declared.kinds.Direction.the-variants.{Out}
-use Rattle.token.specs.declared.kinds.EndpointType.the-variants.{Interrupt}
+use Rattle.common.specs.declared.kinds.Direction.the-variants.{Out}
+use Rattle.common.specs.declared.kinds.EndpointType.the-variants.{Interrupt}
 use Rattle.descriptor.specs.declared.qtd.QueueTransferDescriptor.{QueueTransferDescriptor}
 use Rattle.descriptor.specs.Descriptors.{newQtd, terminated, withNext}
 use Rattle.descriptor.specs.Heads.{endpointHead}
@@ -27,17 +27,16 @@ use Rattle.state.specs.Ranges.{doorbellGood, inRanges, interruptGood, largest, 
 use Rattle.state.specs.Slots.{slotAt, withSlot}
 use Rattle.state.specs.State.{withBell, withOwner}
 use Rattle.pipe.specs.Endpoints.{bareSlot, decoded, endpointAt, withEndpoint}
-use Rattle.pipe.specs.Kinds.{isInterrupt}
+use Rattle.common.specs.Kinds.{isInterrupt}
 use Rattle.opening.specs.Opening.{rowsFit}
-use Rattle.opening.specs.Rows.{putAt}
+use Rattle.common.specs.Rows.{putAt}
 use Rattle.controller.specs.Lent.{acceptsOf}
 use Rattle.controller.specs.Readers.{countZero, freeCount}
 use Rattle.controller.specs.declared.lent.Readings.{Readings}
 use Rattle.schedule.specs.Links.{attachedFrames, detachOf, endedOverlay, precedesOne, predecessorOf, searchFrom, startedOverlay}
 use Rattle.endpoint.specs.Lowest.{closedFrom}
 use Rattle.endpoint.specs.Calls.{fieldsGood, openChecks, openEndpointOf}
-use Rattle.request.specs.Submit.{acceptedWith, afterId, bufferGood, linkedRows, rangesGood, settledSubmit, setupsWith, stateWith, submitOf, takenFor, writesWith}
-use Rattle.request.specs.Submit.{takenOf as takenPlaces}
+use Rattle.request.specs.Submit.{acceptedWith, afterId, bufferGood, linkedRows, rangesGood, settledSubmit, setupsWith, stateWith, submitOf, takenFor, writesWith, takenOf as takenPlaces}
 use Rattle.request.specs.declared.judge.TransferRequest.{TransferRequest}
 use Rattle.collection.specs.Unlinks.{boundedOf, unlinkOf, waitingOf}
 use Rattle.collection.specs.Calls.{cancelOf, collectOf, finishOf, freed, unlinkingOf}

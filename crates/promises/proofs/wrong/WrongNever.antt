@@ -13,7 +13,7 @@ use Rattle.state.specs.Slots.{slotAt, withSlot}
 use Rattle.state.specs.State.{withBell, withBoundaries, withInterrupt, withOwner}
 use Rattle.pipe.specs.Endpoints.{decoded, endpointAt, withEndpoint}
 use Rattle.opening.specs.Opening.{rowsFit}
-use Rattle.opening.specs.Rows.{putAt}
+use Rattle.common.specs.Rows.{putAt}
 use Rattle.controller.specs.Lent.{acceptsOf}
 use Rattle.schedule.specs.Bell.{advancedOf, fallenFrom, fallenOne, ringOf, ringWord, unlinkedOf}
 use Rattle.schedule.specs.Links.{detachOf, endedOverlay, precedesOne, predecessorOf, searchFrom}
@@ -34,7 +34,7 @@ use Rattle.promises.specs.Runs.{World, core, History, Machine, Turn, his
 use native.Mathlib.Omega.{arith}
 use Rattle.settings.specs.Settings.{apartAreas, areaGood, eachGood, noOverlap, numbersGood, settingsGood}
 use Rattle.slot.specs.Ranges.{boundaryGood, closedGood, idleGood, linkedGood, noRequest, openKind, phaseGood, slotGood, unlinkingGood}
-use Rattle.pipe.specs.Kinds.{isInterrupt}
+use Rattle.common.specs.Kinds.{isInterrupt}
 use Rattle.promises.specs.Walks.{ringWalk, walkFrom}
 use Rattle.promises.specs.Events.{isCollected}
 use Rattle.promises.specs.Bells.{asked, bell, counted, kindAt, newestId, number, unlinking}

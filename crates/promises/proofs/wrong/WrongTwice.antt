@@ -7,7 +7,7 @@ use Rattle.register.specs.Writes.{andThen, noWrites}
 use Rattle.pool.specs.Chains.{metFrom}
 use Rattle.pool.specs.EhciChain.{follow}
 use Rattle.state.specs.State.{withBell}
-use Rattle.pipe.specs.Kinds.{isInterrupt}
+use Rattle.common.specs.Kinds.{isInterrupt}
 use Rattle.schedule.specs.Bell.{ringWord}
 use Rattle.request.specs.Submit.{writesWith}
 use Rattle.interrupt.specs.Interrupts.{acknowledgeWrites}
