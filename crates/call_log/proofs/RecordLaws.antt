@@ -18,7 +18,7 @@ use Rattle.common.specs.declared.kinds.Direction.the-variants as D
 use Rattle.pipe.proofs.EndpointLaws.{direction-back, direction-there, flag-back, flag-there, kind-back, kind-there}
 use Rattle.common.proofs.TestLaws.{both-first, both-second}
 use Rattle.call_log.specs.Fields.{bytesOf, bytesSpare, fieldsOf, numbersSpare, usedOr0}
-use Rattle.call_log.specs.Records.{row, callFields, fieldsFor, recordOf, guarded, spare, isWord, plain, settingsOf, openEntry, bringUpStep, openEndpoint, close, setAddress, setPacketSize, submit, writeback, readingsOf, slotTest, cancel, collect, acknowledge, drain, scanStep, portPower, judgedAs, judged, entryOf, OwnCall, Own, NumbersFit, Representable}
+use Rattle.call_log.specs.Records.{row, callFields, fieldsFor, recordOf, guarded, spare, isWord, plain, settingsOf, openEntry, bringUpStep, openEndpoint, close, setAddress, setPacketSize, submit, writeback, readingsOf, slotTest, cancel, collect, acknowledge, drain, scanStep, portPower, judgedAs, entryFrom, entryOf, OwnCall, Own, NumbersFit, Representable}
 use Rattle.call_log.specs.declared.fields.Fields.{Fields}
 use Rattle.call_log.specs.declared.record.Entry.{Entry}
 use Rattle.call_log.specs.declared.record.Entry.the-variants.{Open, Call as ACall, StartScan, ScanStep, PortPower, Bad}
@@ -226,7 +226,7 @@ module _ (f : Fields) (e : Entry) (ne : e ≡ Bad → ⊥) where
   or-else true x y h a b = a refl h
   or-else false x y h a b = b h
 
-  judged-only : judged f ≡ e → fieldsFor e ≡ f
+  judged-only : entryFrom f ≡ e → fieldsFor e ≡ f
   unfolding judgedAs plain openEntry bringUpStep openEndpoint close setAddress setPacketSize submit writeback cancel collect acknowledge drain scanStep portPower fieldsFor callFields
   judged-only h =
       or-else (eqb (f .number) 1) _ _ h (λ q g. only _ _ g (open-back f (eqb-true (f .number) 1 q))) (λ h.
@@ -256,7 +256,7 @@ pub entry-only : (bs : List ℕ) (e : Entry) → entryOf bs ≡ e → (e ≡ Bad
 unfolding entryOf recordOf
 entry-only bs e h ne all = go (eqb (length bs) 64) refl h
   where
-    go : (b : Bool) → eqb (length bs) 64 ≡ b → cond b (judged (fieldsOf bs)) Bad ≡ e → bs ≡ bytesOf (fieldsFor e)
+    go : (b : Bool) → eqb (length bs) 64 ≡ b → cond b (entryFrom (fieldsOf bs)) Bad ≡ e → bs ≡ bytesOf (fieldsFor e)
     go true q g = sym (fields-back bs (eqb-true (length bs) 64 q) all) ∙ ap bytesOf (sym (judged-only (fieldsOf bs) e ne g))
     go false q g = absurd (ne (sym g))
 
@@ -279,7 +279,7 @@ flag-low : (b : Bool) → leb (flagNumber b) 1 ≡ true
 flag-low true = refl
 flag-low false = refl
 
-call-back : (c : Call) → OwnCall c → judged (callFields c) ≡ ACall c
+call-back : (c : Call) → OwnCall c → entryFrom (callFields c) ≡ ACall c
 unfolding judgedAs plain bringUpStep openEndpoint close setAddress setPacketSize submit writeback cancel collect acknowledge drain callFields bytesSpare numbersSpare
 call-back C.StartBringUp h = refl
 call-back (C.BringUpStep v) h = rw (word-in v h, mod-eq-of-lt h)
@@ -318,7 +318,7 @@ call-back C.Rearm h = refl
 call-back C.Enable h = refl
 call-back C.Disable h = refl
 
-judged-back : (e : Entry) → Own e → judged (fieldsFor e) ≡ e
+judged-back : (e : Entry) → Own e → entryFrom (fieldsFor e) ≡ e
 unfolding judgedAs plain openEntry scanStep portPower fieldsFor bytesSpare numbersSpare
 judged-back (Open s) h = refl
 judged-back (ACall c) h = call-back c h

@@ -195,11 +195,11 @@ judgedAs n f =
     (cond (eqb n 20) (portPower f)
     Bad)))))))))))))))))))
 
-abbrev pub judged : Fields → Entry
-judged f = judgedAs (f .number) f
+abbrev pub entryFrom : Fields → Entry
+entryFrom f = judgedAs (f .number) f
 
 unfoldable pub entryOf : List ℕ → Entry
-entryOf bs = cond (eqb (length bs) 64) (judged (fieldsOf bs)) Bad
+entryOf bs = cond (eqb (length bs) 64) (entryFrom (fieldsOf bs)) Bad
 
 -- ---- entries that have a record
 

@@ -37,7 +37,7 @@ use Rattle.collection.specs.Answers.{outcomeOf, pendingCollect}
 use Rattle.collection.specs.declared.collected.Collected.the-variants.{Complete, Failed as FailedCollect}
 use Rattle.collection.specs.Calls.{Gathered, cancelAt, cancelChecks, cancelOf, collectAt, collectChecks, collectOf, endIf, ended, finishOf, gathered, linkedOf, marked, pendingLeft, unlinkingOf, withFrames as gatheredFrames}
 use Rattle.collection.specs.Unlinks.{Left, isMissing, passedBoundary, unlinkOf, waitingOf}
-use Rattle.interrupt.specs.Interrupts.{acknowledgeOf, disableOf, drainIf, drainOf, enableOf, heardIf, rearmIf, rearmOf, settledOr, takenOf, countedOf}
+use Rattle.interrupt.specs.Interrupts.{acknowledgeOf, disableOf, drainIf, drainOf, enableOf, heardIf, rearmIf, rearmOf, settledOr, clearedOf, countedOf}
 use Rattle.interrupt.specs.declared.answers.Acknowledgement.{Acknowledgement}
 use Rattle.interrupt.specs.declared.answers.Drainage.{Drainage}
 use Rattle.interrupt.specs.declared.answers.Drained.the-variants.{PortChange, TransferActivity, Stopped}
@@ -286,8 +286,8 @@ module _ (s : Ehci) (hs fs us : List ℕ) where
       by true = result-fair _ refl none-few
       by false = result-fair _ refl (acknowledged-few (onlyBits (x .status) 0x37) (x .interrupts) (x .flag) (x .again))
 
-  event-given : (pending : ℕ) → isRefused (drainedAnswer (takenOf pending .event)) ≡ false
-  unfolding takenOf
+  event-given : (pending : ℕ) → isRefused (drainedAnswer (clearedOf pending .event)) ≡ false
+  unfolding clearedOf
   event-given pending = by (anyOf pending 4) (anyOf pending 0x23)
     where
       by : (a b : Bool)
@@ -303,7 +303,7 @@ module _ (s : Ehci) (hs fs us : List ℕ) where
       settle-fair (λ (d : Drainage). came (drainReply d) hs fs us) ((not (inRanges s), InvalidParameter) ∷ []) _ _ refl
       (λ r. refl) (by (eqb (s .pending) 0))
     where
-      by : (b : Bool) → Fair (came (drainReply (drainIf b s (countedOf s command) (takenOf (s .pending)))) hs fs us)
+      by : (b : Bool) → Fair (came (drainReply (drainIf b s (countedOf s command) (clearedOf (s .pending)))) hs fs us)
       by true = result-fair _ refl none-few
       by false = result-fair _ (event-given (s .pending)) (counted-few s command)
 

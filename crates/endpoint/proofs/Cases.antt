@@ -28,7 +28,7 @@ use Rattle.controller.proofs.LentLaws.{accepts-tells}
 use Rattle.endpoint.specs.declared.calls.Opened.{Opened}
 use Rattle.endpoint.specs.declared.calls.Opened.the-variants.{Slot, Refused}
 use Rattle.endpoint.specs.Lowest.{lowestClosed}
-use Rattle.endpoint.specs.Calls.{changeLeft, changeOf, chosenOf, closeOf, fieldsGood, judgedOf, lowestSlot, newEndpoint, openChecks, openEndpointOf, openLeft, setAddressOf, setPacketSizeOf, slotChecks, withHead}
+use Rattle.endpoint.specs.Calls.{changeLeft, changeOf, chosenOf, closeOf, fieldsGood, slotVerdict, lowestSlot, newEndpoint, openChecks, openEndpointOf, openLeft, setAddressOf, setPacketSizeOf, slotChecks, withHead}
 use Rattle.endpoint.proofs.SlotLaws.{below-room, open-room}
 
 -- ---- verdicts
@@ -144,35 +144,35 @@ module _ (s : Ehci) (pool : ℕ) (h : List ℕ) (f u : ℕ) (kind : EndpointType
 -- ---- close, set address, set packet size: what is asked
 
 module _ (s : Ehci) (lent : Lengths) (k : ℕ) (good : Bool) (g : Bool) (eg : g ≡ acceptsOf s lent) where
-  pub judge-lent : not g ≡ true → RefusedCall InvalidParameter ≡ judgedOf s lent k good
-  unfolding judgedOf slotChecks
+  pub judge-lent : not g ≡ true → RefusedCall InvalidParameter ≡ slotVerdict s lent k good
+  unfolding slotVerdict slotChecks
   judge-lent t = rw (sym eg ∙ not-true g t)
 
   module _ (o : Bool) (eo : o ≡ isOpen s k) where
-    pub judge-shut : not g ≡ false → not o ≡ true → RefusedCall InvalidEndpoint ≡ judgedOf s lent k good
-    unfolding judgedOf slotChecks
+    pub judge-shut : not g ≡ false → not o ≡ true → RefusedCall InvalidEndpoint ≡ slotVerdict s lent k good
+    unfolding slotVerdict slotChecks
     judge-shut t t₁ = rw (sym eg ∙ not-false g t, sym eo ∙ not-true o t₁)
 
     module _ (u : Bool) (eu : u ≡ isUncollected s k) where
-      pub judge-busy : not g ≡ false → not o ≡ false → u ≡ true → RefusedCall QueueFull ≡ judgedOf s lent k good
-      unfolding judgedOf slotChecks
+      pub judge-busy : not g ≡ false → not o ≡ false → u ≡ true → RefusedCall QueueFull ≡ slotVerdict s lent k good
+      unfolding slotVerdict slotChecks
       judge-busy t t₁ t₂ = rw (sym eg ∙ not-false g t, sym eo ∙ not-false o t₁, sym eu ∙ t₂)
 
       pub judge-value : not g ≡ false → not o ≡ false → u ≡ false → not good ≡ true
-          → RefusedCall InvalidParameter ≡ judgedOf s lent k good
-      unfolding judgedOf slotChecks
+          → RefusedCall InvalidParameter ≡ slotVerdict s lent k good
+      unfolding slotVerdict slotChecks
       judge-value t t₁ t₂ t₃ = rw (sym eg ∙ not-false g t, sym eo ∙ not-false o t₁, sym eu ∙ t₂, t₃)
 
-      pub judge-done : not g ≡ false → not o ≡ false → u ≡ false → not good ≡ false → Done ≡ judgedOf s lent k good
-      unfolding judgedOf slotChecks
+      pub judge-done : not g ≡ false → not o ≡ false → u ≡ false → not good ≡ false → Done ≡ slotVerdict s lent k good
+      unfolding slotVerdict slotChecks
       judge-done t t₁ t₂ t₃ = rw (sym eg ∙ not-false g t, sym eo ∙ not-false o t₁, sym eu ∙ t₂, t₃)
 
 -- ---- close, set address, set packet size: what is done
 
 module _ (s : Ehci) (pool : ℕ) (h : List ℕ) (f u k : ℕ) (good : Bool) (a : Answer)
-    (ea : a ≡ judgedOf s (lengths pool (length h) f u) k good) where
+    (ea : a ≡ slotVerdict s (lengths pool (length h) f u) k good) where
   judged : verdictOf a ≡ first (slotChecks s (lengths pool (length h) f u) k good)
-  unfolding judgedOf
+  unfolding slotVerdict
   judged = ap verdictOf ea ∙ verdict-there (first (slotChecks s (lengths pool (length h) f u) k good))
 
   pub change-refused : (r : Refusal) (s′ : Ehci) (h′ : List ℕ) → a ≡ RefusedCall r
@@ -202,12 +202,12 @@ module _ (s : Ehci) (pool : ℕ) (h : List ℕ) (f u k : ℕ) (good : Bool) (a :
   change-room e = open-room s pool h f u k (change-passed e .0) (change-passed e .1)
 
 module _ (s : Ehci) (pool : ℕ) (h : List ℕ) (f u k : ℕ) (a : Answer) where
-  pub close-refused : (r : Refusal) → a ≡ judgedOf s (lengths pool (length h) f u) k true → a ≡ RefusedCall r
+  pub close-refused : (r : Refusal) → a ≡ slotVerdict s (lengths pool (length h) f u) k true → a ≡ RefusedCall r
       → changeLeft (record { answer = RefusedCall r; state = s }) h ≡ closeOf s pool h f u k
   unfolding closeOf
   close-refused r ea e = change-refused s pool h f u k true a ea r _ _ e
 
-  pub close-done : a ≡ judgedOf s (lengths pool (length h) f u) k true → a ≡ Done → (s′ : Ehci) (h′ : List ℕ)
+  pub close-done : a ≡ slotVerdict s (lengths pool (length h) f u) k true → a ≡ Done → (s′ : Ehci) (h′ : List ℕ)
       → s′ ≡ withEndpoint s k Closed → h′ ≡ withHead h k (replicate 17 0)
       → changeLeft (record { answer = Done; state = s′ }) h′ ≡ closeOf s pool h f u k
   unfolding closeOf
@@ -215,24 +215,24 @@ module _ (s : Ehci) (pool : ℕ) (h : List ℕ) (f u k : ℕ) (a : Answer) where
       rw (es, eh) (change-done s pool h f u k true a ea (withEndpoint s k Closed) (withHead h k (replicate 17 0)) e)
 
   module _ (x : ℕ) where
-    pub address-refused : (r : Refusal) → a ≡ judgedOf s (lengths pool (length h) f u) k (leb x 127) → a ≡ RefusedCall r
+    pub address-refused : (r : Refusal) → a ≡ slotVerdict s (lengths pool (length h) f u) k (leb x 127) → a ≡ RefusedCall r
         → changeLeft (record { answer = RefusedCall r; state = s }) h ≡ setAddressOf s pool h f u k x
     unfolding setAddressOf
     address-refused r ea e = change-refused s pool h f u k (leb x 127) a ea r _ _ e
 
-    pub address-done : a ≡ judgedOf s (lengths pool (length h) f u) k (leb x 127) → a ≡ Done → (w : ℕ)
+    pub address-done : a ≡ slotVerdict s (lengths pool (length h) f u) k (leb x 127) → a ≡ Done → (w : ℕ)
         → w ≡ withAddress (headWord h (k + 1) 1) x
         → changeLeft (record { answer = Done; state = s }) (withHeadWord h (k + 1) 1 w) ≡ setAddressOf s pool h f u k x
     unfolding setAddressOf
     address-done ea e w ew =
         rw ew (change-done s pool h f u k (leb x 127) a ea s (withHeadWord h (k + 1) 1 (withAddress (headWord h (k + 1) 1) x)) e)
 
-    pub size-refused : (r : Refusal) → a ≡ judgedOf s (lengths pool (length h) f u) k true → a ≡ RefusedCall r
+    pub size-refused : (r : Refusal) → a ≡ slotVerdict s (lengths pool (length h) f u) k true → a ≡ RefusedCall r
         → changeLeft (record { answer = RefusedCall r; state = s }) h ≡ setPacketSizeOf s pool h f u k x
     unfolding setPacketSizeOf
     size-refused r ea e = change-refused s pool h f u k true a ea r _ _ e
 
-    pub size-done : a ≡ judgedOf s (lengths pool (length h) f u) k true → a ≡ Done → (w : ℕ)
+    pub size-done : a ≡ slotVerdict s (lengths pool (length h) f u) k true → a ≡ Done → (w : ℕ)
         → w ≡ withPacketSize (headWord h (k + 1) 1) x
         → changeLeft (record { answer = Done; state = s }) (withHeadWord h (k + 1) 1 w) ≡ setPacketSizeOf s pool h f u k x
     unfolding setPacketSizeOf

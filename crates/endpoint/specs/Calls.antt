@@ -93,8 +93,8 @@ slotChecks s lent k good =
     ∷ (not good, InvalidParameter)
     ∷ []
 
-unfoldable pub judgedOf : Ehci → Lengths → ℕ → Bool → Answer
-judgedOf s lent k good = settle (first (slotChecks s lent k good)) RefusedCall Done
+unfoldable pub slotVerdict : Ehci → Lengths → ℕ → Bool → Answer
+slotVerdict s lent k good = settle (first (slotChecks s lent k good)) RefusedCall Done
 
 -- a call on slot k that leaves a state and heads where it is not refused
 abbrev pub changeOf : Ehci → ℕ → List ℕ → ℕ → ℕ → ℕ → Bool → Ehci → List ℕ → ChangeLeft

@@ -24,7 +24,7 @@ use Rattle.interrupt.specs.declared.answers.Drained.the-variants.{Nothin
 use Rattle.interrupt.specs.declared.answers.Drainage.{Drainage}
 use Rattle.interrupt.specs.declared.answers.Settled.{Settled}
 use Rattle.interrupt.specs.declared.drain.Counted.{Counted}
-use Rattle.interrupt.specs.declared.drain.Taken.{Taken}
+use Rattle.interrupt.specs.declared.drain.Cleared.{Cleared}
 
 -- ---- numbers and values of the answers
 
@@ -107,13 +107,13 @@ unfoldable pub countedOf : Ehci → ℕ → Counted
 countedOf s command = countIf (eqb (s .noted) 0) s command
 
 -- "Then port change: that bit cleared, PortChange 0. Else bits 0, 1, 5: cleared, TransferActivity 1. Else cleared, Stopped."
-unfoldable pub takenOf : ℕ → Taken
-takenOf pending =
+unfoldable pub clearedOf : ℕ → Cleared
+clearedOf pending =
     cond (anyOf pending 4) (record { event = PortChange; left = withoutBits pending 4 })
     (cond (anyOf pending 0x23) (record { event = TransferActivity; left = withoutBits pending 0x23 })
     (record { event = Stopped; left = 0 }))
 
-abbrev pub drainIf : Bool → Ehci → Counted → Taken → Drainage
+abbrev pub drainIf : Bool → Ehci → Counted → Cleared → Drainage
 drainIf true s c t = record { answer = Nothing; state = s; writes = noWrites }
 drainIf false s c t =
     record {
@@ -127,7 +127,7 @@ unfoldable pub drainOf : Ehci → ℕ → Drainage
 drainOf s command =
     settle (first ((not (inRanges s), InvalidParameter) ∷ []))
     (λ r. record { answer = RefusedDrain r; state = s; writes = noWrites })
-    (drainIf (eqb (s .pending) 0) s (countedOf s command) (takenOf (s .pending)))
+    (drainIf (eqb (s .pending) 0) s (countedOf s command) (clearedOf (s .pending)))
 
 -- ---- rearm, enable, disable
 

@@ -21,7 +21,7 @@ use crate::acknowledge::PENDING;
 use crate::acknowledge::acknowledge_writes;
 use crate::acknowledge::noted_after;
 use crate::drain::count_noted;
-use crate::drain::take_pending;
+use crate::drain::clear_pending;
 use common::answer::Answer;
 use common::answer::Refusal;
 use register::bits::only_bits;
@@ -87,7 +87,7 @@ pub fn drain(state: Ehci, command: u32) -> Drainage
         };
     }
     let counted = count_noted(state, command);
-    let taken = take_pending(pending);
+    let taken = clear_pending(pending);
     let mut after = counted.state;
     after.pending = taken.left;
     let answer = taken.event;

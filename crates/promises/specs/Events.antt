@@ -5,7 +5,7 @@ use lib.Dec.{eqb}
 use Rattle.register.specs.Bits.{bit}
 use Rattle.settings.specs.declared.settings.Settings.{Settings}
 use Rattle.request.specs.declared.judge.TransferRequest.{TransferRequest}
-use Rattle.interrupt.specs.Once.{someRing}
+use Rattle.schedule.specs.Bell.{someRing}
 use Rattle.ehci.specs.declared.call.Call.{Call}
 use Rattle.ehci.specs.declared.call.Call.the-variants.{StartBringUp, BringUpStep, AllocateAddress, OpenEndpoint, Close, SetAddress, SetPacketSize, Submit, Writeback, Cancel, Collect, Acknowledge, Drain, Rearm, Enable, Disable}
 use Rattle.ehci.specs.declared.reply.Answered.{Answered}

@@ -34,7 +34,7 @@ bad-put o p q s i r n room e f l g m =
     (three .0, (omega (arith, three .1), omega (arith, m, l, decimal-length n)))
 
 pub shown-put : (k : Keeper) (a : Acted) (b f : Rows) (o p : List ℕ) (r : ℕ) → b ≡ rowsOf k → f ≡ rowsOf (a .keeper)
-    → Said o p r (blockOf (lineBytes (a .line)) (a .opening) b f (a .keeper .opened) (a .keeper .world .state) (a .writes))
+    → Said o p r (blockOf (lineBytes (a .line)) (a .opening) b f (a .keeper .opened) (a .keeper .store .state) (a .writes))
     → Said o p r (shownOf k (effectOf a))
 unfolding shownOf
 shown-put k a b f o p r e g s = rw (← e, ← g) s

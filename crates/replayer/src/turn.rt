@@ -64,8 +64,8 @@ fn put_shown(out: &mut [u8], k: Keeper, acted: Acted) -> usize
     let keeper = acted.keeper;
     let before = rows_of(k);
     let after = rows_of(keeper);
-    let world = keeper.world;
-    let state = world.state;
+    let store = keeper.store;
+    let state = store.state;
     put_block(
         out,
         line,

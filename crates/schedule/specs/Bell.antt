@@ -1,11 +1,12 @@
 -- Document 01, "Unlinking and collecting": the doorbell, the advances, and the boundaries.
 use Prim.Native.Nat.{ℕ, zero, suc, _+_, _-_, _%_}
-use mathlib.Core.Bool.{Bool, true, false, not, _&&_}
+use mathlib.Core.Bool.{Bool, true, false, not, _&&_, _||_}
 use mathlib.Core.List.{List, [], _∷_}
 use lib.Dec.{eqb, leb}
 use lib.ListN.{getD}
-use Rattle.register.specs.Bits.{withBits, withoutBits}
+use Rattle.register.specs.Bits.{bit, withBits, withoutBits}
 use Rattle.register.specs.Writes.{andThen}
+use Rattle.register.specs.declared.writes.Write.{Write}
 use Rattle.register.specs.declared.writes.Writes.{Writes}
 use Rattle.state.specs.declared.state.Ehci.{Ehci}
 use Rattle.schedule.specs.declared.bell.Bell.{Bell}
@@ -18,6 +19,14 @@ commandWord value = withoutBits value 0x40
 
 unfoldable pub ringWord : ℕ → ℕ
 ringWord read = withBits read 0x40
+
+-- a ring: a write of USBCMD with the doorbell bit
+abbrev pub isRing : Write → Bool
+isRing w = eqb (w .offset) 0 && eqb (bit (w .value) 6) 1
+
+abbrev pub someRing : List Write → Bool
+someRing [] = false
+someRing (w ∷ ws) = isRing w || someRing ws
 
 -- ---- the doorbell
 

@@ -25,7 +25,7 @@ use Rattle.ehci.specs.Door.{Applied, applied, applyOf, carriedOut, seenBy}
 use Rattle.ehci.specs.Replies.{refusedReply, replied}
 use Rattle.promises.specs.Runs.{Rows, World, core, turnOf}
 use Rattle.promises.specs.Events.{Other, event}
-use Rattle.interrupt.specs.Once.{someRing}
+use Rattle.schedule.specs.Bell.{someRing}
 use Rattle.promises.specs.Opened.{change}
 use Rattle.promises.proofs.effects.Effects.{Effect, Idles, Sides, Switches, besides, still}
 

@@ -21,7 +21,7 @@ use Rattle.common.specs.Answers.{first}
 use Rattle.common.specs.declared.answer.Answer.the-variants.{Done}
 use Rattle.common.specs.declared.answer.Refusal.the-variants.{InvalidParameter}
 use Rattle.schedule.specs.Links.{same}
-use Rattle.interrupt.specs.Interrupts.{acknowledgeOf, acknowledgeWrites, acknowledgedState, countIf, countedOf, disableOf, drainIf, drainOf, enableOf, heardIf, noteIf, notedAfter, rearmIf, rearmOf, settledOr, takenOf}
+use Rattle.interrupt.specs.Interrupts.{acknowledgeOf, acknowledgeWrites, acknowledgedState, countIf, countedOf, disableOf, drainIf, drainOf, enableOf, heardIf, noteIf, notedAfter, rearmIf, rearmOf, settledOr, clearedOf}
 use Rattle.interrupt.specs.declared.answers.Acknowledgement.{Acknowledgement}
 use Rattle.interrupt.specs.declared.answers.Drainage.{Drainage}
 use Rattle.ehci.specs.declared.call.Call.the-variants.{Acknowledge, Disable, Drain, Enable, Rearm}
@@ -31,7 +31,7 @@ use Rattle.ehci.specs.Door.{carriedOut}
 use Rattle.ehci.specs.Replies.{drainedAnswer, replied, settledReply}
 use Rattle.promises.specs.Runs.{World, core}
 use Rattle.promises.specs.Events.{Drains, Other, Reads, isDone}
-use Rattle.interrupt.specs.Once.{someRing}
+use Rattle.schedule.specs.Bell.{someRing}
 use Rattle.promises.proofs.effects.Effects.{Effect, Sides, counts, hears, joins, passes}
 use Rattle.promises.proofs.effects.EffectDoor.{idles-on, refused-still, rows-kept, sidesOf, still-of, through}
 use Rattle.promises.proofs.effects.EffectRanges.{counted-keeps, interrupt-keeps, joined-none, note-keeps, only-falls, only-joins, only-masked, only-none}
@@ -148,11 +148,11 @@ module _ (w : World) (command : ℕ) where
   d = w .state
 
   -- what is pending after an event is taken
-  taken-only : withoutBits (d .pending) 0x37 ≡ 0 → withoutBits (takenOf (d .pending) .left) 0x37 ≡ 0
-  unfolding takenOf
+  taken-only : withoutBits (d .pending) 0x37 ≡ 0 → withoutBits (clearedOf (d .pending) .left) 0x37 ≡ 0
+  unfolding clearedOf
   taken-only e = by (anyOf (d .pending) 4) refl (anyOf (d .pending) 0x23) refl
     where
-      by : (a : Bool) → anyOf (d .pending) 4 ≡ a → (b : Bool) → anyOf (d .pending) 0x23 ≡ b → withoutBits (takenOf (d .pending) .left) 0x37 ≡ 0
+      by : (a : Bool) → anyOf (d .pending) 4 ≡ a → (b : Bool) → anyOf (d .pending) 0x23 ≡ b → withoutBits (clearedOf (d .pending) .left) 0x37 ≡ 0
       by true p b q = rw p (only-falls 0x37 (lit< tt) (d .pending) 4 (lit< tt) e)
       by false p true q = rw (p, q) (only-falls 0x37 (lit< tt) (d .pending) 0x23 (lit< tt) e)
       by false p false q = rw (p, q) (only-none 0x37 (lit< tt))
@@ -165,7 +165,7 @@ module _ (w : World) (command : ℕ) where
         waited = d .waited;
         address = d .address;
         enabled = d .enabled;
-        pending = takenOf (d .pending) .left;
+        pending = clearedOf (d .pending) .left;
         masked = d .masked;
       }
 
@@ -174,11 +174,11 @@ module _ (w : World) (command : ℕ) where
       Effect w (Drain command) (carriedOut (came (drainReply x) (w .rows .heads) (w .rows .frames) (w .rows .setups)) (w .rows .pool))
 
   -- what is taken is an event, and no refusal
-  taken-done : isDone (drainedAnswer (takenOf (d .pending) .event)) ≡ true
-  unfolding takenOf
+  taken-done : isDone (drainedAnswer (clearedOf (d .pending) .event)) ≡ true
+  unfolding clearedOf
   taken-done = by (anyOf (d .pending) 4) refl (anyOf (d .pending) 0x23) refl
     where
-      by : (a : Bool) → anyOf (d .pending) 4 ≡ a → (b : Bool) → anyOf (d .pending) 0x23 ≡ b → isDone (drainedAnswer (takenOf (d .pending) .event)) ≡ true
+      by : (a : Bool) → anyOf (d .pending) 4 ≡ a → (b : Bool) → anyOf (d .pending) 0x23 ≡ b → isDone (drainedAnswer (clearedOf (d .pending) .event)) ≡ true
       by true p b q = rw p
       by false p true q = rw (p, q)
       by false p false q = rw (p, q)
@@ -186,7 +186,7 @@ module _ (w : World) (command : ℕ) where
   drained-as : (b : Bool) → b ≡ true → cond b Drains Other ≡ Drains
   drained-as b e = rw e
 
-  uncounted : (n : Bool) → eqb (d .noted) 0 ≡ n → Drained (drainIf false d (countIf n d command) (takenOf (d .pending)))
+  uncounted : (n : Bool) → eqb (d .noted) 0 ≡ n → Drained (drainIf false d (countIf n d command) (clearedOf (d .pending)))
   unfolding withInterrupt replied noWrites withBell withBoundaries
   uncounted true e =
       passes
@@ -219,7 +219,7 @@ module _ (w : World) (command : ℕ) where
         same = refl;
       })
 
-  drained : (z : Bool) → eqb (d .pending) 0 ≡ z → Drained (drainIf z d (countedOf d command) (takenOf (d .pending)))
+  drained : (z : Bool) → eqb (d .pending) 0 ≡ z → Drained (drainIf z d (countedOf d command) (clearedOf (d .pending)))
   unfolding countedOf replied noWrites
   drained true e =
       passes

@@ -26,7 +26,7 @@ use Rattle.controller.specs.Readers.{holdsRequest, isUncollected}
 use Rattle.controller.specs.Address.{allotOf}
 use Rattle.controller.specs.declared.calls.Allotment.{Allotment}
 use Rattle.controller.proofs.AddressLaws.{allot-keeps}
-use Rattle.schedule.specs.Bell.{commandWord}
+use Rattle.schedule.specs.Bell.{commandWord, someRing}
 use Rattle.schedule.proofs.BellLaws.{command-clear}
 use Rattle.bring_up.specs.BringUp.{againOf, anyUncollected, movedOn, onwardOf, ready, registerOf, stageOf, stageWrites, startOf, stepOf, setUp}
 use Rattle.bring_up.specs.declared.answers.BroughtUp.{BroughtUp}
@@ -39,7 +39,6 @@ use Rattle.ehci.specs.Door.{carriedOut}
 use Rattle.ehci.specs.declared.reply.Answered.the-variants.{Refused}
 use Rattle.ehci.specs.Replies.{broughtAnswer, broughtReply, replied}
 use Rattle.promises.specs.Runs.{World, core}
-use Rattle.interrupt.specs.Once.{someRing}
 use Rattle.promises.specs.Opened.{stepsBy}
 use Rattle.promises.proofs.effects.Effects.{Effect, Idles, Sides, Switches, besides}
 use Rattle.promises.proofs.effects.EffectDoor.{idles-on, leaves, refused-still, still-of, through}

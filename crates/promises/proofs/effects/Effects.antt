@@ -24,7 +24,7 @@ use Rattle.pipe.specs.declared.endpoints.UnlinkBoundary.{UnlinkBoundary}
 use Rattle.opening.specs.Heads.{withHeadWord}
 use Rattle.controller.specs.Readers.{isUncollected}
 use Rattle.controller.specs.declared.lent.Readings.{Readings}
-use Rattle.schedule.specs.Bell.{advancedOf, bellOf}
+use Rattle.schedule.specs.Bell.{advancedOf, bellOf, someRing}
 use Rattle.schedule.specs.Links.{detachOf, endedOverlay, slotLink}
 use Rattle.endpoint.specs.Calls.{newEndpoint, withHead}
 use Rattle.request.specs.Submit.{chainFor, firstIn, idAt, linkedRows, setupsWith, stateWith, takenFor, writesWith}
@@ -42,7 +42,6 @@ use Rattle.ehci.specs.declared.reply.Given.the-variants.{Nothing}
 use Rattle.ehci.specs.Door.{Applied}
 use Rattle.promises.specs.Runs.{Rows, World, rowsOf, turnOf}
 use Rattle.promises.specs.Events.{Other, Reads, Drains, Submits, Collects, event, leaving}
-use Rattle.interrupt.specs.Once.{someRing}
 use Rattle.promises.specs.Opened.{Change, ClosesSlot, Halted, OpensSlot, Running, Same, change}
 
 -- what of a state stands beside slots, owners and doorbell

@@ -21,11 +21,10 @@ use Rattle.opening.specs.Opening.{freshState}
 use Rattle.opening.proofs.OpenLaws.{fresh-slot}
 use Rattle.controller.specs.Readers.{hasEndpoint, holdsRequest}
 use Rattle.controller.specs.declared.lent.Readings.{Readings}
-use Rattle.schedule.specs.Bell.{advancedOf, fallIf, fallenFrom, fallenOne, ringOf, rungIf, unlinkedOf}
+use Rattle.schedule.specs.Bell.{advancedOf, fallIf, fallenFrom, fallenOne, ringOf, rungIf, unlinkedOf, someRing}
 use Rattle.schedule.specs.declared.bell.Bell.{Bell}
 use Rattle.schedule.proofs.BellLaws.{command-clear, fallen-at, ring-set}
 use Rattle.request.specs.Submit.{writesWith}
-use Rattle.interrupt.specs.Once.{someRing}
 use Rattle.promises.proofs.effects.Effects.{Sides, besides}
 use Rattle.promises.proofs.invariants.BellWaiting.{fallen}
 

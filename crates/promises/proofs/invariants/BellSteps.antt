@@ -23,7 +23,7 @@ use Rattle.pipe.specs.declared.endpoints.UnlinkBoundary.the-variants.{Async, Pe
 use Rattle.pipe.proofs.EndpointLaws.{EndpointGood, Proper, endpoint-other, endpoint-same, owner-aside, owner-wide}
 use Rattle.controller.specs.Readers.{hasEndpoint}
 use Rattle.controller.proofs.ReaderLaws.{open-below}
-use Rattle.schedule.specs.Bell.{advancedOf, bellOf}
+use Rattle.schedule.specs.Bell.{advancedOf, bellOf, someRing}
 use Rattle.request.specs.Submit.{idAt, linkedWith, stateWith, takenFor}
 use Rattle.collection.specs.Calls.{finishOf, freed, marked}
 use Rattle.collection.specs.Unlinks.{passedBoundary}
@@ -34,7 +34,6 @@ use Rattle.ehci.specs.declared.call.Call.{Call}
 use Rattle.ehci.specs.Door.{Applied}
 use Rattle.promises.specs.Runs.{History, Turn, World, turnOf}
 use Rattle.promises.specs.Events.{Event, Other, Reads, Drains, Submits, Collects, event, rings}
-use Rattle.interrupt.specs.Once.{someRing}
 use Rattle.promises.specs.Bells.{Answered, Bell, Quiet, Rung, bell, drains, isAnswered, isDrains, isReads, isUnlinks, isUp, linked, unlinking}
 use Rattle.promises.proofs.effects.Effects.{Still, Hears, Joins, Passes, Counts, Opens, Closes, Rewrites, Accepts, WritesBack, Marks, Collected, besides}
 use Rattle.promises.proofs.invariants.Sound.{Sound}

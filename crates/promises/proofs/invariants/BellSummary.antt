@@ -21,7 +21,7 @@ use Rattle.pipe.specs.declared.endpoints.UnlinkBoundary.the-variants.{Async, Pe
 use Rattle.pipe.proofs.EndpointLaws.{EndpointGood, Proper, endpoint-other, endpoint-same, owner-aside, owner-wide}
 use Rattle.controller.specs.Readers.{holdsRequest}
 use Rattle.controller.proofs.ReaderLaws.{open-below}
-use Rattle.schedule.specs.Bell.{advancedOf, bellOf}
+use Rattle.schedule.specs.Bell.{advancedOf, bellOf, someRing}
 use Rattle.request.specs.Submit.{idAt, linkedWith, stateWith, takenFor}
 use Rattle.request.specs.declared.judge.TransferRequest.{TransferRequest}
 use Rattle.collection.specs.Calls.{finishOf, freed, marked}
@@ -34,7 +34,6 @@ use Rattle.ehci.specs.declared.call.Call.{Call}
 use Rattle.ehci.specs.Door.{Applied}
 use Rattle.promises.specs.Runs.{History, Turn, World, turnOf}
 use Rattle.promises.specs.Events.{Other, Reads, Drains, Submits, Unlinks, Parts, Collects, event, rings}
-use Rattle.interrupt.specs.Once.{someRing}
 use Rattle.promises.specs.Bells.{Answered, bell, isDrains, isReads, isUnlinks}
 use Rattle.promises.proofs.effects.Effects.{Effect, Counts, Accepts, Marks, Unlinked, Collected, besides}
 use Rattle.promises.proofs.invariants.Sound.{Sound}

@@ -20,7 +20,7 @@ use Rattle.pipe.specs.declared.endpoints.Endpoint.the-variants.{Linked, Unlinki
 use Rattle.pipe.specs.declared.endpoints.Request.{Request}
 use Rattle.pipe.specs.declared.endpoints.UnlinkBoundary.the-variants.{Async, Periodic}
 use Rattle.pipe.proofs.EndpointLaws.{Suits, bell-wide, endpoint-other, endpoint-same}
-use Rattle.schedule.specs.Bell.{bellOf, frameOf, unlinkedOf}
+use Rattle.schedule.specs.Bell.{bellOf, frameOf, unlinkedOf, someRing}
 use Rattle.schedule.specs.declared.bell.Rung.{Rung}
 use Rattle.controller.specs.declared.lent.Readings.{Readings}
 use Rattle.collection.specs.Calls.{marked}
@@ -30,7 +30,6 @@ use Rattle.ehci.specs.declared.call.Call.{Call}
 use Rattle.ehci.specs.Door.{Applied}
 use Rattle.promises.specs.Runs.{History, Turn, World, turnOf}
 use Rattle.promises.specs.Events.{Unlinks, Parts, event, rings}
-use Rattle.interrupt.specs.Once.{someRing}
 use Rattle.promises.specs.Bells.{bell, isDrains, isReads, isUnlinks}
 use Rattle.promises.proofs.effects.Effects.{Effect, Unlinked}
 use Rattle.promises.proofs.invariants.Sound.{Sound}

@@ -36,7 +36,7 @@ use Rattle.promises.proofs.invariants.ChainEvents.{unlink-event}
 use lib.Dec.{eqb}
 use Rattle.common.specs.declared.kinds.EndpointType.{EndpointType}
 use Rattle.descriptor.specs.declared.qtd.QueueTransferDescriptor.{QueueTransferDescriptor}
-use Rattle.pool.specs.Chains.{blank, isActive, isErring, numberIf, seenFrom, stageOf, viewOf}
+use Rattle.pool.specs.Chains.{blank, isActive, isErring, numberIf, seenFrom, standingOf, viewOf}
 use Rattle.ehci.specs.declared.call.Call.{Call}
 use Rattle.collection.specs.declared.collected.Collected.the-variants as C
 use Rattle.pool.specs.Places.{placesFrom}
@@ -49,14 +49,14 @@ use Rattle.promises.proofs.effects.EffectRequests.{none-leaves}
 -- ---- finished, as its descriptors say
 
 finished-stage : (kind : EndpointType) (n limit i : ℕ) (ps : List ℕ) (pool : List QueueTransferDescriptor)
-    → eqb (stageOf (seenFrom kind n limit i ps pool)) 2 ≡ not (isFinished pool ps)
-unfolding seenFrom stageOf
+    → eqb (standingOf (seenFrom kind n limit i ps pool)) 2 ≡ not (isFinished pool ps)
+unfolding seenFrom standingOf
 finished-stage kind n limit i [] pool = refl
 finished-stage kind n limit i (p ∷ ps) pool =
     by (isActive (getD pool p blank .token)) (isErring (getD pool p blank .token)) (finished-stage kind n limit (suc i) ps pool)
   where
-    by : (a e : Bool) → eqb (stageOf (seenFrom kind n limit (suc i) ps pool)) 2 ≡ not (isFinished pool ps)
-        → eqb (numberIf a 2 (numberIf e 1 (stageOf (seenFrom kind n limit (suc i) ps pool)))) 2 ≡ not (cond a false (cond e true (isFinished pool ps)))
+    by : (a e : Bool) → eqb (standingOf (seenFrom kind n limit (suc i) ps pool)) 2 ≡ not (isFinished pool ps)
+        → eqb (numberIf a 2 (numberIf e 1 (standingOf (seenFrom kind n limit (suc i) ps pool)))) 2 ≡ not (cond a false (cond e true (isFinished pool ps)))
     by true e rest = refl
     by false true rest = refl
     by false false rest = rest

@@ -37,7 +37,7 @@ use Rattle.collection.specs.Unlinks.{passedBoundary, unlinkOf, waitingOf}
 use Rattle.bring_up.specs.BringUp.{againOf, anyUncollected, onwardOf, ready, registerOf, stageOf, startOf, stepOf}
 use Rattle.bring_up.specs.declared.stage.Stage.{Stage}
 use Rattle.interrupt.specs.declared.answers.Settled.{Settled}
-use Rattle.interrupt.specs.Interrupts.{acknowledgeOf, countedOf, disableOf, drainIf, drainOf, enableOf, heardIf, rearmIf, rearmOf, settledOr, takenOf}
+use Rattle.interrupt.specs.Interrupts.{acknowledgeOf, countedOf, disableOf, drainIf, drainOf, enableOf, heardIf, rearmIf, rearmOf, settledOr, clearedOf}
 use Rattle.ehci.specs.declared.call.Call.{Call}
 use Rattle.ehci.specs.declared.call.Call.the-variants.{StartBringUp, BringUpStep, AllocateAddress, OpenEndpoint, Close, SetAddress, SetPacketSize, Submit, Writeback, Cancel, Collect, Acknowledge, Drain, Rearm, Enable, Disable}
 use Rattle.ehci.specs.declared.call.EndpointFields.{EndpointFields}
@@ -278,14 +278,14 @@ module _ (w : World) where
       heard false = refl
 
   drain-order : (command : ℕ) → verdictIn (core w (Drain command) .reply .answer) ≡ first (checksOf w (Drain command))
-  unfolding drainDecided drainOf replied takenOf
+  unfolding drainDecided drainOf replied clearedOf
   drain-order command =
       by-ranges (Drain command)
       (settle-says (λ d. verdictIn (drainReply d .reply .answer)) (first ((not (inRanges s), InvalidParameter) ∷ [])) _ _ (λ r. refl)
       (drained (eqb (s .pending) 0) (anyOf (s .pending) 4) refl (anyOf (s .pending) 0x23) refl))
     where
       drained : (z a : Bool) → anyOf (s .pending) 4 ≡ a → (b : Bool) → anyOf (s .pending) 0x23 ≡ b
-          → verdictIn (drainReply (drainIf z s (countedOf s command) (takenOf (s .pending))) .reply .answer) ≡ passed
+          → verdictIn (drainReply (drainIf z s (countedOf s command) (clearedOf (s .pending))) .reply .answer) ≡ passed
       drained true a p b q = refl
       drained false true p b q = rw p
       drained false false p true q = rw (p, q)

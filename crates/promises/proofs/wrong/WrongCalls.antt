@@ -24,11 +24,11 @@ use Rattle.controller.specs.Lent.{acceptsOf}
 use Rattle.controller.specs.Readers.{countZero, freeCount}
 use Rattle.schedule.specs.Bell.{advancedOf, fallenFrom, fallenOne, ringOf, ringWord, unlinkedOf}
 use Rattle.schedule.specs.Links.{attachedRing, detachOf, endedOverlay, precedesOne, predecessorOf, searchFrom, startedOverlay}
-use Rattle.request.specs.Submit.{acceptedWith, afterId, bufferGood, linkedRows, rangesGood, settledSubmit, setupsWith, stateWith, submitOf, takenFor, writesWith, takenOf as takenPlaces}
+use Rattle.request.specs.Submit.{acceptedWith, afterId, bufferGood, linkedRows, rangesGood, settledSubmit, setupsWith, stateWith, submitOf, takenFor, writesWith, clearedOf as takenPlaces}
 use Rattle.collection.specs.Unlinks.{boundedOf, unlinkOf, waitingOf}
 use Rattle.collection.specs.Calls.{cancelOf, collectOf, finishOf, freed, unlinkingOf}
 use Rattle.collection.specs.Answers.{outcomeOf}
-use Rattle.interrupt.specs.Interrupts.{acknowledgeOf, acknowledgeWrites, acknowledgedState, countedOf, drainOf, notedAfter, takenOf}
+use Rattle.interrupt.specs.Interrupts.{acknowledgeOf, acknowledgeWrites, acknowledgedState, countedOf, drainOf, notedAfter, clearedOf}
 use Rattle.ehci.specs.declared.call.Call.the-variants.{Cancel, Collect, Drain}
 use Rattle.ehci.specs.declared.reply.Answered.the-variants.{Done, Cancelled}
 use Rattle.ehci.specs.declared.reply.Given.the-variants as G
@@ -83,7 +83,7 @@ noted-good = good 4
 -- a note is counted
 pub drained : core (apartOne (one 0x20 0x20 1 1 1 (waits 1))) (Drain 0x80031)
     ≡ replies (Done (G.Event E.TransferActivity)) noWrites (apartOne (one 0 0x20 0 0 0 (waits 0)))
-unfolding applyOf decideOf asksOf rowsFit replied fillOf filledFrom noChain packed listOf drainDecided drainOf anyOf withoutBits countedOf takenOf withInterrupt withBell withBoundaries advancedOf ringOf fallenFrom fallenOne stateOf
+unfolding applyOf decideOf asksOf rowsFit replied fillOf filledFrom noChain packed listOf drainDecided drainOf anyOf withoutBits countedOf clearedOf withInterrupt withBell withBoundaries advancedOf ringOf fallenFrom fallenOne stateOf
 drained = rw noted-good
 
 passed-good : inRanges (one 0 0x20 0 0 0 (waits 0)) ≡ true
@@ -157,7 +157,7 @@ two-heard-good = good 10
 -- counted, and rung again
 pub drained-first : core (apartTwo (two 0x24 0x24 1 1 2 (waits 1) (waits 2))) (Drain 0x80031)
     ≡ replies (Done (G.Event E.PortChange)) (andThen noWrites 0 (ringWord 0x80031)) (apartTwo (two 0x20 0x24 0 1 1 (waits 0) (waits 1)))
-unfolding applyOf decideOf asksOf rowsFit replied fillOf filledFrom noChain packed listOf drainDecided drainOf anyOf withoutBits countedOf takenOf withInterrupt withBell withBoundaries advancedOf ringOf fallenFrom fallenOne stateOf
+unfolding applyOf decideOf asksOf rowsFit replied fillOf filledFrom noChain packed listOf drainDecided drainOf anyOf withoutBits countedOf clearedOf withInterrupt withBell withBoundaries advancedOf ringOf fallenFrom fallenOne stateOf
 drained-first = rw two-heard-good
 
 two-noted-good : inRanges (two 0x20 0x24 1 1 1 (waits 0) (waits 1)) ≡ true
@@ -166,7 +166,7 @@ two-noted-good = good 11
 -- with a note, a second drain counts
 pub drained-second : core (apartTwo (two 0x20 0x24 1 1 1 (waits 0) (waits 1))) (Drain 0x80031)
     ≡ replies (Done (G.Event E.TransferActivity)) noWrites (apartTwo (two 0 0x24 0 0 0 (waits 0) (waits 0)))
-unfolding applyOf decideOf asksOf rowsFit replied fillOf filledFrom noChain packed listOf drainDecided drainOf anyOf withoutBits countedOf takenOf withInterrupt withBell withBoundaries advancedOf ringOf fallenFrom fallenOne stateOf
+unfolding applyOf decideOf asksOf rowsFit replied fillOf filledFrom noChain packed listOf drainDecided drainOf anyOf withoutBits countedOf clearedOf withInterrupt withBell withBoundaries advancedOf ringOf fallenFrom fallenOne stateOf
 drained-second = rw two-noted-good
 
 two-passed-good : inRanges (two 0 0x24 0 0 0 (waits 0) (waits 0)) ≡ true

@@ -21,7 +21,7 @@ use Rattle.request.specs.Submit.{writesWith}
 use Rattle.collection.specs.Unlinks.{boundedOf, unlinkOf, waitingOf}
 use Rattle.collection.specs.Calls.{cancelOf, collectOf, finishOf, freed, unlinkingOf}
 use Rattle.collection.specs.Answers.{outcomeOf}
-use Rattle.interrupt.specs.Interrupts.{acknowledgeOf, acknowledgeWrites, acknowledgedState, countedOf, drainOf, notedAfter, takenOf}
+use Rattle.interrupt.specs.Interrupts.{acknowledgeOf, acknowledgeWrites, acknowledgedState, countedOf, drainOf, notedAfter, clearedOf}
 use Rattle.ehci.specs.declared.call.Call.{Call}
 use Rattle.ehci.specs.declared.call.Call.the-variants.{Cancel, Collect, Drain}
 use Rattle.ehci.specs.declared.reply.Answered.the-variants.{Done, Pending}
@@ -81,7 +81,7 @@ unfolding applyOf decideOf asksOf rowsFit replied fillOf filledFrom noChain pack
 hears = rw (states-good .1)
 
 passes : core (apartOne (one 0x20 0x20 0 1 1 (waits 1))) (Drain 0x80031) ≡ replies (Done (G.Event E.TransferActivity)) noWrites (apartOne (one 0 0x20 0 1 1 (waits 1)))
-unfolding applyOf decideOf asksOf rowsFit replied fillOf filledFrom noChain packed listOf drainDecided drainOf anyOf withoutBits countedOf takenOf withInterrupt withBell withBoundaries advancedOf ringOf fallenFrom fallenOne stateOf
+unfolding applyOf decideOf asksOf rowsFit replied fillOf filledFrom noChain packed listOf drainDecided drainOf anyOf withoutBits countedOf clearedOf withInterrupt withBell withBoundaries advancedOf ringOf fallenFrom fallenOne stateOf
 passes = rw (states-good .2)
 
 waits-on : core (apartOne (one 0 0x20 0 1 1 (waits 1))) (Collect 0 1 (reading 0x80031)) ≡ replies Pending noWrites (apartOne (one 0 0x20 0 1 1 (waits 1)))
