@@ -3,9 +3,9 @@ ghost use mathlib.Core.Path.{_≡_};
 ghost use Prim.Native.Nat.{_<_};
 ghost use Rattle.bring_up.specs.BringUp.{refusedBringUp, againOf};
 use crate::answers::BroughtUp;
-use common::reads::NextRead;
 use common::answer::Answer;
 use common::answer::Refusal;
+use common::reads::NextRead;
 use register::writes::Writes;
 use state::state::Ehci;
 

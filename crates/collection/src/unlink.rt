@@ -9,6 +9,7 @@ use crate::collected::Cancellation;
 use crate::collected::refuse_cancel;
 use common::answer::Answer;
 use common::answer::Refusal;
+use common::kinds::EndpointType;
 use controller::lent::Readings;
 use pipe::endpoints::Endpoint;
 use pipe::endpoints::Pipe;
@@ -25,7 +26,6 @@ use schedule::links::Predecessor;
 use schedule::links::detach;
 use schedule::links::head_address;
 use state::state::Ehci;
-use common::kinds::EndpointType;
 
 // The boundary of a request that is unlinked, and the doorbell then.
 pub struct Bounded {

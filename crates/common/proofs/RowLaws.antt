@@ -5,7 +5,6 @@ use mathlib.Core.List.{List, _++_}
 use native.Mathlib.Omega.{arith}
 use lib.ListN.{drop, getD, length, length-append, length-drop, length-set, List·getD-append, set, take}
 use lib.Seq.{getD-append-add, getD-drop, getD-set-other, getD-take, length-take-le}
-
 use Rattle.common.specs.Rows.{putAt}
 
 -- a row that is as another but for n words from a place on

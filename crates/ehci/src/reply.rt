@@ -17,11 +17,11 @@ ghost use Rattle.ehci.specs.Replies.{
   drainedAnswer,
   broughtAnswer,
 };
+use bring_up::answers::BroughtUp;
+use collection::collected::Collected;
 use common::answer::Answer;
 use common::answer::Refusal;
-use bring_up::answers::BroughtUp;
 use common::reads::NextRead;
-use collection::collected::Collected;
 use controller::calls::Allotted;
 use endpoint::calls::Change;
 use endpoint::calls::Opened;

@@ -15,6 +15,8 @@ use crate::heads::write_head;
 use crate::lowest::lowest_closed;
 use common::answer::Answer;
 use common::answer::Refusal;
+use common::kinds::EndpointType;
+use common::kinds::is_isochronous;
 use controller::lent::Lengths;
 use controller::lent::accepts;
 use controller::readers::is_open;
@@ -25,9 +27,7 @@ use opening::heads::put_head;
 use pipe::endpoints::Endpoint;
 use pipe::endpoints::Pipe;
 use pipe::endpoints::with_endpoint;
-use common::kinds::is_isochronous;
 use state::state::Ehci;
-use common::kinds::EndpointType;
 
 pub enum Opened {
     Slot(u8),

@@ -11,17 +11,17 @@ ghost use Rattle.interrupt.specs.Interrupts.{
   enableOf,
   disableOf,
 };
-use crate::answers::Acknowledged;
-use crate::answers::Acknowledgement;
-use crate::answers::Drained;
-use crate::answers::Drainage;
-use crate::answers::Settled;
 use crate::acknowledge::MASKABLE;
 use crate::acknowledge::PENDING;
 use crate::acknowledge::acknowledge_writes;
 use crate::acknowledge::noted_after;
-use crate::drain::count_noted;
+use crate::answers::Acknowledged;
+use crate::answers::Acknowledgement;
+use crate::answers::Drainage;
+use crate::answers::Drained;
+use crate::answers::Settled;
 use crate::drain::clear_pending;
+use crate::drain::count_noted;
 use common::answer::Answer;
 use common::answer::Refusal;
 use register::bits::only_bits;

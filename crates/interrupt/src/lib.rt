@@ -1,5 +1,5 @@
 // Interrupts: acknowledged in the handler, drained afterwards, masked and rearmed, enabled and disabled.
-pub mod answers;
 pub mod acknowledge;
+pub mod answers;
 pub mod calls;
 pub mod drain;

@@ -16,6 +16,7 @@ ghost use Rattle.job_run.specs.Runs.{
   runOf,
 };
 use crate::controller_of::running_store;
+use common::kinds::EndpointType;
 use controller::lent::Readings;
 use ehci::call::Call;
 use ehci::call::EndpointFields;
@@ -30,7 +31,6 @@ use job_sheet::sheet::Job;
 use pipe::endpoints::direction_of;
 use pipe::endpoints::kind_of;
 use request::judge::TransferRequest;
-use common::kinds::EndpointType;
 use store::store::Store;
 use store::store::call_on;
 

@@ -5,6 +5,7 @@ use crate::out::low_word;
 use crate::out::word;
 use crate::out::words;
 use crate::tokens::kind;
+use common::kinds::EndpointType;
 use descriptor::head;
 use descriptor::head::QueueHead;
 use descriptor::qtd::NextQtd;
@@ -13,7 +14,6 @@ use descriptor::setup::setup_packet_bytes;
 use register::operational;
 use register::writes::Write;
 use register::writes::Writes;
-use common::kinds::EndpointType;
 use token::port::EhciPortStatus;
 use token::qtd::QtdToken;
 

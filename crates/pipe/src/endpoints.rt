@@ -19,12 +19,12 @@ ghost use Rattle.pipe.specs.Endpoints.{
   encoded,
   withEndpoint,
 };
+use common::kinds::Direction;
+use common::kinds::EndpointType;
 use slot::slot::Slot;
 use state::slots::slot_at;
 use state::slots::with_slot;
 use state::state::Ehci;
-use common::kinds::Direction;
-use common::kinds::EndpointType;
 
 // When an unlinking request may be collected: after so many advances, or 9 micro-frames after a FRINDEX.
 pub enum UnlinkBoundary {

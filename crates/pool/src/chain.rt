@@ -11,9 +11,9 @@ use crate::places::no_places;
 use crate::transfer::Transfer;
 use crate::transfer::bare_at;
 use crate::transfer::requested;
+use common::kinds::EndpointType;
 use descriptor::qtd::NextQtd;
 use descriptor::qtd::QueueTransferDescriptor;
-use common::kinds::EndpointType;
 use token::qtd::QtdToken;
 
 // What becomes of each record of a chain.

@@ -13,13 +13,13 @@ ghost use Rattle.replayer.specs.Replays.{
 };
 ghost use Rattle.root_hub.specs.Calls.{powerOf};
 ghost use Rattle.store.specs.Stores.{callStore, openStore};
-use common::answer::Answer;
-use common::reads::NextRead;
 use call_log::block::Rows;
 use call_log::call_line::call_line;
 use call_log::call_line::scan_line;
 use call_log::line::Line;
 use call_log::record::Entry;
+use common::answer::Answer;
+use common::reads::NextRead;
 use ehci::call::Call;
 use ehci::reply::Answered;
 use ehci::reply::Given;

@@ -10,17 +10,17 @@ ghost use Rattle.request.specs.Submit.{
 };
 use common::answer::Answer;
 use common::answer::Refusal;
+use common::kinds::Direction;
+use common::kinds::EndpointType;
+use common::kinds::is_control;
+use common::kinds::is_isochronous;
 use controller::readers::free_in;
 use controller::readers::open_in;
 use controller::readers::uncollected_in;
 use pipe::endpoints::kind_number;
-use common::kinds::is_control;
-use common::kinds::is_isochronous;
 use settings::settings::MEMORY_END;
 use state::state::Ehci;
 use token::chunks::need;
-use common::kinds::Direction;
-use common::kinds::EndpointType;
 
 pub const CONTROL_MAX: u64 = 16384;
 

@@ -22,16 +22,17 @@ ghost use Rattle.request.specs.Submit.{
 use crate::answers::Submission;
 use crate::answers::Submitted;
 use crate::judge::TransferRequest;
+use common::kinds::EndpointType;
+use common::kinds::is_control;
+use common::kinds::is_interrupt;
+use common::rows::put_bytes;
 use controller::lent::Readings;
 use descriptor::head::ehci_qh_link;
 use descriptor::setup::setup_packet_bytes;
-use common::rows::put_bytes;
 use pipe::endpoints::Endpoint;
 use pipe::endpoints::Pipe;
 use pipe::endpoints::Request;
 use pipe::endpoints::with_endpoint;
-use common::kinds::is_control;
-use common::kinds::is_interrupt;
 use pool::chain::Chain;
 use pool::chain::Deed;
 use pool::places::Places;
@@ -48,7 +49,6 @@ use schedule::links::head_address;
 use schedule::links::start_overlay;
 use state::state::Ehci;
 use token::chunks::need;
-use common::kinds::EndpointType;
 
 // Run, periodic schedule, asynchronous schedule.
 pub const USBCMD_SCHEDULES: u32 = 0x31;

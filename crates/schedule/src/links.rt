@@ -5,9 +5,9 @@ ghost use Prim.Native.Nat.{_+_, _*_, _≤_, _<_, _^_};
 ghost use lib.Dec.{eqb};
 ghost use lib.ListN.{length};
 ghost use Rattle.schedule.specs.Links.{headAddress, same, precedesOne, searchFrom, predecessorOf, attachedRing, attachedFrames, links, withLinkWord, detached, detachOf, startedOverlay, endedOverlay};
-use descriptor::qtd::EHCI_LINK_TERMINATE;
 use common::rows::fill_words;
 use common::rows::put_words;
+use descriptor::qtd::EHCI_LINK_TERMINATE;
 use state::state::Ehci;
 
 // Who gives way to a head that is unlinked.

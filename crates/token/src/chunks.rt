@@ -3,8 +3,8 @@ ghost use mathlib.Core.Path.{_≡_};
 ghost use Prim.Native.Nat.{_≤_};
 ghost use lib.ListN.{length as len};
 ghost use Rattle.token.specs.Chunks.{chunkCount, chunkLengths, chunksFrom, needOf, zeros};
-use common::kinds::EndpointType;
 use crate::qtd::least;
+use common::kinds::EndpointType;
 
 // The most chunks that a run holds: the largest pool.
 pub const CHUNKS_MAX: u64 = 256;

@@ -2,9 +2,9 @@
 ghost use mathlib.Core.Path.{_≡_};
 ghost use lib.Dec.{eqb};
 ghost use Rattle.token.specs.Plans.{pidFor, statusPid, controlPlan, chunkToken};
-use common::kinds::Direction;
 use crate::qtd::QtdPid;
 use crate::qtd::QtdToken;
+use common::kinds::Direction;
 
 // The data stage, which a control request may lack.
 pub enum DataTd {
