@@ -3,8 +3,7 @@
 --                  A `&mut [T]` passed so is given up for good: of it only `finally` is had, which is what `gave-slice` asks at exit. Nothing of it is particular to this crate
 --     folds        `fold(&*rows, ask)` where rows is a `&mut [Record]` that is used again: it is lent as a `&` for a lifetime of the call, and comes back as it was
 -- Assumes `Given`.
-use mathlib.Core.Bool.{cond}
-use mathlib.Core.Path.{_≡_, refl}
+use mathlib.Core.Path.{_≡_}
 use Prim.Native.Nat.{ℕ}
 use mathlib.Core.List.{List, [], _∷_}
 use lib.ListN.{length}
@@ -20,7 +19,7 @@ use prog.Wp.{Heap, Env, Calls, Loops}
 use ghost.Atoms.{Atoms, sem}
 use contract.Monad.{Fun, fact}
 use sound.WpLaws.{FmC}
-use types.Kit.{Given, Item, Post, Seq, runs, lands, mean, ‵, raw, _⊛_, some, later, _$_, _∵_, !, qed, move, drop, use2, use1, split, join, fjoin, frame, await, done}
+use types.Kit.{Given, Item, Post, Seq, runs, lands, mean, ‵, raw, _⊛_, some, later, _$_, _∵_, !, qed, move, drop, use2, use1, split, join, pick, fjoin, frame, await, done}
 use types.Run.{Opds}
 use types.Tokens.{lft-new, lft-end}
 use denote.Laws.{Is, shows}
@@ -55,8 +54,8 @@ module _ {M : Type 1} {𝓤 : URA M} {H : Heap 𝓤} {A : Atoms 𝓤} {K : Type 
         → Seq K W (i ∷ Γ) (runs C Λ E (seq (call g xs d) rest) p)
     passes t i goes os k =
         use1 W (raw (met 𝓤 H A F c .pre y)) goes $ calls-at t fm (met 𝓤 H A F c) known y (os _) (λ v.
-        use1 W (later (some (λ (r : Res (F .signature) (y .0 .0)). (raw (alive 𝓤 H A (F .signature) (y .0 .0) (y .0 .1)) ⊛ ‵ (typeAt (F .signature .result) (y .0 .0) .own r (v ∷ []))) ⊛ raw (ensured 𝓤 H A F c (y .0 .0) (y .0 .3) (y .1) r)))) (id⊢ 𝓤 _) $ await t tt $ cond t (λ r. split t $ move t (1 ∷ []) $
-        use1 W (some (λ (ws : Lasts F (y .0 .0) (y .0 .3)). ‵ (lasts F (y .0 .0) (y .0 .3) ws) ⊛ raw (c (y .0 .0) (y .0 .3) .ensures (y .1) r (atExit F (y .0 .0) (y .0 .3) ws)))) (id⊢ 𝓤 _) $ cond t (λ ws. split t $ move t (1 ∷ []) $
+        use1 W (later (some (λ (r : Res (F .signature) (y .0 .0)). (raw (alive 𝓤 H A (F .signature) (y .0 .0) (y .0 .1)) ⊛ ‵ (typeAt (F .signature .result) (y .0 .0) .own r (v ∷ []))) ⊛ raw (ensured 𝓤 H A F c (y .0 .0) (y .0 .3) (y .1) r)))) (id⊢ 𝓤 _) $ await t tt $ pick t (λ r. split t $ move t (1 ∷ []) $
+        use1 W (some (λ (ws : Lasts F (y .0 .0) (y .0 .3)). ‵ (lasts F (y .0 .0) (y .0 .3) ws) ⊛ raw (c (y .0 .0) (y .0 .3) .ensures (y .1) r (atExit F (y .0 .0) (y .0 .3) ws)))) (id⊢ 𝓤 _) $ pick t (λ ws. split t $ move t (1 ∷ []) $
         use1 W (raw (fact 𝓤 (φ r ws))) (told r ws) $ heard t (φ r ws) (λ e. move t (1 ∷ []) $ split t $ move t (1 ∷ []) $
         -- [what the result owns; the tokens; lasts; Γ]
         peeks t (typeAt (F .signature .result) (y .0 .0)) (Is (typeAt (F .signature .result) (y .0 .0))) (shows 𝓤 H A (typeAt (F .signature .result) (y .0 .0))) r (v ∷ []) (λ is. drop t $ move t (1 ∷ 0 ∷ []) $ k r v ws e is)))))
@@ -82,7 +81,7 @@ module _ {M : Type 1} {𝓤 : URA M} {H : Heap 𝓤} {A : Atoms 𝓤} {K : Type 
         → Seq K W (‵ (MutSlice (named 0) κ R .own (at-list b o γ zs) (sv b o zs ∷ [])) ∷ ‵ (flft κ q) ∷ Γ) (runs C Λ E (seq (call #pool·fold xs d) rest) p)
     folds t known ask av is-ask good os k =
         lft-new t tt (λ ν. move t (1 ∷ 2 ∷ []) $
-        use2 W (later (some (λ (δ : GName). ‵ (ShrSlice (named 0) (ν ∷ []) R .own (at-list b o δ zs) (sv b o zs ∷ [])) ⊛ ‵ (LentRead R κ q γ b o (ν ∷ []) zs)))) (lends-read R κ q γ b o 𝓤 H A W (named 0) zs (ν ∷ []) (named 0) room) $ await t tt $ cond t (λ δ. split t $
+        use2 W (later (some (λ (δ : GName). ‵ (ShrSlice (named 0) (ν ∷ []) R .own (at-list b o δ zs) (sv b o zs ∷ [])) ⊛ ‵ (LentRead R κ q γ b o (ν ∷ []) zs)))) (lends-read R κ q γ b o 𝓤 H A W (named 0) zs (ν ∷ []) (named 0) room) $ await t tt $ pick t (λ δ. split t $
         -- [the slice lent; what is kept; ν's token; Γ]
         move t (2 ∷ 0 ∷ []) $ join t $
         asks fm fold.ended (fold.clauses 𝓤 H A mem run) known (to-fold 𝓤 H A mem run b o zs ν δ ask av) (λ u. u ≡ viewOf (seenFrom (ask .kind) (ask .length) (ask .limit) 0 (listOf (ask .places)) zs)) (λ r e. id⊢ 𝓤 _) t (‵ (flft (ν ∷ []) fullShare) ⊛ ‵ (ShrSlice (named 0) (ν ∷ []) R .own (at-list b o δ zs) (sv b o zs ∷ [])))

@@ -6,7 +6,6 @@
 --     lends-part       the first k elements are lent so; the rest waits in LentPart.  comes-part  once κ is over all are back, the first ones at the last list
 --     lit-big          the operand `intBig w n`, which a large literal is, as the count 1024
 -- Assumes `Given`.
-use mathlib.Core.Bool.{cond}
 use mathlib.Core.Path.{_≡_, refl, sym, _∙_, ap, subst}
 use Prim.Native.Nat.{ℕ, _≤_}
 use mathlib.Core.List.{List, [], _∷_, _++_}
@@ -19,7 +18,7 @@ use base.Logic.{SProp, ent, sep, ex, via, guardI}
 use base.Fml.{Lft, GName, Fml, fsep, fat, fdead, flent}
 use prog.Wp.{Heap, Env}
 use ghost.Atoms.{Atoms, sem}
-use types.Kit.{Given, Item, ‵, raw, _⊛_, some, later, _$_, _∵_, !, qed, by, move, drop, use1, use2, use3, split, rewrite, fsplit, fjoin, fpick, fpack, feqL, feqI, frame, await, updating, now as at-once, show, done}
+use types.Kit.{Given, Item, ‵, raw, _⊛_, some, later, _$_, _∵_, !, qed, by, move, drop, use1, use2, use3, split, pick, rewrite, fsplit, fjoin, fpick, fpack, feqL, feqI, frame, await, updating, now as at-once, show, done}
 use types.SemTy.{cells, Arr}
 use types.Run.{Opd}
 use types.Share.{arr-parts}
@@ -94,7 +93,7 @@ module _ (R : RattleType) (n b : ℕ) (rs : List (R .Denot)) (k : ℕ) (κ : Lft
         qed W (‵ (Elems R n b rs) ∷ []) ∵ updating ! $ fsplit ! $ drop ! $ use1 W (‵ (cells (mem R) rs b 0)) (whole-in 𝓤 H A W R rs b 0) $
         rewrite ! 0 (λ (ys : List (R .Denot)). ‵ (cells (mem R) ys b 0)) (sym (take-append-drop k rs)) refl $
         use1 W (‵ (cells (mem R) (take k rs) b 0) ⊛ ‵ (Rest (length (take k rs)))) (cut-app 𝓤 H A (mem R) (take k rs) (drop-list k rs) b 0) $ split ! $
-        use1 W (later (some (λ (γ : GName). ‵ (MutSlice (named 0) κ R .own (slice R n b γ (take k rs)) (sliceVal (b, 0) (length (take k rs)) ∷ [])) ⊛ ‵ (flent κ (Held R (length (take k rs)) b 0 γ))))) (lends-slice 𝓤 H A W R (named 0) κ (take k rs) b 0 room) $ await ! tt $ cond ! (λ γ. split ! $
+        use1 W (later (some (λ (γ : GName). ‵ (MutSlice (named 0) κ R .own (slice R n b γ (take k rs)) (sliceVal (b, 0) (length (take k rs)) ∷ [])) ⊛ ‵ (flent κ (Held R (length (take k rs)) b 0 γ))))) (lends-slice 𝓤 H A W R (named 0) κ (take k rs) b 0 room) $ await ! tt $ pick ! (λ γ. split ! $
         at-once ! $ show ! (λ (γ′ : GName). sep 𝓤 (sem 𝓤 H A (MutSlice (named 0) κ R .own (slice R n b γ′ (take k rs)) (sliceVal (b, 0) (length (take k rs)) ∷ []))) (sem 𝓤 H A (LentPart (length (take k rs)) γ′))) γ $ frame ! $ fjoin ! $ done !)
 
     pub lends-part : length rs ≡ n → k ≤ n → Room R n → LendsPart k
