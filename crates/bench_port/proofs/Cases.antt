@@ -3,8 +3,8 @@ use Prim.Native.Nat.{ℕ}
 use mathlib.Core.Path.{_≡_, refl}
 use mathlib.Core.List.{List}
 use borrow.Author.Tests.{eq-eqb, ne-eqb}
-use Rattle.token.specs.declared.request.Direction.{Direction}
-use Rattle.token.specs.declared.request.EndpointType.{EndpointType}
+use Rattle.common.specs.declared.kinds.Direction.{Direction}
+use Rattle.common.specs.declared.kinds.EndpointType.{EndpointType}
 use Rattle.pipe.specs.Endpoints.{directionOf, kindOf}
 use Rattle.controller.specs.declared.lent.Readings.{Readings}
 use Rattle.request.specs.declared.judge.TransferRequest.{TransferRequest}

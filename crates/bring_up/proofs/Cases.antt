@@ -1,7 +1,7 @@
 -- The returns of the bring-up calls, and the loop over the slots.
 use Prim.Native.Nat.{ℕ, suc, _+_, _-_, _≤_, _<_}
 use mathlib.Core.Path.{_≡_, refl, sym, _∙_}
-use mathlib.Core.Bool.{Bool, true, false, not}
+use mathlib.Core.Bool.{Bool, true, false, not, _||_}
 use native.Mathlib.Decide.{ℕ-discrete as decEq}
 use native.Mathlib.Numerals.{add-one}
 use native.Mathlib.Omega.{arith}
@@ -11,23 +11,22 @@ use lib.ListN.{getD}
 use Rattle.register.specs.Bits.{withBits, withoutBits, anyOf}
 use Rattle.register.specs.Writes.{noWrites, andThen}
 use Rattle.register.specs.declared.writes.Writes.{Writes}
-use Rattle.settings.specs.Tests.{either}
-use Rattle.settings.proofs.Every.{either-assoc}
+use Rattle.common.proofs.TestLaws.{either-assoc}
 use Rattle.slot.specs.declared.slot.Slot.{Slot}
 use Rattle.state.specs.declared.state.Ehci.{Ehci}
 use Rattle.state.specs.Ranges.{inRanges}
 use Rattle.state.specs.Slots.{slotAt}
 use Rattle.state.specs.State.{withBringUp}
 use Rattle.state.proofs.RangesLaws.{ranges-tell}
-use Rattle.answer.specs.declared.answer.Answer.the-variants.{Done}
-use Rattle.answer.specs.declared.answer.Refusal.the-variants.{InvalidParameter, QueueFull, Timeout}
+use Rattle.common.specs.declared.answer.Answer.the-variants.{Done}
+use Rattle.common.specs.declared.answer.Refusal.the-variants.{InvalidParameter, QueueFull, Timeout}
 use Rattle.pipe.specs.Endpoints.{decoded, endpointAt}
 use Rattle.controller.specs.Readers.{holdsRequest, isUncollected}
-use Rattle.bring_up.specs.declared.reads.NextRead.the-variants.{Nothing, Register}
+use Rattle.common.specs.declared.reads.NextRead.the-variants.{Nothing, Register}
 use Rattle.bring_up.specs.declared.stage.Stage.{Stage}
 use Rattle.bring_up.specs.declared.stage.Stage.the-variants.{Stop, Halting, Reset, Resetting, Run, Starting}
 use Rattle.bring_up.specs.declared.stage.Moved.{Moved}
-use Rattle.bring_up.specs.declared.calls.BroughtUp.{BroughtUp}
+use Rattle.bring_up.specs.declared.answers.BroughtUp.{BroughtUp}
 use Rattle.bring_up.specs.BringUp.{anyUncollected, heldIn, stageOf, registerOf, ready, command, setUp, stageWrites, onTo, movedOn, refusedBringUp, startOf, onwardOf, againOf, stepOf}
 
 -- ---- the slots
@@ -50,19 +49,19 @@ held-is s k h = rw (lt-ltb k 32 h) (by (decEq (slotAt s k .phase) 1))
     by (yes q) = idle-holds (slotAt s k) q
     by (no n) = decoded-holds (slotAt s k) _ _ n refl refl
 
-either-false : (a : Bool) → either a false ≡ a
+either-false : (a : Bool) → (a || false) ≡ a
 either-false true = refl
 either-false false = refl
 
 pub busy-turn : (s : Ehci) (k : ℕ) (b : Bool) → k < 32
-    → either (either b (heldIn (getD (s .phases) k 0))) (anyUncollected (k + 1) (32 - (k + 1)) s) ≡ either b (anyUncollected k (32 - k) s)
+    → (b || heldIn (getD (s .phases) k 0) || anyUncollected (k + 1) (32 - (k + 1)) s) ≡ (b || anyUncollected k (32 - k) s)
 unfolding anyUncollected
 busy-turn s k b h = rw (held-is s k h, add-one k, more) (either-assoc b _ _)
   where
     more : 32 - k ≡ suc (32 - suc k)
     more = omega arith
 
-pub busy-done : (s : Ehci) (k : ℕ) (b all : Bool) → 32 ≤ k → either b (anyUncollected k (32 - k) s) ≡ all → b ≡ all
+pub busy-done : (s : Ehci) (k : ℕ) (b all : Bool) → 32 ≤ k → (b || anyUncollected k (32 - k) s) ≡ all → b ≡ all
 unfolding anyUncollected
 busy-done s k b all h e = sym (either-false b) ∙ (rw none at e)
   where

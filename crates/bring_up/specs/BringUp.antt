@@ -1,50 +1,45 @@
 -- Document 01, "Ports and bring-up": bringing the controller up, one register reading a step.
 use Prim.Native.Nat.{ℕ, zero, suc, _+_}
-use mathlib.Core.Bool.{Bool, true, false, not}
+use mathlib.Core.Bool.{Bool, true, false, not, _||_, cond}
 use mathlib.Core.List.{[], _∷_}
 use lib.Dec.{eqb, ltb}
 use Rattle.register.specs.Bits.{withBits, withoutBits, anyOf}
 use Rattle.register.specs.Writes.{noWrites, andThen}
 use Rattle.register.specs.declared.writes.Writes.{Writes}
-use Rattle.settings.specs.Tests.{either}
 use Rattle.state.specs.declared.state.Ehci.{Ehci}
 use Rattle.state.specs.Ranges.{inRanges}
 use Rattle.state.specs.State.{withBringUp}
-use Rattle.answer.specs.Answers.{first, settle}
+use Rattle.common.specs.Answers.{first, settle}
 use Rattle.controller.specs.Readers.{isUncollected}
-use Rattle.answer.specs.declared.answer.Answer.the-variants.{Done, Refused}
-use Rattle.answer.specs.declared.answer.Refusal.{Refusal}
-use Rattle.answer.specs.declared.answer.Refusal.the-variants.{InvalidParameter, QueueFull, Timeout}
+use Rattle.common.specs.declared.answer.Answer.the-variants.{Done, Refused}
+use Rattle.common.specs.declared.answer.Refusal.{Refusal}
+use Rattle.common.specs.declared.answer.Refusal.the-variants.{InvalidParameter, QueueFull, Timeout}
 use Rattle.schedule.specs.Bell.{commandWord}
-use Rattle.bring_up.specs.declared.reads.NextRead.the-variants.{Nothing, Register}
+use Rattle.common.specs.declared.reads.NextRead.the-variants.{Nothing, Register}
 use Rattle.bring_up.specs.declared.stage.Stage.{Stage}
 use Rattle.bring_up.specs.declared.stage.Stage.the-variants.{Stop, Halting, Reset, Resetting, Run, Starting}
 use Rattle.bring_up.specs.declared.stage.Moved.{Moved}
-use Rattle.bring_up.specs.declared.calls.BroughtUp.{BroughtUp}
+use Rattle.bring_up.specs.declared.answers.BroughtUp.{BroughtUp}
 
 -- ---- any slot has an uncollected request: of n slots, from slot k on
 
 unfoldable pub anyUncollected : ℕ → ℕ → Ehci → Bool
 anyUncollected k zero s = false
-anyUncollected k (suc n) s = either (isUncollected s k) (anyUncollected (suc k) n s)
+anyUncollected k (suc n) s = isUncollected s k || anyUncollected (suc k) n s
 
 -- a slot's phase, by number, where it holds one: linked or unlinking
 abbrev pub heldIn : ℕ → Bool
-heldIn phase = either (eqb phase 2) (eqb phase 3)
+heldIn phase = eqb phase 2 || eqb phase 3
 
 -- ---- the stages, numbered 1 to 6
 
-abbrev pub pickStage : Bool → Stage → Stage → Stage
-pickStage true a b = a
-pickStage false a b = b
-
 abbrev pub stageOf : ℕ → Stage
 stageOf n =
-    pickStage (eqb n 1) Stop
-    (pickStage (eqb n 2) Halting
-    (pickStage (eqb n 3) Reset
-    (pickStage (eqb n 4) Resetting
-    (pickStage (eqb n 5) Run
+    cond (eqb n 1) Stop
+    (cond (eqb n 2) Halting
+    (cond (eqb n 3) Reset
+    (cond (eqb n 4) Resetting
+    (cond (eqb n 5) Run
     Starting))))
 
 -- the register that is read: USBCMD 0, USBSTS 4
@@ -113,10 +108,6 @@ startOf s =
       wait = 0;
     })
 
-abbrev pub pickBroughtUp : Bool → BroughtUp → BroughtUp → BroughtUp
-pickBroughtUp true a b = a
-pickBroughtUp false a b = b
-
 -- the reading is ready
 unfoldable pub onwardOf : Ehci → Stage → ℕ → BroughtUp
 onwardOf s stage v =
@@ -131,7 +122,7 @@ onwardOf s stage v =
 -- it is not: read again, "the W-th read of a wait is not ready" is 7
 unfoldable pub againOf : Ehci → ℕ → BroughtUp
 againOf s register =
-    pickBroughtUp (ltb (s .waited + 1) (s .settings .wait))
+    cond (ltb (s .waited + 1) (s .settings .wait))
     (record {
       answer = Done;
       state = withBringUp s 0 (s .step) (s .waited + 1) (s .enabled);
@@ -142,7 +133,7 @@ againOf s register =
     (refusedBringUp (withBringUp s 0 0 0 (s .enabled)) Timeout)
 
 abbrev pub stageStep : Ehci → Stage → ℕ → BroughtUp
-stageStep s stage v = pickBroughtUp (ready stage v) (onwardOf s stage v) (againOf s (registerOf stage))
+stageStep s stage v = cond (ready stage v) (onwardOf s stage v) (againOf s (registerOf stage))
 
 -- "a step with none begun (or after 7): 1"
 unfoldable pub stepOf : Ehci → ℕ → BroughtUp

@@ -12,14 +12,14 @@ use Rattle.register.specs.declared.writes.Writes.{Writes}
 use Rattle.state.specs.declared.state.Ehci.{Ehci}
 use Rattle.state.specs.Ranges.{inRanges}
 use Rattle.state.specs.State.{withBringUp}
-use Rattle.answer.specs.Answers.{numberOf}
-use Rattle.answer.specs.declared.answer.Refusal.the-variants.{Timeout}
+use Rattle.common.specs.Answers.{numberOf}
+use Rattle.common.specs.declared.answer.Refusal.the-variants.{Timeout}
 use Rattle.schedule.specs.Bell.{commandWord}
-use Rattle.bring_up.specs.declared.reads.NextRead.{NextRead}
-use Rattle.bring_up.specs.declared.reads.NextRead.the-variants.{Nothing, Register}
+use Rattle.common.specs.declared.reads.NextRead.{NextRead}
+use Rattle.common.specs.declared.reads.NextRead.the-variants.{Nothing, Register}
 use Rattle.bring_up.specs.declared.stage.Stage.{Stage}
 use Rattle.bring_up.specs.declared.stage.Stage.the-variants.{Stop, Halting, Reset, Resetting, Run, Starting}
-use Rattle.bring_up.specs.declared.calls.BroughtUp.{BroughtUp}
+use Rattle.bring_up.specs.declared.answers.BroughtUp.{BroughtUp}
 use Rattle.bring_up.specs.BringUp.{anyUncollected, stageOf, registerOf, ready, refusedBringUp, startOf, stepOf}
 
 -- ---- what is seen of an answer: 01's number, the writes, the milliseconds, the register to read, and whether it runs

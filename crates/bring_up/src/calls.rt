@@ -1,8 +1,8 @@
 // The public calls: start and step.
 ghost use mathlib.Core.Path.{_≡_};
 ghost use Rattle.bring_up.specs.BringUp.{startOf, stepOf};
+use crate::answers::BroughtUp;
 use crate::busy::any_uncollected;
-use crate::reads::NextRead;
 use crate::stage::is_ready;
 use crate::stage::moved_on;
 use crate::stage::register_of;
@@ -10,22 +10,14 @@ use crate::stage::stage_of;
 use crate::stage::stage_writes;
 use crate::wait::refuse;
 use crate::wait::wait_again;
-use answer::answer::Answer;
-use answer::answer::Refusal;
-use register::ehci::USBCMD;
-use register::ehci::USBINTR;
+use common::answer::Answer;
+use common::answer::Refusal;
+use common::reads::NextRead;
+use register::operational::USBCMD;
+use register::operational::USBINTR;
 use register::writes::Writes;
 use state::ranges::in_ranges;
 use state::state::Ehci;
-
-// What a start or a step leaves: its writes, then the milliseconds to wait, then the register to read.
-pub struct BroughtUp {
-    pub answer: Answer,
-    pub state: Ehci,
-    pub writes: Writes,
-    pub read: NextRead,
-    pub wait: u32,
-}
 
 // Begins, also where one is begun or the controller runs.
 pub fn start(mut state: Ehci) -> BroughtUp

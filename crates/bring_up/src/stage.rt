@@ -11,27 +11,27 @@ ghost use Rattle.bring_up.specs.BringUp.{
   onTo,
   movedOn,
 };
-use crate::reads::NextRead;
+use common::reads::NextRead;
 use register::bits::any_of;
 use register::bits::with_bits;
 use register::bits::without_bits;
-use register::ehci::ASYNCLISTADDR;
-use register::ehci::CONFIGFLAG;
-use register::ehci::CTRLDSSEGMENT;
-use register::ehci::PERIODICLISTBASE;
-use register::ehci::USBCMD;
-use register::ehci::USBCMD_ASYNC_ENABLE;
-use register::ehci::USBCMD_HCRESET;
-use register::ehci::USBCMD_PERIODIC_ENABLE;
-use register::ehci::USBCMD_RUN_STOP;
-use register::ehci::USBSTS;
-use register::ehci::USBSTS_FRAME_LIST_ROLLOVER;
-use register::ehci::USBSTS_HALTED;
-use register::ehci::USBSTS_HOST_SYSTEM_ERROR;
-use register::ehci::USBSTS_INTERRUPT_ASYNC_ADVANCE;
-use register::ehci::USBSTS_PORT_CHANGE;
-use register::ehci::USBSTS_USBERRINT;
-use register::ehci::USBSTS_USBINT;
+use register::operational::ASYNCLISTADDR;
+use register::operational::CONFIGFLAG;
+use register::operational::CTRLDSSEGMENT;
+use register::operational::PERIODICLISTBASE;
+use register::operational::USBCMD;
+use register::operational::USBCMD_ASYNC_ENABLE;
+use register::operational::USBCMD_HCRESET;
+use register::operational::USBCMD_PERIODIC_ENABLE;
+use register::operational::USBCMD_RUN_STOP;
+use register::operational::USBSTS;
+use register::operational::USBSTS_FRAME_LIST_ROLLOVER;
+use register::operational::USBSTS_HALTED;
+use register::operational::USBSTS_HOST_SYSTEM_ERROR;
+use register::operational::USBSTS_INTERRUPT_ASYNC_ADVANCE;
+use register::operational::USBSTS_PORT_CHANGE;
+use register::operational::USBSTS_USBERRINT;
+use register::operational::USBSTS_USBINT;
 use register::writes::Writes;
 use schedule::bell::command_word;
 

@@ -2,10 +2,10 @@
 ghost use mathlib.Core.Path.{_≡_};
 ghost use Prim.Native.Nat.{_<_};
 ghost use Rattle.bring_up.specs.BringUp.{refusedBringUp, againOf};
-use crate::calls::BroughtUp;
-use crate::reads::NextRead;
-use answer::answer::Answer;
-use answer::answer::Refusal;
+use crate::answers::BroughtUp;
+use common::answer::Answer;
+use common::answer::Refusal;
+use common::reads::NextRead;
 use register::writes::Writes;
 use state::state::Ehci;
 

@@ -5,7 +5,7 @@ use mathlib.Core.Path.{_≡_}
 use mathlib.Core.List.{List, [], _∷_, _++_, append-assoc}
 use native.Mathlib.Omega.{arith}
 use lib.ListN.{getD, length, length-append, length-take, take}
-use Rattle.opening.specs.Rows.{putAt}
+use Rattle.common.specs.Rows.{putAt}
 use Rattle.pool.specs.Chains.{blank}
 use Rattle.register.specs.declared.writes.Writes.{Writes}
 use Rattle.state.specs.declared.state.Ehci.{Ehci}

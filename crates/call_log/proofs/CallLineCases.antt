@@ -2,8 +2,8 @@
 use Prim.Native.Nat.{ℕ}
 use mathlib.Core.Path.{_≡_, refl}
 use mathlib.Core.List.{[], _∷_}
-use Rattle.bring_up.specs.declared.reads.NextRead.{NextRead}
-use Rattle.bring_up.specs.declared.reads.NextRead.the-variants as N
+use Rattle.common.specs.declared.reads.NextRead.{NextRead}
+use Rattle.common.specs.declared.reads.NextRead.the-variants as N
 use Rattle.call_log.specs.CallLine.{callLine, registerPart, stepLine}
 use Rattle.call_log.specs.Lines.{lineOf, saidLine}
 use Rattle.call_log.specs.declared.line.Part.{Part}

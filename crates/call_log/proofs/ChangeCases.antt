@@ -1,18 +1,17 @@
 -- What a turn of a loop over a row puts, and that each line is short enough.
 use Prim.Native.Nat.{ℕ, zero, suc, _+_, _*_, _/_, _%_, _≤_, _<_}
-use mathlib.Core.Bool.{Bool, true, false, not}
+use mathlib.Core.Bool.{Bool, true, false, not, _||_, cond}
 use mathlib.Core.Path.{_≡_, refl, sym, ap, _∙_}
 use mathlib.Core.List.{List, [], _∷_, _++_}
 use native.Mathlib.Numerals.{add-one}
 use native.Mathlib.Omega.{arith}
 use lib.Dec.{eqb}
 use lib.ListN.{getD, length, length-append}
-use Rattle.opening.specs.Rows.{putAt}
+use Rattle.common.specs.Rows.{putAt}
 use Rattle.pool.specs.Chains.{blank}
 use Rattle.register.specs.declared.writes.Write.{Write}
 use Rattle.register.specs.Writes.{writeOf}
-use Rattle.settings.specs.Tests.{either}
-use Rattle.text.specs.Text.{decimal, hex, onlyIf, pick}
+use Rattle.text.specs.Text.{decimal, hex, onlyIf}
 use Rattle.text.proofs.LineLaws.{getD-any, hidden, only-most, shown}
 use Rattle.text.proofs.TextLaws.{decimal-length, hex-length}
 use Rattle.descriptor.specs.declared.qtd.QueueTransferDescriptor.{QueueTransferDescriptor}
@@ -47,7 +46,7 @@ head-most i b a = only-most (not (eqb b a)) (headLine (i / 17) (i % 17) a) 53 (h
 
 pub port-most : (all : Bool) (i b a : ℕ) → length (portChange all i b a) ≤ 44
 unfolding portChange
-port-most all i b a = only-most (either all (not (eqb b a))) (portLine (i + 1) a) 44 (port-line-most (i + 1) a)
+port-most all i b a = only-most (all || not (eqb b a)) (portLine (i + 1) a) 44 (port-line-most (i + 1) a)
 
 pub line-shown : (o : List ℕ) (at : ℕ) (t : Bool) (l p : List ℕ) (r : ℕ) (line : Line) → t ≡ true → lineBytes line ≡ l
     → p ≡ putAt o at (lineBytes line) → r ≡ at + length (lineBytes line)
@@ -83,7 +82,7 @@ module _ (b a : List ℕ) (i first : ℕ) (on : Bool) (o : on ≡ goesOn b a i) 
   unfolding frameChange
   frame-said ends e = rw (e, o, f)
 
-  pub first-turn : (r : ℕ) → r ≡ pick on first (i + 1) → r ≡ firstOf b a (i + 1)
+  pub first-turn : (r : ℕ) → r ≡ cond on first (i + 1) → r ≡ firstOf b a (i + 1)
   unfolding firstOf
   first-turn r e = e ∙ rw (o, f) (sym (ap (firstOf b a) (add-one i)))
 

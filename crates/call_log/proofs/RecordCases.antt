@@ -7,8 +7,7 @@ use borrow.Author.Tests.{eq-eqb, ne-eqb}
 use lib.Dec.{eqb, lit<}
 use lib.ListN.{length}
 use Rattle.call_log.specs.Fields.{fieldsOf}
-use Rattle.call_log.specs.Records.{entryOf, judged, judgedAs}
-use Rattle.text.specs.Text.{pick}
+use Rattle.call_log.specs.Records.{entryOf, entryFrom, judgedAs}
 use Rattle.call_log.specs.declared.fields.Fields.{Fields}
 use Rattle.call_log.specs.declared.record.Entry.{Entry}
 use Rattle.call_log.specs.declared.record.Entry.the-variants.{Bad}
@@ -78,6 +77,6 @@ pub entry-cut : (bs : List ℕ) → (length bs ≡ 64 → ⊥) → Bad ≡ entry
 unfolding entryOf
 entry-cut bs h = rw (ne-eqb (length bs) 64 h)
 
-pub entry-whole : (bs : List ℕ) (f : Fields) (r : Entry) → length bs ≡ 64 → f ≡ fieldsOf bs → r ≡ judged f → r ≡ entryOf bs
+pub entry-whole : (bs : List ℕ) (f : Fields) (r : Entry) → length bs ≡ 64 → f ≡ fieldsOf bs → r ≡ entryFrom f → r ≡ entryOf bs
 unfolding entryOf
 entry-whole bs f r h e g = rw (eq-eqb (length bs) 64 h, ← e) g

@@ -1,6 +1,6 @@
 -- A record that is written is read as what was written, and nothing else is read as it.
 use Prim.Native.Nat.{ℕ, _+_, _%_, _^_, _≤_, _<_}
-use mathlib.Core.Bool.{Bool, true, false}
+use mathlib.Core.Bool.{Bool, true, false, _&&_, cond}
 use mathlib.Core.Path.{_≡_, refl, sym, ap, _∙_}
 use mathlib.Core.List.{List}
 use native.Mathlib.Nat.{mod-eq-of-lt}
@@ -11,16 +11,14 @@ use lib.ListN.{length}
 use Rattle.ehci.specs.declared.call.Call.{Call}
 use Rattle.ehci.specs.declared.call.Call.the-variants as C
 use Rattle.pipe.specs.Endpoints.{directionNumber, directionOf, flagNumber, flagOf, kindNumber, kindOf}
-use Rattle.token.specs.declared.request.EndpointType.{EndpointType}
-use Rattle.token.specs.declared.request.EndpointType.the-variants as K
-use Rattle.token.specs.declared.request.Direction.{Direction}
-use Rattle.token.specs.declared.request.Direction.the-variants as D
+use Rattle.common.specs.declared.kinds.EndpointType.{EndpointType}
+use Rattle.common.specs.declared.kinds.EndpointType.the-variants as K
+use Rattle.common.specs.declared.kinds.Direction.{Direction}
+use Rattle.common.specs.declared.kinds.Direction.the-variants as D
 use Rattle.pipe.proofs.EndpointLaws.{direction-back, direction-there, flag-back, flag-there, kind-back, kind-there}
-use Rattle.settings.proofs.SettingsCases.{both-first, both-second}
-use Rattle.settings.specs.Tests.{both, either}
-use Rattle.text.specs.Text.{pick}
+use Rattle.common.proofs.TestLaws.{both-first, both-second}
 use Rattle.call_log.specs.Fields.{bytesOf, bytesSpare, fieldsOf, numbersSpare, usedOr0}
-use Rattle.call_log.specs.Records.{row, callFields, fieldsFor, recordOf, guarded, spare, isWord, plain, settingsOf, openEntry, bringUpStep, openEndpoint, close, setAddress, setPacketSize, submit, writeback, readingsOf, slotTest, cancel, collect, acknowledge, drain, scanStep, portPower, judgedAs, judged, entryOf, OwnCall, Own, NumbersFit, Representable}
+use Rattle.call_log.specs.Records.{row, callFields, fieldsFor, recordOf, guarded, spare, isWord, plain, settingsOf, openEntry, bringUpStep, openEndpoint, close, setAddress, setPacketSize, submit, writeback, readingsOf, slotTest, cancel, collect, acknowledge, drain, scanStep, portPower, judgedAs, entryFrom, entryOf, OwnCall, Own, NumbersFit, Representable}
 use Rattle.call_log.specs.declared.fields.Fields.{Fields}
 use Rattle.call_log.specs.declared.record.Entry.{Entry}
 use Rattle.call_log.specs.declared.record.Entry.the-variants.{Open, Call as ACall, StartScan, ScanStep, PortPower, Bad}
@@ -46,59 +44,59 @@ module _ (f : Fields) (bytes numbers : ℕ) (t : spare f bytes numbers ≡ true)
 
   spare-b1 : bytes < 1 → 0 ≡ f .b1
   unfolding bytesSpare
-  spare-b1 = unused 1 bytes (f .b1) (both-first (usedOr0 1 bytes (f .b1)) (usedOr0 2 bytes (f .b2)) (both-first (both (usedOr0 1 bytes (f .b1)) (usedOr0 2 bytes (f .b2))) (usedOr0 3 bytes (f .b3)) (both-first (both (both (usedOr0 1 bytes (f .b1)) (usedOr0 2 bytes (f .b2))) (usedOr0 3 bytes (f .b3))) (eqb (f .b4) 0) (both-first (both (both (both (usedOr0 1 bytes (f .b1)) (usedOr0 2 bytes (f .b2))) (usedOr0 3 bytes (f .b3))) (eqb (f .b4) 0)) (eqb (f .b5) 0) (both-first (both (both (both (both (usedOr0 1 bytes (f .b1)) (usedOr0 2 bytes (f .b2))) (usedOr0 3 bytes (f .b3))) (eqb (f .b4) 0)) (eqb (f .b5) 0)) (eqb (f .b6) 0) (both-first (both (both (both (both (both (usedOr0 1 bytes (f .b1)) (usedOr0 2 bytes (f .b2))) (usedOr0 3 bytes (f .b3))) (eqb (f .b4) 0)) (eqb (f .b5) 0)) (eqb (f .b6) 0)) (eqb (f .b7) 0) small))))))
+  spare-b1 = unused 1 bytes (f .b1) (both-first (usedOr0 1 bytes (f .b1)) (usedOr0 2 bytes (f .b2)) (both-first (usedOr0 1 bytes (f .b1) && usedOr0 2 bytes (f .b2)) (usedOr0 3 bytes (f .b3)) (both-first (usedOr0 1 bytes (f .b1) && usedOr0 2 bytes (f .b2) && usedOr0 3 bytes (f .b3)) (eqb (f .b4) 0) (both-first (usedOr0 1 bytes (f .b1) && usedOr0 2 bytes (f .b2) && usedOr0 3 bytes (f .b3) && eqb (f .b4) 0) (eqb (f .b5) 0) (both-first (usedOr0 1 bytes (f .b1) && usedOr0 2 bytes (f .b2) && usedOr0 3 bytes (f .b3) && eqb (f .b4) 0 && eqb (f .b5) 0) (eqb (f .b6) 0) (both-first (usedOr0 1 bytes (f .b1) && usedOr0 2 bytes (f .b2) && usedOr0 3 bytes (f .b3) && eqb (f .b4) 0 && eqb (f .b5) 0 && eqb (f .b6) 0) (eqb (f .b7) 0) small))))))
 
   spare-b2 : bytes < 2 → 0 ≡ f .b2
   unfolding bytesSpare
-  spare-b2 = unused 2 bytes (f .b2) (both-second (usedOr0 1 bytes (f .b1)) (usedOr0 2 bytes (f .b2)) (both-first (both (usedOr0 1 bytes (f .b1)) (usedOr0 2 bytes (f .b2))) (usedOr0 3 bytes (f .b3)) (both-first (both (both (usedOr0 1 bytes (f .b1)) (usedOr0 2 bytes (f .b2))) (usedOr0 3 bytes (f .b3))) (eqb (f .b4) 0) (both-first (both (both (both (usedOr0 1 bytes (f .b1)) (usedOr0 2 bytes (f .b2))) (usedOr0 3 bytes (f .b3))) (eqb (f .b4) 0)) (eqb (f .b5) 0) (both-first (both (both (both (both (usedOr0 1 bytes (f .b1)) (usedOr0 2 bytes (f .b2))) (usedOr0 3 bytes (f .b3))) (eqb (f .b4) 0)) (eqb (f .b5) 0)) (eqb (f .b6) 0) (both-first (both (both (both (both (both (usedOr0 1 bytes (f .b1)) (usedOr0 2 bytes (f .b2))) (usedOr0 3 bytes (f .b3))) (eqb (f .b4) 0)) (eqb (f .b5) 0)) (eqb (f .b6) 0)) (eqb (f .b7) 0) small))))))
+  spare-b2 = unused 2 bytes (f .b2) (both-second (usedOr0 1 bytes (f .b1)) (usedOr0 2 bytes (f .b2)) (both-first (usedOr0 1 bytes (f .b1) && usedOr0 2 bytes (f .b2)) (usedOr0 3 bytes (f .b3)) (both-first (usedOr0 1 bytes (f .b1) && usedOr0 2 bytes (f .b2) && usedOr0 3 bytes (f .b3)) (eqb (f .b4) 0) (both-first (usedOr0 1 bytes (f .b1) && usedOr0 2 bytes (f .b2) && usedOr0 3 bytes (f .b3) && eqb (f .b4) 0) (eqb (f .b5) 0) (both-first (usedOr0 1 bytes (f .b1) && usedOr0 2 bytes (f .b2) && usedOr0 3 bytes (f .b3) && eqb (f .b4) 0 && eqb (f .b5) 0) (eqb (f .b6) 0) (both-first (usedOr0 1 bytes (f .b1) && usedOr0 2 bytes (f .b2) && usedOr0 3 bytes (f .b3) && eqb (f .b4) 0 && eqb (f .b5) 0 && eqb (f .b6) 0) (eqb (f .b7) 0) small))))))
 
   spare-b3 : bytes < 3 → 0 ≡ f .b3
   unfolding bytesSpare
-  spare-b3 = unused 3 bytes (f .b3) (both-second (both (usedOr0 1 bytes (f .b1)) (usedOr0 2 bytes (f .b2))) (usedOr0 3 bytes (f .b3)) (both-first (both (both (usedOr0 1 bytes (f .b1)) (usedOr0 2 bytes (f .b2))) (usedOr0 3 bytes (f .b3))) (eqb (f .b4) 0) (both-first (both (both (both (usedOr0 1 bytes (f .b1)) (usedOr0 2 bytes (f .b2))) (usedOr0 3 bytes (f .b3))) (eqb (f .b4) 0)) (eqb (f .b5) 0) (both-first (both (both (both (both (usedOr0 1 bytes (f .b1)) (usedOr0 2 bytes (f .b2))) (usedOr0 3 bytes (f .b3))) (eqb (f .b4) 0)) (eqb (f .b5) 0)) (eqb (f .b6) 0) (both-first (both (both (both (both (both (usedOr0 1 bytes (f .b1)) (usedOr0 2 bytes (f .b2))) (usedOr0 3 bytes (f .b3))) (eqb (f .b4) 0)) (eqb (f .b5) 0)) (eqb (f .b6) 0)) (eqb (f .b7) 0) small)))))
+  spare-b3 = unused 3 bytes (f .b3) (both-second (usedOr0 1 bytes (f .b1) && usedOr0 2 bytes (f .b2)) (usedOr0 3 bytes (f .b3)) (both-first (usedOr0 1 bytes (f .b1) && usedOr0 2 bytes (f .b2) && usedOr0 3 bytes (f .b3)) (eqb (f .b4) 0) (both-first (usedOr0 1 bytes (f .b1) && usedOr0 2 bytes (f .b2) && usedOr0 3 bytes (f .b3) && eqb (f .b4) 0) (eqb (f .b5) 0) (both-first (usedOr0 1 bytes (f .b1) && usedOr0 2 bytes (f .b2) && usedOr0 3 bytes (f .b3) && eqb (f .b4) 0 && eqb (f .b5) 0) (eqb (f .b6) 0) (both-first (usedOr0 1 bytes (f .b1) && usedOr0 2 bytes (f .b2) && usedOr0 3 bytes (f .b3) && eqb (f .b4) 0 && eqb (f .b5) 0 && eqb (f .b6) 0) (eqb (f .b7) 0) small)))))
 
   spare-b4 : 0 ≡ f .b4
   unfolding bytesSpare
-  spare-b4 = sym (eqb-true (f .b4) 0 (both-second (both (both (usedOr0 1 bytes (f .b1)) (usedOr0 2 bytes (f .b2))) (usedOr0 3 bytes (f .b3))) (eqb (f .b4) 0) (both-first (both (both (both (usedOr0 1 bytes (f .b1)) (usedOr0 2 bytes (f .b2))) (usedOr0 3 bytes (f .b3))) (eqb (f .b4) 0)) (eqb (f .b5) 0) (both-first (both (both (both (both (usedOr0 1 bytes (f .b1)) (usedOr0 2 bytes (f .b2))) (usedOr0 3 bytes (f .b3))) (eqb (f .b4) 0)) (eqb (f .b5) 0)) (eqb (f .b6) 0) (both-first (both (both (both (both (both (usedOr0 1 bytes (f .b1)) (usedOr0 2 bytes (f .b2))) (usedOr0 3 bytes (f .b3))) (eqb (f .b4) 0)) (eqb (f .b5) 0)) (eqb (f .b6) 0)) (eqb (f .b7) 0) small)))))
+  spare-b4 = sym (eqb-true (f .b4) 0 (both-second (usedOr0 1 bytes (f .b1) && usedOr0 2 bytes (f .b2) && usedOr0 3 bytes (f .b3)) (eqb (f .b4) 0) (both-first (usedOr0 1 bytes (f .b1) && usedOr0 2 bytes (f .b2) && usedOr0 3 bytes (f .b3) && eqb (f .b4) 0) (eqb (f .b5) 0) (both-first (usedOr0 1 bytes (f .b1) && usedOr0 2 bytes (f .b2) && usedOr0 3 bytes (f .b3) && eqb (f .b4) 0 && eqb (f .b5) 0) (eqb (f .b6) 0) (both-first (usedOr0 1 bytes (f .b1) && usedOr0 2 bytes (f .b2) && usedOr0 3 bytes (f .b3) && eqb (f .b4) 0 && eqb (f .b5) 0 && eqb (f .b6) 0) (eqb (f .b7) 0) small)))))
 
   spare-b5 : 0 ≡ f .b5
   unfolding bytesSpare
-  spare-b5 = sym (eqb-true (f .b5) 0 (both-second (both (both (both (usedOr0 1 bytes (f .b1)) (usedOr0 2 bytes (f .b2))) (usedOr0 3 bytes (f .b3))) (eqb (f .b4) 0)) (eqb (f .b5) 0) (both-first (both (both (both (both (usedOr0 1 bytes (f .b1)) (usedOr0 2 bytes (f .b2))) (usedOr0 3 bytes (f .b3))) (eqb (f .b4) 0)) (eqb (f .b5) 0)) (eqb (f .b6) 0) (both-first (both (both (both (both (both (usedOr0 1 bytes (f .b1)) (usedOr0 2 bytes (f .b2))) (usedOr0 3 bytes (f .b3))) (eqb (f .b4) 0)) (eqb (f .b5) 0)) (eqb (f .b6) 0)) (eqb (f .b7) 0) small))))
+  spare-b5 = sym (eqb-true (f .b5) 0 (both-second (usedOr0 1 bytes (f .b1) && usedOr0 2 bytes (f .b2) && usedOr0 3 bytes (f .b3) && eqb (f .b4) 0) (eqb (f .b5) 0) (both-first (usedOr0 1 bytes (f .b1) && usedOr0 2 bytes (f .b2) && usedOr0 3 bytes (f .b3) && eqb (f .b4) 0 && eqb (f .b5) 0) (eqb (f .b6) 0) (both-first (usedOr0 1 bytes (f .b1) && usedOr0 2 bytes (f .b2) && usedOr0 3 bytes (f .b3) && eqb (f .b4) 0 && eqb (f .b5) 0 && eqb (f .b6) 0) (eqb (f .b7) 0) small))))
 
   spare-b6 : 0 ≡ f .b6
   unfolding bytesSpare
-  spare-b6 = sym (eqb-true (f .b6) 0 (both-second (both (both (both (both (usedOr0 1 bytes (f .b1)) (usedOr0 2 bytes (f .b2))) (usedOr0 3 bytes (f .b3))) (eqb (f .b4) 0)) (eqb (f .b5) 0)) (eqb (f .b6) 0) (both-first (both (both (both (both (both (usedOr0 1 bytes (f .b1)) (usedOr0 2 bytes (f .b2))) (usedOr0 3 bytes (f .b3))) (eqb (f .b4) 0)) (eqb (f .b5) 0)) (eqb (f .b6) 0)) (eqb (f .b7) 0) small)))
+  spare-b6 = sym (eqb-true (f .b6) 0 (both-second (usedOr0 1 bytes (f .b1) && usedOr0 2 bytes (f .b2) && usedOr0 3 bytes (f .b3) && eqb (f .b4) 0 && eqb (f .b5) 0) (eqb (f .b6) 0) (both-first (usedOr0 1 bytes (f .b1) && usedOr0 2 bytes (f .b2) && usedOr0 3 bytes (f .b3) && eqb (f .b4) 0 && eqb (f .b5) 0 && eqb (f .b6) 0) (eqb (f .b7) 0) small)))
 
   spare-b7 : 0 ≡ f .b7
   unfolding bytesSpare
-  spare-b7 = sym (eqb-true (f .b7) 0 (both-second (both (both (both (both (both (usedOr0 1 bytes (f .b1)) (usedOr0 2 bytes (f .b2))) (usedOr0 3 bytes (f .b3))) (eqb (f .b4) 0)) (eqb (f .b5) 0)) (eqb (f .b6) 0)) (eqb (f .b7) 0) small))
+  spare-b7 = sym (eqb-true (f .b7) 0 (both-second (usedOr0 1 bytes (f .b1) && usedOr0 2 bytes (f .b2) && usedOr0 3 bytes (f .b3) && eqb (f .b4) 0 && eqb (f .b5) 0 && eqb (f .b6) 0) (eqb (f .b7) 0) small))
 
   spare-n1 : numbers < 1 → 0 ≡ f .n1
   unfolding numbersSpare
-  spare-n1 = unused 1 numbers (f .n1) (both-first (usedOr0 1 numbers (f .n1)) (usedOr0 2 numbers (f .n2)) (both-first (both (usedOr0 1 numbers (f .n1)) (usedOr0 2 numbers (f .n2))) (usedOr0 3 numbers (f .n3)) (both-first (both (both (usedOr0 1 numbers (f .n1)) (usedOr0 2 numbers (f .n2))) (usedOr0 3 numbers (f .n3))) (usedOr0 4 numbers (f .n4)) (both-first (both (both (both (usedOr0 1 numbers (f .n1)) (usedOr0 2 numbers (f .n2))) (usedOr0 3 numbers (f .n3))) (usedOr0 4 numbers (f .n4))) (usedOr0 5 numbers (f .n5)) (both-first (both (both (both (both (usedOr0 1 numbers (f .n1)) (usedOr0 2 numbers (f .n2))) (usedOr0 3 numbers (f .n3))) (usedOr0 4 numbers (f .n4))) (usedOr0 5 numbers (f .n5))) (usedOr0 6 numbers (f .n6)) (both-first (both (both (both (both (both (usedOr0 1 numbers (f .n1)) (usedOr0 2 numbers (f .n2))) (usedOr0 3 numbers (f .n3))) (usedOr0 4 numbers (f .n4))) (usedOr0 5 numbers (f .n5))) (usedOr0 6 numbers (f .n6))) (usedOr0 7 numbers (f .n7)) large))))))
+  spare-n1 = unused 1 numbers (f .n1) (both-first (usedOr0 1 numbers (f .n1)) (usedOr0 2 numbers (f .n2)) (both-first (usedOr0 1 numbers (f .n1) && usedOr0 2 numbers (f .n2)) (usedOr0 3 numbers (f .n3)) (both-first (usedOr0 1 numbers (f .n1) && usedOr0 2 numbers (f .n2) && usedOr0 3 numbers (f .n3)) (usedOr0 4 numbers (f .n4)) (both-first (usedOr0 1 numbers (f .n1) && usedOr0 2 numbers (f .n2) && usedOr0 3 numbers (f .n3) && usedOr0 4 numbers (f .n4)) (usedOr0 5 numbers (f .n5)) (both-first (usedOr0 1 numbers (f .n1) && usedOr0 2 numbers (f .n2) && usedOr0 3 numbers (f .n3) && usedOr0 4 numbers (f .n4) && usedOr0 5 numbers (f .n5)) (usedOr0 6 numbers (f .n6)) (both-first (usedOr0 1 numbers (f .n1) && usedOr0 2 numbers (f .n2) && usedOr0 3 numbers (f .n3) && usedOr0 4 numbers (f .n4) && usedOr0 5 numbers (f .n5) && usedOr0 6 numbers (f .n6)) (usedOr0 7 numbers (f .n7)) large))))))
 
   spare-n2 : numbers < 2 → 0 ≡ f .n2
   unfolding numbersSpare
-  spare-n2 = unused 2 numbers (f .n2) (both-second (usedOr0 1 numbers (f .n1)) (usedOr0 2 numbers (f .n2)) (both-first (both (usedOr0 1 numbers (f .n1)) (usedOr0 2 numbers (f .n2))) (usedOr0 3 numbers (f .n3)) (both-first (both (both (usedOr0 1 numbers (f .n1)) (usedOr0 2 numbers (f .n2))) (usedOr0 3 numbers (f .n3))) (usedOr0 4 numbers (f .n4)) (both-first (both (both (both (usedOr0 1 numbers (f .n1)) (usedOr0 2 numbers (f .n2))) (usedOr0 3 numbers (f .n3))) (usedOr0 4 numbers (f .n4))) (usedOr0 5 numbers (f .n5)) (both-first (both (both (both (both (usedOr0 1 numbers (f .n1)) (usedOr0 2 numbers (f .n2))) (usedOr0 3 numbers (f .n3))) (usedOr0 4 numbers (f .n4))) (usedOr0 5 numbers (f .n5))) (usedOr0 6 numbers (f .n6)) (both-first (both (both (both (both (both (usedOr0 1 numbers (f .n1)) (usedOr0 2 numbers (f .n2))) (usedOr0 3 numbers (f .n3))) (usedOr0 4 numbers (f .n4))) (usedOr0 5 numbers (f .n5))) (usedOr0 6 numbers (f .n6))) (usedOr0 7 numbers (f .n7)) large))))))
+  spare-n2 = unused 2 numbers (f .n2) (both-second (usedOr0 1 numbers (f .n1)) (usedOr0 2 numbers (f .n2)) (both-first (usedOr0 1 numbers (f .n1) && usedOr0 2 numbers (f .n2)) (usedOr0 3 numbers (f .n3)) (both-first (usedOr0 1 numbers (f .n1) && usedOr0 2 numbers (f .n2) && usedOr0 3 numbers (f .n3)) (usedOr0 4 numbers (f .n4)) (both-first (usedOr0 1 numbers (f .n1) && usedOr0 2 numbers (f .n2) && usedOr0 3 numbers (f .n3) && usedOr0 4 numbers (f .n4)) (usedOr0 5 numbers (f .n5)) (both-first (usedOr0 1 numbers (f .n1) && usedOr0 2 numbers (f .n2) && usedOr0 3 numbers (f .n3) && usedOr0 4 numbers (f .n4) && usedOr0 5 numbers (f .n5)) (usedOr0 6 numbers (f .n6)) (both-first (usedOr0 1 numbers (f .n1) && usedOr0 2 numbers (f .n2) && usedOr0 3 numbers (f .n3) && usedOr0 4 numbers (f .n4) && usedOr0 5 numbers (f .n5) && usedOr0 6 numbers (f .n6)) (usedOr0 7 numbers (f .n7)) large))))))
 
   spare-n3 : numbers < 3 → 0 ≡ f .n3
   unfolding numbersSpare
-  spare-n3 = unused 3 numbers (f .n3) (both-second (both (usedOr0 1 numbers (f .n1)) (usedOr0 2 numbers (f .n2))) (usedOr0 3 numbers (f .n3)) (both-first (both (both (usedOr0 1 numbers (f .n1)) (usedOr0 2 numbers (f .n2))) (usedOr0 3 numbers (f .n3))) (usedOr0 4 numbers (f .n4)) (both-first (both (both (both (usedOr0 1 numbers (f .n1)) (usedOr0 2 numbers (f .n2))) (usedOr0 3 numbers (f .n3))) (usedOr0 4 numbers (f .n4))) (usedOr0 5 numbers (f .n5)) (both-first (both (both (both (both (usedOr0 1 numbers (f .n1)) (usedOr0 2 numbers (f .n2))) (usedOr0 3 numbers (f .n3))) (usedOr0 4 numbers (f .n4))) (usedOr0 5 numbers (f .n5))) (usedOr0 6 numbers (f .n6)) (both-first (both (both (both (both (both (usedOr0 1 numbers (f .n1)) (usedOr0 2 numbers (f .n2))) (usedOr0 3 numbers (f .n3))) (usedOr0 4 numbers (f .n4))) (usedOr0 5 numbers (f .n5))) (usedOr0 6 numbers (f .n6))) (usedOr0 7 numbers (f .n7)) large)))))
+  spare-n3 = unused 3 numbers (f .n3) (both-second (usedOr0 1 numbers (f .n1) && usedOr0 2 numbers (f .n2)) (usedOr0 3 numbers (f .n3)) (both-first (usedOr0 1 numbers (f .n1) && usedOr0 2 numbers (f .n2) && usedOr0 3 numbers (f .n3)) (usedOr0 4 numbers (f .n4)) (both-first (usedOr0 1 numbers (f .n1) && usedOr0 2 numbers (f .n2) && usedOr0 3 numbers (f .n3) && usedOr0 4 numbers (f .n4)) (usedOr0 5 numbers (f .n5)) (both-first (usedOr0 1 numbers (f .n1) && usedOr0 2 numbers (f .n2) && usedOr0 3 numbers (f .n3) && usedOr0 4 numbers (f .n4) && usedOr0 5 numbers (f .n5)) (usedOr0 6 numbers (f .n6)) (both-first (usedOr0 1 numbers (f .n1) && usedOr0 2 numbers (f .n2) && usedOr0 3 numbers (f .n3) && usedOr0 4 numbers (f .n4) && usedOr0 5 numbers (f .n5) && usedOr0 6 numbers (f .n6)) (usedOr0 7 numbers (f .n7)) large)))))
 
   spare-n4 : numbers < 4 → 0 ≡ f .n4
   unfolding numbersSpare
-  spare-n4 = unused 4 numbers (f .n4) (both-second (both (both (usedOr0 1 numbers (f .n1)) (usedOr0 2 numbers (f .n2))) (usedOr0 3 numbers (f .n3))) (usedOr0 4 numbers (f .n4)) (both-first (both (both (both (usedOr0 1 numbers (f .n1)) (usedOr0 2 numbers (f .n2))) (usedOr0 3 numbers (f .n3))) (usedOr0 4 numbers (f .n4))) (usedOr0 5 numbers (f .n5)) (both-first (both (both (both (both (usedOr0 1 numbers (f .n1)) (usedOr0 2 numbers (f .n2))) (usedOr0 3 numbers (f .n3))) (usedOr0 4 numbers (f .n4))) (usedOr0 5 numbers (f .n5))) (usedOr0 6 numbers (f .n6)) (both-first (both (both (both (both (both (usedOr0 1 numbers (f .n1)) (usedOr0 2 numbers (f .n2))) (usedOr0 3 numbers (f .n3))) (usedOr0 4 numbers (f .n4))) (usedOr0 5 numbers (f .n5))) (usedOr0 6 numbers (f .n6))) (usedOr0 7 numbers (f .n7)) large))))
+  spare-n4 = unused 4 numbers (f .n4) (both-second (usedOr0 1 numbers (f .n1) && usedOr0 2 numbers (f .n2) && usedOr0 3 numbers (f .n3)) (usedOr0 4 numbers (f .n4)) (both-first (usedOr0 1 numbers (f .n1) && usedOr0 2 numbers (f .n2) && usedOr0 3 numbers (f .n3) && usedOr0 4 numbers (f .n4)) (usedOr0 5 numbers (f .n5)) (both-first (usedOr0 1 numbers (f .n1) && usedOr0 2 numbers (f .n2) && usedOr0 3 numbers (f .n3) && usedOr0 4 numbers (f .n4) && usedOr0 5 numbers (f .n5)) (usedOr0 6 numbers (f .n6)) (both-first (usedOr0 1 numbers (f .n1) && usedOr0 2 numbers (f .n2) && usedOr0 3 numbers (f .n3) && usedOr0 4 numbers (f .n4) && usedOr0 5 numbers (f .n5) && usedOr0 6 numbers (f .n6)) (usedOr0 7 numbers (f .n7)) large))))
 
   spare-n5 : numbers < 5 → 0 ≡ f .n5
   unfolding numbersSpare
-  spare-n5 = unused 5 numbers (f .n5) (both-second (both (both (both (usedOr0 1 numbers (f .n1)) (usedOr0 2 numbers (f .n2))) (usedOr0 3 numbers (f .n3))) (usedOr0 4 numbers (f .n4))) (usedOr0 5 numbers (f .n5)) (both-first (both (both (both (both (usedOr0 1 numbers (f .n1)) (usedOr0 2 numbers (f .n2))) (usedOr0 3 numbers (f .n3))) (usedOr0 4 numbers (f .n4))) (usedOr0 5 numbers (f .n5))) (usedOr0 6 numbers (f .n6)) (both-first (both (both (both (both (both (usedOr0 1 numbers (f .n1)) (usedOr0 2 numbers (f .n2))) (usedOr0 3 numbers (f .n3))) (usedOr0 4 numbers (f .n4))) (usedOr0 5 numbers (f .n5))) (usedOr0 6 numbers (f .n6))) (usedOr0 7 numbers (f .n7)) large)))
+  spare-n5 = unused 5 numbers (f .n5) (both-second (usedOr0 1 numbers (f .n1) && usedOr0 2 numbers (f .n2) && usedOr0 3 numbers (f .n3) && usedOr0 4 numbers (f .n4)) (usedOr0 5 numbers (f .n5)) (both-first (usedOr0 1 numbers (f .n1) && usedOr0 2 numbers (f .n2) && usedOr0 3 numbers (f .n3) && usedOr0 4 numbers (f .n4) && usedOr0 5 numbers (f .n5)) (usedOr0 6 numbers (f .n6)) (both-first (usedOr0 1 numbers (f .n1) && usedOr0 2 numbers (f .n2) && usedOr0 3 numbers (f .n3) && usedOr0 4 numbers (f .n4) && usedOr0 5 numbers (f .n5) && usedOr0 6 numbers (f .n6)) (usedOr0 7 numbers (f .n7)) large)))
 
   spare-n6 : numbers < 6 → 0 ≡ f .n6
   unfolding numbersSpare
-  spare-n6 = unused 6 numbers (f .n6) (both-second (both (both (both (both (usedOr0 1 numbers (f .n1)) (usedOr0 2 numbers (f .n2))) (usedOr0 3 numbers (f .n3))) (usedOr0 4 numbers (f .n4))) (usedOr0 5 numbers (f .n5))) (usedOr0 6 numbers (f .n6)) (both-first (both (both (both (both (both (usedOr0 1 numbers (f .n1)) (usedOr0 2 numbers (f .n2))) (usedOr0 3 numbers (f .n3))) (usedOr0 4 numbers (f .n4))) (usedOr0 5 numbers (f .n5))) (usedOr0 6 numbers (f .n6))) (usedOr0 7 numbers (f .n7)) large))
+  spare-n6 = unused 6 numbers (f .n6) (both-second (usedOr0 1 numbers (f .n1) && usedOr0 2 numbers (f .n2) && usedOr0 3 numbers (f .n3) && usedOr0 4 numbers (f .n4) && usedOr0 5 numbers (f .n5)) (usedOr0 6 numbers (f .n6)) (both-first (usedOr0 1 numbers (f .n1) && usedOr0 2 numbers (f .n2) && usedOr0 3 numbers (f .n3) && usedOr0 4 numbers (f .n4) && usedOr0 5 numbers (f .n5) && usedOr0 6 numbers (f .n6)) (usedOr0 7 numbers (f .n7)) large))
 
   spare-n7 : numbers < 7 → 0 ≡ f .n7
   unfolding numbersSpare
-  spare-n7 = unused 7 numbers (f .n7) (both-second (both (both (both (both (both (usedOr0 1 numbers (f .n1)) (usedOr0 2 numbers (f .n2))) (usedOr0 3 numbers (f .n3))) (usedOr0 4 numbers (f .n4))) (usedOr0 5 numbers (f .n5))) (usedOr0 6 numbers (f .n6))) (usedOr0 7 numbers (f .n7)) large)
+  spare-n7 = unused 7 numbers (f .n7) (both-second (usedOr0 1 numbers (f .n1) && usedOr0 2 numbers (f .n2) && usedOr0 3 numbers (f .n3) && usedOr0 4 numbers (f .n4) && usedOr0 5 numbers (f .n5) && usedOr0 6 numbers (f .n6)) (usedOr0 7 numbers (f .n7)) large)
 
   -- a row: three small parameters and four numbers
   row-is : (n b1 b2 b3 n1 n2 n3 n4 : ℕ) → numbers ≤ 4 → f .number ≡ n → b1 ≡ f .b1 → b2 ≡ f .b2 → b3 ≡ f .b3
@@ -111,19 +109,19 @@ low : (k n : ℕ) → ltb n k ≡ true → n % k ≡ n
 low k n t = mod-eq-of-lt (ltb-true n k t)
 
 -- ---- an entry that is read: its fields are those of the record
-step-back : (f : Fields) → f .number ≡ 3 → (both (spare f 0 1) (isWord (f .n1))) ≡ true → fieldsFor (ACall (C.BringUpStep (f .n1 % 2 ^ 32))) ≡ f
+step-back : (f : Fields) → f .number ≡ 3 → (spare f 0 1 && isWord (f .n1)) ≡ true → fieldsFor (ACall (C.BringUpStep (f .n1 % 2 ^ 32))) ≡ f
 unfolding fieldsFor callFields
 step-back f e t =
     let s : (spare f 0 1) ≡ true = (both-first (spare f 0 1) (isWord (f .n1)) t) in
     let t1 : (isWord (f .n1)) ≡ true = (both-second (spare f 0 1) (isWord (f .n1)) t) in
     row-is f 0 1 s 3 _ _ _ _ _ _ _ (omega arith) e (spare-b1 f 0 1 s (omega arith)) (spare-b2 f 0 1 s (omega arith)) (spare-b3 f 0 1 s (omega arith)) (low (2 ^ 32) (f .n1) t1) (spare-n2 f 0 1 s (omega arith)) (spare-n3 f 0 1 s (omega arith)) (spare-n4 f 0 1 s (omega arith))
 
-endpoint-back : (f : Fields) → f .number ≡ 5 → (both (both (spare f 3 1) (leb (f .b1) 3)) (ltb (f .n1) (2 ^ 16))) ≡ true → fieldsFor (ACall (C.OpenEndpoint (record { kind = kindOf (f .b1); address = f .b2; number = f .b3; packet = f .n1 % 2 ^ 16 }))) ≡ f
+endpoint-back : (f : Fields) → f .number ≡ 5 → (spare f 3 1 && leb (f .b1) 3 && ltb (f .n1) (2 ^ 16)) ≡ true → fieldsFor (ACall (C.OpenEndpoint (record { kind = kindOf (f .b1); address = f .b2; number = f .b3; packet = f .n1 % 2 ^ 16 }))) ≡ f
 unfolding fieldsFor callFields
 endpoint-back f e t =
-    let s : (spare f 3 1) ≡ true = (both-first (spare f 3 1) (leb (f .b1) 3) (both-first (both (spare f 3 1) (leb (f .b1) 3)) (ltb (f .n1) (2 ^ 16)) t)) in
-    let t1 : (leb (f .b1) 3) ≡ true = (both-second (spare f 3 1) (leb (f .b1) 3) (both-first (both (spare f 3 1) (leb (f .b1) 3)) (ltb (f .n1) (2 ^ 16)) t)) in
-    let t2 : (ltb (f .n1) (2 ^ 16)) ≡ true = (both-second (both (spare f 3 1) (leb (f .b1) 3)) (ltb (f .n1) (2 ^ 16)) t) in
+    let s : (spare f 3 1) ≡ true = (both-first (spare f 3 1) (leb (f .b1) 3) (both-first (spare f 3 1 && leb (f .b1) 3) (ltb (f .n1) (2 ^ 16)) t)) in
+    let t1 : (leb (f .b1) 3) ≡ true = (both-second (spare f 3 1) (leb (f .b1) 3) (both-first (spare f 3 1 && leb (f .b1) 3) (ltb (f .n1) (2 ^ 16)) t)) in
+    let t2 : (ltb (f .n1) (2 ^ 16)) ≡ true = (both-second (spare f 3 1 && leb (f .b1) 3) (ltb (f .n1) (2 ^ 16)) t) in
     row-is f 3 1 s 5 _ _ _ _ _ _ _ (omega arith) e (kind-back (f .b1) (leb-true (f .b1) 3 t1)) refl refl (low (2 ^ 16) (f .n1) t2) (spare-n2 f 3 1 s (omega arith)) (spare-n3 f 3 1 s (omega arith)) (spare-n4 f 3 1 s (omega arith))
 
 close-back : (f : Fields) → f .number ≡ 6 → (spare f 1 0) ≡ true → fieldsFor (ACall (C.Close (f .b1))) ≡ f
@@ -144,64 +142,64 @@ size-back f e t =
     let s : (spare f 2 0) ≡ true = t in
     row-is f 2 0 s 8 _ _ _ _ _ _ _ (omega arith) e refl refl (spare-b3 f 2 0 s (omega arith)) (spare-n1 f 2 0 s (omega arith)) (spare-n2 f 2 0 s (omega arith)) (spare-n3 f 2 0 s (omega arith)) (spare-n4 f 2 0 s (omega arith))
 
-submit-back : (f : Fields) → f .number ≡ 9 → (both (both (both (spare f 3 4) (leb (f .b2) 3)) (leb (f .b3) 1)) (both (ltb (f .n1) (2 ^ 48)) (isWord (f .n4)))) ≡ true → fieldsFor (ACall (C.Submit (f .b1)
+submit-back : (f : Fields) → f .number ≡ 9 → (spare f 3 4 && leb (f .b2) 3 && leb (f .b3) 1 && (ltb (f .n1) (2 ^ 48) && isWord (f .n4))) ≡ true → fieldsFor (ACall (C.Submit (f .b1)
     (record { kind = kindOf (f .b2); direction = directionOf (f .b3); setup = f .n1; address = f .n2; length = f .n3 })
     (record { command = f .n4 % 2 ^ 32; frame = 0 }))) ≡ f
 unfolding fieldsFor callFields
 submit-back f e t =
-    let s : (spare f 3 4) ≡ true = (both-first (spare f 3 4) (leb (f .b2) 3) (both-first (both (spare f 3 4) (leb (f .b2) 3)) (leb (f .b3) 1) (both-first (both (both (spare f 3 4) (leb (f .b2) 3)) (leb (f .b3) 1)) (both (ltb (f .n1) (2 ^ 48)) (isWord (f .n4))) t))) in
-    let t1 : (leb (f .b2) 3) ≡ true = (both-second (spare f 3 4) (leb (f .b2) 3) (both-first (both (spare f 3 4) (leb (f .b2) 3)) (leb (f .b3) 1) (both-first (both (both (spare f 3 4) (leb (f .b2) 3)) (leb (f .b3) 1)) (both (ltb (f .n1) (2 ^ 48)) (isWord (f .n4))) t))) in
-    let t2 : (leb (f .b3) 1) ≡ true = (both-second (both (spare f 3 4) (leb (f .b2) 3)) (leb (f .b3) 1) (both-first (both (both (spare f 3 4) (leb (f .b2) 3)) (leb (f .b3) 1)) (both (ltb (f .n1) (2 ^ 48)) (isWord (f .n4))) t)) in
-    let t3 : (both (ltb (f .n1) (2 ^ 48)) (isWord (f .n4))) ≡ true = (both-second (both (both (spare f 3 4) (leb (f .b2) 3)) (leb (f .b3) 1)) (both (ltb (f .n1) (2 ^ 48)) (isWord (f .n4))) t) in
+    let s : (spare f 3 4) ≡ true = (both-first (spare f 3 4) (leb (f .b2) 3) (both-first (spare f 3 4 && leb (f .b2) 3) (leb (f .b3) 1) (both-first (spare f 3 4 && leb (f .b2) 3 && leb (f .b3) 1) (ltb (f .n1) (2 ^ 48) && isWord (f .n4)) t))) in
+    let t1 : (leb (f .b2) 3) ≡ true = (both-second (spare f 3 4) (leb (f .b2) 3) (both-first (spare f 3 4 && leb (f .b2) 3) (leb (f .b3) 1) (both-first (spare f 3 4 && leb (f .b2) 3 && leb (f .b3) 1) (ltb (f .n1) (2 ^ 48) && isWord (f .n4)) t))) in
+    let t2 : (leb (f .b3) 1) ≡ true = (both-second (spare f 3 4 && leb (f .b2) 3) (leb (f .b3) 1) (both-first (spare f 3 4 && leb (f .b2) 3 && leb (f .b3) 1) (ltb (f .n1) (2 ^ 48) && isWord (f .n4)) t)) in
+    let t3 : (ltb (f .n1) (2 ^ 48) && isWord (f .n4)) ≡ true = (both-second (spare f 3 4 && leb (f .b2) 3 && leb (f .b3) 1) (ltb (f .n1) (2 ^ 48) && isWord (f .n4)) t) in
     row-is f 3 4 s 9 _ _ _ _ _ _ _ (omega arith) e refl (kind-back (f .b2) (leb-true (f .b2) 3 t1)) (direction-back (f .b3) (leb-true (f .b3) 1 t2)) refl refl refl (low (2 ^ 32) (f .n4) (both-second (ltb (f .n1) (2 ^ 48)) (isWord (f .n4)) t3))
 
-writeback-back : (f : Fields) → f .number ≡ 10 → (both (spare f 0 2) (isWord (f .n2))) ≡ true → fieldsFor (ACall (C.Writeback (f .n1) (f .n2 % 2 ^ 32))) ≡ f
+writeback-back : (f : Fields) → f .number ≡ 10 → (spare f 0 2 && isWord (f .n2)) ≡ true → fieldsFor (ACall (C.Writeback (f .n1) (f .n2 % 2 ^ 32))) ≡ f
 unfolding fieldsFor callFields
 writeback-back f e t =
     let s : (spare f 0 2) ≡ true = (both-first (spare f 0 2) (isWord (f .n2)) t) in
     let t1 : (isWord (f .n2)) ≡ true = (both-second (spare f 0 2) (isWord (f .n2)) t) in
     row-is f 0 2 s 10 _ _ _ _ _ _ _ (omega arith) e (spare-b1 f 0 2 s (omega arith)) (spare-b2 f 0 2 s (omega arith)) (spare-b3 f 0 2 s (omega arith)) refl (low (2 ^ 32) (f .n2) t1) (spare-n3 f 0 2 s (omega arith)) (spare-n4 f 0 2 s (omega arith))
 
-cancel-back : (f : Fields) → f .number ≡ 11 → (both (both (spare f 1 3) (isWord (f .n2))) (isWord (f .n3))) ≡ true → fieldsFor (ACall (C.Cancel (f .b1) (f .n1) (readingsOf f))) ≡ f
+cancel-back : (f : Fields) → f .number ≡ 11 → (spare f 1 3 && isWord (f .n2) && isWord (f .n3)) ≡ true → fieldsFor (ACall (C.Cancel (f .b1) (f .n1) (readingsOf f))) ≡ f
 unfolding fieldsFor callFields
 cancel-back f e t =
-    let s : (spare f 1 3) ≡ true = (both-first (spare f 1 3) (isWord (f .n2)) (both-first (both (spare f 1 3) (isWord (f .n2))) (isWord (f .n3)) t)) in
-    let t1 : (isWord (f .n2)) ≡ true = (both-second (spare f 1 3) (isWord (f .n2)) (both-first (both (spare f 1 3) (isWord (f .n2))) (isWord (f .n3)) t)) in
-    let t2 : (isWord (f .n3)) ≡ true = (both-second (both (spare f 1 3) (isWord (f .n2))) (isWord (f .n3)) t) in
+    let s : (spare f 1 3) ≡ true = (both-first (spare f 1 3) (isWord (f .n2)) (both-first (spare f 1 3 && isWord (f .n2)) (isWord (f .n3)) t)) in
+    let t1 : (isWord (f .n2)) ≡ true = (both-second (spare f 1 3) (isWord (f .n2)) (both-first (spare f 1 3 && isWord (f .n2)) (isWord (f .n3)) t)) in
+    let t2 : (isWord (f .n3)) ≡ true = (both-second (spare f 1 3 && isWord (f .n2)) (isWord (f .n3)) t) in
     row-is f 1 3 s 11 _ _ _ _ _ _ _ (omega arith) e refl (spare-b2 f 1 3 s (omega arith)) (spare-b3 f 1 3 s (omega arith)) refl (low (2 ^ 32) (f .n2) t1) (low (2 ^ 32) (f .n3) t2) (spare-n4 f 1 3 s (omega arith))
 
-collect-back : (f : Fields) → f .number ≡ 12 → (both (both (spare f 1 3) (isWord (f .n2))) (isWord (f .n3))) ≡ true → fieldsFor (ACall (C.Collect (f .b1) (f .n1) (readingsOf f))) ≡ f
+collect-back : (f : Fields) → f .number ≡ 12 → (spare f 1 3 && isWord (f .n2) && isWord (f .n3)) ≡ true → fieldsFor (ACall (C.Collect (f .b1) (f .n1) (readingsOf f))) ≡ f
 unfolding fieldsFor callFields
 collect-back f e t =
-    let s : (spare f 1 3) ≡ true = (both-first (spare f 1 3) (isWord (f .n2)) (both-first (both (spare f 1 3) (isWord (f .n2))) (isWord (f .n3)) t)) in
-    let t1 : (isWord (f .n2)) ≡ true = (both-second (spare f 1 3) (isWord (f .n2)) (both-first (both (spare f 1 3) (isWord (f .n2))) (isWord (f .n3)) t)) in
-    let t2 : (isWord (f .n3)) ≡ true = (both-second (both (spare f 1 3) (isWord (f .n2))) (isWord (f .n3)) t) in
+    let s : (spare f 1 3) ≡ true = (both-first (spare f 1 3) (isWord (f .n2)) (both-first (spare f 1 3 && isWord (f .n2)) (isWord (f .n3)) t)) in
+    let t1 : (isWord (f .n2)) ≡ true = (both-second (spare f 1 3) (isWord (f .n2)) (both-first (spare f 1 3 && isWord (f .n2)) (isWord (f .n3)) t)) in
+    let t2 : (isWord (f .n3)) ≡ true = (both-second (spare f 1 3 && isWord (f .n2)) (isWord (f .n3)) t) in
     row-is f 1 3 s 12 _ _ _ _ _ _ _ (omega arith) e refl (spare-b2 f 1 3 s (omega arith)) (spare-b3 f 1 3 s (omega arith)) refl (low (2 ^ 32) (f .n2) t1) (low (2 ^ 32) (f .n3) t2) (spare-n4 f 1 3 s (omega arith))
 
-acknowledge-back : (f : Fields) → f .number ≡ 13 → (both (both (both (spare f 2 2) (both (leb (f .b1) 1) (leb (f .b2) 1))) (isWord (f .n1))) (isWord (f .n2))) ≡ true → fieldsFor (ACall (C.Acknowledge (record { status = f .n1 % 2 ^ 32; interrupts = f .n2 % 2 ^ 32; flag = flagOf (f .b1); again = flagOf (f .b2) }))) ≡ f
+acknowledge-back : (f : Fields) → f .number ≡ 13 → (spare f 2 2 && (leb (f .b1) 1 && leb (f .b2) 1) && isWord (f .n1) && isWord (f .n2)) ≡ true → fieldsFor (ACall (C.Acknowledge (record { status = f .n1 % 2 ^ 32; interrupts = f .n2 % 2 ^ 32; flag = flagOf (f .b1); again = flagOf (f .b2) }))) ≡ f
 unfolding fieldsFor callFields
 acknowledge-back f e t =
-    let s : (spare f 2 2) ≡ true = (both-first (spare f 2 2) (both (leb (f .b1) 1) (leb (f .b2) 1)) (both-first (both (spare f 2 2) (both (leb (f .b1) 1) (leb (f .b2) 1))) (isWord (f .n1)) (both-first (both (both (spare f 2 2) (both (leb (f .b1) 1) (leb (f .b2) 1))) (isWord (f .n1))) (isWord (f .n2)) t))) in
-    let t1 : (both (leb (f .b1) 1) (leb (f .b2) 1)) ≡ true = (both-second (spare f 2 2) (both (leb (f .b1) 1) (leb (f .b2) 1)) (both-first (both (spare f 2 2) (both (leb (f .b1) 1) (leb (f .b2) 1))) (isWord (f .n1)) (both-first (both (both (spare f 2 2) (both (leb (f .b1) 1) (leb (f .b2) 1))) (isWord (f .n1))) (isWord (f .n2)) t))) in
-    let t2 : (isWord (f .n1)) ≡ true = (both-second (both (spare f 2 2) (both (leb (f .b1) 1) (leb (f .b2) 1))) (isWord (f .n1)) (both-first (both (both (spare f 2 2) (both (leb (f .b1) 1) (leb (f .b2) 1))) (isWord (f .n1))) (isWord (f .n2)) t)) in
-    let t3 : (isWord (f .n2)) ≡ true = (both-second (both (both (spare f 2 2) (both (leb (f .b1) 1) (leb (f .b2) 1))) (isWord (f .n1))) (isWord (f .n2)) t) in
+    let s : (spare f 2 2) ≡ true = (both-first (spare f 2 2) (leb (f .b1) 1 && leb (f .b2) 1) (both-first (spare f 2 2 && (leb (f .b1) 1 && leb (f .b2) 1)) (isWord (f .n1)) (both-first (spare f 2 2 && (leb (f .b1) 1 && leb (f .b2) 1) && isWord (f .n1)) (isWord (f .n2)) t))) in
+    let t1 : (leb (f .b1) 1 && leb (f .b2) 1) ≡ true = (both-second (spare f 2 2) (leb (f .b1) 1 && leb (f .b2) 1) (both-first (spare f 2 2 && (leb (f .b1) 1 && leb (f .b2) 1)) (isWord (f .n1)) (both-first (spare f 2 2 && (leb (f .b1) 1 && leb (f .b2) 1) && isWord (f .n1)) (isWord (f .n2)) t))) in
+    let t2 : (isWord (f .n1)) ≡ true = (both-second (spare f 2 2 && (leb (f .b1) 1 && leb (f .b2) 1)) (isWord (f .n1)) (both-first (spare f 2 2 && (leb (f .b1) 1 && leb (f .b2) 1) && isWord (f .n1)) (isWord (f .n2)) t)) in
+    let t3 : (isWord (f .n2)) ≡ true = (both-second (spare f 2 2 && (leb (f .b1) 1 && leb (f .b2) 1) && isWord (f .n1)) (isWord (f .n2)) t) in
     row-is f 2 2 s 13 _ _ _ _ _ _ _ (omega arith) e (flag-back (f .b1) (leb-true (f .b1) 1 (both-first (leb (f .b1) 1) (leb (f .b2) 1) t1))) (flag-back (f .b2) (leb-true (f .b2) 1 (both-second (leb (f .b1) 1) (leb (f .b2) 1) t1))) (spare-b3 f 2 2 s (omega arith)) (low (2 ^ 32) (f .n1) t2) (low (2 ^ 32) (f .n2) t3) (spare-n3 f 2 2 s (omega arith)) (spare-n4 f 2 2 s (omega arith))
 
-drain-back : (f : Fields) → f .number ≡ 14 → (both (spare f 0 1) (isWord (f .n1))) ≡ true → fieldsFor (ACall (C.Drain (f .n1 % 2 ^ 32))) ≡ f
+drain-back : (f : Fields) → f .number ≡ 14 → (spare f 0 1 && isWord (f .n1)) ≡ true → fieldsFor (ACall (C.Drain (f .n1 % 2 ^ 32))) ≡ f
 unfolding fieldsFor callFields
 drain-back f e t =
     let s : (spare f 0 1) ≡ true = (both-first (spare f 0 1) (isWord (f .n1)) t) in
     let t1 : (isWord (f .n1)) ≡ true = (both-second (spare f 0 1) (isWord (f .n1)) t) in
     row-is f 0 1 s 14 _ _ _ _ _ _ _ (omega arith) e (spare-b1 f 0 1 s (omega arith)) (spare-b2 f 0 1 s (omega arith)) (spare-b3 f 0 1 s (omega arith)) (low (2 ^ 32) (f .n1) t1) (spare-n2 f 0 1 s (omega arith)) (spare-n3 f 0 1 s (omega arith)) (spare-n4 f 0 1 s (omega arith))
 
-scan-back : (f : Fields) → f .number ≡ 19 → (both (spare f 0 1) (isWord (f .n1))) ≡ true → fieldsFor (ScanStep (f .n1 % 2 ^ 32)) ≡ f
+scan-back : (f : Fields) → f .number ≡ 19 → (spare f 0 1 && isWord (f .n1)) ≡ true → fieldsFor (ScanStep (f .n1 % 2 ^ 32)) ≡ f
 unfolding fieldsFor callFields
 scan-back f e t =
     let s : (spare f 0 1) ≡ true = (both-first (spare f 0 1) (isWord (f .n1)) t) in
     let t1 : (isWord (f .n1)) ≡ true = (both-second (spare f 0 1) (isWord (f .n1)) t) in
     row-is f 0 1 s 19 _ _ _ _ _ _ _ (omega arith) e (spare-b1 f 0 1 s (omega arith)) (spare-b2 f 0 1 s (omega arith)) (spare-b3 f 0 1 s (omega arith)) (low (2 ^ 32) (f .n1) t1) (spare-n2 f 0 1 s (omega arith)) (spare-n3 f 0 1 s (omega arith)) (spare-n4 f 0 1 s (omega arith))
 
-power-back : (f : Fields) → f .number ≡ 20 → (both (spare f 1 1) (isWord (f .n1))) ≡ true → fieldsFor (PortPower (f .b1) (f .n1 % 2 ^ 32)) ≡ f
+power-back : (f : Fields) → f .number ≡ 20 → (spare f 1 1 && isWord (f .n1)) ≡ true → fieldsFor (PortPower (f .b1) (f .n1 % 2 ^ 32)) ≡ f
 unfolding fieldsFor callFields
 power-back f e t =
     let s : (spare f 1 1) ≡ true = (both-first (spare f 1 1) (isWord (f .n1)) t) in
@@ -224,11 +222,11 @@ module _ (f : Fields) (e : Entry) (ne : e ≡ Bad → ⊥) where
   only true m h k = ap fieldsFor (sym h) ∙ k refl
   only false m h k = absurd (ne (sym h))
 
-  or-else : (b : Bool) (x y : Entry) → pick b x y ≡ e → (b ≡ true → x ≡ e → fieldsFor e ≡ f) → (y ≡ e → fieldsFor e ≡ f) → fieldsFor e ≡ f
+  or-else : (b : Bool) (x y : Entry) → cond b x y ≡ e → (b ≡ true → x ≡ e → fieldsFor e ≡ f) → (y ≡ e → fieldsFor e ≡ f) → fieldsFor e ≡ f
   or-else true x y h a b = a refl h
   or-else false x y h a b = b h
 
-  judged-only : judged f ≡ e → fieldsFor e ≡ f
+  judged-only : entryFrom f ≡ e → fieldsFor e ≡ f
   unfolding judgedAs plain openEntry bringUpStep openEndpoint close setAddress setPacketSize submit writeback cancel collect acknowledge drain scanStep portPower fieldsFor callFields
   judged-only h =
       or-else (eqb (f .number) 1) _ _ h (λ q g. only _ _ g (open-back f (eqb-true (f .number) 1 q))) (λ h.
@@ -258,7 +256,7 @@ pub entry-only : (bs : List ℕ) (e : Entry) → entryOf bs ≡ e → (e ≡ Bad
 unfolding entryOf recordOf
 entry-only bs e h ne all = go (eqb (length bs) 64) refl h
   where
-    go : (b : Bool) → eqb (length bs) 64 ≡ b → pick b (judged (fieldsOf bs)) Bad ≡ e → bs ≡ bytesOf (fieldsFor e)
+    go : (b : Bool) → eqb (length bs) 64 ≡ b → cond b (entryFrom (fieldsOf bs)) Bad ≡ e → bs ≡ bytesOf (fieldsFor e)
     go true q g = sym (fields-back bs (eqb-true (length bs) 64 q) all) ∙ ap bytesOf (sym (judged-only (fieldsOf bs) e ne g))
     go false q g = absurd (ne (sym g))
 
@@ -281,7 +279,7 @@ flag-low : (b : Bool) → leb (flagNumber b) 1 ≡ true
 flag-low true = refl
 flag-low false = refl
 
-call-back : (c : Call) → OwnCall c → judged (callFields c) ≡ ACall c
+call-back : (c : Call) → OwnCall c → entryFrom (callFields c) ≡ ACall c
 unfolding judgedAs plain bringUpStep openEndpoint close setAddress setPacketSize submit writeback cancel collect acknowledge drain callFields bytesSpare numbersSpare
 call-back C.StartBringUp h = refl
 call-back (C.BringUpStep v) h = rw (word-in v h, mod-eq-of-lt h)
@@ -320,7 +318,7 @@ call-back C.Rearm h = refl
 call-back C.Enable h = refl
 call-back C.Disable h = refl
 
-judged-back : (e : Entry) → Own e → judged (fieldsFor e) ≡ e
+judged-back : (e : Entry) → Own e → entryFrom (fieldsFor e) ≡ e
 unfolding judgedAs plain openEntry scanStep portPower fieldsFor bytesSpare numbersSpare
 judged-back (Open s) h = refl
 judged-back (ACall c) h = call-back c h

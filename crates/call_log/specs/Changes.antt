@@ -1,6 +1,6 @@
 -- "Changed is against the words before the call": the lines of what changed, all ascending.
 use Prim.Native.Nat.{ℕ, zero, suc, _+_, _*_, _/_, _%_, min}
-use mathlib.Core.Bool.{Bool, not}
+use mathlib.Core.Bool.{Bool, not, _&&_, _||_, cond}
 use mathlib.Core.List.{List, [], _∷_}
 use lib.Dec.{eqb, ltb}
 use lib.ListN.{getD, length}
@@ -9,9 +9,8 @@ use Rattle.pool.specs.Chains.{blank}
 use Rattle.register.specs.declared.writes.Write.{Write}
 use Rattle.register.specs.declared.writes.Writes.{Writes}
 use Rattle.register.specs.Writes.{listOf, writeOf}
-use Rattle.settings.specs.Tests.{both, either}
 use Rattle.text.specs.Numbers.{numberAt}
-use Rattle.text.specs.Text.{linesTo, onlyIf, pick}
+use Rattle.text.specs.Text.{linesTo, onlyIf}
 use Rattle.call_log.specs.Lines.{frameLine, headLine, portLine, recordLine, setupLine, writeLine}
 
 -- `H place word value` for each head word that changed
@@ -23,7 +22,7 @@ headLines before after = linesTo (λ i. headChange i (getD before i 0) (getD aft
 
 -- `U port state` for each port whose state changed; an accepted opening shows every port
 unfoldable pub portChange : Bool → ℕ → ℕ → ℕ → List ℕ
-portChange opening i before after = onlyIf (either opening (not (eqb before after))) (portLine (i + 1) after)
+portChange opening i before after = onlyIf (opening || not (eqb before after)) (portLine (i + 1) after)
 
 -- the ports are the controller's own
 abbrev pub portLines : Bool → ℕ → List ℕ → List ℕ → List ℕ
@@ -33,10 +32,10 @@ portLines opening ports before after =
 -- ---- `P place` and the record's 13 words for each descriptor record that changed
 
 unfoldable pub sameFive : List ℕ → List ℕ → Bool
-sameFive a b = both (both (both (both (eqb (getD a 0 0) (getD b 0 0)) (eqb (getD a 1 0) (getD b 1 0))) (eqb (getD a 2 0) (getD b 2 0))) (eqb (getD a 3 0) (getD b 3 0))) (eqb (getD a 4 0) (getD b 4 0))
+sameFive a b = eqb (getD a 0 0) (getD b 0 0) && eqb (getD a 1 0) (getD b 1 0) && eqb (getD a 2 0) (getD b 2 0) && eqb (getD a 3 0) (getD b 3 0) && eqb (getD a 4 0) (getD b 4 0)
 
 unfoldable pub sameRecord : QueueTransferDescriptor → QueueTransferDescriptor → Bool
-sameRecord a b = both (both (both (both (eqb (a .next) (b .next)) (eqb (a .alternate) (b .alternate))) (eqb (a .token) (b .token))) (sameFive (a .pages) (b .pages))) (sameFive (a .upper) (b .upper))
+sameRecord a b = eqb (a .next) (b .next) && eqb (a .alternate) (b .alternate) && eqb (a .token) (b .token) && sameFive (a .pages) (b .pages) && sameFive (a .upper) (b .upper)
 
 unfoldable pub recordChange : ℕ → QueueTransferDescriptor → QueueTransferDescriptor → List ℕ
 recordChange place before after = onlyIf (not (sameRecord before after)) (recordLine place after)
@@ -52,16 +51,15 @@ changed before after i = not (eqb (getD before i 0) (getD after i 0))
 -- entry i + 1 is of the run of entry i: both changed, to one value
 unfoldable pub goesOn : List ℕ → List ℕ → ℕ → Bool
 goesOn before after i =
-    both (ltb (i + 1) (length after))
-    (both (both (changed before after i) (changed before after (i + 1))) (eqb (getD after i 0) (getD after (i + 1) 0)))
+    ltb (i + 1) (length after) && (changed before after i && changed before after (i + 1) && eqb (getD after i 0) (getD after (i + 1) 0))
 
 -- where the run of an entry begins
 unfoldable pub firstOf : List ℕ → List ℕ → ℕ → ℕ
 firstOf before after zero = 0
-firstOf before after (suc i) = pick (goesOn before after i) (firstOf before after i) (i + 1)
+firstOf before after (suc i) = cond (goesOn before after i) (firstOf before after i) (i + 1)
 
 abbrev pub runEnds : List ℕ → List ℕ → ℕ → Bool → Bool
-runEnds before after i on = both (changed before after i) (not on)
+runEnds before after i on = changed before after i && not on
 
 unfoldable pub frameChange : List ℕ → List ℕ → ℕ → List ℕ
 frameChange before after i =

@@ -1,10 +1,9 @@
 -- A record: 64 bytes, byte 0 the call's number, bytes 1 to 7 small parameters, then seven 64-bit little-endian numbers.
 use Prim.Native.Nat.{ℕ}
-use mathlib.Core.Bool.{Bool}
+use mathlib.Core.Bool.{Bool, _&&_, _||_}
 use mathlib.Core.List.{List, [], _∷_, _++_}
 use lib.Dec.{eqb, leb}
 use lib.ListN.{getD}
-use Rattle.settings.specs.Tests.{both, either}
 use Rattle.text.specs.Numbers.{littleEndian, numberAt}
 use Rattle.call_log.specs.declared.fields.Fields.{Fields}
 
@@ -40,15 +39,13 @@ fieldsOf bs =
 
 -- parameter k is among the first so many, which are used, or it is 0
 abbrev pub usedOr0 : ℕ → ℕ → ℕ → Bool
-usedOr0 k used x = either (leb k used) (eqb x 0)
+usedOr0 k used x = leb k used || eqb x 0
 
 -- small parameters after the first so many are 0: no call uses more than three
 unfoldable pub bytesSpare : Fields → ℕ → Bool
 bytesSpare f used =
-    both (both (both (both (both (both (usedOr0 1 used (f .b1)) (usedOr0 2 used (f .b2))) (usedOr0 3 used (f .b3))) (eqb (f .b4) 0)) (eqb (f .b5) 0))
-    (eqb (f .b6) 0)) (eqb (f .b7) 0)
+    usedOr0 1 used (f .b1) && usedOr0 2 used (f .b2) && usedOr0 3 used (f .b3) && eqb (f .b4) 0 && eqb (f .b5) 0 && eqb (f .b6) 0 && eqb (f .b7) 0
 
 unfoldable pub numbersSpare : Fields → ℕ → Bool
 numbersSpare f used =
-    both (both (both (both (both (both (usedOr0 1 used (f .n1)) (usedOr0 2 used (f .n2))) (usedOr0 3 used (f .n3))) (usedOr0 4 used (f .n4)))
-    (usedOr0 5 used (f .n5))) (usedOr0 6 used (f .n6))) (usedOr0 7 used (f .n7))
+    usedOr0 1 used (f .n1) && usedOr0 2 used (f .n2) && usedOr0 3 used (f .n3) && usedOr0 4 used (f .n4) && usedOr0 5 used (f .n5) && usedOr0 6 used (f .n6) && usedOr0 7 used (f .n7)

@@ -1,6 +1,6 @@
 -- The calls of a log: how each is written as a record, and which record says which call.
 use Prim.Native.Nat.{ℕ, _%_, _^_, _<_}
-use mathlib.Core.Bool.{Bool, true, false}
+use mathlib.Core.Bool.{Bool, true, false, _&&_, cond}
 use mathlib.Core.Path.{_≡_}
 use mathlib.Core.List.{List}
 use lib.Dec.{eqb, leb, ltb}
@@ -9,9 +9,7 @@ use Rattle.controller.specs.declared.lent.Readings.{Readings}
 use Rattle.ehci.specs.declared.call.Call.{Call}
 use Rattle.ehci.specs.declared.call.Call.the-variants as C
 use Rattle.pipe.specs.Endpoints.{directionNumber, directionOf, flagNumber, flagOf, kindNumber, kindOf}
-use Rattle.settings.specs.Tests.{both}
 use Rattle.settings.specs.declared.settings.Settings.{Settings}
-use Rattle.text.specs.Text.{pick}
 use Rattle.call_log.specs.Fields.{bytesOf, bytesSpare, fieldsOf, numbersSpare}
 use Rattle.call_log.specs.declared.fields.Fields.{Fields}
 use Rattle.call_log.specs.declared.record.Entry.{Entry}
@@ -93,7 +91,7 @@ guarded true e = e
 guarded false e = Bad
 
 abbrev pub spare : Fields → ℕ → ℕ → Bool
-spare f bytes numbers = both (bytesSpare f bytes) (numbersSpare f numbers)
+spare f bytes numbers = bytesSpare f bytes && numbersSpare f numbers
 
 abbrev pub isWord : ℕ → Bool
 isWord n = ltb n (2 ^ 32)
@@ -119,11 +117,11 @@ unfoldable pub openEntry : Fields → Entry
 openEntry f = guarded (spare f 2 7) (Open (settingsOf f))
 
 unfoldable pub bringUpStep : Fields → Entry
-bringUpStep f = guarded (both (spare f 0 1) (isWord (f .n1))) (ACall (C.BringUpStep (f .n1 % 2 ^ 32)))
+bringUpStep f = guarded (spare f 0 1 && isWord (f .n1)) (ACall (C.BringUpStep (f .n1 % 2 ^ 32)))
 
 unfoldable pub openEndpoint : Fields → Entry
 openEndpoint f =
-    guarded (both (both (spare f 3 1) (leb (f .b1) 3)) (ltb (f .n1) (2 ^ 16)))
+    guarded (spare f 3 1 && leb (f .b1) 3 && ltb (f .n1) (2 ^ 16))
     (ACall (C.OpenEndpoint (record { kind = kindOf (f .b1); address = f .b2; number = f .b3; packet = f .n1 % 2 ^ 16 })))
 
 unfoldable pub close : Fields → Entry
@@ -137,21 +135,21 @@ setPacketSize f = guarded (spare f 2 0) (ACall (C.SetPacketSize (f .b1) (f .b2))
 
 unfoldable pub submit : Fields → Entry
 submit f =
-    guarded (both (both (both (spare f 3 4) (leb (f .b2) 3)) (leb (f .b3) 1)) (both (ltb (f .n1) (2 ^ 48)) (isWord (f .n4))))
+    guarded (spare f 3 4 && leb (f .b2) 3 && leb (f .b3) 1 && (ltb (f .n1) (2 ^ 48) && isWord (f .n4)))
     (ACall
     (C.Submit (f .b1)
     (record { kind = kindOf (f .b2); direction = directionOf (f .b3); setup = f .n1; address = f .n2; length = f .n3 })
     (record { command = f .n4 % 2 ^ 32; frame = 0 })))
 
 unfoldable pub writeback : Fields → Entry
-writeback f = guarded (both (spare f 0 2) (isWord (f .n2))) (ACall (C.Writeback (f .n1) (f .n2 % 2 ^ 32)))
+writeback f = guarded (spare f 0 2 && isWord (f .n2)) (ACall (C.Writeback (f .n1) (f .n2 % 2 ^ 32)))
 
 -- USBCMD and FRINDEX, n2 and n3
 abbrev pub readingsOf : Fields → Readings
 readingsOf f = record { command = f .n2 % 2 ^ 32; frame = f .n3 % 2 ^ 32 }
 
 abbrev pub slotTest : Fields → Bool
-slotTest f = both (both (spare f 1 3) (isWord (f .n2))) (isWord (f .n3))
+slotTest f = spare f 1 3 && isWord (f .n2) && isWord (f .n3)
 
 unfoldable pub cancel : Fields → Entry
 cancel f = guarded (slotTest f) (ACall (C.Cancel (f .b1) (f .n1) (readingsOf f)))
@@ -161,47 +159,47 @@ collect f = guarded (slotTest f) (ACall (C.Collect (f .b1) (f .n1) (readingsOf f
 
 unfoldable pub acknowledge : Fields → Entry
 acknowledge f =
-    guarded (both (both (both (spare f 2 2) (both (leb (f .b1) 1) (leb (f .b2) 1))) (isWord (f .n1))) (isWord (f .n2)))
+    guarded (spare f 2 2 && (leb (f .b1) 1 && leb (f .b2) 1) && isWord (f .n1) && isWord (f .n2))
     (ACall (C.Acknowledge (record { status = f .n1 % 2 ^ 32; interrupts = f .n2 % 2 ^ 32; flag = flagOf (f .b1); again = flagOf (f .b2) })))
 
 unfoldable pub drain : Fields → Entry
-drain f = guarded (both (spare f 0 1) (isWord (f .n1))) (ACall (C.Drain (f .n1 % 2 ^ 32)))
+drain f = guarded (spare f 0 1 && isWord (f .n1)) (ACall (C.Drain (f .n1 % 2 ^ 32)))
 
 unfoldable pub scanStep : Fields → Entry
-scanStep f = guarded (both (spare f 0 1) (isWord (f .n1))) (ScanStep (f .n1 % 2 ^ 32))
+scanStep f = guarded (spare f 0 1 && isWord (f .n1)) (ScanStep (f .n1 % 2 ^ 32))
 
 unfoldable pub portPower : Fields → Entry
-portPower f = guarded (both (spare f 1 1) (isWord (f .n1))) (PortPower (f .b1) (f .n1 % 2 ^ 32))
+portPower f = guarded (spare f 1 1 && isWord (f .n1)) (PortPower (f .b1) (f .n1 % 2 ^ 32))
 
 unfoldable pub judgedAs : ℕ → Fields → Entry
 judgedAs n f =
-    pick (eqb n 1) (openEntry f)
-    (pick (eqb n 2) (plain f (ACall C.StartBringUp))
-    (pick (eqb n 3) (bringUpStep f)
-    (pick (eqb n 4) (plain f (ACall C.AllocateAddress))
-    (pick (eqb n 5) (openEndpoint f)
-    (pick (eqb n 6) (close f)
-    (pick (eqb n 7) (setAddress f)
-    (pick (eqb n 8) (setPacketSize f)
-    (pick (eqb n 9) (submit f)
-    (pick (eqb n 10) (writeback f)
-    (pick (eqb n 11) (cancel f)
-    (pick (eqb n 12) (collect f)
-    (pick (eqb n 13) (acknowledge f)
-    (pick (eqb n 14) (drain f)
-    (pick (eqb n 15) (plain f (ACall C.Rearm))
-    (pick (eqb n 16) (plain f (ACall C.Enable))
-    (pick (eqb n 17) (plain f (ACall C.Disable))
-    (pick (eqb n 18) (plain f StartScan)
-    (pick (eqb n 19) (scanStep f)
-    (pick (eqb n 20) (portPower f)
+    cond (eqb n 1) (openEntry f)
+    (cond (eqb n 2) (plain f (ACall C.StartBringUp))
+    (cond (eqb n 3) (bringUpStep f)
+    (cond (eqb n 4) (plain f (ACall C.AllocateAddress))
+    (cond (eqb n 5) (openEndpoint f)
+    (cond (eqb n 6) (close f)
+    (cond (eqb n 7) (setAddress f)
+    (cond (eqb n 8) (setPacketSize f)
+    (cond (eqb n 9) (submit f)
+    (cond (eqb n 10) (writeback f)
+    (cond (eqb n 11) (cancel f)
+    (cond (eqb n 12) (collect f)
+    (cond (eqb n 13) (acknowledge f)
+    (cond (eqb n 14) (drain f)
+    (cond (eqb n 15) (plain f (ACall C.Rearm))
+    (cond (eqb n 16) (plain f (ACall C.Enable))
+    (cond (eqb n 17) (plain f (ACall C.Disable))
+    (cond (eqb n 18) (plain f StartScan)
+    (cond (eqb n 19) (scanStep f)
+    (cond (eqb n 20) (portPower f)
     Bad)))))))))))))))))))
 
-abbrev pub judged : Fields → Entry
-judged f = judgedAs (f .number) f
+abbrev pub entryFrom : Fields → Entry
+entryFrom f = judgedAs (f .number) f
 
 unfoldable pub entryOf : List ℕ → Entry
-entryOf bs = pick (eqb (length bs) 64) (judged (fieldsOf bs)) Bad
+entryOf bs = cond (eqb (length bs) 64) (entryFrom (fieldsOf bs)) Bad
 
 -- ---- entries that have a record
 

@@ -3,7 +3,7 @@ ghost use mathlib.Core.Path.{_≡_};
 ghost use mathlib.Core.List.{[], _∷_};
 ghost use Prim.Native.Nat.{_+_, _≤_};
 ghost use lib.ListN.{length};
-ghost use Rattle.opening.specs.Rows.{putAt};
+ghost use Rattle.common.specs.Rows.{putAt};
 ghost use Rattle.call_log.specs.Block.{blockOf, restLines, rowsLines};
 ghost use Rattle.call_log.specs.Changes.{frameLines, headLines, portLines, setupLines};
 ghost use Rattle.text.specs.Text.{onlyIf};

@@ -1,7 +1,7 @@
 // The numbers of a record: the call's, seven small parameters, and seven of 64 bits, the lowest byte first.
+ghost use mathlib.Core.Bool.{_&&_};
 ghost use mathlib.Core.Path.{_≡_};
 ghost use lib.ListN.{length};
-ghost use Rattle.settings.specs.Tests.{both};
 ghost use Rattle.call_log.specs.Fields.{bytesSpare, fieldsOf, numbersSpare};
 use text::number::number64;
 
@@ -75,7 +75,7 @@ fn numbers_spare(f: Fields, used: u8) -> bool
 
 // What a call does not use is 0.
 pub fn spare(f: Fields, bytes: u8, numbers: u8) -> bool
-    ensures { λ r. ⌜ r ≡ both (bytesSpare f bytes) (numbersSpare f numbers) ⌝ }
+    ensures { λ r. ⌜ r ≡ (bytesSpare f bytes && numbersSpare f numbers) ⌝ }
 {
     bytes_spare(f, bytes) & numbers_spare(f, numbers)
 }

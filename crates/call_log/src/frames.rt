@@ -1,10 +1,10 @@
 // The runs of frame entries that changed to one value.
 ghost use mathlib.Core.Path.{_≡_};
-ghost use mathlib.Core.Bool.{Bool};
+ghost use mathlib.Core.Bool.{Bool, cond};
 ghost use Prim.Native.Nat.{_+_, _*_, _≤_, _<_};
 ghost use lib.ListN.{length};
-ghost use Rattle.opening.specs.Rows.{putAt};
-ghost use Rattle.text.specs.Text.{onlyIf, pick};
+ghost use Rattle.common.specs.Rows.{putAt};
+ghost use Rattle.text.specs.Text.{onlyIf};
 ghost use Rattle.call_log.specs.Changes.{frameLines, goesOn, runEnds};
 ghost use Rattle.call_log.specs.Lines.{frameLine};
 use crate::line::put_line;
@@ -35,7 +35,7 @@ fn run_ends(before: &[u32], after: &[u32], i: usize, on: bool) -> bool
 // Where the run of the next entry begins.
 fn next_first(on: bool, first: usize, i: usize) -> usize
     requires { ⌜ i < 65536 ⌝ }
-    ensures { λ r. ⌜ r ≡ pick on first (i + 1) ⌝ }
+    ensures { λ r. ⌜ r ≡ cond on first (i + 1) ⌝ }
 {
     if on { first } else { i + 1 }
 }

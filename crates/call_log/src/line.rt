@@ -3,7 +3,7 @@ ghost use mathlib.Core.Path.{_≡_};
 ghost use mathlib.Core.List.{[], _∷_};
 ghost use Prim.Native.Nat.{_+_, _*_, _≤_, min};
 ghost use lib.ListN.{length, take};
-ghost use Rattle.opening.specs.Rows.{putAt};
+ghost use Rattle.common.specs.Rows.{putAt};
 ghost use Rattle.text.specs.Text.{hex};
 ghost use Rattle.call_log.specs.Lines.{lineBytes, partBytes, partsBytes};
 use text::digits::put;

@@ -18,7 +18,7 @@ ghost use Rattle.call_log.specs.Records.{
   drain,
   scanStep,
   portPower,
-  judged,
+  entryFrom,
   entryOf,
 };
 use crate::fields::Fields;
@@ -29,9 +29,9 @@ use controller::lent::Readings;
 use ehci::call::Call;
 use ehci::call::EndpointFields;
 use ehci::call::InterruptReadings;
-use pipe::endpoint::direction_of;
-use pipe::endpoint::kind_of;
-use request::judge::TransferRequest;
+use pipe::endpoints::direction_of;
+use pipe::endpoints::kind_of;
+use request::entry_from::TransferRequest;
 use settings::settings::Settings;
 
 // A register value or a token is below this, a packet size and six setup bytes below those.
@@ -236,9 +236,9 @@ fn port_power(f: Fields) -> Entry
 }
 
 // Calls 1 to 8, and 0, which is none.
-fn judge_first(f: Fields) -> Entry
+fn entry_first(f: Fields) -> Entry
     requires { ⌜ f .number ≤ 8 ⌝ }
-    ensures { λ r. ⌜ r ≡ judged f ⌝ }
+    ensures { λ r. ⌜ r ≡ entryFrom f ⌝ }
 {
     let number = f.number;
     match number {
@@ -255,9 +255,9 @@ fn judge_first(f: Fields) -> Entry
 }
 
 // Calls 9 to 14.
-fn judge_second(f: Fields) -> Entry
+fn entry_second(f: Fields) -> Entry
     requires { ⌜ (8 < f .number) × (f .number ≤ 14) ⌝ }
-    ensures { λ r. ⌜ r ≡ judged f ⌝ }
+    ensures { λ r. ⌜ r ≡ entryFrom f ⌝ }
 {
     let number = f.number;
     match number {
@@ -271,9 +271,9 @@ fn judge_second(f: Fields) -> Entry
 }
 
 // Calls 15 to 20, and numbers that no call has.
-fn judge_third(f: Fields) -> Entry
+fn entry_third(f: Fields) -> Entry
     requires { ⌜ 14 < f .number ⌝ }
-    ensures { λ r. ⌜ r ≡ judged f ⌝ }
+    ensures { λ r. ⌜ r ≡ entryFrom f ⌝ }
 {
     let number = f.number;
     match number {
@@ -287,17 +287,17 @@ fn judge_third(f: Fields) -> Entry
     }
 }
 
-fn judge(f: Fields) -> Entry
-    ensures { λ r. ⌜ r ≡ judged f ⌝ }
+fn entry_from(f: Fields) -> Entry
+    ensures { λ r. ⌜ r ≡ entryFrom f ⌝ }
 {
     let number = f.number;
     if number <= 8 {
-        return judge_first(f);
+        return entry_first(f);
     }
     if number <= 14 {
-        return judge_second(f);
+        return entry_second(f);
     }
-    judge_third(f)
+    entry_third(f)
 }
 
 pub fn read_record(bytes: &[u8]) -> Entry
@@ -306,5 +306,5 @@ pub fn read_record(bytes: &[u8]) -> Entry
     if bytes.len() != RECORD {
         return Entry::Bad;
     }
-    judge(decode(bytes))
+    entry_from(decode(bytes))
 }

@@ -6,9 +6,9 @@ use Rattle.register.specs.Writes.{noWrites}
 use Rattle.register.specs.declared.writes.Writes.{Writes}
 use Rattle.pool.specs.declared.chain.View.{View}
 use Rattle.state.specs.declared.state.Ehci.{Ehci}
-use Rattle.answer.specs.declared.answer.Answer.{Answer}
-use Rattle.answer.specs.declared.answer.Answer.the-variants.{Refused as RefusedCall}
-use Rattle.answer.specs.declared.answer.Refusal.{Refusal}
+use Rattle.common.specs.declared.answer.Answer.{Answer}
+use Rattle.common.specs.declared.answer.Answer.the-variants.{Refused as RefusedCall}
+use Rattle.common.specs.declared.answer.Refusal.{Refusal}
 use Rattle.collection.specs.declared.collected.Cancellation.{Cancellation}
 use Rattle.collection.specs.declared.collected.Collected.the-variants.{Complete, Pending, Cancelled, Failed, Refused}
 use Rattle.collection.specs.declared.collected.Collection.{Collection}

@@ -1,7 +1,7 @@
 -- The returns of the functions that ask.
 use Prim.Native.Nat.{ℕ, _+_, _≤_, _<_}
 use mathlib.Core.Path.{_≡_, sym, _∙_}
-use mathlib.Core.Bool.{Bool, true, false, not}
+use mathlib.Core.Bool.{Bool, true, false, not, _&&_}
 use native.Mathlib.Omega.{arith}
 use borrow.Author.Tests.{leb-true, ltb-true, not-false, not-true}
 use lib.Dec.{eqb, leb, ltb}
@@ -10,21 +10,19 @@ use Rattle.pool.specs.Chains.{noAsk}
 use Rattle.pool.specs.Places.{packed, placesFrom}
 use Rattle.pool.specs.declared.chain.Ask.{Ask}
 use Rattle.pool.specs.declared.places.Places.{Places}
-use Rattle.settings.specs.Tests.{both}
 use Rattle.settings.specs.declared.settings.Settings.{Settings}
-use Rattle.settings.proofs.Every.{every-4}
-use Rattle.settings.proofs.SettingsLaws.{both-tells}
+use Rattle.common.proofs.TestLaws.{every-4, both-tells}
 use Rattle.state.specs.declared.state.Ehci.{Ehci}
 use Rattle.pipe.specs.Endpoints.{endpointAt}
-use Rattle.pipe.specs.declared.endpoint.Endpoint.{Endpoint}
-use Rattle.pipe.specs.declared.endpoint.Endpoint.the-variants.{Closed, Idle, Linked, Unlinking}
-use Rattle.pipe.specs.declared.endpoint.Pipe.{Pipe}
-use Rattle.pipe.specs.declared.endpoint.Request.{Request}
-use Rattle.pipe.specs.declared.endpoint.UnlinkBoundary.{UnlinkBoundary}
+use Rattle.pipe.specs.declared.endpoints.Endpoint.{Endpoint}
+use Rattle.pipe.specs.declared.endpoints.Endpoint.the-variants.{Closed, Idle, Linked, Unlinking}
+use Rattle.pipe.specs.declared.endpoints.Pipe.{Pipe}
+use Rattle.pipe.specs.declared.endpoints.Request.{Request}
+use Rattle.pipe.specs.declared.endpoints.UnlinkBoundary.{UnlinkBoundary}
 use Rattle.collection.specs.Asks.{askable, askOf, requestAsk}
 
 pub may-is : (s : Settings) (pool slot : ℕ)
-    → both (both (both (leb (s .descriptors) 256) (eqb (s .descriptors) pool)) (leb (s .limit) 16384)) (ltb slot 32) ≡ askable s pool slot
+    → (leb (s .descriptors) 256 && eqb (s .descriptors) pool && leb (s .limit) 16384 && ltb slot 32) ≡ askable s pool slot
 unfolding askable
 may-is s pool slot = every-4 (leb (s .descriptors) 256) (eqb (s .descriptors) pool) (leb (s .limit) 16384) (ltb slot 32)
 

@@ -14,13 +14,13 @@ use Rattle.pool.proofs.Each.{each-map}
 use Rattle.pool.proofs.GoodLaws.{no-ask-good, packed-asks}
 use Rattle.pool.proofs.PlaceLaws.{places-few, places-within}
 use Rattle.settings.specs.declared.settings.Settings.{Settings}
-use Rattle.settings.proofs.SettingsLaws.{both-tells}
+use Rattle.common.proofs.TestLaws.{both-tells}
 use Rattle.state.specs.declared.state.Ehci.{Ehci}
 use Rattle.pipe.specs.Endpoints.{endpointAt}
-use Rattle.pipe.specs.declared.endpoint.Endpoint.{Endpoint}
-use Rattle.pipe.specs.declared.endpoint.Endpoint.the-variants.{Closed, Idle, Linked, Unlinking}
-use Rattle.pipe.specs.declared.endpoint.Pipe.{Pipe}
-use Rattle.pipe.specs.declared.endpoint.Request.{Request}
+use Rattle.pipe.specs.declared.endpoints.Endpoint.{Endpoint}
+use Rattle.pipe.specs.declared.endpoints.Endpoint.the-variants.{Closed, Idle, Linked, Unlinking}
+use Rattle.pipe.specs.declared.endpoints.Pipe.{Pipe}
+use Rattle.pipe.specs.declared.endpoints.Request.{Request}
 use Rattle.collection.specs.Asks.{askAt, askIf, askOf, askable, requestAsk}
 
 pub askable-tells : (s : Settings) (pool k : ℕ) → askable s pool k ≡ true → (s .descriptors ≤ 256) × (s .descriptors ≡ pool) × (s .limit ≤ 16384)

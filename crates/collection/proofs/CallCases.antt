@@ -13,13 +13,13 @@ use Rattle.state.specs.declared.state.Ehci.{Ehci}
 use Rattle.state.specs.State.{withOwner}
 use Rattle.pipe.specs.Endpoints.{endpointAt, withEndpoint}
 use Rattle.controller.specs.Lent.{acceptsOf, lengths}
-use Rattle.answer.specs.declared.answer.Answer.the-variants.{Done}
-use Rattle.answer.specs.declared.answer.Refusal.the-variants.{InvalidEndpoint, InvalidParameter}
-use Rattle.pipe.specs.declared.endpoint.Endpoint.{Endpoint}
-use Rattle.pipe.specs.declared.endpoint.Endpoint.the-variants.{Closed, Idle, Linked, Unlinking}
-use Rattle.pipe.specs.declared.endpoint.Pipe.{Pipe}
-use Rattle.pipe.specs.declared.endpoint.Request.{Request}
-use Rattle.pipe.specs.declared.endpoint.UnlinkBoundary.{UnlinkBoundary}
+use Rattle.common.specs.declared.answer.Answer.the-variants.{Done}
+use Rattle.common.specs.declared.answer.Refusal.the-variants.{InvalidEndpoint, InvalidParameter}
+use Rattle.pipe.specs.declared.endpoints.Endpoint.{Endpoint}
+use Rattle.pipe.specs.declared.endpoints.Endpoint.the-variants.{Closed, Idle, Linked, Unlinking}
+use Rattle.pipe.specs.declared.endpoints.Pipe.{Pipe}
+use Rattle.pipe.specs.declared.endpoints.Request.{Request}
+use Rattle.pipe.specs.declared.endpoints.UnlinkBoundary.{UnlinkBoundary}
 use Rattle.controller.specs.declared.lent.Readings.{Readings}
 use Rattle.schedule.specs.Links.{endedOverlay}
 use Rattle.collection.specs.declared.collected.Cancellation.{Cancellation}

@@ -13,7 +13,7 @@ use Rattle.state.specs.State.{withBell, withOwner}
 use Rattle.pipe.specs.Endpoints.{decoded, endpointAt, withEndpoint}
 use Rattle.controller.specs.Lent.{acceptsOf, lengths}
 use Rattle.opening.specs.Opening.{rowsFit}
-use Rattle.opening.specs.Rows.{putAt}
+use Rattle.common.specs.Rows.{putAt}
 use Rattle.schedule.specs.Bell.{ringOf, unlinkedOf}
 use Rattle.schedule.specs.Links.{detachOf, endedOverlay, predecessorOf}
 use Rattle.collection.specs.Answers.{outcomeOf}

@@ -7,8 +7,8 @@ use native.Mathlib.Decide.{ℕ-discrete as decEq}
 use native.Mathlib.Omega.{arith}
 use lib.ListN.{getD}
 use Rattle.register.specs.Writes.{noWrites}
-use Rattle.token.specs.declared.request.EndpointType.{EndpointType}
-use Rattle.token.specs.declared.request.EndpointType.the-variants.{Control, Isochronous, Bulk, Interrupt}
+use Rattle.common.specs.declared.kinds.EndpointType.{EndpointType}
+use Rattle.common.specs.declared.kinds.EndpointType.the-variants.{Control, Isochronous, Bulk, Interrupt}
 use Rattle.pool.specs.declared.chain.View.{View}
 use Rattle.slot.specs.Ranges.{slotGood}
 use Rattle.slot.specs.declared.slot.Slot.{Slot}
@@ -20,11 +20,11 @@ use Rattle.state.specs.State.{withBell, withOwner}
 use Rattle.state.proofs.RangesLaws.{Ranges, ranges-make, ranges-tell}
 use Rattle.pipe.specs.Endpoints.{endpointAt}
 use Rattle.controller.specs.Readers.{hasEndpoint}
-use Rattle.pipe.specs.declared.endpoint.Endpoint.{Endpoint}
-use Rattle.pipe.specs.declared.endpoint.Endpoint.the-variants.{Idle, Linked, Unlinking}
-use Rattle.pipe.specs.declared.endpoint.Pipe.{Pipe}
-use Rattle.pipe.specs.declared.endpoint.Request.{Request}
-use Rattle.pipe.specs.declared.endpoint.UnlinkBoundary.{UnlinkBoundary}
+use Rattle.pipe.specs.declared.endpoints.Endpoint.{Endpoint}
+use Rattle.pipe.specs.declared.endpoints.Endpoint.the-variants.{Idle, Linked, Unlinking}
+use Rattle.pipe.specs.declared.endpoints.Pipe.{Pipe}
+use Rattle.pipe.specs.declared.endpoints.Request.{Request}
+use Rattle.pipe.specs.declared.endpoints.UnlinkBoundary.{UnlinkBoundary}
 use Rattle.controller.specs.declared.lent.Readings.{Readings}
 use Rattle.pipe.proofs.EndpointLaws.{EndpointGood, LinkedGood, OpenPipe, UnlinkingGood, Passable, Suits, Wide, bell-wide, endpoint-keeps, owner-keeps, owner-wide}
 use Rattle.controller.proofs.ReaderLaws.{open-below, open-within}

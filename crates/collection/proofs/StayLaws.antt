@@ -12,10 +12,10 @@ use Rattle.state.specs.declared.state.Ehci.{Ehci}
 use Rattle.state.specs.Slots.{slotAt, withSlot}
 use Rattle.state.specs.State.{withBell, withOwner}
 use Rattle.pipe.specs.Endpoints.{endpointAt, withEndpoint}
-use Rattle.opening.specs.Rows.{headWord}
-use Rattle.pipe.specs.declared.endpoint.Endpoint.{Endpoint}
-use Rattle.pipe.specs.declared.endpoint.Pipe.{Pipe}
-use Rattle.pipe.specs.declared.endpoint.Request.{Request}
+use Rattle.opening.specs.Heads.{headWord}
+use Rattle.pipe.specs.declared.endpoints.Endpoint.{Endpoint}
+use Rattle.pipe.specs.declared.endpoints.Pipe.{Pipe}
+use Rattle.pipe.specs.declared.endpoints.Request.{Request}
 use Rattle.controller.specs.declared.lent.Readings.{Readings}
 use Rattle.pipe.proofs.EndpointLaws.{endpoint-other}
 use Rattle.schedule.specs.Links.{Links, detachOf, givenLink, linkWord, links, periodic, predecessorOf}

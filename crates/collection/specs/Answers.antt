@@ -1,14 +1,14 @@
 -- Document 01, "Numbers a call answers": what cancel and collect answer.
 use Prim.Native.Nat.{ℕ}
-use mathlib.Core.Bool.{Bool, true, false}
+use mathlib.Core.Bool.{Bool, true, false, cond}
 use lib.Dec.{eqb}
 use Rattle.register.specs.Writes.{noWrites}
 use Rattle.pool.specs.declared.chain.View.{View}
 use Rattle.state.specs.declared.state.Ehci.{Ehci}
-use Rattle.answer.specs.Answers.{refusalNumber}
-use Rattle.answer.specs.declared.answer.Answer.{Answer}
-use Rattle.answer.specs.declared.answer.Answer.the-variants.{Done, Refused as RefusedCall}
-use Rattle.answer.specs.declared.answer.Refusal.{Refusal}
+use Rattle.common.specs.Answers.{refusalNumber}
+use Rattle.common.specs.declared.answer.Answer.{Answer}
+use Rattle.common.specs.declared.answer.Answer.the-variants.{Done, Refused as RefusedCall}
+use Rattle.common.specs.declared.answer.Refusal.{Refusal}
 use Rattle.collection.specs.declared.collected.Cancellation.{Cancellation}
 use Rattle.collection.specs.declared.collected.Collected.{Collected}
 use Rattle.collection.specs.declared.collected.Collected.the-variants.{Complete, Pending, Cancelled, Failed, Refused}
@@ -34,15 +34,11 @@ abbrev pub pendingOf : Answer → Collected
 pendingOf Done = Pending
 pendingOf (RefusedCall r) = Refused r
 
-abbrev pub pickCollected : Bool → Collected → Collected → Collected
-pickCollected true a b = a
-pickCollected false a b = b
-
 -- "Cancelled if cancelled; else Failed with the first erring token; else the sum .."
 unfoldable pub outcomeOf : Bool → View → Collected
 outcomeOf cancelled view =
-    pickCollected cancelled Cancelled
-    (pickCollected (eqb (view .failed) 0) (Complete (record { length = view .moved })) (Failed (view .failed)))
+    cond cancelled Cancelled
+    (cond (eqb (view .failed) 0) (Complete (record { length = view .moved })) (Failed (view .failed)))
 
 -- a refusal, and a request that waits: the state as it was, no write
 abbrev pub refusedCancel : Ehci → Refusal → Cancellation

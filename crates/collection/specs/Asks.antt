@@ -7,14 +7,14 @@ use lib.ListN.{take}
 use Rattle.pool.specs.Chains.{noAsk}
 use Rattle.pool.specs.Places.{packed, placesFrom}
 use Rattle.pool.specs.declared.chain.Ask.{Ask}
-use Rattle.settings.specs.Tests.{every}
+use Rattle.common.specs.Tests.{every}
 use Rattle.settings.specs.declared.settings.Settings.{Settings}
 use Rattle.state.specs.declared.state.Ehci.{Ehci}
 use Rattle.pipe.specs.Endpoints.{endpointAt}
-use Rattle.pipe.specs.declared.endpoint.Endpoint.{Endpoint}
-use Rattle.pipe.specs.declared.endpoint.Endpoint.the-variants.{Closed, Idle, Linked, Unlinking}
-use Rattle.pipe.specs.declared.endpoint.Pipe.{Pipe}
-use Rattle.pipe.specs.declared.endpoint.Request.{Request}
+use Rattle.pipe.specs.declared.endpoints.Endpoint.{Endpoint}
+use Rattle.pipe.specs.declared.endpoints.Endpoint.the-variants.{Closed, Idle, Linked, Unlinking}
+use Rattle.pipe.specs.declared.endpoints.Pipe.{Pipe}
+use Rattle.pipe.specs.declared.endpoints.Request.{Request}
 
 -- what a state in its ranges, a pool that fits and the number of a slot have
 unfoldable pub askable : Settings → ℕ → ℕ → Bool

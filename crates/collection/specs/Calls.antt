@@ -1,6 +1,6 @@
 -- Document 01, "Unlinking and collecting": cancel and collect.
 use Prim.Native.Nat.{ℕ, _+_}
-use mathlib.Core.Bool.{Bool, true, false, not}
+use mathlib.Core.Bool.{Bool, true, false, not, cond}
 use mathlib.Core.List.{List, [], _∷_, _++_}
 use lib.Dec.{eqb, leb}
 use lib.ListN.{drop, length, take}
@@ -9,17 +9,17 @@ use Rattle.pool.specs.Places.{clearOf}
 use Rattle.pool.specs.declared.chain.View.{View}
 use Rattle.state.specs.declared.state.Ehci.{Ehci}
 use Rattle.state.specs.State.{withOwner}
-use Rattle.answer.specs.Answers.{Check, first, settle}
+use Rattle.common.specs.Answers.{Check, first, settle}
 use Rattle.pipe.specs.Endpoints.{endpointAt, withEndpoint}
 use Rattle.controller.specs.Lent.{acceptsOf, lengths}
 use Rattle.controller.specs.Readers.{isOpen, isUncollected}
-use Rattle.answer.specs.declared.answer.Answer.the-variants.{Done}
-use Rattle.answer.specs.declared.answer.Refusal.the-variants.{InvalidEndpoint, InvalidParameter}
-use Rattle.pipe.specs.declared.endpoint.Endpoint.{Endpoint}
-use Rattle.pipe.specs.declared.endpoint.Endpoint.the-variants.{Closed, Idle, Linked, Unlinking}
-use Rattle.pipe.specs.declared.endpoint.Pipe.{Pipe}
-use Rattle.pipe.specs.declared.endpoint.Request.{Request}
-use Rattle.pipe.specs.declared.endpoint.UnlinkBoundary.{UnlinkBoundary}
+use Rattle.common.specs.declared.answer.Answer.the-variants.{Done}
+use Rattle.common.specs.declared.answer.Refusal.the-variants.{InvalidEndpoint, InvalidParameter}
+use Rattle.pipe.specs.declared.endpoints.Endpoint.{Endpoint}
+use Rattle.pipe.specs.declared.endpoints.Endpoint.the-variants.{Closed, Idle, Linked, Unlinking}
+use Rattle.pipe.specs.declared.endpoints.Pipe.{Pipe}
+use Rattle.pipe.specs.declared.endpoints.Request.{Request}
+use Rattle.pipe.specs.declared.endpoints.UnlinkBoundary.{UnlinkBoundary}
 use Rattle.controller.specs.declared.lent.Lengths.{Lengths}
 use Rattle.controller.specs.declared.lent.Readings.{Readings}
 use Rattle.schedule.specs.Links.{Links, links, endedOverlay}
@@ -99,14 +99,10 @@ pendingLeft l =
       rows = l .rows;
     }
 
-abbrev pub pickGathered : Bool → Gathered → Gathered → Gathered
-pickGathered true a b = a
-pickGathered false a b = b
-
 -- "if, in order, every descriptor is inactive, or an error comes before any active one, unlink; Pending"
 unfoldable pub linkedOf : Ehci → List ℕ → List ℕ → Readings → ℕ → ℕ → Pipe → Request → Gathered
 linkedOf s heads frames readings stage k p r =
-    pickGathered (eqb stage 2) (gathered (pendingCollect s) heads frames)
+    cond (eqb stage 2) (gathered (pendingCollect s) heads frames)
     (pendingLeft (unlinkOf s heads frames readings k p r))
 
 -- boundary set

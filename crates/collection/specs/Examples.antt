@@ -5,7 +5,7 @@ use lib.ListN.{getD, replicate}
 use Rattle.pool.specs.declared.chain.View.{View}
 use Rattle.settings.specs.declared.settings.Settings.{Settings}
 use Rattle.state.specs.declared.state.Ehci.{Ehci}
-use Rattle.answer.specs.Answers.{numberOf}
+use Rattle.common.specs.Answers.{numberOf}
 use Rattle.controller.specs.declared.lent.Readings.{Readings}
 use Rattle.collection.specs.Answers.{collectedNumber, collectedValue}
 use Rattle.collection.specs.Unlinks.{Left}

@@ -12,12 +12,12 @@ use crate::finish::collect_unlinking;
 use crate::unlink::mark;
 use crate::unlink::marked;
 use crate::unlink::unlink;
-use answer::answer::Refusal;
+use common::answer::Refusal;
 use controller::lent::Lengths;
 use controller::lent::Readings;
 use controller::lent::accepts;
-use pipe::endpoint::Endpoint;
-use pipe::endpoint::endpoint_at;
+use pipe::endpoints::Endpoint;
+use pipe::endpoints::endpoint_at;
 use pool::chain::View;
 use state::state::Ehci;
 

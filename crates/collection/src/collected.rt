@@ -1,8 +1,8 @@
 // What cancel and collect answer.
 ghost use mathlib.Core.Path.{_≡_};
 ghost use Rattle.collection.specs.Answers.{collectedNumber, pendingOf, outcomeOf, refusedCancel, refusedCollect, pendingCollect};
-use answer::answer::Answer;
-use answer::answer::Refusal;
+use common::answer::Answer;
+use common::answer::Refusal;
 use pool::chain::View;
 use register::writes::Writes;
 use state::state::Ehci;

@@ -2,19 +2,20 @@
 ghost use mathlib.Core.Path.{_≡_};
 ghost use Prim.Native.Nat.{_+_, _*_, _≤_, _<_, _^_};
 ghost use lib.ListN.{length};
-ghost use Rattle.pipe.specs.declared.endpoint.UnlinkBoundary.the-variants.{Async};
+ghost use Rattle.pipe.specs.declared.endpoints.UnlinkBoundary.the-variants.{Async};
 ghost use Rattle.collection.specs.Calls.{marked, markedOf};
 ghost use Rattle.collection.specs.Unlinks.{askedOf, boundedOf, waitingOf, unlinkOf, left, frameBelow, passedBoundary};
 use crate::collected::Cancellation;
 use crate::collected::refuse_cancel;
-use answer::answer::Answer;
-use answer::answer::Refusal;
+use common::answer::Answer;
+use common::answer::Refusal;
+use common::kinds::EndpointType;
 use controller::lent::Readings;
-use pipe::endpoint::Endpoint;
-use pipe::endpoint::Pipe;
-use pipe::endpoint::Request;
-use pipe::endpoint::UnlinkBoundary;
-use pipe::endpoint::with_endpoint;
+use pipe::endpoints::Endpoint;
+use pipe::endpoints::Pipe;
+use pipe::endpoints::Request;
+use pipe::endpoints::UnlinkBoundary;
+use pipe::endpoints::with_endpoint;
 use register::writes::Writes;
 use schedule::bell::Bell;
 use schedule::bell::Rung;
@@ -25,7 +26,6 @@ use schedule::links::Predecessor;
 use schedule::links::detach;
 use schedule::links::head_address;
 use state::state::Ehci;
-use token::request::EndpointType;
 
 // The boundary of a request that is unlinked, and the doorbell then.
 pub struct Bounded {

@@ -5,7 +5,7 @@ use mathlib.Core.Bool.{Bool, true, false}
 use native.Mathlib.Omega.{arith}
 use borrow.Author.Tests.{ltb-false, ltb-true}
 use lib.Dec.{ltb}
-use Rattle.answer.specs.declared.answer.Refusal.the-variants.{InvalidParameter, SlotLimitReached}
+use Rattle.common.specs.declared.answer.Refusal.the-variants.{InvalidParameter, SlotLimitReached}
 use Rattle.controller.specs.declared.calls.Allotted.the-variants.{Address, Refused}
 use Rattle.state.specs.declared.state.Ehci.{Ehci}
 use Rattle.controller.specs.Address.{allotOf}

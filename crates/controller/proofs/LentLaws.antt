@@ -1,8 +1,7 @@
 -- What a call that is accepted may count on.
 use mathlib.Core.Path.{_≡_}
-use mathlib.Core.Bool.{Bool, true}
-use Rattle.settings.specs.Tests.{both}
-use Rattle.settings.proofs.SettingsLaws.{both-tells}
+use mathlib.Core.Bool.{Bool, true, _&&_}
+use Rattle.common.proofs.TestLaws.{both-tells}
 use Rattle.state.specs.declared.state.Ehci.{Ehci}
 use Rattle.state.specs.Ranges.{inRanges}
 use Rattle.state.proofs.RangesLaws.{Ranges, ranges-tell}
@@ -13,7 +12,7 @@ use Rattle.opening.proofs.OpenLaws.{Fitting, rows-tell}
 
 pub accepts-is : (s : Ehci) (lent : Lengths) (f g : Bool)
     → f ≡ rowsFit (s .settings) (lent .pool) (lent .heads) (lent .frames) (lent .setups) → g ≡ inRanges s
-    → both f g ≡ acceptsOf s lent
+    → (f && g) ≡ acceptsOf s lent
 unfolding acceptsOf
 accepts-is s lent f g ef eg = rw (ef, eg)
 

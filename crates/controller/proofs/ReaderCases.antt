@@ -1,7 +1,7 @@
 -- The loop and the returns of the readers.
 use Prim.Native.Nat.{ℕ, zero, suc, _+_, _-_, _≤_, _<_}
 use mathlib.Core.Path.{_≡_, refl, sym, ap, _∙_}
-use mathlib.Core.Bool.{Bool, true, false}
+use mathlib.Core.Bool.{Bool, true, false, _||_, cond}
 use mathlib.Core.List.{List, [], _∷_}
 use native.Mathlib.Numerals.{add-one}
 use native.Mathlib.Omega.{arith}
@@ -9,15 +9,14 @@ use borrow.Author.Tests.{eq-eqb, eqb-true, ne-eqb, lt-ltb, le-ltb}
 use lib.Dec.{eqb, ltb}
 use lib.ListN.{drop, drop-of-length-le, getD, length, take, List·getD-eq-default}
 use lib.Seq.{drop-cons, take-all}
-use Rattle.pipe.specs.declared.endpoint.Endpoint.{Endpoint}
-use Rattle.pipe.specs.declared.endpoint.Endpoint.the-variants.{Closed, Idle, Linked, Unlinking}
-use Rattle.pipe.specs.declared.endpoint.Pipe.{Pipe}
-use Rattle.pipe.specs.declared.endpoint.Request.{Request}
-use Rattle.pipe.specs.declared.endpoint.UnlinkBoundary.{UnlinkBoundary}
-use Rattle.settings.specs.Tests.{either}
+use Rattle.pipe.specs.declared.endpoints.Endpoint.{Endpoint}
+use Rattle.pipe.specs.declared.endpoints.Endpoint.the-variants.{Closed, Idle, Linked, Unlinking}
+use Rattle.pipe.specs.declared.endpoints.Pipe.{Pipe}
+use Rattle.pipe.specs.declared.endpoints.Request.{Request}
+use Rattle.pipe.specs.declared.endpoints.UnlinkBoundary.{UnlinkBoundary}
 use Rattle.state.specs.Slots.{slotAt}
 use Rattle.state.specs.declared.state.Ehci.{Ehci}
-use Rattle.pipe.specs.Endpoints.{decoded, endpointAt, flagNumber, pickEndpoint}
+use Rattle.pipe.specs.Endpoints.{decoded, endpointAt, flagNumber}
 use Rattle.controller.specs.Readers.{countZero, freeCount, hasEndpoint, hasPlace, holdsRequest, isOpen, isUncollected, openIn, phaseIn, uncollectedIn}
 
 counted-more : (l : List ℕ) (i : ℕ) → i < length l → countZero (drop i l) ≡ flagNumber (eqb (getD l i 0) 0) + countZero (drop (i + 1) l)
@@ -79,29 +78,29 @@ phase-of phases k h = rw (lt-ltb k 32 h)
 pub no-phase : (phases : List ℕ) (k : ℕ) → 32 ≤ k → 0 ≡ phaseIn phases k
 no-phase phases k h = rw (le-ltb k 32 h)
 
-pub open-tests : (phases : List ℕ) (k p : ℕ) → p ≡ phaseIn phases k → either (either (eqb p 1) (eqb p 2)) (eqb p 3) ≡ openIn phases k
+pub open-tests : (phases : List ℕ) (k p : ℕ) → p ≡ phaseIn phases k → (eqb p 1 || eqb p 2 || eqb p 3) ≡ openIn phases k
 unfolding openIn
 open-tests phases k p e = rw e
 
-pub uncollected-tests : (phases : List ℕ) (k p : ℕ) → p ≡ phaseIn phases k → either (eqb p 2) (eqb p 3) ≡ uncollectedIn phases k
+pub uncollected-tests : (phases : List ℕ) (k p : ℕ) → p ≡ phaseIn phases k → (eqb p 2 || eqb p 3) ≡ uncollectedIn phases k
 unfolding uncollectedIn
 uncollected-tests phases k p e = rw e
 
 module _ (i : Pipe) (p : Pipe) (r : Request) (q : Pipe) (t : Request) (u : UnlinkBoundary) where
-  some-open : (a b c : Bool) → either (either a b) c ≡ hasEndpoint (pickEndpoint a (Idle i) (pickEndpoint b (Linked p r) (pickEndpoint c (Unlinking q t u) Closed)))
+  some-open : (a b c : Bool) → (a || b || c) ≡ hasEndpoint (cond a (Idle i) (cond b (Linked p r) (cond c (Unlinking q t u) Closed)))
   some-open true b c = refl
   some-open false true c = refl
   some-open false false true = refl
   some-open false false false = refl
 
   -- no number is 1 and one of the others
-  some-held : (a b c : Bool) → (a ≡ true → either b c ≡ false) → either b c ≡ holdsRequest (pickEndpoint a (Idle i) (pickEndpoint b (Linked p r) (pickEndpoint c (Unlinking q t u) Closed)))
+  some-held : (a b c : Bool) → (a ≡ true → (b || c) ≡ false) → (b || c) ≡ holdsRequest (cond a (Idle i) (cond b (Linked p r) (cond c (Unlinking q t u) Closed)))
   some-held true b c h = h refl
   some-held false true c h = refl
   some-held false false true h = refl
   some-held false false false h = refl
 
-idle-only : (n : ℕ) → eqb n 1 ≡ true → either (eqb n 2) (eqb n 3) ≡ false
+idle-only : (n : ℕ) → eqb n 1 ≡ true → (eqb n 2 || eqb n 3) ≡ false
 idle-only n h =
     let one : n ≡ 1 = eqb-true n 1 h in
     rw (ne-eqb n 2 (λ e. omega arith), ne-eqb n 3 (λ e. omega arith))

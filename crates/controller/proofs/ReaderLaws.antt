@@ -5,13 +5,13 @@ use mathlib.Core.Bool.{Bool, true, false}
 use native.Mathlib.Omega.{arith}
 use borrow.Author.Tests.{ltb-false, ltb-true}
 use lib.Dec.{ltb}
-use Rattle.settings.proofs.Every.{false-true}
+use Rattle.common.proofs.TestLaws.{false-true}
 use Rattle.slot.proofs.SlotLaws.{slot-tells}
 use Rattle.state.specs.Slots.{slotAt}
 use Rattle.state.specs.declared.state.Ehci.{Ehci}
 use Rattle.state.proofs.RangesLaws.{Ranges}
 use Rattle.pipe.specs.Endpoints.{endpointAt}
-use Rattle.pipe.specs.declared.endpoint.Endpoint.the-variants.{Closed}
+use Rattle.pipe.specs.declared.endpoints.Endpoint.the-variants.{Closed}
 use Rattle.pipe.proofs.EndpointCases.{at-none, at-slot, decode-closed}
 use Rattle.controller.specs.Readers.{hasEndpoint, isOpen}
 

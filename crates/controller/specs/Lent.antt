@@ -1,7 +1,6 @@
 -- Document 01, the order of checks: "First: a lent row of a length other than opening fixed, or a state outside its ranges".
 use Prim.Native.Nat.{ℕ}
-use mathlib.Core.Bool.{Bool}
-use Rattle.settings.specs.Tests.{both}
+use mathlib.Core.Bool.{Bool, _&&_}
 use Rattle.state.specs.declared.state.Ehci.{Ehci}
 use Rattle.state.specs.Ranges.{inRanges}
 use Rattle.controller.specs.declared.lent.Lengths.{Lengths}
@@ -13,4 +12,4 @@ lengths pool heads frames setups = record { pool = pool; heads = heads; frames =
 
 unfoldable pub acceptsOf : Ehci → Lengths → Bool
 acceptsOf s lent =
-    both (rowsFit (s .settings) (lent .pool) (lent .heads) (lent .frames) (lent .setups)) (inRanges s)
+    rowsFit (s .settings) (lent .pool) (lent .heads) (lent .frames) (lent .setups) && inRanges s

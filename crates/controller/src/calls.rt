@@ -1,7 +1,7 @@
 // The public call of this crate: the next device address.
 ghost use mathlib.Core.Path.{_≡_};
 ghost use Rattle.controller.specs.Address.{allotOf};
-use answer::answer::Refusal;
+use common::answer::Refusal;
 use state::ranges::in_ranges;
 use state::state::Ehci;
 

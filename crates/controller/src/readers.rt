@@ -4,8 +4,8 @@ ghost use Prim.Native.Nat.{_≤_};
 ghost use lib.ListN.{length, take};
 ghost use Rattle.pipe.specs.Endpoints.{flagOf};
 ghost use Rattle.controller.specs.Readers.{countZero, freeCount, isOpen, isUncollected, hasPlace, phaseIn, openIn, uncollectedIn};
-use pipe::endpoint::Endpoint;
-use pipe::endpoint::endpoint_at;
+use pipe::endpoints::Endpoint;
+use pipe::endpoints::endpoint_at;
 use state::state::Ehci;
 
 // How many of some owners are 0.

@@ -4,8 +4,8 @@ use mathlib.Core.Path.{_≡_, refl, _∙_}
 use native.Mathlib.Nat.{mod-lt}
 use native.Mathlib.Omega.{arith}
 use Rattle.register.proofs.FieldLaws.{field-with, field-below, field-above}
-use Rattle.token.specs.declared.request.EndpointType.{EndpointType}
-use Rattle.token.specs.declared.request.EndpointType.the-variants.{Control, Isochronous, Bulk, Interrupt}
+use Rattle.common.specs.declared.kinds.EndpointType.{EndpointType}
+use Rattle.common.specs.declared.kinds.EndpointType.the-variants.{Control, Isochronous, Bulk, Interrupt}
 use Rattle.descriptor.specs.declared.qtd.NextQtd.the-variants.{Terminate, At}
 use Rattle.descriptor.specs.Descriptors.{nextWord}
 use Rattle.descriptor.specs.EhciQtd.{terminate, qtdAddress}

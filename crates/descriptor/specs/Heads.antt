@@ -2,8 +2,8 @@
 use Prim.Native.Nat.{ℕ, _+_, _-_, _*_, _%_, _^_, max}
 use mathlib.Core.List.{List, [], _∷_, _++_}
 use Rattle.register.specs.Bits.{withField}
-use Rattle.token.specs.declared.request.EndpointType.{EndpointType}
-use Rattle.token.specs.declared.request.EndpointType.the-variants.{Control, Isochronous, Bulk, Interrupt}
+use Rattle.common.specs.declared.kinds.EndpointType.{EndpointType}
+use Rattle.common.specs.declared.kinds.EndpointType.the-variants.{Control, Isochronous, Bulk, Interrupt}
 use Rattle.descriptor.specs.declared.head.QueueHead.{QueueHead}
 use Rattle.descriptor.specs.Descriptors.{terminated}
 

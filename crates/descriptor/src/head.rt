@@ -15,9 +15,9 @@ ghost use Rattle.descriptor.specs.Heads.{
 };
 use crate::qtd::EHCI_LINK_TERMINATE;
 use crate::qtd::QueueTransferDescriptor;
+use common::kinds::EndpointType;
 use register::bits::with_bits;
 use register::bits::without_bits;
-use token::request::EndpointType;
 
 // The type of a link that leads to a queue head.
 pub const EHCI_QH_LINK_TYPE_QH: u32 = 0b01 << 1;

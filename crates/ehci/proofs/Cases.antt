@@ -11,16 +11,16 @@ use Rattle.pool.specs.declared.chain.Ask.{Ask}
 use Rattle.pool.specs.declared.chain.View.{View}
 use Rattle.pool.proofs.GoodLaws.{no-ask-good}
 use Rattle.state.specs.declared.state.Ehci.{Ehci}
-use Rattle.answer.specs.declared.answer.Answer.{Answer}
-use Rattle.bring_up.specs.declared.reads.NextRead.{NextRead}
-use Rattle.answer.specs.declared.answer.Refusal.the-variants.{InvalidParameter}
+use Rattle.common.specs.declared.answer.Answer.{Answer}
+use Rattle.common.specs.declared.reads.NextRead.{NextRead}
+use Rattle.common.specs.declared.answer.Refusal.the-variants.{InvalidParameter}
 use Rattle.opening.specs.Opening.{rowsFit}
 use Rattle.endpoint.specs.Calls.{ChangeLeft, OpenLeft, changeLeft, openLeft}
 use Rattle.endpoint.specs.declared.calls.Change.{Change}
 use Rattle.endpoint.specs.declared.calls.EndpointOpening.{EndpointOpening}
 use Rattle.request.specs.Submit.{Outcome as SubmitOutcome, submitted}
-use Rattle.request.specs.declared.calls.Submitted.{Submitted}
-use Rattle.request.specs.declared.calls.WrittenBack.{WrittenBack}
+use Rattle.request.specs.declared.answers.Submitted.{Submitted}
+use Rattle.request.specs.declared.answers.WrittenBack.{WrittenBack}
 use Rattle.collection.specs.Asks.{askOf}
 use Rattle.collection.specs.Calls.{Gathered, gathered}
 use Rattle.collection.specs.Unlinks.{Left, left}

@@ -1,18 +1,18 @@
 -- How many register writes the calls' own definitions make: at most six each.
 use Prim.Native.Nat.{ℕ, _≤_}
-use mathlib.Core.Bool.{Bool, true, false}
+use mathlib.Core.Bool.{Bool, true, false, cond}
 use lib.Dec.{eqb}
 use native.Mathlib.Omega.{arith}
 use Rattle.register.specs.Writes.{andThen, noWrites}
-use Rattle.token.specs.declared.request.EndpointType.{EndpointType}
-use Rattle.token.specs.declared.request.EndpointType.the-variants.{Control, Isochronous, Bulk, Interrupt}
+use Rattle.common.specs.declared.kinds.EndpointType.{EndpointType}
+use Rattle.common.specs.declared.kinds.EndpointType.the-variants.{Control, Isochronous, Bulk, Interrupt}
 use Rattle.state.specs.declared.state.Ehci.{Ehci}
 use Rattle.controller.specs.declared.lent.Readings.{Readings}
 use Rattle.schedule.specs.Bell.{advancedOf, mustRing, ringOf, rungIf, unlinkedOf}
 use Rattle.schedule.specs.Links.{same}
 use Rattle.schedule.specs.declared.bell.Bell.{Bell}
 use Rattle.collection.specs.Unlinks.{boundedOf}
-use Rattle.interrupt.specs.Interrupts.{acknowledgeWrites, countIf, countedOf, maskWord, pickWrites}
+use Rattle.interrupt.specs.Interrupts.{acknowledgeWrites, countIf, countedOf, maskWord}
 use Rattle.bring_up.specs.BringUp.{setUp, stageWrites}
 use Rattle.bring_up.specs.declared.stage.Stage.{Stage}
 use Rattle.bring_up.specs.declared.stage.Stage.the-variants.{Stop, Halting, Reset, Resetting, Run, Starting}
@@ -58,7 +58,7 @@ unfolding acknowledgeWrites andThen noWrites
 acknowledged-few p interrupts flag again = by (same flag again)
   where
     by : (b : Bool)
-        → pickWrites b
+        → cond b
         (andThen (andThen noWrites 4 p) 8 (maskWord p interrupts flag))
         (andThen (andThen (andThen noWrites 4 p) 8 (maskWord p interrupts flag)) 8 (maskWord p interrupts again)) .count
         ≤ 6

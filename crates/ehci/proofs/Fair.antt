@@ -1,28 +1,26 @@
 -- What any call decides is fair: a refusal leaves all as before (7 not running), and there are at most six writes.
 use Prim.Native.Nat.{ℕ, _+_, _≤_}
 use mathlib.Core.Path.{_≡_, refl, sym, ap, subst, _∙_}
-use mathlib.Core.Bool.{Bool, true, false, not}
+use mathlib.Core.Bool.{Bool, true, false, not, _&&_, cond}
 use mathlib.Core.List.{List, [], _∷_}
 use borrow.Author.Tests.{not-true}
 use lib.Dec.{eqb, leb, ltb}
 use lib.ListN.{length}
 use Rattle.register.specs.Bits.{anyOf, onlyBits, withoutBits}
-use Rattle.settings.specs.Tests.{both}
-use Rattle.settings.proofs.Every.{false-true}
-use Rattle.settings.proofs.SettingsLaws.{both-tells}
+use Rattle.common.proofs.TestLaws.{false-true, both-tells}
 use Rattle.pool.specs.declared.chain.View.{View}
 use Rattle.state.specs.Ranges.{inRanges}
 use Rattle.state.specs.declared.state.Ehci.{Ehci}
-use Rattle.answer.specs.Answers.{Check, Verdict, first, orElse, passed, refused, settle}
-use Rattle.answer.specs.declared.answer.Refusal.{Refusal}
-use Rattle.answer.specs.declared.answer.Refusal.the-variants.{InvalidParameter, SlotLimitReached, InvalidEndpoint, QueueFull, NotSupported, NoMemory, Timeout, NotReady}
-use Rattle.answer.proofs.CheckLaws.{settled-by, verdicts-apart}
+use Rattle.common.specs.Answers.{Check, Verdict, first, orElse, passed, refused, settle}
+use Rattle.common.specs.declared.answer.Refusal.{Refusal}
+use Rattle.common.specs.declared.answer.Refusal.the-variants.{InvalidParameter, SlotLimitReached, InvalidEndpoint, QueueFull, NotSupported, NoMemory, Timeout, NotReady}
+use Rattle.common.proofs.CheckLaws.{settled-by, verdicts-apart}
 use Rattle.pipe.specs.Endpoints.{endpointAt}
-use Rattle.pipe.specs.declared.endpoint.Endpoint.{Endpoint}
-use Rattle.pipe.specs.declared.endpoint.Endpoint.the-variants.{Closed, Idle, Linked, Unlinking}
-use Rattle.pipe.specs.declared.endpoint.Pipe.{Pipe}
-use Rattle.pipe.specs.declared.endpoint.Request.{Request}
-use Rattle.pipe.specs.declared.endpoint.UnlinkBoundary.{UnlinkBoundary}
+use Rattle.pipe.specs.declared.endpoints.Endpoint.{Endpoint}
+use Rattle.pipe.specs.declared.endpoints.Endpoint.the-variants.{Closed, Idle, Linked, Unlinking}
+use Rattle.pipe.specs.declared.endpoints.Pipe.{Pipe}
+use Rattle.pipe.specs.declared.endpoints.Request.{Request}
+use Rattle.pipe.specs.declared.endpoints.UnlinkBoundary.{UnlinkBoundary}
 use Rattle.opening.specs.Opening.{rowsFit}
 use Rattle.controller.specs.Address.{allotOf}
 use Rattle.controller.specs.Lent.{acceptsOf, lengths}
@@ -33,19 +31,19 @@ use Rattle.schedule.specs.Links.{detachOf, endedOverlay}
 use Rattle.endpoint.specs.Calls.{ChangeLeft, OpenLeft, changeOf, closeOf, fieldsGood, openChecks, openEndpointOf, setAddressOf, setPacketSizeOf, slotChecks}
 use Rattle.request.specs.Submit.{acceptedWith, refusedSubmit, settledSubmit, submitChecks, submitOf}
 use Rattle.request.specs.Writeback.{refusedWriteback, writebackChecks, writebackOf}
-use Rattle.request.specs.declared.calls.WrittenBack.{WrittenBack}
+use Rattle.request.specs.declared.answers.WrittenBack.{WrittenBack}
 use Rattle.request.specs.declared.judge.TransferRequest.{TransferRequest}
-use Rattle.collection.specs.Answers.{outcomeOf, pendingCollect, pickCollected}
+use Rattle.collection.specs.Answers.{outcomeOf, pendingCollect}
 use Rattle.collection.specs.declared.collected.Collected.the-variants.{Complete, Failed as FailedCollect}
-use Rattle.collection.specs.Calls.{Gathered, cancelAt, cancelChecks, cancelOf, collectAt, collectChecks, collectOf, endIf, ended, finishOf, gathered, linkedOf, marked, pendingLeft, pickGathered, unlinkingOf, withFrames as gatheredFrames}
+use Rattle.collection.specs.Calls.{Gathered, cancelAt, cancelChecks, cancelOf, collectAt, collectChecks, collectOf, endIf, ended, finishOf, gathered, linkedOf, marked, pendingLeft, unlinkingOf, withFrames as gatheredFrames}
 use Rattle.collection.specs.Unlinks.{Left, isMissing, passedBoundary, unlinkOf, waitingOf}
-use Rattle.interrupt.specs.Interrupts.{acknowledgeOf, disableOf, drainIf, drainOf, enableOf, heardIf, pickTaken, rearmIf, rearmOf, settledOr, takenOf, countedOf}
-use Rattle.interrupt.specs.declared.calls.Acknowledgement.{Acknowledgement}
-use Rattle.interrupt.specs.declared.calls.Drainage.{Drainage}
-use Rattle.interrupt.specs.declared.calls.Drained.the-variants.{PortChange, TransferActivity, Stopped}
-use Rattle.interrupt.specs.declared.calls.Settled.{Settled}
-use Rattle.bring_up.specs.BringUp.{againOf, anyUncollected, onwardOf, pickBroughtUp, ready, registerOf, stageOf, startOf, stepOf}
-use Rattle.bring_up.specs.declared.calls.BroughtUp.{BroughtUp}
+use Rattle.interrupt.specs.Interrupts.{acknowledgeOf, disableOf, drainIf, drainOf, enableOf, heardIf, rearmIf, rearmOf, settledOr, clearedOf, countedOf}
+use Rattle.interrupt.specs.declared.answers.Acknowledgement.{Acknowledgement}
+use Rattle.interrupt.specs.declared.answers.Drainage.{Drainage}
+use Rattle.interrupt.specs.declared.answers.Drained.the-variants.{PortChange, TransferActivity, Stopped}
+use Rattle.interrupt.specs.declared.answers.Settled.{Settled}
+use Rattle.bring_up.specs.BringUp.{againOf, anyUncollected, onwardOf, ready, registerOf, stageOf, startOf, stepOf}
+use Rattle.bring_up.specs.declared.answers.BroughtUp.{BroughtUp}
 use Rattle.bring_up.specs.declared.stage.Stage.{Stage}
 use Rattle.ehci.specs.declared.call.Call.{Call}
 use Rattle.ehci.specs.declared.call.Call.the-variants.{StartBringUp, BringUpStep, AllocateAddress, OpenEndpoint, Close, SetAddress, SetPacketSize, Submit, Writeback, Cancel, Collect, Acknowledge, Drain, Rearm, Enable, Disable}
@@ -72,7 +70,7 @@ isTimeout NotReady = false
 
 abbrev timely : List Check → Bool
 timely [] = true
-timely (c ∷ cs) = both (not (isTimeout (c .1))) (timely cs)
+timely (c ∷ cs) = not (isTimeout (c .1)) && timely cs
 
 abbrev timeoutIn : Verdict → Bool
 timeoutIn passed = false
@@ -149,7 +147,7 @@ module _ (s : Ehci) (hs fs us : List ℕ) where
   onward-fair stage v = result-fair _ refl (stage-few stage v (s .settings .frames) (s .settings .heads))
 
   picked-fair : (b : Bool) (x y : BroughtUp) → Fair (came (broughtReply x) hs fs us) → Fair (came (broughtReply y) hs fs us)
-      → Fair (came (broughtReply (pickBroughtUp b x y)) hs fs us)
+      → Fair (came (broughtReply (cond b x y)) hs fs us)
   picked-fair true x y fx fy = fx
   picked-fair false x y fx fy = fy
 
@@ -241,7 +239,7 @@ module _ (s : Ehci) (hs fs us : List ℕ) where
     unfolding linkedOf replied
     linked-fair stage p r = by (eqb stage 2)
       where
-        by : (b : Bool) → Fair (withSetups (collectCame (pickGathered b (gathered (pendingCollect s) hs fs) (pendingLeft (unlinkOf s hs fs readings k p r)))) us)
+        by : (b : Bool) → Fair (withSetups (collectCame (cond b (gathered (pendingCollect s) hs fs) (pendingLeft (unlinkOf s hs fs readings k p r)))) us)
         by true = result-fair _ refl none-few
         by false = gathers-fair p r
 
@@ -250,7 +248,7 @@ module _ (s : Ehci) (hs fs us : List ℕ) where
     outcome-given true v = refl
     outcome-given false v = by (eqb (v .failed) 0)
       where
-        by : (b : Bool) → isRefused (collectedAnswer (pickCollected b (Complete (record { length = v .moved })) (FailedCollect (v .failed)))) ≡ false
+        by : (b : Bool) → isRefused (collectedAnswer (cond b (Complete (record { length = v .moved })) (FailedCollect (v .failed)))) ≡ false
         by true = refl
         by false = refl
 
@@ -288,13 +286,13 @@ module _ (s : Ehci) (hs fs us : List ℕ) where
       by true = result-fair _ refl none-few
       by false = result-fair _ refl (acknowledged-few (onlyBits (x .status) 0x37) (x .interrupts) (x .flag) (x .again))
 
-  event-given : (pending : ℕ) → isRefused (drainedAnswer (takenOf pending .event)) ≡ false
-  unfolding takenOf
+  event-given : (pending : ℕ) → isRefused (drainedAnswer (clearedOf pending .event)) ≡ false
+  unfolding clearedOf
   event-given pending = by (anyOf pending 4) (anyOf pending 0x23)
     where
       by : (a b : Bool)
-          → isRefused (drainedAnswer (pickTaken a (record { event = PortChange; left = withoutBits pending 4 })
-          (pickTaken b (record { event = TransferActivity; left = withoutBits pending 0x23 }) (record { event = Stopped; left = 0 })) .event)) ≡ false
+          → isRefused (drainedAnswer (cond a (record { event = PortChange; left = withoutBits pending 4 })
+          (cond b (record { event = TransferActivity; left = withoutBits pending 0x23 }) (record { event = Stopped; left = 0 })) .event)) ≡ false
       by true b = refl
       by false true = refl
       by false false = refl
@@ -305,7 +303,7 @@ module _ (s : Ehci) (hs fs us : List ℕ) where
       settle-fair (λ (d : Drainage). came (drainReply d) hs fs us) ((not (inRanges s), InvalidParameter) ∷ []) _ _ refl
       (λ r. refl) (by (eqb (s .pending) 0))
     where
-      by : (b : Bool) → Fair (came (drainReply (drainIf b s (countedOf s command) (takenOf (s .pending)))) hs fs us)
+      by : (b : Bool) → Fair (came (drainReply (drainIf b s (countedOf s command) (clearedOf (s .pending)))) hs fs us)
       by true = result-fair _ refl none-few
       by false = result-fair _ (event-given (s .pending)) (counted-few s command)
 

@@ -12,11 +12,11 @@ use native.Mathlib.Omega.{arith}
 use Rattle.pool.specs.Chains.{chainGood}
 use Rattle.pool.specs.declared.chain.View.{View}
 use Rattle.pool.proofs.GoodLaws.{no-chain-good, token-good}
-use Rattle.settings.proofs.SettingsCases.{both-first}
+use Rattle.common.proofs.TestLaws.{both-first}
 use Rattle.state.specs.declared.state.Ehci.{Ehci}
 use Rattle.state.proofs.state.Ehci as S
 use Rattle.state.proofs.state.Ehci.Laws as S′
-use Rattle.answer.specs.Answers.{Verdict, first, passed, refused}
+use Rattle.common.specs.Answers.{Verdict, first, passed, refused}
 use Rattle.opening.specs.Opening.{rowsFit}
 use Rattle.controller.specs.Lent.{acceptsOf, lengths}
 use Rattle.controller.specs.declared.lent.Readings.{Readings}

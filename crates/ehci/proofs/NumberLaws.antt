@@ -1,9 +1,9 @@
 -- The number of any call's answer is the one that its own crate gives.
 use Prim.Native.Nat.{ℕ}
 use mathlib.Core.Path.{_≡_, refl}
-use Rattle.answer.specs.Answers.{numberOf}
-use Rattle.answer.specs.declared.answer.Answer.{Answer}
-use Rattle.answer.specs.declared.answer.Answer.the-variants as A
+use Rattle.common.specs.Answers.{numberOf}
+use Rattle.common.specs.declared.answer.Answer.{Answer}
+use Rattle.common.specs.declared.answer.Answer.the-variants as A
 use Rattle.controller.specs.Address.{allottedNumber}
 use Rattle.controller.specs.declared.calls.Allotted.{Allotted}
 use Rattle.controller.specs.declared.calls.Allotted.the-variants as L
@@ -11,17 +11,17 @@ use Rattle.endpoint.specs.Calls.{openedNumber}
 use Rattle.endpoint.specs.declared.calls.Opened.{Opened}
 use Rattle.endpoint.specs.declared.calls.Opened.the-variants as O
 use Rattle.request.specs.Submit.{submissionNumber}
-use Rattle.request.specs.declared.calls.Submission.{Submission}
-use Rattle.request.specs.declared.calls.Submission.the-variants as S
+use Rattle.request.specs.declared.answers.Submission.{Submission}
+use Rattle.request.specs.declared.answers.Submission.the-variants as S
 use Rattle.collection.specs.Answers.{collectedNumber}
 use Rattle.collection.specs.declared.collected.Collected.{Collected}
 use Rattle.collection.specs.declared.collected.Collected.the-variants as C
 use Rattle.interrupt.specs.Interrupts.{acknowledgedNumber, drainedNumber}
-use Rattle.interrupt.specs.declared.calls.Acknowledged.{Acknowledged}
-use Rattle.interrupt.specs.declared.calls.Acknowledged.the-variants as K
-use Rattle.interrupt.specs.declared.calls.Drained.{Drained}
-use Rattle.interrupt.specs.declared.calls.Drained.the-variants as D
-use Rattle.bring_up.specs.declared.reads.NextRead.{NextRead}
+use Rattle.interrupt.specs.declared.answers.Acknowledged.{Acknowledged}
+use Rattle.interrupt.specs.declared.answers.Acknowledged.the-variants as K
+use Rattle.interrupt.specs.declared.answers.Drained.{Drained}
+use Rattle.interrupt.specs.declared.answers.Drained.the-variants as D
+use Rattle.common.specs.declared.reads.NextRead.{NextRead}
 use Rattle.ehci.specs.Replies.{acknowledgedAnswer, allottedAnswer, answeredNumber, broughtAnswer, collectedAnswer, drainedAnswer, openedAnswer, simply, submittedAnswer}
 
 pub simple-number : (a : Answer) → answeredNumber (simply a) ≡ numberOf a

@@ -9,9 +9,9 @@ use Rattle.register.specs.Writes.{noWrites}
 use Rattle.descriptor.specs.declared.qtd.QueueTransferDescriptor.{QueueTransferDescriptor}
 use Rattle.pool.proofs.ChainLaws.{fill-no-chain}
 use Rattle.state.specs.declared.state.Ehci.{Ehci}
-use Rattle.answer.specs.Answers.{refusalNumber}
-use Rattle.answer.specs.declared.answer.Refusal.{Refusal}
-use Rattle.answer.specs.declared.answer.Refusal.the-variants.{InvalidParameter, SlotLimitReached, InvalidEndpoint, QueueFull, NotSupported, NoMemory, Timeout, NotReady}
+use Rattle.common.specs.Answers.{refusalNumber}
+use Rattle.common.specs.declared.answer.Refusal.{Refusal}
+use Rattle.common.specs.declared.answer.Refusal.the-variants.{InvalidParameter, SlotLimitReached, InvalidEndpoint, QueueFull, NotSupported, NoMemory, Timeout, NotReady}
 use Rattle.ehci.specs.declared.reply.Answered.{Answered}
 use Rattle.ehci.specs.declared.reply.Answered.the-variants.{Done, Pending, Cancelled, Failed, Refused}
 use Rattle.ehci.specs.Replies.{answeredNumber, refusedReply, replied}

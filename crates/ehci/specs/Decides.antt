@@ -8,7 +8,7 @@ use Rattle.pool.specs.Chains.{noAsk}
 use Rattle.pool.specs.declared.chain.Ask.{Ask}
 use Rattle.pool.specs.declared.chain.View.{View}
 use Rattle.state.specs.declared.state.Ehci.{Ehci}
-use Rattle.answer.specs.declared.answer.Refusal.the-variants.{InvalidParameter}
+use Rattle.common.specs.declared.answer.Refusal.the-variants.{InvalidParameter}
 use Rattle.opening.specs.Opening.{rowsFit}
 use Rattle.controller.specs.declared.calls.Allotment.{Allotment}
 use Rattle.controller.specs.declared.lent.Lengths.{Lengths}
@@ -16,15 +16,15 @@ use Rattle.controller.specs.declared.lent.Readings.{Readings}
 use Rattle.controller.specs.Address.{allotOf}
 use Rattle.controller.specs.Lent.{lengths}
 use Rattle.endpoint.specs.Calls.{ChangeLeft, OpenLeft, closeOf, openEndpointOf, setAddressOf, setPacketSizeOf}
-use Rattle.request.specs.declared.calls.WrittenBack.{WrittenBack}
+use Rattle.request.specs.declared.answers.WrittenBack.{WrittenBack}
 use Rattle.request.specs.declared.judge.TransferRequest.{TransferRequest}
 use Rattle.request.specs.Submit.{Outcome as SubmitOutcome, submitOf}
 use Rattle.request.specs.Writeback.{writebackOf}
 use Rattle.collection.specs.Asks.{askOf}
 use Rattle.collection.specs.Calls.{Gathered, cancelOf, collectOf}
 use Rattle.collection.specs.Unlinks.{Left}
-use Rattle.interrupt.specs.declared.calls.Acknowledgement.{Acknowledgement}
-use Rattle.interrupt.specs.declared.calls.Drainage.{Drainage}
+use Rattle.interrupt.specs.declared.answers.Acknowledgement.{Acknowledgement}
+use Rattle.interrupt.specs.declared.answers.Drainage.{Drainage}
 use Rattle.interrupt.specs.Interrupts.{acknowledgeOf, disableOf, drainOf, enableOf, rearmOf}
 use Rattle.bring_up.specs.BringUp.{startOf, stepOf}
 use Rattle.ehci.specs.declared.call.Call.{Call}

@@ -6,27 +6,27 @@ use Rattle.register.specs.declared.writes.Writes.{Writes}
 use Rattle.pool.specs.Chains.{noChain}
 use Rattle.pool.specs.declared.chain.Chain.{Chain}
 use Rattle.state.specs.declared.state.Ehci.{Ehci}
-use Rattle.answer.specs.Answers.{refusalNumber}
-use Rattle.answer.specs.declared.answer.Answer.{Answer}
-use Rattle.answer.specs.declared.answer.Answer.the-variants as A
-use Rattle.answer.specs.declared.answer.Refusal.{Refusal}
+use Rattle.common.specs.Answers.{refusalNumber}
+use Rattle.common.specs.declared.answer.Answer.{Answer}
+use Rattle.common.specs.declared.answer.Answer.the-variants as A
+use Rattle.common.specs.declared.answer.Refusal.{Refusal}
 use Rattle.controller.specs.declared.calls.Allotted.{Allotted}
 use Rattle.controller.specs.declared.calls.Allotted.the-variants as L
 use Rattle.endpoint.specs.declared.calls.Change.{Change}
 use Rattle.endpoint.specs.declared.calls.Opened.{Opened}
 use Rattle.endpoint.specs.declared.calls.Opened.the-variants as O
-use Rattle.request.specs.declared.calls.Submission.{Submission}
-use Rattle.request.specs.declared.calls.Submission.the-variants as S
+use Rattle.request.specs.declared.answers.Submission.{Submission}
+use Rattle.request.specs.declared.answers.Submission.the-variants as S
 use Rattle.collection.specs.declared.collected.Collected.{Collected}
 use Rattle.collection.specs.declared.collected.Collected.the-variants as C
-use Rattle.interrupt.specs.declared.calls.Acknowledged.{Acknowledged}
-use Rattle.interrupt.specs.declared.calls.Acknowledged.the-variants as K
-use Rattle.interrupt.specs.declared.calls.Drained.{Drained}
-use Rattle.interrupt.specs.declared.calls.Drained.the-variants as D
-use Rattle.interrupt.specs.declared.calls.Settled.{Settled}
-use Rattle.bring_up.specs.declared.calls.BroughtUp.{BroughtUp}
-use Rattle.bring_up.specs.declared.reads.NextRead.{NextRead}
-use Rattle.bring_up.specs.declared.reads.NextRead.the-variants as N
+use Rattle.interrupt.specs.declared.answers.Acknowledged.{Acknowledged}
+use Rattle.interrupt.specs.declared.answers.Acknowledged.the-variants as K
+use Rattle.interrupt.specs.declared.answers.Drained.{Drained}
+use Rattle.interrupt.specs.declared.answers.Drained.the-variants as D
+use Rattle.interrupt.specs.declared.answers.Settled.{Settled}
+use Rattle.bring_up.specs.declared.answers.BroughtUp.{BroughtUp}
+use Rattle.common.specs.declared.reads.NextRead.{NextRead}
+use Rattle.common.specs.declared.reads.NextRead.the-variants as N
 use Rattle.ehci.specs.declared.reply.Answered.{Answered}
 use Rattle.ehci.specs.declared.reply.Answered.the-variants.{Done, Pending, Cancelled, Failed, Refused}
 use Rattle.ehci.specs.declared.reply.Decided.{Decided}

@@ -1,7 +1,7 @@
 // A call on an opened controller, as data: what a log holds, and what the promises range over.
+use common::kinds::EndpointType;
 use controller::lent::Readings;
 use request::judge::TransferRequest;
-use token::request::EndpointType;
 
 // The parameters of a new endpoint.
 pub struct EndpointFields {

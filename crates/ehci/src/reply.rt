@@ -17,21 +17,21 @@ ghost use Rattle.ehci.specs.Replies.{
   drainedAnswer,
   broughtAnswer,
 };
-use answer::answer::Answer;
-use answer::answer::Refusal;
-use bring_up::calls::BroughtUp;
-use bring_up::reads::NextRead;
+use bring_up::answers::BroughtUp;
 use collection::collected::Collected;
+use common::answer::Answer;
+use common::answer::Refusal;
+use common::reads::NextRead;
 use controller::calls::Allotted;
 use endpoint::calls::Change;
 use endpoint::calls::Opened;
-use interrupt::calls::Acknowledged;
-use interrupt::calls::Drained;
-use interrupt::calls::Settled;
+use interrupt::answers::Acknowledged;
+use interrupt::answers::Drained;
+use interrupt::answers::Settled;
 use pool::chain::Chain;
 use pool::chain::no_chain;
 use register::writes::Writes;
-use request::calls::Submission;
+use request::answers::Submission;
 use state::state::Ehci;
 
 // What a drain came to.

@@ -1,36 +1,34 @@
 -- The returns of the calls on endpoints, and what they may count on.
 use Prim.Native.Nat.{ℕ, _+_, _*_, _≤_, _<_}
 use mathlib.Core.Path.{_≡_, refl, sym, ap, _∙_}
-use mathlib.Core.Bool.{Bool, true, false, not}
+use mathlib.Core.Bool.{Bool, true, false, not, _&&_}
 use mathlib.Core.List.{List}
 use native.Mathlib.Omega.{arith}
 use borrow.Author.Tests.{le-leb, leb-false, leb-true, lt-leb, not-false, not-true}
 use lib.Dec.{leb}
 use lib.ListN.{length, replicate}
-use Rattle.token.specs.declared.request.EndpointType.{EndpointType}
+use Rattle.common.specs.declared.kinds.EndpointType.{EndpointType}
 use Rattle.descriptor.specs.Heads.{endpointHead, withAddress, withPacketSize, wordsOf}
-use Rattle.settings.specs.Tests.{both}
-use Rattle.settings.proofs.Every.{every-3}
-use Rattle.settings.proofs.SettingsLaws.{both-tells}
+use Rattle.common.proofs.TestLaws.{every-3, both-tells}
 use Rattle.state.specs.declared.state.Ehci.{Ehci}
-use Rattle.answer.specs.declared.answer.Answer.{Answer}
-use Rattle.answer.specs.declared.answer.Answer.the-variants.{Done, Refused as RefusedCall}
-use Rattle.answer.specs.declared.answer.Refusal.{Refusal}
-use Rattle.answer.specs.declared.answer.Refusal.the-variants.{InvalidParameter, SlotLimitReached, InvalidEndpoint, QueueFull, NotSupported}
-use Rattle.pipe.specs.declared.endpoint.Endpoint.the-variants.{Closed}
+use Rattle.common.specs.declared.answer.Answer.{Answer}
+use Rattle.common.specs.declared.answer.Answer.the-variants.{Done, Refused as RefusedCall}
+use Rattle.common.specs.declared.answer.Refusal.{Refusal}
+use Rattle.common.specs.declared.answer.Refusal.the-variants.{InvalidParameter, SlotLimitReached, InvalidEndpoint, QueueFull, NotSupported}
+use Rattle.pipe.specs.declared.endpoints.Endpoint.the-variants.{Closed}
 use Rattle.controller.specs.declared.lent.Lengths.{Lengths}
-use Rattle.answer.specs.Answers.{Verdict, first, settle}
+use Rattle.common.specs.Answers.{Verdict, first, settle}
 use Rattle.pipe.specs.Endpoints.{withEndpoint}
-use Rattle.pipe.specs.Kinds.{isIsochronous}
+use Rattle.common.specs.Kinds.{isIsochronous}
 use Rattle.controller.specs.Lent.{acceptsOf, lengths}
 use Rattle.controller.specs.Readers.{isOpen, isUncollected}
-use Rattle.opening.specs.Rows.{headWord, withHeadWord}
-use Rattle.answer.proofs.CheckLaws.{let-pass, verdictOf}
+use Rattle.opening.specs.Heads.{headWord, withHeadWord}
+use Rattle.common.proofs.CheckLaws.{let-pass, verdictOf}
 use Rattle.controller.proofs.LentLaws.{accepts-tells}
 use Rattle.endpoint.specs.declared.calls.Opened.{Opened}
 use Rattle.endpoint.specs.declared.calls.Opened.the-variants.{Slot, Refused}
 use Rattle.endpoint.specs.Lowest.{lowestClosed}
-use Rattle.endpoint.specs.Calls.{changeLeft, changeOf, chosenOf, closeOf, fieldsGood, judgedOf, lowestSlot, newEndpoint, openChecks, openEndpointOf, openLeft, setAddressOf, setPacketSizeOf, slotChecks, withHead}
+use Rattle.endpoint.specs.Calls.{changeLeft, changeOf, chosenOf, closeOf, fieldsGood, slotVerdict, lowestSlot, newEndpoint, openChecks, openEndpointOf, openLeft, setAddressOf, setPacketSizeOf, slotChecks, withHead}
 use Rattle.endpoint.proofs.SlotLaws.{below-room, open-room}
 
 -- ---- verdicts
@@ -53,16 +51,16 @@ slotOf (Refused r) = 0
 
 -- ---- open endpoint: what is asked
 
-pub fields-is : (a n p : ℕ) → both (both (leb a 127) (leb n 15)) (both (leb 1 p) (leb p 1024)) ≡ fieldsGood a n p
+pub fields-is : (a n p : ℕ) → (leb a 127 && leb n 15 && (leb 1 p && leb p 1024)) ≡ fieldsGood a n p
 unfolding fieldsGood
-fields-is a n p = every-3 (leb a 127) (leb n 15) (both (leb 1 p) (leb p 1024))
+fields-is a n p = every-3 (leb a 127) (leb n 15) (leb 1 p && leb p 1024)
 
 pub fields-tell : (a n p : ℕ) → fieldsGood a n p ≡ true → (a ≤ 127) × (n ≤ 15) × (p ≤ 1024)
 unfolding fieldsGood
 fields-tell a n p e =
     let x = both-tells (leb a 127) _ e in
     let y = both-tells (leb n 15) _ (x .1) in
-    let z = both-tells (both (leb 1 p) (leb p 1024)) true (y .1) in
+    let z = both-tells (leb 1 p && leb p 1024) true (y .1) in
     let w = both-tells (leb 1 p) (leb p 1024) (z .0) in
     (leb-true a 127 (x .0), leb-true n 15 (y .0), leb-true p 1024 (w .1))
 
@@ -146,35 +144,35 @@ module _ (s : Ehci) (pool : ℕ) (h : List ℕ) (f u : ℕ) (kind : EndpointType
 -- ---- close, set address, set packet size: what is asked
 
 module _ (s : Ehci) (lent : Lengths) (k : ℕ) (good : Bool) (g : Bool) (eg : g ≡ acceptsOf s lent) where
-  pub judge-lent : not g ≡ true → RefusedCall InvalidParameter ≡ judgedOf s lent k good
-  unfolding judgedOf slotChecks
+  pub judge-lent : not g ≡ true → RefusedCall InvalidParameter ≡ slotVerdict s lent k good
+  unfolding slotVerdict slotChecks
   judge-lent t = rw (sym eg ∙ not-true g t)
 
   module _ (o : Bool) (eo : o ≡ isOpen s k) where
-    pub judge-shut : not g ≡ false → not o ≡ true → RefusedCall InvalidEndpoint ≡ judgedOf s lent k good
-    unfolding judgedOf slotChecks
+    pub judge-shut : not g ≡ false → not o ≡ true → RefusedCall InvalidEndpoint ≡ slotVerdict s lent k good
+    unfolding slotVerdict slotChecks
     judge-shut t t₁ = rw (sym eg ∙ not-false g t, sym eo ∙ not-true o t₁)
 
     module _ (u : Bool) (eu : u ≡ isUncollected s k) where
-      pub judge-busy : not g ≡ false → not o ≡ false → u ≡ true → RefusedCall QueueFull ≡ judgedOf s lent k good
-      unfolding judgedOf slotChecks
+      pub judge-busy : not g ≡ false → not o ≡ false → u ≡ true → RefusedCall QueueFull ≡ slotVerdict s lent k good
+      unfolding slotVerdict slotChecks
       judge-busy t t₁ t₂ = rw (sym eg ∙ not-false g t, sym eo ∙ not-false o t₁, sym eu ∙ t₂)
 
       pub judge-value : not g ≡ false → not o ≡ false → u ≡ false → not good ≡ true
-          → RefusedCall InvalidParameter ≡ judgedOf s lent k good
-      unfolding judgedOf slotChecks
+          → RefusedCall InvalidParameter ≡ slotVerdict s lent k good
+      unfolding slotVerdict slotChecks
       judge-value t t₁ t₂ t₃ = rw (sym eg ∙ not-false g t, sym eo ∙ not-false o t₁, sym eu ∙ t₂, t₃)
 
-      pub judge-done : not g ≡ false → not o ≡ false → u ≡ false → not good ≡ false → Done ≡ judgedOf s lent k good
-      unfolding judgedOf slotChecks
+      pub judge-done : not g ≡ false → not o ≡ false → u ≡ false → not good ≡ false → Done ≡ slotVerdict s lent k good
+      unfolding slotVerdict slotChecks
       judge-done t t₁ t₂ t₃ = rw (sym eg ∙ not-false g t, sym eo ∙ not-false o t₁, sym eu ∙ t₂, t₃)
 
 -- ---- close, set address, set packet size: what is done
 
 module _ (s : Ehci) (pool : ℕ) (h : List ℕ) (f u k : ℕ) (good : Bool) (a : Answer)
-    (ea : a ≡ judgedOf s (lengths pool (length h) f u) k good) where
+    (ea : a ≡ slotVerdict s (lengths pool (length h) f u) k good) where
   judged : verdictOf a ≡ first (slotChecks s (lengths pool (length h) f u) k good)
-  unfolding judgedOf
+  unfolding slotVerdict
   judged = ap verdictOf ea ∙ verdict-there (first (slotChecks s (lengths pool (length h) f u) k good))
 
   pub change-refused : (r : Refusal) (s′ : Ehci) (h′ : List ℕ) → a ≡ RefusedCall r
@@ -204,12 +202,12 @@ module _ (s : Ehci) (pool : ℕ) (h : List ℕ) (f u k : ℕ) (good : Bool) (a :
   change-room e = open-room s pool h f u k (change-passed e .0) (change-passed e .1)
 
 module _ (s : Ehci) (pool : ℕ) (h : List ℕ) (f u k : ℕ) (a : Answer) where
-  pub close-refused : (r : Refusal) → a ≡ judgedOf s (lengths pool (length h) f u) k true → a ≡ RefusedCall r
+  pub close-refused : (r : Refusal) → a ≡ slotVerdict s (lengths pool (length h) f u) k true → a ≡ RefusedCall r
       → changeLeft (record { answer = RefusedCall r; state = s }) h ≡ closeOf s pool h f u k
   unfolding closeOf
   close-refused r ea e = change-refused s pool h f u k true a ea r _ _ e
 
-  pub close-done : a ≡ judgedOf s (lengths pool (length h) f u) k true → a ≡ Done → (s′ : Ehci) (h′ : List ℕ)
+  pub close-done : a ≡ slotVerdict s (lengths pool (length h) f u) k true → a ≡ Done → (s′ : Ehci) (h′ : List ℕ)
       → s′ ≡ withEndpoint s k Closed → h′ ≡ withHead h k (replicate 17 0)
       → changeLeft (record { answer = Done; state = s′ }) h′ ≡ closeOf s pool h f u k
   unfolding closeOf
@@ -217,24 +215,24 @@ module _ (s : Ehci) (pool : ℕ) (h : List ℕ) (f u k : ℕ) (a : Answer) where
       rw (es, eh) (change-done s pool h f u k true a ea (withEndpoint s k Closed) (withHead h k (replicate 17 0)) e)
 
   module _ (x : ℕ) where
-    pub address-refused : (r : Refusal) → a ≡ judgedOf s (lengths pool (length h) f u) k (leb x 127) → a ≡ RefusedCall r
+    pub address-refused : (r : Refusal) → a ≡ slotVerdict s (lengths pool (length h) f u) k (leb x 127) → a ≡ RefusedCall r
         → changeLeft (record { answer = RefusedCall r; state = s }) h ≡ setAddressOf s pool h f u k x
     unfolding setAddressOf
     address-refused r ea e = change-refused s pool h f u k (leb x 127) a ea r _ _ e
 
-    pub address-done : a ≡ judgedOf s (lengths pool (length h) f u) k (leb x 127) → a ≡ Done → (w : ℕ)
+    pub address-done : a ≡ slotVerdict s (lengths pool (length h) f u) k (leb x 127) → a ≡ Done → (w : ℕ)
         → w ≡ withAddress (headWord h (k + 1) 1) x
         → changeLeft (record { answer = Done; state = s }) (withHeadWord h (k + 1) 1 w) ≡ setAddressOf s pool h f u k x
     unfolding setAddressOf
     address-done ea e w ew =
         rw ew (change-done s pool h f u k (leb x 127) a ea s (withHeadWord h (k + 1) 1 (withAddress (headWord h (k + 1) 1) x)) e)
 
-    pub size-refused : (r : Refusal) → a ≡ judgedOf s (lengths pool (length h) f u) k true → a ≡ RefusedCall r
+    pub size-refused : (r : Refusal) → a ≡ slotVerdict s (lengths pool (length h) f u) k true → a ≡ RefusedCall r
         → changeLeft (record { answer = RefusedCall r; state = s }) h ≡ setPacketSizeOf s pool h f u k x
     unfolding setPacketSizeOf
     size-refused r ea e = change-refused s pool h f u k true a ea r _ _ e
 
-    pub size-done : a ≡ judgedOf s (lengths pool (length h) f u) k true → a ≡ Done → (w : ℕ)
+    pub size-done : a ≡ slotVerdict s (lengths pool (length h) f u) k true → a ≡ Done → (w : ℕ)
         → w ≡ withPacketSize (headWord h (k + 1) 1) x
         → changeLeft (record { answer = Done; state = s }) (withHeadWord h (k + 1) 1 w) ≡ setPacketSizeOf s pool h f u k x
     unfolding setPacketSizeOf

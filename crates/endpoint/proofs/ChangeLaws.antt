@@ -15,21 +15,21 @@ use Rattle.descriptor.proofs.HeadFields.{address-reads, Characteristics, packet
 use Rattle.state.specs.declared.state.Ehci.{Ehci}
 use Rattle.state.specs.Ranges.{inRanges}
 use Rattle.state.proofs.RangesLaws.{ranges-make, ranges-tell}
-use Rattle.answer.specs.declared.answer.Answer.{Answer}
-use Rattle.answer.specs.declared.answer.Answer.the-variants.{Done, Refused}
-use Rattle.answer.specs.declared.answer.Refusal.{Refusal}
-use Rattle.pipe.specs.declared.endpoint.Endpoint.the-variants.{Closed}
+use Rattle.common.specs.declared.answer.Answer.{Answer}
+use Rattle.common.specs.declared.answer.Answer.the-variants.{Done, Refused}
+use Rattle.common.specs.declared.answer.Refusal.{Refusal}
+use Rattle.pipe.specs.declared.endpoints.Endpoint.the-variants.{Closed}
 use Rattle.pipe.specs.Endpoints.{encoded, endpointAt, withEndpoint}
 use Rattle.controller.specs.Lent.{acceptsOf, lengths}
 use Rattle.controller.specs.Readers.{isOpen, isUncollected}
-use Rattle.opening.specs.Rows.{headWord, withHeadWord}
+use Rattle.opening.specs.Heads.{headWord, withHeadWord}
 use Rattle.pipe.proofs.EndpointLaws.{endpoint-keeps, endpoint-other, endpoint-same, slot-wide, Wide}
-use Rattle.answer.proofs.CheckLaws.{answers-apart}
+use Rattle.common.proofs.CheckLaws.{answers-apart}
 use Rattle.controller.proofs.LentLaws.{accepts-tells}
 use Rattle.controller.proofs.ReaderLaws.{open-within}
-use Rattle.endpoint.specs.Calls.{changeLeft, ChangeLeft, changeOf, closeOf, judgedOf, setAddressOf, setPacketSizeOf, withHead}
+use Rattle.endpoint.specs.Calls.{changeLeft, ChangeLeft, changeOf, closeOf, slotVerdict, setAddressOf, setPacketSizeOf, withHead}
 use Rattle.endpoint.proofs.Cases.{change-done, change-passed, change-refused}
-use Rattle.opening.proofs.RowLaws.{Only, only-all, put-inside, put-only, set-only}
+use Rattle.common.proofs.RowLaws.{Only, only-all, put-inside, put-only, set-only}
 use Rattle.endpoint.proofs.SlotLaws.{open-room}
 
 module _ (s : Ehci) (pool : ℕ) (h : List ℕ) (f u k : ℕ) where
@@ -45,9 +45,9 @@ module _ (s : Ehci) (pool : ℕ) (h : List ℕ) (f u k : ℕ) where
     pub change-by : (P : ChangeLeft → Type 0) → ((r : Refusal) → P (changeLeft (record { answer = Refused r; state = s }) h))
         → (Changes → good ≡ true → P (changeLeft (record { answer = Done; state = s′ }) h′))
         → P (changeOf s pool h f u k good s′ h′)
-    change-by P denied done = by (judgedOf s (lengths pool (length h) f u) k good) refl
+    change-by P denied done = by (slotVerdict s (lengths pool (length h) f u) k good) refl
       where
-        by : (a : Answer) → a ≡ judgedOf s (lengths pool (length h) f u) k good → P (changeOf s pool h f u k good s′ h′)
+        by : (a : Answer) → a ≡ slotVerdict s (lengths pool (length h) f u) k good → P (changeOf s pool h f u k good s′ h′)
         by Done e =
             let t = change-passed s pool h f u k good Done e refl in
             let r = accepts-tells s (lengths pool (length h) f u) (t .0) .ranges in

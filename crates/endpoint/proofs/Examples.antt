@@ -4,8 +4,8 @@ use mathlib.Core.Path.{_≡_, refl}
 use mathlib.Core.Bool.{true}
 use mathlib.Core.List.{List}
 use Rattle.register.specs.Bits.{withoutBits}
-use Rattle.token.specs.declared.request.EndpointType.{EndpointType}
-use Rattle.token.specs.declared.request.EndpointType.the-variants.{Isochronous, Bulk, Interrupt}
+use Rattle.common.specs.declared.kinds.EndpointType.{EndpointType}
+use Rattle.common.specs.declared.kinds.EndpointType.the-variants.{Isochronous, Bulk, Interrupt}
 use Rattle.descriptor.specs.Descriptors.{terminated}
 use Rattle.descriptor.specs.Heads.{endpointHead}
 use Rattle.settings.specs.Settings.{settingsGood, numbersGood, eachGood, noOverlap, areaGood, apartAreas}
@@ -13,13 +13,13 @@ use Rattle.slot.specs.Ranges.{slotGood, phaseGood, closedGood, idleGood, linked
 use Rattle.state.specs.declared.state.Ehci.{Ehci}
 use Rattle.state.specs.Ranges.{inRanges, restGood, machineGood, interruptGood, doorbellGood, ownerGood, largest, slotsGood}
 use Rattle.state.specs.Slots.{slotAt, withSlot}
-use Rattle.answer.specs.declared.answer.Answer.the-variants.{Done}
-use Rattle.answer.specs.Answers.{numberOf}
+use Rattle.common.specs.declared.answer.Answer.the-variants.{Done}
+use Rattle.common.specs.Answers.{numberOf}
 use Rattle.controller.specs.declared.lent.Lengths.{Lengths}
 use Rattle.pipe.specs.Endpoints.{decoded, endpointAt, withEndpoint}
 use Rattle.controller.specs.Lent.{acceptsOf}
 use Rattle.opening.specs.Opening.{freshState, rowsFit}
-use Rattle.opening.specs.Rows.{putAt}
+use Rattle.common.specs.Rows.{putAt}
 use Rattle.endpoint.specs.declared.calls.Opened.the-variants.{Slot}
 use Rattle.endpoint.specs.Lowest.{closedFrom}
 use Rattle.endpoint.specs.Calls.{changeLeft, ChangeLeft, closeOf, fieldsGood, openChecks, openedNumber, openEndpointOf, openLeft, OpenLeft, setAddressOf, setPacketSizeOf, slotChecks}

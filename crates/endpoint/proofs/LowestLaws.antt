@@ -2,7 +2,7 @@
 use Prim.Native.Nat.{ℕ, zero, suc, _+_, _≤_, _<_}
 use mathlib.Core.Path.{_≡_, refl, sym, ap, _∙_}
 use mathlib.Core.Logic.{_≢_}
-use mathlib.Core.Bool.{Bool, true, false}
+use mathlib.Core.Bool.{Bool, true, false, cond}
 use mathlib.Core.List.{List}
 use native.Mathlib.Decide.{ℕ-discrete as decEq}
 use native.Mathlib.Omega.{arith}
@@ -13,11 +13,11 @@ use Rattle.slot.proofs.SlotLaws.{Phase, slot-tells}
 use Rattle.state.specs.declared.state.Ehci.{Ehci}
 use Rattle.state.specs.Slots.{slotAt}
 use Rattle.state.proofs.RangesLaws.{Ranges}
-use Rattle.pipe.specs.declared.endpoint.Endpoint.the-variants.{Closed}
+use Rattle.pipe.specs.declared.endpoints.Endpoint.the-variants.{Closed}
 use Rattle.pipe.specs.Endpoints.{boundaryOf, endpointAt, pipeOf, requestOf}
 use Rattle.controller.specs.Readers.{hasEndpoint, isOpen}
 use Rattle.pipe.proofs.EndpointCases.{at-slot, decode-closed, decode-idle, decode-linked, decode-unlinking}
-use Rattle.endpoint.specs.Lowest.{closedFrom, pickSlot}
+use Rattle.endpoint.specs.Lowest.{closedFrom}
 use Rattle.endpoint.specs.Calls.{lowestSlot}
 
 module _ (l : List ℕ) where
@@ -28,7 +28,7 @@ module _ (l : List ℕ) where
     where
       go : (t : Bool) → eqb (getD l k 0) 0 ≡ t
           → (closedFrom l (suc k) n < suc k + n → getD l (closedFrom l (suc k) n) 0 ≡ 0)
-          → pickSlot t k (closedFrom l (suc k) n) < k + suc n → getD l (pickSlot t k (closedFrom l (suc k) n)) 0 ≡ 0
+          → cond t k (closedFrom l (suc k) n) < k + suc n → getD l (cond t k (closedFrom l (suc k) n)) 0 ≡ 0
       go true q rec g = eqb-true (getD l k 0) 0 q
       go false q rec g = rec (omega arith)
 
@@ -39,7 +39,7 @@ module _ (l : List ℕ) where
     where
       go : (t : Bool) → eqb (getD l k 0) 0 ≡ t → Dec (k ≡ j)
           → (suc k ≤ j → j < closedFrom l (suc k) n → getD l j 0 ≢ 0)
-          → j < pickSlot t k (closedFrom l (suc k) n) → getD l j 0 ≢ 0
+          → j < cond t k (closedFrom l (suc k) n) → getD l j 0 ≢ 0
       go true q d rec g = absurd (omega arith)
       go false q (yes e) rec g = λ z. eqb-false (getD l k 0) 0 q (ap (λ (i : ℕ). getD l i 0) e ∙ z)
       go false q (no ne) rec g = rec (omega (arith, ne)) g

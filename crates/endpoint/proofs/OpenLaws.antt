@@ -2,39 +2,38 @@
 use Prim.Native.Nat.{ℕ, _+_, _*_, _≤_, _<_}
 use mathlib.Core.Path.{_≡_, refl, sym, ap, subst, _∙_}
 use mathlib.Core.Logic.{_≢_}
-use mathlib.Core.Bool.{Bool, true, false}
+use mathlib.Core.Bool.{Bool, true, false, _&&_}
 use mathlib.Core.List.{List}
 use native.Mathlib.Omega.{arith}
 use borrow.Author.Tests.{le-leb, leb-false, leb-true, lt-leb, ltb-false, ltb-true}
 use lib.Dec.{leb, ltb}
 use lib.ListN.{getD, length}
-use Rattle.token.specs.declared.request.EndpointType.{EndpointType}
-use Rattle.token.specs.declared.request.EndpointType.the-variants.{Isochronous}
+use Rattle.common.specs.declared.kinds.EndpointType.{EndpointType}
+use Rattle.common.specs.declared.kinds.EndpointType.the-variants.{Isochronous}
 use Rattle.descriptor.specs.Descriptors.{terminated}
 use Rattle.descriptor.specs.Heads.{endpointHead, wordsOf}
-use Rattle.settings.specs.Tests.{both}
-use Rattle.settings.proofs.SettingsLaws.{both-tells}
+use Rattle.common.proofs.TestLaws.{both-tells}
 use Rattle.state.specs.declared.state.Ehci.{Ehci}
 use Rattle.state.specs.Ranges.{inRanges}
 use Rattle.state.proofs.RangesLaws.{Ranges, ranges-make, ranges-tell}
-use Rattle.answer.specs.declared.answer.Refusal.{Refusal}
-use Rattle.answer.specs.declared.answer.Refusal.the-variants.{SlotLimitReached}
-use Rattle.pipe.specs.declared.endpoint.Endpoint.the-variants.{Closed}
+use Rattle.common.specs.declared.answer.Refusal.{Refusal}
+use Rattle.common.specs.declared.answer.Refusal.the-variants.{SlotLimitReached}
+use Rattle.pipe.specs.declared.endpoints.Endpoint.the-variants.{Closed}
 use Rattle.pipe.specs.Endpoints.{encoded, endpointAt, flagNumber, withEndpoint}
-use Rattle.pipe.specs.Kinds.{isIsochronous}
+use Rattle.common.specs.Kinds.{isIsochronous}
 use Rattle.controller.specs.Lent.{acceptsOf, lengths}
 use Rattle.controller.specs.Readers.{hasEndpoint, isOpen}
-use Rattle.opening.specs.Rows.{headWord}
+use Rattle.opening.specs.Heads.{headWord}
 use Rattle.pipe.proofs.EndpointLaws.{endpoint-keeps, endpoint-other, endpoint-same, slot-wide, Wide}
-use Rattle.pipe.proofs.KindLaws.{not-isochronous}
-use Rattle.answer.proofs.CheckLaws.{verdicts-apart}
+use Rattle.common.proofs.KindLaws.{not-isochronous}
+use Rattle.common.proofs.CheckLaws.{verdicts-apart}
 use Rattle.controller.proofs.LentLaws.{accepts-tells}
 use Rattle.endpoint.specs.declared.calls.Opened.{Opened}
 use Rattle.endpoint.specs.declared.calls.Opened.the-variants.{Slot, Refused}
 use Rattle.endpoint.specs.Calls.{chosenOf, fieldsGood, lowestSlot, newEndpoint, openChecks, openEndpointOf, openLeft, OpenLeft, withHead}
 use Rattle.endpoint.proofs.Cases.{open-done, open-passed, open-refused, openVerdict, slot-is, slotOf}
 use Rattle.endpoint.proofs.LowestLaws.{lower-open, lowest-closed}
-use Rattle.opening.proofs.RowLaws.{Only, put-inside, put-only}
+use Rattle.common.proofs.RowLaws.{Only, put-inside, put-only}
 use Rattle.endpoint.proofs.SlotLaws.{below-room}
 
 -- 01's ranges of what is asked
@@ -49,7 +48,7 @@ unfolding fieldsGood
 fields-good a n p e =
     let x = both-tells (leb a 127) _ e in
     let y = both-tells (leb n 15) _ (x .1) in
-    let z = both-tells (both (leb 1 p) (leb p 1024)) true (y .1) in
+    let z = both-tells (leb 1 p && leb p 1024) true (y .1) in
     let w = both-tells (leb 1 p) (leb p 1024) (z .0) in
     record {
       address-most = leb-true a 127 (x .0);

@@ -4,22 +4,23 @@ use mathlib.Core.Bool.{Bool, true, not}
 use mathlib.Core.List.{List, [], _∷_}
 use lib.Dec.{leb}
 use lib.ListN.{length, replicate}
-use Rattle.token.specs.declared.request.EndpointType.{EndpointType}
+use Rattle.common.specs.declared.kinds.EndpointType.{EndpointType}
 use Rattle.descriptor.specs.Heads.{endpointHead, wordsOf, withAddress, withPacketSize}
-use Rattle.settings.specs.Tests.{every, within}
+use Rattle.common.specs.Tests.{every, within}
 use Rattle.state.specs.declared.state.Ehci.{Ehci}
-use Rattle.answer.specs.declared.answer.Answer.{Answer}
-use Rattle.answer.specs.declared.answer.Answer.the-variants.{Done, Refused as RefusedCall}
-use Rattle.answer.specs.declared.answer.Refusal.the-variants.{InvalidParameter, SlotLimitReached, InvalidEndpoint, QueueFull, NotSupported}
-use Rattle.pipe.specs.declared.endpoint.Endpoint.{Endpoint}
-use Rattle.pipe.specs.declared.endpoint.Endpoint.the-variants.{Closed, Idle}
+use Rattle.common.specs.declared.answer.Answer.{Answer}
+use Rattle.common.specs.declared.answer.Answer.the-variants.{Done, Refused as RefusedCall}
+use Rattle.common.specs.declared.answer.Refusal.the-variants.{InvalidParameter, SlotLimitReached, InvalidEndpoint, QueueFull, NotSupported}
+use Rattle.pipe.specs.declared.endpoints.Endpoint.{Endpoint}
+use Rattle.pipe.specs.declared.endpoints.Endpoint.the-variants.{Closed, Idle}
 use Rattle.controller.specs.declared.lent.Lengths.{Lengths}
-use Rattle.answer.specs.Answers.{Check, first, refusalNumber, settle}
+use Rattle.common.specs.Answers.{Check, first, refusalNumber, settle}
 use Rattle.pipe.specs.Endpoints.{withEndpoint}
-use Rattle.pipe.specs.Kinds.{isIsochronous}
+use Rattle.common.specs.Kinds.{isIsochronous}
 use Rattle.controller.specs.Lent.{acceptsOf, lengths}
 use Rattle.controller.specs.Readers.{isOpen, isUncollected}
-use Rattle.opening.specs.Rows.{headWord, putAt, withHeadWord}
+use Rattle.opening.specs.Heads.{headWord, withHeadWord}
+use Rattle.common.specs.Rows.{putAt}
 use Rattle.endpoint.specs.declared.calls.Change.{Change}
 use Rattle.endpoint.specs.declared.calls.EndpointOpening.{EndpointOpening}
 use Rattle.endpoint.specs.declared.calls.Opened.{Opened}
@@ -92,8 +93,8 @@ slotChecks s lent k good =
     ∷ (not good, InvalidParameter)
     ∷ []
 
-unfoldable pub judgedOf : Ehci → Lengths → ℕ → Bool → Answer
-judgedOf s lent k good = settle (first (slotChecks s lent k good)) RefusedCall Done
+unfoldable pub slotVerdict : Ehci → Lengths → ℕ → Bool → Answer
+slotVerdict s lent k good = settle (first (slotChecks s lent k good)) RefusedCall Done
 
 -- a call on slot k that leaves a state and heads where it is not refused
 abbrev pub changeOf : Ehci → ℕ → List ℕ → ℕ → ℕ → ℕ → Bool → Ehci → List ℕ → ChangeLeft

@@ -5,7 +5,7 @@ ghost use Rattle.endpoint.specs.Calls.{
   chosenOf,
   openLeft,
   openEndpointOf,
-  judgedOf,
+  slotVerdict,
   changeLeft,
   closeOf,
   setAddressOf,
@@ -13,21 +13,21 @@ ghost use Rattle.endpoint.specs.Calls.{
 };
 use crate::heads::write_head;
 use crate::lowest::lowest_closed;
-use answer::answer::Answer;
-use answer::answer::Refusal;
+use common::answer::Answer;
+use common::answer::Refusal;
+use common::kinds::EndpointType;
+use common::kinds::is_isochronous;
 use controller::lent::Lengths;
 use controller::lent::accepts;
 use controller::readers::is_open;
 use controller::readers::uncollected;
 use descriptor::head::set_device_address;
 use descriptor::head::set_max_packet_size;
-use opening::rows::put_head;
-use pipe::endpoint::Endpoint;
-use pipe::endpoint::Pipe;
-use pipe::endpoint::with_endpoint;
-use pipe::kinds::is_isochronous;
+use opening::heads::put_head;
+use pipe::endpoints::Endpoint;
+use pipe::endpoints::Pipe;
+use pipe::endpoints::with_endpoint;
 use state::state::Ehci;
-use token::request::EndpointType;
 
 pub enum Opened {
     Slot(u8),
@@ -110,8 +110,8 @@ pub fn open_endpoint(
 }
 
 // What close, set address and set packet size ask, in 01's order; `good` where the value is in its range.
-fn judge(state: Ehci, lent: Lengths, slot: u8, good: bool) -> Answer
-    ensures { λ r. ⌜ r ≡ judgedOf state lent slot good ⌝ }
+fn check_slot(state: Ehci, lent: Lengths, slot: u8, good: bool) -> Answer
+    ensures { λ r. ⌜ r ≡ slotVerdict state lent slot good ⌝ }
 {
     if !accepts(state, lent) {
         return Answer::Refused(Refusal::InvalidParameter);
@@ -144,7 +144,7 @@ pub fn close(
         frames,
         setups,
     };
-    match judge(state, lent, slot, true) {
+    match check_slot(state, lent, slot, true) {
         Answer::Done => {
             let k = slot as usize;
             put_head(heads, k + 1, [0; 17]);
@@ -178,7 +178,7 @@ pub fn set_address(
         frames,
         setups,
     };
-    match judge(state, lent, slot, address <= 127) {
+    match check_slot(state, lent, slot, address <= 127) {
         Answer::Done => {
             let at = 17 * (slot as usize + 1) + 1;
             heads[at] = set_device_address(heads[at], address);
@@ -213,7 +213,7 @@ pub fn set_packet_size(
         frames,
         setups,
     };
-    match judge(state, lent, slot, true) {
+    match check_slot(state, lent, slot, true) {
         Answer::Done => {
             let at = 17 * (slot as usize + 1) + 1;
             heads[at] = set_max_packet_size(heads[at], size);

@@ -4,9 +4,9 @@ ghost use Prim.Native.Nat.{_+_, _*_, _≤_};
 ghost use lib.ListN.{length};
 ghost use Rattle.descriptor.specs.Heads.{endpointHead, wordsOf};
 ghost use Rattle.endpoint.specs.Calls.{withHead};
+use common::kinds::EndpointType;
 use descriptor::head::QueueHead;
-use opening::rows::put_head;
-use token::request::EndpointType;
+use opening::heads::put_head;
 
 // The head of a new endpoint, over the words that its slot has.
 pub fn write_head(

@@ -25,26 +25,25 @@ use Rattle.state.specs.Slots.{slotAt, withSlot}
 use Rattle.state.specs.State.{withBell, withBoundaries, withBringUp, withInterrupt, withOwner}
 use Rattle.pipe.specs.Endpoints.{bareSlot, decoded, endpointAt, withEndpoint}
 use Rattle.opening.specs.Opening.{acceptedOpening, freshState, openOf, openedHeads, rowsFit}
-use Rattle.opening.specs.Rows.{putAt}
+use Rattle.common.specs.Rows.{putAt}
 use Rattle.controller.specs.Lent.{acceptsOf, lengths}
 use Rattle.controller.specs.Readers.{countZero, freeCount}
 use Rattle.schedule.specs.Bell.{advancedOf, fallenFrom, fallenOne, ringOf, ringWord, unlinkedOf}
 use Rattle.schedule.specs.Links.{attachedRing, detachOf, precedesOne, predecessorOf, searchFrom, startedOverlay}
 use Rattle.endpoint.specs.Lowest.{closedFrom}
 use Rattle.endpoint.specs.Calls.{fieldsGood, openChecks, openEndpointOf}
-use Rattle.request.specs.Submit.{acceptedWith, afterId, bufferGood, linkedRows, rangesGood, refusedSubmit, settledSubmit, setupsWith, stateWith, submitOf, takenFor}
-use Rattle.request.specs.Submit.{takenOf as takenPlaces}
+use Rattle.request.specs.Submit.{acceptedWith, afterId, bufferGood, linkedRows, rangesGood, refusedSubmit, settledSubmit, setupsWith, stateWith, submitOf, takenFor, clearedOf as takenPlaces}
 use Rattle.collection.specs.Unlinks.{boundedOf, unlinkOf, waitingOf}
 use Rattle.collection.specs.Calls.{cancelOf, collectOf, finishOf, unlinkingOf}
 use Rattle.collection.specs.Answers.{outcomeOf}
 use Rattle.collection.specs.Examples.{noFrames, oneRequest, ringOfOne}
-use Rattle.interrupt.specs.Interrupts.{acknowledgeOf, acknowledgedState, countedOf, drainOf, enableOf, notedAfter, takenOf}
+use Rattle.interrupt.specs.Interrupts.{acknowledgeOf, acknowledgedState, countedOf, drainOf, enableOf, notedAfter, clearedOf}
 use Rattle.bring_up.specs.BringUp.{anyUncollected, movedOn, onwardOf, ready, stageOf, startOf, stepOf}
 use Rattle.ehci.specs.declared.call.Call.the-variants.{BringUpStep, Cancel, Enable, StartBringUp}
 use Rattle.ehci.specs.Replies.{broughtReply, replied, settledReply}
 use Rattle.ehci.specs.Decides.{acknowledgeDecided, asksOf, cancelDecided, decideOf, drainDecided, openDecided, submitDecided}
 use Rattle.ehci.specs.Door.{applyOf}
-use Rattle.examples.specs.Examples.{Row, World, acknowledge, acknowledged, after, answerRow, bellRow, broughtUp, drain, drainRow, drained, justOpened, openBulk, reading, replyTo, small, starred, submitOut, submitRow, twoUnlinks, unlinkRow, world}
+use Rattle.examples.specs.Examples.{Row, Kept, acknowledge, acknowledged, after, answerRow, bellRow, broughtUp, drain, drainRow, drained, justOpened, openBulk, reading, replyTo, small, starred, submitOut, submitRow, twoUnlinks, unlinkRow, kept}
 
 -- ---- the states that the calls come to
 
@@ -181,29 +180,29 @@ chunk address =
     record { next = 1; alternate = 1; token = 0x02008C80; pages = address ∷ 0 ∷ 0 ∷ 0 ∷ 0 ∷ []; upper = replicate 5 0 }
 
 -- the frames and the setup packets are never written here
-withRows : Ehci → List QueueTransferDescriptor → List ℕ → World
-withRows s pool heads = world s pool heads (replicate 1024 1) (replicate 16 0)
+withRows : Ehci → List QueueTransferDescriptor → List ℕ → Kept
+withRows s pool heads = kept s pool heads (replicate 1024 1) (replicate 16 0)
 
-abbrev fresh : Ehci → World
+abbrev fresh : Ehci → Kept
 fresh s = withRows s (blank ∷ blank ∷ []) (headsOf 0x200002 (replicate 17 0) (replicate 17 0))
 
-abbrev openedOne : World
+abbrev openedOne : Kept
 openedOne = withRows oneOpen (blank ∷ blank ∷ []) (headsOf 0x200002 (headOf 1 0xF2002105 1) (replicate 17 0))
 
-abbrev openedTwo : World
+abbrev openedTwo : Kept
 openedTwo = withRows twoOpen (blank ∷ blank ∷ []) (headsOf 0x200002 (headOf 1 0xF2002105 1) (headOf 1 0xF2002205 1))
 
-abbrev linkedOne : World
+abbrev linkedOne : Kept
 linkedOne = withRows oneLinked (chunk 0x500000 ∷ blank ∷ []) (headsOf 0x200082 (headOf 0x200002 0xF2002105 0x100000) (headOf 1 0xF2002205 1))
 
-abbrev linkedTwo : World
+abbrev linkedTwo : Kept
 linkedTwo = withRows twoLinked (chunk 0x500000 ∷ chunk 0x501000 ∷ []) (headsOf 0x200102 (headOf 0x200002 0xF2002105 0x100000) (headOf 0x200082 0xF2002205 0x100040))
 
-abbrev unlinkedOne : World
+abbrev unlinkedOne : Kept
 unlinkedOne = withRows oneWaits (chunk 0x500000 ∷ chunk 0x501000 ∷ []) (headsOf 0x200102 (headOf 0x200002 0xF2002105 0x100000) (headOf 0x200002 0xF2002205 0x100040))
 
 -- both heads are out of the ring
-abbrev apart : Ehci → World
+abbrev apart : Ehci → Kept
 apart s = withRows s (chunk 0x500000 ∷ chunk 0x501000 ∷ []) (headsOf 0x200002 (headOf 0x200002 0xF2002105 0x100000) (headOf 0x200002 0xF2002205 0x100040))
 
 -- ---- one call
@@ -259,7 +258,7 @@ unfolding after applyOf decideOf asksOf rowsFit replied fillOf filledFrom noChai
 hears = rw two-wait-good
 
 counts : after (apart heard) drain ≡ apart counted
-unfolding after applyOf decideOf asksOf rowsFit replied fillOf filledFrom noChain packed listOf drainDecided drainOf anyOf withoutBits countedOf takenOf withInterrupt withBell withBoundaries advancedOf ringOf fallenFrom fallenOne withRows stateOf
+unfolding after applyOf decideOf asksOf rowsFit replied fillOf filledFrom noChain packed listOf drainDecided drainOf anyOf withoutBits countedOf clearedOf withInterrupt withBell withBoundaries advancedOf ringOf fallenFrom fallenOne withRows stateOf
 counts = rw heard-good
 
 -- ---- the calls one after another
@@ -323,11 +322,11 @@ unfolding replyTo applyOf decideOf asksOf rowsFit replied acknowledgeDecided ack
 yes = rw two-unlinks (rw two-wait-good)
 
 port-change : drainRow (replyTo acknowledged drain) ≡ 0 ∷ 1 ∷ 0 ∷ 1 ∷ 1 ∷ 1 ∷ 1 ∷ []
-unfolding replyTo applyOf decideOf asksOf rowsFit replied drainDecided drainOf anyOf withoutBits countedOf takenOf withInterrupt withBell withBoundaries advancedOf ringOf fallenFrom fallenOne noWrites andThen ringWord withBits withRows stateOf
+unfolding replyTo applyOf decideOf asksOf rowsFit replied drainDecided drainOf anyOf withoutBits countedOf clearedOf withInterrupt withBell withBoundaries advancedOf ringOf fallenFrom fallenOne noWrites andThen ringWord withBits withRows stateOf
 port-change = rw acknowledged-is (rw heard-good)
 
 activity : drainRow (replyTo drained drain) ≡ 0 ∷ 2 ∷ 1 ∷ 1 ∷ 1 ∷ 1 ∷ 0 ∷ []
-unfolding replyTo applyOf decideOf asksOf rowsFit replied drainDecided drainOf anyOf withoutBits countedOf takenOf withInterrupt withBell withBoundaries advancedOf ringOf fallenFrom fallenOne noWrites withRows stateOf
+unfolding replyTo applyOf decideOf asksOf rowsFit replied drainDecided drainOf anyOf withoutBits countedOf clearedOf withInterrupt withBell withBoundaries advancedOf ringOf fallenFrom fallenOne noWrites withRows stateOf
 activity = rw drained-is (rw counted-good)
 
 -- ---- every row

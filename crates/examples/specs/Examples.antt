@@ -5,8 +5,8 @@ use mathlib.Core.List.{List, [], _∷_, _++_}
 use lib.ListN.{length, replicate}
 use Rattle.register.specs.Writes.{listOf}
 use Rattle.token.specs.declared.qtd.QtdPid.the-variants.{In as InPid, Setup}
-use Rattle.token.specs.declared.request.Direction.the-variants.{Out, In}
-use Rattle.token.specs.declared.request.EndpointType.the-variants.{Bulk}
+use Rattle.common.specs.declared.kinds.Direction.the-variants.{Out, In}
+use Rattle.common.specs.declared.kinds.EndpointType.the-variants.{Bulk}
 use Rattle.token.specs.Tokens.{tokenOf}
 use Rattle.token.specs.Plans.{chunkToken}
 use Rattle.descriptor.specs.declared.qtd.QueueTransferDescriptor.{QueueTransferDescriptor}
@@ -18,10 +18,9 @@ use Rattle.state.specs.declared.state.Ehci.{Ehci}
 use Rattle.pipe.specs.Endpoints.{flagNumber}
 use Rattle.opening.specs.Opening.{Opened, openOf}
 use Rattle.controller.specs.declared.lent.Readings.{Readings}
-use Rattle.schedule.specs.Bell.{distance, framesPassed}
+use Rattle.schedule.specs.Bell.{distance, framesPassed, someRing}
 use Rattle.collection.specs.Answers.{collectedNumber}
 use Rattle.collection.specs.Examples.{collected, oneRequest, seen}
-use Rattle.interrupt.specs.Once.{someRing}
 use Rattle.ehci.specs.declared.call.Call.{Call}
 use Rattle.ehci.specs.declared.call.Call.the-variants.{StartBringUp, BringUpStep, OpenEndpoint, Submit, Cancel, Acknowledge, Drain, Enable}
 use Rattle.ehci.specs.declared.reply.Reply.{Reply}
@@ -36,32 +35,32 @@ one w = w ∷ []
 
 -- ---- a controller and its four rows, and calls on it
 
-pub record World : Type 0 where
+pub record Kept : Type 0 where
   pub state : Ehci
   pub pool : List QueueTransferDescriptor
   pub heads : List ℕ
   pub frames : List ℕ
   pub setups : List ℕ
 
-abbrev pub world : Ehci → List QueueTransferDescriptor → List ℕ → List ℕ → List ℕ → World
-world s pool heads frames setups =
+abbrev pub kept : Ehci → List QueueTransferDescriptor → List ℕ → List ℕ → List ℕ → Kept
+kept s pool heads frames setups =
     record { state = s; pool = pool; heads = heads; frames = frames; setups = setups }
 
-abbrev pub applyTo : World → Call → Applied
+abbrev pub applyTo : Kept → Call → Applied
 applyTo w call = applyOf (w .state) (w .pool) (w .heads) (w .frames) (w .setups) call
 
-abbrev pub leaves : Applied → World
-leaves a = world (a .reply .state) (a .pool) (a .heads) (a .frames) (a .setups)
+abbrev pub leaves : Applied → Kept
+leaves a = kept (a .reply .state) (a .pool) (a .heads) (a .frames) (a .setups)
 
 -- what a call replies, and what it leaves
-unfoldable pub replyTo : World → Call → Reply
+unfoldable pub replyTo : Kept → Call → Reply
 replyTo w call = applyTo w call .reply
 
-unfoldable pub after : World → Call → World
+unfoldable pub after : Kept → Call → Kept
 after w call = leaves (applyTo w call)
 
 -- the first call first
-abbrev pub run : World → List Call → World
+abbrev pub run : Kept → List Call → Kept
 run w [] = w
 run w (c ∷ cs) = run (after w c) cs
 
@@ -81,11 +80,11 @@ small =
       setups = 0x400000;
     }
 
-abbrev pub leftBy : Opened → World
-leftBy o = world (o .opening .state) (o .pool) (o .heads) (o .frames) (o .setups)
+abbrev pub leftBy : Opened → Kept
+leftBy o = kept (o .opening .state) (o .pool) (o .heads) (o .frames) (o .setups)
 
 -- over rows that hold 7s
-unfoldable pub justOpened : World
+unfoldable pub justOpened : Kept
 justOpened = leftBy (openOf small (replicate 2 blank) (replicate 51 7) (replicate 1024 7) (replicate 16 7))
 
 -- bulk, at most 512 bytes a packet
@@ -114,7 +113,7 @@ upCalls =
     ∷ openBulk 5 1
     ∷ []
 
-unfoldable pub broughtUp : World
+unfoldable pub broughtUp : Kept
 broughtUp = run justOpened upCalls
 
 -- a reply's number, and what goes with it
@@ -133,7 +132,7 @@ submitCalls = openBulk 5 2 ∷ submitOut 0 0x500000 512 ∷ submitOut 1 0x501000
 abbrev pub cancelCalls : List Call
 cancelCalls = Cancel 0 1 (reading 0x80031) ∷ Cancel 1 1 (reading 0x80071) ∷ []
 
-unfoldable pub twoUnlinks : World
+unfoldable pub twoUnlinks : Kept
 twoUnlinks = run (run broughtUp submitCalls) cancelCalls
 
 -- the unlinks, which 01 numbers 1, 2
@@ -147,13 +146,13 @@ bellRow s = (made - s .unanswered) ∷ s .unanswered ∷ s .doorbell ∷ []
 abbrev pub acknowledge : Call
 acknowledge = Acknowledge (record { status = 0x24; interrupts = 0x27; flag = true; again = true })
 
-unfoldable pub acknowledged : World
+unfoldable pub acknowledged : Kept
 acknowledged = after twoUnlinks acknowledge
 
 abbrev pub drain : Call
 drain = Drain 0x80031
 
-unfoldable pub drained : World
+unfoldable pub drained : Kept
 drained = after acknowledged drain
 
 -- number, event, its value; answered, unanswered, doorbell; whether USBCMD with 0x40 is written

@@ -13,22 +13,21 @@ use Rattle.token.specs.Tokens.{onlyIf}
 use Rattle.state.specs.Ranges.{inRanges, restGood, machineGood, interruptGood, doorbellGood}
 use Rattle.settings.specs.Settings.{settingsGood}
 use Rattle.state.specs.State.{withInterrupt, withBell, withBoundaries}
-use Rattle.settings.specs.Tests.{both}
-use Rattle.answer.specs.declared.answer.Answer.the-variants.{Done, Refused as RefusedCall}
-use Rattle.answer.specs.declared.answer.Refusal.the-variants.{InvalidParameter}
+use Rattle.common.specs.declared.answer.Answer.the-variants.{Done, Refused as RefusedCall}
+use Rattle.common.specs.declared.answer.Refusal.the-variants.{InvalidParameter}
 use Rattle.state.specs.declared.state.Ehci.{Ehci}
-use Rattle.settings.proofs.SettingsCases.{both-first, both-second, within-least}
+use Rattle.common.proofs.TestLaws.{both-first, both-second, within-least}
 use Rattle.schedule.specs.Bell.{advancedOf, bellOf, fallenFrom}
 use Rattle.schedule.specs.Links.{same}
 use Rattle.schedule.specs.declared.bell.Rung.{Rung}
-use Rattle.interrupt.specs.declared.calls.Acknowledged.the-variants.{No, Yes, Refused as RefusedAck}
-use Rattle.interrupt.specs.declared.calls.Acknowledgement.{Acknowledgement}
-use Rattle.interrupt.specs.declared.calls.Drained.the-variants.{Nothing, PortChange, TransferActivity, Stopped, Refused as RefusedDrain}
-use Rattle.interrupt.specs.declared.calls.Drainage.{Drainage}
-use Rattle.interrupt.specs.declared.calls.Settled.{Settled}
+use Rattle.interrupt.specs.declared.answers.Acknowledged.the-variants.{No, Yes, Refused as RefusedAck}
+use Rattle.interrupt.specs.declared.answers.Acknowledgement.{Acknowledgement}
+use Rattle.interrupt.specs.declared.answers.Drained.the-variants.{Nothing, PortChange, TransferActivity, Stopped, Refused as RefusedDrain}
+use Rattle.interrupt.specs.declared.answers.Drainage.{Drainage}
+use Rattle.interrupt.specs.declared.answers.Settled.{Settled}
 use Rattle.interrupt.specs.declared.drain.Counted.{Counted}
-use Rattle.interrupt.specs.declared.drain.Taken.{Taken}
-use Rattle.interrupt.specs.Interrupts.{maskWord, acknowledgeWrites, notedAfter, acknowledgedState, acknowledgeOf, withRung, countedOf, takenOf, drainOf, refusedSettled, rearmOf, enableOf, disableOf}
+use Rattle.interrupt.specs.declared.drain.Cleared.{Cleared}
+use Rattle.interrupt.specs.Interrupts.{maskWord, acknowledgeWrites, notedAfter, acknowledgedState, acknowledgeOf, withRung, countedOf, clearedOf, drainOf, refusedSettled, rearmOf, enableOf, disableOf}
 
 -- ---- acknowledge
 
@@ -114,17 +113,17 @@ noted-unanswered s e z =
     )
 
 module _ (n : ℕ) (a : Bool) (ea : a ≡ anyOf n 4) where
-  pub take-port : (l : ℕ) → a ≡ true → l ≡ withoutBits n 4 → _≡_ {A = Taken} (record { event = PortChange; left = l }) (takenOf n)
-  unfolding takenOf
+  pub take-port : (l : ℕ) → a ≡ true → l ≡ withoutBits n 4 → _≡_ {A = Cleared} (record { event = PortChange; left = l }) (clearedOf n)
+  unfolding clearedOf
   take-port l t el = rw (el, sym ea ∙ t)
 
   pub take-activity : (b : Bool) (l : ℕ) → a ≡ false → b ≡ anyOf n 35 → b ≡ true → l ≡ withoutBits n 35
-      → _≡_ {A = Taken} (record { event = TransferActivity; left = l }) (takenOf n)
-  unfolding takenOf
+      → _≡_ {A = Cleared} (record { event = TransferActivity; left = l }) (clearedOf n)
+  unfolding clearedOf
   take-activity b l t eb u el = rw (el, sym ea ∙ t, sym eb ∙ u)
 
-  pub take-rest : (b : Bool) → a ≡ false → b ≡ anyOf n 35 → b ≡ false → _≡_ {A = Taken} (record { event = Stopped; left = 0 }) (takenOf n)
-  unfolding takenOf
+  pub take-rest : (b : Bool) → a ≡ false → b ≡ anyOf n 35 → b ≡ false → _≡_ {A = Cleared} (record { event = Stopped; left = 0 }) (clearedOf n)
+  unfolding clearedOf
   take-rest b t eb u = rw (sym ea ∙ t, sym eb ∙ u)
 
 module _ (s : Ehci) (cmd : ℕ) (b : Bool) (eb : b ≡ inRanges s) where
@@ -138,7 +137,7 @@ module _ (s : Ehci) (cmd : ℕ) (b : Bool) (eb : b ≡ inRanges s) where
   unfolding drainOf
   drain-nothing w t z ew = rw (ew, sym eb ∙ not-false b t, eq-eqb (s .pending) 0 z)
 
-  pub drain-some : (c : Counted) (k : Taken) → not b ≡ false → (s .pending ≡ 0 → ⊥) → c ≡ countedOf s cmd → k ≡ takenOf (s .pending)
+  pub drain-some : (c : Counted) (k : Cleared) → not b ≡ false → (s .pending ≡ 0 → ⊥) → c ≡ countedOf s cmd → k ≡ clearedOf (s .pending)
       → _≡_ {A = Drainage}
       (record {
         answer = k .event;

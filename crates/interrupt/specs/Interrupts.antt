@@ -1,31 +1,30 @@
 -- Document 01, "Interrupts": acknowledge, drain, rearm, enable, disable.
 use Prim.Native.Nat.{ℕ}
-use mathlib.Core.Bool.{Bool, true, false, not}
+use mathlib.Core.Bool.{Bool, true, false, not, _&&_, cond}
 use mathlib.Core.List.{[], _∷_}
 use lib.Dec.{eqb}
 use Rattle.register.specs.Bits.{withBits, withoutBits, onlyBits, anyOf}
 use Rattle.register.specs.Writes.{noWrites, andThen}
 use Rattle.register.specs.declared.writes.Writes.{Writes}
 use Rattle.token.specs.Tokens.{onlyIf}
-use Rattle.answer.specs.Answers.{refusalNumber, first, settle}
+use Rattle.common.specs.Answers.{refusalNumber, first, settle}
 use Rattle.state.specs.Ranges.{inRanges}
 use Rattle.state.specs.State.{withInterrupt, withBell, withBoundaries}
-use Rattle.settings.specs.Tests.{both}
-use Rattle.answer.specs.declared.answer.Answer.the-variants.{Done, Refused as RefusedCall}
-use Rattle.answer.specs.declared.answer.Refusal.the-variants.{InvalidParameter}
+use Rattle.common.specs.declared.answer.Answer.the-variants.{Done, Refused as RefusedCall}
+use Rattle.common.specs.declared.answer.Refusal.the-variants.{InvalidParameter}
 use Rattle.state.specs.declared.state.Ehci.{Ehci}
 use Rattle.schedule.specs.Bell.{advancedOf, bellOf, fallenFrom}
 use Rattle.schedule.specs.Links.{same}
 use Rattle.schedule.specs.declared.bell.Rung.{Rung}
-use Rattle.interrupt.specs.declared.calls.Acknowledged.{Acknowledged}
-use Rattle.interrupt.specs.declared.calls.Acknowledged.the-variants.{No, Yes, Refused as RefusedAck}
-use Rattle.interrupt.specs.declared.calls.Acknowledgement.{Acknowledgement}
-use Rattle.interrupt.specs.declared.calls.Drained.{Drained}
-use Rattle.interrupt.specs.declared.calls.Drained.the-variants.{Nothing, PortChange, TransferActivity, Stopped, Refused as RefusedDrain}
-use Rattle.interrupt.specs.declared.calls.Drainage.{Drainage}
-use Rattle.interrupt.specs.declared.calls.Settled.{Settled}
+use Rattle.interrupt.specs.declared.answers.Acknowledged.{Acknowledged}
+use Rattle.interrupt.specs.declared.answers.Acknowledged.the-variants.{No, Yes, Refused as RefusedAck}
+use Rattle.interrupt.specs.declared.answers.Acknowledgement.{Acknowledgement}
+use Rattle.interrupt.specs.declared.answers.Drained.{Drained}
+use Rattle.interrupt.specs.declared.answers.Drained.the-variants.{Nothing, PortChange, TransferActivity, Stopped, Refused as RefusedDrain}
+use Rattle.interrupt.specs.declared.answers.Drainage.{Drainage}
+use Rattle.interrupt.specs.declared.answers.Settled.{Settled}
 use Rattle.interrupt.specs.declared.drain.Counted.{Counted}
-use Rattle.interrupt.specs.declared.drain.Taken.{Taken}
+use Rattle.interrupt.specs.declared.drain.Cleared.{Cleared}
 
 -- ---- numbers and values of the answers
 
@@ -51,10 +50,6 @@ drainedValue (RefusedDrain r) = 0
 
 -- ---- acknowledge
 
-abbrev pub pickWrites : Bool → Writes → Writes → Writes
-pickWrites true a b = a
-pickWrites false a b = b
-
 -- "USBINTR = read value without (p and 0x27), or 0 if the flag reading is off"
 unfoldable pub maskWord : ℕ → ℕ → Bool → ℕ
 maskWord p interrupts flag = onlyIf flag (withoutBits interrupts (onlyBits p 0x27))
@@ -62,7 +57,7 @@ maskWord p interrupts flag = onlyIf flag (withoutBits interrupts (onlyBits p 0x2
 -- "Write USBSTS = p; USBINTR ..; if the second differs, write by that."
 unfoldable pub acknowledgeWrites : ℕ → ℕ → Bool → Bool → Writes
 acknowledgeWrites p interrupts flag again =
-    pickWrites (same flag again)
+    cond (same flag again)
     (andThen (andThen noWrites 4 p) 8 (maskWord p interrupts flag))
     (andThen (andThen (andThen noWrites 4 p) 8 (maskWord p interrupts flag)) 8 (maskWord p interrupts again))
 
@@ -72,7 +67,7 @@ noteIf true noted = 1
 noteIf false noted = noted
 
 unfoldable pub notedAfter : Ehci → ℕ → ℕ
-notedAfter s p = noteIf (both (anyOf p 0x20) (eqb (s .doorbell) 1)) (s .noted)
+notedAfter s p = noteIf (anyOf p 0x20 && eqb (s .doorbell) 1) (s .noted)
 
 -- "p joins pending, p and 0x27 joins masked"
 unfoldable pub acknowledgedState : Ehci → ℕ → Ehci
@@ -111,18 +106,14 @@ countIf false s command = withRung s (advancedOf (bellOf s) noWrites command)
 unfoldable pub countedOf : Ehci → ℕ → Counted
 countedOf s command = countIf (eqb (s .noted) 0) s command
 
-abbrev pub pickTaken : Bool → Taken → Taken → Taken
-pickTaken true a b = a
-pickTaken false a b = b
-
 -- "Then port change: that bit cleared, PortChange 0. Else bits 0, 1, 5: cleared, TransferActivity 1. Else cleared, Stopped."
-unfoldable pub takenOf : ℕ → Taken
-takenOf pending =
-    pickTaken (anyOf pending 4) (record { event = PortChange; left = withoutBits pending 4 })
-    (pickTaken (anyOf pending 0x23) (record { event = TransferActivity; left = withoutBits pending 0x23 })
+unfoldable pub clearedOf : ℕ → Cleared
+clearedOf pending =
+    cond (anyOf pending 4) (record { event = PortChange; left = withoutBits pending 4 })
+    (cond (anyOf pending 0x23) (record { event = TransferActivity; left = withoutBits pending 0x23 })
     (record { event = Stopped; left = 0 }))
 
-abbrev pub drainIf : Bool → Ehci → Counted → Taken → Drainage
+abbrev pub drainIf : Bool → Ehci → Counted → Cleared → Drainage
 drainIf true s c t = record { answer = Nothing; state = s; writes = noWrites }
 drainIf false s c t =
     record {
@@ -136,7 +127,7 @@ unfoldable pub drainOf : Ehci → ℕ → Drainage
 drainOf s command =
     settle (first ((not (inRanges s), InvalidParameter) ∷ []))
     (λ r. record { answer = RefusedDrain r; state = s; writes = noWrites })
-    (drainIf (eqb (s .pending) 0) s (countedOf s command) (takenOf (s .pending)))
+    (drainIf (eqb (s .pending) 0) s (countedOf s command) (clearedOf (s .pending)))
 
 -- ---- rearm, enable, disable
 

@@ -1,2 +1,1 @@
 pub mod Interrupts
-pub mod Once

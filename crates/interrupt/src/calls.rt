@@ -15,49 +15,21 @@ use crate::acknowledge::MASKABLE;
 use crate::acknowledge::PENDING;
 use crate::acknowledge::acknowledge_writes;
 use crate::acknowledge::noted_after;
+use crate::answers::Acknowledged;
+use crate::answers::Acknowledgement;
+use crate::answers::Drainage;
+use crate::answers::Drained;
+use crate::answers::Settled;
+use crate::drain::clear_pending;
 use crate::drain::count_noted;
-use crate::drain::take_pending;
-use answer::answer::Answer;
-use answer::answer::Refusal;
+use common::answer::Answer;
+use common::answer::Refusal;
 use register::bits::only_bits;
 use register::bits::with_bits;
-use register::ehci::USBINTR;
+use register::operational::USBINTR;
 use register::writes::Writes;
 use state::ranges::in_ranges;
 use state::state::Ehci;
-
-pub enum Acknowledged {
-    No,
-    Yes,
-    Refused(Refusal),
-}
-
-pub struct Acknowledgement {
-    pub answer: Acknowledged,
-    pub state: Ehci,
-    pub writes: Writes,
-}
-
-pub enum Drained {
-    Nothing,
-    PortChange,
-    TransferActivity,
-    Stopped,
-    Refused(Refusal),
-}
-
-pub struct Drainage {
-    pub answer: Drained,
-    pub state: Ehci,
-    pub writes: Writes,
-}
-
-// What rearm, enable and disable leave.
-pub struct Settled {
-    pub answer: Answer,
-    pub state: Ehci,
-    pub writes: Writes,
-}
 
 // Given USBSTS and USBINTR as read, and the interrupt flag as read before and after the first write of USBINTR.
 pub fn acknowledge(
@@ -115,7 +87,7 @@ pub fn drain(state: Ehci, command: u32) -> Drainage
         };
     }
     let counted = count_noted(state, command);
-    let taken = take_pending(pending);
+    let taken = clear_pending(pending);
     let mut after = counted.state;
     after.pending = taken.left;
     let answer = taken.event;

@@ -2,14 +2,14 @@
 ghost use mathlib.Core.Path.{_≡_};
 ghost use mathlib.Core.Bool.{true};
 ghost use Rattle.state.specs.Ranges.{inRanges};
-ghost use Rattle.interrupt.specs.Interrupts.{countedOf, takenOf};
-use crate::calls::Drained;
+ghost use Rattle.interrupt.specs.Interrupts.{countedOf, clearedOf};
+use crate::answers::Drained;
 use register::bits::any_of;
 use register::bits::without_bits;
-use register::ehci::USBSTS_INTERRUPT_ASYNC_ADVANCE;
-use register::ehci::USBSTS_PORT_CHANGE;
-use register::ehci::USBSTS_USBERRINT;
-use register::ehci::USBSTS_USBINT;
+use register::operational::USBSTS_INTERRUPT_ASYNC_ADVANCE;
+use register::operational::USBSTS_PORT_CHANGE;
+use register::operational::USBSTS_USBERRINT;
+use register::operational::USBSTS_USBINT;
 use register::writes::Writes;
 use schedule::bell::Bell;
 use schedule::bell::advanced;
@@ -24,7 +24,7 @@ pub struct Counted {
 }
 
 // What a drain takes of what is pending, and what it leaves.
-pub struct Taken {
+pub struct Cleared {
     pub event: Drained,
     pub left: u32,
 }
@@ -59,22 +59,22 @@ pub fn count_noted(mut s: Ehci, command: u32) -> Counted
 }
 
 // Port change first, then activity, then what is left.
-pub fn take_pending(pending: u32) -> Taken
-    ensures { λ r. ⌜ r ≡ takenOf pending ⌝ }
+pub fn clear_pending(pending: u32) -> Cleared
+    ensures { λ r. ⌜ r ≡ clearedOf pending ⌝ }
 {
     if any_of(pending, USBSTS_PORT_CHANGE) {
-        return Taken {
+        return Cleared {
             event: Drained::PortChange,
             left: without_bits(pending, USBSTS_PORT_CHANGE),
         };
     }
     if any_of(pending, ACTIVITY) {
-        return Taken {
+        return Cleared {
             event: Drained::TransferActivity,
             left: without_bits(pending, ACTIVITY),
         };
     }
-    Taken {
+    Cleared {
         event: Drained::Stopped,
         left: 0,
     }

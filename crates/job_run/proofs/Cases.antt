@@ -6,28 +6,28 @@ use native.Mathlib.Numerals.{add-one}
 use native.Mathlib.Omega.{arith}
 use borrow.Author.Tests.{le-ltb, lt-ltb}
 use lib.ListN.{getD, replicate, set}
-use Rattle.token.specs.declared.request.Direction.{Direction}
-use Rattle.token.specs.declared.request.EndpointType.{EndpointType}
-use Rattle.token.specs.declared.request.EndpointType.the-variants.{Control}
+use Rattle.common.specs.declared.kinds.Direction.{Direction}
+use Rattle.common.specs.declared.kinds.EndpointType.{EndpointType}
+use Rattle.common.specs.declared.kinds.EndpointType.the-variants.{Control}
 use Rattle.pipe.specs.Endpoints.{directionOf, kindOf}
 use Rattle.ehci.specs.declared.call.Call.{Call}
 use Rattle.ehci.specs.declared.call.Call.the-variants.{BringUpStep, OpenEndpoint, StartBringUp, Submit}
 use Rattle.ehci.specs.Replies.{answeredNumber}
-use Rattle.world.specs.declared.world.Called.{Called}
-use Rattle.world.specs.declared.world.OpenedWorld.{OpenedWorld}
-use Rattle.world.specs.declared.world.World.{World}
+use Rattle.store.specs.declared.store.Called.{Called}
+use Rattle.store.specs.declared.store.OpenedStore.{OpenedStore}
+use Rattle.store.specs.declared.store.Store.{Store}
 use Rattle.settings.specs.declared.settings.Settings.{Settings}
-use Rattle.world.specs.Worlds.{blankWorld, callWorld, openWorld}
+use Rattle.store.specs.Stores.{blankStore, callStore, openStore}
 use Rattle.job_sheet.specs.declared.record.EndpointRecord.{EndpointRecord}
 use Rattle.job_sheet.specs.declared.record.RequestRecord.{RequestRecord}
 use Rattle.job_sheet.specs.declared.sheet.Job.{Job}
 use Rattle.job_sheet.specs.Outcomes.{slotOf}
 use Rattle.job_sheet.specs.Sheets.{jobOf, noEndpoint, noRequest}
 use Rattle.job_run.specs.declared.run.Ran.{Ran}
-use Rattle.job_run.specs.Runs.{afterCall, afterCalls, idTold, kindFor, openCall, openStep, openedTo, runOf, runningWorld, sheetSettings, slotTold, submitCall, submitStep, submittedTo}
+use Rattle.job_run.specs.Runs.{afterCall, afterCalls, idTold, kindFor, openCall, openStep, openedTo, runOf, runningStore, sheetSettings, slotTold, submitCall, submitStep, submittedTo}
 
-pub after-is : (c : Called) (w : World) (call : Call) → c ≡ callWorld w call → c .world ≡ afterCall w call
-after-is c w call e = ap (λ (x : Called). x .world) e
+pub after-is : (c : Called) (w : Store) (call : Call) → c ≡ callStore w call → c .store ≡ afterCall w call
+after-is c w call e = ap (λ (x : Called). x .store) e
 
 pub kind-there : (job : Job) (place : ℕ) (e : EndpointRecord) (k : EndpointType) → place < job .opens → e ≡ getD (jobOf job .endpoints) place noEndpoint
     → k ≡ kindOf (e .kind) → k ≡ kindFor job place
@@ -46,15 +46,15 @@ pub submit-call-is : (job : Job) (slots : List ℕ) (t : RequestRecord) (slot : 
 unfolding submitCall
 submit-call-is job slots t slot k d es ek ed = rw (es, ek, ed)
 
-pub open-step-is : (ran : Ran) (k : ℕ) (e : EndpointRecord) (call : Call) (c : Called) (n slot : ℕ) → call ≡ openCall e → c ≡ callWorld (ran .world) call
+pub open-step-is : (ran : Ran) (k : ℕ) (e : EndpointRecord) (call : Call) (c : Called) (n slot : ℕ) → call ≡ openCall e → c ≡ callStore (ran .store) call
     → n ≡ answeredNumber (c .answer) → slot ≡ slotTold (c .answer)
-    → record { world = c .world; opened = set (ran .opened) k n; slots = set (ran .slots) k slot; submitted = ran .submitted; ids = ran .ids } ≡ openStep ran k e
+    → record { store = c .store; opened = set (ran .opened) k n; slots = set (ran .slots) k slot; submitted = ran .submitted; ids = ran .ids } ≡ openStep ran k e
 unfolding openStep
 open-step-is ran k e call c n slot el ec en es = rw (en, es, ec, el)
 
 pub submit-step-is : (ran : Ran) (job : Job) (k : ℕ) (t : RequestRecord) (call : Call) (c : Called) (n id : ℕ) → call ≡ submitCall job (ran .slots) t
-    → c ≡ callWorld (ran .world) call → n ≡ answeredNumber (c .answer) → id ≡ idTold (c .answer)
-    → record { world = c .world; opened = ran .opened; slots = ran .slots; submitted = set (ran .submitted) k n; ids = set (ran .ids) k id } ≡ submitStep ran job k t
+    → c ≡ callStore (ran .store) call → n ≡ answeredNumber (c .answer) → id ≡ idTold (c .answer)
+    → record { store = c .store; opened = ran .opened; slots = ran .slots; submitted = set (ran .submitted) k n; ids = set (ran .ids) k id } ≡ submitStep ran job k t
 unfolding submitStep
 submit-step-is ran job k t call c n id el ec en ei = rw (en, ei, ec, el)
 
@@ -80,14 +80,14 @@ submit-done start job k ran le ge e = let same : k ≡ job .submits = omega arit
 
 -- ---- the controller
 
-pub running-is : (b : World) (s : Settings) (o : OpenedWorld) (w₁ w₂ w₃ w₄ w₅ w₆ w₇ : World) → b ≡ blankWorld → s ≡ sheetSettings → o ≡ openWorld b s → w₁ ≡ afterCall (o .world) StartBringUp
+pub running-is : (b : Store) (s : Settings) (o : OpenedStore) (w₁ w₂ w₃ w₄ w₅ w₆ w₇ : Store) → b ≡ blankStore → s ≡ sheetSettings → o ≡ openStore b s → w₁ ≡ afterCall (o .store) StartBringUp
     → w₂ ≡ afterCall w₁ (BringUpStep 0) → w₃ ≡ afterCall w₂ (BringUpStep 0x1000) → w₄ ≡ afterCall w₃ (BringUpStep 0) → w₅ ≡ afterCall w₄ (BringUpStep 0)
-    → w₆ ≡ afterCall w₅ (BringUpStep 0) → w₇ ≡ afterCall w₆ (BringUpStep 0) → w₇ ≡ runningWorld
-unfolding runningWorld afterCalls
+    → w₆ ≡ afterCall w₅ (BringUpStep 0) → w₇ ≡ afterCall w₆ (BringUpStep 0) → w₇ ≡ runningStore
+unfolding runningStore afterCalls
 running-is b s o w₁ w₂ w₃ w₄ w₅ w₆ w₇ eb es eo e₁ e₂ e₃ e₄ e₅ e₆ e₇ = e₇ ∙ rw (e₆, e₅, e₄, e₃, e₂, e₁, eo, eb, es)
 
-pub run-is : (job : Job) (w : World) (o r : Ran) → w ≡ runningWorld
-    → o ≡ openedTo (job .opens) (record { world = w; opened = replicate 8 0; slots = replicate 8 255; submitted = replicate 64 0; ids = replicate 64 0 }) job
+pub run-is : (job : Job) (w : Store) (o r : Ran) → w ≡ runningStore
+    → o ≡ openedTo (job .opens) (record { store = w; opened = replicate 8 0; slots = replicate 8 255; submitted = replicate 64 0; ids = replicate 64 0 }) job
     → r ≡ submittedTo (job .submits) o job → r ≡ runOf job
 unfolding runOf
 run-is job w o r ew eo er = er ∙ rw (eo, ew)

@@ -18,8 +18,8 @@ outcomeOf ran =
       slots = ran .slots;
       submitted = ran .submitted;
       ids = ran .ids;
-      owner = ran .world .state .owner;
-      pool = ran .world .pool;
+      owner = ran .store .state .owner;
+      pool = ran .store .pool;
     }
 
 abbrev pub printIf : Bool → List ℕ → List ℕ

@@ -1,12 +1,13 @@
 -- Document 01, "Examples": a sheet's job on a running controller "with D 16, E 8, C 16384, areas 100000, 200000, 300000, 400000".
+use mathlib.Core.Bool.{cond}
 use Prim.Native.Nat.{ℕ, zero, suc}
 use mathlib.Core.List.{List, [], _∷_}
 use lib.Dec.{ltb}
 use lib.ListN.{getD, replicate, set}
-use Rattle.token.specs.declared.request.EndpointType.{EndpointType}
-use Rattle.token.specs.declared.request.EndpointType.the-variants.{Control}
+use Rattle.common.specs.declared.kinds.EndpointType.{EndpointType}
+use Rattle.common.specs.declared.kinds.EndpointType.the-variants.{Control}
 use Rattle.settings.specs.declared.settings.Settings.{Settings}
-use Rattle.pipe.specs.Endpoints.{directionOf, kindOf, pickKind}
+use Rattle.pipe.specs.Endpoints.{directionOf, kindOf}
 use Rattle.ehci.specs.declared.call.Call.{Call}
 use Rattle.ehci.specs.declared.call.Call.the-variants.{StartBringUp, BringUpStep, OpenEndpoint, Submit}
 use Rattle.ehci.specs.declared.reply.Answered.{Answered}
@@ -14,9 +15,9 @@ use Rattle.ehci.specs.declared.reply.Answered.the-variants.{Done, Pending, Canc
 use Rattle.ehci.specs.declared.reply.Given.{Given}
 use Rattle.ehci.specs.declared.reply.Given.the-variants as G
 use Rattle.ehci.specs.Replies.{answeredNumber}
-use Rattle.world.specs.declared.world.Called.{Called}
-use Rattle.world.specs.declared.world.World.{World}
-use Rattle.world.specs.Worlds.{blankWorld, callWorld, openWorld}
+use Rattle.store.specs.declared.store.Called.{Called}
+use Rattle.store.specs.declared.store.Store.{Store}
+use Rattle.store.specs.Stores.{blankStore, callStore, openStore}
 use Rattle.job_sheet.specs.declared.record.EndpointRecord.{EndpointRecord}
 use Rattle.job_sheet.specs.declared.record.RequestRecord.{RequestRecord}
 use Rattle.job_sheet.specs.declared.sheet.Job.{Job}
@@ -40,10 +41,10 @@ sheetSettings =
       setups = 0x400000;
     }
 
-abbrev pub afterCall : World → Call → World
-afterCall w call = callWorld w call .world
+abbrev pub afterCall : Store → Call → Store
+afterCall w call = callStore w call .store
 
-unfoldable pub afterCalls : World → List Call → World
+unfoldable pub afterCalls : Store → List Call → Store
 afterCalls w [] = w
 afterCalls w (c ∷ cs) = afterCalls (afterCall w c) cs
 
@@ -59,8 +60,8 @@ bringUpCalls =
     ∷ BringUpStep 0
     ∷ []
 
-unfoldable pub runningWorld : World
-runningWorld = afterCalls (openWorld blankWorld sheetSettings .world) bringUpCalls
+unfoldable pub runningStore : Store
+runningStore = afterCalls (openStore blankStore sheetSettings .store) bringUpCalls
 
 -- ---- what a call gave
 
@@ -112,7 +113,7 @@ openCall e =
 abbrev pub opening : Ran → ℕ → Called → Ran
 opening ran k c =
     record {
-      world = c .world;
+      store = c .store;
       opened = set (ran .opened) k (answeredNumber (c .answer));
       slots = set (ran .slots) k (slotTold (c .answer));
       submitted = ran .submitted;
@@ -120,7 +121,7 @@ opening ran k c =
     }
 
 unfoldable pub openStep : Ran → ℕ → EndpointRecord → Ran
-openStep ran k e = opening ran k (callWorld (ran .world) (openCall e))
+openStep ran k e = opening ran k (callStore (ran .store) (openCall e))
 
 -- the first so many
 unfoldable pub openedTo : ℕ → Ran → Job → Ran
@@ -132,7 +133,7 @@ openedTo (suc k) start job = openStep (openedTo k start job) k (getD (jobOf job 
 -- "A request's kind is its record's"; one that is not there is refused whatever the kind
 abbrev pub kindFor : Job → ℕ → EndpointType
 kindFor job place =
-    pickKind (ltb place (job .opens)) (kindOf (getD (jobOf job .endpoints) place noEndpoint .kind)) Control
+    cond (ltb place (job .opens)) (kindOf (getD (jobOf job .endpoints) place noEndpoint .kind)) Control
 
 unfoldable pub submitCall : Job → List ℕ → RequestRecord → Call
 submitCall job slots t =
@@ -149,7 +150,7 @@ submitCall job slots t =
 abbrev pub submitting : Ran → ℕ → Called → Ran
 submitting ran k c =
     record {
-      world = c .world;
+      store = c .store;
       opened = ran .opened;
       slots = ran .slots;
       submitted = set (ran .submitted) k (answeredNumber (c .answer));
@@ -157,7 +158,7 @@ submitting ran k c =
     }
 
 unfoldable pub submitStep : Ran → Job → ℕ → RequestRecord → Ran
-submitStep ran job k t = submitting ran k (callWorld (ran .world) (submitCall job (ran .slots) t))
+submitStep ran job k t = submitting ran k (callStore (ran .store) (submitCall job (ran .slots) t))
 
 unfoldable pub submittedTo : ℕ → Ran → Job → Ran
 submittedTo zero start job = start
@@ -169,7 +170,7 @@ submittedTo (suc k) start job =
 abbrev pub startOf : Ran
 startOf =
     record {
-      world = runningWorld;
+      store = runningStore;
       opened = replicate 8 0;
       slots = replicate 8 255;
       submitted = replicate 64 0;

@@ -1,12 +1,12 @@
-// The controller that a sheet's job is run on: opened in a world of its own, and brought up through its steps.
+// The controller that a sheet's job is run on: opened in a store of its own, and brought up through its steps.
 ghost use mathlib.Core.Path.{_≡_};
-ghost use Rattle.job_run.specs.Runs.{sheetSettings, afterCall, runningWorld};
+ghost use Rattle.job_run.specs.Runs.{sheetSettings, afterCall, runningStore};
 use ehci::call::Call;
 use settings::settings::Settings;
-use world::world::World;
-use world::world::blank_world;
-use world::world::call_on;
-use world::world::open_in;
+use store::store::Store;
+use store::store::blank_store;
+use store::store::call_on;
+use store::store::open_in;
 
 fn sheet_settings() -> Settings
     ensures { λ r. ⌜ r ≡ sheetSettings ⌝ }
@@ -24,19 +24,19 @@ fn sheet_settings() -> Settings
     }
 }
 
-fn after_call(world: World, call: Call) -> World
-    ensures { λ r. ⌜ r ≡ afterCall world call ⌝ }
+fn after_call(store: Store, call: Call) -> Store
+    ensures { λ r. ⌜ r ≡ afterCall store call ⌝ }
 {
-    let called = call_on(world, call);
-    called.world
+    let called = call_on(store, call);
+    called.store
 }
 
 // The six readings: USBCMD; USBSTS halted; USBCMD; USBCMD, reset over; USBCMD; USBSTS, not halted.
-pub fn running_world() -> World
-    ensures { λ r. ⌜ r ≡ runningWorld ⌝ }
+pub fn running_store() -> Store
+    ensures { λ r. ⌜ r ≡ runningStore ⌝ }
 {
-    let opened = open_in(blank_world(), sheet_settings());
-    let fresh = opened.world;
+    let opened = open_in(blank_store(), sheet_settings());
+    let fresh = opened.store;
     let started = after_call(fresh, Call::StartBringUp);
     let stopped = after_call(started, Call::BringUpStep(0));
     let halted = after_call(stopped, Call::BringUpStep(0x1000));

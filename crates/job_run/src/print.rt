@@ -2,7 +2,7 @@
 ghost use mathlib.Core.Path.{_≡_};
 ghost use Prim.Native.Nat.{_+_, _*_, _≤_};
 ghost use lib.ListN.{length};
-ghost use Rattle.opening.specs.Rows.{putAt};
+ghost use Rattle.common.specs.Rows.{putAt};
 ghost use Rattle.job_run.specs.Prints.{outcomeOf, printedOf};
 use crate::run::Ran;
 use crate::run::run;
@@ -15,14 +15,14 @@ use job_sheet::sheet::read_sheet;
 fn outcome_of(ran: Ran) -> Outcome
     ensures { λ r. ⌜ r ≡ outcomeOf ran ⌝ }
 {
-    let world = ran.world;
-    let state = world.state;
+    let store = ran.store;
+    let state = store.state;
     let opened = ran.opened;
     let slots = ran.slots;
     let submitted = ran.submitted;
     let ids = ran.ids;
     let owner = state.owner;
-    let pool = world.pool;
+    let pool = store.pool;
     Outcome {
         opened,
         slots,

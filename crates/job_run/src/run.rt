@@ -15,7 +15,8 @@ ghost use Rattle.job_run.specs.Runs.{
   submittedTo,
   runOf,
 };
-use crate::controller_of::running_world;
+use crate::controller_of::running_store;
+use common::kinds::EndpointType;
 use controller::lent::Readings;
 use ehci::call::Call;
 use ehci::call::EndpointFields;
@@ -27,19 +28,18 @@ use job_sheet::outcome::slot_of;
 use job_sheet::record::EndpointRecord;
 use job_sheet::record::RequestRecord;
 use job_sheet::sheet::Job;
-use pipe::endpoint::direction_of;
-use pipe::endpoint::kind_of;
+use pipe::endpoints::direction_of;
+use pipe::endpoints::kind_of;
 use request::judge::TransferRequest;
-use token::request::EndpointType;
-use world::world::World;
-use world::world::call_on;
+use store::store::Store;
+use store::store::call_on;
 
 // No slot has this number.
 pub const NO_SLOT: u8 = 255;
 
 // For each record the answer and the slot, NO_SLOT where none was opened; for each request the answer and the id.
 pub struct Ran {
-    pub world: World,
+    pub store: Store,
     pub opened: [u8; 8],
     pub slots: [u8; 8],
     pub submitted: [u8; 64],
@@ -117,11 +117,11 @@ fn open_step(mut ran: Ran, k: usize, e: EndpointRecord) -> Ran
     requires { ⌜ k < 8 ⌝ }
     ensures { λ r. ⌜ r ≡ openStep ran k e ⌝ }
 {
-    let before = ran.world;
+    let before = ran.store;
     let called = call_on(before, open_call(e));
     let answer = called.answer;
-    let after = called.world;
-    ran.world = after;
+    let after = called.store;
+    ran.store = after;
     ran.opened[k] = answer.number();
     ran.slots[k] = slot_told(answer);
     ran
@@ -184,12 +184,12 @@ fn submit_step(mut ran: Ran, job: Job, k: usize, t: RequestRecord) -> Ran
     requires { ⌜ (k < 64) × (job .opens ≤ 8) ⌝ }
     ensures { λ r. ⌜ r ≡ submitStep ran job k t ⌝ }
 {
-    let before = ran.world;
+    let before = ran.store;
     let slots = ran.slots;
     let called = call_on(before, submit_call(job, slots, t));
     let answer = called.answer;
-    let after = called.world;
-    ran.world = after;
+    let after = called.store;
+    ran.store = after;
     ran.submitted[k] = answer.number();
     ran.ids[k] = id_told(answer);
     ran
@@ -214,7 +214,7 @@ pub fn run(job: Job) -> Ran
     ensures { λ r. ⌜ r ≡ runOf job ⌝ }
 {
     let start = Ran {
-        world: running_world(),
+        store: running_store(),
         opened: [0; 8],
         slots: [NO_SLOT; 8],
         submitted: [0; 64],

@@ -7,7 +7,7 @@ use native.Mathlib.Omega.{arith}
 use lib.ListN.{getD, length, take}
 use lib.Seq.{length-take-le, take-all, take-suc}
 use Rattle.descriptor.specs.declared.qtd.QueueTransferDescriptor.{QueueTransferDescriptor}
-use Rattle.opening.specs.Rows.{putAt}
+use Rattle.common.specs.Rows.{putAt}
 use Rattle.text.specs.Text.{decimal, hex}
 use Rattle.text.proofs.Puts.{put-then}
 use Rattle.text.proofs.TextLaws.{decimal-length, hex-length}

@@ -1,6 +1,6 @@
 -- The cases of the functions that read a sheet.
 use mathlib.Core.Path.{_≡_, refl, sym, ap, _∙_}
-use mathlib.Core.Bool.{Bool, true, false, _&&_, and-false, false≢true}
+use mathlib.Core.Bool.{Bool, true, false, _&&_, and-false, false≢true, cond}
 use mathlib.Core.List.{List}
 use Prim.Native.Nat.{ℕ, _+_, _*_, _-_, _≤_, _<_}
 use native.Mathlib.Omega.{arith}
@@ -15,7 +15,6 @@ use Rattle.job_sheet.specs.declared.sheet.Requests.{Requests}
 use Rattle.job_sheet.specs.declared.sheet.Sheet.{Sheet}
 use Rattle.job_sheet.specs.declared.sheet.Sizes.{Sizes}
 use Rattle.text.specs.Numbers.{numberAt}
-use Rattle.text.specs.Text.{pick}
 use Rattle.job_sheet.specs.Sheets.{isControl, noEndpoint, noRequest}
 use Rattle.job_sheet.specs.Reading.{badSheet, endpointAt, endpointsFit, endpointsIn, endpointsOf, filled, jobIn, noSizes, opensOf, packed, requestAt, requestFits, requestFitsAt, requestsFit, requestsIn, requestsOf, sheetFits, sheetOf, sizesFit, sizesOf, submitsOf}
 use Rattle.job_sheet.proofs.Rows.{both-true, up-length, up-taken}
@@ -91,9 +90,9 @@ sizes-fit bytes t =
     }
 
 sizes-told : (bytes : List ℕ) (b : Bool) → sizesFit bytes ≡ b
-    → pick b (record { good = true; endpoints = opensOf bytes; requests = submitsOf bytes }) noSizes .good ≡ true
-    → Sized bytes (pick b (record { good = true; endpoints = opensOf bytes; requests = submitsOf bytes }) noSizes .endpoints)
-    (pick b (record { good = true; endpoints = opensOf bytes; requests = submitsOf bytes }) noSizes .requests)
+    → cond b (record { good = true; endpoints = opensOf bytes; requests = submitsOf bytes }) noSizes .good ≡ true
+    → Sized bytes (cond b (record { good = true; endpoints = opensOf bytes; requests = submitsOf bytes }) noSizes .endpoints)
+    (cond b (record { good = true; endpoints = opensOf bytes; requests = submitsOf bytes }) noSizes .requests)
 sizes-told bytes true e g = sizes-fit bytes e
 sizes-told bytes false e g = absurd (false≢true g)
 
@@ -103,7 +102,7 @@ sizes-known bytes n e g =
     rw (sym e) at (sizes-told bytes (sizesFit bytes) refl (ap (λ (s : Sizes). s .good) (sym e) ∙ g))
 
 sizes-lost : (bytes : List ℕ) (b : Bool) → sizesFit bytes ≡ b
-    → pick b (record { good = true; endpoints = opensOf bytes; requests = submitsOf bytes }) noSizes .good ≡ false → sizesFit bytes ≡ false
+    → cond b (record { good = true; endpoints = opensOf bytes; requests = submitsOf bytes }) noSizes .good ≡ false → sizesFit bytes ≡ false
 sizes-lost bytes true e g = absurd (false≢true (sym g))
 sizes-lost bytes false e g = e
 

@@ -1,6 +1,6 @@
 -- The reader answers a job exactly where the bytes are that job's.
 use mathlib.Core.Path.{_≡_, refl, sym, ap, _∙_}
-use mathlib.Core.Bool.{Bool, true, false, false≢true}
+use mathlib.Core.Bool.{Bool, true, false, false≢true, cond}
 use mathlib.Core.List.{List, [], _++_, append-nil}
 use Prim.Native.Nat.{ℕ, suc, _+_, _*_, _≤_, _<_}
 use native.Mathlib.Omega.{arith}
@@ -9,7 +9,6 @@ use lib.ListN.{drop, getD, length, length-append, length-drop, take, take-append
 use lib.Seq.{drop-at, drop-drop, take-all, take-at}
 use Rattle.job_sheet.specs.declared.sheet.Sheet.{Sheet}
 use Rattle.text.specs.Numbers.{littleEndian, numberOf}
-use Rattle.text.specs.Text.{pick}
 use Rattle.job_sheet.specs.Sheets.{GoodEndpoint, GoodJob, GoodRequest, SheetJob, bytesOf, endpointBytes, jobOf, joined, noEndpoint, noRequest, requestBytes}
 use Rattle.job_sheet.specs.Reading.{badSheet, endpointAt, endpointFits, endpointPlace, endpointsFit, endpointsIn, jobIn, opensOf, packed, requestAt, requestFitsAt, requestPlace, requestsFit, requestsIn, sheetFits, sheetOf, sizesFit, submitsOf}
 use Rattle.text.proofs.NumberLaws.{Bytes, bytes-length, number-of-bytes, part-written}
@@ -24,7 +23,7 @@ unfolding packed
 packed-holds j = λ i. record { endpoints = filled-taken 8 noEndpoint (j .endpoints) i; requests = filled-taken 64 noRequest (j .requests) i }
 
 fits-told : (bytes : List ℕ) (b : Bool) → sheetFits bytes ≡ b
-    → pick b (record { good = true; job = packed (jobIn bytes) }) badSheet .good ≡ true → sheetFits bytes ≡ true
+    → cond b (record { good = true; job = packed (jobIn bytes) }) badSheet .good ≡ true → sheetFits bytes ≡ true
 unfolding badSheet
 fits-told bytes true e g = e
 fits-told bytes false e g = absurd (false≢true g)
@@ -199,8 +198,8 @@ complete j g bytes e =
 
 -- a bad sheet is no job's, and has the empty job
 empty-told : (bytes : List ℕ) (b : Bool) → sheetFits bytes ≡ b
-    → pick b (record { good = true; job = packed (jobIn bytes) }) badSheet .good ≡ false
-    → pick b (record { good = true; job = packed (jobIn bytes) }) badSheet ≡ badSheet
+    → cond b (record { good = true; job = packed (jobIn bytes) }) badSheet .good ≡ false
+    → cond b (record { good = true; job = packed (jobIn bytes) }) badSheet ≡ badSheet
 empty-told bytes true e g = absurd (false≢true (sym g))
 empty-told bytes false e g = refl
 

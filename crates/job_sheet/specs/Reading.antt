@@ -1,6 +1,6 @@
 -- Document 01, "Job sheets": the job of a sheet's bytes, each field by its place, and whether the sheet is good.
 use Prim.Native.Nat.{ℕ, zero, suc, _+_, _*_, _-_}
-use mathlib.Core.Bool.{Bool, true, false, _&&_, _||_}
+use mathlib.Core.Bool.{Bool, true, false, _&&_, _||_, cond}
 use mathlib.Core.List.{List, [], _∷_, _++_}
 use lib.Dec.{eqb, leb}
 use lib.ListN.{getD, length, replicate}
@@ -12,7 +12,6 @@ use Rattle.job_sheet.specs.declared.sheet.Requests.{Requests}
 use Rattle.job_sheet.specs.declared.sheet.Sheet.{Sheet}
 use Rattle.job_sheet.specs.declared.sheet.Sizes.{Sizes}
 use Rattle.text.specs.Numbers.{numberAt}
-use Rattle.text.specs.Text.{pick}
 pub use Rattle.job_sheet.specs.Sheets.{SheetJob, isControl, noEndpoint, noRequest}
 
 unfoldable pub endpointAt : List ℕ → ℕ → EndpointRecord
@@ -101,7 +100,7 @@ noSizes = record { good = false; endpoints = 0; requests = 0 }
 
 unfoldable pub sizesOf : List ℕ → Sizes
 sizesOf bytes =
-    pick (sizesFit bytes) (record { good = true; endpoints = opensOf bytes; requests = submitsOf bytes }) noSizes
+    cond (sizesFit bytes) (record { good = true; endpoints = opensOf bytes; requests = submitsOf bytes }) noSizes
 
 unfoldable pub jobIn : List ℕ → SheetJob
 jobIn bytes =
@@ -127,4 +126,4 @@ sheetFits bytes =
     && requestsFit bytes (endpointsIn bytes (opensOf bytes)) (opensOf bytes) (submitsOf bytes))
 
 unfoldable pub sheetOf : List ℕ → Sheet
-sheetOf bytes = pick (sheetFits bytes) (record { good = true; job = packed (jobIn bytes) }) badSheet
+sheetOf bytes = cond (sheetFits bytes) (record { good = true; job = packed (jobIn bytes) }) badSheet

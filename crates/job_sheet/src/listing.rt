@@ -2,11 +2,11 @@
 ghost use mathlib.Core.Path.{_≡_};
 ghost use Prim.Native.Nat.{_+_, _*_, _≤_};
 ghost use lib.ListN.{length};
-ghost use Rattle.opening.specs.Rows.{putAt};
+ghost use Rattle.common.specs.Rows.{putAt};
 ghost use Rattle.job_sheet.specs.Sheets.{joined};
 ghost use Rattle.job_sheet.specs.Listing.{numberField, wordField, badLine, endpointLine, requestLine, descriptorLine};
+use common::rows::put_bytes;
 use descriptor::qtd::QueueTransferDescriptor;
-use opening::rows::put_bytes;
 use text::digits::put;
 use text::digits::put_decimal;
 use text::digits::put_hex;

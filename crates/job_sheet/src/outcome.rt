@@ -7,7 +7,7 @@ use descriptor::qtd::QueueTransferDescriptor;
 ghost use mathlib.Core.Path.{_≡_};
 ghost use Prim.Native.Nat.{_+_, _*_, _≤_, _<_};
 ghost use lib.ListN.{length};
-ghost use Rattle.opening.specs.Rows.{putAt};
+ghost use Rattle.common.specs.Rows.{putAt};
 ghost use Rattle.text.specs.Text.{onlyIf};
 ghost use Rattle.job_sheet.specs.Listing.{descriptorLine};
 ghost use Rattle.job_sheet.specs.Outcomes.{

@@ -5,17 +5,17 @@ use crate::out::low_word;
 use crate::out::word;
 use crate::out::words;
 use crate::tokens::kind;
+use common::kinds::EndpointType;
 use descriptor::head;
 use descriptor::head::QueueHead;
 use descriptor::qtd::NextQtd;
 use descriptor::qtd::QueueTransferDescriptor;
 use descriptor::setup::setup_packet_bytes;
-use register::ehci;
+use register::operational;
 use register::writes::Write;
 use register::writes::Writes;
 use token::port::EhciPortStatus;
 use token::qtd::QtdToken;
-use token::request::EndpointType;
 
 // A buffer ends here at most.
 const TOP: u64 = 0x1_0000_0000;

@@ -6,6 +6,8 @@ use crate::out::low_word;
 use crate::out::put;
 use crate::out::shorts;
 use crate::out::word;
+use common::kinds::Direction;
+use common::kinds::EndpointType;
 use register::bits;
 use token::chunks;
 use token::plan;
@@ -13,8 +15,6 @@ use token::plan::DataTd;
 use token::port::EhciPortStatus;
 use token::qtd::QtdPid;
 use token::qtd::QtdToken;
-use token::request::Direction;
-use token::request::EndpointType;
 
 fn pid(k: u64) -> QtdPid {
     match k {

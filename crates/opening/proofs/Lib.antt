@@ -1,5 +1,4 @@
-pub mod RowsCases
-pub mod RowLaws
+pub mod HeadLaws
 pub mod OpenCases
 pub mod OpenLaws
 pub mod OpenPool

@@ -1,7 +1,7 @@
 -- The returns of opening.
 use Prim.Native.Nat.{ℕ, zero, suc, _+_, _-_, _*_, _%_, _^_, _≤_, _<_}
 use mathlib.Core.Path.{_≡_, refl, sym, ap, _∙_}
-use mathlib.Core.Bool.{Bool, true, false, not}
+use mathlib.Core.Bool.{Bool, true, false, not, _&&_}
 use mathlib.Core.List.{List, [], _∷_, _++_}
 use native.Mathlib.Omega.{arith}
 use borrow.Author.Tests.{eqb-true, leb-true, not-false, not-true}
@@ -12,22 +12,21 @@ use Rattle.token.specs.Chunks.{zeros}
 use Rattle.descriptor.specs.Descriptors.{terminated}
 use Rattle.descriptor.specs.Heads.{ringHead, wordsOf}
 use Rattle.descriptor.specs.declared.head.QueueHead.{QueueHead}
-use Rattle.answer.specs.declared.answer.Answer.the-variants.{Done, Refused}
-use Rattle.answer.specs.declared.answer.Refusal.the-variants.{InvalidParameter}
+use Rattle.common.specs.declared.answer.Answer.the-variants.{Done, Refused}
+use Rattle.common.specs.declared.answer.Refusal.the-variants.{InvalidParameter}
 use Rattle.opening.specs.declared.hub.EhciRootHub.{EhciRootHub}
 use Rattle.opening.specs.declared.open.Opening.{Opening}
 use Rattle.settings.specs.declared.settings.Settings.{Settings}
 use Rattle.state.specs.declared.state.Ehci.{Ehci}
 use Rattle.opening.specs.Hub.{openedHub}
 use Rattle.opening.specs.Opening.{freshState, rowsFit, refusedOpening, acceptedOpening, openedHeads, decided, decideOpenOf}
-use Rattle.opening.specs.Rows.{putAt}
+use Rattle.common.specs.Rows.{putAt}
 use Rattle.settings.specs.Settings.{settingsGood, numbersGood, eachGood, noOverlap, areaGood, poolSize, headsSize, headsLength, setupsLength, poolLength, framesLength}
-use Rattle.settings.specs.Tests.{both}
-use Rattle.settings.proofs.Every.{every-4}
-use Rattle.settings.proofs.SettingsCases.{both-first, both-second, numbers-tell}
+use Rattle.common.proofs.TestLaws.{every-4, both-first, both-second}
+use Rattle.settings.proofs.SettingsCases.{numbers-tell}
 
 pub fit-is : (s : Settings) (p h f u : ℕ)
-    → both (both (both (eqb p (poolLength s)) (eqb h (headsLength s))) (eqb f framesLength)) (eqb u (setupsLength s)) ≡ rowsFit s p h f u
+    → (eqb p (poolLength s) && eqb h (headsLength s) && eqb f framesLength && eqb u (setupsLength s)) ≡ rowsFit s p h f u
 unfolding rowsFit
 fit-is s p h f u = every-4 (eqb p (poolLength s)) (eqb h (headsLength s)) (eqb f framesLength) (eqb u (setupsLength s))
 

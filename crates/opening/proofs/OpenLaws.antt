@@ -2,7 +2,7 @@
 -- refused one leaves every row as it was and gives a state that is outside its ranges.
 use Prim.Native.Nat.{ℕ, _+_, _-_, _*_, _%_, _^_, _≤_, _<_}
 use mathlib.Core.Path.{_≡_, refl, ap, _∙_}
-use mathlib.Core.Bool.{Bool, true, false}
+use mathlib.Core.Bool.{Bool, true, false, _&&_}
 use mathlib.Core.List.{List, _∷_}
 use native.Mathlib.Omega.{arith}
 use borrow.Author.Tests.{eq-eqb, eqb-true}
@@ -12,8 +12,8 @@ use Rattle.register.specs.Bits.{withoutBits}
 use Rattle.token.specs.Chunks.{zeros}
 use Rattle.descriptor.specs.Descriptors.{terminated}
 use Rattle.descriptor.specs.Heads.{ringHead}
-use Rattle.answer.specs.declared.answer.Answer.the-variants.{Done, Refused}
-use Rattle.answer.specs.declared.answer.Refusal.the-variants.{InvalidParameter}
+use Rattle.common.specs.declared.answer.Answer.the-variants.{Done, Refused}
+use Rattle.common.specs.declared.answer.Refusal.the-variants.{InvalidParameter}
 use Rattle.settings.specs.declared.settings.Settings.{Settings}
 use Rattle.pipe.specs.Endpoints.{bareSlot}
 use Rattle.opening.specs.Hub.{openedHub}
@@ -22,10 +22,10 @@ use Rattle.slot.specs.Ranges.{slotGood}
 use Rattle.state.specs.Ranges.{inRanges}
 use Rattle.settings.specs.Settings.{framesLength, headsLength, numbersGood, poolLength, settingsGood, setupsLength}
 use Rattle.state.specs.Slots.{slotAt}
-use Rattle.settings.specs.Tests.{both}
 use Rattle.state.proofs.Arrays.{zeros-at}
 use Rattle.state.proofs.RangesLaws.{ranges-make}
-use Rattle.settings.proofs.SettingsLaws.{both-tells, Good, good-tells}
+use Rattle.settings.proofs.SettingsLaws.{Good, good-tells}
+use Rattle.common.proofs.TestLaws.{both-tells}
 use Rattle.slot.proofs.SlotLaws.{Phase, slot-makes}
 
 -- ---- the state
@@ -155,7 +155,7 @@ module _ (s : Settings) (pool : ℕ) (heads frames setups : List ℕ) where
       })
 
   -- any fault of the settings or of a row's length
-  pub open-refuses : both (settingsGood s) (rowsFit s pool (length heads) (length frames) (length setups)) ≡ false
+  pub open-refuses : (settingsGood s && rowsFit s pool (length heads) (length frames) (length setups)) ≡ false
       → Denied heads frames setups (decideOpenOf s pool heads frames setups)
   unfolding decideOpenOf refusedOpening
   open-refuses e = by (settingsGood s) refl

@@ -17,7 +17,7 @@ use Rattle.pool.proofs.PlaceLaws.{up-length, up-within}
 use Rattle.settings.specs.declared.settings.Settings.{Settings}
 use Rattle.settings.specs.Settings.{framesLength, headsLength, poolLength, settingsGood, setupsLength}
 use Rattle.settings.proofs.SettingsLaws.{good-tells}
-use Rattle.answer.specs.declared.answer.Refusal.the-variants.{InvalidParameter}
+use Rattle.common.specs.declared.answer.Refusal.the-variants.{InvalidParameter}
 use Rattle.opening.specs.declared.open.Opening.{Opening}
 use Rattle.opening.specs.Opening.{Decided, Opened, acceptedOpening, clearingOf, decideOpenOf, decided, freshState, openOf, opened, openedHeads, refusedOpening, rowsFit}
 use Rattle.opening.proofs.OpenLaws.{rows-tell}

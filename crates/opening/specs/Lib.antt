@@ -1,3 +1,3 @@
-pub mod Rows
+pub mod Heads
 pub mod Hub
 pub mod Opening

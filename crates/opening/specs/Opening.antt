@@ -10,18 +10,18 @@ use Rattle.pool.specs.declared.chain.Chain.{Chain}
 use Rattle.pool.specs.declared.chain.Deed.the-variants.{Clear}
 use Rattle.pool.specs.Chains.{blank}
 use Rattle.pool.specs.Places.{packed, upFrom}
-use Rattle.answer.specs.declared.answer.Answer.{Answer}
-use Rattle.answer.specs.declared.answer.Answer.the-variants.{Done, Refused}
-use Rattle.answer.specs.declared.answer.Refusal.{Refusal}
-use Rattle.answer.specs.declared.answer.Refusal.the-variants.{InvalidParameter}
+use Rattle.common.specs.declared.answer.Answer.{Answer}
+use Rattle.common.specs.declared.answer.Answer.the-variants.{Done, Refused}
+use Rattle.common.specs.declared.answer.Refusal.{Refusal}
+use Rattle.common.specs.declared.answer.Refusal.the-variants.{InvalidParameter}
 use Rattle.opening.specs.declared.hub.EhciRootHub.{EhciRootHub}
 use Rattle.opening.specs.declared.open.Opening.{Opening}
 use Rattle.settings.specs.declared.settings.Settings.{Settings}
 use Rattle.state.specs.declared.state.Ehci.{Ehci}
-use Rattle.answer.specs.Answers.{Check, first, settle}
+use Rattle.common.specs.Answers.{Check, first, settle}
 use Rattle.opening.specs.Hub.{openedHub}
 use Rattle.settings.specs.Settings.{settingsGood, poolLength, headsLength, framesLength, setupsLength}
-use Rattle.settings.specs.Tests.{every}
+use Rattle.common.specs.Tests.{every}
 
 -- not running, nothing begun, address 1 next, interrupts off, every descriptor free, every slot closed
 unfoldable pub freshState : Settings → Ehci

@@ -1,3 +1,2 @@
 pub mod EndpointCases
 pub mod EndpointLaws
-pub mod KindLaws

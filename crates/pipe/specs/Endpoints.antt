@@ -1,29 +1,25 @@
 -- A slot's endpoint: closed, idle, with a linked request, or with one that is unlinking.
 use Prim.Native.Nat.{ℕ}
-use mathlib.Core.Bool.{Bool, true, false, not}
+use mathlib.Core.Bool.{Bool, true, false, not, cond}
 use lib.Dec.{eqb, ltb}
-use Rattle.token.specs.declared.request.Direction.{Direction}
-use Rattle.token.specs.declared.request.Direction.the-variants.{Out, In}
-use Rattle.token.specs.declared.request.EndpointType.{EndpointType}
-use Rattle.token.specs.declared.request.EndpointType.the-variants.{Control, Isochronous, Bulk, Interrupt}
-use Rattle.pipe.specs.declared.endpoint.Endpoint.{Endpoint}
-use Rattle.pipe.specs.declared.endpoint.Endpoint.the-variants.{Closed, Idle, Linked, Unlinking}
-use Rattle.pipe.specs.declared.endpoint.Pipe.{Pipe}
-use Rattle.pipe.specs.declared.endpoint.Request.{Request}
-use Rattle.pipe.specs.declared.endpoint.UnlinkBoundary.{UnlinkBoundary}
-use Rattle.pipe.specs.declared.endpoint.UnlinkBoundary.the-variants.{Async, Periodic}
+use Rattle.common.specs.declared.kinds.Direction.{Direction}
+use Rattle.common.specs.declared.kinds.Direction.the-variants.{Out, In}
+use Rattle.common.specs.declared.kinds.EndpointType.{EndpointType}
+use Rattle.common.specs.declared.kinds.EndpointType.the-variants.{Control, Isochronous, Bulk, Interrupt}
+use Rattle.pipe.specs.declared.endpoints.Endpoint.{Endpoint}
+use Rattle.pipe.specs.declared.endpoints.Endpoint.the-variants.{Closed, Idle, Linked, Unlinking}
+use Rattle.pipe.specs.declared.endpoints.Pipe.{Pipe}
+use Rattle.pipe.specs.declared.endpoints.Request.{Request}
+use Rattle.pipe.specs.declared.endpoints.UnlinkBoundary.{UnlinkBoundary}
+use Rattle.pipe.specs.declared.endpoints.UnlinkBoundary.the-variants.{Async, Periodic}
 use Rattle.slot.specs.declared.slot.Slot.{Slot}
 use Rattle.state.specs.declared.state.Ehci.{Ehci}
 use Rattle.state.specs.Slots.{slotAt, withSlot}
 
 -- ---- numbers: control 0, isochronous 1, bulk 2, interrupt 3; Out 0, In 1
 
-abbrev pub pickKind : Bool → EndpointType → EndpointType → EndpointType
-pickKind true a b = a
-pickKind false a b = b
-
 abbrev pub kindOf : ℕ → EndpointType
-kindOf n = pickKind (eqb n 0) Control (pickKind (eqb n 1) Isochronous (pickKind (eqb n 2) Bulk Interrupt))
+kindOf n = cond (eqb n 0) Control (cond (eqb n 1) Isochronous (cond (eqb n 2) Bulk Interrupt))
 
 abbrev pub kindNumber : EndpointType → ℕ
 kindNumber Control = 0
@@ -64,19 +60,15 @@ pickBoundary false n = Async n
 abbrev pub boundaryOf : Slot → UnlinkBoundary
 boundaryOf e = pickBoundary (eqb (e .kind) 3) (e .boundary)
 
-abbrev pub pickEndpoint : Bool → Endpoint → Endpoint → Endpoint
-pickEndpoint true a b = a
-pickEndpoint false a b = b
-
 unfoldable pub decoded : Slot → Endpoint
 decoded e =
-    pickEndpoint (eqb (e .phase) 1) (Idle (pipeOf e))
-    (pickEndpoint (eqb (e .phase) 2) (Linked (pipeOf e) (requestOf e))
-    (pickEndpoint (eqb (e .phase) 3) (Unlinking (pipeOf e) (requestOf e) (boundaryOf e))
+    cond (eqb (e .phase) 1) (Idle (pipeOf e))
+    (cond (eqb (e .phase) 2) (Linked (pipeOf e) (requestOf e))
+    (cond (eqb (e .phase) 3) (Unlinking (pipeOf e) (requestOf e) (boundaryOf e))
     Closed))
 
 unfoldable pub endpointAt : Ehci → ℕ → Endpoint
-endpointAt s k = pickEndpoint (ltb k 32) (decoded (slotAt s k)) Closed
+endpointAt s k = cond (ltb k 32) (decoded (slotAt s k)) Closed
 
 -- ---- and back
 

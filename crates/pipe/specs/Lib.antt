@@ -1,2 +1,1 @@
 pub mod Endpoints
-pub mod Kinds

@@ -1,3 +1,2 @@
 // A slot taken apart into its endpoint, and put together again.
-pub mod endpoint;
-pub mod kinds;
+pub mod endpoints;

@@ -11,8 +11,8 @@ use lib.ListN.{drop, drop-of-length-le, getD, length, length-take, take}
 use lib.Seq.{drop-cons, length-take-le}
 use mir.Syntax.{w32, w64}
 use mir.Val.{Fits}
-use Rattle.token.specs.declared.request.EndpointType.{EndpointType}
-use Rattle.token.specs.declared.request.EndpointType.the-variants.{Control, Isochronous, Bulk, Interrupt}
+use Rattle.common.specs.declared.kinds.EndpointType.{EndpointType}
+use Rattle.common.specs.declared.kinds.EndpointType.the-variants.{Control, Isochronous, Bulk, Interrupt}
 use Rattle.token.specs.EhciQtd.{totalBytes}
 use Rattle.token.specs.Tokens.{onlyIf}
 use Rattle.descriptor.specs.declared.qtd.NextQtd.{NextQtd}
@@ -26,11 +26,11 @@ use Rattle.pool.specs.declared.places.Places.{Places}
 use Rattle.pool.specs.declared.transfer.Transfer.{Transfer}
 use Rattle.pool.specs.Places.{listOf}
 use Rattle.pool.specs.Transfers.{addressOf, bareAt, isLast, nextOf, recordAt, requestedAt, startGood}
-use Rattle.pool.specs.Chains.{firstError, indexAfter, isActive, isErring, lengthOf, numberIf, orElse, seeOf, stageOf, toCome, turnGood, viewOf, withToken, writtenOf}
+use Rattle.pool.specs.Chains.{firstError, indexAfter, isActive, isErring, lengthOf, numberIf, orElse, seeOf, standingOf, toCome, turnGood, viewOf, withToken, writtenOf}
 use Rattle.pool.proofs.PlaceCases.{listed}
 
 pub seen-none : record { stage = 0; failed = 0; moved = 0 } ≡ viewOf []
-unfolding viewOf stageOf firstError lengthOf
+unfolding viewOf standingOf firstError lengthOf
 seen-none = refl
 
 pub was-set : (a b : ℕ) → (a ≡ 0 → ⊥) → a ≡ orElse a b
@@ -72,7 +72,7 @@ sum-fits kind length limit k moved asked left r ea er hk hl h hm = omega (arith,
 pub see-made : (u : View) (asked requested w s f r : ℕ) → asked ≡ requested → s ≡ orElse (u .stage) (numberIf (isActive w) 2 (numberIf (isErring w) 1 0))
     → f ≡ orElse (u .failed) (numberIf (isErring w) w 0) → r ≡ asked - totalBytes w
     → record { stage = s; failed = f; moved = u .moved + r } ≡ seeOf u requested w
-unfolding viewOf stageOf firstError lengthOf
+unfolding viewOf standingOf firstError lengthOf
 see-made u asked requested w s f r ea es ef er =
     let sum : u .moved + r ≡ u .moved + ((requested - totalBytes w) + 0) = omega (arith, ea, er) in
     rw (es, ef, sum)

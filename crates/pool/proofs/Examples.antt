@@ -3,8 +3,8 @@ use Prim.Native.Nat.{ℕ}
 use mathlib.Core.Path.{_≡_, refl}
 use mathlib.Core.List.{List, [], _∷_}
 use lib.ListN.{replicate}
-use Rattle.token.specs.declared.request.Direction.the-variants.{In, Out}
-use Rattle.token.specs.declared.request.EndpointType.the-variants.{Bulk, Control}
+use Rattle.common.specs.declared.kinds.Direction.the-variants.{In, Out}
+use Rattle.common.specs.declared.kinds.EndpointType.the-variants.{Bulk, Control}
 use Rattle.token.specs.Chunks.{chunkCount}
 use Rattle.token.specs.Plans.{controlPlan}
 use Rattle.token.specs.Tokens.{tokenOf}
@@ -17,7 +17,7 @@ use Rattle.pool.specs.declared.transfer.Transfer.{Transfer}
 use Rattle.pool.specs.EhciChain.{follow}
 use Rattle.pool.specs.Places.{clearOf, markOf, placesFrom}
 use Rattle.pool.specs.Transfers.{bareAt, chunkQtd, recordAt, requestedAt, stageAt}
-use Rattle.pool.specs.Chains.{Seen, blank, filledFrom, firstError, lengthOf, metFrom, seenFrom, stageOf, viewOf}
+use Rattle.pool.specs.Chains.{Seen, blank, filledFrom, firstError, lengthOf, metFrom, seenFrom, standingOf, viewOf}
 
 -- In, 18 bytes at 10000FFF; pool at 100000, setup packets at 400000
 abbrev sheet-request : Transfer
@@ -65,14 +65,14 @@ freed = refl
 
 -- a short second chunk, of 16384 and 100 bytes: 60 are left
 short : viewOf (record { requested = 16384; token = 3328 } ∷ record { requested = 100; token = 3968256 } ∷ []) ≡ record { stage = 0; failed = 0; moved = 16424 }
-unfolding viewOf stageOf firstError lengthOf
+unfolding viewOf standingOf firstError lengthOf
 short = refl
 
 -- halted before an active one; an active one that errs
 halted : viewOf (record { requested = 100; token = 2624832 } ∷ record { requested = 100; token = 6589824 } ∷ []) ≡ record { stage = 1; failed = 2624832; moved = 60 }
-unfolding viewOf stageOf firstError lengthOf
+unfolding viewOf standingOf firstError lengthOf
 halted = refl
 
-active-first : stageOf (record { requested = 100; token = 6557120 } ∷ []) ≡ 2
-unfolding stageOf
+active-first : standingOf (record { requested = 100; token = 6557120 } ∷ []) ≡ 2
+unfolding standingOf
 active-first = refl

@@ -6,8 +6,8 @@ use native.Mathlib.Decide.{ℕ-discrete as decEq}
 use native.Mathlib.Omega.{arith}
 use lib.ListN.{length}
 use Rattle.token.proofs.ChunkLaws.{before-last, count-pos}
-use Rattle.token.specs.declared.request.EndpointType.{EndpointType}
-use Rattle.token.specs.declared.request.EndpointType.the-variants.{Control, Isochronous, Bulk, Interrupt}
+use Rattle.common.specs.declared.kinds.EndpointType.{EndpointType}
+use Rattle.common.specs.declared.kinds.EndpointType.the-variants.{Control, Isochronous, Bulk, Interrupt}
 use Rattle.token.specs.Chunks.{chunkCount, needOf}
 use Rattle.pool.specs.declared.chain.Deed.{Deed}
 use Rattle.pool.specs.declared.chain.Deed.the-variants as Deeds

@@ -11,8 +11,8 @@ use Rattle.token.specs.declared.plan.ControlTdPlan.{ControlTdPlan}
 use Rattle.token.specs.declared.plan.DataTd.{DataTd}
 use Rattle.token.specs.declared.plan.DataTd.the-variants.{Absent, Present}
 use Rattle.token.specs.declared.qtd.QtdToken.{QtdToken}
-use Rattle.token.specs.declared.request.EndpointType.{EndpointType}
-use Rattle.token.specs.declared.request.EndpointType.the-variants.{Control, Isochronous, Bulk, Interrupt}
+use Rattle.common.specs.declared.kinds.EndpointType.{EndpointType}
+use Rattle.common.specs.declared.kinds.EndpointType.the-variants.{Control, Isochronous, Bulk, Interrupt}
 use Rattle.token.specs.Chunks.{chunkAt}
 use Rattle.token.specs.Plans.{chunkToken, controlPlan}
 use Rattle.descriptor.specs.declared.qtd.QueueTransferDescriptor.{QueueTransferDescriptor}

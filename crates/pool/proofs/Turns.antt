@@ -9,8 +9,8 @@ use native.Mathlib.Omega.{arith}
 use borrow.Author.Tests.{eqb-true}
 use lib.Dec.{T, eqb, ltb, ltb→lt, nltb→le}
 use lib.ListN.{drop, getD, length, set, List·getD-eq-default}
-use Rattle.token.specs.declared.request.EndpointType.{EndpointType}
-use Rattle.token.specs.declared.request.EndpointType.the-variants.{Control, Isochronous, Bulk, Interrupt}
+use Rattle.common.specs.declared.kinds.EndpointType.{EndpointType}
+use Rattle.common.specs.declared.kinds.EndpointType.the-variants.{Control, Isochronous, Bulk, Interrupt}
 use Rattle.token.specs.EhciQtd.{totalBytes}
 use Rattle.descriptor.specs.declared.qtd.QueueTransferDescriptor.{QueueTransferDescriptor}
 use Rattle.pool.specs.declared.chain.Ask.{Ask}
@@ -21,7 +21,7 @@ use Rattle.pool.specs.declared.chain.View.{View}
 use Rattle.pool.specs.declared.transfer.Transfer.{Transfer}
 use Rattle.pool.specs.Places.{Within, listOf}
 use Rattle.pool.specs.Transfers.{addressOf, requestedAt, startGood}
-use Rattle.pool.specs.Chains.{blank, AskGood, ChainGood, Seen, deedGood, fillOf, filledFrom, firstError, isActive, isErring, joined, lengthOf, numberIf, orElse, seeOf, seenFrom, stageOf, startsGood, turnGood, viewOf, writtenOf}
+use Rattle.pool.specs.Chains.{blank, AskGood, ChainGood, Seen, deedGood, fillOf, filledFrom, firstError, isActive, isErring, joined, lengthOf, numberIf, orElse, seeOf, seenFrom, standingOf, startsGood, turnGood, viewOf, writtenOf}
 use Rattle.pool.proofs.Walk.{left-at, none-left}
 use Rattle.pool.proofs.Each.{each-at}
 use Rattle.pool.proofs.ChainCases.{listed-length, requested-lt}
@@ -79,9 +79,9 @@ moved-step : (a x z : ℕ) → (a + (x + 0)) + z ≡ a + (x + z)
 moved-step a x z = omega arith
 
 join-step : (u : View) (s : Seen) (ss : List Seen) → joined (joined u (viewOf (s ∷ []))) (viewOf ss) ≡ joined u (viewOf (s ∷ ss))
-unfolding viewOf stageOf firstError lengthOf
+unfolding viewOf standingOf firstError lengthOf
 join-step u s ss = λ i. record {
-  stage = stage-step (u .stage) (stageOf ss) (isActive (s .token)) (isErring (s .token)) i;
+  stage = stage-step (u .stage) (standingOf ss) (isActive (s .token)) (isErring (s .token)) i;
   failed = failed-step (u .failed) (firstError ss) (s .token) (isErring (s .token)) (erring-set (s .token)) i;
   moved = moved-step (u .moved) (s .requested - totalBytes (s .token)) (lengthOf ss) i;
 }
@@ -97,7 +97,7 @@ add-none : (a : ℕ) → a ≡ a + 0
 add-none a = omega arith
 
 join-none : (u : View) → u ≡ joined u (viewOf [])
-unfolding viewOf stageOf firstError lengthOf
+unfolding viewOf standingOf firstError lengthOf
 join-none u = λ i. record { stage = or-none (u .stage) i; failed = or-none (u .failed) i; moved = add-none (u .moved) i }
 
 none-join : (v : View) → joined (record { stage = 0; failed = 0; moved = 0 }) v ≡ v
@@ -127,7 +127,7 @@ module _ (kind : EndpointType) (len limit k : ℕ) (ps : List ℕ) (ys : List Qu
   seen-all h = join-none u ∙ ap (λ (l : List ℕ). joined u (viewOf (seenFrom kind len limit k l ys))) (sym (none-left ps k h)) ∙ left
 
 pub seen-start : (v u : View) → u ≡ viewOf [] → joined u v ≡ v
-unfolding viewOf stageOf firstError lengthOf
+unfolding viewOf standingOf firstError lengthOf
 seen-start v u e = ap (λ (w : View). joined w v) e ∙ none-join v
 
 -- what has moved stays far below 2^64

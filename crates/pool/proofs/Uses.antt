@@ -3,7 +3,7 @@
 --                  A `&mut [T]` passed so is given up for good: of it only `finally` is had, which is what `gave-slice` asks at exit. Nothing of it is particular to this crate
 --     folds        `fold(&*rows, ask)` where rows is a `&mut [Record]` that is used again: it is lent as a `&` for a lifetime of the call, and comes back as it was
 -- Assumes `Given`.
-use mathlib.Core.Path.{_≡_, refl}
+use mathlib.Core.Path.{_≡_}
 use Prim.Native.Nat.{ℕ}
 use mathlib.Core.List.{List, [], _∷_}
 use lib.ListN.{length}

@@ -4,8 +4,8 @@ use mathlib.Core.Bool.{Bool, true, false, not}
 use mathlib.Core.List.{List, [], _∷_, map}
 use lib.Dec.{eqb, leb}
 use lib.ListN.{getD, set}
-use Rattle.token.specs.declared.request.EndpointType.{EndpointType}
-use Rattle.token.specs.declared.request.EndpointType.the-variants.{Control, Isochronous, Bulk, Interrupt}
+use Rattle.common.specs.declared.kinds.EndpointType.{EndpointType}
+use Rattle.common.specs.declared.kinds.EndpointType.the-variants.{Control, Isochronous, Bulk, Interrupt}
 use Rattle.token.specs.EhciQtd.{active, errors, totalBytes}
 use Rattle.descriptor.specs.declared.qtd.QueueTransferDescriptor.{QueueTransferDescriptor}
 use Rattle.descriptor.specs.Slots.{zeroSlots}
@@ -97,9 +97,9 @@ abbrev pub indexAfter : ℕ → ℕ → ℕ
 indexAfter n k = numberIf (leb n (k + 1)) k (k + 1)
 
 -- 0: every descriptor is inactive, none erring; 1: an error comes before any active one; 2: an active one comes first
-unfoldable pub stageOf : List Seen → ℕ
-stageOf [] = 0
-stageOf (s ∷ ss) = numberIf (isActive (s .token)) 2 (numberIf (isErring (s .token)) 1 (stageOf ss))
+unfoldable pub standingOf : List Seen → ℕ
+standingOf [] = 0
+standingOf (s ∷ ss) = numberIf (isActive (s .token)) 2 (numberIf (isErring (s .token)) 1 (standingOf ss))
 
 -- the first erring token, 0 where none is
 unfoldable pub firstError : List Seen → ℕ
@@ -112,7 +112,7 @@ lengthOf [] = 0
 lengthOf (s ∷ ss) = (s .requested - totalBytes (s .token)) + lengthOf ss
 
 unfoldable pub viewOf : List Seen → View
-viewOf ss = record { stage = stageOf ss; failed = firstError ss; moved = lengthOf ss }
+viewOf ss = record { stage = standingOf ss; failed = firstError ss; moved = lengthOf ss }
 
 abbrev pub orElse : ℕ → ℕ → ℕ
 orElse a b = numberIf (eqb a 0) b a

@@ -11,10 +11,10 @@ use crate::places::no_places;
 use crate::transfer::Transfer;
 use crate::transfer::bare_at;
 use crate::transfer::requested;
+use common::kinds::EndpointType;
 use descriptor::qtd::NextQtd;
 use descriptor::qtd::QueueTransferDescriptor;
 use token::qtd::QtdToken;
-use token::request::EndpointType;
 
 // What becomes of each record of a chain.
 pub enum Deed {

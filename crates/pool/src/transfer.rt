@@ -3,13 +3,13 @@ ghost use mathlib.Core.Path.{_≡_};
 ghost use Prim.Native.Nat.{_+_, _-_, _*_, _≤_, _^_};
 ghost use Rattle.token.specs.Chunks.{chunkAt};
 ghost use Rattle.pool.specs.Transfers.{requestedAt, stageAt, chunkQtd, bareAt, startGood};
+use common::kinds::Direction;
+use common::kinds::EndpointType;
 use descriptor::qtd::QueueTransferDescriptor;
 use token::plan::DataTd;
 use token::plan::build_control_td_plan;
 use token::plan::chunk_token;
 use token::qtd::least;
-use token::request::Direction;
-use token::request::EndpointType;
 
 // `setup` is the address of the slot's setup packet.
 pub struct Transfer {

@@ -1,14 +1,13 @@
 -- The doorbell, as the history tells it: rings, their answers, and unlinks by their numbers. No field of the state is read.
 use Prim.Native.Nat.{ℕ, _+_}
-use mathlib.Core.Bool.{Bool, true, false, cond}
+use mathlib.Core.Bool.{Bool, true, false, cond, _&&_, _||_}
 use mathlib.Core.List.{[], _∷_, _++_}
 use mathlib.Core.Path.{_≡_}
 use lib.Dec.{eqb}
-use Rattle.settings.specs.Tests.{both, either}
 use Rattle.settings.specs.declared.settings.Settings.{Settings}
-use Rattle.token.specs.declared.request.EndpointType.{EndpointType}
-use Rattle.token.specs.declared.request.EndpointType.the-variants.{Control}
-use Rattle.pipe.specs.Endpoints.{flagNumber, pickKind}
+use Rattle.common.specs.declared.kinds.EndpointType.{EndpointType}
+use Rattle.common.specs.declared.kinds.EndpointType.the-variants.{Control}
+use Rattle.pipe.specs.Endpoints.{flagNumber}
 use Rattle.ehci.specs.declared.call.Call.{Call}
 use Rattle.ehci.specs.declared.call.Call.the-variants.{StartBringUp, BringUpStep, AllocateAddress, OpenEndpoint, Close, SetAddress, SetPacketSize, Submit, Writeback, Cancel, Collect, Acknowledge, Drain, Rearm, Enable, Disable}
 use Rattle.ehci.specs.declared.reply.Answered.{Answered as Answer}
@@ -104,7 +103,7 @@ module _ (s : Settings) where
 
   -- k's request is another from here on, or none
   abbrev pub renews : ℕ → Turn → Bool
-  renews k t = either (submits k t) (collects k t)
+  renews k t = submits k t || collects k t
 
 -- no turn of the list does it; a turn of the list does it
 abbrev pub none : (Turn → Bool) → History → Type 0
@@ -113,7 +112,7 @@ none p (t ∷ h) = (p t ≡ false) × none p h
 
 abbrev pub someTurn : (Turn → Bool) → History → Bool
 someTurn p [] = false
-someTurn p (t ∷ h) = either (p t) (someTurn p h)
+someTurn p (t ∷ h) = p t || someTurn p h
 
 -- ---- the doorbell
 
@@ -155,7 +154,7 @@ bell s (t ∷ past) = next (rings t) (reads s t) (drains s t) (bell s past)
 -- how many advances were counted: the drains that come upon an answer
 unfoldable pub counted : Settings → History → ℕ
 counted s [] = 0
-counted s (t ∷ past) = flagNumber (both (drains s t) (isAnswered (bell s past))) + counted s past
+counted s (t ∷ past) = flagNumber (drains s t && isAnswered (bell s past)) + counted s past
 
 -- "unlinks are numbered 1, 2, ..": how many were made, and the number of k's last one
 unfoldable pub asked : Settings → History → ℕ
@@ -173,7 +172,7 @@ abbrev pub kindAfter : ℕ → Event → EndpointType → EndpointType
 kindAfter k Other old = old
 kindAfter k Reads old = old
 kindAfter k Drains old = old
-kindAfter k (Submits j id r) old = pickKind (eqb j k) (r .kind) old
+kindAfter k (Submits j id r) old = cond (eqb j k) (r .kind) old
 kindAfter k (Unlinks j) old = old
 kindAfter k (Parts j frame) old = old
 kindAfter k (Collects j id frame) old = old
@@ -199,7 +198,7 @@ newestId s k (t ∷ past) = idAfter k (event s t) (newestId s k past)
 -- it was accepted, and its head has left no schedule since
 unfoldable pub linked : Settings → ℕ → History → Bool
 linked s k [] = false
-linked s k (t ∷ past) = cond (submits s k t) true (cond (either (unlinksOf s k t) (partsOf s k t)) false (linked s k past))
+linked s k (t ∷ past) = cond (submits s k t) true (cond (unlinksOf s k t || partsOf s k t) false (linked s k past))
 
 -- its head left the ring, and it has not been collected since
 unfoldable pub unlinking : Settings → ℕ → History → Bool
@@ -236,7 +235,7 @@ cancelsBy k (SetAddress j address) a = false
 cancelsBy k (SetPacketSize j size) a = false
 cancelsBy k (Submit j r readings) a = false
 cancelsBy k (Writeback place token) a = false
-cancelsBy k (Cancel j id readings) a = both (eqb j k) (isDone a)
+cancelsBy k (Cancel j id readings) a = eqb j k && isDone a
 cancelsBy k (Collect j id readings) a = false
 cancelsBy k (Acknowledge x) a = false
 cancelsBy k (Drain w) a = false

@@ -1,13 +1,12 @@
 -- Chains, over any calls: the controller meets exactly the linked heads of each schedule, newest first, and no detach fails. Statements
 -- of any machine; that each request's overlay leads through its descriptors is `ChainsLead`.
 use Prim.Native.Nat.{ℕ, _+_, _<_}
-use mathlib.Core.Bool.{Bool, true, false, cond}
+use mathlib.Core.Bool.{Bool, true, false, cond, _||_}
 use mathlib.Core.List.{List, [], _∷_, _++_, map}
 use mathlib.Core.Path.{_≡_}
 use lib.ListN.{getD}
 use Rattle.descriptor.specs.declared.qtd.QueueTransferDescriptor.{QueueTransferDescriptor}
 use Rattle.pool.specs.Chains.{blank, isActive, isErring}
-use Rattle.settings.specs.Tests.{either}
 use Rattle.settings.specs.declared.settings.Settings.{Settings}
 use Rattle.controller.specs.declared.lent.Readings.{Readings}
 use Rattle.ehci.specs.declared.call.Call.{Call}
@@ -24,7 +23,7 @@ headPlaces ks = map (λ (k : ℕ). k + 1) ks
 
 -- slot k's head is in a schedule
 abbrev pub isLinked : Settings → History → ℕ → Bool
-isLinked s h k = either (isIn k (ringSlots s h)) (isIn k (frameSlots s h))
+isLinked s h k = isIn k (ringSlots s h) || isIn k (frameSlots s h)
 
 -- the ring's walk is the linked control and bulk heads, newest first, and back to the ring head; every frame entry's walk is the linked
 -- interrupt heads, newest first, and ends; and each linked head is that of an uncollected request

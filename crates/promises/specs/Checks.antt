@@ -1,19 +1,18 @@
 -- Document 01, "Order of checks", call by call: what is asked, in its order, and what each answers. The first that holds answers.
 use Prim.Native.Nat.{ℕ, _+_}
-use mathlib.Core.Bool.{Bool, false, not}
+use mathlib.Core.Bool.{Bool, false, not, _&&_}
 use mathlib.Core.List.{List, [], _∷_}
 use mathlib.Core.Path.{_≡_}
 use lib.Dec.{eqb, leb, ltb}
 use lib.ListN.{length}
-use Rattle.settings.specs.Tests.{both}
 use Rattle.state.specs.Slots.{slotAt}
 use Rattle.state.specs.declared.state.Ehci.{Ehci}
 use Rattle.pipe.specs.Endpoints.{endpointAt, kindNumber}
-use Rattle.pipe.specs.Kinds.{isIsochronous}
-use Rattle.pipe.specs.declared.endpoint.Endpoint.{Endpoint}
-use Rattle.pipe.specs.declared.endpoint.Endpoint.the-variants.{Closed, Idle, Linked, Unlinking}
-use Rattle.answer.specs.Answers.{Check, Verdict, first, passed, refused}
-use Rattle.answer.specs.declared.answer.Refusal.the-variants.{InvalidParameter, SlotLimitReached, InvalidEndpoint, QueueFull, NotSupported, NoMemory, Timeout, NotReady}
+use Rattle.common.specs.Kinds.{isIsochronous}
+use Rattle.pipe.specs.declared.endpoints.Endpoint.{Endpoint}
+use Rattle.pipe.specs.declared.endpoints.Endpoint.the-variants.{Closed, Idle, Linked, Unlinking}
+use Rattle.common.specs.Answers.{Check, Verdict, first, passed, refused}
+use Rattle.common.specs.declared.answer.Refusal.the-variants.{InvalidParameter, SlotLimitReached, InvalidEndpoint, QueueFull, NotSupported, NoMemory, Timeout, NotReady}
 use Rattle.controller.specs.Lent.{acceptsOf, lengths}
 use Rattle.controller.specs.Readers.{freeCount, isOpen, isUncollected}
 use Rattle.schedule.specs.Links.{detachOf}
@@ -40,7 +39,7 @@ unfit w =
 
 -- "the W-th read of a wait is not ready"
 abbrev pub late : Ehci → ℕ → Bool
-late s v = both (not (ready (stageOf (s .step)) v)) (not (ltb (s .waited + 1) (s .settings .wait)))
+late s v = not (ready (stageOf (s .step)) v) && not (ltb (s .waited + 1) (s .settings .wait))
 
 -- no linked head leads to the slot's: only where a lent link was altered
 abbrev pub lost : World → ℕ → Bool
@@ -103,7 +102,7 @@ furtherChecks w (Collect k id readings) =
     (crowded (w .state) k, InvalidParameter)
     ∷ (not (isOpen (w .state) k), InvalidEndpoint)
     ∷ (wrongId (w .state) k id, InvalidEndpoint)
-    ∷ (lostAt (endpointAt (w .state) k) (both (finished w (Collect k id readings)) (lost w k)), InvalidEndpoint)
+    ∷ (lostAt (endpointAt (w .state) k) (finished w (Collect k id readings) && lost w k), InvalidEndpoint)
     ∷ []
 furtherChecks w (Acknowledge x) = []
 furtherChecks w (Drain command) = []

@@ -1,12 +1,11 @@
 -- What happens in a turn, from the call, its answer, its register writes and the lent rows.
 use Prim.Native.Nat.{ℕ, _+_}
-use mathlib.Core.Bool.{Bool, true, false, not, cond}
+use mathlib.Core.Bool.{Bool, true, false, not, cond, _&&_}
 use lib.Dec.{eqb}
 use Rattle.register.specs.Bits.{bit}
-use Rattle.settings.specs.Tests.{both}
 use Rattle.settings.specs.declared.settings.Settings.{Settings}
 use Rattle.request.specs.declared.judge.TransferRequest.{TransferRequest}
-use Rattle.interrupt.specs.Once.{someRing}
+use Rattle.schedule.specs.Bell.{someRing}
 use Rattle.ehci.specs.declared.call.Call.{Call}
 use Rattle.ehci.specs.declared.call.Call.the-variants.{StartBringUp, BringUpStep, AllocateAddress, OpenEndpoint, Close, SetAddress, SetPacketSize, Submit, Writeback, Cancel, Collect, Acknowledge, Drain, Rearm, Enable, Disable}
 use Rattle.ehci.specs.declared.reply.Answered.{Answered}
@@ -26,10 +25,10 @@ rings t = someRing (t .wrote)
 
 -- slot k's head is met before the call, and not after it
 abbrev pub leavesRing : Settings → ℕ → Turn → Bool
-leavesRing s k t = both (isIn (k + 1) (ringWalk s (t .before))) (not (isIn (k + 1) (ringWalk s (t .after))))
+leavesRing s k t = isIn (k + 1) (ringWalk s (t .before)) && not (isIn (k + 1) (ringWalk s (t .after)))
 
 abbrev pub leavesFrames : Settings → ℕ → Turn → Bool
-leavesFrames s k t = both (isIn (k + 1) (frameWalk s (t .before) 0)) (not (isIn (k + 1) (frameWalk s (t .after) 0)))
+leavesFrames s k t = isIn (k + 1) (frameWalk s (t .before) 0) && not (isIn (k + 1) (frameWalk s (t .after) 0))
 
 -- ---- events
 
@@ -98,7 +97,7 @@ happens s (Writeback place token) t = Other
 happens s (Cancel k id readings) t = leaving s k (readings .frame) t
 happens s (Collect k id readings) t =
     cond (isCollected (t .answer)) (Collects k id (readings .frame)) (leaving s k (readings .frame) t)
-happens s (Acknowledge x) t = cond (both (isDone (t .answer)) (eqb (bit (x .status) 5) 1)) Reads Other
+happens s (Acknowledge x) t = cond (isDone (t .answer) && eqb (bit (x .status) 5) 1) Reads Other
 happens s (Drain w) t = cond (isDone (t .answer)) Drains Other
 happens s Rearm t = Other
 happens s Enable t = Other

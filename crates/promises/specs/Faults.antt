@@ -1,10 +1,9 @@
 -- The Rust's fault: what the controller may still read, as the history tells it, and that no submit is given a place of it.
 use Prim.Native.Nat.{ℕ}
-use mathlib.Core.Bool.{Bool, true, false, cond}
+use mathlib.Core.Bool.{Bool, true, false, cond, _&&_, _||_}
 use mathlib.Core.List.{List, [], _∷_}
 use mathlib.Core.Path.{_≡_}
 use lib.Dec.{eqb}
-use Rattle.settings.specs.Tests.{both, either}
 use Rattle.settings.specs.declared.settings.Settings.{Settings}
 use Rattle.schedule.specs.Bell.{framesPassed, frameOf}
 use Rattle.request.specs.declared.judge.TransferRequest.{TransferRequest}
@@ -59,7 +58,7 @@ nineOn k start Drains = false
 nineOn k start (Submits j id r) = false
 nineOn k start (Unlinks j) = false
 nineOn k start (Parts j frame) = false
-nineOn k start (Collects j id frame) = both (eqb j k) (framesPassed (frameOf start) frame)
+nineOn k start (Collects j id frame) = eqb j k && framesPassed (frameOf start) frame
 
 -- the ring is answered; FRINDEX is 9 on
 abbrev pub isForgotten : ℕ → Event → Reach → Bool
@@ -90,7 +89,7 @@ holds s (t ∷ past) = joined s t (event s t) (onward (rings t) (event s t) (hol
 
 abbrev pub isHeld : ℕ → List Hold → Bool
 isHeld place [] = false
-isHeld place (x ∷ xs) = either (isIn place (x .places)) (isHeld place xs)
+isHeld place (x ∷ xs) = isIn place (x .places) || isHeld place xs
 
 -- from an accepted submit that has the place until the first answer to a ring at or after its unlink; of an interrupt request until a collection
 -- reads FRINDEX 9 or more on from its unlink's reading

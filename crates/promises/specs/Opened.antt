@@ -6,20 +6,20 @@ use mathlib.Core.List.{List, [], _∷_, _++_, map}
 use mathlib.Core.Path.{_≡_}
 use lib.Dec.{eqb, ltb}
 use Rattle.token.specs.Chunks.{needOf}
-use Rattle.token.specs.declared.request.EndpointType.{EndpointType}
+use Rattle.common.specs.declared.kinds.EndpointType.{EndpointType}
 use Rattle.pipe.specs.Endpoints.{endpointAt, flagNumber, kindNumber}
-use Rattle.pipe.specs.Kinds.{isIsochronous}
-use Rattle.pipe.specs.declared.endpoint.Endpoint.{Endpoint}
-use Rattle.pipe.specs.declared.endpoint.Endpoint.the-variants.{Closed, Idle, Linked, Unlinking}
+use Rattle.common.specs.Kinds.{isIsochronous}
+use Rattle.pipe.specs.declared.endpoints.Endpoint.{Endpoint}
+use Rattle.pipe.specs.declared.endpoints.Endpoint.the-variants.{Closed, Idle, Linked, Unlinking}
 use Rattle.settings.specs.declared.settings.Settings.{Settings}
 use Rattle.state.specs.declared.state.Ehci.{Ehci}
-use Rattle.answer.specs.Answers.{Check, Verdict, first, passed, refusalNumber, refused}
-use Rattle.answer.specs.declared.answer.Refusal.the-variants.{InvalidParameter, InvalidEndpoint, QueueFull, NotSupported, NoMemory, NotReady}
+use Rattle.common.specs.Answers.{Check, Verdict, first, passed, refusalNumber, refused}
+use Rattle.common.specs.declared.answer.Refusal.the-variants.{InvalidParameter, InvalidEndpoint, QueueFull, NotSupported, NoMemory, NotReady}
 use Rattle.controller.specs.Readers.{isUncollected}
 use Rattle.controller.specs.declared.lent.Readings.{Readings}
 use Rattle.request.specs.Submit.{rangesGood}
 use Rattle.request.specs.declared.judge.TransferRequest.{TransferRequest}
-use Rattle.bring_up.specs.declared.reads.NextRead.the-variants as N
+use Rattle.common.specs.declared.reads.NextRead.the-variants as N
 use Rattle.ehci.specs.declared.call.Call.{Call}
 use Rattle.ehci.specs.declared.call.Call.the-variants.{StartBringUp, BringUpStep, AllocateAddress, OpenEndpoint, Close, SetAddress, SetPacketSize, Submit, Writeback, Cancel, Collect, Acknowledge, Drain, Rearm, Enable, Disable}
 use Rattle.ehci.specs.declared.reply.Answered.{Answered}

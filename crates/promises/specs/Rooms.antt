@@ -10,7 +10,7 @@ use Rattle.pool.specs.Places.{Each, Within}
 use Rattle.pool.specs.Transfers.{recordAt}
 use Rattle.pool.specs.declared.transfer.Transfer.{Transfer}
 use Rattle.settings.specs.declared.settings.Settings.{Settings}
-use Rattle.answer.specs.Answers.{passed}
+use Rattle.common.specs.Answers.{passed}
 use Rattle.controller.specs.Readers.{freeCount}
 use Rattle.controller.specs.declared.lent.Readings.{Readings}
 use Rattle.request.specs.declared.judge.TransferRequest.{TransferRequest}

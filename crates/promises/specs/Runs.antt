@@ -7,7 +7,7 @@ use Rattle.register.specs.declared.writes.Write.{Write}
 use Rattle.descriptor.specs.declared.qtd.QueueTransferDescriptor.{QueueTransferDescriptor}
 use Rattle.settings.specs.declared.settings.Settings.{Settings}
 use Rattle.state.specs.declared.state.Ehci.{Ehci}
-use Rattle.answer.specs.declared.answer.Answer.the-variants.{Done}
+use Rattle.common.specs.declared.answer.Answer.the-variants.{Done}
 use Rattle.opening.specs.Opening.{Opened, openOf}
 use Rattle.ehci.specs.declared.call.Call.{Call}
 use Rattle.ehci.specs.declared.reply.Answered.{Answered}

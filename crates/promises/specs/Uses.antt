@@ -1,11 +1,10 @@
 -- The requests that are accepted and not collected, and the heads in each schedule, as the history tells them.
 use Prim.Native.Nat.{ℕ, _+_}
-use mathlib.Core.Bool.{Bool, not, cond}
+use mathlib.Core.Bool.{Bool, not, cond, _&&_}
 use mathlib.Core.List.{List, [], _∷_}
 use lib.Dec.{eqb}
 use Rattle.token.specs.Chunks.{needOf}
-use Rattle.pipe.specs.Kinds.{isInterrupt}
-use Rattle.settings.specs.Tests.{both}
+use Rattle.common.specs.Kinds.{isInterrupt}
 use Rattle.settings.specs.declared.settings.Settings.{Settings}
 use Rattle.request.specs.declared.judge.TransferRequest.{TransferRequest}
 use Rattle.promises.specs.Runs.{History, Turn}
@@ -22,7 +21,7 @@ pub record Use : Type 0 where
   pub places : List ℕ
 
 abbrev pub isOf : ℕ → ℕ → Use → Bool
-isOf k id u = both (eqb (u .slot) k) (eqb (u .id) id)
+isOf k id u = eqb (u .slot) k && eqb (u .id) id
 
 abbrev pub without : ℕ → ℕ → List Use → List Use
 without k id [] = []

@@ -1,12 +1,11 @@
 -- What the controller meets, from the words of the lent rows and the addresses of the areas alone.
 use Prim.Native.Nat.{ℕ, zero, suc, _+_, _*_, _-_, _/_}
-use mathlib.Core.Bool.{Bool, true, false}
+use mathlib.Core.Bool.{Bool, true, false, _||_}
 use mathlib.Core.List.{List, [], _∷_}
 use lib.Dec.{eqb}
 use lib.ListN.{getD}
 use Rattle.descriptor.specs.EhciQueueHead.{linkAddress, linkTerminate}
 use Rattle.pool.specs.Chains.{metFrom}
-use Rattle.settings.specs.Tests.{either}
 use Rattle.settings.specs.declared.settings.Settings.{Settings}
 use Rattle.promises.specs.Runs.{Rows}
 
@@ -40,4 +39,4 @@ chainWalk s rows k = metFrom (s .pool) (rows .pool) (s .descriptors + 1) (getD (
 
 abbrev pub isIn : ℕ → List ℕ → Bool
 isIn p [] = false
-isIn p (q ∷ qs) = either (eqb q p) (isIn p qs)
+isIn p (q ∷ qs) = eqb q p || isIn p qs

@@ -3,9 +3,9 @@ use Prim.Native.Nat.{ℕ}
 use mathlib.Core.Bool.{Bool, true, false}
 use mathlib.Core.Path.{_≡_, refl, sym, ap, _∙_}
 use mathlib.Core.List.{List}
-use Rattle.answer.specs.declared.answer.Answer.the-variants as A
-use Rattle.answer.specs.declared.answer.Refusal.{Refusal}
-use Rattle.bring_up.specs.declared.reads.NextRead.the-variants as N
+use Rattle.common.specs.declared.answer.Answer.the-variants as A
+use Rattle.common.specs.declared.answer.Refusal.{Refusal}
+use Rattle.common.specs.declared.reads.NextRead.the-variants as N
 use Rattle.call_log.specs.CallLine.{answeredLine, scanLine}
 use Rattle.call_log.specs.Lines.{lineBytes}
 use Rattle.call_log.specs.declared.line.Line.{Line}
@@ -23,28 +23,28 @@ use Rattle.root_hub.specs.declared.calls.PortPower.{PortPower}
 use Rattle.root_hub.specs.declared.calls.Scanned.{Scanned}
 use Rattle.root_hub.specs.declared.ports.PortEvent.the-variants as P
 use Rattle.settings.specs.declared.settings.Settings.{Settings}
-use Rattle.world.specs.Worlds.{blankWorld, callWorld, openWorld}
-use Rattle.world.specs.declared.world.Called.{Called}
-use Rattle.world.specs.declared.world.OpenedWorld.{OpenedWorld}
-use Rattle.world.specs.declared.world.World.{World}
+use Rattle.store.specs.Stores.{blankStore, callStore, openStore}
+use Rattle.store.specs.declared.store.Called.{Called}
+use Rattle.store.specs.declared.store.OpenedStore.{OpenedStore}
+use Rattle.store.specs.declared.store.Store.{Store}
 use Rattle.replayer.specs.Replays.{Effect, actOf, callEffect, effectOf, freshKeeper, noEffect, openEffect, powerEffect, scanEffect}
 use Rattle.replayer.specs.declared.keeper.Acted.{Acted}
 use Rattle.replayer.specs.declared.keeper.Keeper.{Keeper}
 
-pub fresh-kept : (w : World) (h : EhciRootHub) → w ≡ blankWorld → h ≡ openedHub 0 → record { world = w; hub = h; opened = false } ≡ freshKeeper
+pub fresh-kept : (w : Store) (h : EhciRootHub) → w ≡ blankStore → h ≡ openedHub 0 → record { store = w; hub = h; opened = false } ≡ freshKeeper
 unfolding freshKeeper
 fresh-kept w h e f = rw (e, f)
 
 module _ (k : Keeper) (n number : ℕ) (line : Line) (w : Writes) where
-  module _ (s : Settings) (o : OpenedWorld) (opened : o ≡ openWorld (k .world) s) (none : w ≡ noWrites) where
+  module _ (s : Settings) (o : OpenedStore) (opened : o ≡ openStore (k .store) s) (none : w ≡ noWrites) where
     pub open-done : o .answer ≡ A.Done → lineBytes line ≡ answeredLine n number (R.Done G.Nothing)
-        → effectOf (record { keeper = record { world = o .world; hub = o .hub; opened = true }; line = line; opening = true; writes = w })
-        ≡ openEffect k n number (openWorld (k .world) s)
+        → effectOf (record { keeper = record { store = o .store; hub = o .hub; opened = true }; line = line; opening = true; writes = w })
+        ≡ openEffect k n number (openStore (k .store) s)
     unfolding openEffect
     open-done a l = rw (← opened, a, l, none)
 
     pub open-refused : (refusal : Refusal) → o .answer ≡ A.Refused refusal → lineBytes line ≡ answeredLine n number (R.Refused refusal)
-        → effectOf (record { keeper = k; line = line; opening = false; writes = w }) ≡ openEffect k n number (openWorld (k .world) s)
+        → effectOf (record { keeper = k; line = line; opening = false; writes = w }) ≡ openEffect k n number (openStore (k .store) s)
     unfolding openEffect
     open-refused refusal a l = rw (← opened, a, l, none)
 
@@ -54,14 +54,14 @@ module _ (k : Keeper) (n number : ℕ) (line : Line) (w : Writes) where
   nothing-done l none = rw (l, none)
 
 module _ (k : Keeper) (n number : ℕ) (line : Line) where
-  pub call-done : (call : Call) (c : Called) → c ≡ callWorld (k .world) call → lineBytes line ≡ answeredLine n number (c .answer)
-      → effectOf (record { keeper = record { world = c .world; hub = k .hub; opened = k .opened }; line = line; opening = false; writes = c .writes })
-      ≡ callEffect k n number (callWorld (k .world) call)
+  pub call-done : (call : Call) (c : Called) → c ≡ callStore (k .store) call → lineBytes line ≡ answeredLine n number (c .answer)
+      → effectOf (record { keeper = record { store = c .store; hub = k .hub; opened = k .opened }; line = line; opening = false; writes = c .writes })
+      ≡ callEffect k n number (callStore (k .store) call)
   unfolding callEffect
   call-done call c e l = rw (← e, l)
 
   pub scan-done : (s : Scanned) → lineBytes line ≡ scanLine n number (s .reply .answer) (s .reply .read) (s .reply .wait) (s .reply .event)
-      → effectOf (record { keeper = record { world = k .world; hub = s .hub; opened = k .opened }; line = line; opening = false; writes = s .reply .writes })
+      → effectOf (record { keeper = record { store = k .store; hub = s .hub; opened = k .opened }; line = line; opening = false; writes = s .reply .writes })
       ≡ scanEffect k n number s
   unfolding scanEffect
   scan-done s l = rw l

@@ -10,7 +10,7 @@ use Rattle.call_log.specs.Lines.{lineBytes}
 use Rattle.call_log.specs.Records.{entryOf}
 use Rattle.call_log.specs.declared.block.Rows.{Rows}
 use Rattle.call_log.specs.declared.record.Entry.{Entry}
-use Rattle.opening.specs.Rows.{putAt}
+use Rattle.common.specs.Rows.{putAt}
 use Rattle.text.specs.Text.{decimal}
 use Rattle.text.proofs.Puts.{put-then}
 use Rattle.text.proofs.TextLaws.{decimal-length}
@@ -34,7 +34,7 @@ bad-put o p q s i r n room e f l g m =
     (three .0, (omega (arith, three .1), omega (arith, m, l, decimal-length n)))
 
 pub shown-put : (k : Keeper) (a : Acted) (b f : Rows) (o p : List ℕ) (r : ℕ) → b ≡ rowsOf k → f ≡ rowsOf (a .keeper)
-    → Said o p r (blockOf (lineBytes (a .line)) (a .opening) b f (a .keeper .opened) (a .keeper .world .state) (a .writes))
+    → Said o p r (blockOf (lineBytes (a .line)) (a .opening) b f (a .keeper .opened) (a .keeper .store .state) (a .writes))
     → Said o p r (shownOf k (effectOf a))
 unfolding shownOf
 shown-put k a b f o p r e g s = rw (← e, ← g) s

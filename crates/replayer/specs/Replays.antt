@@ -1,11 +1,11 @@
 -- A log replayed: what one record does to the controller that is kept, and the block that is shown of it.
 use Prim.Native.Nat.{ℕ}
-use mathlib.Core.Bool.{Bool, true, false}
+use mathlib.Core.Bool.{Bool, true, false, cond}
 use mathlib.Core.List.{List, [], _∷_, _++_}
 use lib.ListN.{getD, length}
-use Rattle.answer.specs.declared.answer.Answer.{Answer}
-use Rattle.answer.specs.declared.answer.Answer.the-variants as A
-use Rattle.bring_up.specs.declared.reads.NextRead.the-variants as N
+use Rattle.common.specs.declared.answer.Answer.{Answer}
+use Rattle.common.specs.declared.answer.Answer.the-variants as A
+use Rattle.common.specs.declared.reads.NextRead.the-variants as N
 use Rattle.call_log.specs.Block.{blockOf}
 use Rattle.call_log.specs.CallLine.{answeredLine, scanLine}
 use Rattle.call_log.specs.Lines.{lineBytes}
@@ -22,25 +22,25 @@ use Rattle.root_hub.specs.Calls.{powerOf, startOf, stepOf}
 use Rattle.root_hub.specs.declared.calls.PortPower.{PortPower}
 use Rattle.root_hub.specs.declared.calls.Scanned.{Scanned}
 use Rattle.root_hub.specs.declared.ports.PortEvent.the-variants as P
-use Rattle.text.specs.Text.{decimal, pick}
-use Rattle.world.specs.Worlds.{blankWorld, callWorld, openWorld}
-use Rattle.world.specs.declared.world.Called.{Called}
-use Rattle.world.specs.declared.world.OpenedWorld.{OpenedWorld}
+use Rattle.text.specs.Text.{decimal}
+use Rattle.store.specs.Stores.{blankStore, callStore, openStore}
+use Rattle.store.specs.declared.store.Called.{Called}
+use Rattle.store.specs.declared.store.OpenedStore.{OpenedStore}
 use Rattle.replayer.specs.declared.keeper.Acted.{Acted}
 use Rattle.replayer.specs.declared.keeper.Keeper.{Keeper}
 use Rattle.replayer.specs.declared.turn.Turned.{Turned}
 
 -- "rows zero at the start", and no controller opened
 unfoldable pub freshKeeper : Keeper
-freshKeeper = record { world = blankWorld; hub = openedHub 0; opened = false }
+freshKeeper = record { store = blankStore; hub = openedHub 0; opened = false }
 
 unfoldable pub rowsOf : Keeper → Rows
 rowsOf k =
     record {
-      pool = k .world .pool;
-      heads = k .world .heads;
-      frames = k .world .frames;
-      setups = k .world .setups;
+      pool = k .store .pool;
+      heads = k .store .heads;
+      frames = k .store .frames;
+      setups = k .store .setups;
       ports = k .hub .states;
     }
 
@@ -55,10 +55,10 @@ abbrev pub effectOf : Acted → Effect
 effectOf a = record { keeper = a .keeper; first = lineBytes (a .line); opening = a .opening; writes = a .writes }
 
 -- "a refused opening leaves the earlier controller as it was; an accepted one replaces it"
-abbrev pub openedAs : Answer → Keeper → ℕ → ℕ → OpenedWorld → Effect
+abbrev pub openedAs : Answer → Keeper → ℕ → ℕ → OpenedStore → Effect
 openedAs A.Done k n number o =
     record {
-      keeper = record { world = o .world; hub = o .hub; opened = true };
+      keeper = record { store = o .store; hub = o .hub; opened = true };
       first = answeredLine n number (R.Done G.Nothing);
       opening = true;
       writes = noWrites;
@@ -66,14 +66,14 @@ openedAs A.Done k n number o =
 openedAs (A.Refused refusal) k n number o =
     record { keeper = k; first = answeredLine n number (R.Refused refusal); opening = false; writes = noWrites }
 
-unfoldable pub openEffect : Keeper → ℕ → ℕ → OpenedWorld → Effect
+unfoldable pub openEffect : Keeper → ℕ → ℕ → OpenedStore → Effect
 openEffect k n number o = openedAs (o .answer) k n number o
 
 -- a call on the controller
 unfoldable pub callEffect : Keeper → ℕ → ℕ → Called → Effect
 callEffect k n number c =
     record {
-      keeper = record { world = c .world; hub = k .hub; opened = k .opened };
+      keeper = record { store = c .store; hub = k .hub; opened = k .opened };
       first = answeredLine n number (c .answer);
       opening = false;
       writes = c .writes;
@@ -83,7 +83,7 @@ callEffect k n number c =
 unfoldable pub scanEffect : Keeper → ℕ → ℕ → Scanned → Effect
 scanEffect k n number s =
     record {
-      keeper = record { world = k .world; hub = s .hub; opened = k .opened };
+      keeper = record { store = k .store; hub = s .hub; opened = k .opened };
       first = scanLine n number (s .reply .answer) (s .reply .read) (s .reply .wait) (s .reply .event);
       opening = false;
       writes = s .reply .writes;
@@ -100,8 +100,8 @@ noEffect k n number = record { keeper = k; first = answeredLine n number R.Pendi
 
 -- the record's number, the call's number, the call
 abbrev pub actOf : Keeper → ℕ → ℕ → Entry → Effect
-actOf k n number (E.Open settings) = openEffect k n number (openWorld (k .world) settings)
-actOf k n number (E.Call call) = callEffect k n number (callWorld (k .world) call)
+actOf k n number (E.Open settings) = openEffect k n number (openStore (k .store) settings)
+actOf k n number (E.Call call) = callEffect k n number (callStore (k .store) call)
 actOf k n number E.StartScan = scanEffect k n number (startOf (k .hub))
 actOf k n number (E.ScanStep reading) = scanEffect k n number (stepOf (k .hub) reading)
 actOf k n number (E.PortPower port reading) = powerEffect k n number (powerOf (k .hub) port reading)
@@ -110,7 +110,7 @@ actOf k n number E.Bad = noEffect k n number
 -- the block: the rows are held against those before the call
 unfoldable pub shownOf : Keeper → Effect → List ℕ
 shownOf k e =
-    blockOf (e .first) (e .opening) (rowsOf k) (rowsOf (e .keeper)) (e .keeper .opened) (e .keeper .world .state) (e .writes)
+    blockOf (e .first) (e .opening) (rowsOf k) (rowsOf (e .keeper)) (e .keeper .opened) (e .keeper .store .state) (e .writes)
 
 abbrev pub isBad : Entry → Bool
 isBad (E.Open settings) = false
@@ -130,10 +130,10 @@ recordEffect k n bytes = actOf k n (getD bytes 0 0) (entryOf bytes)
 
 -- what is said of it: its block, or that it is bad
 unfoldable pub saidOf : Keeper → ℕ → List ℕ → List ℕ
-saidOf k n bytes = pick (isBad (entryOf bytes)) (badLine n) (shownOf k (recordEffect k n bytes))
+saidOf k n bytes = cond (isBad (entryOf bytes)) (badLine n) (shownOf k (recordEffect k n bytes))
 
 -- "and nothing after it"
 unfoldable pub turnedOf : Keeper → ℕ → List ℕ → Turned
 turnedOf k n bytes =
-    pick (isBad (entryOf bytes)) (record { keeper = k; end = length (saidOf k n bytes); more = false })
+    cond (isBad (entryOf bytes)) (record { keeper = k; end = length (saidOf k n bytes); more = false })
     (record { keeper = recordEffect k n bytes .keeper; end = length (saidOf k n bytes); more = true })

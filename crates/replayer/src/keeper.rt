@@ -12,14 +12,14 @@ ghost use Rattle.replayer.specs.Replays.{
   scanEffect,
 };
 ghost use Rattle.root_hub.specs.Calls.{powerOf};
-ghost use Rattle.world.specs.Worlds.{callWorld, openWorld};
-use answer::answer::Answer;
-use bring_up::reads::NextRead;
+ghost use Rattle.store.specs.Stores.{callStore, openStore};
 use call_log::block::Rows;
 use call_log::call_line::call_line;
 use call_log::call_line::scan_line;
 use call_log::line::Line;
 use call_log::record::Entry;
+use common::answer::Answer;
+use common::reads::NextRead;
 use ehci::call::Call;
 use ehci::reply::Answered;
 use ehci::reply::Given;
@@ -28,14 +28,14 @@ use register::writes::Writes;
 use root_hub::calls::Scanned;
 use root_hub::ports::PortEvent;
 use settings::settings::Settings;
-use world::world::World;
-use world::world::blank_world;
-use world::world::call_on;
-use world::world::open_in;
+use store::store::Store;
+use store::store::blank_store;
+use store::store::call_on;
+use store::store::open_in;
 
 // Before a first accepted opening every call answers 1.
 pub struct Keeper {
-    pub world: World,
+    pub store: Store,
     pub hub: EhciRootHub,
     pub opened: bool,
 }
@@ -52,7 +52,7 @@ pub fn fresh_keeper() -> Keeper
     ensures { λ r. ⌜ r ≡ freshKeeper ⌝ }
 {
     Keeper {
-        world: blank_world(),
+        store: blank_store(),
         hub: EhciRootHub::new(0),
         opened: false,
     }
@@ -61,12 +61,12 @@ pub fn fresh_keeper() -> Keeper
 pub fn rows_of(k: Keeper) -> Rows
     ensures { λ r. ⌜ r ≡ rowsOf k ⌝ }
 {
-    let world = k.world;
+    let store = k.store;
     let hub = k.hub;
-    let pool = world.pool;
-    let heads = world.heads;
-    let frames = world.frames;
-    let setups = world.setups;
+    let pool = store.pool;
+    let heads = store.heads;
+    let frames = store.frames;
+    let setups = store.setups;
     let ports = hub.states;
     Rows {
         pool,
@@ -79,17 +79,17 @@ pub fn rows_of(k: Keeper) -> Rows
 
 // A refused opening leaves the earlier controller as it was.
 fn act_open(k: Keeper, n: u64, number: u8, settings: Settings) -> Acted
-    ensures { λ r. ⌜ effectOf r ≡ openEffect k n number (openWorld (k .world) settings) ⌝ }
+    ensures { λ r. ⌜ effectOf r ≡ openEffect k n number (openStore (k .store) settings) ⌝ }
 {
-    let before = k.world;
+    let before = k.store;
     let opened = open_in(before, settings);
     let answer = opened.answer;
-    let world = opened.world;
+    let store = opened.store;
     let hub = opened.hub;
     match answer {
         Answer::Done => Acted {
             keeper: Keeper {
-                world,
+                store,
                 hub,
                 opened: true,
             },
@@ -107,18 +107,18 @@ fn act_open(k: Keeper, n: u64, number: u8, settings: Settings) -> Acted
 }
 
 fn act_call(k: Keeper, n: u64, number: u8, call: Call) -> Acted
-    ensures { λ r. ⌜ effectOf r ≡ callEffect k n number (callWorld (k .world) call) ⌝ }
+    ensures { λ r. ⌜ effectOf r ≡ callEffect k n number (callStore (k .store) call) ⌝ }
 {
-    let before = k.world;
+    let before = k.store;
     let hub = k.hub;
     let called = call_on(before, call);
-    let world = called.world;
+    let store = called.store;
     let answer = called.answer;
     let writes = called.writes;
     let line = call_line(n, number, answer);
     Acted {
         keeper: Keeper {
-            world,
+            store,
             hub,
             opened: k.opened,
         },
@@ -131,7 +131,7 @@ fn act_call(k: Keeper, n: u64, number: u8, call: Call) -> Acted
 fn act_scan(k: Keeper, n: u64, number: u8, scanned: Scanned) -> Acted
     ensures { λ r. ⌜ effectOf r ≡ scanEffect k n number scanned ⌝ }
 {
-    let world = k.world;
+    let store = k.store;
     let hub = scanned.hub;
     let reply = scanned.reply;
     let answer = reply.answer;
@@ -141,7 +141,7 @@ fn act_scan(k: Keeper, n: u64, number: u8, scanned: Scanned) -> Acted
     let line = scan_line(n, number, answer, read, reply.wait, event);
     Acted {
         keeper: Keeper {
-            world,
+            store,
             hub,
             opened: k.opened,
         },

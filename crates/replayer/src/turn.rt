@@ -2,7 +2,7 @@
 ghost use mathlib.Core.Path.{_≡_};
 ghost use Prim.Native.Nat.{_≤_};
 ghost use lib.ListN.{getD, length};
-ghost use Rattle.opening.specs.Rows.{putAt};
+ghost use Rattle.common.specs.Rows.{putAt};
 ghost use Rattle.replayer.specs.Replays.{
   badLine,
   effectOf,
@@ -18,7 +18,7 @@ use crate::keeper::rows_of;
 use call_log::block::put_block;
 use call_log::record::Entry;
 use call_log::record::read_record;
-use opening::rows::put_bytes;
+use common::rows::put_bytes;
 use text::digits::put;
 use text::digits::put_decimal;
 
@@ -64,8 +64,8 @@ fn put_shown(out: &mut [u8], k: Keeper, acted: Acted) -> usize
     let keeper = acted.keeper;
     let before = rows_of(k);
     let after = rows_of(keeper);
-    let world = keeper.world;
-    let state = world.state;
+    let store = keeper.store;
+    let state = store.state;
     put_block(
         out,
         line,

@@ -1,22 +1,20 @@
 -- The returns of the functions that judge a request.
 use Prim.Native.Nat.{ℕ, _+_, _-_, _/_, _%_, _^_, _≤_, _<_}
 use mathlib.Core.Path.{_≡_, refl, sym, ap, _∙_}
-use mathlib.Core.Bool.{Bool, true, false, not}
+use mathlib.Core.Bool.{Bool, true, false, not, _&&_}
 use native.Mathlib.Omega.{arith}
 use borrow.Author.Tests.{eq-eqb, le-leb, lt-leb, lt-ltb, le-ltb, ne-eqb, not-false, not-true}
 use lib.Dec.{eqb, leb, ltb}
-use Rattle.token.specs.declared.request.EndpointType.{EndpointType}
-use Rattle.settings.specs.Tests.{both}
-use Rattle.settings.proofs.Every.{both-true, every-3}
-use Rattle.settings.proofs.SettingsCases.{same-test}
+use Rattle.common.specs.declared.kinds.EndpointType.{EndpointType}
+use Rattle.common.proofs.TestLaws.{both-true, every-3, same-test}
 use Rattle.state.specs.Slots.{slotAt}
 use Rattle.state.specs.declared.state.Ehci.{Ehci}
 use Rattle.pipe.specs.Endpoints.{directionNumber, endpointAt, kindNumber}
-use Rattle.pipe.specs.Kinds.{isControl, isIsochronous}
+use Rattle.common.specs.Kinds.{isControl, isIsochronous}
 use Rattle.controller.specs.Readers.{freeCount, isOpen, isUncollected}
-use Rattle.answer.specs.declared.answer.Answer.{Answer}
-use Rattle.answer.specs.declared.answer.Answer.the-variants.{Done, Refused}
-use Rattle.answer.specs.declared.answer.Refusal.the-variants.{InvalidParameter, InvalidEndpoint, QueueFull, NotSupported, NoMemory, NotReady}
+use Rattle.common.specs.declared.answer.Answer.{Answer}
+use Rattle.common.specs.declared.answer.Answer.the-variants.{Done, Refused}
+use Rattle.common.specs.declared.answer.Refusal.the-variants.{InvalidParameter, InvalidEndpoint, QueueFull, NotSupported, NoMemory, NotReady}
 use Rattle.request.specs.Submit.{bufferGood, controlGood, judgeOf, needOfRequest, rangesGood}
 use Rattle.request.specs.declared.judge.TransferRequest.{TransferRequest}
 
@@ -33,12 +31,12 @@ unfolding bufferGood
 buffer-is a n z h = rw (ne-eqb n 0 z) (same-test a (4294967296 - n) (a + n) (2 ^ 32) (λ p. omega arith) (λ p. omega arith))
 
 pub control-is : (t : TransferRequest) (b : ℕ) → b ≡ directionNumber (t .direction)
-    → both (both (leb (t .length) 16384) (eqb (t .setup / 128 % 2) b)) (ltb (t .setup) 281474976710656) ≡ controlGood t
+    → (leb (t .length) 16384 && eqb (t .setup / 128 % 2) b && ltb (t .setup) 281474976710656) ≡ controlGood t
 unfolding controlGood
 control-is t b e = every-3 (leb (t .length) 16384) (eqb (t .setup / 128 % 2) b) (ltb (t .setup) 281474976710656) ∙ rw e
 
 module _ (t : TransferRequest) (b k : Bool) (eb : b ≡ bufferGood (t .address) (t .length)) (ek : k ≡ isControl (t .kind)) where
-  pub ranges-control : (c : Bool) → k ≡ true → c ≡ controlGood t → both b c ≡ rangesGood t
+  pub ranges-control : (c : Bool) → k ≡ true → c ≡ controlGood t → (b && c) ≡ rangesGood t
   unfolding rangesGood
   ranges-control c h ec = rw (eb, ec, sym ek ∙ h)
 

@@ -10,23 +10,22 @@ use borrow.Author.Tests.{eqb-true, eqb-false, leb-true, ltb-false, not-false, eq
 use lib.Dec.{eqb, leb, ltb}
 use lib.ListN.{drop, getD, length, length-take, take}
 use Rattle.token.specs.Chunks.{chunkCount, needOf}
-use Rattle.token.specs.declared.request.EndpointType.{EndpointType}
-use Rattle.token.specs.declared.request.EndpointType.the-variants.{Control, Isochronous, Bulk, Interrupt}
+use Rattle.common.specs.declared.kinds.EndpointType.{EndpointType}
+use Rattle.common.specs.declared.kinds.EndpointType.the-variants.{Control, Isochronous, Bulk, Interrupt}
 use Rattle.token.proofs.ChunkLaws.{covers}
 use Rattle.pool.specs.Places.{Within, packed, placesFrom}
 use Rattle.pool.proofs.PlaceLaws.{places-within}
-use Rattle.settings.specs.Tests.{both, either}
-use Rattle.settings.proofs.SettingsLaws.{both-tells}
+use Rattle.common.proofs.TestLaws.{both-tells}
 use Rattle.state.specs.Slots.{slotAt}
 use Rattle.state.specs.declared.state.Ehci.{Ehci}
 use Rattle.state.proofs.RangesLaws.{Ranges}
-use Rattle.answer.specs.Answers.{Verdict, first, passed, refused}
+use Rattle.common.specs.Answers.{Verdict, first, passed, refused}
 use Rattle.pipe.specs.Endpoints.{flagNumber, kindNumber}
-use Rattle.pipe.specs.Kinds.{isIsochronous}
+use Rattle.common.specs.Kinds.{isIsochronous}
 use Rattle.controller.specs.Readers.{countZero, freeCount, isOpen, isUncollected}
-use Rattle.answer.specs.declared.answer.Answer.the-variants.{Done}
+use Rattle.common.specs.declared.answer.Answer.the-variants.{Done}
 use Rattle.controller.specs.declared.lent.Lengths.{Lengths}
-use Rattle.answer.proofs.CheckLaws.{answers-apart, let-pass}
+use Rattle.common.proofs.CheckLaws.{answers-apart, let-pass}
 use Rattle.controller.proofs.LentLaws.{Accepted}
 use Rattle.controller.proofs.ReaderLaws.{open-below, open-within}
 use Rattle.request.specs.Submit.{Settles, answerOf, bufferGood, controlGood, firstIn, judgeOf, needOfRequest, placesFor, rangesGood, submitChecks, takenFor, takenOf}

@@ -8,7 +8,7 @@ use lib.ListN.{drop, getD, length, take}
 use Rattle.register.specs.Bits.{withBits}
 use Rattle.register.specs.Writes.{noWrites, andThen}
 use Rattle.register.specs.declared.writes.Writes.{Writes}
-use Rattle.token.specs.declared.request.EndpointType.{EndpointType}
+use Rattle.common.specs.declared.kinds.EndpointType.{EndpointType}
 use Rattle.descriptor.specs.Heads.{qhLink}
 use Rattle.descriptor.specs.Setups.{setupPacket}
 use Rattle.pool.specs.Places.{markOf, packed, placesFrom}
@@ -20,15 +20,15 @@ use Rattle.state.specs.Slots.{slotAt}
 use Rattle.state.specs.State.{withOwner}
 use Rattle.state.specs.declared.state.Ehci.{Ehci}
 use Rattle.pipe.specs.Endpoints.{withEndpoint}
-use Rattle.pipe.specs.Kinds.{isControl, isInterrupt}
-use Rattle.opening.specs.Rows.{putAt}
-use Rattle.pipe.specs.declared.endpoint.Endpoint.the-variants.{Linked}
+use Rattle.common.specs.Kinds.{isControl, isInterrupt}
+use Rattle.common.specs.Rows.{putAt}
+use Rattle.pipe.specs.declared.endpoints.Endpoint.the-variants.{Linked}
 use Rattle.controller.specs.declared.lent.Readings.{Readings}
 use Rattle.schedule.specs.Bell.{commandWord}
 use Rattle.schedule.specs.Links.{Links, attachedFrames, attachedRing, headAddress, links, slotLink, startedOverlay}
 use Rattle.request.specs.Submit.{acceptedWith, afterId, chainFor, firstIn, idAt, linkedRows, needOfRequest, settledSubmit, setupsWith, stateWith, submitted, takenFor, takenOf, transferOf, writesWith}
-use Rattle.request.specs.declared.calls.Submission.the-variants.{Accepted}
-use Rattle.request.specs.declared.calls.Submitted.{Submitted}
+use Rattle.request.specs.declared.answers.Submission.the-variants.{Accepted}
+use Rattle.request.specs.declared.answers.Submitted.{Submitted}
 use Rattle.request.specs.declared.judge.TransferRequest.{TransferRequest}
 use Rattle.request.specs.declared.settle.Taken.{Taken}
 

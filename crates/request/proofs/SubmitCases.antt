@@ -6,18 +6,18 @@ use mathlib.Core.List.{List}
 use native.Mathlib.Omega.{arith}
 use borrow.Author.Tests.{not-false, not-true}
 use Rattle.state.specs.declared.state.Ehci.{Ehci}
-use Rattle.answer.specs.Answers.{Verdict, passed, refused, first, settle}
+use Rattle.common.specs.Answers.{Verdict, passed, refused, first, settle}
 use Rattle.controller.specs.Lent.{acceptsOf, lengths}
-use Rattle.answer.specs.declared.answer.Answer.{Answer}
-use Rattle.answer.specs.declared.answer.Answer.the-variants.{Done, Refused}
-use Rattle.answer.specs.declared.answer.Refusal.{Refusal}
-use Rattle.answer.specs.declared.answer.Refusal.the-variants.{InvalidParameter}
+use Rattle.common.specs.declared.answer.Answer.{Answer}
+use Rattle.common.specs.declared.answer.Answer.the-variants.{Done, Refused}
+use Rattle.common.specs.declared.answer.Refusal.{Refusal}
+use Rattle.common.specs.declared.answer.Refusal.the-variants.{InvalidParameter}
 use Rattle.controller.specs.declared.lent.Lengths.{Lengths}
 use Rattle.controller.specs.declared.lent.Readings.{Readings}
-use Rattle.answer.proofs.CheckLaws.{answers-apart}
+use Rattle.common.proofs.CheckLaws.{answers-apart}
 use Rattle.controller.proofs.LentLaws.{accepts-tells}
 use Rattle.request.specs.Submit.{Outcome, Settles, answerOf, judgeOf, refusedSubmit, settledSubmit, submitChecks, submitOf, submitted}
-use Rattle.request.specs.declared.calls.Submitted.{Submitted}
+use Rattle.request.specs.declared.answers.Submitted.{Submitted}
 use Rattle.request.specs.declared.judge.TransferRequest.{TransferRequest}
 use Rattle.request.proofs.JudgeLaws.{settles}
 use lib.ListN.{length}

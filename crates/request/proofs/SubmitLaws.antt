@@ -2,14 +2,14 @@
 use Prim.Native.Nat.{ℕ, zero, suc, _+_, _-_, _*_, _%_, _^_, _≤_, _<_}
 use mathlib.Core.Path.{_≡_, refl, sym, ap, subst, _∙_}
 use mathlib.Core.Logic.{_≢_}
-use mathlib.Core.Bool.{Bool, true, false}
+use mathlib.Core.Bool.{Bool, true, false, cond}
 use mathlib.Core.List.{List, [], _∷_, _++_, map}
 use native.Mathlib.Omega.{arith}
 use borrow.Author.Tests.{eqb-true, leb-true, ltb-true, ltb-false}
 use lib.Dec.{eqb, ltb}
 use lib.ListN.{drop, getD, length, length-take, set, take}
 use lib.Seq.{getD-append-add, getD-drop, getD-set-other, getD-take, length-take-le, take-at}
-use Rattle.token.specs.declared.request.EndpointType.{EndpointType}
+use Rattle.common.specs.declared.kinds.EndpointType.{EndpointType}
 use Rattle.descriptor.specs.Descriptors.{nextWord}
 use Rattle.descriptor.specs.declared.qtd.QueueTransferDescriptor.{QueueTransferDescriptor}
 use Rattle.pool.specs.Chains.{blank, chainGood, fillOf, nextAt}
@@ -22,24 +22,24 @@ use Rattle.pool.proofs.Each.{each-at, each-map}
 use Rattle.pool.proofs.GoodLaws.{places-good, request-good}
 use Rattle.pool.proofs.PlaceLaws.{list-packed, mark-either, mark-length, mark-others, places-ascend, places-hold, places-within}
 use Rattle.slot.proofs.SlotLaws.{slot-tells}
-use Rattle.settings.proofs.SettingsLaws.{both-tells}
+use Rattle.common.proofs.TestLaws.{both-tells}
 use Rattle.state.specs.Slots.{slotAt}
 use Rattle.state.specs.State.{withOwner}
 use Rattle.state.specs.declared.state.Ehci.{Ehci}
 use Rattle.state.proofs.RangesLaws.{Ranges}
-use Rattle.answer.specs.declared.answer.Answer.the-variants.{Refused}
-use Rattle.answer.specs.declared.answer.Refusal.the-variants.{NoMemory}
+use Rattle.common.specs.declared.answer.Answer.the-variants.{Refused}
+use Rattle.common.specs.declared.answer.Refusal.the-variants.{NoMemory}
 use Rattle.pipe.specs.Endpoints.{endpointAt, kindNumber}
-use Rattle.pipe.specs.Kinds.{isInterrupt, isIsochronous}
+use Rattle.common.specs.Kinds.{isInterrupt, isIsochronous}
 use Rattle.pipe.proofs.EndpointLaws.{Wide, endpoint-keeps, endpoint-other, owner-aside, owner-keeps, owner-wide}
-use Rattle.pipe.proofs.KindLaws.{not-isochronous}
+use Rattle.common.proofs.KindLaws.{not-isochronous}
 use Rattle.schedule.proofs.OverlayLaws.{started-word}
 use Rattle.schedule.specs.Links.{attachedFrames, attachedRing, startedOverlay}
 use Rattle.controller.specs.Readers.{freeCount, isOpen, isUncollected}
-use Rattle.answer.proofs.CheckLaws.{answers-apart}
+use Rattle.common.proofs.CheckLaws.{answers-apart}
 use Rattle.controller.proofs.FreeLaws.{free-places}
 use Rattle.controller.proofs.ReaderLaws.{open-below, open-within}
-use Rattle.request.specs.Submit.{afterId, attachedBy, bufferGood, chainFor, firstIn, idAt, judgeOf, linkedRows, linkedWith, needOfRequest, pickNumber, placesFor, rangesGood, stateWith, takenFor, takenOf, transferOf}
+use Rattle.request.specs.Submit.{afterId, attachedBy, bufferGood, chainFor, firstIn, idAt, judgeOf, linkedRows, linkedWith, needOfRequest, placesFor, rangesGood, stateWith, takenFor, takenOf, transferOf}
 use Rattle.request.specs.declared.judge.TransferRequest.{TransferRequest}
 use Rattle.request.proofs.JudgeCases.{judge-done, judge-room}
 use Rattle.request.proofs.JudgeLaws.{Judged}
@@ -178,7 +178,7 @@ id-least : (id : ℕ) → 1 ≤ afterId id
 unfolding afterId
 id-least id = by (eqb id (2 ^ 64 - 1))
   where
-    by : (b : Bool) → 1 ≤ pickNumber b 1 (id + 1)
+    by : (b : Bool) → 1 ≤ cond b 1 (id + 1)
     by true = omega arith
     by false = omega arith
 

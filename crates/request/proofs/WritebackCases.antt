@@ -6,17 +6,16 @@ use native.Mathlib.Omega.{arith}
 use borrow.Author.Tests.{le-leb, le-ltb, lt-ltb, lt-leb, ltb-true, not-false, not-true}
 use lib.Dec.{leb, ltb}
 use Rattle.pool.specs.declared.chain.Chain.{Chain}
-use Rattle.settings.specs.Tests.{both}
-use Rattle.settings.proofs.SettingsLaws.{both-tells}
+use Rattle.common.proofs.TestLaws.{both-tells}
 use Rattle.state.specs.declared.state.Ehci.{Ehci}
 use Rattle.controller.specs.Lent.{acceptsOf}
 use Rattle.controller.specs.Readers.{isUncollected}
-use Rattle.answer.specs.declared.answer.Answer.the-variants.{Done}
-use Rattle.answer.specs.declared.answer.Refusal.the-variants.{InvalidParameter}
+use Rattle.common.specs.declared.answer.Answer.the-variants.{Done}
+use Rattle.common.specs.declared.answer.Refusal.the-variants.{InvalidParameter}
 use Rattle.controller.specs.declared.lent.Lengths.{Lengths}
 use Rattle.controller.proofs.LentLaws.{accepts-tells}
 use Rattle.request.specs.Writeback.{inRequest, ownerAt, refusedWriteback, tokenChain, writebackOf}
-use Rattle.request.specs.declared.calls.WrittenBack.{WrittenBack}
+use Rattle.request.specs.declared.answers.WrittenBack.{WrittenBack}
 
 module _ (s : Ehci) (place : ℕ) where
   pub place-beyond : s .settings .descriptors ≤ place → false ≡ inRequest s place

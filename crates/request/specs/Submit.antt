@@ -1,6 +1,6 @@
 -- Document 01: submit. Its checks in their order, then what it takes, links and writes.
 use Prim.Native.Nat.{ℕ, _+_, _-_, _*_, _/_, _%_, _^_, _≤_, _<_}
-use mathlib.Core.Bool.{Bool, true, false, not}
+use mathlib.Core.Bool.{Bool, true, false, not, _&&_, _||_, cond}
 use mathlib.Core.List.{List, [], _∷_, _++_}
 use lib.Dec.{eqb, leb, ltb}
 use lib.ListN.{drop, getD, length, take}
@@ -8,7 +8,7 @@ use Rattle.register.specs.Bits.{withBits}
 use Rattle.register.specs.Writes.{noWrites, andThen}
 use Rattle.register.specs.declared.writes.Writes.{Writes}
 use Rattle.token.specs.Chunks.{needOf}
-use Rattle.token.specs.declared.request.EndpointType.{EndpointType}
+use Rattle.common.specs.declared.kinds.EndpointType.{EndpointType}
 use Rattle.descriptor.specs.Setups.{setupPacket}
 use Rattle.pool.specs.Chains.{noChain}
 use Rattle.pool.specs.Places.{listIf, markOf, packed, placesFrom}
@@ -17,28 +17,28 @@ use Rattle.pool.specs.declared.chain.Chain.{Chain}
 use Rattle.pool.specs.declared.chain.Deed.the-variants.{Transfer as TransferDeed}
 use Rattle.pool.specs.declared.transfer.Transfer.{Transfer}
 use Rattle.settings.specs.Settings.{memoryEnd}
-use Rattle.settings.specs.Tests.{both, either, every}
+use Rattle.common.specs.Tests.{every}
 use Rattle.state.specs.Slots.{slotAt}
 use Rattle.state.specs.State.{withOwner}
 use Rattle.state.specs.declared.state.Ehci.{Ehci}
-use Rattle.answer.specs.Answers.{Check, Verdict, passed, refused, first, refusalNumber, settle}
+use Rattle.common.specs.Answers.{Check, Verdict, passed, refused, first, refusalNumber, settle}
 use Rattle.pipe.specs.Endpoints.{directionNumber, kindNumber, withEndpoint}
-use Rattle.pipe.specs.Kinds.{isControl, isInterrupt, isIsochronous}
+use Rattle.common.specs.Kinds.{isControl, isInterrupt, isIsochronous}
 use Rattle.controller.specs.Lent.{acceptsOf, lengths}
 use Rattle.controller.specs.Readers.{freeCount, isOpen, isUncollected}
-use Rattle.opening.specs.Rows.{putAt}
-use Rattle.answer.specs.declared.answer.Answer.{Answer}
-use Rattle.answer.specs.declared.answer.Answer.the-variants.{Done, Refused as RefusedCall}
-use Rattle.answer.specs.declared.answer.Refusal.{Refusal}
-use Rattle.answer.specs.declared.answer.Refusal.the-variants.{InvalidParameter, InvalidEndpoint, QueueFull, NotSupported, NoMemory, NotReady}
-use Rattle.pipe.specs.declared.endpoint.Endpoint.{Endpoint}
-use Rattle.pipe.specs.declared.endpoint.Endpoint.the-variants.{Linked}
+use Rattle.common.specs.Rows.{putAt}
+use Rattle.common.specs.declared.answer.Answer.{Answer}
+use Rattle.common.specs.declared.answer.Answer.the-variants.{Done, Refused as RefusedCall}
+use Rattle.common.specs.declared.answer.Refusal.{Refusal}
+use Rattle.common.specs.declared.answer.Refusal.the-variants.{InvalidParameter, InvalidEndpoint, QueueFull, NotSupported, NoMemory, NotReady}
+use Rattle.pipe.specs.declared.endpoints.Endpoint.{Endpoint}
+use Rattle.pipe.specs.declared.endpoints.Endpoint.the-variants.{Linked}
 use Rattle.controller.specs.declared.lent.Readings.{Readings}
 use Rattle.schedule.specs.Bell.{commandWord}
 use Rattle.schedule.specs.Links.{Links, attachedFrames, attachedRing, headAddress, links, slotLink, startedOverlay}
-use Rattle.request.specs.declared.calls.Submission.{Submission}
-use Rattle.request.specs.declared.calls.Submission.the-variants.{Accepted, Refused}
-use Rattle.request.specs.declared.calls.Submitted.{Submitted}
+use Rattle.request.specs.declared.answers.Submission.{Submission}
+use Rattle.request.specs.declared.answers.Submission.the-variants.{Accepted, Refused}
+use Rattle.request.specs.declared.answers.Submitted.{Submitted}
 use Rattle.request.specs.declared.judge.TransferRequest.{TransferRequest}
 use Rattle.request.specs.declared.settle.Taken.{Taken}
 
@@ -50,7 +50,7 @@ submissionNumber (Refused r) = refusalNumber r
 
 -- "address + length at most 2^32 (any address at length 0)"
 unfoldable pub bufferGood : ℕ → ℕ → Bool
-bufferGood address length = either (eqb length 0) (leb (address + length) memoryEnd)
+bufferGood address length = eqb length 0 || leb (address + length) memoryEnd
 
 -- "control length at most 16384; setup direction bit equals the direction"; bytes 0 to 5 are six bytes
 unfoldable pub controlGood : TransferRequest → Bool
@@ -67,7 +67,7 @@ onlyWhere true b = b
 onlyWhere false b = true
 
 unfoldable pub rangesGood : TransferRequest → Bool
-rangesGood t = both (bufferGood (t .address) (t .length)) (onlyWhere (isControl (t .kind)) (controlGood t))
+rangesGood t = bufferGood (t .address) (t .length) && onlyWhere (isControl (t .kind)) (controlGood t)
 
 abbrev pub needOfRequest : Ehci → TransferRequest → ℕ
 needOfRequest s t = needOf (t .kind) (t .length) (s .settings .limit)
@@ -130,13 +130,9 @@ chainFor s slot t taken =
       deed = TransferDeed (transferOf s slot t);
     }
 
-abbrev pub pickNumber : Bool → ℕ → ℕ → ℕ
-pickNumber true a b = a
-pickNumber false a b = b
-
 -- "after 2^64 − 1 comes 1"
 unfoldable pub afterId : ℕ → ℕ
-afterId id = pickNumber (eqb id (2 ^ 64 - 1)) 1 (id + 1)
+afterId id = cond (eqb id (2 ^ 64 - 1)) 1 (id + 1)
 
 abbrev pub idAt : Ehci → ℕ → ℕ
 idAt s slot = slotAt s slot .id

@@ -1,6 +1,6 @@
 -- Document 01: "Writeback (place, token): 1 unless an uncollected request has that descriptor; only its token changes."
 use Prim.Native.Nat.{ℕ, _-_}
-use mathlib.Core.Bool.{Bool, not}
+use mathlib.Core.Bool.{Bool, not, _&&_}
 use mathlib.Core.List.{List, [], _∷_}
 use lib.Dec.{eqb, leb, ltb}
 use lib.ListN.{getD}
@@ -8,16 +8,15 @@ use Rattle.pool.specs.Chains.{noChain}
 use Rattle.pool.specs.Places.{packed}
 use Rattle.pool.specs.declared.chain.Chain.{Chain}
 use Rattle.pool.specs.declared.chain.Deed.the-variants.{Token}
-use Rattle.settings.specs.Tests.{both}
 use Rattle.state.specs.declared.state.Ehci.{Ehci}
-use Rattle.answer.specs.Answers.{Check, first, settle}
+use Rattle.common.specs.Answers.{Check, first, settle}
 use Rattle.controller.specs.Lent.{acceptsOf}
 use Rattle.controller.specs.Readers.{isUncollected}
-use Rattle.answer.specs.declared.answer.Answer.the-variants.{Done, Refused}
-use Rattle.answer.specs.declared.answer.Refusal.{Refusal}
-use Rattle.answer.specs.declared.answer.Refusal.the-variants.{InvalidParameter}
+use Rattle.common.specs.declared.answer.Answer.the-variants.{Done, Refused}
+use Rattle.common.specs.declared.answer.Refusal.{Refusal}
+use Rattle.common.specs.declared.answer.Refusal.the-variants.{InvalidParameter}
 use Rattle.controller.specs.declared.lent.Lengths.{Lengths}
-use Rattle.request.specs.declared.calls.WrittenBack.{WrittenBack}
+use Rattle.request.specs.declared.answers.WrittenBack.{WrittenBack}
 
 abbrev pub ownerAt : Ehci → ℕ → ℕ
 ownerAt s place = getD (s .owner) place 0
@@ -25,9 +24,7 @@ ownerAt s place = getD (s .owner) place 0
 -- one of the D places, owned by a slot whose request is uncollected
 unfoldable pub inRequest : Ehci → ℕ → Bool
 inRequest s place =
-    both
-    (ltb place (s .settings .descriptors))
-    (both (leb 1 (ownerAt s place)) (isUncollected s (ownerAt s place - 1)))
+    ltb place (s .settings .descriptors) && (leb 1 (ownerAt s place) && isUncollected s (ownerAt s place - 1))
 
 abbrev pub tokenChain : Ehci → ℕ → ℕ → Chain
 tokenChain s place token = record { places = packed (place ∷ []); base = s .settings .pool; deed = Token token }

@@ -2,41 +2,22 @@
 ghost use mathlib.Core.Path.{_≡_};
 ghost use Rattle.request.specs.Submit.{refusedSubmit, submitted, submitOf};
 ghost use Rattle.request.specs.Writeback.{refusedWriteback, writebackOf};
+use crate::answers::Submission;
+use crate::answers::Submitted;
+use crate::answers::WrittenBack;
 use crate::judge::TransferRequest;
 use crate::judge::judge;
 use crate::settle::settle;
 use crate::writeback::in_request;
 use crate::writeback::token_chain;
-use answer::answer::Answer;
-use answer::answer::Refusal;
+use common::answer::Answer;
+use common::answer::Refusal;
 use controller::lent::Lengths;
 use controller::lent::Readings;
 use controller::lent::accepts;
-use pool::chain::Chain;
 use pool::chain::no_chain;
 use register::writes::Writes;
 use state::state::Ehci;
-
-// Run, periodic schedule, asynchronous schedule.
-pub const USBCMD_SCHEDULES: u32 = 0x31;
-
-pub enum Submission {
-    Accepted(u64),
-    Refused(Refusal),
-}
-
-pub struct Submitted {
-    pub answer: Submission,
-    pub state: Ehci,
-    pub writes: Writes,
-    pub chain: Chain,
-}
-
-pub struct WrittenBack {
-    pub answer: Answer,
-    pub state: Ehci,
-    pub chain: Chain,
-}
 
 fn refuse(state: Ehci, refusal: Refusal) -> Submitted
     ensures { λ r. ⌜ r ≡ refusedSubmit state refusal ⌝ }

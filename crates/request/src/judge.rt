@@ -8,19 +8,19 @@ ghost use Rattle.request.specs.Submit.{
   rangesGood,
   judgeOf,
 };
-use answer::answer::Answer;
-use answer::answer::Refusal;
+use common::answer::Answer;
+use common::answer::Refusal;
+use common::kinds::Direction;
+use common::kinds::EndpointType;
+use common::kinds::is_control;
+use common::kinds::is_isochronous;
 use controller::readers::free_in;
 use controller::readers::open_in;
 use controller::readers::uncollected_in;
-use pipe::endpoint::kind_number;
-use pipe::kinds::is_control;
-use pipe::kinds::is_isochronous;
+use pipe::endpoints::kind_number;
 use settings::settings::MEMORY_END;
 use state::state::Ehci;
 use token::chunks::need;
-use token::request::Direction;
-use token::request::EndpointType;
 
 pub const CONTROL_MAX: u64 = 16384;
 

@@ -1,4 +1,5 @@
 // A request on an endpoint: submitting it, and what the controller writes back.
+pub mod answers;
 pub mod calls;
 pub mod judge;
 pub mod settle;

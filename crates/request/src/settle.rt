@@ -19,20 +19,20 @@ ghost use Rattle.request.specs.Submit.{
   settledSubmit,
   Settles,
 };
-use crate::calls::Submission;
-use crate::calls::Submitted;
-use crate::calls::USBCMD_SCHEDULES;
+use crate::answers::Submission;
+use crate::answers::Submitted;
 use crate::judge::TransferRequest;
+use common::kinds::EndpointType;
+use common::kinds::is_control;
+use common::kinds::is_interrupt;
+use common::rows::put_bytes;
 use controller::lent::Readings;
 use descriptor::head::ehci_qh_link;
 use descriptor::setup::setup_packet_bytes;
-use opening::rows::put_bytes;
-use pipe::endpoint::Endpoint;
-use pipe::endpoint::Pipe;
-use pipe::endpoint::Request;
-use pipe::endpoint::with_endpoint;
-use pipe::kinds::is_control;
-use pipe::kinds::is_interrupt;
+use pipe::endpoints::Endpoint;
+use pipe::endpoints::Pipe;
+use pipe::endpoints::Request;
+use pipe::endpoints::with_endpoint;
 use pool::chain::Chain;
 use pool::chain::Deed;
 use pool::places::Places;
@@ -40,7 +40,7 @@ use pool::places::mark;
 use pool::places::places_of;
 use pool::transfer::Transfer;
 use register::bits::with_bits;
-use register::ehci::USBCMD;
+use register::operational::USBCMD;
 use register::writes::Writes;
 use schedule::bell::command_word;
 use schedule::links::attach_frames;
@@ -49,7 +49,9 @@ use schedule::links::head_address;
 use schedule::links::start_overlay;
 use state::state::Ehci;
 use token::chunks::need;
-use token::request::EndpointType;
+
+// Run, periodic schedule, asynchronous schedule.
+pub const USBCMD_SCHEDULES: u32 = 0x31;
 
 pub struct Taken {
     pub places: Places,

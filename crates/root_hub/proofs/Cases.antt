@@ -1,7 +1,7 @@
 -- The returns of the root hub's functions, and the loop over the ports.
 use Prim.Native.Nat.{ℕ, suc, _+_, _-_, _≤_, _<_}
 use mathlib.Core.Path.{_≡_, refl, sym, _∙_}
-use mathlib.Core.Bool.{Bool, true, false, not}
+use mathlib.Core.Bool.{Bool, true, false, not, _&&_}
 use native.Mathlib.Numerals.{add-one}
 use native.Mathlib.Omega.{arith}
 use borrow.Author.Tests.{eq-eqb, ne-eqb, le-leb, lt-leb, lt-ltb, le-ltb, eqb-false, eqb-true, leb-true, not-false, not-true}
@@ -14,13 +14,12 @@ use Rattle.register.specs.declared.writes.Writes.{Writes}
 use Rattle.token.specs.EhciPortsc.{currentConnect, portEnabled}
 use Rattle.token.specs.Ports.{isSet}
 use Rattle.token.specs.declared.port.EhciPortStatus.{EhciPortStatus}
-use Rattle.settings.specs.Tests.{both, within}
-use Rattle.settings.proofs.Every.{both-assoc, both-true}
-use Rattle.settings.proofs.SettingsCases.{both-first, both-second, within-least, within-most}
-use Rattle.answer.specs.declared.answer.Answer.the-variants.{Done}
-use Rattle.answer.specs.declared.answer.Refusal.the-variants.{InvalidParameter}
+use Rattle.common.specs.Tests.{within}
+use Rattle.common.proofs.TestLaws.{both-assoc, both-true, both-first, both-second, within-least, within-most}
+use Rattle.common.specs.declared.answer.Answer.the-variants.{Done}
+use Rattle.common.specs.declared.answer.Refusal.the-variants.{InvalidParameter}
 use Rattle.opening.specs.declared.hub.EhciRootHub.{EhciRootHub}
-use Rattle.bring_up.specs.declared.reads.NextRead.the-variants.{Nothing as NoRead, Register}
+use Rattle.common.specs.declared.reads.NextRead.the-variants.{Nothing as NoRead, Register}
 use Rattle.root_hub.specs.declared.ports.PortEvent.the-variants.{Nothing as NoEvent, Connected, Disconnected}
 use Rattle.root_hub.specs.declared.ports.PortState.{PortState}
 use Rattle.root_hub.specs.declared.ports.PortState.the-variants.{Uninit, Reseted, Probed}
@@ -187,14 +186,14 @@ module _ (a : Awaited) (st : ℕ) where
   fits-owner e = rw e
 
 pub ports-turn : (h : EhciRootHub) (k : ℕ) (g t : Bool) → k < 15 → t ≡ stateGood (h .ports) k (getD (h .states) k 0)
-    → both (both g t) (statesGood (k + 1) (15 - (k + 1)) h) ≡ both g (statesGood k (15 - k) h)
+    → (g && t && statesGood (k + 1) (15 - (k + 1)) h) ≡ (g && statesGood k (15 - k) h)
 unfolding statesGood
 ports-turn h k g t l et = rw (et, add-one k, more) (both-assoc g _ _)
   where
     more : 15 - k ≡ suc (15 - suc k)
     more = omega arith
 
-pub ports-done : (h : EhciRootHub) (k : ℕ) (g all : Bool) → 15 ≤ k → both g (statesGood k (15 - k) h) ≡ all → g ≡ all
+pub ports-done : (h : EhciRootHub) (k : ℕ) (g all : Bool) → 15 ≤ k → (g && statesGood k (15 - k) h) ≡ all → g ≡ all
 unfolding statesGood
 ports-done h k g all l e = sym (both-true g) ∙ (rw none at e)
   where
@@ -211,11 +210,11 @@ module _ (h : EhciRootHub) where
   place-beyond e l = rw (ne-eqb (h .port) 0 e, lt-leb (h .port) (h .ports) l)
 
   pub place-begun : (i : ℕ) (a : Awaited) (f : Bool) → i ≡ h .port - 1 → a ≡ awaitedOf (h .step)
-      → f ≡ fits a (getD (h .states) i 0) → (h .port ≡ 0 → ⊥) → h .port ≤ h .ports → both (within (h .step) 1 6) f ≡ placeGood h
+      → f ≡ fits a (getD (h .states) i 0) → (h .port ≡ 0 → ⊥) → h .port ≤ h .ports → (within (h .step) 1 6 && f) ≡ placeGood h
   unfolding placeGood
   place-begun i a f ei ea ef e l = rw (ef, ea, ei, ne-eqb (h .port) 0 e, le-leb (h .port) (h .ports) l)
 
-  pub hub-is : (s p : Bool) → within (h .ports) 1 15 ≡ true → s ≡ statesGood 0 15 h → p ≡ placeGood h → both s p ≡ hubGood h
+  pub hub-is : (s p : Bool) → within (h .ports) 1 15 ≡ true → s ≡ statesGood 0 15 h → p ≡ placeGood h → (s && p) ≡ hubGood h
   unfolding hubGood
   hub-is s p t es ep = rw (es, ep, t)
 
@@ -245,7 +244,7 @@ module _ (h : EhciRootHub) (e : hubGood h ≡ true) where
       by true q = absurd (z (eqb-true (h .step) 0 (place-idle h (eqb-true (h .port) 0 q) ∙ good-place)))
       by false q = omega (arith, eqb-false (h .port) 0 q)
 
-  begun-tells : (h .step ≡ 0 → ⊥) → both (leb (h .port) (h .ports)) (both (within (h .step) 1 6) (fits (awaitedOf (h .step)) (stateAt h))) ≡ true
+  begun-tells : (h .step ≡ 0 → ⊥) → (leb (h .port) (h .ports) && (within (h .step) 1 6 && fits (awaitedOf (h .step)) (stateAt h))) ≡ true
   unfolding placeGood
   begun-tells z = let some : h .port ≡ 0 → ⊥ = λ q. omega (arith, port-some z) in rw (ne-eqb (h .port) 0 some) at good-place
 

@@ -7,10 +7,10 @@ use lib.ListN.{replicate}
 use Rattle.register.specs.Bits.{withBits, withoutBits}
 use Rattle.register.specs.Writes.{andThen, noWrites, packed, writeOf}
 use Rattle.register.specs.declared.writes.Write.{Write}
-use Rattle.answer.specs.declared.answer.Answer.the-variants.{Done}
+use Rattle.common.specs.declared.answer.Answer.the-variants.{Done}
 use Rattle.opening.specs.declared.hub.EhciRootHub.{EhciRootHub}
-use Rattle.bring_up.specs.declared.reads.NextRead.{NextRead}
-use Rattle.bring_up.specs.declared.reads.NextRead.the-variants.{Nothing as NoRead, Register}
+use Rattle.common.specs.declared.reads.NextRead.{NextRead}
+use Rattle.common.specs.declared.reads.NextRead.the-variants.{Nothing as NoRead, Register}
 use Rattle.root_hub.specs.declared.ports.PortEvent.{PortEvent}
 use Rattle.root_hub.specs.declared.ports.PortEvent.the-variants.{Nothing as NoEvent, Connected, Disconnected}
 use Rattle.root_hub.specs.declared.ports.Speed.the-variants.{High}

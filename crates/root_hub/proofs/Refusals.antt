@@ -4,13 +4,13 @@ use mathlib.Core.Bool.{not}
 use mathlib.Core.List.{[], _∷_}
 use mathlib.Core.Path.{_≡_, refl, sym, ap, _∙_}
 use lib.Dec.{eqb}
-use Rattle.settings.specs.Tests.{within}
-use Rattle.answer.specs.Answers.{Verdict, first, refused, settle}
-use Rattle.answer.specs.declared.answer.Answer.{Answer}
-use Rattle.answer.specs.declared.answer.Answer.the-variants.{Done, Refused}
-use Rattle.answer.specs.declared.answer.Refusal.{Refusal}
-use Rattle.answer.specs.declared.answer.Refusal.the-variants.{InvalidParameter}
-use Rattle.answer.proofs.CheckLaws.{answers-apart, settled-by}
+use Rattle.common.specs.Tests.{within}
+use Rattle.common.specs.Answers.{Verdict, first, refused, settle}
+use Rattle.common.specs.declared.answer.Answer.{Answer}
+use Rattle.common.specs.declared.answer.Answer.the-variants.{Done, Refused}
+use Rattle.common.specs.declared.answer.Refusal.{Refusal}
+use Rattle.common.specs.declared.answer.Refusal.the-variants.{InvalidParameter}
+use Rattle.common.proofs.CheckLaws.{answers-apart, settled-by}
 use Rattle.opening.specs.declared.hub.EhciRootHub.{EhciRootHub}
 use Rattle.root_hub.specs.Calls.{powerOf, refusedPower, refusedScan, scannedOf, startOf, stepOf}
 use Rattle.root_hub.specs.Ranges.{hubGood}

@@ -1,6 +1,6 @@
 -- Any scan: the ranges, the end in time, the ports in order, one event each, a state's changes, the registers.
 use Prim.Native.Nat.{ℕ, zero, suc, _+_, _-_, _*_, _≤_, _<_}
-use mathlib.Core.Bool.{Bool, true, false}
+use mathlib.Core.Bool.{Bool, true, false, cond}
 use mathlib.Core.List.{List, [], _∷_, map}
 use mathlib.Core.Logic.{_⊎_, inl, inr, ⊎-elim}
 use mathlib.Core.Path.{_≡_, refl, sym, subst, ap, _∙_}
@@ -14,16 +14,15 @@ use lib.Seq.{getD-set-other, getD-set-same}
 use Rattle.register.specs.EhciRegisters.{portscOf}
 use Rattle.register.specs.Writes.{listOf, noWrites, andThen}
 use Rattle.register.specs.declared.writes.Write.{Write}
-use Rattle.settings.specs.Tests.{within}
-use Rattle.settings.proofs.SettingsCases.{both-first, both-second, within-least}
-use Rattle.settings.proofs.SettingsLaws.{both-tells, within-makes}
+use Rattle.common.specs.Tests.{within}
+use Rattle.common.proofs.TestLaws.{both-first, both-second, within-least, both-tells, within-makes}
 use Rattle.state.proofs.Arrays.{zeros-at}
-use Rattle.answer.specs.Answers.{numberOf}
-use Rattle.answer.specs.declared.answer.Answer.the-variants.{Done}
-use Rattle.answer.specs.declared.answer.Refusal.the-variants.{InvalidParameter}
+use Rattle.common.specs.Answers.{numberOf}
+use Rattle.common.specs.declared.answer.Answer.the-variants.{Done}
+use Rattle.common.specs.declared.answer.Refusal.the-variants.{InvalidParameter}
 use Rattle.opening.specs.Hub.{openedHub}
 use Rattle.opening.specs.declared.hub.EhciRootHub.{EhciRootHub}
-use Rattle.bring_up.specs.declared.reads.NextRead.the-variants.{Nothing as NoRead, Register}
+use Rattle.common.specs.declared.reads.NextRead.the-variants.{Nothing as NoRead, Register}
 use Rattle.root_hub.specs.declared.ports.PortEvent.the-variants.{Nothing as NoEvent}
 use Rattle.root_hub.specs.declared.scan.Awaited.{Awaited}
 use Rattle.root_hub.specs.declared.scan.Awaited.the-variants.{Status, Gone, Reset, Release, Again, Owner}
@@ -34,7 +33,7 @@ use Rattle.root_hub.specs.declared.scan.Turned.{Turned}
 use Rattle.root_hub.specs.declared.calls.Scanned.{Scanned}
 use Rattle.root_hub.specs.Ports.{eventPort, portState}
 use Rattle.root_hub.specs.Scan.{awaitedOf, connected, enabled, statusTurn, againTurn, turnOf, placeAfter, portWrites}
-use Rattle.root_hub.specs.Ranges.{pickTest, stateGood, statesGood, fits, stateAt, placeGood, hubGood}
+use Rattle.root_hub.specs.Ranges.{stateGood, statesGood, fits, stateAt, placeGood, hubGood}
 use Rattle.root_hub.specs.Calls.{withScan, refusedScan, startOf, scannedOf, turnAt, stepOf}
 use Rattle.root_hub.specs.Runs.{Right, StaysRight, EndsBy, EndsInTime, readOf, asked, stretches, upFrom, VisitsAll, reported, Ascends, OneEventEach, ByRule, stays, reseted, probed, gone, OnlyByRule, OnlyWhenSeen, OpenedRight, RefusedOut, OnlyOwn}
 use Rattle.root_hub.proofs.Cases.{start-done, step-bad, step-none, step-done, good-most, port-some, port-most, step-fits, place-on, place-next, place-end}
@@ -670,7 +669,7 @@ uninit-right : (ports k : ℕ) → stateGood ports k 0 ≡ true
 unfolding stateGood
 uninit-right ports k = by (ltb k ports)
   where
-    by : (b : Bool) → pickTest b (leb 0 2) (eqb 0 0) ≡ true
+    by : (b : Bool) → cond b (leb 0 2) (eqb 0 0) ≡ true
     by true = refl
     by false = refl
 

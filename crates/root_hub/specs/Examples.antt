@@ -5,8 +5,8 @@ use lib.ListN.{replicate}
 use Rattle.register.specs.Writes.{writeOf, listOf}
 use Rattle.register.specs.declared.writes.Write.{Write}
 use Rattle.opening.specs.declared.hub.EhciRootHub.{EhciRootHub}
-use Rattle.bring_up.specs.declared.reads.NextRead.{NextRead}
-use Rattle.bring_up.specs.declared.reads.NextRead.the-variants.{Nothing as NoRead, Register}
+use Rattle.common.specs.declared.reads.NextRead.{NextRead}
+use Rattle.common.specs.declared.reads.NextRead.the-variants.{Nothing as NoRead, Register}
 use Rattle.root_hub.specs.declared.ports.PortEvent.{PortEvent}
 use Rattle.root_hub.specs.declared.ports.PortEvent.the-variants.{Nothing as NoEvent, Connected, Disconnected}
 use Rattle.root_hub.specs.declared.ports.Speed.the-variants.{High}

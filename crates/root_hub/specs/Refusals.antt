@@ -1,8 +1,8 @@
 -- Document 01: "the rest are refusals and leave all as before", of the calls on the ports' record.
 use Prim.Native.Nat.{ℕ}
 use mathlib.Core.Path.{_≡_}
-use Rattle.answer.specs.declared.answer.Answer.the-variants.{Refused}
-use Rattle.answer.specs.declared.answer.Refusal.{Refusal}
+use Rattle.common.specs.declared.answer.Answer.the-variants.{Refused}
+use Rattle.common.specs.declared.answer.Refusal.{Refusal}
 use Rattle.opening.specs.declared.hub.EhciRootHub.{EhciRootHub}
 use Rattle.root_hub.specs.Calls.{powerOf, refusedPower, refusedScan, startOf, stepOf}
 

@@ -9,11 +9,11 @@ use lib.ListN.{getD, length}
 use Rattle.register.specs.EhciRegisters.{portscOf}
 use Rattle.register.specs.Writes.{listOf}
 use Rattle.register.specs.declared.writes.Write.{Write}
-use Rattle.answer.specs.Answers.{numberOf}
+use Rattle.common.specs.Answers.{numberOf}
 use Rattle.opening.specs.Hub.{openedHub}
 use Rattle.opening.specs.declared.hub.EhciRootHub.{EhciRootHub}
-use Rattle.bring_up.specs.declared.reads.NextRead.{NextRead}
-use Rattle.bring_up.specs.declared.reads.NextRead.the-variants.{Nothing as NoRead, Register}
+use Rattle.common.specs.declared.reads.NextRead.{NextRead}
+use Rattle.common.specs.declared.reads.NextRead.the-variants.{Nothing as NoRead, Register}
 use Rattle.root_hub.specs.declared.ports.PortEvent.the-variants.{Nothing as NoEvent, Connected, Disconnected}
 use Rattle.root_hub.specs.declared.ports.Speed.the-variants.{High}
 use Rattle.root_hub.specs.declared.scan.Awaited.{Awaited}

@@ -1,6 +1,6 @@
 -- Document 01, "Ports and bring-up": what the reading of one step of a scan does.
 use Prim.Native.Nat.{ℕ, _+_}
-use mathlib.Core.Bool.{Bool, true, false}
+use mathlib.Core.Bool.{Bool, true, false, cond}
 use lib.Dec.{eqb, ltb}
 use Rattle.register.specs.Bits.{withBits, withoutBits}
 use Rattle.register.specs.EhciRegisters.{portscOf}
@@ -8,7 +8,7 @@ use Rattle.register.specs.Writes.{noWrites, andThen}
 use Rattle.register.specs.declared.writes.Writes.{Writes}
 use Rattle.token.specs.EhciPortsc.{currentConnect, portEnabled}
 use Rattle.token.specs.Ports.{isSet}
-use Rattle.bring_up.specs.declared.reads.NextRead.the-variants.{Nothing as NoRead, Register}
+use Rattle.common.specs.declared.reads.NextRead.the-variants.{Nothing as NoRead, Register}
 use Rattle.root_hub.specs.declared.ports.PortEvent.the-variants.{Nothing as NoEvent, Connected, Disconnected}
 use Rattle.root_hub.specs.declared.ports.PortState.{PortState}
 use Rattle.root_hub.specs.declared.ports.PortState.the-variants.{Uninit, Reseted, Probed}
@@ -23,17 +23,13 @@ use Rattle.root_hub.specs.Ports.{portState}
 
 -- ---- the steps of a port, numbered 1 to 6
 
-abbrev pub pickAwaited : Bool → Awaited → Awaited → Awaited
-pickAwaited true a b = a
-pickAwaited false a b = b
-
 abbrev pub awaitedOf : ℕ → Awaited
 awaitedOf n =
-    pickAwaited (eqb n 1) Status
-    (pickAwaited (eqb n 2) Gone
-    (pickAwaited (eqb n 3) Reset
-    (pickAwaited (eqb n 4) Release
-    (pickAwaited (eqb n 5) Again
+    cond (eqb n 1) Status
+    (cond (eqb n 2) Gone
+    (cond (eqb n 3) Reset
+    (cond (eqb n 4) Release
+    (cond (eqb n 5) Again
     Owner))))
 
 -- ---- what a reading does
@@ -110,10 +106,6 @@ turnOf Owner state port v = ownerTurn state v
 
 -- ---- where the scan goes: on at the port, to the next ("Ports ascend"), or to its end
 
-abbrev pub pickPlace : Bool → Place → Place → Place
-pickPlace true a b = a
-pickPlace false a b = b
-
 abbrev pub at : ℕ → ℕ → Place
 at port step = record { port = port; step = step; read = Register (portscOf port) }
 
@@ -122,7 +114,7 @@ noPlace = record { port = 0; step = 0; read = NoRead }
 
 unfoldable pub placeAfter : ℕ → ℕ → ℕ → Place
 placeAfter port ports step =
-    pickPlace (eqb step 0) (pickPlace (ltb port ports) (at (port + 1) 1) noPlace) (at port step)
+    cond (eqb step 0) (cond (ltb port ports) (at (port + 1) 1) noPlace) (at port step)
 
 -- the port's own register, or none
 abbrev pub portWrites : ℕ → Change → Writes

@@ -1,6 +1,6 @@
 // The calls by value: port power, the start of a scan, a step of it.
 ghost use mathlib.Core.Path.{_≡_};
-ghost use Rattle.answer.specs.declared.answer.Refusal.the-variants.{InvalidParameter};
+ghost use Rattle.common.specs.declared.answer.Refusal.the-variants.{InvalidParameter};
 ghost use Rattle.root_hub.specs.Calls.{refusedScan, startOf, stepOf, refusedPower, powerOf};
 use crate::ports::PortEvent;
 use crate::ranges::hub_good;
@@ -11,13 +11,13 @@ use crate::scan::awaited_of;
 use crate::scan::place_after;
 use crate::scan::port_writes;
 use crate::scan::turn;
-use answer::answer::Answer;
-use answer::answer::Refusal;
-use bring_up::reads::NextRead;
+use common::answer::Answer;
+use common::answer::Refusal;
+use common::reads::NextRead;
 use opening::hub::EhciRootHub;
 use register::bits::with_bits;
 use register::bits::without_bits;
-use register::ehci::port_offset;
+use register::operational::port_offset;
 use register::writes::Writes;
 use token::port::EhciPortStatus;
 

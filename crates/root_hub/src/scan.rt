@@ -20,13 +20,13 @@ use crate::ports::PortEvent;
 use crate::ports::PortState;
 use crate::ports::Speed;
 use crate::ports::port_state;
-use bring_up::reads::NextRead;
+use common::reads::NextRead;
 use opening::hub::PROBED;
 use opening::hub::RESETED;
 use opening::hub::UNINIT;
 use register::bits::with_bits;
 use register::bits::without_bits;
-use register::ehci::port_offset;
+use register::operational::port_offset;
 use register::writes::Writes;
 use token::port::EhciPortStatus;
 

@@ -1,7 +1,7 @@
 -- The returns and the loop of the functions on links.
 use Prim.Native.Nat.{ℕ, zero, suc, _+_, _-_, _*_, _/_, _≤_, _<_}
 use mathlib.Core.Path.{_≡_, refl, sym, ap, _∙_}
-use mathlib.Core.Bool.{Bool, true, false, not}
+use mathlib.Core.Bool.{Bool, true, false, not, _&&_, cond}
 use mathlib.Core.List.{List}
 use native.Mathlib.Numerals.{add-one}
 use native.Mathlib.Omega.{arith}
@@ -9,12 +9,11 @@ use borrow.Author.Tests.{eq-eqb, ne-eqb}
 use lib.Dec.{eqb}
 use lib.ListN.{getD, length, replicate, set}
 use lib.Seq.{set-out}
-use Rattle.settings.specs.Tests.{both}
-use Rattle.settings.proofs.Every.{every-4}
+use Rattle.common.proofs.TestLaws.{every-4}
 use Rattle.state.specs.declared.state.Ehci.{Ehci}
 use Rattle.schedule.specs.declared.links.Predecessor.{Predecessor}
 use Rattle.schedule.specs.declared.links.Predecessor.the-variants.{First, Head, Missing}
-use Rattle.schedule.specs.Links.{headAddress, linkWord, links, attachedFrames, leadsTo, precedes, precedesOne, same, searchFrom, pickWord, firstWord, periodic, predecessorOf, withLinkWord, detached, detachOf}
+use Rattle.schedule.specs.Links.{headAddress, linkWord, links, attachedFrames, leadsTo, precedes, precedesOne, same, searchFrom, firstWord, periodic, predecessorOf, withLinkWord, detached, detachOf}
 
 pub frames-attached : (h f f′ : List ℕ) (k l : ℕ) → f′ ≡ replicate (length f) l
     → links (set h (17 * (k + 1)) (getD f 0 0)) f′ ≡ attachedFrames h f k l
@@ -22,7 +21,7 @@ unfolding attachedFrames
 frames-attached h f f′ k l e = rw e
 
 pub precedes-is : (j k phase kind own word address : ℕ) (t : Bool) → t ≡ same (eqb own 3) (eqb kind 3)
-    → both (both (both (not (eqb j k)) (eqb phase 2)) t) (leadsTo word address) ≡ precedesOne j k phase kind own word address
+    → (not (eqb j k) && eqb phase 2 && t && leadsTo word address) ≡ precedesOne j k phase kind own word address
 unfolding precedesOne
 precedes-is j k phase kind own word address t e =
     every-4 (not (eqb j k)) (eqb phase 2) t (leadsTo word address) ∙ rw e
@@ -56,7 +55,7 @@ pub at-address : (s : Ehci) (h : List ℕ) (k j a : ℕ) (t : Bool) → a ≡ he
     → t ≡ precedesOne j k (getD (s .phases) j 0) (getD (s .kinds) j 0) (getD (s .kinds) k 0) (linkWord h j) a → t ≡ precedes s h k j
 at-address s h k j a t ea et = rw ea at et
 
-module _ (s : Ehci) (h f : List ℕ) (k w a : ℕ) (ew : w ≡ pickWord (eqb (getD (s .kinds) k 0) 3) (getD f 0 0) (getD h 0 0)) (ea : a ≡ headAddress s k) where
+module _ (s : Ehci) (h f : List ℕ) (k w a : ℕ) (ew : w ≡ cond (eqb (getD (s .kinds) k 0) 3) (getD f 0 0) (getD h 0 0)) (ea : a ≡ headAddress s k) where
   pub first-leads : w / 32 ≡ a / 32 → First ≡ predecessorOf s h f k
   unfolding predecessorOf
   first-leads e = rw (sym ew, sym ea, eq-eqb (w / 32) (a / 32) e)
@@ -65,10 +64,10 @@ module _ (s : Ehci) (h f : List ℕ) (k w a : ℕ) (ew : w ≡ pickWord (eqb (ge
   unfolding predecessorOf
   not-first e p ep = ep ∙ rw (sym ew, sym ea, ne-eqb (w / 32) (a / 32) e)
 
-pub word-frame : (k a b : ℕ) → k ≡ 3 → a ≡ pickWord (eqb k 3) a b
+pub word-frame : (k a b : ℕ) → k ≡ 3 → a ≡ cond (eqb k 3) a b
 word-frame k a b e = rw (eq-eqb k 3 e)
 
-pub word-ring : (k a b : ℕ) → (k ≡ 3 → ⊥) → b ≡ pickWord (eqb k 3) a b
+pub word-ring : (k a b : ℕ) → (k ≡ 3 → ⊥) → b ≡ cond (eqb k 3) a b
 word-ring k a b e = rw (ne-eqb k 3 e)
 
 -- ---- detaching

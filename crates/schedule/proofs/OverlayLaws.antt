@@ -5,7 +5,7 @@ use mathlib.Core.Logic.{_≢_}
 use mathlib.Core.Path.{_≡_, _∙_}
 use lib.ListN.{getD, length, length-set}
 use lib.Seq.{getD-set-other}
-use Rattle.opening.specs.Rows.{withHeadWord}
+use Rattle.opening.specs.Heads.{withHeadWord}
 use Rattle.schedule.specs.Links.{startedOverlay}
 
 module _ (heads : List ℕ) (k first token : ℕ) where

@@ -11,8 +11,7 @@ use native.Mathlib.Omega.{arith}
 use lib.ListN.{getD, getD-replicate, length, length-set, replicate, set}
 use lib.Seq.{getD-set-other, getD-set-same}
 use Rattle.state.specs.declared.state.Ehci.{Ehci}
-use Rattle.settings.specs.Tests.{both}
-use Rattle.settings.proofs.SettingsCases.{both-first, both-second}
+use Rattle.common.proofs.TestLaws.{both-first, both-second}
 use Rattle.schedule.specs.declared.links.Predecessor.the-variants.{First, Head}
 use Rattle.schedule.specs.Links.{firstWord, leadsTo, same, precedes, precedesOne, searchFrom, predecessorOf, headAddress, slotLink, ringLink, linkWord, withRingLink, withLinkWord, attachedRing, attachedFrames}
 use Rattle.schedule.specs.Walks.{Chain, Avoids, In}

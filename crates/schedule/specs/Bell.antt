@@ -1,13 +1,13 @@
 -- Document 01, "Unlinking and collecting": the doorbell, the advances, and the boundaries.
 use Prim.Native.Nat.{ℕ, zero, suc, _+_, _-_, _%_}
-use mathlib.Core.Bool.{Bool, true, false, not}
+use mathlib.Core.Bool.{Bool, true, false, not, _&&_, _||_}
 use mathlib.Core.List.{List, [], _∷_}
 use lib.Dec.{eqb, leb}
 use lib.ListN.{getD}
-use Rattle.register.specs.Bits.{withBits, withoutBits}
+use Rattle.register.specs.Bits.{bit, withBits, withoutBits}
 use Rattle.register.specs.Writes.{andThen}
+use Rattle.register.specs.declared.writes.Write.{Write}
 use Rattle.register.specs.declared.writes.Writes.{Writes}
-use Rattle.settings.specs.Tests.{both}
 use Rattle.state.specs.declared.state.Ehci.{Ehci}
 use Rattle.schedule.specs.declared.bell.Bell.{Bell}
 use Rattle.schedule.specs.declared.bell.Rung.{Rung}
@@ -20,6 +20,14 @@ commandWord value = withoutBits value 0x40
 unfoldable pub ringWord : ℕ → ℕ
 ringWord read = withBits read 0x40
 
+-- a ring: a write of USBCMD with the doorbell bit
+abbrev pub isRing : Write → Bool
+isRing w = eqb (w .offset) 0 && eqb (bit (w .value) 6) 1
+
+abbrev pub someRing : List Write → Bool
+someRing [] = false
+someRing (w ∷ ws) = isRing w || someRing ws
+
 -- ---- the doorbell
 
 abbrev pub bellOf : Ehci → Bell
@@ -27,7 +35,7 @@ bellOf s = record { noted = s .noted; doorbell = s .doorbell; unanswered = s .un
 
 -- it is down and an unlink is unanswered
 abbrev pub mustRing : Bell → Bool
-mustRing b = both (eqb (b .doorbell) 0) (leb 1 (b .unanswered))
+mustRing b = eqb (b .doorbell) 0 && leb 1 (b .unanswered)
 
 abbrev pub rungIf : Bool → Bell → Writes → ℕ → Rung
 rungIf true b writes command =
@@ -58,7 +66,7 @@ fallIf true boundary = boundary - 1
 fallIf false boundary = boundary
 
 unfoldable pub fallenOne : ℕ → ℕ → ℕ → ℕ
-fallenOne phase kind boundary = fallIf (both (eqb phase 3) (not (eqb kind 3))) boundary
+fallenOne phase kind boundary = fallIf (eqb phase 3 && not (eqb kind 3)) boundary
 
 -- n slots, from slot k on
 unfoldable pub fallenFrom : ℕ → ℕ → List ℕ → List ℕ → List ℕ → List ℕ

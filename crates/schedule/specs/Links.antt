@@ -1,12 +1,13 @@
 -- Document 01, "Descriptors, heads, links" and "Unlinking and collecting": the links of the ring and of the frame list.
 use Prim.Native.Nat.{ℕ, zero, suc, _+_, _*_, _/_, _-_}
-use mathlib.Core.Bool.{Bool, true, false, not}
+use mathlib.Core.Bool.{Bool, true, false, not, cond}
 use mathlib.Core.List.{List, [], _∷_}
 use lib.Dec.{eqb}
 use lib.ListN.{getD, length, replicate, set}
 use Rattle.descriptor.specs.Heads.{qhLink}
-use Rattle.opening.specs.Rows.{withHeadWord, putAt}
-use Rattle.settings.specs.Tests.{every}
+use Rattle.opening.specs.Heads.{withHeadWord}
+use Rattle.common.specs.Rows.{putAt}
+use Rattle.common.specs.Tests.{every}
 use Rattle.state.specs.declared.state.Ehci.{Ehci}
 use Rattle.schedule.specs.declared.links.Predecessor.{Predecessor}
 use Rattle.schedule.specs.declared.links.Predecessor.the-variants.{First, Head, Missing}
@@ -71,27 +72,19 @@ abbrev pub precedes : Ehci → List ℕ → ℕ → ℕ → Bool
 precedes s heads k j =
     precedesOne j k (getD (s .phases) j 0) (getD (s .kinds) j 0) (getD (s .kinds) k 0) (linkWord heads j) (headAddress s k)
 
-abbrev pub pickPredecessor : Bool → Predecessor → Predecessor → Predecessor
-pickPredecessor true a b = a
-pickPredecessor false a b = b
-
 -- the lowest of n slots, from slot j on
 unfoldable pub searchFrom : Ehci → List ℕ → ℕ → ℕ → ℕ → Predecessor
 searchFrom s heads k j zero = Missing
-searchFrom s heads k j (suc n) = pickPredecessor (precedes s heads k j) (Head j) (searchFrom s heads k (suc j) n)
+searchFrom s heads k j (suc n) = cond (precedes s heads k j) (Head j) (searchFrom s heads k (suc j) n)
 
 -- the word that the schedule starts with: the ring head's link, or frame entry 0
-abbrev pub pickWord : Bool → ℕ → ℕ → ℕ
-pickWord true a b = a
-pickWord false a b = b
-
 abbrev pub firstWord : Ehci → List ℕ → List ℕ → ℕ → ℕ
-firstWord s heads frames k = pickWord (periodic s k) (getD frames 0 0) (ringLink heads)
+firstWord s heads frames k = cond (periodic s k) (getD frames 0 0) (ringLink heads)
 
 -- the ring head or the frame entries, else the head whose link leads to slot k's
 unfoldable pub predecessorOf : Ehci → List ℕ → List ℕ → ℕ → Predecessor
 predecessorOf s heads frames k =
-    pickPredecessor (leadsTo (firstWord s heads frames k) (headAddress s k)) First
+    cond (leadsTo (firstWord s heads frames k) (headAddress s k)) First
     (searchFrom s heads k 0 (s .settings .endpoints))
 
 abbrev pub startGiven : Bool → List ℕ → List ℕ → ℕ → Links

@@ -14,8 +14,8 @@ ghost use Rattle.schedule.specs.Bell.{
 };
 use register::bits::with_bits;
 use register::bits::without_bits;
-use register::ehci::USBCMD;
-use register::ehci::USBCMD_INT_ASYNC_ADVANCE_DOORBELL;
+use register::operational::USBCMD;
+use register::operational::USBCMD_INT_ASYNC_ADVANCE_DOORBELL;
 use register::writes::Writes;
 
 // An advance noted since the ring, whether the doorbell is up, how many unlinks are unanswered.

@@ -1,27 +1,13 @@
 // The links of the ring and of the frame list: attaching a head, unlinking it, and its overlay.
+ghost use mathlib.Core.Bool.{cond};
 ghost use mathlib.Core.Path.{_≡_};
 ghost use Prim.Native.Nat.{_+_, _*_, _≤_, _<_, _^_};
 ghost use lib.Dec.{eqb};
 ghost use lib.ListN.{length};
-ghost use Rattle.schedule.specs.Links.{
-  headAddress,
-  same,
-  precedesOne,
-  searchFrom,
-  pickWord,
-  predecessorOf,
-  attachedRing,
-  attachedFrames,
-  links,
-  withLinkWord,
-  detached,
-  detachOf,
-  startedOverlay,
-  endedOverlay,
-};
+ghost use Rattle.schedule.specs.Links.{headAddress, same, precedesOne, searchFrom, predecessorOf, attachedRing, attachedFrames, links, withLinkWord, detached, detachOf, startedOverlay, endedOverlay};
+use common::rows::fill_words;
+use common::rows::put_words;
 use descriptor::qtd::EHCI_LINK_TERMINATE;
-use opening::rows::fill_words;
-use opening::rows::put_words;
 use state::state::Ehci;
 
 // Who gives way to a head that is unlinked.
@@ -115,7 +101,7 @@ pub fn find_predecessor(s: Ehci, heads: &[u32], frames: &[u32], k: u8, address: 
 }
 
 fn first_word(kind: u8, frame: u32, ring: u32) -> u32
-    ensures { λ r. ⌜ r ≡ pickWord (eqb kind 3) frame ring ⌝ }
+    ensures { λ r. ⌜ r ≡ cond (eqb kind 3) frame ring ⌝ }
 {
     if kind == 3 { frame } else { ring }
 }

@@ -7,20 +7,9 @@ use native.Mathlib.Omega.{arith}
 use borrow.Author.Tests.{eq-eqb, eqb-true, le-leb, leb-false, leb-true}
 use lib.Dec.{leb}
 use Rattle.settings.specs.declared.settings.Settings.{Settings}
-use Rattle.settings.specs.Tests.{both, within}
+use Rattle.common.specs.Tests.{within}
 use Rattle.settings.specs.Settings.{apartAreas, areaGood, eachGood, framesSize, headsSize, noOverlap, numbersGood, poolSize, settingsGood, setupsSize}
-use Rattle.settings.proofs.SettingsCases.{both-first, both-second, within-least, within-most}
-
--- ---- tests that are joined
-
-pub both-makes : (a b : Bool) → a ≡ true → b ≡ true → both a b ≡ true
-both-makes a b ea eb = rw (ea, eb)
-
-pub both-tells : (a b : Bool) → both a b ≡ true → (a ≡ true) × (b ≡ true)
-both-tells a b e = (both-first a b e, both-second a b e)
-
-pub within-makes : (x l m : ℕ) → l ≤ x → x ≤ m → within x l m ≡ true
-within-makes x l m hl hm = rw (le-leb l x hl, le-leb x m hm)
+use Rattle.common.proofs.TestLaws.{both-tells, within-least, within-makes, within-most}
 
 -- ---- two areas
 

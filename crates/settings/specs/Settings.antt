@@ -1,10 +1,10 @@
 -- Document 01, "Opening a controller": the ranges of what is given.
 use Prim.Native.Nat.{ℕ, _+_, _*_, _%_, _^_}
-use mathlib.Core.Bool.{Bool, true, false}
+use mathlib.Core.Bool.{Bool, true, false, _&&_}
 use mathlib.Core.List.{[], _∷_}
 use lib.Dec.{eqb, leb}
 use Rattle.settings.specs.declared.settings.Settings.{Settings}
-use Rattle.settings.specs.Tests.{both, every, within}
+use Rattle.common.specs.Tests.{every, within}
 
 -- where memory ends, and the rows' lengths: descriptors, 17 words a head with the ring head, frame entries, 8 bytes a slot
 abbrev pub memoryEnd : ℕ
@@ -37,7 +37,7 @@ setupsSize s = 8 * s .endpoints
 
 -- a multiple of its alignment, ending at or below the end of memory
 unfoldable pub areaGood : ℕ → ℕ → ℕ → Bool
-areaGood address alignment size = both (eqb (address % alignment) 0) (leb (address + size) memoryEnd)
+areaGood address alignment size = eqb (address % alignment) 0 && leb (address + size) memoryEnd
 
 -- the one that starts first ends at or before the start of the other
 abbrev pub firstEnds : Bool → ℕ → ℕ → ℕ → ℕ → Bool
@@ -81,4 +81,4 @@ noOverlap s =
     ∷ [])
 
 unfoldable pub settingsGood : Settings → Bool
-settingsGood s = both (numbersGood s) (both (eachGood s) (noOverlap s))
+settingsGood s = numbersGood s && (eachGood s && noOverlap s)

@@ -2,17 +2,16 @@
 use Prim.Native.Nat.{ℕ, _≤_, _<_}
 use mathlib.Core.Path.{_≡_, refl, _∙_}
 use mathlib.Core.Logic.{_≢_}
-use mathlib.Core.Bool.{Bool, true, false}
+use mathlib.Core.Bool.{Bool, true, false, _||_}
 use native.Mathlib.Decide.{ℕ-discrete as decEq}
 use native.Mathlib.Omega.{arith}
 use borrow.Author.Tests.{eq-eqb, eqb-false, eqb-true, le-leb, le-ltb, leb-true, lt-ltb, ltb-true, ltb-false, ne-eqb}
 use lib.Dec.{eqb, leb, ltb}
 use Rattle.slot.specs.declared.slot.Slot.{Slot}
 use Rattle.slot.specs.Ranges.{boundaryGood, closedGood, idleGood, linkedGood, noRequest, openKind, phaseGood, slotGood, unlinkingGood}
-use Rattle.settings.specs.Tests.{either, within}
+use Rattle.common.specs.Tests.{within}
 use Rattle.slot.proofs.SlotCases.{phase-closed, phase-idle, phase-linked, phase-unknown, phase-unlinking}
-use Rattle.settings.proofs.SettingsCases.{within-least, within-most}
-use Rattle.settings.proofs.SettingsLaws.{both-tells, within-makes}
+use Rattle.common.proofs.TestLaws.{within-least, within-most, both-tells, within-makes}
 
 -- ---- the facts
 
@@ -46,10 +45,10 @@ pub record SlotGood (E k unanswered : ℕ) (e : Slot) : Type 0 where
 
 -- ---- what the tests tell
 
-either-tells : (a b : Bool) → either a b ≡ true → a ≡ false → b ≡ true
+either-tells : (a b : Bool) → (a || b) ≡ true → a ≡ false → b ≡ true
 either-tells a b e f = rw f at e
 
-either-makes : (a b : Bool) → (a ≡ false → b ≡ true) → either a b ≡ true
+either-makes : (a b : Bool) → (a ≡ false → b ≡ true) → (a || b) ≡ true
 either-makes true b h = refl
 either-makes false b h = h refl
 
@@ -187,7 +186,7 @@ module _ (E k unanswered : ℕ) (e : Slot) where
   unfolding slotGood
   slot-tells t =
       let i = both-tells (leb 1 (e .id)) _ t in
-      let o = both-tells (either (ltb k E) (eqb (e .phase) 0)) _ (i .1) in
+      let o = both-tells (ltb k E || eqb (e .phase) 0) _ (i .1) in
       let p = both-tells (phaseGood e unanswered) true (o .1) in
       record {
         id-least = leb-true 1 (e .id) (i .0);

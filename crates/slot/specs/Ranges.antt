@@ -1,21 +1,17 @@
 -- The ranges of one slot, by its phase: closed 0, idle 1, linked 2, unlinking 3.
 use Prim.Native.Nat.{ℕ}
-use mathlib.Core.Bool.{Bool, true, false}
+use mathlib.Core.Bool.{Bool, true, false, _&&_, _||_, cond}
 use mathlib.Core.List.{[], _∷_}
 use lib.Dec.{eqb, leb, ltb}
-use Rattle.settings.specs.Tests.{both, either, every, within}
+use Rattle.common.specs.Tests.{every, within}
 use Rattle.slot.specs.declared.slot.Slot.{Slot}
 
 abbrev pub flag : ℕ → Bool
 flag n = leb n 1
 
-abbrev pub pick : Bool → Bool → Bool → Bool
-pick true a b = a
-pick false a b = b
-
 -- control 0, bulk 2 or interrupt 3: an isochronous slot is never open
 unfoldable pub openKind : ℕ → Bool
-openKind kind = either (eqb kind 0) (within kind 2 3)
+openKind kind = eqb kind 0 || within kind 2 3
 
 unfoldable pub noRequest : Slot → Bool
 noRequest e =
@@ -26,7 +22,7 @@ unfoldable pub closedGood : Slot → Bool
 closedGood e = every (eqb (e .kind) 0 ∷ eqb (e .id) 1 ∷ noRequest e ∷ [])
 
 unfoldable pub idleGood : Slot → Bool
-idleGood e = both (openKind (e .kind)) (noRequest e)
+idleGood e = openKind (e .kind) && noRequest e
 
 -- a request has an id, and a direction; while it is linked it is not cancelled
 unfoldable pub linkedGood : Slot → Bool
@@ -36,7 +32,7 @@ linkedGood e =
 
 -- the boundary of control and bulk: advances still to come, at most those unanswered; of interrupt: a FRINDEX
 unfoldable pub boundaryGood : ℕ → ℕ → ℕ → Bool
-boundaryGood kind boundary unanswered = pick (eqb kind 3) (ltb boundary 16384) (leb boundary unanswered)
+boundaryGood kind boundary unanswered = cond (eqb kind 3) (ltb boundary 16384) (leb boundary unanswered)
 
 unfoldable pub unlinkingGood : Slot → ℕ → Bool
 unlinkingGood e unanswered =
@@ -50,11 +46,11 @@ unlinkingGood e unanswered =
 
 unfoldable pub phaseGood : Slot → ℕ → Bool
 phaseGood e unanswered =
-    pick (eqb (e .phase) 0) (closedGood e)
-    (pick (eqb (e .phase) 1) (idleGood e)
-    (pick (eqb (e .phase) 2) (linkedGood e)
-    (pick (eqb (e .phase) 3) (unlinkingGood e unanswered) false)))
+    cond (eqb (e .phase) 0) (closedGood e)
+    (cond (eqb (e .phase) 1) (idleGood e)
+    (cond (eqb (e .phase) 2) (linkedGood e)
+    (cond (eqb (e .phase) 3) (unlinkingGood e unanswered) false)))
 
 -- ids are at least 1; slots from E on are closed
 unfoldable pub slotGood : ℕ → ℕ → ℕ → Slot → Bool
-slotGood E k unanswered e = every (leb 1 (e .id) ∷ either (ltb k E) (eqb (e .phase) 0) ∷ phaseGood e unanswered ∷ [])
+slotGood E k unanswered e = every (leb 1 (e .id) ∷ (ltb k E || eqb (e .phase) 0) ∷ phaseGood e unanswered ∷ [])

@@ -15,10 +15,10 @@ use Rattle.slot.specs.Ranges.{slotGood}
 use Rattle.state.specs.Ranges.{doorbellGood, inRanges, interruptGood, largest, machineGood, ownerGood, restGood, slotsGood}
 use Rattle.settings.specs.Settings.{settingsGood}
 use Rattle.state.specs.Slots.{slotAt}
-use Rattle.settings.specs.Tests.{within}
+use Rattle.common.specs.Tests.{within}
 use Rattle.state.proofs.RangesCases.{largest-le}
-use Rattle.settings.proofs.SettingsCases.{within-least, within-most}
-use Rattle.settings.proofs.SettingsLaws.{both-tells, within-makes, Good, good-tells, good-makes}
+use Rattle.common.proofs.TestLaws.{within-least, within-most, both-tells, within-makes}
+use Rattle.settings.proofs.SettingsLaws.{Good, good-tells, good-makes}
 
 -- slot k of a state is as it must be
 abbrev pub slotRight : Ehci → ℕ → Bool

@@ -1,7 +1,7 @@
 -- The ranges of a state: what every public call asks first. Document 01's ranges of what is opened, and for the rest
 -- bounds within which the calls' arithmetic stays; not every state within them is one that calls leave.
 use Prim.Native.Nat.{ℕ, zero, suc, _+_, _-_, max}
-use mathlib.Core.Bool.{Bool, true, false}
+use mathlib.Core.Bool.{Bool, true, false, _&&_}
 use mathlib.Core.List.{List, [], _∷_}
 use lib.Dec.{eqb, leb, ltb}
 use lib.ListN.{drop, take}
@@ -10,7 +10,7 @@ use Rattle.slot.specs.Ranges.{flag, slotGood}
 use Rattle.state.specs.declared.state.Ehci.{Ehci}
 use Rattle.settings.specs.Settings.{settingsGood}
 use Rattle.state.specs.Slots.{slotAt}
-use Rattle.settings.specs.Tests.{both, every, within}
+use Rattle.common.specs.Tests.{every, within}
 
 -- no bit but those of a mask
 abbrev pub only : ℕ → ℕ → Bool
@@ -19,7 +19,7 @@ only w mask = eqb (withoutBits w mask) 0
 -- n slots, from slot k on
 unfoldable pub slotsGood : ℕ → ℕ → Ehci → Bool
 slotsGood k zero s = true
-slotsGood k (suc n) s = both (slotGood (s .settings .endpoints) k (s .unanswered) (slotAt s k)) (slotsGood (suc k) n s)
+slotsGood k (suc n) s = slotGood (s .settings .endpoints) k (s .unanswered) (slotAt s k) && slotsGood (suc k) n s
 
 unfoldable pub largest : List ℕ → ℕ
 largest [] = 0
@@ -27,7 +27,7 @@ largest (x ∷ xs) = max x (largest xs)
 
 -- an owner is a slot's number plus 1, at most E; from D on there is none
 unfoldable pub ownerGood : List ℕ → ℕ → ℕ → Bool
-ownerGood owner D E = both (leb (largest (take D owner)) E) (leb (largest (drop D owner)) 0)
+ownerGood owner D E = leb (largest (take D owner)) E && leb (largest (drop D owner)) 0
 
 -- bring-up and the next address
 unfoldable pub machineGood : Ehci → Bool
@@ -56,4 +56,4 @@ restGood s =
     ∷ [])
 
 unfoldable pub inRanges : Ehci → Bool
-inRanges s = both (settingsGood (s .settings)) (restGood s)
+inRanges s = settingsGood (s .settings) && restGood s

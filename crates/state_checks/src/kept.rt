@@ -1,11 +1,12 @@
 // What is kept from record to record, and what a call does to it.
-use answer::answer::Answer;
-use bring_up::reads::NextRead;
 use call_log::call_line::call_line;
 use call_log::call_line::scan_line;
 use call_log::fields::Fields;
 use call_log::line::Line;
 use call_log::record::Entry;
+use common::answer::Answer;
+use common::kinds::Direction;
+use common::reads::NextRead;
 use controller::lent::Readings;
 use ehci::call::Call;
 use ehci::decide::decide;
@@ -15,7 +16,7 @@ use ehci::reply::Given;
 use opening::hub::EhciRootHub;
 use opening::open::Opening;
 use opening::open::decide_open;
-use pipe::endpoint::kind_of;
+use pipe::endpoints::kind_of;
 use pool::chain::View;
 use pool::chain::nothing_seen;
 use pool::places::Places;
@@ -26,7 +27,6 @@ use root_hub::calls::Scanned;
 use root_hub::ports::PortEvent;
 use settings::settings::Settings;
 use state::state::Ehci;
-use token::request::Direction;
 
 // How many records, words, entries and bytes are lent.
 pub struct Lent {

@@ -4,7 +4,7 @@ use mathlib.Core.Path.{_≡_, refl, sym, ap, _∙_}
 use mathlib.Core.List.{List, [], _∷_, _++_}
 use native.Mathlib.Omega.{arith}
 use lib.ListN.{length}
-use Rattle.opening.specs.Rows.{putAt}
+use Rattle.common.specs.Rows.{putAt}
 use Rattle.text.specs.Text.{decimalUpTo, hex, hexDigit}
 use Rattle.text.proofs.Puts.{put-none, put-then}
 use Rattle.text.proofs.TextLaws.{decimal-low, decimal-more, decimal-none, hex-length, hex-more, hex-none}

@@ -6,7 +6,7 @@ use native.Mathlib.Numerals.{add-one}
 use native.Mathlib.Omega.{arith}
 use lib.ListN.{drop, length, length-append, length-drop, set, take, take-append-drop}
 use lib.Seq.{drop-at, drop-drop, length-take-le, set-split, take-at}
-use Rattle.opening.specs.Rows.{putAt}
+use Rattle.common.specs.Rows.{putAt}
 
 -- nothing put changes nothing
 pub put-none : (o : List ℕ) (at : ℕ) → o ≡ putAt o at []

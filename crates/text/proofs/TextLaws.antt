@@ -1,6 +1,6 @@
 -- The digits of a number: how many there are, and that they say it.
 use Prim.Native.Nat.{ℕ, zero, suc, _+_, _-_, _*_, _/_, _%_, _^_, _≤_, _<_}
-use mathlib.Core.Bool.{Bool, true, false}
+use mathlib.Core.Bool.{Bool, true, false, cond}
 use mathlib.Core.Path.{_≡_, refl, sym, ap, _∙_}
 use mathlib.Core.List.{List, [], _∷_, _++_, append-assoc}
 use native.Mathlib.Nat.{div-add-mod, div-lt-iff-lt-mul}
@@ -9,7 +9,7 @@ use native.Mathlib.Omega.{arith}
 use borrow.Author.Tests.{le-ltb, lt-ltb, ltb-true, ltb-false}
 use lib.Dec.{ltb}
 use lib.ListN.{length, length-append}
-use Rattle.text.specs.Text.{decimal, decimalUpTo, hex, hexDigit, pick, readDecimal}
+use Rattle.text.specs.Text.{decimal, decimalUpTo, hex, hexDigit, readDecimal}
 
 -- ---- a step of each definition, as the code has it
 
@@ -44,7 +44,7 @@ decimal-most zero n = omega arith
 decimal-most (suc k) n = go (ltb n 10) (decimal-most k (n / 10))
   where
     go : (b : Bool) → length (decimalUpTo k (n / 10)) ≤ k
-        → length (pick b ((48 + n) ∷ []) (decimalUpTo k (n / 10) ++ ((48 + n % 10) ∷ []))) ≤ suc k
+        → length (cond b ((48 + n) ∷ []) (decimalUpTo k (n / 10) ++ ((48 + n % 10) ∷ []))) ≤ suc k
     go true h = omega arith
     go false h = simp length-append (omega arith)
 
@@ -77,7 +77,7 @@ reads-up-to (suc k) n h = go (ltb n 10) refl (reads-up-to k (n / 10) tenth)
     tenth = div-lt-iff-lt-mul {k = 10} {x = n} {y = 10 ^ k} (omega arith) .1 ten
 
     go : (b : Bool) → ltb n 10 ≡ b → readDecimal (decimalUpTo k (n / 10)) 0 ≡ n / 10
-        → readDecimal (pick b ((48 + n) ∷ []) (decimalUpTo k (n / 10) ++ ((48 + n % 10) ∷ []))) 0 ≡ n
+        → readDecimal (cond b ((48 + n) ∷ []) (decimalUpTo k (n / 10) ++ ((48 + n % 10) ∷ []))) 0 ≡ n
     go true e rec = omega arith
     go false e rec = rw (read-append (decimalUpTo k (n / 10)) ((48 + n % 10) ∷ []) 0, rec) (omega (arith, div-add-mod n 10))
 

@@ -1,17 +1,13 @@
 -- Numbers as text, in the bytes of ASCII, and lines one after the other.
 use Prim.Native.Nat.{ℕ, zero, suc, _+_, _*_, _/_, _%_, _-_}
-use mathlib.Core.Bool.{Bool, true, false}
+use mathlib.Core.Bool.{Bool, true, false, cond}
 use mathlib.Core.List.{List, [], _∷_, _++_}
 use lib.Dec.{ltb}
-
-abbrev pub pick : {A : Type 0} → Bool → A → A → A
-pick true a b = a
-pick false a b = b
 
 -- the digits of n, at most so many: those of a tenth and then the last, "0" for 0
 unfoldable pub decimalUpTo : ℕ → ℕ → List ℕ
 decimalUpTo zero n = []
-decimalUpTo (suc most) n = pick (ltb n 10) ((48 + n) ∷ []) (decimalUpTo most (n / 10) ++ ((48 + n % 10) ∷ []))
+decimalUpTo (suc most) n = cond (ltb n 10) ((48 + n) ∷ []) (decimalUpTo most (n / 10) ++ ((48 + n % 10) ∷ []))
 
 -- twenty digits are enough for every number below 2 ^ 64
 unfoldable pub decimal : ℕ → List ℕ
@@ -19,7 +15,7 @@ decimal n = decimalUpTo 20 n
 
 -- 0 to 9, then a to f
 abbrev pub hexDigit : ℕ → ℕ
-hexDigit n = pick (ltb n 10) (48 + n) (87 + n)
+hexDigit n = cond (ltb n 10) (48 + n) (87 + n)
 
 -- the last so many hexadecimal digits of n
 unfoldable pub hex : ℕ → ℕ → List ℕ
@@ -37,4 +33,4 @@ linesTo lines zero = []
 linesTo lines (suc n) = linesTo lines n ++ lines n
 
 abbrev pub onlyIf : Bool → List ℕ → List ℕ
-onlyIf shown lines = pick shown lines []
+onlyIf shown lines = cond shown lines []

@@ -3,7 +3,7 @@ ghost use mathlib.Core.Path.{_≡_};
 ghost use mathlib.Core.List.{[], _∷_};
 ghost use Prim.Native.Nat.{_+_, _≤_, _<_};
 ghost use lib.ListN.{length};
-ghost use Rattle.opening.specs.Rows.{putAt};
+ghost use Rattle.common.specs.Rows.{putAt};
 ghost use Rattle.text.specs.Text.{decimal, decimalUpTo, hex, hexDigit};
 
 // As many digits as any u64 has.

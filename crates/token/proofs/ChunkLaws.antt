@@ -11,8 +11,8 @@ use borrow.Author.Tests.{eq-eqb, le-leb, lt-leb, ne-eqb}
 use lib.ListN.{drop, length, length-set, set, take}
 use lib.Seq.{length-take-le, take-all, take-suc-set}
 use Rattle.token.specs.declared.chunks.ChunkLengths.{ChunkLengths}
-use Rattle.token.specs.declared.request.EndpointType.{EndpointType}
-use Rattle.token.specs.declared.request.EndpointType.the-variants.{Control, Isochronous, Bulk, Interrupt}
+use Rattle.common.specs.declared.kinds.EndpointType.{EndpointType}
+use Rattle.common.specs.declared.kinds.EndpointType.the-variants.{Control, Isochronous, Bulk, Interrupt}
 use Rattle.token.specs.Chunks.{chunkAt, chunkCount, chunkLengths, chunksFrom, needOf, sumOf, zeros}
 
 pub count-empty : (L C : ℕ) → L ≡ 0 → chunkCount L C ≡ 1

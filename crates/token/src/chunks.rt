@@ -4,7 +4,7 @@ ghost use Prim.Native.Nat.{_≤_};
 ghost use lib.ListN.{length as len};
 ghost use Rattle.token.specs.Chunks.{chunkCount, chunkLengths, chunksFrom, needOf, zeros};
 use crate::qtd::least;
-use crate::request::EndpointType;
+use common::kinds::EndpointType;
 
 // The most chunks that a run holds: the largest pool.
 pub const CHUNKS_MAX: u64 = 256;

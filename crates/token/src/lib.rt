@@ -3,4 +3,3 @@ pub mod chunks;
 pub mod plan;
 pub mod port;
 pub mod qtd;
-pub mod request;

@@ -4,7 +4,7 @@ ghost use lib.Dec.{eqb};
 ghost use Rattle.token.specs.Plans.{pidFor, statusPid, controlPlan, chunkToken};
 use crate::qtd::QtdPid;
 use crate::qtd::QtdToken;
-use crate::request::Direction;
+use common::kinds::Direction;
 
 // The data stage, which a control request may lack.
 pub enum DataTd {

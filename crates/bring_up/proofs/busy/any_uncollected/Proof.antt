@@ -1,6 +1,6 @@
+use mathlib.Core.Bool.{_||_}
 use Rattle.bring_up.proofs.Cases.{busy-turn, busy-done}
 use Rattle.bring_up.specs.BringUp.{anyUncollected}
-use Rattle.settings.specs.Tests.{either}
 use native.Mathlib.Omega.{arith}
 use mathlib.Core.Path.{_≡_, refl, _∙_}
 use Prim.Native.Nat.{_≤_, _-_}
@@ -9,7 +9,7 @@ use Rattle.bring_up.proofs.busy.any_uncollected.Statement.{statement}
 use Rattle.bring_up.proofs.busy.any_uncollected.Tie as tie
 
 abbrev Inv-loop : tie.InvT-loop
-Inv-loop s busy₀ k₀ busy k = (k ≤ 32) × (either busy (anyUncollected k (32 - k) s) ≡ anyUncollected 0 32 s)
+Inv-loop s busy₀ k₀ busy k = (k ≤ 32) × ((busy || anyUncollected k (32 - k) s) ≡ anyUncollected 0 32 s)
 
 abbrev μ-loop : tie.MeasureT-loop
 μ-loop s busy₀ k₀ busy k = 32 - k

@@ -1,4 +1,4 @@
-use Rattle.opening.specs.Rows.{putAt}
+use Rattle.common.specs.Rows.{putAt}
 use Rattle.call_log.specs.Lines.{partsBytes}
 use Rattle.call_log.proofs.LineCases.{parts-most, parts-none, parts-turn}
 use Prim.Native.Nat.{_+_, _-_, _*_, _≤_}

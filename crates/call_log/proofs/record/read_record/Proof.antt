@@ -14,7 +14,7 @@ judge-requires : tie.Need-judge-requires
 judge-requires c κs = search needs
 
 returns-2 : tie.Need-returns-2
-returns-2 c = entry-whole _ _ _ (omega arith) (c .before .decode .ensures) (c .judge .ensures)
+returns-2 c = entry-whole _ _ _ (omega arith) (c .before .decode .ensures) (c .entry_from .ensures)
 
 pub read-record-spec : {M : Type 1} → statement M
 read-record-spec = tie.close (tie.spec returns decode-requires judge-requires returns-2)

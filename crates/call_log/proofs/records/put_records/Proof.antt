@@ -1,4 +1,4 @@
-use Rattle.opening.specs.Rows.{putAt}
+use Rattle.common.specs.Rows.{putAt}
 use Rattle.text.specs.Text.{linesTo}
 use Rattle.text.proofs.LineLaws.{lines-most, lines-none, lines-turn}
 use Prim.Native.Nat.{ℕ, _+_, _-_, _*_, _≤_}

@@ -1,7 +1,6 @@
 use Prim.Native.Nat.{_+_}
-use mathlib.Core.Bool.{not}
+use mathlib.Core.Bool.{not, _||_}
 use lib.Dec.{eqb}
-use Rattle.settings.specs.Tests.{either}
 use Rattle.call_log.specs.Changes.{portChange}
 use Rattle.call_log.specs.Lines.{portLine}
 use Rattle.call_log.proofs.ChangeCases.{line-shown}
@@ -31,14 +30,14 @@ returns c =
     let a = c .before .before .before .before .before .before .before .args in
     let h = c .before .before .before .before .port-line in
     let p = c .before .before .put-line in
-    line-shown (a .out .now) (a .at) (either (a .opening) (not (eqb (a .before) (a .after)))) (portLine (a .i + 1) (a .after)) (p .last .0) (p .result) (h .result)
+    line-shown (a .out .now) (a .at) (a .opening || not (eqb (a .before) (a .after))) (portLine (a .i + 1) (a .after)) (p .last .0) (p .result) (h .result)
     (c .before .before .before .before .before .if1 .taken) (h .ensures) (p .ensures .0) (p .ensures .1)
 
 returns-2 : tie.Need-returns-2
 unfolding portChange
 returns-2 c =
     let a = c .before .before .args in
-    hidden (a .out .now) (a .at) (either (a .opening) (not (eqb (a .before) (a .after)))) (portLine (a .i + 1) (a .after)) (c .if1 .left)
+    hidden (a .out .now) (a .at) (a .opening || not (eqb (a .before) (a .after))) (portLine (a .i + 1) (a .after)) (c .if1 .left)
 
 pub put-port-spec : {M : Type 1} → statement M
 put-port-spec =

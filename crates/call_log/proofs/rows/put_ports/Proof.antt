@@ -5,7 +5,7 @@ use mathlib.Core.Path.{_≡_, refl, _∙_}
 use native.Mathlib.Omega.{arith}
 use borrow.Author.Needs.{needs}
 use lib.ListN.{getD, length}
-use Rattle.opening.specs.Rows.{putAt}
+use Rattle.common.specs.Rows.{putAt}
 use Rattle.text.specs.Text.{linesTo}
 use Rattle.text.proofs.LineLaws.{lines-most, lines-none, lines-turn}
 use Rattle.call_log.specs.Changes.{portChange}

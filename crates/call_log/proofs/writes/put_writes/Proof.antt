@@ -4,7 +4,7 @@ use mathlib.Core.Path.{_≡_, refl, ap, _∙_}
 use native.Mathlib.Omega.{arith}
 use borrow.Author.Needs.{needs}
 use lib.ListN.{getD, length, length-take}
-use Rattle.opening.specs.Rows.{putAt}
+use Rattle.common.specs.Rows.{putAt}
 use Rattle.register.specs.Writes.{listOf, writeOf}
 use Rattle.register.specs.declared.writes.Write.{Write}
 use Rattle.text.specs.Text.{linesTo}

@@ -1,6 +1,5 @@
-use Rattle.ehci.proofs.Cases.{asks-slot}
+use Rattle.ehci.proofs.Cases.{asks-slot, asks-nothing}
 use mathlib.Core.Path.{refl}
-use Rattle.ehci.proofs.Cases.{asks-nothing}
 use Rattle.ehci.specs.Decides.{asksOf}
 use borrow.Author.Needs.{needs}
 use Rattle.ehci.proofs.decide.asks.Statement.{statement}

@@ -3,8 +3,8 @@ use borrow.Author.Needs.{needs}
 use Rattle.job_run.proofs.run.run.Statement.{statement}
 use Rattle.job_run.proofs.run.run.Tie as tie
 
-running-world-requires : tie.Need-running-world-requires
-running-world-requires c κs = search needs
+running-store-requires : tie.Need-running-store-requires
+running-store-requires c κs = search needs
 
 open-all-requires : tie.Need-open-all-requires
 open-all-requires c κs = search needs
@@ -13,8 +13,8 @@ submit-all-requires : tie.Need-submit-all-requires
 submit-all-requires c κs = search needs
 
 returns : tie.Need-returns
-returns c = run-is _ _ _ _ (c .before .before .running-world .ensures) (c .before .open-all .ensures) (c .submit-all .ensures)
+returns c = run-is _ _ _ _ (c .before .before .running-store .ensures) (c .before .open-all .ensures) (c .submit-all .ensures)
 
 pub run-spec : {M : Type 1} → statement M
 run-spec =
-    tie.close (tie.spec running-world-requires open-all-requires submit-all-requires returns)
+    tie.close (tie.spec running-store-requires open-all-requires submit-all-requires returns)

@@ -3,14 +3,14 @@ use borrow.Author.Needs.{needs}
 use Rattle.replayer.proofs.keeper.fresh_keeper.Statement.{statement}
 use Rattle.replayer.proofs.keeper.fresh_keeper.Tie as tie
 
-blank-world-requires : tie.Need-blank-world-requires
-blank-world-requires c κs = search needs
+blank-store-requires : tie.Need-blank-store-requires
+blank-store-requires c κs = search needs
 
 new-requires : tie.Need-new-requires
 new-requires c κs = search needs
 
 returns : tie.Need-returns
-returns c = fresh-kept _ _ (c .before .blank-world .ensures) (c .new .ensures)
+returns c = fresh-kept _ _ (c .before .blank-store .ensures) (c .new .ensures)
 
 pub fresh-keeper-spec : {M : Type 1} → statement M
-fresh-keeper-spec = tie.close (tie.spec blank-world-requires new-requires returns)
+fresh-keeper-spec = tie.close (tie.spec blank-store-requires new-requires returns)

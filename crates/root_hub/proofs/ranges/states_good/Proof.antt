@@ -1,6 +1,6 @@
+use mathlib.Core.Bool.{_&&_}
 use Rattle.root_hub.proofs.Cases.{ports-turn, ports-done}
 use Rattle.root_hub.specs.Ranges.{statesGood}
-use Rattle.settings.specs.Tests.{both}
 use native.Mathlib.Omega.{arith}
 use mathlib.Core.Path.{_≡_, refl, _∙_}
 use Prim.Native.Nat.{_≤_, _-_}
@@ -9,7 +9,7 @@ use Rattle.root_hub.proofs.ranges.states_good.Statement.{statement}
 use Rattle.root_hub.proofs.ranges.states_good.Tie as tie
 
 abbrev Inv-loop : tie.InvT-loop
-Inv-loop hub good₀ k₀ good k = (k ≤ 15) × (both good (statesGood k (15 - k) hub) ≡ statesGood 0 15 hub)
+Inv-loop hub good₀ k₀ good k = (k ≤ 15) × ((good && statesGood k (15 - k) hub) ≡ statesGood 0 15 hub)
 
 abbrev μ-loop : tie.MeasureT-loop
 μ-loop hub good₀ k₀ good k = 15 - k

@@ -1,7 +1,7 @@
+use mathlib.Core.Bool.{_&&_}
 use Rattle.state.specs.Slots.{slotAt}
 use Rattle.state.proofs.RangesCases.{slots-turn, slots-done}
 use Rattle.state.specs.Ranges.{slotsGood}
-use Rattle.settings.specs.Tests.{both}
 use native.Mathlib.Omega.{arith}
 use mathlib.Core.Path.{_≡_, refl, _∙_}
 use Prim.Native.Nat.{_≤_, _-_}
@@ -10,7 +10,7 @@ use Rattle.state.proofs.ranges.slots_good.Statement.{statement}
 use Rattle.state.proofs.ranges.slots_good.Tie as tie
 
 abbrev Inv-loop : tie.InvT-loop
-Inv-loop s good₀ k₀ good k = (k ≤ 32) × (both good (slotsGood k (32 - k) s) ≡ slotsGood 0 32 s)
+Inv-loop s good₀ k₀ good k = (k ≤ 32) × ((good && slotsGood k (32 - k) s) ≡ slotsGood 0 32 s)
 
 abbrev μ-loop : tie.MeasureT-loop
 μ-loop s good₀ k₀ good k = 32 - k

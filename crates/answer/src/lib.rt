@@ -1,2 +1,0 @@
-// The answers of calls and their numbers.
-pub mod answer;

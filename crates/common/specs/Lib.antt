@@ -1,0 +1,4 @@
+pub mod Tests
+pub mod Kinds
+pub mod Answers
+pub mod Rows

@@ -1,0 +1,19 @@
+use Rattle.pipe.proofs.EndpointCases.{at-slot, at-none}
+use borrow.Author.Needs.{needs}
+use Rattle.pipe.proofs.endpoints.endpoint_at.Statement.{statement}
+use Rattle.pipe.proofs.endpoints.endpoint_at.Tie as tie
+
+slot-at-requires : tie.Need-slot-at-requires
+slot-at-requires c κs = search needs
+
+decode-requires : tie.Need-decode-requires
+decode-requires c κs = search needs
+
+returns : tie.Need-returns
+returns c = search at-slot
+
+returns-2 : tie.Need-returns-2
+returns-2 c = search at-none
+
+pub endpoint-at-spec : {M : Type 1} → statement M
+endpoint-at-spec = tie.close (tie.spec slot-at-requires decode-requires returns returns-2)

@@ -1,0 +1,20 @@
+use borrow.Author.Needs.{needs}
+use Rattle.pipe.proofs.endpoints.slot_with.Statement.{statement}
+use Rattle.pipe.proofs.endpoints.slot_with.Tie as tie
+
+kind-number-requires : tie.Need-kind-number-requires
+kind-number-requires c κs = search needs
+
+direction-number-requires : tie.Need-direction-number-requires
+direction-number-requires c κs = search needs
+
+flag-number-requires : tie.Need-flag-number-requires
+flag-number-requires c κs = search needs
+
+returns : tie.Need-returns
+returns c = rw (c .before .before .kind-number .ensures, c .before .direction-number .ensures, c .flag-number .ensures)
+
+pub slot-with-spec : {M : Type 1} → statement M
+slot-with-spec =
+    tie.close
+    (tie.spec kind-number-requires direction-number-requires flag-number-requires returns)

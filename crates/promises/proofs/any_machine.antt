@@ -1,0 +1,7 @@
+-- What follows for any machine from a few facts of it.
+pub mod Pictures
+pub mod Boundary
+pub mod Once
+pub mod Waits
+pub mod Numbers
+pub mod BoundaryExact

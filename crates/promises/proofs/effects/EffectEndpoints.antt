@@ -1,0 +1,145 @@
+-- Open endpoint, close, set address, set packet size.
+use Prim.Native.Nat.{ℕ, _+_}
+use mathlib.Core.Bool.{true, false}
+use mathlib.Core.List.{List}
+use mathlib.Core.Path.{_≡_, refl, sym}
+use lib.Dec.{leb}
+use lib.ListN.{length, replicate}
+use Rattle.register.specs.Writes.{noWrites}
+use Rattle.descriptor.specs.Heads.{withAddress, withPacketSize}
+use Rattle.common.proofs.TestLaws.{false-true}
+use Rattle.state.specs.declared.state.Ehci.{Ehci}
+use Rattle.common.specs.declared.answer.Refusal.the-variants.{InvalidParameter}
+use Rattle.pipe.specs.Endpoints.{endpointAt, withEndpoint}
+use Rattle.pipe.specs.declared.endpoints.Endpoint.{Endpoint}
+use Rattle.pipe.specs.declared.endpoints.Endpoint.the-variants.{Closed, Idle, Linked, Unlinking}
+use Rattle.pipe.specs.declared.endpoints.Pipe.{Pipe}
+use Rattle.opening.specs.Heads.{headWord, withHeadWord}
+use Rattle.controller.specs.Readers.{hasEndpoint, holdsRequest}
+use Rattle.endpoint.specs.Calls.{ChangeLeft, closeOf, setAddressOf, setPacketSizeOf, withHead}
+use Rattle.endpoint.proofs.ChangeLaws.{Changes, change-by}
+use Rattle.endpoint.proofs.OpenLaws.{open-by}
+use Rattle.ehci.specs.declared.call.Call.{Call}
+use Rattle.ehci.specs.declared.call.Call.the-variants.{Close, OpenEndpoint, SetAddress, SetPacketSize}
+use Rattle.ehci.specs.declared.call.EndpointFields.{EndpointFields}
+use Rattle.ehci.specs.Decides.{addressDecided, changeCame, closeDecided, openCame, openDecided, packetDecided, withFrames}
+use Rattle.ehci.specs.Door.{carriedOut}
+use Rattle.ehci.specs.Replies.{changedReply, replied}
+use Rattle.promises.specs.Runs.{World, core}
+use Rattle.promises.proofs.effects.Effects.{Effect, closes, opens, rewrites}
+use Rattle.promises.proofs.effects.EffectDoor.{refused-still, rows-kept, through}
+
+-- an open slot that has no request is idle
+pub record IsIdle (x : Endpoint) : Type 0 where
+  pub pipe : Pipe
+  pub is : x ≡ Idle pipe
+
+pub idle-slot : (x : Endpoint) → hasEndpoint x ≡ true → holdsRequest x ≡ false → IsIdle x
+idle-slot Closed e f = absurd (false-true e)
+idle-slot (Idle p) e f = record { pipe = p; is = refl }
+idle-slot (Linked p r) e f = absurd (false-true (sym f))
+idle-slot (Unlinking p r b) e f = absurd (false-true (sym f))
+
+module _ (w : World) where
+  abbrev s : Ehci
+  s = w .state
+
+  abbrev n : ℕ
+  n = length (w .rows .pool)
+
+  abbrev hs : List ℕ
+  hs = w .rows .heads
+
+  abbrev f : ℕ
+  f = length (w .rows .frames)
+
+  abbrev u : ℕ
+  u = length (w .rows .setups)
+
+  pub open-effect : (x : EndpointFields) → Effect w (OpenEndpoint x) (core w (OpenEndpoint x))
+  unfolding openDecided replied noWrites
+  open-effect x =
+      through w (OpenEndpoint x) (refused-still w (OpenEndpoint x) InvalidParameter refl refl)
+      (open-by s n hs f u (x .kind) (x .address) (x .number) (x .packet)
+      (λ o. Effect w (OpenEndpoint x) (carriedOut (withFrames (openCame o) (w .rows .frames) (w .rows .setups)) (w .rows .pool)))
+      (λ r. refused-still w (OpenEndpoint x) r refl refl)
+      (λ k from. opens
+      (record {
+        k = k;
+        kind = x .kind;
+        address = x .address;
+        endpoint = x .number;
+        packet = x .packet;
+        below = from .below;
+        closed = from .was-closed;
+        never = from .never;
+        state-is = refl;
+        rows-are = rows-kept w (OpenEndpoint x) _ (w .rows .frames) (w .rows .setups);
+        silent = refl;
+        nothing = refl;
+        changes = refl;
+      })))
+
+  abbrev Changed : Call → ChangeLeft → Type 0
+  Changed c o = Effect w c (carriedOut (withFrames (changeCame o) (w .rows .frames) (w .rows .setups)) (w .rows .pool))
+
+  idle-of : (k : ℕ) → Changes s n hs f u k → IsIdle (endpointAt s k)
+  idle-of k from = idle-slot (endpointAt s k) (from .is-open) (from .is-idle)
+
+  pub close-effect : (k : ℕ) → Effect w (Close k) (core w (Close k))
+  unfolding closeDecided closeOf changedReply replied noWrites
+  close-effect k =
+      through w (Close k) (refused-still w (Close k) InvalidParameter refl refl)
+      (change-by s n hs f u k true (withEndpoint s k Closed) (withHead hs k (replicate 17 0)) (Changed (Close k))
+      (λ r. refused-still w (Close k) r refl refl)
+      (λ from g. closes
+      (record {
+        k = k;
+        p = idle-of k from .pipe;
+        idle = idle-of k from .is;
+        state-is = refl;
+        rows-are = rows-kept w (Close k) _ (w .rows .frames) (w .rows .setups);
+        silent = refl;
+        nothing = refl;
+        changes = refl;
+      })))
+
+  pub address-effect : (k a : ℕ) → Effect w (SetAddress k a) (core w (SetAddress k a))
+  unfolding addressDecided setAddressOf changedReply replied noWrites
+  address-effect k a =
+      let word = withAddress (headWord hs (k + 1) 1) a in
+      through w (SetAddress k a) (refused-still w (SetAddress k a) InvalidParameter refl refl)
+      (change-by s n hs f u k (leb a 127) s (withHeadWord hs (k + 1) 1 word) (Changed (SetAddress k a))
+      (λ r. refused-still w (SetAddress k a) r refl refl)
+      (λ from g. rewrites
+      (record {
+        k = k;
+        p = idle-of k from .pipe;
+        word = word;
+        idle = idle-of k from .is;
+        state-is = refl;
+        rows-are = rows-kept w (SetAddress k a) _ (w .rows .frames) (w .rows .setups);
+        silent = refl;
+        nothing = refl;
+        same = refl;
+      })))
+
+  pub size-effect : (k size : ℕ) → Effect w (SetPacketSize k size) (core w (SetPacketSize k size))
+  unfolding packetDecided setPacketSizeOf changedReply replied noWrites
+  size-effect k size =
+      let word = withPacketSize (headWord hs (k + 1) 1) size in
+      through w (SetPacketSize k size) (refused-still w (SetPacketSize k size) InvalidParameter refl refl)
+      (change-by s n hs f u k true s (withHeadWord hs (k + 1) 1 word) (Changed (SetPacketSize k size))
+      (λ r. refused-still w (SetPacketSize k size) r refl refl)
+      (λ from g. rewrites
+      (record {
+        k = k;
+        p = idle-of k from .pipe;
+        word = word;
+        idle = idle-of k from .is;
+        state-is = refl;
+        rows-are = rows-kept w (SetPacketSize k size) _ (w .rows .frames) (w .rows .setups);
+        silent = refl;
+        nothing = refl;
+        same = refl;
+      })))

@@ -1,0 +1,60 @@
+-- What is seen of a slot's endpoint, but for its boundary, as the state changes: who is in it, its kind, whether it holds a request.
+use Prim.Native.Nat.{ℕ, _<_}
+use mathlib.Core.Bool.{Bool, true, false}
+use mathlib.Core.List.{List}
+use mathlib.Core.Path.{_≡_, refl, sym, ap, _∙_}
+use native.Mathlib.Decide.{ℕ-discrete as decEq}
+use borrow.Author.Tests.{lt-ltb}
+use lib.Dec.{eqb, ltb}
+use Rattle.state.specs.Slots.{slotAt}
+use Rattle.state.specs.State.{withBell, withBoundaries}
+use Rattle.state.specs.declared.state.Ehci.{Ehci}
+use Rattle.pipe.specs.Endpoints.{decoded, encoded, endpointAt, withEndpoint}
+use Rattle.pipe.specs.declared.endpoints.Endpoint.{Endpoint}
+use Rattle.pipe.specs.declared.endpoints.Endpoint.the-variants.{Unlinking}
+use Rattle.pipe.specs.declared.endpoints.Pipe.{Pipe}
+use Rattle.pipe.specs.declared.endpoints.Request.{Request}
+use Rattle.pipe.specs.declared.endpoints.UnlinkBoundary.{UnlinkBoundary}
+use Rattle.pipe.proofs.EndpointLaws.{Wide, endpoint-other, slot-same}
+use Rattle.promises.proofs.effects.Effects.{Sides, besides}
+
+module _ {A : Type 0} (view : Endpoint → A) where
+  abbrev viewAt : Ehci → ℕ → A
+  viewAt s k = view (endpointAt s k)
+
+  -- what stands beside and the bell say nothing of it
+  pub view-besides : (s : Ehci) (x : Sides) (j : ℕ) → viewAt (besides s x) j ≡ viewAt s j
+  unfolding endpointAt slotAt
+  view-besides s x j = refl
+
+  pub view-bell : (s : Ehci) (n d u j : ℕ) → viewAt (withBell s n d u) j ≡ viewAt s j
+  unfolding endpointAt slotAt withBell
+  view-bell s n d u j = refl
+
+  -- nor do the boundaries
+  pub view-boundaries : ((p : Pipe) (r : Request) (b c : UnlinkBoundary) → view (Unlinking p r b) ≡ view (Unlinking p r c)) → (s : Ehci) (l : List ℕ) (j : ℕ)
+      → viewAt (withBoundaries s l) j ≡ viewAt s j
+  unfolding endpointAt slotAt withBoundaries decoded
+  view-boundaries alike s l j = by (ltb j 32) refl (eqb (slotAt s j .phase) 1) refl (eqb (slotAt s j .phase) 2) refl (eqb (slotAt s j .phase) 3) refl
+    where
+      by : (a : Bool) → ltb j 32 ≡ a → (x : Bool) → eqb (slotAt s j .phase) 1 ≡ x → (y : Bool) → eqb (slotAt s j .phase) 2 ≡ y → (z : Bool) → eqb (slotAt s j .phase) 3 ≡ z
+          → viewAt (withBoundaries s l) j ≡ viewAt s j
+      by false a x p y q z r = rw a
+      by true a true p y q z r = rw (a, p)
+      by true a false p true q z r = rw (a, p, q)
+      by true a false p false q true r = rw (a, p, q, r) (alike _ _ _ _)
+      by true a false p false q false r = rw (a, p, q, r)
+
+  -- slot k is given an endpoint
+  module _ (back : (x : Endpoint) → view (decoded (encoded x)) ≡ view x) (s : Ehci) (k : ℕ) (x : Endpoint) (w : Wide s) (low : k < 32) where
+    pub view-same : viewAt (withEndpoint s k x) k ≡ view x
+    unfolding endpointAt withEndpoint
+    view-same = rw (lt-ltb k 32 low, slot-same s k (encoded x) w low) (back x)
+
+    -- of which the same is seen
+    pub view-stays : view x ≡ viewAt s k → (j : ℕ) → viewAt (withEndpoint s k x) j ≡ viewAt s j
+    view-stays e j = by (decEq j k)
+      where
+        by : Dec (j ≡ k) → viewAt (withEndpoint s k x) j ≡ viewAt s j
+        by (yes q) = ap (viewAt (withEndpoint s k x)) q ∙ view-same ∙ e ∙ ap (viewAt s) (sym q)
+        by (no ne) = ap view (endpoint-other s k x j ne)

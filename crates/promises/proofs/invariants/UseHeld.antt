@@ -1,0 +1,84 @@
+-- The tie between uses and world holds of an opening, and every call keeps it.
+use Prim.Native.Nat.{ℕ, zero, suc, _+_}
+use mathlib.Core.Path.{_≡_, refl, sym, ap, subst}
+use mathlib.Core.Bool.{Bool, true, false}
+use mathlib.Core.List.{[], _∷_}
+use native.Mathlib.Omega.{arith}
+use borrow.Author.Tests.{ltb-false, ltb-true, ne-eqb}
+use lib.Dec.{ltb}
+use lib.ListN.{replicate, take}
+use Rattle.pool.specs.Places.{countOf}
+use Rattle.pool.proofs.PlaceLaws.{places-none}
+use Rattle.settings.specs.Settings.{settingsGood}
+use Rattle.settings.specs.declared.settings.Settings.{Settings}
+use Rattle.pipe.specs.Endpoints.{bareSlot, endpointAt}
+use Rattle.pipe.specs.declared.endpoints.Endpoint.the-variants.{Closed}
+use Rattle.pipe.proofs.EndpointCases.{at-none, at-slot, decode-closed}
+use Rattle.opening.specs.Opening.{freshState}
+use Rattle.opening.proofs.OpenLaws.{fresh-slot}
+use Rattle.controller.specs.Readers.{freeCount}
+use Rattle.controller.proofs.FreeLaws.{fresh-free, zeros-are}
+use Rattle.ehci.specs.declared.call.Call.{Call}
+use Rattle.ehci.specs.Door.{Applied}
+use Rattle.promises.specs.Runs.{History, Opening, Rows, World, leftBy, turnOf}
+use Rattle.promises.specs.Uses.{uses}
+use Rattle.promises.proofs.effects.Effects.{Effect, still, hears, joins, passes, counts, opens, closes, rewrites, accepts as takes, writes-back, marks, unlinks, collects}
+use Rattle.promises.proofs.invariants.Reached.{freshRows, opening-is}
+use Rattle.promises.proofs.invariants.Sound.{Sound}
+use Rattle.promises.proofs.invariants.UseInv.{Held, HeldIn, tenantOf}
+use Rattle.promises.proofs.invariants.UseSteps.{closes-held, counts-held, hears-held, joins-held, marks-held, opens-held, passes-held, rewrites-held, still-held, unlinks-held, writes-back-held}
+use Rattle.promises.proofs.invariants.UseAccepts.{accepts-held}
+use Rattle.promises.proofs.invariants.UseCollects.{collects-held}
+
+-- ---- an opening
+
+pub fresh-closed : (s : Settings) (k : ℕ) → endpointAt (freshState s) k ≡ Closed
+fresh-closed s k = by (ltb k 32) refl
+  where
+    by : (b : Bool) → ltb k 32 ≡ b → endpointAt (freshState s) k ≡ Closed
+    by true e =
+        sym (at-slot (freshState s) k (bareSlot 0 0 1) Closed (ltb-true k 32 e) (sym (fresh-slot s k (ltb-true k 32 e)))
+        (decode-closed (bareSlot 0 0 1) (λ q. omega (arith, q)) (λ q. omega (arith, q)) (λ q. omega (arith, q))))
+    by false e = sym (at-none (freshState s) k (ltb-false k 32 e))
+
+none-held : (n d k : ℕ) → countOf (k + 1) (take d (replicate n 0)) ≡ 0
+unfolding countOf
+none-held n zero k = refl
+none-held zero (suc d) k = refl
+none-held (suc n) (suc d) k = rw (ne-eqb 0 (k + 1) (λ e. omega (arith, e))) (omega (arith, none-held n d k))
+
+pub fresh-held : (s : Settings) (rows : Rows) → settingsGood s ≡ true → HeldIn s [] (record { state = freshState s; rows = rows })
+unfolding freeCount freshState
+fresh-held s rows good =
+    record {
+      each = tt;
+      apart = tt;
+      rest = λ k e. (ap tenantOf (fresh-closed s k), places-none 0 (take (s .descriptors) (replicate 256 0)) (k + 1) 256 (none-held 256 (s .descriptors) k));
+      room = omega (arith, zeros-are (take (s .descriptors) (replicate 256 0)), fresh-free s good);
+    }
+
+pub held-opens : (s : Settings) (w : World) → Opening s w → Held s [] w
+unfolding uses
+held-opens s w o = let is = opening-is s w o in subst (λ (v : World). HeldIn s [] v) (sym (is .1)) (fresh-held s (freshRows s) (is .0))
+
+-- ---- any call
+
+keeps-here : (w : World) (c : Call) (a : Applied) (h : History) → Sound (w .state .settings) w → Held (w .state .settings) h w → Effect w c a
+    → Held (w .state .settings) (turnOf (w .rows) c a ∷ h) (leftBy a)
+keeps-here w c a h sound held (still x) = still-held w c a h x held
+keeps-here w c a h sound held (hears x) = hears-held w c a h x held
+keeps-here w c a h sound held (joins x) = joins-held w c a h x held
+keeps-here w c a h sound held (passes x) = passes-held w c a h x held
+keeps-here w c a h sound held (counts x) = counts-held w c a h x held
+keeps-here w c a h sound held (opens x) = opens-held w c a h sound x held
+keeps-here w c a h sound held (closes x) = closes-held w c a h sound x held
+keeps-here w c a h sound held (rewrites x) = rewrites-held w c a h sound x held
+keeps-here w c a h sound held (takes x) = accepts-held w c a h sound x held
+keeps-here w c a h sound held (writes-back x) = writes-back-held w c a h sound x held
+keeps-here w c a h sound held (marks x) = marks-held w c a h sound x held
+keeps-here w c a h sound held (unlinks x) = unlinks-held w c a h sound x held
+keeps-here w c a h sound held (collects x) = collects-held w c a h sound x held
+
+pub held-keeps : (s : Settings) (h : History) (w : World) (c : Call) (a : Applied) → Sound s w → Held s h w → Effect w c a → Held s (turnOf (w .rows) c a ∷ h) (leftBy a)
+held-keeps s h w c a sound =
+    subst (λ (z : Settings). Sound z w → Held z h w → Effect w c a → Held z (turnOf (w .rows) c a ∷ h) (leftBy a)) (sound .settings-are) (keeps-here w c a h) sound

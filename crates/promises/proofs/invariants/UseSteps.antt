@@ -1,0 +1,232 @@
+-- Each kind of call that neither takes nor frees a place keeps the tie between uses and world.
+use Prim.Native.Nat.{ℕ, _+_, _*_, _≤_, _<_}
+use mathlib.Core.Path.{_≡_, refl, sym, ap, subst, _∙_}
+use mathlib.Core.Logic.{⊎-elim}
+use mathlib.Core.Bool.{Bool, true, false, cond}
+use mathlib.Core.List.{List, _∷_}
+use native.Mathlib.Decide.{ℕ-discrete as decEq}
+use native.Mathlib.Omega.{arith}
+use borrow.Author.Tests.{ltb-true}
+use lib.Dec.{ltb}
+use lib.ListN.{getD, length, replicate, set, take}
+use lib.Seq.{getD-set-other, getD-set-same}
+use Rattle.common.specs.declared.kinds.EndpointType.{EndpointType}
+use Rattle.descriptor.specs.Descriptors.{terminated}
+use Rattle.descriptor.specs.Heads.{endpointHead, wordsOf}
+use Rattle.descriptor.specs.declared.qtd.QueueTransferDescriptor.{QueueTransferDescriptor}
+use Rattle.pool.specs.Chains.{blank, withToken}
+use Rattle.pool.proofs.ChainLaws.{fill-token}
+use Rattle.settings.specs.declared.settings.Settings.{Settings}
+use Rattle.common.proofs.TestLaws.{both-tells}
+use Rattle.state.specs.Slots.{withSlot}
+use Rattle.state.specs.State.{withBell, withBoundaries}
+use Rattle.state.specs.declared.state.Ehci.{Ehci}
+use Rattle.pipe.specs.Endpoints.{endpointAt, withEndpoint}
+use Rattle.pipe.specs.declared.endpoints.Endpoint.{Endpoint}
+use Rattle.pipe.specs.declared.endpoints.Endpoint.the-variants.{Closed, Idle, Linked, Unlinking}
+use Rattle.pipe.specs.declared.endpoints.Request.{Request}
+use Rattle.pipe.proofs.EndpointLaws.{bell-wide}
+use Rattle.controller.specs.Readers.{hasEndpoint}
+use Rattle.controller.proofs.ReaderLaws.{open-below, open-within}
+use Rattle.opening.proofs.HeadLaws.{other-head}
+use Rattle.common.proofs.RowLaws.{Only, put-only}
+use Rattle.endpoint.specs.Calls.{newEndpoint, withHead}
+use Rattle.schedule.specs.Bell.{bellOf}
+use Rattle.schedule.specs.Links.{detachOf, givenLink, linkWord, periodic, predecessorOf}
+use Rattle.schedule.specs.declared.links.Predecessor.{Predecessor}
+use Rattle.schedule.specs.declared.links.Predecessor.the-variants.{First, Head, Missing}
+use Rattle.request.specs.Writeback.{inRequest}
+use Rattle.collection.specs.Calls.{marked}
+use Rattle.collection.specs.Unlinks.{boundedOf, waitingOf}
+use Rattle.ehci.specs.declared.call.Call.{Call}
+use Rattle.ehci.specs.Door.{Applied}
+use Rattle.promises.specs.Runs.{History, Rows, Turn, World, leftBy, rowsOf, turnOf}
+use Rattle.promises.specs.Events.{Drains, Event, Other, Parts, Reads, Unlinks, event, leavesFrames, leavesRing, leaving}
+use Rattle.promises.specs.Uses.{Use, uses, usesAfter}
+use Rattle.promises.proofs.effects.Effects.{Closes, Counts, Hears, Joins, Marks, Opens, Passes, Rewrites, Sides, Still, Unlinked, WritesBack, besides}
+use Rattle.promises.proofs.invariants.Sound.{Sound}
+use Rattle.promises.specs.Rooms.{untold}
+use Rattle.promises.proofs.invariants.UseInv.{Held, HeldIn, Nobody, Tenant, overlayNext, tenantAt, tenantOf}
+use Rattle.promises.proofs.invariants.UseQuiet.{held-quiet}
+use Rattle.promises.proofs.invariants.UseTenants.{tenant-bell, tenant-besides, tenant-boundaries, tenant-stays}
+
+-- ---- events that leave the uses
+
+pub uses-by : (s : Settings) (t : Turn) (h : History) (e : Event) → event s t ≡ e → uses s (t ∷ h) ≡ usesAfter s t e (uses s h)
+unfolding uses
+uses-by s t h e q = ap (λ (x : Event). usesAfter s t x (uses s h)) q
+
+pub uses-leaving : (s : Settings) (t : Turn) (k frame : ℕ) (us : List Use) → usesAfter s t (leaving s k frame t) us ≡ us
+uses-leaving s t k frame us = by (leavesRing s k t) (leavesFrames s k t)
+  where
+    by : (b c : Bool) → usesAfter s t (cond b (Unlinks k) (cond c (Parts k frame) Other)) us ≡ us
+    by true c = refl
+    by false true = refl
+    by false false = refl
+
+-- ---- words and records
+
+head-length : (kind : EndpointType) (address number packet : ℕ) → length (wordsOf (endpointHead kind address number packet)) ≡ 17
+unfolding endpointHead terminated
+head-length kind address number packet = refl
+
+-- detaching writes links only
+pub detach-word : (s : Ehci) (heads frames : List ℕ) (k j : ℕ) → overlayNext (detachOf s heads frames k .rows .heads) j ≡ overlayNext heads j
+unfolding detachOf
+detach-word s heads frames k j = by (predecessorOf s heads frames k) (periodic s k)
+  where
+    by : (p : Predecessor) (b : Bool) → overlayNext (givenLink p b heads frames (linkWord heads k) .heads) j ≡ overlayNext heads j
+    by First true = refl
+    by First false = getD-set-other heads 0 (17 * (j + 1) + 4) (linkWord heads k) 0 (λ e. omega (arith, e))
+    by (Head i) b = getD-set-other heads (17 * (i + 1)) (17 * (j + 1) + 4) (linkWord heads k) 0 (λ e. omega (arith, e))
+    by Missing b = refl
+
+-- only a token changes
+pub token-written : (place token : ℕ) (rs : List QueueTransferDescriptor) → place < length rs → (p : ℕ)
+    → untold (getD (set rs place (withToken (getD rs place blank) token)) p blank) ≡ untold (getD rs p blank)
+token-written place token rs h p = by (decEq p place)
+  where
+    by : Dec (p ≡ place) → untold (getD (set rs place (withToken (getD rs place blank) token)) p blank) ≡ untold (getD rs p blank)
+    by (yes e) =
+        ap (λ (q : ℕ). untold (getD (set rs place (withToken (getD rs place blank) token)) q blank)) e
+        ∙ ap untold (getD-set-same rs place (withToken (getD rs place blank) token) blank h) ∙ ap (λ (q : ℕ). untold (getD rs q blank)) (sym e)
+    by (no ne) = ap untold (getD-set-other rs place p (withToken (getD rs place blank) token) blank ne)
+
+-- ---- the steps
+
+module _ (w : World) (c : Call) (a : Applied) (h : History) where
+  abbrev s : Settings
+  s = w .state .settings
+
+  abbrev t : Turn
+  t = turnOf (w .rows) c a
+
+  -- the uses stay, and so does all that they are tied to
+  pub quiet : uses s (t ∷ h) ≡ uses s h → a .reply .state .owner ≡ w .state .owner → ((k : ℕ) → tenantAt (a .reply .state) k ≡ tenantAt (w .state) k)
+      → ((p : ℕ) → untold (getD (rowsOf a .pool) p blank) ≡ untold (getD (w .rows .pool) p blank))
+      → ((k : ℕ) → (tenantAt (w .state) k ≡ Nobody → ⊥) → overlayNext (rowsOf a .heads) k ≡ overlayNext (w .rows .heads) k)
+      → Held s h w → Held s (t ∷ h) (leftBy a)
+  quiet same owner tenant records words held =
+      subst (λ (us : List Use). HeldIn s us (leftBy a)) (sym same)
+      (held-quiet s (w .state .owner) (a .reply .state .owner) (tenantAt (w .state)) (tenantAt (a .reply .state)) (w .rows .pool) (rowsOf a .pool) (w .rows .heads)
+      (rowsOf a .heads) (ap (λ (o : List ℕ). take (s .descriptors) o) owner) tenant records words (uses s h) held)
+
+  -- no row changes
+  rowless : uses s (t ∷ h) ≡ uses s h → a .reply .state .owner ≡ w .state .owner → ((k : ℕ) → tenantAt (a .reply .state) k ≡ tenantAt (w .state) k)
+      → rowsOf a ≡ w .rows → Held s h w → Held s (t ∷ h) (leftBy a)
+  rowless same owner tenant rows =
+      quiet same owner tenant (λ p. ap (λ (r : Rows). untold (getD (r .pool) p blank)) rows) (λ k n. ap (λ (r : Rows). overlayNext (r .heads) k) rows)
+
+  beside : (x : Sides) → a .reply .state ≡ besides (w .state) x → (k : ℕ) → tenantAt (a .reply .state) k ≡ tenantAt (w .state) k
+  beside x e k = ap (λ (y : Ehci). tenantAt y k) e ∙ tenant-besides (w .state) x k
+
+  pub still-held : Still w c a → Held s h w → Held s (t ∷ h) (leftBy a)
+  still-held x = rowless (uses-by s t h Other (x .nothing)) (ap (λ (y : Ehci). y .owner) (x .state-is)) (beside (x .sides) (x .state-is)) (x .rows-are)
+
+  pub joins-held : Joins w c a → Held s h w → Held s (t ∷ h) (leftBy a)
+  joins-held x = rowless (uses-by s t h Other (x .nothing)) (ap (λ (y : Ehci). y .owner) (x .state-is)) (beside (x .sides) (x .state-is)) (x .rows-are)
+
+  pub passes-held : Passes w c a → Held s h w → Held s (t ∷ h) (leftBy a)
+  passes-held x = rowless (uses-by s t h Drains (x .drains)) (ap (λ (y : Ehci). y .owner) (x .state-is)) (beside (x .sides) (x .state-is)) (x .rows-are)
+
+  pub hears-held : Hears w c a → Held s h w → Held s (t ∷ h) (leftBy a)
+  unfolding withBell
+  hears-held x =
+      rowless (uses-by s t h Reads (x .hears)) (ap (λ (y : Ehci). y .owner) (x .state-is))
+      (λ k. ap (λ (y : Ehci). tenantAt y k) (x .state-is) ∙ tenant-besides _ (x .sides) k ∙ tenant-bell (w .state) _ _ _ k) (x .rows-are)
+
+  pub counts-held : Counts w c a → Held s h w → Held s (t ∷ h) (leftBy a)
+  unfolding withBell withBoundaries
+  counts-held x =
+      rowless (uses-by s t h Drains (x .drains)) (ap (λ (y : Ehci). y .owner) (x .state-is))
+      (λ k. ap (λ (y : Ehci). tenantAt y k) (x .state-is) ∙ tenant-besides _ (x .sides) k ∙ tenant-boundaries _ _ k ∙ tenant-bell (w .state) _ _ _ k) (x .rows-are)
+
+  -- a slot that is open or has a request is one of 32
+  occupied : (k : ℕ) (x : Endpoint) → endpointAt (w .state) k ≡ x → hasEndpoint x ≡ true → k < 32
+  occupied k x e o = open-below (w .state) k (ap hasEndpoint e ∙ o)
+
+  -- the head of a slot without a request is written anew
+  rewritten : (k : ℕ) (words : List ℕ) → tenantAt (w .state) k ≡ Nobody → length words ≡ 17 → 17 * (k + 1) + 17 ≤ length (w .rows .heads) → (j : ℕ) → (tenantAt (w .state) j ≡ Nobody → ⊥)
+      → overlayNext (withHead (w .rows .heads) k words) j ≡ overlayNext (w .rows .heads) j
+  rewritten k words vacant long fits j n =
+      other-head k (w .rows .heads) (withHead (w .rows .heads) k words)
+      (subst (λ (m : ℕ). Only (17 * (k + 1)) m (w .rows .heads) (withHead (w .rows .heads) k words)) long (put-only (w .rows .heads) (17 * (k + 1)) words (omega (arith, long, fits))))
+      (j + 1) 4 (λ e. n (ap (tenantAt (w .state)) (one e) ∙ vacant)) (omega arith)
+    where
+      one : j + 1 ≡ k + 1 → j ≡ k
+      one e = omega (arith, e)
+
+  module _ (sound : Sound s w) where
+    pub opens-held : Opens w c a → Held s h w → Held s (t ∷ h) (leftBy a)
+    unfolding withEndpoint withSlot
+    opens-held x =
+        quiet (uses-by s t h Other (x .nothing)) (ap (λ (y : Ehci). y .owner) (x .state-is))
+        (λ j. ap (λ (y : Ehci). tenantAt y j) (x .state-is)
+        ∙ tenant-stays (w .state) (x .k) (newEndpoint (x .kind)) (sound .wide) below (sym (ap tenantOf (x .closed))) j)
+        (λ p. ap (λ (r : Rows). untold (getD (r .pool) p blank)) (x .rows-are))
+        (λ j n. ap (λ (r : Rows). overlayNext (r .heads) j) (x .rows-are)
+        ∙ rewritten (x .k) (wordsOf (endpointHead (x .kind) (x .address) (x .endpoint) (x .packet))) (ap tenantOf (x .closed)) (head-length (x .kind) (x .address) (x .endpoint) (x .packet))
+        (omega (arith, x .below, sound .heads-fit)) j n)
+      where
+        below : x .k < 32
+        below = omega (arith, x .below, sound .ranges .good .endpoints-most)
+
+    pub closes-held : Closes w c a → Held s h w → Held s (t ∷ h) (leftBy a)
+    unfolding withEndpoint withSlot
+    closes-held x =
+        quiet (uses-by s t h Other (x .nothing)) (ap (λ (y : Ehci). y .owner) (x .state-is))
+        (λ j. ap (λ (y : Ehci). tenantAt y j) (x .state-is)
+        ∙ tenant-stays (w .state) (x .k) Closed (sound .wide) (occupied (x .k) (Idle (x .p)) (x .idle) refl) (sym (ap tenantOf (x .idle))) j)
+        (λ p. ap (λ (r : Rows). untold (getD (r .pool) p blank)) (x .rows-are))
+        (λ j n. ap (λ (r : Rows). overlayNext (r .heads) j) (x .rows-are)
+        ∙ rewritten (x .k) (replicate 17 0) (ap tenantOf (x .idle)) refl (omega (arith, below, sound .heads-fit)) j n)
+      where
+        below : x .k < s .endpoints
+        below = open-within (w .state) (x .k) (sound .ranges) (ap hasEndpoint (x .idle))
+
+    pub rewrites-held : Rewrites w c a → Held s h w → Held s (t ∷ h) (leftBy a)
+    rewrites-held x =
+        quiet (uses-by s t h Other (x .nothing)) (ap (λ (y : Ehci). y .owner) (x .state-is)) (λ j. ap (λ (y : Ehci). tenantAt y j) (x .state-is))
+        (λ p. ap (λ (r : Rows). untold (getD (r .pool) p blank)) (x .rows-are))
+        (λ j n. ap (λ (r : Rows). overlayNext (r .heads) j) (x .rows-are)
+        ∙ getD-set-other (w .rows .heads) (17 * (x .k + 1) + 1) (17 * (j + 1) + 4) (x .word) 0 (λ e. omega (arith, e)))
+
+    -- the place is one of the pool's
+    pub requested-place : (place : ℕ) → inRequest (w .state) place ≡ true → place < length (w .rows .pool)
+    unfolding inRequest
+    requested-place place e = omega (arith, ltb-true place (s .descriptors) (both-tells (ltb place (s .descriptors)) _ e .0), sound .pool-fits)
+
+    pub writes-back-held : WritesBack w c a → Held s h w → Held s (t ∷ h) (leftBy a)
+    writes-back-held x =
+        quiet (uses-by s t h Other (x .nothing)) (ap (λ (y : Ehci). y .owner) (x .state-is)) (λ j. ap (λ (y : Ehci). tenantAt y j) (x .state-is))
+        (λ p. ap (λ (r : Rows). untold (getD (r .pool) p blank)) (x .rows-are)
+        ∙ ap (λ (l : List QueueTransferDescriptor). untold (getD l p blank)) (fill-token (s .pool) (x .place) (x .token) (w .rows .pool))
+        ∙ token-written (x .place) (x .token) (w .rows .pool) (requested-place (x .place) (x .in-request)) p)
+        (λ j n. ap (λ (r : Rows). overlayNext (r .heads) j) (x .rows-are))
+
+    pub marks-held : Marks w c a → Held s h w → Held s (t ∷ h) (leftBy a)
+    unfolding withEndpoint withSlot
+    marks-held x =
+        rowless (uses-by s t h Other (x .nothing)) (ap (λ (y : Ehci). y .owner) (x .state-is))
+        (λ j. ap (λ (y : Ehci). tenantAt y j) (x .state-is)
+        ∙ tenant-stays (w .state) (x .k) (Unlinking (x .p) (marked (x .r)) (x .u)) (sound .wide) (occupied (x .k) (Unlinking (x .p) (x .r) (x .u)) (x .unlinking) refl)
+        (sym (ap tenantOf (x .unlinking))) j)
+        (x .rows-are)
+
+    pub unlinks-held : Unlinked w c a → Held s h w → Held s (t ∷ h) (leftBy a)
+    unfolding waitingOf withEndpoint withSlot withBell
+    unlinks-held x =
+        quiet (uses-by s t h (leaving s (x .k) (x .readings .frame) t) (x .leaves) ∙ uses-leaving s t (x .k) (x .readings .frame) (uses s h))
+        (ap (λ (y : Ehci). y .owner) (x .state-is))
+        (λ j. ap (λ (y : Ehci). tenantAt y j) (x .state-is)
+        ∙ tenant-stays (withBell (w .state) _ _ _) (x .k) (Unlinking (x .p) (x .asked) (boundedOf (bellOf (w .state)) (x .p .kind) (x .readings) .boundary)) (bell-wide (w .state) _ _ _ (sound .wide)) (occupied (x .k) (Linked (x .p) (x .r)) (x .linked) refl)
+        (same ∙ sym (tenant-bell (w .state) _ _ _ (x .k) ∙ ap tenantOf (x .linked))) j
+        ∙ tenant-bell (w .state) _ _ _ j)
+        (λ p. ap (λ (r : Rows). untold (getD (r .pool) p blank)) (x .rows-are))
+        (λ j n. ap (λ (r : Rows). overlayNext (r .heads) j) (x .rows-are) ∙ detach-word (w .state) (w .rows .heads) (w .rows .frames) (x .k) j)
+      where
+        of : Request → Tenant
+        of r = tenantOf (Linked (x .p) r)
+
+        same : of (x .asked) ≡ of (x .r)
+        same = ⊎-elim (λ e. ap of e) (λ e. ap of e) (x .same-request)

@@ -1,0 +1,179 @@
+-- A collect of a linked request answers 9, and unlinks it if it is finished.
+use Prim.Native.Nat.{ℕ, suc, _+_, _<_}
+use mathlib.Core.Path.{_≡_, refl, sym, ap, _∙_}
+use mathlib.Core.Bool.{Bool, true, false, not, cond}
+use mathlib.Core.List.{List, [], _∷_}
+use mathlib.Core.Logic.{inl}
+use native.Mathlib.Decide.{ℕ-discrete as decEq}
+use borrow.Author.Tests.{eq-eqb, eqb-false, eqb-true, le-leb, lt-ltb}
+use lib.ListN.{getD, length, take}
+use Rattle.pool.specs.declared.chain.View.{View}
+use Rattle.settings.specs.declared.settings.Settings.{Settings}
+use Rattle.pipe.specs.Endpoints.{endpointAt}
+use Rattle.common.specs.Kinds.{isInterrupt}
+use Rattle.pipe.specs.declared.endpoints.Endpoint.the-variants.{Linked}
+use Rattle.pipe.specs.declared.endpoints.Pipe.{Pipe}
+use Rattle.pipe.specs.declared.endpoints.Request.{Request}
+use Rattle.controller.specs.declared.lent.Readings.{Readings}
+use Rattle.schedule.specs.Links.{detachOf, same}
+use Rattle.collection.specs.Calls.{collectOf, Gathered, gathered}
+use Rattle.collection.specs.Unlinks.{unlinkOf, waitingOf}
+use Rattle.collection.proofs.CallLaws.{collect-active, collect-unlinks}
+use Rattle.ehci.specs.declared.call.Call.the-variants.{Collect}
+use Rattle.ehci.specs.declared.reply.Answered.{Answered}
+use Rattle.ehci.specs.declared.reply.Answered.the-variants.{Pending}
+use Rattle.ehci.specs.Decides.{asksOf, collectDecided, decideOf, withSetups, collectCame}
+use Rattle.ehci.specs.Door.{Applied, applyOf, carriedOut, seenBy}
+use Rattle.ehci.specs.Replies.{replied}
+use Rattle.promises.specs.Runs.{History, World, core, rowsOf, turnOf}
+use Rattle.promises.specs.Events.{Collects, Other, Parts, Unlinks, event, isCollected, leaving}
+use Rattle.promises.specs.Chains.{isFinished}
+use Rattle.promises.proofs.effects.Effects.{Unlinked}
+use Rattle.promises.proofs.effects.EffectDoor.{rows-kept}
+use Rattle.promises.proofs.invariants.Sound.{Sound, slot-low}
+use Rattle.promises.proofs.invariants.ChainInv.{Chained}
+use Rattle.promises.proofs.invariants.ChainEvents.{unlink-event}
+use lib.Dec.{eqb}
+use Rattle.common.specs.declared.kinds.EndpointType.{EndpointType}
+use Rattle.descriptor.specs.declared.qtd.QueueTransferDescriptor.{QueueTransferDescriptor}
+use Rattle.pool.specs.Chains.{blank, isActive, isErring, numberIf, seenFrom, standingOf, viewOf}
+use Rattle.ehci.specs.declared.call.Call.{Call}
+use Rattle.collection.specs.declared.collected.Collected.the-variants as C
+use Rattle.pool.specs.Places.{placesFrom}
+use Rattle.pool.proofs.PlaceLaws.{list-packed}
+use Rattle.collection.specs.Asks.{askOf, askable, requestAsk}
+use Rattle.collection.specs.Answers.{pendingCollect}
+use Rattle.promises.proofs.theorems.ChainCancels.{accepted, fits, no-detach-fails}
+use Rattle.promises.proofs.effects.EffectRequests.{none-leaves}
+
+-- ---- finished, as its descriptors say
+
+finished-stage : (kind : EndpointType) (n limit i : ℕ) (ps : List ℕ) (pool : List QueueTransferDescriptor)
+    → eqb (standingOf (seenFrom kind n limit i ps pool)) 2 ≡ not (isFinished pool ps)
+unfolding seenFrom standingOf
+finished-stage kind n limit i [] pool = refl
+finished-stage kind n limit i (p ∷ ps) pool =
+    by (isActive (getD pool p blank .token)) (isErring (getD pool p blank .token)) (finished-stage kind n limit (suc i) ps pool)
+  where
+    by : (a e : Bool) → eqb (standingOf (seenFrom kind n limit (suc i) ps pool)) 2 ≡ not (isFinished pool ps)
+        → eqb (numberIf a 2 (numberIf e 1 (standingOf (seenFrom kind n limit (suc i) ps pool)))) 2 ≡ not (cond a false (cond e true (isFinished pool ps)))
+    by true e rest = refl
+    by false true rest = refl
+    by false false rest = rest
+
+module _ (s : Settings) (h : History) (w : World) (sound : Sound s w) (x : Chained s h w) (k : ℕ) (rd : Readings) (p : Pipe) (r : Request)
+    (e : endpointAt (w .state) k ≡ Linked p r) (roomy : w .state .unanswered < 32) where
+  abbrev call : Call
+  call = Collect k (r .id) rd
+
+  abbrev view : View
+  view = seenBy (asksOf (w .state) (length (w .rows .pool)) call) (w .rows .pool)
+
+  abbrev gathers : Gathered
+  gathers = collectOf (w .state) (length (w .rows .pool)) (w .rows .heads) (w .rows .frames) (length (w .rows .setups)) rd view k (r .id)
+
+  collect-comes : core w call ≡ carriedOut (withSetups (collectCame gathers) (w .rows .setups)) (w .rows .pool)
+  unfolding applyOf decideOf collectDecided
+  collect-comes = rw (fits s h w sound x k)
+
+  -- not finished: 9, and nothing changes
+  unfinished-is : view .stage ≡ 2 → gathers ≡ gathered (pendingCollect (w .state)) (w .rows .heads) (w .rows .frames)
+  unfinished-is q =
+      collect-active (w .state) (length (w .rows .pool)) (w .rows .heads) (w .rows .frames) (length (w .rows .setups)) rd view k p r
+      (accepted s h w sound x k) e roomy q
+
+  abbrev unlinked : Gathered
+  unlinked =
+      record {
+        came = record { answer = C.Pending; state = waitingOf (w .state) rd k p r .state; writes = waitingOf (w .state) rd k p r .writes };
+        rows = detachOf (w .state) (w .rows .heads) (w .rows .frames) k .rows;
+      }
+
+  finished-is : (view .stage ≡ 2 → ⊥) → gathers ≡ unlinked
+  unfolding unlinkOf waitingOf
+  finished-is n =
+      collect-unlinks (w .state) (length (w .rows .pool)) (w .rows .heads) (w .rows .frames) (length (w .rows .setups)) rd view k p r
+      (accepted s h w sound x k) e roomy n
+      ∙ rw (no-detach-fails s h w sound x k p r e)
+
+  comes-as : (g : Gathered) → gathers ≡ g → core w call ≡ carriedOut (withSetups (collectCame g) (w .rows .setups)) (w .rows .pool)
+  comes-as g q = collect-comes ∙ ap (λ (z : Gathered). carriedOut (withSetups (collectCame z) (w .rows .setups)) (w .rows .pool)) q
+
+  quiet : Applied
+  quiet =
+      carriedOut (withSetups (collectCame (gathered (pendingCollect (w .state)) (w .rows .heads) (w .rows .frames))) (w .rows .setups)) (w .rows .pool)
+
+  unfinished-event : view .stage ≡ 2 → event s (turnOf (w .rows) call (core w call)) ≡ Other
+  unfolding replied
+  unfinished-event q =
+      ap (λ (z : Applied). event s (turnOf (w .rows) call z)) (comes-as (gathered (pendingCollect (w .state)) (w .rows .heads) (w .rows .frames)) (unfinished-is q))
+      ∙ none-leaves s k (rd .frame) (w .rows) _ refl refl
+
+  collect-unlinked : (view .stage ≡ 2 → ⊥) → Unlinked w call (core w call)
+  unfolding replied
+  collect-unlinked n =
+      let is = comes-as unlinked (finished-is n) in
+      record {
+        k = k;
+        p = p;
+        r = r;
+        asked = r;
+        readings = rd;
+        linked = e;
+        same-request = inl refl;
+        uncrowded = roomy;
+        found = no-detach-fails s h w sound x k p r e;
+        state-is = ap (λ (z : Applied). z .reply .state) is;
+        rows-are = ap rowsOf is ∙ rows-kept w call (unlinked .rows .heads) (unlinked .rows .frames) (w .rows .setups);
+        writes-are = ap (λ (z : Applied). z .reply .writes) is;
+        leaves = pending-leaves (core w call .reply .answer) (ap (λ (z : Applied). z .reply .answer) is);
+        same = refl;
+      }
+    where
+      pending-leaves : (a : Answered) → a ≡ Pending
+          → cond (isCollected a) (Collects k (r .id) (rd .frame)) (leaving (w .state .settings) k (rd .frame) (turnOf (w .rows) call (core w call)))
+          ≡ leaving (w .state .settings) k (rd .frame) (turnOf (w .rows) call (core w call))
+      pending-leaves a q = rw q
+
+  finished-event : (view .stage ≡ 2 → ⊥) → event s (turnOf (w .rows) call (core w call)) ≡ cond (isInterrupt (p .kind)) (Parts k (rd .frame)) (Unlinks k)
+  unfolding collect-unlinked
+  finished-event n = unlink-event s h w call (core w call) sound x (collect-unlinked n)
+
+  pub collect-waits : core w call .reply .answer ≡ Pending
+  unfolding replied
+  collect-waits = by (decEq (view .stage) 2)
+    where
+      by : Dec (view .stage ≡ 2) → core w call .reply .answer ≡ Pending
+      by (yes q) =
+          ap (λ (z : Applied). z .reply .answer) (comes-as (gathered (pendingCollect (w .state)) (w .rows .heads) (w .rows .frames)) (unfinished-is q))
+      by (no n) = ap (λ (z : Applied). z .reply .answer) (comes-as unlinked (finished-is n))
+
+  -- what it looks at is what its places say
+  asks : askable (w .state .settings) (length (w .rows .pool)) k ≡ true
+  unfolding askable
+  asks =
+      let good = sound .ranges .good in
+      let same : w .state .settings .descriptors ≡ length (w .rows .pool) =
+      ap (λ (z : Settings). z .descriptors) (sound .settings-are) ∙ sym (sound .pool-fits) in
+      rw (
+        le-leb (w .state .settings .descriptors) 256 (good .descriptors-most),
+        eq-eqb (w .state .settings .descriptors) (length (w .rows .pool)) same,
+        le-leb (w .state .settings .limit) 16384 (good .limit-most),
+        lt-ltb k 32 (slot-low s w sound k (Linked p r) e refl),
+      )
+
+  module _ (places : List ℕ) (own : places ≡ placesFrom 0 (take (w .state .settings .descriptors) (w .state .owner)) (k + 1) 256) where
+    stage-is : eqb (view .stage) 2 ≡ not (isFinished (w .rows .pool) places)
+    unfolding asksOf askOf requestAsk viewOf
+    stage-is =
+        rw (asks, e, list-packed (placesFrom 0 (take (w .state .settings .descriptors) (w .state .owner)) (k + 1) 256), ← own)
+        (finished-stage (p .kind) (r .length) (w .state .settings .limit) 0 places (w .rows .pool))
+
+    pub collect-event : event s (turnOf (w .rows) call (core w call))
+        ≡ cond (isFinished (w .rows .pool) places) (cond (isInterrupt (p .kind)) (Parts k (rd .frame)) (Unlinks k)) Other
+    collect-event = by (isFinished (w .rows .pool) places) refl
+      where
+        by : (b : Bool) → isFinished (w .rows .pool) places ≡ b
+            → event s (turnOf (w .rows) call (core w call)) ≡ cond b (cond (isInterrupt (p .kind)) (Parts k (rd .frame)) (Unlinks k)) Other
+        by true q = finished-event (eqb-false (view .stage) 2 (stage-is ∙ ap not q))
+        by false q = unfinished-event (eqb-true (view .stage) 2 (stage-is ∙ ap not q))

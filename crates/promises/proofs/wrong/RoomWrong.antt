@@ -1,0 +1,192 @@
+-- Wrong machines, of which room, submit's verdict, exclusive places and coverage are refuted. Each takes descriptors for a request and writes its chain, with
+-- no checks and no schedule, in a controller with two descriptors; `plain` does it right, and on the same calls its uses are as they should be.
+use Prim.Native.Nat.{ℕ, _+_, _-_}
+use mathlib.Core.Path.{_≡_, refl, ap}
+use mathlib.Core.Bool.{true}
+use mathlib.Core.List.{List, [], _∷_}
+use native.Mathlib.Omega.{arith}
+use lib.ListN.{length, replicate, set}
+use Rattle.register.specs.Writes.{noWrites}
+use Rattle.token.specs.Chunks.{chunkCount, needOf}
+use Rattle.token.specs.Tokens.{tokenOf}
+use Rattle.common.specs.declared.kinds.Direction.the-variants.{Out}
+use Rattle.common.specs.declared.kinds.EndpointType.the-variants.{Bulk}
+use Rattle.descriptor.specs.Descriptors.{newQtd, terminated, withNext}
+use Rattle.descriptor.specs.Heads.{ringHead}
+use Rattle.descriptor.specs.Slots.{pageSlots}
+use Rattle.pool.specs.Chains.{fillOf, filledFrom, metFrom}
+use Rattle.pool.specs.EhciChain.{follow}
+use Rattle.pool.specs.Places.{listOf, markOf, packed, placesFrom, upFrom}
+use Rattle.pool.specs.Transfers.{bareAt, chunkQtd, recordAt}
+use Rattle.settings.specs.Settings.{apartAreas, areaGood, eachGood, noOverlap, numbersGood, settingsGood}
+use Rattle.settings.specs.declared.settings.Settings.{Settings}
+use Rattle.state.specs.State.{withOwner}
+use Rattle.state.specs.declared.state.Ehci.{Ehci}
+use Rattle.opening.specs.Opening.{freshState, openedHeads}
+use Rattle.controller.specs.Readers.{countZero, freeCount}
+use Rattle.controller.specs.declared.lent.Readings.{Readings}
+use Rattle.schedule.specs.Links.{startedOverlay}
+use Rattle.request.specs.Submit.{chainFor, firstIn, needOfRequest, takenOf}
+use Rattle.request.specs.declared.judge.TransferRequest.{TransferRequest}
+use Rattle.request.specs.declared.settle.Taken.{Taken}
+use Rattle.ehci.specs.declared.call.Call.{Call}
+use Rattle.ehci.specs.declared.call.Call.the-variants.{StartBringUp, BringUpStep, AllocateAddress, OpenEndpoint, Close, SetAddress, SetPacketSize, Submit, Writeback, Cancel, Collect, Acknowledge, Drain, Rearm, Enable, Disable}
+use Rattle.ehci.specs.declared.reply.Answered.{Answered}
+use Rattle.ehci.specs.declared.reply.Answered.the-variants.{Done, Pending}
+use Rattle.ehci.specs.declared.reply.Given.the-variants.{Id, Nothing, Slot}
+use Rattle.ehci.specs.Door.{Applied, applied}
+use Rattle.promises.specs.Runs.{Machine, Opening, World, historyOf, rowsOf, worldOf}
+use Rattle.promises.specs.Walks.{chainWalk}
+use Rattle.promises.specs.Uses.{needs, uses}
+use Rattle.promises.specs.Rooms.{ExclusivePlaces, RoomExact, placesInUse}
+use Rattle.promises.specs.Opened.{SubmitVerdict, runsIn, slotIn}
+use Rattle.promises.specs.Coverage.{Coverage, addressed, dataOf, recordsMet}
+use Rattle.promises.proofs.invariants.Reached.{freshWorld, opens-fresh}
+
+-- ---- two descriptors, two slots
+
+abbrev pair : Settings
+pair =
+    record {
+      descriptors = 2;
+      endpoints = 2;
+      ports = 1;
+      limit = 16384;
+      wait = 1;
+      pool = 0x100000;
+      heads = 0x200000;
+      frames = 0x300000;
+      setups = 0x400000;
+    }
+
+pair-good : settingsGood pair ≡ true
+unfolding settingsGood numbersGood eachGood noOverlap areaGood apartAreas
+pair-good = refl
+
+opening : Opening pair (freshWorld pair)
+opening = opens-fresh pair pair-good
+
+-- ---- machines that take descriptors
+
+abbrev stays : World → Answered → Ehci → Applied
+stays w a s =
+    applied (record { state = s; answer = a; writes = noWrites }) (w .rows .pool) (w .rows .heads) (w .rows .frames) (w .rows .setups)
+
+-- the request is written to the places that are taken, and slot k's overlay leads to them
+abbrev written : World → ℕ → TransferRequest → Taken → Applied
+written w k t taken =
+    applied (record { state = withOwner (w .state) (taken .owner); answer = Done (Id 1); writes = noWrites })
+    (fillOf (chainFor (w .state) k t taken) (w .rows .pool)) (startedOverlay (w .rows .heads) k (firstIn (w .state) taken) 0) (w .rows .frames) (w .rows .setups)
+
+-- what it answers to an opening of an endpoint, how it submits, and what a writeback leaves
+pub record Ways : Type 0 where
+  pub opens : Answered
+  pub submit : World → ℕ → TransferRequest → Applied
+  pub writeback : Ehci → ℕ → Ehci
+
+abbrev machine : Ways → Machine
+machine x w StartBringUp = stays w Pending (w .state)
+machine x w (BringUpStep v) = stays w Pending (w .state)
+machine x w AllocateAddress = stays w Pending (w .state)
+machine x w (OpenEndpoint f) = stays w (x .opens) (w .state)
+machine x w (Close k) = stays w Pending (w .state)
+machine x w (SetAddress k a) = stays w Pending (w .state)
+machine x w (SetPacketSize k size) = stays w Pending (w .state)
+machine x w (Submit k t readings) = x .submit w k t
+machine x w (Writeback place token) = stays w (Done Nothing) (x .writeback (w .state) place)
+machine x w (Cancel k id readings) = stays w Pending (w .state)
+machine x w (Collect k id readings) = stays w Pending (w .state)
+machine x w (Acknowledge r) = stays w Pending (w .state)
+machine x w (Drain v) = stays w Pending (w .state)
+machine x w Rearm = stays w Pending (w .state)
+machine x w Enable = stays w Pending (w .state)
+machine x w Disable = stays w Pending (w .state)
+
+abbrev takesFree : World → ℕ → TransferRequest → Applied
+takesFree w k t = written w k t (takenOf (w .state .owner) 2 (needOfRequest (w .state) t) k)
+
+abbrev plain : Machine
+plain = machine (record { opens = Pending; submit = takesFree; writeback = λ s place. s })
+
+-- a writeback frees the place
+abbrev freeing : Machine
+freeing = machine (record { opens = Pending; submit = takesFree; writeback = λ s place. withOwner s (set (s .owner) place 0) })
+
+-- every request is given the first places, whoever has them
+abbrev first : Machine
+first = machine (record { opens = Pending; submit = λ w k t. written w k t (takenOf (replicate 256 0) 2 (needOfRequest (w .state) t) k); writeback = λ s place. s })
+
+-- the last byte is left out
+abbrev clipped : TransferRequest → TransferRequest
+clipped t = record { kind = t .kind; direction = t .direction; setup = t .setup; address = t .address; length = t .length - 1 }
+
+abbrev short : Machine
+short = machine (record { opens = Pending; submit = λ w k t. takesFree w k (clipped t); writeback = λ s place. s })
+
+-- slot 0 is open, and gets its request before bring-up
+abbrev eager : Machine
+eager = machine (record { opens = Done (Slot 0); submit = takesFree; writeback = λ s place. s })
+
+-- ---- one byte each to two slots, and a writeback between
+
+abbrev byte : TransferRequest
+byte = record { kind = Bulk; direction = Out; setup = 0; address = 0x500000; length = 1 }
+
+abbrev reads : Readings
+reads = record { command = 0; frame = 0 }
+
+abbrev calls : List Call
+calls = Submit 1 byte reads ∷ Writeback 0 0 ∷ Submit 0 byte reads ∷ []
+
+plain-places : placesInUse (uses pair (historyOf plain (freshWorld pair) calls)) ≡ 1 ∷ 0 ∷ []
+unfolding historyOf worldOf uses chainWalk metFrom follow takenOf placesFrom markOf packed listOf fillOf filledFrom recordAt bareAt chunkQtd newQtd withNext startedOverlay freshState withOwner openedHeads ringHead terminated needOf chunkCount
+plain-places = refl
+
+plain-room : freeCount (worldOf plain (freshWorld pair) calls .state) + needs pair (uses pair (historyOf plain (freshWorld pair) calls)) ≡ 2
+unfolding historyOf worldOf uses chainWalk metFrom follow takenOf placesFrom markOf packed listOf fillOf filledFrom recordAt bareAt chunkQtd newQtd withNext startedOverlay freshState withOwner openedHeads ringHead terminated needOf chunkCount freeCount countZero
+plain-room = refl
+
+-- ---- refuted
+
+-- the place is free again, and given to slot 1 while slot 0's request has it
+freeing-exclusive : ExclusivePlaces freeing → ⊥
+unfolding historyOf worldOf uses chainWalk metFrom follow takenOf placesFrom markOf packed listOf fillOf filledFrom recordAt bareAt chunkQtd newQtd withNext startedOverlay freshState withOwner openedHeads ringHead terminated needOf chunkCount
+freeing-exclusive e = e pair (freshWorld pair) opening calls .distinct .0 .0 refl
+
+freeing-room : RoomExact freeing → ⊥
+unfolding historyOf worldOf uses chainWalk metFrom follow takenOf placesFrom markOf packed listOf fillOf filledFrom recordAt bareAt chunkQtd newQtd withNext startedOverlay freshState withOwner openedHeads ringHead terminated needOf chunkCount freeCount countZero
+freeing-room r = let three : _≡_ {A = ℕ} 3 2 = r pair (freshWorld pair) opening (Writeback 0 0 ∷ Submit 0 byte reads ∷ []) .free in omega (arith, three)
+
+first-exclusive : ExclusivePlaces first → ⊥
+unfolding historyOf worldOf uses chainWalk metFrom follow takenOf placesFrom markOf packed listOf fillOf filledFrom recordAt bareAt chunkQtd newQtd withNext startedOverlay freshState withOwner openedHeads ringHead terminated needOf chunkCount
+first-exclusive e = e pair (freshWorld pair) opening calls .distinct .0 .0 refl
+
+first-room : RoomExact first → ⊥
+unfolding historyOf worldOf uses chainWalk metFrom follow takenOf placesFrom markOf packed listOf fillOf filledFrom recordAt bareAt chunkQtd newQtd withNext startedOverlay freshState withOwner openedHeads ringHead terminated needOf chunkCount freeCount countZero
+first-room r = let three : _≡_ {A = ℕ} 3 2 = r pair (freshWorld pair) opening calls .free in omega (arith, three)
+
+-- a submit to a slot that was never opened is accepted, and not answered 3
+plain-verdict : SubmitVerdict plain → ⊥
+unfolding historyOf worldOf slotIn
+plain-verdict v = let three : _≡_ {A = ℕ} 0 3 = v pair (freshWorld pair) opening [] 0 byte reads in omega (arith, three)
+
+-- one to an open slot of its kind is accepted before bring-up, and not answered 8
+eager-verdict : SubmitVerdict eager → ⊥
+unfolding historyOf worldOf slotIn runsIn
+eager-verdict v =
+    let opens : Call = OpenEndpoint (record { kind = Bulk; address = 1; number = 1; packet = 512 }) in
+    let eight : _≡_ {A = ℕ} 0 8 = v pair (freshWorld pair) opening (opens ∷ []) 0 byte reads in
+    omega (arith, eight)
+
+-- no byte is addressed where one is asked
+short-coverage : Coverage short → ⊥
+unfolding historyOf worldOf uses chainWalk metFrom follow takenOf placesFrom markOf packed listOf fillOf filledFrom recordAt bareAt chunkQtd newQtd withNext startedOverlay freshState withOwner openedHeads ringHead terminated needOf chunkCount tokenOf pageSlots upFrom
+short-coverage c =
+    let none : _≡_ {A = List ℕ} [] (0x500000 ∷ []) = c pair (freshWorld pair) opening [] 0 byte reads refl in
+    let zero : _≡_ {A = ℕ} 0 1 = ap length none in
+    omega (arith, zero)
+
+-- and the right one covers it
+plain-coverage : addressed (dataOf Bulk (recordsMet pair (rowsOf (plain (freshWorld pair) (Submit 0 byte reads))) 0)) ≡ 0x500000 ∷ []
+unfolding historyOf worldOf uses chainWalk metFrom follow takenOf placesFrom markOf packed listOf fillOf filledFrom recordAt bareAt chunkQtd newQtd withNext startedOverlay freshState withOwner openedHeads ringHead terminated needOf chunkCount tokenOf pageSlots upFrom
+plain-coverage = refl

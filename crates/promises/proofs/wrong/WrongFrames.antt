@@ -1,0 +1,249 @@
+-- A collect that takes FRINDEX to be 9 on: of this machine the frames are not kept, and a place is given too soon.
+use Prim.Native.Nat.{ℕ, _+_}
+use mathlib.Core.Path.{_≡_, refl, sym, ap, _∙_}
+use mathlib.Core.Bool.{true, true≢false, false≢true}
+use mathlib.Core.List.{List, [], _∷_}
+use native.Mathlib.Omega.{arith}
+use lib.ListN.{length, replicate}
+use Rattle.register.specs.Bits.{withoutBits}
+use Rattle.register.specs.Writes.{noWrites}
+use Rattle.token.specs.Chunks.{chunkCount, needOf}
+use Rattle.token.specs.Tokens.{tokenOf}
+use Rattle.common.specs.declared.kinds.Direction.the-variants.{Out}
+use Rattle.common.specs.declared.kinds.EndpointType.the-variants.{Interrupt}
+use Rattle.descriptor.specs.declared.qtd.QueueTransferDescriptor.{QueueTransferDescriptor}
+use Rattle.descriptor.specs.Descriptors.{newQtd, terminated, withNext}
+use Rattle.descriptor.specs.Heads.{endpointHead}
+use Rattle.descriptor.specs.Slots.{pageSlots}
+use Rattle.pool.specs.Chains.{blank, fillOf, filledFrom, metFrom, noChain}
+use Rattle.pool.specs.EhciChain.{follow}
+use Rattle.pool.specs.Places.{clearOf, listOf, markOf, packed, placesFrom}
+use Rattle.pool.specs.Transfers.{bareAt, chunkQtd, recordAt}
+use Rattle.settings.specs.Settings.{apartAreas, areaGood, eachGood, noOverlap, numbersGood, settingsGood}
+use Rattle.slot.specs.declared.slot.Slot.{Slot}
+use Rattle.slot.specs.Ranges.{boundaryGood, closedGood, idleGood, linkedGood, noRequest, openKind, phaseGood, slotGood, unlinkingGood}
+use Rattle.state.specs.declared.state.Ehci.{Ehci}
+use Rattle.state.specs.Ranges.{doorbellGood, inRanges, interruptGood, largest, machineGood, ownerGood, restGood, slotsGood}
+use Rattle.state.specs.Slots.{slotAt, withSlot}
+use Rattle.state.specs.State.{withBell, withOwner}
+use Rattle.pipe.specs.Endpoints.{bareSlot, decoded, endpointAt, withEndpoint}
+use Rattle.common.specs.Kinds.{isInterrupt}
+use Rattle.opening.specs.Opening.{rowsFit}
+use Rattle.common.specs.Rows.{putAt}
+use Rattle.controller.specs.Lent.{acceptsOf}
+use Rattle.controller.specs.Readers.{countZero, freeCount}
+use Rattle.controller.specs.declared.lent.Readings.{Readings}
+use Rattle.schedule.specs.Links.{attachedFrames, detachOf, endedOverlay, precedesOne, predecessorOf, searchFrom, startedOverlay}
+use Rattle.endpoint.specs.Lowest.{closedFrom}
+use Rattle.endpoint.specs.Calls.{fieldsGood, openChecks, openEndpointOf}
+use Rattle.request.specs.Submit.{acceptedWith, afterId, bufferGood, linkedRows, rangesGood, settledSubmit, setupsWith, stateWith, submitOf, takenFor, writesWith, takenOf as takenPlaces}
+use Rattle.request.specs.declared.judge.TransferRequest.{TransferRequest}
+use Rattle.collection.specs.Unlinks.{boundedOf, unlinkOf, waitingOf}
+use Rattle.collection.specs.Calls.{cancelOf, collectOf, finishOf, freed, unlinkingOf}
+use Rattle.collection.specs.Answers.{outcomeOf}
+use Rattle.ehci.specs.declared.call.Call.{Call}
+use Rattle.ehci.specs.declared.call.Call.the-variants.{StartBringUp, BringUpStep, AllocateAddress, OpenEndpoint, Close, SetAddress, SetPacketSize, Submit, Writeback, Cancel, Collect, Acknowledge, Drain, Rearm, Enable, Disable}
+use Rattle.ehci.specs.declared.reply.Answered.the-variants.{Done, Cancelled}
+use Rattle.ehci.specs.declared.reply.Given.the-variants as G
+use Rattle.ehci.specs.Replies.{replied}
+use Rattle.ehci.specs.Decides.{asksOf, cancelDecided, collectDecided, decideOf, openDecided, submitDecided}
+use Rattle.ehci.specs.Door.{Applied, applyOf}
+use Rattle.promises.specs.Runs.{History, Machine, Turn, World, core, historyOf, leftBy, rowsOf, turnOf, worldOf}
+use Rattle.promises.specs.Walks.{chainWalk, frameWalk, isIn, ringWalk, walkFrom}
+use Rattle.promises.specs.Events.{Submits, event, isCollected}
+use Rattle.promises.specs.Bells.{kindAt, parted}
+use Rattle.promises.specs.Boundaries.{EveryRun, FramesKept}
+use Rattle.promises.specs.Faults.{NeverGiven, holds, mayRead}
+use Rattle.promises.proofs.invariants.Reached.{freshWorld}
+use Rattle.promises.proofs.wrong.WrongRuns.{chunk, closed, fresh, headsOf, noBell, opening, replies, reading, rising, rising-good, small, stateOf, used}
+use Rattle.promises.proofs.wrong.WrongUp.{Rises, next, run-world, runCalls}
+use Rattle.promises.proofs.wrong.WrongBells.{goes-on, is-told}
+
+-- ---- the machine: a collect takes FRINDEX to be 9 on from what was read
+
+abbrev later : Readings → Readings
+later r = record { command = r .command; frame = r .frame + 9 }
+
+abbrev sooner : Call → Call
+sooner StartBringUp = StartBringUp
+sooner (BringUpStep v) = BringUpStep v
+sooner AllocateAddress = AllocateAddress
+sooner (OpenEndpoint x) = OpenEndpoint x
+sooner (Close k) = Close k
+sooner (SetAddress k a) = SetAddress k a
+sooner (SetPacketSize k size) = SetPacketSize k size
+sooner (Submit k r readings) = Submit k r readings
+sooner (Writeback place token) = Writeback place token
+sooner (Cancel k id readings) = Cancel k id readings
+sooner (Collect k id readings) = Collect k id (later readings)
+sooner (Acknowledge x) = Acknowledge x
+sooner (Drain v) = Drain v
+sooner Rearm = Rearm
+sooner Enable = Enable
+sooner Disable = Disable
+
+abbrev pub hasty : Machine
+hasty w c = core w (sooner c)
+
+-- ---- an interrupt request, and what comes of it
+
+abbrev idle : ℕ → Slot
+idle id = bareSlot 1 3 id
+
+abbrev asked : ℕ → ℕ → ℕ → Slot
+asked id phase cancel = record { phase = phase; kind = 3; id = id + 1; request = id; direction = 0; length = 512; cancel = cancel; boundary = 0 }
+
+abbrev state : List ℕ → Slot → Ehci
+state owner a = used noBell owner a closed
+
+states-good : (inRanges (state (0 ∷ 0 ∷ []) (idle 1)) ≡ true) × (inRanges (state (1 ∷ 0 ∷ []) (asked 1 2 0)) ≡ true)
+    × (inRanges (state (1 ∷ 0 ∷ []) (asked 1 3 1)) ≡ true) × (inRanges (state (0 ∷ 0 ∷ []) (idle 2)) ≡ true)
+unfolding stateOf inRanges restGood machineGood interruptGood doorbellGood ownerGood largest slotsGood slotGood phaseGood closedGood idleGood linkedGood unlinkingGood boundaryGood openKind noRequest settingsGood numbersGood eachGood noOverlap areaGood apartAreas slotAt withoutBits
+states-good = (refl, refl, refl, refl)
+
+-- slot 0's head: its overlay's next
+abbrev headsWith : ℕ → List ℕ
+headsWith next = headsOf 0x200002 (1 ∷ 0xF2002105 ∷ 0x40000001 ∷ 0 ∷ next ∷ 1 ∷ replicate 11 0) (replicate 17 0)
+
+abbrev world : Ehci → List QueueTransferDescriptor → ℕ → ℕ → World
+world s pool next frame = record { state = s; rows = record { pool = pool; heads = headsWith next; frames = replicate 1024 frame; setups = replicate 16 0 } }
+
+abbrev opened : World
+opened = world (state (0 ∷ 0 ∷ []) (idle 1)) (blank ∷ blank ∷ []) 1 1
+
+abbrev linked : World
+linked = world (state (1 ∷ 0 ∷ []) (asked 1 2 0)) (chunk 0x500000 ∷ blank ∷ []) 0x100000 0x200082
+
+abbrev parts : World
+parts = world (state (1 ∷ 0 ∷ []) (asked 1 3 1)) (chunk 0x500000 ∷ blank ∷ []) 0x100000 1
+
+abbrev free : World
+free = world (state (0 ∷ 0 ∷ []) (idle 2)) (chunk 0x500000 ∷ blank ∷ []) 1 1
+
+abbrev again : World
+again = world (state (1 ∷ 0 ∷ []) (asked 2 2 0)) (chunk 0x502000 ∷ blank ∷ []) 0x100000 0x200082
+
+abbrev openInterrupt : Call
+openInterrupt = OpenEndpoint (record { kind = Interrupt; address = 5; number = 1; packet = 512 })
+
+abbrev asks : ℕ → TransferRequest
+asks address = record { kind = Interrupt; direction = Out; setup = 0; address = address; length = 512 }
+
+abbrev submits : ℕ → Call
+submits address = Submit 0 (asks address) (reading 0x80031)
+
+opens : leftBy (core (fresh (rising 1 0)) openInterrupt) ≡ opened
+unfolding applyOf decideOf asksOf rowsFit replied fillOf filledFrom noChain packed listOf openDecided openEndpointOf openChecks acceptsOf fieldsGood closedFrom withEndpoint withSlot endpointHead terminated putAt stateOf
+opens = rw (rising-good 1 0 refl refl)
+
+links : core opened (submits 0x500000) ≡ replies (Done (G.Id 1)) (writesWith (reading 0x80031)) linked
+unfolding applyOf decideOf asksOf rowsFit replied fillOf filledFrom noChain packed listOf submitDecided submitOf acceptsOf endpointAt decoded slotAt rangesGood bufferGood freeCount countZero needOf chunkCount settledSubmit acceptedWith takenFor takenPlaces placesFrom markOf stateWith afterId withOwner withEndpoint withSlot linkedRows startedOverlay attachedFrames setupsWith recordAt bareAt chunkQtd newQtd tokenOf pageSlots withNext stateOf
+links = rw (states-good .0)
+
+unlinks : core linked (Cancel 0 1 (reading 0x80031)) ≡ replies (Done G.Nothing) noWrites parts
+unfolding applyOf decideOf asksOf rowsFit replied fillOf filledFrom noChain packed listOf cancelDecided cancelOf acceptsOf endpointAt decoded slotAt unlinkOf waitingOf boundedOf detachOf predecessorOf searchFrom precedesOne withEndpoint withSlot withBell stateOf
+unlinks = rw (states-good .1)
+
+collects : core parts (Collect 0 1 (later (reading 0x80031))) ≡ replies Cancelled noWrites free
+unfolding applyOf decideOf asksOf rowsFit replied fillOf filledFrom noChain packed listOf collectDecided collectOf acceptsOf endpointAt decoded slotAt unlinkingOf finishOf outcomeOf freed clearOf endedOverlay putAt terminated withOwner withEndpoint withSlot stateOf
+collects = rw (states-good .2)
+
+links-again : core free (submits 0x502000) ≡ replies (Done (G.Id 2)) (writesWith (reading 0x80031)) again
+unfolding applyOf decideOf asksOf rowsFit replied fillOf filledFrom noChain packed listOf submitDecided submitOf acceptsOf endpointAt decoded slotAt rangesGood bufferGood freeCount countZero needOf chunkCount settledSubmit acceptedWith takenFor takenPlaces placesFrom markOf stateWith afterId withOwner withEndpoint withSlot linkedRows startedOverlay attachedFrames setupsWith recordAt bareAt chunkQtd newQtd tokenOf pageSlots withNext stateOf
+links-again = rw (states-good .3)
+
+-- ---- the run: its collect reads the FRINDEX that its unlink read
+
+abbrev w : World
+w = freshWorld small
+
+abbrev up : List Call
+up = openInterrupt ∷ runCalls
+
+abbrev shortly : List Call
+shortly = Cancel 0 1 (reading 0x80031) ∷ submits 0x500000 ∷ up
+
+abbrev after : List Call
+after = Collect 0 1 (reading 0x80031) ∷ shortly
+
+rises : Rises hasty
+rises w StartBringUp e n = refl
+rises w (BringUpStep v) e n = refl
+rises w AllocateAddress e n = absurd (false≢true e)
+rises w (OpenEndpoint x) e n = refl
+rises w (Close k) e n = absurd (false≢true e)
+rises w (SetAddress k a) e n = absurd (false≢true e)
+rises w (SetPacketSize k size) e n = absurd (false≢true e)
+rises w (Submit k r readings) e n = absurd (false≢true e)
+rises w (Writeback place token) e n = absurd (false≢true e)
+rises w (Cancel k id readings) e n = absurd (false≢true e)
+rises w (Collect k id readings) e n = absurd (false≢true e)
+rises w (Acknowledge x) e n = absurd (false≢true e)
+rises w (Drain v) e n = absurd (false≢true e)
+rises w Rearm e n = absurd (false≢true e)
+rises w Enable e n = absurd (false≢true e)
+rises w Disable e n = absurd (false≢true e)
+
+w0 : worldOf hasty w up ≡ opened
+unfolding stateOf
+w0 = next hasty rises runCalls openInterrupt (fresh (rising 1 0)) opened (run-world hasty rises) refl refl opens
+
+w1 : worldOf hasty w (submits 0x500000 ∷ up) ≡ linked
+w1 = goes-on hasty w up (submits 0x500000) opened _ w0 links
+
+w2 : worldOf hasty w shortly ≡ parts
+w2 = goes-on hasty w (submits 0x500000 ∷ up) (Cancel 0 1 (reading 0x80031)) linked _ w1 unlinks
+
+w3 : worldOf hasty w after ≡ free
+w3 = goes-on hasty w shortly (Collect 0 1 (reading 0x80031)) parts _ w2 collects
+
+abbrev t1 : Turn
+t1 = turnOf (opened .rows) (submits 0x500000) (replies (Done (G.Id 1)) (writesWith (reading 0x80031)) linked)
+
+abbrev t2 : Turn
+t2 = turnOf (linked .rows) (Cancel 0 1 (reading 0x80031)) (replies (Done G.Nothing) noWrites parts)
+
+abbrev t3 : Turn
+t3 = turnOf (parts .rows) (Collect 0 1 (reading 0x80031)) (replies Cancelled noWrites free)
+
+abbrev told : History
+told = t2 ∷ t1 ∷ historyOf hasty w up
+
+is-so : historyOf hasty w shortly ≡ told
+is-so =
+    is-told hasty w (submits 0x500000 ∷ up) (Cancel 0 1 (reading 0x80031)) linked _ w1 unlinks (t1 ∷ historyOf hasty w up)
+    (is-told hasty w up (submits 0x500000) opened _ w0 links (historyOf hasty w up) refl)
+
+is-so-after : historyOf hasty w after ≡ t3 ∷ told
+is-so-after = is-told hasty w shortly (Collect 0 1 (reading 0x80031)) parts _ w2 collects told is-so
+
+-- ---- refuted
+
+by-frames : (isInterrupt (kindAt small 0 told) ≡ true) × (parted small 0 told ≡ 0)
+unfolding kindAt parted ringWalk frameWalk walkFrom
+by-frames = (refl, refl)
+
+pub hasty-frames : EveryRun FramesKept hasty → ⊥
+hasty-frames kept =
+    let done : isCollected (hasty (worldOf hasty w shortly) (Collect 0 1 (reading 0x80031)) .reply .answer) ≡ true
+    = ap (λ (x : World). isCollected (hasty x (Collect 0 1 (reading 0x80031)) .reply .answer)) w2 ∙ ap (λ (a : Applied). isCollected (a .reply .answer)) collects in
+    let kind : isInterrupt (kindAt small 0 (historyOf hasty w shortly)) ≡ true = ap (λ (h : History). isInterrupt (kindAt small 0 h)) is-so ∙ by-frames .0 in
+    let at : parted small 0 (historyOf hasty w shortly) ≡ 0 = ap (parted small 0) is-so ∙ by-frames .1 in
+    omega (arith, kept small w opening shortly 0 1 (reading 0x80031) done kind .1, at)
+
+still-read : mayRead small 0 (t3 ∷ told) ≡ true
+unfolding mayRead holds historyOf ringWalk frameWalk walkFrom chainWalk metFrom follow
+still-read = refl
+
+given : isIn 0 (chainWalk small (again .rows) 0) ≡ true
+unfolding chainWalk metFrom follow
+given = refl
+
+pub hasty-gives : EveryRun NeverGiven hasty → ⊥
+hasty-gives never =
+    let c : Call = submits 0x502000 in
+    let accepted : event small (turnOf (worldOf hasty w after .rows) c (hasty (worldOf hasty w after) c)) ≡ Submits 0 2 (asks 0x502000)
+    = ap (λ (x : World). event small (turnOf (x .rows) c (hasty x c))) w3 ∙ ap (λ (a : Applied). event small (turnOf (free .rows) c a)) links-again in
+    let met : isIn 0 (chainWalk small (rowsOf (hasty (worldOf hasty w after) c)) 0) ≡ true
+    = ap (λ (x : World). isIn 0 (chainWalk small (rowsOf (hasty x c)) 0)) w3 ∙ ap (λ (a : Applied). isIn 0 (chainWalk small (rowsOf a) 0)) links-again ∙ given in
+    true≢false (sym (ap (mayRead small 0) is-so-after ∙ still-read) ∙ never small w opening after c 0 2 (asks 0x502000) 0 accepted met)

@@ -1,0 +1,144 @@
+-- A machine that never counts an advance: what 01 lets pass does not pass, so the exact rule is refuted.
+use Prim.Native.Nat.{_≤_}
+use mathlib.Core.Path.{_≡_, refl, sym, ap, _∙_}
+use mathlib.Core.Bool.{true, false, false≢true}
+use mathlib.Core.List.{List, _∷_}
+use Rattle.register.specs.Bits.{anyOf, onlyBits, withBits, withoutBits}
+use Rattle.register.specs.Writes.{andThen, noWrites}
+use Rattle.descriptor.specs.Descriptors.{terminated}
+use Rattle.pool.specs.Chains.{fillOf, filledFrom, noChain}
+use Rattle.pool.specs.Places.{clearOf, listOf, packed}
+use Rattle.state.specs.Ranges.{inRanges, doorbellGood, interruptGood, largest, machineGood, ownerGood, restGood, slotsGood}
+use Rattle.state.specs.Slots.{slotAt, withSlot}
+use Rattle.state.specs.State.{withBell, withBoundaries, withInterrupt, withOwner}
+use Rattle.pipe.specs.Endpoints.{decoded, endpointAt, withEndpoint}
+use Rattle.opening.specs.Opening.{rowsFit}
+use Rattle.common.specs.Rows.{putAt}
+use Rattle.controller.specs.Lent.{acceptsOf}
+use Rattle.schedule.specs.Bell.{advancedOf, fallenFrom, fallenOne, ringOf, ringWord, unlinkedOf}
+use Rattle.schedule.specs.Links.{detachOf, endedOverlay, precedesOne, predecessorOf, searchFrom}
+use Rattle.request.specs.Submit.{writesWith}
+use Rattle.collection.specs.Unlinks.{boundedOf, unlinkOf, waitingOf}
+use Rattle.collection.specs.Calls.{cancelOf, collectOf, finishOf, freed, unlinkingOf}
+use Rattle.collection.specs.Answers.{outcomeOf}
+use Rattle.interrupt.specs.Interrupts.{acknowledgeOf, acknowledgeWrites, acknowledgedState, countedOf, drainOf, notedAfter, clearedOf}
+use Rattle.ehci.specs.declared.call.Call.{Call}
+use Rattle.ehci.specs.declared.call.Call.the-variants.{Cancel, Collect, Drain}
+use Rattle.ehci.specs.declared.reply.Answered.the-variants.{Done, Pending}
+use Rattle.ehci.specs.declared.reply.Given.the-variants as G
+use Rattle.ehci.specs.declared.reply.Event.the-variants as E
+use Rattle.ehci.specs.Replies.{replied}
+use Rattle.ehci.specs.Decides.{acknowledgeDecided, asksOf, cancelDecided, collectDecided, decideOf, drainDecided}
+use Rattle.ehci.specs.Door.{Applied, applyOf}
+use Rattle.promises.specs.Runs.{World, core, History, Machine, Turn, historyOf, turnOf, worldOf}
+use native.Mathlib.Omega.{arith}
+use Rattle.settings.specs.Settings.{apartAreas, areaGood, eachGood, noOverlap, numbersGood, settingsGood}
+use Rattle.slot.specs.Ranges.{boundaryGood, closedGood, idleGood, linkedGood, noRequest, openKind, phaseGood, slotGood, unlinkingGood}
+use Rattle.common.specs.Kinds.{isInterrupt}
+use Rattle.promises.specs.Walks.{ringWalk, walkFrom}
+use Rattle.promises.specs.Events.{isCollected}
+use Rattle.promises.specs.Bells.{asked, bell, counted, kindAt, newestId, number, unlinking}
+use Rattle.promises.specs.Boundaries.{EveryRun, Exact}
+use Rattle.promises.proofs.invariants.Reached.{freshWorld}
+use Rattle.promises.proofs.wrong.WrongRuns.{acknowledges, linked, one, openedTwo, opening, reading, replies, small, stateOf, submits, waits}
+use Rattle.promises.proofs.wrong.WrongUp.{Plainly, isDrain, plain-rises, up-world, upCalls}
+use Rattle.promises.proofs.wrong.WrongCalls.{apartOne, linkedOne, submitted}
+use Rattle.promises.proofs.wrong.WrongBells.{goes-on, is-told, noteBefore}
+
+-- no advance is ever counted
+abbrev pub never : Machine
+never w c = core (noteBefore (isDrain c) 0 w) c
+
+never-plainly : Plainly never
+never-plainly w c d r n = rw d
+
+states-good : (inRanges (one 0 0 0 0 0 linked) ≡ true) × (inRanges (one 0 0 0 1 1 (waits 1)) ≡ true) × (inRanges (one 0x20 0x20 0 1 1 (waits 1)) ≡ true) × (inRanges (one 0 0x20 0 1 1 (waits 1)) ≡ true)
+unfolding stateOf inRanges restGood machineGood interruptGood doorbellGood ownerGood largest slotsGood slotGood phaseGood closedGood idleGood linkedGood unlinkingGood boundaryGood openKind noRequest settingsGood numbersGood eachGood noOverlap areaGood apartAreas slotAt withoutBits
+states-good = (refl, refl, refl, refl)
+
+-- newest first: one request is unlinked, which rings; the answer; a drain
+abbrev w : World
+w = freshWorld small
+
+abbrev c1 : List Call
+c1 = submits 0 0x500000 ∷ upCalls
+
+abbrev c2 : List Call
+c2 = Cancel 0 1 (reading 0x80031) ∷ c1
+
+abbrev c3 : List Call
+c3 = acknowledges 0x20 ∷ c2
+
+abbrev answered : List Call
+answered = Drain 0x80031 ∷ c3
+
+leaves : core (linkedOne (one 0 0 0 0 0 linked)) (Cancel 0 1 (reading 0x80031)) ≡ replies (Done G.Nothing) (andThen noWrites 0 (ringWord 0x80031)) (apartOne (one 0 0 0 1 1 (waits 1)))
+unfolding applyOf decideOf asksOf rowsFit replied fillOf filledFrom noChain packed listOf cancelDecided cancelOf acceptsOf endpointAt decoded slotAt unlinkOf waitingOf boundedOf unlinkedOf ringOf detachOf predecessorOf searchFrom precedesOne withEndpoint withSlot withBell stateOf
+leaves = rw (states-good .0)
+
+hears : core (apartOne (one 0 0 0 1 1 (waits 1))) (acknowledges 0x20) ≡ replies (Done G.Yes) (acknowledgeWrites 0x20 0x27 true true) (apartOne (one 0x20 0x20 1 1 1 (waits 1)))
+unfolding applyOf decideOf asksOf rowsFit replied fillOf filledFrom noChain packed listOf acknowledgeDecided acknowledgeOf onlyBits withBits anyOf acknowledgedState notedAfter withInterrupt withBell stateOf
+hears = rw (states-good .1)
+
+passes : core (apartOne (one 0x20 0x20 0 1 1 (waits 1))) (Drain 0x80031) ≡ replies (Done (G.Event E.TransferActivity)) noWrites (apartOne (one 0 0x20 0 1 1 (waits 1)))
+unfolding applyOf decideOf asksOf rowsFit replied fillOf filledFrom noChain packed listOf drainDecided drainOf anyOf withoutBits countedOf clearedOf withInterrupt withBell withBoundaries advancedOf ringOf fallenFrom fallenOne stateOf
+passes = rw (states-good .2)
+
+waits-on : core (apartOne (one 0 0x20 0 1 1 (waits 1))) (Collect 0 1 (reading 0x80031)) ≡ replies Pending noWrites (apartOne (one 0 0x20 0 1 1 (waits 1)))
+unfolding applyOf decideOf asksOf rowsFit replied fillOf filledFrom noChain packed listOf collectDecided collectOf acceptsOf endpointAt decoded slotAt unlinkingOf finishOf outcomeOf freed clearOf endedOverlay putAt terminated withOwner withEndpoint withSlot stateOf
+waits-on = rw (states-good .3)
+
+never-counts : never (apartOne (one 0x20 0x20 1 1 1 (waits 1))) (Drain 0x80031) ≡ replies (Done (G.Event E.TransferActivity)) noWrites (apartOne (one 0 0x20 0 1 1 (waits 1)))
+unfolding stateOf withBell
+never-counts = passes
+
+w1 : worldOf never w c1 ≡ linkedOne (one 0 0 0 0 0 linked)
+w1 = goes-on never w upCalls (submits 0 0x500000) openedTwo _ (up-world never (plain-rises never never-plainly)) submitted
+
+w2 : worldOf never w c2 ≡ apartOne (one 0 0 0 1 1 (waits 1))
+w2 = goes-on never w c1 (Cancel 0 1 (reading 0x80031)) (linkedOne (one 0 0 0 0 0 linked)) _ w1 leaves
+
+w3 : worldOf never w c3 ≡ apartOne (one 0x20 0x20 1 1 1 (waits 1))
+w3 = goes-on never w c2 (acknowledges 0x20) (apartOne (one 0 0 0 1 1 (waits 1))) _ w2 hears
+
+w4 : worldOf never w answered ≡ apartOne (one 0 0x20 0 1 1 (waits 1))
+w4 = goes-on never w c3 (Drain 0x80031) (apartOne (one 0x20 0x20 1 1 1 (waits 1))) _ w3 never-counts
+
+abbrev t1 : Turn
+t1 = turnOf (openedTwo .rows) (submits 0 0x500000) (replies (Done (G.Id 1)) (writesWith (reading 0x80031)) (linkedOne (one 0 0 0 0 0 linked)))
+
+abbrev t2 : Turn
+t2 = turnOf (linkedOne (one 0 0 0 0 0 linked) .rows) (Cancel 0 1 (reading 0x80031)) (replies (Done G.Nothing) (andThen noWrites 0 (ringWord 0x80031)) (apartOne (one 0 0 0 1 1 (waits 1))))
+
+abbrev t3 : Turn
+t3 = turnOf (apartOne (one 0 0 0 1 1 (waits 1)) .rows) (acknowledges 0x20) (replies (Done G.Yes) (acknowledgeWrites 0x20 0x27 true true) (apartOne (one 0x20 0x20 1 1 1 (waits 1))))
+
+abbrev t4 : Turn
+t4 = turnOf (apartOne (one 0x20 0x20 1 1 1 (waits 1)) .rows) (Drain 0x80031) (replies (Done (G.Event E.TransferActivity)) noWrites (apartOne (one 0 0x20 0 1 1 (waits 1))))
+
+abbrev told : History
+told = t4 ∷ t3 ∷ t2 ∷ t1 ∷ historyOf never w upCalls
+
+is-so : historyOf never w answered ≡ told
+is-so =
+    is-told never w c3 (Drain 0x80031) (apartOne (one 0x20 0x20 1 1 1 (waits 1))) _ w3 never-counts (t3 ∷ t2 ∷ t1 ∷ historyOf never w upCalls)
+    (is-told never w c2 (acknowledges 0x20) (apartOne (one 0 0 0 1 1 (waits 1))) _ w2 hears (t2 ∷ t1 ∷ historyOf never w upCalls)
+    (is-told never w c1 (Cancel 0 1 (reading 0x80031)) (linkedOne (one 0 0 0 0 0 linked)) _ w1 leaves (t1 ∷ historyOf never w upCalls)
+    (is-told never w upCalls (submits 0 0x500000) openedTwo _ (up-world never (plain-rises never never-plainly)) submitted (historyOf never w upCalls) refl)))
+
+-- by the history its advance is counted
+by-history : (isInterrupt (kindAt small 0 told) ≡ false) × (unlinking small 0 told ≡ true) × (newestId small 0 told ≡ 1) × (number small 0 told ≡ 1) × (counted small told ≡ 1)
+unfolding kindAt unlinking newestId number counted asked bell historyOf ringWalk walkFrom noWrites andThen ringWord withBits acknowledgeWrites
+by-history = (refl, refl, refl, refl, refl)
+
+pub never-exact : EveryRun Exact never → ⊥
+never-exact exact =
+    let h = historyOf never w answered in
+    let kind : isInterrupt (kindAt small 0 h) ≡ false = ap (λ (x : History). isInterrupt (kindAt small 0 x)) is-so ∙ by-history .0 in
+    let off : unlinking small 0 h ≡ true = ap (unlinking small 0) is-so ∙ by-history .1 in
+    let id : 1 ≡ newestId small 0 h = sym (ap (newestId small 0) is-so ∙ by-history .2) in
+    let reached : number small 0 h ≤ counted small h = omega (arith, ap (number small 0) is-so ∙ by-history .3, ap (counted small) is-so ∙ by-history .4) in
+    let done = exact small w opening answered 0 1 (reading 0x80031) .0 kind .1 (off, id, reached) in
+    let pending : isCollected (never (worldOf never w answered) (Collect 0 1 (reading 0x80031)) .reply .answer) ≡ false
+    = ap (λ (x : World). isCollected (never x (Collect 0 1 (reading 0x80031)) .reply .answer)) w4 ∙ ap (λ (a : Applied). isCollected (a .reply .answer)) waits-on in
+    false≢true (sym pending ∙ done)

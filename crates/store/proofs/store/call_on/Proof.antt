@@ -1,0 +1,40 @@
+use borrow.Author.Needs.{needs}
+use Rattle.store.proofs.store.call_on.Statement.{statement}
+use Rattle.store.proofs.store.call_on.Tie as tie
+use Rattle.store.proofs.store.call_on.Reads as reads
+use Rattle.store.proofs.store.call_on.Lts as lts
+use Rattle.store.proofs.store.bytes_lent.Reads as bytes-lent-reads
+use Rattle.store.proofs.store.lend_call.Reads as lend-call-reads
+use Rattle.store.proofs.store.records_lent.Reads as records-lent-reads
+use Rattle.store.proofs.store.words_lent.Reads as words-lent-reads
+use Rattle.store.proofs.StoreCases.{called-on}
+
+-- src/store.rt:281:9
+records-lent-requires : tie.Need-records-lent-requires
+records-lent-requires c κs = search needs
+
+-- src/store.rt:282:9
+words-lent-requires : tie.Need-words-lent-requires
+words-lent-requires c κs = search needs
+
+-- src/store.rt:283:9
+bytes-lent-requires : tie.Need-bytes-lent-requires
+bytes-lent-requires c κs = search needs
+
+-- src/store.rt:288:5
+lend-call-requires : tie.Need-lend-call-requires
+lend-call-requires c κs = search needs
+
+-- src/store.rt:276:1
+returns : tie.Need-returns
+returns c = search called-on
+
+pub call-on-spec : {M : Type 1} → statement M
+call-on-spec =
+    tie.close
+    (tie.spec
+    records-lent-requires
+    words-lent-requires
+    bytes-lent-requires
+    lend-call-requires
+    returns)

@@ -1,0 +1,2 @@
+// The owner of a controller's state and rows, by value, for programs.
+pub mod store;

@@ -1,3 +1,0 @@
-pub mod Owner
-pub mod WorldCases
-pub mod WorldLaws

@@ -1,2 +1,0 @@
-// The owner of a controller's state and rows, by value, for programs.
-pub mod world;
