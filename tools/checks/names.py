@@ -1,0 +1,75 @@
+"""What the repository declares: each name with the files that declare it."""
+import os, re
+
+from .edits import TOP, every, read
+
+ANTT = (
+    re.compile(r"^\s*(?:abbrev\s+|pub\s+)*(?:record|data|module)\s+([^\s:(){}]+)"),
+    re.compile(r"^\s*(?:abbrev\s+|pub\s+)*((?:[^\s:(){}⌜]+\s+)*?[^\s:(){}⌜]+)\s+:\s"),
+)
+CODE = (
+    re.compile(r"\b(?:fn|struct|enum|union|const|static|type|mod|trait|def|class)\s+(\w+)"),
+    re.compile(r"^\s*(?:pub\s+)?(\w+)\s*:\s"),
+    re.compile(r"^\s+(\w+)(?:\([^)]*\)|\s*\{[^}]*\})?,\s*(?://.*)?$"),
+    re.compile(r"^([A-Z_][A-Z_0-9]*)\s*="),
+)
+# C has no word before a function, and the oracle's Rust also speaks 000's names: there every word of the code counts.
+EVERY_WORD = re.compile(r"[A-Za-z_]\w*")
+
+
+def tracked(top):
+    """The files of the repository, without what is built."""
+    for folder, folders, files in os.walk(top):
+        folders[:] = sorted(f for f in folders if f not in (".git", "target", "__pycache__"))
+        for name in sorted(files):
+            yield os.path.relpath(os.path.join(folder, name), top)
+
+
+def declared(path, text):
+    """The names that one file declares."""
+    found = set()
+    if path.endswith((".rs", ".c", ".h")):
+        return set(EVERY_WORD.findall(text))
+    patterns = ANTT if path.endswith(".antt") else CODE
+    for line in text.split("\n"):
+        for pattern in patterns:
+            for hit in pattern.findall(line):
+                found.update(hit.split())
+    return found
+
+
+def is_code(path):
+    return path.endswith((".antt", ".rt", ".rs", ".c", ".h", ".py")) or (
+        path.startswith(("tools/", "bench/")) and "." not in os.path.basename(path))
+
+
+class Index:
+    """Names by file and files by name, files by their last part, crates and edits."""
+
+    def __init__(self, top=TOP):
+        self.top = top
+        self.files = list(tracked(top))
+        self.present = set(self.files)
+        self.folders = {os.path.dirname(path) for path in self.files}
+        self.folders |= {parent for folder in list(self.folders) for parent in parents(folder)}
+        self.of_file = {path: declared(path, read(os.path.join(top, path))) for path in self.files if is_code(path)}
+        self.of_name = {}
+        for path, names in self.of_file.items():
+            for name in names:
+                self.of_name.setdefault(name, set()).add(path)
+        self.crates = {path.split("/")[1] for path in self.files if path.startswith("crates/")}
+        self.modules = {os.path.basename(path).split(".")[0] for path in self.files if is_code(path)}
+        self.edits = {name for _, name, _ in every(top)}
+
+    def knows(self, name):
+        return name in self.of_name or name in self.crates or name in self.modules or name in self.edits
+
+    def under(self, crate, name):
+        """The files of a crate with this last part."""
+        return [path for path in self.files if path.startswith(f"crates/{crate}/") and os.path.basename(path) == name]
+
+
+def parents(folder):
+    while folder:
+        yield folder
+        folder = os.path.dirname(folder)
