@@ -48,8 +48,8 @@ def resolve(index, doc, token, crate=None):
                 return found
         elif path in index.present or path in index.folders:
             return [path]
-    if crate and "/" not in token:
-        return index.under(crate, token)
+    if "/" not in token and (crate or starts):
+        return index.under(crate, token) if crate else [path for path in index.files if path.startswith(starts[0]) and os.path.basename(path) == token]
     return [path for path in index.files if fnmatch.fnmatch(path, f"crates/*/{token}")] if "*" in token else []
 
 

@@ -4,8 +4,8 @@ import os, re
 from .edits import TOP, every, read
 
 ANTT = (
-    re.compile(r"^\s*(?:abbrev\s+|pub\s+)*(?:record|data|module)\s+([^\s:(){}]+)"),
-    re.compile(r"^\s*(?:abbrev\s+|pub\s+)*((?:[^\s:(){}⌜]+\s+)*?[^\s:(){}⌜]+)\s+:\s"),
+    re.compile(r"^\s*(?:abbrev\s+|unfoldable\s+|pub\s+)*(?:record|data|module)\s+([^\s:(){}]+)"),
+    re.compile(r"^\s*(?:abbrev\s+|unfoldable\s+|pub\s+)*((?:[^\s:(){}⌜]+\s+)*?[^\s:(){}⌜]+)\s+:\s"),
 )
 CODE = (
     re.compile(r"\b(?:fn|struct|enum|union|const|static|type|mod|trait|def|class)\s+(\w+)"),
@@ -59,10 +59,11 @@ class Index:
                 self.of_name.setdefault(name, set()).add(path)
         self.crates = {path.split("/")[1] for path in self.files if path.startswith("crates/")}
         self.modules = {os.path.basename(path).split(".")[0] for path in self.files if is_code(path)}
+        self.last = {os.path.basename(folder) for folder in self.folders}
         self.edits = {name for _, name, _ in every(top)}
 
     def knows(self, name):
-        return name in self.of_name or name in self.crates or name in self.modules or name in self.edits
+        return any(name in known for known in (self.of_name, self.crates, self.modules, self.edits, self.present, self.last))
 
     def under(self, crate, name):
         """The files of a crate with this last part."""
