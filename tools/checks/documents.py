@@ -146,27 +146,40 @@ def crate_of(index, doc, token, line, at):
     return first if first in index.crates else crate_before(index, line, at) or (base if base in index.crates else None)
 
 
+def moved(index, crate, token):
+    """The one path of a crate's file, or of a pattern's files, that has another folder than it is cited with."""
+    last = os.path.basename(token)
+    found = [path for path in index.files if path.startswith(f"crates/{crate}/") and fnmatch.fnmatch(os.path.basename(path), last)]
+    places = {os.path.join(os.path.dirname(path), last) for path in found}
+    return places.pop() if len(places) == 1 else None
+
+
+def home(index, crate, names, like):
+    """The one file of a crate, of the same kind, that declares all these names."""
+    found = [path for path in index.files if path.startswith(f"crates/{crate}/") and not path.endswith("/Proof.antt")
+             and os.path.splitext(path)[1] == os.path.splitext(like)[1] and all(name in index.of_file.get(path, ()) for name in names)]
+    return found[0] if names and len(found) == 1 else None
+
+
 def mended(index, doc, line):
     """The line with each cited file in its place, where its crate has exactly one such file."""
     def put(hit):
-        token = hit[1]
-        crate = crate_of(index, doc, token, line, hit.start())
-        if resolve(index, doc, token, crate) or is_allowed_file(token) or not crate:
-            return token
-        found = index.under(crate, os.path.basename(token))
-        return shown(doc, found[0]) if len(found) == 1 else token
+        crate = crate_of(index, doc, hit[1], line, hit.start())
+        if is_allowed_file(hit[1]) or not crate or resolve(index, doc, hit[1], crate):
+            return hit[1]
+        path = moved(index, crate, hit[1])
+        return shown(doc, path) if path else hit[1]
 
     line = PATH.sub(put, line)
     for names, text, at in list(groups(line)):
         found = PATH.findall(text)
         crate = crate_of(index, doc, found[0], line, at) if len(found) == 1 else None
         here = resolve(index, doc, found[0], crate) if crate else []
-        if not here or not names or all(name in index.of_file.get(here[0], ()) for name in names):
+        if not crate or (here and any(name in index.of_file.get(here[0], ()) for name in names)):
             continue
-        others = [path for path in index.files if path.startswith(f"crates/{crate}/") and not path.endswith("/Proof.antt")
-                  and all(name in index.of_file.get(path, ()) for name in names)]
-        if len(others) == 1:
-            line = line.replace(f"({text})", f"({text.replace(found[0], shown(doc, others[0]))})")
+        path = home(index, crate, names, found[0])
+        if path:
+            line = line.replace(f"({text})", f"({text.replace(found[0], shown(doc, path))})")
     return line
 
 

@@ -90,6 +90,33 @@ def write(top):
     return changed
 
 
+def mended(index, header, row):
+    """The row with each lost file of its column `file` replaced by the one of its crate that has what the row names."""
+    place = header.index("file")
+    spans = documents.SPAN.findall(row[header.index("theorem or contract")])
+    names = {documents.parts_of(span)[-1] for span in spans if documents.parts_of(span)}
+    tokens = documents.PATH.findall(row[place])
+    there = [path for token in tokens for path in documents.resolve(index, PAGE, token)]
+    left = {name for name in names if name in index.of_name and not any(name in index.of_file.get(path, ()) for path in there)}
+    for token in tokens:
+        crate = token.split("/")[0]
+        mine = [name for name in left if any(path.startswith(f"crates/{crate}/") and path.endswith(token[-3:]) for path in index.of_name[name])]
+        path = None if documents.resolve(index, PAGE, token) else documents.home(index, crate, mine, token)
+        row[place] = row[place].replace(token, documents.shown(PAGE, path)) if path else row[place]
+    return row
+
+
+def mend(index):
+    """Writes the column `file` anew where a file of it is lost and can be told from what the row names."""
+    path = os.path.join(index.top, PAGE)
+    lines = read(path).split("\n")
+    for number, header, row in rows(index.top):
+        if "file" in header and len(row) == len(header):
+            lines[number - 1] = "| " + " | ".join(mended(index, header, row)) + " |"
+    with open(path, "w", encoding="utf-8") as opened:
+        opened.write("\n".join(lines))
+
+
 def out_of_files(index):
     """A theorem or contract of a row that is in none of the files that the row cites."""
     errors = []
