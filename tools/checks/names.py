@@ -15,6 +15,7 @@ CODE = (
 )
 # C has no word before a function, and the oracle's Rust also speaks 000's names: there every word of the code counts.
 EVERY_WORD = re.compile(r"[A-Za-z_]\w*")
+OTHERS = (".rs", ".c", ".h")
 
 
 def tracked(top):
@@ -28,10 +29,12 @@ def tracked(top):
 def declared(path, text):
     """The names that one file declares."""
     found = set()
-    if path.endswith((".rs", ".c", ".h")):
-        return set(EVERY_WORD.findall(text))
+    comment = "--" if path.endswith(".antt") else "#" if path.endswith(".py") else "//"
+    lines = [line.split(comment)[0] for line in text.split("\n")]
+    if path.endswith(OTHERS):
+        return set(EVERY_WORD.findall("\n".join(lines)))
     patterns = ANTT if path.endswith(".antt") else CODE
-    for line in text.split("\n"):
+    for line in lines:
         for pattern in patterns:
             for hit in pattern.findall(line):
                 found.update(hit.split())
@@ -62,7 +65,10 @@ class Index:
         self.last = {os.path.basename(folder) for folder in self.folders}
         self.edits = {name for _, name, _ in every(top)}
 
-    def knows(self, name):
+    def knows(self, name, here=False):
+        """Whether there is such a name; `here`: in this port, and not only in the oracle or the C beside it."""
+        if here and name in self.of_name and all(path.endswith(OTHERS) for path in self.of_name[name]):
+            return False
         return any(name in known for known in (self.of_name, self.crates, self.modules, self.edits, self.present, self.last))
 
     def under(self, crate, name):
