@@ -67,9 +67,9 @@ class Index:
 
     def knows(self, name, here=False):
         """Whether there is such a name; `here`: in this port, and not only in the oracle or the C beside it."""
-        if here and name in self.of_name and all(path.endswith(OTHERS) for path in self.of_name[name]):
-            return False
-        return any(name in known for known in (self.of_name, self.crates, self.modules, self.edits, self.present, self.last))
+        if any(name in known for known in (self.crates, self.modules, self.edits, self.present, self.last)):
+            return True
+        return any(not here or not path.endswith(OTHERS) for path in self.of_name.get(name, ()))
 
     def under(self, crate, name):
         """The files of a crate with this last part."""
