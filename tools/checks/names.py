@@ -9,10 +9,11 @@ ANTT = (
 )
 CODE = (
     re.compile(r"\b(?:fn|struct|enum|union|const|static|type|mod|trait|def|class)\s+(\w+)"),
-    re.compile(r"^\s*(?:pub\s+)?(\w+)\s*:\s"),
-    re.compile(r"^\s+(\w+)(?:\([^)]*\)|\s*\{[^}]*\})?,\s*(?://.*)?$"),
     re.compile(r"^([A-Z_][A-Z_0-9]*)\s*="),
 )
+# the fields and the cases of a type, from its first line to its closing brace
+TYPE = re.compile(r"^(?:pub )?(?:struct|enum) \w+ \{\n(.*?)^\}", re.M | re.S)
+MEMBER = re.compile(r"^\s+(?:pub\s+)?(\w+)\s*(?::|\(|\{|,)", re.M)
 # C has no word before a function, and the oracle's Rust also speaks 000's names: there every word of the code counts.
 EVERY_WORD = re.compile(r"[A-Za-z_]\w*")
 OTHERS = (".rs", ".c", ".h")
@@ -38,6 +39,8 @@ def declared(path, text):
         for pattern in patterns:
             for hit in pattern.findall(line):
                 found.update(hit.split())
+    for body in TYPE.findall("\n".join(lines)):
+        found.update(MEMBER.findall(body))
     return found
 
 
