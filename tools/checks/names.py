@@ -64,8 +64,8 @@ class Index:
             for name in names:
                 self.of_name.setdefault(name, set()).add(path)
         self.crates = {path.split("/")[1] for path in self.files if path.startswith("crates/")}
-        self.modules = {os.path.basename(path).split(".")[0] for path in self.files if is_code(path)}
-        self.last = {os.path.basename(folder) for folder in self.folders}
+        self.modules = {os.path.basename(path).split(".")[0] for path in self.files if is_code(path) and not path.endswith("/Proof.antt")}
+        self.last = {os.path.basename(folder) for folder in self.folders if "/proofs" not in folder}
         self.edits = {name for _, name, _ in every(top)}
 
     def knows(self, name, here=False):
