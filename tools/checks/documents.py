@@ -56,7 +56,7 @@ def resolve(index, doc, token, crate=None):
 
 
 def is_allowed_file(token):
-    return token in FILES or any(part.isupper() for part in token.split("/"))
+    return token in FILES or token.startswith("target/") or any(part.isupper() for part in token.split("/"))
 
 
 def missing_files(index, doc, number, line):
@@ -112,7 +112,7 @@ def elsewhere(index, doc, number, line):
     for names, text, at in groups(line):
         files = files_in(index, doc, line, text, at)
         for name in names:
-            if files and not any(name in index.of_file.get(path, ()) for path in files):
+            if any(path in index.of_file for path in files) and not any(name in index.of_file.get(path, ()) for path in files):
                 errors.append(f"{doc}:{number}: {name} is not in {text.strip()}{where(index, name)}")
     return errors
 
