@@ -19,7 +19,8 @@ BASES = {"docs/READING.md": "crates/promises", "oracle/README.md": "oracle"}
 
 
 def documents(top):
-    found = glob.glob(os.path.join(top, "docs", "*.md")) + [os.path.join(top, name) for name in ("README.md", "oracle/README.md")]
+    found = glob.glob(os.path.join(top, "docs", "*.md"))
+    found += [os.path.join(top, name) for name in ("README.md", "oracle/README.md")]
     return sorted(os.path.relpath(path, top) for path in found if os.path.exists(path))
 
 
@@ -35,7 +36,8 @@ def lines_of(top, doc):
 
 def crate_before(index, line, at):
     """The crate that was last cited in the line, before this place."""
-    found = [hit[1] for hit in re.finditer(r"\b([a-z_0-9]+)/(?:src|specs|proofs)\b", line[:at]) if hit[1] in index.crates]
+    found = re.findall(r"\b([a-z_0-9]+)/(?:src|specs|proofs)\b", line[:at])
+    found = [crate for crate in found if crate in index.crates]
     return found[-1] if found else None
 
 
@@ -51,8 +53,8 @@ def resolve(index, doc, token, crate=None):
         elif path in index.present or path in index.folders:
             return [path]
     if "/" not in token and (crate or starts):
-        return index.under(crate, token) if crate else [path for path in index.files if path.startswith(starts[0]) and os.path.basename(path) == token]
-    return [path for path in index.files if fnmatch.fnmatch(path, f"crates/*/{token}")] if "*" in token else []
+        return index.under(f"crates/{crate}" if crate else starts[0], token)
+    return fnmatch.filter(index.files, f"crates/*/{token}") if "*" in token else []
 
 
 def is_allowed_file(token):
@@ -94,8 +96,8 @@ def missing_names(index, doc, number, line):
 def groups(line):
     """Names that are cited with files: the names, and the text that has the paths, with its place."""
     for hit in list(CITED.finditer(line)) + list(STANDS_IN.finditer(line)):
-        names = [parts_of(span)[-1] for span in SPAN.findall(hit[1]) if NAME.match(re.split(r"[ (]", span)[0].split("::")[-1]) and parts_of(span)]
-        yield names, hit[2], hit.start(2)
+        spans = [span for span in SPAN.findall(hit[1]) if NAME.match(re.split(r"[ (]", span)[0].split("::")[-1])]
+        yield [parts_of(span)[-1] for span in spans if parts_of(span)], hit[2], hit.start(2)
 
 
 def files_in(index, doc, line, text, at):
@@ -112,13 +114,15 @@ def elsewhere(index, doc, number, line):
     for names, text, at in groups(line):
         files = files_in(index, doc, line, text, at)
         for name in names:
-            if any(path in index.of_file for path in files) and not any(name in index.of_file.get(path, ()) for path in files):
+            code = [path for path in files if path in index.of_file]
+            if code and not any(name in index.of_file[path] for path in code):
                 errors.append(f"{doc}:{number}: {name} is not in {text.strip()}{where(index, name)}")
     return errors
 
 
 def where(index, name):
-    found = sorted(path for path in index.of_name.get(name, ()) if path.endswith((".antt", ".rt")) and "/Proof.antt" not in path)
+    found = sorted(path for path in index.of_name.get(name, ()) if path.endswith((".antt", ".rt")))
+    found = [path for path in found if "/Proof.antt" not in path]
     return f" (it is in {', '.join(found[:3])})" if found else ""
 
 
@@ -151,15 +155,15 @@ def crate_of(index, doc, token, line, at):
 def moved(index, crate, token):
     """The one path of a crate's file, or of a pattern's files, that has another folder than it is cited with."""
     last = os.path.basename(token)
-    found = [path for path in index.files if path.startswith(f"crates/{crate}/") and fnmatch.fnmatch(os.path.basename(path), last)]
-    places = {os.path.join(os.path.dirname(path), last) for path in found}
+    places = {os.path.join(os.path.dirname(path), last) for path in index.under(f"crates/{crate}", last)}
     return places.pop() if len(places) == 1 else None
 
 
 def home(index, crate, names, like):
     """The one file of a crate, of the same kind, that declares all these names."""
-    found = [path for path in index.files if path.startswith(f"crates/{crate}/") and not path.endswith("/Proof.antt")
-             and os.path.splitext(path)[1] == os.path.splitext(like)[1] and all(name in index.of_file.get(path, ()) for name in names)]
+    found = index.under(f"crates/{crate}", "*" + os.path.splitext(like)[1])
+    found = [path for path in found if not path.endswith("/Proof.antt")]
+    found = [path for path in found if all(name in index.of_file[path] for name in names)]
     return found[0] if names and len(found) == 1 else None
 
 

@@ -1,4 +1,4 @@
-"""The public functions of the libraries: which ask something of their caller, and which contracts do not fix the result.
+"""The public functions of the libraries: those that ask something of their caller, those not fixed by their contract.
 
 docs/PROMISES.md has a table for each of the two, by crate; their second columns are written by `tools/check --write`."""
 import glob, os, re
@@ -28,7 +28,9 @@ def fixes(head):
     clauses = [" ".join(clause.split()) for clause in re.findall(r"ensures \{(.*?)⌝ \}", head, re.S)]
     for clause in clauses:
         hit = re.match(r"λ (\w+)\. ⌜ (.*)", clause)
-        if hit and (re.search(WHOLE.format(r=re.escape(hit[1])), hit[2]) or ("->" not in head and " .exit)" in hit[2] and "≡" in hit[2])):
+        if hit and re.search(WHOLE.format(r=re.escape(hit[1])), hit[2]):
+            return True
+        if hit and "->" not in head and re.search(r" \.exit\).* ≡", hit[2]):
             return True
     return False
 
@@ -60,7 +62,7 @@ def tables(top):
             header = None
         elif header is None:
             header = cells(line)
-        elif header[0] == "crate" and len(header) > 1 and header[1] in ("functions that ask", "not fixed") and not line.startswith("|---"):
+        elif header[0] == "crate" and header[1] in ("functions that ask", "not fixed") and not line.startswith("|---"):
             rows.append((number, header[1], cells(line)))
     return rows
 

@@ -1,5 +1,5 @@
 """What the repository declares: each name with the files that declare it."""
-import os, re
+import fnmatch, os, re
 
 from .edits import TOP, every, read
 
@@ -64,7 +64,7 @@ class Index:
             for name in names:
                 self.of_name.setdefault(name, set()).add(path)
         self.crates = {path.split("/")[1] for path in self.files if path.startswith("crates/")}
-        self.modules = {os.path.basename(path).split(".")[0] for path in self.files if is_code(path) and not path.endswith("/Proof.antt")}
+        self.modules = {os.path.basename(path).split(".")[0] for path in self.of_file if not path.endswith("/Proof.antt")}
         self.last = {os.path.basename(folder) for folder in self.folders if "/proofs" not in folder}
         self.edits = {name for _, name, _ in every(top)}
 
@@ -74,9 +74,10 @@ class Index:
             return True
         return any(not here or not path.endswith(OTHERS) for path in self.of_name.get(name, ()))
 
-    def under(self, crate, name):
-        """The files of a crate with this last part."""
-        return [path for path in self.files if path.startswith(f"crates/{crate}/") and os.path.basename(path) == name]
+    def under(self, folder, pattern):
+        """The files below a folder whose last part is so."""
+        found = [path for path in self.files if path.startswith(folder + "/")]
+        return [path for path in found if fnmatch.fnmatchcase(os.path.basename(path), pattern)]
 
 
 def parents(folder):

@@ -8,8 +8,6 @@ from .names import tracked
 # a text of the project says how things are, not when or on whose account they came
 HISTORY = re.compile(r"\bissues? \d|\bissue'?s\b|\bparts? [1-9]\b|\bfor now\b|\bat the moment\b|\blater parts\b|\bthis session\b"
                      r"|\bDESIGN\b|\bORDERS\.md\b|\bshould come to it\b")
-# 01's own words, quoted
-QUOTED = ("The Rust stands for now",)
 TEXTS = (".md", ".rt", ".antt", ".py", ".rs", ".c", ".h", ".edit", ".txt", ".toml")
 THIS = "tools/checks/pages.py"
 
@@ -25,7 +23,7 @@ def history(top):
             continue
         for number, line in enumerate(read(os.path.join(top, path)).split("\n"), 1):
             hit = HISTORY.search(line)
-            if hit and not any(words in line for words in QUOTED):
+            if hit:
                 errors.append(f"{path}:{number}: history or another page: {hit[0]}")
     return errors
 
@@ -40,7 +38,8 @@ def decisions(top):
         last = int(hit[1]) if hit else last
     for doc in documents(top):
         for number, line in enumerate(read(os.path.join(top, doc)).split("\n"), 1):
-            errors += [f"{doc}:{number}: there is no decision {hit}" for hit in re.findall(r"DECISIONS (\d+)", line) if not 0 < int(hit) <= last]
+            cited = re.findall(r"DECISIONS (\d+)", line)
+            errors += [f"{doc}:{number}: there is no decision {cite}" for cite in cited if not 0 < int(cite) <= last]
     return errors
 
 
@@ -54,23 +53,27 @@ def differences(top):
             errors.append(f"{page}:{number}: {hit[1]} is also the entry of line {seen[hit[1]]}")
         if hit:
             seen[hit[1]] = number
-    counted = re.findall(r'^    \("([^"]+)", (?:Departure|Outside|Rule)', read(os.path.join(top, "oracle/src/tags.rs")), re.M)
-    errors += [f"oracle/src/tags.rs:1: {page} does not name the tag {tag}" for tag in counted if not re.search(rf"(?<![\w-]){tag}(?![\w-])", text)]
-    errors += [f"oracle/src/tags.rs:1: {page} has no entry {tag}" for tag in counted if re.fullmatch(r"[A-Z]\d+", tag) and tag not in seen]
+    tags = "oracle/src/tags.rs"
+    counted = re.findall(r'^    \("([^"]+)", (?:Departure|Outside|Rule)', read(os.path.join(top, tags)), re.M)
+    for tag in counted:
+        if not re.search(rf"(?<![\w-]){tag}(?![\w-])", text):
+            errors.append(f"{tags}:1: {page} does not name the tag {tag}")
+        if re.fullmatch(r"[A-Z]\d+", tag) and tag not in seen:
+            errors.append(f"{tags}:1: {page} has no entry {tag}")
     said = re.findall(r"^- Counted: (?!not)([A-Z]\d*)", text, re.M)
     errors += [f"{page}:1: an entry is counted as {tag}, which the oracle does not count" for tag in said if tag not in counted]
     return errors
 
 
 def quotes(top, document):
-    """A sentence of PROMISES in quotation marks that the given document does not have, word for word."""
+    """What a document has in quotation marks and the given document does not have, word for word."""
     plain = " ".join(read(document).split())
     errors = []
     for doc in documents(top):
         for number, line in enumerate(read(os.path.join(top, doc)).split("\n"), 1):
             for quote in re.findall(r'"([^"]+)"', re.sub(r"`[^`]*`", "", line)):
-                lost = [piece.strip() for piece in quote.split("..") if piece.strip(" .,;:") and piece.strip(" .,;:") not in plain]
-                errors += [f"{doc}:{number}: no such words: {piece}" for piece in lost]
+                pieces = [piece.strip(" .,;:") for piece in quote.split("..")]
+                errors += [f"{doc}:{number}: no such words: {piece}" for piece in pieces if piece not in plain]
     return errors
 
 

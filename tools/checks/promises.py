@@ -97,10 +97,11 @@ def mended(index, header, row):
     names = {documents.parts_of(span)[-1] for span in spans if documents.parts_of(span)}
     tokens = documents.PATH.findall(row[place])
     there = [path for token in tokens for path in documents.resolve(index, PAGE, token)]
-    left = {name for name in names if name in index.of_name and not any(name in index.of_file.get(path, ()) for path in there)}
+    left = {name for name in names if not any(name in index.of_file.get(path, ()) for path in there)}
     for token in tokens:
         crate = token.split("/")[0]
-        mine = [name for name in left if any(path.startswith(f"crates/{crate}/") and path.endswith(token[-3:]) for path in index.of_name[name])]
+        files = index.under(f"crates/{crate}", "*" + os.path.splitext(token)[1])
+        mine = [name for name in left if any(name in index.of_file[path] for path in files)]
         path = None if documents.resolve(index, PAGE, token) else documents.home(index, crate, mine, token)
         row[place] = row[place].replace(token, documents.shown(PAGE, path)) if path else row[place]
     return row
@@ -129,7 +130,7 @@ def out_of_files(index):
         for span in documents.SPAN.findall(row[header.index("theorem or contract")]):
             parts = documents.parts_of(span)
             name = parts[-1] if parts else None
-            if files and name and name in index.of_name and not any(name in index.of_file.get(path, ()) for path in files):
+            if files and name in index.of_name and not any(name in index.of_file.get(path, ()) for path in files):
                 errors.append(f"{PAGE}:{number}: {name} is in no file that the row cites{documents.where(index, name)}")
     return errors
 
