@@ -20,6 +20,4 @@ WORDS = {
     "ensures": "a word of the language",
     "AtomicUsize": "a type of Rust's library",
     "try_update": "a function of Rust's library",
-    "row": "the line of an edit that names its rows",
-    "bytes": "a word of the log's format",
 }
