@@ -45,15 +45,15 @@ def addresses(log):
 def inclusive(addresses, entries):
     """What each call of the functions at `entries` took, by the names of those that it stands in and its own."""
     took, open_calls, before = {}, [], 0
-    for now, address in enumerate(addresses):
+    for turn, address in enumerate(addresses):
         while open_calls and any(caller < address <= caller + LONGEST for _, caller, _ in open_calls):
             names, caller, entered = open_calls.pop()
             if not caller < address <= caller + LONGEST:
                 programs.stop(f"{names[-1]} did not return to where it was called")
-            took.setdefault(names, []).append(now - entered)
+            took.setdefault(names, []).append(turn - entered)
         if address in entries:
             within = open_calls[-1][0] if open_calls else ()
-            open_calls.append((within + (entries[address],), before, now))
+            open_calls.append((within + (entries[address],), before, turn))
         before = address
     return took
 

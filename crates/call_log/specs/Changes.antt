@@ -1,4 +1,4 @@
--- "Changed is against the words before the call": the lines of what changed, all ascending.
+-- Changed is against the words before the call: the lines of what changed, all ascending.
 use Prim.Native.Nat.{ℕ, zero, suc, _+_, _*_, _/_, _%_, min}
 use mathlib.Core.Bool.{Bool, not, _&&_, _||_, cond}
 use mathlib.Core.List.{List, [], _∷_}

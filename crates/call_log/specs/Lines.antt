@@ -45,7 +45,7 @@ spaced (part ∷ parts) = (32 ∷ part) ++ spaced parts
 unfoldable pub lineOf : ℕ → List (List ℕ) → List ℕ
 lineOf letter parts = letter ∷ (spaced parts ++ (10 ∷ []))
 
--- "words as eight lower-case hex digits"
+-- words as eight lower-case hex digits
 abbrev pub word : ℕ → List ℕ
 word value = hex value 8
 

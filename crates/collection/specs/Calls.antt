@@ -28,7 +28,7 @@ use Rattle.collection.specs.declared.collected.Collection.{Collection}
 use Rattle.collection.specs.Answers.{outcomeOf, pendingCollect, pendingOf, refusedCancel, refusedCollect}
 use Rattle.collection.specs.Unlinks.{Left, left, passedBoundary, unlinkOf}
 
--- a linked slot while 32 unlinks are unanswered: there are 31 other slots, so no run from opening should come to it (docs/DECISIONS.md)
+-- a linked slot while 32 unlinks are unanswered: there are 31 other slots, so no run from opening comes to it (docs/DECISIONS.md, 13)
 abbrev pub crowdedAt : Endpoint → ℕ → Bool
 crowdedAt Closed unanswered = false
 crowdedAt (Idle p) unanswered = false

@@ -50,7 +50,7 @@ drainedValue (RefusedDrain r) = 0
 
 -- ---- acknowledge
 
--- "USBINTR = read value without (p and 0x27), or 0 if the flag reading is off"
+-- USBINTR = read value without (p and 0x27), or 0 if the flag reading is off
 unfoldable pub maskWord : ℕ → ℕ → Bool → ℕ
 maskWord p interrupts flag = onlyIf flag (withoutBits interrupts (onlyBits p 0x27))
 

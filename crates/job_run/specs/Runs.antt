@@ -130,7 +130,7 @@ openedTo (suc k) start job = openStep (openedTo k start job) k (getD (jobOf job 
 
 -- ---- then the requests are submitted, in order
 
--- "A request's kind is its record's"; one that is not there is refused whatever the kind
+-- A request's kind is its record's; one that is not there is refused whatever the kind
 abbrev pub kindFor : Job → ℕ → EndpointType
 kindFor job place =
     cond (ltb place (job .opens)) (kindOf (getD (jobOf job .endpoints) place noEndpoint .kind)) Control

@@ -64,7 +64,7 @@ listed : listingOf (packed example) ran ≡ opened ++ (taken ++ (first ++ (secon
 unfolding answeredLines decimal decimalUpTo descriptorLine endpointLine example filled first hex joined linesTo listingOf numberField opened packed placeLines ran requestLine second slotOf taken third wordField
 listed = refl
 
--- "an empty job prints nothing"
+-- an empty job prints nothing
 none : (r : Outcome) → listingOf (packed (record { endpoints = []; requests = [] })) r ≡ []
 unfolding filled linesTo listingOf packed
 none r = refl

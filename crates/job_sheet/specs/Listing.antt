@@ -1,4 +1,4 @@
--- Document 01, "Job sheets": the lines of a listing. "E: record, answer. R: request, answer, id. D: place, token, next, five slots."
+-- Document 01, the job sheet: the lines of a listing. E: record, answer. R: request, answer, id. D: place, token, next, five slots.
 use Prim.Native.Nat.{ℕ}
 use mathlib.Core.List.{List, [], _∷_, _++_}
 use Rattle.descriptor.specs.declared.qtd.QueueTransferDescriptor.{QueueTransferDescriptor}

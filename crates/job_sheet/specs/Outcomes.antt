@@ -1,5 +1,5 @@
--- Document 01, "Job sheets": the listing of a job that was run. "All E lines, then for each request its R line followed at
--- once by its D lines in chain order if accepted."
+-- Document 01, the job sheet: the listing of a job that was run. All E lines, then for each request its R line followed at
+-- once by its D lines in chain order if accepted.
 use mathlib.Core.Bool.{cond}
 use Prim.Native.Nat.{ℕ, _+_}
 use mathlib.Core.List.{List, _++_}

@@ -1,4 +1,4 @@
--- Document 01, "Job sheets": the job of a sheet's bytes, each field by its place, and whether the sheet is good.
+-- Document 01, the job sheet: the job of a sheet's bytes, each field by its place, and whether the sheet is good.
 use Prim.Native.Nat.{ℕ, zero, suc, _+_, _*_, _-_}
 use mathlib.Core.Bool.{Bool, true, false, _&&_, _||_, cond}
 use mathlib.Core.List.{List, [], _∷_, _++_}

@@ -1,4 +1,4 @@
--- Document 01, "Job sheets": the format, as its writer; a good job is one that has a sheet.
+-- Document 01, the job sheet: the format, as its writer; a good job is one that has a sheet.
 use Prim.Native.Nat.{ℕ, _+_, _≤_, _<_, _^_}
 use mathlib.Core.Path.{_≡_}
 use mathlib.Core.Bool.{Bool, false, _&&_}
@@ -14,11 +14,11 @@ pub record SheetJob : Type 0 where
   pub endpoints : List EndpointRecord
   pub requests : List RequestRecord
 
--- "kind, address, number, 0, 16-bit packet size"
+-- kind, address, number, 0, 16-bit packet size
 unfoldable pub endpointBytes : EndpointRecord → List ℕ
 endpointBytes e = e .kind ∷ e .address ∷ e .number ∷ 0 ∷ littleEndian 2 (e .packet)
 
--- "endpoint record, direction, setup bytes 0 to 5, 64-bit address, 32-bit length"
+-- endpoint record, direction, setup bytes 0 to 5, 64-bit address, 32-bit length
 unfoldable pub requestBytes : RequestRecord → List ℕ
 requestBytes r =
     r .endpoint ∷ r .direction ∷ (littleEndian 6 (r .setup) ++ (littleEndian 8 (r .buffer) ++ littleEndian 4 (r .length)))

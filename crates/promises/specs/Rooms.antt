@@ -81,7 +81,7 @@ pub record TokenWritten (t : Turn) (p : ℕ) : Type 0 where
 abbrev pub RecordStays : Turn → ℕ → Type 0
 RecordStays t p = (recordAfter t p ≡ recordBefore t p) ⊎ TokenWritten t p
 
--- "no place is in two uncollected requests" and none twice in one; of their records any next call changes only the token of the place
+-- no place is in two uncollected requests and none twice in one; of their records any next call changes only the token of the place
 -- that it writes back
 pub record Exclusive (m : Machine) (s : Settings) (h : History) (w : World) : Type 0 where
   pub distinct : Distinct (placesInUse (uses s h))

@@ -25,7 +25,7 @@ walkFrom s heads (suc n) word =
     (headPlace s word
     ∷ endIf (eqb (headPlace s word) 0) (walkFrom s heads n (getD heads (17 * headPlace s word) 0)))
 
--- "a walk .. with fuel E + 1": the ring's, and that of frame entry f
+-- walks with fuel E + 1: the ring's, and that of frame entry f
 unfoldable pub ringWalk : Settings → Rows → List ℕ
 ringWalk s rows = walkFrom s (rows .heads) (s .endpoints + 1) (getD (rows .heads) 0 0)
 

@@ -30,7 +30,7 @@ use Rattle.replayer.specs.declared.keeper.Acted.{Acted}
 use Rattle.replayer.specs.declared.keeper.Keeper.{Keeper}
 use Rattle.replayer.specs.declared.turn.Turned.{Turned}
 
--- "rows zero at the start", and no controller opened
+-- rows zero at the start, and no controller opened
 unfoldable pub freshKeeper : Keeper
 freshKeeper = record { store = blankStore; hub = openedHub 0; opened = false }
 
@@ -54,7 +54,7 @@ pub record Effect : Type 0 where
 abbrev pub effectOf : Acted → Effect
 effectOf a = record { keeper = a .keeper; first = lineBytes (a .line); opening = a .opening; writes = a .writes }
 
--- "a refused opening leaves the earlier controller as it was; an accepted one replaces it"
+-- a refused opening leaves the earlier controller as it was; an accepted one replaces it
 abbrev pub openedAs : Answer → Keeper → ℕ → ℕ → OpenedStore → Effect
 openedAs A.Done k n number o =
     record {
@@ -132,7 +132,7 @@ recordEffect k n bytes = actOf k n (getD bytes 0 0) (entryOf bytes)
 unfoldable pub saidOf : Keeper → ℕ → List ℕ → List ℕ
 saidOf k n bytes = cond (isBad (entryOf bytes)) (badLine n) (shownOf k (recordEffect k n bytes))
 
--- "and nothing after it"
+-- and nothing after it
 unfoldable pub turnedOf : Keeper → ℕ → List ℕ → Turned
 turnedOf k n bytes =
     cond (isBad (entryOf bytes)) (record { keeper = k; end = length (saidOf k n bytes); more = false })

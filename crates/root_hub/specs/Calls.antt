@@ -53,7 +53,7 @@ scannedOf h t p =
 abbrev pub turnAt : EhciRootHub → ℕ → Turned
 turnAt h v = turnOf (awaitedOf (h .step)) (stateAt h) (h .port) v
 
--- "a step with none begun: 1"
+-- a step with none begun: 1
 unfoldable pub stepOf : EhciRootHub → ℕ → Scanned
 stepOf h v =
     settle (first ((not (hubGood h), InvalidParameter) ∷ (eqb (h .step) 0, InvalidParameter) ∷ [])) (refusedScan h)

@@ -1,3 +1,3 @@
-//! Records of a log and the lines of a block (issue 6's formats), without any rule of a controller.
+//! Records of a log and the lines of a block, without any rule of a controller.
 pub mod record;
 pub mod rows;
