@@ -7,11 +7,12 @@ LEFT, RIGHT, LEAST, MOST = 136, 20, 22, 84
 LANE, LABEL, CHART = 20, 11, 54
 KINDS = ["control", "isochronous", "bulk", "interrupt"]
 LEGEND = [
-    ("submit", "submitted"), ("linked", "linked"), ("unlinking", "unlinking"), ("collected", "collected"),
+    ("open", "slot open"), ("submit", "submitted"), ("linked", "linked"), ("unlinking", "unlinking"), ("collected", "collected"),
     ("early", "collected while the controller may still read its descriptors"), ("pending", "collect: pending"),
     ("refused", "refused"), ("ring", "ring"), ("advance", "acknowledgment that reads the advance bit"),
     ("acknowledge", "other acknowledgment"), ("counts", "drain that counts an advance"), ("drain", "drain that counts none"),
 ]  # fmt: skip
+TWO_SIDES = [("A", "free, A"), ("B", "free, B"), ("first", "first call that differs"), ("further", "further ones")]
 
 
 class Picture:
@@ -61,7 +62,7 @@ class Picture:
 
     def legend(self, y):
         x, y = 14, y + 22
-        for kind, words in LEGEND:
+        for kind, words in LEGEND + (TWO_SIDES if len(self.sides) > 1 else []):
             space = 30 + wide(words, LABEL) + 14
             if x + space > self.width - 10 and x > 14:
                 x, y = 14, y + 21
@@ -73,8 +74,23 @@ class Picture:
     def sample(self, kind, x, y):
         if kind in ("linked", "unlinking"):
             self.paper.rect(x, y - 6, 23, 12, **PHASES[kind])
+        elif kind in "AB":
+            self.paper.path(f"M{x} {y}H{x + 23}", **STROKES["AB".index(kind)])
+        elif kind == "open":
+            self.paper.line(x, y, x + 23, y, stroke=SOFT)
+        elif kind in ("first", "further"):
+            self.band(kind, x + 4, y - 7, 16, 14)
         else:
             mark(self.paper, kind, x + 12, y)
+
+    def band(self, kind, x, y, w, h):
+        """Behind a call that differs."""
+        first = kind == "first"
+        self.paper.rect(x, y, w, h, fill=YELLOW, opacity=0.6 if first else 0.22)
+        if first:
+            self.paper.rect(x, y, w, h, fill="none", stroke=INK, dash="5 3", stroke_width=1.5)
+        else:
+            self.paper.line(x, y, x + w, y, stroke=SOFT, width=2)
 
     def told(self):
         where = f"The outputs part first at call {self.apart[0]}." if self.apart else "The outputs are the same." if len(self.sides) > 1 else ""
@@ -132,11 +148,9 @@ class Strip:
         """Where the sides part: the first call strongly, the others lightly."""
         apart = self.picture.apart
         for at in self.calls():
-            if at in apart[1:]:
-                self.paper.rect(self.left(at), top, self.column, bottom - top, fill=YELLOW, opacity=0.22)
+            if at in apart:
+                self.picture.band("first" if at == apart[0] else "further", self.left(at), top, self.column, bottom - top)
             if at in apart[:1]:
-                self.paper.rect(self.left(at), top, self.column, bottom - top, fill=YELLOW, opacity=0.6)
-                self.paper.rect(self.left(at), top, self.column, bottom - top, fill="none", stroke=INK, dash="5 3", stroke_width=1.5)
                 self.flag(at, top)
 
     def openings(self, top, bottom):
@@ -153,10 +167,15 @@ class Strip:
     def hovers(self, top, bottom):
         """What was printed of a call, where the mouse rests."""
         for at in self.calls():
-            told = [" ".join([letter] + ["\n" + line for line in side.blocks[at].lines[:40]]) for letter, side in zip(self.picture.letters, self.picture.sides)]
-            if len(told) > 1 and at not in self.picture.apart:
-                told = ["A and B" + told[0][1:]]
-            self.paper.rect(self.left(at), top, self.column, bottom - top, fill="none", inside=f"<title>{safe(chr(10).join(told))}</title>", pointer_events="all")
+            told = "\n".join(self.printed(at))
+            self.paper.rect(self.left(at), top, self.column, bottom - top, "none", inside=f"<title>{told}</title>", pointer_events="all")
+
+    def printed(self, at):
+        """A call's lines, at most forty of each side, under the side's letter."""
+        sides = list(zip(self.picture.letters, self.picture.sides))
+        if len(sides) > 1 and at not in self.picture.apart:
+            sides = [("A and B", self.picture.sides[0])]
+        return [line for letter, side in sides for line in [letter] * bool(letter) + side.blocks[at].lines[:40]]
 
     # ---- the calls
 
@@ -349,10 +368,6 @@ class Strip:
 
 PHASES = {"linked": dict(fill=BLUE, stroke=BLUE), "unlinking": dict(fill="url(#hatch)", stroke=ORANGE)}
 STROKES = [dict(stroke=BLUE, width=3.5), dict(stroke=RED, width=1.8, dash="5 3")]
-
-
-def safe(text):
-    return text.replace("&", "&amp;").replace("<", "&lt;")
 
 
 def called(record):

@@ -20,12 +20,13 @@ class Paper:
         self.parts = []
 
     def put(self, tag, inside=None, **attributes):
-        words = " ".join(f"{name.rstrip('_').replace('_', '-')}={quoteattr(number(value))}" for name, value in attributes.items() if value is not None)
+        words = " ".join(f"{name.replace('_', '-')}={quoteattr(number(value))}" for name, value in attributes.items() if value is not None)
         self.parts.append(f"<{tag} {words}/>" if inside is None else f"<{tag} {words}>{inside}</{tag}>")
 
     def text(self, x, y, words, size=12, fill=INK, anchor=None, weight=None, family=None, turn=None):
         turned = f"rotate({turn} {number(x)} {number(y)})" if turn else None
-        self.put("text", escape(words), x=x, y=y, font_size=size, fill=fill, text_anchor=anchor, font_weight=weight, font_family=family, transform=turned)
+        font = dict(font_size=size, font_weight=weight, font_family=family)
+        self.put("text", escape(words), x=x, y=y, **font, fill=fill, text_anchor=anchor, transform=turned)
 
     def rect(self, x, y, w, h, fill, stroke=None, dash=None, inside=None, **more):
         self.put("rect", inside, x=x, y=y, width=w, height=h, fill=fill, stroke=stroke, stroke_dasharray=dash, **more)
@@ -41,9 +42,10 @@ class Paper:
             f'<pattern id="hatch" width="6" height="6" patternUnits="userSpaceOnUse" patternTransform="rotate(45)">'
             f'<rect width="6" height="6" fill="{WHITE}"/><rect width="3" height="6" fill="{ORANGE}"/></pattern>'
         )
-        head = f'<svg xmlns="http://www.w3.org/2000/svg" width="{number(width)}" height="{number(height)}" viewBox="0 0 {number(width)} {number(height)}" font-family="{SANS}" role="img">'
+        w, h = number(width), number(height)
+        head = f'<svg xmlns="http://www.w3.org/2000/svg" width="{w}" height="{h}" viewBox="0 0 {w} {h}" font-family="{SANS}" role="img">'
         names = f"<title>{escape(title)}</title>\n<desc>{escape(about)}</desc>\n<defs>{hatch}</defs>"
-        page = f'<rect width="{number(width)}" height="{number(height)}" fill="{WHITE}"/>'
+        page = f'<rect width="{w}" height="{h}" fill="{WHITE}"/>'
         return "\n".join([head, names, page] + self.parts + ["</svg>", ""])
 
 

@@ -83,8 +83,8 @@ def read_output(path, log, records, whole):
     blocks, ended = read_blocks(path)
     for number, (block, record) in enumerate(zip(blocks, records)):
         if block.lines[0].split()[1] != str(number) or block.call != record.call:
-            name = CALLS[record.call]
-            raise Trouble(f"{path} is not of {log}: its block {number} begins {block.lines[0]!r}, the log's record {number} is {record.call} ({name})")
+            named = f"{record.call} ({CALLS[record.call]})"
+            raise Trouble(f"{path} is not of {log}: its block {number} begins {block.lines[0]!r}, the log's record {number} is {named}")
         if block.call in (ENDPOINT, SUBMIT) and block.answer == 0 and not (block.values and block.values[0].isdigit()):
             raise Trouble(f"{path}: block {number} names no slot or id: {block.lines[0]!r}")
     if len(blocks) > len(records) or len(blocks) < len(records) and not ended or not whole and not ended:
