@@ -2,7 +2,7 @@
 from xml.sax.saxutils import escape, quoteattr
 
 INK, SOFT, FAINT, WHITE = "#222222", "#666666", "#d0d0d0", "#ffffff"
-BLUE, ORANGE, RED, SKY, YELLOW = "#0072b2", "#e69f00", "#d55e00", "#56b4e9", "#f7e968"
+BLUE, ORANGE, RED, YELLOW = "#0072b2", "#e69f00", "#d55e00", "#f7e968"
 SANS, MONO = "sans-serif", "monospace"
 
 
