@@ -21,7 +21,7 @@ double-count.log opens a controller, brings it up (calls 0 to 7), and goes on as
 The fifth number of a Q line is how many advances are still waited for (the Rust's own counts in its lines; the first and the
 fourth number, running and note, are 01's and not the Rust's); W 00 with 0x40 in it is a ring; R 00 is the Rust's read after a
 ring. "all" stands where the three are the same. The three outputs are whole in double-count.port.blocks, .000.blocks and
-.000-one-advance.blocks; double-count.svg is the first and the last as a picture. Written by tools/compare_incident.py.
+.000-n1.blocks; double-count.svg is the first and the last as a picture. Written by tools/compare_incident.py.
 
 One answer came (call 14). The port counts it once (call 15) and rings for slot 1; call 16 counts nothing and writes nothing;
 slot 0 is collected and slot 1 waits. The Rust counts the same answer in call 15 and in call 16 and rings in both, three
@@ -29,7 +29,7 @@ rings in all. It wants two advances for each unlink, four here; after one answer
 given back (call 17, answer 10) on the first of the two answers that the Rust itself wants. With one advance for an unlink
 the same fault gives back slot 1 (call 18, answer 10), whose ring nobody has answered: the controller may still read its head.
 """
-FILES = {"port": ".port.blocks", "000": ".000.blocks", "000/N1": ".000-one-advance.blocks"}
+FILES = {"port": ".port.blocks", "000": ".000.blocks", "000/N1": ".000-n1.blocks"}
 NAMES = ["this build", "the Rust (000) with its double count (K2) and, as in this build, one advance for an unlink (N1)"]
 NOTE = (
     "The ring of call 12 is answered once (14). A counts the answer once (15), B in both drains (15 and 16). So B gives back "
