@@ -12,7 +12,7 @@ ON_SLOT = (CLOSE, ADDRESS, PACKET, SUBMIT, CANCEL, COLLECT)
 SIZE = 64
 WORD = "[0-9a-f]{8}"
 LINES = re.compile(
-    rf"C \d+ \d+ \d+( \S+)*|P \d+( {WORD}){{13}}|[HF] \d+ \d+ {WORD}|S \d+ [0-9a-f]{{16}}|U \d+ \d"
+    rf"C \d+ \d+ \d+( [0-9a-f-]+)*|P \d+( {WORD}){{13}}|[HF] \d+ \d+ {WORD}|S \d+ [0-9a-f]{{16}}|U \d+ \d"
     rf"|Q( -?\d+){{5}}( {WORD}){{2}}( \d+){{2}}|[WR] [0-9a-f]{{2}} {WORD}"
 )
 STATE = ["running", "interrupts on", "doorbell up", "advance noted", "advances waited for", "pending", "masked", "free", "next address"]

@@ -4,7 +4,7 @@ from timeline_paper import BLUE, FAINT, INK, ORANGE, RED, SOFT, WHITE, mark, wid
 from timeline_read import ACKNOWLEDGE, CALLS, ON_SLOT, OPEN, WRITEBACK
 
 LEFT, LANE, LABEL, CHART = 136, 20, 11, 54
-KINDS = ["control", "isochronous", "bulk", "interrupt"]
+KINDS = {0: "control", 2: "bulk", 3: "interrupt"}
 PHASES = {"linked": dict(fill=BLUE, stroke=BLUE), "unlinking": dict(fill="url(#hatch)", stroke=ORANGE)}
 STROKES = [dict(stroke=BLUE, width=3.5), dict(stroke=RED, width=1.8, dash="5 3")]
 
@@ -46,7 +46,8 @@ class Strip:
         for at in self.calls():
             if at in apart:
                 self.picture.band("first" if at == apart[0] else "further", self.left(at), top, self.column, bottom - top)
-            if at in apart[:1]:
+        for at in apart[:1]:
+            if at in self.calls():
                 self.flag(at, top)
 
     def openings(self, top, bottom):
@@ -129,8 +130,7 @@ class Strip:
     def lanes(self, y):
         for slot in self.slots():
             self.paper.line(14, y, self.end, y, stroke=FAINT)
-            self.paper.text(14, y + 15, f"slot {slot}", weight="bold")
-            self.paper.text(14, y + 29, self.endpoint(slot), size=LABEL, fill=SOFT) if len(self.picture.sides) > 1 else None
+            self.named(slot, y + 15)
             for letter, side in zip(self.picture.letters, self.picture.sides):
                 self.rail(y + 3, letter)
                 self.lane(side, slot, y + 3 + LANE / 2)
@@ -143,10 +143,22 @@ class Strip:
             self.paper.rect(LEFT - 22, y, self.end - LEFT + 22, LANE, fill=FAINT, opacity=0.45)
         self.paper.text(LEFT - 16, y + 14, letter, weight="bold")
 
+    def named(self, slot, y):
+        """A slot's number, and its endpoint below it or, in a lane of one row, beside it."""
+        words, x = self.endpoint(slot), 20 + wide("slot 00", 12)
+        self.paper.text(14, y, f"slot {slot}", weight="bold")
+        if len(self.picture.sides) > 1:
+            self.paper.text(14, y + 14, words, size=LABEL, fill=SOFT)
+        elif x + wide(words, LABEL) < LEFT:
+            self.paper.text(x, y, words, size=LABEL, fill=SOFT)
+
     def endpoint(self, slot):
-        """What a slot is in this strip, where it is one thing."""
-        spans = [s[3] for side in self.picture.sides for s in side.opened if s[0] == slot and self.shows(s[1], s[2])]
-        return f"{KINDS[spans[0][0]]} {spans[0][1]}.{spans[0][2]}" if spans and len(set(spans)) == 1 else ""
+        """Kind, device address and number of a slot's endpoint, where it is one in this strip."""
+        found = {s[3] for side in self.picture.sides for s in side.opened if s[0] == slot and self.shows(s[1], s[2])}
+        if len(found) != 1:
+            return ""
+        kind, address, number = found.pop()
+        return f"{KINDS.get(kind, 'kind ' + str(kind))} {address}.{number}"
 
     def lane(self, side, slot, y):
         for _, first, last, _ in (span for span in side.opened if span[0] == slot):
@@ -268,7 +280,7 @@ def called(record):
     if record.call == ACKNOWLEDGE:
         return f"{name} 0x{record.numbers[0]:02x}"
     if record.call == WRITEBACK:
-        return f"{name} {record.numbers[0]}"
+        return f"{name} {record.numbers[0]}" if record.numbers[0] < 1000 else f"{name} .."
     return f"{name} {record.small[0]}" if record.call in ON_SLOT else name
 
 
