@@ -1,9 +1,9 @@
 #!/usr/bin/env python3
-"""The double count as a log, and what was printed of it: tools/compare_incident.py writes examples/double-count.log and
-examples/double-count.txt. It needs what tools/compare needs."""
-import os
+"""The double count: tools/compare_incident.py writes examples/double-count.log, what each side printed of it (the .blocks and
+the .txt) and the picture. It needs what tools/compare needs; with --picture it draws the stored blocks and needs nothing."""
+import os, subprocess, sys
 
-from compare_run import ORACLE, TOP, build, program, written
+from compare_run import ORACLE, TOP, build, program, stop, written
 
 EXAMPLE = os.path.join(TOP, "examples", "double-count")
 CALLS = {
@@ -20,7 +20,8 @@ double-count.log opens a controller, brings it up (calls 0 to 7), and goes on as
   000/N1  the Rust with one advance for an unlink, as the port has it: NOREPAIR=K2 oracle < double-count.log
 The fifth number of a Q line is how many advances are still waited for (the Rust's own counts in its lines; the first and the
 fourth number, running and note, are 01's and not the Rust's); W 00 with 0x40 in it is a ring; R 00 is the Rust's read after a
-ring. "all" stands where the three are the same. Written by tools/compare_incident.py.
+ring. "all" stands where the three are the same. The three outputs are whole in double-count.port.blocks, .000.blocks and
+.000-n1.blocks; double-count.svg is the first and the last as a picture. Written by tools/compare_incident.py.
 
 One answer came (call 14). The port counts it once (call 15) and rings for slot 1; call 16 counts nothing and writes nothing;
 slot 0 is collected and slot 1 waits. The Rust counts the same answer in call 15 and in call 16 and rings in both, three
@@ -28,19 +29,32 @@ rings in all. It wants two advances for each unlink, four here; after one answer
 given back (call 17, answer 10) on the first of the two answers that the Rust itself wants. With one advance for an unlink
 the same fault gives back slot 1 (call 18, answer 10), whose ring nobody has answered: the controller may still read its head.
 """
+FILES = {"port": ".port.blocks", "000": ".000.blocks", "000/N1": ".000-n1.blocks"}
+NAMES = ["this build", "the Rust (000) with its double count (K2) and, as in this build, one advance for an unlink (N1)"]
+NOTE = (
+    "The ring of call 12 is answered once (14). A counts the answer once (15), B in both drains (15 and 16). So B gives back "
+    "slot 1's descriptor (18), although no acknowledgment has come since the ring for slot 1 (15)."
+)
 
 
-def blocks(text):
-    return text.split(".\n")[:-1]
+def picture():
+    """The port beside the Rust with one advance for an unlink, from the first endpoint on."""
+    words = [sys.executable, os.path.join(TOP, "tools", "timeline"), "-o", EXAMPLE + ".svg", "--from", str(min(CALLS)), "--note", NOTE]
+    words += ["--name", NAMES[0], "--name", NAMES[1], EXAMPLE + ".log", EXAMPLE + FILES["port"], EXAMPLE + FILES["000/N1"]]
+    return subprocess.run(words).returncode
 
 
-def main():
+def write():
     build()
     log = written([ORACLE, "incident"])
-    told = lambda words, off: blocks(written(words, log, NOREPAIR=off).decode())
-    sides = [("port", told(program("replay", "REPLAY"), "")), ("000", told([ORACLE], "K2,N1,N13")), ("000/N1", told([ORACLE], "K2"))]
+    told = lambda words, off: written(words, log, NOREPAIR=off).decode()
+    texts = [("port", told(program("replay", "REPLAY"), "")), ("000", told([ORACLE], "K2,N1,N13")), ("000/N1", told([ORACLE], "K2"))]
     with open(EXAMPLE + ".log", "wb") as out:
         out.write(log)
+    for name, text in texts:
+        with open(EXAMPLE + FILES[name], "w") as out:
+            out.write(text)
+    sides = [(name, text.split(".\n")[:-1]) for name, text in texts]
     with open(EXAMPLE + ".txt", "w") as out:
         out.write(HEAD)
         for call, words in CALLS.items():
@@ -51,4 +65,8 @@ def main():
                     out.write(f"  {name:<7} {line}\n")
 
 
-main()
+if sys.argv[1:] not in ([], ["--picture"]):
+    stop(__doc__)
+if sys.argv[1:] == []:
+    write()
+sys.exit(picture())
