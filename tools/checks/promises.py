@@ -130,7 +130,7 @@ def out_of_files(index):
         for span in documents.SPAN.findall(row[header.index("theorem or contract")]):
             parts = documents.parts_of(span)
             name = parts[-1] if parts else None
-            if files and name in index.of_name and not any(name in index.of_file.get(path, ()) for path in files):
+            if files and name in index.of_name and name not in index.crates and not any(name in index.of_file.get(path, ()) for path in files):
                 errors.append(f"{PAGE}:{number}: {name} is in no file that the row cites{documents.where(index, name)}")
     return errors
 
