@@ -25,6 +25,7 @@ use crate::fields::Fields;
 use crate::fields::RECORD;
 use crate::fields::decode;
 use crate::fields::spare;
+use common::kinds::KIND_MAX;
 use controller::lent::Readings;
 use ehci::call::Call;
 use ehci::call::EndpointFields;
@@ -40,8 +41,6 @@ const WORD_END: u64 = 0x1_0000_0000;
 const SIZE_END: u64 = 0x1_0000;
 
 const SETUP_END: u64 = 0x1_0000_0000_0000;
-
-const KIND_MAX: u8 = 3;
 
 pub enum Entry {
     Open(Settings),

@@ -13,9 +13,7 @@ use crate::line::least;
 use crate::line::put_line;
 use crate::lines::head_line;
 use crate::lines::port_line;
-
-// A head has 17 words.
-const HEAD_WORDS: usize = 17;
+use opening::heads::HEAD_WORDS;
 
 fn put_head(out: &mut [u8], at: usize, i: usize, before: u32, after: u32) -> usize
     requires { ⌜ at + 296 ≤ length (now out) ⌝ }

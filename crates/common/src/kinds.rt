@@ -2,6 +2,9 @@
 ghost use mathlib.Core.Path.{_≡_};
 ghost use Rattle.common.specs.Kinds.{isControl, isIsochronous, isInterrupt};
 
+// The last of the kinds, numbered from 0 in this order.
+pub const KIND_MAX: u8 = 3;
+
 pub enum EndpointType {
     Control,
     Isochronous,

@@ -7,6 +7,9 @@ ghost use Rattle.controller.specs.Readers.{countZero, freeCount, isOpen,
 use pipe::endpoints::Endpoint;
 use pipe::endpoints::endpoint_at;
 use state::state::Ehci;
+use state::state::IDLE;
+use state::state::LINKED;
+use state::state::UNLINKING;
 
 // How many of some owners are 0.
 pub fn count_zero(owner: &[u8]) -> u16
@@ -57,7 +60,7 @@ pub fn open_in(phases: &[u8; 32], slot: u8) -> bool
     ensures { λ r. ⌜ r ≡ openIn (now (phases .entry)) slot ⌝ }
 {
     let phase = phase_in(phases, slot);
-    (phase == 1) | (phase == 2) | (phase == 3)
+    (phase == IDLE) | (phase == LINKED) | (phase == UNLINKING)
 }
 
 // `uncollected` by the phases.
@@ -65,7 +68,7 @@ pub fn uncollected_in(phases: &[u8; 32], slot: u8) -> bool
     ensures { λ r. ⌜ r ≡ uncollectedIn (now (phases .entry)) slot ⌝ }
 {
     let phase = phase_in(phases, slot);
-    (phase == 2) | (phase == 3)
+    (phase == LINKED) | (phase == UNLINKING)
 }
 
 // Whether a slot has an endpoint.

@@ -23,6 +23,8 @@ use controller::readers::is_open;
 use controller::readers::uncollected;
 use descriptor::head::set_device_address;
 use descriptor::head::set_max_packet_size;
+use opening::heads::CHARACTERISTICS;
+use opening::heads::HEAD_WORDS;
 use opening::heads::put_head;
 use pipe::endpoints::Endpoint;
 use pipe::endpoints::Pipe;
@@ -180,7 +182,7 @@ pub fn set_address(
     };
     match check_slot(state, lent, slot, address <= 127) {
         Answer::Done => {
-            let at = 17 * (slot as usize + 1) + 1;
+            let at = HEAD_WORDS * (slot as usize + 1) + CHARACTERISTICS;
             heads[at] = set_device_address(heads[at], address);
             Change {
                 answer: Answer::Done,
@@ -215,7 +217,7 @@ pub fn set_packet_size(
     };
     match check_slot(state, lent, slot, true) {
         Answer::Done => {
-            let at = 17 * (slot as usize + 1) + 1;
+            let at = HEAD_WORDS * (slot as usize + 1) + CHARACTERISTICS;
             heads[at] = set_max_packet_size(heads[at], size);
             Change {
                 answer: Answer::Done,

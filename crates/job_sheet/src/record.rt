@@ -1,4 +1,5 @@
 // One record of a sheet.
+use common::kinds::KIND_MAX;
 use text::number::number16;
 use text::number::number32;
 use text::number::number48;
@@ -43,7 +44,7 @@ pub fn endpoint_fits(bytes: &[u8], at: usize) -> bool
 {
     let kind = bytes[at];
     let zero = bytes[at + 3];
-    (kind <= 3) & (zero == 0)
+    (kind <= KIND_MAX) & (zero == 0)
 }
 
 pub fn request_at(bytes: &[u8], at: usize) -> RequestRecord

@@ -7,6 +7,9 @@ use common::rows::put_words;
 
 pub const HEAD_WORDS: usize = 17;
 
+// The word of a head that holds its characteristics.
+pub const CHARACTERISTICS: usize = 1;
+
 // The 17 words of a head, at its place.
 pub fn put_head(heads: &mut [u32], place: usize, words: [u32; 17])
     requires { ⌜ place ≤ 32 ⌝ }

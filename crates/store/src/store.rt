@@ -23,6 +23,7 @@ use ehci::call::Call;
 use ehci::door::apply;
 use ehci::reply::Answered;
 use ehci::reply::Reply;
+use opening::heads::HEAD_WORDS;
 use opening::hub::EhciRootHub;
 use opening::open::Opening;
 use opening::open::decide_open;
@@ -75,7 +76,7 @@ fn records_lent(s: Settings) -> usize
 fn words_lent(s: Settings) -> usize
     ensures { λ r. ⌜ r ≡ wordsLent s ⌝ }
 {
-    let words = 17 * (s.endpoints as usize + 1);
+    let words = HEAD_WORDS * (s.endpoints as usize + 1);
     if words < 561 { words } else { 561 }
 }
 

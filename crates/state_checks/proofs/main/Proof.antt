@@ -1,3 +1,4 @@
+-- `state_checks::main` meets its contract.
 use Prim.Native.Nat.{_≤_}
 use native.Mathlib.Omega.{arith}
 use Rattle.state_checks.proofs.main.Statement.{statement}

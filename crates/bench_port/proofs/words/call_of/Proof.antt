@@ -1,3 +1,4 @@
+-- `bench_port::words::call_of` meets its contract.
 use Rattle.bench_port.proofs.Cases.{a-collect, a-drain, a-submit, a-writeback, an-acknowledge}
 use borrow.Author.Needs.{needs}
 use Rattle.bench_port.proofs.words.call_of.Statement.{statement}

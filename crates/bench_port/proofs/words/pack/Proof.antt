@@ -1,3 +1,4 @@
+-- `bench_port::words::pack` meets its contract.
 use Rattle.bench_port.proofs.Cases.{packed}
 use borrow.Author.Needs.{needs}
 use Rattle.bench_port.proofs.words.pack.Statement.{statement}

@@ -1,3 +1,4 @@
+-- `bench_port::words::request_of` meets its contract.
 use Rattle.bench_port.proofs.Cases.{requested}
 use borrow.Author.Needs.{needs}
 use Rattle.bench_port.proofs.words.request_of.Statement.{statement}

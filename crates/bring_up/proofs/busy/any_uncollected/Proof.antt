@@ -1,3 +1,4 @@
+-- `bring_up::busy::any_uncollected` meets its contract.
 use mathlib.Core.Bool.{_||_}
 use Rattle.bring_up.proofs.Cases.{busy-turn, busy-done}
 use Rattle.bring_up.specs.BringUp.{anyUncollected}

@@ -1,3 +1,4 @@
+-- `bring_up::calls::start` meets its contract.
 use Rattle.state.specs.State.{withBringUp}
 use Rattle.bring_up.proofs.Cases.{start-bad, start-busy, start-done}
 use borrow.Author.Needs.{needs}

@@ -1,3 +1,4 @@
+-- `bring_up::calls::step` meets its contract.
 use Rattle.state.specs.State.{withBringUp}
 use Rattle.bring_up.proofs.Cases.{step-bad, step-none, step-onward, step-again, frames-fit, heads-fit, wait-fits}
 use borrow.Author.Needs.{needs}

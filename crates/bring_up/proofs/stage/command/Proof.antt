@@ -1,3 +1,4 @@
+-- `bring_up::stage::command` meets its contract.
 use borrow.Author.Needs.{needs}
 use Rattle.bring_up.proofs.stage.command.Statement.{statement}
 use Rattle.bring_up.proofs.stage.command.Tie as tie

@@ -1,3 +1,4 @@
+-- `bring_up::stage::is_ready` meets its contract.
 use Rattle.bring_up.proofs.Cases.{ready-halting, ready-resetting, ready-starting}
 use borrow.Author.Needs.{needs}
 use Rattle.bring_up.proofs.stage.is_ready.Statement.{statement}

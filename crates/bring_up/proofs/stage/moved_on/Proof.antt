@@ -1,3 +1,4 @@
+-- `bring_up::stage::moved_on` meets its contract.
 use Rattle.bring_up.proofs.Cases.{on-stop, on-halting, on-reset, on-resetting, on-run, on-starting}
 use borrow.Author.Needs.{needs}
 use Rattle.bring_up.proofs.stage.moved_on.Statement.{statement}

@@ -1,3 +1,4 @@
+-- `bring_up::stage::set_up` meets its contract.
 use Rattle.bring_up.proofs.Cases.{set-up-is}
 use borrow.Author.Needs.{needs}
 use Rattle.bring_up.proofs.stage.set_up.Statement.{statement}

@@ -1,3 +1,4 @@
+-- `bring_up::stage::stage_writes` meets its contract.
 use Rattle.bring_up.proofs.Cases.{writes-stop, writes-reset, writes-resetting, writes-run}
 use borrow.Author.Needs.{needs}
 use Rattle.bring_up.proofs.stage.stage_writes.Statement.{statement}

@@ -1,3 +1,4 @@
+-- `bring_up::wait::refuse` meets its contract.
 use borrow.Author.Needs.{needs}
 use Rattle.bring_up.proofs.wait.refuse.Statement.{statement}
 use Rattle.bring_up.proofs.wait.refuse.Tie as tie

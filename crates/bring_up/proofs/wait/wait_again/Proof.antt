@@ -1,3 +1,4 @@
+-- `bring_up::wait::wait_again` meets its contract.
 use Rattle.state.specs.State.{withBringUp}
 use Rattle.bring_up.proofs.Cases.{again-more, again-late}
 use borrow.Author.Needs.{needs}

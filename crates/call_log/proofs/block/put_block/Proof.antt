@@ -1,3 +1,4 @@
+-- `call_log::block::put_block` meets its contract.
 use native.Mathlib.Omega.{arith}
 use Rattle.call_log.specs.Lines.{lineBytes}
 use Rattle.call_log.proofs.BlockLaws.{block-fits, block-put, line-most, ports-most, rows-most}

@@ -1,3 +1,4 @@
+-- `call_log::block::put_end` meets its contract.
 use native.Mathlib.Omega.{arith}
 use mathlib.Core.List.{[], _∷_}
 use Rattle.call_log.proofs.LineCases.{byte-then}

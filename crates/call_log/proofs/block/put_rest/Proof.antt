@@ -1,3 +1,4 @@
+-- `call_log::block::put_rest` meets its contract.
 use native.Mathlib.Omega.{arith}
 use Rattle.call_log.proofs.BlockLaws.{rest-put, state-most, writes-most}
 use Rattle.call_log.proofs.Known.{writes-length}

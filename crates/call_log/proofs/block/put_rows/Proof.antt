@@ -1,3 +1,4 @@
+-- `call_log::block::put_rows` meets its contract.
 use native.Mathlib.Omega.{arith}
 use Rattle.call_log.proofs.BlockLaws.{frames-most, heads-most, records-most, rows-put}
 use Rattle.call_log.proofs.RowsKnown.{frames-length, heads-length}

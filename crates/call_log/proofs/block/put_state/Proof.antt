@@ -1,3 +1,4 @@
+-- `call_log::block::put_state` meets its contract.
 use Rattle.call_log.specs.Lines.{stateLine}
 use Rattle.call_log.proofs.ChangeCases.{line-shown}
 use Rattle.text.proofs.LineLaws.{hidden}

@@ -1,3 +1,4 @@
+-- `call_log::call_line::event_line` meets its contract.
 use mathlib.Core.Path.{refl}
 use Rattle.call_log.specs.CallLine.{callLine}
 use Rattle.call_log.specs.Lines.{lineBytes, partsBytes, lineOf}

@@ -1,3 +1,4 @@
+-- `call_log::call_line::register_part` meets its contract.
 use borrow.Author.Needs.{needs}
 use Rattle.call_log.proofs.call_line.register_part.Statement.{statement}
 use Rattle.call_log.proofs.call_line.register_part.Tie as tie

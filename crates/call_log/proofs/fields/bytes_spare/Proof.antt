@@ -1,3 +1,4 @@
+-- `call_log::fields::bytes_spare` meets its contract.
 use mathlib.Core.Path.{refl}
 use Rattle.call_log.specs.Fields.{bytesSpare}
 use Rattle.call_log.proofs.fields.bytes_spare.Statement.{statement}

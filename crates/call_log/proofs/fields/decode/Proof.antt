@@ -1,3 +1,4 @@
+-- `call_log::fields::decode` meets its contract.
 use mathlib.Core.Path.{refl}
 use Rattle.call_log.proofs.FieldsLaws.{fields-ext}
 use Rattle.call_log.specs.Fields.{fieldsOf}

@@ -1,3 +1,4 @@
+-- `call_log::fields::numbers_spare` meets its contract.
 use mathlib.Core.Path.{refl}
 use Rattle.call_log.specs.Fields.{numbersSpare}
 use Rattle.call_log.proofs.fields.numbers_spare.Statement.{statement}

@@ -1,3 +1,4 @@
+-- `call_log::fields::spare` meets its contract.
 use borrow.Author.Needs.{needs}
 use Rattle.call_log.proofs.fields.spare.Statement.{statement}
 use Rattle.call_log.proofs.fields.spare.Tie as tie

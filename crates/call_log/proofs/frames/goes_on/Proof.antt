@@ -1,3 +1,4 @@
+-- `call_log::frames::goes_on` meets its contract.
 use borrow.Author.Tests.{le-ltb, lt-ltb}
 use Rattle.call_log.specs.Changes.{goesOn}
 use borrow.Author.Needs.{needs}

@@ -1,3 +1,4 @@
+-- `call_log::frames::next_first` meets its contract.
 use borrow.Author.Needs.{needs}
 use Rattle.call_log.proofs.frames.next_first.Statement.{statement}
 use Rattle.call_log.proofs.frames.next_first.Tie as tie

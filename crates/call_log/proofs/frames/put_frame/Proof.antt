@@ -1,3 +1,4 @@
+-- `call_log::frames::put_frame` meets its contract.
 use Rattle.call_log.specs.Lines.{frameLine}
 use Rattle.call_log.proofs.ChangeCases.{line-shown}
 use Rattle.text.proofs.LineLaws.{hidden}

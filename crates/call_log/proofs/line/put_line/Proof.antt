@@ -1,3 +1,4 @@
+-- `call_log::line::put_line` meets its contract.
 use native.Mathlib.Omega.{arith}
 use Rattle.call_log.proofs.Known.{cells-length}
 use Rattle.call_log.proofs.LineCases.{line-put, parts-most}

@@ -1,3 +1,4 @@
+-- `call_log::line::put_part` meets its contract.
 use Rattle.call_log.proofs.LineCases.{part-byte, part-joined, part-put, part-word}
 use borrow.Author.Needs.{needs}
 use Rattle.call_log.proofs.line.put_part.Statement.{statement}

@@ -1,3 +1,4 @@
+-- `call_log::line::put_parts` meets its contract.
 use Rattle.common.specs.Rows.{putAt}
 use Rattle.call_log.specs.Lines.{partsBytes}
 use Rattle.call_log.proofs.LineCases.{parts-most, parts-none, parts-turn}

@@ -1,3 +1,4 @@
+-- `call_log::line::put_spaced_decimal` meets its contract.
 use native.Mathlib.Omega.{arith}
 use Rattle.text.specs.Text.{decimal}
 use Rattle.call_log.proofs.LineCases.{byte-then}

@@ -1,3 +1,4 @@
+-- `call_log::line::put_spaced_hex` meets its contract.
 use native.Mathlib.Omega.{arith}
 use Rattle.call_log.proofs.LineCases.{hex-then}
 use borrow.Author.Needs.{needs}

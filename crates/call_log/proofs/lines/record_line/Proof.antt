@@ -1,3 +1,4 @@
+-- `call_log::lines::record_line` meets its contract.
 use mathlib.Core.Path.{refl}
 use Rattle.call_log.specs.Lines.{lineBytes, partsBytes, lineOf, recordLine}
 use borrow.Author.Needs.{needs}

@@ -1,3 +1,4 @@
+-- `call_log::lines::setup_line` meets its contract.
 use mathlib.Core.Path.{refl}
 use Rattle.call_log.specs.Lines.{lineBytes, lineOf, partsBytes, setupLine}
 use Rattle.text.specs.Text.{hex}

@@ -1,3 +1,4 @@
+-- `call_log::lines::shown_line` meets its contract.
 use mathlib.Core.Path.{refl, ap, _∙_}
 use Rattle.call_log.specs.Lines.{lineBytes, partsBytes, lineOf, shownLine}
 use borrow.Author.Needs.{needs}

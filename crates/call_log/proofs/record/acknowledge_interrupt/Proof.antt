@@ -1,3 +1,4 @@
+-- `call_log::record::acknowledge_interrupt` meets its contract.
 use Rattle.call_log.specs.Records.{acknowledge}
 use borrow.Author.Needs.{needs}
 use Rattle.call_log.proofs.record.acknowledge_interrupt.Statement.{statement}

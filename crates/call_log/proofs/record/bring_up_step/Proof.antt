@@ -1,3 +1,4 @@
+-- `call_log::record::bring_up_step` meets its contract.
 use Rattle.call_log.specs.Records.{bringUpStep}
 use borrow.Author.Needs.{needs}
 use Rattle.call_log.proofs.record.bring_up_step.Statement.{statement}

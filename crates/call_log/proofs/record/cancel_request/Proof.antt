@@ -1,3 +1,4 @@
+-- `call_log::record::cancel_request` meets its contract.
 use Rattle.call_log.specs.Records.{cancel}
 use borrow.Author.Needs.{needs}
 use Rattle.call_log.proofs.record.cancel_request.Statement.{statement}

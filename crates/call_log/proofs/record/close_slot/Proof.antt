@@ -1,3 +1,4 @@
+-- `call_log::record::close_slot` meets its contract.
 use Rattle.call_log.specs.Records.{close}
 use borrow.Author.Needs.{needs}
 use Rattle.call_log.proofs.record.close_slot.Statement.{statement}

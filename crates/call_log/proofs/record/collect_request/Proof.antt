@@ -1,3 +1,4 @@
+-- `call_log::record::collect_request` meets its contract.
 use Rattle.call_log.specs.Records.{collect}
 use borrow.Author.Needs.{needs}
 use Rattle.call_log.proofs.record.collect_request.Statement.{statement}

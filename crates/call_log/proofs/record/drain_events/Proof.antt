@@ -1,3 +1,4 @@
+-- `call_log::record::drain_events` meets its contract.
 use Rattle.call_log.specs.Records.{drain}
 use borrow.Author.Needs.{needs}
 use Rattle.call_log.proofs.record.drain_events.Statement.{statement}

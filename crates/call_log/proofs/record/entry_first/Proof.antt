@@ -1,3 +1,4 @@
+-- `call_log::record::entry_first` meets its contract.
 use Rattle.call_log.specs.Records.{judgedAs}
 use Rattle.call_log.proofs.RecordCases.{judged-at, judged-none}
 use borrow.Author.Needs.{needs}

@@ -1,3 +1,4 @@
+-- `call_log::record::entry_second` meets its contract.
 use mathlib.Core.Path.{_≡_}
 use native.Mathlib.Omega.{arith}
 use Rattle.call_log.specs.Records.{judgedAs}

@@ -1,3 +1,4 @@
+-- `call_log::record::entry_third` meets its contract.
 use native.Mathlib.Omega.{arith}
 use Rattle.call_log.specs.Records.{judgedAs}
 use Rattle.call_log.proofs.RecordCases.{judged-at, judged-rest}

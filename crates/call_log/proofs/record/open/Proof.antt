@@ -1,3 +1,4 @@
+-- `call_log::record::open` meets its contract.
 use Rattle.call_log.specs.Records.{openEntry}
 use borrow.Author.Needs.{needs}
 use Rattle.call_log.proofs.record.open.Statement.{statement}

@@ -1,3 +1,4 @@
+-- `call_log::record::open_endpoint` meets its contract.
 use Rattle.call_log.specs.Records.{openEndpoint}
 use borrow.Author.Needs.{needs}
 use Rattle.call_log.proofs.record.open_endpoint.Statement.{statement}

@@ -1,3 +1,4 @@
+-- `call_log::record::plain_entry` meets its contract.
 use Rattle.call_log.specs.Records.{plain}
 use borrow.Author.Needs.{needs}
 use Rattle.call_log.proofs.record.plain_entry.Statement.{statement}

@@ -1,3 +1,4 @@
+-- `call_log::record::port_power` meets its contract.
 use Rattle.call_log.specs.Records.{portPower}
 use borrow.Author.Needs.{needs}
 use Rattle.call_log.proofs.record.port_power.Statement.{statement}

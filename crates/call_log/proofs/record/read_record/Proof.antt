@@ -1,3 +1,4 @@
+-- `call_log::record::read_record` meets its contract.
 use native.Mathlib.Omega.{arith}
 use Rattle.call_log.proofs.RecordCases.{entry-cut, entry-whole}
 use borrow.Author.Needs.{needs}

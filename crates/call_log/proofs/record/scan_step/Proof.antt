@@ -1,3 +1,4 @@
+-- `call_log::record::scan_step` meets its contract.
 use Rattle.call_log.specs.Records.{scanStep}
 use borrow.Author.Needs.{needs}
 use Rattle.call_log.proofs.record.scan_step.Statement.{statement}

@@ -1,3 +1,4 @@
+-- `call_log::record::set_address` meets its contract.
 use Rattle.call_log.specs.Records.{setAddress}
 use borrow.Author.Needs.{needs}
 use Rattle.call_log.proofs.record.set_address.Statement.{statement}

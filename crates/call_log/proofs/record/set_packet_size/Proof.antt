@@ -1,3 +1,4 @@
+-- `call_log::record::set_packet_size` meets its contract.
 use Rattle.call_log.specs.Records.{setPacketSize}
 use borrow.Author.Needs.{needs}
 use Rattle.call_log.proofs.record.set_packet_size.Statement.{statement}

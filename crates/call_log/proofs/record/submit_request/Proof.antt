@@ -1,3 +1,4 @@
+-- `call_log::record::submit_request` meets its contract.
 use Rattle.call_log.specs.Records.{submit}
 use borrow.Author.Needs.{needs}
 use Rattle.call_log.proofs.record.submit_request.Statement.{statement}

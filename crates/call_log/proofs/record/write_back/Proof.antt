@@ -1,3 +1,4 @@
+-- `call_log::record::write_back` meets its contract.
 use Rattle.call_log.specs.Records.{writeback}
 use borrow.Author.Needs.{needs}
 use Rattle.call_log.proofs.record.write_back.Statement.{statement}

@@ -1,3 +1,4 @@
+-- `call_log::records::put_record` meets its contract.
 use mathlib.Core.Path.{sym, _∙_}
 use Rattle.call_log.specs.Changes.{recordChange, sameRecord}
 use Rattle.call_log.specs.Lines.{recordLine}

@@ -1,3 +1,4 @@
+-- `call_log::records::same_five` meets its contract.
 use mathlib.Core.Path.{refl}
 use Rattle.call_log.specs.Changes.{sameFive}
 use borrow.Author.Needs.{needs}

@@ -1,3 +1,4 @@
+-- `call_log::records::same_record` meets its contract.
 use Rattle.call_log.specs.Changes.{sameRecord}
 use borrow.Author.Needs.{needs}
 use Rattle.call_log.proofs.records.same_record.Statement.{statement}

@@ -1,3 +1,4 @@
+-- `call_log::rows::put_head` meets its contract.
 use Prim.Native.Nat.{_/_, _%_}
 use lib.Dec.{eqb}
 use borrow.Author.Tests.{eq-eqb, ne-eqb}

@@ -1,3 +1,4 @@
+-- `call_log::rows::put_port` meets its contract.
 use Prim.Native.Nat.{_+_}
 use mathlib.Core.Bool.{not, _||_}
 use lib.Dec.{eqb}

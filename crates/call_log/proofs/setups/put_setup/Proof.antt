@@ -1,3 +1,4 @@
+-- `call_log::setups::put_setup` meets its contract.
 use Prim.Native.Nat.{_+_, _*_}
 use mathlib.Core.List.{[], _∷_}
 use mathlib.Core.Path.{sym, _∙_}

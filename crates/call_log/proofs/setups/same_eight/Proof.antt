@@ -1,3 +1,4 @@
+-- `call_log::setups::same_eight` meets its contract.
 use Rattle.call_log.specs.Changes.{sameEight}
 use borrow.Author.Needs.{needs}
 use Rattle.call_log.proofs.setups.same_eight.Statement.{statement}

@@ -1,3 +1,4 @@
+-- `call_log::writes::put_write` meets its contract.
 use borrow.Author.Needs.{needs}
 use Rattle.call_log.proofs.writes.put_write.Statement.{statement}
 use Rattle.call_log.proofs.writes.put_write.Tie as tie

@@ -1,3 +1,4 @@
+-- `collection::ask::ask` meets its contract.
 use Rattle.collection.proofs.AskLaws.{none-good, some-good}
 use Rattle.collection.proofs.AskCases.{ask-passed, ask-bad, ask-closed, ask-idle, ask-linked, ask-pool, ask-slot, ask-unlinking}
 use borrow.Author.Needs.{needs}

@@ -1,3 +1,4 @@
+-- `collection::ask::ask_for` meets its contract.
 use Rattle.collection.proofs.AskCases.{asked-for}
 use borrow.Author.Needs.{needs}
 use Rattle.collection.proofs.ask.ask_for.Statement.{statement}

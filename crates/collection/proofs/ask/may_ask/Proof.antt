@@ -1,3 +1,4 @@
+-- `collection::ask::may_ask` meets its contract.
 use Rattle.collection.proofs.AskCases.{may-is}
 use Rattle.collection.proofs.ask.may_ask.Statement.{statement}
 use Rattle.collection.proofs.ask.may_ask.Tie as tie

@@ -1,3 +1,4 @@
+-- `collection::ask::owned_by` meets its contract.
 use Rattle.state.proofs.Arrays.{front-256, part-within}
 use borrow.Author.Needs.{needs}
 use Rattle.collection.proofs.ask.owned_by.Statement.{statement}

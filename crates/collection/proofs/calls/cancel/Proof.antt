@@ -1,3 +1,4 @@
+-- `collection::calls::cancel` meets its contract.
 use Rattle.collection.proofs.CallCases.{cancel-bad, cancel-closed, cancel-crowded, cancel-idle, cancel-marks, cancel-other, cancel-unlinks, cancel-wrong}
 use Rattle.collection.proofs.SlotFacts.{linked-address, linked-endpoints, linked-frames, linked-head, linked-heads, linked-low, unlinking-low}
 use borrow.Author.Needs.{needs}

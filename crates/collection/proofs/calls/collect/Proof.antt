@@ -1,3 +1,4 @@
+-- `collection::calls::collect` meets its contract.
 use Rattle.collection.proofs.CallCases.{collect-bad, collect-closed, collect-crowded, collect-ends, collect-idle, collect-looks, collect-other, collect-wrong}
 use Rattle.collection.proofs.SlotFacts.{linked-address, linked-endpoints, linked-frames, linked-head, linked-heads, linked-low, unlinking-frame, unlinking-head, unlinking-low, unlinking-pool}
 use borrow.Author.Needs.{needs}

@@ -1,3 +1,4 @@
+-- `collection::collected::outcome_of` meets its contract.
 use Rattle.collection.proofs.AnswerCases.{outcome-cancelled, outcome-complete, outcome-failed}
 use Rattle.collection.proofs.collected.outcome_of.Statement.{statement}
 use Rattle.collection.proofs.collected.outcome_of.Tie as tie

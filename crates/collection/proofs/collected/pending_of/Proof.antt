@@ -1,3 +1,4 @@
+-- `collection::collected::pending_of` meets its contract.
 use Rattle.collection.proofs.AnswerCases.{pending-refused}
 use borrow.Author.Needs.{needs}
 use Rattle.collection.proofs.collected.pending_of.Statement.{statement}

@@ -1,3 +1,4 @@
+-- `collection::collected::refuse_cancel` meets its contract.
 use Rattle.collection.proofs.AnswerCases.{cancel-refused}
 use borrow.Author.Needs.{needs}
 use Rattle.collection.proofs.collected.refuse_cancel.Statement.{statement}

@@ -1,3 +1,4 @@
+-- `collection::collected::refuse_collect` meets its contract.
 use Rattle.collection.proofs.AnswerCases.{collect-refused}
 use borrow.Author.Needs.{needs}
 use Rattle.collection.proofs.collected.refuse_collect.Statement.{statement}

@@ -1,3 +1,4 @@
+-- `collection::collected::still_pending` meets its contract.
 use Rattle.collection.proofs.AnswerCases.{collect-pending}
 use borrow.Author.Needs.{needs}
 use Rattle.collection.proofs.collected.still_pending.Statement.{statement}

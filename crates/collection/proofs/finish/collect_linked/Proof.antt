@@ -1,3 +1,4 @@
+-- `collection::finish::collect_linked` meets its contract.
 use Rattle.collection.proofs.CallCases.{linked-unlinks, linked-waits}
 use borrow.Author.Needs.{needs}
 use Rattle.collection.proofs.finish.collect_linked.Statement.{statement}

@@ -1,3 +1,4 @@
+-- `collection::finish::collect_unlinking` meets its contract.
 use Rattle.collection.proofs.CallCases.{unlinking-ends, unlinking-waits}
 use borrow.Author.Needs.{needs}
 use Rattle.collection.proofs.finish.collect_unlinking.Statement.{statement}

@@ -1,3 +1,4 @@
+-- `collection::finish::finish` meets its contract.
 use Rattle.state.specs.State.{withOwner}
 use Rattle.collection.proofs.CallCases.{finishes}
 use borrow.Author.Needs.{needs}

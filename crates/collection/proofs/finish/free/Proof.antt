@@ -1,3 +1,4 @@
+-- `collection::finish::free` meets its contract.
 use Rattle.state.proofs.Arrays.{front-256}
 use Rattle.collection.proofs.CallCases.{frees}
 use borrow.Author.Needs.{needs}

@@ -1,3 +1,4 @@
+-- `collection::unlink::asked` meets its contract.
 use Rattle.collection.proofs.UnlinkCases.{asks-one}
 use borrow.Author.Needs.{needs}
 use Rattle.collection.proofs.unlink.asked.Statement.{statement}

@@ -1,3 +1,4 @@
+-- `collection::unlink::boundary_now` meets its contract.
 use Rattle.collection.proofs.UnlinkCases.{bound-bulk, bound-control, bound-interrupt, bound-isochronous}
 use borrow.Author.Needs.{needs}
 use Rattle.collection.proofs.unlink.boundary_now.Statement.{statement}

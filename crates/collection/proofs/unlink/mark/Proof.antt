@@ -1,3 +1,4 @@
+-- `collection::unlink::mark` meets its contract.
 use Rattle.collection.proofs.CallCases.{marks}
 use borrow.Author.Needs.{needs}
 use Rattle.collection.proofs.unlink.mark.Statement.{statement}

@@ -1,3 +1,4 @@
+-- `collection::unlink::passed` meets its contract.
 use Rattle.collection.proofs.UnlinkCases.{frame-below, passed-async, passed-periodic}
 use borrow.Author.Needs.{needs}
 use Rattle.collection.proofs.unlink.passed.Statement.{statement}

@@ -1,3 +1,4 @@
+-- `collection::unlink::unlink` meets its contract.
 use Rattle.collection.proofs.UnlinkCases.{unlink-first, unlink-head, unlink-missing}
 use borrow.Author.Needs.{needs}
 use Rattle.collection.proofs.unlink.unlink.Statement.{statement}

@@ -1,3 +1,4 @@
+-- `collection::unlink::waiting` meets its contract.
 use Rattle.state.specs.State.{withBell}
 use Rattle.collection.proofs.UnlinkCases.{waits}
 use borrow.Author.Needs.{needs}

@@ -1,3 +1,4 @@
+-- `common::rows::copy_bytes` meets its contract.
 use Rattle.common.proofs.RowsCases.{copy-turn, copy-done}
 use lib.ListN.{length, length-set, take, drop}
 use native.Mathlib.Omega.{arith}

@@ -1,3 +1,4 @@
+-- `controller::calls::allocate_address` meets its contract.
 use Rattle.state.specs.State.{withNextAddress}
 use Rattle.controller.proofs.AddressCases.{allot-bad, allot-none, allot-done}
 use borrow.Author.Needs.{needs}

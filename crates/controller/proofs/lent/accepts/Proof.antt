@@ -1,3 +1,4 @@
+-- `controller::lent::accepts` meets its contract.
 use Rattle.controller.proofs.LentLaws.{accepts-is}
 use borrow.Author.Needs.{needs}
 use Rattle.controller.proofs.lent.accepts.Statement.{statement}

@@ -1,3 +1,4 @@
+-- `controller::readers::count_zero` meets its contract.
 use Rattle.controller.proofs.ReaderCases.{zero-here, other-here, all-counted}
 use Rattle.controller.specs.Readers.{countZero}
 use lib.ListN.{length, drop}

@@ -1,3 +1,4 @@
+-- `controller::readers::free_count` meets its contract.
 use Rattle.controller.specs.Readers.{freeCount}
 use borrow.Author.Needs.{needs}
 use Rattle.controller.proofs.readers.free_count.Statement.{statement}

@@ -1,3 +1,4 @@
+-- `controller::readers::free_in` meets its contract.
 use Rattle.controller.proofs.ReaderCases.{whole-row}
 use Rattle.state.proofs.Arrays.{front-256, part-within}
 use native.Mathlib.Nat.{le-of-lt}

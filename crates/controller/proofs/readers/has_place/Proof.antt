@@ -1,3 +1,4 @@
+-- `controller::readers::has_place` meets its contract.
 use Rattle.controller.proofs.ReaderCases.{place-beyond}
 use borrow.Author.Needs.{needs}
 use Rattle.controller.proofs.readers.has_place.Statement.{statement}

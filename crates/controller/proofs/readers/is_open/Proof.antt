@@ -1,3 +1,4 @@
+-- `controller::readers::is_open` meets its contract.
 use Rattle.controller.proofs.ReaderCases.{closed-shut, idle-open, linked-open, unlinking-open}
 use borrow.Author.Needs.{needs}
 use Rattle.controller.proofs.readers.is_open.Statement.{statement}

@@ -1,3 +1,4 @@
+-- `controller::readers::open_in` meets its contract.
 use Rattle.controller.proofs.ReaderCases.{open-tests}
 use borrow.Author.Needs.{needs}
 use Rattle.controller.proofs.readers.open_in.Statement.{statement}

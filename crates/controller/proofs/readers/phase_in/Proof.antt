@@ -1,3 +1,4 @@
+-- `controller::readers::phase_in` meets its contract.
 use Rattle.controller.proofs.ReaderCases.{no-phase, phase-of}
 use borrow.Author.Needs.{needs}
 use Rattle.controller.proofs.readers.phase_in.Statement.{statement}

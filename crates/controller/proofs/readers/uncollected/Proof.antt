@@ -1,3 +1,4 @@
+-- `controller::readers::uncollected` meets its contract.
 use Rattle.controller.proofs.ReaderCases.{none-closed, none-idle, one-linked, one-unlinking}
 use borrow.Author.Needs.{needs}
 use Rattle.controller.proofs.readers.uncollected.Statement.{statement}

@@ -1,3 +1,4 @@
+-- `controller::readers::uncollected_in` meets its contract.
 use Rattle.controller.proofs.ReaderCases.{uncollected-tests}
 use borrow.Author.Needs.{needs}
 use Rattle.controller.proofs.readers.uncollected_in.Statement.{statement}

@@ -1,3 +1,4 @@
+-- `descriptor::head::set_device_address` meets its contract.
 use Rattle.descriptor.proofs.HeadCases.{address-put}
 use borrow.Author.Needs.{needs}
 use Rattle.descriptor.proofs.head.set_device_address.Statement.{statement}

@@ -1,3 +1,4 @@
+-- `descriptor::head::set_max_packet_size` meets its contract.
 use Rattle.descriptor.proofs.HeadCases.{packet-put}
 use borrow.Author.Needs.{needs}
 use Rattle.descriptor.proofs.head.set_max_packet_size.Statement.{statement}

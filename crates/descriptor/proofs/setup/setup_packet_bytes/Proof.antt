@@ -1,3 +1,4 @@
+-- `descriptor::setup::setup_packet_bytes` meets its contract.
 use Rattle.descriptor.proofs.HeadCases.{packet-bytes}
 use borrow.Author.Needs.{needs}
 use Rattle.descriptor.proofs.setup.setup_packet_bytes.Statement.{statement}

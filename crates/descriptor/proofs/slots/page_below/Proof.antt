@@ -1,3 +1,4 @@
+-- `descriptor::slots::page_below` meets its contract.
 use Rattle.descriptor.proofs.QtdCases.{below, beyond}
 use borrow.Author.Needs.{needs}
 use Rattle.descriptor.proofs.slots.page_below.Statement.{statement}

@@ -1,3 +1,4 @@
+-- `descriptor::slots::page_slots` meets its contract.
 use Rattle.descriptor.proofs.QtdCases.{empty-slots, filled-slots}
 use borrow.Author.Needs.{needs}
 use Rattle.descriptor.proofs.slots.page_slots.Statement.{statement}

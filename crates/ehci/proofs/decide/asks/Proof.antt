@@ -1,3 +1,4 @@
+-- `ehci::decide::asks` meets its contract.
 use Rattle.ehci.proofs.Cases.{asks-slot, asks-nothing}
 use mathlib.Core.Path.{refl}
 use Rattle.ehci.specs.Decides.{asksOf}

@@ -1,3 +1,4 @@
+-- `ehci::decide::decide` meets its contract.
 use Rattle.ehci.proofs.Cases.{any-call, heads-call, links-call, no-rows, rows-refuse}
 use borrow.Author.Needs.{needs}
 use Rattle.ehci.proofs.decide.decide.Statement.{statement}

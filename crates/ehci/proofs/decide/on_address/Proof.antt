@@ -1,3 +1,4 @@
+-- `ehci::decide::on_address` meets its contract.
 use Rattle.ehci.proofs.Cases.{change-came}
 use Rattle.ehci.specs.Decides.{addressDecided}
 use borrow.Author.Needs.{needs}

@@ -1,3 +1,4 @@
+-- `ehci::decide::on_cancel` meets its contract.
 use mathlib.Core.Path.{refl}
 use Rattle.ehci.proofs.Cases.{cancel-came, leave-is}
 use Rattle.ehci.specs.Decides.{cancelDecided}

@@ -1,3 +1,4 @@
+-- `ehci::decide::on_close` meets its contract.
 use Rattle.ehci.proofs.Cases.{change-came}
 use Rattle.ehci.specs.Decides.{closeDecided}
 use borrow.Author.Needs.{needs}

@@ -1,3 +1,4 @@
+-- `ehci::decide::on_collect` meets its contract.
 use mathlib.Core.Path.{refl}
 use Rattle.ehci.proofs.Cases.{collect-came, leave-is}
 use Rattle.ehci.specs.Decides.{collectDecided}

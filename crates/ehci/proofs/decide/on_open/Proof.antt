@@ -1,3 +1,4 @@
+-- `ehci::decide::on_open` meets its contract.
 use Rattle.ehci.proofs.Cases.{leave-is, open-came}
 use Rattle.ehci.specs.Decides.{openDecided}
 use borrow.Author.Needs.{needs}

@@ -1,3 +1,4 @@
+-- `ehci::decide::on_packet` meets its contract.
 use Rattle.ehci.proofs.Cases.{change-came}
 use Rattle.ehci.specs.Decides.{packetDecided}
 use borrow.Author.Needs.{needs}

@@ -1,3 +1,4 @@
+-- `ehci::decide::on_submit` meets its contract.
 use Rattle.ehci.proofs.Cases.{submit-came}
 use Rattle.ehci.specs.Decides.{submitDecided}
 use borrow.Author.Needs.{needs}

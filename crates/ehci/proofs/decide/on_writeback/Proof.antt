@@ -1,3 +1,4 @@
+-- `ehci::decide::on_writeback` meets its contract.
 use Rattle.ehci.proofs.Cases.{written-came}
 use Rattle.ehci.specs.Decides.{writebackDecided}
 use borrow.Author.Needs.{needs}

@@ -1,3 +1,4 @@
+-- `ehci::reply::acknowledged_answer` meets its contract.
 use mathlib.Core.Path.{ap, sym}
 use Rattle.ehci.specs.Replies.{acknowledgedAnswer}
 use borrow.Author.Needs.{needs}

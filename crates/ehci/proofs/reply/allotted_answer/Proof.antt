@@ -1,3 +1,4 @@
+-- `ehci::reply::allotted_answer` meets its contract.
 use mathlib.Core.Path.{ap, sym}
 use Rattle.ehci.specs.Replies.{allottedAnswer}
 use borrow.Author.Needs.{needs}

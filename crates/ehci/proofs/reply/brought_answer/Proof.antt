@@ -1,3 +1,4 @@
+-- `ehci::reply::brought_answer` meets its contract.
 use Rattle.ehci.proofs.Cases.{brought-is}
 use borrow.Author.Needs.{needs}
 use Rattle.ehci.proofs.reply.brought_answer.Statement.{statement}

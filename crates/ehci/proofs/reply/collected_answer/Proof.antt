@@ -1,3 +1,4 @@
+-- `ehci::reply::collected_answer` meets its contract.
 use mathlib.Core.Path.{ap, sym}
 use Rattle.ehci.specs.Replies.{collectedAnswer}
 use borrow.Author.Needs.{needs}

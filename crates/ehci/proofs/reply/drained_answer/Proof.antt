@@ -1,3 +1,4 @@
+-- `ehci::reply::drained_answer` meets its contract.
 use mathlib.Core.Path.{ap, sym}
 use Rattle.ehci.specs.Replies.{drainedAnswer}
 use borrow.Author.Needs.{needs}

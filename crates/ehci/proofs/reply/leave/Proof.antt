@@ -1,3 +1,4 @@
+-- `ehci::reply::leave` meets its contract.
 use Rattle.ehci.specs.Replies.{replied}
 use borrow.Author.Needs.{needs}
 use Rattle.ehci.proofs.reply.leave.Statement.{statement}

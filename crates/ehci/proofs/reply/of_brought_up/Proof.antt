@@ -1,3 +1,4 @@
+-- `ehci::reply::of_brought_up` meets its contract.
 use Rattle.ehci.specs.Replies.{broughtReply}
 use borrow.Author.Needs.{needs}
 use Rattle.ehci.proofs.reply.of_brought_up.Statement.{statement}

@@ -1,3 +1,4 @@
+-- `ehci::reply::of_change` meets its contract.
 use Rattle.ehci.specs.Replies.{changedReply}
 use borrow.Author.Needs.{needs}
 use Rattle.ehci.proofs.reply.of_change.Statement.{statement}

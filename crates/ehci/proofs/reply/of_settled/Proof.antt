@@ -1,3 +1,4 @@
+-- `ehci::reply::of_settled` meets its contract.
 use Rattle.ehci.specs.Replies.{settledReply}
 use borrow.Author.Needs.{needs}
 use Rattle.ehci.proofs.reply.of_settled.Statement.{statement}

@@ -1,3 +1,4 @@
+-- `ehci::reply::opened_answer` meets its contract.
 use mathlib.Core.Path.{ap, sym}
 use Rattle.ehci.specs.Replies.{openedAnswer}
 use borrow.Author.Needs.{needs}

@@ -1,3 +1,4 @@
+-- `ehci::reply::refused` meets its contract.
 use Rattle.ehci.specs.Replies.{refusedReply}
 use borrow.Author.Needs.{needs}
 use Rattle.ehci.proofs.reply.refused.Statement.{statement}

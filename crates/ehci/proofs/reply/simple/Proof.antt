@@ -1,3 +1,4 @@
+-- `ehci::reply::simple` meets its contract.
 use mathlib.Core.Path.{ap, sym}
 use Rattle.ehci.specs.Replies.{simply}
 use borrow.Author.Needs.{needs}

@@ -1,3 +1,4 @@
+-- `ehci::reply::submitted_answer` meets its contract.
 use mathlib.Core.Path.{ap, sym}
 use Rattle.ehci.specs.Replies.{submittedAnswer}
 use borrow.Author.Needs.{needs}

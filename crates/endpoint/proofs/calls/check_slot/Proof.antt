@@ -1,3 +1,4 @@
+-- `endpoint::calls::check_slot` meets its contract.
 use Rattle.endpoint.proofs.Cases.{judge-lent, judge-shut, judge-busy, judge-value, judge-done}
 use borrow.Author.Needs.{needs}
 use Rattle.endpoint.proofs.calls.check_slot.Statement.{statement}

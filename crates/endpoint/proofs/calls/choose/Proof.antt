@@ -1,3 +1,4 @@
+-- `endpoint::calls::choose` meets its contract.
 use Rattle.endpoint.proofs.Cases.{phases-suffice, choose-lent, choose-kind, choose-fields, choose-none, choose-slot}
 use borrow.Author.Needs.{needs}
 use Rattle.endpoint.proofs.calls.choose.Statement.{statement}

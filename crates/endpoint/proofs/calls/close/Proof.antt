@@ -1,3 +1,4 @@
+-- `endpoint::calls::close` meets its contract.
 use native.Mathlib.Omega.{arith}
 use Rattle.endpoint.proofs.Cases.{change-room, close-done, close-refused}
 use borrow.Author.Needs.{needs}

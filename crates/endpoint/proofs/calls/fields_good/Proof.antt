@@ -1,3 +1,4 @@
+-- `endpoint::calls::fields_good` meets its contract.
 use Rattle.endpoint.proofs.Cases.{fields-is}
 use Rattle.endpoint.proofs.calls.fields_good.Statement.{statement}
 use Rattle.endpoint.proofs.calls.fields_good.Tie as tie

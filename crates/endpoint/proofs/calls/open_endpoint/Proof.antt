@@ -1,3 +1,4 @@
+-- `endpoint::calls::open_endpoint` meets its contract.
 use Rattle.endpoint.proofs.Cases.{open-done, open-fields, open-refused, open-room-for}
 use borrow.Author.Needs.{needs}
 use Rattle.endpoint.proofs.calls.open_endpoint.Statement.{statement}

@@ -1,3 +1,4 @@
+-- `endpoint::calls::set_address` meets its contract.
 use Rattle.endpoint.proofs.Cases.{change-room, address-done, address-refused}
 use native.Mathlib.Omega.{arith}
 use borrow.Author.Needs.{needs}

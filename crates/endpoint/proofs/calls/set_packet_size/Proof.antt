@@ -1,3 +1,4 @@
+-- `endpoint::calls::set_packet_size` meets its contract.
 use Rattle.endpoint.proofs.Cases.{change-room, size-done, size-refused}
 use native.Mathlib.Omega.{arith}
 use borrow.Author.Needs.{needs}

@@ -1,3 +1,4 @@
+-- `endpoint::heads::write_head` meets its contract.
 use borrow.Author.Needs.{needs}
 use Rattle.endpoint.proofs.heads.write_head.Statement.{statement}
 use Rattle.endpoint.proofs.heads.write_head.Tie as tie

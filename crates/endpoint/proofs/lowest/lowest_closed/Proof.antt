@@ -1,3 +1,4 @@
+-- `endpoint::lowest::lowest_closed` meets its contract.
 use native.Mathlib.Nat.{sub-zero}
 use native.Mathlib.Omega.{arith}
 use mathlib.Core.Path.{_≡_}

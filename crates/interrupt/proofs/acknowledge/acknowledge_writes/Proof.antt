@@ -1,3 +1,4 @@
+-- `interrupt::acknowledge::acknowledge_writes` meets its contract.
 use Rattle.interrupt.proofs.Cases.{writes-once, writes-again}
 use borrow.Author.Needs.{needs}
 use Rattle.interrupt.proofs.acknowledge.acknowledge_writes.Statement.{statement}

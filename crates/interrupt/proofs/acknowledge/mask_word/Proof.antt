@@ -1,3 +1,4 @@
+-- `interrupt::acknowledge::mask_word` meets its contract.
 use Rattle.interrupt.proofs.Cases.{mask-on, mask-off}
 use borrow.Author.Needs.{needs}
 use Rattle.interrupt.proofs.acknowledge.mask_word.Statement.{statement}

@@ -1,3 +1,4 @@
+-- `interrupt::acknowledge::noted_after` meets its contract.
 use Rattle.interrupt.proofs.Cases.{note-up, note-down, note-none}
 use borrow.Author.Needs.{needs}
 use Rattle.interrupt.proofs.acknowledge.noted_after.Statement.{statement}

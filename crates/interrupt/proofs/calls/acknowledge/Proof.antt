@@ -1,3 +1,4 @@
+-- `interrupt::calls::acknowledge` meets its contract.
 use Rattle.state.specs.State.{withInterrupt, withBell}
 use Rattle.interrupt.proofs.Cases.{ack-bad, ack-no, ack-yes}
 use borrow.Author.Needs.{needs}

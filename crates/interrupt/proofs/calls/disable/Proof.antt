@@ -1,3 +1,4 @@
+-- `interrupt::calls::disable` meets its contract.
 use Rattle.state.specs.State.{withInterrupt}
 use Rattle.interrupt.proofs.Cases.{disable-bad, disable-done}
 use borrow.Author.Needs.{needs}

@@ -1,3 +1,4 @@
+-- `interrupt::calls::drain` meets its contract.
 use Rattle.state.specs.State.{withInterrupt}
 use Rattle.interrupt.proofs.Cases.{drain-bad, drain-nothing, drain-some, passed-ranges}
 use borrow.Author.Needs.{needs}

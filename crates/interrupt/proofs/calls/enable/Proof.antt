@@ -1,3 +1,4 @@
+-- `interrupt::calls::enable` meets its contract.
 use Rattle.state.specs.State.{withInterrupt}
 use Rattle.interrupt.proofs.Cases.{enable-bad, enable-done}
 use borrow.Author.Needs.{needs}

@@ -1,3 +1,4 @@
+-- `interrupt::calls::enabled_word` meets its contract.
 use Rattle.interrupt.proofs.Cases.{word-on, word-off}
 use Rattle.interrupt.proofs.calls.enabled_word.Statement.{statement}
 use Rattle.interrupt.proofs.calls.enabled_word.Tie as tie

@@ -1,3 +1,4 @@
+-- `interrupt::calls::rearm` meets its contract.
 use Rattle.state.specs.State.{withInterrupt}
 use Rattle.interrupt.proofs.Cases.{rearm-bad, rearm-none, rearm-some}
 use borrow.Author.Needs.{needs}

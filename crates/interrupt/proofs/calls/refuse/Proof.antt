@@ -1,3 +1,4 @@
+-- `interrupt::calls::refuse` meets its contract.
 use borrow.Author.Needs.{needs}
 use Rattle.interrupt.proofs.calls.refuse.Statement.{statement}
 use Rattle.interrupt.proofs.calls.refuse.Tie as tie

@@ -1,3 +1,4 @@
+-- `interrupt::drain::clear_pending` meets its contract.
 use Rattle.interrupt.proofs.Cases.{take-port, take-activity, take-rest}
 use borrow.Author.Needs.{needs}
 use Rattle.interrupt.proofs.drain.clear_pending.Statement.{statement}

@@ -1,3 +1,4 @@
+-- `interrupt::drain::count_noted` meets its contract.
 use Rattle.state.specs.State.{withBell, withBoundaries}
 use Rattle.interrupt.proofs.Cases.{count-none, count-one, noted-unanswered}
 use borrow.Author.Needs.{needs}

@@ -1,3 +1,4 @@
+-- `job_run::controller_of::after_call` meets its contract.
 use Rattle.job_run.proofs.Cases.{after-is}
 use borrow.Author.Needs.{needs}
 use Rattle.job_run.proofs.controller_of.after_call.Statement.{statement}

@@ -1,3 +1,4 @@
+-- `job_run::controller_of::running_store` meets its contract.
 use Rattle.job_run.proofs.Cases.{running-is}
 use borrow.Author.Needs.{needs}
 use Rattle.job_run.proofs.controller_of.running_store.Statement.{statement}

@@ -1,3 +1,4 @@
+-- `job_run::print::print_sheet` meets its contract.
 use native.Mathlib.Omega.{arith}
 use Rattle.job_run.proofs.PrintCases.{bad-printed, good-printed}
 use borrow.Author.Needs.{needs}

@@ -1,3 +1,4 @@
+-- `job_run::run::kind_for` meets its contract.
 use Rattle.job_run.proofs.Cases.{kind-none, kind-there}
 use borrow.Author.Needs.{needs}
 use Rattle.job_run.proofs.run.kind_for.Statement.{statement}

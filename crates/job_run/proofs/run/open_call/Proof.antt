@@ -1,3 +1,4 @@
+-- `job_run::run::open_call` meets its contract.
 use Rattle.job_run.proofs.Cases.{open-call-is}
 use borrow.Author.Needs.{needs}
 use Rattle.job_run.proofs.run.open_call.Statement.{statement}

@@ -1,3 +1,4 @@
+-- `job_run::run::open_step` meets its contract.
 use Rattle.job_run.proofs.Cases.{open-step-is}
 use borrow.Author.Needs.{needs}
 use Rattle.job_run.proofs.run.open_step.Statement.{statement}

@@ -1,3 +1,4 @@
+-- `job_run::run::run` meets its contract.
 use Rattle.job_run.proofs.Cases.{run-is}
 use borrow.Author.Needs.{needs}
 use Rattle.job_run.proofs.run.run.Statement.{statement}

@@ -1,3 +1,4 @@
+-- `job_run::run::submit_call` meets its contract.
 use Rattle.job_run.proofs.Cases.{submit-call-is}
 use borrow.Author.Needs.{needs}
 use Rattle.job_run.proofs.run.submit_call.Statement.{statement}

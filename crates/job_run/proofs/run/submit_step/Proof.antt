@@ -1,3 +1,4 @@
+-- `job_run::run::submit_step` meets its contract.
 use Rattle.job_run.proofs.Cases.{submit-step-is}
 use borrow.Author.Needs.{needs}
 use Rattle.job_run.proofs.run.submit_step.Statement.{statement}

@@ -1,3 +1,4 @@
+-- `job_sheet::listing::put_bad` meets its contract.
 use mathlib.Core.Path.{refl}
 use Rattle.job_sheet.specs.Listing.{badLine}
 use borrow.Author.Needs.{needs}

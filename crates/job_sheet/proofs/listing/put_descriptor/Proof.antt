@@ -1,3 +1,4 @@
+-- `job_sheet::listing::put_descriptor` meets its contract.
 use mathlib.Core.Path.{_≡_, _∙_}
 use native.Mathlib.Omega.{arith}
 use lib.ListN.{length}

@@ -1,3 +1,4 @@
+-- `job_sheet::listing::put_endpoint` meets its contract.
 use native.Mathlib.Omega.{arith}
 use Rattle.job_sheet.proofs.ListingCases.{endpoint-put}
 use borrow.Author.Needs.{needs}

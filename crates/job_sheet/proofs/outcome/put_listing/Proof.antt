@@ -1,3 +1,4 @@
+-- `job_sheet::outcome::put_listing` meets its contract.
 use mathlib.Core.Bool.{_&&_}
 use native.Mathlib.Omega.{arith}
 use Rattle.job_sheet.specs.Outcomes.{listingOf}

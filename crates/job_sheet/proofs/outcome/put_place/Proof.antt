@@ -1,3 +1,4 @@
+-- `job_sheet::outcome::put_place` meets its contract.
 use Rattle.job_sheet.proofs.OutcomeCases.{hidden-put, shown-put}
 use borrow.Author.Needs.{needs}
 use Rattle.job_sheet.proofs.outcome.put_place.Statement.{statement}

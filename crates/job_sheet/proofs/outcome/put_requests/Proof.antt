@@ -1,3 +1,4 @@
+-- `job_sheet::outcome::put_requests` meets its contract.
 use native.Mathlib.Omega.{arith}
 use Prim.Native.Nat.{_-_, _≤_}
 use borrow.Author.Needs.{needs}

@@ -1,3 +1,4 @@
+-- `job_sheet::outcome::slot_of` meets its contract.
 use Rattle.job_sheet.proofs.OutcomeCases.{slot-none, slot-there}
 use borrow.Author.Needs.{needs}
 use Rattle.job_sheet.proofs.outcome.slot_of.Statement.{statement}

@@ -1,3 +1,4 @@
+-- `job_sheet::record::endpoint_at` meets its contract.
 use Rattle.job_sheet.proofs.ReadCases.{endpoint-is}
 use borrow.Author.Needs.{needs}
 use Rattle.job_sheet.proofs.record.endpoint_at.Statement.{statement}

@@ -1,3 +1,4 @@
+-- `job_sheet::record::endpoint_fits` meets its contract.
 use mathlib.Core.Path.{refl}
 use Rattle.job_sheet.specs.Reading.{endpointFits}
 use borrow.Author.Needs.{needs}

@@ -1,3 +1,4 @@
+-- `job_sheet::record::is_control` meets its contract.
 use Rattle.job_sheet.proofs.ReadCases.{control-there, control-not}
 use borrow.Author.Needs.{needs}
 use Rattle.job_sheet.proofs.record.is_control.Statement.{statement}

@@ -1,3 +1,4 @@
+-- `job_sheet::record::request_at` meets its contract.
 use Rattle.job_sheet.proofs.ReadCases.{request-is}
 use borrow.Author.Needs.{needs}
 use Rattle.job_sheet.proofs.record.request_at.Statement.{statement}

@@ -1,3 +1,4 @@
+-- `job_sheet::record::request_fits` meets its contract.
 use mathlib.Core.Path.{refl}
 use Rattle.job_sheet.specs.Reading.{requestFits}
 use Rattle.job_sheet.proofs.record.request_fits.Statement.{statement}

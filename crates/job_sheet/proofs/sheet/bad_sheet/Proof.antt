@@ -1,3 +1,4 @@
+-- `job_sheet::sheet::bad_sheet` meets its contract.
 use mathlib.Core.Path.{refl}
 use Rattle.job_sheet.specs.Reading.{badSheet, filled, packed}
 use Rattle.job_sheet.proofs.sheet.bad_sheet.Statement.{statement}

@@ -1,3 +1,4 @@
+-- `job_sheet::sheet::read_sheet` meets its contract.
 use native.Mathlib.Omega.{arith}
 use borrow.Author.Tests.{not-false, not-true}
 use Rattle.job_sheet.proofs.ReadCases.{bad-counts, sheet-bad, sheet-good, sheet-sizes, sizes-known}

@@ -1,3 +1,4 @@
+-- `job_sheet::sheet::read_sizes` meets its contract.
 use mathlib.Core.Path.{_∙_}
 use native.Mathlib.Omega.{arith}
 use Rattle.job_sheet.proofs.ReadCases.{sizes-bad, sizes-good, sizes-short}

@@ -1,3 +1,4 @@
+-- `opening::open::clearing` meets its contract.
 use Rattle.opening.specs.Opening.{clearingOf}
 use borrow.Author.Needs.{needs}
 use Rattle.opening.proofs.open.clearing.Statement.{statement}

@@ -1,3 +1,4 @@
+-- `opening::open::decide_open` meets its contract.
 use native.Mathlib.Omega.{arith}
 use Rattle.opening.proofs.OpenCases.{open-bad, open-short, open-done, fit-lengths, heads-below}
 use borrow.Author.Needs.{needs}

@@ -1,3 +1,4 @@
+-- `opening::open::fresh_state` meets its contract.
 use Rattle.opening.specs.Opening.{freshState}
 use mathlib.Core.Path.{refl}
 use Rattle.opening.proofs.open.fresh_state.Statement.{statement}

@@ -1,3 +1,4 @@
+-- `opening::open::open_heads` meets its contract.
 use Rattle.opening.proofs.OpenCases.{heads-opened}
 use borrow.Author.Needs.{needs}
 use Rattle.opening.proofs.open.open_heads.Statement.{statement}

@@ -1,3 +1,4 @@
+-- `opening::open::refuse` meets its contract.
 use Rattle.opening.specs.Opening.{refusedOpening}
 use borrow.Author.Needs.{needs}
 use Rattle.opening.proofs.open.refuse.Statement.{statement}

@@ -1,3 +1,4 @@
+-- `opening::open::rows_fit` meets its contract.
 use Rattle.opening.proofs.OpenCases.{fit-is}
 use borrow.Author.Needs.{needs}
 use Rattle.opening.proofs.open.rows_fit.Statement.{statement}

@@ -1,3 +1,4 @@
+-- `pipe::endpoints::boundary_of` meets its contract.
 use Rattle.pipe.proofs.EndpointCases.{boundary-periodic, boundary-async}
 use Rattle.pipe.proofs.endpoints.boundary_of.Statement.{statement}
 use Rattle.pipe.proofs.endpoints.boundary_of.Tie as tie

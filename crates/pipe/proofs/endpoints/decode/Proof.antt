@@ -1,3 +1,4 @@
+-- `pipe::endpoints::decode` meets its contract.
 use Rattle.pipe.proofs.EndpointCases.{decode-idle, decode-linked, decode-unlinking, decode-closed}
 use borrow.Author.Needs.{needs}
 use Rattle.pipe.proofs.endpoints.decode.Statement.{statement}

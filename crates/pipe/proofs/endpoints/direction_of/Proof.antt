@@ -1,3 +1,4 @@
+-- `pipe::endpoints::direction_of` meets its contract.
 use Rattle.pipe.proofs.EndpointCases.{direction-out, direction-in}
 use Rattle.pipe.proofs.endpoints.direction_of.Statement.{statement}
 use Rattle.pipe.proofs.endpoints.direction_of.Tie as tie

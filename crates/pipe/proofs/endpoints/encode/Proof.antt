@@ -1,3 +1,4 @@
+-- `pipe::endpoints::encode` meets its contract.
 use Rattle.pipe.proofs.EndpointCases.{encode-closed, encode-idle, encode-linked, encode-unlinking}
 use borrow.Author.Needs.{needs}
 use Rattle.pipe.proofs.endpoints.encode.Statement.{statement}

@@ -1,3 +1,4 @@
+-- `pipe::endpoints::endpoint_at` meets its contract.
 use Rattle.pipe.proofs.EndpointCases.{at-slot, at-none}
 use borrow.Author.Needs.{needs}
 use Rattle.pipe.proofs.endpoints.endpoint_at.Statement.{statement}

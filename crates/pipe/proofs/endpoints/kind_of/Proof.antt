@@ -1,3 +1,4 @@
+-- `pipe::endpoints::kind_of` meets its contract.
 use Rattle.pipe.proofs.EndpointCases.{kind-control, kind-isochronous, kind-bulk, kind-interrupt}
 use Rattle.pipe.proofs.endpoints.kind_of.Statement.{statement}
 use Rattle.pipe.proofs.endpoints.kind_of.Tie as tie

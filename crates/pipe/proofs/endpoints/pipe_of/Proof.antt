@@ -1,3 +1,4 @@
+-- `pipe::endpoints::pipe_of` meets its contract.
 use borrow.Author.Needs.{needs}
 use Rattle.pipe.proofs.endpoints.pipe_of.Statement.{statement}
 use Rattle.pipe.proofs.endpoints.pipe_of.Tie as tie

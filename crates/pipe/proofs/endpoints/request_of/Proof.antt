@@ -1,3 +1,4 @@
+-- `pipe::endpoints::request_of` meets its contract.
 use borrow.Author.Needs.{needs}
 use Rattle.pipe.proofs.endpoints.request_of.Statement.{statement}
 use Rattle.pipe.proofs.endpoints.request_of.Tie as tie

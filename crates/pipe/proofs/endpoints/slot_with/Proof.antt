@@ -1,3 +1,4 @@
+-- `pipe::endpoints::slot_with` meets its contract.
 use borrow.Author.Needs.{needs}
 use Rattle.pipe.proofs.endpoints.slot_with.Statement.{statement}
 use Rattle.pipe.proofs.endpoints.slot_with.Tie as tie

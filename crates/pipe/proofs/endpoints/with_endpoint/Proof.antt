@@ -1,3 +1,4 @@
+-- `pipe::endpoints::with_endpoint` meets its contract.
 use Rattle.pipe.specs.Endpoints.{withEndpoint}
 use borrow.Author.Needs.{needs}
 use Rattle.pipe.proofs.endpoints.with_endpoint.Statement.{statement}

@@ -1,3 +1,4 @@
+-- `pool::chain::failed_with` meets its contract.
 use Rattle.pool.proofs.ChainCases.{was-set, failed-here, failed-not}
 use borrow.Author.Needs.{needs}
 use Rattle.pool.proofs.chain.failed_with.Statement.{statement}

@@ -1,3 +1,4 @@
+-- `pool::chain::next_of` meets its contract.
 use Rattle.pool.proofs.ChainCases.{next-there}
 use borrow.Author.Needs.{needs}
 use Rattle.pool.proofs.chain.next_of.Statement.{statement}

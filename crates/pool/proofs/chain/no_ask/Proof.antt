@@ -1,3 +1,4 @@
+-- `pool::chain::no_ask` meets its contract.
 use Rattle.pool.specs.Chains.{noAsk}
 use borrow.Author.Needs.{needs}
 use Rattle.pool.proofs.chain.no_ask.Statement.{statement}

@@ -1,3 +1,4 @@
+-- `pool::chain::no_chain` meets its contract.
 use Rattle.pool.specs.Chains.{noChain}
 use borrow.Author.Needs.{needs}
 use Rattle.pool.proofs.chain.no_chain.Statement.{statement}

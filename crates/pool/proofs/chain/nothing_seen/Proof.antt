@@ -1,3 +1,4 @@
+-- `pool::chain::nothing_seen` meets its contract.
 use borrow.Author.Needs.{needs}
 use Rattle.pool.proofs.ChainCases.{seen-none}
 use Rattle.pool.proofs.chain.nothing_seen.Statement.{statement}

@@ -1,3 +1,4 @@
+-- `pool::chain::record_for` meets its contract.
 use Rattle.pool.proofs.ChainCases.{record-made}
 use borrow.Author.Needs.{needs}
 use Rattle.pool.proofs.chain.record_for.Statement.{statement}

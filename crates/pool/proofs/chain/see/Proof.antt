@@ -1,3 +1,4 @@
+-- `pool::chain::see` meets its contract.
 use Rattle.pool.proofs.ChainCases.{sum-fits, see-made}
 use borrow.Author.Needs.{needs}
 use Rattle.pool.proofs.chain.see.Statement.{statement}

@@ -1,3 +1,4 @@
+-- `pool::chain::stage_with` meets its contract.
 use Rattle.pool.proofs.ChainCases.{was-set, stage-active, stage-erring, stage-clean}
 use borrow.Author.Needs.{needs}
 use Rattle.pool.proofs.chain.stage_with.Statement.{statement}

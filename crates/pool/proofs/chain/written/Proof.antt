@@ -1,3 +1,4 @@
+-- `pool::chain::written` meets its contract.
 use Rattle.pool.proofs.ChainCases.{written-transfer, written-token, turn-transfer}
 use borrow.Author.Needs.{needs}
 use Rattle.pool.proofs.chain.written.Statement.{statement}

@@ -1,3 +1,4 @@
+-- `pool::places::index_after` meets its contract.
 use Rattle.pool.proofs.ChainCases.{index-last, index-more}
 use borrow.Author.Needs.{needs}
 use Rattle.pool.proofs.places.index_after.Statement.{statement}

@@ -1,3 +1,4 @@
+-- `pool::places::no_places` meets its contract.
 use mathlib.Core.Path.{refl}
 use Rattle.pool.specs.Places.{packed}
 use Rattle.pool.proofs.places.no_places.Statement.{statement}

@@ -1,3 +1,4 @@
+-- `pool::places::one_place` meets its contract.
 use mathlib.Core.Path.{refl}
 use Rattle.pool.specs.Places.{packed}
 use borrow.Author.Needs.{needs}

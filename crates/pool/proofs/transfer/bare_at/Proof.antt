@@ -1,3 +1,4 @@
+-- `pool::transfer::bare_at` meets its contract.
 use Rattle.pool.proofs.TransferCases.{bare-control, bare-isochronous, bare-bulk, bare-interrupt, start-isochronous, start-bulk, start-interrupt}
 use borrow.Author.Needs.{needs}
 use Rattle.pool.proofs.transfer.bare_at.Statement.{statement}

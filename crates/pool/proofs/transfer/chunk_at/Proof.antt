@@ -1,3 +1,4 @@
+-- `pool::transfer::chunk_at` meets its contract.
 use Rattle.pool.proofs.TransferCases.{small-product}
 use borrow.Author.Needs.{needs}
 use Rattle.pool.proofs.transfer.chunk_at.Statement.{statement}

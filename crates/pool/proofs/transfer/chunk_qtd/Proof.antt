@@ -1,3 +1,4 @@
+-- `pool::transfer::chunk_qtd` meets its contract.
 use Rattle.pool.proofs.TransferCases.{chunk-made}
 use borrow.Author.Needs.{needs}
 use Rattle.pool.proofs.transfer.chunk_qtd.Statement.{statement}

@@ -1,3 +1,4 @@
+-- `pool::transfer::requested` meets its contract.
 use Rattle.pool.proofs.TransferCases.{asked-data, asked-none, asked-isochronous, asked-bulk, asked-interrupt}
 use borrow.Author.Needs.{needs}
 use Rattle.pool.proofs.transfer.requested.Statement.{statement}

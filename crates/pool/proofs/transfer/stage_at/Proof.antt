@@ -1,3 +1,4 @@
+-- `pool::transfer::stage_at` meets its contract.
 use Rattle.pool.proofs.TransferCases.{stage-setup, stage-bare, stage-data, stage-status}
 use borrow.Author.Needs.{needs}
 use Rattle.pool.proofs.transfer.stage_at.Statement.{statement}

@@ -1,3 +1,4 @@
+-- `register::bits::any_of` meets its contract.
 use borrow.Author.Needs.{needs}
 use Rattle.register.specs.Bits.{anyOf}
 use Rattle.register.proofs.bits.any_of.Statement.{statement}

@@ -1,3 +1,4 @@
+-- `register::bits::only_bits` meets its contract.
 use borrow.Author.Needs.{needs}
 use Rattle.register.specs.Bits.{onlyBits}
 use Rattle.register.proofs.bits.only_bits.Statement.{statement}

@@ -1,3 +1,4 @@
+-- `register::bits::with_bits` meets its contract.
 use borrow.Author.Needs.{needs}
 use Rattle.register.specs.Bits.{withBits}
 use Rattle.register.proofs.bits.with_bits.Statement.{statement}

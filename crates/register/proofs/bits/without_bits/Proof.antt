@@ -1,3 +1,4 @@
+-- `register::bits::without_bits` meets its contract.
 use borrow.Author.Needs.{needs}
 use Rattle.register.specs.Bits.{withoutBits}
 use Rattle.register.proofs.bits.without_bits.Statement.{statement}

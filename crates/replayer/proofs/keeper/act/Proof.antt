@@ -1,3 +1,4 @@
+-- `replayer::keeper::act` meets its contract.
 use Rattle.replayer.proofs.ActCases.{act-as}
 use mathlib.Core.Path.{ap, _∙_}
 use Rattle.replayer.specs.Replays.{scanEffect}

@@ -1,3 +1,4 @@
+-- `replayer::keeper::act_call` meets its contract.
 use Rattle.replayer.proofs.ActCases.{call-done}
 use borrow.Author.Needs.{needs}
 use Rattle.replayer.proofs.keeper.act_call.Statement.{statement}

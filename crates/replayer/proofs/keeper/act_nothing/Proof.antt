@@ -1,3 +1,4 @@
+-- `replayer::keeper::act_nothing` meets its contract.
 use Rattle.replayer.proofs.ActCases.{nothing-done}
 use borrow.Author.Needs.{needs}
 use Rattle.replayer.proofs.keeper.act_nothing.Statement.{statement}

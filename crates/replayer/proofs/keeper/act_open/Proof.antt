@@ -1,3 +1,4 @@
+-- `replayer::keeper::act_open` meets its contract.
 use Rattle.replayer.proofs.ActCases.{open-done, open-refused}
 use borrow.Author.Needs.{needs}
 use Rattle.replayer.proofs.keeper.act_open.Statement.{statement}

@@ -1,3 +1,4 @@
+-- `replayer::keeper::act_power` meets its contract.
 use Rattle.replayer.proofs.ActCases.{power-done}
 use borrow.Author.Needs.{needs}
 use Rattle.replayer.proofs.keeper.act_power.Statement.{statement}

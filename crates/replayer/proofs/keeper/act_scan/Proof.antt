@@ -1,3 +1,4 @@
+-- `replayer::keeper::act_scan` meets its contract.
 use Rattle.replayer.proofs.ActCases.{scan-done}
 use borrow.Author.Needs.{needs}
 use Rattle.replayer.proofs.keeper.act_scan.Statement.{statement}

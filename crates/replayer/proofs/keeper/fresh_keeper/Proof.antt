@@ -1,3 +1,4 @@
+-- `replayer::keeper::fresh_keeper` meets its contract.
 use Rattle.replayer.proofs.ActCases.{fresh-kept}
 use borrow.Author.Needs.{needs}
 use Rattle.replayer.proofs.keeper.fresh_keeper.Statement.{statement}

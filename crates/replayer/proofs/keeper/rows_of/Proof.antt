@@ -1,3 +1,4 @@
+-- `replayer::keeper::rows_of` meets its contract.
 use mathlib.Core.Path.{refl}
 use Rattle.replayer.specs.Replays.{rowsOf}
 use Rattle.replayer.proofs.keeper.rows_of.Statement.{statement}

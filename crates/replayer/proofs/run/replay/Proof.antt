@@ -1,3 +1,4 @@
+-- `replayer::run::replay` meets its contract.
 use Prim.Native.Nat.{_≤_}
 use native.Mathlib.Omega.{arith}
 use Rattle.replayer.proofs.run.replay.Statement.{statement}

@@ -1,3 +1,4 @@
+-- `replayer::turn::first_byte` meets its contract.
 use Rattle.replayer.proofs.TurnCases.{none-there}
 use borrow.Author.Needs.{needs}
 use Rattle.replayer.proofs.turn.first_byte.Statement.{statement}

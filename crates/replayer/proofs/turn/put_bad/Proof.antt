@@ -1,3 +1,4 @@
+-- `replayer::turn::put_bad` meets its contract.
 use Rattle.replayer.proofs.TurnCases.{bad-put}
 use native.Mathlib.Omega.{arith}
 use Rattle.text.proofs.TextLaws.{decimal-length}

@@ -1,3 +1,4 @@
+-- `replayer::turn::put_shown` meets its contract.
 use Rattle.replayer.proofs.TurnCases.{shown-put}
 use borrow.Author.Needs.{needs}
 use Rattle.replayer.proofs.turn.put_shown.Statement.{statement}

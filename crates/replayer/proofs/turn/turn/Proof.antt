@@ -1,3 +1,4 @@
+-- `replayer::turn::turn` meets its contract.
 use Rattle.replayer.proofs.TurnCases.{turn-bad, turn-good}
 use borrow.Author.Needs.{needs}
 use Rattle.replayer.proofs.turn.turn.Statement.{statement}

@@ -1,3 +1,4 @@
+-- `request::calls::keep` meets its contract.
 use Rattle.request.specs.Writeback.{refusedWriteback}
 use borrow.Author.Needs.{needs}
 use Rattle.request.proofs.calls.keep.Statement.{statement}

@@ -1,3 +1,4 @@
+-- `request::calls::refuse` meets its contract.
 use Rattle.request.specs.Submit.{refusedSubmit}
 use borrow.Author.Needs.{needs}
 use Rattle.request.proofs.calls.refuse.Statement.{statement}

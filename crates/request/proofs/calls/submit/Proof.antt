@@ -1,3 +1,4 @@
+-- `request::calls::submit` meets its contract.
 use Rattle.request.proofs.SubmitCases.{submit-bad, submit-refused, submit-done, accepted-limit, accepted-settles}
 use borrow.Author.Needs.{needs}
 use Rattle.request.proofs.calls.submit.Statement.{statement}

@@ -1,3 +1,4 @@
+-- `request::calls::writeback` meets its contract.
 use Rattle.request.proofs.WritebackCases.{back-bad, back-none, back-done, accepted-few, place-below}
 use borrow.Author.Needs.{needs}
 use Rattle.request.proofs.calls.writeback.Statement.{statement}

@@ -1,3 +1,4 @@
+-- `request::judge::buffer_good` meets its contract.
 use Rattle.request.proofs.JudgeCases.{buffer-empty, buffer-large, buffer-is}
 use Rattle.request.proofs.judge.buffer_good.Statement.{statement}
 use Rattle.request.proofs.judge.buffer_good.Tie as tie

@@ -1,3 +1,4 @@
+-- `request::judge::control_good` meets its contract.
 use Rattle.request.proofs.JudgeCases.{control-is}
 use borrow.Author.Needs.{needs}
 use Rattle.request.proofs.judge.control_good.Statement.{statement}

@@ -1,3 +1,4 @@
+-- `request::judge::judge` meets its contract.
 use mathlib.Core.Path.{sym, _∙_}
 use borrow.Author.Tests.{not-false}
 use Rattle.controller.proofs.ReaderCases.{free-in-is, open-in-is, uncollected-in-is}

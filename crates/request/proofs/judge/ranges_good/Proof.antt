@@ -1,3 +1,4 @@
+-- `request::judge::ranges_good` meets its contract.
 use Rattle.request.proofs.JudgeCases.{ranges-control, ranges-other}
 use borrow.Author.Needs.{needs}
 use Rattle.request.proofs.judge.ranges_good.Statement.{statement}

@@ -1,3 +1,4 @@
+-- `request::settle::accepted` meets its contract.
 use Rattle.request.proofs.SettleCases.{accepted-is}
 use borrow.Author.Needs.{needs}
 use Rattle.request.proofs.settle.accepted.Statement.{statement}

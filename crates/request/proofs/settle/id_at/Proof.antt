@@ -1,3 +1,4 @@
+-- `request::settle::id_at` meets its contract.
 use mathlib.Core.Path.{refl}
 use Rattle.state.specs.Slots.{slotAt}
 use borrow.Author.Needs.{needs}

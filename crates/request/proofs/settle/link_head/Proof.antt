@@ -1,3 +1,4 @@
+-- `request::settle::link_head` meets its contract.
 use Rattle.request.proofs.SettleCases.{rows-frames, rows-ring}
 use borrow.Author.Needs.{needs}
 use Rattle.request.proofs.settle.link_head.Statement.{statement}

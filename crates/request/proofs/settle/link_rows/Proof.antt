@@ -1,3 +1,4 @@
+-- `request::settle::link_rows` meets its contract.
 use Rattle.request.proofs.SettleCases.{rows-is}
 use borrow.Author.Needs.{needs}
 use Rattle.request.proofs.settle.link_rows.Statement.{statement}

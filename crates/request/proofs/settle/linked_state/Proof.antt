@@ -1,3 +1,4 @@
+-- `request::settle::linked_state` meets its contract.
 use Rattle.request.proofs.SettleCases.{linked-is}
 use Rattle.state.specs.Slots.{slotAt}
 use Rattle.state.specs.State.{withOwner}

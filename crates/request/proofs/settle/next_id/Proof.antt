@@ -1,3 +1,4 @@
+-- `request::settle::next_id` meets its contract.
 use Rattle.request.proofs.SettleCases.{id-last, id-next}
 use borrow.Author.Needs.{needs}
 use Rattle.request.proofs.settle.next_id.Statement.{statement}

@@ -1,3 +1,4 @@
+-- `request::settle::put_setup` meets its contract.
 use Rattle.request.proofs.SettleCases.{setup-put, setup-kept}
 use borrow.Author.Needs.{needs}
 use Rattle.request.proofs.settle.put_setup.Statement.{statement}

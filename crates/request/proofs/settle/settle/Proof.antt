@@ -1,3 +1,4 @@
+-- `request::settle::settle` meets its contract.
 use Rattle.request.proofs.SettleCases.{settled-is}
 use borrow.Author.Needs.{needs}
 use Rattle.request.proofs.settle.settle.Statement.{statement}

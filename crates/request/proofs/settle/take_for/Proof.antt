@@ -1,3 +1,4 @@
+-- `request::settle::take_for` meets its contract.
 use Rattle.request.proofs.SettleCases.{take-is}
 use borrow.Author.Needs.{needs}
 use Rattle.request.proofs.settle.take_for.Statement.{statement}

@@ -1,3 +1,4 @@
+-- `request::settle::take_places` meets its contract.
 use Rattle.request.proofs.SettleCases.{taken-is}
 use Rattle.state.proofs.Arrays.{front-256, part-within}
 use borrow.Author.Needs.{needs}

@@ -1,3 +1,4 @@
+-- `request::writeback::in_request` meets its contract.
 use Rattle.request.proofs.WritebackCases.{place-beyond, place-free, place-owned}
 use borrow.Author.Needs.{needs}
 use Rattle.request.proofs.writeback.in_request.Statement.{statement}

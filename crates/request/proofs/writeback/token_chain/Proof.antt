@@ -1,3 +1,4 @@
+-- `request::writeback::token_chain` meets its contract.
 use mathlib.Core.Path.{refl}
 use borrow.Author.Needs.{needs}
 use Rattle.request.proofs.writeback.token_chain.Statement.{statement}

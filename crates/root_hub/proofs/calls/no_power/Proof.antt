@@ -1,3 +1,4 @@
+-- `root_hub::calls::no_power` meets its contract.
 use borrow.Author.Needs.{needs}
 use Rattle.root_hub.proofs.calls.no_power.Statement.{statement}
 use Rattle.root_hub.proofs.calls.no_power.Tie as tie

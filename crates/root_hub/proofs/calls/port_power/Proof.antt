@@ -1,3 +1,4 @@
+-- `root_hub::calls::port_power` meets its contract.
 use Rattle.root_hub.proofs.Cases.{power-bad, power-none, power-done, power-port}
 use borrow.Author.Needs.{needs}
 use Rattle.root_hub.proofs.calls.port_power.Statement.{statement}

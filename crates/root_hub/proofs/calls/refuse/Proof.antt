@@ -1,3 +1,4 @@
+-- `root_hub::calls::refuse` meets its contract.
 use borrow.Author.Needs.{needs}
 use Rattle.root_hub.proofs.calls.refuse.Statement.{statement}
 use Rattle.root_hub.proofs.calls.refuse.Tie as tie

@@ -1,3 +1,4 @@
+-- `root_hub::calls::start` meets its contract.
 use Rattle.root_hub.specs.Calls.{withScan}
 use Rattle.root_hub.proofs.Cases.{start-bad, start-done}
 use borrow.Author.Needs.{needs}

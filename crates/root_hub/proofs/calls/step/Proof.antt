@@ -1,3 +1,4 @@
+-- `root_hub::calls::step` meets its contract.
 use Rattle.root_hub.specs.Calls.{withScan}
 use Rattle.root_hub.proofs.Cases.{step-bad, step-none, step-done, at-port, at-most, at-index}
 use borrow.Author.Needs.{needs}

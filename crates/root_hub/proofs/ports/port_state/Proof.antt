@@ -1,3 +1,4 @@
+-- `root_hub::ports::port_state` meets its contract.
 use Rattle.root_hub.proofs.Cases.{state-uninit, state-reseted, state-probed}
 use Rattle.root_hub.proofs.ports.port_state.Statement.{statement}
 use Rattle.root_hub.proofs.ports.port_state.Tie as tie

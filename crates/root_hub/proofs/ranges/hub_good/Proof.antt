@@ -1,3 +1,4 @@
+-- `root_hub::ranges::hub_good` meets its contract.
 use Rattle.root_hub.proofs.Cases.{hub-is, hub-not, ports-most}
 use borrow.Author.Needs.{needs}
 use Rattle.root_hub.proofs.ranges.hub_good.Statement.{statement}

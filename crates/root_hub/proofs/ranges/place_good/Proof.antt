@@ -1,3 +1,4 @@
+-- `root_hub::ranges::place_good` meets its contract.
 use Rattle.root_hub.proofs.Cases.{place-idle, place-beyond, place-begun}
 use borrow.Author.Needs.{needs}
 use Rattle.root_hub.proofs.ranges.place_good.Statement.{statement}

@@ -1,3 +1,4 @@
+-- `root_hub::ranges::state_good` meets its contract.
 use Rattle.root_hub.proofs.Cases.{good-port, good-past}
 use Rattle.root_hub.proofs.ranges.state_good.Statement.{statement}
 use Rattle.root_hub.proofs.ranges.state_good.Tie as tie

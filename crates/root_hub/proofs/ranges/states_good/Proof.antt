@@ -1,3 +1,4 @@
+-- `root_hub::ranges::states_good` meets its contract.
 use mathlib.Core.Bool.{_&&_}
 use Rattle.root_hub.proofs.Cases.{ports-turn, ports-done}
 use Rattle.root_hub.specs.Ranges.{statesGood}

@@ -1,3 +1,4 @@
+-- `root_hub::ranges::step_fits` meets its contract.
 use Rattle.root_hub.proofs.Cases.{fits-gone, fits-reset, fits-release, fits-again, fits-owner}
 use borrow.Author.Needs.{needs}
 use Rattle.root_hub.proofs.ranges.step_fits.Statement.{statement}

@@ -1,3 +1,4 @@
+-- `root_hub::scan::again_turn` meets its contract.
 use Rattle.root_hub.proofs.Cases.{again-lost, again-slow, again-high}
 use borrow.Author.Needs.{needs}
 use Rattle.root_hub.proofs.scan.again_turn.Statement.{statement}

@@ -1,3 +1,4 @@
+-- `root_hub::scan::awaited_of` meets its contract.
 use Rattle.root_hub.proofs.Cases.{await-status, await-gone, await-reset, await-release, await-again, await-owner}
 use Rattle.root_hub.proofs.scan.awaited_of.Statement.{statement}
 use Rattle.root_hub.proofs.scan.awaited_of.Tie as tie

@@ -1,3 +1,4 @@
+-- `root_hub::scan::gone_turn` meets its contract.
 use Rattle.root_hub.proofs.Cases.{gone-is}
 use borrow.Author.Needs.{needs}
 use Rattle.root_hub.proofs.scan.gone_turn.Statement.{statement}

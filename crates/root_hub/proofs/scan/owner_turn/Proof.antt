@@ -1,3 +1,4 @@
+-- `root_hub::scan::owner_turn` meets its contract.
 use Rattle.root_hub.proofs.Cases.{owner-is}
 use borrow.Author.Needs.{needs}
 use Rattle.root_hub.proofs.scan.owner_turn.Statement.{statement}

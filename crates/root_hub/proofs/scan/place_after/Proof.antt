@@ -1,3 +1,4 @@
+-- `root_hub::scan::place_after` meets its contract.
 use Rattle.root_hub.proofs.Cases.{place-on, place-next, place-end}
 use borrow.Author.Needs.{needs}
 use Rattle.root_hub.proofs.scan.place_after.Statement.{statement}

@@ -1,3 +1,4 @@
+-- `root_hub::scan::port_writes` meets its contract.
 use Rattle.root_hub.proofs.Cases.{writes-none, writes-value}
 use borrow.Author.Needs.{needs}
 use Rattle.root_hub.proofs.scan.port_writes.Statement.{statement}

@@ -1,3 +1,4 @@
+-- `root_hub::scan::release_turn` meets its contract.
 use Rattle.root_hub.proofs.Cases.{release-is}
 use borrow.Author.Needs.{needs}
 use Rattle.root_hub.proofs.scan.release_turn.Statement.{statement}

@@ -1,3 +1,4 @@
+-- `root_hub::scan::reset_turn` meets its contract.
 use Rattle.root_hub.proofs.Cases.{reset-is}
 use borrow.Author.Needs.{needs}
 use Rattle.root_hub.proofs.scan.reset_turn.Statement.{statement}

@@ -1,3 +1,4 @@
+-- `root_hub::scan::status_turn` meets its contract.
 use Rattle.root_hub.proofs.Cases.{status-reset, status-none, status-again, status-lost, status-there, status-gone}
 use borrow.Author.Needs.{needs}
 use Rattle.root_hub.proofs.scan.status_turn.Statement.{statement}

@@ -1,3 +1,4 @@
+-- `root_hub::scan::turn` meets its contract.
 use Rattle.root_hub.proofs.Cases.{turn-status, turn-gone, turn-reset, turn-release, turn-again, turn-owner}
 use borrow.Author.Needs.{needs}
 use Rattle.root_hub.proofs.scan.turn.Statement.{statement}

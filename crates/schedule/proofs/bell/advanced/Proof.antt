@@ -1,3 +1,4 @@
+-- `schedule::bell::advanced` meets its contract.
 use Rattle.schedule.specs.Bell.{advancedOf}
 use borrow.Author.Needs.{needs}
 use Rattle.schedule.proofs.bell.advanced.Statement.{statement}

@@ -1,3 +1,4 @@
+-- `schedule::bell::command_word` meets its contract.
 use Rattle.schedule.specs.Bell.{commandWord}
 use borrow.Author.Needs.{needs}
 use Rattle.schedule.proofs.bell.command_word.Statement.{statement}

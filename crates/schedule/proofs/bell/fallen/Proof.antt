@@ -1,3 +1,4 @@
+-- `schedule::bell::fallen` meets its contract.
 use Rattle.schedule.proofs.BellCases.{fall-turn, fall-done}
 use Rattle.schedule.specs.Bell.{fallenFrom}
 use lib.ListN.{drop}

@@ -1,3 +1,4 @@
+-- `schedule::bell::fallen_one` meets its contract.
 use Rattle.schedule.proofs.BellCases.{falls, falls-none, frames-stay, others-stay}
 use borrow.Author.Needs.{needs}
 use Rattle.schedule.proofs.bell.fallen_one.Statement.{statement}

@@ -1,3 +1,4 @@
+-- `schedule::bell::ring` meets its contract.
 use Rattle.schedule.proofs.BellCases.{rings, rings-none, rings-up}
 use borrow.Author.Needs.{needs}
 use Rattle.schedule.proofs.bell.ring.Statement.{statement}

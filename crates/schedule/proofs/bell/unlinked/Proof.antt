@@ -1,3 +1,4 @@
+-- `schedule::bell::unlinked` meets its contract.
 use Rattle.schedule.specs.Bell.{unlinkedOf}
 use borrow.Author.Needs.{needs}
 use Rattle.schedule.proofs.bell.unlinked.Statement.{statement}

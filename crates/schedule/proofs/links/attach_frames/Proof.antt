@@ -1,3 +1,4 @@
+-- `schedule::links::attach_frames` meets its contract.
 use Rattle.schedule.proofs.LinkCases.{frames-attached}
 use borrow.Author.Needs.{needs}
 use Rattle.schedule.proofs.links.attach_frames.Statement.{statement}

@@ -1,3 +1,4 @@
+-- `schedule::links::attach_ring` meets its contract.
 use Rattle.schedule.specs.Links.{attachedRing}
 use native.Mathlib.Omega.{arith}
 use lib.ListN.{length-set}

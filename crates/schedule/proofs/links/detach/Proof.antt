@@ -1,3 +1,4 @@
+-- `schedule::links::detach` meets its contract.
 use Rattle.schedule.proofs.LinkCases.{detach-frames, detach-ring, detach-head, detach-none}
 use borrow.Author.Needs.{needs}
 use Rattle.schedule.proofs.links.detach.Statement.{statement}

@@ -1,3 +1,4 @@
+-- `schedule::links::end_overlay` meets its contract.
 use Rattle.schedule.specs.Links.{endedOverlay}
 use borrow.Author.Needs.{needs}
 use Rattle.schedule.proofs.links.end_overlay.Statement.{statement}

@@ -1,3 +1,4 @@
+-- `schedule::links::find_predecessor` meets its contract.
 use Rattle.schedule.proofs.LinkCases.{first-leads, not-first}
 use borrow.Author.Needs.{needs}
 use Rattle.schedule.proofs.links.find_predecessor.Statement.{statement}

@@ -1,3 +1,4 @@
+-- `schedule::links::first_word` meets its contract.
 use Rattle.schedule.proofs.LinkCases.{word-frame, word-ring}
 use Rattle.schedule.proofs.links.first_word.Statement.{statement}
 use Rattle.schedule.proofs.links.first_word.Tie as tie

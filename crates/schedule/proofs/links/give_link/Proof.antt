@@ -1,3 +1,4 @@
+-- `schedule::links::give_link` meets its contract.
 use Rattle.schedule.proofs.LinkCases.{no-such-word}
 use borrow.Author.Needs.{needs}
 use Rattle.schedule.proofs.links.give_link.Statement.{statement}

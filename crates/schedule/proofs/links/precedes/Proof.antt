@@ -1,3 +1,4 @@
+-- `schedule::links::precedes` meets its contract.
 use Rattle.schedule.proofs.LinkCases.{precedes-is}
 use borrow.Author.Needs.{needs}
 use Rattle.schedule.proofs.links.precedes.Statement.{statement}

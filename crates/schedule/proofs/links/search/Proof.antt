@@ -1,3 +1,4 @@
+-- `schedule::links::search` meets its contract.
 use native.Mathlib.Nat.{sub-zero}
 use Rattle.schedule.proofs.LinkCases.{found, not-here, nowhere, at-address}
 use Rattle.schedule.specs.Links.{searchFrom}

@@ -1,3 +1,4 @@
+-- `schedule::links::start_overlay` meets its contract.
 use Rattle.schedule.specs.Links.{startedOverlay}
 use native.Mathlib.Omega.{arith}
 use lib.ListN.{length-set}

@@ -1,3 +1,4 @@
+-- `settings::settings::apart` meets its contract.
 use Rattle.settings.proofs.SettingsCases.{apart-first, apart-second}
 use borrow.Author.Needs.{needs}
 use Rattle.settings.proofs.settings.apart.Statement.{statement}

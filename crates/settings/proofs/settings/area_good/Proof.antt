@@ -1,3 +1,4 @@
+-- `settings::settings::area_good` meets its contract.
 use Rattle.settings.proofs.SettingsCases.{area-is}
 use borrow.Author.Needs.{needs}
 use Rattle.settings.proofs.settings.area_good.Statement.{statement}

@@ -1,3 +1,4 @@
+-- `settings::settings::each_good` meets its contract.
 use Rattle.settings.proofs.SettingsCases.{each-is}
 use borrow.Author.Needs.{needs}
 use Rattle.settings.proofs.settings.each_good.Statement.{statement}

@@ -1,3 +1,4 @@
+-- `settings::settings::no_overlap` meets its contract.
 use Rattle.settings.proofs.SettingsCases.{overlap-is}
 use borrow.Author.Needs.{needs}
 use Rattle.settings.proofs.settings.no_overlap.Statement.{statement}

@@ -1,3 +1,4 @@
+-- `settings::settings::numbers_good` meets its contract.
 use Rattle.settings.proofs.SettingsCases.{numbers-is}
 use Rattle.settings.proofs.settings.numbers_good.Statement.{statement}
 use Rattle.settings.proofs.settings.numbers_good.Tie as tie

@@ -1,3 +1,4 @@
+-- `slot::ranges::boundary_good` meets its contract.
 use Rattle.slot.proofs.SlotCases.{frame-boundary, advance-boundary}
 use Rattle.slot.proofs.ranges.boundary_good.Statement.{statement}
 use Rattle.slot.proofs.ranges.boundary_good.Tie as tie

@@ -1,3 +1,4 @@
+-- `slot::ranges::closed_good` meets its contract.
 use Rattle.slot.proofs.SlotCases.{closed-is}
 use borrow.Author.Needs.{needs}
 use Rattle.slot.proofs.ranges.closed_good.Statement.{statement}

@@ -1,3 +1,4 @@
+-- `slot::ranges::linked_good` meets its contract.
 use Rattle.slot.proofs.SlotCases.{linked-is}
 use borrow.Author.Needs.{needs}
 use Rattle.slot.proofs.ranges.linked_good.Statement.{statement}

@@ -1,3 +1,4 @@
+-- `slot::ranges::no_request` meets its contract.
 use Rattle.slot.proofs.SlotCases.{bare-is}
 use Rattle.slot.proofs.ranges.no_request.Statement.{statement}
 use Rattle.slot.proofs.ranges.no_request.Tie as tie

@@ -1,3 +1,4 @@
+-- `slot::ranges::open_kind` meets its contract.
 use Rattle.slot.proofs.SlotCases.{kind-is}
 use Rattle.slot.proofs.ranges.open_kind.Statement.{statement}
 use Rattle.slot.proofs.ranges.open_kind.Tie as tie

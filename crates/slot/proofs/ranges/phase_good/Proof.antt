@@ -1,3 +1,4 @@
+-- `slot::ranges::phase_good` meets its contract.
 use Rattle.slot.proofs.SlotCases.{phase-closed, phase-idle, phase-linked, phase-unlinking, phase-unknown}
 use borrow.Author.Needs.{needs}
 use Rattle.slot.proofs.ranges.phase_good.Statement.{statement}

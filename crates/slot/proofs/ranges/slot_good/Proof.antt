@@ -1,3 +1,4 @@
+-- `slot::ranges::slot_good` meets its contract.
 use Rattle.slot.proofs.SlotCases.{slot-is}
 use borrow.Author.Needs.{needs}
 use Rattle.slot.proofs.ranges.slot_good.Statement.{statement}

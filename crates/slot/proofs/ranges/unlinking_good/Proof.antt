@@ -1,3 +1,4 @@
+-- `slot::ranges::unlinking_good` meets its contract.
 use Rattle.slot.proofs.SlotCases.{unlinking-is}
 use borrow.Author.Needs.{needs}
 use Rattle.slot.proofs.ranges.unlinking_good.Statement.{statement}

@@ -1,3 +1,4 @@
+-- `state::ranges::doorbell_good` meets its contract.
 use Rattle.state.proofs.RangesCases.{doorbell-is}
 use Rattle.state.proofs.ranges.doorbell_good.Statement.{statement}
 use Rattle.state.proofs.ranges.doorbell_good.Tie as tie

@@ -1,3 +1,4 @@
+-- `state::ranges::in_ranges` meets its contract.
 use Rattle.state.proofs.RangesCases.{ranges-not, ranges-rest, pool-within}
 use borrow.Author.Needs.{needs}
 use Rattle.state.proofs.ranges.in_ranges.Statement.{statement}

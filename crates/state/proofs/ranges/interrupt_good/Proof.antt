@@ -1,3 +1,4 @@
+-- `state::ranges::interrupt_good` meets its contract.
 use Rattle.state.proofs.RangesCases.{interrupt-is}
 use borrow.Author.Needs.{needs}
 use Rattle.state.proofs.ranges.interrupt_good.Statement.{statement}

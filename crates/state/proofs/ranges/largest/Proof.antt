@@ -1,3 +1,4 @@
+-- `state::ranges::largest` meets its contract.
 use mathlib.Core.Logic.{⊎-elim}
 use Rattle.state.proofs.RangesCases.{seen-none, seen-larger, seen-smaller, seen-all}
 use Rattle.state.specs.Ranges.{largest}

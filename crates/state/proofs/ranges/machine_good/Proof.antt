@@ -1,3 +1,4 @@
+-- `state::ranges::machine_good` meets its contract.
 use Rattle.state.proofs.RangesCases.{machine-is}
 use Rattle.state.proofs.ranges.machine_good.Statement.{statement}
 use Rattle.state.proofs.ranges.machine_good.Tie as tie

@@ -1,3 +1,4 @@
+-- `state::ranges::owner_good` meets its contract.
 use Rattle.state.proofs.Arrays.{front}
 use Rattle.state.proofs.RangesCases.{owned}
 use borrow.Author.Needs.{needs}

@@ -1,3 +1,4 @@
+-- `state::ranges::slots_good` meets its contract.
 use mathlib.Core.Bool.{_&&_}
 use Rattle.state.specs.Slots.{slotAt}
 use Rattle.state.proofs.RangesCases.{slots-turn, slots-done}

@@ -1,3 +1,4 @@
+-- `state::slots::slot_at` meets its contract.
 use Rattle.state.specs.Slots.{slotAt}
 use mathlib.Core.Path.{refl}
 use borrow.Author.Needs.{needs}

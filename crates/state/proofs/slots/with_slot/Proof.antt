@@ -1,3 +1,4 @@
+-- `state::slots::with_slot` meets its contract.
 use Rattle.state.specs.Slots.{withSlot}
 use mathlib.Core.Path.{refl}
 use borrow.Author.Needs.{needs}

@@ -1,3 +1,4 @@
+-- `store::store::blank_state` meets its contract.
 use borrow.Author.Needs.{needs}
 use Rattle.store.proofs.store.blank_state.Statement.{statement}
 use Rattle.store.proofs.store.blank_state.Tie as tie

@@ -1,3 +1,4 @@
+-- `store::store::blank_store` meets its contract.
 use borrow.Author.Needs.{needs}
 use Rattle.store.proofs.store.blank_store.Statement.{statement}
 use Rattle.store.proofs.store.blank_store.Tie as tie

@@ -1,3 +1,4 @@
+-- `store::store::call_on` meets its contract.
 use borrow.Author.Needs.{needs}
 use Rattle.store.proofs.store.call_on.Statement.{statement}
 use Rattle.store.proofs.store.call_on.Tie as tie

@@ -1,3 +1,4 @@
+-- `store::store::open_in` meets its contract.
 use borrow.Author.Needs.{needs}
 use Rattle.store.proofs.store.open_in.Statement.{statement}
 use Rattle.store.proofs.store.open_in.Tie as tie

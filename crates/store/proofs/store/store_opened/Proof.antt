@@ -1,3 +1,4 @@
+-- `store::store::store_opened` meets its contract.
 use borrow.Author.Needs.{needs}
 use Rattle.store.proofs.store.store_opened.Statement.{statement}
 use Rattle.store.proofs.store.store_opened.Tie as tie

@@ -1,3 +1,4 @@
+-- `text::digits::put_digits` meets its contract.
 use mathlib.Core.Path.{_∙_}
 use borrow.Author.Needs.{needs}
 use Rattle.text.proofs.DigitCases.{digits-none, digits-low, digits-more}

@@ -1,3 +1,4 @@
+-- `text::digits::put_hex` meets its contract.
 use mathlib.Core.Path.{_∙_}
 use Rattle.text.proofs.DigitCases.{hex-put-none, hex-put-more}
 use native.Mathlib.Omega.{arith}

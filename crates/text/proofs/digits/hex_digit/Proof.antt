@@ -1,3 +1,4 @@
+-- `text::digits::hex_digit` meets its contract.
 use borrow.Author.Tests.{lt-ltb, le-ltb}
 use borrow.Author.Needs.{needs}
 use Rattle.text.proofs.digits.hex_digit.Statement.{statement}

@@ -1,3 +1,4 @@
+-- `text::digits::put` meets its contract.
 use mathlib.Core.Path.{refl}
 use Rattle.text.proofs.Puts.{put-one}
 use borrow.Author.Needs.{needs}

@@ -1,3 +1,4 @@
+-- `text::digits::put_decimal` meets its contract.
 use Rattle.text.specs.Text.{decimal}
 use borrow.Author.Needs.{needs}
 use Rattle.text.proofs.digits.put_decimal.Statement.{statement}

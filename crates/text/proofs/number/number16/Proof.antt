@@ -1,3 +1,4 @@
+-- `text::number::number16` meets its contract.
 use mathlib.Core.Path.{refl}
 use Prim.Native.Nat.{_+_}
 use native.Mathlib.Omega.{arith}

@@ -1,3 +1,4 @@
+-- `token::chunks::chunk_count` meets its contract.
 use native.Mathlib.Omega.{arith}
 use native.Mathlib.Nat.{div-le-self}
 use Prim.Native.Nat.{_-_}

@@ -1,3 +1,4 @@
+-- `token::chunks::fill_lengths` meets its contract.
 use borrow.Author.Needs.{needs}
 use Rattle.token.proofs.ChunkLaws.{start, turn, left-turn, chunk-is, done}
 use Rattle.token.specs.Chunks.{chunksFrom}

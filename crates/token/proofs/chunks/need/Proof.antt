@@ -1,3 +1,4 @@
+-- `token::chunks::need` meets its contract.
 use Rattle.token.proofs.ChunkLaws.{need-two, need-three, need-isochronous, need-bulk, need-interrupt}
 use borrow.Author.Needs.{needs}
 use Rattle.token.proofs.chunks.need.Statement.{statement}

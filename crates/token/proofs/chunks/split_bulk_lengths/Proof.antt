@@ -1,3 +1,4 @@
+-- `token::chunks::split_bulk_lengths` meets its contract.
 use Rattle.token.proofs.ChunkLaws.{part-length, split-refused, split-fits}
 use borrow.Author.Needs.{needs}
 use Rattle.token.proofs.chunks.split_bulk_lengths.Statement.{statement}

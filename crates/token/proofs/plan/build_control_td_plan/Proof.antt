@@ -1,3 +1,4 @@
+-- `token::plan::build_control_td_plan` meets its contract.
 use Rattle.token.proofs.PlanCases.{plan-empty, plan-data}
 use borrow.Author.Needs.{needs}
 use Rattle.token.proofs.plan.build_control_td_plan.Statement.{statement}

@@ -1,3 +1,4 @@
+-- `token::plan::chunk_token` meets its contract.
 use borrow.Author.Needs.{needs}
 use Rattle.token.proofs.plan.chunk_token.Statement.{statement}
 use Rattle.token.proofs.plan.chunk_token.Tie as tie

@@ -1,3 +1,4 @@
+-- `token::plan::status_pid` meets its contract.
 use Rattle.token.proofs.PlanCases.{status-empty, status-in}
 use borrow.Author.Needs.{needs}
 use Rattle.token.proofs.plan.status_pid.Statement.{statement}

@@ -1,3 +1,4 @@
+-- `token::qtd::with_flag` meets its contract.
 use borrow.Author.Needs.{needs}
 use Rattle.token.proofs.qtd.with_flag.Statement.{statement}
 use Rattle.token.proofs.qtd.with_flag.Tie as tie

@@ -1,3 +1,4 @@
+-- `descriptor::head::QueueHead::async_head` meets its contract.
 use Rattle.descriptor.proofs.HeadCases.{ring}
 use borrow.Author.Needs.{needs}
 use Rattle.descriptor.proofs.head.QueueHead.async_head.Statement.{statement}

@@ -1,3 +1,4 @@
+-- `descriptor::head::QueueHead::endpoint` meets its contract.
 use Rattle.descriptor.proofs.HeadCases.{opened}
 use borrow.Author.Needs.{needs}
 use Rattle.descriptor.proofs.head.QueueHead.endpoint.Statement.{statement}

@@ -1,3 +1,4 @@
+-- `descriptor::head::QueueHead::words` meets its contract.
 use Rattle.descriptor.proofs.HeadCases.{head-words}
 use borrow.Author.Needs.{needs}
 use Rattle.descriptor.proofs.head.QueueHead.words.Statement.{statement}

@@ -1,3 +1,4 @@
+-- `descriptor::qtd::NextQtd::word` meets its contract.
 use Rattle.descriptor.proofs.QtdCases.{next-at}
 use borrow.Author.Needs.{needs}
 use Rattle.descriptor.proofs.qtd.NextQtd.word.Statement.{statement}

@@ -1,3 +1,4 @@
+-- `descriptor::qtd::QueueTransferDescriptor::new` meets its contract.
 use Rattle.descriptor.specs.Descriptors.{newQtd}
 use borrow.Author.Needs.{needs}
 use Rattle.descriptor.proofs.qtd.QueueTransferDescriptor.new.Statement.{statement}

@@ -1,3 +1,4 @@
+-- `descriptor::qtd::QueueTransferDescriptor::set_next` meets its contract.
 use Rattle.descriptor.specs.Descriptors.{withNext}
 use borrow.Author.Needs.{needs}
 use Rattle.descriptor.proofs.qtd.QueueTransferDescriptor.set_next.Statement.{statement}

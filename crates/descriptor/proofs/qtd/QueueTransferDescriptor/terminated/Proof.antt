@@ -1,3 +1,4 @@
+-- `descriptor::qtd::QueueTransferDescriptor::terminated` meets its contract.
 use borrow.Author.Needs.{needs}
 use Rattle.descriptor.specs.Descriptors.{terminated}
 use Rattle.descriptor.proofs.qtd.QueueTransferDescriptor.terminated.Statement.{statement}

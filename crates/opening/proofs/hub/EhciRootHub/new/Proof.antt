@@ -1,3 +1,4 @@
+-- `opening::hub::EhciRootHub::new` meets its contract.
 use Rattle.opening.specs.Hub.{openedHub}
 use mathlib.Core.Path.{refl}
 use Rattle.opening.proofs.hub.EhciRootHub.new.Statement.{statement}

@@ -1,3 +1,4 @@
+-- `register::writes::Writes::and_then` meets its contract.
 use Rattle.register.specs.Writes.{andThen}
 use borrow.Author.Needs.{needs}
 use Rattle.register.proofs.writes.Writes.and_then.Statement.{statement}

@@ -1,3 +1,4 @@
+-- `register::writes::Writes::none` meets its contract.
 use Rattle.register.specs.Writes.{noWrites}
 use borrow.Author.Needs.{needs}
 use Rattle.register.proofs.writes.Writes.none.Statement.{statement}

@@ -1,3 +1,4 @@
+-- `settings::settings::Settings::good` meets its contract.
 use Rattle.settings.proofs.SettingsCases.{numbers-tell, good-numbers, good-not}
 use borrow.Author.Needs.{needs}
 use Rattle.settings.proofs.settings.Settings.good.Statement.{statement}

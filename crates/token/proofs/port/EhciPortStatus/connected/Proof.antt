@@ -1,3 +1,4 @@
+-- `token::port::EhciPortStatus::connected` meets its contract.
 use Rattle.register.proofs.FieldLaws.{any-field}
 use mathlib.Core.Path.{_∙_}
 use borrow.Author.Needs.{needs}

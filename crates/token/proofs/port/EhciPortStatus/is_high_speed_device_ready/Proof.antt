@@ -1,3 +1,4 @@
+-- `token::port::EhciPortStatus::is_high_speed_device_ready` meets its contract.
 use Rattle.token.proofs.PortCases.{ready, not-connected}
 use borrow.Author.Needs.{needs}
 use Rattle.token.proofs.port.EhciPortStatus.is_high_speed_device_ready.Statement.{statement}

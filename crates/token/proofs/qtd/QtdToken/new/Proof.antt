@@ -1,3 +1,4 @@
+-- `token::qtd::QtdToken::new` meets its contract.
 use Rattle.token.proofs.TokenLaws.{new-case}
 use borrow.Author.Needs.{needs}
 use Rattle.token.proofs.qtd.QtdToken.new.Statement.{statement}

@@ -1,3 +1,4 @@
+-- `token::qtd::QtdToken::started` meets its contract.
 use Rattle.token.proofs.TokenLaws.{started-case}
 use borrow.Author.Needs.{needs}
 use Rattle.token.proofs.qtd.QtdToken.started.Statement.{statement}

@@ -1,3 +1,4 @@
+-- `token::qtd::QtdToken::total_bytes` meets its contract.
 use Rattle.token.proofs.TokenLaws.{total-case}
 use Rattle.token.proofs.qtd.QtdToken.total_bytes.Statement.{statement}
 use Rattle.token.proofs.qtd.QtdToken.total_bytes.Tie as tie

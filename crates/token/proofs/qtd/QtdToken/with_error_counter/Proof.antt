@@ -1,3 +1,4 @@
+-- `token::qtd::QtdToken::with_error_counter` meets its contract.
 use Rattle.token.proofs.TokenLaws.{counter-case}
 use borrow.Author.Needs.{needs}
 use Rattle.token.proofs.qtd.QtdToken.with_error_counter.Statement.{statement}
