@@ -1,7 +1,7 @@
 -- The loops of a listing: the lines of each number put after those of the numbers before.
 use Prim.Native.Nat.{ℕ, zero, suc, _+_, _*_, _≤_, _<_}
 use mathlib.Core.Path.{_≡_, refl, _∙_}
-use mathlib.Core.Bool.{Bool, true, false, _&&_}
+use mathlib.Core.Bool.{Bool, true, false}
 use mathlib.Core.List.{List, [], _∷_, _++_, append-nil}
 use native.Mathlib.Omega.{arith}
 use borrow.Author.Tests.{le-ltb, lt-ltb, ne-eqb}
@@ -35,8 +35,8 @@ abbrev absent : QueueTransferDescriptor
 absent = record { next = 0; alternate = 0; token = 0; pages = []; upper = [] }
 
 module _ (o : List ℕ) (at : ℕ) where
-  pub both : (a p b q : List ℕ) (i r m n : ℕ) → at ≤ length o → Within o at a p i m → Within p i b q r n → Within o at (a ++ b) q r (m + n)
-  (a && p) b q i r m n h f g =
+  pub one-then-other : (a p b q : List ℕ) (i r m n : ℕ) → at ≤ length o → Within o at a p i m → Within p i b q r n → Within o at (a ++ b) q r (m + n)
+  one-then-other a p b q i r m n h f g =
       let e = then o at h a p b q i r (f .0, f .1 .0) (g .0, g .1 .0) in
       (e .0, (e .1, omega (arith, f .1 .1, g .1 .1)))
 

@@ -17,7 +17,8 @@ use Rattle.job_sheet.specs.declared.sheet.Sizes.{Sizes}
 use Rattle.text.specs.Numbers.{numberAt}
 use Rattle.job_sheet.specs.Sheets.{isControl, noEndpoint, noRequest}
 use Rattle.job_sheet.specs.Reading.{badSheet, endpointAt, endpointsFit, endpointsIn, endpointsOf, filled, jobIn, noSizes, opensOf, packed, requestAt, requestFits, requestFitsAt, requestsFit, requestsIn, requestsOf, sheetFits, sheetOf, sizesFit, sizesOf, submitsOf}
-use Rattle.job_sheet.proofs.Rows.{both-true, up-length, up-taken}
+use Rattle.job_sheet.proofs.Rows.{up-length, up-taken}
+use Rattle.common.proofs.TestLaws.{both-tells}
 
 pub endpoint-is : (bytes : List ℕ) (at packet : ℕ) → packet ≡ numberAt bytes (at + 4) 2
     → record { kind = getD bytes at 0; address = getD bytes (at + 1) 0; number = getD bytes (at + 2) 0; packet = packet } ≡ endpointAt bytes at
@@ -78,8 +79,8 @@ pub record Sized (bytes : List ℕ) (n m : ℕ) : Type 0 where
 pub sizes-fit : (bytes : List ℕ) → sizesFit bytes ≡ true → Sized bytes (opensOf bytes) (submitsOf bytes)
 unfolding sizesFit
 sizes-fit bytes t =
-    let two = both-true (leb (opensOf bytes) 8 && leb (submitsOf bytes) 64) _ t in
-    let one = both-true (leb (opensOf bytes) 8) (leb (submitsOf bytes) 64) (two .0) in
+    let two = both-tells (leb (opensOf bytes) 8 && leb (submitsOf bytes) 64) _ t in
+    let one = both-tells (leb (opensOf bytes) 8) (leb (submitsOf bytes) 64) (two .0) in
     record {
       fits = t;
       opens = refl;

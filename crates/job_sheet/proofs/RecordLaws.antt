@@ -15,7 +15,7 @@ use Rattle.text.specs.Numbers.{littleEndian, numberAt}
 use Rattle.job_sheet.specs.Sheets.{GoodEndpoint, GoodRequest, endpointBytes, isControl, requestBytes}
 use Rattle.job_sheet.specs.Reading.{endpointAt, endpointFits, requestAt, requestFits, requestFitsAt}
 use Rattle.text.proofs.NumberLaws.{Bytes, number-of-bytes, part-below, part-written}
-use Rattle.job_sheet.proofs.Rows.{both-true, true-both}
+use Rattle.common.proofs.TestLaws.{both-tells, both-makes}
 
 pub endpoint-length : (e : EndpointRecord) → length (endpointBytes e) ≡ 6
 unfolding endpointBytes littleEndian
@@ -49,7 +49,7 @@ endpoint-front e post g =
 
 endpoint-fits-front : (e : EndpointRecord) (post : List ℕ) → GoodEndpoint e → endpointFits (endpointBytes e ++ post) 0 ≡ true
 unfolding endpointFits endpointBytes
-endpoint-fits-front e post g = true-both (leb (e .kind) 3) (eqb 0 0) (le-leb (e .kind) 3 (g .kind)) refl
+endpoint-fits-front e post g = both-makes (leb (e .kind) 3) (eqb 0 0) (le-leb (e .kind) 3 (g .kind)) refl
 
 request-front : (es : List EndpointRecord) (r : RequestRecord) (post : List ℕ) → GoodRequest es r → requestAt (requestBytes r ++ post) 0 ≡ r
 unfolding requestAt requestBytes littleEndian
@@ -84,7 +84,7 @@ either-true false setup h = eq-eqb setup 0 (h refl)
 pub request-passes : (es : List EndpointRecord) (r : RequestRecord) → GoodRequest es r → requestFits (isControl es (r .endpoint)) r ≡ true
 unfolding requestFits
 request-passes es r g =
-    true-both (leb (r .direction) 1) (isControl es (r .endpoint) || eqb (r .setup) 0) (le-leb (r .direction) 1 (g .direction))
+    both-makes (leb (r .direction) 1) (isControl es (r .endpoint) || eqb (r .setup) 0) (le-leb (r .direction) 1 (g .direction))
     (either-true (isControl es (r .endpoint)) (r .setup) (g .no-setup))
 
 -- read and written: the bytes from a place on, one by one and in parts
@@ -107,7 +107,7 @@ pub endpoint-written : (bytes : List ℕ) (at : ℕ) → Bytes bytes → at + 6 
     → endpointBytes (endpointAt bytes at) ≡ take 6 (drop at bytes)
 unfolding endpointFits endpointBytes endpointAt
 endpoint-written bytes at b h f =
-    let z : getD bytes (at + 3) 0 ≡ 0 = eqb-true (getD bytes (at + 3) 0) 0 (both-true (leb (getD bytes at 0) 3) _ f .1) in
+    let z : getD bytes (at + 3) 0 ≡ 0 = eqb-true (getD bytes (at + 3) 0) 0 (both-tells (leb (getD bytes at 0) 3) _ f .1) in
     rw (first bytes at 5 (omega arith), next bytes at 1 4 (omega arith), next bytes at 2 3 (omega arith), next bytes at 3 2 (omega arith), z)
     (ap (λ (l : List ℕ). getD bytes at 0 ∷ getD bytes (at + 1) 0 ∷ getD bytes (at + 2) 0 ∷ 0 ∷ l) (part-written bytes (at + 4) 2 b (omega arith)))
 
@@ -115,7 +115,7 @@ pub endpoint-good : (bytes : List ℕ) (at : ℕ) → Bytes bytes → at + 6 ≤
 unfolding endpointFits endpointAt
 endpoint-good bytes at b h f =
     record {
-      kind = leb-true (getD bytes at 0) 3 (both-true (leb (getD bytes at 0) 3) _ f .0);
+      kind = leb-true (getD bytes at 0) 3 (both-tells (leb (getD bytes at 0) 3) _ f .0);
       address = b (at + 1);
       number = b (at + 2);
       packet = part-below bytes (at + 4) 2 b (omega arith);
@@ -136,7 +136,7 @@ pub request-good : (bytes : List ℕ) (es : List EndpointRecord) (at : ℕ) → 
     → GoodRequest es (requestAt bytes at)
 unfolding requestFits requestAt
 request-good bytes es at b h f =
-    let two = both-true (leb (getD bytes (at + 1) 0) 1) _ f in
+    let two = both-tells (leb (getD bytes (at + 1) 0) 1) _ f in
     record {
       endpoint = b at;
       direction = leb-true (getD bytes (at + 1) 0) 1 (two .0);

@@ -1,11 +1,12 @@
 -- A row that is filled from the front, and tests that are joined on the way.
 use mathlib.Core.Path.{_≡_, refl, sym, ap, _∙_}
-use mathlib.Core.Bool.{Bool, true, false, _&&_, false≢true}
+use mathlib.Core.Bool.{Bool, true, false, _&&_}
 use mathlib.Core.List.{List, [], _∷_, _++_, append-assoc}
 use Prim.Native.Nat.{ℕ, zero, suc, _+_, _-_, _<_}
 use native.Mathlib.Numerals.{add-one}
 use native.Mathlib.Omega.{arith}
 use borrow.Author.Tests.{ltb-false, ltb-true}
+use Rattle.common.proofs.TestLaws.{both-makes, both-tells}
 use lib.Dec.{ltb}
 use lib.ListN.{List·getD-append, getD, length, length-append, replicate, set, take}
 use lib.Seq.{ext-getD, getD-at, set-append-seam, take-append-seam}
@@ -63,22 +64,15 @@ pub joins : (f : ℕ → Bool) (good : Bool) (i : ℕ) (b : Bool) → good ≡ e
 unfolding every
 joins f good i b e q = rw (e, q, add-one i)
 
-pub both-true : (a b : Bool) → (a && b) ≡ true → (a ≡ true) × (b ≡ true)
-both-true true b e = (refl, e)
-both-true false b e = absurd (false≢true e)
-
-pub true-both : (a b : Bool) → a ≡ true → b ≡ true → (a && b) ≡ true
-true-both a b e q = rw (e, q)
-
 pub every-all : (f : ℕ → Bool) (n : ℕ) → ((i : ℕ) → i < n → f i ≡ true) → every f n ≡ true
 unfolding every
 every-all f zero h = refl
-every-all f (suc n) h = true-both (every f n) (f n) (every-all f n (λ i l. h i (omega (arith, l)))) (h n (omega arith))
+every-all f (suc n) h = both-makes (every f n) (f n) (every-all f n (λ i l. h i (omega (arith, l)))) (h n (omega arith))
 
 pub every-each : (f : ℕ → Bool) (n i : ℕ) → every f n ≡ true → i < n → f i ≡ true
 unfolding every
 every-each f zero i e h = absurd (omega (arith, h))
-every-each f (suc n) i e h = go (ltb i n) refl (both-true (every f n) (f n) e) (every-each f n i)
+every-each f (suc n) i e h = go (ltb i n) refl (both-tells (every f n) (f n) e) (every-each f n i)
   where
     go : (b : Bool) → ltb i n ≡ b → (every f n ≡ true) × (f n ≡ true) → (every f n ≡ true → i < n → f i ≡ true) → f i ≡ true
     go true q t rec = rec (t .0) (ltb-true i n q)

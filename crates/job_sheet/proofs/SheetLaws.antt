@@ -12,7 +12,8 @@ use Rattle.text.specs.Numbers.{littleEndian, numberOf}
 use Rattle.job_sheet.specs.Sheets.{GoodEndpoint, GoodJob, GoodRequest, SheetJob, bytesOf, endpointBytes, jobOf, joined, noEndpoint, noRequest, requestBytes}
 use Rattle.job_sheet.specs.Reading.{badSheet, endpointAt, endpointFits, endpointPlace, endpointsFit, endpointsIn, jobIn, opensOf, packed, requestAt, requestFitsAt, requestPlace, requestsFit, requestsIn, sheetFits, sheetOf, sizesFit, submitsOf}
 use Rattle.text.proofs.NumberLaws.{Bytes, bytes-length, number-of-bytes, part-written}
-use Rattle.job_sheet.proofs.Rows.{both-true, every-all, every-each, filled-taken, true-both, up-is, up-length}
+use Rattle.job_sheet.proofs.Rows.{every-all, every-each, filled-taken, up-is, up-length}
+use Rattle.common.proofs.TestLaws.{both-tells, both-makes}
 use Rattle.job_sheet.proofs.ReadCases.{Sized, sizes-fit}
 use Rattle.job_sheet.proofs.Tables.{all-at, joined-length, table-at, table-written, up-all}
 use Rattle.job_sheet.proofs.RecordLaws.{endpoint-good, endpoint-length, endpoint-passes, endpoint-read, endpoint-written, request-good, request-length, request-passes, request-read, request-written}
@@ -40,11 +41,11 @@ fits-good bytes f = rw f
 module _ (bytes : List ℕ) (b : Bytes bytes) (f : sheetFits bytes ≡ true) where
   sized : Sized bytes (opensOf bytes) (submitsOf bytes)
   unfolding sheetFits
-  sized = sizes-fit bytes (both-true (sizesFit bytes) _ f .0)
+  sized = sizes-fit bytes (both-tells (sizesFit bytes) _ f .0)
 
   tables : (endpointsFit bytes (opensOf bytes) ≡ true) × (requestsFit bytes (endpointsIn bytes (opensOf bytes)) (opensOf bytes) (submitsOf bytes) ≡ true)
   unfolding sheetFits
-  tables = both-true (endpointsFit bytes (opensOf bytes)) _ (both-true (sizesFit bytes) _ f .1)
+  tables = both-tells (endpointsFit bytes (opensOf bytes)) _ (both-tells (sizesFit bytes) _ f .1)
 
   endpoint-fits-at : (i : ℕ) → i < opensOf bytes → endpointFits bytes (2 + 6 * i) ≡ true
   endpoint-fits-at i h = every-each (λ k. endpointFits bytes (endpointPlace k)) (opensOf bytes) i (tables .0) h
@@ -183,7 +184,7 @@ module _ (j : SheetJob) (g : GoodJob j) (bytes : List ℕ) (e : bytesOf j ≡ by
   written-fits : sheetFits bytes ≡ true
   unfolding sheetFits
   written-fits =
-      true-both (sizesFit bytes) _ sizes-pass (true-both (endpointsFit bytes (opensOf bytes)) _ endpoints-pass requests-pass)
+      both-makes (sizesFit bytes) _ sizes-pass (both-makes (endpointsFit bytes (opensOf bytes)) _ endpoints-pass requests-pass)
 
   written-job : jobIn bytes ≡ j
   unfolding jobIn

@@ -84,13 +84,13 @@ fn order() {
 }
 
 fn tables() {
-    let offsets = ehci::offset_table();
+    let offsets = operational::offset_table();
     words(&offsets);
-    let usbcmd = ehci::usbcmd_table();
+    let usbcmd = operational::usbcmd_table();
     words(&usbcmd);
-    let usbsts = ehci::usbsts_table();
+    let usbsts = operational::usbsts_table();
     words(&usbsts);
-    let usbintr = ehci::usbintr_table();
+    let usbintr = operational::usbintr_table();
     words(&usbintr);
     let portsc = EhciPortStatus::table();
     words(&portsc);
@@ -115,19 +115,19 @@ fn six(w: Writes) {
 
 fn grown(value: u32) {
     let none = Writes::none();
-    let one = none.and_then(ehci::CTRLDSSEGMENT, value);
-    let two = one.and_then(ehci::PERIODICLISTBASE, 0x0030_0000);
-    let three = two.and_then(ehci::ASYNCLISTADDR, 0x0020_0000);
-    let four = three.and_then(ehci::CONFIGFLAG, 1);
-    let five = four.and_then(ehci::USBSTS, 0x3f);
+    let one = none.and_then(operational::CTRLDSSEGMENT, value);
+    let two = one.and_then(operational::PERIODICLISTBASE, 0x0030_0000);
+    let three = two.and_then(operational::ASYNCLISTADDR, 0x0020_0000);
+    let four = three.and_then(operational::CONFIGFLAG, 1);
+    let five = four.and_then(operational::USBSTS, 0x3f);
     six(none);
     six(three);
-    six(five.and_then(ehci::USBCMD, 0xffff_ffff));
+    six(five.and_then(operational::USBCMD, 0xffff_ffff));
 }
 
 fn offset(port: u8) {
     if 1 <= port {
-        word(ehci::port_offset(port));
+        word(operational::port_offset(port));
     }
 }
 

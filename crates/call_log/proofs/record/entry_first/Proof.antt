@@ -66,8 +66,8 @@ returns-9 c =
     let r = c .match .rest in
     judged-none (c .before .args .f .number) (c .before .args .f) (c .before .pre) (r .0 .0 .0 .0 .0 .0 .0 .1) (r .0 .0 .0 .0 .0 .0 .1) (r .0 .0 .0 .0 .0 .1) (r .0 .0 .0 .0 .1) (r .0 .0 .0 .1) (r .0 .0 .1) (r .0 .1) (r .1)
 
-pub judge-first-spec : {M : Type 1} → statement M
-judge-first-spec =
+pub entry-first-spec : {M : Type 1} → statement M
+entry-first-spec =
     tie.close
     (tie.spec
     open-requires

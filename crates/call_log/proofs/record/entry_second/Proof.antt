@@ -52,8 +52,8 @@ returns-6 c =
     let last : c .before .before .args .f .number ≡ 14 = omega (arith, c .before .before .pre, r .0 .0 .0 .0 .1, r .0 .0 .0 .1, r .0 .0 .1, r .0 .1, r .1) in
     judged-at _ 14 _ _ last (c .drain-events .ensures)
 
-pub judge-second-spec : {M : Type 1} → statement M
-judge-second-spec =
+pub entry-second-spec : {M : Type 1} → statement M
+entry-second-spec =
     tie.close
     (tie.spec
     submit-request-requires

@@ -53,8 +53,8 @@ returns-7 c =
     let r = c .match .rest in
     judged-rest (c .before .args .f .number) (c .before .args .f) (c .before .pre) (r .0 .0 .0 .0 .0 .1) (r .0 .0 .0 .0 .1) (r .0 .0 .0 .1) (r .0 .0 .1) (r .0 .1) (r .1)
 
-pub judge-third-spec : {M : Type 1} → statement M
-judge-third-spec =
+pub entry-third-spec : {M : Type 1} → statement M
+entry-third-spec =
     tie.close
     (tie.spec
     plain-entry-requires

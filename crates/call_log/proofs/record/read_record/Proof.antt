@@ -11,11 +11,11 @@ returns c = entry-cut _ (c .if1 .taken)
 decode-requires : tie.Need-decode-requires
 decode-requires c κs = search needs
 
-judge-requires : tie.Need-judge-requires
-judge-requires c κs = search needs
+entry-from-requires : tie.Need-entry-from-requires
+entry-from-requires c κs = search needs
 
 returns-2 : tie.Need-returns-2
-returns-2 c = entry-whole _ _ _ (omega arith) (c .before .decode .ensures) (c .entry_from .ensures)
+returns-2 c = entry-whole _ _ _ (omega arith) (c .before .decode .ensures) (c .entry-from .ensures)
 
 pub read-record-spec : {M : Type 1} → statement M
-read-record-spec = tie.close (tie.spec returns decode-requires judge-requires returns-2)
+read-record-spec = tie.close (tie.spec returns decode-requires entry-from-requires returns-2)

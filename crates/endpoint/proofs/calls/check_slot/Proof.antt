@@ -28,8 +28,8 @@ returns-4 c = search judge-value
 returns-5 : tie.Need-returns-5
 returns-5 c = search judge-done
 
-pub judge-spec : {M : Type 1} → statement M
-judge-spec =
+pub check-slot-spec : {M : Type 1} → statement M
+check-slot-spec =
     tie.close
     (tie.spec
     accepts-requires

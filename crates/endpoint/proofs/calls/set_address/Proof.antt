@@ -5,8 +5,8 @@ use borrow.Author.Needs.{needs}
 use Rattle.endpoint.proofs.calls.set_address.Statement.{statement}
 use Rattle.endpoint.proofs.calls.set_address.Tie as tie
 
-judge-requires : tie.Need-judge-requires
-judge-requires c κs = search needs
+check-slot-requires : tie.Need-check-slot-requires
+check-slot-requires c κs = search needs
 
 enum-told : tie.Need-enum-told
 enum-told c = search needs
@@ -26,7 +26,7 @@ mul-set-device-address c = search needs
 slice-read-set-device-address : tie.Need-slice-read-set-device-address
 slice-read-set-device-address c =
     let a = c .before .before .before .before .before .args in
-    omega (arith, change-room (a .state) (a .pool) (a .heads .now) (a .frames) (a .setups) (a .slot) _ _ (c .before .before .before .check_slot .ensures) (c .before .enum-told .given .1) .2)
+    omega (arith, change-room (a .state) (a .pool) (a .heads .now) (a .frames) (a .setups) (a .slot) _ _ (c .before .before .before .check-slot .ensures) (c .before .enum-told .given .1) .2)
 
 set-device-address-requires : tie.Need-set-device-address-requires
 set-device-address-requires c κs = search needs
@@ -37,7 +37,7 @@ mul-heads c = search needs
 slice-write-heads : tie.Need-slice-write-heads
 slice-write-heads c =
     let a = c .before .before .before .before .before .before .args in
-    omega (arith, change-room (a .state) (a .pool) (a .heads .now) (a .frames) (a .setups) (a .slot) _ _ (c .before .before .before .before .check_slot .ensures) (c .before .before .enum-told .given .1) .2)
+    omega (arith, change-room (a .state) (a .pool) (a .heads .now) (a .frames) (a .setups) (a .slot) _ _ (c .before .before .before .before .check-slot .ensures) (c .before .before .enum-told .given .1) .2)
 
 enum-known-refusal : tie.Need-enum-known-refusal
 enum-known-refusal c = search needs
@@ -48,18 +48,18 @@ same-length c = search needs
 returns : tie.Need-returns
 returns c =
     let a = c .before .before .before .before .before .before .args in
-    address-done (a .state) (a .pool) (a .heads .now) (a .frames) (a .setups) (a .slot) _ (a .address) (c .before .before .before .before .check_slot .ensures) (c .before .before .enum-told .given .1) _ (c .set-device-address .ensures)
+    address-done (a .state) (a .pool) (a .heads .now) (a .frames) (a .setups) (a .slot) _ (a .address) (c .before .before .before .before .check-slot .ensures) (c .before .before .enum-told .given .1) _ (c .set-device-address .ensures)
 
 returns-2 : tie.Need-returns-2
 returns-2 c =
     let a = c .before .before .before .before .before .args in
-    address-refused (a .state) (a .pool) (a .heads .now) (a .frames) (a .setups) (a .slot) _ (a .address) _ (c .before .before .before .check_slot .ensures) (c .before .refusal .given .1)
+    address-refused (a .state) (a .pool) (a .heads .now) (a .frames) (a .setups) (a .slot) _ (a .address) _ (c .before .before .before .check-slot .ensures) (c .before .refusal .given .1)
 
 pub set-address-spec : {M : Type 1} → statement M
 set-address-spec =
     tie.close
     (tie.spec
-    judge-requires
+    check-slot-requires
     enum-told
     add-at
     mul-at

@@ -5,8 +5,8 @@ use borrow.Author.Needs.{needs}
 use Rattle.endpoint.proofs.calls.set_packet_size.Statement.{statement}
 use Rattle.endpoint.proofs.calls.set_packet_size.Tie as tie
 
-judge-requires : tie.Need-judge-requires
-judge-requires c κs = search needs
+check-slot-requires : tie.Need-check-slot-requires
+check-slot-requires c κs = search needs
 
 enum-told : tie.Need-enum-told
 enum-told c = search needs
@@ -26,7 +26,7 @@ mul-set-max-packet-size c = search needs
 slice-read-set-max-packet-size : tie.Need-slice-read-set-max-packet-size
 slice-read-set-max-packet-size c =
     let a = c .before .before .before .before .before .args in
-    omega (arith, change-room (a .state) (a .pool) (a .heads .now) (a .frames) (a .setups) (a .slot) _ _ (c .before .before .before .check_slot .ensures) (c .before .enum-told .given .1) .2)
+    omega (arith, change-room (a .state) (a .pool) (a .heads .now) (a .frames) (a .setups) (a .slot) _ _ (c .before .before .before .check-slot .ensures) (c .before .enum-told .given .1) .2)
 
 set-max-packet-size-requires : tie.Need-set-max-packet-size-requires
 set-max-packet-size-requires c κs = search needs
@@ -37,7 +37,7 @@ mul-heads c = search needs
 slice-write-heads : tie.Need-slice-write-heads
 slice-write-heads c =
     let a = c .before .before .before .before .before .before .args in
-    omega (arith, change-room (a .state) (a .pool) (a .heads .now) (a .frames) (a .setups) (a .slot) _ _ (c .before .before .before .before .check_slot .ensures) (c .before .before .enum-told .given .1) .2)
+    omega (arith, change-room (a .state) (a .pool) (a .heads .now) (a .frames) (a .setups) (a .slot) _ _ (c .before .before .before .before .check-slot .ensures) (c .before .before .enum-told .given .1) .2)
 
 enum-known-refusal : tie.Need-enum-known-refusal
 enum-known-refusal c = search needs
@@ -48,18 +48,18 @@ same-length c = search needs
 returns : tie.Need-returns
 returns c =
     let a = c .before .before .before .before .before .before .args in
-    size-done (a .state) (a .pool) (a .heads .now) (a .frames) (a .setups) (a .slot) _ (a .size) (c .before .before .before .before .check_slot .ensures) (c .before .before .enum-told .given .1) _ (c .set-max-packet-size .ensures)
+    size-done (a .state) (a .pool) (a .heads .now) (a .frames) (a .setups) (a .slot) _ (a .size) (c .before .before .before .before .check-slot .ensures) (c .before .before .enum-told .given .1) _ (c .set-max-packet-size .ensures)
 
 returns-2 : tie.Need-returns-2
 returns-2 c =
     let a = c .before .before .before .before .before .args in
-    size-refused (a .state) (a .pool) (a .heads .now) (a .frames) (a .setups) (a .slot) _ (a .size) _ (c .before .before .before .check_slot .ensures) (c .before .refusal .given .1)
+    size-refused (a .state) (a .pool) (a .heads .now) (a .frames) (a .setups) (a .slot) _ (a .size) _ (c .before .before .before .check-slot .ensures) (c .before .refusal .given .1)
 
 pub set-packet-size-spec : {M : Type 1} → statement M
 set-packet-size-spec =
     tie.close
     (tie.spec
-    judge-requires
+    check-slot-requires
     enum-told
     add-at
     mul-at

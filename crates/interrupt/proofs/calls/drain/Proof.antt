@@ -23,8 +23,8 @@ returns-2 c = search drain-nothing
 count-noted-requires : tie.Need-count-noted-requires
 count-noted-requires c κs = search passed-ranges
 
-take-pending-requires : tie.Need-take-pending-requires
-take-pending-requires c κs = search needs
+clear-pending-requires : tie.Need-clear-pending-requires
+clear-pending-requires c κs = search needs
 
 returns-3 : tie.Need-returns-3
 unfolding withInterrupt
@@ -40,5 +40,5 @@ drain-spec =
     none-requires-2
     returns-2
     count-noted-requires
-    take-pending-requires
+    clear-pending-requires
     returns-3)

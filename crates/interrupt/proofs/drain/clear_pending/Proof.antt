@@ -25,8 +25,8 @@ returns-2 c = search take-activity
 returns-3 : tie.Need-returns-3
 returns-3 c = search take-rest
 
-pub take-pending-spec : {M : Type 1} → statement M
-take-pending-spec =
+pub clear-pending-spec : {M : Type 1} → statement M
+clear-pending-spec =
     tie.close
     (tie.spec
     any-of-requires

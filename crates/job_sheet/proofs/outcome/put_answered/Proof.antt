@@ -1,7 +1,6 @@
 -- `job_sheet::outcome::put_answered` meets its contract.
-use mathlib.Core.Bool.{_&&_}
 use native.Mathlib.Omega.{arith}
-use Rattle.job_sheet.proofs.OutcomeCases.{accepted-put, refused-put}
+use Rattle.job_sheet.proofs.OutcomeCases.{accepted-put, one-then-other, refused-put}
 use borrow.Author.Needs.{needs}
 use Rattle.job_sheet.proofs.outcome.put_answered.Statement.{statement}
 use Rattle.job_sheet.proofs.outcome.put_answered.Tie as tie
@@ -36,7 +35,7 @@ returns c =
     let p = c .before .before .put-places .ensures in
     let q = c .before .before .before .before .before .before .put-request .ensures in
     accepted-put (a .out .now) (a .at) (a .t5) (a .slot) (a .k) _ _ 1441 (c .before .before .before .before .before .before .before .before .before .before .before .if1 .taken)
-    ((a .out .now && a .at) _ _ _ _ _ _ 65 1376 (omega arith) q p)
+    (one-then-other (a .out .now) (a .at) _ _ _ _ _ _ 65 1376 (omega arith) q p)
 
 same-length-2 : tie.Need-same-length-2
 same-length-2 c = search needs

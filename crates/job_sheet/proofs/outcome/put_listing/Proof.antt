@@ -1,7 +1,7 @@
 -- `job_sheet::outcome::put_listing` meets its contract.
-use mathlib.Core.Bool.{_&&_}
 use native.Mathlib.Omega.{arith}
 use Rattle.job_sheet.specs.Outcomes.{listingOf}
+use Rattle.job_sheet.proofs.OutcomeCases.{one-then-other}
 use borrow.Author.Needs.{needs}
 use Rattle.job_sheet.proofs.outcome.put_listing.Statement.{statement}
 use Rattle.job_sheet.proofs.outcome.put_listing.Tie as tie
@@ -19,7 +19,7 @@ returns : tie.Need-returns
 unfolding listingOf
 returns c =
     let a = c .before .before .before .before .before .before .before .before .before .before .args in
-    (a .out .now && a .at) _ _ _ _ _ _ 352 92224 (omega arith) (c .before .before .before .before .before .before .put-endpoints .ensures) (c .before .before .put-requests .ensures)
+    one-then-other (a .out .now) (a .at) _ _ _ _ _ _ 352 92224 (omega arith) (c .before .before .before .before .before .before .put-endpoints .ensures) (c .before .before .put-requests .ensures)
 
 pub put-listing-spec : {M : Type 1} → statement M
 put-listing-spec = tie.close (tie.spec put-endpoints-requires put-requests-requires same-length returns)
