@@ -1,4 +1,6 @@
 -- What follows for any machine from a few facts of it.
+pub mod Walking
+pub mod Leads
 pub mod Pictures
 pub mod Boundary
 pub mod Once

@@ -1,7 +1,9 @@
 -- Machines with a fault, of which the statements are refuted; and what the history says on runs by hand.
 pub mod OpenedExamples
+pub mod WalkExamples
 pub mod RoomWrong
 pub mod WrongChains
+pub mod WrongWalks
 pub mod WrongRuns
 pub mod WrongUp
 pub mod WrongCalls

@@ -2,7 +2,7 @@
 -- of any machine; that each request's overlay leads through its descriptors is `ChainsLead`.
 use Prim.Native.Nat.{ℕ, _+_, _<_}
 use mathlib.Core.Bool.{Bool, true, false, cond, _||_}
-use mathlib.Core.List.{List, [], _∷_, _++_, map}
+use mathlib.Core.List.{List, [], _∷_, map}
 use mathlib.Core.Path.{_≡_}
 use lib.ListN.{getD}
 use Rattle.descriptor.specs.declared.qtd.QueueTransferDescriptor.{QueueTransferDescriptor}
@@ -12,7 +12,7 @@ use Rattle.controller.specs.declared.lent.Readings.{Readings}
 use Rattle.ehci.specs.declared.call.Call.{Call}
 use Rattle.ehci.specs.declared.call.Call.the-variants.{Cancel, Collect}
 use Rattle.promises.specs.Runs.{Always, History, Machine, Turn, World, turnOf}
-use Rattle.promises.specs.Walks.{frameWalk, isIn, ringWalk}
+use Rattle.promises.specs.Walks.{AtRingHead, Terminated, frameEnd, frameWalk, isIn, ringEnd, ringWalk}
 use Rattle.promises.specs.Events.{Other, Parts, Unlinks, event}
 use Rattle.promises.specs.Uses.{Use, frameSlots, ringSlots, uses}
 use Rattle.promises.specs.Rooms.{Every, numberAt}
@@ -26,10 +26,12 @@ abbrev pub isLinked : Settings → History → ℕ → Bool
 isLinked s h k = isIn k (ringSlots s h) || isIn k (frameSlots s h)
 
 -- the ring's walk is the linked control and bulk heads, newest first, and back to the ring head; every frame entry's walk is the linked
--- interrupt heads, newest first, and ends; and each linked head is that of an uncollected request
+-- interrupt heads, newest first, and terminates; and each linked head is that of an uncollected request
 pub record Walked (s : Settings) (h : History) (w : World) : Type 0 where
-  pub ring : ringWalk s (w .rows) ≡ headPlaces (ringSlots s h) ++ 0 ∷ []
+  pub ring : ringWalk s (w .rows) ≡ headPlaces (ringSlots s h)
+  pub ring-ends : ringEnd s (w .rows) ≡ AtRingHead
   pub frames : (f : ℕ) → f < 1024 → frameWalk s (w .rows) f ≡ headPlaces (frameSlots s h)
+  pub frames-end : (f : ℕ) → f < 1024 → frameEnd s (w .rows) f ≡ Terminated
   pub uncollected : (k : ℕ) → isLinked s h k ≡ true → isIn k (map (λ u. u .slot) (uses s h)) ≡ true
 
 abbrev pub ChainsWalked : Machine → Type 0

@@ -19,7 +19,7 @@ use Rattle.ehci.specs.declared.call.Call.the-variants.{Submit, Writeback}
 use Rattle.ehci.specs.Replies.{answeredNumber}
 use Rattle.promises.specs.Runs.{Always, History, Machine, Turn, World, turnOf}
 use Rattle.promises.specs.Uses.{Use, needOfUse, needs, uses}
-use Rattle.promises.specs.Walks.{chainWalk}
+use Rattle.promises.specs.Walks.{Terminated, chainEnd, chainWalk}
 use Rattle.promises.specs.Opened.{beforeRoom, wanted}
 
 -- the number that a call answers
@@ -109,10 +109,11 @@ transferFor s u =
 abbrev pub untold : QueueTransferDescriptor → QueueTransferDescriptor
 untold d = withToken d 0
 
--- from its overlay on, a request's chain meets the places of its submit and no more, as many as its need, and the j-th record
--- there is its j-th descriptor, but for the token
+-- from its overlay on, a request's chain meets the places of its submit and terminates; they are as many as its need, and the j-th
+-- record there is its j-th descriptor, but for the token
 pub record Led (s : Settings) (w : World) (u : Use) : Type 0 where
   pub leads : chainWalk s (w .rows) (u .slot) ≡ u .places
+  pub ends : chainEnd s (w .rows) (u .slot) ≡ Terminated
   pub as-many : length (u .places) ≡ needOfUse s u
   pub in-order : (j : ℕ) → j < length (u .places)
       → untold (getD (w .rows .pool) (getD (u .places) j 0) blank) ≡ untold (recordAt (transferFor s u) j (drop (suc j) (u .places)) (s .pool))

@@ -1,10 +1,10 @@
 -- A call that unlinks is seen to: its head was met by its schedule's walk before, and is not after.
 use Prim.Native.Nat.{ℕ, _+_, _*_, _<_}
 use mathlib.Core.Path.{_≡_, refl, sym, ap, subst, _∙_}
-use mathlib.Core.Bool.{Bool, true, false, not, cond, _&&_, _||_}
-use mathlib.Core.List.{List, [], _∷_, _++_}
+use mathlib.Core.Bool.{Bool, true, false, not, cond, _&&_}
+use mathlib.Core.List.{List}
 use native.Mathlib.Omega.{arith}
-use borrow.Author.Tests.{eq-eqb, ne-eqb}
+use borrow.Author.Tests.{eq-eqb}
 use lib.Dec.{eqb}
 use lib.ListN.{getD, length}
 use Rattle.settings.specs.declared.settings.Settings.{Settings}
@@ -20,13 +20,13 @@ use Rattle.schedule.specs.Walks.{Chain, Distinct}
 use Rattle.ehci.specs.declared.call.Call.{Call}
 use Rattle.ehci.specs.Door.{Applied}
 use Rattle.promises.specs.Runs.{History, Rows, Turn, World, rowsOf, turnOf}
-use Rattle.promises.specs.Walks.{frameWalk, isIn, ringWalk}
+use Rattle.promises.specs.Walks.{AtRingHead, Terminated, Walk, frameEnd, frameWalk, isIn, linkWalk, ringEnd, ringWalk}
 use Rattle.promises.specs.Events.{Other, Parts, Unlinks, event, leavesFrames, leavesRing}
 use Rattle.promises.specs.Uses.{frameSlots, remove, ringSlots}
 use Rattle.promises.specs.Chains.{headPlaces}
 use Rattle.promises.proofs.effects.Effects.{Unlinked, withLinks}
 use Rattle.promises.proofs.invariants.Sound.{Sound}
-use Rattle.promises.proofs.invariants.ChainLists.{distinct-remove, few, in-append, in-places, in-remove}
+use Rattle.promises.proofs.invariants.ChainLists.{distinct-remove, few, in-places, in-remove}
 use Rattle.promises.proofs.invariants.WalkChains.{walk-frames, walk-ring}
 use Rattle.promises.proofs.invariants.ChainInv.{Chained, heads-long, Schedules, linked-within, linkedIn}
 use Rattle.promises.proofs.invariants.ChainDetach.{Parted, frames-parted, ring-parted}
@@ -35,31 +35,36 @@ use Rattle.promises.proofs.invariants.ChainDetach.{Parted, frames-parte
 
 module _ (s : Ehci) (g : Good (s .settings)) (rows : Rows) (ks : List ℕ) (d : Distinct ks)
     (within : (i : ℕ) → isIn i ks ≡ true → i < s .settings .endpoints) where
-  pub ring-walked : Chain s (rows .heads) (ringLink (rows .heads)) ks (s .settings .heads + 2)
-      → ringWalk (s .settings) rows ≡ headPlaces ks ++ 0 ∷ []
-  unfolding ringWalk
-  ring-walked c =
-      walk-ring s g (rows .heads) (s .settings .endpoints) (ringLink (rows .heads)) ks c within (few (s .settings .endpoints) ks d within)
+  module _ (c : Chain s (rows .heads) (ringLink (rows .heads)) ks (s .settings .heads + 2)) where
+    ring-all : linkWalk (s .settings) (rows .heads) (ringLink (rows .heads)) ≡ record { met = headPlaces ks; end = AtRingHead }
+    ring-all = walk-ring s g (rows .heads) (ringLink (rows .heads)) ks within (few (s .settings .endpoints) ks d within) c
 
-  pub frame-walked : (f : ℕ) → Chain s (rows .heads) (getD (rows .frames) f 0) ks 1 → frameWalk (s .settings) rows f ≡ headPlaces ks
-  unfolding frameWalk
-  frame-walked f c =
-      walk-frames s g (rows .heads) (s .settings .endpoints) (getD (rows .frames) f 0) ks c within (few (s .settings .endpoints) ks d within)
+    pub ring-walked : ringWalk (s .settings) rows ≡ headPlaces ks
+    unfolding ringWalk
+    ring-walked = ap (λ (x : Walk). x .met) ring-all
 
-in-ring-places : (k : ℕ) (ks : List ℕ) → isIn (k + 1) (headPlaces ks ++ 0 ∷ []) ≡ isIn k ks
-in-ring-places k ks =
-    in-append (k + 1) (headPlaces ks) (0 ∷ []) ∙ rw (ne-eqb 0 (k + 1) (λ e. omega arith), in-places k ks) (by (isIn k ks))
-  where
-    by : (b : Bool) → (b || false) ≡ b
-    by true = refl
-    by false = refl
+    pub ring-ended : ringEnd (s .settings) rows ≡ AtRingHead
+    unfolding ringEnd
+    ring-ended = ap (λ (x : Walk). x .end) ring-all
+
+  module _ (f : ℕ) (c : Chain s (rows .heads) (getD (rows .frames) f 0) ks 1) where
+    frame-all : linkWalk (s .settings) (rows .heads) (getD (rows .frames) f 0) ≡ record { met = headPlaces ks; end = Terminated }
+    frame-all = walk-frames s g (rows .heads) (getD (rows .frames) f 0) ks within (few (s .settings .endpoints) ks d within) c
+
+    pub frame-walked : frameWalk (s .settings) rows f ≡ headPlaces ks
+    unfolding frameWalk
+    frame-walked = ap (λ (x : Walk). x .met) frame-all
+
+    pub frame-ended : frameEnd (s .settings) rows f ≡ Terminated
+    unfolding frameEnd
+    frame-ended = ap (λ (x : Walk). x .end) frame-all
 
 -- ---- a turn by the slots before and after
 
 module _ (s : Ehci) (g : Good (s .settings)) (t : Turn) (k : ℕ) where
-  ring-left : (ks ls : List ℕ) → ringWalk (s .settings) (t .before) ≡ headPlaces ks ++ 0 ∷ [] → ringWalk (s .settings) (t .after) ≡ headPlaces ls ++ 0 ∷ []
+  ring-left : (ks ls : List ℕ) → ringWalk (s .settings) (t .before) ≡ headPlaces ks → ringWalk (s .settings) (t .after) ≡ headPlaces ls
       → leavesRing (s .settings) k t ≡ (isIn k ks && not (isIn k ls))
-  ring-left ks ls a b = rw (a, b, in-ring-places k ks, in-ring-places k ls)
+  ring-left ks ls a b = rw (a, b, in-places k ks, in-places k ls)
 
   frames-left : (js ms : List ℕ) → frameWalk (s .settings) (t .before) 0 ≡ headPlaces js → frameWalk (s .settings) (t .after) 0 ≡ headPlaces ms
       → leavesFrames (s .settings) k t ≡ (isIn k js && not (isIn k ms))
@@ -79,7 +84,7 @@ module _ (w : World) (c : Call) (a : Applied) (r : Ranges (w .state)) (wide : Wi
   abbrev turn : Turn
   turn = turnOf (w .rows) c a
 
-  ring-before : ringWalk (w .state .settings) (w .rows) ≡ headPlaces ks ++ 0 ∷ []
+  ring-before : ringWalk (w .state .settings) (w .rows) ≡ headPlaces ks
   ring-before =
       ring-walked (w .state) (r .good) (w .rows) ks (x .ring .apart)
       (λ i m. linked-within false (w .state) i r (sym (x .ring .members i) ∙ m)) (x .ring .chain)
@@ -96,7 +101,7 @@ module _ (w : World) (c : Call) (a : Applied) (r : Ranges (w .state)) (wide : Wi
         withLinks (w .rows) (detachOf (w .state) (w .rows .heads) (w .rows .frames) (u .k) .rows .heads)
         (detachOf (w .state) (w .rows .heads) (w .rows .frames) (u .k) .rows .frames)
 
-    ring-after : ringWalk (w .state .settings) (rowsOf a) ≡ headPlaces ls ++ 0 ∷ []
+    ring-after : ringWalk (w .state .settings) (rowsOf a) ≡ headPlaces ls
     unfolding left
     ring-after =
         ap (ringWalk (w .state .settings)) (u .rows-are)

@@ -3,7 +3,7 @@ use Prim.Native.Nat.{ℕ, suc, _+_, _*_, _≤_, _<_}
 use mathlib.Core.Path.{_≡_, refl, sym, ap, subst, _∙_}
 use mathlib.Core.Logic.{_≢_}
 use mathlib.Core.Bool.{Bool, true, false, true≢false}
-use mathlib.Core.List.{List, [], _∷_, map}
+use mathlib.Core.List.{List, [], _∷_}
 use native.Mathlib.Omega.{arith}
 use lib.Dec.{eqb}
 use lib.ListN.{drop, getD, length, set, take}
@@ -13,9 +13,9 @@ use Rattle.common.specs.declared.kinds.EndpointType.{EndpointType}
 use Rattle.common.specs.declared.kinds.EndpointType.the-variants.{Control, Isochronous, Bulk, Interrupt}
 use Rattle.token.proofs.ChunkLaws.{count-pos}
 use Rattle.descriptor.specs.declared.qtd.QueueTransferDescriptor.{QueueTransferDescriptor}
-use Rattle.pool.specs.Chains.{blank, fillOf, filledFrom, metFrom, placeOf}
+use Rattle.pool.specs.Chains.{blank, fillOf, filledFrom}
 use Rattle.pool.specs.Places.{Each, Within, countOf, markOf, placesFrom}
-use Rattle.pool.specs.Transfers.{addressOf, recordAt}
+use Rattle.pool.specs.Transfers.{recordAt}
 use Rattle.pool.specs.declared.chain.Deed.the-variants.{Transfer as TransferDeed}
 use Rattle.pool.proofs.ChainLaws.{filled-listed}
 use Rattle.pool.proofs.Each.{each-at, each-map}
@@ -42,12 +42,12 @@ use Rattle.ehci.specs.Door.{Applied}
 use Rattle.promises.specs.Runs.{History, World, leftBy, turnOf}
 use Rattle.promises.specs.Events.{Submits}
 use Rattle.promises.specs.Uses.{Use, needs, uses}
-use Rattle.promises.specs.Walks.{chainWalk}
+use Rattle.promises.specs.Walks.{Terminated, Walk, chainWalk, nextLeads, nextWalk}
 use Rattle.promises.proofs.effects.Effects.{Accepts}
+use Rattle.promises.proofs.any_machine.Walking.{chain-walked, walk-along}
 use Rattle.promises.proofs.invariants.Sound.{Sound}
 use Rattle.promises.specs.Rooms.{untold}
 use Rattle.promises.proofs.invariants.UseInv.{Avoids, Held, HeldIn, Kept, Nobody, all-counted, every-both, every-map, overlayNext, placesAt, tenantAt, tenantOf, vacant-avoids}
-use Rattle.promises.proofs.invariants.UseQuiet.{met-along}
 use Rattle.promises.proofs.invariants.UseSteps.{uses-by}
 use Rattle.promises.proofs.invariants.UseTenants.{tenant-same}
 
@@ -67,10 +67,6 @@ need-least Control n limit h = by (eqb n 0)
 need-least Isochronous n limit h = count-pos n limit h
 need-least Bulk n limit h = count-pos n limit h
 need-least Interrupt n limit h = count-pos n limit h
-
-map-back : (base : ℕ) (ps : List ℕ) → map (placeOf base) (map (addressOf base) ps) ≡ ps
-map-back base [] = refl
-map-back base (p ∷ ps) = let here : placeOf base (addressOf base p) ≡ p = omega arith in λ i. here i ∷ map-back base ps i
 
 -- the overlay's next word is where the chain begins
 module _ (heads frames : List ℕ) (k link start : ℕ) (fits : 17 * (k + 1) + 17 ≤ length heads) where
@@ -134,15 +130,19 @@ module _ (w : World) (k : ℕ) (t : TransferRequest) (sound : Sound (w .state .s
   front-taken = take-at (markOf front (needOfRequest st t) (k + 1)) (drop (s .descriptors) (st .owner)) (s .descriptors) (mark-length front (needOfRequest st t) (k + 1) ∙ front-length)
 
   -- its overlay leads through the places that it takes
-  pub walked : chainWalk s (acceptedWorld .rows) k ≡ placesFor st t
-  unfolding chainWalk metFrom
-  walked =
-      ap (metFrom (s .pool) (acceptedWorld .rows .pool) (s .descriptors + 1))
+  walked-all : nextWalk s (acceptedWorld .rows .pool) (overlayNext (acceptedWorld .rows .heads) k) ≡ record { met = placesFor st t; end = Terminated }
+  walked-all =
+      ap (nextWalk s (acceptedWorld .rows .pool))
       (submit-starts (w .rows .heads) (w .rows .frames) k (slotLink st k) (firstIn st (takenFor st k t)) (omega (arith, within, sound .heads-fit)) (t .kind))
-      ∙ ap (map (placeOf (s .pool)))
+      ∙ chain-walked s (acceptedWorld .rows .pool) (s .descriptors + 1) (firstIn st (takenFor st k t)) (placesFor st t)
+      (subst (λ (n : ℕ). Within n (placesFor st t)) front-length (places-within front 0 (needOfRequest st t)))
+      (omega (arith, need-most, places-needed st k t (sound .ranges) judged (sound .owners)))
       (submit-met st k t (sound .ranges) judged (sound .owners) (w .rows .pool) (s .descriptors + 1) (sound .pool-fits)
       (need-least (t .kind) (t .length) (s .limit) (sound .ranges .good .limit-least)) (omega (arith, need-most)))
-      ∙ map-back (s .pool) (placesFor st t)
+
+  pub walked : chainWalk s (acceptedWorld .rows) k ≡ placesFor st t
+  unfolding chainWalk
+  walked = ap (λ (x : Walk). x .met) walked-all
 
   -- its records are its descriptors, in order
   pub submitted-record : (j : ℕ) → j < length (placesFor st t)
@@ -173,7 +173,7 @@ module _ (w : World) (k : ℕ) (t : TransferRequest) (sound : Sound (w .state .s
   KeptThen u = Kept s (st .owner) (tenantAt st) (w .rows .pool) (w .rows .heads) u
 
   kept-new : placesAt s (st .owner) (tenantAt st) (w .rows .pool) (w .rows .heads) k ≡ [] → KeptNow (useOf (placesFor st t))
-  unfolding stateWith chainWalk
+  unfolding stateWith
   kept-new none =
       record {
         below = within;
@@ -183,7 +183,7 @@ module _ (w : World) (k : ℕ) (t : TransferRequest) (sound : Sound (w .state .s
             (sym (all-counted front (k + 1) (omega (arith, front-length, sound .ranges .good .descriptors-most))) ∙ ap length none)
             (omega (arith, need-most, sound .ranges .good .descriptors-most)));
         as-needed = places-needed st k t (sound .ranges) judged (sound .owners);
-        leads = walked;
+        leads = walked-all;
         written = λ j h. ap untold (submitted-record j h);
       }
 
@@ -196,9 +196,9 @@ module _ (w : World) (k : ℕ) (t : TransferRequest) (sound : Sound (w .state .s
         places-are = kept .places-are ∙ sym (ap (λ (o : List ℕ). placesFrom 0 (take (s .descriptors) o) (u .slot + 1) 256) new-owner
             ∙ submit-places st k (u .slot + 1) 256 t (sound .ranges) (sound .owners) (λ e. ne (omega (arith, e))) (λ e. omega (arith, e)));
         as-needed = kept .as-needed;
-        leads = ap (metFrom (s .pool) (acceptedWorld .rows .pool) (s .descriptors + 1)) word
-            ∙ met-along (s .pool) (w .rows .pool) (acceptedWorld .rows .pool) (s .descriptors + 1) (overlayNext (w .rows .heads) (u .slot))
-            (subst (Each (λ p. getD (acceptedWorld .rows .pool) p blank .next ≡ getD (w .rows .pool) p blank .next)) (sym (kept .leads)) nexts)
+        leads = ap (nextWalk s (acceptedWorld .rows .pool)) word
+            ∙ walk-along (nextLeads s) (λ p. getD (w .rows .pool) p blank .next) (λ p. getD (acceptedWorld .rows .pool) p blank .next) (s .descriptors + 1) (overlayNext (w .rows .heads) (u .slot))
+            (subst (λ (x : Walk). Each (λ p. getD (acceptedWorld .rows .pool) p blank .next ≡ getD (w .rows .pool) p blank .next) (x .met)) (sym (kept .leads)) nexts)
             ∙ kept .leads;
         written = λ j h. ap untold (each-at Same (u .places) j same h) ∙ kept .written j h;
       }

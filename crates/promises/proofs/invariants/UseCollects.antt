@@ -10,7 +10,6 @@ use borrow.Author.Tests.{eq-eqb, ne-eqb}
 use lib.ListN.{length, take}
 use lib.Seq.{length-take-le}
 use Rattle.descriptor.specs.declared.qtd.QueueTransferDescriptor.{QueueTransferDescriptor}
-use Rattle.pool.specs.Chains.{metFrom}
 use Rattle.pool.specs.Places.{clearOf, countOf, placesFrom}
 use Rattle.pool.specs.declared.chain.View.{View}
 use Rattle.pool.proofs.PlaceLaws.{clear-count}
@@ -35,6 +34,7 @@ use Rattle.ehci.specs.declared.call.Call.{Call}
 use Rattle.ehci.specs.Door.{Applied}
 use Rattle.promises.specs.Runs.{History, World, leftBy, turnOf}
 use Rattle.promises.specs.Events.{Collects}
+use Rattle.promises.specs.Walks.{nextWalk}
 use Rattle.promises.specs.Uses.{Use, isOf, needOfUse, needs, uses, without}
 use Rattle.promises.proofs.effects.Effects.{Collected, withHeads}
 use Rattle.promises.proofs.invariants.Sound.{Sound}
@@ -127,7 +127,7 @@ module _ (w : World) (view : View) (k : ℕ) (p : Pipe) (r : Request) (b : Unlin
         holds = tenant-elsewhere (u .slot) ne ∙ kept .holds;
         places-are = kept .places-are ∙ sym (finish-others st view k p r (u .slot) 256 ne);
         as-needed = kept .as-needed;
-        leads = ap (metFrom (s .pool) (w .rows .pool) (s .descriptors + 1)) (word-elsewhere (u .slot) ne) ∙ kept .leads;
+        leads = ap (nextWalk s (w .rows .pool)) (word-elsewhere (u .slot) ne) ∙ kept .leads;
         written = kept .written;
       }
 

@@ -9,7 +9,7 @@ use lib.Dec.{eqb}
 use lib.ListN.{drop, getD, length, take}
 use Rattle.common.specs.declared.kinds.EndpointType.{EndpointType}
 use Rattle.descriptor.specs.declared.qtd.QueueTransferDescriptor.{QueueTransferDescriptor}
-use Rattle.pool.specs.Chains.{blank, metFrom}
+use Rattle.pool.specs.Chains.{blank}
 use Rattle.pool.specs.Places.{bitOf, countOf, placesFrom}
 use Rattle.pool.specs.Transfers.{recordAt}
 use Rattle.pool.proofs.PlaceLaws.{places-length}
@@ -19,6 +19,7 @@ use Rattle.pipe.specs.Endpoints.{endpointAt}
 use Rattle.pipe.specs.declared.endpoints.Endpoint.{Endpoint}
 use Rattle.pipe.specs.declared.endpoints.Endpoint.the-variants.{Closed, Idle, Linked, Unlinking}
 use Rattle.promises.specs.Runs.{History, World}
+use Rattle.promises.specs.Walks.{Terminated, nextWalk}
 use Rattle.promises.specs.Rooms.{Every, transferFor, untold}
 use Rattle.promises.specs.Uses.{Use, isOf, needOfUse, needs, uses, without}
 
@@ -111,7 +112,7 @@ module _ (s : Settings) (owner : List ℕ) (tenant : ℕ → Tenant) (pool : Lis
     pub holds : tenant (u .slot) ≡ Waits (u .request .kind) (u .id) (u .request .length)
     pub places-are : u .places ≡ placesAt (u .slot)
     pub as-needed : length (u .places) ≡ needOfUse s u
-    pub leads : metFrom (s .pool) pool (s .descriptors + 1) (overlayNext heads (u .slot)) ≡ u .places
+    pub leads : nextWalk s pool (overlayNext heads (u .slot)) ≡ record { met = u .places; end = Terminated }
     -- the records are those that its submit wrote, but for their tokens
     pub written : (j : ℕ) → j < length (u .places)
         → untold (getD pool (getD (u .places) j 0) blank) ≡ untold (recordAt (transferFor s u) j (drop (suc j) (u .places)) (s .pool))

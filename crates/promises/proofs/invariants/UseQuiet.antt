@@ -1,37 +1,17 @@
 -- Calls that neither take nor free a place keep the tie between uses and world.
-use Prim.Native.Nat.{ℕ, zero, suc, _+_}
-use mathlib.Core.Path.{_≡_, refl, sym, ap, _∙_}
-use mathlib.Core.Bool.{Bool, true, false}
+use Prim.Native.Nat.{ℕ, _+_}
+use mathlib.Core.Path.{_≡_, sym, ap, _∙_}
 use mathlib.Core.List.{List, [], _∷_}
-use lib.Dec.{eqb}
 use lib.ListN.{getD, length, take}
-use Rattle.descriptor.specs.EhciQtd.{qtdAddress, terminate}
 use Rattle.descriptor.specs.declared.qtd.QueueTransferDescriptor.{QueueTransferDescriptor}
-use Rattle.pool.specs.Chains.{blank, metFrom, nextAt, placeOf}
-use Rattle.pool.specs.EhciChain.{follow}
+use Rattle.pool.specs.Chains.{blank}
 use Rattle.pool.specs.Places.{Each, countOf, placesFrom}
 use Rattle.settings.specs.declared.settings.Settings.{Settings}
+use Rattle.promises.specs.Walks.{nextLeads, nextWalk}
 use Rattle.promises.specs.Uses.{Use, needs}
 use Rattle.promises.specs.Rooms.{untold}
+use Rattle.promises.proofs.any_machine.Walking.{walk-along}
 use Rattle.promises.proofs.invariants.UseInv.{HeldBy, Kept, Nobody, Tenant, every-map, overlayNext, tenants-apart}
-
--- ---- a walk reads only the next words of the records that it meets
-
-pub met-along : (base : ℕ) (old new : List QueueTransferDescriptor) (m w : ℕ) → Each (λ p. getD new p blank .next ≡ getD old p blank .next) (metFrom base old m w)
-    → metFrom base new m w ≡ metFrom base old m w
-unfolding metFrom follow
-met-along base old new zero w e = refl
-met-along base old new (suc m) w e = by (eqb (terminate w) 1) refl (met-along base old new m (nextAt base old (qtdAddress w)))
-  where
-    by : (b : Bool) → eqb (terminate w) 1 ≡ b
-        → (Each (λ p. getD new p blank .next ≡ getD old p blank .next) (metFrom base old m (nextAt base old (qtdAddress w)))
-        → metFrom base new m (nextAt base old (qtdAddress w)) ≡ metFrom base old m (nextAt base old (qtdAddress w)))
-        → metFrom base new (suc m) w ≡ metFrom base old (suc m) w
-    by true q on = rw q
-    by false q on =
-        let here = placeOf base (qtdAddress w) in
-        let f : Each (λ p. getD new p blank .next ≡ getD old p blank .next) (here ∷ metFrom base old m (nextAt base old (qtdAddress w))) = rw q at e in
-        rw q (ap (λ (v : ℕ). here ∷ metFrom base new m v) (f .0) ∙ ap (λ (l : List ℕ). here ∷ l) (on (f .1)))
 
 pub each-all : (P : ℕ → Type 0) → ((p : ℕ) → P p) → (ps : List ℕ) → Each P ps
 each-all P f [] = tt
@@ -50,8 +30,9 @@ module _ (s : Settings) (owner owner′ : List ℕ) (tenant tenant′ : ℕ → 
         holds = same-tenant (u .slot) ∙ kept .holds;
         places-are = kept .places-are ∙ ap (λ (o : List ℕ). placesFrom 0 o (u .slot + 1) 256) (sym same-owner);
         as-needed = kept .as-needed;
-        leads = ap (metFrom (s .pool) pool′ (s .descriptors + 1)) word
-            ∙ met-along (s .pool) pool pool′ (s .descriptors + 1) (overlayNext heads (u .slot)) (each-all (λ p. getD pool′ p blank .next ≡ getD pool p blank .next) next (metFrom (s .pool) pool (s .descriptors + 1) (overlayNext heads (u .slot)))) ∙ kept .leads;
+        leads = ap (nextWalk s pool′) word
+            ∙ walk-along (nextLeads s) (λ p. getD pool p blank .next) (λ p. getD pool′ p blank .next) (s .descriptors + 1) (overlayNext heads (u .slot))
+            (each-all (λ p. getD pool′ p blank .next ≡ getD pool p blank .next) next (nextWalk s pool (overlayNext heads (u .slot)) .met)) ∙ kept .leads;
         written = λ j h. same-record (getD (u .places) j 0) ∙ kept .written j h;
       }
     where

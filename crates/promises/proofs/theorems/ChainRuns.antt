@@ -1,8 +1,8 @@
--- In every world of a run the walks meet exactly the linked heads, newest first.
+-- In every world of a run the walks meet exactly the linked heads, newest first, and end as they should.
 use Prim.Native.Nat.{ℕ, _+_, _<_}
 use mathlib.Core.Path.{_≡_, refl, sym, ap, subst, _∙_}
 use mathlib.Core.Bool.{Bool, true, false, _||_}
-use mathlib.Core.List.{List, [], _∷_, _++_, map}
+use mathlib.Core.List.{List, [], map}
 use native.Mathlib.Omega.{arith}
 use lib.ListN.{getD, getD-replicate, replicate}
 use Rattle.settings.specs.Settings.{settingsGood}
@@ -13,11 +13,12 @@ use Rattle.state.proofs.Arrays.{zeros-at}
 use Rattle.pipe.specs.Endpoints.{endpointAt}
 use Rattle.pipe.specs.declared.endpoints.Endpoint.{Endpoint}
 use Rattle.pipe.specs.declared.endpoints.Endpoint.the-variants.{Closed, Idle, Linked, Unlinking}
+use Rattle.schedule.specs.Walks.{Chain}
 use Rattle.opening.specs.Opening.{freshState}
 use Rattle.opening.proofs.OpenLaws.{heads-words}
 use Rattle.ehci.specs.declared.call.Call.{Call}
 use Rattle.promises.specs.Runs.{History, Opening, World, core, historyOf, worldOf}
-use Rattle.promises.specs.Walks.{frameWalk, isIn, ringWalk}
+use Rattle.promises.specs.Walks.{AtRingHead, Terminated, frameEnd, frameWalk, isIn, ringEnd, ringWalk}
 use Rattle.promises.specs.Uses.{frameSlots, ringSlots, uses}
 use Rattle.promises.specs.Chains.{ChainsWalked, headPlaces, isLinked}
 use Rattle.promises.proofs.invariants.Sound.{Sound}
@@ -26,7 +27,7 @@ use Rattle.promises.proofs.invariants.UseInv.{Held, Nobody, tenantOf, t
 use Rattle.promises.proofs.invariants.OpenedVerdict.{out-of-uses}
 use Rattle.promises.proofs.theorems.RoomPromises.{held}
 use Rattle.promises.proofs.invariants.ChainInv.{Chained, linked-by, linked-within, linkedIn}
-use Rattle.promises.proofs.invariants.ChainEvents.{frame-walked, ring-walked}
+use Rattle.promises.proofs.invariants.ChainEvents.{frame-ended, frame-walked, ring-ended, ring-walked}
 use Rattle.promises.proofs.invariants.ChainKeeps.{chained-keeps}
 
 -- ---- at opening nothing is linked
@@ -59,17 +60,26 @@ chained = reached Chained chained-opens (λ s h w c a sound x e. chained-keeps s
 -- ---- the walks of a world
 
 module _ (s : Settings) (h : History) (w : World) (sound : Sound s w) (x : Chained s h w) where
-  pub ring-told : ringWalk s (w .rows) ≡ headPlaces (ringSlots s h) ++ 0 ∷ []
-  ring-told =
-      subst (λ (z : Settings). ringWalk z (w .rows) ≡ headPlaces (ringSlots s h) ++ 0 ∷ []) (sound .settings-are)
-      (ring-walked (w .state) (sound .ranges .good) (w .rows) (ringSlots s h) (x .ring .apart)
-      (λ i m. linked-within false (w .state) i (sound .ranges) (sym (x .ring .members i) ∙ m)) (x .ring .chain))
+  ring-within : (i : ℕ) → isIn i (ringSlots s h) ≡ true → i < w .state .settings .endpoints
+  ring-within i m = linked-within false (w .state) i (sound .ranges) (sym (x .ring .members i) ∙ m)
 
-  pub frames-told : (f : ℕ) → f < 1024 → frameWalk s (w .rows) f ≡ headPlaces (frameSlots s h)
+  frames-within : (i : ℕ) → isIn i (frameSlots s h) ≡ true → i < w .state .settings .endpoints
+  frames-within i m = linked-within true (w .state) i (sound .ranges) (sym (x .periodic .members i) ∙ m)
+
+  pub ring-told : (ringWalk s (w .rows) ≡ headPlaces (ringSlots s h)) × (ringEnd s (w .rows) ≡ AtRingHead)
+  ring-told =
+      subst (λ (z : Settings). (ringWalk z (w .rows) ≡ headPlaces (ringSlots s h)) × (ringEnd z (w .rows) ≡ AtRingHead)) (sound .settings-are) (
+        ring-walked (w .state) (sound .ranges .good) (w .rows) (ringSlots s h) (x .ring .apart) ring-within (x .ring .chain),
+        ring-ended (w .state) (sound .ranges .good) (w .rows) (ringSlots s h) (x .ring .apart) ring-within (x .ring .chain),
+      )
+
+  pub frames-told : (f : ℕ) → f < 1024 → (frameWalk s (w .rows) f ≡ headPlaces (frameSlots s h)) × (frameEnd s (w .rows) f ≡ Terminated)
   frames-told f low =
-      subst (λ (z : Settings). frameWalk z (w .rows) f ≡ headPlaces (frameSlots s h)) (sound .settings-are)
-      (frame-walked (w .state) (sound .ranges .good) (w .rows) (frameSlots s h) (x .periodic .apart)
-      (λ i m. linked-within true (w .state) i (sound .ranges) (sym (x .periodic .members i) ∙ m)) f (rw (x .even f low) (x .periodic .chain)))
+      let chain : Chain (w .state) (w .rows .heads) (getD (w .rows .frames) f 0) (frameSlots s h) 1 = rw (x .even f low) (x .periodic .chain) in
+      subst (λ (z : Settings). (frameWalk z (w .rows) f ≡ headPlaces (frameSlots s h)) × (frameEnd z (w .rows) f ≡ Terminated)) (sound .settings-are) (
+        frame-walked (w .state) (sound .ranges .good) (w .rows) (frameSlots s h) (x .periodic .apart) frames-within f chain,
+        frame-ended (w .state) (sound .ranges .good) (w .rows) (frameSlots s h) (x .periodic .apart) frames-within f chain,
+      )
 
 -- ---- each linked head is that of an uncollected request
 
@@ -100,7 +110,9 @@ chains-walked s w o cs =
     let past = historyOf core w cs in
     let now = worldOf core w cs in
     record {
-      ring = ring-told s past now (at .0) (at .1);
-      frames = frames-told s past now (at .0) (at .1);
+      ring = ring-told s past now (at .0) (at .1) .0;
+      ring-ends = ring-told s past now (at .0) (at .1) .1;
+      frames = λ f low. frames-told s past now (at .0) (at .1) f low .0;
+      frames-end = λ f low. frames-told s past now (at .0) (at .1) f low .1;
       uncollected = linked-used s past now (at .1) (held s w o cs .1);
     }

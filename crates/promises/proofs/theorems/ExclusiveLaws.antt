@@ -21,7 +21,7 @@ use Rattle.ehci.specs.Replies.{answeredNumber}
 use Rattle.promises.specs.Runs.{History, Machine, Rows, Turn, World, rowsOf, turnOf}
 use Rattle.promises.specs.Rooms.{Distinct, Every, Exclusive, Led, RecordStays, TokenWritten, placesInUse}
 use Rattle.promises.specs.Uses.{Use, uses}
-use Rattle.promises.specs.Walks.{chainWalk}
+use Rattle.promises.specs.Walks.{Walk, chainEnd, chainWalk}
 use Rattle.promises.proofs.effects.Effects.{Accepts, Effect, WritesBack, still, hears, joins, passes, counts, opens, closes, rewrites, accepts, writes-back, marks, unlinks, collects}
 use Rattle.promises.proofs.invariants.Sound.{Sound}
 use Rattle.promises.proofs.invariants.UseInv.{Apart, Avoids, Held, Kept, every-map, tenantAt}
@@ -159,7 +159,7 @@ exclusive-holds m effect s h w sound = subst (λ (z : Settings). Sound z w → H
         }
 
 pub led-holds : (s : Settings) (h : History) (w : World) → Held s h w → Every (Led s w) (uses s h)
-unfolding chainWalk
+unfolding chainWalk chainEnd
 led-holds s h w held =
     every-map (Kept s (w .state .owner) (tenantAt (w .state)) (w .rows .pool) (w .rows .heads)) (Led s w)
-    (λ u kept. record { leads = kept .leads; as-many = kept .as-needed; in-order = kept .written }) (uses s h) (held .each)
+    (λ u kept. record { leads = ap (λ (x : Walk). x .met) (kept .leads); ends = ap (λ (x : Walk). x .end) (kept .leads); as-many = kept .as-needed; in-order = kept .written }) (uses s h) (held .each)

@@ -14,8 +14,7 @@ use Rattle.common.specs.declared.kinds.EndpointType.the-variants.{Bulk}
 use Rattle.descriptor.specs.Descriptors.{newQtd, terminated, withNext}
 use Rattle.descriptor.specs.Heads.{ringHead}
 use Rattle.descriptor.specs.Slots.{pageSlots}
-use Rattle.pool.specs.Chains.{fillOf, filledFrom, metFrom}
-use Rattle.pool.specs.EhciChain.{follow}
+use Rattle.pool.specs.Chains.{fillOf, filledFrom}
 use Rattle.pool.specs.Places.{listOf, markOf, packed, placesFrom, upFrom}
 use Rattle.pool.specs.Transfers.{bareAt, chunkQtd, recordAt}
 use Rattle.settings.specs.Settings.{apartAreas, areaGood, eachGood, noOverlap, numbersGood, settingsGood}
@@ -36,7 +35,7 @@ use Rattle.ehci.specs.declared.reply.Answered.the-variants.{Done, Pending}
 use Rattle.ehci.specs.declared.reply.Given.the-variants.{Id, Nothing, Slot}
 use Rattle.ehci.specs.Door.{Applied, applied}
 use Rattle.promises.specs.Runs.{Machine, Opening, World, historyOf, rowsOf, worldOf}
-use Rattle.promises.specs.Walks.{chainWalk}
+use Rattle.promises.specs.Walks.{chainWalk, walkFrom}
 use Rattle.promises.specs.Uses.{needs, uses}
 use Rattle.promises.specs.Rooms.{ExclusivePlaces, RoomExact, placesInUse}
 use Rattle.promises.specs.Opened.{SubmitVerdict, runsIn, slotIn}
@@ -45,7 +44,7 @@ use Rattle.promises.proofs.invariants.Reached.{freshWorld, opens-fresh}
 
 -- ---- two descriptors, two slots
 
-abbrev pair : Settings
+abbrev pub pair : Settings
 pair =
     record {
       descriptors = 2;
@@ -63,7 +62,7 @@ pair-good : settingsGood pair ≡ true
 unfolding settingsGood numbersGood eachGood noOverlap areaGood apartAreas
 pair-good = refl
 
-opening : Opening pair (freshWorld pair)
+pub opening : Opening pair (freshWorld pair)
 opening = opens-fresh pair pair-good
 
 -- ---- machines that take descriptors
@@ -105,7 +104,7 @@ machine x w Disable = stays w Pending (w .state)
 abbrev takesFree : World → ℕ → TransferRequest → Applied
 takesFree w k t = written w k t (takenOf (w .state .owner) 2 (needOfRequest (w .state) t) k)
 
-abbrev plain : Machine
+abbrev pub plain : Machine
 plain = machine (record { opens = Pending; submit = takesFree; writeback = λ s place. s })
 
 -- a writeback frees the place
@@ -129,40 +128,40 @@ eager = machine (record { opens = Done (Slot 0); submit = takesFree; writeback =
 
 -- ---- one byte each to two slots, and a writeback between
 
-abbrev byte : TransferRequest
+abbrev pub byte : TransferRequest
 byte = record { kind = Bulk; direction = Out; setup = 0; address = 0x500000; length = 1 }
 
-abbrev reads : Readings
+abbrev pub reads : Readings
 reads = record { command = 0; frame = 0 }
 
 abbrev calls : List Call
 calls = Submit 1 byte reads ∷ Writeback 0 0 ∷ Submit 0 byte reads ∷ []
 
 plain-places : placesInUse (uses pair (historyOf plain (freshWorld pair) calls)) ≡ 1 ∷ 0 ∷ []
-unfolding historyOf worldOf uses chainWalk metFrom follow takenOf placesFrom markOf packed listOf fillOf filledFrom recordAt bareAt chunkQtd newQtd withNext startedOverlay freshState withOwner openedHeads ringHead terminated needOf chunkCount
+unfolding historyOf worldOf uses chainWalk walkFrom takenOf placesFrom markOf packed listOf fillOf filledFrom recordAt bareAt chunkQtd newQtd withNext startedOverlay freshState withOwner openedHeads ringHead terminated needOf chunkCount
 plain-places = refl
 
 plain-room : freeCount (worldOf plain (freshWorld pair) calls .state) + needs pair (uses pair (historyOf plain (freshWorld pair) calls)) ≡ 2
-unfolding historyOf worldOf uses chainWalk metFrom follow takenOf placesFrom markOf packed listOf fillOf filledFrom recordAt bareAt chunkQtd newQtd withNext startedOverlay freshState withOwner openedHeads ringHead terminated needOf chunkCount freeCount countZero
+unfolding historyOf worldOf uses chainWalk walkFrom takenOf placesFrom markOf packed listOf fillOf filledFrom recordAt bareAt chunkQtd newQtd withNext startedOverlay freshState withOwner openedHeads ringHead terminated needOf chunkCount freeCount countZero
 plain-room = refl
 
 -- ---- refuted
 
 -- the place is free again, and given to slot 1 while slot 0's request has it
 freeing-exclusive : ExclusivePlaces freeing → ⊥
-unfolding historyOf worldOf uses chainWalk metFrom follow takenOf placesFrom markOf packed listOf fillOf filledFrom recordAt bareAt chunkQtd newQtd withNext startedOverlay freshState withOwner openedHeads ringHead terminated needOf chunkCount
+unfolding historyOf worldOf uses chainWalk walkFrom takenOf placesFrom markOf packed listOf fillOf filledFrom recordAt bareAt chunkQtd newQtd withNext startedOverlay freshState withOwner openedHeads ringHead terminated needOf chunkCount
 freeing-exclusive e = e pair (freshWorld pair) opening calls .distinct .0 .0 refl
 
 freeing-room : RoomExact freeing → ⊥
-unfolding historyOf worldOf uses chainWalk metFrom follow takenOf placesFrom markOf packed listOf fillOf filledFrom recordAt bareAt chunkQtd newQtd withNext startedOverlay freshState withOwner openedHeads ringHead terminated needOf chunkCount freeCount countZero
+unfolding historyOf worldOf uses chainWalk walkFrom takenOf placesFrom markOf packed listOf fillOf filledFrom recordAt bareAt chunkQtd newQtd withNext startedOverlay freshState withOwner openedHeads ringHead terminated needOf chunkCount freeCount countZero
 freeing-room r = let three : _≡_ {A = ℕ} 3 2 = r pair (freshWorld pair) opening (Writeback 0 0 ∷ Submit 0 byte reads ∷ []) .free in omega (arith, three)
 
 first-exclusive : ExclusivePlaces first → ⊥
-unfolding historyOf worldOf uses chainWalk metFrom follow takenOf placesFrom markOf packed listOf fillOf filledFrom recordAt bareAt chunkQtd newQtd withNext startedOverlay freshState withOwner openedHeads ringHead terminated needOf chunkCount
+unfolding historyOf worldOf uses chainWalk walkFrom takenOf placesFrom markOf packed listOf fillOf filledFrom recordAt bareAt chunkQtd newQtd withNext startedOverlay freshState withOwner openedHeads ringHead terminated needOf chunkCount
 first-exclusive e = e pair (freshWorld pair) opening calls .distinct .0 .0 refl
 
 first-room : RoomExact first → ⊥
-unfolding historyOf worldOf uses chainWalk metFrom follow takenOf placesFrom markOf packed listOf fillOf filledFrom recordAt bareAt chunkQtd newQtd withNext startedOverlay freshState withOwner openedHeads ringHead terminated needOf chunkCount freeCount countZero
+unfolding historyOf worldOf uses chainWalk walkFrom takenOf placesFrom markOf packed listOf fillOf filledFrom recordAt bareAt chunkQtd newQtd withNext startedOverlay freshState withOwner openedHeads ringHead terminated needOf chunkCount freeCount countZero
 first-room r = let three : _≡_ {A = ℕ} 3 2 = r pair (freshWorld pair) opening calls .free in omega (arith, three)
 
 -- a submit to a slot that was never opened is accepted, and not answered 3
@@ -180,7 +179,7 @@ eager-verdict v =
 
 -- no byte is addressed where one is asked
 short-coverage : Coverage short → ⊥
-unfolding historyOf worldOf uses chainWalk metFrom follow takenOf placesFrom markOf packed listOf fillOf filledFrom recordAt bareAt chunkQtd newQtd withNext startedOverlay freshState withOwner openedHeads ringHead terminated needOf chunkCount tokenOf pageSlots upFrom
+unfolding historyOf worldOf uses chainWalk walkFrom takenOf placesFrom markOf packed listOf fillOf filledFrom recordAt bareAt chunkQtd newQtd withNext startedOverlay freshState withOwner openedHeads ringHead terminated needOf chunkCount tokenOf pageSlots upFrom
 short-coverage c =
     let none : _≡_ {A = List ℕ} [] (0x500000 ∷ []) = c pair (freshWorld pair) opening [] 0 byte reads refl in
     let zero : _≡_ {A = ℕ} 0 1 = ap length none in
@@ -188,5 +187,5 @@ short-coverage c =
 
 -- and the right one covers it
 plain-coverage : addressed (dataOf Bulk (recordsMet pair (rowsOf (plain (freshWorld pair) (Submit 0 byte reads))) 0)) ≡ 0x500000 ∷ []
-unfolding historyOf worldOf uses chainWalk metFrom follow takenOf placesFrom markOf packed listOf fillOf filledFrom recordAt bareAt chunkQtd newQtd withNext startedOverlay freshState withOwner openedHeads ringHead terminated needOf chunkCount tokenOf pageSlots upFrom
+unfolding historyOf worldOf uses chainWalk walkFrom takenOf placesFrom markOf packed listOf fillOf filledFrom recordAt bareAt chunkQtd newQtd withNext startedOverlay freshState withOwner openedHeads ringHead terminated needOf chunkCount tokenOf pageSlots upFrom
 plain-coverage = refl

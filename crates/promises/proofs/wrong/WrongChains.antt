@@ -3,7 +3,7 @@
 use Prim.Native.Nat.{ℕ, _+_, _-_, _*_, _/_}
 use mathlib.Core.Path.{_≡_, refl, ap}
 use mathlib.Core.Bool.{Bool, true, false, cond}
-use mathlib.Core.List.{List, [], _∷_, _++_}
+use mathlib.Core.List.{List, [], _∷_}
 use native.Mathlib.Omega.{arith}
 use lib.Dec.{eqb}
 use lib.ListN.{getD, length, replicate, set}
@@ -35,7 +35,7 @@ use Rattle.promises.specs.Chains.{ChainsWalked, NoDetachFails, headPlace
 use Rattle.promises.proofs.invariants.Reached.{freshWorld, opens-fresh}
 
 -- three slots
-abbrev three : Settings
+abbrev pub three : Settings
 three =
     record {
       descriptors = 1;
@@ -99,7 +99,7 @@ plainly =
       leave = λ h k. withRingLink h (linkWord h k);
     }
 
-abbrev plain : Machine
+abbrev pub plain : Machine
 plain = linking plainly
 
 -- behind slot 0's head, where one is in the ring
@@ -135,7 +135,7 @@ once = linking (record { ring = plainly .ring; frames = λ f link. set f 0 link;
 abbrev reading : Readings
 reading = record { command = 0; frame = 0 }
 
-abbrev asks : EndpointType → ℕ → Call
+abbrev pub asks : EndpointType → ℕ → Call
 asks kind k = Submit k (record { kind = kind; direction = Out; setup = 0; address = 0; length = 0 }) reading
 
 -- newest first: two requests; a third, and a cancel of it; an interrupt request
@@ -152,7 +152,7 @@ three-good : settingsGood three ≡ true
 unfolding settingsGood numbersGood eachGood noOverlap areaGood apartAreas
 three-good = refl
 
-opening : Opening three (freshWorld three)
+pub opening : Opening three (freshWorld three)
 opening = opens-fresh three three-good
 
 abbrev now : Machine → List Call → Rows
@@ -162,8 +162,8 @@ abbrev past : Machine → List Call → History
 past m cs = historyOf m (freshWorld three) cs
 
 -- on these calls the right machine's walks are as told, and a cancel is seen
-plain-right : (ringWalk three (now plain two) ≡ headPlaces (ringSlots three (past plain two)) ++ 0 ∷ [])
-    × (ringWalk three (now plain cancelled) ≡ headPlaces (ringSlots three (past plain cancelled)) ++ 0 ∷ [])
+plain-right : (ringWalk three (now plain two) ≡ headPlaces (ringSlots three (past plain two)))
+    × (ringWalk three (now plain cancelled) ≡ headPlaces (ringSlots three (past plain cancelled)))
     × (frameWalk three (now plain waiting) 1 ≡ headPlaces (frameSlots three (past plain waiting)))
     × (event three (turnBy plain (worldOf plain (freshWorld three) two) (Cancel 1 1 reading)) ≡ Unlinks 1)
 unfolding ringWalk frameWalk walkFrom worldOf historyOf ringSlots frameSlots attachedRing openedHeads ringHead terminated

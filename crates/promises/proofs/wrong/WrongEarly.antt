@@ -5,8 +5,6 @@ use mathlib.Core.Bool.{true, false, true≢false}
 use mathlib.Core.List.{List, _∷_}
 use Rattle.register.specs.Bits.{anyOf, withBits}
 use Rattle.register.specs.Writes.{andThen, noWrites}
-use Rattle.pool.specs.Chains.{metFrom}
-use Rattle.pool.specs.EhciChain.{follow}
 use Rattle.state.specs.State.{withBell}
 use Rattle.common.specs.Kinds.{isInterrupt}
 use Rattle.schedule.specs.Bell.{ringWord}
@@ -117,11 +115,11 @@ module _ (m : Machine) (plainly : Plainly m) (n : ℕ)
   told-more = is-told m w stale (Collect 0 1 (reading 0x80031)) (apartOne (one 0 0x20 0 0 0 (waits 0))) _ w4 collects-one (t4 ∷ t3 ∷ t2 ∷ t1 ∷ up) told
 
   still-read : mayRead small 0 (t5 ∷ t4 ∷ t3 ∷ t2 ∷ t1 ∷ up) ≡ true
-  unfolding mayRead holds historyOf ringWalk walkFrom chainWalk metFrom follow noWrites andThen ringWord withBits
+  unfolding mayRead holds historyOf ringWalk walkFrom chainWalk noWrites andThen ringWord withBits
   still-read = refl
 
   given : isIn 0 (chainWalk small (againOne .rows) 0) ≡ true
-  unfolding chainWalk metFrom follow
+  unfolding chainWalk walkFrom
   given = refl
 
   pub not-held-back : EveryRun NeverGiven m → ⊥

@@ -15,8 +15,7 @@ use Rattle.descriptor.specs.declared.qtd.QueueTransferDescriptor.{QueueTransfer
 use Rattle.descriptor.specs.Descriptors.{newQtd, terminated, withNext}
 use Rattle.descriptor.specs.Heads.{endpointHead}
 use Rattle.descriptor.specs.Slots.{pageSlots}
-use Rattle.pool.specs.Chains.{blank, fillOf, filledFrom, metFrom, noChain}
-use Rattle.pool.specs.EhciChain.{follow}
+use Rattle.pool.specs.Chains.{blank, fillOf, filledFrom, noChain}
 use Rattle.pool.specs.Places.{clearOf, listOf, markOf, packed, placesFrom}
 use Rattle.pool.specs.Transfers.{bareAt, chunkQtd, recordAt}
 use Rattle.settings.specs.Settings.{apartAreas, areaGood, eachGood, noOverlap, numbersGood, settingsGood}
@@ -232,11 +231,11 @@ hasty-frames kept =
     omega (arith, kept small w opening shortly 0 1 (reading 0x80031) done kind .1, at)
 
 still-read : mayRead small 0 (t3 ∷ told) ≡ true
-unfolding mayRead holds historyOf ringWalk frameWalk walkFrom chainWalk metFrom follow
+unfolding mayRead holds historyOf ringWalk frameWalk walkFrom chainWalk
 still-read = refl
 
 given : isIn 0 (chainWalk small (again .rows) 0) ≡ true
-unfolding chainWalk metFrom follow
+unfolding chainWalk walkFrom
 given = refl
 
 pub hasty-gives : EveryRun NeverGiven hasty → ⊥

@@ -4,8 +4,6 @@ use mathlib.Core.Bool.{true, false, true≢false}
 use mathlib.Core.List.{List, _∷_}
 use Rattle.register.specs.Bits.{anyOf, withBits}
 use Rattle.register.specs.Writes.{andThen, noWrites}
-use Rattle.pool.specs.Chains.{metFrom}
-use Rattle.pool.specs.EhciChain.{follow}
 use Rattle.state.specs.State.{withBell}
 use Rattle.common.specs.Kinds.{isInterrupt}
 use Rattle.schedule.specs.Bell.{ringWord}
@@ -163,11 +161,11 @@ twice-boundary kept =
     true≢false (sym (found small 1 (past shared) b) ∙ (ap (boundary? small 1) is-so ∙ no-boundary))
 
 still-read : mayRead small 1 (t8 ∷ told) ≡ true
-unfolding mayRead holds historyOf ringWalk walkFrom chainWalk metFrom follow noWrites andThen ringWord withBits acknowledgeWrites
+unfolding mayRead holds historyOf ringWalk walkFrom chainWalk noWrites andThen ringWord withBits acknowledgeWrites
 still-read = refl
 
 given : isIn 1 (chainWalk small (againSecond .rows) 1) ≡ true
-unfolding chainWalk metFrom follow
+unfolding chainWalk walkFrom
 given = refl
 
 pub twice-gives : EveryRun NeverGiven twice → ⊥
