@@ -7,3 +7,4 @@ pub mod Once
 pub mod Waits
 pub mod Numbers
 pub mod BoundaryExact
+pub mod RegisterLaws

@@ -30,3 +30,8 @@ pub mod BellUnlinks
 pub mod BellSummary
 pub mod FaultHolds
 pub mod FaultSteps
+pub mod Touches
+pub mod TouchCalls
+pub mod TouchInterrupts
+pub mod TouchBringUp
+pub mod IdInv

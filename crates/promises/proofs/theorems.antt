@@ -16,3 +16,5 @@ pub mod BoundaryCore
 pub mod BoundaryCancels
 pub mod ChainTheorems
 pub mod FaultTheorem
+pub mod RegisterTheorems
+pub mod IdTheorems

@@ -12,3 +12,7 @@ pub mod WrongEarly
 pub mod WrongTwice
 pub mod WrongFrames
 pub mod WrongNever
+pub mod WrongBut
+pub mod WrongRegisters
+pub mod WrongTurns
+pub mod RegisterExamples

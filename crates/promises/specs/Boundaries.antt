@@ -13,7 +13,7 @@ use Rattle.controller.specs.declared.lent.Readings.{Readings}
 use Rattle.ehci.specs.declared.call.Call.{Call}
 use Rattle.ehci.specs.declared.call.Call.the-variants.{Collect}
 use Rattle.ehci.specs.declared.reply.Answered.{Answered}
-use Rattle.ehci.specs.declared.reply.Answered.the-variants.{Cancelled}
+use Rattle.ehci.specs.Replies.{answeredNumber}
 use Rattle.promises.specs.Runs.{History, Machine, Opening, Turn, World, historyOf, turnOf, worldOf}
 use Rattle.promises.specs.Events.{isCollected, rings}
 use Rattle.promises.specs.Bells.{Boundary, asked, bell, cancelled, collects, counted, isAnswered, isUp, kindAt, linked, newestId, none, number, parted, parting, partsOf, reads, someTurn, submits, unlinking, unlinksOf}
@@ -100,15 +100,15 @@ module _ (m : Machine) (s : Settings) (w : World) where
   -- a cancelled request is collected as 10
   abbrev pub CancelledCollects : Type 0
   CancelledCollects = (cs : List Call) (k id : ℕ) (readings : Readings) → cancelled s k (past cs) ≡ true
-      → Collectable cs k id readings → answerTo cs (Collect k id readings) ≡ Cancelled
+      → Collectable cs k id readings → answeredNumber (answerTo cs (Collect k id readings)) ≡ 10
 
   -- so once its unlink is answered its collect answers 10; an interrupt request's, with FRINDEX 9 on
   abbrev pub CancelledAnswered : Type 0
   CancelledAnswered = (cs : List Call) (k : ℕ) (readings : Readings) → cancelled s k (past cs) ≡ true
       → (isInterrupt (kindAt s k (past cs)) ≡ false → unlinking s k (past cs) ≡ true → number s k (past cs) ≤ counted s (past cs)
-      → answerTo cs (Collect k (newestId s k (past cs)) readings) ≡ Cancelled)
+      → answeredNumber (answerTo cs (Collect k (newestId s k (past cs)) readings)) ≡ 10)
       × (isInterrupt (kindAt s k (past cs)) ≡ true → parting s k (past cs) ≡ true → NineOn (parted s k (past cs)) (readings .frame)
-      → answerTo cs (Collect k (newestId s k (past cs)) readings) ≡ Cancelled)
+      → answeredNumber (answerTo cs (Collect k (newestId s k (past cs)) readings)) ≡ 10)
 
   -- each event has its place: only a linked slot leaves the ring or the frame list, by its kind; only a slot with no request is submitted to
   abbrev pub Orderly : Type 0
@@ -165,8 +165,13 @@ module _ (m : Machine) (s : Settings) (w : World) where
       → (Passes (r ∷ cs) k → ⊥) → Passes (c ∷ ds ++ r ∷ cs) k
       → someTurn (reads s) (take (length ds) (past (ds ++ r ∷ cs))) ≡ true
 
--- one count a ring, of any history: from a ring to the next, the next ring's turn t included, at most one advance is counted, and only if an
--- acknowledgment between them read the advance bit
-abbrev pub Once : Settings → Type 0
-Once s = (t : Turn) (stretch : History) (ring : Turn) (past : History) → rings ring ≡ true → none rings stretch
-    → counted s (t ∷ stretch ++ ring ∷ past) ≤ counted s (ring ∷ past) + flagNumber (someTurn (reads s) stretch)
+  -- one count a ring: before the first ring no request passes; and from a ring, the call r, to the next, the next ring's turn c included, at
+  -- most one request comes to pass, and only if an acknowledgment between them has read the advance bit
+  pub record OneCount : Type 0 where
+    pub none-unrung : (cs : List Call) (k : ℕ) → none rings (past cs) → Passes cs k → ⊥
+    pub one-answered : (cs ds : List Call) (r c : Call) (j k : ℕ)
+        → rings (turn cs r) ≡ true
+        → none rings (take (length ds) (past (ds ++ r ∷ cs)))
+        → (Passes (r ∷ cs) j → ⊥) → (Passes (r ∷ cs) k → ⊥)
+        → Passes (c ∷ ds ++ r ∷ cs) j → Passes (c ∷ ds ++ r ∷ cs) k
+        → (j ≡ k) × (someTurn (reads s) (take (length ds) (past (ds ++ r ∷ cs))) ≡ true)

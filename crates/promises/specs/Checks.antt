@@ -1,6 +1,6 @@
 -- Document 01, "Order of checks", call by call: what is asked, in its order, and what each answers. The first that holds answers.
 use Prim.Native.Nat.{ℕ, _+_}
-use mathlib.Core.Bool.{Bool, false, not, _&&_}
+use mathlib.Core.Bool.{Bool, false, not, cond, _&&_}
 use mathlib.Core.List.{List, [], _∷_}
 use mathlib.Core.Path.{_≡_}
 use lib.Dec.{eqb, leb, ltb}
@@ -11,7 +11,7 @@ use Rattle.pipe.specs.Endpoints.{endpointAt, kindNumber}
 use Rattle.common.specs.Kinds.{isIsochronous}
 use Rattle.pipe.specs.declared.endpoints.Endpoint.{Endpoint}
 use Rattle.pipe.specs.declared.endpoints.Endpoint.the-variants.{Closed, Idle, Linked, Unlinking}
-use Rattle.common.specs.Answers.{Check, Verdict, first, passed, refused}
+use Rattle.common.specs.Answers.{Check, first}
 use Rattle.common.specs.declared.answer.Refusal.the-variants.{InvalidParameter, SlotLimitReached, InvalidEndpoint, QueueFull, NotSupported, NoMemory, Timeout, NotReady}
 use Rattle.controller.specs.Lent.{acceptsOf, lengths}
 use Rattle.controller.specs.Readers.{freeCount, isOpen, isUncollected}
@@ -24,11 +24,11 @@ use Rattle.collection.specs.Unlinks.{isMissing}
 use Rattle.bring_up.specs.BringUp.{anyUncollected, ready, stageOf}
 use Rattle.ehci.specs.declared.call.Call.{Call}
 use Rattle.ehci.specs.declared.call.Call.the-variants.{StartBringUp, BringUpStep, AllocateAddress, OpenEndpoint, Close, SetAddress, SetPacketSize, Submit, Writeback, Cancel, Collect, Acknowledge, Drain, Rearm, Enable, Disable}
-use Rattle.ehci.specs.declared.reply.Answered.{Answered}
-use Rattle.ehci.specs.declared.reply.Answered.the-variants.{Done, Pending, Cancelled, Failed, Refused}
 use Rattle.ehci.specs.Decides.{asksOf}
 use Rattle.ehci.specs.Door.{seenBy}
+use Rattle.ehci.specs.Replies.{answeredNumber}
 use Rattle.promises.specs.Runs.{Machine, World}
+use Rattle.promises.specs.Opened.{verdictNumber}
 
 -- "First: a lent row of a length other than opening fixed, or a state outside its ranges, 1."
 abbrev pub unfit : World → Bool
@@ -113,14 +113,10 @@ furtherChecks w Disable = []
 abbrev pub checksOf : World → Call → List Check
 checksOf w c = (unfit w, InvalidParameter) ∷ furtherChecks w c
 
--- what an answer says of the checks
-abbrev pub verdictIn : Answered → Verdict
-verdictIn (Done given) = passed
-verdictIn Pending = passed
-verdictIn Cancelled = passed
-verdictIn (Failed token) = passed
-verdictIn (Refused r) = refused r
+-- "0, 9, 10 and 11 are results; the rest are refusals": the number of the refusal, 0 for a result
+abbrev pub refusalIn : ℕ → ℕ
+refusalIn n = cond (leb 9 n) 0 n
 
 -- for every world and call, and not only for those of a run
 abbrev pub InOrder : Machine → Type 0
-InOrder m = (w : World) (c : Call) → verdictIn (m w c .reply .answer) ≡ first (checksOf w c)
+InOrder m = (w : World) (c : Call) → refusalIn (answeredNumber (m w c .reply .answer)) ≡ verdictNumber (first (checksOf w c))

@@ -1,6 +1,7 @@
--- What happens in a turn, from the call, its answer, its register writes and the lent rows.
+-- What happens in a turn, from the call, its answer's number and values, its register writes and the lent rows.
 use Prim.Native.Nat.{ℕ, _+_}
-use mathlib.Core.Bool.{Bool, true, false, not, cond, _&&_}
+use mathlib.Core.Bool.{Bool, _||_, not, cond, _&&_}
+use mathlib.Core.List.{List, [], _∷_}
 use lib.Dec.{eqb}
 use Rattle.register.specs.Bits.{bit}
 use Rattle.settings.specs.declared.settings.Settings.{Settings}
@@ -9,9 +10,7 @@ use Rattle.schedule.specs.Bell.{someRing}
 use Rattle.ehci.specs.declared.call.Call.{Call}
 use Rattle.ehci.specs.declared.call.Call.the-variants.{StartBringUp, BringUpStep, AllocateAddress, OpenEndpoint, Close, SetAddress, SetPacketSize, Submit, Writeback, Cancel, Collect, Acknowledge, Drain, Rearm, Enable, Disable}
 use Rattle.ehci.specs.declared.reply.Answered.{Answered}
-use Rattle.ehci.specs.declared.reply.Answered.the-variants.{Done, Pending, Cancelled, Failed, Refused}
-use Rattle.ehci.specs.declared.reply.Given.{Given}
-use Rattle.ehci.specs.declared.reply.Given.the-variants as G
+use Rattle.ehci.specs.Replies.{answeredNumber, answeredValues}
 use Rattle.promises.specs.Runs.{Turn}
 use Rattle.promises.specs.Walks.{frameWalk, isIn, ringWalk}
 
@@ -45,40 +44,22 @@ pub data Event : Type 0 where
   -- slot k's request of that id is collected, with the FRINDEX of the call
   Collects : ℕ → ℕ → ℕ → Event
 
--- the id that goes with 0
-abbrev pub idIn : Given → ℕ
-idIn G.Nothing = 0
-idIn (G.Slot k) = 0
-idIn (G.Address a) = 0
-idIn (G.Id id) = id
-idIn (G.Length n) = 0
-idIn G.No = 0
-idIn G.Yes = 0
-idIn (G.Event e) = 0
-idIn (G.Next read wait) = 0
-
 -- 0 accepts
-abbrev pub submitsBy : ℕ → TransferRequest → Answered → Event
-submitsBy k t (Done given) = Submits k (idIn given) t
-submitsBy k t Pending = Other
-submitsBy k t Cancelled = Other
-submitsBy k t (Failed token) = Other
-submitsBy k t (Refused r) = Other
-
 abbrev pub isDone : Answered → Bool
-isDone (Done given) = true
-isDone Pending = false
-isDone Cancelled = false
-isDone (Failed token) = false
-isDone (Refused r) = false
+isDone a = eqb (answeredNumber a) 0
+
+-- the first of the values that go with an answer
+abbrev pub firstIn : List ℕ → ℕ
+firstIn [] = 0
+firstIn (v ∷ vs) = v
+
+-- an accepted submit gives its id
+abbrev pub submitsBy : ℕ → TransferRequest → Answered → Event
+submitsBy k t a = cond (isDone a) (Submits k (firstIn (answeredValues a)) t) Other
 
 -- 0, 10 and 11 collect; 9 and a refusal do not
 abbrev pub isCollected : Answered → Bool
-isCollected (Done given) = true
-isCollected Pending = false
-isCollected Cancelled = true
-isCollected (Failed token) = true
-isCollected (Refused r) = false
+isCollected a = isDone a || eqb (answeredNumber a) 10 || eqb (answeredNumber a) 11
 
 abbrev pub leaving : Settings → ℕ → ℕ → Turn → Event
 leaving s k frame t = cond (leavesRing s k t) (Unlinks k) (cond (leavesFrames s k t) (Parts k frame) Other)

@@ -11,3 +11,5 @@ pub mod Coverage
 pub mod Chains
 pub mod Boundaries
 pub mod Faults
+pub mod Registers
+pub mod Ids

@@ -19,16 +19,13 @@ use Rattle.controller.specs.Readers.{isUncollected}
 use Rattle.controller.specs.declared.lent.Readings.{Readings}
 use Rattle.request.specs.Submit.{rangesGood}
 use Rattle.request.specs.declared.judge.TransferRequest.{TransferRequest}
-use Rattle.common.specs.declared.reads.NextRead.the-variants as N
 use Rattle.ehci.specs.declared.call.Call.{Call}
 use Rattle.ehci.specs.declared.call.Call.the-variants.{StartBringUp, BringUpStep, AllocateAddress, OpenEndpoint, Close, SetAddress, SetPacketSize, Submit, Writeback, Cancel, Collect, Acknowledge, Drain, Rearm, Enable, Disable}
 use Rattle.ehci.specs.declared.reply.Answered.{Answered}
-use Rattle.ehci.specs.declared.reply.Answered.the-variants.{Done, Pending, Cancelled, Failed, Refused}
-use Rattle.ehci.specs.declared.reply.Given.the-variants as G
-use Rattle.ehci.specs.Replies.{answeredNumber}
+use Rattle.ehci.specs.Replies.{answeredNumber, answeredValues}
 use Rattle.promises.specs.Runs.{Always, History, Machine, Turn, World}
 use Rattle.promises.specs.Walks.{isIn}
-use Rattle.promises.specs.Events.{isDone}
+use Rattle.promises.specs.Events.{firstIn, isDone}
 use Rattle.promises.specs.Uses.{needs, uses}
 
 -- ---- what a turn does to them
@@ -44,36 +41,17 @@ pub data Change : Type 0 where
 
 -- an endpoint that is opened is answered with its slot
 abbrev pub opensBy : EndpointType → Answered → Change
-opensBy kind (Done G.Nothing) = Same
-opensBy kind (Done (G.Slot k)) = OpensSlot k kind
-opensBy kind (Done (G.Address a)) = Same
-opensBy kind (Done (G.Id id)) = Same
-opensBy kind (Done (G.Length n)) = Same
-opensBy kind (Done G.No) = Same
-opensBy kind (Done G.Yes) = Same
-opensBy kind (Done (G.Event e)) = Same
-opensBy kind (Done (G.Next read wait)) = Same
-opensBy kind Pending = Same
-opensBy kind Cancelled = Same
-opensBy kind (Failed token) = Same
-opensBy kind (Refused r) = Same
+opensBy kind a = cond (isDone a) (OpensSlot (firstIn (answeredValues a)) kind) Same
+
+-- a step's values are the milliseconds to wait and, before the end, the register to read next
+abbrev pub runsBy : List ℕ → Change
+runsBy [] = Same
+runsBy (wait ∷ []) = Running
+runsBy (wait ∷ register ∷ vs) = Halted
 
 -- "Bring-up (not running till its end)": a step that leaves nothing to read is its end; "7 leaves the controller not running"
 abbrev pub stepsBy : Answered → Change
-stepsBy (Done G.Nothing) = Same
-stepsBy (Done (G.Slot k)) = Same
-stepsBy (Done (G.Address a)) = Same
-stepsBy (Done (G.Id id)) = Same
-stepsBy (Done (G.Length n)) = Same
-stepsBy (Done G.No) = Same
-stepsBy (Done G.Yes) = Same
-stepsBy (Done (G.Event e)) = Same
-stepsBy (Done (G.Next N.Nothing wait)) = Running
-stepsBy (Done (G.Next (N.Register offset) wait)) = Halted
-stepsBy Pending = Same
-stepsBy Cancelled = Same
-stepsBy (Failed token) = Same
-stepsBy (Refused r) = cond (eqb (answeredNumber (Refused r)) 7) Halted Same
+stepsBy a = cond (isDone a) (runsBy (answeredValues a)) (cond (eqb (answeredNumber a) 7) Halted Same)
 
 -- one line a call
 abbrev pub changeBy : Call → Answered → Change

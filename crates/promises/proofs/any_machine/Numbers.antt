@@ -1,5 +1,5 @@
 -- The boundary by numbers, from its picture.
-use Prim.Native.Nat.{ℕ, _+_, _≤_, _<_}
+use Prim.Native.Nat.{ℕ, _≤_, _<_}
 use mathlib.Core.Bool.{Bool, true, false, cond, true≢false, false≢true, _&&_}
 use mathlib.Core.List.{List, [], _∷_, _++_, append-assoc}
 use mathlib.Core.Path.{_≡_, refl, sym, ap, subst, _∙_}
@@ -15,10 +15,9 @@ use Rattle.controller.specs.declared.lent.Readings.{Readings}
 use Rattle.ehci.specs.declared.call.Call.{Call}
 use Rattle.ehci.specs.declared.call.Call.the-variants.{StartBringUp, BringUpStep, AllocateAddress, OpenEndpoint, Close, SetAddress, SetPacketSize, Submit, Writeback, Cancel, Collect, Acknowledge, Drain, Rearm, Enable, Disable}
 use Rattle.ehci.specs.declared.reply.Answered.{Answered}
-use Rattle.ehci.specs.declared.reply.Answered.the-variants.{Done, Pending, Cancelled, Failed, Refused}
-use Rattle.ehci.specs.declared.reply.Given.the-variants as G
+use Rattle.ehci.specs.Replies.{answeredValues}
 use Rattle.promises.specs.Runs.{History, Machine, Turn, World, historyOf, worldOf}
-use Rattle.promises.specs.Events.{Event, Other, Reads, Drains, Unlinks, Parts, Collects, happens, isCollected, isDone, leaving, leavesFrames, leavesRing, submitsBy}
+use Rattle.promises.specs.Events.{Event, Other, Reads, Drains, Submits, Unlinks, Parts, Collects, firstIn, happens, isCollected, isDone, leaving, leavesFrames, leavesRing, submitsBy}
 use Rattle.promises.specs.Bells.{Boundary, collects, isCollectsOf, kindAt, none, reads, unlinksOf}
 use Rattle.promises.specs.Boundaries.{At, BoundaryKept, BoundaryNumbered, RungAndAnswered, past, turn}
 
@@ -78,19 +77,7 @@ if-none p true x y o e = o
 if-none p false x y o e = e
 
 no-collection : (k j : ℕ) (r : TransferRequest) (a : Answered) → isCollectsOf k (submitsBy j r a) ≡ false
-no-collection k j r (Done G.Nothing) = refl
-no-collection k j r (Done (G.Slot i)) = refl
-no-collection k j r (Done (G.Address a)) = refl
-no-collection k j r (Done (G.Id id)) = refl
-no-collection k j r (Done (G.Length n)) = refl
-no-collection k j r (Done G.No) = refl
-no-collection k j r (Done G.Yes) = refl
-no-collection k j r (Done (G.Event e)) = refl
-no-collection k j r (Done (G.Next read wait)) = refl
-no-collection k j r Pending = refl
-no-collection k j r Cancelled = refl
-no-collection k j r (Failed token) = refl
-no-collection k j r (Refused x) = refl
+no-collection k j r a = if-none (isCollectsOf k) (isDone a) (Submits j (firstIn (answeredValues a)) r) Other refl refl
 
 -- a turn that collects k is a collect of k that is answered 0, 10 or 11
 module _ (s : Settings) (k : ℕ) (t : Turn) where

@@ -13,7 +13,7 @@ use Rattle.ehci.specs.declared.call.Call.{Call}
 use Rattle.promises.specs.Runs.{History, Machine, Turn, World, historyOf}
 use Rattle.promises.specs.Events.{Event, Other, Reads, Drains, Submits, Unlinks, Parts, Collects, event, rings}
 use Rattle.promises.specs.Bells.{Answered, Bell, Quiet, Rung, asked, bell, counted, drains, isAnswered, isDrains, isReads, isUnlinks, isUnlinksOf, isUp, next, none, number, reads, renews, someTurn, unlinking, unlinks, unlinksOf}
-use Rattle.promises.specs.Boundaries.{Once, OnePasses, OnlyAnswered, Passes, PassesExactly, UpExactly, past, turn}
+use Rattle.promises.specs.Boundaries.{OneCount, OnePasses, OnlyAnswered, Passes, PassesExactly, UpExactly, past, turn}
 
 -- ---- of any history
 not-both : (x : Event) → (isReads x && isDrains x) ≡ false
@@ -95,7 +95,10 @@ module _ (s : Settings) (ring : Turn) (past : History) (rung : rings ring ≡ tr
       go false true e Answered x i = omega arith
       go false false e b x i = omega arith
 
-pub once : (s : Settings) → Once s
+-- from a ring to the next, the next ring's turn t included, at most one advance is counted, and only if an acknowledgment between them read
+-- the advance bit
+pub once : (s : Settings) (t : Turn) (stretch : History) (ring : Turn) (past : History) → rings ring ≡ true → none rings stretch
+    → counted s (t ∷ stretch ++ ring ∷ past) ≤ counted s (ring ∷ past) + flagNumber (someTurn (reads s) stretch)
 unfolding counted
 once s t stretch ring past rung q = go (drains s t) (bell s (stretch ++ ring ∷ past)) (ring-budget s ring past rung stretch q .1)
   where
@@ -103,6 +106,34 @@ once s t stretch ring past rung q = go (drains s t) (bell s (stretch ++ ring ∷
         → flagNumber (d && isAnswered b) + counted s (stretch ++ ring ∷ past) ≤ counted s (ring ∷ past) + flagNumber (someTurn (reads s) stretch)
     go true b i = omega arith
     go false b i = omega arith
+
+-- and before the first ring none
+pub none-yet : (s : Settings) (h : History) → none rings h → (bell s h ≡ Quiet) × (counted s h ≡ 0)
+unfolding bell counted
+none-yet s [] q = (refl, refl)
+none-yet s (t ∷ h) q =
+    let before = none-yet s h (q .1) in
+    rw (q .0, before .0) (go (reads s t) (drains s t), omega (arith, before .1, flat (drains s t)))
+  where
+    go : (r d : Bool) → next false r d Quiet ≡ Quiet
+    go true d = refl
+    go false true = refl
+    go false false = refl
+
+    flat : (d : Bool) → flagNumber (d && false) ≡ 0
+    flat true = refl
+    flat false = refl
+
+-- the number of an unlink is 1 or more
+pub numbered : (s : Settings) (k : ℕ) (h : History) → unlinking s k h ≡ true → 1 ≤ number s k h
+unfolding unlinking number
+numbered s k [] e = absurd (false≢true e)
+numbered s k (t ∷ h) e = go (unlinksOf s k t) (renews s k t) e (numbered s k h)
+  where
+    go : (a b : Bool) → cond a true (cond b false (unlinking s k h)) ≡ true → (unlinking s k h ≡ true → 1 ≤ number s k h) → 1 ≤ cond a (asked s h + 1) (number s k h)
+    go true b e rec = omega arith
+    go false true e rec = absurd (false≢true e)
+    go false false e rec = rec e
 
 -- an unlink counts no advance
 pub none-counted : (x : Event) → isUnlinks x ≡ true → (b : Bool) → flagNumber (isDrains x && b) ≡ 0
@@ -265,3 +296,15 @@ module _ (m : Machine) (s : Settings) (w : World) (exact : PassesExactly m s w) 
       go : (b : Bool) → 1 ≤ flagNumber b → b ≡ true
       go true l = refl
       go false l = absurd (omega arith)
+
+  pub one-count : OneCount m s w
+  one-count =
+      record {
+        none-unrung = λ cs k q done.
+            let e = exact cs k .0 done in
+            omega (arith, e .1, none-yet s (hist cs) q .1, numbered s k (hist cs) (e .0));
+        one-answered = λ cs ds r c j k rung q j-not k-not j-done k-done. (
+          one-passes (r ∷ cs) ds c j k q j-not k-not j-done k-done,
+          answered-only cs ds r c k rung q k-not k-done,
+        );
+      }

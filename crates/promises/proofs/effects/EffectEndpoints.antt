@@ -26,6 +26,7 @@ use Rattle.ehci.specs.Decides.{addressDecided, changeCame, closeDecided, openCa
 use Rattle.ehci.specs.Door.{carriedOut}
 use Rattle.ehci.specs.Replies.{changedReply, replied}
 use Rattle.promises.specs.Runs.{World, core}
+use Rattle.promises.proofs.effects.RefusalNumbers.{undone}
 use Rattle.promises.proofs.effects.Effects.{Effect, closes, opens, rewrites}
 use Rattle.promises.proofs.effects.EffectDoor.{refused-still, rows-kept, through}
 
@@ -62,7 +63,7 @@ module _ (w : World) where
       through w (OpenEndpoint x) (refused-still w (OpenEndpoint x) InvalidParameter refl refl)
       (open-by s n hs f u (x .kind) (x .address) (x .number) (x .packet)
       (λ o. Effect w (OpenEndpoint x) (carriedOut (withFrames (openCame o) (w .rows .frames) (w .rows .setups)) (w .rows .pool)))
-      (λ r. refused-still w (OpenEndpoint x) r refl refl)
+      (λ r. refused-still w (OpenEndpoint x) r refl (rw (undone r)))
       (λ k from. opens
       (record {
         k = k;
@@ -91,7 +92,7 @@ module _ (w : World) where
   close-effect k =
       through w (Close k) (refused-still w (Close k) InvalidParameter refl refl)
       (change-by s n hs f u k true (withEndpoint s k Closed) (withHead hs k (replicate 17 0)) (Changed (Close k))
-      (λ r. refused-still w (Close k) r refl refl)
+      (λ r. refused-still w (Close k) r refl (rw (undone r)))
       (λ from g. closes
       (record {
         k = k;

@@ -1,5 +1,5 @@
 -- Acknowledge, drain, rearm, enable, disable.
-use Prim.Native.Nat.{ℕ, _≤_, _<_, min}
+use Prim.Native.Nat.{ℕ, _≤_, min}
 use mathlib.Core.Bool.{Bool, true, false, not, cond, _&&_}
 use mathlib.Core.List.{[], _∷_}
 use mathlib.Core.Logic.{inl, inr}
@@ -32,6 +32,7 @@ use Rattle.ehci.specs.Replies.{drainedAnswer, replied, settledReply}
 use Rattle.promises.specs.Runs.{World, core}
 use Rattle.promises.specs.Events.{Drains, Other, Reads, isDone}
 use Rattle.schedule.specs.Bell.{someRing}
+use Rattle.promises.proofs.effects.RefusalNumbers.{undone}
 use Rattle.promises.proofs.effects.Effects.{Effect, Sides, counts, hears, joins, passes}
 use Rattle.promises.proofs.effects.EffectDoor.{idles-on, refused-still, rows-kept, sidesOf, still-of, through}
 use Rattle.promises.proofs.effects.EffectRanges.{counted-keeps, interrupt-keeps, joined-none, note-keeps, only-falls, only-joins, only-masked, only-none}
@@ -138,7 +139,7 @@ module _ (w : World) (x : InterruptReadings) where
   acknowledge-effect =
       through w (Acknowledge x) (refused-still w (Acknowledge x) InvalidParameter refl refl)
       (settled-by (first ((not (inRanges s), InvalidParameter) ∷ [])) _ _ Acked
-      (λ r e. refused-still w (Acknowledge x) r refl refl)
+      (λ r e. refused-still w (Acknowledge x) r (rw (undone r)) refl)
       (λ e. heard (eqb p 0) refl (eqb (bit (x .status) 5) 1) refl))
 
 -- ---- drain
@@ -241,7 +242,7 @@ module _ (w : World) (command : ℕ) where
   drain-effect =
       through w (Drain command) (refused-still w (Drain command) InvalidParameter refl refl)
       (settled-by (first ((not (inRanges d), InvalidParameter) ∷ [])) _ _ Drained
-      (λ r e. refused-still w (Drain command) r refl refl)
+      (λ r e. refused-still w (Drain command) r (rw (undone r)) refl)
       (λ e. drained (eqb (d .pending) 0) refl))
 
 -- ---- rearm, enable, disable: only what is masked and the flag

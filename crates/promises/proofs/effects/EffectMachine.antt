@@ -40,6 +40,7 @@ use Rattle.ehci.specs.declared.reply.Answered.the-variants.{Refused}
 use Rattle.ehci.specs.Replies.{broughtAnswer, broughtReply, replied}
 use Rattle.promises.specs.Runs.{World, core}
 use Rattle.promises.specs.Opened.{stepsBy}
+use Rattle.promises.proofs.effects.RefusalNumbers.{undone}
 use Rattle.promises.proofs.effects.Effects.{Effect, Idles, Sides, Switches, besides}
 use Rattle.promises.proofs.effects.EffectDoor.{idles-on, leaves, refused-still, still-of, through}
 
@@ -124,7 +125,7 @@ abbrev reasonOf : Verdict → Refusal
 reasonOf passed = InvalidParameter
 reasonOf (refused r) = r
 
-step-refuses : (a b : Bool) (r : Refusal) → first ((a, InvalidParameter) ∷ (b, InvalidParameter) ∷ []) ≡ refused r → InvalidParameter ≡ r
+pub step-refuses : (a b : Bool) (r : Refusal) → first ((a, InvalidParameter) ∷ (b, InvalidParameter) ∷ []) ≡ refused r → InvalidParameter ≡ r
 step-refuses true b r e = ap reasonOf e
 step-refuses false true r e = ap reasonOf e
 step-refuses false false r e = ap reasonOf e
@@ -143,7 +144,7 @@ module _ (w : World) where
   start-effect =
       through w StartBringUp (refused-still w StartBringUp InvalidParameter refl refl)
       (settled-by (first ((not (inRanges s), InvalidParameter) ∷ (anyUncollected 0 32 s, QueueFull) ∷ [])) _ _ Started
-      (λ r e keeps. refused-still w StartBringUp r refl refl)
+      (λ r e keeps. refused-still w StartBringUp r refl (rw (undone r)))
       (λ e keeps. still-of w StartBringUp _ _ _ (brought s 0 1 0 0) refl refl refl keeps refl
       (λ i. start-idles s (let-pass (anyUncollected 0 32 s) QueueFull passed
       (let-pass (not (inRanges s)) InvalidParameter (first ((anyUncollected 0 32 s, QueueFull) ∷ [])) e .1) .0)) refl)

@@ -38,6 +38,7 @@ use Rattle.ehci.specs.Replies.{collectedAnswer, replied}
 use Rattle.promises.specs.Runs.{Rows, World, core}
 use Rattle.promises.specs.Events.{Collects, Event, Other, Parts, Unlinks, isCollected}
 use Rattle.promises.specs.Walks.{frameWalk, isIn, ringWalk}
+use Rattle.promises.proofs.effects.RefusalNumbers.{uncollected, undone}
 use Rattle.promises.proofs.effects.Effects.{Effect, accepts, collects, marks, unlinks, writes-back}
 use Rattle.promises.proofs.effects.EffectDoor.{leaves, refused-still, rows-kept, seen, sidesOf, stays-in, still-of, through}
 
@@ -87,7 +88,7 @@ module _ (w : World) where
       (settled-by
       (first ((unfit, InvalidParameter) ∷ submitChecks s k t)) _ _
       (λ (o : Outcome). Effect w (Submit k t rd) (carriedOut (submitCame o) (w .rows .pool)))
-      (λ r e. refused-still w (Submit k t rd) r refl refl)
+      (λ r e. refused-still w (Submit k t rd) r (rw (undone r)) refl)
       (λ e. accepts
       (record {
         k = k;
@@ -175,7 +176,8 @@ module _ (w : World) where
     Collecting g = Effect w (Collect k id rd) (carriedOut (withSetups (collectCame g) us) (w .rows .pool))
 
     collect-refused : (x : Refusal) → Effect w (Collect k id rd) (leaves w (Collect k id rd) s (Refused x) noWrites)
-    collect-refused x = refused-still w (Collect k id rd) x (none-leaves (s .settings) k (rd .frame) _ _ refl refl) refl
+    collect-refused x =
+        refused-still w (Collect k id rd) x (rw (uncollected x) (none-leaves (s .settings) k (rd .frame) _ _ refl refl)) refl
 
     collect-unlinks : (p : Pipe) (r : Request) → endpointAt s k ≡ Linked p r → s .unanswered < 32 → Collecting (pendingLeft (unlinkOf s hs fs rd k p r))
     unfolding waitingOf replied

@@ -33,6 +33,7 @@ use Rattle.promises.specs.Runs.{World, core}
 use Rattle.promises.specs.Events.{isCollected}
 use Rattle.promises.proofs.effects.EffectDoor.{leaves, seen}
 use Rattle.promises.proofs.effects.EffectRequests.{outcome-collected}
+use Rattle.promises.proofs.effects.RefusalNumbers.{uncollected}
 use Rattle.promises.proofs.invariants.Sound.{Sound}
 
 -- what holds of a refusal at the door, and of what the call's crate says, holds of the call
@@ -74,7 +75,7 @@ module _ (w : World) (k id : ℕ) (rd : Readings) where
   collect-found =
       by-door w (Collect k id rd) Tells (λ e. absurd (false≢true e))
       (collect-split s (length (w .rows .pool)) (w .rows .heads) (w .rows .frames) (length (w .rows .setups)) rd k id (seen w (Collect k id rd)) Gathers
-      (λ x e. absurd (false≢true e)) (λ e. absurd (false≢true e))
+      (λ x e. absurd (false≢true (sym (uncollected x) ∙ e))) (λ e. absurd (false≢true e))
       (λ p r ok e below same done. unlink-none p r)
       (λ p r u ok e same passed q. record { p = p; r = r; u = u; unlinking = e; same = same; passed = passed; answer-is = refl }))
 

@@ -1,5 +1,5 @@
 -- A cancelled request is collected as 10; a linked slot finds room; and what the state says is what the history says.
-use Prim.Native.Nat.{ℕ, _+_, _-_, _<_}
+use Prim.Native.Nat.{ℕ, _+_, _<_}
 use mathlib.Core.Bool.{Bool, true, false, cond, true≢false, false≢true, _&&_}
 use mathlib.Core.List.{List, [], _∷_}
 use mathlib.Core.Path.{_≡_, refl, sym, ap, subst, _∙_}
@@ -27,15 +27,15 @@ use Rattle.collection.specs.Unlinks.{Left, unlinkOf, waitingOf}
 use Rattle.collection.proofs.Splits.{cancel-split, unlink-split}
 use Rattle.ehci.specs.declared.call.Call.{Call}
 use Rattle.ehci.specs.declared.call.Call.the-variants.{StartBringUp, BringUpStep, AllocateAddress, OpenEndpoint, Close, SetAddress, SetPacketSize, Submit, Writeback, Cancel, Collect, Acknowledge, Drain, Rearm, Enable, Disable}
-use Rattle.ehci.specs.declared.reply.Answered.the-variants.{Cancelled}
 use Rattle.ehci.specs.Decides.{cancelCame, cancelDecided, withSetups}
 use Rattle.ehci.specs.Door.{Applied, carriedOut}
-use Rattle.ehci.specs.Replies.{collectedAnswer, replied}
+use Rattle.ehci.specs.Replies.{answeredNumber, collectedAnswer, replied}
 use Rattle.promises.specs.Runs.{History, Opening, Turn, World, core, historyOf, turnOf, worldOf}
 use Rattle.promises.specs.Events.{isDone}
 use Rattle.promises.specs.Bells.{cancelled, cancelsBy, linked, renews}
 use Rattle.promises.specs.Boundaries.{CancelledAnswered, CancelledCollects, EveryRun, StateSays, Uncrowded}
 use Rattle.promises.proofs.effects.EffectOf.{effect}
+use Rattle.promises.proofs.effects.RefusalNumbers.{undone}
 use Rattle.promises.proofs.theorems.ChainCancels.{Roomy}
 use Rattle.promises.proofs.invariants.Sound.{Sound}
 use Rattle.promises.proofs.invariants.BellWaiting.{fallen, waitsFor}
@@ -102,7 +102,7 @@ module _ (w : World) (k id : ℕ) (rd : Readings) (wide : Wide (w .state)) where
   cancel-marks =
       by-door w (Cancel k id rd) Marks (λ e. absurd (false≢true e))
       (cancel-split s (length (w .rows .pool)) (w .rows .heads) (w .rows .frames) (length (w .rows .setups)) rd k id Cancels
-      (λ x e. absurd (false≢true e))
+      (λ x e. absurd (false≢true (sym (undone x) ∙ e)))
       (λ p r ok e few same. unlink-marks p r (below (Linked p r) e refl))
       (λ p r u ok e same q. mark-at s k p (marked r) u wide (below (Unlinking p r u) e refl)))
 
@@ -207,7 +207,7 @@ module _ (s : Settings) (h : History) (e : Ehci) (g : StateInv s h e) (k : ℕ) 
 
 -- ---- of a run
 
-outcome-marked : (b : Bool) (v : _) → b ≡ true → collectedAnswer (outcomeOf b v) ≡ Cancelled
+outcome-marked : (b : Bool) (v : _) → b ≡ true → answeredNumber (collectedAnswer (outcomeOf b v)) ≡ 10
 unfolding outcomeOf
 outcome-marked true v e = refl
 outcome-marked false v e = absurd (false≢true e)
@@ -223,7 +223,7 @@ marks-reached s w o (c ∷ cs) k e =
 pub cancelled-collects : EveryRun CancelledCollects core
 cancelled-collects s w o cs k id rd e done =
     let x = collect-found (worldOf core w cs) k id rd done in
-    x .answer-is ∙ outcome-marked (x .r .cancelled) _ (sym (ap isMarked (x .unlinking)) ∙ marks-reached s w o cs k e)
+    ap answeredNumber (x .answer-is) ∙ outcome-marked (x .r .cancelled) _ (sym (ap isMarked (x .unlinking)) ∙ marks-reached s w o cs k e)
 
 pub cancelled-answered : EveryRun CancelledAnswered core
 cancelled-answered s w o = answered-cancelled core s w (exact s w o) (cancelled-collects s w o)

@@ -1,5 +1,5 @@
 -- The statements of specs/Boundaries.antt, of `core`.
-use Prim.Native.Nat.{ℕ, _+_, _-_, _≤_}
+use Prim.Native.Nat.{ℕ, _+_, _≤_}
 use mathlib.Core.Bool.{Bool, true, false, true≢false, false≢true}
 use mathlib.Core.List.{List, [], _∷_}
 use mathlib.Core.Logic.{_↔_}
@@ -25,7 +25,7 @@ use Rattle.ehci.specs.declared.call.Call.the-variants.{Collect}
 use Rattle.promises.specs.Runs.{History, Opening, Turn, World, core, historyOf, turnOf, worldOf}
 use Rattle.promises.specs.Events.{event, isCollected}
 use Rattle.promises.specs.Bells.{asked, bell, counted, isPartsOf, isSubmitsOf, isUnlinksOf, isUp, kindAt, linked, newestId, number, parted, parting, unlinking}
-use Rattle.promises.specs.Boundaries.{EveryRun, BoundaryKept, BoundaryNumbered, Exact, FramesKept, NineOn, OnePasses, OnlyAnswered, Orderly, PassesExactly, UpExactly, Waits}
+use Rattle.promises.specs.Boundaries.{EveryRun, BoundaryKept, BoundaryNumbered, Exact, FramesKept, NineOn, OneCount, OnePasses, OnlyAnswered, Orderly, PassesExactly, UpExactly, Waits}
 use Rattle.promises.proofs.effects.Effects.{Unlinked}
 use Rattle.promises.proofs.effects.EffectOf.{effect}
 use Rattle.promises.proofs.invariants.Reached.{opening-is, sound-opens}
@@ -43,7 +43,7 @@ use Rattle.promises.proofs.theorems.BoundaryCalls.{Found, collect-found
 use Rattle.promises.proofs.any_machine.BoundaryExact.{frames-kept, passes-exactly}
 use Rattle.promises.proofs.any_machine.Boundary.{boundary}
 use Rattle.promises.proofs.any_machine.Numbers.{by-numbers}
-use Rattle.promises.proofs.any_machine.Once.{answered-only, one-passes}
+use Rattle.promises.proofs.any_machine.Once.{answered-only, one-count, one-passes}
 use Rattle.promises.proofs.any_machine.Waits.{waits}
 
 -- after an opening
@@ -226,6 +226,9 @@ one-at-a-time s w o = one-passes core s w (by-number-alone s w o) (up-exactly s 
 
 pub only-answered : EveryRun OnlyAnswered core
 only-answered s w o = answered-only core s w (by-number-alone s w o) (up-exactly s w o)
+
+pub one-count-a-ring : EveryRun OneCount core
+one-count-a-ring s w o = one-count core s w (by-number-alone s w o) (up-exactly s w o)
 
 pub order-13 : EveryRun Waits core
 order-13 s w o = waits core s w (by-number-alone s w o) (up-exactly s w o) (orderly s w o)

@@ -4,7 +4,7 @@ use mathlib.Core.Path.{_≡_, refl, sym, ap, ap₂, subst, _∙_}
 use mathlib.Core.Bool.{Bool, true, false, cond}
 use mathlib.Core.List.{List, [], _∷_, map}
 use native.Mathlib.Omega.{arith}
-use borrow.Author.Tests.{leb-true}
+use borrow.Author.Tests.{eq-eqb, leb-true}
 use lib.Dec.{leb}
 use lib.ListN.{drop, getD, length}
 use Rattle.common.specs.declared.kinds.EndpointType.the-variants.{Control}
@@ -24,11 +24,9 @@ use Rattle.ehci.specs.declared.call.Call.the-variants.{Submit}
 use Rattle.ehci.specs.Door.{Applied}
 use Rattle.promises.specs.Runs.{History, Machine, Rows, Turn, World, rowsOf, turnOf}
 use Rattle.promises.specs.Coverage.{Covered, addressed, dataOf, recordsMet}
-use Rattle.common.specs.declared.answer.Refusal.the-variants.{InvalidParameter, SlotLimitReached, InvalidEndpoint, QueueFull, NotSupported, NoMemory, Timeout, NotReady}
 use Rattle.ehci.specs.declared.reply.Answered.{Answered}
-use Rattle.ehci.specs.declared.reply.Answered.the-variants.{Done, Pending, Cancelled, Failed, Refused}
-use Rattle.ehci.specs.Replies.{answeredNumber}
-use Rattle.promises.specs.Events.{Collects, Drains, Event, Other, Parts, Reads, Submits, Unlinks, event, idIn, leavesFrames, leavesRing, leaving, submitsBy}
+use Rattle.ehci.specs.Replies.{answeredNumber, answeredValues}
+use Rattle.promises.specs.Events.{Collects, Drains, Event, Other, Parts, Reads, Submits, Unlinks, event, firstIn, leavesFrames, leavesRing, leaving, submitsBy}
 use Rattle.promises.proofs.theorems.CoverBytes.{all-covered, recordsFrom}
 use Rattle.promises.proofs.effects.Effects.{Accepts, Effect, still, hears, joins, passes, counts, opens, closes, rewrites, accepts, writes-back, marks, unlinks, collects}
 use Rattle.promises.proofs.invariants.Sound.{Sound}
@@ -139,18 +137,7 @@ module _ (w : World) (c : Call) (a : Applied) (k id : ℕ) (t : TransferRequest)
 
 -- 0 accepts
 zero-accepts : (k : ℕ) (t : TransferRequest) (a : Answered) → answeredNumber a ≡ 0 → (id : ℕ) × (submitsBy k t a ≡ Submits k id t)
-zero-accepts k t (Done given) e = (idIn given, refl)
-zero-accepts k t Pending e = absurd (omega (arith, e))
-zero-accepts k t Cancelled e = absurd (omega (arith, e))
-zero-accepts k t (Failed token) e = absurd (omega (arith, e))
-zero-accepts k t (Refused InvalidParameter) e = absurd (omega (arith, e))
-zero-accepts k t (Refused SlotLimitReached) e = absurd (omega (arith, e))
-zero-accepts k t (Refused InvalidEndpoint) e = absurd (omega (arith, e))
-zero-accepts k t (Refused QueueFull) e = absurd (omega (arith, e))
-zero-accepts k t (Refused NotSupported) e = absurd (omega (arith, e))
-zero-accepts k t (Refused NoMemory) e = absurd (omega (arith, e))
-zero-accepts k t (Refused Timeout) e = absurd (omega (arith, e))
-zero-accepts k t (Refused NotReady) e = absurd (omega (arith, e))
+zero-accepts k t a e = (firstIn (answeredValues a), rw (eq-eqb (answeredNumber a) 0 e))
 
 pub covered-holds : (m : Machine) → ((w : World) (c : Call) → Effect w c (m w c)) → (s : Settings) (h : History) (w : World) → Sound s w → Covered m s h w
 covered-holds m effect s h w sound = subst (λ (z : Settings). Sound z w → Covered m z h w) (sound .settings-are) here sound

@@ -2,7 +2,7 @@
 use Prim.Native.Nat.{ℕ, _+_}
 use mathlib.Core.Bool.{Bool, true, false, not, _&&_, cond}
 use mathlib.Core.List.{List, [], _∷_, _++_}
-use mathlib.Core.Path.{_≡_, refl, sym, _∙_}
+use mathlib.Core.Path.{_≡_, refl, sym, ap, _∙_}
 use borrow.Author.Tests.{not-false}
 use lib.Dec.{eqb, ltb}
 use lib.ListN.{length}
@@ -18,7 +18,7 @@ use Rattle.pipe.specs.declared.endpoints.Request.{Request}
 use Rattle.pipe.specs.declared.endpoints.Endpoint.the-variants.{Closed, Idle, Linked, Unlinking}
 use Rattle.common.specs.Answers.{Check, Verdict, first, orElse, passed, refused, settle}
 use Rattle.common.specs.declared.answer.Refusal.{Refusal}
-use Rattle.common.specs.declared.answer.Refusal.the-variants.{InvalidParameter, SlotLimitReached, InvalidEndpoint, QueueFull, Timeout}
+use Rattle.common.specs.declared.answer.Refusal.the-variants.{InvalidParameter, SlotLimitReached, InvalidEndpoint, QueueFull, NotSupported, NoMemory, Timeout, NotReady}
 use Rattle.common.proofs.CheckLaws.{let-pass, settled-by, verdicts-apart}
 use Rattle.opening.specs.Opening.{rowsFit}
 use Rattle.controller.specs.Address.{allotOf}
@@ -42,12 +42,37 @@ use Rattle.ehci.specs.declared.call.Call.{Call}
 use Rattle.ehci.specs.declared.call.Call.the-variants.{StartBringUp, BringUpStep, AllocateAddress, OpenEndpoint, Close, SetAddress, SetPacketSize, Submit, Writeback, Cancel, Collect, Acknowledge, Drain, Rearm, Enable, Disable}
 use Rattle.ehci.specs.declared.call.EndpointFields.{EndpointFields}
 use Rattle.ehci.specs.declared.call.InterruptReadings.{InterruptReadings}
+use Rattle.ehci.specs.declared.reply.Answered.{Answered}
+use Rattle.ehci.specs.declared.reply.Answered.the-variants.{Done, Pending, Cancelled, Failed, Refused}
 use Rattle.ehci.specs.Decides.{acknowledgeDecided, acknowledgeReply, addressDecided, allotDecided, allotReply, callOf, cancelCame, cancelDecided, changeCame, closeDecided, collectCame, collectDecided, decideOf, drainDecided, drainReply, openCame, openDecided, packetDecided, submitCame, submitDecided, writebackDecided, writtenReply}
 use Rattle.ehci.specs.Door.{applyOf}
-use Rattle.ehci.specs.Replies.{broughtReply, changedReply, collectedAnswer, refusedReply, replied, settledReply, simply}
+use Rattle.ehci.specs.Replies.{answeredNumber, broughtReply, changedReply, collectedAnswer, refusedReply, replied, settledReply, simply}
 use Rattle.promises.specs.Runs.{World, core}
-use Rattle.promises.specs.Checks.{InOrder, checksOf, finished, furtherChecks, late, lost, lostAt, verdictIn}
+use Rattle.promises.specs.Opened.{verdictNumber}
+use Rattle.promises.specs.Checks.{InOrder, checksOf, finished, furtherChecks, late, lost, lostAt, refusalIn}
 use Rattle.promises.proofs.effects.EffectDoor.{seen}
+
+-- what an answer says of the checks, and that its number says it
+abbrev verdictIn : Answered → Verdict
+verdictIn (Done given) = passed
+verdictIn Pending = passed
+verdictIn Cancelled = passed
+verdictIn (Failed token) = passed
+verdictIn (Refused r) = refused r
+
+number-says : (a : Answered) → refusalIn (answeredNumber a) ≡ verdictNumber (verdictIn a)
+number-says (Done given) = refl
+number-says Pending = refl
+number-says Cancelled = refl
+number-says (Failed token) = refl
+number-says (Refused InvalidParameter) = refl
+number-says (Refused SlotLimitReached) = refl
+number-says (Refused InvalidEndpoint) = refl
+number-says (Refused QueueFull) = refl
+number-says (Refused NotSupported) = refl
+number-says (Refused NoMemory) = refl
+number-says (Refused Timeout) = refl
+number-says (Refused NotReady) = refl
 
 -- checks, then settle: the answer is the first that holds, and none where what is new says none
 settle-says : {A : Type 0} (says : A → Verdict) (v : Verdict) (old : Refusal → A) (new : A) → ((r : Refusal) → says (old r) ≡ refused r) → says new ≡ passed
@@ -313,20 +338,23 @@ module _ (w : World) where
   unfolding disableOf
   disable-order = by-ranges Disable (settled-says (not (inRanges s)) _ refl)
 
+in-turn : (w : World) (c : Call) → verdictIn (core w c .reply .answer) ≡ first (checksOf w c)
+in-turn w StartBringUp = start-order w
+in-turn w (BringUpStep v) = step-order w v
+in-turn w AllocateAddress = allot-order w
+in-turn w (OpenEndpoint x) = open-order w x
+in-turn w (Close k) = close-order w k
+in-turn w (SetAddress k a) = address-order w k a
+in-turn w (SetPacketSize k size) = size-order w k size
+in-turn w (Submit k t readings) = submit-order w k t readings
+in-turn w (Writeback place token) = writeback-order w place token
+in-turn w (Cancel k id readings) = cancel-order w k id readings
+in-turn w (Collect k id readings) = collect-order w k id readings
+in-turn w (Acknowledge x) = acknowledge-order w x
+in-turn w (Drain command) = drain-order w command
+in-turn w Rearm = rearm-order w
+in-turn w Enable = enable-order w
+in-turn w Disable = disable-order w
+
 pub in-order : InOrder core
-in-order w StartBringUp = start-order w
-in-order w (BringUpStep v) = step-order w v
-in-order w AllocateAddress = allot-order w
-in-order w (OpenEndpoint x) = open-order w x
-in-order w (Close k) = close-order w k
-in-order w (SetAddress k a) = address-order w k a
-in-order w (SetPacketSize k size) = size-order w k size
-in-order w (Submit k t readings) = submit-order w k t readings
-in-order w (Writeback place token) = writeback-order w place token
-in-order w (Cancel k id readings) = cancel-order w k id readings
-in-order w (Collect k id readings) = collect-order w k id readings
-in-order w (Acknowledge x) = acknowledge-order w x
-in-order w (Drain command) = drain-order w command
-in-order w Rearm = rearm-order w
-in-order w Enable = enable-order w
-in-order w Disable = disable-order w
+in-order w c = number-says (core w c .reply .answer) ∙ ap verdictNumber (in-turn w c)

@@ -33,7 +33,7 @@ Runs s h w = Idles (w .state)
 pub runs-opens : (s : Settings) (w : World) → Opening s w → Runs s [] w
 runs-opens s w o = subst (λ (x : World). Idles (x .state)) (sym (opening-is s w o .1)) (idles-opens s)
 
-runs : (s : Settings) (w : World) → Opening s w → (cs : List Call) → Sound s (worldOf core w cs) × Runs s (historyOf core w cs) (worldOf core w cs)
+pub runs : (s : Settings) (w : World) → Opening s w → (cs : List Call) → Sound s (worldOf core w cs) × Runs s (historyOf core w cs) (worldOf core w cs)
 runs = reached Runs runs-opens (λ s h w c a g i x. idles-keeps s w c a g i x)
 
 pub ranges-kept : RangesKept core

@@ -128,6 +128,14 @@ pub submitted-two : core (linkedOne (one 0 0 0 0 0 linked)) (submits 1 0x501000)
 unfolding applyOf decideOf asksOf rowsFit replied fillOf filledFrom noChain packed listOf submitDecided submitOf acceptsOf endpointAt decoded slotAt rangesGood bufferGood freeCount countZero needOf chunkCount settledSubmit acceptedWith takenFor takenPlaces placesFrom markOf stateWith afterId withOwner withEndpoint withSlot linkedRows startedOverlay attachedRing setupsWith recordAt bareAt chunkQtd newQtd tokenOf pageSlots withNext stateOf
 submitted-two = rw linked-good
 
+one-apart-good : inRanges (one 0 0 0 1 1 (waits 1)) ≡ true
+one-apart-good = good 14
+
+-- a second request beside one that is out of the ring
+pub submitted-beside : core (apartOne (one 0 0 0 1 1 (waits 1))) (submits 1 0x501000) ≡ replies (Done (G.Id 1)) (writesWith (reading 0x80031)) apartFirst
+unfolding applyOf decideOf asksOf rowsFit replied fillOf filledFrom noChain packed listOf submitDecided submitOf acceptsOf endpointAt decoded slotAt rangesGood bufferGood freeCount countZero needOf chunkCount settledSubmit acceptedWith takenFor takenPlaces placesFrom markOf stateWith afterId withOwner withEndpoint withSlot linkedRows startedOverlay attachedRing setupsWith recordAt bareAt chunkQtd newQtd tokenOf pageSlots withNext stateOf
+submitted-beside = rw one-apart-good
+
 two-linked-good : inRanges (two 0 0 0 0 0 linked linked) ≡ true
 two-linked-good = good 7
 

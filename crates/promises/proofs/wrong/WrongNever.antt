@@ -1,8 +1,9 @@
 -- A machine that never counts an advance: what 01 lets pass does not pass, so the exact rule is refuted.
-use Prim.Native.Nat.{_≤_}
-use mathlib.Core.Path.{_≡_, refl, sym, ap, _∙_}
+use Prim.Native.Nat.{_+_, _≤_}
+use mathlib.Core.Path.{_≡_, refl, sym, ap, subst, _∙_}
 use mathlib.Core.Bool.{true, false, false≢true}
-use mathlib.Core.List.{List, _∷_}
+use mathlib.Core.List.{List, [], _∷_}
+use lib.ListN.{take}
 use Rattle.register.specs.Bits.{anyOf, onlyBits, withBits, withoutBits}
 use Rattle.register.specs.Writes.{andThen, noWrites}
 use Rattle.descriptor.specs.Descriptors.{terminated}
@@ -37,12 +38,13 @@ use Rattle.slot.specs.Ranges.{boundaryGood, closedGood, idleGood, linkedGood, n
 use Rattle.common.specs.Kinds.{isInterrupt}
 use Rattle.promises.specs.Walks.{ringWalk, walkFrom}
 use Rattle.promises.specs.Events.{isCollected}
-use Rattle.promises.specs.Bells.{asked, bell, counted, kindAt, newestId, number, unlinking}
-use Rattle.promises.specs.Boundaries.{EveryRun, Exact}
+use Rattle.promises.specs.Bells.{asked, bell, collects, counted, kindAt, newestId, none, number, unlinking, unlinksOf}
+use Rattle.promises.specs.Boundaries.{EveryRun, Exact, Passes, Waits, turn}
 use Rattle.promises.proofs.invariants.Reached.{freshWorld}
 use Rattle.promises.proofs.wrong.WrongRuns.{acknowledges, linked, one, openedTwo, opening, reading, replies, small, stateOf, submits, waits}
 use Rattle.promises.proofs.wrong.WrongUp.{Plainly, isDrain, plain-rises, up-world, upCalls}
 use Rattle.promises.proofs.wrong.WrongCalls.{apartOne, linkedOne, submitted}
+use Rattle.promises.proofs.wrong.WrongBut.{not-passed}
 use Rattle.promises.proofs.wrong.WrongBells.{goes-on, is-told, noteBefore}
 
 -- no advance is ever counted
@@ -72,11 +74,11 @@ c3 = acknowledges 0x20 ∷ c2
 abbrev answered : List Call
 answered = Drain 0x80031 ∷ c3
 
-leaves : core (linkedOne (one 0 0 0 0 0 linked)) (Cancel 0 1 (reading 0x80031)) ≡ replies (Done G.Nothing) (andThen noWrites 0 (ringWord 0x80031)) (apartOne (one 0 0 0 1 1 (waits 1)))
+pub leaves : core (linkedOne (one 0 0 0 0 0 linked)) (Cancel 0 1 (reading 0x80031)) ≡ replies (Done G.Nothing) (andThen noWrites 0 (ringWord 0x80031)) (apartOne (one 0 0 0 1 1 (waits 1)))
 unfolding applyOf decideOf asksOf rowsFit replied fillOf filledFrom noChain packed listOf cancelDecided cancelOf acceptsOf endpointAt decoded slotAt unlinkOf waitingOf boundedOf unlinkedOf ringOf detachOf predecessorOf searchFrom precedesOne withEndpoint withSlot withBell stateOf
 leaves = rw (states-good .0)
 
-hears : core (apartOne (one 0 0 0 1 1 (waits 1))) (acknowledges 0x20) ≡ replies (Done G.Yes) (acknowledgeWrites 0x20 0x27 true true) (apartOne (one 0x20 0x20 1 1 1 (waits 1)))
+pub hears : core (apartOne (one 0 0 0 1 1 (waits 1))) (acknowledges 0x20) ≡ replies (Done G.Yes) (acknowledgeWrites 0x20 0x27 true true) (apartOne (one 0x20 0x20 1 1 1 (waits 1)))
 unfolding applyOf decideOf asksOf rowsFit replied fillOf filledFrom noChain packed listOf acknowledgeDecided acknowledgeOf onlyBits withBits anyOf acknowledgedState notedAfter withInterrupt withBell stateOf
 hears = rw (states-good .1)
 
@@ -142,3 +144,36 @@ never-exact exact =
     let pending : isCollected (never (worldOf never w answered) (Collect 0 1 (reading 0x80031)) .reply .answer) ≡ false
     = ap (λ (x : World). isCollected (never x (Collect 0 1 (reading 0x80031)) .reply .answer)) w4 ∙ ap (λ (a : Applied). isCollected (a .reply .answer)) waits-on in
     false≢true (sym pending ∙ done)
+
+-- ---- order 13: n + 1 advances are counted, and its request does not pass
+
+leaves-ring : unlinksOf small 0 t2 ≡ true
+unfolding ringWalk walkFrom
+leaves-ring = refl
+
+none-owed : asked small (t1 ∷ historyOf never w upCalls) ≡ counted small (t1 ∷ historyOf never w upCalls) + 0
+unfolding counted asked historyOf
+none-owed = refl
+
+none-counted : counted small (t1 ∷ historyOf never w upCalls) ≡ 0
+unfolding counted historyOf
+none-counted = refl
+
+begun : historyOf never w c1 ≡ t1 ∷ historyOf never w upCalls
+begun = is-told never w upCalls (submits 0 0x500000) openedTwo _ (up-world never (plain-rises never never-plainly)) submitted (historyOf never w upCalls) refl
+
+not-collectable : Passes never small w answered 0 → ⊥
+unfolding stateOf endpointAt decoded slotAt
+not-collectable p = not-passed (apartOne (one 0 0x20 0 1 1 (waits 1))) 0 (p .1) (p .2) refl (subst (λ (x : World). isCollected (never x (Collect 0 (p .1) (p .2)) .reply .answer) ≡ true) w4 (p .3))
+
+pub never-waits : EveryRun Waits never → ⊥
+never-waits waits =
+    let c : Call = Cancel 0 1 (reading 0x80031) in
+    let goes : unlinksOf small 0 (turn never small w c1 c) ≡ true
+    = ap (λ (x : World). unlinksOf small 0 (turnOf (x .rows) c (never x c))) w1
+    ∙ ap (λ (a : Applied). unlinksOf small 0 (turnOf (linkedOne (one 0 0 0 0 0 linked) .rows) c a)) leaves ∙ leaves-ring in
+    let owed : asked small (historyOf never w c1) ≡ counted small (historyOf never w c1) + 0 = subst (λ (h : History). asked small h ≡ counted small h + 0) (sym begun) none-owed in
+    let uncollected : none (collects small 0) (take 2 (historyOf never w answered)) = subst (λ (h : History). none (collects small 0) (take 2 h)) (sym is-so) (refl, (refl, tt)) in
+    not-collectable
+    (waits small w opening c1 (Drain 0x80031 ∷ acknowledges 0x20 ∷ []) c 0 0 goes owed .1 uncollected .1
+    (omega (arith, ap (counted small) begun ∙ none-counted, ap (counted small) is-so ∙ by-history .4)))

@@ -1,10 +1,12 @@
 -- A note that stays where a port change shares the drain is counted again: of `twice` the boundary is not kept, and a place is given too soon.
-use mathlib.Core.Path.{_≡_, refl, sym, ap, _∙_}
-use mathlib.Core.Bool.{true, false, true≢false}
-use mathlib.Core.List.{List, _∷_}
+use mathlib.Core.Path.{_≡_, refl, sym, ap, subst, _∙_}
+use mathlib.Core.Bool.{true, false, true≢false, false≢true}
+use mathlib.Core.List.{List, [], _∷_}
 use Rattle.register.specs.Bits.{anyOf, withBits}
 use Rattle.register.specs.Writes.{andThen, noWrites}
+use Rattle.state.specs.Slots.{slotAt}
 use Rattle.state.specs.State.{withBell}
+use Rattle.pipe.specs.Endpoints.{decoded, endpointAt}
 use Rattle.common.specs.Kinds.{isInterrupt}
 use Rattle.schedule.specs.Bell.{ringWord}
 use Rattle.request.specs.Submit.{writesWith}
@@ -17,14 +19,15 @@ use Rattle.ehci.specs.declared.reply.Event.the-variants as E
 use Rattle.ehci.specs.Door.{Applied}
 use Rattle.promises.specs.Runs.{History, Turn, World, historyOf, rowsOf, turnOf, worldOf}
 use Rattle.promises.specs.Walks.{chainWalk, isIn, ringWalk, walkFrom}
-use Rattle.promises.specs.Events.{Submits, event, isCollected}
-use Rattle.promises.specs.Bells.{kindAt}
-use Rattle.promises.specs.Boundaries.{BoundaryKept, EveryRun}
+use Rattle.promises.specs.Events.{Submits, event, isCollected, rings}
+use Rattle.promises.specs.Bells.{kindAt, unlinking}
+use Rattle.promises.specs.Boundaries.{BoundaryKept, EveryRun, OneCount, OnlyAnswered, Passes, turn}
 use Rattle.promises.specs.Faults.{NeverGiven, holds, mayRead}
 use Rattle.promises.proofs.invariants.Reached.{freshWorld}
 use Rattle.promises.proofs.wrong.WrongRuns.{acknowledges, linked, one, openedTwo, opening, reading, replies, request, small, stateOf, submits, two, waits}
 use Rattle.promises.proofs.wrong.WrongUp.{plain-rises, up-world, upCalls}
 use Rattle.promises.proofs.wrong.WrongCalls.{againSecond, apartFirst, apartTwo, collected-second, drained-first, drained-second, freeSecond, heard-two, linkedOne, linkedTwo, submitted, submitted-second, submitted-two, unlinked-first, unlinked-second}
+use Rattle.promises.proofs.wrong.WrongBut.{not-passed}
 use Rattle.promises.proofs.wrong.WrongBells.{boundary?, found, goes-on, is-told, noteAfter, twice, twice-plainly}
 
 abbrev w : World
@@ -176,3 +179,37 @@ twice-gives never =
     let met : isIn 1 (chainWalk small (rowsOf (twice (now after) again)) 1) ≡ true
     = ap (λ (x : World). isIn 1 (chainWalk small (rowsOf (twice x again)) 1)) w8 ∙ ap (λ (a : Applied). isIn 1 (chainWalk small (rowsOf a) 1)) submitted-second ∙ given in
     true≢false (sym (ap (mayRead small 1) is-so-after ∙ still-read) ∙ never small w opening after again 1 2 (request 0x502000) 1 accepted met)
+
+-- ---- counted again with no acknowledgment since the ring
+
+out-of-ring : unlinking small 1 told ≡ true
+unfolding unlinking ringWalk walkFrom
+out-of-ring = refl
+
+rings-again : rings t6 ≡ true
+unfolding andThen noWrites ringWord withBits
+rings-again = refl
+
+-- the second request does not pass after the drain that rings, and passes after the next
+not-before : Passes twice small w c6 1 → ⊥
+unfolding stateOf endpointAt decoded slotAt
+not-before p = not-passed (apartTwo (two 0x20 0x24 1 1 1 (waits 0) (waits 1))) 1 (p .1) (p .2) refl (subst (λ (x : World). isCollected (twice x (Collect 1 (p .1) (p .2)) .reply .answer) ≡ true) w6 (p .3))
+
+passes-after : Passes twice small w shared 1
+passes-after = (
+  ap (unlinking small 1) is-so ∙ out-of-ring,
+  1,
+  reading 0x80031,
+  ap (λ (x : World). isCollected (twice x (Collect 1 1 (reading 0x80031)) .reply .answer)) w7 ∙ ap (λ (a : Applied). isCollected (a .reply .answer)) collected-second,
+)
+
+rang : rings (turn twice small w c5 (Drain 0x80031)) ≡ true
+rang =
+    ap (λ (x : World). rings (turnOf (x .rows) (Drain 0x80031) (twice x (Drain 0x80031)))) w5
+    ∙ ap (λ (a : Applied). rings (turnOf (apartTwo (two 0x24 0x24 1 1 2 (waits 1) (waits 2)) .rows) (Drain 0x80031) a)) drains-first ∙ rings-again
+
+pub twice-unanswered : EveryRun OnlyAnswered twice → ⊥
+twice-unanswered only = false≢true (only small w opening c5 [] (Drain 0x80031) (Drain 0x80031) 1 rang tt not-before passes-after)
+
+pub twice-once : EveryRun OneCount twice → ⊥
+twice-once one = false≢true (one small w opening .one-answered c5 [] (Drain 0x80031) (Drain 0x80031) 1 1 rang tt not-before not-before passes-after passes-after .1)

@@ -1,0 +1,235 @@
+-- Machines that do not ring for an unlink, that accept a second request, or that let two requests pass for one count: what is said of unlinks, events
+-- and rings refuted.
+use Prim.Native.Nat.{ℕ}
+use mathlib.Core.Bool.{true, false, true≢false}
+use mathlib.Core.List.{List, [], _∷_}
+use mathlib.Core.Path.{_≡_, refl, sym, ap, subst, _∙_}
+use native.Mathlib.Omega.{arith}
+use lib.Dec.{ltb}
+use lib.ListN.{replicate}
+use Rattle.register.specs.Bits.{withBits, withoutBits}
+use Rattle.register.specs.Writes.{andThen, noWrites, writeOf}
+use Rattle.state.specs.Slots.{slotAt}
+use Rattle.state.specs.State.{withBoundaries}
+use Rattle.state.specs.Ranges.{inRanges}
+use Rattle.pipe.specs.Endpoints.{decoded, endpointAt}
+use Rattle.opening.specs.Opening.{rowsFit}
+use Rattle.controller.specs.Lent.{acceptsOf}
+use Rattle.collection.specs.Answers.{outcomeOf}
+use Rattle.collection.specs.Calls.{collectOf, finishOf, unlinkingOf}
+use Rattle.schedule.specs.Bell.{commandWord, ringWord}
+use Rattle.request.specs.Submit.{writesWith}
+use Rattle.interrupt.specs.Interrupts.{acknowledgeWrites}
+use Rattle.ehci.specs.declared.call.Call.{Call}
+use Rattle.ehci.specs.declared.call.Call.the-variants.{Cancel, Collect, Drain}
+use Rattle.ehci.specs.declared.reply.Answered.the-variants.{Done}
+use Rattle.ehci.specs.declared.reply.Event.the-variants as E
+use Rattle.ehci.specs.declared.reply.Given.the-variants as G
+use Rattle.ehci.specs.Replies.{replied}
+use Rattle.ehci.specs.Decides.{asksOf, collectDecided, decideOf}
+use Rattle.ehci.specs.Door.{Applied, applied, applyOf}
+use Rattle.promises.specs.Runs.{History, Machine, Turn, World, core, historyOf, turnOf, worldOf}
+use Rattle.promises.specs.Walks.{ringWalk, walkFrom}
+use Rattle.promises.specs.Events.{isCollected, rings}
+use Rattle.promises.specs.Bells.{asked, bell, counted, isUp, linked as isLinked, unlinking}
+use Rattle.promises.specs.Boundaries.{EveryRun, OnePasses, Orderly, Passes, UpExactly}
+use Rattle.promises.specs.Registers.{Access}
+use Rattle.promises.proofs.invariants.Reached.{freshWorld}
+use Rattle.promises.proofs.wrong.WrongRuns.{acknowledges, good, linked, one, openedTwo, opening, reading, replies, small, stateOf, submits, two, waits}
+use Rattle.promises.proofs.wrong.WrongUp.{up-world, upCalls}
+use Rattle.promises.proofs.wrong.WrongCalls.{apartFirst, apartOne, apartTwo, drained-first, heard-two, linkedOne, linkedTwo, submitted, submitted-two, unlinked-first, unlinked-second}
+use Rattle.promises.proofs.wrong.WrongBells.{goes-on, is-told}
+use Rattle.promises.proofs.wrong.WrongBut.{but, but-rises, isDrains, isLeaves, isSubmits, not-passed, rewriting}
+use Rattle.promises.proofs.wrong.WrongNever.{leaves}
+
+abbrev w : World
+w = freshWorld small
+
+-- ---- an unlink does not ring
+
+abbrev hushed : Applied → Applied
+hushed a = rewriting (λ y. writeOf (y .offset) 0) a
+
+abbrev pub mute : Machine
+mute = but (λ x a. isLeaves a) (λ x a. hushed a)
+
+abbrev m1 : List Call
+m1 = submits 0 0x500000 ∷ upCalls
+
+abbrev m2 : List Call
+m2 = Cancel 0 1 (reading 0x80031) ∷ m1
+
+mute-up : worldOf mute w upCalls ≡ openedTwo
+mute-up = up-world mute (but-rises (λ (x : World) (a : Access). isLeaves a) (λ (x : World) (a : Applied). hushed a) (λ x. refl) (λ x. refl) (λ x v. refl))
+
+mute-one : worldOf mute w m1 ≡ linkedOne (one 0 0 0 0 0 linked)
+mute-one = goes-on mute w upCalls (submits 0 0x500000) openedTwo _ mute-up submitted
+
+mute-leaves : mute (linkedOne (one 0 0 0 0 0 linked)) (Cancel 0 1 (reading 0x80031)) ≡ hushed (replies (Done G.Nothing) (andThen noWrites 0 (ringWord 0x80031)) (apartOne (one 0 0 0 1 1 (waits 1))))
+mute-leaves = ap hushed leaves
+
+abbrev muteUp : History
+muteUp = historyOf mute w upCalls
+
+abbrev mt1 : Turn
+mt1 = turnOf (openedTwo .rows) (submits 0 0x500000) (replies (Done (G.Id 1)) (writesWith (reading 0x80031)) (linkedOne (one 0 0 0 0 0 linked)))
+
+abbrev mt2 : Turn
+mt2 = turnOf (linkedOne (one 0 0 0 0 0 linked) .rows) (Cancel 0 1 (reading 0x80031)) (hushed (replies (Done G.Nothing) (andThen noWrites 0 (ringWord 0x80031)) (apartOne (one 0 0 0 1 1 (waits 1)))))
+
+mute-told : historyOf mute w m2 ≡ mt2 ∷ mt1 ∷ muteUp
+mute-told =
+    is-told mute w m1 (Cancel 0 1 (reading 0x80031)) (linkedOne (one 0 0 0 0 0 linked)) _ mute-one mute-leaves (mt1 ∷ muteUp)
+    (is-told mute w upCalls (submits 0 0x500000) openedTwo _ mute-up submitted muteUp refl)
+
+-- the bell is as it was on the way up, and an unlink is unanswered
+still-quiet : bell small (mt2 ∷ mt1 ∷ muteUp) ≡ bell small muteUp
+unfolding bell ringWalk walkFrom andThen noWrites commandWord withBits withoutBits
+still-quiet = refl
+
+one-owed : ltb (counted small (mt2 ∷ mt1 ∷ muteUp)) (asked small (mt2 ∷ mt1 ∷ muteUp)) ≡ true
+unfolding counted asked historyOf ringWalk walkFrom
+one-owed = refl
+
+none-owed : ltb (counted small muteUp) (asked small muteUp) ≡ false
+unfolding counted asked historyOf
+none-owed = refl
+
+pub mute-up-exactly : EveryRun UpExactly mute → ⊥
+mute-up-exactly up =
+    let before : isUp (bell small muteUp) ≡ false = up small w opening upCalls .2 ∙ none-owed in
+    let after : isUp (bell small (mt2 ∷ mt1 ∷ muteUp)) ≡ true = subst (λ (h : History). isUp (bell small h) ≡ ltb (counted small h) (asked small h)) mute-told (up small w opening m2 .2) ∙ one-owed in
+    true≢false (sym after ∙ ap isUp still-quiet ∙ before)
+
+-- ---- every submit is answered 0
+
+abbrev pub grants : Machine
+grants = but (λ x a. isSubmits a) (λ x a. replies (Done (G.Id 1)) noWrites x)
+
+pub grants-orderly : EveryRun Orderly grants → ⊥
+unfolding historyOf worldOf isLinked
+grants-orderly orderly = true≢false (orderly small w opening (submits 0 0x500000 ∷ []) (submits 0 0x500000) 0 .2 refl .0)
+
+-- ---- one count lets every request pass
+
+abbrev loosened : Applied → Applied
+loosened a =
+    applied (record { state = withBoundaries (a .reply .state) (replicate 32 0); answer = a .reply .answer; writes = a .reply .writes }) (a .pool) (a .heads) (a .frames) (a .setups)
+
+abbrev pub lax : Machine
+lax = but (λ x a. isDrains a) (λ x a. loosened a)
+
+abbrev c1 : List Call
+c1 = submits 0 0x500000 ∷ upCalls
+
+abbrev c2 : List Call
+c2 = submits 1 0x501000 ∷ c1
+
+abbrev c3 : List Call
+c3 = Cancel 0 1 (reading 0x80031) ∷ c2
+
+abbrev c4 : List Call
+c4 = Cancel 1 1 (reading 0x80071) ∷ c3
+
+abbrev c5 : List Call
+c5 = acknowledges 0x24 ∷ c4
+
+abbrev c6 : List Call
+c6 = Drain 0x80031 ∷ c5
+
+lax-up : worldOf lax w upCalls ≡ openedTwo
+lax-up = up-world lax (but-rises (λ (x : World) (a : Access). isDrains a) (λ (x : World) (a : Applied). loosened a) (λ x. refl) (λ x. refl) (λ x v. refl))
+
+w1 : worldOf lax w c1 ≡ linkedOne (one 0 0 0 0 0 linked)
+w1 = goes-on lax w upCalls (submits 0 0x500000) openedTwo _ lax-up submitted
+
+w2 : worldOf lax w c2 ≡ linkedTwo
+w2 = goes-on lax w c1 (submits 1 0x501000) (linkedOne (one 0 0 0 0 0 linked)) _ w1 submitted-two
+
+w3 : worldOf lax w c3 ≡ apartFirst
+w3 = goes-on lax w c2 (Cancel 0 1 (reading 0x80031)) linkedTwo _ w2 unlinked-first
+
+w4 : worldOf lax w c4 ≡ apartTwo (two 0 0 0 1 2 (waits 1) (waits 2))
+w4 = goes-on lax w c3 (Cancel 1 1 (reading 0x80071)) apartFirst _ w3 unlinked-second
+
+w5 : worldOf lax w c5 ≡ apartTwo (two 0x24 0x24 1 1 2 (waits 1) (waits 2))
+w5 = goes-on lax w c4 (acknowledges 0x24) (apartTwo (two 0 0 0 1 2 (waits 1) (waits 2))) _ w4 heard-two
+
+-- both wait for nothing any more
+abbrev loose : World
+loose = apartTwo (two 0x20 0x24 0 1 1 (waits 0) (waits 0))
+
+lax-drains : lax (apartTwo (two 0x24 0x24 1 1 2 (waits 1) (waits 2))) (Drain 0x80031) ≡ replies (Done (G.Event E.PortChange)) (andThen noWrites 0 (ringWord 0x80031)) loose
+unfolding withBoundaries stateOf
+lax-drains = ap loosened drained-first
+
+w6 : worldOf lax w c6 ≡ loose
+w6 = goes-on lax w c5 (Drain 0x80031) (apartTwo (two 0x24 0x24 1 1 2 (waits 1) (waits 2))) _ w5 lax-drains
+
+-- ---- the turns, and who passes
+
+abbrev up : History
+up = historyOf lax w upCalls
+
+abbrev t1 : Turn
+t1 = turnOf (openedTwo .rows) (submits 0 0x500000) (replies (Done (G.Id 1)) (writesWith (reading 0x80031)) (linkedOne (one 0 0 0 0 0 linked)))
+
+abbrev t2 : Turn
+t2 = turnOf (linkedOne (one 0 0 0 0 0 linked) .rows) (submits 1 0x501000) (replies (Done (G.Id 1)) (writesWith (reading 0x80031)) linkedTwo)
+
+abbrev t3 : Turn
+t3 = turnOf (linkedTwo .rows) (Cancel 0 1 (reading 0x80031)) (replies (Done G.Nothing) (andThen noWrites 0 (ringWord 0x80031)) apartFirst)
+
+abbrev t4 : Turn
+t4 = turnOf (apartFirst .rows) (Cancel 1 1 (reading 0x80071)) (replies (Done G.Nothing) noWrites (apartTwo (two 0 0 0 1 2 (waits 1) (waits 2))))
+
+abbrev t5 : Turn
+t5 = turnOf (apartTwo (two 0 0 0 1 2 (waits 1) (waits 2)) .rows) (acknowledges 0x24) (replies (Done G.Yes) (acknowledgeWrites 0x24 0x27 true true) (apartTwo (two 0x24 0x24 1 1 2 (waits 1) (waits 2))))
+
+abbrev t6 : Turn
+t6 = turnOf (apartTwo (two 0x24 0x24 1 1 2 (waits 1) (waits 2)) .rows) (Drain 0x80031) (replies (Done (G.Event E.PortChange)) (andThen noWrites 0 (ringWord 0x80031)) loose)
+
+told : historyOf lax w c6 ≡ t6 ∷ t5 ∷ t4 ∷ t3 ∷ t2 ∷ t1 ∷ up
+told =
+    is-told lax w c5 (Drain 0x80031) (apartTwo (two 0x24 0x24 1 1 2 (waits 1) (waits 2))) _ w5 lax-drains (t5 ∷ t4 ∷ t3 ∷ t2 ∷ t1 ∷ up)
+    (is-told lax w c4 (acknowledges 0x24) (apartTwo (two 0 0 0 1 2 (waits 1) (waits 2))) _ w4 heard-two (t4 ∷ t3 ∷ t2 ∷ t1 ∷ up)
+    (is-told lax w c3 (Cancel 1 1 (reading 0x80071)) apartFirst _ w3 unlinked-second (t3 ∷ t2 ∷ t1 ∷ up)
+    (is-told lax w c2 (Cancel 0 1 (reading 0x80031)) linkedTwo _ w2 unlinked-first (t2 ∷ t1 ∷ up)
+    (is-told lax w c1 (submits 1 0x501000) (linkedOne (one 0 0 0 0 0 linked)) _ w1 submitted-two (t1 ∷ up)
+    (is-told lax w upCalls (submits 0 0x500000) openedTwo _ lax-up submitted up refl)))))
+
+both-out : (unlinking small 0 (t6 ∷ t5 ∷ t4 ∷ t3 ∷ t2 ∷ t1 ∷ up) ≡ true) × (unlinking small 1 (t6 ∷ t5 ∷ t4 ∷ t3 ∷ t2 ∷ t1 ∷ up) ≡ true)
+unfolding unlinking ringWalk walkFrom
+both-out = (refl, refl)
+
+loose-good : inRanges (two 0x20 0x24 0 1 1 (waits 0) (waits 0)) ≡ true
+loose-good = good 15
+
+both-collected : (isCollected (core loose (Collect 0 1 (reading 0x80031)) .reply .answer) ≡ true) × (isCollected (core loose (Collect 1 1 (reading 0x80031)) .reply .answer) ≡ true)
+unfolding applyOf decideOf asksOf rowsFit replied collectDecided collectOf acceptsOf endpointAt decoded slotAt unlinkingOf finishOf outcomeOf stateOf
+both-collected = (rw loose-good, rw loose-good)
+
+not-first : Passes lax small w c5 0 → ⊥
+unfolding stateOf endpointAt decoded slotAt
+not-first p = not-passed (apartTwo (two 0x24 0x24 1 1 2 (waits 1) (waits 2))) 0 (p .1) (p .2) refl (subst (λ (x : World). isCollected (lax x (Collect 0 (p .1) (p .2)) .reply .answer) ≡ true) w5 (p .3))
+
+not-second : Passes lax small w c5 1 → ⊥
+unfolding stateOf endpointAt decoded slotAt
+not-second p = not-passed (apartTwo (two 0x24 0x24 1 1 2 (waits 1) (waits 2))) 1 (p .1) (p .2) refl (subst (λ (x : World). isCollected (lax x (Collect 1 (p .1) (p .2)) .reply .answer) ≡ true) w5 (p .3))
+
+pub lax-passes : EveryRun OnePasses lax → ⊥
+lax-passes one =
+    let first : Passes lax small w c6 0 = (
+      ap (unlinking small 0) told ∙ both-out .0,
+      1,
+      reading 0x80031,
+      ap (λ (x : World). isCollected (lax x (Collect 0 1 (reading 0x80031)) .reply .answer)) w6 ∙ both-collected .0,
+    ) in
+    let second : Passes lax small w c6 1 = (
+      ap (unlinking small 1) told ∙ both-out .1,
+      1,
+      reading 0x80031,
+      ap (λ (x : World). isCollected (lax x (Collect 1 1 (reading 0x80031)) .reply .answer)) w6 ∙ both-collected .1,
+    ) in
+    let same : _≡_ {A = ℕ} 0 1 = one small w opening c5 [] (Drain 0x80031) 0 1 tt not-first not-second first second in
+    omega (arith, same)

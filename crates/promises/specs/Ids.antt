@@ -1,0 +1,44 @@
+-- Ids, over any calls: "Ids per slot start at 1 when it opens; after 2^64 − 1 comes 1." A statement of any machine.
+use Prim.Native.Nat.{ℕ, _+_, _-_, _^_}
+use mathlib.Core.Bool.{cond}
+use mathlib.Core.List.{[], _∷_}
+use mathlib.Core.Path.{_≡_}
+use lib.Dec.{eqb}
+use Rattle.settings.specs.declared.settings.Settings.{Settings}
+use Rattle.request.specs.declared.judge.TransferRequest.{TransferRequest}
+use Rattle.ehci.specs.declared.call.Call.{Call}
+use Rattle.promises.specs.Runs.{Always, History, Machine}
+use Rattle.promises.specs.Events.{Event, Other, Reads, Drains, Submits, Unlinks, Parts, Collects, event}
+use Rattle.promises.specs.Opened.{Change, ClosesSlot, Halted, OpensSlot, Running, Same, change}
+use Rattle.promises.specs.Chains.{turnBy}
+
+abbrev pub following : ℕ → ℕ
+following id = cond (eqb id (2 ^ 64 - 1)) 1 (id + 1)
+
+-- a slot that is opened starts, and so does one that was closed
+abbrev pub startBy : ℕ → Change → ℕ → ℕ
+startBy k Same n = n
+startBy k (OpensSlot j kind) n = cond (eqb j k) 1 n
+startBy k (ClosesSlot j) n = cond (eqb j k) 1 n
+startBy k Halted n = n
+startBy k Running n = n
+
+-- an accepted submit takes one, and nothing else does
+abbrev pub takenBy : ℕ → Event → ℕ → ℕ
+takenBy k Other n = n
+takenBy k Reads n = n
+takenBy k Drains n = n
+takenBy k (Submits j id r) n = cond (eqb j k) (following n) n
+takenBy k (Unlinks j) n = n
+takenBy k (Parts j frame) n = n
+takenBy k (Collects j id frame) n = n
+
+-- the id that slot k's next request is due
+unfoldable pub nextId : Settings → ℕ → History → ℕ
+nextId s k [] = 1
+nextId s k (t ∷ past) = takenBy k (event s t) (startBy k (change t) (nextId s k past))
+
+-- after any calls, an accepted submit's id is the one that is due
+abbrev pub IdsInTurn : Machine → Type 0
+IdsInTurn m =
+    Always (λ s h w. (c : Call) (k id : ℕ) (r : TransferRequest) → event s (turnBy m w c) ≡ Submits k id r → id ≡ nextId s k h) m
