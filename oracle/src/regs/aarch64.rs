@@ -4,9 +4,8 @@ use std::ffi::c_void;
 
 use super::_exit;
 
-/// The saved x0 to x30, sp and pc in a ucontext.
+/// The saved registers in a ucontext: x0 to x30, then sp (as a base it is 31) and pc.
 const REGS: usize = 184;
-const SP: usize = 31;
 const PC: usize = 32;
 /// As the register of a load or store, 31 is no register: it reads 0.
 const ZERO: usize = 31;
@@ -77,7 +76,7 @@ pub unsafe fn carry_out(context: *mut c_void, word: *mut u32) -> bool {
             *saved(context, register) = word.read() as u64;
         }
         if let Some((base, offset)) = moves {
-            let base = saved(context, if base == 31 { SP } else { base });
+            let base = saved(context, base);
             *base = (*base).wrapping_add_signed(offset);
         }
         *saved(context, PC) += 4;
@@ -191,6 +190,6 @@ mod tests {
         assert_eq!(changes(0xb940_003f, 0x8765_4321), (vec![], 0x8765_4321)); // ldr wzr, [x1]
         assert_eq!(changes(0xb840_4507, 0x8765_4321), (vec![load(7), (8, start(8) + 4)], 0x8765_4321));
         assert_eq!(changes(0xb810_0507, 0x8765_4321), (vec![(8, start(8) - 256)], 0x5555_0007));
-        assert_eq!(changes(0xb81f_0fe7, 0x8765_4321), (vec![(SP, start(SP) - 16)], 0x5555_0007));
+        assert_eq!(changes(0xb81f_0fe7, 0x8765_4321), (vec![(31, start(31) - 16)], 0x5555_0007));
     }
 }
