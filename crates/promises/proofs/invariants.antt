@@ -10,6 +10,7 @@ pub mod UseSteps
 pub mod UseAccepts
 pub mod UseCollects
 pub mod UseHeld
+pub mod MarkInv
 pub mod OpenedInv
 pub mod OpenedVerdict
 pub mod ChainLists

@@ -18,3 +18,7 @@ pub mod ChainTheorems
 pub mod FaultTheorem
 pub mod RegisterTheorems
 pub mod IdTheorems
+pub mod CollectionLaws
+pub mod PlanLaws
+pub mod SubmissionLaws
+pub mod PacketLaws

@@ -16,3 +16,7 @@ pub mod WrongBut
 pub mod WrongRegisters
 pub mod WrongTurns
 pub mod RegisterExamples
+pub mod WrongCollections
+pub mod DueExamples
+pub mod WrongSubmissions
+pub mod WrongStays

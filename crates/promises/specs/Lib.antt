@@ -8,6 +8,8 @@ pub mod Opened
 pub mod Ranges
 pub mod Rooms
 pub mod Coverage
+pub mod Collections
+pub mod Submissions
 pub mod Chains
 pub mod Boundaries
 pub mod Faults

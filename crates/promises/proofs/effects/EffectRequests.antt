@@ -4,7 +4,7 @@ use mathlib.Core.Bool.{Bool, true, false, not, cond, _&&_}
 use mathlib.Core.List.{List, [], _∷_}
 use mathlib.Core.Logic.{inl, inr}
 use mathlib.Core.Path.{_≡_, refl, ap}
-use borrow.Author.Tests.{not-false}
+use borrow.Author.Tests.{eq-eqb, not-false}
 use lib.Dec.{eqb}
 use lib.ListN.{length}
 use Rattle.register.specs.Writes.{noWrites}
@@ -143,6 +143,7 @@ module _ (w : World) where
           readings = rd;
           linked = e;
           same-request = inr refl;
+          cancels = inr (rw (eq-eqb k k refl));
           uncrowded = below;
           found = found;
           state-is = refl;
@@ -165,6 +166,7 @@ module _ (w : World) where
           r = r;
           u = u;
           unlinking = e;
+          cancels = rw (eq-eqb k k refl);
           state-is = refl;
           rows-are = rows-kept w (Cancel k id rd) hs fs us;
           silent = refl;
@@ -192,6 +194,7 @@ module _ (w : World) where
           readings = rd;
           linked = e;
           same-request = inl refl;
+          cancels = inl refl;
           uncrowded = below;
           found = found;
           state-is = refl;

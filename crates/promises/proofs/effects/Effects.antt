@@ -42,6 +42,7 @@ use Rattle.ehci.specs.declared.reply.Given.the-variants.{Nothing}
 use Rattle.ehci.specs.Door.{Applied}
 use Rattle.promises.specs.Runs.{Rows, World, rowsOf, turnOf}
 use Rattle.promises.specs.Events.{Other, Reads, Drains, Submits, Collects, event, leaving}
+use Rattle.promises.specs.Bells.{cancelsBy}
 use Rattle.promises.specs.Opened.{Change, ClosesSlot, Halted, OpensSlot, Running, Same, change}
 
 -- what of a state stands beside slots, owners and doorbell
@@ -247,6 +248,7 @@ module _ (w : World) (c : Call) (a : Applied) where
     pub r : Request
     pub u : UnlinkBoundary
     pub unlinking : endpointAt old k ≡ Unlinking p r u
+    pub cancels : cancelsBy k c (a .reply .answer) ≡ true
     pub state-is : new ≡ withEndpoint old k (Unlinking p (marked r) u)
     pub rows-are : rowsOf a ≡ w .rows
     pub silent : wrote ≡ noWrites
@@ -262,6 +264,8 @@ module _ (w : World) (c : Call) (a : Applied) where
     pub readings : Readings
     pub linked : endpointAt old k ≡ Linked p r
     pub same-request : (asked ≡ r) ⊎ (asked ≡ marked r)
+    -- only a cancel marks it
+    pub cancels : (asked ≡ r) ⊎ (cancelsBy k c (a .reply .answer) ≡ true)
     pub uncrowded : old .unanswered < 32
     pub found : isMissing (detachOf old (w .rows .heads) (w .rows .frames) k .predecessor) ≡ false
     pub state-is : new ≡ waitingOf old readings k p asked .state

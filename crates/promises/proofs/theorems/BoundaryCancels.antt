@@ -212,7 +212,7 @@ unfolding outcomeOf
 outcome-marked true v e = refl
 outcome-marked false v e = absurd (false≢true e)
 
-marks-reached : (s : Settings) (w : World) → Opening s w → (cs : List Call) → MarkedInv s (historyOf core w cs) (worldOf core w cs .state)
+pub marks-reached : (s : Settings) (w : World) → Opening s w → (cs : List Call) → MarkedInv s (historyOf core w cs) (worldOf core w cs .state)
 unfolding worldOf historyOf cancelled
 marks-reached s w o [] k e = absurd (false≢true e)
 marks-reached s w o (c ∷ cs) k e =

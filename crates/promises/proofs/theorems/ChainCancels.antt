@@ -32,6 +32,7 @@ use Rattle.ehci.specs.Replies.{replied}
 use Rattle.promises.specs.Runs.{Always, History, World, core, rowsOf, turnOf}
 use Rattle.promises.specs.Events.{Parts, Unlinks, event}
 use Rattle.promises.specs.Uses.{frameSlots, ringSlots}
+use Rattle.promises.specs.Bells.{cancelsBy}
 use Rattle.promises.proofs.effects.Effects.{Unlinked}
 use Rattle.promises.proofs.effects.EffectDoor.{rows-kept}
 use Rattle.promises.proofs.invariants.Sound.{Sound}
@@ -80,7 +81,7 @@ module _ (s : Settings) (h : History) (w : World) (sound : Sound s w) (x : Chain
     cancel-comes = rw (fits, accepted, e, lt-leb 32 (w .state .unanswered) roomy, eq-eqb (r .id) (r .id) refl, no-detach-fails p r e)
 
     cancel-unlinked : Unlinked w (Cancel k (r .id) rd) (core w (Cancel k (r .id) rd))
-    unfolding replied
+    unfolding replied waitingOf
     cancel-unlinked =
         record {
           k = k;
@@ -90,6 +91,7 @@ module _ (s : Settings) (h : History) (w : World) (sound : Sound s w) (x : Chain
           readings = rd;
           linked = e;
           same-request = inr refl;
+          cancels = inr (ap (λ (z : Applied). cancelsBy k (Cancel k (r .id) rd) (z .reply .answer)) cancel-comes ∙ rw (eq-eqb k k refl));
           uncrowded = roomy;
           found = no-detach-fails p r e;
           state-is = ap (λ (z : Applied). z .reply .state) cancel-comes;

@@ -121,6 +121,7 @@ module _ (s : Settings) (h : History) (w : World) (sound : Sound s w) (x : Chain
         readings = rd;
         linked = e;
         same-request = inl refl;
+        cancels = inl refl;
         uncrowded = roomy;
         found = no-detach-fails s h w sound x k p r e;
         state-is = ap (λ (z : Applied). z .reply .state) is;

@@ -52,7 +52,7 @@ map-up f a i (suc n) h =
     ap₂ (λ (p : ℕ) (l : List ℕ). p ∷ l) (h i (omega arith) (omega arith)) (map-up f a (suc i) n (λ j l m. h j (omega (arith, l)) (omega (arith, m))) ∙ ap (λ (p : ℕ). upFrom p n) x)
 
 -- a descriptor of n bytes from its first page on, whose j-th byte is at a + j
-run-of : (d : QueueTransferDescriptor) (a n : ℕ) → currentPage (d .token) ≡ 0 → totalBytes (d .token) ≡ n
+pub run-of : (d : QueueTransferDescriptor) (a n : ℕ) → currentPage (d .token) ≡ 0 → totalBytes (d .token) ≡ n
     → ((j : ℕ) → j < n → byteAddress (d .pages) (d .upper) j ≡ a + j) → bytesOf d ≡ upFrom a n
 run-of d a n p e h =
     let x : a + 0 ≡ a = omega arith in

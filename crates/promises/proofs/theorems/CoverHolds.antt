@@ -46,7 +46,7 @@ records-by f t base k (p ∷ ps) h =
     along : (j : ℕ) → k + suc j ≡ suc k + j
     along j = omega arith
 
-control-short : (t : TransferRequest) → rangesGood t ≡ true → t .kind ≡ Control → t .length ≤ 16384
+pub control-short : (t : TransferRequest) → rangesGood t ≡ true → t .kind ≡ Control → t .length ≤ 16384
 unfolding rangesGood controlGood
 control-short t g e =
     let c : controlGood t ≡ true = both-tells (bufferGood (t .address) (t .length)) _ (rw e at g) .1 in
@@ -59,7 +59,7 @@ module _ (w : World) (k : ℕ) (t : TransferRequest) (sound : Sound (w .state .s
   abbrev after : Rows
   after = acceptedWorld w k t sound judged .rows
 
-  records-are : recordsMet s after k ≡ recordsFrom (transferOf (w .state) k t) (s .pool) 0 (placesFor (w .state) t)
+  pub records-are : recordsMet s after k ≡ recordsFrom (transferOf (w .state) k t) (s .pool) 0 (placesFor (w .state) t)
   records-are =
       ap (map (λ p. getD (after .pool) p blank)) (walked w k t sound judged)
       ∙ records-by (λ p. getD (after .pool) p blank) (transferOf (w .state) k t) (s .pool) 0 (placesFor (w .state) t)
@@ -136,7 +136,7 @@ module _ (w : World) (c : Call) (a : Applied) (k id : ℕ) (t : TransferRequest)
   accepted-by P f (collects x) = absurd (not-so (Collects (x .k) (x .r .id) (x .frame)) (x .collects) refl)
 
 -- 0 accepts
-zero-accepts : (k : ℕ) (t : TransferRequest) (a : Answered) → answeredNumber a ≡ 0 → (id : ℕ) × (submitsBy k t a ≡ Submits k id t)
+pub zero-accepts : (k : ℕ) (t : TransferRequest) (a : Answered) → answeredNumber a ≡ 0 → (id : ℕ) × (submitsBy k t a ≡ Submits k id t)
 zero-accepts k t a e = (firstIn (answeredValues a), rw (eq-eqb (answeredNumber a) 0 e))
 
 pub covered-holds : (m : Machine) → ((w : World) (c : Call) → Effect w c (m w c)) → (s : Settings) (h : History) (w : World) → Sound s w → Covered m s h w

@@ -1,0 +1,288 @@
+-- A collection answers what is due to its request: 10, 11 or 0, from the history, the request and the tokens of its places.
+use Prim.Native.Nat.{ℕ, suc, _+_, _-_, _*_, min}
+use mathlib.Core.Path.{_≡_, refl, sym, ap, ap₂, subst, _∙_}
+use mathlib.Core.Bool.{Bool, true, false, false≢true}
+use mathlib.Core.List.{List, [], _∷_, map}
+use native.Mathlib.Decide.{ℕ-discrete as decEq}
+use native.Mathlib.Nat.{suc-mul}
+use native.Mathlib.Omega.{arith}
+use borrow.Author.Tests.{eq-eqb, le-leb, lt-ltb, ne-eqb}
+use lib.Dec.{eqb}
+use lib.ListN.{getD, length, take}
+use Rattle.token.specs.EhciQtd.{totalBytes}
+use Rattle.token.specs.Chunks.{ifEmpty, needOf}
+use Rattle.common.specs.declared.kinds.EndpointType.{EndpointType}
+use Rattle.common.specs.declared.kinds.EndpointType.the-variants.{Control, Isochronous, Bulk, Interrupt}
+use Rattle.descriptor.specs.declared.qtd.QueueTransferDescriptor.{QueueTransferDescriptor}
+use Rattle.pool.specs.Chains.{Seen, blank, firstError, isErring, lengthOf, seenFrom, viewOf}
+use Rattle.pool.specs.Places.{placesFrom}
+use Rattle.pool.specs.Transfers.{requestedAt}
+use Rattle.pool.specs.declared.chain.Ask.{Ask}
+use Rattle.pool.specs.declared.chain.View.{View}
+use Rattle.pool.proofs.PlaceLaws.{list-packed}
+use Rattle.settings.specs.declared.settings.Settings.{Settings}
+use Rattle.state.specs.declared.state.Ehci.{Ehci}
+use Rattle.common.specs.declared.answer.Refusal.the-variants.{InvalidParameter, SlotLimitReached, InvalidEndpoint, QueueFull, NotSupported, NoMemory, Timeout, NotReady}
+use Rattle.controller.specs.Readers.{hasEndpoint}
+use Rattle.controller.specs.declared.lent.Readings.{Readings}
+use Rattle.controller.proofs.ReaderLaws.{open-below}
+use Rattle.collection.specs.Answers.{outcomeOf}
+use Rattle.collection.specs.Asks.{askOf, askable, requestAsk}
+use Rattle.ehci.specs.declared.call.Call.the-variants.{Collect}
+use Rattle.ehci.specs.declared.reply.Answered.{Answered}
+use Rattle.ehci.specs.declared.reply.Answered.the-variants.{Done, Pending, Cancelled, Failed, Refused}
+use Rattle.ehci.specs.Decides.{asksOf}
+use Rattle.ehci.specs.Door.{seenBy}
+use Rattle.ehci.specs.Replies.{answeredNumber, answeredValues, collectedAnswer}
+use Rattle.promises.specs.Runs.{History, World, core, historyOf, worldOf}
+use Rattle.promises.specs.Events.{isCollected}
+use Rattle.promises.specs.Uses.{Use, uses}
+use Rattle.promises.specs.Bells.{cancelled}
+use Rattle.promises.specs.Rooms.{Every}
+use Rattle.promises.specs.Coverage.{dataOf}
+use Rattle.promises.specs.Collections.{Answers, CollectsDue, dueOf, dueTo, erring, isCollection, moved, pieceOf, recordsAt, those, tokensOf}
+use Rattle.promises.proofs.effects.EffectDoor.{seen}
+use Rattle.promises.proofs.invariants.Reached.{reached}
+use Rattle.promises.proofs.invariants.Sound.{Sound}
+use Rattle.promises.proofs.invariants.UseInv.{Apart, Avoids, Held, Kept, Nobody, Tenant, Waits, tenantAt, tenantOf, tenants-apart}
+use Rattle.promises.proofs.invariants.MarkInv.{Marked, markIn, marked-keeps, marked-opens}
+use Rattle.promises.proofs.theorems.RoomPromises.{held}
+use Rattle.promises.proofs.theorems.BoundaryCalls.{Found, collect-found}
+use Rattle.promises.proofs.theorems.BoundaryCancels.{isMarked, marks-reached}
+
+-- ---- the tokens
+
+-- the first erring token, where there is one
+abbrev FirstIs : ℕ → List ℕ → Type 0
+FirstIs n [] = n ≡ 0
+FirstIs n (token ∷ more) = (n ≡ token) × (token ≡ 0 → ⊥)
+
+erring-some : (token : ℕ) → isErring token ≡ true → token ≡ 0 → ⊥
+erring-some token e z = false≢true (sym (ap isErring z) ∙ e)
+
+module _ (kind : EndpointType) (len limit : ℕ) (rs : List QueueTransferDescriptor) where
+  abbrev tokensAt : List ℕ → List ℕ
+  tokensAt ps = tokensOf (map (λ p. getD rs p blank) ps)
+
+  first-erring : (k : ℕ) (ps : List ℕ) → FirstIs (firstError (seenFrom kind len limit k ps rs)) (erring (tokensAt ps))
+  unfolding firstError seenFrom
+  first-erring k [] = refl
+  first-erring k (p ∷ ps) = by (isErring (getD rs p blank .token)) refl (first-erring (suc k) ps)
+    where
+      by : (b : Bool) → isErring (getD rs p blank .token) ≡ b → FirstIs (firstError (seenFrom kind len limit (suc k) ps rs)) (erring (tokensAt ps))
+          → FirstIs (firstError (seenFrom kind len limit k (p ∷ ps) rs)) (erring (tokensAt (p ∷ ps)))
+      by true e on = rw e (refl, erring-some (getD rs p blank .token) e)
+      by false e on = rw e on
+
+-- ---- the length
+
+less-one : (len limit k : ℕ) → len - k * limit - limit ≡ len - suc k * limit
+less-one len limit k = omega (arith, suc-mul k limit)
+
+module _ (len limit : ℕ) (rs : List QueueTransferDescriptor) where
+  chunks-moved : (kind : EndpointType) → ((k : ℕ) → requestedAt kind len limit k ≡ min limit (len - k * limit)) → (k : ℕ) (ps : List ℕ)
+      → lengthOf (seenFrom kind len limit k ps rs) ≡ moved limit (len - k * limit) (tokensOf (map (λ p. getD rs p blank) ps))
+  unfolding lengthOf seenFrom
+  chunks-moved kind e k [] = refl
+  chunks-moved kind e k (p ∷ ps) =
+      let left : ℕ = totalBytes (getD rs p blank .token) in
+      ap₂ (λ (x y : ℕ). x - left + y) (e k)
+      (chunks-moved kind e (suc k) ps ∙ ap (λ (n : ℕ). moved limit n (tokensOf (map (λ q. getD rs q blank) ps))) (sym (less-one len limit k)))
+
+  chunks-all : (kind : EndpointType) → ((k : ℕ) → requestedAt kind len limit k ≡ min limit (len - k * limit)) → (ps : List ℕ)
+      → lengthOf (seenFrom kind len limit 0 ps rs) ≡ moved limit len (tokensOf (map (λ p. getD rs p blank) ps))
+  chunks-all kind e ps =
+      let none : len - 0 * limit ≡ len = omega arith in
+      chunks-moved kind e 0 ps ∙ ap (λ (n : ℕ). moved limit n (tokensOf (map (λ p. getD rs p blank) ps))) none
+
+  abbrev Says : List ℕ → Type 0
+  Says ps = lengthOf (seenFrom Control len limit 0 ps rs) ≡ moved len len (tokensOf (dataOf Control (map (λ p. getD rs p blank) ps)))
+
+  control-moved : (ps : List ℕ) → length ps ≡ ifEmpty (eqb len 0) 2 3 → Says ps
+  unfolding lengthOf seenFrom requestedAt
+  control-moved ps n = by (decEq len 0) ps n
+    where
+      two : len ≡ 0 → (ps : List ℕ) → length ps ≡ 2 → Says ps
+      two z [] n = absurd (omega (arith, n))
+      two z (a ∷ []) n = absurd (omega (arith, n))
+      two z (a ∷ b ∷ []) n = omega (arith, z)
+      two z (a ∷ b ∷ c ∷ ps) n = absurd (omega (arith, n))
+
+      three : (ps : List ℕ) → length ps ≡ 3 → Says ps
+      three [] n = absurd (omega (arith, n))
+      three (a ∷ []) n = absurd (omega (arith, n))
+      three (a ∷ b ∷ []) n = absurd (omega (arith, n))
+      three (a ∷ b ∷ c ∷ []) n = omega arith
+      three (a ∷ b ∷ c ∷ d ∷ ps) n = absurd (omega (arith, n))
+
+      by : Dec (len ≡ 0) → (ps : List ℕ) → length ps ≡ ifEmpty (eqb len 0) 2 3 → Says ps
+      by (yes z) ps n = two z ps (n ∙ rw (eq-eqb len 0 z))
+      by (no ne) ps n = three ps (n ∙ rw (ne-eqb len 0 ne))
+
+  all-moved : (kind : EndpointType) (ps : List ℕ) → length ps ≡ needOf kind len limit
+      → lengthOf (seenFrom kind len limit 0 ps rs) ≡ moved (pieceOf kind len limit) len (tokensOf (dataOf kind (map (λ p. getD rs p blank) ps)))
+  unfolding needOf requestedAt
+  all-moved Control ps n = control-moved ps n
+  all-moved Isochronous ps n = chunks-all Isochronous (λ k. refl) ps
+  all-moved Bulk ps n = chunks-all Bulk (λ k. refl) ps
+  all-moved Interrupt ps n = chunks-all Interrupt (λ k. refl) ps
+
+-- ---- the answer
+
+due-outcome : (b : Bool) (ss : List Seen) (failed : List ℕ) (n : ℕ) → FirstIs (firstError ss) failed → lengthOf ss ≡ n
+    → (answeredNumber (collectedAnswer (outcomeOf b (viewOf ss))) ≡ dueOf b failed n .number)
+    × (answeredValues (collectedAnswer (outcomeOf b (viewOf ss))) ≡ dueOf b failed n .values)
+unfolding outcomeOf viewOf
+due-outcome true ss failed n f l = (refl, refl)
+due-outcome false ss [] n f l = rw (eq-eqb (firstError ss) 0 f) (refl, ap (λ (m : ℕ). m ∷ []) l)
+due-outcome false ss (token ∷ more) n f l =
+    rw (ne-eqb (firstError ss) 0 (λ z. f .1 (sym (f .0) ∙ z))) (refl, ap (λ (m : ℕ). m ∷ []) (f .0))
+
+pub collected-by : (a : Answered) → isCollection (answeredNumber a) ≡ true → isCollected a ≡ true
+collected-by (Done given) e = refl
+collected-by Pending e = absurd (false≢true e)
+collected-by Cancelled e = refl
+collected-by (Failed token) e = refl
+collected-by (Refused InvalidParameter) e = absurd (false≢true e)
+collected-by (Refused SlotLimitReached) e = absurd (false≢true e)
+collected-by (Refused InvalidEndpoint) e = absurd (false≢true e)
+collected-by (Refused QueueFull) e = absurd (false≢true e)
+collected-by (Refused NotSupported) e = absurd (false≢true e)
+collected-by (Refused NoMemory) e = absurd (false≢true e)
+collected-by (Refused Timeout) e = absurd (false≢true e)
+collected-by (Refused NotReady) e = absurd (false≢true e)
+
+-- ---- the request
+
+abbrev kindIn : Tenant → EndpointType
+kindIn Nobody = Control
+kindIn (Waits kind id n) = kind
+
+abbrev idIn : Tenant → ℕ
+idIn Nobody = 0
+idIn (Waits kind id n) = id
+
+abbrev lengthIn : Tenant → ℕ
+lengthIn Nobody = 0
+lengthIn (Waits kind id n) = n
+
+none-those : (k id : ℕ) (us : List Use) → Avoids k us → those k id us ≡ []
+none-those k id [] e = refl
+none-those k id (u ∷ us) e = rw (ne-eqb (u .slot) k (e .0)) (none-those k id us (e .1))
+
+module _ (s : Settings) (owner : List ℕ) (tenant : ℕ → Tenant) (pool : List QueueTransferDescriptor) (heads : List ℕ) (k id : ℕ) (here : idIn (tenant k) ≡ id) where
+  abbrev KeptHere : Use → Type 0
+  KeptHere u = Kept s owner tenant pool heads u
+
+  -- slot k's use, and no other has its slot and id
+  pub record Sole (us : List Use) : Type 0 where
+    pub found : Use
+    pub only : those k id us ≡ found ∷ []
+    pub kept : KeptHere found
+    pub slot-is : found .slot ≡ k
+
+  sole : (us : List Use) → Every KeptHere us → Apart us → (Avoids k us → ⊥) → Sole us
+  sole [] e a some = absurd (some tt)
+  sole (u ∷ us) e a some = by (decEq (u .slot) k) (sole us (e .1) (a .1))
+    where
+      by : Dec (u .slot ≡ k) → ((Avoids k us → ⊥) → Sole us) → Sole (u ∷ us)
+      by (yes q) on =
+          let same : u .id ≡ id = sym (ap idIn (e .0 .holds)) ∙ ap (λ (j : ℕ). idIn (tenant j)) q ∙ here in
+          record {
+            found = u;
+            only = rw (eq-eqb (u .slot) k q, eq-eqb (u .id) id same) (ap (λ (l : List Use). u ∷ l) (none-those k id us (subst (λ (j : ℕ). Avoids j us) q (a .0))));
+            kept = e .0;
+            slot-is = q;
+          }
+      by (no ne) on =
+          let x = on (λ f. some (ne, f)) in
+          record { found = x .found; only = rw (ne-eqb (u .slot) k ne) (x .only); kept = x .kept; slot-is = x .slot-is }
+
+-- ---- a world of a run
+
+same-flag : (a b : Bool) → (a ≡ true → b ≡ true) → (b ≡ true → a ≡ true) → a ≡ b
+same-flag true true f g = refl
+same-flag true false f g = sym (f refl)
+same-flag false true f g = g refl
+same-flag false false f g = refl
+
+module _ (w : World) (h : History) (sound : Sound (w .state .settings) w) (kept : Held (w .state .settings) h w) (k id : ℕ) (rd : Readings)
+    (x : Found w k id rd (core w (Collect k id rd) .reply .answer))
+    (same-mark : x .r .cancelled ≡ cancelled (w .state .settings) k h) where
+  abbrev st : Ehci
+  st = w .state
+
+  abbrev s : Settings
+  s = w .state .settings
+
+  tenant-is : tenantAt st k ≡ Waits (x .p .kind) (x .r .id) (x .r .length)
+  tenant-is = ap tenantOf (x .unlinking)
+
+  one : Sole s (st .owner) (tenantAt st) (w .rows .pool) (w .rows .heads) k id (ap idIn tenant-is ∙ x .same) (uses s h)
+  one =
+      sole s (st .owner) (tenantAt st) (w .rows .pool) (w .rows .heads) k id (ap idIn tenant-is ∙ x .same) (uses s h) (kept .each) (kept .apart)
+      (λ none. tenants-apart (x .p .kind) (x .r .id) (x .r .length) (tenantAt st k) (kept .rest k none .0) tenant-is)
+
+  abbrev u : Use
+  u = one .found
+
+  holds-it : Waits (u .request .kind) (u .id) (u .request .length) ≡ Waits (x .p .kind) (x .r .id) (x .r .length)
+  holds-it = sym (one .kept .holds) ∙ ap (tenantAt st) (one .slot-is) ∙ tenant-is
+
+  -- a collect looks at the records of its places
+  may-ask : askable s (length (w .rows .pool)) k ≡ true
+  unfolding askable
+  may-ask =
+      rw (
+        le-leb (s .descriptors) 256 (sound .ranges .good .descriptors-most),
+        eq-eqb (s .descriptors) (length (w .rows .pool)) (sym (sound .pool-fits)),
+        le-leb (s .limit) 16384 (sound .ranges .good .limit-most),
+        lt-ltb k 32 (open-below st k (ap hasEndpoint (x .unlinking))),
+      )
+
+  asks : askOf st (length (w .rows .pool)) k ≡ requestAsk st k (x .p) (x .r)
+  unfolding askOf
+  asks = rw (may-ask, x .unlinking)
+
+  abbrev seenAt : EndpointType → ℕ → List ℕ → List Seen
+  seenAt kind n ps = seenFrom kind n (s .limit) 0 ps (w .rows .pool)
+
+  sees : seen w (Collect k id rd) ≡ viewOf (seenAt (u .request .kind) (u .request .length) (u .places))
+  unfolding asksOf requestAsk
+  sees =
+      ap (λ (a : Ask). seenBy a (w .rows .pool)) asks
+      ∙ ap (λ (ps : List ℕ). viewOf (seenAt (x .p .kind) (x .r .length) ps)) (list-packed (placesFrom 0 (take (s .descriptors) (st .owner)) (k + 1) 256) ∙ places)
+      ∙ sym (ap (λ (t : Tenant). viewOf (seenAt (kindIn t) (lengthIn t) (u .places))) holds-it)
+    where
+      places : placesFrom 0 (take (s .descriptors) (st .owner)) (k + 1) 256 ≡ u .places
+      places = ap (λ (j : ℕ). placesFrom 0 (take (s .descriptors) (st .owner)) (j + 1) 256) (sym (one .slot-is)) ∙ sym (one .kept .places-are)
+
+  due : (answeredNumber (core w (Collect k id rd) .reply .answer) ≡ dueTo s h (w .rows) u .number)
+      × (answeredValues (core w (Collect k id rd) .reply .answer) ≡ dueTo s h (w .rows) u .values)
+  due =
+      let seen-is = seenAt (u .request .kind) (u .request .length) (u .places) in
+      let failed = erring (tokensOf (recordsAt (w .rows) (u .places))) in
+      let n = moved (pieceOf (u .request .kind) (u .request .length) (s .limit)) (u .request .length) (tokensOf (dataOf (u .request .kind) (recordsAt (w .rows) (u .places)))) in
+      let out = due-outcome (cancelled s (u .slot) h) seen-is failed n (first-erring (u .request .kind) (u .request .length) (s .limit) (w .rows .pool) 0 (u .places))
+      (all-moved (u .request .length) (s .limit) (w .rows .pool) (u .request .kind) (u .places) (one .kept .as-needed)) in
+      let answer : core w (Collect k id rd) .reply .answer ≡ collectedAnswer (outcomeOf (cancelled s (u .slot) h) (viewOf seen-is))
+      = x .answer-is ∙ ap₂ (λ (b : Bool) (v : View). collectedAnswer (outcomeOf b v)) (same-mark ∙ ap (λ (j : ℕ). cancelled s j h) (sym (one .slot-is))) sees in
+      (ap answeredNumber answer ∙ out .0, ap answeredValues answer ∙ out .1)
+
+  answers : Answers core s h w k id rd
+  answers = record { uncollected = u; only = one .only; number-is = due .0; values-are = due .1 }
+
+-- ---- of a run
+
+pub collects-due : CollectsDue core
+collects-due s w o cs k id rd e =
+    let now = worldOf core w cs in
+    let h = historyOf core w cs in
+    let at = held s w o cs in
+    let x = collect-found now k id rd (collected-by (core now (Collect k id rd) .reply .answer) e) in
+    let mark : x .r .cancelled ≡ cancelled s k h
+    = same-flag (x .r .cancelled) (cancelled s k h)
+    (λ m. reached Marked marked-opens marked-keeps s w o cs .1 k (ap markIn (x .unlinking) ∙ m))
+    (λ c. sym (ap isMarked (x .unlinking)) ∙ marks-reached s w o cs k c) in
+    subst (λ (z : Settings). Sound z now → Held z h now → x .r .cancelled ≡ cancelled z k h → Answers core z h now k id rd) (at .0 .settings-are)
+    (λ sound kept same. answers now h sound kept k id rd x same) (at .0) (at .1) mark

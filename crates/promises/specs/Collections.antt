@@ -1,0 +1,93 @@
+-- What a collection answers: 10, 11 or 0, from the history, the request, and the tokens that its places have in the pool at that call.
+use Prim.Native.Nat.{ℕ, _+_, _-_, min}
+use mathlib.Core.Bool.{Bool, true, false, cond, _||_}
+use mathlib.Core.List.{List, [], _∷_, map}
+use mathlib.Core.Path.{_≡_}
+use lib.Dec.{eqb}
+use lib.ListN.{getD}
+use Rattle.token.specs.EhciQtd.{totalBytes}
+use Rattle.common.specs.declared.kinds.EndpointType.{EndpointType}
+use Rattle.common.specs.declared.kinds.EndpointType.the-variants.{Control, Isochronous, Bulk, Interrupt}
+use Rattle.descriptor.specs.declared.qtd.QueueTransferDescriptor.{QueueTransferDescriptor}
+use Rattle.pool.specs.Chains.{blank, isErring}
+use Rattle.settings.specs.declared.settings.Settings.{Settings}
+use Rattle.controller.specs.declared.lent.Readings.{Readings}
+use Rattle.ehci.specs.declared.call.Call.the-variants.{Collect}
+use Rattle.ehci.specs.Replies.{answeredValues}
+use Rattle.promises.specs.Runs.{Always, History, Machine, Rows, World}
+use Rattle.promises.specs.Uses.{Use, isOf, uses}
+use Rattle.promises.specs.Bells.{cancelled}
+use Rattle.promises.specs.Rooms.{numberAt}
+use Rattle.promises.specs.Coverage.{dataOf}
+
+-- ---- the length
+
+-- a control request's data is one piece; "chunks of C, then the rest"
+abbrev pub pieceOf : EndpointType → ℕ → ℕ → ℕ
+pieceOf Control length limit = length
+pieceOf Isochronous length limit = limit
+pieceOf Bulk length limit = limit
+pieceOf Interrupt length limit = limit
+
+-- "the sum over data descriptors of max(0, requested − bytes left)": of each a piece is requested, of the last the rest
+abbrev pub moved : ℕ → ℕ → List ℕ → ℕ
+moved piece length [] = 0
+moved piece length (token ∷ tokens) = (min piece length - totalBytes token) + moved piece (length - piece) tokens
+
+-- ---- the tokens
+
+abbrev pub recordsAt : Rows → List ℕ → List QueueTransferDescriptor
+recordsAt rows places = map (λ p. getD (rows .pool) p blank) places
+
+abbrev pub tokensOf : List QueueTransferDescriptor → List ℕ
+tokensOf ds = map (λ d. d .token) ds
+
+abbrev pub erring : List ℕ → List ℕ
+erring [] = []
+erring (token ∷ tokens) = cond (isErring token) (token ∷ erring tokens) (erring tokens)
+
+-- ---- what is due
+
+pub record Due : Type 0 where
+  pub number : ℕ
+  pub values : List ℕ
+
+-- "else Failed with the first erring token; else the sum"
+abbrev pub finishedDue : List ℕ → ℕ → Due
+finishedDue [] length = record { number = 0; values = length ∷ [] }
+finishedDue (token ∷ more) length = record { number = 11; values = token ∷ [] }
+
+-- "Cancelled if cancelled"
+abbrev pub dueOf : Bool → List ℕ → ℕ → Due
+dueOf true failed length = record { number = 10; values = [] }
+dueOf false failed length = finishedDue failed length
+
+abbrev pub dueTo : Settings → History → Rows → Use → Due
+dueTo s h rows u =
+    let r = u .request in
+    let records = recordsAt rows (u .places) in
+    dueOf (cancelled s (u .slot) h) (erring (tokensOf records))
+    (moved (pieceOf (r .kind) (r .length) (s .limit)) (r .length) (tokensOf (dataOf (r .kind) records)))
+
+-- ---- of any machine
+
+-- 0, 10 and 11 collect
+abbrev pub isCollection : ℕ → Bool
+isCollection n = eqb n 0 || eqb n 10 || eqb n 11
+
+abbrev pub those : ℕ → ℕ → List Use → List Use
+those k id [] = []
+those k id (u ∷ us) = cond (isOf k id u) (u ∷ those k id us) (those k id us)
+
+-- one request of that slot and id is uncollected, and the answer has the number and the values that are due to it
+pub record Answers (m : Machine) (s : Settings) (h : History) (w : World) (k id : ℕ) (readings : Readings) : Type 0 where
+  pub uncollected : Use
+  pub only : those k id (uses s h) ≡ uncollected ∷ []
+  pub number-is : numberAt m w (Collect k id readings) ≡ dueTo s h (w .rows) uncollected .number
+  pub values-are : answeredValues (m w (Collect k id readings) .reply .answer) ≡ dueTo s h (w .rows) uncollected .values
+
+abbrev pub CollectsDue : Machine → Type 0
+CollectsDue m =
+    Always
+    (λ s h w. (k id : ℕ) (readings : Readings) → isCollection (numberAt m w (Collect k id readings)) ≡ true → Answers m s h w k id readings)
+    m

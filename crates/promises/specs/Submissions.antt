@@ -1,0 +1,162 @@
+-- What an accepted submit leaves: its descriptors with their tokens, its setup packet, its overlay; and what of it stays until it is collected.
+use Prim.Native.Nat.{ℕ, zero, suc, _+_, _-_, _*_, _/_, _%_, _^_, _<_}
+use mathlib.Core.Bool.{Bool, true, false}
+use mathlib.Core.List.{List, [], _∷_, map}
+use mathlib.Core.Path.{_≡_}
+use lib.Dec.{eqb}
+use lib.ListN.{getD, replicate}
+use Rattle.token.specs.EhciQtd.{currentPage, dataToggle, errorCounter, inCode, interruptOnComplete, outCode, pidCode, setupCode, status, totalBytes}
+use Rattle.common.specs.declared.kinds.Direction.{Direction}
+use Rattle.common.specs.declared.kinds.Direction.the-variants.{Out, In}
+use Rattle.common.specs.declared.kinds.EndpointType.{EndpointType}
+use Rattle.common.specs.declared.kinds.EndpointType.the-variants.{Control, Isochronous, Bulk, Interrupt}
+use Rattle.descriptor.specs.UsbSetup.{bmRequestType, bRequest, wIndex, wLength, wValue}
+use Rattle.descriptor.specs.declared.qtd.QueueTransferDescriptor.{QueueTransferDescriptor}
+use Rattle.pool.specs.Chains.{blank, withToken}
+use Rattle.pool.specs.Places.{upFrom}
+use Rattle.settings.specs.declared.settings.Settings.{Settings}
+use Rattle.controller.specs.declared.lent.Readings.{Readings}
+use Rattle.request.specs.declared.judge.TransferRequest.{TransferRequest}
+use Rattle.ehci.specs.declared.call.Call.{Call}
+use Rattle.ehci.specs.declared.call.Call.the-variants.{Collect, Submit, Writeback}
+use Rattle.promises.specs.Runs.{Always, History, Machine, Rows, World, rowsOf}
+use Rattle.promises.specs.Uses.{uses}
+use Rattle.promises.specs.Walks.{chainWalk}
+use Rattle.promises.specs.Rooms.{Every, numberAt}
+use Rattle.promises.specs.Coverage.{bytesOf, recordsMet}
+use Rattle.promises.specs.Collections.{isCollection}
+
+-- ---- a descriptor's words but next and pages, its token by EHCI 3.5.3: the seven fields are all of its 32 bits
+
+pub record Fields : Type 0 where
+  pub alternate : ℕ
+  pub upper : List ℕ
+  pub status : ℕ
+  pub pid : ℕ
+  pub counter : ℕ
+  pub page : ℕ
+  pub interrupt : ℕ
+  pub bytes : ℕ
+  pub toggle : ℕ
+
+abbrev pub fieldsOf : QueueTransferDescriptor → Fields
+fieldsOf d =
+    record {
+      alternate = d .alternate;
+      upper = d .upper;
+      status = status (d .token);
+      pid = pidCode (d .token);
+      counter = errorCounter (d .token);
+      page = currentPage (d .token);
+      interrupt = interruptOnComplete (d .token);
+      bytes = totalBytes (d .token);
+      toggle = dataToggle (d .token);
+    }
+
+-- ---- "Tokens and plans"
+
+-- alternate 1, upper slots 0; active and nothing else in its status, error counter 3, from the first page on
+abbrev pub planned : ℕ → ℕ → ℕ → ℕ → Fields
+planned pid bytes toggle interrupt =
+    record {
+      alternate = 1;
+      upper = replicate 5 0;
+      status = 128;
+      pid = pid;
+      counter = 3;
+      page = 0;
+      interrupt = interrupt;
+      bytes = bytes;
+      toggle = toggle;
+    }
+
+abbrev pub pidBy : Direction → ℕ
+pidBy Out = outCode
+pidBy In = inCode
+
+-- "Out after In data, otherwise In"
+abbrev pub statusAfter : Direction → ℕ
+statusAfter Out = inCode
+statusAfter In = outCode
+
+-- "setup (8 bytes, toggle 0); data if length > 0 (toggle 1); status (0 bytes, toggle 1, interrupt)"; the Bool: length is 0
+abbrev pub stages : Direction → ℕ → Bool → List Fields
+stages d length true = planned setupCode 8 0 0 ∷ planned inCode 0 1 1 ∷ []
+stages d length false = planned setupCode 8 0 0 ∷ planned (pidBy d) length 1 0 ∷ planned (statusAfter d) 0 1 1 ∷ []
+
+-- "chunks of C, then the rest .. Toggle 0; only the last interrupts": so many of C, and the last
+abbrev pub chunks : ℕ → ℕ → ℕ → ℕ → List Fields
+chunks zero pid limit length = planned pid length 0 1 ∷ []
+chunks (suc n) pid limit length = planned pid limit 0 0 ∷ chunks n pid limit (length - limit)
+
+abbrev pub plan : EndpointType → Direction → ℕ → ℕ → List Fields
+plan Control d length limit = stages d length (eqb length 0)
+plan Isochronous d length limit = chunks ((length - 1) / limit) (pidBy d) limit length
+plan Bulk d length limit = chunks ((length - 1) / limit) (pidBy d) limit length
+plan Interrupt d length limit = chunks ((length - 1) / limit) (pidBy d) limit length
+
+-- ---- setup packets: 8 bytes a slot
+
+abbrev pub packetAt : Rows → ℕ → List ℕ
+packetAt rows k = map (λ j. getD (rows .setups) (8 * k + j) 0) (0 ∷ 1 ∷ 2 ∷ 3 ∷ 4 ∷ 5 ∷ 6 ∷ 7 ∷ [])
+
+-- "Setup bytes by USB 9.3; the length field is the buffer's": the call gives bytes 0 to 5 as one number, byte 0 lowest
+pub record Asks (bytes : List ℕ) (setup length : ℕ) : Type 0 where
+  pub type-is : bmRequestType bytes ≡ setup % 2 ^ 8
+  pub request-is : bRequest bytes ≡ setup / 2 ^ 8 % 2 ^ 8
+  pub value-is : wValue bytes ≡ setup / 2 ^ 16 % 2 ^ 16
+  pub index-is : wIndex bytes ≡ setup / 2 ^ 32 % 2 ^ 16
+  pub length-is : wLength bytes ≡ length
+
+-- ---- heads: word i of slot k's; the overlay's next, alternate and token are words 4, 5 and 6
+
+abbrev pub wordAt : Rows → ℕ → ℕ → ℕ
+wordAt rows k i = getD (rows .heads) (17 * (k + 1) + i) 0
+
+-- ---- at an accepted submit's exit
+
+pub record Submitted (s : Settings) (rows : Rows) (k : ℕ) (t : TransferRequest) : Type 0 where
+  -- the descriptors that its overlay leads through are those of its plan, in order
+  pub planned-so : map fieldsOf (recordsMet s rows k) ≡ plan (t .kind) (t .direction) (t .length) (s .limit)
+  -- a control request's packet reads as the call asked, and the setup descriptor leads to it
+  pub packet : t .kind ≡ Control → Asks (packetAt rows k) (t .setup) (t .length)
+  pub leads : t .kind ≡ Control → bytesOf (getD (recordsMet s rows k) 0 blank) ≡ upFrom (s .setups + 8 * k) 8
+  -- "Submit writes overlay next = first descriptor, alternate 1, token 0"
+  pub next-is : wordAt rows k 4 ≡ s .pool + 64 * getD (chainWalk s rows k) 0 0
+  pub alternate-is : wordAt rows k 5 ≡ 1
+  pub token-is : wordAt rows k 6 ≡ 0
+
+abbrev pub SubmitsPlanned : Machine → Type 0
+SubmitsPlanned m =
+    Always
+    (λ s h w. (k : ℕ) (t : TransferRequest) (readings : Readings) → numberAt m w (Submit k t readings) ≡ 0
+    → Submitted s (rowsOf (m w (Submit k t readings))) k t)
+    m
+
+-- ---- until it is collected
+
+-- any next call leaves the setup packet of an uncollected request; an accepted writeback gives its place's record the token. That no
+-- other call changes such a record is `ExclusivePlaces`
+pub record Stays (m : Machine) (s : Settings) (h : History) (w : World) : Type 0 where
+  pub packets : (c : Call) → Every (λ u. packetAt (rowsOf (m w c)) (u .slot) ≡ packetAt (w .rows) (u .slot)) (uses s h)
+  pub written : (p token : ℕ) → numberAt m w (Writeback p token) ≡ 0
+      → getD (rowsOf (m w (Writeback p token)) .pool) p blank ≡ withToken (getD (w .rows .pool) p blank) token
+
+abbrev pub SubmittedStays : Machine → Type 0
+SubmittedStays m = Always (Stays m) m
+
+-- so in every world each uncollected control request's packet reads as its call asked
+abbrev pub PacketsStand : Machine → Type 0
+PacketsStand m =
+    Always
+    (λ s h w. Every (λ u. u .request .kind ≡ Control → Asks (packetAt (w .rows) (u .slot)) (u .request .setup) (u .request .length)) (uses s h))
+    m
+
+-- ---- "Passed: descriptors freed, current 0, overlay terminated (next 1, alternate 1, rest 0)": words 3 to 16
+
+abbrev pub CollectsEnded : Machine → Type 0
+CollectsEnded m =
+    Always
+    (λ s h w. (k id : ℕ) (readings : Readings) → isCollection (numberAt m w (Collect k id readings)) ≡ true
+    → (j : ℕ) → j < 14 → wordAt (rowsOf (m w (Collect k id readings))) k (3 + j) ≡ getD (0 ∷ 1 ∷ 1 ∷ replicate 11 0) j 0)
+    m
