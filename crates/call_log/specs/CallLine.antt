@@ -11,9 +11,8 @@ use Rattle.ehci.specs.declared.reply.Answered.{Answered}
 use Rattle.ehci.specs.declared.reply.Answered.the-variants.{Done, Pending, Cancelled, Failed, Refused}
 use Rattle.ehci.specs.declared.reply.Given.{Given}
 use Rattle.ehci.specs.declared.reply.Given.the-variants as G
-use Rattle.root_hub.specs.Ports.{eventPort}
+use Rattle.root_hub.specs.Ports.{eventPort, portEventNumber}
 use Rattle.root_hub.specs.declared.ports.PortEvent.{PortEvent}
-use Rattle.root_hub.specs.declared.ports.PortEvent.the-variants as P
 use Rattle.text.specs.Text.{decimal, hex}
 use Rattle.call_log.specs.Lines.{lineOf, word}
 use Rattle.call_log.specs.declared.line.Part.{Part}
@@ -63,12 +62,6 @@ givenLine n call given = callLine n call 0 (givenValues given)
 
 abbrev pub answeredLine : ℕ → ℕ → Answered → List ℕ
 answeredLine n call answered = callLine n call (answeredNumber answered) (answeredValues answered)
-
--- 0 none, 1 Connected, 2 Disconnected
-abbrev pub portEventNumber : PortEvent → ℕ
-portEventNumber P.Nothing = 0
-portEventNumber (P.Connected port speed) = 1
-portEventNumber (P.Disconnected port) = 2
 
 -- a scan's start or step, or port power: refused, it gives no values
 abbrev pub scanLine : ℕ → ℕ → Answer → NextRead → ℕ → PortEvent → List ℕ

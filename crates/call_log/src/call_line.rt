@@ -3,11 +3,11 @@ ghost use mathlib.Core.Path.{_≡_};
 ghost use mathlib.Core.List.{[], _∷_};
 ghost use Rattle.text.specs.Text.{decimal};
 ghost use Rattle.ehci.specs.Replies.{eventValue};
+ghost use Rattle.root_hub.specs.Ports.{portEventNumber};
 ghost use Rattle.call_log.specs.CallLine.{
   answeredLine,
   callLine,
   givenLine,
-  portEventNumber,
   registerPart,
   scanLine,
   stepLine,

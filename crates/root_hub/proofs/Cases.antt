@@ -251,6 +251,9 @@ module _ (h : EhciRootHub) (e : hubGood h ≡ true) where
   pub port-most : (h .step ≡ 0 → ⊥) → h .port ≤ h .ports
   port-most z = leb-true (h .port) (h .ports) (both-first _ _ (begun-tells z))
 
+  pub step-within : (h .step ≡ 0 → ⊥) → within (h .step) 1 6 ≡ true
+  step-within z = both-first _ _ (both-second (leb (h .port) (h .ports)) _ (begun-tells z))
+
   pub step-fits : (h .step ≡ 0 → ⊥) → fits (awaitedOf (h .step)) (stateAt h) ≡ true
   step-fits z = both-second (within (h .step) 1 6) _ (both-second (leb (h .port) (h .ports)) _ (begun-tells z))
 

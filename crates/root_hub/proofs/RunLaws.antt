@@ -23,7 +23,8 @@ use Rattle.common.specs.declared.answer.Refusal.the-variants.{InvalidParameter}
 use Rattle.opening.specs.Hub.{openedHub}
 use Rattle.opening.specs.declared.hub.EhciRootHub.{EhciRootHub}
 use Rattle.common.specs.declared.reads.NextRead.the-variants.{Nothing as NoRead, Register}
-use Rattle.root_hub.specs.declared.ports.PortEvent.the-variants.{Nothing as NoEvent}
+use Rattle.root_hub.specs.declared.ports.PortEvent.{PortEvent}
+use Rattle.root_hub.specs.declared.ports.PortEvent.the-variants.{Nothing as NoEvent, Connected, Disconnected}
 use Rattle.root_hub.specs.declared.scan.Awaited.{Awaited}
 use Rattle.root_hub.specs.declared.scan.Awaited.the-variants.{Status, Gone, Reset, Release, Again, Owner}
 use Rattle.root_hub.specs.declared.scan.Change.{Change}
@@ -31,7 +32,7 @@ use Rattle.root_hub.specs.declared.scan.Change.the-variants.{Nothing as 
 use Rattle.root_hub.specs.declared.scan.Place.{Place}
 use Rattle.root_hub.specs.declared.scan.Turned.{Turned}
 use Rattle.root_hub.specs.declared.calls.Scanned.{Scanned}
-use Rattle.root_hub.specs.Ports.{eventPort, portState}
+use Rattle.root_hub.specs.Ports.{Reports, eventPort, portEventNumber, portEventValues, portState}
 use Rattle.root_hub.specs.Scan.{awaitedOf, connected, enabled, statusTurn, againTurn, turnOf, placeAfter, portWrites}
 use Rattle.root_hub.specs.Ranges.{stateGood, statesGood, fits, stateAt, placeGood, hubGood}
 use Rattle.root_hub.specs.Calls.{withScan, refusedScan, startOf, scannedOf, turnAt, stepOf}
@@ -41,17 +42,17 @@ use Rattle.root_hub.proofs.Cases.{start-done, step-bad, step-none, step
 -- ---- the calls by their cases
 
 module _ (h : EhciRootHub) (e : hubGood h ≡ true) where
-  start-is : startOf h ≡ record { hub = withScan h (h .states) 1 1; reply = record { answer = Done; event = NoEvent; writes = noWrites; read = Register (portscOf 1); wait = 0 } }
+  pub start-is : startOf h ≡ record { hub = withScan h (h .states) 1 1; reply = record { answer = Done; event = NoEvent; writes = noWrites; read = Register (portscOf 1); wait = 0 } }
   start-is = sym (start-done h true (sym e) _ _ refl refl refl)
 
-  step-idle : (v : ℕ) → h .step ≡ 0 → stepOf h v ≡ refusedScan h InvalidParameter
+  pub step-idle : (v : ℕ) → h .step ≡ 0 → stepOf h v ≡ refusedScan h InvalidParameter
   step-idle v z = sym (step-none h true (sym e) v _ refl z refl)
 
-  step-is : (v : ℕ) → (h .step ≡ 0 → ⊥) → stepOf h v ≡ scannedOf h (turnAt h v) (placeAfter (h .port) (h .ports) (turnAt h v .step))
+  pub step-is : (v : ℕ) → (h .step ≡ 0 → ⊥) → stepOf h v ≡ scannedOf h (turnAt h v) (placeAfter (h .port) (h .ports) (turnAt h v .step))
   unfolding scannedOf
   step-is v z = sym (step-done h true (sym e) v _ _ _ _ _ refl z refl refl refl refl refl)
 
-step-out : (h : EhciRootHub) (v : ℕ) → hubGood h ≡ false → stepOf h v ≡ refusedScan h InvalidParameter
+pub step-out : (h : EhciRootHub) (v : ℕ) → hubGood h ≡ false → stepOf h v ≡ refusedScan h InvalidParameter
 step-out h v e = sym (step-bad h false (sym e) v _ refl refl)
 
 -- ---- what a reading does
@@ -70,9 +71,9 @@ record Turns (a : Awaited) (st p v : ℕ) (t : Turned) : Type 0 where
   step-most : t .step ≤ 6
   fitting : (t .step ≡ 0 → ⊥) → fits (awaitedOf (t .step)) (t .state) ≡ true
   nearer : (t .step ≡ 0 → ⊥) → rank (awaitedOf (t .step)) < rank a
-  eventful : (eventPort (t .event) ≡ 0) ⊎ ((eventPort (t .event) ≡ p) × (t .step ≡ 0))
+  eventful : (portEventNumber (t .event) ≡ 0) ⊎ ((eventPort (t .event) ≡ p) × (t .step ≡ 0))
 
-by-state : (P : ℕ → Type 0) → P 0 → P 1 → P 2 → (st : ℕ) → st ≤ 2 → P st
+pub by-state : (P : ℕ → Type 0) → P 0 → P 1 → P 2 → (st : ℕ) → st ≤ 2 → P st
 by-state P a b c zero h = a
 by-state P a b c (suc zero) h = b
 by-state P a b c (suc (suc zero)) h = c
@@ -178,12 +179,12 @@ states-make h k zero g = refl
 states-make h k (suc n) g =
     rw (g k (omega arith) (omega arith)) (states-make h (suc k) n (λ i l m. g i (omega arith) (omega arith)))
 
-hub-makes : (h : EhciRootHub) → within (h .ports) 1 15 ≡ true → ((i : ℕ) → i < 15 → stateRight h i ≡ true) → placeGood h ≡ true → hubGood h ≡ true
+pub hub-makes : (h : EhciRootHub) → within (h .ports) 1 15 ≡ true → ((i : ℕ) → i < 15 → stateRight h i ≡ true) → placeGood h ≡ true → hubGood h ≡ true
 unfolding hubGood
 hub-makes h w g p = rw (w, states-make h 0 15 (λ i l m. g i (omega arith)), p)
 
 module _ (h : EhciRootHub) (e : hubGood h ≡ true) where
-  ports-within : within (h .ports) 1 15 ≡ true
+  pub ports-within : within (h .ports) 1 15 ≡ true
   unfolding hubGood
   ports-within = both-first _ _ e
 
@@ -203,21 +204,21 @@ state-makes n k st l m = rw (lt-ltb k n l, le-leb st 2 m)
 
 -- ---- a scan that is begun
 
-record Begun (h : EhciRootHub) : Type 0 where
-  right : Right h
-  begun : h .step ≡ 0 → ⊥
+pub record Begun (h : EhciRootHub) : Type 0 where
+  pub right : Right h
+  pub begun : h .step ≡ 0 → ⊥
 
 module _ (h : EhciRootHub) (b : Begun h) where
-  port-least : 1 ≤ h .port
+  pub port-least : 1 ≤ h .port
   port-least = port-some h (b .right .good) (b .begun)
 
-  port-within : h .port ≤ h .ports
+  pub port-within : h .port ≤ h .ports
   port-within = port-most h (b .right .good) (b .begun)
 
-  ports-most : h .ports ≤ 15
+  pub ports-most : h .ports ≤ 15
   ports-most = good-most h (b .right .good)
 
-  here-most : stateAt h ≤ 2
+  pub here-most : stateAt h ≤ 2
   here-most =
       let l : h .port - 1 < 15 = omega (arith, port-least, port-within, ports-most) in
       let m : h .port - 1 < h .ports = omega (arith, port-least, port-within) in
@@ -227,7 +228,7 @@ module _ (h : EhciRootHub) (b : Begun h) where
   turns v = turn-turns (h .port) v (awaitedOf (h .step)) (stateAt h) here-most (step-fits h (b .right .good) (b .begun))
 
   -- the port's state replaced, every state is as it must be
-  set-right : (n : ℕ) → n ≤ 2 → (i : ℕ) → i < 15 → stateGood (h .ports) i (getD (set (h .states) (h .port - 1) n) i 0) ≡ true
+  pub set-right : (n : ℕ) → n ≤ 2 → (i : ℕ) → i < 15 → stateGood (h .ports) i (getD (set (h .states) (h .port - 1) n) i 0) ≡ true
   set-right n m i l = by (decEq i (h .port - 1))
     where
       by : Dec (i ≡ h .port - 1) → stateGood (h .ports) i (getD (set (h .states) (h .port - 1) n) i 0) ≡ true
@@ -237,28 +238,28 @@ module _ (h : EhciRootHub) (b : Begun h) where
           (state-makes (h .ports) (h .port - 1) n (omega (arith, port-least, port-within)) m)
       by (no ne) = rw (getD-set-other (h .states) (h .port - 1) i n 0 ne) (states-right h (b .right .good) i l)
 
-  here-set : (n : ℕ) → getD (set (h .states) (h .port - 1) n) (h .port - 1) 0 ≡ n
+  pub here-set : (n : ℕ) → getD (set (h .states) (h .port - 1) n) (h .port - 1) 0 ≡ n
   here-set n =
       let inside : h .port - 1 < length (h .states) = omega (arith, b .right .sized, port-least, port-within, ports-most) in
       getD-set-same (h .states) (h .port - 1) n 0 inside
 
-  set-sized : (n : ℕ) → length (set (h .states) (h .port - 1) n) ≡ 15
+  pub set-sized : (n : ℕ) → length (set (h .states) (h .port - 1) n) ≡ 15
   set-sized n = length-set (h .states) (h .port - 1) n ∙ b .right .sized
 
 -- ---- where a step goes
 
 -- nothing is reported, or something of the port that the scan was at
 abbrev Tells : EhciRootHub → Scanned → Type 0
-Tells h r = (eventPort (r .reply .event) ≡ 0) ⊎ (eventPort (r .reply .event) ≡ h .port)
+Tells h r = (portEventNumber (r .reply .event) ≡ 0) ⊎ (eventPort (r .reply .event) ≡ h .port)
 
 data Moves (h : EhciRootHub) (r : Scanned) : Type 0 where
   on : r .hub .port ≡ h .port → (r .hub .step ≡ 0 → ⊥)
-      → rank (awaitedOf (r .hub .step)) < rank (awaitedOf (h .step)) → eventPort (r .reply .event) ≡ 0 → r .reply .read ≡ Register (portscOf (h .port)) → Moves h r
+      → rank (awaitedOf (r .hub .step)) < rank (awaitedOf (h .step)) → portEventNumber (r .reply .event) ≡ 0 → r .reply .read ≡ Register (portscOf (h .port)) → Moves h r
   next : r .hub .port ≡ h .port + 1 → r .hub .step ≡ 1 → h .port < h .ports → Tells h r → r .reply .read ≡ Register (portscOf (h .port + 1)) → Moves h r
   over : r .hub .step ≡ 0 → r .reply .read ≡ NoRead → h .ports ≤ h .port → Tells h r → Moves h r
 
-record After (h : EhciRootHub) (r : Scanned) : Type 0 where
-  right : Right (r .hub)
+pub record After (h : EhciRootHub) (r : Scanned) : Type 0 where
+  pub right : Right (r .hub)
   same-ports : r .hub .ports ≡ h .ports
   accepted : numberOf (r .reply .answer) ≡ 0
   moves : Moves h r
@@ -346,18 +347,18 @@ module _ (h : EhciRootHub) (b : Begun h) (v : ℕ) (t : Turned) (k : Turns (awai
       let m : h .ports ≤ h .port = ltb-false (h .port) (h .ports) q in
       rw (← place-end (h .port) (h .ports) (t .step) z m) (after-end m)
 
-after : (h : EhciRootHub) (b : Begun h) (v : ℕ) → After h (stepOf h v)
+pub after : (h : EhciRootHub) (b : Begun h) (v : ℕ) → After h (stepOf h v)
 after h b v =
     rw (step-is h (b .right .good) v (b .begun))
     (after-turn h b v (turnAt h v) (turns h b v) (decEq (turnAt h v .step) 0) (ltb (h .port) (h .ports)) refl)
 
 -- ---- the start
 
-started : EhciRootHub → EhciRootHub
+unfoldable pub started : EhciRootHub → EhciRootHub
 started h = withScan h (h .states) 1 1
 
 module _ (h : EhciRootHub) (r : Right h) where
-  started-is : startOf h .hub ≡ started h
+  pub started-is : startOf h .hub ≡ started h
   unfolding started
   started-is = ap (λ (s : Scanned). s .hub) (start-is h (r .good))
 
@@ -365,7 +366,7 @@ module _ (h : EhciRootHub) (r : Right h) where
   unfolding started withScan placeGood
   started-place = rw (le-leb 1 (h .ports) (within-least (h .ports) 1 15 (ports-within h (r .good))))
 
-  started-begun : Begun (started h)
+  pub started-begun : Begun (started h)
   unfolding started withScan
   started-begun =
       record {
@@ -447,7 +448,7 @@ ends-in-time h vs r l =
 -- a step where none is begun leaves the record as it is, tells nothing and asks for nothing
 record Idles (h : EhciRootHub) (r : Scanned) : Type 0 where
   kept : r .hub ≡ h
-  untold : eventPort (r .reply .event) ≡ 0
+  untold : portEventNumber (r .reply .event) ≡ 0
   unread : r .reply .read ≡ NoRead
 
 idle-stays : (h : EhciRootHub) (v : ℕ) → h .step ≡ 0 → Idles h (stepOf h v)
@@ -467,7 +468,7 @@ idle-asks h (v ∷ vs) z = rw (idle-stays h v z .unread, idle-stays h v z .kept)
 idle-reports : (h : EhciRootHub) (vs : List ℕ) → h .step ≡ 0 → reported h vs ≡ []
 idle-reports h [] z = refl
 idle-reports h (v ∷ vs) z =
-    rw (eq-eqb (eventPort (stepOf h v .reply .event)) 0 (idle-stays h v z .untold), idle-stays h v z .kept) (idle-reports h vs z)
+    rw (eq-eqb (portEventNumber (stepOf h v .reply .event)) 0 (idle-stays h v z .untold), idle-stays h v z .kept) (idle-reports h vs z)
 
 same-stretch : (p : ℕ) (l : List ℕ) → stretches (p ∷ p ∷ l) ≡ stretches (p ∷ l)
 same-stretch p l = rw (eq-eqb p p refl)
@@ -533,6 +534,12 @@ visits-all h vs r l =
 
 -- ---- one event each
 
+-- where nothing is told no port is
+none-of : (e : PortEvent) → portEventNumber e ≡ 0 → 0 < eventPort e → ⊥
+none-of NoEvent z l = omega arith
+none-of (Connected port speed) z l = omega (arith, z)
+none-of (Disconnected port) z l = omega (arith, z)
+
 ascends : (h : EhciRootHub) (vs : List ℕ) (q : ℕ) → Begun h → q < h .port → Ascends q (reported h vs)
 ascends h [] q b l = tt
 ascends h (v ∷ vs) q b l =
@@ -540,15 +547,15 @@ ascends h (v ∷ vs) q b l =
   where
     -- what is told of this port, and then what follows above it
     told : Tells h (stepOf h v) → ((p : ℕ) → p ≤ h .port → Ascends p (reported (stepOf h v .hub) vs)) → Ascends q (reported h (v ∷ vs))
-    told (inl z) rest = rw (eq-eqb (eventPort (stepOf h v .reply .event)) 0 z) (rest q (omega arith))
+    told (inl z) rest = rw (eq-eqb (portEventNumber (stepOf h v .reply .event)) 0 z) (rest q (omega arith))
     told (inr z) rest =
-        let some : eventPort (stepOf h v .reply .event) ≡ 0 → ⊥ = λ w. omega (arith, z, w) in
-        rw (ne-eqb (eventPort (stepOf h v .reply .event)) 0 some, z) (l, rest (h .port) (omega arith))
+        let some : portEventNumber (stepOf h v .reply .event) ≡ 0 → ⊥ = λ w. none-of (stepOf h v .reply .event) w (omega (arith, z, l)) in
+        rw (ne-eqb (portEventNumber (stepOf h v .reply .event)) 0 some, z) (l, rest (h .port) (omega arith))
 
     go : ((p : ℕ) → Begun (stepOf h v .hub) → p < stepOf h v .hub .port → Ascends p (reported (stepOf h v .hub) vs))
         → After h (stepOf h v) → Moves h (stepOf h v) → Ascends q (reported h (v ∷ vs))
     go later a (on ep n0 near ev rd) =
-        rw (eq-eqb (eventPort (stepOf h v .reply .event)) 0 ev) (later q (record { right = a .right; begun = n0 }) (omega (arith, ep)))
+        rw (eq-eqb (portEventNumber (stepOf h v .reply .event)) 0 ev) (later q (record { right = a .right; begun = n0 }) (omega (arith, ep)))
     go later a (next ep es m ev rd) =
         told ev (λ p w. later p (record { right = a .right; begun = λ z. omega (arith, es, z) }) (omega (arith, ep)))
     go later a (over es er m ev) = told ev (λ p w. rw (idle-reports (stepOf h v .hub) vs es) tt)
@@ -558,11 +565,15 @@ one-event-each h vs r = rw (started-is h r) (ascends (started h) vs 0 (started-b
 
 -- ---- a port's state
 
+-- an event that is known, by its number and values
+says : (r : Scanned) (e : PortEvent) → r .reply .event ≡ e → Reports (r .reply .event) (portEventNumber e) (portEventValues e)
+says r e q = (ap portEventNumber q, ap portEventValues q)
+
 again-rule : (c d : Bool) (p v st : ℕ) (r : Scanned) → connected v ≡ c → enabled v ≡ d → st ≡ 1
     → r .reply .event ≡ againTurn st p c d .event → ByRule Again p v st (againTurn st p c d .state) r
-again-rule true true p v st r ec ed q e = probed refl q refl ec ed e
-again-rule true false p v st r ec ed q e = stays refl e
-again-rule false d p v st r ec ed q e = stays refl e
+again-rule true true p v st r ec ed q e = probed refl q refl ec ed (says r _ e)
+again-rule true false p v st r ec ed q e = stays refl (says r _ e)
+again-rule false d p v st r ec ed q e = stays refl (says r _ e)
 
 status-event : (c : Bool) (st p v : ℕ) → st ≤ 2 → (statusTurn (portState st) st c .state ≡ st) × (statusTurn (portState st) st c .event ≡ NoEvent)
 status-event true st p v h =
@@ -572,18 +583,18 @@ status-event false st p v h =
 
 turn-rule : (a : Awaited) (p v st : ℕ) (r : Scanned) → st ≤ 2 → fits a st ≡ true → r .reply .event ≡ turnOf a st p v .event
     → ByRule a p v st (turnOf a st p v .state) r
-turn-rule Status p v st r h f e = stays (status-event (connected v) st p v h .0) (e ∙ status-event (connected v) st p v h .1)
-turn-rule Gone p v st r h f e = gone refl (eqb-true st 2 f) refl e
-turn-rule Reset p v st r h f e = stays refl e
-turn-rule Release p v st r h f e = reseted refl (eqb-true st 0 f) refl e
+turn-rule Status p v st r h f e = stays (status-event (connected v) st p v h .0) (says r NoEvent (e ∙ status-event (connected v) st p v h .1))
+turn-rule Gone p v st r h f e = gone refl (eqb-true st 2 f) refl (says r _ e)
+turn-rule Reset p v st r h f e = stays refl (says r _ e)
+turn-rule Release p v st r h f e = reseted refl (eqb-true st 0 f) refl (says r _ e)
 turn-rule Again p v st r h f e = again-rule (connected v) (enabled v) p v st r refl refl (eqb-true st 1 f) e
-turn-rule Owner p v st r h f e = stays refl e
+turn-rule Owner p v st r h f e = stays refl (says r _ e)
 
-scanned-event : (h : EhciRootHub) (t : Turned) (p : Place) → scannedOf h t p .reply .event ≡ t .event
+pub scanned-event : (h : EhciRootHub) (t : Turned) (p : Place) → scannedOf h t p .reply .event ≡ t .event
 unfolding scannedOf
 scanned-event h t p = refl
 
-scanned-states : (h : EhciRootHub) (t : Turned) (p : Place) → scannedOf h t p .hub .states ≡ set (h .states) (h .port - 1) (t .state)
+pub scanned-states : (h : EhciRootHub) (t : Turned) (p : Place) → scannedOf h t p .hub .states ≡ set (h .states) (h .port - 1) (t .state)
 unfolding scannedOf withScan
 scanned-states h t p = refl
 
@@ -647,7 +658,7 @@ place-kept port ports st n l e = by (decEq st 0) (ltb port ports) refl
     by (yes z) false q = absurd (omega (arith, rw (eq-eqb st 0 z, q) at e))
     by (no z) b q = rw (ne-eqb st 0 z) at e
 
-scanned-step : (h : EhciRootHub) (t : Turned) (p : Place) → scannedOf h t p .hub .step ≡ p .step
+pub scanned-step : (h : EhciRootHub) (t : Turned) (p : Place) → scannedOf h t p .hub .step ≡ p .step
 unfolding scannedOf withScan
 scanned-step h t p = refl
 
@@ -698,7 +709,7 @@ silent : map (λ (w : Write). w .offset) (listOf noWrites) ≡ []
 unfolding noWrites
 silent = refl
 
-scanned-writes : (h : EhciRootHub) (t : Turned) (p : Place) → scannedOf h t p .reply .writes ≡ portWrites (h .port) (t .change)
+pub scanned-writes : (h : EhciRootHub) (t : Turned) (p : Place) → scannedOf h t p .reply .writes ≡ portWrites (h .port) (t .change)
 unfolding scannedOf
 scanned-writes h t p = refl
 

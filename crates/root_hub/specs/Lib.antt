@@ -3,5 +3,7 @@ pub mod Scan
 pub mod Ranges
 pub mod Calls
 pub mod Runs
+pub mod Table
+pub mod Stories
 pub mod Examples
 pub mod Refusals

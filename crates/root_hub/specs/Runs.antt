@@ -14,12 +14,10 @@ use Rattle.opening.specs.Hub.{openedHub}
 use Rattle.opening.specs.declared.hub.EhciRootHub.{EhciRootHub}
 use Rattle.common.specs.declared.reads.NextRead.{NextRead}
 use Rattle.common.specs.declared.reads.NextRead.the-variants.{Nothing as NoRead, Register}
-use Rattle.root_hub.specs.declared.ports.PortEvent.the-variants.{Nothing as NoEvent, Connected, Disconnected}
-use Rattle.root_hub.specs.declared.ports.Speed.the-variants.{High}
 use Rattle.root_hub.specs.declared.scan.Awaited.{Awaited}
 use Rattle.root_hub.specs.declared.scan.Awaited.the-variants.{Status, Gone, Release, Again}
 use Rattle.root_hub.specs.declared.calls.Scanned.{Scanned}
-use Rattle.root_hub.specs.Ports.{eventPort}
+use Rattle.root_hub.specs.Ports.{Reports, eventPort, portEventNumber}
 use Rattle.root_hub.specs.Scan.{awaitedOf, connected, enabled}
 use Rattle.root_hub.specs.Ranges.{stateAt, hubGood}
 use Rattle.root_hub.specs.Calls.{startOf, stepOf}
@@ -82,7 +80,7 @@ VisitsAll =
 abbrev pub reported : EhciRootHub → List ℕ → List ℕ
 reported h [] = []
 reported h (v ∷ vs) =
-    skipIf (eqb (eventPort (stepOf h v .reply .event)) 0) (eventPort (stepOf h v .reply .event)) (reported (stepOf h v .hub) vs)
+    skipIf (eqb (portEventNumber (stepOf h v .reply .event)) 0) (eventPort (stepOf h v .reply .event)) (reported (stepOf h v .hub) vs)
 
 -- each larger than the one before
 abbrev pub Ascends : ℕ → List ℕ → Type 0
@@ -98,10 +96,10 @@ OneEventEach = (h : EhciRootHub) (vs : List ℕ) → Right h → Ascends 0 (repo
 -- by 01's rules alone: Uninit to Reseted when its reset is released; Reseted to Probed when it is connected and enabled,
 -- with Connected, High; Probed to Uninit when it is gone, with Disconnected. No event without its change.
 pub data ByRule (a : Awaited) (port v : ℕ) (old new : ℕ) (r : Scanned) : Type 0 where
-  stays : new ≡ old → r .reply .event ≡ NoEvent → ByRule a port v old new r
-  reseted : a ≡ Release → old ≡ 0 → new ≡ 1 → r .reply .event ≡ NoEvent → ByRule a port v old new r
-  probed : a ≡ Again → old ≡ 1 → new ≡ 2 → connected v ≡ true → enabled v ≡ true → r .reply .event ≡ Connected port High → ByRule a port v old new r
-  gone : a ≡ Gone → old ≡ 2 → new ≡ 0 → r .reply .event ≡ Disconnected port → ByRule a port v old new r
+  stays : new ≡ old → Reports (r .reply .event) 0 [] → ByRule a port v old new r
+  reseted : a ≡ Release → old ≡ 0 → new ≡ 1 → Reports (r .reply .event) 0 [] → ByRule a port v old new r
+  probed : a ≡ Again → old ≡ 1 → new ≡ 2 → connected v ≡ true → enabled v ≡ true → Reports (r .reply .event) 1 (port ∷ 2 ∷ []) → ByRule a port v old new r
+  gone : a ≡ Gone → old ≡ 2 → new ≡ 0 → Reports (r .reply .event) 2 (port ∷ []) → ByRule a port v old new r
 
 -- the port that the scan is at changes by rule, every other keeps its state
 abbrev pub OnlyByRule : Type 0
