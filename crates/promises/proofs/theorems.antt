@@ -22,3 +22,4 @@ pub mod CollectionLaws
 pub mod PlanLaws
 pub mod SubmissionLaws
 pub mod PacketLaws
+pub mod Kept

@@ -12,7 +12,7 @@ use Rattle.common.specs.Kinds.{isIsochronous}
 use Rattle.pipe.specs.declared.endpoints.Endpoint.{Endpoint}
 use Rattle.pipe.specs.declared.endpoints.Endpoint.the-variants.{Closed, Idle, Linked, Unlinking}
 use Rattle.common.specs.Answers.{Check, first}
-use Rattle.common.specs.declared.answer.Refusal.the-variants.{InvalidParameter, SlotLimitReached, InvalidEndpoint, QueueFull, NotSupported, NoMemory, Timeout, NotReady}
+use Rattle.common.specs.declared.answer.Refusal.the-variants.{InvalidParameter, SlotLimitReached, InvalidEndpoint, QueueFull, NotSupported, Timeout}
 use Rattle.controller.specs.Lent.{acceptsOf, lengths}
 use Rattle.controller.specs.Readers.{freeCount, isOpen, isUncollected}
 use Rattle.schedule.specs.Links.{detachOf}
@@ -28,6 +28,7 @@ use Rattle.ehci.specs.Decides.{asksOf}
 use Rattle.ehci.specs.Door.{seenBy}
 use Rattle.ehci.specs.Replies.{answeredNumber}
 use Rattle.promises.specs.Runs.{Machine, World}
+use Rattle.promises.specs.SubmitOrder.{submitOrder}
 use Rattle.promises.specs.Opened.{verdictNumber}
 
 -- "First: a lent row of a length other than opening fixed, or a state outside its ranges, 1."
@@ -77,16 +78,10 @@ furtherChecks w (SetAddress k a) =
     ∷ []
 furtherChecks w (SetPacketSize k size) =
     (not (isOpen (w .state) k), InvalidEndpoint) ∷ (isUncollected (w .state) k, QueueFull) ∷ []
--- "Submit: slot open 3, running 8, nothing uncollected 4, isochronous 5, kind equals the slot's 3, ranges 1, room 6."
 furtherChecks w (Submit k t readings) =
-    (not (isOpen (w .state) k), InvalidEndpoint)
-    ∷ (eqb (w .state .running) 0, NotReady)
-    ∷ (isUncollected (w .state) k, QueueFull)
-    ∷ (isIsochronous (t .kind), NotSupported)
-    ∷ (not (eqb (kindNumber (t .kind)) (slotAt (w .state) k .kind)), InvalidEndpoint)
-    ∷ (not (rangesGood t), InvalidParameter)
-    ∷ (ltb (freeCount (w .state)) (needOfRequest (w .state) t), NoMemory)
-    ∷ []
+    submitOrder (not (isOpen (w .state) k)) (eqb (w .state .running) 0) (isUncollected (w .state) k) (isIsochronous (t .kind))
+    (not (eqb (kindNumber (t .kind)) (slotAt (w .state) k .kind))) (not (rangesGood t))
+    (ltb (freeCount (w .state)) (needOfRequest (w .state) t))
 -- "Writeback (place, token): 1 unless an uncollected request has that descriptor"
 furtherChecks w (Writeback place token) = (not (inRequest (w .state) place), InvalidParameter) ∷ []
 -- "Cancel: 3 if not open, nothing uncollected, or wrong id." What stands before and after is met in no run (docs/DECISIONS.md)

@@ -4,6 +4,7 @@ pub mod Events
 pub mod Uses
 pub mod Bells
 pub mod Checks
+pub mod SubmitOrder
 pub mod Opened
 pub mod Ranges
 pub mod Rooms
@@ -15,3 +16,5 @@ pub mod Boundaries
 pub mod Faults
 pub mod Registers
 pub mod Ids
+pub mod Refusals
+pub mod Promises

@@ -2,7 +2,7 @@
 -- state; at the end, the law that ties the state to it.
 use Prim.Native.Nat.{ℕ, _+_}
 use mathlib.Core.Bool.{Bool, true, false, not, cond}
-use mathlib.Core.List.{List, [], _∷_, _++_, map}
+use mathlib.Core.List.{List, [], _∷_, map}
 use mathlib.Core.Path.{_≡_}
 use lib.Dec.{eqb, ltb}
 use Rattle.token.specs.Chunks.{needOf}
@@ -14,7 +14,6 @@ use Rattle.pipe.specs.declared.endpoints.Endpoint.the-variants.{Closed, Idle, L
 use Rattle.settings.specs.declared.settings.Settings.{Settings}
 use Rattle.state.specs.declared.state.Ehci.{Ehci}
 use Rattle.common.specs.Answers.{Check, Verdict, first, passed, refusalNumber, refused}
-use Rattle.common.specs.declared.answer.Refusal.the-variants.{InvalidParameter, InvalidEndpoint, QueueFull, NotSupported, NoMemory, NotReady}
 use Rattle.controller.specs.Readers.{isUncollected}
 use Rattle.controller.specs.declared.lent.Readings.{Readings}
 use Rattle.request.specs.Submit.{rangesGood}
@@ -24,6 +23,7 @@ use Rattle.ehci.specs.declared.call.Call.the-variants.{StartBringUp, BringUpSte
 use Rattle.ehci.specs.declared.reply.Answered.{Answered}
 use Rattle.ehci.specs.Replies.{answeredNumber, answeredValues}
 use Rattle.promises.specs.Runs.{Always, History, Machine, Turn, World}
+use Rattle.promises.specs.SubmitOrder.{beforeLack, submitOrder}
 use Rattle.promises.specs.Walks.{isIn}
 use Rattle.promises.specs.Events.{firstIn, isDone}
 use Rattle.promises.specs.Uses.{needs, uses}
@@ -117,16 +117,11 @@ hasKind kind (Open other) = eqb (kindNumber kind) (kindNumber other)
 abbrev pub isBusy : Settings → History → ℕ → Bool
 isBusy s h k = isIn k (map (λ u. u .slot) (uses s h))
 
--- "Submit: slot open 3, running 8, nothing uncollected 4, isochronous 5, kind equals the slot's 3, ranges 1, room 6": all but the last
+-- all but the last of what submit asks, as the history tells it
 abbrev pub earlierChecks : Settings → History → ℕ → TransferRequest → List Check
 earlierChecks s h k t =
-    (isShut (slotIn k h), InvalidEndpoint)
-    ∷ (not (runsIn h), NotReady)
-    ∷ (isBusy s h k, QueueFull)
-    ∷ (isIsochronous (t .kind), NotSupported)
-    ∷ (not (hasKind (t .kind) (slotIn k h)), InvalidEndpoint)
-    ∷ (not (rangesGood t), InvalidParameter)
-    ∷ []
+    beforeLack (isShut (slotIn k h)) (not (runsIn h)) (isBusy s h k) (isIsochronous (t .kind)) (not (hasKind (t .kind) (slotIn k h)))
+    (not (rangesGood t))
 
 abbrev pub beforeRoom : Settings → History → ℕ → TransferRequest → Verdict
 beforeRoom s h k t = first (earlierChecks s h k t)
@@ -136,7 +131,9 @@ abbrev pub wanted : Settings → History → TransferRequest → ℕ
 wanted s h t = needs s (uses s h) + needOf (t .kind) (t .length) (s .limit)
 
 abbrev pub submitAsks : Settings → History → ℕ → TransferRequest → List Check
-submitAsks s h k t = earlierChecks s h k t ++ (ltb (s .descriptors) (wanted s h t), NoMemory) ∷ []
+submitAsks s h k t =
+    submitOrder (isShut (slotIn k h)) (not (runsIn h)) (isBusy s h k) (isIsochronous (t .kind)) (not (hasKind (t .kind) (slotIn k h)))
+    (not (rangesGood t)) (ltb (s .descriptors) (wanted s h t))
 
 abbrev pub verdictNumber : Verdict → ℕ
 verdictNumber passed = 0

@@ -1,0 +1,61 @@
+-- This port keeps every promise.
+use Rattle.ehci.proofs.Refusals.{numbers-keep}
+use Rattle.ehci.proofs.WriteLaws as Writes
+use Rattle.promises.specs.Runs.{core}
+use Rattle.promises.specs.Promises.{Promises}
+use Rattle.promises.proofs.theorems.Order as Order
+use Rattle.promises.proofs.theorems.ChainRuns as Chains
+use Rattle.promises.proofs.theorems.ChainTheorems.{no-detach}
+use Rattle.promises.proofs.theorems.RoomPromises as Rooms
+use Rattle.promises.proofs.theorems.RangeTheorems as Ranges
+use Rattle.promises.proofs.theorems.SubmissionLaws as Submissions
+use Rattle.promises.proofs.theorems.PacketLaws as Packets
+use Rattle.promises.proofs.theorems.RegisterTheorems as Registers
+use Rattle.promises.proofs.theorems.BoundaryCore as Boundaries
+use Rattle.promises.proofs.theorems.BoundaryCancels as Cancels
+use Rattle.promises.proofs.theorems.FaultTheorem as Faults
+use Rattle.promises.proofs.theorems.CollectionLaws as Collections
+use Rattle.promises.proofs.theorems.IdTheorems as Ids
+
+pub kept : Promises core
+kept =
+    record {
+      refusals-keep = λ w c n. numbers-keep (w .state) (w .rows .pool) (w .rows .heads) (w .rows .frames) (w .rows .setups) c n;
+      few-writes = λ w c. Writes.few-writes (w .state) (w .rows .pool) (w .rows .heads) (w .rows .frames) (w .rows .setups) c;
+      in-order = Order.in-order;
+      chains-walked = Chains.chains-walked;
+      chains-lead = Rooms.chains-lead;
+      submits-planned = Submissions.submits-planned;
+      packets-stand = Packets.packets-stand;
+      collects-ended = Submissions.collects-ended;
+      writes-exactly = Registers.writes-exactly;
+      status-acknowledged = Registers.status-acknowledged;
+      rings-in-turn = Registers.rings-in-turn;
+      quiet-bring-up = Registers.quiet-bring-up;
+      interrupts-answered = Registers.interrupts-answered;
+      ranges-kept = Ranges.ranges-kept;
+      runs-while-held = Ranges.runs-while-held;
+      room-exact = Rooms.room-exact;
+      submit-verdict = Rooms.submit-verdict;
+      coverage = Rooms.buffers-covered;
+      exclusive-places = Rooms.exclusive-places;
+      submitted-stays = Submissions.submitted-stays;
+      boundary-kept = Boundaries.boundary-kept;
+      boundary-numbered = Boundaries.boundary-numbered;
+      frames-kept = Boundaries.frames-counted;
+      exact = Boundaries.exact;
+      passes-exactly = Boundaries.by-number-alone;
+      one-count = Boundaries.one-count-a-ring;
+      waits = Boundaries.order-13;
+      up-exactly = Boundaries.up-exactly;
+      uncrowded = Cancels.uncrowded;
+      orderly = Boundaries.orderly;
+      never-given = Faults.never-given;
+      collects-due = Collections.collects-due;
+      cancelled-answered = Cancels.cancelled-answered;
+      no-detach-fails = no-detach;
+      ids-in-turn = Ids.ids-in-turn;
+      state-says = Cancels.state-says;
+      fields-tied = Rooms.fields-tied;
+      registers-tied = Registers.registers-tied;
+    }

@@ -1,0 +1,84 @@
+-- What is promised: one record, a field for each promise, in the order of the demands. `kept` (proofs/theorems/Kept.antt) says that this port keeps
+-- them all. Each name leads down to its statement; a statement is about any machine, so the same words are refuted of machines with a fault.
+use Rattle.promises.specs.Runs.{Machine}
+use Rattle.promises.specs.Refusals.{FewWrites, RefusalsKeep}
+use Rattle.promises.specs.Checks.{InOrder}
+use Rattle.promises.specs.Chains.{ChainsWalked, NoDetachFails}
+use Rattle.promises.specs.Rooms.{ChainsLead, ExclusivePlaces, RoomExact}
+use Rattle.promises.specs.Submissions.{CollectsEnded, PacketsStand, SubmitsPlanned, SubmittedStays}
+use Rattle.promises.specs.Registers.{InterruptsAnswered, QuietBringUp, RegistersTied, RingsInTurn, StatusAcknowledged, WritesExactly}
+use Rattle.promises.specs.Ranges.{RangesKept, RunsWhileHeld}
+use Rattle.promises.specs.Opened.{FieldsTied, SubmitVerdict}
+use Rattle.promises.specs.Coverage.{Coverage}
+use Rattle.promises.specs.Boundaries.{BoundaryKept, BoundaryNumbered, CancelledAnswered, EveryRun, Exact, FramesKept, OneCount, Orderly, PassesExactly, StateSays, Uncrowded, UpExactly, Waits}
+use Rattle.promises.specs.Faults.{NeverGiven}
+use Rattle.promises.specs.Collections.{CollectsDue}
+use Rattle.promises.specs.Ids.{IdsInTurn}
+
+pub record Promises (m : Machine) : Type 0 where
+  -- ---- 1. Every call judges its own input
+
+  -- a refusal carries its number, writes no register and changes no lent word; a timeout stops the controller and no more
+  pub refusals-keep : RefusalsKeep m
+  pub few-writes : FewWrites m
+  -- what each call asks, and in which order
+  pub in-order : InOrder m
+  -- ---- 2. Words, links and bytes are as EHCI and USB define them
+
+  -- the ring's walk and each frame entry's meet exactly the linked heads, newest first, and end where they should
+  pub chains-walked : ChainsWalked m
+  -- each overlay leads through its request's descriptors, in order, and terminates
+  pub chains-lead : ChainsLead m
+  -- a submit leaves its plan's descriptors with their tokens, the setup packet that was asked for, and its overlay
+  pub submits-planned : SubmitsPlanned m
+  pub packets-stand : PacketsStand m
+  -- a collection leaves current 0 and a terminated overlay
+  pub collects-ended : CollectsEnded m
+  -- every register write of every call, and no other
+  pub writes-exactly : WritesExactly m
+  pub status-acknowledged : StatusAcknowledged m
+  pub rings-in-turn : RingsInTurn m
+  pub quiet-bring-up : QuietBringUp m
+  -- what an acknowledgment, a drain, a rearm, an enable and a disable answer
+  pub interrupts-answered : InterruptsAnswered m
+  -- ---- 3. After any calls from an accepted opening
+
+  -- the state is in its ranges
+  pub ranges-kept : RangesKept m
+  pub runs-while-held : RunsWhileHeld m
+  -- free descriptors are exactly the pool less what uncollected requests need; a submit lacks room exactly when that number is too small
+  pub room-exact : RoomExact m
+  pub submit-verdict : SubmitVerdict m
+  -- each byte of a buffer is addressed once and no other byte is
+  pub coverage : Coverage m
+  -- no descriptor serves a second request before its collection, and of its records only tokens change, by writeback
+  pub exclusive-places : ExclusivePlaces m
+  pub submitted-stays : SubmittedStays m
+  -- a collection comes only after the answer to a doorbell rung at or after its unlink
+  pub boundary-kept : EveryRun BoundaryKept m
+  pub boundary-numbered : EveryRun BoundaryNumbered m
+  -- or with FRINDEX 9 or more on
+  pub frames-kept : EveryRun FramesKept m
+  -- and comes where that is so
+  pub exact : EveryRun Exact m
+  pub passes-exactly : EveryRun PassesExactly m
+  -- one ring is counted at most once
+  pub one-count : EveryRun OneCount m
+  pub waits : EveryRun Waits m
+  pub up-exactly : EveryRun UpExactly m
+  pub uncrowded : EveryRun Uncrowded m
+  pub orderly : EveryRun Orderly m
+  -- so no submit is given a descriptor that the controller may still read
+  pub never-given : EveryRun NeverGiven m
+  -- a collection answers 10, 11 or 0 with the length, from the request and its last tokens; a cancelled request ends in 10
+  pub collects-due : CollectsDue m
+  pub cancelled-answered : EveryRun CancelledAnswered m
+  -- no unlink fails
+  pub no-detach-fails : NoDetachFails m
+  -- ids are 1, 2, .. from a slot's opening on
+  pub ids-in-turn : IdsInTurn m
+  -- ---- what the state's fields say is what the history says
+
+  pub state-says : EveryRun StateSays m
+  pub fields-tied : FieldsTied m
+  pub registers-tied : RegistersTied m
