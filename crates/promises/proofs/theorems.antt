@@ -23,3 +23,4 @@ pub mod PlanLaws
 pub mod SubmissionLaws
 pub mod PacketLaws
 pub mod Kept
+pub mod TokenLaws

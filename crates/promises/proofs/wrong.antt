@@ -18,5 +18,6 @@ pub mod WrongTurns
 pub mod RegisterExamples
 pub mod WrongCollections
 pub mod DueExamples
+pub mod PlanExamples
 pub mod WrongSubmissions
 pub mod WrongStays

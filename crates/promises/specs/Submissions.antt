@@ -1,15 +1,17 @@
 -- What an accepted submit leaves: its descriptors with their tokens, its setup packet, its overlay; and what of it stays until it is collected.
 use Prim.Native.Nat.{ℕ, zero, suc, _+_, _-_, _*_, _/_, _%_, _^_, _<_}
 use mathlib.Core.Bool.{Bool, true, false}
-use mathlib.Core.List.{List, [], _∷_, map}
+use mathlib.Core.List.{List, [], _∷_, _++_, map}
+use mathlib.Core.Logic.{_⊎_}
 use mathlib.Core.Path.{_≡_}
 use lib.Dec.{eqb}
-use lib.ListN.{getD, replicate}
+use lib.ListN.{getD, length, replicate}
 use Rattle.token.specs.EhciQtd.{currentPage, dataToggle, errorCounter, inCode, interruptOnComplete, outCode, pidCode, setupCode, status, totalBytes}
 use Rattle.common.specs.declared.kinds.Direction.{Direction}
 use Rattle.common.specs.declared.kinds.Direction.the-variants.{Out, In}
 use Rattle.common.specs.declared.kinds.EndpointType.{EndpointType}
 use Rattle.common.specs.declared.kinds.EndpointType.the-variants.{Control, Isochronous, Bulk, Interrupt}
+use Rattle.descriptor.specs.Slots.{pageSlots}
 use Rattle.descriptor.specs.UsbSetup.{bmRequestType, bRequest, wIndex, wLength, wValue}
 use Rattle.descriptor.specs.declared.qtd.QueueTransferDescriptor.{QueueTransferDescriptor}
 use Rattle.pool.specs.Chains.{blank, withToken}
@@ -19,17 +21,21 @@ use Rattle.controller.specs.declared.lent.Readings.{Readings}
 use Rattle.request.specs.declared.judge.TransferRequest.{TransferRequest}
 use Rattle.ehci.specs.declared.call.Call.{Call}
 use Rattle.ehci.specs.declared.call.Call.the-variants.{Collect, Submit, Writeback}
-use Rattle.promises.specs.Runs.{Always, History, Machine, Rows, World, rowsOf}
-use Rattle.promises.specs.Uses.{uses}
+use Rattle.ehci.specs.Replies.{answeredNumber}
+use Rattle.promises.specs.Runs.{Always, History, Machine, Rows, Turn, World, rowsOf}
+use Rattle.promises.specs.Events.{Submits, event}
+use Rattle.promises.specs.Uses.{Use, uses}
+use Rattle.promises.specs.Bells.{submits}
 use Rattle.promises.specs.Walks.{chainWalk}
 use Rattle.promises.specs.Rooms.{Every, numberAt}
 use Rattle.promises.specs.Coverage.{bytesOf, recordsMet}
 use Rattle.promises.specs.Collections.{isCollection}
 
--- ---- a descriptor's words but next and pages, its token by EHCI 3.5.3: the seven fields are all of its 32 bits
+-- ---- a descriptor's words but next, its token by EHCI 3.5.3: the seven fields are all of its 32 bits
 
 pub record Fields : Type 0 where
   pub alternate : ℕ
+  pub pages : List ℕ
   pub upper : List ℕ
   pub status : ℕ
   pub pid : ℕ
@@ -43,6 +49,7 @@ abbrev pub fieldsOf : QueueTransferDescriptor → Fields
 fieldsOf d =
     record {
       alternate = d .alternate;
+      pages = d .pages;
       upper = d .upper;
       status = status (d .token);
       pid = pidCode (d .token);
@@ -55,11 +62,13 @@ fieldsOf d =
 
 -- ---- "Tokens and plans"
 
--- alternate 1, upper slots 0; active and nothing else in its status, error counter 3, from the first page on
-abbrev pub planned : ℕ → ℕ → ℕ → ℕ → Fields
-planned pid bytes toggle interrupt =
+-- so many bytes at an address: its page slots; alternate 1, upper slots 0; active and nothing else in its status, error counter 3, from the
+-- first page on
+abbrev pub planned : ℕ → ℕ → ℕ → ℕ → ℕ → Fields
+planned pid address bytes toggle interrupt =
     record {
       alternate = 1;
+      pages = pageSlots address bytes;
       upper = replicate 5 0;
       status = 128;
       pid = pid;
@@ -80,20 +89,25 @@ statusAfter Out = inCode
 statusAfter In = outCode
 
 -- "setup (8 bytes, toggle 0); data if length > 0 (toggle 1); status (0 bytes, toggle 1, interrupt)"; the Bool: length is 0
-abbrev pub stages : Direction → ℕ → Bool → List Fields
-stages d length true = planned setupCode 8 0 0 ∷ planned inCode 0 1 1 ∷ []
-stages d length false = planned setupCode 8 0 0 ∷ planned (pidBy d) length 1 0 ∷ planned (statusAfter d) 0 1 1 ∷ []
+abbrev pub stages : ℕ → Direction → ℕ → ℕ → Bool → List Fields
+stages packet d address length true = planned setupCode packet 8 0 0 ∷ planned inCode 0 0 1 1 ∷ []
+stages packet d address length false =
+    planned setupCode packet 8 0 0 ∷ planned (pidBy d) address length 1 0 ∷ planned (statusAfter d) 0 0 1 1 ∷ []
 
 -- "chunks of C, then the rest .. Toggle 0; only the last interrupts": so many of C, and the last
-abbrev pub chunks : ℕ → ℕ → ℕ → ℕ → List Fields
-chunks zero pid limit length = planned pid length 0 1 ∷ []
-chunks (suc n) pid limit length = planned pid limit 0 0 ∷ chunks n pid limit (length - limit)
+abbrev pub chunks : ℕ → ℕ → ℕ → ℕ → ℕ → List Fields
+chunks zero pid limit address length = planned pid address length 0 1 ∷ []
+chunks (suc n) pid limit address length = planned pid address limit 0 0 ∷ chunks n pid limit (address + limit) (length - limit)
 
-abbrev pub plan : EndpointType → Direction → ℕ → ℕ → List Fields
-plan Control d length limit = stages d length (eqb length 0)
-plan Isochronous d length limit = chunks ((length - 1) / limit) (pidBy d) limit length
-plan Bulk d length limit = chunks ((length - 1) / limit) (pidBy d) limit length
-plan Interrupt d length limit = chunks ((length - 1) / limit) (pidBy d) limit length
+-- of a request of that direction for so many bytes at an address, with its setup packet's address, if any, and the limit
+abbrev pub plan : EndpointType → ℕ → Direction → ℕ → ℕ → ℕ → List Fields
+plan Control packet d address length limit = stages packet d address length (eqb length 0)
+plan Isochronous packet d address length limit = chunks ((length - 1) / limit) (pidBy d) limit address length
+plan Bulk packet d address length limit = chunks ((length - 1) / limit) (pidBy d) limit address length
+plan Interrupt packet d address length limit = chunks ((length - 1) / limit) (pidBy d) limit address length
+
+abbrev pub planFor : Settings → ℕ → TransferRequest → List Fields
+planFor s k t = plan (t .kind) (s .setups + 8 * k) (t .direction) (t .address) (t .length) (s .limit)
 
 -- ---- setup packets: 8 bytes a slot
 
@@ -117,7 +131,7 @@ wordAt rows k i = getD (rows .heads) (17 * (k + 1) + i) 0
 
 pub record Submitted (s : Settings) (rows : Rows) (k : ℕ) (t : TransferRequest) : Type 0 where
   -- the descriptors that its overlay leads through are those of its plan, in order
-  pub planned-so : map fieldsOf (recordsMet s rows k) ≡ plan (t .kind) (t .direction) (t .length) (s .limit)
+  pub planned-so : map fieldsOf (recordsMet s rows k) ≡ planFor s k t
   -- a control request's packet reads as the call asked, and the setup descriptor leads to it
   pub packet : t .kind ≡ Control → Asks (packetAt rows k) (t .setup) (t .length)
   pub leads : t .kind ≡ Control → bytesOf (getD (recordsMet s rows k) 0 blank) ≡ upFrom (s .setups + 8 * k) 8
@@ -151,6 +165,35 @@ PacketsStand m =
     Always
     (λ s h w. Every (λ u. u .request .kind ≡ Control → Asks (packetAt (w .rows) (u .slot)) (u .request .setup) (u .request .length)) (uses s h))
     m
+
+-- and of each record of an uncollected request: an accepted writeback of a place, with its token
+abbrev pub WritesTo : ℕ → ℕ → Turn → Type 0
+WritesTo p token t = (t .call ≡ Writeback p token) × (answeredNumber (t .answer) ≡ 0)
+
+-- no turn of the list writes the place back or submits to slot k
+abbrev pub Untouched : Settings → ℕ → ℕ → History → Type 0
+Untouched s k p [] = Unit {0}
+Untouched s k p (t ∷ h) = ((token : ℕ) → WritesTo p token t → ⊥) × (submits s k t ≡ false) × Untouched s k p h
+
+abbrev pub placeOf : Use → ℕ → ℕ
+placeOf u j = getD (u .places) j 0
+
+abbrev pub plannedFor : Settings → Use → ℕ → Fields
+plannedFor s u j = getD (planFor s (u .slot) (u .request)) j (planned 0 0 0 0 0)
+
+-- the last turn that touched its j-th record is its submit, and the record is the j-th of its plan; or it is a writeback, and the record has
+-- that token
+pub record TokenStands (s : Settings) (h : History) (w : World) (u : Use) (j : ℕ) : Type 0 where
+  pub since : History
+  pub last : Turn
+  pub before : History
+  pub picture : h ≡ since ++ last ∷ before
+  pub untouched : Untouched s (u .slot) (placeOf u j) since
+  pub stands : ((event s last ≡ Submits (u .slot) (u .id) (u .request)) × (fieldsOf (getD (w .rows .pool) (placeOf u j) blank) ≡ plannedFor s u j))
+      ⊎ WritesTo (placeOf u j) (getD (w .rows .pool) (placeOf u j) blank .token) last
+
+abbrev pub TokensStand : Machine → Type 0
+TokensStand m = Always (λ s h w. Every (λ u. (j : ℕ) → j < length (u .places) → TokenStands s h w u j) (uses s h)) m
 
 -- ---- "Passed: descriptors freed, current 0, overlay terminated (next 1, alternate 1, rest 0)": words 3 to 16
 

@@ -55,6 +55,14 @@ Marked s h w = (k : ℕ) → markIn (endpointAt (w .state) k) ≡ true → cance
 renews-none : (s : Settings) (k : ℕ) (t : Turn) (e : Event) → event s t ≡ e → isSubmitsOf k e ≡ false → isCollectsOf k e ≡ false → renews s k t ≡ false
 renews-none s k t e q a b = rw (q, a, b)
 
+pub submits-leaving : (s : Settings) (j k frame : ℕ) (t : Turn) → isSubmitsOf j (leaving s k frame t) ≡ false
+submits-leaving s j k frame t = by (leavesRing s k t) (leavesFrames s k t)
+  where
+    by : (b c : Bool) → isSubmitsOf j (cond b (Unlinks k) (cond c (Parts k frame) Other)) ≡ false
+    by true c = refl
+    by false true = refl
+    by false false = refl
+
 renews-leaving : (s : Settings) (j k frame : ℕ) (t : Turn) → event s t ≡ leaving s k frame t → renews s j t ≡ false
 renews-leaving s j k frame t q = by (leavesRing s k t) refl (leavesFrames s k t) refl
   where

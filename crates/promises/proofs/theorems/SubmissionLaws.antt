@@ -63,7 +63,7 @@ use Rattle.promises.specs.Uses.{Use, uses}
 use Rattle.promises.specs.Walks.{chainWalk}
 use Rattle.promises.specs.Rooms.{Every}
 use Rattle.promises.specs.Coverage.{bytesOf, recordsMet}
-use Rattle.promises.specs.Submissions.{Asks, CollectsEnded, Stays, Submitted, SubmitsPlanned, SubmittedStays, fieldsOf, packetAt, plan, wordAt}
+use Rattle.promises.specs.Submissions.{Asks, CollectsEnded, Stays, Submitted, SubmitsPlanned, SubmittedStays, fieldsOf, packetAt, planFor, wordAt}
 use Rattle.promises.proofs.effects.Effects.{Accepts, Effect, still, hears, joins, passes, counts, opens, closes, rewrites, accepts, writes-back, marks, unlinks, collects}
 use Rattle.promises.proofs.effects.EffectOf.{effect}
 use Rattle.promises.proofs.effects.EffectDoor.{seen}
@@ -181,7 +181,7 @@ module _ (w : World) (k : ℕ) (t : TransferRequest) (sound : Sound (w .state .s
   needed : length (placesFor (w .state) t) ≡ needOfRequest (w .state) t
   needed = places-needed (w .state) k t (sound .ranges) judged (sound .owners)
 
-  as-planned : map fieldsOf (recordsMet s after k) ≡ plan (t .kind) (t .direction) (t .length) (s .limit)
+  as-planned : map fieldsOf (recordsMet s after k) ≡ planFor s k t
   as-planned =
       ap (map fieldsOf) (records-are w k t sound judged)
       ∙ all-planned (transferOf (w .state) k t) (s .pool) (placesFor (w .state) t) (sound .ranges .good .limit-least) (sound .ranges .good .limit-most) (t .kind) refl
@@ -213,7 +213,7 @@ module _ (w : World) (k : ℕ) (t : TransferRequest) (sound : Sound (w .state .s
       ∙ ap (addressOf (s .pool)) (packed-first (placesFor (w .state) t))
       ∙ ap (λ (ps : List ℕ). s .pool + 64 * getD ps 0 0) (sym (walked w k t sound judged))
 
-  submitted-so : Submitted s after k t
+  pub submitted-so : Submitted s after k t
   submitted-so =
       let first = firstIn (w .state) (takenFor (w .state) k t) in
       record {

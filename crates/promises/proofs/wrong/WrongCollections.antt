@@ -1,7 +1,7 @@
 -- Machines that answer a collection wrongly: 10 to every one, or a length drawn as if each request were a control request. What is due is refuted of both.
 use Prim.Native.Nat.{ℕ}
 use mathlib.Core.Path.{_≡_, refl, sym, ap, _∙_}
-use mathlib.Core.Bool.{Bool, true, false, false≢true}
+use mathlib.Core.Bool.{true, false, cond, false≢true}
 use mathlib.Core.List.{List, [], _∷_}
 use native.Mathlib.Omega.{arith}
 use lib.Dec.{eqb}
@@ -76,10 +76,6 @@ rank (Drain v) = 4
 rank Rearm = 4
 rank Enable = 4
 rank Disable = 4
-
-abbrev pub instead : Bool → Applied → Applied → Applied
-instead true a b = a
-instead false a b = b
 
 pub rises-up : (m : Machine) → ((w : World) (c : Call) → rank c ≡ 0 → m w c ≡ core w c) → Rises m
 rises-up m same w StartBringUp e n = same w StartBringUp refl
@@ -274,7 +270,7 @@ answering a =
     applied (record { state = a .reply .state; answer = tenFor (a .reply .answer); writes = a .reply .writes }) (a .pool) (a .heads) (a .frames) (a .setups)
 
 abbrev pub tens : Machine
-tens v c = instead (eqb (rank c) 2) (answering (core v c)) (core v c)
+tens v c = cond (eqb (rank c) 2) (answering (core v c)) (core v c)
 
 pub tens-due : CollectsDue tens → ⊥
 tens-due due =
@@ -294,7 +290,7 @@ misread v c =
     (v .rows .pool)
 
 abbrev pub asksControl : Machine
-asksControl v c = instead (eqb (rank c) 2) (misread v c) (core v c)
+asksControl v c = cond (eqb (rank c) 2) (misread v c) (core v c)
 
 misread-unlinks : misread (linkedNow (one 0 0 0 0 0 linked)) looks ≡ unlinked
 unfolding decideOf asksOf askOf askable requestAsk placesFrom seenFrom viewOf stageSeen firstError lengthOf requestedAt rowsFit replied fillOf filledFrom noChain packed listOf collectDecided collectOf linkedOf acceptsOf endpointAt decoded slotAt unlinkOf waitingOf boundedOf unlinkedOf ringOf detachOf predecessorOf searchFrom precedesOne withEndpoint withSlot withBell stateOf

@@ -1,28 +1,39 @@
 -- Machines made from `core` that lose what a writeback writes, or that leave a collected request's overlay as it was.
-use Prim.Native.Nat.{ℕ}
-use mathlib.Core.Path.{_≡_, refl, sym, ap, _∙_}
-use mathlib.Core.Bool.{Bool, true, false}
-use mathlib.Core.List.{List, _∷_}
+use Prim.Native.Nat.{ℕ, _<_}
+use mathlib.Core.Path.{_≡_, refl, sym, ap, subst, _∙_}
+use mathlib.Core.Bool.{Bool, true, false, false≢true, cond}
+use mathlib.Core.Logic.{⊎-elim}
+use mathlib.Core.List.{List, [], _∷_, _++_}
 use native.Mathlib.Omega.{arith}
 use lib.Dec.{eqb}
-use lib.ListN.{getD}
+use lib.ListN.{getD, length}
+use Rattle.register.specs.Writes.{noWrites}
 use Rattle.descriptor.specs.declared.qtd.QueueTransferDescriptor.{QueueTransferDescriptor}
-use Rattle.pool.specs.Chains.{blank}
+use Rattle.pool.specs.Chains.{blank, metFrom}
+use Rattle.pool.specs.EhciChain.{follow}
+use Rattle.request.specs.Submit.{writesWith}
 use Rattle.ehci.specs.declared.call.Call.{Call}
 use Rattle.ehci.specs.declared.call.Call.the-variants.{Writeback}
 use Rattle.ehci.specs.declared.reply.Answered.{Answered}
+use Rattle.ehci.specs.declared.reply.Answered.the-variants.{Done}
+use Rattle.ehci.specs.declared.reply.Given.the-variants as G
 use Rattle.ehci.specs.Replies.{answeredNumber}
 use Rattle.ehci.specs.Door.{Applied, applied}
-use Rattle.promises.specs.Runs.{Machine, World, core, rowsOf, worldOf}
-use Rattle.promises.specs.Events.{isCollected}
+use Rattle.promises.specs.Runs.{History, Machine, Turn, World, core, historyOf, rowsOf, turnOf, worldOf}
+use Rattle.promises.specs.Walks.{chainWalk, ringWalk, walkFrom}
+use Rattle.promises.specs.Events.{event, isCollected}
+use Rattle.promises.specs.Uses.{Use, uses}
+use Rattle.promises.specs.Bells.{isSubmitsOf}
+use Rattle.promises.specs.Rooms.{Every}
 use Rattle.promises.specs.Collections.{isCollection}
-use Rattle.promises.specs.Submissions.{CollectsEnded, SubmittedStays, wordAt}
+use Rattle.promises.specs.Submissions.{CollectsEnded, SubmittedStays, TokenStands, TokensStand, Untouched, wordAt}
+use Rattle.promises.proofs.theorems.TokenLaws.{backAt}
 use Rattle.promises.proofs.invariants.Reached.{freshWorld}
-use Rattle.promises.proofs.wrong.WrongRuns.{linked, one, openedTwo, opening, reading, small, submits}
+use Rattle.promises.proofs.wrong.WrongRuns.{linked, one, openedTwo, opening, reading, replies, request, small, submits}
 use Rattle.promises.proofs.wrong.WrongUp.{up-world, upCalls}
 use Rattle.promises.proofs.wrong.WrongCalls.{linkedOne, submitted}
-use Rattle.promises.proofs.wrong.WrongBells.{goes-on}
-use Rattle.promises.proofs.wrong.WrongCollections.{apartNow, c5, instead, leaves, length-500, linkedNow, looks, rank, rises-up, unlinks, w5, written}
+use Rattle.promises.proofs.wrong.WrongBells.{goes-on, is-told}
+use Rattle.promises.proofs.wrong.WrongCollections.{apartNow, c5, leaves, length-500, linkedNow, looks, rank, rises-up, unlinks, w5, written}
 
 abbrev w : World
 w = freshWorld small
@@ -33,17 +44,23 @@ abbrev unwritten : World → Applied → Applied
 unwritten v a = applied (a .reply) (v .rows .pool) (a .heads) (a .frames) (a .setups)
 
 abbrev drops : Machine
-drops v c = instead (eqb (rank c) 3) (unwritten v (core v c)) (core v c)
+drops v c = cond (eqb (rank c) 3) (unwritten v (core v c)) (core v c)
 
 drops-plain : (v : World) (c : Call) → eqb (rank c) 3 ≡ false → drops v c ≡ core v c
 drops-plain v c e = rw e
 
+abbrev back : Call
+back = Writeback 0 0x000C8C00
+
 abbrev cs : List Call
 cs = submits 0 0x500000 ∷ upCalls
 
+up : worldOf drops w upCalls ≡ openedTwo
+up = up-world drops (rises-up drops (λ v c e. drops-plain v c (ap (λ (n : ℕ). eqb n 3) e)))
+
 submits-there : worldOf drops w cs ≡ linkedOne (one 0 0 0 0 0 linked)
 submits-there =
-    goes-on drops w upCalls (submits 0 0x500000) openedTwo _ (up-world drops (rises-up drops (λ v c e. drops-plain v c (ap (λ (n : ℕ). eqb n 3) e))))
+    goes-on drops w upCalls (submits 0 0x500000) openedTwo _ up
     (drops-plain openedTwo (submits 0 0x500000) refl ∙ submitted)
 
 abbrev tokenIn : List QueueTransferDescriptor → ℕ
@@ -51,7 +68,6 @@ tokenIn l = getD l 0 blank .token
 
 drops-stays : SubmittedStays drops → ⊥
 drops-stays p =
-    let back : Call = Writeback 0 0x000C8C00 in
     let zero : answeredNumber (drops (worldOf drops w cs) back .reply .answer) ≡ 0
     = ap (λ (v : World). answeredNumber (drops v back .reply .answer)) submits-there ∙ ap (λ (a : Applied). answeredNumber (a .reply .answer)) written in
     let is : tokenIn (rowsOf (drops (worldOf drops w cs) back) .pool) ≡ 0x02008C80 = ap (λ (v : World). tokenIn (rowsOf (drops v back) .pool)) submits-there in
@@ -59,13 +75,63 @@ drops-stays p =
     = ap (λ (d : QueueTransferDescriptor). d .token) (p small w opening cs .written 0 0x000C8C00 zero) in
     omega (arith, sym is ∙ due)
 
+-- so the record has not the token that was last written back
+abbrev t1 : Turn
+t1 = turnOf (openedTwo .rows) (submits 0 0x500000) (replies (Done (G.Id 1)) (writesWith (reading 0x80031)) (linkedOne (one 0 0 0 0 0 linked)))
+
+abbrev t2 : Turn
+t2 = turnOf (linkedOne (one 0 0 0 0 0 linked) .rows) back (replies (Done G.Nothing) noWrites (linkedOne (one 0 0 0 0 0 linked)))
+
+abbrev told : History
+told = t2 ∷ t1 ∷ historyOf drops w upCalls
+
+back-so : drops (linkedOne (one 0 0 0 0 0 linked)) back ≡ replies (Done G.Nothing) noWrites (linkedOne (one 0 0 0 0 0 linked))
+back-so = ap (unwritten (linkedOne (one 0 0 0 0 0 linked))) written
+
+is-so : historyOf drops w (back ∷ cs) ≡ told
+is-so =
+    is-told drops w cs back (linkedOne (one 0 0 0 0 0 linked)) _ submits-there back-so (t1 ∷ historyOf drops w upCalls)
+    (is-told drops w upCalls (submits 0 0x500000) openedTwo _ up (drops-plain openedTwo (submits 0 0x500000) refl ∙ submitted) (historyOf drops w upCalls) refl)
+
+abbrev first : Use
+first = record { slot = 0; id = 1; request = request 0x500000; places = 0 ∷ [] }
+
+uses-are : uses small told ≡ first ∷ []
+unfolding uses historyOf ringWalk walkFrom chainWalk metFrom follow
+uses-are = refl
+
+not-standing : TokenStands small told (linkedOne (one 0 0 0 0 0 linked)) first 0 → ⊥
+not-standing x = by (x .since) (x .picture) (x .untouched)
+  where
+    newest : History → Turn
+    newest h = getD h 0 t1
+
+    by : (since : History) → told ≡ since ++ x .last ∷ x .before → Untouched small 0 0 since → ⊥
+    by [] e u =
+        ⊎-elim (λ z. false≢true (ap (λ (h : History). isSubmitsOf 0 (event small (newest h))) e ∙ ap (isSubmitsOf 0) (z .0)))
+        (λ z. let none : _≡_ {A = ℕ} 0x000C8C00 0x02008C80 = ap (λ (h : History). getD (backAt (newest h .call)) 1 0) e ∙ ap (λ (c : Call). getD (backAt c) 1 0) (z .0) in omega (arith, none))
+        (x .stands)
+    by (t ∷ since) e u = u .0 0x000C8C00 (sym (ap (λ (h : History). newest h .call) e), sym (ap (λ (h : History). answeredNumber (newest h .answer)) e))
+
+abbrev AllStand : History → World → List Use → Type 0
+AllStand h v us = Every (λ u. (j : ℕ) → j < length (u .places) → TokenStands small h v u j) us
+
+drops-stands : TokensStand drops → ⊥
+drops-stands p =
+    let there : worldOf drops w (back ∷ cs) ≡ linkedOne (one 0 0 0 0 0 linked) = goes-on drops w cs back (linkedOne (one 0 0 0 0 0 linked)) _ submits-there back-so in
+    let by-world : AllStand (historyOf drops w (back ∷ cs)) (linkedOne (one 0 0 0 0 0 linked)) (uses small (historyOf drops w (back ∷ cs)))
+    = subst (λ (v : World). AllStand (historyOf drops w (back ∷ cs)) v (uses small (historyOf drops w (back ∷ cs)))) there (p small w opening (back ∷ cs)) in
+    let by-history : AllStand told (linkedOne (one 0 0 0 0 0 linked)) (uses small told)
+    = subst (λ (h : History). AllStand h (linkedOne (one 0 0 0 0 0 linked)) (uses small h)) is-so by-world in
+    not-standing (subst (AllStand told (linkedOne (one 0 0 0 0 0 linked))) uses-are by-history .0 0 (omega arith))
+
 -- ---- a collection leaves the overlay
 
 abbrev unended : World → Applied → Applied
-unended v a = instead (isCollected (a .reply .answer)) (applied (a .reply) (a .pool) (v .rows .heads) (a .frames) (a .setups)) a
+unended v a = cond (isCollected (a .reply .answer)) (applied (a .reply) (a .pool) (v .rows .heads) (a .frames) (a .setups)) a
 
 abbrev leads : Machine
-leads v c = instead (eqb (rank c) 2) (unended v (core v c)) (core v c)
+leads v c = cond (eqb (rank c) 2) (unended v (core v c)) (core v c)
 
 leads-end : worldOf leads w c5 ≡ apartNow (one 0 0x20 0 0 0 (leaves 0))
 leads-end = w5 leads (λ v c e. rw e) (ap (unended (linkedNow (one 0 0 0 0 0 linked))) unlinks)
@@ -77,7 +143,7 @@ end = apartNow (one 0 0x20 0 0 0 (leaves 0))
 leads-answer : leads end looks .reply .answer ≡ core end looks .reply .answer
 leads-answer = by (isCollected (core end looks .reply .answer))
   where
-    by : (b : Bool) → instead b (applied (core end looks .reply) (core end looks .pool) (end .rows .heads) (core end looks .frames) (core end looks .setups)) (core end looks) .reply .answer ≡ core end looks .reply .answer
+    by : (b : Bool) → cond b (applied (core end looks .reply) (core end looks .pool) (end .rows .heads) (core end looks .frames) (core end looks .setups)) (core end looks) .reply .answer ≡ core end looks .reply .answer
     by true = refl
     by false = refl
 

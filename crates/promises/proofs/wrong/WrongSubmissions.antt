@@ -2,7 +2,7 @@
 -- packets. Some take descriptors and write their chain, with no checks and no schedule; `plain` does it right, and leaves on the same call what it should.
 use Prim.Native.Nat.{ℕ, _-_, _*_, _/_, _%_, _^_}
 use mathlib.Core.Path.{_≡_, refl, sym, ap, _∙_}
-use mathlib.Core.Bool.{true}
+use mathlib.Core.Bool.{true, cond}
 use mathlib.Core.List.{List, [], _∷_, map}
 use native.Mathlib.Omega.{arith}
 use lib.Dec.{eqb}
@@ -41,12 +41,12 @@ use Rattle.promises.specs.Runs.{Machine, Opening, Rows, World, core, his
 use Rattle.promises.specs.Walks.{chainWalk}
 use Rattle.promises.specs.Uses.{uses}
 use Rattle.promises.specs.Coverage.{recordsMet}
-use Rattle.promises.specs.Submissions.{Fields, PacketsStand, SubmitsPlanned, SubmittedStays, fieldsOf, packetAt, plan, planned}
+use Rattle.promises.specs.Submissions.{Fields, PacketsStand, SubmitsPlanned, SubmittedStays, fieldsOf, packetAt, planFor, planned}
 use Rattle.promises.proofs.invariants.Reached.{freshWorld, opens-fresh}
 use Rattle.promises.proofs.wrong.WrongRuns.{linked, one, openedTwo, opening, reading, replies, request, small, stateOf, submits}
 use Rattle.promises.proofs.wrong.WrongUp.{up-world, upCalls}
 use Rattle.promises.proofs.wrong.WrongCalls.{linkedOne, submitted}
-use Rattle.promises.proofs.wrong.WrongCollections.{instead, rank, rises-up}
+use Rattle.promises.proofs.wrong.WrongCollections.{rank, rises-up}
 
 -- ---- three descriptors, one slot
 
@@ -144,11 +144,11 @@ abbrev left : Machine → Rows
 left m = rowsOf (m (freshWorld trio) (Submit 0 asks reads))
 
 -- setup 00080E80, data 80120D80, status 80008C80, as 01's examples have them
-plain-planned : map fieldsOf (recordsMet trio (left plain) 0) ≡ planned 2 8 0 0 ∷ planned 1 18 1 0 ∷ planned 0 0 1 1 ∷ []
+plain-planned : map fieldsOf (recordsMet trio (left plain) 0) ≡ planned 2 0x400000 8 0 0 ∷ planned 1 0x10000FFF 18 1 0 ∷ planned 0 0 0 1 1 ∷ []
 unfolding chainWalk metFrom follow takenOf placesFrom markOf packed listOf fillOf filledFrom recordAt bareAt stageAt controlPlan newQtd withNext startedOverlay freshState openedHeads ringHead terminated needOf tokenOf pageSlots
 plain-planned = refl
 
-as-planned : plan Control In 18 16384 ≡ planned 2 8 0 0 ∷ planned 1 18 1 0 ∷ planned 0 0 1 1 ∷ []
+as-planned : planFor trio 0 asks ≡ planned 2 0x400000 8 0 0 ∷ planned 1 0x10000FFF 18 1 0 ∷ planned 0 0 0 1 1 ∷ []
 as-planned = refl
 
 plain-packet : (wLength (packetAt (left plain) 0) ≡ 18) × (wValue (packetAt (left plain) 0) ≡ 0x100)
@@ -164,7 +164,7 @@ lengthless-planned p =
     omega (arith, none)
 
 abbrev second : List Fields → Fields
-second fs = getD fs 1 (planned 0 0 0 0)
+second fs = getD fs 1 (planned 0 0 0 0 0)
 
 untoggled-planned : SubmitsPlanned untoggled → ⊥
 unfolding historyOf worldOf chainWalk metFrom follow takenOf placesFrom markOf packed listOf fillOf filledFrom recordAt bareAt stageAt controlPlan newQtd withNext startedOverlay freshState openedHeads ringHead terminated needOf tokenOf pageSlots
@@ -194,7 +194,7 @@ abbrev quietly : Applied → Applied
 quietly a = applied (a .reply) (retoken quieted (a .pool)) (a .heads) (a .frames) (a .setups)
 
 abbrev quiet : Machine
-quiet v c = instead (eqb (rank c) 1) (quietly (core v c)) (core v c)
+quiet v c = cond (eqb (rank c) 1) (quietly (core v c)) (core v c)
 
 submits-quietly : quiet openedTwo (submits 0 0x500000) ≡ quietly (replies (Done (Id 1)) (writesWith (reading 0x80031)) (linkedOne (one 0 0 0 0 0 linked)))
 submits-quietly = ap quietly submitted
