@@ -7,7 +7,9 @@ use lib.Dec.{ltb}
 use lib.ListN.{replicate}
 use Rattle.descriptor.specs.declared.qtd.NextQtd.{NextQtd}
 use Rattle.descriptor.specs.declared.qtd.NextQtd.the-variants.{At}
-use Rattle.descriptor.specs.Descriptors.{nextWord}
+use Rattle.token.specs.declared.qtd.QtdToken.{QtdToken}
+use Rattle.descriptor.specs.declared.qtd.QueueTransferDescriptor.{QueueTransferDescriptor}
+use Rattle.descriptor.specs.Descriptors.{newQtd, nextWord, qtdWith}
 use Rattle.descriptor.specs.Slots.{pageIf, pageSlots}
 
 pub below : (page end : ℕ) → page < end → page ≡ pageIf (ltb page end) page
@@ -28,6 +30,10 @@ pub filled-slots : (A L p₁ p₂ p₃ p₄ : ℕ) → (L ≡ 0 → ⊥)
     → A ∷ p₁ ∷ p₂ ∷ p₃ ∷ p₄ ∷ [] ≡ pageSlots A L
 unfolding pageSlots
 filled-slots A L p₁ p₂ p₃ p₄ ne e₁ e₂ e₃ e₄ = rw (ne-eqb L 0 ne, e₁, e₂, e₃, e₄)
+
+pub new-is : (t : QtdToken) (A L : ℕ) (pages : List ℕ) (d : QueueTransferDescriptor) → pages ≡ pageSlots A L → d ≡ qtdWith t pages → d ≡ newQtd t A L
+unfolding newQtd qtdWith
+new-is t A L pages d e q = q ∙ ap (λ (x : List ℕ). qtdWith t x) e
 
 pub next-at : (n : NextQtd) (a : ℕ) → n ≡ At a → a - a % 32 ≡ nextWord n
 next-at n a e = rw e

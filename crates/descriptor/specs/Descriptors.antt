@@ -1,5 +1,6 @@
 -- Document 01, "Descriptors, heads, links": a descriptor's thirteen words.
 use Prim.Native.Nat.{ℕ, _-_, _%_}
+use mathlib.Core.List.{List}
 use Rattle.token.specs.declared.qtd.QtdToken.{QtdToken}
 use Rattle.descriptor.specs.declared.qtd.NextQtd.{NextQtd}
 use Rattle.descriptor.specs.declared.qtd.NextQtd.the-variants.{Terminate, At}
@@ -14,6 +15,10 @@ terminated = record { next = 1; alternate = 1; token = 0; pages = zeroSlots; upp
 unfoldable pub newQtd : QtdToken → ℕ → ℕ → QueueTransferDescriptor
 newQtd token address length =
     record { next = 1; alternate = 1; token = token .0; pages = pageSlots address length; upper = zeroSlots }
+
+-- one with five page slots, last of its chain
+unfoldable pub qtdWith : QtdToken → List ℕ → QueueTransferDescriptor
+qtdWith token pages = record { next = 1; alternate = 1; token = token .0; pages = pages; upper = zeroSlots }
 
 -- the following descriptor's address, 1 at the end
 abbrev pub nextWord : NextQtd → ℕ

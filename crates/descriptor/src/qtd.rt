@@ -1,7 +1,7 @@
 // A transfer descriptor (EHCI 3.5): 000's `QueueTransferDescriptor`, with 01's names for its words.
 ghost use mathlib.Core.Path.{_≡_};
 ghost use Prim.Native.Nat.{_-_, _≤_, _^_};
-ghost use Rattle.descriptor.specs.Descriptors.{terminated, newQtd, nextWord, withNext};
+ghost use Rattle.descriptor.specs.Descriptors.{terminated, newQtd, qtdWith, nextWord, withNext};
 use crate::slots::page_slots;
 use token::qtd::QtdToken;
 
@@ -51,11 +51,18 @@ impl QueueTransferDescriptor {
         requires { ⌜ length ≤ 2 ^ 32 - address ⌝ }
         ensures { λ r. ⌜ r ≡ newQtd token address length ⌝ }
     {
+        QueueTransferDescriptor::with_slots(token, page_slots(address, length))
+    }
+
+    // The page slots are taken by value, as `page_slots` returns them.
+    pub fn with_slots(token: QtdToken, pages: [u32; 5]) -> QueueTransferDescriptor
+        ensures { λ r. ⌜ r ≡ qtdWith token pages ⌝ }
+    {
         QueueTransferDescriptor {
             next: EHCI_LINK_TERMINATE,
             alternate: EHCI_LINK_TERMINATE,
             token: token.0,
-            pages: page_slots(address, length),
+            pages,
             upper: [0; 5],
         }
     }

@@ -5,7 +5,6 @@ ghost use Rattle.root_hub.specs.Calls.{refusedScan, startOf, stepOf, ref
 use crate::ports::PortEvent;
 use crate::ranges::hub_good;
 use crate::ranges::index_of;
-use crate::scan::CHANGES;
 use crate::scan::RECOVERY_MS;
 use crate::scan::awaited_of;
 use crate::scan::place_after;
@@ -124,7 +123,10 @@ pub fn port_power(hub: EhciRootHub, port: u8, reading: u32) -> PortPower
     let value = with_bits(reading, EhciPortStatus::POWER);
     PortPower {
         answer: Answer::Done,
-        writes: Writes::none().and_then(port_offset(port), without_bits(value, CHANGES)),
+        writes: Writes::none().and_then(
+            port_offset(port),
+            without_bits(value, EhciPortStatus::CHANGES),
+        ),
         wait: RECOVERY_MS,
     }
 }

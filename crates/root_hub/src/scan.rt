@@ -30,13 +30,6 @@ use register::operational::port_offset;
 use register::writes::Writes;
 use token::port::EhciPortStatus;
 
-// The change bits, which a write of 1 clears.
-pub const CHANGES: u32 = EhciPortStatus::CONNECT_CHANGE
-    | EhciPortStatus::ENABLE_CHANGE
-    | EhciPortStatus::OVER_CURRENT_CHANGE;
-
-pub const OTHER_CHANGES: u32 = EhciPortStatus::ENABLE_CHANGE | EhciPortStatus::OVER_CURRENT_CHANGE;
-
 pub const RESET_MS: u32 = 50;
 
 pub const RECOVERY_MS: u32 = 20;
@@ -165,7 +158,7 @@ fn gone_turn(port: u8, reading: u32) -> Turned
     Turned {
         state: UNINIT,
         step: 0,
-        change: Change::Value(without_bits(value, OTHER_CHANGES)),
+        change: Change::Value(without_bits(value, EhciPortStatus::OTHER_CHANGES)),
         event: PortEvent::Disconnected(port),
         wait: 0,
     }
@@ -179,7 +172,7 @@ fn reset_turn(state: u8, reading: u32) -> Turned
     Turned {
         state,
         step: 4,
-        change: Change::Value(without_bits(value, CHANGES)),
+        change: Change::Value(without_bits(value, EhciPortStatus::CHANGES)),
         event: PortEvent::Nothing,
         wait: RESET_MS,
     }

@@ -26,6 +26,12 @@ impl EhciPortStatus {
 
     pub const OWNER: u32 = 1 << 13;
 
+    // The change bits, which a write of 1 clears: all three, and those other than the connect change.
+    pub const CHANGES: u32 = EhciPortStatus::CONNECT_CHANGE | EhciPortStatus::OTHER_CHANGES;
+
+    pub const OTHER_CHANGES: u32 = EhciPortStatus::ENABLE_CHANGE
+        | EhciPortStatus::OVER_CURRENT_CHANGE;
+
     pub fn from_raw(raw: u32) -> EhciPortStatus
         ensures { λ r. ⌜ r .0 ≡ raw ⌝ }
     {
