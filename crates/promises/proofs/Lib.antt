@@ -2,4 +2,3 @@ pub mod effects
 pub mod invariants
 pub mod any_machine
 pub mod theorems
-pub mod wrong

@@ -17,18 +17,18 @@ use Rattle.ehci.specs.declared.reply.Answered.the-variants.{Done, Cancelled}
 use Rattle.ehci.specs.declared.reply.Given.the-variants as G
 use Rattle.ehci.specs.declared.reply.Event.the-variants as E
 use Rattle.ehci.specs.Door.{Applied}
 use Rattle.promises.specs.Runs.{History, Turn, World, historyOf, rowsOf, turnOf, worldOf}
 use Rattle.promises.specs.Walks.{chainWalk, isIn, ringWalk, walkFrom}
 use Rattle.promises.specs.Events.{Submits, event, isCollected, rings}
 use Rattle.promises.specs.Bells.{kindAt, unlinking}
 use Rattle.promises.specs.Boundaries.{BoundaryKept, EveryRun, OneCount, OnlyAnswered, Passes, turn}
 use Rattle.promises.specs.Faults.{NeverGiven, holds, mayRead}
 use Rattle.promises.proofs.invariants.Reached.{freshWorld}
-use Rattle.promises.proofs.wrong.WrongRuns.{acknowledges, linked, one, openedTwo, opening, reading, replies, request, small, stateOf, submits, two, waits}
-use Rattle.promises.proofs.wrong.WrongUp.{plain-rises, up-world, upCalls}
-use Rattle.promises.proofs.wrong.WrongCalls.{againSecond, apartFirst, apartTwo, collected-second, drained-first, drained-second, freeSecond, heard-two, linkedOne, linkedTwo, submitted, submitted-second, submitted-two, unlinked-first, unlinked-second}
-use Rattle.promises.proofs.wrong.WrongBut.{not-passed}
-use Rattle.promises.proofs.wrong.WrongBells.{boundary?, found, goes-on, is-told, noteAfter, twice, twice-plainly}
+use Rattle.refutations.proofs.WrongRuns.{acknowledges, linked, one, openedTwo, opening, reading, replies, request, small, stateOf, submits, two, waits}
+use Rattle.refutations.proofs.WrongUp.{plain-rises, up-world, upCalls}
+use Rattle.refutations.proofs.WrongCalls.{againSecond, apartFirst, apartTwo, collected-second, drained-first, drained-second, freeSecond, heard-two, linkedOne, linkedTwo, submitted, submitted-second, submitted-two, unlinked-first, unlinked-second}
+use Rattle.refutations.proofs.WrongBut.{not-passed}
+use Rattle.refutations.proofs.WrongBells.{boundary?, found, goes-on, is-told, noteAfter, twice, twice-plainly}
 
 abbrev w : World
 w = freshWorld small

@@ -45,16 +45,16 @@ use Rattle.ehci.specs.declared.reply.Event.the-variants as E
 use Rattle.ehci.specs.Replies.{answeredNumber, answeredValues, replied}
 use Rattle.ehci.specs.Decides.{acknowledgeDecided, asksOf, collectDecided, decideOf, drainDecided, writebackDecided}
 use Rattle.ehci.specs.Door.{Applied, applied, applyOf, carriedOut, seenBy}
 use Rattle.promises.specs.Runs.{History, Machine, Turn, World, core, historyOf, turnOf, worldOf}
 use Rattle.promises.specs.Walks.{chainWalk, ringWalk, walkFrom}
 use Rattle.promises.specs.Uses.{Use, uses}
 use Rattle.promises.specs.Bells.{cancelled}
 use Rattle.promises.specs.Collections.{Answers, CollectsDue, Due, dueTo, isCollection, those}
 use Rattle.promises.proofs.invariants.Reached.{freshWorld}
-use Rattle.promises.proofs.wrong.WrongRuns.{acknowledges, asked, chunk, headOf, headsOf, linked, one, openedTwo, opening, reading, replies, request, small, stateOf, submits, withRows}
-use Rattle.promises.proofs.wrong.WrongUp.{Rises, up-world, upCalls}
-use Rattle.promises.proofs.wrong.WrongCalls.{linkedOne, submitted}
-use Rattle.promises.proofs.wrong.WrongBells.{goes-on, is-told}
+use Rattle.refutations.proofs.WrongRuns.{acknowledges, asked, chunk, headOf, headsOf, linked, one, openedTwo, opening, reading, replies, request, small, stateOf, submits, withRows}
+use Rattle.refutations.proofs.WrongUp.{Rises, up-world, upCalls}
+use Rattle.refutations.proofs.WrongCalls.{linkedOne, submitted}
+use Rattle.refutations.proofs.WrongBells.{goes-on, is-told}
 
 -- ---- machines that differ from `core` in one kind of call
 

@@ -37,16 +37,16 @@ use Rattle.ehci.specs.declared.reply.Answered.the-variants.{Done, Pending}
 use Rattle.ehci.specs.declared.reply.Given.the-variants.{Id}
 use Rattle.ehci.specs.Replies.{answeredNumber}
 use Rattle.ehci.specs.Door.{Applied, applied}
 use Rattle.promises.specs.Runs.{Machine, Opening, Rows, World, core, historyOf, rowsOf, worldOf}
 use Rattle.promises.specs.Walks.{chainWalk}
 use Rattle.promises.specs.Uses.{uses}
 use Rattle.promises.specs.Coverage.{recordsMet}
 use Rattle.promises.specs.Submissions.{Fields, PacketsStand, SubmitsPlanned, SubmittedStays, fieldsOf, packetAt, planFor, planned}
 use Rattle.promises.proofs.invariants.Reached.{freshWorld, opens-fresh}
-use Rattle.promises.proofs.wrong.WrongRuns.{linked, one, openedTwo, opening, reading, replies, request, small, stateOf, submits}
-use Rattle.promises.proofs.wrong.WrongUp.{up-world, upCalls}
-use Rattle.promises.proofs.wrong.WrongCalls.{linkedOne, submitted}
-use Rattle.promises.proofs.wrong.WrongCollections.{rank, rises-up}
+use Rattle.refutations.proofs.WrongRuns.{linked, one, openedTwo, opening, reading, replies, request, small, stateOf, submits}
+use Rattle.refutations.proofs.WrongUp.{up-world, upCalls}
+use Rattle.refutations.proofs.WrongCalls.{linkedOne, submitted}
+use Rattle.refutations.proofs.WrongCollections.{rank, rises-up}
 
 -- ---- three descriptors, one slot
 

@@ -22,14 +22,14 @@ use Rattle.request.specs.Submit.{takenOf}
 use Rattle.ehci.specs.declared.call.Call.{Call}
 use Rattle.ehci.specs.declared.call.Call.the-variants.{Rearm, Submit}
 use Rattle.ehci.specs.Door.{Applied, applied}
 use Rattle.promises.specs.Runs.{Machine, Rows, historyOf, rowsOf, worldOf}
 use Rattle.promises.specs.Walks.{AtRingHead, End, Nowhere, Terminated, TooLong, chainEnd, chainWalk, frameEnd, ringEnd, walkFrom}
 use Rattle.promises.specs.Uses.{uses}
 use Rattle.promises.specs.Chains.{ChainsWalked}
 use Rattle.promises.specs.Rooms.{ChainsLead}
 use Rattle.promises.proofs.invariants.Reached.{freshWorld}
-use Rattle.promises.proofs.wrong.RoomWrong.{byte, opening as opened, pair, plain as takes, reads}
-use Rattle.promises.proofs.wrong.WrongChains.{asks, opening, plain as links, three}
+use Rattle.refutations.proofs.RoomWrong.{byte, opening as opened, pair, plain as takes, reads}
+use Rattle.refutations.proofs.WrongChains.{asks, opening, plain as links, three}
 
 -- ---- a machine with other rows after each call
 

@@ -1,4 +1,3 @@
--- Machines with a fault, of which the statements are refuted; and what the history says on runs by hand.
 pub mod OpenedExamples
 pub mod WalkExamples
 pub mod RoomWrong

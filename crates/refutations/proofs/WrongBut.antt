@@ -12,11 +12,11 @@ use Rattle.collection.specs.Unlinks.{passedBoundary}
 use Rattle.ehci.specs.declared.call.Call.the-variants.{StartBringUp, BringUpStep, AllocateAddress, OpenEndpoint, Close, SetAddress, SetPacketSize, Submit, Writeback, Cancel, Collect, Acknowledge, Drain, Rearm, Enable, Disable}
 use Rattle.ehci.specs.declared.reply.Answered.{Answered}
 use Rattle.ehci.specs.Door.{Applied, applied}
 use Rattle.promises.specs.Runs.{Machine, World, core}
 use Rattle.promises.specs.Events.{isCollected}
 use Rattle.promises.specs.Registers.{Access, None, Starts, Steps, Submits, Leaves, Acknowledges, Drains, Rearms, Enables, Disables, accessOf}
 use Rattle.promises.proofs.theorems.BoundaryCalls.{collect-found}
-use Rattle.promises.proofs.wrong.WrongUp.{Rises}
+use Rattle.refutations.proofs.WrongUp.{Rises}
 
 abbrev pub isSubmits : Access → Bool
 isSubmits None = false

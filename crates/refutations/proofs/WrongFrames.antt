@@ -47,16 +47,16 @@ use Rattle.ehci.specs.declared.reply.Given.the-variants as G
 use Rattle.ehci.specs.Replies.{replied}
 use Rattle.ehci.specs.Decides.{asksOf, cancelDecided, collectDecided, decideOf, openDecided, submitDecided}
 use Rattle.ehci.specs.Door.{Applied, applyOf}
 use Rattle.promises.specs.Runs.{History, Machine, Turn, World, core, historyOf, leftBy, rowsOf, turnOf, worldOf}
 use Rattle.promises.specs.Walks.{chainWalk, frameWalk, isIn, ringWalk, walkFrom}
 use Rattle.promises.specs.Events.{Submits, event, isCollected}
 use Rattle.promises.specs.Bells.{kindAt, parted}
 use Rattle.promises.specs.Boundaries.{EveryRun, FramesKept}
 use Rattle.promises.specs.Faults.{NeverGiven, holds, mayRead}
 use Rattle.promises.proofs.invariants.Reached.{freshWorld}
-use Rattle.promises.proofs.wrong.WrongRuns.{chunk, closed, fresh, headsOf, noBell, opening, replies, reading, rising, rising-good, small, stateOf, used}
-use Rattle.promises.proofs.wrong.WrongUp.{Rises, next, run-world, runCalls}
-use Rattle.promises.proofs.wrong.WrongBells.{goes-on, is-told}
+use Rattle.refutations.proofs.WrongRuns.{chunk, closed, fresh, headsOf, noBell, opening, replies, reading, rising, rising-good, small, stateOf, used}
+use Rattle.refutations.proofs.WrongUp.{Rises, next, run-world, runCalls}
+use Rattle.refutations.proofs.WrongBells.{goes-on, is-told}
 
 -- ---- the machine: a collect takes FRINDEX to be 9 on from what was read
 

@@ -28,19 +28,19 @@ use Rattle.ehci.specs.declared.reply.Given.the-variants as G
 use Rattle.ehci.specs.Replies.{replied}
 use Rattle.ehci.specs.Decides.{asksOf, collectDecided, decideOf}
 use Rattle.ehci.specs.Door.{Applied, applied, applyOf}
 use Rattle.promises.specs.Runs.{History, Machine, Turn, World, core, historyOf, turnOf, worldOf}
 use Rattle.promises.specs.Walks.{ringWalk, walkFrom}
 use Rattle.promises.specs.Events.{isCollected, rings}
 use Rattle.promises.specs.Bells.{asked, bell, counted, isUp, linked as isLinked, unlinking}
 use Rattle.promises.specs.Boundaries.{EveryRun, OnePasses, Orderly, Passes, UpExactly}
 use Rattle.promises.specs.Registers.{Access}
 use Rattle.promises.proofs.invariants.Reached.{freshWorld}
-use Rattle.promises.proofs.wrong.WrongRuns.{acknowledges, good, linked, one, openedTwo, opening, reading, replies, small, stateOf, submits, two, waits}
-use Rattle.promises.proofs.wrong.WrongUp.{up-world, upCalls}
-use Rattle.promises.proofs.wrong.WrongCalls.{apartFirst, apartOne, apartTwo, drained-first, heard-two, linkedOne, linkedTwo, submitted, submitted-two, unlinked-first, unlinked-second}
-use Rattle.promises.proofs.wrong.WrongBells.{goes-on, is-told}
-use Rattle.promises.proofs.wrong.WrongBut.{but, but-rises, isDrains, isLeaves, isSubmits, not-passed, rewriting}
-use Rattle.promises.proofs.wrong.WrongNever.{leaves}
+use Rattle.refutations.proofs.WrongRuns.{acknowledges, good, linked, one, openedTwo, opening, reading, replies, small, stateOf, submits, two, waits}
+use Rattle.refutations.proofs.WrongUp.{up-world, upCalls}
+use Rattle.refutations.proofs.WrongCalls.{apartFirst, apartOne, apartTwo, drained-first, heard-two, linkedOne, linkedTwo, submitted, submitted-two, unlinked-first, unlinked-second}
+use Rattle.refutations.proofs.WrongBells.{goes-on, is-told}
+use Rattle.refutations.proofs.WrongBut.{but, but-rises, isDrains, isLeaves, isSubmits, not-passed, rewriting}
+use Rattle.refutations.proofs.WrongNever.{leaves}
 
 abbrev w : World
 w = freshWorld small

@@ -25,20 +25,20 @@ use Rattle.ehci.specs.declared.reply.Given.the-variants as G
 use Rattle.ehci.specs.Replies.{answeredValues, replied}
 use Rattle.ehci.specs.Decides.{acknowledgeDecided, asksOf, decideOf, drainDecided}
 use Rattle.ehci.specs.Door.{Applied, applyOf}
 use Rattle.promises.specs.Runs.{History, Machine, Turn, World, core, historyOf, turnOf, worldOf}
 use Rattle.promises.specs.Walks.{ringWalk, walkFrom}
 use Rattle.promises.specs.Events.{Other, Submits, event, firstIn, isDone}
 use Rattle.promises.specs.Chains.{turnBy}
 use Rattle.promises.specs.Registers.{Access, InterruptsAnswered, RingsInTurn, StatusAcknowledged, WritesExactly, accessOf, pendingIn, ringCount, ringsBy, statusFor, valuesAt}
 use Rattle.promises.specs.Ids.{IdsInTurn, nextId}
 use Rattle.promises.proofs.invariants.Reached.{freshWorld}
 use Rattle.promises.proofs.any_machine.RegisterLaws.{count-by, never-rings, status-written}
-use Rattle.promises.proofs.wrong.WrongRuns.{acknowledges, bellOf, closed, fresh, linked, one, openedTwo, opening, opens, reading, replies, request, rising, rising-good, small, stateOf, submits, waits}
-use Rattle.promises.proofs.wrong.WrongUp.{up-world, upCalls}
-use Rattle.promises.proofs.wrong.WrongCalls.{againOne, apartFirst, apartOne, collected, drained, freeOne, linkedOne, submitted, submitted-again, submitted-beside}
-use Rattle.promises.proofs.wrong.WrongBells.{goes-on, is-told}
-use Rattle.promises.proofs.wrong.WrongBut.{answering, but, but-rises, isAcknowledges, isSubmits, rewriting}
-use Rattle.promises.proofs.wrong.WrongNever.{hears, leaves}
+use Rattle.refutations.proofs.WrongRuns.{acknowledges, bellOf, closed, fresh, linked, one, openedTwo, opening, opens, reading, replies, request, rising, rising-good, small, stateOf, submits, waits}
+use Rattle.refutations.proofs.WrongUp.{up-world, upCalls}
+use Rattle.refutations.proofs.WrongCalls.{againOne, apartFirst, apartOne, collected, drained, freeOne, linkedOne, submitted, submitted-again, submitted-beside}
+use Rattle.refutations.proofs.WrongBells.{goes-on, is-told}
+use Rattle.refutations.proofs.WrongBut.{answering, but, but-rises, isAcknowledges, isSubmits, rewriting}
+use Rattle.refutations.proofs.WrongNever.{hears, leaves}
 
 abbrev w : World
 w = freshWorld small

@@ -10,10 +10,10 @@ use Rattle.state.specs.State.{withBell}
 use Rattle.state.specs.declared.state.Ehci.{Ehci}
 use Rattle.ehci.specs.declared.call.Call.{Call}
 use Rattle.ehci.specs.Door.{Applied, applied}
 use Rattle.promises.specs.Runs.{History, Machine, Turn, World, core, historyOf, leftBy, turnOf, worldOf}
 use Rattle.promises.specs.Events.{rings}
 use Rattle.promises.specs.Bells.{Boundary, none, reads, unlinksOf}
-use Rattle.promises.proofs.wrong.WrongUp.{Plainly, isDrain, readsAdvance}
+use Rattle.refutations.proofs.WrongUp.{Plainly, isDrain, readsAdvance}
 
 -- ---- machines
 

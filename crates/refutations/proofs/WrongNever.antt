@@ -31,21 +31,21 @@ use Rattle.ehci.specs.declared.reply.Event.the-variants as E
 use Rattle.ehci.specs.Replies.{replied}
 use Rattle.ehci.specs.Decides.{acknowledgeDecided, asksOf, cancelDecided, collectDecided, decideOf, drainDecided}
 use Rattle.ehci.specs.Door.{Applied, applyOf}
 use Rattle.promises.specs.Runs.{World, core, History, Machine, Turn, historyOf, turnOf, worldOf}
 use native.Mathlib.Omega.{arith}
 use Rattle.settings.specs.Settings.{apartAreas, areaGood, eachGood, noOverlap, numbersGood, settingsGood}
 use Rattle.slot.specs.Ranges.{boundaryGood, closedGood, idleGood, linkedGood, noRequest, openKind, phaseGood, slotGood, unlinkingGood}
 use Rattle.common.specs.Kinds.{isInterrupt}
 use Rattle.promises.specs.Walks.{ringWalk, walkFrom}
 use Rattle.promises.specs.Events.{isCollected}
 use Rattle.promises.specs.Bells.{asked, bell, collects, counted, kindAt, newestId, none, number, unlinking, unlinksOf}
 use Rattle.promises.specs.Boundaries.{EveryRun, Exact, Passes, Waits, turn}
 use Rattle.promises.proofs.invariants.Reached.{freshWorld}
-use Rattle.promises.proofs.wrong.WrongRuns.{acknowledges, linked, one, openedTwo, opening, reading, replies, small, stateOf, submits, waits}
-use Rattle.promises.proofs.wrong.WrongUp.{Plainly, isDrain, plain-rises, up-world, upCalls}
-use Rattle.promises.proofs.wrong.WrongCalls.{apartOne, linkedOne, submitted}
-use Rattle.promises.proofs.wrong.WrongBut.{not-passed}
-use Rattle.promises.proofs.wrong.WrongBells.{goes-on, is-told, noteBefore}
+use Rattle.refutations.proofs.WrongRuns.{acknowledges, linked, one, openedTwo, opening, reading, replies, small, stateOf, submits, waits}
+use Rattle.refutations.proofs.WrongUp.{Plainly, isDrain, plain-rises, up-world, upCalls}
+use Rattle.refutations.proofs.WrongCalls.{apartOne, linkedOne, submitted}
+use Rattle.refutations.proofs.WrongBut.{not-passed}
+use Rattle.refutations.proofs.WrongBells.{goes-on, is-told, noteBefore}
 
 -- no advance is ever counted
 abbrev pub never : Machine

@@ -36,8 +36,8 @@ use Rattle.ehci.specs.declared.reply.Event.the-variants as E
 use Rattle.ehci.specs.Replies.{replied}
 use Rattle.ehci.specs.Decides.{acknowledgeDecided, asksOf, cancelDecided, collectDecided, decideOf, drainDecided, submitDecided}
 use Rattle.ehci.specs.Door.{applyOf}
 use Rattle.promises.specs.Runs.{World, core}
-use Rattle.promises.proofs.wrong.WrongRuns.{acknowledges, bellOf, chunk, good, headOf, headsOf, idle, linked, noBell, one, openedTwo, reading, replies, stateOf, submits, two, used, waits, withRows}
+use Rattle.refutations.proofs.WrongRuns.{acknowledges, bellOf, chunk, good, headOf, headsOf, idle, linked, noBell, one, openedTwo, reading, replies, stateOf, submits, two, used, waits, withRows}
 
 -- ---- one request, and what comes of it
 

@@ -8,9 +8,9 @@ use Rattle.register.specs.Bits.{anyOf, bit}
 use Rattle.bring_up.specs.BringUp.{movedOn, ready, stageOf}
 use Rattle.ehci.specs.declared.call.Call.{Call}
 use Rattle.ehci.specs.declared.call.Call.the-variants.{StartBringUp, BringUpStep, AllocateAddress, OpenEndpoint, Close, SetAddress, SetPacketSize, Submit, Writeback, Cancel, Collect, Acknowledge, Drain, Rearm, Enable, Disable}
 use Rattle.promises.specs.Runs.{Machine, World, core, leftBy, worldOf}
 use Rattle.promises.proofs.invariants.Reached.{freshWorld}
-use Rattle.promises.proofs.wrong.WrongRuns.{fresh, openBulk, openedOne, openedTwo, opens, opens-one, opens-two, rising, small, starts, stateOf, steps}
+use Rattle.refutations.proofs.WrongRuns.{fresh, openBulk, openedOne, openedTwo, opens, opens-one, opens-two, rising, small, starts, stateOf, steps}
 
 abbrev pub isDrain : Call → Bool
 isDrain StartBringUp = false

@@ -16,17 +16,17 @@ use Rattle.ehci.specs.declared.reply.Answered.the-variants.{Done, Cancelled}
 use Rattle.ehci.specs.declared.reply.Given.the-variants as G
 use Rattle.ehci.specs.declared.reply.Event.the-variants as E
 use Rattle.ehci.specs.Door.{Applied}
 use Rattle.promises.specs.Runs.{History, Machine, Turn, World, historyOf, rowsOf, turnOf, worldOf}
 use Rattle.promises.specs.Walks.{chainWalk, isIn, ringWalk, walkFrom}
 use Rattle.promises.specs.Events.{Submits, event, isCollected}
 use Rattle.promises.specs.Bells.{kindAt}
 use Rattle.promises.specs.Boundaries.{BoundaryKept, EveryRun}
 use Rattle.promises.specs.Faults.{NeverGiven, holds, mayRead}
 use Rattle.promises.proofs.invariants.Reached.{freshWorld}
-use Rattle.promises.proofs.wrong.WrongRuns.{acknowledges, linked, one, openedTwo, opening, reading, replies, request, small, stateOf, submits, waits}
-use Rattle.promises.proofs.wrong.WrongUp.{plain-rises, up-world, upCalls, Plainly}
-use Rattle.promises.proofs.wrong.WrongCalls.{againOne, apartOne, collected, drained, freeOne, heard, linkedOne, submitted, submitted-again, unlinked}
-use Rattle.promises.proofs.wrong.WrongBells.{any, any-plainly, boundary?, early, early-plainly, found, goes-on, is-told, noteAfter}
+use Rattle.refutations.proofs.WrongRuns.{acknowledges, linked, one, openedTwo, opening, reading, replies, request, small, stateOf, submits, waits}
+use Rattle.refutations.proofs.WrongUp.{plain-rises, up-world, upCalls, Plainly}
+use Rattle.refutations.proofs.WrongCalls.{againOne, apartOne, collected, drained, freeOne, heard, linkedOne, submitted, submitted-again, unlinked}
+use Rattle.refutations.proofs.WrongBells.{any, any-plainly, boundary?, early, early-plainly, found, goes-on, is-told, noteAfter}
 
 -- newest first: one request; the advance bit is read; only then it is unlinked, which rings; a drain
 abbrev stale : List Call

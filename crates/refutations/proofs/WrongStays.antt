@@ -19,21 +19,21 @@ use Rattle.ehci.specs.declared.reply.Answered.the-variants.{Done}
 use Rattle.ehci.specs.declared.reply.Given.the-variants as G
 use Rattle.ehci.specs.Replies.{answeredNumber}
 use Rattle.ehci.specs.Door.{Applied, applied}
 use Rattle.promises.specs.Runs.{History, Machine, Turn, World, core, historyOf, rowsOf, turnOf, worldOf}
 use Rattle.promises.specs.Walks.{chainWalk, ringWalk, walkFrom}
 use Rattle.promises.specs.Events.{event, isCollected}
 use Rattle.promises.specs.Uses.{Use, uses}
 use Rattle.promises.specs.Bells.{isSubmitsOf}
 use Rattle.promises.specs.Rooms.{Every}
 use Rattle.promises.specs.Collections.{isCollection}
 use Rattle.promises.specs.Submissions.{CollectsEnded, SubmittedStays, TokenStands, TokensStand, Untouched, wordAt}
 use Rattle.promises.proofs.theorems.TokenLaws.{backAt}
 use Rattle.promises.proofs.invariants.Reached.{freshWorld}
-use Rattle.promises.proofs.wrong.WrongRuns.{linked, one, openedTwo, opening, reading, replies, request, small, submits}
-use Rattle.promises.proofs.wrong.WrongUp.{up-world, upCalls}
-use Rattle.promises.proofs.wrong.WrongCalls.{linkedOne, submitted}
-use Rattle.promises.proofs.wrong.WrongBells.{goes-on, is-told}
-use Rattle.promises.proofs.wrong.WrongCollections.{apartNow, c5, leaves, length-500, linkedNow, looks, rank, rises-up, unlinks, w5, written}
+use Rattle.refutations.proofs.WrongRuns.{linked, one, openedTwo, opening, reading, replies, request, small, submits}
+use Rattle.refutations.proofs.WrongUp.{up-world, upCalls}
+use Rattle.refutations.proofs.WrongCalls.{linkedOne, submitted}
+use Rattle.refutations.proofs.WrongBells.{goes-on, is-told}
+use Rattle.refutations.proofs.WrongCollections.{apartNow, c5, leaves, length-500, linkedNow, looks, rank, rises-up, unlinks, w5, written}
 
 abbrev w : World
 w = freshWorld small
