@@ -38,6 +38,7 @@ use Rattle.collection.specs.declared.collected.Collected.the-variants.{Complete
 use Rattle.collection.specs.Calls.{Gathered, cancelAt, cancelChecks, cancelOf, collectAt, collectChecks, collectOf, endIf, ended, finishOf, gathered, linkedOf, marked, pendingLeft, unlinkingOf, withFrames as gatheredFrames}
 use Rattle.collection.specs.Unlinks.{Left, isMissing, passedBoundary, unlinkOf, waitingOf}
 use Rattle.interrupt.specs.Interrupts.{acknowledgeOf, disableOf, drainIf, drainOf, enableOf, heardIf, rearmIf, rearmOf, settledOr, clearedOf, countedOf}
+use Rattle.interrupt.specs.declared.drain.Cleared.{Cleared}
 use Rattle.interrupt.specs.declared.answers.Acknowledgement.{Acknowledgement}
 use Rattle.interrupt.specs.declared.answers.Drainage.{Drainage}
 use Rattle.interrupt.specs.declared.answers.Drained.the-variants.{PortChange, TransferActivity, Stopped}
@@ -291,7 +292,7 @@ module _ (s : Ehci) (hs fs us : List ℕ) where
   event-given pending = by (anyOf pending 4) (anyOf pending 0x23)
     where
       by : (a b : Bool)
-          → isRefused (drainedAnswer (cond a (record { event = PortChange; left = withoutBits pending 4 })
+          → isRefused (drainedAnswer (cond {A = Cleared} a (record { event = PortChange; left = withoutBits pending 4 })
           (cond b (record { event = TransferActivity; left = withoutBits pending 0x23 }) (record { event = Stopped; left = 0 })) .event)) ≡ false
       by true b = refl
       by false true = refl
