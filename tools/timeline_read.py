@@ -1,9 +1,11 @@
 """What tools/timeline reads: the records of a log, and the blocks that `replay` (or the oracle) printed of it."""
-import os, re, struct
+import os, re
 from collections import namedtuple
 
-OPEN, START, STEP, ALLOCATE, ENDPOINT, CLOSE, ADDRESS, PACKET, SUBMIT, WRITEBACK = range(1, 11)
-CANCEL, COLLECT, ACKNOWLEDGE, DRAIN, REARM, ENABLE, DISABLE, SCAN, SCAN_STEP, POWER = range(11, 21)
+from model import records as model_records
+from model.records import ACKNOWLEDGE, CANCEL, CLOSE, COLLECT, DRAIN, OPEN, SUBMIT, WRITEBACK
+from model.records import OPEN_ENDPOINT as ENDPOINT, SET_ADDRESS as ADDRESS, SET_PACKET as PACKET
+
 CALLS = [
     "", "open", "start bring-up", "bring-up step", "allocate address", "open endpoint", "close", "set address", "set packet size", "submit",
     "writeback", "cancel", "collect", "acknowledge", "drain", "rearm", "enable", "disable", "start scan", "scan step", "port power",
@@ -34,13 +36,14 @@ def content(path):
 
 
 def read_records(path):
-    """The records of a log up to the first that is none: 64 bytes are the call's number, seven bytes, seven 64-bit numbers."""
+    """The records of a log up to the first that is bad."""
     data, records = content(path), []
     for at in range(0, len(data), SIZE):
         part = data[at : at + SIZE]
-        if len(part) < SIZE or not OPEN <= part[0] <= POWER:
+        if model_records.read(part) is None:
             break
-        records.append(Record(part[0], tuple(part[1:8]), struct.unpack_from("<7Q", part, 8)))
+        number, small, numbers = model_records.taken_apart(part)
+        records.append(Record(number, tuple(small), numbers))
     if not records:
         raise Trouble(f"{path}: not a log of calls, its first {SIZE} bytes are no record")
     return records, len(data) == SIZE * len(records)
