@@ -22,5 +22,6 @@ pub mod CollectionLaws
 pub mod PlanLaws
 pub mod SubmissionLaws
 pub mod PacketLaws
-pub mod Kept
 pub mod TokenLaws
+pub mod CancelTheorems
+pub mod Kept

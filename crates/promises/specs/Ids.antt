@@ -1,15 +1,19 @@
--- Ids, over any calls: "Ids per slot start at 1 when it opens; after 2^64 − 1 comes 1." A statement of any machine.
+-- Ids, over any calls: "Ids per slot start at 1 when it opens; after 2^64 − 1 comes 1", and cancel and collect go by them. Statements of any machine.
 use Prim.Native.Nat.{ℕ, _+_, _-_, _^_}
-use mathlib.Core.Bool.{cond}
-use mathlib.Core.List.{[], _∷_}
+use mathlib.Core.Bool.{Bool, true, false, _||_, cond}
+use mathlib.Core.List.{List, [], _∷_}
 use mathlib.Core.Path.{_≡_}
 use lib.Dec.{eqb}
 use Rattle.settings.specs.declared.settings.Settings.{Settings}
+use Rattle.controller.specs.declared.lent.Readings.{Readings}
 use Rattle.request.specs.declared.judge.TransferRequest.{TransferRequest}
 use Rattle.ehci.specs.declared.call.Call.{Call}
-use Rattle.promises.specs.Runs.{Always, History, Machine}
+use Rattle.ehci.specs.declared.call.Call.the-variants.{Cancel, Collect}
+use Rattle.promises.specs.Runs.{Always, History, Machine, World}
 use Rattle.promises.specs.Events.{Event, Other, Reads, Drains, Submits, Unlinks, Parts, Collects, event}
-use Rattle.promises.specs.Opened.{Change, ClosesSlot, Halted, OpensSlot, Running, Same, change}
+use Rattle.promises.specs.Opened.{Change, ClosesSlot, Halted, OpensSlot, Running, Same, change, isBusy, isShut, slotIn}
+use Rattle.promises.specs.Uses.{Use, isOf, uses}
+use Rattle.promises.specs.Rooms.{numberAt}
 use Rattle.promises.specs.Chains.{turnBy}
 
 abbrev pub following : ℕ → ℕ
@@ -42,3 +46,23 @@ nextId s k (t ∷ past) = takenBy k (event s t) (startBy k (change t) (nextId s 
 abbrev pub IdsInTurn : Machine → Type 0
 IdsInTurn m =
     Always (λ s h w. (c : Call) (k id : ℕ) (r : TransferRequest) → event s (turnBy m w c) ≡ Submits k id r → id ≡ nextId s k h) m
+
+-- slot k has an uncollected request of that id
+abbrev pub isHeldAs : ℕ → ℕ → List Use → Bool
+isHeldAs k id [] = false
+isHeldAs k id (u ∷ us) = isOf k id u || isHeldAs k id us
+
+-- "Cancel: 3 if not open, nothing uncollected, or wrong id": 0 exactly where the slot has an uncollected request of that id, so that an id
+-- of a request that was collected hits no later one
+abbrev pub CancelsById : Machine → Type 0
+CancelsById m =
+    Always (λ s h w. (k id : ℕ) (readings : Readings) → numberAt m w (Cancel k id readings) ≡ cond (isHeldAs k id (uses s h)) 0 3) m
+
+-- "Collect: 3 if not open; 9 if nothing uncollected; 3 on a wrong id."
+pub record ById (m : Machine) (s : Settings) (h : History) (w : World) (k id : ℕ) (readings : Readings) : Type 0 where
+  pub not-open : isShut (slotIn k h) ≡ true → numberAt m w (Collect k id readings) ≡ 3
+  pub nothing : isShut (slotIn k h) ≡ false → isBusy s h k ≡ false → numberAt m w (Collect k id readings) ≡ 9
+  pub wrong-id : isBusy s h k ≡ true → isHeldAs k id (uses s h) ≡ false → numberAt m w (Collect k id readings) ≡ 3
+
+abbrev pub CollectsById : Machine → Type 0
+CollectsById m = Always (λ s h w. (k id : ℕ) (readings : Readings) → ById m s h w k id readings) m

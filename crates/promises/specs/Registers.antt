@@ -200,8 +200,12 @@ ringing (E.Unlinks k) b remain = not (isUp b)
 ringing (E.Parts k frame) b remain = false
 ringing (E.Collects k id frame) b remain = false
 
+-- unlinks remain when one more is counted
+abbrev pub isLeft : Settings → History → Bool
+isLeft s h = ltb (counted s h + 1) (asked s h)
+
 abbrev pub ringsBy : Settings → History → Turn → Bool
-ringsBy s h t = ringing (event s t) (bell s h) (ltb (counted s h + 1) (asked s h))
+ringsBy s h t = ringing (event s t) (bell s h) (isLeft s h)
 
 abbrev pub writesFor : Settings → History → Turn → Access → List Write
 writesFor s h t None = []

@@ -13,6 +13,7 @@ pub mod WrongFrames
 pub mod WrongNever
 pub mod WrongBut
 pub mod WrongRegisters
+pub mod WrongIds
 pub mod WrongTurns
 pub mod RegisterExamples
 pub mod WrongCollections

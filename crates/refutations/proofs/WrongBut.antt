@@ -18,6 +18,18 @@ use Rattle.promises.specs.Registers.{Access, None, Starts, Steps, Submits, Leav
 use Rattle.promises.proofs.theorems.BoundaryCalls.{collect-found}
 use Rattle.refutations.proofs.WrongUp.{Rises}
 
+abbrev pub isStarts : Access → Bool
+isStarts None = false
+isStarts Starts = true
+isStarts (Steps v) = false
+isStarts (Submits v) = false
+isStarts (Leaves v) = false
+isStarts (Acknowledges x) = false
+isStarts (Drains v) = false
+isStarts Rearms = false
+isStarts Enables = false
+isStarts Disables = false
+
 abbrev pub isSubmits : Access → Bool
 isSubmits None = false
 isSubmits Starts = false
@@ -71,8 +83,8 @@ abbrev pub but : (World → Access → Bool) → (World → Applied → Applied)
 but p f w c = cond (p w (accessOf c)) (f w (core w c)) (core w c)
 
 pub but-rises : (p : World → Access → Bool) (f : World → Applied → Applied)
-    → ((w : World) → p w None ≡ false) → ((w : World) → p w Starts ≡ false) → ((w : World) (v : ℕ) → p w (Steps v) ≡ false) → Rises (but p f)
-but-rises p f none starts steps w StartBringUp e n = rw (starts w)
+    → ((w : World) → p w None ≡ false) → ((w : World) → w .state .noted ≡ 0 → p w Starts ≡ false) → ((w : World) (v : ℕ) → p w (Steps v) ≡ false) → Rises (but p f)
+but-rises p f none starts steps w StartBringUp e n = rw (starts w n)
 but-rises p f none starts steps w (BringUpStep v) e n = rw (steps w v)
 but-rises p f none starts steps w AllocateAddress e n = absurd (false≢true e)
 but-rises p f none starts steps w (OpenEndpoint x) e n = rw (none w)

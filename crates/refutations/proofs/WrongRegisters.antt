@@ -1,6 +1,7 @@
--- Machines that acknowledge something else than they read, ring in a submit, or give an id twice: the statements of registers and ids refuted.
+-- Machines that acknowledge something else than they read, forget it, ring in a submit, or begin bring-up with a ring out: the statements of
+-- registers refuted.
 use Prim.Native.Nat.{ℕ}
-use mathlib.Core.Bool.{true, _&&_, cond}
+use mathlib.Core.Bool.{true, _&&_, cond, true≢false}
 use mathlib.Core.List.{List, [], _∷_}
 use mathlib.Core.Path.{_≡_, refl, sym, ap, _∙_}
 use native.Mathlib.Omega.{arith}
@@ -16,28 +17,28 @@ use Rattle.state.specs.State.{withBell, withInterrupt}
 use Rattle.schedule.specs.Bell.{commandWord, ringWord}
 use Rattle.request.specs.Submit.{writesWith}
 use Rattle.interrupt.specs.Interrupts.{acknowledgeOf, acknowledgeWrites, acknowledgedState, drainOf, notedAfter}
-use Rattle.opening.specs.Opening.{rowsFit}
+use Rattle.opening.specs.Opening.{freshState, rowsFit}
+use Rattle.common.specs.declared.reads.NextRead.the-variants as N
 use Rattle.ehci.specs.declared.call.Call.{Call}
-use Rattle.ehci.specs.declared.call.Call.the-variants.{Cancel, Collect, Drain}
-use Rattle.ehci.specs.declared.reply.Answered.the-variants.{Cancelled, Done}
+use Rattle.ehci.specs.declared.call.Call.the-variants.{Cancel, Drain, StartBringUp}
+use Rattle.ehci.specs.declared.reply.Answered.the-variants.{Done}
 use Rattle.ehci.specs.declared.reply.Event.the-variants as E
 use Rattle.ehci.specs.declared.reply.Given.the-variants as G
 use Rattle.ehci.specs.Replies.{answeredValues, replied}
 use Rattle.ehci.specs.Decides.{acknowledgeDecided, asksOf, decideOf, drainDecided}
 use Rattle.ehci.specs.Door.{Applied, applyOf}
 use Rattle.promises.specs.Runs.{History, Machine, Turn, World, core, historyOf, turnOf, worldOf}
-use Rattle.promises.specs.Walks.{ringWalk, walkFrom}
-use Rattle.promises.specs.Events.{Other, Submits, event, firstIn, isDone}
+use Rattle.promises.specs.Events.{Other, Submits, firstIn, isDone}
+use Rattle.promises.specs.Bells.{bell, isUp}
 use Rattle.promises.specs.Chains.{turnBy}
-use Rattle.promises.specs.Registers.{Access, InterruptsAnswered, RingsInTurn, StatusAcknowledged, WritesExactly, accessOf, pendingIn, ringCount, ringsBy, statusFor, valuesAt}
-use Rattle.promises.specs.Ids.{IdsInTurn, nextId}
+use Rattle.promises.specs.Registers.{Access, InterruptsAnswered, QuietBringUp, RegistersTied, RingsInTurn, StatusAcknowledged, WritesExactly, accessOf, pendingIn, readIn, ringCount, ringsBy, statusFor, valuesAt}
 use Rattle.promises.proofs.invariants.Reached.{freshWorld}
 use Rattle.promises.proofs.any_machine.RegisterLaws.{count-by, never-rings, status-written}
 use Rattle.refutations.proofs.WrongRuns.{acknowledges, bellOf, closed, fresh, linked, one, openedTwo, opening, opens, reading, replies, request, rising, rising-good, small, stateOf, submits, waits}
 use Rattle.refutations.proofs.WrongUp.{up-world, upCalls}
-use Rattle.refutations.proofs.WrongCalls.{againOne, apartFirst, apartOne, collected, drained, freeOne, linkedOne, submitted, submitted-again, submitted-beside}
+use Rattle.refutations.proofs.WrongCalls.{apartFirst, apartOne, linkedOne, submitted, submitted-beside}
 use Rattle.refutations.proofs.WrongBells.{goes-on, is-told}
-use Rattle.refutations.proofs.WrongBut.{answering, but, but-rises, isAcknowledges, isSubmits, rewriting}
+use Rattle.refutations.proofs.WrongBut.{but, but-rises, isAcknowledges, isStarts, isSubmits, rewriting}
 use Rattle.refutations.proofs.WrongNever.{hears, leaves}
 
 abbrev w : World
@@ -123,6 +124,12 @@ forgetful-answers answered =
     let same : _≡_ {A = ℕ} 0 1 = ap (λ (l : List ℕ). getD l 0 0) (sym nothing ∙ says) in
     omega (arith, same)
 
+pub forgetful-tied : RegistersTied forgetful → ⊥
+unfolding historyOf worldOf pendingIn onlyBits withBits freshState
+forgetful-tied tied =
+    let none : _≡_ {A = ℕ} 0 4 = tied small w opening (acknowledges 4 ∷ []) .pending in
+    omega (arith, none)
+
 -- ---- ringing in a submit, while a ring is out
 
 abbrev rung : Write → Write
@@ -138,7 +145,7 @@ abbrev c2 : List Call
 c2 = Cancel 0 1 (reading 0x80031) ∷ c1
 
 insistent-up : worldOf insistent w upCalls ≡ openedTwo
-insistent-up = up-world insistent (but-rises (λ (x : World) (a : Access). isSubmits a && eqb (x .state .doorbell) 1) (λ (x : World) (a : Applied). rewriting rung a) (λ x. refl) (λ x. refl) (λ x v. refl))
+insistent-up = up-world insistent (but-rises (λ (x : World) (a : Access). isSubmits a && eqb (x .state .doorbell) 1) (λ (x : World) (a : Applied). rewriting rung a) (λ x. refl) (λ x n. refl) (λ x v. refl))
 
 insistent-submits : insistent openedTwo (submits 0 0x500000) ≡ replies (Done (G.Id 1)) (writesWith (reading 0x80031)) (linkedOne (one 0 0 0 0 0 linked))
 unfolding stateOf
@@ -180,49 +187,32 @@ insistent-writes exact =
     let c = submits 1 0x501000 in
     no-ring (ap ringCount (exact small w opening c2 c) ∙ count-by insistent small (historyOf insistent w c2) (worldOf insistent w c2) c)
 
--- ---- every request has id 1
+-- ---- bring-up is begun while a ring is out
 
-abbrev alike : Applied → Applied
-alike a = cond (isDone (a .reply .answer)) (answering (Done (G.Id 1)) a) a
+abbrev begins : World → Applied → Applied
+begins x a = replies (Done (G.Next (N.Register 0) 0)) noWrites x
 
-abbrev pub oneId : Machine
-oneId = but (λ x a. isSubmits a) (λ x a. alike a)
+abbrev pub brazen : Machine
+brazen = but (λ x a. isStarts a && eqb (x .state .noted) 1) begins
 
 abbrev c3 : List Call
 c3 = acknowledges 0x20 ∷ c2
 
-abbrev c4 : List Call
-c4 = Drain 0x80031 ∷ c3
+brazen-up : worldOf brazen w upCalls ≡ openedTwo
+brazen-up = up-world brazen (but-rises (λ (x : World) (a : Access). isStarts a && eqb (x .state .noted) 1) begins (λ x. refl) (λ x n. rw n) (λ x v. refl))
 
-abbrev c5 : List Call
-c5 = Collect 0 1 (reading 0x80031) ∷ c4
+brazen-one : worldOf brazen w c1 ≡ linkedOne (one 0 0 0 0 0 linked)
+brazen-one = goes-on brazen w upCalls (submits 0 0x500000) openedTwo _ brazen-up submitted
 
-oneId-up : worldOf oneId w upCalls ≡ openedTwo
-oneId-up = up-world oneId (but-rises (λ (x : World) (a : Access). isSubmits a) (λ (x : World) (a : Applied). alike a) (λ x. refl) (λ x. refl) (λ x v. refl))
+brazen-two : worldOf brazen w c2 ≡ apartOne (one 0 0 0 1 1 (waits 1))
+brazen-two = goes-on brazen w c1 (Cancel 0 1 (reading 0x80031)) (linkedOne (one 0 0 0 0 0 linked)) _ brazen-one leaves
 
-submits-first : oneId openedTwo (submits 0 0x500000) ≡ replies (Done (G.Id 1)) (writesWith (reading 0x80031)) (linkedOne (one 0 0 0 0 0 linked))
-submits-first = ap alike submitted
+brazen-three : worldOf brazen w c3 ≡ apartOne (one 0x20 0x20 1 1 1 (waits 1))
+brazen-three = goes-on brazen w c2 (acknowledges 0x20) (apartOne (one 0 0 0 1 1 (waits 1))) _ brazen-two hears
 
-submits-second : oneId freeOne (submits 0 0x502000) ≡ alike (replies (Done (G.Id 2)) (writesWith (reading 0x80031)) againOne)
-submits-second = ap alike submitted-again
-
-w1 : worldOf oneId w c1 ≡ linkedOne (one 0 0 0 0 0 linked)
-w1 = goes-on oneId w upCalls (submits 0 0x500000) openedTwo _ oneId-up submits-first
-
-w2 : worldOf oneId w c2 ≡ apartOne (one 0 0 0 1 1 (waits 1))
-w2 = goes-on oneId w c1 (Cancel 0 1 (reading 0x80031)) (linkedOne (one 0 0 0 0 0 linked)) _ w1 leaves
-
-w3 : worldOf oneId w c3 ≡ apartOne (one 0x20 0x20 1 1 1 (waits 1))
-w3 = goes-on oneId w c2 (acknowledges 0x20) (apartOne (one 0 0 0 1 1 (waits 1))) _ w2 hears
-
-w4 : worldOf oneId w c4 ≡ apartOne (one 0 0x20 0 0 0 (waits 0))
-w4 = goes-on oneId w c3 (Drain 0x80031) (apartOne (one 0x20 0x20 1 1 1 (waits 1))) _ w3 drained
-
-w5 : worldOf oneId w c5 ≡ freeOne
-w5 = goes-on oneId w c4 (Collect 0 1 (reading 0x80031)) (apartOne (one 0 0x20 0 0 0 (waits 0))) _ w4 collected
-
-abbrev t1 : Turn
-t1 = turnOf (openedTwo .rows) (submits 0 0x500000) (replies (Done (G.Id 1)) (writesWith (reading 0x80031)) (linkedOne (one 0 0 0 0 0 linked)))
+brazen-starts : brazen (apartOne (one 0x20 0x20 1 1 1 (waits 1))) StartBringUp ≡ replies (Done (G.Next (N.Register 0) 0)) noWrites (apartOne (one 0x20 0x20 1 1 1 (waits 1)))
+unfolding stateOf
+brazen-starts = refl
 
 abbrev t2 : Turn
 t2 = turnOf (linkedOne (one 0 0 0 0 0 linked) .rows) (Cancel 0 1 (reading 0x80031)) (replies (Done G.Nothing) (andThen noWrites 0 (ringWord 0x80031)) (apartOne (one 0 0 0 1 1 (waits 1))))
@@ -231,33 +221,21 @@ abbrev t3 : Turn
 t3 = turnOf (apartOne (one 0 0 0 1 1 (waits 1)) .rows) (acknowledges 0x20) (replies (Done G.Yes) (acknowledgeWrites 0x20 0x27 true true) (apartOne (one 0x20 0x20 1 1 1 (waits 1))))
 
 abbrev t4 : Turn
-t4 = turnOf (apartOne (one 0x20 0x20 1 1 1 (waits 1)) .rows) (Drain 0x80031) (replies (Done (G.Event E.TransferActivity)) noWrites (apartOne (one 0 0x20 0 0 0 (waits 0))))
+t4 = turnOf (apartOne (one 0x20 0x20 1 1 1 (waits 1)) .rows) StartBringUp (replies (Done (G.Next (N.Register 0) 0)) noWrites (apartOne (one 0x20 0x20 1 1 1 (waits 1))))
 
-abbrev t5 : Turn
-t5 = turnOf (apartOne (one 0 0x20 0 0 0 (waits 0)) .rows) (Collect 0 1 (reading 0x80031)) (replies Cancelled noWrites freeOne)
+brazen-told : historyOf brazen w (StartBringUp ∷ c3) ≡ t4 ∷ t3 ∷ t2 ∷ historyOf brazen w c1
+brazen-told =
+    is-told brazen w c3 StartBringUp (apartOne (one 0x20 0x20 1 1 1 (waits 1))) _ brazen-three brazen-starts (t3 ∷ t2 ∷ historyOf brazen w c1)
+    (is-told brazen w c2 (acknowledges 0x20) (apartOne (one 0 0 0 1 1 (waits 1))) _ brazen-two hears (t2 ∷ historyOf brazen w c1)
+    (is-told brazen w c1 (Cancel 0 1 (reading 0x80031)) (linkedOne (one 0 0 0 0 0 linked)) _ brazen-one leaves (historyOf brazen w c1) refl))
 
-abbrev up : History
-up = historyOf oneId w upCalls
+begun-answered : (h : History) → (readIn (t4 ∷ t3 ∷ t2 ∷ h) ≡ 1) × (isUp (bell small (t4 ∷ t3 ∷ t2 ∷ h)) ≡ true)
+unfolding readIn bell andThen noWrites ringWord withBits acknowledgeWrites
+begun-answered h = (refl, refl)
 
-told : historyOf oneId w c5 ≡ t5 ∷ t4 ∷ t3 ∷ t2 ∷ t1 ∷ up
-told =
-    is-told oneId w c4 (Collect 0 1 (reading 0x80031)) (apartOne (one 0 0x20 0 0 0 (waits 0))) _ w4 collected (t4 ∷ t3 ∷ t2 ∷ t1 ∷ up)
-    (is-told oneId w c3 (Drain 0x80031) (apartOne (one 0x20 0x20 1 1 1 (waits 1))) _ w3 drained (t3 ∷ t2 ∷ t1 ∷ up)
-    (is-told oneId w c2 (acknowledges 0x20) (apartOne (one 0 0 0 1 1 (waits 1))) _ w2 hears (t2 ∷ t1 ∷ up)
-    (is-told oneId w c1 (Cancel 0 1 (reading 0x80031)) (linkedOne (one 0 0 0 0 0 linked)) _ w1 leaves (t1 ∷ up)
-    (is-told oneId w upCalls (submits 0 0x500000) openedTwo _ oneId-up submits-first up refl))))
-
--- the second request is due one more than the first
-one-more : (n : ℕ) → nextId small 0 up ≡ n → n ≡ 1 → nextId small 0 (t5 ∷ t4 ∷ t3 ∷ t2 ∷ t1 ∷ up) ≡ 2
-unfolding nextId ringWalk walkFrom
-one-more n e q = rw (e, q)
-
-pub oneId-ids : IdsInTurn oneId → ⊥
-oneId-ids ids =
-    let first : event small (turnBy oneId (worldOf oneId w upCalls) (submits 0 0x500000)) ≡ Submits 0 1 (request 0x500000)
-    = ap (λ (x : World). event small (turnBy oneId x (submits 0 0x500000))) oneId-up ∙ ap (λ (a : Applied). event small (turnOf (openedTwo .rows) (submits 0 0x500000) a)) submits-first in
-    let again : event small (turnBy oneId (worldOf oneId w c5) (submits 0 0x502000)) ≡ Submits 0 1 (request 0x502000)
-    = ap (λ (x : World). event small (turnBy oneId x (submits 0 0x502000))) w5 ∙ ap (λ (a : Applied). event small (turnOf (freeOne .rows) (submits 0 0x502000) a)) submits-second in
-    let before : 1 ≡ nextId small 0 up = ids small w opening upCalls (submits 0 0x500000) 0 1 (request 0x500000) first in
-    let after : 1 ≡ nextId small 0 (historyOf oneId w c5) = ids small w opening c5 (submits 0 0x502000) 0 1 (request 0x502000) again in
-    omega (arith, after, ap (nextId small 0) told ∙ one-more (nextId small 0 up) refl (sym before))
+pub brazen-quiet : QuietBringUp brazen → ⊥
+brazen-quiet quiet =
+    let h = historyOf brazen w c1 in
+    let begun : readIn (historyOf brazen w (StartBringUp ∷ c3)) ≡ 1 = ap readIn brazen-told ∙ begun-answered h .0 in
+    let down = quiet small w opening (StartBringUp ∷ c3) (λ z. omega (arith, begun, z)) in
+    true≢false (sym (ap (λ (x : History). isUp (bell small x)) brazen-told ∙ begun-answered h .1) ∙ ap isUp down)

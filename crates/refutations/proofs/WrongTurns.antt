@@ -60,7 +60,7 @@ abbrev m2 : List Call
 m2 = Cancel 0 1 (reading 0x80031) ∷ m1
 
 mute-up : worldOf mute w upCalls ≡ openedTwo
-mute-up = up-world mute (but-rises (λ (x : World) (a : Access). isLeaves a) (λ (x : World) (a : Applied). hushed a) (λ x. refl) (λ x. refl) (λ x v. refl))
+mute-up = up-world mute (but-rises (λ (x : World) (a : Access). isLeaves a) (λ (x : World) (a : Applied). hushed a) (λ x. refl) (λ x n. refl) (λ x v. refl))
 
 mute-one : worldOf mute w m1 ≡ linkedOne (one 0 0 0 0 0 linked)
 mute-one = goes-on mute w upCalls (submits 0 0x500000) openedTwo _ mute-up submitted
@@ -138,7 +138,7 @@ abbrev c6 : List Call
 c6 = Drain 0x80031 ∷ c5
 
 lax-up : worldOf lax w upCalls ≡ openedTwo
-lax-up = up-world lax (but-rises (λ (x : World) (a : Access). isDrains a) (λ (x : World) (a : Applied). loosened a) (λ x. refl) (λ x. refl) (λ x v. refl))
+lax-up = up-world lax (but-rises (λ (x : World) (a : Access). isDrains a) (λ (x : World) (a : Applied). loosened a) (λ x. refl) (λ x n. refl) (λ x v. refl))
 
 w1 : worldOf lax w c1 ≡ linkedOne (one 0 0 0 0 0 linked)
 w1 = goes-on lax w upCalls (submits 0 0x500000) openedTwo _ lax-up submitted

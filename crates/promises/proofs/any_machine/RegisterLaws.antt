@@ -1,10 +1,10 @@
 -- Of any machine whose writes are those of the history: what it writes to USBSTS, and that it rings once or not at all.
-use Prim.Native.Nat.{ℕ, _+_}
+use Prim.Native.Nat.{ℕ}
 use mathlib.Core.Bool.{Bool, true, false, _&&_, not, cond, true≢false}
 use mathlib.Core.List.{List, [], _∷_}
 use mathlib.Core.Path.{_≡_, refl, sym, ap, subst, _∙_}
 use borrow.Author.Tests.{eqb-true, ltb-true}
-use lib.Dec.{eqb, ltb}
+use lib.Dec.{eqb}
 use Rattle.register.specs.Bits.{anyOf, bit, withBits, withoutBits}
 use Rattle.register.specs.Writes.{writeOf}
 use Rattle.register.specs.declared.writes.Write.{Write}
@@ -21,7 +21,7 @@ use Rattle.promises.specs.Events.{Event, Other, Reads, Drains, Submits, 
 use Rattle.promises.specs.Bells.{Answered, Bell, Quiet, Rung, asked, bell, counted, isAnswered, isDrains, isUnlinks}
 use Rattle.promises.specs.Boundaries.{EveryRun, UpExactly}
 use Rattle.promises.specs.Chains.{turnBy}
-use Rattle.promises.specs.Registers.{Access, RingsInTurn, StatusAcknowledged, WritesExactly, accessOf, acknowledgeWrites, acknowledged, differ, flagIn, isAccepted, maskedBy, maskedIn, plainly, readIn, ring, ringCount, ringing, ringsBy, setUp, statusFor, stepWrites, usbintr, valuesAt, writesFor}
+use Rattle.promises.specs.Registers.{Access, RingsInTurn, StatusAcknowledged, WritesExactly, accessOf, acknowledgeWrites, acknowledged, differ, flagIn, isAccepted, isLeft, maskedBy, maskedIn, plainly, readIn, ring, ringCount, ringing, ringsBy, setUp, statusFor, stepWrites, usbintr, valuesAt, writesFor}
 use Rattle.promises.proofs.any_machine.Numbers.{if-none}
 
 -- ---- USBSTS
@@ -147,7 +147,7 @@ none-rings (Collects k id frame) b remain u d = refl
 module _ (m : Machine) (s : Settings) (h : History) (w : World) where
   quiet : (c : Call) → isUnlinks (event s (turnBy m w c)) ≡ false → isDrains (event s (turnBy m w c)) ≡ false → ringsBy s h (turnBy m w c) ≡ false
   quiet c u d =
-      none-rings (event s (turnBy m w c)) (bell s h) (ltb (counted s h + 1) (asked s h)) u (ap (λ (b : Bool). (b && isAnswered (bell s h))) d)
+      none-rings (event s (turnBy m w c)) (bell s h) (isLeft s h) u (ap (λ (b : Bool). (b && isAnswered (bell s h))) d)
 
   module _ (b : Bool) (x y : Event) where
     pick-none : isUnlinks x ≡ false → isDrains x ≡ false → isUnlinks y ≡ false → isDrains y ≡ false

@@ -144,6 +144,16 @@ module _ (w : World) (x : InterruptReadings) where
 
 -- ---- drain
 
+-- what is taken is an event, and no refusal
+pub taken-done : (q : ℕ) → isDone (drainedAnswer (clearedOf q .event)) ≡ true
+unfolding clearedOf
+taken-done q = by (anyOf q 4) refl (anyOf q 0x23) refl
+  where
+    by : (a : Bool) → anyOf q 4 ≡ a → (b : Bool) → anyOf q 0x23 ≡ b → isDone (drainedAnswer (clearedOf q .event)) ≡ true
+    by true p b r = rw p
+    by false p true r = rw (p, r)
+    by false p false r = rw (p, r)
+
 module _ (w : World) (command : ℕ) where
   abbrev d : Ehci
   d = w .state
@@ -174,16 +184,6 @@ module _ (w : World) (command : ℕ) where
   Drained x =
       Effect w (Drain command) (carriedOut (came (drainReply x) (w .rows .heads) (w .rows .frames) (w .rows .setups)) (w .rows .pool))
 
-  -- what is taken is an event, and no refusal
-  taken-done : isDone (drainedAnswer (clearedOf (d .pending) .event)) ≡ true
-  unfolding clearedOf
-  taken-done = by (anyOf (d .pending) 4) refl (anyOf (d .pending) 0x23) refl
-    where
-      by : (a : Bool) → anyOf (d .pending) 4 ≡ a → (b : Bool) → anyOf (d .pending) 0x23 ≡ b → isDone (drainedAnswer (clearedOf (d .pending) .event)) ≡ true
-      by true p b q = rw p
-      by false p true q = rw (p, q)
-      by false p false q = rw (p, q)
-
   drained-as : (b : Bool) → b ≡ true → cond b Drains Other ≡ Drains
   drained-as b e = rw e
 
@@ -196,7 +196,7 @@ module _ (w : World) (command : ℕ) where
         state-is = refl;
         rows-are = rows-kept w (Drain command) (w .rows .heads) (w .rows .frames) (w .rows .setups);
         silent = refl;
-        drains = drained-as _ taken-done;
+        drains = drained-as _ (taken-done (d .pending));
         keeps = λ r. interrupt-keeps d (d .enabled) _ (d .masked) (r .enabled-flag) (taken-only (r .pending-only)) (r .masked-only) r;
         uncounted = inl (eqb-true (d .noted) 0 e);
         runs-on = (refl, refl);
@@ -212,7 +212,7 @@ module _ (w : World) (command : ℕ) where
         state-is = refl;
         writes-are = refl;
         rows-are = rows-kept w (Drain command) (w .rows .heads) (w .rows .frames) (w .rows .setups);
-        drains = drained-as _ taken-done;
+        drains = drained-as _ (taken-done (d .pending));
         keeps = λ r.
             interrupt-keeps (countIf false d command .state) (d .enabled) _ (d .masked) (r .enabled-flag) (taken-only (r .pending-only)) (r .masked-only)
             (counted-keeps d command noted r);

@@ -26,14 +26,14 @@ use Rattle.ehci.specs.declared.call.InterruptReadings.{InterruptReadings}
 use Rattle.ehci.specs.declared.reply.Answered.the-variants.{Refused}
 use Rattle.ehci.specs.Decides.{acknowledgeDecided, acknowledgeReply, came, drainDecided, drainReply}
 use Rattle.ehci.specs.Door.{carriedOut}
-use Rattle.ehci.specs.Replies.{drainedAnswer, replied, settledReply}
+use Rattle.ehci.specs.Replies.{replied, settledReply}
 use Rattle.promises.specs.Runs.{World, core}
-use Rattle.promises.specs.Events.{isDone}
 use Rattle.promises.specs.Registers as R
 use Rattle.promises.specs.Registers.{acknowledged, leftOf, ring}
 use Rattle.promises.proofs.effects.EffectDoor.{leaves}
 use Rattle.promises.proofs.effects.RefusalNumbers.{undone}
 use Rattle.interrupt.specs.declared.answers.Settled.{Settled}
+use Rattle.promises.proofs.effects.EffectInterrupts.{taken-done}
 use Rattle.promises.proofs.invariants.Touches.{Level, Touches, level, refused-touches, rung-shape, through}
 
 module _ (w : World) where
@@ -109,16 +109,6 @@ module _ (w : World) where
     taken-left q = by (anyOf q 4) refl (anyOf q 0x23) refl
       where
         by : (a : Bool) → anyOf q 4 ≡ a → (b : Bool) → anyOf q 0x23 ≡ b → clearedOf q .left ≡ leftOf q
-        by true p b r = rw p
-        by false p true r = rw (p, r)
-        by false p false r = rw (p, r)
-
-    -- and it is answered 0
-    pub taken-done : (q : ℕ) → isDone (drainedAnswer (clearedOf q .event)) ≡ true
-    unfolding clearedOf
-    taken-done q = by (anyOf q 4) refl (anyOf q 0x23) refl
-      where
-        by : (a : Bool) → anyOf q 4 ≡ a → (b : Bool) → anyOf q 0x23 ≡ b → isDone (drainedAnswer (clearedOf q .event)) ≡ true
         by true p b r = rw p
         by false p true r = rw (p, r)
         by false p false r = rw (p, r)

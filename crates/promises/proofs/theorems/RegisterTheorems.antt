@@ -27,7 +27,7 @@ use Rattle.ehci.specs.Replies.{answeredNumber, answeredValues, replied, settled
 use Rattle.promises.specs.Runs.{History, Opening, Turn, World, core, historyOf, turnOf, worldOf}
 use Rattle.promises.specs.Events.{Event, Drains, Reads, Unlinks, event, isDone, rings}
 use Rattle.promises.specs.Bells.{Answered as AnsweredBell, Bell, Quiet, Rung, asked, bell, counted, isUp, unlinks}
-use Rattle.promises.specs.Registers.{Access, InterruptsAnswered, Kept, QuietBringUp, RegistersTied, RingsInTurn, StatusAcknowledged, WritesExactly, accessOf, acknowledged, eventIn, flagIn, maskedAfter, maskedIn, pendingAfter, pendingIn, readAfter, readIn, ring, ringing, ringsBy, stepWrites, usbintr, writesFor}
+use Rattle.promises.specs.Registers.{Access, InterruptsAnswered, Kept, QuietBringUp, RegistersTied, RingsInTurn, StatusAcknowledged, WritesExactly, accessOf, acknowledged, eventIn, flagIn, isLeft, maskedAfter, maskedIn, pendingAfter, pendingIn, readAfter, readIn, ring, ringing, ringsBy, stepWrites, usbintr, writesFor}
 use Rattle.promises.proofs.effects.EffectOf.{effect}
 use Rattle.promises.proofs.effects.EffectDoor.{seen}
 use Rattle.promises.proofs.invariants.Reached.{opening-is}
@@ -87,15 +87,12 @@ module _ (s : Settings) (h : History) (w : World) (c : Call) (g : StateInv s h (
   abbrev Rings : Type 0
   Rings = rings t ≡ ringsBy s h t
 
-  abbrev remaining : Bool
-  remaining = ltb (counted s h + 1) (asked s h)
-
   calm-rings : Calm s t h → Rings
-  calm-rings x = x .no-ring ∙ sym (none-rings (event s t) (bell s h) remaining (x .no-unlink) (x .no-count))
+  calm-rings x = x .no-ring ∙ sym (none-rings (event s t) (bell s h) (isLeft s h) (x .no-unlink) (x .no-count))
 
   -- by the event and the bell
-  says : (e : Event) (b : Bell) → event s t ≡ e → bell s h ≡ b → ringsBy s h t ≡ ringing e b remaining
-  says e b x y = ap (λ (z : Event). ringing z (bell s h) remaining) x ∙ ap (λ (z : Bell). ringing e z remaining) y
+  says : (e : Event) (b : Bell) → event s t ≡ e → bell s h ≡ b → ringsBy s h t ≡ ringing e b (isLeft s h)
+  says e b x y = ap (λ (z : Event). ringing z (bell s h) (isLeft s h)) x ∙ ap (λ (z : Bell). ringing e z (isLeft s h)) y
 
   pub rings-now : Summary s w c (core w c) h → Rings
   rings-now (Summary.quiets x) = calm-rings (x .stays)
@@ -103,7 +100,7 @@ module _ (s : Settings) (h : History) (w : World) (c : Call) (g : StateInv s h (
   rings-now (Summary.advances x) =
       x .rang ∙ remain (counted s h) (asked s h) (w .state .unanswered) (g .owing) ∙ sym (says Drains AnsweredBell (x .event-is) (x .was))
   rings-now (Summary.comes x) = calm-rings (x .stays)
-  rings-now (Summary.goes x) = x .rang ∙ goes-rings (bell s h) (x .k) (w .state .doorbell) remaining (g .up) ∙ sym (says (Unlinks (x .k)) (bell s h) (x .event-is) refl)
+  rings-now (Summary.goes x) = x .rang ∙ goes-rings (bell s h) (x .k) (w .state .doorbell) (isLeft s h) (g .up) ∙ sym (says (Unlinks (x .k)) (bell s h) (x .event-is) refl)
   rings-now (Summary.departs x) = calm-rings (x .stays)
   rings-now (Summary.ends x) = calm-rings (x .stays)
 
