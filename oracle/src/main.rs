@@ -35,7 +35,7 @@ const USAGE: &str = "usage: oracle < LOG, or oracle and one of
   fixed                                        the fixed list, as a log
   incident                                     the double count, as a log
   leaves                                       000's leaves against 01's formulas
-  leaves LINES                                 the lines of the port's leaf_checks against 000's leaves
+  leaves RECORDS LINES                         what the port's leaf_checks read and printed against 000's leaves
   probes                                       what 000 does where no call shows it
   sheet < SHEET                                the listing of a job sheet
   tags                                         the repairs that can be left out
@@ -64,7 +64,7 @@ fn main() {
         ["probes"] => backend::kmod::ehci::probes::run(),
         ["tags"] => tags::repairs().iter().for_each(|tag| println!("{tag}")),
         ["leaves"] => backend::kmod::ehci::leaves::run(),
-        ["leaves", lines] => hold(lines),
+        ["leaves", records, lines] => hold(records, lines),
         ["sheet"] => list(),
         _ => {
             eprintln!("{USAGE}");
@@ -117,12 +117,15 @@ fn compare(seed: &str, scripts: &str, steps: &str, keep: &str, port: &[&str]) {
     });
 }
 
-fn hold(lines: &str) {
-    let text = std::fs::read_to_string(lines).unwrap_or_else(|error| {
-        eprintln!("oracle: {lines} cannot be read: {error}");
-        std::process::exit(2);
-    });
-    if !backend::kmod::ehci::leaves::hold(&text) {
+/// 0: equal; 1: a difference, or nothing that is held; 2: a file that cannot be read.
+fn hold(records: &str, lines: &str) {
+    let read = |name: &str| {
+        std::fs::read(name).unwrap_or_else(|error| {
+            eprintln!("oracle: {name} cannot be read: {error}");
+            std::process::exit(2);
+        })
+    };
+    if !backend::kmod::ehci::leaves::hold(&read(records), &String::from_utf8_lossy(&read(lines))) {
         std::process::exit(1);
     }
 }
