@@ -34,6 +34,7 @@ const USAGE: &str = "usage: oracle < LOG, or oracle and one of
   departures                                   each listed departure: its fewest calls, repaired and as 000 does them
   fixed                                        the fixed list, as a log
   incident                                     the double count, as a log
+  incident published                           the same with two more port changes
   leaves                                       000's leaves against 01's formulas
   leaves RECORDS LINES                         what the port's leaf_checks read and printed against 000's leaves
   probes                                       what 000 does where no call shows it
@@ -57,9 +58,10 @@ fn main() {
         [] => replay(),
         ["compare", seed, scripts, steps, keep, ref port @ ..] => compare(seed, scripts, steps, keep, port),
         ["fixed"] => std::io::stdout().write_all(&scripts::fixed_log()).unwrap(),
-        ["incident"] => std::io::stdout().write_all(&scripts::log_of(&scripts::double_count())).unwrap(),
-        ["chunks"] => std::io::stdout().write_all(&scripts::log_of(&scripts::chunk_edges())).unwrap(),
-        ["waits"] => std::io::stdout().write_all(&scripts::log_of(&scripts::long_waits())).unwrap(),
+        ["incident"] => write_log(scripts::double_count()),
+        ["incident", "published"] => write_log(scripts::double_count_published()),
+        ["chunks"] => write_log(scripts::chunk_edges()),
+        ["waits"] => write_log(scripts::long_waits()),
         ["departures"] => scripts::show_departures(),
         ["probes"] => backend::kmod::ehci::probes::run(),
         ["tags"] => tags::repairs().iter().for_each(|tag| println!("{tag}")),
@@ -71,6 +73,10 @@ fn main() {
             std::process::exit(2);
         }
     }
+}
+
+fn write_log(calls: Vec<blocks::record::Record>) {
+    std::io::stdout().write_all(&scripts::log_of(&calls)).unwrap();
 }
 
 /// A log on standard input, its blocks on standard output, the tags on standard error.
