@@ -1,15 +1,20 @@
 #!/usr/bin/env python3
 """The double count: tools/compare_incident.py writes examples/double-count.log, what each side printed of it (the .blocks and
-the .txt) and the picture. It needs what tools/compare needs; with --picture it draws the stored blocks and needs nothing."""
+the .txt) and the picture; and examples/double-count-published.log with its .txt. It needs what tools/compare needs; with
+--picture it draws the stored blocks and needs nothing."""
 import os, subprocess, sys
 
 from compare_run import ORACLE, TOP, build, program, stop, written
 
 EXAMPLE = os.path.join(TOP, "examples", "double-count")
+UNLINKED = {12: "cancel slot 0", 13: "cancel slot 1", 14: "acknowledge, USBSTS 0x24: an advance and a port change", 15: "drain"}
 CALLS = {
     8: "open endpoint: bulk, address 5, number 1", 9: "open endpoint: bulk, address 5, number 2", 10: "submit on slot 0", 11: "submit on slot 1",
-    12: "cancel slot 0", 13: "cancel slot 1", 14: "acknowledge, USBSTS 0x24: an advance and a port change", 15: "drain", 16: "drain",
-    17: "collect slot 0", 18: "collect slot 1",
+    **UNLINKED, 16: "drain", 17: "collect slot 0", 18: "collect slot 1",
+}  # fmt: skip
+PUBLISHED_CALLS = UNLINKED | {
+    16: "acknowledge, USBSTS 0x04: a port change alone", 17: "drain", 18: "acknowledge, USBSTS 0x04: a port change alone", 19: "drain",
+    20: "drain", 21: "collect slot 0", 22: "collect slot 1",
 }  # fmt: skip
 HEAD = """\
 The double count: two unlinks, one ring, and an answer that shares its drain with a port change.
@@ -29,6 +34,20 @@ rings in all. It wants two advances for each unlink, four here; after one answer
 given back (call 17, answer 10) on the first of the two answers that the Rust itself wants. With one advance for an unlink
 the same fault gives back slot 1 (call 18, answer 10), whose ring nobody has answered: the controller may still read its head.
 """
+PUBLISHED_HEAD = """\
+The double count of the Rust as published: two unlinks, one answer, and two more port changes.
+
+double-count-published.log is calls 0 to 15 of double-count.log, and goes on as below. Each block is what was printed:
+  port    this build: replay < double-count-published.log
+  000     the Rust as it is: NOREPAIR=K2,N1,N13 oracle < double-count-published.log
+double-count.txt says how the lines are read. Written by tools/compare_incident.py.
+
+One answer came (call 14); no acknowledgment after it reads the advance bit. The port counts it once (call 15) and slot 1 waits
+(call 22, answer 9). The Rust counts it in four drains (calls 15, 17, 19 and 20), and four advances are what it wants for two
+unlinks. So it gives back slot 1 (call 22, answer 10), whose ring (call 15) nobody has answered: the controller may still read
+its head.
+"""
+NOREPAIR = {"000": "K2,N1,N13", "000/N1": "K2"}
 FILES = {"port": ".port.blocks", "000": ".000.blocks", "000/N1": ".000-n1.blocks"}
 NAMES = ["this build", "the Rust (000) with its double count (K2) and, as in this build, one advance for an unlink (N1)"]
 NOTE = (
@@ -44,29 +63,39 @@ def picture():
     return subprocess.run(words).returncode
 
 
-def write():
-    build()
-    log = written([ORACLE, "incident"])
-    told = lambda words, off: written(words, log, NOREPAIR=off).decode()
-    texts = [("port", told(program("replay", "REPLAY"), "")), ("000", told([ORACLE], "K2,N1,N13")), ("000/N1", told([ORACLE], "K2"))]
-    with open(EXAMPLE + ".log", "wb") as out:
+def printed(name, log):
+    """What a side prints of a log."""
+    return written([ORACLE] if name in NOREPAIR else program("replay", "REPLAY"), log, NOREPAIR=NOREPAIR.get(name, "")).decode()
+
+
+def write(path, script, names, head, calls):
+    """The log of a script, and call by call what each side prints of it; the sides' whole texts."""
+    log = written([ORACLE, *script])
+    texts = {name: printed(name, log) for name in names}
+    with open(path + ".log", "wb") as out:
         out.write(log)
-    for name, text in texts:
-        with open(EXAMPLE + FILES[name], "w") as out:
-            out.write(text)
-    sides = [(name, text.split(".\n")[:-1]) for name, text in texts]
-    with open(EXAMPLE + ".txt", "w") as out:
-        out.write(HEAD)
-        for call, words in CALLS.items():
+    sides = [(name, text.split(".\n")[:-1]) for name, text in texts.items()]
+    with open(path + ".txt", "w") as out:
+        out.write(head)
+        for call, words in calls.items():
             out.write(f"\ncall {call}: {words}\n")
             same = len({side[call] for _, side in sides}) == 1
             for name, side in [("all", sides[0][1])] if same else sides:
                 for line in side[call].splitlines():
                     out.write(f"  {name:<7} {line}\n")
+    return texts
+
+
+def write_both():
+    build()
+    for name, text in write(EXAMPLE, ["incident"], FILES, HEAD, CALLS).items():
+        with open(EXAMPLE + FILES[name], "w") as out:
+            out.write(text)
+    write(EXAMPLE + "-published", ["incident", "published"], ["port", "000"], PUBLISHED_HEAD, PUBLISHED_CALLS)
 
 
 if sys.argv[1:] not in ([], ["--picture"]):
     stop(__doc__)
 if sys.argv[1:] == []:
-    write()
+    write_both()
 sys.exit(picture())

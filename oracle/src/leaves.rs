@@ -1,17 +1,14 @@
-// 000's leaves: against 01's formulas, over all values where that is cheap, and against the lines that the port's program
-// `leaf_checks` printed.
+// 000's leaves: against 01's formulas, over all values where that is cheap, and against what the port's program `leaf_checks`
+// printed of its records.
 use super::controller::{descriptor_words, new_ehci, new_endpoint, setup_of, words_of_head};
 use super::*;
 use crate::regs;
 use usb_if::endpoint::TransferBuffer;
 
-const PIDS: [(&str, QtdPid); 3] = [("out", QtdPid::Out), ("in", QtdPid::In), ("setup", QtdPid::Setup)];
-const KINDS: [(&str, EndpointType); 4] = [
-    ("control", EndpointType::Control),
-    ("isochronous", EndpointType::Isochronous),
-    ("bulk", EndpointType::Bulk),
-    ("interrupt", EndpointType::Interrupt),
-];
+// In the order of their numbers in a record of `leaf_checks`.
+const PIDS: [QtdPid; 3] = [QtdPid::Out, QtdPid::In, QtdPid::Setup];
+const KINDS: [EndpointType; 4] =
+    [EndpointType::Control, EndpointType::Isochronous, EndpointType::Bulk, EndpointType::Interrupt];
 const DIRECTIONS: [Direction; 2] = [Direction::Out, Direction::In];
 
 // ---- 000's functions on plain values
@@ -88,7 +85,7 @@ pub fn run() {
 
 fn tokens() -> u64 {
     let mut count = 0;
-    for (number, (_, pid)) in PIDS.into_iter().enumerate() {
+    for (number, pid) in PIDS.into_iter().enumerate() {
         for bytes in 0..=40000u32 {
             for (interrupt, toggle) in [(false, false), (false, true), (true, false), (true, true)] {
                 let expected = formula::token(number as u32, bytes, interrupt, toggle);
@@ -181,7 +178,7 @@ fn heads() -> u64 {
     let mut count = 0;
     for address in 0..128u8 {
         for number in 0..16u8 {
-            for (kind, (_, transfer_type)) in KINDS.into_iter().enumerate() {
+            for (kind, transfer_type) in KINDS.into_iter().enumerate() {
                 for packet in [1u16, 2, 7, 8, 9, 63, 64, 255, 511, 512, 1023, 1024] {
                     let head = QueueHead::endpoint(address, number, transfer_type, packet);
                     let expected = formula::head(kind, address as u32, number as u32, packet as u32);
@@ -255,16 +252,24 @@ fn ids() -> u64 {
 
 // ---- the port's lines
 
-/// Holds the lines of `leaf_checks` to 000's functions. False: one differs.
-pub fn hold(text: &str) -> bool {
+/// Of a record: a function's number and what it is given, 64 bits each.
+const RECORD: usize = 5 * 8;
+
+/// Holds what `leaf_checks` printed of its records, a line of each, to 000's functions. False: one differs, or none is held.
+pub fn hold(records: &[u8], text: &str) -> bool {
+    let lines: Vec<&str> = text.lines().collect();
+    if records.len() != RECORD * lines.len() {
+        println!("{} bytes of records, {} lines: a record has {RECORD} bytes and one line", records.len(), lines.len());
+        return false;
+    }
     let (mut equal, mut differ, mut alone) = (0, 0, 0);
-    for line in text.lines() {
-        let (asked, result) = line.split_once(" = ").or_else(|| line.split_once("= ")).unwrap_or((line, ""));
-        match said(&asked.split_whitespace().collect::<Vec<_>>()) {
+    for (record, line) in records.chunks(RECORD).zip(lines) {
+        let number = |i: usize| u64::from_le_bytes(record[8 * i..][..8].try_into().unwrap());
+        match said(number(0), [1, 2, 3, 4].map(number)) {
             None => alone += 1,
-            Some(original) if original == result => equal += 1,
-            Some(original) => {
-                println!("differs: {line}\n    000: {original}");
+            Some(words) if line_of(number(0), &words) == line => equal += 1,
+            Some(words) => {
+                println!("differs: {line}\n    000: {}", line_of(number(0), &words));
                 differ += 1;
             }
         }
@@ -273,77 +278,97 @@ pub fn hold(text: &str) -> bool {
     differ == 0 && equal > 0
 }
 
-fn hex(words: &[u32]) -> String {
-    words.iter().map(|word| format!("{word:08x}")).collect::<Vec<_>>().join(" ")
+fn line_of(function: u64, words: &[u32]) -> String {
+    let words: String = words.iter().map(|word| format!("{word:08x} ")).collect();
+    format!("{function:08x} {words}")
 }
 
-/// What 000 says to the left side of a line.
-fn said(words: &[&str]) -> Option<String> {
-    token_line(words).or_else(|| memory_line(words)).or_else(|| register_line(words))
+/// What 000's own function says to a record. It has none for the bits of any word (1), a list of writes (17) and the places
+/// of a head's words (19, K1).
+fn said(function: u64, given: [u64; 4]) -> Option<Vec<u32>> {
+    match function {
+        1 | 17 | 19 => None,
+        7 => chunked(given),
+        10 => descriptor(given),
+        2..=8 => Some(token_words(function, given)),
+        11..=15 => Some(head_words(function, given)),
+        16 => Some(vec![EhciRegisters::port_offset(given[0] as u8) as u32]),
+        18 => Some(tables()),
+        _ => panic!("a record has the function {function}, which is not known here"),
+    }
 }
 
-fn number(word: &str) -> usize {
-    word.parse().unwrap()
-}
-
-fn raw(word: &str) -> u64 {
-    u64::from_str_radix(word, 16).unwrap()
-}
-
-fn named<T: Copy>(items: &[(&str, T)], word: &str) -> T {
-    items.iter().find(|(name, _)| *name == word).unwrap().1
-}
-
-fn token_line(words: &[&str]) -> Option<String> {
-    let token = || QtdToken(raw(words[1]) as u32);
-    let pid = || named(&PIDS, words[1]);
-    Some(match words[0] {
-        "new" => hex(&[QtdToken::new(pid(), number(words[2])).raw()]),
-        "started" => hex(&[started(pid(), number(words[2]), words[3] == "1", words[4] == "1")]),
-        "chunk" => hex(&[started(pid(), number(words[2]), words[3] == "1", false)]),
-        "error_counter" => hex(&[token().with_error_counter(number(words[2]) as u8).raw()]),
-        "flags" => {
-            let on = words[2] == "1";
-            let changed =
-                [token().with_active(on), token().with_interrupt_on_complete(on), token().with_data_toggle(on)];
-            hex(&changed.map(|token| token.raw()))
+fn token_words(function: u64, [a, b, c, d]: [u64; 4]) -> Vec<u32> {
+    let (token, size, flag) = (QtdToken(a as u32), b as usize, c == 1);
+    match function {
+        2 => vec![QtdToken::new(PIDS[a as usize], size).raw(), started(PIDS[a as usize], size, flag, d == 1)],
+        3 => [
+            token.with_error_counter(b as u8),
+            token.with_active(flag),
+            token.with_interrupt_on_complete(flag),
+            token.with_data_toggle(flag),
+        ]
+        .map(QtdToken::raw)
+        .to_vec(),
+        4 => vec![token.total_bytes() as u32, token.active() as u32, token.has_error() as u32],
+        5 => stages(DIRECTIONS[a as usize], size),
+        6 => vec![started(PIDS[a as usize], size, flag, false)],
+        _ => {
+            let status = EhciPortStatus::from_raw(a as u32);
+            [status.connected(), status.enabled(), status.is_high_speed_device_ready()].map(u32::from).to_vec()
         }
-        "read" => format!("{} {} {}", token().total_bytes(), token().active() as u8, token().has_error() as u8),
-        "control" => {
-            let made = plan(DIRECTIONS[(words[1] == "in") as usize], number(words[2]));
-            let data = made.data.map_or("none".to_string(), |token| hex(&[token.raw()]));
-            format!("{} {data} {}", hex(&[made.setup.raw()]), hex(&[made.status.raw()]))
-        }
-        _ => return None,
-    })
+    }
 }
 
-fn memory_line(words: &[&str]) -> Option<String> {
-    let head = || {
-        let [address, endpoint, packet] = [2, 3, 4].map(|i: usize| number(words[i]));
-        words_of_head(&QueueHead::endpoint(address as u8, endpoint as u8, named(&KINDS, words[1]), packet as u16))
-    };
-    let descriptor = |token: u64, address: &str, length: &str| {
-        QueueTransferDescriptor::new(QtdToken(token as u32), raw(address), number(length))
-    };
+/// The tokens of a control request's stages.
+fn stages(direction: Direction, length: usize) -> Vec<u32> {
+    let made = plan(direction, length);
+    [Some(made.setup), made.data, Some(made.status)].into_iter().flatten().map(QtdToken::raw).collect()
+}
+
+/// The need, the chunks' number, that they fit, and the list of 256 places. 000 splits by its own limit (N9), so it is asked
+/// where one chunk will do; it has no isochronous request.
+fn chunked([kind, length, less, _]: [u64; 4]) -> Option<Vec<u32>> {
+    if length > less + 1 || KINDS[kind as usize] == EndpointType::Isochronous {
+        return None;
+    }
+    let chunks = split_bulk_lengths(length as usize, Direction::Out);
+    let need = if kind == 0 { stages(Direction::Out, length as usize).len() } else { chunks.len() };
+    let mut words = vec![need as u32, chunks.len() as u32, 1, chunks.len() as u32];
+    words.extend(chunks.iter().map(|chunk| *chunk as u32));
+    words.resize(4 + 256, 0);
+    Some(words)
+}
+
+/// An empty one has no next. For a buffer that leaves 32 bits the port has none, and 000 does not ask (N11).
+fn descriptor([token, address, length, next]: [u64; 4]) -> Option<Vec<u32>> {
+    if length > 0 && address.checked_add(length).is_none_or(|end| end > 1 << 32) {
+        return None;
+    }
+    let mut made = QueueTransferDescriptor::new(QtdToken(token as u32), address, length as usize);
+    if length > 0 {
+        made.set_next(Some(next as u32));
+    }
+    Some(descriptor_words(&made).to_vec())
+}
+
+fn head_words(function: u64, [a, b, c, d]: [u64; 4]) -> Vec<u32> {
     let changed = |change: fn(&mut EhciEndpoint, u8)| {
         let mut endpoint = an_endpoint();
-        endpoint.qh.modify_cpu(|qh| qh.endpoint_chars = raw(words[1]) as u32);
-        change(&mut endpoint, number(words[2]) as u8);
-        hex(&[endpoint.qh.read_cpu().endpoint_chars])
+        endpoint.qh.modify_cpu(|qh| qh.endpoint_chars = a as u32);
+        change(&mut endpoint, b as u8);
+        vec![endpoint.qh.read_cpu().endpoint_chars]
     };
-    Some(match words[0] {
-        "slots" => hex(&descriptor(0, words[1], words[2]).buffer),
-        "descriptor" => hex(&descriptor_words(&descriptor(raw(words[1]), words[2], words[3]))),
-        "setup" => setup_bytes(raw(words[1]), number(words[2])).map(|byte| format!("{byte:02x}")).join(" "),
-        "head" => hex(&head()[..3]),
-        "head_whole" => hex(&head()),
-        "ring_head" => hex(&words_of_head(&QueueHead::async_head(raw(words[1]) as u32))),
-        "links" => hex(&[ehci_qh_link(raw(words[1]) as u32), next_of(Some(raw(words[1]) as u32)), next_of(None)]),
-        "set_address" => changed(EhciEndpoint::set_device_address),
-        "set_packet_size" => changed(EhciEndpoint::set_max_packet_size),
-        _ => return None,
-    })
+    match function {
+        11 => setup_bytes(a, b as usize).map(u32::from).to_vec(),
+        12 => words_of_head(&QueueHead::endpoint(b as u8, c as u8, KINDS[a as usize], d as u16)).to_vec(),
+        13 => {
+            let links = [ehci_qh_link(a as u32), next_of(Some(a as u32)), next_of(None)];
+            [&words_of_head(&QueueHead::async_head(a as u32))[..], &links].concat()
+        }
+        14 => changed(EhciEndpoint::set_device_address),
+        _ => changed(EhciEndpoint::set_max_packet_size),
+    }
 }
 
 fn next_of(address: Option<u32>) -> u32 {
@@ -377,19 +402,33 @@ const PORT_BITS: [u32; 8] = [
     PORT_OWNER,
 ];
 
-fn register_line(words: &[&str]) -> Option<String> {
-    Some(match words[0] {
-        "port" => {
-            let status = EhciPortStatus::from_raw(raw(words[1]) as u32);
-            let bits = [status.connected(), status.enabled(), status.is_high_speed_device_ready()];
-            bits.map(|bit| (bit as u8).to_string()).join(" ")
+/// The registers' offsets, then the bits of USBCMD, USBSTS, USBINTR and PORTSC.
+fn tables() -> Vec<u32> {
+    [&OFFSETS.map(|offset| offset as u32)[..], &COMMANDS, &STATUSES, &INTERRUPTS, &PORT_BITS].concat()
+}
+
+#[cfg(test)]
+mod tests {
+    use super::*;
+
+    /// Of each function the first line that is held, with the last digit of its last word changed.
+    #[test]
+    fn a_changed_word_is_found() {
+        let stored =
+            |name| std::fs::read(format!("{}/../crates/leaf_checks/{name}", env!("CARGO_MANIFEST_DIR"))).unwrap();
+        let (records, text) = (stored("stdin"), String::from_utf8(stored("stdout")).unwrap());
+        assert!(hold(&records, &text));
+        let mut found = std::collections::BTreeSet::new();
+        for (record, line) in records.chunks(RECORD).zip(text.lines()) {
+            let mut wrong = line.trim_end().to_string();
+            let digit = wrong.pop().unwrap();
+            wrong += if digit == '0' { "1 " } else { "0 " };
+            if hold(record, line) && found.insert(record[0]) {
+                assert!(!hold(record, &wrong));
+            }
         }
-        "port_offset" => hex(&[EhciRegisters::port_offset(number(words[1]) as u8) as u32]),
-        "offsets" => hex(&OFFSETS.map(|offset| offset as u32)),
-        "usbcmd" => hex(&COMMANDS),
-        "usbsts" => hex(&STATUSES),
-        "usbintr" => hex(&INTERRUPTS),
-        "portsc" => hex(&PORT_BITS),
-        _ => return None,
-    })
+        assert_eq!(found.into_iter().collect::<Vec<_>>(), [2, 3, 4, 5, 6, 7, 8, 10, 11, 12, 13, 14, 15, 16, 18]);
+        assert!(!hold(&records[RECORD..], &text));
+        assert!(!hold(&[], ""));
+    }
 }

@@ -34,8 +34,9 @@ const USAGE: &str = "usage: oracle < LOG, or oracle and one of
   departures                                   each listed departure: its fewest calls, repaired and as 000 does them
   fixed                                        the fixed list, as a log
   incident                                     the double count, as a log
+  incident published                           the same with two more port changes
   leaves                                       000's leaves against 01's formulas
-  leaves LINES                                 the lines of the port's leaf_checks against 000's leaves
+  leaves RECORDS LINES                         what the port's leaf_checks read and printed against 000's leaves
   probes                                       what 000 does where no call shows it
   sheet < SHEET                                the listing of a job sheet
   tags                                         the repairs that can be left out
@@ -57,20 +58,25 @@ fn main() {
         [] => replay(),
         ["compare", seed, scripts, steps, keep, ref port @ ..] => compare(seed, scripts, steps, keep, port),
         ["fixed"] => std::io::stdout().write_all(&scripts::fixed_log()).unwrap(),
-        ["incident"] => std::io::stdout().write_all(&scripts::log_of(&scripts::double_count())).unwrap(),
-        ["chunks"] => std::io::stdout().write_all(&scripts::log_of(&scripts::chunk_edges())).unwrap(),
-        ["waits"] => std::io::stdout().write_all(&scripts::log_of(&scripts::long_waits())).unwrap(),
+        ["incident"] => write_log(scripts::double_count()),
+        ["incident", "published"] => write_log(scripts::double_count_published()),
+        ["chunks"] => write_log(scripts::chunk_edges()),
+        ["waits"] => write_log(scripts::long_waits()),
         ["departures"] => scripts::show_departures(),
         ["probes"] => backend::kmod::ehci::probes::run(),
         ["tags"] => tags::repairs().iter().for_each(|tag| println!("{tag}")),
         ["leaves"] => backend::kmod::ehci::leaves::run(),
-        ["leaves", lines] => hold(lines),
+        ["leaves", records, lines] => hold(records, lines),
         ["sheet"] => list(),
         _ => {
             eprintln!("{USAGE}");
             std::process::exit(2);
         }
     }
+}
+
+fn write_log(calls: Vec<blocks::record::Record>) {
+    std::io::stdout().write_all(&scripts::log_of(&calls)).unwrap();
 }
 
 /// A log on standard input, its blocks on standard output, the tags on standard error.
@@ -117,12 +123,15 @@ fn compare(seed: &str, scripts: &str, steps: &str, keep: &str, port: &[&str]) {
     });
 }
 
-fn hold(lines: &str) {
-    let text = std::fs::read_to_string(lines).unwrap_or_else(|error| {
-        eprintln!("oracle: {lines} cannot be read: {error}");
-        std::process::exit(2);
-    });
-    if !backend::kmod::ehci::leaves::hold(&text) {
+/// 0: equal; 1: a difference, or nothing that is held; 2: a file that cannot be read.
+fn hold(records: &str, lines: &str) {
+    let read = |name: &str| {
+        std::fs::read(name).unwrap_or_else(|error| {
+            eprintln!("oracle: {name} cannot be read: {error}");
+            std::process::exit(2);
+        })
+    };
+    if !backend::kmod::ehci::leaves::hold(&read(records), &String::from_utf8_lossy(&read(lines))) {
         std::process::exit(1);
     }
 }

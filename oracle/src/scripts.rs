@@ -99,10 +99,21 @@ fn with(mut calls: Calls, more: &[Record]) -> Calls {
 
 // ---- one script for each departure
 
-/// The incident: two unlinks, one ring, and an advance that shares its drain with a port change.
-pub fn double_count() -> Calls {
+/// Two unlinks, one ring, and an advance that shares its drain with a port change.
+fn shared_advance() -> Calls {
     let both = [bulk(), endpoint(BULK, 5, 2, 512), one(0), one(1), cancel(0, 1, 0), cancel(1, 1, 0)];
-    with(with(started(4, 2, 16384), &both), &[acknowledge(0x24), drain(), drain(), collect(0, 1, 0), collect(1, 1, 0)])
+    with(with(started(4, 2, 16384), &both), &[acknowledge(0x24), drain()])
+}
+
+/// The incident.
+pub fn double_count() -> Calls {
+    with(shared_advance(), &[drain(), collect(0, 1, 0), collect(1, 1, 0)])
+}
+
+/// The incident with two more port changes: 000 counts the one advance as often as two unlinks want it.
+pub fn double_count_published() -> Calls {
+    let change = [acknowledge(0x04), drain()];
+    with(with(with(shared_advance(), &change), &change), &[drain(), collect(0, 1, 0), collect(1, 1, 0)])
 }
 
 /// For each tag the fewest calls that show it.

@@ -11,8 +11,8 @@ FILES = {
     "must-fail/": "a folder of every crate",
 }
 
-NAMES_OF_000 = """fetch_add LINE_STATUS_K_STATE LINE_STATUS_MASK interrupt_on_complete PID_MASK PID_IN op_read32 op_write32
-op_update32 port_read port_update endpoint_number EhciDevice"""
+NAMES_OF_000 = """fetch_add LINE_STATUS_K_STATE LINE_STATUS_MASK interrupt_on_complete error_counter PID_MASK PID_IN
+op_read32 op_write32 op_update32 port_read port_update endpoint_number EhciDevice"""
 
 WORDS = {
     **{name: "a name of 000 that neither the port nor the oracle's code has" for name in NAMES_OF_000.split()},
