@@ -13,7 +13,7 @@ use Rattle.promises.specs.Coverage.{Coverage}
 use Rattle.promises.specs.Boundaries.{BoundaryKept, BoundaryNumbered, CancelledAnswered, EveryRun, Exact, FramesKept, OneCount, Orderly, PassesExactly, StateSays, Uncrowded, UpExactly, Waits}
 use Rattle.promises.specs.Faults.{NeverGiven}
 use Rattle.promises.specs.Collections.{CollectsDue}
-use Rattle.promises.specs.Ids.{IdsInTurn}
+use Rattle.promises.specs.Ids.{CancelsById, CollectsById, IdsInTurn}
 
 pub record Promises (m : Machine) : Type 0 where
   -- ---- 1. Every call judges its own input
@@ -77,6 +77,9 @@ pub record Promises (m : Machine) : Type 0 where
   pub no-detach-fails : NoDetachFails m
   -- ids are 1, 2, .. from a slot's opening on
   pub ids-in-turn : IdsInTurn m
+  -- a cancel and a collect go by the id, so a stale one hits no later request
+  pub cancels-by-id : CancelsById m
+  pub collects-by-id : CollectsById m
   -- ---- what the state's fields say is what the history says
 
   pub state-says : EveryRun StateSays m

@@ -16,6 +16,7 @@ use Rattle.promises.proofs.theorems.BoundaryCancels as Cancels
 use Rattle.promises.proofs.theorems.FaultTheorem as Faults
 use Rattle.promises.proofs.theorems.CollectionLaws as Collections
 use Rattle.promises.proofs.theorems.IdTheorems as Ids
+use Rattle.promises.proofs.theorems.CancelTheorems as ById
 
 pub kept : Promises core
 kept =
@@ -55,6 +56,8 @@ kept =
       cancelled-answered = Cancels.cancelled-answered;
       no-detach-fails = no-detach;
       ids-in-turn = Ids.ids-in-turn;
+      cancels-by-id = ById.cancels-by-id;
+      collects-by-id = ById.collects-by-id;
       state-says = Cancels.state-says;
       fields-tied = Rooms.fields-tied;
       registers-tied = Registers.registers-tied;
