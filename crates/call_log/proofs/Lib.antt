@@ -7,3 +7,4 @@ pub mod ChangeCases
 pub mod Known
 pub mod BlockLaws
 pub mod RowsKnown
+pub mod Same

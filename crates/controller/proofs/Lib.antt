@@ -4,3 +4,4 @@ pub mod LentLaws
 pub mod AddressCases
 pub mod AddressLaws
 pub mod FreeLaws
+pub mod Same

@@ -1,7 +1,9 @@
 -- What `sheet` prints of a sheet's bytes.
-use Prim.Native.Nat.{ℕ}
+use Prim.Native.Nat.{ℕ, _<_}
 use mathlib.Core.Bool.{Bool, true, false}
 use mathlib.Core.List.{List}
+use mathlib.Core.Path.{_≡_}
+use lib.ListN.{take}
 use Rattle.job_sheet.specs.declared.outcome.Outcome.{Outcome}
 use Rattle.job_sheet.specs.declared.sheet.Sheet.{Sheet}
 use Rattle.job_sheet.specs.Listing.{badLine}
@@ -32,3 +34,11 @@ printSheet sheet = printIf (sheet .good) (listingOf (sheet .job) (outcomeOf (run
 -- the listing of the job that these bytes are, or "bad sheet" alone
 unfoldable pub printedOf : List ℕ → List ℕ
 printedOf bytes = printSheet (sheetOf bytes)
+
+-- 8 endpoints of 6 bytes and 64 requests of 20, and the two counts
+abbrev pub longestSheet : ℕ
+longestSheet = 1332
+
+-- with room for more than the longest sheet, what is cut off what is read changes nothing that is printed
+abbrev pub RoomEnough : Type 0
+RoomEnough = (bytes : List ℕ) (room : ℕ) → longestSheet < room → printedOf (take room bytes) ≡ printedOf bytes

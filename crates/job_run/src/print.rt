@@ -1,9 +1,9 @@
 // A sheet's bytes in, what is printed of it out.
 ghost use mathlib.Core.Path.{_≡_};
-ghost use Prim.Native.Nat.{_+_, _*_, _≤_};
-ghost use lib.ListN.{length};
+ghost use Prim.Native.Nat.{_+_, _*_, _≤_, _<_};
+ghost use lib.ListN.{length, take};
 ghost use Rattle.common.specs.Rows.{putAt};
-ghost use Rattle.job_run.specs.Prints.{outcomeOf, printedOf};
+ghost use Rattle.job_run.specs.Prints.{outcomeOf, printedOf, longestSheet};
 use crate::run::Ran;
 use crate::run::run;
 use job_sheet::listing::put_bad;
@@ -48,4 +48,17 @@ pub fn print_sheet(bytes: &[u8], out: &mut [u8]) -> usize
     }
     let ran = run(job);
     put_listing(out, 0, job, outcome_of(ran))
+}
+
+// The first n bytes of what was read: the room is for one byte more than the longest sheet, so that what is too long is seen
+// to be.
+pub fn print_read(room: &[u8], n: usize, out: &mut [u8]) -> usize
+    requires { ⌜ longestSheet < length (now room) ⌝ }
+    requires { ⌜ n ≤ length (now room) ⌝ }
+    requires { ⌜ 8 * 44 + 64 * (65 + 16 * 86) ≤ length (now out) ⌝ }
+    ensures { λ r. ⌜ now (out .exit) ≡ putAt (now (out .entry)) 0 (printedOf (take n (now (room .entry)))) ⌝ }
+    ensures { λ r. ⌜ r ≡ length (printedOf (take n (now (room .entry)))) ⌝ }
+    ensures { λ r. ⌜ r ≤ length (now (out .exit)) ⌝ }
+{
+    print_sheet(&room[..n], out)
 }

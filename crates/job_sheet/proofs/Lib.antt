@@ -7,3 +7,4 @@ pub mod SheetLaws
 pub mod ListingCases
 pub mod OutcomeCases
 pub mod ListingExamples
+pub mod Same

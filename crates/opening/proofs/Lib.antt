@@ -2,3 +2,4 @@ pub mod HeadLaws
 pub mod OpenCases
 pub mod OpenLaws
 pub mod OpenPool
+pub mod Same
