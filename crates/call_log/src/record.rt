@@ -32,7 +32,7 @@ use ehci::call::EndpointFields;
 use ehci::call::InterruptReadings;
 use pipe::endpoints::direction_of;
 use pipe::endpoints::kind_of;
-use request::entry_from::TransferRequest;
+use request::judge::TransferRequest;
 use settings::settings::Settings;
 
 // A register value or a token is below this, a packet size and six setup bytes below those.
