@@ -5,7 +5,7 @@ use Rattle.promises.specs.Refusals.{FewWrites, RefusalsKeep}
 use Rattle.promises.specs.Checks.{InOrder}
 use Rattle.promises.specs.Chains.{ChainsWalked, NoDetachFails}
 use Rattle.promises.specs.Rooms.{ChainsLead, ExclusivePlaces, RoomExact}
-use Rattle.promises.specs.Submissions.{CollectsEnded, PacketsStand, SubmitsPlanned, SubmittedStays}
+use Rattle.promises.specs.Submissions.{CollectsEnded, PacketsStand, SubmitsPlanned, SubmittedStays, TokensStand}
 use Rattle.promises.specs.Registers.{InterruptsAnswered, QuietBringUp, RegistersTied, RingsInTurn, StatusAcknowledged, WritesExactly}
 use Rattle.promises.specs.Ranges.{RangesKept, RunsWhileHeld}
 use Rattle.promises.specs.Opened.{FieldsTied, SubmitVerdict}
@@ -32,6 +32,7 @@ pub record Promises (m : Machine) : Type 0 where
   -- a submit leaves its plan's descriptors with their tokens, the setup packet that was asked for, and its overlay
   pub submits-planned : SubmitsPlanned m
   pub packets-stand : PacketsStand m
+  pub tokens-stand : TokensStand m
   -- a collection leaves current 0 and a terminated overlay
   pub collects-ended : CollectsEnded m
   -- every register write of every call, and no other

@@ -10,6 +10,7 @@ use Rattle.promises.proofs.theorems.RoomPromises as Rooms
 use Rattle.promises.proofs.theorems.RangeTheorems as Ranges
 use Rattle.promises.proofs.theorems.SubmissionLaws as Submissions
 use Rattle.promises.proofs.theorems.PacketLaws as Packets
+use Rattle.promises.proofs.theorems.TokenLaws as Tokens
 use Rattle.promises.proofs.theorems.RegisterTheorems as Registers
 use Rattle.promises.proofs.theorems.BoundaryCore as Boundaries
 use Rattle.promises.proofs.theorems.BoundaryCancels as Cancels
@@ -28,6 +29,7 @@ kept =
       chains-lead = Rooms.chains-lead;
       submits-planned = Submissions.submits-planned;
       packets-stand = Packets.packets-stand;
+      tokens-stand = Tokens.tokens-stand;
       collects-ended = Submissions.collects-ended;
       writes-exactly = Registers.writes-exactly;
       status-acknowledged = Registers.status-acknowledged;
