@@ -15,7 +15,7 @@ use Rattle.job_sheet.specs.Listing.{badLine}
 use Rattle.job_sheet.specs.Outcomes.{listingOf}
 use Rattle.job_sheet.specs.Reading.{badSheet, jobIn, packed, sheetFits, sheetOf, sizesFit}
 use Rattle.job_sheet.proofs.ReadCases.{sizes-fit}
-use Rattle.job_sheet.proofs.Rows.{both-true}
+use Rattle.common.proofs.TestLaws.{both-tells}
 use Rattle.job_run.specs.declared.run.Ran.{Ran}
 use Rattle.job_run.specs.Prints.{RoomEnough, longestSheet, outcomeOf, printSheet, printedOf}
 use Rattle.job_run.specs.Runs.{runOf}
@@ -51,7 +51,7 @@ front-taken n l h = sym (length-take-le n l h)
 fits-short : (bytes : List ℕ) → sheetFits bytes ≡ true → length bytes ≤ longestSheet
 unfolding sheetFits
 fits-short bytes f =
-    let s = sizes-fit bytes (both-true (sizesFit bytes) _ f .0) in
+    let s = sizes-fit bytes (both-tells (sizesFit bytes) _ f .0) in
     omega (arith, s .whole, s .few, s .some)
 
 -- what is longer is no sheet
