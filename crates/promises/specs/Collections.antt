@@ -1,9 +1,8 @@
 -- What a collection answers: 10, 11 or 0, from the history, the request, and the tokens that its places have in the pool at that call.
 use Prim.Native.Nat.{ℕ, _+_, _-_, min}
-use mathlib.Core.Bool.{Bool, true, false, cond, _||_}
+use mathlib.Core.Bool.{Bool, true, false, cond}
 use mathlib.Core.List.{List, [], _∷_, map}
 use mathlib.Core.Path.{_≡_}
-use lib.Dec.{eqb}
 use lib.ListN.{getD}
 use Rattle.token.specs.EhciQtd.{totalBytes}
 use Rattle.common.specs.declared.kinds.EndpointType.{EndpointType}
@@ -15,6 +14,7 @@ use Rattle.controller.specs.declared.lent.Readings.{Readings}
 use Rattle.ehci.specs.declared.call.Call.the-variants.{Collect}
 use Rattle.ehci.specs.Replies.{answeredValues}
 use Rattle.promises.specs.Runs.{Always, History, Machine, Rows, World}
+use Rattle.promises.specs.Events.{isCollected}
 use Rattle.promises.specs.Uses.{Use, isOf, uses}
 use Rattle.promises.specs.Bells.{cancelled}
 use Rattle.promises.specs.Rooms.{numberAt}
@@ -71,10 +71,6 @@ dueTo s h rows u =
 
 -- ---- of any machine
 
--- 0, 10 and 11 collect
-abbrev pub isCollection : ℕ → Bool
-isCollection n = eqb n 0 || eqb n 10 || eqb n 11
-
 abbrev pub those : ℕ → ℕ → List Use → List Use
 those k id [] = []
 those k id (u ∷ us) = cond (isOf k id u) (u ∷ those k id us) (those k id us)
@@ -89,5 +85,5 @@ pub record Answers (m : Machine) (s : Settings) (h : History) (w : World) (k id 
 abbrev pub CollectsDue : Machine → Type 0
 CollectsDue m =
     Always
-    (λ s h w. (k id : ℕ) (readings : Readings) → isCollection (numberAt m w (Collect k id readings)) ≡ true → Answers m s h w k id readings)
+    (λ s h w. (k id : ℕ) (readings : Readings) → isCollected (m w (Collect k id readings) .reply .answer) ≡ true → Answers m s h w k id readings)
     m

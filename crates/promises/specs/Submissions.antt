@@ -23,13 +23,12 @@ use Rattle.ehci.specs.declared.call.Call.{Call}
 use Rattle.ehci.specs.declared.call.Call.the-variants.{Collect, Submit, Writeback}
 use Rattle.ehci.specs.Replies.{answeredNumber}
 use Rattle.promises.specs.Runs.{Always, History, Machine, Rows, Turn, World, rowsOf}
-use Rattle.promises.specs.Events.{Submits, event}
+use Rattle.promises.specs.Events.{Submits, event, isCollected}
 use Rattle.promises.specs.Uses.{Use, uses}
 use Rattle.promises.specs.Bells.{submits}
 use Rattle.promises.specs.Walks.{chainWalk}
 use Rattle.promises.specs.Rooms.{Every, numberAt}
 use Rattle.promises.specs.Coverage.{bytesOf, recordsMet}
-use Rattle.promises.specs.Collections.{isCollection}
 
 -- ---- a descriptor's words but next, its token by EHCI 3.5.3: the seven fields are all of its 32 bits
 
@@ -200,6 +199,6 @@ TokensStand m = Always (λ s h w. Every (λ u. (j : ℕ) → j < length (u .plac
 abbrev pub CollectsEnded : Machine → Type 0
 CollectsEnded m =
     Always
-    (λ s h w. (k id : ℕ) (readings : Readings) → isCollection (numberAt m w (Collect k id readings)) ≡ true
+    (λ s h w. (k id : ℕ) (readings : Readings) → isCollected (m w (Collect k id readings) .reply .answer) ≡ true
     → (j : ℕ) → j < 14 → wordAt (rowsOf (m w (Collect k id readings))) k (3 + j) ≡ getD (0 ∷ 1 ∷ 1 ∷ replicate 11 0) j 0)
     m

@@ -11,8 +11,7 @@ use Rattle.register.specs.Writes.{andThen, noWrites}
 use Rattle.common.specs.declared.kinds.EndpointType.the-variants.{Control}
 use Rattle.descriptor.specs.Descriptors.{terminated}
 use Rattle.descriptor.specs.declared.qtd.QueueTransferDescriptor.{QueueTransferDescriptor}
-use Rattle.pool.specs.Chains.{blank, fillOf, filledFrom, firstError, lengthOf, metFrom, noChain, seenFrom, standingOf as stageSeen, viewOf, withToken}
-use Rattle.pool.specs.EhciChain.{follow}
+use Rattle.pool.specs.Chains.{blank, fillOf, filledFrom, firstError, lengthOf, noChain, seenFrom, standingOf as stageSeen, viewOf, withToken}
 use Rattle.pool.specs.Places.{clearOf, listOf, packed, placesFrom}
 use Rattle.pool.specs.Transfers.{requestedAt}
 use Rattle.pool.specs.declared.chain.Ask.{Ask}
@@ -47,9 +46,10 @@ use Rattle.ehci.specs.Decides.{acknowledgeDecided, asksOf, collectDecided, deci
 use Rattle.ehci.specs.Door.{Applied, applied, applyOf, carriedOut, seenBy}
 use Rattle.promises.specs.Runs.{History, Machine, Turn, World, core, historyOf, turnOf, worldOf}
 use Rattle.promises.specs.Walks.{chainWalk, ringWalk, walkFrom}
+use Rattle.promises.specs.Events.{isCollected}
 use Rattle.promises.specs.Uses.{Use, uses}
 use Rattle.promises.specs.Bells.{cancelled}
-use Rattle.promises.specs.Collections.{Answers, CollectsDue, Due, dueTo, isCollection, those}
+use Rattle.promises.specs.Collections.{Answers, CollectsDue, Due, dueTo, those}
 use Rattle.promises.proofs.invariants.Reached.{freshWorld}
 use Rattle.refutations.proofs.WrongRuns.{acknowledges, asked, chunk, headOf, headsOf, linked, one, openedTwo, opening, reading, replies, request, small, stateOf, submits, withRows}
 use Rattle.refutations.proofs.WrongUp.{Rises, up-world, upCalls}
@@ -227,7 +227,7 @@ module _ (m : Machine) (plain : (v : World) (c : Call) → eqb (rank c) 2 ≡ fa
   first = record { slot = 0; id = 1; request = request 0x500000; places = 0 ∷ [] }
 
   uses-are : uses small told ≡ first ∷ []
-  unfolding uses historyOf ringWalk walkFrom chainWalk metFrom follow
+  unfolding uses historyOf ringWalk walkFrom chainWalk
   uses-are = refl
 
   due-is : dueTo small told (apartNow (one 0 0x20 0 0 0 (leaves 0)) .rows) first ≡ record { number = 0; values = 500 ∷ [] }
@@ -237,12 +237,12 @@ module _ (m : Machine) (plain : (v : World) (c : Call) → eqb (rank c) 2 ≡ fa
   abbrev end : World
   end = worldOf m w c5
 
-  pub due-here : CollectsDue m → isCollection (answeredNumber (m (apartNow (one 0 0x20 0 0 0 (leaves 0))) looks .reply .answer)) ≡ true
+  pub due-here : CollectsDue m → isCollected (m (apartNow (one 0 0x20 0 0 0 (leaves 0))) looks .reply .answer) ≡ true
       → (answeredNumber (m (apartNow (one 0 0x20 0 0 0 (leaves 0))) looks .reply .answer) ≡ 0) × (answeredValues (m (apartNow (one 0 0x20 0 0 0 (leaves 0))) looks .reply .answer) ≡ 500 ∷ [])
   due-here due e = (at answeredNumber (λ d. d .number) (x .number-is), at answeredValues (λ d. d .values) (x .values-are))
     where
       x : Answers m small (historyOf m w c5) end 0 1 (reading 0x80031)
-      x = due small w opening c5 0 1 (reading 0x80031) (ap (λ (v : World). isCollection (answeredNumber (m v looks .reply .answer))) w5 ∙ e)
+      x = due small w opening c5 0 1 (reading 0x80031) (ap (λ (v : World). isCollected (m v looks .reply .answer)) w5 ∙ e)
 
       use-is : x .uncollected ≡ first
       use-is = ap (λ (l : List Use). getD l 0 first) (sym (x .only) ∙ ap (λ (h : History). those 0 1 (uses small h)) is-so ∙ ap (those 0 1) uses-are)
@@ -275,7 +275,7 @@ tens v c = cond (eqb (rank c) 2) (answering (core v c)) (core v c)
 pub tens-due : CollectsDue tens → ⊥
 tens-due due =
     let ten : tens (apartNow (one 0 0x20 0 0 0 (leaves 0))) looks .reply .answer ≡ Cancelled = ap tenFor length-500 in
-    let zero = due-here tens (λ v c e. rw e) (ap answering unlinks) due (ap (λ (a : Answered). isCollection (answeredNumber a)) ten) .0 in
+    let zero = due-here tens (λ v c e. rw e) (ap answering unlinks) due (ap (λ (a : Answered). isCollected a) ten) .0 in
     omega (arith, sym (ap answeredNumber ten) ∙ zero)
 
 -- ---- a length drawn as if every request were a control request
@@ -302,7 +302,7 @@ misread-none = rw (states-good .3)
 
 pub asks-control-due : CollectsDue asksControl → ⊥
 asks-control-due due =
-    let some = due-here asksControl (λ v c e. rw e) misread-unlinks due (ap (λ (a : Answered). isCollection (answeredNumber a)) misread-none) .1 in
+    let some = due-here asksControl (λ v c e. rw e) misread-unlinks due (ap (λ (a : Answered). isCollected a) misread-none) .1 in
     let none : _≡_ {A = ℕ} 0 500 = ap (λ (l : List ℕ). getD l 0 0) (sym (ap answeredValues misread-none) ∙ some) in
     omega (arith, none)
 

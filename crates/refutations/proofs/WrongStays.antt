@@ -9,8 +9,7 @@ use lib.Dec.{eqb}
 use lib.ListN.{getD, length}
 use Rattle.register.specs.Writes.{noWrites}
 use Rattle.descriptor.specs.declared.qtd.QueueTransferDescriptor.{QueueTransferDescriptor}
-use Rattle.pool.specs.Chains.{blank, metFrom}
-use Rattle.pool.specs.EhciChain.{follow}
+use Rattle.pool.specs.Chains.{blank}
 use Rattle.request.specs.Submit.{writesWith}
 use Rattle.ehci.specs.declared.call.Call.{Call}
 use Rattle.ehci.specs.declared.call.Call.the-variants.{Writeback}
@@ -25,7 +24,6 @@ use Rattle.promises.specs.Events.{event, isCollected}
 use Rattle.promises.specs.Uses.{Use, uses}
 use Rattle.promises.specs.Bells.{isSubmitsOf}
 use Rattle.promises.specs.Rooms.{Every}
-use Rattle.promises.specs.Collections.{isCollection}
 use Rattle.promises.specs.Submissions.{CollectsEnded, SubmittedStays, TokenStands, TokensStand, Untouched, wordAt}
 use Rattle.promises.proofs.theorems.TokenLaws.{backAt}
 use Rattle.promises.proofs.invariants.Reached.{freshWorld}
@@ -97,7 +95,7 @@ abbrev first : Use
 first = record { slot = 0; id = 1; request = request 0x500000; places = 0 ∷ [] }
 
 uses-are : uses small told ≡ first ∷ []
-unfolding uses historyOf ringWalk walkFrom chainWalk metFrom follow
+unfolding uses historyOf ringWalk walkFrom chainWalk
 uses-are = refl
 
 not-standing : TokenStands small told (linkedOne (one 0 0 0 0 0 linked)) first 0 → ⊥
@@ -152,9 +150,9 @@ leads-word = rw (ap isCollected length-500)
 
 leads-ended : CollectsEnded leads → ⊥
 leads-ended p =
-    let collects : isCollection (answeredNumber (leads (worldOf leads w c5) looks .reply .answer)) ≡ true
-    = ap (λ (v : World). isCollection (answeredNumber (leads v looks .reply .answer))) leads-end
-    ∙ ap (λ (a : Answered). isCollection (answeredNumber a)) (leads-answer ∙ length-500) in
+    let collects : isCollected (leads (worldOf leads w c5) looks .reply .answer) ≡ true
+    = ap (λ (v : World). isCollected (leads v looks .reply .answer)) leads-end
+    ∙ ap (λ (a : Answered). isCollected a) (leads-answer ∙ length-500) in
     let one-there : wordAt (rowsOf (leads (worldOf leads w c5) looks)) 0 4 ≡ 1 = p small w opening c5 0 1 (reading 0x80031) collects 1 (omega arith) in
     let old : wordAt (rowsOf (leads (worldOf leads w c5) looks)) 0 4 ≡ 0x100000 = ap (λ (v : World). wordAt (rowsOf (leads v looks)) 0 4) leads-end ∙ leads-word in
     omega (arith, sym old ∙ one-there)

@@ -19,8 +19,7 @@ use Rattle.descriptor.specs.Setups.{setupPacket}
 use Rattle.descriptor.specs.Slots.{pageSlots}
 use Rattle.descriptor.specs.UsbSetup.{wLength, wValue}
 use Rattle.descriptor.specs.declared.qtd.QueueTransferDescriptor.{QueueTransferDescriptor}
-use Rattle.pool.specs.Chains.{fillOf, filledFrom, metFrom, withToken}
-use Rattle.pool.specs.EhciChain.{follow}
+use Rattle.pool.specs.Chains.{fillOf, filledFrom, withToken}
 use Rattle.pool.specs.Places.{listOf, markOf, packed, placesFrom}
 use Rattle.pool.specs.Transfers.{bareAt, recordAt, stageAt}
 use Rattle.settings.specs.Settings.{apartAreas, areaGood, eachGood, noOverlap, numbersGood, settingsGood}
@@ -38,7 +37,7 @@ use Rattle.ehci.specs.declared.reply.Given.the-variants.{Id}
 use Rattle.ehci.specs.Replies.{answeredNumber}
 use Rattle.ehci.specs.Door.{Applied, applied}
 use Rattle.promises.specs.Runs.{Machine, Opening, Rows, World, core, historyOf, rowsOf, worldOf}
-use Rattle.promises.specs.Walks.{chainWalk}
+use Rattle.promises.specs.Walks.{chainWalk, walkFrom}
 use Rattle.promises.specs.Uses.{uses}
 use Rattle.promises.specs.Coverage.{recordsMet}
 use Rattle.promises.specs.Submissions.{Fields, PacketsStand, SubmitsPlanned, SubmittedStays, fieldsOf, packetAt, planFor, planned}
@@ -145,7 +144,7 @@ left m = rowsOf (m (freshWorld trio) (Submit 0 asks reads))
 
 -- setup 00080E80, data 80120D80, status 80008C80, as 01's examples have them
 plain-planned : map fieldsOf (recordsMet trio (left plain) 0) ≡ planned 2 0x400000 8 0 0 ∷ planned 1 0x10000FFF 18 1 0 ∷ planned 0 0 0 1 1 ∷ []
-unfolding chainWalk metFrom follow takenOf placesFrom markOf packed listOf fillOf filledFrom recordAt bareAt stageAt controlPlan newQtd withNext startedOverlay freshState openedHeads ringHead terminated needOf tokenOf pageSlots
+unfolding chainWalk walkFrom takenOf placesFrom markOf packed listOf fillOf filledFrom recordAt bareAt stageAt controlPlan newQtd withNext startedOverlay freshState openedHeads ringHead terminated needOf tokenOf pageSlots
 plain-planned = refl
 
 as-planned : planFor trio 0 asks ≡ planned 2 0x400000 8 0 0 ∷ planned 1 0x10000FFF 18 1 0 ∷ planned 0 0 0 1 1 ∷ []
@@ -167,7 +166,7 @@ abbrev second : List Fields → Fields
 second fs = getD fs 1 (planned 0 0 0 0 0)
 
 untoggled-planned : SubmitsPlanned untoggled → ⊥
-unfolding historyOf worldOf chainWalk metFrom follow takenOf placesFrom markOf packed listOf fillOf filledFrom recordAt bareAt stageAt controlPlan newQtd withNext startedOverlay freshState openedHeads ringHead terminated needOf tokenOf pageSlots
+unfolding historyOf worldOf chainWalk walkFrom takenOf placesFrom markOf packed listOf fillOf filledFrom recordAt bareAt stageAt controlPlan newQtd withNext startedOverlay freshState openedHeads ringHead terminated needOf tokenOf pageSlots
 untoggled-planned p =
     let none : _≡_ {A = ℕ} 0 1 = ap (λ (fs : List Fields). second fs .toggle) (p trio (freshWorld trio) opened [] 0 asks reads refl .planned-so) in
     omega (arith, none)
@@ -200,7 +199,7 @@ submits-quietly : quiet openedTwo (submits 0 0x500000) ≡ quietly (replies (Don
 submits-quietly = ap quietly submitted
 
 no-interrupt : map (λ (f : Fields). f .interrupt) (map fieldsOf (recordsMet small (rowsOf (quietly (replies (Done (Id 1)) (writesWith (reading 0x80031)) (linkedOne (one 0 0 0 0 0 linked))))) 0)) ≡ 0 ∷ []
-unfolding chainWalk metFrom follow stateOf
+unfolding chainWalk walkFrom stateOf
 no-interrupt = refl
 
 quiet-planned : SubmitsPlanned quiet → ⊥

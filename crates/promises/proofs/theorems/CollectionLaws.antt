@@ -22,25 +22,21 @@ use Rattle.pool.specs.declared.chain.View.{View}
 use Rattle.pool.proofs.PlaceLaws.{list-packed}
 use Rattle.settings.specs.declared.settings.Settings.{Settings}
 use Rattle.state.specs.declared.state.Ehci.{Ehci}
-use Rattle.common.specs.declared.answer.Refusal.the-variants.{InvalidParameter, SlotLimitReached, InvalidEndpoint, QueueFull, NotSupported, NoMemory, Timeout, NotReady}
 use Rattle.controller.specs.Readers.{hasEndpoint}
 use Rattle.controller.specs.declared.lent.Readings.{Readings}
 use Rattle.controller.proofs.ReaderLaws.{open-below}
 use Rattle.collection.specs.Answers.{outcomeOf}
 use Rattle.collection.specs.Asks.{askOf, askable, requestAsk}
 use Rattle.ehci.specs.declared.call.Call.the-variants.{Collect}
-use Rattle.ehci.specs.declared.reply.Answered.{Answered}
-use Rattle.ehci.specs.declared.reply.Answered.the-variants.{Done, Pending, Cancelled, Failed, Refused}
 use Rattle.ehci.specs.Decides.{asksOf}
 use Rattle.ehci.specs.Door.{seenBy}
 use Rattle.ehci.specs.Replies.{answeredNumber, answeredValues, collectedAnswer}
 use Rattle.promises.specs.Runs.{History, World, core, historyOf, worldOf}
-use Rattle.promises.specs.Events.{isCollected}
 use Rattle.promises.specs.Uses.{Use, uses}
 use Rattle.promises.specs.Bells.{cancelled}
 use Rattle.promises.specs.Rooms.{Every}
 use Rattle.promises.specs.Coverage.{dataOf}
-use Rattle.promises.specs.Collections.{Answers, CollectsDue, dueOf, dueTo, erring, isCollection, moved, pieceOf, recordsAt, those, tokensOf}
+use Rattle.promises.specs.Collections.{Answers, CollectsDue, dueOf, dueTo, erring, moved, pieceOf, recordsAt, those, tokensOf}
 use Rattle.promises.proofs.effects.EffectDoor.{seen}
 use Rattle.promises.proofs.invariants.Reached.{reached}
 use Rattle.promises.proofs.invariants.Sound.{Sound}
@@ -137,20 +133,6 @@ due-outcome true ss failed n f l = (refl, refl)
 due-outcome false ss [] n f l = rw (eq-eqb (firstError ss) 0 f) (refl, ap (λ (m : ℕ). m ∷ []) l)
 due-outcome false ss (token ∷ more) n f l =
     rw (ne-eqb (firstError ss) 0 (λ z. f .1 (sym (f .0) ∙ z))) (refl, ap (λ (m : ℕ). m ∷ []) (f .0))
-
-pub collected-by : (a : Answered) → isCollection (answeredNumber a) ≡ true → isCollected a ≡ true
-collected-by (Done given) e = refl
-collected-by Pending e = absurd (false≢true e)
-collected-by Cancelled e = refl
-collected-by (Failed token) e = refl
-collected-by (Refused InvalidParameter) e = absurd (false≢true e)
-collected-by (Refused SlotLimitReached) e = absurd (false≢true e)
-collected-by (Refused InvalidEndpoint) e = absurd (false≢true e)
-collected-by (Refused QueueFull) e = absurd (false≢true e)
-collected-by (Refused NotSupported) e = absurd (false≢true e)
-collected-by (Refused NoMemory) e = absurd (false≢true e)
-collected-by (Refused Timeout) e = absurd (false≢true e)
-collected-by (Refused NotReady) e = absurd (false≢true e)
 
 -- ---- the request
 
@@ -279,7 +261,7 @@ collects-due s w o cs k id rd e =
     let now = worldOf core w cs in
     let h = historyOf core w cs in
     let at = held s w o cs in
-    let x = collect-found now k id rd (collected-by (core now (Collect k id rd) .reply .answer) e) in
+    let x = collect-found now k id rd e in
     let mark : x .r .cancelled ≡ cancelled s k h
     = same-flag (x .r .cancelled) (cancelled s k h)
     (λ m. reached Marked marked-opens marked-keeps s w o cs .1 k (ap markIn (x .unlinking) ∙ m))

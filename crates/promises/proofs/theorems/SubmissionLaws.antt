@@ -2,11 +2,11 @@
 use Prim.Native.Nat.{ℕ, suc, _+_, _-_, _*_, _%_, _^_, _≤_, _<_}
 use mathlib.Core.Path.{_≡_, refl, sym, ap, subst, _∙_}
 use mathlib.Core.Logic.{_≢_}
-use mathlib.Core.Bool.{Bool, true, false, not, false≢true}
+use mathlib.Core.Bool.{Bool, true, false, not, true≢false, false≢true}
 use mathlib.Core.List.{List, [], _∷_, map}
 use native.Mathlib.Decide.{ℕ-discrete as decEq}
 use native.Mathlib.Omega.{arith}
-use borrow.Author.Tests.{not-false}
+use borrow.Author.Tests.{eq-eqb, not-false}
 use lib.ListN.{getD, length, length-set, set}
 use lib.Seq.{getD-set-other, getD-set-same}
 use Rattle.token.specs.Plans.{controlPlan}
@@ -27,7 +27,7 @@ use Rattle.pool.proofs.ChainLaws.{fill-token}
 use Rattle.settings.specs.declared.settings.Settings.{Settings}
 use Rattle.common.specs.Answers.{first, passed}
 use Rattle.common.specs.declared.answer.Refusal.{Refusal}
-use Rattle.common.specs.declared.answer.Refusal.the-variants.{InvalidParameter, SlotLimitReached, InvalidEndpoint, QueueFull, NotSupported, NoMemory, Timeout, NotReady}
+use Rattle.common.specs.declared.answer.Refusal.the-variants.{InvalidParameter}
 use Rattle.common.proofs.CheckLaws.{let-pass, settled-by}
 use Rattle.common.specs.Kinds.{isControl, isInterrupt}
 use Rattle.pipe.specs.declared.endpoints.Pipe.{Pipe}
@@ -67,6 +67,7 @@ use Rattle.promises.specs.Submissions.{Asks, CollectsEnded, Stays, Submi
 use Rattle.promises.proofs.effects.Effects.{Accepts, Effect, still, hears, joins, passes, counts, opens, closes, rewrites, accepts, writes-back, marks, unlinks, collects}
 use Rattle.promises.proofs.effects.EffectOf.{effect}
 use Rattle.promises.proofs.effects.EffectDoor.{seen}
+use Rattle.promises.proofs.effects.RefusalNumbers.{uncollected, undone}
 use Rattle.promises.proofs.invariants.Sound.{Sound}
 use Rattle.promises.proofs.invariants.UseInv.{Held, every-map, tenantAt, vacant-avoids}
 use Rattle.promises.proofs.invariants.UseAccepts.{acceptedWorld, need-least, submit-starts, vacant, walked}
@@ -76,7 +77,6 @@ use Rattle.promises.proofs.theorems.CoverHolds.{accepted-by, control-sh
 use Rattle.promises.proofs.theorems.PlanLaws.{all-planned}
 use Rattle.promises.proofs.theorems.RoomPromises.{held}
 use Rattle.promises.proofs.theorems.BoundaryCalls.{by-door, collect-found}
-use Rattle.promises.proofs.theorems.CollectionLaws.{collected-by}
 
 -- ---- the overlay
 
@@ -279,14 +279,7 @@ module _ (w : World) (h : History) (sound : Sound (w .state .settings) w) (kept 
 -- ---- an accepted writeback
 
 refusal-some : (r : Refusal) → answeredNumber (Refused r) ≡ 0 → ⊥
-refusal-some InvalidParameter e = omega (arith, e)
-refusal-some SlotLimitReached e = omega (arith, e)
-refusal-some InvalidEndpoint e = omega (arith, e)
-refusal-some QueueFull e = omega (arith, e)
-refusal-some NotSupported e = omega (arith, e)
-refusal-some NoMemory e = omega (arith, e)
-refusal-some Timeout e = omega (arith, e)
-refusal-some NotReady e = omega (arith, e)
+refusal-some r e = true≢false (sym (eq-eqb (answeredNumber (Refused r)) 0 e) ∙ undone r)
 
 module _ (w : World) (sound : Sound (w .state .settings) w) (p token : ℕ) where
   abbrev TokenPut : Applied → Type 0
@@ -309,16 +302,6 @@ module _ (w : World) (sound : Sound (w .state .settings) w) (p token : ℕ) wher
 
 -- ---- a collection ends the overlay
 
-refused-not : (r : Refusal) → isCollected (Refused r) ≡ true → ⊥
-refused-not InvalidParameter e = false≢true e
-refused-not SlotLimitReached e = false≢true e
-refused-not InvalidEndpoint e = false≢true e
-refused-not QueueFull e = false≢true e
-refused-not NotSupported e = false≢true e
-refused-not NoMemory e = false≢true e
-refused-not Timeout e = false≢true e
-refused-not NotReady e = false≢true e
-
 module _ (w : World) (k id : ℕ) (rd : Readings) where
   abbrev EndsIt : Applied → Type 0
   EndsIt a = isCollected (a .reply .answer) ≡ true → a .heads ≡ endedOverlay (w .rows .heads) k
@@ -336,7 +319,7 @@ module _ (w : World) (k id : ℕ) (rd : Readings) where
   ends-overlay =
       by-door w (Collect k id rd) EndsIt (λ e. absurd (false≢true e))
       (collect-split (w .state) (length (w .rows .pool)) (w .rows .heads) (w .rows .frames) (length (w .rows .setups)) rd k id (seen w (Collect k id rd)) Gathers
-      (λ x e. absurd (refused-not x e)) (λ e. absurd (false≢true e)) (λ q r ok e below same done. unlink-none q r) (λ q r u ok e same passed done. refl))
+      (λ x e. absurd (false≢true (sym (uncollected x) ∙ e))) (λ e. absurd (false≢true e)) (λ q r ok e below same done. unlink-none q r) (λ q r u ok e same passed done. refl))
 
 -- ---- of a run
 
@@ -358,9 +341,8 @@ pub collects-ended : CollectsEnded core
 collects-ended s w o cs k id rd e j l =
     let now = worldOf core w cs in
     let sound = held s w o cs .0 in
-    let done = collected-by (core now (Collect k id rd) .reply .answer) e in
-    let x = collect-found now k id rd done in
+    let x = collect-found now k id rd e in
     let low : k < now .state .settings .endpoints = open-within (now .state) k (sound .ranges) (ap hasEndpoint (x .unlinking)) in
     let same : now .state .settings .endpoints ≡ s .endpoints = ap (λ (z : Settings). z .endpoints) (sound .settings-are) in
-    ap (λ (hs : List ℕ). getD hs (17 * (k + 1) + (3 + j)) 0) (ends-overlay now k id rd done)
+    ap (λ (hs : List ℕ). getD hs (17 * (k + 1) + (3 + j)) 0) (ends-overlay now k id rd e)
     ∙ ended-words (now .rows .heads) k (omega (arith, low, same, sound .heads-fit)) j l
