@@ -1,0 +1,30 @@
+-- What the calls that read or replace one record of the lent row answer, and the row after them.
+use Prim.Native.Nat.{ℕ}
+use mathlib.Core.Bool.{Bool, true, false, cond}
+use mathlib.Core.List.{List}
+use lib.Dec.{ltb}
+use lib.ListN.{length, getD, set}
+use Rattle.common.specs.declared.answer.Answer.{Answer}
+use Rattle.common.specs.declared.answer.Answer.the-variants.{Done, Refused}
+use Rattle.common.specs.declared.answer.Refusal.the-variants.{InvalidParameter}
+use Rattle.descriptor.specs.declared.qtd.QueueTransferDescriptor.{QueueTransferDescriptor}
+use Rattle.pool.specs.declared.record.Found.{Found}
+use Rattle.pool.specs.Chains.{blank}
+
+-- a place at or beyond the row's length is an invalid parameter
+abbrev pub answerIf : Bool → Answer
+answerIf inside = cond inside Done (Refused InvalidParameter)
+
+abbrev pub foundIf : Bool → QueueTransferDescriptor → Found
+foundIf inside r = record { answer = answerIf inside; descriptor = cond inside r blank }
+
+-- the record at a place
+unfoldable pub readOf : List QueueTransferDescriptor → ℕ → Found
+readOf rows place = foundIf (ltb place (length rows)) (getD rows place blank)
+
+unfoldable pub replaceAnswer : List QueueTransferDescriptor → ℕ → Answer
+replaceAnswer rows place = answerIf (ltb place (length rows))
+
+-- the row after the call; where it is refused, the row before it
+unfoldable pub replacedOf : List QueueTransferDescriptor → ℕ → QueueTransferDescriptor → List QueueTransferDescriptor
+replacedOf rows place r = cond (ltb place (length rows)) (set rows place r) rows
