@@ -22,9 +22,16 @@ foundIf inside r = record { answer = answerIf inside; descriptor = cond inside r
 unfoldable pub readOf : List QueueTransferDescriptor → ℕ → Found
 readOf rows place = foundIf (ltb place (length rows)) (getD rows place blank)
 
-unfoldable pub replaceAnswer : List QueueTransferDescriptor → ℕ → Answer
-replaceAnswer rows place = answerIf (ltb place (length rows))
+-- what a replacement answers, and the row after it
+pub record Replaced : Type 0 where
+  pub answer : Answer
+  pub rows : List QueueTransferDescriptor
 
--- the row after the call; where it is refused, the row before it
-unfoldable pub replacedOf : List QueueTransferDescriptor → ℕ → QueueTransferDescriptor → List QueueTransferDescriptor
-replacedOf rows place r = cond (ltb place (length rows)) (set rows place r) rows
+abbrev pub replaced : Answer → List QueueTransferDescriptor → Replaced
+replaced answer rows = record { answer = answer; rows = rows }
+
+-- where it is refused, the row stays
+unfoldable pub replaceOf : List QueueTransferDescriptor → ℕ → QueueTransferDescriptor → Replaced
+replaceOf rows place r =
+    let inside : Bool = ltb place (length rows) in
+    replaced (answerIf inside) (cond inside (set rows place r) rows)

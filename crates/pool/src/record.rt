@@ -1,8 +1,8 @@
 // The calls that read or replace one record of the lent row, for any place: one beyond the row is refused.
 ghost use mathlib.Core.Path.{_≡_};
-ghost use Rattle.pool.specs.RecordCalls.{answerIf, foundIf, readOf, replaceAnswer, replacedOf};
-ghost use Rattle.pool.specs.Chains.{blank};
 ghost use mathlib.Core.Bool.{true, false};
+ghost use Rattle.pool.specs.RecordCalls.{answerIf, foundIf, readOf, replaceOf, replaced};
+ghost use Rattle.pool.specs.Chains.{blank};
 use crate::chain::no_record;
 use crate::row::record_at;
 use crate::row::replace;
@@ -59,11 +59,15 @@ pub fn read_record(rows: &[QueueTransferDescriptor], place: usize) -> Found
 }
 
 // The record at a place is replaced, if the row has it; else the row stays as it is.
-pub fn replace_record(rows: &mut [QueueTransferDescriptor], place: usize, r: QueueTransferDescriptor) -> Answer
-    ensures { λ a. ⌜ (a ≡ replaceAnswer (now (rows .entry)) place) × (now (rows .exit) ≡ replacedOf (now (rows .entry)) place r) ⌝ }
+pub fn replace_record(
+    rows: &mut [QueueTransferDescriptor],
+    place: usize,
+    r: QueueTransferDescriptor,
+) -> Answer
+    ensures { λ a. ⌜ replaced a (now (rows .exit)) ≡ replaceOf (now (rows .entry)) place r ⌝ }
 {
-    let count = rows.len();
-    if place < count {
+    let length = rows.len();
+    if place < length {
         replace(rows, place, r);
         return done();
     }

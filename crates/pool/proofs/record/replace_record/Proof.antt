@@ -41,7 +41,7 @@ use denote.Triple.Walked.{says, Stays, stay-slice, stay-none, walkOf, goes-slice
 use Rattle.descriptor.specs.declared.qtd.QueueTransferDescriptor.{QueueTransferDescriptor as Record}
 use Rattle.descriptor.proofs.qtd.QueueTransferDescriptor.Laws as T′
 use Rattle.common.specs.declared.answer.Answer.{Answer}
-use Rattle.pool.specs.RecordCalls.{answerIf, replaceAnswer, replacedOf}
+use Rattle.pool.specs.RecordCalls.{answerIf, replaceOf, replaced}
 use Rattle.common.proofs.answer.Answer as F
 use Rattle.common.proofs.answer.Answer.Laws as F′
 use Rattle.pool.proofs.RecordCases.{replace-inside, replace-beyond}
@@ -100,7 +100,7 @@ module _ {M : Type 1} (𝓤 : URA M) (H : Heap 𝓤) (A : Atoms 𝓤) (W : Given
   abbrev Post : Val → SProp 𝓤
   Post = walkOf 𝓤 H A f.ended stayed (f.clauses 𝓤 H A mem run) .post (((κ, tt), (q, tt), tt, a, at), tt)
 
-  exits : (zs : List Record) → length zs ≡ n → (u : Answer) (v : Val) → Is F.the-row u (v ∷ []) → (u ≡ replaceAnswer ys i) × (zs ≡ replacedOf ys i r)
+  exits : (zs : List Record) → length zs ≡ n → (u : Answer) (v : Val) → Is F.the-row u (v ∷ []) → replaced u zs ≡ replaceOf ys i r
       → ent 𝓤 (sep 𝓤 (sem 𝓤 H A (MutSlice (named 0) κ R .own (x zs) (s ∷ []))) (A .lft κ q)) (Post v)
   exits zs len u v is e =
       qed W (‵ (MutSlice (named 0) κ R .own (x zs) (s ∷ [])) ∷ ‵ (flft κ q) ∷ []) ∵
@@ -129,7 +129,7 @@ module _ {M : Type 1} (𝓤 : URA M) (H : Heap 𝓤) (A : Atoms 𝓤) (W : Given
           ∷ ‵ (froom T′.mir l₃ 0) ∷ ‵ (fdies T′.mir l₃) ∷ ‵ (froom word l₂ 0) ∷ ‵ (fdies word l₂) ∷ ‵ (froom slice l₁ 0) ∷ ‵ (fdies slice l₁) ∷ ‵ (froom F′.mir l₀ 0) ∷ ‵ (fdies F′.mir l₀) ∷ []
 
       -- every local is freed: both returns come here
-      ends : (zs : List Record) → length zs ≡ n → (u : Answer) (v : Val) → Is F.the-row u (v ∷ []) → (u ≡ replaceAnswer ys i) × (zs ≡ replacedOf ys i r) → Sq W (Bare zs) (frees En (prop (Post v)))
+      ends : (zs : List Record) → length zs ≡ n → (u : Answer) (v : Val) → Is F.the-row u (v ∷ []) → replaced u zs ≡ replaceOf ys i r → Sq W (Bare zs) (frees En (prop (Post v)))
       ends zs len u v is e =
           move ! (18 ∷ 19 ∷ []) $ free1 ! $ move ! (16 ∷ 17 ∷ []) $ free1 ! $ move ! (14 ∷ 15 ∷ []) $ free1 ! $ move ! (12 ∷ 13 ∷ []) $ free1 ! $ move ! (10 ∷ 11 ∷ []) $ free1 ! $ move ! (8 ∷ 9 ∷ []) $ free1 ! $ move ! (6 ∷ 7 ∷ []) $ free1 ! $ move ! (4 ∷ 5 ∷ []) $ free1 ! $ move ! (2 ∷ 3 ∷ []) $ free1 ! $ free0 ! $
           by ! (exits zs len u v is e)
