@@ -10,6 +10,7 @@ pub mod Turns
 pub mod Examples
 pub mod ChainLaws
 pub mod GoodLaws
+pub mod RecordCases
 pub mod Element
 pub mod Again
 pub mod Calls

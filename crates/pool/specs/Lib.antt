@@ -2,3 +2,4 @@ pub mod EhciChain
 pub mod Places
 pub mod Transfers
 pub mod Chains
+pub mod RecordCalls

@@ -130,7 +130,7 @@ pub fn see(view: View, ask: Ask, k: usize, here: QueueTransferDescriptor) -> Vie
     }
 }
 
-fn no_record() -> QueueTransferDescriptor
+pub fn no_record() -> QueueTransferDescriptor
     ensures { λ r. ⌜ r ≡ blank ⌝ }
 {
     QueueTransferDescriptor {

@@ -1,4 +1,5 @@
 pub mod chain;
 pub mod places;
+pub mod record;
 pub mod row;
 pub mod transfer;
