@@ -16,6 +16,7 @@ use pipe::endpoints::Pipe;
 use pipe::endpoints::Request;
 use pipe::endpoints::UnlinkBoundary;
 use pipe::endpoints::with_endpoint;
+use pool::chain::STANDS_ACTIVE;
 use pool::chain::View;
 use pool::places::clear;
 use register::writes::Writes;
@@ -65,7 +66,7 @@ pub fn collect_linked(
     ensures { λ c. ⌜ gathered c (now (heads .exit)) (now (frames .exit))
         ≡ linkedOf s (now (heads .entry)) (now (frames .entry)) readings stage k p r ⌝ }
 {
-    if stage == 2 {
+    if stage == STANDS_ACTIVE {
         return still_pending(s);
     }
     let left = unlink(s, heads, frames, readings, k, p, r);

@@ -21,6 +21,9 @@ use state::state::Ehci;
 
 pub const FRAMES: u64 = 1024;
 
+// The words of a head.
+const HEAD: u64 = 17;
+
 pub struct Opening {
     pub answer: Answer,
     pub state: Ehci,
@@ -61,7 +64,7 @@ pub fn rows_fit(s: Settings, pool: u64, heads: u64, frames: u64, setups: u64) ->
 {
     let endpoints = s.endpoints as u64;
     (pool == s.descriptors)
-        & (heads == 17 * (endpoints + 1))
+        & (heads == HEAD * (endpoints + 1))
         & (frames == FRAMES)
         & (setups == 8 * endpoints)
 }

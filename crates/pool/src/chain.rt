@@ -77,6 +77,11 @@ pub fn nothing_seen() -> View
     }
 }
 
+// Where a request's descriptors stand: an error comes before any active one; an active one comes first.
+pub const STANDS_FAILED: u8 = 1;
+
+pub const STANDS_ACTIVE: u8 = 2;
+
 // An active token decides before its errors do.
 fn stage_with(stage: u8, token: QtdToken) -> u8
     ensures { λ r. ⌜ r ≡ orElse stage (numberIf (isActive (token .0)) 2 (numberIf (isErring (token .0)) 1 0)) ⌝ }
@@ -85,10 +90,10 @@ fn stage_with(stage: u8, token: QtdToken) -> u8
         return stage;
     }
     if token.active() {
-        return 2;
+        return STANDS_ACTIVE;
     }
     if token.has_error() {
-        return 1;
+        return STANDS_FAILED;
     }
     0
 }
