@@ -1,5 +1,5 @@
 //! Call scripts through 000 and through the port, compared after every call.
-use std::io::{BufRead, BufReader, Write};
+use std::io::{BufRead, BufReader, IsTerminal, Write, stderr};
 use std::process::{Child, ChildStdin, ChildStdout, Command, Stdio};
 use std::time::{Duration, Instant};
 
@@ -169,7 +169,9 @@ pub fn run(options: Options) -> Outcome {
         }
         run.progress(script + 1);
     }
-    eprintln!();
+    if stderr().is_terminal() {
+        eprintln!();
+    }
     if !run.every_bad_record() {
         return Outcome::Differs;
     }
@@ -178,7 +180,8 @@ pub fn run(options: Options) -> Outcome {
 
 impl Run {
     fn progress(&mut self, script: u64) {
-        if self.shown.elapsed() > Duration::from_millis(250) || script == self.options.scripts {
+        let due = self.shown.elapsed() > Duration::from_millis(250) || script == self.options.scripts;
+        if due && stderr().is_terminal() {
             eprint!("\r{script} of {} scripts, {} calls, no difference", self.options.scripts, self.calls);
             self.shown = Instant::now();
         }
