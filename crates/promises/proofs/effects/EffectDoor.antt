@@ -12,7 +12,6 @@ use Rattle.pool.proofs.ChainLaws.{fill-no-chain}
 use Rattle.state.specs.Slots.{slotAt}
 use Rattle.state.specs.declared.state.Ehci.{Ehci}
 use Rattle.state.proofs.RangesLaws.{Ranges}
-use Rattle.common.specs.Answers.{refused}
 use Rattle.common.specs.declared.answer.Refusal.{Refusal}
 use Rattle.common.specs.declared.answer.Refusal.the-variants.{InvalidParameter}
 use Rattle.pipe.specs.Endpoints.{endpointAt}
@@ -94,14 +93,15 @@ module _ (w : World) (c : Call) where
   abbrev pub seen : View
   seen = seenBy (asksOf (w .state) (length (w .rows .pool)) c) (w .rows .pool)
 
-  pub through : Effect w c (leaves (w .state) (Refused InvalidParameter) noWrites)
-      → Effect w c (carriedOut (callOf (w .state) (length (w .rows .pool)) (w .rows .heads) (w .rows .frames) (w .rows .setups) seen c) (w .rows .pool))
-      → Effect w c (core w c)
-  unfolding applyOf decideOf refusedReply replied
-  through denied done = by (rowsFit (w .state .settings) (length (w .rows .pool)) (length (w .rows .heads)) (length (w .rows .frames)) (length (w .rows .setups))) refl
-    where
-      by : (b : Bool)
-          → rowsFit (w .state .settings) (length (w .rows .pool)) (length (w .rows .heads)) (length (w .rows .frames)) (length (w .rows .setups)) ≡ b
-          → Effect w c (core w c)
-      by true e = rw e done
-      by false e = rw e denied
+-- what holds of a refusal at the door, and of what the call's crate says, holds of the call
+pub through : (R : World → Call → Applied → Type 0) (w : World) (c : Call) → R w c (leaves w c (w .state) (Refused InvalidParameter) noWrites)
+    → R w c (carriedOut (callOf (w .state) (length (w .rows .pool)) (w .rows .heads) (w .rows .frames) (w .rows .setups) (seen w c) c) (w .rows .pool))
+    → R w c (core w c)
+unfolding applyOf decideOf refusedReply replied
+through R w c denied done = by (rowsFit (w .state .settings) (length (w .rows .pool)) (length (w .rows .heads)) (length (w .rows .frames)) (length (w .rows .setups))) refl
+  where
+    by : (b : Bool)
+        → rowsFit (w .state .settings) (length (w .rows .pool)) (length (w .rows .heads)) (length (w .rows .frames)) (length (w .rows .setups)) ≡ b
+        → R w c (core w c)
+    by true e = rw e done
+    by false e = rw e denied

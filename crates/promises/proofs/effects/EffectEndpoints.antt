@@ -60,7 +60,7 @@ module _ (w : World) where
   pub open-effect : (x : EndpointFields) → Effect w (OpenEndpoint x) (core w (OpenEndpoint x))
   unfolding openDecided replied noWrites
   open-effect x =
-      through w (OpenEndpoint x) (refused-still w (OpenEndpoint x) InvalidParameter refl refl)
+      through Effect w (OpenEndpoint x) (refused-still w (OpenEndpoint x) InvalidParameter refl refl)
       (open-by s n hs f u (x .kind) (x .address) (x .number) (x .packet)
       (λ o. Effect w (OpenEndpoint x) (carriedOut (withFrames (openCame o) (w .rows .frames) (w .rows .setups)) (w .rows .pool)))
       (λ r. refused-still w (OpenEndpoint x) r refl (rw (undone r)))
@@ -90,7 +90,7 @@ module _ (w : World) where
   pub close-effect : (k : ℕ) → Effect w (Close k) (core w (Close k))
   unfolding closeDecided closeOf changedReply replied noWrites
   close-effect k =
-      through w (Close k) (refused-still w (Close k) InvalidParameter refl refl)
+      through Effect w (Close k) (refused-still w (Close k) InvalidParameter refl refl)
       (change-by s n hs f u k true (withEndpoint s k Closed) (withHead hs k (replicate 17 0)) (Changed (Close k))
       (λ r. refused-still w (Close k) r refl (rw (undone r)))
       (λ from g. closes
@@ -109,7 +109,7 @@ module _ (w : World) where
   unfolding addressDecided setAddressOf changedReply replied noWrites
   address-effect k a =
       let word = withAddress (headWord hs (k + 1) 1) a in
-      through w (SetAddress k a) (refused-still w (SetAddress k a) InvalidParameter refl refl)
+      through Effect w (SetAddress k a) (refused-still w (SetAddress k a) InvalidParameter refl refl)
       (change-by s n hs f u k (leb a 127) s (withHeadWord hs (k + 1) 1 word) (Changed (SetAddress k a))
       (λ r. refused-still w (SetAddress k a) r refl refl)
       (λ from g. rewrites
@@ -129,7 +129,7 @@ module _ (w : World) where
   unfolding packetDecided setPacketSizeOf changedReply replied noWrites
   size-effect k size =
       let word = withPacketSize (headWord hs (k + 1) 1) size in
-      through w (SetPacketSize k size) (refused-still w (SetPacketSize k size) InvalidParameter refl refl)
+      through Effect w (SetPacketSize k size) (refused-still w (SetPacketSize k size) InvalidParameter refl refl)
       (change-by s n hs f u k true s (withHeadWord hs (k + 1) 1 word) (Changed (SetPacketSize k size))
       (λ r. refused-still w (SetPacketSize k size) r refl refl)
       (λ from g. rewrites

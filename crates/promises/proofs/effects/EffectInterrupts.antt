@@ -137,7 +137,7 @@ module _ (w : World) (x : InterruptReadings) where
   pub acknowledge-effect : Effect w (Acknowledge x) (core w (Acknowledge x))
   unfolding acknowledgeOf acknowledgeDecided replied noWrites
   acknowledge-effect =
-      through w (Acknowledge x) (refused-still w (Acknowledge x) InvalidParameter refl refl)
+      through Effect w (Acknowledge x) (refused-still w (Acknowledge x) InvalidParameter refl refl)
       (settled-by (first ((not (inRanges s), InvalidParameter) ∷ [])) _ _ Acked
       (λ r e. refused-still w (Acknowledge x) r (rw (undone r)) refl)
       (λ e. heard (eqb p 0) refl (eqb (bit (x .status) 5) 1) refl))
@@ -240,7 +240,7 @@ module _ (w : World) (command : ℕ) where
   pub drain-effect : Effect w (Drain command) (core w (Drain command))
   unfolding drainOf drainDecided replied noWrites
   drain-effect =
-      through w (Drain command) (refused-still w (Drain command) InvalidParameter refl refl)
+      through Effect w (Drain command) (refused-still w (Drain command) InvalidParameter refl refl)
       (settled-by (first ((not (inRanges d), InvalidParameter) ∷ [])) _ _ Drained
       (λ r e. refused-still w (Drain command) r (rw (undone r)) refl)
       (λ e. drained (eqb (d .pending) 0) refl))
@@ -266,7 +266,7 @@ module _ (w : World) where
   -- a flag is set, and USBINTR written
   pub enable-effect : Effect w Enable (core w Enable)
   unfolding enableOf settledReply replied withInterrupt andThen noWrites
-  enable-effect = through w Enable (refused-still w Enable InvalidParameter refl refl) (by (not (inRanges t)))
+  enable-effect = through Effect w Enable (refused-still w Enable InvalidParameter refl refl) (by (not (inRanges t)))
     where
       by : (b : Bool)
           → Effect w Enable
@@ -279,7 +279,7 @@ module _ (w : World) where
 
   pub disable-effect : Effect w Disable (core w Disable)
   unfolding disableOf settledReply replied withInterrupt andThen noWrites
-  disable-effect = through w Disable (refused-still w Disable InvalidParameter refl refl) (by (not (inRanges t)))
+  disable-effect = through Effect w Disable (refused-still w Disable InvalidParameter refl refl) (by (not (inRanges t)))
     where
       by : (b : Bool)
           → Effect w Disable
@@ -292,7 +292,7 @@ module _ (w : World) where
 
   pub rearm-effect : Effect w Rearm (core w Rearm)
   unfolding rearmOf settledReply replied withInterrupt andThen noWrites
-  rearm-effect = through w Rearm (refused-still w Rearm InvalidParameter refl refl) (by (not (inRanges t)) (eqb (t .masked) 0))
+  rearm-effect = through Effect w Rearm (refused-still w Rearm InvalidParameter refl refl) (by (not (inRanges t)) (eqb (t .masked) 0))
     where
       by : (b z : Bool)
           → Effect w Rearm (carriedOut (came (settledReply (settledOr b t (rearmIf z t))) (w .rows .heads) (w .rows .frames) (w .rows .setups)) (w .rows .pool))

@@ -142,7 +142,7 @@ module _ (w : World) where
   pub start-effect : Effect w StartBringUp (core w StartBringUp)
   unfolding startOf broughtReply replied withBringUp andThen noWrites
   start-effect =
-      through w StartBringUp (refused-still w StartBringUp InvalidParameter refl refl)
+      through Effect w StartBringUp (refused-still w StartBringUp InvalidParameter refl refl)
       (settled-by (first ((not (inRanges s), InvalidParameter) ∷ (anyUncollected 0 32 s, QueueFull) ∷ [])) _ _ Started
       (λ r e keeps. refused-still w StartBringUp r refl (rw (undone r)))
       (λ e keeps. still-of w StartBringUp _ _ _ (brought s 0 1 0 0) refl refl refl keeps refl
@@ -179,7 +179,7 @@ module _ (w : World) where
   pub step-effect : (v : ℕ) → Effect w (BringUpStep v) (core w (BringUpStep v))
   unfolding stepOf broughtReply replied noWrites
   step-effect v =
-      through w (BringUpStep v) (refused-still w (BringUpStep v) InvalidParameter refl refl)
+      through Effect w (BringUpStep v) (refused-still w (BringUpStep v) InvalidParameter refl refl)
       (settled-by (first ((not (inRanges s), InvalidParameter) ∷ (eqb (s .step) 0, InvalidParameter) ∷ [])) _ _ (Stepped v)
       (λ r e keeps. subst (λ (x : Refusal). Effect w (BringUpStep v) (leaves w (BringUpStep v) s (Refused x) noWrites)) (step-refuses (not (inRanges s)) (eqb (s .step) 0) r e)
       (refused-still w (BringUpStep v) InvalidParameter refl refl))
@@ -196,7 +196,7 @@ module _ (w : World) where
   pub allot-effect : Effect w AllocateAddress (core w AllocateAddress)
   unfolding allotOf allotDecided replied withNextAddress noWrites
   allot-effect =
-      through w AllocateAddress (refused-still w AllocateAddress InvalidParameter refl refl)
+      through Effect w AllocateAddress (refused-still w AllocateAddress InvalidParameter refl refl)
       (settled-by (first ((not (inRanges s), InvalidParameter) ∷ (ltb 127 (s .address), SlotLimitReached) ∷ [])) _ _ Allotted
       (λ r e keeps. refused-still w AllocateAddress r refl refl)
       (λ e keeps. still-of w AllocateAddress _ _ _

@@ -84,7 +84,7 @@ module _ (w : World) where
   pub submit-effect : (k : ℕ) (t : TransferRequest) (rd : Readings) → Effect w (Submit k t rd) (core w (Submit k t rd))
   unfolding submitDecided submitOf settledSubmit acceptedWith refusedSubmit replied judgeOf
   submit-effect k t rd =
-      through w (Submit k t rd) (refused-still w (Submit k t rd) InvalidParameter refl refl)
+      through Effect w (Submit k t rd) (refused-still w (Submit k t rd) InvalidParameter refl refl)
       (settled-by
       (first ((unfit, InvalidParameter) ∷ submitChecks s k t)) _ _
       (λ (o : Outcome). Effect w (Submit k t rd) (carriedOut (submitCame o) (w .rows .pool)))
@@ -105,7 +105,7 @@ module _ (w : World) where
   pub writeback-effect : (place token : ℕ) → Effect w (Writeback place token) (core w (Writeback place token))
   unfolding writebackDecided writebackOf refusedWriteback replied
   writeback-effect place token =
-      through w (Writeback place token) (refused-still w (Writeback place token) InvalidParameter refl refl)
+      through Effect w (Writeback place token) (refused-still w (Writeback place token) InvalidParameter refl refl)
       (settled-by (first (writebackChecks s (lengths n (length hs) (length fs) (length us)) place)) _ _
       (λ (x : WrittenBack). Effect w (Writeback place token) (carriedOut (came (writtenReply x) hs fs us) (w .rows .pool)))
       (λ r e. refused-still w (Writeback place token) r refl refl)
@@ -156,7 +156,7 @@ module _ (w : World) where
     pub cancel-effect : Effect w (Cancel k id rd) (core w (Cancel k id rd))
     unfolding cancelDecided replied
     cancel-effect =
-        through w (Cancel k id rd) (cancel-refused InvalidParameter)
+        through Effect w (Cancel k id rd) (cancel-refused InvalidParameter)
         (cancel-split s n hs fs (length us) rd k id Cancels cancel-refused
         (λ p r ok e below same. cancel-unlinks p r e below)
         (λ p r u ok e same. marks
@@ -210,7 +210,7 @@ module _ (w : World) where
     pub collect-effect : Effect w (Collect k id rd) (core w (Collect k id rd))
     unfolding collectDecided finishOf replied noWrites
     collect-effect =
-        through w (Collect k id rd) (collect-refused InvalidParameter)
+        through Effect w (Collect k id rd) (collect-refused InvalidParameter)
         (collect-split s n hs fs (length us) rd k id (seen w (Collect k id rd)) Collecting collect-refused
         (still-of w (Collect k id rd) _ _ _ (sidesOf s) refl refl (none-leaves (s .settings) k (rd .frame) _ _ refl refl) (λ g. g) refl (λ i. i) refl)
         (λ p r ok e below same done. collect-unlinks p r e below)

@@ -34,13 +34,13 @@ use Rattle.ehci.specs.Replies.{broughtReply, replied}
 use Rattle.promises.specs.Runs.{World, core}
 use Rattle.promises.specs.Registers as R
 use Rattle.promises.specs.Registers.{isReady, stepWrites}
-use Rattle.promises.proofs.effects.EffectDoor.{leaves}
+use Rattle.promises.proofs.effects.EffectDoor.{leaves, through}
 use Rattle.promises.proofs.effects.RefusalNumbers.{undone}
 use Rattle.bring_up.specs.declared.stage.Stage.the-variants.{Stop, Halting, Reset, Resetting, Run, Starting}
 use Rattle.promises.proofs.effects.EffectMachine.{step-refuses}
 use Rattle.promises.proofs.invariants.TouchCalls.{address-touches, allot-touches, cancel-touches, close-touches, collect-touches, open-touches, size-touches, submit-touches, writeback-touches}
 use Rattle.promises.proofs.invariants.TouchInterrupts.{acknowledge-touches, disable-touches, drain-touches, enable-touches, rearm-touches}
-use Rattle.promises.proofs.invariants.Touches.{Touches, refused-touches, through}
+use Rattle.promises.proofs.invariants.Touches.{Touches, refused-touches}
 
 -- a reading of bring-up, by its number
 record Staged (z : Settings) (n v : ℕ) (stage : Stage) : Type 0 where
@@ -126,7 +126,7 @@ module _ (w : World) where
   pub start-touches : Touches w StartBringUp (core w StartBringUp)
   unfolding startOf broughtReply replied withBringUp andThen noWrites
   start-touches =
-      through w StartBringUp (refused-touches w StartBringUp InvalidParameter refl refl)
+      through Touches w StartBringUp (refused-touches w StartBringUp InvalidParameter refl refl)
       (settled-by (first ((not (inRanges s), InvalidParameter) ∷ (anyUncollected 0 32 s, QueueFull) ∷ [])) _
       (record { answer = A.Done; state = withBringUp s 0 1 0 0; writes = andThen noWrites 8 0; read = N.Register 0; wait = 0 })
       (λ (b : BroughtUp). Touches w StartBringUp (carriedOut (came (broughtReply b) hs fs us) (w .rows .pool)))
@@ -157,7 +157,7 @@ module _ (w : World) where
     pub step-touches : Ranges s → Touches w (BringUpStep v) (core w (BringUpStep v))
     unfolding stepOf broughtReply replied noWrites
     step-touches ranges =
-        through w (BringUpStep v) (refused-touches w (BringUpStep v) InvalidParameter refl refl)
+        through Touches w (BringUpStep v) (refused-touches w (BringUpStep v) InvalidParameter refl refl)
         (settled-by (first ((not (inRanges s), InvalidParameter) ∷ (eqb (s .step) 0, InvalidParameter) ∷ [])) _ _ Stepped
         (λ r e. subst (λ (x : Refusal). Touches w (BringUpStep v) (leaves w (BringUpStep v) s (Refused x) noWrites)) (step-refuses (not (inRanges s)) (eqb (s .step) 0) r e)
         (refused-touches w (BringUpStep v) InvalidParameter refl refl))

@@ -30,11 +30,11 @@ use Rattle.ehci.specs.Replies.{replied, settledReply}
 use Rattle.promises.specs.Runs.{World, core}
 use Rattle.promises.specs.Registers as R
 use Rattle.promises.specs.Registers.{acknowledged, leftOf, ring}
-use Rattle.promises.proofs.effects.EffectDoor.{leaves}
+use Rattle.promises.proofs.effects.EffectDoor.{leaves, through}
 use Rattle.promises.proofs.effects.RefusalNumbers.{undone}
 use Rattle.interrupt.specs.declared.answers.Settled.{Settled}
 use Rattle.promises.proofs.effects.EffectInterrupts.{taken-done}
-use Rattle.promises.proofs.invariants.Touches.{Level, Touches, level, refused-touches, rung-shape, through}
+use Rattle.promises.proofs.invariants.Touches.{Level, Touches, level, refused-touches, rung-shape}
 
 module _ (w : World) where
   abbrev s : Ehci
@@ -92,7 +92,7 @@ module _ (w : World) where
     pub acknowledge-touches : Touches w (Acknowledge x) (core w (Acknowledge x))
     unfolding acknowledgeOf acknowledgeDecided replied noWrites
     acknowledge-touches =
-        through w (Acknowledge x) (refused-touches w (Acknowledge x) InvalidParameter refl refl)
+        through Touches w (Acknowledge x) (refused-touches w (Acknowledge x) InvalidParameter refl refl)
         (settled-by (first ((not (inRanges s), InvalidParameter) ∷ [])) _ _ Acked
         (λ r e. refused-touches w (Acknowledge x) r refl (rw (undone r)))
         (λ e. heard (eqb p 0) refl))
@@ -147,7 +147,7 @@ module _ (w : World) where
     pub drain-touches : Touches w (Drain v) (core w (Drain v))
     unfolding drainOf drainDecided replied noWrites
     drain-touches =
-        through w (Drain v) (refused-touches w (Drain v) InvalidParameter refl refl)
+        through Touches w (Drain v) (refused-touches w (Drain v) InvalidParameter refl refl)
         (settled-by (first ((not (inRanges s), InvalidParameter) ∷ [])) _ _ Drained
         (λ r e. refused-touches w (Drain v) r refl refl)
         (λ e. drained (eqb (s .pending) 0) refl))
@@ -174,20 +174,20 @@ module _ (w : World) where
   pub rearm-touches : Touches w Rearm (core w Rearm)
   unfolding rearmOf
   rearm-touches =
-      through w Rearm (refused-touches w Rearm InvalidParameter refl refl)
+      through Touches w Rearm (refused-touches w Rearm InvalidParameter refl refl)
       (settled-touches Rearm (not (inRanges s)) _ (refused-touches w Rearm InvalidParameter refl refl)
       (rearmed (eqb (s .masked) 0) (eqb (s .enabled) 0) refl refl))
 
   pub enable-touches : Touches w Enable (core w Enable)
   unfolding enableOf settledReply replied withInterrupt andThen noWrites
   enable-touches =
-      through w Enable (refused-touches w Enable InvalidParameter refl refl)
+      through Touches w Enable (refused-touches w Enable InvalidParameter refl refl)
       (settled-touches Enable (not (inRanges s)) (record { answer = A.Done; state = withInterrupt s 1 (s .pending) (s .masked); writes = andThen noWrites 8 0x27 }) (refused-touches w Enable InvalidParameter refl refl)
       (record { pending = refl; masked = refl; enabled = λ b q. refl; step = refl; wrote = refl }))
 
   pub disable-touches : Touches w Disable (core w Disable)
   unfolding disableOf settledReply replied withInterrupt andThen noWrites
   disable-touches =
-      through w Disable (refused-touches w Disable InvalidParameter refl refl)
+      through Touches w Disable (refused-touches w Disable InvalidParameter refl refl)
       (settled-touches Disable (not (inRanges s)) (record { answer = A.Done; state = withInterrupt s 0 (s .pending) (s .masked); writes = andThen noWrites 8 0 }) (refused-touches w Disable InvalidParameter refl refl)
       (record { pending = refl; masked = refl; enabled = λ b q. refl; step = refl; wrote = refl }))

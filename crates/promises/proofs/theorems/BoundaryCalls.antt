@@ -1,14 +1,12 @@
 -- What a collect and a cancel answer, by the endpoint that they find.
 use Prim.Native.Nat.{ℕ, _+_, _*_}
-use mathlib.Core.Bool.{Bool, true, false, false≢true}
+use mathlib.Core.Bool.{true, false≢true}
 use mathlib.Core.Path.{_≡_, refl, sym, ap, _∙_}
 use borrow.Author.Tests.{eq-eqb}
 use lib.ListN.{length}
-use Rattle.register.specs.Writes.{noWrites}
 use Rattle.settings.specs.declared.settings.Settings.{Settings}
 use Rattle.state.specs.declared.state.Ehci.{Ehci}
 use Rattle.state.proofs.RangesLaws.{ranges-make}
-use Rattle.common.specs.declared.answer.Refusal.the-variants.{InvalidParameter}
 use Rattle.pipe.specs.Endpoints.{endpointAt}
 use Rattle.pipe.specs.declared.endpoints.Endpoint.the-variants.{Unlinking}
 use Rattle.pipe.specs.declared.endpoints.Pipe.{Pipe}
@@ -22,29 +20,17 @@ use Rattle.collection.specs.Answers.{outcomeOf}
 use Rattle.collection.specs.Calls.{Gathered, collectOf, finishOf, pendingLeft, unlinkingOf}
 use Rattle.collection.specs.Unlinks.{Left, passedBoundary, unlinkOf, waitingOf}
 use Rattle.collection.proofs.Splits.{collect-split, unlink-split}
-use Rattle.ehci.specs.declared.call.Call.{Call}
 use Rattle.ehci.specs.declared.call.Call.the-variants.{Collect}
 use Rattle.ehci.specs.declared.reply.Answered.{Answered}
-use Rattle.ehci.specs.declared.reply.Answered.the-variants.{Refused}
-use Rattle.ehci.specs.Decides.{callOf, collectCame, collectDecided, decideOf, withSetups}
+use Rattle.ehci.specs.Decides.{collectCame, collectDecided, decideOf, withSetups}
 use Rattle.ehci.specs.Door.{Applied, applyOf, carriedOut}
-use Rattle.ehci.specs.Replies.{collectedAnswer, refusedReply, replied}
+use Rattle.ehci.specs.Replies.{collectedAnswer, replied}
 use Rattle.promises.specs.Runs.{World, core}
 use Rattle.promises.specs.Events.{isCollected}
-use Rattle.promises.proofs.effects.EffectDoor.{leaves, seen}
+use Rattle.promises.proofs.effects.EffectDoor.{seen, through}
 use Rattle.promises.proofs.effects.EffectRequests.{outcome-collected}
 use Rattle.promises.proofs.effects.RefusalNumbers.{uncollected}
 use Rattle.promises.proofs.invariants.Sound.{Sound}
-
--- what holds of a refusal at the door, and of what the call's crate says, holds of the call
-pub by-door : (w : World) (c : Call) (P : Applied → Type 0) → P (leaves w c (w .state) (Refused InvalidParameter) noWrites)
-    → P (carriedOut (callOf (w .state) (length (w .rows .pool)) (w .rows .heads) (w .rows .frames) (w .rows .setups) (seen w c) c) (w .rows .pool)) → P (core w c)
-unfolding applyOf decideOf refusedReply replied
-by-door w c P denied done = by (rowsFit (w .state .settings) (length (w .rows .pool)) (length (w .rows .heads)) (length (w .rows .frames)) (length (w .rows .setups))) refl
-  where
-    by : (b : Bool) → rowsFit (w .state .settings) (length (w .rows .pool)) (length (w .rows .heads)) (length (w .rows .frames)) (length (w .rows .setups)) ≡ b → P (core w c)
-    by true e = rw e done
-    by false e = rw e denied
 
 -- what a collect that collects found
 pub record Found (w : World) (k id : ℕ) (readings : Readings) (a : Answered) : Type 0 where
@@ -73,7 +59,7 @@ module _ (w : World) (k id : ℕ) (rd : Readings) where
   pub collect-found : Tells (core w (Collect k id rd))
   unfolding collectDecided finishOf replied
   collect-found =
-      by-door w (Collect k id rd) Tells (λ e. absurd (false≢true e))
+      through (λ _ _. Tells) w (Collect k id rd) (λ e. absurd (false≢true e))
       (collect-split s (length (w .rows .pool)) (w .rows .heads) (w .rows .frames) (length (w .rows .setups)) rd k id (seen w (Collect k id rd)) Gathers
       (λ x e. absurd (false≢true (sym (uncollected x) ∙ e))) (λ e. absurd (false≢true e))
       (λ p r ok e below same done. unlink-none p r)

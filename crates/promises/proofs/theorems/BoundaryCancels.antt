@@ -43,7 +43,8 @@ use Rattle.promises.proofs.invariants.BellSlots.{Leaving, Slot}
 use Rattle.promises.proofs.invariants.BellInvariant.{room}
 use Rattle.promises.proofs.invariants.BellSteps.{StateInv}
 use Rattle.promises.proofs.invariants.BellSummary.{Kept, Summary, summary}
-use Rattle.promises.proofs.theorems.BoundaryCalls.{by-door, collect-found}
+use Rattle.promises.proofs.effects.EffectDoor.{through}
+use Rattle.promises.proofs.theorems.BoundaryCalls.{collect-found}
 use Rattle.promises.proofs.theorems.BoundaryCore.{bells-reached, exact, named}
 use Rattle.promises.proofs.any_machine.BoundaryExact.{answered-cancelled}
 
@@ -100,7 +101,7 @@ module _ (w : World) (k id : ℕ) (rd : Readings) (wide : Wide (w .state)) where
   pub cancel-marks : Marks (core w (Cancel k id rd))
   unfolding cancelDecided replied
   cancel-marks =
-      by-door w (Cancel k id rd) Marks (λ e. absurd (false≢true e))
+      through (λ _ _. Marks) w (Cancel k id rd) (λ e. absurd (false≢true e))
       (cancel-split s (length (w .rows .pool)) (w .rows .heads) (w .rows .frames) (length (w .rows .setups)) rd k id Cancels
       (λ x e. absurd (false≢true (sym (undone x) ∙ e)))
       (λ p r ok e few same. unlink-marks p r (below (Linked p r) e refl))

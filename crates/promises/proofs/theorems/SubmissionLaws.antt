@@ -66,7 +66,7 @@ use Rattle.promises.specs.Coverage.{bytesOf, recordsMet}
 use Rattle.promises.specs.Submissions.{Asks, CollectsEnded, Stays, Submitted, SubmitsPlanned, SubmittedStays, fieldsOf, packetAt, planFor, wordAt}
 use Rattle.promises.proofs.effects.Effects.{Accepts, Effect, still, hears, joins, passes, counts, opens, closes, rewrites, accepts, writes-back, marks, unlinks, collects}
 use Rattle.promises.proofs.effects.EffectOf.{effect}
-use Rattle.promises.proofs.effects.EffectDoor.{seen}
+use Rattle.promises.proofs.effects.EffectDoor.{seen, through}
 use Rattle.promises.proofs.effects.RefusalNumbers.{uncollected, undone}
 use Rattle.promises.proofs.invariants.Sound.{Sound}
 use Rattle.promises.proofs.invariants.UseInv.{Held, every-map, tenantAt, vacant-avoids}
@@ -76,7 +76,7 @@ use Rattle.promises.proofs.theorems.CoverBytes.{recordsFrom, run-of}
 use Rattle.promises.proofs.theorems.CoverHolds.{accepted-by, control-short, records-are, zero-accepts}
 use Rattle.promises.proofs.theorems.PlanLaws.{all-planned}
 use Rattle.promises.proofs.theorems.RoomPromises.{held}
-use Rattle.promises.proofs.theorems.BoundaryCalls.{by-door, collect-found}
+use Rattle.promises.proofs.theorems.BoundaryCalls.{collect-found}
 
 -- ---- the overlay
 
@@ -291,7 +291,7 @@ module _ (w : World) (sound : Sound (w .state .settings) w) (p token : ℕ) wher
   token-put : TokenPut (core w (Writeback p token))
   unfolding writebackDecided writebackOf refusedWriteback
   token-put =
-      by-door w (Writeback p token) TokenPut (λ e. absurd (refusal-some InvalidParameter e))
+      through (λ _ _. TokenPut) w (Writeback p token) (λ e. absurd (refusal-some InvalidParameter e))
       (settled-by (first (writebackChecks (w .state) lent p)) _ _
       (λ (x : WrittenBack). TokenPut (carriedOut (came (writtenReply x) (w .rows .heads) (w .rows .frames) (w .rows .setups)) (w .rows .pool)))
       (λ r e q. absurd (refusal-some r q))
@@ -317,7 +317,7 @@ module _ (w : World) (k id : ℕ) (rd : Readings) where
   ends-overlay : EndsIt (core w (Collect k id rd))
   unfolding collectDecided finishOf replied
   ends-overlay =
-      by-door w (Collect k id rd) EndsIt (λ e. absurd (false≢true e))
+      through (λ _ _. EndsIt) w (Collect k id rd) (λ e. absurd (false≢true e))
       (collect-split (w .state) (length (w .rows .pool)) (w .rows .heads) (w .rows .frames) (length (w .rows .setups)) rd k id (seen w (Collect k id rd)) Gathers
       (λ x e. absurd (false≢true (sym (uncollected x) ∙ e))) (λ e. absurd (false≢true e)) (λ q r ok e below same done. unlink-none q r) (λ q r u ok e same passed done. refl))
 
