@@ -31,15 +31,11 @@ use Rattle.promises.proofs.effects.Effects.{Effect, closes, opens, rewr
 use Rattle.promises.proofs.effects.EffectDoor.{refused-still, rows-kept, through}
 
 -- an open slot that has no request is idle
-pub record IsIdle (x : Endpoint) : Type 0 where
-  pub pipe : Pipe
-  pub is : x ≡ Idle pipe
-
-pub idle-slot : (x : Endpoint) → hasEndpoint x ≡ true → holdsRequest x ≡ false → IsIdle x
-idle-slot Closed e f = absurd (false-true e)
-idle-slot (Idle p) e f = record { pipe = p; is = refl }
-idle-slot (Linked p r) e f = absurd (false-true (sym f))
-idle-slot (Unlinking p r b) e f = absurd (false-true (sym f))
+pub idle-is : (x : Endpoint) → hasEndpoint x ≡ true → holdsRequest x ≡ false → (p : Pipe) × (x ≡ Idle p)
+idle-is Closed o u = absurd (false-true o)
+idle-is (Idle p) o u = (p, refl)
+idle-is (Linked p r) o u = absurd (false-true (sym u))
+idle-is (Unlinking p r b) o u = absurd (false-true (sym u))
 
 module _ (w : World) where
   abbrev s : Ehci
@@ -84,8 +80,8 @@ module _ (w : World) where
   abbrev Changed : Call → ChangeLeft → Type 0
   Changed c o = Effect w c (carriedOut (withFrames (changeCame o) (w .rows .frames) (w .rows .setups)) (w .rows .pool))
 
-  idle-of : (k : ℕ) → Changes s n hs f u k → IsIdle (endpointAt s k)
-  idle-of k from = idle-slot (endpointAt s k) (from .is-open) (from .is-idle)
+  idle-of : (k : ℕ) → Changes s n hs f u k → (p : Pipe) × (endpointAt s k ≡ Idle p)
+  idle-of k from = idle-is (endpointAt s k) (from .is-open) (from .is-idle)
 
   pub close-effect : (k : ℕ) → Effect w (Close k) (core w (Close k))
   unfolding closeDecided closeOf changedReply replied noWrites
@@ -96,8 +92,8 @@ module _ (w : World) where
       (λ from g. closes
       (record {
         k = k;
-        p = idle-of k from .pipe;
-        idle = idle-of k from .is;
+        p = idle-of k from .0;
+        idle = idle-of k from .1;
         state-is = refl;
         rows-are = rows-kept w (Close k) _ (w .rows .frames) (w .rows .setups);
         silent = refl;
@@ -115,9 +111,9 @@ module _ (w : World) where
       (λ from g. rewrites
       (record {
         k = k;
-        p = idle-of k from .pipe;
+        p = idle-of k from .0;
         word = word;
-        idle = idle-of k from .is;
+        idle = idle-of k from .1;
         state-is = refl;
         rows-are = rows-kept w (SetAddress k a) _ (w .rows .frames) (w .rows .setups);
         silent = refl;
@@ -135,9 +131,9 @@ module _ (w : World) where
       (λ from g. rewrites
       (record {
         k = k;
-        p = idle-of k from .pipe;
+        p = idle-of k from .0;
         word = word;
-        idle = idle-of k from .is;
+        idle = idle-of k from .1;
         state-is = refl;
         rows-are = rows-kept w (SetPacketSize k size) _ (w .rows .frames) (w .rows .setups);
         silent = refl;

@@ -111,8 +111,8 @@ note-keeps s n h r =
 -- ---- a counted advance
 
 -- a slot whose boundary falls with the unlinks that are unanswered
-abbrev lowered : Slot → ℕ → Slot
-lowered e b =
+abbrev pub lower : Slot → ℕ → Slot
+lower e b =
     record {
       phase = e .phase;
       kind = e .kind;
@@ -126,7 +126,7 @@ lowered e b =
 
 module _ (e : Slot) (u : ℕ) (some : 1 ≤ u) where
   abbrev fallen : Slot
-  fallen = lowered e (fallenOne (e .phase) (e .kind) (e .boundary))
+  fallen = lower e (fallenOne (e .phase) (e .kind) (e .boundary))
 
   stays : (e .phase ≡ 3 → ⊥) → fallenOne (e .phase) (e .kind) (e .boundary) ≡ e .boundary
   unfolding fallenOne

@@ -1,7 +1,7 @@
 -- A request is marked cancelled only where a cancel of it was accepted.
-use Prim.Native.Nat.{ℕ, _<_}
+use Prim.Native.Nat.{ℕ}
 use mathlib.Core.Path.{_≡_, refl, sym, ap, subst, _∙_}
-use mathlib.Core.Logic.{_⊎_, ⊎-elim}
+use mathlib.Core.Logic.{⊎-elim}
 use mathlib.Core.Bool.{Bool, true, false, cond, false≢true}
 use mathlib.Core.List.{List, [], _∷_}
 use native.Mathlib.Decide.{ℕ-discrete as decEq}
@@ -14,7 +14,6 @@ use Rattle.pipe.specs.Endpoints.{decoded, encoded, endpointAt}
 use Rattle.pipe.specs.declared.endpoints.Endpoint.{Endpoint}
 use Rattle.pipe.specs.declared.endpoints.Endpoint.the-variants.{Closed, Idle, Linked, Unlinking}
 use Rattle.pipe.proofs.EndpointLaws.{bell-wide, endpoint-other, flag-there, owner-aside, owner-wide}
-use Rattle.controller.specs.Readers.{hasEndpoint}
 use Rattle.controller.proofs.ReaderLaws.{open-below}
 use Rattle.schedule.specs.Bell.{bellOf}
 use Rattle.endpoint.specs.Calls.{newEndpoint}
@@ -31,8 +30,8 @@ use Rattle.promises.specs.Bells.{cancelled, cancelsBy, isCollectsOf, isS
 use Rattle.promises.proofs.effects.Effects.{Accepts, Collected, Effect, Marks, Sides, Unlinked, besides, still, hears, joins, passes, counts, opens, closes, rewrites, accepts, writes-back, marks, unlinks, collects}
 use Rattle.promises.proofs.effects.SlotViews.{view-bell, view-besides, view-boundaries, view-same, view-stays}
 use Rattle.promises.proofs.invariants.Reached.{opening-is}
-use Rattle.promises.proofs.invariants.Sound.{Sound}
-use Rattle.promises.proofs.invariants.UseHeld.{fresh-closed}
+use Rattle.promises.proofs.invariants.Sound.{Sound, slot-low}
+use Rattle.promises.proofs.invariants.BellFacts.{fresh-closed}
 
 abbrev pub markIn : Endpoint → Bool
 markIn Closed = false
@@ -113,9 +112,6 @@ module _ (w : World) (c : Call) (a : Applied) (h : History) (sound : Sound (w .s
   beside : (x : Sides) → a .reply .state ≡ besides (w .state) x → (k : ℕ) → markAt (a .reply .state) k ≡ markAt (w .state) k
   beside x e k = ap (λ (y : Ehci). markAt y k) e ∙ view-besides markIn (w .state) x k
 
-  low : (k : ℕ) (x : Endpoint) → endpointAt (w .state) k ≡ x → hasEndpoint x ≡ true → k < 32
-  low k x e o = open-below (w .state) k (ap hasEndpoint e ∙ o)
-
   accepts-marked : Accepts w c a → Marked s h w → Marked s (t ∷ h) (leftBy a)
   unfolding stateWith
   accepts-marked x g k m = by (decEq k (x .k))
@@ -151,7 +147,7 @@ module _ (w : World) (c : Call) (a : Applied) (h : History) (sound : Sound (w .s
       here : markAt (a .reply .state) (x .k) ≡ x .asked .cancelled
       here =
           ap (λ (y : Ehci). markAt y (x .k)) (x .state-is)
-          ∙ view-same markIn mark-back (withBell (w .state) _ _ _) (x .k) to (bell-wide (w .state) _ _ _ (sound .wide)) (low (x .k) (Linked (x .p) (x .r)) (x .linked) refl)
+          ∙ view-same markIn mark-back (withBell (w .state) _ _ _) (x .k) to (bell-wide (w .state) _ _ _ (sound .wide)) (slot-low _ w sound (x .k) (Linked (x .p) (x .r)) (x .linked) refl)
 
       by : Dec (k ≡ x .k) → cancelled s k (t ∷ h) ≡ true
       by (yes q) =
@@ -171,7 +167,7 @@ module _ (w : World) (c : Call) (a : Applied) (h : History) (sound : Sound (w .s
       by (yes q) =
           bare k
           (ap (markAt (a .reply .state)) q ∙ ap (λ (y : Ehci). markAt y (x .k)) (x .state-is)
-          ∙ ap markIn (finish-idle (w .state) (x .view) (x .k) (x .p) (x .r) (sound .wide) (low (x .k) (Unlinking (x .p) (x .r) (x .u)) (x .unlinking) refl))) m
+          ∙ ap markIn (finish-idle (w .state) (x .view) (x .k) (x .p) (x .r) (sound .wide) (slot-low _ w sound (x .k) (Unlinking (x .p) (x .r) (x .u)) (x .unlinking) refl))) m
       by (no ne) =
           on k (renews-none s k t _ (x .collects) refl (ne-eqb (x .k) k (λ z. ne (sym z))))
           (ap (λ (y : Ehci). markAt y k) (x .state-is)
@@ -195,7 +191,7 @@ module _ (w : World) (c : Call) (a : Applied) (h : History) (sound : Sound (w .s
   keeps-here g (closes x) =
       quiet Other (x .nothing) (λ k. refl) (λ k. refl)
       (λ k. ap (λ (y : Ehci). markAt y k) (x .state-is)
-      ∙ view-stays markIn mark-back (w .state) (x .k) Closed (sound .wide) (low (x .k) (Idle (x .p)) (x .idle) refl) (sym (ap markIn (x .idle))) k) g
+      ∙ view-stays markIn mark-back (w .state) (x .k) Closed (sound .wide) (slot-low _ w sound (x .k) (Idle (x .p)) (x .idle) refl) (sym (ap markIn (x .idle))) k) g
   keeps-here g (rewrites x) = quiet Other (x .nothing) (λ k. refl) (λ k. refl) (λ k. ap (λ (y : Ehci). markAt y k) (x .state-is)) g
   keeps-here g (accepts x) = accepts-marked x g
   keeps-here g (writes-back x) = quiet Other (x .nothing) (λ k. refl) (λ k. refl) (λ k. ap (λ (y : Ehci). markAt y k) (x .state-is)) g

@@ -32,7 +32,7 @@ use Rattle.promises.proofs.effects.Effects.{Effect, Still, Switches, ac
 use Rattle.promises.proofs.invariants.Reached.{opening-is}
 use Rattle.promises.proofs.effects.SlotViews.{view-bell, view-besides, view-boundaries, view-same, view-stays}
 use Rattle.promises.proofs.invariants.Sound.{Sound, slot-low}
-use Rattle.promises.proofs.invariants.UseHeld.{fresh-closed}
+use Rattle.promises.proofs.invariants.BellFacts.{fresh-closed}
 
 -- ---- the kind of a slot
 

@@ -21,13 +21,12 @@ use Rattle.common.proofs.TestLaws.{both-tells}
 use Rattle.state.specs.Slots.{withSlot}
 use Rattle.state.specs.State.{withBell, withBoundaries}
 use Rattle.state.specs.declared.state.Ehci.{Ehci}
-use Rattle.pipe.specs.Endpoints.{endpointAt, withEndpoint}
-use Rattle.pipe.specs.declared.endpoints.Endpoint.{Endpoint}
+use Rattle.pipe.specs.Endpoints.{withEndpoint}
 use Rattle.pipe.specs.declared.endpoints.Endpoint.the-variants.{Closed, Idle, Linked, Unlinking}
 use Rattle.pipe.specs.declared.endpoints.Request.{Request}
 use Rattle.pipe.proofs.EndpointLaws.{bell-wide}
 use Rattle.controller.specs.Readers.{hasEndpoint}
-use Rattle.controller.proofs.ReaderLaws.{open-below, open-within}
+use Rattle.controller.proofs.ReaderLaws.{open-within}
 use Rattle.opening.proofs.HeadLaws.{other-head}
 use Rattle.common.proofs.RowLaws.{Only, put-only}
 use Rattle.endpoint.specs.Calls.{newEndpoint, withHead}
@@ -44,7 +43,7 @@ use Rattle.promises.specs.Runs.{History, Rows, Turn, World, leftBy, rows
 use Rattle.promises.specs.Events.{Drains, Event, Other, Parts, Reads, Unlinks, event, leavesFrames, leavesRing, leaving}
 use Rattle.promises.specs.Uses.{Use, uses, usesAfter}
 use Rattle.promises.proofs.effects.Effects.{Closes, Counts, Hears, Joins, Marks, Opens, Passes, Rewrites, Sides, Still, Unlinked, WritesBack, besides}
-use Rattle.promises.proofs.invariants.Sound.{Sound}
+use Rattle.promises.proofs.invariants.Sound.{Sound, slot-low}
 use Rattle.promises.specs.Rooms.{untold}
 use Rattle.promises.proofs.invariants.UseInv.{Held, HeldIn, Nobody, Tenant, overlayNext, tenantAt, tenantOf}
 use Rattle.promises.proofs.invariants.UseQuiet.{held-quiet}
@@ -141,10 +140,6 @@ module _ (w : World) (c : Call) (a : Applied) (h : History) where
       rowless (uses-by s t h Drains (x .drains)) (ap (λ (y : Ehci). y .owner) (x .state-is))
       (λ k. ap (λ (y : Ehci). tenantAt y k) (x .state-is) ∙ tenant-besides _ (x .sides) k ∙ tenant-boundaries _ _ k ∙ tenant-bell (w .state) _ _ _ k) (x .rows-are)
 
-  -- a slot that is open or has a request is one of 32
-  occupied : (k : ℕ) (x : Endpoint) → endpointAt (w .state) k ≡ x → hasEndpoint x ≡ true → k < 32
-  occupied k x e o = open-below (w .state) k (ap hasEndpoint e ∙ o)
-
   -- the head of a slot without a request is written anew
   rewritten : (k : ℕ) (words : List ℕ) → tenantAt (w .state) k ≡ Nobody → length words ≡ 17 → 17 * (k + 1) + 17 ≤ length (w .rows .heads) → (j : ℕ) → (tenantAt (w .state) j ≡ Nobody → ⊥)
       → overlayNext (withHead (w .rows .heads) k words) j ≡ overlayNext (w .rows .heads) j
@@ -176,7 +171,7 @@ module _ (w : World) (c : Call) (a : Applied) (h : History) where
     closes-held x =
         quiet (uses-by s t h Other (x .nothing)) (ap (λ (y : Ehci). y .owner) (x .state-is))
         (λ j. ap (λ (y : Ehci). tenantAt y j) (x .state-is)
-        ∙ tenant-stays (w .state) (x .k) Closed (sound .wide) (occupied (x .k) (Idle (x .p)) (x .idle) refl) (sym (ap tenantOf (x .idle))) j)
+        ∙ tenant-stays (w .state) (x .k) Closed (sound .wide) (slot-low _ w sound (x .k) (Idle (x .p)) (x .idle) refl) (sym (ap tenantOf (x .idle))) j)
         (λ p. ap (λ (r : Rows). untold (getD (r .pool) p blank)) (x .rows-are))
         (λ j n. ap (λ (r : Rows). overlayNext (r .heads) j) (x .rows-are)
         ∙ rewritten (x .k) (replicate 17 0) (ap tenantOf (x .idle)) refl (omega (arith, below, sound .heads-fit)) j n)
@@ -209,7 +204,7 @@ module _ (w : World) (c : Call) (a : Applied) (h : History) where
     marks-held x =
         rowless (uses-by s t h Other (x .nothing)) (ap (λ (y : Ehci). y .owner) (x .state-is))
         (λ j. ap (λ (y : Ehci). tenantAt y j) (x .state-is)
-        ∙ tenant-stays (w .state) (x .k) (Unlinking (x .p) (marked (x .r)) (x .u)) (sound .wide) (occupied (x .k) (Unlinking (x .p) (x .r) (x .u)) (x .unlinking) refl)
+        ∙ tenant-stays (w .state) (x .k) (Unlinking (x .p) (marked (x .r)) (x .u)) (sound .wide) (slot-low _ w sound (x .k) (Unlinking (x .p) (x .r) (x .u)) (x .unlinking) refl)
         (sym (ap tenantOf (x .unlinking))) j)
         (x .rows-are)
 
@@ -219,7 +214,7 @@ module _ (w : World) (c : Call) (a : Applied) (h : History) where
         quiet (uses-by s t h (leaving s (x .k) (x .readings .frame) t) (x .leaves) ∙ uses-leaving s t (x .k) (x .readings .frame) (uses s h))
         (ap (λ (y : Ehci). y .owner) (x .state-is))
         (λ j. ap (λ (y : Ehci). tenantAt y j) (x .state-is)
-        ∙ tenant-stays (withBell (w .state) _ _ _) (x .k) (Unlinking (x .p) (x .asked) (boundedOf (bellOf (w .state)) (x .p .kind) (x .readings) .boundary)) (bell-wide (w .state) _ _ _ (sound .wide)) (occupied (x .k) (Linked (x .p) (x .r)) (x .linked) refl)
+        ∙ tenant-stays (withBell (w .state) _ _ _) (x .k) (Unlinking (x .p) (x .asked) (boundedOf (bellOf (w .state)) (x .p .kind) (x .readings) .boundary)) (bell-wide (w .state) _ _ _ (sound .wide)) (slot-low _ w sound (x .k) (Linked (x .p) (x .r)) (x .linked) refl)
         (same ∙ sym (tenant-bell (w .state) _ _ _ (x .k) ∙ ap tenantOf (x .linked))) j
         ∙ tenant-bell (w .state) _ _ _ j)
         (λ p. ap (λ (r : Rows). untold (getD (r .pool) p blank)) (x .rows-are))

@@ -1,6 +1,6 @@
 -- A cancelled request is collected as 10; a linked slot finds room; and what the state says is what the history says.
 use Prim.Native.Nat.{ℕ, _+_, _<_}
-use mathlib.Core.Bool.{Bool, true, false, cond, true≢false, false≢true, _&&_}
+use mathlib.Core.Bool.{Bool, true, false, cond, true≢false, false≢true}
 use mathlib.Core.List.{List, [], _∷_}
 use mathlib.Core.Path.{_≡_, refl, sym, ap, subst, _∙_}
 use native.Mathlib.Decide.{ℕ-discrete as decEq}
@@ -47,6 +47,7 @@ use Rattle.promises.proofs.effects.EffectDoor.{through}
 use Rattle.promises.proofs.theorems.BoundaryCalls.{collect-found}
 use Rattle.promises.proofs.theorems.BoundaryCore.{bells-reached, exact, named}
 use Rattle.promises.proofs.any_machine.BoundaryExact.{answered-cancelled}
+use Rattle.common.proofs.TestLaws.{both-tells}
 
 -- ---- the mark of a cancelled request
 
@@ -110,10 +111,6 @@ module _ (w : World) (k id : ℕ) (rd : Readings) (wide : Wide (w .state)) where
 abbrev pub MarkedInv : Settings → History → Ehci → Type 0
 MarkedInv s h e = (k : ℕ) → cancelled s k h ≡ true → isMarked (endpointAt e k) ≡ true
 
-both-true : (a b : Bool) → (a && b) ≡ true → (a ≡ true) × (b ≡ true)
-both-true true b e = (refl, e)
-both-true false b e = absurd (false≢true e)
-
 module _ (s : Settings) (w : World) (c : Call) (h : History) (sound : Sound s w) where
   abbrev a : Applied
   a = core w c
@@ -136,7 +133,7 @@ module _ (s : Settings) (w : World) (c : Call) (h : History) (sound : Sound s w)
       go (Submit j r x) q e = absurd (false≢true e)
       go (Writeback x y) q e = absurd (false≢true e)
       go (Cancel j id rd) q e =
-          let b = both-true (eqb j k) (isDone (a .reply .answer)) e in
+          let b = both-tells (eqb j k) (isDone (a .reply .answer)) e in
           subst (λ (i : ℕ). isMarked (endpointAt (a .reply .state) i) ≡ true) (eqb-true j k (b .0))
           (subst (λ (d : Call). isMarked (endpointAt (core w d .reply .state) j) ≡ true) (sym q)
           (cancel-marks w j id rd (sound .wide) (subst (λ (d : Call). isDone (core w d .reply .answer) ≡ true) q (b .1))))
