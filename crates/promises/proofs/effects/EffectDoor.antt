@@ -19,14 +19,16 @@ use Rattle.opening.specs.Opening.{rowsFit}
 use Rattle.ehci.specs.declared.call.Call.{Call}
 use Rattle.ehci.specs.declared.reply.Answered.{Answered}
 use Rattle.ehci.specs.declared.reply.Answered.the-variants.{Refused}
-use Rattle.ehci.specs.Decides.{asksOf, callOf, decideOf}
+use Rattle.ehci.specs.Decides.{asksOf, callOf, decideOf, came}
 use Rattle.ehci.specs.Door.{Applied, applied, applyOf, carriedOut, seenBy}
-use Rattle.ehci.specs.Replies.{refusedReply, replied}
+use Rattle.ehci.specs.Replies.{refusedReply, replied, settledReply}
 use Rattle.promises.specs.Runs.{Rows, World, core, turnOf}
 use Rattle.promises.specs.Events.{Other, event}
 use Rattle.schedule.specs.Bell.{someRing}
 use Rattle.promises.specs.Opened.{change}
 use Rattle.promises.proofs.effects.Effects.{Effect, Idles, Sides, Switches, besides, still}
+use Rattle.interrupt.specs.Interrupts.{settledOr}
+use Rattle.interrupt.specs.declared.answers.Settled.{Settled}
 
 abbrev pub sidesOf : Ehci → Sides
 sidesOf s =
@@ -105,3 +107,11 @@ through R w c denied done = by (rowsFit (w .state .settings) (length (w .rows .p
         → R w c (core w c)
     by true e = rw e done
     by false e = rw e denied
+
+-- so for a call that settles one flag, unless the state is outside its ranges
+pub settles : (R : World → Call → Applied → Type 0) (w : World) (c : Call) (b : Bool) (new : Settled) → R w c (leaves w c (w .state) (Refused InvalidParameter) noWrites)
+    → R w c (carriedOut (came (settledReply new) (w .rows .heads) (w .rows .frames) (w .rows .setups)) (w .rows .pool))
+    → R w c (carriedOut (came (settledReply (settledOr b (w .state) new)) (w .rows .heads) (w .rows .frames) (w .rows .setups)) (w .rows .pool))
+unfolding settledReply replied
+settles R w c true new denied done = denied
+settles R w c false new denied done = done

@@ -21,7 +21,7 @@ use Rattle.common.specs.Answers.{first}
 use Rattle.common.specs.declared.answer.Answer.the-variants.{Done}
 use Rattle.common.specs.declared.answer.Refusal.the-variants.{InvalidParameter}
 use Rattle.schedule.specs.Links.{same}
-use Rattle.interrupt.specs.Interrupts.{acknowledgeOf, acknowledgeWrites, acknowledgedState, countIf, countedOf, disableOf, drainIf, drainOf, enableOf, heardIf, noteIf, notedAfter, rearmIf, rearmOf, settledOr, clearedOf}
+use Rattle.interrupt.specs.Interrupts.{acknowledgeOf, acknowledgeWrites, acknowledgedState, countIf, countedOf, disableOf, drainIf, drainOf, enableOf, heardIf, noteIf, notedAfter, rearmIf, rearmOf, clearedOf}
 use Rattle.interrupt.specs.declared.answers.Acknowledgement.{Acknowledgement}
 use Rattle.interrupt.specs.declared.answers.Drainage.{Drainage}
 use Rattle.ehci.specs.declared.call.Call.the-variants.{Acknowledge, Disable, Drain, Enable, Rearm}
@@ -34,7 +34,7 @@ use Rattle.promises.specs.Events.{Drains, Other, Reads, isDone}
 use Rattle.schedule.specs.Bell.{someRing}
 use Rattle.promises.proofs.effects.RefusalNumbers.{undone}
 use Rattle.promises.proofs.effects.Effects.{Effect, Sides, counts, hears, joins, passes}
-use Rattle.promises.proofs.effects.EffectDoor.{idles-on, refused-still, rows-kept, sidesOf, still-of, through}
+use Rattle.promises.proofs.effects.EffectDoor.{idles-on, refused-still, rows-kept, sidesOf, still-of, through, settles}
 use Rattle.promises.proofs.effects.EffectRanges.{counted-keeps, interrupt-keeps, joined-none, note-keeps, only-falls, only-joins, only-masked, only-none}
 
 -- ---- acknowledge
@@ -266,38 +266,30 @@ module _ (w : World) where
   -- a flag is set, and USBINTR written
   pub enable-effect : Effect w Enable (core w Enable)
   unfolding enableOf settledReply replied withInterrupt andThen noWrites
-  enable-effect = through Effect w Enable (refused-still w Enable InvalidParameter refl refl) (by (not (inRanges t)))
-    where
-      by : (b : Bool)
-          → Effect w Enable
-          (carriedOut (came (settledReply (settledOr b t (record { answer = Done; state = withInterrupt t 1 (t .pending) (t .masked); writes = andThen noWrites 8 0x27 })))
-          (w .rows .heads) (w .rows .frames) (w .rows .setups)) (w .rows .pool))
-      by true = refused-still w Enable InvalidParameter refl refl
-      by false =
-          still-of w Enable _ _ _ (flagged 1 (t .masked)) refl refl refl
-          (λ r. interrupt-keeps t 1 (t .pending) (t .masked) (omega arith) (r .pending-only) (r .masked-only) r) refl (idles-on t _ refl refl) refl
+  enable-effect =
+      through Effect w Enable (refused-still w Enable InvalidParameter refl refl)
+      (settles Effect w Enable (not (inRanges t)) (record { answer = Done; state = withInterrupt t 1 (t .pending) (t .masked); writes = andThen noWrites 8 0x27 })
+      (refused-still w Enable InvalidParameter refl refl)
+      (still-of w Enable _ _ _ (flagged 1 (t .masked)) refl refl refl
+      (λ r. interrupt-keeps t 1 (t .pending) (t .masked) (omega arith) (r .pending-only) (r .masked-only) r) refl (idles-on t _ refl refl) refl))
 
   pub disable-effect : Effect w Disable (core w Disable)
   unfolding disableOf settledReply replied withInterrupt andThen noWrites
-  disable-effect = through Effect w Disable (refused-still w Disable InvalidParameter refl refl) (by (not (inRanges t)))
-    where
-      by : (b : Bool)
-          → Effect w Disable
-          (carriedOut (came (settledReply (settledOr b t (record { answer = Done; state = withInterrupt t 0 (t .pending) (t .masked); writes = andThen noWrites 8 0 })))
-          (w .rows .heads) (w .rows .frames) (w .rows .setups)) (w .rows .pool))
-      by true = refused-still w Disable InvalidParameter refl refl
-      by false =
-          still-of w Disable _ _ _ (flagged 0 (t .masked)) refl refl refl
-          (λ r. interrupt-keeps t 0 (t .pending) (t .masked) (omega arith) (r .pending-only) (r .masked-only) r) refl (idles-on t _ refl refl) refl
+  disable-effect =
+      through Effect w Disable (refused-still w Disable InvalidParameter refl refl)
+      (settles Effect w Disable (not (inRanges t)) (record { answer = Done; state = withInterrupt t 0 (t .pending) (t .masked); writes = andThen noWrites 8 0 })
+      (refused-still w Disable InvalidParameter refl refl)
+      (still-of w Disable _ _ _ (flagged 0 (t .masked)) refl refl refl
+      (λ r. interrupt-keeps t 0 (t .pending) (t .masked) (omega arith) (r .pending-only) (r .masked-only) r) refl (idles-on t _ refl refl) refl))
 
   pub rearm-effect : Effect w Rearm (core w Rearm)
   unfolding rearmOf settledReply replied withInterrupt andThen noWrites
-  rearm-effect = through Effect w Rearm (refused-still w Rearm InvalidParameter refl refl) (by (not (inRanges t)) (eqb (t .masked) 0))
+  rearm-effect =
+      through Effect w Rearm (refused-still w Rearm InvalidParameter refl refl)
+      (settles Effect w Rearm (not (inRanges t)) _ (refused-still w Rearm InvalidParameter refl refl) (by (eqb (t .masked) 0)))
     where
-      by : (b z : Bool)
-          → Effect w Rearm (carriedOut (came (settledReply (settledOr b t (rearmIf z t))) (w .rows .heads) (w .rows .frames) (w .rows .setups)) (w .rows .pool))
-      by true z = refused-still w Rearm InvalidParameter refl refl
-      by false true = still-of w Rearm _ _ _ (sidesOf t) refl refl refl (λ r. r) refl (idles-on t _ refl refl) refl
-      by false false =
+      by : (z : Bool) → Effect w Rearm (carriedOut (came (settledReply (rearmIf z t)) (w .rows .heads) (w .rows .frames) (w .rows .setups)) (w .rows .pool))
+      by true = still-of w Rearm _ _ _ (sidesOf t) refl refl refl (λ r. r) refl (idles-on t _ refl refl) refl
+      by false =
           still-of w Rearm _ _ _ (flagged (t .enabled) 0) refl refl refl
           (λ r. interrupt-keeps t (t .enabled) (t .pending) 0 (r .enabled-flag) (r .pending-only) (only-none 0x27 (lit< tt)) r) refl (idles-on t _ refl refl) refl

@@ -31,7 +31,7 @@ use Rattle.promises.specs.Opened.{Change, ClosesSlot, Halted, Open, Open
 use Rattle.promises.proofs.effects.Effects.{Effect, Still, Switches, accepts, closes, collects, counts, hears, joins, marks, opens, passes, rewrites, still, unlinks, writes-back}
 use Rattle.promises.proofs.invariants.Reached.{opening-is}
 use Rattle.promises.proofs.effects.SlotViews.{view-bell, view-besides, view-boundaries, view-same, view-stays}
-use Rattle.promises.proofs.invariants.Sound.{Sound, slot-low}
+use Rattle.promises.proofs.invariants.Sound.{Sound, slot-low, of-state}
 use Rattle.promises.proofs.invariants.BellFacts.{fresh-closed}
 
 -- ---- the kind of a slot
@@ -188,4 +188,4 @@ module _ (w : World) (c : Call) (a : Applied) (h : History) (told : Told h (w .s
 
 pub told-keeps : (s : Settings) (h : History) (w : World) (c : Call) (a : Applied) → Sound s w → Told h (w .state) → Effect w c a
     → Told (turnOf (w .rows) c a ∷ h) (leftBy a .state)
-told-keeps s h w c a sound told = told-here w c a h told (subst (λ (z : Settings). Sound z w) (sym (sound .settings-are)) sound)
+told-keeps s h w c a sound told = told-here w c a h told (of-state s w sound)

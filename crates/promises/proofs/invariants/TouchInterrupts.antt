@@ -17,20 +17,19 @@ use Rattle.common.specs.Answers.{first}
 use Rattle.common.specs.declared.answer.Refusal.the-variants.{InvalidParameter}
 use Rattle.common.proofs.CheckLaws.{settled-by}
 use Rattle.schedule.specs.Bell.{advancedOf, mustRing, ringOf, someRing}
-use Rattle.interrupt.specs.Interrupts.{acknowledgeOf, acknowledgeWrites, acknowledgedState, countIf, countedOf, disableOf, drainIf, drainOf, enableOf, heardIf, maskWord, rearmIf, rearmOf, settledOr, clearedOf}
+use Rattle.interrupt.specs.Interrupts.{acknowledgeOf, acknowledgeWrites, acknowledgedState, countIf, countedOf, disableOf, drainIf, drainOf, enableOf, heardIf, maskWord, rearmIf, rearmOf, clearedOf}
 use Rattle.interrupt.specs.declared.answers.Acknowledgement.{Acknowledgement}
 use Rattle.interrupt.specs.declared.answers.Drainage.{Drainage}
 use Rattle.ehci.specs.declared.call.Call.{Call}
 use Rattle.ehci.specs.declared.call.Call.the-variants.{Acknowledge, Drain, Rearm, Enable, Disable}
 use Rattle.ehci.specs.declared.call.InterruptReadings.{InterruptReadings}
-use Rattle.ehci.specs.declared.reply.Answered.the-variants.{Refused}
 use Rattle.ehci.specs.Decides.{acknowledgeDecided, acknowledgeReply, came, drainDecided, drainReply}
 use Rattle.ehci.specs.Door.{carriedOut}
 use Rattle.ehci.specs.Replies.{replied, settledReply}
 use Rattle.promises.specs.Runs.{World, core}
 use Rattle.promises.specs.Registers as R
 use Rattle.promises.specs.Registers.{acknowledged, leftOf, ring}
-use Rattle.promises.proofs.effects.EffectDoor.{leaves, through}
+use Rattle.promises.proofs.effects.EffectDoor.{through, settles}
 use Rattle.promises.proofs.effects.RefusalNumbers.{undone}
 use Rattle.interrupt.specs.declared.answers.Settled.{Settled}
 use Rattle.promises.proofs.effects.EffectInterrupts.{taken-done}
@@ -166,28 +165,23 @@ module _ (w : World) where
   rearmed false false e f =
       record { pending = refl; masked = refl; enabled = λ c q. q; step = refl; wrote = rw (e, f) }
 
-  settled-touches : (c : Call) (b : Bool) (new : Settled) → Touches w c (leaves w c s (Refused InvalidParameter) noWrites) → Settles c new → Settles c (settledOr b s new)
-  unfolding settledReply replied
-  settled-touches c true new denied done = denied
-  settled-touches c false new denied done = done
-
   pub rearm-touches : Touches w Rearm (core w Rearm)
   unfolding rearmOf
   rearm-touches =
       through Touches w Rearm (refused-touches w Rearm InvalidParameter refl refl)
-      (settled-touches Rearm (not (inRanges s)) _ (refused-touches w Rearm InvalidParameter refl refl)
+      (settles Touches w Rearm (not (inRanges s)) _ (refused-touches w Rearm InvalidParameter refl refl)
       (rearmed (eqb (s .masked) 0) (eqb (s .enabled) 0) refl refl))
 
   pub enable-touches : Touches w Enable (core w Enable)
   unfolding enableOf settledReply replied withInterrupt andThen noWrites
   enable-touches =
       through Touches w Enable (refused-touches w Enable InvalidParameter refl refl)
-      (settled-touches Enable (not (inRanges s)) (record { answer = A.Done; state = withInterrupt s 1 (s .pending) (s .masked); writes = andThen noWrites 8 0x27 }) (refused-touches w Enable InvalidParameter refl refl)
+      (settles Touches w Enable (not (inRanges s)) (record { answer = A.Done; state = withInterrupt s 1 (s .pending) (s .masked); writes = andThen noWrites 8 0x27 }) (refused-touches w Enable InvalidParameter refl refl)
       (record { pending = refl; masked = refl; enabled = λ b q. refl; step = refl; wrote = refl }))
 
   pub disable-touches : Touches w Disable (core w Disable)
   unfolding disableOf settledReply replied withInterrupt andThen noWrites
   disable-touches =
       through Touches w Disable (refused-touches w Disable InvalidParameter refl refl)
-      (settled-touches Disable (not (inRanges s)) (record { answer = A.Done; state = withInterrupt s 0 (s .pending) (s .masked); writes = andThen noWrites 8 0 }) (refused-touches w Disable InvalidParameter refl refl)
+      (settles Touches w Disable (not (inRanges s)) (record { answer = A.Done; state = withInterrupt s 0 (s .pending) (s .masked); writes = andThen noWrites 8 0 }) (refused-touches w Disable InvalidParameter refl refl)
       (record { pending = refl; masked = refl; enabled = λ b q. refl; step = refl; wrote = refl }))

@@ -1,20 +1,16 @@
 -- What a collect and a cancel answer, by the endpoint that they find.
-use Prim.Native.Nat.{ℕ, _+_, _*_}
+use Prim.Native.Nat.{ℕ}
 use mathlib.Core.Bool.{true, false≢true}
-use mathlib.Core.Path.{_≡_, refl, sym, ap, _∙_}
+use mathlib.Core.Path.{_≡_, refl, sym, _∙_}
 use borrow.Author.Tests.{eq-eqb}
 use lib.ListN.{length}
 use Rattle.settings.specs.declared.settings.Settings.{Settings}
 use Rattle.state.specs.declared.state.Ehci.{Ehci}
-use Rattle.state.proofs.RangesLaws.{ranges-make}
 use Rattle.pipe.specs.Endpoints.{endpointAt}
 use Rattle.pipe.specs.declared.endpoints.Endpoint.the-variants.{Unlinking}
 use Rattle.pipe.specs.declared.endpoints.Pipe.{Pipe}
 use Rattle.pipe.specs.declared.endpoints.Request.{Request}
 use Rattle.pipe.specs.declared.endpoints.UnlinkBoundary.{UnlinkBoundary}
-use Rattle.opening.specs.Opening.{rowsFit}
-use Rattle.opening.proofs.OpenLaws.{rows-make}
-use Rattle.controller.specs.Lent.{acceptsOf, lengths}
 use Rattle.controller.specs.declared.lent.Readings.{Readings}
 use Rattle.collection.specs.Answers.{outcomeOf}
 use Rattle.collection.specs.Calls.{Gathered, collectOf, finishOf, pendingLeft, unlinkingOf}
@@ -30,7 +26,7 @@ use Rattle.promises.specs.Events.{isCollected}
 use Rattle.promises.proofs.effects.EffectDoor.{seen, through}
 use Rattle.promises.proofs.effects.EffectRequests.{outcome-collected}
 use Rattle.promises.proofs.effects.RefusalNumbers.{uncollected}
-use Rattle.promises.proofs.invariants.Sound.{Sound}
+use Rattle.promises.proofs.invariants.Sound.{Sound, let-in, rows-fit}
 
 -- what a collect that collects found
 pub record Found (w : World) (k id : ℕ) (readings : Readings) (a : Answered) : Type 0 where
@@ -67,22 +63,7 @@ module _ (w : World) (k id : ℕ) (rd : Readings) where
 
   -- and what makes a collect collect
   module _ (z : Settings) (sound : Sound z w) where
-    fits : rowsFit (s .settings) (length (w .rows .pool)) (length (w .rows .heads)) (length (w .rows .frames)) (length (w .rows .setups)) ≡ true
-    fits =
-        let same = sound .settings-are in
-        rows-make (s .settings) (length (w .rows .pool)) (length (w .rows .heads)) (length (w .rows .frames)) (length (w .rows .setups))
-        (record {
-          pool-fits = sound .pool-fits ∙ ap (λ (x : Settings). x .descriptors) (sym same);
-          heads-fit = sound .heads-fit ∙ ap (λ (x : Settings). 17 * (x .endpoints + 1)) (sym same);
-          frames-fit = sound .frames-fit;
-          setups-fit = sound .setups-fit ∙ ap (λ (x : Settings). 8 * x .endpoints) (sym same);
-        })
-
-    accepted : acceptsOf s (lengths (length (w .rows .pool)) (length (w .rows .heads)) (length (w .rows .frames)) (length (w .rows .setups))) ≡ true
-    unfolding acceptsOf
-    accepted = rw (fits, ranges-make s (sound .ranges))
-
     pub collect-makes : (p : Pipe) (r : Request) (u : UnlinkBoundary) → endpointAt s k ≡ Unlinking p r u → r .id ≡ id → passedBoundary u (rd .frame) ≡ true
         → isCollected (core w (Collect k id rd) .reply .answer) ≡ true
     unfolding applyOf decideOf collectDecided collectOf unlinkingOf finishOf replied
-    collect-makes p r u e same passed = rw (fits, accepted, e, eq-eqb (r .id) id same, passed) (outcome-collected (r .cancelled) (seen w (Collect k id rd)))
+    collect-makes p r u e same passed = rw (rows-fit z w sound, let-in z w sound, e, eq-eqb (r .id) id same, passed) (outcome-collected (r .cancelled) (seen w (Collect k id rd)))

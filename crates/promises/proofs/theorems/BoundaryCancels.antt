@@ -3,7 +3,6 @@ use Prim.Native.Nat.{ℕ, _+_, _<_}
 use mathlib.Core.Bool.{Bool, true, false, cond, true≢false, false≢true}
 use mathlib.Core.List.{List, [], _∷_}
 use mathlib.Core.Path.{_≡_, refl, sym, ap, subst, _∙_}
-use native.Mathlib.Decide.{ℕ-discrete as decEq}
 use native.Mathlib.Omega.{arith}
 use borrow.Author.Tests.{eq-eqb, eqb-true, lt-ltb, ne-eqb}
 use lib.Dec.{eqb}
@@ -149,26 +148,10 @@ module _ (s : Settings) (w : World) (c : Call) (h : History) (sound : Sound s w)
   stays-marked (Summary.quiets x) k n m = marked-kept (endpointAt (w .state) k) (endpointAt (a .reply .state) k) (x .kept k) m
   stays-marked (Summary.answers x) k n m = ap isMarked (x .kept k) ∙ m
   stays-marked (Summary.advances x) k n m = ap isMarked (x .falls k) ∙ marked-falls (endpointAt (w .state) k) ∙ m
-  stays-marked (Summary.comes x) k n m = at (decEq k (x .k))
-    where
-      at : Dec (k ≡ x .k) → isMarked (endpointAt (a .reply .state) k) ≡ true
-      at (yes e) = absurd (false≢true (ap (λ (y : Endpoint). isMarked y) (sym (ap (endpointAt (w .state)) e ∙ x .was)) ∙ m))
-      at (no ne) = ap isMarked (x .others k ne) ∙ m
-  stays-marked (Summary.goes x) k n m = at (decEq k (x .k))
-    where
-      at : Dec (k ≡ x .k) → isMarked (endpointAt (a .reply .state) k) ≡ true
-      at (yes e) = absurd (false≢true (ap (λ (y : Endpoint). isMarked y) (sym (ap (endpointAt (w .state)) e ∙ x .was)) ∙ m))
-      at (no ne) = ap isMarked (x .others k ne) ∙ m
-  stays-marked (Summary.departs x) k n m = at (decEq k (x .k))
-    where
-      at : Dec (k ≡ x .k) → isMarked (endpointAt (a .reply .state) k) ≡ true
-      at (yes e) = absurd (false≢true (ap (λ (y : Endpoint). isMarked y) (sym (ap (endpointAt (w .state)) e ∙ x .was)) ∙ m))
-      at (no ne) = ap isMarked (x .others k ne) ∙ m
-  stays-marked (Summary.ends x) k n m = at (decEq k (x .k))
-    where
-      at : Dec (k ≡ x .k) → isMarked (endpointAt (a .reply .state) k) ≡ true
-      at (yes e) = absurd (true≢false (sym (rw (x .event-is, eq-eqb (x .k) k (sym e))) ∙ n))
-      at (no ne) = ap isMarked (x .others k ne) ∙ m
+  stays-marked (Summary.comes x) k n m = ap isMarked (x .others k (λ e. false≢true (ap isMarked (sym (ap (endpointAt (w .state)) e ∙ x .was)) ∙ m))) ∙ m
+  stays-marked (Summary.goes x) k n m = ap isMarked (x .others k (λ e. false≢true (ap isMarked (sym (ap (endpointAt (w .state)) e ∙ x .was)) ∙ m))) ∙ m
+  stays-marked (Summary.departs x) k n m = ap isMarked (x .others k (λ e. false≢true (ap isMarked (sym (ap (endpointAt (w .state)) e ∙ x .was)) ∙ m))) ∙ m
+  stays-marked (Summary.ends x) k n m = ap isMarked (x .others k (λ e. true≢false (sym (rw (x .event-is, eq-eqb (x .k) k (sym e))) ∙ n))) ∙ m
 
   pub marks-keep : Summary s w c a h → MarkedInv s h (w .state) → MarkedInv s (t ∷ h) (a .reply .state)
   unfolding cancelled

@@ -30,7 +30,7 @@ use Rattle.promises.specs.Events.{Collects, Other, Parts, Unlinks, event
 use Rattle.promises.specs.Chains.{isFinished}
 use Rattle.promises.proofs.effects.Effects.{Unlinked}
 use Rattle.promises.proofs.effects.EffectDoor.{rows-kept}
-use Rattle.promises.proofs.invariants.Sound.{Sound, slot-low}
+use Rattle.promises.proofs.invariants.Sound.{Sound, slot-low, let-in, rows-fit}
 use Rattle.promises.proofs.invariants.ChainInv.{Chained}
 use Rattle.promises.proofs.invariants.ChainEvents.{unlink-event}
 use lib.Dec.{eqb}
@@ -43,7 +43,7 @@ use Rattle.pool.specs.Places.{placesFrom}
 use Rattle.pool.proofs.PlaceLaws.{list-packed}
 use Rattle.collection.specs.Asks.{askOf, askable, requestAsk}
 use Rattle.collection.specs.Answers.{pendingCollect}
-use Rattle.promises.proofs.theorems.ChainCancels.{accepted, fits, no-detach-fails}
+use Rattle.promises.proofs.theorems.ChainCancels.{no-detach-fails}
 use Rattle.promises.proofs.effects.EffectRequests.{none-leaves}
 
 -- ---- finished, as its descriptors say
@@ -74,13 +74,13 @@ module _ (s : Settings) (h : History) (w : World) (sound : Sound s w) (x : Chain
 
   collect-comes : core w call ≡ carriedOut (withSetups (collectCame gathers) (w .rows .setups)) (w .rows .pool)
   unfolding applyOf decideOf collectDecided
-  collect-comes = rw (fits s h w sound x k)
+  collect-comes = rw (rows-fit s w sound)
 
   -- not finished: 9, and nothing changes
   unfinished-is : view .stage ≡ 2 → gathers ≡ gathered (pendingCollect (w .state)) (w .rows .heads) (w .rows .frames)
   unfinished-is q =
       collect-active (w .state) (length (w .rows .pool)) (w .rows .heads) (w .rows .frames) (length (w .rows .setups)) rd view k p r
-      (accepted s h w sound x k) e roomy q
+      (let-in s w sound) e roomy q
 
   abbrev unlinked : Gathered
   unlinked =
@@ -93,7 +93,7 @@ module _ (s : Settings) (h : History) (w : World) (sound : Sound s w) (x : Chain
   unfolding unlinkOf waitingOf
   finished-is n =
       collect-unlinks (w .state) (length (w .rows .pool)) (w .rows .heads) (w .rows .frames) (length (w .rows .setups)) rd view k p r
-      (accepted s h w sound x k) e roomy n
+      (let-in s w sound) e roomy n
       ∙ rw (no-detach-fails s h w sound x k p r e)
 
   comes-as : (g : Gathered) → gathers ≡ g → core w call ≡ carriedOut (withSetups (collectCame g) (w .rows .setups)) (w .rows .pool)
