@@ -3,7 +3,6 @@ use Prim.Native.Nat.{ℕ, _<_}
 use mathlib.Core.Path.{_≡_, refl, ap, _∙_}
 use mathlib.Core.Bool.{Bool, true, false, cond}
 use mathlib.Core.List.{List}
-use mathlib.Core.Logic.{inr}
 use borrow.Author.Tests.{eq-eqb, lt-leb}
 use Rattle.settings.specs.declared.settings.Settings.{Settings}
 use Rattle.state.specs.declared.state.Ehci.{Ehci}
@@ -23,12 +22,10 @@ use Rattle.ehci.specs.declared.reply.Given.the-variants.{Nothing}
 use Rattle.ehci.specs.Decides.{cancelCame, cancelDecided, decideOf, withSetups}
 use Rattle.ehci.specs.Door.{Applied, applyOf, carriedOut}
 use Rattle.ehci.specs.Replies.{replied}
-use Rattle.promises.specs.Runs.{Always, History, World, core, rowsOf, turnOf}
+use Rattle.promises.specs.Runs.{Always, History, World, core, turnOf}
 use Rattle.promises.specs.Events.{Parts, Unlinks, event}
 use Rattle.promises.specs.Uses.{frameSlots, ringSlots}
-use Rattle.promises.specs.Bells.{cancelsBy}
-use Rattle.promises.proofs.effects.Effects.{Unlinked}
-use Rattle.promises.proofs.effects.EffectDoor.{rows-kept}
+use Rattle.promises.proofs.effects.EffectRequests.{cancel-unlinked}
 use Rattle.promises.proofs.invariants.Sound.{Sound, let-in, rows-fit}
 use Rattle.promises.proofs.invariants.ChainInv.{Chained, heads-long, linkedIn}
 use Rattle.promises.proofs.invariants.ChainDetach.{Met, at-first, at-later, frames-met, ring-met}
@@ -63,27 +60,6 @@ module _ (s : Settings) (h : History) (w : World) (sound : Sound s w) (x : Chain
     unfolding applyOf decideOf cancelDecided cancelOf unlinkOf
     cancel-comes = rw (rows-fit s w sound, let-in s w sound, e, lt-leb 32 (w .state .unanswered) roomy, eq-eqb (r .id) (r .id) refl, no-detach-fails p r e)
 
-    cancel-unlinked : Unlinked w (Cancel k (r .id) rd) (core w (Cancel k (r .id) rd))
-    unfolding replied waitingOf
-    cancel-unlinked =
-        record {
-          k = k;
-          p = p;
-          r = r;
-          asked = marked r;
-          readings = rd;
-          linked = e;
-          same-request = inr refl;
-          cancels = inr (ap (λ (z : Applied). cancelsBy k (Cancel k (r .id) rd) (z .reply .answer)) cancel-comes ∙ rw (eq-eqb k k refl));
-          uncrowded = roomy;
-          found = no-detach-fails p r e;
-          state-is = ap (λ (z : Applied). z .reply .state) cancel-comes;
-          rows-are = ap rowsOf cancel-comes ∙ rows-kept w (Cancel k (r .id) rd) (unlinked .rows .heads) (unlinked .rows .frames) (w .rows .setups);
-          writes-are = ap (λ (z : Applied). z .reply .writes) cancel-comes;
-          leaves = refl;
-          same = refl;
-        }
-
     cancel-done : core w (Cancel k (r .id) rd) .reply .answer ≡ Done Nothing
     unfolding replied waitingOf
     cancel-done = ap (λ (z : Applied). z .reply .answer) cancel-comes
@@ -91,7 +67,11 @@ module _ (s : Settings) (h : History) (w : World) (sound : Sound s w) (x : Chain
     pub cancel-unlinks : (core w (Cancel k (r .id) rd) .reply .answer ≡ Done Nothing)
         × (event s (turnOf (w .rows) (Cancel k (r .id) rd) (core w (Cancel k (r .id) rd))) ≡ cond (isInterrupt (p .kind)) (Parts k (rd .frame)) (Unlinks k))
     unfolding cancel-unlinked
-    cancel-unlinks = (cancel-done, unlink-event s h w (Cancel k (r .id) rd) (core w (Cancel k (r .id) rd)) sound x cancel-unlinked)
+    cancel-unlinks = (
+      cancel-done,
+      ap (λ (z : Applied). event s (turnOf (w .rows) (Cancel k (r .id) rd) z)) cancel-comes
+      ∙ unlink-event s h w (Cancel k (r .id) rd) _ sound x (cancel-unlinked w k (r .id) rd p r e roomy (no-detach-fails p r e)),
+    )
 
   -- a cancel of a request that is unlinking marks it
   module _ (rd : Readings) (p : Pipe) (r : Request) (u : UnlinkBoundary) (e : endpointAt (w .state) k ≡ Unlinking p r u) where
