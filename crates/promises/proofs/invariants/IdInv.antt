@@ -1,21 +1,19 @@
 -- Each slot's next id is the one that the history says.
-use Prim.Native.Nat.{ℕ, _<_}
+use Prim.Native.Nat.{ℕ}
 use mathlib.Core.Bool.{Bool, true, false, cond}
 use mathlib.Core.List.{[], _∷_}
 use mathlib.Core.Path.{_≡_, refl, sym, ap, subst, _∙_}
 use native.Mathlib.Decide.{ℕ-discrete as decEq}
 use native.Mathlib.Omega.{arith}
-use borrow.Author.Tests.{eq-eqb, ne-eqb}
-use lib.Dec.{eqb, ltb}
+use borrow.Author.Tests.{ne-eqb}
+use lib.Dec.{eqb}
 use Rattle.settings.specs.declared.settings.Settings.{Settings}
-use Rattle.common.proofs.TestLaws.{false-true}
-use Rattle.state.specs.Slots.{slotAt}
 use Rattle.state.specs.State.{withBell, withOwner}
 use Rattle.state.specs.declared.state.Ehci.{Ehci}
-use Rattle.pipe.specs.Endpoints.{decoded, encoded, endpointAt, withEndpoint}
+use Rattle.pipe.specs.Endpoints.{decoded, encoded, endpointAt}
 use Rattle.pipe.specs.declared.endpoints.Endpoint.{Endpoint}
 use Rattle.pipe.specs.declared.endpoints.Endpoint.the-variants.{Closed, Idle, Linked, Unlinking}
-use Rattle.pipe.proofs.EndpointLaws.{Wide, bell-wide, endpoint-other, owner-aside, owner-wide}
+use Rattle.pipe.proofs.EndpointLaws.{bell-wide, owner-aside, owner-wide}
 use Rattle.controller.specs.Readers.{isOpen}
 use Rattle.controller.proofs.ReaderLaws.{open-below}
 use Rattle.schedule.specs.Bell.{bellOf}
@@ -30,7 +28,7 @@ use Rattle.promises.specs.Events.{Event, Other, Reads, Drains, Submits, 
 use Rattle.promises.specs.Opened.{Change, ClosesSlot, Halted, OpensSlot, Running, Same, change}
 use Rattle.promises.specs.Ids.{following, nextId, startBy, takenBy}
 use Rattle.promises.proofs.effects.Effects.{Effect, Still, Switches, accepts, closes, collects, counts, hears, joins, marks, opens, passes, rewrites, still, unlinks, writes-back}
-use Rattle.promises.proofs.effects.SlotViews.{view-bell, view-besides, view-boundaries, view-same, view-stays}
+use Rattle.promises.proofs.effects.SlotViews.{view-bell, view-besides, view-boundaries, view-stays, view-given, view-open}
 use Rattle.promises.proofs.invariants.Reached.{opening-is}
 use Rattle.promises.proofs.invariants.Sound.{Sound, slot-low}
 use Rattle.promises.proofs.invariants.BellFacts.{fresh-closed}
@@ -53,32 +51,9 @@ next-again (Idle p) = refl
 next-again (Linked p r) = refl
 next-again (Unlinking p r b) = refl
 
-module _ (s : Ehci) (k : ℕ) (x : Endpoint) (w : Wide s) (low : k < 32) where
-  -- slot k is given that endpoint
-  next-given : (j : ℕ) → nextNow (withEndpoint s k x) j ≡ cond (eqb k j) (nextIn x) (nextNow s j)
-  next-given j = by (decEq k j)
-    where
-      by : Dec (k ≡ j) → nextNow (withEndpoint s k x) j ≡ cond (eqb k j) (nextIn x) (nextNow s j)
-      by (yes e) =
-          ap (nextNow (withEndpoint s k x)) (sym e) ∙ view-same nextIn next-again s k x w low
-          ∙ sym (ap (λ (b : Bool). cond b (nextIn x) (nextNow s j)) (eq-eqb k j e))
-      by (no ne) = ap nextIn (endpoint-other s k x j (λ e. ne (sym e))) ∙ sym (ap (λ (b : Bool). cond b (nextIn x) (nextNow s j)) (ne-eqb k j ne))
-
-  next-stays : nextIn x ≡ nextNow s k → (j : ℕ) → nextNow (withEndpoint s k x) j ≡ nextNow s j
-  next-stays = view-stays nextIn next-again s k x w low
-
 -- it is the slot's id
 pub next-slot : (s : Ehci) (k : ℕ) → isOpen s k ≡ true → nextNow s k ≡ idAt s k
-unfolding endpointAt decoded
-next-slot s k o = by (ltb k 32) refl (eqb (slotAt s k .phase) 1) refl (eqb (slotAt s k .phase) 2) refl (eqb (slotAt s k .phase) 3) refl o
-  where
-    by : (a : Bool) → ltb k 32 ≡ a → (x : Bool) → eqb (slotAt s k .phase) 1 ≡ x → (y : Bool) → eqb (slotAt s k .phase) 2 ≡ y → (z : Bool) → eqb (slotAt s k .phase) 3 ≡ z
-        → isOpen s k ≡ true → nextNow s k ≡ idAt s k
-    by true a true p y q z r o = rw (a, p)
-    by true a false p true q z r o = rw (a, p, q)
-    by true a false p false q true r o = rw (a, p, q, r)
-    by true a false p false q false r o = absurd (false-true (rw (a, p, q, r) at o))
-    by false a x p y q z r o = absurd (false-true (rw a at o))
+next-slot s k o = view-open nextIn s k o (idAt s k) refl refl (λ b. refl)
 
 after-follows : (n : ℕ) → afterId n ≡ following n
 unfolding afterId
@@ -155,16 +130,16 @@ module _ (w : World) (c : Call) (a : Applied) (h : History) (told : IdsTold (w .
   told-here (opens x) =
       told-by Other (OpensSlot (x .k) (x .kind)) (x .nothing) (x .changes)
       (λ j. sym (ap (λ (y : Ehci). nextNow y j) (x .state-is)
-      ∙ next-given old (x .k) (newEndpoint (x .kind)) (sound .wide) (omega (arith, x .below, sound .ranges .good .endpoints-most)) j))
+      ∙ view-given nextIn next-again old (x .k) (newEndpoint (x .kind)) (sound .wide) (omega (arith, x .below, sound .ranges .good .endpoints-most)) j))
   told-here (closes x) =
       told-by Other (ClosesSlot (x .k)) (x .nothing) (x .changes)
       (λ j. sym (ap (λ (y : Ehci). nextNow y j) (x .state-is)
-      ∙ next-given old (x .k) Closed (sound .wide) (slot-low _ w sound (x .k) (Idle (x .p)) (x .idle) refl) j))
+      ∙ view-given nextIn next-again old (x .k) Closed (sound .wide) (slot-low _ w sound (x .k) (Idle (x .p)) (x .idle) refl) j))
   told-here (rewrites x) = told-by Other Same (x .nothing) (x .same) (λ k. sym (ap (λ (y : Ehci). nextNow y k) (x .state-is)))
   told-here (accepts x) =
       told-by (Submits (x .k) (idAt old (x .k)) (x .t)) Same (x .submits) (x .same)
       (λ j. sym (ap (λ (y : Ehci). nextNow y j) (x .state-is)
-      ∙ next-given (withOwner old _) (x .k) (linkedWith old (x .k) (x .t)) (owner-wide old _ (sound .wide)) (open-below old (x .k) (x .judged .opened)) j
+      ∙ view-given nextIn next-again (withOwner old _) (x .k) (linkedWith old (x .k) (x .t)) (owner-wide old _ (sound .wide)) (open-below old (x .k) (x .judged .opened)) j
       ∙ ap (λ (n : ℕ). cond (eqb (x .k) j) (afterId (idAt old (x .k))) n) (ap nextIn (owner-aside old _ j))
       ∙ ap (λ (n : ℕ). cond (eqb (x .k) j) n (nextNow old j)) (after-follows (idAt old (x .k)) ∙ ap following (sym (next-slot old (x .k) (x .judged .opened))))
       ∙ own (x .k) j))
@@ -179,19 +154,19 @@ module _ (w : World) (c : Call) (a : Applied) (h : History) (told : IdsTold (w .
   told-here (marks x) =
       told-by Other Same (x .nothing) (x .same)
       (λ j. sym (ap (λ (y : Ehci). nextNow y j) (x .state-is)
-      ∙ next-stays old (x .k) (Unlinking (x .p) (marked (x .r)) (x .u)) (sound .wide) (slot-low _ w sound (x .k) (Unlinking (x .p) (x .r) (x .u)) (x .unlinking) refl)
+      ∙ view-stays nextIn next-again old (x .k) (Unlinking (x .p) (marked (x .r)) (x .u)) (sound .wide) (slot-low _ w sound (x .k) (Unlinking (x .p) (x .r) (x .u)) (x .unlinking) refl)
       (sym (ap nextIn (x .unlinking))) j))
   told-here (unlinks x) =
       told-by (leaving (old .settings) (x .k) (x .readings .frame) t) Same (x .leaves) (x .same)
       (λ j. left-takes (old .settings) j (x .k) (x .readings .frame) (nextNow old j) t
       ∙ sym (ap (λ (y : Ehci). nextNow y j) (x .state-is)
-      ∙ next-stays (withBell old _ _ _) (x .k) (Unlinking (x .p) (x .asked) (boundedOf (bellOf old) (x .p .kind) (x .readings) .boundary)) (bell-wide old _ _ _ (sound .wide)) (slot-low _ w sound (x .k) (Linked (x .p) (x .r)) (x .linked) refl)
+      ∙ view-stays nextIn next-again (withBell old _ _ _) (x .k) (Unlinking (x .p) (x .asked) (boundedOf (bellOf old) (x .p .kind) (x .readings) .boundary)) (bell-wide old _ _ _ (sound .wide)) (slot-low _ w sound (x .k) (Linked (x .p) (x .r)) (x .linked) refl)
       (sym (view-bell nextIn old _ _ _ (x .k) ∙ ap nextIn (x .linked))) j
       ∙ view-bell nextIn old _ _ _ j))
   told-here (collects x) =
       told-by (Collects (x .k) (x .r .id) (x .frame)) Same (x .collects) (x .same)
       (λ j. sym (ap (λ (y : Ehci). nextNow y j) (x .state-is)
-      ∙ next-stays (withOwner old _) (x .k) (Idle (x .p)) (owner-wide old _ (sound .wide)) (slot-low _ w sound (x .k) (Unlinking (x .p) (x .r) (x .u)) (x .unlinking) refl)
+      ∙ view-stays nextIn next-again (withOwner old _) (x .k) (Idle (x .p)) (owner-wide old _ (sound .wide)) (slot-low _ w sound (x .k) (Unlinking (x .p) (x .r) (x .u)) (x .unlinking) refl)
       (sym (ap nextIn (owner-aside old _ (x .k)) ∙ ap nextIn (x .unlinking))) j
       ∙ ap nextIn (owner-aside old _ j)))
 

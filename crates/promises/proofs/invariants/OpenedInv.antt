@@ -1,21 +1,18 @@
 -- The tie between the slots and the running that a history tells of and a state.
 use Prim.Native.Nat.{ℕ, _<_}
-use mathlib.Core.Bool.{Bool, true, false, cond}
+use mathlib.Core.Bool.{true, cond}
 use mathlib.Core.List.{[], _∷_}
 use mathlib.Core.Path.{_≡_, refl, sym, ap, subst, _∙_}
-use native.Mathlib.Decide.{ℕ-discrete as decEq}
 use native.Mathlib.Omega.{arith}
-use borrow.Author.Tests.{eq-eqb, ne-eqb}
-use lib.Dec.{eqb, ltb}
+use lib.Dec.{eqb}
 use Rattle.settings.specs.declared.settings.Settings.{Settings}
-use Rattle.common.proofs.TestLaws.{false-true}
 use Rattle.state.specs.Slots.{slotAt, withSlot}
 use Rattle.state.specs.State.{withBell, withBoundaries, withOwner}
 use Rattle.state.specs.declared.state.Ehci.{Ehci}
-use Rattle.pipe.specs.Endpoints.{decoded, encoded, endpointAt, flagNumber, kindOf, withEndpoint}
+use Rattle.pipe.specs.Endpoints.{decoded, encoded, flagNumber, kindOf, withEndpoint}
 use Rattle.pipe.specs.declared.endpoints.Endpoint.{Endpoint}
 use Rattle.pipe.specs.declared.endpoints.Endpoint.the-variants.{Closed, Idle, Linked, Unlinking}
-use Rattle.pipe.proofs.EndpointLaws.{Wide, bell-wide, endpoint-other, kind-there, owner-aside, owner-wide}
+use Rattle.pipe.proofs.EndpointLaws.{Wide, bell-wide, kind-there, owner-aside, owner-wide}
 use Rattle.opening.specs.Opening.{freshState}
 use Rattle.controller.specs.Readers.{isOpen}
 use Rattle.controller.proofs.ReaderLaws.{open-below}
@@ -30,7 +27,7 @@ use Rattle.promises.specs.Runs.{History, Opening, Turn, World, leftBy, t
 use Rattle.promises.specs.Opened.{Change, ClosesSlot, Halted, Open, OpensSlot, Running, Same, SlotKind, change, kindNow, kindIn, runsAfter, runsIn, slotAfter, slotIn}
 use Rattle.promises.proofs.effects.Effects.{Effect, Still, Switches, accepts, closes, collects, counts, hears, joins, marks, opens, passes, rewrites, still, unlinks, writes-back}
 use Rattle.promises.proofs.invariants.Reached.{opening-is}
-use Rattle.promises.proofs.effects.SlotViews.{view-bell, view-besides, view-boundaries, view-same, view-stays}
+use Rattle.promises.proofs.effects.SlotViews.{view-bell, view-besides, view-boundaries, view-stays, view-given, view-open}
 use Rattle.promises.proofs.invariants.Sound.{Sound, slot-low, of-state}
 use Rattle.promises.proofs.invariants.BellFacts.{fresh-closed}
 
@@ -44,33 +41,9 @@ kind-again (Idle p) = rw (kind-there (p .kind))
 kind-again (Linked p r) = rw (kind-there (p .kind))
 kind-again (Unlinking p r b) = rw (kind-there (p .kind))
 
-module _ (s : Ehci) (k : ℕ) (x : Endpoint) (w : Wide s) (low : k < 32) where
-  -- slot k is given that endpoint
-  kind-given : (j : ℕ) → kindNow (withEndpoint s k x) j ≡ cond (eqb k j) (kindIn x) (kindNow s j)
-  kind-given j = by (decEq k j)
-    where
-      by : Dec (k ≡ j) → kindNow (withEndpoint s k x) j ≡ cond (eqb k j) (kindIn x) (kindNow s j)
-      by (yes e) =
-          ap (kindNow (withEndpoint s k x)) (sym e) ∙ view-same kindIn kind-again s k x w low
-          ∙ sym (ap (λ (b : Bool). cond b (kindIn x) (kindNow s j)) (eq-eqb k j e))
-      by (no ne) = ap kindIn (endpoint-other s k x j (λ e. ne (sym e))) ∙ sym (ap (λ (b : Bool). cond b (kindIn x) (kindNow s j)) (ne-eqb k j ne))
-
-  -- an endpoint of the same kind
-  kind-stays : kindIn x ≡ kindNow s k → (j : ℕ) → kindNow (withEndpoint s k x) j ≡ kindNow s j
-  kind-stays = view-stays kindIn kind-again s k x w low
-
 -- the kind of an open slot is what its number stands for
 pub kind-slot : (s : Ehci) (k : ℕ) → isOpen s k ≡ true → kindNow s k ≡ Open (kindOf (slotAt s k .kind))
-unfolding endpointAt decoded
-kind-slot s k o = by (ltb k 32) refl (eqb (slotAt s k .phase) 1) refl (eqb (slotAt s k .phase) 2) refl (eqb (slotAt s k .phase) 3) refl o
-  where
-    by : (a : Bool) → ltb k 32 ≡ a → (x : Bool) → eqb (slotAt s k .phase) 1 ≡ x → (y : Bool) → eqb (slotAt s k .phase) 2 ≡ y → (z : Bool) → eqb (slotAt s k .phase) 3 ≡ z
-        → isOpen s k ≡ true → kindNow s k ≡ Open (kindOf (slotAt s k .kind))
-    by true a true p y q z r o = rw (a, p)
-    by true a false p true q z r o = rw (a, p, q)
-    by true a false p false q true r o = rw (a, p, q, r)
-    by true a false p false q false r o = absurd (false-true (rw (a, p, q, r) at o))
-    by false a x p y q z r o = absurd (false-true (rw a at o))
+kind-slot s k o = view-open kindIn s k o (Open (kindOf (slotAt s k .kind))) refl refl (λ b. refl)
 
 -- ---- the invariant
 
@@ -128,7 +101,7 @@ module _ (w : World) (c : Call) (a : Applied) (h : History) (told : Told h (w .s
   unfolding withEndpoint withSlot
   given-told x k y e is wide low slots run =
       told-by x e
-      (λ j. slots j ∙ ap (λ (z : SlotKind). cond (eqb k j) (kindIn y) z) (told .slots j) ∙ sym (ap (λ (z : Ehci). kindNow z j) is ∙ kind-given old k y wide low j))
+      (λ j. slots j ∙ ap (λ (z : SlotKind). cond (eqb k j) (kindIn y) z) (told .slots j) ∙ sym (ap (λ (z : Ehci). kindNow z j) is ∙ view-given kindIn kind-again old k y wide low j))
       (ap (λ (z : Ehci). z .running) is ∙ told .runs ∙ sym (ap flagNumber run))
 
   module _ (sound : Sound (w .state .settings) w) where
@@ -159,7 +132,7 @@ module _ (w : World) (c : Call) (a : Applied) (h : History) (told : Told h (w .s
     told-here (accepts x) =
         unchanged (x .same)
         (λ j. ap (λ (y : Ehci). kindNow y j) (x .state-is)
-        ∙ kind-stays (withOwner old _) (x .k) (linkedWith old (x .k) (x .t)) (owner-wide old _ (sound .wide)) (open-below old (x .k) (x .judged .opened))
+        ∙ view-stays kindIn kind-again (withOwner old _) (x .k) (linkedWith old (x .k) (x .t)) (owner-wide old _ (sound .wide)) (open-below old (x .k) (x .judged .opened))
         (sym (ap kindIn (owner-aside old _ (x .k)) ∙ kind-slot old (x .k) (x .judged .opened) ∙ ap (λ (n : ℕ). Open (kindOf n)) (sym (x .judged .same-kind)) ∙ ap Open (kind-there (x .t .kind)))) j
         ∙ ap kindIn (owner-aside old _ j))
         (ap (λ (y : Ehci). y .running) (x .state-is))
@@ -168,20 +141,20 @@ module _ (w : World) (c : Call) (a : Applied) (h : History) (told : Told h (w .s
     told-here (marks x) =
         unchanged (x .same)
         (λ j. ap (λ (y : Ehci). kindNow y j) (x .state-is)
-        ∙ kind-stays old (x .k) (Unlinking (x .p) (marked (x .r)) (x .u)) (sound .wide) (slot-low _ w sound (x .k) (Unlinking (x .p) (x .r) (x .u)) (x .unlinking) refl)
+        ∙ view-stays kindIn kind-again old (x .k) (Unlinking (x .p) (marked (x .r)) (x .u)) (sound .wide) (slot-low _ w sound (x .k) (Unlinking (x .p) (x .r) (x .u)) (x .unlinking) refl)
         (sym (ap kindIn (x .unlinking))) j)
         (ap (λ (y : Ehci). y .running) (x .state-is))
     told-here (unlinks x) =
         unchanged (x .same)
         (λ j. ap (λ (y : Ehci). kindNow y j) (x .state-is)
-        ∙ kind-stays (withBell old _ _ _) (x .k) (Unlinking (x .p) (x .asked) (boundedOf (bellOf old) (x .p .kind) (x .readings) .boundary)) (bell-wide old _ _ _ (sound .wide)) (slot-low _ w sound (x .k) (Linked (x .p) (x .r)) (x .linked) refl)
+        ∙ view-stays kindIn kind-again (withBell old _ _ _) (x .k) (Unlinking (x .p) (x .asked) (boundedOf (bellOf old) (x .p .kind) (x .readings) .boundary)) (bell-wide old _ _ _ (sound .wide)) (slot-low _ w sound (x .k) (Linked (x .p) (x .r)) (x .linked) refl)
         (sym (view-bell kindIn old _ _ _ (x .k) ∙ ap kindIn (x .linked))) j
         ∙ view-bell kindIn old _ _ _ j)
         (ap (λ (y : Ehci). y .running) (x .state-is))
     told-here (collects x) =
         unchanged (x .same)
         (λ j. ap (λ (y : Ehci). kindNow y j) (x .state-is)
-        ∙ kind-stays (withOwner old _) (x .k) (Idle (x .p)) (owner-wide old _ (sound .wide)) (slot-low _ w sound (x .k) (Unlinking (x .p) (x .r) (x .u)) (x .unlinking) refl)
+        ∙ view-stays kindIn kind-again (withOwner old _) (x .k) (Idle (x .p)) (owner-wide old _ (sound .wide)) (slot-low _ w sound (x .k) (Unlinking (x .p) (x .r) (x .u)) (x .unlinking) refl)
         (sym (ap kindIn (owner-aside old _ (x .k)) ∙ ap kindIn (x .unlinking))) j
         ∙ ap kindIn (owner-aside old _ j))
         (ap (λ (y : Ehci). y .running) (x .state-is))
