@@ -1,7 +1,7 @@
 -- Machines that answer a collection wrongly: 10 to every one, or a length drawn as if each request were a control request. What is due is refuted of both.
 use Prim.Native.Nat.{ℕ}
 use mathlib.Core.Path.{_≡_, refl, sym, ap, _∙_}
-use mathlib.Core.Bool.{true, false, cond, false≢true}
+use mathlib.Core.Bool.{true, false, cond}
 use mathlib.Core.List.{List, [], _∷_}
 use native.Mathlib.Omega.{arith}
 use lib.Dec.{eqb}
@@ -77,22 +77,8 @@ rank Enable = 4
 rank Disable = 4
 
 pub rises-up : (m : Machine) → ((w : World) (c : Call) → rank c ≡ 0 → m w c ≡ core w c) → Rises m
-rises-up m same w StartBringUp e n = same w StartBringUp refl
-rises-up m same w (BringUpStep v) e n = same w (BringUpStep v) refl
-rises-up m same w AllocateAddress e n = absurd (false≢true e)
-rises-up m same w (OpenEndpoint x) e n = same w (OpenEndpoint x) refl
-rises-up m same w (Close k) e n = absurd (false≢true e)
-rises-up m same w (SetAddress k a) e n = absurd (false≢true e)
-rises-up m same w (SetPacketSize k size) e n = absurd (false≢true e)
-rises-up m same w (Submit k r readings) e n = absurd (false≢true e)
-rises-up m same w (Writeback place token) e n = absurd (false≢true e)
-rises-up m same w (Cancel k id readings) e n = absurd (false≢true e)
-rises-up m same w (Collect k id readings) e n = absurd (false≢true e)
-rises-up m same w (Acknowledge x) e n = absurd (false≢true e)
-rises-up m same w (Drain v) e n = absurd (false≢true e)
-rises-up m same w Rearm e n = absurd (false≢true e)
-rises-up m same w Enable e n = absurd (false≢true e)
-rises-up m same w Disable e n = absurd (false≢true e)
+rises-up m same =
+    record { starts = λ w n. same w StartBringUp refl; steps = λ w v n. same w (BringUpStep v) refl; opens = λ w x n. same w (OpenEndpoint x) refl }
 
 -- ---- 512 bytes of which 500 are moved
 

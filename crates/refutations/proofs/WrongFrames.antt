@@ -1,7 +1,7 @@
 -- A collect that takes FRINDEX to be 9 on: of this machine the frames are not kept, and a place is given too soon.
 use Prim.Native.Nat.{ℕ, _+_}
 use mathlib.Core.Path.{_≡_, refl, sym, ap, _∙_}
-use mathlib.Core.Bool.{true, true≢false, false≢true}
+use mathlib.Core.Bool.{true, true≢false}
 use mathlib.Core.List.{List, [], _∷_}
 use native.Mathlib.Omega.{arith}
 use lib.ListN.{length, replicate}
@@ -175,26 +175,11 @@ abbrev after : List Call
 after = callsOf up gone
 
 rises : Rises hasty
-rises w StartBringUp e n = refl
-rises w (BringUpStep v) e n = refl
-rises w AllocateAddress e n = absurd (false≢true e)
-rises w (OpenEndpoint x) e n = refl
-rises w (Close k) e n = absurd (false≢true e)
-rises w (SetAddress k a) e n = absurd (false≢true e)
-rises w (SetPacketSize k size) e n = absurd (false≢true e)
-rises w (Submit k r readings) e n = absurd (false≢true e)
-rises w (Writeback place token) e n = absurd (false≢true e)
-rises w (Cancel k id readings) e n = absurd (false≢true e)
-rises w (Collect k id readings) e n = absurd (false≢true e)
-rises w (Acknowledge x) e n = absurd (false≢true e)
-rises w (Drain v) e n = absurd (false≢true e)
-rises w Rearm e n = absurd (false≢true e)
-rises w Enable e n = absurd (false≢true e)
-rises w Disable e n = absurd (false≢true e)
+rises = record { starts = λ w n. refl; steps = λ w v n. refl; opens = λ w x n. refl }
 
 w0 : worldOf hasty w up ≡ opened
 unfolding stateOf
-w0 = next hasty rises runCalls openInterrupt (fresh (rising 1 0)) opened (run-world hasty rises) refl refl opens
+w0 = next hasty runCalls openInterrupt (fresh (rising 1 0)) opened (run-world hasty rises) refl opens
 
 follows : Follows hasty opened gone
 follows = (collects, (unlinks, (links, tt)))
