@@ -26,15 +26,14 @@ use Rattle.interrupt.specs.declared.answers.Acknowledgement.{Acknowledgement}
 use Rattle.interrupt.specs.declared.answers.Drainage.{Drainage}
 use Rattle.ehci.specs.declared.call.Call.the-variants.{Acknowledge, Disable, Drain, Enable, Rearm}
 use Rattle.ehci.specs.declared.call.InterruptReadings.{InterruptReadings}
-use Rattle.ehci.specs.Decides.{acknowledgeDecided, acknowledgeReply, came, drainDecided, drainReply}
-use Rattle.ehci.specs.Door.{carriedOut}
+use Rattle.ehci.specs.Decides.{acknowledgeDecided, acknowledgeReply, drainDecided, drainReply}
 use Rattle.ehci.specs.Replies.{drainedAnswer, replied, settledReply}
 use Rattle.promises.specs.Runs.{World, core}
 use Rattle.promises.specs.Events.{Drains, Other, Reads, isDone}
 use Rattle.schedule.specs.Bell.{someRing}
 use Rattle.promises.proofs.effects.RefusalNumbers.{undone}
 use Rattle.promises.proofs.effects.Effects.{Effect, Sides, counts, hears, joins, passes}
-use Rattle.promises.proofs.effects.EffectDoor.{idles-on, refused-still, rows-kept, sidesOf, still-of, through, settles}
+use Rattle.promises.proofs.effects.EffectDoor.{idles-on, refused-still, rows-kept, sidesOf, still-of, through, settles, carried, sidesWith}
 use Rattle.promises.proofs.effects.EffectRanges.{counted-keeps, interrupt-keeps, joined-none, note-keeps, only-falls, only-joins, only-masked, only-none}
 
 -- ---- acknowledge
@@ -72,16 +71,7 @@ module _ (w : World) (x : InterruptReadings) where
   p = onlyBits (x .status) 0x37
 
   abbrev joined : Sides
-  joined =
-      record {
-        running = s .running;
-        step = s .step;
-        waited = s .waited;
-        address = s .address;
-        enabled = s .enabled;
-        pending = withBits (s .pending) p;
-        masked = withBits (s .masked) (onlyBits p 0x27);
-      }
+  joined = sidesWith s (s .enabled) (withBits (s .pending) p) (withBits (s .masked) (onlyBits p 0x27))
 
   note-most : (b : Bool) → (b ≡ true → s .doorbell ≡ 1) → Ranges s → noteIf b (s .noted) ≤ s .doorbell
   note-most true h r = omega (arith, h refl)
@@ -100,7 +90,7 @@ module _ (w : World) (x : InterruptReadings) where
 
   abbrev Acked : Acknowledgement → Type 0
   Acked a =
-      Effect w (Acknowledge x) (carriedOut (came (acknowledgeReply a) (w .rows .heads) (w .rows .frames) (w .rows .setups)) (w .rows .pool))
+      Effect w (Acknowledge x) (carried w (acknowledgeReply a))
 
   heard : (z : Bool) → eqb p 0 ≡ z → (b : Bool) → eqb (bit (x .status) 5) 1 ≡ b → Acked (heardIf z s p (x .interrupts) (x .flag) (x .again))
   unfolding acknowledgedState withInterrupt withBell notedAfter replied noWrites
@@ -169,20 +159,11 @@ module _ (w : World) (command : ℕ) where
       by false p false q = rw (p, q) (only-none 0x37 (lit< tt))
 
   abbrev taken : Sides
-  taken =
-      record {
-        running = d .running;
-        step = d .step;
-        waited = d .waited;
-        address = d .address;
-        enabled = d .enabled;
-        pending = clearedOf (d .pending) .left;
-        masked = d .masked;
-      }
+  taken = sidesWith d (d .enabled) (clearedOf (d .pending) .left) (d .masked)
 
   abbrev Drained : Drainage → Type 0
   Drained x =
-      Effect w (Drain command) (carriedOut (came (drainReply x) (w .rows .heads) (w .rows .frames) (w .rows .setups)) (w .rows .pool))
+      Effect w (Drain command) (carried w (drainReply x))
 
   drained-as : (b : Bool) → b ≡ true → cond b Drains Other ≡ Drains
   drained-as b e = rw e
@@ -252,16 +233,7 @@ module _ (w : World) where
   t = w .state
 
   abbrev flagged : ℕ → ℕ → Sides
-  flagged enabled masked =
-      record {
-        running = t .running;
-        step = t .step;
-        waited = t .waited;
-        address = t .address;
-        enabled = enabled;
-        pending = t .pending;
-        masked = masked;
-      }
+  flagged enabled masked = sidesWith t enabled (t .pending) masked
 
   -- a flag is set, and USBINTR written
   pub enable-effect : Effect w Enable (core w Enable)
@@ -288,7 +260,7 @@ module _ (w : World) where
       through Effect w Rearm (refused-still w Rearm InvalidParameter refl refl)
       (settles Effect w Rearm (not (inRanges t)) _ (refused-still w Rearm InvalidParameter refl refl) (by (eqb (t .masked) 0)))
     where
-      by : (z : Bool) → Effect w Rearm (carriedOut (came (settledReply (rearmIf z t)) (w .rows .heads) (w .rows .frames) (w .rows .setups)) (w .rows .pool))
+      by : (z : Bool) → Effect w Rearm (carried w (settledReply (rearmIf z t)))
       by true = still-of w Rearm _ _ _ (sidesOf t) refl refl refl (λ r. r) refl (idles-on t _ refl refl) refl
       by false =
           still-of w Rearm _ _ _ (flagged (t .enabled) 0) refl refl refl

@@ -34,15 +34,14 @@ use Rattle.bring_up.specs.declared.stage.Stage.{Stage}
 use Rattle.bring_up.specs.declared.stage.Stage.the-variants.{Stop, Halting, Reset, Resetting, Run, Starting}
 use Rattle.bring_up.proofs.RunLaws.{stays-in-ranges}
 use Rattle.ehci.specs.declared.call.Call.the-variants.{AllocateAddress, BringUpStep, StartBringUp}
-use Rattle.ehci.specs.Decides.{allotDecided, allotReply, came}
-use Rattle.ehci.specs.Door.{carriedOut}
+use Rattle.ehci.specs.Decides.{allotDecided, allotReply}
 use Rattle.ehci.specs.declared.reply.Answered.the-variants.{Refused}
 use Rattle.ehci.specs.Replies.{broughtAnswer, broughtReply, replied}
 use Rattle.promises.specs.Runs.{World, core}
 use Rattle.promises.specs.Opened.{stepsBy}
 use Rattle.promises.proofs.effects.RefusalNumbers.{undone}
 use Rattle.promises.proofs.effects.Effects.{Effect, Idles, Sides, Switches, besides}
-use Rattle.promises.proofs.effects.EffectDoor.{idles-on, leaves, refused-still, still-of, through}
+use Rattle.promises.proofs.effects.EffectDoor.{idles-on, leaves, refused-still, still-of, through, carried}
 
 -- a USBCMD write that is no ring
 pub command-silent : (v : ℕ) → someRing (listOf (andThen noWrites 0 (commandWord v))) ≡ false
@@ -137,7 +136,7 @@ module _ (w : World) where
   abbrev Started : BroughtUp → Type 0
   Started b =
       (Ranges s → Ranges (b .state))
-      → Effect w StartBringUp (carriedOut (came (broughtReply b) (w .rows .heads) (w .rows .frames) (w .rows .setups)) (w .rows .pool))
+      → Effect w StartBringUp (carried w (broughtReply b))
 
   pub start-effect : Effect w StartBringUp (core w StartBringUp)
   unfolding startOf broughtReply replied withBringUp andThen noWrites
@@ -153,7 +152,7 @@ module _ (w : World) where
   abbrev Stepped : ℕ → BroughtUp → Type 0
   Stepped v b =
       (Ranges s → Ranges (b .state))
-      → Effect w (BringUpStep v) (carriedOut (came (broughtReply b) (w .rows .heads) (w .rows .frames) (w .rows .setups)) (w .rows .pool))
+      → Effect w (BringUpStep v) (carried w (broughtReply b))
 
   again-effect : (v register : ℕ) → (s .step ≡ 0 → ⊥) → Stepped v (againOf s register)
   unfolding againOf broughtReply replied withBringUp noWrites
@@ -191,7 +190,7 @@ module _ (w : World) where
   abbrev Allotted : Allotment → Type 0
   Allotted a =
       (Ranges s → Ranges (a .state))
-      → Effect w AllocateAddress (carriedOut (came (allotReply a) (w .rows .heads) (w .rows .frames) (w .rows .setups)) (w .rows .pool))
+      → Effect w AllocateAddress (carried w (allotReply a))
 
   pub allot-effect : Effect w AllocateAddress (core w AllocateAddress)
   unfolding allotOf allotDecided replied withNextAddress noWrites

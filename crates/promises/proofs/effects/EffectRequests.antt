@@ -40,7 +40,7 @@ use Rattle.promises.specs.Events.{Collects, Event, Other, Parts, Unlinks
 use Rattle.promises.specs.Walks.{frameWalk, isIn, ringWalk}
 use Rattle.promises.proofs.effects.RefusalNumbers.{uncollected, undone}
 use Rattle.promises.proofs.effects.Effects.{Effect, accepts, collects, marks, unlinks, writes-back, Unlinked}
-use Rattle.promises.proofs.effects.EffectDoor.{leaves, refused-still, rows-kept, seen, sidesOf, stays-in, still-of, through}
+use Rattle.promises.proofs.effects.EffectDoor.{leaves, refused-still, rows-kept, seen, sidesOf, stays-in, still-of, through, carried}
 use Rattle.schedule.specs.Links.{detachOf}
 
 -- no head leaves where the words of heads and frames stay
@@ -108,7 +108,7 @@ module _ (w : World) where
   writeback-effect place token =
       through Effect w (Writeback place token) (refused-still w (Writeback place token) InvalidParameter refl refl)
       (settled-by (first (writebackChecks s (lengths n (length hs) (length fs) (length us)) place)) _ _
-      (λ (x : WrittenBack). Effect w (Writeback place token) (carriedOut (came (writtenReply x) hs fs us) (w .rows .pool)))
+      (λ (x : WrittenBack). Effect w (Writeback place token) (carried w (writtenReply x)))
       (λ r e. refused-still w (Writeback place token) r refl refl)
       (λ e. writes-back
       (record {

@@ -37,12 +37,12 @@ use Rattle.ehci.specs.declared.call.Call.{Call}
 use Rattle.ehci.specs.declared.call.Call.the-variants.{AllocateAddress, OpenEndpoint, Close, SetAddress, SetPacketSize, Submit, Writeback, Cancel, Collect}
 use Rattle.ehci.specs.declared.call.EndpointFields.{EndpointFields}
 use Rattle.ehci.specs.declared.reply.Answered.the-variants.{Refused}
-use Rattle.ehci.specs.Decides.{addressDecided, allotDecided, allotReply, came, cancelCame, cancelDecided, changeCame, closeDecided, collectCame, collectDecided, openCame, openDecided, packetDecided, submitCame, submitDecided, withFrames, withSetups, writebackDecided, writtenReply}
+use Rattle.ehci.specs.Decides.{addressDecided, allotDecided, allotReply, cancelCame, cancelDecided, changeCame, closeDecided, collectCame, collectDecided, openCame, openDecided, packetDecided, submitCame, submitDecided, withFrames, withSetups, writebackDecided, writtenReply}
 use Rattle.ehci.specs.Door.{carriedOut}
 use Rattle.ehci.specs.Replies.{changedReply, replied}
 use Rattle.promises.specs.Runs.{World, core}
 use Rattle.promises.specs.Registers.{None, accessOf}
-use Rattle.promises.proofs.effects.EffectDoor.{leaves, seen, through}
+use Rattle.promises.proofs.effects.EffectDoor.{leaves, seen, through, carried}
 use Rattle.promises.proofs.effects.RefusalNumbers.{undone}
 use Rattle.promises.proofs.invariants.Touches.{Plain, Touches, bounded-shape, level, level-touches, plain-leaves, plain-none, plain-submits, refused-touches, writesBy}
 
@@ -106,7 +106,7 @@ module _ (w : World) where
   allot-touches =
       through Touches w AllocateAddress (none-refused AllocateAddress refl InvalidParameter)
       (settled-by (first ((not (inRanges s), InvalidParameter) ∷ (ltb 127 (s .address), SlotLimitReached) ∷ [])) _ _
-      (λ (x : Allotment). Touches w AllocateAddress (carriedOut (came (allotReply x) hs fs us) (w .rows .pool)))
+      (λ (x : Allotment). Touches w AllocateAddress (carried w (allotReply x)))
       (λ r e. none-refused AllocateAddress refl r)
       (λ e. level-touches w AllocateAddress _ plain-none (record { pending = refl; masked = refl; enabled = refl; step = refl }) refl))
 
@@ -115,7 +115,7 @@ module _ (w : World) where
   writeback-touches place token =
       through Touches w (Writeback place token) (none-refused (Writeback place token) refl InvalidParameter)
       (settled-by (first (writebackChecks s (lengths n (length hs) (length fs) (length us)) place)) _ _
-      (λ (x : WrittenBack). Touches w (Writeback place token) (carriedOut (came (writtenReply x) hs fs us) (w .rows .pool)))
+      (λ (x : WrittenBack). Touches w (Writeback place token) (carried w (writtenReply x)))
       (λ r e. none-refused (Writeback place token) refl r)
       (λ e. level-touches w (Writeback place token) _ plain-none (level s) refl))
 

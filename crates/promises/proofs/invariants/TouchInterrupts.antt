@@ -1,12 +1,11 @@
 -- Acknowledge, drain, rearm, enable, disable.
 use Prim.Native.Nat.{ℕ, _-_}
 use mathlib.Core.Bool.{Bool, true, false, not, cond}
-use mathlib.Core.List.{List, [], _∷_}
+use mathlib.Core.List.{[], _∷_}
 use mathlib.Core.Path.{_≡_, refl, sym, ap, _∙_}
 use borrow.Author.Tests.{eqb-true}
 use lib.Bits.{or-zero-r}
 use lib.Dec.{eqb}
-use lib.ListN.{length}
 use Rattle.register.specs.Bits.{anyOf, onlyBits, withBits}
 use Rattle.register.specs.Writes.{andThen, listOf, noWrites}
 use Rattle.state.specs.Ranges.{inRanges}
@@ -23,13 +22,12 @@ use Rattle.interrupt.specs.declared.answers.Drainage.{Drainage}
 use Rattle.ehci.specs.declared.call.Call.{Call}
 use Rattle.ehci.specs.declared.call.Call.the-variants.{Acknowledge, Drain, Rearm, Enable, Disable}
 use Rattle.ehci.specs.declared.call.InterruptReadings.{InterruptReadings}
-use Rattle.ehci.specs.Decides.{acknowledgeDecided, acknowledgeReply, came, drainDecided, drainReply}
-use Rattle.ehci.specs.Door.{carriedOut}
+use Rattle.ehci.specs.Decides.{acknowledgeDecided, acknowledgeReply, drainDecided, drainReply}
 use Rattle.ehci.specs.Replies.{replied, settledReply}
 use Rattle.promises.specs.Runs.{World, core}
 use Rattle.promises.specs.Registers as R
 use Rattle.promises.specs.Registers.{acknowledged, leftOf, ring}
-use Rattle.promises.proofs.effects.EffectDoor.{through, settles}
+use Rattle.promises.proofs.effects.EffectDoor.{through, settles, carried}
 use Rattle.promises.proofs.effects.RefusalNumbers.{undone}
 use Rattle.interrupt.specs.declared.answers.Settled.{Settled}
 use Rattle.promises.proofs.effects.EffectInterrupts.{taken-done}
@@ -39,18 +37,6 @@ module _ (w : World) where
   abbrev s : Ehci
   s = w .state
 
-  abbrev n : ℕ
-  n = length (w .rows .pool)
-
-  abbrev hs : List ℕ
-  hs = w .rows .heads
-
-  abbrev fs : List ℕ
-  fs = w .rows .frames
-
-  abbrev us : List ℕ
-  us = w .rows .setups
-
   -- ---- acknowledge
 
   module _ (x : InterruptReadings) where
@@ -58,7 +44,7 @@ module _ (w : World) where
     p = acknowledged x
 
     abbrev Acked : Acknowledgement → Type 0
-    Acked a = Touches w (Acknowledge x) (carriedOut (came (acknowledgeReply a) hs fs us) (w .rows .pool))
+    Acked a = Touches w (Acknowledge x) (carried w (acknowledgeReply a))
 
     acknowledge-shape : (f g : Bool) → x .flag ≡ f → x .again ≡ g → eqb p 0 ≡ false
         → listOf (acknowledgeWrites p (x .interrupts) (x .flag) (x .again)) ≡ R.acknowledgeWrites x p
@@ -100,7 +86,7 @@ module _ (w : World) where
 
   module _ (v : ℕ) where
     abbrev Drained : Drainage → Type 0
-    Drained x = Touches w (Drain v) (carriedOut (came (drainReply x) hs fs us) (w .rows .pool))
+    Drained x = Touches w (Drain v) (carried w (drainReply x))
 
     -- what is taken of what is pending
     taken-left : (q : ℕ) → clearedOf q .left ≡ leftOf q
@@ -154,7 +140,7 @@ module _ (w : World) where
   -- ---- rearm, enable, disable
 
   abbrev Settles : Call → Settled → Type 0
-  Settles c x = Touches w c (carriedOut (came (settledReply x) hs fs us) (w .rows .pool))
+  Settles c x = Touches w c (carried w (settledReply x))
 
   rearmed : (z b : Bool) → eqb (s .masked) 0 ≡ z → eqb (s .enabled) 0 ≡ b → Settles Rearm (rearmIf z s)
   unfolding settledReply replied withInterrupt andThen noWrites

@@ -54,7 +54,7 @@ use Rattle.collection.proofs.Splits.{collect-split, unlink-split}
 use Rattle.ehci.specs.declared.call.Call.{Call}
 use Rattle.ehci.specs.declared.call.Call.the-variants.{Collect, Submit, Writeback}
 use Rattle.ehci.specs.declared.reply.Answered.the-variants.{Refused}
-use Rattle.ehci.specs.Decides.{came, collectCame, collectDecided, withSetups, writebackDecided, writtenReply}
+use Rattle.ehci.specs.Decides.{collectCame, collectDecided, withSetups, writebackDecided, writtenReply}
 use Rattle.ehci.specs.Door.{Applied, carriedOut}
 use Rattle.ehci.specs.Replies.{answeredNumber, replied}
 use Rattle.promises.specs.Runs.{History, Rows, World, core, historyOf, rowsOf, worldOf}
@@ -66,7 +66,7 @@ use Rattle.promises.specs.Coverage.{bytesOf, recordsMet}
 use Rattle.promises.specs.Submissions.{Asks, CollectsEnded, Stays, Submitted, SubmitsPlanned, SubmittedStays, fieldsOf, packetAt, planFor, wordAt}
 use Rattle.promises.proofs.effects.Effects.{Accepts, Effect, still, hears, joins, passes, counts, opens, closes, rewrites, accepts, writes-back, marks, unlinks, collects}
 use Rattle.promises.proofs.effects.EffectOf.{effect}
-use Rattle.promises.proofs.effects.EffectDoor.{seen, through}
+use Rattle.promises.proofs.effects.EffectDoor.{seen, through, carried}
 use Rattle.promises.proofs.effects.RefusalNumbers.{uncollected, undone}
 use Rattle.promises.proofs.invariants.Sound.{Sound}
 use Rattle.promises.proofs.invariants.UseInv.{Held, every-map, tenantAt, vacant-avoids}
@@ -293,7 +293,7 @@ module _ (w : World) (sound : Sound (w .state .settings) w) (p token : ℕ) wher
   token-put =
       through (λ _ _. TokenPut) w (Writeback p token) (λ e. absurd (refusal-some InvalidParameter e))
       (settled-by (first (writebackChecks (w .state) lent p)) _ _
-      (λ (x : WrittenBack). TokenPut (carriedOut (came (writtenReply x) (w .rows .heads) (w .rows .frames) (w .rows .setups)) (w .rows .pool)))
+      (λ (x : WrittenBack). TokenPut (carried w (writtenReply x)))
       (λ r e q. absurd (refusal-some r q))
       (λ e q. ap (λ (l : List QueueTransferDescriptor). getD l p blank) (fill-token (w .state .settings .pool) p token (w .rows .pool))
       ∙ getD-set-same (w .rows .pool) p (withToken (getD (w .rows .pool) p blank) token) blank
