@@ -10,7 +10,7 @@ use lib.Dec.{eqb, leb}
 use Rattle.settings.specs.declared.settings.Settings.{Settings}
 use Rattle.common.specs.Answers.{first, passed, refusalNumber, refused}
 use Rattle.common.specs.declared.answer.Refusal.{Refusal}
-use Rattle.common.specs.declared.answer.Refusal.the-variants.{InvalidParameter, SlotLimitReached, InvalidEndpoint, QueueFull, NotSupported, NoMemory, Timeout, NotReady}
+use Rattle.common.specs.declared.answer.Refusal.the-variants.{InvalidEndpoint}
 use Rattle.pipe.specs.Endpoints.{endpointAt}
 use Rattle.pipe.specs.declared.endpoints.Endpoint.{Endpoint}
 use Rattle.pipe.specs.declared.endpoints.Endpoint.the-variants.{Closed, Idle, Linked, Unlinking}
@@ -37,6 +37,7 @@ use Rattle.promises.proofs.theorems.BoundaryCancels.{roomy}
 use Rattle.promises.proofs.theorems.ChainTheorems.{no-detach}
 use Rattle.promises.proofs.theorems.Order.{in-order}
 use Rattle.promises.proofs.theorems.RoomPromises.{fields-tied, held}
+use Rattle.promises.proofs.effects.RefusalNumbers.{refusal-some, refusal-within}
 
 -- ---- a request of that id
 
@@ -129,14 +130,7 @@ cancels-by-id s w o cs k id rd = by (isHeldAs k id (uses s h)) refl
 -- ---- collect
 
 no-result : (r : Refusal) → refusalIn (refusalNumber r) ≡ 0 → ⊥
-no-result InvalidParameter e = omega (arith, e)
-no-result SlotLimitReached e = omega (arith, e)
-no-result InvalidEndpoint e = omega (arith, e)
-no-result QueueFull e = omega (arith, e)
-no-result NotSupported e = omega (arith, e)
-no-result NoMemory e = omega (arith, e)
-no-result Timeout e = omega (arith, e)
-no-result NotReady e = omega (arith, e)
+no-result r e = refusal-some r (rw (lt-leb 9 (refusalNumber r) (omega (arith, refusal-within r .1))) at e)
 
 -- a result that collects nothing is 9
 waits-nine : (a : Answered) → refusalIn (answeredNumber a) ≡ 0 → isCollected a ≡ false → answeredNumber a ≡ 9

@@ -9,7 +9,7 @@ use lib.Dec.{ltb}
 use Rattle.settings.specs.declared.settings.Settings.{Settings}
 use Rattle.common.specs.Answers.{Check, Verdict, first, orElse, passed, refused, refusalNumber, settle}
 use Rattle.common.specs.declared.answer.Refusal.{Refusal}
-use Rattle.common.specs.declared.answer.Refusal.the-variants.{InvalidParameter, SlotLimitReached, InvalidEndpoint, QueueFull, NotSupported, NoMemory, Timeout, NotReady}
+use Rattle.common.specs.declared.answer.Refusal.the-variants.{NoMemory}
 use Rattle.common.proofs.CheckLaws.{let-pass}
 use Rattle.controller.specs.declared.lent.Readings.{Readings}
 use Rattle.request.specs.Submit.{acceptedWith, refusedSubmit, settledSubmit, submitChecks, submitOf, submitted}
@@ -26,6 +26,7 @@ use Rattle.promises.proofs.invariants.OpenedVerdict.{asks-told, free-is
 use Rattle.promises.proofs.theorems.Order.{first-goes}
 use Rattle.promises.proofs.invariants.Sound.{Sound, let-in, rows-fit}
 use Rattle.promises.proofs.invariants.UseInv.{Held}
+use Rattle.promises.proofs.effects.RefusalNumbers.{refusal-some}
 
 -- ---- the number that submit's checks give
 
@@ -48,17 +49,7 @@ past false r v ne e = e
 -- no check answers 0
 zero-passes : (v : Verdict) → verdictNumber v ≡ 0 → v ≡ passed
 zero-passes passed e = refl
-zero-passes (refused r) e = absurd (never r e)
-  where
-    never : (r : Refusal) → refusalNumber r ≡ 0 → ⊥
-    never InvalidParameter e = omega (arith, e)
-    never SlotLimitReached e = omega (arith, e)
-    never InvalidEndpoint e = omega (arith, e)
-    never QueueFull e = omega (arith, e)
-    never NotSupported e = omega (arith, e)
-    never NoMemory e = omega (arith, e)
-    never Timeout e = omega (arith, e)
-    never NotReady e = omega (arith, e)
+zero-passes (refused r) e = absurd (refusal-some r e)
 
 -- ---- the room is asked last
 

@@ -2,11 +2,11 @@
 use Prim.Native.Nat.{ℕ, suc, _+_, _-_, _*_, _%_, _^_, _≤_, _<_}
 use mathlib.Core.Path.{_≡_, refl, sym, ap, subst, _∙_}
 use mathlib.Core.Logic.{_≢_}
-use mathlib.Core.Bool.{Bool, true, false, not, true≢false, false≢true}
+use mathlib.Core.Bool.{Bool, true, false, not, false≢true}
 use mathlib.Core.List.{List, [], _∷_, map}
 use native.Mathlib.Decide.{ℕ-discrete as decEq}
 use native.Mathlib.Omega.{arith}
-use borrow.Author.Tests.{eq-eqb, not-false}
+use borrow.Author.Tests.{not-false}
 use lib.ListN.{getD, length, length-set, set}
 use lib.Seq.{getD-set-other, getD-set-same}
 use Rattle.token.specs.Plans.{controlPlan}
@@ -26,7 +26,6 @@ use Rattle.pool.specs.declared.transfer.Transfer.{Transfer}
 use Rattle.pool.proofs.ChainLaws.{fill-token}
 use Rattle.settings.specs.declared.settings.Settings.{Settings}
 use Rattle.common.specs.Answers.{first, passed}
-use Rattle.common.specs.declared.answer.Refusal.{Refusal}
 use Rattle.common.specs.declared.answer.Refusal.the-variants.{InvalidParameter}
 use Rattle.common.proofs.CheckLaws.{let-pass, settled-by}
 use Rattle.common.specs.Kinds.{isControl, isInterrupt}
@@ -53,7 +52,6 @@ use Rattle.collection.proofs.CollectLaws.{ended-words}
 use Rattle.collection.proofs.Splits.{collect-split, unlink-split}
 use Rattle.ehci.specs.declared.call.Call.{Call}
 use Rattle.ehci.specs.declared.call.Call.the-variants.{Collect, Submit, Writeback}
-use Rattle.ehci.specs.declared.reply.Answered.the-variants.{Refused}
 use Rattle.ehci.specs.Decides.{collectCame, collectDecided, withSetups, writebackDecided, writtenReply}
 use Rattle.ehci.specs.Door.{Applied, carriedOut}
 use Rattle.ehci.specs.Replies.{answeredNumber, replied}
@@ -67,7 +65,7 @@ use Rattle.promises.specs.Submissions.{Asks, CollectsEnded, Stays, Submi
 use Rattle.promises.proofs.effects.Effects.{Accepts, Effect, still, hears, joins, passes, counts, opens, closes, rewrites, accepts, writes-back, marks, unlinks, collects}
 use Rattle.promises.proofs.effects.EffectOf.{effect}
 use Rattle.promises.proofs.effects.EffectDoor.{seen, through, carried}
-use Rattle.promises.proofs.effects.RefusalNumbers.{uncollected, undone}
+use Rattle.promises.proofs.effects.RefusalNumbers.{uncollected, refusal-some}
 use Rattle.promises.proofs.invariants.Sound.{Sound}
 use Rattle.promises.proofs.invariants.UseInv.{Held, every-map, tenantAt, vacant-avoids}
 use Rattle.promises.proofs.invariants.UseAccepts.{acceptedWorld, need-least, submit-starts, vacant, walked}
@@ -277,9 +275,6 @@ module _ (w : World) (h : History) (sound : Sound (w .state .settings) w) (kept 
   packets-stay (collects x) = unwritten _ (x .rows-are) refl
 
 -- ---- an accepted writeback
-
-refusal-some : (r : Refusal) → answeredNumber (Refused r) ≡ 0 → ⊥
-refusal-some r e = true≢false (sym (eq-eqb (answeredNumber (Refused r)) 0 e) ∙ undone r)
 
 module _ (w : World) (sound : Sound (w .state .settings) w) (p token : ℕ) where
   abbrev TokenPut : Applied → Type 0
