@@ -82,3 +82,11 @@ module _ {A : Type 0} (view : Endpoint → A) where
       by true a false p false q true r o = rw (a, p, q, r) (leaving _)
       by true a false p false q false r o = absurd (false-true (rw (a, p, q, r) at o))
       by false a x p y q z r o = absurd (false-true (rw a at o))
+
+  -- a slot that is given an endpoint of which the same is seen
+  pub view-kept : (s : Ehci) (k : ℕ) (v : A) → v ≡ viewAt s k → (j : ℕ) → cond (eqb k j) v (viewAt s j) ≡ viewAt s j
+  view-kept s k v e j = by (decEq k j)
+    where
+      by : Dec (k ≡ j) → cond (eqb k j) v (viewAt s j) ≡ viewAt s j
+      by (yes q) = rw (eq-eqb k j q) (e ∙ ap (viewAt s) q)
+      by (no ne) = rw (ne-eqb k j ne)

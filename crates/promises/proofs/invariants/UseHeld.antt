@@ -52,11 +52,11 @@ held-opens s w o = let is = opening-is s w o in subst (λ (v : World). HeldIn s 
 
 keeps-here : (w : World) (c : Call) (a : Applied) (h : History) → Sound (w .state .settings) w → Held (w .state .settings) h w → Effect w c a
     → Held (w .state .settings) (turnOf (w .rows) c a ∷ h) (leftBy a)
-keeps-here w c a h sound held (still x) = still-held w c a h x held
-keeps-here w c a h sound held (hears x) = hears-held w c a h x held
-keeps-here w c a h sound held (joins x) = joins-held w c a h x held
-keeps-here w c a h sound held (passes x) = passes-held w c a h x held
-keeps-here w c a h sound held (counts x) = counts-held w c a h x held
+keeps-here w c a h sound held (still x) = still-held w c a h sound x held
+keeps-here w c a h sound held (hears x) = hears-held w c a h sound x held
+keeps-here w c a h sound held (joins x) = joins-held w c a h sound x held
+keeps-here w c a h sound held (passes x) = passes-held w c a h sound x held
+keeps-here w c a h sound held (counts x) = counts-held w c a h sound x held
 keeps-here w c a h sound held (opens x) = opens-held w c a h sound x held
 keeps-here w c a h sound held (closes x) = closes-held w c a h sound x held
 keeps-here w c a h sound held (rewrites x) = rewrites-held w c a h sound x held
