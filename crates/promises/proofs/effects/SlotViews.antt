@@ -53,14 +53,6 @@ module _ {A : Type 0} (view : Endpoint → A) where
     unfolding endpointAt withEndpoint
     view-same = rw (lt-ltb k 32 low, slot-same s k (encoded x) w low) (back x)
 
-    -- of which the same is seen
-    pub view-stays : view x ≡ viewAt s k → (j : ℕ) → viewAt (withEndpoint s k x) j ≡ viewAt s j
-    view-stays e j = by (decEq j k)
-      where
-        by : Dec (j ≡ k) → viewAt (withEndpoint s k x) j ≡ viewAt s j
-        by (yes q) = ap (viewAt (withEndpoint s k x)) q ∙ view-same ∙ e ∙ ap (viewAt s) (sym q)
-        by (no ne) = ap view (endpoint-other s k x j ne)
-
     pub view-given : (j : ℕ) → viewAt (withEndpoint s k x) j ≡ cond (eqb k j) (view x) (viewAt s j)
     view-given j = by (decEq k j)
       where
