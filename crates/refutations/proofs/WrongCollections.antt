@@ -150,10 +150,16 @@ module _ (m : Machine) (plain : (v : World) (c : Call) → eqb (rank c) 2 ≡ fa
   follows : Follows m openedTwo moves
   follows = (
     plain (apartNow (one 0x20 0x20 1 1 1 (leaves 1))) (Drain 0x80031) refl ∙ counts,
-    (plain (apartNow (one 0 0 0 1 1 (leaves 1))) (acknowledges 0x20) refl ∙ hears,
-    (finds,
-    (plain (linkedOne (one 0 0 0 0 0 linked)) (Writeback 0 0x000C8C00) refl ∙ written,
-    (plain openedTwo (submits 0 0x500000) refl ∙ submitted, tt)))),
+    (
+      plain (apartNow (one 0 0 0 1 1 (leaves 1))) (acknowledges 0x20) refl ∙ hears,
+      (
+        finds,
+        (
+          plain (linkedOne (one 0 0 0 0 0 linked)) (Writeback 0 0x000C8C00) refl ∙ written,
+          (plain openedTwo (submits 0 0x500000) refl ∙ submitted, tt),
+        ),
+      ),
+    ),
   )
 
   pub w5 : worldOf m w c5 ≡ apartNow (one 0 0x20 0 0 0 (leaves 0))

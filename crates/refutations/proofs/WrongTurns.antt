@@ -36,7 +36,6 @@ use Rattle.promises.proofs.invariants.Reached.{freshWorld}
 use Rattle.refutations.proofs.WrongRuns.{good, linked, one, openedTwo, opening, reading, replies, small, stateOf, submits, two, waits}
 use Rattle.refutations.proofs.WrongUp.{up-world, upCalls}
 use Rattle.refutations.proofs.WrongCalls.{apartOne, apartTwo, drained-first, heard-two, linkedOne, submitted, submitted-two, unlinked-first, unlinked-second, hearsTwo, submitsOne}
-
 use Rattle.refutations.proofs.WrongBut.{but, but-rises, isDrains, isLeaves, isSubmits, not-passed, rewriting}
 use Rattle.refutations.proofs.WrongNever.{leaves}
 use Rattle.refutations.proofs.Scripts.{Follows, Script, arrives, callsOf, endOf, is-told, turnsOf}

@@ -70,7 +70,7 @@ module _ (s : Settings) (h : History) (w : World) (sound : Sound s w) (x : Chain
     cancel-unlinks = (
       cancel-done,
       ap (λ (z : Applied). event s (turnOf (w .rows) (Cancel k (r .id) rd) z)) cancel-comes
-      ∙ unlink-event s h w (Cancel k (r .id) rd) _ sound x (cancel-unlinked w k (r .id) rd p r e roomy (no-detach-fails p r e)),
+          ∙ unlink-event s h w (Cancel k (r .id) rd) _ sound x (cancel-unlinked w k (r .id) rd p r e roomy (no-detach-fails p r e)),
     )
 
   -- a cancel of a request that is unlinking marks it

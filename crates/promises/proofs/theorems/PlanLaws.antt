@@ -144,14 +144,14 @@ module _ (t : Transfer) where
   by-stages kind short base ps n =
       by-stage (λ b ps. eqb (t .length) 0 ≡ b → map fieldsOf (recordsFrom t base 0 ps) ≡ stages (t .setup) (t .direction) (t .address) (t .length) b)
       (λ p q e.
-          let a = stage-at kind base 0 (q ∷ []) ∙ setup-planned in
-          let b = stage-at kind base 1 [] ∙ bare-planned e in
-          λ i. a i ∷ b i ∷ [])
+      let a = stage-at kind base 0 (q ∷ []) ∙ setup-planned in
+      let b = stage-at kind base 1 [] ∙ bare-planned e in
+      λ i. a i ∷ b i ∷ [])
       (λ p q r e.
-          let a = stage-at kind base 0 (q ∷ r ∷ []) ∙ setup-planned in
-          let b = stage-at kind base 1 (r ∷ []) ∙ data-planned e short in
-          let c = stage-at kind base 2 [] ∙ status-planned e in
-          λ i. a i ∷ b i ∷ c i ∷ [])
+      let a = stage-at kind base 0 (q ∷ r ∷ []) ∙ setup-planned in
+      let b = stage-at kind base 1 (r ∷ []) ∙ data-planned e short in
+      let c = stage-at kind base 2 [] ∙ status-planned e in
+      λ i. a i ∷ b i ∷ c i ∷ [])
       (eqb (t .length) 0) ps n refl
 
 -- ---- all of them, as many as the request needs
