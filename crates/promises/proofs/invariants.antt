@@ -1,11 +1,11 @@
 -- What opening has and each effect keeps, so what every world of a run has.
 pub mod Sound
 pub mod SoundKeeps
+pub mod ViewsAfter
 pub mod IdleInv
 pub mod Reached
 pub mod UseInv
 pub mod UseQuiet
-pub mod UseTenants
 pub mod UseSteps
 pub mod UseAccepts
 pub mod UseCollects

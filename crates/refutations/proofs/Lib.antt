@@ -4,6 +4,7 @@ pub mod RoomWrong
 pub mod WrongChains
 pub mod WrongWalks
 pub mod WrongRuns
+pub mod Scripts
 pub mod WrongUp
 pub mod WrongCalls
 pub mod WrongBells

@@ -2,7 +2,6 @@
 -- no checks and no schedule, in a controller with two descriptors; `plain` does it right, and on the same calls its uses are as they should be.
 use Prim.Native.Nat.{ℕ, _+_, _-_}
 use mathlib.Core.Path.{_≡_, refl, ap}
-use mathlib.Core.Bool.{true}
 use mathlib.Core.List.{List, [], _∷_}
 use native.Mathlib.Omega.{arith}
 use lib.ListN.{length, replicate, set}
@@ -17,8 +16,6 @@ use Rattle.descriptor.specs.Slots.{pageSlots}
 use Rattle.pool.specs.Chains.{fillOf, filledFrom}
 use Rattle.pool.specs.Places.{listOf, markOf, packed, placesFrom, upFrom}
 use Rattle.pool.specs.Transfers.{bareAt, chunkQtd, recordAt}
-use Rattle.settings.specs.Settings.{apartAreas, areaGood, eachGood, noOverlap, numbersGood, settingsGood}
-use Rattle.settings.specs.declared.settings.Settings.{Settings}
 use Rattle.state.specs.State.{withOwner}
 use Rattle.state.specs.declared.state.Ehci.{Ehci}
 use Rattle.opening.specs.Opening.{freshState, openedHeads}
@@ -34,36 +31,14 @@ use Rattle.ehci.specs.declared.reply.Answered.{Answered}
 use Rattle.ehci.specs.declared.reply.Answered.the-variants.{Done, Pending}
 use Rattle.ehci.specs.declared.reply.Given.the-variants.{Id, Nothing, Slot}
 use Rattle.ehci.specs.Door.{Applied, applied}
-use Rattle.promises.specs.Runs.{Machine, Opening, World, historyOf, rowsOf, worldOf}
+use Rattle.promises.specs.Runs.{Machine, World, historyOf, rowsOf, worldOf}
 use Rattle.promises.specs.Walks.{chainWalk, walkFrom}
 use Rattle.promises.specs.Uses.{needs, uses}
 use Rattle.promises.specs.Rooms.{ExclusivePlaces, RoomExact, placesInUse}
 use Rattle.promises.specs.Opened.{SubmitVerdict, runsIn, slotIn}
 use Rattle.promises.specs.Coverage.{Coverage, addressed, dataOf, recordsMet}
-use Rattle.promises.proofs.invariants.Reached.{freshWorld, opens-fresh}
-
--- ---- two descriptors, two slots
-
-abbrev pub pair : Settings
-pair =
-    record {
-      descriptors = 2;
-      endpoints = 2;
-      ports = 1;
-      limit = 16384;
-      wait = 1;
-      pool = 0x100000;
-      heads = 0x200000;
-      frames = 0x300000;
-      setups = 0x400000;
-    }
-
-pair-good : settingsGood pair ≡ true
-unfolding settingsGood numbersGood eachGood noOverlap areaGood apartAreas
-pair-good = refl
-
-pub opening : Opening pair (freshWorld pair)
-opening = opens-fresh pair pair-good
+use Rattle.promises.proofs.invariants.Reached.{freshWorld}
+use Rattle.refutations.proofs.WrongRuns.{opening, small}
 
 -- ---- machines that take descriptors
 
@@ -137,11 +112,11 @@ reads = record { command = 0; frame = 0 }
 abbrev calls : List Call
 calls = Submit 1 byte reads ∷ Writeback 0 0 ∷ Submit 0 byte reads ∷ []
 
-plain-places : placesInUse (uses pair (historyOf plain (freshWorld pair) calls)) ≡ 1 ∷ 0 ∷ []
+plain-places : placesInUse (uses small (historyOf plain (freshWorld small) calls)) ≡ 1 ∷ 0 ∷ []
 unfolding historyOf worldOf uses chainWalk walkFrom takenOf placesFrom markOf packed listOf fillOf filledFrom recordAt bareAt chunkQtd newQtd withNext startedOverlay freshState withOwner openedHeads ringHead terminated needOf chunkCount
 plain-places = refl
 
-plain-room : freeCount (worldOf plain (freshWorld pair) calls .state) + needs pair (uses pair (historyOf plain (freshWorld pair) calls)) ≡ 2
+plain-room : freeCount (worldOf plain (freshWorld small) calls .state) + needs small (uses small (historyOf plain (freshWorld small) calls)) ≡ 2
 unfolding historyOf worldOf uses chainWalk walkFrom takenOf placesFrom markOf packed listOf fillOf filledFrom recordAt bareAt chunkQtd newQtd withNext startedOverlay freshState withOwner openedHeads ringHead terminated needOf chunkCount freeCount countZero
 plain-room = refl
 
@@ -150,42 +125,42 @@ plain-room = refl
 -- the place is free again, and given to slot 1 while slot 0's request has it
 freeing-exclusive : ExclusivePlaces freeing → ⊥
 unfolding historyOf worldOf uses chainWalk walkFrom takenOf placesFrom markOf packed listOf fillOf filledFrom recordAt bareAt chunkQtd newQtd withNext startedOverlay freshState withOwner openedHeads ringHead terminated needOf chunkCount
-freeing-exclusive e = e pair (freshWorld pair) opening calls .distinct .0 .0 refl
+freeing-exclusive e = e small (freshWorld small) opening calls .distinct .0 .0 refl
 
 freeing-room : RoomExact freeing → ⊥
 unfolding historyOf worldOf uses chainWalk walkFrom takenOf placesFrom markOf packed listOf fillOf filledFrom recordAt bareAt chunkQtd newQtd withNext startedOverlay freshState withOwner openedHeads ringHead terminated needOf chunkCount freeCount countZero
-freeing-room r = let three : _≡_ {A = ℕ} 3 2 = r pair (freshWorld pair) opening (Writeback 0 0 ∷ Submit 0 byte reads ∷ []) .free in omega (arith, three)
+freeing-room r = let three : _≡_ {A = ℕ} 3 2 = r small (freshWorld small) opening (Writeback 0 0 ∷ Submit 0 byte reads ∷ []) .free in omega (arith, three)
 
 first-exclusive : ExclusivePlaces first → ⊥
 unfolding historyOf worldOf uses chainWalk walkFrom takenOf placesFrom markOf packed listOf fillOf filledFrom recordAt bareAt chunkQtd newQtd withNext startedOverlay freshState withOwner openedHeads ringHead terminated needOf chunkCount
-first-exclusive e = e pair (freshWorld pair) opening calls .distinct .0 .0 refl
+first-exclusive e = e small (freshWorld small) opening calls .distinct .0 .0 refl
 
 first-room : RoomExact first → ⊥
 unfolding historyOf worldOf uses chainWalk walkFrom takenOf placesFrom markOf packed listOf fillOf filledFrom recordAt bareAt chunkQtd newQtd withNext startedOverlay freshState withOwner openedHeads ringHead terminated needOf chunkCount freeCount countZero
-first-room r = let three : _≡_ {A = ℕ} 3 2 = r pair (freshWorld pair) opening calls .free in omega (arith, three)
+first-room r = let three : _≡_ {A = ℕ} 3 2 = r small (freshWorld small) opening calls .free in omega (arith, three)
 
 -- a submit to a slot that was never opened is accepted, and not answered 3
 plain-verdict : SubmitVerdict plain → ⊥
 unfolding historyOf worldOf slotIn
-plain-verdict v = let three : _≡_ {A = ℕ} 0 3 = v pair (freshWorld pair) opening [] 0 byte reads in omega (arith, three)
+plain-verdict v = let three : _≡_ {A = ℕ} 0 3 = v small (freshWorld small) opening [] 0 byte reads in omega (arith, three)
 
 -- one to an open slot of its kind is accepted before bring-up, and not answered 8
 eager-verdict : SubmitVerdict eager → ⊥
 unfolding historyOf worldOf slotIn runsIn
 eager-verdict v =
     let opens : Call = OpenEndpoint (record { kind = Bulk; address = 1; number = 1; packet = 512 }) in
-    let eight : _≡_ {A = ℕ} 0 8 = v pair (freshWorld pair) opening (opens ∷ []) 0 byte reads in
+    let eight : _≡_ {A = ℕ} 0 8 = v small (freshWorld small) opening (opens ∷ []) 0 byte reads in
     omega (arith, eight)
 
 -- no byte is addressed where one is asked
 short-coverage : Coverage short → ⊥
 unfolding historyOf worldOf uses chainWalk walkFrom takenOf placesFrom markOf packed listOf fillOf filledFrom recordAt bareAt chunkQtd newQtd withNext startedOverlay freshState withOwner openedHeads ringHead terminated needOf chunkCount tokenOf pageSlots upFrom
 short-coverage c =
-    let none : _≡_ {A = List ℕ} [] (0x500000 ∷ []) = c pair (freshWorld pair) opening [] 0 byte reads refl in
+    let none : _≡_ {A = List ℕ} [] (0x500000 ∷ []) = c small (freshWorld small) opening [] 0 byte reads refl in
     let zero : _≡_ {A = ℕ} 0 1 = ap length none in
     omega (arith, zero)
 
 -- and the right one covers it
-plain-coverage : addressed (dataOf Bulk (recordsMet pair (rowsOf (plain (freshWorld pair) (Submit 0 byte reads))) 0)) ≡ 0x500000 ∷ []
+plain-coverage : addressed (dataOf Bulk (recordsMet small (rowsOf (plain (freshWorld small) (Submit 0 byte reads))) 0)) ≡ 0x500000 ∷ []
 unfolding historyOf worldOf uses chainWalk walkFrom takenOf placesFrom markOf packed listOf fillOf filledFrom recordAt bareAt chunkQtd newQtd withNext startedOverlay freshState withOwner openedHeads ringHead terminated needOf chunkCount tokenOf pageSlots upFrom
 plain-coverage = refl

@@ -7,20 +7,10 @@ use Rattle.descriptor.specs.declared.qtd.QueueTransferDescriptor.{QueueTransfer
 use Rattle.descriptor.specs.Slots.{zeroSlots}
 use Rattle.settings.specs.declared.settings.Settings.{Settings}
 use Rattle.promises.specs.Walks.{AtRingHead, End, Nowhere, Terminated, TooLong, Walk, ended, linkWalk, nextWalk, walkFrom}
+use Rattle.refutations.proofs.WrongRuns.{sized}
 
 abbrev three : Settings
-three =
-    record {
-      descriptors = 2;
-      endpoints = 3;
-      ports = 1;
-      limit = 1;
-      wait = 1;
-      pool = 0x100000;
-      heads = 0x200000;
-      frames = 0x300000;
-      setups = 0x400000;
-    }
+three = sized 2 3 1
 
 -- ---- links: heads at 0x200080, 0x200100, 0x200180
 

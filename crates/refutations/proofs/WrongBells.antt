@@ -1,16 +1,15 @@
--- 000's three faults, as machines made from `core`; runs call by call; and a test for the picture of a boundary.
+-- 000's three faults, as machines made from `core`, and a test for the picture of a boundary.
 use Prim.Native.Nat.{ℕ}
-use mathlib.Core.Path.{_≡_, refl, ap, _∙_}
-use mathlib.Core.Bool.{Bool, true, false, not, _&&_, _||_}
-use mathlib.Core.List.{List, [], _∷_, _++_}
+use mathlib.Core.Path.{_≡_, ap, _∙_}
+use mathlib.Core.Bool.{Bool, true, false, not, _&&_, _||_, or-true}
+use mathlib.Core.List.{[], _∷_, _++_}
 use lib.Dec.{eqb}
 use Rattle.register.specs.Bits.{anyOf}
 use Rattle.settings.specs.declared.settings.Settings.{Settings}
 use Rattle.state.specs.State.{withBell}
 use Rattle.state.specs.declared.state.Ehci.{Ehci}
-use Rattle.ehci.specs.declared.call.Call.{Call}
 use Rattle.ehci.specs.Door.{Applied, applied}
-use Rattle.promises.specs.Runs.{History, Machine, Turn, World, core, historyOf, leftBy, turnOf, worldOf}
+use Rattle.promises.specs.Runs.{History, Machine, Turn, World, core}
 use Rattle.promises.specs.Events.{rings}
 use Rattle.promises.specs.Bells.{Boundary, none, reads, unlinksOf}
 use Rattle.refutations.proofs.WrongUp.{Plainly, isDrain, readsAdvance}
@@ -45,20 +44,6 @@ early w c = noteAfter (readsAdvance c || isEarly w) (core (noteBefore (isEarly w
 abbrev pub any : Machine
 any w c = core (noteBefore (isDrain c && (eqb (w .state .doorbell) 1 && anyOf (w .state .pending) 0x20)) 1 w) c
 
--- ---- a run, call by call
-
-module _ (m : Machine) (w : World) (cs : List Call) (c : Call) (now : World) (a : Applied) (e : worldOf m w cs ≡ now) (q : m now c ≡ a) where
-  pub goes-on : worldOf m w (c ∷ cs) ≡ leftBy a
-  unfolding worldOf
-  goes-on = ap (λ (x : World). leftBy (m x c)) e ∙ ap leftBy q
-
-  pub is-told : (past : History) → historyOf m w cs ≡ past → historyOf m w (c ∷ cs) ≡ turnOf (now .rows) c a ∷ past
-  unfolding historyOf
-  is-told past h =
-      ap (λ (x : World). turnOf (x .rows) c (m x c) ∷ historyOf m w cs) e
-      ∙ ap (λ (x : Applied). turnOf (now .rows) c x ∷ historyOf m w cs) q
-      ∙ ap (λ (x : History). turnOf (now .rows) c a ∷ x) h
-
 -- ---- a test for the picture of a boundary
 
 module _ (s : Settings) (k : ℕ) where
@@ -70,19 +55,15 @@ module _ (s : Settings) (k : ℕ) where
   boundary? [] = false
   boundary? (t ∷ h) = not (unlinksOf s k t) && ((reads s t && ring? h) || boundary? h)
 
-  either-true : (b : Bool) → (b || true) ≡ true
-  either-true true = refl
-  either-true false = refl
-
   ring-found : (between : History) (ring : Turn) (before : History) → rings ring ≡ true → none (reads s) between → none (unlinksOf s k) between → ring? (between ++ ring ∷ before) ≡ true
   ring-found [] ring before r q u = rw r
-  ring-found (t ∷ b) ring before r q u = rw (q .0, u .0, ring-found b ring before r (q .1) (u .1)) (either-true (rings t))
+  ring-found (t ∷ b) ring before r q u = rw (q .0, u .0, ring-found b ring before r (q .1) (u .1)) (or-true (rings t))
 
   boundary-found : (since : History) (ack : Turn) (between : History) (ring : Turn) (before : History) → rings ring ≡ true → reads s ack ≡ true → none (reads s) between
       → none (unlinksOf s k) (since ++ ack ∷ between) → boundary? (since ++ ack ∷ between ++ ring ∷ before) ≡ true
   boundary-found [] ack between ring before r a q u = rw (u .0, a, ring-found between ring before r q (u .1))
   boundary-found (t ∷ since) ack between ring before r a q u =
-      rw (u .0, boundary-found since ack between ring before r a q (u .1)) (either-true (reads s t && ring? (since ++ ack ∷ between ++ ring ∷ before)))
+      rw (u .0, boundary-found since ack between ring before r a q (u .1)) (or-true (reads s t && ring? (since ++ ack ∷ between ++ ring ∷ before)))
 
   pub found : (h : History) → Boundary s k h → boundary? h ≡ true
   found h b = ap boundary? (b .picture) ∙ boundary-found (b .since) (b .ack) (b .between) (b .ring) (b .before) (b .rung) (b .read) (b .first) (b .unlinked-by-then)

@@ -38,6 +38,7 @@ use Rattle.ehci.specs.Decides.{acknowledgeDecided, asksOf, cancelDecided, colle
 use Rattle.ehci.specs.Door.{applyOf}
 use Rattle.promises.specs.Runs.{World, core}
 use Rattle.refutations.proofs.WrongRuns.{acknowledges, bellOf, chunk, good, headOf, headsOf, idle, linked, noBell, one, openedTwo, reading, replies, stateOf, submits, two, used, waits, withRows}
+use Rattle.refutations.proofs.Scripts.{Script}
 
 -- ---- one request, and what comes of it
 
@@ -200,3 +201,17 @@ againSecond =
 pub submitted-second : core freeSecond (submits 1 0x502000) ≡ replies (Done (G.Id 2)) (writesWith (reading 0x80031)) againSecond
 unfolding applyOf decideOf asksOf rowsFit replied fillOf filledFrom noChain packed listOf submitDecided submitOf acceptsOf endpointAt decoded slotAt rangesGood bufferGood freeCount countZero needOf chunkCount settledSubmit acceptedWith takenFor takenPlaces placesFrom markOf stateWith afterId withOwner withEndpoint withSlot linkedRows startedOverlay attachedRing setupsWith recordAt bareAt chunkQtd newQtd tokenOf pageSlots withNext stateOf
 submitted-second = rw second-free-good
+
+-- ---- runs
+
+abbrev pub submitsOne : Script
+submitsOne = (submits 0 0x500000, replies (Done (G.Id 1)) (writesWith (reading 0x80031)) (linkedOne (one 0 0 0 0 0 linked))) ∷ []
+
+-- two requests are unlinked, and the first rings; the answer, with a port change
+abbrev pub hearsTwo : Script
+hearsTwo =
+    (acknowledges 0x24, replies (Done G.Yes) (acknowledgeWrites 0x24 0x27 true true) (apartTwo (two 0x24 0x24 1 1 2 (waits 1) (waits 2))))
+    ∷ (Cancel 1 1 (reading 0x80071), replies (Done G.Nothing) noWrites (apartTwo (two 0 0 0 1 2 (waits 1) (waits 2))))
+    ∷ (Cancel 0 1 (reading 0x80031), replies (Done G.Nothing) (andThen noWrites 0 (ringWord 0x80031)) apartFirst)
+    ∷ (submits 1 0x501000, replies (Done (G.Id 1)) (writesWith (reading 0x80031)) linkedTwo)
+    ∷ submitsOne

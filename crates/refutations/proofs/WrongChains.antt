@@ -33,21 +33,11 @@ use Rattle.promises.specs.Uses.{frameSlots, ringSlots, uses}
 use Rattle.promises.specs.Bells.{isUnlinks}
 use Rattle.promises.specs.Chains.{ChainsWalked, NoDetachFails, headPlaces, turnBy}
 use Rattle.promises.proofs.invariants.Reached.{freshWorld, opens-fresh}
+use Rattle.refutations.proofs.WrongRuns.{sized}
 
 -- three slots
 abbrev pub three : Settings
-three =
-    record {
-      descriptors = 1;
-      endpoints = 3;
-      ports = 1;
-      limit = 1;
-      wait = 1;
-      pool = 0x100000;
-      heads = 0x200000;
-      frames = 0x300000;
-      setups = 0x400000;
-    }
+three = sized 1 3 1
 
 -- ---- machines that link and unlink
 

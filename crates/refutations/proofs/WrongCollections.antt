@@ -1,7 +1,7 @@
 -- Machines that answer a collection wrongly: 10 to every one, or a length drawn as if each request were a control request. What is due is refuted of both.
 use Prim.Native.Nat.{ℕ}
 use mathlib.Core.Path.{_≡_, refl, sym, ap, _∙_}
-use mathlib.Core.Bool.{true, false, cond, false≢true}
+use mathlib.Core.Bool.{true, false, cond}
 use mathlib.Core.List.{List, [], _∷_}
 use native.Mathlib.Omega.{arith}
 use lib.Dec.{eqb}
@@ -28,7 +28,6 @@ use Rattle.common.specs.Rows.{putAt}
 use Rattle.controller.specs.Lent.{acceptsOf}
 use Rattle.schedule.specs.Bell.{advancedOf, fallenFrom, fallenOne, ringOf, ringWord, unlinkedOf}
 use Rattle.schedule.specs.Links.{detachOf, endedOverlay, precedesOne, predecessorOf, searchFrom}
-use Rattle.request.specs.Submit.{writesWith}
 use Rattle.request.specs.Writeback.{inRequest, writebackOf}
 use Rattle.collection.specs.Answers.{outcomeOf}
 use Rattle.collection.specs.Asks.{askOf, askable, requestAsk}
@@ -44,7 +43,7 @@ use Rattle.ehci.specs.declared.reply.Event.the-variants as E
 use Rattle.ehci.specs.Replies.{answeredNumber, answeredValues, replied}
 use Rattle.ehci.specs.Decides.{acknowledgeDecided, asksOf, collectDecided, decideOf, drainDecided, writebackDecided}
 use Rattle.ehci.specs.Door.{Applied, applied, applyOf, carriedOut, seenBy}
-use Rattle.promises.specs.Runs.{History, Machine, Turn, World, core, historyOf, turnOf, worldOf}
+use Rattle.promises.specs.Runs.{History, Machine, World, core, historyOf, worldOf}
 use Rattle.promises.specs.Walks.{chainWalk, ringWalk, walkFrom}
 use Rattle.promises.specs.Events.{isCollected}
 use Rattle.promises.specs.Uses.{Use, uses}
@@ -53,8 +52,8 @@ use Rattle.promises.specs.Collections.{Answers, CollectsDue, Due, dueTo, those}
 use Rattle.promises.proofs.invariants.Reached.{freshWorld}
 use Rattle.refutations.proofs.WrongRuns.{acknowledges, asked, chunk, headOf, headsOf, linked, one, openedTwo, opening, reading, replies, request, small, stateOf, submits, withRows}
 use Rattle.refutations.proofs.WrongUp.{Rises, up-world, upCalls}
-use Rattle.refutations.proofs.WrongCalls.{linkedOne, submitted}
-use Rattle.refutations.proofs.WrongBells.{goes-on, is-told}
+use Rattle.refutations.proofs.WrongCalls.{linkedOne, submitted, submitsOne}
+use Rattle.refutations.proofs.Scripts.{Follows, Script, arrives, callsOf, is-told, turnsOf}
 
 -- ---- machines that differ from `core` in one kind of call
 
@@ -78,46 +77,16 @@ rank Enable = 4
 rank Disable = 4
 
 pub rises-up : (m : Machine) → ((w : World) (c : Call) → rank c ≡ 0 → m w c ≡ core w c) → Rises m
-rises-up m same w StartBringUp e n = same w StartBringUp refl
-rises-up m same w (BringUpStep v) e n = same w (BringUpStep v) refl
-rises-up m same w AllocateAddress e n = absurd (false≢true e)
-rises-up m same w (OpenEndpoint x) e n = same w (OpenEndpoint x) refl
-rises-up m same w (Close k) e n = absurd (false≢true e)
-rises-up m same w (SetAddress k a) e n = absurd (false≢true e)
-rises-up m same w (SetPacketSize k size) e n = absurd (false≢true e)
-rises-up m same w (Submit k r readings) e n = absurd (false≢true e)
-rises-up m same w (Writeback place token) e n = absurd (false≢true e)
-rises-up m same w (Cancel k id readings) e n = absurd (false≢true e)
-rises-up m same w (Collect k id readings) e n = absurd (false≢true e)
-rises-up m same w (Acknowledge x) e n = absurd (false≢true e)
-rises-up m same w (Drain v) e n = absurd (false≢true e)
-rises-up m same w Rearm e n = absurd (false≢true e)
-rises-up m same w Enable e n = absurd (false≢true e)
-rises-up m same w Disable e n = absurd (false≢true e)
+rises-up m same =
+    record { starts = λ w n. same w StartBringUp refl; steps = λ w v n. same w (BringUpStep v) refl; opens = λ w x n. same w (OpenEndpoint x) refl }
 
 -- ---- 512 bytes of which 500 are moved
 
--- newest first: one request; its token written back, inactive, 12 bytes left; a collect that unlinks; the answer; a drain
 abbrev w : World
 w = freshWorld small
 
 abbrev pub looks : Call
 looks = Collect 0 1 (reading 0x80031)
-
-abbrev c1 : List Call
-c1 = submits 0 0x500000 ∷ upCalls
-
-abbrev c2 : List Call
-c2 = Writeback 0 0x000C8C00 ∷ c1
-
-abbrev c3 : List Call
-c3 = looks ∷ c2
-
-abbrev c4 : List Call
-c4 = acknowledges 0x20 ∷ c3
-
-abbrev pub c5 : List Call
-c5 = Drain 0x80031 ∷ c4
 
 -- unlinking, not cancelled
 abbrev pub leaves : ℕ → Slot
@@ -162,65 +131,45 @@ length-500 = rw (states-good .3)
 
 -- ---- a machine that does so, but for its collects
 
+-- one request; its token written back, inactive, 12 bytes left; a collect that unlinks; the answer; a drain
+abbrev moves : Script
+moves =
+    (Drain 0x80031, replies (Done (G.Event E.TransferActivity)) noWrites (apartNow (one 0 0x20 0 0 0 (leaves 0))))
+    ∷ (acknowledges 0x20, replies (Done G.Yes) (acknowledgeWrites 0x20 0x27 true true) (apartNow (one 0x20 0x20 1 1 1 (leaves 1))))
+    ∷ (looks, unlinked)
+    ∷ (Writeback 0 0x000C8C00, replies (Done G.Nothing) noWrites (linkedNow (one 0 0 0 0 0 linked)))
+    ∷ submitsOne
+
+abbrev pub c5 : List Call
+c5 = callsOf upCalls moves
+
 module _ (m : Machine) (plain : (v : World) (c : Call) → eqb (rank c) 2 ≡ false → m v c ≡ core v c) (finds : m (linkedNow (one 0 0 0 0 0 linked)) looks ≡ unlinked) where
   w0 : worldOf m w upCalls ≡ openedTwo
   w0 = up-world m (rises-up m (λ v c e. plain v c (ap (λ (n : ℕ). eqb n 2) e)))
 
-  submits-one : m openedTwo (submits 0 0x500000) ≡ replies (Done (G.Id 1)) (writesWith (reading 0x80031)) (linkedOne (one 0 0 0 0 0 linked))
-  submits-one = plain openedTwo (submits 0 0x500000) refl ∙ submitted
-
-  writes-one : m (linkedOne (one 0 0 0 0 0 linked)) (Writeback 0 0x000C8C00) ≡ replies (Done G.Nothing) noWrites (linkedNow (one 0 0 0 0 0 linked))
-  writes-one = plain (linkedOne (one 0 0 0 0 0 linked)) (Writeback 0 0x000C8C00) refl ∙ written
-
-  hears-one : m (apartNow (one 0 0 0 1 1 (leaves 1))) (acknowledges 0x20) ≡ replies (Done G.Yes) (acknowledgeWrites 0x20 0x27 true true) (apartNow (one 0x20 0x20 1 1 1 (leaves 1)))
-  hears-one = plain (apartNow (one 0 0 0 1 1 (leaves 1))) (acknowledges 0x20) refl ∙ hears
-
-  counts-one : m (apartNow (one 0x20 0x20 1 1 1 (leaves 1))) (Drain 0x80031) ≡ replies (Done (G.Event E.TransferActivity)) noWrites (apartNow (one 0 0x20 0 0 0 (leaves 0)))
-  counts-one = plain (apartNow (one 0x20 0x20 1 1 1 (leaves 1))) (Drain 0x80031) refl ∙ counts
-
-  w1 : worldOf m w c1 ≡ linkedOne (one 0 0 0 0 0 linked)
-  w1 = goes-on m w upCalls (submits 0 0x500000) openedTwo _ w0 submits-one
-
-  w2 : worldOf m w c2 ≡ linkedNow (one 0 0 0 0 0 linked)
-  w2 = goes-on m w c1 (Writeback 0 0x000C8C00) (linkedOne (one 0 0 0 0 0 linked)) _ w1 writes-one
-
-  w3 : worldOf m w c3 ≡ apartNow (one 0 0 0 1 1 (leaves 1))
-  w3 = goes-on m w c2 looks (linkedNow (one 0 0 0 0 0 linked)) _ w2 finds
-
-  w4 : worldOf m w c4 ≡ apartNow (one 0x20 0x20 1 1 1 (leaves 1))
-  w4 = goes-on m w c3 (acknowledges 0x20) (apartNow (one 0 0 0 1 1 (leaves 1))) _ w3 hears-one
+  follows : Follows m openedTwo moves
+  follows = (
+    plain (apartNow (one 0x20 0x20 1 1 1 (leaves 1))) (Drain 0x80031) refl ∙ counts,
+    (
+      plain (apartNow (one 0 0 0 1 1 (leaves 1))) (acknowledges 0x20) refl ∙ hears,
+      (
+        finds,
+        (
+          plain (linkedOne (one 0 0 0 0 0 linked)) (Writeback 0 0x000C8C00) refl ∙ written,
+          (plain openedTwo (submits 0 0x500000) refl ∙ submitted, tt),
+        ),
+      ),
+    ),
+  )
 
   pub w5 : worldOf m w c5 ≡ apartNow (one 0 0x20 0 0 0 (leaves 0))
-  w5 = goes-on m w c4 (Drain 0x80031) (apartNow (one 0x20 0x20 1 1 1 (leaves 1))) _ w4 counts-one
-
-  abbrev t1 : Turn
-  t1 = turnOf (openedTwo .rows) (submits 0 0x500000) (replies (Done (G.Id 1)) (writesWith (reading 0x80031)) (linkedOne (one 0 0 0 0 0 linked)))
-
-  abbrev t2 : Turn
-  t2 = turnOf (linkedOne (one 0 0 0 0 0 linked) .rows) (Writeback 0 0x000C8C00) (replies (Done G.Nothing) noWrites (linkedNow (one 0 0 0 0 0 linked)))
-
-  abbrev t3 : Turn
-  t3 = turnOf (linkedNow (one 0 0 0 0 0 linked) .rows) looks unlinked
-
-  abbrev t4 : Turn
-  t4 = turnOf (apartNow (one 0 0 0 1 1 (leaves 1)) .rows) (acknowledges 0x20) (replies (Done G.Yes) (acknowledgeWrites 0x20 0x27 true true) (apartNow (one 0x20 0x20 1 1 1 (leaves 1))))
-
-  abbrev t5 : Turn
-  t5 = turnOf (apartNow (one 0x20 0x20 1 1 1 (leaves 1)) .rows) (Drain 0x80031) (replies (Done (G.Event E.TransferActivity)) noWrites (apartNow (one 0 0x20 0 0 0 (leaves 0))))
-
-  abbrev up : History
-  up = historyOf m w upCalls
+  w5 = arrives m w upCalls openedTwo w0 moves follows
 
   abbrev told : History
-  told = t5 ∷ t4 ∷ t3 ∷ t2 ∷ t1 ∷ up
+  told = turnsOf openedTwo (historyOf m w upCalls) moves
 
   is-so : historyOf m w c5 ≡ told
-  is-so =
-      is-told m w c4 (Drain 0x80031) (apartNow (one 0x20 0x20 1 1 1 (leaves 1))) _ w4 counts-one (t4 ∷ t3 ∷ t2 ∷ t1 ∷ up)
-      (is-told m w c3 (acknowledges 0x20) (apartNow (one 0 0 0 1 1 (leaves 1))) _ w3 hears-one (t3 ∷ t2 ∷ t1 ∷ up)
-      (is-told m w c2 looks (linkedNow (one 0 0 0 0 0 linked)) _ w2 finds (t2 ∷ t1 ∷ up)
-      (is-told m w c1 (Writeback 0 0x000C8C00) (linkedOne (one 0 0 0 0 0 linked)) _ w1 writes-one (t1 ∷ up)
-      (is-told m w upCalls (submits 0 0x500000) openedTwo _ w0 submits-one up refl))))
+  is-so = is-told m w upCalls openedTwo w0 moves follows
 
   -- one request is uncollected, and 0 with 500 is due to it
   abbrev first : Use

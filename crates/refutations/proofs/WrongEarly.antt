@@ -16,7 +16,7 @@ use Rattle.ehci.specs.declared.reply.Answered.the-variants.{Done, Cancelled}
 use Rattle.ehci.specs.declared.reply.Given.the-variants as G
 use Rattle.ehci.specs.declared.reply.Event.the-variants as E
 use Rattle.ehci.specs.Door.{Applied}
-use Rattle.promises.specs.Runs.{History, Machine, Turn, World, historyOf, rowsOf, turnOf, worldOf}
+use Rattle.promises.specs.Runs.{History, Machine, World, historyOf, rowsOf, turnOf, worldOf}
 use Rattle.promises.specs.Walks.{chainWalk, isIn, ringWalk, walkFrom}
 use Rattle.promises.specs.Events.{Submits, event, isCollected}
 use Rattle.promises.specs.Bells.{kindAt}
@@ -25,12 +25,9 @@ use Rattle.promises.specs.Faults.{NeverGiven, holds, mayRead}
 use Rattle.promises.proofs.invariants.Reached.{freshWorld}
 use Rattle.refutations.proofs.WrongRuns.{acknowledges, linked, one, openedTwo, opening, reading, replies, request, small, stateOf, submits, waits}
 use Rattle.refutations.proofs.WrongUp.{plain-rises, up-world, upCalls, Plainly}
-use Rattle.refutations.proofs.WrongCalls.{againOne, apartOne, collected, drained, freeOne, heard, linkedOne, submitted, submitted-again, unlinked}
-use Rattle.refutations.proofs.WrongBells.{any, any-plainly, boundary?, early, early-plainly, found, goes-on, is-told, noteAfter}
-
--- newest first: one request; the advance bit is read; only then it is unlinked, which rings; a drain
-abbrev stale : List Call
-stale = Drain 0x80031 ∷ Cancel 0 1 (reading 0x80031) ∷ acknowledges 0x20 ∷ submits 0 0x500000 ∷ upCalls
+use Rattle.refutations.proofs.WrongCalls.{againOne, apartOne, collected, drained, freeOne, heard, linkedOne, submitted, submitted-again, unlinked, submitsOne}
+use Rattle.refutations.proofs.WrongBells.{any, any-plainly, boundary?, early, early-plainly, found, noteAfter}
+use Rattle.refutations.proofs.Scripts.{Follows, Script, arrives, callsOf, is-told, turnsOf}
 
 -- what a machine does that counts the stale advance: n is its note before the drain
 module _ (m : Machine) (plainly : Plainly m) (n : ℕ)
@@ -52,52 +49,43 @@ module _ (m : Machine) (plainly : Plainly m) (n : ℕ)
   unfolding stateOf
   submits-again = plainly freeOne (submits 0 0x502000) refl refl refl ∙ submitted-again
 
-  w1 : worldOf m w (submits 0 0x500000 ∷ upCalls) ≡ linkedOne (one 0 0 0 0 0 linked)
-  w1 = goes-on m w upCalls (submits 0 0x500000) openedTwo _ (up-world m (plain-rises m plainly)) submits-one
+  -- one request; the advance bit is read; only then it is unlinked, which rings; a drain
+  abbrev counted : Script
+  counted =
+      (Drain 0x80031, replies (Done (G.Event E.TransferActivity)) noWrites (apartOne (one 0 0x20 0 0 0 (waits 0))))
+      ∷ (Cancel 0 1 (reading 0x80031), replies (Done G.Nothing) (andThen noWrites 0 (ringWord 0x80031)) (apartOne (one 0x20 0x20 n 1 1 (waits 1))))
+      ∷ (acknowledges 0x20, replies (Done G.Yes) (acknowledgeWrites 0x20 0x27 true true) (linkedOne (one 0x20 0x20 n 0 0 linked)))
+      ∷ submitsOne
 
-  w2 : worldOf m w (acknowledges 0x20 ∷ submits 0 0x500000 ∷ upCalls) ≡ linkedOne (one 0x20 0x20 n 0 0 linked)
-  w2 = goes-on m w (submits 0 0x500000 ∷ upCalls) (acknowledges 0x20) (linkedOne (one 0 0 0 0 0 linked)) _ w1 hears
+  abbrev freed : Script
+  freed = (Collect 0 1 (reading 0x80031), replies Cancelled noWrites freeOne) ∷ counted
 
-  w3 : worldOf m w (Cancel 0 1 (reading 0x80031) ∷ acknowledges 0x20 ∷ submits 0 0x500000 ∷ upCalls) ≡ apartOne (one 0x20 0x20 n 1 1 (waits 1))
-  w3 = goes-on m w (acknowledges 0x20 ∷ submits 0 0x500000 ∷ upCalls) (Cancel 0 1 (reading 0x80031)) (linkedOne (one 0x20 0x20 n 0 0 linked)) _ w2 leaves
+  follows : Follows m openedTwo freed
+  follows = (collects-one, (counts, (leaves, (hears, (submits-one, tt)))))
+
+  up : worldOf m w upCalls ≡ openedTwo
+  up = up-world m (plain-rises m plainly)
+
+  abbrev stale : List Call
+  stale = callsOf upCalls counted
 
   w4 : worldOf m w stale ≡ apartOne (one 0 0x20 0 0 0 (waits 0))
-  w4 = goes-on m w (Cancel 0 1 (reading 0x80031) ∷ acknowledges 0x20 ∷ submits 0 0x500000 ∷ upCalls) (Drain 0x80031) (apartOne (one 0x20 0x20 n 1 1 (waits 1))) _ w3 counts
+  w4 = arrives m w upCalls openedTwo up counted (follows .1)
 
-  w5 : worldOf m w (Collect 0 1 (reading 0x80031) ∷ stale) ≡ freeOne
-  w5 = goes-on m w stale (Collect 0 1 (reading 0x80031)) (apartOne (one 0 0x20 0 0 0 (waits 0))) _ w4 collects-one
+  w5 : worldOf m w (callsOf upCalls freed) ≡ freeOne
+  w5 = arrives m w upCalls openedTwo up freed follows
 
-  -- the turns of the run, newest first
-  abbrev t1 : Turn
-  t1 = turnOf (openedTwo .rows) (submits 0 0x500000) (replies (Done (G.Id 1)) (writesWith (reading 0x80031)) (linkedOne (one 0 0 0 0 0 linked)))
+  abbrev turns : Script → History
+  turns = turnsOf openedTwo (historyOf m w upCalls)
 
-  abbrev t2 : Turn
-  t2 = turnOf (linkedOne (one 0 0 0 0 0 linked) .rows) (acknowledges 0x20) (replies (Done G.Yes) (acknowledgeWrites 0x20 0x27 true true) (linkedOne (one 0x20 0x20 n 0 0 linked)))
+  told : historyOf m w stale ≡ turns counted
+  told = is-told m w upCalls openedTwo up counted (follows .1)
 
-  abbrev t3 : Turn
-  t3 = turnOf (linkedOne (one 0x20 0x20 n 0 0 linked) .rows) (Cancel 0 1 (reading 0x80031)) (replies (Done G.Nothing) (andThen noWrites 0 (ringWord 0x80031)) (apartOne (one 0x20 0x20 n 1 1 (waits 1))))
-
-  abbrev t4 : Turn
-  t4 = turnOf (apartOne (one 0x20 0x20 n 1 1 (waits 1)) .rows) (Drain 0x80031) (replies (Done (G.Event E.TransferActivity)) noWrites (apartOne (one 0 0x20 0 0 0 (waits 0))))
-
-  abbrev t5 : Turn
-  t5 = turnOf (apartOne (one 0 0x20 0 0 0 (waits 0)) .rows) (Collect 0 1 (reading 0x80031)) (replies Cancelled noWrites freeOne)
-
-  abbrev up : History
-  up = historyOf m w upCalls
-
-  told : historyOf m w stale ≡ t4 ∷ t3 ∷ t2 ∷ t1 ∷ up
-  told =
-      is-told m w (Cancel 0 1 (reading 0x80031) ∷ acknowledges 0x20 ∷ submits 0 0x500000 ∷ upCalls) (Drain 0x80031) (apartOne (one 0x20 0x20 n 1 1 (waits 1))) _ w3 counts (t3 ∷ t2 ∷ t1 ∷ up)
-      (is-told m w (acknowledges 0x20 ∷ submits 0 0x500000 ∷ upCalls) (Cancel 0 1 (reading 0x80031)) (linkedOne (one 0x20 0x20 n 0 0 linked)) _ w2 leaves (t2 ∷ t1 ∷ up)
-      (is-told m w (submits 0 0x500000 ∷ upCalls) (acknowledges 0x20) (linkedOne (one 0 0 0 0 0 linked)) _ w1 hears (t1 ∷ up)
-      (is-told m w upCalls (submits 0 0x500000) openedTwo _ (up-world m (plain-rises m plainly)) submits-one up refl)))
-
-  bulk : isInterrupt (kindAt small 0 (t4 ∷ t3 ∷ t2 ∷ t1 ∷ up)) ≡ false
+  bulk : isInterrupt (kindAt small 0 (turns counted)) ≡ false
   unfolding kindAt ringWalk walkFrom
   bulk = refl
 
-  no-boundary : boundary? small 0 (t4 ∷ t3 ∷ t2 ∷ t1 ∷ up) ≡ false
+  no-boundary : boundary? small 0 (turns counted) ≡ false
   unfolding ringWalk walkFrom
   no-boundary = refl
 
@@ -111,10 +99,10 @@ module _ (m : Machine) (plainly : Plainly m) (n : ℕ)
 
   -- ---- its place is given again
 
-  told-more : historyOf m w (Collect 0 1 (reading 0x80031) ∷ stale) ≡ t5 ∷ t4 ∷ t3 ∷ t2 ∷ t1 ∷ up
-  told-more = is-told m w stale (Collect 0 1 (reading 0x80031)) (apartOne (one 0 0x20 0 0 0 (waits 0))) _ w4 collects-one (t4 ∷ t3 ∷ t2 ∷ t1 ∷ up) told
+  told-more : historyOf m w (callsOf upCalls freed) ≡ turns freed
+  told-more = is-told m w upCalls openedTwo up freed follows
 
-  still-read : mayRead small 0 (t5 ∷ t4 ∷ t3 ∷ t2 ∷ t1 ∷ up) ≡ true
+  still-read : mayRead small 0 (turns freed) ≡ true
   unfolding mayRead holds historyOf ringWalk walkFrom chainWalk noWrites andThen ringWord withBits
   still-read = refl
 
@@ -124,7 +112,7 @@ module _ (m : Machine) (plainly : Plainly m) (n : ℕ)
 
   pub not-held-back : EveryRun NeverGiven m → ⊥
   not-held-back never =
-      let cs : List Call = Collect 0 1 (reading 0x80031) ∷ stale in
+      let cs : List Call = callsOf upCalls freed in
       let accepted : event small (turnOf (worldOf m w cs .rows) (submits 0 0x502000) (m (worldOf m w cs) (submits 0 0x502000))) ≡ Submits 0 2 (request 0x502000)
       = ap (λ (x : World). event small (turnOf (x .rows) (submits 0 0x502000) (m x (submits 0 0x502000)))) w5
       ∙ ap (λ (a : Applied). event small (turnOf (freeOne .rows) (submits 0 0x502000) a)) submits-again in

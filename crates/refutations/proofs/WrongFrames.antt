@@ -1,7 +1,7 @@
 -- A collect that takes FRINDEX to be 9 on: of this machine the frames are not kept, and a place is given too soon.
 use Prim.Native.Nat.{ℕ, _+_}
 use mathlib.Core.Path.{_≡_, refl, sym, ap, _∙_}
-use mathlib.Core.Bool.{true, true≢false, false≢true}
+use mathlib.Core.Bool.{true, true≢false}
 use mathlib.Core.List.{List, [], _∷_}
 use native.Mathlib.Omega.{arith}
 use lib.ListN.{length, replicate}
@@ -47,7 +47,7 @@ use Rattle.ehci.specs.declared.reply.Given.the-variants as G
 use Rattle.ehci.specs.Replies.{replied}
 use Rattle.ehci.specs.Decides.{asksOf, cancelDecided, collectDecided, decideOf, openDecided, submitDecided}
 use Rattle.ehci.specs.Door.{Applied, applyOf}
-use Rattle.promises.specs.Runs.{History, Machine, Turn, World, core, historyOf, leftBy, rowsOf, turnOf, worldOf}
+use Rattle.promises.specs.Runs.{History, Machine, World, core, historyOf, leftBy, rowsOf, turnOf, worldOf}
 use Rattle.promises.specs.Walks.{chainWalk, frameWalk, isIn, ringWalk, walkFrom}
 use Rattle.promises.specs.Events.{Submits, event, isCollected}
 use Rattle.promises.specs.Bells.{kindAt, parted}
@@ -56,7 +56,7 @@ use Rattle.promises.specs.Faults.{NeverGiven, holds, mayRead}
 use Rattle.promises.proofs.invariants.Reached.{freshWorld}
 use Rattle.refutations.proofs.WrongRuns.{chunk, closed, fresh, headsOf, noBell, opening, replies, reading, rising, rising-good, small, stateOf, used}
 use Rattle.refutations.proofs.WrongUp.{Rises, next, run-world, runCalls}
-use Rattle.refutations.proofs.WrongBells.{goes-on, is-told}
+use Rattle.refutations.proofs.Scripts.{Follows, Script, arrives, callsOf, is-told, turnsOf}
 
 -- ---- the machine: a collect takes FRINDEX to be 9 on from what was read
 
@@ -159,66 +159,49 @@ w = freshWorld small
 abbrev up : List Call
 up = openInterrupt ∷ runCalls
 
+abbrev parting : Script
+parting =
+    (Cancel 0 1 (reading 0x80031), replies (Done G.Nothing) noWrites parts)
+    ∷ (submits 0x500000, replies (Done (G.Id 1)) (writesWith (reading 0x80031)) linked)
+    ∷ []
+
+abbrev gone : Script
+gone = (Collect 0 1 (reading 0x80031), replies Cancelled noWrites free) ∷ parting
+
 abbrev shortly : List Call
-shortly = Cancel 0 1 (reading 0x80031) ∷ submits 0x500000 ∷ up
+shortly = callsOf up parting
 
 abbrev after : List Call
-after = Collect 0 1 (reading 0x80031) ∷ shortly
+after = callsOf up gone
 
 rises : Rises hasty
-rises w StartBringUp e n = refl
-rises w (BringUpStep v) e n = refl
-rises w AllocateAddress e n = absurd (false≢true e)
-rises w (OpenEndpoint x) e n = refl
-rises w (Close k) e n = absurd (false≢true e)
-rises w (SetAddress k a) e n = absurd (false≢true e)
-rises w (SetPacketSize k size) e n = absurd (false≢true e)
-rises w (Submit k r readings) e n = absurd (false≢true e)
-rises w (Writeback place token) e n = absurd (false≢true e)
-rises w (Cancel k id readings) e n = absurd (false≢true e)
-rises w (Collect k id readings) e n = absurd (false≢true e)
-rises w (Acknowledge x) e n = absurd (false≢true e)
-rises w (Drain v) e n = absurd (false≢true e)
-rises w Rearm e n = absurd (false≢true e)
-rises w Enable e n = absurd (false≢true e)
-rises w Disable e n = absurd (false≢true e)
+rises = record { starts = λ w n. refl; steps = λ w v n. refl; opens = λ w x n. refl }
 
 w0 : worldOf hasty w up ≡ opened
 unfolding stateOf
-w0 = next hasty rises runCalls openInterrupt (fresh (rising 1 0)) opened (run-world hasty rises) refl refl opens
+w0 = next hasty runCalls openInterrupt (fresh (rising 1 0)) opened (run-world hasty rises) refl opens
 
-w1 : worldOf hasty w (submits 0x500000 ∷ up) ≡ linked
-w1 = goes-on hasty w up (submits 0x500000) opened _ w0 links
+follows : Follows hasty opened gone
+follows = (collects, (unlinks, (links, tt)))
 
 w2 : worldOf hasty w shortly ≡ parts
-w2 = goes-on hasty w (submits 0x500000 ∷ up) (Cancel 0 1 (reading 0x80031)) linked _ w1 unlinks
+w2 = arrives hasty w up opened w0 parting (follows .1)
 
 w3 : worldOf hasty w after ≡ free
-w3 = goes-on hasty w shortly (Collect 0 1 (reading 0x80031)) parts _ w2 collects
+w3 = arrives hasty w up opened w0 gone follows
 
-abbrev t1 : Turn
-t1 = turnOf (opened .rows) (submits 0x500000) (replies (Done (G.Id 1)) (writesWith (reading 0x80031)) linked)
+abbrev turns : Script → History
+turns = turnsOf opened (historyOf hasty w up)
 
-abbrev t2 : Turn
-t2 = turnOf (linked .rows) (Cancel 0 1 (reading 0x80031)) (replies (Done G.Nothing) noWrites parts)
+is-so : historyOf hasty w shortly ≡ turns parting
+is-so = is-told hasty w up opened w0 parting (follows .1)
 
-abbrev t3 : Turn
-t3 = turnOf (parts .rows) (Collect 0 1 (reading 0x80031)) (replies Cancelled noWrites free)
-
-abbrev told : History
-told = t2 ∷ t1 ∷ historyOf hasty w up
-
-is-so : historyOf hasty w shortly ≡ told
-is-so =
-    is-told hasty w (submits 0x500000 ∷ up) (Cancel 0 1 (reading 0x80031)) linked _ w1 unlinks (t1 ∷ historyOf hasty w up)
-    (is-told hasty w up (submits 0x500000) opened _ w0 links (historyOf hasty w up) refl)
-
-is-so-after : historyOf hasty w after ≡ t3 ∷ told
-is-so-after = is-told hasty w shortly (Collect 0 1 (reading 0x80031)) parts _ w2 collects told is-so
+is-so-after : historyOf hasty w after ≡ turns gone
+is-so-after = is-told hasty w up opened w0 gone follows
 
 -- ---- refuted
 
-by-frames : (isInterrupt (kindAt small 0 told) ≡ true) × (parted small 0 told ≡ 0)
+by-frames : (isInterrupt (kindAt small 0 (turns parting)) ≡ true) × (parted small 0 (turns parting) ≡ 0)
 unfolding kindAt parted ringWalk frameWalk walkFrom
 by-frames = (refl, refl)
 
@@ -230,7 +213,7 @@ hasty-frames kept =
     let at : parted small 0 (historyOf hasty w shortly) ≡ 0 = ap (parted small 0) is-so ∙ by-frames .1 in
     omega (arith, kept small w opening shortly 0 1 (reading 0x80031) done kind .1, at)
 
-still-read : mayRead small 0 (t3 ∷ told) ≡ true
+still-read : mayRead small 0 (turns gone) ≡ true
 unfolding mayRead holds historyOf ringWalk frameWalk walkFrom chainWalk
 still-read = refl
 

@@ -44,18 +44,18 @@ use Rattle.ehci.specs.Door.{Applied, applyOf}
 use Rattle.promises.specs.Runs.{History, Machine, World, core, historyOf, turnOf, worldOf}
 use Rattle.promises.specs.Walks.{ringWalk, walkFrom}
 use Rattle.promises.specs.Events.{Submits, event, firstIn, isDone}
-use Rattle.promises.specs.Opened.{change, slotIn}
+use Rattle.promises.specs.Opened.{slotIn}
 use Rattle.promises.specs.Uses.{uses}
 use Rattle.promises.specs.Chains.{turnBy}
 use Rattle.promises.specs.Registers.{Access}
-use Rattle.promises.specs.Ids.{CancelsById, CollectsById, IdsInTurn, following, nextId, startBy, takenBy}
+use Rattle.promises.specs.Ids.{CancelsById, CollectsById, IdsInTurn, following, nextId}
 use Rattle.promises.proofs.invariants.Reached.{freshWorld}
 use Rattle.refutations.proofs.WrongRuns.{acknowledges, bellOf, chunk, headOf, headsOf, idle, linked, one, openedTwo, opening, reading, replies, request, small, stateOf, submits, used, waits, withRows}
 use Rattle.refutations.proofs.WrongUp.{up-world, upCalls}
 use Rattle.refutations.proofs.WrongCalls.{againOne, apartOne, collected, drained, freeOne, linkedOne, submitted, submitted-again}
-use Rattle.refutations.proofs.WrongBells.{goes-on}
 use Rattle.refutations.proofs.WrongBut.{answering, but, but-rises, isLeaves, isSubmits}
-use Rattle.refutations.proofs.WrongNever.{hears, leaves}
+use Rattle.refutations.proofs.WrongNever.{hears, leaves, hearsOne}
+use Rattle.refutations.proofs.Scripts.{Follows, Script, arrives, is-told}
 
 -- after 3 comes 1
 abbrev inThrees : Applied → Applied
@@ -83,16 +83,7 @@ again = submits 0 0x502000
 abbrev round : ℕ → List Call → List Call
 round n cs = collects n ∷ Drain 0x80031 ∷ acknowledges 0x20 ∷ cancels n ∷ cs
 
--- ---- the id that is due, call by call
-
-module _ (cs : List Call) (c : Call) (now : World) (a : Applied) (e : worldOf thrice w cs ≡ now) (q : thrice now c ≡ a) where
-  due-next : nextId small 0 (past (c ∷ cs)) ≡ takenBy 0 (event small (turnOf (now .rows) c a)) (startBy 0 (change (turnOf (now .rows) c a)) (nextId small 0 (past cs)))
-  unfolding historyOf nextId
-  due-next =
-      ap (λ (x : World). takenBy 0 (event small (turnOf (x .rows) c (thrice x c))) (startBy 0 (change (turnOf (x .rows) c (thrice x c))) (nextId small 0 (past cs)))) e
-      ∙ ap (λ (x : Applied). takenBy 0 (event small (turnOf (now .rows) c x)) (startBy 0 (change (turnOf (now .rows) c x)) (nextId small 0 (past cs)))) q
-
--- ---- the first round
+-- ---- the first round, and the second request
 
 up : worldOf thrice w upCalls ≡ openedTwo
 up = up-world thrice (but-rises (λ (x : World) (a : Access). isSubmits a) (λ (x : World) (a : Applied). inThrees a) (λ x. refl) (λ x n. refl) (λ x v. refl))
@@ -106,28 +97,22 @@ givenOne = replies (Done (G.Id 1)) (writesWith (reading 0x80031)) (linkedOne (on
 submits-one : thrice openedTwo (submits 0 0x500000) ≡ givenOne
 submits-one = ap inThrees submitted
 
-w1 : worldOf thrice w c1 ≡ linkedOne (one 0 0 0 0 0 linked)
-w1 = goes-on thrice w upCalls (submits 0 0x500000) openedTwo _ up submits-one
+abbrev c2 : List Call
+c2 = again ∷ round 1 c1
 
-w2 : worldOf thrice w (cancels 1 ∷ c1) ≡ apartOne (one 0 0 0 1 1 (waits 1))
-w2 = goes-on thrice w c1 (cancels 1) (linkedOne (one 0 0 0 0 0 linked)) _ w1 leaves
+abbrev second : Script
+second =
+    (again, inThrees (replies (Done (G.Id 2)) (writesWith (reading 0x80031)) againOne))
+    ∷ (collects 1, replies Cancelled noWrites freeOne)
+    ∷ (Drain 0x80031, replies (Done (G.Event E.TransferActivity)) noWrites (apartOne (one 0 0x20 0 0 0 (waits 0))))
+    ∷ hearsOne
 
-w3 : worldOf thrice w (acknowledges 0x20 ∷ cancels 1 ∷ c1) ≡ apartOne (one 0x20 0x20 1 1 1 (waits 1))
-w3 = goes-on thrice w (cancels 1 ∷ c1) (acknowledges 0x20) (apartOne (one 0 0 0 1 1 (waits 1))) _ w2 hears
+second-so : Follows thrice openedTwo second
+second-so = (ap inThrees submitted-again, (collected, (drained, (hears, (leaves, (submits-one, tt))))))
 
-w4 : worldOf thrice w (Drain 0x80031 ∷ acknowledges 0x20 ∷ cancels 1 ∷ c1) ≡ apartOne (one 0 0x20 0 0 0 (waits 0))
-w4 = goes-on thrice w (acknowledges 0x20 ∷ cancels 1 ∷ c1) (Drain 0x80031) (apartOne (one 0x20 0x20 1 1 1 (waits 1))) _ w3 drained
-
-w5 : worldOf thrice w (round 1 c1) ≡ freeOne
-w5 = goes-on thrice w (Drain 0x80031 ∷ acknowledges 0x20 ∷ cancels 1 ∷ c1) (collects 1) (apartOne (one 0 0x20 0 0 0 (waits 0))) _ w4 collected
-
-round-one : nextId small 0 (past (round 1 c1)) ≡ nextId small 0 (past c1)
-unfolding ringWalk walkFrom
-round-one =
-    due-next (Drain 0x80031 ∷ acknowledges 0x20 ∷ cancels 1 ∷ c1) (collects 1) (apartOne (one 0 0x20 0 0 0 (waits 0))) _ w4 collected
-    ∙ due-next (acknowledges 0x20 ∷ cancels 1 ∷ c1) (Drain 0x80031) (apartOne (one 0x20 0x20 1 1 1 (waits 1))) _ w3 drained
-    ∙ due-next (cancels 1 ∷ c1) (acknowledges 0x20) (apartOne (one 0 0 0 1 1 (waits 1))) _ w2 hears
-    ∙ due-next c1 (cancels 1) (linkedOne (one 0 0 0 0 0 linked)) _ w1 leaves
+second-due : nextId small 0 (past c2) ≡ following (following (nextId small 0 (past upCalls)))
+unfolding nextId ringWalk walkFrom
+second-due = ap (nextId small 0) (is-told thrice w upCalls openedTwo up second second-so)
 
 -- ---- the rounds after it: request n, and n + 1 is next
 
@@ -192,36 +177,33 @@ module _ (n : ℕ) (g : Goods n) where
   unfolding applyOf decideOf asksOf rowsFit replied fillOf filledFrom noChain packed listOf submitDecided submitOf acceptsOf endpointAt decoded slotAt rangesGood bufferGood freeCount countZero needOf chunkCount settledSubmit acceptedWith takenFor takenPlaces placesFrom markOf stateWith afterId withOwner withEndpoint withSlot linkedRows startedOverlay attachedRing setupsWith recordAt bareAt chunkQtd newQtd tokenOf pageSlots withNext stateOf
   submits-n = rw (g .free-good, g .more)
 
+  -- and the next request is accepted
+  next-given : thrice (freeN n) again ≡ inThrees (replies (Done (G.Id (n + 1))) (writesWith (reading 0x80031)) (linkedN (n + 1)))
+  next-given = ap inThrees submits-n
+
+  abbrev ends : Script
+  ends = (collects n, ended) ∷ (Drain 0x80031, counted) ∷ (acknowledges 0x20, answered) ∷ (cancels n, left) ∷ []
+
+  abbrev goesOn : Script
+  goesOn = (again, inThrees (replies (Done (G.Id (n + 1))) (writesWith (reading 0x80031)) (linkedN (n + 1)))) ∷ ends
+
+  goes-so : Follows thrice (linkedN n) goesOn
+  goes-so = (next-given, (ends-n, (drains-n, (hears-n, (leaves-n, tt)))))
+
   module _ (cs : List Call) (e : worldOf thrice w cs ≡ linkedN n) where
-    v1 : worldOf thrice w (cancels n ∷ cs) ≡ apartN (held n 0 0 1 1 3 1 1)
-    v1 = goes-on thrice w cs (cancels n) (linkedN n) left e leaves-n
-
-    v2 : worldOf thrice w (acknowledges 0x20 ∷ cancels n ∷ cs) ≡ apartN (held n 0x20 1 1 1 3 1 1)
-    v2 = goes-on thrice w (cancels n ∷ cs) (acknowledges 0x20) (apartN (held n 0 0 1 1 3 1 1)) answered v1 hears-n
-
-    v3 : worldOf thrice w (Drain 0x80031 ∷ acknowledges 0x20 ∷ cancels n ∷ cs) ≡ apartN (held n 0 0 0 0 3 1 0)
-    v3 = goes-on thrice w (acknowledges 0x20 ∷ cancels n ∷ cs) (Drain 0x80031) (apartN (held n 0x20 1 1 1 3 1 1)) counted v2 drains-n
-
     round-world : worldOf thrice w (round n cs) ≡ freeN n
-    round-world = goes-on thrice w (Drain 0x80031 ∷ acknowledges 0x20 ∷ cancels n ∷ cs) (collects n) (apartN (held n 0 0 0 0 3 1 0)) ended v3 ends-n
+    round-world = arrives thrice w cs (linkedN n) e ends (goes-so .1)
 
     round-due : nextId small 0 (past (round n cs)) ≡ nextId small 0 (past cs)
-    unfolding ringWalk walkFrom
-    round-due =
-        due-next (Drain 0x80031 ∷ acknowledges 0x20 ∷ cancels n ∷ cs) (collects n) (apartN (held n 0 0 0 0 3 1 0)) ended v3 ends-n
-        ∙ due-next (acknowledges 0x20 ∷ cancels n ∷ cs) (Drain 0x80031) (apartN (held n 0x20 1 1 1 3 1 1)) counted v2 drains-n
-        ∙ due-next (cancels n ∷ cs) (acknowledges 0x20) (apartN (held n 0 0 1 1 3 1 1)) answered v1 hears-n
-        ∙ due-next cs (cancels n) (linkedN n) left e leaves-n
-
-    -- and the next request is accepted
-    next-given : thrice (freeN n) again ≡ inThrees (replies (Done (G.Id (n + 1))) (writesWith (reading 0x80031)) (linkedN (n + 1)))
-    next-given = ap inThrees submits-n
+    unfolding nextId ringWalk walkFrom
+    round-due = ap (nextId small 0) (is-told thrice w cs (linkedN n) e ends (goes-so .1))
 
     next-world : worldOf thrice w (again ∷ round n cs) ≡ linkedN (n + 1)
-    next-world = goes-on thrice w (round n cs) again (freeN n) _ round-world next-given
+    next-world = arrives thrice w cs (linkedN n) e goesOn goes-so
 
     next-due : nextId small 0 (past (again ∷ round n cs)) ≡ following (nextId small 0 (past cs))
-    next-due = due-next (round n cs) again (freeN n) _ round-world next-given ∙ ap following round-due
+    unfolding nextId ringWalk walkFrom
+    next-due = ap (nextId small 0) (is-told thrice w cs (linkedN n) e goesOn goes-so)
 
 goods-two : Goods 2
 unfolding stateOf inRanges restGood machineGood interruptGood doorbellGood ownerGood largest slotsGood slotGood phaseGood closedGood idleGood linkedGood unlinkingGood boundaryGood openKind noRequest settingsGood numbersGood eachGood noOverlap areaGood apartAreas slotAt withoutBits
@@ -233,30 +215,18 @@ goods-three = record { same = refl; more = refl; linked-good = refl; left-good =
 
 -- ---- four requests
 
-abbrev c2 : List Call
-c2 = again ∷ round 1 c1
-
 abbrev c3 : List Call
 c3 = again ∷ round 2 c2
 
 abbrev ready : List Call
 ready = round 3 c3
 
-submits-two : thrice freeOne again ≡ inThrees (replies (Done (G.Id 2)) (writesWith (reading 0x80031)) againOne)
-submits-two = ap inThrees submitted-again
-
-second : worldOf thrice w c2 ≡ linkedN 2
-second = goes-on thrice w (round 1 c1) again freeOne _ w5 submits-two
-
 third : worldOf thrice w c3 ≡ linkedN 3
-third = next-world 2 goods-two c2 second
+third = next-world 2 goods-two c2 (arrives thrice w upCalls openedTwo up second second-so)
 
 fourth-due : nextId small 0 (past ready) ≡ following (following (following (nextId small 0 (past upCalls))))
 fourth-due =
-    round-due 3 goods-three c3 third ∙ next-due 2 goods-two c2 second
-    ∙ ap following
-    (due-next (round 1 c1) again freeOne _ w5 submits-two
-    ∙ ap following (round-one ∙ due-next upCalls (submits 0 0x500000) openedTwo givenOne up submits-one))
+    round-due 3 goods-three c3 third ∙ next-due 2 goods-two c2 (arrives thrice w upCalls openedTwo up second second-so) ∙ ap following second-due
 
 -- the first is given 1, and the fourth too
 pub thrice-ids : IdsInTurn thrice → ⊥
@@ -265,7 +235,7 @@ thrice-ids ids =
     = ap (λ (x : World). event small (turnBy thrice x (submits 0 0x500000))) up ∙ ap (λ (a : Applied). event small (turnOf (openedTwo .rows) (submits 0 0x500000) a)) submits-one in
     let fourth : event small (turnBy thrice (worldOf thrice w ready) again) ≡ Submits 0 1 (request 0x502000)
     = ap (λ (x : World). event small (turnBy thrice x again)) (round-world 3 goods-three c3 third)
-    ∙ ap (λ (a : Applied). event small (turnOf (freeN 3 .rows) again a)) (next-given 3 goods-three c3 third) in
+    ∙ ap (λ (a : Applied). event small (turnOf (freeN 3 .rows) again a)) (next-given 3 goods-three) in
     let begins : 1 ≡ nextId small 0 (past upCalls) = ids small w opening upCalls (submits 0 0x500000) 0 1 (request 0x500000) first in
     let ends : 1 ≡ nextId small 0 (past ready) = ids small w opening ready again 0 1 (request 0x502000) fourth in
     omega (arith, ends ∙ fourth-due ∙ ap (λ (k : ℕ). following (following (following k))) (sym begins))

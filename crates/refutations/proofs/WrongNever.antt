@@ -18,7 +18,6 @@ use Rattle.common.specs.Rows.{putAt}
 use Rattle.controller.specs.Lent.{acceptsOf}
 use Rattle.schedule.specs.Bell.{advancedOf, fallenFrom, fallenOne, ringOf, ringWord, unlinkedOf}
 use Rattle.schedule.specs.Links.{detachOf, endedOverlay, precedesOne, predecessorOf, searchFrom}
-use Rattle.request.specs.Submit.{writesWith}
 use Rattle.collection.specs.Unlinks.{boundedOf, unlinkOf, waitingOf}
 use Rattle.collection.specs.Calls.{cancelOf, collectOf, finishOf, freed, unlinkingOf}
 use Rattle.collection.specs.Answers.{outcomeOf}
@@ -31,7 +30,7 @@ use Rattle.ehci.specs.declared.reply.Event.the-variants as E
 use Rattle.ehci.specs.Replies.{replied}
 use Rattle.ehci.specs.Decides.{acknowledgeDecided, asksOf, cancelDecided, collectDecided, decideOf, drainDecided}
 use Rattle.ehci.specs.Door.{Applied, applyOf}
-use Rattle.promises.specs.Runs.{World, core, History, Machine, Turn, historyOf, turnOf, worldOf}
+use Rattle.promises.specs.Runs.{World, core, History, Machine, historyOf, turnOf, worldOf}
 use native.Mathlib.Omega.{arith}
 use Rattle.settings.specs.Settings.{apartAreas, areaGood, eachGood, noOverlap, numbersGood, settingsGood}
 use Rattle.slot.specs.Ranges.{boundaryGood, closedGood, idleGood, linkedGood, noRequest, openKind, phaseGood, slotGood, unlinkingGood}
@@ -41,11 +40,12 @@ use Rattle.promises.specs.Events.{isCollected}
 use Rattle.promises.specs.Bells.{asked, bell, collects, counted, kindAt, newestId, none, number, unlinking, unlinksOf}
 use Rattle.promises.specs.Boundaries.{EveryRun, Exact, Passes, Waits, turn}
 use Rattle.promises.proofs.invariants.Reached.{freshWorld}
-use Rattle.refutations.proofs.WrongRuns.{acknowledges, linked, one, openedTwo, opening, reading, replies, small, stateOf, submits, waits}
+use Rattle.refutations.proofs.WrongRuns.{acknowledges, linked, one, openedTwo, opening, reading, replies, small, stateOf, waits}
 use Rattle.refutations.proofs.WrongUp.{Plainly, isDrain, plain-rises, up-world, upCalls}
-use Rattle.refutations.proofs.WrongCalls.{apartOne, linkedOne, submitted}
+use Rattle.refutations.proofs.WrongCalls.{apartOne, linkedOne, submitted, submitsOne}
 use Rattle.refutations.proofs.WrongBut.{not-passed}
-use Rattle.refutations.proofs.WrongBells.{goes-on, is-told, noteBefore}
+use Rattle.refutations.proofs.WrongBells.{noteBefore}
+use Rattle.refutations.proofs.Scripts.{Follows, Script, arrives, callsOf, is-told, turnsOf}
 
 -- no advance is ever counted
 abbrev pub never : Machine
@@ -58,21 +58,8 @@ states-good : (inRanges (one 0 0 0 0 0 linked) ≡ true) × (inRanges (one 0 0 0
 unfolding stateOf inRanges restGood machineGood interruptGood doorbellGood ownerGood largest slotsGood slotGood phaseGood closedGood idleGood linkedGood unlinkingGood boundaryGood openKind noRequest settingsGood numbersGood eachGood noOverlap areaGood apartAreas slotAt withoutBits
 states-good = (refl, refl, refl, refl)
 
--- newest first: one request is unlinked, which rings; the answer; a drain
 abbrev w : World
 w = freshWorld small
-
-abbrev c1 : List Call
-c1 = submits 0 0x500000 ∷ upCalls
-
-abbrev c2 : List Call
-c2 = Cancel 0 1 (reading 0x80031) ∷ c1
-
-abbrev c3 : List Call
-c3 = acknowledges 0x20 ∷ c2
-
-abbrev answered : List Call
-answered = Drain 0x80031 ∷ c3
 
 pub leaves : core (linkedOne (one 0 0 0 0 0 linked)) (Cancel 0 1 (reading 0x80031)) ≡ replies (Done G.Nothing) (andThen noWrites 0 (ringWord 0x80031)) (apartOne (one 0 0 0 1 1 (waits 1)))
 unfolding applyOf decideOf asksOf rowsFit replied fillOf filledFrom noChain packed listOf cancelDecided cancelOf acceptsOf endpointAt decoded slotAt unlinkOf waitingOf boundedOf unlinkedOf ringOf detachOf predecessorOf searchFrom precedesOne withEndpoint withSlot withBell stateOf
@@ -94,39 +81,40 @@ never-counts : never (apartOne (one 0x20 0x20 1 1 1 (waits 1))) (Drain 0x80031) 
 unfolding stateOf withBell
 never-counts = passes
 
+-- one request is unlinked, which rings
+abbrev pub leavesOne : Script
+leavesOne = (Cancel 0 1 (reading 0x80031), replies (Done G.Nothing) (andThen noWrites 0 (ringWord 0x80031)) (apartOne (one 0 0 0 1 1 (waits 1)))) ∷ submitsOne
+
+-- the answer
+abbrev pub hearsOne : Script
+hearsOne = (acknowledges 0x20, replies (Done G.Yes) (acknowledgeWrites 0x20 0x27 true true) (apartOne (one 0x20 0x20 1 1 1 (waits 1)))) ∷ leavesOne
+
+abbrev drainsOne : Script
+drainsOne = (Drain 0x80031, replies (Done (G.Event E.TransferActivity)) noWrites (apartOne (one 0 0x20 0 1 1 (waits 1)))) ∷ hearsOne
+
+abbrev c1 : List Call
+c1 = callsOf upCalls submitsOne
+
+abbrev answered : List Call
+answered = callsOf upCalls drainsOne
+
+up : worldOf never w upCalls ≡ openedTwo
+up = up-world never (plain-rises never never-plainly)
+
+follows : Follows never openedTwo drainsOne
+follows = (never-counts, (hears, (leaves, (submitted, tt))))
+
 w1 : worldOf never w c1 ≡ linkedOne (one 0 0 0 0 0 linked)
-w1 = goes-on never w upCalls (submits 0 0x500000) openedTwo _ (up-world never (plain-rises never never-plainly)) submitted
-
-w2 : worldOf never w c2 ≡ apartOne (one 0 0 0 1 1 (waits 1))
-w2 = goes-on never w c1 (Cancel 0 1 (reading 0x80031)) (linkedOne (one 0 0 0 0 0 linked)) _ w1 leaves
-
-w3 : worldOf never w c3 ≡ apartOne (one 0x20 0x20 1 1 1 (waits 1))
-w3 = goes-on never w c2 (acknowledges 0x20) (apartOne (one 0 0 0 1 1 (waits 1))) _ w2 hears
+w1 = arrives never w upCalls openedTwo up submitsOne (submitted, tt)
 
 w4 : worldOf never w answered ≡ apartOne (one 0 0x20 0 1 1 (waits 1))
-w4 = goes-on never w c3 (Drain 0x80031) (apartOne (one 0x20 0x20 1 1 1 (waits 1))) _ w3 never-counts
-
-abbrev t1 : Turn
-t1 = turnOf (openedTwo .rows) (submits 0 0x500000) (replies (Done (G.Id 1)) (writesWith (reading 0x80031)) (linkedOne (one 0 0 0 0 0 linked)))
-
-abbrev t2 : Turn
-t2 = turnOf (linkedOne (one 0 0 0 0 0 linked) .rows) (Cancel 0 1 (reading 0x80031)) (replies (Done G.Nothing) (andThen noWrites 0 (ringWord 0x80031)) (apartOne (one 0 0 0 1 1 (waits 1))))
-
-abbrev t3 : Turn
-t3 = turnOf (apartOne (one 0 0 0 1 1 (waits 1)) .rows) (acknowledges 0x20) (replies (Done G.Yes) (acknowledgeWrites 0x20 0x27 true true) (apartOne (one 0x20 0x20 1 1 1 (waits 1))))
-
-abbrev t4 : Turn
-t4 = turnOf (apartOne (one 0x20 0x20 1 1 1 (waits 1)) .rows) (Drain 0x80031) (replies (Done (G.Event E.TransferActivity)) noWrites (apartOne (one 0 0x20 0 1 1 (waits 1))))
+w4 = arrives never w upCalls openedTwo up drainsOne follows
 
 abbrev told : History
-told = t4 ∷ t3 ∷ t2 ∷ t1 ∷ historyOf never w upCalls
+told = turnsOf openedTwo (historyOf never w upCalls) drainsOne
 
 is-so : historyOf never w answered ≡ told
-is-so =
-    is-told never w c3 (Drain 0x80031) (apartOne (one 0x20 0x20 1 1 1 (waits 1))) _ w3 never-counts (t3 ∷ t2 ∷ t1 ∷ historyOf never w upCalls)
-    (is-told never w c2 (acknowledges 0x20) (apartOne (one 0 0 0 1 1 (waits 1))) _ w2 hears (t2 ∷ t1 ∷ historyOf never w upCalls)
-    (is-told never w c1 (Cancel 0 1 (reading 0x80031)) (linkedOne (one 0 0 0 0 0 linked)) _ w1 leaves (t1 ∷ historyOf never w upCalls)
-    (is-told never w upCalls (submits 0 0x500000) openedTwo _ (up-world never (plain-rises never never-plainly)) submitted (historyOf never w upCalls) refl)))
+is-so = is-told never w upCalls openedTwo up drainsOne follows
 
 -- by the history its advance is counted
 by-history : (isInterrupt (kindAt small 0 told) ≡ false) × (unlinking small 0 told ≡ true) × (newestId small 0 told ≡ 1) × (number small 0 told ≡ 1) × (counted small told ≡ 1)
@@ -147,20 +135,23 @@ never-exact exact =
 
 -- ---- order 13: n + 1 advances are counted, and its request does not pass
 
-leaves-ring : unlinksOf small 0 t2 ≡ true
+leaves-ring : unlinksOf small 0 (turnOf (linkedOne (one 0 0 0 0 0 linked) .rows) (Cancel 0 1 (reading 0x80031)) (replies (Done G.Nothing) (andThen noWrites 0 (ringWord 0x80031)) (apartOne (one 0 0 0 1 1 (waits 1))))) ≡ true
 unfolding ringWalk walkFrom
 leaves-ring = refl
 
-none-owed : asked small (t1 ∷ historyOf never w upCalls) ≡ counted small (t1 ∷ historyOf never w upCalls) + 0
+abbrev first : History
+first = turnsOf openedTwo (historyOf never w upCalls) submitsOne
+
+none-owed : asked small first ≡ counted small first + 0
 unfolding counted asked historyOf
 none-owed = refl
 
-none-counted : counted small (t1 ∷ historyOf never w upCalls) ≡ 0
+none-counted : counted small first ≡ 0
 unfolding counted historyOf
 none-counted = refl
 
-begun : historyOf never w c1 ≡ t1 ∷ historyOf never w upCalls
-begun = is-told never w upCalls (submits 0 0x500000) openedTwo _ (up-world never (plain-rises never never-plainly)) submitted (historyOf never w upCalls) refl
+begun : historyOf never w c1 ≡ first
+begun = is-told never w upCalls openedTwo up submitsOne (submitted, tt)
 
 not-collectable : Passes never small w answered 0 → ⊥
 unfolding stateOf endpointAt decoded slotAt

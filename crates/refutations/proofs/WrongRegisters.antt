@@ -20,7 +20,7 @@ use Rattle.interrupt.specs.Interrupts.{acknowledgeOf, acknowledgeWrites, acknow
 use Rattle.opening.specs.Opening.{freshState, rowsFit}
 use Rattle.common.specs.declared.reads.NextRead.the-variants as N
 use Rattle.ehci.specs.declared.call.Call.{Call}
-use Rattle.ehci.specs.declared.call.Call.the-variants.{Cancel, Drain, StartBringUp}
+use Rattle.ehci.specs.declared.call.Call.the-variants.{Drain, StartBringUp}
 use Rattle.ehci.specs.declared.reply.Answered.the-variants.{Done}
 use Rattle.ehci.specs.declared.reply.Event.the-variants as E
 use Rattle.ehci.specs.declared.reply.Given.the-variants as G
@@ -37,9 +37,9 @@ use Rattle.promises.proofs.any_machine.RegisterLaws.{count-by, never-rings, sta
 use Rattle.refutations.proofs.WrongRuns.{acknowledges, bellOf, closed, fresh, linked, one, openedTwo, opening, opens, reading, replies, request, rising, rising-good, small, stateOf, submits, waits}
 use Rattle.refutations.proofs.WrongUp.{up-world, upCalls}
 use Rattle.refutations.proofs.WrongCalls.{apartFirst, apartOne, linkedOne, submitted, submitted-beside}
-use Rattle.refutations.proofs.WrongBells.{goes-on, is-told}
 use Rattle.refutations.proofs.WrongBut.{but, but-rises, isAcknowledges, isStarts, isSubmits, rewriting}
-use Rattle.refutations.proofs.WrongNever.{hears, leaves}
+use Rattle.refutations.proofs.WrongNever.{hears, leaves, hearsOne, leavesOne}
+use Rattle.refutations.proofs.Scripts.{Script, arrives, callsOf, is-told, turnsOf}
 
 abbrev w : World
 w = freshWorld small
@@ -138,11 +138,8 @@ rung x = writeOf (x .offset) (withBits (x .value) 0x40)
 abbrev pub insistent : Machine
 insistent = but (λ x a. isSubmits a && eqb (x .state .doorbell) 1) (λ x a. rewriting rung a)
 
-abbrev c1 : List Call
-c1 = submits 0 0x500000 ∷ upCalls
-
 abbrev c2 : List Call
-c2 = Cancel 0 1 (reading 0x80031) ∷ c1
+c2 = callsOf upCalls leavesOne
 
 insistent-up : worldOf insistent w upCalls ≡ openedTwo
 insistent-up = up-world insistent (but-rises (λ (x : World) (a : Access). isSubmits a && eqb (x .state .doorbell) 1) (λ (x : World) (a : Applied). rewriting rung a) (λ x. refl) (λ x n. refl) (λ x v. refl))
@@ -151,11 +148,8 @@ insistent-submits : insistent openedTwo (submits 0 0x500000) ≡ replies (Done (
 unfolding stateOf
 insistent-submits = submitted
 
-insistent-one : worldOf insistent w c1 ≡ linkedOne (one 0 0 0 0 0 linked)
-insistent-one = goes-on insistent w upCalls (submits 0 0x500000) openedTwo _ insistent-up insistent-submits
-
 insistent-two : worldOf insistent w c2 ≡ apartOne (one 0 0 0 1 1 (waits 1))
-insistent-two = goes-on insistent w c1 (Cancel 0 1 (reading 0x80031)) (linkedOne (one 0 0 0 0 0 linked)) _ insistent-one leaves
+insistent-two = arrives insistent w upCalls openedTwo insistent-up leavesOne (leaves, (insistent-submits, tt))
 
 rings-beside : insistent (apartOne (one 0 0 0 1 1 (waits 1))) (submits 1 0x501000) ≡ rewriting rung (replies (Done (G.Id 1)) (writesWith (reading 0x80031)) apartFirst)
 unfolding stateOf
@@ -195,47 +189,26 @@ begins x a = replies (Done (G.Next (N.Register 0) 0)) noWrites x
 abbrev pub brazen : Machine
 brazen = but (λ x a. isStarts a && eqb (x .state .noted) 1) begins
 
-abbrev c3 : List Call
-c3 = acknowledges 0x20 ∷ c2
-
 brazen-up : worldOf brazen w upCalls ≡ openedTwo
 brazen-up = up-world brazen (but-rises (λ (x : World) (a : Access). isStarts a && eqb (x .state .noted) 1) begins (λ x. refl) (λ x n. rw n) (λ x v. refl))
-
-brazen-one : worldOf brazen w c1 ≡ linkedOne (one 0 0 0 0 0 linked)
-brazen-one = goes-on brazen w upCalls (submits 0 0x500000) openedTwo _ brazen-up submitted
-
-brazen-two : worldOf brazen w c2 ≡ apartOne (one 0 0 0 1 1 (waits 1))
-brazen-two = goes-on brazen w c1 (Cancel 0 1 (reading 0x80031)) (linkedOne (one 0 0 0 0 0 linked)) _ brazen-one leaves
-
-brazen-three : worldOf brazen w c3 ≡ apartOne (one 0x20 0x20 1 1 1 (waits 1))
-brazen-three = goes-on brazen w c2 (acknowledges 0x20) (apartOne (one 0 0 0 1 1 (waits 1))) _ brazen-two hears
 
 brazen-starts : brazen (apartOne (one 0x20 0x20 1 1 1 (waits 1))) StartBringUp ≡ replies (Done (G.Next (N.Register 0) 0)) noWrites (apartOne (one 0x20 0x20 1 1 1 (waits 1)))
 unfolding stateOf
 brazen-starts = refl
 
-abbrev t2 : Turn
-t2 = turnOf (linkedOne (one 0 0 0 0 0 linked) .rows) (Cancel 0 1 (reading 0x80031)) (replies (Done G.Nothing) (andThen noWrites 0 (ringWord 0x80031)) (apartOne (one 0 0 0 1 1 (waits 1))))
+abbrev restarts : Script
+restarts = (StartBringUp, replies (Done (G.Next (N.Register 0) 0)) noWrites (apartOne (one 0x20 0x20 1 1 1 (waits 1)))) ∷ hearsOne
 
-abbrev t3 : Turn
-t3 = turnOf (apartOne (one 0 0 0 1 1 (waits 1)) .rows) (acknowledges 0x20) (replies (Done G.Yes) (acknowledgeWrites 0x20 0x27 true true) (apartOne (one 0x20 0x20 1 1 1 (waits 1))))
+brazen-told : historyOf brazen w (callsOf upCalls restarts) ≡ turnsOf openedTwo (historyOf brazen w upCalls) restarts
+brazen-told = is-told brazen w upCalls openedTwo brazen-up restarts (brazen-starts, (hears, (leaves, (submitted, tt))))
 
-abbrev t4 : Turn
-t4 = turnOf (apartOne (one 0x20 0x20 1 1 1 (waits 1)) .rows) StartBringUp (replies (Done (G.Next (N.Register 0) 0)) noWrites (apartOne (one 0x20 0x20 1 1 1 (waits 1))))
-
-brazen-told : historyOf brazen w (StartBringUp ∷ c3) ≡ t4 ∷ t3 ∷ t2 ∷ historyOf brazen w c1
-brazen-told =
-    is-told brazen w c3 StartBringUp (apartOne (one 0x20 0x20 1 1 1 (waits 1))) _ brazen-three brazen-starts (t3 ∷ t2 ∷ historyOf brazen w c1)
-    (is-told brazen w c2 (acknowledges 0x20) (apartOne (one 0 0 0 1 1 (waits 1))) _ brazen-two hears (t2 ∷ historyOf brazen w c1)
-    (is-told brazen w c1 (Cancel 0 1 (reading 0x80031)) (linkedOne (one 0 0 0 0 0 linked)) _ brazen-one leaves (historyOf brazen w c1) refl))
-
-begun-answered : (h : History) → (readIn (t4 ∷ t3 ∷ t2 ∷ h) ≡ 1) × (isUp (bell small (t4 ∷ t3 ∷ t2 ∷ h)) ≡ true)
+begun-answered : (h : History) → (readIn (turnsOf openedTwo h restarts) ≡ 1) × (isUp (bell small (turnsOf openedTwo h restarts)) ≡ true)
 unfolding readIn bell andThen noWrites ringWord withBits acknowledgeWrites
 begun-answered h = (refl, refl)
 
 pub brazen-quiet : QuietBringUp brazen → ⊥
 brazen-quiet quiet =
-    let h = historyOf brazen w c1 in
-    let begun : readIn (historyOf brazen w (StartBringUp ∷ c3)) ≡ 1 = ap readIn brazen-told ∙ begun-answered h .0 in
-    let down = quiet small w opening (StartBringUp ∷ c3) (λ z. omega (arith, begun, z)) in
+    let h = historyOf brazen w upCalls in
+    let begun : readIn (historyOf brazen w (callsOf upCalls restarts)) ≡ 1 = ap readIn brazen-told ∙ begun-answered h .0 in
+    let down = quiet small w opening (callsOf upCalls restarts) (λ z. omega (arith, begun, z)) in
     true≢false (sym (ap (λ (x : History). isUp (bell small x)) brazen-told ∙ begun-answered h .1) ∙ ap isUp down)

@@ -10,7 +10,6 @@ use lib.ListN.{getD, length}
 use Rattle.register.specs.Writes.{noWrites}
 use Rattle.descriptor.specs.declared.qtd.QueueTransferDescriptor.{QueueTransferDescriptor}
 use Rattle.pool.specs.Chains.{blank}
-use Rattle.request.specs.Submit.{writesWith}
 use Rattle.ehci.specs.declared.call.Call.{Call}
 use Rattle.ehci.specs.declared.call.Call.the-variants.{Writeback}
 use Rattle.ehci.specs.declared.reply.Answered.{Answered}
@@ -29,9 +28,9 @@ use Rattle.promises.proofs.theorems.TokenLaws.{backAt}
 use Rattle.promises.proofs.invariants.Reached.{freshWorld}
 use Rattle.refutations.proofs.WrongRuns.{linked, one, openedTwo, opening, reading, replies, request, small, submits}
 use Rattle.refutations.proofs.WrongUp.{up-world, upCalls}
-use Rattle.refutations.proofs.WrongCalls.{linkedOne, submitted}
-use Rattle.refutations.proofs.WrongBells.{goes-on, is-told}
+use Rattle.refutations.proofs.WrongCalls.{linkedOne, submitted, submitsOne}
 use Rattle.refutations.proofs.WrongCollections.{apartNow, c5, leaves, length-500, linkedNow, looks, rank, rises-up, unlinks, w5, written}
+use Rattle.refutations.proofs.Scripts.{Follows, Script, arrives, callsOf, is-told, turnsOf}
 
 abbrev w : World
 w = freshWorld small
@@ -51,15 +50,16 @@ abbrev back : Call
 back = Writeback 0 0x000C8C00
 
 abbrev cs : List Call
-cs = submits 0 0x500000 ∷ upCalls
+cs = callsOf upCalls submitsOne
 
 up : worldOf drops w upCalls ≡ openedTwo
 up = up-world drops (rises-up drops (λ v c e. drops-plain v c (ap (λ (n : ℕ). eqb n 3) e)))
 
+submits-so : Follows drops openedTwo submitsOne
+submits-so = (drops-plain openedTwo (submits 0 0x500000) refl ∙ submitted, tt)
+
 submits-there : worldOf drops w cs ≡ linkedOne (one 0 0 0 0 0 linked)
-submits-there =
-    goes-on drops w upCalls (submits 0 0x500000) openedTwo _ up
-    (drops-plain openedTwo (submits 0 0x500000) refl ∙ submitted)
+submits-there = arrives drops w upCalls openedTwo up submitsOne submits-so
 
 abbrev tokenIn : List QueueTransferDescriptor → ℕ
 tokenIn l = getD l 0 blank .token
@@ -74,22 +74,17 @@ drops-stays p =
     omega (arith, sym is ∙ due)
 
 -- so the record has not the token that was last written back
-abbrev t1 : Turn
-t1 = turnOf (openedTwo .rows) (submits 0 0x500000) (replies (Done (G.Id 1)) (writesWith (reading 0x80031)) (linkedOne (one 0 0 0 0 0 linked)))
-
-abbrev t2 : Turn
-t2 = turnOf (linkedOne (one 0 0 0 0 0 linked) .rows) back (replies (Done G.Nothing) noWrites (linkedOne (one 0 0 0 0 0 linked)))
+abbrev writes : Script
+writes = (back, replies (Done G.Nothing) noWrites (linkedOne (one 0 0 0 0 0 linked))) ∷ submitsOne
 
 abbrev told : History
-told = t2 ∷ t1 ∷ historyOf drops w upCalls
+told = turnsOf openedTwo (historyOf drops w upCalls) writes
 
 back-so : drops (linkedOne (one 0 0 0 0 0 linked)) back ≡ replies (Done G.Nothing) noWrites (linkedOne (one 0 0 0 0 0 linked))
 back-so = ap (unwritten (linkedOne (one 0 0 0 0 0 linked))) written
 
 is-so : historyOf drops w (back ∷ cs) ≡ told
-is-so =
-    is-told drops w cs back (linkedOne (one 0 0 0 0 0 linked)) _ submits-there back-so (t1 ∷ historyOf drops w upCalls)
-    (is-told drops w upCalls (submits 0 0x500000) openedTwo _ up (drops-plain openedTwo (submits 0 0x500000) refl ∙ submitted) (historyOf drops w upCalls) refl)
+is-so = is-told drops w upCalls openedTwo up writes (back-so, submits-so)
 
 abbrev first : Use
 first = record { slot = 0; id = 1; request = request 0x500000; places = 0 ∷ [] }
@@ -102,7 +97,7 @@ not-standing : TokenStands small told (linkedOne (one 0 0 0 0 0 linked)) first 0
 not-standing x = by (x .since) (x .picture) (x .untouched)
   where
     newest : History → Turn
-    newest h = getD h 0 t1
+    newest h = getD h 0 (turnOf (w .rows) back (core w back))
 
     by : (since : History) → told ≡ since ++ x .last ∷ x .before → Untouched small 0 0 since → ⊥
     by [] e u =
@@ -116,7 +111,7 @@ AllStand h v us = Every (λ u. (j : ℕ) → j < length (u .places) → TokenSta
 
 drops-stands : TokensStand drops → ⊥
 drops-stands p =
-    let there : worldOf drops w (back ∷ cs) ≡ linkedOne (one 0 0 0 0 0 linked) = goes-on drops w cs back (linkedOne (one 0 0 0 0 0 linked)) _ submits-there back-so in
+    let there : worldOf drops w (back ∷ cs) ≡ linkedOne (one 0 0 0 0 0 linked) = arrives drops w upCalls openedTwo up writes (back-so, submits-so) in
     let by-world : AllStand (historyOf drops w (back ∷ cs)) (linkedOne (one 0 0 0 0 0 linked)) (uses small (historyOf drops w (back ∷ cs)))
     = subst (λ (v : World). AllStand (historyOf drops w (back ∷ cs)) v (uses small (historyOf drops w (back ∷ cs)))) there (p small w opening (back ∷ cs)) in
     let by-history : AllStand told (linkedOne (one 0 0 0 0 0 linked)) (uses small told)

@@ -42,7 +42,7 @@ use Rattle.promises.specs.Uses.{uses}
 use Rattle.promises.specs.Coverage.{recordsMet}
 use Rattle.promises.specs.Submissions.{Fields, PacketsStand, SubmitsPlanned, SubmittedStays, fieldsOf, packetAt, planFor, planned}
 use Rattle.promises.proofs.invariants.Reached.{freshWorld, opens-fresh}
-use Rattle.refutations.proofs.WrongRuns.{linked, one, openedTwo, opening, reading, replies, request, small, stateOf, submits}
+use Rattle.refutations.proofs.WrongRuns.{linked, one, openedTwo, opening, reading, replies, request, small, stateOf, submits, sized}
 use Rattle.refutations.proofs.WrongUp.{up-world, upCalls}
 use Rattle.refutations.proofs.WrongCalls.{linkedOne, submitted}
 use Rattle.refutations.proofs.WrongCollections.{rank, rises-up}
@@ -50,18 +50,7 @@ use Rattle.refutations.proofs.WrongCollections.{rank, rises-up}
 -- ---- three descriptors, one slot
 
 abbrev trio : Settings
-trio =
-    record {
-      descriptors = 3;
-      endpoints = 1;
-      ports = 1;
-      limit = 16384;
-      wait = 1;
-      pool = 0x100000;
-      heads = 0x200000;
-      frames = 0x300000;
-      setups = 0x400000;
-    }
+trio = sized 3 1 16384
 
 trio-good : settingsGood trio ≡ true
 unfolding settingsGood numbersGood eachGood noOverlap areaGood apartAreas

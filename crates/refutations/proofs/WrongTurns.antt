@@ -18,8 +18,6 @@ use Rattle.controller.specs.Lent.{acceptsOf}
 use Rattle.collection.specs.Answers.{outcomeOf}
 use Rattle.collection.specs.Calls.{collectOf, finishOf, unlinkingOf}
 use Rattle.schedule.specs.Bell.{commandWord, ringWord}
-use Rattle.request.specs.Submit.{writesWith}
-use Rattle.interrupt.specs.Interrupts.{acknowledgeWrites}
 use Rattle.ehci.specs.declared.call.Call.{Call}
 use Rattle.ehci.specs.declared.call.Call.the-variants.{Cancel, Collect, Drain}
 use Rattle.ehci.specs.declared.reply.Answered.the-variants.{Done}
@@ -28,19 +26,19 @@ use Rattle.ehci.specs.declared.reply.Given.the-variants as G
 use Rattle.ehci.specs.Replies.{replied}
 use Rattle.ehci.specs.Decides.{asksOf, collectDecided, decideOf}
 use Rattle.ehci.specs.Door.{Applied, applied, applyOf}
-use Rattle.promises.specs.Runs.{History, Machine, Turn, World, core, historyOf, turnOf, worldOf}
+use Rattle.promises.specs.Runs.{History, Machine, World, core, historyOf, worldOf}
 use Rattle.promises.specs.Walks.{ringWalk, walkFrom}
-use Rattle.promises.specs.Events.{isCollected, rings}
+use Rattle.promises.specs.Events.{isCollected}
 use Rattle.promises.specs.Bells.{asked, bell, counted, isUp, linked as isLinked, unlinking}
 use Rattle.promises.specs.Boundaries.{EveryRun, OnePasses, Orderly, Passes, UpExactly}
 use Rattle.promises.specs.Registers.{Access}
 use Rattle.promises.proofs.invariants.Reached.{freshWorld}
-use Rattle.refutations.proofs.WrongRuns.{acknowledges, good, linked, one, openedTwo, opening, reading, replies, small, stateOf, submits, two, waits}
+use Rattle.refutations.proofs.WrongRuns.{good, linked, one, openedTwo, opening, reading, replies, small, stateOf, submits, two, waits}
 use Rattle.refutations.proofs.WrongUp.{up-world, upCalls}
-use Rattle.refutations.proofs.WrongCalls.{apartFirst, apartOne, apartTwo, drained-first, heard-two, linkedOne, linkedTwo, submitted, submitted-two, unlinked-first, unlinked-second}
-use Rattle.refutations.proofs.WrongBells.{goes-on, is-told}
+use Rattle.refutations.proofs.WrongCalls.{apartOne, apartTwo, drained-first, heard-two, linkedOne, submitted, submitted-two, unlinked-first, unlinked-second, hearsTwo, submitsOne}
 use Rattle.refutations.proofs.WrongBut.{but, but-rises, isDrains, isLeaves, isSubmits, not-passed, rewriting}
 use Rattle.refutations.proofs.WrongNever.{leaves}
+use Rattle.refutations.proofs.Scripts.{Follows, Script, arrives, callsOf, endOf, is-told, turnsOf}
 
 abbrev w : World
 w = freshWorld small
@@ -53,41 +51,30 @@ hushed a = rewriting (λ y. writeOf (y .offset) 0) a
 abbrev pub mute : Machine
 mute = but (λ x a. isLeaves a) (λ x a. hushed a)
 
-abbrev m1 : List Call
-m1 = submits 0 0x500000 ∷ upCalls
-
-abbrev m2 : List Call
-m2 = Cancel 0 1 (reading 0x80031) ∷ m1
-
 mute-up : worldOf mute w upCalls ≡ openedTwo
 mute-up = up-world mute (but-rises (λ (x : World) (a : Access). isLeaves a) (λ (x : World) (a : Applied). hushed a) (λ x. refl) (λ x n. refl) (λ x v. refl))
-
-mute-one : worldOf mute w m1 ≡ linkedOne (one 0 0 0 0 0 linked)
-mute-one = goes-on mute w upCalls (submits 0 0x500000) openedTwo _ mute-up submitted
 
 mute-leaves : mute (linkedOne (one 0 0 0 0 0 linked)) (Cancel 0 1 (reading 0x80031)) ≡ hushed (replies (Done G.Nothing) (andThen noWrites 0 (ringWord 0x80031)) (apartOne (one 0 0 0 1 1 (waits 1))))
 mute-leaves = ap hushed leaves
 
+abbrev muteRun : Script
+muteRun = (Cancel 0 1 (reading 0x80031), hushed (replies (Done G.Nothing) (andThen noWrites 0 (ringWord 0x80031)) (apartOne (one 0 0 0 1 1 (waits 1))))) ∷ submitsOne
+
 abbrev muteUp : History
 muteUp = historyOf mute w upCalls
 
-abbrev mt1 : Turn
-mt1 = turnOf (openedTwo .rows) (submits 0 0x500000) (replies (Done (G.Id 1)) (writesWith (reading 0x80031)) (linkedOne (one 0 0 0 0 0 linked)))
+abbrev muteTold : History
+muteTold = turnsOf openedTwo muteUp muteRun
 
-abbrev mt2 : Turn
-mt2 = turnOf (linkedOne (one 0 0 0 0 0 linked) .rows) (Cancel 0 1 (reading 0x80031)) (hushed (replies (Done G.Nothing) (andThen noWrites 0 (ringWord 0x80031)) (apartOne (one 0 0 0 1 1 (waits 1)))))
-
-mute-told : historyOf mute w m2 ≡ mt2 ∷ mt1 ∷ muteUp
-mute-told =
-    is-told mute w m1 (Cancel 0 1 (reading 0x80031)) (linkedOne (one 0 0 0 0 0 linked)) _ mute-one mute-leaves (mt1 ∷ muteUp)
-    (is-told mute w upCalls (submits 0 0x500000) openedTwo _ mute-up submitted muteUp refl)
+mute-told : historyOf mute w (callsOf upCalls muteRun) ≡ muteTold
+mute-told = is-told mute w upCalls openedTwo mute-up muteRun (mute-leaves, (submitted, tt))
 
 -- the bell is as it was on the way up, and an unlink is unanswered
-still-quiet : bell small (mt2 ∷ mt1 ∷ muteUp) ≡ bell small muteUp
+still-quiet : bell small muteTold ≡ bell small muteUp
 unfolding bell ringWalk walkFrom andThen noWrites commandWord withBits withoutBits
 still-quiet = refl
 
-one-owed : ltb (counted small (mt2 ∷ mt1 ∷ muteUp)) (asked small (mt2 ∷ mt1 ∷ muteUp)) ≡ true
+one-owed : ltb (counted small muteTold) (asked small muteTold) ≡ true
 unfolding counted asked historyOf ringWalk walkFrom
 one-owed = refl
 
@@ -98,7 +85,7 @@ none-owed = refl
 pub mute-up-exactly : EveryRun UpExactly mute → ⊥
 mute-up-exactly up =
     let before : isUp (bell small muteUp) ≡ false = up small w opening upCalls .2 ∙ none-owed in
-    let after : isUp (bell small (mt2 ∷ mt1 ∷ muteUp)) ≡ true = subst (λ (h : History). isUp (bell small h) ≡ ltb (counted small h) (asked small h)) mute-told (up small w opening m2 .2) ∙ one-owed in
+    let after : isUp (bell small muteTold) ≡ true = subst (λ (h : History). isUp (bell small h) ≡ ltb (counted small h) (asked small h)) mute-told (up small w opening (callsOf upCalls muteRun) .2) ∙ one-owed in
     true≢false (sym after ∙ ap isUp still-quiet ∙ before)
 
 -- ---- every submit is answered 0
@@ -119,41 +106,8 @@ loosened a =
 abbrev pub lax : Machine
 lax = but (λ x a. isDrains a) (λ x a. loosened a)
 
-abbrev c1 : List Call
-c1 = submits 0 0x500000 ∷ upCalls
-
-abbrev c2 : List Call
-c2 = submits 1 0x501000 ∷ c1
-
-abbrev c3 : List Call
-c3 = Cancel 0 1 (reading 0x80031) ∷ c2
-
-abbrev c4 : List Call
-c4 = Cancel 1 1 (reading 0x80071) ∷ c3
-
-abbrev c5 : List Call
-c5 = acknowledges 0x24 ∷ c4
-
-abbrev c6 : List Call
-c6 = Drain 0x80031 ∷ c5
-
 lax-up : worldOf lax w upCalls ≡ openedTwo
 lax-up = up-world lax (but-rises (λ (x : World) (a : Access). isDrains a) (λ (x : World) (a : Applied). loosened a) (λ x. refl) (λ x n. refl) (λ x v. refl))
-
-w1 : worldOf lax w c1 ≡ linkedOne (one 0 0 0 0 0 linked)
-w1 = goes-on lax w upCalls (submits 0 0x500000) openedTwo _ lax-up submitted
-
-w2 : worldOf lax w c2 ≡ linkedTwo
-w2 = goes-on lax w c1 (submits 1 0x501000) (linkedOne (one 0 0 0 0 0 linked)) _ w1 submitted-two
-
-w3 : worldOf lax w c3 ≡ apartFirst
-w3 = goes-on lax w c2 (Cancel 0 1 (reading 0x80031)) linkedTwo _ w2 unlinked-first
-
-w4 : worldOf lax w c4 ≡ apartTwo (two 0 0 0 1 2 (waits 1) (waits 2))
-w4 = goes-on lax w c3 (Cancel 1 1 (reading 0x80071)) apartFirst _ w3 unlinked-second
-
-w5 : worldOf lax w c5 ≡ apartTwo (two 0x24 0x24 1 1 2 (waits 1) (waits 2))
-w5 = goes-on lax w c4 (acknowledges 0x24) (apartTwo (two 0 0 0 1 2 (waits 1) (waits 2))) _ w4 heard-two
 
 -- both wait for nothing any more
 abbrev loose : World
@@ -163,42 +117,33 @@ lax-drains : lax (apartTwo (two 0x24 0x24 1 1 2 (waits 1) (waits 2))) (Drain 0x8
 unfolding withBoundaries stateOf
 lax-drains = ap loosened drained-first
 
+abbrev loosens : Script
+loosens = (Drain 0x80031, replies (Done (G.Event E.PortChange)) (andThen noWrites 0 (ringWord 0x80031)) loose) ∷ hearsTwo
+
+follows : Follows lax openedTwo loosens
+follows = (lax-drains, (heard-two, (unlinked-second, (unlinked-first, (submitted-two, (submitted, tt))))))
+
+abbrev c5 : List Call
+c5 = callsOf upCalls hearsTwo
+
+abbrev c6 : List Call
+c6 = callsOf upCalls loosens
+
+w5 : worldOf lax w c5 ≡ endOf openedTwo hearsTwo
+w5 = arrives lax w upCalls openedTwo lax-up hearsTwo (follows .1)
+
 w6 : worldOf lax w c6 ≡ loose
-w6 = goes-on lax w c5 (Drain 0x80031) (apartTwo (two 0x24 0x24 1 1 2 (waits 1) (waits 2))) _ w5 lax-drains
+w6 = arrives lax w upCalls openedTwo lax-up loosens follows
 
--- ---- the turns, and who passes
+-- ---- who passes
 
-abbrev up : History
-up = historyOf lax w upCalls
+abbrev turns : History
+turns = turnsOf openedTwo (historyOf lax w upCalls) loosens
 
-abbrev t1 : Turn
-t1 = turnOf (openedTwo .rows) (submits 0 0x500000) (replies (Done (G.Id 1)) (writesWith (reading 0x80031)) (linkedOne (one 0 0 0 0 0 linked)))
+told : historyOf lax w c6 ≡ turns
+told = is-told lax w upCalls openedTwo lax-up loosens follows
 
-abbrev t2 : Turn
-t2 = turnOf (linkedOne (one 0 0 0 0 0 linked) .rows) (submits 1 0x501000) (replies (Done (G.Id 1)) (writesWith (reading 0x80031)) linkedTwo)
-
-abbrev t3 : Turn
-t3 = turnOf (linkedTwo .rows) (Cancel 0 1 (reading 0x80031)) (replies (Done G.Nothing) (andThen noWrites 0 (ringWord 0x80031)) apartFirst)
-
-abbrev t4 : Turn
-t4 = turnOf (apartFirst .rows) (Cancel 1 1 (reading 0x80071)) (replies (Done G.Nothing) noWrites (apartTwo (two 0 0 0 1 2 (waits 1) (waits 2))))
-
-abbrev t5 : Turn
-t5 = turnOf (apartTwo (two 0 0 0 1 2 (waits 1) (waits 2)) .rows) (acknowledges 0x24) (replies (Done G.Yes) (acknowledgeWrites 0x24 0x27 true true) (apartTwo (two 0x24 0x24 1 1 2 (waits 1) (waits 2))))
-
-abbrev t6 : Turn
-t6 = turnOf (apartTwo (two 0x24 0x24 1 1 2 (waits 1) (waits 2)) .rows) (Drain 0x80031) (replies (Done (G.Event E.PortChange)) (andThen noWrites 0 (ringWord 0x80031)) loose)
-
-told : historyOf lax w c6 ≡ t6 ∷ t5 ∷ t4 ∷ t3 ∷ t2 ∷ t1 ∷ up
-told =
-    is-told lax w c5 (Drain 0x80031) (apartTwo (two 0x24 0x24 1 1 2 (waits 1) (waits 2))) _ w5 lax-drains (t5 ∷ t4 ∷ t3 ∷ t2 ∷ t1 ∷ up)
-    (is-told lax w c4 (acknowledges 0x24) (apartTwo (two 0 0 0 1 2 (waits 1) (waits 2))) _ w4 heard-two (t4 ∷ t3 ∷ t2 ∷ t1 ∷ up)
-    (is-told lax w c3 (Cancel 1 1 (reading 0x80071)) apartFirst _ w3 unlinked-second (t3 ∷ t2 ∷ t1 ∷ up)
-    (is-told lax w c2 (Cancel 0 1 (reading 0x80031)) linkedTwo _ w2 unlinked-first (t2 ∷ t1 ∷ up)
-    (is-told lax w c1 (submits 1 0x501000) (linkedOne (one 0 0 0 0 0 linked)) _ w1 submitted-two (t1 ∷ up)
-    (is-told lax w upCalls (submits 0 0x500000) openedTwo _ lax-up submitted up refl)))))
-
-both-out : (unlinking small 0 (t6 ∷ t5 ∷ t4 ∷ t3 ∷ t2 ∷ t1 ∷ up) ≡ true) × (unlinking small 1 (t6 ∷ t5 ∷ t4 ∷ t3 ∷ t2 ∷ t1 ∷ up) ≡ true)
+both-out : (unlinking small 0 turns ≡ true) × (unlinking small 1 turns ≡ true)
 unfolding unlinking ringWalk walkFrom
 both-out = (refl, refl)
 

@@ -1,98 +1,68 @@
 -- The way up of a wrong machine, which does there as `core` does.
 use Prim.Native.Nat.{ℕ}
 use mathlib.Core.Path.{_≡_, refl, ap, _∙_}
-use mathlib.Core.Bool.{Bool, true, false, false≢true}
+use mathlib.Core.Bool.{Bool, true, false}
 use mathlib.Core.List.{List, [], _∷_}
 use lib.Dec.{eqb, leb}
 use Rattle.register.specs.Bits.{anyOf, bit}
 use Rattle.bring_up.specs.BringUp.{movedOn, ready, stageOf}
 use Rattle.ehci.specs.declared.call.Call.{Call}
-use Rattle.ehci.specs.declared.call.Call.the-variants.{StartBringUp, BringUpStep, AllocateAddress, OpenEndpoint, Close, SetAddress, SetPacketSize, Submit, Writeback, Cancel, Collect, Acknowledge, Drain, Rearm, Enable, Disable}
+use Rattle.ehci.specs.declared.call.Call.the-variants.{StartBringUp, BringUpStep, OpenEndpoint}
+use Rattle.ehci.specs.declared.call.EndpointFields.{EndpointFields}
 use Rattle.promises.specs.Runs.{Machine, World, core, leftBy, worldOf}
+use Rattle.promises.specs.Registers.{Access, None, Starts, Steps, Submits, Leaves, Acknowledges, Drains, Rearms, Enables, Disables, accessOf}
 use Rattle.promises.proofs.invariants.Reached.{freshWorld}
 use Rattle.refutations.proofs.WrongRuns.{fresh, openBulk, openedOne, openedTwo, opens, opens-one, opens-two, rising, small, starts, stateOf, steps}
 
+-- what a call asks of the registers, by number
+abbrev pub order : Access → ℕ
+order None = 0
+order Starts = 1
+order (Steps v) = 2
+order (Submits v) = 3
+order (Leaves v) = 4
+order (Acknowledges x) = 5
+order (Drains v) = 6
+order Rearms = 7
+order Enables = 8
+order Disables = 9
+
+abbrev statusIn : Access → ℕ
+statusIn None = 0
+statusIn Starts = 0
+statusIn (Steps v) = 0
+statusIn (Submits v) = 0
+statusIn (Leaves v) = 0
+statusIn (Acknowledges x) = x .status
+statusIn (Drains v) = 0
+statusIn Rearms = 0
+statusIn Enables = 0
+statusIn Disables = 0
+
 abbrev pub isDrain : Call → Bool
-isDrain StartBringUp = false
-isDrain (BringUpStep v) = false
-isDrain AllocateAddress = false
-isDrain (OpenEndpoint x) = false
-isDrain (Close k) = false
-isDrain (SetAddress k a) = false
-isDrain (SetPacketSize k size) = false
-isDrain (Submit k r readings) = false
-isDrain (Writeback place token) = false
-isDrain (Cancel k id readings) = false
-isDrain (Collect k id readings) = false
-isDrain (Acknowledge x) = false
-isDrain (Drain v) = true
-isDrain Rearm = false
-isDrain Enable = false
-isDrain Disable = false
+isDrain c = eqb (order (accessOf c)) 6
 
 -- an acknowledgment that reads the advance bit
 abbrev pub readsAdvance : Call → Bool
-readsAdvance StartBringUp = false
-readsAdvance (BringUpStep v) = false
-readsAdvance AllocateAddress = false
-readsAdvance (OpenEndpoint x) = false
-readsAdvance (Close k) = false
-readsAdvance (SetAddress k a) = false
-readsAdvance (SetPacketSize k size) = false
-readsAdvance (Submit k r readings) = false
-readsAdvance (Writeback place token) = false
-readsAdvance (Cancel k id readings) = false
-readsAdvance (Collect k id readings) = false
-readsAdvance (Acknowledge x) = eqb (bit (x .status) 5) 1
-readsAdvance (Drain v) = false
-readsAdvance Rearm = false
-readsAdvance Enable = false
-readsAdvance Disable = false
-
--- bring-up, and endpoints
-abbrev isUp : Call → Bool
-isUp StartBringUp = true
-isUp (BringUpStep v) = true
-isUp AllocateAddress = false
-isUp (OpenEndpoint x) = true
-isUp (Close k) = false
-isUp (SetAddress k a) = false
-isUp (SetPacketSize k size) = false
-isUp (Submit k r readings) = false
-isUp (Writeback place token) = false
-isUp (Cancel k id readings) = false
-isUp (Collect k id readings) = false
-isUp (Acknowledge x) = false
-isUp (Drain v) = false
-isUp Rearm = false
-isUp Enable = false
-isUp Disable = false
+readsAdvance c = eqb (bit (statusIn (accessOf c)) 5) 1
 
 -- it does as `core` does on the way up
-abbrev pub Rises : Machine → Type 0
-Rises m = (w : World) (c : Call) → isUp c ≡ true → w .state .noted ≡ 0 → m w c ≡ core w c
+pub record Rises (m : Machine) : Type 0 where
+  pub starts : (w : World) → w .state .noted ≡ 0 → m w StartBringUp ≡ core w StartBringUp
+  pub steps : (w : World) (v : ℕ) → w .state .noted ≡ 0 → m w (BringUpStep v) ≡ core w (BringUpStep v)
+  pub opens : (w : World) (x : EndpointFields) → w .state .noted ≡ 0 → m w (OpenEndpoint x) ≡ core w (OpenEndpoint x)
 
 -- it differs from `core` at most in drains and acknowledgments, and with a note
 abbrev pub Plainly : Machine → Type 0
 Plainly m = (w : World) (c : Call) → isDrain c ≡ false → readsAdvance c ≡ false → w .state .noted ≡ 0 → m w c ≡ core w c
 
 pub plain-rises : (m : Machine) → Plainly m → Rises m
-plain-rises m same w StartBringUp e n = same w StartBringUp refl refl n
-plain-rises m same w (BringUpStep v) e n = same w (BringUpStep v) refl refl n
-plain-rises m same w AllocateAddress e n = absurd (false≢true e)
-plain-rises m same w (OpenEndpoint x) e n = same w (OpenEndpoint x) refl refl n
-plain-rises m same w (Close k) e n = absurd (false≢true e)
-plain-rises m same w (SetAddress k a) e n = absurd (false≢true e)
-plain-rises m same w (SetPacketSize k size) e n = absurd (false≢true e)
-plain-rises m same w (Submit k r readings) e n = absurd (false≢true e)
-plain-rises m same w (Writeback place token) e n = absurd (false≢true e)
-plain-rises m same w (Cancel k id readings) e n = absurd (false≢true e)
-plain-rises m same w (Collect k id readings) e n = absurd (false≢true e)
-plain-rises m same w (Acknowledge x) e n = absurd (false≢true e)
-plain-rises m same w (Drain v) e n = absurd (false≢true e)
-plain-rises m same w Rearm e n = absurd (false≢true e)
-plain-rises m same w Enable e n = absurd (false≢true e)
-plain-rises m same w Disable e n = absurd (false≢true e)
+plain-rises m same =
+    record {
+      starts = λ w. same w StartBringUp refl refl;
+      steps = λ w v. same w (BringUpStep v) refl refl;
+      opens = λ w x. same w (OpenEndpoint x) refl refl;
+    }
 
 abbrev pub runCalls : List Call
 runCalls =
@@ -108,22 +78,22 @@ runCalls =
 abbrev pub upCalls : List Call
 upCalls = openBulk 5 2 ∷ openBulk 5 1 ∷ runCalls
 
-module _ (m : Machine) (same : Rises m) where
-  pub next : (cs : List Call) (c : Call) (now then : World) → worldOf m (freshWorld small) cs ≡ now → isUp c ≡ true → now .state .noted ≡ 0
-      → leftBy (core now c) ≡ then → worldOf m (freshWorld small) (c ∷ cs) ≡ then
-  unfolding worldOf
-  next cs c now then e u n q = ap (λ (x : World). leftBy (m x c)) e ∙ ap leftBy (same now c u n) ∙ q
+pub next : (m : Machine) (cs : List Call) (c : Call) (now then : World) → worldOf m (freshWorld small) cs ≡ now → m now c ≡ core now c
+    → leftBy (core now c) ≡ then → worldOf m (freshWorld small) (c ∷ cs) ≡ then
+unfolding worldOf
+next m cs c now then e same q = ap (λ (x : World). leftBy (m x c)) e ∙ ap leftBy same ∙ q
 
+module _ (m : Machine) (same : Rises m) where
   -- one step of bring-up
   rises : (cs : List Call) (k v : ℕ) → worldOf m (freshWorld small) cs ≡ fresh (rising 0 k) → leb k 6 ≡ true → eqb k 0 ≡ false → ready (stageOf k) v ≡ true
       → worldOf m (freshWorld small) (BringUpStep v ∷ cs) ≡ fresh (rising (movedOn (stageOf k) .running) (movedOn (stageOf k) .step))
   unfolding stateOf
-  rises cs k v e a b g = next cs (BringUpStep v) (fresh (rising 0 k)) _ e refl refl (steps k v a b g)
+  rises cs k v e a b g = next m cs (BringUpStep v) (fresh (rising 0 k)) _ e (same .steps (fresh (rising 0 k)) v refl) (steps k v a b g)
 
   pub run-world : worldOf m (freshWorld small) runCalls ≡ fresh (rising 1 0)
   unfolding worldOf stateOf anyOf
   run-world =
-      let started = next [] StartBringUp (fresh (rising 0 0)) (fresh (rising 0 1)) opens refl refl starts in
+      let started = next m [] StartBringUp (fresh (rising 0 0)) (fresh (rising 0 1)) opens (same .starts (fresh (rising 0 0)) refl) starts in
       let r1 = rises (StartBringUp ∷ []) 1 0x80000 started refl refl refl in
       let r2 = rises (BringUpStep 0x80000 ∷ StartBringUp ∷ []) 2 0x1000 r1 refl refl refl in
       let c2 = BringUpStep 0x1000 ∷ BringUpStep 0x80000 ∷ StartBringUp ∷ [] in
@@ -135,5 +105,5 @@ module _ (m : Machine) (same : Rises m) where
   pub up-world : worldOf m (freshWorld small) upCalls ≡ openedTwo
   unfolding stateOf
   up-world =
-      let o1 = next runCalls (openBulk 5 1) (fresh (rising 1 0)) openedOne run-world refl refl opens-one in
-      next (openBulk 5 1 ∷ runCalls) (openBulk 5 2) openedOne openedTwo o1 refl refl opens-two
+      let o1 = next m runCalls (openBulk 5 1) (fresh (rising 1 0)) openedOne run-world (same .opens (fresh (rising 1 0)) _ refl) opens-one in
+      next m (openBulk 5 1 ∷ runCalls) (openBulk 5 2) openedOne openedTwo o1 (same .opens openedOne _ refl) opens-two

@@ -2,16 +2,14 @@
 -- or takes descriptors rightly, with one word changed after every call; rounded down, most of these words would lead where they should.
 use Prim.Native.Nat.{ℕ}
 use mathlib.Core.Path.{_≡_, refl, sym, ap, _∙_}
-use mathlib.Core.List.{List, [], _∷_}
+use mathlib.Core.List.{[], _∷_}
 use native.Mathlib.Omega.{arith}
 use lib.ListN.{getD, replicate, set}
 use Rattle.token.specs.Chunks.{chunkCount, needOf}
-use Rattle.token.specs.Tokens.{tokenOf}
 use Rattle.common.specs.declared.kinds.EndpointType.the-variants.{Bulk, Interrupt}
 use Rattle.descriptor.specs.declared.qtd.QueueTransferDescriptor.{QueueTransferDescriptor}
 use Rattle.descriptor.specs.Descriptors.{newQtd, terminated, withNext}
 use Rattle.descriptor.specs.Heads.{ringHead}
-use Rattle.descriptor.specs.Slots.{pageSlots}
 use Rattle.pool.specs.Chains.{blank, fillOf, filledFrom}
 use Rattle.pool.specs.Places.{listOf, markOf, packed, placesFrom}
 use Rattle.pool.specs.Transfers.{bareAt, chunkQtd, recordAt}
@@ -23,13 +21,14 @@ use Rattle.ehci.specs.declared.call.Call.{Call}
 use Rattle.ehci.specs.declared.call.Call.the-variants.{Rearm, Submit}
 use Rattle.ehci.specs.Door.{Applied, applied}
 use Rattle.promises.specs.Runs.{Machine, Rows, historyOf, rowsOf, worldOf}
-use Rattle.promises.specs.Walks.{AtRingHead, End, Nowhere, Terminated, TooLong, chainEnd, chainWalk, frameEnd, ringEnd, walkFrom}
+use Rattle.promises.specs.Walks.{AtRingHead, End, Nowhere, Terminated, TooLong, chainEnd, frameEnd, ringEnd, walkFrom}
 use Rattle.promises.specs.Uses.{uses}
 use Rattle.promises.specs.Chains.{ChainsWalked}
 use Rattle.promises.specs.Rooms.{ChainsLead}
 use Rattle.promises.proofs.invariants.Reached.{freshWorld}
-use Rattle.refutations.proofs.RoomWrong.{byte, opening as opened, pair, plain as takes, reads}
+use Rattle.refutations.proofs.RoomWrong.{byte, plain as takes, reads}
 use Rattle.refutations.proofs.WrongChains.{asks, opening, plain as links, three}
+use Rattle.refutations.proofs.WrongRuns.{opening as opened, small}
 
 -- ---- a machine with other rows after each call
 
@@ -146,7 +145,7 @@ abbrev submits : Call
 submits = Submit 0 byte reads
 
 abbrev given : Machine → Rows
-given m = worldOf m (freshWorld pair) (submits ∷ []) .rows
+given m = worldOf m (freshWorld small) (submits ∷ []) .rows
 
 -- the overlay's next is 0; it leads 32 bytes into the descriptor; the descriptor's own next is 0
 abbrev unstarted : Machine
@@ -158,22 +157,22 @@ halfway = changed takes (headWord 21 0x100020)
 abbrev unterminated : Machine
 unterminated = changed takes (nextWord 0 0)
 
-chains-end : (chainEnd pair (given takes) 0 ≡ Terminated) × (chainEnd pair (given unstarted) 0 ≡ Nowhere) × (chainEnd pair (given halfway) 0 ≡ Nowhere)
-    × (chainEnd pair (given unterminated) 0 ≡ Nowhere)
+chains-end : (chainEnd small (given takes) 0 ≡ Terminated) × (chainEnd small (given unstarted) 0 ≡ Nowhere) × (chainEnd small (given halfway) 0 ≡ Nowhere)
+    × (chainEnd small (given unterminated) 0 ≡ Nowhere)
 unfolding chainEnd walkFrom worldOf takenOf placesFrom markOf packed listOf fillOf filledFrom recordAt bareAt chunkQtd newQtd withNext startedOverlay freshState withOwner openedHeads ringHead terminated needOf chunkCount
 chains-end = (refl, refl, refl, refl)
 
-no-chain : (m : Machine) → chainEnd pair (given m) 0 ≡ Nowhere → chainEnd pair (given m) 0 ≡ Terminated → ⊥
-no-chain m e f = nowhere-stops (chainEnd pair (given m) 0) e f
+no-chain : (m : Machine) → chainEnd small (given m) 0 ≡ Nowhere → chainEnd small (given m) 0 ≡ Terminated → ⊥
+no-chain m e f = nowhere-stops (chainEnd small (given m) 0) e f
 
 pub unstarted-wrong : ChainsLead unstarted → ⊥
 unfolding historyOf uses
-unstarted-wrong h = no-chain unstarted (chains-end .1) (h pair (freshWorld pair) opened (submits ∷ []) .0 .ends)
+unstarted-wrong h = no-chain unstarted (chains-end .1) (h small (freshWorld small) opened (submits ∷ []) .0 .ends)
 
 pub halfway-wrong : ChainsLead halfway → ⊥
 unfolding historyOf uses
-halfway-wrong h = no-chain halfway (chains-end .2) (h pair (freshWorld pair) opened (submits ∷ []) .0 .ends)
+halfway-wrong h = no-chain halfway (chains-end .2) (h small (freshWorld small) opened (submits ∷ []) .0 .ends)
 
 pub unterminated-wrong : ChainsLead unterminated → ⊥
 unfolding historyOf uses
-unterminated-wrong h = no-chain unterminated (chains-end .3) (h pair (freshWorld pair) opened (submits ∷ []) .0 .ends)
+unterminated-wrong h = no-chain unterminated (chains-end .3) (h small (freshWorld small) opened (submits ∷ []) .0 .ends)

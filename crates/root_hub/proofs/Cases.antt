@@ -22,10 +22,10 @@ use Rattle.opening.specs.declared.hub.EhciRootHub.{EhciRootHub}
 use Rattle.common.specs.declared.reads.NextRead.the-variants.{Nothing as NoRead, Register}
 use Rattle.root_hub.specs.declared.ports.PortEvent.the-variants.{Nothing as NoEvent, Connected, Disconnected}
 use Rattle.root_hub.specs.declared.ports.PortState.{PortState}
-use Rattle.root_hub.specs.declared.ports.PortState.the-variants.{Uninit, Reseted, Probed}
+use Rattle.root_hub.specs.declared.ports.PortState.the-variants.{Probed}
 use Rattle.root_hub.specs.declared.ports.Speed.the-variants.{High}
 use Rattle.root_hub.specs.declared.scan.Awaited.{Awaited}
-use Rattle.root_hub.specs.declared.scan.Awaited.the-variants.{Status, Gone, Reset, Release, Again, Owner}
+use Rattle.root_hub.specs.declared.scan.Awaited.the-variants.{Status, Again, Owner}
 use Rattle.root_hub.specs.declared.scan.Change.{Change}
 use Rattle.root_hub.specs.declared.scan.Change.the-variants.{Nothing as NoChange, Value}
 use Rattle.root_hub.specs.declared.scan.Place.{Place}
@@ -39,53 +39,23 @@ use Rattle.root_hub.specs.Calls.{withScan, refusedScan, startOf, scanned
 
 -- ---- numbers to names
 
-pub state-uninit : (n : ℕ) → n ≡ 0 → Uninit ≡ portState n
-state-uninit n e = rw e
-
-pub state-reseted : (n : ℕ) → n ≡ 1 → Reseted ≡ portState n
-state-reseted n e = rw e
+pub state-is : (k n : ℕ) → n ≡ k → portState k ≡ portState n
+state-is k n e = rw e
 
 pub state-probed : (n : ℕ) → (n ≡ 0 → ⊥) → (n ≡ 1 → ⊥) → Probed ≡ portState n
 state-probed n a b = rw (ne-eqb n 0 a, ne-eqb n 1 b)
 
-pub await-status : (n : ℕ) → n ≡ 1 → Status ≡ awaitedOf n
-await-status n e = rw e
-
-pub await-gone : (n : ℕ) → n ≡ 2 → Gone ≡ awaitedOf n
-await-gone n e = rw e
-
-pub await-reset : (n : ℕ) → n ≡ 3 → Reset ≡ awaitedOf n
-await-reset n e = rw e
-
-pub await-release : (n : ℕ) → n ≡ 4 → Release ≡ awaitedOf n
-await-release n e = rw e
-
-pub await-again : (n : ℕ) → n ≡ 5 → Again ≡ awaitedOf n
-await-again n e = rw e
+pub await-is : (k n : ℕ) → n ≡ k → awaitedOf k ≡ awaitedOf n
+await-is k n e = rw e
 
 pub await-owner : (n : ℕ) → (n ≡ 1 → ⊥) → (n ≡ 2 → ⊥) → (n ≡ 3 → ⊥) → (n ≡ 4 → ⊥) → (n ≡ 5 → ⊥) → Owner ≡ awaitedOf n
 await-owner n a b c d e = rw (ne-eqb n 1 a, ne-eqb n 2 b, ne-eqb n 3 c, ne-eqb n 4 d, ne-eqb n 5 e)
 
 -- ---- what a reading does
 
-module _ (n : ℕ) (c : Bool) (p : PortState) (t : Turned) (ep : p ≡ portState n) where
-  pub status-reset : p ≡ Uninit → c ≡ true → t ≡ await n 3 → t ≡ statusTurn (portState n) n c
-  status-reset e h et = et ∙ rw (sym ep ∙ e, h)
-
-  pub status-none : p ≡ Uninit → c ≡ false → t ≡ onward n → t ≡ statusTurn (portState n) n c
-  status-none e h et = et ∙ rw (sym ep ∙ e, h)
-
-  pub status-again : p ≡ Reseted → c ≡ true → t ≡ await n 5 → t ≡ statusTurn (portState n) n c
-  status-again e h et = et ∙ rw (sym ep ∙ e, h)
-
-  pub status-lost : p ≡ Reseted → c ≡ false → t ≡ onward n → t ≡ statusTurn (portState n) n c
-  status-lost e h et = et ∙ rw (sym ep ∙ e, h)
-
-  pub status-there : p ≡ Probed → c ≡ true → t ≡ onward n → t ≡ statusTurn (portState n) n c
-  status-there e h et = et ∙ rw (sym ep ∙ e, h)
-
-  pub status-gone : p ≡ Probed → c ≡ false → t ≡ await n 2 → t ≡ statusTurn (portState n) n c
-  status-gone e h et = et ∙ rw (sym ep ∙ e, h)
+pub status-is : (q : PortState) (d : Bool) (n : ℕ) (c : Bool) (p : PortState) (t : Turned) → p ≡ portState n → p ≡ q → c ≡ d → t ≡ statusTurn q n d
+    → t ≡ statusTurn (portState n) n c
+status-is q d n c p t ep e h et = et ∙ rw (sym ep ∙ e, h)
 
 module _ (n p : ℕ) (c e : Bool) (t : Turned) where
   pub again-lost : not c ≡ true → t ≡ onward n → t ≡ againTurn n p c e
@@ -119,21 +89,12 @@ module _ (a : Awaited) (n p v : ℕ) (t : Turned) where
       → t ≡ turnOf a n p v
   turn-status q c e eq ec et = et ∙ rw (ec, eq, e)
 
-  pub turn-gone : a ≡ Gone → t ≡ goneTurn p v → t ≡ turnOf a n p v
-  turn-gone e et = et ∙ rw e
-
-  pub turn-reset : a ≡ Reset → t ≡ resetTurn n v → t ≡ turnOf a n p v
-  turn-reset e et = et ∙ rw e
-
-  pub turn-release : a ≡ Release → t ≡ releaseTurn v → t ≡ turnOf a n p v
-  turn-release e et = et ∙ rw e
-
   pub turn-again : (q : EhciPortStatus) (c d : Bool) → a ≡ Again → q .0 ≡ v → c ≡ isSet (currentConnect (q .0)) → d ≡ isSet (portEnabled (q .0))
       → t ≡ againTurn n p c d → t ≡ turnOf a n p v
   turn-again q c d e eq ec ed et = et ∙ rw (ec, ed, eq, e)
 
-  pub turn-owner : a ≡ Owner → t ≡ ownerTurn n v → t ≡ turnOf a n p v
-  turn-owner e et = et ∙ rw e
+pub turn-is : (b a : Awaited) (n p v : ℕ) (t : Turned) → a ≡ b → t ≡ turnOf b n p v → t ≡ turnOf a n p v
+turn-is b a n p v t e et = et ∙ rw e
 
 -- ---- where the scan goes
 
@@ -169,21 +130,8 @@ module _ (n k st : ℕ) where
   unfolding stateGood
   good-past h = rw (le-ltb k n h)
 
-module _ (a : Awaited) (st : ℕ) where
-  pub fits-gone : a ≡ Gone → eqb st 2 ≡ fits a st
-  fits-gone e = rw e
-
-  pub fits-reset : a ≡ Reset → eqb st 0 ≡ fits a st
-  fits-reset e = rw e
-
-  pub fits-release : a ≡ Release → eqb st 0 ≡ fits a st
-  fits-release e = rw e
-
-  pub fits-again : a ≡ Again → eqb st 1 ≡ fits a st
-  fits-again e = rw e
-
-  pub fits-owner : a ≡ Owner → eqb st 1 ≡ fits a st
-  fits-owner e = rw e
+pub fits-is : (b a : Awaited) (st : ℕ) → a ≡ b → fits b st ≡ fits a st
+fits-is b a st e = rw e
 
 pub ports-turn : (h : EhciRootHub) (k : ℕ) (g t : Bool) → k < 15 → t ≡ stateGood (h .ports) k (getD (h .states) k 0)
     → (g && t && statesGood (k + 1) (15 - (k + 1)) h) ≡ (g && statesGood k (15 - k) h)

@@ -11,9 +11,9 @@ use Rattle.pipe.specs.Endpoints.{flagNumber}
 use Rattle.ehci.specs.declared.call.Call.{Call}
 use Rattle.promises.specs.Runs.{History, Machine, Turn, World, historyOf}
 use Rattle.promises.specs.Events.{Event, Other, Reads, Drains, Submits, Unlinks, Parts, Collects, event, rings}
-use Rattle.promises.specs.Bells.{Answered, Bell, Boundary, Quiet, Rung, asked, bell, counted, drains, isAnswered, isDrains, isReads, isUnlinks, isUnlinksOf, isUp, next, number, reads, renews, unlinking, unlinks, unlinksOf}
+use Rattle.promises.specs.Bells.{Answered, Bell, Boundary, Quiet, Rung, asked, bell, counted, drains, isAnswered, isDrains, isReads, isUp, next, number, reads, renews, unlinking, unlinks, unlinksOf}
 use Rattle.promises.specs.Boundaries.{BoundaryKept, Exact, UpExactly, past, turn}
-use Rattle.promises.proofs.any_machine.Pictures.{Ringing, rung-now, rings-on, answers, longer}
+use Rattle.promises.proofs.any_machine.Pictures.{Ringing, rung-now, rings-on, answers, longer, an-unlink}
 
 -- Bell's values differ
 abbrev isRung : Bell → Bool
@@ -91,17 +91,8 @@ module _ (s : Settings) (k : ℕ) (t : Turn) (h : History) (other : unlinksOf s 
 
 -- the turn that unlinks s k, where nothing was owed or a ring was out
 module _ (s : Settings) (k : ℕ) (t : Turn) (h : History) (mine : unlinksOf s k t ≡ true) (less : counted s h ≤ asked s h) (up : isUp (bell s h) ≡ ltb (counted s h) (asked s h)) (up′ : isUp (bell s (t ∷ h)) ≡ ltb (counted s (t ∷ h)) (asked s (t ∷ h))) where
-  an-unlink : (x : Event) → isUnlinksOf k x ≡ true → (isUnlinks x ≡ true) × (isReads x ≡ false) × (isDrains x ≡ false)
-  an-unlink Other e = absurd (false≢true e)
-  an-unlink Reads e = absurd (false≢true e)
-  an-unlink Drains e = absurd (false≢true e)
-  an-unlink (Submits j id q) e = absurd (false≢true e)
-  an-unlink (Collects j id frame) e = absurd (false≢true e)
-  an-unlink (Parts j frame) e = absurd (false≢true e)
-  an-unlink (Unlinks j) e = (refl, refl, refl)
-
   abbrev is : (unlinks s t ≡ true) × (reads s t ≡ false) × (drains s t ≡ false)
-  is = an-unlink (event s t) mine
+  is = let x = an-unlink k (event s t) mine in (x .0, x .1, x .2)
 
   -- nothing owed: it rings
   rings-first : asked s h ≡ counted s h → rings t ≡ true

@@ -1,12 +1,22 @@
 -- Pictures of the past, and how they grow by a turn.
 use mathlib.Core.Path.{_≡_, refl, ap}
 use mathlib.Core.List.{[], _∷_, _++_}
-use mathlib.Core.Bool.{true, false}
+use mathlib.Core.Bool.{true, false, false≢true}
 use Prim.Native.Nat.{ℕ}
 use Rattle.settings.specs.declared.settings.Settings.{Settings}
 use Rattle.promises.specs.Runs.{History, Turn}
-use Rattle.promises.specs.Events.{rings}
-use Rattle.promises.specs.Bells.{Boundary, none, reads, unlinksOf}
+use Rattle.promises.specs.Events.{rings, Event, Other, Reads, Drains, Submits, Unlinks, Parts, Collects}
+use Rattle.promises.specs.Bells.{Boundary, none, reads, unlinksOf, isDrains, isReads, isSubmitsOf, isUnlinks, isUnlinksOf}
+
+-- an unlink of k is nothing else
+pub an-unlink : (k : ℕ) (x : Event) → isUnlinksOf k x ≡ true → (isUnlinks x ≡ true) × (isReads x ≡ false) × (isDrains x ≡ false) × (isSubmitsOf k x ≡ false)
+an-unlink k Other e = absurd (false≢true e)
+an-unlink k Reads e = absurd (false≢true e)
+an-unlink k Drains e = absurd (false≢true e)
+an-unlink k (Submits j id r) e = absurd (false≢true e)
+an-unlink k (Parts j frame) e = absurd (false≢true e)
+an-unlink k (Collects j id frame) e = absurd (false≢true e)
+an-unlink k (Unlinks j) e = (refl, refl, refl, refl)
 
 -- a ring at or after k's last unlink, and no acknowledgment has read the advance bit since
 pub record Ringing (s : Settings) (k : ℕ) (h : History) : Type 0 where

@@ -9,20 +9,11 @@ use Rattle.settings.specs.declared.settings.Settings.{Settings}
 use Rattle.pipe.specs.Endpoints.{flagNumber}
 use Rattle.ehci.specs.declared.call.Call.{Call}
 use Rattle.promises.specs.Runs.{History, Machine, Turn, World, historyOf}
-use Rattle.promises.specs.Events.{Event, Other, Reads, Drains, Submits, Unlinks, Parts, Collects, event}
-use Rattle.promises.specs.Bells.{asked, bell, collects, counted, isAnswered, isSubmitsOf, isUnlinks, isUnlinksOf, linked, none, number, partsOf, renews, submits, unlinking, unlinksOf}
+use Rattle.promises.specs.Events.{event}
+use Rattle.promises.specs.Bells.{asked, bell, collects, counted, isAnswered, linked, none, number, partsOf, renews, submits, unlinking, unlinksOf}
 use Rattle.promises.specs.Boundaries.{Orderly, PassesExactly, UpExactly, Waits, past, turn}
 use Rattle.promises.proofs.any_machine.Once.{none-counted}
-
--- an unlink of k is no submission to k
-an-unlink : (k : ℕ) (x : Event) → isUnlinksOf k x ≡ true → (isUnlinks x ≡ true) × (isSubmitsOf k x ≡ false)
-an-unlink k Other e = absurd (false≢true e)
-an-unlink k Reads e = absurd (false≢true e)
-an-unlink k Drains e = absurd (false≢true e)
-an-unlink k (Submits j id r) e = absurd (false≢true e)
-an-unlink k (Parts j frame) e = absurd (false≢true e)
-an-unlink k (Collects j id frame) e = absurd (false≢true e)
-an-unlink k (Unlinks j) e = (refl, refl)
+use Rattle.promises.proofs.any_machine.Pictures.{an-unlink}
 
 module _ (m : Machine) (s : Settings) (w : World) (exact : PassesExactly m s w) (up : UpExactly m s w) (orderly : Orderly m s w) where
   abbrev hist : List Call → History
@@ -33,7 +24,7 @@ module _ (m : Machine) (s : Settings) (w : World) (exact : PassesExactly m s w) 
     goes-on : (ds : List Call) → none (collects s k) (take (length ds) (hist (ds ++ c ∷ cs)))
         → (unlinking s k (hist (ds ++ c ∷ cs)) ≡ true) × (number s k (hist (ds ++ c ∷ cs)) ≡ asked s (hist cs) + 1) × (linked s k (hist (ds ++ c ∷ cs)) ≡ false)
     unfolding historyOf unlinking number linked
-    goes-on [] q = (rw mine, rw mine, rw (an-unlink k (event s (turn m s w cs c)) mine .1, mine))
+    goes-on [] q = (rw mine, rw mine, rw (an-unlink k (event s (turn m s w cs c)) mine .3, mine))
     goes-on (d ∷ ds) q = go (unlinksOf s k t) refl (submits s k t) refl (goes-on ds (q .1))
       where
         h : History

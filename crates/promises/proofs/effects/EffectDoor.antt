@@ -12,7 +12,6 @@ use Rattle.pool.proofs.ChainLaws.{fill-no-chain}
 use Rattle.state.specs.Slots.{slotAt}
 use Rattle.state.specs.declared.state.Ehci.{Ehci}
 use Rattle.state.proofs.RangesLaws.{Ranges}
-use Rattle.common.specs.Answers.{refused}
 use Rattle.common.specs.declared.answer.Refusal.{Refusal}
 use Rattle.common.specs.declared.answer.Refusal.the-variants.{InvalidParameter}
 use Rattle.pipe.specs.Endpoints.{endpointAt}
@@ -20,26 +19,32 @@ use Rattle.opening.specs.Opening.{rowsFit}
 use Rattle.ehci.specs.declared.call.Call.{Call}
 use Rattle.ehci.specs.declared.reply.Answered.{Answered}
 use Rattle.ehci.specs.declared.reply.Answered.the-variants.{Refused}
-use Rattle.ehci.specs.Decides.{asksOf, callOf, decideOf}
+use Rattle.ehci.specs.declared.reply.Decided.{Decided}
+use Rattle.ehci.specs.Decides.{asksOf, callOf, decideOf, came}
 use Rattle.ehci.specs.Door.{Applied, applied, applyOf, carriedOut, seenBy}
-use Rattle.ehci.specs.Replies.{refusedReply, replied}
+use Rattle.ehci.specs.Replies.{refusedReply, replied, settledReply}
 use Rattle.promises.specs.Runs.{Rows, World, core, turnOf}
 use Rattle.promises.specs.Events.{Other, event}
 use Rattle.schedule.specs.Bell.{someRing}
 use Rattle.promises.specs.Opened.{change}
 use Rattle.promises.proofs.effects.Effects.{Effect, Idles, Sides, Switches, besides, still}
+use Rattle.interrupt.specs.Interrupts.{settledOr}
+use Rattle.interrupt.specs.declared.answers.Settled.{Settled}
 
-abbrev pub sidesOf : Ehci → Sides
-sidesOf s =
+abbrev pub sidesWith : Ehci → ℕ → ℕ → ℕ → Sides
+sidesWith s enabled pending masked =
     record {
       running = s .running;
       step = s .step;
       waited = s .waited;
       address = s .address;
-      enabled = s .enabled;
-      pending = s .pending;
-      masked = s .masked;
+      enabled = enabled;
+      pending = pending;
+      masked = masked;
     }
+
+abbrev pub sidesOf : Ehci → Sides
+sidesOf s = sidesWith s (s .enabled) (s .pending) (s .masked)
 
 -- neither bring-up nor a slot changes
 pub idles-on : (s : Ehci) (x : Sides) → x .running ≡ s .running → x .step ≡ s .step → Idles s → Idles (besides s x)
@@ -94,14 +99,27 @@ module _ (w : World) (c : Call) where
   abbrev pub seen : View
   seen = seenBy (asksOf (w .state) (length (w .rows .pool)) c) (w .rows .pool)
 
-  pub through : Effect w c (leaves (w .state) (Refused InvalidParameter) noWrites)
-      → Effect w c (carriedOut (callOf (w .state) (length (w .rows .pool)) (w .rows .heads) (w .rows .frames) (w .rows .setups) seen c) (w .rows .pool))
-      → Effect w c (core w c)
-  unfolding applyOf decideOf refusedReply replied
-  through denied done = by (rowsFit (w .state .settings) (length (w .rows .pool)) (length (w .rows .heads)) (length (w .rows .frames)) (length (w .rows .setups))) refl
-    where
-      by : (b : Bool)
-          → rowsFit (w .state .settings) (length (w .rows .pool)) (length (w .rows .heads)) (length (w .rows .frames)) (length (w .rows .setups)) ≡ b
-          → Effect w c (core w c)
-      by true e = rw e done
-      by false e = rw e denied
+-- what a call comes to that leaves heads, frames and setups
+abbrev pub carried : World → Decided → Applied
+carried w d = carriedOut (came d (w .rows .heads) (w .rows .frames) (w .rows .setups)) (w .rows .pool)
+
+-- what holds of a refusal at the door, and of what the call's crate says, holds of the call
+pub through : (R : World → Call → Applied → Type 0) (w : World) (c : Call) → R w c (leaves w c (w .state) (Refused InvalidParameter) noWrites)
+    → R w c (carriedOut (callOf (w .state) (length (w .rows .pool)) (w .rows .heads) (w .rows .frames) (w .rows .setups) (seen w c) c) (w .rows .pool))
+    → R w c (core w c)
+unfolding applyOf decideOf refusedReply replied
+through R w c denied done = by (rowsFit (w .state .settings) (length (w .rows .pool)) (length (w .rows .heads)) (length (w .rows .frames)) (length (w .rows .setups))) refl
+  where
+    by : (b : Bool)
+        → rowsFit (w .state .settings) (length (w .rows .pool)) (length (w .rows .heads)) (length (w .rows .frames)) (length (w .rows .setups)) ≡ b
+        → R w c (core w c)
+    by true e = rw e done
+    by false e = rw e denied
+
+-- so for a call that settles one flag, unless the state is outside its ranges
+pub settles : (R : World → Call → Applied → Type 0) (w : World) (c : Call) (b : Bool) (new : Settled) → R w c (leaves w c (w .state) (Refused InvalidParameter) noWrites)
+    → R w c (carried w (settledReply new))
+    → R w c (carried w (settledReply (settledOr b (w .state) new)))
+unfolding settledReply replied
+settles R w c true new denied done = denied
+settles R w c false new denied done = done

@@ -31,15 +31,11 @@ use Rattle.promises.proofs.effects.Effects.{Effect, closes, opens, rewr
 use Rattle.promises.proofs.effects.EffectDoor.{refused-still, rows-kept, through}
 
 -- an open slot that has no request is idle
-pub record IsIdle (x : Endpoint) : Type 0 where
-  pub pipe : Pipe
-  pub is : x ≡ Idle pipe
-
-pub idle-slot : (x : Endpoint) → hasEndpoint x ≡ true → holdsRequest x ≡ false → IsIdle x
-idle-slot Closed e f = absurd (false-true e)
-idle-slot (Idle p) e f = record { pipe = p; is = refl }
-idle-slot (Linked p r) e f = absurd (false-true (sym f))
-idle-slot (Unlinking p r b) e f = absurd (false-true (sym f))
+pub idle-is : (x : Endpoint) → hasEndpoint x ≡ true → holdsRequest x ≡ false → (p : Pipe) × (x ≡ Idle p)
+idle-is Closed o u = absurd (false-true o)
+idle-is (Idle p) o u = (p, refl)
+idle-is (Linked p r) o u = absurd (false-true (sym u))
+idle-is (Unlinking p r b) o u = absurd (false-true (sym u))
 
 module _ (w : World) where
   abbrev s : Ehci
@@ -60,7 +56,7 @@ module _ (w : World) where
   pub open-effect : (x : EndpointFields) → Effect w (OpenEndpoint x) (core w (OpenEndpoint x))
   unfolding openDecided replied noWrites
   open-effect x =
-      through w (OpenEndpoint x) (refused-still w (OpenEndpoint x) InvalidParameter refl refl)
+      through Effect w (OpenEndpoint x) (refused-still w (OpenEndpoint x) InvalidParameter refl refl)
       (open-by s n hs f u (x .kind) (x .address) (x .number) (x .packet)
       (λ o. Effect w (OpenEndpoint x) (carriedOut (withFrames (openCame o) (w .rows .frames) (w .rows .setups)) (w .rows .pool)))
       (λ r. refused-still w (OpenEndpoint x) r refl (rw (undone r)))
@@ -84,20 +80,20 @@ module _ (w : World) where
   abbrev Changed : Call → ChangeLeft → Type 0
   Changed c o = Effect w c (carriedOut (withFrames (changeCame o) (w .rows .frames) (w .rows .setups)) (w .rows .pool))
 
-  idle-of : (k : ℕ) → Changes s n hs f u k → IsIdle (endpointAt s k)
-  idle-of k from = idle-slot (endpointAt s k) (from .is-open) (from .is-idle)
+  idle-of : (k : ℕ) → Changes s n hs f u k → (p : Pipe) × (endpointAt s k ≡ Idle p)
+  idle-of k from = idle-is (endpointAt s k) (from .is-open) (from .is-idle)
 
   pub close-effect : (k : ℕ) → Effect w (Close k) (core w (Close k))
   unfolding closeDecided closeOf changedReply replied noWrites
   close-effect k =
-      through w (Close k) (refused-still w (Close k) InvalidParameter refl refl)
+      through Effect w (Close k) (refused-still w (Close k) InvalidParameter refl refl)
       (change-by s n hs f u k true (withEndpoint s k Closed) (withHead hs k (replicate 17 0)) (Changed (Close k))
       (λ r. refused-still w (Close k) r refl (rw (undone r)))
       (λ from g. closes
       (record {
         k = k;
-        p = idle-of k from .pipe;
-        idle = idle-of k from .is;
+        p = idle-of k from .0;
+        idle = idle-of k from .1;
         state-is = refl;
         rows-are = rows-kept w (Close k) _ (w .rows .frames) (w .rows .setups);
         silent = refl;
@@ -109,15 +105,15 @@ module _ (w : World) where
   unfolding addressDecided setAddressOf changedReply replied noWrites
   address-effect k a =
       let word = withAddress (headWord hs (k + 1) 1) a in
-      through w (SetAddress k a) (refused-still w (SetAddress k a) InvalidParameter refl refl)
+      through Effect w (SetAddress k a) (refused-still w (SetAddress k a) InvalidParameter refl refl)
       (change-by s n hs f u k (leb a 127) s (withHeadWord hs (k + 1) 1 word) (Changed (SetAddress k a))
       (λ r. refused-still w (SetAddress k a) r refl refl)
       (λ from g. rewrites
       (record {
         k = k;
-        p = idle-of k from .pipe;
+        p = idle-of k from .0;
         word = word;
-        idle = idle-of k from .is;
+        idle = idle-of k from .1;
         state-is = refl;
         rows-are = rows-kept w (SetAddress k a) _ (w .rows .frames) (w .rows .setups);
         silent = refl;
@@ -129,15 +125,15 @@ module _ (w : World) where
   unfolding packetDecided setPacketSizeOf changedReply replied noWrites
   size-effect k size =
       let word = withPacketSize (headWord hs (k + 1) 1) size in
-      through w (SetPacketSize k size) (refused-still w (SetPacketSize k size) InvalidParameter refl refl)
+      through Effect w (SetPacketSize k size) (refused-still w (SetPacketSize k size) InvalidParameter refl refl)
       (change-by s n hs f u k true s (withHeadWord hs (k + 1) 1 word) (Changed (SetPacketSize k size))
       (λ r. refused-still w (SetPacketSize k size) r refl refl)
       (λ from g. rewrites
       (record {
         k = k;
-        p = idle-of k from .pipe;
+        p = idle-of k from .0;
         word = word;
-        idle = idle-of k from .is;
+        idle = idle-of k from .1;
         state-is = refl;
         rows-are = rows-kept w (SetPacketSize k size) _ (w .rows .frames) (w .rows .setups);
         silent = refl;

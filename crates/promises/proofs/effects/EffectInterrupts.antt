@@ -21,20 +21,19 @@ use Rattle.common.specs.Answers.{first}
 use Rattle.common.specs.declared.answer.Answer.the-variants.{Done}
 use Rattle.common.specs.declared.answer.Refusal.the-variants.{InvalidParameter}
 use Rattle.schedule.specs.Links.{same}
-use Rattle.interrupt.specs.Interrupts.{acknowledgeOf, acknowledgeWrites, acknowledgedState, countIf, countedOf, disableOf, drainIf, drainOf, enableOf, heardIf, noteIf, notedAfter, rearmIf, rearmOf, settledOr, clearedOf}
+use Rattle.interrupt.specs.Interrupts.{acknowledgeOf, acknowledgeWrites, acknowledgedState, countIf, countedOf, disableOf, drainIf, drainOf, enableOf, heardIf, noteIf, notedAfter, rearmIf, rearmOf, clearedOf}
 use Rattle.interrupt.specs.declared.answers.Acknowledgement.{Acknowledgement}
 use Rattle.interrupt.specs.declared.answers.Drainage.{Drainage}
 use Rattle.ehci.specs.declared.call.Call.the-variants.{Acknowledge, Disable, Drain, Enable, Rearm}
 use Rattle.ehci.specs.declared.call.InterruptReadings.{InterruptReadings}
-use Rattle.ehci.specs.Decides.{acknowledgeDecided, acknowledgeReply, came, drainDecided, drainReply}
-use Rattle.ehci.specs.Door.{carriedOut}
+use Rattle.ehci.specs.Decides.{acknowledgeDecided, acknowledgeReply, drainDecided, drainReply}
 use Rattle.ehci.specs.Replies.{drainedAnswer, replied, settledReply}
 use Rattle.promises.specs.Runs.{World, core}
 use Rattle.promises.specs.Events.{Drains, Other, Reads, isDone}
 use Rattle.schedule.specs.Bell.{someRing}
 use Rattle.promises.proofs.effects.RefusalNumbers.{undone}
 use Rattle.promises.proofs.effects.Effects.{Effect, Sides, counts, hears, joins, passes}
-use Rattle.promises.proofs.effects.EffectDoor.{idles-on, refused-still, rows-kept, sidesOf, still-of, through}
+use Rattle.promises.proofs.effects.EffectDoor.{idles-on, refused-still, rows-kept, sidesOf, still-of, through, settles, carried, sidesWith}
 use Rattle.promises.proofs.effects.EffectRanges.{counted-keeps, interrupt-keeps, joined-none, note-keeps, only-falls, only-joins, only-masked, only-none}
 
 -- ---- acknowledge
@@ -72,16 +71,7 @@ module _ (w : World) (x : InterruptReadings) where
   p = onlyBits (x .status) 0x37
 
   abbrev joined : Sides
-  joined =
-      record {
-        running = s .running;
-        step = s .step;
-        waited = s .waited;
-        address = s .address;
-        enabled = s .enabled;
-        pending = withBits (s .pending) p;
-        masked = withBits (s .masked) (onlyBits p 0x27);
-      }
+  joined = sidesWith s (s .enabled) (withBits (s .pending) p) (withBits (s .masked) (onlyBits p 0x27))
 
   note-most : (b : Bool) → (b ≡ true → s .doorbell ≡ 1) → Ranges s → noteIf b (s .noted) ≤ s .doorbell
   note-most true h r = omega (arith, h refl)
@@ -100,7 +90,7 @@ module _ (w : World) (x : InterruptReadings) where
 
   abbrev Acked : Acknowledgement → Type 0
   Acked a =
-      Effect w (Acknowledge x) (carriedOut (came (acknowledgeReply a) (w .rows .heads) (w .rows .frames) (w .rows .setups)) (w .rows .pool))
+      Effect w (Acknowledge x) (carried w (acknowledgeReply a))
 
   heard : (z : Bool) → eqb p 0 ≡ z → (b : Bool) → eqb (bit (x .status) 5) 1 ≡ b → Acked (heardIf z s p (x .interrupts) (x .flag) (x .again))
   unfolding acknowledgedState withInterrupt withBell notedAfter replied noWrites
@@ -137,7 +127,7 @@ module _ (w : World) (x : InterruptReadings) where
   pub acknowledge-effect : Effect w (Acknowledge x) (core w (Acknowledge x))
   unfolding acknowledgeOf acknowledgeDecided replied noWrites
   acknowledge-effect =
-      through w (Acknowledge x) (refused-still w (Acknowledge x) InvalidParameter refl refl)
+      through Effect w (Acknowledge x) (refused-still w (Acknowledge x) InvalidParameter refl refl)
       (settled-by (first ((not (inRanges s), InvalidParameter) ∷ [])) _ _ Acked
       (λ r e. refused-still w (Acknowledge x) r (rw (undone r)) refl)
       (λ e. heard (eqb p 0) refl (eqb (bit (x .status) 5) 1) refl))
@@ -169,20 +159,11 @@ module _ (w : World) (command : ℕ) where
       by false p false q = rw (p, q) (only-none 0x37 (lit< tt))
 
   abbrev taken : Sides
-  taken =
-      record {
-        running = d .running;
-        step = d .step;
-        waited = d .waited;
-        address = d .address;
-        enabled = d .enabled;
-        pending = clearedOf (d .pending) .left;
-        masked = d .masked;
-      }
+  taken = sidesWith d (d .enabled) (clearedOf (d .pending) .left) (d .masked)
 
   abbrev Drained : Drainage → Type 0
   Drained x =
-      Effect w (Drain command) (carriedOut (came (drainReply x) (w .rows .heads) (w .rows .frames) (w .rows .setups)) (w .rows .pool))
+      Effect w (Drain command) (carried w (drainReply x))
 
   drained-as : (b : Bool) → b ≡ true → cond b Drains Other ≡ Drains
   drained-as b e = rw e
@@ -240,7 +221,7 @@ module _ (w : World) (command : ℕ) where
   pub drain-effect : Effect w (Drain command) (core w (Drain command))
   unfolding drainOf drainDecided replied noWrites
   drain-effect =
-      through w (Drain command) (refused-still w (Drain command) InvalidParameter refl refl)
+      through Effect w (Drain command) (refused-still w (Drain command) InvalidParameter refl refl)
       (settled-by (first ((not (inRanges d), InvalidParameter) ∷ [])) _ _ Drained
       (λ r e. refused-still w (Drain command) r (rw (undone r)) refl)
       (λ e. drained (eqb (d .pending) 0) refl))
@@ -252,52 +233,35 @@ module _ (w : World) where
   t = w .state
 
   abbrev flagged : ℕ → ℕ → Sides
-  flagged enabled masked =
-      record {
-        running = t .running;
-        step = t .step;
-        waited = t .waited;
-        address = t .address;
-        enabled = enabled;
-        pending = t .pending;
-        masked = masked;
-      }
+  flagged enabled masked = sidesWith t enabled (t .pending) masked
 
   -- a flag is set, and USBINTR written
   pub enable-effect : Effect w Enable (core w Enable)
   unfolding enableOf settledReply replied withInterrupt andThen noWrites
-  enable-effect = through w Enable (refused-still w Enable InvalidParameter refl refl) (by (not (inRanges t)))
-    where
-      by : (b : Bool)
-          → Effect w Enable
-          (carriedOut (came (settledReply (settledOr b t (record { answer = Done; state = withInterrupt t 1 (t .pending) (t .masked); writes = andThen noWrites 8 0x27 })))
-          (w .rows .heads) (w .rows .frames) (w .rows .setups)) (w .rows .pool))
-      by true = refused-still w Enable InvalidParameter refl refl
-      by false =
-          still-of w Enable _ _ _ (flagged 1 (t .masked)) refl refl refl
-          (λ r. interrupt-keeps t 1 (t .pending) (t .masked) (omega arith) (r .pending-only) (r .masked-only) r) refl (idles-on t _ refl refl) refl
+  enable-effect =
+      through Effect w Enable (refused-still w Enable InvalidParameter refl refl)
+      (settles Effect w Enable (not (inRanges t)) (record { answer = Done; state = withInterrupt t 1 (t .pending) (t .masked); writes = andThen noWrites 8 0x27 })
+      (refused-still w Enable InvalidParameter refl refl)
+      (still-of w Enable _ _ _ (flagged 1 (t .masked)) refl refl refl
+      (λ r. interrupt-keeps t 1 (t .pending) (t .masked) (omega arith) (r .pending-only) (r .masked-only) r) refl (idles-on t _ refl refl) refl))
 
   pub disable-effect : Effect w Disable (core w Disable)
   unfolding disableOf settledReply replied withInterrupt andThen noWrites
-  disable-effect = through w Disable (refused-still w Disable InvalidParameter refl refl) (by (not (inRanges t)))
-    where
-      by : (b : Bool)
-          → Effect w Disable
-          (carriedOut (came (settledReply (settledOr b t (record { answer = Done; state = withInterrupt t 0 (t .pending) (t .masked); writes = andThen noWrites 8 0 })))
-          (w .rows .heads) (w .rows .frames) (w .rows .setups)) (w .rows .pool))
-      by true = refused-still w Disable InvalidParameter refl refl
-      by false =
-          still-of w Disable _ _ _ (flagged 0 (t .masked)) refl refl refl
-          (λ r. interrupt-keeps t 0 (t .pending) (t .masked) (omega arith) (r .pending-only) (r .masked-only) r) refl (idles-on t _ refl refl) refl
+  disable-effect =
+      through Effect w Disable (refused-still w Disable InvalidParameter refl refl)
+      (settles Effect w Disable (not (inRanges t)) (record { answer = Done; state = withInterrupt t 0 (t .pending) (t .masked); writes = andThen noWrites 8 0 })
+      (refused-still w Disable InvalidParameter refl refl)
+      (still-of w Disable _ _ _ (flagged 0 (t .masked)) refl refl refl
+      (λ r. interrupt-keeps t 0 (t .pending) (t .masked) (omega arith) (r .pending-only) (r .masked-only) r) refl (idles-on t _ refl refl) refl))
 
   pub rearm-effect : Effect w Rearm (core w Rearm)
   unfolding rearmOf settledReply replied withInterrupt andThen noWrites
-  rearm-effect = through w Rearm (refused-still w Rearm InvalidParameter refl refl) (by (not (inRanges t)) (eqb (t .masked) 0))
+  rearm-effect =
+      through Effect w Rearm (refused-still w Rearm InvalidParameter refl refl)
+      (settles Effect w Rearm (not (inRanges t)) _ (refused-still w Rearm InvalidParameter refl refl) (by (eqb (t .masked) 0)))
     where
-      by : (b z : Bool)
-          → Effect w Rearm (carriedOut (came (settledReply (settledOr b t (rearmIf z t))) (w .rows .heads) (w .rows .frames) (w .rows .setups)) (w .rows .pool))
-      by true z = refused-still w Rearm InvalidParameter refl refl
-      by false true = still-of w Rearm _ _ _ (sidesOf t) refl refl refl (λ r. r) refl (idles-on t _ refl refl) refl
-      by false false =
+      by : (z : Bool) → Effect w Rearm (carried w (settledReply (rearmIf z t)))
+      by true = still-of w Rearm _ _ _ (sidesOf t) refl refl refl (λ r. r) refl (idles-on t _ refl refl) refl
+      by false =
           still-of w Rearm _ _ _ (flagged (t .enabled) 0) refl refl refl
           (λ r. interrupt-keeps t (t .enabled) (t .pending) 0 (r .enabled-flag) (r .pending-only) (only-none 0x27 (lit< tt)) r) refl (idles-on t _ refl refl) refl

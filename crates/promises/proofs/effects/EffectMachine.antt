@@ -34,15 +34,14 @@ use Rattle.bring_up.specs.declared.stage.Stage.{Stage}
 use Rattle.bring_up.specs.declared.stage.Stage.the-variants.{Stop, Halting, Reset, Resetting, Run, Starting}
 use Rattle.bring_up.proofs.RunLaws.{stays-in-ranges}
 use Rattle.ehci.specs.declared.call.Call.the-variants.{AllocateAddress, BringUpStep, StartBringUp}
-use Rattle.ehci.specs.Decides.{allotDecided, allotReply, came}
-use Rattle.ehci.specs.Door.{carriedOut}
+use Rattle.ehci.specs.Decides.{allotDecided, allotReply}
 use Rattle.ehci.specs.declared.reply.Answered.the-variants.{Refused}
 use Rattle.ehci.specs.Replies.{broughtAnswer, broughtReply, replied}
 use Rattle.promises.specs.Runs.{World, core}
 use Rattle.promises.specs.Opened.{stepsBy}
 use Rattle.promises.proofs.effects.RefusalNumbers.{undone}
 use Rattle.promises.proofs.effects.Effects.{Effect, Idles, Sides, Switches, besides}
-use Rattle.promises.proofs.effects.EffectDoor.{idles-on, leaves, refused-still, still-of, through}
+use Rattle.promises.proofs.effects.EffectDoor.{idles-on, leaves, refused-still, still-of, through, carried}
 
 -- a USBCMD write that is no ring
 pub command-silent : (v : ℕ) → someRing (listOf (andThen noWrites 0 (commandWord v))) ≡ false
@@ -137,12 +136,12 @@ module _ (w : World) where
   abbrev Started : BroughtUp → Type 0
   Started b =
       (Ranges s → Ranges (b .state))
-      → Effect w StartBringUp (carriedOut (came (broughtReply b) (w .rows .heads) (w .rows .frames) (w .rows .setups)) (w .rows .pool))
+      → Effect w StartBringUp (carried w (broughtReply b))
 
   pub start-effect : Effect w StartBringUp (core w StartBringUp)
   unfolding startOf broughtReply replied withBringUp andThen noWrites
   start-effect =
-      through w StartBringUp (refused-still w StartBringUp InvalidParameter refl refl)
+      through Effect w StartBringUp (refused-still w StartBringUp InvalidParameter refl refl)
       (settled-by (first ((not (inRanges s), InvalidParameter) ∷ (anyUncollected 0 32 s, QueueFull) ∷ [])) _ _ Started
       (λ r e keeps. refused-still w StartBringUp r refl (rw (undone r)))
       (λ e keeps. still-of w StartBringUp _ _ _ (brought s 0 1 0 0) refl refl refl keeps refl
@@ -153,7 +152,7 @@ module _ (w : World) where
   abbrev Stepped : ℕ → BroughtUp → Type 0
   Stepped v b =
       (Ranges s → Ranges (b .state))
-      → Effect w (BringUpStep v) (carriedOut (came (broughtReply b) (w .rows .heads) (w .rows .frames) (w .rows .setups)) (w .rows .pool))
+      → Effect w (BringUpStep v) (carried w (broughtReply b))
 
   again-effect : (v register : ℕ) → (s .step ≡ 0 → ⊥) → Stepped v (againOf s register)
   unfolding againOf broughtReply replied withBringUp noWrites
@@ -179,7 +178,7 @@ module _ (w : World) where
   pub step-effect : (v : ℕ) → Effect w (BringUpStep v) (core w (BringUpStep v))
   unfolding stepOf broughtReply replied noWrites
   step-effect v =
-      through w (BringUpStep v) (refused-still w (BringUpStep v) InvalidParameter refl refl)
+      through Effect w (BringUpStep v) (refused-still w (BringUpStep v) InvalidParameter refl refl)
       (settled-by (first ((not (inRanges s), InvalidParameter) ∷ (eqb (s .step) 0, InvalidParameter) ∷ [])) _ _ (Stepped v)
       (λ r e keeps. subst (λ (x : Refusal). Effect w (BringUpStep v) (leaves w (BringUpStep v) s (Refused x) noWrites)) (step-refuses (not (inRanges s)) (eqb (s .step) 0) r e)
       (refused-still w (BringUpStep v) InvalidParameter refl refl))
@@ -191,12 +190,12 @@ module _ (w : World) where
   abbrev Allotted : Allotment → Type 0
   Allotted a =
       (Ranges s → Ranges (a .state))
-      → Effect w AllocateAddress (carriedOut (came (allotReply a) (w .rows .heads) (w .rows .frames) (w .rows .setups)) (w .rows .pool))
+      → Effect w AllocateAddress (carried w (allotReply a))
 
   pub allot-effect : Effect w AllocateAddress (core w AllocateAddress)
   unfolding allotOf allotDecided replied withNextAddress noWrites
   allot-effect =
-      through w AllocateAddress (refused-still w AllocateAddress InvalidParameter refl refl)
+      through Effect w AllocateAddress (refused-still w AllocateAddress InvalidParameter refl refl)
       (settled-by (first ((not (inRanges s), InvalidParameter) ∷ (ltb 127 (s .address), SlotLimitReached) ∷ [])) _ _ Allotted
       (λ r e keeps. refused-still w AllocateAddress r refl refl)
       (λ e keeps. still-of w AllocateAddress _ _ _

@@ -108,11 +108,22 @@ note-keeps s n h r =
       slots = r .slots;
     }
 
+-- ---- the kind of a slot
+
+pub kind-most : (s : Ehci) → Ranges s → (k : ℕ) → k < 32 → slotAt s k .kind ≤ 3
+kind-most s r k low = by (slot-tells (s .settings .endpoints) k (s .unanswered) (slotAt s k) (r .slots k low) .by-phase)
+  where
+    by : Phase (slotAt s k) (s .unanswered) → slotAt s k .kind ≤ 3
+    by (Phase.closed p k i n) = omega (arith, k)
+    by (Phase.idle p o n) = o .most
+    by (Phase.linked p o r d c b) = o .most
+    by (Phase.unlinking p o r d c b) = o .most
+
 -- ---- a counted advance
 
 -- a slot whose boundary falls with the unlinks that are unanswered
-abbrev lowered : Slot → ℕ → Slot
-lowered e b =
+abbrev pub lower : Slot → ℕ → Slot
+lower e b =
     record {
       phase = e .phase;
       kind = e .kind;
@@ -126,7 +137,7 @@ lowered e b =
 
 module _ (e : Slot) (u : ℕ) (some : 1 ≤ u) where
   abbrev fallen : Slot
-  fallen = lowered e (fallenOne (e .phase) (e .kind) (e .boundary))
+  fallen = lower e (fallenOne (e .phase) (e .kind) (e .boundary))
 
   stays : (e .phase ≡ 3 → ⊥) → fallenOne (e .phase) (e .kind) (e .boundary) ≡ e .boundary
   unfolding fallenOne

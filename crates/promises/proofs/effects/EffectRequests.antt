@@ -28,7 +28,7 @@ use Rattle.request.specs.declared.judge.TransferRequest.{TransferRequest}
 use Rattle.request.proofs.JudgeLaws.{judge-tells}
 use Rattle.collection.specs.Answers.{outcomeOf}
 use Rattle.collection.specs.Calls.{Gathered, finishOf, marked, pendingLeft}
-use Rattle.collection.specs.Unlinks.{Left, unlinkOf, waitingOf}
+use Rattle.collection.specs.Unlinks.{Left, waitingOf, isMissing}
 use Rattle.collection.proofs.Splits.{cancel-split, collect-split, unlink-split}
 use Rattle.ehci.specs.declared.call.Call.the-variants.{Cancel, Collect, Submit, Writeback}
 use Rattle.ehci.specs.declared.reply.Answered.the-variants.{Refused}
@@ -39,8 +39,9 @@ use Rattle.promises.specs.Runs.{Rows, World, core}
 use Rattle.promises.specs.Events.{Collects, Event, Other, Parts, Unlinks, isCollected}
 use Rattle.promises.specs.Walks.{frameWalk, isIn, ringWalk}
 use Rattle.promises.proofs.effects.RefusalNumbers.{uncollected, undone}
-use Rattle.promises.proofs.effects.Effects.{Effect, accepts, collects, marks, unlinks, writes-back}
-use Rattle.promises.proofs.effects.EffectDoor.{leaves, refused-still, rows-kept, seen, sidesOf, stays-in, still-of, through}
+use Rattle.promises.proofs.effects.Effects.{Effect, accepts, collects, marks, unlinks, writes-back, Unlinked}
+use Rattle.promises.proofs.effects.EffectDoor.{leaves, refused-still, rows-kept, seen, sidesOf, stays-in, still-of, through, carried}
+use Rattle.schedule.specs.Links.{detachOf}
 
 -- no head leaves where the words of heads and frames stay
 pub none-leaves : (s : Settings) (k frame : ℕ) (old new : Rows) → new .heads ≡ old .heads → new .frames ≡ old .frames
@@ -84,7 +85,7 @@ module _ (w : World) where
   pub submit-effect : (k : ℕ) (t : TransferRequest) (rd : Readings) → Effect w (Submit k t rd) (core w (Submit k t rd))
   unfolding submitDecided submitOf settledSubmit acceptedWith refusedSubmit replied judgeOf
   submit-effect k t rd =
-      through w (Submit k t rd) (refused-still w (Submit k t rd) InvalidParameter refl refl)
+      through Effect w (Submit k t rd) (refused-still w (Submit k t rd) InvalidParameter refl refl)
       (settled-by
       (first ((unfit, InvalidParameter) ∷ submitChecks s k t)) _ _
       (λ (o : Outcome). Effect w (Submit k t rd) (carriedOut (submitCame o) (w .rows .pool)))
@@ -105,9 +106,9 @@ module _ (w : World) where
   pub writeback-effect : (place token : ℕ) → Effect w (Writeback place token) (core w (Writeback place token))
   unfolding writebackDecided writebackOf refusedWriteback replied
   writeback-effect place token =
-      through w (Writeback place token) (refused-still w (Writeback place token) InvalidParameter refl refl)
+      through Effect w (Writeback place token) (refused-still w (Writeback place token) InvalidParameter refl refl)
       (settled-by (first (writebackChecks s (lengths n (length hs) (length fs) (length us)) place)) _ _
-      (λ (x : WrittenBack). Effect w (Writeback place token) (carriedOut (came (writtenReply x) hs fs us) (w .rows .pool)))
+      (λ (x : WrittenBack). Effect w (Writeback place token) (carried w (writtenReply x)))
       (λ r e. refused-still w (Writeback place token) r refl refl)
       (λ e. writes-back
       (record {
@@ -130,12 +131,12 @@ module _ (w : World) where
     cancel-refused : (x : Refusal) → Effect w (Cancel k id rd) (leaves w (Cancel k id rd) s (Refused x) noWrites)
     cancel-refused x = refused-still w (Cancel k id rd) x (none-leaves (s .settings) k (rd .frame) _ _ refl refl) refl
 
-    cancel-unlinks : (p : Pipe) (r : Request) → endpointAt s k ≡ Linked p r → s .unanswered < 32 → Cancels (unlinkOf s hs fs rd k p (marked r))
+    -- where the head is found
+    unfoldable pub cancel-unlinked : (p : Pipe) (r : Request) → endpointAt s k ≡ Linked p r → s .unanswered < 32 → isMissing (detachOf s hs fs k .predecessor) ≡ false
+        → Unlinked w (Cancel k id rd) (carriedOut (withSetups (cancelCame (record { came = waitingOf s rd k p (marked r); rows = detachOf s hs fs k .rows })) us) (w .rows .pool))
     unfolding waitingOf replied
-    cancel-unlinks p r e below =
-        unlink-split s hs fs rd k p (marked r) Cancels (cancel-refused _)
-        (λ found. unlinks
-        (record {
+    cancel-unlinked p r e below found =
+        record {
           k = k;
           p = p;
           r = r;
@@ -151,14 +152,14 @@ module _ (w : World) where
           writes-are = refl;
           leaves = refl;
           same = refl;
-        }))
+        }
 
     pub cancel-effect : Effect w (Cancel k id rd) (core w (Cancel k id rd))
     unfolding cancelDecided replied
     cancel-effect =
-        through w (Cancel k id rd) (cancel-refused InvalidParameter)
+        through Effect w (Cancel k id rd) (cancel-refused InvalidParameter)
         (cancel-split s n hs fs (length us) rd k id Cancels cancel-refused
-        (λ p r ok e below same. cancel-unlinks p r e below)
+        (λ p r ok e below same. unlink-split s hs fs rd k p (marked r) Cancels (cancel-refused _) (λ found. unlinks (cancel-unlinked p r e below found)))
         (λ p r u ok e same. marks
         (record {
           k = k;
@@ -181,12 +182,12 @@ module _ (w : World) where
     collect-refused x =
         refused-still w (Collect k id rd) x (rw (uncollected x) (none-leaves (s .settings) k (rd .frame) _ _ refl refl)) refl
 
-    collect-unlinks : (p : Pipe) (r : Request) → endpointAt s k ≡ Linked p r → s .unanswered < 32 → Collecting (pendingLeft (unlinkOf s hs fs rd k p r))
+    -- where the head is found
+    unfoldable pub collect-unlinked : (p : Pipe) (r : Request) → endpointAt s k ≡ Linked p r → s .unanswered < 32 → isMissing (detachOf s hs fs k .predecessor) ≡ false
+        → Unlinked w (Collect k id rd) (carriedOut (withSetups (collectCame (pendingLeft (record { came = waitingOf s rd k p r; rows = detachOf s hs fs k .rows }))) us) (w .rows .pool))
     unfolding waitingOf replied
-    collect-unlinks p r e below =
-        unlink-split s hs fs rd k p r (λ (l : Left). Collecting (pendingLeft l)) (collect-refused _)
-        (λ found. unlinks
-        (record {
+    collect-unlinked p r e below found =
+        record {
           k = k;
           p = p;
           r = r;
@@ -202,7 +203,7 @@ module _ (w : World) where
           writes-are = refl;
           leaves = refl;
           same = refl;
-        }))
+        }
 
     collected-as : (b : Bool) (j : ℕ) (e : Event) → b ≡ true → j ≡ id → cond b (Collects k id (rd .frame)) e ≡ Collects k j (rd .frame)
     collected-as b j e q i = rw (q, i)
@@ -210,10 +211,10 @@ module _ (w : World) where
     pub collect-effect : Effect w (Collect k id rd) (core w (Collect k id rd))
     unfolding collectDecided finishOf replied noWrites
     collect-effect =
-        through w (Collect k id rd) (collect-refused InvalidParameter)
+        through Effect w (Collect k id rd) (collect-refused InvalidParameter)
         (collect-split s n hs fs (length us) rd k id (seen w (Collect k id rd)) Collecting collect-refused
         (still-of w (Collect k id rd) _ _ _ (sidesOf s) refl refl (none-leaves (s .settings) k (rd .frame) _ _ refl refl) (λ g. g) refl (λ i. i) refl)
-        (λ p r ok e below same done. collect-unlinks p r e below)
+        (λ p r ok e below same done. unlink-split s hs fs rd k p r (λ (l : Left). Collecting (pendingLeft l)) (collect-refused _) (λ found. unlinks (collect-unlinked p r e below found)))
         (λ p r u ok e same through-it. collects
         (record {
           k = k;

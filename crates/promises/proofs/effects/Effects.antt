@@ -1,6 +1,6 @@
 -- What a call can do to a world: thirteen kinds, whatever the call. Every invariant goes by these and not by the calls.
 use Prim.Native.Nat.{ℕ, _+_, _<_}
-use mathlib.Core.Bool.{true, false}
+use mathlib.Core.Bool.{true, false, Bool, cond}
 use mathlib.Core.List.{List}
 use mathlib.Core.Path.{_≡_}
 use mathlib.Core.Logic.{_⊎_}
@@ -40,10 +40,11 @@ use Rattle.ehci.specs.declared.call.Call.the-variants.{Writeback}
 use Rattle.ehci.specs.declared.reply.Answered.the-variants.{Done}
 use Rattle.ehci.specs.declared.reply.Given.the-variants.{Nothing}
 use Rattle.ehci.specs.Door.{Applied}
-use Rattle.promises.specs.Runs.{Rows, World, rowsOf, turnOf}
-use Rattle.promises.specs.Events.{Other, Reads, Drains, Submits, Collects, event, leaving}
+use Rattle.promises.specs.Runs.{Rows, World, rowsOf, turnOf, Turn}
+use Rattle.promises.specs.Events.{Other, Reads, Drains, Submits, Collects, event, leaving, Event, Unlinks, Parts, leavesFrames, leavesRing}
 use Rattle.promises.specs.Bells.{cancelsBy}
 use Rattle.promises.specs.Opened.{Change, ClosesSlot, Halted, OpensSlot, Running, Same, change}
+use Rattle.settings.specs.declared.settings.Settings.{Settings}
 
 -- what of a state stands beside slots, owners and doorbell
 pub record Sides : Type 0 where
@@ -303,3 +304,12 @@ pub data Effect (w : World) (c : Call) (a : Applied) : Type 0 where
   marks : Marks w c a → Effect w c a
   unlinks : Unlinked w c a → Effect w c a
   collects : Collected w c a → Effect w c a
+
+-- a head leaves the ring, or the frames, or neither
+pub leaving-by : (s : Settings) (k frame : ℕ) (t : Turn) (P : Event → Type 0) → P (Unlinks k) → P (Parts k frame) → P Other → P (leaving s k frame t)
+leaving-by s k frame t P ring frames none = by (leavesRing s k t) (leavesFrames s k t)
+  where
+    by : (a b : Bool) → P (cond a (Unlinks k) (cond b (Parts k frame) Other))
+    by true b = ring
+    by false true = frames
+    by false false = none

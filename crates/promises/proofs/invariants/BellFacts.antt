@@ -1,6 +1,6 @@
 -- What the kinds of effect do to the doorbell, and to the endpoints of the slots.
 use Prim.Native.Nat.{ℕ, _+_, _-_, _≤_, _<_}
-use mathlib.Core.Bool.{Bool, true, false, not, true≢false, false≢true, _&&_, cond}
+use mathlib.Core.Bool.{Bool, true, false, not, _&&_, cond}
 use mathlib.Core.Path.{_≡_, refl, ap, _∙_}
 use native.Mathlib.Omega.{arith}
 use borrow.Author.Tests.{eqb-false, le-leb, ltb-true}
@@ -13,19 +13,18 @@ use Rattle.state.specs.Slots.{slotAt}
 use Rattle.state.specs.State.{withBell, withBoundaries}
 use Rattle.state.specs.declared.state.Ehci.{Ehci}
 use Rattle.pipe.specs.Endpoints.{decoded, endpointAt, flagNumber, pickBoundary, pipeOf, requestOf}
-use Rattle.pipe.specs.declared.endpoints.Endpoint.{Endpoint}
 use Rattle.pipe.specs.declared.endpoints.Endpoint.the-variants.{Closed, Idle, Linked, Unlinking}
 use Rattle.pipe.specs.declared.endpoints.Pipe.{Pipe}
 use Rattle.pipe.specs.declared.endpoints.Request.{Request}
 use Rattle.opening.specs.Opening.{freshState}
 use Rattle.opening.proofs.OpenLaws.{fresh-slot}
-use Rattle.controller.specs.Readers.{hasEndpoint, holdsRequest}
 use Rattle.controller.specs.declared.lent.Readings.{Readings}
 use Rattle.schedule.specs.Bell.{advancedOf, fallIf, fallenFrom, fallenOne, ringOf, rungIf, unlinkedOf, someRing}
 use Rattle.schedule.specs.declared.bell.Bell.{Bell}
 use Rattle.schedule.proofs.BellLaws.{command-clear, fallen-at, ring-set}
 use Rattle.request.specs.Submit.{writesWith}
 use Rattle.promises.proofs.effects.Effects.{Sides, besides}
+use Rattle.promises.proofs.effects.EffectRanges.{lower}
 use Rattle.promises.proofs.invariants.BellWaiting.{fallen}
 
 -- ---- writes
@@ -124,19 +123,6 @@ unfolding endpointAt slotAt withBell
 bell-aside s n d u k = refl
 
 -- a slot whose boundary falls
-abbrev lower : Slot → ℕ → Slot
-lower e n =
-    record {
-      phase = e .phase;
-      kind = e .kind;
-      id = e .id;
-      request = e .request;
-      direction = e .direction;
-      length = e .length;
-      cancel = e .cancel;
-      boundary = n;
-    }
-
 decoded-falls : (e : Slot) → decoded (lower e (fallenOne (e .phase) (e .kind) (e .boundary))) ≡ fallen (decoded e)
 unfolding decoded fallenOne
 decoded-falls e = go (eqb (e .phase) 1) (eqb (e .phase) 2) (eqb (e .phase) 3) (eqb (e .kind) 3)
@@ -175,13 +161,6 @@ module _ (s : Ehci) (n d u : ℕ) where
       go : (b : Bool) → ltb k 32 ≡ b → cond b (decoded (slotAt counted k)) Closed ≡ fallen (cond b (decoded (slotAt s k)) Closed)
       go true e = ap decoded (lowered-slot k (ltb-true k 32 e)) ∙ decoded-falls (slotAt s k)
       go false e = refl
-
--- an opened slot without a request is idle
-pub idle-is : (x : Endpoint) → hasEndpoint x ≡ true → holdsRequest x ≡ false → (p : Pipe) × (x ≡ Idle p)
-idle-is Closed o u = absurd (false≢true o)
-idle-is (Idle p) o u = (p, refl)
-idle-is (Linked p r) o u = absurd (true≢false u)
-idle-is (Unlinking p r b) o u = absurd (true≢false u)
 
 -- after an opening every slot is closed
 pub fresh-closed : (s : _) (k : ℕ) → endpointAt (freshState s) k ≡ Closed

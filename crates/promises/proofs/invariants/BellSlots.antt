@@ -18,6 +18,7 @@ use Rattle.promises.specs.Runs.{History, Turn}
 use Rattle.promises.specs.Events.{Event, Other, Reads, Drains, Submits, Unlinks, Parts, Collects, event}
 use Rattle.promises.specs.Bells.{counted, idAfter, isCollectsOf, isPartsOf, isSubmitsOf, isUnlinksOf, kindAfter, kindAt, linked, newestId, number, parted, partedAt, parting, unlinking}
 use Rattle.promises.proofs.invariants.BellWaiting.{fallen}
+use Rattle.common.specs.declared.kinds.EndpointType.{EndpointType}
 
 -- ---- a slot
 
@@ -116,31 +117,23 @@ module _ (s : Settings) (k : ℕ) (t : Turn) (h : History) (a : Aside k (event s
   unfolding number
   same-number = rw (a .no-unlink)
 
+  -- no submission of its slot
+  unasked : (x : Event) → isSubmitsOf k x ≡ false → (kind : EndpointType) (id : ℕ) → (kindAfter k x kind ≡ kind) × (idAfter k x id ≡ id)
+  unasked Other e kind id = (refl, refl)
+  unasked Reads e kind id = (refl, refl)
+  unasked Drains e kind id = (refl, refl)
+  unasked (Submits j n r) e kind id = (rw e, rw e)
+  unasked (Unlinks j) e kind id = (refl, refl)
+  unasked (Parts j frame) e kind id = (refl, refl)
+  unasked (Collects j n frame) e kind id = (refl, refl)
+
   pub same-kind : kindAt s k (t ∷ h) ≡ kindAt s k h
   unfolding kindAt
-  same-kind = go (event s t) (a .no-submit)
-    where
-      go : (x : Event) → isSubmitsOf k x ≡ false → kindAfter k x (kindAt s k h) ≡ kindAt s k h
-      go Other e = refl
-      go Reads e = refl
-      go Drains e = refl
-      go (Submits j id r) e = rw e
-      go (Unlinks j) e = refl
-      go (Parts j frame) e = refl
-      go (Collects j id frame) e = refl
+  same-kind = unasked (event s t) (a .no-submit) (kindAt s k h) 0 .0
 
   pub same-id : newestId s k (t ∷ h) ≡ newestId s k h
   unfolding newestId
-  same-id = go (event s t) (a .no-submit)
-    where
-      go : (x : Event) → isSubmitsOf k x ≡ false → idAfter k x (newestId s k h) ≡ newestId s k h
-      go Other e = refl
-      go Reads e = refl
-      go Drains e = refl
-      go (Submits j id r) e = rw e
-      go (Unlinks j) e = refl
-      go (Parts j frame) e = refl
-      go (Collects j id frame) e = refl
+  same-id = unasked (event s t) (a .no-submit) (kindAt s k h) (newestId s k h) .1
 
   pub same-parted : parted s k (t ∷ h) ≡ parted s k h
   unfolding parted

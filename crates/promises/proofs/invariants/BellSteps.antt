@@ -36,12 +36,13 @@ use Rattle.promises.specs.Runs.{History, Turn, World, turnOf}
 use Rattle.promises.specs.Events.{Event, Other, Reads, Drains, Submits, Collects, event, rings}
 use Rattle.promises.specs.Bells.{Answered, Bell, Quiet, Rung, bell, drains, isAnswered, isDrains, isReads, isUnlinks, isUp, linked, unlinking}
 use Rattle.promises.proofs.effects.Effects.{Still, Hears, Joins, Passes, Counts, Opens, Closes, Rewrites, Accepts, WritesBack, Marks, Collected, besides}
+use Rattle.promises.proofs.effects.EffectEndpoints.{idle-is}
 use Rattle.promises.proofs.invariants.Sound.{Sound}
 use Rattle.promises.proofs.invariants.BellWaiting.{isLeft, waitsFor}
 use Rattle.promises.proofs.invariants.BellSlots.{Aside, Leaving, Slot, aside-collects, aside-drains, aside-other, aside-reads, aside-submits, slot-on}
 use Rattle.promises.proofs.invariants.BellInvariant.{BellInv, Calm, calm-counted, drain-inv, one-inv, read-inv, still-inv}
 use Rattle.promises.proofs.invariants.BellTurns.{free-now, joined-now}
-use Rattle.promises.proofs.invariants.BellFacts.{advance-doorbell, advance-noted, advance-rings, advance-unanswered, all-fall, bell-aside, besides-aside, idle-is, silent-none, silent-submit}
+use Rattle.promises.proofs.invariants.BellFacts.{advance-doorbell, advance-noted, advance-rings, advance-unanswered, all-fall, bell-aside, besides-aside, silent-none, silent-submit}
 
 abbrev pub StateInv : Settings → History → Ehci → Type 0
 StateInv s h e = BellInv s h (e .noted) (e .doorbell) (e .unanswered) (e .pending) (endpointAt e)

@@ -36,11 +36,12 @@ use Rattle.promises.specs.Runs.{History, Turn, World, turnOf}
 use Rattle.promises.specs.Events.{Other, Reads, Drains, Submits, Unlinks, Parts, Collects, event, rings}
 use Rattle.promises.specs.Bells.{Answered, bell, isDrains, isReads, isUnlinks}
 use Rattle.promises.proofs.effects.Effects.{Effect, Counts, Accepts, Marks, Unlinked, Collected, besides}
+use Rattle.promises.proofs.effects.EffectEndpoints.{idle-is}
 use Rattle.promises.proofs.invariants.Sound.{Sound}
 use Rattle.promises.proofs.invariants.BellWaiting.{fallen}
 use Rattle.promises.proofs.invariants.BellSlots.{Aside, aside-drains, aside-other}
 use Rattle.promises.proofs.invariants.BellInvariant.{Calm, answered}
-use Rattle.promises.proofs.invariants.BellFacts.{advance-rings, all-fall, bell-aside, besides-aside, idle-is, silent-submit}
+use Rattle.promises.proofs.invariants.BellFacts.{advance-rings, all-fall, bell-aside, besides-aside, silent-submit}
 use Rattle.promises.proofs.invariants.BellSteps.{StateInv, aside-of, calm, is, no-writes, unnoted, within}
 use Rattle.promises.proofs.invariants.BellUnlinks.{Named, after, apart, bounded, bounded-frames, e, ep, mine, mine-frames, others, others-frames, quiet-frames, rang}
 

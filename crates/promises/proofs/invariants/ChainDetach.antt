@@ -1,7 +1,7 @@
 -- A linked head is found by its predecessor, and taking it out leaves both schedules' chains.
 use Prim.Native.Nat.{ℕ, _+_, _*_, _/_, _<_}
 use mathlib.Core.Path.{_≡_, refl, sym, ap, subst, _∙_}
-use mathlib.Core.Bool.{Bool, true, false, not, _&&_, _||_}
+use mathlib.Core.Bool.{Bool, true, false, not, _&&_, or-true}
 use mathlib.Core.List.{List, [], _∷_, _++_}
 use native.Mathlib.Omega.{arith}
 use borrow.Author.Tests.{eq-eqb, eqb-false, ne-eqb, not-true}
@@ -44,11 +44,7 @@ next-link s h w j k e [] post c = c .1 .0
 next-link s h w j k e (i ∷ pre) post c = next-link s h (linkWord h i) j k e pre post (c .1)
 
 in-neighbour : (j k : ℕ) (pre post : List ℕ) → isIn j (pre ++ j ∷ k ∷ post) ≡ true
-in-neighbour j k pre post = in-append j pre (j ∷ k ∷ post) ∙ rw (eq-eqb j j refl) (by (isIn j pre))
-  where
-    by : (b : Bool) → (b || true) ≡ true
-    by true = refl
-    by false = refl
+in-neighbour j k pre post = in-append j pre (j ∷ k ∷ post) ∙ rw (eq-eqb j j refl) (or-true (isIn j pre))
 
 -- where slot k stands, with its predecessor
 pub data Met (s : Ehci) (h f : List ℕ) (k : ℕ) (ks : List ℕ) : Type 0 where

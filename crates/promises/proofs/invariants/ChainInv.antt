@@ -10,7 +10,6 @@ use lib.Dec.{eqb, ltb}
 use lib.ListN.{getD, length, List·getD-eq-default}
 use Rattle.settings.specs.declared.settings.Settings.{Settings}
 use Rattle.slot.specs.declared.slot.Slot.{Slot}
-use Rattle.slot.proofs.SlotLaws.{Phase, slot-tells}
 use Rattle.state.specs.Slots.{slotAt}
 use Rattle.state.specs.declared.state.Ehci.{Ehci}
 use Rattle.state.proofs.RangesLaws.{Ranges}
@@ -28,6 +27,7 @@ use Rattle.promises.specs.Walks.{isIn}
 use Rattle.promises.specs.Uses.{frameSlots, remove, ringSlots}
 use Rattle.promises.proofs.invariants.Sound.{Sound}
 use Rattle.promises.proofs.invariants.ChainLists.{distinct-remove, in-later, in-remove, in-same, out-avoids}
+use Rattle.promises.proofs.effects.EffectRanges.{kind-most}
 
 -- linked in the frame list (true), or in the ring (false)
 abbrev pub linkedIn : Bool → Endpoint → Bool
@@ -87,12 +87,6 @@ linked-fields b s t k p q = by (ltb k 32)
     by true = decoded-linked b (slotAt t k) ∙ rw (p, q) (sym (decoded-linked b (slotAt s k)))
     by false = refl
 
-open-most : (u : ℕ) (e : Slot) → Phase e u → e .kind ≤ 3
-open-most u e (Phase.closed _ k _ _) = omega arith
-open-most u e (Phase.idle _ o _) = o .most
-open-most u e (Phase.linked _ o _ _ _ _) = o .most
-open-most u e (Phase.unlinking _ o _ _ _ _) = o .most
-
 module _ (s : Ehci) (r : Ranges s) (w : Wide s) where
   pub linked-by : (b : Bool) (k : ℕ)
       → linkedIn b (endpointAt s k) ≡ (eqb (getD (s .phases) k 0) 2 && same b (periodic s k))
@@ -105,7 +99,7 @@ module _ (s : Ehci) (r : Ranges s) (w : Wide s) where
           rw (lt-ltb k 32 low)
           (decoded-linked b (slotAt s k)
           ∙ rw (interrupt-is (getD (s .kinds) k 0)
-          (open-most (s .unanswered) (slotAt s k) (slot-tells (s .settings .endpoints) k (s .unanswered) (slotAt s k) (r .slots k low) .by-phase))))
+          (kind-most s r k low)))
       by (no ne) =
           let high : 32 ≤ k = omega arith in
           rw (le-ltb k 32 high, List·getD-eq-default (s .phases) 0 {n = k} (omega (arith, w .phases-wide)))

@@ -1,6 +1,6 @@
 -- What the controller may still read is in use; so no submit is given a place of it.
-use Prim.Native.Nat.{ℕ, _-_, _≤_}
-use mathlib.Core.Bool.{Bool, true, false, cond, true≢false, _&&_}
+use Prim.Native.Nat.{ℕ, _≤_}
+use mathlib.Core.Bool.{Bool, true, false, cond, true≢false}
 use mathlib.Core.List.{List, [], _∷_}
 use mathlib.Core.Logic.{_⊎_, inl, inr}
 use mathlib.Core.Path.{_≡_, refl, sym, subst, _∙_}
@@ -20,6 +20,7 @@ use Rattle.promises.specs.Bells.{Bell, Rung, bell, isPartsOf, isUnlinksO
 use Rattle.promises.specs.Faults.{Hold, Met, Reach, Since, Unanswered, Unrung, departed, farther, isForgotten, joined, onward}
 use Rattle.promises.proofs.invariants.BellSlots.{Aside}
 use Rattle.promises.proofs.invariants.BellSummary.{Kept}
+use Rattle.common.proofs.TestLaws.{both-first}
 
 -- ---- a hold, by the bell and its slot's endpoint
 
@@ -123,13 +124,9 @@ pub used-stays : (k id j : ℕ) (places : List ℕ) (us : List Use) → (j ≡ k
 used-stays k id j places [] ne g = g
 used-stays k id j places (u ∷ us) ne g = go (isOf k id u) refl g (used-stays k id j places us ne)
   where
-    slot-is : (a b : Bool) → (a && b) ≡ true → a ≡ true
-    slot-is true b q = refl
-    slot-is false b q = q
-
     go : (c : Bool) → isOf k id u ≡ c → ((u .slot ≡ j) × (u .places ≡ places)) ⊎ usedBy j places us → (usedBy j places us → usedBy j places (without k id us))
         → usedBy j places (cond c (without k id us) (u ∷ without k id us))
-    go true q (inl h) rec = absurd (ne (sym (h .0) ∙ eqb-true (u .slot) k (slot-is (eqb (u .slot) k) (eqb (u .id) id) q)))
+    go true q (inl h) rec = absurd (ne (sym (h .0) ∙ eqb-true (u .slot) k (both-first (eqb (u .slot) k) (eqb (u .id) id) q)))
     go true q (inr h) rec = rec h
     go false q (inl h) rec = inl h
     go false q (inr h) rec = inr (rec h)

@@ -1,39 +1,30 @@
 -- Each slot's next id is the one that the history says.
-use Prim.Native.Nat.{ℕ, _<_}
+use Prim.Native.Nat.{ℕ}
 use mathlib.Core.Bool.{Bool, true, false, cond}
 use mathlib.Core.List.{[], _∷_}
 use mathlib.Core.Path.{_≡_, refl, sym, ap, subst, _∙_}
 use native.Mathlib.Decide.{ℕ-discrete as decEq}
-use native.Mathlib.Omega.{arith}
-use borrow.Author.Tests.{eq-eqb, ne-eqb}
-use lib.Dec.{eqb, ltb}
+use borrow.Author.Tests.{ne-eqb}
+use lib.Dec.{eqb}
 use Rattle.settings.specs.declared.settings.Settings.{Settings}
-use Rattle.common.proofs.TestLaws.{false-true}
-use Rattle.state.specs.Slots.{slotAt}
-use Rattle.state.specs.State.{withBell, withOwner}
 use Rattle.state.specs.declared.state.Ehci.{Ehci}
-use Rattle.pipe.specs.Endpoints.{decoded, encoded, endpointAt, withEndpoint}
+use Rattle.pipe.specs.Endpoints.{decoded, encoded, endpointAt}
 use Rattle.pipe.specs.declared.endpoints.Endpoint.{Endpoint}
 use Rattle.pipe.specs.declared.endpoints.Endpoint.the-variants.{Closed, Idle, Linked, Unlinking}
-use Rattle.pipe.proofs.EndpointLaws.{Wide, bell-wide, endpoint-other, owner-aside, owner-wide}
 use Rattle.controller.specs.Readers.{isOpen}
-use Rattle.controller.proofs.ReaderLaws.{open-below}
-use Rattle.schedule.specs.Bell.{bellOf}
-use Rattle.endpoint.specs.Calls.{newEndpoint}
-use Rattle.request.specs.Submit.{afterId, idAt, linkedWith, stateWith}
-use Rattle.collection.specs.Calls.{finishOf, marked}
-use Rattle.collection.specs.Unlinks.{boundedOf, waitingOf}
+use Rattle.request.specs.Submit.{afterId, idAt}
 use Rattle.ehci.specs.declared.call.Call.{Call}
 use Rattle.ehci.specs.Door.{Applied}
 use Rattle.promises.specs.Runs.{History, Opening, Turn, World, leftBy, turnOf}
-use Rattle.promises.specs.Events.{Event, Other, Reads, Drains, Submits, Unlinks, Parts, Collects, event, leavesFrames, leavesRing, leaving}
+use Rattle.promises.specs.Events.{Event, Other, Reads, Drains, Submits, Collects, event, leaving}
 use Rattle.promises.specs.Opened.{Change, ClosesSlot, Halted, OpensSlot, Running, Same, change}
 use Rattle.promises.specs.Ids.{following, nextId, startBy, takenBy}
-use Rattle.promises.proofs.effects.Effects.{Effect, Still, Switches, accepts, closes, collects, counts, hears, joins, marks, opens, passes, rewrites, still, unlinks, writes-back}
-use Rattle.promises.proofs.effects.SlotViews.{view-bell, view-besides, view-boundaries, view-same, view-stays}
+use Rattle.promises.proofs.effects.Effects.{Effect, Still, Switches, accepts, closes, collects, counts, hears, joins, marks, opens, passes, rewrites, still, unlinks, writes-back, leaving-by}
+use Rattle.promises.proofs.effects.SlotViews.{view-open, view-kept}
 use Rattle.promises.proofs.invariants.Reached.{opening-is}
-use Rattle.promises.proofs.invariants.Sound.{Sound, slot-low}
-use Rattle.promises.proofs.invariants.UseHeld.{fresh-closed}
+use Rattle.promises.proofs.invariants.Sound.{Sound}
+use Rattle.promises.proofs.invariants.BellFacts.{fresh-closed}
+use Rattle.promises.proofs.invariants.ViewsAfter.{view-after, viewed}
 
 -- ---- the next id of a slot
 
@@ -53,32 +44,9 @@ next-again (Idle p) = refl
 next-again (Linked p r) = refl
 next-again (Unlinking p r b) = refl
 
-module _ (s : Ehci) (k : ℕ) (x : Endpoint) (w : Wide s) (low : k < 32) where
-  -- slot k is given that endpoint
-  next-given : (j : ℕ) → nextNow (withEndpoint s k x) j ≡ cond (eqb k j) (nextIn x) (nextNow s j)
-  next-given j = by (decEq k j)
-    where
-      by : Dec (k ≡ j) → nextNow (withEndpoint s k x) j ≡ cond (eqb k j) (nextIn x) (nextNow s j)
-      by (yes e) =
-          ap (nextNow (withEndpoint s k x)) (sym e) ∙ view-same nextIn next-again s k x w low
-          ∙ sym (ap (λ (b : Bool). cond b (nextIn x) (nextNow s j)) (eq-eqb k j e))
-      by (no ne) = ap nextIn (endpoint-other s k x j (λ e. ne (sym e))) ∙ sym (ap (λ (b : Bool). cond b (nextIn x) (nextNow s j)) (ne-eqb k j ne))
-
-  next-stays : nextIn x ≡ nextNow s k → (j : ℕ) → nextNow (withEndpoint s k x) j ≡ nextNow s j
-  next-stays = view-stays nextIn next-again s k x w low
-
 -- it is the slot's id
 pub next-slot : (s : Ehci) (k : ℕ) → isOpen s k ≡ true → nextNow s k ≡ idAt s k
-unfolding endpointAt decoded
-next-slot s k o = by (ltb k 32) refl (eqb (slotAt s k .phase) 1) refl (eqb (slotAt s k .phase) 2) refl (eqb (slotAt s k .phase) 3) refl o
-  where
-    by : (a : Bool) → ltb k 32 ≡ a → (x : Bool) → eqb (slotAt s k .phase) 1 ≡ x → (y : Bool) → eqb (slotAt s k .phase) 2 ≡ y → (z : Bool) → eqb (slotAt s k .phase) 3 ≡ z
-        → isOpen s k ≡ true → nextNow s k ≡ idAt s k
-    by true a true p y q z r o = rw (a, p)
-    by true a false p true q z r o = rw (a, p, q)
-    by true a false p false q true r o = rw (a, p, q, r)
-    by true a false p false q false r o = absurd (false-true (rw (a, p, q, r) at o))
-    by false a x p y q z r o = absurd (false-true (rw a at o))
+next-slot s k o = view-open nextIn s k o (idAt s k) refl refl (λ b. refl)
 
 after-follows : (n : ℕ) → afterId n ≡ following n
 unfolding afterId
@@ -98,12 +66,7 @@ unfolding nextId
 ids-open s w o = subst (λ (x : World). IdsTold s [] x) (sym (opening-is s w o .1)) (λ k. sym (ap nextIn (fresh-closed s k)))
 
 left-takes : (s : Settings) (k j frame n : ℕ) (t : Turn) → takenBy k (leaving s j frame t) n ≡ n
-left-takes s k j frame n t = by (leavesRing s j t) (leavesFrames s j t)
-  where
-    by : (a b : Bool) → takenBy k (cond a (Unlinks j) (cond b (Parts j frame) Other)) n ≡ n
-    by true b = refl
-    by false true = refl
-    by false false = refl
+left-takes s k j frame n t = leaving-by s j frame t (λ e. takenBy k e n ≡ n) refl refl refl
 
 module _ (w : World) (c : Call) (a : Applied) (h : History) (told : IdsTold (w .state .settings) h w) (sound : Sound (w .state .settings) w) where
   abbrev t : Turn
@@ -118,6 +81,9 @@ module _ (w : World) (c : Call) (a : Applied) (h : History) (told : IdsTold (w .
   abbrev Told : Type 0
   Told = (k : ℕ) → nextId (old .settings) k (t ∷ h) ≡ nextNow new k
 
+  after : (x : Effect w c a) (k : ℕ) → nextNow new k ≡ viewed nextIn w c a x k
+  after = view-after nextIn w c a next-again (λ p r b d. refl) sound
+
   told-by : (e : Event) (x : Change) → event (old .settings) t ≡ e → change t ≡ x → ((k : ℕ) → takenBy k e (startBy k x (nextNow old k)) ≡ nextNow new k) → Told
   unfolding nextId
   told-by e x p q same k =
@@ -130,7 +96,7 @@ module _ (w : World) (c : Call) (a : Applied) (h : History) (told : IdsTold (w .
   still-told x = by (change t) refl (x .switches)
     where
       kept : (k : ℕ) → nextNow old k ≡ nextNow new k
-      kept k = sym (ap (λ (y : Ehci). nextNow y k) (x .state-is) ∙ view-besides nextIn old (x .sides) k)
+      kept k = sym (after (still x) k)
 
       by : (y : Change) → change t ≡ y → Switches y (old .running) (x .sides .running) → Told
       by Same e s = told-by Other Same (x .nothing) e kept
@@ -140,32 +106,17 @@ module _ (w : World) (c : Call) (a : Applied) (h : History) (told : IdsTold (w .
       by Running e s = told-by Other Running (x .nothing) e kept
 
   told-here : Effect w c a → Told
-  unfolding stateWith waitingOf finishOf
   told-here (still x) = still-told x
-  told-here (hears x) =
-      told-by Reads Same (x .hears) (x .same)
-      (λ k. sym (ap (λ (y : Ehci). nextNow y k) (x .state-is) ∙ view-besides nextIn _ (x .sides) k ∙ view-bell nextIn old _ _ _ k))
-  told-here (joins x) =
-      told-by Other Same (x .nothing) (x .same) (λ k. sym (ap (λ (y : Ehci). nextNow y k) (x .state-is) ∙ view-besides nextIn old (x .sides) k))
-  told-here (passes x) =
-      told-by Drains Same (x .drains) (x .same) (λ k. sym (ap (λ (y : Ehci). nextNow y k) (x .state-is) ∙ view-besides nextIn old (x .sides) k))
-  told-here (counts x) =
-      told-by Drains Same (x .drains) (x .same)
-      (λ k. sym (ap (λ (y : Ehci). nextNow y k) (x .state-is) ∙ view-besides nextIn _ (x .sides) k ∙ view-boundaries nextIn (λ p r b c. refl) _ _ k ∙ view-bell nextIn old _ _ _ k))
-  told-here (opens x) =
-      told-by Other (OpensSlot (x .k) (x .kind)) (x .nothing) (x .changes)
-      (λ j. sym (ap (λ (y : Ehci). nextNow y j) (x .state-is)
-      ∙ next-given old (x .k) (newEndpoint (x .kind)) (sound .wide) (omega (arith, x .below, sound .ranges .good .endpoints-most)) j))
-  told-here (closes x) =
-      told-by Other (ClosesSlot (x .k)) (x .nothing) (x .changes)
-      (λ j. sym (ap (λ (y : Ehci). nextNow y j) (x .state-is)
-      ∙ next-given old (x .k) Closed (sound .wide) (slot-low _ w sound (x .k) (Idle (x .p)) (x .idle) refl) j))
-  told-here (rewrites x) = told-by Other Same (x .nothing) (x .same) (λ k. sym (ap (λ (y : Ehci). nextNow y k) (x .state-is)))
+  told-here (hears x) = told-by Reads Same (x .hears) (x .same) (λ k. sym (after (hears x) k))
+  told-here (joins x) = told-by Other Same (x .nothing) (x .same) (λ k. sym (after (joins x) k))
+  told-here (passes x) = told-by Drains Same (x .drains) (x .same) (λ k. sym (after (passes x) k))
+  told-here (counts x) = told-by Drains Same (x .drains) (x .same) (λ k. sym (after (counts x) k))
+  told-here (opens x) = told-by Other (OpensSlot (x .k) (x .kind)) (x .nothing) (x .changes) (λ k. sym (after (opens x) k))
+  told-here (closes x) = told-by Other (ClosesSlot (x .k)) (x .nothing) (x .changes) (λ k. sym (after (closes x) k))
+  told-here (rewrites x) = told-by Other Same (x .nothing) (x .same) (λ k. sym (after (rewrites x) k))
   told-here (accepts x) =
       told-by (Submits (x .k) (idAt old (x .k)) (x .t)) Same (x .submits) (x .same)
-      (λ j. sym (ap (λ (y : Ehci). nextNow y j) (x .state-is)
-      ∙ next-given (withOwner old _) (x .k) (linkedWith old (x .k) (x .t)) (owner-wide old _ (sound .wide)) (open-below old (x .k) (x .judged .opened)) j
-      ∙ ap (λ (n : ℕ). cond (eqb (x .k) j) (afterId (idAt old (x .k))) n) (ap nextIn (owner-aside old _ j))
+      (λ j. sym (after (accepts x) j
       ∙ ap (λ (n : ℕ). cond (eqb (x .k) j) n (nextNow old j)) (after-follows (idAt old (x .k)) ∙ ap following (sym (next-slot old (x .k) (x .judged .opened))))
       ∙ own (x .k) j))
     where
@@ -175,25 +126,16 @@ module _ (w : World) (c : Call) (a : Applied) (h : History) (told : IdsTold (w .
           by : Dec (k ≡ j) → cond (eqb k j) (following (nextNow old k)) (nextNow old j) ≡ cond (eqb k j) (following (nextNow old j)) (nextNow old j)
           by (yes e) = ap (λ (i : ℕ). cond (eqb k j) (following (nextNow old i)) (nextNow old j)) e
           by (no ne) = rw (ne-eqb k j ne)
-  told-here (writes-back x) = told-by Other Same (x .nothing) (x .same) (λ k. sym (ap (λ (y : Ehci). nextNow y k) (x .state-is)))
+  told-here (writes-back x) = told-by Other Same (x .nothing) (x .same) (λ k. sym (after (writes-back x) k))
   told-here (marks x) =
-      told-by Other Same (x .nothing) (x .same)
-      (λ j. sym (ap (λ (y : Ehci). nextNow y j) (x .state-is)
-      ∙ next-stays old (x .k) (Unlinking (x .p) (marked (x .r)) (x .u)) (sound .wide) (slot-low _ w sound (x .k) (Unlinking (x .p) (x .r) (x .u)) (x .unlinking) refl)
-      (sym (ap nextIn (x .unlinking))) j))
+      told-by Other Same (x .nothing) (x .same) (λ j. sym (after (marks x) j ∙ view-kept nextIn old (x .k) _ (sym (ap nextIn (x .unlinking))) j))
   told-here (unlinks x) =
       told-by (leaving (old .settings) (x .k) (x .readings .frame) t) Same (x .leaves) (x .same)
       (λ j. left-takes (old .settings) j (x .k) (x .readings .frame) (nextNow old j) t
-      ∙ sym (ap (λ (y : Ehci). nextNow y j) (x .state-is)
-      ∙ next-stays (withBell old _ _ _) (x .k) (Unlinking (x .p) (x .asked) (boundedOf (bellOf old) (x .p .kind) (x .readings) .boundary)) (bell-wide old _ _ _ (sound .wide)) (slot-low _ w sound (x .k) (Linked (x .p) (x .r)) (x .linked) refl)
-      (sym (view-bell nextIn old _ _ _ (x .k) ∙ ap nextIn (x .linked))) j
-      ∙ view-bell nextIn old _ _ _ j))
+      ∙ sym (after (unlinks x) j ∙ view-kept nextIn old (x .k) _ (sym (ap nextIn (x .linked))) j))
   told-here (collects x) =
       told-by (Collects (x .k) (x .r .id) (x .frame)) Same (x .collects) (x .same)
-      (λ j. sym (ap (λ (y : Ehci). nextNow y j) (x .state-is)
-      ∙ next-stays (withOwner old _) (x .k) (Idle (x .p)) (owner-wide old _ (sound .wide)) (slot-low _ w sound (x .k) (Unlinking (x .p) (x .r) (x .u)) (x .unlinking) refl)
-      (sym (ap nextIn (owner-aside old _ (x .k)) ∙ ap nextIn (x .unlinking))) j
-      ∙ ap nextIn (owner-aside old _ j)))
+      (λ j. sym (after (collects x) j ∙ view-kept nextIn old (x .k) _ (sym (ap nextIn (x .unlinking))) j))
 
 pub ids-keep : (s : Settings) (h : History) (w : World) (c : Call) (a : Applied) → Sound s w → IdsTold s h w → Effect w c a → IdsTold s (turnOf (w .rows) c a ∷ h) (leftBy a)
 ids-keep s h w c a sound told x =

@@ -1,6 +1,6 @@
 -- While bring-up is begun the controller does not run; a request is uncollected only while it does.
 use Prim.Native.Nat.{ℕ}
-use mathlib.Core.Bool.{Bool, true, false, cond}
+use mathlib.Core.Bool.{true, false}
 use mathlib.Core.List.{List}
 use mathlib.Core.Path.{_≡_, refl, sym, ap, subst, _∙_}
 use native.Mathlib.Decide.{ℕ-discrete as decEq}
@@ -11,9 +11,7 @@ use Rattle.common.proofs.TestLaws.{false-true}
 use Rattle.state.specs.Slots.{slotAt, withSlot}
 use Rattle.state.specs.State.{withBell, withBoundaries, withOwner}
 use Rattle.state.specs.declared.state.Ehci.{Ehci}
-use Rattle.state.proofs.Arrays.{zeros-at}
-use lib.Dec.{ltb}
-use Rattle.pipe.specs.Endpoints.{decoded, endpointAt, withEndpoint}
+use Rattle.pipe.specs.Endpoints.{endpointAt, withEndpoint}
 use Rattle.pipe.specs.declared.endpoints.Endpoint.{Endpoint}
 use Rattle.pipe.specs.declared.endpoints.Endpoint.the-variants.{Closed, Idle}
 use Rattle.pipe.proofs.EndpointLaws.{endpoint-other, endpoint-same}
@@ -31,6 +29,7 @@ use Rattle.promises.proofs.effects.Effects.{Effect, Idles, accepts, bes
 use Rattle.promises.proofs.effects.EffectDoor.{idles-on}
 use Rattle.promises.proofs.effects.SlotViews.{view-boundaries}
 use Rattle.promises.proofs.invariants.Sound.{Sound, slot-low}
+use Rattle.promises.proofs.invariants.BellFacts.{fresh-closed}
 
 moved : (s t : Ehci) → t ≡ s → Idles s → Idles t
 moved s t e i = subst (λ (x : Ehci). Idles x) (sym e) i
@@ -85,14 +84,6 @@ module _ (s : Settings) (w : World) (c : Call) (a : Applied) (g : Sound s w) (i 
   idles-keeps (unlinks x) = moved _ _ (x .state-is) (running-idles (w .state) _ refl refl (i .runs (x .k) (ap holdsRequest (x .linked))) i)
   idles-keeps (collects x) = moved _ _ (x .state-is) (running-idles (w .state) _ refl refl (i .runs (x .k) (ap holdsRequest (x .unlinking))) i)
 
-fresh-vacant : (s : Settings) (k : ℕ) → isUncollected (freshState s) k ≡ false
-unfolding freshState endpointAt slotAt decoded
-fresh-vacant s k = rw (zeros-at 32 k) (by (ltb k 32))
-  where
-    by : (b : Bool) → holdsRequest (cond b Closed Closed) ≡ false
-    by true = refl
-    by false = refl
-
 pub idles-opens : (s : Settings) → Idles (freshState s)
 unfolding freshState
-idles-opens s = record { stopped = λ h. refl; runs = λ k u. absurd (false-true (sym (fresh-vacant s k) ∙ u)) }
+idles-opens s = record { stopped = λ h. refl; runs = λ k u. absurd (false-true (sym (ap holdsRequest (fresh-closed s k)) ∙ u)) }

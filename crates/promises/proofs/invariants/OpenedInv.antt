@@ -1,38 +1,32 @@
 -- The tie between the slots and the running that a history tells of and a state.
-use Prim.Native.Nat.{ℕ, _<_}
-use mathlib.Core.Bool.{Bool, true, false, cond}
+use Prim.Native.Nat.{ℕ}
+use mathlib.Core.Bool.{true, cond}
 use mathlib.Core.List.{[], _∷_}
 use mathlib.Core.Path.{_≡_, refl, sym, ap, subst, _∙_}
-use native.Mathlib.Decide.{ℕ-discrete as decEq}
-use native.Mathlib.Omega.{arith}
-use borrow.Author.Tests.{eq-eqb, ne-eqb}
-use lib.Dec.{eqb, ltb}
+use lib.Dec.{eqb}
 use Rattle.settings.specs.declared.settings.Settings.{Settings}
-use Rattle.common.proofs.TestLaws.{false-true}
 use Rattle.state.specs.Slots.{slotAt, withSlot}
 use Rattle.state.specs.State.{withBell, withBoundaries, withOwner}
 use Rattle.state.specs.declared.state.Ehci.{Ehci}
-use Rattle.pipe.specs.Endpoints.{decoded, encoded, endpointAt, flagNumber, kindOf, withEndpoint}
+use Rattle.pipe.specs.Endpoints.{decoded, encoded, flagNumber, kindOf, withEndpoint}
 use Rattle.pipe.specs.declared.endpoints.Endpoint.{Endpoint}
 use Rattle.pipe.specs.declared.endpoints.Endpoint.the-variants.{Closed, Idle, Linked, Unlinking}
-use Rattle.pipe.proofs.EndpointLaws.{Wide, bell-wide, endpoint-other, kind-there, owner-aside, owner-wide}
+use Rattle.pipe.proofs.EndpointLaws.{kind-there}
 use Rattle.opening.specs.Opening.{freshState}
 use Rattle.controller.specs.Readers.{isOpen}
-use Rattle.controller.proofs.ReaderLaws.{open-below}
-use Rattle.schedule.specs.Bell.{bellOf}
-use Rattle.endpoint.specs.Calls.{newEndpoint}
-use Rattle.request.specs.Submit.{linkedWith, stateWith}
-use Rattle.collection.specs.Calls.{finishOf, marked}
-use Rattle.collection.specs.Unlinks.{boundedOf, waitingOf}
+use Rattle.request.specs.Submit.{stateWith}
+use Rattle.collection.specs.Calls.{finishOf}
+use Rattle.collection.specs.Unlinks.{waitingOf}
 use Rattle.ehci.specs.declared.call.Call.{Call}
 use Rattle.ehci.specs.Door.{Applied}
 use Rattle.promises.specs.Runs.{History, Opening, Turn, World, leftBy, turnOf}
 use Rattle.promises.specs.Opened.{Change, ClosesSlot, Halted, Open, OpensSlot, Running, Same, SlotKind, change, kindNow, kindIn, runsAfter, runsIn, slotAfter, slotIn}
 use Rattle.promises.proofs.effects.Effects.{Effect, Still, Switches, accepts, closes, collects, counts, hears, joins, marks, opens, passes, rewrites, still, unlinks, writes-back}
 use Rattle.promises.proofs.invariants.Reached.{opening-is}
-use Rattle.promises.proofs.effects.SlotViews.{view-bell, view-besides, view-boundaries, view-same, view-stays}
-use Rattle.promises.proofs.invariants.Sound.{Sound, slot-low}
-use Rattle.promises.proofs.invariants.UseHeld.{fresh-closed}
+use Rattle.promises.proofs.effects.SlotViews.{view-open, view-kept}
+use Rattle.promises.proofs.invariants.Sound.{Sound, of-state}
+use Rattle.promises.proofs.invariants.BellFacts.{fresh-closed}
+use Rattle.promises.proofs.invariants.ViewsAfter.{view-after, viewed}
 
 -- ---- the kind of a slot
 
@@ -44,33 +38,9 @@ kind-again (Idle p) = rw (kind-there (p .kind))
 kind-again (Linked p r) = rw (kind-there (p .kind))
 kind-again (Unlinking p r b) = rw (kind-there (p .kind))
 
-module _ (s : Ehci) (k : ℕ) (x : Endpoint) (w : Wide s) (low : k < 32) where
-  -- slot k is given that endpoint
-  kind-given : (j : ℕ) → kindNow (withEndpoint s k x) j ≡ cond (eqb k j) (kindIn x) (kindNow s j)
-  kind-given j = by (decEq k j)
-    where
-      by : Dec (k ≡ j) → kindNow (withEndpoint s k x) j ≡ cond (eqb k j) (kindIn x) (kindNow s j)
-      by (yes e) =
-          ap (kindNow (withEndpoint s k x)) (sym e) ∙ view-same kindIn kind-again s k x w low
-          ∙ sym (ap (λ (b : Bool). cond b (kindIn x) (kindNow s j)) (eq-eqb k j e))
-      by (no ne) = ap kindIn (endpoint-other s k x j (λ e. ne (sym e))) ∙ sym (ap (λ (b : Bool). cond b (kindIn x) (kindNow s j)) (ne-eqb k j ne))
-
-  -- an endpoint of the same kind
-  kind-stays : kindIn x ≡ kindNow s k → (j : ℕ) → kindNow (withEndpoint s k x) j ≡ kindNow s j
-  kind-stays = view-stays kindIn kind-again s k x w low
-
 -- the kind of an open slot is what its number stands for
 pub kind-slot : (s : Ehci) (k : ℕ) → isOpen s k ≡ true → kindNow s k ≡ Open (kindOf (slotAt s k .kind))
-unfolding endpointAt decoded
-kind-slot s k o = by (ltb k 32) refl (eqb (slotAt s k .phase) 1) refl (eqb (slotAt s k .phase) 2) refl (eqb (slotAt s k .phase) 3) refl o
-  where
-    by : (a : Bool) → ltb k 32 ≡ a → (x : Bool) → eqb (slotAt s k .phase) 1 ≡ x → (y : Bool) → eqb (slotAt s k .phase) 2 ≡ y → (z : Bool) → eqb (slotAt s k .phase) 3 ≡ z
-        → isOpen s k ≡ true → kindNow s k ≡ Open (kindOf (slotAt s k .kind))
-    by true a true p y q z r o = rw (a, p)
-    by true a false p true q z r o = rw (a, p, q)
-    by true a false p false q true r o = rw (a, p, q, r)
-    by true a false p false q false r o = absurd (false-true (rw (a, p, q, r) at o))
-    by false a x p y q z r o = absurd (false-true (rw a at o))
+kind-slot s k o = view-open kindIn s k o (Open (kindOf (slotAt s k .kind))) refl refl (λ b. refl)
 
 -- ---- the invariant
 
@@ -106,86 +76,54 @@ module _ (w : World) (c : Call) (a : Applied) (h : History) (told : Told h (w .s
   unchanged : change t ≡ Same → ((k : ℕ) → kindNow new k ≡ kindNow old k) → new .running ≡ old .running → Told (t ∷ h) new
   unchanged e kinds run = told-by Same e (λ k. told .slots k ∙ sym (kinds k)) (run ∙ told .runs)
 
-  still-told : Still w c a → Told (t ∷ h) new
-  still-told x = by (change t) refl (x .switches)
-    where
-      kinds : (k : ℕ) → slotIn k h ≡ kindNow new k
-      kinds k = told .slots k ∙ sym (ap (λ (y : Ehci). kindNow y k) (x .state-is) ∙ view-besides kindIn old (x .sides) k)
-
-      run : new .running ≡ x .sides .running
-      run = ap (λ (y : Ehci). y .running) (x .state-is)
-
-      by : (y : Change) → change t ≡ y → Switches y (old .running) (x .sides .running) → Told (t ∷ h) new
-      by Same e s = told-by Same e kinds (run ∙ s ∙ told .runs)
-      by (OpensSlot k kind) e s = absurd s
-      by (ClosesSlot k) e s = absurd s
-      by Halted e s = told-by Halted e kinds (run ∙ s)
-      by Running e s = told-by Running e kinds (run ∙ s)
-
-  -- slot k is given that endpoint, and the history says so
-  given-told : (x : Change) (k : ℕ) (y : Endpoint) → change t ≡ x → new ≡ withEndpoint old k y → Wide old → k < 32
-      → ((j : ℕ) → slotAfter j x (slotIn j h) ≡ cond (eqb k j) (kindIn y) (slotIn j h)) → runsAfter x (runsIn h) ≡ runsIn h → Told (t ∷ h) new
-  unfolding withEndpoint withSlot
-  given-told x k y e is wide low slots run =
-      told-by x e
-      (λ j. slots j ∙ ap (λ (z : SlotKind). cond (eqb k j) (kindIn y) z) (told .slots j) ∙ sym (ap (λ (z : Ehci). kindNow z j) is ∙ kind-given old k y wide low j))
-      (ap (λ (z : Ehci). z .running) is ∙ told .runs ∙ sym (ap flagNumber run))
-
   module _ (sound : Sound (w .state .settings) w) where
+    after : (x : Effect w c a) (k : ℕ) → kindNow new k ≡ viewed kindIn w c a x k
+    after = view-after kindIn w c a kind-again (λ p r b d. refl) sound
+
+    still-told : Still w c a → Told (t ∷ h) new
+    still-told x = by (change t) refl (x .switches)
+      where
+        kinds : (k : ℕ) → slotIn k h ≡ kindNow new k
+        kinds k = told .slots k ∙ sym (after (still x) k)
+
+        run : new .running ≡ x .sides .running
+        run = ap (λ (y : Ehci). y .running) (x .state-is)
+
+        by : (y : Change) → change t ≡ y → Switches y (old .running) (x .sides .running) → Told (t ∷ h) new
+        by Same e s = told-by Same e kinds (run ∙ s ∙ told .runs)
+        by (OpensSlot k kind) e s = absurd s
+        by (ClosesSlot k) e s = absurd s
+        by Halted e s = told-by Halted e kinds (run ∙ s)
+        by Running e s = told-by Running e kinds (run ∙ s)
+
     told-here : Effect w c a → Told (t ∷ h) new
     unfolding withBell withBoundaries stateWith waitingOf finishOf withOwner withEndpoint withSlot
     told-here (still x) = still-told x
-    told-here (hears x) =
-        unchanged (x .same) (λ k. ap (λ (y : Ehci). kindNow y k) (x .state-is) ∙ view-besides kindIn _ (x .sides) k ∙ view-bell kindIn old _ _ _ k)
-        (ap (λ (y : Ehci). y .running) (x .state-is) ∙ x .runs-on .0)
-    told-here (joins x) =
-        unchanged (x .same) (λ k. ap (λ (y : Ehci). kindNow y k) (x .state-is) ∙ view-besides kindIn old (x .sides) k)
-        (ap (λ (y : Ehci). y .running) (x .state-is) ∙ x .runs-on .0)
-    told-here (passes x) =
-        unchanged (x .same) (λ k. ap (λ (y : Ehci). kindNow y k) (x .state-is) ∙ view-besides kindIn old (x .sides) k)
-        (ap (λ (y : Ehci). y .running) (x .state-is) ∙ x .runs-on .0)
-    told-here (counts x) =
-        unchanged (x .same)
-        (λ k. ap (λ (y : Ehci). kindNow y k) (x .state-is) ∙ view-besides kindIn _ (x .sides) k ∙ view-boundaries kindIn (λ p r b c. refl) _ _ k ∙ view-bell kindIn old _ _ _ k)
-        (ap (λ (y : Ehci). y .running) (x .state-is) ∙ x .runs-on .0)
+    told-here (hears x) = unchanged (x .same) (after (hears x)) (ap (λ (y : Ehci). y .running) (x .state-is) ∙ x .runs-on .0)
+    told-here (joins x) = unchanged (x .same) (after (joins x)) (ap (λ (y : Ehci). y .running) (x .state-is) ∙ x .runs-on .0)
+    told-here (passes x) = unchanged (x .same) (after (passes x)) (ap (λ (y : Ehci). y .running) (x .state-is) ∙ x .runs-on .0)
+    told-here (counts x) = unchanged (x .same) (after (counts x)) (ap (λ (y : Ehci). y .running) (x .state-is) ∙ x .runs-on .0)
     told-here (opens x) =
-        given-told (OpensSlot (x .k) (x .kind)) (x .k) (newEndpoint (x .kind)) (x .changes) (x .state-is) (sound .wide)
-        (omega (arith, x .below, sound .ranges .good .endpoints-most)) (λ j. refl) refl
+        told-by (OpensSlot (x .k) (x .kind)) (x .changes) (λ j. ap (λ (z : SlotKind). cond (eqb (x .k) j) (Open (x .kind)) z) (told .slots j) ∙ sym (after (opens x) j))
+        (ap (λ (y : Ehci). y .running) (x .state-is) ∙ told .runs)
     told-here (closes x) =
-        given-told (ClosesSlot (x .k)) (x .k) Closed (x .changes) (x .state-is) (sound .wide)
-        (slot-low _ w sound (x .k) (Idle (x .p)) (x .idle) refl) (λ j. refl) refl
-    told-here (rewrites x) =
-        unchanged (x .same) (λ k. ap (λ (y : Ehci). kindNow y k) (x .state-is)) (ap (λ (y : Ehci). y .running) (x .state-is))
+        told-by (ClosesSlot (x .k)) (x .changes) (λ j. ap (λ (z : SlotKind). cond (eqb (x .k) j) (kindIn Closed) z) (told .slots j) ∙ sym (after (closes x) j))
+        (ap (λ (y : Ehci). y .running) (x .state-is) ∙ told .runs)
+    told-here (rewrites x) = unchanged (x .same) (after (rewrites x)) (ap (λ (y : Ehci). y .running) (x .state-is))
     told-here (accepts x) =
         unchanged (x .same)
-        (λ j. ap (λ (y : Ehci). kindNow y j) (x .state-is)
-        ∙ kind-stays (withOwner old _) (x .k) (linkedWith old (x .k) (x .t)) (owner-wide old _ (sound .wide)) (open-below old (x .k) (x .judged .opened))
-        (sym (ap kindIn (owner-aside old _ (x .k)) ∙ kind-slot old (x .k) (x .judged .opened) ∙ ap (λ (n : ℕ). Open (kindOf n)) (sym (x .judged .same-kind)) ∙ ap Open (kind-there (x .t .kind)))) j
-        ∙ ap kindIn (owner-aside old _ j))
+        (λ j. after (accepts x) j
+        ∙ view-kept kindIn old (x .k) _
+        (sym (kind-slot old (x .k) (x .judged .opened) ∙ ap (λ (n : ℕ). Open (kindOf n)) (sym (x .judged .same-kind)) ∙ ap Open (kind-there (x .t .kind)))) j)
         (ap (λ (y : Ehci). y .running) (x .state-is))
-    told-here (writes-back x) =
-        unchanged (x .same) (λ k. ap (λ (y : Ehci). kindNow y k) (x .state-is)) (ap (λ (y : Ehci). y .running) (x .state-is))
+    told-here (writes-back x) = unchanged (x .same) (after (writes-back x)) (ap (λ (y : Ehci). y .running) (x .state-is))
     told-here (marks x) =
-        unchanged (x .same)
-        (λ j. ap (λ (y : Ehci). kindNow y j) (x .state-is)
-        ∙ kind-stays old (x .k) (Unlinking (x .p) (marked (x .r)) (x .u)) (sound .wide) (slot-low _ w sound (x .k) (Unlinking (x .p) (x .r) (x .u)) (x .unlinking) refl)
-        (sym (ap kindIn (x .unlinking))) j)
-        (ap (λ (y : Ehci). y .running) (x .state-is))
+        unchanged (x .same) (λ j. after (marks x) j ∙ view-kept kindIn old (x .k) _ (sym (ap kindIn (x .unlinking))) j) (ap (λ (y : Ehci). y .running) (x .state-is))
     told-here (unlinks x) =
-        unchanged (x .same)
-        (λ j. ap (λ (y : Ehci). kindNow y j) (x .state-is)
-        ∙ kind-stays (withBell old _ _ _) (x .k) (Unlinking (x .p) (x .asked) (boundedOf (bellOf old) (x .p .kind) (x .readings) .boundary)) (bell-wide old _ _ _ (sound .wide)) (slot-low _ w sound (x .k) (Linked (x .p) (x .r)) (x .linked) refl)
-        (sym (view-bell kindIn old _ _ _ (x .k) ∙ ap kindIn (x .linked))) j
-        ∙ view-bell kindIn old _ _ _ j)
-        (ap (λ (y : Ehci). y .running) (x .state-is))
+        unchanged (x .same) (λ j. after (unlinks x) j ∙ view-kept kindIn old (x .k) _ (sym (ap kindIn (x .linked))) j) (ap (λ (y : Ehci). y .running) (x .state-is))
     told-here (collects x) =
-        unchanged (x .same)
-        (λ j. ap (λ (y : Ehci). kindNow y j) (x .state-is)
-        ∙ kind-stays (withOwner old _) (x .k) (Idle (x .p)) (owner-wide old _ (sound .wide)) (slot-low _ w sound (x .k) (Unlinking (x .p) (x .r) (x .u)) (x .unlinking) refl)
-        (sym (ap kindIn (owner-aside old _ (x .k)) ∙ ap kindIn (x .unlinking))) j
-        ∙ ap kindIn (owner-aside old _ j))
-        (ap (λ (y : Ehci). y .running) (x .state-is))
+        unchanged (x .same) (λ j. after (collects x) j ∙ view-kept kindIn old (x .k) _ (sym (ap kindIn (x .unlinking))) j) (ap (λ (y : Ehci). y .running) (x .state-is))
 
 pub told-keeps : (s : Settings) (h : History) (w : World) (c : Call) (a : Applied) → Sound s w → Told h (w .state) → Effect w c a
     → Told (turnOf (w .rows) c a ∷ h) (leftBy a .state)
-told-keeps s h w c a sound told = told-here w c a h told (subst (λ (z : Settings). Sound z w) (sym (sound .settings-are)) sound)
+told-keeps s h w c a sound told = told-here w c a h told (of-state s w sound)

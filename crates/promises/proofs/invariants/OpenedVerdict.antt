@@ -1,5 +1,5 @@
 -- What a submit asks of a state is what it asks of the history.
-use Prim.Native.Nat.{ℕ, _+_, _≤_}
+use Prim.Native.Nat.{ℕ, _+_}
 use mathlib.Core.Bool.{Bool, true, false, not}
 use mathlib.Core.List.{List, [], _∷_, map}
 use mathlib.Core.Path.{_≡_, refl, sym, ap, subst, _∙_}
@@ -8,8 +8,6 @@ use native.Mathlib.Omega.{arith}
 use borrow.Author.Tests.{eq-eqb, le-ltb, lt-ltb, ltb-false, ltb-true, ne-eqb}
 use lib.Dec.{eqb, ltb}
 use lib.ListN.{take}
-use Rattle.slot.specs.declared.slot.Slot.{Slot}
-use Rattle.slot.proofs.SlotLaws.{Phase, slot-tells}
 use Rattle.settings.specs.declared.settings.Settings.{Settings}
 use Rattle.common.proofs.TestLaws.{false-true}
 use Rattle.state.specs.Slots.{slotAt}
@@ -32,6 +30,7 @@ use Rattle.promises.specs.Opened.{hasKind, isBusy, isShut, kindIn, runsI
 use Rattle.promises.proofs.invariants.Sound.{Sound}
 use Rattle.promises.proofs.invariants.UseInv.{Avoids, Held, Nobody, Tenant, Waits, every-map, tenantAt, tenantOf}
 use Rattle.promises.proofs.invariants.OpenedInv.{Told, kind-slot}
+use Rattle.promises.proofs.effects.EffectRanges.{kind-most}
 
 -- ---- an uncollected request
 
@@ -86,12 +85,6 @@ flag-zero : (b : Bool) → not b ≡ eqb (flagNumber b) 0
 flag-zero true = refl
 flag-zero false = refl
 
-kind-most : (e : Slot) (u : ℕ) → Phase e u → e .kind ≤ 3
-kind-most e u (Phase.closed p k i n) = omega (arith, k)
-kind-most e u (Phase.idle p o n) = o .most
-kind-most e u (Phase.linked p o r d c b) = o .most
-kind-most e u (Phase.unlinking p o r d c b) = o .most
-
 -- ---- room
 
 room-is : (free used all need : ℕ) → free + used ≡ all → ltb all (used + need) ≡ ltb free need
@@ -119,9 +112,7 @@ module _ (h : History) (w : World) (sound : Sound (w .state .settings) w) (held 
     kind-is o =
         ap (hasKind (t .kind)) (told .slots k ∙ kind-slot st k o)
         ∙ ap (eqb (kindNumber (t .kind)))
-        (kind-back (slotAt st k .kind)
-        (kind-most (slotAt st k) (st .unanswered)
-        (slot-tells (s .endpoints) k (st .unanswered) (slotAt st k) (sound .ranges .slots k (open-below st k o)) .by-phase)))
+        (kind-back (slotAt st k .kind) (kind-most st (sound .ranges) k (open-below st k o)))
 
     pub asks-told : first (submitAsks s h k t) ≡ first (submitChecks st k t)
     asks-told = by (isOpen st k) refl

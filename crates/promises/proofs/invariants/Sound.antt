@@ -8,16 +8,21 @@ use lib.ListN.{length}
 use Rattle.settings.specs.declared.settings.Settings.{Settings}
 use Rattle.state.specs.Slots.{withSlot}
 use Rattle.state.specs.declared.state.Ehci.{Ehci}
-use Rattle.state.proofs.RangesLaws.{Ranges}
+use Rattle.state.specs.Ranges.{inRanges}
+use Rattle.state.proofs.RangesLaws.{Ranges, ranges-make}
 use Rattle.pipe.specs.Endpoints.{encoded, endpointAt, withEndpoint}
 use Rattle.pipe.specs.declared.endpoints.Endpoint.{Endpoint}
 use Rattle.pipe.proofs.EndpointLaws.{EndpointGood, Wide, slot-wide}
 use Rattle.controller.specs.Readers.{hasEndpoint, isOpen}
+use Rattle.controller.specs.Lent.{acceptsOf, lengths}
 use Rattle.controller.proofs.ReaderLaws.{open-below, open-within}
 use Rattle.collection.proofs.SlotFacts.{endpoint-good}
 use Rattle.ehci.specs.Door.{Applied}
 use Rattle.promises.specs.Runs.{Rows, World, leftBy, rowsOf}
 use Rattle.promises.proofs.effects.Effects.{Sides, besides, withHeads}
+use Rattle.common.proofs.TestLaws.{both-makes}
+use Rattle.opening.specs.Opening.{rowsFit}
+use Rattle.opening.proofs.OpenLaws.{rows-make}
 
 pub record Sound (s : Settings) (w : World) : Type 0 where
   pub settings-are : w .state .settings ≡ s
@@ -65,6 +70,21 @@ module _ (s : Settings) (w : World) (g : Sound s w) where
 
   pub rows-sound : RowsSound s (w .rows)
   rows-sound = record { pool-fits = g .pool-fits; heads-fit = g .heads-fit; frames-fit = g .frames-fit; setups-fit = g .setups-fit }
+
+  -- by the settings that its state has
+  pub of-state : Sound (w .state .settings) w
+  of-state = subst (λ (z : Settings). Sound z w) (sym (g .settings-are)) g
+
+  -- ---- the door lets every call in
+
+  pub rows-fit : rowsFit (w .state .settings) (length (w .rows .pool)) (length (w .rows .heads)) (length (w .rows .frames)) (length (w .rows .setups)) ≡ true
+  rows-fit =
+      rows-make (w .state .settings) _ _ _ _
+      (record { pool-fits = of-state .pool-fits; heads-fit = of-state .heads-fit; frames-fit = of-state .frames-fit; setups-fit = of-state .setups-fit })
+
+  pub let-in : acceptsOf (w .state) (lengths (length (w .rows .pool)) (length (w .rows .heads)) (length (w .rows .frames)) (length (w .rows .setups))) ≡ true
+  unfolding acceptsOf
+  let-in = both-makes _ (inRanges (w .state)) rows-fit (ranges-make (w .state) (g .ranges))
 
   -- ---- rows
 

@@ -1,13 +1,12 @@
 -- Bring-up's start and its steps; and every call.
 use Prim.Native.Nat.{ℕ, _+_, _≤_}
 use mathlib.Core.Bool.{Bool, true, false, not, cond, true≢false, false≢true}
-use mathlib.Core.List.{List, [], _∷_}
+use mathlib.Core.List.{[], _∷_}
 use mathlib.Core.Path.{_≡_, refl, sym, subst, _∙_}
 use native.Mathlib.Decide.{ℕ-discrete as decEq}
 use native.Mathlib.Omega.{arith}
 use borrow.Author.Tests.{eqb-false}
 use lib.Dec.{eqb, ltb}
-use lib.ListN.{length}
 use Rattle.register.specs.Bits.{anyOf}
 use Rattle.register.specs.Writes.{andThen, listOf, noWrites}
 use Rattle.settings.specs.declared.settings.Settings.{Settings}
@@ -28,19 +27,17 @@ use Rattle.bring_up.specs.declared.stage.Stage.{Stage}
 use Rattle.ehci.specs.declared.call.Call.{Call}
 use Rattle.ehci.specs.declared.call.Call.the-variants.{StartBringUp, BringUpStep, AllocateAddress, OpenEndpoint, Close, SetAddress, SetPacketSize, Submit, Writeback, Cancel, Collect, Acknowledge, Drain, Rearm, Enable, Disable}
 use Rattle.ehci.specs.declared.reply.Answered.the-variants.{Refused}
-use Rattle.ehci.specs.Decides.{came}
-use Rattle.ehci.specs.Door.{carriedOut}
 use Rattle.ehci.specs.Replies.{broughtReply, replied}
 use Rattle.promises.specs.Runs.{World, core}
 use Rattle.promises.specs.Registers as R
 use Rattle.promises.specs.Registers.{isReady, stepWrites}
-use Rattle.promises.proofs.effects.EffectDoor.{leaves}
+use Rattle.promises.proofs.effects.EffectDoor.{leaves, through, carried}
 use Rattle.promises.proofs.effects.RefusalNumbers.{undone}
 use Rattle.bring_up.specs.declared.stage.Stage.the-variants.{Stop, Halting, Reset, Resetting, Run, Starting}
 use Rattle.promises.proofs.effects.EffectMachine.{step-refuses}
 use Rattle.promises.proofs.invariants.TouchCalls.{address-touches, allot-touches, cancel-touches, close-touches, collect-touches, open-touches, size-touches, submit-touches, writeback-touches}
 use Rattle.promises.proofs.invariants.TouchInterrupts.{acknowledge-touches, disable-touches, drain-touches, enable-touches, rearm-touches}
-use Rattle.promises.proofs.invariants.Touches.{Touches, refused-touches, through}
+use Rattle.promises.proofs.invariants.Touches.{Touches, refused-touches}
 
 -- a reading of bring-up, by its number
 record Staged (z : Settings) (n v : ℕ) (stage : Stage) : Type 0 where
@@ -111,31 +108,19 @@ module _ (w : World) where
   abbrev s : Ehci
   s = w .state
 
-  abbrev n : ℕ
-  n = length (w .rows .pool)
-
-  abbrev hs : List ℕ
-  hs = w .rows .heads
-
-  abbrev fs : List ℕ
-  fs = w .rows .frames
-
-  abbrev us : List ℕ
-  us = w .rows .setups
-
   pub start-touches : Touches w StartBringUp (core w StartBringUp)
   unfolding startOf broughtReply replied withBringUp andThen noWrites
   start-touches =
-      through w StartBringUp (refused-touches w StartBringUp InvalidParameter refl refl)
+      through Touches w StartBringUp (refused-touches w StartBringUp InvalidParameter refl refl)
       (settled-by (first ((not (inRanges s), InvalidParameter) ∷ (anyUncollected 0 32 s, QueueFull) ∷ [])) _
       (record { answer = A.Done; state = withBringUp s 0 1 0 0; writes = andThen noWrites 8 0; read = N.Register 0; wait = 0 })
-      (λ (b : BroughtUp). Touches w StartBringUp (carriedOut (came (broughtReply b) hs fs us) (w .rows .pool)))
+      (λ (b : BroughtUp). Touches w StartBringUp (carried w (broughtReply b)))
       (λ r e. refused-touches w StartBringUp r (rw (undone r)) (rw (undone r)))
       (λ e. record { pending = refl; masked = refl; enabled = λ b q. refl; step = refl; wrote = refl }))
 
   module _ (v : ℕ) where
     abbrev Stepped : BroughtUp → Type 0
-    Stepped b = Touches w (BringUpStep v) (carriedOut (came (broughtReply b) hs fs us) (w .rows .pool))
+    Stepped b = Touches w (BringUpStep v) (carried w (broughtReply b))
 
     again-touches : (register : ℕ) → isReady (s .step) v ≡ false → stepWrites (s .settings) (s .step) v ≡ [] → Stepped (againOf s register)
     unfolding againOf broughtReply replied withBringUp noWrites
@@ -157,7 +142,7 @@ module _ (w : World) where
     pub step-touches : Ranges s → Touches w (BringUpStep v) (core w (BringUpStep v))
     unfolding stepOf broughtReply replied noWrites
     step-touches ranges =
-        through w (BringUpStep v) (refused-touches w (BringUpStep v) InvalidParameter refl refl)
+        through Touches w (BringUpStep v) (refused-touches w (BringUpStep v) InvalidParameter refl refl)
         (settled-by (first ((not (inRanges s), InvalidParameter) ∷ (eqb (s .step) 0, InvalidParameter) ∷ [])) _ _ Stepped
         (λ r e. subst (λ (x : Refusal). Touches w (BringUpStep v) (leaves w (BringUpStep v) s (Refused x) noWrites)) (step-refuses (not (inRanges s)) (eqb (s .step) 0) r e)
         (refused-touches w (BringUpStep v) InvalidParameter refl refl))

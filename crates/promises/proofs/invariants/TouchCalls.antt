@@ -37,14 +37,14 @@ use Rattle.ehci.specs.declared.call.Call.{Call}
 use Rattle.ehci.specs.declared.call.Call.the-variants.{AllocateAddress, OpenEndpoint, Close, SetAddress, SetPacketSize, Submit, Writeback, Cancel, Collect}
 use Rattle.ehci.specs.declared.call.EndpointFields.{EndpointFields}
 use Rattle.ehci.specs.declared.reply.Answered.the-variants.{Refused}
-use Rattle.ehci.specs.Decides.{addressDecided, allotDecided, allotReply, came, cancelCame, cancelDecided, changeCame, closeDecided, collectCame, collectDecided, openCame, openDecided, packetDecided, submitCame, submitDecided, withFrames, withSetups, writebackDecided, writtenReply}
+use Rattle.ehci.specs.Decides.{addressDecided, allotDecided, allotReply, cancelCame, cancelDecided, changeCame, closeDecided, collectCame, collectDecided, openCame, openDecided, packetDecided, submitCame, submitDecided, withFrames, withSetups, writebackDecided, writtenReply}
 use Rattle.ehci.specs.Door.{carriedOut}
 use Rattle.ehci.specs.Replies.{changedReply, replied}
 use Rattle.promises.specs.Runs.{World, core}
 use Rattle.promises.specs.Registers.{None, accessOf}
-use Rattle.promises.proofs.effects.EffectDoor.{leaves, seen}
+use Rattle.promises.proofs.effects.EffectDoor.{leaves, seen, through, carried}
 use Rattle.promises.proofs.effects.RefusalNumbers.{undone}
-use Rattle.promises.proofs.invariants.Touches.{Plain, Touches, bounded-shape, level, level-touches, plain-leaves, plain-none, plain-submits, refused-touches, through, writesBy}
+use Rattle.promises.proofs.invariants.Touches.{Plain, Touches, bounded-shape, level, level-touches, plain-leaves, plain-none, plain-submits, refused-touches, writesBy}
 
 module _ (w : World) where
   abbrev s : Ehci
@@ -71,7 +71,7 @@ module _ (w : World) where
   pub open-touches : (x : EndpointFields) → Touches w (OpenEndpoint x) (core w (OpenEndpoint x))
   unfolding openDecided replied noWrites withEndpoint withSlot
   open-touches x =
-      through w (OpenEndpoint x) (none-refused (OpenEndpoint x) refl InvalidParameter)
+      through Touches w (OpenEndpoint x) (none-refused (OpenEndpoint x) refl InvalidParameter)
       (open-by s n hs (length fs) (length us) (x .kind) (x .address) (x .number) (x .packet)
       (λ o. Touches w (OpenEndpoint x) (carriedOut (withFrames (openCame o) fs us) (w .rows .pool)))
       (none-refused (OpenEndpoint x) refl)
@@ -83,46 +83,46 @@ module _ (w : World) where
   pub close-touches : (k : ℕ) → Touches w (Close k) (core w (Close k))
   unfolding closeDecided closeOf changedReply replied noWrites withEndpoint withSlot
   close-touches k =
-      through w (Close k) (none-refused (Close k) refl InvalidParameter)
+      through Touches w (Close k) (none-refused (Close k) refl InvalidParameter)
       (change-by s n hs (length fs) (length us) k true _ _ (Changed (Close k)) (none-refused (Close k) refl)
       (λ from g. level-touches w (Close k) _ plain-none (record { pending = refl; masked = refl; enabled = refl; step = refl }) refl))
 
   pub address-touches : (k a : ℕ) → Touches w (SetAddress k a) (core w (SetAddress k a))
   unfolding addressDecided setAddressOf changedReply replied noWrites
   address-touches k a =
-      through w (SetAddress k a) (none-refused (SetAddress k a) refl InvalidParameter)
+      through Touches w (SetAddress k a) (none-refused (SetAddress k a) refl InvalidParameter)
       (change-by s n hs (length fs) (length us) k _ _ _ (Changed (SetAddress k a)) (none-refused (SetAddress k a) refl)
       (λ from g. level-touches w (SetAddress k a) _ plain-none (level s) refl))
 
   pub size-touches : (k size : ℕ) → Touches w (SetPacketSize k size) (core w (SetPacketSize k size))
   unfolding packetDecided setPacketSizeOf changedReply replied noWrites
   size-touches k size =
-      through w (SetPacketSize k size) (none-refused (SetPacketSize k size) refl InvalidParameter)
+      through Touches w (SetPacketSize k size) (none-refused (SetPacketSize k size) refl InvalidParameter)
       (change-by s n hs (length fs) (length us) k _ _ _ (Changed (SetPacketSize k size)) (none-refused (SetPacketSize k size) refl)
       (λ from g. level-touches w (SetPacketSize k size) _ plain-none (level s) refl))
 
   pub allot-touches : Touches w AllocateAddress (core w AllocateAddress)
   unfolding allotOf allotDecided replied withNextAddress noWrites
   allot-touches =
-      through w AllocateAddress (none-refused AllocateAddress refl InvalidParameter)
+      through Touches w AllocateAddress (none-refused AllocateAddress refl InvalidParameter)
       (settled-by (first ((not (inRanges s), InvalidParameter) ∷ (ltb 127 (s .address), SlotLimitReached) ∷ [])) _ _
-      (λ (x : Allotment). Touches w AllocateAddress (carriedOut (came (allotReply x) hs fs us) (w .rows .pool)))
+      (λ (x : Allotment). Touches w AllocateAddress (carried w (allotReply x)))
       (λ r e. none-refused AllocateAddress refl r)
       (λ e. level-touches w AllocateAddress _ plain-none (record { pending = refl; masked = refl; enabled = refl; step = refl }) refl))
 
   pub writeback-touches : (place token : ℕ) → Touches w (Writeback place token) (core w (Writeback place token))
   unfolding writebackDecided writebackOf refusedWriteback replied noWrites
   writeback-touches place token =
-      through w (Writeback place token) (none-refused (Writeback place token) refl InvalidParameter)
+      through Touches w (Writeback place token) (none-refused (Writeback place token) refl InvalidParameter)
       (settled-by (first (writebackChecks s (lengths n (length hs) (length fs) (length us)) place)) _ _
-      (λ (x : WrittenBack). Touches w (Writeback place token) (carriedOut (came (writtenReply x) hs fs us) (w .rows .pool)))
+      (λ (x : WrittenBack). Touches w (Writeback place token) (carried w (writtenReply x)))
       (λ r e. none-refused (Writeback place token) refl r)
       (λ e. level-touches w (Writeback place token) _ plain-none (level s) refl))
 
   pub submit-touches : (k : ℕ) (t : TransferRequest) (rd : Readings) → Touches w (Submit k t rd) (core w (Submit k t rd))
   unfolding submitDecided submitOf settledSubmit acceptedWith refusedSubmit replied noWrites andThen commandWord stateWith withEndpoint withSlot withOwner
   submit-touches k t rd =
-      through w (Submit k t rd) (refused-touches w (Submit k t rd) InvalidParameter refl refl)
+      through Touches w (Submit k t rd) (refused-touches w (Submit k t rd) InvalidParameter refl refl)
       (settled-by
       (first ((not (acceptsOf s (lengths n (length hs) (length fs) (length us))), InvalidParameter) ∷ submitChecks s k t)) _ _
       (λ (o : Outcome). Touches w (Submit k t rd) (carriedOut (submitCame o) (w .rows .pool)))
@@ -149,7 +149,7 @@ module _ (w : World) where
     pub cancel-touches : Touches w (Cancel k id rd) (core w (Cancel k id rd))
     unfolding cancelDecided replied noWrites withEndpoint withSlot
     cancel-touches =
-        through w (Cancel k id rd) (cancel-refused InvalidParameter)
+        through Touches w (Cancel k id rd) (cancel-refused InvalidParameter)
         (cancel-split s n hs fs (length us) rd k id Cancels cancel-refused
         (λ p r ok e below same. cancel-unlinks p (marked r))
         (λ p r u ok e same. level-touches w (Cancel k id rd) _ (plain-leaves (rd .command)) (record { pending = refl; masked = refl; enabled = refl; step = refl }) refl))
@@ -171,7 +171,7 @@ module _ (w : World) where
     pub collect-touches : Touches w (Collect k id rd) (core w (Collect k id rd))
     unfolding collectDecided finishOf replied noWrites withEndpoint withSlot withOwner
     collect-touches =
-        through w (Collect k id rd) (collect-refused InvalidParameter)
+        through Touches w (Collect k id rd) (collect-refused InvalidParameter)
         (collect-split s n hs fs (length us) rd k id (seen w (Collect k id rd)) Collecting collect-refused
         (level-touches w (Collect k id rd) _ (plain-leaves (rd .command)) (level s) refl)
         (λ p r ok e below same done. collect-unlinks p r)

@@ -1,12 +1,11 @@
 -- Acknowledge, drain, rearm, enable, disable.
 use Prim.Native.Nat.{ℕ, _-_}
 use mathlib.Core.Bool.{Bool, true, false, not, cond}
-use mathlib.Core.List.{List, [], _∷_}
+use mathlib.Core.List.{[], _∷_}
 use mathlib.Core.Path.{_≡_, refl, sym, ap, _∙_}
 use borrow.Author.Tests.{eqb-true}
 use lib.Bits.{or-zero-r}
 use lib.Dec.{eqb}
-use lib.ListN.{length}
 use Rattle.register.specs.Bits.{anyOf, onlyBits, withBits}
 use Rattle.register.specs.Writes.{andThen, listOf, noWrites}
 use Rattle.state.specs.Ranges.{inRanges}
@@ -17,40 +16,26 @@ use Rattle.common.specs.Answers.{first}
 use Rattle.common.specs.declared.answer.Refusal.the-variants.{InvalidParameter}
 use Rattle.common.proofs.CheckLaws.{settled-by}
 use Rattle.schedule.specs.Bell.{advancedOf, mustRing, ringOf, someRing}
-use Rattle.interrupt.specs.Interrupts.{acknowledgeOf, acknowledgeWrites, acknowledgedState, countIf, countedOf, disableOf, drainIf, drainOf, enableOf, heardIf, maskWord, rearmIf, rearmOf, settledOr, clearedOf}
+use Rattle.interrupt.specs.Interrupts.{acknowledgeOf, acknowledgeWrites, acknowledgedState, countIf, countedOf, disableOf, drainIf, drainOf, enableOf, heardIf, maskWord, rearmIf, rearmOf, clearedOf}
 use Rattle.interrupt.specs.declared.answers.Acknowledgement.{Acknowledgement}
 use Rattle.interrupt.specs.declared.answers.Drainage.{Drainage}
 use Rattle.ehci.specs.declared.call.Call.{Call}
 use Rattle.ehci.specs.declared.call.Call.the-variants.{Acknowledge, Drain, Rearm, Enable, Disable}
 use Rattle.ehci.specs.declared.call.InterruptReadings.{InterruptReadings}
-use Rattle.ehci.specs.declared.reply.Answered.the-variants.{Refused}
-use Rattle.ehci.specs.Decides.{acknowledgeDecided, acknowledgeReply, came, drainDecided, drainReply}
-use Rattle.ehci.specs.Door.{carriedOut}
+use Rattle.ehci.specs.Decides.{acknowledgeDecided, acknowledgeReply, drainDecided, drainReply}
 use Rattle.ehci.specs.Replies.{replied, settledReply}
 use Rattle.promises.specs.Runs.{World, core}
 use Rattle.promises.specs.Registers as R
 use Rattle.promises.specs.Registers.{acknowledged, leftOf, ring}
-use Rattle.promises.proofs.effects.EffectDoor.{leaves}
+use Rattle.promises.proofs.effects.EffectDoor.{through, settles, carried}
 use Rattle.promises.proofs.effects.RefusalNumbers.{undone}
 use Rattle.interrupt.specs.declared.answers.Settled.{Settled}
 use Rattle.promises.proofs.effects.EffectInterrupts.{taken-done}
-use Rattle.promises.proofs.invariants.Touches.{Level, Touches, level, refused-touches, rung-shape, through}
+use Rattle.promises.proofs.invariants.Touches.{Level, Touches, level, refused-touches, rung-shape}
 
 module _ (w : World) where
   abbrev s : Ehci
   s = w .state
-
-  abbrev n : ℕ
-  n = length (w .rows .pool)
-
-  abbrev hs : List ℕ
-  hs = w .rows .heads
-
-  abbrev fs : List ℕ
-  fs = w .rows .frames
-
-  abbrev us : List ℕ
-  us = w .rows .setups
 
   -- ---- acknowledge
 
@@ -59,7 +44,7 @@ module _ (w : World) where
     p = acknowledged x
 
     abbrev Acked : Acknowledgement → Type 0
-    Acked a = Touches w (Acknowledge x) (carriedOut (came (acknowledgeReply a) hs fs us) (w .rows .pool))
+    Acked a = Touches w (Acknowledge x) (carried w (acknowledgeReply a))
 
     acknowledge-shape : (f g : Bool) → x .flag ≡ f → x .again ≡ g → eqb p 0 ≡ false
         → listOf (acknowledgeWrites p (x .interrupts) (x .flag) (x .again)) ≡ R.acknowledgeWrites x p
@@ -92,7 +77,7 @@ module _ (w : World) where
     pub acknowledge-touches : Touches w (Acknowledge x) (core w (Acknowledge x))
     unfolding acknowledgeOf acknowledgeDecided replied noWrites
     acknowledge-touches =
-        through w (Acknowledge x) (refused-touches w (Acknowledge x) InvalidParameter refl refl)
+        through Touches w (Acknowledge x) (refused-touches w (Acknowledge x) InvalidParameter refl refl)
         (settled-by (first ((not (inRanges s), InvalidParameter) ∷ [])) _ _ Acked
         (λ r e. refused-touches w (Acknowledge x) r refl (rw (undone r)))
         (λ e. heard (eqb p 0) refl))
@@ -101,7 +86,7 @@ module _ (w : World) where
 
   module _ (v : ℕ) where
     abbrev Drained : Drainage → Type 0
-    Drained x = Touches w (Drain v) (carriedOut (came (drainReply x) hs fs us) (w .rows .pool))
+    Drained x = Touches w (Drain v) (carried w (drainReply x))
 
     -- what is taken of what is pending
     taken-left : (q : ℕ) → clearedOf q .left ≡ leftOf q
@@ -147,7 +132,7 @@ module _ (w : World) where
     pub drain-touches : Touches w (Drain v) (core w (Drain v))
     unfolding drainOf drainDecided replied noWrites
     drain-touches =
-        through w (Drain v) (refused-touches w (Drain v) InvalidParameter refl refl)
+        through Touches w (Drain v) (refused-touches w (Drain v) InvalidParameter refl refl)
         (settled-by (first ((not (inRanges s), InvalidParameter) ∷ [])) _ _ Drained
         (λ r e. refused-touches w (Drain v) r refl refl)
         (λ e. drained (eqb (s .pending) 0) refl))
@@ -155,7 +140,7 @@ module _ (w : World) where
   -- ---- rearm, enable, disable
 
   abbrev Settles : Call → Settled → Type 0
-  Settles c x = Touches w c (carriedOut (came (settledReply x) hs fs us) (w .rows .pool))
+  Settles c x = Touches w c (carried w (settledReply x))
 
   rearmed : (z b : Bool) → eqb (s .masked) 0 ≡ z → eqb (s .enabled) 0 ≡ b → Settles Rearm (rearmIf z s)
   unfolding settledReply replied withInterrupt andThen noWrites
@@ -166,28 +151,23 @@ module _ (w : World) where
   rearmed false false e f =
       record { pending = refl; masked = refl; enabled = λ c q. q; step = refl; wrote = rw (e, f) }
 
-  settled-touches : (c : Call) (b : Bool) (new : Settled) → Touches w c (leaves w c s (Refused InvalidParameter) noWrites) → Settles c new → Settles c (settledOr b s new)
-  unfolding settledReply replied
-  settled-touches c true new denied done = denied
-  settled-touches c false new denied done = done
-
   pub rearm-touches : Touches w Rearm (core w Rearm)
   unfolding rearmOf
   rearm-touches =
-      through w Rearm (refused-touches w Rearm InvalidParameter refl refl)
-      (settled-touches Rearm (not (inRanges s)) _ (refused-touches w Rearm InvalidParameter refl refl)
+      through Touches w Rearm (refused-touches w Rearm InvalidParameter refl refl)
+      (settles Touches w Rearm (not (inRanges s)) _ (refused-touches w Rearm InvalidParameter refl refl)
       (rearmed (eqb (s .masked) 0) (eqb (s .enabled) 0) refl refl))
 
   pub enable-touches : Touches w Enable (core w Enable)
   unfolding enableOf settledReply replied withInterrupt andThen noWrites
   enable-touches =
-      through w Enable (refused-touches w Enable InvalidParameter refl refl)
-      (settled-touches Enable (not (inRanges s)) (record { answer = A.Done; state = withInterrupt s 1 (s .pending) (s .masked); writes = andThen noWrites 8 0x27 }) (refused-touches w Enable InvalidParameter refl refl)
+      through Touches w Enable (refused-touches w Enable InvalidParameter refl refl)
+      (settles Touches w Enable (not (inRanges s)) (record { answer = A.Done; state = withInterrupt s 1 (s .pending) (s .masked); writes = andThen noWrites 8 0x27 }) (refused-touches w Enable InvalidParameter refl refl)
       (record { pending = refl; masked = refl; enabled = λ b q. refl; step = refl; wrote = refl }))
 
   pub disable-touches : Touches w Disable (core w Disable)
   unfolding disableOf settledReply replied withInterrupt andThen noWrites
   disable-touches =
-      through w Disable (refused-touches w Disable InvalidParameter refl refl)
-      (settled-touches Disable (not (inRanges s)) (record { answer = A.Done; state = withInterrupt s 0 (s .pending) (s .masked); writes = andThen noWrites 8 0 }) (refused-touches w Disable InvalidParameter refl refl)
+      through Touches w Disable (refused-touches w Disable InvalidParameter refl refl)
+      (settles Touches w Disable (not (inRanges s)) (record { answer = A.Done; state = withInterrupt s 0 (s .pending) (s .masked); writes = andThen noWrites 8 0 }) (refused-touches w Disable InvalidParameter refl refl)
       (record { pending = refl; masked = refl; enabled = λ b q. refl; step = refl; wrote = refl }))

@@ -4,7 +4,6 @@ use mathlib.Core.Bool.{Bool, true, false, _&&_, not, cond}
 use mathlib.Core.List.{List, []}
 use mathlib.Core.Path.{_≡_, refl, sym, ap, _∙_}
 use lib.Dec.{eqb}
-use lib.ListN.{length}
 use Rattle.register.specs.Bits.{withBits}
 use Rattle.register.specs.Writes.{andThen, listOf, noWrites}
 use Rattle.register.specs.declared.writes.Write.{Write}
@@ -12,7 +11,6 @@ use Rattle.common.specs.declared.kinds.EndpointType.{EndpointType}
 use Rattle.common.specs.declared.kinds.EndpointType.the-variants.{Control, Isochronous, Bulk, Interrupt}
 use Rattle.state.specs.declared.state.Ehci.{Ehci}
 use Rattle.common.specs.declared.answer.Refusal.{Refusal}
-use Rattle.common.specs.declared.answer.Refusal.the-variants.{InvalidParameter}
 use Rattle.pipe.specs.Endpoints.{flagNumber}
 use Rattle.controller.specs.declared.lent.Readings.{Readings}
 use Rattle.schedule.specs.Bell.{mustRing, ringOf, ringWord, rungIf, unlinkedOf, someRing}
@@ -23,15 +21,12 @@ use Rattle.interrupt.specs.Interrupts.{acknowledgeWrites}
 use Rattle.ehci.specs.declared.call.Call.{Call}
 use Rattle.ehci.specs.declared.reply.Answered.{Answered}
 use Rattle.ehci.specs.declared.reply.Answered.the-variants.{Refused}
-use Rattle.ehci.specs.Decides.{callOf, decideOf}
-use Rattle.ehci.specs.Door.{Applied, applyOf, carriedOut}
-use Rattle.ehci.specs.Replies.{refusedReply, replied}
-use Rattle.opening.specs.Opening.{rowsFit}
-use Rattle.promises.specs.Runs.{World, core}
+use Rattle.ehci.specs.Door.{Applied}
+use Rattle.promises.specs.Runs.{World}
 use Rattle.promises.specs.Events.{isDone}
 use Rattle.promises.specs.Registers as R
 use Rattle.promises.specs.Registers.{Access, None, Starts, Steps, Submits, Leaves, Acknowledges, Drains, Rearms, Enables, Disables, accessOf, acknowledged, flagAfter, maskedAfter, pendingAfter, plainly, readAfter, ring, stepWrites, usbintr}
-use Rattle.promises.proofs.effects.EffectDoor.{leaves, seen}
+use Rattle.promises.proofs.effects.EffectDoor.{leaves}
 use Rattle.promises.proofs.effects.RefusalNumbers.{undone}
 
 -- what a call writes, by the state that it finds and by whether it rings
@@ -111,19 +106,7 @@ bounded-shape Isochronous b rd = rung-shape (mustRing (record { noted = b .noted
 bounded-shape Bulk b rd = rung-shape (mustRing (record { noted = b .noted; doorbell = b .doorbell; unanswered = b .unanswered + 1 })) _ (rd .command)
 bounded-shape Interrupt b rd = refl
 
--- what holds of a refusal at the door and of what the call's crate says holds of the call
 module _ (w : World) (c : Call) where
-  pub through : Touches w c (leaves w c (w .state) (Refused InvalidParameter) noWrites)
-      → Touches w c (carriedOut (callOf (w .state) (length (w .rows .pool)) (w .rows .heads) (w .rows .frames) (w .rows .setups) (seen w c) c) (w .rows .pool))
-      → Touches w c (core w c)
-  unfolding applyOf decideOf refusedReply replied
-  through denied done = by (rowsFit (w .state .settings) (length (w .rows .pool)) (length (w .rows .heads)) (length (w .rows .frames)) (length (w .rows .setups))) refl
-    where
-      by : (b : Bool) → rowsFit (w .state .settings) (length (w .rows .pool)) (length (w .rows .heads)) (length (w .rows .frames)) (length (w .rows .setups)) ≡ b
-          → Touches w c (core w c)
-      by true e = rw e done
-      by false e = rw e denied
-
   pub refused-touches : (r : Refusal) → readAfter (accessOf c) (Refused r) (w .state .step) ≡ w .state .step
       → writesBy w (leaves w c (w .state) (Refused r) noWrites) (accessOf c) ≡ [] → Touches w c (leaves w c (w .state) (Refused r) noWrites)
   unfolding noWrites

@@ -44,12 +44,12 @@ use Rattle.promises.specs.Events.{Submits}
 use Rattle.promises.specs.Uses.{Use, needs, uses}
 use Rattle.promises.specs.Walks.{Terminated, Walk, chainWalk, nextLeads, nextWalk}
 use Rattle.promises.proofs.effects.Effects.{Accepts}
+use Rattle.promises.proofs.effects.SlotViews.{view-same}
 use Rattle.promises.proofs.any_machine.Walking.{chain-walked, walk-along}
 use Rattle.promises.proofs.invariants.Sound.{Sound}
 use Rattle.promises.specs.Rooms.{untold}
 use Rattle.promises.proofs.invariants.UseInv.{Avoids, Held, HeldIn, Kept, Nobody, all-counted, every-both, every-map, overlayNext, placesAt, tenantAt, tenantOf, vacant-avoids}
-use Rattle.promises.proofs.invariants.UseSteps.{uses-by}
-use Rattle.promises.proofs.invariants.UseTenants.{tenant-same}
+use Rattle.promises.proofs.invariants.UseSteps.{uses-by, tenant-back}
 
 pub vacant-of : (e : Endpoint) → holdsRequest e ≡ false → tenantOf e ≡ Nobody
 vacant-of Closed h = refl
@@ -177,7 +177,7 @@ module _ (w : World) (k : ℕ) (t : TransferRequest) (sound : Sound (w .state .s
   kept-new none =
       record {
         below = within;
-        holds = tenant-same (withOwner st (takenFor st k t .owner)) k (linkedWith st k t) (owner-wide st _ (sound .wide)) (open-below st k (judged .opened));
+        holds = view-same tenantOf tenant-back (withOwner st (takenFor st k t .owner)) k (linkedWith st k t) (owner-wide st _ (sound .wide)) (open-below st k (judged .opened));
         places-are = sym (ap (λ (o : List ℕ). placesFrom 0 o (k + 1) 256) new-front
             ∙ mark-takes 0 front (needOfRequest st t) (k + 1) 256 (λ e. omega (arith, e))
             (sym (all-counted front (k + 1) (omega (arith, front-length, sound .ranges .good .descriptors-most))) ∙ ap length none)

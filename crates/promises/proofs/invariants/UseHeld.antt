@@ -1,21 +1,16 @@
 -- The tie between uses and world holds of an opening, and every call keeps it.
 use Prim.Native.Nat.{ℕ, zero, suc, _+_}
 use mathlib.Core.Path.{_≡_, refl, sym, ap, subst}
-use mathlib.Core.Bool.{Bool, true, false}
+use mathlib.Core.Bool.{true}
 use mathlib.Core.List.{[], _∷_}
 use native.Mathlib.Omega.{arith}
-use borrow.Author.Tests.{ltb-false, ltb-true, ne-eqb}
-use lib.Dec.{ltb}
+use borrow.Author.Tests.{ne-eqb}
 use lib.ListN.{replicate, take}
 use Rattle.pool.specs.Places.{countOf}
 use Rattle.pool.proofs.PlaceLaws.{places-none}
 use Rattle.settings.specs.Settings.{settingsGood}
 use Rattle.settings.specs.declared.settings.Settings.{Settings}
-use Rattle.pipe.specs.Endpoints.{bareSlot, endpointAt}
-use Rattle.pipe.specs.declared.endpoints.Endpoint.the-variants.{Closed}
-use Rattle.pipe.proofs.EndpointCases.{at-none, at-slot, decode-closed}
 use Rattle.opening.specs.Opening.{freshState}
-use Rattle.opening.proofs.OpenLaws.{fresh-slot}
 use Rattle.controller.specs.Readers.{freeCount}
 use Rattle.controller.proofs.FreeLaws.{fresh-free, zeros-are}
 use Rattle.ehci.specs.declared.call.Call.{Call}
@@ -29,17 +24,9 @@ use Rattle.promises.proofs.invariants.UseInv.{Held, HeldIn, tenantOf}
 use Rattle.promises.proofs.invariants.UseSteps.{closes-held, counts-held, hears-held, joins-held, marks-held, opens-held, passes-held, rewrites-held, still-held, unlinks-held, writes-back-held}
 use Rattle.promises.proofs.invariants.UseAccepts.{accepts-held}
 use Rattle.promises.proofs.invariants.UseCollects.{collects-held}
+use Rattle.promises.proofs.invariants.BellFacts.{fresh-closed}
 
 -- ---- an opening
-
-pub fresh-closed : (s : Settings) (k : ℕ) → endpointAt (freshState s) k ≡ Closed
-fresh-closed s k = by (ltb k 32) refl
-  where
-    by : (b : Bool) → ltb k 32 ≡ b → endpointAt (freshState s) k ≡ Closed
-    by true e =
-        sym (at-slot (freshState s) k (bareSlot 0 0 1) Closed (ltb-true k 32 e) (sym (fresh-slot s k (ltb-true k 32 e)))
-        (decode-closed (bareSlot 0 0 1) (λ q. omega (arith, q)) (λ q. omega (arith, q)) (λ q. omega (arith, q))))
-    by false e = sym (at-none (freshState s) k (ltb-false k 32 e))
 
 none-held : (n d k : ℕ) → countOf (k + 1) (take d (replicate n 0)) ≡ 0
 unfolding countOf
@@ -65,11 +52,11 @@ held-opens s w o = let is = opening-is s w o in subst (λ (v : World). HeldIn s 
 
 keeps-here : (w : World) (c : Call) (a : Applied) (h : History) → Sound (w .state .settings) w → Held (w .state .settings) h w → Effect w c a
     → Held (w .state .settings) (turnOf (w .rows) c a ∷ h) (leftBy a)
-keeps-here w c a h sound held (still x) = still-held w c a h x held
-keeps-here w c a h sound held (hears x) = hears-held w c a h x held
-keeps-here w c a h sound held (joins x) = joins-held w c a h x held
-keeps-here w c a h sound held (passes x) = passes-held w c a h x held
-keeps-here w c a h sound held (counts x) = counts-held w c a h x held
+keeps-here w c a h sound held (still x) = still-held w c a h sound x held
+keeps-here w c a h sound held (hears x) = hears-held w c a h sound x held
+keeps-here w c a h sound held (joins x) = joins-held w c a h sound x held
+keeps-here w c a h sound held (passes x) = passes-held w c a h sound x held
+keeps-here w c a h sound held (counts x) = counts-held w c a h sound x held
 keeps-here w c a h sound held (opens x) = opens-held w c a h sound x held
 keeps-here w c a h sound held (closes x) = closes-held w c a h sound x held
 keeps-here w c a h sound held (rewrites x) = rewrites-held w c a h sound x held

@@ -10,9 +10,9 @@ use lib.ListN.{drop, getD, length, take}
 use Rattle.common.specs.declared.kinds.EndpointType.{EndpointType}
 use Rattle.descriptor.specs.declared.qtd.QueueTransferDescriptor.{QueueTransferDescriptor}
 use Rattle.pool.specs.Chains.{blank}
-use Rattle.pool.specs.Places.{bitOf, countOf, placesFrom}
+use Rattle.pool.specs.Places.{countOf, placesFrom}
 use Rattle.pool.specs.Transfers.{recordAt}
-use Rattle.pool.proofs.PlaceLaws.{places-length}
+use Rattle.pool.proofs.PlaceLaws.{places-few, places-length}
 use Rattle.settings.specs.declared.settings.Settings.{Settings}
 use Rattle.state.specs.declared.state.Ehci.{Ehci}
 use Rattle.pipe.specs.Endpoints.{endpointAt}
@@ -140,14 +140,5 @@ vacant-avoids s owner tenant pool heads us k e each =
     (λ u kept z. tenants-apart (u .request .kind) (u .id) (u .request .length) (tenant (u .slot)) (ap tenant z ∙ e) (kept .holds)) us each
 
 -- 256 places are all places
-count-le : (x : ℕ) (l : List ℕ) → countOf x l ≤ length l
-unfolding countOf
-count-le x [] = omega arith
-count-le x (y ∷ ys) = by (eqb y x) (count-le x ys)
-  where
-    by : (b : Bool) → countOf x ys ≤ length ys → bitOf b + countOf x ys ≤ length (y ∷ ys)
-    by true h = omega arith
-    by false h = omega arith
-
 pub all-counted : (owner : List ℕ) (x : ℕ) → length owner ≤ 256 → length (placesFrom 0 owner x 256) ≡ countOf x owner
-all-counted owner x h = places-length 0 owner x 256 ∙ omega (arith, count-le x owner)
+all-counted owner x h = places-length 0 owner x 256 ∙ omega (arith, places-length 0 owner x (countOf x owner), places-few 0 owner x (countOf x owner))

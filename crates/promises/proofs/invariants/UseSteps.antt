@@ -2,7 +2,7 @@
 use Prim.Native.Nat.{ℕ, _+_, _*_, _≤_, _<_}
 use mathlib.Core.Path.{_≡_, refl, sym, ap, subst, _∙_}
 use mathlib.Core.Logic.{⊎-elim}
-use mathlib.Core.Bool.{Bool, true, false, cond}
+use mathlib.Core.Bool.{Bool, true, false}
 use mathlib.Core.List.{List, _∷_}
 use native.Mathlib.Decide.{ℕ-discrete as decEq}
 use native.Mathlib.Omega.{arith}
@@ -21,34 +21,33 @@ use Rattle.common.proofs.TestLaws.{both-tells}
 use Rattle.state.specs.Slots.{withSlot}
 use Rattle.state.specs.State.{withBell, withBoundaries}
 use Rattle.state.specs.declared.state.Ehci.{Ehci}
-use Rattle.pipe.specs.Endpoints.{endpointAt, withEndpoint}
-use Rattle.pipe.specs.declared.endpoints.Endpoint.{Endpoint}
+use Rattle.pipe.specs.Endpoints.{withEndpoint, decoded, encoded}
 use Rattle.pipe.specs.declared.endpoints.Endpoint.the-variants.{Closed, Idle, Linked, Unlinking}
 use Rattle.pipe.specs.declared.endpoints.Request.{Request}
-use Rattle.pipe.proofs.EndpointLaws.{bell-wide}
+use Rattle.pipe.specs.declared.endpoints.Endpoint.{Endpoint}
+use Rattle.pipe.proofs.EndpointLaws.{kind-there}
 use Rattle.controller.specs.Readers.{hasEndpoint}
-use Rattle.controller.proofs.ReaderLaws.{open-below, open-within}
+use Rattle.controller.proofs.ReaderLaws.{open-within}
 use Rattle.opening.proofs.HeadLaws.{other-head}
 use Rattle.common.proofs.RowLaws.{Only, put-only}
-use Rattle.endpoint.specs.Calls.{newEndpoint, withHead}
-use Rattle.schedule.specs.Bell.{bellOf}
+use Rattle.endpoint.specs.Calls.{withHead}
 use Rattle.schedule.specs.Links.{detachOf, givenLink, linkWord, periodic, predecessorOf}
 use Rattle.schedule.specs.declared.links.Predecessor.{Predecessor}
 use Rattle.schedule.specs.declared.links.Predecessor.the-variants.{First, Head, Missing}
 use Rattle.request.specs.Writeback.{inRequest}
-use Rattle.collection.specs.Calls.{marked}
-use Rattle.collection.specs.Unlinks.{boundedOf, waitingOf}
+use Rattle.collection.specs.Unlinks.{waitingOf}
 use Rattle.ehci.specs.declared.call.Call.{Call}
 use Rattle.ehci.specs.Door.{Applied}
 use Rattle.promises.specs.Runs.{History, Rows, Turn, World, leftBy, rowsOf, turnOf}
-use Rattle.promises.specs.Events.{Drains, Event, Other, Parts, Reads, Unlinks, event, leavesFrames, leavesRing, leaving}
+use Rattle.promises.specs.Events.{Drains, Event, Other, Reads, event, leaving}
 use Rattle.promises.specs.Uses.{Use, uses, usesAfter}
-use Rattle.promises.proofs.effects.Effects.{Closes, Counts, Hears, Joins, Marks, Opens, Passes, Rewrites, Sides, Still, Unlinked, WritesBack, besides}
+use Rattle.promises.proofs.effects.Effects.{Closes, Counts, Hears, Joins, Marks, Opens, Passes, Rewrites, Still, Unlinked, WritesBack, leaving-by, Effect, still, joins, passes, hears, counts, opens, closes, rewrites, writes-back, marks, unlinks}
+use Rattle.promises.proofs.effects.SlotViews.{view-kept}
 use Rattle.promises.proofs.invariants.Sound.{Sound}
 use Rattle.promises.specs.Rooms.{untold}
 use Rattle.promises.proofs.invariants.UseInv.{Held, HeldIn, Nobody, Tenant, overlayNext, tenantAt, tenantOf}
 use Rattle.promises.proofs.invariants.UseQuiet.{held-quiet}
-use Rattle.promises.proofs.invariants.UseTenants.{tenant-bell, tenant-besides, tenant-boundaries, tenant-stays}
+use Rattle.promises.proofs.invariants.ViewsAfter.{view-after, viewed}
 
 -- ---- events that leave the uses
 
@@ -57,12 +56,7 @@ unfolding uses
 uses-by s t h e q = ap (λ (x : Event). usesAfter s t x (uses s h)) q
 
 pub uses-leaving : (s : Settings) (t : Turn) (k frame : ℕ) (us : List Use) → usesAfter s t (leaving s k frame t) us ≡ us
-uses-leaving s t k frame us = by (leavesRing s k t) (leavesFrames s k t)
-  where
-    by : (b c : Bool) → usesAfter s t (cond b (Unlinks k) (cond c (Parts k frame) Other)) us ≡ us
-    by true c = refl
-    by false true = refl
-    by false false = refl
+uses-leaving s t k frame us = leaving-by s k frame t (λ e. usesAfter s t e us ≡ us) refl refl refl
 
 -- ---- words and records
 
@@ -92,6 +86,14 @@ token-written place token rs h p = by (decEq p place)
         ∙ ap untold (getD-set-same rs place (withToken (getD rs place blank) token) blank h) ∙ ap (λ (q : ℕ). untold (getD rs q blank)) (sym e)
     by (no ne) = ap untold (getD-set-other rs place p (withToken (getD rs place blank) token) blank ne)
 
+-- an endpoint that is encoded and decoded has the same tenant, whatever its boundary
+pub tenant-back : (x : Endpoint) → tenantOf (decoded (encoded x)) ≡ tenantOf x
+unfolding decoded
+tenant-back Closed = refl
+tenant-back (Idle p) = refl
+tenant-back (Linked p r) = rw (kind-there (p .kind))
+tenant-back (Unlinking p r b) = rw (kind-there (p .kind))
+
 -- ---- the steps
 
 module _ (w : World) (c : Call) (a : Applied) (h : History) where
@@ -117,34 +119,6 @@ module _ (w : World) (c : Call) (a : Applied) (h : History) where
   rowless same owner tenant rows =
       quiet same owner tenant (λ p. ap (λ (r : Rows). untold (getD (r .pool) p blank)) rows) (λ k n. ap (λ (r : Rows). overlayNext (r .heads) k) rows)
 
-  beside : (x : Sides) → a .reply .state ≡ besides (w .state) x → (k : ℕ) → tenantAt (a .reply .state) k ≡ tenantAt (w .state) k
-  beside x e k = ap (λ (y : Ehci). tenantAt y k) e ∙ tenant-besides (w .state) x k
-
-  pub still-held : Still w c a → Held s h w → Held s (t ∷ h) (leftBy a)
-  still-held x = rowless (uses-by s t h Other (x .nothing)) (ap (λ (y : Ehci). y .owner) (x .state-is)) (beside (x .sides) (x .state-is)) (x .rows-are)
-
-  pub joins-held : Joins w c a → Held s h w → Held s (t ∷ h) (leftBy a)
-  joins-held x = rowless (uses-by s t h Other (x .nothing)) (ap (λ (y : Ehci). y .owner) (x .state-is)) (beside (x .sides) (x .state-is)) (x .rows-are)
-
-  pub passes-held : Passes w c a → Held s h w → Held s (t ∷ h) (leftBy a)
-  passes-held x = rowless (uses-by s t h Drains (x .drains)) (ap (λ (y : Ehci). y .owner) (x .state-is)) (beside (x .sides) (x .state-is)) (x .rows-are)
-
-  pub hears-held : Hears w c a → Held s h w → Held s (t ∷ h) (leftBy a)
-  unfolding withBell
-  hears-held x =
-      rowless (uses-by s t h Reads (x .hears)) (ap (λ (y : Ehci). y .owner) (x .state-is))
-      (λ k. ap (λ (y : Ehci). tenantAt y k) (x .state-is) ∙ tenant-besides _ (x .sides) k ∙ tenant-bell (w .state) _ _ _ k) (x .rows-are)
-
-  pub counts-held : Counts w c a → Held s h w → Held s (t ∷ h) (leftBy a)
-  unfolding withBell withBoundaries
-  counts-held x =
-      rowless (uses-by s t h Drains (x .drains)) (ap (λ (y : Ehci). y .owner) (x .state-is))
-      (λ k. ap (λ (y : Ehci). tenantAt y k) (x .state-is) ∙ tenant-besides _ (x .sides) k ∙ tenant-boundaries _ _ k ∙ tenant-bell (w .state) _ _ _ k) (x .rows-are)
-
-  -- a slot that is open or has a request is one of 32
-  occupied : (k : ℕ) (x : Endpoint) → endpointAt (w .state) k ≡ x → hasEndpoint x ≡ true → k < 32
-  occupied k x e o = open-below (w .state) k (ap hasEndpoint e ∙ o)
-
   -- the head of a slot without a request is written anew
   rewritten : (k : ℕ) (words : List ℕ) → tenantAt (w .state) k ≡ Nobody → length words ≡ 17 → 17 * (k + 1) + 17 ≤ length (w .rows .heads) → (j : ℕ) → (tenantAt (w .state) j ≡ Nobody → ⊥)
       → overlayNext (withHead (w .rows .heads) k words) j ≡ overlayNext (w .rows .heads) j
@@ -157,26 +131,41 @@ module _ (w : World) (c : Call) (a : Applied) (h : History) where
       one e = omega (arith, e)
 
   module _ (sound : Sound s w) where
+    after : (x : Effect w c a) (k : ℕ) → tenantAt (a .reply .state) k ≡ viewed tenantOf w c a x k
+    after = view-after tenantOf w c a tenant-back (λ p r b d. refl) sound
+
+    pub still-held : Still w c a → Held s h w → Held s (t ∷ h) (leftBy a)
+    still-held x = rowless (uses-by s t h Other (x .nothing)) (ap (λ (y : Ehci). y .owner) (x .state-is)) (after (still x)) (x .rows-are)
+
+    pub joins-held : Joins w c a → Held s h w → Held s (t ∷ h) (leftBy a)
+    joins-held x = rowless (uses-by s t h Other (x .nothing)) (ap (λ (y : Ehci). y .owner) (x .state-is)) (after (joins x)) (x .rows-are)
+
+    pub passes-held : Passes w c a → Held s h w → Held s (t ∷ h) (leftBy a)
+    passes-held x = rowless (uses-by s t h Drains (x .drains)) (ap (λ (y : Ehci). y .owner) (x .state-is)) (after (passes x)) (x .rows-are)
+
+    pub hears-held : Hears w c a → Held s h w → Held s (t ∷ h) (leftBy a)
+    unfolding withBell
+    hears-held x = rowless (uses-by s t h Reads (x .hears)) (ap (λ (y : Ehci). y .owner) (x .state-is)) (after (hears x)) (x .rows-are)
+
+    pub counts-held : Counts w c a → Held s h w → Held s (t ∷ h) (leftBy a)
+    unfolding withBell withBoundaries
+    counts-held x = rowless (uses-by s t h Drains (x .drains)) (ap (λ (y : Ehci). y .owner) (x .state-is)) (after (counts x)) (x .rows-are)
+
     pub opens-held : Opens w c a → Held s h w → Held s (t ∷ h) (leftBy a)
     unfolding withEndpoint withSlot
     opens-held x =
         quiet (uses-by s t h Other (x .nothing)) (ap (λ (y : Ehci). y .owner) (x .state-is))
-        (λ j. ap (λ (y : Ehci). tenantAt y j) (x .state-is)
-        ∙ tenant-stays (w .state) (x .k) (newEndpoint (x .kind)) (sound .wide) below (sym (ap tenantOf (x .closed))) j)
+        (λ j. after (opens x) j ∙ view-kept tenantOf (w .state) (x .k) _ (sym (ap tenantOf (x .closed))) j)
         (λ p. ap (λ (r : Rows). untold (getD (r .pool) p blank)) (x .rows-are))
         (λ j n. ap (λ (r : Rows). overlayNext (r .heads) j) (x .rows-are)
         ∙ rewritten (x .k) (wordsOf (endpointHead (x .kind) (x .address) (x .endpoint) (x .packet))) (ap tenantOf (x .closed)) (head-length (x .kind) (x .address) (x .endpoint) (x .packet))
         (omega (arith, x .below, sound .heads-fit)) j n)
-      where
-        below : x .k < 32
-        below = omega (arith, x .below, sound .ranges .good .endpoints-most)
 
     pub closes-held : Closes w c a → Held s h w → Held s (t ∷ h) (leftBy a)
     unfolding withEndpoint withSlot
     closes-held x =
         quiet (uses-by s t h Other (x .nothing)) (ap (λ (y : Ehci). y .owner) (x .state-is))
-        (λ j. ap (λ (y : Ehci). tenantAt y j) (x .state-is)
-        ∙ tenant-stays (w .state) (x .k) Closed (sound .wide) (occupied (x .k) (Idle (x .p)) (x .idle) refl) (sym (ap tenantOf (x .idle))) j)
+        (λ j. after (closes x) j ∙ view-kept tenantOf (w .state) (x .k) _ (sym (ap tenantOf (x .idle))) j)
         (λ p. ap (λ (r : Rows). untold (getD (r .pool) p blank)) (x .rows-are))
         (λ j n. ap (λ (r : Rows). overlayNext (r .heads) j) (x .rows-are)
         ∙ rewritten (x .k) (replicate 17 0) (ap tenantOf (x .idle)) refl (omega (arith, below, sound .heads-fit)) j n)
@@ -186,7 +175,7 @@ module _ (w : World) (c : Call) (a : Applied) (h : History) where
 
     pub rewrites-held : Rewrites w c a → Held s h w → Held s (t ∷ h) (leftBy a)
     rewrites-held x =
-        quiet (uses-by s t h Other (x .nothing)) (ap (λ (y : Ehci). y .owner) (x .state-is)) (λ j. ap (λ (y : Ehci). tenantAt y j) (x .state-is))
+        quiet (uses-by s t h Other (x .nothing)) (ap (λ (y : Ehci). y .owner) (x .state-is)) (after (rewrites x))
         (λ p. ap (λ (r : Rows). untold (getD (r .pool) p blank)) (x .rows-are))
         (λ j n. ap (λ (r : Rows). overlayNext (r .heads) j) (x .rows-are)
         ∙ getD-set-other (w .rows .heads) (17 * (x .k + 1) + 1) (17 * (j + 1) + 4) (x .word) 0 (λ e. omega (arith, e)))
@@ -198,7 +187,7 @@ module _ (w : World) (c : Call) (a : Applied) (h : History) where
 
     pub writes-back-held : WritesBack w c a → Held s h w → Held s (t ∷ h) (leftBy a)
     writes-back-held x =
-        quiet (uses-by s t h Other (x .nothing)) (ap (λ (y : Ehci). y .owner) (x .state-is)) (λ j. ap (λ (y : Ehci). tenantAt y j) (x .state-is))
+        quiet (uses-by s t h Other (x .nothing)) (ap (λ (y : Ehci). y .owner) (x .state-is)) (after (writes-back x))
         (λ p. ap (λ (r : Rows). untold (getD (r .pool) p blank)) (x .rows-are)
         ∙ ap (λ (l : List QueueTransferDescriptor). untold (getD l p blank)) (fill-token (s .pool) (x .place) (x .token) (w .rows .pool))
         ∙ token-written (x .place) (x .token) (w .rows .pool) (requested-place (x .place) (x .in-request)) p)
@@ -208,9 +197,7 @@ module _ (w : World) (c : Call) (a : Applied) (h : History) where
     unfolding withEndpoint withSlot
     marks-held x =
         rowless (uses-by s t h Other (x .nothing)) (ap (λ (y : Ehci). y .owner) (x .state-is))
-        (λ j. ap (λ (y : Ehci). tenantAt y j) (x .state-is)
-        ∙ tenant-stays (w .state) (x .k) (Unlinking (x .p) (marked (x .r)) (x .u)) (sound .wide) (occupied (x .k) (Unlinking (x .p) (x .r) (x .u)) (x .unlinking) refl)
-        (sym (ap tenantOf (x .unlinking))) j)
+        (λ j. after (marks x) j ∙ view-kept tenantOf (w .state) (x .k) _ (sym (ap tenantOf (x .unlinking))) j)
         (x .rows-are)
 
     pub unlinks-held : Unlinked w c a → Held s h w → Held s (t ∷ h) (leftBy a)
@@ -218,10 +205,7 @@ module _ (w : World) (c : Call) (a : Applied) (h : History) where
     unlinks-held x =
         quiet (uses-by s t h (leaving s (x .k) (x .readings .frame) t) (x .leaves) ∙ uses-leaving s t (x .k) (x .readings .frame) (uses s h))
         (ap (λ (y : Ehci). y .owner) (x .state-is))
-        (λ j. ap (λ (y : Ehci). tenantAt y j) (x .state-is)
-        ∙ tenant-stays (withBell (w .state) _ _ _) (x .k) (Unlinking (x .p) (x .asked) (boundedOf (bellOf (w .state)) (x .p .kind) (x .readings) .boundary)) (bell-wide (w .state) _ _ _ (sound .wide)) (occupied (x .k) (Linked (x .p) (x .r)) (x .linked) refl)
-        (same ∙ sym (tenant-bell (w .state) _ _ _ (x .k) ∙ ap tenantOf (x .linked))) j
-        ∙ tenant-bell (w .state) _ _ _ j)
+        (λ j. after (unlinks x) j ∙ view-kept tenantOf (w .state) (x .k) _ (same ∙ sym (ap tenantOf (x .linked))) j)
         (λ p. ap (λ (r : Rows). untold (getD (r .pool) p blank)) (x .rows-are))
         (λ j n. ap (λ (r : Rows). overlayNext (r .heads) j) (x .rows-are) ∙ detach-word (w .state) (w .rows .heads) (w .rows .frames) (x .k) j)
       where

@@ -1,50 +1,32 @@
 -- What a collect and a cancel answer, by the endpoint that they find.
-use Prim.Native.Nat.{ℕ, _+_, _*_}
-use mathlib.Core.Bool.{Bool, true, false, false≢true}
-use mathlib.Core.Path.{_≡_, refl, sym, ap, _∙_}
+use Prim.Native.Nat.{ℕ}
+use mathlib.Core.Bool.{true, false≢true}
+use mathlib.Core.Path.{_≡_, refl, sym, _∙_}
 use borrow.Author.Tests.{eq-eqb}
 use lib.ListN.{length}
-use Rattle.register.specs.Writes.{noWrites}
 use Rattle.settings.specs.declared.settings.Settings.{Settings}
 use Rattle.state.specs.declared.state.Ehci.{Ehci}
-use Rattle.state.proofs.RangesLaws.{ranges-make}
-use Rattle.common.specs.declared.answer.Refusal.the-variants.{InvalidParameter}
 use Rattle.pipe.specs.Endpoints.{endpointAt}
 use Rattle.pipe.specs.declared.endpoints.Endpoint.the-variants.{Unlinking}
 use Rattle.pipe.specs.declared.endpoints.Pipe.{Pipe}
 use Rattle.pipe.specs.declared.endpoints.Request.{Request}
 use Rattle.pipe.specs.declared.endpoints.UnlinkBoundary.{UnlinkBoundary}
-use Rattle.opening.specs.Opening.{rowsFit}
-use Rattle.opening.proofs.OpenLaws.{rows-make}
-use Rattle.controller.specs.Lent.{acceptsOf, lengths}
 use Rattle.controller.specs.declared.lent.Readings.{Readings}
 use Rattle.collection.specs.Answers.{outcomeOf}
 use Rattle.collection.specs.Calls.{Gathered, collectOf, finishOf, pendingLeft, unlinkingOf}
 use Rattle.collection.specs.Unlinks.{Left, passedBoundary, unlinkOf, waitingOf}
 use Rattle.collection.proofs.Splits.{collect-split, unlink-split}
-use Rattle.ehci.specs.declared.call.Call.{Call}
 use Rattle.ehci.specs.declared.call.Call.the-variants.{Collect}
 use Rattle.ehci.specs.declared.reply.Answered.{Answered}
-use Rattle.ehci.specs.declared.reply.Answered.the-variants.{Refused}
-use Rattle.ehci.specs.Decides.{callOf, collectCame, collectDecided, decideOf, withSetups}
+use Rattle.ehci.specs.Decides.{collectCame, collectDecided, decideOf, withSetups}
 use Rattle.ehci.specs.Door.{Applied, applyOf, carriedOut}
-use Rattle.ehci.specs.Replies.{collectedAnswer, refusedReply, replied}
+use Rattle.ehci.specs.Replies.{collectedAnswer, replied}
 use Rattle.promises.specs.Runs.{World, core}
 use Rattle.promises.specs.Events.{isCollected}
-use Rattle.promises.proofs.effects.EffectDoor.{leaves, seen}
+use Rattle.promises.proofs.effects.EffectDoor.{seen, through}
 use Rattle.promises.proofs.effects.EffectRequests.{outcome-collected}
 use Rattle.promises.proofs.effects.RefusalNumbers.{uncollected}
-use Rattle.promises.proofs.invariants.Sound.{Sound}
-
--- what holds of a refusal at the door, and of what the call's crate says, holds of the call
-pub by-door : (w : World) (c : Call) (P : Applied → Type 0) → P (leaves w c (w .state) (Refused InvalidParameter) noWrites)
-    → P (carriedOut (callOf (w .state) (length (w .rows .pool)) (w .rows .heads) (w .rows .frames) (w .rows .setups) (seen w c) c) (w .rows .pool)) → P (core w c)
-unfolding applyOf decideOf refusedReply replied
-by-door w c P denied done = by (rowsFit (w .state .settings) (length (w .rows .pool)) (length (w .rows .heads)) (length (w .rows .frames)) (length (w .rows .setups))) refl
-  where
-    by : (b : Bool) → rowsFit (w .state .settings) (length (w .rows .pool)) (length (w .rows .heads)) (length (w .rows .frames)) (length (w .rows .setups)) ≡ b → P (core w c)
-    by true e = rw e done
-    by false e = rw e denied
+use Rattle.promises.proofs.invariants.Sound.{Sound, let-in, rows-fit}
 
 -- what a collect that collects found
 pub record Found (w : World) (k id : ℕ) (readings : Readings) (a : Answered) : Type 0 where
@@ -73,7 +55,7 @@ module _ (w : World) (k id : ℕ) (rd : Readings) where
   pub collect-found : Tells (core w (Collect k id rd))
   unfolding collectDecided finishOf replied
   collect-found =
-      by-door w (Collect k id rd) Tells (λ e. absurd (false≢true e))
+      through (λ _ _. Tells) w (Collect k id rd) (λ e. absurd (false≢true e))
       (collect-split s (length (w .rows .pool)) (w .rows .heads) (w .rows .frames) (length (w .rows .setups)) rd k id (seen w (Collect k id rd)) Gathers
       (λ x e. absurd (false≢true (sym (uncollected x) ∙ e))) (λ e. absurd (false≢true e))
       (λ p r ok e below same done. unlink-none p r)
@@ -81,22 +63,7 @@ module _ (w : World) (k id : ℕ) (rd : Readings) where
 
   -- and what makes a collect collect
   module _ (z : Settings) (sound : Sound z w) where
-    fits : rowsFit (s .settings) (length (w .rows .pool)) (length (w .rows .heads)) (length (w .rows .frames)) (length (w .rows .setups)) ≡ true
-    fits =
-        let same = sound .settings-are in
-        rows-make (s .settings) (length (w .rows .pool)) (length (w .rows .heads)) (length (w .rows .frames)) (length (w .rows .setups))
-        (record {
-          pool-fits = sound .pool-fits ∙ ap (λ (x : Settings). x .descriptors) (sym same);
-          heads-fit = sound .heads-fit ∙ ap (λ (x : Settings). 17 * (x .endpoints + 1)) (sym same);
-          frames-fit = sound .frames-fit;
-          setups-fit = sound .setups-fit ∙ ap (λ (x : Settings). 8 * x .endpoints) (sym same);
-        })
-
-    accepted : acceptsOf s (lengths (length (w .rows .pool)) (length (w .rows .heads)) (length (w .rows .frames)) (length (w .rows .setups))) ≡ true
-    unfolding acceptsOf
-    accepted = rw (fits, ranges-make s (sound .ranges))
-
     pub collect-makes : (p : Pipe) (r : Request) (u : UnlinkBoundary) → endpointAt s k ≡ Unlinking p r u → r .id ≡ id → passedBoundary u (rd .frame) ≡ true
         → isCollected (core w (Collect k id rd) .reply .answer) ≡ true
     unfolding applyOf decideOf collectDecided collectOf unlinkingOf finishOf replied
-    collect-makes p r u e same passed = rw (fits, accepted, e, eq-eqb (r .id) id same, passed) (outcome-collected (r .cancelled) (seen w (Collect k id rd)))
+    collect-makes p r u e same passed = rw (rows-fit z w sound, let-in z w sound, e, eq-eqb (r .id) id same, passed) (outcome-collected (r .cancelled) (seen w (Collect k id rd)))

@@ -1,9 +1,8 @@
 -- A cancelled request is collected as 10; a linked slot finds room; and what the state says is what the history says.
 use Prim.Native.Nat.{ℕ, _+_, _<_}
-use mathlib.Core.Bool.{Bool, true, false, cond, true≢false, false≢true, _&&_}
+use mathlib.Core.Bool.{Bool, true, false, cond, true≢false, false≢true}
 use mathlib.Core.List.{List, [], _∷_}
 use mathlib.Core.Path.{_≡_, refl, sym, ap, subst, _∙_}
-use native.Mathlib.Decide.{ℕ-discrete as decEq}
 use native.Mathlib.Omega.{arith}
 use borrow.Author.Tests.{eq-eqb, eqb-true, lt-ltb, ne-eqb}
 use lib.Dec.{eqb}
@@ -43,9 +42,11 @@ use Rattle.promises.proofs.invariants.BellSlots.{Leaving, Slot}
 use Rattle.promises.proofs.invariants.BellInvariant.{room}
 use Rattle.promises.proofs.invariants.BellSteps.{StateInv}
 use Rattle.promises.proofs.invariants.BellSummary.{Kept, Summary, summary}
-use Rattle.promises.proofs.theorems.BoundaryCalls.{by-door, collect-found}
+use Rattle.promises.proofs.effects.EffectDoor.{through}
+use Rattle.promises.proofs.theorems.BoundaryCalls.{collect-found}
 use Rattle.promises.proofs.theorems.BoundaryCore.{bells-reached, exact, named}
 use Rattle.promises.proofs.any_machine.BoundaryExact.{answered-cancelled}
+use Rattle.common.proofs.TestLaws.{both-tells}
 
 -- ---- the mark of a cancelled request
 
@@ -100,7 +101,7 @@ module _ (w : World) (k id : ℕ) (rd : Readings) (wide : Wide (w .state)) where
   pub cancel-marks : Marks (core w (Cancel k id rd))
   unfolding cancelDecided replied
   cancel-marks =
-      by-door w (Cancel k id rd) Marks (λ e. absurd (false≢true e))
+      through (λ _ _. Marks) w (Cancel k id rd) (λ e. absurd (false≢true e))
       (cancel-split s (length (w .rows .pool)) (w .rows .heads) (w .rows .frames) (length (w .rows .setups)) rd k id Cancels
       (λ x e. absurd (false≢true (sym (undone x) ∙ e)))
       (λ p r ok e few same. unlink-marks p r (below (Linked p r) e refl))
@@ -108,10 +109,6 @@ module _ (w : World) (k id : ℕ) (rd : Readings) (wide : Wide (w .state)) where
 
 abbrev pub MarkedInv : Settings → History → Ehci → Type 0
 MarkedInv s h e = (k : ℕ) → cancelled s k h ≡ true → isMarked (endpointAt e k) ≡ true
-
-both-true : (a b : Bool) → (a && b) ≡ true → (a ≡ true) × (b ≡ true)
-both-true true b e = (refl, e)
-both-true false b e = absurd (false≢true e)
 
 module _ (s : Settings) (w : World) (c : Call) (h : History) (sound : Sound s w) where
   abbrev a : Applied
@@ -135,7 +132,7 @@ module _ (s : Settings) (w : World) (c : Call) (h : History) (sound : Sound s w)
       go (Submit j r x) q e = absurd (false≢true e)
       go (Writeback x y) q e = absurd (false≢true e)
       go (Cancel j id rd) q e =
-          let b = both-true (eqb j k) (isDone (a .reply .answer)) e in
+          let b = both-tells (eqb j k) (isDone (a .reply .answer)) e in
           subst (λ (i : ℕ). isMarked (endpointAt (a .reply .state) i) ≡ true) (eqb-true j k (b .0))
           (subst (λ (d : Call). isMarked (endpointAt (core w d .reply .state) j) ≡ true) (sym q)
           (cancel-marks w j id rd (sound .wide) (subst (λ (d : Call). isDone (core w d .reply .answer) ≡ true) q (b .1))))
@@ -151,26 +148,10 @@ module _ (s : Settings) (w : World) (c : Call) (h : History) (sound : Sound s w)
   stays-marked (Summary.quiets x) k n m = marked-kept (endpointAt (w .state) k) (endpointAt (a .reply .state) k) (x .kept k) m
   stays-marked (Summary.answers x) k n m = ap isMarked (x .kept k) ∙ m
   stays-marked (Summary.advances x) k n m = ap isMarked (x .falls k) ∙ marked-falls (endpointAt (w .state) k) ∙ m
-  stays-marked (Summary.comes x) k n m = at (decEq k (x .k))
-    where
-      at : Dec (k ≡ x .k) → isMarked (endpointAt (a .reply .state) k) ≡ true
-      at (yes e) = absurd (false≢true (ap (λ (y : Endpoint). isMarked y) (sym (ap (endpointAt (w .state)) e ∙ x .was)) ∙ m))
-      at (no ne) = ap isMarked (x .others k ne) ∙ m
-  stays-marked (Summary.goes x) k n m = at (decEq k (x .k))
-    where
-      at : Dec (k ≡ x .k) → isMarked (endpointAt (a .reply .state) k) ≡ true
-      at (yes e) = absurd (false≢true (ap (λ (y : Endpoint). isMarked y) (sym (ap (endpointAt (w .state)) e ∙ x .was)) ∙ m))
-      at (no ne) = ap isMarked (x .others k ne) ∙ m
-  stays-marked (Summary.departs x) k n m = at (decEq k (x .k))
-    where
-      at : Dec (k ≡ x .k) → isMarked (endpointAt (a .reply .state) k) ≡ true
-      at (yes e) = absurd (false≢true (ap (λ (y : Endpoint). isMarked y) (sym (ap (endpointAt (w .state)) e ∙ x .was)) ∙ m))
-      at (no ne) = ap isMarked (x .others k ne) ∙ m
-  stays-marked (Summary.ends x) k n m = at (decEq k (x .k))
-    where
-      at : Dec (k ≡ x .k) → isMarked (endpointAt (a .reply .state) k) ≡ true
-      at (yes e) = absurd (true≢false (sym (rw (x .event-is, eq-eqb (x .k) k (sym e))) ∙ n))
-      at (no ne) = ap isMarked (x .others k ne) ∙ m
+  stays-marked (Summary.comes x) k n m = ap isMarked (x .others k (λ e. false≢true (ap isMarked (sym (ap (endpointAt (w .state)) e ∙ x .was)) ∙ m))) ∙ m
+  stays-marked (Summary.goes x) k n m = ap isMarked (x .others k (λ e. false≢true (ap isMarked (sym (ap (endpointAt (w .state)) e ∙ x .was)) ∙ m))) ∙ m
+  stays-marked (Summary.departs x) k n m = ap isMarked (x .others k (λ e. false≢true (ap isMarked (sym (ap (endpointAt (w .state)) e ∙ x .was)) ∙ m))) ∙ m
+  stays-marked (Summary.ends x) k n m = ap isMarked (x .others k (λ e. true≢false (sym (rw (x .event-is, eq-eqb (x .k) k (sym e))) ∙ n))) ∙ m
 
   pub marks-keep : Summary s w c a h → MarkedInv s h (w .state) → MarkedInv s (t ∷ h) (a .reply .state)
   unfolding cancelled

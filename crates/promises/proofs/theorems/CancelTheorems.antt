@@ -10,7 +10,7 @@ use lib.Dec.{eqb, leb}
 use Rattle.settings.specs.declared.settings.Settings.{Settings}
 use Rattle.common.specs.Answers.{first, passed, refusalNumber, refused}
 use Rattle.common.specs.declared.answer.Refusal.{Refusal}
-use Rattle.common.specs.declared.answer.Refusal.the-variants.{InvalidParameter, SlotLimitReached, InvalidEndpoint, QueueFull, NotSupported, NoMemory, Timeout, NotReady}
+use Rattle.common.specs.declared.answer.Refusal.the-variants.{InvalidEndpoint}
 use Rattle.pipe.specs.Endpoints.{endpointAt}
 use Rattle.pipe.specs.declared.endpoints.Endpoint.{Endpoint}
 use Rattle.pipe.specs.declared.endpoints.Endpoint.the-variants.{Closed, Idle, Linked, Unlinking}
@@ -30,14 +30,14 @@ use Rattle.promises.specs.Uses.{Use, isOf, uses}
 use Rattle.promises.specs.Rooms.{Every, numberAt}
 use Rattle.promises.specs.Chains.{Detaches}
 use Rattle.promises.specs.Ids.{ById, CancelsById, CollectsById, isHeldAs}
-use Rattle.promises.proofs.invariants.Sound.{Sound}
+use Rattle.promises.proofs.invariants.Sound.{Sound, let-in}
 use Rattle.promises.proofs.invariants.UseInv.{Avoids, Held, Nobody, Tenant, Waits, every-map, tenantAt, tenantOf, tenants-apart}
 use Rattle.promises.proofs.theorems.BoundaryCalls.{collect-found}
 use Rattle.promises.proofs.theorems.BoundaryCancels.{roomy}
 use Rattle.promises.proofs.theorems.ChainTheorems.{no-detach}
 use Rattle.promises.proofs.theorems.Order.{in-order}
-use Rattle.promises.proofs.theorems.RoomLaws.{let-in}
 use Rattle.promises.proofs.theorems.RoomPromises.{fields-tied, held}
+use Rattle.promises.proofs.effects.RefusalNumbers.{refusal-some, refusal-within}
 
 -- ---- a request of that id
 
@@ -89,6 +89,12 @@ module _ (s : Settings) (h : History) (w : World) (k id : ℕ) where
   other-id g e somebody own =
       somebody (g .rest k (none-of-it own (uses s h) (every-map _ Holds (λ u kept. kept .holds) (uses s h) (g .each)) e) .0)
 
+-- the request of a slot is another than that
+another : (s : Settings) (h : History) (w : World) (k id : ℕ) (g : Held s h w) → isHeldAs k id (uses s h) ≡ false → (p : Pipe) (r : Request) (x : Endpoint)
+    → endpointAt (w .state) k ≡ x → tenantOf x ≡ Waits (p .kind) (r .id) (r .length) → r .id ≡ id → ⊥
+another s h w k id g none p r x e is q =
+    other-id s h w k id g none (λ z. tenants-apart (p .kind) (r .id) (r .length) (tenantAt (w .state) k) z (ap tenantOf e ∙ is)) (ap idOf (ap tenantOf e ∙ is) ∙ q)
+
 refusal-is : (n : ℕ) → refusalIn n ≡ 3 → n ≡ 3
 refusal-is n e = by (leb 9 n) e
   where
@@ -98,18 +104,12 @@ refusal-is n e = by (leb 9 n) e
 
 module _ (s : Settings) (h : History) (w : World) (sound : Sound s w) (g : Held s h w) (k id : ℕ) (rd : Readings) (few : (p : Pipe) (r : Request) → endpointAt (w .state) k ≡ Linked p r → w .state .unanswered < 32)
     (none : isHeldAs k id (uses s h) ≡ false) where
-  fits : Sound (w .state .settings) w
-  fits = subst (λ (z : Settings). Sound z w) (sym (sound .settings-are)) sound
-
   refuses : (x : Endpoint) → endpointAt (w .state) k ≡ x → first (checksOf w (Cancel k id rd)) ≡ refused InvalidEndpoint
-  refuses Closed e = rw (let-in w fits, e)
-  refuses (Idle p) e = rw (let-in w fits, e)
+  refuses Closed e = rw (let-in s w sound, e)
+  refuses (Idle p) e = rw (let-in s w sound, e)
   refuses (Linked p r) e =
-      let other : r .id ≡ id → ⊥ = λ q. other-id s h w k id g none (λ z. tenants-apart (p .kind) (r .id) (r .length) (tenantAt (w .state) k) z (ap tenantOf e)) (ap (λ (y : Endpoint). idOf (tenantOf y)) e ∙ q) in
-      rw (let-in w fits, e, lt-leb 32 (w .state .unanswered) (few p r e), ne-eqb (r .id) id other)
-  refuses (Unlinking p r b) e =
-      let other : r .id ≡ id → ⊥ = λ q. other-id s h w k id g none (λ z. tenants-apart (p .kind) (r .id) (r .length) (tenantAt (w .state) k) z (ap tenantOf e)) (ap (λ (y : Endpoint). idOf (tenantOf y)) e ∙ q) in
-      rw (let-in w fits, e, ne-eqb (r .id) id other)
+      rw (let-in s w sound, e, lt-leb 32 (w .state .unanswered) (few p r e), ne-eqb (r .id) id (another s h w k id g none p r _ e refl))
+  refuses (Unlinking p r b) e = rw (let-in s w sound, e, ne-eqb (r .id) id (another s h w k id g none p r _ e refl))
 
   none-three : numberAt core w (Cancel k id rd) ≡ 3
   none-three = refusal-is _ (in-order w (Cancel k id rd) ∙ ap verdictNumber (refuses (endpointAt (w .state) k) refl))
@@ -130,14 +130,7 @@ cancels-by-id s w o cs k id rd = by (isHeldAs k id (uses s h)) refl
 -- ---- collect
 
 no-result : (r : Refusal) → refusalIn (refusalNumber r) ≡ 0 → ⊥
-no-result InvalidParameter e = omega (arith, e)
-no-result SlotLimitReached e = omega (arith, e)
-no-result InvalidEndpoint e = omega (arith, e)
-no-result QueueFull e = omega (arith, e)
-no-result NotSupported e = omega (arith, e)
-no-result NoMemory e = omega (arith, e)
-no-result Timeout e = omega (arith, e)
-no-result NotReady e = omega (arith, e)
+no-result r e = refusal-some r (rw (lt-leb 9 (refusalNumber r) (omega (arith, refusal-within r .1))) at e)
 
 -- a result that collects nothing is 9
 waits-nine : (a : Answered) → refusalIn (answeredNumber a) ≡ 0 → isCollected a ≡ false → answeredNumber a ≡ 9
@@ -154,9 +147,6 @@ isIdle (Linked p r) = false
 isIdle (Unlinking p r b) = false
 
 module _ (s : Settings) (h : History) (w : World) (sound : Sound s w) (g : Held s h w) (tied : Tied s h w) (k id : ℕ) (rd : Readings) (few : (p : Pipe) (r : Request) → endpointAt (w .state) k ≡ Linked p r → w .state .unanswered < 32) where
-  inside : Sound (w .state .settings) w
-  inside = subst (λ (z : Settings). Sound z w) (sym (sound .settings-are)) sound
-
   abbrev answers : Answered
   answers = core w (Collect k id rd) .reply .answer
 
@@ -170,7 +160,7 @@ module _ (s : Settings) (h : History) (w : World) (sound : Sound s w) (g : Held 
   three e = refusal-is _ (in-order w (Collect k id rd) ∙ ap verdictNumber e)
 
   at-shut : (x : Endpoint) → endpointAt (w .state) k ≡ x → isShut (kindIn x) ≡ true → numberAt core w (Collect k id rd) ≡ 3
-  at-shut Closed e o = three (rw (let-in w inside, e))
+  at-shut Closed e o = three (rw (let-in s w sound, e))
   at-shut (Idle p) e o = absurd (false≢true o)
   at-shut (Linked p r) e o = absurd (false≢true o)
   at-shut (Unlinking p r b) e o = absurd (false≢true o)
@@ -183,7 +173,7 @@ module _ (s : Settings) (h : History) (w : World) (sound : Sound s w) (g : Held 
   at-bare : (x : Endpoint) → endpointAt (w .state) k ≡ x → isShut (kindIn x) ≡ false → holdsRequest x ≡ false → numberAt core w (Collect k id rd) ≡ 9
   at-bare Closed e o u = absurd (true≢false o)
   at-bare (Idle p) e o u =
-      let free : first (checksOf w (Collect k id rd)) ≡ passed = rw (let-in w inside, e) in
+      let free : first (checksOf w (Collect k id rd)) ≡ passed = rw (let-in s w sound, e) in
       waits-nine answers (in-order w (Collect k id rd) ∙ ap verdictNumber free) (idle-none p e (isCollected answers) refl)
   at-bare (Linked p r) e o u = absurd (true≢false u)
   at-bare (Unlinking p r b) e o u = absurd (true≢false u)
@@ -192,11 +182,8 @@ module _ (s : Settings) (h : History) (w : World) (sound : Sound s w) (g : Held 
   at-wrong none Closed e u = absurd (false≢true u)
   at-wrong none (Idle p) e u = absurd (false≢true u)
   at-wrong none (Linked p r) e u =
-      let other : r .id ≡ id → ⊥ = λ q. other-id s h w k id g none (λ z. tenants-apart (p .kind) (r .id) (r .length) (tenantAt (w .state) k) z (ap tenantOf e)) (ap (λ (y : Endpoint). idOf (tenantOf y)) e ∙ q) in
-      three (rw (let-in w inside, e, lt-leb 32 (w .state .unanswered) (few p r e), ne-eqb (r .id) id other))
-  at-wrong none (Unlinking p r b) e u =
-      let other : r .id ≡ id → ⊥ = λ q. other-id s h w k id g none (λ z. tenants-apart (p .kind) (r .id) (r .length) (tenantAt (w .state) k) z (ap tenantOf e)) (ap (λ (y : Endpoint). idOf (tenantOf y)) e ∙ q) in
-      three (rw (let-in w inside, e, ne-eqb (r .id) id other))
+      three (rw (let-in s w sound, e, lt-leb 32 (w .state .unanswered) (few p r e), ne-eqb (r .id) id (another s h w k id g none p r _ e refl)))
+  at-wrong none (Unlinking p r b) e u = three (rw (let-in s w sound, e, ne-eqb (r .id) id (another s h w k id g none p r _ e refl)))
 
   by-id : ById core s h w k id rd
   by-id =

@@ -3,22 +3,15 @@ use Prim.Native.Nat.{ℕ, _<_}
 use mathlib.Core.Path.{_≡_, refl, ap, _∙_}
 use mathlib.Core.Bool.{Bool, true, false, cond}
 use mathlib.Core.List.{List}
-use mathlib.Core.Logic.{inr}
 use borrow.Author.Tests.{eq-eqb, lt-leb}
-use lib.ListN.{length}
 use Rattle.settings.specs.declared.settings.Settings.{Settings}
-use Rattle.common.proofs.TestLaws.{both-first}
 use Rattle.state.specs.declared.state.Ehci.{Ehci}
-use Rattle.state.specs.Ranges.{inRanges}
 use Rattle.pipe.specs.Endpoints.{endpointAt}
 use Rattle.common.specs.Kinds.{isInterrupt}
 use Rattle.pipe.specs.declared.endpoints.Endpoint.the-variants.{Linked, Unlinking}
 use Rattle.pipe.specs.declared.endpoints.Pipe.{Pipe}
 use Rattle.pipe.specs.declared.endpoints.Request.{Request}
 use Rattle.pipe.specs.declared.endpoints.UnlinkBoundary.{UnlinkBoundary}
-use Rattle.opening.specs.Opening.{rowsFit}
-use Rattle.controller.specs.Lent.{acceptsOf, lengths}
-use Rattle.controller.specs.declared.lent.Lengths.{Lengths}
 use Rattle.controller.specs.declared.lent.Readings.{Readings}
 use Rattle.schedule.specs.Links.{detachOf, same}
 use Rattle.collection.specs.Calls.{cancelOf, marked, markedOf}
@@ -29,14 +22,11 @@ use Rattle.ehci.specs.declared.reply.Given.the-variants.{Nothing}
 use Rattle.ehci.specs.Decides.{cancelCame, cancelDecided, decideOf, withSetups}
 use Rattle.ehci.specs.Door.{Applied, applyOf, carriedOut}
 use Rattle.ehci.specs.Replies.{replied}
-use Rattle.promises.specs.Runs.{Always, History, World, core, rowsOf, turnOf}
+use Rattle.promises.specs.Runs.{Always, History, World, core, turnOf}
 use Rattle.promises.specs.Events.{Parts, Unlinks, event}
 use Rattle.promises.specs.Uses.{frameSlots, ringSlots}
-use Rattle.promises.specs.Bells.{cancelsBy}
-use Rattle.promises.proofs.effects.Effects.{Unlinked}
-use Rattle.promises.proofs.effects.EffectDoor.{rows-kept}
-use Rattle.promises.proofs.invariants.Sound.{Sound}
-use Rattle.promises.proofs.theorems.RangeTheorems.{sound-ranges}
+use Rattle.promises.proofs.effects.EffectRequests.{cancel-unlinked}
+use Rattle.promises.proofs.invariants.Sound.{Sound, let-in, rows-fit}
 use Rattle.promises.proofs.invariants.ChainInv.{Chained, heads-long, linkedIn}
 use Rattle.promises.proofs.invariants.ChainDetach.{Met, at-first, at-later, frames-met, ring-met}
 use Rattle.promises.proofs.invariants.ChainEvents.{unlink-event}
@@ -62,44 +52,13 @@ module _ (s : Settings) (h : History) (w : World) (sound : Sound s w) (x : Chain
           (frames-met (w .state) (sound .ranges) (sound .wide) (w .rows) (ringSlots s h) (frameSlots s h) x (heads-long s w sound) (sound .frames-fit) k
           (ap (linkedIn true) e ∙ ap (same true) q))
 
-  abbrev lent : Lengths
-  lent = lengths (length (w .rows .pool)) (length (w .rows .heads)) (length (w .rows .frames)) (length (w .rows .setups))
-
-  pub accepted : acceptsOf (w .state) lent ≡ true
-  accepted = sound-ranges s h w sound .accepted
-
-  pub fits : rowsFit (w .state .settings) (lent .pool) (lent .heads) (lent .frames) (lent .setups) ≡ true
-  unfolding acceptsOf
-  fits = both-first (rowsFit (w .state .settings) (lent .pool) (lent .heads) (lent .frames) (lent .setups)) (inRanges (w .state)) accepted
-
   module _ (rd : Readings) (p : Pipe) (r : Request) (e : endpointAt (w .state) k ≡ Linked p r) (roomy : w .state .unanswered < 32) where
     abbrev unlinked : Left
     unlinked = record { came = waitingOf (w .state) rd k p (marked r); rows = detachOf (w .state) (w .rows .heads) (w .rows .frames) k .rows }
 
     cancel-comes : core w (Cancel k (r .id) rd) ≡ carriedOut (withSetups (cancelCame unlinked) (w .rows .setups)) (w .rows .pool)
     unfolding applyOf decideOf cancelDecided cancelOf unlinkOf
-    cancel-comes = rw (fits, accepted, e, lt-leb 32 (w .state .unanswered) roomy, eq-eqb (r .id) (r .id) refl, no-detach-fails p r e)
-
-    cancel-unlinked : Unlinked w (Cancel k (r .id) rd) (core w (Cancel k (r .id) rd))
-    unfolding replied waitingOf
-    cancel-unlinked =
-        record {
-          k = k;
-          p = p;
-          r = r;
-          asked = marked r;
-          readings = rd;
-          linked = e;
-          same-request = inr refl;
-          cancels = inr (ap (λ (z : Applied). cancelsBy k (Cancel k (r .id) rd) (z .reply .answer)) cancel-comes ∙ rw (eq-eqb k k refl));
-          uncrowded = roomy;
-          found = no-detach-fails p r e;
-          state-is = ap (λ (z : Applied). z .reply .state) cancel-comes;
-          rows-are = ap rowsOf cancel-comes ∙ rows-kept w (Cancel k (r .id) rd) (unlinked .rows .heads) (unlinked .rows .frames) (w .rows .setups);
-          writes-are = ap (λ (z : Applied). z .reply .writes) cancel-comes;
-          leaves = refl;
-          same = refl;
-        }
+    cancel-comes = rw (rows-fit s w sound, let-in s w sound, e, lt-leb 32 (w .state .unanswered) roomy, eq-eqb (r .id) (r .id) refl, no-detach-fails p r e)
 
     cancel-done : core w (Cancel k (r .id) rd) .reply .answer ≡ Done Nothing
     unfolding replied waitingOf
@@ -108,14 +67,18 @@ module _ (s : Settings) (h : History) (w : World) (sound : Sound s w) (x : Chain
     pub cancel-unlinks : (core w (Cancel k (r .id) rd) .reply .answer ≡ Done Nothing)
         × (event s (turnOf (w .rows) (Cancel k (r .id) rd) (core w (Cancel k (r .id) rd))) ≡ cond (isInterrupt (p .kind)) (Parts k (rd .frame)) (Unlinks k))
     unfolding cancel-unlinked
-    cancel-unlinks = (cancel-done, unlink-event s h w (Cancel k (r .id) rd) (core w (Cancel k (r .id) rd)) sound x cancel-unlinked)
+    cancel-unlinks = (
+      cancel-done,
+      ap (λ (z : Applied). event s (turnOf (w .rows) (Cancel k (r .id) rd) z)) cancel-comes
+          ∙ unlink-event s h w (Cancel k (r .id) rd) _ sound x (cancel-unlinked w k (r .id) rd p r e roomy (no-detach-fails p r e)),
+    )
 
   -- a cancel of a request that is unlinking marks it
   module _ (rd : Readings) (p : Pipe) (r : Request) (u : UnlinkBoundary) (e : endpointAt (w .state) k ≡ Unlinking p r u) where
     mark-comes : core w (Cancel k (r .id) rd)
         ≡ carriedOut (withSetups (cancelCame (leftWith (markedOf (w .state) k p r u) (w .rows .heads) (w .rows .frames))) (w .rows .setups)) (w .rows .pool)
     unfolding applyOf decideOf cancelDecided cancelOf
-    mark-comes = rw (fits, accepted, e, eq-eqb (r .id) (r .id) refl)
+    mark-comes = rw (rows-fit s w sound, let-in s w sound, e, eq-eqb (r .id) (r .id) refl)
 
     pub mark-done : core w (Cancel k (r .id) rd) .reply .answer ≡ Done Nothing
     unfolding replied

@@ -3,7 +3,6 @@ use Prim.Native.Nat.{ℕ, suc, _+_, _<_}
 use mathlib.Core.Path.{_≡_, refl, sym, ap, _∙_}
 use mathlib.Core.Bool.{Bool, true, false, not, cond}
 use mathlib.Core.List.{List, [], _∷_}
-use mathlib.Core.Logic.{inl}
 use native.Mathlib.Decide.{ℕ-discrete as decEq}
 use borrow.Author.Tests.{eq-eqb, eqb-false, eqb-true, le-leb, lt-ltb}
 use lib.ListN.{getD, length, take}
@@ -20,17 +19,14 @@ use Rattle.collection.specs.Calls.{collectOf, Gathered, gathered}
 use Rattle.collection.specs.Unlinks.{unlinkOf, waitingOf}
 use Rattle.collection.proofs.CallLaws.{collect-active, collect-unlinks}
 use Rattle.ehci.specs.declared.call.Call.the-variants.{Collect}
-use Rattle.ehci.specs.declared.reply.Answered.{Answered}
 use Rattle.ehci.specs.declared.reply.Answered.the-variants.{Pending}
 use Rattle.ehci.specs.Decides.{asksOf, collectDecided, decideOf, withSetups, collectCame}
 use Rattle.ehci.specs.Door.{Applied, applyOf, carriedOut, seenBy}
 use Rattle.ehci.specs.Replies.{replied}
-use Rattle.promises.specs.Runs.{History, World, core, rowsOf, turnOf}
-use Rattle.promises.specs.Events.{Collects, Other, Parts, Unlinks, event, isCollected, leaving}
+use Rattle.promises.specs.Runs.{History, World, core, turnOf}
+use Rattle.promises.specs.Events.{Other, Parts, Unlinks, event}
 use Rattle.promises.specs.Chains.{isFinished}
-use Rattle.promises.proofs.effects.Effects.{Unlinked}
-use Rattle.promises.proofs.effects.EffectDoor.{rows-kept}
-use Rattle.promises.proofs.invariants.Sound.{Sound, slot-low}
+use Rattle.promises.proofs.invariants.Sound.{Sound, slot-low, let-in, rows-fit}
 use Rattle.promises.proofs.invariants.ChainInv.{Chained}
 use Rattle.promises.proofs.invariants.ChainEvents.{unlink-event}
 use lib.Dec.{eqb}
@@ -43,8 +39,8 @@ use Rattle.pool.specs.Places.{placesFrom}
 use Rattle.pool.proofs.PlaceLaws.{list-packed}
 use Rattle.collection.specs.Asks.{askOf, askable, requestAsk}
 use Rattle.collection.specs.Answers.{pendingCollect}
-use Rattle.promises.proofs.theorems.ChainCancels.{accepted, fits, no-detach-fails}
-use Rattle.promises.proofs.effects.EffectRequests.{none-leaves}
+use Rattle.promises.proofs.theorems.ChainCancels.{no-detach-fails}
+use Rattle.promises.proofs.effects.EffectRequests.{none-leaves, collect-unlinked}
 
 -- ---- finished, as its descriptors say
 
@@ -74,13 +70,13 @@ module _ (s : Settings) (h : History) (w : World) (sound : Sound s w) (x : Chain
 
   collect-comes : core w call ≡ carriedOut (withSetups (collectCame gathers) (w .rows .setups)) (w .rows .pool)
   unfolding applyOf decideOf collectDecided
-  collect-comes = rw (fits s h w sound x k)
+  collect-comes = rw (rows-fit s w sound)
 
   -- not finished: 9, and nothing changes
   unfinished-is : view .stage ≡ 2 → gathers ≡ gathered (pendingCollect (w .state)) (w .rows .heads) (w .rows .frames)
   unfinished-is q =
       collect-active (w .state) (length (w .rows .pool)) (w .rows .heads) (w .rows .frames) (length (w .rows .setups)) rd view k p r
-      (accepted s h w sound x k) e roomy q
+      (let-in s w sound) e roomy q
 
   abbrev unlinked : Gathered
   unlinked =
@@ -93,15 +89,11 @@ module _ (s : Settings) (h : History) (w : World) (sound : Sound s w) (x : Chain
   unfolding unlinkOf waitingOf
   finished-is n =
       collect-unlinks (w .state) (length (w .rows .pool)) (w .rows .heads) (w .rows .frames) (length (w .rows .setups)) rd view k p r
-      (accepted s h w sound x k) e roomy n
+      (let-in s w sound) e roomy n
       ∙ rw (no-detach-fails s h w sound x k p r e)
 
   comes-as : (g : Gathered) → gathers ≡ g → core w call ≡ carriedOut (withSetups (collectCame g) (w .rows .setups)) (w .rows .pool)
   comes-as g q = collect-comes ∙ ap (λ (z : Gathered). carriedOut (withSetups (collectCame z) (w .rows .setups)) (w .rows .pool)) q
-
-  quiet : Applied
-  quiet =
-      carriedOut (withSetups (collectCame (gathered (pendingCollect (w .state)) (w .rows .heads) (w .rows .frames))) (w .rows .setups)) (w .rows .pool)
 
   unfinished-event : view .stage ≡ 2 → event s (turnOf (w .rows) call (core w call)) ≡ Other
   unfolding replied
@@ -109,36 +101,11 @@ module _ (s : Settings) (h : History) (w : World) (sound : Sound s w) (x : Chain
       ap (λ (z : Applied). event s (turnOf (w .rows) call z)) (comes-as (gathered (pendingCollect (w .state)) (w .rows .heads) (w .rows .frames)) (unfinished-is q))
       ∙ none-leaves s k (rd .frame) (w .rows) _ refl refl
 
-  collect-unlinked : (view .stage ≡ 2 → ⊥) → Unlinked w call (core w call)
-  unfolding replied
-  collect-unlinked n =
-      let is = comes-as unlinked (finished-is n) in
-      record {
-        k = k;
-        p = p;
-        r = r;
-        asked = r;
-        readings = rd;
-        linked = e;
-        same-request = inl refl;
-        cancels = inl refl;
-        uncrowded = roomy;
-        found = no-detach-fails s h w sound x k p r e;
-        state-is = ap (λ (z : Applied). z .reply .state) is;
-        rows-are = ap rowsOf is ∙ rows-kept w call (unlinked .rows .heads) (unlinked .rows .frames) (w .rows .setups);
-        writes-are = ap (λ (z : Applied). z .reply .writes) is;
-        leaves = pending-leaves (core w call .reply .answer) (ap (λ (z : Applied). z .reply .answer) is);
-        same = refl;
-      }
-    where
-      pending-leaves : (a : Answered) → a ≡ Pending
-          → cond (isCollected a) (Collects k (r .id) (rd .frame)) (leaving (w .state .settings) k (rd .frame) (turnOf (w .rows) call (core w call)))
-          ≡ leaving (w .state .settings) k (rd .frame) (turnOf (w .rows) call (core w call))
-      pending-leaves a q = rw q
-
   finished-event : (view .stage ≡ 2 → ⊥) → event s (turnOf (w .rows) call (core w call)) ≡ cond (isInterrupt (p .kind)) (Parts k (rd .frame)) (Unlinks k)
   unfolding collect-unlinked
-  finished-event n = unlink-event s h w call (core w call) sound x (collect-unlinked n)
+  finished-event n =
+      ap (λ (z : Applied). event s (turnOf (w .rows) call z)) (comes-as unlinked (finished-is n))
+      ∙ unlink-event s h w call _ sound x (collect-unlinked w k (r .id) rd p r e roomy (no-detach-fails s h w sound x k p r e))
 
   pub collect-waits : core w call .reply .answer ≡ Pending
   unfolding replied

@@ -6,7 +6,7 @@ use mathlib.Core.List.{List, [], _∷_, map}
 use native.Mathlib.Decide.{ℕ-discrete as decEq}
 use native.Mathlib.Nat.{suc-mul}
 use native.Mathlib.Omega.{arith}
-use borrow.Author.Tests.{eq-eqb, le-leb, lt-ltb, ne-eqb}
+use borrow.Author.Tests.{eq-eqb, le-leb, lt-ltb, ne-eqb, eqb-true}
 use lib.Dec.{eqb}
 use lib.ListN.{getD, length, take}
 use Rattle.token.specs.EhciQtd.{totalBytes}
@@ -45,6 +45,7 @@ use Rattle.promises.proofs.invariants.MarkInv.{Marked, markIn, marked-k
 use Rattle.promises.proofs.theorems.RoomPromises.{held}
 use Rattle.promises.proofs.theorems.BoundaryCalls.{Found, collect-found}
 use Rattle.promises.proofs.theorems.BoundaryCancels.{isMarked, marks-reached}
+use Rattle.promises.proofs.theorems.CoverBytes.{by-stage}
 
 -- ---- the tokens
 
@@ -96,24 +97,7 @@ module _ (len limit : ℕ) (rs : List QueueTransferDescriptor) where
 
   control-moved : (ps : List ℕ) → length ps ≡ ifEmpty (eqb len 0) 2 3 → Says ps
   unfolding lengthOf seenFrom requestedAt
-  control-moved ps n = by (decEq len 0) ps n
-    where
-      two : len ≡ 0 → (ps : List ℕ) → length ps ≡ 2 → Says ps
-      two z [] n = absurd (omega (arith, n))
-      two z (a ∷ []) n = absurd (omega (arith, n))
-      two z (a ∷ b ∷ []) n = omega (arith, z)
-      two z (a ∷ b ∷ c ∷ ps) n = absurd (omega (arith, n))
-
-      three : (ps : List ℕ) → length ps ≡ 3 → Says ps
-      three [] n = absurd (omega (arith, n))
-      three (a ∷ []) n = absurd (omega (arith, n))
-      three (a ∷ b ∷ []) n = absurd (omega (arith, n))
-      three (a ∷ b ∷ c ∷ []) n = omega arith
-      three (a ∷ b ∷ c ∷ d ∷ ps) n = absurd (omega (arith, n))
-
-      by : Dec (len ≡ 0) → (ps : List ℕ) → length ps ≡ ifEmpty (eqb len 0) 2 3 → Says ps
-      by (yes z) ps n = two z ps (n ∙ rw (eq-eqb len 0 z))
-      by (no ne) ps n = three ps (n ∙ rw (ne-eqb len 0 ne))
+  control-moved ps n = by-stage (λ b qs. eqb len 0 ≡ b → Says qs) (λ a b e. omega (arith, eqb-true len 0 e)) (λ a b c e. omega arith) (eqb len 0) ps n refl
 
   all-moved : (kind : EndpointType) (ps : List ℕ) → length ps ≡ needOf kind len limit
       → lengthOf (seenFrom kind len limit 0 ps rs) ≡ moved (pieceOf kind len limit) len (tokensOf (dataOf kind (map (λ p. getD rs p blank) ps)))

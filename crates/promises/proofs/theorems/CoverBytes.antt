@@ -110,6 +110,19 @@ chunks-run t base k (p ∷ ps) bare l e all =
     ∙ up-joins (t .address + k * t .limit) c (t .address + suc k * t .limit) r (λ ne. omega (arith, ne, suc-mul k (t .limit)))
     ∙ ap (upFrom (t .address + k * t .limit)) y
 
+-- the places of a control request's stages: two without data, three with
+pub by-stage : (P : Bool → List ℕ → Type 0) → ((p q : ℕ) → P true (p ∷ q ∷ [])) → ((p q r : ℕ) → P false (p ∷ q ∷ r ∷ []))
+    → (b : Bool) (ps : List ℕ) → length ps ≡ ifEmpty b 2 3 → P b ps
+by-stage P two three true [] n = absurd (omega (arith, n))
+by-stage P two three true (p ∷ []) n = absurd (omega (arith, n))
+by-stage P two three true (p ∷ q ∷ []) n = two p q
+by-stage P two three true (p ∷ q ∷ r ∷ ps) n = absurd (omega (arith, n))
+by-stage P two three false [] n = absurd (omega (arith, n))
+by-stage P two three false (p ∷ []) n = absurd (omega (arith, n))
+by-stage P two three false (p ∷ q ∷ []) n = absurd (omega (arith, n))
+by-stage P two three false (p ∷ q ∷ r ∷ []) n = three p q r
+by-stage P two three false (p ∷ q ∷ r ∷ x ∷ ps) n = absurd (omega (arith, n))
+
 -- all of them, as many as the request needs
 module _ (t : Transfer) (base : ℕ) (ps : List ℕ) (least : 1 ≤ t .limit) (most : t .limit ≤ 16384) (ends : t .length ≤ 2 ^ 32 - t .address) where
   by-chunks : ((i : ℕ) (last : Bool) → bareAt t i last ≡ chunkQtd t i last) → length ps ≡ chunkCount (t .length) (t .limit)
@@ -120,26 +133,19 @@ module _ (t : Transfer) (base : ℕ) (ps : List ℕ) (least : 1 ≤ t .limit) (m
       let z : t .length - 0 * t .limit ≡ t .length = omega arith in
       chunks-run t base 0 ps bare most ends (omega (arith, covers (t .length) (t .limit) least, ap (λ (n : ℕ). n * t .limit) x)) ∙ ap₂ upFrom y z
 
-  by-stages : t .kind ≡ Control → t .length ≤ 16384 → (qs : List ℕ) → (b : Bool) → eqb (t .length) 0 ≡ b → length qs ≡ ifEmpty b 2 3
-      → addressed (between (recordsFrom t base 0 qs)) ≡ upFrom (t .address) (t .length)
+  by-stages : t .kind ≡ Control → t .length ≤ 16384 → length ps ≡ ifEmpty (eqb (t .length) 0) 2 3 → addressed (between (recordsFrom t base 0 ps)) ≡ upFrom (t .address) (t .length)
   unfolding bareAt upFrom
-  by-stages kind short [] true e n = absurd (omega (arith, n))
-  by-stages kind short [] false e n = absurd (omega (arith, n))
-  by-stages kind short (p ∷ []) true e n = absurd (omega (arith, n))
-  by-stages kind short (p ∷ []) false e n = absurd (omega (arith, n))
-  by-stages kind short (p ∷ q ∷ []) true e n = sym (ap (upFrom (t .address)) (eqb-true (t .length) 0 e))
-  by-stages kind short (p ∷ q ∷ []) false e n = absurd (omega (arith, n))
-  by-stages kind short (p ∷ q ∷ r ∷ []) true e n = absurd (omega (arith, n))
-  by-stages kind short (p ∷ q ∷ r ∷ []) false e n =
-      append-nil (bytesOf (recordAt t 1 (r ∷ []) base)) ∙ next-aside t 1 base (r ∷ []) ∙ ap (λ (z : EndpointType). bytesOf (bareFor z t 1 false)) kind
-      ∙ stage-run t (eqb-false (t .length) 0 e) short ends
-  by-stages kind short (p ∷ q ∷ r ∷ x ∷ xs) true e n = absurd (omega (arith, n))
-  by-stages kind short (p ∷ q ∷ r ∷ x ∷ xs) false e n = absurd (omega (arith, n))
+  by-stages kind short n =
+      by-stage (λ b qs. eqb (t .length) 0 ≡ b → addressed (between (recordsFrom t base 0 qs)) ≡ upFrom (t .address) (t .length))
+      (λ p q e. sym (ap (upFrom (t .address)) (eqb-true (t .length) 0 e)))
+      (λ p q r e. append-nil (bytesOf (recordAt t 1 (r ∷ []) base)) ∙ next-aside t 1 base (r ∷ []) ∙ ap (λ (z : EndpointType). bytesOf (bareFor z t 1 false)) kind
+      ∙ stage-run t (eqb-false (t .length) 0 e) short ends)
+      (eqb (t .length) 0) ps n refl
 
   pub all-covered : (kind : EndpointType) → t .kind ≡ kind → (kind ≡ Control → t .length ≤ 16384) → length ps ≡ needOf kind (t .length) (t .limit)
       → addressed (dataOf kind (recordsFrom t base 0 ps)) ≡ upFrom (t .address) (t .length)
   unfolding needOf bareAt
-  all-covered Control e short n = by-stages e (short refl) ps (eqb (t .length) 0) refl n
+  all-covered Control e short n = by-stages e (short refl) n
   all-covered Isochronous e short n = by-chunks (λ i last. ap (λ (z : EndpointType). bareFor z t i last) e) n
   all-covered Bulk e short n = by-chunks (λ i last. ap (λ (z : EndpointType). bareFor z t i last) e) n
   all-covered Interrupt e short n = by-chunks (λ i last. ap (λ (z : EndpointType). bareFor z t i last) e) n

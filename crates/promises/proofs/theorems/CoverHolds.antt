@@ -1,7 +1,7 @@
 -- Every accepted submit leaves descriptors that address the call's own buffer.
 use Prim.Native.Nat.{ℕ, suc, _+_, _≤_, _<_}
 use mathlib.Core.Path.{_≡_, refl, sym, ap, ap₂, subst, _∙_}
-use mathlib.Core.Bool.{Bool, true, false, cond}
+use mathlib.Core.Bool.{true}
 use mathlib.Core.List.{List, [], _∷_, map}
 use native.Mathlib.Omega.{arith}
 use borrow.Author.Tests.{eq-eqb, leb-true}
@@ -26,9 +26,9 @@ use Rattle.promises.specs.Runs.{History, Machine, Rows, Turn, World, row
 use Rattle.promises.specs.Coverage.{Covered, addressed, dataOf, recordsMet}
 use Rattle.ehci.specs.declared.reply.Answered.{Answered}
 use Rattle.ehci.specs.Replies.{answeredNumber, answeredValues}
-use Rattle.promises.specs.Events.{Collects, Drains, Event, Other, Parts, Reads, Submits, Unlinks, event, firstIn, leavesFrames, leavesRing, leaving, submitsBy}
+use Rattle.promises.specs.Events.{Collects, Drains, Event, Other, Parts, Reads, Submits, Unlinks, event, firstIn, leaving, submitsBy}
 use Rattle.promises.proofs.theorems.CoverBytes.{all-covered, recordsFrom}
-use Rattle.promises.proofs.effects.Effects.{Accepts, Effect, still, hears, joins, passes, counts, opens, closes, rewrites, accepts, writes-back, marks, unlinks, collects}
+use Rattle.promises.proofs.effects.Effects.{Accepts, Effect, still, hears, joins, passes, counts, opens, closes, rewrites, accepts, writes-back, marks, unlinks, collects, leaving-by}
 use Rattle.promises.proofs.invariants.Sound.{Sound}
 use Rattle.promises.proofs.invariants.UseAccepts.{acceptedWorld, submitted-record, walked}
 
@@ -104,12 +104,7 @@ submitNumber (Parts k f) = 0
 submitNumber (Collects k id f) = 0
 
 leaving-number : (s : Settings) (k frame : ℕ) (t : Turn) → submitNumber (leaving s k frame t) ≡ 0
-leaving-number s k frame t = by (leavesRing s k t) (leavesFrames s k t)
-  where
-    by : (b c : Bool) → submitNumber (cond b (Unlinks k) (cond c (Parts k frame) Other)) ≡ 0
-    by true c = refl
-    by false true = refl
-    by false false = refl
+leaving-number s k frame t = leaving-by s k frame t (λ e. submitNumber e ≡ 0) refl refl refl
 
 -- an effect that submits is an acceptance of that request
 module _ (w : World) (c : Call) (a : Applied) (k id : ℕ) (t : TransferRequest) (submits : event (w .state .settings) (turnOf (w .rows) c a) ≡ Submits k id t) where

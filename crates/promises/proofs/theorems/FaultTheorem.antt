@@ -1,6 +1,6 @@
 -- No submit is ever given a place that the controller may still read.
 use Prim.Native.Nat.{ℕ}
-use mathlib.Core.Bool.{Bool, true, false, true≢false, false≢true, _||_}
+use mathlib.Core.Bool.{Bool, true, false, true≢false, false≢true, _||_, or-true}
 use mathlib.Core.List.{List, [], _∷_, _++_}
 use mathlib.Core.Logic.{_⊎_, inl, inr}
 use mathlib.Core.Path.{_≡_, refl, sym, ap, _∙_}
@@ -36,11 +36,7 @@ used-in place k places (u ∷ us) g e = in-append place (u .places) (placesInUse
     go : ((u .slot ≡ k) × (u .places ≡ places)) ⊎ usedBy k places us → (usedBy k places us → isIn place places ≡ true → isIn place (placesInUse us) ≡ true)
         → (isIn place (u .places) || isIn place (placesInUse us)) ≡ true
     go (inl x) rec = rw (ap (isIn place) (x .1) ∙ e)
-    go (inr x) rec = rw (rec x e) (either-true (isIn place (u .places)))
-      where
-        either-true : (b : Bool) → (b || true) ≡ true
-        either-true true = refl
-        either-true false = refl
+    go (inr x) rec = rw (rec x e) (or-true (isIn place (u .places)))
 
 held-in : (us : List Use) (b : Bell) (f : ℕ → Endpoint) (place : ℕ) (xs : List Hold) → AllHeld us b f xs → isHeld place xs ≡ true → isIn place (placesInUse us) ≡ true
 held-in us b f place [] a e = absurd (false≢true e)

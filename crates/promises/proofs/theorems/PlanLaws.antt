@@ -25,7 +25,7 @@ use Rattle.descriptor.specs.Slots.{pageSlots}
 use Rattle.pool.specs.Transfers.{bareAt, bareFor, chunkQtd, isLast, recordAt, stageAt}
 use Rattle.pool.specs.declared.transfer.Transfer.{Transfer}
 use Rattle.promises.specs.Submissions.{Fields, chunks, fieldsOf, pidBy, plan, planned, stages, statusAfter}
-use Rattle.promises.proofs.theorems.CoverBytes.{recordsFrom}
+use Rattle.promises.proofs.theorems.CoverBytes.{recordsFrom, by-stage}
 
 -- ---- one descriptor
 
@@ -139,32 +139,27 @@ module _ (t : Transfer) where
   unfolding bareAt
   stage-at kind base k rest = next-aside t k base rest ∙ ap (λ (z : EndpointType). fieldsOf (bareFor z t k (isLast rest))) kind
 
-  by-stages : t .kind ≡ Control → t .length ≤ 16384 → (base : ℕ) (ps : List ℕ) (b : Bool) → eqb (t .length) 0 ≡ b → length ps ≡ ifEmpty b 2 3
-      → map fieldsOf (recordsFrom t base 0 ps) ≡ stages (t .setup) (t .direction) (t .address) (t .length) b
-  by-stages kind short base [] true e n = absurd (omega (arith, n))
-  by-stages kind short base [] false e n = absurd (omega (arith, n))
-  by-stages kind short base (p ∷ []) true e n = absurd (omega (arith, n))
-  by-stages kind short base (p ∷ []) false e n = absurd (omega (arith, n))
-  by-stages kind short base (p ∷ q ∷ []) true e n =
+  by-stages : t .kind ≡ Control → t .length ≤ 16384 → (base : ℕ) (ps : List ℕ) → length ps ≡ ifEmpty (eqb (t .length) 0) 2 3
+      → map fieldsOf (recordsFrom t base 0 ps) ≡ stages (t .setup) (t .direction) (t .address) (t .length) (eqb (t .length) 0)
+  by-stages kind short base ps n =
+      by-stage (λ b ps. eqb (t .length) 0 ≡ b → map fieldsOf (recordsFrom t base 0 ps) ≡ stages (t .setup) (t .direction) (t .address) (t .length) b)
+      (λ p q e.
       let a = stage-at kind base 0 (q ∷ []) ∙ setup-planned in
       let b = stage-at kind base 1 [] ∙ bare-planned e in
-      λ i. a i ∷ b i ∷ []
-  by-stages kind short base (p ∷ q ∷ []) false e n = absurd (omega (arith, n))
-  by-stages kind short base (p ∷ q ∷ r ∷ []) true e n = absurd (omega (arith, n))
-  by-stages kind short base (p ∷ q ∷ r ∷ []) false e n =
+      λ i. a i ∷ b i ∷ [])
+      (λ p q r e.
       let a = stage-at kind base 0 (q ∷ r ∷ []) ∙ setup-planned in
       let b = stage-at kind base 1 (r ∷ []) ∙ data-planned e short in
       let c = stage-at kind base 2 [] ∙ status-planned e in
-      λ i. a i ∷ b i ∷ c i ∷ []
-  by-stages kind short base (p ∷ q ∷ r ∷ x ∷ xs) true e n = absurd (omega (arith, n))
-  by-stages kind short base (p ∷ q ∷ r ∷ x ∷ xs) false e n = absurd (omega (arith, n))
+      λ i. a i ∷ b i ∷ c i ∷ [])
+      (eqb (t .length) 0) ps n refl
 
 -- ---- all of them, as many as the request needs
 
 pub all-planned : (t : Transfer) (base : ℕ) (ps : List ℕ) → 1 ≤ t .limit → t .limit ≤ 16384 → (kind : EndpointType) → t .kind ≡ kind → (kind ≡ Control → t .length ≤ 16384)
     → length ps ≡ needOf kind (t .length) (t .limit) → map fieldsOf (recordsFrom t base 0 ps) ≡ plan kind (t .setup) (t .direction) (t .address) (t .length) (t .limit)
 unfolding needOf bareAt
-all-planned t base ps least most Control e short n = by-stages t e (short refl) base ps (eqb (t .length) 0) refl n
+all-planned t base ps least most Control e short n = by-stages t e (short refl) base ps n
 all-planned t base ps least most Isochronous e short n = by-chunks t base least most (λ i last. ap (λ (z : EndpointType). bareFor z t i last) e) ps n
 all-planned t base ps least most Bulk e short n = by-chunks t base least most (λ i last. ap (λ (z : EndpointType). bareFor z t i last) e) ps n
 all-planned t base ps least most Interrupt e short n = by-chunks t base least most (λ i last. ap (λ (z : EndpointType). bareFor z t i last) e) ps n

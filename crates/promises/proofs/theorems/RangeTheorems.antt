@@ -18,13 +18,12 @@ use Rattle.promises.specs.Ranges.{InRanges, RangesKept, RunsWhileHeld}
 use Rattle.promises.proofs.effects.Effects.{Idles}
 use Rattle.promises.proofs.invariants.IdleInv.{idles-keeps, idles-opens}
 use Rattle.promises.proofs.invariants.Reached.{opening-is, reached}
-use Rattle.promises.proofs.theorems.RoomLaws.{let-in}
 use Rattle.promises.proofs.theorems.RoomPromises.{held}
-use Rattle.promises.proofs.invariants.Sound.{Sound}
+use Rattle.promises.proofs.invariants.Sound.{Sound, let-in}
 use Rattle.promises.proofs.invariants.UseInv.{HeldIn, Nobody, Waits, tenantOf, tenants-apart}
 
 pub sound-ranges : (s : Settings) (h : History) (w : World) → Sound s w → InRanges s h w
-sound-ranges s h w g = record { settings-stay = g .settings-are; accepted = let-in w (subst (λ (z : Settings). Sound z w) (sym (g .settings-are)) g) }
+sound-ranges s h w g = record { settings-stay = g .settings-are; accepted = let-in s w g }
 
 -- what runs, and while it does
 abbrev pub Runs : Settings → History → World → Type 0

@@ -26,12 +26,12 @@ use Rattle.ehci.specs.Door.{applyOf}
 use Rattle.ehci.specs.Replies.{answeredNumber, answeredValues, replied, settledReply}
 use Rattle.promises.specs.Runs.{History, Opening, Turn, World, core, historyOf, turnOf, worldOf}
 use Rattle.promises.specs.Events.{Event, Drains, Reads, Unlinks, event, isDone, rings}
-use Rattle.promises.specs.Bells.{Answered as AnsweredBell, Bell, Quiet, Rung, asked, bell, counted, isUp, unlinks}
+use Rattle.promises.specs.Bells.{Answered as AnsweredBell, Bell, Quiet, Rung, asked, bell, counted, isUp}
 use Rattle.promises.specs.Registers.{Access, InterruptsAnswered, Kept, QuietBringUp, RegistersTied, RingsInTurn, StatusAcknowledged, WritesExactly, accessOf, acknowledged, eventIn, flagIn, isLeft, maskedAfter, maskedIn, pendingAfter, pendingIn, readAfter, readIn, ring, ringing, ringsBy, stepWrites, usbintr, writesFor}
 use Rattle.promises.proofs.effects.EffectOf.{effect}
 use Rattle.promises.proofs.effects.EffectDoor.{seen}
 use Rattle.promises.proofs.invariants.Reached.{opening-is}
-use Rattle.promises.proofs.invariants.Sound.{Sound}
+use Rattle.promises.proofs.invariants.Sound.{Sound, rows-fit}
 use Rattle.promises.proofs.invariants.BellInvariant.{Calm}
 use Rattle.promises.proofs.invariants.BellSteps.{StateInv}
 use Rattle.promises.proofs.invariants.BellSummary.{Summary, summary}
@@ -41,7 +41,6 @@ use Rattle.promises.proofs.invariants.TouchBringUp.{touches}
 use Rattle.promises.proofs.any_machine.RegisterLaws.{none-rings, ring-once, status-written}
 use Rattle.promises.proofs.theorems.BoundaryCore.{bells-reached, named, up-exactly}
 use Rattle.promises.proofs.theorems.RangeTheorems.{runs}
-use Rattle.promises.proofs.theorems.RoomLaws.{rows-fit}
 
 -- ---- what the state has is what the history says
 
@@ -182,7 +181,7 @@ module _ (s : Settings) (w : World) (sound : Sound s w) where
       → P (callOf (w .state) (length (w .rows .pool)) (w .rows .heads) (w .rows .frames) (w .rows .setups) (seen w c) c .decided .reply .answer)
       → P (core w c .reply .answer)
   unfolding applyOf decideOf
-  inside c P p = rw (rows-fit w (subst (λ (z : Settings). Sound z w) (sym (sound .settings-are)) sound)) p
+  inside c P p = rw (rows-fit _ w sound) p
 
   good : inRanges (w .state) ≡ true
   good = ranges-make (w .state) (sound .ranges)

@@ -6,18 +6,11 @@ use mathlib.Core.List.{List, [], _∷_, _++_}
 use native.Mathlib.Omega.{arith}
 use borrow.Author.Tests.{le-ltb, lt-ltb, ltb-false, ltb-true}
 use lib.Dec.{ltb}
-use lib.ListN.{length}
 use Rattle.settings.specs.declared.settings.Settings.{Settings}
-use Rattle.common.proofs.TestLaws.{both-makes}
-use Rattle.state.specs.Ranges.{inRanges}
-use Rattle.state.proofs.RangesLaws.{ranges-make}
 use Rattle.common.specs.Answers.{Check, Verdict, first, orElse, passed, refused, refusalNumber, settle}
 use Rattle.common.specs.declared.answer.Refusal.{Refusal}
-use Rattle.common.specs.declared.answer.Refusal.the-variants.{InvalidParameter, SlotLimitReached, InvalidEndpoint, QueueFull, NotSupported, NoMemory, Timeout, NotReady}
+use Rattle.common.specs.declared.answer.Refusal.the-variants.{NoMemory}
 use Rattle.common.proofs.CheckLaws.{let-pass}
-use Rattle.opening.specs.Opening.{rowsFit}
-use Rattle.opening.proofs.OpenLaws.{rows-make}
-use Rattle.controller.specs.Lent.{acceptsOf, lengths}
 use Rattle.controller.specs.declared.lent.Readings.{Readings}
 use Rattle.request.specs.Submit.{acceptedWith, refusedSubmit, settledSubmit, submitChecks, submitOf, submitted}
 use Rattle.request.specs.declared.judge.TransferRequest.{TransferRequest}
@@ -31,27 +24,16 @@ use Rattle.promises.specs.Rooms.{Fits, Lacks, Room, numberAt}
 use Rattle.promises.proofs.invariants.OpenedInv.{Told}
 use Rattle.promises.proofs.invariants.OpenedVerdict.{asks-told, free-is}
 use Rattle.promises.proofs.theorems.Order.{first-goes}
-use Rattle.promises.proofs.invariants.Sound.{Sound}
+use Rattle.promises.proofs.invariants.Sound.{Sound, let-in, rows-fit}
 use Rattle.promises.proofs.invariants.UseInv.{Held}
-
--- ---- the door lets every call of a sound world in
-
-module _ (w : World) (sound : Sound (w .state .settings) w) where
-  pub rows-fit : rowsFit (w .state .settings) (length (w .rows .pool)) (length (w .rows .heads)) (length (w .rows .frames)) (length (w .rows .setups)) ≡ true
-  rows-fit =
-      rows-make (w .state .settings) _ _ _ _
-      (record { pool-fits = sound .pool-fits; heads-fit = sound .heads-fit; frames-fit = sound .frames-fit; setups-fit = sound .setups-fit })
-
-  pub let-in : acceptsOf (w .state) (lengths (length (w .rows .pool)) (length (w .rows .heads)) (length (w .rows .frames)) (length (w .rows .setups))) ≡ true
-  unfolding acceptsOf
-  let-in = both-makes _ (inRanges (w .state)) rows-fit (ranges-make (w .state) (sound .ranges))
+use Rattle.promises.proofs.effects.RefusalNumbers.{refusal-some}
 
 -- ---- the number that submit's checks give
 
 submit-number : (w : World) (k : ℕ) (t : TransferRequest) (readings : Readings) → Sound (w .state .settings) w
     → numberAt core w (Submit k t readings) ≡ verdictNumber (first (submitChecks (w .state) k t))
 unfolding applyOf decideOf submitDecided submitOf settledSubmit acceptedWith refusedSubmit
-submit-number w k t readings sound = rw (rows-fit w sound, let-in w sound) (by (first (submitChecks (w .state) k t)))
+submit-number w k t readings sound = rw (rows-fit _ w sound, let-in _ w sound) (by (first (submitChecks (w .state) k t)))
   where
     by : (v : Verdict)
         → answeredNumber (submittedAnswer (settle v (λ r. submitted (refusedSubmit (w .state) r) (w .rows .heads) (w .rows .frames) (w .rows .setups))
@@ -67,17 +49,7 @@ past false r v ne e = e
 -- no check answers 0
 zero-passes : (v : Verdict) → verdictNumber v ≡ 0 → v ≡ passed
 zero-passes passed e = refl
-zero-passes (refused r) e = absurd (never r e)
-  where
-    never : (r : Refusal) → refusalNumber r ≡ 0 → ⊥
-    never InvalidParameter e = omega (arith, e)
-    never SlotLimitReached e = omega (arith, e)
-    never InvalidEndpoint e = omega (arith, e)
-    never QueueFull e = omega (arith, e)
-    never NotSupported e = omega (arith, e)
-    never NoMemory e = omega (arith, e)
-    never Timeout e = omega (arith, e)
-    never NotReady e = omega (arith, e)
+zero-passes (refused r) e = absurd (refusal-some r e)
 
 -- ---- the room is asked last
 

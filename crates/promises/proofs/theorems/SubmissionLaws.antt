@@ -2,11 +2,11 @@
 use Prim.Native.Nat.{ℕ, suc, _+_, _-_, _*_, _%_, _^_, _≤_, _<_}
 use mathlib.Core.Path.{_≡_, refl, sym, ap, subst, _∙_}
 use mathlib.Core.Logic.{_≢_}
-use mathlib.Core.Bool.{Bool, true, false, not, true≢false, false≢true}
+use mathlib.Core.Bool.{Bool, true, false, not, false≢true}
 use mathlib.Core.List.{List, [], _∷_, map}
 use native.Mathlib.Decide.{ℕ-discrete as decEq}
 use native.Mathlib.Omega.{arith}
-use borrow.Author.Tests.{eq-eqb, not-false}
+use borrow.Author.Tests.{not-false}
 use lib.ListN.{getD, length, length-set, set}
 use lib.Seq.{getD-set-other, getD-set-same}
 use Rattle.token.specs.Plans.{controlPlan}
@@ -26,7 +26,6 @@ use Rattle.pool.specs.declared.transfer.Transfer.{Transfer}
 use Rattle.pool.proofs.ChainLaws.{fill-token}
 use Rattle.settings.specs.declared.settings.Settings.{Settings}
 use Rattle.common.specs.Answers.{first, passed}
-use Rattle.common.specs.declared.answer.Refusal.{Refusal}
 use Rattle.common.specs.declared.answer.Refusal.the-variants.{InvalidParameter}
 use Rattle.common.proofs.CheckLaws.{let-pass, settled-by}
 use Rattle.common.specs.Kinds.{isControl, isInterrupt}
@@ -53,8 +52,7 @@ use Rattle.collection.proofs.CollectLaws.{ended-words}
 use Rattle.collection.proofs.Splits.{collect-split, unlink-split}
 use Rattle.ehci.specs.declared.call.Call.{Call}
 use Rattle.ehci.specs.declared.call.Call.the-variants.{Collect, Submit, Writeback}
-use Rattle.ehci.specs.declared.reply.Answered.the-variants.{Refused}
-use Rattle.ehci.specs.Decides.{came, collectCame, collectDecided, withSetups, writebackDecided, writtenReply}
+use Rattle.ehci.specs.Decides.{collectCame, collectDecided, withSetups, writebackDecided, writtenReply}
 use Rattle.ehci.specs.Door.{Applied, carriedOut}
 use Rattle.ehci.specs.Replies.{answeredNumber, replied}
 use Rattle.promises.specs.Runs.{History, Rows, World, core, historyOf, rowsOf, worldOf}
@@ -66,8 +64,8 @@ use Rattle.promises.specs.Coverage.{bytesOf, recordsMet}
 use Rattle.promises.specs.Submissions.{Asks, CollectsEnded, Stays, Submitted, SubmitsPlanned, SubmittedStays, fieldsOf, packetAt, planFor, wordAt}
 use Rattle.promises.proofs.effects.Effects.{Accepts, Effect, still, hears, joins, passes, counts, opens, closes, rewrites, accepts, writes-back, marks, unlinks, collects}
 use Rattle.promises.proofs.effects.EffectOf.{effect}
-use Rattle.promises.proofs.effects.EffectDoor.{seen}
-use Rattle.promises.proofs.effects.RefusalNumbers.{uncollected, undone}
+use Rattle.promises.proofs.effects.EffectDoor.{seen, through, carried}
+use Rattle.promises.proofs.effects.RefusalNumbers.{uncollected, refusal-some}
 use Rattle.promises.proofs.invariants.Sound.{Sound}
 use Rattle.promises.proofs.invariants.UseInv.{Held, every-map, tenantAt, vacant-avoids}
 use Rattle.promises.proofs.invariants.UseAccepts.{acceptedWorld, need-least, submit-starts, vacant, walked}
@@ -76,7 +74,7 @@ use Rattle.promises.proofs.theorems.CoverBytes.{recordsFrom, run-of}
 use Rattle.promises.proofs.theorems.CoverHolds.{accepted-by, control-short, records-are, zero-accepts}
 use Rattle.promises.proofs.theorems.PlanLaws.{all-planned}
 use Rattle.promises.proofs.theorems.RoomPromises.{held}
-use Rattle.promises.proofs.theorems.BoundaryCalls.{by-door, collect-found}
+use Rattle.promises.proofs.theorems.BoundaryCalls.{collect-found}
 
 -- ---- the overlay
 
@@ -278,9 +276,6 @@ module _ (w : World) (h : History) (sound : Sound (w .state .settings) w) (kept 
 
 -- ---- an accepted writeback
 
-refusal-some : (r : Refusal) → answeredNumber (Refused r) ≡ 0 → ⊥
-refusal-some r e = true≢false (sym (eq-eqb (answeredNumber (Refused r)) 0 e) ∙ undone r)
-
 module _ (w : World) (sound : Sound (w .state .settings) w) (p token : ℕ) where
   abbrev TokenPut : Applied → Type 0
   TokenPut a = answeredNumber (a .reply .answer) ≡ 0 → getD (a .pool) p blank ≡ withToken (getD (w .rows .pool) p blank) token
@@ -291,9 +286,9 @@ module _ (w : World) (sound : Sound (w .state .settings) w) (p token : ℕ) wher
   token-put : TokenPut (core w (Writeback p token))
   unfolding writebackDecided writebackOf refusedWriteback
   token-put =
-      by-door w (Writeback p token) TokenPut (λ e. absurd (refusal-some InvalidParameter e))
+      through (λ _ _. TokenPut) w (Writeback p token) (λ e. absurd (refusal-some InvalidParameter e))
       (settled-by (first (writebackChecks (w .state) lent p)) _ _
-      (λ (x : WrittenBack). TokenPut (carriedOut (came (writtenReply x) (w .rows .heads) (w .rows .frames) (w .rows .setups)) (w .rows .pool)))
+      (λ (x : WrittenBack). TokenPut (carried w (writtenReply x)))
       (λ r e q. absurd (refusal-some r q))
       (λ e q. ap (λ (l : List QueueTransferDescriptor). getD l p blank) (fill-token (w .state .settings .pool) p token (w .rows .pool))
       ∙ getD-set-same (w .rows .pool) p (withToken (getD (w .rows .pool) p blank) token) blank
@@ -317,7 +312,7 @@ module _ (w : World) (k id : ℕ) (rd : Readings) where
   ends-overlay : EndsIt (core w (Collect k id rd))
   unfolding collectDecided finishOf replied
   ends-overlay =
-      by-door w (Collect k id rd) EndsIt (λ e. absurd (false≢true e))
+      through (λ _ _. EndsIt) w (Collect k id rd) (λ e. absurd (false≢true e))
       (collect-split (w .state) (length (w .rows .pool)) (w .rows .heads) (w .rows .frames) (length (w .rows .setups)) rd k id (seen w (Collect k id rd)) Gathers
       (λ x e. absurd (false≢true (sym (uncollected x) ∙ e))) (λ e. absurd (false≢true e)) (λ q r ok e below same done. unlink-none q r) (λ q r u ok e same passed done. refl))
 

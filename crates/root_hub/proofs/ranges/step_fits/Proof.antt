@@ -1,5 +1,6 @@
 -- `root_hub::ranges::step_fits` meets its contract.
-use Rattle.root_hub.proofs.Cases.{fits-gone, fits-reset, fits-release, fits-again, fits-owner}
+use Rattle.root_hub.proofs.Cases.{fits-is}
+use Rattle.root_hub.specs.declared.scan.Awaited.the-variants.{Gone, Reset, Release, Again, Owner}
 use borrow.Author.Needs.{needs}
 use Rattle.root_hub.proofs.ranges.step_fits.Statement.{statement}
 use Rattle.root_hub.proofs.ranges.step_fits.Tie as tie
@@ -26,19 +27,19 @@ returns : tie.Need-returns
 returns c = search needs
 
 returns-2 : tie.Need-returns-2
-returns-2 c = search fits-gone
+returns-2 c = search (fits-is Gone)
 
 returns-3 : tie.Need-returns-3
-returns-3 c = search fits-reset
+returns-3 c = search (fits-is Reset)
 
 returns-4 : tie.Need-returns-4
-returns-4 c = search fits-release
+returns-4 c = search (fits-is Release)
 
 returns-5 : tie.Need-returns-5
-returns-5 c = search fits-again
+returns-5 c = search (fits-is Again)
 
 returns-6 : tie.Need-returns-6
-returns-6 c = search fits-owner
+returns-6 c = search (fits-is Owner)
 
 pub step-fits-spec : {M : Type 1} → statement M
 step-fits-spec =

@@ -1,5 +1,6 @@
 -- `root_hub::scan::turn` meets its contract.
-use Rattle.root_hub.proofs.Cases.{turn-status, turn-gone, turn-reset, turn-release, turn-again, turn-owner}
+use Rattle.root_hub.proofs.Cases.{turn-again, turn-is, turn-status}
+use Rattle.root_hub.specs.declared.scan.Awaited.the-variants.{Gone, Reset, Release, Owner}
 use borrow.Author.Needs.{needs}
 use Rattle.root_hub.proofs.scan.turn.Statement.{statement}
 use Rattle.root_hub.proofs.scan.turn.Tie as tie
@@ -56,19 +57,19 @@ returns : tie.Need-returns
 returns c = search turn-status
 
 returns-2 : tie.Need-returns-2
-returns-2 c = search turn-gone
+returns-2 c = search (turn-is Gone)
 
 returns-3 : tie.Need-returns-3
-returns-3 c = search turn-reset
+returns-3 c = search (turn-is Reset)
 
 returns-4 : tie.Need-returns-4
-returns-4 c = search turn-release
+returns-4 c = search (turn-is Release)
 
 returns-5 : tie.Need-returns-5
 returns-5 c = search turn-again
 
 returns-6 : tie.Need-returns-6
-returns-6 c = search turn-owner
+returns-6 c = search (turn-is Owner)
 
 pub turn-spec : {M : Type 1} → statement M
 turn-spec =

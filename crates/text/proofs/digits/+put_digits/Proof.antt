@@ -26,54 +26,22 @@ abbrev put-digits-below : ℕ → In 1 put-digits-kinds.ps
 put-digits-below t =
     and 1 put-digits-kinds.ps (falls 1 put-digits-kinds.ps _<_ μ-put-digits t) put-digits.Pre
 
-put-digits-returns : (t : ℕ) → put-digits-lts.Need-returns (
-  decimal-digit-reads.Asked,
-  decimal-digit-reads.Learnt,
-  put-reads.Asked,
-  put-reads.Learnt,
-  put-digits-below t,
-  put-digits.Post,
-) (put-digits-at t) put-digits.Post
+abbrev claims : ℕ → put-digits-lts.Claims
+claims t = (decimal-digit-reads.Asked, decimal-digit-reads.Learnt, put-reads.Asked, put-reads.Learnt, put-digits-below t, put-digits.Post)
+
+put-digits-returns : (t : ℕ) → put-digits-lts.Need-returns (claims t) (put-digits-at t) put-digits.Post
 put-digits-returns t c = let a = c .before .before .args in digits-none (a .out .now) (a .at) (a .most) (a .n) (c .if1 .taken)
 
-put-digits-decimal-digit-requires : (t : ℕ) → put-digits-lts.Need-decimal-digit-requires (
-  decimal-digit-reads.Asked,
-  decimal-digit-reads.Learnt,
-  put-reads.Asked,
-  put-reads.Learnt,
-  put-digits-below t,
-  put-digits.Post,
-) (put-digits-at t) put-digits.Post
+put-digits-decimal-digit-requires : (t : ℕ) → put-digits-lts.Need-decimal-digit-requires (claims t) (put-digits-at t) put-digits.Post
 put-digits-decimal-digit-requires t c κs = search needs
 
-put-digits-put-requires : (t : ℕ) → put-digits-lts.Need-put-requires (
-  decimal-digit-reads.Asked,
-  decimal-digit-reads.Learnt,
-  put-reads.Asked,
-  put-reads.Learnt,
-  put-digits-below t,
-  put-digits.Post,
-) (put-digits-at t) put-digits.Post
+put-digits-put-requires : (t : ℕ) → put-digits-lts.Need-put-requires (claims t) (put-digits-at t) put-digits.Post
 put-digits-put-requires t c κs = omega (arith, c .before .before .before .if1 .left)
 
-put-digits-same-length : (t : ℕ) → put-digits-lts.Need-same-length (
-  decimal-digit-reads.Asked,
-  decimal-digit-reads.Learnt,
-  put-reads.Asked,
-  put-reads.Learnt,
-  put-digits-below t,
-  put-digits.Post,
-) (put-digits-at t) put-digits.Post
+put-digits-same-length : (t : ℕ) → put-digits-lts.Need-same-length (claims t) (put-digits-at t) put-digits.Post
 put-digits-same-length t c = c .before .before .put .kept .0
 
-put-digits-returns-2 : (t : ℕ) → put-digits-lts.Need-returns-2 (
-  decimal-digit-reads.Asked,
-  decimal-digit-reads.Learnt,
-  put-reads.Asked,
-  put-reads.Learnt,
-  put-digits-below t,
-  put-digits.Post,
-) (put-digits-at t) put-digits.Post
+put-digits-returns-2 : (t : ℕ) → put-digits-lts.Need-returns-2 (claims t) (put-digits-at t) put-digits.Post
 put-digits-returns-2 t c =
     let a = c .before .before .before .before .before .before .before .before .args in
     let p = c .before .before .put in
@@ -81,66 +49,24 @@ put-digits-returns-2 t c =
     digits-low (a .out .now) (p .last .0) (a .at) (a .most) (a .n) (d .result) (p .result) (c .before .before .before .before .before .before .if1 .left) (omega arith) (d .ensures)
     (p .ensures .0) (p .ensures .1)
 
-put-digits-sub-put-digits : (t : ℕ) → put-digits-lts.Need-sub-put-digits (
-  decimal-digit-reads.Asked,
-  decimal-digit-reads.Learnt,
-  put-reads.Asked,
-  put-reads.Learnt,
-  put-digits-below t,
-  put-digits.Post,
-) (put-digits-at t) put-digits.Post
+put-digits-sub-put-digits : (t : ℕ) → put-digits-lts.Need-sub-put-digits (claims t) (put-digits-at t) put-digits.Post
 put-digits-sub-put-digits t c = omega (arith, c .before .before .if1 .left)
 
-put-digits-put-digits-requires : (t : ℕ) → put-digits-lts.Need-put-digits-requires (
-  decimal-digit-reads.Asked,
-  decimal-digit-reads.Learnt,
-  put-reads.Asked,
-  put-reads.Learnt,
-  put-digits-below t,
-  put-digits.Post,
-) (put-digits-at t) put-digits.Post
+put-digits-put-digits-requires : (t : ℕ) → put-digits-lts.Need-put-digits-requires (claims t) (put-digits-at t) put-digits.Post
 put-digits-put-digits-requires t c κs = (omega (arith, c .before .before .before .before .pre .0, c .before .before .if1 .left), omega (arith, c .before .before .before .before .pre .1, c .before .before .if1 .left))
 
-put-digits-decimal-digit-requires-2 : (t : ℕ) → put-digits-lts.Need-decimal-digit-requires-2 (
-  decimal-digit-reads.Asked,
-  decimal-digit-reads.Learnt,
-  put-reads.Asked,
-  put-reads.Learnt,
-  put-digits-below t,
-  put-digits.Post,
-) (put-digits-at t) put-digits.Post
+put-digits-decimal-digit-requires-2 : (t : ℕ) → put-digits-lts.Need-decimal-digit-requires-2 (claims t) (put-digits-at t) put-digits.Post
 put-digits-decimal-digit-requires-2 t c κs = omega arith
 
-put-digits-put-requires-2 : (t : ℕ) → put-digits-lts.Need-put-requires-2 (
-  decimal-digit-reads.Asked,
-  decimal-digit-reads.Learnt,
-  put-reads.Asked,
-  put-reads.Learnt,
-  put-digits-below t,
-  put-digits.Post,
-) (put-digits-at t) put-digits.Post
+put-digits-put-requires-2 : (t : ℕ) → put-digits-lts.Need-put-requires-2 (claims t) (put-digits-at t) put-digits.Post
 put-digits-put-requires-2 t c κs =
     let a = c .before .before .before .before .before .before .before .before .before .args in
     omega (arith, decimal-most (a .most - 1) (a .n / 10), c .before .before .before .before .put-digits .ensures .1, c .before .before .before .before .put-digits .kept .0, c .before .before .before .before .before .before .before .before .before .pre .1, c .before .before .before .before .before .before .before .if1 .left)
 
-put-digits-same-length-2 : (t : ℕ) → put-digits-lts.Need-same-length-2 (
-  decimal-digit-reads.Asked,
-  decimal-digit-reads.Learnt,
-  put-reads.Asked,
-  put-reads.Learnt,
-  put-digits-below t,
-  put-digits.Post,
-) (put-digits-at t) put-digits.Post
+put-digits-same-length-2 : (t : ℕ) → put-digits-lts.Need-same-length-2 (claims t) (put-digits-at t) put-digits.Post
 put-digits-same-length-2 t c = c .before .before .put2 .kept .0 ∙ c .before .before .before .before .before .before .before .put-digits .kept .0
 
-put-digits-returns-3 : (t : ℕ) → put-digits-lts.Need-returns-3 (
-  decimal-digit-reads.Asked,
-  decimal-digit-reads.Learnt,
-  put-reads.Asked,
-  put-reads.Learnt,
-  put-digits-below t,
-  put-digits.Post,
-) (put-digits-at t) put-digits.Post
+put-digits-returns-3 : (t : ℕ) → put-digits-lts.Need-returns-3 (claims t) (put-digits-at t) put-digits.Post
 put-digits-returns-3 t c =
     let a = c .before .before .before .before .before .before .before .before .before .before .before .before .args in
     let p = c .before .before .before .before .before .before .before .put-digits in
@@ -150,14 +76,7 @@ put-digits-returns-3 t c =
     (c .before .before .before .before .before .before .before .before .before .before .if1 .left) (omega arith) (p .ensures .0) (p .ensures .1) (d .ensures) (q .ensures .0) (q .ensures .1)
 
 pub +put-digits-spec : {M : Type 1} → statement M
-+put-digits-spec = close μ-put-digits λ t. put-digits-lts.spec (
-  decimal-digit-reads.Asked,
-  decimal-digit-reads.Learnt,
-  put-reads.Asked,
-  put-reads.Learnt,
-  put-digits-below t,
-  put-digits.Post,
-)
++put-digits-spec = close μ-put-digits λ t. put-digits-lts.spec (claims t)
     (put-digits-at t)
     put-digits.Post
     (put-digits-returns t)
