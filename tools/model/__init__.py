@@ -18,6 +18,7 @@ A module a subject, each of them using only those above it:
     root_hub     the root ports: scan, port power
     records      a log's records
     calls        any call by its number
+    words        the state in words: what it stands for, its ranges, any call on it
     blocks       a log's blocks: what the calls did, as lines
     sheets       job sheets and their listings
 

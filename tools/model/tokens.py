@@ -56,10 +56,10 @@ def chunk_plan(direction, address, length, limit):
 
 
 def data_bytes(kind, length, limit):
-    """How many bytes of the buffer each descriptor of a request is asked to move."""
+    """How many bytes of the buffer each descriptor of a request is asked to move, in order."""
     if kind == CONTROL:
-        return [0, length, 0] if length > 0 else [0, 0]
-    return chunks(length, limit)
+        return iter([0, length, 0] if length > 0 else [0, 0])
+    return (min(limit, length - at) for at in range(0, max(1, length), limit))
 
 
 def descriptors_needed(kind, length, limit):

@@ -41,7 +41,7 @@ idle-holds : (e : Slot) → e .phase ≡ 1 → heldIn (e .phase) ≡ holdsReques
 unfolding decoded
 idle-holds e q = rw q
 
-held-is : (s : Ehci) (k : ℕ) → k < 32 → heldIn (getD (s .phases) k 0) ≡ isUncollected s k
+pub held-is : (s : Ehci) (k : ℕ) → k < 32 → heldIn (getD (s .phases) k 0) ≡ isUncollected s k
 unfolding endpointAt slotAt
 held-is s k h = rw (lt-ltb k 32 h) (by (decEq (slotAt s k .phase) 1))
   where
@@ -49,7 +49,7 @@ held-is s k h = rw (lt-ltb k 32 h) (by (decEq (slotAt s k .phase) 1))
     by (yes q) = idle-holds (slotAt s k) q
     by (no n) = decoded-holds (slotAt s k) _ _ n refl refl
 
-either-false : (a : Bool) → (a || false) ≡ a
+pub either-false : (a : Bool) → (a || false) ≡ a
 either-false true = refl
 either-false false = refl
 

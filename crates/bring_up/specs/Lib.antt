@@ -1,2 +1,3 @@
 pub mod BringUp
 pub mod Runs
+pub mod Words

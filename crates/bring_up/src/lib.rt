@@ -2,5 +2,6 @@
 pub mod answers;
 pub mod busy;
 pub mod calls;
+pub mod in_words;
 pub mod stage;
 pub mod wait;

@@ -8,15 +8,15 @@ use lib.ListN.{getD, length, length-append, length-take, take}
 use Rattle.common.specs.Rows.{putAt}
 use Rattle.pool.specs.Chains.{blank}
 use Rattle.register.specs.declared.writes.Writes.{Writes}
-use Rattle.state.specs.declared.state.Ehci.{Ehci}
 use Rattle.register.specs.Writes.{listOf}
 use Rattle.text.specs.Text.{onlyIf}
 use Rattle.text.proofs.LineLaws.{lines-most, only-most}
 use Rattle.text.proofs.Puts.{put-then}
 use Rattle.text.proofs.TextLaws.{decimal-length, hex-length}
-use Rattle.call_log.specs.Block.{blockOf, restLines, rowsLines}
+use Rattle.call_log.specs.Block.{rowsLines}
 use Rattle.call_log.specs.Changes.{frameChange, frameLines, headChange, headLines, portChange, portLines, recordChange, recordLines, setupChange, setupLines, writeAt, writeLines}
-use Rattle.call_log.specs.Lines.{lineBytes, lineOf, partsBytes, shownLine, stateLine, writeLine}
+use Rattle.call_log.specs.Lines.{lineBytes, lineOf, partsBytes, shownLine, writeLine}
+use Rattle.call_log.specs.Words.{blockShown, restShown}
 use Rattle.call_log.specs.declared.block.Rows.{Rows}
 use Rattle.call_log.specs.declared.line.Line.{Line}
 use Rattle.call_log.specs.declared.lines.Seen.{Seen}
@@ -71,12 +71,12 @@ pub writes-most : (w : Writes) → length (w .writes) ≡ 6 → length (writeLin
 writes-most w h =
     omega (arith, lines-most (λ i. writeLine (writeAt w i .offset) (writeAt w i .value)) 14 (λ i. write-most _ _) (length (listOf w)), length-take (w .count) (w .writes))
 
-pub block-fits : (first : List ℕ) (opening : Bool) (b a : Rows) (opened : Bool) (s : Ehci) (w : Writes) → length first ≤ 296 → length (a .heads) ≤ 561
-    → length (a .frames) ≤ 1024 → length (a .ports) ≤ 15 → length (w .writes) ≡ 6 → length (blockOf first opening b a opened s w) + 296 ≤ 131072
-unfolding blockOf restLines
-block-fits first opening b a opened s w f h g p c =
-    let q : length (onlyIf opened (stateLine s)) ≤ 174 = only-most opened (stateLine s) 174 (shown-most _) in
-    simp length-append (omega (arith, rows-most b a h g, ports-most opening (s .settings .ports) (b .ports) (a .ports) p, writes-most w c))
+pub block-fits : (first : List ℕ) (opening : Bool) (b a : Rows) (opened : Bool) (ports : ℕ) (x : Seen) (w : Writes) → length first ≤ 296 → length (a .heads) ≤ 561
+    → length (a .frames) ≤ 1024 → length (a .ports) ≤ 15 → length (w .writes) ≡ 6 → length (blockShown first opening b a opened ports x w) + 296 ≤ 131072
+unfolding blockShown restShown
+block-fits first opening b a opened ports x w f h g p c =
+    let q : length (onlyIf opened (shownLine x)) ≤ 174 = only-most opened (shownLine x) 174 (shown-most _) in
+    simp length-append (omega (arith, rows-most b a h g, ports-most opening ports (b .ports) (a .ports) p, writes-most w c))
 
 -- ---- put one after the other
 
@@ -98,34 +98,34 @@ rows-put o p q s t at i j k r b a h e l f m g n d x =
     let flat : ((R ++ H) ++ F) ++ S ≡ R ++ (H ++ (F ++ S)) = simp append-assoc in
     rw (← flat) four
 
-pub rest-put : (o p q t : List ℕ) (at i j r : ℕ) (opened : Bool) (s : Ehci) (w : Writes) → at ≤ length o
-    → p ≡ putAt o at (onlyIf opened (stateLine s)) → i ≡ at + length (onlyIf opened (stateLine s))
+pub rest-put : (o p q t : List ℕ) (at i j r : ℕ) (opened : Bool) (x : Seen) (w : Writes) → at ≤ length o
+    → p ≡ putAt o at (onlyIf opened (shownLine x)) → i ≡ at + length (onlyIf opened (shownLine x))
     → q ≡ putAt p i (writeLines w) → j ≡ i + length (writeLines w)
     → t ≡ putAt q j (46 ∷ 10 ∷ []) → r ≡ j + 2
-    → (t ≡ putAt o at (restLines opened s w)) × (r ≡ at + length (restLines opened s w))
-unfolding restLines
-rest-put o p q t at i j r opened s w h e l f m g n =
-    let Q = onlyIf opened (stateLine s) in
+    → (t ≡ putAt o at (restShown opened x w)) × (r ≡ at + length (restShown opened x w))
+unfolding restShown
+rest-put o p q t at i j r opened x w h e l f m g n =
+    let Q = onlyIf opened (shownLine x) in
     let two = put-then o p q Q (writeLines w) at i j h e l f m in
     let three = put-then o q t (Q ++ writeLines w) (46 ∷ 10 ∷ []) at j r h (two .0) (two .1) g n in
     rw (← append-assoc Q (writeLines w) (46 ∷ 10 ∷ [])) three
 
-pub state-most : (opened : Bool) (s : Ehci) → length (onlyIf opened (stateLine s)) ≤ 174
-state-most opened s = only-most opened (stateLine s) 174 (shown-most _)
+pub state-most : (opened : Bool) (x : Seen) → length (onlyIf opened (shownLine x)) ≤ 174
+state-most opened x = only-most opened (shownLine x) 174 (shown-most _)
 
-pub block-put : (o p q u t first : List ℕ) (i j k r : ℕ) (opening : Bool) (b a : Rows) (opened : Bool) (s : Ehci) (w : Writes)
+pub block-put : (o p q u t first : List ℕ) (i j k r : ℕ) (opening : Bool) (b a : Rows) (opened : Bool) (ports : ℕ) (x : Seen) (w : Writes)
     → p ≡ putAt o 0 first → i ≡ length first
     → q ≡ putAt p i (rowsLines b a) → j ≡ i + length (rowsLines b a)
-    → u ≡ putAt q j (portLines opening (s .settings .ports) (b .ports) (a .ports)) → k ≡ j + length (portLines opening (s .settings .ports) (b .ports) (a .ports))
-    → t ≡ putAt u k (restLines opened s w) → r ≡ k + length (restLines opened s w)
-    → (t ≡ putAt o 0 (blockOf first opening b a opened s w)) × (r ≡ length (blockOf first opening b a opened s w))
-unfolding blockOf
-block-put o p q u t first i j k r opening b a opened s w e l f m g n d x =
+    → u ≡ putAt q j (portLines opening ports (b .ports) (a .ports)) → k ≡ j + length (portLines opening ports (b .ports) (a .ports))
+    → t ≡ putAt u k (restShown opened x w) → r ≡ k + length (restShown opened x w)
+    → (t ≡ putAt o 0 (blockShown first opening b a opened ports x w)) × (r ≡ length (blockShown first opening b a opened ports x w))
+unfolding blockShown
+block-put o p q u t first i j k r opening b a opened ports x w e l f m g n d y =
     let R = rowsLines b a in
-    let U = portLines opening (s .settings .ports) (b .ports) (a .ports) in
-    let T = restLines opened s w in
+    let U = portLines opening ports (b .ports) (a .ports) in
+    let T = restShown opened x w in
     let two = put-then o p q first R 0 i j (omega arith) e (omega arith) f m in
     let three = put-then o q u (first ++ R) U 0 j k (omega arith) (two .0) (two .1) g n in
-    let four = put-then o u t ((first ++ R) ++ U) T 0 k r (omega arith) (three .0) (three .1) d x in
+    let four = put-then o u t ((first ++ R) ++ U) T 0 k r (omega arith) (three .0) (three .1) d y in
     let flat : ((first ++ R) ++ U) ++ T ≡ first ++ (R ++ (U ++ T)) = simp append-assoc in
     rw (← flat) (four .0, omega (arith, four .1))

@@ -7,4 +7,5 @@ pub mod ChangeCases
 pub mod Known
 pub mod BlockLaws
 pub mod RowsKnown
+pub mod WordsLaws
 pub mod Same

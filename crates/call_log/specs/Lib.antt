@@ -4,3 +4,4 @@ pub mod Changes
 pub mod Block
 pub mod Fields
 pub mod Records
+pub mod Words

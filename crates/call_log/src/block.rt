@@ -1,13 +1,16 @@
 // A block: what a call did, as lines.
 ghost use mathlib.Core.Path.{_≡_};
-ghost use mathlib.Core.List.{[], _∷_};
-ghost use Prim.Native.Nat.{_+_, _≤_};
+ghost use mathlib.Core.Bool.{true};
+ghost use mathlib.Core.List.{List, [], _∷_};
+ghost use Prim.Native.Nat.{ℕ, _+_, _≤_};
 ghost use lib.ListN.{length};
 ghost use Rattle.common.specs.Rows.{putAt};
-ghost use Rattle.call_log.specs.Block.{blockOf, restLines, rowsLines};
+ghost use Rattle.call_log.specs.Block.{blockOf, rowsLines};
+ghost use Rattle.call_log.specs.Words.{Shows, restShown, shownIn};
 ghost use Rattle.call_log.specs.Changes.{frameLines, headLines, portLines, setupLines};
 ghost use Rattle.text.specs.Text.{onlyIf};
-ghost use Rattle.call_log.specs.Lines.{lineBytes, stateLine};
+ghost use Rattle.call_log.specs.Lines.{lineBytes, shownLine};
+ghost use Rattle.words.specs.View.{view};
 use crate::frames::put_frames;
 use crate::line::Line;
 use crate::line::put_line;
@@ -19,8 +22,8 @@ use crate::setups::put_setups;
 use crate::writes::put_writes;
 use descriptor::qtd::QueueTransferDescriptor;
 use register::writes::Writes;
-use state::state::Ehci;
 use text::digits::put;
+use words::core::Core;
 
 // The rows and the ports' states, before a call or after it.
 pub struct Rows {
@@ -90,13 +93,13 @@ fn put_port_rows(
 }
 
 // The controller's line, once one is opened.
-fn put_state(out: &mut [u8], at: usize, opened: bool, s: Ehci) -> usize
+fn put_state(out: &mut [u8], at: usize, opened: bool, core: Core) -> usize
     requires { ⌜ at + 296 ≤ length (now out) ⌝ }
-    ensures { λ r. ⌜ now (out .exit) ≡ putAt (now (out .entry)) at (onlyIf opened (stateLine s)) ⌝ }
-    ensures { λ r. ⌜ r ≡ at + length (onlyIf opened (stateLine s)) ⌝ }
+    ensures { λ r. ⌜ now (out .exit) ≡ putAt (now (out .entry)) at (onlyIf opened (shownLine (shownIn core))) ⌝ }
+    ensures { λ r. ⌜ r ≡ at + length (onlyIf opened (shownLine (shownIn core))) ⌝ }
 {
     if opened {
-        let line = state_line(s);
+        let line = state_line(core);
         return put_line(out, at, line);
     }
     at
@@ -113,17 +116,17 @@ fn put_end(out: &mut [u8], at: usize) -> usize
 }
 
 // The lines after the rows.
-fn put_rest(out: &mut [u8], at: usize, opened: bool, s: Ehci, writes: Writes) -> usize
+fn put_rest(out: &mut [u8], at: usize, opened: bool, core: Core, writes: Writes) -> usize
     requires { ⌜ at + 850 ≤ length (now out) ⌝ }
-    ensures { λ r. ⌜ now (out .exit) ≡ putAt (now (out .entry)) at (restLines opened s writes) ⌝ }
-    ensures { λ r. ⌜ r ≡ at + length (restLines opened s writes) ⌝ }
+    ensures { λ r. ⌜ now (out .exit) ≡ putAt (now (out .entry)) at (restShown opened (shownIn core) writes) ⌝ }
+    ensures { λ r. ⌜ r ≡ at + length (restShown opened (shownIn core) writes) ⌝ }
 {
-    let first = put_state(out, at, opened, s);
+    let first = put_state(out, at, opened, core);
     let last = put_writes(out, first, writes);
     put_end(out, last)
 }
 
-// A whole block: its first line is made by the caller.
+// A whole block: its first line is made by the caller. The row of slots is what the free places are told by, so none is shown.
 pub fn put_block(
     out: &mut [u8],
     first: Line,
@@ -131,18 +134,27 @@ pub fn put_block(
     before: Rows,
     after: Rows,
     opened: bool,
-    s: Ehci,
+    core: Core,
     writes: Writes,
 ) -> usize
     requires { ⌜ 131072 ≤ length (now out) ⌝ }
-    ensures { λ r. ⌜ now (out .exit) ≡ putAt (now (out .entry)) 0 (blockOf (lineBytes first) opening before after opened s writes) ⌝ }
-    ensures { λ r. ⌜ r ≡ length (blockOf (lineBytes first) opening before after opened s writes) ⌝ }
+    ensures { λ r. ⌜ ((ws : List ℕ) → (opened ≡ true → Shows core ws)
+        → now (out .exit) ≡ putAt (now (out .entry)) 0 (blockOf (lineBytes first) opening before after opened (view core ws) writes)) ⌝ }
+    ensures { λ r. ⌜ ((ws : List ℕ) → (opened ≡ true → Shows core ws)
+        → r ≡ length (blockOf (lineBytes first) opening before after opened (view core ws) writes)) ⌝ }
     ensures { λ r. ⌜ r ≤ length (now (out .exit)) ⌝ }
 {
     let rows = put_line(out, 0, first);
     let ports = put_rows(out, rows, before, after);
     let old_ports = before.ports;
     let new_ports = after.ports;
-    let rest = put_port_rows(out, ports, opening, s.settings.ports, old_ports, new_ports);
-    put_rest(out, rest, opened, s, writes)
+    let rest = put_port_rows(
+        out,
+        ports,
+        opening,
+        core.settings.ports,
+        old_ports,
+        new_ports,
+    );
+    put_rest(out, rest, opened, core, writes)
 }

@@ -10,16 +10,15 @@ ghost use Rattle.call_log.specs.Lines.{
   saidLine,
   setupLine,
   shownLine,
-  shownOf,
-  stateLine,
   writeLine,
 };
+ghost use Rattle.call_log.specs.Words.{shownIn};
 use crate::line::Cell;
 use crate::line::Line;
 use crate::line::Part;
-use controller::readers::free_count;
+use controller::in_words::readers::free_count;
 use descriptor::qtd::QueueTransferDescriptor;
-use state::state::Ehci;
+use words::core::Core;
 
 pub fn line_of_two(letter: u8, a: Part, b: Part) -> Line
     ensures { λ r. ⌜ lineBytes r ≡ saidLine letter (a ∷ b ∷ []) ⌝ }
@@ -189,24 +188,24 @@ pub struct Seen {
     pub unanswered: u8,
     pub pending: u32,
     pub masked: u32,
-    pub free: u16,
+    pub free: u64,
     pub address: u8,
 }
 
-fn shown(s: Ehci) -> Seen
-    ensures { λ r. ⌜ r ≡ shownOf s ⌝ }
+fn shown(core: Core) -> Seen
+    ensures { λ r. ⌜ r ≡ shownIn core ⌝ }
 {
-    let free = free_count(s);
+    let free = free_count(core);
     Seen {
-        running: s.running,
-        flag: s.enabled,
-        doorbell: s.doorbell,
-        note: s.noted,
-        unanswered: s.unanswered,
-        pending: s.pending,
-        masked: s.masked,
+        running: core.rest.running,
+        flag: core.rest.enabled,
+        doorbell: core.rest.doorbell,
+        note: core.rest.noted,
+        unanswered: core.rest.unanswered,
+        pending: core.rest.pending,
+        masked: core.rest.masked,
         free,
-        address: s.address,
+        address: core.rest.address,
     }
 }
 
@@ -236,7 +235,7 @@ fn shown_line(x: Seen) -> Line
         part: Part::Word(x.masked),
     };
     cells[7] = Cell {
-        part: Part::Decimal(x.free as u64),
+        part: Part::Decimal(x.free),
     };
     cells[8] = Cell {
         part: Part::Decimal(x.address as u64),
@@ -248,8 +247,8 @@ fn shown_line(x: Seen) -> Line
     }
 }
 
-pub fn state_line(s: Ehci) -> Line
-    ensures { λ l. ⌜ lineBytes l ≡ stateLine s ⌝ }
+pub fn state_line(core: Core) -> Line
+    ensures { λ l. ⌜ lineBytes l ≡ shownLine (shownIn core) ⌝ }
 {
-    shown_line(shown(s))
+    shown_line(shown(core))
 }

@@ -12,3 +12,7 @@ pub mod CollectLaws
 pub mod CallLaws
 pub mod MoveLaws
 pub mod Examples
+pub mod WordsSlots
+pub mod WordsAsk
+pub mod WordsCases
+pub mod WordsCalls

@@ -3,3 +3,4 @@ pub mod Unlinks
 pub mod Asks
 pub mod Calls
 pub mod Examples
+pub mod Words

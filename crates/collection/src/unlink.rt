@@ -49,7 +49,7 @@ fn asked(bell: Bell, command: u32) -> Bounded
     Bounded { boundary, rung }
 }
 
-fn boundary_now(bell: Bell, kind: EndpointType, readings: Readings) -> Bounded
+pub fn boundary_now(bell: Bell, kind: EndpointType, readings: Readings) -> Bounded
     requires { ⌜ bell .unanswered < 32 ⌝ }
     ensures { λ r. ⌜ r ≡ boundedOf bell kind readings ⌝ }
 {

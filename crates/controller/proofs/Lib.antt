@@ -5,3 +5,6 @@ pub mod AddressCases
 pub mod AddressLaws
 pub mod FreeLaws
 pub mod Same
+pub mod WordsLent
+pub mod WordsLaws
+pub mod WordsCases

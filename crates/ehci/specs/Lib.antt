@@ -2,3 +2,6 @@ pub mod Replies
 pub mod Decides
 pub mod Door
 pub mod Refusals
+pub mod WordsDoor
+pub mod WordsDecides
+pub mod WordsRefusals

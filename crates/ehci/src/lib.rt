@@ -2,4 +2,5 @@
 pub mod call;
 pub mod decide;
 pub mod door;
+pub mod in_words;
 pub mod reply;

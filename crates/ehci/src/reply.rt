@@ -209,7 +209,7 @@ pub fn of_settled(x: Settled) -> Decided
     leave(state, simple(answer), writes)
 }
 
-fn brought_answer(answer: Answer, read: NextRead, wait: u32) -> Answered
+pub fn brought_answer(answer: Answer, read: NextRead, wait: u32) -> Answered
     ensures { λ r. ⌜ r ≡ broughtAnswer answer read wait ⌝ }
 {
     match answer {

@@ -2,6 +2,9 @@ pub mod LowestCases
 pub mod LowestLaws
 pub mod SlotLaws
 pub mod Cases
+pub mod WordsCases
+pub mod WordsOpen
+pub mod WordsChange
 pub mod OpenLaws
 pub mod ChangeLaws
 pub mod Examples

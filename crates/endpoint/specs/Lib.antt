@@ -1,3 +1,4 @@
 pub mod Lowest
 pub mod Calls
 pub mod Examples
+pub mod Words

@@ -47,7 +47,7 @@ pub struct Change {
     pub state: Ehci,
 }
 
-fn fields_good(address: u8, number: u8, packet: u16) -> bool
+pub fn fields_good(address: u8, number: u8, packet: u16) -> bool
     ensures { λ r. ⌜ r ≡ fieldsGood address number packet ⌝ }
 {
     (address <= 127) & (number <= 15) & ((1 <= packet) & (packet <= 1024))

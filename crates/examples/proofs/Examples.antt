@@ -32,7 +32,8 @@ use Rattle.schedule.specs.Bell.{advancedOf, fallenFrom, fallenOne, ringOf, ring
 use Rattle.schedule.specs.Links.{attachedRing, detachOf, precedesOne, predecessorOf, searchFrom, startedOverlay}
 use Rattle.endpoint.specs.Lowest.{closedFrom}
 use Rattle.endpoint.specs.Calls.{fieldsGood, openChecks, openEndpointOf}
-use Rattle.request.specs.Submit.{acceptedWith, afterId, bufferGood, linkedRows, rangesGood, refusedSubmit, settledSubmit, setupsWith, stateWith, submitOf, takenFor, takenOf as takenPlaces}
+use Rattle.request.specs.Submit.{acceptedWith, bufferGood, linkedRows, rangesGood, refusedSubmit, settledSubmit, setupsWith, stateWith, submitOf, takenFor, takenOf as takenPlaces}
+use Rattle.slot.specs.Ids.{afterId}
 use Rattle.collection.specs.Unlinks.{boundedOf, unlinkOf, waitingOf}
 use Rattle.collection.specs.Calls.{cancelOf, collectOf, finishOf, unlinkingOf}
 use Rattle.collection.specs.Answers.{outcomeOf}

@@ -1,1 +1,2 @@
 pub mod Interrupts
+pub mod Words

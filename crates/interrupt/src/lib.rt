@@ -3,3 +3,4 @@ pub mod acknowledge;
 pub mod answers;
 pub mod calls;
 pub mod drain;
+pub mod in_words;

@@ -14,8 +14,10 @@ use Rattle.ehci.specs.declared.call.Call.{Call}
 use Rattle.ehci.specs.declared.call.Call.the-variants.{BringUpStep, OpenEndpoint, StartBringUp, Submit}
 use Rattle.ehci.specs.Replies.{answeredNumber}
 use Rattle.store.specs.declared.store.Called.{Called}
-use Rattle.store.specs.declared.store.OpenedStore.{OpenedStore}
-use Rattle.store.specs.declared.store.Store.{Store}
+use Rattle.store.specs.declared.store.Store as code-store
+use Rattle.store.specs.Plain as plain
+use Rattle.store.specs.Plain.{OpenedStore, Store}
+use Rattle.store.specs.Words.{Tended, Tends, calledView, storeView}
 use Rattle.settings.specs.declared.settings.Settings.{Settings}
 use Rattle.store.specs.Stores.{blankStore, callStore, openStore}
 use Rattle.job_sheet.specs.declared.record.EndpointRecord.{EndpointRecord}
@@ -23,11 +25,14 @@ use Rattle.job_sheet.specs.declared.record.RequestRecord.{RequestRecord}
 use Rattle.job_sheet.specs.declared.sheet.Job.{Job}
 use Rattle.job_sheet.specs.Outcomes.{slotOf}
 use Rattle.job_sheet.specs.Sheets.{jobOf, noEndpoint, noRequest}
-use Rattle.job_run.specs.declared.run.Ran.{Ran}
-use Rattle.job_run.specs.Runs.{afterCall, afterCalls, idTold, kindFor, openCall, openStep, openedTo, runOf, runningStore, sheetSettings, slotTold, submitCall, submitStep, submittedTo}
+use Rattle.job_run.specs.declared.run.Ran as code-ran
+use Rattle.job_run.specs.Plain.{Ran}
+use Rattle.job_run.specs.Words.{ranView}
+use Rattle.job_run.specs.Runs.{afterCall, afterCalls, idTold, kindFor, openCall, openStep, openedTo, opening, runOf, runningStore, sheetSettings, slotTold, submitCall, submitStep, submitting, submittedTo}
 
-pub after-is : (c : Called) (w : Store) (call : Call) → c ≡ callStore w call → c .store ≡ afterCall w call
-after-is c w call e = ap (λ (x : Called). x .store) e
+pub after-is : (c : Called) (w : code-store.Store) (call : Call) → (calledView c ≡ callStore (storeView w) call) × Tends w (c .store)
+    → (storeView (c .store) ≡ afterCall (storeView w) call) × Tended (c .store)
+after-is c w call e = (ap (λ (x : plain.Called). x .store) (e .0), e .1 .tended)
 
 pub kind-there : (job : Job) (place : ℕ) (e : EndpointRecord) (k : EndpointType) → place < job .opens → e ≡ getD (jobOf job .endpoints) place noEndpoint
     → k ≡ kindOf (e .kind) → k ≡ kindFor job place
@@ -46,17 +51,31 @@ pub submit-call-is : (job : Job) (slots : List ℕ) (t : RequestRecord) (slot : 
 unfolding submitCall
 submit-call-is job slots t slot k d es ek ed = rw (es, ek, ed)
 
-pub open-step-is : (ran : Ran) (k : ℕ) (e : EndpointRecord) (call : Call) (c : Called) (n slot : ℕ) → call ≡ openCall e → c ≡ callStore (ran .store) call
-    → n ≡ answeredNumber (c .answer) → slot ≡ slotTold (c .answer)
-    → record { store = c .store; opened = set (ran .opened) k n; slots = set (ran .slots) k slot; submitted = ran .submitted; ids = ran .ids } ≡ openStep ran k e
-unfolding openStep
-open-step-is ran k e call c n slot el ec en es = rw (en, es, ec, el)
+module _ (ran : code-ran.Ran) (k : ℕ) (call : Call) (c : Called) (n : ℕ) (ec : (calledView c ≡ callStore (storeView (ran .store)) call) × Tends (ran .store) (c .store))
+    (en : n ≡ answeredNumber (c .answer)) where
+  module _ (e : EndpointRecord) (slot : ℕ) (el : call ≡ openCall e) (es : slot ≡ slotTold (c .answer)) where
+    abbrev opened-one : code-ran.Ran
+    opened-one = record { store = c .store; opened = set (ran .opened) k n; slots = set (ran .slots) k slot; submitted = ran .submitted; ids = ran .ids }
 
-pub submit-step-is : (ran : Ran) (job : Job) (k : ℕ) (t : RequestRecord) (call : Call) (c : Called) (n id : ℕ) → call ≡ submitCall job (ran .slots) t
-    → c ≡ callStore (ran .store) call → n ≡ answeredNumber (c .answer) → id ≡ idTold (c .answer)
-    → record { store = c .store; opened = ran .opened; slots = ran .slots; submitted = set (ran .submitted) k n; ids = set (ran .ids) k id } ≡ submitStep ran job k t
-unfolding submitStep
-submit-step-is ran job k t call c n id el ec en ei = rw (en, ei, ec, el)
+    open-told : ranView opened-one ≡ opening (ranView ran) k (calledView c)
+    open-told = rw (en, es)
+
+    pub open-step-is : (ranView opened-one ≡ openStep (ranView ran) k e) × Tended (c .store)
+    unfolding openStep
+    open-step-is =
+        (open-told ∙ ap (opening (ranView ran) k) (ec .0 ∙ ap (callStore (storeView (ran .store))) el), ec .1 .tended)
+
+  module _ (job : Job) (t : RequestRecord) (id : ℕ) (el : call ≡ submitCall job (ran .slots) t) (ei : id ≡ idTold (c .answer)) where
+    abbrev submitted-one : code-ran.Ran
+    submitted-one = record { store = c .store; opened = ran .opened; slots = ran .slots; submitted = set (ran .submitted) k n; ids = set (ran .ids) k id }
+
+    submit-told : ranView submitted-one ≡ submitting (ranView ran) k (calledView c)
+    submit-told = rw (en, ei)
+
+    pub submit-step-is : (ranView submitted-one ≡ submitStep (ranView ran) job k t) × Tended (c .store)
+    unfolding submitStep
+    submit-step-is =
+        (submit-told ∙ ap (submitting (ranView ran) k) (ec .0 ∙ ap (callStore (storeView (ran .store))) el), ec .1 .tended)
 
 -- ---- one turn more
 

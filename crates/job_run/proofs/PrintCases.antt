@@ -16,9 +16,16 @@ use Rattle.job_sheet.specs.Outcomes.{listingOf}
 use Rattle.job_sheet.specs.Reading.{badSheet, jobIn, packed, sheetFits, sheetOf, sizesFit}
 use Rattle.job_sheet.proofs.ReadCases.{sizes-fit}
 use Rattle.common.proofs.TestLaws.{both-tells}
-use Rattle.job_run.specs.declared.run.Ran.{Ran}
+use Rattle.store.specs.Words.{storeView}
+use Rattle.job_run.specs.declared.run.Ran as code
+use Rattle.job_run.specs.Plain.{Ran}
+use Rattle.job_run.specs.Words.{ranView}
 use Rattle.job_run.specs.Prints.{RoomEnough, longestSheet, outcomeOf, printSheet, printedOf}
 use Rattle.job_run.specs.Runs.{runOf}
+
+pub outcome-is : (ran : code.Ran) (owner : List ℕ) → owner ≡ storeView (ran .store) .state .owner
+    → record { opened = ran .opened; slots = ran .slots; submitted = ran .submitted; ids = ran .ids; owner = owner; pool = ran .store .pool } ≡ outcomeOf (ranView ran)
+outcome-is ran owner e = rw e
 
 bad-prints : (s : Sheet) → s .good ≡ false → badLine ≡ printSheet s
 bad-prints s e = rw e

@@ -9,7 +9,7 @@ use Rattle.job_sheet.specs.declared.sheet.Sheet.{Sheet}
 use Rattle.job_sheet.specs.Listing.{badLine}
 use Rattle.job_sheet.specs.Outcomes.{listingOf}
 use Rattle.job_sheet.specs.Reading.{sheetOf}
-use Rattle.job_run.specs.declared.run.Ran.{Ran}
+use Rattle.job_run.specs.Plain.{Ran}
 use Rattle.job_run.specs.Runs.{runOf}
 
 -- the answers, and the pool at the end with the owner of each place

@@ -15,15 +15,14 @@ use Rattle.ehci.specs.declared.reply.Answered.the-variants.{Done, Pending, Canc
 use Rattle.ehci.specs.declared.reply.Given.{Given}
 use Rattle.ehci.specs.declared.reply.Given.the-variants as G
 use Rattle.ehci.specs.Replies.{answeredNumber}
-use Rattle.store.specs.declared.store.Called.{Called}
-use Rattle.store.specs.declared.store.Store.{Store}
+use Rattle.store.specs.Plain.{Called, Store}
 use Rattle.store.specs.Stores.{blankStore, callStore, openStore}
 use Rattle.job_sheet.specs.declared.record.EndpointRecord.{EndpointRecord}
 use Rattle.job_sheet.specs.declared.record.RequestRecord.{RequestRecord}
 use Rattle.job_sheet.specs.declared.sheet.Job.{Job}
 use Rattle.job_sheet.specs.Outcomes.{slotOf}
 use Rattle.job_sheet.specs.Sheets.{jobOf, noEndpoint, noRequest}
-use Rattle.job_run.specs.declared.run.Ran.{Ran}
+use Rattle.job_run.specs.Plain.{Ran}
 
 -- ---- the controller
 

@@ -1,6 +1,7 @@
 // The controller that a sheet's job is run on: opened in a store of its own, and brought up through its steps.
 ghost use mathlib.Core.Path.{_≡_};
 ghost use Rattle.job_run.specs.Runs.{sheetSettings, afterCall, runningStore};
+ghost use Rattle.store.specs.Words.{Tended, storeView};
 use ehci::call::Call;
 use settings::settings::Settings;
 use store::store::Store;
@@ -25,7 +26,9 @@ fn sheet_settings() -> Settings
 }
 
 fn after_call(store: Store, call: Call) -> Store
-    ensures { λ r. ⌜ r ≡ afterCall store call ⌝ }
+    requires { ⌜ Tended store ⌝ }
+    ensures { λ r. ⌜ storeView r ≡ afterCall (storeView store) call ⌝ }
+    ensures { λ r. ⌜ Tended r ⌝ }
 {
     let called = call_on(store, call);
     called.store
@@ -33,7 +36,8 @@ fn after_call(store: Store, call: Call) -> Store
 
 // The six readings: USBCMD; USBSTS halted; USBCMD; USBCMD, reset over; USBCMD; USBSTS, not halted.
 pub fn running_store() -> Store
-    ensures { λ r. ⌜ r ≡ runningStore ⌝ }
+    ensures { λ r. ⌜ storeView r ≡ runningStore ⌝ }
+    ensures { λ r. ⌜ Tended r ⌝ }
 {
     let opened = open_in(blank_store(), sheet_settings());
     let fresh = opened.store;

@@ -4,24 +4,25 @@ ghost use Prim.Native.Nat.{_+_, _*_, _≤_, _<_};
 ghost use lib.ListN.{length, take};
 ghost use Rattle.common.specs.Rows.{putAt};
 ghost use Rattle.job_run.specs.Prints.{outcomeOf, printedOf, longestSheet};
+ghost use Rattle.job_run.specs.Words.{ranView};
 use crate::run::Ran;
 use crate::run::run;
 use job_sheet::listing::put_bad;
 use job_sheet::outcome::Outcome;
 use job_sheet::outcome::put_listing;
 use job_sheet::sheet::read_sheet;
+use store::owners::owners;
 
 // What the listing shows of a run: the pool at its end, and whose each place is.
 fn outcome_of(ran: Ran) -> Outcome
-    ensures { λ r. ⌜ r ≡ outcomeOf ran ⌝ }
+    ensures { λ r. ⌜ r ≡ outcomeOf (ranView ran) ⌝ }
 {
     let store = ran.store;
-    let state = store.state;
     let opened = ran.opened;
     let slots = ran.slots;
     let submitted = ran.submitted;
     let ids = ran.ids;
-    let owner = state.owner;
+    let owner = owners(store);
     let pool = store.pool;
     Outcome {
         opened,

@@ -15,6 +15,8 @@ ghost use Rattle.job_run.specs.Runs.{
   submittedTo,
   runOf,
 };
+ghost use Rattle.job_run.specs.Words.{ranView};
+ghost use Rattle.store.specs.Words.{Tended};
 use crate::controller_of::running_store;
 use common::kinds::EndpointType;
 use controller::lent::Readings;
@@ -115,7 +117,9 @@ fn open_call(e: EndpointRecord) -> Call
 
 fn open_step(mut ran: Ran, k: usize, e: EndpointRecord) -> Ran
     requires { ⌜ k < 8 ⌝ }
-    ensures { λ r. ⌜ r ≡ openStep ran k e ⌝ }
+    requires { ⌜ Tended (ran .store) ⌝ }
+    ensures { λ r. ⌜ ranView r ≡ openStep (ranView ran) k e ⌝ }
+    ensures { λ r. ⌜ Tended (r .store) ⌝ }
 {
     let before = ran.store;
     let called = call_on(before, open_call(e));
@@ -129,7 +133,9 @@ fn open_step(mut ran: Ran, k: usize, e: EndpointRecord) -> Ran
 
 fn open_all(start: Ran, job: Job) -> Ran
     requires { ⌜ job .opens ≤ 8 ⌝ }
-    ensures { λ r. ⌜ r ≡ openedTo (job .opens) start job ⌝ }
+    requires { ⌜ Tended (start .store) ⌝ }
+    ensures { λ r. ⌜ ranView r ≡ openedTo (job .opens) (ranView start) job ⌝ }
+    ensures { λ r. ⌜ Tended (r .store) ⌝ }
 {
     let mut ran = start;
     let mut k: usize = 0;
@@ -182,7 +188,9 @@ fn submit_call(job: Job, slots: [u8; 8], t: RequestRecord) -> Call
 
 fn submit_step(mut ran: Ran, job: Job, k: usize, t: RequestRecord) -> Ran
     requires { ⌜ (k < 64) × (job .opens ≤ 8) ⌝ }
-    ensures { λ r. ⌜ r ≡ submitStep ran job k t ⌝ }
+    requires { ⌜ Tended (ran .store) ⌝ }
+    ensures { λ r. ⌜ ranView r ≡ submitStep (ranView ran) job k t ⌝ }
+    ensures { λ r. ⌜ Tended (r .store) ⌝ }
 {
     let before = ran.store;
     let slots = ran.slots;
@@ -197,7 +205,9 @@ fn submit_step(mut ran: Ran, job: Job, k: usize, t: RequestRecord) -> Ran
 
 fn submit_all(start: Ran, job: Job) -> Ran
     requires { ⌜ (job .opens ≤ 8) × (job .submits ≤ 64) ⌝ }
-    ensures { λ r. ⌜ r ≡ submittedTo (job .submits) start job ⌝ }
+    requires { ⌜ Tended (start .store) ⌝ }
+    ensures { λ r. ⌜ ranView r ≡ submittedTo (job .submits) (ranView start) job ⌝ }
+    ensures { λ r. ⌜ Tended (r .store) ⌝ }
 {
     let mut ran = start;
     let mut k: usize = 0;
@@ -211,7 +221,7 @@ fn submit_all(start: Ran, job: Job) -> Ran
 
 pub fn run(job: Job) -> Ran
     requires { ⌜ (job .opens ≤ 8) × (job .submits ≤ 64) ⌝ }
-    ensures { λ r. ⌜ r ≡ runOf job ⌝ }
+    ensures { λ r. ⌜ ranView r ≡ runOf job ⌝ }
 {
     let start = Ran {
         store: running_store(),

@@ -3,3 +3,7 @@ pub mod OpenCases
 pub mod OpenLaws
 pub mod OpenPool
 pub mod Same
+pub mod WordsCases
+pub mod WordsLaws
+pub mod WordsGood
+pub mod WordsSame

@@ -1,3 +1,4 @@
 pub mod Heads
 pub mod Hub
 pub mod Opening
+pub mod Words

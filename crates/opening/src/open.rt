@@ -92,7 +92,7 @@ fn refuse(refusal: Refusal) -> Opening
 }
 
 // The ring head, linked to itself; every other head zero.
-fn open_heads(heads: &mut [u32], area: u64)
+pub fn open_heads(heads: &mut [u32], area: u64)
     requires { ⌜ area < 2 ^ 32 ⌝ }
     requires { ⌜ 17 ≤ length (now heads) ⌝ }
     ensures { λ _. ⌜ now (heads .exit) ≡ openedHeads area (length (now (heads .entry))) ⌝ }
@@ -134,7 +134,7 @@ pub fn decide_open(
     }
 }
 
-fn row_length(count: usize) -> u64
+pub fn row_length(count: usize) -> u64
     ensures { λ r. ⌜ r ≡ count ⌝ }
 {
     count as u64

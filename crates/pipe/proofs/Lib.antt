@@ -1,2 +1,6 @@
 pub mod EndpointCases
 pub mod EndpointLaws
+pub mod WordsLaws
+pub mod WordsFits
+pub mod WordsTells
+pub mod WordsKnown

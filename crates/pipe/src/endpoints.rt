@@ -129,7 +129,7 @@ fn boundary_of(e: Slot) -> UnlinkBoundary
     }
 }
 
-fn decode(e: Slot) -> Endpoint
+pub fn decode(e: Slot) -> Endpoint
     ensures { λ r. ⌜ r ≡ decoded e ⌝ }
 {
     let phase = e.phase;
@@ -197,7 +197,7 @@ fn bare_slot(phase: u8, kind: u8, id: u64) -> Slot
     }
 }
 
-fn encode(e: Endpoint) -> Slot
+pub fn encode(e: Endpoint) -> Slot
     ensures { λ r. ⌜ r ≡ encoded e ⌝ }
 {
     match e {

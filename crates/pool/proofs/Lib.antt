@@ -11,7 +11,13 @@ pub mod Examples
 pub mod ChainLaws
 pub mod GoodLaws
 pub mod RecordCases
+pub mod WordCases
+pub mod WordTurns
+pub mod FoldTurns
+pub mod WordLaws
+pub mod WordExamples
 pub mod Element
 pub mod Again
 pub mod Calls
 pub mod Uses
+pub mod Lends

@@ -78,7 +78,7 @@ erring-set w h = go (eqb w 0) refl
 moved-step : (a x z : ℕ) → (a + (x + 0)) + z ≡ a + (x + z)
 moved-step a x z = omega arith
 
-join-step : (u : View) (s : Seen) (ss : List Seen) → joined (joined u (viewOf (s ∷ []))) (viewOf ss) ≡ joined u (viewOf (s ∷ ss))
+pub join-step : (u : View) (s : Seen) (ss : List Seen) → joined (joined u (viewOf (s ∷ []))) (viewOf ss) ≡ joined u (viewOf (s ∷ ss))
 unfolding viewOf standingOf firstError lengthOf
 join-step u s ss = λ i. record {
   stage = stage-step (u .stage) (standingOf ss) (isActive (s .token)) (isErring (s .token)) i;
@@ -96,7 +96,7 @@ or-none a = go (eqb a 0) refl
 add-none : (a : ℕ) → a ≡ a + 0
 add-none a = omega arith
 
-join-none : (u : View) → u ≡ joined u (viewOf [])
+pub join-none : (u : View) → u ≡ joined u (viewOf [])
 unfolding viewOf standingOf firstError lengthOf
 join-none u = λ i. record { stage = or-none (u .stage) i; failed = or-none (u .failed) i; moved = add-none (u .moved) i }
 

@@ -3,3 +3,4 @@ pub mod Places
 pub mod Transfers
 pub mod Chains
 pub mod RecordCalls
+pub mod Words

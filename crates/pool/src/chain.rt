@@ -83,7 +83,7 @@ pub const STANDS_FAILED: u8 = 1;
 pub const STANDS_ACTIVE: u8 = 2;
 
 // An active token decides before its errors do.
-fn stage_with(stage: u8, token: QtdToken) -> u8
+pub fn stage_with(stage: u8, token: QtdToken) -> u8
     ensures { λ r. ⌜ r ≡ orElse stage (numberIf (isActive (token .0)) 2 (numberIf (isErring (token .0)) 1 0)) ⌝ }
 {
     if stage != 0 {
@@ -98,7 +98,7 @@ fn stage_with(stage: u8, token: QtdToken) -> u8
     0
 }
 
-fn failed_with(failed: u32, token: QtdToken) -> u32
+pub fn failed_with(failed: u32, token: QtdToken) -> u32
     ensures { λ r. ⌜ r ≡ orElse failed (numberIf (isErring (token .0)) (token .0) 0) ⌝ }
 {
     if failed != 0 {
@@ -110,7 +110,7 @@ fn failed_with(failed: u32, token: QtdToken) -> u32
     0
 }
 
-fn moved_of(requested: u64, token: QtdToken) -> u64
+pub fn moved_of(requested: u64, token: QtdToken) -> u64
     ensures { λ r. ⌜ r ≡ requested - totalBytes (token .0) ⌝ }
 {
     let left = token.total_bytes() as u64;

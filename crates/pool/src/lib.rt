@@ -1,5 +1,10 @@
+pub mod asked;
 pub mod chain;
+pub mod laying;
+pub mod marking;
 pub mod places;
 pub mod record;
 pub mod row;
+pub mod tokens;
 pub mod transfer;
+pub mod writing;

@@ -48,7 +48,7 @@ pub fn requested(kind: EndpointType, length: u64, limit: u64, k: u64) -> u64
 }
 
 // Setup, data if there is any, status.
-fn stage_at(t: Transfer, k: u64) -> QueueTransferDescriptor
+pub fn stage_at(t: Transfer, k: u64) -> QueueTransferDescriptor
     requires { ⌜ t .length ≤ 2 ^ 32 - t .address ⌝ }
     requires { ⌜ 8 ≤ 2 ^ 32 - t .setup ⌝ }
     ensures { λ r. ⌜ r ≡ stageAt t k ⌝ }

@@ -24,4 +24,10 @@ pub mod SubmissionLaws
 pub mod PacketLaws
 pub mod TokenLaws
 pub mod CancelTheorems
+pub mod WordsCalls
+pub mod WordsRuns
+pub mod WordsKept
+pub mod WordsOnce
+pub mod WordsOpened
+pub mod WordsWrong
 pub mod Kept

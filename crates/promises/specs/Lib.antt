@@ -17,4 +17,5 @@ pub mod Faults
 pub mod Registers
 pub mod Ids
 pub mod Refusals
+pub mod WordsRuns
 pub mod Promises

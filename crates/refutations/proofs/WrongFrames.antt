@@ -35,7 +35,8 @@ use Rattle.controller.specs.declared.lent.Readings.{Readings}
 use Rattle.schedule.specs.Links.{attachedFrames, detachOf, endedOverlay, precedesOne, predecessorOf, searchFrom, startedOverlay}
 use Rattle.endpoint.specs.Lowest.{closedFrom}
 use Rattle.endpoint.specs.Calls.{fieldsGood, openChecks, openEndpointOf}
-use Rattle.request.specs.Submit.{acceptedWith, afterId, bufferGood, linkedRows, rangesGood, settledSubmit, setupsWith, stateWith, submitOf, takenFor, writesWith, takenOf as takenPlaces}
+use Rattle.request.specs.Submit.{acceptedWith, bufferGood, linkedRows, rangesGood, settledSubmit, setupsWith, stateWith, submitOf, takenFor, writesWith, takenOf as takenPlaces}
+use Rattle.slot.specs.Ids.{afterId}
 use Rattle.request.specs.declared.judge.TransferRequest.{TransferRequest}
 use Rattle.collection.specs.Unlinks.{boundedOf, unlinkOf, waitingOf}
 use Rattle.collection.specs.Calls.{cancelOf, collectOf, finishOf, freed, unlinkingOf}

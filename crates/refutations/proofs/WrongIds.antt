@@ -28,7 +28,8 @@ use Rattle.controller.specs.Lent.{acceptsOf}
 use Rattle.controller.specs.Readers.{countZero, freeCount}
 use Rattle.schedule.specs.Bell.{advancedOf, fallenFrom, fallenOne, ringOf, ringWord, unlinkedOf}
 use Rattle.schedule.specs.Links.{attachedRing, detachOf, endedOverlay, precedesOne, predecessorOf, searchFrom, startedOverlay}
-use Rattle.request.specs.Submit.{acceptedWith, afterId, bufferGood, linkedRows, rangesGood, settledSubmit, setupsWith, stateWith, submitOf, takenFor, writesWith, takenOf as takenPlaces}
+use Rattle.request.specs.Submit.{acceptedWith, bufferGood, linkedRows, rangesGood, settledSubmit, setupsWith, stateWith, submitOf, takenFor, writesWith, takenOf as takenPlaces}
+use Rattle.slot.specs.Ids.{afterId}
 use Rattle.collection.specs.Unlinks.{boundedOf, unlinkOf, waitingOf}
 use Rattle.collection.specs.Calls.{cancelOf, collectOf, finishOf, freed, unlinkingOf}
 use Rattle.collection.specs.Answers.{outcomeOf}

@@ -2,6 +2,7 @@
 // it is. A line `=` for each log to standard output, then what is said of its records up to the first bad one.
 // `tools/log_cases.py` makes the logs, and what is to be printed from document 01.
 ghost use Prim.Native.Nat.{_≤_};
+ghost use Rattle.replayer.specs.Words.{Kept};
 use replayer::keeper::Keeper;
 use replayer::keeper::fresh_keeper;
 use replayer::turn::turn;
@@ -19,7 +20,9 @@ struct Log {
     more: bool,
 }
 
-fn fresh_log() -> Log {
+fn fresh_log() -> Log
+    ensures { λ r. ⌜ Kept (r .keeper) ⌝ }
+{
     Log {
         keeper: fresh_keeper(),
         number: 0,
@@ -28,7 +31,10 @@ fn fresh_log() -> Log {
     }
 }
 
-fn ended(log: Log) -> Log {
+fn ended(log: Log) -> Log
+    requires { ⌜ Kept (log .keeper) ⌝ }
+    ensures { λ r. ⌜ Kept (r .keeper) ⌝ }
+{
     let keeper = log.keeper;
     Log {
         keeper,
@@ -55,6 +61,8 @@ fn next_bytes(n: usize) -> [u8; 64]
 // One record of a log, as `replay` does it.
 fn next_record(log: Log, n: usize) -> Log
     requires { ⌜ n ≤ 64 ⌝ }
+    requires { ⌜ Kept (log .keeper) ⌝ }
+    ensures { λ r. ⌜ Kept (r .keeper) ⌝ }
 {
     let bytes = next_bytes(n);
     if !log.going {
@@ -73,7 +81,10 @@ fn next_record(log: Log, n: usize) -> Log
     }
 }
 
-fn next(log: Log) -> Log {
+fn next(log: Log) -> Log
+    requires { ⌜ Kept (log .keeper) ⌝ }
+    ensures { λ r. ⌜ Kept (r .keeper) ⌝ }
+{
     let mut length = [0u8; 1];
     let got = io::read_full(STDIN, &mut length);
     if got == 0 {

@@ -14,7 +14,11 @@ use Rattle.common.specs.Rows.{putAt}
 use Rattle.text.specs.Text.{decimal}
 use Rattle.text.proofs.Puts.{put-then}
 use Rattle.text.proofs.TextLaws.{decimal-length}
-use Rattle.replayer.specs.Replays.{Effect, actOf, badLine, effectOf, isBad, recordEffect, rowsOf, saidOf, shownOf, turnedOf}
+use Rattle.call_log.specs.Words.{Shows}
+use Rattle.store.specs.Words.{lentSlots}
+use Rattle.words.specs.View.{view}
+use Rattle.replayer.specs.Replays.{actOf, badLine, isBad, recordEffect, rowsOf, saidOf, shownOf, turnedOf}
+use Rattle.replayer.specs.Words.{Kept, effectOf, keeperView, turnedView}
 use Rattle.replayer.specs.declared.keeper.Acted.{Acted}
 use Rattle.replayer.specs.declared.keeper.Keeper.{Keeper}
 
@@ -33,31 +37,44 @@ bad-put o p q s i r n room e f l g m =
     let three = put-then o q s (bad ++ decimal n) (10 ∷ []) 0 i r (omega arith) (two .0) (two .1) g m in
     (three .0, (omega (arith, three .1), omega (arith, m, l, decimal-length n)))
 
-pub shown-put : (k : Keeper) (a : Acted) (b f : Rows) (o p : List ℕ) (r : ℕ) → b ≡ rowsOf k → f ≡ rowsOf (a .keeper)
-    → Said o p r (blockOf (lineBytes (a .line)) (a .opening) b f (a .keeper .opened) (a .keeper .store .state) (a .writes))
-    → Said o p r (shownOf k (effectOf a))
-unfolding shownOf
-shown-put k a b f o p r e g s = rw (← e, ← g) s
+-- a block, of any row of slots that the core was opened with
+abbrev pub Shown : List ℕ → List ℕ → ℕ → Acted → Rows → Rows → Type 0
+Shown o p r a b f =
+    ((ws : List ℕ) → (a .keeper .opened ≡ true → Shows (a .keeper .store .core) ws)
+    → p ≡ putAt o 0 (blockOf (lineBytes (a .line)) (a .opening) b f (a .keeper .opened) (view (a .keeper .store .core) ws) (a .writes)))
+    × (((ws : List ℕ) → (a .keeper .opened ≡ true → Shows (a .keeper .store .core) ws)
+    → r ≡ length (blockOf (lineBytes (a .line)) (a .opening) b f (a .keeper .opened) (view (a .keeper .store .core) ws) (a .writes)))
+    × (r ≤ length p))
 
-module _ (k : Keeper) (n : ℕ) (bytes : List ℕ) (entry : Entry) (b : Bool) (o p : List ℕ) (r : ℕ) (read : entry ≡ entryOf bytes) (tells : b ≡ isBad entry) where
+pub shown-put : (k : Keeper) (a : Acted) (b f : Rows) (o p : List ℕ) (r : ℕ) → Kept (a .keeper) → b ≡ rowsOf (keeperView k) → f ≡ rowsOf (keeperView (a .keeper))
+    → Shown o p r a b f → Said o p r (shownOf (keeperView k) (effectOf a))
+unfolding shownOf
+shown-put k a b f o p r kept e g s =
+    let ws = lentSlots (a .keeper .store) in
+    let shows : a .keeper .opened ≡ true → Shows (a .keeper .store .core) ws = λ q. record { settings-good = kept .opened q .settings-good; tidy = kept .opened q .tidy } in
+    rw (← e, ← g) (s .0 ws shows, (s .1 .0 ws shows, s .1 .1))
+
+module _ (k : Keeper) (kept : Kept k) (n : ℕ) (bytes : List ℕ) (entry : Entry) (b : Bool) (o p : List ℕ) (r : ℕ) (read : entry ≡ entryOf bytes) (tells : b ≡ isBad entry) where
   pub turn-bad : b ≡ true → Said o p r (badLine n)
-      → (p ≡ putAt o 0 (saidOf k n bytes)) × ((record { keeper = k; end = r; more = false } ≡ turnedOf k n bytes) × (r ≤ length p))
+      → (p ≡ putAt o 0 (saidOf (keeperView k) n bytes))
+      × ((turnedView (record { keeper = k; end = r; more = false }) ≡ turnedOf (keeperView k) n bytes) × ((r ≤ length p) × Kept k))
   unfolding saidOf turnedOf
   turn-bad t s =
       let is : isBad (entryOf bytes) ≡ true = ap isBad (sym read) ∙ (sym tells ∙ t) in
-      rw is (s .0, (rw (s .1 .0), s .1 .1))
+      rw is (s .0, (rw (s .1 .0), (s .1 .1, kept)))
 
-  module _ (number : ℕ) (a : Acted) (first : number ≡ getD bytes 0 0) (does : effectOf a ≡ actOf k n number entry) where
-    did : effectOf a ≡ recordEffect k n bytes
+  module _ (number : ℕ) (a : Acted) (first : number ≡ getD bytes 0 0) (does : (effectOf a ≡ actOf (keeperView k) n number entry) × Kept (a .keeper)) where
+    did : effectOf a ≡ recordEffect (keeperView k) n bytes
     unfolding recordEffect
-    did = does ∙ (ap (λ (x : ℕ). actOf k n x entry) first ∙ ap (actOf k n (getD bytes 0 0)) read)
+    did = does .0 ∙ (ap (λ (x : ℕ). actOf (keeperView k) n x entry) first ∙ ap (actOf (keeperView k) n (getD bytes 0 0)) read)
 
-    pub turn-good : b ≡ false → Said o p r (shownOf k (effectOf a))
-        → (p ≡ putAt o 0 (saidOf k n bytes)) × ((record { keeper = a .keeper; end = r; more = true } ≡ turnedOf k n bytes) × (r ≤ length p))
+    pub turn-good : b ≡ false → Said o p r (shownOf (keeperView k) (effectOf a))
+        → (p ≡ putAt o 0 (saidOf (keeperView k) n bytes))
+        × ((turnedView (record { keeper = a .keeper; end = r; more = true }) ≡ turnedOf (keeperView k) n bytes) × ((r ≤ length p) × Kept (a .keeper)))
     unfolding saidOf turnedOf
     turn-good t s =
         let is : isBad (entryOf bytes) ≡ false = ap isBad (sym read) ∙ (sym tells ∙ t) in
-        rw (is, ← did) (s .0, (rw (s .1 .0), s .1 .1))
+        rw (is, ← did) (s .0, (rw (s .1 .0), (s .1 .1, does .1)))
 
 pub none-there : (bytes : List ℕ) → length bytes ≡ 0 → 0 ≡ getD bytes 0 0
 none-there [] e = refl

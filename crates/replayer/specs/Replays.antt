@@ -8,7 +8,6 @@ use Rattle.common.specs.declared.answer.Answer.the-variants as A
 use Rattle.common.specs.declared.reads.NextRead.the-variants as N
 use Rattle.call_log.specs.Block.{blockOf}
 use Rattle.call_log.specs.CallLine.{answeredLine, scanLine}
-use Rattle.call_log.specs.Lines.{lineBytes}
 use Rattle.call_log.specs.Records.{entryOf}
 use Rattle.call_log.specs.declared.block.Rows.{Rows}
 use Rattle.call_log.specs.declared.record.Entry.{Entry}
@@ -24,11 +23,8 @@ use Rattle.root_hub.specs.declared.calls.Scanned.{Scanned}
 use Rattle.root_hub.specs.declared.ports.PortEvent.the-variants as P
 use Rattle.text.specs.Text.{decimal}
 use Rattle.store.specs.Stores.{blankStore, callStore, openStore}
-use Rattle.store.specs.declared.store.Called.{Called}
-use Rattle.store.specs.declared.store.OpenedStore.{OpenedStore}
-use Rattle.replayer.specs.declared.keeper.Acted.{Acted}
-use Rattle.replayer.specs.declared.keeper.Keeper.{Keeper}
-use Rattle.replayer.specs.declared.turn.Turned.{Turned}
+use Rattle.store.specs.Plain.{Called, OpenedStore}
+use Rattle.replayer.specs.Plain.{Keeper, Turned}
 
 -- rows zero at the start, and no controller opened
 unfoldable pub freshKeeper : Keeper
@@ -50,9 +46,6 @@ pub record Effect : Type 0 where
   pub first : List ℕ
   pub opening : Bool
   pub writes : Writes
-
-abbrev pub effectOf : Acted → Effect
-effectOf a = record { keeper = a .keeper; first = lineBytes (a .line); opening = a .opening; writes = a .writes }
 
 -- a refused opening leaves the earlier controller as it was; an accepted one replaces it
 abbrev pub openedAs : Answer → Keeper → ℕ → ℕ → OpenedStore → Effect

@@ -3,7 +3,6 @@ ghost use mathlib.Core.Path.{_≡_};
 ghost use Rattle.replayer.specs.Replays.{
   actOf,
   callEffect,
-  effectOf,
   freshKeeper,
   noEffect,
   openEffect,
@@ -11,8 +10,10 @@ ghost use Rattle.replayer.specs.Replays.{
   rowsOf,
   scanEffect,
 };
+ghost use Rattle.replayer.specs.Words.{Kept, effectOf, keeperView};
 ghost use Rattle.root_hub.specs.Calls.{powerOf};
 ghost use Rattle.store.specs.Stores.{callStore, openStore};
+ghost use Rattle.store.specs.Words.{storeView};
 use call_log::block::Rows;
 use call_log::call_line::call_line;
 use call_log::call_line::scan_line;
@@ -49,7 +50,8 @@ pub struct Acted {
 }
 
 pub fn fresh_keeper() -> Keeper
-    ensures { λ r. ⌜ r ≡ freshKeeper ⌝ }
+    ensures { λ r. ⌜ keeperView r ≡ freshKeeper ⌝ }
+    ensures { λ r. ⌜ Kept r ⌝ }
 {
     Keeper {
         store: blank_store(),
@@ -59,7 +61,7 @@ pub fn fresh_keeper() -> Keeper
 }
 
 pub fn rows_of(k: Keeper) -> Rows
-    ensures { λ r. ⌜ r ≡ rowsOf k ⌝ }
+    ensures { λ r. ⌜ r ≡ rowsOf (keeperView k) ⌝ }
 {
     let store = k.store;
     let hub = k.hub;
@@ -79,7 +81,9 @@ pub fn rows_of(k: Keeper) -> Rows
 
 // A refused opening leaves the earlier controller as it was.
 fn act_open(k: Keeper, n: u64, number: u8, settings: Settings) -> Acted
-    ensures { λ r. ⌜ effectOf r ≡ openEffect k n number (openStore (k .store) settings) ⌝ }
+    requires { ⌜ Kept k ⌝ }
+    ensures { λ r. ⌜ effectOf r ≡ openEffect (keeperView k) n number (openStore (storeView (k .store)) settings) ⌝ }
+    ensures { λ r. ⌜ Kept (r .keeper) ⌝ }
 {
     let before = k.store;
     let opened = open_in(before, settings);
@@ -107,7 +111,9 @@ fn act_open(k: Keeper, n: u64, number: u8, settings: Settings) -> Acted
 }
 
 fn act_call(k: Keeper, n: u64, number: u8, call: Call) -> Acted
-    ensures { λ r. ⌜ effectOf r ≡ callEffect k n number (callStore (k .store) call) ⌝ }
+    requires { ⌜ Kept k ⌝ }
+    ensures { λ r. ⌜ effectOf r ≡ callEffect (keeperView k) n number (callStore (storeView (k .store)) call) ⌝ }
+    ensures { λ r. ⌜ Kept (r .keeper) ⌝ }
 {
     let before = k.store;
     let hub = k.hub;
@@ -129,7 +135,9 @@ fn act_call(k: Keeper, n: u64, number: u8, call: Call) -> Acted
 }
 
 fn act_scan(k: Keeper, n: u64, number: u8, scanned: Scanned) -> Acted
-    ensures { λ r. ⌜ effectOf r ≡ scanEffect k n number scanned ⌝ }
+    requires { ⌜ Kept k ⌝ }
+    ensures { λ r. ⌜ effectOf r ≡ scanEffect (keeperView k) n number scanned ⌝ }
+    ensures { λ r. ⌜ Kept (r .keeper) ⌝ }
 {
     let store = k.store;
     let hub = scanned.hub;
@@ -153,7 +161,9 @@ fn act_scan(k: Keeper, n: u64, number: u8, scanned: Scanned) -> Acted
 
 // Port power reads nothing next and has no event.
 fn act_power(k: Keeper, n: u64, number: u8, port: u8, reading: u32) -> Acted
-    ensures { λ r. ⌜ effectOf r ≡ powerEffect k n number (powerOf (k .hub) port reading) ⌝ }
+    requires { ⌜ Kept k ⌝ }
+    ensures { λ r. ⌜ effectOf r ≡ powerEffect (keeperView k) n number (powerOf (k .hub) port reading) ⌝ }
+    ensures { λ r. ⌜ Kept (r .keeper) ⌝ }
 {
     let hub = k.hub;
     let powered = root_hub::calls::port_power(hub, port, reading);
@@ -176,7 +186,9 @@ fn act_power(k: Keeper, n: u64, number: u8, port: u8, reading: u32) -> Acted
 }
 
 fn act_nothing(k: Keeper, n: u64, number: u8) -> Acted
-    ensures { λ r. ⌜ effectOf r ≡ noEffect k n number ⌝ }
+    requires { ⌜ Kept k ⌝ }
+    ensures { λ r. ⌜ effectOf r ≡ noEffect (keeperView k) n number ⌝ }
+    ensures { λ r. ⌜ Kept (r .keeper) ⌝ }
 {
     Acted {
         keeper: k,
@@ -188,7 +200,9 @@ fn act_nothing(k: Keeper, n: u64, number: u8) -> Acted
 
 // A bad record does nothing; the log ends at it.
 pub fn act(k: Keeper, n: u64, number: u8, entry: Entry) -> Acted
-    ensures { λ r. ⌜ effectOf r ≡ actOf k n number entry ⌝ }
+    requires { ⌜ Kept k ⌝ }
+    ensures { λ r. ⌜ effectOf r ≡ actOf (keeperView k) n number entry ⌝ }
+    ensures { λ r. ⌜ Kept (r .keeper) ⌝ }
 {
     let hub = k.hub;
     match entry {

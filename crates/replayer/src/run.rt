@@ -1,4 +1,5 @@
 // A log from standard input, and what each record did to standard output.
+ghost use Rattle.replayer.specs.Words.{Kept};
 use crate::keeper::Keeper;
 use crate::keeper::fresh_keeper;
 use crate::turn::turn;
@@ -8,17 +9,20 @@ const STDIN: i32 = 0;
 
 const STDOUT: i32 = 1;
 
-struct Kept {
+struct After {
     keeper: Keeper,
     more: bool,
 }
 
 // One record: read, done, and written out before the next is read.
-fn next_record(k: Keeper, n: u64) -> Kept {
+fn next_record(k: Keeper, n: u64) -> After
+    requires { ⌜ Kept k ⌝ }
+    ensures { λ r. ⌜ Kept (r .keeper) ⌝ }
+{
     let mut record = [0u8; 64];
     let got = io::read_full(STDIN, &mut record);
     if got == 0 {
-        return Kept {
+        return After {
             keeper: k,
             more: false,
         };
@@ -27,7 +31,7 @@ fn next_record(k: Keeper, n: u64) -> Kept {
     let turned = turn(&mut out, k, n, &record[..got]);
     io::write_all(STDOUT, &out[..turned.end]);
     let keeper = turned.keeper;
-    Kept {
+    After {
         keeper,
         more: turned.more,
     }
@@ -37,8 +41,8 @@ pub fn replay() {
     let mut keeper = fresh_keeper();
     let mut left: u64 = u64::MAX;
     while left > 0 {
-        let kept = next_record(keeper, u64::MAX - left);
-        keeper = kept.keeper;
-        left = after_turn(left, kept.more);
+        let after = next_record(keeper, u64::MAX - left);
+        keeper = after.keeper;
+        left = after_turn(left, after.more);
     }
 }

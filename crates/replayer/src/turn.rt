@@ -5,12 +5,12 @@ ghost use lib.ListN.{getD, length};
 ghost use Rattle.common.specs.Rows.{putAt};
 ghost use Rattle.replayer.specs.Replays.{
   badLine,
-  effectOf,
   isBad,
   saidOf,
   shownOf,
   turnedOf,
 };
+ghost use Rattle.replayer.specs.Words.{Kept, effectOf, keeperView, turnedView};
 use crate::keeper::Acted;
 use crate::keeper::Keeper;
 use crate::keeper::act;
@@ -55,8 +55,9 @@ fn put_bad(out: &mut [u8], n: u64) -> usize
 
 fn put_shown(out: &mut [u8], k: Keeper, acted: Acted) -> usize
     requires { ⌜ 131072 ≤ length (now out) ⌝ }
-    ensures { λ r. ⌜ now (out .exit) ≡ putAt (now (out .entry)) 0 (shownOf k (effectOf acted)) ⌝ }
-    ensures { λ r. ⌜ r ≡ length (shownOf k (effectOf acted)) ⌝ }
+    requires { ⌜ Kept (acted .keeper) ⌝ }
+    ensures { λ r. ⌜ now (out .exit) ≡ putAt (now (out .entry)) 0 (shownOf (keeperView k) (effectOf acted)) ⌝ }
+    ensures { λ r. ⌜ r ≡ length (shownOf (keeperView k) (effectOf acted)) ⌝ }
     ensures { λ r. ⌜ r ≤ length (now (out .exit)) ⌝ }
 {
     let line = acted.line;
@@ -65,7 +66,7 @@ fn put_shown(out: &mut [u8], k: Keeper, acted: Acted) -> usize
     let before = rows_of(k);
     let after = rows_of(keeper);
     let store = keeper.store;
-    let state = store.state;
+    let core = store.core;
     put_block(
         out,
         line,
@@ -73,7 +74,7 @@ fn put_shown(out: &mut [u8], k: Keeper, acted: Acted) -> usize
         before,
         after,
         keeper.opened,
-        state,
+        core,
         writes,
     )
 }
@@ -90,9 +91,11 @@ fn first_byte(bytes: &[u8]) -> u8
 // Record n, counted from 0; what is said of it is put from the first byte on.
 pub fn turn(out: &mut [u8], k: Keeper, n: u64, bytes: &[u8]) -> Turned
     requires { ⌜ 131072 ≤ length (now out) ⌝ }
-    ensures { λ r. ⌜ now (out .exit) ≡ putAt (now (out .entry)) 0 (saidOf k n (now (bytes .entry))) ⌝ }
-    ensures { λ r. ⌜ r ≡ turnedOf k n (now (bytes .entry)) ⌝ }
+    requires { ⌜ Kept k ⌝ }
+    ensures { λ r. ⌜ now (out .exit) ≡ putAt (now (out .entry)) 0 (saidOf (keeperView k) n (now (bytes .entry))) ⌝ }
+    ensures { λ r. ⌜ turnedView r ≡ turnedOf (keeperView k) n (now (bytes .entry)) ⌝ }
     ensures { λ r. ⌜ r .end ≤ length (now (out .exit)) ⌝ }
+    ensures { λ r. ⌜ Kept (r .keeper) ⌝ }
 {
     let entry = read_record(bytes);
     if is_bad(entry) {

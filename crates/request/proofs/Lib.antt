@@ -5,3 +5,9 @@ pub mod JudgeLaws
 pub mod SubmitCases
 pub mod SubmitLaws
 pub mod CoverLaws
+pub mod WordsJudge
+pub mod WordsSettle
+pub mod WordsLink
+pub mod WordsCases
+pub mod WordsSubmit
+pub mod WordsWriteback

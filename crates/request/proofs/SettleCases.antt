@@ -26,7 +26,8 @@ use Rattle.pipe.specs.declared.endpoints.Endpoint.the-variants.{Linked}
 use Rattle.controller.specs.declared.lent.Readings.{Readings}
 use Rattle.schedule.specs.Bell.{commandWord}
 use Rattle.schedule.specs.Links.{Links, attachedFrames, attachedRing, headAddress, links, slotLink, startedOverlay}
-use Rattle.request.specs.Submit.{acceptedWith, afterId, chainFor, firstIn, idAt, linkedRows, needOfRequest, settledSubmit, setupsWith, stateWith, submitted, takenFor, takenOf, transferOf, writesWith}
+use Rattle.request.specs.Submit.{acceptedWith, chainFor, firstIn, idAt, linkedRows, needOfRequest, settledSubmit, setupsWith, stateWith, submitted, takenFor, takenOf, transferOf, writesWith}
+use Rattle.slot.specs.Ids.{afterId}
 use Rattle.request.specs.declared.answers.Submission.the-variants.{Accepted}
 use Rattle.request.specs.declared.answers.Submitted.{Submitted}
 use Rattle.request.specs.declared.judge.TransferRequest.{TransferRequest}

@@ -39,7 +39,8 @@ use Rattle.controller.specs.Readers.{freeCount, isOpen, isUncollected}
 use Rattle.common.proofs.CheckLaws.{answers-apart}
 use Rattle.controller.proofs.FreeLaws.{free-places}
 use Rattle.controller.proofs.ReaderLaws.{open-below, open-within}
-use Rattle.request.specs.Submit.{afterId, attachedBy, bufferGood, chainFor, firstIn, idAt, judgeOf, linkedRows, linkedWith, needOfRequest, placesFor, rangesGood, stateWith, takenFor, takenOf, transferOf}
+use Rattle.request.specs.Submit.{attachedBy, bufferGood, chainFor, firstIn, idAt, judgeOf, linkedRows, linkedWith, needOfRequest, placesFor, rangesGood, stateWith, takenFor, takenOf, transferOf}
+use Rattle.slot.specs.Ids.{afterId}
 use Rattle.request.specs.declared.judge.TransferRequest.{TransferRequest}
 use Rattle.request.proofs.JudgeCases.{judge-done, judge-room}
 use Rattle.request.proofs.JudgeLaws.{Judged}

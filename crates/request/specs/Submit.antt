@@ -18,6 +18,7 @@ use Rattle.pool.specs.declared.chain.Deed.the-variants.{Transfer as TransferDee
 use Rattle.pool.specs.declared.transfer.Transfer.{Transfer}
 use Rattle.settings.specs.Settings.{memoryEnd}
 use Rattle.common.specs.Tests.{every}
+use Rattle.slot.specs.Ids.{afterId}
 use Rattle.state.specs.Slots.{slotAt}
 use Rattle.state.specs.State.{withOwner}
 use Rattle.state.specs.declared.state.Ehci.{Ehci}
@@ -129,10 +130,6 @@ chainFor s slot t taken =
       base = s .settings .pool;
       deed = TransferDeed (transferOf s slot t);
     }
-
--- "after 2^64 − 1 comes 1"
-unfoldable pub afterId : ℕ → ℕ
-afterId id = cond (eqb id (2 ^ 64 - 1)) 1 (id + 1)
 
 abbrev pub idAt : Ehci → ℕ → ℕ
 idAt s slot = slotAt s slot .id

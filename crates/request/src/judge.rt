@@ -65,7 +65,7 @@ fn control_good(t: TransferRequest) -> bool
     (t.length <= CONTROL_MAX) & (t.setup / 128 % 2 == bit) & (t.setup < SETUP_END)
 }
 
-fn ranges_good(t: TransferRequest) -> bool
+pub fn ranges_good(t: TransferRequest) -> bool
     ensures { λ r. ⌜ r ≡ rangesGood t ⌝ }
 {
     let kind = t.kind;

@@ -4,21 +4,8 @@ ghost use Prim.Native.Nat.{_+_, _*_, _≤_, _<_, _^_};
 ghost use lib.ListN.{getD, length};
 ghost use Rattle.pool.specs.Transfers.{addressOf};
 ghost use Rattle.schedule.specs.Links.{headAddress, links, slotLink};
-ghost use Rattle.request.specs.Submit.{
-  takenOf,
-  takenFor,
-  firstIn,
-  afterId,
-  idAt,
-  transferOf,
-  stateWith,
-  linkedRows,
-  setupsWith,
-  acceptedWith,
-  submitted,
-  settledSubmit,
-  Settles,
-};
+ghost use Rattle.request.specs.Submit.{takenOf, takenFor, firstIn, idAt, transferOf, stateWith, linkedRows, setupsWith, acceptedWith, submitted, settledSubmit, Settles};
+ghost use Rattle.slot.specs.Ids.{afterId};
 use crate::answers::Submission;
 use crate::answers::Submitted;
 use crate::judge::TransferRequest;
@@ -153,7 +140,7 @@ pub fn linked_state(mut s: Ehci, owner: [u8; 256], slot: u8, t: TransferRequest)
     with_endpoint(s, k, Endpoint::Linked(pipe, request))
 }
 
-fn link_head(
+pub fn link_head(
     heads: &mut [u32],
     frames: &mut [u32],
     kind: EndpointType,

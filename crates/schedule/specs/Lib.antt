@@ -1,3 +1,4 @@
 pub mod Bell
 pub mod Links
 pub mod Walks
+pub mod Words

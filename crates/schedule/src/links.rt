@@ -133,7 +133,7 @@ pub fn detach(s: Ehci, heads: &mut [u32], frames: &mut [u32], k: u8, address: u3
 }
 
 // A link word for slot j, where the row has that head.
-fn give_link(heads: &mut [u32], j: u8, word: u32)
+pub fn give_link(heads: &mut [u32], j: u8, word: u32)
     ensures { λ _. ⌜ now (heads .exit) ≡ withLinkWord (now (heads .entry)) j word ⌝ }
 {
     let at = 17 * (j as usize + 1);

@@ -1,3 +1,10 @@
 pub mod Owner
+pub mod OwnersLaws
+pub mod OwnersCases
+pub mod LendLaws
+pub mod Known
+pub mod Refused
+pub mod WordsLaws
+pub mod OpenSame
 pub mod StoreCases
 pub mod StoreLaws

@@ -9,8 +9,7 @@ use Rattle.common.specs.declared.answer.Refusal.{Refusal}
 use Rattle.settings.specs.declared.settings.Settings.{Settings}
 use Rattle.settings.specs.Settings.{headsLength, poolLength, settingsGood, setupsLength}
 use Rattle.settings.proofs.SettingsLaws.{good-tells}
-use Rattle.store.specs.declared.store.OpenedRows.{OpenedRows}
-use Rattle.store.specs.declared.store.Store.{Store}
+use Rattle.store.specs.Plain.{OpenedRows, Store}
 use Rattle.store.specs.Stores.{bytesLent, openStore, recordsLent, wordsLent, storeOpened}
 
 -- of good settings nothing is clipped: a call is lent rows of the lengths that opening fixed

@@ -1,1 +1,4 @@
+pub mod Plain
 pub mod Stores
+pub mod Words
+pub mod Lends

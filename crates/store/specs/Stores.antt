@@ -14,10 +14,7 @@ use Rattle.ehci.specs.declared.reply.Reply.{Reply}
 use Rattle.ehci.specs.Door.{Applied, applyOf}
 use Rattle.opening.specs.declared.open.Opening.{Opening}
 use Rattle.opening.specs.Opening.{Opened, freshState, noSettings, openOf}
-use Rattle.store.specs.declared.store.Store.{Store}
-use Rattle.store.specs.declared.store.Called.{Called}
-use Rattle.store.specs.declared.store.OpenedRows.{OpenedRows}
-use Rattle.store.specs.declared.store.OpenedStore.{OpenedStore}
+use Rattle.store.specs.Plain.{Called, OpenedRows, OpenedStore, Store}
 
 -- how much of each row is lent: what the settings say, and never more than there is. The frame list is lent whole
 abbrev pub recordsLent : Settings → ℕ

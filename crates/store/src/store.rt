@@ -1,39 +1,57 @@
-// A store: a controller's state, and the four rows that every call is lent. Of each row the first places are lent, as many as
-// the settings say; the rest stays as it was.
+// A store: a controller's core, and the five rows that every call is lent. Of each row the first places are lent, as many as
+// the settings say; the rest stays as it was. Where the state that the words stand for is in its ranges they are tidy, so no
+// call is refused for them.
 ghost use mathlib.Core.Path.{_≡_};
 ghost use Prim.Native.Nat.{_≤_};
+ghost use lib.ListN.{take};
 ghost use Rattle.store.specs.Stores.{
   recordsLent,
   wordsLent,
   bytesLent,
-  blankState,
   blankStore,
-  ownedRows,
-  openRows,
-  storeAfter,
-  storeOpened,
   openStore,
-  gatheredOf,
-  callRows,
   callStore,
 };
+ghost use Rattle.store.specs.Words.{
+  Opens,
+  Tended,
+  Tends,
+  calledView,
+  openedView,
+  slotsLent,
+  storeView,
+};
+ghost use Rattle.store.specs.Lends.{
+  LentCall,
+  calledAt,
+  callLent,
+  gatheredOf,
+  openLent,
+  ownedRows,
+  rowsLeft,
+  storeAfter,
+  storeOpened,
+};
+ghost use Rattle.opening.specs.Words.{OpensWords, blankCore};
 use common::answer::Answer;
 use descriptor::qtd::QueueTransferDescriptor;
 use ehci::call::Call;
-use ehci::door::apply;
+use ehci::in_words::door::apply;
+use ehci::in_words::reply::Reply;
 use ehci::reply::Answered;
-use ehci::reply::Reply;
 use opening::heads::HEAD_WORDS;
 use opening::hub::EhciRootHub;
-use opening::open::Opening;
-use opening::open::decide_open;
-use opening::open::open;
+use opening::in_words::Opening;
+use opening::in_words::decide_open;
+use opening::in_words::open;
 use register::writes::Writes;
 use settings::settings::Settings;
-use state::state::Ehci;
+use words::core::Core;
+use words::row::RECORD;
 
 pub struct Store {
-    pub state: Ehci,
+    pub core: Core,
+    pub slots: [u64; 192],
     pub pool: [QueueTransferDescriptor; 256],
     pub heads: [u32; 561],
     pub frames: [u32; 1024],
@@ -56,6 +74,7 @@ pub struct OpenedStore {
 struct OpenedRows {
     opening: Opening,
     pool: [QueueTransferDescriptor; 256],
+    slots: [u64; 192],
     heads: [u32; 561],
     frames: [u32; 1024],
     setups: [u8; 256],
@@ -70,6 +89,14 @@ fn records_lent(s: Settings) -> usize
     } else {
         256
     }
+}
+
+// How many words of the slots are lent.
+pub fn slots_lent(s: Settings) -> usize
+    ensures { λ r. ⌜ r ≡ slotsLent s ⌝ }
+{
+    let words = RECORD * (s.endpoints as usize);
+    if words < 192 { words } else { 192 }
 }
 
 // How many words of the heads are lent.
@@ -88,9 +115,9 @@ fn bytes_lent(s: Settings) -> usize
     if bytes < 256 { bytes } else { 256 }
 }
 
-// The state that a refused opening gives.
-fn blank_state() -> Ehci
-    ensures { λ r. ⌜ r ≡ blankState ⌝ }
+// The core that a refused opening gives.
+fn blank_core() -> Core
+    ensures { λ r. ⌜ r ≡ blankCore ⌝ }
 {
     let nothing = Settings {
         descriptors: 0,
@@ -103,16 +130,18 @@ fn blank_state() -> Ehci
         frames: 0,
         setups: 0,
     };
+    let mut slots: [u64; 1] = [0; 1];
     let mut heads: [u32; 1] = [0; 1];
     let mut frames: [u32; 1] = [0; 1];
     let mut setups: [u8; 1] = [0; 1];
-    let refused = decide_open(nothing, 0, &mut heads, &mut frames, &mut setups);
-    refused.state
+    let refused = decide_open(nothing, 0, &mut slots, &mut heads, &mut frames, &mut setups);
+    refused.core
 }
 
 // No call accepts it; it is there to open a controller in.
 pub fn blank_store() -> Store
-    ensures { λ r. ⌜ r ≡ blankStore ⌝ }
+    ensures { λ r. ⌜ storeView r ≡ blankStore ⌝ }
+    ensures { λ r. ⌜ Tended r ⌝ }
 {
     let blank = QueueTransferDescriptor {
         next: 0,
@@ -122,7 +151,8 @@ pub fn blank_store() -> Store
         upper: [0; 5],
     };
     Store {
-        state: blank_state(),
+        core: blank_core(),
+        slots: [0; 192],
         pool: [blank; 256],
         heads: [0; 561],
         frames: [0; 1024],
@@ -133,60 +163,69 @@ pub fn blank_store() -> Store
 fn owned_rows(
     opening: Opening,
     pool: [QueueTransferDescriptor; 256],
+    slots: [u64; 192],
     heads: [u32; 561],
     frames: [u32; 1024],
     setups: [u8; 256],
 ) -> OpenedRows
-    ensures { λ r. ⌜ r ≡ ownedRows opening pool heads frames setups ⌝ }
+    ensures { λ r. ⌜ r ≡ ownedRows opening pool slots heads frames setups ⌝ }
 {
     OpenedRows {
         opening,
         pool,
+        slots,
         heads,
         frames,
         setups,
     }
 }
 
-// The first d records, h words, all the entries and the first u bytes are lent.
+// The first d records, k words of the slots, h words of the heads, all the entries and the first u bytes are lent.
 fn lend_open(
     settings: Settings,
     pool: [QueueTransferDescriptor; 256],
+    slots: [u64; 192],
     heads: [u32; 561],
     frames: [u32; 1024],
     setups: [u8; 256],
     d: usize,
+    k: usize,
     h: usize,
     u: usize,
 ) -> OpenedRows
-    requires { ⌜ (d ≤ 256) × (h ≤ 561) × (u ≤ 256) ⌝ }
-    ensures { λ r. ⌜ r ≡ openRows settings pool heads frames setups d h u ⌝ }
+    requires { ⌜ (d ≤ 256) × (k ≤ 192) × (h ≤ 561) × (u ≤ 256) ⌝ }
+    ensures { λ r. ⌜ rowsLeft r ≡ openLent settings pool slots heads frames setups d k h u ⌝ }
+    ensures { λ r. ⌜ OpensWords settings (r .opening) (take k slots) (take k (r .slots)) ⌝ }
 {
     let mut records = pool;
+    let mut kept = slots;
     let mut words = heads;
     let mut entries = frames;
     let mut bytes = setups;
     let opening = open(
         settings,
         &mut records[..d],
+        &mut kept[..k],
         &mut words[..h],
         &mut entries,
         &mut bytes[..u],
     );
-    owned_rows(opening, records, words, entries, bytes)
+    owned_rows(opening, records, kept, words, entries, bytes)
 }
 
 fn store_after(o: OpenedRows) -> Store
     ensures { λ r. ⌜ r ≡ storeAfter o ⌝ }
 {
     let opening = o.opening;
-    let state = opening.state;
+    let core = opening.core;
+    let slots = o.slots;
     let pool = o.pool;
     let heads = o.heads;
     let frames = o.frames;
     let setups = o.setups;
     Store {
-        state,
+        core,
+        slots,
         pool,
         heads,
         frames,
@@ -205,16 +244,20 @@ fn store_opened(answer: Answer, store: Store, o: OpenedRows) -> Store
 }
 
 pub fn open_in(store: Store, settings: Settings) -> OpenedStore
-    ensures { λ r. ⌜ r ≡ openStore store settings ⌝ }
+    requires { ⌜ Tended store ⌝ }
+    ensures { λ r. ⌜ openedView r ≡ openStore (storeView store) settings ⌝ }
+    ensures { λ r. ⌜ Opens r ⌝ }
 {
     let d = records_lent(settings);
+    let k = slots_lent(settings);
     let h = words_lent(settings);
     let u = bytes_lent(settings);
     let pool = store.pool;
+    let slots = store.slots;
     let heads = store.heads;
     let frames = store.frames;
     let setups = store.setups;
-    let o = lend_open(settings, pool, heads, frames, setups, d, h, u);
+    let o = lend_open(settings, pool, slots, heads, frames, setups, d, k, h, u);
     let opening = o.opening;
     let answer = opening.answer;
     let hub = opening.hub;
@@ -227,20 +270,24 @@ pub fn open_in(store: Store, settings: Settings) -> OpenedStore
 }
 
 fn gathered(
+    core: Core,
     reply: Reply,
     pool: [QueueTransferDescriptor; 256],
+    slots: [u64; 192],
     heads: [u32; 561],
     frames: [u32; 1024],
     setups: [u8; 256],
 ) -> Called
-    ensures { λ r. ⌜ r ≡ gatheredOf reply pool heads frames setups ⌝ }
+    ensures { λ r. ⌜ r ≡ gatheredOf core reply pool slots heads frames setups ⌝ }
 {
-    let state = reply.state;
+    let settings = core.settings;
+    let rest = reply.rest;
     let answer = reply.answer;
     let writes = reply.writes;
     Called {
         store: Store {
-            state,
+            core: Core { settings, rest },
+            slots,
             pool,
             heads,
             frames,
@@ -251,47 +298,56 @@ fn gathered(
     }
 }
 
-// As in an opening, with the state and the call.
+// As in an opening, with the core and the call.
 fn lend_call(
-    state: Ehci,
+    core: Core,
     pool: [QueueTransferDescriptor; 256],
+    slots: [u64; 192],
     heads: [u32; 561],
     frames: [u32; 1024],
     setups: [u8; 256],
     d: usize,
+    k: usize,
     h: usize,
     u: usize,
     call: Call,
 ) -> Called
-    requires { ⌜ (d ≤ 256) × (h ≤ 561) × (u ≤ 256) ⌝ }
-    ensures { λ r. ⌜ r ≡ callRows state pool heads frames setups d h u call ⌝ }
+    requires { ⌜ (d ≤ 256) × (k ≤ 192) × (h ≤ 561) × (u ≤ 256) ⌝ }
+    ensures { λ r. ⌜ calledAt k r ≡ callLent core pool slots heads frames setups d k h u call ⌝ }
+    ensures { λ r. ⌜ LentCall core pool slots heads frames setups d k h u (r .store) ⌝ }
 {
     let mut records = pool;
+    let mut kept = slots;
     let mut words = heads;
     let mut entries = frames;
     let mut bytes = setups;
     let reply = apply(
-        state,
+        core,
         &mut records[..d],
+        &mut kept[..k],
         &mut words[..h],
         &mut entries,
         &mut bytes[..u],
         call,
     );
-    gathered(reply, records, words, entries, bytes)
+    gathered(core, reply, records, kept, words, entries, bytes)
 }
 
 pub fn call_on(store: Store, call: Call) -> Called
-    ensures { λ r. ⌜ r ≡ callStore store call ⌝ }
+    requires { ⌜ Tended store ⌝ }
+    ensures { λ r. ⌜ calledView r ≡ callStore (storeView store) call ⌝ }
+    ensures { λ r. ⌜ Tends store (r .store) ⌝ }
 {
-    let state = store.state;
-    let settings = state.settings;
+    let core = store.core;
+    let settings = core.settings;
     let d = records_lent(settings);
+    let k = slots_lent(settings);
     let h = words_lent(settings);
     let u = bytes_lent(settings);
     let pool = store.pool;
+    let slots = store.slots;
     let heads = store.heads;
     let frames = store.frames;
     let setups = store.setups;
-    lend_call(state, pool, heads, frames, setups, d, h, u, call)
+    lend_call(core, pool, slots, heads, frames, setups, d, k, h, u, call)
 }

@@ -12,7 +12,8 @@ use Rattle.pipe.specs.Endpoints.{decoded, encoded, endpointAt}
 use Rattle.pipe.specs.declared.endpoints.Endpoint.{Endpoint}
 use Rattle.pipe.specs.declared.endpoints.Endpoint.the-variants.{Closed, Idle, Linked, Unlinking}
 use Rattle.controller.specs.Readers.{isOpen}
-use Rattle.request.specs.Submit.{afterId, idAt}
+use Rattle.request.specs.Submit.{idAt}
+use Rattle.slot.specs.Ids.{afterId}
 use Rattle.ehci.specs.declared.call.Call.{Call}
 use Rattle.ehci.specs.Door.{Applied}
 use Rattle.promises.specs.Runs.{History, Opening, Turn, World, leftBy, turnOf}

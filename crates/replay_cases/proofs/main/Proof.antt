@@ -1,10 +1,12 @@
 -- `replay_cases::main` is safe and ends: the measure is how many records may still come. Assumes nothing.
 use native.Mathlib.Omega.{arith}
+use Rattle.replayer.specs.Words.{Kept}
+use borrow.Author.Needs.{needs}
 use Rattle.replay_cases.proofs.main.Statement.{statement}
 use Rattle.replay_cases.proofs.main.Tie as tie
 
 abbrev Inv-loop : tie.InvT-loop
-Inv-loop log₀ left₀ log left = Unit {0}
+Inv-loop log₀ left₀ log left = Kept (log .keeper)
 
 abbrev μ-loop : tie.MeasureT-loop
 μ-loop log₀ left₀ log left = left
@@ -13,10 +15,10 @@ fresh-log-requires : tie.Need-fresh-log-requires Inv-loop μ-loop
 fresh-log-requires c κs = tt
 
 loop-holds : tie.Need-loop-holds Inv-loop μ-loop
-loop-holds c = tt
+loop-holds c = search needs
 
 next-requires : tie.Need-next-requires Inv-loop μ-loop
-next-requires c κs = tt
+next-requires c κs = search needs
 
 after-turn-requires : tie.Need-after-turn-requires Inv-loop μ-loop
 after-turn-requires c κs = omega arith
@@ -25,7 +27,7 @@ loop-less : tie.Need-loop-less Inv-loop μ-loop
 loop-less c = omega arith
 
 loop-again : tie.Need-loop-again Inv-loop μ-loop
-loop-again c = tt
+loop-again c = search needs
 
 returns : tie.Need-returns Inv-loop μ-loop
 returns c = tt

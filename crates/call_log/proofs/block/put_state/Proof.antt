@@ -1,5 +1,6 @@
 -- `call_log::block::put_state` meets its contract.
-use Rattle.call_log.specs.Lines.{stateLine}
+use Rattle.call_log.specs.Lines.{shownLine}
+use Rattle.call_log.specs.Words.{shownIn}
 use Rattle.call_log.proofs.ChangeCases.{line-shown}
 use Rattle.text.proofs.LineLaws.{hidden}
 use borrow.Author.Needs.{needs}
@@ -20,13 +21,13 @@ returns c =
     let a = c .before .before .before .before .before .before .before .args in
     let h = c .before .before .before .before .state-line in
     let p = c .before .before .put-line in
-    line-shown (a .out .now) (a .at) (a .opened) (stateLine (a .s)) (p .last .0) (p .result) (h .result) (c .before .before .before .before .before .if1 .taken) (h .ensures) (p .ensures .0)
+    line-shown (a .out .now) (a .at) (a .opened) (shownLine (shownIn (a .core))) (p .last .0) (p .result) (h .result) (c .before .before .before .before .before .if1 .taken) (h .ensures) (p .ensures .0)
     (p .ensures .1)
 
 returns-2 : tie.Need-returns-2
 returns-2 c =
     let a = c .before .before .args in
-    hidden (a .out .now) (a .at) (a .opened) (stateLine (a .s)) (c .if1 .left)
+    hidden (a .out .now) (a .at) (a .opened) (shownLine (shownIn (a .core))) (c .if1 .left)
 
 pub put-state-spec : {M : Type 1} → statement M
 put-state-spec =

@@ -1,7 +1,7 @@
 -- `call_log::lines::shown` meets its contract.
 use native.Mathlib.Omega.{arith}
 use mathlib.Core.Path.{refl, ap, _∙_}
-use Rattle.call_log.specs.Lines.{shownOf}
+use Rattle.call_log.specs.Words.{shownIn}
 use borrow.Author.Needs.{needs}
 use Rattle.call_log.proofs.lines.shown.Statement.{statement}
 use Rattle.call_log.proofs.lines.shown.Tie as tie
@@ -10,7 +10,7 @@ free-count-requires : tie.Need-free-count-requires
 free-count-requires c κs = search needs
 
 returns : tie.Need-returns
-unfolding shownOf
+unfolding shownIn
 returns c = rw (c .free-count .ensures)
 
 pub shown-spec : {M : Type 1} → statement M

@@ -41,14 +41,11 @@ array-set-from-cells-6 c = search needs
 array-set-from-cells-7 : tie.Need-array-set-from-cells-7
 array-set-from-cells-7 c = search needs
 
-cast-t5-6 : tie.Need-cast-t5-6
-cast-t5-6 c = search needs
-
 array-set-from-cells-8 : tie.Need-array-set-from-cells-8
 array-set-from-cells-8 c = search needs
 
-cast-t5-7 : tie.Need-cast-t5-7
-cast-t5-7 c = search needs
+cast-t5-6 : tie.Need-cast-t5-6
+cast-t5-6 c = search needs
 
 array-set-from-cells-9 : tie.Need-array-set-from-cells-9
 array-set-from-cells-9 c = search needs
@@ -73,8 +70,7 @@ shown-line-spec =
     array-set-from-cells-5
     array-set-from-cells-6
     array-set-from-cells-7
-    cast-t5-6
     array-set-from-cells-8
-    cast-t5-7
+    cast-t5-6
     array-set-from-cells-9
     returns)

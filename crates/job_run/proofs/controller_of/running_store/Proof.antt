@@ -35,7 +35,7 @@ after-call-requires-7 : tie.Need-after-call-requires-7
 after-call-requires-7 c κs = search needs
 
 returns : tie.Need-returns
-returns c = running-is _ _ _ _ _ _ _ _ _ _ (c .before .before .before .before .before .before .before .before .before .before .blank-store .ensures) (c .before .before .before .before .before .before .before .before .before .sheet-settings .ensures) (c .before .before .before .before .before .before .before .before .open-in .ensures) (c .before .before .before .before .before .before .after-call .ensures) (c .before .before .before .before .before .after-call2 .ensures) (c .before .before .before .before .after-call3 .ensures) (c .before .before .before .after-call4 .ensures) (c .before .before .after-call5 .ensures) (c .before .after-call6 .ensures) (c .after-call7 .ensures)
+returns c = (running-is _ _ _ _ _ _ _ _ _ _ (c .before .before .before .before .before .before .before .before .before .before .blank-store .ensures .0) (c .before .before .before .before .before .before .before .before .before .sheet-settings .ensures) (c .before .before .before .before .before .before .before .before .open-in .ensures .0) (c .before .before .before .before .before .before .after-call .ensures .0) (c .before .before .before .before .before .after-call2 .ensures .0) (c .before .before .before .before .after-call3 .ensures .0) (c .before .before .before .after-call4 .ensures .0) (c .before .before .after-call5 .ensures .0) (c .before .after-call6 .ensures .0) (c .after-call7 .ensures .0), c .after-call7 .ensures .1)
 
 pub running-store-spec : {M : Type 1} → statement M
 running-store-spec =

@@ -23,7 +23,7 @@ element-write-ran-2 : tie.Need-element-write-ran-2
 element-write-ran-2 c = search needs
 
 returns : tie.Need-returns
-returns c = open-step-is _ _ _ _ _ _ _ (c .before .before .before .before .open-call .ensures) (c .before .before .before .call-on .ensures) (c .before .number .ensures) (c .slot-told .ensures)
+returns c = open-step-is _ _ _ _ _ (c .before .before .before .call-on .ensures) (c .before .number .ensures) _ _ (c .before .before .before .before .open-call .ensures) (c .slot-told .ensures)
 
 pub open-step-spec : {M : Type 1} → statement M
 open-step-spec =

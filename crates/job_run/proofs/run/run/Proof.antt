@@ -8,13 +8,13 @@ running-store-requires : tie.Need-running-store-requires
 running-store-requires c κs = search needs
 
 open-all-requires : tie.Need-open-all-requires
-open-all-requires c κs = search needs
+open-all-requires c κs = (search needs, search needs)
 
 submit-all-requires : tie.Need-submit-all-requires
-submit-all-requires c κs = search needs
+submit-all-requires c κs = (search needs, search needs)
 
 returns : tie.Need-returns
-returns c = run-is _ _ _ _ (c .before .before .running-store .ensures) (c .before .open-all .ensures) (c .submit-all .ensures)
+returns c = run-is _ _ _ _ (c .before .before .running-store .ensures .0) (c .before .open-all .ensures .0) (c .submit-all .ensures .0)
 
 pub run-spec : {M : Type 1} → statement M
 run-spec =

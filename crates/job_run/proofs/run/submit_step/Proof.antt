@@ -26,7 +26,7 @@ element-write-ran-2 : tie.Need-element-write-ran-2
 element-write-ran-2 c = search needs
 
 returns : tie.Need-returns
-returns c = submit-step-is _ _ _ _ _ _ _ _ (c .before .before .before .before .submit-call .ensures) (c .before .before .before .call-on .ensures) (c .before .number .ensures) (c .id-told .ensures)
+returns c = submit-step-is _ _ _ _ _ (c .before .before .before .call-on .ensures) (c .before .number .ensures) _ _ _ (c .before .before .before .before .submit-call .ensures) (c .id-told .ensures)
 
 pub submit-step-spec : {M : Type 1} → statement M
 submit-step-spec =

@@ -1,7 +1,6 @@
 -- `replayer::keeper::act` meets its contract.
-use Rattle.replayer.proofs.ActCases.{act-as}
-use mathlib.Core.Path.{ap, _∙_}
-use Rattle.replayer.specs.Replays.{scanEffect}
+use Rattle.replayer.proofs.ActCases.{act-as, scanned-as}
+use mathlib.Core.Path.{refl}
 use borrow.Author.Needs.{needs}
 use Rattle.replayer.proofs.keeper.act.Statement.{statement}
 use Rattle.replayer.proofs.keeper.act.Tie as tie
@@ -55,10 +54,10 @@ returns-2 : tie.Need-returns-2
 returns-2 c = act-as _ _ _ _ _ _ (c .before .before .entry2 .given .1) (c .act-call .ensures)
 
 returns-3 : tie.Need-returns-3
-returns-3 c = act-as _ _ _ _ _ _ (c .before .before .enum-told .given .1) (c .act-scan .ensures ∙ ap (scanEffect _ _ _) (c .before .start .ensures))
+returns-3 c = scanned-as _ _ _ _ _ _ _ _ (c .before .before .enum-told .given .1) refl (c .before .start .ensures) (c .act-scan .ensures)
 
 returns-4 : tie.Need-returns-4
-returns-4 c = act-as _ _ _ _ _ _ (c .before .before .before .entry3 .given .1) (c .act-scan2 .ensures ∙ ap (scanEffect _ _ _) (c .before .step .ensures))
+returns-4 c = scanned-as _ _ _ _ _ _ _ _ (c .before .before .before .entry3 .given .1) refl (c .before .step .ensures) (c .act-scan2 .ensures)
 
 returns-5 : tie.Need-returns-5
 returns-5 c = act-as _ _ _ _ _ _ (c .before .before .entry4 .given .1) (c .act-power .ensures)

@@ -11,7 +11,7 @@ call-line-requires : tie.Need-call-line-requires
 call-line-requires c κs = search needs
 
 returns : tie.Need-returns
-returns c = call-done _ _ _ _ _ _ (c .before .before .before .call-on .ensures) (c .call-line .ensures)
+returns c = call-done _ (c .before .before .before .before .before .before .pre) _ _ _ _ _ (c .before .before .before .call-on .ensures) (c .call-line .ensures)
 
 pub act-call-spec : {M : Type 1} → statement M
 act-call-spec = tie.close (tie.spec call-on-requires call-line-requires returns)

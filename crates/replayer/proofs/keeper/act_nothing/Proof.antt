@@ -11,7 +11,7 @@ none-requires : tie.Need-none-requires
 none-requires c κs = search needs
 
 returns : tie.Need-returns
-returns c = nothing-done _ _ _ _ _ (c .before .call-line .ensures) (c .none .ensures .1)
+returns c = nothing-done _ (c .before .before .pre) _ _ _ _ (c .before .call-line .ensures) (c .none .ensures .1)
 
 pub act-nothing-spec : {M : Type 1} → statement M
 act-nothing-spec = tie.close (tie.spec call-line-requires none-requires returns)

@@ -26,10 +26,10 @@ none-requires-2 : tie.Need-none-requires-2
 none-requires-2 c κs = search needs
 
 returns : tie.Need-returns
-returns c = open-done _ _ _ _ _ _ _ (c .before .before .before .before .before .before .open-in .ensures) (c .none .ensures .1) (c .before .before .enum-told .given .1) (c .before .call-line .ensures)
+returns c = open-done _ (c .before .before .before .before .before .before .before .before .pre) _ _ _ _ _ _ (c .before .before .before .before .before .before .open-in .ensures) (c .none .ensures .1) (c .before .before .enum-told .given .1) (c .before .call-line .ensures)
 
 returns-2 : tie.Need-returns-2
-returns-2 c = open-refused _ _ _ _ _ _ _ (c .before .before .before .before .before .before .before .open-in .ensures) (c .none2 .ensures .1) _ (c .before .before .before .answer .given .1) (c .before .call-line2 .ensures)
+returns-2 c = open-refused _ (c .before .before .before .before .before .before .before .before .before .pre) _ _ _ _ _ _ (c .before .before .before .before .before .before .before .open-in .ensures) (c .none2 .ensures .1) _ (c .before .before .before .answer .given .1) (c .before .call-line2 .ensures)
 
 pub act-open-spec : {M : Type 1} → statement M
 act-open-spec =

@@ -11,7 +11,7 @@ scan-line-requires : tie.Need-scan-line-requires
 scan-line-requires c κs = search needs
 
 returns : tie.Need-returns
-returns c = power-done _ _ _ _ _ _ _ (c .before .before .port-power .ensures) (c .scan-line .ensures)
+returns c = power-done _ (c .before .before .before .before .pre) _ _ _ _ _ _ (c .before .before .port-power .ensures) (c .scan-line .ensures)
 
 pub act-power-spec : {M : Type 1} → statement M
 act-power-spec = tie.close (tie.spec port-power-requires scan-line-requires returns)

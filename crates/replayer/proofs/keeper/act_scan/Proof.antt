@@ -8,7 +8,7 @@ scan-line-requires : tie.Need-scan-line-requires
 scan-line-requires c κs = search needs
 
 returns : tie.Need-returns
-returns c = scan-done _ _ _ _ _ (c .scan-line .ensures)
+returns c = scan-done _ (c .before .before .before .before .before .pre) _ _ _ _ (c .scan-line .ensures)
 
 pub act-scan-spec : {M : Type 1} → statement M
 act-scan-spec = tie.close (tie.spec scan-line-requires returns)

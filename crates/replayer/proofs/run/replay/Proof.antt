@@ -1,11 +1,13 @@
 -- `replayer::run::replay` meets its contract.
 use Prim.Native.Nat.{_≤_}
 use native.Mathlib.Omega.{arith}
+use Rattle.replayer.specs.Words.{Kept}
+use borrow.Author.Needs.{needs}
 use Rattle.replayer.proofs.run.replay.Statement.{statement}
 use Rattle.replayer.proofs.run.replay.Tie as tie
 
 abbrev Inv-loop : tie.InvT-loop
-Inv-loop keeper₀ left₀ keeper left = left ≤ 18446744073709551615
+Inv-loop keeper₀ left₀ keeper left = (left ≤ 18446744073709551615) × Kept keeper
 
 abbrev μ-loop : tie.MeasureT-loop
 μ-loop keeper₀ left₀ keeper left = left
@@ -14,13 +16,13 @@ fresh-keeper-requires : tie.Need-fresh-keeper-requires Inv-loop μ-loop
 fresh-keeper-requires c κs = tt
 
 loop-holds : tie.Need-loop-holds Inv-loop μ-loop
-loop-holds c = omega arith
+loop-holds c = (omega arith, search needs)
 
 sub-next-record : tie.Need-sub-next-record Inv-loop μ-loop
 sub-next-record c = omega arith
 
 next-record-requires : tie.Need-next-record-requires Inv-loop μ-loop
-next-record-requires c κs = tt
+next-record-requires c κs = search needs
 
 after-turn-requires : tie.Need-after-turn-requires Inv-loop μ-loop
 after-turn-requires c κs = omega arith
@@ -29,7 +31,7 @@ loop-less : tie.Need-loop-less Inv-loop μ-loop
 loop-less c = omega arith
 
 loop-again : tie.Need-loop-again Inv-loop μ-loop
-loop-again c = omega arith
+loop-again c = (omega arith, search needs)
 
 returns : tie.Need-returns Inv-loop μ-loop
 returns c = tt

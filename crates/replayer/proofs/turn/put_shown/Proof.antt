@@ -17,7 +17,7 @@ same-length : tie.Need-same-length
 same-length c = search needs
 
 returns : tie.Need-returns
-returns c = shown-put _ _ _ _ _ _ _ (c .before .before .before .before .before .before .before .rows-of .ensures) (c .before .before .before .before .before .before .rows-of2 .ensures) (c .before .before .put-block .ensures)
+returns c = shown-put _ _ _ _ _ _ _ (c .before .before .before .before .before .before .before .before .before .before .before .before .pre .1) (c .before .before .before .before .before .before .before .rows-of .ensures) (c .before .before .before .before .before .before .rows-of2 .ensures) (c .before .before .put-block .ensures)
 
 pub put-shown-spec : {M : Type 1} → statement M
 put-shown-spec =

@@ -17,7 +17,7 @@ same-length : tie.Need-same-length
 same-length c = search needs
 
 returns : tie.Need-returns
-returns c = turn-bad _ _ _ _ _ _ _ _ (c .before .before .before .before .before .before .read-record .ensures) (c .before .before .before .before .before .is-bad .ensures) (c .before .before .before .before .if1 .taken) (c .before .before .put-bad .ensures)
+returns c = turn-bad _ (c .before .before .before .before .before .before .before .before .before .pre .1) _ _ _ _ _ _ _ (c .before .before .before .before .before .before .read-record .ensures) (c .before .before .before .before .before .is-bad .ensures) (c .before .before .before .before .if1 .taken) (c .before .before .put-bad .ensures)
 
 first-byte-requires : tie.Need-first-byte-requires
 first-byte-requires c κs = search needs
@@ -32,7 +32,7 @@ same-length-2 : tie.Need-same-length-2
 same-length-2 c = search needs
 
 returns-2 : tie.Need-returns-2
-returns-2 c = turn-good _ _ _ _ _ _ _ _ (c .before .before .before .before .before .before .before .before .before .read-record .ensures) (c .before .before .before .before .before .before .before .before .is-bad .ensures) _ _ (c .before .before .before .before .before .before .first-byte .ensures) (c .before .before .before .before .before .act .ensures) (c .before .before .before .before .before .before .before .if1 .left) (c .before .before .put-shown .ensures)
+returns-2 c = turn-good _ (c .before .before .before .before .before .before .before .before .before .before .before .before .pre .1) _ _ _ _ _ _ _ (c .before .before .before .before .before .before .before .before .before .read-record .ensures) (c .before .before .before .before .before .before .before .before .is-bad .ensures) _ _ (c .before .before .before .before .before .before .first-byte .ensures) (c .before .before .before .before .before .act .ensures) (c .before .before .before .before .before .before .before .if1 .left) (c .before .before .put-shown .ensures)
 
 pub turn-spec : {M : Type 1} → statement M
 turn-spec =

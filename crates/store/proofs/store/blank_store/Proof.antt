@@ -4,16 +4,16 @@ use Rattle.store.proofs.store.blank_store.Statement.{statement}
 use Rattle.store.proofs.store.blank_store.Tie as tie
 use Rattle.store.proofs.store.blank_store.Reads as reads
 use Rattle.store.proofs.store.blank_store.Lts as lts
-use Rattle.store.proofs.store.blank_state.Reads as blank-state-reads
+use Rattle.store.proofs.store.blank_core.Reads as blank-core-reads
 use Rattle.store.proofs.StoreCases.{blank-done}
 
--- src/store.rt:108:16
-blank-state-requires : tie.Need-blank-state-requires
-blank-state-requires c κs = search needs
+-- src/store.rt
+blank-core-requires : tie.Need-blank-core-requires
+blank-core-requires c κs = search needs
 
--- src/store.rt:97:1
+-- src/store.rt
 returns : tie.Need-returns
 returns c = search blank-done
 
 pub blank-store-spec : {M : Type 1} → statement M
-blank-store-spec = tie.close (tie.spec blank-state-requires returns)
+blank-store-spec = tie.close (tie.spec blank-core-requires returns)

@@ -7,35 +7,27 @@ use Rattle.store.proofs.store.call_on.Lts as lts
 use Rattle.store.proofs.store.bytes_lent.Reads as bytes-lent-reads
 use Rattle.store.proofs.store.lend_call.Reads as lend-call-reads
 use Rattle.store.proofs.store.records_lent.Reads as records-lent-reads
+use Rattle.store.proofs.store.slots_lent.Reads as slots-lent-reads
 use Rattle.store.proofs.store.words_lent.Reads as words-lent-reads
-use Rattle.store.proofs.StoreCases.{called-on}
+use Rattle.store.proofs.StoreCases.{called-tends, called-view}
 
--- src/store.rt:281:9
 records-lent-requires : tie.Need-records-lent-requires
 records-lent-requires c κs = search needs
 
--- src/store.rt:282:9
+slots-lent-requires : tie.Need-slots-lent-requires
+slots-lent-requires c κs = search needs
+
 words-lent-requires : tie.Need-words-lent-requires
 words-lent-requires c κs = search needs
 
--- src/store.rt:283:9
 bytes-lent-requires : tie.Need-bytes-lent-requires
 bytes-lent-requires c κs = search needs
 
--- src/store.rt:288:5
 lend-call-requires : tie.Need-lend-call-requires
 lend-call-requires c κs = search needs
 
--- src/store.rt:276:1
 returns : tie.Need-returns
-returns c = search called-on
+returns c = (search called-view, search called-tends)
 
 pub call-on-spec : {M : Type 1} → statement M
-call-on-spec =
-    tie.close
-    (tie.spec
-    records-lent-requires
-    words-lent-requires
-    bytes-lent-requires
-    lend-call-requires
-    returns)
+call-on-spec = tie.close (tie.spec records-lent-requires slots-lent-requires words-lent-requires bytes-lent-requires lend-call-requires returns)

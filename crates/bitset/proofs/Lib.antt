@@ -1,0 +1,14 @@
+pub mod Numbers
+pub mod BitLaws
+pub mod PlaceLaws
+pub mod PartLaws
+pub mod SetLaws
+pub mod AllLaws
+pub mod HasLaws
+pub mod OrderLaws
+pub mod LowestLaws
+pub mod CursorLaws
+pub mod JudgeLaws
+pub mod SearchLaws
+pub mod OneLaws
+pub mod Examples

@@ -1,0 +1,5 @@
+pub mod Words
+pub mod Places
+pub mod Rest
+pub mod Judge
+pub mod Search

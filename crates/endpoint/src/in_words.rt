@@ -1,0 +1,3 @@
+// Open endpoint, close, set address, set packet size, on a state in words that is in its ranges.
+pub mod calls;
+pub mod lowest;

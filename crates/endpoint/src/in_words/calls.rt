@@ -1,0 +1,187 @@
+// Each is lent the slots and the heads. The lengths of the rows that it is not lent are those that opening fixed.
+ghost use mathlib.Core.Path.{_≡_};
+ghost use mathlib.Core.Bool.{true};
+ghost use mathlib.Core.List.{List};
+ghost use Prim.Native.Nat.{ℕ, _+_, _*_};
+ghost use lib.ListN.{length};
+ghost use Rattle.opening.specs.Opening.{rowsFit};
+ghost use Rattle.words.specs.Good.{Good, Tidy};
+ghost use Rattle.words.specs.View.{view};
+ghost use Rattle.endpoint.specs.Calls.{changeLeft, closeOf, openEndpointOf, openLeft, setAddressOf, setPacketSizeOf};
+ghost use Rattle.endpoint.specs.Words.{changedView, chosenWords, openedView, verdictWords};
+use crate::calls::Opened;
+use crate::calls::fields_good;
+use crate::heads::write_head;
+use crate::in_words::lowest::lowest_closed;
+use common::answer::Answer;
+use common::answer::Refusal;
+use common::kinds::EndpointType;
+use common::kinds::is_isochronous;
+use controller::in_words::readers::is_open;
+use controller::in_words::readers::uncollected;
+use descriptor::head::set_device_address;
+use descriptor::head::set_max_packet_size;
+use opening::heads::CHARACTERISTICS;
+use opening::heads::HEAD_WORDS;
+use opening::heads::put_head;
+use pipe::endpoints::Endpoint;
+use pipe::endpoints::Pipe;
+use pipe::in_words::put_endpoint;
+use words::core::Core;
+use words::core::Rest;
+
+pub struct EndpointOpening {
+    pub answer: Opened,
+    pub rest: Rest,
+}
+
+// What close, set address and set packet size leave.
+pub struct Change {
+    pub answer: Answer,
+    pub rest: Rest,
+}
+
+// The slot of a new endpoint, or why there is none.
+fn choose(core: Core, slots: &[u64], kind: EndpointType, good: bool) -> Opened
+    requires { ⌜ Good (core .settings) (core .rest) (now slots) ⌝ }
+    ensures { λ r. ⌜ r ≡ chosenWords (view core (now (slots .entry))) kind good ⌝ }
+{
+    if is_isochronous(kind) {
+        return Opened::Refused(Refusal::NotSupported);
+    }
+    if !good {
+        return Opened::Refused(Refusal::InvalidParameter);
+    }
+    let slot = lowest_closed(core, slots);
+    if core.settings.endpoints <= slot {
+        return Opened::Refused(Refusal::SlotLimitReached);
+    }
+    Opened::Slot(slot)
+}
+
+pub fn open_endpoint(
+    core: Core,
+    slots: &mut [u64],
+    heads: &mut [u32],
+    kind: EndpointType,
+    address: u8,
+    number: u8,
+    packet: u16,
+) -> EndpointOpening
+    requires { ⌜ Good (core .settings) (core .rest) (now slots) ⌝ }
+    requires { ⌜ length (now heads) ≡ 17 * (core .settings .endpoints + 1) ⌝ }
+    ensures { λ r. ⌜ ((pool frames setups : ℕ) → rowsFit (core .settings) pool (length (now (heads .entry))) frames setups ≡ true
+        → openLeft (openedView (core .settings) r (now (slots .exit))) (now (heads .exit))
+        ≡ openEndpointOf (view core (now (slots .entry))) pool (now (heads .entry)) frames setups kind address number packet) ⌝ }
+    ensures { λ r. ⌜ Tidy (core .settings) (r .rest) (now (slots .exit)) ⌝ }
+{
+    let rest = core.rest;
+    let good = fields_good(address, number, packet);
+    match choose(core, slots, kind, good) {
+        Opened::Slot(slot) => {
+            write_head(heads, slot, kind, address, number, packet);
+            put_endpoint(slots, slot, Endpoint::Idle(Pipe { kind, next: 1 }));
+            EndpointOpening {
+                answer: Opened::Slot(slot),
+                rest,
+            }
+        }
+        Opened::Refused(refusal) => EndpointOpening {
+            answer: Opened::Refused(refusal),
+            rest,
+        },
+    }
+}
+
+// What close, set address and set packet size ask, in 01's order; `good` where the value is in its range.
+fn check_slot(core: Core, slots: &[u64], slot: u8, good: bool) -> Answer
+    requires { ⌜ Good (core .settings) (core .rest) (now slots) ⌝ }
+    ensures { λ r. ⌜ r ≡ verdictWords (view core (now (slots .entry))) slot good ⌝ }
+{
+    if !is_open(core, slots, slot) {
+        return Answer::Refused(Refusal::InvalidEndpoint);
+    }
+    if uncollected(core, slots, slot) {
+        return Answer::Refused(Refusal::QueueFull);
+    }
+    if !good {
+        return Answer::Refused(Refusal::InvalidParameter);
+    }
+    Answer::Done
+}
+
+pub fn close(core: Core, slots: &mut [u64], heads: &mut [u32], slot: u8) -> Change
+    requires { ⌜ Good (core .settings) (core .rest) (now slots) ⌝ }
+    requires { ⌜ length (now heads) ≡ 17 * (core .settings .endpoints + 1) ⌝ }
+    ensures { λ r. ⌜ ((pool frames setups : ℕ) → rowsFit (core .settings) pool (length (now (heads .entry))) frames setups ≡ true
+        → changeLeft (changedView (core .settings) r (now (slots .exit))) (now (heads .exit))
+        ≡ closeOf (view core (now (slots .entry))) pool (now (heads .entry)) frames setups slot) ⌝ }
+    ensures { λ r. ⌜ Tidy (core .settings) (r .rest) (now (slots .exit)) ⌝ }
+{
+    let rest = core.rest;
+    match check_slot(core, slots, slot, true) {
+        Answer::Done => {
+            put_head(heads, slot as usize + 1, [0; 17]);
+            put_endpoint(slots, slot, Endpoint::Closed);
+            Change {
+                answer: Answer::Done,
+                rest,
+            }
+        }
+        Answer::Refused(refusal) => Change {
+            answer: Answer::Refused(refusal),
+            rest,
+        },
+    }
+}
+
+pub fn set_address(core: Core, slots: &[u64], heads: &mut [u32], slot: u8, address: u8) -> Change
+    requires { ⌜ Good (core .settings) (core .rest) (now slots) ⌝ }
+    requires { ⌜ length (now heads) ≡ 17 * (core .settings .endpoints + 1) ⌝ }
+    ensures { λ r. ⌜ ((pool frames setups : ℕ) → rowsFit (core .settings) pool (length (now (heads .entry))) frames setups ≡ true
+        → changeLeft (changedView (core .settings) r (now (slots .entry))) (now (heads .exit))
+        ≡ setAddressOf (view core (now (slots .entry))) pool (now (heads .entry)) frames setups slot address) ⌝ }
+    ensures { λ r. ⌜ r .rest .free ≡ core .rest .free ⌝ }
+{
+    let rest = core.rest;
+    match check_slot(core, slots, slot, address <= 127) {
+        Answer::Done => {
+            let at = HEAD_WORDS * (slot as usize + 1) + CHARACTERISTICS;
+            heads[at] = set_device_address(heads[at], address);
+            Change {
+                answer: Answer::Done,
+                rest,
+            }
+        }
+        Answer::Refused(refusal) => Change {
+            answer: Answer::Refused(refusal),
+            rest,
+        },
+    }
+}
+
+// Any byte is a packet size: it is raised to 8.
+pub fn set_packet_size(core: Core, slots: &[u64], heads: &mut [u32], slot: u8, size: u8) -> Change
+    requires { ⌜ Good (core .settings) (core .rest) (now slots) ⌝ }
+    requires { ⌜ length (now heads) ≡ 17 * (core .settings .endpoints + 1) ⌝ }
+    ensures { λ r. ⌜ ((pool frames setups : ℕ) → rowsFit (core .settings) pool (length (now (heads .entry))) frames setups ≡ true
+        → changeLeft (changedView (core .settings) r (now (slots .entry))) (now (heads .exit))
+        ≡ setPacketSizeOf (view core (now (slots .entry))) pool (now (heads .entry)) frames setups slot size) ⌝ }
+    ensures { λ r. ⌜ r .rest .free ≡ core .rest .free ⌝ }
+{
+    let rest = core.rest;
+    match check_slot(core, slots, slot, true) {
+        Answer::Done => {
+            let at = HEAD_WORDS * (slot as usize + 1) + CHARACTERISTICS;
+            heads[at] = set_max_packet_size(heads[at], size);
+            Change {
+                answer: Answer::Done,
+                rest,
+            }
+        }
+        Answer::Refused(refusal) => Change {
+            answer: Answer::Refused(refusal),
+            rest,
+        },
+    }
+}

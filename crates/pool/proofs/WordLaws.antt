@@ -1,0 +1,224 @@
+-- What a writing leaves: no place, nothing written; a transfer's or a token's places, what the chain of these places leaves. And what shows that it may be handed to the pool.
+use Prim.Native.Nat.{ℕ, zero, suc, _+_, _-_, _*_, _/_, _%_, _<_, _^_}
+use mathlib.Core.Path.{_≡_, refl, sym, ap, subst, _∙_}
+use mathlib.Core.Bool.{Bool, true, false, cond, not}
+use mathlib.Core.List.{List, [], _∷_, _++_}
+use native.Mathlib.Nat.{pow-suc}
+use native.Mathlib.Omega.{arith}
+use lib.Dec.{eqb}
+use lib.ListN.{getD, length, replicate, set}
+use Rattle.bitset.specs.Places.{Within, setPlaces}
+use Rattle.bitset.specs.Words.{placesOf}
+use Rattle.bitset.proofs.PlaceLaws.{places-zero}
+use Rattle.common.specs.Kinds.{isControl}
+use Rattle.descriptor.specs.declared.qtd.QueueTransferDescriptor.{QueueTransferDescriptor as Record}
+use Rattle.pool.specs.declared.asked.AskWords.{AskWords}
+use Rattle.pool.specs.declared.chain.Ask.{Ask}
+use Rattle.pool.specs.declared.chain.Chain.{Chain}
+use Rattle.pool.specs.declared.chain.Deed.{Deed}
+use Rattle.pool.specs.declared.chain.Deed.the-variants as Deeds
+use Rattle.pool.specs.declared.laying.Laying.{Laying}
+use Rattle.pool.specs.declared.marking.Marking.{Marking}
+use Rattle.pool.specs.declared.transfer.Transfer.{Transfer}
+use Rattle.pool.specs.declared.writing.Writing.{Writing}
+use Rattle.pool.specs.Places as Listed
+use Rattle.pool.specs.Places.{listOf, packed, upFrom}
+use Rattle.pool.specs.Chains.{blank, fillOf, filledFrom, seenFrom, transferGood, viewOf, withToken}
+use Rattle.pool.specs.Words.{AskWordsGood, ChunksGood, LayingGood, MarkingGood, StagesGood, WritingGood, bitIn, chunksOf, clearedTo, laidOf, layingIf, markedOf, noAskWords, noLaying, noMarking, noWords, noWriting, onlyOf, stagesOf, wherePlaces, wordsIf, writtenWith}
+use Rattle.pool.proofs.ChainLaws.{fill-clear}
+use Rattle.pool.proofs.PlaceLaws.{list-packed}
+
+pub no-places : setPlaces noWords ≡ []
+unfolding setPlaces
+no-places = rw (places-zero 0 64, places-zero 64 64, places-zero 128 64, places-zero 192 64)
+
+-- the set of one place
+one-bit : (i k d : ℕ) → d < k → placesOf i k (2 ^ d) ≡ (i + d) ∷ []
+unfolding placesOf
+one-bit i zero d h = absurd (omega (arith, h))
+one-bit i (suc k) zero h = rw (places-zero (suc i) k) (ap (λ (q : ℕ). q ∷ []) (let z : i ≡ i + 0 = omega arith in z))
+one-bit i (suc k) (suc d) h =
+    let even : 2 ^ suc d % 2 ≡ 0 = omega (arith, pow-suc 2 d) in
+    let half : 2 ^ suc d / 2 ≡ 2 ^ d = omega (arith, pow-suc 2 d) in
+    rw (even, half) (one-bit (suc i) k d (omega (arith, h)) ∙ ap (λ (q : ℕ). q ∷ []) (let z : suc i + d ≡ i + suc d = omega arith in z))
+
+only-in : (p i j : ℕ) (b : Bool) → eqb (p / 64) j ≡ b → placesOf i 64 (cond b (2 ^ (p % 64)) 0) ≡ cond b ((i + p % 64) ∷ []) []
+only-in p i j true e = one-bit i 64 (p % 64) (omega arith)
+only-in p i j false e = places-zero i 64
+
+pub only-places : (p : ℕ) → p < 256 → setPlaces (onlyOf p) ≡ p ∷ []
+unfolding setPlaces onlyOf
+only-places p h =
+    let share : (j : ℕ) → placesOf (64 * j) 64 (bitIn p j) ≡ cond (eqb (p / 64) j) ((64 * j + p % 64) ∷ []) [] = λ j. only-in p (64 * j) j (eqb (p / 64) j) refl in
+    rw (share 0, share 1, share 2, share 3) (go (p / 64) refl)
+  where
+    go : (j : ℕ) → p / 64 ≡ j
+        → cond (eqb j 0) ((64 * 0 + p % 64) ∷ []) [] ++ (cond (eqb j 1) ((64 * 1 + p % 64) ∷ []) [] ++ (cond (eqb j 2) ((64 * 2 + p % 64) ∷ []) [] ++ cond (eqb j 3) ((64 * 3 + p % 64) ∷ []) [])) ≡ p ∷ []
+    go zero e = ap (λ (q : ℕ). q ∷ []) (let z : 64 * 0 + p % 64 ≡ p = omega (arith, e) in z)
+    go (suc zero) e = ap (λ (q : ℕ). q ∷ []) (let z : 64 * 1 + p % 64 ≡ p = omega (arith, e) in z)
+    go (suc (suc zero)) e = ap (λ (q : ℕ). q ∷ []) (let z : 64 * 2 + p % 64 ≡ p = omega (arith, e) in z)
+    go (suc (suc (suc zero))) e = ap (λ (q : ℕ). q ∷ []) (let z : 64 * 3 + p % 64 ≡ p = omega (arith, e) in z)
+    go (suc (suc (suc (suc j)))) e = absurd (omega (arith, e, h))
+
+-- ---- the parts of a writing
+
+abbrev laid-by : Laying → List ℕ → List Record → List Record
+laid-by l w rs = filledFrom (Deeds.Transfer (l .transfer)) (l .base) 0 (setPlaces w) rs
+
+none-laid : (l : Laying) (rs : List Record) → laid-by l noWords rs ≡ rs
+unfolding filledFrom
+none-laid l rs = ap (λ (ps : List ℕ). filledFrom (Deeds.Transfer (l .transfer)) (l .base) 0 ps rs) no-places
+
+-- one of the two kinds lays all
+one-lays : (l : Laying) (b : Bool) (rs : List Record) → laid-by l (wordsIf (not b) (l .places)) (laid-by l (wordsIf b (l .places)) rs) ≡ laidOf l rs
+one-lays l true rs = none-laid l (laidOf l rs)
+one-lays l false rs = ap (laidOf l) (none-laid l rs)
+
+pub parts-written : (w : Writing) (rs : List Record) → markedOf (w .marking) (laidOf (chunksOf w) (laidOf (stagesOf w) rs)) ≡ writtenWith w rs
+unfolding stagesOf chunksOf writtenWith
+parts-written w rs = ap (markedOf (w .marking)) (one-lays (w .laying) (isControl (w .laying .transfer .kind)) rs)
+
+-- ---- what may be handed to the pool
+
+-- nothing is asked where there is no place
+no-place-asks : (P : List ℕ → Type 0) → wherePlaces (setPlaces noWords) (P (setPlaces noWords))
+no-place-asks P = subst (λ (ps : List ℕ). wherePlaces ps (P ps)) (sym no-places) tt
+
+no-place-within : (n : ℕ) → Within n (setPlaces noWords)
+no-place-within n = subst (λ (ps : List ℕ). Within n ps) (sym no-places) tt
+
+kept-good : (n : ℕ) (l : Laying) (b : Bool) → LayingGood n l → LayingGood n (layingIf b l)
+kept-good n l true g = g
+kept-good n l false g =
+    record {
+      within = no-place-within n;
+      transfer = no-place-asks (λ ps. transferGood (l .transfer) (l .base) n (length ps));
+    }
+
+where-known : (ps : List ℕ) (P : Type 0) → P → wherePlaces ps P
+where-known [] P p = tt
+where-known (q ∷ qs) P p = p
+
+kind-kept : (l : Laying) (b : Bool) (P : Type 0) → (b ≡ true → P) → wherePlaces (setPlaces (wordsIf b (l .places))) P
+kind-kept l true P h = where-known (setPlaces (l .places)) P (h refl)
+kind-kept l false P h = no-place-asks (λ ps. P)
+
+not-true : (b : Bool) → not b ≡ true → b ≡ false
+not-true false e = refl
+not-true true e = sym e
+
+module _ (n : ℕ) (w : Writing) (g : WritingGood n w) where
+  pub stages-good : StagesGood n (stagesOf w)
+  unfolding stagesOf
+  stages-good =
+      let control : Bool = isControl (w .laying .transfer .kind) in
+      record { laying = kept-good n (w .laying) control (g .laying); kind = kind-kept (w .laying) control (control ≡ true) (λ e. e) }
+
+  pub chunks-good : ChunksGood n (chunksOf w)
+  unfolding chunksOf
+  chunks-good =
+      let control : Bool = isControl (w .laying .transfer .kind) in
+      record {
+        laying = kept-good n (w .laying) (not control) (g .laying);
+        kind = kind-kept (w .laying) (not control) (control ≡ false) (not-true control);
+      }
+
+pub no-laying-good : (n : ℕ) → LayingGood n noLaying
+unfolding noLaying
+no-laying-good n =
+    record { within = no-place-within n; transfer = no-place-asks (λ ps. transferGood (noLaying .transfer) 0 n (length ps)) }
+
+pub no-marking-good : (n : ℕ) → MarkingGood n noMarking
+unfolding noMarking
+no-marking-good n = record { within = no-place-within n }
+
+pub no-writing-good : (n : ℕ) → WritingGood n noWriting
+unfolding noWriting
+no-writing-good n = record { laying = no-laying-good n; marking = no-marking-good n }
+
+-- a transfer at the places of a set, and a token at one place
+pub laying-good : (n : ℕ) (l : Laying) → Within n (setPlaces (l .places)) → transferGood (l .transfer) (l .base) n (length (setPlaces (l .places))) → LayingGood n l
+laying-good n l w g =
+    record { within = w; transfer = where-known (setPlaces (l .places)) (transferGood (l .transfer) (l .base) n (length (setPlaces (l .places)))) g }
+
+pub marking-good : (n : ℕ) (m : Marking) (p : ℕ) → setPlaces (m .places) ≡ p ∷ [] → p < n → MarkingGood n m
+marking-good n m p e h = record { within = subst (λ (ps : List ℕ). Within n ps) (sym e) (h, tt) }
+
+pub no-ask-words-good : (n : ℕ) → AskWordsGood n noAskWords
+unfolding noAskWords
+no-ask-words-good n = record { within = no-place-within n; short = omega arith; limited = omega arith }
+
+-- ---- what is written
+
+-- no place, nothing written
+pub no-places-written : (w : Writing) (rs : List Record) → setPlaces (w .laying .places) ≡ [] → setPlaces (w .marking .places) ≡ [] → writtenWith w rs ≡ rs
+unfolding writtenWith filledFrom
+no-places-written w rs el em =
+    ap (λ (ps : List ℕ). filledFrom (Deeds.Token (w .marking .token)) 0 0 ps (laidOf (w .laying) rs)) em
+    ∙ ap (λ (ps : List ℕ). filledFrom (Deeds.Transfer (w .laying .transfer)) (w .laying .base) 0 ps rs) el
+
+pub no-writing-written : (rs : List Record) → writtenWith noWriting rs ≡ rs
+unfolding noWriting noLaying noMarking
+no-writing-written rs = no-places-written noWriting rs no-places no-places
+
+-- a transfer alone is what its chain leaves
+pub laid-is-chain : (w : Writing) (c : Chain) (rs : List Record) → setPlaces (w .marking .places) ≡ [] → listOf (c .places) ≡ setPlaces (w .laying .places) → c .base ≡ w .laying .base
+    → c .deed ≡ Deeds.Transfer (w .laying .transfer) → writtenWith w rs ≡ fillOf c rs
+unfolding writtenWith fillOf filledFrom
+laid-is-chain w c rs em ep eb ed =
+    ap (λ (ps : List ℕ). filledFrom (Deeds.Token (w .marking .token)) 0 0 ps (laidOf (w .laying) rs)) em
+    ∙ ap (λ (ps : List ℕ). filledFrom (Deeds.Transfer (w .laying .transfer)) (w .laying .base) 0 ps rs) (sym ep)
+    ∙ ap (λ (b : ℕ). filledFrom (Deeds.Transfer (w .laying .transfer)) b 0 (listOf (c .places)) rs) (sym eb)
+    ∙ ap (λ (d : Deed). filledFrom d (c .base) 0 (listOf (c .places)) rs) (sym ed)
+
+-- a token's records depend on neither the base nor the index
+token-same : (t b k b′ k′ : ℕ) (ps : List ℕ) (rs : List Record) → filledFrom (Deeds.Token t) b k ps rs ≡ filledFrom (Deeds.Token t) b′ k′ ps rs
+unfolding filledFrom
+token-same t b k b′ k′ [] rs = refl
+token-same t b k b′ k′ (p ∷ ps) rs = token-same t b (suc k) b′ (suc k′) ps (set rs p (withToken (getD rs p blank) t))
+
+-- a token alone is what its chain leaves
+pub marked-is-chain : (w : Writing) (c : Chain) (rs : List Record) → setPlaces (w .laying .places) ≡ [] → listOf (c .places) ≡ setPlaces (w .marking .places)
+    → c .deed ≡ Deeds.Token (w .marking .token) → writtenWith w rs ≡ fillOf c rs
+unfolding writtenWith fillOf filledFrom
+marked-is-chain w c rs el ep ed =
+    ap (λ (ps : List ℕ). markedOf (w .marking) (filledFrom (Deeds.Transfer (w .laying .transfer)) (w .laying .base) 0 ps rs)) el
+    ∙ token-same (w .marking .token) 0 0 (c .base) 0 (setPlaces (w .marking .places)) rs
+    ∙ ap (λ (ps : List ℕ). filledFrom (Deeds.Token (w .marking .token)) (c .base) 0 ps rs) (sym ep)
+    ∙ ap (λ (d : Deed). filledFrom d (c .base) 0 (listOf (c .places)) rs) (sym ed)
+
+-- the same of a chain whose places are packed
+pub laid-is-packed : (w : Writing) (ps : List ℕ) (base : ℕ) (rs : List Record) → setPlaces (w .marking .places) ≡ [] → setPlaces (w .laying .places) ≡ ps → base ≡ w .laying .base
+    → writtenWith w rs ≡ fillOf (record { places = packed ps; base = base; deed = Deeds.Transfer (w .laying .transfer) }) rs
+laid-is-packed w ps base rs em ep eb =
+    laid-is-chain w (record { places = packed ps; base = base; deed = Deeds.Transfer (w .laying .transfer) }) rs em (list-packed ps ∙ sym ep) eb refl
+
+pub marked-is-packed : (w : Writing) (ps : List ℕ) (base : ℕ) (rs : List Record) → setPlaces (w .laying .places) ≡ [] → setPlaces (w .marking .places) ≡ ps
+    → writtenWith w rs ≡ fillOf (record { places = packed ps; base = base; deed = Deeds.Token (w .marking .token) }) rs
+marked-is-packed w ps base rs el ep =
+    marked-is-chain w (record { places = packed ps; base = base; deed = Deeds.Token (w .marking .token) }) rs el (list-packed ps ∙ sym ep) refl
+
+-- ---- the first records cleared
+
+pub cleared-is-packed : (count : ℕ) (rs : List Record) → clearedTo count rs ≡ fillOf (record { places = packed (upFrom 0 count); base = 0; deed = Deeds.Clear }) rs
+unfolding clearedTo fillOf
+cleared-is-packed count rs = ap (λ (ps : List ℕ). filledFrom Deeds.Clear 0 0 ps rs) (sym (list-packed (upFrom 0 count)))
+
+pub cleared-none : (rs : List Record) → clearedTo 0 rs ≡ rs
+unfolding clearedTo upFrom filledFrom
+cleared-none rs = refl
+
+pub cleared-all : (rs : List Record) → clearedTo (length rs) rs ≡ replicate (length rs) blank
+cleared-all rs = cleared-is-packed (length rs) rs ∙ fill-clear 0 rs
+
+-- ---- what is seen
+
+-- a question by words is the question of a list that has the same places
+pub seen-is-listed : (a : AskWords) (b : Ask) (rs : List Record) → listOf (b .places) ≡ setPlaces (a .places) → b .kind ≡ a .kind → b .length ≡ a .length → b .limit ≡ a .limit
+    → viewOf (seenFrom (a .kind) (a .length) (a .limit) 0 (setPlaces (a .places)) rs) ≡ viewOf (seenFrom (b .kind) (b .length) (b .limit) 0 (listOf (b .places)) rs)
+seen-is-listed a b rs ep ek el em = rw (ep, ek, el, em)
+
+-- the two ways of saying that every place is below n
+pub within-set : (n : ℕ) (ps : List ℕ) → Listed.Within n ps → Within n ps
+within-set n [] w = tt
+within-set n (p ∷ ps) w = (w .0, within-set n ps (w .1))

@@ -1,0 +1,44 @@
+-- `pool::asked::see_word` meets its contract.
+use Rattle.pool.proofs.WordCases.{word-sum-fits, word-seen}
+use borrow.Author.Needs.{needs}
+use Rattle.pool.proofs.asked.see_word.Statement.{statement}
+use Rattle.pool.proofs.asked.see_word.Tie as tie
+use Rattle.pool.proofs.asked.see_word.Reads as reads
+use Rattle.pool.proofs.asked.see_word.Lts as lts
+use Rattle.pool.proofs.chain.failed_with.Reads as failed-with-reads
+use Rattle.pool.proofs.chain.moved_of.Reads as moved-of-reads
+use Rattle.pool.proofs.chain.stage_with.Reads as stage-with-reads
+use Rattle.pool.proofs.transfer.requested.Reads as requested-reads
+
+requested-requires : tie.Need-requested-requires
+requested-requires c κs = search needs
+
+stage-with-requires : tie.Need-stage-with-requires
+stage-with-requires c κs = search needs
+
+failed-with-requires : tie.Need-failed-with-requires
+failed-with-requires c κs = search needs
+
+moved-of-requires : tie.Need-moved-of-requires
+moved-of-requires c κs = search needs
+
+add-t11 : tie.Need-add-t11
+add-t11 c = search word-sum-fits
+
+add-t10 : tie.Need-add-t10
+add-t10 c = search needs
+
+returns : tie.Need-returns
+returns c = search word-seen
+
+pub see-word-spec : {M : Type 1} → statement M
+see-word-spec =
+    tie.close
+    (tie.spec
+    requested-requires
+    stage-with-requires
+    failed-with-requires
+    moved-of-requires
+    add-t11
+    add-t10
+    returns)

@@ -1,0 +1,58 @@
+-- `pool::laying::chunk_record` meets its contract.
+use Rattle.pool.proofs.WordCases.{chunk-laid}
+use borrow.Author.Needs.{needs}
+use Rattle.pool.proofs.laying.chunk_record.Statement.{statement}
+use Rattle.pool.proofs.laying.chunk_record.Tie as tie
+use Rattle.pool.proofs.laying.chunk_record.Reads as reads
+use Rattle.pool.proofs.laying.chunk_record.Lts as lts
+use Rattle.bitset.proofs.cursor.at_end.Reads as at-end-reads
+use Rattle.descriptor.proofs.qtd.NextQtd.word.Reads as word-reads
+use Rattle.descriptor.proofs.slots.page_slots.Reads as page-slots-reads
+use Rattle.pool.proofs.laying.next_at.Reads as next-at-reads
+use Rattle.token.proofs.plan.chunk_token.Reads as chunk-token-reads
+use Rattle.token.proofs.qtd.least.Reads as least-reads
+
+next-at-requires : tie.Need-next-at-requires
+next-at-requires c κs = search needs
+
+mul-start : tie.Need-mul-start
+mul-start c = search needs
+
+sub-least : tie.Need-sub-least
+sub-least c = search needs
+
+least-requires : tie.Need-least-requires
+least-requires c κs = search needs
+
+at-end-requires : tie.Need-at-end-requires
+at-end-requires c κs = search needs
+
+chunk-token-requires : tie.Need-chunk-token-requires
+chunk-token-requires c κs = search needs
+
+word-requires : tie.Need-word-requires
+word-requires c κs = search needs
+
+add-page-slots : tie.Need-add-page-slots
+add-page-slots c = search needs
+
+page-slots-requires : tie.Need-page-slots-requires
+page-slots-requires c κs = search needs
+
+returns : tie.Need-returns
+returns c = search chunk-laid
+
+pub chunk-record-spec : {M : Type 1} → statement M
+chunk-record-spec =
+    tie.close
+    (tie.spec
+    next-at-requires
+    mul-start
+    sub-least
+    least-requires
+    at-end-requires
+    chunk-token-requires
+    word-requires
+    add-page-slots
+    page-slots-requires
+    returns)

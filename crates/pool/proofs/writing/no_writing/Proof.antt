@@ -1,0 +1,22 @@
+-- `pool::writing::no_writing` meets its contract.
+use Rattle.pool.specs.Words.{noWriting}
+use borrow.Author.Needs.{needs}
+use Rattle.pool.proofs.writing.no_writing.Statement.{statement}
+use Rattle.pool.proofs.writing.no_writing.Tie as tie
+use Rattle.pool.proofs.writing.no_writing.Reads as reads
+use Rattle.pool.proofs.writing.no_writing.Lts as lts
+use Rattle.pool.proofs.laying.no_laying.Reads as no-laying-reads
+use Rattle.pool.proofs.marking.no_marking.Reads as no-marking-reads
+
+no-laying-requires : tie.Need-no-laying-requires
+no-laying-requires c κs = search needs
+
+no-marking-requires : tie.Need-no-marking-requires
+no-marking-requires c κs = search needs
+
+returns : tie.Need-returns
+unfolding noWriting
+returns c = rw (c .before .no-laying .ensures, c .no-marking .ensures)
+
+pub no-writing-spec : {M : Type 1} → statement M
+no-writing-spec = tie.close (tie.spec no-laying-requires no-marking-requires returns)

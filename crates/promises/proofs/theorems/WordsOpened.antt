@@ -1,0 +1,44 @@
+-- Every accepted opening can be given in words: no word of the row is set, every place is free.
+use Prim.Native.Nat.{ℕ, zero, suc, _*_}
+use mathlib.Core.Bool.{true}
+use mathlib.Core.Path.{_≡_, refl, sym, subst}
+use lib.Dec.{lit<}
+use lib.ListN.{replicate}
+use Rattle.bitset.specs.Places.{allBelow}
+use Rattle.bitset.specs.Words.{Fitting}
+use Rattle.bitset.proofs.SetLaws.{all-words}
+use Rattle.settings.specs.Settings.{settingsGood}
+use Rattle.settings.specs.declared.settings.Settings.{Settings}
+use Rattle.state.specs.declared.state.Ehci.{Ehci}
+use Rattle.words.specs.Opened.{openedRest, openedRow}
+use Rattle.words.specs.View.{stateOf}
+use Rattle.words.proofs.OpenedLaws.{tidy-opened, view-opened}
+use Rattle.opening.specs.Opening.{freshState}
+use Rattle.promises.specs.Runs.{Opening}
+use Rattle.promises.specs.WordsRuns.{Typed, WordsOpening, WordsWorld}
+use Rattle.promises.proofs.invariants.Reached.{freshRows, opens-fresh}
+
+abbrev pub freshWords : Settings → WordsWorld
+freshWords s =
+    record { core = record { settings = s; rest = openedRest (s .descriptors) }; slots = openedRow (s .endpoints); rows = freshRows s }
+
+zeros-fit : (n : ℕ) → Fitting (replicate n 0)
+zeros-fit zero = tt
+zeros-fit (suc n) = (lit< tt, zeros-fit n)
+
+fresh-typed : (s : Settings) → Typed (openedRest (s .descriptors)) (openedRow (s .endpoints))
+unfolding openedRest allBelow
+fresh-typed s = record { four = refl; free-fits = all-words (s .descriptors); row-fits = zeros-fit (6 * s .endpoints) }
+
+fresh-view : (s : Settings) → stateOf s (openedRest (s .descriptors)) (openedRow (s .endpoints)) ≡ freshState s
+unfolding freshState
+fresh-view s = view-opened s
+
+pub opens-words : (s : Settings) → settingsGood s ≡ true → WordsOpening s (freshWords s)
+opens-words s e =
+    record {
+      opened = subst (λ (x : Ehci). Opening s (record { state = x; rows = freshRows s })) (sym (fresh-view s)) (opens-fresh s e);
+      settings-are = refl;
+      tidy = tidy-opened s;
+      typed = fresh-typed s;
+    }

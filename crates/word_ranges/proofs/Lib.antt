@@ -1,0 +1,11 @@
+pub mod ScalarCases
+pub mod SeenCases
+pub mod JudgeCases
+pub mod WordLaws
+pub mod HeldLaws
+pub mod SlotJudge
+pub mod SeenLaws
+pub mod CoreLaws
+pub mod OwnerLaws
+pub mod JudgeLaws
+pub mod Examples

@@ -1,0 +1,5 @@
+pub mod Record
+pub mod View
+pub mod Rest
+pub mod Good
+pub mod Opened
