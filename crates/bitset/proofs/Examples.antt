@@ -9,7 +9,6 @@ use Rattle.bitset.specs.Words.{bit, placesOf, dropBits, onesBelow, clear
 use Rattle.bitset.specs.Places.{setPlaces, allBelow, withoutOf, withOf, hasPlace, countBefore, lowestOf, upFrom}
 use Rattle.bitset.specs.Rest.{restOf, laterOf, placeAt}
 use Rattle.bitset.specs.Judge.{metIn, twiceIn, ownerIn}
-use Rattle.bitset.specs.Search.{placesFrom}
 
 abbrev some : List ℕ
 some = 5 ∷ 2 ∷ 0 ∷ 1 ∷ []
@@ -112,9 +111,3 @@ two-twice = refl
 its-owner : ownerIn 2 0 (2 ∷ 4 ∷ []) ≡ 2
 unfolding ownerIn bit
 its-owner = refl
-
--- ---- the search in the owners of places 0 to 3
-
-free-two : placesFrom 0 (0 ∷ 1 ∷ 0 ∷ 0 ∷ []) 0 2 ≡ 0 ∷ 2 ∷ []
-unfolding placesFrom
-free-two = refl

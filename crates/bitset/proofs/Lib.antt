@@ -9,6 +9,5 @@ pub mod OrderLaws
 pub mod LowestLaws
 pub mod CursorLaws
 pub mod JudgeLaws
-pub mod SearchLaws
 pub mod OneLaws
 pub mod Examples

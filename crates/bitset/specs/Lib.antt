@@ -2,4 +2,3 @@ pub mod Words
 pub mod Places
 pub mod Rest
 pub mod Judge
-pub mod Search

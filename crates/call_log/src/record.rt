@@ -286,7 +286,7 @@ fn entry_third(f: Fields) -> Entry
     }
 }
 
-pub fn entry_from(f: Fields) -> Entry
+fn entry_from(f: Fields) -> Entry
     ensures { λ r. ⌜ r ≡ entryFrom f ⌝ }
 {
     let number = f.number;

@@ -33,7 +33,7 @@ use Rattle.pool.specs.declared.transfer.Transfer.{Transfer}
 use Rattle.pool.specs.declared.writing.Writing.{Writing}
 use Rattle.pool.specs.Transfers.{addressOf, bareAt, bareFor, chunkQtd, isLast, nextOf, recordAt, requestedAt, stageAt}
 use Rattle.pool.specs.Chains.{isActive, isErring, numberIf, orElse, viewOf}
-use Rattle.pool.specs.Words.{bitIn, chunksOf, layingIf, nextGood, onlyOf, seenNext, stagesOf, wordsIf}
+use Rattle.pool.specs.Words.{chunksOf, layingIf, nextGood, seenNext, stagesOf, wordsIf}
 use Rattle.pool.proofs.ChainCases.{requested-lt, see-made}
 
 -- ---- what is seen
@@ -54,19 +54,6 @@ none-made v e = ap (λ (u : View). record { view = u; k = 0 }) e
 
 pub place-fits : (j left r : ℕ) → j < 4 → r ≡ trailingZeros 64 left → Fits w64 (64 * j + r)
 place-fits j left r h e = omega (arith, h, e, trailing-le 64 left)
-
--- ---- the set of one place
-
-pub bit-not : (p j : ℕ) → (p / 64 ≡ j → ⊥) → 0 ≡ bitIn p j
-bit-not p j h = rw (ne-eqb (p / 64) j h)
-
-pub bit-there : (p j : ℕ) → p / 64 ≡ j → 1 * 2 ^ (p % 64) % 2 ^ 64 ≡ bitIn p j
-bit-there p j e = rw (eq-eqb (p / 64) j e) (shifted (p % 64) (omega arith))
-
-pub one-made : (p token a b c d : ℕ) → a ≡ bitIn p 0 → b ≡ bitIn p 1 → c ≡ bitIn p 2 → d ≡ bitIn p 3
-    → _≡_ {A = Marking} (record { places = a ∷ b ∷ c ∷ d ∷ []; token = token }) (record { places = onlyOf p; token = token })
-unfolding onlyOf
-one-made p token a b c d ea eb ec ed = rw (ea, eb, ec, ed)
 
 -- ---- where the chain goes on
 

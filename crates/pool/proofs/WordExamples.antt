@@ -14,7 +14,7 @@ use Rattle.pool.specs.declared.laying.Laying.{Laying}
 use Rattle.pool.specs.Places.{upFrom}
 use Rattle.pool.specs.Transfers.{bareAt, chunkQtd, recordAt, requestedAt}
 use Rattle.pool.specs.Chains.{blank, filledFrom, firstError, lengthOf, seenFrom, standingOf, viewOf}
-use Rattle.pool.specs.Words.{clearedTo, noLaying, noMarking, onlyOf, writtenWith}
+use Rattle.pool.specs.Words.{clearedTo, noLaying, noMarking, writtenWith}
 
 -- bulk In, 16385 bytes in chunks of 16384, at places 0 and 2
 abbrev two-chunks : Laying
@@ -37,12 +37,8 @@ unfolding writtenWith noMarking setPlaces placesOf filledFrom recordAt bareAt ch
 laid = refl
 
 -- the token at place 65, and no other
-one-place : setPlaces (onlyOf 65) ≡ 65 ∷ []
-unfolding setPlaces onlyOf placesOf
-one-place = refl
-
-marked : getD (writtenWith (record { laying = noLaying; marking = record { places = onlyOf 65; token = 9 } }) (replicate 66 blank)) 65 blank ≡ record { next = 0; alternate = 0; token = 9; pages = zeroSlots; upper = zeroSlots }
-unfolding writtenWith noLaying setPlaces onlyOf placesOf filledFrom
+marked : getD (writtenWith (record { laying = noLaying; marking = record { places = 0 ∷ 2 ∷ 0 ∷ 0 ∷ []; token = 9 } }) (replicate 66 blank)) 65 blank ≡ record { next = 0; alternate = 0; token = 9; pages = zeroSlots; upper = zeroSlots }
+unfolding writtenWith noLaying setPlaces placesOf filledFrom
 marked = refl
 
 -- both chunks are done, the second one left its byte

@@ -24,41 +24,13 @@ use Rattle.pool.specs.declared.writing.Writing.{Writing}
 use Rattle.pool.specs.Places as Listed
 use Rattle.pool.specs.Places.{listOf, packed, upFrom}
 use Rattle.pool.specs.Chains.{blank, fillOf, filledFrom, seenFrom, transferGood, viewOf, withToken}
-use Rattle.pool.specs.Words.{AskWordsGood, ChunksGood, LayingGood, MarkingGood, StagesGood, WritingGood, bitIn, chunksOf, clearedTo, laidOf, layingIf, markedOf, noAskWords, noLaying, noMarking, noWords, noWriting, onlyOf, stagesOf, wherePlaces, wordsIf, writtenWith}
+use Rattle.pool.specs.Words.{AskWordsGood, ChunksGood, LayingGood, MarkingGood, StagesGood, WritingGood, chunksOf, clearedTo, laidOf, layingIf, markedOf, noAskWords, noLaying, noMarking, noWords, noWriting, stagesOf, wherePlaces, wordsIf, writtenWith}
 use Rattle.pool.proofs.ChainLaws.{fill-clear}
 use Rattle.pool.proofs.PlaceLaws.{list-packed}
 
 pub no-places : setPlaces noWords ≡ []
 unfolding setPlaces
 no-places = rw (places-zero 0 64, places-zero 64 64, places-zero 128 64, places-zero 192 64)
-
--- the set of one place
-one-bit : (i k d : ℕ) → d < k → placesOf i k (2 ^ d) ≡ (i + d) ∷ []
-unfolding placesOf
-one-bit i zero d h = absurd (omega (arith, h))
-one-bit i (suc k) zero h = rw (places-zero (suc i) k) (ap (λ (q : ℕ). q ∷ []) (let z : i ≡ i + 0 = omega arith in z))
-one-bit i (suc k) (suc d) h =
-    let even : 2 ^ suc d % 2 ≡ 0 = omega (arith, pow-suc 2 d) in
-    let half : 2 ^ suc d / 2 ≡ 2 ^ d = omega (arith, pow-suc 2 d) in
-    rw (even, half) (one-bit (suc i) k d (omega (arith, h)) ∙ ap (λ (q : ℕ). q ∷ []) (let z : suc i + d ≡ i + suc d = omega arith in z))
-
-only-in : (p i j : ℕ) (b : Bool) → eqb (p / 64) j ≡ b → placesOf i 64 (cond b (2 ^ (p % 64)) 0) ≡ cond b ((i + p % 64) ∷ []) []
-only-in p i j true e = one-bit i 64 (p % 64) (omega arith)
-only-in p i j false e = places-zero i 64
-
-pub only-places : (p : ℕ) → p < 256 → setPlaces (onlyOf p) ≡ p ∷ []
-unfolding setPlaces onlyOf
-only-places p h =
-    let share : (j : ℕ) → placesOf (64 * j) 64 (bitIn p j) ≡ cond (eqb (p / 64) j) ((64 * j + p % 64) ∷ []) [] = λ j. only-in p (64 * j) j (eqb (p / 64) j) refl in
-    rw (share 0, share 1, share 2, share 3) (go (p / 64) refl)
-  where
-    go : (j : ℕ) → p / 64 ≡ j
-        → cond (eqb j 0) ((64 * 0 + p % 64) ∷ []) [] ++ (cond (eqb j 1) ((64 * 1 + p % 64) ∷ []) [] ++ (cond (eqb j 2) ((64 * 2 + p % 64) ∷ []) [] ++ cond (eqb j 3) ((64 * 3 + p % 64) ∷ []) [])) ≡ p ∷ []
-    go zero e = ap (λ (q : ℕ). q ∷ []) (let z : 64 * 0 + p % 64 ≡ p = omega (arith, e) in z)
-    go (suc zero) e = ap (λ (q : ℕ). q ∷ []) (let z : 64 * 1 + p % 64 ≡ p = omega (arith, e) in z)
-    go (suc (suc zero)) e = ap (λ (q : ℕ). q ∷ []) (let z : 64 * 2 + p % 64 ≡ p = omega (arith, e) in z)
-    go (suc (suc (suc zero))) e = ap (λ (q : ℕ). q ∷ []) (let z : 64 * 3 + p % 64 ≡ p = omega (arith, e) in z)
-    go (suc (suc (suc (suc j)))) e = absurd (omega (arith, e, h))
 
 -- ---- the parts of a writing
 

@@ -1,9 +1,8 @@
 -- What is asked of the pool and written to it, the places as the words of a set.
-use Prim.Native.Nat.{ℕ, _+_, _-_, _*_, _/_, _%_, _≤_, _<_, _^_}
+use Prim.Native.Nat.{ℕ, _+_, _-_, _*_, _≤_, _<_, _^_}
 use mathlib.Core.Path.{_≡_}
-use mathlib.Core.Bool.{Bool, true, false, cond, not}
+use mathlib.Core.Bool.{Bool, true, false, not}
 use mathlib.Core.List.{List, [], _∷_, _++_}
-use lib.Dec.{eqb}
 use lib.ListN.{getD, length, replicate}
 use Rattle.bitset.specs.Places.{Within, setPlaces}
 use Rattle.bitset.specs.Words.{placesOf}
@@ -92,14 +91,6 @@ writtenWith w rs = markedOf (w .marking) (laidOf (w .laying) rs)
 -- the first records are cleared
 unfoldable pub clearedTo : ℕ → List QueueTransferDescriptor → List QueueTransferDescriptor
 clearedTo count rs = filledFrom Deeds.Clear 0 0 (upFrom 0 count) rs
-
--- word j of the set of one place
-abbrev pub bitIn : ℕ → ℕ → ℕ
-bitIn p j = cond (eqb (p / 64) j) (2 ^ (p % 64)) 0
-
--- the words of the set of one place
-unfoldable pub onlyOf : ℕ → List ℕ
-onlyOf p = bitIn p 0 ∷ bitIn p 1 ∷ bitIn p 2 ∷ bitIn p 3 ∷ []
 
 -- ---- what is asked of a caller
 

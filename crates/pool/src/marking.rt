@@ -4,7 +4,7 @@ ghost use Prim.Native.Nat.{_≤_};
 ghost use lib.ListN.{length};
 ghost use Rattle.bitset.specs.Places.{setPlaces};
 ghost use Rattle.bitset.specs.Rest.{restOf};
-ghost use Rattle.pool.specs.Words.{MarkingGood, bitIn, clearedTo, markedOf, noMarking, onlyOf};
+ghost use Rattle.pool.specs.Words.{MarkingGood, clearedTo, markedOf, noMarking};
 use crate::chain::no_record;
 use crate::laying::more;
 use crate::row::replace;
@@ -26,30 +26,6 @@ pub fn no_marking() -> Marking
     Marking {
         places: [0; 4],
         token: 0,
-    }
-}
-
-fn bit_in(place: u64, j: u64) -> u64
-    ensures { λ r. ⌜ r ≡ bitIn place j ⌝ }
-{
-    if place / 64 != j {
-        return 0;
-    }
-    1 << (place % 64)
-}
-
-// One record gets a token.
-pub fn one_mark(place: u64, token: u32) -> Marking
-    ensures { λ r. ⌜ r ≡ record { places = onlyOf place; token = token } ⌝ }
-{
-    Marking {
-        places: [
-            bit_in(place, 0),
-            bit_in(place, 1),
-            bit_in(place, 2),
-            bit_in(place, 3),
-        ],
-        token,
     }
 }
 
