@@ -33,7 +33,7 @@ use Rattle.request.specs.declared.in_words.answers.Submitted.{Submitted 
 use Rattle.request.specs.declared.in_words.answers.WrittenBack.{WrittenBack as WrittenBackWords}
 use Rattle.request.specs.declared.judge.TransferRequest.{TransferRequest}
 
--- ---- as today's results
+-- ---- as what the definitions leave
 
 -- a deed at some places; where there is none nothing is written
 abbrev pub chainAt : List ℕ → ℕ → Deed → Chain
