@@ -1,6 +1,7 @@
 #!/usr/bin/env python3
 """Instructions a call, counted one by one: what bench/run takes where programs for x86-64 are emulated and callgrind cannot
-run them. bench/count.py BENCH SIDE SIZE.. prints them for a bench that bench/run has linked.
+run them. bench/count.py BENCH WORDS.. prints them for a bench that bench/run has linked, as `bench/count.py BENCH count port
+8 3`, which is bench/c/bench.c's use without the number of lives.
 
 The emulator writes a line for each instruction that it carries out (one instruction a block, no block chained to the next).
 A function takes the lines from its entry to its return, with all that it calls. The program is linked to fixed addresses,
@@ -67,27 +68,37 @@ def traced(bench, log):
     return programs.emulated(bench, ["-cpu", "max", single, "-d", "exec,nochain", "-D", log])
 
 
-def count(bench, side, size, wanted):
-    """Instructions a call of the bench's functions whose names are `wanted`, as `inclusive` names them: a mean of all lives
-    but the first."""
+def in_lives(took):
+    """What a call takes and what a life does, of all lives but the first, by the names of `inclusive`. What is not done
+    equally often in each life, as opening, is left out."""
+    a_call, a_life = {}, {}
+    for names, each in took.items():
+        calls = len(each) // LIVES
+        if calls * LIVES == len(each):
+            a_life[names] = sum(each[calls:]) / (LIVES - 1)
+            a_call[names] = a_life[names] / calls
+    return a_call, a_life
+
+
+def count(bench, words, wanted):
+    """`in_lives` of the bench's functions whose names are `wanted`. The words are those of bench.c, with LIVES lives."""
     entries = {address: name for name, address in symbols(bench).items() if wanted(name)}
     with tempfile.TemporaryDirectory() as folder:
         log = os.path.join(folder, "trace")
-        words = traced(str(bench), log) + ["count", side, str(size), str(LIVES)]
+        words = traced(str(bench), log) + [str(word) for word in words]
         done = subprocess.run(words, capture_output=True, text=True)
         if done.returncode:
             programs.stop(f"{' '.join(words)}: status {done.returncode}\n{done.stdout}{done.stderr}")
-        took = inclusive(addresses(log), entries)
-    return {names: sum(each[1:]) / (len(each) - 1) for names, each in took.items() if len(each) > 1}
+        return in_lives(inclusive(addresses(log), entries))
 
 
 def main():
-    if len(sys.argv) < 4:
+    if len(sys.argv) < 6:
         sys.exit(__doc__)
-    bench, side, *sizes = sys.argv[1:]
-    for size in sizes:
-        for names, cost in count(bench, side, size, lambda name: name.startswith("m_")).items():
-            print(f"{size} {' '.join(names)} {cost:,.1f}")
+    bench, verb, side, endpoints, size, *how = sys.argv[1:]
+    a_call, _ = count(bench, [verb, side, endpoints, size, LIVES, *how], lambda name: name.startswith("m_"))
+    for names, cost in a_call.items():
+        print(f"{' '.join(names)} {cost:,.1f}")
 
 
 if __name__ == "__main__":

@@ -1,206 +1,468 @@
-// One life of a request, over and over: submit, the controller's writeback, collect (unlinks), acknowledge, drain, collect
-// (finishes), through the port and through plain C on states and rows of their own.
-//   bench same              both sides at once, every state and row word and every answer compared after each call
-//   bench count SIDE N K    K lives of a request with N descriptors (0: control), to be counted: the m_* functions.
-//                           SIDE is plain, port (`apply`) or named (submit by its named call, the rest by `apply`)
-//   bench time SIDE N K     the same, timed call by call
-//   bench stack SIDE N      bytes of stack below the caller, the deepest byte written
-//   copies copies SIDE N    calls of memcpy in a call, and their bytes (the same program linked with copies.c)
+// The port and plain C, on controllers that the port's own calls open, bring up and give endpoints.
+//   bench same                   both sides at once, every word of core and rows and every answer compared after each call
+//   bench count SIDE E N K       K lives of a request with N descriptors (0: control) beside E slots, to be counted: the m_* functions
+//   bench round port E N K       K rounds of opening and all sixteen calls, to be counted
+//   bench whole SIDE E N K HOW   K lives as docs/INTEGRATION.md prescribes, to be counted; HOW is `all` where every token has
+//                                changed when the tokens are brought in, `last` where only the last has
+//   bench time SIDE E N K        lives, timed call by call
+//   bench stack SIDE E N         bytes of stack below the caller, the deepest byte written
+//   copies copies SIDE E N       calls of memcpy in a call, and their bytes (the same program linked with copies.c)
+#include "driver.h"
 #include "libc.h"
 #include "plain.h"
 #include "port.h"
 
-enum { D = 256, E = 8, LIMIT = 16384 };
-
-struct side {
-    struct ehci state;
-    struct qtd pool[D];
-    u32 heads[17 * (E + 1)];
-    u32 frames[1024];
-    u8 setups[8 * E];
-    struct rows rows;
-};
-
 static struct side port, plain;
 
-// A running controller with a control endpoint in slot 0 and bulk endpoints in slots 1 and 2.
-static void open_side(struct side *x)
+#define MEASURED(by, what, call) \
+    __attribute__((noinline)) static void m_##by##_##what(struct side *x, const struct asked *a, struct answered *out) { call(&x->core, &x->rows, a, out); }
+
+MEASURED(plain, submit, plain_submit)
+MEASURED(plain, writeback, plain_writeback)
+MEASURED(plain, unlink, plain_collect)
+MEASURED(plain, acknowledge, plain_acknowledge)
+MEASURED(plain, drain, plain_drain)
+MEASURED(plain, finish, plain_collect)
+MEASURED(plain, rearm, plain_rearm)
+MEASURED(port, submit, c_submit)
+MEASURED(port, writeback, c_writeback)
+MEASURED(port, unlink, c_collect)
+MEASURED(port, acknowledge, c_acknowledge)
+MEASURED(port, drain, c_drain)
+MEASURED(port, finish, c_collect)
+MEASURED(port, rearm, c_rearm)
+MEASURED(port, cancel, c_cancel)
+MEASURED(port, start_bring_up, c_start_bring_up)
+MEASURED(port, bring_up_step, c_bring_up_step)
+MEASURED(port, allocate_address, c_allocate_address)
+MEASURED(port, open_endpoint, c_open_endpoint)
+MEASURED(port, close, c_close)
+MEASURED(port, set_address, c_set_address)
+MEASURED(port, set_packet_size, c_set_packet_size)
+MEASURED(port, enable, c_enable)
+MEASURED(port, disable, c_disable)
+MEASURED(port, open, c_open)
+
+__attribute__((noinline)) static void m_plain_places(const struct side *x, u8 slot, u64 *out)
 {
-    memset(x, 0, sizeof *x);
-    struct settings s = {D, E, 4, LIMIT, 1000, 0x100000, 0x200000, 0x300000, 0x400000};
-    x->state.settings = s;
-    x->state.running = 1;
-    x->state.address = 2;
-    x->state.enabled = 1;
-    for (int k = 0; k < 32; k++)
-        x->state.ids[k] = 1;
-    for (int k = 0; k < 3; k++) {
-        x->state.phases[k] = 1;
-        x->state.kinds[k] = k ? BULK : CONTROL;
-        u32 *head = x->heads + 17 * (k + 1);
-        head[0] = head[4] = head[5] = 1;
-        head[1] = 1 + k * 256 + 8192 + (k ? 512u : 64u) * 65536 + 15u * (1 << 28) + (k ? 0 : 16384);
-        head[2] = 1 << 30;
-    }
-    x->heads[0] = (u32)s.heads + 2;
-    x->heads[1] = 0x00408000;
-    x->heads[2] = 1 << 30;
-    x->heads[4] = x->heads[5] = 1;
-    for (int i = 0; i < 1024; i++)
-        x->frames[i] = 1;
-    struct rows r = {x->pool, D, x->heads, 17 * (E + 1), x->frames, 1024, x->setups, 8 * E};
-    x->rows = r;
+    memcpy(out, plain_places(x->slots, slot), 32);
 }
 
-#define MEASURED(way, what, call) \
-    __attribute__((noinline)) static void m_##way##_##what(struct side *x, const struct asked *a, struct answered *out) { call; }
-
-MEASURED(plain, submit, plain_submit(&x->state, &x->rows, a, out))
-MEASURED(plain, writeback, plain_writeback(&x->state, &x->rows, a, out))
-MEASURED(plain, unlink, plain_collect(&x->state, &x->rows, a, out))
-MEASURED(plain, acknowledge, plain_acknowledge(&x->state, a, out))
-MEASURED(plain, drain, plain_drain(&x->state, a, out))
-MEASURED(plain, finish, plain_collect(&x->state, &x->rows, a, out))
-MEASURED(port, submit, port_call(&x->state, &x->rows, a, out))
-MEASURED(port, writeback, port_call(&x->state, &x->rows, a, out))
-MEASURED(port, unlink, port_call(&x->state, &x->rows, a, out))
-MEASURED(port, acknowledge, port_call(&x->state, &x->rows, a, out))
-MEASURED(port, drain, port_call(&x->state, &x->rows, a, out))
-MEASURED(port, finish, port_call(&x->state, &x->rows, a, out))
-
-MEASURED(named, submit, named_submit(&x->state, &x->rows, a, out))
-
-typedef void call_on(struct side *, const struct asked *, struct answered *);
-
-enum { STEPS = 6 };
-
-static const char *const names[STEPS] = {"submit", "writeback", "unlink", "acknowledge", "drain", "finish"};
-
-static call_on *const on_plain[STEPS] = {m_plain_submit, m_plain_writeback, m_plain_unlink, m_plain_acknowledge, m_plain_drain, m_plain_finish};
-static call_on *const on_named[STEPS] = {m_named_submit, m_port_writeback, m_port_unlink, m_port_acknowledge, m_port_drain, m_port_finish};
-static call_on *const on_port[STEPS] = {m_port_submit, m_port_writeback, m_port_unlink, m_port_acknowledge, m_port_drain, m_port_finish};
-
-// The six calls of a life. n is the number of descriptors, 0 for a control request of 18 bytes; the first place is `from`.
-static void plan(struct asked a[STEPS], u64 n, u64 id, u64 from)
+__attribute__((noinline)) static void m_port_places(const struct side *x, u8 slot, u64 *out)
 {
-    memset(a, 0, STEPS * sizeof *a);
-    u8 slot = n ? 1 : 0;
-    u64 count = n ? n : 3;
-    a[0] = (struct asked){.code = SUBMIT, .slot = slot, .kind = n ? BULK : CONTROL, .direction = 1, .command = 0x31,
-        .setup = n ? 0 : 0x01000680, .address = 0x10000200, .length = n ? n * LIMIT - 100 : 18};
-    a[1] = (struct asked){.code = WRITEBACK, .id = from + count - 1, .command = 0x00008d00};
-    a[2] = (struct asked){.code = COLLECT, .slot = slot, .id = id, .command = 0x31};
-    a[3] = (struct asked){.code = ACKNOWLEDGE, .command = 0x21, .frame = 0x27, .flag = 1, .again = 1};
-    a[4] = (struct asked){.code = DRAIN, .command = 0x31};
-    a[5] = (struct asked){.code = COLLECT, .slot = slot, .id = id, .command = 0x31};
+    struct places places = port_places(x->rows.slots, x->rows.slots_length, slot);
+    memcpy(out, places.words, 32);
 }
 
-// The controller's own work on all descriptors but the last: done, no byte left.
-static void controller(struct side *x, u64 n, u64 from)
+// The calls of a life, which plain C has too, the others, and what is the hardware's.
+enum { SUBMIT, WRITEBACK, UNLINK, ACKNOWLEDGE, DRAIN, FINISH, REARM, CANCEL, START_BRING_UP, BRING_UP_STEP, ALLOCATE_ADDRESS,
+    OPEN_ENDPOINT, CLOSE, SET_ADDRESS, SET_PACKET_SIZE, ENABLE, DISABLE, OPEN, STEPS, CONTROLLER };
+
+static const char *const names[STEPS] = {"submit", "writeback", "unlink", "acknowledge", "drain", "finish", "rearm", "cancel",
+    "start_bring_up", "bring_up_step", "allocate_address", "open_endpoint", "close", "set_address", "set_packet_size", "enable",
+    "disable", "open"};
+
+struct way {
+    call_on *on[STEPS];
+    void (*places)(const struct side *, u8, u64 *);
+};
+
+static const struct way on_plain = {{m_plain_submit, m_plain_writeback, m_plain_unlink, m_plain_acknowledge, m_plain_drain,
+    m_plain_finish, m_plain_rearm}, m_plain_places};
+
+static const struct way on_port = {{m_port_submit, m_port_writeback, m_port_unlink, m_port_acknowledge, m_port_drain,
+    m_port_finish, m_port_rearm, m_port_cancel, m_port_start_bring_up, m_port_bring_up_step, m_port_allocate_address,
+    m_port_open_endpoint, m_port_close, m_port_set_address, m_port_set_packet_size, m_port_enable, m_port_disable, m_port_open},
+    m_port_places};
+
+// A call, and the number that it is to answer.
+struct turn {
+    int step;
+    u8 number;
+    struct asked asked;
+};
+
+struct script {
+    int count;
+    struct turn turns[40];
+};
+
+static void then(struct script *s, int step, u8 number, struct asked asked)
 {
-    u64 count = n ? n : 3;
-    for (u64 k = 0; k + 1 < count; k++)
-        x->pool[from + k].token = 0x00000d00;
+    s->turns[s->count++] = (struct turn){step, number, asked};
 }
 
-static int same(const struct answered *a, const struct answered *b)
+// A running controller with a control endpoint in slot 0, bulk endpoints in slots 1 and 2, an interrupt endpoint in slot 3.
+static void opening(struct script *s)
 {
-    return a->number == b->number && a->value == b->value && a->count == b->count && !memcmp(a->offsets, b->offsets, 4 * a->count)
-        && !memcmp(a->values, b->values, 4 * a->count);
+    static const u32 readings[6] = {0, 0x1000, 0, 0, 0, 0};
+    then(s, OPEN, 0, (struct asked){0});
+    then(s, START_BRING_UP, 0, (struct asked){0});
+    for (int i = 0; i < 6; i++)
+        then(s, BRING_UP_STEP, 0, (struct asked){.command = readings[i]});
+    then(s, ENABLE, 0, (struct asked){0});
+    then(s, ALLOCATE_ADDRESS, 0, (struct asked){0});
+    for (u8 k = 0; k < 4; k++)
+        then(s, OPEN_ENDPOINT, 0, (struct asked){.kind = k == 0 ? CONTROL : k == 3 ? INTERRUPT : BULK, .device = 1, .number = k,
+            .packet = k == 0 ? 64 : 512});
 }
 
-static u64 digest(u64 h, const void *p, u64 n)
+// n is the number of descriptors, 0 for a control request of 18 bytes. An interrupt request passes 9 micro-frames on.
+static void life(struct script *s, u64 n, u64 id, int interrupt)
 {
-    for (u64 i = 0; i < n; i++)
-        h = (h ^ ((const u8 *)p)[i]) * 0x100000001b3;
-    return h;
+    u8 slot = n ? interrupt ? 3 : 1 : 0, kind = n ? interrupt ? INTERRUPT : BULK : CONTROL;
+    then(s, SUBMIT, 0, (struct asked){.slot = slot, .kind = kind, .direction = 1, .command = 0x31, .setup = n ? 0 : 0x01000680,
+        .address = 0x10000200, .length = n ? n * LIMIT - 100 : 18});
+    then(s, WRITEBACK, 0, (struct asked){.id = (n ? n : 3) - 1, .command = 0x00008d00});
+    then(s, CONTROLLER, 0, (struct asked){.id = (n ? n : 3) - 1});
+    then(s, UNLINK, 9, (struct asked){.slot = slot, .id = id, .command = 0x31});
+    then(s, ACKNOWLEDGE, 0, (struct asked){.command = 0x21, .frame = 0x27, .flag = 1, .again = 1});
+    then(s, DRAIN, 0, (struct asked){.command = 0x31});
+    then(s, FINISH, 0, (struct asked){.slot = slot, .id = id, .command = 0x31, .frame = interrupt ? 9 : 0});
 }
 
-static u64 digest_side(u64 h, const struct side *x, const struct answered *a)
+// Every call at least once.
+static void every_call(struct script *s, u64 n)
 {
-    h = digest(h, &x->state, sizeof x->state);
-    h = digest(h, x->pool, sizeof x->pool + sizeof x->heads + sizeof x->frames + sizeof x->setups);
-    h = digest(digest(digest(h, &a->number, 1), &a->count, 12), a->offsets, 4 * a->count);
-    return digest(h, a->values, 4 * a->count);
+    opening(s);
+    then(s, SET_ADDRESS, 0, (struct asked){.slot = 1, .device = 5});
+    then(s, SET_PACKET_SIZE, 0, (struct asked){.slot = 1, .device = 64});
+    then(s, SUBMIT, 0, (struct asked){.slot = 1, .kind = BULK, .direction = 1, .command = 0x31, .address = 0x10000200, .length = n * LIMIT});
+    then(s, WRITEBACK, 0, (struct asked){.id = n - 1, .command = 0x00008d00});
+    then(s, CANCEL, 0, (struct asked){.slot = 1, .id = 1, .command = 0x31});
+    then(s, ACKNOWLEDGE, 0, (struct asked){.command = 0x20, .frame = 0x27, .flag = 1, .again = 1});
+    then(s, DRAIN, 0, (struct asked){.command = 0x31});
+    then(s, REARM, 0, (struct asked){0});
+    then(s, FINISH, 10, (struct asked){.slot = 1, .id = 1, .command = 0x31});
+    then(s, CLOSE, 0, (struct asked){.slot = 1});
+    then(s, DISABLE, 0, (struct asked){0});
 }
 
-static void both(call_on *const *on, const struct asked *a, int step, u64 *hp, u64 *hc, u64 *calls)
+// How a call is made, and what is noted of it.
+typedef void around(struct side *x, call_on *call, const struct turn *t, struct answered *out);
+
+// No tail call: a measured function returns to where it was called.
+__attribute__((disable_tail_calls)) static void just(struct side *x, call_on *call, const struct turn *t, struct answered *out)
 {
-    struct answered p, c;
-    memset(&p, 0, sizeof p);
-    memset(&c, 0, sizeof c);
-    on[step](&port, a, &p);
-    on_plain[step](&plain, a, &c);
-    (*calls)++;
-    *hp = digest_side(*hp, &port, &p);
-    *hc = digest_side(*hc, &plain, &c);
-    if (same(&p, &c) && !memcmp(&port, &plain, sizeof(struct side) - sizeof(struct rows)))
+    call(x, &t->asked, out);
+}
+
+static void expect(const struct turn *t, const struct answered *out)
+{
+    if (out->number == t->number)
         return;
-    printf("differ at call %lu, %s: port %u %lu %u, plain %u %lu %u\n", *calls, names[step], p.number, p.value, p.count, c.number, c.value, c.count);
+    printf("%s answered %u\n", names[t->step], out->number);
     exit(1);
 }
 
-static int same_words(call_on *const *on)
+// The hardware's work on all descriptors but the last: done, no byte left.
+static void controller(struct side *x, u64 last)
 {
-    u64 hp = 0xcbf29ce484222325, hc = hp, calls = 0;
-    for (u64 n = 0; n <= D; n++) {
-        open_side(&port);
-        open_side(&plain);
-        for (u64 id = 1; id <= 2; id++) {
-            struct asked a[STEPS];
-            plan(a, n, id, 0);
-            for (int step = 0; step < STEPS; step++) {
-                both(on, &a[step], step, &hp, &hc, &calls);
-                if (step == 1) {
-                    controller(&port, n, 0);
-                    controller(&plain, n, 0);
-                }
-            }
-            // What is refused: a wrong kind, a closed slot, a wrong id, a free place, a length beyond the pool.
-            a[0].kind ^= 2;
-            both(on, &a[0], 0, &hp, &hc, &calls);
-            a[0].kind ^= 2;
-            a[0].length = 257ul * LIMIT;
-            both(on, &a[0], 0, &hp, &hc, &calls);
-            a[0].slot = 7;
-            both(on, &a[0], 0, &hp, &hc, &calls);
-            both(on, &a[1], 1, &hp, &hc, &calls);
-            a[2].id = 77;
-            both(on, &a[2], 2, &hp, &hc, &calls);
-        }
-        port.state.noted = plain.state.noted = 1;
-        struct asked a[STEPS];
-        plan(a, n, 3, 0);
-        for (int step = 0; step < STEPS; step++)
-            both(on, &a[step], step, &hp, &hc, &calls);
-    }
-    printf("%lu calls, the same words: port %016lx plain %016lx\n", calls, hp, hc);
-    return hp != hc;
+    for (u64 k = 0; k < last; k++)
+        x->pool[k].token = 0x00000d00;
 }
 
-static void expect(int step, const struct answered *out)
+static void play(struct side *x, const struct way *way, const struct script *s, around *make)
 {
-    static const u32 good[STEPS] = {0, 0, 9, 0, 0, 0};
-    if (out->number != good[step]) {
-        printf("%s answered %u\n", names[step], out->number);
-        exit(1);
-    }
-}
-
-static void lives(struct side *x, call_on *const *on, u64 n, u64 lives)
-{
-    open_side(x);
-    for (u64 id = 1; id <= lives; id++) {
-        struct asked a[STEPS];
+    for (const struct turn *t = s->turns; t < s->turns + s->count; t++) {
         struct answered out;
-        plan(a, n, id, 0);
-        for (int step = 0; step < STEPS; step++) {
-            on[step](x, &a[step], &out);
-            expect(step, &out);
-            if (step == 1)
-                controller(x, n, 0);
+        if (t->step == CONTROLLER) {
+            controller(x, t->asked.id);
+            continue;
         }
+        make(x, way->on[t->step], t, &out);
+        expect(t, &out);
     }
+}
+
+static void lend(struct side *x)
+{
+    u64 e = x->core.settings.endpoints;
+    x->rows = (struct rows){x->pool, D, x->slots, 6 * e, x->heads, 17 * (e + 1), x->frames, 1024, x->setups, 8 * e};
+}
+
+static void with_settings(struct side *x, u8 e)
+{
+    memset(x, 0, sizeof *x);
+    x->core.settings = (struct settings){D, e, 4, LIMIT, 1000, 0x100000, 0x200000, 0x300000, 0x400000};
+    lend(x);
+}
+
+static void open_side(struct side *x)
+{
+    struct script s = {0};
+    opening(&s);
+    play(x, &on_port, &s, just);
+}
+
+// The same words.
+
+static u64 calls, answers[12];
+
+static int same_answer(const struct answered *a, const struct answered *b)
+{
+    return a->number == b->number && a->value == b->value && a->other == b->other && a->count == b->count
+        && !memcmp(a->offsets, b->offsets, 4 * a->count) && !memcmp(a->values, b->values, 4 * a->count);
+}
+
+static int same_core(const struct rest *a, const struct rest *b)
+{
+    return a->running == b->running && a->step == b->step && a->address == b->address && a->enabled == b->enabled
+        && a->noted == b->noted && a->doorbell == b->doorbell && a->unanswered == b->unanswered && a->pending == b->pending
+        && a->masked == b->masked && a->waited == b->waited && !memcmp(a->free, b->free, sizeof a->free);
+}
+
+static int same_rows(const struct side *a, const struct side *b)
+{
+    return !memcmp(a->pool, b->pool, sizeof a->pool) && !memcmp(a->slots, b->slots, sizeof a->slots)
+        && !memcmp(a->heads, b->heads, sizeof a->heads) && !memcmp(a->frames, b->frames, sizeof a->frames)
+        && !memcmp(a->setups, b->setups, sizeof a->setups);
+}
+
+static void both(int step, struct asked asked)
+{
+    struct answered p, c;
+    on_port.on[step](&port, &asked, &p);
+    on_plain.on[step](&plain, &asked, &c);
+    calls++;
+    answers[p.number]++;
+    int answer = same_answer(&p, &c), core = same_core(&port.core.rest, &plain.core.rest), rows = same_rows(&port, &plain);
+    if (answer & core & rows)
+        return;
+    printf("differ at call %lu, %s: port %u %lu %u, plain %u %lu %u; the same answer %d, core %d, rows %d\n", calls, names[step],
+        p.number, p.value, p.count, c.number, c.value, c.count, answer, core, rows);
+    exit(1);
+}
+
+// Plain C goes on from what the port has opened.
+static void open_both(u8 e)
+{
+    with_settings(&port, e);
+    open_side(&port);
+    plain = port;
+    lend(&plain);
+}
+
+static void same_lives(u8 e, u64 n, int interrupt)
+{
+    open_both(e);
+    for (u64 id = 1; id <= 2; id++) {
+        struct script s = {0};
+        life(&s, n, id, interrupt);
+        for (const struct turn *t = s.turns; t < s.turns + s.count; t++) {
+            if (t->step == CONTROLLER) {
+                controller(&port, t->asked.id);
+                controller(&plain, t->asked.id);
+            } else {
+                both(t->step, t->asked);
+            }
+        }
+        // What is refused: a wrong kind, a length beyond the pool, a closed slot, a free place, a wrong id.
+        struct asked submit = s.turns[0].asked, collect = s.turns[3].asked;
+        submit.kind ^= 2;
+        both(SUBMIT, submit);
+        submit.kind ^= 2;
+        submit.length = 257ul * LIMIT;
+        both(SUBMIT, submit);
+        submit.slot = 7;
+        both(SUBMIT, submit);
+        both(WRITEBACK, s.turns[1].asked);
+        collect.id = 77;
+        both(UNLINK, collect);
+    }
+}
+
+static u64 seed = 88172645463325252;
+
+static u64 random_below(u64 n)
+{
+    seed ^= seed << 13;
+    seed ^= seed >> 7;
+    seed ^= seed << 17;
+    return seed % n;
+}
+
+static void random_submit(u8 slot, u32 command)
+{
+    struct asked a = {.slot = slot, .command = command, .direction = (u8)random_below(2)};
+    a.kind = random_below(10) ? (slot == 0 ? CONTROL : slot == 3 ? INTERRUPT : BULK) : (u8)random_below(4);
+    a.setup = random_below(10) ? 0x01000600 + 128 * a.direction : random_below(1ul << 50);
+    a.address = random_below(10) ? random_below(1ul << 31) : random_below(1ul << 33);
+    a.length = random_below(3) ? random_below(100000) : random_below(2) ? random_below(3 << 20) : random_below(2) ? random_below(17000) : 0;
+    both(SUBMIT, a);
+}
+
+// Some tokens are the hardware's, then a collect.
+static void random_collect(u8 slot, u32 command)
+{
+    u64 last = slot < port.core.settings.endpoints ? port.slots[6 * slot + 1] : 0;
+    if (random_below(2))
+        for (int i = 0; i < D; i++)
+            if (random_below(4))
+                port.pool[i].token = plain.pool[i].token = 0x00000d00 + ((u32)random_below(0x7fff) << 16);
+    both(UNLINK, (struct asked){.slot = slot, .command = command, .id = random_below(10) ? last : random_below(4), .frame = (u32)random_below(1 << 20)});
+}
+
+// Several requests at once, wrong ids, kinds and tokens.
+static void random_call(void)
+{
+    u8 slot = random_below(20) ? (u8)random_below(4) : (u8)random_below(40), odd = random_below(3) == 0;
+    u32 command = odd ? (u32)random_below(1ul << 32) : 0x31;
+    switch (random_below(8)) {
+    case 0:
+    case 1:
+        random_submit(slot, command);
+        break;
+    case 2:
+        both(WRITEBACK, (struct asked){.id = random_below(270), .command = odd ? (u32)random_below(1ul << 32) : 0x00000d00 + ((u32)random_below(0x7fff) << 16)});
+        break;
+    case 3:
+    case 4:
+        random_collect(slot, command);
+        break;
+    case 5:
+        both(ACKNOWLEDGE, (struct asked){.command = odd ? (u32)random_below(64) : 0x21, .frame = odd ? (u32)random_below(1ul << 32) : 0x27,
+            .flag = (u8)random_below(2), .again = (u8)random_below(2)});
+        break;
+    case 6:
+        both(DRAIN, (struct asked){.command = command});
+        break;
+    default:
+        both(REARM, (struct asked){0});
+    }
+}
+
+// Each bit of core and slots flipped on both sides: what the one refuses the other does.
+static void bent(void)
+{
+    static struct side kept_port, kept_plain;
+    kept_port = port;
+    kept_plain = plain;
+    u64 of_core = sizeof port.core, all = of_core + 8 * port.rows.slots_length;
+    for (u64 bit = 0; bit < 8 * all; bit++) {
+        u64 at = bit / 8;
+        *(at < of_core ? (u8 *)&port.core + at : (u8 *)port.slots + at - of_core) ^= 1 << bit % 8;
+        *(at < of_core ? (u8 *)&plain.core + at : (u8 *)plain.slots + at - of_core) ^= 1 << bit % 8;
+        both(REARM, (struct asked){0});
+        both(DRAIN, (struct asked){.command = 0x31});
+        port.core = kept_port.core;
+        plain.core = kept_plain.core;
+        memcpy(port.slots, kept_port.slots, sizeof port.slots);
+        memcpy(plain.slots, kept_plain.slots, sizeof plain.slots);
+    }
+}
+
+static void same_words(u8 e)
+{
+    calls = 0;
+    memset(answers, 0, sizeof answers);
+    for (int interrupt = 0; interrupt < 2; interrupt++)
+        for (u64 n = 0; n <= D; n++)
+            same_lives(e, n, interrupt);
+    u64 in_lives = calls;
+    for (int i = 0; i < 50000; i++) {
+        if (i % 5000 == 0)
+            open_both(e);
+        random_call();
+    }
+    u64 at_random = calls - in_lives;
+    bent();
+    printf("E %u: %lu calls in lives, %lu random ones, %lu with a bit flipped: the same answers, writes and words. Answers:", e,
+        in_lives, at_random, calls - in_lives - at_random);
+    for (int i = 0; i < 12; i++)
+        printf(" %d: %lu%s", i, answers[i], i < 11 ? "," : "\n");
+}
+
+// Lives, rounds, whole lives, to be counted.
+
+static void lives(struct side *x, const struct way *way, u64 n, u64 count, around *make)
+{
+    for (u64 id = 1; id <= count; id++) {
+        struct script s = {0};
+        life(&s, n, id, 0);
+        play(x, way, &s, make);
+    }
+}
+
+static void rounds(struct side *x, u64 n, u64 count, around *make)
+{
+    struct script s = {0};
+    every_call(&s, n);
+    for (u64 i = 0; i < count; i++)
+        play(x, &on_port, &s, make);
+}
+
+static void call_now(struct side *x, const struct way *way, int step, u8 number, struct asked asked)
+{
+    struct turn t = {step, number, asked};
+    struct answered out;
+    way->on[step](x, &asked, &out);
+    expect(&t, &out);
+}
+
+static void bring_in(struct side *x, const struct way *way, u8 slot, u64 changed)
+{
+    u64 places[4];
+    way->places(x, slot, places);
+    if (m_bring_in(x, places, way->on[WRITEBACK]) == changed)
+        return;
+    printf("other tokens had changed\n");
+    exit(1);
+}
+
+// The hardware has done every descriptor. Unless all are to be brought in, all but the last were before.
+static void hardware(struct side *x, u64 n, int all)
+{
+    for (u64 k = 0; k < n; k++) {
+        x->memory[k].token = k + 1 < n ? 0x00000d00 : 0x00008d00;
+        if (!all && k + 1 < n)
+            x->pool[k].token = x->memory[k].token;
+    }
+}
+
+static void whole(struct side *x, const struct way *way, u64 n, u64 id, int all)
+{
+    struct script s = {0};
+    u64 places[4];
+    life(&s, n, id, 0);
+    struct asked collect = s.turns[3].asked, acknowledge = s.turns[4].asked, drain = s.turns[5].asked;
+    call_now(x, way, SUBMIT, 0, s.turns[0].asked);
+    way->places(x, collect.slot, places);
+    m_mirror(x, places, collect.slot);
+    hardware(x, n, all);
+    acknowledge.command = 0x01;
+    call_now(x, way, ACKNOWLEDGE, 0, acknowledge);
+    call_now(x, way, DRAIN, 0, drain);
+    bring_in(x, way, collect.slot, all ? n : 1);
+    call_now(x, way, UNLINK, 9, collect);
+    m_mirror_link(x);
+    acknowledge.command = 0x20;
+    call_now(x, way, ACKNOWLEDGE, 0, acknowledge);
+    call_now(x, way, DRAIN, 0, drain);
+    call_now(x, way, REARM, 0, (struct asked){0});
+    bring_in(x, way, collect.slot, 0);
+    call_now(x, way, FINISH, 0, collect);
+}
+
+// Cycles of the time stamp counter, with the cost of reading it taken off.
+
+enum { TIMES_MAX = 4096 };
+
+static u64 took[STEPS][TIMES_MAX], turns[STEPS], empty = ~0ul;
+
+static u64 now(void)
+{
+    unsigned aux;
+    return __builtin_ia32_rdtscp(&aux);
+}
+
+static void timed(struct side *x, call_on *call, const struct turn *t, struct answered *out)
+{
+    u64 began = now();
+    call(x, &t->asked, out);
+    u64 ended = now();
+    if (turns[t->step] < TIMES_MAX)
+        took[t->step][turns[t->step]++] = ended - began - empty;
 }
 
 static int by_number(const void *a, const void *b)
@@ -209,41 +471,27 @@ static int by_number(const void *a, const void *b)
     return (x > y) - (x < y);
 }
 
-// Cycles of the time stamp counter: least, quartiles, with the cost of reading it taken off.
-static void times(struct side *x, call_on *const *on, u64 n, u64 lives)
+static void times(struct side *x, const struct way *way, u64 n, u64 count)
 {
-    u64 *took[STEPS], empty = ~0ul;
-    for (int step = 0; step < STEPS; step++)
-        took[step] = malloc(lives * sizeof(u64));
     for (int i = 0; i < 1000; i++) {
-        unsigned aux;
-        u64 t = __builtin_ia32_rdtscp(&aux);
-        u64 u = __builtin_ia32_rdtscp(&aux) - t;
+        u64 t = now(), u = now() - t;
         empty = u < empty ? u : empty;
     }
-    open_side(x);
-    for (u64 id = 1; id <= lives; id++) {
-        struct asked a[STEPS];
-        struct answered out;
-        plan(a, n, id, 0);
-        for (int step = 0; step < STEPS; step++) {
-            unsigned aux;
-            u64 t = __builtin_ia32_rdtscp(&aux);
-            on[step](x, &a[step], &out);
-            took[step][id - 1] = __builtin_ia32_rdtscp(&aux) - t - empty;
-            expect(step, &out);
-            if (step == 1)
-                controller(x, n, 0);
-        }
-    }
+    lives(x, way, n, count, timed);
     for (int step = 0; step < STEPS; step++) {
-        qsort(took[step], lives, sizeof(u64), by_number);
-        printf("%s %lu %lu %lu %lu\n", names[step], took[step][0], took[step][lives / 4], took[step][lives / 2], took[step][3 * lives / 4]);
+        u64 k = turns[step], *t = took[step];
+        if (k == 0)
+            continue;
+        qsort(t, k, sizeof(u64), by_number);
+        printf("%s %lu %lu %lu %lu\n", names[step], t[0], t[k / 4], t[k / 2], t[3 * k / 4]);
     }
 }
 
 // The stack below the caller is painted, and then searched for the deepest byte that is no longer paint.
+
 enum { ROOM = 256 * 1024, NEAR = 192 };
+
+static int deepest[STEPS];
 
 __attribute__((noinline)) static void paint(void)
 {
@@ -261,59 +509,73 @@ __attribute__((noinline)) static int painted(void)
     return i;
 }
 
-static void stacks(struct side *x, call_on *const *on, u64 n)
+static void stacked(struct side *x, call_on *call, const struct turn *t, struct answered *out)
 {
-    open_side(x);
-    struct asked a[STEPS];
-    struct answered out;
-    plan(a, n, 1, 0);
-    for (int step = 0; step < STEPS; step++) {
-        paint();
-        on[step](x, &a[step], &out);
-        int deep = painted();
-        expect(step, &out);
-        if (step == 1)
-            controller(x, n, 0);
-        printf("%s %d\n", names[step], deep);
-    }
+    paint();
+    call(x, &t->asked, out);
+    int deep = painted();
+    if (deepest[t->step] < deep)
+        deepest[t->step] = deep;
 }
+
+// Calls of memcpy, by the linker's wrapping of it.
 
 extern u64 copies __attribute__((weak)), copied __attribute__((weak));
 
-static void copying(struct side *x, call_on *const *on, u64 n)
+static u64 most_copies[STEPS], most_copied[STEPS];
+
+static void copying(struct side *x, call_on *call, const struct turn *t, struct answered *out)
 {
-    open_side(x);
-    struct asked a[STEPS];
-    struct answered out;
-    plan(a, n, 1, 0);
-    for (int step = 0; step < STEPS; step++) {
-        copies = copied = 0;
-        on[step](x, &a[step], &out);
-        printf("%s %lu %lu\n", names[step], copies, copied);
-        expect(step, &out);
-        if (step == 1)
-            controller(x, n, 0);
-    }
+    copies = copied = 0;
+    call(x, &t->asked, out);
+    if (most_copies[t->step] < copies)
+        most_copies[t->step] = copies;
+    if (most_copied[t->step] < copied)
+        most_copied[t->step] = copied;
+}
+
+// Of lives with n descriptors and with a control request, and of a round where the side has all calls.
+static void most(struct side *x, const struct way *way, u64 n, around *make)
+{
+    lives(x, way, n, 1, make);
+    lives(x, way, 0, 1, make);
+    if (way == &on_port)
+        rounds(x, n, 1, make);
+    for (int step = 0; step < STEPS; step++)
+        if (way->on[step])
+            printf("%s %lu %lu\n", names[step], make == stacked ? (u64)deepest[step] : most_copies[step], most_copied[step]);
 }
 
 int main(int count, char **words)
 {
-    if (count == 2 && !strcmp(words[1], "same"))
-        return same_words(on_port) || same_words(on_named);
-    if (count < 4)
+    if (count == 2 && !strcmp(words[1], "same")) {
+        same_words(8);
+        same_words(32);
+        return 0;
+    }
+    if (count < 5)
         return 2;
-    int is_plain = !strcmp(words[2], "plain");
-    struct side *x = is_plain ? &plain : &port;
-    call_on *const *on = is_plain ? on_plain : strcmp(words[2], "named") ? on_port : on_named;
-    u64 n = strtoul(words[3], 0, 10), k = count > 4 ? strtoul(words[4], 0, 10) : 1;
-    if (!strcmp(words[1], "count"))
-        lives(x, on, n, k);
-    else if (!strcmp(words[1], "time"))
-        times(x, on, n, k);
-    else if (!strcmp(words[1], "stack"))
-        stacks(x, on, n);
-    else if (!strcmp(words[1], "copies") && &copies)
-        copying(x, on, n);
+    const char *verb = words[1];
+    const struct way *way = strcmp(words[2], "plain") ? &on_port : &on_plain;
+    struct side *x = way == &on_plain ? &plain : &port;
+    u64 n = strtoul(words[4], 0, 10), k = count > 5 ? strtoul(words[5], 0, 10) : 1;
+    with_settings(x, (u8)strtoul(words[3], 0, 10));
+    if (!strcmp(verb, "round")) {
+        rounds(x, n, k, just);
+        return 0;
+    }
+    open_side(x);
+    if (!strcmp(verb, "count"))
+        lives(x, way, n, k, just);
+    else if (!strcmp(verb, "whole") && count == 7)
+        for (u64 id = 1; id <= k; id++)
+            whole(x, way, n, id, !strcmp(words[6], "all"));
+    else if (!strcmp(verb, "time"))
+        times(x, way, n, k);
+    else if (!strcmp(verb, "stack"))
+        most(x, way, n, stacked);
+    else if (!strcmp(verb, "copies") && &copies)
+        most(x, way, n, copying);
     else
         return 2;
     return 0;

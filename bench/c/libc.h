@@ -6,7 +6,7 @@
 
 int printf(const char *format, ...);
 __attribute__((noreturn)) void exit(int status);
-void *malloc(u64 bytes);
+void *memcpy(void *to, const void *from, u64 bytes);
 void *memset(void *to, int byte, u64 bytes);
 int memcmp(const void *a, const void *b, u64 bytes);
 int strcmp(const char *a, const char *b);

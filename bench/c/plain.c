@@ -1,19 +1,26 @@
-// The calls in plain C, in place: the state and the rows behind pointers, the port's checks in its order and its loops
-// (flags of the element's width, checking and counting in two passes), no copy of the state.
+// The calls of a request's life in plain C: core and rows in place, the port's checks in its order, its loops.
 #include "plain.h"
 
 enum { DONE = 0, INVALID = 1, NO_ENDPOINT = 3, FULL = 4, UNSUPPORTED = 5, NO_MEMORY = 6, NOT_READY = 8, PENDING = 9, CANCELLED = 10, FAILED = 11 };
 
 enum { CLOSED, IDLE, LINKED, UNLINKING };
 
+// The events of a drain.
+enum { NOTHING, PORT_CHANGE, TRANSFER_ACTIVITY, STOPPED };
+
 enum { USBCMD = 0x00, USBSTS = 0x04, USBINTR = 0x08 };
 
+enum { RECORD = 6, HEAD = 17, FRAMES = 1024 };
+
 #define MEMORY_END 0x100000000ul
+#define CANCEL (1ul << 37)
+#define BOUNDARY (1ul << 38)
 
 static void answer(struct answered *out, u8 number, u64 value)
 {
     out->number = number;
     out->value = value;
+    out->other = 0;
     out->count = 0;
 }
 
@@ -24,7 +31,7 @@ static void write_to(struct answered *out, u32 offset, u32 value)
     out->count++;
 }
 
-// The ranges of a state.
+// The ranges of core and slots.
 
 static int area_good(u64 address, u64 alignment, u64 size)
 {
@@ -49,103 +56,115 @@ static int settings_good(const struct settings *s)
         & apart(s->heads, heads, s->setups, setups) & apart(s->frames, 4096, s->setups, setups);
 }
 
-static u8 largest(const u8 *a, u64 n)
+static int core_good(const struct core *s)
 {
-    u8 most = 0;
-    for (u64 i = 0; i < n; i++)
-        if (most < a[i])
-            most = a[i];
-    return most;
-}
-
-static int no_request(const struct ehci *s, u64 k)
-{
-    return (s->requests[k] == 0) & (s->directions[k] == 0) & (s->lengths[k] == 0) & (s->cancels[k] == 0) & (s->boundaries[k] == 0);
-}
-
-static int open_kind(u8 kind)
-{
-    return (kind == 0) | ((2 <= kind) & (kind <= 3));
-}
-
-static int phase_good(const struct ehci *s, u64 k)
-{
-    u8 kind = s->kinds[k];
-    switch (s->phases[k]) {
-    case CLOSED:
-        return (kind == 0) & (s->ids[k] == 1) & no_request(s, k);
-    case IDLE:
-        return open_kind(kind) & no_request(s, k);
-    case LINKED:
-        return open_kind(kind) & (1 <= s->requests[k]) & (s->directions[k] <= 1) & (s->cancels[k] == 0) & (s->boundaries[k] == 0);
-    case UNLINKING:
-        return open_kind(kind) & (1 <= s->requests[k]) & (s->directions[k] <= 1) & (s->cancels[k] <= 1)
-            & (kind == 3 ? s->boundaries[k] < 16384 : s->boundaries[k] <= s->unanswered);
-    }
-    return 0;
-}
-
-static int slots_good(const struct ehci *s)
-{
-    u8 good = 1;
-    for (u64 k = 0; k < 32; k++)
-        good &= (1 <= s->ids[k]) & ((k < s->settings.endpoints) | (s->phases[k] == CLOSED)) & phase_good(s, k);
-    return good;
-}
-
-static int in_ranges(const struct ehci *s)
-{
+    const struct rest *r = &s->rest;
     if (!settings_good(&s->settings))
         return 0;
-    u64 d = s->settings.descriptors;
-    int machine = (s->running <= 1) & (s->step <= 6) & (s->waited < s->settings.wait) & (1 <= s->address) & (s->address <= 128);
-    int interrupt = (s->enabled <= 1) & ((s->pending & ~0x37u) == 0) & ((s->masked & ~0x27u) == 0);
-    int doorbell = (s->doorbell <= 1) & (s->noted <= s->doorbell) & (s->doorbell <= s->unanswered) & (s->unanswered <= 32);
-    int owned = largest(s->owner, d) <= s->settings.endpoints, beyond = largest(s->owner + d, 256 - d) == 0;
-    return machine & interrupt & doorbell & owned & beyond & slots_good(s);
+    int machine = (r->running <= 1) & (r->step <= 6) & (r->waited < s->settings.wait) & (1 <= r->address) & (r->address <= 128);
+    int interrupt = (r->enabled <= 1) & ((r->pending & ~0x37u) == 0) & ((r->masked & ~0x27u) == 0);
+    int doorbell = (r->doorbell <= 1) & (r->noted <= r->doorbell) & (r->doorbell <= r->unanswered) & (r->unanswered <= 32);
+    return machine & interrupt & doorbell;
 }
 
-static int accepts(const struct ehci *s, const struct rows *r)
+static u64 ones_from(u64 n, u64 from)
+{
+    return n <= from ? 0 : n - from >= 64 ? ~0ul : (1ul << (n - from)) - 1;
+}
+
+// By kind, 0 to 3: of each phase. Those of unlinking control and bulk are put in.
+static const u64 BOUNDS[16] = {1, 16, CANCEL, 0, 0, 0, 0, 0, 0, 16, CANCEL, 0, 0, 16, CANCEL, 1ul << 52};
+
+static int slots_good(const struct core *s, const u64 *slots)
+{
+    u64 bounds[16];
+    for (int i = 0; i < 16; i++)
+        bounds[i] = BOUNDS[i];
+    bounds[3] = bounds[11] = BOUNDARY * (s->rest.unanswered + 1ul);
+    int good = 1;
+    u64 n = s->settings.descriptors, end = RECORD * s->settings.endpoints;
+    u64 twice = 0, a = s->rest.free[0], b = s->rest.free[1], c = s->rest.free[2], d = s->rest.free[3];
+    for (u64 at = 0; at < end; at += RECORD) {
+        u64 word = slots[at], last = slots[at + 1], w = slots[at + 2], x = slots[at + 3], y = slots[at + 4], z = slots[at + 5];
+        u64 phase = word % 4;
+        good &= word < bounds[word % 16];
+        if (phase < LINKED) {
+            good &= ((w | x | y | z) == 0) & (last <= phase * (~0ul - 1));
+        } else {
+            good &= last != 0;
+            twice |= (a & w) | (b & x) | (c & y) | (d & z);
+            a |= w, b |= x, c |= y, d |= z;
+        }
+    }
+    return good & (twice == 0) & (a == ones_from(n, 0)) & (b == ones_from(n, 64)) & (c == ones_from(n, 128)) & (d == ones_from(n, 192));
+}
+
+// What a call that is lent core and slots asks.
+static int words_good(const struct core *s, const struct rows *r)
+{
+    return core_good(s) && r->slots_length == RECORD * (u64)s->settings.endpoints && slots_good(s, r->slots);
+}
+
+// What a call that is lent all five rows asks.
+static int accepts(const struct core *s, const struct rows *r)
 {
     u64 e = s->settings.endpoints;
-    int fit = (r->pool_length == s->settings.descriptors) & (r->heads_length == 17 * (e + 1)) & (r->frames_length == 1024) & (r->setups_length == 8 * e);
-    return fit & in_ranges(s);
+    int fit = (r->pool_length == s->settings.descriptors) & (r->heads_length == HEAD * (e + 1)) & (r->frames_length == FRAMES)
+        & (r->setups_length == 8 * e);
+    return fit & words_good(s, r);
 }
 
-// The row of owners.
+// Sets of places.
 
-static u16 count_zero(const u8 *owner, u64 n)
+static u64 count(const u64 *w)
 {
-    u16 zeros = 0;
-    for (u64 i = 0; i < n; i++)
-        if (owner[i] == 0)
-            zeros++;
-    return zeros;
+    return __builtin_popcountl(w[0]) + __builtin_popcountl(w[1]) + __builtin_popcountl(w[2]) + __builtin_popcountl(w[3]);
 }
 
-static u64 places_of(const u8 *owner, u64 n, u8 x, u64 most, u8 *at)
+static void take_lowest(const u64 *w, u64 n, u64 *taken)
 {
-    u64 count = 0;
-    for (u64 i = 0; i < n && count < most; i++)
-        if (owner[i] == x)
-            at[count++] = (u8)i;
-    return count;
-}
-
-static void mark(u8 *owner, u64 n, u64 left, u8 x)
-{
-    for (u64 i = 0; i < n && left; i++)
-        if (owner[i] == 0) {
-            owner[i] = x;
-            left--;
+    for (int i = 0; i < 4; i++) {
+        u64 have = __builtin_popcountl(w[i]), rest = w[i];
+        if (have <= n) {
+            taken[i] = w[i];
+            n -= have;
+            continue;
         }
+        for (; n; n--)
+            rest &= rest - 1;
+        taken[i] = w[i] - rest;
+    }
 }
 
-static void clear(u8 *owner, u64 n, u8 x)
+// A set that is gone through from its lowest place on.
+struct cursor {
+    u64 word, second, third, fourth, base;
+};
+
+static struct cursor settled(struct cursor c)
 {
-    for (u64 i = 0; i < n; i++)
-        if (owner[i] == x)
-            owner[i] = 0;
+    while (c.word == 0 && c.base < 192) {
+        struct cursor next = {c.second, c.third, c.fourth, 0, c.base + 64};
+        c = next;
+    }
+    return c;
+}
+
+static struct cursor first(const u64 *w)
+{
+    struct cursor c = {w[0], w[1], w[2], w[3], 0};
+    return settled(c);
+}
+
+static struct cursor after(struct cursor c)
+{
+    c.word &= c.word - 1;
+    return settled(c);
+}
+
+static u64 place(struct cursor c)
+{
+    return c.base + __builtin_ctzl(c.word);
 }
 
 // Descriptors.
@@ -165,10 +184,10 @@ static void put_qtd(struct qtd *q, u32 next, u32 token, u64 address, u64 length)
         for (int i = 0; i < 5; i++)
             q->pages[i] = 0;
     } else {
-        u64 first = address & ~4095ul, end = address + length;
+        u64 page = address & ~4095ul, end = address + length;
         q->pages[0] = (u32)address;
         for (u64 i = 1; i < 5; i++)
-            q->pages[i] = first + 4096 * i < end ? (u32)(first + 4096 * i) : 0;
+            q->pages[i] = page + 4096 * i < end ? (u32)(page + 4096 * i) : 0;
     }
     for (int i = 0; i < 5; i++)
         q->upper[i] = 0;
@@ -190,23 +209,32 @@ static void put_chunk(struct qtd *q, u32 next, const struct asked *a, u64 k, u64
     put_qtd(q, next, token_of(a->direction, bytes, last, 0), a->address + start, bytes);
 }
 
-static void fill(struct qtd *pool, u32 base, const u8 *at, u64 count, const struct asked *a, u64 limit, u64 setup)
+static u32 next_at(u32 base, struct cursor c)
 {
-    for (u64 k = 0; k < count; k++) {
-        u32 next = k + 1 < count ? base + 64 * at[k + 1] : 1;
-        if (a->kind == CONTROL)
-            put_stage(&pool[at[k]], next, a, k, setup);
-        else
-            put_chunk(&pool[at[k]], next, a, k, limit, k + 1 == count);
+    return c.word ? base + 64 * (u32)place(c) : 1;
+}
+
+static void lay_stages(struct qtd *pool, u32 base, const u64 *places, const struct asked *a, u64 setup)
+{
+    u64 k = 0;
+    for (struct cursor c = first(places); c.word; k++) {
+        struct qtd *q = &pool[place(c)];
+        c = after(c);
+        put_stage(q, next_at(base, c), a, k, setup);
+    }
+}
+
+static void lay_chunks(struct qtd *pool, u32 base, const u64 *places, const struct asked *a, u64 limit)
+{
+    u64 k = 0;
+    for (struct cursor c = first(places); c.word; k++) {
+        struct qtd *q = &pool[place(c)];
+        c = after(c);
+        put_chunk(q, next_at(base, c), a, k, limit, !c.word);
     }
 }
 
 // Submit.
-
-static int buffer_good(u64 address, u64 length)
-{
-    return length == 0 || (length <= MEMORY_END && address <= MEMORY_END - length);
-}
 
 static u64 need(const struct asked *a, u64 limit)
 {
@@ -215,42 +243,45 @@ static u64 need(const struct asked *a, u64 limit)
     return a->length ? (a->length - 1) / limit + 1 : 1;
 }
 
-static u8 judge(const struct ehci *s, const struct asked *a)
+static int buffer_good(u64 address, u64 length)
 {
-    if (a->slot >= 32 || s->phases[a->slot] == CLOSED)
+    return length == 0 || (length <= MEMORY_END && address <= MEMORY_END - length);
+}
+
+static u8 judge(const struct core *s, const u64 *slots, const struct asked *a, u64 wanted)
+{
+    u64 word = a->slot < s->settings.endpoints ? slots[RECORD * a->slot] : 0, phase = word % 4;
+    if (phase == CLOSED)
         return NO_ENDPOINT;
-    if (!s->running)
+    if (!s->rest.running)
         return NOT_READY;
-    if (s->phases[a->slot] >= LINKED)
+    if (phase >= LINKED)
         return FULL;
     if (a->kind == ISOCHRONOUS)
         return UNSUPPORTED;
-    if (a->kind != s->kinds[a->slot])
+    if (a->kind != word / 4 % 4)
         return NO_ENDPOINT;
     int good = buffer_good(a->address, a->length);
     if (a->kind == CONTROL)
         good &= (a->length <= 16384) & ((a->setup >> 7 & 1) == a->direction) & (a->setup < 1ul << 48);
     if (!good)
         return INVALID;
-    if (count_zero(s->owner, s->settings.descriptors) < need(a, s->settings.limit))
-        return NO_MEMORY;
-    return DONE;
+    return count(s->rest.free) < wanted ? NO_MEMORY : DONE;
 }
 
-static void link_head(u32 *heads, u32 *frames, const struct ehci *s, const struct asked *a, u32 first)
+static void link_head(const struct core *s, const struct rows *r, const struct asked *a, u32 start)
 {
-    u32 *head = heads + 17 * (a->slot + 1);
-    u32 link = (u32)(s->settings.heads + 128 * (a->slot + 1ul)) + 2;
-    head[4] = first;
+    u32 *head = r->heads + HEAD * (a->slot + 1), link = (u32)(s->settings.heads + 128 * (a->slot + 1ul)) + 2;
+    head[4] = start;
     head[5] = 1;
     head[6] = 0;
     if (a->kind == INTERRUPT) {
-        head[0] = frames[0];
-        for (int i = 0; i < 1024; i++)
-            frames[i] = link;
+        head[0] = r->frames[0];
+        for (int i = 0; i < FRAMES; i++)
+            r->frames[i] = link;
     } else {
-        head[0] = heads[0];
-        heads[0] = link;
+        head[0] = r->heads[0];
+        r->heads[0] = link;
     }
 }
 
@@ -262,48 +293,51 @@ static void put_setup(u8 *setup, const struct asked *a)
     setup[7] = (u8)(a->length >> 8);
 }
 
-void plain_submit(struct ehci *s, const struct rows *r, const struct asked *a, struct answered *out)
+void plain_submit(struct core *s, const struct rows *r, const struct asked *a, struct answered *out)
 {
     if (!accepts(s, r)) {
         answer(out, INVALID, 0);
         return;
     }
-    u8 refusal = judge(s, a);
+    u64 limit = s->settings.limit, wanted = need(a, limit);
+    u8 refusal = judge(s, r->slots, a, wanted);
     if (refusal) {
         answer(out, refusal, 0);
         return;
     }
-    u64 d = s->settings.descriptors, limit = s->settings.limit, k = a->slot;
-    u8 at[256];
-    u64 count = places_of(s->owner, d, 0, need(a, limit), at);
-    mark(s->owner, d, count, a->slot + 1);
+    u64 k = a->slot, *record = r->slots + RECORD * k, *places = record + 2;
     u32 base = (u32)s->settings.pool;
-    link_head(r->heads, r->frames, s, a, base + 64 * at[0]);
-    if (a->kind == CONTROL)
+    take_lowest(s->rest.free, wanted, places);
+    for (int i = 0; i < 4; i++)
+        s->rest.free[i] -= places[i];
+    link_head(s, r, a, base + 64 * (u32)place(first(places)));
+    record[0] = LINKED + 4ul * a->kind + 16ul * a->direction + 32 * (u64)(u32)a->length;
+    record[1] = record[1] == ~0ul ? 1 : record[1] + 1;
+    if (a->kind == CONTROL) {
         put_setup(r->setups + 8 * k, a);
-    fill(r->pool, base, at, count, a, limit, s->settings.setups + 8 * k);
-    u64 id = s->ids[k];
-    s->ids[k] = id == ~0ul ? 1 : id + 1;
-    s->phases[k] = LINKED;
-    s->requests[k] = id;
-    s->directions[k] = a->direction;
-    s->lengths[k] = (u32)a->length;
-    s->cancels[k] = 0;
-    s->boundaries[k] = 0;
-    answer(out, DONE, id);
+        lay_stages(r->pool, base, places, a, s->settings.setups + 8 * k);
+    } else {
+        lay_chunks(r->pool, base, places, a, limit);
+    }
+    answer(out, DONE, record[1]);
     write_to(out, USBCMD, (a->command | 0x31) & ~0x40u);
 }
 
 // Writeback.
 
-void plain_writeback(struct ehci *s, const struct rows *r, const struct asked *a, struct answered *out)
+void plain_writeback(struct core *s, const struct rows *r, const struct asked *a, struct answered *out)
 {
-    if (!accepts(s, r) || s->settings.descriptors <= a->id || s->owner[a->id] == 0 || s->phases[s->owner[a->id] - 1] < LINKED) {
+    if (!accepts(s, r) || s->settings.descriptors <= a->id || s->rest.free[a->id / 64] >> a->id % 64 & 1) {
         answer(out, INVALID, 0);
         return;
     }
     r->pool[a->id].token = a->command;
     answer(out, DONE, 0);
+}
+
+const u64 *plain_places(const u64 *slots, u8 slot)
+{
+    return slots + RECORD * slot + 2;
 }
 
 // Collect.
@@ -324,84 +358,87 @@ static u64 requested(u8 kind, u64 length, u64 limit, u64 k)
     return length - start < limit ? length - start : limit;
 }
 
-static struct view fold(const struct ehci *s, const struct qtd *pool, u64 slot)
+// What the tokens of a slot's request say.
+static struct view fold(const struct core *s, const struct qtd *pool, const u64 *record)
 {
     struct view v = {0, 0, 0};
-    u8 at[256];
-    u64 count = places_of(s->owner, s->settings.descriptors, (u8)(slot + 1), 256, at);
-    for (u64 k = 0; k < count; k++) {
-        u32 token = pool[at[k]].token;
-        if (v.stage == 0)
-            v.stage = token & 0x80 ? 2 : token & 0x78 ? 1 : 0;
-        if (v.failed == 0 && token & 0x78)
-            v.failed = token;
-        u64 asked = requested(s->kinds[slot], s->lengths[slot], s->settings.limit, k), left = token >> 16 & 0x7fff;
-        v.moved += asked < left ? 0 : asked - left;
-    }
+    u64 k = 0, length = (u32)(record[0] / 32);
+    u8 kind = record[0] / 4 % 4;
+    for (u64 i = 0; i < 4; i++)
+        for (u64 word = record[2 + i]; word; word &= word - 1) {
+            u32 token = pool[64 * i + __builtin_ctzl(word)].token;
+            if (v.stage == 0)
+                v.stage = token & 0x80 ? 2 : token & 0x78 ? 1 : 0;
+            if (v.failed == 0 && token & 0x78)
+                v.failed = token;
+            u64 asked = requested(kind, length, s->settings.limit, k), left = token >> 16 & 0x7fff;
+            v.moved += asked < left ? 0 : asked - left;
+            k++;
+        }
     return v;
 }
 
-static int detach(const struct ehci *s, u32 *heads, u32 *frames, u64 k)
+static int detach(const struct core *s, const struct rows *r, u64 k)
 {
-    int interrupt = s->kinds[k] == INTERRUPT;
-    u32 address = (u32)(s->settings.heads + 128 * (k + 1)), word = heads[17 * (k + 1)];
-    if ((interrupt ? frames[0] : heads[0]) / 32 == address / 32) {
-        if (interrupt)
-            for (int i = 0; i < 1024; i++)
-                frames[i] = word;
+    u32 *heads = r->heads, address = (u32)(s->settings.heads + 128 * (k + 1)), word = heads[HEAD * (k + 1)];
+    int framed = r->slots[RECORD * k] / 4 % 4 == INTERRUPT;
+    if ((framed ? r->frames[0] : heads[0]) / 32 == address / 32) {
+        if (framed)
+            for (int i = 0; i < FRAMES; i++)
+                r->frames[i] = word;
         else
             heads[0] = word;
         return 1;
     }
-    for (u64 j = 0; j < s->settings.endpoints; j++)
-        if ((j != k) & (s->phases[j] == LINKED) & ((s->kinds[j] == INTERRUPT) == interrupt) & (heads[17 * (j + 1)] / 32 == address / 32)) {
-            heads[17 * (j + 1)] = word;
+    for (u64 j = 0; j < s->settings.endpoints; j++) {
+        u64 mark = r->slots[RECORD * j];
+        int together = (mark / 4 % 4 == INTERRUPT) == framed;
+        if ((j != k) & (mark % 4 == LINKED) & together & (heads[HEAD * (j + 1)] / 32 == address / 32)) {
+            heads[HEAD * (j + 1)] = word;
             return 1;
         }
+    }
     return 0;
 }
 
-static void ring(struct ehci *s, u32 command, struct answered *out)
+static void ring(struct rest *t, u32 command, struct answered *out)
 {
-    if (s->doorbell == 0 && s->unanswered) {
-        s->doorbell = 1;
+    if (t->doorbell == 0 && t->unanswered) {
+        t->doorbell = 1;
         write_to(out, USBCMD, command | 0x40);
     }
 }
 
-static void unlink(struct ehci *s, const struct rows *r, const struct asked *a, u64 k, struct answered *out)
+static void unlink(struct core *s, const struct rows *r, const struct asked *a, u64 *record, struct answered *out)
 {
-    if (!detach(s, r->heads, r->frames, k)) {
+    if (!detach(s, r, a->slot)) {
         answer(out, NO_ENDPOINT, 0);
         return;
     }
     answer(out, PENDING, 0);
-    s->phases[k] = UNLINKING;
-    if (s->kinds[k] == INTERRUPT) {
-        s->boundaries[k] = a->frame % 16384;
-    } else {
-        s->unanswered++;
-        s->boundaries[k] = s->unanswered;
-        ring(s, a->command, out);
+    if (record[0] / 4 % 4 == INTERRUPT) {
+        record[0] += 1 + BOUNDARY * (a->frame % 16384);
+        return;
     }
+    s->rest.unanswered++;
+    record[0] += 1 + BOUNDARY * s->rest.unanswered;
+    ring(&s->rest, a->command, out);
 }
 
-static void finish(struct ehci *s, const struct rows *r, struct view v, u64 k, struct answered *out)
+static void finish(struct core *s, u32 *head, u64 *record, struct view v, struct answered *out)
 {
-    u32 *head = r->heads + 17 * (k + 1);
     head[3] = 0;
     head[4] = 1;
     head[5] = 1;
-    for (int i = 6; i < 17; i++)
+    for (int i = 6; i < HEAD; i++)
         head[i] = 0;
-    clear(s->owner, s->settings.descriptors, (u8)(k + 1));
-    int cancelled = s->cancels[k];
-    s->phases[k] = IDLE;
-    s->requests[k] = 0;
-    s->directions[k] = 0;
-    s->lengths[k] = 0;
-    s->cancels[k] = 0;
-    s->boundaries[k] = 0;
+    for (int i = 0; i < 4; i++) {
+        s->rest.free[i] |= record[2 + i];
+        record[2 + i] = 0;
+    }
+    int cancelled = record[0] / CANCEL % 2;
+    record[0] = IDLE + 4 * (record[0] / 4 % 4);
+    record[1] = record[1] == ~0ul ? 0 : record[1];
     if (cancelled)
         answer(out, CANCELLED, 0);
     else if (v.failed)
@@ -410,49 +447,41 @@ static void finish(struct ehci *s, const struct rows *r, struct view v, u64 k, s
         answer(out, DONE, v.moved);
 }
 
-void plain_collect(struct ehci *s, const struct rows *r, const struct asked *a, struct answered *out)
+static int passed(u64 word, u32 frame)
 {
-    u64 k = a->slot;
+    u64 boundary = word / BOUNDARY;
+    return word / 4 % 4 == INTERRUPT ? (frame % 16384 + 16384 - boundary) % 16384 >= 9 : boundary == 0;
+}
+
+void plain_collect(struct core *s, const struct rows *r, const struct asked *a, struct answered *out)
+{
     if (!accepts(s, r)) {
         answer(out, INVALID, 0);
         return;
     }
-    if (k >= 32 || s->phases[k] == CLOSED) {
-        answer(out, NO_ENDPOINT, 0);
+    u64 *record = r->slots + RECORD * a->slot, phase = a->slot < s->settings.endpoints ? record[0] % 4 : CLOSED;
+    if (phase < LINKED) {
+        answer(out, phase == CLOSED ? NO_ENDPOINT : PENDING, 0);
         return;
     }
-    if (s->phases[k] == IDLE) {
-        answer(out, PENDING, 0);
-        return;
-    }
-    if (s->phases[k] == LINKED && s->unanswered >= 32) {
+    struct view v = fold(s, r->pool, record);
+    if (phase == LINKED && s->rest.unanswered >= 32)
         answer(out, INVALID, 0);
-        return;
-    }
-    if (s->requests[k] != a->id) {
+    else if (record[1] != a->id)
         answer(out, NO_ENDPOINT, 0);
-        return;
-    }
-    struct view v = fold(s, r->pool, k);
-    if (s->phases[k] == LINKED) {
-        if (v.stage == 2)
-            answer(out, PENDING, 0);
-        else
-            unlink(s, r, a, k, out);
-        return;
-    }
-    int passed = s->kinds[k] == INTERRUPT ? (a->frame % 16384 + 16384 - s->boundaries[k]) % 16384 >= 9 : s->boundaries[k] == 0;
-    if (passed)
-        finish(s, r, v, k, out);
+    else if (phase == LINKED && v.stage != 2)
+        unlink(s, r, a, record, out);
+    else if (phase == UNLINKING && passed(record[0], a->frame))
+        finish(s, r->heads + HEAD * (a->slot + 1), record, v, out);
     else
         answer(out, PENDING, 0);
 }
 
-// Acknowledge and drain.
+// Interrupts. All but a drain ask of the core alone.
 
-void plain_acknowledge(struct ehci *s, const struct asked *a, struct answered *out)
+void plain_acknowledge(struct core *s, const struct rows *r, const struct asked *a, struct answered *out)
 {
-    if (!in_ranges(s)) {
+    if (!core_good(s)) {
         answer(out, INVALID, 0);
         return;
     }
@@ -460,50 +489,57 @@ void plain_acknowledge(struct ehci *s, const struct asked *a, struct answered *o
     answer(out, DONE, p != 0);
     if (p == 0)
         return;
-    s->pending |= p;
-    s->masked |= p & 0x27;
-    if (p & 0x20 && s->doorbell)
-        s->noted = 1;
+    s->rest.pending |= p;
+    s->rest.masked |= p & 0x27;
+    if (p & 0x20 && s->rest.doorbell)
+        s->rest.noted = 1;
     write_to(out, USBSTS, p);
     write_to(out, USBINTR, a->flag ? a->frame & ~(p & 0x27) : 0);
     if (a->flag != a->again)
         write_to(out, USBINTR, a->again ? a->frame & ~(p & 0x27) : 0);
 }
 
-static void count_noted(struct ehci *s, u32 command, struct answered *out)
+// A noted advance counts once.
+static void count_noted(struct core *s, u64 *slots, u32 command, struct answered *out)
 {
-    if (!s->noted)
+    if (!s->rest.noted)
         return;
-    s->noted = 0;
-    s->doorbell = 0;
-    s->unanswered--;
-    for (int k = 0; k < 32; k++)
-        if ((s->phases[k] == UNLINKING) & (s->kinds[k] != INTERRUPT) & (s->boundaries[k] != 0))
-            s->boundaries[k]--;
-    ring(s, command, out);
+    s->rest.noted = 0;
+    s->rest.doorbell = 0;
+    s->rest.unanswered--;
+    for (u64 k = 0; k < s->settings.endpoints; k++) {
+        u64 word = slots[RECORD * k];
+        if (word % 4 == UNLINKING && word / 4 % 4 != INTERRUPT && BOUNDARY <= word)
+            slots[RECORD * k] = word - BOUNDARY;
+    }
+    ring(&s->rest, command, out);
 }
 
-void plain_drain(struct ehci *s, const struct asked *a, struct answered *out)
+void plain_drain(struct core *s, const struct rows *r, const struct asked *a, struct answered *out)
 {
-    if (!in_ranges(s)) {
+    if (!words_good(s, r)) {
         answer(out, INVALID, 0);
         return;
     }
-    if (s->pending == 0) {
+    u32 pending = s->rest.pending;
+    if (pending == 0) {
         answer(out, DONE, NOTHING);
         return;
     }
-    if (s->pending & 0x04) {
-        answer(out, DONE, PORT_CHANGE);
-        count_noted(s, a->command, out);
-        s->pending &= ~0x04u;
-    } else if (s->pending & 0x23) {
-        answer(out, DONE, TRANSFER_ACTIVITY);
-        count_noted(s, a->command, out);
-        s->pending &= ~0x23u;
-    } else {
-        answer(out, DONE, STOPPED);
-        count_noted(s, a->command, out);
-        s->pending = 0;
+    answer(out, DONE, pending & 0x04 ? PORT_CHANGE : pending & 0x23 ? TRANSFER_ACTIVITY : STOPPED);
+    count_noted(s, r->slots, a->command, out);
+    s->rest.pending = pending & 0x04 ? pending & ~0x04u : pending & 0x23 ? pending & ~0x23u : 0;
+}
+
+void plain_rearm(struct core *s, const struct rows *r, const struct asked *a, struct answered *out)
+{
+    if (!core_good(s)) {
+        answer(out, INVALID, 0);
+        return;
     }
+    answer(out, DONE, 0);
+    if (s->rest.masked == 0)
+        return;
+    s->rest.masked = 0;
+    write_to(out, USBINTR, s->rest.enabled ? 0x27 : 0);
 }

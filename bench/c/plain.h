@@ -2,13 +2,9 @@
 #define PLAIN_H
 #include "words.h"
 
-// The events of a drain.
-enum { NOTHING, PORT_CHANGE, TRANSFER_ACTIVITY, STOPPED };
+// The calls of a request's life, in place.
+call plain_submit, plain_writeback, plain_collect, plain_acknowledge, plain_drain, plain_rearm;
 
-void plain_submit(struct ehci *s, const struct rows *r, const struct asked *a, struct answered *out);
-void plain_writeback(struct ehci *s, const struct rows *r, const struct asked *a, struct answered *out);
-void plain_collect(struct ehci *s, const struct rows *r, const struct asked *a, struct answered *out);
-void plain_acknowledge(struct ehci *s, const struct asked *a, struct answered *out);
-void plain_drain(struct ehci *s, const struct asked *a, struct answered *out);
+const u64 *plain_places(const u64 *slots, u8 slot);
 
 #endif

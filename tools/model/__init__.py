@@ -22,5 +22,6 @@ A module a subject, each of them using only those above it:
     blocks       a log's blocks: what the calls did, as lines
     sheets       job sheets and their listings
 
-Three uses stand over it: logs (log_model.py, log_cases.py), calls on any state (state_values.py), sheets (sheet.py,
-sheet_cases.py). leaf_values.py takes the words that are computed alone from it. compare_faults.py plants faults in it."""
+Three uses stand over it: logs (log_model.py, log_cases.py), calls on any words (state_records.py, state_cases.py,
+state_values.py), sheets (sheet.py, sheet_cases.py). leaf_values.py takes the words that are computed alone from it.
+compare_faults.py plants faults in it."""

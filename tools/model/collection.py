@@ -64,15 +64,14 @@ def cancel(state, rows, k, id, command, frame):
     return Answer(writes=writes)
 
 
-def collect(state, rows, k, id, command, frame, seen=None):
-    """`seen` stands in for what the pool shows."""
+def collect(state, rows, k, id, command, frame):
     check_uncrowded(state, k)
     need(state.is_open(k), ENDPOINT)
     slot = state.slots[k]
     if not slot.uncollected():
         return Answer(PENDING)
     need(slot.request == id, ENDPOINT)
-    seen = seen or see(state, rows, k)
+    seen = see(state, rows, k)
     if slot.phase == LINKED:
         return Answer(PENDING, writes=unlink(state, rows, k, command, frame) if seen.finished else ())
     if not boundary_passed(state, slot, frame):

@@ -7,7 +7,7 @@
 The core has the settings, the state's other numbers, and the free places as four such words. What a call does is said of the
 plain state that the words stand for: in ranges, the words after a call stand for the plain state after it; else 1."""
 
-from copy import deepcopy
+from copy import copy
 
 from model.answers import DONE, INVALID, Answer
 from model.calls import ON_HUB, World
@@ -157,16 +157,11 @@ class WordsWorld(World):
         self.core = Core()
 
     def copy(self):
-        """Another world that is as this one; the ports' record is the same one."""
-        other = WordsWorld(self.rows.copy(), [])
-        other.rows.setups = bytearray(self.rows.setups)
-        other.lent, other.slots_lent, other.hub = self.lent, self.slots_lent, self.hub
-        other.take_words(self)
+        """Another world that is as this one."""
+        other = copy(self)
+        other.rows, other.slots, other.core, other.hub = self.rows.copy(), list(self.slots), copy(self.core), copy(self.hub)
+        other.rows.setups, other.core.free, other.hub.states = bytearray(self.rows.setups), list(self.core.free), list(self.hub.states)
         return other
-
-    def take_words(self, other):
-        """The core and the row of slots of another world."""
-        self.core, self.slots = deepcopy(other.core), list(other.slots)
 
     def keep(self):
         """The words of the plain state that a call leaves."""

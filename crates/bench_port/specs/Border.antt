@@ -1,113 +1,116 @@
--- A call and its reply in numbers, for the exported calls.
+-- What C sees of a call: the state that the words then stand for, the numbers of its answer, and the rows that it was lent.
 use Prim.Native.Nat.{ℕ}
-use mathlib.Core.Bool.{Bool, true, false}
-use mathlib.Core.List.{List, [], _∷_}
-use lib.Dec.{eqb}
-use lib.ListN.{getD}
-use Rattle.register.specs.declared.writes.Write.{Write}
+use mathlib.Core.List.{List}
 use Rattle.descriptor.specs.declared.qtd.QueueTransferDescriptor.{QueueTransferDescriptor}
-use Rattle.pipe.specs.Endpoints.{directionOf, flagOf, kindOf}
+use Rattle.register.specs.Writes.{noWrites}
+use Rattle.register.specs.declared.writes.Writes.{Writes}
+use Rattle.settings.specs.declared.settings.Settings.{Settings}
+use Rattle.state.specs.Plain.{Ehci}
+use Rattle.words.specs.Record.{placesAt}
+use Rattle.words.specs.View.{stateOf}
+use Rattle.pipe.specs.Endpoints.{directionOf, kindOf}
+use Rattle.controller.specs.Plain.{Allotment}
 use Rattle.controller.specs.declared.lent.Readings.{Readings}
+use Rattle.endpoint.specs.Calls.{ChangeLeft, OpenLeft}
 use Rattle.request.specs.declared.judge.TransferRequest.{TransferRequest}
+use Rattle.collection.specs.Unlinks.{Left}
+use Rattle.interrupt.specs.Plain.{Acknowledgement}
+use Rattle.interrupt.specs.Plain.{Drainage}
+use Rattle.interrupt.specs.Plain.{Settled}
+use Rattle.bring_up.specs.Plain.{BroughtUp}
 use Rattle.ehci.specs.declared.call.Call.{Call}
-use Rattle.ehci.specs.declared.call.Call.the-variants.{Submit, Collect, Writeback, Acknowledge, Drain}
-use Rattle.ehci.specs.declared.call.InterruptReadings.{InterruptReadings}
+use Rattle.ehci.specs.declared.call.Call.the-variants.{Submit, Collect}
 use Rattle.ehci.specs.declared.reply.Answered.{Answered}
-use Rattle.ehci.specs.declared.reply.Answered.the-variants.{Done, Pending, Cancelled, Failed, Refused}
-use Rattle.ehci.specs.declared.reply.Given.{Given}
-use Rattle.ehci.specs.declared.reply.Given.the-variants as G
-use Rattle.ehci.specs.declared.reply.Reply.{Reply}
-use Rattle.ehci.specs.Replies.{answeredNumber, eventNumber}
 use Rattle.ehci.specs.Door.{Applied}
-use Rattle.bench_port.specs.declared.words.Asked.{Asked}
-use Rattle.bench_port.specs.declared.words.Replied.{Replied}
+use Rattle.ehci.specs.Replies.{acknowledgedAnswer, allottedAnswer, broughtAnswer, drainedAnswer, openedAnswer, simply}
+use Rattle.bench_port.specs.declared.numbers.Replied.{Replied}
+use Rattle.bench_port.specs.declared.placed.PortPlaces.{PortPlaces}
+use Rattle.bench_port.specs.Numbers.{Numbers, numbersIn, numbersOf}
 
--- ---- the call
+-- ---- the calls that are lent the pool
 
-abbrev pub requestOf : Asked → TransferRequest
-requestOf a =
-    record {
-      kind = kindOf (a .kind);
-      direction = directionOf (a .direction);
-      setup = a .setup;
-      address = a .address;
-      length = a .length;
-    }
+abbrev pub readingsOf : ℕ → ℕ → Readings
+readingsOf command frame = record { command = command; frame = frame }
 
-abbrev pub readingsOf : Asked → Readings
-readingsOf a = record { command = a .command; frame = a .frame }
+abbrev pub requestOf : ℕ → ℕ → ℕ → ℕ → ℕ → TransferRequest
+requestOf kind direction setup address length =
+    record { kind = kindOf kind; direction = directionOf direction; setup = setup; address = address; length = length }
 
-abbrev pub interruptsOf : Asked → InterruptReadings
-interruptsOf a =
-    record { status = a .command; interrupts = a .frame; flag = flagOf (a .flag); again = flagOf (a .again) }
+abbrev pub submitOf : ℕ → ℕ → ℕ → ℕ → ℕ → ℕ → ℕ → ℕ → Call
+submitOf slot kind direction setup address length command frame =
+    Submit slot (requestOf kind direction setup address length) (readingsOf command frame)
 
-abbrev pub callIf : Bool → Call → Call → Call
-callIf true a b = a
-callIf false a b = b
+abbrev pub collectOf : ℕ → ℕ → ℕ → ℕ → Call
+collectOf slot id command frame = Collect slot id (readingsOf command frame)
 
-unfoldable pub callOf : Asked → Call
-callOf a =
-    callIf (eqb (a .code) 0) (Submit (a .slot) (requestOf a) (readingsOf a))
-    (callIf (eqb (a .code) 1) (Collect (a .slot) (a .id) (readingsOf a))
-    (callIf (eqb (a .code) 2) (Writeback (a .id) (a .command))
-    (callIf (eqb (a .code) 3) (Acknowledge (interruptsOf a)) (Drain (a .command)))))
+-- ---- what is seen
 
--- ---- the reply
+pub record Seen : Type 0 where
+  pub state : Ehci
+  pub numbers : Numbers
 
-abbrev pub givenNumber : Given → ℕ
-givenNumber G.Nothing = 0
-givenNumber (G.Slot k) = k
-givenNumber (G.Address a) = a
-givenNumber (G.Id id) = id
-givenNumber (G.Length n) = n
-givenNumber G.No = 0
-givenNumber G.Yes = 1
-givenNumber (G.Event e) = eventNumber e
-givenNumber (G.Next read wait) = wait
+abbrev pub seenIn : Settings → Replied → List ℕ → Seen
+seenIn s r ws = record { state = stateOf s (r .rest) ws; numbers = numbersIn r }
 
-abbrev pub valueOf : Answered → ℕ
-valueOf (Done given) = givenNumber given
-valueOf Pending = 0
-valueOf Cancelled = 0
-valueOf (Failed token) = token
-valueOf (Refused r) = 0
+abbrev pub seenOf : Ehci → Answered → Writes → Seen
+seenOf s answer writes = record { state = s; numbers = numbersOf answer writes }
 
-abbrev pub writeAt : List Write → ℕ → Write
-writeAt w i = getD w i (record { offset = 0; value = 0 })
+pub record SeenHeads : Type 0 where
+  pub seen : Seen
+  pub heads : List ℕ
 
-abbrev pub offsetsOf : List Write → List ℕ
-offsetsOf w =
-    writeAt w 0 .offset ∷ writeAt w 1 .offset ∷ writeAt w 2 .offset ∷ writeAt w 3 .offset ∷ writeAt w 4 .offset
-    ∷ writeAt w 5 .offset ∷ []
+abbrev pub besideHeads : Seen → List ℕ → SeenHeads
+besideHeads seen heads = record { seen = seen; heads = heads }
 
-abbrev pub valuesOf : List Write → List ℕ
-valuesOf w =
-    writeAt w 0 .value ∷ writeAt w 1 .value ∷ writeAt w 2 .value ∷ writeAt w 3 .value ∷ writeAt w 4 .value
-    ∷ writeAt w 5 .value ∷ []
+pub record SeenLinks : Type 0 where
+  pub seen : Seen
+  pub heads : List ℕ
+  pub frames : List ℕ
 
-unfoldable pub packOf : Reply → Replied
-packOf r =
-    record {
-      state = r .state;
-      number = answeredNumber (r .answer);
-      count = r .writes .count;
-      value = valueOf (r .answer);
-      offsets = offsetsOf (r .writes .writes);
-      values = valuesOf (r .writes .writes);
-    }
+abbrev pub besideLinks : Seen → List ℕ → List ℕ → SeenLinks
+besideLinks seen heads frames = record { seen = seen; heads = heads; frames = frames }
 
--- ---- what C sees: the reply in numbers, and every row then
-
-pub record Border : Type 0 where
-  pub replied : Replied
+pub record SeenRows : Type 0 where
+  pub seen : Seen
   pub pool : List QueueTransferDescriptor
   pub heads : List ℕ
   pub frames : List ℕ
   pub setups : List ℕ
 
-abbrev pub border : Replied → List QueueTransferDescriptor → List ℕ → List ℕ → List ℕ → Border
-border r pool heads frames setups =
-    record { replied = r; pool = pool; heads = heads; frames = frames; setups = setups }
+abbrev pub besideRows : Seen → List QueueTransferDescriptor → List ℕ → List ℕ → List ℕ → SeenRows
+besideRows seen pool heads frames setups =
+    record { seen = seen; pool = pool; heads = heads; frames = frames; setups = setups }
 
-abbrev pub bordered : Applied → Border
-bordered a = border (packOf (a .reply)) (a .pool) (a .heads) (a .frames) (a .setups)
+-- ---- of what each call leaves
+
+abbrev pub seenAcknowledged : Acknowledgement → Seen
+seenAcknowledged x = seenOf (x .state) (acknowledgedAnswer (x .answer)) (x .writes)
+
+abbrev pub seenDrained : Drainage → Seen
+seenDrained x = seenOf (x .state) (drainedAnswer (x .answer)) (x .writes)
+
+abbrev pub seenSettled : Settled → Seen
+seenSettled x = seenOf (x .state) (simply (x .answer)) (x .writes)
+
+abbrev pub seenAllotted : Allotment → Seen
+seenAllotted x = seenOf (x .state) (allottedAnswer (x .answer)) noWrites
+
+abbrev pub seenBrought : BroughtUp → Seen
+seenBrought x = seenOf (x .state) (broughtAnswer (x .answer) (x .read) (x .wait)) (x .writes)
+
+abbrev pub seenOpened : OpenLeft → SeenHeads
+seenOpened x = besideHeads (seenOf (x .opening .state) (openedAnswer (x .opening .answer)) noWrites) (x .heads)
+
+abbrev pub seenChanged : ChangeLeft → SeenHeads
+seenChanged x = besideHeads (seenOf (x .change .state) (simply (x .change .answer)) noWrites) (x .heads)
+
+abbrev pub seenCancelled : Left → SeenLinks
+seenCancelled x = besideLinks (seenOf (x .came .state) (simply (x .came .answer)) (x .came .writes)) (x .rows .heads) (x .rows .frames)
+
+abbrev pub seenApplied : Applied → SeenRows
+seenApplied a = besideRows (seenOf (a .reply .state) (a .reply .answer) (a .reply .writes)) (a .pool) (a .heads) (a .frames) (a .setups)
+
+-- ---- the descriptors of a slot's request
+
+abbrev pub seenPlaces : List ℕ → ℕ → PortPlaces
+seenPlaces ws k = record { words = placesAt ws k }

@@ -1,3 +1,9 @@
-// The border that bench/ measures over: `apply`, and a named call, for C.
-pub mod border;
-pub mod words;
+// The border that bench/ measures over: opening and the sixteen calls, each exported for C over plain numbers.
+pub mod bringing_up;
+pub mod endpoints;
+pub mod interrupts;
+pub mod numbers;
+pub mod opens;
+pub mod placed;
+pub mod pool_calls;
+pub mod requests;

@@ -13,11 +13,10 @@ use Rattle.register.specs.Writes.{noWrites, andThen}
 use Rattle.register.specs.declared.writes.Writes.{Writes}
 use Rattle.common.proofs.TestLaws.{either-assoc}
 use Rattle.slot.specs.declared.slot.Slot.{Slot}
-use Rattle.state.specs.declared.state.Ehci.{Ehci}
+use Rattle.state.specs.Plain.{Ehci}
 use Rattle.state.specs.Ranges.{inRanges}
 use Rattle.state.specs.Slots.{slotAt}
 use Rattle.state.specs.State.{withBringUp}
-use Rattle.state.proofs.RangesLaws.{ranges-tell}
 use Rattle.common.specs.declared.answer.Answer.the-variants.{Done}
 use Rattle.common.specs.declared.answer.Refusal.the-variants.{InvalidParameter, QueueFull, Timeout}
 use Rattle.pipe.specs.Endpoints.{decoded, endpointAt}
@@ -26,7 +25,7 @@ use Rattle.common.specs.declared.reads.NextRead.the-variants.{Nothing, Register
 use Rattle.bring_up.specs.declared.stage.Stage.{Stage}
 use Rattle.bring_up.specs.declared.stage.Stage.the-variants.{Stop, Halting, Reset, Resetting, Run, Starting}
 use Rattle.bring_up.specs.declared.stage.Moved.{Moved}
-use Rattle.bring_up.specs.declared.answers.BroughtUp.{BroughtUp}
+use Rattle.bring_up.specs.Plain.{BroughtUp}
 use Rattle.bring_up.specs.BringUp.{anyUncollected, heldIn, stageOf, registerOf, ready, command, setUp, stageWrites, onTo, movedOn, refusedBringUp, startOf, onwardOf, againOf, stepOf}
 
 -- ---- the slots
@@ -60,13 +59,6 @@ busy-turn s k b h = rw (held-is s k h, add-one k, more) (either-assoc b _ _)
   where
     more : 32 - k ≡ suc (32 - suc k)
     more = omega arith
-
-pub busy-done : (s : Ehci) (k : ℕ) (b all : Bool) → 32 ≤ k → (b || anyUncollected k (32 - k) s) ≡ all → b ≡ all
-unfolding anyUncollected
-busy-done s k b all h e = sym (either-false b) ∙ (rw none at e)
-  where
-    none : 32 - k ≡ 0
-    none = omega arith
 
 -- ---- the stages
 
@@ -197,14 +189,3 @@ module _ (s : Ehci) (b : Bool) (eb : b ≡ inRanges s) where
     pub step-again : (reg : ℕ) (r : BroughtUp) → g ≡ false → reg ≡ registerOf stage → r ≡ againOf s reg → r ≡ stepOf s v
     unfolding stepOf
     step-again reg r p en er = er ∙ rw (en, sym eb ∙ not-false b t, ne-eqb (s .step) 0 h, sym es, sym eg ∙ p)
-
-  pub frames-fit : not b ≡ false → s .settings .frames < 4294967296
-  frames-fit t = omega (arith, ranges-tell s (sym eb ∙ not-false b t) .good .frames-end)
-
-  pub heads-fit : not b ≡ false → s .settings .heads < 4294967296
-  heads-fit t = omega (arith, ranges-tell s (sym eb ∙ not-false b t) .good .heads-end)
-
-  pub wait-fits : not b ≡ false → s .waited < 65536
-  wait-fits t =
-      let r = ranges-tell s (sym eb ∙ not-false b t) in
-      omega (arith, r .good .wait-most, r .waited-below)

@@ -12,7 +12,7 @@ use lib.ListN.{length}
 use Rattle.register.specs.Bits.{anyOf}
 use Rattle.register.specs.Writes.{writeOf, noWrites, andThen}
 use Rattle.common.proofs.TestLaws.{false-true}
-use Rattle.state.specs.declared.state.Ehci.{Ehci}
+use Rattle.state.specs.Plain.{Ehci}
 use Rattle.state.specs.Ranges.{inRanges}
 use Rattle.state.specs.Slots.{slotAt}
 use Rattle.state.specs.State.{withBringUp}
@@ -22,7 +22,7 @@ use Rattle.common.specs.declared.answer.Refusal.the-variants.{InvalidParameter,
 use Rattle.common.specs.declared.reads.NextRead.the-variants.{Register}
 use Rattle.bring_up.specs.declared.stage.Stage.{Stage}
 use Rattle.bring_up.specs.declared.stage.Stage.the-variants.{Stop, Halting, Reset, Resetting, Run, Starting}
-use Rattle.bring_up.specs.declared.answers.BroughtUp.{BroughtUp}
+use Rattle.bring_up.specs.Plain.{BroughtUp}
 use Rattle.bring_up.specs.BringUp.{anyUncollected, stageOf, registerOf, ready, setUp, movedOn, refusedBringUp, startOf, onwardOf, againOf, stepOf}
 use Rattle.bring_up.specs.Runs.{Seen, seen, seenBy, row, SixReadings, Ended, GoesOn, EndsBy, EndsInTime, NoneReady, LateAt, LateAtW, offsets, namedFor, OnlyNamed, StartNamed, StaysInRanges}
 use Rattle.bring_up.proofs.Cases.{start-bad, start-busy, start-done, step-bad, step-none, step-onward, step-again, again-more, again-late}

@@ -3,7 +3,6 @@ use Prim.Native.Nat.{ℕ, _+_, _≤_, _<_}
 use mathlib.Core.Path.{_≡_, refl, sym, ap, _∙_}
 use mathlib.Core.Bool.{Bool, true, false}
 use mathlib.Core.List.{List}
-use native.Mathlib.Omega.{arith}
 use Rattle.register.specs.Writes.{noWrites, andThen}
 use Rattle.register.specs.declared.writes.Writes.{Writes}
 use Rattle.common.specs.declared.answer.Answer.the-variants.{Done}
@@ -17,11 +16,10 @@ use Rattle.words.specs.declared.core.Rest.{Rest}
 use Rattle.words.specs.Good.{Good}
 use Rattle.words.specs.Rest.{restWithBringUp}
 use Rattle.words.specs.View.{stateOf, view}
-use Rattle.words.proofs.GoodLaws.{good-numbers, good-settings}
 use Rattle.bring_up.specs.declared.stage.Stage.{Stage}
 use Rattle.bring_up.specs.declared.stage.Moved.{Moved}
-use Rattle.bring_up.specs.declared.answers.BroughtUp.{BroughtUp}
-use Rattle.bring_up.specs.declared.in_words.answers.BroughtUp.{BroughtUp as BroughtUpWords}
+use Rattle.bring_up.specs.Plain.{BroughtUp}
+use Rattle.bring_up.specs.declared.answers.BroughtUp.{BroughtUp as BroughtUpWords}
 use Rattle.bring_up.specs.BringUp.{againOf, movedOn, ready, registerOf, stageOf, stageWrites, startOf, stepOf}
 use Rattle.bring_up.specs.Words.{anyHeld, broughtView, refusedWords}
 use Rattle.bring_up.proofs.BusyView.{held-view}
@@ -78,15 +76,6 @@ module _ (c : Core) (ws : List ℕ) (good : Good (c .settings) (c .rest) ws) (u 
       start-done (view c ws) true (sym (good .ranges)) u w w′ refl (eu ∙ held-view (c .settings) (c .rest) ws good) t ew e
 
 -- ---- step
-
--- what a step asks for, where the state is good
-pub step-fits : (c : Core) (ws : List ℕ) → Good (c .settings) (c .rest) ws
-    → (c .rest .waited < 65536) × ((c .settings .frames < 4294967296) × (c .settings .heads < 4294967296))
-step-fits c ws good =
-    let g = good-settings (c .settings) (c .rest) ws good in (
-      omega (arith, g .wait-most, good-numbers (c .settings) (c .rest) ws good .waited-below),
-      (omega (arith, g .frames-end), omega (arith, g .heads-end)),
-    )
 
 module _ (c : Core) (ws : List ℕ) (good : inRanges (view c ws) ≡ true) (v : ℕ) where
   pub steps-none : (r : BroughtUpWords) → c .rest .step ≡ 0 → r ≡ refusedWords (c .rest) InvalidParameter

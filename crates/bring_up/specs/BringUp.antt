@@ -6,7 +6,7 @@ use lib.Dec.{eqb, ltb}
 use Rattle.register.specs.Bits.{withBits, withoutBits, anyOf}
 use Rattle.register.specs.Writes.{noWrites, andThen}
 use Rattle.register.specs.declared.writes.Writes.{Writes}
-use Rattle.state.specs.declared.state.Ehci.{Ehci}
+use Rattle.state.specs.Plain.{Ehci}
 use Rattle.state.specs.Ranges.{inRanges}
 use Rattle.state.specs.State.{withBringUp}
 use Rattle.common.specs.Answers.{first, settle}
@@ -19,7 +19,7 @@ use Rattle.common.specs.declared.reads.NextRead.the-variants.{Nothing, Register
 use Rattle.bring_up.specs.declared.stage.Stage.{Stage}
 use Rattle.bring_up.specs.declared.stage.Stage.the-variants.{Stop, Halting, Reset, Resetting, Run, Starting}
 use Rattle.bring_up.specs.declared.stage.Moved.{Moved}
-use Rattle.bring_up.specs.declared.answers.BroughtUp.{BroughtUp}
+use Rattle.bring_up.specs.Plain.{BroughtUp}
 
 -- ---- any slot has an uncollected request: of n slots, from slot k on
 

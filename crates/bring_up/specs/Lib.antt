@@ -1,3 +1,4 @@
+pub mod Plain
 pub mod BringUp
 pub mod Runs
 pub mod Words

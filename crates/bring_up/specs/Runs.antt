@@ -9,7 +9,7 @@ use Rattle.register.specs.Bits.{withBits, withoutBits, anyOf}
 use Rattle.register.specs.Writes.{writeOf, listOf}
 use Rattle.register.specs.declared.writes.Write.{Write}
 use Rattle.register.specs.declared.writes.Writes.{Writes}
-use Rattle.state.specs.declared.state.Ehci.{Ehci}
+use Rattle.state.specs.Plain.{Ehci}
 use Rattle.state.specs.Ranges.{inRanges}
 use Rattle.state.specs.State.{withBringUp}
 use Rattle.common.specs.Answers.{numberOf}
@@ -19,7 +19,7 @@ use Rattle.common.specs.declared.reads.NextRead.{NextRead}
 use Rattle.common.specs.declared.reads.NextRead.the-variants.{Nothing, Register}
 use Rattle.bring_up.specs.declared.stage.Stage.{Stage}
 use Rattle.bring_up.specs.declared.stage.Stage.the-variants.{Stop, Halting, Reset, Resetting, Run, Starting}
-use Rattle.bring_up.specs.declared.answers.BroughtUp.{BroughtUp}
+use Rattle.bring_up.specs.Plain.{BroughtUp}
 use Rattle.bring_up.specs.BringUp.{anyUncollected, stageOf, registerOf, ready, refusedBringUp, startOf, stepOf}
 
 -- ---- what is seen of an answer: 01's number, the writes, the milliseconds, the register to read, and whether it runs

@@ -11,8 +11,8 @@ use Rattle.common.specs.declared.reads.NextRead.the-variants.{Nothing}
 use Rattle.words.specs.declared.core.Rest.{Rest}
 use Rattle.words.specs.Record.{phaseIn, wordAt}
 use Rattle.words.specs.View.{stateOf}
-use Rattle.bring_up.specs.declared.answers.BroughtUp.{BroughtUp}
-use Rattle.bring_up.specs.declared.in_words.answers.BroughtUp.{BroughtUp as BroughtUpWords}
+use Rattle.bring_up.specs.Plain.{BroughtUp}
+use Rattle.bring_up.specs.declared.answers.BroughtUp.{BroughtUp as BroughtUpWords}
 
 abbrev pub broughtView : Settings → BroughtUpWords → List ℕ → BroughtUp
 broughtView s r ws =

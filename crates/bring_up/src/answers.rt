@@ -2,12 +2,12 @@
 use common::answer::Answer;
 use common::reads::NextRead;
 use register::writes::Writes;
-use state::state::Ehci;
+use words::core::Rest;
 
-// What a start or a step leaves: its writes, then the milliseconds to wait, then the register to read.
+// Its writes, then the milliseconds to wait, then the register to read.
 pub struct BroughtUp {
     pub answer: Answer,
-    pub state: Ehci,
+    pub rest: Rest,
     pub writes: Writes,
     pub read: NextRead,
     pub wait: u32,

@@ -2,6 +2,4 @@
 pub mod answers;
 pub mod busy;
 pub mod calls;
-pub mod in_words;
 pub mod stage;
-pub mod wait;

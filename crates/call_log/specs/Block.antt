@@ -3,7 +3,7 @@ use Prim.Native.Nat.{ℕ}
 use mathlib.Core.Bool.{Bool}
 use mathlib.Core.List.{List, [], _∷_, _++_}
 use Rattle.register.specs.declared.writes.Writes.{Writes}
-use Rattle.state.specs.declared.state.Ehci.{Ehci}
+use Rattle.state.specs.Plain.{Ehci}
 use Rattle.text.specs.Text.{onlyIf}
 use Rattle.call_log.specs.Changes.{frameLines, headLines, portLines, recordLines, setupLines, writeLines}
 use Rattle.call_log.specs.Lines.{stateLine}

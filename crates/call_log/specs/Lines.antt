@@ -4,7 +4,7 @@ use mathlib.Core.List.{List, [], _∷_, _++_}
 use lib.ListN.{getD, take}
 use Rattle.controller.specs.Readers.{freeCount}
 use Rattle.descriptor.specs.declared.qtd.QueueTransferDescriptor.{QueueTransferDescriptor}
-use Rattle.state.specs.declared.state.Ehci.{Ehci}
+use Rattle.state.specs.Plain.{Ehci}
 use Rattle.text.specs.Text.{decimal, hex}
 use Rattle.call_log.specs.declared.line.Cell.{Cell}
 use Rattle.call_log.specs.declared.line.Line.{Line}

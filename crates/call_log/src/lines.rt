@@ -16,7 +16,7 @@ ghost use Rattle.call_log.specs.Words.{shownIn};
 use crate::line::Cell;
 use crate::line::Line;
 use crate::line::Part;
-use controller::in_words::readers::free_count;
+use controller::readers::free_count;
 use descriptor::qtd::QueueTransferDescriptor;
 use words::core::Core;
 

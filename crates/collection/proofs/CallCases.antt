@@ -2,14 +2,13 @@
 use Prim.Native.Nat.{ℕ, _+_, _≤_, _<_}
 use mathlib.Core.Path.{_≡_, sym, ap, _∙_}
 use mathlib.Core.Bool.{Bool, true, false, not}
-use mathlib.Core.List.{List, _++_}
+use mathlib.Core.List.{List}
 use borrow.Author.Tests.{eq-eqb, le-leb, lt-leb, ne-eqb, not-false, not-true}
-use lib.ListN.{drop, length, take}
+use lib.ListN.{length}
 use Rattle.register.specs.Writes.{noWrites}
 use Rattle.register.specs.declared.writes.Writes.{Writes}
-use Rattle.pool.specs.Places.{clearOf}
 use Rattle.pool.specs.declared.chain.View.{View}
-use Rattle.state.specs.declared.state.Ehci.{Ehci}
+use Rattle.state.specs.Plain.{Ehci}
 use Rattle.state.specs.State.{withOwner}
 use Rattle.pipe.specs.Endpoints.{endpointAt, withEndpoint}
 use Rattle.controller.specs.Lent.{acceptsOf, lengths}
@@ -22,9 +21,9 @@ use Rattle.pipe.specs.declared.endpoints.Request.{Request}
 use Rattle.pipe.specs.declared.endpoints.UnlinkBoundary.{UnlinkBoundary}
 use Rattle.controller.specs.declared.lent.Readings.{Readings}
 use Rattle.schedule.specs.Links.{endedOverlay}
-use Rattle.collection.specs.declared.collected.Cancellation.{Cancellation}
+use Rattle.collection.specs.Plain.{Cancellation}
 use Rattle.collection.specs.declared.collected.Collected.{Collected}
-use Rattle.collection.specs.declared.collected.Collection.{Collection}
+use Rattle.collection.specs.Plain.{Collection}
 use Rattle.collection.specs.Answers.{outcomeOf, pendingCollect, pendingOf, refusedCancel, refusedCollect}
 use Rattle.collection.specs.Unlinks.{left, passedBoundary, unlinkOf}
 use Rattle.collection.specs.Calls.{Ended, cancelOf, collectOf, ended, finishOf, freed, gathered, linkedOf, marked, markedOf, unlinkingOf}
@@ -38,10 +37,6 @@ marks s st k p r q u w eq es ew = rw (es, eq, ew)
 
 module _ (s : Ehci) (pool : ℕ) (h f : List ℕ) (setups : ℕ) (rd : Readings) (k id : ℕ) (b : Bool)
     (eb : b ≡ acceptsOf s (lengths pool (length h) (length f) setups)) (c : Cancellation) where
-  pub cancel-bad : not b ≡ true → c ≡ refusedCancel s InvalidParameter → left c h f ≡ cancelOf s pool h f setups rd k id
-  unfolding cancelOf
-  cancel-bad t ec = rw (ec, sym eb ∙ not-true b t)
-
   module _ (t : not b ≡ false) (x : Endpoint) (ex : x ≡ endpointAt s k) where
     pub cancel-closed : x ≡ Closed → c ≡ refusedCancel s InvalidEndpoint → left c h f ≡ cancelOf s pool h f setups rd k id
     unfolding cancelOf
@@ -79,10 +74,6 @@ module _ (s : Ehci) (pool : ℕ) (h f : List ℕ) (setups : ℕ) (rd : Readings)
 
 -- ---- the parts of collect
 
-pub frees : (o w : List ℕ) (d x : ℕ) → w ≡ clearOf x (take d o) → w ++ drop d o ≡ freed o d x
-unfolding freed
-frees o w d x e = rw e
-
 pub finishes : (s st : Ehci) (v : View) (k : ℕ) (p : Pipe) (r : Request) (o : List ℕ) (a : Collected) (w : Writes)
     → o ≡ freed (s .owner) (s .settings .descriptors) (k + 1) → a ≡ outcomeOf (r .cancelled) v
     → st ≡ withEndpoint (withOwner s o) k (Idle p) → w ≡ noWrites
@@ -115,10 +106,6 @@ module _ (s : Ehci) (h : List ℕ) (frame : ℕ) (v : View) (k : ℕ) (p : Pipe)
 
 module _ (s : Ehci) (pool : ℕ) (h f : List ℕ) (setups : ℕ) (rd : Readings) (v : View) (k id : ℕ) (b : Bool)
     (eb : b ≡ acceptsOf s (lengths pool (length h) (length f) setups)) (c : Collection) where
-  pub collect-bad : not b ≡ true → c ≡ refusedCollect s InvalidParameter → gathered c h f ≡ collectOf s pool h f setups rd v k id
-  unfolding collectOf
-  collect-bad t ec = rw (ec, sym eb ∙ not-true b t)
-
   module _ (t : not b ≡ false) (x : Endpoint) (ex : x ≡ endpointAt s k) where
     pub collect-closed : x ≡ Closed → c ≡ refusedCollect s InvalidEndpoint → gathered c h f ≡ collectOf s pool h f setups rd v k id
     unfolding collectOf

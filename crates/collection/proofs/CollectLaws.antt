@@ -12,7 +12,7 @@ use Rattle.pool.specs.Chains.{Seen, firstError, lengthOf, viewOf}
 use Rattle.pool.specs.Places.{clearOf, placesFrom}
 use Rattle.pool.specs.declared.chain.View.{View}
 use Rattle.pool.proofs.PlaceLaws.{clear-none, clear-others, places-none}
-use Rattle.state.specs.declared.state.Ehci.{Ehci}
+use Rattle.state.specs.Plain.{Ehci}
 use Rattle.state.specs.Slots.{withSlot}
 use Rattle.state.specs.State.{withOwner}
 use Rattle.pipe.specs.Endpoints.{endpointAt, withEndpoint}

@@ -1,6 +1,4 @@
 pub mod AnswerCases
-pub mod AskCases
-pub mod AskLaws
 pub mod UnlinkCases
 pub mod SlotFacts
 pub mod CallCases

@@ -7,7 +7,7 @@ use borrow.Author.Tests.{eqb-false, eqb-true, leb-false}
 use lib.Dec.{eqb, leb}
 use lib.ListN.{length}
 use Rattle.pool.specs.declared.chain.View.{View}
-use Rattle.state.specs.declared.state.Ehci.{Ehci}
+use Rattle.state.specs.Plain.{Ehci}
 use Rattle.pipe.specs.Endpoints.{endpointAt}
 use Rattle.controller.specs.Lent.{acceptsOf, lengths}
 use Rattle.common.specs.declared.answer.Refusal.{Refusal}

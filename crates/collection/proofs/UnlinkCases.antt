@@ -8,7 +8,7 @@ use Rattle.register.specs.Writes.{noWrites}
 use Rattle.register.specs.declared.writes.Writes.{Writes}
 use Rattle.common.specs.declared.kinds.EndpointType.{EndpointType}
 use Rattle.common.specs.declared.kinds.EndpointType.the-variants.{Control, Isochronous, Bulk, Interrupt}
-use Rattle.state.specs.declared.state.Ehci.{Ehci}
+use Rattle.state.specs.Plain.{Ehci}
 use Rattle.state.specs.State.{withBell}
 use Rattle.pipe.specs.Endpoints.{withEndpoint}
 use Rattle.common.specs.declared.answer.Answer.the-variants.{Done}
@@ -25,7 +25,7 @@ use Rattle.schedule.specs.declared.bell.Bell.{Bell}
 use Rattle.schedule.specs.declared.bell.Rung.{Rung}
 use Rattle.schedule.specs.declared.links.Predecessor.{Predecessor}
 use Rattle.schedule.specs.declared.links.Predecessor.the-variants.{First, Head, Missing}
-use Rattle.collection.specs.declared.collected.Cancellation.{Cancellation}
+use Rattle.collection.specs.Plain.{Cancellation}
 use Rattle.collection.specs.declared.unlink.Bounded.{Bounded}
 use Rattle.collection.specs.Answers.{refusedCancel}
 use Rattle.collection.specs.Unlinks.{askedOf, boundedOf, frameBelow, left, passedBoundary, unlinkOf, waitingOf}

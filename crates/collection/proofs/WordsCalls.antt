@@ -20,8 +20,8 @@ use Rattle.opening.specs.Opening.{rowsFit}
 use Rattle.controller.specs.Lent.{acceptsOf, lengths}
 use Rattle.controller.specs.declared.lent.Readings.{Readings}
 use Rattle.controller.proofs.LentLaws.{accepts-is}
-use Rattle.collection.specs.declared.in_words.answers.Cancellation.{Cancellation as CancellationWords}
-use Rattle.collection.specs.declared.in_words.answers.Collection.{Collection as CollectionWords}
+use Rattle.collection.specs.declared.answers.Cancellation.{Cancellation as CancellationWords}
+use Rattle.collection.specs.declared.answers.Collection.{Collection as CollectionWords}
 use Rattle.collection.specs.Calls.{cancelOf, collectOf, ended, gathered, linkedOf, marked, markedOf, unlinkingOf}
 use Rattle.collection.specs.Unlinks.{left, unlinkOf}
 use Rattle.collection.specs.Words.{cancelledView, collectedView, pendingWords, refusedCancelWords, refusedCollectWords}

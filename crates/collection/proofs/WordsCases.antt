@@ -11,7 +11,7 @@ use Rattle.common.specs.declared.answer.Answer.the-variants.{Done, Refused as R
 use Rattle.common.specs.declared.answer.Refusal.{Refusal}
 use Rattle.common.specs.declared.answer.Refusal.the-variants.{InvalidEndpoint}
 use Rattle.settings.specs.declared.settings.Settings.{Settings}
-use Rattle.state.specs.declared.state.Ehci.{Ehci}
+use Rattle.state.specs.Plain.{Ehci}
 use Rattle.state.specs.State.{withOwner}
 use Rattle.pool.specs.declared.chain.View.{View}
 use Rattle.words.specs.declared.core.Rest.{Rest}
@@ -35,12 +35,12 @@ use Rattle.controller.specs.declared.lent.Readings.{Readings}
 use Rattle.schedule.specs.Links.{detached, detachOf, endedOverlay}
 use Rattle.schedule.specs.declared.links.Predecessor.{Predecessor}
 use Rattle.schedule.specs.declared.links.Predecessor.the-variants.{First, Head, Missing}
-use Rattle.collection.specs.declared.collected.Cancellation.{Cancellation}
+use Rattle.collection.specs.Plain.{Cancellation}
 use Rattle.collection.specs.declared.collected.Collected.{Collected}
 use Rattle.collection.specs.declared.collected.Collected.the-variants.{Pending, Refused}
-use Rattle.collection.specs.declared.collected.Collection.{Collection}
-use Rattle.collection.specs.declared.in_words.answers.Cancellation.{Cancellation as CancellationWords}
-use Rattle.collection.specs.declared.in_words.answers.Collection.{Collection as CollectionWords}
+use Rattle.collection.specs.Plain.{Collection}
+use Rattle.collection.specs.declared.answers.Cancellation.{Cancellation as CancellationWords}
+use Rattle.collection.specs.declared.answers.Collection.{Collection as CollectionWords}
 use Rattle.collection.specs.declared.unlink.Bounded.{Bounded}
 use Rattle.collection.specs.Answers.{outcomeOf, pendingCollect, pendingOf, refusedCancel, refusedCollect}
 use Rattle.collection.specs.Calls.{ended, finishOf, freed, gathered, linkedOf, marked, markedOf, unlinkingOf}

@@ -10,7 +10,7 @@ use Rattle.common.specs.Kinds.{isInterrupt}
 use Rattle.common.specs.declared.kinds.EndpointType.{EndpointType}
 use Rattle.common.specs.declared.kinds.EndpointType.the-variants.{Control, Isochronous, Bulk, Interrupt}
 use Rattle.settings.specs.declared.settings.Settings.{Settings}
-use Rattle.state.specs.declared.state.Ehci.{Ehci}
+use Rattle.state.specs.Plain.{Ehci}
 use Rattle.slot.specs.Ids.{afterId}
 use Rattle.slot.specs.declared.slot.Slot.{Slot}
 use Rattle.words.specs.declared.core.Rest.{Rest}

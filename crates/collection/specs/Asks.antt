@@ -6,10 +6,10 @@ use lib.Dec.{eqb, leb, ltb}
 use lib.ListN.{take}
 use Rattle.pool.specs.Chains.{noAsk}
 use Rattle.pool.specs.Places.{packed, placesFrom}
-use Rattle.pool.specs.declared.chain.Ask.{Ask}
+use Rattle.pool.specs.Plain.{Ask}
 use Rattle.common.specs.Tests.{every}
 use Rattle.settings.specs.declared.settings.Settings.{Settings}
-use Rattle.state.specs.declared.state.Ehci.{Ehci}
+use Rattle.state.specs.Plain.{Ehci}
 use Rattle.pipe.specs.Endpoints.{endpointAt}
 use Rattle.pipe.specs.declared.endpoints.Endpoint.{Endpoint}
 use Rattle.pipe.specs.declared.endpoints.Endpoint.the-variants.{Closed, Idle, Linked, Unlinking}

@@ -7,7 +7,7 @@ use lib.ListN.{drop, length, take}
 use Rattle.register.specs.Writes.{noWrites}
 use Rattle.pool.specs.Places.{clearOf}
 use Rattle.pool.specs.declared.chain.View.{View}
-use Rattle.state.specs.declared.state.Ehci.{Ehci}
+use Rattle.state.specs.Plain.{Ehci}
 use Rattle.state.specs.State.{withOwner}
 use Rattle.common.specs.Answers.{Check, first, settle}
 use Rattle.pipe.specs.Endpoints.{endpointAt, withEndpoint}
@@ -20,11 +20,11 @@ use Rattle.pipe.specs.declared.endpoints.Endpoint.the-variants.{Closed, Idle, L
 use Rattle.pipe.specs.declared.endpoints.Pipe.{Pipe}
 use Rattle.pipe.specs.declared.endpoints.Request.{Request}
 use Rattle.pipe.specs.declared.endpoints.UnlinkBoundary.{UnlinkBoundary}
-use Rattle.controller.specs.declared.lent.Lengths.{Lengths}
+use Rattle.controller.specs.Plain.{Lengths}
 use Rattle.controller.specs.declared.lent.Readings.{Readings}
 use Rattle.schedule.specs.Links.{Links, links, endedOverlay}
-use Rattle.collection.specs.declared.collected.Cancellation.{Cancellation}
-use Rattle.collection.specs.declared.collected.Collection.{Collection}
+use Rattle.collection.specs.Plain.{Cancellation}
+use Rattle.collection.specs.Plain.{Collection}
 use Rattle.collection.specs.Answers.{outcomeOf, pendingCollect, pendingOf, refusedCancel, refusedCollect}
 use Rattle.collection.specs.Unlinks.{Left, left, passedBoundary, unlinkOf}
 

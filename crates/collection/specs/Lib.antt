@@ -1,3 +1,4 @@
+pub mod Plain
 pub mod Answers
 pub mod Unlinks
 pub mod Asks

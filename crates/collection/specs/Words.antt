@@ -7,10 +7,10 @@ use Rattle.bitset.specs.Places.{setPlaces}
 use Rattle.common.specs.declared.answer.Answer.the-variants.{Refused as RefusedCall}
 use Rattle.common.specs.declared.answer.Refusal.{Refusal}
 use Rattle.settings.specs.declared.settings.Settings.{Settings}
-use Rattle.state.specs.declared.state.Ehci.{Ehci}
+use Rattle.state.specs.Plain.{Ehci}
 use Rattle.pool.specs.Places.{packed}
 use Rattle.pool.specs.declared.asked.AskWords.{AskWords}
-use Rattle.pool.specs.declared.chain.Ask.{Ask}
+use Rattle.pool.specs.Plain.{Ask}
 use Rattle.pipe.specs.Endpoints.{endpointAt}
 use Rattle.pipe.specs.declared.endpoints.Endpoint.the-variants.{Linked}
 use Rattle.pipe.specs.declared.endpoints.Pipe.{Pipe}
@@ -18,11 +18,11 @@ use Rattle.pipe.specs.declared.endpoints.Request.{Request}
 use Rattle.words.specs.declared.core.Rest.{Rest}
 use Rattle.words.specs.Record.{placesAt}
 use Rattle.words.specs.View.{stateOf}
-use Rattle.collection.specs.declared.collected.Cancellation.{Cancellation}
+use Rattle.collection.specs.Plain.{Cancellation}
 use Rattle.collection.specs.declared.collected.Collected.the-variants.{Pending, Refused}
-use Rattle.collection.specs.declared.collected.Collection.{Collection}
-use Rattle.collection.specs.declared.in_words.answers.Cancellation.{Cancellation as CancellationWords}
-use Rattle.collection.specs.declared.in_words.answers.Collection.{Collection as CollectionWords}
+use Rattle.collection.specs.Plain.{Collection}
+use Rattle.collection.specs.declared.answers.Cancellation.{Cancellation as CancellationWords}
+use Rattle.collection.specs.declared.answers.Collection.{Collection as CollectionWords}
 
 abbrev pub cancelledView : Settings → CancellationWords → List ℕ → Cancellation
 cancelledView s r ws = record { answer = r .answer; state = stateOf s (r .rest) ws; writes = r .writes }

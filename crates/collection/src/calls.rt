@@ -1,122 +1,114 @@
-// The public calls: cancel and collect.
+// Cancel and collect, on words in their ranges. The lengths of the rows that are not lent are those that opening fixed.
 ghost use mathlib.Core.Path.{_≡_};
+ghost use mathlib.Core.Bool.{true};
+ghost use Prim.Native.Nat.{ℕ, _+_, _*_};
+ghost use lib.ListN.{length};
+ghost use Rattle.opening.specs.Opening.{rowsFit};
+ghost use Rattle.words.specs.Good.{Good, Tidy};
+ghost use Rattle.words.specs.View.{view};
+ghost use Rattle.collection.specs.Calls.{cancelOf, collectOf, gathered};
 ghost use Rattle.collection.specs.Unlinks.{left};
-ghost use Rattle.collection.specs.Calls.{cancelOf, gathered, collectOf};
-use crate::collected::Cancellation;
-use crate::collected::Collection;
-use crate::collected::refuse_cancel;
-use crate::collected::refuse_collect;
-use crate::collected::still_pending;
+ghost use Rattle.collection.specs.Words.{cancelledView, collectedView};
+use crate::answers::Cancellation;
+use crate::answers::Collection;
+use crate::answers::refuse_cancel;
+use crate::answers::refuse_collect;
+use crate::answers::still_pending;
 use crate::finish::collect_linked;
 use crate::finish::collect_unlinking;
 use crate::unlink::mark;
 use crate::unlink::marked;
 use crate::unlink::unlink;
 use common::answer::Refusal;
-use controller::lent::Lengths;
 use controller::lent::Readings;
-use controller::lent::accepts;
 use pipe::endpoints::Endpoint;
-use pipe::endpoints::endpoint_at;
+use pipe::slots::endpoint_at;
 use pool::chain::View;
-use state::state::Ehci;
+use words::core::Core;
 
 // As many unlinks as there are slots: none can be that of a slot that is still linked.
 pub const UNLINKS: u8 = 32;
 
-// `pool` and `setups` are the lengths of rows that are not lent.
 pub fn cancel(
-    state: Ehci,
-    pool: u64,
+    core: Core,
+    slots: &mut [u64],
     heads: &mut [u32],
     frames: &mut [u32],
-    setups: u64,
     readings: Readings,
     slot: u8,
     id: u64,
 ) -> Cancellation
-    ensures { λ r. ⌜ left r (now (heads .exit)) (now (frames .exit))
-        ≡ cancelOf state pool (now (heads .entry)) (now (frames .entry)) setups readings slot id ⌝ }
+    requires { ⌜ Good (core .settings) (core .rest) (now slots) ⌝ }
+    requires { ⌜ (length (now heads) ≡ 17 * (core .settings .endpoints + 1)) × (length (now frames) ≡ 1024) ⌝ }
+    ensures { λ r. ⌜ ((pool setups : ℕ) → rowsFit (core .settings) pool (length (now (heads .entry))) (length (now (frames .entry))) setups ≡ true
+        → left (cancelledView (core .settings) r (now (slots .exit))) (now (heads .exit)) (now (frames .exit))
+        ≡ cancelOf (view core (now (slots .entry))) pool (now (heads .entry)) (now (frames .entry)) setups readings slot id) ⌝ }
+    ensures { λ r. ⌜ Tidy (core .settings) (r .rest) (now (slots .exit)) ⌝ }
 {
-    let lent = Lengths {
-        pool,
-        heads: heads.len() as u64,
-        frames: frames.len() as u64,
-        setups,
-    };
-    if !accepts(state, lent) {
-        return refuse_cancel(state, Refusal::InvalidParameter);
-    }
-    match endpoint_at(state, slot) {
-        Endpoint::Closed => refuse_cancel(state, Refusal::InvalidEndpoint),
-        Endpoint::Idle(_) => refuse_cancel(state, Refusal::InvalidEndpoint),
+    match endpoint_at(core, slots, slot) {
+        Endpoint::Closed => refuse_cancel(core.rest, Refusal::InvalidEndpoint),
+        Endpoint::Idle(_) => refuse_cancel(core.rest, Refusal::InvalidEndpoint),
         Endpoint::Linked(p, r) => {
-            let unanswered = state.unanswered;
+            let unanswered = core.rest.unanswered;
             if UNLINKS <= unanswered {
-                return refuse_cancel(state, Refusal::InvalidParameter);
+                return refuse_cancel(core.rest, Refusal::InvalidParameter);
             }
             let own = r.id;
             if own != id {
-                return refuse_cancel(state, Refusal::InvalidEndpoint);
+                return refuse_cancel(core.rest, Refusal::InvalidEndpoint);
             }
-            unlink(state, heads, frames, readings, slot, p, marked(r))
+            unlink(core, slots, heads, frames, readings, slot, p, marked(r))
         }
         Endpoint::Unlinking(p, r, b) => {
             let own = r.id;
             if own != id {
-                return refuse_cancel(state, Refusal::InvalidEndpoint);
+                return refuse_cancel(core.rest, Refusal::InvalidEndpoint);
             }
-            mark(state, slot, p, r, b)
+            mark(core, slots, slot, p, r, b)
         }
     }
 }
 
-// `view` is what the records of `ask` say.
+// `seen` is what the records of `ask` say.
 pub fn collect(
-    state: Ehci,
-    pool: u64,
+    core: Core,
+    slots: &mut [u64],
     heads: &mut [u32],
     frames: &mut [u32],
-    setups: u64,
     readings: Readings,
-    view: View,
+    seen: View,
     slot: u8,
     id: u64,
 ) -> Collection
-    ensures { λ r. ⌜ gathered r (now (heads .exit)) (now (frames .exit))
-        ≡ collectOf state pool (now (heads .entry)) (now (frames .entry)) setups readings view slot id ⌝ }
+    requires { ⌜ Good (core .settings) (core .rest) (now slots) ⌝ }
+    requires { ⌜ (length (now heads) ≡ 17 * (core .settings .endpoints + 1)) × (length (now frames) ≡ 1024) ⌝ }
+    ensures { λ r. ⌜ ((pool setups : ℕ) → rowsFit (core .settings) pool (length (now (heads .entry))) (length (now (frames .entry))) setups ≡ true
+        → gathered (collectedView (core .settings) r (now (slots .exit))) (now (heads .exit)) (now (frames .exit))
+        ≡ collectOf (view core (now (slots .entry))) pool (now (heads .entry)) (now (frames .entry)) setups readings seen slot id) ⌝ }
+    ensures { λ r. ⌜ Tidy (core .settings) (r .rest) (now (slots .exit)) ⌝ }
 {
-    let lent = Lengths {
-        pool,
-        heads: heads.len() as u64,
-        frames: frames.len() as u64,
-        setups,
-    };
-    if !accepts(state, lent) {
-        return refuse_collect(state, Refusal::InvalidParameter);
-    }
-    match endpoint_at(state, slot) {
-        Endpoint::Closed => refuse_collect(state, Refusal::InvalidEndpoint),
-        Endpoint::Idle(_) => still_pending(state),
+    match endpoint_at(core, slots, slot) {
+        Endpoint::Closed => refuse_collect(core.rest, Refusal::InvalidEndpoint),
+        Endpoint::Idle(_) => still_pending(core.rest),
         Endpoint::Linked(p, r) => {
-            let unanswered = state.unanswered;
+            let unanswered = core.rest.unanswered;
             if UNLINKS <= unanswered {
-                return refuse_collect(state, Refusal::InvalidParameter);
+                return refuse_collect(core.rest, Refusal::InvalidParameter);
             }
             let own = r.id;
             if own != id {
-                return refuse_collect(state, Refusal::InvalidEndpoint);
+                return refuse_collect(core.rest, Refusal::InvalidEndpoint);
             }
-            let stage = view.stage;
-            collect_linked(state, heads, frames, readings, stage, slot, p, r)
+            let stage = seen.stage;
+            collect_linked(core, slots, heads, frames, readings, stage, slot, p, r)
         }
         Endpoint::Unlinking(p, r, b) => {
             let own = r.id;
             if own != id {
-                return refuse_collect(state, Refusal::InvalidEndpoint);
+                return refuse_collect(core.rest, Refusal::InvalidEndpoint);
             }
             let frame = readings.frame;
-            collect_unlinking(state, heads, frame, view, slot, p, r, b)
+            collect_unlinking(core, slots, heads, frame, seen, slot, p, r, b)
         }
     }
 }

@@ -1,11 +1,9 @@
 // What cancel and collect answer.
 ghost use mathlib.Core.Path.{_≡_};
-ghost use Rattle.collection.specs.Answers.{collectedNumber, pendingOf, outcomeOf, refusedCancel, refusedCollect, pendingCollect};
+ghost use Rattle.collection.specs.Answers.{collectedNumber, pendingOf, outcomeOf};
 use common::answer::Answer;
 use common::answer::Refusal;
 use pool::chain::View;
-use register::writes::Writes;
-use state::state::Ehci;
 
 // What a request that is complete gives: how many bytes were moved.
 pub struct Completion {
@@ -18,19 +16,6 @@ pub enum Collected {
     Cancelled,
     Failed(u32),
     Refused(Refusal),
-}
-
-// What a cancel leaves, and an unlink.
-pub struct Cancellation {
-    pub answer: Answer,
-    pub state: Ehci,
-    pub writes: Writes,
-}
-
-pub struct Collection {
-    pub answer: Collected,
-    pub state: Ehci,
-    pub writes: Writes,
 }
 
 impl Collected {
@@ -69,34 +54,4 @@ pub fn outcome_of(cancelled: bool, view: View) -> Collected
         return Collected::Failed(failed);
     }
     Collected::Complete(Completion { length: view.moved })
-}
-
-pub fn refuse_cancel(state: Ehci, refusal: Refusal) -> Cancellation
-    ensures { λ r. ⌜ r ≡ refusedCancel state refusal ⌝ }
-{
-    Cancellation {
-        answer: Answer::Refused(refusal),
-        state,
-        writes: Writes::none(),
-    }
-}
-
-pub fn refuse_collect(state: Ehci, refusal: Refusal) -> Collection
-    ensures { λ r. ⌜ r ≡ refusedCollect state refusal ⌝ }
-{
-    Collection {
-        answer: Collected::Refused(refusal),
-        state,
-        writes: Writes::none(),
-    }
-}
-
-pub fn still_pending(state: Ehci) -> Collection
-    ensures { λ r. ⌜ r ≡ pendingCollect state ⌝ }
-{
-    Collection {
-        answer: Collected::Pending,
-        state,
-        writes: Writes::none(),
-    }
 }

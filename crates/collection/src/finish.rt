@@ -1,56 +1,66 @@
 // What a collect does with a request, by whether its boundary is set.
 ghost use mathlib.Core.Path.{_≡_};
-ghost use Prim.Native.Nat.{_+_, _*_, _≤_, _<_, _^_};
+ghost use Prim.Native.Nat.{_+_, _*_, _<_};
 ghost use lib.ListN.{length};
-ghost use Rattle.collection.specs.Unlinks.{frameBelow};
-ghost use Rattle.collection.specs.Calls.{ended, freed, finishOf, gathered, linkedOf, unlinkingOf};
-use crate::collected::Collection;
+ghost use Rattle.pipe.specs.Endpoints.{endpointAt};
+ghost use Rattle.pipe.specs.declared.endpoints.Endpoint.the-variants.{Linked, Unlinking};
+ghost use Rattle.words.specs.Good.{Good, Tidy};
+ghost use Rattle.words.specs.View.{view};
+ghost use Rattle.collection.specs.Calls.{ended, finishOf, gathered, linkedOf, unlinkingOf};
+ghost use Rattle.collection.specs.Words.{collectedView};
+use crate::answers::Collection;
+use crate::answers::still_pending;
 use crate::collected::outcome_of;
 use crate::collected::pending_of;
-use crate::collected::still_pending;
 use crate::unlink::passed;
 use crate::unlink::unlink;
+use bitset::places::with;
 use controller::lent::Readings;
 use pipe::endpoints::Endpoint;
 use pipe::endpoints::Pipe;
 use pipe::endpoints::Request;
 use pipe::endpoints::UnlinkBoundary;
-use pipe::endpoints::with_endpoint;
+use pipe::slots::put_endpoint;
 use pool::chain::STANDS_ACTIVE;
 use pool::chain::View;
-use pool::places::clear;
 use register::writes::Writes;
 use schedule::links::end_overlay;
-use state::state::Ehci;
-
-// Those of the first so many places that x owns become free.
-fn free(mut owner: [u8; 256], descriptors: u64, x: u8) -> [u8; 256]
-    requires { ⌜ descriptors ≤ 256 ⌝ }
-    ensures { λ r. ⌜ r ≡ freed owner descriptors x ⌝ }
-{
-    let end = descriptors as usize;
-    clear(&mut owner[..end], x);
-    owner
-}
+use words::core::Core;
+use words::row::places_at;
+use words::row::put_places;
 
 // The slot is idle again, its descriptors are free.
-fn finish(mut s: Ehci, view: View, k: u8, p: Pipe, r: Request) -> Collection
-    requires { ⌜ (k < 32) × (s .settings .descriptors ≤ 256) ⌝ }
-    ensures { λ c. ⌜ c ≡ finishOf s view k p r ⌝ }
+fn finish(
+    core: Core,
+    slots: &mut [u64],
+    seen: View,
+    k: u8,
+    p: Pipe,
+    r: Request,
+    b: UnlinkBoundary,
+) -> Collection
+    requires { ⌜ Good (core .settings) (core .rest) (now slots) ⌝ }
+    requires { ⌜ endpointAt (view core (now slots)) k ≡ Unlinking p r b ⌝ }
+    ensures { λ c. ⌜ collectedView (core .settings) c (now (slots .exit)) ≡ finishOf (view core (now (slots .entry))) seen k p r ⌝ }
+    ensures { λ c. ⌜ Tidy (core .settings) (c .rest) (now (slots .exit)) ⌝ }
 {
-    let owner = s.owner;
-    let after = free(owner, s.settings.descriptors, k + 1);
-    s.owner = after;
+    let mut rest = core.rest;
+    let free = rest.free;
+    let more = with(free, places_at(slots, k));
+    rest.free = more;
+    put_endpoint(slots, k, Endpoint::Idle(p));
+    put_places(slots, k, [0; 4]);
     Collection {
-        answer: outcome_of(r.cancelled, view),
-        state: with_endpoint(s, k as usize, Endpoint::Idle(p)),
+        answer: outcome_of(r.cancelled, seen),
+        rest,
         writes: Writes::none(),
     }
 }
 
 // Boundary not set: unlinked where no active descriptor comes first.
 pub fn collect_linked(
-    s: Ehci,
+    core: Core,
+    slots: &mut [u64],
     heads: &mut [u32],
     frames: &mut [u32],
     readings: Readings,
@@ -59,46 +69,49 @@ pub fn collect_linked(
     p: Pipe,
     r: Request,
 ) -> Collection
-    requires { ⌜ (k < 32) × (s .settings .endpoints ≤ 32) × (s .unanswered < 32) ⌝ }
-    requires { ⌜ (17 * (k + 1) < length (now heads)) × (17 * (s .settings .endpoints + 1) ≤ length (now heads)) ⌝ }
-    requires { ⌜ 0 < length (now frames) ⌝ }
-    requires { ⌜ s .settings .heads + 128 * (k + 1) < 2 ^ 32 ⌝ }
-    ensures { λ c. ⌜ gathered c (now (heads .exit)) (now (frames .exit))
-        ≡ linkedOf s (now (heads .entry)) (now (frames .entry)) readings stage k p r ⌝ }
+    requires { ⌜ Good (core .settings) (core .rest) (now slots) ⌝ }
+    requires { ⌜ (endpointAt (view core (now slots)) k ≡ Linked p r) × (core .rest .unanswered < 32) ⌝ }
+    requires { ⌜ (length (now heads) ≡ 17 * (core .settings .endpoints + 1)) × (0 < length (now frames)) ⌝ }
+    ensures { λ c. ⌜ gathered (collectedView (core .settings) c (now (slots .exit))) (now (heads .exit)) (now (frames .exit))
+        ≡ linkedOf (view core (now (slots .entry))) (now (heads .entry)) (now (frames .entry)) readings stage k p r ⌝ }
+    ensures { λ c. ⌜ Tidy (core .settings) (c .rest) (now (slots .exit)) ⌝ }
 {
     if stage == STANDS_ACTIVE {
-        return still_pending(s);
+        return still_pending(core.rest);
     }
-    let left = unlink(s, heads, frames, readings, k, p, r);
+    let left = unlink(core, slots, heads, frames, readings, k, p, r);
     let answer = left.answer;
-    let state = left.state;
+    let rest = left.rest;
     let writes = left.writes;
     Collection {
         answer: pending_of(answer),
-        state,
+        rest,
         writes,
     }
 }
 
 // Boundary set: finished where it has passed.
 pub fn collect_unlinking(
-    s: Ehci,
+    core: Core,
+    slots: &mut [u64],
     heads: &mut [u32],
     frame: u32,
-    view: View,
+    seen: View,
     k: u8,
     p: Pipe,
     r: Request,
     boundary: UnlinkBoundary,
 ) -> Collection
-    requires { ⌜ (k < 32) × (s .settings .descriptors ≤ 256) ⌝ }
-    requires { ⌜ 17 * (k + 1) + 17 ≤ length (now heads) ⌝ }
-    requires { ⌜ frameBelow boundary ⌝ }
-    ensures { λ c. ⌜ ended c (now (heads .exit)) ≡ unlinkingOf s (now (heads .entry)) frame view k p r boundary ⌝ }
+    requires { ⌜ Good (core .settings) (core .rest) (now slots) ⌝ }
+    requires { ⌜ endpointAt (view core (now slots)) k ≡ Unlinking p r boundary ⌝ }
+    requires { ⌜ length (now heads) ≡ 17 * (core .settings .endpoints + 1) ⌝ }
+    ensures { λ c. ⌜ ended (collectedView (core .settings) c (now (slots .exit))) (now (heads .exit))
+        ≡ unlinkingOf (view core (now (slots .entry))) (now (heads .entry)) frame seen k p r boundary ⌝ }
+    ensures { λ c. ⌜ Tidy (core .settings) (c .rest) (now (slots .exit)) ⌝ }
 {
     if !passed(boundary, frame) {
-        return still_pending(s);
+        return still_pending(core.rest);
     }
     end_overlay(heads, k);
-    finish(s, view, k, p, r)
+    finish(core, slots, seen, k, p, r, boundary)
 }

@@ -1,7 +1,7 @@
 // Cancelling a request, and collecting it.
+pub mod answers;
 pub mod ask;
 pub mod calls;
 pub mod collected;
 pub mod finish;
-pub mod in_words;
 pub mod unlink;

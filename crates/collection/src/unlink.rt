@@ -1,21 +1,27 @@
 // Unlinking a request: its head out of the schedule, the boundary that it waits for, and the mark of a cancelled one.
 ghost use mathlib.Core.Path.{_≡_};
-ghost use Prim.Native.Nat.{_+_, _*_, _≤_, _<_, _^_};
+ghost use Prim.Native.Nat.{_+_, _*_, _<_};
 ghost use lib.ListN.{length};
+ghost use Rattle.pipe.specs.Endpoints.{endpointAt};
+ghost use Rattle.pipe.specs.declared.endpoints.Endpoint.the-variants.{Unlinking};
+ghost use Rattle.words.specs.Good.{Good, Tidy};
+ghost use Rattle.words.specs.View.{view};
+ghost use Rattle.collection.specs.Calls.{markedOf, marked};
+ghost use Rattle.collection.specs.Unlinks.{left, unlinkOf, waitingOf, askedOf, boundedOf, frameBelow, passedBoundary};
+ghost use Rattle.collection.specs.Words.{OwnRequest, cancelledView};
 ghost use Rattle.pipe.specs.declared.endpoints.UnlinkBoundary.the-variants.{Async};
-ghost use Rattle.collection.specs.Calls.{marked, markedOf};
-ghost use Rattle.collection.specs.Unlinks.{askedOf, boundedOf, waitingOf, unlinkOf, left, frameBelow, passedBoundary};
-use crate::collected::Cancellation;
-use crate::collected::refuse_cancel;
+use crate::answers::Cancellation;
+use crate::answers::refuse_cancel;
 use common::answer::Answer;
 use common::answer::Refusal;
 use common::kinds::EndpointType;
+use common::kinds::is_interrupt;
 use controller::lent::Readings;
 use pipe::endpoints::Endpoint;
 use pipe::endpoints::Pipe;
 use pipe::endpoints::Request;
 use pipe::endpoints::UnlinkBoundary;
-use pipe::endpoints::with_endpoint;
+use pipe::slots::put_endpoint;
 use register::writes::Writes;
 use schedule::bell::Bell;
 use schedule::bell::Rung;
@@ -25,7 +31,7 @@ use schedule::bell::unlinked;
 use schedule::links::Predecessor;
 use schedule::links::detach;
 use schedule::links::head_address;
-use state::state::Ehci;
+use words::core::Core;
 
 // The boundary of a request that is unlinked, and the doorbell then.
 pub struct Bounded {
@@ -69,55 +75,6 @@ pub fn boundary_now(bell: Bell, kind: EndpointType, readings: Readings) -> Bound
     }
 }
 
-// The slot's request waits for its boundary.
-fn waiting(mut s: Ehci, readings: Readings, k: u8, p: Pipe, r: Request) -> Cancellation
-    requires { ⌜ (k < 32) × (s .unanswered < 32) ⌝ }
-    ensures { λ c. ⌜ c ≡ waitingOf s readings k p r ⌝ }
-{
-    let kind = p.kind;
-    let bell = Bell {
-        noted: s.noted,
-        doorbell: s.doorbell,
-        unanswered: s.unanswered,
-    };
-    let until = boundary_now(bell, kind, readings);
-    let boundary = until.boundary;
-    s.noted = until.rung.bell.noted;
-    s.doorbell = until.rung.bell.doorbell;
-    s.unanswered = until.rung.bell.unanswered;
-    let writes = until.rung.writes;
-    Cancellation {
-        answer: Answer::Done,
-        state: with_endpoint(s, k as usize, Endpoint::Unlinking(p, r, boundary)),
-        writes,
-    }
-}
-
-// Refused where no linked head leads to this one.
-pub fn unlink(
-    s: Ehci,
-    heads: &mut [u32],
-    frames: &mut [u32],
-    readings: Readings,
-    k: u8,
-    p: Pipe,
-    r: Request,
-) -> Cancellation
-    requires { ⌜ (k < 32) × (s .settings .endpoints ≤ 32) × (s .unanswered < 32) ⌝ }
-    requires { ⌜ (17 * (k + 1) < length (now heads)) × (17 * (s .settings .endpoints + 1) ≤ length (now heads)) ⌝ }
-    requires { ⌜ 0 < length (now frames) ⌝ }
-    requires { ⌜ s .settings .heads + 128 * (k + 1) < 2 ^ 32 ⌝ }
-    ensures { λ c. ⌜ left c (now (heads .exit)) (now (frames .exit))
-        ≡ unlinkOf s (now (heads .entry)) (now (frames .entry)) readings k p r ⌝ }
-{
-    let address = head_address(s, k);
-    match detach(s, heads, frames, k, address) {
-        Predecessor::First => waiting(s, readings, k, p, r),
-        Predecessor::Head(_) => waiting(s, readings, k, p, r),
-        Predecessor::Missing => refuse_cancel(s, Refusal::InvalidEndpoint),
-    }
-}
-
 // A request that is cancelled.
 pub fn marked(r: Request) -> Request
     ensures { λ q. ⌜ q ≡ marked r ⌝ }
@@ -131,18 +88,6 @@ pub fn marked(r: Request) -> Request
     }
 }
 
-// A request that is unlinking already is only marked.
-pub fn mark(s: Ehci, slot: u8, p: Pipe, r: Request, b: UnlinkBoundary) -> Cancellation
-    requires { ⌜ slot < 32 ⌝ }
-    ensures { λ c. ⌜ c ≡ markedOf s slot p r b ⌝ }
-{
-    Cancellation {
-        answer: Answer::Done,
-        state: with_endpoint(s, slot as usize, Endpoint::Unlinking(p, marked(r), b)),
-        writes: Writes::none(),
-    }
-}
-
 // Whether a boundary has passed.
 pub fn passed(boundary: UnlinkBoundary, frame: u32) -> bool
     requires { ⌜ frameBelow boundary ⌝ }
@@ -151,5 +96,92 @@ pub fn passed(boundary: UnlinkBoundary, frame: u32) -> bool
     match boundary {
         UnlinkBoundary::Async(n) => n == 0,
         UnlinkBoundary::Periodic(start) => frames_passed(start, frame),
+    }
+}
+
+// The slot's request waits for its boundary. `r` is the slot's own request, marked or not.
+fn waiting(
+    core: Core,
+    slots: &mut [u64],
+    readings: Readings,
+    k: u8,
+    p: Pipe,
+    r: Request,
+) -> Cancellation
+    requires { ⌜ Good (core .settings) (core .rest) (now slots) ⌝ }
+    requires { ⌜ (k < core .settings .endpoints) × (core .rest .unanswered < 32) ⌝ }
+    requires { ⌜ OwnRequest (view core (now slots)) k p r ⌝ }
+    ensures { λ c. ⌜ cancelledView (core .settings) c (now (slots .exit)) ≡ waitingOf (view core (now (slots .entry))) readings k p r ⌝ }
+    ensures { λ c. ⌜ Tidy (core .settings) (c .rest) (now (slots .exit)) ⌝ }
+{
+    let mut rest = core.rest;
+    let kind = p.kind;
+    let bell = Bell {
+        noted: rest.noted,
+        doorbell: rest.doorbell,
+        unanswered: rest.unanswered,
+    };
+    let until = boundary_now(bell, kind, readings);
+    let boundary = until.boundary;
+    rest.noted = until.rung.bell.noted;
+    rest.doorbell = until.rung.bell.doorbell;
+    rest.unanswered = until.rung.bell.unanswered;
+    let writes = until.rung.writes;
+    put_endpoint(slots, k, Endpoint::Unlinking(p, r, boundary));
+    Cancellation {
+        answer: Answer::Done,
+        rest,
+        writes,
+    }
+}
+
+// Refused where no linked head leads to this one.
+pub fn unlink(
+    core: Core,
+    slots: &mut [u64],
+    heads: &mut [u32],
+    frames: &mut [u32],
+    readings: Readings,
+    k: u8,
+    p: Pipe,
+    r: Request,
+) -> Cancellation
+    requires { ⌜ Good (core .settings) (core .rest) (now slots) ⌝ }
+    requires { ⌜ (k < core .settings .endpoints) × (core .rest .unanswered < 32) ⌝ }
+    requires { ⌜ OwnRequest (view core (now slots)) k p r ⌝ }
+    requires { ⌜ (length (now heads) ≡ 17 * (core .settings .endpoints + 1)) × (0 < length (now frames)) ⌝ }
+    ensures { λ c. ⌜ left (cancelledView (core .settings) c (now (slots .exit))) (now (heads .exit)) (now (frames .exit))
+        ≡ unlinkOf (view core (now (slots .entry))) (now (heads .entry)) (now (frames .entry)) readings k p r ⌝ }
+    ensures { λ c. ⌜ Tidy (core .settings) (c .rest) (now (slots .exit)) ⌝ }
+{
+    let kind = p.kind;
+    let address = head_address(core, k);
+    match detach(core, slots, heads, frames, k, is_interrupt(kind), address) {
+        Predecessor::First => waiting(core, slots, readings, k, p, r),
+        Predecessor::Head(_) => waiting(core, slots, readings, k, p, r),
+        Predecessor::Missing => refuse_cancel(core.rest, Refusal::InvalidEndpoint),
+    }
+}
+
+// A request that is unlinking already is only marked.
+pub fn mark(
+    core: Core,
+    slots: &mut [u64],
+    k: u8,
+    p: Pipe,
+    r: Request,
+    b: UnlinkBoundary,
+) -> Cancellation
+    requires { ⌜ Good (core .settings) (core .rest) (now slots) ⌝ }
+    requires { ⌜ endpointAt (view core (now slots)) k ≡ Unlinking p r b ⌝ }
+    ensures { λ c. ⌜ cancelledView (core .settings) c (now (slots .exit)) ≡ markedOf (view core (now (slots .entry))) k p r b ⌝ }
+    ensures { λ c. ⌜ Tidy (core .settings) (c .rest) (now (slots .exit)) ⌝ }
+{
+    let rest = core.rest;
+    put_endpoint(slots, k, Endpoint::Unlinking(p, marked(r), b));
+    Cancellation {
+        answer: Answer::Done,
+        rest,
+        writes: Writes::none(),
     }
 }

@@ -7,7 +7,7 @@ use borrow.Author.Tests.{ltb-false, ltb-true}
 use lib.Dec.{ltb}
 use Rattle.common.specs.declared.answer.Refusal.the-variants.{InvalidParameter, SlotLimitReached}
 use Rattle.controller.specs.declared.calls.Allotted.the-variants.{Address, Refused}
-use Rattle.state.specs.declared.state.Ehci.{Ehci}
+use Rattle.state.specs.Plain.{Ehci}
 use Rattle.controller.specs.Address.{allotOf}
 use Rattle.state.specs.Ranges.{inRanges}
 use Rattle.state.specs.Slots.{slotAt}

@@ -11,7 +11,7 @@ use Rattle.pool.proofs.PlaceLaws.{places-length}
 use Rattle.settings.specs.Settings.{settingsGood}
 use Rattle.settings.specs.declared.settings.Settings.{Settings}
 use Rattle.settings.proofs.SettingsLaws.{good-tells}
-use Rattle.state.specs.declared.state.Ehci.{Ehci}
+use Rattle.state.specs.Plain.{Ehci}
 use Rattle.pipe.specs.Endpoints.{flagNumber}
 use Rattle.opening.specs.Opening.{freshState}
 use Rattle.controller.specs.Readers.{countZero, freeCount}

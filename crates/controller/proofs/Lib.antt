@@ -4,7 +4,6 @@ pub mod LentLaws
 pub mod AddressCases
 pub mod AddressLaws
 pub mod FreeLaws
-pub mod Same
 pub mod WordsLent
 pub mod WordsLaws
 pub mod WordsCases

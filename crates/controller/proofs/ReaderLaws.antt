@@ -8,7 +8,7 @@ use lib.Dec.{ltb}
 use Rattle.common.proofs.TestLaws.{false-true}
 use Rattle.slot.proofs.SlotLaws.{slot-tells}
 use Rattle.state.specs.Slots.{slotAt}
-use Rattle.state.specs.declared.state.Ehci.{Ehci}
+use Rattle.state.specs.Plain.{Ehci}
 use Rattle.state.proofs.RangesLaws.{Ranges}
 use Rattle.pipe.specs.Endpoints.{endpointAt}
 use Rattle.pipe.specs.declared.endpoints.Endpoint.the-variants.{Closed}

@@ -1,7 +1,7 @@
--- The returns of the readers and of an allotment over words.
+-- The returns of an allotment over words, and what the readers of a slot say of the state that the words stand for.
 use Prim.Native.Nat.{ℕ, _+_, _≤_, _<_}
-use mathlib.Core.Path.{_≡_, refl, sym, _∙_}
-use mathlib.Core.Bool.{Bool, true, false, not}
+use mathlib.Core.Path.{_≡_, refl, sym}
+use mathlib.Core.Bool.{Bool, true, not}
 use mathlib.Core.List.{List}
 use native.Mathlib.Decide.{ℕ-discrete as decEq}
 use native.Mathlib.Omega.{arith}
@@ -18,12 +18,12 @@ use Rattle.words.specs.Rest.{restWithNextAddress}
 use Rattle.words.specs.View.{stateOf}
 use Rattle.pipe.specs.Endpoints.{decoded}
 use Rattle.pipe.proofs.WordsLaws.{good-endpoint, word-closed, word-idle, word-linked, word-unlinking}
-use Rattle.controller.specs.declared.calls.Allotment.{Allotment}
+use Rattle.controller.specs.Plain.{Allotment}
 use Rattle.controller.specs.declared.calls.Allotted.the-variants.{Address, Refused}
 use Rattle.controller.specs.Address.{allotOf}
-use Rattle.controller.specs.Readers.{hasEndpoint, hasPlace, holdsRequest, isOpen, isUncollected}
+use Rattle.controller.specs.Words.{heldAt, openAt}
+use Rattle.controller.specs.Readers.{hasEndpoint, holdsRequest, isOpen, isUncollected}
 use Rattle.controller.proofs.AddressCases.{allot-done, allot-none}
-use Rattle.controller.proofs.WordsLaws.{beyond-place, place-viewed}
 
 -- ---- `allocate_address`
 
@@ -61,22 +61,33 @@ module _ (w last : ℕ) where
       let three : phaseIn w ≡ 3 = omega (arith, a, b, c) in
       rw (word-unlinking w last three, three)
 
-module _ (s : Settings) (r : Rest) (ws : List ℕ) (k w : ℕ) (good : Good s r ws) (ew : w ≡ wordAt ws k) where
-  pub open-word : not (eqb (phaseIn w) 0) ≡ isOpen (stateOf s r ws) k
-  open-word =
-      rw (ew, good-endpoint s r ws good k)
+module _ (s : Settings) (r : Rest) (ws : List ℕ) (good : Good s r ws) (k : ℕ) where
+  pub open-viewed : openAt ws k ≡ isOpen (stateOf s r ws) k
+  open-viewed =
+      rw (good-endpoint s r ws good k)
       (open-by (wordAt ws k) (lastAt ws k) (decEq (phaseIn (wordAt ws k)) 0) (decEq (phaseIn (wordAt ws k)) 1) (decEq (phaseIn (wordAt ws k)) 2))
 
-  pub held-word : leb 2 (phaseIn w) ≡ isUncollected (stateOf s r ws) k
-  held-word =
-      rw (ew, good-endpoint s r ws good k)
+  pub held-viewed : heldAt ws k ≡ isUncollected (stateOf s r ws) k
+  held-viewed =
+      rw (good-endpoint s r ws good k)
       (held-by (wordAt ws k) (lastAt ws k) (decEq (phaseIn (wordAt ws k)) 0) (decEq (phaseIn (wordAt ws k)) 1) (decEq (phaseIn (wordAt ws k)) 2))
 
--- ---- `has_place`
+-- the same of a word that was read
+module _ (s : Settings) (r : Rest) (ws : List ℕ) (k w : ℕ) (good : Good s r ws) (ew : w ≡ wordAt ws k) where
+  pub open-word : not (eqb (phaseIn w) 0) ≡ isOpen (stateOf s r ws) k
+  open-word = rw ew (open-viewed s r ws good k)
 
-module _ (s : Settings) (r : Rest) (ws : List ℕ) (k p : ℕ) (good : Good s r ws) where
-  pub place-none : s .endpoints ≤ k → false ≡ hasPlace (stateOf s r ws) k p
-  place-none h = sym (beyond-place s r ws good k p h)
+  pub held-word : leb 2 (phaseIn w) ≡ isUncollected (stateOf s r ws) k
+  held-word = rw ew (held-viewed s r ws good k)
 
-  pub place-in : (x : List ℕ) (t : Bool) → x ≡ placesAt ws k → t ≡ inPlaces x p → t ≡ hasPlace (stateOf s r ws) k p
-  place-in x t ex et = et ∙ rw ex (place-viewed s r ws good k p)
+-- ---- the readers' returns
+
+module _ (ws : List ℕ) (k : ℕ) where
+  pub open-said : (w : ℕ) → w ≡ wordAt ws k → not (eqb (phaseIn w) 0) ≡ openAt ws k
+  open-said w e = rw e
+
+  pub held-said : (w : ℕ) → w ≡ wordAt ws k → leb 2 (phaseIn w) ≡ heldAt ws k
+  held-said w e = rw e
+
+  pub place-said : (p : ℕ) (x : List ℕ) (t : Bool) → x ≡ placesAt ws k → t ≡ inPlaces x p → t ≡ inPlaces (placesAt ws k) p
+  place-said p x t ex et = rw (sym ex) et

@@ -3,7 +3,6 @@ use Prim.Native.Nat.{ℕ, _+_, _≤_, _<_}
 use mathlib.Core.Path.{_≡_, refl, sym, _∙_}
 use mathlib.Core.Bool.{Bool, true, false}
 use mathlib.Core.List.{List}
-use native.Mathlib.Omega.{arith}
 use borrow.Author.Tests.{eq-eqb, eqb-false, eqb-true, le-ltb, ltb-false, ltb-true, ne-eqb}
 use lib.Dec.{eqb, ltb}
 use lib.ListN.{getD, length, take}
@@ -55,10 +54,6 @@ module _ (s : Settings) (r : Rest) (ws : List ℕ) (good : Good s r ws) (k p : �
     within-viewed =
         has-bit (placesAt ws k) p below ∙ rw (slot-place ws k p below) (bit-owner (eqb (holdsBit ws k p) 1) refl)
 
-    within-beyond : s .endpoints ≤ k → hasPlace (stateOf s r ws) k p ≡ false
-    within-beyond h =
-        ne-eqb (getD (stateOf s r ws .owner) p 0) (k + 1) (λ q. omega (arith, h, owner-slot q .0))
-
   none-beyond : 256 ≤ p → hasPlace (stateOf s r ws) k p ≡ false
   none-beyond h = sym (place-beyond (stateOf s r ws) k p h (owner-length s r ws))
 
@@ -72,11 +67,3 @@ module _ (s : Settings) (r : Rest) (ws : List ℕ) (good : Good s r ws) (k p : �
       go : (b : Bool) → ltb p 256 ≡ b → inPlaces (placesAt ws k) p ≡ hasPlace (stateOf s r ws) k p
       go true t = within-viewed (ltb-true p 256 t)
       go false t = no-place (ltb-false p 256 t) ∙ sym (none-beyond (ltb-false p 256 t))
-
-  -- a slot that the row does not have has none
-  pub beyond-place : s .endpoints ≤ k → hasPlace (stateOf s r ws) k p ≡ false
-  beyond-place h = go (ltb p 256) refl
-    where
-      go : (b : Bool) → ltb p 256 ≡ b → hasPlace (stateOf s r ws) k p ≡ false
-      go true t = within-beyond (ltb-true p 256 t) h
-      go false t = none-beyond (ltb-false p 256 t)

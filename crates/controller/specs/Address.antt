@@ -4,10 +4,10 @@ use mathlib.Core.Bool.{not}
 use mathlib.Core.List.{[], _∷_}
 use lib.Dec.{ltb}
 use Rattle.common.specs.declared.answer.Refusal.the-variants.{InvalidParameter, SlotLimitReached}
-use Rattle.controller.specs.declared.calls.Allotment.{Allotment}
+use Rattle.controller.specs.Plain.{Allotment}
 use Rattle.controller.specs.declared.calls.Allotted.{Allotted}
 use Rattle.controller.specs.declared.calls.Allotted.the-variants.{Address, Refused}
-use Rattle.state.specs.declared.state.Ehci.{Ehci}
+use Rattle.state.specs.Plain.{Ehci}
 use Rattle.common.specs.Answers.{refusalNumber, first, settle}
 use Rattle.state.specs.Ranges.{inRanges}
 use Rattle.state.specs.State.{withNextAddress}

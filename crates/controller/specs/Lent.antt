@@ -1,9 +1,9 @@
 -- Document 01, the order of checks: "First: a lent row of a length other than opening fixed, or a state outside its ranges".
 use Prim.Native.Nat.{ℕ}
 use mathlib.Core.Bool.{Bool, _&&_}
-use Rattle.state.specs.declared.state.Ehci.{Ehci}
+use Rattle.state.specs.Plain.{Ehci}
 use Rattle.state.specs.Ranges.{inRanges}
-use Rattle.controller.specs.declared.lent.Lengths.{Lengths}
+use Rattle.controller.specs.Plain.{Lengths}
 use Rattle.opening.specs.Opening.{rowsFit}
 
 -- the lengths of the four rows: pool, heads, frames, setups

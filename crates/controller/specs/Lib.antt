@@ -1,3 +1,4 @@
+pub mod Plain
 pub mod Readers
 pub mod Lent
 pub mod Address

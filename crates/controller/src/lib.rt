@@ -1,5 +1,4 @@
 // Calls on a state as a whole: the next address, what calls on endpoints and requests ask first, what a caller may ask.
 pub mod calls;
-pub mod in_words;
 pub mod lent;
 pub mod readers;

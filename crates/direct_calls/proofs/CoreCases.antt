@@ -9,7 +9,7 @@ use lib.Dec.{leb, ltb}
 use Rattle.common.proofs.TestLaws.{both-tells, false-true}
 use Rattle.settings.specs.Settings.{settingsGood}
 use Rattle.settings.proofs.SettingsLaws.{good-tells}
-use Rattle.state.specs.declared.state.Ehci.{Ehci}
+use Rattle.state.specs.Plain.{Ehci}
 use Rattle.state.specs.Ranges.{inRanges, machineGood}
 use Rattle.words.specs.declared.core.Core.{Core}
 use Rattle.words.specs.declared.core.Rest.{Rest}

@@ -4,15 +4,15 @@ use Rattle.common.specs.declared.answer.Refusal.the-variants.{InvalidParameter}
 use Rattle.register.specs.Writes.{noWrites}
 use Rattle.words.specs.declared.core.Rest.{Rest}
 use Rattle.controller.specs.declared.calls.Allotted.the-variants.{Refused as RefusedAllotted}
-use Rattle.controller.specs.declared.in_words.calls.Allotment.{Allotment}
+use Rattle.controller.specs.declared.calls.Allotment.{Allotment}
 use Rattle.endpoint.specs.declared.calls.Opened.the-variants.{Refused as RefusedOpened}
-use Rattle.endpoint.specs.declared.in_words.calls.Change.{Change}
-use Rattle.endpoint.specs.declared.in_words.calls.EndpointOpening.{EndpointOpening}
+use Rattle.endpoint.specs.declared.calls.Change.{Change}
+use Rattle.endpoint.specs.declared.calls.EndpointOpening.{EndpointOpening}
 use Rattle.interrupt.specs.declared.answers.Acknowledged.the-variants.{Refused as RefusedAcknowledged}
 use Rattle.interrupt.specs.declared.answers.Drained.the-variants.{Refused as RefusedDrained}
-use Rattle.interrupt.specs.declared.in_words.answers.Acknowledgement.{Acknowledgement}
-use Rattle.interrupt.specs.declared.in_words.answers.Drainage.{Drainage}
-use Rattle.interrupt.specs.declared.in_words.answers.Settled.{Settled}
+use Rattle.interrupt.specs.declared.answers.Acknowledgement.{Acknowledgement}
+use Rattle.interrupt.specs.declared.answers.Drainage.{Drainage}
+use Rattle.interrupt.specs.declared.answers.Settled.{Settled}
 
 abbrev pub refusedAcknowledgement : Rest → Acknowledgement
 refusedAcknowledgement rest = record { answer = RefusedAcknowledged InvalidParameter; rest = rest; writes = noWrites }

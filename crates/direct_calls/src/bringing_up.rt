@@ -4,8 +4,8 @@ ghost use Rattle.common.specs.declared.answer.Refusal.the-variants.{InvalidPara
 ghost use Rattle.bring_up.specs.BringUp.{startOf, stepOf};
 ghost use Rattle.bring_up.specs.Words.{broughtView, refusedWords};
 ghost use Rattle.direct_calls.specs.Shapes.{CoreCall, SlotsCall};
-use bring_up::in_words::answers::BroughtUp;
-use bring_up::in_words::calls::refuse;
+use bring_up::answers::BroughtUp;
+use bring_up::calls::refuse;
 use common::answer::Refusal;
 use word_ranges::judge::words_good;
 use word_ranges::scalars::core_good;
@@ -18,7 +18,7 @@ pub fn start_bring_up(core: Core, slots: &[u64]) -> BroughtUp
     if !words_good(core, slots) {
         return refuse(core.rest, Refusal::InvalidParameter);
     }
-    bring_up::in_words::calls::start(core, slots)
+    bring_up::calls::start(core, slots)
 }
 
 // With what was read of the register that the call before asked for.
@@ -29,5 +29,5 @@ pub fn bring_up_step(core: Core, reading: u32) -> BroughtUp
     if !core_good(core) {
         return refuse(core.rest, Refusal::InvalidParameter);
     }
-    bring_up::in_words::calls::step(core, reading)
+    bring_up::calls::step(core, reading)
 }

@@ -11,11 +11,11 @@ use crate::takes::takes_heads;
 use common::answer::Answer;
 use common::answer::Refusal;
 use common::kinds::EndpointType;
+use controller::calls::Allotment;
 use controller::calls::Allotted;
-use controller::in_words::calls::Allotment;
+use endpoint::calls::Change;
+use endpoint::calls::EndpointOpening;
 use endpoint::calls::Opened;
-use endpoint::in_words::calls::Change;
-use endpoint::in_words::calls::EndpointOpening;
 use word_ranges::scalars::core_good;
 use words::core::Core;
 use words::core::Rest;
@@ -30,7 +30,7 @@ pub fn allocate_address(core: Core) -> Allotment
             rest,
         };
     }
-    controller::in_words::calls::allocate_address(core)
+    controller::calls::allocate_address(core)
 }
 
 pub fn open_endpoint(
@@ -54,7 +54,7 @@ pub fn open_endpoint(
             rest,
         };
     }
-    endpoint::in_words::calls::open_endpoint(core, slots, heads, kind, address, number, packet)
+    endpoint::calls::open_endpoint(core, slots, heads, kind, address, number, packet)
 }
 
 // What close, set address and set packet size leave of what is not in its ranges.
@@ -76,7 +76,7 @@ pub fn close(core: Core, slots: &mut [u64], heads: &mut [u32], slot: u8) -> Chan
     if !takes_heads(core, slots, heads) {
         return refuse(core.rest);
     }
-    endpoint::in_words::calls::close(core, slots, heads, slot)
+    endpoint::calls::close(core, slots, heads, slot)
 }
 
 pub fn set_address(core: Core, slots: &[u64], heads: &mut [u32], slot: u8, address: u8) -> Change
@@ -88,7 +88,7 @@ pub fn set_address(core: Core, slots: &[u64], heads: &mut [u32], slot: u8, addre
     if !takes_heads(core, slots, heads) {
         return refuse(core.rest);
     }
-    endpoint::in_words::calls::set_address(core, slots, heads, slot, address)
+    endpoint::calls::set_address(core, slots, heads, slot, address)
 }
 
 // Any byte is a packet size: it is raised to 8.
@@ -101,5 +101,5 @@ pub fn set_packet_size(core: Core, slots: &[u64], heads: &mut [u32], slot: u8, s
     if !takes_heads(core, slots, heads) {
         return refuse(core.rest);
     }
-    endpoint::in_words::calls::set_packet_size(core, slots, heads, slot, size)
+    endpoint::calls::set_packet_size(core, slots, heads, slot, size)
 }

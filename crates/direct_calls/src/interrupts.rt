@@ -7,10 +7,10 @@ ghost use Rattle.direct_calls.specs.Shapes.{CoreCall, SlotsCall};
 use common::answer::Answer;
 use common::answer::Refusal;
 use interrupt::answers::Acknowledged;
+use interrupt::answers::Acknowledgement;
+use interrupt::answers::Drainage;
 use interrupt::answers::Drained;
-use interrupt::in_words::answers::Acknowledgement;
-use interrupt::in_words::answers::Drainage;
-use interrupt::in_words::answers::Settled;
+use interrupt::answers::Settled;
 use register::writes::Writes;
 use word_ranges::judge::words_good;
 use word_ranges::scalars::core_good;
@@ -51,7 +51,7 @@ pub fn acknowledge(
     if !core_good(core) {
         return refuse_acknowledge(core.rest);
     }
-    interrupt::in_words::calls::acknowledge(core, status, interrupts, flag, again)
+    interrupt::calls::acknowledge(core, status, interrupts, flag, again)
 }
 
 fn refuse_drain(rest: Rest) -> Drainage
@@ -72,7 +72,7 @@ pub fn drain(core: Core, slots: &mut [u64], command: u32) -> Drainage
     if !words_good(core, slots) {
         return refuse_drain(core.rest);
     }
-    interrupt::in_words::calls::drain(core, slots, command)
+    interrupt::calls::drain(core, slots, command)
 }
 
 pub fn rearm(core: Core) -> Settled
@@ -81,7 +81,7 @@ pub fn rearm(core: Core) -> Settled
     if !core_good(core) {
         return refuse(core.rest);
     }
-    interrupt::in_words::calls::rearm(core)
+    interrupt::calls::rearm(core)
 }
 
 pub fn enable(core: Core) -> Settled
@@ -90,7 +90,7 @@ pub fn enable(core: Core) -> Settled
     if !core_good(core) {
         return refuse(core.rest);
     }
-    interrupt::in_words::calls::enable(core)
+    interrupt::calls::enable(core)
 }
 
 pub fn disable(core: Core) -> Settled
@@ -99,5 +99,5 @@ pub fn disable(core: Core) -> Settled
     if !core_good(core) {
         return refuse(core.rest);
     }
-    interrupt::in_words::calls::disable(core)
+    interrupt::calls::disable(core)
 }

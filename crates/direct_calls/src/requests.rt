@@ -7,8 +7,8 @@ ghost use Rattle.collection.specs.Unlinks.{left};
 ghost use Rattle.collection.specs.Words.{cancelledView, refusedCancelWords};
 ghost use Rattle.direct_calls.specs.Shapes.{FramesCall};
 use crate::takes::takes_frames;
-use collection::in_words::answers::Cancellation;
-use collection::in_words::answers::refuse_cancel;
+use collection::answers::Cancellation;
+use collection::answers::refuse_cancel;
 use common::answer::Refusal;
 use controller::lent::Readings;
 use words::core::Core;
@@ -30,5 +30,5 @@ pub fn cancel(
     if !takes_frames(core, slots, heads, frames) {
         return refuse_cancel(core.rest, Refusal::InvalidParameter);
     }
-    collection::in_words::calls::cancel(core, slots, heads, frames, readings, slot, id)
+    collection::calls::cancel(core, slots, heads, frames, readings, slot, id)
 }

@@ -1,42 +1,25 @@
 -- Cases of what is decided, from what the callees say.
 use Prim.Native.Nat.{ℕ}
 use mathlib.Core.Path.{_≡_, sym, ap, _∙_}
-use mathlib.Core.Bool.{Bool, true, false, not}
 use mathlib.Core.List.{List}
-use lib.ListN.{length}
 use Rattle.register.specs.Writes.{noWrites}
 use Rattle.register.specs.declared.writes.Writes.{Writes}
-use Rattle.pool.specs.Chains.{askGood, noAsk}
-use Rattle.pool.specs.declared.chain.Ask.{Ask}
-use Rattle.pool.specs.declared.chain.View.{View}
-use Rattle.pool.proofs.GoodLaws.{no-ask-good}
-use Rattle.state.specs.declared.state.Ehci.{Ehci}
 use Rattle.common.specs.declared.answer.Answer.{Answer}
 use Rattle.common.specs.declared.reads.NextRead.{NextRead}
-use Rattle.common.specs.declared.answer.Refusal.the-variants.{InvalidParameter}
-use Rattle.opening.specs.Opening.{rowsFit}
 use Rattle.endpoint.specs.Calls.{ChangeLeft, OpenLeft, changeLeft, openLeft}
-use Rattle.endpoint.specs.declared.calls.Change.{Change}
-use Rattle.endpoint.specs.declared.calls.EndpointOpening.{EndpointOpening}
+use Rattle.endpoint.specs.Plain.{Change}
+use Rattle.endpoint.specs.Plain.{EndpointOpening}
 use Rattle.request.specs.Submit.{Outcome as SubmitOutcome, submitted}
-use Rattle.request.specs.declared.answers.Submitted.{Submitted}
-use Rattle.request.specs.declared.answers.WrittenBack.{WrittenBack}
-use Rattle.collection.specs.Asks.{askOf}
+use Rattle.request.specs.Plain.{Submitted}
+use Rattle.request.specs.Plain.{WrittenBack}
 use Rattle.collection.specs.Calls.{Gathered, gathered}
 use Rattle.collection.specs.Unlinks.{Left, left}
-use Rattle.collection.specs.declared.collected.Cancellation.{Cancellation}
-use Rattle.collection.specs.declared.collected.Collection.{Collection}
-use Rattle.ehci.specs.declared.call.Call.{Call}
-use Rattle.ehci.specs.declared.call.Call.the-variants.{Collect}
-use Rattle.controller.specs.declared.lent.Readings.{Readings}
+use Rattle.collection.specs.Plain.{Cancellation}
+use Rattle.collection.specs.Plain.{Collection}
 use Rattle.ehci.specs.declared.reply.Answered.{Answered}
-use Rattle.ehci.specs.declared.reply.Decided.{Decided}
-use Rattle.ehci.specs.Replies.{broughtAnswer, changedReply, collectedAnswer, openedAnswer, refusedReply, replied, simply, submittedAnswer}
-use Rattle.ehci.specs.Decides.{HeadsOutcome, LinksOutcome, Outcome, asksOf, callOf, came, cancelCame, changeCame, collectCame, decideOf, headsCame, linksCame, openCame, submitCame, withFrames, withSetups, writtenReply}
-
--- a reply by its parts
-pub leave-is : (r : Decided) (s : Ehci) (a b : Answered) (v w : Writes) → r ≡ replied s a v → a ≡ b → v ≡ w → r ≡ replied s b w
-leave-is r s a b v w e ea ew = e ∙ ap (λ (x : Answered). replied s x v) ea ∙ ap (λ (x : Writes). replied s b x) ew
+use Rattle.ehci.specs.Plain.{Decided}
+use Rattle.ehci.specs.Replies.{broughtAnswer, changedReply, collectedAnswer, openedAnswer, replied, simply, submittedAnswer}
+use Rattle.ehci.specs.Decides.{HeadsOutcome, LinksOutcome, came, cancelCame, changeCame, collectCame, headsCame, linksCame, openCame, submitCame, withFrames, withSetups, writtenReply}
 
 pub brought-is : (a k : Answer) (read : NextRead) (wait : ℕ) → a ≡ k → broughtAnswer k read wait ≡ broughtAnswer a read wait
 brought-is a k read wait e = ap (λ (x : Answer). broughtAnswer x read wait) (sym e)
@@ -72,23 +55,6 @@ written-came x a w y e f g =
 
 -- ---- any call
 
-module _ (s : Ehci) (n : ℕ) (hs fs us : List ℕ) (v : View) (call : Call) (b : Bool) (fit : b ≡ rowsFit (s .settings) n (length hs) (length fs) (length us)) where
-  pub rows-refuse : not b ≡ true → (d : Decided) → d ≡ refusedReply s InvalidParameter → came d hs fs us ≡ decideOf s n hs fs us v call
-  unfolding decideOf
-  rows-refuse h d e = by b fit h
-    where
-      by : (t : Bool) → t ≡ rowsFit (s .settings) n (length hs) (length fs) (length us) → not t ≡ true → came d hs fs us ≡ decideOf s n hs fs us v call
-      by true q g = cc
-      by false q g = rw (sym q) (ap (λ (x : Decided). came x hs fs us) e)
-
-  pub any-call : not b ≡ false → (k : Call) → call ≡ k → (o : Outcome) → o ≡ callOf s n hs fs us v k → o ≡ decideOf s n hs fs us v call
-  unfolding decideOf
-  any-call h k is o e = by b fit h
-    where
-      by : (t : Bool) → t ≡ rowsFit (s .settings) n (length hs) (length fs) (length us) → not t ≡ false → o ≡ decideOf s n hs fs us v call
-      by true q g = rw (sym q) (e ∙ ap (callOf s n hs fs us v) (sym is))
-      by false q g = cc
-
 -- a call that is lent fewer rows
 pub heads-call : (d : Decided) (h f u : List ℕ) (y : HeadsOutcome) → headsCame d h ≡ y → came d h f u ≡ withFrames y f u
 heads-call d h f u y e = ap (λ (o : HeadsOutcome). withFrames o f u) e
@@ -100,12 +66,3 @@ pub no-rows : (d : Decided) (h f u : List ℕ) (e : Decided) → d ≡ e → cam
 no-rows d h f u e q = ap (λ (x : Decided). came x h f u) q
 
 -- ---- what is asked
-
-pub asks-nothing : (s : Ehci) (n : ℕ) (call k : Call) (a : Ask) → call ≡ k → asksOf s n k ≡ noAsk → a ≡ noAsk → (a ≡ asksOf s n call) × askGood n a
-asks-nothing s n call k a is none e =
-    (e ∙ sym none ∙ ap (asksOf s n) (sym is), rw e (no-ask-good n))
-
-pub asks-slot : (s : Ehci) (n : ℕ) (call : Call) (k id : ℕ) (readings : Readings) (a : Ask) → call ≡ Collect k id readings → a ≡ askOf s n k → askGood n a
-    → (a ≡ asksOf s n call) × askGood n a
-unfolding asksOf
-asks-slot s n call k id readings a is e g = (e ∙ ap (asksOf s n) (sym is), g)

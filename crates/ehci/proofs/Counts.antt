@@ -6,7 +6,7 @@ use native.Mathlib.Omega.{arith}
 use Rattle.register.specs.Writes.{andThen, noWrites}
 use Rattle.common.specs.declared.kinds.EndpointType.{EndpointType}
 use Rattle.common.specs.declared.kinds.EndpointType.the-variants.{Control, Isochronous, Bulk, Interrupt}
-use Rattle.state.specs.declared.state.Ehci.{Ehci}
+use Rattle.state.specs.Plain.{Ehci}
 use Rattle.controller.specs.declared.lent.Readings.{Readings}
 use Rattle.schedule.specs.Bell.{advancedOf, mustRing, ringOf, rungIf, unlinkedOf}
 use Rattle.schedule.specs.Links.{same}

@@ -10,7 +10,7 @@ use Rattle.descriptor.specs.declared.qtd.QueueTransferDescriptor.{QueueTransfer
 use Rattle.pool.specs.Chains.{fillOf, seenFrom, viewOf}
 use Rattle.pool.specs.Words.{WritingGood, writtenWith}
 use Rattle.pool.specs.declared.asked.AskWords.{AskWords}
-use Rattle.pool.specs.declared.chain.Ask.{Ask}
+use Rattle.pool.specs.Plain.{Ask}
 use Rattle.pool.specs.declared.chain.View.{View}
 use Rattle.pool.specs.declared.writing.Writing.{Writing}
 use Rattle.pool.proofs.ChainLaws.{fill-no-chain}
@@ -21,9 +21,9 @@ use Rattle.word_ranges.specs.Judge.{wordsGood}
 use Rattle.word_ranges.proofs.JudgeLaws.{judged}
 use Rattle.common.specs.declared.answer.Refusal.the-variants.{InvalidParameter}
 use Rattle.ehci.specs.declared.call.Call.{Call}
-use Rattle.ehci.specs.declared.in_words.look.Looked.{Looked}
-use Rattle.ehci.specs.declared.in_words.reply.Decided.{Decided}
-use Rattle.ehci.specs.declared.in_words.reply.Reply.{Reply}
+use Rattle.ehci.specs.declared.look.Looked.{Looked}
+use Rattle.ehci.specs.declared.reply.Decided.{Decided}
+use Rattle.ehci.specs.declared.reply.Reply.{Reply}
 use Rattle.ehci.specs.Decides.{Outcome, asksOf, came, decideOf}
 use Rattle.ehci.specs.Door.{applied, applyOf, carriedOut, seenBy}
 use Rattle.ehci.specs.Replies.{refusedReply, replied}

@@ -10,7 +10,7 @@ use Rattle.register.specs.Bits.{anyOf, onlyBits, withoutBits}
 use Rattle.common.proofs.TestLaws.{false-true, both-tells}
 use Rattle.pool.specs.declared.chain.View.{View}
 use Rattle.state.specs.Ranges.{inRanges}
-use Rattle.state.specs.declared.state.Ehci.{Ehci}
+use Rattle.state.specs.Plain.{Ehci}
 use Rattle.common.specs.Answers.{Check, Verdict, first, orElse, passed, refused, settle}
 use Rattle.common.specs.declared.answer.Refusal.{Refusal}
 use Rattle.common.specs.declared.answer.Refusal.the-variants.{InvalidParameter, SlotLimitReached, InvalidEndpoint, QueueFull, NotSupported, NoMemory, Timeout, NotReady}
@@ -24,14 +24,14 @@ use Rattle.pipe.specs.declared.endpoints.UnlinkBoundary.{UnlinkBoundary}
 use Rattle.opening.specs.Opening.{rowsFit}
 use Rattle.controller.specs.Address.{allotOf}
 use Rattle.controller.specs.Lent.{acceptsOf, lengths}
-use Rattle.controller.specs.declared.calls.Allotment.{Allotment}
+use Rattle.controller.specs.Plain.{Allotment}
 use Rattle.controller.specs.declared.lent.Readings.{Readings}
 use Rattle.schedule.specs.Bell.{bellOf}
 use Rattle.schedule.specs.Links.{detachOf, endedOverlay}
 use Rattle.endpoint.specs.Calls.{ChangeLeft, OpenLeft, changeOf, closeOf, fieldsGood, openChecks, openEndpointOf, setAddressOf, setPacketSizeOf, slotChecks}
 use Rattle.request.specs.Submit.{acceptedWith, refusedSubmit, settledSubmit, submitChecks, submitOf}
 use Rattle.request.specs.Writeback.{refusedWriteback, writebackChecks, writebackOf}
-use Rattle.request.specs.declared.answers.WrittenBack.{WrittenBack}
+use Rattle.request.specs.Plain.{WrittenBack}
 use Rattle.request.specs.declared.judge.TransferRequest.{TransferRequest}
 use Rattle.collection.specs.Answers.{outcomeOf, pendingCollect}
 use Rattle.collection.specs.declared.collected.Collected.the-variants.{Complete, Failed as FailedCollect}
@@ -39,12 +39,12 @@ use Rattle.collection.specs.Calls.{Gathered, cancelAt, cancelChecks, cancelOf, 
 use Rattle.collection.specs.Unlinks.{Left, isMissing, passedBoundary, unlinkOf, waitingOf}
 use Rattle.interrupt.specs.Interrupts.{acknowledgeOf, disableOf, drainIf, drainOf, enableOf, heardIf, rearmIf, rearmOf, settledOr, clearedOf, countedOf}
 use Rattle.interrupt.specs.declared.drain.Cleared.{Cleared}
-use Rattle.interrupt.specs.declared.answers.Acknowledgement.{Acknowledgement}
-use Rattle.interrupt.specs.declared.answers.Drainage.{Drainage}
+use Rattle.interrupt.specs.Plain.{Acknowledgement}
+use Rattle.interrupt.specs.Plain.{Drainage}
 use Rattle.interrupt.specs.declared.answers.Drained.the-variants.{PortChange, TransferActivity, Stopped}
-use Rattle.interrupt.specs.declared.answers.Settled.{Settled}
+use Rattle.interrupt.specs.Plain.{Settled}
 use Rattle.bring_up.specs.BringUp.{againOf, anyUncollected, onwardOf, ready, registerOf, stageOf, startOf, stepOf}
-use Rattle.bring_up.specs.declared.answers.BroughtUp.{BroughtUp}
+use Rattle.bring_up.specs.Plain.{BroughtUp}
 use Rattle.bring_up.specs.declared.stage.Stage.{Stage}
 use Rattle.ehci.specs.declared.call.Call.{Call}
 use Rattle.ehci.specs.declared.call.Call.the-variants.{StartBringUp, BringUpStep, AllocateAddress, OpenEndpoint, Close, SetAddress, SetPacketSize, Submit, Writeback, Cancel, Collect, Acknowledge, Drain, Rearm, Enable, Disable}

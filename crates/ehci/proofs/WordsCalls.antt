@@ -17,8 +17,8 @@ use Rattle.words.specs.View.{stateOf, view}
 use Rattle.words.proofs.GoodLaws.{good-numbers, good-settings}
 use Rattle.words.proofs.TidyLaws.{tidy-rest}
 use Rattle.ehci.specs.declared.call.Call.{Call}
-use Rattle.ehci.specs.declared.reply.Decided.{Decided as DecidedPlain}
-use Rattle.ehci.specs.declared.in_words.reply.Decided.{Decided}
+use Rattle.ehci.specs.Plain.{Decided as DecidedPlain}
+use Rattle.ehci.specs.declared.reply.Decided.{Decided}
 use Rattle.ehci.specs.Replies.{refusedReply}
 use Rattle.ehci.specs.Decides.{callOf, came, decideOf}
 use Rattle.ehci.specs.WordsDecides.{Keeps, Tidies, Writable, decideWords, decidedView, refusedReplyWords}

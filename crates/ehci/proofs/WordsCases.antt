@@ -7,7 +7,7 @@ use lib.ListN.{length}
 use Rattle.register.specs.Writes.{noWrites}
 use Rattle.register.specs.declared.writes.Writes.{Writes}
 use Rattle.pool.specs.Words.{LayingGood, MarkingGood}
-use Rattle.pool.specs.declared.chain.Chain.{Chain}
+use Rattle.pool.specs.Plain.{Chain}
 use Rattle.pool.specs.declared.chain.View.{View}
 use Rattle.pool.specs.declared.writing.Writing.{Writing}
 use Rattle.settings.specs.declared.settings.Settings.{Settings}
@@ -20,38 +20,38 @@ use Rattle.words.specs.View.{stateOf, view}
 use Rattle.controller.specs.Address.{allotOf}
 use Rattle.controller.specs.Lent.{acceptsOf}
 use Rattle.controller.specs.Words.{allottedView}
-use Rattle.controller.specs.declared.in_words.calls.Allotment.{Allotment}
-use Rattle.controller.specs.declared.lent.Lengths.{Lengths}
+use Rattle.controller.specs.declared.calls.Allotment.{Allotment}
+use Rattle.controller.specs.Plain.{Lengths}
 use Rattle.controller.specs.declared.lent.Readings.{Readings}
 use Rattle.endpoint.specs.Calls.{ChangeLeft, changeLeft, openEndpointOf, openLeft}
 use Rattle.endpoint.specs.Words.{changedView, openedView}
-use Rattle.endpoint.specs.declared.in_words.calls.Change.{Change}
-use Rattle.endpoint.specs.declared.in_words.calls.EndpointOpening.{EndpointOpening}
+use Rattle.endpoint.specs.declared.calls.Change.{Change}
+use Rattle.endpoint.specs.declared.calls.EndpointOpening.{EndpointOpening}
 use Rattle.request.specs.Submit.{submitOf, submitted}
 use Rattle.request.specs.Words.{submittedView, writtenView}
 use Rattle.request.specs.Writeback.{writebackOf}
-use Rattle.request.specs.declared.in_words.answers.Submitted.{Submitted}
-use Rattle.request.specs.declared.in_words.answers.WrittenBack.{WrittenBack}
+use Rattle.request.specs.declared.answers.Submitted.{Submitted}
+use Rattle.request.specs.declared.answers.WrittenBack.{WrittenBack}
 use Rattle.request.specs.declared.judge.TransferRequest.{TransferRequest}
 use Rattle.collection.specs.Calls.{cancelOf, collectOf, gathered}
 use Rattle.collection.specs.Unlinks.{left}
 use Rattle.collection.specs.Words.{cancelledView, collectedView}
-use Rattle.collection.specs.declared.in_words.answers.Cancellation.{Cancellation}
-use Rattle.collection.specs.declared.in_words.answers.Collection.{Collection}
+use Rattle.collection.specs.declared.answers.Cancellation.{Cancellation}
+use Rattle.collection.specs.declared.answers.Collection.{Collection}
 use Rattle.interrupt.specs.Interrupts.{acknowledgeOf, drainOf}
 use Rattle.interrupt.specs.Words.{acknowledgedView, drainedView, settledView}
-use Rattle.interrupt.specs.declared.answers.Settled.{Settled as SettledPlain}
-use Rattle.interrupt.specs.declared.in_words.answers.Acknowledgement.{Acknowledgement}
-use Rattle.interrupt.specs.declared.in_words.answers.Drainage.{Drainage}
-use Rattle.interrupt.specs.declared.in_words.answers.Settled.{Settled}
+use Rattle.interrupt.specs.Plain.{Settled as SettledPlain}
+use Rattle.interrupt.specs.declared.answers.Acknowledgement.{Acknowledgement}
+use Rattle.interrupt.specs.declared.answers.Drainage.{Drainage}
+use Rattle.interrupt.specs.declared.answers.Settled.{Settled}
 use Rattle.bring_up.specs.Words.{broughtView}
-use Rattle.bring_up.specs.declared.answers.BroughtUp.{BroughtUp as BroughtPlain}
-use Rattle.bring_up.specs.declared.in_words.answers.BroughtUp.{BroughtUp}
+use Rattle.bring_up.specs.Plain.{BroughtUp as BroughtPlain}
+use Rattle.bring_up.specs.declared.answers.BroughtUp.{BroughtUp}
 use Rattle.ehci.specs.declared.call.EndpointFields.{EndpointFields}
 use Rattle.ehci.specs.declared.call.InterruptReadings.{InterruptReadings}
 use Rattle.ehci.specs.declared.reply.Answered.{Answered}
-use Rattle.ehci.specs.declared.reply.Decided.{Decided as DecidedPlain}
-use Rattle.ehci.specs.declared.in_words.reply.Decided.{Decided}
+use Rattle.ehci.specs.Plain.{Decided as DecidedPlain}
+use Rattle.ehci.specs.declared.reply.Decided.{Decided}
 use Rattle.ehci.specs.Replies.{acknowledgedAnswer, allottedAnswer, broughtReply, changedReply, collectedAnswer, drainedAnswer, openedAnswer, replied, settledReply, simply, submittedAnswer}
 use Rattle.ehci.specs.Decides.{acknowledgeDecided, acknowledgeReply, allotDecided, allotReply, came, cancelDecided, changeCame, collectDecided, drainDecided, drainReply, headsCame, linksCame, openDecided, submitDecided, writebackDecided}
 use Rattle.ehci.specs.WordsDecides.{Keeps, Tidies, Writable, broughtWords, chainIn, changedWords, decidedView, laidOnly, markedOnly, repliedWords, settledWords}

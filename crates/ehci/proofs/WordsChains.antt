@@ -8,8 +8,8 @@ use Rattle.pool.specs.Chains.{fillOf, noAsk, noChain, seenFrom, viewOf}
 use Rattle.pool.specs.Places.{packed}
 use Rattle.pool.specs.Words.{LayingGood, MarkingGood, noAskWords, noLaying, noMarking, noTransfer, noWords, noWriting, wherePlaces, writtenWith}
 use Rattle.pool.specs.declared.asked.AskWords.{AskWords}
-use Rattle.pool.specs.declared.chain.Ask.{Ask}
-use Rattle.pool.specs.declared.chain.Deed.the-variants as Deeds
+use Rattle.pool.specs.Plain.{Ask}
+use Rattle.pool.specs.Plain as Deeds
 use Rattle.pool.specs.declared.laying.Laying.{Laying}
 use Rattle.pool.specs.declared.marking.Marking.{Marking}
 use Rattle.pool.specs.declared.writing.Writing.{Writing}

@@ -1,37 +1,37 @@
 -- What each call decides, over the rows of numbers and what the pool's records say: the crates' own definitions, as one kind of reply.
 use Prim.Native.Nat.{ℕ}
 use mathlib.Core.Bool.{Bool, true, false}
-use mathlib.Core.List.{List, [], _∷_}
+use mathlib.Core.List.{List}
 use lib.ListN.{length}
 use Rattle.register.specs.Writes.{noWrites}
 use Rattle.pool.specs.Chains.{noAsk}
-use Rattle.pool.specs.declared.chain.Ask.{Ask}
+use Rattle.pool.specs.Plain.{Ask}
 use Rattle.pool.specs.declared.chain.View.{View}
-use Rattle.state.specs.declared.state.Ehci.{Ehci}
+use Rattle.state.specs.Plain.{Ehci}
 use Rattle.common.specs.declared.answer.Refusal.the-variants.{InvalidParameter}
 use Rattle.opening.specs.Opening.{rowsFit}
-use Rattle.controller.specs.declared.calls.Allotment.{Allotment}
-use Rattle.controller.specs.declared.lent.Lengths.{Lengths}
+use Rattle.controller.specs.Plain.{Allotment}
+use Rattle.controller.specs.Plain.{Lengths}
 use Rattle.controller.specs.declared.lent.Readings.{Readings}
 use Rattle.controller.specs.Address.{allotOf}
 use Rattle.controller.specs.Lent.{lengths}
 use Rattle.endpoint.specs.Calls.{ChangeLeft, OpenLeft, closeOf, openEndpointOf, setAddressOf, setPacketSizeOf}
-use Rattle.request.specs.declared.answers.WrittenBack.{WrittenBack}
+use Rattle.request.specs.Plain.{WrittenBack}
 use Rattle.request.specs.declared.judge.TransferRequest.{TransferRequest}
 use Rattle.request.specs.Submit.{Outcome as SubmitOutcome, submitOf}
 use Rattle.request.specs.Writeback.{writebackOf}
 use Rattle.collection.specs.Asks.{askOf}
 use Rattle.collection.specs.Calls.{Gathered, cancelOf, collectOf}
 use Rattle.collection.specs.Unlinks.{Left}
-use Rattle.interrupt.specs.declared.answers.Acknowledgement.{Acknowledgement}
-use Rattle.interrupt.specs.declared.answers.Drainage.{Drainage}
+use Rattle.interrupt.specs.Plain.{Acknowledgement}
+use Rattle.interrupt.specs.Plain.{Drainage}
 use Rattle.interrupt.specs.Interrupts.{acknowledgeOf, disableOf, drainOf, enableOf, rearmOf}
 use Rattle.bring_up.specs.BringUp.{startOf, stepOf}
 use Rattle.ehci.specs.declared.call.Call.{Call}
 use Rattle.ehci.specs.declared.call.Call.the-variants.{StartBringUp, BringUpStep, AllocateAddress, OpenEndpoint, Close, SetAddress, SetPacketSize, Submit, Writeback, Cancel, Collect, Acknowledge, Drain, Rearm, Enable, Disable}
 use Rattle.ehci.specs.declared.call.EndpointFields.{EndpointFields}
 use Rattle.ehci.specs.declared.call.InterruptReadings.{InterruptReadings}
-use Rattle.ehci.specs.declared.reply.Decided.{Decided}
+use Rattle.ehci.specs.Plain.{Decided}
 use Rattle.ehci.specs.Replies.{acknowledgedAnswer, allottedAnswer, broughtReply, changedReply, collectedAnswer, drainedAnswer, openedAnswer, refusedReply, replied, settledReply, simply, submittedAnswer}
 
 -- what is decided, and the rows of numbers then

@@ -5,11 +5,11 @@ use lib.ListN.{length}
 use Rattle.descriptor.specs.declared.qtd.QueueTransferDescriptor.{QueueTransferDescriptor}
 use Rattle.pool.specs.Chains.{fillOf, seenFrom, viewOf}
 use Rattle.pool.specs.Places.{listOf}
-use Rattle.pool.specs.declared.chain.Ask.{Ask}
+use Rattle.pool.specs.Plain.{Ask}
 use Rattle.pool.specs.declared.chain.View.{View}
-use Rattle.state.specs.declared.state.Ehci.{Ehci}
+use Rattle.state.specs.Plain.{Ehci}
 use Rattle.ehci.specs.declared.call.Call.{Call}
-use Rattle.ehci.specs.declared.reply.Reply.{Reply}
+use Rattle.ehci.specs.Plain.{Reply}
 use Rattle.ehci.specs.Decides.{Outcome, asksOf, decideOf}
 
 -- the reply, and every row then

@@ -4,15 +4,14 @@ use mathlib.Core.List.{List, [], _∷_}
 use Rattle.register.specs.Writes.{noWrites}
 use Rattle.register.specs.declared.writes.Writes.{Writes}
 use Rattle.pool.specs.Chains.{noChain}
-use Rattle.pool.specs.declared.chain.Chain.{Chain}
-use Rattle.state.specs.declared.state.Ehci.{Ehci}
+use Rattle.state.specs.Plain.{Ehci}
 use Rattle.common.specs.Answers.{refusalNumber}
 use Rattle.common.specs.declared.answer.Answer.{Answer}
 use Rattle.common.specs.declared.answer.Answer.the-variants as A
 use Rattle.common.specs.declared.answer.Refusal.{Refusal}
 use Rattle.controller.specs.declared.calls.Allotted.{Allotted}
 use Rattle.controller.specs.declared.calls.Allotted.the-variants as L
-use Rattle.endpoint.specs.declared.calls.Change.{Change}
+use Rattle.endpoint.specs.Plain.{Change}
 use Rattle.endpoint.specs.declared.calls.Opened.{Opened}
 use Rattle.endpoint.specs.declared.calls.Opened.the-variants as O
 use Rattle.request.specs.declared.answers.Submission.{Submission}
@@ -23,18 +22,17 @@ use Rattle.interrupt.specs.declared.answers.Acknowledged.{Acknowledged}
 use Rattle.interrupt.specs.declared.answers.Acknowledged.the-variants as K
 use Rattle.interrupt.specs.declared.answers.Drained.{Drained}
 use Rattle.interrupt.specs.declared.answers.Drained.the-variants as D
-use Rattle.interrupt.specs.declared.answers.Settled.{Settled}
-use Rattle.bring_up.specs.declared.answers.BroughtUp.{BroughtUp}
+use Rattle.interrupt.specs.Plain.{Settled}
+use Rattle.bring_up.specs.Plain.{BroughtUp}
 use Rattle.common.specs.declared.reads.NextRead.{NextRead}
 use Rattle.common.specs.declared.reads.NextRead.the-variants as N
 use Rattle.ehci.specs.declared.reply.Answered.{Answered}
 use Rattle.ehci.specs.declared.reply.Answered.the-variants.{Done, Pending, Cancelled, Failed, Refused}
-use Rattle.ehci.specs.declared.reply.Decided.{Decided}
+use Rattle.ehci.specs.Plain.{Decided}
 use Rattle.ehci.specs.declared.reply.Event.{Event}
 use Rattle.ehci.specs.declared.reply.Event.the-variants as E
 use Rattle.ehci.specs.declared.reply.Given.{Given}
 use Rattle.ehci.specs.declared.reply.Given.the-variants as G
-use Rattle.ehci.specs.declared.reply.Reply.{Reply}
 
 -- ---- the number and the values of an answer
 

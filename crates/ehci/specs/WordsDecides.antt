@@ -10,7 +10,7 @@ use Rattle.common.specs.declared.answer.Refusal.{Refusal}
 use Rattle.common.specs.declared.answer.Refusal.the-variants.{InvalidParameter}
 use Rattle.pool.specs.Words.{AskWordsGood, WritingGood, noAskWords, noLaying, noMarking, noWriting, wherePlaces}
 use Rattle.pool.specs.declared.asked.AskWords.{AskWords}
-use Rattle.pool.specs.declared.chain.Chain.{Chain}
+use Rattle.pool.specs.Plain.{Chain}
 use Rattle.pool.specs.declared.chain.View.{View}
 use Rattle.pool.specs.declared.laying.Laying.{Laying}
 use Rattle.pool.specs.declared.marking.Marking.{Marking}
@@ -20,17 +20,17 @@ use Rattle.words.specs.declared.core.Core.{Core}
 use Rattle.words.specs.declared.core.Rest.{Rest}
 use Rattle.words.specs.Good.{Tidy}
 use Rattle.words.specs.View.{view}
-use Rattle.bring_up.specs.declared.in_words.answers.BroughtUp.{BroughtUp}
-use Rattle.endpoint.specs.declared.in_words.calls.Change.{Change}
-use Rattle.interrupt.specs.declared.in_words.answers.Settled.{Settled}
+use Rattle.bring_up.specs.declared.answers.BroughtUp.{BroughtUp}
+use Rattle.endpoint.specs.declared.calls.Change.{Change}
+use Rattle.interrupt.specs.declared.answers.Settled.{Settled}
 use Rattle.request.specs.Words.{layingChain, markingChain}
 use Rattle.collection.specs.Words.{askView}
 use Rattle.ehci.specs.declared.call.Call.{Call}
 use Rattle.ehci.specs.declared.reply.Answered.{Answered}
 use Rattle.ehci.specs.declared.reply.Answered.the-variants.{Refused}
-use Rattle.ehci.specs.declared.reply.Decided.{Decided}
-use Rattle.ehci.specs.declared.in_words.look.Looked.{Looked}
-use Rattle.ehci.specs.declared.in_words.reply.Decided.{Decided as DecidedWords}
+use Rattle.ehci.specs.Plain.{Decided}
+use Rattle.ehci.specs.declared.look.Looked.{Looked}
+use Rattle.ehci.specs.declared.reply.Decided.{Decided as DecidedWords}
 use Rattle.ehci.specs.Decides.{Outcome, asksOf, came, decideOf}
 use Rattle.ehci.specs.WordsDoor.{acceptsWords, replyView}
 use Rattle.ehci.specs.Replies.{broughtAnswer, refusedReply, simply}

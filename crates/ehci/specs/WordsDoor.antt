@@ -15,8 +15,8 @@ use Rattle.words.specs.Good.{Good, Tidy}
 use Rattle.words.specs.View.{stateOf, view}
 use Rattle.word_ranges.specs.Judge.{wordsGood}
 use Rattle.ehci.specs.declared.call.Call.{Call}
-use Rattle.ehci.specs.declared.reply.Reply.{Reply}
-use Rattle.ehci.specs.declared.in_words.reply.Reply.{Reply as ReplyWords}
+use Rattle.ehci.specs.Plain.{Reply}
+use Rattle.ehci.specs.declared.reply.Reply.{Reply as ReplyWords}
 use Rattle.ehci.specs.Door.{Applied, applied, applyOf}
 use Rattle.ehci.specs.Replies.{refusedReply}
 

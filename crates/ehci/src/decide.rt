@@ -1,27 +1,18 @@
-// What a call decides. It never sees the pool's records: what they say comes in, what is written to them goes out.
+// What a call decides on a state in words. It never sees the pool's records: what they say comes in, what is written to them goes out.
 ghost use mathlib.Core.Path.{_≡_};
-ghost use Rattle.pool.specs.Chains.{askGood};
-ghost use Rattle.ehci.specs.Replies.{broughtReply, settledReply};
-ghost use Rattle.ehci.specs.Decides.{
-  headsCame,
-  linksCame,
-  came,
-  openDecided,
-  closeDecided,
-  addressDecided,
-  packetDecided,
-  submitDecided,
-  cancelDecided,
-  collectDecided,
-  writebackDecided,
-  allotDecided,
-  acknowledgeDecided,
-  drainDecided,
-  decideOf,
-  asksOf,
-};
-ghost use Rattle.bring_up.specs.BringUp.{startOf, stepOf};
-ghost use Rattle.interrupt.specs.Interrupts.{rearmOf, enableOf, disableOf};
+ghost use mathlib.Core.Bool.{true};
+ghost use mathlib.Core.List.{List};
+ghost use Prim.Native.Nat.{ℕ, _+_, _*_};
+ghost use lib.ListN.{length};
+ghost use Rattle.state.specs.Ranges.{inRanges};
+ghost use Rattle.opening.specs.Opening.{rowsFit};
+ghost use Rattle.controller.specs.Lent.{acceptsOf};
+ghost use Rattle.controller.specs.Plain.{Lengths};
+ghost use Rattle.words.specs.Good.{Good, Tidy};
+ghost use Rattle.words.specs.View.{view};
+ghost use Rattle.ehci.specs.Decides.{acknowledgeDecided, allotDecided, came, cancelDecided, collectDecided, drainDecided, headsCame, linksCame, openDecided, submitDecided, writebackDecided};
+ghost use Rattle.ehci.specs.WordsDecides.{Keeps, Tidies, Writable, decideWords, decidedView};
+ghost use Rattle.ehci.specs.WordsDoor.{Judged, WordsAfter};
 use crate::call::Call;
 use crate::call::EndpointFields;
 use crate::call::InterruptReadings;
@@ -31,7 +22,9 @@ use crate::reply::acknowledged_answer;
 use crate::reply::allotted_answer;
 use crate::reply::collected_answer;
 use crate::reply::drained_answer;
+use crate::reply::laid;
 use crate::reply::leave;
+use crate::reply::marked;
 use crate::reply::of_brought_up;
 use crate::reply::of_change;
 use crate::reply::of_settled;
@@ -41,12 +34,10 @@ use crate::reply::simple;
 use crate::reply::submitted_answer;
 use bring_up::calls::start;
 use bring_up::calls::step;
-use collection::ask::ask;
 use collection::calls::cancel;
 use collection::calls::collect;
 use common::answer::Refusal;
 use controller::calls::allocate_address;
-use controller::lent::Lengths;
 use controller::lent::Readings;
 use endpoint::calls::close;
 use endpoint::calls::open_endpoint;
@@ -57,110 +48,49 @@ use interrupt::calls::disable;
 use interrupt::calls::drain;
 use interrupt::calls::enable;
 use interrupt::calls::rearm;
-use opening::open::rows_fit;
-use pool::chain::Ask;
 use pool::chain::View;
-use pool::chain::no_ask;
 use register::writes::Writes;
-use request::calls::submit;
-use request::calls::writeback;
 use request::judge::TransferRequest;
-use state::state::Ehci;
+use request::submit::submit;
+use request::writeback::writeback;
+use words::core::Core;
 
-fn on_start(state: Ehci) -> Decided
-    ensures { λ r. ⌜ r ≡ broughtReply (startOf state) ⌝ }
+fn on_allocate(core: Core) -> Decided
+    ensures { λ r. ⌜ ((ws : List ℕ) → inRanges (view core ws) ≡ true → decidedView (core .settings) r ws ≡ allotDecided (view core ws)) ⌝ }
+    ensures { λ r. ⌜ Keeps core r ⌝ }
 {
-    of_brought_up(start(state))
-}
-
-fn on_step(state: Ehci, reading: u32) -> Decided
-    ensures { λ r. ⌜ r ≡ broughtReply (stepOf state reading) ⌝ }
-{
-    of_brought_up(step(state, reading))
-}
-
-fn on_allocate(state: Ehci) -> Decided
-    ensures { λ r. ⌜ r ≡ allotDecided state ⌝ }
-{
-    let a = allocate_address(state);
+    let a = allocate_address(core);
     let answer = a.answer;
-    let after = a.state;
-    leave(after, allotted_answer(answer), Writes::none())
+    let rest = a.rest;
+    leave(rest, allotted_answer(answer), Writes::none())
 }
 
-fn on_open(
-    state: Ehci,
-    pool: u64,
-    heads: &mut [u32],
-    frames: u64,
-    setups: u64,
-    fields: EndpointFields,
-) -> Decided
-    ensures { λ r. ⌜ headsCame r (now (heads .exit)) ≡ openDecided state pool (now (heads .entry)) frames setups fields ⌝ }
+fn on_open(core: Core, slots: &mut [u64], heads: &mut [u32], fields: EndpointFields) -> Decided
+    requires { ⌜ Good (core .settings) (core .rest) (now slots) ⌝ }
+    requires { ⌜ length (now heads) ≡ 17 * (core .settings .endpoints + 1) ⌝ }
+    ensures { λ r. ⌜ ((pool frames setups : ℕ) → rowsFit (core .settings) pool (length (now (heads .entry))) frames setups ≡ true
+        → headsCame (decidedView (core .settings) r (now (slots .exit))) (now (heads .exit))
+        ≡ openDecided (view core (now (slots .entry))) pool (now (heads .entry)) frames setups fields) ⌝ }
+    ensures { λ r. ⌜ Tidies core r (now (slots .exit)) ⌝ }
 {
     let kind = fields.kind;
     let o = open_endpoint(
-        state,
-        pool,
+        core,
+        slots,
         heads,
-        frames,
-        setups,
         kind,
         fields.address,
         fields.number,
         fields.packet,
     );
     let answer = o.answer;
-    let after = o.state;
-    leave(after, opened_answer(answer), Writes::none())
-}
-
-fn on_close(
-    state: Ehci,
-    pool: u64,
-    heads: &mut [u32],
-    frames: u64,
-    setups: u64,
-    slot: u8,
-) -> Decided
-    ensures { λ r. ⌜ headsCame r (now (heads .exit)) ≡ closeDecided state pool (now (heads .entry)) frames setups slot ⌝ }
-{
-    of_change(close(state, pool, heads, frames, setups, slot))
-}
-
-fn on_address(
-    state: Ehci,
-    pool: u64,
-    heads: &mut [u32],
-    frames: u64,
-    setups: u64,
-    slot: u8,
-    address: u8,
-) -> Decided
-    ensures { λ r. ⌜ headsCame r (now (heads .exit))
-        ≡ addressDecided state pool (now (heads .entry)) frames setups slot address ⌝ }
-{
-    of_change(set_address(state, pool, heads, frames, setups, slot, address))
-}
-
-fn on_packet(
-    state: Ehci,
-    pool: u64,
-    heads: &mut [u32],
-    frames: u64,
-    setups: u64,
-    slot: u8,
-    size: u8,
-) -> Decided
-    ensures { λ r. ⌜ headsCame r (now (heads .exit))
-        ≡ packetDecided state pool (now (heads .entry)) frames setups slot size ⌝ }
-{
-    of_change(set_packet_size(state, pool, heads, frames, setups, slot, size))
+    let rest = o.rest;
+    leave(rest, opened_answer(answer), Writes::none())
 }
 
 fn on_submit(
-    state: Ehci,
-    pool: u64,
+    core: Core,
+    slots: &mut [u64],
     heads: &mut [u32],
     frames: &mut [u32],
     setups: &mut [u8],
@@ -168,157 +98,169 @@ fn on_submit(
     slot: u8,
     request: TransferRequest,
 ) -> Decided
-    ensures { λ r. ⌜ came r (now (heads .exit)) (now (frames .exit)) (now (setups .exit))
-        ≡ submitDecided state pool (now (heads .entry)) (now (frames .entry)) (now (setups .entry)) readings slot request ⌝ }
+    requires { ⌜ Good (core .settings) (core .rest) (now slots) ⌝ }
+    requires { ⌜ (length (now heads) ≡ 17 * (core .settings .endpoints + 1)) × (length (now frames) ≡ 1024) × (length (now setups) ≡ 8 * core .settings .endpoints) ⌝ }
+    ensures { λ r. ⌜ ((pool : ℕ) → rowsFit (core .settings) pool (length (now (heads .entry))) (length (now (frames .entry))) (length (now (setups .entry))) ≡ true
+        → came (decidedView (core .settings) r (now (slots .exit))) (now (heads .exit)) (now (frames .exit)) (now (setups .exit))
+        ≡ submitDecided (view core (now (slots .entry))) pool (now (heads .entry)) (now (frames .entry)) (now (setups .entry)) readings slot request) ⌝ }
+    ensures { λ r. ⌜ Tidy (core .settings) (r .reply .rest) (now (slots .exit)) ⌝ }
+    ensures { λ r. ⌜ Writable (core .settings .descriptors) (r .writing) ⌝ }
 {
-    let x = submit(state, pool, heads, frames, setups, readings, slot, request);
+    let x = submit(core, slots, heads, frames, setups, readings, slot, request);
     let answer = x.answer;
-    let after = x.state;
+    let rest = x.rest;
     let writes = x.writes;
-    let chain = x.chain;
+    let laying = x.laying;
     Decided {
         reply: Reply {
-            state: after,
+            rest,
             answer: submitted_answer(answer),
             writes,
         },
-        chain,
+        writing: laid(laying),
     }
 }
 
-fn on_writeback(state: Ehci, lent: Lengths, place: u64, token: u32) -> Decided
-    ensures { λ r. ⌜ r ≡ writebackDecided state lent place token ⌝ }
+fn on_writeback(core: Core, place: u64, token: u32) -> Decided
+    ensures { λ r. ⌜ ((ws : List ℕ) → Good (core .settings) (core .rest) ws → (lent : Lengths) → acceptsOf (view core ws) lent ≡ true
+        → decidedView (core .settings) r ws ≡ writebackDecided (view core ws) lent place token) ⌝ }
+    ensures { λ r. ⌜ r .reply .rest ≡ core .rest ⌝ }
+    ensures { λ r. ⌜ Writable (core .settings .descriptors) (r .writing) ⌝ }
 {
-    let x = writeback(state, lent, place, token);
+    let x = writeback(core, place, token);
     let answer = x.answer;
-    let after = x.state;
-    let chain = x.chain;
+    let rest = x.rest;
+    let marking = x.marking;
     Decided {
         reply: Reply {
-            state: after,
+            rest,
             answer: simple(answer),
             writes: Writes::none(),
         },
-        chain,
+        writing: marked(marking),
     }
 }
 
 fn on_cancel(
-    state: Ehci,
-    pool: u64,
+    core: Core,
+    slots: &mut [u64],
     heads: &mut [u32],
     frames: &mut [u32],
-    setups: u64,
     readings: Readings,
     slot: u8,
     id: u64,
 ) -> Decided
-    ensures { λ r. ⌜ linksCame r (now (heads .exit)) (now (frames .exit))
-        ≡ cancelDecided state pool (now (heads .entry)) (now (frames .entry)) setups readings slot id ⌝ }
+    requires { ⌜ Good (core .settings) (core .rest) (now slots) ⌝ }
+    requires { ⌜ (length (now heads) ≡ 17 * (core .settings .endpoints + 1)) × (length (now frames) ≡ 1024) ⌝ }
+    ensures { λ r. ⌜ ((pool setups : ℕ) → rowsFit (core .settings) pool (length (now (heads .entry))) (length (now (frames .entry))) setups ≡ true
+        → linksCame (decidedView (core .settings) r (now (slots .exit))) (now (heads .exit)) (now (frames .exit))
+        ≡ cancelDecided (view core (now (slots .entry))) pool (now (heads .entry)) (now (frames .entry)) setups readings slot id) ⌝ }
+    ensures { λ r. ⌜ Tidies core r (now (slots .exit)) ⌝ }
 {
-    let x = cancel(state, pool, heads, frames, setups, readings, slot, id);
+    let x = cancel(core, slots, heads, frames, readings, slot, id);
     let answer = x.answer;
-    let after = x.state;
+    let rest = x.rest;
     let writes = x.writes;
-    leave(after, simple(answer), writes)
+    leave(rest, simple(answer), writes)
 }
 
 fn on_collect(
-    state: Ehci,
-    pool: u64,
+    core: Core,
+    slots: &mut [u64],
     heads: &mut [u32],
     frames: &mut [u32],
-    setups: u64,
     readings: Readings,
-    view: View,
+    seen: View,
     slot: u8,
     id: u64,
 ) -> Decided
-    ensures { λ r. ⌜ linksCame r (now (heads .exit)) (now (frames .exit))
-        ≡ collectDecided state pool (now (heads .entry)) (now (frames .entry)) setups readings view slot id ⌝ }
+    requires { ⌜ Good (core .settings) (core .rest) (now slots) ⌝ }
+    requires { ⌜ (length (now heads) ≡ 17 * (core .settings .endpoints + 1)) × (length (now frames) ≡ 1024) ⌝ }
+    ensures { λ r. ⌜ ((pool setups : ℕ) → rowsFit (core .settings) pool (length (now (heads .entry))) (length (now (frames .entry))) setups ≡ true
+        → linksCame (decidedView (core .settings) r (now (slots .exit))) (now (heads .exit)) (now (frames .exit))
+        ≡ collectDecided (view core (now (slots .entry))) pool (now (heads .entry)) (now (frames .entry)) setups readings seen slot id) ⌝ }
+    ensures { λ r. ⌜ Tidies core r (now (slots .exit)) ⌝ }
 {
-    let x = collect(state, pool, heads, frames, setups, readings, view, slot, id);
+    let x = collect(core, slots, heads, frames, readings, seen, slot, id);
     let answer = x.answer;
-    let after = x.state;
+    let rest = x.rest;
     let writes = x.writes;
-    leave(after, collected_answer(answer), writes)
+    leave(rest, collected_answer(answer), writes)
 }
 
-fn on_acknowledge(state: Ehci, readings: InterruptReadings) -> Decided
-    ensures { λ r. ⌜ r ≡ acknowledgeDecided state readings ⌝ }
+fn on_acknowledge(core: Core, readings: InterruptReadings) -> Decided
+    ensures { λ r. ⌜ ((ws : List ℕ) → inRanges (view core ws) ≡ true → decidedView (core .settings) r ws ≡ acknowledgeDecided (view core ws) readings) ⌝ }
+    ensures { λ r. ⌜ Keeps core r ⌝ }
 {
     let x = acknowledge(
-        state,
+        core,
         readings.status,
         readings.interrupts,
         readings.flag,
         readings.again,
     );
     let answer = x.answer;
-    let after = x.state;
+    let rest = x.rest;
     let writes = x.writes;
-    leave(after, acknowledged_answer(answer), writes)
+    leave(rest, acknowledged_answer(answer), writes)
 }
 
-fn on_drain(state: Ehci, command: u32) -> Decided
-    ensures { λ r. ⌜ r ≡ drainDecided state command ⌝ }
+fn on_drain(core: Core, slots: &mut [u64], command: u32) -> Decided
+    requires { ⌜ Good (core .settings) (core .rest) (now slots) ⌝ }
+    ensures { λ r. ⌜ decidedView (core .settings) r (now (slots .exit)) ≡ drainDecided (view core (now (slots .entry))) command ⌝ }
+    ensures { λ r. ⌜ Tidies core r (now (slots .exit)) ⌝ }
 {
-    let x = drain(state, command);
+    let x = drain(core, slots, command);
     let answer = x.answer;
-    let after = x.state;
+    let rest = x.rest;
     let writes = x.writes;
-    leave(after, drained_answer(answer), writes)
+    leave(rest, drained_answer(answer), writes)
 }
 
-fn on_rearm(state: Ehci) -> Decided
-    ensures { λ r. ⌜ r ≡ settledReply (rearmOf state) ⌝ }
-{
-    of_settled(rearm(state))
-}
-
-fn on_enable(state: Ehci) -> Decided
-    ensures { λ r. ⌜ r ≡ settledReply (enableOf state) ⌝ }
-{
-    of_settled(enable(state))
-}
-
-fn on_disable(state: Ehci) -> Decided
-    ensures { λ r. ⌜ r ≡ settledReply (disableOf state) ⌝ }
-{
-    of_settled(disable(state))
-}
-
-// All four rows are judged, whatever the call. `view` is what the records of `asks` say.
+// `good` is what `look` found, `seen` what the records of its ask say.
 pub fn decide(
-    state: Ehci,
+    core: Core,
     records: usize,
+    slots: &mut [u64],
     heads: &mut [u32],
     frames: &mut [u32],
     setups: &mut [u8],
-    view: View,
+    good: bool,
+    seen: View,
     call: Call,
 ) -> Decided
-    ensures { λ r. ⌜ came r (now (heads .exit)) (now (frames .exit)) (now (setups .exit))
-        ≡ decideOf state records (now (heads .entry)) (now (frames .entry)) (now (setups .entry)) view call ⌝ }
+    requires { ⌜ (good ≡ true → Judged core (now slots) records (length (now heads)) (length (now frames)) (length (now setups))) ⌝ }
+    ensures { λ r. ⌜ came (decidedView (core .settings) r (now (slots .exit))) (now (heads .exit)) (now (frames .exit)) (now (setups .exit))
+        ≡ decideWords core (now (slots .entry)) good records (now (heads .entry)) (now (frames .entry)) (now (setups .entry)) seen call ⌝ }
+    ensures { λ r. ⌜ WordsAfter good core (now (slots .entry)) (r .reply .rest) (now (slots .exit)) ⌝ }
+    ensures { λ r. ⌜ Writable records (r .writing) ⌝ }
 {
-    let pool = records as u64;
-    let h = heads.len() as u64;
-    let f = frames.len() as u64;
-    let u = setups.len() as u64;
-    if !rows_fit(state.settings, pool, h, f, u) {
-        return refused(state, Refusal::InvalidParameter);
+    if !good {
+        return refused(core.rest, Refusal::InvalidParameter);
     }
     match call {
-        Call::StartBringUp => on_start(state),
-        Call::BringUpStep(reading) => on_step(state, reading),
-        Call::AllocateAddress => on_allocate(state),
-        Call::OpenEndpoint(fields) => on_open(state, pool, heads, f, u, fields),
-        Call::Close(slot) => on_close(state, pool, heads, f, u, slot),
-        Call::SetAddress(slot, address) => on_address(state, pool, heads, f, u, slot, address),
-        Call::SetPacketSize(slot, size) => on_packet(state, pool, heads, f, u, slot, size),
+        Call::StartBringUp => of_brought_up(start(core, slots)),
+        Call::BringUpStep(reading) => of_brought_up(step(core, reading)),
+        Call::AllocateAddress => on_allocate(core),
+        Call::OpenEndpoint(fields) => on_open(core, slots, heads, fields),
+        Call::Close(slot) => of_change(close(core, slots, heads, slot)),
+        Call::SetAddress(slot, address) => of_change(set_address(
+            core,
+            slots,
+            heads,
+            slot,
+            address,
+        )),
+        Call::SetPacketSize(slot, size) => of_change(set_packet_size(
+            core,
+            slots,
+            heads,
+            slot,
+            size,
+        )),
         Call::Submit(slot, request, readings) => on_submit(
-            state,
-            pool,
+            core,
+            slots,
             heads,
             frames,
             setups,
@@ -326,64 +268,30 @@ pub fn decide(
             slot,
             request,
         ),
-        Call::Writeback(place, token) => {
-            let lent = Lengths {
-                pool,
-                heads: h,
-                frames: f,
-                setups: u,
-            };
-            on_writeback(state, lent, place, token)
-        }
+        Call::Writeback(place, token) => on_writeback(core, place, token),
         Call::Cancel(slot, id, readings) => on_cancel(
-            state,
-            pool,
+            core,
+            slots,
             heads,
             frames,
-            u,
             readings,
             slot,
             id,
         ),
         Call::Collect(slot, id, readings) => on_collect(
-            state,
-            pool,
+            core,
+            slots,
             heads,
             frames,
-            u,
             readings,
-            view,
+            seen,
             slot,
             id,
         ),
-        Call::Acknowledge(readings) => on_acknowledge(state, readings),
-        Call::Drain(command) => on_drain(state, command),
-        Call::Rearm => on_rearm(state),
-        Call::Enable => on_enable(state),
-        Call::Disable => on_disable(state),
-    }
-}
-
-// Which records a call looks at: a collect those of its slot's request.
-pub fn asks(state: Ehci, records: usize, call: Call) -> Ask
-    ensures { λ r. ⌜ (r ≡ asksOf state records call) × askGood records r ⌝ }
-{
-    match call {
-        Call::StartBringUp => no_ask(),
-        Call::BringUpStep(_) => no_ask(),
-        Call::AllocateAddress => no_ask(),
-        Call::OpenEndpoint(_) => no_ask(),
-        Call::Close(_) => no_ask(),
-        Call::SetAddress(_, _) => no_ask(),
-        Call::SetPacketSize(_, _) => no_ask(),
-        Call::Submit(_, _, _) => no_ask(),
-        Call::Writeback(_, _) => no_ask(),
-        Call::Cancel(_, _, _) => no_ask(),
-        Call::Collect(slot, _, _) => ask(state, records as u64, slot),
-        Call::Acknowledge(_) => no_ask(),
-        Call::Drain(_) => no_ask(),
-        Call::Rearm => no_ask(),
-        Call::Enable => no_ask(),
-        Call::Disable => no_ask(),
+        Call::Acknowledge(readings) => on_acknowledge(core, readings),
+        Call::Drain(command) => on_drain(core, slots, command),
+        Call::Rearm => of_settled(rearm(core)),
+        Call::Enable => of_settled(enable(core)),
+        Call::Disable => of_settled(disable(core)),
     }
 }

@@ -1,6 +1,6 @@
-// One call on a controller and its four lent rows.
+// One call on a controller and its five lent rows.
 pub mod call;
 pub mod decide;
 pub mod door;
-pub mod in_words;
+pub mod look;
 pub mod reply;

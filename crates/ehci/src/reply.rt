@@ -1,22 +1,7 @@
-// What any call answers, and what it leaves.
+// What any call answers and leaves, and what is then written to the pool.
 ghost use mathlib.Core.Path.{_≡_};
-ghost use Rattle.ehci.specs.Replies.{
-  answeredNumber,
-  eventNumber,
-  replied,
-  simply,
-  changedReply,
-  settledReply,
-  broughtReply,
-  refusedReply,
-  openedAnswer,
-  allottedAnswer,
-  submittedAnswer,
-  collectedAnswer,
-  acknowledgedAnswer,
-  drainedAnswer,
-  broughtAnswer,
-};
+ghost use Rattle.ehci.specs.WordsDecides.{repliedWords, refusedReplyWords, changedWords, settledWords, broughtWords, laidOnly, markedOnly};
+ghost use Rattle.ehci.specs.Replies.{answeredNumber, eventNumber, simply, openedAnswer, allottedAnswer, submittedAnswer, collectedAnswer, acknowledgedAnswer, drainedAnswer, broughtAnswer};
 use bring_up::answers::BroughtUp;
 use collection::collected::Collected;
 use common::answer::Answer;
@@ -28,11 +13,15 @@ use endpoint::calls::Opened;
 use interrupt::answers::Acknowledged;
 use interrupt::answers::Drained;
 use interrupt::answers::Settled;
-use pool::chain::Chain;
-use pool::chain::no_chain;
+use pool::laying::Laying;
+use pool::laying::no_laying;
+use pool::marking::Marking;
+use pool::marking::no_marking;
+use pool::writing::Writing;
+use pool::writing::no_writing;
 use register::writes::Writes;
 use request::answers::Submission;
-use state::state::Ehci;
+use words::core::Rest;
 
 // What a drain came to.
 pub enum Event {
@@ -64,18 +53,6 @@ pub enum Answered {
     Refused(Refusal),
 }
 
-pub struct Reply {
-    pub state: Ehci,
-    pub answer: Answered,
-    pub writes: Writes,
-}
-
-// What is decided before the pool is written: the reply, and the chain to write.
-pub struct Decided {
-    pub reply: Reply,
-    pub chain: Chain,
-}
-
 impl Answered {
     pub fn number(self) -> u8
         ensures { λ r. ⌜ r ≡ answeredNumber self ⌝ }
@@ -90,6 +67,18 @@ impl Answered {
     }
 }
 
+pub struct Reply {
+    pub rest: Rest,
+    pub answer: Answered,
+    pub writes: Writes,
+}
+
+// What is decided before the pool is written: the reply, and what to write.
+pub struct Decided {
+    pub reply: Reply,
+    pub writing: Writing,
+}
+
 // The number of a drain's event.
 pub fn event_number(event: Event) -> u64
     ensures { λ r. ⌜ r ≡ eventNumber event ⌝ }
@@ -102,20 +91,6 @@ pub fn event_number(event: Event) -> u64
     }
 }
 
-// Nothing of the pool is written.
-pub fn leave(state: Ehci, answer: Answered, writes: Writes) -> Decided
-    ensures { λ r. ⌜ r ≡ replied state answer writes ⌝ }
-{
-    Decided {
-        reply: Reply {
-            state,
-            answer,
-            writes,
-        },
-        chain: no_chain(),
-    }
-}
-
 pub fn simple(answer: Answer) -> Answered
     ensures { λ r. ⌜ r ≡ simply answer ⌝ }
 {
@@ -123,20 +98,6 @@ pub fn simple(answer: Answer) -> Answered
         Answer::Done => Answered::Done(Given::Nothing),
         Answer::Refused(refusal) => Answered::Refused(refusal),
     }
-}
-
-pub fn refused(state: Ehci, refusal: Refusal) -> Decided
-    ensures { λ r. ⌜ r ≡ refusedReply state refusal ⌝ }
-{
-    leave(state, Answered::Refused(refusal), Writes::none())
-}
-
-pub fn of_change(c: Change) -> Decided
-    ensures { λ r. ⌜ r ≡ changedReply c ⌝ }
-{
-    let answer = c.answer;
-    let state = c.state;
-    leave(state, simple(answer), Writes::none())
 }
 
 pub fn opened_answer(answer: Opened) -> Answered
@@ -200,15 +161,6 @@ pub fn drained_answer(answer: Drained) -> Answered
     }
 }
 
-pub fn of_settled(x: Settled) -> Decided
-    ensures { λ r. ⌜ r ≡ settledReply x ⌝ }
-{
-    let answer = x.answer;
-    let state = x.state;
-    let writes = x.writes;
-    leave(state, simple(answer), writes)
-}
-
 pub fn brought_answer(answer: Answer, read: NextRead, wait: u32) -> Answered
     ensures { λ r. ⌜ r ≡ broughtAnswer answer read wait ⌝ }
 {
@@ -218,12 +170,69 @@ pub fn brought_answer(answer: Answer, read: NextRead, wait: u32) -> Answered
     }
 }
 
+// A transfer's records are written, and no token.
+pub fn laid(laying: Laying) -> Writing
+    ensures { λ r. ⌜ r ≡ laidOnly laying ⌝ }
+{
+    Writing {
+        laying,
+        marking: no_marking(),
+    }
+}
+
+// Tokens are written, and no transfer's records.
+pub fn marked(marking: Marking) -> Writing
+    ensures { λ r. ⌜ r ≡ markedOnly marking ⌝ }
+{
+    Writing {
+        laying: no_laying(),
+        marking,
+    }
+}
+
+// Nothing of the pool is written.
+pub fn leave(rest: Rest, answer: Answered, writes: Writes) -> Decided
+    ensures { λ r. ⌜ r ≡ repliedWords rest answer writes ⌝ }
+{
+    Decided {
+        reply: Reply {
+            rest,
+            answer,
+            writes,
+        },
+        writing: no_writing(),
+    }
+}
+
+pub fn refused(rest: Rest, refusal: Refusal) -> Decided
+    ensures { λ r. ⌜ r ≡ refusedReplyWords rest refusal ⌝ }
+{
+    leave(rest, Answered::Refused(refusal), Writes::none())
+}
+
+pub fn of_change(c: Change) -> Decided
+    ensures { λ r. ⌜ r ≡ changedWords c ⌝ }
+{
+    let answer = c.answer;
+    let rest = c.rest;
+    leave(rest, simple(answer), Writes::none())
+}
+
+pub fn of_settled(x: Settled) -> Decided
+    ensures { λ r. ⌜ r ≡ settledWords x ⌝ }
+{
+    let answer = x.answer;
+    let rest = x.rest;
+    let writes = x.writes;
+    leave(rest, simple(answer), writes)
+}
+
 pub fn of_brought_up(b: BroughtUp) -> Decided
-    ensures { λ r. ⌜ r ≡ broughtReply b ⌝ }
+    ensures { λ r. ⌜ r ≡ broughtWords b ⌝ }
 {
     let answer = b.answer;
-    let state = b.state;
+    let rest = b.rest;
     let writes = b.writes;
     let read = b.read;
-    leave(state, brought_answer(answer, read, b.wait), writes)
+    leave(rest, brought_answer(answer, read, b.wait), writes)
 }

@@ -1,5 +1,8 @@
 pub mod Data
-pub mod Named0
-pub mod Named1
+pub mod Passing
 pub mod Named2
 pub mod Named3
+pub mod ArmLaws
+pub mod Arms
+pub mod UnjudgedLaws
+pub mod Example

@@ -1,7 +1,2 @@
-// The calls that people name, each over `ehci`'s one door. Opening, which has no state before it, is `opening`'s own.
-pub mod bringing_up;
-pub mod endpoints;
-pub mod interrupts;
+// The three calls that are lent the pool's records, by name, each over `ehci`'s one door. The other thirteen are crate `direct_calls`.
 pub mod requests;
-
-pub use opening::open::open;

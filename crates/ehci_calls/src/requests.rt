@@ -1,14 +1,16 @@
-// The calls on requests, by name.
+// The calls on requests that are lent the pool's records, by name.
 ghost use mathlib.Core.Path.{_≡_};
-ghost use Rattle.ehci.specs.Door.{applied, applyOf};
-ghost use Rattle.ehci.specs.declared.call.Call.the-variants.{Submit, Writeback, Cancel, Collect};
+ghost use lib.ListN.{length};
+ghost use Rattle.ehci.specs.Door.{applied};
+ghost use Rattle.ehci.specs.WordsDoor.{WordsAfter, acceptsWords, applyWords, replyView};
+ghost use Rattle.ehci.specs.declared.call.Call.the-variants.{Submit, Writeback, Collect};
 use controller::lent::Readings;
 use descriptor::qtd::QueueTransferDescriptor;
 use ehci::call::Call;
 use ehci::door::apply;
 use ehci::reply::Reply;
 use request::judge::TransferRequest;
-use state::state::Ehci;
+use words::core::Core;
 
 fn as_submit(slot: u8, request: TransferRequest, readings: Readings) -> Call
     ensures { λ r. ⌜ r ≡ Submit slot request readings ⌝ }
@@ -17,8 +19,9 @@ fn as_submit(slot: u8, request: TransferRequest, readings: Readings) -> Call
 }
 
 pub fn submit(
-    state: Ehci,
+    core: Core,
     rows: &mut [QueueTransferDescriptor],
+    slots: &mut [u64],
     heads: &mut [u32],
     frames: &mut [u32],
     setups: &mut [u8],
@@ -26,11 +29,13 @@ pub fn submit(
     request: TransferRequest,
     readings: Readings,
 ) -> Reply
-    ensures { λ r. ⌜ applied r (now (rows .exit)) (now (heads .exit)) (now (frames .exit)) (now (setups .exit))
-        ≡ applyOf state (now (rows .entry)) (now (heads .entry)) (now (frames .entry)) (now (setups .entry)) (Submit slot request readings) ⌝ }
+    ensures { λ r. ⌜ applied (replyView (core .settings) r (now (slots .exit))) (now (rows .exit)) (now (heads .exit)) (now (frames .exit)) (now (setups .exit))
+        ≡ applyWords core (now (slots .entry)) (now (rows .entry)) (now (heads .entry)) (now (frames .entry)) (now (setups .entry)) (Submit slot request readings) ⌝ }
+    ensures { λ r. ⌜ WordsAfter (acceptsWords core (now (slots .entry)) (length (now (rows .entry))) (length (now (heads .entry))) (length (now (frames .entry))) (length (now (setups .entry))))
+        core (now (slots .entry)) (r .rest) (now (slots .exit)) ⌝ }
 {
     let call = as_submit(slot, request, readings);
-    apply(state, rows, heads, frames, setups, call)
+    apply(core, rows, slots, heads, frames, setups, call)
 }
 
 fn as_writeback(place: u64, token: u32) -> Call
@@ -40,42 +45,22 @@ fn as_writeback(place: u64, token: u32) -> Call
 }
 
 pub fn writeback(
-    state: Ehci,
+    core: Core,
     rows: &mut [QueueTransferDescriptor],
+    slots: &mut [u64],
     heads: &mut [u32],
     frames: &mut [u32],
     setups: &mut [u8],
     place: u64,
     token: u32,
 ) -> Reply
-    ensures { λ r. ⌜ applied r (now (rows .exit)) (now (heads .exit)) (now (frames .exit)) (now (setups .exit))
-        ≡ applyOf state (now (rows .entry)) (now (heads .entry)) (now (frames .entry)) (now (setups .entry)) (Writeback place token) ⌝ }
+    ensures { λ r. ⌜ applied (replyView (core .settings) r (now (slots .exit))) (now (rows .exit)) (now (heads .exit)) (now (frames .exit)) (now (setups .exit))
+        ≡ applyWords core (now (slots .entry)) (now (rows .entry)) (now (heads .entry)) (now (frames .entry)) (now (setups .entry)) (Writeback place token) ⌝ }
+    ensures { λ r. ⌜ WordsAfter (acceptsWords core (now (slots .entry)) (length (now (rows .entry))) (length (now (heads .entry))) (length (now (frames .entry))) (length (now (setups .entry))))
+        core (now (slots .entry)) (r .rest) (now (slots .exit)) ⌝ }
 {
     let call = as_writeback(place, token);
-    apply(state, rows, heads, frames, setups, call)
-}
-
-fn as_cancel(slot: u8, id: u64, readings: Readings) -> Call
-    ensures { λ r. ⌜ r ≡ Cancel slot id readings ⌝ }
-{
-    Call::Cancel(slot, id, readings)
-}
-
-pub fn cancel(
-    state: Ehci,
-    rows: &mut [QueueTransferDescriptor],
-    heads: &mut [u32],
-    frames: &mut [u32],
-    setups: &mut [u8],
-    slot: u8,
-    id: u64,
-    readings: Readings,
-) -> Reply
-    ensures { λ r. ⌜ applied r (now (rows .exit)) (now (heads .exit)) (now (frames .exit)) (now (setups .exit))
-        ≡ applyOf state (now (rows .entry)) (now (heads .entry)) (now (frames .entry)) (now (setups .entry)) (Cancel slot id readings) ⌝ }
-{
-    let call = as_cancel(slot, id, readings);
-    apply(state, rows, heads, frames, setups, call)
+    apply(core, rows, slots, heads, frames, setups, call)
 }
 
 fn as_collect(slot: u8, id: u64, readings: Readings) -> Call
@@ -85,8 +70,9 @@ fn as_collect(slot: u8, id: u64, readings: Readings) -> Call
 }
 
 pub fn collect(
-    state: Ehci,
+    core: Core,
     rows: &mut [QueueTransferDescriptor],
+    slots: &mut [u64],
     heads: &mut [u32],
     frames: &mut [u32],
     setups: &mut [u8],
@@ -94,9 +80,11 @@ pub fn collect(
     id: u64,
     readings: Readings,
 ) -> Reply
-    ensures { λ r. ⌜ applied r (now (rows .exit)) (now (heads .exit)) (now (frames .exit)) (now (setups .exit))
-        ≡ applyOf state (now (rows .entry)) (now (heads .entry)) (now (frames .entry)) (now (setups .entry)) (Collect slot id readings) ⌝ }
+    ensures { λ r. ⌜ applied (replyView (core .settings) r (now (slots .exit))) (now (rows .exit)) (now (heads .exit)) (now (frames .exit)) (now (setups .exit))
+        ≡ applyWords core (now (slots .entry)) (now (rows .entry)) (now (heads .entry)) (now (frames .entry)) (now (setups .entry)) (Collect slot id readings) ⌝ }
+    ensures { λ r. ⌜ WordsAfter (acceptsWords core (now (slots .entry)) (length (now (rows .entry))) (length (now (heads .entry))) (length (now (frames .entry))) (length (now (setups .entry))))
+        core (now (slots .entry)) (r .rest) (now (slots .exit)) ⌝ }
 {
     let call = as_collect(slot, id, readings);
-    apply(state, rows, heads, frames, setups, call)
+    apply(core, rows, slots, heads, frames, setups, call)
 }

@@ -3,20 +3,18 @@ use Prim.Native.Nat.{ℕ, _+_, _*_, _≤_, _<_}
 use mathlib.Core.Path.{_≡_, refl, sym, ap, _∙_}
 use mathlib.Core.Bool.{Bool, true, false, not, _&&_}
 use mathlib.Core.List.{List}
-use native.Mathlib.Omega.{arith}
-use borrow.Author.Tests.{le-leb, leb-false, leb-true, lt-leb, not-false, not-true}
+use borrow.Author.Tests.{leb-false, leb-true, not-false}
 use lib.Dec.{leb}
 use lib.ListN.{length, replicate}
 use Rattle.common.specs.declared.kinds.EndpointType.{EndpointType}
 use Rattle.descriptor.specs.Heads.{endpointHead, withAddress, withPacketSize, wordsOf}
 use Rattle.common.proofs.TestLaws.{every-3, both-tells}
-use Rattle.state.specs.declared.state.Ehci.{Ehci}
+use Rattle.state.specs.Plain.{Ehci}
 use Rattle.common.specs.declared.answer.Answer.{Answer}
 use Rattle.common.specs.declared.answer.Answer.the-variants.{Done, Refused as RefusedCall}
 use Rattle.common.specs.declared.answer.Refusal.{Refusal}
 use Rattle.common.specs.declared.answer.Refusal.the-variants.{InvalidParameter, SlotLimitReached, InvalidEndpoint, QueueFull, NotSupported}
 use Rattle.pipe.specs.declared.endpoints.Endpoint.the-variants.{Closed}
-use Rattle.controller.specs.declared.lent.Lengths.{Lengths}
 use Rattle.common.specs.Answers.{Verdict, first, settle}
 use Rattle.pipe.specs.Endpoints.{withEndpoint}
 use Rattle.common.specs.Kinds.{isIsochronous}
@@ -24,10 +22,8 @@ use Rattle.controller.specs.Lent.{acceptsOf, lengths}
 use Rattle.controller.specs.Readers.{isOpen, isUncollected}
 use Rattle.opening.specs.Heads.{headWord, withHeadWord}
 use Rattle.common.proofs.CheckLaws.{let-pass, verdictOf}
-use Rattle.controller.proofs.LentLaws.{accepts-tells}
 use Rattle.endpoint.specs.declared.calls.Opened.{Opened}
 use Rattle.endpoint.specs.declared.calls.Opened.the-variants.{Slot, Refused}
-use Rattle.endpoint.specs.Lowest.{lowestClosed}
 use Rattle.endpoint.specs.Calls.{changeLeft, changeOf, chosenOf, closeOf, fieldsGood, slotVerdict, lowestSlot, newEndpoint, openChecks, openEndpointOf, openLeft, setAddressOf, setPacketSizeOf, slotChecks, withHead}
 use Rattle.endpoint.proofs.SlotLaws.{below-room, open-room}
 
@@ -63,36 +59,6 @@ fields-tell a n p e =
     let z = both-tells (leb 1 p && leb p 1024) true (y .1) in
     let w = both-tells (leb 1 p) (leb p 1024) (z .0) in
     (leb-true a 127 (x .0), leb-true n 15 (y .0), leb-true p 1024 (w .1))
-
-module _ (s : Ehci) (lent : Lengths) (g : Bool) (eg : g ≡ acceptsOf s lent) where
-  pub phases-suffice : not g ≡ false → length (s .phases) ≡ 32 → s .settings .endpoints ≤ length (s .phases)
-  phases-suffice t e =
-      let most = accepts-tells s lent (sym eg ∙ not-false g t) .ranges .good .endpoints-most in omega arith
-
-  module _ (kind : EndpointType) (good : Bool) where
-    pub choose-lent : not g ≡ true → Refused InvalidParameter ≡ chosenOf s lent kind good
-    unfolding chosenOf openChecks
-    choose-lent t = rw (sym eg ∙ not-true g t)
-
-    module _ (i : Bool) (ei : i ≡ isIsochronous kind) where
-      pub choose-kind : not g ≡ false → i ≡ true → Refused NotSupported ≡ chosenOf s lent kind good
-      unfolding chosenOf openChecks
-      choose-kind t t₁ = rw (sym eg ∙ not-false g t, sym ei ∙ t₁)
-
-      pub choose-fields : not g ≡ false → i ≡ false → not good ≡ true → Refused InvalidParameter ≡ chosenOf s lent kind good
-      unfolding chosenOf openChecks
-      choose-fields t t₁ t₂ = rw (sym eg ∙ not-false g t, sym ei ∙ t₁, t₂)
-
-      module _ (k : ℕ) (ek : k ≡ lowestClosed (s .phases) (s .settings .endpoints)) where
-        pub choose-none : not g ≡ false → i ≡ false → not good ≡ false → s .settings .endpoints ≤ k
-            → Refused SlotLimitReached ≡ chosenOf s lent kind good
-        unfolding chosenOf openChecks
-        choose-none t t₁ t₂ h = rw (sym eg ∙ not-false g t, sym ei ∙ t₁, t₂, sym ek, le-leb (s .settings .endpoints) k h)
-
-        pub choose-slot : not g ≡ false → i ≡ false → not good ≡ false → k < s .settings .endpoints
-            → Slot k ≡ chosenOf s lent kind good
-        unfolding chosenOf openChecks
-        choose-slot t t₁ t₂ h = rw (sym eg ∙ not-false g t, sym ei ∙ t₁, t₂, sym ek, lt-leb (s .settings .endpoints) k h)
 
 -- ---- open endpoint: what is done
 
@@ -142,30 +108,6 @@ module _ (s : Ehci) (pool : ℕ) (h : List ℕ) (f u : ℕ) (kind : EndpointType
     open-done s′ h′ es eh = rw (es, eh, ← eg, went, slot-is)
 
 -- ---- close, set address, set packet size: what is asked
-
-module _ (s : Ehci) (lent : Lengths) (k : ℕ) (good : Bool) (g : Bool) (eg : g ≡ acceptsOf s lent) where
-  pub judge-lent : not g ≡ true → RefusedCall InvalidParameter ≡ slotVerdict s lent k good
-  unfolding slotVerdict slotChecks
-  judge-lent t = rw (sym eg ∙ not-true g t)
-
-  module _ (o : Bool) (eo : o ≡ isOpen s k) where
-    pub judge-shut : not g ≡ false → not o ≡ true → RefusedCall InvalidEndpoint ≡ slotVerdict s lent k good
-    unfolding slotVerdict slotChecks
-    judge-shut t t₁ = rw (sym eg ∙ not-false g t, sym eo ∙ not-true o t₁)
-
-    module _ (u : Bool) (eu : u ≡ isUncollected s k) where
-      pub judge-busy : not g ≡ false → not o ≡ false → u ≡ true → RefusedCall QueueFull ≡ slotVerdict s lent k good
-      unfolding slotVerdict slotChecks
-      judge-busy t t₁ t₂ = rw (sym eg ∙ not-false g t, sym eo ∙ not-false o t₁, sym eu ∙ t₂)
-
-      pub judge-value : not g ≡ false → not o ≡ false → u ≡ false → not good ≡ true
-          → RefusedCall InvalidParameter ≡ slotVerdict s lent k good
-      unfolding slotVerdict slotChecks
-      judge-value t t₁ t₂ t₃ = rw (sym eg ∙ not-false g t, sym eo ∙ not-false o t₁, sym eu ∙ t₂, t₃)
-
-      pub judge-done : not g ≡ false → not o ≡ false → u ≡ false → not good ≡ false → Done ≡ slotVerdict s lent k good
-      unfolding slotVerdict slotChecks
-      judge-done t t₁ t₂ t₃ = rw (sym eg ∙ not-false g t, sym eo ∙ not-false o t₁, sym eu ∙ t₂, t₃)
 
 -- ---- close, set address, set packet size: what is done
 

@@ -12,7 +12,7 @@ use lib.Seq.{getD-set-same}
 use Rattle.descriptor.specs.EhciQueueHead.{controlEndpoint, deviceAddress, endpointNumber, endpointSpeed, headOfList, inactivateOnNext, maximumPacketLength, nakReload, toggleControl}
 use Rattle.descriptor.specs.Heads.{withAddress, withPacketSize}
 use Rattle.descriptor.proofs.HeadFields.{address-reads, Characteristics, packet-reads}
-use Rattle.state.specs.declared.state.Ehci.{Ehci}
+use Rattle.state.specs.Plain.{Ehci}
 use Rattle.state.specs.Ranges.{inRanges}
 use Rattle.state.proofs.RangesLaws.{ranges-make, ranges-tell}
 use Rattle.common.specs.declared.answer.Answer.{Answer}

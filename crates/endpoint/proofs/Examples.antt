@@ -10,12 +10,12 @@ use Rattle.descriptor.specs.Descriptors.{terminated}
 use Rattle.descriptor.specs.Heads.{endpointHead}
 use Rattle.settings.specs.Settings.{settingsGood, numbersGood, eachGood, noOverlap, areaGood, apartAreas}
 use Rattle.slot.specs.Ranges.{slotGood, phaseGood, closedGood, idleGood, linkedGood, noRequest, openKind}
-use Rattle.state.specs.declared.state.Ehci.{Ehci}
+use Rattle.state.specs.Plain.{Ehci}
 use Rattle.state.specs.Ranges.{inRanges, restGood, machineGood, interruptGood, doorbellGood, ownerGood, largest, slotsGood}
 use Rattle.state.specs.Slots.{slotAt, withSlot}
 use Rattle.common.specs.declared.answer.Answer.the-variants.{Done}
 use Rattle.common.specs.Answers.{numberOf}
-use Rattle.controller.specs.declared.lent.Lengths.{Lengths}
+use Rattle.controller.specs.Plain.{Lengths}
 use Rattle.pipe.specs.Endpoints.{decoded, endpointAt, withEndpoint}
 use Rattle.controller.specs.Lent.{acceptsOf}
 use Rattle.opening.specs.Opening.{freshState, rowsFit}

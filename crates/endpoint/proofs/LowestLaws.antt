@@ -10,7 +10,7 @@ use borrow.Author.Tests.{eqb-false, eqb-true}
 use lib.Dec.{eqb}
 use lib.ListN.{getD}
 use Rattle.slot.proofs.SlotLaws.{Phase, slot-tells}
-use Rattle.state.specs.declared.state.Ehci.{Ehci}
+use Rattle.state.specs.Plain.{Ehci}
 use Rattle.state.specs.Slots.{slotAt}
 use Rattle.state.proofs.RangesLaws.{Ranges}
 use Rattle.pipe.specs.declared.endpoints.Endpoint.the-variants.{Closed}

@@ -13,9 +13,9 @@ use Rattle.common.specs.declared.kinds.EndpointType.the-variants.{Isochronous}
 use Rattle.descriptor.specs.Descriptors.{terminated}
 use Rattle.descriptor.specs.Heads.{endpointHead, wordsOf}
 use Rattle.common.proofs.TestLaws.{both-tells}
-use Rattle.state.specs.declared.state.Ehci.{Ehci}
+use Rattle.state.specs.Plain.{Ehci}
 use Rattle.state.specs.Ranges.{inRanges}
-use Rattle.state.proofs.RangesLaws.{Ranges, ranges-make, ranges-tell}
+use Rattle.state.proofs.RangesLaws.{ranges-make, ranges-tell}
 use Rattle.common.specs.declared.answer.Refusal.{Refusal}
 use Rattle.common.specs.declared.answer.Refusal.the-variants.{SlotLimitReached}
 use Rattle.pipe.specs.declared.endpoints.Endpoint.the-variants.{Closed}

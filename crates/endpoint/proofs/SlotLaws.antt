@@ -5,8 +5,7 @@ use mathlib.Core.Bool.{true}
 use mathlib.Core.List.{List}
 use native.Mathlib.Omega.{arith}
 use lib.ListN.{length}
-use Rattle.state.specs.declared.state.Ehci.{Ehci}
-use Rattle.pipe.specs.declared.endpoints.Endpoint.{Endpoint}
+use Rattle.state.specs.Plain.{Ehci}
 use Rattle.controller.specs.Lent.{acceptsOf, lengths}
 use Rattle.controller.specs.Readers.{isOpen}
 use Rattle.controller.proofs.LentLaws.{accepts-tells}

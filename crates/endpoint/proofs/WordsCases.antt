@@ -12,7 +12,7 @@ use Rattle.common.specs.declared.answer.Answer.the-variants.{Done, Refused as R
 use Rattle.common.specs.declared.answer.Refusal.the-variants.{InvalidParameter, SlotLimitReached, InvalidEndpoint, QueueFull, NotSupported}
 use Rattle.common.specs.Kinds.{isIsochronous}
 use Rattle.settings.specs.declared.settings.Settings.{Settings}
-use Rattle.state.specs.declared.state.Ehci.{Ehci}
+use Rattle.state.specs.Plain.{Ehci}
 use Rattle.words.specs.declared.core.Rest.{Rest}
 use Rattle.words.specs.Good.{Good}
 use Rattle.words.specs.Record.{phaseIn, wordAt}
@@ -20,6 +20,8 @@ use Rattle.words.specs.View.{eachFrom, stateOf}
 use Rattle.words.proofs.Each.{each-here}
 use Rattle.words.proofs.GoodLaws.{good-length, good-settings}
 use Rattle.controller.specs.Readers.{isOpen, isUncollected}
+use Rattle.controller.specs.Words.{heldAt, openAt}
+use Rattle.controller.proofs.WordsCases.{held-viewed, open-viewed}
 use Rattle.endpoint.specs.declared.calls.Opened.the-variants.{Slot, Refused}
 use Rattle.endpoint.specs.Calls.{lowestSlot}
 use Rattle.endpoint.specs.Lowest.{closedFrom}
@@ -95,20 +97,29 @@ module _ (s : Settings) (r : Rest) (ws : List ℕ) (kind : EndpointType) (good :
 
 -- ---- `check_slot`
 
-module _ (s : Ehci) (k : ℕ) (good : Bool) (o : Bool) (eo : o ≡ isOpen s k) where
-  pub words-shut : not o ≡ true → RefusedCall InvalidEndpoint ≡ verdictWords s k good
+module _ (s : Settings) (r : Rest) (ws : List ℕ) (words : Good s r ws) (k : ℕ) (good : Bool) (o : Bool) (eo : o ≡ openAt ws k) where
+  abbrev told : Ehci
+  told = stateOf s r ws
+
+  is-open : {b : Bool} → o ≡ b → isOpen told k ≡ b
+  is-open t = sym (eo ∙ open-viewed s r ws words k) ∙ t
+
+  pub words-shut : not o ≡ true → RefusedCall InvalidEndpoint ≡ verdictWords told k good
   unfolding verdictWords
-  words-shut t = rw (sym eo ∙ not-true o t)
+  words-shut t = rw (is-open (not-true o t))
 
-  module _ (u : Bool) (eu : u ≡ isUncollected s k) where
-    pub words-busy : not o ≡ false → u ≡ true → RefusedCall QueueFull ≡ verdictWords s k good
-    unfolding verdictWords
-    words-busy t t₁ = rw (sym eo ∙ not-false o t, sym eu ∙ t₁)
+  module _ (u : Bool) (eu : u ≡ heldAt ws k) where
+    is-held : {b : Bool} → u ≡ b → isUncollected told k ≡ b
+    is-held t = sym (eu ∙ held-viewed s r ws words k) ∙ t
 
-    pub words-value : not o ≡ false → u ≡ false → not good ≡ true → RefusedCall InvalidParameter ≡ verdictWords s k good
+    pub words-busy : not o ≡ false → u ≡ true → RefusedCall QueueFull ≡ verdictWords told k good
     unfolding verdictWords
-    words-value t t₁ t₂ = rw (sym eo ∙ not-false o t, sym eu ∙ t₁, t₂)
+    words-busy t t₁ = rw (is-open (not-false o t), is-held t₁)
 
-    pub words-passed : not o ≡ false → u ≡ false → not good ≡ false → Done ≡ verdictWords s k good
+    pub words-value : not o ≡ false → u ≡ false → not good ≡ true → RefusedCall InvalidParameter ≡ verdictWords told k good
     unfolding verdictWords
-    words-passed t t₁ t₂ = rw (sym eo ∙ not-false o t, sym eu ∙ t₁, t₂)
+    words-value t t₁ t₂ = rw (is-open (not-false o t), is-held t₁, t₂)
+
+    pub words-passed : not o ≡ false → u ≡ false → not good ≡ false → Done ≡ verdictWords told k good
+    unfolding verdictWords
+    words-passed t t₁ t₂ = rw (is-open (not-false o t), is-held t₁, t₂)

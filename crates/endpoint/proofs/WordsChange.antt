@@ -14,7 +14,7 @@ use Rattle.descriptor.specs.Heads.{withAddress, withPacketSize}
 use Rattle.opening.specs.Heads.{headWord, withHeadWord}
 use Rattle.opening.specs.Opening.{rowsFit}
 use Rattle.settings.specs.declared.settings.Settings.{Settings}
-use Rattle.state.specs.declared.state.Ehci.{Ehci}
+use Rattle.state.specs.Plain.{Ehci}
 use Rattle.words.specs.declared.core.Rest.{Rest}
 use Rattle.words.specs.Good.{Good, Tidy, noPlaces}
 use Rattle.words.specs.Record.{phaseIn, placesAt, putSlot, wordAt}

@@ -7,13 +7,13 @@ use lib.ListN.{length, replicate}
 use Rattle.common.specs.declared.kinds.EndpointType.{EndpointType}
 use Rattle.descriptor.specs.Heads.{endpointHead, wordsOf, withAddress, withPacketSize}
 use Rattle.common.specs.Tests.{every, within}
-use Rattle.state.specs.declared.state.Ehci.{Ehci}
+use Rattle.state.specs.Plain.{Ehci}
 use Rattle.common.specs.declared.answer.Answer.{Answer}
 use Rattle.common.specs.declared.answer.Answer.the-variants.{Done, Refused as RefusedCall}
 use Rattle.common.specs.declared.answer.Refusal.the-variants.{InvalidParameter, SlotLimitReached, InvalidEndpoint, QueueFull, NotSupported}
 use Rattle.pipe.specs.declared.endpoints.Endpoint.{Endpoint}
 use Rattle.pipe.specs.declared.endpoints.Endpoint.the-variants.{Closed, Idle}
-use Rattle.controller.specs.declared.lent.Lengths.{Lengths}
+use Rattle.controller.specs.Plain.{Lengths}
 use Rattle.common.specs.Answers.{Check, first, refusalNumber, settle}
 use Rattle.pipe.specs.Endpoints.{withEndpoint}
 use Rattle.common.specs.Kinds.{isIsochronous}
@@ -21,8 +21,8 @@ use Rattle.controller.specs.Lent.{acceptsOf, lengths}
 use Rattle.controller.specs.Readers.{isOpen, isUncollected}
 use Rattle.opening.specs.Heads.{headWord, withHeadWord}
 use Rattle.common.specs.Rows.{putAt}
-use Rattle.endpoint.specs.declared.calls.Change.{Change}
-use Rattle.endpoint.specs.declared.calls.EndpointOpening.{EndpointOpening}
+use Rattle.endpoint.specs.Plain.{Change}
+use Rattle.endpoint.specs.Plain.{EndpointOpening}
 use Rattle.endpoint.specs.declared.calls.Opened.{Opened}
 use Rattle.endpoint.specs.declared.calls.Opened.the-variants.{Slot, Refused}
 use Rattle.endpoint.specs.Lowest.{lowestClosed}

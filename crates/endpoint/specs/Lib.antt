@@ -1,3 +1,4 @@
+pub mod Plain
 pub mod Lowest
 pub mod Calls
 pub mod Examples

@@ -1,24 +1,20 @@
-// The public calls: open endpoint, close, set address, set packet size. Each is lent the heads.
+// Open endpoint, close, set address, set packet size, on words in their ranges. Each is lent the slots and the heads; the
+// lengths of the rows that it is not lent are those that opening fixed.
 ghost use mathlib.Core.Path.{_≡_};
-ghost use Rattle.endpoint.specs.Calls.{
-  fieldsGood,
-  chosenOf,
-  openLeft,
-  openEndpointOf,
-  slotVerdict,
-  changeLeft,
-  closeOf,
-  setAddressOf,
-  setPacketSizeOf,
-};
+ghost use mathlib.Core.Bool.{true};
+ghost use Prim.Native.Nat.{ℕ, _+_, _*_};
+ghost use lib.ListN.{length};
+ghost use Rattle.opening.specs.Opening.{rowsFit};
+ghost use Rattle.words.specs.Good.{Good, Tidy};
+ghost use Rattle.words.specs.View.{view};
+ghost use Rattle.endpoint.specs.Calls.{changeLeft, closeOf, openEndpointOf, openLeft, setAddressOf, setPacketSizeOf, fieldsGood};
+ghost use Rattle.endpoint.specs.Words.{changedView, chosenWords, openedView, verdictWords};
 use crate::heads::write_head;
 use crate::lowest::lowest_closed;
 use common::answer::Answer;
 use common::answer::Refusal;
 use common::kinds::EndpointType;
 use common::kinds::is_isochronous;
-use controller::lent::Lengths;
-use controller::lent::accepts;
 use controller::readers::is_open;
 use controller::readers::uncollected;
 use descriptor::head::set_device_address;
@@ -28,8 +24,9 @@ use opening::heads::HEAD_WORDS;
 use opening::heads::put_head;
 use pipe::endpoints::Endpoint;
 use pipe::endpoints::Pipe;
-use pipe::endpoints::with_endpoint;
-use state::state::Ehci;
+use pipe::slots::put_endpoint;
+use words::core::Core;
+use words::core::Rest;
 
 pub enum Opened {
     Slot(u8),
@@ -38,13 +35,13 @@ pub enum Opened {
 
 pub struct EndpointOpening {
     pub answer: Opened,
-    pub state: Ehci,
+    pub rest: Rest,
 }
 
 // What close, set address and set packet size leave.
 pub struct Change {
     pub answer: Answer,
-    pub state: Ehci,
+    pub rest: Rest,
 }
 
 pub fn fields_good(address: u8, number: u8, packet: u16) -> bool
@@ -54,74 +51,66 @@ pub fn fields_good(address: u8, number: u8, packet: u16) -> bool
 }
 
 // The slot of a new endpoint, or why there is none.
-fn choose(state: Ehci, lent: Lengths, kind: EndpointType, good: bool) -> Opened
-    ensures { λ r. ⌜ r ≡ chosenOf state lent kind good ⌝ }
+fn choose(core: Core, slots: &[u64], kind: EndpointType, good: bool) -> Opened
+    requires { ⌜ Good (core .settings) (core .rest) (now slots) ⌝ }
+    ensures { λ r. ⌜ r ≡ chosenWords (view core (now (slots .entry))) kind good ⌝ }
 {
-    if !accepts(state, lent) {
-        return Opened::Refused(Refusal::InvalidParameter);
-    }
     if is_isochronous(kind) {
         return Opened::Refused(Refusal::NotSupported);
     }
     if !good {
         return Opened::Refused(Refusal::InvalidParameter);
     }
-    let endpoints = state.settings.endpoints;
-    let slot = lowest_closed(&state.phases, endpoints);
-    if endpoints <= slot {
+    let slot = lowest_closed(core, slots);
+    if core.settings.endpoints <= slot {
         return Opened::Refused(Refusal::SlotLimitReached);
     }
     Opened::Slot(slot)
 }
 
-// `pool`, `frames` and `setups` are the lengths of the rows that are not changed.
 pub fn open_endpoint(
-    state: Ehci,
-    pool: u64,
+    core: Core,
+    slots: &mut [u64],
     heads: &mut [u32],
-    frames: u64,
-    setups: u64,
     kind: EndpointType,
     address: u8,
     number: u8,
     packet: u16,
 ) -> EndpointOpening
-    ensures { λ r. ⌜ openLeft r (now (heads .exit))
-        ≡ openEndpointOf state pool (now (heads .entry)) frames setups kind address number packet ⌝ }
+    requires { ⌜ Good (core .settings) (core .rest) (now slots) ⌝ }
+    requires { ⌜ length (now heads) ≡ 17 * (core .settings .endpoints + 1) ⌝ }
+    ensures { λ r. ⌜ ((pool frames setups : ℕ) → rowsFit (core .settings) pool (length (now (heads .entry))) frames setups ≡ true
+        → openLeft (openedView (core .settings) r (now (slots .exit))) (now (heads .exit))
+        ≡ openEndpointOf (view core (now (slots .entry))) pool (now (heads .entry)) frames setups kind address number packet) ⌝ }
+    ensures { λ r. ⌜ Tidy (core .settings) (r .rest) (now (slots .exit)) ⌝ }
 {
-    let lent = Lengths {
-        pool,
-        heads: heads.len() as u64,
-        frames,
-        setups,
-    };
+    let rest = core.rest;
     let good = fields_good(address, number, packet);
-    match choose(state, lent, kind, good) {
+    match choose(core, slots, kind, good) {
         Opened::Slot(slot) => {
             write_head(heads, slot, kind, address, number, packet);
+            put_endpoint(slots, slot, Endpoint::Idle(Pipe { kind, next: 1 }));
             EndpointOpening {
                 answer: Opened::Slot(slot),
-                state: with_endpoint(state, slot as usize, Endpoint::Idle(Pipe { kind, next: 1 })),
+                rest,
             }
         }
         Opened::Refused(refusal) => EndpointOpening {
             answer: Opened::Refused(refusal),
-            state,
+            rest,
         },
     }
 }
 
 // What close, set address and set packet size ask, in 01's order; `good` where the value is in its range.
-fn check_slot(state: Ehci, lent: Lengths, slot: u8, good: bool) -> Answer
-    ensures { λ r. ⌜ r ≡ slotVerdict state lent slot good ⌝ }
+fn check_slot(core: Core, slots: &[u64], slot: u8, good: bool) -> Answer
+    requires { ⌜ Good (core .settings) (core .rest) (now slots) ⌝ }
+    ensures { λ r. ⌜ r ≡ verdictWords (view core (now (slots .entry))) slot good ⌝ }
 {
-    if !accepts(state, lent) {
-        return Answer::Refused(Refusal::InvalidParameter);
-    }
-    if !is_open(state, slot) {
+    if !is_open(slots, slot) {
         return Answer::Refused(Refusal::InvalidEndpoint);
     }
-    if uncollected(state, slot) {
+    if uncollected(slots, slot) {
         return Answer::Refused(Refusal::QueueFull);
     }
     if !good {
@@ -130,103 +119,78 @@ fn check_slot(state: Ehci, lent: Lengths, slot: u8, good: bool) -> Answer
     Answer::Done
 }
 
-pub fn close(
-    state: Ehci,
-    pool: u64,
-    heads: &mut [u32],
-    frames: u64,
-    setups: u64,
-    slot: u8,
-) -> Change
-    ensures { λ r. ⌜ changeLeft r (now (heads .exit)) ≡ closeOf state pool (now (heads .entry)) frames setups slot ⌝ }
+pub fn close(core: Core, slots: &mut [u64], heads: &mut [u32], slot: u8) -> Change
+    requires { ⌜ Good (core .settings) (core .rest) (now slots) ⌝ }
+    requires { ⌜ length (now heads) ≡ 17 * (core .settings .endpoints + 1) ⌝ }
+    ensures { λ r. ⌜ ((pool frames setups : ℕ) → rowsFit (core .settings) pool (length (now (heads .entry))) frames setups ≡ true
+        → changeLeft (changedView (core .settings) r (now (slots .exit))) (now (heads .exit))
+        ≡ closeOf (view core (now (slots .entry))) pool (now (heads .entry)) frames setups slot) ⌝ }
+    ensures { λ r. ⌜ Tidy (core .settings) (r .rest) (now (slots .exit)) ⌝ }
 {
-    let lent = Lengths {
-        pool,
-        heads: heads.len() as u64,
-        frames,
-        setups,
-    };
-    match check_slot(state, lent, slot, true) {
+    let rest = core.rest;
+    match check_slot(core, slots, slot, true) {
         Answer::Done => {
-            let k = slot as usize;
-            put_head(heads, k + 1, [0; 17]);
+            put_head(heads, slot as usize + 1, [0; 17]);
+            put_endpoint(slots, slot, Endpoint::Closed);
             Change {
                 answer: Answer::Done,
-                state: with_endpoint(state, k, Endpoint::Closed),
+                rest,
             }
         }
         Answer::Refused(refusal) => Change {
             answer: Answer::Refused(refusal),
-            state,
+            rest,
         },
     }
 }
 
-pub fn set_address(
-    state: Ehci,
-    pool: u64,
-    heads: &mut [u32],
-    frames: u64,
-    setups: u64,
-    slot: u8,
-    address: u8,
-) -> Change
-    ensures { λ r. ⌜ changeLeft r (now (heads .exit))
-        ≡ setAddressOf state pool (now (heads .entry)) frames setups slot address ⌝ }
+pub fn set_address(core: Core, slots: &[u64], heads: &mut [u32], slot: u8, address: u8) -> Change
+    requires { ⌜ Good (core .settings) (core .rest) (now slots) ⌝ }
+    requires { ⌜ length (now heads) ≡ 17 * (core .settings .endpoints + 1) ⌝ }
+    ensures { λ r. ⌜ ((pool frames setups : ℕ) → rowsFit (core .settings) pool (length (now (heads .entry))) frames setups ≡ true
+        → changeLeft (changedView (core .settings) r (now (slots .entry))) (now (heads .exit))
+        ≡ setAddressOf (view core (now (slots .entry))) pool (now (heads .entry)) frames setups slot address) ⌝ }
+    ensures { λ r. ⌜ r .rest .free ≡ core .rest .free ⌝ }
 {
-    let lent = Lengths {
-        pool,
-        heads: heads.len() as u64,
-        frames,
-        setups,
-    };
-    match check_slot(state, lent, slot, address <= 127) {
+    let rest = core.rest;
+    match check_slot(core, slots, slot, address <= 127) {
         Answer::Done => {
             let at = HEAD_WORDS * (slot as usize + 1) + CHARACTERISTICS;
             heads[at] = set_device_address(heads[at], address);
             Change {
                 answer: Answer::Done,
-                state,
+                rest,
             }
         }
         Answer::Refused(refusal) => Change {
             answer: Answer::Refused(refusal),
-            state,
+            rest,
         },
     }
 }
 
 // Any byte is a packet size: it is raised to 8.
-pub fn set_packet_size(
-    state: Ehci,
-    pool: u64,
-    heads: &mut [u32],
-    frames: u64,
-    setups: u64,
-    slot: u8,
-    size: u8,
-) -> Change
-    ensures { λ r. ⌜ changeLeft r (now (heads .exit))
-        ≡ setPacketSizeOf state pool (now (heads .entry)) frames setups slot size ⌝ }
+pub fn set_packet_size(core: Core, slots: &[u64], heads: &mut [u32], slot: u8, size: u8) -> Change
+    requires { ⌜ Good (core .settings) (core .rest) (now slots) ⌝ }
+    requires { ⌜ length (now heads) ≡ 17 * (core .settings .endpoints + 1) ⌝ }
+    ensures { λ r. ⌜ ((pool frames setups : ℕ) → rowsFit (core .settings) pool (length (now (heads .entry))) frames setups ≡ true
+        → changeLeft (changedView (core .settings) r (now (slots .entry))) (now (heads .exit))
+        ≡ setPacketSizeOf (view core (now (slots .entry))) pool (now (heads .entry)) frames setups slot size) ⌝ }
+    ensures { λ r. ⌜ r .rest .free ≡ core .rest .free ⌝ }
 {
-    let lent = Lengths {
-        pool,
-        heads: heads.len() as u64,
-        frames,
-        setups,
-    };
-    match check_slot(state, lent, slot, true) {
+    let rest = core.rest;
+    match check_slot(core, slots, slot, true) {
         Answer::Done => {
             let at = HEAD_WORDS * (slot as usize + 1) + CHARACTERISTICS;
             heads[at] = set_max_packet_size(heads[at], size);
             Change {
                 answer: Answer::Done,
-                state,
+                rest,
             }
         }
         Answer::Refused(refusal) => Change {
             answer: Answer::Refused(refusal),
-            state,
+            rest,
         },
     }
 }

@@ -1,5 +1,4 @@
 // The calls on endpoints: opening, closing, and the changes of a head.
 pub mod calls;
 pub mod heads;
-pub mod in_words;
 pub mod lowest;

@@ -1,19 +1,21 @@
 // The slot that a new endpoint gets.
 ghost use mathlib.Core.Path.{_≡_};
-ghost use Prim.Native.Nat.{_≤_};
-ghost use lib.ListN.{length};
-ghost use Rattle.endpoint.specs.Lowest.{lowestClosed};
-use state::state::CLOSED;
+ghost use Rattle.words.specs.Good.{Good};
+ghost use Rattle.words.specs.View.{view};
+ghost use Rattle.endpoint.specs.Calls.{lowestSlot};
+use words::core::Core;
+use words::row::RECORD;
 
 // The lowest closed slot; the number of slots where none is.
-pub fn lowest_closed(phases: &[u8], endpoints: u8) -> u8
-    requires { ⌜ endpoints ≤ length (now phases) ⌝ }
-    ensures { λ r. ⌜ r ≡ lowestClosed (now (phases .entry)) endpoints ⌝ }
+pub fn lowest_closed(core: Core, slots: &[u64]) -> u8
+    requires { ⌜ Good (core .settings) (core .rest) (now slots) ⌝ }
+    ensures { λ r. ⌜ r ≡ lowestSlot (view core (now (slots .entry))) ⌝ }
 {
+    let endpoints = core.settings.endpoints;
     let mut k: u8 = 0;
     while k < endpoints {
-        let phase = phases[k as usize];
-        if phase == CLOSED {
+        let word = slots[RECORD * (k as usize)];
+        if word % 4 == 0 {
             return k;
         }
         k += 1;

@@ -19,7 +19,7 @@ use Rattle.pool.specs.Transfers.{bareAt, chunkQtd, recordAt}
 use Rattle.settings.specs.Settings.{apartAreas, areaGood, eachGood, noOverlap, numbersGood, settingsGood}
 use Rattle.slot.specs.declared.slot.Slot.{Slot}
 use Rattle.slot.specs.Ranges.{boundaryGood, closedGood, idleGood, linkedGood, noRequest, openKind, phaseGood, slotGood, unlinkingGood}
-use Rattle.state.specs.declared.state.Ehci.{Ehci}
+use Rattle.state.specs.Plain.{Ehci}
 use Rattle.state.specs.Ranges.{doorbellGood, inRanges, interruptGood, largest, machineGood, ownerGood, restGood, slotsGood}
 use Rattle.state.specs.Slots.{slotAt, withSlot}
 use Rattle.state.specs.State.{withBell, withBoundaries, withBringUp, withInterrupt, withOwner}

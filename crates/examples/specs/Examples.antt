@@ -14,7 +14,7 @@ use Rattle.descriptor.specs.Heads.{characteristicsOf}
 use Rattle.descriptor.specs.Slots.{pageSlots}
 use Rattle.pool.specs.Chains.{blank}
 use Rattle.settings.specs.declared.settings.Settings.{Settings}
-use Rattle.state.specs.declared.state.Ehci.{Ehci}
+use Rattle.state.specs.Plain.{Ehci}
 use Rattle.pipe.specs.Endpoints.{flagNumber}
 use Rattle.opening.specs.Opening.{Opened, openOf}
 use Rattle.controller.specs.declared.lent.Readings.{Readings}
@@ -23,7 +23,7 @@ use Rattle.collection.specs.Answers.{collectedNumber}
 use Rattle.collection.specs.Examples.{collected, oneRequest, seen}
 use Rattle.ehci.specs.declared.call.Call.{Call}
 use Rattle.ehci.specs.declared.call.Call.the-variants.{StartBringUp, BringUpStep, OpenEndpoint, Submit, Cancel, Acknowledge, Drain, Enable}
-use Rattle.ehci.specs.declared.reply.Reply.{Reply}
+use Rattle.ehci.specs.Plain.{Reply}
 use Rattle.ehci.specs.Replies.{answeredNumber, answeredValues}
 use Rattle.ehci.specs.Door.{Applied, applyOf}
 

@@ -1,10 +1,10 @@
 -- The returns of the interrupt calls.
-use Prim.Native.Nat.{ℕ, _≤_, _<_}
-use mathlib.Core.Path.{_≡_, refl, sym, ap, _∙_}
+use Prim.Native.Nat.{ℕ, _≤_}
+use mathlib.Core.Path.{_≡_, sym, _∙_}
 use mathlib.Core.Bool.{Bool, true, false, not}
 use mathlib.Core.List.{List}
 use native.Mathlib.Omega.{arith}
-use borrow.Author.Tests.{eq-eqb, ne-eqb, leb-true, not-false, not-true}
+use borrow.Author.Tests.{eq-eqb, ne-eqb, leb-true, not-false}
 use lib.Dec.{eqb, leb}
 use Rattle.register.specs.Bits.{withBits, withoutBits, onlyBits, anyOf}
 use Rattle.register.specs.Writes.{noWrites, andThen}
@@ -13,21 +13,20 @@ use Rattle.token.specs.Tokens.{onlyIf}
 use Rattle.state.specs.Ranges.{inRanges, restGood, machineGood, interruptGood, doorbellGood}
 use Rattle.settings.specs.Settings.{settingsGood}
 use Rattle.state.specs.State.{withInterrupt, withBell, withBoundaries}
-use Rattle.common.specs.declared.answer.Answer.the-variants.{Done, Refused as RefusedCall}
-use Rattle.common.specs.declared.answer.Refusal.the-variants.{InvalidParameter}
-use Rattle.state.specs.declared.state.Ehci.{Ehci}
+use Rattle.common.specs.declared.answer.Answer.the-variants.{Done}
+use Rattle.state.specs.Plain.{Ehci}
 use Rattle.common.proofs.TestLaws.{both-first, both-second, within-least}
 use Rattle.schedule.specs.Bell.{advancedOf, bellOf, fallenFrom}
 use Rattle.schedule.specs.Links.{same}
 use Rattle.schedule.specs.declared.bell.Rung.{Rung}
-use Rattle.interrupt.specs.declared.answers.Acknowledged.the-variants.{No, Yes, Refused as RefusedAck}
-use Rattle.interrupt.specs.declared.answers.Acknowledgement.{Acknowledgement}
-use Rattle.interrupt.specs.declared.answers.Drained.the-variants.{Nothing, PortChange, TransferActivity, Stopped, Refused as RefusedDrain}
-use Rattle.interrupt.specs.declared.answers.Drainage.{Drainage}
-use Rattle.interrupt.specs.declared.answers.Settled.{Settled}
-use Rattle.interrupt.specs.declared.drain.Counted.{Counted}
+use Rattle.interrupt.specs.declared.answers.Acknowledged.the-variants.{No, Yes}
+use Rattle.interrupt.specs.Plain.{Acknowledgement}
+use Rattle.interrupt.specs.declared.answers.Drained.the-variants.{Nothing, PortChange, TransferActivity, Stopped}
+use Rattle.interrupt.specs.Plain.{Drainage}
+use Rattle.interrupt.specs.Plain.{Settled}
+use Rattle.interrupt.specs.Plain.{Counted}
 use Rattle.interrupt.specs.declared.drain.Cleared.{Cleared}
-use Rattle.interrupt.specs.Interrupts.{maskWord, acknowledgeWrites, notedAfter, acknowledgedState, acknowledgeOf, withRung, countedOf, clearedOf, drainOf, refusedSettled, rearmOf, enableOf, disableOf}
+use Rattle.interrupt.specs.Interrupts.{maskWord, acknowledgeWrites, notedAfter, acknowledgedState, acknowledgeOf, countedOf, clearedOf, drainOf, rearmOf, enableOf, disableOf}
 
 -- ---- acknowledge
 
@@ -48,25 +47,7 @@ module _ (p i : ℕ) (f g : Bool) (w₀ w₁ w₂ : Writes) (m : ℕ) (e₀ : w�
   unfolding acknowledgeWrites
   writes-again t et h n w₃ en e₃ = rw (e₃, en, e₂, e₁, e₀, em, sym et ∙ h)
 
-module _ (s : Ehci) (p : ℕ) (a : Bool) (ea : a ≡ anyOf p 32) where
-  pub note-up : a ≡ true → s .doorbell ≡ 1 → 1 ≡ notedAfter s p
-  unfolding notedAfter
-  note-up t d = rw (sym ea ∙ t, eq-eqb (s .doorbell) 1 d)
-
-  pub note-down : a ≡ true → (s .doorbell ≡ 1 → ⊥) → s .noted ≡ notedAfter s p
-  unfolding notedAfter
-  note-down t d = rw (sym ea ∙ t, ne-eqb (s .doorbell) 1 d)
-
-  pub note-none : a ≡ false → s .noted ≡ notedAfter s p
-  unfolding notedAfter
-  note-none t = rw (sym ea ∙ t)
-
 module _ (s : Ehci) (st i : ℕ) (f g : Bool) (b : Bool) (eb : b ≡ inRanges s) (w : Writes) where
-  pub ack-bad : not b ≡ true → w ≡ noWrites
-      → _≡_ {A = Acknowledgement} (record { answer = RefusedAck InvalidParameter; state = s; writes = w }) (acknowledgeOf s st i f g)
-  unfolding acknowledgeOf
-  ack-bad t ew = rw (ew, sym eb ∙ not-true b t)
-
   pub ack-no : not b ≡ false → w ≡ noWrites → (p : ℕ) → p ≡ onlyBits st 55 → p ≡ 0
       → _≡_ {A = Acknowledgement} (record { answer = No; state = s; writes = w }) (acknowledgeOf s st i f g)
   unfolding acknowledgeOf
@@ -127,11 +108,6 @@ module _ (n : ℕ) (a : Bool) (ea : a ≡ anyOf n 4) where
   take-rest b t eb u = rw (sym ea ∙ t, sym eb ∙ u)
 
 module _ (s : Ehci) (cmd : ℕ) (b : Bool) (eb : b ≡ inRanges s) where
-  pub drain-bad : (w : Writes) → not b ≡ true → w ≡ noWrites
-      → _≡_ {A = Drainage} (record { answer = RefusedDrain InvalidParameter; state = s; writes = w }) (drainOf s cmd)
-  unfolding drainOf
-  drain-bad w t ew = rw (ew, sym eb ∙ not-true b t)
-
   pub drain-nothing : (w : Writes) → not b ≡ false → s .pending ≡ 0 → w ≡ noWrites
       → _≡_ {A = Drainage} (record { answer = Nothing; state = s; writes = w }) (drainOf s cmd)
   unfolding drainOf
@@ -147,9 +123,6 @@ module _ (s : Ehci) (cmd : ℕ) (b : Bool) (eb : b ≡ inRanges s) where
       (drainOf s cmd)
   unfolding drainOf
   drain-some c k t z ec ek = rw (ec, ek, sym eb ∙ not-false b t, ne-eqb (s .pending) 0 z)
-
-pub passed-ranges : (s : Ehci) (b : Bool) → b ≡ inRanges s → not b ≡ false → inRanges s ≡ true
-passed-ranges s b eb t = sym eb ∙ not-false b t
 
 -- ---- rearm, enable, disable
 
@@ -178,16 +151,3 @@ module _ (s : Ehci) (b : Bool) (eb : b ≡ inRanges s) (w w′ : Writes) (ew : w
       → _≡_ {A = Settled} (record { answer = Done; state = withInterrupt s 0 (s .pending) (s .masked); writes = w′ }) (disableOf s)
   unfolding disableOf
   disable-done t e = rw (e, ew, sym eb ∙ not-false b t)
-
-module _ (s : Ehci) (b : Bool) (eb : b ≡ inRanges s) (r : Settled) (er : r ≡ refusedSettled s) (t : not b ≡ true) where
-  pub rearm-bad : r ≡ rearmOf s
-  unfolding rearmOf
-  rearm-bad = er ∙ rw (sym eb ∙ not-true b t)
-
-  pub enable-bad : r ≡ enableOf s
-  unfolding enableOf
-  enable-bad = er ∙ rw (sym eb ∙ not-true b t)
-
-  pub disable-bad : r ≡ disableOf s
-  unfolding disableOf
-  disable-bad = er ∙ rw (sym eb ∙ not-true b t)

@@ -13,7 +13,7 @@ use Rattle.common.specs.declared.answer.Answer.the-variants.{Done}
 use Rattle.settings.specs.declared.settings.Settings.{Settings}
 use Rattle.state.specs.Ranges.{inRanges}
 use Rattle.state.specs.State.{withBell, withBoundaries, withInterrupt}
-use Rattle.state.specs.declared.state.Ehci.{Ehci}
+use Rattle.state.specs.Plain.{Ehci}
 use Rattle.schedule.specs.Bell.{advancedOf, fallenFrom}
 use Rattle.schedule.specs.declared.bell.Rung.{Rung}
 use Rattle.words.specs.declared.core.Core.{Core}
@@ -25,13 +25,13 @@ use Rattle.words.specs.View.{stateOf, view}
 use Rattle.words.proofs.FallenLaws.{view-fallen}
 use Rattle.words.proofs.TidyLaws.{tidy-fallen, tidy-rest}
 use Rattle.interrupt.specs.declared.answers.Acknowledged.the-variants.{No, Yes}
-use Rattle.interrupt.specs.declared.answers.Acknowledgement.{Acknowledgement}
+use Rattle.interrupt.specs.Plain.{Acknowledgement}
 use Rattle.interrupt.specs.declared.answers.Drained.the-variants.{Nothing}
-use Rattle.interrupt.specs.declared.answers.Drainage.{Drainage}
-use Rattle.interrupt.specs.declared.answers.Settled.{Settled}
-use Rattle.interrupt.specs.declared.drain.Counted.{Counted}
+use Rattle.interrupt.specs.Plain.{Drainage}
+use Rattle.interrupt.specs.Plain.{Settled}
+use Rattle.interrupt.specs.Plain.{Counted}
 use Rattle.interrupt.specs.declared.drain.Cleared.{Cleared}
-use Rattle.interrupt.specs.declared.in_words.drain.Counted.{Counted as CountedWords}
+use Rattle.interrupt.specs.declared.drain.Counted.{Counted as CountedWords}
 use Rattle.interrupt.specs.Interrupts.{acknowledgeOf, acknowledgeWrites, clearedOf, countedOf, disableOf, drainOf, enableOf, notedAfter, noteIf, rearmOf}
 use Rattle.interrupt.specs.Words.{countedView}
 use Rattle.interrupt.proofs.Cases.{ack-no, ack-yes, count-none, count-one, disable-done, drain-nothing, drain-some, enable-done, noted-unanswered, rearm-none, rearm-some}

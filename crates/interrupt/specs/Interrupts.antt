@@ -12,18 +12,18 @@ use Rattle.state.specs.Ranges.{inRanges}
 use Rattle.state.specs.State.{withInterrupt, withBell, withBoundaries}
 use Rattle.common.specs.declared.answer.Answer.the-variants.{Done, Refused as RefusedCall}
 use Rattle.common.specs.declared.answer.Refusal.the-variants.{InvalidParameter}
-use Rattle.state.specs.declared.state.Ehci.{Ehci}
+use Rattle.state.specs.Plain.{Ehci}
 use Rattle.schedule.specs.Bell.{advancedOf, bellOf, fallenFrom}
 use Rattle.schedule.specs.Links.{same}
 use Rattle.schedule.specs.declared.bell.Rung.{Rung}
 use Rattle.interrupt.specs.declared.answers.Acknowledged.{Acknowledged}
 use Rattle.interrupt.specs.declared.answers.Acknowledged.the-variants.{No, Yes, Refused as RefusedAck}
-use Rattle.interrupt.specs.declared.answers.Acknowledgement.{Acknowledgement}
+use Rattle.interrupt.specs.Plain.{Acknowledgement}
 use Rattle.interrupt.specs.declared.answers.Drained.{Drained}
 use Rattle.interrupt.specs.declared.answers.Drained.the-variants.{Nothing, PortChange, TransferActivity, Stopped, Refused as RefusedDrain}
-use Rattle.interrupt.specs.declared.answers.Drainage.{Drainage}
-use Rattle.interrupt.specs.declared.answers.Settled.{Settled}
-use Rattle.interrupt.specs.declared.drain.Counted.{Counted}
+use Rattle.interrupt.specs.Plain.{Drainage}
+use Rattle.interrupt.specs.Plain.{Settled}
+use Rattle.interrupt.specs.Plain.{Counted}
 use Rattle.interrupt.specs.declared.drain.Cleared.{Cleared}
 
 -- ---- numbers and values of the answers

@@ -3,14 +3,14 @@ use Prim.Native.Nat.{ℕ}
 use mathlib.Core.List.{List}
 use Rattle.settings.specs.declared.settings.Settings.{Settings}
 use Rattle.words.specs.View.{stateOf}
-use Rattle.interrupt.specs.declared.answers.Acknowledgement.{Acknowledgement}
-use Rattle.interrupt.specs.declared.answers.Drainage.{Drainage}
-use Rattle.interrupt.specs.declared.answers.Settled.{Settled}
-use Rattle.interrupt.specs.declared.drain.Counted.{Counted}
-use Rattle.interrupt.specs.declared.in_words.answers.Acknowledgement.{Acknowledgement as AcknowledgementWords}
-use Rattle.interrupt.specs.declared.in_words.answers.Drainage.{Drainage as DrainageWords}
-use Rattle.interrupt.specs.declared.in_words.answers.Settled.{Settled as SettledWords}
-use Rattle.interrupt.specs.declared.in_words.drain.Counted.{Counted as CountedWords}
+use Rattle.interrupt.specs.Plain.{Acknowledgement}
+use Rattle.interrupt.specs.Plain.{Drainage}
+use Rattle.interrupt.specs.Plain.{Settled}
+use Rattle.interrupt.specs.Plain.{Counted}
+use Rattle.interrupt.specs.declared.answers.Acknowledgement.{Acknowledgement as AcknowledgementWords}
+use Rattle.interrupt.specs.declared.answers.Drainage.{Drainage as DrainageWords}
+use Rattle.interrupt.specs.declared.answers.Settled.{Settled as SettledWords}
+use Rattle.interrupt.specs.declared.drain.Counted.{Counted as CountedWords}
 
 abbrev pub acknowledgedView : Settings → AcknowledgementWords → List ℕ → Acknowledgement
 acknowledgedView s r ws = record { answer = r .answer; state = stateOf s (r .rest) ws; writes = r .writes }

@@ -1,7 +1,6 @@
 // What an acknowledgment writes and notes.
 ghost use mathlib.Core.Path.{_≡_};
-ghost use Rattle.interrupt.specs.Interrupts.{maskWord, acknowledgeWrites, notedAfter};
-use register::bits::any_of;
+ghost use Rattle.interrupt.specs.Interrupts.{maskWord, acknowledgeWrites};
 use register::bits::only_bits;
 use register::bits::without_bits;
 use register::operational::USBINTR;
@@ -17,7 +16,6 @@ use register::operational::USBSTS_USBERRINT;
 use register::operational::USBSTS_USBINT;
 use register::writes::Writes;
 use schedule::links::same;
-use state::state::Ehci;
 
 // What is enabled, and so what is masked.
 pub const MASKABLE: u32 = USBINTR_USBINT
@@ -53,16 +51,4 @@ pub fn acknowledge_writes(p: u32, interrupts: u32, flag: bool, again: bool) -> W
         return writes;
     }
     writes.and_then(USBINTR, mask_word(p, interrupts, again))
-}
-
-// An advance is noted only while the doorbell is up.
-pub fn noted_after(s: Ehci, p: u32) -> u8
-    ensures { λ r. ⌜ r ≡ notedAfter s p ⌝ }
-{
-    if any_of(p, USBSTS_INTERRUPT_ASYNC_ADVANCE) {
-        if s.doorbell == 1 {
-            return 1;
-        }
-    }
-    s.noted
 }

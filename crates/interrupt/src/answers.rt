@@ -2,18 +2,12 @@
 use common::answer::Answer;
 use common::answer::Refusal;
 use register::writes::Writes;
-use state::state::Ehci;
+use words::core::Rest;
 
 pub enum Acknowledged {
     No,
     Yes,
     Refused(Refusal),
-}
-
-pub struct Acknowledgement {
-    pub answer: Acknowledged,
-    pub state: Ehci,
-    pub writes: Writes,
 }
 
 pub enum Drained {
@@ -24,15 +18,21 @@ pub enum Drained {
     Refused(Refusal),
 }
 
+pub struct Acknowledgement {
+    pub answer: Acknowledged,
+    pub rest: Rest,
+    pub writes: Writes,
+}
+
 pub struct Drainage {
     pub answer: Drained,
-    pub state: Ehci,
+    pub rest: Rest,
     pub writes: Writes,
 }
 
 // What rearm, enable and disable leave.
 pub struct Settled {
     pub answer: Answer,
-    pub state: Ehci,
+    pub rest: Rest,
     pub writes: Writes,
 }

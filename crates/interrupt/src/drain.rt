@@ -1,8 +1,9 @@
 // What a drain counts, and what it takes.
 ghost use mathlib.Core.Path.{_≡_};
-ghost use mathlib.Core.Bool.{true};
-ghost use Rattle.state.specs.Ranges.{inRanges};
 ghost use Rattle.interrupt.specs.Interrupts.{countedOf, clearedOf};
+ghost use Rattle.interrupt.specs.Words.{countedView};
+ghost use Rattle.words.specs.Good.{Good, Tidy};
+ghost use Rattle.words.specs.View.{view};
 use crate::answers::Drained;
 use register::bits::any_of;
 use register::bits::without_bits;
@@ -13,15 +14,11 @@ use register::operational::USBSTS_USBINT;
 use register::writes::Writes;
 use schedule::bell::Bell;
 use schedule::bell::advanced;
-use schedule::bell::fallen;
-use state::state::Ehci;
+use words::core::Core;
+use words::core::Rest;
+use words::fall::fall;
 
 pub const ACTIVITY: u32 = USBSTS_USBINT | USBSTS_USBERRINT | USBSTS_INTERRUPT_ASYNC_ADVANCE;
-
-pub struct Counted {
-    pub state: Ehci,
-    pub writes: Writes,
-}
 
 // What a drain takes of what is pending, and what it leaves.
 pub struct Cleared {
@@ -29,33 +26,9 @@ pub struct Cleared {
     pub left: u32,
 }
 
-// A noted advance counts once.
-pub fn count_noted(mut s: Ehci, command: u32) -> Counted
-    requires { ⌜ inRanges s ≡ true ⌝ }
-    ensures { λ r. ⌜ r ≡ countedOf s command ⌝ }
-{
-    if s.noted == 0 {
-        return Counted {
-            state: s,
-            writes: Writes::none(),
-        };
-    }
-    let bell = Bell {
-        noted: s.noted,
-        doorbell: s.doorbell,
-        unanswered: s.unanswered,
-    };
-    let rung = advanced(bell, Writes::none(), command);
-    let phases = s.phases;
-    let kinds = s.kinds;
-    let boundaries = s.boundaries;
-    let lower = fallen(phases, kinds, boundaries);
-    s.noted = rung.bell.noted;
-    s.doorbell = rung.bell.doorbell;
-    s.unanswered = rung.bell.unanswered;
-    s.boundaries = lower;
-    let writes = rung.writes;
-    Counted { state: s, writes }
+pub struct Counted {
+    pub rest: Rest,
+    pub writes: Writes,
 }
 
 // Port change first, then activity, then what is left.
@@ -78,4 +51,31 @@ pub fn clear_pending(pending: u32) -> Cleared
         event: Drained::Stopped,
         left: 0,
     }
+}
+
+// A noted advance counts once.
+pub fn count_noted(core: Core, slots: &mut [u64], command: u32) -> Counted
+    requires { ⌜ Good (core .settings) (core .rest) (now slots) ⌝ }
+    ensures { λ r. ⌜ countedView (core .settings) r (now (slots .exit)) ≡ countedOf (view core (now (slots .entry))) command ⌝ }
+    ensures { λ r. ⌜ Tidy (core .settings) (r .rest) (now (slots .exit)) ⌝ }
+{
+    let mut rest = core.rest;
+    if rest.noted == 0 {
+        return Counted {
+            rest,
+            writes: Writes::none(),
+        };
+    }
+    let bell = Bell {
+        noted: rest.noted,
+        doorbell: rest.doorbell,
+        unanswered: rest.unanswered,
+    };
+    let rung = advanced(bell, Writes::none(), command);
+    fall(slots, core.settings.endpoints);
+    rest.noted = rung.bell.noted;
+    rest.doorbell = rung.bell.doorbell;
+    rest.unanswered = rung.bell.unanswered;
+    let writes = rung.writes;
+    Counted { rest, writes }
 }

@@ -3,4 +3,3 @@ pub mod acknowledge;
 pub mod answers;
 pub mod calls;
 pub mod drain;
-pub mod in_words;

@@ -2,7 +2,6 @@ pub mod HeadLaws
 pub mod OpenCases
 pub mod OpenLaws
 pub mod OpenPool
-pub mod Same
 pub mod WordsCases
 pub mod WordsLaws
 pub mod WordsGood

@@ -1,13 +1,13 @@
 -- Opening: an accepted one gives a state in its ranges with every descriptor free, and rows of which each word is stated; a
 -- refused one leaves every row as it was and gives a state that is outside its ranges.
-use Prim.Native.Nat.{ℕ, _+_, _-_, _*_, _%_, _^_, _≤_, _<_}
-use mathlib.Core.Path.{_≡_, refl, ap, _∙_}
+use Prim.Native.Nat.{ℕ, _+_, _-_, _*_, _%_, _^_, _<_}
+use mathlib.Core.Path.{_≡_, refl, _∙_}
 use mathlib.Core.Bool.{Bool, true, false, _&&_}
 use mathlib.Core.List.{List, _∷_}
 use native.Mathlib.Omega.{arith}
 use borrow.Author.Tests.{eq-eqb, eqb-true}
 use lib.Dec.{eqb}
-use lib.ListN.{getD-replicate, length, replicate, replicate-append-replicate, take}
+use lib.ListN.{getD-replicate, length, replicate, replicate-append-replicate}
 use Rattle.register.specs.Bits.{withoutBits}
 use Rattle.token.specs.Chunks.{zeros}
 use Rattle.descriptor.specs.Descriptors.{terminated}

@@ -8,7 +8,7 @@ use lib.ListN.{length, replicate}
 use Rattle.common.specs.declared.answer.Refusal.the-variants.{InvalidParameter}
 use Rattle.settings.specs.declared.settings.Settings.{Settings}
 use Rattle.settings.specs.Settings.{settingsGood}
-use Rattle.opening.specs.declared.in_words.Opening.{Opening}
+use Rattle.opening.specs.declared.open.Opening.{Opening}
 use Rattle.opening.specs.Opening.{openedHeads, rowsFit}
 use Rattle.opening.specs.Words.{acceptedWords, decideWords, decidedWords, refusedWords, slotsFit}
 use Rattle.opening.proofs.OpenCases.{fit-lengths}

@@ -4,7 +4,6 @@ use mathlib.Core.Path.{_≡_, refl, sym, ap, subst, _∙_}
 use mathlib.Core.Bool.{Bool, true, false}
 use mathlib.Core.List.{List}
 use lib.ListN.{length}
-use Rattle.common.specs.declared.answer.Answer.{Answer}
 use Rattle.common.specs.declared.answer.Answer.the-variants.{Done, Refused}
 use Rattle.common.specs.declared.answer.Refusal.the-variants.{InvalidParameter}
 use Rattle.common.proofs.CheckLaws.{answers-apart}
@@ -15,7 +14,7 @@ use Rattle.state.specs.Ranges.{inRanges}
 use Rattle.words.specs.declared.core.Core.{Core}
 use Rattle.words.specs.Good.{Good}
 use Rattle.words.specs.View.{stateOf, view}
-use Rattle.opening.specs.declared.in_words.Opening.{Opening}
+use Rattle.opening.specs.declared.open.Opening.{Opening}
 use Rattle.opening.specs.Opening.{opened, refusedOpening}
 use Rattle.opening.specs.Words.{FreshWords, OpenedRows, OpensWords, blankCore, openWords, openedRows, rowsOf, slotsFit}
 use Rattle.opening.proofs.OpenLaws.{fresh-in-ranges}

@@ -1,17 +1,16 @@
 -- Opening in words: where it is accepted every record is thirteen zero words, and the core and the row of slots stand for the fresh state;
 -- where it is refused every row is as it was.
-use Prim.Native.Nat.{ℕ, _*_, _≤_}
+use Prim.Native.Nat.{ℕ, _≤_}
 use mathlib.Core.Path.{_≡_, refl, sym, ap, subst, _∙_}
 use mathlib.Core.Bool.{Bool, true, false}
 use mathlib.Core.List.{List}
 use native.Mathlib.Omega.{arith}
 use lib.ListN.{length, replicate}
-use Rattle.common.specs.declared.answer.Answer.{Answer}
 use Rattle.common.specs.declared.answer.Answer.the-variants.{Done, Refused}
 use Rattle.common.specs.declared.answer.Refusal.the-variants.{InvalidParameter}
 use Rattle.common.proofs.CheckLaws.{answers-apart}
 use Rattle.descriptor.specs.declared.qtd.QueueTransferDescriptor.{QueueTransferDescriptor as Record}
-use Rattle.pool.specs.declared.chain.Deed.the-variants.{Clear}
+use Rattle.pool.specs.Plain.{Clear}
 use Rattle.pool.specs.Chains.{blank, fillOf}
 use Rattle.pool.specs.Places.{packed, upFrom}
 use Rattle.pool.specs.Words.{clearedTo}
@@ -22,8 +21,8 @@ use Rattle.settings.specs.Settings.{framesLength, headsLength, poolLength, sett
 use Rattle.words.specs.Opened.{openedRest, openedRow}
 use Rattle.words.specs.View.{stateOf}
 use Rattle.words.proofs.OpenedLaws.{tidy-opened, view-opened}
-use Rattle.opening.specs.declared.in_words.Opening.{Opening}
-use Rattle.opening.specs.Opening.{acceptedOpening, freshState, openOf, opened, openedHeads, refusedOpening, rowsFit}
+use Rattle.opening.specs.declared.open.Opening.{Opening}
+use Rattle.opening.specs.Opening.{acceptedOpening, freshState, opened, openedHeads, refusedOpening, rowsFit}
 use Rattle.opening.specs.Words.{DecidedWords, FreshWords, OpensWords, acceptedWords, blankCore, clearCount, decideWords, decidedWords, openWords, openedRows, refusedWords, rowsOf, slotsFit}
 use Rattle.opening.proofs.OpenLaws.{rows-tell}
 use Rattle.opening.proofs.OpenPool.{accepts, refuses-rows, refuses-settings}

@@ -1,17 +1,15 @@
 -- "any two results allowed are proved the same", of opening in words: the answer, the core, the hub's record and the five rows.
 use Prim.Native.Nat.{ℕ, _≤_}
 use mathlib.Core.Path.{_≡_, refl, sym, ap, _∙_}
-use mathlib.Core.Bool.{true}
 use mathlib.Core.List.{List}
 use Rattle.common.specs.declared.answer.Answer.{Answer}
 use Rattle.common.specs.declared.answer.Answer.the-variants.{Done, Refused}
 use Rattle.descriptor.specs.declared.qtd.QueueTransferDescriptor.{QueueTransferDescriptor as Record}
 use Rattle.settings.specs.declared.settings.Settings.{Settings}
-use Rattle.settings.specs.Settings.{settingsGood}
 use Rattle.settings.proofs.SettingsLaws.{good-tells}
 use Rattle.words.specs.declared.core.Core.{Core}
 use Rattle.words.proofs.OneLaws.{Typed, view-one}
-use Rattle.opening.specs.declared.in_words.Opening.{Opening}
+use Rattle.opening.specs.declared.open.Opening.{Opening}
 use Rattle.opening.specs.Words.{BlankWords, FreshWords, OpenedRows, OpensWords, openWords, openedRows}
 use Rattle.opening.proofs.WordsGood.{done-good}
 

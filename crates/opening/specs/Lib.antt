@@ -1,3 +1,4 @@
+pub mod Plain
 pub mod Heads
 pub mod Hub
 pub mod Opening

@@ -6,18 +6,16 @@ use lib.Dec.{eqb}
 use lib.ListN.{length, replicate}
 use Rattle.descriptor.specs.declared.qtd.QueueTransferDescriptor.{QueueTransferDescriptor}
 use Rattle.descriptor.specs.Heads.{ringHead, wordsOf}
-use Rattle.pool.specs.declared.chain.Chain.{Chain}
-use Rattle.pool.specs.declared.chain.Deed.the-variants.{Clear}
+use Rattle.pool.specs.Plain.{Chain}
+use Rattle.pool.specs.Plain.{Clear}
 use Rattle.pool.specs.Chains.{blank}
 use Rattle.pool.specs.Places.{packed, upFrom}
-use Rattle.common.specs.declared.answer.Answer.{Answer}
 use Rattle.common.specs.declared.answer.Answer.the-variants.{Done, Refused}
 use Rattle.common.specs.declared.answer.Refusal.{Refusal}
 use Rattle.common.specs.declared.answer.Refusal.the-variants.{InvalidParameter}
-use Rattle.opening.specs.declared.hub.EhciRootHub.{EhciRootHub}
-use Rattle.opening.specs.declared.open.Opening.{Opening}
+use Rattle.opening.specs.Plain.{Opening}
 use Rattle.settings.specs.declared.settings.Settings.{Settings}
-use Rattle.state.specs.declared.state.Ehci.{Ehci}
+use Rattle.state.specs.Plain.{Ehci}
 use Rattle.common.specs.Answers.{Check, first, settle}
 use Rattle.opening.specs.Hub.{openedHub}
 use Rattle.settings.specs.Settings.{settingsGood, poolLength, headsLength, framesLength, setupsLength}

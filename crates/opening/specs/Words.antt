@@ -12,15 +12,15 @@ use Rattle.common.specs.declared.answer.Refusal.the-variants.{InvalidParameter}
 use Rattle.common.specs.Answers.{Check, first, settle}
 use Rattle.descriptor.specs.declared.qtd.QueueTransferDescriptor.{QueueTransferDescriptor}
 use Rattle.settings.specs.declared.settings.Settings.{Settings}
-use Rattle.settings.specs.Settings.{settingsGood, headsLength, framesLength, setupsLength}
+use Rattle.settings.specs.Settings.{headsLength, framesLength, setupsLength}
 use Rattle.words.specs.declared.core.Core.{Core}
 use Rattle.words.specs.Good.{Tidy}
 use Rattle.words.specs.Opened.{openedRest, openedRow}
 use Rattle.words.specs.View.{stateOf}
 use Rattle.opening.specs.declared.hub.EhciRootHub.{EhciRootHub}
-use Rattle.opening.specs.declared.in_words.Opening.{Opening}
+use Rattle.opening.specs.declared.open.Opening.{Opening}
 use Rattle.opening.specs.Hub.{openedHub}
-use Rattle.opening.specs.Opening.{Opened, freshState, noSettings, openChecks, openOf, opened, openedHeads, refusedOpening, rowsFit}
+use Rattle.opening.specs.Opening.{Opened, freshState, noSettings, openChecks, openOf, opened, openedHeads, refusedOpening}
 
 -- the row of slots has six words a slot
 unfoldable pub slotsFit : Settings → ℕ → Bool

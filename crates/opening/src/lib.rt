@@ -1,5 +1,4 @@
 // Opening a controller: the lent rows, the root hub's record, the fresh state.
 pub mod heads;
 pub mod hub;
-pub mod in_words;
 pub mod open;

@@ -1,10 +1,13 @@
-// Opening a controller.
+// Opening a controller: the core by value, and the row of slots beside the other lent rows.
 ghost use mathlib.Core.Path.{_≡_};
+ghost use Rattle.opening.specs.Words.{OpensWords, acceptedWords, clearCount, decideWords, decidedWords, openWords, openedRows, refusedWords, slotsFit};
+ghost use Rattle.words.specs.Opened.{openedRest};
 ghost use Prim.Native.Nat.{_≤_, _<_, _^_};
 ghost use lib.ListN.{length};
-ghost use Rattle.opening.specs.Opening.{freshState, rowsFit, refusedOpening, openedHeads, clearingOf, decided, decideOpenOf, opened, openOf};
+ghost use Rattle.opening.specs.Opening.{rowsFit, openedHeads};
 use crate::heads::put_head;
 use crate::hub::EhciRootHub;
+use bitset::places::all_below;
 use common::answer::Answer;
 use common::answer::Refusal;
 use common::rows::fill_bytes;
@@ -12,12 +15,12 @@ use common::rows::fill_words;
 use descriptor::head::QueueHead;
 use descriptor::qtd::EHCI_LINK_TERMINATE;
 use descriptor::qtd::QueueTransferDescriptor;
-use pool::chain::Chain;
-use pool::chain::Deed;
-use pool::places::all_places;
-use pool::row::fill;
+use pool::marking::clear_first;
 use settings::settings::Settings;
-use state::state::Ehci;
+use words::core::Core;
+use words::core::Rest;
+use words::row::RECORD;
+use words::row::fill_wide;
 
 pub const FRAMES: u64 = 1024;
 
@@ -26,36 +29,8 @@ const HEAD: u64 = 17;
 
 pub struct Opening {
     pub answer: Answer,
-    pub state: Ehci,
+    pub core: Core,
     pub hub: EhciRootHub,
-}
-
-// Not running, interrupts off, every descriptor free, every slot closed.
-fn fresh_state(settings: Settings) -> Ehci
-    ensures { λ r. ⌜ r ≡ freshState settings ⌝ }
-{
-    Ehci {
-        settings,
-        running: 0,
-        step: 0,
-        waited: 0,
-        address: 1,
-        enabled: 0,
-        pending: 0,
-        masked: 0,
-        noted: 0,
-        doorbell: 0,
-        unanswered: 0,
-        owner: [0; 256],
-        phases: [0; 32],
-        kinds: [0; 32],
-        ids: [1; 32],
-        requests: [0; 32],
-        directions: [0; 32],
-        lengths: [0; 32],
-        cancels: [0; 32],
-        boundaries: [0; 32],
-    }
 }
 
 // Lengths other than those that opening fixes are refused by every call that is lent the rows.
@@ -69,9 +44,51 @@ pub fn rows_fit(s: Settings, pool: u64, heads: u64, frames: u64, setups: u64) ->
         & (setups == 8 * endpoints)
 }
 
-// A state and a hub record that no call accepts.
+// The ring head, linked to itself; every other head zero.
+pub fn open_heads(heads: &mut [u32], area: u64)
+    requires { ⌜ area < 2 ^ 32 ⌝ }
+    requires { ⌜ 17 ≤ length (now heads) ⌝ }
+    ensures { λ _. ⌜ now (heads .exit) ≡ openedHeads area (length (now (heads .entry))) ⌝ }
+{
+    fill_words(heads, 0);
+    put_head(heads, 0, QueueHead::async_head(area as u32).words());
+}
+
+pub fn row_length(count: usize) -> u64
+    ensures { λ r. ⌜ r ≡ count ⌝ }
+{
+    count as u64
+}
+
+// Not running, interrupts off, every descriptor free.
+fn fresh_rest(descriptors: u64) -> Rest
+    ensures { λ r. ⌜ r ≡ openedRest descriptors ⌝ }
+{
+    Rest {
+        running: 0,
+        step: 0,
+        address: 1,
+        enabled: 0,
+        noted: 0,
+        doorbell: 0,
+        unanswered: 0,
+        pending: 0,
+        masked: 0,
+        waited: 0,
+        free: all_below(descriptors),
+    }
+}
+
+// Any other length is refused by every call that is lent the row.
+pub fn slots_fit(s: Settings, words: usize) -> bool
+    ensures { λ r. ⌜ r ≡ slotsFit s words ⌝ }
+{
+    words == RECORD * (s.endpoints as usize)
+}
+
+// A core and a hub record that no call accepts.
 fn refuse(refusal: Refusal) -> Opening
-    ensures { λ r. ⌜ r ≡ refusedOpening refusal ⌝ }
+    ensures { λ r. ⌜ r ≡ refusedWords refusal ⌝ }
 {
     let nothing = Settings {
         descriptors: 0,
@@ -86,32 +103,42 @@ fn refuse(refusal: Refusal) -> Opening
     };
     Opening {
         answer: Answer::Refused(refusal),
-        state: fresh_state(nothing),
+        core: Core {
+            settings: nothing,
+            rest: fresh_rest(0),
+        },
         hub: EhciRootHub::new(0),
     }
 }
 
-// The ring head, linked to itself; every other head zero.
-pub fn open_heads(heads: &mut [u32], area: u64)
-    requires { ⌜ area < 2 ^ 32 ⌝ }
-    requires { ⌜ 17 ≤ length (now heads) ⌝ }
-    ensures { λ _. ⌜ now (heads .exit) ≡ openedHeads area (length (now (heads .entry))) ⌝ }
+fn accept(settings: Settings) -> Opening
+    ensures { λ r. ⌜ r ≡ acceptedWords settings ⌝ }
 {
-    fill_words(heads, 0);
-    put_head(heads, 0, QueueHead::async_head(area as u32).words());
+    Opening {
+        answer: Answer::Done,
+        core: Core {
+            settings,
+            rest: fresh_rest(settings.descriptors),
+        },
+        hub: EhciRootHub::new(settings.ports),
+    }
 }
 
 // What is decided: all but the pool, of which the length is given.
 pub fn decide_open(
     settings: Settings,
     pool: u64,
+    slots: &mut [u64],
     heads: &mut [u32],
     frames: &mut [u32],
     setups: &mut [u8],
 ) -> Opening
-    ensures { λ r. ⌜ decided r (now (heads .exit)) (now (frames .exit)) (now (setups .exit))
-        ≡ decideOpenOf settings pool (now (heads .entry)) (now (frames .entry)) (now (setups .entry)) ⌝ }
+    ensures { λ r. ⌜ decidedWords r (now (slots .exit)) (now (heads .exit)) (now (frames .exit)) (now (setups .exit))
+        ≡ decideWords settings pool (now (slots .entry)) (now (heads .entry)) (now (frames .entry)) (now (setups .entry)) ⌝ }
 {
+    if !slots_fit(settings, slots.len()) {
+        return refuse(Refusal::InvalidParameter);
+    }
     if !settings.good() {
         return refuse(Refusal::InvalidParameter);
     }
@@ -124,47 +151,35 @@ pub fn decide_open(
     ) {
         return refuse(Refusal::InvalidParameter);
     }
+    fill_wide(slots, 0);
     open_heads(heads, settings.heads);
     fill_words(frames, EHCI_LINK_TERMINATE);
     fill_bytes(setups, 0);
-    Opening {
-        answer: Answer::Done,
-        state: fresh_state(settings),
-        hub: EhciRootHub::new(settings.ports),
-    }
+    accept(settings)
 }
 
-pub fn row_length(count: usize) -> u64
-    ensures { λ r. ⌜ r ≡ count ⌝ }
+// How many records are cleared; a refused opening has no descriptor.
+fn clear_count(o: Opening) -> usize
+    ensures { λ r. ⌜ r ≡ clearCount o ⌝ }
 {
-    count as u64
-}
-
-// A refused opening has no descriptor, so nothing is cleared then.
-fn clearing(o: Opening) -> Chain
-    requires { ⌜ o .state .settings .descriptors ≤ 256 ⌝ }
-    ensures { λ r. ⌜ r ≡ clearingOf o ⌝ }
-{
-    Chain {
-        places: all_places(o.state.settings.descriptors),
-        base: 0,
-        deed: Deed::Clear,
-    }
+    o.core.settings.descriptors as usize
 }
 
 pub fn open(
     settings: Settings,
     rows: &mut [QueueTransferDescriptor],
+    slots: &mut [u64],
     heads: &mut [u32],
     frames: &mut [u32],
     setups: &mut [u8],
 ) -> Opening
-    ensures { λ r. ⌜ opened r (now (rows .exit)) (now (heads .exit)) (now (frames .exit)) (now (setups .exit))
-        ≡ openOf settings (now (rows .entry)) (now (heads .entry)) (now (frames .entry)) (now (setups .entry)) ⌝ }
+    ensures { λ r. ⌜ openedRows r (now (rows .exit)) (now (heads .exit)) (now (frames .exit)) (now (setups .exit))
+        ≡ openWords settings (now (rows .entry)) (now (slots .entry)) (now (heads .entry)) (now (frames .entry)) (now (setups .entry)) ⌝ }
+    ensures { λ r. ⌜ OpensWords settings r (now (slots .entry)) (now (slots .exit)) ⌝ }
 {
     let count = row_length(rows.len());
-    let opening = decide_open(settings, count, heads, frames, setups);
-    let chain = clearing(opening);
-    fill(rows, chain);
+    let opening = decide_open(settings, count, slots, heads, frames, setups);
+    let clearing = clear_count(opening);
+    clear_first(rows, clearing);
     opening
 }

@@ -1,12 +1,8 @@
 -- The returns of the functions that take a slot apart and put it together.
 use Prim.Native.Nat.{ℕ, _≤_, _<_}
-use mathlib.Core.Path.{_≡_, refl, sym, ap, _∙_}
-use mathlib.Core.Bool.{Bool, true, false, not}
+use mathlib.Core.Path.{_≡_, _∙_}
 use borrow.Author.Tests.{eq-eqb, ne-eqb, le-ltb, lt-ltb}
-use lib.Dec.{eqb}
-use Rattle.common.specs.declared.kinds.Direction.{Direction}
 use Rattle.common.specs.declared.kinds.Direction.the-variants.{Out, In}
-use Rattle.common.specs.declared.kinds.EndpointType.{EndpointType}
 use Rattle.common.specs.declared.kinds.EndpointType.the-variants.{Control, Isochronous, Bulk, Interrupt}
 use Rattle.pipe.specs.declared.endpoints.Endpoint.{Endpoint}
 use Rattle.pipe.specs.declared.endpoints.Endpoint.the-variants.{Closed, Idle, Linked, Unlinking}
@@ -15,9 +11,9 @@ use Rattle.pipe.specs.declared.endpoints.Request.{Request}
 use Rattle.pipe.specs.declared.endpoints.UnlinkBoundary.{UnlinkBoundary}
 use Rattle.pipe.specs.declared.endpoints.UnlinkBoundary.the-variants.{Async, Periodic}
 use Rattle.slot.specs.declared.slot.Slot.{Slot}
-use Rattle.state.specs.declared.state.Ehci.{Ehci}
-use Rattle.pipe.specs.Endpoints.{kindOf, kindNumber, directionOf, directionNumber, flagNumber, pipeOf, requestOf, boundaryOf, decoded, endpointAt, boundaryNumber, slotWith, bareSlot, encoded, withEndpoint}
-use Rattle.state.specs.Slots.{slotAt, withSlot}
+use Rattle.state.specs.Plain.{Ehci}
+use Rattle.pipe.specs.Endpoints.{kindOf, kindNumber, directionOf, pipeOf, requestOf, boundaryOf, decoded, endpointAt, boundaryNumber, slotWith, bareSlot, encoded}
+use Rattle.state.specs.Slots.{slotAt}
 
 pub kind-control : (n : ℕ) → n ≡ 0 → Control ≡ kindOf n
 kind-control n e = rw (eq-eqb n 0 e)

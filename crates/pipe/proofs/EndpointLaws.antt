@@ -21,7 +21,7 @@ use Rattle.pipe.specs.declared.endpoints.Request.{Request}
 use Rattle.pipe.specs.declared.endpoints.UnlinkBoundary.{UnlinkBoundary}
 use Rattle.pipe.specs.declared.endpoints.UnlinkBoundary.the-variants.{Async, Periodic}
 use Rattle.slot.specs.declared.slot.Slot.{Slot}
-use Rattle.state.specs.declared.state.Ehci.{Ehci}
+use Rattle.state.specs.Plain.{Ehci}
 use Rattle.pipe.specs.Endpoints.{boundaryNumber, boundaryOf, decoded, directionNumber, directionOf, encoded, endpointAt, flagNumber, flagOf, kindNumber, kindOf, pickBoundary, pipeOf, requestOf, withEndpoint}
 use Rattle.slot.specs.Ranges.{slotGood}
 use Rattle.state.specs.Slots.{slotAt, withSlot}
@@ -270,12 +270,6 @@ EndpointGood u Closed = Unit {0}
 EndpointGood u (Idle p) = OpenPipe p
 EndpointGood u (Linked p r) = LinkedGood p r
 EndpointGood u (Unlinking p r b) = UnlinkingGood u p r b
-
-pub good-proper : (u : ℕ) (x : Endpoint) → EndpointGood u x → Proper x
-good-proper u Closed g = tt
-good-proper u (Idle p) g = tt
-good-proper u (Linked p r) g = tt
-good-proper u (Unlinking p r b) g = g .suits
 
 -- what encodes to a good slot
 open-number : (k : EndpointType) → k ≢ Isochronous → OpenKind (kindNumber k)

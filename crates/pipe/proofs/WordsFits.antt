@@ -9,7 +9,7 @@ use Rattle.common.specs.declared.kinds.EndpointType.{EndpointType}
 use Rattle.common.specs.declared.kinds.EndpointType.the-variants.{Control, Isochronous, Bulk, Interrupt}
 use Rattle.slot.specs.Ids.{afterId}
 use Rattle.words.specs.Record.{SlotFits}
-use Rattle.words.proofs.FitLaws.{id-below, id-one}
+use Rattle.words.proofs.FitLaws.{id-one}
 use Rattle.pipe.specs.declared.endpoints.Endpoint.the-variants.{Closed, Idle, Linked, Unlinking}
 use Rattle.pipe.specs.declared.endpoints.Pipe.{Pipe}
 use Rattle.pipe.specs.declared.endpoints.Request.{Request}
@@ -65,9 +65,6 @@ idle-fits p least most =
     }
 
 -- ---- with one: the next id is the one after its own
-
-pub own-below : (p : Pipe) (q : Request) → p .next ≡ afterId (q .id) → q .id < 2 ^ 64 → p .next < 2 ^ 64
-own-below p q own h = rw own (id-below (q .id) h)
 
 module _ (p : Pipe) (q : Request) (own : p .next ≡ afterId (q .id)) (most : p .next < 2 ^ 64) (short : q .length < 0x1_0000_0000) where
   next-least : 1 ≤ p .next

@@ -175,20 +175,10 @@ module _ (s : Settings) (r : Rest) (ws : List ℕ) (good : Good s r ws) (k : ℕ
   pub closed-at : endpointAt (stateOf s r ws) k ≡ Closed → phaseIn (wordAt ws k) ≡ 0
   closed-at e = endpoint-says Closed e
 
-  pub idle-at : (p : Pipe) → endpointAt (stateOf s r ws) k ≡ Idle p → IdleAt s ws k p
-  idle-at p e = endpoint-says (Idle p) e
-
   pub linked-at : (p : Pipe) (q : Request) → endpointAt (stateOf s r ws) k ≡ Linked p q → LinkedAt s ws k p q
   linked-at p q e = endpoint-says (Linked p q) e
 
   pub unlinking-at : (p : Pipe) (q : Request) (b : UnlinkBoundary) → endpointAt (stateOf s r ws) k ≡ Unlinking p q b
       → UnlinkingAt s r ws k p q b
   unlinking-at p q b e = endpoint-says (Unlinking p q b) e
-
   -- ---- and of its words
-
-  pub phase-closed : phaseIn (wordAt ws k) ≡ 0 → endpointAt (stateOf s r ws) k ≡ Closed
-  phase-closed p = good-endpoint s r ws good k ∙ word-closed (wordAt ws k) (lastAt ws k) p
-
-  pub not-closed-within : endpointAt (stateOf s r ws) k ≢ Closed → k < s .endpoints
-  not-closed-within ne = open-within (λ z. ne (phase-closed z))

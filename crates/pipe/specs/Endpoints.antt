@@ -13,7 +13,7 @@ use Rattle.pipe.specs.declared.endpoints.Request.{Request}
 use Rattle.pipe.specs.declared.endpoints.UnlinkBoundary.{UnlinkBoundary}
 use Rattle.pipe.specs.declared.endpoints.UnlinkBoundary.the-variants.{Async, Periodic}
 use Rattle.slot.specs.declared.slot.Slot.{Slot}
-use Rattle.state.specs.declared.state.Ehci.{Ehci}
+use Rattle.state.specs.Plain.{Ehci}
 use Rattle.state.specs.Slots.{slotAt, withSlot}
 
 -- ---- numbers: control 0, isochronous 1, bulk 2, interrupt 3; Out 0, In 1

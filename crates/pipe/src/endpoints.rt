@@ -1,30 +1,9 @@
 // A slot's endpoint: the numbers of a slot taken apart, and put together again.
 ghost use mathlib.Core.Path.{_≡_};
-ghost use Prim.Native.Nat.{_<_};
-ghost use Rattle.pipe.specs.Endpoints.{
-  kindOf,
-  kindNumber,
-  directionOf,
-  directionNumber,
-  flagOf,
-  flagNumber,
-  pipeOf,
-  requestOf,
-  boundaryOf,
-  decoded,
-  endpointAt,
-  boundaryNumber,
-  slotWith,
-  bareSlot,
-  encoded,
-  withEndpoint,
-};
+ghost use Rattle.pipe.specs.Endpoints.{kindOf, kindNumber, directionOf, directionNumber, flagNumber, pipeOf, requestOf, boundaryOf, decoded, boundaryNumber, slotWith, bareSlot, encoded};
 use common::kinds::Direction;
 use common::kinds::EndpointType;
 use slot::slot::Slot;
-use state::slots::slot_at;
-use state::slots::with_slot;
-use state::state::Ehci;
 
 // When an unlinking request may be collected: after so many advances, or 9 micro-frames after a FRINDEX.
 pub enum UnlinkBoundary {
@@ -145,17 +124,6 @@ pub fn decode(e: Slot) -> Endpoint
     Endpoint::Closed
 }
 
-// A slot number that is too large is that of a closed slot.
-pub fn endpoint_at(s: Ehci, k: u8) -> Endpoint
-    ensures { λ r. ⌜ r ≡ endpointAt s k ⌝ }
-{
-    if k < 32 {
-        decode(slot_at(s, k as usize))
-    } else {
-        Endpoint::Closed
-    }
-}
-
 fn boundary_number(boundary: UnlinkBoundary) -> u16
     ensures { λ r. ⌜ r ≡ boundaryNumber boundary ⌝ }
 {
@@ -209,11 +177,4 @@ pub fn encode(e: Endpoint) -> Slot
         Endpoint::Linked(p, r) => slot_with(2, p, r, 0),
         Endpoint::Unlinking(p, r, b) => slot_with(3, p, r, boundary_number(b)),
     }
-}
-
-pub fn with_endpoint(s: Ehci, k: usize, e: Endpoint) -> Ehci
-    requires { ⌜ k < 32 ⌝ }
-    ensures { λ r. ⌜ r ≡ withEndpoint s k e ⌝ }
-{
-    with_slot(s, k, encode(e))
 }

@@ -1,3 +1,3 @@
 // A slot taken apart into its endpoint, and put together again.
 pub mod endpoints;
-pub mod in_words;
+pub mod slots;

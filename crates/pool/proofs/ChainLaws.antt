@@ -1,21 +1,18 @@
 -- What a chain does to the pool: records that it does not list stay, each listed one is written from what was there, and EHCI's walk
 -- meets a request's places in order and ends there.
-use Prim.Native.Nat.{ℕ, zero, suc, _+_, _-_, _*_, _/_, _%_, _≤_, _<_, _^_}
+use Prim.Native.Nat.{ℕ, zero, suc, _+_, _-_, _*_, _%_, _≤_, _<_, _^_}
 use mathlib.Core.Path.{_≡_, refl, sym, ap, subst, _∙_}
-use mathlib.Core.Bool.{Bool, true, false}
 use mathlib.Core.List.{List, [], _∷_, map}
 use native.Mathlib.Omega.{arith}
-use borrow.Author.Tests.{ne-eqb}
 use lib.Dec.{eqb}
 use lib.ListN.{drop, getD, length, replicate, set, getD-replicate, length-replicate, length-set}
 use lib.Seq.{ext-getD, getD-set-other, getD-set-same}
 use Rattle.descriptor.proofs.HeadFields.{next-reads}
-use Rattle.descriptor.specs.declared.qtd.NextQtd.the-variants.{At}
 use Rattle.descriptor.specs.declared.qtd.QueueTransferDescriptor.{QueueTransferDescriptor as Record}
 use Rattle.descriptor.specs.Descriptors.{nextWord, withNext}
 use Rattle.descriptor.specs.EhciQtd.{qtdAddress, terminate}
-use Rattle.pool.specs.declared.chain.Deed.{Deed}
-use Rattle.pool.specs.declared.chain.Deed.the-variants as Deeds
+use Rattle.pool.specs.Plain.{Deed}
+use Rattle.pool.specs.Plain as Deeds
 use Rattle.pool.specs.declared.transfer.Transfer.{Transfer}
 use Rattle.pool.specs.EhciChain.{follow, stopIf}
 use Rattle.pool.specs.Places.{Ascending, Each, Within, packed, upFrom}

@@ -1,23 +1,20 @@
 -- The definitions run: 01's job sheet, word for word, and what tokens say.
-use Prim.Native.Nat.{ℕ}
 use mathlib.Core.Path.{_≡_, refl}
 use mathlib.Core.List.{List, [], _∷_}
 use lib.ListN.{replicate}
-use Rattle.common.specs.declared.kinds.Direction.the-variants.{In, Out}
+use Rattle.common.specs.declared.kinds.Direction.the-variants.{In}
 use Rattle.common.specs.declared.kinds.EndpointType.the-variants.{Bulk, Control}
-use Rattle.token.specs.Chunks.{chunkCount}
 use Rattle.token.specs.Plans.{controlPlan}
 use Rattle.token.specs.Tokens.{tokenOf}
 use Rattle.descriptor.specs.declared.qtd.QueueTransferDescriptor.{QueueTransferDescriptor as Record}
 use Rattle.descriptor.specs.Descriptors.{newQtd, withNext}
 use Rattle.descriptor.specs.Slots.{pageSlots, zeroSlots}
-use Rattle.pool.specs.declared.chain.Deed.the-variants as Deeds
-use Rattle.pool.specs.declared.chain.View.{View}
+use Rattle.pool.specs.Plain as Deeds
 use Rattle.pool.specs.declared.transfer.Transfer.{Transfer}
 use Rattle.pool.specs.EhciChain.{follow}
 use Rattle.pool.specs.Places.{clearOf, markOf, placesFrom}
-use Rattle.pool.specs.Transfers.{bareAt, chunkQtd, recordAt, requestedAt, stageAt}
-use Rattle.pool.specs.Chains.{Seen, blank, filledFrom, firstError, lengthOf, metFrom, seenFrom, standingOf, viewOf}
+use Rattle.pool.specs.Transfers.{bareAt, chunkQtd, recordAt, stageAt}
+use Rattle.pool.specs.Chains.{blank, filledFrom, firstError, lengthOf, metFrom, standingOf, viewOf}
 
 -- In, 18 bytes at 10000FFF; pool at 100000, setup packets at 400000
 abbrev sheet-request : Transfer

@@ -1,7 +1,7 @@
 -- What shows that a chain or a question may be handed to the pool.
 use Prim.Native.Nat.{ℕ, _+_, _-_, _*_, _≤_, _<_, _^_}
-use mathlib.Core.Path.{_≡_, refl, sym, ap, subst, _∙_}
-use mathlib.Core.List.{List, [], _∷_}
+use mathlib.Core.Path.{_≡_, sym, subst}
+use mathlib.Core.List.{List}
 use native.Mathlib.Decide.{ℕ-discrete as decEq}
 use native.Mathlib.Omega.{arith}
 use lib.ListN.{length}
@@ -9,50 +9,17 @@ use Rattle.token.proofs.ChunkLaws.{before-last, count-pos}
 use Rattle.common.specs.declared.kinds.EndpointType.{EndpointType}
 use Rattle.common.specs.declared.kinds.EndpointType.the-variants.{Control, Isochronous, Bulk, Interrupt}
 use Rattle.token.specs.Chunks.{chunkCount, needOf}
-use Rattle.pool.specs.declared.chain.Deed.{Deed}
-use Rattle.pool.specs.declared.chain.Deed.the-variants as Deeds
+use Rattle.pool.specs.Plain.{Deed}
+use Rattle.pool.specs.Plain as Deeds
 use Rattle.pool.specs.declared.transfer.Transfer.{Transfer}
-use Rattle.pool.specs.Places.{Within, listOf, packed, placesFrom, upFrom}
-use Rattle.pool.specs.Chains.{askGood, chainGood, deedGood, noAsk, noChain, startsGood}
-use Rattle.pool.proofs.PlaceLaws.{list-packed, places-few, places-within, up-length, up-within}
+use Rattle.pool.specs.Places.{Within, packed, placesFrom}
+use Rattle.pool.specs.Chains.{chainGood, deedGood, startsGood}
+use Rattle.pool.proofs.PlaceLaws.{list-packed, places-few, places-within}
 
 pub packed-good : (n base : ℕ) (deed : Deed) (ps : List ℕ) → length ps ≤ 256 → Within n ps → deedGood deed base n (length ps)
     → chainGood n (record { places = packed ps; base = base; deed = deed })
 unfolding packed
 packed-good n base deed ps h w g = record { few = h; within = subst (λ (l : List ℕ). Within n l) (sym (list-packed ps)) w; deed = g }
-
-pub packed-asks : (n : ℕ) (kind : EndpointType) (len limit : ℕ) (ps : List ℕ) → length ps ≤ 256 → Within n ps → len < 2 ^ 32 → limit ≤ 16384
-    → askGood n (record { places = packed ps; kind = kind; length = len; limit = limit })
-unfolding packed
-packed-asks n kind len limit ps h w s l = record { few = h; within = subst (λ (l : List ℕ). Within n l) (sym (list-packed ps)) w; short = s; limited = l }
-
--- nothing is written, whatever the pool
-pub empty-good : (n base : ℕ) → chainGood n (record { places = packed []; base = base; deed = Deeds.Leave })
-empty-good n base = packed-good n base Deeds.Leave [] (omega arith) tt tt
-
-pub no-chain-good : (n : ℕ) → chainGood n noChain
-unfolding noChain
-no-chain-good n = empty-good n 0
-
-pub token-good : (n base p w : ℕ) → p < n → chainGood n (record { places = packed (p ∷ []); base = base; deed = Deeds.Token w })
-token-good n base p w h = packed-good n base (Deeds.Token w) (p ∷ []) (omega arith) (h, tt) tt
-
-pub clear-good : (n base : ℕ) → n ≤ 256 → chainGood n (record { places = packed (upFrom 0 n); base = base; deed = Deeds.Clear })
-clear-good n base h = packed-good n base Deeds.Clear (upFrom 0 n) (omega (arith, h, up-length 0 n)) (up-within n) tt
-
--- nothing is asked
-pub empty-asks : (n : ℕ) (kind : EndpointType) → askGood n (record { places = packed []; kind = kind; length = 0; limit = 0 })
-empty-asks n kind = packed-asks n kind 0 0 [] (omega arith) tt (omega arith) (omega arith)
-
-pub no-ask-good : (n : ℕ) → askGood n noAsk
-unfolding noAsk
-no-ask-good n = empty-asks n Control
-
--- an owner's places in a row as long as the pool
-pub places-ask : (owner : List ℕ) (x m : ℕ) (kind : EndpointType) (len limit : ℕ) → length owner ≤ 256 → len < 2 ^ 32 → limit ≤ 16384
-    → askGood (length owner) (record { places = packed (placesFrom 0 owner x m); kind = kind; length = len; limit = limit })
-places-ask owner x m kind len limit h s l =
-    packed-asks (length owner) kind len limit (placesFrom 0 owner x m) (omega (arith, h, places-few 0 owner x m)) (places-within owner x m) s l
 
 pub places-good : (owner : List ℕ) (x m base : ℕ) (deed : Deed) → length owner ≤ 256 → deedGood deed base (length owner) (length (placesFrom 0 owner x m))
     → chainGood (length owner) (record { places = packed (placesFrom 0 owner x m); base = base; deed = deed })

@@ -1,9 +1,6 @@
 pub mod Each
 pub mod Walk
-pub mod PlaceCases
 pub mod PlaceLaws
-pub mod Known
-pub mod Listed
 pub mod TransferCases
 pub mod ChainCases
 pub mod Turns

@@ -1,16 +1,15 @@
 -- What places are found: all below the row's length, ascending, each the owner's, and as many as there are; and what taking and freeing them does.
 use Prim.Native.Nat.{ℕ, zero, suc, _+_, _-_, _≤_, _<_, min}
-use mathlib.Core.Path.{_≡_, refl, sym, ap, subst, _∙_}
+use mathlib.Core.Path.{_≡_, refl, sym, ap, _∙_}
 use mathlib.Core.Bool.{Bool, true, false}
-use mathlib.Core.List.{List, [], _∷_, _++_}
+use mathlib.Core.List.{List, [], _∷_}
 use native.Mathlib.Omega.{arith}
 use borrow.Author.Tests.{eq-eqb, ne-eqb, eqb-true, eqb-false}
 use lib.Dec.{eqb}
 use lib.ListN.{getD, length, replicate}
 use lib.Seq.{take-append-seam}
-use Rattle.pool.specs.declared.places.Places.{Places}
 use Rattle.pool.specs.Places.{Ascending, Each, Within, bitOf, clearOf, countOf, listIf, listOf, markOf, packed, placesFrom, upFrom}
-use Rattle.pool.proofs.Each.{each-at, each-map}
+use Rattle.pool.proofs.Each.{each-map}
 
 -- ---- the places that hold x
 
@@ -103,10 +102,6 @@ places-none i owner x n e = empty-list (placesFrom i owner x n) (omega (arith, e
 pub list-packed : (ps : List ℕ) → listOf (packed ps) ≡ ps
 unfolding listOf packed
 list-packed ps = take-append-seam ps (replicate (256 - length ps) 0)
-
-pub count-packed : (ps : List ℕ) → packed ps .count ≡ length ps
-unfolding packed
-count-packed ps = refl
 
 -- ---- every place of a pool
 
@@ -202,15 +197,6 @@ mark-count (y ∷ ys) n x ne = go (eqb n 0) refl (eqb y 0) refl (mark-count ys (
     go false eb false ec p q = rw (eb, ec, ec) (omega (arith, q))
 
 -- ---- freeing
-
-pub clear-length : (x : ℕ) (owner : List ℕ) → length (clearOf x owner) ≡ length owner
-unfolding clearOf
-clear-length x [] = refl
-clear-length x (y ∷ ys) = go (eqb y x) (clear-length x ys)
-  where
-    go : (b : Bool) → length (clearOf x ys) ≡ length ys → length (listIf b (0 ∷ clearOf x ys) (y ∷ clearOf x ys)) ≡ suc (length ys)
-    go true e = ap suc e
-    go false e = ap suc e
 
 -- a place that held x is free, any other as it was
 pub clear-hit-at : (x : ℕ) (owner : List ℕ) (p : ℕ) → getD owner p 0 ≡ x → getD (clearOf x owner) p 0 ≡ 0

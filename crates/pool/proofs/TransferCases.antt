@@ -1,24 +1,22 @@
 -- The returns of the functions that make a request's k-th descriptor.
-use Prim.Native.Nat.{ℕ, _+_, _-_, _*_, _≤_, _<_, _^_}
-use mathlib.Core.Path.{_≡_, refl, sym, ap, subst, _∙_}
-use mathlib.Core.Bool.{Bool}
+use Prim.Native.Nat.{ℕ, _-_, _*_, _≤_}
+use mathlib.Core.Path.{_≡_}
 use native.Mathlib.Nat.{mul-le-mul-right}
 use native.Mathlib.Omega.{arith}
 use borrow.Author.Tests.{eq-eqb, ne-eqb}
 use mir.Syntax.{w64}
 use mir.Val.{Fits}
 use Rattle.token.specs.declared.plan.ControlTdPlan.{ControlTdPlan}
-use Rattle.token.specs.declared.plan.DataTd.{DataTd}
 use Rattle.token.specs.declared.plan.DataTd.the-variants.{Absent, Present}
 use Rattle.token.specs.declared.qtd.QtdToken.{QtdToken}
 use Rattle.common.specs.declared.kinds.EndpointType.{EndpointType}
 use Rattle.common.specs.declared.kinds.EndpointType.the-variants.{Control, Isochronous, Bulk, Interrupt}
 use Rattle.token.specs.Chunks.{chunkAt}
-use Rattle.token.specs.Plans.{chunkToken, controlPlan}
+use Rattle.token.specs.Plans.{controlPlan}
 use Rattle.descriptor.specs.declared.qtd.QueueTransferDescriptor.{QueueTransferDescriptor}
 use Rattle.descriptor.specs.Descriptors.{newQtd}
 use Rattle.pool.specs.declared.transfer.Transfer.{Transfer}
-use Rattle.pool.specs.Transfers.{bareAt, bareFor, chunkQtd, requestedAt, stageAt, startGood}
+use Rattle.pool.specs.Transfers.{requestedAt, stageAt}
 
 pub small-product : (k l : ℕ) → k ≤ 256 → l ≤ 16384 → Fits w64 (k * l)
 small-product k l h h′ = omega (arith, mul-le-mul-right l h, h′)
@@ -60,36 +58,3 @@ module _ (t : Transfer) (k : ℕ) (plan : ControlTdPlan) (r : QueueTransferDescr
   pub stage-status : (w : QtdToken) → plan .«data» ≡ Present w → r ≡ newQtd (plan .status) 0 0 → (k ≡ 0 → ⊥) → (k ≡ 1 → ⊥) → r ≡ stageAt t k
   unfolding stageAt
   stage-status w ed er z o = rw (er, ne-eqb k 0 z, ← e, ed, ne-eqb k 1 o)
-
-pub chunk-made : (t : Transfer) (k bytes : ℕ) (last : Bool) (token : QtdToken) (r : QueueTransferDescriptor)
-    → bytes ≡ chunkAt k (t .length) (t .limit) → token ≡ chunkToken (t .direction) bytes last → r ≡ newQtd token (t .address + k * t .limit) bytes
-    → r ≡ chunkQtd t k last
-unfolding chunkQtd
-chunk-made t k bytes last token r eb et er = rw (er, et, eb)
-
-module _ (t : Transfer) (k : ℕ) (last : Bool) (r : QueueTransferDescriptor) where
-  pub bare-control : t .kind ≡ Control → r ≡ stageAt t k → r ≡ bareAt t k last
-  unfolding bareAt
-  bare-control e er = er ∙ ap (λ (kind : EndpointType). bareFor kind t k last) (sym e)
-
-  pub bare-isochronous : t .kind ≡ Isochronous → r ≡ chunkQtd t k last → r ≡ bareAt t k last
-  unfolding bareAt
-  bare-isochronous e er = er ∙ ap (λ (kind : EndpointType). bareFor kind t k last) (sym e)
-
-  pub bare-bulk : t .kind ≡ Bulk → r ≡ chunkQtd t k last → r ≡ bareAt t k last
-  unfolding bareAt
-  bare-bulk e er = er ∙ ap (λ (kind : EndpointType). bareFor kind t k last) (sym e)
-
-  pub bare-interrupt : t .kind ≡ Interrupt → r ≡ chunkQtd t k last → r ≡ bareAt t k last
-  unfolding bareAt
-  bare-interrupt e er = er ∙ ap (λ (kind : EndpointType). bareFor kind t k last) (sym e)
-
-module _ (t : Transfer) (k : ℕ) where
-  pub start-isochronous : t .kind ≡ Isochronous → startGood (t .kind) t k → k * t .limit ≤ t .length
-  start-isochronous e g = subst (λ (kind : EndpointType). startGood kind t k) e g
-
-  pub start-bulk : t .kind ≡ Bulk → startGood (t .kind) t k → k * t .limit ≤ t .length
-  start-bulk e g = subst (λ (kind : EndpointType). startGood kind t k) e g
-
-  pub start-interrupt : t .kind ≡ Interrupt → startGood (t .kind) t k → k * t .limit ≤ t .length
-  start-interrupt e g = subst (λ (kind : EndpointType). startGood kind t k) e g

@@ -1,16 +1,14 @@
 -- The returns of the functions that see a record by its word, and that make a record with the places to come in a cursor.
-use Prim.Native.Nat.{ℕ, _+_, _-_, _*_, _/_, _%_, _≤_, _<_, _^_}
+use Prim.Native.Nat.{ℕ, _+_, _-_, _*_, _≤_, _<_, _^_}
 use mathlib.Core.Path.{_≡_, refl, sym, ap, subst, _∙_}
 use mathlib.Core.Bool.{Bool, true, false, not}
 use mathlib.Core.List.{List, [], _∷_}
 use native.Mathlib.Omega.{arith}
-use borrow.Author.Tests.{eq-eqb, ne-eqb}
 use lib.Count.{trailingZeros, trailing-le}
 use mir.Syntax.{w64}
 use mir.Val.{Fits}
 use Rattle.bitset.specs.declared.cursor.Cursor.{Cursor}
 use Rattle.bitset.specs.Rest.{isNone, placeAt, restOf}
-use Rattle.bitset.proofs.BitLaws.{shifted}
 use Rattle.bitset.proofs.CursorLaws.{rest-end, rest-step}
 use Rattle.common.specs.declared.kinds.EndpointType.{EndpointType}
 use Rattle.common.specs.declared.kinds.EndpointType.the-variants.{Control, Isochronous, Bulk, Interrupt}
@@ -28,7 +26,6 @@ use Rattle.pool.specs.declared.asked.AskWords.{AskWords}
 use Rattle.pool.specs.declared.asked.Folded.{Folded}
 use Rattle.pool.specs.declared.chain.View.{View}
 use Rattle.pool.specs.declared.laying.Laying.{Laying}
-use Rattle.pool.specs.declared.marking.Marking.{Marking}
 use Rattle.pool.specs.declared.transfer.Transfer.{Transfer}
 use Rattle.pool.specs.declared.writing.Writing.{Writing}
 use Rattle.pool.specs.Transfers.{addressOf, bareAt, bareFor, chunkQtd, isLast, nextOf, recordAt, requestedAt, stageAt}

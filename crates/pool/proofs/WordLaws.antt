@@ -1,31 +1,23 @@
 -- What a writing leaves: no place, nothing written; a transfer's or a token's places, what the chain of these places leaves. And what shows that it may be handed to the pool.
-use Prim.Native.Nat.{ℕ, zero, suc, _+_, _-_, _*_, _/_, _%_, _<_, _^_}
+use Prim.Native.Nat.{ℕ, suc, _-_}
 use mathlib.Core.Path.{_≡_, refl, sym, ap, subst, _∙_}
-use mathlib.Core.Bool.{Bool, true, false, cond, not}
-use mathlib.Core.List.{List, [], _∷_, _++_}
-use native.Mathlib.Nat.{pow-suc}
+use mathlib.Core.Bool.{Bool, true, false, not}
+use mathlib.Core.List.{List, [], _∷_}
 use native.Mathlib.Omega.{arith}
-use lib.Dec.{eqb}
-use lib.ListN.{getD, length, replicate, set}
+use lib.ListN.{getD, length, set}
 use Rattle.bitset.specs.Places.{Within, setPlaces}
-use Rattle.bitset.specs.Words.{placesOf}
 use Rattle.bitset.proofs.PlaceLaws.{places-zero}
 use Rattle.common.specs.Kinds.{isControl}
 use Rattle.descriptor.specs.declared.qtd.QueueTransferDescriptor.{QueueTransferDescriptor as Record}
-use Rattle.pool.specs.declared.asked.AskWords.{AskWords}
-use Rattle.pool.specs.declared.chain.Ask.{Ask}
-use Rattle.pool.specs.declared.chain.Chain.{Chain}
-use Rattle.pool.specs.declared.chain.Deed.{Deed}
-use Rattle.pool.specs.declared.chain.Deed.the-variants as Deeds
+use Rattle.pool.specs.Plain.{Chain}
+use Rattle.pool.specs.Plain.{Deed}
+use Rattle.pool.specs.Plain as Deeds
 use Rattle.pool.specs.declared.laying.Laying.{Laying}
-use Rattle.pool.specs.declared.marking.Marking.{Marking}
 use Rattle.pool.specs.declared.transfer.Transfer.{Transfer}
 use Rattle.pool.specs.declared.writing.Writing.{Writing}
-use Rattle.pool.specs.Places as Listed
-use Rattle.pool.specs.Places.{listOf, packed, upFrom}
-use Rattle.pool.specs.Chains.{blank, fillOf, filledFrom, seenFrom, transferGood, viewOf, withToken}
-use Rattle.pool.specs.Words.{AskWordsGood, ChunksGood, LayingGood, MarkingGood, StagesGood, WritingGood, chunksOf, clearedTo, laidOf, layingIf, markedOf, noAskWords, noLaying, noMarking, noWords, noWriting, stagesOf, wherePlaces, wordsIf, writtenWith}
-use Rattle.pool.proofs.ChainLaws.{fill-clear}
+use Rattle.pool.specs.Places.{listOf, packed}
+use Rattle.pool.specs.Chains.{blank, fillOf, filledFrom, transferGood, withToken}
+use Rattle.pool.specs.Words.{AskWordsGood, ChunksGood, LayingGood, MarkingGood, StagesGood, WritingGood, chunksOf, laidOf, layingIf, markedOf, noAskWords, noLaying, noMarking, noWords, noWriting, stagesOf, wherePlaces, wordsIf, writtenWith}
 use Rattle.pool.proofs.PlaceLaws.{list-packed}
 
 pub no-places : setPlaces noWords ≡ []
@@ -108,14 +100,6 @@ pub no-writing-good : (n : ℕ) → WritingGood n noWriting
 unfolding noWriting
 no-writing-good n = record { laying = no-laying-good n; marking = no-marking-good n }
 
--- a transfer at the places of a set, and a token at one place
-pub laying-good : (n : ℕ) (l : Laying) → Within n (setPlaces (l .places)) → transferGood (l .transfer) (l .base) n (length (setPlaces (l .places))) → LayingGood n l
-laying-good n l w g =
-    record { within = w; transfer = where-known (setPlaces (l .places)) (transferGood (l .transfer) (l .base) n (length (setPlaces (l .places)))) g }
-
-pub marking-good : (n : ℕ) (m : Marking) (p : ℕ) → setPlaces (m .places) ≡ p ∷ [] → p < n → MarkingGood n m
-marking-good n m p e h = record { within = subst (λ (ps : List ℕ). Within n ps) (sym e) (h, tt) }
-
 pub no-ask-words-good : (n : ℕ) → AskWordsGood n noAskWords
 unfolding noAskWords
 no-ask-words-good n = record { within = no-place-within n; short = omega arith; limited = omega arith }
@@ -128,10 +112,6 @@ unfolding writtenWith filledFrom
 no-places-written w rs el em =
     ap (λ (ps : List ℕ). filledFrom (Deeds.Token (w .marking .token)) 0 0 ps (laidOf (w .laying) rs)) em
     ∙ ap (λ (ps : List ℕ). filledFrom (Deeds.Transfer (w .laying .transfer)) (w .laying .base) 0 ps rs) el
-
-pub no-writing-written : (rs : List Record) → writtenWith noWriting rs ≡ rs
-unfolding noWriting noLaying noMarking
-no-writing-written rs = no-places-written noWriting rs no-places no-places
 
 -- a transfer alone is what its chain leaves
 pub laid-is-chain : (w : Writing) (c : Chain) (rs : List Record) → setPlaces (w .marking .places) ≡ [] → listOf (c .places) ≡ setPlaces (w .laying .places) → c .base ≡ w .laying .base
@@ -172,25 +152,4 @@ marked-is-packed w ps base rs el ep =
 
 -- ---- the first records cleared
 
-pub cleared-is-packed : (count : ℕ) (rs : List Record) → clearedTo count rs ≡ fillOf (record { places = packed (upFrom 0 count); base = 0; deed = Deeds.Clear }) rs
-unfolding clearedTo fillOf
-cleared-is-packed count rs = ap (λ (ps : List ℕ). filledFrom Deeds.Clear 0 0 ps rs) (sym (list-packed (upFrom 0 count)))
-
-pub cleared-none : (rs : List Record) → clearedTo 0 rs ≡ rs
-unfolding clearedTo upFrom filledFrom
-cleared-none rs = refl
-
-pub cleared-all : (rs : List Record) → clearedTo (length rs) rs ≡ replicate (length rs) blank
-cleared-all rs = cleared-is-packed (length rs) rs ∙ fill-clear 0 rs
-
 -- ---- what is seen
-
--- a question by words is the question of a list that has the same places
-pub seen-is-listed : (a : AskWords) (b : Ask) (rs : List Record) → listOf (b .places) ≡ setPlaces (a .places) → b .kind ≡ a .kind → b .length ≡ a .length → b .limit ≡ a .limit
-    → viewOf (seenFrom (a .kind) (a .length) (a .limit) 0 (setPlaces (a .places)) rs) ≡ viewOf (seenFrom (b .kind) (b .length) (b .limit) 0 (listOf (b .places)) rs)
-seen-is-listed a b rs ep ek el em = rw (ep, ek, el, em)
-
--- the two ways of saying that every place is below n
-pub within-set : (n : ℕ) (ps : List ℕ) → Listed.Within n ps → Within n ps
-within-set n [] w = tt
-within-set n (p ∷ ps) w = (w .0, within-set n ps (w .1))

@@ -17,8 +17,8 @@ use Rattle.common.specs.declared.kinds.EndpointType.{EndpointType}
 use Rattle.common.specs.declared.kinds.EndpointType.the-variants.{Control, Isochronous, Bulk, Interrupt}
 use Rattle.common.specs.Kinds.{isControl}
 use Rattle.descriptor.specs.declared.qtd.QueueTransferDescriptor.{QueueTransferDescriptor}
-use Rattle.pool.specs.declared.chain.Deed.{Deed}
-use Rattle.pool.specs.declared.chain.Deed.the-variants as Deeds
+use Rattle.pool.specs.Plain.{Deed}
+use Rattle.pool.specs.Plain as Deeds
 use Rattle.pool.specs.declared.laying.Laying.{Laying}
 use Rattle.pool.specs.declared.transfer.Transfer.{Transfer}
 use Rattle.pool.specs.Places.{upFrom}

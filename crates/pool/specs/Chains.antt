@@ -1,23 +1,23 @@
 -- What a request's descriptors say (`viewOf`), and what is written to the pool (`fillOf`).
-use Prim.Native.Nat.{ℕ, zero, suc, _+_, _-_, _*_, _/_, _≤_, _<_, _^_}
+use Prim.Native.Nat.{ℕ, suc, _+_, _-_, _*_, _/_, _≤_, _<_, _^_}
 use mathlib.Core.Bool.{Bool, true, false, not}
 use mathlib.Core.List.{List, [], _∷_, map}
-use lib.Dec.{eqb, leb}
+use lib.Dec.{eqb}
 use lib.ListN.{getD, set}
 use Rattle.common.specs.declared.kinds.EndpointType.{EndpointType}
 use Rattle.common.specs.declared.kinds.EndpointType.the-variants.{Control, Isochronous, Bulk, Interrupt}
 use Rattle.token.specs.EhciQtd.{active, errors, totalBytes}
 use Rattle.descriptor.specs.declared.qtd.QueueTransferDescriptor.{QueueTransferDescriptor}
 use Rattle.descriptor.specs.Slots.{zeroSlots}
-use Rattle.pool.specs.declared.chain.Ask.{Ask}
-use Rattle.pool.specs.declared.chain.Chain.{Chain}
-use Rattle.pool.specs.declared.chain.Deed.{Deed}
-use Rattle.pool.specs.declared.chain.Deed.the-variants as Deeds
+use Rattle.pool.specs.Plain.{Ask}
+use Rattle.pool.specs.Plain.{Chain}
+use Rattle.pool.specs.Plain.{Deed}
+use Rattle.pool.specs.Plain as Deeds
 use Rattle.pool.specs.declared.chain.View.{View}
 use Rattle.pool.specs.declared.transfer.Transfer.{Transfer}
 use Rattle.pool.specs.EhciChain.{follow}
 use Rattle.pool.specs.Places.{Within, listIf, listOf, packed}
-use Rattle.pool.specs.Transfers.{addressOf, requestedAt, recordAt, startGood}
+use Rattle.pool.specs.Transfers.{requestedAt, recordAt}
 
 -- the record of thirteen zero words
 abbrev pub blank : QueueTransferDescriptor
@@ -92,10 +92,6 @@ abbrev pub numberIf : Bool → ℕ → ℕ → ℕ
 numberIf true a b = a
 numberIf false a b = b
 
--- the index of the place after the k-th of n, k where none comes
-abbrev pub indexAfter : ℕ → ℕ → ℕ
-indexAfter n k = numberIf (leb n (k + 1)) k (k + 1)
-
 -- 0: every descriptor is inactive, none erring; 1: an error comes before any active one; 2: an active one comes first
 unfoldable pub standingOf : List Seen → ℕ
 standingOf [] = 0
@@ -154,14 +150,6 @@ deedGood Deeds.Leave base n count = Unit
 deedGood Deeds.Clear base n count = Unit
 deedGood (Deeds.Transfer t) base n count = transferGood t base n count
 deedGood (Deeds.Token w) base n count = Unit
-
--- what one turn asks: besides, the place to come, if any, has an address
-abbrev pub turnGood : Deed → ℕ → ℕ → ℕ → Type 0
-turnGood Deeds.Leave base k place = Unit
-turnGood Deeds.Clear base k place = Unit
-turnGood (Deeds.Transfer t) base k place =
-    (addressOf base place < 2 ^ 32) × (t .length ≤ 2 ^ 32 - t .address) × (8 ≤ 2 ^ 32 - t .setup) × startGood (t .kind) t k
-turnGood (Deeds.Token w) base k place = Unit
 
 pub record ChainGood (n : ℕ) (c : Chain) : Type 0 where
   pub few : c .places .count ≤ 256

@@ -1,3 +1,4 @@
+pub mod Plain
 pub mod EhciChain
 pub mod Places
 pub mod Transfers

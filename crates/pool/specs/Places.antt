@@ -4,7 +4,7 @@ use mathlib.Core.Bool.{Bool, true, false}
 use mathlib.Core.List.{List, [], _∷_, _++_}
 use lib.Dec.{eqb}
 use lib.ListN.{length, replicate, take}
-use Rattle.pool.specs.declared.places.Places.{Places}
+use Rattle.pool.specs.Plain.{Places}
 
 abbrev pub listIf : Bool → List ℕ → List ℕ → List ℕ
 listIf true a b = a

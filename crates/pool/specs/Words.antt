@@ -12,7 +12,7 @@ use Rattle.common.specs.Kinds.{isControl}
 use Rattle.descriptor.specs.declared.qtd.QueueTransferDescriptor.{QueueTransferDescriptor}
 use Rattle.pool.specs.declared.asked.AskWords.{AskWords}
 use Rattle.pool.specs.declared.asked.Folded.{Folded}
-use Rattle.pool.specs.declared.chain.Deed.the-variants as Deeds
+use Rattle.pool.specs.Plain as Deeds
 use Rattle.pool.specs.declared.laying.Laying.{Laying}
 use Rattle.pool.specs.declared.marking.Marking.{Marking}
 use Rattle.pool.specs.declared.transfer.Transfer.{Transfer}

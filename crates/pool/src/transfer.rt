@@ -1,14 +1,13 @@
 // A request's k-th descriptor.
 ghost use mathlib.Core.Path.{_≡_};
-ghost use Prim.Native.Nat.{_+_, _-_, _*_, _≤_, _^_};
+ghost use Prim.Native.Nat.{_-_, _*_, _≤_, _^_};
 ghost use Rattle.token.specs.Chunks.{chunkAt};
-ghost use Rattle.pool.specs.Transfers.{requestedAt, stageAt, chunkQtd, bareAt, startGood};
+ghost use Rattle.pool.specs.Transfers.{requestedAt, stageAt};
 use common::kinds::Direction;
 use common::kinds::EndpointType;
 use descriptor::qtd::QueueTransferDescriptor;
 use token::plan::DataTd;
 use token::plan::build_control_td_plan;
-use token::plan::chunk_token;
 use token::qtd::least;
 
 // `setup` is the address of the slot's setup packet.
@@ -69,34 +68,5 @@ pub fn stage_at(t: Transfer, k: u64) -> QueueTransferDescriptor
                 QueueTransferDescriptor::new(status, 0, 0)
             }
         }
-    }
-}
-
-// A chunk that starts inside the buffer.
-fn chunk_qtd(t: Transfer, k: u64, last: bool) -> QueueTransferDescriptor
-    requires { ⌜ t .length ≤ 2 ^ 32 - t .address ⌝ }
-    requires { ⌜ k * t .limit ≤ t .length ⌝ }
-    ensures { λ r. ⌜ r ≡ chunkQtd t k last ⌝ }
-{
-    let start = k * t.limit;
-    let bytes = least(t.limit, t.length - start);
-    let direction = t.direction;
-    let token = chunk_token(direction, bytes, last);
-    QueueTransferDescriptor::new(token, t.address + start, bytes)
-}
-
-// The k-th descriptor, whatever follows.
-pub fn bare_at(t: Transfer, k: u64, last: bool) -> QueueTransferDescriptor
-    requires { ⌜ t .length ≤ 2 ^ 32 - t .address ⌝ }
-    requires { ⌜ 8 ≤ 2 ^ 32 - t .setup ⌝ }
-    requires { ⌜ startGood (t .kind) t k ⌝ }
-    ensures { λ r. ⌜ r ≡ bareAt t k last ⌝ }
-{
-    let kind = t.kind;
-    match kind {
-        EndpointType::Control => stage_at(t, k),
-        EndpointType::Isochronous => chunk_qtd(t, k, last),
-        EndpointType::Bulk => chunk_qtd(t, k, last),
-        EndpointType::Interrupt => chunk_qtd(t, k, last),
     }
 }

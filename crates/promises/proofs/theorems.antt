@@ -31,3 +31,5 @@ pub mod WordsOnce
 pub mod WordsOpened
 pub mod WordsWrong
 pub mod Kept
+pub mod WordsPromises
+pub mod WordsRefusals

@@ -14,7 +14,7 @@ use Rattle.ehci.specs.declared.call.Call.{Call}
 use Rattle.ehci.specs.declared.call.Call.the-variants.{Collect}
 use Rattle.ehci.specs.declared.reply.Answered.{Answered}
 use Rattle.ehci.specs.Replies.{answeredNumber}
-use Rattle.promises.specs.Runs.{History, Machine, Opening, Turn, World, historyOf, turnOf, worldOf}
+use Rattle.promises.specs.Runs.{History, Run, Turn, turnBy}
 use Rattle.promises.specs.Events.{isCollected, rings}
 use Rattle.promises.specs.Bells.{Boundary, asked, bell, cancelled, collects, counted, isAnswered, isUp, kindAt, linked, newestId, none, number, parted, parting, partsOf, reads, someTurn, submits, unlinking, unlinksOf}
 
@@ -40,22 +40,18 @@ pub record RungAndAnswered (s : Settings) (h : History) (u c : ℕ) : Type 0 whe
 abbrev pub NineOn : ℕ → ℕ → Type 0
 NineOn start reading = 9 ≤ (reading % 16384 + (16384 - start % 16384)) % 16384
 
--- ---- of a machine m, the settings s, and the world w that an opening with them leaves
+-- ---- of a run from an opening with the settings s
 
--- a statement holds of a machine where it holds of each of its runs
-abbrev pub EveryRun : (Machine → Settings → World → Type 0) → Machine → Type 0
-EveryRun P m = (s : Settings) (w : World) → Opening s w → P m s w
-
-module _ (m : Machine) (s : Settings) (w : World) where
+module _ (s : Settings) (run : Run) where
   -- the history of the calls cs; one more call after them; what it answers
   abbrev pub past : List Call → History
-  past cs = historyOf m w cs
+  past cs = run .past cs
 
   abbrev pub turn : List Call → Call → Turn
-  turn cs c = turnOf (worldOf m w cs .rows) c (m (worldOf m w cs) c)
+  turn cs c = turnBy (run .now cs) c
 
   abbrev pub answerTo : List Call → Call → Answered
-  answerTo cs c = m (worldOf m w cs) c .reply .answer
+  answerTo cs c = run .now cs .does c .reply .answer
 
   -- the collect of k's request of that id collects it: 0, 10 or 11
   abbrev pub Collectable : List Call → ℕ → ℕ → Readings → Type 0
@@ -132,12 +128,12 @@ module _ (m : Machine) (s : Settings) (w : World) where
   -- up exactly while there is one; a note says that an acknowledgment has read the advance bit since the ring, and that only while it is up
   abbrev pub StateSays : Type 0
   StateSays = (cs : List Call)
-      → (asked s (past cs) ≡ counted s (past cs) + worldOf m w cs .state .unanswered)
-      × (worldOf m w cs .state .unanswered ≤ 32)
-      × (worldOf m w cs .state .doorbell ≡ flagNumber (isUp (bell s (past cs))))
-      × (worldOf m w cs .state .doorbell ≡ flagNumber (ltb 0 (worldOf m w cs .state .unanswered)))
-      × (worldOf m w cs .state .noted ≡ flagNumber (isAnswered (bell s (past cs))))
-      × (worldOf m w cs .state .noted ≤ worldOf m w cs .state .doorbell)
+      → (asked s (past cs) ≡ counted s (past cs) + run .now cs .view .unanswered)
+      × (run .now cs .view .unanswered ≤ 32)
+      × (run .now cs .view .doorbell ≡ flagNumber (isUp (bell s (past cs))))
+      × (run .now cs .view .doorbell ≡ flagNumber (ltb 0 (run .now cs .view .unanswered)))
+      × (run .now cs .view .noted ≡ flagNumber (isAnswered (bell s (past cs))))
+      × (run .now cs .view .noted ≤ run .now cs .view .doorbell)
 
   -- the call c, after the calls cs, unlinks k when n unlinks are unanswered: n is at most 31; and after any calls ds that do not collect k,
   -- k's request can be collected where n + 1 advances or more have been counted since, and nowhere else

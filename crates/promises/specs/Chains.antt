@@ -9,9 +9,8 @@ use Rattle.descriptor.specs.declared.qtd.QueueTransferDescriptor.{QueueTransfer
 use Rattle.pool.specs.Chains.{blank, isActive, isErring}
 use Rattle.settings.specs.declared.settings.Settings.{Settings}
 use Rattle.controller.specs.declared.lent.Readings.{Readings}
-use Rattle.ehci.specs.declared.call.Call.{Call}
 use Rattle.ehci.specs.declared.call.Call.the-variants.{Cancel, Collect}
-use Rattle.promises.specs.Runs.{Always, History, Machine, Turn, World, turnOf}
+use Rattle.promises.specs.Runs.{Always, History, Moment, Promise, turnBy}
 use Rattle.promises.specs.Walks.{AtRingHead, Terminated, frameEnd, frameWalk, isIn, ringEnd, ringWalk}
 use Rattle.promises.specs.Events.{Other, Parts, Unlinks, event}
 use Rattle.promises.specs.Uses.{Use, frameSlots, ringSlots, uses}
@@ -27,19 +26,15 @@ isLinked s h k = isIn k (ringSlots s h) || isIn k (frameSlots s h)
 
 -- the ring's walk is the linked control and bulk heads, newest first, and back to the ring head; every frame entry's walk is the linked
 -- interrupt heads, newest first, and terminates; and each linked head is that of an uncollected request
-pub record Walked (s : Settings) (h : History) (w : World) : Type 0 where
+pub record Walked (s : Settings) (h : History) (w : Moment) : Type 0 where
   pub ring : ringWalk s (w .rows) ≡ headPlaces (ringSlots s h)
   pub ring-ends : ringEnd s (w .rows) ≡ AtRingHead
   pub frames : (f : ℕ) → f < 1024 → frameWalk s (w .rows) f ≡ headPlaces (frameSlots s h)
   pub frames-end : (f : ℕ) → f < 1024 → frameEnd s (w .rows) f ≡ Terminated
   pub uncollected : (k : ℕ) → isLinked s h k ≡ true → isIn k (map (λ u. u .slot) (uses s h)) ≡ true
 
-abbrev pub ChainsWalked : Machine → Type 0
-ChainsWalked m = Always Walked m
-
--- one more call, as its caller sees it
-abbrev pub turnBy : Machine → World → Call → Turn
-turnBy m w c = turnOf (w .rows) c (m w c)
+abbrev pub ChainsWalked : Promise
+ChainsWalked = Always Walked
 
 -- "if, in order, every descriptor is inactive, or an error comes before any active one"
 abbrev pub isFinished : List QueueTransferDescriptor → List ℕ → Bool
@@ -49,18 +44,18 @@ isFinished pool (p ∷ ps) =
 
 -- a cancel of an uncollected request is done, and its head leaves the schedule that it is in; a collect of it while it is linked answers
 -- 9, and its head leaves if it is finished
-pub record Detaches (m : Machine) (s : Settings) (h : History) (w : World) (u : Use) : Type 0 where
-  pub cancels : (readings : Readings) → numberAt m w (Cancel (u .slot) (u .id) readings) ≡ 0
-  pub waits : (readings : Readings) → isLinked s h (u .slot) ≡ true → numberAt m w (Collect (u .slot) (u .id) readings) ≡ 9
+pub record Detaches (s : Settings) (h : History) (w : Moment) (u : Use) : Type 0 where
+  pub cancels : (readings : Readings) → numberAt w (Cancel (u .slot) (u .id) readings) ≡ 0
+  pub waits : (readings : Readings) → isLinked s h (u .slot) ≡ true → numberAt w (Collect (u .slot) (u .id) readings) ≡ 9
   pub leaves-ring : (readings : Readings) → isIn (u .slot) (ringSlots s h) ≡ true
-      → event s (turnBy m w (Cancel (u .slot) (u .id) readings)) ≡ Unlinks (u .slot)
+      → event s (turnBy w (Cancel (u .slot) (u .id) readings)) ≡ Unlinks (u .slot)
   pub leaves-frames : (readings : Readings) → isIn (u .slot) (frameSlots s h) ≡ true
-      → event s (turnBy m w (Cancel (u .slot) (u .id) readings)) ≡ Parts (u .slot) (readings .frame)
+      → event s (turnBy w (Cancel (u .slot) (u .id) readings)) ≡ Parts (u .slot) (readings .frame)
   pub ends-ring : (readings : Readings) → isIn (u .slot) (ringSlots s h) ≡ true
-      → event s (turnBy m w (Collect (u .slot) (u .id) readings)) ≡ cond (isFinished (w .rows .pool) (u .places)) (Unlinks (u .slot)) Other
+      → event s (turnBy w (Collect (u .slot) (u .id) readings)) ≡ cond (isFinished (w .rows .pool) (u .places)) (Unlinks (u .slot)) Other
   pub ends-frames : (readings : Readings) → isIn (u .slot) (frameSlots s h) ≡ true
-      → event s (turnBy m w (Collect (u .slot) (u .id) readings))
+      → event s (turnBy w (Collect (u .slot) (u .id) readings))
       ≡ cond (isFinished (w .rows .pool) (u .places)) (Parts (u .slot) (readings .frame)) Other
 
-abbrev pub NoDetachFails : Machine → Type 0
-NoDetachFails m = Always (λ s h w. Every (Detaches m s h w) (uses s h)) m
+abbrev pub NoDetachFails : Promise
+NoDetachFails = Always (λ s h w. Every (Detaches s h w) (uses s h))

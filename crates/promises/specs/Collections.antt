@@ -13,7 +13,7 @@ use Rattle.settings.specs.declared.settings.Settings.{Settings}
 use Rattle.controller.specs.declared.lent.Readings.{Readings}
 use Rattle.ehci.specs.declared.call.Call.the-variants.{Collect}
 use Rattle.ehci.specs.Replies.{answeredValues}
-use Rattle.promises.specs.Runs.{Always, History, Machine, Rows, World}
+use Rattle.promises.specs.Runs.{Always, History, Moment, Promise, Rows}
 use Rattle.promises.specs.Events.{isCollected}
 use Rattle.promises.specs.Uses.{Use, isOf, uses}
 use Rattle.promises.specs.Bells.{cancelled}
@@ -76,14 +76,13 @@ those k id [] = []
 those k id (u ∷ us) = cond (isOf k id u) (u ∷ those k id us) (those k id us)
 
 -- one request of that slot and id is uncollected, and the answer has the number and the values that are due to it
-pub record Answers (m : Machine) (s : Settings) (h : History) (w : World) (k id : ℕ) (readings : Readings) : Type 0 where
+pub record Answers (s : Settings) (h : History) (w : Moment) (k id : ℕ) (readings : Readings) : Type 0 where
   pub uncollected : Use
   pub only : those k id (uses s h) ≡ uncollected ∷ []
-  pub number-is : numberAt m w (Collect k id readings) ≡ dueTo s h (w .rows) uncollected .number
-  pub values-are : answeredValues (m w (Collect k id readings) .reply .answer) ≡ dueTo s h (w .rows) uncollected .values
+  pub number-is : numberAt w (Collect k id readings) ≡ dueTo s h (w .rows) uncollected .number
+  pub values-are : answeredValues (w .does (Collect k id readings) .reply .answer) ≡ dueTo s h (w .rows) uncollected .values
 
-abbrev pub CollectsDue : Machine → Type 0
-CollectsDue m =
+abbrev pub CollectsDue : Promise
+CollectsDue =
     Always
-    (λ s h w. (k id : ℕ) (readings : Readings) → isCollected (m w (Collect k id readings) .reply .answer) ≡ true → Answers m s h w k id readings)
-    m
+    (λ s h w. (k id : ℕ) (readings : Readings) → isCollected (w .does (Collect k id readings) .reply .answer) ≡ true → Answers s h w k id readings)

@@ -15,7 +15,7 @@ use Rattle.controller.specs.declared.lent.Readings.{Readings}
 use Rattle.request.specs.declared.judge.TransferRequest.{TransferRequest}
 use Rattle.ehci.specs.declared.call.Call.the-variants.{Submit}
 use Rattle.ehci.specs.Replies.{answeredNumber}
-use Rattle.promises.specs.Runs.{Always, History, Machine, Rows, World, rowsOf}
+use Rattle.promises.specs.Runs.{Always, History, Moment, Promise, Rows, rowsOf}
 use Rattle.promises.specs.Walks.{chainWalk}
 
 -- EHCI 3.5.3, 3.5.4: byte j of a descriptor, by its page words from the token's current page on, with upper slots times 2^32
@@ -53,10 +53,10 @@ abbrev pub recordsMet : Settings → Rows → ℕ → List QueueTransferDescript
 recordsMet s rows k = map (λ p. getD (rows .pool) p blank) (chainWalk s rows k)
 
 -- at the exit of each accepted submit they address the call's own buffer, byte for byte: each byte once, in order, and no other
-abbrev pub Covered : Machine → Settings → History → World → Type 0
-Covered m s h w =
-    (k : ℕ) (t : TransferRequest) (readings : Readings) → answeredNumber (m w (Submit k t readings) .reply .answer) ≡ 0
-    → addressed (dataOf (t .kind) (recordsMet s (rowsOf (m w (Submit k t readings))) k)) ≡ upFrom (t .address) (t .length)
+abbrev pub Covered : Settings → History → Moment → Type 0
+Covered s h w =
+    (k : ℕ) (t : TransferRequest) (readings : Readings) → answeredNumber (w .does (Submit k t readings) .reply .answer) ≡ 0
+    → addressed (dataOf (t .kind) (recordsMet s (rowsOf (w .does (Submit k t readings))) k)) ≡ upFrom (t .address) (t .length)
 
-abbrev pub Coverage : Machine → Type 0
-Coverage m = Always (Covered m) m
+abbrev pub Coverage : Promise
+Coverage = Always Covered

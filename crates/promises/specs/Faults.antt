@@ -8,7 +8,7 @@ use Rattle.settings.specs.declared.settings.Settings.{Settings}
 use Rattle.schedule.specs.Bell.{framesPassed, frameOf}
 use Rattle.request.specs.declared.judge.TransferRequest.{TransferRequest}
 use Rattle.ehci.specs.declared.call.Call.{Call}
-use Rattle.promises.specs.Runs.{History, Machine, Turn, World}
+use Rattle.promises.specs.Runs.{History, Promise, Turn}
 use Rattle.promises.specs.Walks.{chainWalk, isIn}
 use Rattle.promises.specs.Events.{Event, Other, Reads, Drains, Submits, Unlinks, Parts, Collects, event, rings}
 use Rattle.promises.specs.Bells.{isReads}
@@ -97,7 +97,7 @@ unfoldable pub mayRead : Settings → ℕ → History → Bool
 mayRead s place h = isHeld place (holds s h)
 
 -- no submit is ever given a place of which it holds
-abbrev pub NeverGiven : Machine → Settings → World → Type 0
-NeverGiven m s w = (cs : List Call) (c : Call) (k id : ℕ) (r : TransferRequest) (place : ℕ)
-    → event s (turn m s w cs c) ≡ Submits k id r → isIn place (chainWalk s (turn m s w cs c .after) k) ≡ true
-    → mayRead s place (past m s w cs) ≡ false
+abbrev pub NeverGiven : Promise
+NeverGiven s run = (cs : List Call) (c : Call) (k id : ℕ) (r : TransferRequest) (place : ℕ)
+    → event s (turn s run cs c) ≡ Submits k id r → isIn place (chainWalk s (turn s run cs c .after) k) ≡ true
+    → mayRead s place (past s run cs) ≡ false

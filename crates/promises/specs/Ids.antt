@@ -9,12 +9,11 @@ use Rattle.controller.specs.declared.lent.Readings.{Readings}
 use Rattle.request.specs.declared.judge.TransferRequest.{TransferRequest}
 use Rattle.ehci.specs.declared.call.Call.{Call}
 use Rattle.ehci.specs.declared.call.Call.the-variants.{Cancel, Collect}
-use Rattle.promises.specs.Runs.{Always, History, Machine, World}
+use Rattle.promises.specs.Runs.{Always, History, Moment, Promise, turnBy}
 use Rattle.promises.specs.Events.{Event, Other, Reads, Drains, Submits, Unlinks, Parts, Collects, event}
 use Rattle.promises.specs.Opened.{Change, ClosesSlot, Halted, OpensSlot, Running, Same, change, isBusy, isShut, slotIn}
 use Rattle.promises.specs.Uses.{Use, isOf, uses}
 use Rattle.promises.specs.Rooms.{numberAt}
-use Rattle.promises.specs.Chains.{turnBy}
 
 abbrev pub following : ℕ → ℕ
 following id = cond (eqb id (2 ^ 64 - 1)) 1 (id + 1)
@@ -43,9 +42,9 @@ nextId s k [] = 1
 nextId s k (t ∷ past) = takenBy k (event s t) (startBy k (change t) (nextId s k past))
 
 -- after any calls, an accepted submit's id is the one that is due
-abbrev pub IdsInTurn : Machine → Type 0
-IdsInTurn m =
-    Always (λ s h w. (c : Call) (k id : ℕ) (r : TransferRequest) → event s (turnBy m w c) ≡ Submits k id r → id ≡ nextId s k h) m
+abbrev pub IdsInTurn : Promise
+IdsInTurn =
+    Always (λ s h w. (c : Call) (k id : ℕ) (r : TransferRequest) → event s (turnBy w c) ≡ Submits k id r → id ≡ nextId s k h)
 
 -- slot k has an uncollected request of that id
 abbrev pub isHeldAs : ℕ → ℕ → List Use → Bool
@@ -54,15 +53,15 @@ isHeldAs k id (u ∷ us) = isOf k id u || isHeldAs k id us
 
 -- "Cancel: 3 if not open, nothing uncollected, or wrong id": 0 exactly where the slot has an uncollected request of that id, so that an id
 -- of a request that was collected hits no later one
-abbrev pub CancelsById : Machine → Type 0
-CancelsById m =
-    Always (λ s h w. (k id : ℕ) (readings : Readings) → numberAt m w (Cancel k id readings) ≡ cond (isHeldAs k id (uses s h)) 0 3) m
+abbrev pub CancelsById : Promise
+CancelsById =
+    Always (λ s h w. (k id : ℕ) (readings : Readings) → numberAt w (Cancel k id readings) ≡ cond (isHeldAs k id (uses s h)) 0 3)
 
 -- "Collect: 3 if not open; 9 if nothing uncollected; 3 on a wrong id."
-pub record ById (m : Machine) (s : Settings) (h : History) (w : World) (k id : ℕ) (readings : Readings) : Type 0 where
-  pub not-open : isShut (slotIn k h) ≡ true → numberAt m w (Collect k id readings) ≡ 3
-  pub nothing : isShut (slotIn k h) ≡ false → isBusy s h k ≡ false → numberAt m w (Collect k id readings) ≡ 9
-  pub wrong-id : isBusy s h k ≡ true → isHeldAs k id (uses s h) ≡ false → numberAt m w (Collect k id readings) ≡ 3
+pub record ById (s : Settings) (h : History) (w : Moment) (k id : ℕ) (readings : Readings) : Type 0 where
+  pub not-open : isShut (slotIn k h) ≡ true → numberAt w (Collect k id readings) ≡ 3
+  pub nothing : isShut (slotIn k h) ≡ false → isBusy s h k ≡ false → numberAt w (Collect k id readings) ≡ 9
+  pub wrong-id : isBusy s h k ≡ true → isHeldAs k id (uses s h) ≡ false → numberAt w (Collect k id readings) ≡ 3
 
-abbrev pub CollectsById : Machine → Type 0
-CollectsById m = Always (λ s h w. (k id : ℕ) (readings : Readings) → ById m s h w k id readings) m
+abbrev pub CollectsById : Promise
+CollectsById = Always (λ s h w. (k id : ℕ) (readings : Readings) → ById s h w k id readings)

@@ -12,7 +12,7 @@ use Rattle.common.specs.Kinds.{isIsochronous}
 use Rattle.pipe.specs.declared.endpoints.Endpoint.{Endpoint}
 use Rattle.pipe.specs.declared.endpoints.Endpoint.the-variants.{Closed, Idle, Linked, Unlinking}
 use Rattle.settings.specs.declared.settings.Settings.{Settings}
-use Rattle.state.specs.declared.state.Ehci.{Ehci}
+use Rattle.state.specs.Plain.{Ehci}
 use Rattle.common.specs.Answers.{Check, Verdict, first, passed, refusalNumber, refused}
 use Rattle.controller.specs.Readers.{isUncollected}
 use Rattle.controller.specs.declared.lent.Readings.{Readings}
@@ -22,7 +22,7 @@ use Rattle.ehci.specs.declared.call.Call.{Call}
 use Rattle.ehci.specs.declared.call.Call.the-variants.{StartBringUp, BringUpStep, AllocateAddress, OpenEndpoint, Close, SetAddress, SetPacketSize, Submit, Writeback, Cancel, Collect, Acknowledge, Drain, Rearm, Enable, Disable}
 use Rattle.ehci.specs.declared.reply.Answered.{Answered}
 use Rattle.ehci.specs.Replies.{answeredNumber, answeredValues}
-use Rattle.promises.specs.Runs.{Always, History, Machine, Turn, World}
+use Rattle.promises.specs.Runs.{Always, History, Moment, Promise, Turn}
 use Rattle.promises.specs.SubmitOrder.{beforeLack, submitOrder}
 use Rattle.promises.specs.Walks.{isIn}
 use Rattle.promises.specs.Events.{firstIn, isDone}
@@ -140,12 +140,11 @@ verdictNumber passed = 0
 verdictNumber (refused r) = refusalNumber r
 
 -- in every reached world a submit answers what the history says: 3, 8, 4, 5, 3, 1 or 6 exactly where it is due, and 0 where none is
-abbrev pub SubmitVerdict : Machine → Type 0
-SubmitVerdict m =
+abbrev pub SubmitVerdict : Promise
+SubmitVerdict =
     Always
     (λ s h w. (k : ℕ) (t : TransferRequest) (readings : Readings)
-    → answeredNumber (m w (Submit k t readings) .reply .answer) ≡ verdictNumber (first (submitAsks s h k t)))
-    m
+    → answeredNumber (w .does (Submit k t readings) .reply .answer) ≡ verdictNumber (first (submitAsks s h k t)))
 
 -- ---- the law that ties the state's fields to the history
 
@@ -159,10 +158,10 @@ abbrev pub kindNow : Ehci → ℕ → SlotKind
 kindNow s k = kindIn (endpointAt s k)
 
 -- in every reached world: which slots are open, and of which kind; whether the controller runs; which slots have an uncollected request
-pub record Tied (s : Settings) (h : History) (w : World) : Type 0 where
-  pub slots : (k : ℕ) → slotIn k h ≡ kindNow (w .state) k
-  pub runs : w .state .running ≡ flagNumber (runsIn h)
-  pub held : (k : ℕ) → isBusy s h k ≡ isUncollected (w .state) k
+pub record Tied (s : Settings) (h : History) (w : Moment) : Type 0 where
+  pub slots : (k : ℕ) → slotIn k h ≡ kindNow (w .view) k
+  pub runs : w .view .running ≡ flagNumber (runsIn h)
+  pub held : (k : ℕ) → isBusy s h k ≡ isUncollected (w .view) k
 
-abbrev pub FieldsTied : Machine → Type 0
-FieldsTied m = Always Tied m
+abbrev pub FieldsTied : Promise
+FieldsTied = Always Tied

@@ -1,5 +1,5 @@
 -- The controller's registers, over any calls: every write of every call, from the history; what is acknowledged, pending and drained; and
--- which turns ring. Statements of any machine; at the end, the law that ties the state to them.
+-- which turns ring. Promises; at the end, the law that ties the state to them.
 use Prim.Native.Nat.{ℕ, _+_, _<_}
 use mathlib.Core.Bool.{Bool, true, false, _&&_, not, cond}
 use mathlib.Core.List.{List, [], _∷_}
@@ -16,11 +16,10 @@ use Rattle.ehci.specs.declared.call.Call.the-variants.{StartBringUp, BringUpSte
 use Rattle.ehci.specs.declared.call.InterruptReadings.{InterruptReadings}
 use Rattle.ehci.specs.declared.reply.Answered.{Answered}
 use Rattle.ehci.specs.Replies.{answeredNumber, answeredValues}
-use Rattle.promises.specs.Runs.{Always, History, Machine, Turn, World}
+use Rattle.promises.specs.Runs.{Always, History, Moment, Promise, Turn, turnBy}
 use Rattle.promises.specs.Events as E
 use Rattle.promises.specs.Events.{event, isDone, rings}
 use Rattle.promises.specs.Bells.{Bell, Quiet, asked, bell, counted, isAnswered, isUp}
-use Rattle.promises.specs.Chains.{turnBy}
 
 -- ---- what a call asks of the registers, with what it has read of them: one line a call
 
@@ -222,8 +221,8 @@ writesFor s h t Enables = cond (isAccepted t) (usbintr 0x27) []
 writesFor s h t Disables = cond (isAccepted t) (usbintr 0) []
 
 -- after any calls, what any next call writes: these, in this order, and nothing else
-abbrev pub WritesExactly : Machine → Type 0
-WritesExactly m = Always (λ s h w. (c : Call) → turnBy m w c .wrote ≡ writesFor s h (turnBy m w c) (accessOf c)) m
+abbrev pub WritesExactly : Promise
+WritesExactly = Always (λ s h w. (c : Call) → turnBy w c .wrote ≡ writesFor s h (turnBy w c) (accessOf c))
 
 -- ---- so USBSTS
 
@@ -245,12 +244,12 @@ statusFor h t Rearms = []
 statusFor h t Enables = []
 statusFor h t Disables = []
 
-abbrev pub StatusAcknowledged : Machine → Type 0
-StatusAcknowledged m = Always (λ s h w. (c : Call) → valuesAt 4 (turnBy m w c .wrote) ≡ statusFor h (turnBy m w c) (accessOf c)) m
+abbrev pub StatusAcknowledged : Promise
+StatusAcknowledged = Always (λ s h w. (c : Call) → valuesAt 4 (turnBy w c .wrote) ≡ statusFor h (turnBy w c) (accessOf c))
 
 -- and no ring is out while bring-up is begun
-abbrev pub QuietBringUp : Machine → Type 0
-QuietBringUp m = Always (λ s h w. (readIn h ≡ 0 → ⊥) → bell s h ≡ Quiet) m
+abbrev pub QuietBringUp : Promise
+QuietBringUp = Always (λ s h w. (readIn h ≡ 0 → ⊥) → bell s h ≡ Quiet)
 
 -- ---- so the doorbell
 
@@ -260,12 +259,12 @@ ringCount (x ∷ xs) = flagNumber (isRing x) + ringCount xs
 
 -- a turn rings once or not at all: an unlink with no ring out before it rings, and a drain that counts with unlinks left, and nothing else;
 -- and after it an unlink is unanswered
-pub record RingsNow (m : Machine) (s : Settings) (h : History) (w : World) (c : Call) : Type 0 where
-  pub once : ringCount (turnBy m w c .wrote) ≡ flagNumber (ringsBy s h (turnBy m w c))
-  pub owed : rings (turnBy m w c) ≡ true → counted s (turnBy m w c ∷ h) < asked s (turnBy m w c ∷ h)
+pub record RingsNow (s : Settings) (h : History) (w : Moment) (c : Call) : Type 0 where
+  pub once : ringCount (turnBy w c .wrote) ≡ flagNumber (ringsBy s h (turnBy w c))
+  pub owed : rings (turnBy w c) ≡ true → counted s (turnBy w c ∷ h) < asked s (turnBy w c ∷ h)
 
-abbrev pub RingsInTurn : Machine → Type 0
-RingsInTurn m = Always (λ s h w. (c : Call) → RingsNow m s h w c) m
+abbrev pub RingsInTurn : Promise
+RingsInTurn = Always (λ s h w. (c : Call) → RingsNow s h w c)
 
 -- ---- what is answered
 
@@ -274,27 +273,27 @@ abbrev pub eventIn : ℕ → List ℕ
 eventIn p =
     cond (eqb p 0) (0 ∷ 0 ∷ []) (cond (anyOf p 4) (1 ∷ 0 ∷ []) (cond (anyOf p 0x23) (2 ∷ 1 ∷ []) (3 ∷ 0 ∷ [])))
 
-abbrev pub Answers : Machine → World → Call → List ℕ → Type 0
-Answers m w c vs = (answeredNumber (m w c .reply .answer) ≡ 0) × (answeredValues (m w c .reply .answer) ≡ vs)
+abbrev pub Answers : Moment → Call → List ℕ → Type 0
+Answers w c vs = (answeredNumber (w .does c .reply .answer) ≡ 0) × (answeredValues (w .does c .reply .answer) ≡ vs)
 
 -- "0 .. answers no, else yes"; a drain by what is pending; the others 0 alone
-pub record InterruptsNow (m : Machine) (h : History) (w : World) : Type 0 where
-  pub acknowledges : (x : InterruptReadings) → Answers m w (Acknowledge x) (flagNumber (not (eqb (acknowledged x) 0)) ∷ [])
-  pub drains-pending : (v : ℕ) → Answers m w (Drain v) (eventIn (pendingIn h))
-  pub rearms : Answers m w Rearm []
-  pub enables : Answers m w Enable []
-  pub disables : Answers m w Disable []
+pub record InterruptsNow (h : History) (w : Moment) : Type 0 where
+  pub acknowledges : (x : InterruptReadings) → Answers w (Acknowledge x) (flagNumber (not (eqb (acknowledged x) 0)) ∷ [])
+  pub drains-pending : (v : ℕ) → Answers w (Drain v) (eventIn (pendingIn h))
+  pub rearms : Answers w Rearm []
+  pub enables : Answers w Enable []
+  pub disables : Answers w Disable []
 
-abbrev pub InterruptsAnswered : Machine → Type 0
-InterruptsAnswered m = Always (λ s h w. InterruptsNow m h w) m
+abbrev pub InterruptsAnswered : Promise
+InterruptsAnswered = Always (λ s h w. InterruptsNow h w)
 
 -- ---- the law that ties the state's fields to the history
 
-pub record Kept (h : History) (w : World) : Type 0 where
-  pub pending : w .state .pending ≡ pendingIn h
-  pub masked : w .state .masked ≡ maskedIn h
-  pub enabled : w .state .enabled ≡ flagNumber (flagIn h)
-  pub step : w .state .step ≡ readIn h
+pub record Kept (h : History) (w : Moment) : Type 0 where
+  pub pending : w .view .pending ≡ pendingIn h
+  pub masked : w .view .masked ≡ maskedIn h
+  pub enabled : w .view .enabled ≡ flagNumber (flagIn h)
+  pub step : w .view .step ≡ readIn h
 
-abbrev pub RegistersTied : Machine → Type 0
-RegistersTied m = Always (λ s h w. Kept h w) m
+abbrev pub RegistersTied : Promise
+RegistersTied = Always (λ s h w. Kept h w)

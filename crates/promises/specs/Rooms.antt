@@ -17,14 +17,14 @@ use Rattle.request.specs.declared.judge.TransferRequest.{TransferRequest}
 use Rattle.ehci.specs.declared.call.Call.{Call}
 use Rattle.ehci.specs.declared.call.Call.the-variants.{Submit, Writeback}
 use Rattle.ehci.specs.Replies.{answeredNumber}
-use Rattle.promises.specs.Runs.{Always, History, Machine, Turn, World, turnOf}
+use Rattle.promises.specs.Runs.{Always, History, Moment, Promise, Turn, turnBy}
 use Rattle.promises.specs.Uses.{Use, needOfUse, needs, uses}
 use Rattle.promises.specs.Walks.{Terminated, chainEnd, chainWalk}
 use Rattle.promises.specs.Opened.{beforeRoom, wanted}
 
 -- the number that a call answers
-abbrev pub numberAt : Machine → World → Call → ℕ
-numberAt m w c = answeredNumber (m w c .reply .answer)
+abbrev pub numberAt : Moment → Call → ℕ
+numberAt w c = answeredNumber (w .does c .reply .answer)
 
 abbrev pub Every : (Use → Type 0) → List Use → Type 0
 Every P [] = Unit {0}
@@ -41,17 +41,17 @@ Fits s h t = wanted s h t ≤ s .descriptors
 
 -- free descriptors equal D minus the sum of the needs; a submit answers 6 only where the room lacks and 0 only where it does not; and
 -- where the history passes every earlier check, it answers 6 or 0 by the room alone
-pub record Room (m : Machine) (s : Settings) (h : History) (w : World) : Type 0 where
-  pub free : freeCount (w .state) + needs s (uses s h) ≡ s .descriptors
-  pub six-lacks : (k : ℕ) (t : TransferRequest) (readings : Readings) → numberAt m w (Submit k t readings) ≡ 6 → Lacks s h t
-  pub zero-fits : (k : ℕ) (t : TransferRequest) (readings : Readings) → numberAt m w (Submit k t readings) ≡ 0 → Fits s h t
+pub record Room (s : Settings) (h : History) (w : Moment) : Type 0 where
+  pub free : freeCount (w .view) + needs s (uses s h) ≡ s .descriptors
+  pub six-lacks : (k : ℕ) (t : TransferRequest) (readings : Readings) → numberAt w (Submit k t readings) ≡ 6 → Lacks s h t
+  pub zero-fits : (k : ℕ) (t : TransferRequest) (readings : Readings) → numberAt w (Submit k t readings) ≡ 0 → Fits s h t
   pub lacks-six : (k : ℕ) (t : TransferRequest) (readings : Readings) → beforeRoom s h k t ≡ passed → Lacks s h t
-      → numberAt m w (Submit k t readings) ≡ 6
+      → numberAt w (Submit k t readings) ≡ 6
   pub fits-zero : (k : ℕ) (t : TransferRequest) (readings : Readings) → beforeRoom s h k t ≡ passed → Fits s h t
-      → numberAt m w (Submit k t readings) ≡ 0
+      → numberAt w (Submit k t readings) ≡ 0
 
-abbrev pub RoomExact : Machine → Type 0
-RoomExact m = Always (Room m) m
+abbrev pub RoomExact : Promise
+RoomExact = Always Room
 
 -- ---- exclusive places
 
@@ -83,13 +83,13 @@ RecordStays t p = (recordAfter t p ≡ recordBefore t p) ⊎ TokenWritten t p
 
 -- no place is in two uncollected requests and none twice in one; of their records any next call changes only the token of the place
 -- that it writes back
-pub record Exclusive (m : Machine) (s : Settings) (h : History) (w : World) : Type 0 where
+pub record Exclusive (s : Settings) (h : History) (w : Moment) : Type 0 where
   pub distinct : Distinct (placesInUse (uses s h))
   pub within : Within (s .descriptors) (placesInUse (uses s h))
-  pub records : (c : Call) → Each (RecordStays (turnOf (w .rows) c (m w c))) (placesInUse (uses s h))
+  pub records : (c : Call) → Each (RecordStays (turnBy w c)) (placesInUse (uses s h))
 
-abbrev pub ExclusivePlaces : Machine → Type 0
-ExclusivePlaces m = Always (Exclusive m) m
+abbrev pub ExclusivePlaces : Promise
+ExclusivePlaces = Always Exclusive
 
 -- ---- chains of requests
 
@@ -111,12 +111,12 @@ untold d = withToken d 0
 
 -- from its overlay on, a request's chain meets the places of its submit and terminates; they are as many as its need, and the j-th
 -- record there is its j-th descriptor, but for the token
-pub record Led (s : Settings) (w : World) (u : Use) : Type 0 where
+pub record Led (s : Settings) (w : Moment) (u : Use) : Type 0 where
   pub leads : chainWalk s (w .rows) (u .slot) ≡ u .places
   pub ends : chainEnd s (w .rows) (u .slot) ≡ Terminated
   pub as-many : length (u .places) ≡ needOfUse s u
   pub in-order : (j : ℕ) → j < length (u .places)
       → untold (getD (w .rows .pool) (getD (u .places) j 0) blank) ≡ untold (recordAt (transferFor s u) j (drop (suc j) (u .places)) (s .pool))
 
-abbrev pub ChainsLead : Machine → Type 0
-ChainsLead m = Always (λ s h w. Every (Led s w) (uses s h)) m
+abbrev pub ChainsLead : Promise
+ChainsLead = Always (λ s h w. Every (Led s w) (uses s h))

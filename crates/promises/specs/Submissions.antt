@@ -22,7 +22,7 @@ use Rattle.request.specs.declared.judge.TransferRequest.{TransferRequest}
 use Rattle.ehci.specs.declared.call.Call.{Call}
 use Rattle.ehci.specs.declared.call.Call.the-variants.{Collect, Submit, Writeback}
 use Rattle.ehci.specs.Replies.{answeredNumber}
-use Rattle.promises.specs.Runs.{Always, History, Machine, Rows, Turn, World, rowsOf}
+use Rattle.promises.specs.Runs.{Always, History, Moment, Promise, Rows, Turn, rowsOf}
 use Rattle.promises.specs.Events.{Submits, event, isCollected}
 use Rattle.promises.specs.Uses.{Use, uses}
 use Rattle.promises.specs.Bells.{submits}
@@ -139,31 +139,29 @@ pub record Submitted (s : Settings) (rows : Rows) (k : ℕ) (t : TransferRequest
   pub alternate-is : wordAt rows k 5 ≡ 1
   pub token-is : wordAt rows k 6 ≡ 0
 
-abbrev pub SubmitsPlanned : Machine → Type 0
-SubmitsPlanned m =
+abbrev pub SubmitsPlanned : Promise
+SubmitsPlanned =
     Always
-    (λ s h w. (k : ℕ) (t : TransferRequest) (readings : Readings) → numberAt m w (Submit k t readings) ≡ 0
-    → Submitted s (rowsOf (m w (Submit k t readings))) k t)
-    m
+    (λ s h w. (k : ℕ) (t : TransferRequest) (readings : Readings) → numberAt w (Submit k t readings) ≡ 0
+    → Submitted s (rowsOf (w .does (Submit k t readings))) k t)
 
 -- ---- until it is collected
 
 -- any next call leaves the setup packet of an uncollected request; an accepted writeback gives its place's record the token. That no
 -- other call changes such a record is `ExclusivePlaces`
-pub record Stays (m : Machine) (s : Settings) (h : History) (w : World) : Type 0 where
-  pub packets : (c : Call) → Every (λ u. packetAt (rowsOf (m w c)) (u .slot) ≡ packetAt (w .rows) (u .slot)) (uses s h)
-  pub written : (p token : ℕ) → numberAt m w (Writeback p token) ≡ 0
-      → getD (rowsOf (m w (Writeback p token)) .pool) p blank ≡ withToken (getD (w .rows .pool) p blank) token
+pub record Stays (s : Settings) (h : History) (w : Moment) : Type 0 where
+  pub packets : (c : Call) → Every (λ u. packetAt (rowsOf (w .does c)) (u .slot) ≡ packetAt (w .rows) (u .slot)) (uses s h)
+  pub written : (p token : ℕ) → numberAt w (Writeback p token) ≡ 0
+      → getD (rowsOf (w .does (Writeback p token)) .pool) p blank ≡ withToken (getD (w .rows .pool) p blank) token
 
-abbrev pub SubmittedStays : Machine → Type 0
-SubmittedStays m = Always (Stays m) m
+abbrev pub SubmittedStays : Promise
+SubmittedStays = Always Stays
 
 -- so in every world each uncollected control request's packet reads as its call asked
-abbrev pub PacketsStand : Machine → Type 0
-PacketsStand m =
+abbrev pub PacketsStand : Promise
+PacketsStand =
     Always
     (λ s h w. Every (λ u. u .request .kind ≡ Control → Asks (packetAt (w .rows) (u .slot)) (u .request .setup) (u .request .length)) (uses s h))
-    m
 
 -- and of each record of an uncollected request: an accepted writeback of a place, with its token
 abbrev pub WritesTo : ℕ → ℕ → Turn → Type 0
@@ -182,7 +180,7 @@ plannedFor s u j = getD (planFor s (u .slot) (u .request)) j (planned 0 0 0 0 0)
 
 -- the last turn that touched its j-th record is its submit, and the record is the j-th of its plan; or it is a writeback, and the record has
 -- that token
-pub record TokenStands (s : Settings) (h : History) (w : World) (u : Use) (j : ℕ) : Type 0 where
+pub record TokenStands (s : Settings) (h : History) (w : Moment) (u : Use) (j : ℕ) : Type 0 where
   pub since : History
   pub last : Turn
   pub before : History
@@ -191,14 +189,13 @@ pub record TokenStands (s : Settings) (h : History) (w : World) (u : Use) (j : �
   pub stands : ((event s last ≡ Submits (u .slot) (u .id) (u .request)) × (fieldsOf (getD (w .rows .pool) (placeOf u j) blank) ≡ plannedFor s u j))
       ⊎ WritesTo (placeOf u j) (getD (w .rows .pool) (placeOf u j) blank .token) last
 
-abbrev pub TokensStand : Machine → Type 0
-TokensStand m = Always (λ s h w. Every (λ u. (j : ℕ) → j < length (u .places) → TokenStands s h w u j) (uses s h)) m
+abbrev pub TokensStand : Promise
+TokensStand = Always (λ s h w. Every (λ u. (j : ℕ) → j < length (u .places) → TokenStands s h w u j) (uses s h))
 
 -- ---- "Passed: descriptors freed, current 0, overlay terminated (next 1, alternate 1, rest 0)": words 3 to 16
 
-abbrev pub CollectsEnded : Machine → Type 0
-CollectsEnded m =
+abbrev pub CollectsEnded : Promise
+CollectsEnded =
     Always
-    (λ s h w. (k id : ℕ) (readings : Readings) → isCollected (m w (Collect k id readings) .reply .answer) ≡ true
-    → (j : ℕ) → j < 14 → wordAt (rowsOf (m w (Collect k id readings))) k (3 + j) ≡ getD (0 ∷ 1 ∷ 1 ∷ replicate 11 0) j 0)
-    m
+    (λ s h w. (k id : ℕ) (readings : Readings) → isCollected (w .does (Collect k id readings) .reply .answer) ≡ true
+    → (j : ℕ) → j < 14 → wordAt (rowsOf (w .does (Collect k id readings))) k (3 + j) ≡ getD (0 ∷ 1 ∷ 1 ∷ replicate 11 0) j 0)

@@ -1,12 +1,12 @@
--- The same calls on a controller whose state is in words: worlds, runs, and that both forms do and leave the same.
+-- A controller whose state is held in words: what its calls do, and that over any calls both forms do and leave the same.
 use Prim.Native.Nat.{ℕ, _+_}
 use mathlib.Core.Bool.{Bool, true}
-use mathlib.Core.List.{List, [], _∷_}
-use mathlib.Core.Path.{_≡_}
+use mathlib.Core.List.{List, []}
+use mathlib.Core.Logic.{_≢_}
+use mathlib.Core.Path.{_≡_, refl}
 use lib.ListN.{length}
 use Rattle.bitset.specs.Places.{Words, setPlaces}
 use Rattle.bitset.specs.Words.{Fitting}
-use Rattle.register.specs.Writes.{listOf}
 use Rattle.descriptor.specs.declared.qtd.QueueTransferDescriptor.{QueueTransferDescriptor}
 use Rattle.settings.specs.declared.settings.Settings.{Settings}
 use Rattle.state.specs.Ranges.{inRanges}
@@ -15,22 +15,23 @@ use Rattle.words.specs.declared.core.Rest.{Rest}
 use Rattle.words.specs.Good.{Good, Tidy}
 use Rattle.words.specs.Record.{placesAt}
 use Rattle.words.specs.View.{view}
+use Rattle.opening.specs.Words.{FreshWords}
 use Rattle.ehci.specs.declared.call.Call.{Call}
-use Rattle.ehci.specs.declared.in_words.reply.Reply.{Reply}
+use Rattle.ehci.specs.declared.reply.Reply.{Reply}
 use Rattle.ehci.specs.Door.{Applied, applied}
 use Rattle.ehci.specs.WordsDoor.{WordsAfter, acceptsWords, applyWords, replyView}
-use Rattle.promises.specs.Rooms.{Every}
-use Rattle.promises.specs.Runs.{History, Opening, Rows, Turn, World, core, historyOf, worldOf}
+use Rattle.promises.specs.Rooms.{Every, numberAt}
+use Rattle.promises.specs.Runs.{Form, History, Machine, Opening, WorldIn, core, historyOf, moment, runOf, viewed, worldOf}
 use Rattle.promises.specs.Uses.{needs, uses}
 
 -- ---- worlds
 
--- a core, the lent row of slots and the four other lent rows
-pub record WordsWorld : Type 0 where
+-- the state: a core, and the lent row of slots
+pub record Stored : Type 0 where
   pub core : Core
   pub slots : List ℕ
-  pub rows : Rows
 
+-- what a call gives: its reply, and every row then
 pub record WordsApplied : Type 0 where
   pub reply : Reply
   pub slots : List ℕ
@@ -39,26 +40,8 @@ pub record WordsApplied : Type 0 where
   pub frames : List ℕ
   pub setups : List ℕ
 
--- a machine over words is what it does with a call
-abbrev pub WordsMachine : Type 0
-WordsMachine = WordsWorld → Call → WordsApplied
-
--- what words stand for
-abbrev pub viewWorld : WordsWorld → World
-viewWorld w = record { state = view (w .core) (w .slots); rows = w .rows }
-
 abbrev pub viewApplied : Settings → WordsApplied → Applied
 viewApplied s a = applied (replyView s (a .reply) (a .slots)) (a .pool) (a .heads) (a .frames) (a .setups)
-
-abbrev pub wordsRowsOf : WordsApplied → Rows
-wordsRowsOf a = record { pool = a .pool; heads = a .heads; frames = a .frames; setups = a .setups }
-
--- ---- what a call does
-
--- whether the words and the rows of a world are let in
-abbrev pub letIn : WordsWorld → Bool
-letIn w =
-    acceptsWords (w .core) (w .slots) (length (w .rows .pool)) (length (w .rows .heads)) (length (w .rows .frames)) (length (w .rows .setups))
 
 -- what the types of the code say of the words: four free words, and every word has 64 bits
 pub record Typed (r : Rest) (ws : List ℕ) : Type 0 where
@@ -66,88 +49,109 @@ pub record Typed (r : Rest) (ws : List ℕ) : Type 0 where
   pub free-fits : Words (r .free)
   pub row-fits : Fitting ws
 
+-- what the contract of `open` says of the words that it leaves, and what its types say
+pub record OpenedWords (s : Settings) (x : Stored) : Type 0 where
+  pub words : FreshWords s (x .core) (x .slots)
+  pub typed : Typed (x .core .rest) (x .slots)
+
+-- a call gives the rest of a core, and its settings stay. Words that are not tidy are refused, whatever they stand for
+abbrev pub inWords : Form
+inWords =
+    record {
+      State = Stored;
+      Result = WordsApplied;
+      view = λ x. view (x .core) (x .slots);
+      shows = λ x a. viewApplied (x .core .settings) a;
+      leaves = λ x a. record { core = record { settings = x .core .settings; rest = a .reply .rest }; slots = a .slots };
+      agrees = λ x a. refl;
+      fits = λ x rows. acceptsWords (x .core) (x .slots) (length (rows .pool)) (length (rows .heads)) (length (rows .frames)) (length (rows .setups));
+      Typed = λ x. Typed (x .core .rest) (x .slots);
+      Fresh = OpenedWords;
+    }
+
+-- whether the words and the rows of a world are let in
+abbrev pub letIn : WorldIn inWords → Bool
+letIn w = inWords .fits (w .state) (w .rows)
+
+-- ---- what a call does
+
 -- what the contract of `apply` says of a machine, and what its types say
-pub record Does (m : WordsMachine) : Type 0 where
-  pub replies : (w : WordsWorld) (c : Call) → Typed (w .core .rest) (w .slots)
-      → viewApplied (w .core .settings) (m w c)
-      ≡ applyWords (w .core) (w .slots) (w .rows .pool) (w .rows .heads) (w .rows .frames) (w .rows .setups) c
-  pub leaves : (w : WordsWorld) (c : Call) → Typed (w .core .rest) (w .slots)
-      → WordsAfter (letIn w) (w .core) (w .slots) (m w c .reply .rest) (m w c .slots)
-  pub typed : (w : WordsWorld) (c : Call) → Typed (w .core .rest) (w .slots) → Typed (m w c .reply .rest) (m w c .slots)
-
--- ---- runs
-
--- the settings stay, the rest and the rows are what the call left
-abbrev pub wordsLeftBy : Settings → WordsApplied → WordsWorld
-wordsLeftBy s a = record { core = record { settings = s; rest = a .reply .rest }; slots = a .slots; rows = wordsRowsOf a }
-
--- the calls, NEWEST FIRST, from a world on
-unfoldable pub wordsWorldOf : WordsMachine → WordsWorld → List Call → WordsWorld
-wordsWorldOf m w [] = w
-wordsWorldOf m w (c ∷ cs) = wordsLeftBy (wordsWorldOf m w cs .core .settings) (m (wordsWorldOf m w cs) c)
-
--- a caller sees nothing of the words, so a turn is that of `Runs`
-abbrev pub wordsTurnOf : Rows → Call → WordsApplied → Turn
-wordsTurnOf rows c a =
-    record { call = c; answer = a .reply .answer; wrote = listOf (a .reply .writes); before = rows; after = wordsRowsOf a }
-
-unfoldable pub wordsHistoryOf : WordsMachine → WordsWorld → List Call → History
-wordsHistoryOf m w [] = []
-wordsHistoryOf m w (c ∷ cs) = wordsTurnOf (wordsWorldOf m w cs .rows) c (m (wordsWorldOf m w cs) c) ∷ wordsHistoryOf m w cs
-
--- what an opening that is accepted leaves, in words
-pub record WordsOpening (s : Settings) (w : WordsWorld) : Type 0 where
-  pub opened : Opening s (viewWorld w)
-  pub settings-are : w .core .settings ≡ s
-  pub tidy : Tidy s (w .core .rest) (w .slots)
-  pub typed : Typed (w .core .rest) (w .slots)
-
--- in every world that any calls lead to from an accepted opening, of the calls so far
-abbrev pub WordsAlways : (Settings → History → WordsWorld → Type 0) → WordsMachine → Type 0
-WordsAlways P m =
-    (s : Settings) (w : WordsWorld) → WordsOpening s w → (cs : List Call) → P s (wordsHistoryOf m w cs) (wordsWorldOf m w cs)
+pub record Does (m : Machine inWords) : Type 0 where
+  pub replies : (w : WorldIn inWords) (c : Call) → Typed (w .state .core .rest) (w .state .slots)
+      → moment m w .does c
+      ≡ applyWords (w .state .core) (w .state .slots) (w .rows .pool) (w .rows .heads) (w .rows .frames) (w .rows .setups) c
+  pub leaves : (w : WorldIn inWords) (c : Call) → Typed (w .state .core .rest) (w .state .slots)
+      → WordsAfter (letIn w) (w .state .core) (w .state .slots) (m w c .reply .rest) (m w c .slots)
+  pub typed : (w : WorldIn inWords) (c : Call) → Typed (w .state .core .rest) (w .state .slots) → Typed (m w c .reply .rest) (m w c .slots)
 
 -- ---- both forms give the same
 
--- after any calls the words stand for the plain form's world, every answer, register write and word of the four rows on the way was the same,
+-- after any calls every answer, register write and word of the four rows on the way was the same, the words stand for the other form's state,
 -- and any further call does the same in both
-pub record SameRun (m : WordsMachine) (w : WordsWorld) (cs : List Call) : Type 0 where
-  pub same-world : viewWorld (wordsWorldOf m w cs) ≡ worldOf core (viewWorld w) cs
-  pub same-history : wordsHistoryOf m w cs ≡ historyOf core (viewWorld w) cs
-  pub same-next : (c : Call)
-      → viewApplied (wordsWorldOf m w cs .core .settings) (m (wordsWorldOf m w cs) c) ≡ core (worldOf core (viewWorld w) cs) c
+abbrev pub SameRun : Machine inWords → WorldIn inWords → Type 0
+SameRun m w = runOf m w ≡ runOf core (viewed w)
 
 -- from every accepted opening
-abbrev pub SameRuns : WordsMachine → Type 0
-SameRuns m = (s : Settings) (w : WordsWorld) → WordsOpening s w → (cs : List Call) → SameRun m w cs
+abbrev pub SameRuns : Machine inWords → Type 0
+SameRuns m = (s : Settings) (w : WorldIn inWords) → Opening s w → SameRun m w
 
 -- and from every world whose words are tidy where the state that they stand for is in its ranges: it may be outside them, and rows of any
--- length may be lent. Words that are not tidy are refused, whatever they stand for
-pub record Faithful (w : WordsWorld) : Type 0 where
-  pub typed : Typed (w .core .rest) (w .slots)
-  pub tidy : inRanges (view (w .core) (w .slots)) ≡ true → Tidy (w .core .settings) (w .core .rest) (w .slots)
+-- length may be lent
+pub record Faithful (w : WorldIn inWords) : Type 0 where
+  pub typed : Typed (w .state .core .rest) (w .state .slots)
+  pub tidy : inRanges (view (w .state .core) (w .state .slots)) ≡ true → Tidy (w .state .core .settings) (w .state .core .rest) (w .state .slots)
 
-abbrev pub SameFrom : WordsMachine → Type 0
-SameFrom m = (w : WordsWorld) → Faithful w → (cs : List Call) → SameRun m w cs
+abbrev pub SameFrom : Machine inWords → Type 0
+SameFrom m = (w : WorldIn inWords) → Faithful w → SameRun m w
 
 -- ---- what the words of a run are
 
--- the words are good and none is refused for them; the free words have a bit for each descriptor less those that the uncollected requests
--- need, a request's slot has the bits of its places, and a slot of no request has none
-pub record InWords (s : Settings) (h : History) (w : WordsWorld) : Type 0 where
-  pub settings-stay : w .core .settings ≡ s
-  pub good : Good s (w .core .rest) (w .slots)
-  pub let-in : letIn w ≡ true
-  pub free : length (setPlaces (w .core .rest .free)) + needs s (uses s h) ≡ s .descriptors
-  pub held : Every (λ u. setPlaces (placesAt (w .slots) (u .slot)) ≡ u .places) (uses s h)
-  pub empty : (k : ℕ) → Every (λ u. u .slot ≡ k → ⊥) (uses s h) → setPlaces (placesAt (w .slots) k) ≡ []
+-- the words are good; the free words have a bit for each descriptor less those that the uncollected requests need, a request's slot has the
+-- bits of its places, and a slot of no request has none
+pub record GoodWords (s : Settings) (h : History) (x : Stored) : Type 0 where
+  pub settings-stay : x .core .settings ≡ s
+  pub good : Good s (x .core .rest) (x .slots)
+  pub free : length (setPlaces (x .core .rest .free)) + needs s (uses s h) ≡ s .descriptors
+  pub held : Every (λ u. setPlaces (placesAt (x .slots) (u .slot)) ≡ u .places) (uses s h)
+  pub empty : (k : ℕ) → Every (λ u. u .slot ≡ k → ⊥) (uses s h) → setPlaces (placesAt (x .slots) k) ≡ []
 
-abbrev pub WordsKept : WordsMachine → Type 0
-WordsKept m = WordsAlways InWords m
+abbrev pub WordsKept : Machine inWords → Type 0
+WordsKept m =
+    (s : Settings) (w : WorldIn inWords) → Opening s w → (cs : List Call) → GoodWords s (historyOf m w cs) (worldOf m w cs .state)
+
+-- ---- refusals leave the words too
+
+-- not running, and no bring-up begun
+abbrev pub stoppedRest : Rest → Rest
+stoppedRest r =
+    record {
+      running = 0;
+      step = 0;
+      address = r .address;
+      enabled = r .enabled;
+      noted = r .noted;
+      doorbell = r .doorbell;
+      unanswered = r .unanswered;
+      pending = r .pending;
+      masked = r .masked;
+      waited = 0;
+      free = r .free;
+    }
+
+-- what a call that answered the number n left of the words
+pub record WordsStay (x : Stored) (n : ℕ) (a : WordsApplied) : Type 0 where
+  pub rest-stays : n ≢ 7 → a .reply .rest ≡ x .core .rest
+  pub only-stopped : n ≡ 7 → a .reply .rest ≡ stoppedRest (x .core .rest)
+  pub row-stays : a .slots ≡ x .slots
+
+abbrev pub RefusedStay : Machine inWords → Type 0
+RefusedStay m =
+    (w : WorldIn inWords) → Typed (w .state .core .rest) (w .state .slots)
+    → (c : Call) (n : ℕ) → numberAt (moment m w) c ≡ n → n ≢ 0 → n ≢ 9 → n ≢ 10 → n ≢ 11 → WordsStay (w .state) n (m w c)
 
 -- ---- and the contract leaves no choice
 
 -- any two machines that do what it says leave the same answer, writes, words and rows
 abbrev pub OneResult : Type 0
 OneResult =
-    (m m′ : WordsMachine) → Does m → Does m′ → (w : WordsWorld) (c : Call) → Typed (w .core .rest) (w .slots) → m w c ≡ m′ w c
+    (m m′ : Machine inWords) → Does m → Does m′ → (w : WorldIn inWords) (c : Call) → Typed (w .state .core .rest) (w .state .slots) → m w c ≡ m′ w c

@@ -17,21 +17,21 @@ use Rattle.pool.specs.Chains.{fillOf, filledFrom}
 use Rattle.pool.specs.Places.{listOf, markOf, packed, placesFrom, upFrom}
 use Rattle.pool.specs.Transfers.{bareAt, chunkQtd, recordAt}
 use Rattle.state.specs.State.{withOwner}
-use Rattle.state.specs.declared.state.Ehci.{Ehci}
+use Rattle.state.specs.Plain.{Ehci}
 use Rattle.opening.specs.Opening.{freshState, openedHeads}
 use Rattle.controller.specs.Readers.{countZero, freeCount}
 use Rattle.controller.specs.declared.lent.Readings.{Readings}
 use Rattle.schedule.specs.Links.{startedOverlay}
 use Rattle.request.specs.Submit.{chainFor, firstIn, needOfRequest, takenOf}
 use Rattle.request.specs.declared.judge.TransferRequest.{TransferRequest}
-use Rattle.request.specs.declared.settle.Taken.{Taken}
+use Rattle.request.specs.Plain.{Taken}
 use Rattle.ehci.specs.declared.call.Call.{Call}
 use Rattle.ehci.specs.declared.call.Call.the-variants.{StartBringUp, BringUpStep, AllocateAddress, OpenEndpoint, Close, SetAddress, SetPacketSize, Submit, Writeback, Cancel, Collect, Acknowledge, Drain, Rearm, Enable, Disable}
 use Rattle.ehci.specs.declared.reply.Answered.{Answered}
 use Rattle.ehci.specs.declared.reply.Answered.the-variants.{Done, Pending}
 use Rattle.ehci.specs.declared.reply.Given.the-variants.{Id, Nothing, Slot}
 use Rattle.ehci.specs.Door.{Applied, applied}
-use Rattle.promises.specs.Runs.{Machine, World, historyOf, rowsOf, worldOf}
+use Rattle.promises.specs.Runs.{EveryRun, Machine, World, inPlain, historyOf, rowsOf, worldOf}
 use Rattle.promises.specs.Walks.{chainWalk, walkFrom}
 use Rattle.promises.specs.Uses.{needs, uses}
 use Rattle.promises.specs.Rooms.{ExclusivePlaces, RoomExact, placesInUse}
@@ -58,7 +58,7 @@ pub record Ways : Type 0 where
   pub submit : World → ℕ → TransferRequest → Applied
   pub writeback : Ehci → ℕ → Ehci
 
-abbrev machine : Ways → Machine
+abbrev machine : Ways → Machine inPlain
 machine x w StartBringUp = stays w Pending (w .state)
 machine x w (BringUpStep v) = stays w Pending (w .state)
 machine x w AllocateAddress = stays w Pending (w .state)
@@ -79,26 +79,26 @@ machine x w Disable = stays w Pending (w .state)
 abbrev takesFree : World → ℕ → TransferRequest → Applied
 takesFree w k t = written w k t (takenOf (w .state .owner) 2 (needOfRequest (w .state) t) k)
 
-abbrev pub plain : Machine
+abbrev pub plain : Machine inPlain
 plain = machine (record { opens = Pending; submit = takesFree; writeback = λ s place. s })
 
 -- a writeback frees the place
-abbrev freeing : Machine
+abbrev freeing : Machine inPlain
 freeing = machine (record { opens = Pending; submit = takesFree; writeback = λ s place. withOwner s (set (s .owner) place 0) })
 
 -- every request is given the first places, whoever has them
-abbrev first : Machine
+abbrev first : Machine inPlain
 first = machine (record { opens = Pending; submit = λ w k t. written w k t (takenOf (replicate 256 0) 2 (needOfRequest (w .state) t) k); writeback = λ s place. s })
 
 -- the last byte is left out
 abbrev clipped : TransferRequest → TransferRequest
 clipped t = record { kind = t .kind; direction = t .direction; setup = t .setup; address = t .address; length = t .length - 1 }
 
-abbrev short : Machine
+abbrev short : Machine inPlain
 short = machine (record { opens = Pending; submit = λ w k t. takesFree w k (clipped t); writeback = λ s place. s })
 
 -- slot 0 is open, and gets its request before bring-up
-abbrev eager : Machine
+abbrev eager : Machine inPlain
 eager = machine (record { opens = Done (Slot 0); submit = takesFree; writeback = λ s place. s })
 
 -- ---- one byte each to two slots, and a writeback between
@@ -123,29 +123,29 @@ plain-room = refl
 -- ---- refuted
 
 -- the place is free again, and given to slot 1 while slot 0's request has it
-freeing-exclusive : ExclusivePlaces freeing → ⊥
+freeing-exclusive : EveryRun ExclusivePlaces freeing → ⊥
 unfolding historyOf worldOf uses chainWalk walkFrom takenOf placesFrom markOf packed listOf fillOf filledFrom recordAt bareAt chunkQtd newQtd withNext startedOverlay freshState withOwner openedHeads ringHead terminated needOf chunkCount
 freeing-exclusive e = e small (freshWorld small) opening calls .distinct .0 .0 refl
 
-freeing-room : RoomExact freeing → ⊥
+freeing-room : EveryRun RoomExact freeing → ⊥
 unfolding historyOf worldOf uses chainWalk walkFrom takenOf placesFrom markOf packed listOf fillOf filledFrom recordAt bareAt chunkQtd newQtd withNext startedOverlay freshState withOwner openedHeads ringHead terminated needOf chunkCount freeCount countZero
 freeing-room r = let three : _≡_ {A = ℕ} 3 2 = r small (freshWorld small) opening (Writeback 0 0 ∷ Submit 0 byte reads ∷ []) .free in omega (arith, three)
 
-first-exclusive : ExclusivePlaces first → ⊥
+first-exclusive : EveryRun ExclusivePlaces first → ⊥
 unfolding historyOf worldOf uses chainWalk walkFrom takenOf placesFrom markOf packed listOf fillOf filledFrom recordAt bareAt chunkQtd newQtd withNext startedOverlay freshState withOwner openedHeads ringHead terminated needOf chunkCount
 first-exclusive e = e small (freshWorld small) opening calls .distinct .0 .0 refl
 
-first-room : RoomExact first → ⊥
+first-room : EveryRun RoomExact first → ⊥
 unfolding historyOf worldOf uses chainWalk walkFrom takenOf placesFrom markOf packed listOf fillOf filledFrom recordAt bareAt chunkQtd newQtd withNext startedOverlay freshState withOwner openedHeads ringHead terminated needOf chunkCount freeCount countZero
 first-room r = let three : _≡_ {A = ℕ} 3 2 = r small (freshWorld small) opening calls .free in omega (arith, three)
 
 -- a submit to a slot that was never opened is accepted, and not answered 3
-plain-verdict : SubmitVerdict plain → ⊥
+plain-verdict : EveryRun SubmitVerdict plain → ⊥
 unfolding historyOf worldOf slotIn
 plain-verdict v = let three : _≡_ {A = ℕ} 0 3 = v small (freshWorld small) opening [] 0 byte reads in omega (arith, three)
 
 -- one to an open slot of its kind is accepted before bring-up, and not answered 8
-eager-verdict : SubmitVerdict eager → ⊥
+eager-verdict : EveryRun SubmitVerdict eager → ⊥
 unfolding historyOf worldOf slotIn runsIn
 eager-verdict v =
     let opens : Call = OpenEndpoint (record { kind = Bulk; address = 1; number = 1; packet = 512 }) in
@@ -153,7 +153,7 @@ eager-verdict v =
     omega (arith, eight)
 
 -- no byte is addressed where one is asked
-short-coverage : Coverage short → ⊥
+short-coverage : EveryRun Coverage short → ⊥
 unfolding historyOf worldOf uses chainWalk walkFrom takenOf placesFrom markOf packed listOf fillOf filledFrom recordAt bareAt chunkQtd newQtd withNext startedOverlay freshState withOwner openedHeads ringHead terminated needOf chunkCount tokenOf pageSlots upFrom
 short-coverage c =
     let none : _≡_ {A = List ℕ} [] (0x500000 ∷ []) = c small (freshWorld small) opening [] 0 byte reads refl in

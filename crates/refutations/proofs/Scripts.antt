@@ -3,7 +3,7 @@ use mathlib.Core.Path.{_≡_, refl, ap, _∙_}
 use mathlib.Core.List.{List, [], _∷_}
 use Rattle.ehci.specs.declared.call.Call.{Call}
 use Rattle.ehci.specs.Door.{Applied}
-use Rattle.promises.specs.Runs.{History, Machine, World, historyOf, leftBy, turnOf, worldOf}
+use Rattle.promises.specs.Runs.{History, Machine, World, inPlain, historyOf, leftBy, turnOf, worldOf}
 
 abbrev pub Script : Type 0
 Script = List (Call × Applied)
@@ -21,11 +21,11 @@ turnsOf v h [] = h
 turnsOf v h (x ∷ xs) = turnOf (endOf v xs .rows) (x .0) (x .1) ∷ turnsOf v h xs
 
 -- from that world on the machine does so
-abbrev pub Follows : Machine → World → Script → Type 0
+abbrev pub Follows : Machine inPlain → World → Script → Type 0
 Follows m v [] = Unit {0}
 Follows m v (x ∷ xs) = (m (endOf v xs) (x .0) ≡ x .1) × Follows m v xs
 
-module _ (m : Machine) (w : World) (cs : List Call) (v : World) (begins : worldOf m w cs ≡ v) where
+module _ (m : Machine inPlain) (w : World) (cs : List Call) (v : World) (begins : worldOf m w cs ≡ v) where
   pub arrives : (xs : Script) → Follows m v xs → worldOf m w (callsOf cs xs) ≡ endOf v xs
   unfolding worldOf
   arrives [] f = begins

@@ -7,9 +7,9 @@ use lib.Dec.{eqb}
 use Rattle.register.specs.Bits.{anyOf}
 use Rattle.settings.specs.declared.settings.Settings.{Settings}
 use Rattle.state.specs.State.{withBell}
-use Rattle.state.specs.declared.state.Ehci.{Ehci}
+use Rattle.state.specs.Plain.{Ehci}
 use Rattle.ehci.specs.Door.{Applied, applied}
-use Rattle.promises.specs.Runs.{History, Machine, Turn, World, core}
+use Rattle.promises.specs.Runs.{History, Machine, Turn, World, inPlain, core}
 use Rattle.promises.specs.Events.{rings}
 use Rattle.promises.specs.Bells.{Boundary, none, reads, unlinksOf}
 use Rattle.refutations.proofs.WrongUp.{Plainly, isDrain, readsAdvance}
@@ -30,18 +30,18 @@ noteAfter true a =
 noteAfter false a = a
 
 -- the note stays where a port change shares the drain: the next drain counts it again
-abbrev pub twice : Machine
+abbrev pub twice : Machine inPlain
 twice w c = noteAfter (isDrain c && (eqb (w .state .noted) 1 && anyOf (w .state .pending) 4)) (core w c)
 
 -- an advance is noted with the doorbell down, too; such a note waits for the next ring
 abbrev pub isEarly : World → Bool
 isEarly w = eqb (w .state .noted) 1 && eqb (w .state .doorbell) 0
 
-abbrev pub early : Machine
+abbrev pub early : Machine inPlain
 early w c = noteAfter (readsAdvance c || isEarly w) (core (noteBefore (isEarly w) 0 w) c)
 
 -- a drain counts any pending advance bit
-abbrev pub any : Machine
+abbrev pub any : Machine inPlain
 any w c = core (noteBefore (isDrain c && (eqb (w .state .doorbell) 1 && anyOf (w .state .pending) 0x20)) 1 w) c
 
 -- ---- a test for the picture of a boundary

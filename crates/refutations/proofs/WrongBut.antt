@@ -12,7 +12,7 @@ use Rattle.collection.specs.Unlinks.{passedBoundary}
 use Rattle.ehci.specs.declared.call.Call.the-variants.{Collect}
 use Rattle.ehci.specs.declared.reply.Answered.{Answered}
 use Rattle.ehci.specs.Door.{Applied, applied}
-use Rattle.promises.specs.Runs.{Machine, World, core}
+use Rattle.promises.specs.Runs.{Machine, World, inPlain, core}
 use Rattle.promises.specs.Events.{isCollected}
 use Rattle.promises.specs.Registers.{Access, None, Starts, Steps, accessOf}
 use Rattle.promises.proofs.theorems.BoundaryCalls.{collect-found}
@@ -35,7 +35,7 @@ abbrev pub isDrains : Access → Bool
 isDrains a = eqb (order a) 6
 
 -- `core`, and something else where the test holds
-abbrev pub but : (World → Access → Bool) → (World → Applied → Applied) → Machine
+abbrev pub but : (World → Access → Bool) → (World → Applied → Applied) → Machine inPlain
 but p f w c = cond (p w (accessOf c)) (f w (core w c)) (core w c)
 
 pub but-rises : (p : World → Access → Bool) (f : World → Applied → Applied)

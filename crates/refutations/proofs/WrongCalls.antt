@@ -13,7 +13,7 @@ use Rattle.descriptor.specs.Slots.{pageSlots}
 use Rattle.pool.specs.Chains.{blank, fillOf, filledFrom, noChain}
 use Rattle.pool.specs.Places.{clearOf, listOf, markOf, packed, placesFrom}
 use Rattle.pool.specs.Transfers.{bareAt, chunkQtd, recordAt}
-use Rattle.state.specs.declared.state.Ehci.{Ehci}
+use Rattle.state.specs.Plain.{Ehci}
 use Rattle.state.specs.Ranges.{inRanges}
 use Rattle.state.specs.Slots.{slotAt, withSlot}
 use Rattle.state.specs.State.{withBell, withBoundaries, withInterrupt, withOwner}

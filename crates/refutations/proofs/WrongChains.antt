@@ -26,12 +26,12 @@ use Rattle.ehci.specs.declared.reply.Answered.{Answered}
 use Rattle.ehci.specs.declared.reply.Answered.the-variants.{Done, Pending}
 use Rattle.ehci.specs.declared.reply.Given.the-variants.{Id, Nothing}
 use Rattle.ehci.specs.Door.{Applied, applied}
-use Rattle.promises.specs.Runs.{History, Machine, Opening, Rows, World, historyOf, worldOf}
+use Rattle.promises.specs.Runs.{EveryRun, History, Machine, Opening, Rows, World, inPlain, historyOf, moment, turnBy, worldOf}
 use Rattle.promises.specs.Walks.{frameWalk, ringWalk, walkFrom}
 use Rattle.promises.specs.Events.{Unlinks, event}
 use Rattle.promises.specs.Uses.{frameSlots, ringSlots, uses}
 use Rattle.promises.specs.Bells.{isUnlinks}
-use Rattle.promises.specs.Chains.{ChainsWalked, NoDetachFails, headPlaces, turnBy}
+use Rattle.promises.specs.Chains.{ChainsWalked, NoDetachFails, headPlaces}
 use Rattle.promises.proofs.invariants.Reached.{freshWorld, opens-fresh}
 use Rattle.refutations.proofs.WrongRuns.{sized}
 
@@ -62,7 +62,7 @@ joined false x w k = left w (Done (Id 1)) (x .ring (w .rows .heads) k (linkOf k)
 abbrev idle : World → Applied
 idle w = left w Pending (w .rows .heads) (w .rows .frames)
 
-abbrev linking : Ways → Machine
+abbrev linking : Ways → Machine inPlain
 linking x w StartBringUp = idle w
 linking x w (BringUpStep v) = idle w
 linking x w AllocateAddress = idle w
@@ -89,11 +89,11 @@ plainly =
       leave = λ h k. withRingLink h (linkWord h k);
     }
 
-abbrev pub plain : Machine
+abbrev pub plain : Machine inPlain
 plain = linking plainly
 
 -- behind slot 0's head, where one is in the ring
-abbrev appends : Machine
+abbrev appends : Machine inPlain
 appends =
     linking
     (record {
@@ -103,7 +103,7 @@ appends =
     })
 
 -- an unlink takes the next head along
-abbrev drops : Machine
+abbrev drops : Machine inPlain
 drops =
     linking
     (record {
@@ -113,11 +113,11 @@ drops =
     })
 
 -- an unlink leaves the head where it is
-abbrev keeps : Machine
+abbrev keeps : Machine inPlain
 keeps = linking (record { ring = plainly .ring; frames = plainly .frames; leave = λ h k. h })
 
 -- an interrupt head is linked in frame entry 0 alone
-abbrev once : Machine
+abbrev once : Machine inPlain
 once = linking (record { ring = plainly .ring; frames = λ f link. set f 0 link; leave = plainly .leave })
 
 -- ---- runs
@@ -145,40 +145,40 @@ three-good = refl
 pub opening : Opening three (freshWorld three)
 opening = opens-fresh three three-good
 
-abbrev now : Machine → List Call → Rows
+abbrev now : Machine inPlain → List Call → Rows
 now m cs = worldOf m (freshWorld three) cs .rows
 
-abbrev past : Machine → List Call → History
+abbrev past : Machine inPlain → List Call → History
 past m cs = historyOf m (freshWorld three) cs
 
 -- on these calls the right machine's walks are as told, and a cancel is seen
 plain-right : (ringWalk three (now plain two) ≡ headPlaces (ringSlots three (past plain two)))
     × (ringWalk three (now plain cancelled) ≡ headPlaces (ringSlots three (past plain cancelled)))
     × (frameWalk three (now plain waiting) 1 ≡ headPlaces (frameSlots three (past plain waiting)))
-    × (event three (turnBy plain (worldOf plain (freshWorld three) two) (Cancel 1 1 reading)) ≡ Unlinks 1)
+    × (event three (turnBy (moment plain (worldOf plain (freshWorld three) two)) (Cancel 1 1 reading)) ≡ Unlinks 1)
 unfolding ringWalk frameWalk walkFrom worldOf historyOf ringSlots frameSlots attachedRing openedHeads ringHead terminated
 plain-right = (refl, refl, refl, refl)
 
-pub appends-wrong : ChainsWalked appends → ⊥
+pub appends-wrong : EveryRun ChainsWalked appends → ⊥
 unfolding ringWalk walkFrom worldOf historyOf ringSlots attachedRing openedHeads ringHead terminated
 appends-wrong h =
     let first : _≡_ {A = ℕ} 1 2 = ap (λ (l : List ℕ). getD l 0 0) (h three (freshWorld three) opening two .ring) in
     omega (arith, first)
 
-pub drops-wrong : ChainsWalked drops → ⊥
+pub drops-wrong : EveryRun ChainsWalked drops → ⊥
 unfolding ringWalk walkFrom worldOf historyOf ringSlots attachedRing openedHeads ringHead terminated
 drops-wrong h =
     let first : _≡_ {A = ℕ} 1 2 = ap (λ (l : List ℕ). getD l 0 0) (h three (freshWorld three) opening cancelled .ring) in
     omega (arith, first)
 
-pub once-wrong : ChainsWalked once → ⊥
+pub once-wrong : EveryRun ChainsWalked once → ⊥
 unfolding frameWalk walkFrom worldOf historyOf frameSlots openedHeads ringHead terminated
 once-wrong h =
     let met : _≡_ {A = ℕ} 0 1 = ap (λ (l : List ℕ). length l) (h three (freshWorld three) opening waiting .frames 1 (omega arith)) in
     omega (arith, met)
 
 -- what it answers is right; that no head leaves is seen
-pub keeps-wrong : NoDetachFails keeps → ⊥
+pub keeps-wrong : EveryRun NoDetachFails keeps → ⊥
 unfolding ringWalk frameWalk walkFrom worldOf historyOf ringSlots uses attachedRing openedHeads ringHead terminated
 keeps-wrong h =
     let e = h three (freshWorld three) opening two .0 .leaves-ring reading refl in

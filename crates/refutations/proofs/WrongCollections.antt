@@ -14,14 +14,14 @@ use Rattle.descriptor.specs.declared.qtd.QueueTransferDescriptor.{QueueTransfer
 use Rattle.pool.specs.Chains.{blank, fillOf, filledFrom, firstError, lengthOf, noChain, seenFrom, standingOf as stageSeen, viewOf, withToken}
 use Rattle.pool.specs.Places.{clearOf, listOf, packed, placesFrom}
 use Rattle.pool.specs.Transfers.{requestedAt}
-use Rattle.pool.specs.declared.chain.Ask.{Ask}
+use Rattle.pool.specs.Plain.{Ask}
 use Rattle.settings.specs.Settings.{apartAreas, areaGood, eachGood, noOverlap, numbersGood, settingsGood}
 use Rattle.slot.specs.Ranges.{boundaryGood, closedGood, idleGood, linkedGood, noRequest, openKind, phaseGood, slotGood, unlinkingGood}
 use Rattle.slot.specs.declared.slot.Slot.{Slot}
 use Rattle.state.specs.Ranges.{inRanges, doorbellGood, interruptGood, largest, machineGood, ownerGood, restGood, slotsGood}
 use Rattle.state.specs.Slots.{slotAt, withSlot}
 use Rattle.state.specs.State.{withBell, withBoundaries, withInterrupt, withOwner}
-use Rattle.state.specs.declared.state.Ehci.{Ehci}
+use Rattle.state.specs.Plain.{Ehci}
 use Rattle.pipe.specs.Endpoints.{decoded, endpointAt, withEndpoint}
 use Rattle.opening.specs.Opening.{rowsFit}
 use Rattle.common.specs.Rows.{putAt}
@@ -43,7 +43,7 @@ use Rattle.ehci.specs.declared.reply.Event.the-variants as E
 use Rattle.ehci.specs.Replies.{answeredNumber, answeredValues, replied}
 use Rattle.ehci.specs.Decides.{acknowledgeDecided, asksOf, collectDecided, decideOf, drainDecided, writebackDecided}
 use Rattle.ehci.specs.Door.{Applied, applied, applyOf, carriedOut, seenBy}
-use Rattle.promises.specs.Runs.{History, Machine, World, core, historyOf, worldOf}
+use Rattle.promises.specs.Runs.{EveryRun, History, Machine, World, inPlain, core, historyOf, moment, worldOf}
 use Rattle.promises.specs.Walks.{chainWalk, ringWalk, walkFrom}
 use Rattle.promises.specs.Events.{isCollected}
 use Rattle.promises.specs.Uses.{Use, uses}
@@ -76,7 +76,7 @@ rank Rearm = 4
 rank Enable = 4
 rank Disable = 4
 
-pub rises-up : (m : Machine) → ((w : World) (c : Call) → rank c ≡ 0 → m w c ≡ core w c) → Rises m
+pub rises-up : (m : Machine inPlain) → ((w : World) (c : Call) → rank c ≡ 0 → m w c ≡ core w c) → Rises m
 rises-up m same =
     record { starts = λ w n. same w StartBringUp refl; steps = λ w v n. same w (BringUpStep v) refl; opens = λ w x n. same w (OpenEndpoint x) refl }
 
@@ -143,7 +143,7 @@ moves =
 abbrev pub c5 : List Call
 c5 = callsOf upCalls moves
 
-module _ (m : Machine) (plain : (v : World) (c : Call) → eqb (rank c) 2 ≡ false → m v c ≡ core v c) (finds : m (linkedNow (one 0 0 0 0 0 linked)) looks ≡ unlinked) where
+module _ (m : Machine inPlain) (plain : (v : World) (c : Call) → eqb (rank c) 2 ≡ false → m v c ≡ core v c) (finds : m (linkedNow (one 0 0 0 0 0 linked)) looks ≡ unlinked) where
   w0 : worldOf m w upCalls ≡ openedTwo
   w0 = up-world m (rises-up m (λ v c e. plain v c (ap (λ (n : ℕ). eqb n 2) e)))
 
@@ -186,11 +186,11 @@ module _ (m : Machine) (plain : (v : World) (c : Call) → eqb (rank c) 2 ≡ fa
   abbrev end : World
   end = worldOf m w c5
 
-  pub due-here : CollectsDue m → isCollected (m (apartNow (one 0 0x20 0 0 0 (leaves 0))) looks .reply .answer) ≡ true
+  pub due-here : EveryRun CollectsDue m → isCollected (m (apartNow (one 0 0x20 0 0 0 (leaves 0))) looks .reply .answer) ≡ true
       → (answeredNumber (m (apartNow (one 0 0x20 0 0 0 (leaves 0))) looks .reply .answer) ≡ 0) × (answeredValues (m (apartNow (one 0 0x20 0 0 0 (leaves 0))) looks .reply .answer) ≡ 500 ∷ [])
   due-here due e = (at answeredNumber (λ d. d .number) (x .number-is), at answeredValues (λ d. d .values) (x .values-are))
     where
-      x : Answers m small (historyOf m w c5) end 0 1 (reading 0x80031)
+      x : Answers small (historyOf m w c5) (moment m end) 0 1 (reading 0x80031)
       x = due small w opening c5 0 1 (reading 0x80031) (ap (λ (v : World). isCollected (m v looks .reply .answer)) w5 ∙ e)
 
       use-is : x .uncollected ≡ first
@@ -218,10 +218,10 @@ abbrev answering : Applied → Applied
 answering a =
     applied (record { state = a .reply .state; answer = tenFor (a .reply .answer); writes = a .reply .writes }) (a .pool) (a .heads) (a .frames) (a .setups)
 
-abbrev pub tens : Machine
+abbrev pub tens : Machine inPlain
 tens v c = cond (eqb (rank c) 2) (answering (core v c)) (core v c)
 
-pub tens-due : CollectsDue tens → ⊥
+pub tens-due : EveryRun CollectsDue tens → ⊥
 tens-due due =
     let ten : tens (apartNow (one 0 0x20 0 0 0 (leaves 0))) looks .reply .answer ≡ Cancelled = ap tenFor length-500 in
     let zero = due-here tens (λ v c e. rw e) (ap answering unlinks) due (ap (λ (a : Answered). isCollected a) ten) .0 in
@@ -238,7 +238,7 @@ misread v c =
     (decideOf (v .state) (length (v .rows .pool)) (v .rows .heads) (v .rows .frames) (v .rows .setups) (seenBy (asControl (asksOf (v .state) (length (v .rows .pool)) c)) (v .rows .pool)) c)
     (v .rows .pool)
 
-abbrev pub asksControl : Machine
+abbrev pub asksControl : Machine inPlain
 asksControl v c = cond (eqb (rank c) 2) (misread v c) (core v c)
 
 misread-unlinks : misread (linkedNow (one 0 0 0 0 0 linked)) looks ≡ unlinked
@@ -249,7 +249,7 @@ misread-none : misread (apartNow (one 0 0x20 0 0 0 (leaves 0))) looks .reply .an
 unfolding decideOf asksOf askOf askable requestAsk placesFrom seenFrom viewOf stageSeen firstError lengthOf requestedAt rowsFit replied fillOf filledFrom noChain packed listOf collectDecided collectOf acceptsOf endpointAt decoded slotAt unlinkingOf finishOf outcomeOf freed clearOf endedOverlay putAt terminated withOwner withEndpoint withSlot stateOf
 misread-none = rw (states-good .3)
 
-pub asks-control-due : CollectsDue asksControl → ⊥
+pub asks-control-due : EveryRun CollectsDue asksControl → ⊥
 asks-control-due due =
     let some = due-here asksControl (λ v c e. rw e) misread-unlinks due (ap (λ (a : Answered). isCollected a) misread-none) .1 in
     let none : _≡_ {A = ℕ} 0 500 = ap (λ (l : List ℕ). getD l 0 0) (sym (ap answeredValues misread-none) ∙ some) in

@@ -16,11 +16,11 @@ use Rattle.ehci.specs.declared.reply.Answered.the-variants.{Done, Cancelled}
 use Rattle.ehci.specs.declared.reply.Given.the-variants as G
 use Rattle.ehci.specs.declared.reply.Event.the-variants as E
 use Rattle.ehci.specs.Door.{Applied}
-use Rattle.promises.specs.Runs.{History, Machine, World, historyOf, rowsOf, turnOf, worldOf}
+use Rattle.promises.specs.Runs.{EveryRun, History, Machine, World, inPlain, historyOf, rowsOf, turnOf, worldOf}
 use Rattle.promises.specs.Walks.{chainWalk, isIn, ringWalk, walkFrom}
 use Rattle.promises.specs.Events.{Submits, event, isCollected}
 use Rattle.promises.specs.Bells.{kindAt}
-use Rattle.promises.specs.Boundaries.{BoundaryKept, EveryRun}
+use Rattle.promises.specs.Boundaries.{BoundaryKept}
 use Rattle.promises.specs.Faults.{NeverGiven, holds, mayRead}
 use Rattle.promises.proofs.invariants.Reached.{freshWorld}
 use Rattle.refutations.proofs.WrongRuns.{acknowledges, linked, one, openedTwo, opening, reading, replies, request, small, stateOf, submits, waits}
@@ -30,7 +30,7 @@ use Rattle.refutations.proofs.WrongBells.{any, any-plainly, boundary?, 
 use Rattle.refutations.proofs.Scripts.{Follows, Script, arrives, callsOf, is-told, turnsOf}
 
 -- what a machine does that counts the stale advance: n is its note before the drain
-module _ (m : Machine) (plainly : Plainly m) (n : ℕ)
+module _ (m : Machine inPlain) (plainly : Plainly m) (n : ℕ)
     (hears : m (linkedOne (one 0 0 0 0 0 linked)) (acknowledges 0x20) ≡ replies (Done G.Yes) (acknowledgeWrites 0x20 0x27 true true) (linkedOne (one 0x20 0x20 n 0 0 linked)))
     (leaves : m (linkedOne (one 0x20 0x20 n 0 0 linked)) (Cancel 0 1 (reading 0x80031)) ≡ replies (Done G.Nothing) (andThen noWrites 0 (ringWord 0x80031)) (apartOne (one 0x20 0x20 n 1 1 (waits 1))))
     (counts : m (apartOne (one 0x20 0x20 n 1 1 (waits 1))) (Drain 0x80031) ≡ replies (Done (G.Event E.TransferActivity)) noWrites (apartOne (one 0 0x20 0 0 0 (waits 0)))) where

@@ -21,7 +21,7 @@ use Rattle.pool.specs.Transfers.{bareAt, chunkQtd, recordAt}
 use Rattle.settings.specs.Settings.{apartAreas, areaGood, eachGood, noOverlap, numbersGood, settingsGood}
 use Rattle.slot.specs.declared.slot.Slot.{Slot}
 use Rattle.slot.specs.Ranges.{boundaryGood, closedGood, idleGood, linkedGood, noRequest, openKind, phaseGood, slotGood, unlinkingGood}
-use Rattle.state.specs.declared.state.Ehci.{Ehci}
+use Rattle.state.specs.Plain.{Ehci}
 use Rattle.state.specs.Ranges.{doorbellGood, inRanges, interruptGood, largest, machineGood, ownerGood, restGood, slotsGood}
 use Rattle.state.specs.Slots.{slotAt, withSlot}
 use Rattle.state.specs.State.{withBell, withOwner}
@@ -48,11 +48,11 @@ use Rattle.ehci.specs.declared.reply.Given.the-variants as G
 use Rattle.ehci.specs.Replies.{replied}
 use Rattle.ehci.specs.Decides.{asksOf, cancelDecided, collectDecided, decideOf, openDecided, submitDecided}
 use Rattle.ehci.specs.Door.{Applied, applyOf}
-use Rattle.promises.specs.Runs.{History, Machine, World, core, historyOf, leftBy, rowsOf, turnOf, worldOf}
+use Rattle.promises.specs.Runs.{EveryRun, History, Machine, World, inPlain, core, historyOf, leftBy, rowsOf, turnOf, worldOf}
 use Rattle.promises.specs.Walks.{chainWalk, frameWalk, isIn, ringWalk, walkFrom}
 use Rattle.promises.specs.Events.{Submits, event, isCollected}
 use Rattle.promises.specs.Bells.{kindAt, parted}
-use Rattle.promises.specs.Boundaries.{EveryRun, FramesKept}
+use Rattle.promises.specs.Boundaries.{FramesKept}
 use Rattle.promises.specs.Faults.{NeverGiven, holds, mayRead}
 use Rattle.promises.proofs.invariants.Reached.{freshWorld}
 use Rattle.refutations.proofs.WrongRuns.{chunk, closed, fresh, headsOf, noBell, opening, replies, reading, rising, rising-good, small, stateOf, used}
@@ -82,7 +82,7 @@ sooner Rearm = Rearm
 sooner Enable = Enable
 sooner Disable = Disable
 
-abbrev pub hasty : Machine
+abbrev pub hasty : Machine inPlain
 hasty w c = core w (sooner c)
 
 -- ---- an interrupt request, and what comes of it

@@ -17,7 +17,7 @@ use Rattle.pool.specs.Transfers.{bareAt, chunkQtd, recordAt}
 use Rattle.settings.specs.Settings.{apartAreas, areaGood, eachGood, noOverlap, numbersGood, settingsGood}
 use Rattle.slot.specs.Ranges.{boundaryGood, closedGood, idleGood, linkedGood, noRequest, openKind, phaseGood, slotGood, unlinkingGood}
 use Rattle.slot.specs.declared.slot.Slot.{Slot}
-use Rattle.state.specs.declared.state.Ehci.{Ehci}
+use Rattle.state.specs.Plain.{Ehci}
 use Rattle.state.specs.Ranges.{doorbellGood, inRanges, interruptGood, largest, machineGood, ownerGood, restGood, slotsGood}
 use Rattle.state.specs.Slots.{slotAt, withSlot}
 use Rattle.state.specs.State.{withBell, withBoundaries, withInterrupt, withOwner}
@@ -42,12 +42,11 @@ use Rattle.ehci.specs.declared.reply.Event.the-variants as E
 use Rattle.ehci.specs.Replies.{answeredValues, replied}
 use Rattle.ehci.specs.Decides.{acknowledgeDecided, asksOf, cancelDecided, collectDecided, decideOf, drainDecided, submitDecided}
 use Rattle.ehci.specs.Door.{Applied, applyOf}
-use Rattle.promises.specs.Runs.{History, Machine, World, core, historyOf, turnOf, worldOf}
+use Rattle.promises.specs.Runs.{EveryRun, History, Machine, World, inPlain, core, historyOf, moment, turnBy, turnOf, worldOf}
 use Rattle.promises.specs.Walks.{ringWalk, walkFrom}
 use Rattle.promises.specs.Events.{Submits, event, firstIn, isDone}
 use Rattle.promises.specs.Opened.{slotIn}
 use Rattle.promises.specs.Uses.{uses}
-use Rattle.promises.specs.Chains.{turnBy}
 use Rattle.promises.specs.Registers.{Access}
 use Rattle.promises.specs.Ids.{CancelsById, CollectsById, IdsInTurn, following, nextId}
 use Rattle.promises.proofs.invariants.Reached.{freshWorld}
@@ -62,7 +61,7 @@ use Rattle.refutations.proofs.Scripts.{Follows, Script, arrives, is-tol
 abbrev inThrees : Applied → Applied
 inThrees a = cond (isDone (a .reply .answer)) (answering (Done (G.Id ((firstIn (answeredValues (a .reply .answer)) - 1) % 3 + 1))) a) a
 
-abbrev pub thrice : Machine
+abbrev pub thrice : Machine inPlain
 thrice = but (λ x a. isSubmits a) (λ x a. inThrees a)
 
 abbrev w : World
@@ -230,12 +229,12 @@ fourth-due =
     round-due 3 goods-three c3 third ∙ next-due 2 goods-two c2 (arrives thrice w upCalls openedTwo up second second-so) ∙ ap following second-due
 
 -- the first is given 1, and the fourth too
-pub thrice-ids : IdsInTurn thrice → ⊥
+pub thrice-ids : EveryRun IdsInTurn thrice → ⊥
 thrice-ids ids =
-    let first : event small (turnBy thrice (worldOf thrice w upCalls) (submits 0 0x500000)) ≡ Submits 0 1 (request 0x500000)
-    = ap (λ (x : World). event small (turnBy thrice x (submits 0 0x500000))) up ∙ ap (λ (a : Applied). event small (turnOf (openedTwo .rows) (submits 0 0x500000) a)) submits-one in
-    let fourth : event small (turnBy thrice (worldOf thrice w ready) again) ≡ Submits 0 1 (request 0x502000)
-    = ap (λ (x : World). event small (turnBy thrice x again)) (round-world 3 goods-three c3 third)
+    let first : event small (turnBy (moment thrice (worldOf thrice w upCalls)) (submits 0 0x500000)) ≡ Submits 0 1 (request 0x500000)
+    = ap (λ (x : World). event small (turnBy (moment thrice x) (submits 0 0x500000))) up ∙ ap (λ (a : Applied). event small (turnOf (openedTwo .rows) (submits 0 0x500000) a)) submits-one in
+    let fourth : event small (turnBy (moment thrice (worldOf thrice w ready)) again) ≡ Submits 0 1 (request 0x502000)
+    = ap (λ (x : World). event small (turnBy (moment thrice x) again)) (round-world 3 goods-three c3 third)
     ∙ ap (λ (a : Applied). event small (turnOf (freeN 3 .rows) again a)) (next-given 3 goods-three) in
     let begins : 1 ≡ nextId small 0 (past upCalls) = ids small w opening upCalls (submits 0 0x500000) 0 1 (request 0x500000) first in
     let ends : 1 ≡ nextId small 0 (past ready) = ids small w opening ready again 0 1 (request 0x502000) fourth in
@@ -243,16 +242,16 @@ thrice-ids ids =
 
 -- ---- every cancel and collect is answered 0
 
-abbrev pub obliging : Machine
+abbrev pub obliging : Machine inPlain
 obliging = but (λ x a. isLeaves a) (λ x a. answering (Done G.Nothing) a)
 
-pub obliging-cancels : CancelsById obliging → ⊥
+pub obliging-cancels : EveryRun CancelsById obliging → ⊥
 unfolding historyOf worldOf uses
 obliging-cancels by-id =
     let none : _≡_ {A = ℕ} 0 3 = by-id small w opening [] 0 1 (reading 0x80031) in
     omega (arith, none)
 
-pub obliging-collects : CollectsById obliging → ⊥
+pub obliging-collects : EveryRun CollectsById obliging → ⊥
 unfolding historyOf worldOf slotIn
 obliging-collects by-id =
     let none : _≡_ {A = ℕ} 0 3 = by-id small w opening [] 0 1 (reading 0x80031) .not-open refl in

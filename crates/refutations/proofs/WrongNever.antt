@@ -30,7 +30,7 @@ use Rattle.ehci.specs.declared.reply.Event.the-variants as E
 use Rattle.ehci.specs.Replies.{replied}
 use Rattle.ehci.specs.Decides.{acknowledgeDecided, asksOf, cancelDecided, collectDecided, decideOf, drainDecided}
 use Rattle.ehci.specs.Door.{Applied, applyOf}
-use Rattle.promises.specs.Runs.{World, core, History, Machine, historyOf, turnOf, worldOf}
+use Rattle.promises.specs.Runs.{EveryRun, History, Machine, World, inPlain, core, historyOf, runOf, turnOf, worldOf}
 use native.Mathlib.Omega.{arith}
 use Rattle.settings.specs.Settings.{apartAreas, areaGood, eachGood, noOverlap, numbersGood, settingsGood}
 use Rattle.slot.specs.Ranges.{boundaryGood, closedGood, idleGood, linkedGood, noRequest, openKind, phaseGood, slotGood, unlinkingGood}
@@ -38,7 +38,7 @@ use Rattle.common.specs.Kinds.{isInterrupt}
 use Rattle.promises.specs.Walks.{ringWalk, walkFrom}
 use Rattle.promises.specs.Events.{isCollected}
 use Rattle.promises.specs.Bells.{asked, bell, collects, counted, kindAt, newestId, none, number, unlinking, unlinksOf}
-use Rattle.promises.specs.Boundaries.{EveryRun, Exact, Passes, Waits, turn}
+use Rattle.promises.specs.Boundaries.{Exact, Passes, Waits, turn}
 use Rattle.promises.proofs.invariants.Reached.{freshWorld}
 use Rattle.refutations.proofs.WrongRuns.{acknowledges, linked, one, openedTwo, opening, reading, replies, small, stateOf, waits}
 use Rattle.refutations.proofs.WrongUp.{Plainly, isDrain, plain-rises, up-world, upCalls}
@@ -48,7 +48,7 @@ use Rattle.refutations.proofs.WrongBells.{noteBefore}
 use Rattle.refutations.proofs.Scripts.{Follows, Script, arrives, callsOf, is-told, turnsOf}
 
 -- no advance is ever counted
-abbrev pub never : Machine
+abbrev pub never : Machine inPlain
 never w c = core (noteBefore (isDrain c) 0 w) c
 
 never-plainly : Plainly never
@@ -153,14 +153,14 @@ none-counted = refl
 begun : historyOf never w c1 ≡ first
 begun = is-told never w upCalls openedTwo up submitsOne (submitted, tt)
 
-not-collectable : Passes never small w answered 0 → ⊥
+not-collectable : Passes small (runOf never w) answered 0 → ⊥
 unfolding stateOf endpointAt decoded slotAt
 not-collectable p = not-passed (apartOne (one 0 0x20 0 1 1 (waits 1))) 0 (p .1) (p .2) refl (subst (λ (x : World). isCollected (never x (Collect 0 (p .1) (p .2)) .reply .answer) ≡ true) w4 (p .3))
 
 pub never-waits : EveryRun Waits never → ⊥
 never-waits waits =
     let c : Call = Cancel 0 1 (reading 0x80031) in
-    let goes : unlinksOf small 0 (turn never small w c1 c) ≡ true
+    let goes : unlinksOf small 0 (turn small (runOf never w) c1 c) ≡ true
     = ap (λ (x : World). unlinksOf small 0 (turnOf (x .rows) c (never x c))) w1
     ∙ ap (λ (a : Applied). unlinksOf small 0 (turnOf (linkedOne (one 0 0 0 0 0 linked) .rows) c a)) leaves ∙ leaves-ring in
     let owed : asked small (historyOf never w c1) ≡ counted small (historyOf never w c1) + 0 = subst (λ (h : History). asked small h ≡ counted small h + 0) (sym begun) none-owed in

@@ -27,10 +27,9 @@ use Rattle.ehci.specs.declared.reply.Given.the-variants as G
 use Rattle.ehci.specs.Replies.{answeredValues, replied}
 use Rattle.ehci.specs.Decides.{acknowledgeDecided, asksOf, decideOf, drainDecided}
 use Rattle.ehci.specs.Door.{Applied, applyOf}
-use Rattle.promises.specs.Runs.{History, Machine, Turn, World, core, historyOf, turnOf, worldOf}
+use Rattle.promises.specs.Runs.{EveryRun, History, Machine, Turn, World, inPlain, core, historyOf, moment, turnBy, turnOf, worldOf}
 use Rattle.promises.specs.Events.{Other, Submits, firstIn, isDone}
 use Rattle.promises.specs.Bells.{bell, isUp}
-use Rattle.promises.specs.Chains.{turnBy}
 use Rattle.promises.specs.Registers.{Access, InterruptsAnswered, QuietBringUp, RegistersTied, RingsInTurn, StatusAcknowledged, WritesExactly, accessOf, pendingIn, readIn, ringCount, ringsBy, statusFor, valuesAt}
 use Rattle.promises.proofs.invariants.Reached.{freshWorld}
 use Rattle.promises.proofs.any_machine.RegisterLaws.{count-by, never-rings, status-written}
@@ -50,14 +49,14 @@ w = freshWorld small
 abbrev statusAs : ℕ → Write → Write
 statusAs v x = cond (eqb (x .offset) 4) (writeOf 4 v) x
 
-abbrev pub acknowledgesAs : ℕ → Machine
+abbrev pub acknowledgesAs : ℕ → Machine inPlain
 acknowledgesAs v = but (λ x a. isAcknowledges a) (λ x a. rewriting (statusAs v) a)
 
 -- nothing; or everything, what came after the read too
-abbrev pub silent : Machine
+abbrev pub silent : Machine inPlain
 silent = acknowledgesAs 0
 
-abbrev pub deafening : Machine
+abbrev pub deafening : Machine inPlain
 deafening = acknowledgesAs 0x3F
 
 fresh-heard : core (fresh (rising 0 0)) (acknowledges 0x20)
@@ -70,7 +69,7 @@ module _ (v : ℕ) (other : v ≡ 0x20 → ⊥) where
   answer = replies (Done G.Yes) (acknowledgeWrites 0x20 0x27 true true) (fresh (stateOf 0 0 (bellOf 0x20 0x20 0 0 0) (0 ∷ 0 ∷ []) closed closed))
 
   -- the first call of all
-  did : turnBy (acknowledgesAs v) w (acknowledges 0x20) ≡ turnOf (fresh (rising 0 0) .rows) (acknowledges 0x20) (rewriting (statusAs v) answer)
+  did : turnBy (moment (acknowledgesAs v) w) (acknowledges 0x20) ≡ turnOf (fresh (rising 0 0) .rows) (acknowledges 0x20) (rewriting (statusAs v) answer)
   did =
       ap (λ (x : World). turnOf (x .rows) (acknowledges 0x20) (rewriting (statusAs v) (core x (acknowledges 0x20)))) opens
       ∙ ap (λ (a : Applied). turnOf (fresh (rising 0 0) .rows) (acknowledges 0x20) (rewriting (statusAs v) a)) fresh-heard
@@ -83,7 +82,7 @@ module _ (v : ℕ) (other : v ≡ 0x20 → ⊥) where
   unfolding onlyBits
   ought = refl
 
-  not-acknowledged : StatusAcknowledged (acknowledgesAs v) → ⊥
+  not-acknowledged : EveryRun StatusAcknowledged (acknowledgesAs v) → ⊥
   unfolding historyOf worldOf
   not-acknowledged kept =
       let says = kept small w opening [] (acknowledges 0x20) in
@@ -91,31 +90,31 @@ module _ (v : ℕ) (other : v ≡ 0x20 → ⊥) where
       sym (ap (λ (t : Turn). valuesAt 4 (t .wrote)) did ∙ wrote) ∙ says ∙ ap (λ (t : Turn). statusFor [] t (accessOf (acknowledges 0x20))) did ∙ ought in
       other (ap (λ (l : List ℕ). getD l 0 0) same)
 
-  not-exact : WritesExactly (acknowledgesAs v) → ⊥
+  not-exact : EveryRun WritesExactly (acknowledgesAs v) → ⊥
   not-exact exact = not-acknowledged (status-written (acknowledgesAs v) exact)
 
-pub silent-status : StatusAcknowledged silent → ⊥
+pub silent-status : EveryRun StatusAcknowledged silent → ⊥
 silent-status = not-acknowledged 0 (λ e. omega arith)
 
-pub silent-writes : WritesExactly silent → ⊥
+pub silent-writes : EveryRun WritesExactly silent → ⊥
 silent-writes = not-exact 0 (λ e. omega arith)
 
-pub deafening-status : StatusAcknowledged deafening → ⊥
+pub deafening-status : EveryRun StatusAcknowledged deafening → ⊥
 deafening-status = not-acknowledged 0x3F (λ e. omega arith)
 
-pub deafening-writes : WritesExactly deafening → ⊥
+pub deafening-writes : EveryRun WritesExactly deafening → ⊥
 deafening-writes = not-exact 0x3F (λ e. omega arith)
 
 -- ---- what is acknowledged does not become pending
 
-abbrev pub forgetful : Machine
+abbrev pub forgetful : Machine inPlain
 forgetful = but (λ x a. isAcknowledges a) (λ x a. replies (Done G.Yes) (a .reply .writes) x)
 
 fresh-drains : core (fresh (rising 0 0)) (Drain 0x80031) ≡ replies (Done (G.Event E.Nothing)) noWrites (fresh (rising 0 0))
 unfolding applyOf decideOf asksOf rowsFit replied fillOf filledFrom noChain packed listOf drainDecided drainOf stateOf
 fresh-drains = rw (rising-good 0 0 refl refl)
 
-pub forgetful-answers : InterruptsAnswered forgetful → ⊥
+pub forgetful-answers : EveryRun InterruptsAnswered forgetful → ⊥
 unfolding historyOf worldOf pendingIn onlyBits withBits anyOf
 forgetful-answers answered =
     let says = answered small w opening (acknowledges 4 ∷ []) .drains-pending 0x80031 .1 in
@@ -124,7 +123,7 @@ forgetful-answers answered =
     let same : _≡_ {A = ℕ} 0 1 = ap (λ (l : List ℕ). getD l 0 0) (sym nothing ∙ says) in
     omega (arith, same)
 
-pub forgetful-tied : RegistersTied forgetful → ⊥
+pub forgetful-tied : EveryRun RegistersTied forgetful → ⊥
 unfolding historyOf worldOf pendingIn onlyBits withBits freshState
 forgetful-tied tied =
     let none : _≡_ {A = ℕ} 0 4 = tied small w opening (acknowledges 4 ∷ []) .pending in
@@ -135,7 +134,7 @@ forgetful-tied tied =
 abbrev rung : Write → Write
 rung x = writeOf (x .offset) (withBits (x .value) 0x40)
 
-abbrev pub insistent : Machine
+abbrev pub insistent : Machine inPlain
 insistent = but (λ x a. isSubmits a && eqb (x .state .doorbell) 1) (λ x a. rewriting rung a)
 
 abbrev c2 : List Call
@@ -159,34 +158,34 @@ one-ring : ringCount (turnOf (apartOne (one 0 0 0 1 1 (waits 1)) .rows) (submits
 unfolding andThen noWrites commandWord withBits withoutBits
 one-ring = refl
 
-module _ (said : ringCount (turnBy insistent (worldOf insistent w c2) (submits 1 0x501000) .wrote)
-    ≡ flagNumber (ringsBy small (historyOf insistent w c2) (turnBy insistent (worldOf insistent w c2) (submits 1 0x501000)))) where
+module _ (said : ringCount (turnBy (moment insistent (worldOf insistent w c2)) (submits 1 0x501000) .wrote)
+    ≡ flagNumber (ringsBy small (historyOf insistent w c2) (turnBy (moment insistent (worldOf insistent w c2)) (submits 1 0x501000)))) where
   -- a submit is neither an unlink nor a drain
   no-ring : ⊥
   no-ring =
       let c = submits 1 0x501000 in
       let now = worldOf insistent w c2 in
       let a = insistent now c .reply .answer in
-      let none = never-rings insistent small (historyOf insistent w c2) now c (isDone a) (Submits 1 (firstIn (answeredValues a)) (request 0x501000)) Other refl refl refl refl refl in
-      let wrote : ringCount (turnBy insistent now c .wrote) ≡ 1
-      = ap (λ (x : World). ringCount (turnBy insistent x c .wrote)) insistent-two
+      let none = never-rings small (historyOf insistent w c2) (moment insistent now) c (isDone a) (Submits 1 (firstIn (answeredValues a)) (request 0x501000)) Other refl refl refl refl refl in
+      let wrote : ringCount (turnBy (moment insistent now) c .wrote) ≡ 1
+      = ap (λ (x : World). ringCount (turnBy (moment insistent x) c .wrote)) insistent-two
       ∙ ap (λ (x : Applied). ringCount (turnOf (apartOne (one 0 0 0 1 1 (waits 1)) .rows) c x .wrote)) rings-beside ∙ one-ring in
       omega (arith, sym wrote ∙ said ∙ ap flagNumber none)
 
-pub insistent-rings : RingsInTurn insistent → ⊥
+pub insistent-rings : EveryRun RingsInTurn insistent → ⊥
 insistent-rings turns = no-ring (turns small w opening c2 (submits 1 0x501000) .once)
 
-pub insistent-writes : WritesExactly insistent → ⊥
+pub insistent-writes : EveryRun WritesExactly insistent → ⊥
 insistent-writes exact =
     let c = submits 1 0x501000 in
-    no-ring (ap ringCount (exact small w opening c2 c) ∙ count-by insistent small (historyOf insistent w c2) (worldOf insistent w c2) c)
+    no-ring (ap ringCount (exact small w opening c2 c) ∙ count-by small (historyOf insistent w c2) (moment insistent (worldOf insistent w c2)) c)
 
 -- ---- bring-up is begun while a ring is out
 
 abbrev begins : World → Applied → Applied
 begins x a = replies (Done (G.Next (N.Register 0) 0)) noWrites x
 
-abbrev pub brazen : Machine
+abbrev pub brazen : Machine inPlain
 brazen = but (λ x a. isStarts a && eqb (x .state .noted) 1) begins
 
 brazen-up : worldOf brazen w upCalls ≡ openedTwo
@@ -206,7 +205,7 @@ begun-answered : (h : History) → (readIn (turnsOf openedTwo h restarts) ≡ 1)
 unfolding readIn bell andThen noWrites ringWord withBits acknowledgeWrites
 begun-answered h = (refl, refl)
 
-pub brazen-quiet : QuietBringUp brazen → ⊥
+pub brazen-quiet : EveryRun QuietBringUp brazen → ⊥
 brazen-quiet quiet =
     let h = historyOf brazen w upCalls in
     let begun : readIn (historyOf brazen w (callsOf upCalls restarts)) ≡ 1 = ap readIn brazen-told ∙ begun-answered h .0 in

@@ -17,7 +17,7 @@ use Rattle.ehci.specs.declared.reply.Answered.the-variants.{Done}
 use Rattle.ehci.specs.declared.reply.Given.the-variants as G
 use Rattle.ehci.specs.Replies.{answeredNumber}
 use Rattle.ehci.specs.Door.{Applied, applied}
-use Rattle.promises.specs.Runs.{History, Machine, Turn, World, core, historyOf, rowsOf, turnOf, worldOf}
+use Rattle.promises.specs.Runs.{EveryRun, History, Machine, Turn, World, inPlain, core, historyOf, moment, rowsOf, turnOf, worldOf}
 use Rattle.promises.specs.Walks.{chainWalk, ringWalk, walkFrom}
 use Rattle.promises.specs.Events.{event, isCollected}
 use Rattle.promises.specs.Uses.{Use, uses}
@@ -40,7 +40,7 @@ w = freshWorld small
 abbrev unwritten : World → Applied → Applied
 unwritten v a = applied (a .reply) (v .rows .pool) (a .heads) (a .frames) (a .setups)
 
-abbrev drops : Machine
+abbrev drops : Machine inPlain
 drops v c = cond (eqb (rank c) 3) (unwritten v (core v c)) (core v c)
 
 drops-plain : (v : World) (c : Call) → eqb (rank c) 3 ≡ false → drops v c ≡ core v c
@@ -64,7 +64,7 @@ submits-there = arrives drops w upCalls openedTwo up submitsOne submits-so
 abbrev tokenIn : List QueueTransferDescriptor → ℕ
 tokenIn l = getD l 0 blank .token
 
-drops-stays : SubmittedStays drops → ⊥
+drops-stays : EveryRun SubmittedStays drops → ⊥
 drops-stays p =
     let zero : answeredNumber (drops (worldOf drops w cs) back .reply .answer) ≡ 0
     = ap (λ (v : World). answeredNumber (drops v back .reply .answer)) submits-there ∙ ap (λ (a : Applied). answeredNumber (a .reply .answer)) written in
@@ -93,7 +93,7 @@ uses-are : uses small told ≡ first ∷ []
 unfolding uses historyOf ringWalk walkFrom chainWalk
 uses-are = refl
 
-not-standing : TokenStands small told (linkedOne (one 0 0 0 0 0 linked)) first 0 → ⊥
+not-standing : TokenStands small told (moment drops (linkedOne (one 0 0 0 0 0 linked))) first 0 → ⊥
 not-standing x = by (x .since) (x .picture) (x .untouched)
   where
     newest : History → Turn
@@ -107,9 +107,9 @@ not-standing x = by (x .since) (x .picture) (x .untouched)
     by (t ∷ since) e u = u .0 0x000C8C00 (sym (ap (λ (h : History). newest h .call) e), sym (ap (λ (h : History). answeredNumber (newest h .answer)) e))
 
 abbrev AllStand : History → World → List Use → Type 0
-AllStand h v us = Every (λ u. (j : ℕ) → j < length (u .places) → TokenStands small h v u j) us
+AllStand h v us = Every (λ u. (j : ℕ) → j < length (u .places) → TokenStands small h (moment drops v) u j) us
 
-drops-stands : TokensStand drops → ⊥
+drops-stands : EveryRun TokensStand drops → ⊥
 drops-stands p =
     let there : worldOf drops w (back ∷ cs) ≡ linkedOne (one 0 0 0 0 0 linked) = arrives drops w upCalls openedTwo up writes (back-so, submits-so) in
     let by-world : AllStand (historyOf drops w (back ∷ cs)) (linkedOne (one 0 0 0 0 0 linked)) (uses small (historyOf drops w (back ∷ cs)))
@@ -123,7 +123,7 @@ drops-stands p =
 abbrev unended : World → Applied → Applied
 unended v a = cond (isCollected (a .reply .answer)) (applied (a .reply) (a .pool) (v .rows .heads) (a .frames) (a .setups)) a
 
-abbrev leads : Machine
+abbrev leads : Machine inPlain
 leads v c = cond (eqb (rank c) 2) (unended v (core v c)) (core v c)
 
 leads-end : worldOf leads w c5 ≡ apartNow (one 0 0x20 0 0 0 (leaves 0))
@@ -143,7 +143,7 @@ leads-answer = by (isCollected (core end looks .reply .answer))
 leads-word : wordAt (rowsOf (leads end looks)) 0 4 ≡ 0x100000
 leads-word = rw (ap isCollected length-500)
 
-leads-ended : CollectsEnded leads → ⊥
+leads-ended : EveryRun CollectsEnded leads → ⊥
 leads-ended p =
     let collects : isCollected (leads (worldOf leads w c5) looks .reply .answer) ≡ true
     = ap (λ (v : World). isCollected (leads v looks .reply .answer)) leads-end

@@ -30,13 +30,13 @@ use Rattle.controller.specs.declared.lent.Readings.{Readings}
 use Rattle.schedule.specs.Links.{startedOverlay}
 use Rattle.request.specs.Submit.{chainFor, firstIn, needOfRequest, setupsWith, takenOf, writesWith}
 use Rattle.request.specs.declared.judge.TransferRequest.{TransferRequest}
-use Rattle.request.specs.declared.settle.Taken.{Taken}
+use Rattle.request.specs.Plain.{Taken}
 use Rattle.ehci.specs.declared.call.Call.the-variants.{StartBringUp, BringUpStep, AllocateAddress, OpenEndpoint, Close, SetAddress, SetPacketSize, Submit, Writeback, Cancel, Collect, Acknowledge, Drain, Rearm, Enable, Disable}
 use Rattle.ehci.specs.declared.reply.Answered.the-variants.{Done, Pending}
 use Rattle.ehci.specs.declared.reply.Given.the-variants.{Id}
 use Rattle.ehci.specs.Replies.{answeredNumber}
 use Rattle.ehci.specs.Door.{Applied, applied}
-use Rattle.promises.specs.Runs.{Machine, Opening, Rows, World, core, historyOf, rowsOf, worldOf}
+use Rattle.promises.specs.Runs.{EveryRun, Machine, Opening, Rows, World, inPlain, core, historyOf, rowsOf, worldOf}
 use Rattle.promises.specs.Walks.{chainWalk, walkFrom}
 use Rattle.promises.specs.Uses.{uses}
 use Rattle.promises.specs.Coverage.{recordsMet}
@@ -81,7 +81,7 @@ leaves w setups = applied (record { state = w .state; answer = Pending; writes =
 abbrev stays : World → Applied
 stays w = leaves w (w .rows .setups)
 
-abbrev machine : Ways → Machine
+abbrev machine : Ways → Machine inPlain
 machine x w StartBringUp = stays w
 machine x w (BringUpStep v) = stays w
 machine x w AllocateAddress = stays w
@@ -99,11 +99,11 @@ machine x w Rearm = stays w
 machine x w Enable = leaves w (x .enable (w .rows .setups))
 machine x w Disable = stays w
 
-abbrev plain : Machine
+abbrev plain : Machine inPlain
 plain = machine (record { token = λ w. w; packet = λ t. t; enable = λ l. l })
 
 -- the packet's length field is 0
-abbrev lengthless : Machine
+abbrev lengthless : Machine inPlain
 lengthless =
     machine
     (record {
@@ -113,11 +113,11 @@ lengthless =
     })
 
 -- no token has the toggle
-abbrev untoggled : Machine
+abbrev untoggled : Machine inPlain
 untoggled = machine (record { token = λ w. w % 2 ^ 31; packet = λ t. t; enable = λ l. l })
 
 -- the packets are lost
-abbrev forgets : Machine
+abbrev forgets : Machine inPlain
 forgets = machine (record { token = λ w. w; packet = λ t. t; enable = λ l. replicate 8 0 })
 
 -- ---- GET_DESCRIPTOR (device) of 18 bytes
@@ -128,7 +128,7 @@ asks = record { kind = Control; direction = In; setup = 0x000001000680; address 
 abbrev reads : Readings
 reads = record { command = 0; frame = 0 }
 
-abbrev left : Machine → Rows
+abbrev left : Machine inPlain → Rows
 left m = rowsOf (m (freshWorld trio) (Submit 0 asks reads))
 
 -- setup 00080E80, data 80120D80, status 80008C80, as 01's examples have them
@@ -145,7 +145,7 @@ plain-packet = (refl, refl)
 
 -- ---- refuted
 
-lengthless-planned : SubmitsPlanned lengthless → ⊥
+lengthless-planned : EveryRun SubmitsPlanned lengthless → ⊥
 unfolding historyOf worldOf setupsWith putAt setupPacket
 lengthless-planned p =
     let none : _≡_ {A = ℕ} 0 18 = p trio (freshWorld trio) opened [] 0 asks reads refl .packet refl .length-is in
@@ -154,20 +154,20 @@ lengthless-planned p =
 abbrev second : List Fields → Fields
 second fs = getD fs 1 (planned 0 0 0 0 0)
 
-untoggled-planned : SubmitsPlanned untoggled → ⊥
+untoggled-planned : EveryRun SubmitsPlanned untoggled → ⊥
 unfolding historyOf worldOf chainWalk walkFrom takenOf placesFrom markOf packed listOf fillOf filledFrom recordAt bareAt stageAt controlPlan newQtd withNext startedOverlay freshState openedHeads ringHead terminated needOf tokenOf pageSlots
 untoggled-planned p =
     let none : _≡_ {A = ℕ} 0 1 = ap (λ (fs : List Fields). second fs .toggle) (p trio (freshWorld trio) opened [] 0 asks reads refl .planned-so) in
     omega (arith, none)
 
 -- the request is uncollected, and its packet is gone
-forgets-stays : SubmittedStays forgets → ⊥
+forgets-stays : EveryRun SubmittedStays forgets → ⊥
 unfolding historyOf worldOf uses setupsWith putAt setupPacket
 forgets-stays p =
     let none : _≡_ {A = ℕ} 0 18 = ap wLength (p trio (freshWorld trio) opened (Submit 0 asks reads ∷ []) .packets Enable .0) in
     omega (arith, none)
 
-forgets-stands : PacketsStand forgets → ⊥
+forgets-stands : EveryRun PacketsStand forgets → ⊥
 unfolding historyOf worldOf uses setupsWith putAt setupPacket
 forgets-stands p =
     let none : _≡_ {A = ℕ} 0 18 = p trio (freshWorld trio) opened (Enable ∷ Submit 0 asks reads ∷ []) .0 refl .length-is in
@@ -181,7 +181,7 @@ quieted w = w - 32768 * (w / 32768 % 2)
 abbrev quietly : Applied → Applied
 quietly a = applied (a .reply) (retoken quieted (a .pool)) (a .heads) (a .frames) (a .setups)
 
-abbrev quiet : Machine
+abbrev quiet : Machine inPlain
 quiet v c = cond (eqb (rank c) 1) (quietly (core v c)) (core v c)
 
 submits-quietly : quiet openedTwo (submits 0 0x500000) ≡ quietly (replies (Done (Id 1)) (writesWith (reading 0x80031)) (linkedOne (one 0 0 0 0 0 linked)))
@@ -191,7 +191,7 @@ no-interrupt : map (λ (f : Fields). f .interrupt) (map fieldsOf (recordsMet sma
 unfolding chainWalk walkFrom stateOf
 no-interrupt = refl
 
-quiet-planned : SubmitsPlanned quiet → ⊥
+quiet-planned : EveryRun SubmitsPlanned quiet → ⊥
 quiet-planned p =
     let up = up-world quiet (rises-up quiet (λ v c e. rw (ap (λ (n : ℕ). eqb n 1) e))) in
     let w = freshWorld small in

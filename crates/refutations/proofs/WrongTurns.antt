@@ -26,11 +26,11 @@ use Rattle.ehci.specs.declared.reply.Given.the-variants as G
 use Rattle.ehci.specs.Replies.{replied}
 use Rattle.ehci.specs.Decides.{asksOf, collectDecided, decideOf}
 use Rattle.ehci.specs.Door.{Applied, applied, applyOf}
-use Rattle.promises.specs.Runs.{History, Machine, World, core, historyOf, worldOf}
+use Rattle.promises.specs.Runs.{EveryRun, History, Machine, World, inPlain, core, historyOf, runOf, worldOf}
 use Rattle.promises.specs.Walks.{ringWalk, walkFrom}
 use Rattle.promises.specs.Events.{isCollected}
 use Rattle.promises.specs.Bells.{asked, bell, counted, isUp, linked as isLinked, unlinking}
-use Rattle.promises.specs.Boundaries.{EveryRun, OnePasses, Orderly, Passes, UpExactly}
+use Rattle.promises.specs.Boundaries.{OnePasses, Orderly, Passes, UpExactly}
 use Rattle.promises.specs.Registers.{Access}
 use Rattle.promises.proofs.invariants.Reached.{freshWorld}
 use Rattle.refutations.proofs.WrongRuns.{good, linked, one, openedTwo, opening, reading, replies, small, stateOf, submits, two, waits}
@@ -48,7 +48,7 @@ w = freshWorld small
 abbrev hushed : Applied → Applied
 hushed a = rewriting (λ y. writeOf (y .offset) 0) a
 
-abbrev pub mute : Machine
+abbrev pub mute : Machine inPlain
 mute = but (λ x a. isLeaves a) (λ x a. hushed a)
 
 mute-up : worldOf mute w upCalls ≡ openedTwo
@@ -90,7 +90,7 @@ mute-up-exactly up =
 
 -- ---- every submit is answered 0
 
-abbrev pub grants : Machine
+abbrev pub grants : Machine inPlain
 grants = but (λ x a. isSubmits a) (λ x a. replies (Done (G.Id 1)) noWrites x)
 
 pub grants-orderly : EveryRun Orderly grants → ⊥
@@ -103,7 +103,7 @@ abbrev loosened : Applied → Applied
 loosened a =
     applied (record { state = withBoundaries (a .reply .state) (replicate 32 0); answer = a .reply .answer; writes = a .reply .writes }) (a .pool) (a .heads) (a .frames) (a .setups)
 
-abbrev pub lax : Machine
+abbrev pub lax : Machine inPlain
 lax = but (λ x a. isDrains a) (λ x a. loosened a)
 
 lax-up : worldOf lax w upCalls ≡ openedTwo
@@ -154,23 +154,23 @@ both-collected : (isCollected (core loose (Collect 0 1 (reading 0x80031)) .reply
 unfolding applyOf decideOf asksOf rowsFit replied collectDecided collectOf acceptsOf endpointAt decoded slotAt unlinkingOf finishOf outcomeOf stateOf
 both-collected = (rw loose-good, rw loose-good)
 
-not-first : Passes lax small w c5 0 → ⊥
+not-first : Passes small (runOf lax w) c5 0 → ⊥
 unfolding stateOf endpointAt decoded slotAt
 not-first p = not-passed (apartTwo (two 0x24 0x24 1 1 2 (waits 1) (waits 2))) 0 (p .1) (p .2) refl (subst (λ (x : World). isCollected (lax x (Collect 0 (p .1) (p .2)) .reply .answer) ≡ true) w5 (p .3))
 
-not-second : Passes lax small w c5 1 → ⊥
+not-second : Passes small (runOf lax w) c5 1 → ⊥
 unfolding stateOf endpointAt decoded slotAt
 not-second p = not-passed (apartTwo (two 0x24 0x24 1 1 2 (waits 1) (waits 2))) 1 (p .1) (p .2) refl (subst (λ (x : World). isCollected (lax x (Collect 1 (p .1) (p .2)) .reply .answer) ≡ true) w5 (p .3))
 
 pub lax-passes : EveryRun OnePasses lax → ⊥
 lax-passes one =
-    let first : Passes lax small w c6 0 = (
+    let first : Passes small (runOf lax w) c6 0 = (
       ap (unlinking small 0) told ∙ both-out .0,
       1,
       reading 0x80031,
       ap (λ (x : World). isCollected (lax x (Collect 0 1 (reading 0x80031)) .reply .answer)) w6 ∙ both-collected .0,
     ) in
-    let second : Passes lax small w c6 1 = (
+    let second : Passes small (runOf lax w) c6 1 = (
       ap (unlinking small 1) told ∙ both-out .1,
       1,
       reading 0x80031,

@@ -16,11 +16,11 @@ use Rattle.ehci.specs.declared.reply.Answered.the-variants.{Done, Cancelled}
 use Rattle.ehci.specs.declared.reply.Given.the-variants as G
 use Rattle.ehci.specs.declared.reply.Event.the-variants as E
 use Rattle.ehci.specs.Door.{Applied}
-use Rattle.promises.specs.Runs.{History, World, historyOf, rowsOf, turnOf, worldOf}
+use Rattle.promises.specs.Runs.{EveryRun, History, World, historyOf, rowsOf, runOf, turnOf, worldOf}
 use Rattle.promises.specs.Walks.{chainWalk, isIn, ringWalk, walkFrom}
 use Rattle.promises.specs.Events.{Submits, event, isCollected, rings}
 use Rattle.promises.specs.Bells.{kindAt, unlinking}
-use Rattle.promises.specs.Boundaries.{BoundaryKept, EveryRun, OneCount, OnlyAnswered, Passes, turn}
+use Rattle.promises.specs.Boundaries.{BoundaryKept, OneCount, OnlyAnswered, Passes, turn}
 use Rattle.promises.specs.Faults.{NeverGiven, holds, mayRead}
 use Rattle.promises.proofs.invariants.Reached.{freshWorld}
 use Rattle.refutations.proofs.WrongRuns.{one, openedTwo, opening, reading, replies, request, small, stateOf, submits, two, waits}
@@ -138,11 +138,11 @@ unfolding andThen noWrites ringWord withBits
 rings-again = refl
 
 -- the second request does not pass after the drain that rings, and passes after the next
-not-before : Passes twice small w (callsOf upCalls s6) 1 → ⊥
+not-before : Passes small (runOf twice w) (callsOf upCalls s6) 1 → ⊥
 unfolding stateOf endpointAt decoded slotAt
 not-before p = not-passed (apartTwo (two 0x20 0x24 1 1 1 (waits 0) (waits 1))) 1 (p .1) (p .2) refl (subst (λ (x : World). isCollected (twice x (Collect 1 (p .1) (p .2)) .reply .answer) ≡ true) w6 (p .3))
 
-passes-after : Passes twice small w (callsOf upCalls shared) 1
+passes-after : Passes small (runOf twice w) (callsOf upCalls shared) 1
 passes-after = (
   ap (unlinking small 1) is-so ∙ out-of-ring,
   1,
@@ -150,7 +150,7 @@ passes-after = (
   ap (λ (x : World). isCollected (twice x (Collect 1 1 (reading 0x80031)) .reply .answer)) w7 ∙ ap (λ (a : Applied). isCollected (a .reply .answer)) collected-second,
 )
 
-rang : rings (turn twice small w (callsOf upCalls hearsTwo) (Drain 0x80031)) ≡ true
+rang : rings (turn small (runOf twice w) (callsOf upCalls hearsTwo) (Drain 0x80031)) ≡ true
 rang =
     ap (λ (x : World). rings (turnOf (x .rows) (Drain 0x80031) (twice x (Drain 0x80031)))) w5
     ∙ ap (λ (a : Applied). rings (turnOf (apartTwo (two 0x24 0x24 1 1 2 (waits 1) (waits 2)) .rows) (Drain 0x80031) a)) drains-first ∙ rings-again

@@ -9,7 +9,7 @@ use Rattle.bring_up.specs.BringUp.{movedOn, ready, stageOf}
 use Rattle.ehci.specs.declared.call.Call.{Call}
 use Rattle.ehci.specs.declared.call.Call.the-variants.{StartBringUp, BringUpStep, OpenEndpoint}
 use Rattle.ehci.specs.declared.call.EndpointFields.{EndpointFields}
-use Rattle.promises.specs.Runs.{Machine, World, core, leftBy, worldOf}
+use Rattle.promises.specs.Runs.{Machine, World, inPlain, core, leftBy, worldOf}
 use Rattle.promises.specs.Registers.{Access, None, Starts, Steps, Submits, Leaves, Acknowledges, Drains, Rearms, Enables, Disables, accessOf}
 use Rattle.promises.proofs.invariants.Reached.{freshWorld}
 use Rattle.refutations.proofs.WrongRuns.{fresh, openBulk, openedOne, openedTwo, opens, opens-one, opens-two, rising, small, starts, stateOf, steps}
@@ -47,16 +47,16 @@ abbrev pub readsAdvance : Call → Bool
 readsAdvance c = eqb (bit (statusIn (accessOf c)) 5) 1
 
 -- it does as `core` does on the way up
-pub record Rises (m : Machine) : Type 0 where
+pub record Rises (m : Machine inPlain) : Type 0 where
   pub starts : (w : World) → w .state .noted ≡ 0 → m w StartBringUp ≡ core w StartBringUp
   pub steps : (w : World) (v : ℕ) → w .state .noted ≡ 0 → m w (BringUpStep v) ≡ core w (BringUpStep v)
   pub opens : (w : World) (x : EndpointFields) → w .state .noted ≡ 0 → m w (OpenEndpoint x) ≡ core w (OpenEndpoint x)
 
 -- it differs from `core` at most in drains and acknowledgments, and with a note
-abbrev pub Plainly : Machine → Type 0
+abbrev pub Plainly : Machine inPlain → Type 0
 Plainly m = (w : World) (c : Call) → isDrain c ≡ false → readsAdvance c ≡ false → w .state .noted ≡ 0 → m w c ≡ core w c
 
-pub plain-rises : (m : Machine) → Plainly m → Rises m
+pub plain-rises : (m : Machine inPlain) → Plainly m → Rises m
 plain-rises m same =
     record {
       starts = λ w. same w StartBringUp refl refl;
@@ -78,12 +78,12 @@ runCalls =
 abbrev pub upCalls : List Call
 upCalls = openBulk 5 2 ∷ openBulk 5 1 ∷ runCalls
 
-pub next : (m : Machine) (cs : List Call) (c : Call) (now then : World) → worldOf m (freshWorld small) cs ≡ now → m now c ≡ core now c
+pub next : (m : Machine inPlain) (cs : List Call) (c : Call) (now then : World) → worldOf m (freshWorld small) cs ≡ now → m now c ≡ core now c
     → leftBy (core now c) ≡ then → worldOf m (freshWorld small) (c ∷ cs) ≡ then
 unfolding worldOf
 next m cs c now then e same q = ap (λ (x : World). leftBy (m x c)) e ∙ ap leftBy same ∙ q
 
-module _ (m : Machine) (same : Rises m) where
+module _ (m : Machine inPlain) (same : Rises m) where
   -- one step of bring-up
   rises : (cs : List Call) (k v : ℕ) → worldOf m (freshWorld small) cs ≡ fresh (rising 0 k) → leb k 6 ≡ true → eqb k 0 ≡ false → ready (stageOf k) v ≡ true
       → worldOf m (freshWorld small) (BringUpStep v ∷ cs) ≡ fresh (rising (movedOn (stageOf k) .running) (movedOn (stageOf k) .step))

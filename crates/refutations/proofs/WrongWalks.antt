@@ -20,7 +20,7 @@ use Rattle.request.specs.Submit.{takenOf}
 use Rattle.ehci.specs.declared.call.Call.{Call}
 use Rattle.ehci.specs.declared.call.Call.the-variants.{Rearm, Submit}
 use Rattle.ehci.specs.Door.{Applied, applied}
-use Rattle.promises.specs.Runs.{Machine, Rows, historyOf, rowsOf, worldOf}
+use Rattle.promises.specs.Runs.{EveryRun, Machine, Rows, inPlain, historyOf, rowsOf, worldOf}
 use Rattle.promises.specs.Walks.{AtRingHead, End, Nowhere, Terminated, TooLong, chainEnd, frameEnd, ringEnd, walkFrom}
 use Rattle.promises.specs.Uses.{uses}
 use Rattle.promises.specs.Chains.{ChainsWalked}
@@ -35,7 +35,7 @@ use Rattle.refutations.proofs.WrongRuns.{opening as opened, small}
 abbrev left : Applied → Rows → Applied
 left a rows = applied (a .reply) (rows .pool) (rows .heads) (rows .frames) (rows .setups)
 
-abbrev changed : Machine → (Rows → Rows) → Machine
+abbrev changed : Machine inPlain → (Rows → Rows) → Machine inPlain
 changed m f w c = left (m w c) (f (rowsOf (m w c)))
 
 abbrev headWord : ℕ → ℕ → Rows → Rows
@@ -71,31 +71,31 @@ home-stops e a b = let z : _≡_ {A = ℕ} 1 0 = ap endNumber (sym a ∙ b) in o
 -- ---- links: slot 0's head is at 0x200080, and its link is word 17 of the row
 
 -- the rows after one call
-abbrev after : Machine → Call → Rows
+abbrev after : Machine inPlain → Call → Rows
 after m c = worldOf m (freshWorld three) (c ∷ []) .rows
 
 -- the empty ring's link is 0, slot 0's head's link is 0
-abbrev unlinked : Machine
+abbrev unlinked : Machine inPlain
 unlinked = changed links (headWord 0 0)
 
-abbrev unreturned : Machine
+abbrev unreturned : Machine inPlain
 unreturned = changed links (headWord 17 0)
 
 -- the link to slot 0's head has the type of an iTD; it leads 96 bytes into the head
-abbrev retyped : Machine
+abbrev retyped : Machine inPlain
 retyped = changed links (headWord 0 0x200080)
 
-abbrev inside : Machine
+abbrev inside : Machine inPlain
 inside = changed links (headWord 0 0x2000E2)
 
 -- the same in the frame list; and an interrupt head that leads to the ring head
-abbrev frames-retyped : Machine
+abbrev frames-retyped : Machine inPlain
 frames-retyped = changed links (frameWords 0x200080)
 
-abbrev frames-inside : Machine
+abbrev frames-inside : Machine inPlain
 frames-inside = changed links (frameWords 0x2000E2)
 
-abbrev frames-home : Machine
+abbrev frames-home : Machine inPlain
 frames-home = changed links (headWord 17 0x200002)
 
 ring-ends : (ringEnd three (after links (asks Bulk 0)) ≡ AtRingHead) × (ringEnd three (after unlinked Rearm) ≡ Nowhere)
@@ -109,32 +109,32 @@ frames-end : (frameEnd three (after links (asks Interrupt 0)) 5 ≡ Terminated) 
 unfolding frameEnd walkFrom worldOf openedHeads ringHead terminated
 frames-end = (refl, refl, refl, refl)
 
-module _ (m : Machine) (c : Call) where
-  no-ring : ringEnd three (after m c) ≡ Nowhere → ChainsWalked m → ⊥
+module _ (m : Machine inPlain) (c : Call) where
+  no-ring : ringEnd three (after m c) ≡ Nowhere → EveryRun ChainsWalked m → ⊥
   no-ring e h = nowhere-home (ringEnd three (after m c)) e (h three (freshWorld three) opening (c ∷ []) .ring-ends)
 
-  no-frames : frameEnd three (after m c) 5 ≡ Nowhere → ChainsWalked m → ⊥
+  no-frames : frameEnd three (after m c) 5 ≡ Nowhere → EveryRun ChainsWalked m → ⊥
   no-frames e h = nowhere-stops (frameEnd three (after m c) 5) e (h three (freshWorld three) opening (c ∷ []) .frames-end 5 (omega arith))
 
-pub unlinked-wrong : ChainsWalked unlinked → ⊥
+pub unlinked-wrong : EveryRun ChainsWalked unlinked → ⊥
 unlinked-wrong = no-ring unlinked Rearm (ring-ends .1)
 
-pub unreturned-wrong : ChainsWalked unreturned → ⊥
+pub unreturned-wrong : EveryRun ChainsWalked unreturned → ⊥
 unreturned-wrong = no-ring unreturned (asks Bulk 0) (ring-ends .2)
 
-pub retyped-wrong : ChainsWalked retyped → ⊥
+pub retyped-wrong : EveryRun ChainsWalked retyped → ⊥
 retyped-wrong = no-ring retyped (asks Bulk 0) (ring-ends .3)
 
-pub inside-wrong : ChainsWalked inside → ⊥
+pub inside-wrong : EveryRun ChainsWalked inside → ⊥
 inside-wrong = no-ring inside (asks Bulk 0) (ring-ends .4)
 
-pub frames-retyped-wrong : ChainsWalked frames-retyped → ⊥
+pub frames-retyped-wrong : EveryRun ChainsWalked frames-retyped → ⊥
 frames-retyped-wrong = no-frames frames-retyped (asks Interrupt 0) (frames-end .1)
 
-pub frames-inside-wrong : ChainsWalked frames-inside → ⊥
+pub frames-inside-wrong : EveryRun ChainsWalked frames-inside → ⊥
 frames-inside-wrong = no-frames frames-inside (asks Interrupt 0) (frames-end .2)
 
-pub frames-home-wrong : ChainsWalked frames-home → ⊥
+pub frames-home-wrong : EveryRun ChainsWalked frames-home → ⊥
 frames-home-wrong h =
     home-stops (frameEnd three (after frames-home (asks Interrupt 0)) 5) (frames-end .3)
     (h three (freshWorld three) opening (asks Interrupt 0 ∷ []) .frames-end 5 (omega arith))
@@ -144,17 +144,17 @@ frames-home-wrong h =
 abbrev submits : Call
 submits = Submit 0 byte reads
 
-abbrev given : Machine → Rows
+abbrev given : Machine inPlain → Rows
 given m = worldOf m (freshWorld small) (submits ∷ []) .rows
 
 -- the overlay's next is 0; it leads 32 bytes into the descriptor; the descriptor's own next is 0
-abbrev unstarted : Machine
+abbrev unstarted : Machine inPlain
 unstarted = changed takes (headWord 21 0)
 
-abbrev halfway : Machine
+abbrev halfway : Machine inPlain
 halfway = changed takes (headWord 21 0x100020)
 
-abbrev unterminated : Machine
+abbrev unterminated : Machine inPlain
 unterminated = changed takes (nextWord 0 0)
 
 chains-end : (chainEnd small (given takes) 0 ≡ Terminated) × (chainEnd small (given unstarted) 0 ≡ Nowhere) × (chainEnd small (given halfway) 0 ≡ Nowhere)
@@ -162,17 +162,17 @@ chains-end : (chainEnd small (given takes) 0 ≡ Terminated) × (chainEnd small 
 unfolding chainEnd walkFrom worldOf takenOf placesFrom markOf packed listOf fillOf filledFrom recordAt bareAt chunkQtd newQtd withNext startedOverlay freshState withOwner openedHeads ringHead terminated needOf chunkCount
 chains-end = (refl, refl, refl, refl)
 
-no-chain : (m : Machine) → chainEnd small (given m) 0 ≡ Nowhere → chainEnd small (given m) 0 ≡ Terminated → ⊥
+no-chain : (m : Machine inPlain) → chainEnd small (given m) 0 ≡ Nowhere → chainEnd small (given m) 0 ≡ Terminated → ⊥
 no-chain m e f = nowhere-stops (chainEnd small (given m) 0) e f
 
-pub unstarted-wrong : ChainsLead unstarted → ⊥
+pub unstarted-wrong : EveryRun ChainsLead unstarted → ⊥
 unfolding historyOf uses
 unstarted-wrong h = no-chain unstarted (chains-end .1) (h small (freshWorld small) opened (submits ∷ []) .0 .ends)
 
-pub halfway-wrong : ChainsLead halfway → ⊥
+pub halfway-wrong : EveryRun ChainsLead halfway → ⊥
 unfolding historyOf uses
 halfway-wrong h = no-chain halfway (chains-end .2) (h small (freshWorld small) opened (submits ∷ []) .0 .ends)
 
-pub unterminated-wrong : ChainsLead unterminated → ⊥
+pub unterminated-wrong : EveryRun ChainsLead unterminated → ⊥
 unfolding historyOf uses
 unterminated-wrong h = no-chain unterminated (chains-end .3) (h small (freshWorld small) opened (submits ∷ []) .0 .ends)

@@ -1,18 +1,16 @@
 -- The returns of the functions that judge a request.
 use Prim.Native.Nat.{ℕ, _+_, _-_, _/_, _%_, _^_, _≤_, _<_}
-use mathlib.Core.Path.{_≡_, refl, sym, ap, _∙_}
+use mathlib.Core.Path.{_≡_, sym, _∙_}
 use mathlib.Core.Bool.{Bool, true, false, not, _&&_}
 use native.Mathlib.Omega.{arith}
-use borrow.Author.Tests.{eq-eqb, le-leb, lt-leb, lt-ltb, le-ltb, ne-eqb, not-false, not-true}
+use borrow.Author.Tests.{eq-eqb, lt-leb, lt-ltb, le-ltb, ne-eqb, not-false, not-true}
 use lib.Dec.{eqb, leb, ltb}
-use Rattle.common.specs.declared.kinds.EndpointType.{EndpointType}
 use Rattle.common.proofs.TestLaws.{both-true, every-3, same-test}
 use Rattle.state.specs.Slots.{slotAt}
-use Rattle.state.specs.declared.state.Ehci.{Ehci}
-use Rattle.pipe.specs.Endpoints.{directionNumber, endpointAt, kindNumber}
+use Rattle.state.specs.Plain.{Ehci}
+use Rattle.pipe.specs.Endpoints.{directionNumber, kindNumber}
 use Rattle.common.specs.Kinds.{isControl, isIsochronous}
 use Rattle.controller.specs.Readers.{freeCount, isOpen, isUncollected}
-use Rattle.common.specs.declared.answer.Answer.{Answer}
 use Rattle.common.specs.declared.answer.Answer.the-variants.{Done, Refused}
 use Rattle.common.specs.declared.answer.Refusal.the-variants.{InvalidParameter, InvalidEndpoint, QueueFull, NotSupported, NoMemory, NotReady}
 use Rattle.request.specs.Submit.{bufferGood, controlGood, judgeOf, needOfRequest, rangesGood}

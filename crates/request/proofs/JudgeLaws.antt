@@ -1,36 +1,29 @@
 -- What an accepted request is: each check that it passed, as a plain fact, and what follows for the rows.
-use Prim.Native.Nat.{ℕ, zero, suc, _+_, _-_, _*_, _^_, _≤_, _<_, min}
-use mathlib.Core.Path.{_≡_, refl, _∙_}
+use Prim.Native.Nat.{ℕ, _+_, _-_, _^_, _≤_, _<_}
+use mathlib.Core.Path.{_≡_, refl}
 use mathlib.Core.Bool.{Bool, true, false, not}
 use mathlib.Core.List.{List, [], _∷_}
-use native.Mathlib.Decide.{ℕ-discrete as decEq}
 use native.Mathlib.Nat.{mul-le-mul-right}
 use native.Mathlib.Omega.{arith}
-use borrow.Author.Tests.{eqb-true, eqb-false, leb-true, ltb-false, not-false, eq-eqb}
+use borrow.Author.Tests.{eqb-true, leb-true, ltb-false, not-false}
 use lib.Dec.{eqb, leb, ltb}
-use lib.ListN.{drop, getD, length, length-take, take}
+use lib.ListN.{length, length-take, take}
 use Rattle.token.specs.Chunks.{chunkCount, needOf}
 use Rattle.common.specs.declared.kinds.EndpointType.{EndpointType}
 use Rattle.common.specs.declared.kinds.EndpointType.the-variants.{Control, Isochronous, Bulk, Interrupt}
 use Rattle.token.proofs.ChunkLaws.{covers}
-use Rattle.pool.specs.Places.{Within, packed, placesFrom}
-use Rattle.pool.proofs.PlaceLaws.{places-within}
 use Rattle.common.proofs.TestLaws.{both-tells}
 use Rattle.state.specs.Slots.{slotAt}
-use Rattle.state.specs.declared.state.Ehci.{Ehci}
+use Rattle.state.specs.Plain.{Ehci}
 use Rattle.state.proofs.RangesLaws.{Ranges}
 use Rattle.common.specs.Answers.{Verdict, first, passed, refused}
 use Rattle.pipe.specs.Endpoints.{flagNumber, kindNumber}
 use Rattle.common.specs.Kinds.{isIsochronous}
 use Rattle.controller.specs.Readers.{countZero, freeCount, isOpen, isUncollected}
 use Rattle.common.specs.declared.answer.Answer.the-variants.{Done}
-use Rattle.controller.specs.declared.lent.Lengths.{Lengths}
 use Rattle.common.proofs.CheckLaws.{answers-apart, let-pass}
-use Rattle.controller.proofs.LentLaws.{Accepted}
-use Rattle.controller.proofs.ReaderLaws.{open-below, open-within}
-use Rattle.request.specs.Submit.{Settles, answerOf, bufferGood, controlGood, firstIn, judgeOf, needOfRequest, placesFor, rangesGood, submitChecks, takenFor, takenOf}
+use Rattle.request.specs.Submit.{answerOf, bufferGood, controlGood, judgeOf, needOfRequest, rangesGood, submitChecks}
 use Rattle.request.specs.declared.judge.TransferRequest.{TransferRequest}
-use Rattle.request.proofs.SettleCases.{packed-first}
 
 passed-all : (v : Verdict) → answerOf v ≡ Done → v ≡ passed
 passed-all passed e = refl
@@ -102,40 +95,3 @@ short s k t r j =
     short-by s (t .kind) t refl (r .good .limit-least) (r .good .limit-most) (r .good .descriptors-most) (j .room) (j .in-range)
 
 -- ---- the first place
-
-first-below : (ps : List ℕ) (n : ℕ) → 1 ≤ n → Within n ps → getD ps 0 0 < n
-first-below [] n h w = omega arith
-first-below (p ∷ ps) n h w = w .0
-
-pub first-place : (s : Ehci) (k : ℕ) (t : TransferRequest) → Ranges s → firstIn s (takenFor s k t) < 2 ^ 32
-unfolding takenFor takenOf
-first-place s k t r =
-    let o = take (s .settings .descriptors) (s .owner) in
-    let ps = placesFrom 0 o 0 (needOfRequest s t) in
-    by (length o) refl ps (places-within o 0 (needOfRequest s t)) (packed-first ps)
-  where
-    by : (n : ℕ) → length (take (s .settings .descriptors) (s .owner)) ≡ n → (ps : List ℕ)
-        → Within (length (take (s .settings .descriptors) (s .owner))) ps → getD (packed ps .at) 0 0 ≡ getD ps 0 0
-        → s .settings .pool + 64 * getD (packed ps .at) 0 0 < 2 ^ 32
-    by n e [] w f = rw f (omega (arith, r .good .descriptors-least, r .good .pool-ends))
-    by n e (p ∷ ps) w f =
-        rw f (omega (arith, w .0, length-take (s .settings .descriptors) (s .owner), r .good .pool-ends))
-
-pub settles : (s : Ehci) (lent : Lengths) (k : ℕ) (t : TransferRequest) → Accepted s lent → judgeOf s k t ≡ Done
-    → Settles s (lent .heads) (lent .frames) (lent .setups) k t
-settles s lent k t a e =
-    let j = judge-tells s k t e in
-    let r = a .ranges in
-    let below = open-within s k r (j .opened) in
-    record {
-      slot-below = open-below s k (j .opened);
-      head-within = omega (arith, a .fitting .heads-fit);
-      frames-within = omega (arith, a .fitting .frames-fit);
-      setup-within = omega (arith, a .fitting .setups-fit);
-      few = r .good .descriptors-most;
-      limited = r .good .limit-least;
-      first-below = first-place s k t r;
-      head-below = omega (arith, r .good .heads-end);
-      setup-below = omega (arith, r .good .setups-end);
-      short = short s k t r j;
-    }

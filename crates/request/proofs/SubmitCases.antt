@@ -1,25 +1,20 @@
 -- The returns of submit.
-use Prim.Native.Nat.{ℕ, _≤_}
+use Prim.Native.Nat.{ℕ}
 use mathlib.Core.Path.{_≡_, refl, sym, ap, _∙_}
-use mathlib.Core.Bool.{Bool, true, false, not}
+use mathlib.Core.Bool.{Bool, false, not}
 use mathlib.Core.List.{List}
-use native.Mathlib.Omega.{arith}
-use borrow.Author.Tests.{not-false, not-true}
-use Rattle.state.specs.declared.state.Ehci.{Ehci}
+use borrow.Author.Tests.{not-false}
+use Rattle.state.specs.Plain.{Ehci}
 use Rattle.common.specs.Answers.{Verdict, passed, refused, first, settle}
 use Rattle.controller.specs.Lent.{acceptsOf, lengths}
 use Rattle.common.specs.declared.answer.Answer.{Answer}
 use Rattle.common.specs.declared.answer.Answer.the-variants.{Done, Refused}
 use Rattle.common.specs.declared.answer.Refusal.{Refusal}
-use Rattle.common.specs.declared.answer.Refusal.the-variants.{InvalidParameter}
-use Rattle.controller.specs.declared.lent.Lengths.{Lengths}
 use Rattle.controller.specs.declared.lent.Readings.{Readings}
 use Rattle.common.proofs.CheckLaws.{answers-apart}
-use Rattle.controller.proofs.LentLaws.{accepts-tells}
-use Rattle.request.specs.Submit.{Outcome, Settles, answerOf, judgeOf, refusedSubmit, settledSubmit, submitChecks, submitOf, submitted}
-use Rattle.request.specs.declared.answers.Submitted.{Submitted}
+use Rattle.request.specs.Submit.{answerOf, judgeOf, refusedSubmit, settledSubmit, submitChecks, submitOf, submitted}
+use Rattle.request.specs.Plain.{Submitted}
 use Rattle.request.specs.declared.judge.TransferRequest.{TransferRequest}
-use Rattle.request.proofs.JudgeLaws.{settles}
 use lib.ListN.{length}
 
 refusalOf : Refusal → Answer → Refusal
@@ -36,10 +31,6 @@ settle-done passed old new e = refl
 settle-done (refused q) old new e = absurd (answers-apart q e)
 
 module _ (s : Ehci) (pool : ℕ) (h f u : List ℕ) (r : Readings) (k : ℕ) (t : TransferRequest) (a : Bool) (ea : a ≡ acceptsOf s (lengths pool (length h) (length f) (length u))) where
-  pub submit-bad : not a ≡ true → (x : Submitted) → x ≡ refusedSubmit s InvalidParameter → submitted x h f u ≡ submitOf s pool h f u r k t
-  unfolding submitOf
-  submit-bad n x ex = rw (ex, sym ea ∙ not-true a n)
-
   module _ (n : not a ≡ false) (v : Answer) (ev : v ≡ judgeOf s k t) where
     pub submit-refused : (q : Refusal) → v ≡ Refused q → (x : Submitted) → x ≡ refusedSubmit s q → submitted x h f u ≡ submitOf s pool h f u r k t
     unfolding submitOf judgeOf
@@ -53,11 +44,3 @@ module _ (s : Ehci) (pool : ℕ) (h f u : List ℕ) (r : Readings) (k : ℕ) (t 
     submit-done d x h′ f′ u′ e =
         e ∙ rw (sym ea ∙ not-false a n)
         (sym (settle-done (first (submitChecks s k t)) (λ z. submitted (refusedSubmit s z) h f u) (settledSubmit s h f u r k t) (sym ev ∙ d)))
-
-module _ (s : Ehci) (lent : Lengths) (a : Bool) (ea : a ≡ acceptsOf s lent) (n : not a ≡ false) where
-  pub accepted-limit : 1 ≤ s .settings .limit
-  accepted-limit = accepts-tells s lent (sym ea ∙ not-false a n) .ranges .good .limit-least
-
-  pub accepted-settles : (k : ℕ) (t : TransferRequest) (v : Answer) → v ≡ judgeOf s k t → v ≡ Done
-      → Settles s (lent .heads) (lent .frames) (lent .setups) k t
-  accepted-settles k t v ev d = settles s lent k t (accepts-tells s lent (sym ea ∙ not-false a n)) (sym ev ∙ d)

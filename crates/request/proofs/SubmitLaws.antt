@@ -16,7 +16,7 @@ use Rattle.pool.specs.Chains.{blank, chainGood, fillOf, nextAt}
 use Rattle.pool.specs.EhciChain.{follow}
 use Rattle.pool.specs.Places.{Each, Within, markOf, packed, placesFrom}
 use Rattle.pool.specs.Transfers.{addressOf, nextOf}
-use Rattle.pool.specs.declared.chain.Deed.the-variants.{Transfer as TransferDeed}
+use Rattle.pool.specs.Plain.{Transfer as TransferDeed}
 use Rattle.pool.proofs.ChainLaws.{filled-others, follow-chain}
 use Rattle.pool.proofs.Each.{each-at, each-map}
 use Rattle.pool.proofs.GoodLaws.{places-good, request-good}
@@ -25,7 +25,7 @@ use Rattle.slot.proofs.SlotLaws.{slot-tells}
 use Rattle.common.proofs.TestLaws.{both-tells}
 use Rattle.state.specs.Slots.{slotAt}
 use Rattle.state.specs.State.{withOwner}
-use Rattle.state.specs.declared.state.Ehci.{Ehci}
+use Rattle.state.specs.Plain.{Ehci}
 use Rattle.state.proofs.RangesLaws.{Ranges}
 use Rattle.common.specs.declared.answer.Answer.the-variants.{Refused}
 use Rattle.common.specs.declared.answer.Refusal.the-variants.{NoMemory}

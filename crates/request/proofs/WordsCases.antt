@@ -10,7 +10,7 @@ use Rattle.controller.specs.declared.lent.Readings.{Readings}
 use Rattle.descriptor.specs.Heads.{qhLink}
 use Rattle.pipe.specs.Endpoints.{encoded}
 use Rattle.pool.specs.Words.{LayingGood}
-use Rattle.pool.specs.declared.chain.Chain.{Chain}
+use Rattle.pool.specs.Plain.{Chain}
 use Rattle.pool.specs.declared.laying.Laying.{Laying}
 use Rattle.register.specs.Bits.{withBits}
 use Rattle.register.specs.Writes.{noWrites, andThen}
@@ -18,7 +18,7 @@ use Rattle.register.specs.declared.writes.Writes.{Writes}
 use Rattle.schedule.specs.Bell.{commandWord}
 use Rattle.schedule.specs.Links.{links, slotLink}
 use Rattle.settings.specs.declared.settings.Settings.{Settings}
-use Rattle.state.specs.declared.state.Ehci.{Ehci}
+use Rattle.state.specs.Plain.{Ehci}
 use Rattle.words.specs.declared.core.Core.{Core}
 use Rattle.words.specs.declared.core.Rest.{Rest}
 use Rattle.words.specs.Good.{Good, Tidy}
@@ -28,10 +28,10 @@ use Rattle.words.specs.View.{stateOf, view}
 use Rattle.request.specs.Submit.{acceptedWith, chainFor, firstIn, idAt, judgeOf, linkedRows, needOfRequest, settledSubmit, setupsWith, stateWith, submitted, takenFor, writesWith}
 use Rattle.request.specs.Words.{acceptedWords, firstOf, headOf, layingChain, layingFor, requestWith, submittedView}
 use Rattle.request.specs.declared.answers.Submission.the-variants.{Accepted}
-use Rattle.request.specs.declared.answers.Submitted.{Submitted}
-use Rattle.request.specs.declared.in_words.answers.Submitted.{Submitted as SubmittedWords}
+use Rattle.request.specs.Plain.{Submitted}
+use Rattle.request.specs.declared.answers.Submitted.{Submitted as SubmittedWords}
 use Rattle.request.specs.declared.judge.TransferRequest.{TransferRequest}
-use Rattle.request.specs.declared.settle.Taken.{Taken}
+use Rattle.request.specs.Plain.{Taken}
 use Rattle.request.proofs.SettleCases.{settled-is}
 use Rattle.request.proofs.WordsSettle.{chain-viewed, first-below, first-viewed, id-viewed, kept-settings, laying-settled, slot-within, state-viewed, taken-some, tidy-settled}
 

@@ -19,9 +19,9 @@ use Rattle.controller.proofs.WordsLaws.{free-good}
 use Rattle.pipe.specs.Endpoints.{encoded, withEndpoint}
 use Rattle.pool.specs.Places.{Within as WithinRow, markOf, packed, placesFrom}
 use Rattle.pool.specs.Words.{LayingGood, wherePlaces}
-use Rattle.pool.specs.declared.chain.Deed.{Deed}
-use Rattle.pool.specs.declared.chain.Deed.the-variants as Deeds
-use Rattle.pool.specs.declared.places.Places.{Places}
+use Rattle.pool.specs.Plain.{Deed}
+use Rattle.pool.specs.Plain as Deeds
+use Rattle.pool.specs.Plain.{Places}
 use Rattle.pool.proofs.GoodLaws.{request-good}
 use Rattle.pool.proofs.PlaceLaws.{places-within}
 use Rattle.settings.specs.declared.settings.Settings.{Settings}

@@ -21,7 +21,7 @@ use Rattle.token.specs.Chunks.{needOf}
 use Rattle.words.proofs.GoodLaws.{good-settings}
 use Rattle.request.specs.Submit.{judgeOf, needOfRequest, refusedSubmit, settledSubmit, submitOf, submitted}
 use Rattle.request.specs.Words.{refusedWords, submittedView}
-use Rattle.request.specs.declared.in_words.answers.Submitted.{Submitted as SubmittedWords}
+use Rattle.request.specs.declared.answers.Submitted.{Submitted as SubmittedWords}
 use Rattle.request.specs.declared.judge.TransferRequest.{TransferRequest}
 use Rattle.request.proofs.SubmitCases.{submit-done, submit-refused}
 

@@ -13,7 +13,7 @@ use Rattle.common.specs.declared.answer.Refusal.the-variants.{InvalidParameter}
 use Rattle.common.proofs.TestLaws.{both-tells}
 use Rattle.controller.specs.Lent.{acceptsOf}
 use Rattle.controller.specs.Readers.{isUncollected}
-use Rattle.controller.specs.declared.lent.Lengths.{Lengths}
+use Rattle.controller.specs.Plain.{Lengths}
 use Rattle.controller.proofs.WordsCases.{held-word}
 use Rattle.pool.specs.Words.{MarkingGood, noMarking}
 use Rattle.pool.specs.declared.marking.Marking.{Marking}

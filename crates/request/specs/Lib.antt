@@ -1,3 +1,4 @@
+pub mod Plain
 pub mod Submit
 pub mod Writeback
 pub mod Words

@@ -1,6 +1,6 @@
 -- Document 01: submit. Its checks in their order, then what it takes, links and writes.
 use Prim.Native.Nat.{ℕ, _+_, _-_, _*_, _/_, _%_, _^_, _≤_, _<_}
-use mathlib.Core.Bool.{Bool, true, false, not, _&&_, _||_, cond}
+use mathlib.Core.Bool.{Bool, true, false, not, _&&_, _||_}
 use mathlib.Core.List.{List, [], _∷_, _++_}
 use lib.Dec.{eqb, leb, ltb}
 use lib.ListN.{drop, getD, length, take}
@@ -13,15 +13,15 @@ use Rattle.descriptor.specs.Setups.{setupPacket}
 use Rattle.pool.specs.Chains.{noChain}
 use Rattle.pool.specs.Places.{listIf, markOf, packed, placesFrom}
 use Rattle.pool.specs.Transfers.{addressOf}
-use Rattle.pool.specs.declared.chain.Chain.{Chain}
-use Rattle.pool.specs.declared.chain.Deed.the-variants.{Transfer as TransferDeed}
+use Rattle.pool.specs.Plain.{Chain}
+use Rattle.pool.specs.Plain.{Transfer as TransferDeed}
 use Rattle.pool.specs.declared.transfer.Transfer.{Transfer}
 use Rattle.settings.specs.Settings.{memoryEnd}
 use Rattle.common.specs.Tests.{every}
 use Rattle.slot.specs.Ids.{afterId}
 use Rattle.state.specs.Slots.{slotAt}
 use Rattle.state.specs.State.{withOwner}
-use Rattle.state.specs.declared.state.Ehci.{Ehci}
+use Rattle.state.specs.Plain.{Ehci}
 use Rattle.common.specs.Answers.{Check, Verdict, passed, refused, first, refusalNumber, settle}
 use Rattle.pipe.specs.Endpoints.{directionNumber, kindNumber, withEndpoint}
 use Rattle.common.specs.Kinds.{isControl, isInterrupt, isIsochronous}
@@ -39,9 +39,9 @@ use Rattle.schedule.specs.Bell.{commandWord}
 use Rattle.schedule.specs.Links.{Links, attachedFrames, attachedRing, headAddress, links, slotLink, startedOverlay}
 use Rattle.request.specs.declared.answers.Submission.{Submission}
 use Rattle.request.specs.declared.answers.Submission.the-variants.{Accepted, Refused}
-use Rattle.request.specs.declared.answers.Submitted.{Submitted}
+use Rattle.request.specs.Plain.{Submitted}
 use Rattle.request.specs.declared.judge.TransferRequest.{TransferRequest}
-use Rattle.request.specs.declared.settle.Taken.{Taken}
+use Rattle.request.specs.Plain.{Taken}
 
 abbrev pub submissionNumber : Submission → ℕ
 submissionNumber (Accepted id) = 0

@@ -13,9 +13,9 @@ use Rattle.pool.specs.Chains.{noChain}
 use Rattle.pool.specs.Places.{packed}
 use Rattle.pool.specs.Transfers.{addressOf}
 use Rattle.pool.specs.Words.{noLaying}
-use Rattle.pool.specs.declared.chain.Chain.{Chain}
-use Rattle.pool.specs.declared.chain.Deed.{Deed}
-use Rattle.pool.specs.declared.chain.Deed.the-variants as Deeds
+use Rattle.pool.specs.Plain.{Chain}
+use Rattle.pool.specs.Plain.{Deed}
+use Rattle.pool.specs.Plain as Deeds
 use Rattle.pool.specs.declared.laying.Laying.{Laying}
 use Rattle.pool.specs.declared.marking.Marking.{Marking}
 use Rattle.register.specs.Writes.{noWrites}
@@ -27,10 +27,10 @@ use Rattle.words.specs.declared.core.Core.{Core}
 use Rattle.words.specs.declared.core.Rest.{Rest}
 use Rattle.request.specs.Submit.{writesWith}
 use Rattle.request.specs.declared.answers.Submission.the-variants.{Accepted, Refused}
-use Rattle.request.specs.declared.answers.Submitted.{Submitted}
-use Rattle.request.specs.declared.answers.WrittenBack.{WrittenBack}
-use Rattle.request.specs.declared.in_words.answers.Submitted.{Submitted as SubmittedWords}
-use Rattle.request.specs.declared.in_words.answers.WrittenBack.{WrittenBack as WrittenBackWords}
+use Rattle.request.specs.Plain.{Submitted}
+use Rattle.request.specs.Plain.{WrittenBack}
+use Rattle.request.specs.declared.answers.Submitted.{Submitted as SubmittedWords}
+use Rattle.request.specs.declared.answers.WrittenBack.{WrittenBack as WrittenBackWords}
 use Rattle.request.specs.declared.judge.TransferRequest.{TransferRequest}
 
 -- ---- as what the definitions leave

@@ -2,21 +2,21 @@
 use Prim.Native.Nat.{ℕ, _-_}
 use mathlib.Core.Bool.{Bool, not, _&&_}
 use mathlib.Core.List.{List, [], _∷_}
-use lib.Dec.{eqb, leb, ltb}
+use lib.Dec.{leb, ltb}
 use lib.ListN.{getD}
 use Rattle.pool.specs.Chains.{noChain}
 use Rattle.pool.specs.Places.{packed}
-use Rattle.pool.specs.declared.chain.Chain.{Chain}
-use Rattle.pool.specs.declared.chain.Deed.the-variants.{Token}
-use Rattle.state.specs.declared.state.Ehci.{Ehci}
+use Rattle.pool.specs.Plain.{Chain}
+use Rattle.pool.specs.Plain.{Token}
+use Rattle.state.specs.Plain.{Ehci}
 use Rattle.common.specs.Answers.{Check, first, settle}
 use Rattle.controller.specs.Lent.{acceptsOf}
 use Rattle.controller.specs.Readers.{isUncollected}
 use Rattle.common.specs.declared.answer.Answer.the-variants.{Done, Refused}
 use Rattle.common.specs.declared.answer.Refusal.{Refusal}
 use Rattle.common.specs.declared.answer.Refusal.the-variants.{InvalidParameter}
-use Rattle.controller.specs.declared.lent.Lengths.{Lengths}
-use Rattle.request.specs.declared.answers.WrittenBack.{WrittenBack}
+use Rattle.controller.specs.Plain.{Lengths}
+use Rattle.request.specs.Plain.{WrittenBack}
 
 abbrev pub ownerAt : Ehci → ℕ → ℕ
 ownerAt s place = getD (s .owner) place 0

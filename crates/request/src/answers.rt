@@ -1,9 +1,10 @@
-// What submit and writeback answer and leave.
+// What submit and writeback answer and leave, and what is then written to the pool.
 use common::answer::Answer;
 use common::answer::Refusal;
-use pool::chain::Chain;
+use pool::laying::Laying;
+use pool::marking::Marking;
 use register::writes::Writes;
-use state::state::Ehci;
+use words::core::Rest;
 
 pub enum Submission {
     Accepted(u64),
@@ -12,13 +13,13 @@ pub enum Submission {
 
 pub struct Submitted {
     pub answer: Submission,
-    pub state: Ehci,
+    pub rest: Rest,
     pub writes: Writes,
-    pub chain: Chain,
+    pub laying: Laying,
 }
 
 pub struct WrittenBack {
     pub answer: Answer,
-    pub state: Ehci,
-    pub chain: Chain,
+    pub rest: Rest,
+    pub marking: Marking,
 }

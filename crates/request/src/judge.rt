@@ -1,26 +1,20 @@
 // Whether a request is accepted: the checks of document 01, in its order.
 ghost use mathlib.Core.Path.{_≡_};
-ghost use Prim.Native.Nat.{_≤_};
+ghost use Rattle.words.specs.Good.{Good};
+ghost use Rattle.words.specs.View.{view};
+ghost use Rattle.request.specs.Submit.{judgeOf, needOfRequest, bufferGood, controlGood, rangesGood};
 ghost use Rattle.pipe.specs.Endpoints.{directionNumber};
-ghost use Rattle.request.specs.Submit.{
-  bufferGood,
-  controlGood,
-  rangesGood,
-  judgeOf,
-};
+use bitset::places::count;
 use common::answer::Answer;
 use common::answer::Refusal;
 use common::kinds::Direction;
 use common::kinds::EndpointType;
 use common::kinds::is_control;
 use common::kinds::is_isochronous;
-use controller::readers::free_in;
-use controller::readers::open_in;
-use controller::readers::uncollected_in;
 use pipe::endpoints::kind_number;
 use settings::settings::MEMORY_END;
-use state::state::Ehci;
-use token::chunks::need;
+use words::core::Core;
+use words::row::word_at;
 
 pub const CONTROL_MAX: u64 = 16384;
 
@@ -76,33 +70,36 @@ pub fn ranges_good(t: TransferRequest) -> bool
     buffer
 }
 
-pub fn judge(s: Ehci, slot: u8, t: TransferRequest) -> Answer
-    requires { ⌜ 1 ≤ s .settings .limit ⌝ }
-    ensures { λ r. ⌜ r ≡ judgeOf s slot t ⌝ }
+// `wanted` is what the request needs.
+pub fn judge(core: Core, slots: &[u64], slot: u8, t: TransferRequest, wanted: u64) -> Answer
+    requires { ⌜ Good (core .settings) (core .rest) (now slots) ⌝ }
+    requires { ⌜ wanted ≡ needOfRequest (view core (now slots)) t ⌝ }
+    ensures { λ r. ⌜ r ≡ judgeOf (view core (now (slots .entry))) slot t ⌝ }
 {
     let kind = t.kind;
-    if !open_in(&s.phases, slot) {
+    let word = word_at(slots, slot);
+    let phase = word % 4;
+    if phase == 0 {
         return Answer::Refused(Refusal::InvalidEndpoint);
     }
-    let running = s.running;
+    let running = core.rest.running;
     if running == 0 {
         return Answer::Refused(Refusal::NotReady);
     }
-    if uncollected_in(&s.phases, slot) {
+    if 2 <= phase {
         return Answer::Refused(Refusal::QueueFull);
     }
     if is_isochronous(kind) {
         return Answer::Refused(Refusal::NotSupported);
     }
-    let own = s.kinds[slot as usize];
-    if kind_number(kind) != own {
+    if kind_number(kind) as u64 != word / 4 % 4 {
         return Answer::Refused(Refusal::InvalidEndpoint);
     }
     if !ranges_good(t) {
         return Answer::Refused(Refusal::InvalidParameter);
     }
-    let free = free_in(&s.owner, s.settings.descriptors) as u64;
-    if free < need(kind, t.length, s.settings.limit) {
+    let free = core.rest.free;
+    if count(free) < wanted {
         return Answer::Refused(Refusal::NoMemory);
     }
     Answer::Done

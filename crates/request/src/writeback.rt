@@ -1,36 +1,56 @@
 // What the controller writes back: one token.
 ghost use mathlib.Core.Path.{_≡_};
-ghost use Prim.Native.Nat.{_≤_, _<_};
-ghost use Rattle.request.specs.Writeback.{inRequest, tokenChain};
-use controller::readers::uncollected;
-use pool::chain::Chain;
-use pool::chain::Deed;
-use pool::places::one_place;
-use state::state::Ehci;
+ghost use mathlib.Core.Bool.{true};
+ghost use mathlib.Core.List.{List};
+ghost use Prim.Native.Nat.{ℕ};
+ghost use Rattle.controller.specs.Lent.{acceptsOf};
+ghost use Rattle.controller.specs.Plain.{Lengths};
+ghost use Rattle.pool.specs.Words.{MarkingGood};
+ghost use Rattle.words.specs.Good.{Good};
+ghost use Rattle.words.specs.View.{view};
+ghost use Rattle.request.specs.Words.{takenPlace, writtenView};
+ghost use Rattle.request.specs.Writeback.{writebackOf};
+use crate::answers::WrittenBack;
+use bitset::places::has;
+use bitset::places::one_place;
+use common::answer::Answer;
+use common::answer::Refusal;
+use pool::marking::Marking;
+use pool::marking::no_marking;
+use words::core::Core;
 
-// Whether an uncollected request has a descriptor.
-pub fn in_request(s: Ehci, place: u64) -> bool
-    requires { ⌜ s .settings .descriptors ≤ 256 ⌝ }
-    ensures { λ r. ⌜ r ≡ inRequest s place ⌝ }
+// Whether an uncollected request has a descriptor: it is one of the pool's and not free.
+fn in_request(core: Core, place: u64) -> bool
+    ensures { λ r. ⌜ r ≡ takenPlace (core .settings) (core .rest) place ⌝ }
 {
-    if s.settings.descriptors <= place {
+    if core.settings.descriptors <= place {
         return false;
     }
-    let owner = s.owner[place as usize];
-    if owner == 0 {
-        return false;
-    }
-    uncollected(s, owner - 1)
+    let free = core.rest.free;
+    !has(free, place)
 }
 
 // Only that descriptor's token is written.
-pub fn token_chain(s: Ehci, place: u64, token: u32) -> Chain
-    requires { ⌜ place < 256 ⌝ }
-    ensures { λ r. ⌜ r ≡ tokenChain s place token ⌝ }
+pub fn writeback(core: Core, place: u64, token: u32) -> WrittenBack
+    ensures { λ r. ⌜ ((ws : List ℕ) → Good (core .settings) (core .rest) ws → (lent : Lengths) → acceptsOf (view core ws) lent ≡ true
+        → writtenView (core .settings) r ws ≡ writebackOf (view core ws) lent place token) ⌝ }
+    ensures { λ r. ⌜ r .rest ≡ core .rest ⌝ }
+    ensures { λ r. ⌜ MarkingGood (core .settings .descriptors) (r .marking) ⌝ }
 {
-    Chain {
-        places: one_place(place as u8),
-        base: s.settings.pool,
-        deed: Deed::Token(token),
+    let rest = core.rest;
+    if !in_request(core, place) {
+        return WrittenBack {
+            answer: Answer::Refused(Refusal::InvalidParameter),
+            rest,
+            marking: no_marking(),
+        };
+    }
+    WrittenBack {
+        answer: Answer::Done,
+        rest,
+        marking: Marking {
+            places: one_place(place),
+            token,
+        },
     }
 }

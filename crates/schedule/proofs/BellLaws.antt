@@ -1,16 +1,15 @@
 -- What the doorbell's numbers mean: the relative count is 01's number minus the answered ones; only a ring writes 0x40; the
 -- distance of two FRINDEX readings.
-use Prim.Native.Nat.{ℕ, zero, suc, _+_, _-_, _%_, _^_, _≤_, _<_, min, max}
-use mathlib.Core.Path.{_≡_, refl, sym, ap, _∙_}
-use mathlib.Core.List.{List, [], _∷_}
+use Prim.Native.Nat.{ℕ, zero, suc, _+_, _-_, _≤_, _<_}
+use mathlib.Core.Path.{_≡_}
+use mathlib.Core.List.{List}
 use native.Mathlib.Nat.{add-zero}
 use native.Mathlib.Omega.{arith}
-use borrow.Author.Tests.{eq-eqb, ne-eqb}
+use borrow.Author.Tests.{ne-eqb}
 use lib.ListN.{getD}
 use lib.Dec.{lit<}
-use Rattle.register.specs.Bits.{bit, withBits, withoutBits}
+use Rattle.register.specs.Bits.{bit}
 use Rattle.register.proofs.BitLaws.{with-bit, without-bit}
-use Rattle.schedule.specs.declared.bell.Bell.{Bell}
 use Rattle.schedule.specs.Bell.{commandWord, ringWord, fallenOne, fallenFrom, distance}
 
 -- ---- unlinks by their numbers: `asked` so far, `answered` of them

@@ -1,7 +1,7 @@
 -- The returns and the loop of the functions on links.
-use Prim.Native.Nat.{ℕ, zero, suc, _+_, _-_, _*_, _/_, _≤_, _<_}
-use mathlib.Core.Path.{_≡_, refl, sym, ap, _∙_}
-use mathlib.Core.Bool.{Bool, true, false, not, _&&_, cond}
+use Prim.Native.Nat.{ℕ, suc, _+_, _-_, _*_, _/_, _≤_, _<_}
+use mathlib.Core.Path.{_≡_, sym, _∙_}
+use mathlib.Core.Bool.{Bool, true, false, cond}
 use mathlib.Core.List.{List}
 use native.Mathlib.Numerals.{add-one}
 use native.Mathlib.Omega.{arith}
@@ -9,22 +9,15 @@ use borrow.Author.Tests.{eq-eqb, ne-eqb}
 use lib.Dec.{eqb}
 use lib.ListN.{getD, length, replicate, set}
 use lib.Seq.{set-out}
-use Rattle.common.proofs.TestLaws.{every-4}
-use Rattle.state.specs.declared.state.Ehci.{Ehci}
+use Rattle.state.specs.Plain.{Ehci}
 use Rattle.schedule.specs.declared.links.Predecessor.{Predecessor}
 use Rattle.schedule.specs.declared.links.Predecessor.the-variants.{First, Head, Missing}
-use Rattle.schedule.specs.Links.{headAddress, linkWord, links, attachedFrames, leadsTo, precedes, precedesOne, same, searchFrom, firstWord, periodic, predecessorOf, withLinkWord, detached, detachOf}
+use Rattle.schedule.specs.Links.{headAddress, linkWord, links, attachedFrames, precedes, searchFrom, predecessorOf, withLinkWord, detached, detachOf}
 
 pub frames-attached : (h f f′ : List ℕ) (k l : ℕ) → f′ ≡ replicate (length f) l
     → links (set h (17 * (k + 1)) (getD f 0 0)) f′ ≡ attachedFrames h f k l
 unfolding attachedFrames
 frames-attached h f f′ k l e = rw e
-
-pub precedes-is : (j k phase kind own word address : ℕ) (t : Bool) → t ≡ same (eqb own 3) (eqb kind 3)
-    → (not (eqb j k) && eqb phase 2 && t && leadsTo word address) ≡ precedesOne j k phase kind own word address
-unfolding precedesOne
-precedes-is j k phase kind own word address t e =
-    every-4 (not (eqb j k)) (eqb phase 2) t (leadsTo word address) ∙ rw e
 
 module _ (s : Ehci) (h : List ℕ) (k : ℕ) where
   pub found : (j n : ℕ) (t : Bool) → j < n → t ≡ precedes s h k j → t ≡ true → (p : Predecessor)
@@ -50,11 +43,6 @@ module _ (s : Ehci) (h : List ℕ) (k : ℕ) where
       none : n - j ≡ 0
       none = omega arith
 
--- the test, at the address that the code carries
-pub at-address : (s : Ehci) (h : List ℕ) (k j a : ℕ) (t : Bool) → a ≡ headAddress s k
-    → t ≡ precedesOne j k (getD (s .phases) j 0) (getD (s .kinds) j 0) (getD (s .kinds) k 0) (linkWord h j) a → t ≡ precedes s h k j
-at-address s h k j a t ea et = rw ea at et
-
 module _ (s : Ehci) (h f : List ℕ) (k w a : ℕ) (ew : w ≡ cond (eqb (getD (s .kinds) k 0) 3) (getD f 0 0) (getD h 0 0)) (ea : a ≡ headAddress s k) where
   pub first-leads : w / 32 ≡ a / 32 → First ≡ predecessorOf s h f k
   unfolding predecessorOf
@@ -63,12 +51,6 @@ module _ (s : Ehci) (h f : List ℕ) (k w a : ℕ) (ew : w ≡ cond (eqb (getD (
   pub not-first : (w / 32 ≡ a / 32 → ⊥) → (p : Predecessor) → p ≡ searchFrom s h k 0 (s .settings .endpoints) → p ≡ predecessorOf s h f k
   unfolding predecessorOf
   not-first e p ep = ep ∙ rw (sym ew, sym ea, ne-eqb (w / 32) (a / 32) e)
-
-pub word-frame : (k a b : ℕ) → k ≡ 3 → a ≡ cond (eqb k 3) a b
-word-frame k a b e = rw (eq-eqb k 3 e)
-
-pub word-ring : (k a b : ℕ) → (k ≡ 3 → ⊥) → b ≡ cond (eqb k 3) a b
-word-ring k a b e = rw (ne-eqb k 3 e)
 
 -- ---- detaching
 

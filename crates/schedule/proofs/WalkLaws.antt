@@ -8,12 +8,12 @@ use native.Mathlib.Decide.{ℕ-discrete as decEq}
 use borrow.Author.Tests.{eq-eqb, eqb-true, ne-eqb}
 use lib.Dec.{eqb}
 use native.Mathlib.Omega.{arith}
-use lib.ListN.{getD, getD-replicate, length, length-set, replicate, set}
+use lib.ListN.{getD, getD-replicate, length, length-set}
 use lib.Seq.{getD-set-other, getD-set-same}
-use Rattle.state.specs.declared.state.Ehci.{Ehci}
+use Rattle.state.specs.Plain.{Ehci}
 use Rattle.common.proofs.TestLaws.{both-first, both-second}
 use Rattle.schedule.specs.declared.links.Predecessor.the-variants.{First, Head}
-use Rattle.schedule.specs.Links.{firstWord, leadsTo, same, precedes, precedesOne, searchFrom, predecessorOf, headAddress, slotLink, ringLink, linkWord, withRingLink, withLinkWord, attachedRing, attachedFrames}
+use Rattle.schedule.specs.Links.{firstWord, same, precedes, precedesOne, searchFrom, predecessorOf, headAddress, slotLink, ringLink, linkWord, withRingLink, withLinkWord, attachedRing, attachedFrames}
 use Rattle.schedule.specs.Walks.{Chain, Avoids, In}
 
 -- another head's link is not touched

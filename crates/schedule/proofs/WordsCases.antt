@@ -10,7 +10,7 @@ use lib.Dec.{eqb}
 use lib.ListN.{getD, length, replicate, set}
 use Rattle.common.proofs.TestLaws.{every-4}
 use Rattle.settings.specs.declared.settings.Settings.{Settings}
-use Rattle.state.specs.declared.state.Ehci.{Ehci}
+use Rattle.state.specs.Plain.{Ehci}
 use Rattle.words.specs.declared.core.Rest.{Rest}
 use Rattle.words.specs.Good.{Good}
 use Rattle.words.specs.Record.{kindIn, phaseIn, wordAt}
@@ -73,12 +73,6 @@ pub good-most : (s : Settings) (r : Rest) (ws : List ℕ) → Good s r ws → s 
 good-most s r ws good = good-settings s r ws good .endpoints-most
 
 -- ---- `first_word`
-
-pub framed-word : (b : Bool) (x y : ℕ) → b ≡ true → x ≡ cond b x y
-framed-word b x y e = rw e
-
-pub ring-word : (b : Bool) (x y : ℕ) → b ≡ false → y ≡ cond b x y
-ring-word b x y e = rw e
 
 -- ---- `find_predecessor` and `detach`, where the schedule is given
 

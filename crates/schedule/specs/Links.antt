@@ -1,5 +1,5 @@
 -- Document 01, "Descriptors, heads, links" and "Unlinking and collecting": the links of the ring and of the frame list.
-use Prim.Native.Nat.{ℕ, zero, suc, _+_, _*_, _/_, _-_}
+use Prim.Native.Nat.{ℕ, zero, suc, _+_, _*_, _/_}
 use mathlib.Core.Bool.{Bool, true, false, not, cond}
 use mathlib.Core.List.{List, [], _∷_}
 use lib.Dec.{eqb}
@@ -8,7 +8,7 @@ use Rattle.descriptor.specs.Heads.{qhLink}
 use Rattle.opening.specs.Heads.{withHeadWord}
 use Rattle.common.specs.Rows.{putAt}
 use Rattle.common.specs.Tests.{every}
-use Rattle.state.specs.declared.state.Ehci.{Ehci}
+use Rattle.state.specs.Plain.{Ehci}
 use Rattle.schedule.specs.declared.links.Predecessor.{Predecessor}
 use Rattle.schedule.specs.declared.links.Predecessor.the-variants.{First, Head, Missing}
 

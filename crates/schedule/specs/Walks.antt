@@ -1,10 +1,10 @@
 -- Following the links of a schedule, as EHCI 3.6 reads them.
-use Prim.Native.Nat.{ℕ, _+_, _*_, _≤_, _<_, _%_}
+use Prim.Native.Nat.{ℕ, _+_, _*_, _<_}
 use mathlib.Core.List.{List, [], _∷_}
 use mathlib.Core.Logic.{_⊎_}
 use mathlib.Core.Path.{_≡_}
 use lib.ListN.{length}
-use Rattle.state.specs.declared.state.Ehci.{Ehci}
+use Rattle.state.specs.Plain.{Ehci}
 use Rattle.schedule.specs.Links.{slotLink, linkWord}
 
 -- from a link word on, the links meet the heads of these slots, in order, and then that word

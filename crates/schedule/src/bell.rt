@@ -1,17 +1,7 @@
 // The doorbell of the asynchronous schedule: ringing it, counting its answers, and the boundaries of unlinked requests.
 ghost use mathlib.Core.Path.{_≡_};
 ghost use Prim.Native.Nat.{_<_, _≤_};
-ghost use Rattle.schedule.specs.Bell.{
-  commandWord,
-  ringWord,
-  ringOf,
-  unlinkedOf,
-  advancedOf,
-  fallenOne,
-  fallenFrom,
-  frameOf,
-  framesPassed,
-};
+ghost use Rattle.schedule.specs.Bell.{commandWord, ringOf, unlinkedOf, advancedOf, frameOf, framesPassed};
 use register::bits::with_bits;
 use register::bits::without_bits;
 use register::operational::USBCMD;
@@ -89,31 +79,6 @@ pub fn advanced(bell: Bell, writes: Writes, command: u32) -> Rung
         unanswered: bell.unanswered - 1,
     };
     ring(fewer, writes, command)
-}
-
-fn fallen_one(phase: u8, kind: u8, boundary: u16) -> u16
-    ensures { λ r. ⌜ r ≡ fallenOne phase kind boundary ⌝ }
-{
-    if phase == 3 {
-        if kind != 3 {
-            if boundary != 0 {
-                return boundary - 1;
-            }
-        }
-    }
-    boundary
-}
-
-// Each unlinking control or bulk request has one advance less to wait for.
-pub fn fallen(phases: [u8; 32], kinds: [u8; 32], mut boundaries: [u16; 32]) -> [u16; 32]
-    ensures { λ r. ⌜ r ≡ fallenFrom 0 32 phases kinds boundaries ⌝ }
-{
-    let mut k: usize = 0;
-    while k < 32 {
-        boundaries[k] = fallen_one(phases[k], kinds[k], boundaries[k]);
-        k += 1;
-    }
-    boundaries
 }
 
 // FRINDEX as a boundary keeps it.

@@ -1,4 +1,3 @@
 // The two schedules: links of the ring and of the frame list, the doorbell, the boundaries.
 pub mod bell;
-pub mod in_words;
 pub mod links;

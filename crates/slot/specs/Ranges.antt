@@ -1,6 +1,6 @@
 -- The ranges of one slot, by its phase: closed 0, idle 1, linked 2, unlinking 3.
 use Prim.Native.Nat.{ℕ}
-use mathlib.Core.Bool.{Bool, true, false, _&&_, _||_, cond}
+use mathlib.Core.Bool.{Bool, false, _&&_, _||_, cond}
 use mathlib.Core.List.{[], _∷_}
 use lib.Dec.{eqb, leb, ltb}
 use Rattle.common.specs.Tests.{every, within}

@@ -1,3 +1,2 @@
-// One slot of the state and its ranges.
-pub mod ranges;
+// One slot of the plain state in numbers, and its ranges.
 pub mod slot;

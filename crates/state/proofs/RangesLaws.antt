@@ -10,7 +10,7 @@ use lib.Dec.{eqb, leb, ltb}
 use lib.ListN.{drop, getD, length, length-take, take}
 use lib.Seq.{getD-drop, getD-take}
 use Rattle.register.specs.Bits.{withoutBits}
-use Rattle.state.specs.declared.state.Ehci.{Ehci}
+use Rattle.state.specs.Plain.{Ehci}
 use Rattle.slot.specs.Ranges.{slotGood}
 use Rattle.state.specs.Ranges.{doorbellGood, inRanges, interruptGood, largest, machineGood, ownerGood, restGood, slotsGood}
 use Rattle.settings.specs.Settings.{settingsGood}

@@ -1,3 +1,4 @@
+pub mod Plain
 pub mod Slots
 pub mod Ranges
 pub mod State

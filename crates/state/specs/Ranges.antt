@@ -1,13 +1,13 @@
 -- The ranges of a state: what every public call asks first. Document 01's ranges of what is opened, and for the rest
 -- bounds within which the calls' arithmetic stays; not every state within them is one that calls leave.
-use Prim.Native.Nat.{ℕ, zero, suc, _+_, _-_, max}
-use mathlib.Core.Bool.{Bool, true, false, _&&_}
+use Prim.Native.Nat.{ℕ, zero, suc, max}
+use mathlib.Core.Bool.{Bool, true, _&&_}
 use mathlib.Core.List.{List, [], _∷_}
 use lib.Dec.{eqb, leb, ltb}
 use lib.ListN.{drop, take}
 use Rattle.register.specs.Bits.{withoutBits}
 use Rattle.slot.specs.Ranges.{flag, slotGood}
-use Rattle.state.specs.declared.state.Ehci.{Ehci}
+use Rattle.state.specs.Plain.{Ehci}
 use Rattle.settings.specs.Settings.{settingsGood}
 use Rattle.state.specs.Slots.{slotAt}
 use Rattle.common.specs.Tests.{every, within}

@@ -2,7 +2,7 @@
 use Prim.Native.Nat.{ℕ}
 use lib.ListN.{getD, set}
 use Rattle.slot.specs.declared.slot.Slot.{Slot}
-use Rattle.state.specs.declared.state.Ehci.{Ehci}
+use Rattle.state.specs.Plain.{Ehci}
 
 unfoldable pub slotAt : Ehci → ℕ → Slot
 slotAt s k =

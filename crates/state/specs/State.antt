@@ -1,7 +1,7 @@
 -- A state with some of its fields replaced: one definition for each set that changes together.
 use Prim.Native.Nat.{ℕ}
 use mathlib.Core.List.{List}
-use Rattle.state.specs.declared.state.Ehci.{Ehci}
+use Rattle.state.specs.Plain.{Ehci}
 
 -- bring-up: running, the step, the reads of its wait; its start also turns the interrupt flag off
 unfoldable pub withBringUp : Ehci → ℕ → ℕ → ℕ → ℕ → Ehci

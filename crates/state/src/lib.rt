@@ -1,4 +1,1 @@
-// The state of a controller and its ranges.
-pub mod ranges;
-pub mod slots;
-pub mod state;
+// The plain state of a controller and its ranges: definitions and their laws, no code.

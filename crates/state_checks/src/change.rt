@@ -1,14 +1,14 @@
 // Changes that no call makes, by the numbers of a record.
 use crate::kept::Kept;
-use crate::kept::Lent;
-use crate::kept::Rows;
+use crate::lend::Lent;
+use crate::lend::Rows;
+use crate::trial::TRIAL;
 use call_log::fields::Fields;
+use descriptor::qtd::QueueTransferDescriptor;
 use opening::hub::EhciRootHub;
-use pool::chain::View;
-use slot::slot::Slot;
-use state::slots::slot_at;
-use state::slots::with_slot;
-use state::state::Ehci;
+use settings::settings::Settings;
+use words::core::Core;
+use words::core::Rest;
 
 // The first number of a change: a log's records have lower ones.
 pub const CHANGES: u8 = 64;
@@ -21,115 +21,168 @@ fn low_word(value: u64) -> u32 {
     (value % 0x1_0000_0000) as u32
 }
 
-fn settings_with(mut s: Ehci, field: u8, value: u64) -> Ehci {
+fn settings_with(mut s: Settings, field: u8, value: u64) -> Settings {
     let byte = low_byte(value);
     match field {
-        0 => s.settings.descriptors = value,
-        1 => s.settings.endpoints = byte,
-        2 => s.settings.ports = byte,
-        3 => s.settings.limit = value,
-        4 => s.settings.wait = value,
-        5 => s.settings.pool = value,
-        6 => s.settings.heads = value,
-        7 => s.settings.frames = value,
-        _ => s.settings.setups = value,
+        0 => s.descriptors = value,
+        1 => s.endpoints = byte,
+        2 => s.ports = byte,
+        3 => s.limit = value,
+        4 => s.wait = value,
+        5 => s.pool = value,
+        6 => s.heads = value,
+        7 => s.frames = value,
+        _ => s.setups = value,
     }
     s
 }
 
-fn number_with(mut s: Ehci, field: u8, value: u64) -> Ehci {
+// The free words are the last four.
+fn free_with(mut rest: Rest, field: u8, value: u64) -> Rest {
+    match field {
+        10 => rest.free[0] = value,
+        11 => rest.free[1] = value,
+        12 => rest.free[2] = value,
+        _ => rest.free[3] = value,
+    }
+    rest
+}
+
+fn number_with(mut rest: Rest, field: u8, value: u64) -> Rest {
     let byte = low_byte(value);
     match field {
-        0 => s.running = byte,
-        1 => s.step = byte,
-        2 => s.waited = value,
-        3 => s.address = byte,
-        4 => s.enabled = byte,
-        5 => s.pending = low_word(value),
-        6 => s.masked = low_word(value),
-        7 => s.noted = byte,
-        8 => s.doorbell = byte,
-        _ => s.unanswered = byte,
+        0 => rest.running = byte,
+        1 => rest.step = byte,
+        2 => rest.waited = value,
+        3 => rest.address = byte,
+        4 => rest.enabled = byte,
+        5 => rest.pending = low_word(value),
+        6 => rest.masked = low_word(value),
+        7 => rest.noted = byte,
+        8 => rest.doorbell = byte,
+        _ => rest.unanswered = byte,
     }
-    s
+    rest
 }
 
-fn slot_with(mut e: Slot, field: u8, value: u64) -> Slot {
-    let byte = low_byte(value);
-    match field {
-        0 => e.phase = byte,
-        1 => e.kind = byte,
-        2 => e.id = value,
-        3 => e.request = value,
-        4 => e.direction = byte,
-        5 => e.length = low_word(value),
-        6 => e.cancel = byte,
-        _ => e.boundary = (value % 65536) as u16,
+fn rest_with(rest: Rest, field: u8, value: u64) -> Rest {
+    if field < 10 {
+        return number_with(rest, field, value);
     }
-    e
+    free_with(rest, field, value)
 }
 
-fn owner_with(mut s: Ehci, place: u64, owner: u8) -> Ehci {
-    s.owner[(place % 256) as usize] = owner;
-    s
-}
-
-fn state_with(s: Ehci, f: Fields) -> Ehci {
+fn core_with(core: Core, f: Fields) -> Core {
+    let settings = core.settings;
+    let rest = core.rest;
     let field = f.b2;
-    let value = f.n2;
-    let slot = (f.n1 % 32) as usize;
     let number = f.number;
     match number {
-        64 => settings_with(s, field, value),
-        65 => number_with(s, field, value),
-        66 => with_slot(s, slot, slot_with(slot_at(s, slot), field, value)),
-        67 => owner_with(s, f.n1, low_byte(value)),
-        _ => s,
+        64 => Core {
+            settings: settings_with(settings, field, f.n2),
+            rest,
+        },
+        65 => Core {
+            settings,
+            rest: rest_with(rest, field, f.n2),
+        },
+        _ => core,
     }
+}
+
+// One word and `b2` more.
+fn slots_with(mut slots: [u64; 193], f: Fields) -> [u64; 193] {
+    let values = [f.n2, f.n3, f.n4, f.n5, f.n6, f.n7];
+    let mut i: u64 = 0;
+    while i < 6 {
+        if i <= f.b2 as u64 {
+            slots[((f.n1 % 193 + i) % 193) as usize] = values[i as usize];
+        }
+        i += 1;
+    }
+    slots
+}
+
+fn record_with(mut r: QueueTransferDescriptor, word: u8, value: u32) -> QueueTransferDescriptor {
+    match word {
+        0 => r.next = value,
+        1 => r.alternate = value,
+        2 => r.token = value,
+        3..=7 => r.pages[(word - 3) as usize] = value,
+        _ => r.upper[((word - 8) % 5) as usize] = value,
+    }
+    r
+}
+
+fn pool_with(
+    mut pool: [QueueTransferDescriptor; 257],
+    f: Fields,
+) -> [QueueTransferDescriptor; 257] {
+    let at = (f.n1 % 257) as usize;
+    let record = pool[at];
+    pool[at] = record_with(record, f.b2, low_word(f.n2));
+    pool
 }
 
 fn heads_with(mut heads: [u32; 562], f: Fields) -> [u32; 562] {
-    if f.number == 68 {
-        heads[(f.n1 % 562) as usize] = low_word(f.n2);
-    }
+    heads[(f.n1 % 562) as usize] = low_word(f.n2);
     heads
 }
 
 fn frames_with(mut frames: [u32; 1025], f: Fields) -> [u32; 1025] {
-    if f.number == 69 {
-        frames[(f.n1 % 1025) as usize] = low_word(f.n2);
-    }
+    frames[(f.n1 % 1025) as usize] = low_word(f.n2);
     frames
 }
 
 fn setups_with(mut setups: [u8; 257], f: Fields) -> [u8; 257] {
-    if f.number == 70 {
-        setups[(f.n1 % 257) as usize] = low_byte(f.n2);
-    }
+    setups[(f.n1 % 257) as usize] = low_byte(f.n2);
     setups
+}
+
+fn rows_with(mut rows: Rows, f: Fields) -> Rows {
+    let number = f.number;
+    match number {
+        66 => {
+            let before = rows.slots;
+            let after = slots_with(before, f);
+            rows.slots = after;
+        }
+        67 => {
+            let before = rows.pool;
+            let after = pool_with(before, f);
+            rows.pool = after;
+        }
+        68 => {
+            let before = rows.heads;
+            let after = heads_with(before, f);
+            rows.heads = after;
+        }
+        69 => {
+            let before = rows.frames;
+            let after = frames_with(before, f);
+            rows.frames = after;
+        }
+        70 => {
+            let before = rows.setups;
+            let after = setups_with(before, f);
+            rows.setups = after;
+        }
+        _ => {}
+    }
+    rows
 }
 
 fn lent_with(lent: Lent, f: Fields) -> Lent {
     if f.number == 71 {
         return Lent {
             pool: f.n1,
-            heads: f.n2,
-            frames: f.n3,
-            setups: f.n4,
+            slots: f.n2,
+            heads: f.n3,
+            frames: f.n4,
+            setups: f.n5,
         };
     }
     lent
-}
-
-fn view_with(view: View, f: Fields) -> View {
-    if f.number == 72 {
-        return View {
-            stage: f.b1,
-            failed: low_word(f.n1),
-            moved: f.n2,
-        };
-    }
-    view
 }
 
 // One state and the place of a scan.
@@ -143,28 +196,21 @@ fn hub_with(mut h: EhciRootHub, f: Fields) -> EhciRootHub {
     h
 }
 
-fn rows_with(rows: Rows, f: Fields) -> Rows {
-    let heads = rows.heads;
-    let frames = rows.frames;
-    let setups = rows.setups;
-    let lent = rows.lent;
-    let view = rows.view;
-    Rows {
-        heads: heads_with(heads, f),
-        frames: frames_with(frames, f),
-        setups: setups_with(setups, f),
-        lent: lent_with(lent, f),
-        view: view_with(view, f),
-    }
+fn trial_with(trial: Fields, f: Fields) -> Fields {
+    if f.number == TRIAL { f } else { trial }
 }
 
 pub fn changed(k: Kept, f: Fields) -> Kept {
-    let state = k.state;
+    let core = k.core;
     let hub = k.hub;
     let rows = k.rows;
+    let lent = k.lent;
+    let trial = k.trial;
     Kept {
-        state: state_with(state, f),
+        core: core_with(core, f),
         hub: hub_with(hub, f),
         rows: rows_with(rows, f),
+        lent: lent_with(lent, f),
+        trial: trial_with(trial, f),
     }
 }

@@ -1,11 +1,14 @@
 // Records from standard input, what each call answered and left to standard output. A record is a call's, as in a log, or a
-// change that no call makes: to a number of the state, a word of a row, the lengths lent, what a collect sees, the root hub's
-// record. `tools/state_values.py` makes the records, and what is to be printed from document 01.
+// change that no call makes: to a number of the core, a word of a row, the lengths lent, the root hub's record. After a trial
+// the next call is tried on states of which one bit is wrong. `tools/state_values.py` makes the records, and what is to be
+// printed from document 01.
 
 mod change;
 mod kept;
+mod lend;
 mod show;
 mod sums;
+mod trial;
 
 use crate::change::CHANGES;
 use crate::change::changed;
@@ -13,6 +16,8 @@ use crate::kept::Kept;
 use crate::kept::act;
 use crate::kept::blank;
 use crate::show::show;
+use crate::trial::TRIAL;
+use crate::trial::tried;
 use call_log::fields::decode;
 use call_log::record::read_record;
 use turns::left::after_turn;
@@ -38,6 +43,13 @@ fn turn(k: Kept, n: u64) -> Turned {
     if CHANGES <= f.number {
         return Turned {
             kept: changed(k, f),
+            more: true,
+        };
+    }
+    let trial = k.trial;
+    if trial.number == TRIAL {
+        return Turned {
+            kept: tried(k, n, f, read_record(&record)),
             more: true,
         };
     }

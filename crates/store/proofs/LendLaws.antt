@@ -9,11 +9,11 @@ use Rattle.descriptor.specs.declared.qtd.QueueTransferDescriptor.{QueueTransfer
 use Rattle.settings.specs.declared.settings.Settings.{Settings}
 use Rattle.words.specs.declared.core.Core.{Core}
 use Rattle.words.specs.View.{view}
-use Rattle.opening.specs.declared.in_words.Opening.{Opening}
+use Rattle.opening.specs.declared.open.Opening.{Opening}
 use Rattle.opening.specs.Words.{OpensWords, openWords, openedRows}
 use Rattle.opening.specs.Words as opening
 use Rattle.ehci.specs.declared.call.Call.{Call}
-use Rattle.ehci.specs.declared.in_words.reply.Reply.{Reply}
+use Rattle.ehci.specs.declared.reply.Reply.{Reply}
 use Rattle.ehci.specs.Door.{Applied, applied}
 use Rattle.ehci.specs.WordsDoor.{WordsAfter, acceptsWords, applyWords, replyView}
 use Rattle.store.specs.declared.store.Called.{Called}

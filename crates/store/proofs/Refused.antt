@@ -7,7 +7,7 @@ use lib.ListN.{length}
 use Rattle.common.specs.declared.answer.Refusal.the-variants.{InvalidParameter}
 use Rattle.descriptor.specs.declared.qtd.QueueTransferDescriptor.{QueueTransferDescriptor as Record}
 use Rattle.pool.specs.declared.chain.View.{View}
-use Rattle.state.specs.declared.state.Ehci.{Ehci}
+use Rattle.state.specs.Plain.{Ehci}
 use Rattle.state.specs.Ranges.{inRanges}
 use Rattle.opening.specs.Opening.{rowsFit}
 use Rattle.controller.specs.Address.{allotOf}

@@ -17,7 +17,7 @@ use Rattle.descriptor.specs.declared.qtd.QueueTransferDescriptor.{QueueTransfer
 use Rattle.pool.specs.Chains.{blank}
 use Rattle.settings.specs.declared.settings.Settings.{Settings}
 use Rattle.settings.specs.Settings.{settingsGood}
-use Rattle.state.specs.declared.state.Ehci.{Ehci}
+use Rattle.state.specs.Plain.{Ehci}
 use Rattle.state.specs.Ranges.{inRanges}
 use Rattle.words.specs.declared.core.Core.{Core}
 use Rattle.words.specs.Good.{Tidy}
@@ -25,7 +25,7 @@ use Rattle.words.specs.View.{stateOf, view}
 use Rattle.words.proofs.OpenedLaws.{view-opened}
 use Rattle.ehci.specs.declared.call.Call.{Call}
 use Rattle.ehci.specs.Door.{Applied, applyOf}
-use Rattle.opening.specs.declared.in_words.Opening.{Opening}
+use Rattle.opening.specs.declared.open.Opening.{Opening}
 use Rattle.opening.specs.Opening.{Opened, freshState, noSettings, openOf}
 use Rattle.opening.specs.Words.{DecidedWords, OpensWords, blankCore, decideWords, decidedWords, openWords, refusedWords, rowsOf, slotsFit}
 use Rattle.opening.specs.Words as opening

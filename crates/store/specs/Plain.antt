@@ -5,9 +5,9 @@ use Rattle.common.specs.declared.answer.Answer.{Answer}
 use Rattle.descriptor.specs.declared.qtd.QueueTransferDescriptor.{QueueTransferDescriptor}
 use Rattle.ehci.specs.declared.reply.Answered.{Answered}
 use Rattle.opening.specs.declared.hub.EhciRootHub.{EhciRootHub}
-use Rattle.opening.specs.declared.open.Opening.{Opening}
+use Rattle.opening.specs.Plain.{Opening}
 use Rattle.register.specs.declared.writes.Writes.{Writes}
-use Rattle.state.specs.declared.state.Ehci.{Ehci}
+use Rattle.state.specs.Plain.{Ehci}
 
 pub record Store : Type 0 where
   pub state : Ehci

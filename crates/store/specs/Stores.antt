@@ -8,11 +8,11 @@ use Rattle.common.specs.declared.answer.Answer.{Answer}
 use Rattle.common.specs.declared.answer.Answer.the-variants.{Done, Refused}
 use Rattle.settings.specs.declared.settings.Settings.{Settings}
 use Rattle.settings.specs.Settings.{poolLength, headsLength, setupsLength}
-use Rattle.state.specs.declared.state.Ehci.{Ehci}
+use Rattle.state.specs.Plain.{Ehci}
 use Rattle.ehci.specs.declared.call.Call.{Call}
-use Rattle.ehci.specs.declared.reply.Reply.{Reply}
+use Rattle.ehci.specs.Plain.{Reply}
 use Rattle.ehci.specs.Door.{Applied, applyOf}
-use Rattle.opening.specs.declared.open.Opening.{Opening}
+use Rattle.opening.specs.Plain.{Opening}
 use Rattle.opening.specs.Opening.{Opened, freshState, noSettings, openOf}
 use Rattle.store.specs.Plain.{Called, OpenedRows, OpenedStore, Store}
 

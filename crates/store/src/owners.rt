@@ -8,14 +8,8 @@ ghost use Rattle.words.specs.View.{eachFrom, holdsBit, ownerFrom};
 ghost use Rattle.store.specs.Words.{storeView};
 use crate::store::Store;
 use crate::store::slots_lent;
+use controller::readers::word_in;
 use words::row::RECORD;
-
-// 0 beyond the row.
-fn word_in(slots: &[u64], at: usize) -> u64
-    ensures { λ r. ⌜ r ≡ getD (now (slots .entry)) at 0 ⌝ }
-{
-    if at < slots.len() { slots[at] } else { 0 }
-}
 
 fn holds(slots: &[u64], k: u8, place: u8) -> bool
     ensures { λ r. ⌜ r ≡ eqb (holdsBit (now (slots .entry)) k place) 1 ⌝ }

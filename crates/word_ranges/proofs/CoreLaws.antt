@@ -7,7 +7,7 @@ use Rattle.common.specs.Tests.{every}
 use Rattle.common.proofs.TestLaws.{both-tells}
 use Rattle.settings.specs.declared.settings.Settings.{Settings}
 use Rattle.settings.specs.Settings.{settingsGood}
-use Rattle.state.specs.declared.state.Ehci.{Ehci}
+use Rattle.state.specs.Plain.{Ehci}
 use Rattle.state.specs.Ranges.{doorbellGood, inRanges, interruptGood, machineGood, ownerGood, restGood, slotsGood}
 use Rattle.words.specs.declared.core.Rest.{Rest}
 use Rattle.words.specs.View.{stateOf}
@@ -44,9 +44,6 @@ module _ (s : Settings) (r : Rest) (ws : List ℕ) where
 
   pub ranges-core : inRanges (stateOf s r ws) ≡ true → coreGood s r ≡ true
   ranges-core e = core-judged ∙ split e .0
-
-  pub ranges-owners : inRanges (stateOf s r ws) ≡ true → owners ≡ true
-  ranges-owners e = split e .1
 
   pub ranges-slots : inRanges (stateOf s r ws) ≡ true → slots ≡ true
   ranges-slots e = split e .2

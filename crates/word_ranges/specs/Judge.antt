@@ -7,7 +7,7 @@ use lib.ListN.{length}
 use Rattle.common.specs.Tests.{every}
 use Rattle.settings.specs.declared.settings.Settings.{Settings}
 use Rattle.settings.specs.Settings.{settingsGood}
-use Rattle.state.specs.declared.state.Ehci.{Ehci}
+use Rattle.state.specs.Plain.{Ehci}
 use Rattle.state.specs.Ranges.{machineGood, interruptGood, doorbellGood}
 use Rattle.words.specs.declared.core.Rest.{Rest}
 use Rattle.words.specs.View.{stateOf}

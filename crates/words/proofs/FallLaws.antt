@@ -54,14 +54,6 @@ module _ (w : ℕ) where
       go true true c e = refl
       go false b c e = refl
 
-  pub fallen-le : fallenWord w ≤ w
-  unfolding fallenWord
-  fallen-le = go (eqb (phaseIn w) 3 && (not (eqb (kindIn w) 3) && leb 0x40_0000_0000 w))
-    where
-      go : (b : Bool) → cond b (w - 0x40_0000_0000) w ≤ w
-      go true = omega arith
-      go false = omega arith
-
 fallen-zero : fallenWord 0 ≡ 0
 unfolding fallenWord
 fallen-zero = refl

@@ -1,15 +1,14 @@
 -- When a slot fits its two words: a good slot whose next id is the one after its request does.
 use Prim.Native.Nat.{ℕ, _^_, _≤_, _<_}
-use mathlib.Core.Path.{_≡_, ap}
+use mathlib.Core.Path.{_≡_}
 use mathlib.Core.Bool.{true}
 use native.Mathlib.Decide.{ℕ-discrete as decEq}
 use native.Mathlib.Omega.{arith}
-use Rattle.slot.specs.Ids.{afterId}
 use Rattle.slot.specs.Ranges.{slotGood}
 use Rattle.slot.specs.declared.slot.Slot.{Slot}
 use Rattle.slot.proofs.SlotLaws.{Bounded, Phase, closed, idle, linked, slot-tells, unlinking}
-use Rattle.words.specs.Record.{SlotFits, idIn, phaseIn, slotIn}
-use Rattle.words.proofs.RecordCases.{id-follows, id-wraps, request-own}
+use Rattle.words.specs.Record.{idIn}
+use Rattle.words.proofs.RecordCases.{id-follows, id-wraps}
 
 -- ---- ids
 
@@ -84,41 +83,8 @@ phase-small e u h (unlinking p o r d c b) =
 
 -- ---- a slot that fits
 
-pub small-fits : (e : Slot) → Small e → e .length < 0x1_0000_0000 → 1 ≤ e .id → e .id < 2 ^ 64
-    → (2 ≤ e .phase → e .id ≡ afterId (e .request)) → SlotFits e
-small-fits e m l i i′ own =
-    record {
-      phase-fits = m .phase-small;
-      kind-fits = m .kind-small;
-      direction-fits = m .direction-small;
-      length-fits = l;
-      cancel-fits = m .cancel-small;
-      boundary-fits = omega (arith, m .boundary-small);
-      id-least = i;
-      id-fits = i′;
-      own-id = own;
-      no-request = m .request-small;
-    }
-
 module _ (E k u : ℕ) (e : Slot) (most : u ≤ 32) (right : slotGood E k u e ≡ true) where
   pub right-small : Small e
   right-small = phase-small e u most (slot-tells E k u e right .by-phase)
 
-  pub right-fits : e .length < 0x1_0000_0000 → e .id < 2 ^ 64 → (2 ≤ e .phase → e .id ≡ afterId (e .request)) → SlotFits e
-  right-fits l i own = small-fits e right-small l (slot-tells E k u e right .id-least) i own
-
 -- ---- the slot of two words
-
-module _ (w last : ℕ) where
-  pub own-follows : 2 ≤ phaseIn w → slotIn w last .id ≡ afterId (slotIn w last .request)
-  unfolding slotIn
-  own-follows h = ap afterId (request-own (phaseIn w) last h)
-
-  pub length-below : slotIn w last .length < 0x1_0000_0000
-  unfolding slotIn
-  length-below = omega arith
-
-  pub slot-fits : (E k u : ℕ) → u ≤ 32 → slotGood E k u (slotIn w last) ≡ true → idIn last < 2 ^ 64 → SlotFits (slotIn w last)
-  unfolding slotIn
-  slot-fits E k u most right below =
-      right-fits E k u (slotIn w last) most right length-below below own-follows

@@ -1,12 +1,12 @@
 -- What a good state in words is, in plain facts on its words.
-use Prim.Native.Nat.{ℕ, _+_, _*_, _^_, _≤_, _<_}
-use mathlib.Core.Path.{_≡_, refl, sym, _∙_}
+use Prim.Native.Nat.{ℕ, _+_, _*_, _≤_, _<_}
+use mathlib.Core.Path.{_≡_, refl}
 use mathlib.Core.Bool.{Bool, true, false}
 use mathlib.Core.List.{List}
 use native.Mathlib.Omega.{arith}
 use borrow.Author.Tests.{ltb-true, ltb-false}
 use lib.Dec.{ltb}
-use lib.ListN.{getD, length}
+use lib.ListN.{length}
 use Rattle.register.specs.Bits.{withoutBits}
 use Rattle.settings.specs.declared.settings.Settings.{Settings}
 use Rattle.settings.proofs.SettingsLaws as settings
@@ -16,11 +16,11 @@ use Rattle.state.specs.Slots.{slotAt}
 use Rattle.state.proofs.RangesLaws.{Ranges, ranges-tell}
 use Rattle.words.specs.declared.core.Rest.{Rest}
 use Rattle.words.specs.Good.{Good}
-use Rattle.words.specs.Record.{SlotFits, boundaryIn, idIn, lastAt, slotIn, wordAt}
-use Rattle.words.specs.View.{ownerFrom, stateOf}
-use Rattle.words.proofs.FitLaws.{right-small, slot-fits}
-use Rattle.words.proofs.RowLaws.{last-beyond, word-beyond}
-use Rattle.words.proofs.ViewLaws.{view-owner, view-slot}
+use Rattle.words.specs.Record.{boundaryIn, lastAt, slotIn, wordAt}
+use Rattle.words.specs.View.{stateOf}
+use Rattle.words.proofs.FitLaws.{right-small}
+use Rattle.words.proofs.RowLaws.{word-beyond}
+use Rattle.words.proofs.ViewLaws.{view-slot}
 
 -- what the numbers of a rest are
 pub record Numbers (s : Settings) (r : Rest) : Type 0 where
@@ -75,9 +75,6 @@ module _ (s : Settings) (r : Rest) (ws : List ℕ) (good : Good s r ws) where
   pub good-beyond : (k : ℕ) → s .endpoints ≤ k → wordAt ws k ≡ 0
   good-beyond k h = word-beyond ws k (omega (arith, good-length))
 
-  pub good-last-beyond : (k : ℕ) → s .endpoints ≤ k → lastAt ws k ≡ 0
-  good-last-beyond k h = last-beyond ws k (omega (arith, good-length))
-
   -- ---- a slot
 
   slot-right : (k : ℕ) → k < 32 → slotGood (s .endpoints) k (r .unanswered) (slotAt (stateOf s r ws) k) ≡ true
@@ -105,23 +102,4 @@ module _ (s : Settings) (r : Rest) (ws : List ℕ) (good : Good s r ws) where
       go false t =
           let z : wordAt ws k ≡ 0 = good-beyond k (omega (arith, ltb-false k 32 t, good-settings .endpoints-most)) in
           omega (arith, z)
-
-  pub good-fits : (k : ℕ) → k < 32 → idIn (lastAt ws k) < 2 ^ 64 → SlotFits (slotIn (wordAt ws k) (lastAt ws k))
-  good-fits k h below =
-      slot-fits (wordAt ws k) (lastAt ws k) (s .endpoints) k (r .unanswered) (good-numbers .unanswered-most) (good-slot k h) below
-
-  -- ---- a place
-
-  owned-at : (i : ℕ) → i < s .descriptors → getD (stateOf s r ws .owner) i 0 ≤ s .endpoints
-  unfolding stateOf
-  owned-at i h = good-ranges .owned i h
-
-  pub good-owned : (i : ℕ) → i < s .descriptors → ownerFrom 0 32 ws i ≤ s .endpoints
-  good-owned i h = rw (view-owner s r ws i (omega (arith, good-settings .descriptors-most))) at (owned-at i h)
-
-  unowned-at : (i : ℕ) → s .descriptors ≤ i → getD (stateOf s r ws .owner) i 0 ≡ 0
-  unfolding stateOf
-  unowned-at i h = good-ranges .unowned i h
-
-  pub good-unowned : (i : ℕ) → s .descriptors ≤ i → i < 256 → ownerFrom 0 32 ws i ≡ 0
-  good-unowned i h b = sym (view-owner s r ws i b) ∙ unowned-at i h
+      -- ---- a place

@@ -12,7 +12,7 @@ use Rattle.bitset.specs.Words.{Fitting}
 use Rattle.bitset.specs.Places.{Words}
 use Rattle.bitset.proofs.BitLaws.{bit-le, same-word}
 use Rattle.settings.specs.declared.settings.Settings.{Settings}
-use Rattle.state.specs.declared.state.Ehci.{Ehci}
+use Rattle.state.specs.Plain.{Ehci}
 use Rattle.words.specs.declared.core.Rest.{Rest}
 use Rattle.words.specs.Good.{Held, Tidy}
 use Rattle.words.specs.Record.{boundaryIn, cancelIn, directionIn, idIn, kindIn, lastAt, lastOf, lengthIn, partAt, phaseIn, requestIn, slotIn, wordAt, wordOf}

@@ -8,7 +8,7 @@ use Rattle.bitset.specs.Words.{bit}
 use Rattle.bitset.specs.Places.{allBelow}
 use Rattle.bitset.proofs.BitLaws.{zero-bit}
 use Rattle.settings.specs.declared.settings.Settings.{Settings}
-use Rattle.state.specs.declared.state.Ehci.{Ehci}
+use Rattle.state.specs.Plain.{Ehci}
 use Rattle.slot.specs.Ids.{afterId}
 use Rattle.words.specs.declared.core.Rest.{Rest}
 use Rattle.words.specs.Good.{Held, Tidy}

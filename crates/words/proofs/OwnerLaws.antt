@@ -162,22 +162,8 @@ module _ (s : Settings) (r : Rest) (ws : List ℕ) (t : Tidy s r ws) (slots : s 
   abbrev owner : ℕ
   owner = getD (ownersOf ws) i 0
 
-  pub row-unowned : (owner ≡ 0 → (l : ℕ) → holdsBit ws l i ≡ 0) × (((l : ℕ) → holdsBit ws l i ≡ 0) → owner ≡ 0)
-  row-unowned =
-      ((λ e. unowned-held s r ws t i below slots (sym (owners-at ws i below) ∙ e)), (λ h. owners-at ws i below ∙ unheld-owner s r ws t i below slots h))
-
   pub row-owned : (k : ℕ) → (owner ≡ k + 1 → (k < s .endpoints) × (holdsBit ws k i ≡ 1)) × (holdsBit ws k i ≡ 1 → owner ≡ k + 1)
   row-owned k = (
     (λ e. owner-held s r ws t i below slots k (sym (owners-at ws i below) ∙ e ∙ add-one k)),
     (λ h. owners-at ws i below ∙ held-owner s r ws t i below slots k h ∙ sym (add-one k)),
   )
-
-  pub row-free : (placeBit (r .free) i ≡ 1 → (i < s .descriptors) × (owner ≡ 0)) × ((i < s .descriptors) × (owner ≡ 0) → placeBit (r .free) i ≡ 1)
-  row-free = (
-    (λ e. (inside e (leb (s .descriptors) i) refl, owners-at ws i below ∙ free-owner s r ws t i below slots e)),
-    (λ h. owner-unowned s r ws t i below slots (h .0) (sym (owners-at ws i below) ∙ h .1)),
-  )
-    where
-      inside : placeBit (r .free) i ≡ 1 → (b : Bool) → leb (s .descriptors) i ≡ b → i < s .descriptors
-      inside e true q = absurd (omega (arith, e, outside-free s r ws t i below (leb-true (s .descriptors) i q)))
-      inside e false q = leb-false (s .descriptors) i q

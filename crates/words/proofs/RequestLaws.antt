@@ -4,7 +4,7 @@ use mathlib.Core.Path.{_≡_, refl, sym, ap, _∙_}
 use mathlib.Core.Bool.{Bool, true, false, not, _&&_}
 use mathlib.Core.List.{List}
 use native.Mathlib.Omega.{arith}
-use borrow.Author.Tests.{eqb-true, eqb-false, leb-true, leb-false, le-leb, lt-leb, ltb-true, ne-eqb}
+use borrow.Author.Tests.{eqb-true, eqb-false, leb-true, leb-false, le-leb, lt-leb, ltb-true}
 use lib.Dec.{leb, ltb}
 use lib.ListN.{getD}
 use Rattle.bitset.specs.Places.{hasPlace}
@@ -30,11 +30,6 @@ module _ (s : Settings) (r : Rest) (ws : List ℕ) (t : Tidy s r ws) (few : s .d
       go false q =
           absurd (eqb-false (placeBit (r .free) p) 1 (sym (has-bit (r .free) p (omega arith)) ∙ e)
           (owner-unowned s r ws t p (omega arith) slots h (omega (arith, owners-at ws p (omega arith), leb-false 1 owner q))))
-
-  pub place-taken : p < s .descriptors → 1 ≤ owner → hasPlace (r .free) p ≡ false
-  place-taken h o =
-      has-bit (r .free) p (omega arith)
-      ∙ ne-eqb (placeBit (r .free) p) 1 (λ q. omega (arith, o, owners-at ws p (omega arith), free-owner s r ws t p (omega arith) slots q))
 
   -- as tests
   pub in-request : ltb p (s .descriptors) && leb 1 owner ≡ ltb p (s .descriptors) && not (hasPlace (r .free) p)

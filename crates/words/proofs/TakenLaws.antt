@@ -8,7 +8,7 @@ use Rattle.bitset.specs.Places.{Words, lowestOf}
 use Rattle.pool.specs.Places.{clearOf, markOf}
 use Rattle.settings.specs.declared.settings.Settings.{Settings}
 use Rattle.slot.specs.declared.slot.Slot.{Slot}
-use Rattle.state.specs.declared.state.Ehci.{Ehci}
+use Rattle.state.specs.Plain.{Ehci}
 use Rattle.state.specs.Slots.{withSlot}
 use Rattle.state.specs.State.{withOwner}
 use Rattle.words.specs.declared.core.Rest.{Rest}

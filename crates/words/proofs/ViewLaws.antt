@@ -17,38 +17,6 @@ module _ (s : Settings) (r : Rest) (ws : List ℕ) where
   unfolding stateOf
   owner-length = each-length (ownerFrom 0 32 ws) 0 256
 
-  pub phases-length : length (stateOf s r ws .phases) ≡ 32
-  unfolding stateOf
-  phases-length = each-length (λ k. phaseIn (wordAt ws k)) 0 32
-
-  pub kinds-length : length (stateOf s r ws .kinds) ≡ 32
-  unfolding stateOf
-  kinds-length = each-length (λ k. kindIn (wordAt ws k)) 0 32
-
-  pub ids-length : length (stateOf s r ws .ids) ≡ 32
-  unfolding stateOf
-  ids-length = each-length (λ k. idIn (lastAt ws k)) 0 32
-
-  pub requests-length : length (stateOf s r ws .requests) ≡ 32
-  unfolding stateOf
-  requests-length = each-length (λ k. requestIn (phaseIn (wordAt ws k)) (lastAt ws k)) 0 32
-
-  pub directions-length : length (stateOf s r ws .directions) ≡ 32
-  unfolding stateOf
-  directions-length = each-length (λ k. directionIn (wordAt ws k)) 0 32
-
-  pub lengths-length : length (stateOf s r ws .lengths) ≡ 32
-  unfolding stateOf
-  lengths-length = each-length (λ k. lengthIn (wordAt ws k)) 0 32
-
-  pub cancels-length : length (stateOf s r ws .cancels) ≡ 32
-  unfolding stateOf
-  cancels-length = each-length (λ k. cancelIn (wordAt ws k)) 0 32
-
-  pub boundaries-length : length (stateOf s r ws .boundaries) ≡ 32
-  unfolding stateOf
-  boundaries-length = each-length (λ k. boundaryIn (wordAt ws k)) 0 32
-
   -- ---- a place
 
   pub view-owner : (i : ℕ) → i < 256 → getD (stateOf s r ws .owner) i 0 ≡ ownerFrom 0 32 ws i

@@ -9,7 +9,7 @@ use lib.Dec.{leb, ltb}
 use Rattle.settings.specs.declared.settings.Settings.{Settings}
 use Rattle.pipe.specs.Endpoints.{flagNumber}
 use Rattle.ehci.specs.declared.call.Call.{Call}
-use Rattle.promises.specs.Runs.{History, Machine, Turn, World, historyOf}
+use Rattle.promises.specs.Runs.{Form, History, Machine, Turn, WorldIn, historyOf, runOf}
 use Rattle.promises.specs.Events.{Event, Other, Reads, Drains, Submits, Unlinks, Parts, Collects, event, rings}
 use Rattle.promises.specs.Bells.{Answered, Bell, Boundary, Quiet, Rung, asked, bell, counted, drains, isAnswered, isDrains, isReads, isUp, next, number, reads, renews, unlinking, unlinks, unlinksOf}
 use Rattle.promises.specs.Boundaries.{BoundaryKept, Exact, UpExactly, past, turn}
@@ -113,22 +113,22 @@ module _ (s : Settings) (k : ℕ) (t : Turn) (h : History) (mine : unlinksOf s k
     answered = λ n e. absurd (rung-not-answered (rw (rings-first (omega (arith, rw (mine, is .2) at n))) at e));
   }
 
-module _ (m : Machine) (s : Settings) (w : World) (exact : Exact m s w) (up : UpExactly m s w) where
-  known : (cs : List Call) (k : ℕ) → unlinking s k (past m s w cs) ≡ true → Known s k (past m s w cs)
+module _ {f : Form} (m : Machine f) (s : Settings) (w : WorldIn f) (exact : Exact s (runOf m w)) (up : UpExactly s (runOf m w)) where
+  known : (cs : List Call) (k : ℕ) → unlinking s k (past s (runOf m w) cs) ≡ true → Known s k (past s (runOf m w) cs)
   unfolding historyOf unlinking
   known [] k e = absurd (false≢true e)
   known (c ∷ cs) k e = go (unlinksOf s k t) refl (renews s k t) refl e (known cs k)
     where
       t : Turn
-      t = turn m s w cs c
+      t = turn s (runOf m w) cs c
 
-      go : (a : Bool) → unlinksOf s k t ≡ a → (b : Bool) → renews s k t ≡ b → cond a true (cond b false (unlinking s k (past m s w cs))) ≡ true
-          → (unlinking s k (past m s w cs) ≡ true → Known s k (past m s w cs)) → Known s k (t ∷ past m s w cs)
-      go true ea b eb e rec = known-first s k t (past m s w cs) ea (up cs .0) (up cs .2) (up (c ∷ cs) .2)
+      go : (a : Bool) → unlinksOf s k t ≡ a → (b : Bool) → renews s k t ≡ b → cond a true (cond b false (unlinking s k (past s (runOf m w) cs))) ≡ true
+          → (unlinking s k (past s (runOf m w) cs) ≡ true → Known s k (past s (runOf m w) cs)) → Known s k (t ∷ past s (runOf m w) cs)
+      go true ea b eb e rec = known-first s k t (past s (runOf m w) cs) ea (up cs .0) (up cs .2) (up (c ∷ cs) .2)
       go false ea true eb e rec = absurd (false≢true e)
-      go false ea false eb e rec = known-step s k t (past m s w cs) ea (rec e)
+      go false ea false eb e rec = known-step s k t (past s (runOf m w) cs) ea (rec e)
 
-  pub boundary : BoundaryKept m s w
+  pub boundary : BoundaryKept s (runOf m w)
   boundary cs k id readings done kind =
       let e = exact cs k id readings .0 kind .0 done in
       (e .0, known cs k (e .0) .passed (e .2))

@@ -8,7 +8,7 @@ use Rattle.common.specs.declared.kinds.EndpointType.{EndpointType}
 use Rattle.common.specs.Kinds.{isInterrupt}
 use Rattle.controller.specs.declared.lent.Readings.{Readings}
 use Rattle.ehci.specs.declared.call.Call.{Call}
-use Rattle.promises.specs.Runs.{History, Machine, Turn, World, historyOf}
+use Rattle.promises.specs.Runs.{Form, History, Machine, Turn, WorldIn, historyOf, runOf}
 use Rattle.promises.specs.Events.{Event, Other, Reads, Drains, Submits, Unlinks, Parts, Collects, event}
 use Rattle.promises.specs.Bells.{isSubmitsOf, isUnlinksOf, kindAfter, kindAt, newestId, renews, unlinking, unlinksOf}
 use Rattle.promises.specs.Boundaries.{CancelledAnswered, CancelledCollects, Exact, FramesKept, Orderly, PassesExactly, past, turn}
@@ -36,18 +36,18 @@ renewed : (a b : Bool) → (a || b) ≡ false → a ≡ false
 renewed true b e = absurd (true≢false e)
 renewed false b e = refl
 
-module _ (m : Machine) (s : Settings) (w : World) (orderly : Orderly m s w) where
+module _ {f : Form} (m : Machine f) (s : Settings) (w : WorldIn f) (orderly : Orderly s (runOf m w)) where
   -- what leaves the ring is no interrupt request
-  pub unlinking-kind : (cs : List Call) (k : ℕ) → unlinking s k (past m s w cs) ≡ true → isInterrupt (kindAt s k (past m s w cs)) ≡ false
+  pub unlinking-kind : (cs : List Call) (k : ℕ) → unlinking s k (past s (runOf m w) cs) ≡ true → isInterrupt (kindAt s k (past s (runOf m w) cs)) ≡ false
   unfolding historyOf unlinking kindAt
   unlinking-kind [] k e = refl
   unlinking-kind (c ∷ cs) k e = go (unlinksOf s k t) refl (renews s k t) refl e (unlinking-kind cs k)
     where
       t : Turn
-      t = turn m s w cs c
+      t = turn s (runOf m w) cs c
 
       h : History
-      h = past m s w cs
+      h = past s (runOf m w) cs
 
       go : (a : Bool) → unlinksOf s k t ≡ a → (b : Bool) → renews s k t ≡ b → cond a true (cond b false (unlinking s k h)) ≡ true
           → (unlinking s k h ≡ true → isInterrupt (kindAt s k h) ≡ false) → isInterrupt (kindAfter k (event s t) (kindAt s k h)) ≡ false
@@ -55,14 +55,14 @@ module _ (m : Machine) (s : Settings) (w : World) (orderly : Orderly m s w) wher
       go false ea true eb e rec = absurd (false≢true e)
       go false ea false eb e rec = ap isInterrupt (kind-stays k (event s t) (kindAt s k h) (renewed _ _ eb)) ∙ rec e
 
-  pub passes-exactly : Exact m s w → PassesExactly m s w
+  pub passes-exactly : Exact s (runOf m w) → PassesExactly s (runOf m w)
   passes-exactly exact cs k = (
     λ p. let e = exact cs k (p .1) (p .2) .0 (unlinking-kind cs k (p .0)) .0 (p .3) in (e .0, e .2),
     λ q. (
       q .0,
-      newestId s k (past m s w cs),
+      newestId s k (past s (runOf m w) cs),
       none-read,
-      exact cs k (newestId s k (past m s w cs)) none-read .0 (unlinking-kind cs k (q .0)) .1 (q .0, refl, q .1),
+      exact cs k (newestId s k (past s (runOf m w) cs)) none-read .0 (unlinking-kind cs k (q .0)) .1 (q .0, refl, q .1),
     ),
   )
     where
@@ -70,15 +70,15 @@ module _ (m : Machine) (s : Settings) (w : World) (orderly : Orderly m s w) wher
       none-read = record { command = 0; frame = 0 }
 
 -- and an interrupt request's boundary
-pub frames-kept : (m : Machine) (s : Settings) (w : World) → Exact m s w → FramesKept m s w
+pub frames-kept : {f : Form} (m : Machine f) (s : Settings) (w : WorldIn f) → Exact s (runOf m w) → FramesKept s (runOf m w)
 frames-kept m s w exact cs k id readings done kind =
     let e = exact cs k id readings .1 kind .0 done in
     (e .0, e .2)
 
 -- and what is cancelled is collected as such, once it is answered
-pub answered-cancelled : (m : Machine) (s : Settings) (w : World) → Exact m s w → CancelledCollects m s w → CancelledAnswered m s w
+pub answered-cancelled : {f : Form} (m : Machine f) (s : Settings) (w : WorldIn f) → Exact s (runOf m w) → CancelledCollects s (runOf m w) → CancelledAnswered s (runOf m w)
 answered-cancelled m s w exact cancels cs k rd e =
-    let id = newestId s k (past m s w cs) in (
+    let id = newestId s k (past s (runOf m w) cs) in (
       (λ kind off reached. cancels cs k id rd e (exact cs k id rd .0 kind .1 (off, refl, reached))),
       (λ kind off nine. cancels cs k id rd e (exact cs k id rd .1 kind .1 (off, refl, nine))),
     )

@@ -16,10 +16,10 @@ use Rattle.ehci.specs.declared.call.Call.{Call}
 use Rattle.ehci.specs.declared.call.Call.the-variants.{StartBringUp, BringUpStep, AllocateAddress, OpenEndpoint, Close, SetAddress, SetPacketSize, Submit, Writeback, Cancel, Collect, Acknowledge, Drain, Rearm, Enable, Disable}
 use Rattle.ehci.specs.declared.reply.Answered.{Answered}
 use Rattle.ehci.specs.Replies.{answeredValues}
-use Rattle.promises.specs.Runs.{History, Machine, Turn, World, historyOf, worldOf}
+use Rattle.promises.specs.Runs.{Form, History, Machine, Turn, WorldIn, historyOf, runOf}
 use Rattle.promises.specs.Events.{Event, Other, Reads, Drains, Submits, Unlinks, Parts, Collects, firstIn, happens, isCollected, isDone, leaving, leavesFrames, leavesRing, submitsBy}
 use Rattle.promises.specs.Bells.{Boundary, collects, isCollectsOf, kindAt, none, reads, unlinksOf}
-use Rattle.promises.specs.Boundaries.{At, BoundaryKept, BoundaryNumbered, RungAndAnswered, past, turn}
+use Rattle.promises.specs.Boundaries.{At, BoundaryKept, BoundaryNumbered, RungAndAnswered, answerTo, past, turn}
 
 -- ---- lists
 head-or : Turn → History → Turn
@@ -59,12 +59,12 @@ none-at p (x ∷ xs) ys n t q a l = go (a .0) (a .1) (a .2) (a .3) (none-at p xs
     go (w ∷ nw) ol e f rec = rec (nw, ol, same-tail x w (xs ++ ys) (nw ++ t ∷ ol) e, f) l
 
 -- what is older than a turn of a run is the history of a run
-run-of : (m : Machine) (s : Settings) (w : World) (newer : History) (cs : List Call) (t : Turn) (older : History) → past m s w cs ≡ newer ++ t ∷ older
-    → (c : Call) × (bs : List Call) × (t ≡ turn m s w bs c) × (older ≡ past m s w bs)
+run-of : {f : Form} (m : Machine f) (s : Settings) (w : WorldIn f) (newer : History) (cs : List Call) (t : Turn) (older : History) → past s (runOf m w) cs ≡ newer ++ t ∷ older
+    → (c : Call) × (bs : List Call) × (t ≡ turn s (runOf m w) bs c) × (older ≡ past s (runOf m w) bs)
 unfolding historyOf
 run-of m s w newer [] t older e = absurd (not-nil newer t older e)
-run-of m s w [] (c ∷ cs) t older e = (c, cs, sym (same-head (turn m s w cs c) t (past m s w cs) older e), sym (same-tail (turn m s w cs c) t (past m s w cs) older e))
-run-of m s w (x ∷ newer) (c ∷ cs) t older e = run-of m s w newer cs t older (same-tail (turn m s w cs c) x (past m s w cs) (newer ++ t ∷ older) e)
+run-of m s w [] (c ∷ cs) t older e = (c, cs, sym (same-head (turn s (runOf m w) cs c) t (past s (runOf m w) cs) older e), sym (same-tail (turn s (runOf m w) cs c) t (past s (runOf m w) cs) older e))
+run-of m s w (x ∷ newer) (c ∷ cs) t older e = run-of m s w newer cs t older (same-tail (turn s (runOf m w) cs c) x (past s (runOf m w) cs) (newer ++ t ∷ older) e)
 
 -- ---- which call an event is
 
@@ -163,12 +163,12 @@ module _ (s : Settings) (k : ℕ) (newer older : History) (collection : Turn) (b
           (omega (arith, leb-false u (length (b .before)) e))))
 
 -- of any machine
-pub by-numbers : (m : Machine) (s : Settings) (w : World) → BoundaryKept m s w → BoundaryNumbered m s w
+pub by-numbers : {f : Form} (m : Machine f) (s : Settings) (w : WorldIn f) → BoundaryKept s (runOf m w) → BoundaryNumbered s (runOf m w)
 by-numbers m s w kept cs k c u collection unlink at col kind at-u un l =
     let r = run-of m s w (at .0) cs collection (at .1) (at .2) in
-    let is = is-collection s k (turn m s w (r .1) (r .0)) (r .0) (sym (ap (collects s k) (r .2)) ∙ col) in
-    let done : isCollected (m (worldOf m w (r .1)) (Collect k (is .0) (is .1)) .reply .answer) ≡ true
-    = subst (λ (x : Call). isCollected (m (worldOf m w (r .1)) x .reply .answer) ≡ true) (is .2) (is .3) in
+    let is = is-collection s k (turn s (runOf m w) (r .1) (r .0)) (r .0) (sym (ap (collects s k) (r .2)) ∙ col) in
+    let done : isCollected (answerTo s (runOf m w) (r .1) (Collect k (is .0) (is .1))) ≡ true
+    = subst (λ (x : Call). isCollected (answerTo s (runOf m w) (r .1) x) ≡ true) (is .2) (is .3) in
     let b : Boundary s k (at .1) =
     subst (Boundary s k) (sym (r .3))
     (kept (r .1) k (is .0) (is .1) done (subst (λ (x : History). isInterrupt (kindAt s k x) ≡ false) (r .3) kind) .1) in

@@ -10,7 +10,7 @@ use lib.ListN.{length, take}
 use Rattle.settings.specs.declared.settings.Settings.{Settings}
 use Rattle.pipe.specs.Endpoints.{flagNumber}
 use Rattle.ehci.specs.declared.call.Call.{Call}
-use Rattle.promises.specs.Runs.{History, Machine, Turn, World, historyOf}
+use Rattle.promises.specs.Runs.{Form, History, Machine, Turn, WorldIn, historyOf, runOf}
 use Rattle.promises.specs.Events.{Event, Other, Reads, Drains, Submits, Unlinks, Parts, Collects, event, rings}
 use Rattle.promises.specs.Bells.{Answered, Bell, Quiet, Rung, asked, bell, counted, drains, isAnswered, isDrains, isReads, isUnlinks, isUnlinksOf, isUp, next, none, number, reads, renews, someTurn, unlinking, unlinks, unlinksOf}
 use Rattle.promises.specs.Boundaries.{OneCount, OnePasses, OnlyAnswered, Passes, PassesExactly, UpExactly, past, turn}
@@ -190,19 +190,19 @@ number-one s j k (t ∷ h) o e = go (event s t) o e (number-one s j k h)
         on false p false q o e = rec o e
 
 -- ---- of the machine
-module _ (m : Machine) (s : Settings) (w : World) (exact : PassesExactly m s w) (up : UpExactly m s w) where
+module _ {f : Form} (m : Machine f) (s : Settings) (w : WorldIn f) (exact : PassesExactly s (runOf m w)) (up : UpExactly s (runOf m w)) where
   abbrev hist : List Call → History
-  hist = past m s w
+  hist = past s (runOf m w)
 
   history-split : (ds cs : List Call) → hist (ds ++ cs) ≡ take (length ds) (hist (ds ++ cs)) ++ hist cs
   unfolding historyOf
   history-split [] cs = refl
-  history-split (d ∷ ds) cs = ap (λ (x : History). turn m s w (ds ++ cs) d ∷ x) (history-split ds cs)
+  history-split (d ∷ ds) cs = ap (λ (x : History). turn s (runOf m w) (ds ++ cs) d ∷ x) (history-split ds cs)
 
   -- an unlink that does not ring has a ring out already
   module _ (c : Call) (cs : List Call) (k : ℕ) where
     abbrev t : Turn
-    t = turn m s w cs c
+    t = turn s (runOf m w) cs c
 
     unlinks-any : unlinksOf s k t ≡ true → unlinks s t ≡ true
     unlinks-any e = go (event s t) e
@@ -240,7 +240,7 @@ module _ (m : Machine) (s : Settings) (w : World) (exact : PassesExactly m s w) 
     grows : (ds : List Call) → counted s (hist cs) ≤ counted s (hist (ds ++ cs))
     unfolding historyOf
     grows [] = omega arith
-    grows (d ∷ ds) = omega (arith, grows ds, counted-grows s (turn m s w (ds ++ cs) d) (hist (ds ++ cs)))
+    grows (d ∷ ds) = omega (arith, grows ds, counted-grows s (turn s (runOf m w) (ds ++ cs) d) (hist (ds ++ cs)))
 
     module _ (k : ℕ) where
       had : (ds : List Call) → none rings (take (length ds) (hist (ds ++ cs))) → unlinking s k (hist (ds ++ cs)) ≡ true → number s k (hist (ds ++ cs)) ≤ counted s (hist cs) + 1
@@ -257,7 +257,7 @@ module _ (m : Machine) (s : Settings) (w : World) (exact : PassesExactly m s w) 
           go false e false g l rec = rec g l
 
       -- a request that comes to pass in the stretch is the one that the next advance is for
-      next-one : (ds : List Call) (c : Call) → none rings (take (length ds) (hist (ds ++ cs))) → (Passes m s w cs k → ⊥) → Passes m s w (c ∷ ds ++ cs) k → (number s k (hist cs) ≡ counted s (hist cs) + 1) × (counted s (hist cs) + 1 ≤ counted s (turn m s w (ds ++ cs) c ∷ hist (ds ++ cs)))
+      next-one : (ds : List Call) (c : Call) → none rings (take (length ds) (hist (ds ++ cs))) → (Passes s (runOf m w) cs k → ⊥) → Passes s (runOf m w) (c ∷ ds ++ cs) k → (number s k (hist cs) ≡ counted s (hist cs) + 1) × (counted s (hist cs) + 1 ≤ counted s (turn s (runOf m w) (ds ++ cs) c ∷ hist (ds ++ cs)))
       unfolding historyOf unlinking number counted
       next-one ds c q not-yet done =
           let e = exact (c ∷ ds ++ cs) k .0 done in
@@ -279,25 +279,25 @@ module _ (m : Machine) (s : Settings) (w : World) (exact : PassesExactly m s w) 
               let y = settle (leb (number s k (hist cs)) (counted s (hist cs))) refl (x .0, omega (arith, x .1, few)) in
               (y, omega (arith, x .1, l))
 
-  pub one-passes : OnePasses m s w
+  pub one-passes : OnePasses s (runOf m w)
   one-passes cs ds c j k q j-not k-not j-done k-done =
       let a = next-one cs j ds c q j-not j-done in
       let b = next-one cs k ds c q k-not k-done in
       number-one s j k (hist cs) (omega (arith, a .0)) (a .0 ∙ sym (b .0))
 
-  pub answered-only : OnlyAnswered m s w
+  pub answered-only : OnlyAnswered s (runOf m w)
   unfolding historyOf
   answered-only cs ds r c k rung q not-yet done =
       let x = next-one (r ∷ cs) k ds c q not-yet done in
-      let o = once s (turn m s w (ds ++ r ∷ cs) c) (take (length ds) (hist (ds ++ r ∷ cs))) (turn m s w cs r) (hist cs) rung q in
+      let o = once s (turn s (runOf m w) (ds ++ r ∷ cs) c) (take (length ds) (hist (ds ++ r ∷ cs))) (turn s (runOf m w) cs r) (hist cs) rung q in
       let same : hist (ds ++ r ∷ cs) ≡ take (length ds) (hist (ds ++ r ∷ cs)) ++ hist (r ∷ cs) = history-split ds (r ∷ cs) in
-      go (someTurn (reads s) (take (length ds) (hist (ds ++ r ∷ cs)))) (omega (arith, x .1, ap (λ (y : History). counted s (turn m s w (ds ++ r ∷ cs) c ∷ y)) same, o))
+      go (someTurn (reads s) (take (length ds) (hist (ds ++ r ∷ cs)))) (omega (arith, x .1, ap (λ (y : History). counted s (turn s (runOf m w) (ds ++ r ∷ cs) c ∷ y)) same, o))
     where
       go : (b : Bool) → 1 ≤ flagNumber b → b ≡ true
       go true l = refl
       go false l = absurd (omega arith)
 
-  pub one-count : OneCount m s w
+  pub one-count : OneCount s (runOf m w)
   one-count =
       record {
         none-unrung = λ cs k q done.

@@ -16,11 +16,10 @@ use Rattle.ehci.specs.declared.call.Call.{Call}
 use Rattle.ehci.specs.declared.call.Call.the-variants.{StartBringUp, BringUpStep, AllocateAddress, OpenEndpoint, Close, SetAddress, SetPacketSize, Submit, Writeback, Cancel, Collect, Acknowledge, Drain, Rearm, Enable, Disable}
 use Rattle.ehci.specs.declared.call.InterruptReadings.{InterruptReadings}
 use Rattle.ehci.specs.Replies.{answeredValues}
-use Rattle.promises.specs.Runs.{History, Machine, Turn, World, historyOf, worldOf}
+use Rattle.promises.specs.Runs.{EveryRun, Form, History, Machine, Moment, Turn, historyOf, moment, turnBy, worldOf}
 use Rattle.promises.specs.Events.{Event, Other, Reads, Drains, Submits, Unlinks, Parts, Collects, event, firstIn, isDone, rings}
 use Rattle.promises.specs.Bells.{Answered, Bell, Quiet, Rung, asked, bell, counted, isAnswered, isDrains, isUnlinks}
-use Rattle.promises.specs.Boundaries.{EveryRun, UpExactly}
-use Rattle.promises.specs.Chains.{turnBy}
+use Rattle.promises.specs.Boundaries.{UpExactly}
 use Rattle.promises.specs.Registers.{Access, RingsInTurn, StatusAcknowledged, WritesExactly, accessOf, acknowledgeWrites, acknowledged, differ, flagIn, isAccepted, isLeft, maskedBy, maskedIn, plainly, readIn, ring, ringCount, ringing, ringsBy, setUp, statusFor, stepWrites, usbintr, valuesAt, writesFor}
 use Rattle.promises.proofs.any_machine.Numbers.{if-none}
 
@@ -89,10 +88,10 @@ module _ (s : Settings) (h : History) (t : Turn) where
   status-by Access.Enables = none-at (isAccepted t) (usbintr 0x27) refl
   status-by Access.Disables = none-at (isAccepted t) (usbintr 0) refl
 
-pub status-written : (m : Machine) → WritesExactly m → StatusAcknowledged m
+pub status-written : {f : Form} (m : Machine f) → EveryRun WritesExactly m → EveryRun StatusAcknowledged m
 status-written m exact s w o cs c =
     let h = historyOf m w cs in
-    let t = turnBy m (worldOf m w cs) c in
+    let t = turnBy (moment m (worldOf m w cs)) c in
     ap (valuesAt 4) (exact s w o cs c) ∙ status-by s h t (accessOf c)
 
 -- ---- rings
@@ -144,10 +143,10 @@ none-rings (Unlinks k) b remain u d = absurd (true≢false u)
 none-rings (Parts k frame) b remain u d = refl
 none-rings (Collects k id frame) b remain u d = refl
 
-module _ (m : Machine) (s : Settings) (h : History) (w : World) where
-  quiet : (c : Call) → isUnlinks (event s (turnBy m w c)) ≡ false → isDrains (event s (turnBy m w c)) ≡ false → ringsBy s h (turnBy m w c) ≡ false
+module _ (s : Settings) (h : History) (w : Moment) where
+  quiet : (c : Call) → isUnlinks (event s (turnBy w c)) ≡ false → isDrains (event s (turnBy w c)) ≡ false → ringsBy s h (turnBy w c) ≡ false
   quiet c u d =
-      none-rings (event s (turnBy m w c)) (bell s h) (isLeft s h) u (ap (λ (b : Bool). (b && isAnswered (bell s h))) d)
+      none-rings (event s (turnBy w c)) (bell s h) (isLeft s h) u (ap (λ (b : Bool). (b && isAnswered (bell s h))) d)
 
   module _ (b : Bool) (x y : Event) where
     pick-none : isUnlinks x ≡ false → isDrains x ≡ false → isUnlinks y ≡ false → isDrains y ≡ false
@@ -155,15 +154,15 @@ module _ (m : Machine) (s : Settings) (h : History) (w : World) where
     pick-none p q r z = (if-none isUnlinks b x y p r, if-none isDrains b x y q z)
 
   -- nor of any that neither of two events is
-  pub never-rings : (c : Call) (b : Bool) (x y : Event) → event s (turnBy m w c) ≡ cond b x y → isUnlinks x ≡ false → isDrains x ≡ false → isUnlinks y ≡ false → isDrains y ≡ false
-      → ringsBy s h (turnBy m w c) ≡ false
+  pub never-rings : (c : Call) (b : Bool) (x y : Event) → event s (turnBy w c) ≡ cond b x y → isUnlinks x ≡ false → isDrains x ≡ false → isUnlinks y ≡ false → isDrains y ≡ false
+      → ringsBy s h (turnBy w c) ≡ false
   never-rings c b x y is p q r z =
       let e = pick-none b x y p q r z in
       quiet c (ap isUnlinks is ∙ e .0) (ap isDrains is ∙ e .1)
 
-  pub count-by : (c : Call) → ringCount (writesFor s h (turnBy m w c) (accessOf c)) ≡ flagNumber (ringsBy s h (turnBy m w c))
-  count-by StartBringUp = no-ring (isAccepted (turnBy m w StartBringUp)) (usbintr 0) refl
-  count-by (BringUpStep v) = no-ring (isAccepted (turnBy m w (BringUpStep v))) (stepWrites s (readIn h) v) (step-none s (readIn h) v)
+  pub count-by : (c : Call) → ringCount (writesFor s h (turnBy w c) (accessOf c)) ≡ flagNumber (ringsBy s h (turnBy w c))
+  count-by StartBringUp = no-ring (isAccepted (turnBy w StartBringUp)) (usbintr 0) refl
+  count-by (BringUpStep v) = no-ring (isAccepted (turnBy w (BringUpStep v))) (stepWrites s (readIn h) v) (step-none s (readIn h) v)
   count-by AllocateAddress = refl
   count-by (OpenEndpoint x) = refl
   count-by (Close k) = refl
@@ -171,29 +170,29 @@ module _ (m : Machine) (s : Settings) (h : History) (w : World) where
   count-by (SetPacketSize k size) = refl
   count-by (Submit k r readings) =
       let c = Submit k r readings in
-      let a = m w c .reply .answer in
+      let a = w .does c .reply .answer in
       let e = pick-none (isDone a) (Submits k (firstIn (answeredValues a)) r) Other refl refl refl refl in
-      no-ring (isAccepted (turnBy m w c)) (plainly (withBits (readings .command) 0x31)) (plain-none (withBits (readings .command) 0x31))
+      no-ring (isAccepted (turnBy w c)) (plainly (withBits (readings .command) 0x31)) (plain-none (withBits (readings .command) 0x31))
       ∙ sym (ap flagNumber (quiet c (e .0) (e .1)))
   count-by (Writeback place token) = refl
-  count-by (Cancel k id readings) = ring-one (ringsBy s h (turnBy m w (Cancel k id readings))) (readings .command)
-  count-by (Collect k id readings) = ring-one (ringsBy s h (turnBy m w (Collect k id readings))) (readings .command)
+  count-by (Cancel k id readings) = ring-one (ringsBy s h (turnBy w (Cancel k id readings))) (readings .command)
+  count-by (Collect k id readings) = ring-one (ringsBy s h (turnBy w (Collect k id readings))) (readings .command)
   count-by (Acknowledge x) =
       let c = Acknowledge x in
-      let e = pick-none (isDone (m w c .reply .answer) && eqb (bit (x .status) 5) 1) Reads Other refl refl refl refl in
-      no-ring (isAccepted (turnBy m w c)) (acknowledgeWrites x (acknowledged x)) (acknowledge-none x (acknowledged x))
+      let e = pick-none (isDone (w .does c .reply .answer) && eqb (bit (x .status) 5) 1) Reads Other refl refl refl refl in
+      no-ring (isAccepted (turnBy w c)) (acknowledgeWrites x (acknowledged x)) (acknowledge-none x (acknowledged x))
       ∙ sym (ap flagNumber (quiet c (e .0) (e .1)))
-  count-by (Drain v) = ring-one (ringsBy s h (turnBy m w (Drain v))) v
-  count-by Rearm = no-ring (isAccepted (turnBy m w Rearm) && not (eqb (maskedIn h) 0)) (usbintr (cond (flagIn h) 0x27 0)) refl
-  count-by Enable = no-ring (isAccepted (turnBy m w Enable)) (usbintr 0x27) refl
-  count-by Disable = no-ring (isAccepted (turnBy m w Disable)) (usbintr 0) refl
+  count-by (Drain v) = ring-one (ringsBy s h (turnBy w (Drain v))) v
+  count-by Rearm = no-ring (isAccepted (turnBy w Rearm) && not (eqb (maskedIn h) 0)) (usbintr (cond (flagIn h) 0x27 0)) refl
+  count-by Enable = no-ring (isAccepted (turnBy w Enable)) (usbintr 0x27) refl
+  count-by Disable = no-ring (isAccepted (turnBy w Disable)) (usbintr 0) refl
 
-pub ring-once : (m : Machine) → WritesExactly m → EveryRun UpExactly m → RingsInTurn m
+pub ring-once : {f : Form} (m : Machine f) → EveryRun WritesExactly m → EveryRun UpExactly m → EveryRun RingsInTurn m
 unfolding historyOf worldOf bell
 ring-once m exact up s w o cs c =
     let now = worldOf m w cs in
     let h = historyOf m w cs in
     record {
-      once = ap ringCount (exact s w o cs c) ∙ count-by m s h now c;
-      owed = λ r. ltb-true (counted s (turnBy m now c ∷ h)) (asked s (turnBy m now c ∷ h)) (sym (up s w o (c ∷ cs) .2) ∙ rw r);
+      once = ap ringCount (exact s w o cs c) ∙ count-by s h (moment m now) c;
+      owed = λ r. ltb-true (counted s (turnBy (moment m now) c ∷ h)) (asked s (turnBy (moment m now) c ∷ h)) (sym (up s w o (c ∷ cs) .2) ∙ rw r);
     }

@@ -8,30 +8,30 @@ use lib.ListN.{length, take}
 use Rattle.settings.specs.declared.settings.Settings.{Settings}
 use Rattle.pipe.specs.Endpoints.{flagNumber}
 use Rattle.ehci.specs.declared.call.Call.{Call}
-use Rattle.promises.specs.Runs.{History, Machine, Turn, World, historyOf}
+use Rattle.promises.specs.Runs.{Form, History, Machine, Turn, WorldIn, historyOf, runOf}
 use Rattle.promises.specs.Events.{event}
 use Rattle.promises.specs.Bells.{asked, bell, collects, counted, isAnswered, linked, none, number, partsOf, renews, submits, unlinking, unlinksOf}
 use Rattle.promises.specs.Boundaries.{Orderly, PassesExactly, UpExactly, Waits, past, turn}
 use Rattle.promises.proofs.any_machine.Once.{none-counted}
 use Rattle.promises.proofs.any_machine.Pictures.{an-unlink}
 
-module _ (m : Machine) (s : Settings) (w : World) (exact : PassesExactly m s w) (up : UpExactly m s w) (orderly : Orderly m s w) where
+module _ {f : Form} (m : Machine f) (s : Settings) (w : WorldIn f) (exact : PassesExactly s (runOf m w)) (up : UpExactly s (runOf m w)) (orderly : Orderly s (runOf m w)) where
   abbrev hist : List Call → History
-  hist = past m s w
+  hist = past s (runOf m w)
 
-  module _ (cs : List Call) (c : Call) (k : ℕ) (mine : unlinksOf s k (turn m s w cs c) ≡ true) where
+  module _ (cs : List Call) (c : Call) (k : ℕ) (mine : unlinksOf s k (turn s (runOf m w) cs c) ≡ true) where
     -- it goes on unlinking, under the number that it got, until it is collected
     goes-on : (ds : List Call) → none (collects s k) (take (length ds) (hist (ds ++ c ∷ cs)))
         → (unlinking s k (hist (ds ++ c ∷ cs)) ≡ true) × (number s k (hist (ds ++ c ∷ cs)) ≡ asked s (hist cs) + 1) × (linked s k (hist (ds ++ c ∷ cs)) ≡ false)
     unfolding historyOf unlinking number linked
-    goes-on [] q = (rw mine, rw mine, rw (an-unlink k (event s (turn m s w cs c)) mine .3, mine))
+    goes-on [] q = (rw mine, rw mine, rw (an-unlink k (event s (turn s (runOf m w) cs c)) mine .3, mine))
     goes-on (d ∷ ds) q = go (unlinksOf s k t) refl (submits s k t) refl (goes-on ds (q .1))
       where
         h : History
         h = hist (ds ++ c ∷ cs)
 
         t : Turn
-        t = turn m s w (ds ++ c ∷ cs) d
+        t = turn s (runOf m w) (ds ++ c ∷ cs) d
 
         off : (b : Bool) → linked s k h ≡ false → cond b false (linked s k h) ≡ false
         off true e = refl
@@ -49,10 +49,10 @@ module _ (m : Machine) (s : Settings) (w : World) (exact : PassesExactly m s w) 
     few : asked s (hist cs) + 1 ≤ counted s (hist cs) + 32
     unfolding historyOf asked counted
     few =
-        let e = an-unlink k (event s (turn m s w cs c)) mine in
-        omega (arith, up (c ∷ cs) .1, ap flagNumber (e .0), none-counted (event s (turn m s w cs c)) (e .0) (isAnswered (bell s (hist cs))))
+        let e = an-unlink k (event s (turn s (runOf m w) cs c)) mine in
+        omega (arith, up (c ∷ cs) .1, ap flagNumber (e .0), none-counted (event s (turn s (runOf m w) cs c)) (e .0) (isAnswered (bell s (hist cs))))
 
-  pub waits : Waits m s w
+  pub waits : Waits s (runOf m w)
   waits cs ds c k n mine owed = (
     omega (arith, few cs c k mine),
     λ q.

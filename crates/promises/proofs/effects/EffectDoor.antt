@@ -10,7 +10,7 @@ use Rattle.pool.specs.Chains.{fillOf, noChain}
 use Rattle.pool.specs.declared.chain.View.{View}
 use Rattle.pool.proofs.ChainLaws.{fill-no-chain}
 use Rattle.state.specs.Slots.{slotAt}
-use Rattle.state.specs.declared.state.Ehci.{Ehci}
+use Rattle.state.specs.Plain.{Ehci}
 use Rattle.state.proofs.RangesLaws.{Ranges}
 use Rattle.common.specs.declared.answer.Refusal.{Refusal}
 use Rattle.common.specs.declared.answer.Refusal.the-variants.{InvalidParameter}
@@ -19,7 +19,7 @@ use Rattle.opening.specs.Opening.{rowsFit}
 use Rattle.ehci.specs.declared.call.Call.{Call}
 use Rattle.ehci.specs.declared.reply.Answered.{Answered}
 use Rattle.ehci.specs.declared.reply.Answered.the-variants.{Refused}
-use Rattle.ehci.specs.declared.reply.Decided.{Decided}
+use Rattle.ehci.specs.Plain.{Decided}
 use Rattle.ehci.specs.Decides.{asksOf, callOf, decideOf, came}
 use Rattle.ehci.specs.Door.{Applied, applied, applyOf, carriedOut, seenBy}
 use Rattle.ehci.specs.Replies.{refusedReply, replied, settledReply}
@@ -29,7 +29,7 @@ use Rattle.schedule.specs.Bell.{someRing}
 use Rattle.promises.specs.Opened.{change}
 use Rattle.promises.proofs.effects.Effects.{Effect, Idles, Sides, Switches, besides, still}
 use Rattle.interrupt.specs.Interrupts.{settledOr}
-use Rattle.interrupt.specs.declared.answers.Settled.{Settled}
+use Rattle.interrupt.specs.Plain.{Settled}
 
 abbrev pub sidesWith : Ehci → ℕ → ℕ → ℕ → Sides
 sidesWith s enabled pending masked =

@@ -8,7 +8,7 @@ use lib.ListN.{length, replicate}
 use Rattle.register.specs.Writes.{noWrites}
 use Rattle.descriptor.specs.Heads.{withAddress, withPacketSize}
 use Rattle.common.proofs.TestLaws.{false-true}
-use Rattle.state.specs.declared.state.Ehci.{Ehci}
+use Rattle.state.specs.Plain.{Ehci}
 use Rattle.common.specs.declared.answer.Refusal.the-variants.{InvalidParameter}
 use Rattle.pipe.specs.Endpoints.{endpointAt, withEndpoint}
 use Rattle.pipe.specs.declared.endpoints.Endpoint.{Endpoint}

@@ -15,15 +15,15 @@ use Rattle.register.proofs.FieldLaws.{any-field}
 use Rattle.common.proofs.TestLaws.{both-second}
 use Rattle.state.specs.Ranges.{inRanges}
 use Rattle.state.specs.State.{withBell, withBoundaries, withInterrupt}
-use Rattle.state.specs.declared.state.Ehci.{Ehci}
+use Rattle.state.specs.Plain.{Ehci}
 use Rattle.state.proofs.RangesLaws.{Ranges}
 use Rattle.common.specs.Answers.{first}
 use Rattle.common.specs.declared.answer.Answer.the-variants.{Done}
 use Rattle.common.specs.declared.answer.Refusal.the-variants.{InvalidParameter}
 use Rattle.schedule.specs.Links.{same}
 use Rattle.interrupt.specs.Interrupts.{acknowledgeOf, acknowledgeWrites, acknowledgedState, countIf, countedOf, disableOf, drainIf, drainOf, enableOf, heardIf, noteIf, notedAfter, rearmIf, rearmOf, clearedOf}
-use Rattle.interrupt.specs.declared.answers.Acknowledgement.{Acknowledgement}
-use Rattle.interrupt.specs.declared.answers.Drainage.{Drainage}
+use Rattle.interrupt.specs.Plain.{Acknowledgement}
+use Rattle.interrupt.specs.Plain.{Drainage}
 use Rattle.ehci.specs.declared.call.Call.the-variants.{Acknowledge, Disable, Drain, Enable, Rearm}
 use Rattle.ehci.specs.declared.call.InterruptReadings.{InterruptReadings}
 use Rattle.ehci.specs.Decides.{acknowledgeDecided, acknowledgeReply, drainDecided, drainReply}

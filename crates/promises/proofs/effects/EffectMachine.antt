@@ -9,7 +9,7 @@ use borrow.Author.Tests.{eqb-false, ltb-false, ltb-true}
 use lib.Dec.{eqb, ltb}
 use Rattle.register.specs.Bits.{withBits, withoutBits}
 use Rattle.register.specs.Writes.{andThen, listOf, noWrites}
-use Rattle.state.specs.declared.state.Ehci.{Ehci}
+use Rattle.state.specs.Plain.{Ehci}
 use Rattle.common.proofs.TestLaws.{false-true}
 use Rattle.state.specs.Ranges.{inRanges}
 use Rattle.state.specs.Slots.{slotAt}
@@ -24,12 +24,12 @@ use Rattle.pipe.specs.Endpoints.{endpointAt}
 use Rattle.pipe.proofs.EndpointCases.{at-none}
 use Rattle.controller.specs.Readers.{holdsRequest, isUncollected}
 use Rattle.controller.specs.Address.{allotOf}
-use Rattle.controller.specs.declared.calls.Allotment.{Allotment}
+use Rattle.controller.specs.Plain.{Allotment}
 use Rattle.controller.proofs.AddressLaws.{allot-keeps}
 use Rattle.schedule.specs.Bell.{commandWord, someRing}
 use Rattle.schedule.proofs.BellLaws.{command-clear}
 use Rattle.bring_up.specs.BringUp.{againOf, anyUncollected, movedOn, onwardOf, ready, registerOf, stageOf, stageWrites, startOf, stepOf, setUp}
-use Rattle.bring_up.specs.declared.answers.BroughtUp.{BroughtUp}
+use Rattle.bring_up.specs.Plain.{BroughtUp}
 use Rattle.bring_up.specs.declared.stage.Stage.{Stage}
 use Rattle.bring_up.specs.declared.stage.Stage.the-variants.{Stop, Halting, Reset, Resetting, Run, Starting}
 use Rattle.bring_up.proofs.RunLaws.{stays-in-ranges}

@@ -14,7 +14,7 @@ use Rattle.slot.specs.declared.slot.Slot.{Slot}
 use Rattle.slot.proofs.SlotLaws.{Bounded, NoRequest, Phase, slot-makes, slot-tells}
 use Rattle.state.specs.Slots.{slotAt}
 use Rattle.state.specs.State.{withBell, withBoundaries, withInterrupt}
-use Rattle.state.specs.declared.state.Ehci.{Ehci}
+use Rattle.state.specs.Plain.{Ehci}
 use Rattle.state.proofs.RangesLaws.{Ranges}
 use Rattle.schedule.specs.Bell.{advancedOf, bellOf, fallIf, fallenOne, ringOf}
 use Rattle.schedule.specs.declared.bell.Bell.{Bell}

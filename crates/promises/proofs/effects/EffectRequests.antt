@@ -10,7 +10,7 @@ use lib.ListN.{length}
 use Rattle.register.specs.Writes.{noWrites}
 use Rattle.pool.specs.declared.chain.View.{View}
 use Rattle.settings.specs.declared.settings.Settings.{Settings}
-use Rattle.state.specs.declared.state.Ehci.{Ehci}
+use Rattle.state.specs.Plain.{Ehci}
 use Rattle.common.specs.Answers.{first, passed}
 use Rattle.common.specs.declared.answer.Refusal.{Refusal}
 use Rattle.common.specs.declared.answer.Refusal.the-variants.{InvalidParameter}
@@ -23,7 +23,7 @@ use Rattle.controller.specs.Lent.{acceptsOf, lengths}
 use Rattle.controller.specs.declared.lent.Readings.{Readings}
 use Rattle.request.specs.Submit.{Outcome, acceptedWith, answerOf, judgeOf, refusedSubmit, settledSubmit, submitChecks, submitOf}
 use Rattle.request.specs.Writeback.{inRequest, refusedWriteback, writebackChecks, writebackOf}
-use Rattle.request.specs.declared.answers.WrittenBack.{WrittenBack}
+use Rattle.request.specs.Plain.{WrittenBack}
 use Rattle.request.specs.declared.judge.TransferRequest.{TransferRequest}
 use Rattle.request.proofs.JudgeLaws.{judge-tells}
 use Rattle.collection.specs.Answers.{outcomeOf}

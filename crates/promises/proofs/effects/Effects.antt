@@ -14,7 +14,7 @@ use Rattle.pool.specs.Chains.{fillOf}
 use Rattle.common.specs.declared.kinds.EndpointType.{EndpointType}
 use Rattle.common.specs.declared.kinds.EndpointType.the-variants.{Isochronous}
 use Rattle.state.specs.State.{withBell}
-use Rattle.state.specs.declared.state.Ehci.{Ehci}
+use Rattle.state.specs.Plain.{Ehci}
 use Rattle.state.proofs.RangesLaws.{Ranges}
 use Rattle.pipe.specs.Endpoints.{endpointAt, withEndpoint}
 use Rattle.pipe.specs.declared.endpoints.Endpoint.the-variants.{Closed, Idle, Linked, Unlinking}
@@ -40,7 +40,7 @@ use Rattle.ehci.specs.declared.call.Call.the-variants.{Writeback}
 use Rattle.ehci.specs.declared.reply.Answered.the-variants.{Done}
 use Rattle.ehci.specs.declared.reply.Given.the-variants.{Nothing}
 use Rattle.ehci.specs.Door.{Applied}
-use Rattle.promises.specs.Runs.{Rows, World, rowsOf, turnOf, Turn}
+use Rattle.promises.specs.Runs.{Rows, Turn, World, rowsOf, turnOf}
 use Rattle.promises.specs.Events.{Other, Reads, Drains, Submits, Collects, event, leaving, Event, Unlinks, Parts, leavesFrames, leavesRing}
 use Rattle.promises.specs.Bells.{cancelsBy}
 use Rattle.promises.specs.Opened.{Change, ClosesSlot, Halted, OpensSlot, Running, Same, change}

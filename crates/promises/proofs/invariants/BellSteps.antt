@@ -12,7 +12,7 @@ use Rattle.register.specs.declared.writes.Writes.{Writes}
 use Rattle.settings.specs.declared.settings.Settings.{Settings}
 use Rattle.state.specs.Slots.{withSlot}
 use Rattle.state.specs.State.{withBell, withBoundaries, withOwner}
-use Rattle.state.specs.declared.state.Ehci.{Ehci}
+use Rattle.state.specs.Plain.{Ehci}
 use Rattle.pipe.specs.Endpoints.{endpointAt, flagNumber, withEndpoint}
 use Rattle.pipe.specs.declared.endpoints.Endpoint.{Endpoint}
 use Rattle.pipe.specs.declared.endpoints.Endpoint.the-variants.{Closed, Idle, Unlinking}

@@ -9,7 +9,7 @@ use Rattle.register.specs.Writes.{listOf, noWrites}
 use Rattle.register.specs.declared.writes.Writes.{Writes}
 use Rattle.settings.specs.declared.settings.Settings.{Settings}
 use Rattle.state.specs.State.{withBell, withOwner}
-use Rattle.state.specs.declared.state.Ehci.{Ehci}
+use Rattle.state.specs.Plain.{Ehci}
 use Rattle.pipe.specs.Endpoints.{endpointAt, withEndpoint}
 use Rattle.common.specs.Kinds.{isInterrupt}
 use Rattle.pipe.specs.declared.endpoints.Endpoint.{Endpoint}

@@ -9,7 +9,7 @@ use lib.Dec.{eqb}
 use lib.ListN.{getD, getD-replicate, length, replicate}
 use lib.Seq.{getD-set-other}
 use Rattle.common.proofs.TestLaws.{false-true, both-first, both-second}
-use Rattle.state.specs.declared.state.Ehci.{Ehci}
+use Rattle.state.specs.Plain.{Ehci}
 use Rattle.state.proofs.RangesLaws.{Ranges}
 use Rattle.pipe.specs.Endpoints.{endpointAt}
 use Rattle.common.specs.Kinds.{isInterrupt}

@@ -11,7 +11,7 @@ use lib.ListN.{getD, length, List·getD-eq-default}
 use Rattle.settings.specs.declared.settings.Settings.{Settings}
 use Rattle.slot.specs.declared.slot.Slot.{Slot}
 use Rattle.state.specs.Slots.{slotAt}
-use Rattle.state.specs.declared.state.Ehci.{Ehci}
+use Rattle.state.specs.Plain.{Ehci}
 use Rattle.state.proofs.RangesLaws.{Ranges}
 use Rattle.pipe.specs.Endpoints.{decoded, encoded, endpointAt, kindOf, withEndpoint}
 use Rattle.common.specs.Kinds.{isInterrupt}

@@ -9,7 +9,7 @@ use lib.ListN.{getD, length}
 use lib.Seq.{getD-set-other}
 use Rattle.settings.specs.declared.settings.Settings.{Settings}
 use Rattle.common.proofs.TestLaws.{false-true}
-use Rattle.state.specs.declared.state.Ehci.{Ehci}
+use Rattle.state.specs.Plain.{Ehci}
 use Rattle.common.specs.declared.kinds.EndpointType.{EndpointType}
 use Rattle.pipe.specs.Endpoints.{endpointAt}
 use Rattle.common.specs.Kinds.{isInterrupt}

@@ -11,7 +11,7 @@ use lib.ListN.{take}
 use Rattle.settings.specs.declared.settings.Settings.{Settings}
 use Rattle.common.proofs.TestLaws.{false-true}
 use Rattle.state.specs.Slots.{slotAt}
-use Rattle.state.specs.declared.state.Ehci.{Ehci}
+use Rattle.state.specs.Plain.{Ehci}
 use Rattle.common.specs.Answers.{first}
 use Rattle.pipe.specs.Endpoints.{endpointAt, flagNumber, kindNumber}
 use Rattle.pipe.specs.declared.endpoints.Endpoint.{Endpoint}

@@ -16,7 +16,7 @@ use Rattle.opening.specs.Opening.{Opened, acceptedOpening, freshState, openedHe
 use Rattle.opening.proofs.OpenLaws.{fresh-in-ranges, heads-words, rows-make}
 use Rattle.opening.proofs.OpenPool.{accepts, refuses-rows, refuses-settings}
 use Rattle.ehci.specs.declared.call.Call.{Call}
-use Rattle.promises.specs.Runs.{Opening, Rows, World, core, historyOf, turnOf, worldOf, worldOpened, History, leftBy}
+use Rattle.promises.specs.Runs.{History, Opening, Rows, World, core, historyOf, leftBy, turnOf, worldOf, worldOpened}
 use Rattle.ehci.specs.Door.{Applied}
 use Rattle.promises.proofs.effects.Effects.{Effect}
 use Rattle.promises.proofs.effects.EffectOf.{effect}
@@ -88,7 +88,7 @@ opens-fresh s e =
     let fit =
     rows-make s _ _ _ _ (record { pool-fits = g .pool-fits; heads-fit = g .heads-fit; frames-fit = g .frames-fit; setups-fit = g .setups-fit }) in
     let whole = accepts s (rows .pool) (rows .heads) (rows .frames) (rows .setups) e fit in
-    record { lent = rows; accepted = ap (λ (o : Opened). o .opening .answer) whole; left = sym (ap worldOpened whole) }
+    record { lent = rows; accepted = ap (λ (o : Opened). o .opening .answer) whole; left = sym (ap worldOpened whole); fresh = tt }
 
 pub sound-opens : (s : Settings) (w : World) → Opening s w → Sound s w
 sound-opens s w o =

@@ -11,14 +11,14 @@ use Rattle.descriptor.specs.Descriptors.{terminated}
 use Rattle.descriptor.specs.Heads.{endpointHead, wordsOf}
 use Rattle.descriptor.specs.Setups.{setupPacket}
 use Rattle.pool.specs.Chains.{fillOf}
-use Rattle.pool.specs.declared.chain.Chain.{Chain}
+use Rattle.pool.specs.Plain.{Chain}
 use Rattle.pool.specs.Places.{markOf}
 use Rattle.pool.proofs.ChainLaws.{filled-length}
 use Rattle.pool.proofs.PlaceLaws.{mark-length}
 use Rattle.settings.specs.declared.settings.Settings.{Settings}
 use Rattle.state.specs.Slots.{withSlot}
 use Rattle.state.specs.State.{withBell, withBoundaries, withOwner}
-use Rattle.state.specs.declared.state.Ehci.{Ehci}
+use Rattle.state.specs.Plain.{Ehci}
 use Rattle.state.proofs.RangesLaws.{Ranges}
 use Rattle.pipe.specs.Endpoints.{withEndpoint}
 use Rattle.common.specs.Kinds.{isControl, isInterrupt}

@@ -12,7 +12,7 @@ use Rattle.register.specs.Writes.{andThen, listOf, noWrites}
 use Rattle.settings.specs.declared.settings.Settings.{Settings}
 use Rattle.state.specs.Ranges.{inRanges}
 use Rattle.state.specs.State.{withBringUp}
-use Rattle.state.specs.declared.state.Ehci.{Ehci}
+use Rattle.state.specs.Plain.{Ehci}
 use Rattle.state.proofs.RangesLaws.{Ranges}
 use Rattle.common.specs.Answers.{first, passed}
 use Rattle.common.specs.declared.answer.Refusal.{Refusal}
@@ -20,7 +20,7 @@ use Rattle.common.specs.declared.answer.Refusal.the-variants.{InvalidParameter,
 use Rattle.common.proofs.CheckLaws.{let-pass, settled-by}
 use Rattle.schedule.specs.Bell.{commandWord}
 use Rattle.bring_up.specs.BringUp.{againOf, anyUncollected, movedOn, onwardOf, ready, registerOf, setUp, stageOf, stageWrites, startOf, stepOf}
-use Rattle.bring_up.specs.declared.answers.BroughtUp.{BroughtUp}
+use Rattle.bring_up.specs.Plain.{BroughtUp}
 use Rattle.common.specs.declared.answer.Answer.the-variants as A
 use Rattle.common.specs.declared.reads.NextRead.the-variants as N
 use Rattle.bring_up.specs.declared.stage.Stage.{Stage}

@@ -9,7 +9,7 @@ use Rattle.register.specs.Writes.{andThen, noWrites}
 use Rattle.state.specs.Ranges.{inRanges}
 use Rattle.state.specs.Slots.{withSlot}
 use Rattle.state.specs.State.{withBell, withNextAddress, withOwner}
-use Rattle.state.specs.declared.state.Ehci.{Ehci}
+use Rattle.state.specs.Plain.{Ehci}
 use Rattle.common.specs.Answers.{first}
 use Rattle.common.specs.declared.answer.Refusal.{Refusal}
 use Rattle.common.specs.declared.answer.Refusal.the-variants.{InvalidParameter, SlotLimitReached}
@@ -19,7 +19,7 @@ use Rattle.pipe.specs.declared.endpoints.Pipe.{Pipe}
 use Rattle.pipe.specs.declared.endpoints.Request.{Request}
 use Rattle.controller.specs.Address.{allotOf}
 use Rattle.controller.specs.Lent.{acceptsOf, lengths}
-use Rattle.controller.specs.declared.calls.Allotment.{Allotment}
+use Rattle.controller.specs.Plain.{Allotment}
 use Rattle.controller.specs.declared.lent.Readings.{Readings}
 use Rattle.schedule.specs.Bell.{bellOf, commandWord}
 use Rattle.schedule.specs.Links.{same}
@@ -28,7 +28,7 @@ use Rattle.endpoint.proofs.ChangeLaws.{change-by}
 use Rattle.endpoint.proofs.OpenLaws.{open-by}
 use Rattle.request.specs.Submit.{Outcome, acceptedWith, refusedSubmit, settledSubmit, stateWith, submitChecks, submitOf}
 use Rattle.request.specs.Writeback.{refusedWriteback, writebackChecks, writebackOf}
-use Rattle.request.specs.declared.answers.WrittenBack.{WrittenBack}
+use Rattle.request.specs.Plain.{WrittenBack}
 use Rattle.request.specs.declared.judge.TransferRequest.{TransferRequest}
 use Rattle.collection.specs.Calls.{Gathered, finishOf, marked, pendingLeft}
 use Rattle.collection.specs.Unlinks.{Left, unlinkOf, waitingOf}

@@ -10,15 +10,15 @@ use Rattle.register.specs.Bits.{anyOf, onlyBits, withBits}
 use Rattle.register.specs.Writes.{andThen, listOf, noWrites}
 use Rattle.state.specs.Ranges.{inRanges}
 use Rattle.state.specs.State.{withBell, withBoundaries, withInterrupt}
-use Rattle.state.specs.declared.state.Ehci.{Ehci}
+use Rattle.state.specs.Plain.{Ehci}
 use Rattle.common.specs.declared.answer.Answer.the-variants as A
 use Rattle.common.specs.Answers.{first}
 use Rattle.common.specs.declared.answer.Refusal.the-variants.{InvalidParameter}
 use Rattle.common.proofs.CheckLaws.{settled-by}
 use Rattle.schedule.specs.Bell.{advancedOf, mustRing, ringOf, someRing}
 use Rattle.interrupt.specs.Interrupts.{acknowledgeOf, acknowledgeWrites, acknowledgedState, countIf, countedOf, disableOf, drainIf, drainOf, enableOf, heardIf, maskWord, rearmIf, rearmOf, clearedOf}
-use Rattle.interrupt.specs.declared.answers.Acknowledgement.{Acknowledgement}
-use Rattle.interrupt.specs.declared.answers.Drainage.{Drainage}
+use Rattle.interrupt.specs.Plain.{Acknowledgement}
+use Rattle.interrupt.specs.Plain.{Drainage}
 use Rattle.ehci.specs.declared.call.Call.{Call}
 use Rattle.ehci.specs.declared.call.Call.the-variants.{Acknowledge, Drain, Rearm, Enable, Disable}
 use Rattle.ehci.specs.declared.call.InterruptReadings.{InterruptReadings}
@@ -29,7 +29,7 @@ use Rattle.promises.specs.Registers as R
 use Rattle.promises.specs.Registers.{acknowledged, leftOf, ring}
 use Rattle.promises.proofs.effects.EffectDoor.{through, settles, carried}
 use Rattle.promises.proofs.effects.RefusalNumbers.{undone}
-use Rattle.interrupt.specs.declared.answers.Settled.{Settled}
+use Rattle.interrupt.specs.Plain.{Settled}
 use Rattle.promises.proofs.effects.EffectInterrupts.{taken-done}
 use Rattle.promises.proofs.invariants.Touches.{Level, Touches, level, refused-touches, rung-shape}
 

@@ -9,7 +9,7 @@ use Rattle.register.specs.Writes.{andThen, listOf, noWrites}
 use Rattle.register.specs.declared.writes.Write.{Write}
 use Rattle.common.specs.declared.kinds.EndpointType.{EndpointType}
 use Rattle.common.specs.declared.kinds.EndpointType.the-variants.{Control, Isochronous, Bulk, Interrupt}
-use Rattle.state.specs.declared.state.Ehci.{Ehci}
+use Rattle.state.specs.Plain.{Ehci}
 use Rattle.common.specs.declared.answer.Refusal.{Refusal}
 use Rattle.pipe.specs.Endpoints.{flagNumber}
 use Rattle.controller.specs.declared.lent.Readings.{Readings}

@@ -16,14 +16,14 @@ use Rattle.descriptor.specs.declared.qtd.QueueTransferDescriptor.{QueueTransfer
 use Rattle.pool.specs.Chains.{blank, fillOf, filledFrom}
 use Rattle.pool.specs.Places.{Each, Within, countOf, markOf, placesFrom}
 use Rattle.pool.specs.Transfers.{recordAt}
-use Rattle.pool.specs.declared.chain.Deed.the-variants.{Transfer as TransferDeed}
+use Rattle.pool.specs.Plain.{Transfer as TransferDeed}
 use Rattle.pool.proofs.ChainLaws.{filled-listed}
 use Rattle.pool.proofs.Each.{each-at, each-map}
 use Rattle.pool.proofs.PlaceLaws.{list-packed, mark-count, mark-length, mark-takes, places-ascend, places-hold, places-within}
 use Rattle.settings.specs.declared.settings.Settings.{Settings}
 use Rattle.state.specs.Slots.{withSlot}
 use Rattle.state.specs.State.{withOwner}
-use Rattle.state.specs.declared.state.Ehci.{Ehci}
+use Rattle.state.specs.Plain.{Ehci}
 use Rattle.pipe.specs.Endpoints.{endpointAt, withEndpoint}
 use Rattle.common.specs.Kinds.{isInterrupt}
 use Rattle.pipe.specs.declared.endpoints.Endpoint.{Endpoint}

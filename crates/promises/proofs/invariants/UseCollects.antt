@@ -16,7 +16,7 @@ use Rattle.pool.proofs.PlaceLaws.{clear-count}
 use Rattle.settings.specs.declared.settings.Settings.{Settings}
 use Rattle.state.specs.Slots.{withSlot}
 use Rattle.state.specs.State.{withOwner}
-use Rattle.state.specs.declared.state.Ehci.{Ehci}
+use Rattle.state.specs.Plain.{Ehci}
 use Rattle.pipe.specs.Endpoints.{endpointAt, withEndpoint}
 use Rattle.pipe.specs.declared.endpoints.Endpoint.{Endpoint}
 use Rattle.pipe.specs.declared.endpoints.Endpoint.the-variants.{Idle, Unlinking}

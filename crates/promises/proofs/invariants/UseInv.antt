@@ -14,7 +14,7 @@ use Rattle.pool.specs.Places.{countOf, placesFrom}
 use Rattle.pool.specs.Transfers.{recordAt}
 use Rattle.pool.proofs.PlaceLaws.{places-few, places-length}
 use Rattle.settings.specs.declared.settings.Settings.{Settings}
-use Rattle.state.specs.declared.state.Ehci.{Ehci}
+use Rattle.state.specs.Plain.{Ehci}
 use Rattle.pipe.specs.Endpoints.{endpointAt}
 use Rattle.pipe.specs.declared.endpoints.Endpoint.{Endpoint}
 use Rattle.pipe.specs.declared.endpoints.Endpoint.the-variants.{Closed, Idle, Linked, Unlinking}

@@ -20,7 +20,7 @@ use Rattle.settings.specs.declared.settings.Settings.{Settings}
 use Rattle.common.proofs.TestLaws.{both-tells}
 use Rattle.state.specs.Slots.{withSlot}
 use Rattle.state.specs.State.{withBell, withBoundaries}
-use Rattle.state.specs.declared.state.Ehci.{Ehci}
+use Rattle.state.specs.Plain.{Ehci}
 use Rattle.pipe.specs.Endpoints.{withEndpoint, decoded, encoded}
 use Rattle.pipe.specs.declared.endpoints.Endpoint.the-variants.{Closed, Idle, Linked, Unlinking}
 use Rattle.pipe.specs.declared.endpoints.Request.{Request}

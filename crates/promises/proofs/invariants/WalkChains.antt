@@ -11,7 +11,7 @@ use Rattle.descriptor.specs.EhciQueueHead.{linkAddress, linkTerminate, linkType
 use Rattle.descriptor.specs.Heads.{qhLink}
 use Rattle.settings.proofs.SettingsLaws.{Good}
 use Rattle.settings.specs.declared.settings.Settings.{Settings}
-use Rattle.state.specs.declared.state.Ehci.{Ehci}
+use Rattle.state.specs.Plain.{Ehci}
 use Rattle.schedule.specs.Links.{slotLink}
 use Rattle.schedule.specs.Walks.{Chain}
 use Rattle.promises.specs.Walks.{AtRingHead, End, Ends, Lead, On, Terminated, Walk, ended, isIn, linkLeads, linkWalk, meets, placeAt, walkFrom}

@@ -8,7 +8,7 @@ use borrow.Author.Tests.{eq-eqb, eqb-true, lt-ltb, ne-eqb}
 use lib.Dec.{eqb}
 use lib.ListN.{length}
 use Rattle.settings.specs.declared.settings.Settings.{Settings}
-use Rattle.state.specs.declared.state.Ehci.{Ehci}
+use Rattle.state.specs.Plain.{Ehci}
 use Rattle.pipe.specs.Endpoints.{decoded, encoded, endpointAt, flagNumber, withEndpoint}
 use Rattle.pipe.specs.declared.endpoints.Endpoint.{Endpoint}
 use Rattle.pipe.specs.declared.endpoints.Endpoint.the-variants.{Closed, Idle, Linked, Unlinking}
@@ -29,10 +29,10 @@ use Rattle.ehci.specs.declared.call.Call.the-variants.{StartBringUp, BringUpSte
 use Rattle.ehci.specs.Decides.{cancelCame, cancelDecided, withSetups}
 use Rattle.ehci.specs.Door.{Applied, carriedOut}
 use Rattle.ehci.specs.Replies.{answeredNumber, collectedAnswer, replied}
-use Rattle.promises.specs.Runs.{History, Opening, Turn, World, core, historyOf, turnOf, worldOf}
+use Rattle.promises.specs.Runs.{EveryRun, History, Opening, Turn, World, core, historyOf, turnOf, worldOf}
 use Rattle.promises.specs.Events.{isDone}
 use Rattle.promises.specs.Bells.{cancelled, cancelsBy, linked, renews}
-use Rattle.promises.specs.Boundaries.{CancelledAnswered, CancelledCollects, EveryRun, StateSays, Uncrowded}
+use Rattle.promises.specs.Boundaries.{CancelledAnswered, CancelledCollects, StateSays, Uncrowded}
 use Rattle.promises.proofs.effects.EffectOf.{effect}
 use Rattle.promises.proofs.effects.RefusalNumbers.{undone}
 use Rattle.promises.proofs.theorems.ChainCancels.{Roomy}

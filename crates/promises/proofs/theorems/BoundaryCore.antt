@@ -22,10 +22,10 @@ use Rattle.schedule.specs.Bell.{distance}
 use Rattle.collection.specs.Unlinks.{passedBoundary}
 use Rattle.ehci.specs.declared.call.Call.{Call}
 use Rattle.ehci.specs.declared.call.Call.the-variants.{Collect}
-use Rattle.promises.specs.Runs.{History, Opening, Turn, World, core, historyOf, turnOf, worldOf}
+use Rattle.promises.specs.Runs.{EveryRun, History, Opening, Turn, World, core, historyOf, turnOf, worldOf}
 use Rattle.promises.specs.Events.{event, isCollected}
 use Rattle.promises.specs.Bells.{asked, bell, counted, isPartsOf, isSubmitsOf, isUnlinksOf, isUp, kindAt, linked, newestId, number, parted, parting, unlinking}
-use Rattle.promises.specs.Boundaries.{EveryRun, BoundaryKept, BoundaryNumbered, Exact, FramesKept, NineOn, OneCount, OnePasses, OnlyAnswered, Orderly, PassesExactly, UpExactly, Waits}
+use Rattle.promises.specs.Boundaries.{BoundaryKept, BoundaryNumbered, Exact, FramesKept, NineOn, OneCount, OnePasses, OnlyAnswered, Orderly, PassesExactly, UpExactly, Waits}
 use Rattle.promises.proofs.effects.Effects.{Unlinked}
 use Rattle.promises.proofs.effects.EffectOf.{effect}
 use Rattle.promises.proofs.invariants.Reached.{opening-is, sound-opens}

@@ -22,7 +22,7 @@ use Rattle.ehci.specs.declared.call.Call.the-variants.{Cancel, Collect}
 use Rattle.ehci.specs.declared.reply.Answered.{Answered}
 use Rattle.ehci.specs.declared.reply.Answered.the-variants.{Done, Pending, Cancelled, Failed, Refused}
 use Rattle.ehci.specs.Replies.{answeredNumber}
-use Rattle.promises.specs.Runs.{History, World, core, historyOf, worldOf}
+use Rattle.promises.specs.Runs.{EveryRun, History, World, core, historyOf, moment, worldOf}
 use Rattle.promises.specs.Checks.{checksOf, refusalIn}
 use Rattle.promises.specs.Events.{isCollected}
 use Rattle.promises.specs.Opened.{Tied, isBusy, isShut, kindIn, slotIn, verdictNumber}
@@ -50,15 +50,15 @@ is-of k id u e = by (eqb (u .slot) k) refl (eqb (u .id) id) refl e
     by false p b q e = absurd (false≢true e)
 
 module _ (s : Settings) (h : History) (w : World) (k id : ℕ) (rd : Readings) where
-  held-zero : (us : List Use) → Every (Detaches core s h w) us → isHeldAs k id us ≡ true → numberAt core w (Cancel k id rd) ≡ 0
+  held-zero : (us : List Use) → Every (Detaches s h (moment core w)) us → isHeldAs k id us ≡ true → numberAt (moment core w) (Cancel k id rd) ≡ 0
   held-zero [] each e = absurd (false≢true e)
   held-zero (u ∷ us) each e = by (isOf k id u) refl e (held-zero us (each .1))
     where
-      by : (b : Bool) → isOf k id u ≡ b → (b || isHeldAs k id us) ≡ true → (isHeldAs k id us ≡ true → numberAt core w (Cancel k id rd) ≡ 0) → numberAt core w (Cancel k id rd) ≡ 0
+      by : (b : Bool) → isOf k id u ≡ b → (b || isHeldAs k id us) ≡ true → (isHeldAs k id us ≡ true → numberAt (moment core w) (Cancel k id rd) ≡ 0) → numberAt (moment core w) (Cancel k id rd) ≡ 0
       by true q e rest =
           let at = is-of k id u q in
-          subst (λ (j : ℕ). numberAt core w (Cancel j id rd) ≡ 0) (at .0)
-          (subst (λ (i : ℕ). numberAt core w (Cancel (u .slot) i rd) ≡ 0) (at .1) (each .0 .cancels rd))
+          subst (λ (j : ℕ). numberAt (moment core w) (Cancel j id rd) ≡ 0) (at .0)
+          (subst (λ (i : ℕ). numberAt (moment core w) (Cancel (u .slot) i rd) ≡ 0) (at .1) (each .0 .cancels rd))
       by false q e rest = rest e
 
 -- ---- none of that id
@@ -104,17 +104,17 @@ refusal-is n e = by (leb 9 n) e
 
 module _ (s : Settings) (h : History) (w : World) (sound : Sound s w) (g : Held s h w) (k id : ℕ) (rd : Readings) (few : (p : Pipe) (r : Request) → endpointAt (w .state) k ≡ Linked p r → w .state .unanswered < 32)
     (none : isHeldAs k id (uses s h) ≡ false) where
-  refuses : (x : Endpoint) → endpointAt (w .state) k ≡ x → first (checksOf w (Cancel k id rd)) ≡ refused InvalidEndpoint
+  refuses : (x : Endpoint) → endpointAt (w .state) k ≡ x → first (checksOf (moment core w) (Cancel k id rd)) ≡ refused InvalidEndpoint
   refuses Closed e = rw (let-in s w sound, e)
   refuses (Idle p) e = rw (let-in s w sound, e)
   refuses (Linked p r) e =
       rw (let-in s w sound, e, lt-leb 32 (w .state .unanswered) (few p r e), ne-eqb (r .id) id (another s h w k id g none p r _ e refl))
   refuses (Unlinking p r b) e = rw (let-in s w sound, e, ne-eqb (r .id) id (another s h w k id g none p r _ e refl))
 
-  none-three : numberAt core w (Cancel k id rd) ≡ 3
-  none-three = refusal-is _ (in-order w (Cancel k id rd) ∙ ap verdictNumber (refuses (endpointAt (w .state) k) refl))
+  none-three : numberAt (moment core w) (Cancel k id rd) ≡ 3
+  none-three = refusal-is _ (in-order w tt (Cancel k id rd) ∙ ap verdictNumber (refuses (endpointAt (w .state) k) refl))
 
-pub cancels-by-id : CancelsById core
+pub cancels-by-id : EveryRun CancelsById core
 cancels-by-id s w o cs k id rd = by (isHeldAs k id (uses s h)) refl
   where
     h : History
@@ -123,7 +123,7 @@ cancels-by-id s w o cs k id rd = by (isHeldAs k id (uses s h)) refl
     now : World
     now = worldOf core w cs
 
-    by : (b : Bool) → isHeldAs k id (uses s h) ≡ b → numberAt core now (Cancel k id rd) ≡ cond b 0 3
+    by : (b : Bool) → isHeldAs k id (uses s h) ≡ b → numberAt (moment core now) (Cancel k id rd) ≡ cond b 0 3
     by true e = held-zero s h now k id rd (uses s h) (no-detach s w o cs) e
     by false e = none-three s h now (held s w o cs .0) (held s w o cs .1) k id rd (roomy s w o cs k) e
 
@@ -146,7 +146,7 @@ isIdle (Idle p) = true
 isIdle (Linked p r) = false
 isIdle (Unlinking p r b) = false
 
-module _ (s : Settings) (h : History) (w : World) (sound : Sound s w) (g : Held s h w) (tied : Tied s h w) (k id : ℕ) (rd : Readings) (few : (p : Pipe) (r : Request) → endpointAt (w .state) k ≡ Linked p r → w .state .unanswered < 32) where
+module _ (s : Settings) (h : History) (w : World) (sound : Sound s w) (g : Held s h w) (tied : Tied s h (moment core w)) (k id : ℕ) (rd : Readings) (few : (p : Pipe) (r : Request) → endpointAt (w .state) k ≡ Linked p r → w .state .unanswered < 32) where
   abbrev answers : Answered
   answers = core w (Collect k id rd) .reply .answer
 
@@ -156,10 +156,10 @@ module _ (s : Settings) (h : History) (w : World) (sound : Sound s w) (g : Held 
   busy-is : (x : Endpoint) → endpointAt (w .state) k ≡ x → isBusy s h k ≡ holdsRequest x
   busy-is x e = tied .held k ∙ ap holdsRequest e
 
-  three : first (checksOf w (Collect k id rd)) ≡ refused InvalidEndpoint → numberAt core w (Collect k id rd) ≡ 3
-  three e = refusal-is _ (in-order w (Collect k id rd) ∙ ap verdictNumber e)
+  three : first (checksOf (moment core w) (Collect k id rd)) ≡ refused InvalidEndpoint → numberAt (moment core w) (Collect k id rd) ≡ 3
+  three e = refusal-is _ (in-order w tt (Collect k id rd) ∙ ap verdictNumber e)
 
-  at-shut : (x : Endpoint) → endpointAt (w .state) k ≡ x → isShut (kindIn x) ≡ true → numberAt core w (Collect k id rd) ≡ 3
+  at-shut : (x : Endpoint) → endpointAt (w .state) k ≡ x → isShut (kindIn x) ≡ true → numberAt (moment core w) (Collect k id rd) ≡ 3
   at-shut Closed e o = three (rw (let-in s w sound, e))
   at-shut (Idle p) e o = absurd (false≢true o)
   at-shut (Linked p r) e o = absurd (false≢true o)
@@ -170,22 +170,22 @@ module _ (s : Settings) (h : History) (w : World) (sound : Sound s w) (g : Held 
   idle-none p e true q = absurd (true≢false (sym (ap isIdle e) ∙ ap isIdle (collect-found w k id rd q .unlinking)))
   idle-none p e false q = refl
 
-  at-bare : (x : Endpoint) → endpointAt (w .state) k ≡ x → isShut (kindIn x) ≡ false → holdsRequest x ≡ false → numberAt core w (Collect k id rd) ≡ 9
+  at-bare : (x : Endpoint) → endpointAt (w .state) k ≡ x → isShut (kindIn x) ≡ false → holdsRequest x ≡ false → numberAt (moment core w) (Collect k id rd) ≡ 9
   at-bare Closed e o u = absurd (true≢false o)
   at-bare (Idle p) e o u =
-      let free : first (checksOf w (Collect k id rd)) ≡ passed = rw (let-in s w sound, e) in
-      waits-nine answers (in-order w (Collect k id rd) ∙ ap verdictNumber free) (idle-none p e (isCollected answers) refl)
+      let free : first (checksOf (moment core w) (Collect k id rd)) ≡ passed = rw (let-in s w sound, e) in
+      waits-nine answers (in-order w tt (Collect k id rd) ∙ ap verdictNumber free) (idle-none p e (isCollected answers) refl)
   at-bare (Linked p r) e o u = absurd (true≢false u)
   at-bare (Unlinking p r b) e o u = absurd (true≢false u)
 
-  at-wrong : isHeldAs k id (uses s h) ≡ false → (x : Endpoint) → endpointAt (w .state) k ≡ x → holdsRequest x ≡ true → numberAt core w (Collect k id rd) ≡ 3
+  at-wrong : isHeldAs k id (uses s h) ≡ false → (x : Endpoint) → endpointAt (w .state) k ≡ x → holdsRequest x ≡ true → numberAt (moment core w) (Collect k id rd) ≡ 3
   at-wrong none Closed e u = absurd (false≢true u)
   at-wrong none (Idle p) e u = absurd (false≢true u)
   at-wrong none (Linked p r) e u =
       three (rw (let-in s w sound, e, lt-leb 32 (w .state .unanswered) (few p r e), ne-eqb (r .id) id (another s h w k id g none p r _ e refl)))
   at-wrong none (Unlinking p r b) e u = three (rw (let-in s w sound, e, ne-eqb (r .id) id (another s h w k id g none p r _ e refl)))
 
-  by-id : ById core s h w k id rd
+  by-id : ById s h (moment core w) k id rd
   by-id =
       let x = endpointAt (w .state) k in
       record {
@@ -194,7 +194,7 @@ module _ (s : Settings) (h : History) (w : World) (sound : Sound s w) (g : Held 
         wrong-id = λ u none. at-wrong none x refl (sym (busy-is x refl) ∙ u);
       }
 
-pub collects-by-id : CollectsById core
+pub collects-by-id : EveryRun CollectsById core
 collects-by-id s w o cs k id rd =
     let now = held s w o cs in
     by-id s (historyOf core w cs) (worldOf core w cs) (now .0) (now .1) (fields-tied s w o cs) k id rd (roomy s w o cs k)

@@ -5,7 +5,7 @@ use mathlib.Core.Bool.{Bool, true, false, cond}
 use mathlib.Core.List.{List}
 use borrow.Author.Tests.{eq-eqb, lt-leb}
 use Rattle.settings.specs.declared.settings.Settings.{Settings}
-use Rattle.state.specs.declared.state.Ehci.{Ehci}
+use Rattle.state.specs.Plain.{Ehci}
 use Rattle.pipe.specs.Endpoints.{endpointAt}
 use Rattle.common.specs.Kinds.{isInterrupt}
 use Rattle.pipe.specs.declared.endpoints.Endpoint.the-variants.{Linked, Unlinking}
@@ -16,13 +16,14 @@ use Rattle.controller.specs.declared.lent.Readings.{Readings}
 use Rattle.schedule.specs.Links.{detachOf, same}
 use Rattle.collection.specs.Calls.{cancelOf, marked, markedOf}
 use Rattle.collection.specs.Unlinks.{Left, isMissing, left as leftWith, unlinkOf, waitingOf}
+use Rattle.ehci.specs.declared.call.Call.{Call}
 use Rattle.ehci.specs.declared.call.Call.the-variants.{Cancel}
 use Rattle.ehci.specs.declared.reply.Answered.the-variants.{Done}
 use Rattle.ehci.specs.declared.reply.Given.the-variants.{Nothing}
 use Rattle.ehci.specs.Decides.{cancelCame, cancelDecided, decideOf, withSetups}
 use Rattle.ehci.specs.Door.{Applied, applyOf, carriedOut}
 use Rattle.ehci.specs.Replies.{replied}
-use Rattle.promises.specs.Runs.{Always, History, World, core, turnOf}
+use Rattle.promises.specs.Runs.{History, Opening, World, core, historyOf, turnOf, worldOf}
 use Rattle.promises.specs.Events.{Parts, Unlinks, event}
 use Rattle.promises.specs.Uses.{frameSlots, ringSlots}
 use Rattle.promises.proofs.effects.EffectRequests.{cancel-unlinked}
@@ -89,4 +90,4 @@ abbrev pub RoomAt : Settings → History → World → Type 0
 RoomAt s h w = (k : ℕ) (p : Pipe) (r : Request) → endpointAt (w .state) k ≡ Linked p r → w .state .unanswered < 32
 
 abbrev pub Roomy : Type 0
-Roomy = Always RoomAt core
+Roomy = (s : Settings) (w : World) → Opening s w → (cs : List Call) → RoomAt s (historyOf core w cs) (worldOf core w cs)

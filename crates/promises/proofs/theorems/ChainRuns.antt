@@ -17,7 +17,7 @@ use Rattle.schedule.specs.Walks.{Chain}
 use Rattle.opening.specs.Opening.{freshState}
 use Rattle.opening.proofs.OpenLaws.{heads-words}
 use Rattle.ehci.specs.declared.call.Call.{Call}
-use Rattle.promises.specs.Runs.{History, Opening, World, core, historyOf, worldOf}
+use Rattle.promises.specs.Runs.{EveryRun, History, Opening, World, core, historyOf, worldOf}
 use Rattle.promises.specs.Walks.{AtRingHead, Terminated, frameEnd, frameWalk, isIn, ringEnd, ringWalk}
 use Rattle.promises.specs.Uses.{frameSlots, ringSlots, uses}
 use Rattle.promises.specs.Chains.{ChainsWalked, headPlaces, isLinked}
@@ -104,7 +104,7 @@ module _ (s : Settings) (h : History) (w : World) (x : Chained s h w) (held-by :
       by true q m = in-uses false k (sym (x .ring .members k) ∙ q)
       by false q m = in-uses true k (sym (x .periodic .members k) ∙ m)
 
-pub chains-walked : ChainsWalked core
+pub chains-walked : EveryRun ChainsWalked core
 chains-walked s w o cs =
     let at = chained s w o cs in
     let past = historyOf core w cs in

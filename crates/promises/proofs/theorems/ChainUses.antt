@@ -14,7 +14,7 @@ use Rattle.pipe.specs.declared.endpoints.Pipe.{Pipe}
 use Rattle.pipe.specs.declared.endpoints.Request.{Request}
 use Rattle.pipe.specs.declared.endpoints.UnlinkBoundary.{UnlinkBoundary}
 use Rattle.ehci.specs.Replies.{answeredNumber}
-use Rattle.promises.specs.Runs.{History, World, core, historyOf, worldOf}
+use Rattle.promises.specs.Runs.{EveryRun, History, World, core, historyOf, moment, worldOf}
 use Rattle.promises.specs.Walks.{isIn}
 use Rattle.promises.specs.Uses.{Use, frameSlots, ringSlots, uses}
 use Rattle.promises.specs.Chains.{Detaches, NoDetachFails}
@@ -42,8 +42,8 @@ module _ (s : Settings) (h : History) (w : World) (sound : Sound s w) (x : Chain
   mine = own ∙ ap (λ (z : Settings). placesFrom 0 (take (z .descriptors) (w .state .owner)) (k + 1) 256) (sym (sound .settings-are))
 
   -- by what its slot is
-  linked-detaches : (p : Pipe) (r : Request) → endpointAt (w .state) k ≡ Linked p r → Detaches core s h w u
-  linked-detaches p r e = subst (λ (id : ℕ). Detaches core s h w (record { slot = k; id = id; request = u .request; places = u .places })) id made
+  linked-detaches : (p : Pipe) (r : Request) → endpointAt (w .state) k ≡ Linked p r → Detaches s h (moment core w) u
+  linked-detaches p r e = subst (λ (id : ℕ). Detaches s h (moment core w) (record { slot = k; id = id; request = u .request; places = u .places })) id made
     where
       id : r .id ≡ u .id
       id = ap (λ (y : Endpoint). idOf (tenantOf y)) (sym e) ∙ ap idOf holds
@@ -54,7 +54,7 @@ module _ (s : Settings) (h : History) (w : World) (sound : Sound s w) (x : Chain
       kind : (b : Bool) → linkedIn b (endpointAt (w .state) k) ≡ true → isInterrupt (p .kind) ≡ b
       kind b q = same-is b (isInterrupt (p .kind)) (sym (ap (linkedIn b) e) ∙ q)
 
-      made : Detaches core s h w (record { slot = k; id = r .id; request = u .request; places = u .places })
+      made : Detaches s h (moment core w) (record { slot = k; id = r .id; request = u .request; places = u .places })
       made =
           record {
             cancels = λ rd. ap answeredNumber (cancel-unlinks s h w sound x k rd p r e room .0);
@@ -69,8 +69,8 @@ module _ (s : Settings) (h : History) (w : World) (sound : Sound s w) (x : Chain
       → isIn k ks ≡ linkedIn b (endpointAt (w .state) k) → isIn k ks ≡ true → ⊥
   off b ks y e q m t = false-true (sym (m ∙ ap (linkedIn b) e ∙ q) ∙ t)
 
-  unlinking-detaches : (p : Pipe) (r : Request) (b : UnlinkBoundary) → endpointAt (w .state) k ≡ Unlinking p r b → Detaches core s h w u
-  unlinking-detaches p r b e = subst (λ (id : ℕ). Detaches core s h w (record { slot = k; id = id; request = u .request; places = u .places })) id made
+  unlinking-detaches : (p : Pipe) (r : Request) (b : UnlinkBoundary) → endpointAt (w .state) k ≡ Unlinking p r b → Detaches s h (moment core w) u
+  unlinking-detaches p r b e = subst (λ (id : ℕ). Detaches s h (moment core w) (record { slot = k; id = id; request = u .request; places = u .places })) id made
     where
       id : r .id ≡ u .id
       id = ap (λ (y : Endpoint). idOf (tenantOf y)) (sym e) ∙ ap idOf holds
@@ -85,7 +85,7 @@ module _ (s : Settings) (h : History) (w : World) (sound : Sound s w) (x : Chain
       neither true q m = not-ring q
       neither false q m = not-frames m
 
-      made : Detaches core s h w (record { slot = k; id = r .id; request = u .request; places = u .places })
+      made : Detaches s h (moment core w) (record { slot = k; id = r .id; request = u .request; places = u .places })
       made =
           record {
             cancels = λ rd. ap answeredNumber (mark-done s h w sound x k rd p r b e);
@@ -96,18 +96,18 @@ module _ (s : Settings) (h : History) (w : World) (sound : Sound s w) (x : Chain
             ends-frames = λ rd m. absurd (not-frames m);
           }
 
-  use-detaches : (y : Endpoint) → endpointAt (w .state) k ≡ y → Detaches core s h w u
+  use-detaches : (y : Endpoint) → endpointAt (w .state) k ≡ y → Detaches s h (moment core w) u
   use-detaches Closed e = absurd (tenants-apart (u .request .kind) (u .id) (u .request .length) (tenantAt (w .state) k) (ap tenantOf e) holds)
   use-detaches (Idle p) e = absurd (tenants-apart (u .request .kind) (u .id) (u .request .length) (tenantAt (w .state) k) (ap tenantOf e) holds)
   use-detaches (Linked p r) e = linked-detaches p r e
   use-detaches (Unlinking p r b) e = unlinking-detaches p r b e
 
 -- where a linked slot leaves room for one more unlink, in every world of a run
-pub detaches : Roomy → NoDetachFails core
+pub detaches : Roomy → EveryRun NoDetachFails core
 detaches roomy s w o cs =
     let at = chained s w o cs in
     let past = historyOf core w cs in
     let now = worldOf core w cs in
-    every-map (Kept s (now .state .owner) (tenantAt (now .state)) (now .rows .pool) (now .rows .heads)) (Detaches core s past now)
+    every-map (Kept s (now .state .owner) (tenantAt (now .state)) (now .rows .pool) (now .rows .heads)) (Detaches s past (moment core now))
     (λ u kept. use-detaches s past now (at .0) (at .1) (roomy s w o cs) u (kept .holds) (kept .places-are) (endpointAt (now .state) (u .slot)) refl)
     (uses s past) (held s w o cs .1 .each)

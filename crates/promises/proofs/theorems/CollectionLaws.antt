@@ -17,11 +17,11 @@ use Rattle.descriptor.specs.declared.qtd.QueueTransferDescriptor.{QueueTransfer
 use Rattle.pool.specs.Chains.{Seen, blank, firstError, isErring, lengthOf, seenFrom, viewOf}
 use Rattle.pool.specs.Places.{placesFrom}
 use Rattle.pool.specs.Transfers.{requestedAt}
-use Rattle.pool.specs.declared.chain.Ask.{Ask}
+use Rattle.pool.specs.Plain.{Ask}
 use Rattle.pool.specs.declared.chain.View.{View}
 use Rattle.pool.proofs.PlaceLaws.{list-packed}
 use Rattle.settings.specs.declared.settings.Settings.{Settings}
-use Rattle.state.specs.declared.state.Ehci.{Ehci}
+use Rattle.state.specs.Plain.{Ehci}
 use Rattle.controller.specs.Readers.{hasEndpoint}
 use Rattle.controller.specs.declared.lent.Readings.{Readings}
 use Rattle.controller.proofs.ReaderLaws.{open-below}
@@ -31,7 +31,7 @@ use Rattle.ehci.specs.declared.call.Call.the-variants.{Collect}
 use Rattle.ehci.specs.Decides.{asksOf}
 use Rattle.ehci.specs.Door.{seenBy}
 use Rattle.ehci.specs.Replies.{answeredNumber, answeredValues, collectedAnswer}
-use Rattle.promises.specs.Runs.{History, World, core, historyOf, worldOf}
+use Rattle.promises.specs.Runs.{EveryRun, History, World, core, historyOf, moment, worldOf}
 use Rattle.promises.specs.Uses.{Use, uses}
 use Rattle.promises.specs.Bells.{cancelled}
 use Rattle.promises.specs.Rooms.{Every}
@@ -235,12 +235,12 @@ module _ (w : World) (h : History) (sound : Sound (w .state .settings) w) (kept 
       = x .answer-is ∙ ap₂ (λ (b : Bool) (v : View). collectedAnswer (outcomeOf b v)) (same-mark ∙ ap (λ (j : ℕ). cancelled s j h) (sym (one .slot-is))) sees in
       (ap answeredNumber answer ∙ out .0, ap answeredValues answer ∙ out .1)
 
-  answers : Answers core s h w k id rd
+  answers : Answers s h (moment core w) k id rd
   answers = record { uncollected = u; only = one .only; number-is = due .0; values-are = due .1 }
 
 -- ---- of a run
 
-pub collects-due : CollectsDue core
+pub collects-due : EveryRun CollectsDue core
 collects-due s w o cs k id rd e =
     let now = worldOf core w cs in
     let h = historyOf core w cs in
@@ -250,5 +250,5 @@ collects-due s w o cs k id rd e =
     = same-flag (x .r .cancelled) (cancelled s k h)
     (λ m. reached Marked marked-opens marked-keeps s w o cs .1 k (ap markIn (x .unlinking) ∙ m))
     (λ c. sym (ap isMarked (x .unlinking)) ∙ marks-reached s w o cs k c) in
-    subst (λ (z : Settings). Sound z now → Held z h now → x .r .cancelled ≡ cancelled z k h → Answers core z h now k id rd) (at .0 .settings-are)
+    subst (λ (z : Settings). Sound z now → Held z h now → x .r .cancelled ≡ cancelled z k h → Answers z h (moment core now) k id rd) (at .0 .settings-are)
     (λ sound kept same. answers now h sound kept k id rd x same) (at .0) (at .1) mark

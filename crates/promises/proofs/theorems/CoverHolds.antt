@@ -22,7 +22,7 @@ use Rattle.request.proofs.SubmitLaws.{buffer-ends, places-needed}
 use Rattle.ehci.specs.declared.call.Call.{Call}
 use Rattle.ehci.specs.declared.call.Call.the-variants.{Submit}
 use Rattle.ehci.specs.Door.{Applied}
-use Rattle.promises.specs.Runs.{History, Machine, Rows, Turn, World, rowsOf, turnOf}
+use Rattle.promises.specs.Runs.{History, Machine, Rows, Turn, World, inPlain, moment, rowsOf, turnOf}
 use Rattle.promises.specs.Coverage.{Covered, addressed, dataOf, recordsMet}
 use Rattle.ehci.specs.declared.reply.Answered.{Answered}
 use Rattle.ehci.specs.Replies.{answeredNumber, answeredValues}
@@ -134,10 +134,10 @@ module _ (w : World) (c : Call) (a : Applied) (k id : ℕ) (t : TransferRequest)
 pub zero-accepts : (k : ℕ) (t : TransferRequest) (a : Answered) → answeredNumber a ≡ 0 → (id : ℕ) × (submitsBy k t a ≡ Submits k id t)
 zero-accepts k t a e = (firstIn (answeredValues a), rw (eq-eqb (answeredNumber a) 0 e))
 
-pub covered-holds : (m : Machine) → ((w : World) (c : Call) → Effect w c (m w c)) → (s : Settings) (h : History) (w : World) → Sound s w → Covered m s h w
-covered-holds m effect s h w sound = subst (λ (z : Settings). Sound z w → Covered m z h w) (sound .settings-are) here sound
+pub covered-holds : (m : Machine inPlain) → ((w : World) (c : Call) → Effect w c (m w c)) → (s : Settings) (h : History) (w : World) → Sound s w → Covered s h (moment m w)
+covered-holds m effect s h w sound = subst (λ (z : Settings). Sound z w → Covered z h (moment m w)) (sound .settings-are) here sound
   where
-    here : Sound (w .state .settings) w → Covered m (w .state .settings) h w
+    here : Sound (w .state .settings) w → Covered (w .state .settings) h (moment m w)
     here good k t readings done =
         let told = zero-accepts k t (m w (Submit k t readings) .reply .answer) done in
         accepted-by w (Submit k t readings) (m w (Submit k t readings)) k (told .0) t (told .1)

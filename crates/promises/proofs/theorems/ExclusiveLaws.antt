@@ -18,7 +18,7 @@ use Rattle.request.proofs.SubmitLaws.{submit-records}
 use Rattle.ehci.specs.declared.call.Call.{Call}
 use Rattle.ehci.specs.Door.{Applied}
 use Rattle.ehci.specs.Replies.{answeredNumber}
-use Rattle.promises.specs.Runs.{History, Machine, Rows, Turn, World, rowsOf, turnOf}
+use Rattle.promises.specs.Runs.{History, Machine, Rows, Turn, World, inPlain, core, moment, rowsOf, turnOf}
 use Rattle.promises.specs.Rooms.{Distinct, Every, Exclusive, Led, RecordStays, TokenWritten, placesInUse}
 use Rattle.promises.specs.Uses.{Use, uses}
 use Rattle.promises.specs.Walks.{Walk, chainEnd, chainWalk}
@@ -147,10 +147,10 @@ module _ (w : World) (sound : Sound (w .state .settings) w) where
 
 -- ---- of every machine whose calls have these effects
 
-pub exclusive-holds : (m : Machine) → ((w : World) (c : Call) → Effect w c (m w c)) → (s : Settings) (h : History) (w : World) → Sound s w → Held s h w → Exclusive m s h w
-exclusive-holds m effect s h w sound = subst (λ (z : Settings). Sound z w → Held z h w → Exclusive m z h w) (sound .settings-are) here sound
+pub exclusive-holds : (m : Machine inPlain) → ((w : World) (c : Call) → Effect w c (m w c)) → (s : Settings) (h : History) (w : World) → Sound s w → Held s h w → Exclusive s h (moment m w)
+exclusive-holds m effect s h w sound = subst (λ (z : Settings). Sound z w → Held z h w → Exclusive z h (moment m w)) (sound .settings-are) here sound
   where
-    here : Sound (w .state .settings) w → Held (w .state .settings) h w → Exclusive m (w .state .settings) h w
+    here : Sound (w .state .settings) w → Held (w .state .settings) h w → Exclusive (w .state .settings) h (moment m w)
     here good held =
         record {
           distinct = all-distinct w good (uses (w .state .settings) h) (held .each) (held .apart);
@@ -158,8 +158,8 @@ exclusive-holds m effect s h w sound = subst (λ (z : Settings). Sound z w → H
           records = λ c. records-stay w good c (m w c) (uses (w .state .settings) h) (held .each) (effect w c);
         }
 
-pub led-holds : (s : Settings) (h : History) (w : World) → Held s h w → Every (Led s w) (uses s h)
+pub led-holds : (s : Settings) (h : History) (w : World) → Held s h w → Every (Led s (moment core w)) (uses s h)
 unfolding chainWalk chainEnd
 led-holds s h w held =
-    every-map (Kept s (w .state .owner) (tenantAt (w .state)) (w .rows .pool) (w .rows .heads)) (Led s w)
+    every-map (Kept s (w .state .owner) (tenantAt (w .state)) (w .rows .pool) (w .rows .heads)) (Led s (moment core w))
     (λ u kept. record { leads = ap (λ (x : Walk). x .met) (kept .leads); ends = ap (λ (x : Walk). x .end) (kept .leads); as-many = kept .as-needed; in-order = kept .written }) (uses s h) (held .each)

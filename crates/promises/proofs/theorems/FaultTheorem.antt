@@ -11,13 +11,13 @@ use Rattle.pool.specs.Places.{Each}
 use Rattle.pipe.specs.Endpoints.{endpointAt}
 use Rattle.pipe.specs.declared.endpoints.Endpoint.{Endpoint}
 use Rattle.ehci.specs.declared.call.Call.{Call}
-use Rattle.promises.specs.Runs.{History, Opening, Turn, World, core, historyOf, worldOf}
+use Rattle.promises.specs.Runs.{EveryRun, History, Opening, Turn, World, core, historyOf, runOf, worldOf}
 use Rattle.promises.specs.Walks.{chainWalk, isIn}
 use Rattle.promises.specs.Events.{Submits, event}
 use Rattle.promises.specs.Uses.{Use, uses}
 use Rattle.promises.specs.Rooms.{Distinct, placesInUse}
 use Rattle.promises.specs.Bells.{Bell, bell}
-use Rattle.promises.specs.Boundaries.{EveryRun, turn}
+use Rattle.promises.specs.Boundaries.{turn}
 use Rattle.promises.specs.Faults.{Hold, NeverGiven, holds, isHeld, mayRead}
 use Rattle.promises.proofs.effects.EffectOf.{effect}
 use Rattle.promises.proofs.theorems.RoomPromises.{exclusive-places}
@@ -78,8 +78,8 @@ holds-reached s w o (c ∷ cs) =
     let now = worldOf core w cs in
     holds-keep s now c (core now c) (historyOf core w cs) (b .0) (b .1) (summary s now c (core now c) (historyOf core w cs) (b .0) (b .1) (effect now c) (named s w o cs c)) (holds-reached s w o cs)
 
-distinct-now : (s : Settings) (w : World) → Opening s w → (cs : List Call) (c : Call) (k id : ℕ) (r : _) → event s (turn core s w cs c) ≡ Submits k id r
-    → Distinct (chainWalk s (turn core s w cs c .after) k ++ placesInUse (uses s (historyOf core w cs)))
+distinct-now : (s : Settings) (w : World) → Opening s w → (cs : List Call) (c : Call) (k id : ℕ) (r : _) → event s (turn s (runOf core w) cs c) ≡ Submits k id r
+    → Distinct (chainWalk s (turn s (runOf core w) cs c .after) k ++ placesInUse (uses s (historyOf core w cs)))
 unfolding historyOf uses
 distinct-now s w o cs c k id r e = rw e at (exclusive-places s w o (c ∷ cs) .distinct)
 
@@ -91,7 +91,7 @@ never-given s w o cs c k id r place e given = go (isHeld place (holds s h)) refl
     h = historyOf core w cs
 
     t : Turn
-    t = turn core s w cs c
+    t = turn s (runOf core w) cs c
 
     -- the submit's places are none of those in use before it
     fresh : isIn place (placesInUse (uses s h)) ≡ false

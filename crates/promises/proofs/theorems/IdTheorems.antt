@@ -9,7 +9,7 @@ use Rattle.request.specs.Submit.{idAt}
 use Rattle.request.specs.declared.judge.TransferRequest.{TransferRequest}
 use Rattle.ehci.specs.declared.call.Call.{Call}
 use Rattle.ehci.specs.Door.{Applied}
-use Rattle.promises.specs.Runs.{History, Opening, Turn, World, core, historyOf, turnOf, worldOf}
+use Rattle.promises.specs.Runs.{EveryRun, History, Opening, Turn, World, core, historyOf, turnOf, worldOf}
 use Rattle.promises.specs.Events.{Event, Other, Reads, Drains, Submits, Unlinks, Parts, Collects, event, leavesFrames, leavesRing, leaving}
 use Rattle.promises.specs.Bells.{isSubmitsOf}
 use Rattle.promises.specs.Ids.{IdsInTurn, nextId}
@@ -75,7 +75,7 @@ module _ (w : World) (c : Call) (a : Applied) (h : History) (told : IdsTold (w .
   due (unlinks x) = never (leaving (w .state .settings) (x .k) (x .readings .frame) t) (x .leaves) (leaves (x .k) (x .readings .frame))
   due (collects x) = never (Collects (x .k) (x .r .id) (x .frame)) (x .collects) refl
 
-pub ids-in-turn : IdsInTurn core
+pub ids-in-turn : EveryRun IdsInTurn core
 ids-in-turn s w o cs c k id r e =
     let at = ids s w o cs in
     let now = worldOf core w cs in

@@ -22,8 +22,8 @@ use Rattle.promises.proofs.theorems.CancelTheorems as ById
 pub kept : Promises core
 kept =
     record {
-      refusals-keep = λ w c n. numbers-keep (w .state) (w .rows .pool) (w .rows .heads) (w .rows .frames) (w .rows .setups) c n;
-      few-writes = λ w c. Writes.few-writes (w .state) (w .rows .pool) (w .rows .heads) (w .rows .frames) (w .rows .setups) c;
+      refusals-keep = λ w t c n. numbers-keep (w .state) (w .rows .pool) (w .rows .heads) (w .rows .frames) (w .rows .setups) c n;
+      few-writes = λ w t c. Writes.few-writes (w .state) (w .rows .pool) (w .rows .heads) (w .rows .frames) (w .rows .setups) c;
       in-order = Order.in-order;
       chains-walked = Chains.chains-walked;
       chains-lead = Rooms.chains-lead;

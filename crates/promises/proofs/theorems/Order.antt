@@ -10,7 +10,7 @@ use Rattle.register.specs.Bits.{anyOf, onlyBits}
 use Rattle.pool.specs.declared.chain.View.{View}
 use Rattle.common.proofs.TestLaws.{false-true}
 use Rattle.state.specs.Ranges.{inRanges}
-use Rattle.state.specs.declared.state.Ehci.{Ehci}
+use Rattle.state.specs.Plain.{Ehci}
 use Rattle.pipe.specs.Endpoints.{endpointAt}
 use Rattle.pipe.specs.declared.endpoints.Endpoint.{Endpoint}
 use Rattle.pipe.specs.declared.endpoints.Pipe.{Pipe}
@@ -23,7 +23,7 @@ use Rattle.common.proofs.CheckLaws.{let-pass, settled-by, verdicts-apart}
 use Rattle.opening.specs.Opening.{rowsFit}
 use Rattle.controller.specs.Address.{allotOf}
 use Rattle.controller.specs.Lent.{acceptsOf, lengths}
-use Rattle.controller.specs.declared.lent.Lengths.{Lengths}
+use Rattle.controller.specs.Plain.{Lengths}
 use Rattle.controller.specs.Readers.{hasEndpoint, holdsRequest, isOpen, isUncollected}
 use Rattle.schedule.specs.Links.{endedOverlay}
 use Rattle.controller.specs.declared.lent.Readings.{Readings}
@@ -36,7 +36,7 @@ use Rattle.collection.specs.Answers.{outcomeOf, pendingCollect}
 use Rattle.collection.specs.Unlinks.{passedBoundary, unlinkOf, waitingOf}
 use Rattle.bring_up.specs.BringUp.{againOf, anyUncollected, onwardOf, ready, registerOf, stageOf, startOf, stepOf}
 use Rattle.bring_up.specs.declared.stage.Stage.{Stage}
-use Rattle.interrupt.specs.declared.answers.Settled.{Settled}
+use Rattle.interrupt.specs.Plain.{Settled}
 use Rattle.interrupt.specs.Interrupts.{acknowledgeOf, countedOf, disableOf, drainIf, drainOf, enableOf, heardIf, rearmIf, rearmOf, settledOr, clearedOf}
 use Rattle.ehci.specs.declared.call.Call.{Call}
 use Rattle.ehci.specs.declared.call.Call.the-variants.{StartBringUp, BringUpStep, AllocateAddress, OpenEndpoint, Close, SetAddress, SetPacketSize, Submit, Writeback, Cancel, Collect, Acknowledge, Drain, Rearm, Enable, Disable}
@@ -47,7 +47,7 @@ use Rattle.ehci.specs.declared.reply.Answered.the-variants.{Done, Pending, Canc
 use Rattle.ehci.specs.Decides.{acknowledgeDecided, acknowledgeReply, addressDecided, allotDecided, allotReply, callOf, cancelCame, cancelDecided, changeCame, closeDecided, collectCame, collectDecided, decideOf, drainDecided, drainReply, openCame, openDecided, packetDecided, submitCame, submitDecided, writebackDecided, writtenReply}
 use Rattle.ehci.specs.Door.{applyOf}
 use Rattle.ehci.specs.Replies.{answeredNumber, broughtReply, changedReply, collectedAnswer, refusedReply, replied, settledReply, simply}
-use Rattle.promises.specs.Runs.{World, core}
+use Rattle.promises.specs.Runs.{Everywhere, World, core, moment}
 use Rattle.promises.specs.Opened.{verdictNumber}
 use Rattle.promises.specs.Checks.{InOrder, checksOf, finished, furtherChecks, late, lost, lostAt, refusalIn}
 use Rattle.promises.proofs.effects.EffectDoor.{seen}
@@ -114,23 +114,24 @@ module _ (w : World) where
   says c = verdictIn (callOf s (length (w .rows .pool)) (w .rows .heads) (w .rows .frames) (w .rows .setups) (seen w c) c .decided .reply .answer)
 
   -- the rows are asked first, then the ranges
-  by-ranges : (c : Call) → says c ≡ first ((not (inRanges s), InvalidParameter) ∷ furtherChecks w c) → verdictIn (core w c .reply .answer) ≡ first (checksOf w c)
+  by-ranges : (c : Call) → says c ≡ first ((not (inRanges s), InvalidParameter) ∷ furtherChecks (moment core w) c) → verdictIn (core w c .reply .answer) ≡ first (checksOf (moment core w) c)
   unfolding applyOf decideOf refusedReply replied acceptsOf
-  by-ranges c h = by fit refl
+  by-ranges c h = by (furtherChecks (moment core w) c) h fit refl
     where
-      by : (b : Bool) → fit ≡ b → verdictIn (core w c .reply .answer) ≡ first (checksOf w c)
-      by true e = rw e h
-      by false e = rw e
+      by : (ds : List Check) → says c ≡ first ((not (inRanges s), InvalidParameter) ∷ ds)
+          → (b : Bool) → fit ≡ b → verdictIn (core w c .reply .answer) ≡ first ((not (moment core w .fits), InvalidParameter) ∷ ds)
+      by ds q true e = rw e q
+      by ds q false e = rw e
 
-  by-fit : (c : Call) → says c ≡ first (checksOf w c) → verdictIn (core w c .reply .answer) ≡ first (checksOf w c)
+  by-fit : (c : Call) → says c ≡ first (checksOf (moment core w) c) → verdictIn (core w c .reply .answer) ≡ first (checksOf (moment core w) c)
   unfolding applyOf decideOf refusedReply replied acceptsOf
   by-fit c h = by fit refl h
     where
-      by : (b : Bool) → fit ≡ b → says c ≡ first (checksOf w c) → verdictIn (core w c .reply .answer) ≡ first (checksOf w c)
+      by : (b : Bool) → fit ≡ b → says c ≡ first (checksOf (moment core w) c) → verdictIn (core w c .reply .answer) ≡ first (checksOf (moment core w) c)
       by true e q = rw e (rw e at q)
       by false e q = rw e
 
-  start-order : verdictIn (core w StartBringUp .reply .answer) ≡ first (checksOf w StartBringUp)
+  start-order : verdictIn (core w StartBringUp .reply .answer) ≡ first (checksOf (moment core w) StartBringUp)
   unfolding startOf broughtReply replied
   start-order =
       by-ranges StartBringUp
@@ -153,75 +154,75 @@ module _ (w : World) where
   stage-says stage v true = refl
   stage-says stage v false = again-says (registerOf stage)
 
-  step-order : (v : ℕ) → verdictIn (core w (BringUpStep v) .reply .answer) ≡ first (checksOf w (BringUpStep v))
+  step-order : (v : ℕ) → verdictIn (core w (BringUpStep v) .reply .answer) ≡ first (checksOf (moment core w) (BringUpStep v))
   unfolding stepOf broughtReply replied
   step-order v =
       by-ranges (BringUpStep v)
       (settle-then (λ b. verdictIn (broughtReply b .reply .answer)) ((not (inRanges s), InvalidParameter) ∷ (eqb (s .step) 0, InvalidParameter) ∷ [])
       ((late s v, Timeout) ∷ []) _ _ (λ r. refl) (λ e. stage-says (stageOf (s .step)) v (ready (stageOf (s .step)) v)))
 
-  allot-order : verdictIn (core w AllocateAddress .reply .answer) ≡ first (checksOf w AllocateAddress)
+  allot-order : verdictIn (core w AllocateAddress .reply .answer) ≡ first (checksOf (moment core w) AllocateAddress)
   unfolding allotOf allotDecided replied
   allot-order =
       by-ranges AllocateAddress
       (settle-says (λ b. verdictIn (allotReply b .reply .answer)) (first ((not (inRanges s), InvalidParameter) ∷ (ltb 127 (s .address), SlotLimitReached) ∷ [])) _ _
       (λ r. refl) refl)
 
-  open-order : (x : EndpointFields) → verdictIn (core w (OpenEndpoint x) .reply .answer) ≡ first (checksOf w (OpenEndpoint x))
+  open-order : (x : EndpointFields) → verdictIn (core w (OpenEndpoint x) .reply .answer) ≡ first (checksOf (moment core w) (OpenEndpoint x))
   unfolding openDecided openEndpointOf openChecks replied
   open-order x =
       by-fit (OpenEndpoint x)
-      (settle-says (λ o. verdictIn (openCame o .decided .reply .answer)) (first (checksOf w (OpenEndpoint x))) _ _ (λ r. refl) refl)
+      (settle-says (λ o. verdictIn (openCame o .decided .reply .answer)) (first (checksOf (moment core w) (OpenEndpoint x))) _ _ (λ r. refl) refl)
 
-  close-order : (k : ℕ) → verdictIn (core w (Close k) .reply .answer) ≡ first (checksOf w (Close k))
+  close-order : (k : ℕ) → verdictIn (core w (Close k) .reply .answer) ≡ first (checksOf (moment core w) (Close k))
   unfolding closeDecided closeOf slotChecks changedReply replied
   close-order k =
-      by-fit (Close k) (settle-says (λ o. verdictIn (changeCame o .decided .reply .answer)) (first (checksOf w (Close k))) _ _ (λ r. refl) refl)
+      by-fit (Close k) (settle-says (λ o. verdictIn (changeCame o .decided .reply .answer)) (first (checksOf (moment core w) (Close k))) _ _ (λ r. refl) refl)
 
-  address-order : (k a : ℕ) → verdictIn (core w (SetAddress k a) .reply .answer) ≡ first (checksOf w (SetAddress k a))
+  address-order : (k a : ℕ) → verdictIn (core w (SetAddress k a) .reply .answer) ≡ first (checksOf (moment core w) (SetAddress k a))
   unfolding addressDecided setAddressOf slotChecks changedReply replied
   address-order k a =
       by-fit (SetAddress k a)
-      (settle-says (λ o. verdictIn (changeCame o .decided .reply .answer)) (first (checksOf w (SetAddress k a))) _ _ (λ r. refl) refl)
+      (settle-says (λ o. verdictIn (changeCame o .decided .reply .answer)) (first (checksOf (moment core w) (SetAddress k a))) _ _ (λ r. refl) refl)
 
-  size-order : (k size : ℕ) → verdictIn (core w (SetPacketSize k size) .reply .answer) ≡ first (checksOf w (SetPacketSize k size))
+  size-order : (k size : ℕ) → verdictIn (core w (SetPacketSize k size) .reply .answer) ≡ first (checksOf (moment core w) (SetPacketSize k size))
   unfolding packetDecided setPacketSizeOf slotChecks changedReply replied
   size-order k size =
       by-fit (SetPacketSize k size)
-      (settle-says (λ o. verdictIn (changeCame o .decided .reply .answer)) (first (checksOf w (SetPacketSize k size))) _ _ (λ r. refl) refl)
+      (settle-says (λ o. verdictIn (changeCame o .decided .reply .answer)) (first (checksOf (moment core w) (SetPacketSize k size))) _ _ (λ r. refl) refl)
 
-  submit-order : (k : ℕ) (t : TransferRequest) (rd : Readings) → verdictIn (core w (Submit k t rd) .reply .answer) ≡ first (checksOf w (Submit k t rd))
+  submit-order : (k : ℕ) (t : TransferRequest) (rd : Readings) → verdictIn (core w (Submit k t rd) .reply .answer) ≡ first (checksOf (moment core w) (Submit k t rd))
   unfolding submitDecided submitOf settledSubmit acceptedWith refusedSubmit
   submit-order k t rd =
       by-fit (Submit k t rd)
-      (settle-says (λ o. verdictIn (submitCame o .decided .reply .answer)) (first (checksOf w (Submit k t rd))) _ _ (λ r. refl) refl)
+      (settle-says (λ o. verdictIn (submitCame o .decided .reply .answer)) (first (checksOf (moment core w) (Submit k t rd))) _ _ (λ r. refl) refl)
 
-  writeback-order : (place token : ℕ) → verdictIn (core w (Writeback place token) .reply .answer) ≡ first (checksOf w (Writeback place token))
+  writeback-order : (place token : ℕ) → verdictIn (core w (Writeback place token) .reply .answer) ≡ first (checksOf (moment core w) (Writeback place token))
   unfolding writebackDecided writebackOf refusedWriteback
   writeback-order place token =
       by-fit (Writeback place token)
-      (settle-says (λ o. verdictIn (writtenReply o .reply .answer)) (first (checksOf w (Writeback place token))) _ _ (λ r. refl) refl)
+      (settle-says (λ o. verdictIn (writtenReply o .reply .answer)) (first (checksOf (moment core w) (Writeback place token))) _ _ (λ r. refl) refl)
 
   -- a head that is asked to leave its schedule
   unlink-says : (rd : Readings) (k : ℕ) (p : Pipe) (r : Request)
-      → verdictIn (cancelCame (unlinkOf s (w .rows .heads) (w .rows .frames) rd k p r) .decided .reply .answer) ≡ first ((lost w k, InvalidEndpoint) ∷ [])
+      → verdictIn (cancelCame (unlinkOf s (w .rows .heads) (w .rows .frames) rd k p r) .decided .reply .answer) ≡ first ((lost (moment core w) k, InvalidEndpoint) ∷ [])
   unfolding unlinkOf waitingOf replied
   unlink-says rd k p r =
-      settle-says (λ l. verdictIn (cancelCame l .decided .reply .answer)) (first ((lost w k, InvalidEndpoint) ∷ [])) _ _ (λ r. refl) refl
+      settle-says (λ l. verdictIn (cancelCame l .decided .reply .answer)) (first ((lost (moment core w) k, InvalidEndpoint) ∷ [])) _ _ (λ r. refl) refl
 
   cancel-says : (k : ℕ) (rd : Readings) (x : Endpoint) → holdsRequest x ≡ true
-      → verdictIn (cancelCame (cancelAt x s (w .rows .heads) (w .rows .frames) rd k) .decided .reply .answer) ≡ first ((lostAt x (lost w k), InvalidEndpoint) ∷ [])
+      → verdictIn (cancelCame (cancelAt x s (w .rows .heads) (w .rows .frames) rd k) .decided .reply .answer) ≡ first ((lostAt x (lost (moment core w) k), InvalidEndpoint) ∷ [])
   unfolding replied
   cancel-says k rd Closed h = absurd (false-true h)
   cancel-says k rd (Idle p) h = absurd (false-true h)
   cancel-says k rd (Linked p r) h = unlink-says rd k p (marked r)
   cancel-says k rd (Unlinking p r b) h = refl
 
-  cancel-order : (k id : ℕ) (rd : Readings) → verdictIn (core w (Cancel k id rd) .reply .answer) ≡ first (checksOf w (Cancel k id rd))
+  cancel-order : (k id : ℕ) (rd : Readings) → verdictIn (core w (Cancel k id rd) .reply .answer) ≡ first (checksOf (moment core w) (Cancel k id rd))
   unfolding cancelDecided cancelOf replied
   cancel-order k id rd =
       by-fit (Cancel k id rd)
-      (settle-then (λ l. verdictIn (cancelCame l .decided .reply .answer)) (cancelChecks s lent k id) ((lostAt (endpointAt s k) (lost w k), InvalidEndpoint) ∷ []) _ _
+      (settle-then (λ l. verdictIn (cancelCame l .decided .reply .answer)) (cancelChecks s lent k id) ((lostAt (endpointAt s k) (lost (moment core w) k), InvalidEndpoint) ∷ []) _ _
       (λ r. refl) (λ e. cancel-says k rd (endpointAt s k) (not-false (isUncollected s k) (held e))))
     where
       lent : Lengths
@@ -245,15 +246,15 @@ module _ (w : World) where
       by false e = rw e
 
   pending-says : (rd : Readings) (k : ℕ) (p : Pipe) (r : Request)
-      → verdictIn (collectCame (pendingLeft (unlinkOf s (w .rows .heads) (w .rows .frames) rd k p r)) .decided .reply .answer) ≡ first ((lost w k, InvalidEndpoint) ∷ [])
+      → verdictIn (collectCame (pendingLeft (unlinkOf s (w .rows .heads) (w .rows .frames) rd k p r)) .decided .reply .answer) ≡ first ((lost (moment core w) k, InvalidEndpoint) ∷ [])
   unfolding unlinkOf waitingOf replied
   pending-says rd k p r =
-      settle-says (λ l. verdictIn (collectCame (pendingLeft l) .decided .reply .answer)) (first ((lost w k, InvalidEndpoint) ∷ [])) _ _ (λ r. refl) refl
+      settle-says (λ l. verdictIn (collectCame (pendingLeft l) .decided .reply .answer)) (first ((lost (moment core w) k, InvalidEndpoint) ∷ [])) _ _ (λ r. refl) refl
 
   linked-says : (rd : Readings) (k : ℕ) (p : Pipe) (r : Request) (b : Bool)
       → verdictIn (collectCame (cond b (gathered (pendingCollect s) (w .rows .heads) (w .rows .frames))
       (pendingLeft (unlinkOf s (w .rows .heads) (w .rows .frames) rd k p r))) .decided .reply .answer)
-      ≡ first (((not b && lost w k), InvalidEndpoint) ∷ [])
+      ≡ first (((not b && lost (moment core w) k), InvalidEndpoint) ∷ [])
   unfolding replied
   linked-says rd k p r true = refl
   linked-says rd k p r false = pending-says rd k p r
@@ -267,19 +268,19 @@ module _ (w : World) where
 
   collect-says : (k : ℕ) (rd : Readings) (v : View) (x : Endpoint) → hasEndpoint x ≡ true
       → verdictIn (collectCame (collectAt x s (w .rows .heads) (w .rows .frames) rd v k) .decided .reply .answer)
-      ≡ first ((lostAt x (not (eqb (v .stage) 2) && lost w k), InvalidEndpoint) ∷ [])
+      ≡ first ((lostAt x (not (eqb (v .stage) 2) && lost (moment core w) k), InvalidEndpoint) ∷ [])
   unfolding replied linkedOf unlinkingOf
   collect-says k rd v Closed h = absurd (false-true h)
   collect-says k rd v (Idle p) h = refl
   collect-says k rd v (Linked p r) h = linked-says rd k p r (eqb (v .stage) 2)
   collect-says k rd v (Unlinking p r b) h = unlinking-says v k p r (passedBoundary b (rd .frame))
 
-  collect-order : (k id : ℕ) (rd : Readings) → verdictIn (core w (Collect k id rd) .reply .answer) ≡ first (checksOf w (Collect k id rd))
+  collect-order : (k id : ℕ) (rd : Readings) → verdictIn (core w (Collect k id rd) .reply .answer) ≡ first (checksOf (moment core w) (Collect k id rd))
   unfolding collectDecided collectOf replied
   collect-order k id rd =
       by-fit (Collect k id rd)
       (settle-then (λ g. verdictIn (collectCame g .decided .reply .answer)) (collectChecks s lent k id)
-      ((lostAt (endpointAt s k) (finished w (Collect k id rd) && lost w k), InvalidEndpoint) ∷ []) _ _
+      ((lostAt (endpointAt s k) (finished (moment core w) (Collect k id rd) && lost (moment core w) k), InvalidEndpoint) ∷ []) _ _
       (λ r. refl) (λ e. collect-says k rd (seen w (Collect k id rd)) (endpointAt s k) (not-false (isOpen s k) (opened e))))
     where
       lent : Lengths
@@ -291,7 +292,7 @@ module _ (w : World) where
           let b = let-pass (crowded s k) InvalidParameter _ (a .1) in
           let-pass (not (isOpen s k)) InvalidEndpoint _ (b .1) .0
 
-  acknowledge-order : (x : InterruptReadings) → verdictIn (core w (Acknowledge x) .reply .answer) ≡ first (checksOf w (Acknowledge x))
+  acknowledge-order : (x : InterruptReadings) → verdictIn (core w (Acknowledge x) .reply .answer) ≡ first (checksOf (moment core w) (Acknowledge x))
   unfolding acknowledgeDecided acknowledgeOf replied
   acknowledge-order x =
       by-ranges (Acknowledge x)
@@ -302,7 +303,7 @@ module _ (w : World) where
       heard true = refl
       heard false = refl
 
-  drain-order : (command : ℕ) → verdictIn (core w (Drain command) .reply .answer) ≡ first (checksOf w (Drain command))
+  drain-order : (command : ℕ) → verdictIn (core w (Drain command) .reply .answer) ≡ first (checksOf (moment core w) (Drain command))
   unfolding drainDecided drainOf replied clearedOf
   drain-order command =
       by-ranges (Drain command)
@@ -326,19 +327,19 @@ module _ (w : World) where
   rearm-says true = refl
   rearm-says false = refl
 
-  rearm-order : verdictIn (core w Rearm .reply .answer) ≡ first (checksOf w Rearm)
+  rearm-order : verdictIn (core w Rearm .reply .answer) ≡ first (checksOf (moment core w) Rearm)
   unfolding rearmOf
   rearm-order = by-ranges Rearm (settled-says (not (inRanges s)) _ (rearm-says (eqb (s .masked) 0)))
 
-  enable-order : verdictIn (core w Enable .reply .answer) ≡ first (checksOf w Enable)
+  enable-order : verdictIn (core w Enable .reply .answer) ≡ first (checksOf (moment core w) Enable)
   unfolding enableOf
   enable-order = by-ranges Enable (settled-says (not (inRanges s)) _ refl)
 
-  disable-order : verdictIn (core w Disable .reply .answer) ≡ first (checksOf w Disable)
+  disable-order : verdictIn (core w Disable .reply .answer) ≡ first (checksOf (moment core w) Disable)
   unfolding disableOf
   disable-order = by-ranges Disable (settled-says (not (inRanges s)) _ refl)
 
-in-turn : (w : World) (c : Call) → verdictIn (core w c .reply .answer) ≡ first (checksOf w c)
+in-turn : (w : World) (c : Call) → verdictIn (core w c .reply .answer) ≡ first (checksOf (moment core w) c)
 in-turn w StartBringUp = start-order w
 in-turn w (BringUpStep v) = step-order w v
 in-turn w AllocateAddress = allot-order w
@@ -356,5 +357,5 @@ in-turn w Rearm = rearm-order w
 in-turn w Enable = enable-order w
 in-turn w Disable = disable-order w
 
-pub in-order : InOrder core
-in-order w c = number-says (core w c .reply .answer) ∙ ap verdictNumber (in-turn w c)
+pub in-order : Everywhere InOrder core
+in-order w t c = number-says (core w c .reply .answer) ∙ ap verdictNumber (in-turn w c)

@@ -7,7 +7,7 @@ use Rattle.settings.specs.declared.settings.Settings.{Settings}
 use Rattle.request.specs.Submit.{idAt}
 use Rattle.ehci.specs.declared.call.Call.{Call}
 use Rattle.ehci.specs.Door.{Applied}
-use Rattle.promises.specs.Runs.{History, Opening, Rows, Turn, World, core, leftBy, rowsOf, turnOf}
+use Rattle.promises.specs.Runs.{EveryRun, History, Opening, Rows, Turn, World, core, leftBy, rowsOf, turnOf}
 use Rattle.promises.specs.Events.{Collects, Drains, Event, Other, Reads, Submits, event, leaving}
 use Rattle.promises.specs.Uses.{Use, uses, usesAfter, without}
 use Rattle.promises.specs.Rooms.{Every}
@@ -85,5 +85,5 @@ keeps s h w c a sound now x = (
       (λ good kept stand. stands-on w h c a good kept x stand x) sound (now .0) (now .1),
 )
 
-pub packets-stand : PacketsStand core
+pub packets-stand : EveryRun PacketsStand core
 packets-stand s w o cs = reached Both begins keeps s w o cs .1 .1

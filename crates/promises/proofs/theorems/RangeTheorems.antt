@@ -12,7 +12,7 @@ use Rattle.pipe.specs.declared.endpoints.Endpoint.{Endpoint}
 use Rattle.pipe.specs.declared.endpoints.Endpoint.the-variants.{Closed, Idle, Linked, Unlinking}
 use Rattle.controller.specs.Readers.{holdsRequest}
 use Rattle.ehci.specs.declared.call.Call.{Call}
-use Rattle.promises.specs.Runs.{History, Opening, World, core, historyOf, worldOf}
+use Rattle.promises.specs.Runs.{EveryRun, History, Opening, World, core, historyOf, moment, worldOf}
 use Rattle.promises.specs.Uses.{Use, uses}
 use Rattle.promises.specs.Ranges.{InRanges, RangesKept, RunsWhileHeld}
 use Rattle.promises.proofs.effects.Effects.{Idles}
@@ -22,8 +22,8 @@ use Rattle.promises.proofs.theorems.RoomPromises.{held}
 use Rattle.promises.proofs.invariants.Sound.{Sound, let-in}
 use Rattle.promises.proofs.invariants.UseInv.{HeldIn, Nobody, Waits, tenantOf, tenants-apart}
 
-pub sound-ranges : (s : Settings) (h : History) (w : World) → Sound s w → InRanges s h w
-sound-ranges s h w g = record { settings-stay = g .settings-are; accepted = let-in s w g }
+pub sound-ranges : (s : Settings) (h : History) (w : World) → Sound s w → InRanges s h (moment core w)
+sound-ranges s h w g = record { settings-stay = g .settings-are; accepted = let-in s w g; let-in = let-in s w g }
 
 -- what runs, and while it does
 abbrev pub Runs : Settings → History → World → Type 0
@@ -35,7 +35,7 @@ runs-opens s w o = subst (λ (x : World). Idles (x .state)) (sym (opening-is s w
 pub runs : (s : Settings) (w : World) → Opening s w → (cs : List Call) → Sound s (worldOf core w cs) × Runs s (historyOf core w cs) (worldOf core w cs)
 runs = reached Runs runs-opens (λ s h w c a g i x. idles-keeps s w c a g i x)
 
-pub ranges-kept : RangesKept core
+pub ranges-kept : EveryRun RangesKept core
 ranges-kept s w o cs = sound-ranges s _ _ (runs s w o cs .0)
 
 -- a slot with a tenant has an uncollected request
@@ -50,5 +50,5 @@ held-runs s w [] held i = inl refl
 held-runs s w (u ∷ us) held i =
     inr (i .runs (u .slot) (tenant-held (endpointAt (w .state) (u .slot)) (u .request .kind) (u .id) (u .request .length) (held .each .0 .holds)))
 
-pub runs-while-held : RunsWhileHeld core
+pub runs-while-held : EveryRun RunsWhileHeld core
 runs-while-held s w o cs = held-runs s (worldOf core w cs) (uses s (historyOf core w cs)) (held s w o cs .1) (runs s w o cs .1)

@@ -24,7 +24,7 @@ use Rattle.ehci.specs.declared.reply.Answered.{Answered}
 use Rattle.ehci.specs.Decides.{acknowledgeDecided, acknowledgeReply, callOf, decideOf, drainDecided, drainReply}
 use Rattle.ehci.specs.Door.{applyOf}
 use Rattle.ehci.specs.Replies.{answeredNumber, answeredValues, replied, settledReply}
-use Rattle.promises.specs.Runs.{History, Opening, Turn, World, core, historyOf, turnOf, worldOf}
+use Rattle.promises.specs.Runs.{EveryRun, History, Opening, Turn, World, core, historyOf, moment, turnOf, worldOf}
 use Rattle.promises.specs.Events.{Event, Drains, Reads, Unlinks, event, isDone, rings}
 use Rattle.promises.specs.Bells.{Answered as AnsweredBell, Bell, Quiet, Rung, asked, bell, counted, isUp}
 use Rattle.promises.specs.Registers.{Access, InterruptsAnswered, Kept, QuietBringUp, RegistersTied, RingsInTurn, StatusAcknowledged, WritesExactly, accessOf, acknowledged, eventIn, flagIn, isLeft, maskedAfter, maskedIn, pendingAfter, pendingIn, readAfter, readIn, ring, ringing, ringsBy, stepWrites, usbintr, writesFor}
@@ -44,12 +44,12 @@ use Rattle.promises.proofs.theorems.RangeTheorems.{runs}
 
 -- ---- what the state has is what the history says
 
-fresh-kept : (s : Settings) (w : World) → Opening s w → Kept [] w
+fresh-kept : (s : Settings) (w : World) → Opening s w → Kept [] (moment core w)
 unfolding freshState pendingIn maskedIn flagIn readIn
 fresh-kept s w o =
-    subst (λ (x : World). Kept [] x) (sym (opening-is s w o .1)) (record { pending = refl; masked = refl; enabled = refl; step = refl })
+    subst (λ (x : World). Kept [] (moment core x)) (sym (opening-is s w o .1)) (record { pending = refl; masked = refl; enabled = refl; step = refl })
 
-pub registers-tied : RegistersTied core
+pub registers-tied : EveryRun RegistersTied core
 unfolding worldOf historyOf pendingIn maskedIn flagIn readIn
 registers-tied s w o [] = fresh-kept s w o
 registers-tied s w o (c ∷ cs) =
@@ -109,7 +109,7 @@ flag-on : (b : Bool) (n : ℕ) → n ≡ flagNumber b → not (eqb n 0) ≡ b
 flag-on true n e = rw e
 flag-on false n e = rw e
 
-module _ (s : Settings) (h : History) (w : World) (c : Call) (sound : Sound s w) (k : Kept h w) (r : rings (turnOf (w .rows) c (core w c)) ≡ ringsBy s h (turnOf (w .rows) c (core w c))) where
+module _ (s : Settings) (h : History) (w : World) (c : Call) (sound : Sound s w) (k : Kept h (moment core w)) (r : rings (turnOf (w .rows) c (core w c)) ≡ ringsBy s h (turnOf (w .rows) c (core w c))) where
   abbrev done : Bool
   done = isDone (core w c .reply .answer)
 
@@ -128,7 +128,7 @@ module _ (s : Settings) (h : History) (w : World) (c : Call) (sound : Sound s w)
   by-history Access.Enables = refl
   by-history Access.Disables = refl
 
-pub writes-exactly : WritesExactly core
+pub writes-exactly : EveryRun WritesExactly core
 writes-exactly s w o cs c =
     let b = bells-reached s w o cs in
     let now = worldOf core w cs in
@@ -137,10 +137,10 @@ writes-exactly s w o cs c =
     ∙ by-history s h now c (b .0) (registers-tied s w o cs)
     (rings-now s h now c (b .1) (summary s now c (core now c) h (b .0) (b .1) (effect now c) (named s w o cs c))) (accessOf c)
 
-pub status-acknowledged : StatusAcknowledged core
+pub status-acknowledged : EveryRun StatusAcknowledged core
 status-acknowledged = status-written core writes-exactly
 
-pub rings-in-turn : RingsInTurn core
+pub rings-in-turn : EveryRun RingsInTurn core
 rings-in-turn = ring-once core writes-exactly up-exactly
 
 -- ---- while bring-up is begun no ring is out
@@ -164,7 +164,7 @@ none-owed : (b : Bool) → 0 ≡ flagNumber b → b ≡ false
 none-owed true e = absurd (omega arith)
 none-owed false e = refl
 
-pub quiet-bring-up : QuietBringUp core
+pub quiet-bring-up : EveryRun QuietBringUp core
 quiet-bring-up s w o cs begun =
     let b = bells-reached s w o cs .1 in
     let now = worldOf core w cs .state in
@@ -224,7 +224,7 @@ module _ (s : Settings) (w : World) (sound : Sound s w) where
   unfolding settledReply disableOf replied
   disable-says = inside Disable (Says []) (rw good (refl, refl))
 
-pub interrupts-answered : InterruptsAnswered core
+pub interrupts-answered : EveryRun InterruptsAnswered core
 interrupts-answered s w o cs =
     let now = worldOf core w cs in
     let sound = bells-reached s w o cs .0 in

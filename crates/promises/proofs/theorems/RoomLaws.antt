@@ -18,7 +18,7 @@ use Rattle.ehci.specs.declared.call.Call.the-variants.{Submit}
 use Rattle.ehci.specs.Decides.{decideOf, submitDecided}
 use Rattle.ehci.specs.Door.{applyOf}
 use Rattle.ehci.specs.Replies.{answeredNumber, submittedAnswer}
-use Rattle.promises.specs.Runs.{History, Machine, World, core}
+use Rattle.promises.specs.Runs.{History, Machine, World, inPlain, core, moment}
 use Rattle.promises.specs.Opened.{beforeRoom, earlierChecks, submitAsks, verdictNumber, wanted}
 use Rattle.promises.specs.Rooms.{Fits, Lacks, Room, numberAt}
 use Rattle.promises.proofs.invariants.OpenedInv.{Told}
@@ -31,7 +31,7 @@ use Rattle.promises.proofs.effects.RefusalNumbers.{refusal-some}
 -- ---- the number that submit's checks give
 
 submit-number : (w : World) (k : ℕ) (t : TransferRequest) (readings : Readings) → Sound (w .state .settings) w
-    → numberAt core w (Submit k t readings) ≡ verdictNumber (first (submitChecks (w .state) k t))
+    → numberAt (moment core w) (Submit k t readings) ≡ verdictNumber (first (submitChecks (w .state) k t))
 unfolding applyOf decideOf submitDecided submitOf settledSubmit acceptedWith refusedSubmit
 submit-number w k t readings sound = rw (rows-fit _ w sound, let-in _ w sound) (by (first (submitChecks (w .state) k t)))
   where
@@ -73,10 +73,10 @@ module _ (lacks : Bool) where
 
 -- ---- room, of any machine that answers a submit by the history
 
-module _ (m : Machine) (s : Settings) (h : History) (w : World) (k : ℕ) (t : TransferRequest) (readings : Readings)
-    (said : numberAt m w (Submit k t readings) ≡ verdictNumber (first (submitAsks s h k t))) where
+module _ (m : Machine inPlain) (s : Settings) (h : History) (w : World) (k : ℕ) (t : TransferRequest) (readings : Readings)
+    (said : numberAt (moment m w) (Submit k t readings) ≡ verdictNumber (first (submitAsks s h k t))) where
   abbrev answered : ℕ
-  answered = numberAt m w (Submit k t readings)
+  answered = numberAt (moment m w) (Submit k t readings)
 
   abbrev lacks : Bool
   lacks = ltb (s .descriptors) (wanted s h t)
@@ -108,10 +108,10 @@ module _ (h : History) (w : World) (sound : Sound (w .state .settings) w) (held 
   abbrev s : Settings
   s = w .state .settings
 
-  verdict-here : (k : ℕ) (t : TransferRequest) (readings : Readings) → numberAt core w (Submit k t readings) ≡ verdictNumber (first (submitAsks s h k t))
+  verdict-here : (k : ℕ) (t : TransferRequest) (readings : Readings) → numberAt (moment core w) (Submit k t readings) ≡ verdictNumber (first (submitAsks s h k t))
   verdict-here k t readings = submit-number w k t readings sound ∙ sym (ap verdictNumber (asks-told h w sound held told k t))
 
-  room-here : Room core s h w
+  room-here : Room s h (moment core w)
   room-here =
       record {
         free = free-is h w sound held told;
@@ -121,13 +121,13 @@ module _ (h : History) (w : World) (sound : Sound (w .state .settings) w) (held 
         fits-zero = λ k t readings. fits-zero core s h w k t readings (verdict-here k t readings);
       }
 
-pub room-holds : (s : Settings) (h : History) (w : World) → Sound s w → Held s h w → Told h (w .state) → Room core s h w
-room-holds s h w sound = subst (λ (z : Settings). Sound z w → Held z h w → Told h (w .state) → Room core z h w) (sound .settings-are) (room-here h w) sound
+pub room-holds : (s : Settings) (h : History) (w : World) → Sound s w → Held s h w → Told h (w .state) → Room s h (moment core w)
+room-holds s h w sound = subst (λ (z : Settings). Sound z w → Held z h w → Told h (w .state) → Room z h (moment core w)) (sound .settings-are) (room-here h w) sound
 
 pub verdict-holds : (s : Settings) (h : History) (w : World) → Sound s w → Held s h w → Told h (w .state) → (k : ℕ) (t : TransferRequest) (readings : Readings)
-    → numberAt core w (Submit k t readings) ≡ verdictNumber (first (submitAsks s h k t))
+    → numberAt (moment core w) (Submit k t readings) ≡ verdictNumber (first (submitAsks s h k t))
 verdict-holds s h w sound =
     subst
     (λ (z : Settings). Sound z w → Held z h w → Told h (w .state) → (k : ℕ) (t : TransferRequest) (readings : Readings)
-    → numberAt core w (Submit k t readings) ≡ verdictNumber (first (submitAsks z h k t)))
+    → numberAt (moment core w) (Submit k t readings) ≡ verdictNumber (first (submitAsks z h k t)))
     (sound .settings-are) (verdict-here h w) sound

@@ -2,7 +2,7 @@
 use mathlib.Core.List.{List}
 use Rattle.settings.specs.declared.settings.Settings.{Settings}
 use Rattle.ehci.specs.declared.call.Call.{Call}
-use Rattle.promises.specs.Runs.{Opening, World, core, historyOf, worldOf}
+use Rattle.promises.specs.Runs.{EveryRun, Opening, World, core, historyOf, worldOf}
 use Rattle.promises.specs.Rooms.{ChainsLead, ExclusivePlaces, RoomExact}
 use Rattle.promises.specs.Coverage.{Coverage}
 use Rattle.promises.specs.Opened.{FieldsTied, SubmitVerdict}
@@ -25,26 +25,26 @@ held = reached Held held-opens held-keeps
 told : (s : Settings) (w : World) → Opening s w → (cs : List Call) → Sound s (worldOf core w cs) × Told (historyOf core w cs) (worldOf core w cs .state)
 told = reached (λ s h w. Told h (w .state)) told-opens told-keeps
 
-pub fields-tied : FieldsTied core
+pub fields-tied : EveryRun FieldsTied core
 fields-tied s w o cs =
     let now = told s w o cs .1 in
     record { slots = now .slots; runs = now .runs; held = held-is s (historyOf core w cs) (worldOf core w cs) (held s w o cs .1) }
 
-pub room-exact : RoomExact core
+pub room-exact : EveryRun RoomExact core
 room-exact s w o cs =
     let now = held s w o cs in
     room-holds s (historyOf core w cs) (worldOf core w cs) (now .0) (now .1) (told s w o cs .1)
 
-pub submit-verdict : SubmitVerdict core
+pub submit-verdict : EveryRun SubmitVerdict core
 submit-verdict s w o cs =
     let now = held s w o cs in
     verdict-holds s (historyOf core w cs) (worldOf core w cs) (now .0) (now .1) (told s w o cs .1)
 
-pub exclusive-places : ExclusivePlaces core
+pub exclusive-places : EveryRun ExclusivePlaces core
 exclusive-places s w o cs = let now = held s w o cs in exclusive-holds core effect s (historyOf core w cs) (worldOf core w cs) (now .0) (now .1)
 
-pub chains-lead : ChainsLead core
+pub chains-lead : EveryRun ChainsLead core
 chains-lead s w o cs = led-holds s (historyOf core w cs) (worldOf core w cs) (held s w o cs .1)
 
-pub buffers-covered : Coverage core
+pub buffers-covered : EveryRun Coverage core
 buffers-covered s w o cs = covered-holds core effect s (historyOf core w cs) (worldOf core w cs) (held s w o cs .0)

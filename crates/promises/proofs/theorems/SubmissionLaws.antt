@@ -35,13 +35,13 @@ use Rattle.common.specs.Rows.{putAt}
 use Rattle.common.proofs.RowLaws.{put-before, put-behind, put-inside}
 use Rattle.controller.specs.Lent.{acceptsOf, lengths}
 use Rattle.controller.specs.Readers.{hasEndpoint}
-use Rattle.controller.specs.declared.lent.Lengths.{Lengths}
+use Rattle.controller.specs.Plain.{Lengths}
 use Rattle.controller.specs.declared.lent.Readings.{Readings}
 use Rattle.controller.proofs.ReaderLaws.{open-within}
 use Rattle.schedule.specs.Links.{attachedFrames, attachedRing, endedOverlay, slotLink, startedOverlay}
 use Rattle.request.specs.Submit.{attachedBy, firstIn, linkedRows, needOfRequest, placesFor, setupsWith, takenFor, takenOf, transferOf}
 use Rattle.request.specs.Writeback.{inRequest, refusedWriteback, writebackChecks, writebackOf}
-use Rattle.request.specs.declared.answers.WrittenBack.{WrittenBack}
+use Rattle.request.specs.Plain.{WrittenBack}
 use Rattle.request.specs.declared.judge.TransferRequest.{TransferRequest}
 use Rattle.request.proofs.JudgeLaws.{Judged}
 use Rattle.request.proofs.SettleCases.{packed-first}
@@ -55,7 +55,7 @@ use Rattle.ehci.specs.declared.call.Call.the-variants.{Collect, Submit, Writeba
 use Rattle.ehci.specs.Decides.{collectCame, collectDecided, withSetups, writebackDecided, writtenReply}
 use Rattle.ehci.specs.Door.{Applied, carriedOut}
 use Rattle.ehci.specs.Replies.{answeredNumber, replied}
-use Rattle.promises.specs.Runs.{History, Rows, World, core, historyOf, rowsOf, worldOf}
+use Rattle.promises.specs.Runs.{EveryRun, History, Rows, World, core, historyOf, moment, rowsOf, worldOf}
 use Rattle.promises.specs.Events.{isCollected}
 use Rattle.promises.specs.Uses.{Use, uses}
 use Rattle.promises.specs.Walks.{chainWalk}
@@ -318,21 +318,21 @@ module _ (w : World) (k id : ℕ) (rd : Readings) where
 
 -- ---- of a run
 
-pub submits-planned : SubmitsPlanned core
+pub submits-planned : EveryRun SubmitsPlanned core
 submits-planned s w o cs k t rd done =
     let now = worldOf core w cs in
     let sound = held s w o cs .0 in
     subst (λ (z : Settings). Sound z now → Submitted z (rowsOf (core now (Submit k t rd))) k t) (sound .settings-are) (λ good. submitted-holds now good k t rd done) sound
 
-pub submitted-stays : SubmittedStays core
+pub submitted-stays : EveryRun SubmittedStays core
 submitted-stays s w o cs =
     let now = worldOf core w cs in
     let h = historyOf core w cs in
     let at = held s w o cs in
-    subst (λ (z : Settings). Sound z now → Held z h now → Stays core z h now) (at .0 .settings-are)
+    subst (λ (z : Settings). Sound z now → Held z h now → Stays z h (moment core now)) (at .0 .settings-are)
     (λ sound kept. record { packets = λ c. packets-stay now h sound kept c (core now c) (effect now c); written = token-put now sound }) (at .0) (at .1)
 
-pub collects-ended : CollectsEnded core
+pub collects-ended : EveryRun CollectsEnded core
 collects-ended s w o cs k id rd e j l =
     let now = worldOf core w cs in
     let sound = held s w o cs .0 in

@@ -18,7 +18,7 @@ use Rattle.ehci.specs.declared.call.Call.{Call}
 use Rattle.ehci.specs.declared.call.Call.the-variants.{StartBringUp, BringUpStep, AllocateAddress, OpenEndpoint, Close, SetAddress, SetPacketSize, Submit, Writeback, Cancel, Collect, Acknowledge, Drain, Rearm, Enable, Disable}
 use Rattle.ehci.specs.Door.{Applied}
 use Rattle.ehci.specs.Replies.{answeredNumber}
-use Rattle.promises.specs.Runs.{History, Rows, Turn, World, core, historyOf, leftBy, rowsOf, turnOf, worldOf}
+use Rattle.promises.specs.Runs.{EveryRun, History, Rows, Turn, World, core, historyOf, leftBy, moment, rowsOf, turnOf, worldOf}
 use Rattle.promises.specs.Events.{Collects, Drains, Event, Other, Reads, Submits, event, leaving}
 use Rattle.promises.specs.Uses.{Use, uses, usesAfter, without}
 use Rattle.promises.specs.Walks.{chainWalk}
@@ -108,10 +108,10 @@ module _ (p : ℕ) (t : Turn) where
 -- ---- one more call
 
 abbrev AllStand : Settings → History → World → Use → Type 0
-AllStand s h w u = (j : ℕ) → j < length (u .places) → TokenStands s h w u j
+AllStand s h w u = (j : ℕ) → j < length (u .places) → TokenStands s h (moment core w) u j
 
 module _ (w : World) (h : History) (c : Call) (sound : Sound (w .state .settings) w) (kept : Held (w .state .settings) h w)
-    (exclusive : Exclusive core (w .state .settings) h w) (stays : Stays core (w .state .settings) h w) (stand : Every (AllStand (w .state .settings) h w) (uses (w .state .settings) h)) where
+    (exclusive : Exclusive (w .state .settings) h (moment core w)) (stays : Stays (w .state .settings) h (moment core w)) (stand : Every (AllStand (w .state .settings) h w) (uses (w .state .settings) h)) where
   abbrev s : Settings
   s = w .state .settings
 
@@ -122,7 +122,7 @@ module _ (w : World) (h : History) (c : Call) (sound : Sound (w .state .settings
   t = turnOf (w .rows) c a
 
   -- a writeback wrote it
-  writes-it : (u : Use) (j token : ℕ) → WritesTo (placeOf u j) token t → TokenStands s (t ∷ h) (leftBy a) u j
+  writes-it : (u : Use) (j token : ℕ) → WritesTo (placeOf u j) token t → TokenStands s (t ∷ h) (moment core (leftBy a)) u j
   writes-it u j token x =
       let p = placeOf u j in
       let same : getD (rowsOf a .pool) p blank .token ≡ token
@@ -132,7 +132,7 @@ module _ (w : World) (h : History) (c : Call) (sound : Sound (w .state .settings
 
   -- nothing did
   leaves-it : (u : Use) (j : ℕ) → (Wrote (placeOf u j) t → ⊥) → submits s (u .slot) t ≡ false → getD (rowsOf a .pool) (placeOf u j) blank ≡ getD (w .rows .pool) (placeOf u j) blank
-      → TokenStands s h w u j → TokenStands s (t ∷ h) (leftBy a) u j
+      → TokenStands s h (moment core w) u j → TokenStands s (t ∷ h) (moment core (leftBy a)) u j
   leaves-it u j none quiet same x =
       record {
         since = t ∷ x .since;
@@ -143,10 +143,10 @@ module _ (w : World) (h : History) (c : Call) (sound : Sound (w .state .settings
         stands = ⊎-elim (λ z. inl (z .0, ap fieldsOf same ∙ z .1)) (λ z. inr (z .0 ∙ ap (λ (d : QueueTransferDescriptor). Writeback (placeOf u j) (d .token)) (sym same), z .1)) (x .stands);
       }
 
-  step-one : (u : Use) (j : ℕ) → RecordStays t (placeOf u j) → submits s (u .slot) t ≡ false → TokenStands s h w u j → TokenStands s (t ∷ h) (leftBy a) u j
+  step-one : (u : Use) (j : ℕ) → RecordStays t (placeOf u j) → submits s (u .slot) t ≡ false → TokenStands s h (moment core w) u j → TokenStands s (t ∷ h) (moment core (leftBy a)) u j
   step-one u j stays-so quiet x = by (wrote? (placeOf u j) t)
     where
-      by : Dec (Wrote (placeOf u j) t) → TokenStands s (t ∷ h) (leftBy a) u j
+      by : Dec (Wrote (placeOf u j) t) → TokenStands s (t ∷ h) (moment core (leftBy a)) u j
       by (yes z) = writes-it u j (z .0) (z .1)
       by (no n) = leaves-it u j n quiet (⊎-elim (λ e. e) (λ z. absurd (n (z .token, (z .call-is, z .accepted)))) stays-so) x
 
@@ -217,7 +217,7 @@ module _ (w : World) (h : History) (c : Call) (sound : Sound (w .state .settings
 
 -- ---- of a run
 
-pub tokens-stand : TokensStand core
+pub tokens-stand : EveryRun TokensStand core
 unfolding worldOf historyOf uses
 tokens-stand s w o [] = tt
 tokens-stand s w o (c ∷ cs) =
@@ -225,7 +225,7 @@ tokens-stand s w o (c ∷ cs) =
     let h = historyOf core w cs in
     let at = held s w o cs in
     subst
-    (λ (z : Settings). Sound z now → Held z h now → Exclusive core z h now → Stays core z h now → Every (AllStand z h now) (uses z h)
+    (λ (z : Settings). Sound z now → Held z h now → Exclusive z h (moment core now) → Stays z h (moment core now) → Every (AllStand z h now) (uses z h)
     → Every (AllStand z (turnOf (now .rows) c (core now c) ∷ h) (leftBy (core now c))) (uses z (turnOf (now .rows) c (core now c) ∷ h)))
     (at .0 .settings-are) (λ sound kept exclusive stays stand. stands-on now h c sound kept exclusive stays stand (effect now c)) (at .0) (at .1) (exclusive-places s w o cs) (submitted-stays s w o cs)
     (tokens-stand s w o cs)

@@ -1,6 +1,5 @@
--- Every world of a run over words is good and let in; its words have the free places and those of each uncollected request.
+-- The words of every world of a run are good; they have the free places and those of each uncollected request.
 use Prim.Native.Nat.{ℕ, _+_}
-use mathlib.Core.Bool.{true}
 use mathlib.Core.List.{List, []}
 use mathlib.Core.Path.{_≡_, sym, ap, subst, _∙_}
 use lib.ListN.{length}
@@ -13,16 +12,16 @@ use Rattle.words.specs.Record.{placesAt}
 use Rattle.words.specs.View.{stateOf}
 use Rattle.words.proofs.GoodLaws.{good-settings}
 use Rattle.words.proofs.PlacesLaws.{free-number, own-places}
-use Rattle.promises.specs.Ranges.{InRanges}
+use Rattle.promises.specs.Ranges.{RangesKept}
 use Rattle.promises.specs.Rooms.{Every}
-use Rattle.promises.specs.Runs.{History, Rows}
+use Rattle.promises.specs.Runs.{Always, History, Machine, Rows, WorldIn, historyOf, viewed, worldOf}
 use Rattle.promises.specs.Uses.{Use, needs, uses}
-use Rattle.promises.specs.WordsRuns.{Does, InWords, WordsKept, WordsMachine, WordsWorld, letIn, viewWorld, wordsHistoryOf, wordsWorldOf}
+use Rattle.promises.specs.WordsRuns.{Does, GoodWords, WordsKept, inWords}
 use Rattle.promises.proofs.invariants.UseInv.{Avoids, Held, HeldIn, every-map}
 use Rattle.promises.proofs.theorems.RangeTheorems.{ranges-kept}
 use Rattle.promises.proofs.theorems.RoomPromises as Rooms
-use Rattle.promises.proofs.theorems.WordsCalls.{admits-good, admits-in}
-use Rattle.promises.proofs.theorems.WordsRuns.{always-in-words, opening-faithful, settings-stay, stays-faithful}
+use Rattle.promises.proofs.theorems.WordsCalls.{let-in-good}
+use Rattle.promises.proofs.theorems.WordsRuns.{carried, opening-faithful, settings-stay}
 
 -- ---- places, by the words
 
@@ -49,27 +48,24 @@ module _ (s : Settings) (r : Rest) (ws : List ℕ) (rows : Rows) (us : List Use)
 
 -- ---- a world
 
-in-words : (h : History) (w : WordsWorld) → Good (w .core .settings) (w .core .rest) (w .slots) → letIn w ≡ true
-    → Held (w .core .settings) h (viewWorld w) → (s : Settings) → w .core .settings ≡ s → InWords s h w
-in-words h w good admitted held s e =
-    subst (λ (z : Settings). w .core .settings ≡ z → InWords z h w) e
+in-words : (h : History) (w : WorldIn inWords) → Good (w .state .core .settings) (w .state .core .rest) (w .state .slots)
+    → Held (w .state .core .settings) h (viewed w) → (s : Settings) → w .state .core .settings ≡ s → GoodWords s h (w .state)
+in-words h w good held s e =
+    subst (λ (z : Settings). w .state .core .settings ≡ z → GoodWords z h (w .state)) e
     (λ q.
     record {
       settings-stay = q;
       good = good;
-      let-in = admitted;
-      free = free-words (w .core .settings) (w .core .rest) (w .slots) (w .rows) (uses (w .core .settings) h) good held;
-      held = held-words (w .core .settings) (w .core .rest) (w .slots) (w .rows) (uses (w .core .settings) h) good held;
-      empty = empty-words (w .core .settings) (w .core .rest) (w .slots) (w .rows) (uses (w .core .settings) h) good held;
+      free = free-words (w .state .core .settings) (w .state .core .rest) (w .state .slots) (w .rows) (uses (w .state .core .settings) h) good held;
+      held = held-words (w .state .core .settings) (w .state .core .rest) (w .state .slots) (w .rows) (uses (w .state .core .settings) h) good held;
+      empty = empty-words (w .state .core .settings) (w .state .core .rest) (w .state .slots) (w .rows) (uses (w .state .core .settings) h) good held;
     }) e
 
-pub words-kept : (m : WordsMachine) → Does m → WordsKept m
+pub words-kept : (m : Machine inWords) → Does m → WordsKept m
 words-kept m does s w o cs =
-    let now = wordsWorldOf m w cs in
-    let begun = opening-faithful s w o in
-    let are : now .core .settings ≡ s = settings-stay m does w begun cs ∙ o .settings-are in
-    let faithful = stays-faithful m does w begun cs in
-    let ranges = always-in-words InRanges ranges-kept m does s w o cs in
-    let held = always-in-words Held (λ s w o cs. Rooms.held s w o cs .1) m does s w o cs in
-    in-words (wordsHistoryOf m w cs) now (admits-good now faithful (ranges .accepted)) (admits-in now faithful (ranges .accepted))
-    (subst (λ (z : Settings). Held z (wordsHistoryOf m w cs) (viewWorld now)) (sym are) held) s are
+    let now = worldOf m w cs in
+    let are : now .state .core .settings ≡ s = settings-stay m does w (opening-faithful s w o) cs ∙ o .fresh .words .same-settings in
+    let good = let-in-good now (carried RangesKept ranges-kept m does s w o cs .let-in) in
+    let held =
+    carried (Always (λ s h x. Held s h (record { state = x .view; rows = x .rows }))) (λ s w o cs. Rooms.held s w o cs .1) m does s w o cs in
+    in-words (historyOf m w cs) now good (subst (λ (z : Settings). Held z (historyOf m w cs) (viewed now)) (sym are) held) s are

@@ -9,18 +9,21 @@ use Rattle.bitset.specs.Words.{Fitting}
 use Rattle.bitset.proofs.SetLaws.{all-words}
 use Rattle.settings.specs.Settings.{settingsGood}
 use Rattle.settings.specs.declared.settings.Settings.{Settings}
-use Rattle.state.specs.declared.state.Ehci.{Ehci}
+use Rattle.state.specs.Plain.{Ehci}
 use Rattle.words.specs.Opened.{openedRest, openedRow}
 use Rattle.words.specs.View.{stateOf}
 use Rattle.words.proofs.OpenedLaws.{tidy-opened, view-opened}
 use Rattle.opening.specs.Opening.{freshState}
-use Rattle.promises.specs.Runs.{Opening}
-use Rattle.promises.specs.WordsRuns.{Typed, WordsOpening, WordsWorld}
+use Rattle.promises.specs.Runs.{Opening, WorldIn, inPlain}
+use Rattle.promises.specs.WordsRuns.{Typed, inWords}
 use Rattle.promises.proofs.invariants.Reached.{freshRows, opens-fresh}
 
-abbrev pub freshWords : Settings → WordsWorld
+abbrev pub freshWords : Settings → WorldIn inWords
 freshWords s =
-    record { core = record { settings = s; rest = openedRest (s .descriptors) }; slots = openedRow (s .endpoints); rows = freshRows s }
+    record {
+      state = record { core = record { settings = s; rest = openedRest (s .descriptors) }; slots = openedRow (s .endpoints) };
+      rows = freshRows s;
+    }
 
 zeros-fit : (n : ℕ) → Fitting (replicate n 0)
 zeros-fit zero = tt
@@ -34,11 +37,15 @@ fresh-view : (s : Settings) → stateOf s (openedRest (s .descriptors)) (openedR
 unfolding freshState
 fresh-view s = view-opened s
 
-pub opens-words : (s : Settings) → settingsGood s ≡ true → WordsOpening s (freshWords s)
+pub opens-words : (s : Settings) → settingsGood s ≡ true → Opening s (freshWords s)
 opens-words s e =
+    let o = subst (λ (x : Ehci). Opening {f = inPlain} s (record { state = x; rows = freshRows s })) (sym (fresh-view s)) (opens-fresh s e) in
     record {
-      opened = subst (λ (x : Ehci). Opening s (record { state = x; rows = freshRows s })) (sym (fresh-view s)) (opens-fresh s e);
-      settings-are = refl;
-      tidy = tidy-opened s;
-      typed = fresh-typed s;
+      lent = o .lent;
+      accepted = o .accepted;
+      left = o .left;
+      fresh = record {
+        words = record { same-settings = refl; fresh = fresh-view s; tidy = tidy-opened s };
+        typed = fresh-typed s;
+      };
     }

@@ -1,36 +1,50 @@
 -- `collection::finish::finish` meets its contract.
-use Rattle.state.specs.State.{withOwner}
-use Rattle.collection.proofs.CallCases.{finishes}
+use Rattle.collection.proofs.WordsCases.{finishes-words, tidy-finished}
+use Rattle.collection.proofs.WordsSlots.{finish-fits, unlinking-room, unlinking-room-after}
 use borrow.Author.Needs.{needs}
 use Rattle.collection.proofs.finish.finish.Statement.{statement}
 use Rattle.collection.proofs.finish.finish.Tie as tie
 
-add-free : tie.Need-add-free
-add-free c = search needs
+places-at-requires : tie.Need-places-at-requires
+places-at-requires c κs = search unlinking-room
 
-free-requires : tie.Need-free-requires
-free-requires c κs = search needs
+with-requires : tie.Need-with-requires
+with-requires c κs = search needs
+
+put-endpoint-requires : tie.Need-put-endpoint-requires
+put-endpoint-requires c κs = (search unlinking-room, search (finish-fits, needs))
+
+put-places-requires : tie.Need-put-places-requires
+put-places-requires c κs = search unlinking-room-after
 
 outcome-of-requires : tie.Need-outcome-of-requires
 outcome-of-requires c κs = search needs
 
-with-endpoint-requires : tie.Need-with-endpoint-requires
-with-endpoint-requires c κs = search needs
-
 none-requires : tie.Need-none-requires
 none-requires c κs = search needs
 
+same-length : tie.Need-same-length
+same-length c = search needs
+
 returns : tie.Need-returns
-unfolding withOwner
-returns c = search finishes
+returns c =
+    let b = c .before .before .before .before .before .before .before .before .before .before .before .before .before .before .before .before in (
+      finishes-words (b .args .core .settings) (b .args .core .rest) (b .args .slots .now) (b .pre .0) (b .args .k) (b .args .p) (b .args .r) (b .args .b)
+          (b .pre .1) (search needs) _ _ (c .before .before .before .before .before .before .before .before .put-endpoint .ensures) (c .before .before .before .before .put-places .ensures) _ (b .args .seen) _ _ (c .before .outcome-of .ensures)
+          (c .none .ensures .1),
+      tidy-finished (b .args .core .settings) (b .args .core .rest) (b .args .slots .now) (b .pre .0) (b .args .k) (b .args .p) (b .args .r) (b .args .b)
+          (b .pre .1) (search needs) _ _ (c .before .before .before .before .before .before .before .before .put-endpoint .ensures) (c .before .before .before .before .put-places .ensures) _ _ (c .before .before .before .before .before .before .before .before .before .before .before .places-at .ensures) (c .before .before .before .before .before .before .before .before .before .before .with .ensures),
+    )
 
 pub finish-spec : {M : Type 1} → statement M
 finish-spec =
     tie.close
     (tie.spec
-    add-free
-    free-requires
+    places-at-requires
+    with-requires
+    put-endpoint-requires
+    put-places-requires
     outcome-of-requires
-    with-endpoint-requires
     none-requires
+    same-length
     returns)

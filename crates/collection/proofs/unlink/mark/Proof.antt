@@ -1,5 +1,6 @@
 -- `collection::unlink::mark` meets its contract.
-use Rattle.collection.proofs.CallCases.{marks}
+use Rattle.collection.proofs.WordsCases.{marks-words, tidy-marked}
+use Rattle.collection.proofs.WordsSlots.{mark-fits, unlinking-room}
 use borrow.Author.Needs.{needs}
 use Rattle.collection.proofs.unlink.mark.Statement.{statement}
 use Rattle.collection.proofs.unlink.mark.Tie as tie
@@ -7,14 +8,18 @@ use Rattle.collection.proofs.unlink.mark.Tie as tie
 marked-requires : tie.Need-marked-requires
 marked-requires c κs = search needs
 
-with-endpoint-requires : tie.Need-with-endpoint-requires
-with-endpoint-requires c κs = search needs
+put-endpoint-requires : tie.Need-put-endpoint-requires
+put-endpoint-requires c κs = (search unlinking-room, search (mark-fits, needs))
 
 none-requires : tie.Need-none-requires
 none-requires c κs = search needs
 
+same-length : tie.Need-same-length
+same-length c = search needs
+
 returns : tie.Need-returns
-returns c = search marks
+returns c = (search (marks-words, needs), search (tidy-marked, needs))
 
 pub mark-spec : {M : Type 1} → statement M
-mark-spec = tie.close (tie.spec marked-requires with-endpoint-requires none-requires returns)
+mark-spec =
+    tie.close (tie.spec marked-requires put-endpoint-requires none-requires same-length returns)

@@ -1,46 +1,14 @@
 -- `controller::readers::is_open` meets its contract.
-use Rattle.controller.proofs.ReaderCases.{closed-shut, idle-open, linked-open, unlinking-open}
+use Rattle.controller.proofs.WordsCases.{open-said}
 use borrow.Author.Needs.{needs}
 use Rattle.controller.proofs.readers.is_open.Statement.{statement}
 use Rattle.controller.proofs.readers.is_open.Tie as tie
 
-endpoint-at-requires : tie.Need-endpoint-at-requires
-endpoint-at-requires c κs = search needs
-
-enum-told : tie.Need-enum-told
-enum-told c = search needs
-
-enum-told-2 : tie.Need-enum-told-2
-enum-told-2 c = search needs
-
-enum-told-3 : tie.Need-enum-told-3
-enum-told-3 c = search needs
-
-enum-told-4 : tie.Need-enum-told-4
-enum-told-4 c = search needs
+word-at-requires : tie.Need-word-at-requires
+word-at-requires c κs = search needs
 
 returns : tie.Need-returns
-returns c = closed-shut _ _ _ (c .before .before .endpoint-at .ensures) (c .enum-told .given .1)
-
-returns-2 : tie.Need-returns-2
-returns-2 c = idle-open _ _ _ (c .before .before .endpoint-at .ensures) _ (c .enum-told2 .given .1)
-
-returns-3 : tie.Need-returns-3
-returns-3 c = linked-open _ _ _ (c .before .before .endpoint-at .ensures) _ _ (c .enum-told3 .given .1)
-
-returns-4 : tie.Need-returns-4
-returns-4 c = unlinking-open _ _ _ (c .before .before .endpoint-at .ensures) _ _ _ (c .enum-told4 .given .1)
+returns c = search open-said
 
 pub is-open-spec : {M : Type 1} → statement M
-is-open-spec =
-    tie.close
-    (tie.spec
-    endpoint-at-requires
-    enum-told
-    enum-told-2
-    enum-told-3
-    enum-told-4
-    returns
-    returns-2
-    returns-3
-    returns-4)
+is-open-spec = tie.close (tie.spec word-at-requires returns)

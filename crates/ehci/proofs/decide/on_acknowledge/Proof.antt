@@ -1,7 +1,6 @@
 -- `ehci::decide::on_acknowledge` meets its contract.
-use mathlib.Core.Path.{refl, ap, _∙_}
-use Rattle.ehci.proofs.Cases.{leave-is}
-use Rattle.ehci.specs.Decides.{acknowledgeDecided, acknowledgeReply}
+use mathlib.Core.Path.{refl}
+use Rattle.ehci.proofs.WordsCases.{acknowledge-words, leave-words}
 use borrow.Author.Needs.{needs}
 use Rattle.ehci.proofs.decide.on_acknowledge.Statement.{statement}
 use Rattle.ehci.proofs.decide.on_acknowledge.Tie as tie
@@ -16,9 +15,7 @@ leave-requires : tie.Need-leave-requires
 leave-requires c κs = search needs
 
 returns : tie.Need-returns
-unfolding acknowledgeDecided
-returns c = leave-is _ _ _ _ _ _ (c .leave .ensures) (c .before .acknowledged-answer .ensures) (refl) ∙ ap acknowledgeReply (c .before .before .before .before .acknowledge .ensures)
+returns c = acknowledge-words _ _ _ _ (leave-words _ _ _ _ _ _ (c .leave .ensures) (c .before .acknowledged-answer .ensures) refl) (c .before .before .before .before .acknowledge .ensures .0) (c .before .before .before .before .acknowledge .ensures .1)
 
 pub on-acknowledge-spec : {M : Type 1} → statement M
-on-acknowledge-spec =
-    tie.close (tie.spec acknowledge-requires acknowledged-answer-requires leave-requires returns)
+on-acknowledge-spec = tie.close (tie.spec acknowledge-requires acknowledged-answer-requires leave-requires returns)

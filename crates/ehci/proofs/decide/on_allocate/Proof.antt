@@ -1,7 +1,5 @@
 -- `ehci::decide::on_allocate` meets its contract.
-use mathlib.Core.Path.{ap, _∙_}
-use Rattle.ehci.proofs.Cases.{leave-is}
-use Rattle.ehci.specs.Decides.{allotDecided, allotReply}
+use Rattle.ehci.proofs.WordsCases.{allot-words, leave-words}
 use borrow.Author.Needs.{needs}
 use Rattle.ehci.proofs.decide.on_allocate.Statement.{statement}
 use Rattle.ehci.proofs.decide.on_allocate.Tie as tie
@@ -19,15 +17,7 @@ leave-requires : tie.Need-leave-requires
 leave-requires c κs = search needs
 
 returns : tie.Need-returns
-unfolding allotDecided
-returns c = leave-is _ _ _ _ _ _ (c .leave .ensures) (c .before .before .allotted-answer .ensures) (c .before .none .ensures .1) ∙ ap allotReply (c .before .before .before .before .allocate-address .ensures)
+returns c = allot-words _ _ _ (leave-words _ _ _ _ _ _ (c .leave .ensures) (c .before .before .allotted-answer .ensures) (c .before .none .ensures .1)) (c .before .before .before .before .allocate-address .ensures .0) (c .before .before .before .before .allocate-address .ensures .1)
 
 pub on-allocate-spec : {M : Type 1} → statement M
-on-allocate-spec =
-    tie.close
-    (tie.spec
-    allocate-address-requires
-    allotted-answer-requires
-    none-requires
-    leave-requires
-    returns)
+on-allocate-spec = tie.close (tie.spec allocate-address-requires allotted-answer-requires none-requires leave-requires returns)

@@ -1,7 +1,6 @@
 -- `ehci::decide::on_cancel` meets its contract.
 use mathlib.Core.Path.{refl}
-use Rattle.ehci.proofs.Cases.{cancel-came, leave-is}
-use Rattle.ehci.specs.Decides.{cancelDecided}
+use Rattle.ehci.proofs.WordsCases.{cancel-words, leave-words}
 use borrow.Author.Needs.{needs}
 use Rattle.ehci.proofs.decide.on_cancel.Statement.{statement}
 use Rattle.ehci.proofs.decide.on_cancel.Tie as tie
@@ -21,11 +20,11 @@ same-length c = search needs
 same-length-2 : tie.Need-same-length-2
 same-length-2 c = search needs
 
+same-length-3 : tie.Need-same-length-3
+same-length-3 c = search needs
+
 returns : tie.Need-returns
-unfolding cancelDecided
-returns c = cancel-came _ _ _ _ _ (leave-is _ _ _ _ _ _ (c .leave .ensures) (c .before .simple .ensures) (refl)) (c .before .before .before .before .before .before .before .before .cancel .ensures)
+returns c = cancel-words _ _ _ _ _ _ _ _ _ _ _ _ (leave-words _ _ _ _ _ _ (c .leave .ensures) (c .before .simple .ensures) refl) (c .before .before .before .before .before .before .before .before .before .before .cancel .ensures .0) (c .before .before .before .before .before .before .before .before .before .before .cancel .ensures .1)
 
 pub on-cancel-spec : {M : Type 1} → statement M
-on-cancel-spec =
-    tie.close
-    (tie.spec cancel-requires simple-requires leave-requires same-length same-length-2 returns)
+on-cancel-spec = tie.close (tie.spec cancel-requires simple-requires leave-requires same-length same-length-2 same-length-3 returns)

@@ -1,6 +1,5 @@
 -- `ehci::decide::on_writeback` meets its contract.
-use Rattle.ehci.proofs.Cases.{written-came}
-use Rattle.ehci.specs.Decides.{writebackDecided}
+use Rattle.ehci.proofs.WordsCases.{written-words}
 use borrow.Author.Needs.{needs}
 use Rattle.ehci.proofs.decide.on_writeback.Statement.{statement}
 use Rattle.ehci.proofs.decide.on_writeback.Tie as tie
@@ -14,9 +13,11 @@ simple-requires c κs = search needs
 none-requires : tie.Need-none-requires
 none-requires c κs = search needs
 
+marked-requires : tie.Need-marked-requires
+marked-requires c κs = search needs
+
 returns : tie.Need-returns
-unfolding writebackDecided
-returns c = written-came _ _ _ _ (c .before .simple .ensures) (c .none .ensures .1) (c .before .before .before .before .writeback .ensures)
+returns c = written-words _ _ _ _ _ _ _ (c .before .before .simple .ensures) (c .before .none .ensures .1) (c .marked .ensures) (c .before .before .before .before .before .writeback .ensures .0) (c .before .before .before .before .before .writeback .ensures .1 .0) (c .before .before .before .before .before .writeback .ensures .1 .1)
 
 pub on-writeback-spec : {M : Type 1} → statement M
-on-writeback-spec = tie.close (tie.spec writeback-requires simple-requires none-requires returns)
+on-writeback-spec = tie.close (tie.spec writeback-requires simple-requires none-requires marked-requires returns)

@@ -1,5 +1,4 @@
 -- `ehci::reply::of_brought_up` meets its contract.
-use Rattle.ehci.specs.Replies.{broughtReply}
 use borrow.Author.Needs.{needs}
 use Rattle.ehci.proofs.reply.of_brought_up.Statement.{statement}
 use Rattle.ehci.proofs.reply.of_brought_up.Tie as tie
@@ -11,7 +10,6 @@ leave-requires : tie.Need-leave-requires
 leave-requires c κs = search needs
 
 returns : tie.Need-returns
-unfolding broughtReply
 returns c = cc
 
 pub of-brought-up-spec : {M : Type 1} → statement M

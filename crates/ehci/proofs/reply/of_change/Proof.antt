@@ -1,5 +1,4 @@
 -- `ehci::reply::of_change` meets its contract.
-use Rattle.ehci.specs.Replies.{changedReply}
 use borrow.Author.Needs.{needs}
 use Rattle.ehci.proofs.reply.of_change.Statement.{statement}
 use Rattle.ehci.proofs.reply.of_change.Tie as tie
@@ -14,7 +13,6 @@ leave-requires : tie.Need-leave-requires
 leave-requires c κs = search needs
 
 returns : tie.Need-returns
-unfolding changedReply
 returns c = cc
 
 pub of-change-spec : {M : Type 1} → statement M

@@ -1,5 +1,4 @@
 -- `ehci::reply::of_settled` meets its contract.
-use Rattle.ehci.specs.Replies.{settledReply}
 use borrow.Author.Needs.{needs}
 use Rattle.ehci.proofs.reply.of_settled.Statement.{statement}
 use Rattle.ehci.proofs.reply.of_settled.Tie as tie
@@ -11,7 +10,6 @@ leave-requires : tie.Need-leave-requires
 leave-requires c κs = search needs
 
 returns : tie.Need-returns
-unfolding settledReply
 returns c = cc
 
 pub of-settled-spec : {M : Type 1} → statement M

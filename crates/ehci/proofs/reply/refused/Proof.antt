@@ -1,5 +1,4 @@
 -- `ehci::reply::refused` meets its contract.
-use Rattle.ehci.specs.Replies.{refusedReply}
 use borrow.Author.Needs.{needs}
 use Rattle.ehci.proofs.reply.refused.Statement.{statement}
 use Rattle.ehci.proofs.reply.refused.Tie as tie
@@ -11,7 +10,6 @@ leave-requires : tie.Need-leave-requires
 leave-requires c κs = search needs
 
 returns : tie.Need-returns
-unfolding refusedReply
 returns c = cc
 
 pub refused-spec : {M : Type 1} → statement M

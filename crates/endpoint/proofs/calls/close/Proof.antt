@@ -1,6 +1,6 @@
 -- `endpoint::calls::close` meets its contract.
-use native.Mathlib.Omega.{arith}
-use Rattle.endpoint.proofs.Cases.{change-room, close-done, close-refused}
+use Rattle.pipe.proofs.WordsFits.{closed-fits}
+use Rattle.endpoint.proofs.WordsChange.{closing-done, closing-refused, closing-tidy, words-head, words-slot-room}
 use borrow.Author.Needs.{needs}
 use Rattle.endpoint.proofs.calls.close.Statement.{statement}
 use Rattle.endpoint.proofs.calls.close.Tie as tie
@@ -16,13 +16,12 @@ add-put-head c = search needs
 
 put-head-requires : tie.Need-put-head-requires
 put-head-requires c κs =
-    let a = c .before .before .before .before .before .args in
-    let r = change-room (a .state) (a .pool) (a .heads .now) (a .frames) (a .setups) (a .slot) _ _ (c .before .before .before .check-slot .ensures) (c .before .enum-told .given .1) in (omega (arith, r .1), omega (arith, r .2))
+    let b = c .before .before .before .before .before .before .before .before in
+    words-head (b .args .core .settings) (b .args .core .rest) (b .args .slots .now) (b .pre .0) (b .args .heads .now) (b .pre .1)
+    (b .args .slot) _ _ (c .before .before .before .check-slot .ensures) (c .before .enum-told .given .1)
 
-with-endpoint-requires : tie.Need-with-endpoint-requires
-with-endpoint-requires c κs =
-    let a = c .before .before .before .before .before .before .before .before .args in
-    change-room (a .state) (a .pool) (a .heads .now) (a .frames) (a .setups) (a .slot) _ _ (c .before .before .before .before .before .before .check-slot .ensures) (c .before .before .before .before .enum-told .given .1) .0
+put-endpoint-requires : tie.Need-put-endpoint-requires
+put-endpoint-requires c κs = search (words-slot-room, closed-fits)
 
 enum-known-refusal : tie.Need-enum-known-refusal
 enum-known-refusal c = search needs
@@ -30,15 +29,17 @@ enum-known-refusal c = search needs
 same-length : tie.Need-same-length
 same-length c = search needs
 
+same-length-2 : tie.Need-same-length-2
+same-length-2 c = search needs
+
 returns : tie.Need-returns
-returns c =
-    let a = c .before .before .before .before .before .before .before .before .before .args in
-    close-done (a .state) (a .pool) (a .heads .now) (a .frames) (a .setups) (a .slot) _ (c .before .before .before .before .before .before .before .check-slot .ensures) (c .before .before .before .before .before .enum-told .given .1) _ _ (c .with-endpoint .ensures) (c .before .before .before .put-head .ensures)
+returns c = search (closing-done, closing-tidy)
+
+same-length-3 : tie.Need-same-length-3
+same-length-3 c = search needs
 
 returns-2 : tie.Need-returns-2
-returns-2 c =
-    let a = c .before .before .before .before .before .args in
-    close-refused (a .state) (a .pool) (a .heads .now) (a .frames) (a .setups) (a .slot) _ _ (c .before .before .before .check-slot .ensures) (c .before .refusal .given .1)
+returns-2 c = search closing-refused
 
 pub close-spec : {M : Type 1} → statement M
 close-spec =
@@ -48,8 +49,10 @@ close-spec =
     enum-told
     add-put-head
     put-head-requires
-    with-endpoint-requires
+    put-endpoint-requires
     enum-known-refusal
     same-length
+    same-length-2
     returns
+    same-length-3
     returns-2)

@@ -1,5 +1,5 @@
 -- `endpoint::calls::open_endpoint` meets its contract.
-use Rattle.endpoint.proofs.Cases.{open-done, open-fields, open-refused, open-room-for}
+use Rattle.endpoint.proofs.WordsOpen.{new-fits, opened-done, opened-fields, opened-head, opened-refused, opened-slot-room, opened-tidy}
 use borrow.Author.Needs.{needs}
 use Rattle.endpoint.proofs.calls.open_endpoint.Statement.{statement}
 use Rattle.endpoint.proofs.calls.open_endpoint.Tie as tie
@@ -15,16 +15,17 @@ enum-known-slot c = search needs
 
 write-head-requires : tie.Need-write-head-requires
 write-head-requires c κs =
-    let a = c .before .before .before .before .before .before .before .args in
-    let r = open-room-for (a .state) (a .pool) (a .heads .now) (a .frames) (a .setups) (a .kind) (a .address) (a .number) (a .packet) _ (c .before .before .before .before .before .fields-good .ensures) _ (c .before .before .before .before .choose .ensures) _ (c .before .before .slot .given .1) in ((r .1, r .2), open-fields (a .state) (a .pool) (a .heads .now) (a .frames) (a .setups) (a .kind) (a .address) (a .number) (a .packet) _ (c .before .before .before .before .before .fields-good .ensures) _ (c .before .before .before .before .choose .ensures) _ (c .before .before .slot .given .1))
+    let b = c .before .before .before .before .before .before .before .before .before .before in (
+      opened-head (b .args .core .settings) (b .args .core .rest) (b .args .slots .now) (b .pre .0) (b .args .heads .now) (b .pre .1)
+          (b .args .kind) (b .args .address) (b .args .number) (b .args .packet) _ (c .before .before .before .before .before .before .fields-good .ensures) _
+          (c .before .before .before .before .choose .ensures) _ (c .before .before .slot .given .1),
+      opened-fields (b .args .core .settings) (b .args .core .rest) (b .args .slots .now) (b .pre .0) (b .args .heads .now) (b .pre .1)
+          (b .args .kind) (b .args .address) (b .args .number) (b .args .packet) _ (c .before .before .before .before .before .before .fields-good .ensures) _
+          (c .before .before .before .before .choose .ensures) _ (c .before .before .slot .given .1),
+    )
 
-cast-with-endpoint : tie.Need-cast-with-endpoint
-cast-with-endpoint c = search needs
-
-with-endpoint-requires : tie.Need-with-endpoint-requires
-with-endpoint-requires c κs =
-    let a = c .before .before .before .before .before .before .before .before .before .before .args in
-    open-room-for (a .state) (a .pool) (a .heads .now) (a .frames) (a .setups) (a .kind) (a .address) (a .number) (a .packet) _ (c .before .before .before .before .before .before .before .before .fields-good .ensures) _ (c .before .before .before .before .before .before .before .choose .ensures) _ (c .before .before .before .before .before .slot .given .1) .0
+put-endpoint-requires : tie.Need-put-endpoint-requires
+put-endpoint-requires c κs = search (opened-slot-room, new-fits)
 
 enum-known-refusal : tie.Need-enum-known-refusal
 enum-known-refusal c = search needs
@@ -32,15 +33,25 @@ enum-known-refusal c = search needs
 same-length : tie.Need-same-length
 same-length c = search needs
 
+same-length-2 : tie.Need-same-length-2
+same-length-2 c = search needs
+
 returns : tie.Need-returns
 returns c =
-    let a = c .before .before .before .before .before .before .before .before .before .before .before .args in
-    open-done (a .state) (a .pool) (a .heads .now) (a .frames) (a .setups) (a .kind) (a .address) (a .number) (a .packet) _ (c .before .before .before .before .before .before .before .before .before .fields-good .ensures) _ (c .before .before .before .before .before .before .before .before .choose .ensures) _ (c .before .before .before .before .before .before .slot .given .1) _ _ (c .with-endpoint .ensures) (c .before .before .before .write-head .ensures)
+    let b = c .before .before .before .before .before .before .before .before .before .before .before .before .before .before .before .before .before in (
+      opened-done (b .args .core .settings) (b .args .core .rest) (b .args .slots .now) (b .pre .0) (b .args .heads .now) (b .pre .1)
+          (b .args .kind) (b .args .address) (b .args .number) (b .args .packet) _ (c .before .before .before .before .before .before .before .before .before .before .before .before .before .fields-good .ensures) _
+          (c .before .before .before .before .before .before .before .before .before .before .before .choose .ensures) _ (c .before .before .before .before .before .before .before .before .before .slot .given .1) _ (c .before .before .put-endpoint .ensures) _ (c .before .before .before .before .before .before .write-head .ensures),
+      opened-tidy (b .args .core .settings) (b .args .core .rest) (b .args .slots .now) (b .pre .0) (b .args .heads .now) (b .pre .1)
+          (b .args .kind) (b .args .address) (b .args .number) (b .args .packet) _ (c .before .before .before .before .before .before .before .before .before .before .before .before .before .fields-good .ensures) _
+          (c .before .before .before .before .before .before .before .before .before .before .before .choose .ensures) _ (c .before .before .before .before .before .before .before .before .before .slot .given .1) _ (c .before .before .put-endpoint .ensures),
+    )
+
+same-length-3 : tie.Need-same-length-3
+same-length-3 c = search needs
 
 returns-2 : tie.Need-returns-2
-returns-2 c =
-    let a = c .before .before .before .before .before .before .args in
-    open-refused (a .state) (a .pool) (a .heads .now) (a .frames) (a .setups) (a .kind) (a .address) (a .number) (a .packet) _ (c .before .before .before .before .fields-good .ensures) _ (c .before .before .before .choose .ensures) _ (c .before .refusal .given .1)
+returns-2 c = search opened-refused
 
 pub open-endpoint-spec : {M : Type 1} → statement M
 open-endpoint-spec =
@@ -50,9 +61,10 @@ open-endpoint-spec =
     choose-requires
     enum-known-slot
     write-head-requires
-    cast-with-endpoint
-    with-endpoint-requires
+    put-endpoint-requires
     enum-known-refusal
     same-length
+    same-length-2
     returns
+    same-length-3
     returns-2)

@@ -1,6 +1,5 @@
 -- `endpoint::calls::set_packet_size` meets its contract.
-use Rattle.endpoint.proofs.Cases.{change-room, size-done, size-refused}
-use native.Mathlib.Omega.{arith}
+use Rattle.endpoint.proofs.WordsChange.{sizing-done, sizing-refused, words-word}
 use borrow.Author.Needs.{needs}
 use Rattle.endpoint.proofs.calls.set_packet_size.Statement.{statement}
 use Rattle.endpoint.proofs.calls.set_packet_size.Tie as tie
@@ -24,9 +23,7 @@ mul-set-max-packet-size : tie.Need-mul-set-max-packet-size
 mul-set-max-packet-size c = search needs
 
 slice-read-set-max-packet-size : tie.Need-slice-read-set-max-packet-size
-slice-read-set-max-packet-size c =
-    let a = c .before .before .before .before .before .args in
-    omega (arith, change-room (a .state) (a .pool) (a .heads .now) (a .frames) (a .setups) (a .slot) _ _ (c .before .before .before .check-slot .ensures) (c .before .enum-told .given .1) .2)
+slice-read-set-max-packet-size c = search words-word
 
 set-max-packet-size-requires : tie.Need-set-max-packet-size-requires
 set-max-packet-size-requires c κs = search needs
@@ -35,9 +32,7 @@ mul-heads : tie.Need-mul-heads
 mul-heads c = search needs
 
 slice-write-heads : tie.Need-slice-write-heads
-slice-write-heads c =
-    let a = c .before .before .before .before .before .before .args in
-    omega (arith, change-room (a .state) (a .pool) (a .heads .now) (a .frames) (a .setups) (a .slot) _ _ (c .before .before .before .before .check-slot .ensures) (c .before .before .enum-told .given .1) .2)
+slice-write-heads c = search words-word
 
 enum-known-refusal : tie.Need-enum-known-refusal
 enum-known-refusal c = search needs
@@ -46,14 +41,10 @@ same-length : tie.Need-same-length
 same-length c = search needs
 
 returns : tie.Need-returns
-returns c =
-    let a = c .before .before .before .before .before .before .args in
-    size-done (a .state) (a .pool) (a .heads .now) (a .frames) (a .setups) (a .slot) _ (a .size) (c .before .before .before .before .check-slot .ensures) (c .before .before .enum-told .given .1) _ (c .set-max-packet-size .ensures)
+returns c = search sizing-done
 
 returns-2 : tie.Need-returns-2
-returns-2 c =
-    let a = c .before .before .before .before .before .args in
-    size-refused (a .state) (a .pool) (a .heads .now) (a .frames) (a .setups) (a .slot) _ (a .size) _ (c .before .before .before .check-slot .ensures) (c .before .refusal .given .1)
+returns-2 c = search sizing-refused
 
 pub set-packet-size-spec : {M : Type 1} → statement M
 set-packet-size-spec =

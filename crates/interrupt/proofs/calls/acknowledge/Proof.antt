@@ -1,27 +1,17 @@
 -- `interrupt::calls::acknowledge` meets its contract.
-use Rattle.state.specs.State.{withInterrupt, withBell}
-use Rattle.interrupt.proofs.Cases.{ack-bad, ack-no, ack-yes}
+use Rattle.interrupt.proofs.WordsCases.{acknowledged-no, acknowledged-yes}
 use borrow.Author.Needs.{needs}
 use Rattle.interrupt.proofs.calls.acknowledge.Statement.{statement}
 use Rattle.interrupt.proofs.calls.acknowledge.Tie as tie
 
-in-ranges-requires : tie.Need-in-ranges-requires
-in-ranges-requires c κs = search needs
+only-bits-requires : tie.Need-only-bits-requires
+only-bits-requires c κs = search needs
 
 none-requires : tie.Need-none-requires
 none-requires c κs = search needs
 
 returns : tie.Need-returns
-returns c = search ack-bad
-
-only-bits-requires : tie.Need-only-bits-requires
-only-bits-requires c κs = search needs
-
-none-requires-2 : tie.Need-none-requires-2
-none-requires-2 c κs = search needs
-
-returns-2 : tie.Need-returns-2
-returns-2 c = search ack-no
+returns c = search acknowledged-no
 
 noted-after-requires : tie.Need-noted-after-requires
 noted-after-requires c κs = search needs
@@ -38,23 +28,19 @@ with-bits-requires-2 c κs = search needs
 acknowledge-writes-requires : tie.Need-acknowledge-writes-requires
 acknowledge-writes-requires c κs = search needs
 
-returns-3 : tie.Need-returns-3
-unfolding withInterrupt withBell
-returns-3 c = search ack-yes
+returns-2 : tie.Need-returns-2
+returns-2 c = search acknowledged-yes
 
 pub acknowledge-spec : {M : Type 1} → statement M
 acknowledge-spec =
     tie.close
     (tie.spec
-    in-ranges-requires
+    only-bits-requires
     none-requires
     returns
-    only-bits-requires
-    none-requires-2
-    returns-2
     noted-after-requires
     with-bits-requires
     only-bits-requires-2
     with-bits-requires-2
     acknowledge-writes-requires
-    returns-3)
+    returns-2)

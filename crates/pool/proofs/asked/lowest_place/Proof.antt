@@ -3,9 +3,6 @@ use Rattle.pool.proofs.WordCases.{place-fits}
 use borrow.Author.Needs.{needs}
 use Rattle.pool.proofs.asked.lowest_place.Statement.{statement}
 use Rattle.pool.proofs.asked.lowest_place.Tie as tie
-use Rattle.pool.proofs.asked.lowest_place.Reads as reads
-use Rattle.pool.proofs.asked.lowest_place.Lts as lts
-use Rattle.bitset.proofs.word.lowest.Reads as lowest-reads
 
 mul-result : tie.Need-mul-result
 mul-result c = search needs

@@ -3,8 +3,6 @@ use Rattle.pool.specs.Words.{noAskWords}
 use borrow.Author.Needs.{needs}
 use Rattle.pool.proofs.asked.no_ask_words.Statement.{statement}
 use Rattle.pool.proofs.asked.no_ask_words.Tie as tie
-use Rattle.pool.proofs.asked.no_ask_words.Reads as reads
-use Rattle.pool.proofs.asked.no_ask_words.Lts as lts
 
 returns : tie.Need-returns
 unfolding noAskWords

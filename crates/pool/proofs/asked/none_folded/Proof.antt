@@ -3,9 +3,6 @@ use Rattle.pool.proofs.WordCases.{none-made}
 use borrow.Author.Needs.{needs}
 use Rattle.pool.proofs.asked.none_folded.Statement.{statement}
 use Rattle.pool.proofs.asked.none_folded.Tie as tie
-use Rattle.pool.proofs.asked.none_folded.Reads as reads
-use Rattle.pool.proofs.asked.none_folded.Lts as lts
-use Rattle.pool.proofs.chain.nothing_seen.Reads as nothing-seen-reads
 
 nothing-seen-requires : tie.Need-nothing-seen-requires
 nothing-seen-requires c κs = search needs

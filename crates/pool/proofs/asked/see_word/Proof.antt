@@ -3,12 +3,6 @@ use Rattle.pool.proofs.WordCases.{word-sum-fits, word-seen}
 use borrow.Author.Needs.{needs}
 use Rattle.pool.proofs.asked.see_word.Statement.{statement}
 use Rattle.pool.proofs.asked.see_word.Tie as tie
-use Rattle.pool.proofs.asked.see_word.Reads as reads
-use Rattle.pool.proofs.asked.see_word.Lts as lts
-use Rattle.pool.proofs.chain.failed_with.Reads as failed-with-reads
-use Rattle.pool.proofs.chain.moved_of.Reads as moved-of-reads
-use Rattle.pool.proofs.chain.stage_with.Reads as stage-with-reads
-use Rattle.pool.proofs.transfer.requested.Reads as requested-reads
 
 requested-requires : tie.Need-requested-requires
 requested-requires c κs = search needs

@@ -3,9 +3,6 @@ use Rattle.pool.proofs.ChainCases.{was-set, failed-here, failed-not}
 use borrow.Author.Needs.{needs}
 use Rattle.pool.proofs.chain.failed_with.Statement.{statement}
 use Rattle.pool.proofs.chain.failed_with.Tie as tie
-use Rattle.pool.proofs.chain.failed_with.Reads as reads
-use Rattle.pool.proofs.chain.failed_with.Lts as lts
-use Rattle.token.proofs.qtd.QtdToken.has_error.Reads as has-error-reads
 
 returns : tie.Need-returns
 returns c = search was-set

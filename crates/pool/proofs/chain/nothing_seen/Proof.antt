@@ -1,10 +1,7 @@
 -- `pool::chain::nothing_seen` meets its contract.
-use borrow.Author.Needs.{needs}
 use Rattle.pool.proofs.ChainCases.{seen-none}
 use Rattle.pool.proofs.chain.nothing_seen.Statement.{statement}
 use Rattle.pool.proofs.chain.nothing_seen.Tie as tie
-use Rattle.pool.proofs.chain.nothing_seen.Reads as reads
-use Rattle.pool.proofs.chain.nothing_seen.Lts as lts
 
 returns : tie.Need-returns
 returns c = seen-none

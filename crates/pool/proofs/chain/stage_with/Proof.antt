@@ -3,10 +3,6 @@ use Rattle.pool.proofs.ChainCases.{was-set, stage-active, stage-erring,
 use borrow.Author.Needs.{needs}
 use Rattle.pool.proofs.chain.stage_with.Statement.{statement}
 use Rattle.pool.proofs.chain.stage_with.Tie as tie
-use Rattle.pool.proofs.chain.stage_with.Reads as reads
-use Rattle.pool.proofs.chain.stage_with.Lts as lts
-use Rattle.token.proofs.qtd.QtdToken.active.Reads as active-reads
-use Rattle.token.proofs.qtd.QtdToken.has_error.Reads as has-error-reads
 
 returns : tie.Need-returns
 returns c = search was-set

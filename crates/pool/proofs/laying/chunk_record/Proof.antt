@@ -3,14 +3,6 @@ use Rattle.pool.proofs.WordCases.{chunk-laid}
 use borrow.Author.Needs.{needs}
 use Rattle.pool.proofs.laying.chunk_record.Statement.{statement}
 use Rattle.pool.proofs.laying.chunk_record.Tie as tie
-use Rattle.pool.proofs.laying.chunk_record.Reads as reads
-use Rattle.pool.proofs.laying.chunk_record.Lts as lts
-use Rattle.bitset.proofs.cursor.at_end.Reads as at-end-reads
-use Rattle.descriptor.proofs.qtd.NextQtd.word.Reads as word-reads
-use Rattle.descriptor.proofs.slots.page_slots.Reads as page-slots-reads
-use Rattle.pool.proofs.laying.next_at.Reads as next-at-reads
-use Rattle.token.proofs.plan.chunk_token.Reads as chunk-token-reads
-use Rattle.token.proofs.qtd.least.Reads as least-reads
 
 next-at-requires : tie.Need-next-at-requires
 next-at-requires c κs = search needs

@@ -2,9 +2,6 @@
 use borrow.Author.Needs.{needs}
 use Rattle.pool.proofs.laying.more.Statement.{statement}
 use Rattle.pool.proofs.laying.more.Tie as tie
-use Rattle.pool.proofs.laying.more.Reads as reads
-use Rattle.pool.proofs.laying.more.Lts as lts
-use Rattle.bitset.proofs.cursor.at_end.Reads as at-end-reads
 
 at-end-requires : tie.Need-at-end-requires
 at-end-requires c κs = search needs

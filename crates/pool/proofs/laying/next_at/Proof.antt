@@ -1,13 +1,8 @@
 -- `pool::laying::next_at` meets its contract.
 use Rattle.pool.proofs.WordCases.{next-none, next-some, next-below, next-fits}
-use native.Mathlib.Omega.{arith}
 use borrow.Author.Needs.{needs}
 use Rattle.pool.proofs.laying.next_at.Statement.{statement}
 use Rattle.pool.proofs.laying.next_at.Tie as tie
-use Rattle.pool.proofs.laying.next_at.Reads as reads
-use Rattle.pool.proofs.laying.next_at.Lts as lts
-use Rattle.bitset.proofs.cursor.at_end.Reads as at-end-reads
-use Rattle.bitset.proofs.cursor.place_at.Reads as place-at-reads
 
 at-end-requires : tie.Need-at-end-requires
 at-end-requires c κs = search needs

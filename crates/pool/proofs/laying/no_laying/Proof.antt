@@ -3,8 +3,6 @@ use Rattle.pool.specs.Words.{noLaying}
 use borrow.Author.Needs.{needs}
 use Rattle.pool.proofs.laying.no_laying.Statement.{statement}
 use Rattle.pool.proofs.laying.no_laying.Tie as tie
-use Rattle.pool.proofs.laying.no_laying.Reads as reads
-use Rattle.pool.proofs.laying.no_laying.Lts as lts
 
 returns : tie.Need-returns
 unfolding noLaying

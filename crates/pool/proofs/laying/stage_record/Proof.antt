@@ -3,11 +3,6 @@ use Rattle.pool.proofs.WordCases.{stage-made}
 use borrow.Author.Needs.{needs}
 use Rattle.pool.proofs.laying.stage_record.Statement.{statement}
 use Rattle.pool.proofs.laying.stage_record.Tie as tie
-use Rattle.pool.proofs.laying.stage_record.Reads as reads
-use Rattle.pool.proofs.laying.stage_record.Lts as lts
-use Rattle.descriptor.proofs.qtd.QueueTransferDescriptor.set_next.Reads as set-next-reads
-use Rattle.pool.proofs.laying.next_at.Reads as next-at-reads
-use Rattle.pool.proofs.transfer.stage_at.Reads as stage-at-reads
 
 next-at-requires : tie.Need-next-at-requires
 next-at-requires c κs = search needs

@@ -44,7 +44,7 @@ use denote.Triple.Walked.{says, needs, Stays, stay-slice, stay-none, walkOf, goe
 use Rattle.descriptor.specs.declared.qtd.QueueTransferDescriptor.{QueueTransferDescriptor as Record}
 use Rattle.descriptor.proofs.qtd.QueueTransferDescriptor.Laws as T′
 use Rattle.pool.proofs.Element.{R, D, L}
-use Rattle.pool.specs.declared.chain.Deed.the-variants as Deeds
+use Rattle.pool.specs.Plain as Deeds
 use Rattle.pool.specs.Places.{upFrom}
 use Rattle.pool.specs.Chains.{blank, filledFrom}
 use Rattle.pool.specs.Words.{clearedTo}

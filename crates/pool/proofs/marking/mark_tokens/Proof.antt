@@ -43,7 +43,7 @@ use Rattle.descriptor.specs.declared.qtd.QueueTransferDescriptor.{QueueTransfer
 use Rattle.pool.proofs.Element.{R}
 use Rattle.bitset.specs.Places.{Within, setPlaces}
 use Rattle.bitset.specs.Rest.{advanceOf, isNone, placeAt, restOf, tailOf}
-use Rattle.pool.specs.declared.chain.Deed.the-variants as Deeds
+use Rattle.pool.specs.Plain as Deeds
 use Rattle.pool.specs.Chains.{blank, filledFrom, withToken}
 use Rattle.pool.specs.Words.{MarkingGood, markedOf}
 use Rattle.pool.proofs.Calls.{at-list, met, tests, gives}

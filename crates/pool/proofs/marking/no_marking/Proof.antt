@@ -3,8 +3,6 @@ use Rattle.pool.specs.Words.{noMarking}
 use borrow.Author.Needs.{needs}
 use Rattle.pool.proofs.marking.no_marking.Statement.{statement}
 use Rattle.pool.proofs.marking.no_marking.Tie as tie
-use Rattle.pool.proofs.marking.no_marking.Reads as reads
-use Rattle.pool.proofs.marking.no_marking.Lts as lts
 
 returns : tie.Need-returns
 unfolding noMarking

@@ -2,9 +2,6 @@
 use borrow.Author.Needs.{needs}
 use Rattle.pool.proofs.record.not_there.Statement.{statement}
 use Rattle.pool.proofs.record.not_there.Tie as tie
-use Rattle.pool.proofs.record.not_there.Reads as reads
-use Rattle.pool.proofs.record.not_there.Lts as lts
-use Rattle.pool.proofs.chain.no_record.Reads as no-record-reads
 
 no-record-requires : tie.Need-no-record-requires
 no-record-requires c κs = search needs

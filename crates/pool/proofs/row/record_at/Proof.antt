@@ -1,6 +1,6 @@
 -- `pool::row::record_at` meets its contract: a walk of its MIR, by hand. The place of `rows[place]` is computed, the slice is looked into, the element is taken out of the row, read whole, and put back.
 -- Assumes nothing.
-use mathlib.Core.Path.{_≡_, refl, sym}
+use mathlib.Core.Path.{refl, sym}
 use Prim.Native.Nat.{ℕ, _<_, _^_}
 use mathlib.Core.List.{List, [], _∷_}
 use lib.ListN.{length, getD}

@@ -3,9 +3,6 @@ use Rattle.pool.proofs.TransferCases.{small-product}
 use borrow.Author.Needs.{needs}
 use Rattle.pool.proofs.transfer.chunk_at.Statement.{statement}
 use Rattle.pool.proofs.transfer.chunk_at.Tie as tie
-use Rattle.pool.proofs.transfer.chunk_at.Reads as reads
-use Rattle.pool.proofs.transfer.chunk_at.Lts as lts
-use Rattle.token.proofs.qtd.least.Reads as least-reads
 
 mul-start : tie.Need-mul-start
 mul-start c = search small-product

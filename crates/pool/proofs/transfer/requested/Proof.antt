@@ -3,9 +3,6 @@ use Rattle.pool.proofs.TransferCases.{asked-data, asked-none, asked-iso
 use borrow.Author.Needs.{needs}
 use Rattle.pool.proofs.transfer.requested.Statement.{statement}
 use Rattle.pool.proofs.transfer.requested.Tie as tie
-use Rattle.pool.proofs.transfer.requested.Reads as reads
-use Rattle.pool.proofs.transfer.requested.Lts as lts
-use Rattle.pool.proofs.transfer.chunk_at.Reads as chunk-at-reads
 
 enum-told : tie.Need-enum-told
 enum-told c = search needs

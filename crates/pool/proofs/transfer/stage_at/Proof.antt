@@ -3,10 +3,6 @@ use Rattle.pool.proofs.TransferCases.{stage-setup, stage-bare, stage-da
 use borrow.Author.Needs.{needs}
 use Rattle.pool.proofs.transfer.stage_at.Statement.{statement}
 use Rattle.pool.proofs.transfer.stage_at.Tie as tie
-use Rattle.pool.proofs.transfer.stage_at.Reads as reads
-use Rattle.pool.proofs.transfer.stage_at.Lts as lts
-use Rattle.descriptor.proofs.qtd.QueueTransferDescriptor.new.Reads as new-reads
-use Rattle.token.proofs.plan.build_control_td_plan.Reads as build-control-td-plan-reads
 
 build-control-td-plan-requires : tie.Need-build-control-td-plan-requires
 build-control-td-plan-requires c κs = search needs

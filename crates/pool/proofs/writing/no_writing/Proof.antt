@@ -3,10 +3,6 @@ use Rattle.pool.specs.Words.{noWriting}
 use borrow.Author.Needs.{needs}
 use Rattle.pool.proofs.writing.no_writing.Statement.{statement}
 use Rattle.pool.proofs.writing.no_writing.Tie as tie
-use Rattle.pool.proofs.writing.no_writing.Reads as reads
-use Rattle.pool.proofs.writing.no_writing.Lts as lts
-use Rattle.pool.proofs.laying.no_laying.Reads as no-laying-reads
-use Rattle.pool.proofs.marking.no_marking.Reads as no-marking-reads
 
 no-laying-requires : tie.Need-no-laying-requires
 no-laying-requires c κs = search needs

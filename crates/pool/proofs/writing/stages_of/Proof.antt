@@ -3,10 +3,6 @@ use Rattle.pool.proofs.WordCases.{stages-made}
 use borrow.Author.Needs.{needs}
 use Rattle.pool.proofs.writing.stages_of.Statement.{statement}
 use Rattle.pool.proofs.writing.stages_of.Tie as tie
-use Rattle.pool.proofs.writing.stages_of.Reads as reads
-use Rattle.pool.proofs.writing.stages_of.Lts as lts
-use Rattle.common.proofs.kinds.is_control.Reads as is-control-reads
-use Rattle.pool.proofs.writing.words_if.Reads as words-if-reads
 
 is-control-requires : tie.Need-is-control-requires
 is-control-requires c κs = search needs

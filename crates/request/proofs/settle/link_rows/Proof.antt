@@ -1,11 +1,23 @@
 -- `request::settle::link_rows` meets its contract.
-use Rattle.request.proofs.SettleCases.{rows-is}
+use Rattle.request.proofs.WordsLink.{address-fits, rows-linked}
 use borrow.Author.Needs.{needs}
 use Rattle.request.proofs.settle.link_rows.Statement.{statement}
 use Rattle.request.proofs.settle.link_rows.Tie as tie
 
-first-address-requires : tie.Need-first-address-requires
-first-address-requires c κs = search needs
+cursor-of-requires : tie.Need-cursor-of-requires
+cursor-of-requires c κs = search needs
+
+place-at-requires : tie.Need-place-at-requires
+place-at-requires c κs = search needs
+
+mul-first : tie.Need-mul-first
+mul-first c = search needs
+
+add-first : tie.Need-add-first
+add-first c = search needs
+
+cast-first : tie.Need-cast-first
+cast-first c = search address-fits
 
 head-address-requires : tie.Need-head-address-requires
 head-address-requires c κs = search needs
@@ -23,13 +35,17 @@ same-length-2 : tie.Need-same-length-2
 same-length-2 c = search needs
 
 returns : tie.Need-returns
-returns c = rows-is (c .before .before .before .before .before .before .before .before .before .before .before .before .before .args .s) _ _ _ _ _ _ _ _ (c .before .before .before .before .before .before .before .before .before .before .before .before .before .args .t) (c .before .before .before .before .before .before .before .before .before .before .before .before .before .args .taken) (c .before .before .before .before .before .before .before .before .before .first-address .ensures) (c .before .before .before .before .before .before .before .before .head-address .ensures) (c .before .before .before .before .before .before .before .ehci-qh-link .ensures) (c .before .before .before .before .link-head .ensures)
+returns c = search rows-linked
 
 pub link-rows-spec : {M : Type 1} → statement M
 link-rows-spec =
     tie.close
     (tie.spec
-    first-address-requires
+    cursor-of-requires
+    place-at-requires
+    mul-first
+    add-first
+    cast-first
     head-address-requires
     ehci-qh-link-requires
     link-head-requires

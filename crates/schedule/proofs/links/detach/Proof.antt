@@ -1,11 +1,10 @@
 -- `schedule::links::detach` meets its contract.
-use Rattle.schedule.proofs.LinkCases.{detach-frames, detach-ring, detach-head, detach-none}
+use Rattle.words.specs.View.{view}
+use Rattle.schedule.proofs.LinkCases.{detach-head, detach-none}
+use Rattle.schedule.proofs.WordsCases.{detach-framed, detach-ringed}
 use borrow.Author.Needs.{needs}
 use Rattle.schedule.proofs.links.detach.Statement.{statement}
 use Rattle.schedule.proofs.links.detach.Tie as tie
-
-element-copy-out-kind : tie.Need-element-copy-out-kind
-element-copy-out-kind c = search needs
 
 find-predecessor-requires : tie.Need-find-predecessor-requires
 find-predecessor-requires c κs = search needs
@@ -48,8 +47,9 @@ same-length-2 c = search needs
 
 returns : tie.Need-returns
 returns c =
-    let a = c .before .before .before .before .before .before .before .before .before .before .before .before .before .before .args in
-    detach-frames (a .t1) (a .heads .now) (a .frames .now) (a .k) _ (c .before .before .before .before .before .before .before .before .find-predecessor .ensures) (c .before .before .before .before .before .enum-told .given .1) (c .before .before .before .before .if1 .taken) _ (c .before .before .fill-words .ensures)
+    let b = c .before .before .before .before .before .before .before .before .before .before .before .before .before .before in
+    detach-framed (view (b .args .core) (b .args .slots .now)) (b .args .heads .now) (b .args .frames .now) (b .args .k) (b .args .framed)
+    (b .pre .1 .1 .0) _ (c .before .before .before .before .before .before .before .before .find-predecessor .ensures) (c .before .before .before .before .before .enum-told .given .1) (c .before .before .before .before .if1 .taken) _ (c .before .before .fill-words .ensures)
 
 same-length-3 : tie.Need-same-length-3
 same-length-3 c = search needs
@@ -59,8 +59,9 @@ same-length-4 c = search needs
 
 returns-2 : tie.Need-returns-2
 returns-2 c =
-    let a = c .before .before .before .before .before .before .before .before .before .before .args in
-    detach-ring (a .t1) (a .heads .now) (a .frames .now) (a .k) _ (c .before .before .before .before .find-predecessor .ensures) (c .before .enum-told .given .1) (c .if1 .left)
+    let b = c .before .before .before .before .before .before .before .before .before .before in
+    detach-ringed (view (b .args .core) (b .args .slots .now)) (b .args .heads .now) (b .args .frames .now) (b .args .k) (b .args .framed)
+    (b .pre .1 .1 .0) _ (c .before .before .before .before .find-predecessor .ensures) (c .before .enum-told .given .1) (c .if1 .left)
 
 same-length-5 : tie.Need-same-length-5
 same-length-5 c = search needs
@@ -70,8 +71,9 @@ same-length-6 c = search needs
 
 returns-3 : tie.Need-returns-3
 returns-3 c =
-    let a = c .before .before .before .before .before .before .before .before .before .before .before .before .before .before .args in
-    detach-head (a .t1) (a .heads .now) (a .frames .now) (a .k) _ (c .before .before .before .before .before .before .before .before .find-predecessor .ensures) _ (c .before .before .before .before .before .found .given .1) _ (c .before .before .give-link .ensures)
+    let b = c .before .before .before .before .before .before .before .before .before .before .before .before .before .before in
+    detach-head (view (b .args .core) (b .args .slots .now)) (b .args .heads .now) (b .args .frames .now) (b .args .k) _
+    (c .before .before .before .before .before .before .before .before .find-predecessor .ensures) _ (c .before .before .before .before .before .found .given .1) _ (c .before .before .give-link .ensures)
 
 same-length-7 : tie.Need-same-length-7
 same-length-7 c = search needs
@@ -81,14 +83,14 @@ same-length-8 c = search needs
 
 returns-4 : tie.Need-returns-4
 returns-4 c =
-    let a = c .before .before .before .before .before .before .before .before .before .args in
-    detach-none (a .t1) (a .heads .now) (a .frames .now) (a .k) _ (c .before .before .before .find-predecessor .ensures) (c .enum-told2 .given .1)
+    let b = c .before .before .before .before .before .before .before .before .before in
+    detach-none (view (b .args .core) (b .args .slots .now)) (b .args .heads .now) (b .args .frames .now) (b .args .k) _
+    (c .before .before .before .find-predecessor .ensures) (c .enum-told2 .given .1)
 
 pub detach-spec : {M : Type 1} → statement M
 detach-spec =
     tie.close
     (tie.spec
-    element-copy-out-kind
     find-predecessor-requires
     add-word
     mul-word

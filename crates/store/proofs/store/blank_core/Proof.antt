@@ -4,7 +4,7 @@ use Rattle.store.proofs.store.blank_core.Statement.{statement}
 use Rattle.store.proofs.store.blank_core.Tie as tie
 use Rattle.store.proofs.store.blank_core.Reads as reads
 use Rattle.store.proofs.store.blank_core.Lts as lts
-use Rattle.opening.proofs.in_words.decide_open.Reads as decide-open-reads
+use Rattle.opening.proofs.open.decide_open.Reads as decide-open-reads
 use Rattle.store.proofs.StoreCases.{refused-core}
 
 -- src/store.rt:140:9

@@ -55,16 +55,16 @@ use Rattle.words.proofs.core.Core.Laws as Co′
 use Rattle.ehci.specs.declared.call.Call.{Call}
 use Rattle.ehci.proofs.call.Call as Cl
 use Rattle.ehci.proofs.call.Call.Laws as Cl′
-use Rattle.ehci.specs.declared.in_words.reply.Reply.{Reply}
-use Rattle.ehci.proofs.in_words.reply.Reply as Rp
-use Rattle.ehci.proofs.in_words.reply.Reply.Laws as Rp′
+use Rattle.ehci.specs.declared.reply.Reply.{Reply}
+use Rattle.ehci.proofs.reply.Reply as Rp
+use Rattle.ehci.proofs.reply.Reply.Laws as Rp′
 use Rattle.store.specs.declared.store.Called.{Called}
 use Rattle.store.proofs.store.Called as Re
 use Rattle.store.proofs.store.Called.Laws as Re′
-use Rattle.ehci.proofs.in_words.door.apply as apply
-use Rattle.ehci.proofs.in_words.door.apply.Symbol as apply-def
-use Rattle.ehci.proofs.in_words.door.apply.Symbol.{name as #apply}
-use Rattle.ehci.proofs.in_words.door.apply.Met as apply-thm
+use Rattle.ehci.proofs.door.apply as apply
+use Rattle.ehci.proofs.door.apply.Symbol as apply-def
+use Rattle.ehci.proofs.door.apply.Symbol.{name as #apply}
+use Rattle.ehci.proofs.door.apply.Met as apply-thm
 use Rattle.store.proofs.store.gathered as gathered
 use Rattle.store.proofs.store.gathered.Symbol as gathered-def
 use Rattle.store.proofs.store.gathered.Symbol.{name as #gathered}
@@ -183,5 +183,5 @@ lend-call-spec 𝓤 H 𝓜 𝓖 𝓡 =
     entered 𝓤 H (tripleOf 𝓤 H (𝓖 .A) f.signature (f.spec 𝓤 H (𝓖 .A) (𝓜 .mem) (𝓡 .run)))
     (tables 𝓤 H 𝓜 𝓡 code.env .C) (tables 𝓤 H 𝓜 𝓡 code.env .Λ) #lend-call code.function (code.unfolded 𝓤 H 𝓜 𝓡)
     (lend-call-meets 𝓤 H (𝓖 .A) (givenOf 𝓤 H 𝓜 𝓖) (𝓜 .mem) (𝓡 .run) (tablesOf 𝓤 H 𝓜 (tables 𝓤 H 𝓜 𝓡 code.env))
-    (cited 𝓤 H (tripleOf 𝓤 H (𝓖 .A) apply.signature (apply.spec 𝓤 H (𝓖 .A) (𝓜 .mem) (𝓡 .run))) 𝓜 𝓡 code.env #apply apply-def.routine code.calls-ehci·in-words·door·apply (apply-thm.met 𝓤 H 𝓜 𝓖 𝓡))
+    (cited 𝓤 H (tripleOf 𝓤 H (𝓖 .A) apply.signature (apply.spec 𝓤 H (𝓖 .A) (𝓜 .mem) (𝓡 .run))) 𝓜 𝓡 code.env #apply apply-def.routine code.calls-ehci·door·apply (apply-thm.met 𝓤 H 𝓜 𝓖 𝓡))
     (cited 𝓤 H (tripleOf 𝓤 H (𝓖 .A) gathered.signature (gathered.spec 𝓤 H (𝓖 .A) (𝓜 .mem) (𝓡 .run))) 𝓜 𝓡 code.env #gathered gathered-def.routine code.calls-store·store·gathered (gathered-thm.met 𝓤 H 𝓜 𝓖 𝓡)))

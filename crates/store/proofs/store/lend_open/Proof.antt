@@ -50,16 +50,16 @@ use Rattle.store.proofs.LendLaws.{opened-rows, opened-words}
 use Rattle.settings.specs.declared.settings.Settings.{Settings}
 use Rattle.settings.proofs.settings.Settings as S
 use Rattle.settings.proofs.settings.Settings.Laws as S′
-use Rattle.opening.specs.declared.in_words.Opening.{Opening}
-use Rattle.opening.proofs.in_words.Opening as Rp
-use Rattle.opening.proofs.in_words.Opening.Laws as Rp′
+use Rattle.opening.specs.declared.open.Opening.{Opening}
+use Rattle.opening.proofs.open.Opening as Rp
+use Rattle.opening.proofs.open.Opening.Laws as Rp′
 use Rattle.store.specs.declared.store.OpenedRows.{OpenedRows}
 use Rattle.store.proofs.store.OpenedRows as Re
 use Rattle.store.proofs.store.OpenedRows.Laws as Re′
-use Rattle.opening.proofs.in_words.open as opens
-use Rattle.opening.proofs.in_words.open.Symbol as opens-def
-use Rattle.opening.proofs.in_words.open.Symbol.{name as #opens}
-use Rattle.opening.proofs.in_words.open.Met as opens-thm
+use Rattle.opening.proofs.open.open as opens
+use Rattle.opening.proofs.open.open.Symbol as opens-def
+use Rattle.opening.proofs.open.open.Symbol.{name as #opens}
+use Rattle.opening.proofs.open.open.Met as opens-thm
 use Rattle.store.proofs.store.owned_rows as owned-rows
 use Rattle.store.proofs.store.owned_rows.Symbol as owned-rows-def
 use Rattle.store.proofs.store.owned_rows.Symbol.{name as #owned-rows}
@@ -178,5 +178,5 @@ lend-open-spec 𝓤 H 𝓜 𝓖 𝓡 =
     entered 𝓤 H (tripleOf 𝓤 H (𝓖 .A) f.signature (f.spec 𝓤 H (𝓖 .A) (𝓜 .mem) (𝓡 .run)))
     (tables 𝓤 H 𝓜 𝓡 code.env .C) (tables 𝓤 H 𝓜 𝓡 code.env .Λ) #lend-open code.function (code.unfolded 𝓤 H 𝓜 𝓡)
     (lend-open-meets 𝓤 H (𝓖 .A) (givenOf 𝓤 H 𝓜 𝓖) (𝓜 .mem) (𝓡 .run) (tablesOf 𝓤 H 𝓜 (tables 𝓤 H 𝓜 𝓡 code.env))
-    (cited 𝓤 H (tripleOf 𝓤 H (𝓖 .A) opens.signature (opens.spec 𝓤 H (𝓖 .A) (𝓜 .mem) (𝓡 .run))) 𝓜 𝓡 code.env #opens opens-def.routine code.calls-opening·in-words·open (opens-thm.met 𝓤 H 𝓜 𝓖 𝓡))
+    (cited 𝓤 H (tripleOf 𝓤 H (𝓖 .A) opens.signature (opens.spec 𝓤 H (𝓖 .A) (𝓜 .mem) (𝓡 .run))) 𝓜 𝓡 code.env #opens opens-def.routine code.calls-opening·open·open (opens-thm.met 𝓤 H 𝓜 𝓖 𝓡))
     (cited 𝓤 H (tripleOf 𝓤 H (𝓖 .A) owned-rows.signature (owned-rows.spec 𝓤 H (𝓖 .A) (𝓜 .mem) (𝓡 .run))) 𝓜 𝓡 code.env #owned-rows owned-rows-def.routine code.calls-store·store·owned-rows (owned-rows-thm.met 𝓤 H 𝓜 𝓖 𝓡)))
