@@ -46,13 +46,14 @@ def chunk(direction, size, last):
     return [token(direction, size, last)]
 
 
-def chunked(kind, length, less):
-    """The need, the chunks' number, and the list: at most 256, else it does not fit and is empty. C is one more than given."""
-    limit = less + 1
-    count = tokens.descriptors_needed(BULK, length, limit)
-    sizes = tokens.chunks(length, limit) if count <= 256 else []
-    need = tokens.descriptors_needed(kind, length, limit)
-    return [need, count, int(count <= 256), len(sizes)] + sizes + [0] * (256 - len(sizes))
+def chunked(kind, length, limit, shown):
+    """The need, the chunks' number, and the lengths of those below the last number: 01's list, then 0."""
+    needed = [tokens.descriptors_needed(each, length, limit) for each in (kind, BULK)]
+    return needed + (tokens.chunks(length, limit) + [0] * shown)[:shown]
+
+
+def one_chunk(k, length, limit):
+    return [tokens.chunk_length(k, length, limit)]
 
 
 def port(raw):
@@ -129,10 +130,28 @@ def drawn(*bounds):
     return [tuple(low + draw.randrange(high - low) for low, high in bounds) for _ in range(48)]
 
 
+def beyond(length, limit):
+    """Up to a few after the last chunk."""
+    return tokens.descriptors_needed(BULK, length, limit) + 3
+
+
+def near(pairs):
+    """Chunks that start at the length's end or close to it."""
+    return [(k, k * limit + more, limit) for k, limit in pairs for more in (0, 1, limit - 1, limit)]
+
+
 WORD, PAIRS = (0, TOP), list(product(BACKGROUNDS, (0, 1, 7, 8, 9, 64, 127, 128, 255)))
 BUFFERS = product((0, 1, 0xFFF, 0x1000, 0x10000FFF, 0xFFFFF000, 0xFFFFFFFF, 2**64 - 1), (0, 1, 4096, 4097, 16384))
 CHUNKS = [(0, 1), (1, 1), (256, 1), (257, 1), (16384, 16384), (16385, 16384), (4194304, 16384), (4194305, 16384), (1000, 512)]
 CHUNKS += [(1024, 512), (1025, 512), (999, 1000), (1000, 1000), (1001, 1000), (256000, 1000), (256001, 1000)]
+
+# At 000's own limit: the edges, and lengths by chance. Then others by chance.
+CHUNKS += [(length, 20480) for length in (0, 1, 20480, 20481, 40960, 61441, 5242880, 5242881)]
+CHUNKS += [(length, 20480) for length, _ in drawn((0, 200000), WORD)] + drawn((0, 100000), (1000, 16385))
+
+# Single chunks: among them no limit, a k or a limit of more than 32 bits, and products of more than 64.
+EDGES = (2**32 - 1, 2**32, 2**63, 2**64 - 1)
+SINGLE = list(product((0, 1, 2, 256, *EDGES), (0, 1, 1000, 61441, *EDGES), (0, 1, 512, 20480, *EDGES)))
 
 TABLE = [
     (1, bits, [(v, c & d) for v, c, d in drawn(WORD, WORD, WORD)] + [(1 << k, 1 << j) for k, j in product((0, 31), (0, 31))]),
@@ -141,8 +160,11 @@ TABLE = [
     (4, read, [(2**bit,) for bit in range(32)] + [(0,), (TOP - 1,)]),
     (5, control, list(product((OUT, IN), (0, 1, 8, 18, 16384)))),
     (6, chunk, list(product((OUT, IN), (0, 1, 512, 16384), FLAGS))),
-    (7, chunked, [(BULK, length, limit - 1) for length, limit in CHUNKS] + [(kind, length, 511) for kind in range(4) for length in (0, 1, 512, 513, 16384)]),
+    (7, chunked, [(BULK, length, limit, beyond(length, limit)) for length, limit in CHUNKS]),
+    (7, chunked, [(kind, length, 512, beyond(length, 512)) for kind in range(4) for length in (0, 1, 512, 513, 16384)]),
     (8, port, [(others + both,) for others, both in product((0, 0xFFFFFFFA), (0, 1, 4, 5))]),
+    (9, one_chunk, SINGLE + near(drawn((1, 2**31), (1, 2**32)))),
+    (9, one_chunk, near(drawn((1, 2**16), (2**32, 2**47)) + drawn((2**32, 2**50), (1, 2**13)))),
     (10, descriptor, [(token(IN, n, 1), a, n, 0x00100040) for a, n in BUFFERS] + [(0, 0x10000FFF, n, TOP - 1) for n in (16385, 16386)]),
     (10, descriptor, drawn(WORD, (0, TOP - 16384), (1, 16385), WORD)),
     (11, setup, list(product((0x01000680, 2**48 - 1), (0, 18, 255, 256, 16384))) + drawn((0, 2**48), (0, 16385))),

@@ -42,6 +42,10 @@ mod formula {
         pid * 256 + bytes.min(32767) * 65536 + 3 * 1024 + 128 + interrupt as u32 * 32768 + toggle as u32 * (1 << 31)
     }
 
+    pub fn chunk_length(k: usize, length: usize, limit: usize) -> usize {
+        length.saturating_sub(k * limit).min(limit)
+    }
+
     pub fn slots(address: u64, length: u64) -> [u32; 5] {
         let page = |i: u64| match i {
             _ if length == 0 => 0,
@@ -135,7 +139,8 @@ fn splits() -> u64 {
     for length in 0..=4 * limit + 1 {
         let chunks = split_bulk_lengths(length, Direction::In);
         assert_eq!(chunks.len(), length.div_ceil(limit).max(1));
-        assert!(chunks.iter().enumerate().all(|(k, chunk)| *chunk == (length - k * limit).min(limit)));
+        assert!(chunks.iter().enumerate().all(|(k, chunk)| *chunk == formula::chunk_length(k, length, limit)));
+        assert!((chunks.len()..8).all(|k| formula::chunk_length(k, length, limit) == 0));
         count += 1;
     }
     count
@@ -289,6 +294,7 @@ fn said(function: u64, given: [u64; 4]) -> Option<Vec<u32>> {
     match function {
         1 | 17 | 19 => None,
         7 => chunked(given),
+        9 => one_chunk(given),
         10 => descriptor(given),
         2..=8 => Some(token_words(function, given)),
         11..=15 => Some(head_words(function, given)),
@@ -326,18 +332,31 @@ fn stages(direction: Direction, length: usize) -> Vec<u32> {
     [Some(made.setup), made.data, Some(made.status)].into_iter().flatten().map(QtdToken::raw).collect()
 }
 
-/// The need, the chunks' number, that they fit, and the list of 256 places. 000 splits by its own limit (N9), so it is asked
-/// where one chunk will do; it has no isochronous request.
-fn chunked([kind, length, less, _]: [u64; 4]) -> Option<Vec<u32>> {
-    if length > less + 1 || KINDS[kind as usize] == EndpointType::Isochronous {
+/// 000's list. It splits by its own limit (N9), so it is asked at that one, and at another where one chunk will do.
+fn list(length: u64, limit: u64) -> Option<Vec<u32>> {
+    let own = QTD_MAX_TOTAL_BYTES as u64;
+    let whole = length <= limit.min(own);
+    let asked = whole || (limit == own && length <= 1 << 32);
+    asked.then(|| split_bulk_lengths(length as usize, Direction::Out).into_iter().map(|chunk| chunk as u32).collect())
+}
+
+/// The need, the chunks' number, and the list, as far as it is shown: 0 after its last. 000 has no isochronous request.
+fn chunked([kind, length, limit, shown]: [u64; 4]) -> Option<Vec<u32>> {
+    if KINDS[kind as usize] == EndpointType::Isochronous {
         return None;
     }
-    let chunks = split_bulk_lengths(length as usize, Direction::Out);
+    let mut chunks = list(length, limit)?;
     let need = if kind == 0 { stages(Direction::Out, length as usize).len() } else { chunks.len() };
-    let mut words = vec![need as u32, chunks.len() as u32, 1, chunks.len() as u32];
-    words.extend(chunks.iter().map(|chunk| *chunk as u32));
-    words.resize(4 + 256, 0);
+    let mut words = vec![need as u32, chunks.len() as u32];
+    chunks.resize(shown as usize, 0);
+    words.extend(chunks);
     Some(words)
+}
+
+/// One of the list, by its place; 0 after its last.
+fn one_chunk([k, length, limit, _]: [u64; 4]) -> Option<Vec<u32>> {
+    let chunks = list(length, limit)?;
+    Some(vec![usize::try_from(k).ok().and_then(|k| chunks.get(k).copied()).unwrap_or(0)])
 }
 
 /// An empty one has no next. For a buffer that leaves 32 bits the port has none, and 000 does not ask (N11).
@@ -427,7 +446,7 @@ mod tests {
                 assert!(!hold(record, &wrong));
             }
         }
-        assert_eq!(found.into_iter().collect::<Vec<_>>(), [2, 3, 4, 5, 6, 7, 8, 10, 11, 12, 13, 14, 15, 16, 18]);
+        assert_eq!(found.into_iter().collect::<Vec<_>>(), [2, 3, 4, 5, 6, 7, 8, 9, 10, 11, 12, 13, 14, 15, 16, 18]);
         assert!(!hold(&records[RECORD..], &text));
         assert!(!hold(&[], ""));
     }

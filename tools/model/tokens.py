@@ -40,6 +40,11 @@ def chunks(length, limit):
     return [min(limit, length - at) for at in range(0, length, limit)] or [0]
 
 
+def chunk_length(k, length, limit):
+    """02, order 3: chunk k's length, k from 0, by arithmetic alone."""
+    return max(0, min(limit, length - k * limit))
+
+
 def control_plan(direction, setup_at, address, length):
     """Setup, data if there is any, status: Out after In data, otherwise In."""
     setup = Part(token(SETUP, 8), setup_at, 8)

@@ -2,9 +2,9 @@
 ghost use mathlib.Core.Path.{_≡_};
 ghost use Rattle.bench_port.specs.Numbers.{registerNumber, givenNumber, valueOf, givenWait, otherOf, offsetsOf, valuesOf, packOf};
 use common::reads::NextRead;
-use ehci::reply::Reply;
 use ehci::reply::Answered;
 use ehci::reply::Given;
+use ehci::reply::Reply;
 use ehci::reply::event_number;
 use register::writes::Write;
 use register::writes::Writes;

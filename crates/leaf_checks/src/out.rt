@@ -14,10 +14,6 @@ fn byte(value: u8) {
     put(value as u64);
 }
 
-fn short(value: u16) {
-    put(value as u64);
-}
-
 pub fn flag(set: bool) {
     put(if set { 1 } else { 0 });
 }
@@ -31,12 +27,6 @@ pub fn words(values: &[u32]) {
 pub fn bytes(values: &[u8]) {
     for k in 0..values.len() {
         byte(values[k]);
-    }
-}
-
-pub fn shorts(values: &[u16]) {
-    for k in 0..values.len() {
-        short(values[k]);
     }
 }
 

@@ -1,10 +1,8 @@
 // Register bits, tokens, plans and chunks, and the port's status.
-ghost use Prim.Native.Nat.{_≤_};
 use crate::out::flag;
 use crate::out::low_byte;
 use crate::out::low_word;
 use crate::out::put;
-use crate::out::shorts;
 use crate::out::word;
 use common::kinds::Direction;
 use common::kinds::EndpointType;
@@ -78,23 +76,20 @@ fn control(direction: Direction, length: u64) {
     word(plan.status.raw());
 }
 
-// Every place of the list, also those after its last chunk.
-fn list(length: u64, limit: u64)
-    requires { ⌜ (1 ≤ limit) × (limit ≤ 16384) ⌝ }
-{
-    let run = chunks::split_bulk_lengths(length, limit);
-    let lengths = run.lengths;
-    flag(run.fits);
-    put(run.count);
-    shorts(&lengths);
+fn lengths(length: u64, limit: u64, shown: u64) {
+    for k in 0..shown {
+        put(chunks::chunk_length(k, length, limit));
+    }
 }
 
-// Each limit passes: the remainder is for the proof.
-fn chunked(kind: EndpointType, length: u64, limit: u64) {
-    let whole = limit % 16384 + 1;
-    put(chunks::need(kind, length, whole));
-    put(chunks::chunk_count(length, whole));
-    list(length, whole);
+// A request at limit 0 has no number of chunks.
+fn chunked(kind: EndpointType, length: u64, limit: u64, shown: u64) {
+    if limit == 0 {
+        return;
+    }
+    put(chunks::need(kind, length, limit));
+    put(chunks::chunk_count(length, limit));
+    lengths(length, limit, shown);
 }
 
 fn port(raw: u32) {
@@ -112,7 +107,8 @@ pub fn token_line(function: u64, a: u64, b: u64, c: u64, d: u64) {
         4 => read(QtdToken(low_word(a))),
         5 => control(direction(a), b),
         6 => word(plan::chunk_token(direction(a), b, c == 1).raw()),
-        7 => chunked(kind(a), b, c),
-        _ => port(low_word(a)),
+        7 => chunked(kind(a), b, c, d),
+        8 => port(low_word(a)),
+        _ => put(chunks::chunk_length(a, b, c)),
     }
 }

@@ -8,7 +8,6 @@ use borrow.Author.Tests.{eqb-true, leb-true, not-false}
 use lib.Dec.{eqb}
 use lib.ListN.{drop, length, replicate}
 use native.Mathlib.Nat.{sub-zero, suc-sub-suc, zero-sub}
-use Rattle.token.specs.Chunks.{zeros}
 use Rattle.descriptor.specs.Descriptors.{terminated}
 use Rattle.descriptor.specs.Heads.{ringHead, wordsOf}
 use Rattle.descriptor.specs.declared.head.QueueHead.{QueueHead}
@@ -49,7 +48,7 @@ heads-below s g eg t =
     let later = both-second (areaGood (s .pool) 64 (poolSize s)) _ each in
     omega (arith, area-ends (s .heads) 128 (headsSize s) (both-first (areaGood (s .heads) 128 (headsSize s)) _ later))
 
-drop-zeros : (n m : ℕ) → drop n (zeros m) ≡ zeros (m - n)
+drop-zeros : (n m : ℕ) → drop {A = ℕ} n (replicate m 0) ≡ replicate (m - n) 0
 drop-zeros zero m = rw (sub-zero m)
 drop-zeros (suc n) zero = rw (zero-sub (suc n))
 drop-zeros (suc n) (suc m) = rw (suc-sub-suc m n) (drop-zeros n m)

@@ -9,7 +9,6 @@ use borrow.Author.Tests.{eq-eqb, eqb-true}
 use lib.Dec.{eqb}
 use lib.ListN.{getD-replicate, length, replicate, replicate-append-replicate}
 use Rattle.register.specs.Bits.{withoutBits}
-use Rattle.token.specs.Chunks.{zeros}
 use Rattle.descriptor.specs.Descriptors.{terminated}
 use Rattle.descriptor.specs.Heads.{ringHead}
 use Rattle.common.specs.declared.answer.Answer.the-variants.{Done, Refused}
@@ -113,7 +112,7 @@ module _ (s : Settings) (pool heads frames setups : ℕ) where
 -- the words of the heads: the ring head's link to itself, its characteristics and capabilities, its overlay terminated; then
 -- zeros
 pub heads-words : (s : Settings) → Good s
-    → openedHeads (s .heads) (headsLength s) ≡ (s .heads + 2) ∷ 0x00408000 ∷ 2 ^ 30 ∷ 0 ∷ 1 ∷ 1 ∷ zeros (headsLength s - 6)
+    → openedHeads (s .heads) (headsLength s) ≡ (s .heads + 2) ∷ 0x00408000 ∷ 2 ^ 30 ∷ 0 ∷ 1 ∷ 1 ∷ replicate (headsLength s - 6) 0
 unfolding openedHeads ringHead terminated
 heads-words s g =
     let link : s .heads - s .heads % 32 + 2 ≡ s .heads + 2 = omega (arith, g .heads-aligned) in

@@ -22,8 +22,8 @@ use descriptor::qtd::EHCI_LINK_TERMINATE;
 use descriptor::qtd::NextQtd;
 use descriptor::qtd::QueueTransferDescriptor;
 use descriptor::slots::page_slots;
+use token::chunks::near_length;
 use token::plan::chunk_token;
-use token::qtd::least;
 
 // `base` is the address of the pool's area.
 pub struct Laying {
@@ -93,7 +93,7 @@ fn chunk_record(l: Laying, k: u64, next: Cursor) -> QueueTransferDescriptor
     let to = next_at(l.base, next);
     let t = l.transfer;
     let start = k * t.limit;
-    let bytes = least(t.limit, t.length - start);
+    let bytes = near_length(k, t.length, t.limit);
     let direction = t.direction;
     let token = chunk_token(direction, bytes, at_end(next));
     QueueTransferDescriptor {

@@ -1,14 +1,13 @@
 // A request's k-th descriptor.
 ghost use mathlib.Core.Path.{_≡_};
-ghost use Prim.Native.Nat.{_-_, _*_, _≤_, _^_};
-ghost use Rattle.token.specs.Chunks.{chunkAt};
+ghost use Prim.Native.Nat.{_-_, _≤_, _^_};
 ghost use Rattle.pool.specs.Transfers.{requestedAt, stageAt};
 use common::kinds::Direction;
 use common::kinds::EndpointType;
 use descriptor::qtd::QueueTransferDescriptor;
+use token::chunks::near_length;
 use token::plan::DataTd;
 use token::plan::build_control_td_plan;
-use token::qtd::least;
 
 // `setup` is the address of the slot's setup packet.
 pub struct Transfer {
@@ -20,18 +19,6 @@ pub struct Transfer {
     pub setup: u64,
 }
 
-fn chunk_at(k: u64, length: u64, limit: u64) -> u64
-    requires { ⌜ k ≤ 256 ⌝ }
-    requires { ⌜ limit ≤ 16384 ⌝ }
-    ensures { λ r. ⌜ r ≡ chunkAt k length limit ⌝ }
-{
-    let start = k * limit;
-    if length < start {
-        return 0;
-    }
-    least(limit, length - start)
-}
-
 // The bytes of the buffer that descriptor k is for.
 pub fn requested(kind: EndpointType, length: u64, limit: u64, k: u64) -> u64
     requires { ⌜ k ≤ 256 ⌝ }
@@ -40,9 +27,9 @@ pub fn requested(kind: EndpointType, length: u64, limit: u64, k: u64) -> u64
 {
     match kind {
         EndpointType::Control => { if k == 1 { length } else { 0 } }
-        EndpointType::Isochronous => chunk_at(k, length, limit),
-        EndpointType::Bulk => chunk_at(k, length, limit),
-        EndpointType::Interrupt => chunk_at(k, length, limit),
+        EndpointType::Isochronous => near_length(k, length, limit),
+        EndpointType::Bulk => near_length(k, length, limit),
+        EndpointType::Interrupt => near_length(k, length, limit),
     }
 }
 

@@ -1,19 +1,18 @@
 -- The chunks of a request: how many they are, that each but the last is the limit, and that they add up to the length.
 use Prim.Native.Nat.{ℕ, zero, suc, _+_, _-_, _*_, _/_, _^_, _≤_, _<_, min}
-use mathlib.Core.Path.{_≡_, refl, sym, ap, ap₂, _∙_}
-use mathlib.Core.Bool.{true, false}
-use mathlib.Core.List.{List, [], _∷_, _++_, append-assoc, append-nil}
-use native.Mathlib.Decide.{ℕ-discrete as decEq}
-use native.Mathlib.Nat.{add-mul-div-right, add-suc, add-zero, div-add-mod', mod-lt, mul-le-mul-right, sub-zero, suc-add, suc-mul, suc-sub-suc, zero-add}
+use mathlib.Core.Path.{_≡_, sym, ap, _∙_}
+use mathlib.Core.Bool.{Bool, true, false}
+use native.Mathlib.Decide.{ℕ-discrete as decEq, decLt}
+use native.Mathlib.Nat.{add-mul-div-right, div-add-mod', div-lt-iff-lt-mul, le-div-iff-mul-le, le-of-lt, mod-lt, mul-le-mul-right, suc-mul}
 use native.Mathlib.Numerals.{add-one}
 use native.Mathlib.Omega.{arith}
-use borrow.Author.Tests.{eq-eqb, le-leb, lt-leb, ne-eqb}
-use lib.ListN.{drop, length, length-set, set, take}
-use lib.Seq.{length-take-le, take-all, take-suc-set}
-use Rattle.token.specs.declared.chunks.ChunkLengths.{ChunkLengths}
+use borrow.Author.Tests.{eq-eqb, le-ltb, lt-ltb, ltb-false, ltb-true, ne-eqb}
+use lib.Dec.{ltb}
+use mir.Syntax.{w64}
+use mir.Val.{Fits}
 use Rattle.common.specs.declared.kinds.EndpointType.{EndpointType}
 use Rattle.common.specs.declared.kinds.EndpointType.the-variants.{Control, Isochronous, Bulk, Interrupt}
-use Rattle.token.specs.Chunks.{chunkAt, chunkCount, chunkLengths, chunksFrom, needOf, sumOf, zeros}
+use Rattle.token.specs.Chunks.{bytesBelow, chunkAt, chunkCount, needOf}
 
 pub count-empty : (L C : ℕ) → L ≡ 0 → chunkCount L C ≡ 1
 unfolding chunkCount
@@ -78,35 +77,17 @@ chunk-le k L C = omega arith
 pub chunk-empty : (C : ℕ) → chunkAt 0 0 C ≡ 0
 chunk-empty C = omega arith
 
--- ---- the run
-
-pub from-length : (k n L C : ℕ) → length (chunksFrom k n L C) ≡ n
-unfolding chunksFrom
-from-length k zero L C = refl
-from-length k (suc n) L C = ap suc (from-length (suc k) n L C)
-
-pub from-append : (k n m L C : ℕ) → chunksFrom k n L C ++ chunksFrom (k + n) m L C ≡ chunksFrom k (n + m) L C
-unfolding chunksFrom
-from-append k zero m L C = rw (add-zero, zero-add)
-from-append k (suc n) m L C = rw (suc-add, add-suc, ← suc-add k n) (ap (λ (l : List ℕ). chunkAt k L C ∷ l) (from-append (suc k) n m L C))
-
-pub from-past : (k n L C : ℕ) → L ≤ k * C → chunksFrom k n L C ≡ zeros n
-unfolding chunksFrom
-from-past k zero L C h = refl
-from-past k (suc n) L C h =
-    ap₂ (λ (x : ℕ) (l : List ℕ). x ∷ l) (omega arith) (from-past (suc k) n L C (omega (arith, suc-mul k C)))
-
--- n chunks from the k-th on add up to n limits, or to all that is left
-pub from-sum : (k n L C : ℕ) → sumOf (chunksFrom k n L C) ≡ min (n * C) (L - k * C)
-unfolding chunksFrom sumOf
-from-sum k zero L C = omega arith
-from-sum k (suc n) L C = omega (arith, from-sum (suc k) n L C, suc-mul k C, suc-mul n C)
+-- n chunks are n limits, or all that there is
+pub below-is : (n L C : ℕ) → bytesBelow n L C ≡ min (n * C) L
+unfolding bytesBelow
+below-is zero L C = omega arith
+below-is (suc n) L C = omega (arith, below-is n L C, suc-mul n C)
 
 -- the chunks of a request add up to its length
-pub chunks-sum : (L C : ℕ) → 1 ≤ C → sumOf (chunksFrom 0 (chunkCount L C) L C) ≡ L
-chunks-sum L C hC = omega (arith, from-sum 0 (chunkCount L C) L C, covers L C hC)
+pub chunks-sum : (L C : ℕ) → 1 ≤ C → bytesBelow (chunkCount L C) L C ≡ L
+chunks-sum L C hC = omega (arith, below-is (chunkCount L C) L C, covers L C hC)
 
--- ---- the functions' returns and turns
+-- ---- the functions' returns
 
 pub count-empty-case : (L C : ℕ) → L ≡ 0 → 1 ≡ chunkCount L C
 count-empty-case L C e = sym (count-empty L C e)
@@ -134,56 +115,27 @@ pub need-interrupt : (k : EndpointType) (L C n : ℕ) → k ≡ Interrupt → n 
 unfolding needOf
 need-interrupt k L C n e f = f ∙ rw e
 
-pub turn : (a : List ℕ) (k L C v : ℕ) → k < length a → v ≡ chunkAt k L C
-    → take (k + 1) (set a k v) ++ chunksFrom (k + 1) (length (set a k v) - (k + 1)) L C
-    ≡ take k a ++ chunksFrom k (length a - k) L C
-unfolding chunksFrom
-turn a k L C v h e =
-    rw (add-one, take-suc-set a k v, length-set a k v, e, more, append-assoc)
+pub halves-fit : (k C : ℕ) → k < 2 ^ 32 → C < 2 ^ 32 → Fits w64 (k * C)
+halves-fit k C h h′ = omega (arith, mul-le-mul-right C (le-of-lt h), h′)
+
+pub past-none : (k L C : ℕ) → C ≡ 0 → false ≡ ltb L (k * C)
+past-none k L C e = sym (le-ltb L (k * C) (rw e (omega arith)))
+
+pub past-divided : (k L C : ℕ) → (C ≡ 0 → ⊥) → ltb (L / C) k ≡ ltb L (k * C)
+past-divided k L C ne = by (decLt (L / C) k)
   where
-    more : length a - k ≡ suc (length a - suc k)
-    more = omega arith
+    hC : 1 ≤ C
+    hC = omega arith
 
-pub left-turn : (k L C left v : ℕ) → left ≡ L - k * C → v ≡ min left C → left - v ≡ L - (k + 1) * C
-left-turn k L C left v e f = omega (arith, add-one-mul k C)
+    by : Dec (L / C < k) → ltb (L / C) k ≡ ltb L (k * C)
+    by (yes h) = lt-ltb (L / C) k h ∙ sym (lt-ltb L (k * C) (div-lt-iff-lt-mul hC .0 h))
+    by (no h) =
+        let below : k ≤ L / C = omega arith in
+        le-ltb (L / C) k below ∙ sym (le-ltb L (k * C) (le-div-iff-mul-le hC .0 below))
 
-pub chunk-is : (k L C left v : ℕ) → left ≡ L - k * C → v ≡ min left C → v ≡ chunkAt k L C
-chunk-is k L C left v e f = omega arith
+module _ (k L C : ℕ) (b : Bool) (e : b ≡ ltb L (k * C)) where
+  pub past-empty : b ≡ true → 0 ≡ chunkAt k L C
+  past-empty t = omega (arith, ltb-true L (k * C) (sym e ∙ t))
 
-pub start : (a : List ℕ) (L C : ℕ) → take 0 a ++ chunksFrom 0 (length a - 0) L C ≡ chunksFrom 0 (length a) L C
-start a L C = ap (λ (n : ℕ). chunksFrom 0 n L C) (omega arith)
-
-pub done : (a out : List ℕ) (k L C : ℕ) → length a ≤ k → take k a ++ chunksFrom k (length a - k) L C ≡ out → a ≡ out
-unfolding chunksFrom
-done a out k L C h e = rw (take-all k a h, none, append-nil) at e
-  where
-    none : length a - k ≡ 0
-    none = omega arith
-
-pub filled : (n L C : ℕ) → 1 ≤ C → chunkCount L C ≤ n → chunksFrom 0 (chunkCount L C) L C ++ zeros (n - chunkCount L C) ≡ chunksFrom 0 n L C
-filled n L C hC h =
-    rw (← from-past (0 + chunkCount L C) (n - chunkCount L C) L C (rw zero-add (covers L C hC)))
-    (from-append 0 (chunkCount L C) (n - chunkCount L C) L C ∙ ap (λ (m : ℕ). chunksFrom 0 m L C) (omega arith))
-
-drop-zeros : (n m : ℕ) → n ≤ m → drop n (zeros m) ≡ zeros (m - n)
-drop-zeros zero m h = rw (sub-zero m)
-drop-zeros (suc n) zero h = absurd (omega arith)
-drop-zeros (suc n) (suc m) h = rw (suc-sub-suc m n) (drop-zeros n m (omega arith))
-
-pub part-length : (n : ℕ) (l : List ℕ) → l ≡ zeros 256 → n ≤ 256 → n ≡ length (take n l)
-part-length n l e h = rw (e, length-take-le n (zeros 256) h)
-
-module _ (L C n : ℕ) (l : List ℕ) (el : l ≡ zeros 256) (en : n ≡ chunkCount L C) where
-  pub split-refused : 256 < n → _≡_ {A = ChunkLengths} (record { fits = false; count = 0; lengths = l }) (chunkLengths L C)
-  unfolding chunkLengths
-  split-refused h = rw (el, ← en, lt-leb n 256 h)
-
-  pub split-fits : n ≤ 256 → 1 ≤ C → (f : List ℕ) → f ≡ chunksFrom 0 (length (take n l)) L C
-      → _≡_ {A = ChunkLengths} (record { fits = true; count = n; lengths = f ++ drop n l }) (chunkLengths L C)
-  unfolding chunkLengths
-  split-fits h hC f ef =
-      rw (ef, ← part-length n l el h, el, drop-zeros n 256 h, ← en, le-leb n 256 h)
-      (λ i. record { fits = true; count = en i; lengths = joined i })
-    where
-      joined : chunksFrom 0 n L C ++ zeros (256 - n) ≡ chunksFrom 0 256 L C
-      joined = rw en (filled 256 L C hC (rw en at h))
+  pub start-fits : L < 2 ^ 64 → b ≡ false → k * C < 2 ^ 64
+  start-fits h f = omega (arith, h, ltb-false L (k * C) (sym e ∙ f))

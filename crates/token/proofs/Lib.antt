@@ -3,3 +3,4 @@ pub mod TokenFields
 pub mod PlanCases
 pub mod PortCases
 pub mod ChunkLaws
+pub mod ChunkExamples

@@ -1,21 +1,13 @@
 // The chunks of a bulk or interrupt request, and the number of descriptors that a request needs.
 ghost use mathlib.Core.Path.{_≡_};
-ghost use Prim.Native.Nat.{_≤_};
-ghost use lib.ListN.{length as len};
-ghost use Rattle.token.specs.Chunks.{chunkCount, chunkLengths, chunksFrom, needOf, zeros};
+ghost use Prim.Native.Nat.{_*_, _≤_, _<_, _^_};
+ghost use lib.Dec.{ltb};
+ghost use Rattle.token.specs.Chunks.{chunkAt, chunkCount, needOf};
 use crate::qtd::least;
 use common::kinds::EndpointType;
 
-// The most chunks that a run holds: the largest pool.
-pub const CHUNKS_MAX: u64 = 256;
-
-// A run of chunk lengths. Where the request has more chunks than a run holds, it says so and is empty.
-#[repr(C)]
-pub struct ChunkLengths {
-    pub fits: bool,
-    pub count: u64,
-    pub lengths: [u16; 256],
-}
+// Two numbers below it have a product of 64 bits.
+const HALF: u64 = 1 << 32;
 
 pub fn chunk_count(length: u64, limit: u64) -> u64
     requires { ⌜ 1 ≤ limit ⌝ }
@@ -40,45 +32,37 @@ pub fn need(kind: EndpointType, length: u64, limit: u64) -> u64
     }
 }
 
-pub fn split_bulk_lengths(length: u64, limit: u64) -> ChunkLengths
-    requires { ⌜ (1 ≤ limit) × (limit ≤ 16384) ⌝ }
-    ensures { λ r. ⌜ r ≡ chunkLengths length limit ⌝ }
+// Chunk k's length, k from 0; 0 from the count on, and at limit 0.
+pub fn chunk_length(k: u64, length: u64, limit: u64) -> u64
+    ensures { λ r. ⌜ r ≡ chunkAt k length limit ⌝ }
 {
-    let mut lengths = no_lengths();
-    let count = chunk_count(length, limit);
-    if CHUNKS_MAX < count {
-        return ChunkLengths {
-            fits: false,
-            count: 0,
-            lengths,
-        };
+    if starts_past(k, length, limit) {
+        return 0;
     }
-    let end = count as usize;
-    fill_lengths(&mut lengths[..end], length, limit);
-    ChunkLengths {
-        fits: true,
-        count,
-        lengths,
-    }
+    near_length(k, length, limit)
 }
 
-fn no_lengths() -> [u16; 256]
-    ensures { λ r. ⌜ r ≡ zeros 256 ⌝ }
+// The same where k limits fit in 64 bits: what the loops over descriptors ask.
+pub fn near_length(k: u64, length: u64, limit: u64) -> u64
+    requires { ⌜ k * limit < 2 ^ 64 ⌝ }
+    ensures { λ r. ⌜ r ≡ chunkAt k length limit ⌝ }
 {
-    [0; 256]
+    let start = k * limit;
+    if start < length {
+        return least(limit, length - start);
+    }
+    0
 }
 
-// The first chunks of a request, as many as there are places.
-fn fill_lengths(lengths: &mut [u16], length: u64, limit: u64)
-    requires { ⌜ limit ≤ 16384 ⌝ }
-    ensures { λ _. ⌜ now (lengths .exit) ≡ chunksFrom 0 (len (now (lengths .entry))) length limit ⌝ }
+// Whether k chunks of the limit are more than the length. Only where the product may not fit is there a division.
+fn starts_past(k: u64, length: u64, limit: u64) -> bool
+    ensures { λ r. ⌜ r ≡ ltb length (k * limit) ⌝ }
 {
-    let mut left = length;
-    let mut k = 0;
-    while k < lengths.len() {
-        let chunk = least(left, limit);
-        lengths[k] = chunk as u16;
-        left -= chunk;
-        k += 1;
+    if k < HALF && limit < HALF {
+        return length < k * limit;
     }
+    if limit == 0 {
+        return false;
+    }
+    length / limit < k
 }

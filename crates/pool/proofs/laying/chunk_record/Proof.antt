@@ -10,11 +10,8 @@ next-at-requires c κs = search needs
 mul-start : tie.Need-mul-start
 mul-start c = search needs
 
-sub-least : tie.Need-sub-least
-sub-least c = search needs
-
-least-requires : tie.Need-least-requires
-least-requires c κs = search needs
+near-length-requires : tie.Need-near-length-requires
+near-length-requires c κs = search needs
 
 at-end-requires : tie.Need-at-end-requires
 at-end-requires c κs = search needs
@@ -40,8 +37,7 @@ chunk-record-spec =
     (tie.spec
     next-at-requires
     mul-start
-    sub-least
-    least-requires
+    near-length-requires
     at-end-requires
     chunk-token-requires
     word-requires

@@ -1,5 +1,5 @@
 -- `pool::transfer::requested` meets its contract.
-use Rattle.pool.proofs.TransferCases.{asked-data, asked-none, asked-isochronous, asked-bulk, asked-interrupt}
+use Rattle.pool.proofs.TransferCases.{asked-data, asked-none, asked-isochronous, asked-bulk, asked-interrupt, small-product}
 use borrow.Author.Needs.{needs}
 use Rattle.pool.proofs.transfer.requested.Statement.{statement}
 use Rattle.pool.proofs.transfer.requested.Tie as tie
@@ -10,20 +10,20 @@ enum-told c = search needs
 enum-told-2 : tie.Need-enum-told-2
 enum-told-2 c = search needs
 
-chunk-at-requires : tie.Need-chunk-at-requires
-chunk-at-requires c κs = search needs
+near-length-requires : tie.Need-near-length-requires
+near-length-requires c κs = search small-product
 
 enum-told-3 : tie.Need-enum-told-3
 enum-told-3 c = search needs
 
-chunk-at-requires-2 : tie.Need-chunk-at-requires-2
-chunk-at-requires-2 c κs = search needs
+near-length-requires-2 : tie.Need-near-length-requires-2
+near-length-requires-2 c κs = search small-product
 
 enum-told-4 : tie.Need-enum-told-4
 enum-told-4 c = search needs
 
-chunk-at-requires-3 : tie.Need-chunk-at-requires-3
-chunk-at-requires-3 c κs = search needs
+near-length-requires-3 : tie.Need-near-length-requires-3
+near-length-requires-3 c κs = search small-product
 
 returns : tie.Need-returns
 returns c = search asked-data
@@ -46,11 +46,11 @@ requested-spec =
     (tie.spec
     enum-told
     enum-told-2
-    chunk-at-requires
+    near-length-requires
     enum-told-3
-    chunk-at-requires-2
+    near-length-requires-2
     enum-told-4
-    chunk-at-requires-3
+    near-length-requires-3
     returns
     returns-2
     returns-3

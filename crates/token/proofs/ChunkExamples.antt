@@ -1,0 +1,28 @@
+-- Chunks worked out by hand: 1000 bytes at 512, no bytes, no limit, and products beyond 64 bits.
+use Prim.Native.Nat.{_+_, _-_, _^_}
+use mathlib.Core.Path.{_≡_, refl}
+use Rattle.token.specs.Chunks.{bytesBelow, chunkAt, chunkCount}
+
+thousand : (chunkAt 0 1000 512 ≡ 512) × (chunkAt 1 1000 512 ≡ 488) × (chunkAt 2 1000 512 ≡ 0) × (chunkAt 3 1000 512 ≡ 0)
+thousand = (refl, refl, refl, refl)
+
+thousand-in-all : (chunkCount 1000 512 ≡ 2) × (bytesBelow 2 1000 512 ≡ 1000)
+unfolding chunkCount bytesBelow
+thousand-in-all = (refl, refl)
+
+-- two full ones: the count is 2, not 3
+no-rest : (chunkAt 1 1024 512 ≡ 512) × (chunkAt 2 1024 512 ≡ 0) × (chunkCount 1024 512 ≡ 2)
+unfolding chunkCount
+no-rest = (refl, refl, refl)
+
+-- one chunk, of 0 bytes
+empty : (chunkCount 0 512 ≡ 1) × (chunkAt 0 0 512 ≡ 0) × (chunkAt 1 0 512 ≡ 0)
+unfolding chunkCount
+empty = (refl, refl, refl)
+
+no-limit : (chunkAt 0 1000 0 ≡ 0) × (chunkAt 7 1000 0 ≡ 0)
+no-limit = (refl, refl)
+
+-- 2^32 chunks of 2^32 are 2^64, which 64 bits have as 0
+wide : (chunkAt (2 ^ 32) 5 (2 ^ 32) ≡ 0) × (chunkAt 1 (2 ^ 32 + 5) (2 ^ 32) ≡ 5) × (chunkAt (2 ^ 64 - 1) (2 ^ 64 - 1) 1 ≡ 0)
+wide = (refl, refl, refl)
