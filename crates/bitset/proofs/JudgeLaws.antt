@@ -60,11 +60,6 @@ unfolding metIn
 met-snoc a [] w = refl
 met-snoc a (v ∷ ws) w = met-snoc (bitOr a v) ws w
 
-pub sum-snoc : (i : ℕ) (ws : List ℕ) (w : ℕ) → sumBit i (ws ++ (w ∷ [])) ≡ sumBit i ws + bit w i
-unfolding sumBit
-sum-snoc i [] w = omega arith
-sum-snoc i (v ∷ ws) w = omega (arith, sum-snoc i ws w)
-
 -- nothing is met twice with one word more exactly where nothing was and this word has none of those met
 pub twice-snoc : (a : ℕ) (ws : List ℕ) (w : ℕ) → twiceIn a ws ≡ 0 → bitAnd (metIn a ws) w ≡ 0 → twiceIn a (ws ++ (w ∷ [])) ≡ 0
 unfolding twiceIn metIn

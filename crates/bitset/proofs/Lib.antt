@@ -9,5 +9,4 @@ pub mod OrderLaws
 pub mod LowestLaws
 pub mod CursorLaws
 pub mod JudgeLaws
-pub mod OneLaws
 pub mod Examples

@@ -113,13 +113,3 @@ module _ (w : List ℕ) (n : ℕ) (f : Words w) where
   left-count = rw left-set (length-drop n (setPlaces w))
 
 -- ---- the words of what is taken and of what is left fit
-
-pub lowest-words : (w : List ℕ) (n : ℕ) → Words w → Words (lowestOf w n)
-unfolding lowestOf
-lowest-words w n f =
-    record {
-      first = take-fits (getD w 0 0) (n - countBefore w 0) (f .first);
-      second = take-fits (getD w 1 0) (n - countBefore w 1) (f .second);
-      third = take-fits (getD w 2 0) (n - countBefore w 2) (f .third);
-      fourth = take-fits (getD w 3 0) (n - countBefore w 3) (f .fourth);
-    }

@@ -5,8 +5,6 @@ use mathlib.Core.Bool.{Bool, true, false, _&&_}
 use mathlib.Core.List.{List, [], _∷_, _++_}
 use native.Mathlib.Omega.{arith}
 use borrow.Author.Tests.{eqb-true, eqb-false}
-use lib.Bits.{bitAnd}
-use lib.Count.{trailingZeros}
 use lib.Dec.{eqb}
 use lib.ListN.{getD, length, length-append}
 use Rattle.bitset.specs.Words.{consIf, placesOf, Each}
@@ -104,12 +102,6 @@ module _ (w : List ℕ) where
       (omega (arith, places-few 0 64 (getD w 0 0), places-few 64 64 (getD w 1 0), places-few 128 64 (getD w 2 0), places-few 192 64 (getD w 3 0)))
 
 -- ---- the lowest bit, and none at all
-
--- the lowest set bit is one of a word's own
-pub lowest-below : (k x : ℕ) → x < 2 ^ k → 1 ≤ x → trailingZeros k x < k
-lowest-below k x h l =
-    let w : Within k ((0 + trailingZeros k x) ∷ placesOf 0 k (bitAnd x (x - 1))) = rw (places-lowest 0 k x h l) at (places-within 0 k x k (omega arith)) in
-    omega (arith, w .0)
 
 no-place : (i x : ℕ) → x < 2 ^ 64 → eqb x 0 ≡ isNone (placesOf i 64 x)
 no-place i x h = go (eqb x 0) refl

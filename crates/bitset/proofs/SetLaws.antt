@@ -5,7 +5,7 @@ use mathlib.Core.Bool.{Bool, true, false}
 use mathlib.Core.List.{List}
 use native.Mathlib.Omega.{arith}
 use borrow.Author.Tests.{lt-ltb, le-ltb, ltb-true, ltb-false}
-use lib.Bits.{bitOr, or-lt}
+use lib.Bits.{bitOr}
 use lib.Dec.{ltb}
 use lib.ListN.{getD}
 use lib.Pow.{pow-mono, pow-pos}
@@ -43,10 +43,6 @@ all-bit n j i h hi =
 
 -- ---- the words fit
 
-clear-fits : (a b : ℕ) → a < 2 ^ 64 → clearedOf a b < 2 ^ 64
-unfolding clearedOf
-clear-fits a b h = omega arith
-
 ones-fit : (n : ℕ) → onesBelow n < 2 ^ 64
 unfolding onesBelow
 ones-fit n = omega (arith, pow-mono {i = min n 64} {j = 64} (few n), pow-pos (min n 64))
@@ -55,24 +51,3 @@ pub all-words : (n : ℕ) → Words (allBelow n)
 unfolding allBelow
 all-words n =
     record { first = ones-fit (n - 0); second = ones-fit (n - 64); third = ones-fit (n - 128); fourth = ones-fit (n - 192) }
-
-module _ (w x : List ℕ) (f : Words w) where
-  pub without-words : Words (withoutOf w x)
-  unfolding withoutOf
-  without-words =
-      record {
-        first = clear-fits (getD w 0 0) (getD x 0 0) (f .first);
-        second = clear-fits (getD w 1 0) (getD x 1 0) (f .second);
-        third = clear-fits (getD w 2 0) (getD x 2 0) (f .third);
-        fourth = clear-fits (getD w 3 0) (getD x 3 0) (f .fourth);
-      }
-
-  pub with-words : Words x → Words (withOf w x)
-  unfolding withOf
-  with-words g =
-      record {
-        first = or-lt 64 (getD w 0 0) (getD x 0 0) (f .first) (g .first);
-        second = or-lt 64 (getD w 1 0) (getD x 1 0) (f .second) (g .second);
-        third = or-lt 64 (getD w 2 0) (getD x 2 0) (f .third) (g .third);
-        fourth = or-lt 64 (getD w 3 0) (getD x 3 0) (f .fourth) (g .fourth);
-      }

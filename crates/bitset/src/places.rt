@@ -1,13 +1,13 @@
 // Sets of places: all below a place, one without another, both together, what a set has, its n lowest.
-use crate::word::cleared;
-use crate::word::number;
-use crate::word::ones_below;
-use crate::word::take_part;
 ghost use mathlib.Core.Path.{_≡_};
 ghost use Prim.Native.Nat.{_-_};
 ghost use lib.ListN.{length};
 ghost use Rattle.bitset.specs.Words.{onesBelow};
-ghost use Rattle.bitset.specs.Places.{Words, setPlaces, allBelow, onePlace, withoutOf, withOf, noneIn, hasPlace, lowestOf};
+ghost use Rattle.bitset.specs.Places.{Words, setPlaces, allBelow, withoutOf, withOf, hasPlace, lowestOf};
+use crate::word::cleared;
+use crate::word::number;
+use crate::word::ones_below;
+use crate::word::take_part;
 
 fn ones_from(n: u64, from: u64) -> u64
     ensures { λ r. ⌜ r ≡ onesBelow (n - from) ⌝ }
@@ -27,18 +27,6 @@ pub fn all_below(n: u64) -> [u64; 4]
     ]
 }
 
-// The set of one place; of none from 256 on.
-pub fn one_place(place: u64) -> [u64; 4]
-    ensures { λ r. ⌜ r ≡ onePlace place ⌝ }
-{
-    let mut w: [u64; 4] = [0; 4];
-    if 256 <= place {
-        return w;
-    }
-    w[(place / 64) as usize] = 1 << (place % 64);
-    w
-}
-
 // The places of w that x does not have.
 pub fn without(w: [u64; 4], x: [u64; 4]) -> [u64; 4]
     ensures { λ r. ⌜ r ≡ withoutOf w x ⌝ }
@@ -56,12 +44,6 @@ pub fn with(w: [u64; 4], x: [u64; 4]) -> [u64; 4]
     ensures { λ r. ⌜ r ≡ withOf w x ⌝ }
 {
     [w[0] | x[0], w[1] | x[1], w[2] | x[2], w[3] | x[3]]
-}
-
-pub fn none(w: [u64; 4]) -> bool
-    ensures { λ r. ⌜ r ≡ noneIn w ⌝ }
-{
-    (w[0] | w[1] | w[2] | w[3]) == 0
 }
 
 pub fn has(w: [u64; 4], place: u64) -> bool

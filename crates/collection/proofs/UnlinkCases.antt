@@ -1,7 +1,9 @@
 -- The returns of unlinking.
 use Prim.Native.Nat.{ℕ, _+_, _<_}
-use mathlib.Core.Path.{_≡_, sym, ap, _∙_}
-use mathlib.Core.Bool.{Bool}
+use mathlib.Core.Path.{_≡_, refl, sym, ap, _∙_}
+use mathlib.Core.Bool.{Bool, true, false}
+use Rattle.common.proofs.TestLaws.{false-true}
+use Rattle.common.specs.Kinds.{isInterrupt}
 use mathlib.Core.List.{List}
 use lib.Dec.{eqb}
 use Rattle.register.specs.Writes.{noWrites}
@@ -28,7 +30,7 @@ use Rattle.schedule.specs.declared.links.Predecessor.the-variants.{First, Head,
 use Rattle.collection.specs.Plain.{Cancellation}
 use Rattle.collection.specs.declared.unlink.Bounded.{Bounded}
 use Rattle.collection.specs.Answers.{refusedCancel}
-use Rattle.collection.specs.Unlinks.{askedOf, boundedOf, frameBelow, left, passedBoundary, unlinkOf, waitingOf}
+use Rattle.collection.specs.Unlinks.{isMissing, askedOf, boundedOf, frameBelow, left, passedBoundary, unlinkOf, waitingOf}
 
 -- ---- the boundary
 
@@ -62,27 +64,41 @@ waits s st rd k p r u eu es = rw (es, eu)
 
 -- ---- unlinking
 
-module _ (s : Ehci) (h f : List ℕ) (rd : Readings) (k : ℕ) (p : Pipe) (r : Request) (q : Predecessor) (h′ f′ : List ℕ)
-    (e : detached q h′ f′ ≡ detachOf s h f k) (c : Cancellation) where
-  pub unlink-first : q ≡ First → c ≡ waitingOf s rd k p r → left c h′ f′ ≡ unlinkOf s h f rd k p r
-  unfolding unlinkOf
-  unlink-first eq ec = rw (ec, ← e, eq)
+module _ (s : Ehci) (h f : List ℕ) (k : ℕ) (q : Predecessor) (h′ f′ : List ℕ) (e : detached q h′ f′ ≡ detachOf s h f k) where
+  pub lost-first : q ≡ First → false ≡ isMissing (detachOf s h f k .predecessor)
+  lost-first eq = ap isMissing (sym eq ∙ ap (λ (d : Detached). d .predecessor) e)
 
-  pub unlink-head : (j : ℕ) → q ≡ Head j → c ≡ waitingOf s rd k p r → left c h′ f′ ≡ unlinkOf s h f rd k p r
+  pub lost-head : (j : ℕ) → q ≡ Head j → false ≡ isMissing (detachOf s h f k .predecessor)
+  lost-head j eq = ap isMissing (sym eq ∙ ap (λ (d : Detached). d .predecessor) e)
+
+  pub lost-missing : q ≡ Missing → true ≡ isMissing (detachOf s h f k .predecessor)
+  lost-missing eq = ap isMissing (sym eq ∙ ap (λ (d : Detached). d .predecessor) e)
+
+  pub lost-rows : links h′ f′ ≡ detachOf s h f k .rows
+  lost-rows = ap (λ (d : Detached). d .rows) e
+
+module _ (s : Ehci) (h f : List ℕ) (rd : Readings) (k : ℕ) (p : Pipe) (r : Request) (m : Bool) (h′ f′ : List ℕ)
+    (em : m ≡ isMissing (detachOf s h f k .predecessor)) (er : links h′ f′ ≡ detachOf s h f k .rows) (c : Cancellation) where
+  pub unlink-waits : m ≡ false → c ≡ waitingOf s rd k p r → left c h′ f′ ≡ unlinkOf s h f rd k p r
   unfolding unlinkOf
-  unlink-head j eq ec = rw (ec, ← e, eq)
+  unlink-waits t ec = rw (ec, er, sym em ∙ t)
+
+  missing : (d : Predecessor) → isMissing d ≡ true → d ≡ Missing
+  missing First t = absurd (false-true t)
+  missing (Head j) t = absurd (false-true t)
+  missing Missing t = refl
 
   -- without a predecessor no word moves
-  kept : q ≡ Missing → links h′ f′ ≡ links h f
+  kept : m ≡ true → links h′ f′ ≡ links h f
   unfolding detachOf
-  kept eq = ap (λ (d : Detached). d .rows) e ∙ rw none
-    where
-      none : predecessorOf s h f k ≡ Missing
-      none = sym (ap (λ (d : Detached). d .predecessor) e) ∙ eq
+  kept t = er ∙ rw (missing (predecessorOf s h f k) (sym em ∙ t))
 
-  pub unlink-missing : q ≡ Missing → c ≡ refusedCancel s InvalidEndpoint → left c h′ f′ ≡ unlinkOf s h f rd k p r
+  pub unlink-missing : m ≡ true → c ≡ refusedCancel s InvalidEndpoint → left c h′ f′ ≡ unlinkOf s h f rd k p r
   unfolding unlinkOf
-  unlink-missing eq ec = rw (ec, kept eq, ← e, eq)
+  unlink-missing t ec = rw (ec, kept t, sym em ∙ t)
+
+pub framed-is : (kind : EndpointType) (f framed : Bool) → f ≡ isInterrupt kind → isInterrupt kind ≡ framed → f ≡ framed
+framed-is kind f framed e g = e ∙ g
 
 -- ---- passing
 

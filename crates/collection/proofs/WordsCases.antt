@@ -32,9 +32,7 @@ use Rattle.pipe.specs.declared.endpoints.Request.{Request}
 use Rattle.pipe.specs.declared.endpoints.UnlinkBoundary.{UnlinkBoundary}
 use Rattle.pipe.proofs.WordsLaws.{tidy-endpoint-put, view-endpoint-put}
 use Rattle.controller.specs.declared.lent.Readings.{Readings}
-use Rattle.schedule.specs.Links.{detached, detachOf, endedOverlay}
-use Rattle.schedule.specs.declared.links.Predecessor.{Predecessor}
-use Rattle.schedule.specs.declared.links.Predecessor.the-variants.{First, Head, Missing}
+use Rattle.schedule.specs.Links.{detachOf, endedOverlay, links}
 use Rattle.collection.specs.Plain.{Cancellation}
 use Rattle.collection.specs.declared.collected.Collected.{Collected}
 use Rattle.collection.specs.declared.collected.Collected.the-variants.{Pending, Refused}
@@ -44,10 +42,10 @@ use Rattle.collection.specs.declared.answers.Collection.{Collection as C
 use Rattle.collection.specs.declared.unlink.Bounded.{Bounded}
 use Rattle.collection.specs.Answers.{outcomeOf, pendingCollect, pendingOf, refusedCancel, refusedCollect}
 use Rattle.collection.specs.Calls.{ended, finishOf, freed, gathered, linkedOf, marked, markedOf, unlinkingOf}
-use Rattle.collection.specs.Unlinks.{boundedOf, left, passedBoundary, unlinkOf, waitingOf}
+use Rattle.collection.specs.Unlinks.{boundedOf, isMissing, left, passedBoundary, unlinkOf, waitingOf}
 use Rattle.collection.specs.Words.{OwnRequest, cancelledView, collectedView, pendingWords, refusedCancelWords, refusedCollectWords}
 use Rattle.collection.proofs.CallCases.{finishes, linked-unlinks, linked-waits, marks, unlinking-ends, unlinking-waits}
-use Rattle.collection.proofs.UnlinkCases.{unlink-first, unlink-head, unlink-missing, waits}
+use Rattle.collection.proofs.UnlinkCases.{unlink-missing, unlink-waits, waits}
 use Rattle.collection.proofs.WordsSlots.{finish-fits, mark-fits, own-fits, slot-low, slot-room, unlinking-within}
 
 -- ---- the answers
@@ -182,35 +180,36 @@ module _ (s : Settings) (r : Rest) (ws : List ℕ) (good : Good s r ws) (k : ℕ
 
 -- ---- `unlink`
 
-module _ (s : Settings) (r : Rest) (ws ws′ h f : List ℕ) (rd : Readings) (k : ℕ) (p : Pipe) (q : Request) (d : Predecessor) (h′ f′ : List ℕ)
-    (e : detached d h′ f′ ≡ detachOf (stateOf s r ws) h f k) (c : CancellationWords) where
-  pub unlinks-first : d ≡ First → cancelledView s c ws′ ≡ waitingOf (stateOf s r ws) rd k p q
-      → left (cancelledView s c ws′) h′ f′ ≡ unlinkOf (stateOf s r ws) h f rd k p q
-  unlinks-first ed ec = unlink-first (stateOf s r ws) h f rd k p q d h′ f′ e (cancelledView s c ws′) ed ec
-
-  pub unlinks-head : (j : ℕ) → d ≡ Head j → cancelledView s c ws′ ≡ waitingOf (stateOf s r ws) rd k p q
-      → left (cancelledView s c ws′) h′ f′ ≡ unlinkOf (stateOf s r ws) h f rd k p q
-  unlinks-head j ed ec = unlink-head (stateOf s r ws) h f rd k p q d h′ f′ e (cancelledView s c ws′) j ed ec
-
 module _ (s : Settings) (r : Rest) (ws h f : List ℕ) (rd : Readings) (k : ℕ) (p : Pipe) (q : Request) where
-  pub unlinks-none : (d : Predecessor) (h′ f′ : List ℕ) → detached d h′ f′ ≡ detachOf (stateOf s r ws) h f k → (c : CancellationWords)
-      → d ≡ Missing → c ≡ refusedCancelWords r InvalidEndpoint
-      → left (cancelledView s c ws) h′ f′ ≡ unlinkOf (stateOf s r ws) h f rd k p q
-  unlinks-none d h′ f′ e c ed ec =
-      unlink-missing (stateOf s r ws) h f rd k p q d h′ f′ e (cancelledView s c ws) ed (refused-cancel-view s r ws c InvalidEndpoint ec)
+  module _ (m : Bool) (h′ f′ : List ℕ) (em : m ≡ isMissing (detachOf (stateOf s r ws) h f k .predecessor)) (er : links h′ f′ ≡ detachOf (stateOf s r ws) h f k .rows) where
+    pub unlinks-waits : (ws′ : List ℕ) (c : CancellationWords) → m ≡ false → cancelledView s c ws′ ≡ waitingOf (stateOf s r ws) rd k p q
+        → left (cancelledView s c ws′) h′ f′ ≡ unlinkOf (stateOf s r ws) h f rd k p q
+    unlinks-waits ws′ c t ec = unlink-waits (stateOf s r ws) h f rd k p q m h′ f′ em er (cancelledView s c ws′) t ec
 
-  -- ---- `collect_linked`
+    pub unlinks-none : (c : CancellationWords) → m ≡ true → c ≡ refusedCancelWords r InvalidEndpoint
+        → left (cancelledView s c ws) h′ f′ ≡ unlinkOf (stateOf s r ws) h f rd k p q
+    unlinks-none c t ec =
+        unlink-missing (stateOf s r ws) h f rd k p q m h′ f′ em er (cancelledView s c ws) t (refused-cancel-view s r ws c InvalidEndpoint ec)
+
+    -- ---- `collect_linked`
+
+    pub linked-lost-words : (stage : ℕ) (c : CollectionWords) → (stage ≡ 2 → ⊥) → m ≡ true → c ≡ refusedCollectWords r InvalidEndpoint
+        → gathered (collectedView s c ws) h′ f′ ≡ linkedOf (stateOf s r ws) h f rd stage k p q
+    linked-lost-words stage c n t ec =
+        rw ec
+        (linked-unlinks (stateOf s r ws) h f rd stage k p q (cancelledView s (refusedCancelWords r InvalidEndpoint) ws) (Refused InvalidEndpoint) h′ f′
+        (unlinks-none (refusedCancelWords r InvalidEndpoint) t refl) refl n)
+
+    pub linked-unlinks-words : (stage : ℕ) (l : CancellationWords) (ws′ : List ℕ) (a : Collected) → (stage ≡ 2 → ⊥) → m ≡ false
+        → cancelledView s l ws′ ≡ waitingOf (stateOf s r ws) rd k p q → a ≡ pendingOf (l .answer)
+        → gathered (record { answer = a; state = stateOf s (l .rest) ws′; writes = l .writes }) h′ f′
+        ≡ linkedOf (stateOf s r ws) h f rd stage k p q
+    linked-unlinks-words stage l ws′ a n t ec ea =
+        linked-unlinks (stateOf s r ws) h f rd stage k p q (cancelledView s l ws′) a h′ f′ (unlinks-waits ws′ l t ec) ea n
 
   pub linked-waits-words : (stage : ℕ) (c : CollectionWords) → c ≡ pendingWords r → stage ≡ 2
       → gathered (collectedView s c ws) h f ≡ linkedOf (stateOf s r ws) h f rd stage k p q
   linked-waits-words stage c ec e = linked-waits (stateOf s r ws) h f rd stage k p q (collectedView s c ws) (pending-view s r ws c ec) e
-
-  pub linked-unlinks-words : (stage : ℕ) (l : CancellationWords) (ws′ : List ℕ) (a : Collected) (h′ f′ : List ℕ)
-      → left (cancelledView s l ws′) h′ f′ ≡ unlinkOf (stateOf s r ws) h f rd k p q → a ≡ pendingOf (l .answer) → (stage ≡ 2 → ⊥)
-      → gathered (record { answer = a; state = stateOf s (l .rest) ws′; writes = l .writes }) h′ f′
-      ≡ linkedOf (stateOf s r ws) h f rd stage k p q
-  linked-unlinks-words stage l ws′ a h′ f′ e ea n =
-      linked-unlinks (stateOf s r ws) h f rd stage k p q (cancelledView s l ws′) a h′ f′ e ea n
 
 -- ---- `collect_unlinking`
 

@@ -99,6 +99,9 @@ module _ (s : Settings) (r : Rest) (ws : List ℕ) (good : Good s r ws) (k : ℕ
       own-periodic f ef =
           ef ∙ kind-periodic (p .kind) ∙ ap (λ (n : ℕ). eqb n 3) (own-at .kind ∙ sym (view-kind s r ws k (slot-low (own-at .within))))
 
+      pub own-framed : isInterrupt (p .kind) ≡ periodic (stateOf s r ws) k
+      own-framed = own-periodic (isInterrupt (p .kind)) refl
+
       pub own-fits : p .next < 2 ^ 64 → (u : Bounded) (b : Bell) (rd : Readings) → u ≡ boundedOf b (p .kind) rd → b .unanswered < 32
           → SlotFits (encoded (Unlinking p q (u .boundary)))
       own-fits most u b rd eu h =

@@ -9,12 +9,15 @@ ghost use Rattle.words.specs.View.{view};
 ghost use Rattle.collection.specs.Calls.{ended, finishOf, gathered, linkedOf, unlinkingOf};
 ghost use Rattle.collection.specs.Words.{collectedView};
 use crate::answers::Collection;
+use crate::answers::refuse_collect;
 use crate::answers::still_pending;
 use crate::collected::outcome_of;
 use crate::collected::pending_of;
+use crate::unlink::is_lost;
 use crate::unlink::passed;
-use crate::unlink::unlink;
+use crate::unlink::waiting;
 use bitset::places::with;
+use common::answer::Refusal;
 use controller::lent::Readings;
 use pipe::endpoints::Endpoint;
 use pipe::endpoints::Pipe;
@@ -57,7 +60,8 @@ fn finish(
     }
 }
 
-// Boundary not set: unlinked where no active descriptor comes first.
+// Boundary not set: unlinked where no active descriptor comes first. It does what `unlink` does without a call of it, which
+// would copy the core once more.
 pub fn collect_linked(
     core: Core,
     slots: &mut [u64],
@@ -79,7 +83,11 @@ pub fn collect_linked(
     if stage == STANDS_ACTIVE {
         return still_pending(core.rest);
     }
-    let left = unlink(core, slots, heads, frames, readings, k, p, r);
+    let kind = p.kind;
+    if is_lost(core, slots, heads, frames, k, kind) {
+        return refuse_collect(core.rest, Refusal::InvalidEndpoint);
+    }
+    let left = waiting(core, slots, readings, k, p, r);
     let answer = left.answer;
     let rest = left.rest;
     let writes = left.writes;

@@ -4,10 +4,12 @@ ghost use Prim.Native.Nat.{_+_, _*_, _<_};
 ghost use lib.ListN.{length};
 ghost use Rattle.pipe.specs.Endpoints.{endpointAt};
 ghost use Rattle.pipe.specs.declared.endpoints.Endpoint.the-variants.{Unlinking};
+ghost use Rattle.common.specs.Kinds.{isInterrupt};
+ghost use Rattle.schedule.specs.Links.{detachOf, links, periodic};
 ghost use Rattle.words.specs.Good.{Good, Tidy};
 ghost use Rattle.words.specs.View.{view};
 ghost use Rattle.collection.specs.Calls.{markedOf, marked};
-ghost use Rattle.collection.specs.Unlinks.{left, unlinkOf, waitingOf, askedOf, boundedOf, frameBelow, passedBoundary};
+ghost use Rattle.collection.specs.Unlinks.{isMissing, left, unlinkOf, waitingOf, askedOf, boundedOf, frameBelow, passedBoundary};
 ghost use Rattle.collection.specs.Words.{OwnRequest, cancelledView};
 ghost use Rattle.pipe.specs.declared.endpoints.UnlinkBoundary.the-variants.{Async};
 use crate::answers::Cancellation;
@@ -100,7 +102,7 @@ pub fn passed(boundary: UnlinkBoundary, frame: u32) -> bool
 }
 
 // The slot's request waits for its boundary. `r` is the slot's own request, marked or not.
-fn waiting(
+pub fn waiting(
     core: Core,
     slots: &mut [u64],
     readings: Readings,
@@ -135,7 +137,31 @@ fn waiting(
     }
 }
 
-// Refused where no linked head leads to this one.
+// Gives the link of a slot's head to its predecessor. Lost is a head that no linked one leads to: then no word moves.
+pub fn is_lost(
+    core: Core,
+    slots: &[u64],
+    heads: &mut [u32],
+    frames: &mut [u32],
+    k: u8,
+    kind: EndpointType,
+) -> bool
+    requires { ⌜ Good (core .settings) (core .rest) (now slots) ⌝ }
+    requires { ⌜ (k < core .settings .endpoints) × (length (now heads) ≡ 17 * (core .settings .endpoints + 1)) × (0 < length (now frames)) ⌝ }
+    requires { ⌜ isInterrupt kind ≡ periodic (view core (now slots)) k ⌝ }
+    ensures { λ r. ⌜ r ≡ isMissing (detachOf (view core (now (slots .entry))) (now (heads .entry)) (now (frames .entry)) k .predecessor) ⌝ }
+    ensures { λ r. ⌜ links (now (heads .exit)) (now (frames .exit))
+        ≡ detachOf (view core (now (slots .entry))) (now (heads .entry)) (now (frames .entry)) k .rows ⌝ }
+{
+    let address = head_address(core, k);
+    match detach(core, slots, heads, frames, k, is_interrupt(kind), address) {
+        Predecessor::First => false,
+        Predecessor::Head(_) => false,
+        Predecessor::Missing => true,
+    }
+}
+
+// Refused where the head is lost.
 pub fn unlink(
     core: Core,
     slots: &mut [u64],
@@ -155,12 +181,10 @@ pub fn unlink(
     ensures { λ c. ⌜ Tidy (core .settings) (c .rest) (now (slots .exit)) ⌝ }
 {
     let kind = p.kind;
-    let address = head_address(core, k);
-    match detach(core, slots, heads, frames, k, is_interrupt(kind), address) {
-        Predecessor::First => waiting(core, slots, readings, k, p, r),
-        Predecessor::Head(_) => waiting(core, slots, readings, k, p, r),
-        Predecessor::Missing => refuse_cancel(core.rest, Refusal::InvalidEndpoint),
+    if is_lost(core, slots, heads, frames, k, kind) {
+        return refuse_cancel(core.rest, Refusal::InvalidEndpoint);
     }
+    waiting(core, slots, readings, k, p, r)
 }
 
 // A request that is unlinking already is only marked.

@@ -1,6 +1,7 @@
 -- What is written over words is what its chain leaves, and what is asked over words is what the records of its list say.
 use Prim.Native.Nat.{ℕ}
 use mathlib.Core.Path.{_≡_, refl, sym, ap, subst, _∙_}
+use mathlib.Core.Bool.{Bool, true, false, cond}
 use mathlib.Core.List.{List, [], _∷_}
 use Rattle.bitset.specs.Places.{setPlaces}
 use Rattle.descriptor.specs.declared.qtd.QueueTransferDescriptor.{QueueTransferDescriptor as Record}
@@ -25,28 +26,26 @@ use Rattle.ehci.specs.WordsDecides.{Writable, chainElse, chainIn, laidOn
 
 -- ---- the chain of what is written
 
-pub writing-fills : (s : Settings) (w : Writing) (rs : List Record) → wherePlaces (setPlaces (w .laying .places)) (setPlaces (w .marking .places) ≡ [])
+pub writing-fills : (s : Settings) (w : Writing) (rs : List Record) → wherePlaces (setPlaces (w .laying .places)) (w .marking .marks ≡ false)
     → fillOf (chainIn s w) rs ≡ writtenWith w rs
-writing-fills s w rs = by (setPlaces (w .laying .places)) refl (setPlaces (w .marking .places)) refl
+writing-fills s w rs = by (setPlaces (w .laying .places)) refl (w .marking .marks) refl
   where
-    by : (ps : List ℕ) → setPlaces (w .laying .places) ≡ ps → (qs : List ℕ) → setPlaces (w .marking .places) ≡ qs → wherePlaces ps (qs ≡ [])
-        → fillOf (chainElse ps (chainAt ps (w .laying .base) (Deeds.Transfer (w .laying .transfer))) (chainAt qs (s .pool) (Deeds.Token (w .marking .token)))) rs ≡ writtenWith w rs
-    by [] el [] em one = fill-no-chain rs ∙ sym (no-places-written w rs el em)
-    by [] el (q ∷ qs) em one = sym (marked-is-packed w (q ∷ qs) (s .pool) rs el em)
-    by (p ∷ ps) el qs em one = sym (laid-is-packed w (p ∷ ps) (w .laying .base) rs (em ∙ one) el refl)
+    by : (ps : List ℕ) → setPlaces (w .laying .places) ≡ ps → (y : Bool) → w .marking .marks ≡ y → wherePlaces ps (y ≡ false)
+        → fillOf (chainElse ps (chainAt ps (w .laying .base) (Deeds.Transfer (w .laying .transfer))) (cond y (record { places = packed (w .marking .place ∷ []); base = s .pool; deed = Deeds.Token (w .marking .token) }) noChain)) rs ≡ writtenWith w rs
+    by [] el false em one = fill-no-chain rs ∙ sym (no-places-written w rs el em)
+    by [] el true em one = sym (marked-is-packed w (s .pool) rs el em)
+    by (p ∷ ps) el y em one = sym (laid-is-packed w (p ∷ ps) rs (em ∙ one) el)
 
 pub no-writing-chain : (s : Settings) → chainIn s noWriting ≡ noChain
 unfolding noWriting noLaying noMarking
-no-writing-chain s =
-    ap (λ (ps : List ℕ). chainElse ps (chainAt ps 0 (Deeds.Transfer noTransfer)) (chainAt ps (s .pool) (Deeds.Token 0))) no-places
+no-writing-chain s = ap (λ (ps : List ℕ). chainElse ps (chainAt ps 0 (Deeds.Transfer noTransfer)) noChain) no-places
 
 pub laid-chain : (s : Settings) (l : Laying) → chainIn s (laidOnly l) ≡ layingChain l
 unfolding laidOnly noMarking
 laid-chain s l = by (setPlaces (l .places))
   where
-    by : (ps : List ℕ) → chainElse ps (chainAt ps (l .base) (Deeds.Transfer (l .transfer))) (chainAt (setPlaces noWords) (s .pool) (Deeds.Token 0))
-        ≡ chainAt ps (l .base) (Deeds.Transfer (l .transfer))
-    by [] = ap (λ (qs : List ℕ). chainAt qs (s .pool) (Deeds.Token 0)) no-places
+    by : (ps : List ℕ) → chainElse ps (chainAt ps (l .base) (Deeds.Transfer (l .transfer))) noChain ≡ chainAt ps (l .base) (Deeds.Transfer (l .transfer))
+    by [] = refl
     by (p ∷ ps) = refl
 
 pub marked-chain : (s : Settings) (m : Marking) → chainIn s (markedOnly m) ≡ markingChain (s .pool) m
@@ -62,18 +61,18 @@ where-known (q ∷ qs) P p = p
 
 pub no-writable : (n : ℕ) → Writable n noWriting
 unfolding noWriting noLaying noMarking
-no-writable n = record { good = no-writing-good n; one = where-known (setPlaces noWords) _ no-places }
+no-writable n = record { good = no-writing-good n; one = where-known (setPlaces noWords) _ refl }
 
 pub laid-writable : (n : ℕ) (l : Laying) → LayingGood n l → Writable n (laidOnly l)
 unfolding laidOnly noMarking
-laid-writable n l g = record { good = record { laying = g; marking = no-marking-good n }; one = where-known (setPlaces (l .places)) _ no-places }
+laid-writable n l g = record { good = record { laying = g; marking = no-marking-good n }; one = where-known (setPlaces (l .places)) _ refl }
 
 pub marked-writable : (n : ℕ) (m : Marking) → MarkingGood n m → Writable n (markedOnly m)
 unfolding markedOnly noLaying
 marked-writable n m g =
     record {
       good = record { laying = no-laying-good n; marking = g };
-      one = subst (λ (ps : List ℕ). wherePlaces ps (setPlaces (m .places) ≡ [])) (sym no-places) tt;
+      one = subst (λ (ps : List ℕ). wherePlaces ps (m .marks ≡ false)) (sym no-places) tt;
     }
 
 -- ---- what is asked

@@ -51,7 +51,7 @@ decidedView s d ws = record { reply = replyView s (d .reply) ws; chain = chainIn
 -- what is written may be handed to the pool, and no token where a transfer is laid
 pub record Writable (n : ℕ) (w : Writing) : Type 0 where
   pub good : WritingGood n w
-  pub one : wherePlaces (setPlaces (w .laying .places)) (setPlaces (w .marking .places) ≡ [])
+  pub one : wherePlaces (setPlaces (w .laying .places)) (w .marking .marks ≡ false)
 
 unfoldable pub laidOnly : Laying → Writing
 laidOnly l = record { laying = l; marking = noMarking }

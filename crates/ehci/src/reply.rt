@@ -180,7 +180,7 @@ pub fn laid(laying: Laying) -> Writing
     }
 }
 
-// Tokens are written, and no transfer's records.
+// A token is written, and no transfer's records.
 pub fn marked(marking: Marking) -> Writing
     ensures { λ r. ⌜ r ≡ markedOnly marking ⌝ }
 {

@@ -6,10 +6,7 @@ use lib.Dec.{eqb}
 use lib.ListN.{length, replicate}
 use Rattle.descriptor.specs.declared.qtd.QueueTransferDescriptor.{QueueTransferDescriptor}
 use Rattle.descriptor.specs.Heads.{ringHead, wordsOf}
-use Rattle.pool.specs.Plain.{Chain}
-use Rattle.pool.specs.Plain.{Clear}
 use Rattle.pool.specs.Chains.{blank}
-use Rattle.pool.specs.Places.{packed, upFrom}
 use Rattle.common.specs.declared.answer.Answer.the-variants.{Done, Refused}
 use Rattle.common.specs.declared.answer.Refusal.{Refusal}
 use Rattle.common.specs.declared.answer.Refusal.the-variants.{InvalidParameter}
@@ -97,10 +94,6 @@ decideOpenOf s pool heads frames setups =
     (openedHeads (s .heads) (headsLength s))
     (replicate framesLength 1)
     (replicate (setupsLength s) 0))
-
--- every record of an opened pool is cleared; a refused opening has no descriptor, so none is
-unfoldable pub clearingOf : Opening → Chain
-clearingOf o = record { places = packed (upFrom 0 (o .state .settings .descriptors)); base = 0; deed = Clear }
 
 -- what opening leaves
 pub record Opened : Type 0 where

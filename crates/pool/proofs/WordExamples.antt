@@ -1,5 +1,6 @@
 -- The definitions run: a request in chunks at the places of a set, a token at one place, and what their tokens say.
 use mathlib.Core.Path.{_≡_, refl}
+use mathlib.Core.Bool.{true}
 use mathlib.Core.List.{List, [], _∷_}
 use lib.ListN.{getD, replicate}
 use Rattle.bitset.specs.Places.{setPlaces}
@@ -37,7 +38,7 @@ unfolding writtenWith noMarking setPlaces placesOf filledFrom recordAt bareAt ch
 laid = refl
 
 -- the token at place 65, and no other
-marked : getD (writtenWith (record { laying = noLaying; marking = record { places = 0 ∷ 2 ∷ 0 ∷ 0 ∷ []; token = 9 } }) (replicate 66 blank)) 65 blank ≡ record { next = 0; alternate = 0; token = 9; pages = zeroSlots; upper = zeroSlots }
+marked : getD (writtenWith (record { laying = noLaying; marking = record { marks = true; place = 65; token = 9 } }) (replicate 66 blank)) 65 blank ≡ record { next = 0; alternate = 0; token = 9; pages = zeroSlots; upper = zeroSlots }
 unfolding writtenWith noLaying setPlaces placesOf filledFrom
 marked = refl
 

@@ -1,21 +1,20 @@
 -- What a writing leaves: no place, nothing written; a transfer's or a token's places, what the chain of these places leaves. And what shows that it may be handed to the pool.
-use Prim.Native.Nat.{ℕ, suc, _-_}
+use Prim.Native.Nat.{ℕ}
 use mathlib.Core.Path.{_≡_, refl, sym, ap, subst, _∙_}
-use mathlib.Core.Bool.{Bool, true, false, not}
+use mathlib.Core.Bool.{Bool, true, false, cond, not}
 use mathlib.Core.List.{List, [], _∷_}
 use native.Mathlib.Omega.{arith}
 use lib.ListN.{getD, length, set}
 use Rattle.bitset.specs.Places.{Within, setPlaces}
 use Rattle.bitset.proofs.PlaceLaws.{places-zero}
 use Rattle.common.specs.Kinds.{isControl}
+use Rattle.common.proofs.TestLaws.{false-true}
 use Rattle.descriptor.specs.declared.qtd.QueueTransferDescriptor.{QueueTransferDescriptor as Record}
-use Rattle.pool.specs.Plain.{Chain}
-use Rattle.pool.specs.Plain.{Deed}
 use Rattle.pool.specs.Plain as Deeds
 use Rattle.pool.specs.declared.laying.Laying.{Laying}
 use Rattle.pool.specs.declared.transfer.Transfer.{Transfer}
 use Rattle.pool.specs.declared.writing.Writing.{Writing}
-use Rattle.pool.specs.Places.{listOf, packed}
+use Rattle.pool.specs.Places.{packed}
 use Rattle.pool.specs.Chains.{blank, fillOf, filledFrom, transferGood, withToken}
 use Rattle.pool.specs.Words.{AskWordsGood, ChunksGood, LayingGood, MarkingGood, StagesGood, WritingGood, chunksOf, laidOf, layingIf, markedOf, noAskWords, noLaying, noMarking, noWords, noWriting, stagesOf, wherePlaces, wordsIf, writtenWith}
 use Rattle.pool.proofs.PlaceLaws.{list-packed}
@@ -94,7 +93,7 @@ no-laying-good n =
 
 pub no-marking-good : (n : ℕ) → MarkingGood n noMarking
 unfolding noMarking
-no-marking-good n = record { within = no-place-within n }
+no-marking-good n = record { within = λ e. absurd (false-true e) }
 
 pub no-writing-good : (n : ℕ) → WritingGood n noWriting
 unfolding noWriting
@@ -106,50 +105,30 @@ no-ask-words-good n = record { within = no-place-within n; short = omega arith; 
 
 -- ---- what is written
 
+-- where nothing is marked, what is laid is all
+none-marked : (w : Writing) (rs : List Record) → w .marking .marks ≡ false → writtenWith w rs ≡ laidOf (w .laying) rs
+unfolding writtenWith
+none-marked w rs em = rw em
+
 -- no place, nothing written
-pub no-places-written : (w : Writing) (rs : List Record) → setPlaces (w .laying .places) ≡ [] → setPlaces (w .marking .places) ≡ [] → writtenWith w rs ≡ rs
-unfolding writtenWith filledFrom
+pub no-places-written : (w : Writing) (rs : List Record) → setPlaces (w .laying .places) ≡ [] → w .marking .marks ≡ false → writtenWith w rs ≡ rs
+unfolding filledFrom
 no-places-written w rs el em =
-    ap (λ (ps : List ℕ). filledFrom (Deeds.Token (w .marking .token)) 0 0 ps (laidOf (w .laying) rs)) em
-    ∙ ap (λ (ps : List ℕ). filledFrom (Deeds.Transfer (w .laying .transfer)) (w .laying .base) 0 ps rs) el
+    none-marked w rs em ∙ ap (λ (ps : List ℕ). filledFrom (Deeds.Transfer (w .laying .transfer)) (w .laying .base) 0 ps rs) el
 
 -- a transfer alone is what its chain leaves
-pub laid-is-chain : (w : Writing) (c : Chain) (rs : List Record) → setPlaces (w .marking .places) ≡ [] → listOf (c .places) ≡ setPlaces (w .laying .places) → c .base ≡ w .laying .base
-    → c .deed ≡ Deeds.Transfer (w .laying .transfer) → writtenWith w rs ≡ fillOf c rs
-unfolding writtenWith fillOf filledFrom
-laid-is-chain w c rs em ep eb ed =
-    ap (λ (ps : List ℕ). filledFrom (Deeds.Token (w .marking .token)) 0 0 ps (laidOf (w .laying) rs)) em
-    ∙ ap (λ (ps : List ℕ). filledFrom (Deeds.Transfer (w .laying .transfer)) (w .laying .base) 0 ps rs) (sym ep)
-    ∙ ap (λ (b : ℕ). filledFrom (Deeds.Transfer (w .laying .transfer)) b 0 (listOf (c .places)) rs) (sym eb)
-    ∙ ap (λ (d : Deed). filledFrom d (c .base) 0 (listOf (c .places)) rs) (sym ed)
+pub laid-is-packed : (w : Writing) (ps : List ℕ) (rs : List Record) → w .marking .marks ≡ false → setPlaces (w .laying .places) ≡ ps
+    → writtenWith w rs ≡ fillOf (record { places = packed ps; base = w .laying .base; deed = Deeds.Transfer (w .laying .transfer) }) rs
+unfolding fillOf
+laid-is-packed w ps rs em ep =
+    none-marked w rs em
+    ∙ ap (λ (qs : List ℕ). filledFrom (Deeds.Transfer (w .laying .transfer)) (w .laying .base) 0 qs rs) (ep ∙ sym (list-packed ps))
 
--- a token's records depend on neither the base nor the index
-token-same : (t b k b′ k′ : ℕ) (ps : List ℕ) (rs : List Record) → filledFrom (Deeds.Token t) b k ps rs ≡ filledFrom (Deeds.Token t) b′ k′ ps rs
-unfolding filledFrom
-token-same t b k b′ k′ [] rs = refl
-token-same t b k b′ k′ (p ∷ ps) rs = token-same t b (suc k) b′ (suc k′) ps (set rs p (withToken (getD rs p blank) t))
-
--- a token alone is what its chain leaves
-pub marked-is-chain : (w : Writing) (c : Chain) (rs : List Record) → setPlaces (w .laying .places) ≡ [] → listOf (c .places) ≡ setPlaces (w .marking .places)
-    → c .deed ≡ Deeds.Token (w .marking .token) → writtenWith w rs ≡ fillOf c rs
+-- a token alone is what the chain of its place leaves
+pub marked-is-packed : (w : Writing) (base : ℕ) (rs : List Record) → setPlaces (w .laying .places) ≡ [] → w .marking .marks ≡ true
+    → writtenWith w rs ≡ fillOf (record { places = packed (w .marking .place ∷ []); base = base; deed = Deeds.Token (w .marking .token) }) rs
 unfolding writtenWith fillOf filledFrom
-marked-is-chain w c rs el ep ed =
+marked-is-packed w base rs el em =
     ap (λ (ps : List ℕ). markedOf (w .marking) (filledFrom (Deeds.Transfer (w .laying .transfer)) (w .laying .base) 0 ps rs)) el
-    ∙ token-same (w .marking .token) 0 0 (c .base) 0 (setPlaces (w .marking .places)) rs
-    ∙ ap (λ (ps : List ℕ). filledFrom (Deeds.Token (w .marking .token)) (c .base) 0 ps rs) (sym ep)
-    ∙ ap (λ (d : Deed). filledFrom d (c .base) 0 (listOf (c .places)) rs) (sym ed)
-
--- the same of a chain whose places are packed
-pub laid-is-packed : (w : Writing) (ps : List ℕ) (base : ℕ) (rs : List Record) → setPlaces (w .marking .places) ≡ [] → setPlaces (w .laying .places) ≡ ps → base ≡ w .laying .base
-    → writtenWith w rs ≡ fillOf (record { places = packed ps; base = base; deed = Deeds.Transfer (w .laying .transfer) }) rs
-laid-is-packed w ps base rs em ep eb =
-    laid-is-chain w (record { places = packed ps; base = base; deed = Deeds.Transfer (w .laying .transfer) }) rs em (list-packed ps ∙ sym ep) eb refl
-
-pub marked-is-packed : (w : Writing) (ps : List ℕ) (base : ℕ) (rs : List Record) → setPlaces (w .laying .places) ≡ [] → setPlaces (w .marking .places) ≡ ps
-    → writtenWith w rs ≡ fillOf (record { places = packed ps; base = base; deed = Deeds.Token (w .marking .token) }) rs
-marked-is-packed w ps base rs el ep =
-    marked-is-chain w (record { places = packed ps; base = base; deed = Deeds.Token (w .marking .token) }) rs el (list-packed ps ∙ sym ep) refl
-
--- ---- the first records cleared
-
--- ---- what is seen
+    ∙ ap (λ (b : Bool). cond b (set rs (w .marking .place) (withToken (getD rs (w .marking .place) blank) (w .marking .token))) rs) em
+    ∙ ap (λ (ps : List ℕ). filledFrom (Deeds.Token (w .marking .token)) base 0 ps rs) (sym (list-packed (w .marking .place ∷ [])))

@@ -69,11 +69,6 @@ none-yet m = omega arith
 
 -- ---- a step of the cursor
 
-pub first-in : (c : Cursor) (p : ℕ) → isNone (restOf c) ≡ false → p ≡ placeAt c → (n : ℕ) → Within n (restOf c) → p < n
-first-in c p some ep n w =
-    let here : Within n (placeAt c ∷ tailOf (restOf c)) = subst (λ (l : List ℕ). Within n l) (rest-step c some) w in
-    subst (λ (q : ℕ). q < n) (sym ep) (here .0)
-
 module _ (c d : Cursor) (p : ℕ) (some : isNone (restOf c) ≡ false) (ep : p ≡ placeAt c) (ed : restOf d ≡ tailOf (restOf c)) where
   pub rest-is : restOf c ≡ p ∷ restOf d
   rest-is = rest-step c some ∙ ap (λ (q : ℕ). q ∷ tailOf (restOf c)) (sym ep) ∙ ap (λ (l : List ℕ). p ∷ l) (sym ed)

@@ -1,5 +1,5 @@
 -- What a request's descriptors say (`viewOf`), and what is written to the pool (`fillOf`).
-use Prim.Native.Nat.{ℕ, suc, _+_, _-_, _*_, _/_, _≤_, _<_, _^_}
+use Prim.Native.Nat.{ℕ, suc, _+_, _-_, _*_, _/_, _≤_, _^_}
 use mathlib.Core.Bool.{Bool, true, false, not}
 use mathlib.Core.List.{List, [], _∷_, map}
 use lib.Dec.{eqb}
@@ -16,7 +16,7 @@ use Rattle.pool.specs.Plain as Deeds
 use Rattle.pool.specs.declared.chain.View.{View}
 use Rattle.pool.specs.declared.transfer.Transfer.{Transfer}
 use Rattle.pool.specs.EhciChain.{follow}
-use Rattle.pool.specs.Places.{Within, listIf, listOf, packed}
+use Rattle.pool.specs.Places.{Within, listOf, packed}
 use Rattle.pool.specs.Transfers.{requestedAt, recordAt}
 
 -- the record of thirteen zero words
@@ -29,10 +29,6 @@ blank = record { next = 0; alternate = 0; token = 0; pages = zeroSlots; upper = 
 abbrev pub withToken : QueueTransferDescriptor → ℕ → QueueTransferDescriptor
 withToken here w =
     record { next = here .next; alternate = here .alternate; token = w; pages = here .pages; upper = here .upper }
-
--- the place to come, where this is not the last
-abbrev pub toCome : Bool → ℕ → List ℕ
-toCome last after = listIf last [] (after ∷ [])
 
 -- the k-th of a chain's records, with these places to come
 abbrev pub writtenOf : Deed → ℕ → ℕ → List ℕ → QueueTransferDescriptor → QueueTransferDescriptor
@@ -122,15 +118,6 @@ abbrev pub seeOf : View → ℕ → ℕ → View
 seeOf u requested token = joined u (viewOf (record { requested = requested; token = token } ∷ []))
 
 -- ---- what is asked of a caller
-
-pub record AskGood (n : ℕ) (a : Ask) : Type 0 where
-  pub few : a .places .count ≤ 256
-  pub within : Within n (listOf (a .places))
-  pub short : a .length < 2 ^ 32
-  pub limited : a .limit ≤ 16384
-
-abbrev pub askGood : ℕ → Ask → Type 0
-askGood n a = AskGood n a
 
 -- every chunk starts inside the buffer
 abbrev pub startsGood : EndpointType → Transfer → ℕ → Type 0

@@ -1,5 +1,5 @@
 -- Document 01, "Tokens and plans", "Descriptors, heads, links": a request's k-th descriptor.
-use Prim.Native.Nat.{ℕ, _+_, _*_, _≤_}
+use Prim.Native.Nat.{ℕ, _+_, _*_}
 use mathlib.Core.Bool.{Bool, true, false}
 use mathlib.Core.List.{List, [], _∷_}
 use lib.Dec.{eqb}
@@ -79,10 +79,3 @@ nextOf base (q ∷ qs) = At (addressOf base q)
 -- the k-th descriptor, with these places to come
 unfoldable pub recordAt : Transfer → ℕ → List ℕ → ℕ → QueueTransferDescriptor
 recordAt t k rest base = withNext (bareAt t k (isLast rest)) (nextOf base rest)
-
--- descriptor k starts inside the buffer
-abbrev pub startGood : EndpointType → Transfer → ℕ → Type 0
-startGood Control t k = Unit
-startGood Isochronous t k = k * t .limit ≤ t .length
-startGood Bulk t k = k * t .limit ≤ t .length
-startGood Interrupt t k = k * t .limit ≤ t .length

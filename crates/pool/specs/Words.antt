@@ -1,9 +1,9 @@
 -- What is asked of the pool and written to it, the places as the words of a set.
 use Prim.Native.Nat.{ℕ, _+_, _-_, _*_, _≤_, _<_, _^_}
 use mathlib.Core.Path.{_≡_}
-use mathlib.Core.Bool.{Bool, true, false, not}
+use mathlib.Core.Bool.{Bool, true, false, cond, not}
 use mathlib.Core.List.{List, [], _∷_, _++_}
-use lib.ListN.{getD, length, replicate}
+use lib.ListN.{getD, length, replicate, set}
 use Rattle.bitset.specs.Places.{Within, setPlaces}
 use Rattle.bitset.specs.Words.{placesOf}
 use Rattle.common.specs.declared.kinds.Direction.the-variants as Directions
@@ -19,7 +19,7 @@ use Rattle.pool.specs.declared.transfer.Transfer.{Transfer}
 use Rattle.pool.specs.declared.writing.Writing.{Writing}
 use Rattle.pool.specs.Places.{upFrom}
 use Rattle.pool.specs.Transfers.{addressOf, requestedAt}
-use Rattle.pool.specs.Chains.{filledFrom, joined, seeOf, seenFrom, transferGood, viewOf}
+use Rattle.pool.specs.Chains.{blank, filledFrom, joined, seeOf, seenFrom, transferGood, viewOf, withToken}
 
 -- no place
 abbrev pub noWords : List ℕ
@@ -80,11 +80,11 @@ nextGood base (q ∷ qs) = addressOf base q < 2 ^ 32
 abbrev pub laidOf : Laying → List QueueTransferDescriptor → List QueueTransferDescriptor
 laidOf l rs = filledFrom (Deeds.Transfer (l .transfer)) (l .base) 0 (setPlaces (l .places)) rs
 
--- the token alone at the places of a set
+-- the token alone at one place, where it marks
 abbrev pub markedOf : Marking → List QueueTransferDescriptor → List QueueTransferDescriptor
-markedOf m rs = filledFrom (Deeds.Token (m .token)) 0 0 (setPlaces (m .places)) rs
+markedOf m rs = cond (m .marks) (set rs (m .place) (withToken (getD rs (m .place) blank) (m .token))) rs
 
--- a transfer's records are laid, then tokens are marked
+-- a transfer's records are laid, then the token is marked
 unfoldable pub writtenWith : Writing → List QueueTransferDescriptor → List QueueTransferDescriptor
 writtenWith w rs = markedOf (w .marking) (laidOf (w .laying) rs)
 
@@ -108,7 +108,7 @@ pub record ChunksGood (n : ℕ) (l : Laying) : Type 0 where
   pub kind : wherePlaces (setPlaces (l .places)) (isControl (l .transfer .kind) ≡ false)
 
 pub record MarkingGood (n : ℕ) (m : Marking) : Type 0 where
-  pub within : Within n (setPlaces (m .places))
+  pub within : m .marks ≡ true → m .place < n
 
 pub record WritingGood (n : ℕ) (w : Writing) : Type 0 where
   pub laying : LayingGood n (w .laying)
@@ -139,7 +139,7 @@ unfoldable pub noLaying : Laying
 noLaying = record { places = noWords; base = 0; transfer = noTransfer }
 
 unfoldable pub noMarking : Marking
-noMarking = record { places = noWords; token = 0 }
+noMarking = record { marks = false; place = 0; token = 0 }
 
 unfoldable pub noWriting : Writing
 noWriting = record { laying = noLaying; marking = noMarking }

@@ -1,4 +1,4 @@
-// What a call writes to the pool: a transfer's records at one set of places, a token at another.
+// What a call writes to the pool: a transfer's records at a set of places, or one token.
 ghost use mathlib.Core.Path.{_≡_};
 ghost use lib.ListN.{length};
 ghost use Rattle.pool.specs.Words.{WritingGood, chunksOf, noWriting, stagesOf, wordsIf, writtenWith};
@@ -7,7 +7,7 @@ use crate::laying::lay_chunks;
 use crate::laying::lay_stages;
 use crate::laying::no_laying;
 use crate::marking::Marking;
-use crate::marking::mark_tokens;
+use crate::marking::mark_token;
 use crate::marking::no_marking;
 use common::kinds::is_control;
 use descriptor::qtd::QueueTransferDescriptor;
@@ -72,12 +72,12 @@ fn marks_of(w: Writing) -> Marking
     w.marking
 }
 
-// Stages, chunks, tokens: of the first two at most one has a place.
+// Stages, chunks, the token: of the first two at most one has a place.
 pub fn write(rows: &mut [QueueTransferDescriptor], w: Writing)
     requires { ⌜ WritingGood (length (now rows)) w ⌝ }
     ensures { λ _. ⌜ now (rows .exit) ≡ writtenWith w (now (rows .entry)) ⌝ }
 {
     lay_stages(rows, stages_of(w));
     lay_chunks(rows, chunks_of(w));
-    mark_tokens(rows, marks_of(w));
+    mark_token(rows, marks_of(w));
 }

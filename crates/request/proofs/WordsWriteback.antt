@@ -1,13 +1,12 @@
 -- The returns of writeback over words: a place of the pool is in a request exactly where it is not free.
 use Prim.Native.Nat.{ℕ, _-_, _≤_, _<_}
-use mathlib.Core.Path.{_≡_, refl, sym, subst, _∙_}
+use mathlib.Core.Path.{_≡_, refl, sym, _∙_}
 use mathlib.Core.Bool.{Bool, true, false, not, _&&_}
 use mathlib.Core.List.{List}
 use native.Mathlib.Omega.{arith}
-use borrow.Author.Tests.{le-leb, le-ltb, leb-true, lt-ltb, ltb-false, ltb-true, not-false}
+use borrow.Author.Tests.{le-leb, le-ltb, leb-true, lt-ltb, ltb-true, not-false}
 use lib.Dec.{leb, ltb}
-use Rattle.bitset.specs.Places.{Within, hasPlace, onePlace, setPlaces}
-use Rattle.bitset.proofs.OneLaws.{one-none, one-set}
+use Rattle.bitset.specs.Places.{hasPlace}
 use Rattle.common.specs.declared.answer.Answer.the-variants.{Done, Refused}
 use Rattle.common.specs.declared.answer.Refusal.the-variants.{InvalidParameter}
 use Rattle.common.proofs.TestLaws.{both-tells}
@@ -17,7 +16,7 @@ use Rattle.controller.specs.Plain.{Lengths}
 use Rattle.controller.proofs.WordsCases.{held-word}
 use Rattle.pool.specs.Words.{MarkingGood, noMarking}
 use Rattle.pool.specs.declared.marking.Marking.{Marking}
-use Rattle.pool.proofs.WordLaws.{no-marking-good, no-places}
+use Rattle.pool.proofs.WordLaws.{no-marking-good}
 use Rattle.settings.specs.declared.settings.Settings.{Settings}
 use Rattle.words.specs.declared.core.Rest.{Rest}
 use Rattle.words.specs.Good.{Good}
@@ -26,7 +25,7 @@ use Rattle.words.specs.View.{stateOf}
 use Rattle.words.proofs.GoodLaws.{good-settings}
 use Rattle.words.proofs.RequestLaws.{in-request, owner-busy}
 use Rattle.request.specs.Words.{markingChain, takenPlace, writtenView}
-use Rattle.request.specs.Writeback.{inRequest, ownerAt, refusedWriteback, tokenChain, writebackOf}
+use Rattle.request.specs.Writeback.{inRequest, ownerAt, refusedWriteback, writebackOf}
 use Rattle.request.proofs.WritebackCases.{back-done, back-none}
 
 -- ---- `in_request`
@@ -72,41 +71,26 @@ module _ (s : Settings) (r : Rest) (p : ℕ) where
 
 -- ---- `writeback`
 
-module _ (s : Settings) (r : Rest) (ws : List ℕ) where
-  none-written : (m : Marking) → m ≡ noMarking
-      → writtenView s (record { answer = Refused InvalidParameter; rest = r; marking = m }) ws ≡ refusedWriteback (stateOf s r ws) InvalidParameter
-  unfolding refusedWriteback noMarking
-  none-written m e = rw (e, no-places)
-
-  one-written : (p token : ℕ) (x : List ℕ) → p < 256 → x ≡ onePlace p
-      → markingChain (s .pool) (record { places = x; token = token }) ≡ tokenChain (stateOf s r ws) p token
-  unfolding stateOf
-  one-written p token x h e = rw (e, one-set p h)
-
 module _ (s : Settings) (r : Rest) (p token : ℕ) (i : Bool) (ei : i ≡ takenPlace s r p) where
   pub back-refused : not i ≡ true → (m : Marking) → m ≡ noMarking
       → (ws : List ℕ) → Good s r ws → (lent : Lengths) → acceptsOf (stateOf s r ws) lent ≡ true
       → writtenView s (record { answer = Refused InvalidParameter; rest = r; marking = m }) ws ≡ writebackOf (stateOf s r ws) lent p token
+  unfolding refusedWriteback noMarking
   back-refused h m em ws good lent a =
       back-none (stateOf s r ws) lent p token true (sym a) refl i (ei ∙ place-viewed s r p ws good) h
-      (writtenView s (record { answer = Refused InvalidParameter; rest = r; marking = m }) ws) (none-written s r ws m em)
+      (writtenView s (record { answer = Refused InvalidParameter; rest = r; marking = m }) ws) (rw em)
 
-  pub back-written : not i ≡ false → (x : List ℕ) → x ≡ onePlace p
+  pub back-written : not i ≡ false
       → (ws : List ℕ) → Good s r ws → (lent : Lengths) → acceptsOf (stateOf s r ws) lent ≡ true
-      → writtenView s (record { answer = Done; rest = r; marking = record { places = x; token = token } }) ws ≡ writebackOf (stateOf s r ws) lent p token
-  back-written h x ex ws good lent a =
-      let below : p < 256 = omega (arith, taken-below s r p i ei (not-false i h), good-settings s r ws good .descriptors-most) in
+      → writtenView s (record { answer = Done; rest = r; marking = record { marks = true; place = p; token = token } }) ws ≡ writebackOf (stateOf s r ws) lent p token
+  unfolding stateOf
+  back-written h ws good lent a =
       back-done (stateOf s r ws) lent p token true (sym a) refl i (ei ∙ place-viewed s r p ws good) h
-      (markingChain (s .pool) (record { places = x; token = token })) (one-written s r ws p token x below ex)
+      (markingChain (s .pool) (record { marks = true; place = p; token = token })) refl
 
-  -- what is then written are places of the pool
-  pub mark-good : not i ≡ false → (x : List ℕ) → x ≡ onePlace p → MarkingGood (s .descriptors) (record { places = x; token = token })
-  mark-good h x ex = record { within = rw ex (by (ltb p 256) refl) }
-    where
-      by : (b : Bool) → ltb p 256 ≡ b → Within (s .descriptors) (setPlaces (onePlace p))
-      by true q =
-          subst (λ (ps : List ℕ). Within (s .descriptors) ps) (sym (one-set p (ltb-true p 256 q))) (taken-below s r p i ei (not-false i h), tt)
-      by false q = subst (λ (ps : List ℕ). Within (s .descriptors) ps) (sym (one-none p (ltb-false p 256 q))) tt
+  -- what is then written is a place of the pool
+  pub mark-good : not i ≡ false → MarkingGood (s .descriptors) (record { marks = true; place = p; token = token })
+  mark-good h = record { within = λ _. taken-below s r p i ei (not-false i h) }
 
 pub no-mark-good : (n : ℕ) (m : Marking) → m ≡ noMarking → MarkingGood n m
 no-mark-good n m e = rw e (no-marking-good n)

@@ -1,6 +1,6 @@
 -- What submit and writeback over words leave, as the state that the words stand for and the chain that is then written.
 use Prim.Native.Nat.{ℕ, _+_, _*_}
-use mathlib.Core.Bool.{Bool, false, not, _&&_}
+use mathlib.Core.Bool.{Bool, false, cond, not, _&&_}
 use mathlib.Core.List.{List, [], _∷_}
 use lib.Dec.{ltb}
 use lib.ListN.{getD}
@@ -43,9 +43,10 @@ chainAt (p ∷ ps) base deed = record { places = packed (p ∷ ps); base = base;
 abbrev pub layingChain : Laying → Chain
 layingChain l = chainAt (setPlaces (l .places)) (l .base) (Deeds.Transfer (l .transfer))
 
--- base is the address of the pool's area
+-- the token at its place, where it marks; base is the address of the pool's area
 abbrev pub markingChain : ℕ → Marking → Chain
-markingChain base m = chainAt (setPlaces (m .places)) base (Deeds.Token (m .token))
+markingChain base m =
+    cond (m .marks) (record { places = packed (m .place ∷ []); base = base; deed = Deeds.Token (m .token) }) noChain
 
 abbrev pub submittedView : Settings → SubmittedWords → List ℕ → Submitted
 submittedView s r ws =

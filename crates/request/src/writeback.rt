@@ -12,7 +12,6 @@ ghost use Rattle.request.specs.Words.{takenPlace, writtenView};
 ghost use Rattle.request.specs.Writeback.{writebackOf};
 use crate::answers::WrittenBack;
 use bitset::places::has;
-use bitset::places::one_place;
 use common::answer::Answer;
 use common::answer::Refusal;
 use pool::marking::Marking;
@@ -49,7 +48,8 @@ pub fn writeback(core: Core, place: u64, token: u32) -> WrittenBack
         answer: Answer::Done,
         rest,
         marking: Marking {
-            places: one_place(place),
+            marks: true,
+            place: place as usize,
             token,
         },
     }

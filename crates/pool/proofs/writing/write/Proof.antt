@@ -1,4 +1,4 @@
--- `pool::writing::write` meets its contract: a walk of its MIR. The row is lent to the first two loops, and given up to the last. Assumes nothing.
+-- `pool::writing::write` meets its contract: a walk of its MIR. The row is lent to the two loops, and given up to `mark_token`. Assumes nothing.
 use mathlib.Core.Path.{_≡_, refl, sym, _∙_, ap, subst}
 use Prim.Native.Nat.{ℕ}
 use mathlib.Core.List.{List, [], _∷_}
@@ -70,10 +70,10 @@ use Rattle.pool.proofs.writing.marks_of as marks-of
 use Rattle.pool.proofs.writing.marks_of.Symbol as marks-of-def
 use Rattle.pool.proofs.writing.marks_of.Symbol.{name as #marks-of}
 use Rattle.pool.proofs.writing.marks_of.Met as marks-of-thm
-use Rattle.pool.proofs.marking.mark_tokens as mark-tokens
-use Rattle.pool.proofs.marking.mark_tokens.Symbol as mark-tokens-def
-use Rattle.pool.proofs.marking.mark_tokens.Symbol.{name as #mark-tokens}
-use Rattle.pool.proofs.marking.mark_tokens.Met as mark-tokens-thm
+use Rattle.pool.proofs.marking.mark_token as mark-token
+use Rattle.pool.proofs.marking.mark_token.Symbol as mark-token-def
+use Rattle.pool.proofs.marking.mark_token.Symbol.{name as #mark-token}
+use Rattle.pool.proofs.marking.mark_token.Met as mark-token-thm
 use Rattle.pool.proofs.writing.write.Key.{name as #write}
 use Rattle.pool.proofs.writing.write as f
 use Rattle.pool.proofs.writing.write.Statement as stated
@@ -86,7 +86,7 @@ stayed = (gave-slice (0 ∷ []) tt (plain (λ _. R)), (stay-none (λ _. Wr.the-r
 fits : {X : Type 0} (P : ℕ → X → Type 0) (n m : ℕ) (x y : X) → P n y → x ≡ y → m ≡ n → P m x
 fits P n m x y good e len = subst (λ k. P k x) (sym len) (subst (λ z. P n z) (sym e) good)
 
--- the three loops, together, are what the definition says
+-- the three parts, together, are what the definition says
 together : (w : Writing) (rs : List Record) (s c : Laying) (m : Marking) (ws wc wm : List Record) → s ≡ stagesOf w → c ≡ chunksOf w → m ≡ w .marking → ws ≡ laidOf s rs → wc ≡ laidOf c ws → wm ≡ markedOf m wc → wm ≡ writtenWith w rs
 together w rs s c m ws wc wm es ec em e₁ e₂ e₃ =
     e₃ ∙ ap (λ (x : Marking). markedOf x wc) em ∙ ap (markedOf (w .marking)) (e₂ ∙ ap (λ (x : Laying). laidOf x ws) ec ∙ ap (laidOf (chunksOf w)) (e₁ ∙ ap (λ (x : Laying). laidOf x rs) es)) ∙ parts-written w rs
@@ -157,18 +157,18 @@ module _ {M : Type 1} (𝓤 : URA M) (H : Heap 𝓤) (A : Atoms 𝓤) (W : Given
   goes-marks-of : (p : Writing) (pv : Val) → Is Wr.the-row p (pv ∷ []) → ent 𝓤 (sem 𝓤 H A ftrue) (met 𝓤 H A marks-of.ended (marks-of.clauses 𝓤 H A mem run) .pre (to-marks-of p pv))
   goes-marks-of p pv is-p = qed W (‵ ftrue ∷ []) ∵ owned ! Wr.the-row (Is Wr.the-row) (LL.makes Wr.the-type Wr′.the-plain 𝓤 H A) p (pv ∷ []) is-p $ fjoin ! $ nothing ! $ join ! $ frame ! $ done !
 
-  abbrev to-mark-tokens : List Record → Marking → Val → met 𝓤 H A mark-tokens.ended (mark-tokens.clauses 𝓤 H A mem run) .Ghost
-  to-mark-tokens zs x v = (((κ, tt), (q, tt), tt, (row-at b o γ zs, (x, tt)), (sr ∷ [], (v ∷ [], tt))), tt)
+  abbrev to-mark-token : List Record → Marking → Val → met 𝓤 H A mark-token.ended (mark-token.clauses 𝓤 H A mem run) .Ghost
+  to-mark-token zs x v = (((κ, tt), (q, tt), tt, (row-at b o γ zs, (x, tt)), (sr ∷ [], (v ∷ [], tt))), tt)
 
-  goes-mark-tokens : (zs : List Record) (x : Marking) (v : Val) → Is Mk.the-row x (v ∷ []) → MarkingGood (length zs) x → ent 𝓤 (⋆ 𝓤 H A (‵ (MutSlice (named 0) κ R .own (row-at b o γ zs) (sr ∷ [])) ∷ ‵ (flft κ q) ∷ [])) (met 𝓤 H A mark-tokens.ended (mark-tokens.clauses 𝓤 H A mem run) .pre (to-mark-tokens zs x v))
-  goes-mark-tokens zs x v is good =
+  goes-mark-token : (zs : List Record) (x : Marking) (v : Val) → Is Mk.the-row x (v ∷ []) → MarkingGood (length zs) x → ent 𝓤 (⋆ 𝓤 H A (‵ (MutSlice (named 0) κ R .own (row-at b o γ zs) (sr ∷ [])) ∷ ‵ (flft κ q) ∷ [])) (met 𝓤 H A mark-token.ended (mark-token.clauses 𝓤 H A mem run) .pre (to-mark-token zs x v))
+  goes-mark-token zs x v is good =
       qed W (‵ (MutSlice (named 0) κ R .own (row-at b o γ zs) (sr ∷ [])) ∷ ‵ (flft κ q) ∷ []) ∵ says ! good $ nothing ! $ owned ! Mk.the-row (Is Mk.the-row) (LL.makes Mk.the-type Mk′.the-plain 𝓤 H A) x (v ∷ []) is $ fjoin ! $ move ! (1 ∷ 0 ∷ []) $ fjoin ! $
       nothing ! $ move ! (2 ∷ 0 ∷ []) $ join ! $ frame ! $ done !
 
-  abbrev told-mark-tokens : (zs : List Record) (x : Marking) (v : Val) → Unit {0} → Lasts mark-tokens.ended (κ, tt) (to-mark-tokens zs x v .0 .3) → Type 0
-  told-mark-tokens zs x v u ws = ws .0 ≡ markedOf x zs
+  abbrev told-mark-token : (zs : List Record) (x : Marking) (v : Val) → Unit {0} → Lasts mark-token.ended (κ, tt) (to-mark-token zs x v .0 .3) → Type 0
+  told-mark-token zs x v u ws = ws .0 ≡ markedOf x zs
 
-  module _ (𝓣 : Tables 𝓤 H) (known-stages-of : Triple 𝓤 (𝓣 .C #stages-of) (met 𝓤 H A stages-of.ended (stages-of.clauses 𝓤 H A mem run))) (known-lay-stages : Triple 𝓤 (𝓣 .C #lay-stages) (met 𝓤 H A lay-stages.ended (lay-stages.clauses 𝓤 H A mem run))) (known-chunks-of : Triple 𝓤 (𝓣 .C #chunks-of) (met 𝓤 H A chunks-of.ended (chunks-of.clauses 𝓤 H A mem run))) (known-lay-chunks : Triple 𝓤 (𝓣 .C #lay-chunks) (met 𝓤 H A lay-chunks.ended (lay-chunks.clauses 𝓤 H A mem run))) (known-marks-of : Triple 𝓤 (𝓣 .C #marks-of) (met 𝓤 H A marks-of.ended (marks-of.clauses 𝓤 H A mem run))) (known-mark-tokens : Triple 𝓤 (𝓣 .C #mark-tokens) (met 𝓤 H A mark-tokens.ended (mark-tokens.clauses 𝓤 H A mem run))) where
+  module _ (𝓣 : Tables 𝓤 H) (known-stages-of : Triple 𝓤 (𝓣 .C #stages-of) (met 𝓤 H A stages-of.ended (stages-of.clauses 𝓤 H A mem run))) (known-lay-stages : Triple 𝓤 (𝓣 .C #lay-stages) (met 𝓤 H A lay-stages.ended (lay-stages.clauses 𝓤 H A mem run))) (known-chunks-of : Triple 𝓤 (𝓣 .C #chunks-of) (met 𝓤 H A chunks-of.ended (chunks-of.clauses 𝓤 H A mem run))) (known-lay-chunks : Triple 𝓤 (𝓣 .C #lay-chunks) (met 𝓤 H A lay-chunks.ended (lay-chunks.clauses 𝓤 H A mem run))) (known-marks-of : Triple 𝓤 (𝓣 .C #marks-of) (met 𝓤 H A marks-of.ended (marks-of.clauses 𝓤 H A mem run))) (known-mark-token : Triple 𝓤 (𝓣 .C #mark-token) (met 𝓤 H A mark-token.ended (mark-token.clauses 𝓤 H A mem run))) where
     walk : WritingGood n w → ent 𝓤 (onEntry 𝓤 H A f.signature (κ, tt) (q, tt) a at) (WpFn 𝓤 H (𝓣 .C) (𝓣 .Λ) code.function (sr ∷ wv ∷ []) Post)
     walk good =
         qed W ((‵ (flft κ q) ⊛ ‵ ftrue) ∷ ‵ (owns (MutSlice (named 0) κ R ∷ Wr.the-row ∷ []) a at) ∷ []) ∵ enter ! (𝓣 .C) (𝓣 .Λ) code.function (sr ∷ wv ∷ []) _ $
@@ -185,17 +185,17 @@ module _ {M : Type 1} (𝓤 : URA M) (H : Heap 𝓤) (A : Atoms 𝓤) (W : Given
         (λ νc δc j k. and-then ! (load ! (from ! (stop !)) (look ! 10 refl)) (and-then ! (load ! (from ! (stop !)) (look ! 14 {τ = Ly′.mir} {v = cv} refl)) (no-more !))) (λ νc δc uc uvc wsc len-c at-c isuc. land ! (from ! (stop !)) (init ! 20 refl (nothing-lawful 𝓤 H A W .typed uc _ isuc .0)) $
         assigns ! (addr ! (from ! (fld ! refl (hop ! (look-in ! 24 (sub ! 0 refl (whole !))) (stop !))))) (from ! (stop !)) (init ! 8 refl (tt, tt)) $ assigns ! (agg ! (and-then ! (load ! (from ! (stop !)) (look ! 8 refl)) (and-then ! (load ! (from ! (fld ! refl (stop !))) (look-in ! 24 (sub ! 1 refl (whole !)))) (no-more !)))) (from ! (stop !)) (init ! 6 refl (tt, (tt, (record { fits = room .0 }, tt)))) $
         gives (fmOf 𝓤 H (W .laws) 𝓣) marks-of.ended (marks-of.clauses 𝓤 H A mem run) known-marks-of (to-marks-of w wv) (λ r. r ≡ w .marking) (λ r e. id⊢ 𝓤 _) ! (goes-marks-of w wv is-w) (λ j. and-then ! (load ! (from ! (stop !)) (look ! 23 {τ = Wr′.mir} {v = wv} refl)) (no-more !)) (λ m mv em is-m. drop-item ! $ land ! (from ! (stop !)) (init ! 4 {τ = Mk′.mir} {v = mv} refl (LL.lawful Mk.the-type Mk′.the-laws 𝓤 H A W .typed m _ is-m .0)) $ forget ! 20 refl $
-        join ! $ passes (fmOf 𝓤 H (W .laws) 𝓣) mark-tokens.ended (mark-tokens.clauses 𝓤 H A mem run) known-mark-tokens (to-mark-tokens (wsc .0) m mv) (told-mark-tokens (wsc .0) m mv) (λ r ws. id⊢ 𝓤 _) ! (‵ (MutSlice (named 0) κ R .own (row-at b o γ (wsc .0)) (sr ∷ [])) ⊛ ‵ (flft κ q)) (goes-mark-tokens (wsc .0) m mv is-m (fits MarkingGood n (length (wsc .0)) m (w .marking) (good .marking) em len-c))
+        join ! $ passes (fmOf 𝓤 H (W .laws) 𝓣) mark-token.ended (mark-token.clauses 𝓤 H A mem run) known-mark-token (to-mark-token (wsc .0) m mv) (told-mark-token (wsc .0) m mv) (λ r ws. id⊢ 𝓤 _) ! (‵ (MutSlice (named 0) κ R .own (row-at b o γ (wsc .0)) (sr ∷ [])) ⊛ ‵ (flft κ q)) (goes-mark-token (wsc .0) m mv is-m (fits MarkingGood n (length (wsc .0)) m (w .marking) (good .marking) em len-c))
         (λ j. and-then ! (load ! (from ! (stop !)) (look ! 5 refl)) (and-then ! (load ! (from ! (stop !)) (look ! 3 {τ = Mk′.mir} {v = mv} refl)) (no-more !))) (λ um uvm wsm at-m isum. fsplit ! $ fsplit ! $ move ! (1 ∷ []) $ feqL ! (λ same. move ! (1 ∷ []) $ drop-item ! $ move ! (1 ∷ []) $ use1 W (‵ (flft κ q)) (fst∗ 𝓤 (A .lft κ q) (emp 𝓤)) $ move ! (1 ∷ []) $ land ! (from ! (stop !)) (init ! 20 refl (nothing-lawful 𝓤 H A W .typed um _ isum .0)) $
         assigns ! (of-opd ! (unit-lit !)) (from ! (stop !)) (init ! 26 refl (tt, tt)) $ returns ! (look ! 26 refl) $ forget ! 26 refl $ forget ! 24 refl $ forget ! 22 refl $ forget ! 20 refl $ forget ! 18 refl $ forget ! 16 refl $ forget ! 14 refl $ forget ! 12 refl $ forget ! 10 refl $ forget ! 8 refl $ forget ! 6 refl $ forget ! 4 refl $
         move ! (26 ∷ 27 ∷ []) $ free1 ! $ move ! (24 ∷ 25 ∷ []) $ free1 ! $ move ! (22 ∷ 23 ∷ []) $ free1 ! $ move ! (20 ∷ 21 ∷ []) $ free1 ! $ move ! (18 ∷ 19 ∷ []) $ free1 ! $ move ! (16 ∷ 17 ∷ []) $ free1 ! $ move ! (14 ∷ 15 ∷ []) $ free1 ! $ move ! (12 ∷ 13 ∷ []) $ free1 ! $ move ! (10 ∷ 11 ∷ []) $ free1 ! $ move ! (8 ∷ 9 ∷ []) $ free1 ! $ move ! (6 ∷ 7 ∷ []) $ free1 ! $ move ! (4 ∷ 5 ∷ []) $ free1 ! $ free0 ! $
         keep ! (0 ∷ 1 ∷ []) $ by ! (exits (wsm .0) (same ∙ len-c) (together w rs s c m (wss .0) (wsc .0) (wsm .0) es ec em at-s at-c at-m)))))))))))))))))))))
 
-module _ {M : Type 1} (𝓤 : URA M) (H : Heap 𝓤) (A : Atoms 𝓤) (W : Given 𝓤 H A) (mem : Memory → SProp 𝓤) (run : Routine → Fun 𝓤) (𝓣 : Tables 𝓤 H) (known-stages-of : Triple 𝓤 (𝓣 .C #stages-of) (met 𝓤 H A stages-of.ended (stages-of.clauses 𝓤 H A mem run))) (known-lay-stages : Triple 𝓤 (𝓣 .C #lay-stages) (met 𝓤 H A lay-stages.ended (lay-stages.clauses 𝓤 H A mem run))) (known-chunks-of : Triple 𝓤 (𝓣 .C #chunks-of) (met 𝓤 H A chunks-of.ended (chunks-of.clauses 𝓤 H A mem run))) (known-lay-chunks : Triple 𝓤 (𝓣 .C #lay-chunks) (met 𝓤 H A lay-chunks.ended (lay-chunks.clauses 𝓤 H A mem run))) (known-marks-of : Triple 𝓤 (𝓣 .C #marks-of) (met 𝓤 H A marks-of.ended (marks-of.clauses 𝓤 H A mem run))) (known-mark-tokens : Triple 𝓤 (𝓣 .C #mark-tokens) (met 𝓤 H A mark-tokens.ended (mark-tokens.clauses 𝓤 H A mem run))) where
+module _ {M : Type 1} (𝓤 : URA M) (H : Heap 𝓤) (A : Atoms 𝓤) (W : Given 𝓤 H A) (mem : Memory → SProp 𝓤) (run : Routine → Fun 𝓤) (𝓣 : Tables 𝓤 H) (known-stages-of : Triple 𝓤 (𝓣 .C #stages-of) (met 𝓤 H A stages-of.ended (stages-of.clauses 𝓤 H A mem run))) (known-lay-stages : Triple 𝓤 (𝓣 .C #lay-stages) (met 𝓤 H A lay-stages.ended (lay-stages.clauses 𝓤 H A mem run))) (known-chunks-of : Triple 𝓤 (𝓣 .C #chunks-of) (met 𝓤 H A chunks-of.ended (chunks-of.clauses 𝓤 H A mem run))) (known-lay-chunks : Triple 𝓤 (𝓣 .C #lay-chunks) (met 𝓤 H A lay-chunks.ended (lay-chunks.clauses 𝓤 H A mem run))) (known-marks-of : Triple 𝓤 (𝓣 .C #marks-of) (met 𝓤 H A marks-of.ended (marks-of.clauses 𝓤 H A mem run))) (known-mark-token : Triple 𝓤 (𝓣 .C #mark-token) (met 𝓤 H A mark-token.ended (mark-token.clauses 𝓤 H A mem run))) where
   write-walks : Walks 𝓤 H A f.ended stayed (WpFn 𝓤 H (𝓣 .C) (𝓣 .Λ) code.function) (f.clauses 𝓤 H A mem run)
   write-walks = walked 𝓤 H A f.ended stayed (f.clauses 𝓤 H A mem run) (WpFn 𝓤 H (𝓣 .C) (𝓣 .Λ) code.function) (λ κs. (slice-vals, (LL.vals Wr.the-type Wr′.the-laws, tt))) (λ κs. (mut-slice-tells (named 0) (κs .0) R, (LL.tells Wr.the-type Wr′.the-laws, tt)))
       (λ κs qs bounds a g are. needs 𝓤 (WritingGood (length (a .0 .now)) (a .1 .0)) _
-      (walk 𝓤 H A W mem run (κs .0) (qs .0) (a .0 .ptr .0) (a .0 .ptr .1) (a .0 .name) (a .0 .now) (a .1 .0) _ (are .0 .0 .1) (are .1 .0) 𝓣 known-stages-of known-lay-stages known-chunks-of known-lay-chunks known-marks-of known-mark-tokens))
+      (walk 𝓤 H A W mem run (κs .0) (qs .0) (a .0 .ptr .0) (a .0 .ptr .1) (a .0 .name) (a .0 .now) (a .1 .0) _ (are .0 .0 .1) (are .1 .0) 𝓣 known-stages-of known-lay-stages known-chunks-of known-lay-chunks known-marks-of known-mark-token))
 
   write-meets : Meets 𝓤 H A f.signature (WpFn 𝓤 H (𝓣 .C) (𝓣 .Λ) code.function) (f.spec 𝓤 H A mem run)
   write-meets =
@@ -213,4 +213,4 @@ write-spec 𝓤 H 𝓜 𝓖 𝓡 =
     (cited 𝓤 H (tripleOf 𝓤 H (𝓖 .A) chunks-of.signature (chunks-of.spec 𝓤 H (𝓖 .A) (𝓜 .mem) (𝓡 .run))) 𝓜 𝓡 code.env #chunks-of chunks-of-def.routine code.calls-pool·writing·chunks-of (chunks-of-thm.met 𝓤 H 𝓜 𝓖 𝓡))
     (cited 𝓤 H (tripleOf 𝓤 H (𝓖 .A) lay-chunks.signature (lay-chunks.spec 𝓤 H (𝓖 .A) (𝓜 .mem) (𝓡 .run))) 𝓜 𝓡 code.env #lay-chunks lay-chunks-def.routine code.calls-pool·laying·lay-chunks (lay-chunks-thm.met 𝓤 H 𝓜 𝓖 𝓡))
     (cited 𝓤 H (tripleOf 𝓤 H (𝓖 .A) marks-of.signature (marks-of.spec 𝓤 H (𝓖 .A) (𝓜 .mem) (𝓡 .run))) 𝓜 𝓡 code.env #marks-of marks-of-def.routine code.calls-pool·writing·marks-of (marks-of-thm.met 𝓤 H 𝓜 𝓖 𝓡))
-    (cited 𝓤 H (tripleOf 𝓤 H (𝓖 .A) mark-tokens.signature (mark-tokens.spec 𝓤 H (𝓖 .A) (𝓜 .mem) (𝓡 .run))) 𝓜 𝓡 code.env #mark-tokens mark-tokens-def.routine code.calls-pool·marking·mark-tokens (mark-tokens-thm.met 𝓤 H 𝓜 𝓖 𝓡)))
+    (cited 𝓤 H (tripleOf 𝓤 H (𝓖 .A) mark-token.signature (mark-token.spec 𝓤 H (𝓖 .A) (𝓜 .mem) (𝓡 .run))) 𝓜 𝓡 code.env #mark-token mark-token-def.routine code.calls-pool·marking·mark-token (mark-token-thm.met 𝓤 H 𝓜 𝓖 𝓡)))

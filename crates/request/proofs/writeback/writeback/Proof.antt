@@ -14,13 +14,9 @@ no-marking-requires c κs = search needs
 returns : tie.Need-returns
 returns c = (search back-refused, (refl, search no-mark-good))
 
-one-place-requires : tie.Need-one-place-requires
-one-place-requires c κs = search needs
-
 returns-2 : tie.Need-returns-2
 returns-2 c = (search back-written, (refl, search mark-good))
 
 pub writeback-spec : {M : Type 1} → statement M
 writeback-spec =
-    tie.close
-    (tie.spec in-request-requires no-marking-requires returns one-place-requires returns-2)
+    tie.close (tie.spec in-request-requires no-marking-requires returns returns-2)
