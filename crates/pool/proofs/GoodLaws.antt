@@ -47,6 +47,6 @@ need-starts Isochronous t count h e = chunks-start (t .length) (t .limit) count 
 need-starts Bulk t count h e = chunks-start (t .length) (t .limit) count h e
 need-starts Interrupt t count h e = chunks-start (t .length) (t .limit) count h e
 
-pub request-good : (t : Transfer) (base n count : ℕ) → base + 64 * n ≤ 2 ^ 32 → t .length ≤ 2 ^ 32 - t .address → t .setup + 8 ≤ 2 ^ 32 → 1 ≤ t .limit
+pub request-good : (t : Transfer) (base n count : ℕ) → base + 64 * n ≤ 2 ^ 32 → t .length ≤ 2 ^ 32 - t .address → t .setup + 8 ≤ 2 ^ 32 → 1 ≤ t .limit → t .limit ≤ 16384
     → count ≡ needOf (t .kind) (t .length) (t .limit) → deedGood (Deeds.Transfer t) base n count
-request-good t base n count hb hl hs h e = (hb, hl, omega (arith, hs), need-starts (t .kind) t count h e)
+request-good t base n count hb hl hs h most e = (hb, hl, omega (arith, hs), need-starts (t .kind) t count h e, most)

@@ -1,8 +1,6 @@
 -- The returns of the functions that make a request's k-th descriptor.
-use Prim.Native.Nat.{ℕ, _*_, _^_, _≤_, _<_}
+use Prim.Native.Nat.{ℕ}
 use mathlib.Core.Path.{_≡_}
-use native.Mathlib.Nat.{mul-le-mul-right}
-use native.Mathlib.Omega.{arith}
 use borrow.Author.Tests.{eq-eqb, ne-eqb}
 use Rattle.token.specs.declared.plan.ControlTdPlan.{ControlTdPlan}
 use Rattle.token.specs.declared.plan.DataTd.the-variants.{Absent, Present}
@@ -15,9 +13,6 @@ use Rattle.descriptor.specs.declared.qtd.QueueTransferDescriptor.{QueueTransfer
 use Rattle.descriptor.specs.Descriptors.{newQtd}
 use Rattle.pool.specs.declared.transfer.Transfer.{Transfer}
 use Rattle.pool.specs.Transfers.{requestedAt, stageAt}
-
-pub small-product : (k l : ℕ) → k ≤ 256 → l ≤ 16384 → k * l < 2 ^ 64
-small-product k l h h′ = omega (arith, mul-le-mul-right l h, h′)
 
 module _ (kind : EndpointType) (length limit k : ℕ) where
   pub asked-data : kind ≡ Control → k ≡ 1 → length ≡ requestedAt kind length limit k

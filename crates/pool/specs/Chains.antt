@@ -126,11 +126,11 @@ startsGood Isochronous t count = (count - 1) * t .limit ≤ t .length
 startsGood Bulk t count = (count - 1) * t .limit ≤ t .length
 startsGood Interrupt t count = (count - 1) * t .limit ≤ t .length
 
--- n records from base on, a buffer and a setup packet that end at or below 2^32
+-- n records from base on, a buffer and a setup packet that end at or below 2^32, and a limit that the settings have
 abbrev pub transferGood : Transfer → ℕ → ℕ → ℕ → Type 0
 transferGood t base n count =
     (base + 64 * n ≤ 2 ^ 32) × (t .length ≤ 2 ^ 32 - t .address) × (8 ≤ 2 ^ 32 - t .setup)
-    × startsGood (t .kind) t count
+    × startsGood (t .kind) t count × (t .limit ≤ 16384)
 
 abbrev pub deedGood : Deed → ℕ → ℕ → ℕ → Type 0
 deedGood Deeds.Leave base n count = Unit

@@ -22,7 +22,7 @@ use descriptor::qtd::EHCI_LINK_TERMINATE;
 use descriptor::qtd::NextQtd;
 use descriptor::qtd::QueueTransferDescriptor;
 use descriptor::slots::page_slots;
-use token::chunks::near_length;
+use token::chunks::chunk_length;
 use token::plan::chunk_token;
 
 // `base` is the address of the pool's area.
@@ -87,13 +87,13 @@ fn stage_record(l: Laying, k: u64, next: Cursor) -> QueueTransferDescriptor
 
 // The k-th record of a request in chunks.
 fn chunk_record(l: Laying, k: u64, next: Cursor) -> QueueTransferDescriptor
-    requires { ⌜ (isControl (l .transfer .kind) ≡ false) × (l .transfer .length ≤ 2 ^ 32 - l .transfer .address) × (k * l .transfer .limit ≤ l .transfer .length) × nextGood (l .base) (restOf next) ⌝ }
+    requires { ⌜ (isControl (l .transfer .kind) ≡ false) × (l .transfer .length ≤ 2 ^ 32 - l .transfer .address) × (k * l .transfer .limit ≤ l .transfer .length) × (k ≤ 256) × (l .transfer .limit ≤ 16384) × nextGood (l .base) (restOf next) ⌝ }
     ensures { λ r. ⌜ r ≡ recordAt (l .transfer) k (restOf next) (l .base) ⌝ }
 {
     let to = next_at(l.base, next);
     let t = l.transfer;
     let start = k * t.limit;
-    let bytes = near_length(k, t.length, t.limit);
+    let bytes = chunk_length(k as u32, t.length, t.limit as u32);
     let direction = t.direction;
     let token = chunk_token(direction, bytes, at_end(next));
     QueueTransferDescriptor {

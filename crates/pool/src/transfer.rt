@@ -5,7 +5,7 @@ ghost use Rattle.pool.specs.Transfers.{requestedAt, stageAt};
 use common::kinds::Direction;
 use common::kinds::EndpointType;
 use descriptor::qtd::QueueTransferDescriptor;
-use token::chunks::near_length;
+use token::chunks::chunk_length;
 use token::plan::DataTd;
 use token::plan::build_control_td_plan;
 
@@ -25,11 +25,13 @@ pub fn requested(kind: EndpointType, length: u64, limit: u64, k: u64) -> u64
     requires { ⌜ limit ≤ 16384 ⌝ }
     ensures { λ r. ⌜ r ≡ requestedAt kind length limit k ⌝ }
 {
+    let at = k as u32;
+    let most = limit as u32;
     match kind {
         EndpointType::Control => { if k == 1 { length } else { 0 } }
-        EndpointType::Isochronous => near_length(k, length, limit),
-        EndpointType::Bulk => near_length(k, length, limit),
-        EndpointType::Interrupt => near_length(k, length, limit),
+        EndpointType::Isochronous => chunk_length(at, length, most),
+        EndpointType::Bulk => chunk_length(at, length, most),
+        EndpointType::Interrupt => chunk_length(at, length, most),
     }
 }
 

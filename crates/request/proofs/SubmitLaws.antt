@@ -104,7 +104,7 @@ module _ (s : Ehci) (k : ℕ) (t : TransferRequest) (r : Ranges s) (j : Judged s
       (omega (arith, owners-length, r .good .descriptors-most))
       (request-good (transferOf s k t) (s .settings .pool) (length (take (s .settings .descriptors) (s .owner))) (length (placesFor s t))
       (omega (arith, owners-length, r .good .pool-ends)) (buffer-ends t (j .in-range))
-      (omega (arith, open-within s k r (j .opened), r .good .setups-end)) (r .good .limit-least) places-needed))
+      (omega (arith, open-within s k r (j .opened), r .good .setups-end)) (r .good .limit-least) (r .good .limit-most) places-needed))
 
   -- from the overlay's next pointer on EHCI's walk meets exactly its places' addresses, ascending, and ends
   pub submit-met : (rows : List QueueTransferDescriptor) (m : ℕ) → length rows ≡ s .settings .descriptors → 1 ≤ needOfRequest s t → needOfRequest s t ≤ m

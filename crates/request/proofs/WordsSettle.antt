@@ -203,5 +203,5 @@ module _ (s : Settings) (r : Rest) (ws : List ℕ) (k : ℕ) (t : TransferReques
               where-known (setPlaces (lowestOf (r .free) n)) _
               (request-good (layingFor s k t (lowestOf (r .free) n) .transfer) (s .pool) (s .descriptors) (length (setPlaces (lowestOf (r .free) n)))
               (kept-settings .pool-ends) (buffer-ends t (judged .in-range)) (omega (arith, slot-within, kept-settings .setups-end))
-              (kept-settings .limit-least) (taken-count ∙ needed));
+              (kept-settings .limit-least) (kept-settings .limit-most) (taken-count ∙ needed));
         }

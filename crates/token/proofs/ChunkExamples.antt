@@ -1,4 +1,4 @@
--- Chunks worked out by hand: 1000 bytes at 512, no bytes, no limit, and products beyond 64 bits.
+-- Chunks worked out by hand: 1000 bytes at 512, no bytes, no limit, and the largest k and limit.
 use Prim.Native.Nat.{_+_, _-_, _^_}
 use mathlib.Core.Path.{_≡_, refl}
 use Rattle.token.specs.Chunks.{bytesBelow, chunkAt, chunkCount}
@@ -23,6 +23,8 @@ empty = (refl, refl, refl)
 no-limit : (chunkAt 0 1000 0 ≡ 0) × (chunkAt 7 1000 0 ≡ 0)
 no-limit = (refl, refl)
 
--- 2^32 chunks of 2^32 are 2^64, which 64 bits have as 0
-wide : (chunkAt (2 ^ 32) 5 (2 ^ 32) ≡ 0) × (chunkAt 1 (2 ^ 32 + 5) (2 ^ 32) ≡ 5) × (chunkAt (2 ^ 64 - 1) (2 ^ 64 - 1) 1 ≡ 0)
-wide = (refl, refl, refl)
+-- the largest k and limit: their product is 2^64 − 2^33 + 1, and a length may go on after it
+wide : (chunkAt (2 ^ 32 - 1) 5 (2 ^ 32 - 1) ≡ 0) × (chunkAt (2 ^ 32 - 1) (2 ^ 64 - 1) (2 ^ 32 - 1) ≡ 2 ^ 32 - 1)
+    × (chunkAt (2 ^ 32 - 1) (2 ^ 64 - 2 ^ 33 + 6) (2 ^ 32 - 1) ≡ 5)
+    × (chunkAt 1 (2 ^ 32 + 4) (2 ^ 32 - 1) ≡ 5)
+wide = (refl, refl, refl, refl)

@@ -1,13 +1,11 @@
 -- The chunks of a request: how many they are, that each but the last is the limit, and that they add up to the length.
 use Prim.Native.Nat.{ℕ, zero, suc, _+_, _-_, _*_, _/_, _^_, _≤_, _<_, min}
 use mathlib.Core.Path.{_≡_, sym, ap, _∙_}
-use mathlib.Core.Bool.{Bool, true, false}
-use native.Mathlib.Decide.{ℕ-discrete as decEq, decLt}
-use native.Mathlib.Nat.{add-mul-div-right, div-add-mod', div-lt-iff-lt-mul, le-div-iff-mul-le, le-of-lt, mod-lt, mul-le-mul-right, suc-mul}
+use native.Mathlib.Decide.{ℕ-discrete as decEq}
+use native.Mathlib.Nat.{add-mul-div-right, div-add-mod', le-of-lt, mod-lt, mul-le-mul-right, suc-mul}
 use native.Mathlib.Numerals.{add-one}
 use native.Mathlib.Omega.{arith}
-use borrow.Author.Tests.{eq-eqb, le-ltb, lt-ltb, ltb-false, ltb-true, ne-eqb}
-use lib.Dec.{ltb}
+use borrow.Author.Tests.{eq-eqb, ne-eqb}
 use mir.Syntax.{w64}
 use mir.Val.{Fits}
 use Rattle.common.specs.declared.kinds.EndpointType.{EndpointType}
@@ -115,27 +113,5 @@ pub need-interrupt : (k : EndpointType) (L C n : ℕ) → k ≡ Interrupt → n 
 unfolding needOf
 need-interrupt k L C n e f = f ∙ rw e
 
-pub halves-fit : (k C : ℕ) → k < 2 ^ 32 → C < 2 ^ 32 → Fits w64 (k * C)
-halves-fit k C h h′ = omega (arith, mul-le-mul-right C (le-of-lt h), h′)
-
-pub past-none : (k L C : ℕ) → C ≡ 0 → false ≡ ltb L (k * C)
-past-none k L C e = sym (le-ltb L (k * C) (rw e (omega arith)))
-
-pub past-divided : (k L C : ℕ) → (C ≡ 0 → ⊥) → ltb (L / C) k ≡ ltb L (k * C)
-past-divided k L C ne = by (decLt (L / C) k)
-  where
-    hC : 1 ≤ C
-    hC = omega arith
-
-    by : Dec (L / C < k) → ltb (L / C) k ≡ ltb L (k * C)
-    by (yes h) = lt-ltb (L / C) k h ∙ sym (lt-ltb L (k * C) (div-lt-iff-lt-mul hC .0 h))
-    by (no h) =
-        let below : k ≤ L / C = omega arith in
-        le-ltb (L / C) k below ∙ sym (le-ltb L (k * C) (le-div-iff-mul-le hC .0 below))
-
-module _ (k L C : ℕ) (b : Bool) (e : b ≡ ltb L (k * C)) where
-  pub past-empty : b ≡ true → 0 ≡ chunkAt k L C
-  past-empty t = omega (arith, ltb-true L (k * C) (sym e ∙ t))
-
-  pub start-fits : L < 2 ^ 64 → b ≡ false → k * C < 2 ^ 64
-  start-fits h f = omega (arith, h, ltb-false L (k * C) (sym e ∙ f))
+pub start-fits : (k C : ℕ) → k < 2 ^ 32 → C < 2 ^ 32 → Fits w64 (k * C)
+start-fits k C h h′ = omega (arith, mul-le-mul-right C (le-of-lt h), h′)

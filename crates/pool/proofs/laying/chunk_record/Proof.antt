@@ -10,8 +10,14 @@ next-at-requires c κs = search needs
 mul-start : tie.Need-mul-start
 mul-start c = search needs
 
-near-length-requires : tie.Need-near-length-requires
-near-length-requires c κs = search needs
+cast-chunk-length : tie.Need-cast-chunk-length
+cast-chunk-length c = search needs
+
+cast-chunk-length-2 : tie.Need-cast-chunk-length-2
+cast-chunk-length-2 c = search needs
+
+chunk-length-requires : tie.Need-chunk-length-requires
+chunk-length-requires c κs = search needs
 
 at-end-requires : tie.Need-at-end-requires
 at-end-requires c κs = search needs
@@ -37,7 +43,9 @@ chunk-record-spec =
     (tie.spec
     next-at-requires
     mul-start
-    near-length-requires
+    cast-chunk-length
+    cast-chunk-length-2
+    chunk-length-requires
     at-end-requires
     chunk-token-requires
     word-requires

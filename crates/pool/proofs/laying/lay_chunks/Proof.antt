@@ -153,7 +153,7 @@ module _ {M : Type 1} (𝓤 : URA M) (H : Heap 𝓤) (A : Atoms 𝓤) (W : Given
 
   -- what one record asks
   abbrev Asked : Laying → ℕ → List ℕ → Type 0
-  Asked p k rest = (isControl (p .transfer .kind) ≡ false) × (p .transfer .length ≤ 2 ^ 32 - p .transfer .address) × (k * p .transfer .limit ≤ p .transfer .length) × nextGood (p .base) rest
+  Asked p k rest = (isControl (p .transfer .kind) ≡ false) × (p .transfer .length ≤ 2 ^ 32 - p .transfer .address) × (k * p .transfer .limit ≤ p .transfer .length) × (k ≤ 256) × (p .transfer .limit ≤ 16384) × nextGood (p .base) rest
 
   abbrev to-first-place : (p : Laying) (pv : Val) → met 𝓤 H A first-place.ended (first-place.clauses 𝓤 H A mem run) .Ghost
   to-first-place p pv = ((tt, tt, tt, (p, tt), (pv ∷ [], tt)), tt)

@@ -1,8 +1,14 @@
 -- `pool::transfer::requested` meets its contract.
-use Rattle.pool.proofs.TransferCases.{asked-data, asked-none, asked-isochronous, asked-bulk, asked-interrupt, small-product}
+use Rattle.pool.proofs.TransferCases.{asked-data, asked-none, asked-isochronous, asked-bulk, asked-interrupt}
 use borrow.Author.Needs.{needs}
 use Rattle.pool.proofs.transfer.requested.Statement.{statement}
 use Rattle.pool.proofs.transfer.requested.Tie as tie
+
+cast-at : tie.Need-cast-at
+cast-at c = search needs
+
+cast-most : tie.Need-cast-most
+cast-most c = search needs
 
 enum-told : tie.Need-enum-told
 enum-told c = search needs
@@ -10,20 +16,20 @@ enum-told c = search needs
 enum-told-2 : tie.Need-enum-told-2
 enum-told-2 c = search needs
 
-near-length-requires : tie.Need-near-length-requires
-near-length-requires c κs = search small-product
+chunk-length-requires : tie.Need-chunk-length-requires
+chunk-length-requires c κs = search needs
 
 enum-told-3 : tie.Need-enum-told-3
 enum-told-3 c = search needs
 
-near-length-requires-2 : tie.Need-near-length-requires-2
-near-length-requires-2 c κs = search small-product
+chunk-length-requires-2 : tie.Need-chunk-length-requires-2
+chunk-length-requires-2 c κs = search needs
 
 enum-told-4 : tie.Need-enum-told-4
 enum-told-4 c = search needs
 
-near-length-requires-3 : tie.Need-near-length-requires-3
-near-length-requires-3 c κs = search small-product
+chunk-length-requires-3 : tie.Need-chunk-length-requires-3
+chunk-length-requires-3 c κs = search needs
 
 returns : tie.Need-returns
 returns c = search asked-data
@@ -44,13 +50,15 @@ pub requested-spec : {M : Type 1} → statement M
 requested-spec =
     tie.close
     (tie.spec
+    cast-at
+    cast-most
     enum-told
     enum-told-2
-    near-length-requires
+    chunk-length-requires
     enum-told-3
-    near-length-requires-2
+    chunk-length-requires-2
     enum-told-4
-    near-length-requires-3
+    chunk-length-requires-3
     returns
     returns-2
     returns-3
