@@ -149,9 +149,10 @@ CHUNKS += [(1024, 512), (1025, 512), (999, 1000), (1000, 1000), (1001, 1000), (2
 CHUNKS += [(length, 20480) for length in (0, 1, 20480, 20481, 40960, 61441, 5242880, 5242881)]
 CHUNKS += [(length, 20480) for length, _ in drawn((0, 200000), WORD)] + drawn((0, 100000), (1000, 16385))
 
-# Single chunks: among them no limit, a k or a limit of more than 32 bits, and products of more than 64.
-EDGES = (2**32 - 1, 2**32, 2**63, 2**64 - 1)
-SINGLE = list(product((0, 1, 2, 256, *EDGES), (0, 1, 1000, 61441, *EDGES), (0, 1, 512, 20480, *EDGES)))
+# Single chunks: among them no limit, the largest k and limit (32 bits) and length (64), and products close to 64 bits.
+EDGES = (2**16, 2**31, 2**32 - 2, 2**32 - 1)
+LENGTHS = (0, 1, 1000, 61441, 2**32 - 1, 2**32, 2**63, 2**64 - 2**33, 2**64 - 2**33 + 1, 2**64 - 1)
+SINGLE = list(product((0, 1, 2, 256, *EDGES), LENGTHS, (0, 1, 512, 20480, *EDGES)))
 
 TABLE = [
     (1, bits, [(v, c & d) for v, c, d in drawn(WORD, WORD, WORD)] + [(1 << k, 1 << j) for k, j in product((0, 31), (0, 31))]),
@@ -164,7 +165,7 @@ TABLE = [
     (7, chunked, [(kind, length, 512, beyond(length, 512)) for kind in range(4) for length in (0, 1, 512, 513, 16384)]),
     (8, port, [(others + both,) for others, both in product((0, 0xFFFFFFFA), (0, 1, 4, 5))]),
     (9, one_chunk, SINGLE + near(drawn((1, 2**31), (1, 2**32)))),
-    (9, one_chunk, near(drawn((1, 2**16), (2**32, 2**47)) + drawn((2**32, 2**50), (1, 2**13)))),
+    (9, one_chunk, near(drawn((2**31, 2**32), (1, 2**31)) + drawn((1, 2**13), (2**31, 2**32)))),
     (10, descriptor, [(token(IN, n, 1), a, n, 0x00100040) for a, n in BUFFERS] + [(0, 0x10000FFF, n, TOP - 1) for n in (16385, 16386)]),
     (10, descriptor, drawn(WORD, (0, TOP - 16384), (1, 16385), WORD)),
     (11, setup, list(product((0x01000680, 2**48 - 1), (0, 18, 255, 256, 16384))) + drawn((0, 2**48), (0, 16385))),

@@ -76,19 +76,19 @@ fn control(direction: Direction, length: u64) {
     word(plan.status.raw());
 }
 
-fn lengths(length: u64, limit: u64, shown: u64) {
+fn lengths(length: u64, limit: u32, shown: u32) {
     for k in 0..shown {
         put(chunks::chunk_length(k, length, limit));
     }
 }
 
 // A request at limit 0 has no number of chunks.
-fn chunked(kind: EndpointType, length: u64, limit: u64, shown: u64) {
+fn chunked(kind: EndpointType, length: u64, limit: u32, shown: u32) {
     if limit == 0 {
         return;
     }
-    put(chunks::need(kind, length, limit));
-    put(chunks::chunk_count(length, limit));
+    put(chunks::need(kind, length, limit as u64));
+    put(chunks::chunk_count(length, limit as u64));
     lengths(length, limit, shown);
 }
 
@@ -107,8 +107,8 @@ pub fn token_line(function: u64, a: u64, b: u64, c: u64, d: u64) {
         4 => read(QtdToken(low_word(a))),
         5 => control(direction(a), b),
         6 => word(plan::chunk_token(direction(a), b, c == 1).raw()),
-        7 => chunked(kind(a), b, c, d),
+        7 => chunked(kind(a), b, low_word(c), low_word(d)),
         8 => port(low_word(a)),
-        _ => put(chunks::chunk_length(a, b, c)),
+        _ => put(chunks::chunk_length(low_word(a), b, low_word(c))),
     }
 }
