@@ -136,11 +136,11 @@ module _ (n : ℕ) (l : Laying) (k : ℕ) (rest : List ℕ) (h : k < length (set
       (where-some ps (isControl (l .transfer .kind) ≡ true) some-places (g .kind), t .1, t .2, next-in (l .base) n rest (t .0) w)
 
   pub chunk-turn : ChunksGood n l
-      → (isControl (l .transfer .kind) ≡ false) × (l .transfer .length ≤ 2 ^ 32 - l .transfer .address) × (k * l .transfer .limit ≤ l .transfer .length) × (k ≤ 256) × (l .transfer .limit ≤ 16384) × nextGood (l .base) rest
+      → (isControl (l .transfer .kind) ≡ false) × (l .transfer .length ≤ 2 ^ 32 - l .transfer .address) × (k * l .transfer .limit ≤ l .transfer .length) × (l .transfer .limit ≤ 16384) × nextGood (l .base) rest
   chunk-turn g =
       let t : transferGood (l .transfer) (l .base) n (length ps) = good-of (g .laying) in
       let c : isControl (l .transfer .kind) ≡ false = where-some ps (isControl (l .transfer .kind) ≡ false) some-places (g .kind) in
-      (c, t .1, chunk-start (l .transfer .kind) (l .transfer) (length ps) k c h (t .3), omega (arith, h, set-few (l .places)), t .4, next-in (l .base) n rest (t .0) w)
+      (c, t .1, chunk-start (l .transfer .kind) (l .transfer) (length ps) k c h (t .3), t .4, next-in (l .base) n rest (t .0) w)
 
 -- ---- the first records cleared
 

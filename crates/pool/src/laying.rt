@@ -86,14 +86,15 @@ fn stage_record(l: Laying, k: u64, next: Cursor) -> QueueTransferDescriptor
 }
 
 // The k-th record of a request in chunks.
-fn chunk_record(l: Laying, k: u64, next: Cursor) -> QueueTransferDescriptor
-    requires { ⌜ (isControl (l .transfer .kind) ≡ false) × (l .transfer .length ≤ 2 ^ 32 - l .transfer .address) × (k * l .transfer .limit ≤ l .transfer .length) × (k ≤ 256) × (l .transfer .limit ≤ 16384) × nextGood (l .base) (restOf next) ⌝ }
+fn chunk_record(l: Laying, k: u32, next: Cursor) -> QueueTransferDescriptor
+    requires { ⌜ (isControl (l .transfer .kind) ≡ false) × (l .transfer .length ≤ 2 ^ 32 - l .transfer .address) × (k * l .transfer .limit ≤ l .transfer .length) × (l .transfer .limit ≤ 16384) × nextGood (l .base) (restOf next) ⌝ }
     ensures { λ r. ⌜ r ≡ recordAt (l .transfer) k (restOf next) (l .base) ⌝ }
 {
     let to = next_at(l.base, next);
     let t = l.transfer;
-    let start = k * t.limit;
-    let bytes = chunk_length(k as u32, t.length, t.limit as u32);
+    let limit = t.limit as u32;
+    let start = (k as u64) * (limit as u64);
+    let bytes = chunk_length(k, t.length, limit);
     let direction = t.direction;
     let token = chunk_token(direction, bytes, at_end(next));
     QueueTransferDescriptor {
@@ -125,7 +126,7 @@ pub fn lay_chunks(rows: &mut [QueueTransferDescriptor], l: Laying)
     ensures { λ _. ⌜ now (rows .exit) ≡ laidOf l (now (rows .entry)) ⌝ }
 {
     let mut at = first_place(l);
-    let mut k: u64 = 0;
+    let mut k: u32 = 0;
     while more(at) {
         let place = place_at(at);
         at = advance(at);

@@ -7,14 +7,14 @@ use Rattle.pool.proofs.laying.chunk_record.Tie as tie
 next-at-requires : tie.Need-next-at-requires
 next-at-requires c κs = search needs
 
+cast-limit : tie.Need-cast-limit
+cast-limit c = search needs
+
+cast-start : tie.Need-cast-start
+cast-start c = search needs
+
 mul-start : tie.Need-mul-start
 mul-start c = search needs
-
-cast-chunk-length : tie.Need-cast-chunk-length
-cast-chunk-length c = search needs
-
-cast-chunk-length-2 : tie.Need-cast-chunk-length-2
-cast-chunk-length-2 c = search needs
 
 chunk-length-requires : tie.Need-chunk-length-requires
 chunk-length-requires c κs = search needs
@@ -42,9 +42,9 @@ chunk-record-spec =
     tie.close
     (tie.spec
     next-at-requires
+    cast-limit
+    cast-start
     mul-start
-    cast-chunk-length
-    cast-chunk-length-2
     chunk-length-requires
     at-end-requires
     chunk-token-requires
