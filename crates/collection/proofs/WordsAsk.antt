@@ -57,6 +57,9 @@ set-within : (n : ℕ) (ps : List ℕ) → Within n ps → WithinSet n ps
 set-within n [] w = tt
 set-within n (p ∷ ps) w = (w .0, set-within n ps (w .1))
 
+pub ask-limit : (s : Settings) (r : Rest) (ws : List ℕ) → Good s r ws → s .limit ≤ 16384
+ask-limit s r ws good = good-settings s r ws good .limit-most
+
 module _ (s : Settings) (r : Rest) (ws : List ℕ) (good : Good s r ws) (k : ℕ) where
   few : s .descriptors ≤ 256
   few = good-settings s r ws good .descriptors-most
@@ -87,7 +90,7 @@ module _ (s : Settings) (r : Rest) (ws : List ℕ) (good : Good s r ws) (k : ℕ
       rw (
         le-leb (s .descriptors) 256 few,
         eq-eqb (s .descriptors) (s .descriptors) refl,
-        le-leb (s .limit) 16384 (good-settings s r ws good .limit-most),
+        le-leb (s .limit) 16384 (ask-limit s r ws good),
         lt-ltb k 32 (slot-low s r ws good k here),
       )
 
@@ -108,7 +111,7 @@ module _ (s : Settings) (r : Rest) (ws : List ℕ) (good : Good s r ws) (k : ℕ
     asked-good : (p : Pipe) (q : Request) → RequestAt s ws k p q → a ≡ requestAskWords s ws k p q → AskWordsGood (s .descriptors) a
     unfolding requestAskWords
     asked-good p q at ea =
-        rw ea (record { within = own-within; short = at .length-below; limited = good-settings s r ws good .limit-most })
+        rw ea (record { within = own-within; short = at .length-below; limited = ask-limit s r ws good })
 
     pub asks-linked : (p : Pipe) (q : Request) → e ≡ Linked p q → a ≡ requestAskWords s ws k p q
         → askView a ≡ askOf (stateOf s r ws) (s .descriptors) k

@@ -17,7 +17,7 @@ use words::core::Core;
 use words::row::places_at;
 
 fn ask_for(core: Core, slots: &[u64], slot: u8, p: Pipe, r: Request) -> AskWords
-    requires { ⌜ 6 * slot + 6 ≤ length (now slots) ⌝ }
+    requires { ⌜ (6 * slot + 6 ≤ length (now slots)) × (core .settings .limit ≤ 16384) ⌝ }
     ensures { λ a. ⌜ a ≡ requestAskWords (core .settings) (now (slots .entry)) slot p r ⌝ }
 {
     let kind = p.kind;
@@ -25,7 +25,7 @@ fn ask_for(core: Core, slots: &[u64], slot: u8, p: Pipe, r: Request) -> AskWords
         places: places_at(slots, slot),
         kind,
         length: r.length as u64,
-        limit: core.settings.limit,
+        limit: core.settings.limit as u32,
     }
 }
 

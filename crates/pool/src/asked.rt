@@ -24,13 +24,13 @@ pub struct AskWords {
     pub places: [u64; 4],
     pub kind: EndpointType,
     pub length: u64,
-    pub limit: u64,
+    pub limit: u32,
 }
 
 // What is seen so far, and of how many records.
 pub struct Folded {
     pub view: View,
-    pub k: u64,
+    pub k: u32,
 }
 
 // Nothing is asked.

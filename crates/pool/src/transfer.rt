@@ -20,18 +20,14 @@ pub struct Transfer {
 }
 
 // The bytes of the buffer that descriptor k is for.
-pub fn requested(kind: EndpointType, length: u64, limit: u64, k: u64) -> u64
-    requires { ⌜ k ≤ 256 ⌝ }
-    requires { ⌜ limit ≤ 16384 ⌝ }
+pub fn requested(kind: EndpointType, length: u64, limit: u32, k: u32) -> u64
     ensures { λ r. ⌜ r ≡ requestedAt kind length limit k ⌝ }
 {
-    let at = k as u32;
-    let most = limit as u32;
     match kind {
         EndpointType::Control => { if k == 1 { length } else { 0 } }
-        EndpointType::Isochronous => chunk_length(at, length, most),
-        EndpointType::Bulk => chunk_length(at, length, most),
-        EndpointType::Interrupt => chunk_length(at, length, most),
+        EndpointType::Isochronous => chunk_length(k, length, limit),
+        EndpointType::Bulk => chunk_length(k, length, limit),
+        EndpointType::Interrupt => chunk_length(k, length, limit),
     }
 }
 

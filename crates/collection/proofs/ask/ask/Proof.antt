@@ -1,5 +1,5 @@
 -- `collection::ask::ask` meets its contract.
-use Rattle.collection.proofs.WordsAsk.{asks-closed, asks-idle, asks-linked, asks-unlinking, linked-asks-good, none-asked-good, unlinking-asks-good}
+use Rattle.collection.proofs.WordsAsk.{ask-limit, asks-closed, asks-idle, asks-linked, asks-unlinking, linked-asks-good, none-asked-good, unlinking-asks-good}
 use Rattle.collection.proofs.WordsSlots.{read-linked-room, read-unlinking-room}
 use borrow.Author.Needs.{needs}
 use Rattle.collection.proofs.ask.ask.Statement.{statement}
@@ -24,13 +24,13 @@ enum-known-p : tie.Need-enum-known-p
 enum-known-p c = search needs
 
 ask-for-requires : tie.Need-ask-for-requires
-ask-for-requires c κs = search read-linked-room
+ask-for-requires c κs = (search read-linked-room, search ask-limit)
 
 enum-known-p-2 : tie.Need-enum-known-p-2
 enum-known-p-2 c = search needs
 
 ask-for-requires-2 : tie.Need-ask-for-requires-2
-ask-for-requires-2 c κs = search read-unlinking-room
+ask-for-requires-2 c κs = (search read-unlinking-room, search ask-limit)
 
 returns : tie.Need-returns
 returns c = (search asks-closed, search none-asked-good)

@@ -19,8 +19,8 @@ moved-of-requires c κs = search needs
 add-t11 : tie.Need-add-t11
 add-t11 c = search word-sum-fits
 
-add-t10 : tie.Need-add-t10
-add-t10 c = search needs
+add-t9 : tie.Need-add-t9
+add-t9 c = search needs
 
 returns : tie.Need-returns
 returns c = search word-seen
@@ -34,5 +34,5 @@ see-word-spec =
     failed-with-requires
     moved-of-requires
     add-t11
-    add-t10
+    add-t9
     returns)

@@ -4,12 +4,6 @@ use borrow.Author.Needs.{needs}
 use Rattle.pool.proofs.transfer.requested.Statement.{statement}
 use Rattle.pool.proofs.transfer.requested.Tie as tie
 
-cast-at : tie.Need-cast-at
-cast-at c = search needs
-
-cast-most : tie.Need-cast-most
-cast-most c = search needs
-
 enum-told : tie.Need-enum-told
 enum-told c = search needs
 
@@ -50,8 +44,6 @@ pub requested-spec : {M : Type 1} → statement M
 requested-spec =
     tie.close
     (tie.spec
-    cast-at
-    cast-most
     enum-told
     enum-told-2
     chunk-length-requires
