@@ -21,11 +21,12 @@ fn ask_for(core: Core, slots: &[u64], slot: u8, p: Pipe, r: Request) -> AskWords
     ensures { λ a. ⌜ a ≡ requestAskWords (core .settings) (now (slots .entry)) slot p r ⌝ }
 {
     let kind = p.kind;
+    let limit = core.settings.limit as u32;
     AskWords {
         places: places_at(slots, slot),
         kind,
         length: r.length as u64,
-        limit: core.settings.limit as u32,
+        limit,
     }
 }
 
