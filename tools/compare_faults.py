@@ -58,16 +58,39 @@ FAULTS = [
     ("address 128 is given", "endpoints", "need(state.address <= 127, LIMIT)", "need(state.address <= 128, LIMIT)"),
     ("a refused opening closes the controller", "blocks", "            self.world.lent = kept\n", "            self.world.lose()\n            self.opened = False\n"),
     ("a number too large is taken", "records", "numbers[i] >> bits for", "numbers[i] >> bits + 1 for"),
+    # 02, order 1
+    ("a short reply does not end the wait", "collection", "        if may_be_short and ended_short(token):\n            return True\n", ""),
+    ("the length goes on after the short one", "collection", "first_erring(read), moved(slot, state.settings.C, read)", "first_erring(read), moved(slot, state.settings.C, tokens)"),
+    ("an error after the short one is read", "collection", "first_erring(read)", "first_erring(tokens)"),
+    ("an Out request ends short", "collection", "may_end_short(slot.kind, slot.direction)", "may_end_short(slot.kind, 1)"),
+    ("a control request ends short", "collection", "may_end_short(slot.kind, slot.direction)", "slot.direction == 1"),
+    ("an interrupt request does not end short", "collection", "may_end_short(slot.kind, slot.direction)", "slot.kind == 2 and slot.direction == 1"),
+    ("a bulk request does not end short", "collection", "may_end_short(slot.kind, slot.direction)", "slot.kind == 3 and slot.direction == 1"),
+    ("an active one before it hides a short one at collection", "collection", "        if ended_short(token):\n", "        if active(token):\n            return tokens\n        if ended_short(token):\n"),
+    ("a short one after an active one ends the wait", "collection", "        if active(token):\n            return False\n", "        if active(token):\n            return may_be_short and any(map(ended_short, tokens))\n"),
+    ("more than 64 bytes left are not short", "collection", "bytes_left(token) > 0", "0 < bytes_left(token) <= 64"),
+    ("an active one with bytes left is short", "collection", "not active(token) and not has_error(token)", "not has_error(token)"),
+    ("the last descriptor leads to place D", "requests", "[alternate] * len(places[1:]) + [END]", "[alternate] * len(places)"),
+    ("the first descriptor leads to place D alone", "requests", "[alternate] * len(places[1:]) + [END]", "([alternate] + [END] * len(places))[len(places) < 2 :]"),
+    ("the overlay leads to place D", "requests", "[settings.descriptor_address(places[0]), END, 0]", "[settings.descriptor_address(places[0]), alternate_for(settings, kind, direction), 0]"),
+    ("an Out request leads to place D", "requests", "if may_end_short(kind, direction) else END", "if kind != CONTROL else END"),
+    ("a control request leads to place D", "requests", "if may_end_short(kind, direction) else END", "if direction == 1 else END"),
+    ("a short one leads to place D - 1", "state", "self.descriptor_address(self.D)", "self.descriptor_address(self.D - 1)"),
+    ("place D is zeroed", "opening", "[Descriptor()] * settings.D + [SHARED]", "[Descriptor()] * settings.pool_length()"),
+    ("place D is active", "descriptors", "SHARED = Descriptor(END, END)", "SHARED = Descriptor(END, END, 0x80)"),
+    ("opening leaves place D as it was", "opening", "rows.pool[: settings.pool_length()] = [Descriptor()] * settings.D + [SHARED]", "rows.pool[: settings.D] = [Descriptor()] * settings.D"),
+    ("place D is lent out", "state", "range(self.settings.D) if self.owner[place] == 0", "range(min(self.settings.D + 1, 256)) if self.owner[place] == 0"),
+    ("a writeback of place D is taken", "requests", "if place < state.settings.D else 0", "if place < state.settings.D else state.owner[0] * (place == state.settings.D)"),
+    ("the area of the descriptors has D records", "ranges", "64 * settings.pool_length()", "64 * settings.D"),
 ]  # fmt: skip
 
 
-def plant(n):
-    """The n-th fault in its module, before any other module has it."""
-    name, module, old, new = FAULTS[n - 1]
+def plant(name, module, old, new):
+    """A fault in its module, before any other module has it."""
     spec = importlib.util.find_spec(f"model.{module}")
     text = spec.loader.get_source(spec.name)
     if text.count(old) != 1:
-        sys.exit(f"fault {n}, {name}: its place is in model/{module}.py {text.count(old)} times")
+        sys.exit(f"{name}: its place is in model/{module}.py {text.count(old)} times")
     planted = importlib.util.module_from_spec(spec)
     sys.modules[spec.name] = planted
     setattr(model, module, planted)
@@ -78,7 +101,7 @@ def main():
     if len(sys.argv) != 2 or not sys.argv[1].isdigit() or int(sys.argv[1]) > len(FAULTS):
         sys.exit(__doc__)
     if n := int(sys.argv[1]):
-        plant(n)
+        plant(*FAULTS[n - 1])
     from model.blocks import Replay
 
     keeper = Replay()

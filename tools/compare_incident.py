@@ -5,6 +5,7 @@ the .txt) and the picture; and examples/double-count-published.log with its .txt
 import os, subprocess, sys
 
 from compare_run import ORACLE, TOP, build, program, stop, written
+from log_examples import beside
 
 EXAMPLE = os.path.join(TOP, "examples", "double-count")
 UNLINKED = {12: "cancel slot 0", 13: "cancel slot 1", 14: "acknowledge, USBSTS 0x24: an advance and a port change", 15: "drain"}
@@ -74,15 +75,8 @@ def write(path, script, names, head, calls):
     texts = {name: printed(name, log) for name in names}
     with open(path + ".log", "wb") as out:
         out.write(log)
-    sides = [(name, text.split(".\n")[:-1]) for name, text in texts.items()]
     with open(path + ".txt", "w") as out:
-        out.write(head)
-        for call, words in calls.items():
-            out.write(f"\ncall {call}: {words}\n")
-            same = len({side[call] for _, side in sides}) == 1
-            for name, side in [("all", sides[0][1])] if same else sides:
-                for line in side[call].splitlines():
-                    out.write(f"  {name:<7} {line}\n")
+        out.write(beside(head, calls, texts))
     return texts
 
 

@@ -1,6 +1,7 @@
 """The logs that the programs `replay` and `replay_cases` are run on, and what they must print (`tools/cases` writes both).
 
-For `replay` scripts of calls, each from an opening of its own, written for 01's rules one by one, and some drawn by chance.
+For `replay` scripts of calls, each from an opening of its own, written for 01's rules one by one, some drawn by chance, then for
+02's order 1.
 For `replay_cases` many logs: a record bad in each way for each call, cut anywhere, calls before any opening, openings refused
 and accepted in turn, empty logs. What is printed is the model's (model/blocks.py)."""
 
@@ -67,7 +68,7 @@ def openings():
     for wrong in (dict(D=0), dict(D=257), dict(E=0), dict(E=33), dict(ports=0), dict(ports=16), dict(C=0), dict(C=16385), dict(W=0), dict(W=65537)):
         yield [opening(), record(ADDRESS), opening(**wrong), record(ADDRESS)]
     yield [opening(areas=(0x100040, 0x200000, 0x300000, 0x400000)), opening(areas=(0x100001, 0x200000, 0x300000, 0x400000))]
-    yield [opening(areas=(2**32 - 256, 0x200000, 0x300000, 0x400000)), opening(areas=(2**32 - 192, 0x200000, 0x300000, 0x400000))]
+    yield [opening(areas=(2**32 - 320, 0x200000, 0x300000, 0x400000)), opening(areas=(2**32 - 256, 0x200000, 0x300000, 0x400000))]
     yield [opening(D=256, E=32, ports=15), opening(D=1, E=1, ports=1, C=1), opening(D=256, E=32, ports=15)]
 
 
@@ -171,6 +172,117 @@ def tokens():
     yield started() + [endpoint(BULK), writeback(0, 1), submit(0, BULK), writeback(0, 1), writeback(1, 1), writeback(4, 1), writeback(2**64 - 1, 1), cancel(0), writeback(0, 2)] + answered() + [collect(0), writeback(0, 3)]
 
 
+# ---- 02, order 1: short replies. Requests of four descriptors, of 64, 64, 64 and 54 bytes, at places 0 to 3
+
+
+def left(count):
+    """An In token that the controller has done with, with so many bytes left."""
+    return count * 0x10000 + 0xD00
+
+
+IN_ALL, IN_ACTIVE, IN_HALTED = left(0), left(64) + 0x80, left(64) + 0x40
+
+
+def told(kind, id, tokens, direction=1, length=246):
+    """A request; what is written back of it, as (place, word), before a collect that unlinks it if it is finished, and, where there is more,
+    before another; then it is collected if it was unlinked."""
+    calls = [submit(0, kind, direction, length=length)]
+    for words in tokens:
+        calls += [writeback(place, word) for place, word in words] + [collect(0, id)]
+    return calls + answered() + [collect(0, id, frame=frame) for frame in ((8, 9) if kind == INTERRUPT else (0,))]
+
+
+def lives(kind, cases, **asked):
+    """One request after the other. One that waits on is cancelled and collected."""
+    calls, keeper = started(C=64, E=1) + [endpoint(kind)], Replay()
+    for id, tokens in enumerate(cases, 1):
+        calls += told(kind, id, tokens, **asked)
+        for call in calls[keeper.count :]:
+            keeper.block(call)
+        if keeper.world.state.slots[0].uncollected():
+            calls += [cancel(0, id)] + answered() + [collect(0, id, frame=9)]
+    return calls
+
+
+def at(*words):
+    return list(enumerate(words))
+
+
+REST = [(1, IN_ALL), (2, IN_ALL), (3, left(0) + 0x8000)]
+SHORT = [
+    # in the first, the second, the second to last, the last
+    *[(at(*[IN_ALL] * place, left(10)),) for place in range(4)],
+    # an empty packet in each; with all others done
+    *[(at(*[IN_ALL] * place, left(64 if place < 3 else 54)),) for place in range(4)],
+    ([(0, left(10)), *REST],), ([(2, left(10)), (0, IN_ALL), (1, IN_ALL), (3, IN_ALL)],), (at(*[left(n) for n in (1, 2, 3, 4)]),),
+    # an error after it, before it, and one with bytes left
+    (at(left(10), IN_HALTED),), (at(left(10), IN_ALL, IN_ALL, 8),), (at(IN_HALTED, left(10)),), (at(IN_ALL, left(20) + 8, left(10)),), (at(left(20) + 0x40),),
+    # none left: it waits, whatever the other bits are
+    (at(IN_ALL),), (at(IN_ALL, IN_ALL, IN_ALL),), (at(0),), (at(0x80008F07),),
+    # more left than was asked for
+    (at(left(65)),), (at(IN_ALL, left(32767)),), (at(IN_ALL, IN_ALL, IN_ALL, left(55)),), (at(left(64) + 0x8000, left(1)),),
+    # an active one before it: it waits; then that one is done, ends short, errs
+    *[([(1, left(10))], [(0, word)]) for word in (IN_ACTIVE, IN_ALL, left(5), IN_HALTED, left(5) + 0xC0)],
+    # after the unlink: an active one before it, with bytes left or none; two; nothing short any more; an error before and after it
+    *[([(0, left(10))], at(left(n) + 0x80, left(5))) for n in (30, 0, 64, 65)], ([(0, left(10))], at(left(30) + 0x80, left(20) + 0x80, left(5), IN_HALTED)),
+    ([(0, left(10))], at(IN_ALL)), ([(0, left(10))], at(IN_ALL, left(7), left(9))), ([(0, left(10))], at(IN_ACTIVE)),
+    ([(0, left(10))], at(IN_ALL, IN_HALTED, left(3))), ([(0, left(10))], at(left(9), IN_HALTED)), ([(0, left(10))], at(left(30) + 0x80, IN_HALTED, left(5))),
+    ([(0, left(10))], at(left(30) + 0x80, left(5), IN_HALTED)), ([(0, IN_HALTED)], at(left(10))), ([(0, IN_HALTED)], at(IN_ALL, IN_ALL, left(10), IN_HALTED)),
+]  # fmt: skip
+
+
+def short_replies():
+    for kind in (BULK, INTERRUPT):
+        yield lives(kind, SHORT)
+        # one descriptor, two, none of the bytes; a request of no bytes
+        yield lives(kind, [(at(left(n)),) for n in (0, 1, 64, 65)] + [(at(IN_ACTIVE),), (at(left(10)), at(left(5) + 0x80))], length=64)
+        yield lives(kind, [(at(left(n)),) for n in (0, 1, 64, 65)] + [(at(IN_ALL, left(1)),), (at(left(2), left(1)),), (at(left(2), 8),)], length=65)
+        yield lives(kind, [(at(word),) for word in (0, left(5), IN_ACTIVE)], length=0)
+        # Out: all that is left counts, and what is active is waited for
+        yield lives(kind, [(first, [(0, left(10)), (3, left(4)), *REST[:2]]) for first in ([(0, left(10))], at(0, left(10)), at(0, 0, left(10)), at(0, 0, 0, left(10)))], direction=0)
+        yield lives(kind, [(at(left(10), 0x40),), (at(left(10), left(10), 0, 8),), (at(0x40, left(10)),), ([(0, 0x40)], at(left(10), 0, 0x80, 0x20))], direction=0)
+    # each bit of the first token, the others active
+    yield lives(BULK, [([(0, 1 << bit)],) for bit in range(32)])
+    # control: setup, data, status, and no data
+    for direction in (1, 0):
+        setup, data, status = 0x00000E00, 0x800A0D00, 0x80008C00
+        cases = [([(1, data)], [(0, setup), (2, status)]), (at(setup, data), [(2, status)]), (at(0x00080E00, data), [(2, status)]), (at(setup, data, status + 0x40),)]
+        cases += [(at(setup, 0x00120D00), [(2, 0x00018C00)]), (at(0x00080E00), [(1, 0), (2, 0)]), (at(setup, data, status), at(0x00080E00, data, 8))]
+        yield lives(CONTROL, cases, direction=direction, length=18)
+    yield lives(CONTROL, [(at(0x00080E00), at(0x00080E00, 0)), (at(0x00080E00, 8),)], length=0)
+    # cancelled: before it ends short, after it, and between its unlink and its collection
+    asked, short = submit(0, BULK, length=246), writeback(0, left(10))
+    calls = started(C=64) + [endpoint(BULK), asked, cancel(0), short, collect(0)] + answered() + [collect(0), asked, short, cancel(0, 2)] + answered()
+    yield calls + [collect(0, 2), asked, short, collect(0, 3), cancel(0, 3)] + answered() + [collect(0, 3)]
+
+
+def extra_records():
+    """The record at place D: nobody's, whoever has the others. As many places as ever are free."""
+    for D in (1, 2, 63, 64, 65, 256):
+        calls = started(D=D, E=2, C=64) + [endpoint(BULK), endpoint(INTERRUPT), writeback(D, 1), submit(0, BULK, length=64 * (D + 1)), submit(0, BULK, length=64 * D)]
+        calls += [writeback(place, 0x80000000) for place in (D - 1, D, D + 1, 255, 256, 257)] + [submit(1, INTERRUPT, length=1), writeback(0, left(4)), collect(0)]
+        yield calls + answered() + [collect(0), submit(1, INTERRUPT, length=64 * D), writeback(D, left(4)), cancel(1), collect(1, frame=9)]
+    # the last record of memory
+    yield started(C=64, areas=(2**32 - 320, *AREAS[1:])) + [endpoint(BULK), submit(0, BULK, length=246), writeback(4, 1), writeback(0, left(64)), collect(0)] + answered() + [collect(0)]
+    # places that are not neighbours, across an earlier request; then openings of fewer and of more descriptors
+    calls = started(D=8, E=3, C=64) + [endpoint(BULK)] * 3 + [submit(0, BULK, length=1), submit(1, BULK, length=65), submit(2, BULK, 0, length=65), cancel(0)]
+    yield calls + answered() + [collect(0), submit(0, BULK, length=300), submit(0, BULK, length=129), opening(D=3), opening(D=8), opening(D=9), opening(D=7)]
+
+
+def area_ends():
+    """Areas that end with the record at place D, and that one record is too much for; each after a controller that goes on if it is refused."""
+    for D, heads in ((1, 128), (3, 256), (4, 384), (63, 4096), (64, 4224), (256, 16512)):
+        size, setups = 64 * (D + 1), AREAS[0] + 64 * (D + 1)
+        frames = -(-setups // 4096) * 4096
+        places = [(2**32 - size, *AREAS[1:]), (2**32 - size + 64, *AREAS[1:])]
+        places += [(AREAS[i] - more, *AREAS[1:]) for i in (1, 2, 3) for more in (size, size - 64)]
+        places += [(AREAS[0], AREAS[0] + heads, *AREAS[2:]), (AREAS[0], AREAS[0] + heads - 128, *AREAS[2:])]
+        places += [(*AREAS[:2], frames, AREAS[3]), (*AREAS[:2], frames - 4096, AREAS[3]), (*AREAS[:3], setups), (*AREAS[:3], setups - 8), (*AREAS[:3], setups - 64)]
+        yield [opening(D=2)] + [call for areas in places for call in (opening(D=D, areas=areas), record(ADDRESS))]
+    # numbers of records whose bytes, or of which one more, do not fit in 64 bits
+    yield [opening(D=2)] + [call for D in (2**58 - 2, 2**58 - 1, 2**58, 2**64 - 2, 2**64 - 1) for call in (opening(D=D), record(ADDRESS))]
+
+
 def unlinks():
     calls = started(D=8, E=4, C=512) + [endpoint(BULK), endpoint(CONTROL), endpoint(BULK), endpoint(INTERRUPT)]
     calls += [submit(0, BULK), submit(1, CONTROL), submit(2, BULK), submit(3, INTERRUPT)]
@@ -253,6 +365,8 @@ def scripts():
         yield from family()
     for seed in range(20):
         yield drawn(seed, 60)
+    for family in (short_replies, extra_records, area_ends):
+        yield from family()
 
 
 def changed(record, at, value):
@@ -289,7 +403,7 @@ def limits():
     """Openings at each limit, accepted; and each area off its alignment, at the end of memory and beside each other one."""
     for right in (dict(D=1), dict(D=256), dict(E=1), dict(E=32), dict(ports=1), dict(ports=15), dict(C=1), dict(W=1), dict(W=65536)):
         yield [opening(**right)]
-    parts = list(zip((64, 128, 4096, 8), (64 * 4, 128 * 5, 4096, 8 * 4)))
+    parts = list(zip((64, 128, 4096, 8), (64 * 5, 128 * 5, 4096, 8 * 4)))
     for i, (by, size) in enumerate(parts):
         places = [AREAS[i] + 1, AREAS[i] + by // 2, AREAS[i] + by, 2**32 - size, 2**32 - size + by, 2**32, 2**64 - size, 2**64 - by, 0]
         for j, (_, other) in enumerate(parts):
@@ -327,6 +441,7 @@ def logs():
         # a byte of each call by chance
         for call in calls:
             yield [after, changed(call, draw.randrange(64), draw.choice([0, 1, 2, 3, 128, 255]))]
+    yield from [*short_replies()][:1] + [*extra_records()][:2] + [*area_ends()]
     yield []
 
 

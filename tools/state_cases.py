@@ -25,20 +25,20 @@ def openings():
     for name, most in (("D", 256), ("E", 32), ("ports", 15), ("C", 16384), ("W", 65536)):
         for value in (0, 1, most, most + 1):
             yield opening(**(good | {name: value})) + [TRIED]
-    sizes, by = (1024, 1152, 4096, 64), (64, 128, 4096, 8)
+    sizes, by = (1088, 1152, 4096, 64), (64, 128, 4096, 8)
     place = lambda i, at: opening(**good, areas=[at if j == i else AREAS[j] for j in range(4)])
     for i in range(4):
         last = 2**32 - sizes[i]
         for at in (last, last + by[i], AREAS[i] + by[i] // 2, AREAS[i] + 1, 2**64 - 4096):
             yield place(i, at)
         for j in range(4):
-            after, before = AREAS[j] + sizes[j], AREAS[j] - sizes[i]
+            after, before = -(-(AREAS[j] + sizes[j]) // by[i]) * by[i], AREAS[j] - sizes[i]
             for at in (after, after - by[i], before, before + by[i]):
                 yield place(i, at)
     lengths = rows(16, 8)
     for i, more in product(range(5), (-1, 1)):
         yield [lend(*(length + more * (i == j) for j, length in enumerate(lengths))), opening(**good)[1], TRIED]
-    yield [lend(16, 6, *lengths[2:]), opening(**good)[1], lend(16, 0, *lengths[2:]), opening(**good)[1]]
+    yield [lend(lengths[0], 6, *lengths[2:]), opening(**good)[1], lend(lengths[0], 0, *lengths[2:]), opening(**good)[1]]
 
 
 def lengths():
@@ -47,6 +47,26 @@ def lengths():
     for i, more in [*product(range(5), (-1, 1)), (1, -SLOT_WORDS), (1, SLOT_WORDS), (1, -4 * SLOT_WORDS)]:
         yield [lend(*(length + more * (i == j) for j, length in enumerate(rows(4, 4))))] + EVERY
     yield [lend(*rows(4, 4))]
+
+
+def pool_lengths():
+    """Rows of D records, of D + 1 and of D + 2, and shorter ones: one length is right, at opening and for every call."""
+    for D in (1, 4, 256):
+        others, opened = rows(D, 4)[1:], opening(D=D)[1]
+        for length in (0, 1, D - 1, D, D + 2, D + 1):
+            yield [lend(length, *others), opened, TRIED]
+        yield [number("running", 1), open_endpoint(BULK)]
+        for length in (D, D + 2, 0, D + 1):
+            yield [lend(length, *others), TRIED, submit(0, BULK), writeback(0), writeback(D), collect(0)]
+        # one more or less by the settings alone, with a row of that length
+        for other in (D - 1, D + 1):
+            yield [lend(other + 1, *others), setting("D", other), TRIED, setting("D", D)]
+    # one more than D does not fit in 64 bits, or its bytes do not
+    for D in (TOP, 2**58 - 1):
+        yield [lend(0, *rows(4, 4)[1:]), opening(D=D)[1], lend(*rows(4, 4)), opening(D=D)[1]]
+        yield opening() + [setting("D", D), TRIED, lend(0, *rows(4, 4)[1:]), TRIED]
+    # the record at place D is read and written by no call; opening writes it
+    yield busy() + [pool_word(4, j, 0xC8 + j) for j in range(13)] + EVERY + opening()
 
 
 def broken_numbers():
@@ -226,7 +246,7 @@ def reasons():
 
 def writebacks():
     """Of the places of a linked request, of an unlinking one, of free ones, and beyond."""
-    places = [writeback(p) for p in (0, 1, 2, 3, 4, 255, 256, 2**32, 2**32 + 1, TOP)]
+    places = [writeback(p) for p in (0, 1, 2, 3, 4, 5, 255, 256, 257, 2**32, 2**32 + 1, TOP)]
     yield three() + [linked(0, places=[0]), linked(2, places=[3]), free(1, 2)] + places + [unlinking(0)] + places
     yield [idle(0)] + places + [holds(0), free(0, 1, 2)] + places
 
@@ -286,7 +306,7 @@ def row_words():
     """Every word of the rows set to a number of its own: what a call does not own stays."""
     altered = [head(k, j, 0x1000 * (k + 2) + j + 1) for k in range(-1, 4) for j in range(3, 17)]
     altered += [frame(1024, 9), setup_byte(32, 9), head(4, 0, 9), word(4, 0, 9), word(32, 0, 9)] + [setup_byte(at, at + 1) for at in range(32)]
-    records = [pool_word(p, j, 0x100 * (p + 1) + j) for p in range(5) for j in range(13)] + [token(256, 9)]
+    records = [pool_word(p, j, 0x100 * (p + 1) + j) for p in range(6) for j in range(13)] + [token(256, 9), token(257, 9)]
     for k in range(3):
         yield three() + altered + records + [submit(k, KINDS[k], length=18), cancel(k)] + altered
         yield passed(k, length=18, cancel=1) + [collect(k, 1, 9)]
@@ -365,6 +385,79 @@ def views():
         for tokens in TOKENS:
             yield [idle(k), submit(k, KINDS[k], length=1300)] + [token(p, value) for p, value in enumerate(tokens)]
             yield [collect(k)] + passed(k, length=1300) + [collect(k, frame=9)]
+
+
+# 02, order 1. Tokens of four places, of which 0x80 is active, 0x40 errs and 0x10000 has a byte left: one short, in each place; an error after it
+# and before it; an active one before it, and more; more left than is asked for; nothing left
+SHORT = [(0x10000, 0x80, 0x80, 0x80), (0, 0x10000, 0x80, 0x80), (0, 0, 0x10000, 0x80), (0, 0, 0, 0x10000), (0x10000, 0x20000, 0x40000, 0x80000), (0x10000, 0, 0, 0)]
+SHORT += [(0x10000, 0x40, 0x80, 0), (0x10000, 0x80, 0, 0x8), (0, 0x20000, 0, 0x10), (0x40, 0x10000, 0x80, 0x80), (0x10020, 0x10000, 0x80, 0x80), (0, 0x10008, 0x20000, 0x40)]
+SHORT += [(0x80, 0x10000, 0, 0), (0x50080, 0x10000, 0x40, 0x80), (0x80, 0x50080, 0x10000, 0x48), (0x80, 0x48, 0x10000, 0), (0xC0, 0x10000, 0, 0), (0x100C0, 0x10000, 0x48, 0)]
+SHORT += [(0x2000000, 0x80, 0x80, 0x80), (0x2010000, 0, 0, 0), (0, 0x7FFF0000, 0x80, 0x40), (0, 0, 0, 0x7FFF0000), (0x8000FF07, 0x80, 0x80, 0x80), (0xFFFFFF07, 0x80, 0x80, 0x80)]
+
+
+def kept(k, phase, direction, length, places=None):
+    return slot(k, 1, places, phase=phase, kind=KINDS[k], direction=direction, length=length)
+
+
+def shorts():
+    """A request of each kind and direction: what a collect sees of it while it is linked, and once its boundary has passed."""
+    for k, direction in product(range(3), (1, 0)):
+        length = 18 if KINDS[k] == CONTROL else 2000
+        yield three()
+        for tokens in SHORT:
+            yield [idle(k), submit(k, KINDS[k], direction, direction << 7, length=length)] + [token(p, value) for p, value in enumerate(tokens)]
+            yield [collect(k), kept(k, UNLINKING, direction, length)] + numbers(unanswered=0, doorbell=0) + [collect(k, frame=9)]
+
+
+def short_bits():
+    """Each bit of each token, about one that is short: of a linked request, and of one that is collected. Then each bit of a slot's first word."""
+    for k, direction in ((0, 1), (2, 1), (0, 0), (1, 1)):
+        length = 18 if KINDS[k] == CONTROL else 2000
+        yield three() + [submit(k, KINDS[k], direction, direction << 7, length=length)]
+        yield [token(p, 0x80) for p in range(4)]
+        for place in range(4):
+            yield trial(token(place, 0), collect(k), 32) + [token(place, 0)]
+        yield [kept(k, UNLINKING, direction, length)] + numbers(unanswered=0, doorbell=0)
+        tokens = (0x50080, 0x30000, 0x40, 0x10000)
+        yield [token(p, value) for p, value in enumerate(tokens)]
+        for place, value in enumerate(tokens):
+            yield trial(token(place, value), collect(k, frame=9), 32)
+        yield trial(word(k, 0, packed(phase=UNLINKING, kind=KINDS[k], direction=direction, length=length)), collect(k, frame=9))
+
+
+def short_places():
+    """Requests that hold fewer or more places than they need: more than one descriptor is more than one place."""
+    some = [*product(((), (1,), (0, 2), (0, 1, 3), (0, 1, 2, 3)), (0, 100, 512, 513, 2000))]
+    for k, direction in product((0, 2), (1, 0)):
+        yield three()
+        for (places, length), first in product(some, (0x10000, 0x10080)):
+            tokens = (first, 0x20000, 0x40, 0x80)
+            yield [kept(k, UNLINKING, direction, length, places), free(*(p for p in range(4) if p not in places))]
+            yield [token(p, value) for p, value in zip(places, tokens)] + [collect(k, frame=9)]
+        # linked, with two places where one is needed
+        yield [idle(k), submit(k, KINDS[k], direction, length=1000), token(0, 0x10000), token(1, 0x80), kept(k, LINKED, direction, 100), collect(k)]
+
+
+def short_of_many():
+    """A request of 256 descriptors, one of them short; those after it err, those before it are done."""
+    yield opening(D=256, E=1, C=16) + [number("running", 1), open_endpoint(BULK), submit(0, BULK, length=4096)]
+    yield [token(p, 0x40) for p in range(256)]
+    before = 0
+    for short in (0, 1, 62, 63, 64, 127, 128, 191, 192, 254, 255):
+        yield [token(p, 0) for p in range(before, short)] + [token(short, 0x50000)]
+        yield [kept(0, UNLINKING, 1, 4096, range(256))] + [number(name, 0) for name in FREE] + [collect(0)]
+        before = short
+
+
+def alternates():
+    """Requests of each kind and direction about the lengths at which they have one descriptor more, at places that are not neighbours."""
+    for k, direction, have in product((0, 2), (1, 0), ((), (1,))):
+        yield three() + ([linked(1, places=have)] if have else [])
+        for length in (0, 1, 511, 512, 513, 1024, 1025, 1536):
+            yield [idle(k), holds(k), free(*(p for p in range(4) if p not in have)), submit(k, KINDS[k], direction, 0, length=length)]
+    for D, C in ((1, 64), (64, 1), (256, 1)):
+        for pool_at in (AREAS[0], 2**32 - 64 * (D + 1)):
+            yield opening(D=D, C=C, areas=(pool_at, *AREAS[1:])) + [number("running", 1), open_endpoint(INTERRUPT), submit(0, INTERRUPT, length=C * D)]
 
 
 def boundaries():
@@ -446,8 +539,8 @@ def hubs():
 
 
 FAMILIES = (
-    openings, lengths, first_checks, bounds, first_words, place_bits, places_of_none, one_bit, one_bit_large, reasons, writebacks, setups, ranges, taken, ids, row_words, links,
-    unanswered, cancels, views, boundaries, interrupts, falls, bring_ups, hubs,
+    openings, lengths, pool_lengths, first_checks, bounds, first_words, place_bits, places_of_none, one_bit, one_bit_large, reasons, writebacks, setups, ranges, taken, ids, row_words, links,
+    unanswered, cancels, views, shorts, short_bits, short_places, short_of_many, alternates, boundaries, interrupts, falls, bring_ups, hubs,
 )  # fmt: skip
 
 

@@ -22,7 +22,7 @@ BITS = dict.fromkeys(("E", "ports", "running", "step", "address", "enabled", "no
 TOKEN = 2  # a token's place among a record's words
 
 # how long the rows are: each is one longer than any opening lends it
-POOL, SLOTS, HEADS, ENTRIES, SETUPS = 257, 193, 562, 1025, 257
+POOL, SLOTS, HEADS, ENTRIES, SETUPS = 258, 193, 562, 1025, 257
 TOP = 2**64 - 1
 
 # ---- changes
@@ -107,7 +107,7 @@ AREAS = (0x100000, 0x200000, 0x300000, 0x400000)
 
 def rows(D, E):
     """The lengths of the rows, so far as there is room."""
-    return [min(D, POOL), min(SLOT_WORDS * E, SLOTS), min(HEAD_WORDS * (E + 1), HEADS), FRAMES, min(8 * E, SETUPS)]
+    return [min(D + 1, POOL), min(SLOT_WORDS * E, SLOTS), min(HEAD_WORDS * (E + 1), HEADS), FRAMES, min(8 * E, SETUPS)]
 
 
 def opening(D=4, E=4, ports=2, C=512, W=3, areas=AREAS):

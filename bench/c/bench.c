@@ -178,7 +178,7 @@ static void play(struct side *x, const struct way *way, const struct script *s, 
 static void lend(struct side *x)
 {
     u64 e = x->core.settings.endpoints;
-    x->rows = (struct rows){x->pool, D, x->slots, 6 * e, x->heads, 17 * (e + 1), x->frames, 1024, x->setups, 8 * e};
+    x->rows = (struct rows){x->pool, D + 1, x->slots, 6 * e, x->heads, 17 * (e + 1), x->frames, 1024, x->setups, 8 * e};
 }
 
 static void with_settings(struct side *x, u8 e)
@@ -292,6 +292,13 @@ static void random_submit(u8 slot, u32 command)
     both(SUBMIT, a);
 }
 
+// Done, with bytes left or none; now and then active, or in error.
+static u32 random_token(void)
+{
+    u32 left = random_below(2) ? (u32)random_below(0x7fff) << 16 : 0;
+    return 0x00000d00 + left + (random_below(8) ? 0 : random_below(2) ? 0x80 : 0x40);
+}
+
 // Some tokens are the hardware's, then a collect.
 static void random_collect(u8 slot, u32 command)
 {
@@ -299,7 +306,7 @@ static void random_collect(u8 slot, u32 command)
     if (random_below(2))
         for (int i = 0; i < D; i++)
             if (random_below(4))
-                port.pool[i].token = plain.pool[i].token = 0x00000d00 + ((u32)random_below(0x7fff) << 16);
+                port.pool[i].token = plain.pool[i].token = random_token();
     both(UNLINK, (struct asked){.slot = slot, .command = command, .id = random_below(10) ? last : random_below(4), .frame = (u32)random_below(1 << 20)});
 }
 

@@ -49,7 +49,7 @@ static int settings_good(const struct settings *s)
         & (1 <= s->ports) & (s->ports <= 15) & (1 <= s->limit) & (s->limit <= 16384) & (1 <= s->wait) & (s->wait <= 65536);
     if (!numbers)
         return 0;
-    u64 pool = 64 * s->descriptors, heads = 128 * (s->endpoints + 1ul), setups = 8ul * s->endpoints;
+    u64 pool = 64 * (s->descriptors + 1), heads = 128 * (s->endpoints + 1ul), setups = 8ul * s->endpoints;
     return area_good(s->pool, 64, pool) & area_good(s->heads, 128, heads) & area_good(s->frames, 4096, 4096)
         & area_good(s->setups, 8, setups) & apart(s->pool, pool, s->heads, heads) & apart(s->pool, pool, s->frames, 4096)
         & apart(s->pool, pool, s->setups, setups) & apart(s->heads, heads, s->frames, 4096)
@@ -109,7 +109,7 @@ static int words_good(const struct core *s, const struct rows *r)
 static int accepts(const struct core *s, const struct rows *r)
 {
     u64 e = s->settings.endpoints;
-    int fit = (r->pool_length == s->settings.descriptors) & (r->heads_length == HEAD * (e + 1)) & (r->frames_length == FRAMES)
+    int fit = (r->pool_length == s->settings.descriptors + 1) & (r->heads_length == HEAD * (e + 1)) & (r->frames_length == FRAMES)
         & (r->setups_length == 8 * e);
     return fit & words_good(s, r);
 }
@@ -175,10 +175,10 @@ static u32 token_of(u32 pid, u64 bytes, int interrupt, int toggle)
     return pid << 8 | total << 16 | 3 << 10 | 1 << 7 | (interrupt ? 1u << 15 : 0) | (toggle ? 1u << 31 : 0);
 }
 
-static void put_qtd(struct qtd *q, u32 next, u32 token, u64 address, u64 length)
+static void put_qtd(struct qtd *q, u32 next, u32 alternate, u32 token, u64 address, u64 length)
 {
     q->next = next;
-    q->alternate = 1;
+    q->alternate = alternate;
     q->token = token;
     if (length == 0) {
         for (int i = 0; i < 5; i++)
@@ -196,17 +196,18 @@ static void put_qtd(struct qtd *q, u32 next, u32 token, u64 address, u64 length)
 static void put_stage(struct qtd *q, u32 next, const struct asked *a, u64 k, u64 setup)
 {
     if (k == 0)
-        put_qtd(q, next, token_of(2, 8, 0, 0), setup, 8);
+        put_qtd(q, next, 1, token_of(2, 8, 0, 0), setup, 8);
     else if (k == 1 && a->length)
-        put_qtd(q, next, token_of(a->direction, a->length, 0, 1), a->address, a->length);
+        put_qtd(q, next, 1, token_of(a->direction, a->length, 0, 1), a->address, a->length);
     else
-        put_qtd(q, next, token_of(a->length && a->direction ? 0 : 1, 0, 1, 1), 0, 0);
+        put_qtd(q, next, 1, token_of(a->length && a->direction ? 0 : 1, 0, 1, 1), 0, 0);
 }
 
-static void put_chunk(struct qtd *q, u32 next, const struct asked *a, u64 k, u64 limit, int last)
+// `shared` is where a short packet leads, from all but the last.
+static void put_chunk(struct qtd *q, u32 next, u32 shared, const struct asked *a, u64 k, u64 limit, int last)
 {
     u64 start = k * limit, left = a->length - start, bytes = left < limit ? left : limit;
-    put_qtd(q, next, token_of(a->direction, bytes, last, 0), a->address + start, bytes);
+    put_qtd(q, next, last ? 1 : shared, token_of(a->direction, bytes, last, 0), a->address + start, bytes);
 }
 
 static u32 next_at(u32 base, struct cursor c)
@@ -224,13 +225,13 @@ static void lay_stages(struct qtd *pool, u32 base, const u64 *places, const stru
     }
 }
 
-static void lay_chunks(struct qtd *pool, u32 base, const u64 *places, const struct asked *a, u64 limit)
+static void lay_chunks(struct qtd *pool, u32 base, u32 shared, const u64 *places, const struct asked *a, u64 limit)
 {
     u64 k = 0;
     for (struct cursor c = first(places); c.word; k++) {
         struct qtd *q = &pool[place(c)];
         c = after(c);
-        put_chunk(q, next_at(base, c), a, k, limit, !c.word);
+        put_chunk(q, next_at(base, c), shared, a, k, limit, !c.word);
     }
 }
 
@@ -317,7 +318,8 @@ void plain_submit(struct core *s, const struct rows *r, const struct asked *a, s
         put_setup(r->setups + 8 * k, a);
         lay_stages(r->pool, base, places, a, s->settings.setups + 8 * k);
     } else {
-        lay_chunks(r->pool, base, places, a, limit);
+        u32 shared = a->direction ? base + 64 * (u32)s->settings.descriptors : 1;
+        lay_chunks(r->pool, base, shared, places, a, limit);
     }
     answer(out, DONE, record[1]);
     write_to(out, USBCMD, (a->command | 0x31) & ~0x40u);
@@ -358,12 +360,13 @@ static u64 requested(u8 kind, u64 length, u64 limit, u64 k)
     return length - start < limit ? length - start : limit;
 }
 
-// What the tokens of a slot's request say.
+// What the tokens of a slot's request say: of an In request in chunks, those up to the first short one.
 static struct view fold(const struct core *s, const struct qtd *pool, const u64 *record)
 {
     struct view v = {0, 0, 0};
     u64 k = 0, length = (u32)(record[0] / 32);
     u8 kind = record[0] / 4 % 4;
+    int stops = kind != CONTROL && record[0] / 16 % 2;
     for (u64 i = 0; i < 4; i++)
         for (u64 word = record[2 + i]; word; word &= word - 1) {
             u32 token = pool[64 * i + __builtin_ctzl(word)].token;
@@ -374,6 +377,8 @@ static struct view fold(const struct core *s, const struct qtd *pool, const u64 
             u64 asked = requested(kind, length, s->settings.limit, k), left = token >> 16 & 0x7fff;
             v.moved += asked < left ? 0 : asked - left;
             k++;
+            if (stops && (token & 0xf8) == 0 && left)
+                return v;
         }
     return v;
 }

@@ -7,13 +7,13 @@ enum { D = 256, E_MAX = 32, LIMIT = 16384 };
 
 struct side {
     struct core core;
-    struct qtd pool[D];
+    struct qtd pool[D + 1];
     u64 slots[6 * E_MAX];
     u32 heads[17 * (E_MAX + 1)];
     u32 frames[1024];
     u8 setups[8 * E_MAX];
     struct rows rows;
-    struct qtd memory[D];
+    struct qtd memory[D + 1];
     u32 memory_heads[17 * (E_MAX + 1)];
     u8 memory_setups[8 * E_MAX];
 };

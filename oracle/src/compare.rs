@@ -27,9 +27,10 @@ pub enum Outcome {
 }
 
 /// Every kind and answer that a run must meet.
-const KINDS: [&str; 75] = [
+const KINDS: [&str; 82] = [
     "open -> 0",
     "open -> 1",
+    "open -> 1, no place D",
     "start bring-up -> 0",
     "start bring-up -> 4",
     "bring-up step -> 0",
@@ -60,11 +61,17 @@ const KINDS: [&str; 75] = [
     "submit -> 8",
     "writeback -> 0",
     "writeback -> 1",
+    "writeback -> 1, place D",
     "cancel -> 0",
     "cancel -> 3",
     "collect -> 0",
+    "collect -> 0, short at once",
+    "collect -> 0, short within",
+    "collect -> 0, short after an active one",
+    "collect -> 0, error after the short one",
     "collect -> 3",
     "collect -> 9",
+    "collect -> 9, short",
     "collect -> 10",
     "collect -> 11",
     "acknowledge -> 0",

@@ -44,19 +44,27 @@ pub struct Settings {
 }
 
 impl Settings {
-    fn sizes(&self) -> [u64; 4] {
-        [64 * self.descriptors, 128 * (self.endpoints as u64 + 1), 4096, 8 * self.endpoints as u64]
-    }
-
-    /// 01's ranges, but for a port count of 0.
+    /// 01's ranges, but for a port count of 0. The descriptors' area has place D too (02, order 1).
     pub fn good(&self) -> bool {
-        let counts = (1..=256).contains(&self.descriptors) && (1..=32).contains(&self.endpoints) && self.ports <= 15;
-        counts && (1..=16384).contains(&self.limit) && (1..=65536).contains(&self.wait) && self.areas_good()
+        self.good_with(1)
     }
 
-    fn areas_good(&self) -> bool {
+    /// Refused for place D alone.
+    pub fn lacks_place(&self) -> bool {
+        !self.good_with(1) && self.good_with(0)
+    }
+
+    /// The ranges with so many places after the D of the pool.
+    fn good_with(&self, more: u64) -> bool {
+        let counts = (1..=256).contains(&self.descriptors) && (1..=32).contains(&self.endpoints) && self.ports <= 15;
+        counts && (1..=16384).contains(&self.limit) && (1..=65536).contains(&self.wait) && self.areas_good(more)
+    }
+
+    fn areas_good(&self, more: u64) -> bool {
         let aligned = self.areas.iter().zip([64, 128, 4096, 8]).all(|(at, by)| at % by == 0);
-        let mut spans: Vec<(u64, u64)> = self.areas.into_iter().zip(self.sizes()).collect();
+        let endpoints = self.endpoints as u64;
+        let sizes = [64 * (self.descriptors + more), 128 * (endpoints + 1), 4096, 8 * endpoints];
+        let mut spans: Vec<(u64, u64)> = self.areas.into_iter().zip(sizes).collect();
         spans.sort();
         let inside = spans.iter().all(|(at, size)| at.checked_add(*size).is_some_and(|end| end <= 1 << 32));
         aligned && inside && spans.windows(2).all(|two| two[0].0 + two[0].1 <= two[1].0)
@@ -68,15 +76,25 @@ pub struct Reply {
     pub answer: u8,
     pub values: Vec<String>,
     pub accesses: Vec<Access>,
+    /// What else a run must meet with this kind and answer.
+    pub met: &'static str,
 }
 
 impl Reply {
+    fn new(answer: u8, values: Vec<String>, accesses: Vec<Access>) -> Self {
+        Self { answer, values, accesses, met: "" }
+    }
+
     pub fn only(answer: u8) -> Self {
-        Self { answer, values: Vec::new(), accesses: Vec::new() }
+        Self::new(answer, Vec::new(), Vec::new())
     }
 
     fn done(values: Vec<String>, accesses: Vec<Access>) -> Self {
-        Self { answer: DONE, values, accesses }
+        Self::new(DONE, values, accesses)
+    }
+
+    pub fn met(self, met: &'static str) -> Self {
+        Self { met, ..self }
     }
 }
 
@@ -94,7 +112,27 @@ pub struct Flight {
     pub id: u64,
     pub places: Vec<usize>,
     pub tokens: Vec<u32>,
+    /// The bytes that each descriptor was asked for.
+    pub lengths: Vec<usize>,
+    /// It may end before its last descriptor.
+    pub early: bool,
     pub unlinking: bool,
+}
+
+impl Flight {
+    /// How a reply that ended early was answered.
+    fn met(&self, answer: u8, unlinked: bool) -> &'static str {
+        let short = self.tokens.iter().position(|token| is_short(QtdToken(*token)));
+        let Some(at) = short.filter(|at| self.early && at + 1 < self.tokens.len()) else { return "" };
+        match answer {
+            PENDING if unlinked => ", short",
+            DONE if self.tokens[..at].iter().any(|token| QtdToken(*token).active()) => ", short after an active one",
+            DONE if self.tokens[at..].iter().any(|token| QtdToken(*token).has_error()) => ", error after the short one",
+            DONE if at == 0 => ", short at once",
+            DONE => ", short within",
+            _ => "",
+        }
+    }
 }
 
 /// The kernel's delay is noted and does not wait.
@@ -164,6 +202,8 @@ pub struct Controller {
     note: bool,
     /// Bit 5 is pending although its advance was counted.
     counted: bool,
+    /// The descriptor at place D.
+    shared: Option<CoherentBox<QueueTransferDescriptor>>,
     bring_up: Option<BringUp>,
     scan: Option<Scan>,
 }
@@ -174,8 +214,10 @@ impl Controller {
     /// A controller over fresh registers. No other may be there.
     pub fn open(settings: Settings, rows: &mut Rows) -> Self {
         let (d, e) = (settings.descriptors as usize, settings.endpoints as usize);
-        dma_api::lay_out([d, e + 1, 1, e], settings.areas);
+        let sharing = tags::repaired("N22");
+        dma_api::lay_out([d + sharing as usize, e + 1, 1, e], settings.areas);
         let mut ehci = new_ehci(settings.ports);
+        let shared = sharing.then(|| shared_descriptor(&ehci.kernel, d));
         let handler = ehci.event_handler.take().unwrap();
         let hub = Arc::new(Hub(UnsafeCell::new(ehci.root_hub.take().unwrap())));
         rows.pool[..d].fill([0; 13]);
@@ -192,6 +234,7 @@ impl Controller {
             running: false,
             note: false,
             counted: false,
+            shared,
             bring_up: None,
             scan: None,
         }
@@ -203,6 +246,9 @@ impl Controller {
         rows.heads[0] = head_words(&unsafe { schedule.inner.lock_raw() }.head);
         let frames = dma_api::bytes_at(Area::Frames, 0) as *const [u32; 1024];
         rows.frames = unsafe { *frames };
+        if let Some(shared) = &self.shared {
+            rows.pool[place_of(shared)] = descriptor_words(&shared.read_cpu());
+        }
         for (slot, handle) in self.endpoints.iter().enumerate() {
             let Some(handle) = handle else { continue };
             handle.with_raw_mut::<EhciEndpoint, _>(|raw| {
@@ -255,6 +301,8 @@ impl Controller {
                 id: submitted.request_id.raw(),
                 places: submitted.qtds.iter().map(place_of).collect(),
                 tokens: submitted.qtds.iter().map(|qtd| qtd.read_cpu().token).collect(),
+                lengths: submitted.chunk_lengths.clone(),
+                early: may_end_early(submitted),
                 unlinking: submitted.unlink_boundary.is_some(),
             })
         })
@@ -301,6 +349,14 @@ impl Controller {
 
 fn place_of(qtd: &CoherentBox<QueueTransferDescriptor>) -> usize {
     dma_api::place_of(Area::Descriptors, qtd.dma_addr().as_u64())
+}
+
+/// N22: a descriptor of 000's without bytes and not active takes place D before any request can, and keeps it.
+fn shared_descriptor(kernel: &Kernel, place: usize) -> CoherentBox<QueueTransferDescriptor> {
+    dma_api::want(Area::Descriptors, Some(place));
+    let shared = new_qtd(kernel, QtdToken(0), 0, 0).ok().unwrap();
+    dma_api::want(Area::Descriptors, None);
+    shared
 }
 
 pub(super) fn descriptor_words(qtd: &QueueTransferDescriptor) -> [u32; 13] {
@@ -543,6 +599,17 @@ fn submit_split(
     Ok(request_id)
 }
 
+/// 02, order 1: an In request of more than one descriptor, but no control request.
+fn may_end_early(submitted: &SubmittedTransfer) -> bool {
+    let incoming = submitted.transfer.as_ref().is_some_and(|transfer| matches!(transfer.direction, Direction::In));
+    incoming && submitted._setup_packet.is_none() && submitted.qtds.len() > 1
+}
+
+/// Inactive, without error, and with bytes left, whatever was asked for.
+fn is_short(token: QtdToken) -> bool {
+    !token.active() && !token.has_error() && token.total_bytes() > 0
+}
+
 impl Controller {
     pub fn submit(&mut self, slot: u8, asked: &Asked, command: u32) -> Reply {
         if !self.is_open(slot) {
@@ -572,15 +639,31 @@ impl Controller {
         });
         let mut accesses = shown(&trace, &[regs::USBCMD]);
         without_doorbell(&mut accesses);
+        if result.is_ok() {
+            self.lead_to_shared(slot);
+        }
         match result {
             Ok(id) => Reply::done(vec![id.raw().to_string()], accesses),
-            Err(error) => Reply { answer: number_of(&error), values: vec![], accesses },
+            Err(error) => Reply::new(number_of(&error), vec![], accesses),
         }
+    }
+
+    /// N22: all alternates of 000's end. Those of a request that may end early lead to place D, but the last one's.
+    fn lead_to_shared(&self, slot: usize) {
+        self.raw(slot, |raw| {
+            let Some(submitted) = raw.inflight.as_mut().filter(|submitted| may_end_early(submitted)) else { return };
+            if let (true, Some(shared)) = (tags::repaired("N22"), &self.shared) {
+                let (_, others) = submitted.qtds.split_last_mut().unwrap();
+                let at = shared.dma_addr().as_u64() as u32;
+                others.iter_mut().for_each(|qtd| qtd.modify_cpu(|qtd| qtd.alt_next_qtd = at));
+            }
+        });
     }
 
     /// The controller's own write of a token.
     pub fn writeback(&mut self, place: u64, token: u32) -> Reply {
         tags::rule("01-writeback");
+        let met = if place == self.settings.descriptors { ", place D" } else { "" };
         for handle in self.endpoints.iter().flatten() {
             let written = handle.with_raw_mut::<EhciEndpoint, _>(|raw| {
                 let qtds = raw.inflight.as_mut().map(|submitted| &mut submitted.qtds)?;
@@ -589,10 +672,10 @@ impl Controller {
                 Some(())
             });
             if written.is_some() {
-                return Reply::only(DONE);
+                return Reply::only(DONE).met(met);
             }
         }
-        Reply::only(INVALID)
+        Reply::only(INVALID).met(met)
     }
 
     pub fn cancel(&mut self, slot: u8, id: u64, command: u32, frame: u32) -> Reply {
@@ -602,7 +685,7 @@ impl Controller {
         let (result, accesses) =
             self.unlinking(slot as usize, command, frame, |handle| handle.cancel(RequestId::new(id)));
         let answer = result.map_or_else(|error| number_of(&error), |()| DONE);
-        Reply { answer, values: vec![], accesses }
+        Reply::new(answer, vec![], accesses)
     }
 
     pub fn collect(&mut self, slot: u8, id: u64, command: u32, frame: u32, rows: &mut Rows) -> Reply {
@@ -610,9 +693,11 @@ impl Controller {
             return Reply::only(ENDPOINT);
         }
         let before = self.flight(slot as usize);
+        let hidden = self.hide_after_short(slot as usize, id);
         let (result, accesses) =
             self.unlinking(slot as usize, command, frame, |handle| handle.reclaim(RequestId::new(id)));
-        if let Some(flight) = before
+        self.put_back(slot as usize, &hidden);
+        if let Some(flight) = &before
             && !self.busy(slot as usize)
             && !tags::repaired("N20")
         {
@@ -627,7 +712,49 @@ impl Controller {
             },
             Err(error) => (number_of(&error), vec![]),
         };
-        Reply { answer, values, accesses }
+        let unlinks = |flight: &Flight| !flight.unlinking && self.flight(slot as usize).is_some_and(|now| now.unlinking);
+        let met = before.as_ref().map_or("", |flight| flight.met(answer, unlinks(flight)));
+        Reply::new(answer, values, accesses).met(met)
+    }
+
+    /// N23: while 000 looks at a request that may end early, the descriptors after the first short one are inactive, have
+    /// no error and everything left. Gives their tokens as they were.
+    ///
+    /// Why this is 02's rule. 000 asks the descriptors in order, and twice.
+    /// - Before the unlink it stops at the first active one (not finished) or the first in error (finished); past the last it
+    ///   is finished. Up to the short one nothing is altered: an active one before it is met first, and 000 waits; one in
+    ///   error before it is met first, and 000 is finished. If neither is, 000 passes the short one, meets no active one
+    ///   behind it, and is finished, which is what the short one says.
+    /// - At the collection it does not ask for active ones. It ends in the first error, or adds max(0, requested - left) of
+    ///   each. Up to and with the short one nothing is altered, so an error before it counts, and an active one before it
+    ///   (written after the unlink began) adds what it says. Behind it no error is met, and each adds 0, because a chunk is
+    ///   never longer than 32767 bytes.
+    ///
+    /// Where none is short, or the last is the first, nothing is altered.
+    fn hide_after_short(&self, slot: usize, id: u64) -> Vec<u32> {
+        let hidden = self.raw(slot, |raw| {
+            let asked = |submitted: &&mut SubmittedTransfer| submitted.request_id.raw() == id && may_end_early(submitted);
+            let qtds = &mut raw.inflight.as_mut().filter(asked)?.qtds;
+            let first = qtds.iter().position(|qtd| is_short(qtd.read_cpu().token()))?;
+            let after = &mut qtds[first + 1..];
+            if after.is_empty() || !tags::repaired("N23") {
+                return None;
+            }
+            let tokens = after.iter().map(|qtd| qtd.read_cpu().token).collect();
+            after.iter_mut().for_each(|qtd| qtd.modify_cpu(|qtd| qtd.token = QtdToken::TOTAL_BYTES_MASK));
+            Some(tokens)
+        });
+        hidden.unwrap_or_default()
+    }
+
+    /// The last tokens of the slot's request as they were. After a collection there is none.
+    fn put_back(&self, slot: usize, tokens: &[u32]) {
+        self.raw(slot, |raw| {
+            let Some(submitted) = &mut raw.inflight else { return };
+            for (qtd, token) in submitted.qtds.iter_mut().rev().zip(tokens.iter().rev()) {
+                qtd.modify_cpu(|qtd| qtd.token = *token);
+            }
+        });
     }
 
     /// A call that may unlink the slot's head. N1: 000 asks for two advances then, and one is taken off.

@@ -101,7 +101,7 @@ impl Generator {
         if self.draw.one_in(2) {
             return AREAS;
         }
-        let sizes = [64 * d, 128 * (e + 1), 4096, 8 * e];
+        let sizes = [64 * (d + 1), 128 * (e + 1), 4096, 8 * e];
         let by = [64, 128, 4096, 8];
         let (mut areas, mut at) = ([0; 4], 0u64);
         let first = self.draw.below(4) as usize;
@@ -125,7 +125,7 @@ impl Generator {
     fn wrong_opening(&mut self) -> Record {
         let mut record = self.opening();
         let huge = self.draw.of(&[1 << 32, u64::MAX]);
-        match self.draw.below(14) {
+        match self.draw.below(16) {
             0 => record.n[0] = self.draw.of(&[0, 257, huge]),
             1 => record.b[0] = self.draw.of(&[0, 33, 255]),
             2 | 3 => record.b[1] = 0,
@@ -138,6 +138,9 @@ impl Generator {
             10 => record.n[6] = record.n[6].wrapping_add(self.draw.of(&[1, 4, huge - 7])),
             11 => record.n[3] = record.n[5],
             12 => record.n[4] = record.n[3] / 128 * 128,
+            // room for D descriptors and not for the one at place D
+            13 => record.n[3] = (1 << 32) - 64 * record.n[0],
+            14 => record.n[6] = record.n[3] + 64 * record.n[0],
             _ => record.n[6] = record.n[4],
         }
         record
@@ -259,13 +262,17 @@ impl Generator {
 
     fn length(&mut self, c: &Controller, kind: u8) -> u64 {
         let (limit, room) = (c.settings.limit, c.settings.descriptors);
-        match self.draw.below(10) {
+        match self.draw.below(12) {
             0 | 1 => 0,
             2 | 3 => self.draw.below(64),
             4 => self.draw.of(&[4095, 4096, 4097, 16383, KIB16, KIB16 + 1]),
             5 | 6 => limit * self.draw.below(4) + self.draw.below(3),
             7 => limit * room.min(40) + self.draw.below(2),
             8 if kind != 0 => self.draw.of(&[20479, 20480, 20481, 61441, 100_000, limit * room, limit * room + 1]),
+            // two to six chunks
+            10 | 11 if kind != 0 && room > 1 => {
+                limit * (1 + self.draw.below(room.min(6) - 1)) + 1 + self.draw.below(limit)
+            }
             9 if self.draw.one_in(8) => self.draw.of(&[65536, 0xffff_ffff, 1 << 32, u64::MAX]),
             _ => self.draw.below(KIB16 + 1),
         }
@@ -283,7 +290,7 @@ impl Generator {
             3 => self.draw.of(&[1 << 32, 1 << 40, u64::MAX]),
             _ => self.draw.of(&[0, 1, 0xfff, 0x1000, 0x1000_0fff, 0x7fff_f001]) + 0x1000 * self.draw.below(5),
         };
-        let incoming = self.draw.below(2);
+        let incoming = if kind == 0 { self.draw.below(2) } else { !self.draw.one_in(3) as u64 };
         let recipient = if self.draw.one_in(20) { self.draw.below(32) } else { self.draw.below(4) };
         let bit = if self.draw.one_in(15) { 1 - incoming } else { incoming };
         let setup = match kind {
@@ -316,8 +323,12 @@ impl Generator {
                 Record::new(call::WRITEBACK, &[], &[flight.places[i] as u64, token])
             }
             _ => {
-                let place = self.draw.below(c.settings.descriptors + 2);
-                let place = if self.draw.one_in(10) { u64::MAX } else { place };
+                let d = c.settings.descriptors;
+                let place = match self.draw.below(10) {
+                    0 => u64::MAX,
+                    1 | 2 => d,
+                    _ => self.draw.below(d + 2),
+                };
                 Record::new(call::WRITEBACK, &[], &[place, self.draw.word()])
             }
         }
@@ -330,6 +341,9 @@ impl Generator {
 
     /// A request to its end: its descriptors written back, the unlink, its answer, the collection.
     fn finish(&mut self, slot: u8, flight: &Flight) -> Record {
+        if flight.places.len() > 1 && self.draw.below(10) < if flight.early { 7 } else { 1 } {
+            return self.finish_short(slot, flight);
+        }
         let whole = flight.places.len() <= 8 || self.draw.one_in(10);
         let clean = !self.draw.one_in(4);
         for (place, token) in flight.places.iter().zip(&flight.tokens).take(if whole { 256 } else { 3 }) {
@@ -337,16 +351,65 @@ impl Generator {
                 if clean { (token & !0x7fff_0080) as u64 | self.draw.below(9) << 16 } else { self.token(*token) };
             self.plan.push_back(Record::new(call::WRITEBACK, &[], &[*place as u64, token]));
         }
+        self.collection(slot, flight.id, if whole { call::COLLECT } else { call::CANCEL }, None)
+    }
+
+    /// The same, but one of the descriptors has bytes left: those before it are done, those after it as they were, but for one.
+    /// Until the collection the controller may still write: one before it active again, one after it in error, itself done.
+    fn finish_short(&mut self, slot: u8, flight: &Flight) -> Record {
+        let count = flight.places.len() as u64;
+        let at = if self.draw.one_in(10) { self.draw.below(count) } else { self.draw.below(count.min(8)) };
+        let write = |i: u64, token| Record::new(call::WRITEBACK, &[], &[flight.places[i as usize] as u64, token]);
+        let done = |i: u64| (flight.tokens[i as usize] & !0x7fff_00f8) as u64;
+        self.plan.extend((0..at).map(|i| write(i, done(i))));
+        let left = self.left(flight.lengths[at as usize]);
+        self.plan.push_back(write(at, done(at) | left));
+        let after = |draw: &mut Draw| at + 1 + draw.below(count - at - 1);
+        if at + 1 < count && self.draw.one_in(3) {
+            let i = after(&mut self.draw);
+            let token = self.token(flight.tokens[i as usize]);
+            self.plan.push_back(write(i, token));
+        }
+        let late = match self.draw.below(6) {
+            0 | 1 if at > 0 => {
+                let i = self.draw.below(at);
+                Some(write(i, done(i) | 0x80 | self.left(flight.lengths[i as usize])))
+            }
+            2 | 3 if at + 1 < count => {
+                let i = after(&mut self.draw);
+                Some(write(i, done(i) | self.draw.of(&[8, 0x10, 0x20, 0x40, 0xc0])))
+            }
+            4 => Some(write(at, done(at))),
+            _ => None,
+        };
+        self.collection(slot, flight.id, call::COLLECT, late)
+    }
+
+    /// Bytes left of so many: some, all, more than there were. As they stand in a token.
+    fn left(&mut self, length: usize) -> u64 {
+        let length = length as u64;
+        let left = match self.draw.below(6) {
+            0 => 1,
+            1 => length,
+            2 => length + 1,
+            3 => 0x7fff,
+            _ => self.draw.below(length + 1),
+        };
+        left.clamp(1, 0x7fff) << 16
+    }
+
+    /// The unlink by this call, what is written after it, its answer, the collection.
+    fn collection(&mut self, slot: u8, id: u64, number: u8, late: Option<Record>) -> Record {
         let (command, frame) = (self.draw.command(), self.draw.frame());
-        let number = if whole { call::COLLECT } else { call::CANCEL };
-        self.plan.push_back(Record::new(number, &[slot], &[flight.id, command, frame]));
+        self.plan.push_back(Record::new(number, &[slot], &[id, command, frame]));
+        self.plan.extend(late);
         let status = self.draw.of(&[0x20, 0x24, 0x21, 0x37]);
         self.plan.push_back(Record::new(call::ACKNOWLEDGE, &[1, 1], &[status, 0x27]));
         for _ in 0..1 + self.draw.below(3) {
             self.plan.push_back(Record::new(call::DRAIN, &[], &[self.draw.command()]));
         }
         let later = (frame + self.draw.of(&[0, 8, 9, 9, 10, 16383])) & 0xffff_ffff;
-        self.plan.push_back(Record::new(call::COLLECT, &[slot], &[flight.id, self.draw.command(), later]));
+        self.plan.push_back(Record::new(call::COLLECT, &[slot], &[id, self.draw.command(), later]));
         self.plan.pop_front().unwrap()
     }
 

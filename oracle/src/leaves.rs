@@ -433,6 +433,7 @@ mod tests {
     /// Of each function the first line that is held, with the last digit of its last word changed.
     #[test]
     fn a_changed_word_is_found() {
+        let _alone = crate::ALONE.lock().unwrap();
         let stored =
             |name| std::fs::read(format!("{}/../crates/leaf_checks/{name}", env!("CARGO_MANIFEST_DIR"))).unwrap();
         let (records, text) = (stored("stdin"), String::from_utf8(stored("stdout")).unwrap());

@@ -28,6 +28,10 @@ pub struct DeviceAddressInfo {
     pub port_speed: usb_if::host::hub::Speed,
 }
 
+/// One test at a time has 000's memory and registers.
+#[cfg(test)]
+static ALONE: std::sync::Mutex<()> = std::sync::Mutex::new(());
+
 const USAGE: &str = "usage: oracle < LOG, or oracle and one of
   compare SEED SCRIPTS STEPS KEPT-LOG PORT..   call scripts on both sides, compared after every call
   chunks                                       requests of one to six chunks, as a log
@@ -38,6 +42,7 @@ const USAGE: &str = "usage: oracle < LOG, or oracle and one of
   leaves                                       000's leaves against 01's formulas
   leaves RECORDS LINES                         what the port's leaf_checks read and printed against 000's leaves
   probes                                       what 000 does where no call shows it
+  replies                                      replies of three descriptors with every mix of tokens, as a log
   sheet < SHEET                                the listing of a job sheet
   tags                                         the repairs that can be left out
   waits                                        the longest waits that 01 allows, as a log
@@ -61,6 +66,7 @@ fn main() {
         ["incident"] => write_log(scripts::double_count()),
         ["incident", "published"] => write_log(scripts::double_count_published()),
         ["chunks"] => write_log(scripts::chunk_edges()),
+        ["replies"] => write_log(scripts::reply_edges()),
         ["waits"] => write_log(scripts::long_waits()),
         ["departures"] => scripts::show_departures(),
         ["probes"] => backend::kmod::ehci::probes::run(),

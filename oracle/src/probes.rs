@@ -28,6 +28,7 @@ pub fn run() {
     waits();
     resets();
     polls();
+    short_reply();
     lost_predecessor();
 }
 
@@ -107,6 +108,22 @@ fn polls() {
     let (_, _) = run.step::<String>(100);
     let (Now::Done(result), _) = run.step::<String>(109) else { panic!("three reads in one poll") };
     println!("N18: one poll of the handle with FRINDEX 100, then 109: {result}");
+}
+
+/// N22 and N23: four descriptors by 000's own split, the first with 3000 of its 20480 bytes.
+fn short_reply() {
+    let handle = endpoint(&controller(1), EndpointType::Bulk);
+    let buffer = Some(TransferBuffer { address: 0x1000_0000, len: 61441 });
+    let id = handle.submit(TransferRequest::Bulk { direction: Direction::In, buffer }).unwrap();
+    let alternates = handle.with_raw_mut::<EhciEndpoint, _>(|raw| {
+        let qtds = &mut raw.inflight.as_mut().unwrap().qtds;
+        qtds[0].modify_cpu(|qtd| qtd.token = 17480 << 16 | 0x0d00);
+        qtds.iter().map(|qtd| format!(" {:08x}", qtd.read_cpu().alt_next_qtd)).collect::<String>()
+    });
+    println!("N22: the alternates of an In request of 61441 bytes:{alternates}");
+    let waits = (0..1000).all(|_| matches!(handle.reclaim(id), Ok(None)));
+    let linked = handle.with_raw_mut::<EhciEndpoint, _>(|raw| raw.inflight.as_ref().unwrap().unlink_boundary.is_none());
+    println!("N23: its first descriptor ends with 17480 left: pending at 1000 looks: {waits}; still linked: {linked}");
 }
 
 /// P1 and Q1: a head that its predecessor does not point to.

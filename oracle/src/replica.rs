@@ -87,7 +87,8 @@ impl Replica {
     fn open(&mut self, settings: Settings) -> Reply {
         if !settings.good() {
             tags::rule("01-range");
-            return Reply::only(answer::INVALID);
+            let met = if settings.lacks_place() { ", no place D" } else { "" };
+            return Reply::only(answer::INVALID).met(met);
         }
         if settings.ports == 0 && tags::repaired("N17") {
             return Reply::only(answer::INVALID);
@@ -157,6 +158,6 @@ impl Replica {
                 _ => "",
             };
         }
-        *self.met.entry(label).or_default() += 1;
+        *self.met.entry(label + reply.met).or_default() += 1;
     }
 }

@@ -124,6 +124,10 @@ pub fn departures() -> Vec<(&'static str, Calls)> {
     let keeps_bell = Record::new(call::SUBMIT, &[0, BULK, 1], &[0, 0x1000_0000, 512, 0x71]);
     let bring_up_bell = with(vec![open(1, 1, 1, 1, 1), bare(call::START)], &[step(0x80b71)]);
     let unplugged = with(vec![open(1, 1, 1, 1, 1)], &scan(&[1, 1, 1, 5]));
+    // 20000 bytes are asked for and 3000 come: 13384 of the first chunk's 16384 are left
+    let short = || with(running(), &[bulk(), submit(0, BULK, 1, 0x1000_0000, 20000), writeback(0, 0x3448_0d00)]);
+    let collected = [collect(0, 1, 0), acknowledge(0x20), drain(), collect(0, 1, 0)];
+    let short_then = |second| with(with(short(), &[writeback(1, second)]), &collected);
     vec![
         ("K1", vec![open(1, 1, 1, 1, 1), bulk()]),
         ("K2", with(rung(), &[bulk(), one(1), cancel(1, 1, 0), acknowledge(0x24), drain(), drain()])),
@@ -151,6 +155,11 @@ pub fn departures() -> Vec<(&'static str, Calls)> {
         ("N16", with(asked(), &[on(call::CLOSE, 0)])),
         ("N17", vec![open(1, 1, 0, 1, 1)]),
         ("N20", with(rung(), &[acknowledge(0x20), drain(), collect(0, 1, 0), on(call::CLOSE, 0)])),
+        ("N22", vec![open(1, 1, 1, 1, 1)]),
+        ("N22", with(running(), &[bulk(), submit(0, BULK, 1, 0x1000_0000, 16385)])),
+        ("N23", with(short(), &collected)),
+        ("N23", short_then(0x0000_8d00)),
+        ("N23", short_then(0x0e20_8d40)),
         ("C", with(running(), &[bulk(), submit(0, BULK, 1, 0x1000_0000, 16385)])),
         ("C", with(running(), &[bulk(), submit(0, BULK, 1, 0x1000_0fff, 20480)])),
         ("P4", with(unplugged, &scan(&[0, 0]))),
@@ -209,11 +218,23 @@ fn openings() -> Vec<Calls> {
         at([HIGH - 192, 0x200000, 0x300000, 0x400000]),
         at([0x200200, 0x200000, 0x300000, 0x400000]),
         at([u64::MAX - 63, 0x200000, 0x300000, 0x400000]),
+        // room for four descriptors and not for a fifth: before 2^32, before the heads, the frame list, the setup packets
+        at([HIGH - 256, 0x200000, 0x300000, 0x400000]),
+        at([0x100000, 0x100100, 0x300000, 0x400000]),
+        at([0x2fff00, 0x200000, 0x300000, 0x400000]),
+        at([0x100000, 0x200000, 0x300000, 0x100100]),
+        at([0x100000, 0x200000, 0x300000, 0x100138]),
     ] {
         out.push(vec![good, bulk(), bare(call::ADDRESS), wrong, bare(call::ADDRESS), bulk()]);
     }
     // areas that touch each other and end at 2^32
-    out.push(vec![at([HIGH - 256, HIGH - 896, 0x300000, 0x400000]), bulk(), at([0x100000, 0x200000, 0, 4096]), bulk()]);
+    let touching = opening(3, 4, 2, 16384, 2, [HIGH - 256, HIGH - 896, 0x300000, 0x400000]);
+    out.push(vec![touching, bulk(), at([0x100000, 0x200000, 0, 4096]), bulk()]);
+    out.push(vec![
+        at([HIGH - 320, 0x200000, 0x300000, 0x400000]),
+        at([0x100000, 0x200000, 0x300000, 0x100140]),
+        bulk(),
+    ]);
     out
 }
 
@@ -335,9 +356,9 @@ fn unlinked(order: impl ExactSizeIterator<Item = u8> + Clone) -> Calls {
 }
 
 /// Every error bit, before and after an active token; bytes left; late writebacks.
-fn tokens() -> Vec<Calls> {
+fn tokens(incoming: u8) -> Vec<Calls> {
     let answered = [acknowledge(0x20), drain(), collect(0, 1, 0)];
-    let asked = || with(started(4, 1, 64), &[bulk(), submit(0, BULK, 1, 0x1000, 100)]);
+    let asked = || with(started(4, 1, 64), &[bulk(), submit(0, BULK, incoming, 0x1000, 100)]);
     let two = |first: u64, second: u64| {
         let left = [writeback(0, first), writeback(1, second), collect(0, 1, 0), collect(0, 1, 0)];
         with(with(asked(), &left), &answered)
@@ -348,12 +369,88 @@ fn tokens() -> Vec<Calls> {
     out.extend([two(0x7fff_0000, 0x0005_0000), two(0x0040_0000, 0x0024_0000), two(0x48, 0x08), two(0x0008_0d88, 0)]);
     let late = [writeback(0, 8), collect(0, 1, 0), writeback(0, 0), writeback(1, 0x80)];
     out.push(with(with(with(asked(), &late), &answered), &[writeback(0, 1)]));
+    out
+}
+
+/// Bytes left of a control request, and places without a request.
+fn more_tokens() -> Vec<Calls> {
+    let answered = [acknowledge(0x20), drain(), collect(0, 1, 0)];
     let control = with(started(4, 1, 64), &[endpoint(CONTROL, 1, 0, 8), submit(0, CONTROL, 1, 0x1000, 18)]);
     let stages = [writeback(0, 0x0008_0e00), writeback(1, 0x0002_0d00), writeback(2, 0x0c00), collect(0, 1, 0)];
-    out.push(with(with(with(control, &stages), &answered), &[submit(0, CONTROL, 0, 0, 0)]));
+    let control = with(with(with(control, &stages), &answered), &[submit(0, CONTROL, 0, 0, 0)]);
     let places = [writeback(0, 1), one(0), writeback(0, 1), writeback(1, 1), writeback(2, 1), writeback(u64::MAX, 1)];
-    out.push(with(with(started(2, 1, 64), &[bulk()]), &places));
+    vec![control, with(with(started(2, 1, 64), &[bulk()]), &places)]
+}
+
+/// Three descriptors, of 64, 64 and 22 bytes, in places 0 to 2.
+fn read_of_three(kind: u8, incoming: u8) -> Calls {
+    with(started(4, 2, 64), &[endpoint(kind, 5, 1, 8), submit(0, kind, incoming, 0x1000, 150)])
+}
+
+const DONE: u64 = 0x0d00;
+const LEFT: u64 = 0x000a_0d00;
+const AGAIN: u64 = 0x000a_0d80;
+const HALTED: u64 = 0x000a_0d40;
+
+/// Replies that end before their last descriptor (02, order 1).
+fn short_replies() -> Vec<Calls> {
+    let written =
+        |tokens: &[(u64, u64)]| -> Calls { tokens.iter().map(|(at, token)| writeback(*at, *token)).collect() };
+    let answered = [acknowledge(0x20), drain(), collect(0, 1, 0)];
+    let reply = |tokens: &[(u64, u64)], late: &[(u64, u64)]| {
+        let asked = with(with(read_of_three(BULK, 1), &written(tokens)), &[collect(0, 1, 0), collect(0, 1, 0)]);
+        with(with(asked, &written(late)), &answered)
+    };
+    let mut out = vec![
+        // each place, the others as they were
+        reply(&[(0, LEFT)], &[]),
+        reply(&[(0, DONE), (1, LEFT)], &[]),
+        reply(&[(0, DONE), (1, DONE), (2, LEFT)], &[]),
+        // an active one before it: not finished, until that one is done
+        reply(&[(1, LEFT)], &[(0, DONE)]),
+        with(reply(&[(1, LEFT), (0, DONE)], &[]), &answered),
+        reply(&[(0, AGAIN), (1, LEFT), (2, LEFT)], &[]),
+        // active again after the unlink: it adds what it says
+        reply(&[(0, DONE), (1, LEFT)], &[(0, AGAIN)]),
+        reply(&[(0, LEFT)], &[(0, AGAIN), (1, LEFT)]),
+        reply(&[(0, LEFT)], &[(0, AGAIN), (1, AGAIN)]),
+        // no longer short, or short earlier
+        reply(&[(0, LEFT)], &[(0, DONE)]),
+        reply(&[(0, DONE), (1, LEFT)], &[(0, LEFT)]),
+        // errors before it, at it and after it
+        reply(&[(0, HALTED), (1, LEFT)], &[]),
+        reply(&[(0, DONE), (1, HALTED), (2, LEFT)], &[]),
+        reply(&[(0, LEFT), (1, HALTED), (2, LEFT)], &[]),
+        reply(&[(0, LEFT)], &[(2, HALTED)]),
+        reply(&[(0, LEFT)], &[(0, 0x000a_0d88)]),
+        reply(&[(0, DONE), (1, LEFT)], &[(0, HALTED)]),
+    ];
+    // one byte, all of them, more than were asked for
+    out.extend([1, 63, 64, 65, 0x7fff, 0xffff].map(|left| reply(&[(0, left << 16)], &[])));
+    // cancelled all the same
+    out.push(with(with(read_of_three(BULK, 1), &[writeback(0, LEFT), cancel(0, 1, 0)]), &answered));
+    out.push(with(with(read_of_three(BULK, 1), &[writeback(0, LEFT), collect(0, 1, 0), cancel(0, 1, 0)]), &answered));
+    // what has no place D in it: Out, one descriptor
+    let ends = [writeback(0, LEFT), collect(0, 1, 0), writeback(1, LEFT), writeback(2, LEFT), collect(0, 1, 0)];
+    out.push(with(with(read_of_three(BULK, 0), &ends), &answered));
+    let one = [bulk(), submit(0, BULK, 1, 0x1000, 64), writeback(0, LEFT), collect(0, 1, 0)];
+    out.push(with(with(started(4, 1, 64), &one), &answered));
+    let polled = [writeback(0, LEFT), collect(0, 1, 100), collect(0, 1, 108), collect(0, 1, 109)];
+    out.push(with(read_of_three(INTERRUPT, 1), &polled));
+    out.push(with(read_of_three(INTERRUPT, 0), &polled));
+    // place D is nobody's: two requests lead to it, none gets it, nothing is written to it
+    let four = [endpoint(INTERRUPT, 5, 2, 8), submit(1, INTERRUPT, 1, 0x1000, 65), submit(1, INTERRUPT, 1, 0x1000, 64)];
+    let fifth = [endpoint(BULK, 5, 3, 8), writeback(3, LEFT), writeback(4, LEFT), writeback(4, 0), writeback(5, LEFT)];
+    out.push(with(with(with(read_of_three(BULK, 1), &four), &fifth), &[writeback(0, LEFT), collect(0, 1, 0)]));
+    out.push(vec![open(4, 1, 1, 1, 1), open(2, 1, 1, 1, 1), open(3, 1, 1, 1, 1), open(256, 1, 1, 1, 1)]);
+    out.push(megabyte());
     out
+}
+
+/// 02's own case: a megabyte is asked for, 3000 bytes come.
+fn megabyte() -> Calls {
+    let asked = [bulk(), submit(0, BULK, 1, 0x1000_0000, 1 << 20), writeback(0, 0x3448_0d00), collect(0, 1, 0)];
+    with(with(started(64, 1, 16384), &asked), &[acknowledge(0x20), drain(), collect(0, 1, 0)])
 }
 
 fn interrupts() -> Vec<Calls> {
@@ -406,7 +503,8 @@ fn ports() -> Vec<Calls> {
 /// The scripts of the fixed list: those by hand, then short ones by chance.
 fn fixed() -> Calls {
     let mut calls: Calls = vec![bare(call::START), bulk(), one(0), bare(call::SCAN), power(1), drain()];
-    let by_hand = [openings(), bring_ups(), endpoints(), submits(), unlinks(), tokens(), interrupts(), ports()];
+    let requests = [submits(), unlinks(), tokens(1), tokens(0), more_tokens(), short_replies()];
+    let by_hand = [openings(), bring_ups(), endpoints(), requests.concat(), interrupts(), ports()];
     let scripts: Vec<Calls> =
         departures().into_iter().map(|(_, calls)| calls).chain(by_hand.into_iter().flatten()).collect();
     let written = scripts.len();
@@ -469,6 +567,36 @@ pub fn chunk_edges() -> Calls {
     calls
 }
 
+/// Three descriptors with every mix of seven tokens, once before the unlink and once at the collection, for those requests
+/// that may end early and one that may not; then 256 descriptors, short at several places.
+pub fn reply_edges() -> Calls {
+    let mut calls = started(256, 2, 64);
+    calls.extend([bulk(), endpoint(INTERRUPT, 5, 2, 8)]);
+    let mut ids = [0, 0];
+    let kinds = [(BULK, 0, 1), (INTERRUPT, 1, 1), (BULK, 0, 0)];
+    for (kind, slot, incoming) in kinds {
+        for mix in 0..7 * 7 * 7 {
+            let tokens = [0x0040_0d80, AGAIN, DONE, LEFT, 0x0d40, HALTED, 0x000a_0dc0];
+            let mixed = [0, 1, 2].map(|at| writeback(at, tokens[mix / 7usize.pow(at as u32) % 7]));
+            ids[slot as usize] += 1;
+            let id = ids[slot as usize];
+            calls.push(submit(slot, kind, incoming, 0x1000, 150));
+            calls.extend(mixed);
+            // an error unlinks what is not finished yet
+            calls.extend([collect(slot, id, 0), writeback(0, HALTED), collect(slot, id, 0)]);
+            calls.extend(mixed);
+            calls.extend([acknowledge(0x20), drain(), collect(slot, id, 9)]);
+        }
+    }
+    for (turn, at) in [0, 1, 63, 64, 127, 254, 255].into_iter().enumerate() {
+        let id = ids[1] + 1 + turn as u64;
+        calls.push(submit(1, INTERRUPT, 1, 0x1000, 256 * 64));
+        calls.extend((0..at).map(|i| writeback(i, DONE)));
+        calls.extend([writeback(256, LEFT), writeback(at, LEFT), collect(1, id, 0), collect(1, id, 9)]);
+    }
+    calls
+}
+
 /// The longest waits that 01 allows: ready at the 65,536th read, and not ready then.
 pub fn long_waits() -> Calls {
     let mut calls = vec![open(1, 1, 1, 1, 65536), bare(call::START), step(0)];
@@ -480,4 +608,135 @@ pub fn long_waits() -> Calls {
 
 pub fn log_of(calls: &[Record]) -> Vec<u8> {
     calls.iter().flat_map(|record| record.bytes()).collect()
+}
+
+#[cfg(test)]
+mod tests {
+    use super::*;
+
+    /// Lines of the blocks of some calls, in order, worked out by hand from 02, order 1.
+    fn hold(calls: Calls, lines: &[(usize, &[&str])]) {
+        let _alone = crate::ALONE.lock().unwrap();
+        let blocks = blocks_of(&calls);
+        for (call, wanted) in lines {
+            let block: Vec<&str> = blocks[*call].lines().collect();
+            assert_eq!(block, *wanted, "call {call} of {}", calls.len());
+        }
+    }
+
+    const ZEROS: &str = "00000000 00000000 00000000 00000000 00000000 00000000 00000000 00000000";
+
+    /// D 4 at 100000: place 4 is at 100100. 150 bytes at limit 64 are 64, 64 and 22, tokens 00400d80, 00400d80, 00168d80.
+    /// The first is done and the second has 10 left: finished; the third is in error after the unlink, which nobody reads:
+    /// 64 + 54.
+    #[test]
+    fn a_short_reply_ends_the_request() {
+        let tokens = [writeback(0, 0x0d00), writeback(1, 0x000a_0d00), collect(0, 1, 0), writeback(2, 0x40)];
+        let calls = with(with(read_of_three(BULK, 1), &tokens), &[acknowledge(0x20), drain(), collect(0, 1, 0)]);
+        let place_d = format!("P 4 00000001 00000001 00000000 00000000 00000000 {ZEROS}");
+        let parts = [
+            "P 0 00100040 00100100 00400d80 00001000 00000000",
+            "P 1 00100080 00100100 00400d80 00001040 00000000",
+            "P 2 00000001 00000001 00168d80 00001080 00000000",
+        ]
+        .map(|words| format!("{words} {ZEROS}"));
+        let opened = [
+            "C 0 1 0",
+            &place_d,
+            "H 0 0 00200002",
+            "H 0 1 00408000",
+            "H 0 2 40000000",
+            "H 0 4 00000001",
+            "H 0 5 00000001",
+            "F 0 1023 00000001",
+            "U 1 0",
+            "U 2 0",
+            "Q 0 0 0 0 0 00000000 00000000 4 1",
+            ".",
+        ];
+        let asked = [
+            "C 9 9 0 1",
+            &parts[0],
+            &parts[1],
+            &parts[2],
+            "H 0 0 00200082",
+            "H 1 0 00200002",
+            "H 1 4 00100000",
+            "Q 1 0 0 0 0 00000000 00000000 1 1",
+            "W 00 00080031",
+            ".",
+        ];
+        let unlinked = ["C 12 12 9", "H 0 0 00200002", "Q 1 0 1 0 1 00000000 00000000 1 1", "W 00 00080071", "."];
+        let collected = ["C 16 12 0 118", "H 1 4 00000001", "Q 1 0 0 0 0 00000000 00000020 4 1", "."];
+        hold(calls, &[(0, &opened), (9, &asked), (12, &unlinked), (16, &collected)]);
+    }
+
+    /// The second has 10 left while the first is active: not finished. The first done: finished. Then the first is active again,
+    /// with 60 left: 4 + 54, and the third's 22 left are not read.
+    #[test]
+    fn an_active_one_before_it_waits_and_is_read() {
+        let tokens = [writeback(1, 0x000a_0d00), collect(0, 1, 0), writeback(0, 0x0d00), collect(0, 1, 0)];
+        let again = [writeback(0, 0x003c_0d80), acknowledge(0x20), drain(), collect(0, 1, 0)];
+        let waits = ["C 11 12 9", "Q 1 0 0 0 0 00000000 00000000 1 1", "."];
+        let unlinked = ["C 13 12 9", "H 0 0 00200002", "Q 1 0 1 0 1 00000000 00000000 1 1", "W 00 00080071", "."];
+        let collected = ["C 17 12 0 58", "H 1 4 00000001", "Q 1 0 0 0 0 00000000 00000020 4 1", "."];
+        let calls = with(with(read_of_three(BULK, 1), &tokens), &again);
+        hold(calls, &[(11, &waits), (13, &unlinked), (17, &collected)]);
+    }
+
+    /// The same tokens of an Out request: it waits for all three, and adds up all three, 54 + 54 + 12. Its alternates are 1.
+    #[test]
+    fn out_requests_are_as_before() {
+        let tokens =
+            [writeback(0, 0x000a_0c00), collect(0, 1, 0), writeback(1, 0x000a_0c00), writeback(2, 0x000a_8c00)];
+        let ends = [collect(0, 1, 0), acknowledge(0x20), drain(), collect(0, 1, 0)];
+        let parts = [
+            "P 0 00100040 00000001 00400c80 00001000 00000000",
+            "P 1 00100080 00000001 00400c80 00001040 00000000",
+            "P 2 00000001 00000001 00168c80 00001080 00000000",
+        ]
+        .map(|words| format!("{words} {ZEROS}"));
+        let asked = [
+            "C 9 9 0 1",
+            &parts[0],
+            &parts[1],
+            &parts[2],
+            "H 0 0 00200082",
+            "H 1 0 00200002",
+            "H 1 4 00100000",
+            "Q 1 0 0 0 0 00000000 00000000 1 1",
+            "W 00 00080031",
+            ".",
+        ];
+        let waits = ["C 11 12 9", "Q 1 0 0 0 0 00000000 00000000 1 1", "."];
+        let collected = ["C 17 12 0 120", "H 1 4 00000001", "Q 1 0 0 0 0 00000000 00000020 4 1", "."];
+        hold(with(with(read_of_three(BULK, 0), &tokens), &ends), &[(9, &asked), (11, &waits), (17, &collected)]);
+    }
+
+    /// Four descriptors need 320 bytes: with 256 before 2^32 the opening is refused, with 320 it is not. Place 4 is nobody's.
+    #[test]
+    fn place_d_is_in_the_area_and_nobodys() {
+        let at = |pool| opening(4, 1, 1, 64, 1, [pool, 0x200000, 0x300000, 0x400000]);
+        let mut calls = vec![at(HIGH - 256), at(HIGH - 320)];
+        calls.extend(brought_up());
+        calls.extend([bulk(), submit(0, BULK, 1, 0x1000, 256), writeback(4, 0), writeback(3, 0)]);
+        let last = format!("P 3 00000001 00000001 00000000 000010c0 00000000 {ZEROS}");
+        let fourth = format!("P 4 00000001 00000001 00000000 00000000 00000000 {ZEROS}");
+        let opened = [
+            "C 1 1 0",
+            &fourth,
+            "H 0 0 00200002",
+            "H 0 1 00408000",
+            "H 0 2 40000000",
+            "H 0 4 00000001",
+            "H 0 5 00000001",
+            "F 0 1023 00000001",
+            "U 1 0",
+            "Q 0 0 0 0 0 00000000 00000000 4 1",
+            ".",
+        ];
+        let refused = ["C 11 10 1", "Q 1 0 0 0 0 00000000 00000000 0 1", "."];
+        let written = ["C 12 10 0", &last, "Q 1 0 0 0 0 00000000 00000000 0 1", "."];
+        hold(calls, &[(0, &["C 0 1 1", "."]), (1, &opened), (11, &refused), (12, &written)]);
+    }
 }

@@ -14,7 +14,7 @@ pub enum Sort {
 
 use Sort::{Departure, Outside, Rule};
 
-pub const TAGS: [(&str, Sort, &str); 31] = [
+pub const TAGS: [(&str, Sort, &str); 33] = [
     ("K1", Departure, "a head's overlay stands at byte 32: its words are read by name"),
     ("K2", Departure, "an advance counted again after a port change: not counted, ring dropped"),
     ("K3", Departure, "an advance counted that was acknowledged before the ring: not counted, ring dropped"),
@@ -33,6 +33,8 @@ pub const TAGS: [(&str, Sort, &str); 31] = [
     ("N15", Departure, "an isochronous endpoint can be made: refused"),
     ("N16", Departure, "an endpoint can be dropped in flight: refused"),
     ("N20", Departure, "memory is gone after freeing: its words are kept, a closed head is zeroed"),
+    ("N22", Departure, "every alternate ends: an In request's lead to a descriptor put at place D"),
+    ("N23", Departure, "a short reply waits for the descriptors after it: they are hidden while 000 looks"),
     ("C", Departure, "more than one chunk at a limit other than 20480: the split is replaced"),
     ("P4", Departure, "an unplugged port is Uninit with its first reading: shown with the second"),
     ("N11", Outside, "a buffer past 2^32, or a control request above 16384 bytes: refused"),

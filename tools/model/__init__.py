@@ -1,4 +1,5 @@
-"""A model of the controller, written from document 01 (and docs/DECISIONS.md where 01 is silent), not from the code.
+"""A model of the controller, written from document 01 as 02's order 1 reads it (and docs/DECISIONS.md where both are silent), not from
+the code.
 
 A module a subject, each of them using only those above it:
 

@@ -1,4 +1,4 @@
-"""01, "Unlinking and collecting": cancel and collect."""
+"""01, "Unlinking and collecting", and 02, order 1 (EHCI 4.10): cancel and collect."""
 
 from typing import NamedTuple
 
@@ -6,25 +6,40 @@ from model.answers import CANCELLED, DONE, ENDPOINT, FAILED, INVALID, PENDING, A
 from model.descriptors import CURRENT, RESTING
 from model.schedule import boundary_passed, unlink
 from model.state import IDLE, LINKED, MOST_SLOTS
-from model.tokens import active, bytes_left, data_bytes, has_error
+from model.tokens import active, bytes_left, data_bytes, has_error, may_end_short
 
 
 class Seen(NamedTuple):
-    """What a request's descriptors show: whether it is finished, the first erring token (0 if none errs), the length."""
+    """What a request's descriptors show: whether it is finished; of those that are read the first erring token (0 if none errs), the length."""
 
     finished: bool
     failed: int
     length: int
 
 
-def finished(tokens):
-    """In order, every descriptor is inactive, or an error comes before any active one."""
+def ended_short(token):
+    """Inactive, without error, with bytes left, whatever was requested."""
+    return not active(token) and not has_error(token) and bytes_left(token) > 0
+
+
+def finished(tokens, may_be_short):
+    """In order, every descriptor is inactive, or before any active one comes an error or, where that may be, one that ended short."""
     for token in tokens:
         if active(token):
             return False
         if has_error(token):
             return True
+        if may_be_short and ended_short(token):
+            return True
     return True
+
+
+def up_to_short(tokens):
+    """Up to and with the first that ended short, whether or not an active one stands before it; all where none did."""
+    for count, token in enumerate(tokens, 1):
+        if ended_short(token):
+            return tokens[:count]
+    return tokens
 
 
 def first_erring(tokens):
@@ -41,8 +56,10 @@ def moved(slot, limit, tokens):
 
 
 def see(state, rows, k):
-    tokens = [rows.pool[place].token for place in state.places_of(k)]
-    return Seen(finished(tokens), first_erring(tokens), moved(state.slots[k], state.settings.C, tokens))
+    slot, tokens = state.slots[k], [rows.pool[place].token for place in state.places_of(k)]
+    may_be_short = may_end_short(slot.kind, slot.direction)
+    read = up_to_short(tokens) if may_be_short else tokens
+    return Seen(finished(tokens, may_be_short), first_erring(read), moved(slot, state.settings.C, read))
 
 
 def check_uncrowded(state, k):

@@ -23,6 +23,10 @@ class Descriptor(NamedTuple):
         return [self.next, self.alternate, self.token, *self.pages, *self.upper]
 
 
+# 02, order 1: the shared inactive descriptor, to which a short one leads (EHCI 4.10)
+SHARED = Descriptor(END, END)
+
+
 def page_slots(address, length):
     """Slot 0 is the address, the others the pages after it that begin below the end; all 0 where there is nothing."""
     if length == 0:
@@ -31,9 +35,9 @@ def page_slots(address, length):
     return (address, *[page if page < address + length else 0 for page in pages])
 
 
-def descriptor(part, after):
-    """The descriptor of a part; `after` is the following one's address, or the end."""
-    return Descriptor(after, END, part.token, page_slots(part.address, part.length))
+def descriptor(part, after, alternate=END):
+    """The descriptor of a part; `after` is the following one's address, or the end, and so is `alternate`."""
+    return Descriptor(after, alternate, part.token, page_slots(part.address, part.length))
 
 
 def setup_packet(setup, length):

@@ -1,6 +1,6 @@
 """01, "Order of checks. First: a lent row of a length other than opening fixed, or a state outside its ranges, 1."
 
-The ranges of what is opened are 01's ("Opening a controller"); those of the rest of a state are docs/DECISIONS.md's."""
+The ranges of what is opened are 01's ("Opening a controller"), with the descriptors' area of 02, order 1; those of the rest of a state are docs/DECISIONS.md's."""
 
 from functools import cache
 
@@ -11,7 +11,7 @@ from model.tokens import BULK, CONTROL, INTERRUPT
 def areas(settings):
     """Of each of the four areas: where it begins, its size, and what its address is a multiple of."""
     return [
-        (settings.pool_at, 64 * settings.D, 64),
+        (settings.pool_at, 64 * settings.pool_length(), 64),
         (settings.heads_at, 128 * (settings.E + 1), 128),
         (settings.frames_at, 4096, 4096),
         (settings.setups_at, 8 * settings.E, 8),

@@ -5,7 +5,7 @@ from model.descriptors import END, OVERLAY, descriptor, setup_packet
 from model.registers import RUN_BITS, command as command_write
 from model.schedule import attach
 from model.state import LINKED
-from model.tokens import CONTROL, ISOCHRONOUS, chunk_plan, control_plan, descriptors_needed
+from model.tokens import CONTROL, ISOCHRONOUS, chunk_plan, control_plan, descriptors_needed, may_end_short
 
 
 def buffer_good(kind, direction, setup, address, length):
@@ -21,11 +21,17 @@ def plan(settings, k, kind, direction, address, length):
     return chunk_plan(direction, address, length, settings.C)
 
 
-def write_chain(settings, rows, parts, places):
-    """The request's descriptors, each leading to the one that follows."""
+def alternate_for(settings, kind, direction):
+    """02, order 1: where every descriptor of a request but the last leads when it is short."""
+    return settings.shared_address() if may_end_short(kind, direction) else END
+
+
+def write_chain(settings, rows, parts, places, alternate):
+    """The request's descriptors, each leading to the one that follows; the last has END for both."""
     following = [settings.descriptor_address(place) for place in places[1:]] + [END]
-    for place, part, after in zip(places, parts, following):
-        rows.pool[place] = descriptor(part, after)
+    alternates = [alternate] * len(places[1:]) + [END]
+    for place, part, after, short in zip(places, parts, following, alternates):
+        rows.pool[place] = descriptor(part, after, short)
 
 
 def take_places(state, k, count):
@@ -54,7 +60,8 @@ def submit(state, rows, k, kind, direction, setup, address, length, command):
     count = descriptors_needed(kind, length, settings.C)
     need(len(state.free_places()) >= count, MEMORY)
     places = take_places(state, k, count)
-    write_chain(settings, rows, plan(settings, k, kind, direction, address, length), places)
+    parts = plan(settings, k, kind, direction, address, length)
+    write_chain(settings, rows, parts, places, alternate_for(settings, kind, direction))
     if kind == CONTROL:
         rows.set_setup(k, setup_packet(setup, length))
     rows.set_head(k, [settings.descriptor_address(places[0]), END, 0], OVERLAY)

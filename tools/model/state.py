@@ -23,8 +23,15 @@ class Settings(NamedTuple):
     frames_at: int = 0
     setups_at: int = 0
 
+    def pool_length(self):
+        """02, order 1: D descriptors, and at place D the shared one, which is never lent out."""
+        return self.D + 1
+
     def descriptor_address(self, place):
         return self.pool_at + 64 * place
+
+    def shared_address(self):
+        return self.descriptor_address(self.D)
 
     def head_address(self, slot):
         """Place 0 is the ring head, slot k at place k + 1."""
@@ -35,7 +42,7 @@ class Settings(NamedTuple):
 
     def lengths(self):
         """The lengths of the four rows: descriptors, heads' words, frame entries, setup bytes."""
-        return [self.D, HEAD_WORDS * (self.E + 1), FRAMES, 8 * self.E]
+        return [self.pool_length(), HEAD_WORDS * (self.E + 1), FRAMES, 8 * self.E]
 
 
 class Slot:
@@ -123,5 +130,5 @@ class Rows:
 
 def largest_rows():
     """Rows for any controller, of zeros."""
-    heads = HEAD_WORDS * (MOST_SLOTS + 1)
-    return Rows([Descriptor()] * MOST_DESCRIPTORS, [0] * heads, [0] * FRAMES, bytearray(8 * MOST_SLOTS))
+    pool, heads, frames, setups = Settings(MOST_DESCRIPTORS, MOST_SLOTS).lengths()
+    return Rows([Descriptor()] * pool, [0] * heads, [0] * frames, bytearray(setups))

@@ -67,6 +67,11 @@ def data_bytes(kind, length, limit):
     return (min(limit, length - at) for at in range(0, max(1, length), limit))
 
 
+def may_end_short(kind, direction):
+    """02, order 1: bulk and interrupt In requests; one of a single descriptor has none after it that could be left out."""
+    return kind != CONTROL and direction == IN
+
+
 def descriptors_needed(kind, length, limit):
     """Control 2, or 3 with data; else 1 at length 0, otherwise length / C rounded up."""
     if kind == CONTROL:

@@ -45,8 +45,8 @@ shown-most x =
       decimal-length (x .address),
     ))
 
-pub records-most : (b a : Rows) → length (recordLines (b .pool) (a .pool)) ≤ 35840
-records-most b a = lines-most (λ i. recordChange i (getD (b .pool) i blank) (getD (a .pool) i blank)) 140 (λ i. record-most i _ _) 256
+pub records-most : (b a : Rows) → length (recordLines (b .pool) (a .pool)) ≤ 35980
+records-most b a = lines-most (λ i. recordChange i (getD (b .pool) i blank) (getD (a .pool) i blank)) 140 (λ i. record-most i _ _) 257
 
 pub heads-most : (b a : List ℕ) → length a ≤ 561 → length (headLines b a) ≤ 29733
 heads-most b a h = omega (arith, lines-most (λ i. headChange i (getD b i 0) (getD a i 0)) 53 (λ i. head-most i _ _) (length a))
@@ -57,7 +57,7 @@ frames-most b a h = omega (arith, lines-most (frameChange b a) 53 (frame-most b 
 pub setups-most : (b a : List ℕ) → length (setupLines 32 b a) ≤ 1280
 setups-most b a = lines-most (setupChange b a) 40 (setup-most b a) 32
 
-pub rows-most : (b a : Rows) → length (a .heads) ≤ 561 → length (a .frames) ≤ 1024 → length (rowsLines b a) ≤ 121125
+pub rows-most : (b a : Rows) → length (a .heads) ≤ 561 → length (a .frames) ≤ 1024 → length (rowsLines b a) ≤ 121265
 unfolding rowsLines
 rows-most b a h g =
     simp length-append

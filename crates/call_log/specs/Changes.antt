@@ -41,7 +41,7 @@ unfoldable pub recordChange : ℕ → QueueTransferDescriptor → QueueTransferD
 recordChange place before after = onlyIf (not (sameRecord before after)) (recordLine place after)
 
 abbrev pub recordLines : List QueueTransferDescriptor → List QueueTransferDescriptor → List ℕ
-recordLines before after = linesTo (λ i. recordChange i (getD before i blank) (getD after i blank)) 256
+recordLines before after = linesTo (λ i. recordChange i (getD before i blank) (getD after i blank)) 257
 
 -- ---- `F first last value` for each longest run of changed frame entries with one value
 

@@ -27,7 +27,7 @@ use words::core::Core;
 
 // The rows and the ports' states, before a call or after it.
 pub struct Rows {
-    pub pool: [QueueTransferDescriptor; 256],
+    pub pool: [QueueTransferDescriptor; 257],
     pub heads: [u32; 561],
     pub frames: [u32; 1024],
     pub setups: [u8; 256],
@@ -59,7 +59,7 @@ fn put_setup_rows(out: &mut [u8], at: usize, before: [u8; 256], after: [u8; 256]
 }
 
 pub fn put_rows(out: &mut [u8], at: usize, before: Rows, after: Rows) -> usize
-    requires { ⌜ at + 121421 ≤ length (now out) ⌝ }
+    requires { ⌜ at + 121561 ≤ length (now out) ⌝ }
     ensures { λ r. ⌜ now (out .exit) ≡ putAt (now (out .entry)) at (rowsLines before after) ⌝ }
     ensures { λ r. ⌜ r ≡ at + length (rowsLines before after) ⌝ }
 {

@@ -8,7 +8,7 @@ use crate::line::put_line;
 use crate::lines::record_line;
 use descriptor::qtd::QueueTransferDescriptor;
 
-const RECORDS: usize = 256;
+const RECORDS: usize = 257;
 
 fn same_five(a: [u32; 5], b: [u32; 5]) -> bool
     ensures { λ r. ⌜ r ≡ sameFive a b ⌝ }
@@ -49,10 +49,10 @@ fn put_record(
 pub fn put_records(
     out: &mut [u8],
     at: usize,
-    before: [QueueTransferDescriptor; 256],
-    after: [QueueTransferDescriptor; 256],
+    before: [QueueTransferDescriptor; 257],
+    after: [QueueTransferDescriptor; 257],
 ) -> usize
-    requires { ⌜ at + 140 * 256 + 296 ≤ length (now out) ⌝ }
+    requires { ⌜ at + 140 * 257 + 296 ≤ length (now out) ⌝ }
     ensures { λ r. ⌜ now (out .exit) ≡ putAt (now (out .entry)) at (recordLines before after) ⌝ }
     ensures { λ r. ⌜ r ≡ at + length (recordLines before after) ⌝ }
 {

@@ -8,8 +8,10 @@ use borrow.Author.Tests.{eq-eqb, le-leb, lt-ltb}
 use lib.ListN.{length, length-take, take}
 use Rattle.bitset.specs.Places.{Within as WithinSet, setPlaces}
 use Rattle.settings.specs.declared.settings.Settings.{Settings}
+use Rattle.settings.specs.Settings.{poolLength}
 use Rattle.pool.specs.Chains.{noAsk}
 use Rattle.pool.specs.Places.{Within, packed, placesFrom}
+use Rattle.pool.specs.Transfers.{endsShort}
 use Rattle.pool.specs.Words.{AskWordsGood, noAskWords}
 use Rattle.pool.specs.declared.asked.AskWords.{AskWords}
 use Rattle.pool.proofs.Each.{each-map}
@@ -33,16 +35,16 @@ use Rattle.collection.specs.Asks.{askIf, askOf, askable, requestAsk}
 use Rattle.collection.specs.Words.{askView, requestAskWords}
 use Rattle.collection.proofs.WordsSlots.{slot-low}
 
-pub asked-words : (s : Settings) (ws ps : List ℕ) (k : ℕ) (p : Pipe) (q : Request) → ps ≡ placesAt ws k
-    → _≡_ {A = AskWords} (record { places = ps; kind = p .kind; length = q .length; limit = s .limit }) (requestAskWords s ws k p q)
+pub asked-words : (s : Settings) (ws ps : List ℕ) (k : ℕ) (p : Pipe) (q : Request) (stops : Bool) → ps ≡ placesAt ws k → stops ≡ endsShort (p .kind) (q .direction)
+    → _≡_ {A = AskWords} (record { places = ps; kind = p .kind; length = q .length; limit = s .limit; stops = stops }) (requestAskWords s ws k p q)
 unfolding requestAskWords
-asked-words s ws ps k p q e = rw e
+asked-words s ws ps k p q stops e es = rw (e, es)
 
 -- ---- nothing is asked
 
 none-view : askView noAskWords ≡ noAsk
 unfolding noAskWords noAsk
-none-view = ap (λ (ps : List ℕ). record { places = packed ps; kind = noAskWords .kind; length = 0; limit = 0 }) no-places
+none-view = ap (λ (ps : List ℕ). record { places = packed ps; kind = noAskWords .kind; length = 0; limit = 0; stops = false }) no-places
 
 none-if : (b : Bool) → askIf b noAsk ≡ noAsk
 none-if true = refl
@@ -67,11 +69,11 @@ module _ (s : Settings) (r : Rest) (ws : List ℕ) (good : Good s r ws) (k : ℕ
   own-set : placesFrom 0 (take (s .descriptors) (ownersOf ws)) (k + 1) 256 ≡ setPlaces (placesAt ws k)
   own-set = own-places s r ws (good .tidy) few (good-settings s r ws good .endpoints-most) k
 
-  own-within : WithinSet (s .descriptors) (setPlaces (placesAt ws k))
+  own-within : WithinSet (poolLength s) (setPlaces (placesAt ws k))
   own-within =
-      subst (λ (ps : List ℕ). WithinSet (s .descriptors) ps) own-set
-      (set-within (s .descriptors) (placesFrom 0 front (k + 1) 256)
-      (each-map (λ (i : ℕ). i < length front) (λ (i : ℕ). i < s .descriptors) (λ i h. omega (arith, h, length-take (s .descriptors) (ownersOf ws)))
+      subst (λ (ps : List ℕ). WithinSet (poolLength s) ps) own-set
+      (set-within (poolLength s) (placesFrom 0 front (k + 1) 256)
+      (each-map (λ (i : ℕ). i < length front) (λ (i : ℕ). i < poolLength s) (λ i h. omega (arith, h, length-take (s .descriptors) (ownersOf ws)))
       (placesFrom 0 front (k + 1) 256) (places-within front (k + 1) 256)))
     where
       front : List ℕ
@@ -82,52 +84,52 @@ module _ (s : Settings) (r : Rest) (ws : List ℕ) (good : Good s r ws) (k : ℕ
   request-view : (p : Pipe) (q : Request) → askView (requestAskWords s ws k p q) ≡ requestAsk (stateOf s r ws) k p q
   unfolding requestAskWords requestAsk stateOf
   request-view p q =
-      ap (λ (ps : List ℕ). record { places = packed ps; kind = p .kind; length = q .length; limit = s .limit }) (sym own-set)
+      ap (λ (ps : List ℕ). record { places = packed ps; kind = p .kind; length = q .length; limit = s .limit; stops = endsShort (p .kind) (q .direction) }) (sym own-set)
 
-  may-ask : k < s .endpoints → askable (stateOf s r ws .settings) (s .descriptors) k ≡ true
+  may-ask : k < s .endpoints → askable (stateOf s r ws .settings) (poolLength s) k ≡ true
   unfolding askable stateOf
   may-ask here =
       rw (
         le-leb (s .descriptors) 256 few,
-        eq-eqb (s .descriptors) (s .descriptors) refl,
+        eq-eqb (poolLength s) (poolLength s) refl,
         le-leb (s .limit) 16384 (ask-limit s r ws good),
         lt-ltb k 32 (slot-low s r ws good k here),
       )
 
   module _ (e : Endpoint) (ee : e ≡ endpointAt (stateOf s r ws) k) (a : AskWords) where
-    pub asks-closed : e ≡ Closed → a ≡ noAskWords → askView a ≡ askOf (stateOf s r ws) (s .descriptors) k
+    pub asks-closed : e ≡ Closed → a ≡ noAskWords → askView a ≡ askOf (stateOf s r ws) (poolLength s) k
     unfolding askOf
     asks-closed h ea =
-        ap (λ (x : AskWords). askView x) ea ∙ none-view ∙ rw (sym ee ∙ h) (sym (none-if (askable (stateOf s r ws .settings) (s .descriptors) k)))
+        ap (λ (x : AskWords). askView x) ea ∙ none-view ∙ rw (sym ee ∙ h) (sym (none-if (askable (stateOf s r ws .settings) (poolLength s) k)))
 
-    pub asks-idle : (p : Pipe) → e ≡ Idle p → a ≡ noAskWords → askView a ≡ askOf (stateOf s r ws) (s .descriptors) k
+    pub asks-idle : (p : Pipe) → e ≡ Idle p → a ≡ noAskWords → askView a ≡ askOf (stateOf s r ws) (poolLength s) k
     unfolding askOf
     asks-idle p h ea =
-        ap (λ (x : AskWords). askView x) ea ∙ none-view ∙ rw (sym ee ∙ h) (sym (none-if (askable (stateOf s r ws .settings) (s .descriptors) k)))
+        ap (λ (x : AskWords). askView x) ea ∙ none-view ∙ rw (sym ee ∙ h) (sym (none-if (askable (stateOf s r ws .settings) (poolLength s) k)))
 
     asks-request : (p : Pipe) (q : Request) → a ≡ requestAskWords s ws k p q → askView a ≡ requestAsk (stateOf s r ws) k p q
     asks-request p q ea = ap (λ (x : AskWords). askView x) ea ∙ request-view p q
 
-    asked-good : (p : Pipe) (q : Request) → RequestAt s ws k p q → a ≡ requestAskWords s ws k p q → AskWordsGood (s .descriptors) a
+    asked-good : (p : Pipe) (q : Request) → RequestAt s ws k p q → a ≡ requestAskWords s ws k p q → AskWordsGood (poolLength s) a
     unfolding requestAskWords
     asked-good p q at ea =
         rw ea (record { within = own-within; short = at .length-below; limited = ask-limit s r ws good })
 
     pub asks-linked : (p : Pipe) (q : Request) → e ≡ Linked p q → a ≡ requestAskWords s ws k p q
-        → askView a ≡ askOf (stateOf s r ws) (s .descriptors) k
+        → askView a ≡ askOf (stateOf s r ws) (poolLength s) k
     unfolding askOf
     asks-linked p q h ea =
         asks-request p q ea ∙ rw (may-ask (linked-at s r ws good k p q (sym ee ∙ h) .request .within), sym ee ∙ h)
 
-    pub linked-asks-good : (p : Pipe) (q : Request) → e ≡ Linked p q → a ≡ requestAskWords s ws k p q → AskWordsGood (s .descriptors) a
+    pub linked-asks-good : (p : Pipe) (q : Request) → e ≡ Linked p q → a ≡ requestAskWords s ws k p q → AskWordsGood (poolLength s) a
     linked-asks-good p q h ea = asked-good p q (linked-at s r ws good k p q (sym ee ∙ h) .request) ea
 
     pub asks-unlinking : (p : Pipe) (q : Request) (b : UnlinkBoundary) → e ≡ Unlinking p q b → a ≡ requestAskWords s ws k p q
-        → askView a ≡ askOf (stateOf s r ws) (s .descriptors) k
+        → askView a ≡ askOf (stateOf s r ws) (poolLength s) k
     unfolding askOf
     asks-unlinking p q b h ea =
         asks-request p q ea ∙ rw (may-ask (unlinking-at s r ws good k p q b (sym ee ∙ h) .request .within), sym ee ∙ h)
 
     pub unlinking-asks-good : (p : Pipe) (q : Request) (b : UnlinkBoundary) → e ≡ Unlinking p q b → a ≡ requestAskWords s ws k p q
-        → AskWordsGood (s .descriptors) a
+        → AskWordsGood (poolLength s) a
     unlinking-asks-good p q b h ea = asked-good p q (unlinking-at s r ws good k p q b (sym ee ∙ h) .request) ea

@@ -1,4 +1,4 @@
--- Which records a collect looks at: those of the slot's request, in the order of their places.
+-- Which records a collect looks at: those of the slot's request, in the order of their places, and whether it stops at a short one.
 use Prim.Native.Nat.{ℕ, _+_}
 use mathlib.Core.Bool.{Bool, true, false}
 use mathlib.Core.List.{[], _∷_}
@@ -7,8 +7,10 @@ use lib.ListN.{take}
 use Rattle.pool.specs.Chains.{noAsk}
 use Rattle.pool.specs.Places.{packed, placesFrom}
 use Rattle.pool.specs.Plain.{Ask}
+use Rattle.pool.specs.Transfers.{endsShort}
 use Rattle.common.specs.Tests.{every}
 use Rattle.settings.specs.declared.settings.Settings.{Settings}
+use Rattle.settings.specs.Settings.{poolLength}
 use Rattle.state.specs.Plain.{Ehci}
 use Rattle.pipe.specs.Endpoints.{endpointAt}
 use Rattle.pipe.specs.declared.endpoints.Endpoint.{Endpoint}
@@ -19,7 +21,7 @@ use Rattle.pipe.specs.declared.endpoints.Request.{Request}
 -- what a state in its ranges, a pool that fits and the number of a slot have
 unfoldable pub askable : Settings → ℕ → ℕ → Bool
 askable s pool slot =
-    every (leb (s .descriptors) 256 ∷ eqb (s .descriptors) pool ∷ leb (s .limit) 16384 ∷ ltb slot 32 ∷ [])
+    every (leb (s .descriptors) 256 ∷ eqb (poolLength s) pool ∷ leb (s .limit) 16384 ∷ ltb slot 32 ∷ [])
 
 -- the places that the slot owns, among the pool's
 unfoldable pub requestAsk : Ehci → ℕ → Pipe → Request → Ask
@@ -29,6 +31,7 @@ requestAsk s slot p r =
       kind = p .kind;
       length = r .length;
       limit = s .settings .limit;
+      stops = endsShort (p .kind) (r .direction);
     }
 
 abbrev pub askAt : Endpoint → Ehci → ℕ → Ask

@@ -65,10 +65,10 @@ abbrev pub seen : ℕ → ℕ → ℕ → View
 seen stage failed moved = record { stage = stage; failed = failed; moved = moved }
 
 abbrev pub cancelled : Ehci → ℕ → ℕ → Left
-cancelled s slot id = cancelOf s 4 ringOfOne noFrames 16 (readings 0) slot id
+cancelled s slot id = cancelOf s 5 ringOfOne noFrames 16 (readings 0) slot id
 
 abbrev pub collected : Ehci → ℕ → View → ℕ → ℕ → Gathered
-collected s frame view slot id = collectOf s 4 ringOfOne noFrames 16 (readings frame) view slot id
+collected s frame view slot id = collectOf s 5 ringOfOne noFrames 16 (readings frame) view slot id
 
 -- the slot's phase, its mark and boundary; unanswered; the owner of place 0
 abbrev pub stateRow : Ehci → List ℕ

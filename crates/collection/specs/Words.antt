@@ -11,6 +11,7 @@ use Rattle.state.specs.Plain.{Ehci}
 use Rattle.pool.specs.Places.{packed}
 use Rattle.pool.specs.declared.asked.AskWords.{AskWords}
 use Rattle.pool.specs.Plain.{Ask}
+use Rattle.pool.specs.Transfers.{endsShort}
 use Rattle.pipe.specs.Endpoints.{endpointAt}
 use Rattle.pipe.specs.declared.endpoints.Endpoint.the-variants.{Linked}
 use Rattle.pipe.specs.declared.endpoints.Pipe.{Pipe}
@@ -31,11 +32,19 @@ abbrev pub collectedView : Settings → CollectionWords → List ℕ → Collect
 collectedView s r ws = record { answer = r .answer; state = stateOf s (r .rest) ws; writes = r .writes }
 
 abbrev pub askView : AskWords → Ask
-askView a = record { places = packed (setPlaces (a .places)); kind = a .kind; length = a .length; limit = a .limit }
+askView a =
+    record { places = packed (setPlaces (a .places)); kind = a .kind; length = a .length; limit = a .limit; stops = a .stops }
 
 -- what is asked of a slot's own request
 unfoldable pub requestAskWords : Settings → List ℕ → ℕ → Pipe → Request → AskWords
-requestAskWords s ws slot p r = record { places = placesAt ws slot; kind = p .kind; length = r .length; limit = s .limit }
+requestAskWords s ws slot p r =
+    record {
+      places = placesAt ws slot;
+      kind = p .kind;
+      length = r .length;
+      limit = s .limit;
+      stops = endsShort (p .kind) (r .direction);
+    }
 
 abbrev pub refusedCancelWords : Rest → Refusal → CancellationWords
 refusedCancelWords rest r = record { answer = RefusedCall r; rest = rest; writes = noWrites }

@@ -4,6 +4,7 @@ use mathlib.Core.Path.{_≡_, refl, sym}
 use mathlib.Core.Bool.{true}
 use mathlib.Core.List.{List}
 use Rattle.settings.specs.declared.settings.Settings.{Settings}
+use Rattle.settings.specs.Settings.{poolLength}
 use Rattle.opening.specs.Opening.{rowsFit}
 use Rattle.opening.proofs.OpenLaws.{rows-make}
 use Rattle.words.specs.declared.core.Rest.{Rest}
@@ -20,7 +21,7 @@ accepts-viewed s r ws good pool heads frames setups e =
 
 -- the lengths of the rows that a call is not lent
 pub rows-fixed : (s : Settings) (heads : ℕ) → heads ≡ 17 * (s .endpoints + 1)
-    → rowsFit s (s .descriptors) heads 1024 (8 * s .endpoints) ≡ true
+    → rowsFit s (poolLength s) heads 1024 (8 * s .endpoints) ≡ true
 rows-fixed s heads e =
-    rows-make s (s .descriptors) heads 1024 (8 * s .endpoints)
+    rows-make s (poolLength s) heads 1024 (8 * s .endpoints)
     (record { pool-fits = refl; heads-fit = e; frames-fit = refl; setups-fit = refl })

@@ -7,7 +7,7 @@ use lib.ListN.{length}
 use Rattle.bitset.specs.Places.{setPlaces}
 use Rattle.common.proofs.TestLaws.{both-tells}
 use Rattle.descriptor.specs.declared.qtd.QueueTransferDescriptor.{QueueTransferDescriptor as Record}
-use Rattle.pool.specs.Chains.{fillOf, seenFrom, viewOf}
+use Rattle.pool.specs.Chains.{fillOf, readOf, seenFrom, viewOf}
 use Rattle.pool.specs.Words.{WritingGood, writtenWith}
 use Rattle.pool.specs.declared.asked.AskWords.{AskWords}
 use Rattle.pool.specs.Plain.{Ask}
@@ -43,7 +43,7 @@ module _ (core : Core) (ss : List ℕ) (rs : List Record) (hs fs us : List ℕ) 
   may-decide h = accepts-judged core ss (length rs) (length hs) (length fs) (length us) (sym (e₁ .good-is) ∙ h)
 
 abbrev told : AskWords → List Record → View
-told a rs = viewOf (seenFrom (a .kind) (a .length) (a .limit) 0 (setPlaces (a .places)) rs)
+told a rs = viewOf (readOf (a .stops) (seenFrom (a .kind) (a .length) (a .limit) 0 (setPlaces (a .places)) rs))
 
 module _ (core : Core) (ss : List ℕ) (rs : List Record) (hs fs us : List ℕ) (cl : Call) (l : Looked) (asked : AskWords) (v : View) (g : Bool) (d : Decided) (x : Writing) (ws wh wf wu : List ℕ)
     (e₁ : LooksGood core ss (length rs) (length hs) (length fs) (length us) cl l) (ea : asked ≡ l .ask) (e₂ : v ≡ told asked rs) (eg : g ≡ l .good)

@@ -8,6 +8,7 @@ use Rattle.pool.specs.Chains.{noAsk}
 use Rattle.pool.specs.Words.{AskWordsGood, noAskWords}
 use Rattle.pool.specs.declared.asked.AskWords.{AskWords}
 use Rattle.pool.proofs.WordLaws.{no-ask-words-good}
+use Rattle.settings.specs.Settings.{poolLength}
 use Rattle.opening.specs.Opening.{rowsFit}
 use Rattle.opening.proofs.OpenLaws.{rows-tell}
 use Rattle.words.specs.declared.core.Core.{Core}
@@ -38,24 +39,24 @@ module _ (c : Core) (ws : List ℕ) (good : Bool) (call : Call) (a : AskWords) w
   asks-refused h e =
       record {
         ask-is = λ yes. absurd (false-true (sym (not-true good h) ∙ yes));
-        ask-good = subst (λ (x : AskWords). AskWordsGood (c .settings .descriptors) x) (sym e) (no-ask-words-good (c .settings .descriptors));
+        ask-good = subst (λ (x : AskWords). AskWordsGood (poolLength (c .settings)) x) (sym e) (no-ask-words-good (poolLength (c .settings)));
         none-asked = λ no. e;
       }
 
-  pub asks-none : (k : Call) → call ≡ k → asksOf (view c ws) (c .settings .descriptors) k ≡ noAsk → a ≡ noAskWords → AsksGood c ws good call a
+  pub asks-none : (k : Call) → call ≡ k → asksOf (view c ws) (poolLength (c .settings)) k ≡ noAsk → a ≡ noAskWords → AsksGood c ws good call a
   asks-none k is none e =
       record {
-        ask-is = λ yes. ap askView e ∙ no-ask-view ∙ sym none ∙ ap (asksOf (view c ws) (c .settings .descriptors)) (sym is);
-        ask-good = subst (λ (x : AskWords). AskWordsGood (c .settings .descriptors) x) (sym e) (no-ask-words-good (c .settings .descriptors));
+        ask-is = λ yes. ap askView e ∙ no-ask-view ∙ sym none ∙ ap (asksOf (view c ws) (poolLength (c .settings))) (sym is);
+        ask-good = subst (λ (x : AskWords). AskWordsGood (poolLength (c .settings)) x) (sym e) (no-ask-words-good (poolLength (c .settings)));
         none-asked = λ no. e;
       }
 
-  pub asks-slot : (k id : ℕ) (readings : Readings) → call ≡ Collect k id readings → not good ≡ false → askView a ≡ askOf (view c ws) (c .settings .descriptors) k
-      → AskWordsGood (c .settings .descriptors) a → AsksGood c ws good call a
+  pub asks-slot : (k id : ℕ) (readings : Readings) → call ≡ Collect k id readings → not good ≡ false → askView a ≡ askOf (view c ws) (poolLength (c .settings)) k
+      → AskWordsGood (poolLength (c .settings)) a → AsksGood c ws good call a
   unfolding asksOf
   asks-slot k id readings is h e g =
       record {
-        ask-is = λ yes. e ∙ ap (asksOf (view c ws) (c .settings .descriptors)) (sym is);
+        ask-is = λ yes. e ∙ ap (asksOf (view c ws) (poolLength (c .settings))) (sym is);
         ask-good = g;
         none-asked = λ no. absurd (false-true (sym no ∙ not-false good h));
       }
@@ -66,7 +67,7 @@ module _ (c : Core) (ws : List ℕ) (pool heads frames setups : ℕ) (g : Bool) 
   pub may-ask : g ≡ true → Good (c .settings) (c .rest) ws
   may-ask h = accepts-judged c ws pool heads frames setups (sym e ∙ h) .words
 
-  same-pool : g ≡ true → c .settings .descriptors ≡ pool
+  same-pool : g ≡ true → poolLength (c .settings) ≡ pool
   same-pool h = sym (rows-tell (c .settings) pool heads frames setups (accepts-judged c ws pool heads frames setups (sym e ∙ h) .rows) .pool-fits)
 
   pub looks : (call : Call) (a : AskWords) → AsksGood c ws g call a → LooksGood c ws pool heads frames setups call (record { good = g; ask = a })

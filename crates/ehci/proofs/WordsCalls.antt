@@ -9,6 +9,7 @@ use Rattle.pool.specs.declared.chain.View.{View}
 use Rattle.pool.specs.declared.writing.Writing.{Writing}
 use Rattle.common.specs.declared.answer.Refusal.the-variants.{InvalidParameter}
 use Rattle.common.proofs.TestLaws.{false-true}
+use Rattle.settings.specs.Settings.{poolLength}
 use Rattle.opening.specs.Opening.{rowsFit}
 use Rattle.opening.proofs.OpenLaws.{rows-tell}
 use Rattle.words.specs.declared.core.Core.{Core}
@@ -109,7 +110,7 @@ module _ (c : Core) (ws : List ℕ) (good : Bool) (n : ℕ) (hs fs us : List ℕ
 
     -- what is written is of the pool that opening fixed
     pub writes-call : (d : Decided) (ws′ h f u : List ℕ) → came (decidedView (c .settings) d ws′) h f u ≡ callOf (view c ws) n hs fs us v k
-        → Tidy (c .settings) (d .reply .rest) ws′ → Writable (c .settings .descriptors) (d .writing) → Answers d ws′ h f u
+        → Tidy (c .settings) (d .reply .rest) ws′ → Writable (poolLength (c .settings)) (d .writing) → Answers d ws′ h f u
     writes-call d ws′ h f u e t w =
         let same = rows-tell (c .settings) n (length hs) (length fs) (length us) (judged (not-false good on) .rows) .pool-fits in
         words-call d ws′ h f u e t (subst (λ (m : ℕ). Writable m (d .writing)) (sym same) w)

@@ -11,6 +11,7 @@ use Rattle.pool.specs.Plain.{Chain}
 use Rattle.pool.specs.declared.chain.View.{View}
 use Rattle.pool.specs.declared.writing.Writing.{Writing}
 use Rattle.settings.specs.declared.settings.Settings.{Settings}
+use Rattle.settings.specs.Settings.{poolLength}
 use Rattle.state.specs.Ranges.{inRanges}
 use Rattle.opening.specs.Opening.{rowsFit}
 use Rattle.words.specs.declared.core.Core.{Core}
@@ -101,16 +102,16 @@ acknowledge-words c y x d e f k =
 
 pub written-words : (c : Core) (place token : ℕ) (x : WrittenBack) (a : Answered) (w : Writes) (wr : Writing) → a ≡ simply (x .answer) → w ≡ noWrites → wr ≡ markedOnly (x .marking)
     → ((ws : List ℕ) → Good (c .settings) (c .rest) ws → (lent : Lengths) → acceptsOf (view c ws) lent ≡ true → writtenView (c .settings) x ws ≡ writebackOf (view c ws) lent place token)
-    → x .rest ≡ c .rest → MarkingGood (c .settings .descriptors) (x .marking)
+    → x .rest ≡ c .rest → MarkingGood (poolLength (c .settings)) (x .marking)
     → ((ws : List ℕ) → Good (c .settings) (c .rest) ws → (lent : Lengths) → acceptsOf (view c ws) lent ≡ true
     → decidedView (c .settings) (record { reply = record { rest = x .rest; answer = a; writes = w }; writing = wr }) ws ≡ writebackDecided (view c ws) lent place token)
-    × ((x .rest ≡ c .rest) × Writable (c .settings .descriptors) wr)
+    × ((x .rest ≡ c .rest) × Writable (poolLength (c .settings)) wr)
 unfolding writebackDecided
 written-words c place token x a w wr ea ew er f k g = (
   (λ ws h lent q.
       ap (with-chain (c .settings) (x .rest) a w ws) (ap (chainIn (c .settings)) er ∙ marked-chain (c .settings) (x .marking))
       ∙ written-came (writtenView (c .settings) x ws) a w _ ea ew (f ws h lent q)),
-  (k, subst (λ (v : Writing). Writable (c .settings .descriptors) v) (sym er) (marked-writable (c .settings .descriptors) (x .marking) g)),
+  (k, subst (λ (v : Writing). Writable (poolLength (c .settings)) v) (sym er) (marked-writable (poolLength (c .settings)) (x .marking) g)),
 )
 
 -- ---- the arms that are lent the slots
@@ -162,17 +163,17 @@ module _ (c : Core) (ws ws′ : List ℕ) where
     pub submit-words : (u u′ : List ℕ) (y : Readings) (k : ℕ) (t : TransferRequest) (x : Submitted) (a : Answered) (wr : Writing) → a ≡ submittedAnswer (x .answer) → wr ≡ laidOnly (x .laying)
         → ((pool : ℕ) → rowsFit (c .settings) pool (length h) (length f) (length u) ≡ true
         → submitted (submittedView (c .settings) x ws′) h′ f′ u′ ≡ submitOf (view c ws) pool h f u y k t)
-        → Tidy (c .settings) (x .rest) ws′ → LayingGood (c .settings .descriptors) (x .laying)
+        → Tidy (c .settings) (x .rest) ws′ → LayingGood (poolLength (c .settings)) (x .laying)
         → ((pool : ℕ) → rowsFit (c .settings) pool (length h) (length f) (length u) ≡ true
         → came (decidedView (c .settings) (record { reply = record { rest = x .rest; answer = a; writes = x .writes }; writing = wr }) ws′) h′ f′ u′
         ≡ submitDecided (view c ws) pool h f u y k t)
-        × (Tidy (c .settings) (x .rest) ws′ × Writable (c .settings .descriptors) wr)
+        × (Tidy (c .settings) (x .rest) ws′ × Writable (poolLength (c .settings)) wr)
     unfolding submitDecided
     submit-words u u′ y k t x a wr ea er g tidy good = (
       (λ pool q.
           ap (λ (z : Chain). came (with-chain (c .settings) (x .rest) a (x .writes) ws′ z) h′ f′ u′) (ap (chainIn (c .settings)) er ∙ laid-chain (c .settings) (x .laying))
           ∙ submit-came (submittedView (c .settings) x ws′) a h′ f′ u′ _ ea (g pool q)),
-      (tidy, subst (λ (v : Writing). Writable (c .settings .descriptors) v) (sym er) (laid-writable (c .settings .descriptors) (x .laying) good)),
+      (tidy, subst (λ (v : Writing). Writable (poolLength (c .settings)) v) (sym er) (laid-writable (poolLength (c .settings)) (x .laying) good)),
     )
 
 -- ---- calls that are an arm by themselves

@@ -5,7 +5,7 @@ use mathlib.Core.Bool.{Bool, true, false, cond}
 use mathlib.Core.List.{List, [], _∷_}
 use Rattle.bitset.specs.Places.{setPlaces}
 use Rattle.descriptor.specs.declared.qtd.QueueTransferDescriptor.{QueueTransferDescriptor as Record}
-use Rattle.pool.specs.Chains.{fillOf, noAsk, noChain, seenFrom, viewOf}
+use Rattle.pool.specs.Chains.{fillOf, noAsk, noChain, readOf, seenFrom, viewOf}
 use Rattle.pool.specs.Places.{packed}
 use Rattle.pool.specs.Words.{LayingGood, MarkingGood, noAskWords, noLaying, noMarking, noTransfer, noWords, noWriting, wherePlaces, writtenWith}
 use Rattle.pool.specs.declared.asked.AskWords.{AskWords}
@@ -78,11 +78,11 @@ marked-writable n m g =
 -- ---- what is asked
 
 pub asked-same : (a : AskWords) (rs : List Record)
-    → seenBy (askView a) rs ≡ viewOf (seenFrom (a .kind) (a .length) (a .limit) 0 (setPlaces (a .places)) rs)
-asked-same a rs = ap (λ (ps : List ℕ). viewOf (seenFrom (a .kind) (a .length) (a .limit) 0 ps rs)) (list-packed (setPlaces (a .places)))
+    → seenBy (askView a) rs ≡ viewOf (readOf (a .stops) (seenFrom (a .kind) (a .length) (a .limit) 0 (setPlaces (a .places)) rs))
+asked-same a rs = ap (λ (ps : List ℕ). viewOf (readOf (a .stops) (seenFrom (a .kind) (a .length) (a .limit) 0 ps rs))) (list-packed (setPlaces (a .places)))
 
 abbrev none-at : List ℕ → Ask
-none-at ps = record { places = packed ps; kind = Control; length = 0; limit = 0 }
+none-at ps = record { places = packed ps; kind = Control; length = 0; limit = 0; stops = false }
 
 pub no-ask-view : askView noAskWords ≡ noAsk
 unfolding noAskWords noAsk

@@ -3,7 +3,7 @@ use Prim.Native.Nat.{ℕ}
 use mathlib.Core.List.{List}
 use lib.ListN.{length}
 use Rattle.descriptor.specs.declared.qtd.QueueTransferDescriptor.{QueueTransferDescriptor}
-use Rattle.pool.specs.Chains.{fillOf, seenFrom, viewOf}
+use Rattle.pool.specs.Chains.{fillOf, readOf, seenFrom, viewOf}
 use Rattle.pool.specs.Places.{listOf}
 use Rattle.pool.specs.Plain.{Ask}
 use Rattle.pool.specs.declared.chain.View.{View}
@@ -26,7 +26,7 @@ applied r pool heads frames setups =
 
 -- what the records say of what is asked
 abbrev pub seenBy : Ask → List QueueTransferDescriptor → View
-seenBy a pool = viewOf (seenFrom (a .kind) (a .length) (a .limit) 0 (listOf (a .places)) pool)
+seenBy a pool = viewOf (readOf (a .stops) (seenFrom (a .kind) (a .length) (a .limit) 0 (listOf (a .places)) pool))
 
 -- the chain is written, the rest is as decided
 abbrev pub carriedOut : Outcome → List QueueTransferDescriptor → Applied

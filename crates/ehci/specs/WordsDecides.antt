@@ -16,6 +16,7 @@ use Rattle.pool.specs.declared.laying.Laying.{Laying}
 use Rattle.pool.specs.declared.marking.Marking.{Marking}
 use Rattle.pool.specs.declared.writing.Writing.{Writing}
 use Rattle.settings.specs.declared.settings.Settings.{Settings}
+use Rattle.settings.specs.Settings.{poolLength}
 use Rattle.words.specs.declared.core.Core.{Core}
 use Rattle.words.specs.declared.core.Rest.{Rest}
 use Rattle.words.specs.Good.{Tidy}
@@ -93,8 +94,8 @@ broughtWords b = repliedWords (b .rest) (broughtAnswer (b .answer) (b .read) (b 
 
 -- nothing where the words are refused
 pub record AsksGood (c : Core) (ws : List ℕ) (good : Bool) (call : Call) (a : AskWords) : Type 0 where
-  pub ask-is : good ≡ true → askView a ≡ asksOf (view c ws) (c .settings .descriptors) call
-  pub ask-good : AskWordsGood (c .settings .descriptors) a
+  pub ask-is : good ≡ true → askView a ≡ asksOf (view c ws) (poolLength (c .settings)) call
+  pub ask-good : AskWordsGood (poolLength (c .settings)) a
   pub none-asked : good ≡ false → a ≡ noAskWords
 
 pub record LooksGood (c : Core) (ws : List ℕ) (pool heads frames setups : ℕ) (call : Call) (l : Looked) : Type 0 where

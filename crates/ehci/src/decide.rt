@@ -8,6 +8,7 @@ ghost use Rattle.state.specs.Ranges.{inRanges};
 ghost use Rattle.opening.specs.Opening.{rowsFit};
 ghost use Rattle.controller.specs.Lent.{acceptsOf};
 ghost use Rattle.controller.specs.Plain.{Lengths};
+ghost use Rattle.settings.specs.Settings.{poolLength};
 ghost use Rattle.words.specs.Good.{Good, Tidy};
 ghost use Rattle.words.specs.View.{view};
 ghost use Rattle.ehci.specs.Decides.{acknowledgeDecided, allotDecided, came, cancelDecided, collectDecided, drainDecided, headsCame, linksCame, openDecided, submitDecided, writebackDecided};
@@ -104,7 +105,7 @@ fn on_submit(
         → came (decidedView (core .settings) r (now (slots .exit))) (now (heads .exit)) (now (frames .exit)) (now (setups .exit))
         ≡ submitDecided (view core (now (slots .entry))) pool (now (heads .entry)) (now (frames .entry)) (now (setups .entry)) readings slot request) ⌝ }
     ensures { λ r. ⌜ Tidy (core .settings) (r .reply .rest) (now (slots .exit)) ⌝ }
-    ensures { λ r. ⌜ Writable (core .settings .descriptors) (r .writing) ⌝ }
+    ensures { λ r. ⌜ Writable (poolLength (core .settings)) (r .writing) ⌝ }
 {
     let x = submit(core, slots, heads, frames, setups, readings, slot, request);
     let answer = x.answer;
@@ -125,7 +126,7 @@ fn on_writeback(core: Core, place: u64, token: u32) -> Decided
     ensures { λ r. ⌜ ((ws : List ℕ) → Good (core .settings) (core .rest) ws → (lent : Lengths) → acceptsOf (view core ws) lent ≡ true
         → decidedView (core .settings) r ws ≡ writebackDecided (view core ws) lent place token) ⌝ }
     ensures { λ r. ⌜ r .reply .rest ≡ core .rest ⌝ }
-    ensures { λ r. ⌜ Writable (core .settings .descriptors) (r .writing) ⌝ }
+    ensures { λ r. ⌜ Writable (poolLength (core .settings)) (r .writing) ⌝ }
 {
     let x = writeback(core, place, token);
     let answer = x.answer;

@@ -38,7 +38,7 @@ openedCore =
     }
 
 abbrev pub pool : List QueueTransferDescriptor
-pool = replicate 1 blank
+pool = replicate 2 blank
 
 abbrev pub heads : List ℕ
 heads = replicate 34 0

@@ -27,7 +27,7 @@ use Rattle.endpoint.specs.Examples.{blank, bothOpen, bulkHead, headsOf, 
 
 -- the lengths that fit two slots
 abbrev fits : Lengths
-fits = record { pool = 16; heads = 51; frames = 1024; setups = 16 }
+fits = record { pool = 17; heads = 51; frames = 1024; setups = 16 }
 
 pub fresh-is : freshState twoSlots ≡ noneOpen
 unfolding freshState twoWith
@@ -52,7 +52,7 @@ busy-accepted = refl
 -- ---- open endpoint
 
 abbrev openOn : Ehci → List ℕ → EndpointType → ℕ → ℕ → ℕ → OpenLeft
-openOn s heads kind address number packet = openEndpointOf s 16 heads 1024 16 kind address number packet
+openOn s heads kind address number packet = openEndpointOf s 17 heads 1024 16 kind address number packet
 
 -- slot 0 and its 17 words; 01's F2002105
 pub opens-first : openOn noneOpen (headsOf blank blank) Bulk 5 1 512 ≡ openLeft (record { answer = Slot 0; state = oneOpen }) (headsOf bulkHead blank)
@@ -94,7 +94,7 @@ opens-large = rw one-accepted
 
 -- ---- close, set address, set packet size
 
-pub closes-first : closeOf oneOpen 16 (headsOf bulkHead blank) 1024 16 0 ≡ changeLeft (record { answer = Done; state = noneOpen }) (headsOf blank blank)
+pub closes-first : closeOf oneOpen 17 (headsOf bulkHead blank) 1024 16 0 ≡ changeLeft (record { answer = Done; state = noneOpen }) (headsOf blank blank)
 unfolding twoWith closeOf slotChecks endpointAt decoded slotAt withEndpoint withSlot putAt
 closes-first = rw one-accepted
 
@@ -102,42 +102,42 @@ abbrev answered : ChangeLeft → ℕ
 answered c = numberOf (c .change .answer)
 
 -- closed, or not there: 3; an uncollected request: 4
-pub closes-closed : answered (closeOf oneOpen 16 (headsOf bulkHead blank) 1024 16 1) ≡ 3
+pub closes-closed : answered (closeOf oneOpen 17 (headsOf bulkHead blank) 1024 16 1) ≡ 3
 unfolding twoWith closeOf slotChecks endpointAt decoded slotAt
 closes-closed = rw one-accepted
 
-pub closes-none : answered (closeOf oneOpen 16 (headsOf bulkHead blank) 1024 16 2) ≡ 3
+pub closes-none : answered (closeOf oneOpen 17 (headsOf bulkHead blank) 1024 16 2) ≡ 3
 unfolding twoWith closeOf slotChecks endpointAt decoded slotAt
 closes-none = rw one-accepted
 
-pub closes-far : answered (closeOf oneOpen 16 (headsOf bulkHead blank) 1024 16 255) ≡ 3
+pub closes-far : answered (closeOf oneOpen 17 (headsOf bulkHead blank) 1024 16 255) ≡ 3
 unfolding twoWith closeOf slotChecks endpointAt decoded slotAt
 closes-far = rw one-accepted
 
-pub closes-busy : answered (closeOf oneBusy 16 (headsOf bulkHead blank) 1024 16 0) ≡ 4
+pub closes-busy : answered (closeOf oneBusy 17 (headsOf bulkHead blank) 1024 16 0) ≡ 4
 unfolding twoWith closeOf slotChecks endpointAt decoded slotAt
 closes-busy = rw busy-accepted
 
-pub sets-address : setAddressOf oneOpen 16 (headsOf bulkHead blank) 1024 16 0 7
+pub sets-address : setAddressOf oneOpen 17 (headsOf bulkHead blank) 1024 16 0 7
     ≡ changeLeft (record { answer = Done; state = oneOpen }) (headsOf (opened 0xF2002107 0x40000000) blank)
 unfolding twoWith setAddressOf slotChecks endpointAt decoded slotAt
 sets-address = rw one-accepted
 
 -- 3 and 4 before 1
-pub address-out : answered (setAddressOf oneOpen 16 (headsOf bulkHead blank) 1024 16 0 128) ≡ 1
+pub address-out : answered (setAddressOf oneOpen 17 (headsOf bulkHead blank) 1024 16 0 128) ≡ 1
 unfolding twoWith setAddressOf slotChecks endpointAt decoded slotAt
 address-out = rw one-accepted
 
-pub address-closed : answered (setAddressOf oneOpen 16 (headsOf bulkHead blank) 1024 16 1 128) ≡ 3
+pub address-closed : answered (setAddressOf oneOpen 17 (headsOf bulkHead blank) 1024 16 1 128) ≡ 3
 unfolding twoWith setAddressOf slotChecks endpointAt decoded slotAt
 address-closed = rw one-accepted
 
-pub address-busy : answered (setAddressOf oneBusy 16 (headsOf bulkHead blank) 1024 16 0 128) ≡ 4
+pub address-busy : answered (setAddressOf oneBusy 17 (headsOf bulkHead blank) 1024 16 0 128) ≡ 4
 unfolding twoWith setAddressOf slotChecks endpointAt decoded slotAt
 address-busy = rw busy-accepted
 
 -- 4 is raised to 8
-pub sets-size : setPacketSizeOf oneOpen 16 (headsOf bulkHead blank) 1024 16 0 4
+pub sets-size : setPacketSizeOf oneOpen 17 (headsOf bulkHead blank) 1024 16 0 4
     ≡ changeLeft (record { answer = Done; state = oneOpen }) (headsOf (opened 0xF0082105 0x40000000) blank)
 unfolding twoWith setPacketSizeOf slotChecks endpointAt decoded slotAt
 sets-size = rw one-accepted

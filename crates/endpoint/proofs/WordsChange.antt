@@ -14,6 +14,7 @@ use Rattle.descriptor.specs.Heads.{withAddress, withPacketSize}
 use Rattle.opening.specs.Heads.{headWord, withHeadWord}
 use Rattle.opening.specs.Opening.{rowsFit}
 use Rattle.settings.specs.declared.settings.Settings.{Settings}
+use Rattle.settings.specs.Settings.{poolLength}
 use Rattle.state.specs.Plain.{Ehci}
 use Rattle.words.specs.declared.core.Rest.{Rest}
 use Rattle.words.specs.Good.{Good, Tidy, noPlaces}
@@ -48,11 +49,11 @@ module _ (s : Settings) (r : Rest) (ws : List ℕ) (good : Good s r ws) (h : Lis
 
   module _ (g : Bool) (ea : a ≡ verdictWords (stateOf s r ws) k g) (e : a ≡ Done) where
     -- the lengths that opening fixed
-    verdict-fixed : a ≡ slotVerdict (stateOf s r ws) (lengths (s .descriptors) (length h) 1024 (8 * s .endpoints)) k g
-    verdict-fixed = verdict-lent g ea (s .descriptors) 1024 (8 * s .endpoints) (rows-fixed s (length h) fit)
+    verdict-fixed : a ≡ slotVerdict (stateOf s r ws) (lengths (poolLength s) (length h) 1024 (8 * s .endpoints)) k g
+    verdict-fixed = verdict-lent g ea (poolLength s) 1024 (8 * s .endpoints) (rows-fixed s (length h) fit)
 
     pub words-room : (k < 32) × (k + 1 ≤ 32) × (17 * (k + 1) + 17 ≤ length h)
-    words-room = change-room (stateOf s r ws) (s .descriptors) h 1024 (8 * s .endpoints) k g a verdict-fixed e
+    words-room = change-room (stateOf s r ws) (poolLength s) h 1024 (8 * s .endpoints) k g a verdict-fixed e
 
     pub words-head : (k + 1 ≤ 32) × (17 * (k + 1) + 17 ≤ length h)
     words-head = (words-room .1, words-room .2)
@@ -62,10 +63,10 @@ module _ (s : Settings) (r : Rest) (ws : List ℕ) (good : Good s r ws) (h : Lis
     words-word = omega (arith, words-room .2)
 
     was-open : isOpen (stateOf s r ws) k ≡ true
-    was-open = change-passed (stateOf s r ws) (s .descriptors) h 1024 (8 * s .endpoints) k g a verdict-fixed e .1
+    was-open = change-passed (stateOf s r ws) (poolLength s) h 1024 (8 * s .endpoints) k g a verdict-fixed e .1
 
     was-idle : isUncollected (stateOf s r ws) k ≡ false
-    was-idle = change-passed (stateOf s r ws) (s .descriptors) h 1024 (8 * s .endpoints) k g a verdict-fixed e .2
+    was-idle = change-passed (stateOf s r ws) (poolLength s) h 1024 (8 * s .endpoints) k g a verdict-fixed e .2
 
     phase-some : (phaseIn (wordAt ws k) ≡ 0 → ⊥)
     phase-some = eqb-false (phaseIn (wordAt ws k)) 0 (not-true (eqb (phaseIn (wordAt ws k)) 0) (open-word s r ws k (wordAt ws k) good refl ∙ was-open))

@@ -10,6 +10,7 @@ use Rattle.common.specs.declared.kinds.EndpointType.{EndpointType}
 use Rattle.descriptor.specs.Heads.{endpointHead, wordsOf}
 use Rattle.opening.specs.Opening.{rowsFit}
 use Rattle.settings.specs.declared.settings.Settings.{Settings}
+use Rattle.settings.specs.Settings.{poolLength}
 use Rattle.state.specs.Plain.{Ehci}
 use Rattle.words.specs.declared.core.Rest.{Rest}
 use Rattle.words.specs.Good.{Good, Tidy, noPlaces}
@@ -46,8 +47,8 @@ module _ (s : Settings) (r : Rest) (ws : List ℕ) (good : Good s r ws) (h : Lis
   chosen-lent pool f u e = eo ∙ chosen-accepted (stateOf s r ws) pool (length h) f u kind g (accepts-viewed s r ws good pool (length h) f u e)
 
   -- the lengths that opening fixed
-  chosen-fixed : o ≡ chosenOf (stateOf s r ws) (lengths (s .descriptors) (length h) 1024 (8 * s .endpoints)) kind g
-  chosen-fixed = chosen-lent (s .descriptors) 1024 (8 * s .endpoints) (rows-fixed s (length h) fit)
+  chosen-fixed : o ≡ chosenOf (stateOf s r ws) (lengths (poolLength s) (length h) 1024 (8 * s .endpoints)) kind g
+  chosen-fixed = chosen-lent (poolLength s) 1024 (8 * s .endpoints) (rows-fixed s (length h) fit)
 
   pub opened-refused : (q : Refusal) → o ≡ Refused q → (pool f u : ℕ) → rowsFit s pool (length h) f u ≡ true
       → openLeft (record { answer = Refused q; state = stateOf s r ws }) h ≡ openEndpointOf (stateOf s r ws) pool h f u kind a n p
@@ -56,23 +57,23 @@ module _ (s : Settings) (r : Rest) (ws : List ℕ) (good : Good s r ws) (h : Lis
   module _ (k : ℕ) (e : o ≡ Slot k) where
     pub opened-room : (k < 32) × (k + 1 ≤ 32) × (17 * (k + 1) + 17 ≤ length h)
     opened-room =
-        open-room-for (stateOf s r ws) (s .descriptors) h 1024 (8 * s .endpoints) kind a n p g eg o chosen-fixed k e
+        open-room-for (stateOf s r ws) (poolLength s) h 1024 (8 * s .endpoints) kind a n p g eg o chosen-fixed k e
 
     pub opened-head : (k + 1 ≤ 32) × (17 * (k + 1) + 17 ≤ length h)
     opened-head = (opened-room .1, opened-room .2)
 
     pub opened-fields : (a ≤ 127) × (n ≤ 15) × (p ≤ 1024)
-    opened-fields = open-fields (stateOf s r ws) (s .descriptors) h 1024 (8 * s .endpoints) kind a n p g eg o chosen-fixed k e
+    opened-fields = open-fields (stateOf s r ws) (poolLength s) h 1024 (8 * s .endpoints) kind a n p g eg o chosen-fixed k e
 
     pub opened-within : k < s .endpoints
     unfolding stateOf
-    opened-within = open-passed (stateOf s r ws) (s .descriptors) h 1024 (8 * s .endpoints) kind a n p g eg o chosen-fixed k e .3
+    opened-within = open-passed (stateOf s r ws) (poolLength s) h 1024 (8 * s .endpoints) kind a n p g eg o chosen-fixed k e .3
 
     pub opened-slot-room : 6 * k + 6 ≤ length ws
     opened-slot-room = good-room s r ws good k opened-within
 
     slot-lowest : k ≡ lowestSlot (stateOf s r ws)
-    slot-lowest = slot-is (stateOf s r ws) (s .descriptors) h 1024 (8 * s .endpoints) kind a n p g eg o chosen-fixed k e
+    slot-lowest = slot-is (stateOf s r ws) (poolLength s) h 1024 (8 * s .endpoints) kind a n p g eg o chosen-fixed k e
 
     lowest-within : lowestSlot (stateOf s r ws) < stateOf s r ws .settings .endpoints
     unfolding stateOf

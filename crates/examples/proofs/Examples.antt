@@ -180,9 +180,12 @@ abbrev chunk : ℕ → QueueTransferDescriptor
 chunk address =
     record { next = 1; alternate = 1; token = 0x02008C80; pages = address ∷ 0 ∷ 0 ∷ 0 ∷ 0 ∷ []; upper = replicate 5 0 }
 
--- the frames and the setup packets are never written here
+abbrev shared : QueueTransferDescriptor
+shared = record { next = 1; alternate = 1; token = 0; pages = replicate 5 0; upper = replicate 5 0 }
+
+-- the shared descriptor, the frames and the setup packets are never written here
 withRows : Ehci → List QueueTransferDescriptor → List ℕ → Kept
-withRows s pool heads = kept s pool heads (replicate 1024 1) (replicate 16 0)
+withRows s pool heads = kept s (pool ++ shared ∷ []) heads (replicate 1024 1) (replicate 16 0)
 
 abbrev fresh : Ehci → Kept
 fresh s = withRows s (blank ∷ blank ∷ []) (headsOf 0x200002 (replicate 17 0) (replicate 17 0))
@@ -302,7 +305,7 @@ past-end : submitRow 0xFFFFFFFF 2 ≡ 1 ∷ []
 unfolding replyTo applyOf decideOf asksOf rowsFit replied submitDecided submitOf acceptsOf endpointAt decoded slotAt rangesGood bufferGood freeCount countZero needOf chunkCount refusedSubmit withRows stateOf
 past-end = rw brought-up (rw one-open-good)
 
-fits : acceptsOf (oneRequest 3 3 0 16380 0) (lengths 4 (length ringOfOne) (length noFrames) 16) ≡ true
+fits : acceptsOf (oneRequest 3 3 0 16380 0) (lengths 5 (length ringOfOne) (length noFrames) 16) ≡ true
 unfolding acceptsOf rowsFit inRanges restGood machineGood interruptGood doorbellGood ownerGood largest slotsGood slotGood phaseGood closedGood idleGood linkedGood unlinkingGood boundaryGood openKind noRequest settingsGood numbersGood eachGood noOverlap areaGood apartAreas slotAt withoutBits
 fits = refl
 

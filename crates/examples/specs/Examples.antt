@@ -85,7 +85,7 @@ leftBy o = kept (o .opening .state) (o .pool) (o .heads) (o .frames) (o .setups)
 
 -- over rows that hold 7s
 unfoldable pub justOpened : Kept
-justOpened = leftBy (openOf small (replicate 2 blank) (replicate 51 7) (replicate 1024 7) (replicate 16 7))
+justOpened = leftBy (openOf small (replicate 3 blank) (replicate 51 7) (replicate 1024 7) (replicate 16 7))
 
 -- bulk, at most 512 bytes a packet
 abbrev pub openBulk : ℕ → ℕ → Call

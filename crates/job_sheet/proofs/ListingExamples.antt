@@ -22,7 +22,7 @@ ran =
       ids = filled 64 0 (1 ∷ []);
       owner = filled 256 0 (1 ∷ 1 ∷ 1 ∷ []);
       pool =
-          filled 256 blank (
+          filled 257 blank (
           record { next = 0x00100040; alternate = 0x00100040; token = 0x00080e80; pages = 0x00400000 ∷ 0 ∷ 0 ∷ 0 ∷ 0 ∷ []; upper = zeroSlots }
           ∷ record { next = 0x00100080; alternate = 0x00100080; token = 0x80120d80; pages = 0x10000fff ∷ 0x10001000 ∷ 0 ∷ 0 ∷ 0 ∷ []; upper = zeroSlots }
           ∷ record { next = 0x00000001; alternate = 0x00000001; token = 0x80008c80; pages = 0 ∷ 0 ∷ 0 ∷ 0 ∷ 0 ∷ []; upper = zeroSlots } ∷ []

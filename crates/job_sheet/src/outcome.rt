@@ -27,7 +27,7 @@ pub struct Outcome {
     pub submitted: [u8; 64],
     pub ids: [u64; 64],
     pub owner: [u8; 256],
-    pub pool: [QueueTransferDescriptor; 256],
+    pub pool: [QueueTransferDescriptor; 257],
 }
 
 // A place's line, if the place is the slot's.
@@ -50,7 +50,7 @@ fn put_places(
     at: usize,
     slot: u8,
     owner: [u8; 256],
-    pool: [QueueTransferDescriptor; 256],
+    pool: [QueueTransferDescriptor; 257],
 ) -> usize
     requires { ⌜ at + 16 * 86 ≤ length (now out) ⌝ }
     ensures { λ r. ⌜ now (out .exit) ≡ putAt (now (out .entry)) at (placeLines owner pool slot) ⌝ }

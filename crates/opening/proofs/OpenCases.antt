@@ -3,8 +3,9 @@ use Prim.Native.Nat.{ℕ, zero, suc, _+_, _-_, _%_, _^_, _≤_, _<_}
 use mathlib.Core.Path.{_≡_, sym, ap, _∙_}
 use mathlib.Core.Bool.{Bool, true, false, not, _&&_}
 use mathlib.Core.List.{List, _++_}
+use native.Mathlib.Decide.{ℕ-discrete as decEq}
 use native.Mathlib.Omega.{arith}
-use borrow.Author.Tests.{eqb-true, leb-true, not-false}
+use borrow.Author.Tests.{eq-eqb, eqb-true, leb-true, ne-eqb, not-false}
 use lib.Dec.{eqb}
 use lib.ListN.{drop, length, replicate}
 use native.Mathlib.Nat.{sub-zero, suc-sub-suc, zero-sub}
@@ -13,14 +14,36 @@ use Rattle.descriptor.specs.Heads.{ringHead, wordsOf}
 use Rattle.descriptor.specs.declared.head.QueueHead.{QueueHead}
 use Rattle.settings.specs.declared.settings.Settings.{Settings}
 use Rattle.opening.specs.Opening.{rowsFit, openedHeads}
+use Rattle.opening.specs.Words.{openCount}
+use Rattle.common.specs.declared.answer.Answer.{Answer}
+use Rattle.common.specs.declared.answer.Answer.the-variants.{Done, Refused}
+use Rattle.common.specs.declared.answer.Refusal.{Refusal}
 use Rattle.common.specs.Rows.{putAt}
 use Rattle.settings.specs.Settings.{settingsGood, numbersGood, eachGood, areaGood, poolSize, headsSize, headsLength, setupsLength, poolLength, framesLength}
 use Rattle.common.proofs.TestLaws.{every-4, both-first, both-second}
 
-pub fit-is : (s : Settings) (p h f u : ℕ)
-    → (eqb p (poolLength s) && eqb h (headsLength s) && eqb f framesLength && eqb u (setupsLength s)) ≡ rowsFit s p h f u
+pub fit-is : (s : Settings) (p h f u : ℕ) (fits : Bool) → fits ≡ eqb p (poolLength s)
+    → (fits && eqb h (headsLength s) && eqb f framesLength && eqb u (setupsLength s)) ≡ rowsFit s p h f u
 unfolding rowsFit
-fit-is s p h f u = every-4 (eqb p (poolLength s)) (eqb h (headsLength s)) (eqb f framesLength) (eqb u (setupsLength s))
+fit-is s p h f u fits e = rw e (every-4 (eqb p (poolLength s)) (eqb h (headsLength s)) (eqb f framesLength) (eqb u (setupsLength s)))
+
+-- how many records are opened
+pub count-done : (a : Answer) (pool : ℕ) → a ≡ Done → pool ≡ openCount a pool
+count-done a pool e = rw e
+
+pub count-refused : (a : Answer) (pool : ℕ) (r : Refusal) → a ≡ Refused r → 0 ≡ openCount a pool
+count-refused a pool r e = rw e
+
+-- D records and the shared one
+pub none-fits : (d p : ℕ) → p ≡ 0 → false ≡ eqb p (d + 1)
+none-fits d p z = sym (ne-eqb p (d + 1) (λ e. omega (arith, z, e)))
+
+pub one-less : (d p : ℕ) → (p ≡ 0 → ⊥) → eqb (p - 1) d ≡ eqb p (d + 1)
+one-less d p z = by (decEq (p - 1) d)
+  where
+    by : Dec (p - 1 ≡ d) → eqb (p - 1) d ≡ eqb p (d + 1)
+    by (yes e) = eq-eqb (p - 1) d e ∙ sym (eq-eqb p (d + 1) (omega (arith, z, e)))
+    by (no n) = ne-eqb (p - 1) d n ∙ sym (ne-eqb p (d + 1) (λ e. n (omega (arith, e))))
 
 module _ (s : Settings) (pool : ℕ) (h f u : List ℕ) (g : Bool) (eg : g ≡ settingsGood s) where
   module _ (fit : Bool) (ef : fit ≡ rowsFit s pool (length h) (length f) (length u)) where
@@ -29,7 +52,7 @@ module _ (s : Settings) (pool : ℕ) (h f u : List ℕ) (g : Bool) (eg : g ≡ s
     unfolding rowsFit
     fit-lengths t =
         let all = sym ef ∙ not-false fit t in
-        let after = both-second (eqb pool (s .descriptors)) _ all in
+        let after = both-second (eqb pool (poolLength s)) _ all in
         let later = both-second (eqb (length h) (headsLength s)) _ after in (
           eqb-true (length h) (headsLength s) (both-first _ _ after),
           eqb-true (length f) 1024 (both-first _ _ later),

@@ -79,7 +79,7 @@ refused-out = refl
 
 -- lengths that fit, as document 01 fixes them
 pub record Fitting (s : Settings) (pool heads frames setups : ℕ) : Type 0 where
-  pub pool-fits : pool ≡ s .descriptors
+  pub pool-fits : pool ≡ poolLength s
   pub heads-fit : heads ≡ 17 * (s .endpoints + 1)
   pub frames-fit : frames ≡ 1024
   pub setups-fit : setups ≡ 8 * s .endpoints

@@ -1,16 +1,14 @@
--- Opening and the pool: where it is accepted every record is thirteen zero words, where it is refused every record is as it was.
+-- Opening and the pool: where it is accepted every record but the shared one is thirteen zero words, where it is refused every record is as it was.
 use Prim.Native.Nat.{ℕ}
 use mathlib.Core.Path.{_≡_}
 use mathlib.Core.Bool.{Bool, true, false}
 use mathlib.Core.List.{List}
 use lib.ListN.{length, replicate}
 use Rattle.descriptor.specs.declared.qtd.QueueTransferDescriptor.{QueueTransferDescriptor as Record}
-use Rattle.pool.specs.Chains.{blank}
 use Rattle.settings.specs.declared.settings.Settings.{Settings}
-use Rattle.settings.specs.Settings.{framesLength, headsLength, poolLength, settingsGood, setupsLength}
+use Rattle.settings.specs.Settings.{framesLength, headsLength, settingsGood, setupsLength}
 use Rattle.common.specs.declared.answer.Refusal.the-variants.{InvalidParameter}
-use Rattle.opening.specs.Plain.{Opening}
-use Rattle.opening.specs.Opening.{Opened, acceptedOpening, decideOpenOf, decided, openOf, opened, openedHeads, refusedOpening, rowsFit}
+use Rattle.opening.specs.Opening.{Opened, acceptedOpening, openOf, opened, openedHeads, openedPool, refusedOpening, rowsFit}
 
 -- the opening and its rows, for each of the two ways
 module _ (s : Settings) (rs : List Record) (hs fs us : List ℕ) where
@@ -18,7 +16,7 @@ module _ (s : Settings) (rs : List Record) (hs fs us : List ℕ) where
   fits = rowsFit s (length rs) (length hs) (length fs) (length us)
 
   abbrev accepted : Opened
-  accepted = opened (acceptedOpening s) (replicate (poolLength s) blank) (openedHeads (s .heads) (headsLength s)) (replicate framesLength 1) (replicate (setupsLength s) 0)
+  accepted = opened (acceptedOpening s) (openedPool (s .descriptors)) (openedHeads (s .heads) (headsLength s)) (replicate framesLength 1) (replicate (setupsLength s) 0)
 
   pub refuses-settings : settingsGood s ≡ false → openOf s rs hs fs us ≡ opened (refusedOpening InvalidParameter) rs hs fs us
   unfolding openOf
@@ -31,7 +29,3 @@ module _ (s : Settings) (rs : List Record) (hs fs us : List ℕ) where
   pub accepts : settingsGood s ≡ true → fits ≡ true → openOf s rs hs fs us ≡ accepted
   unfolding openOf
   accepts e f = rw (e, f)
-
-  module _ (o : Opening) (wh wf wu : List ℕ) (e : decided o wh wf wu ≡ decideOpenOf s (length rs) hs fs us) where
-    abbrev count : ℕ
-    count = o .state .settings .descriptors

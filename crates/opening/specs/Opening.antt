@@ -5,6 +5,7 @@ use mathlib.Core.List.{List, [], _∷_, _++_}
 use lib.Dec.{eqb}
 use lib.ListN.{length, replicate}
 use Rattle.descriptor.specs.declared.qtd.QueueTransferDescriptor.{QueueTransferDescriptor}
+use Rattle.descriptor.specs.Descriptors.{terminated}
 use Rattle.descriptor.specs.Heads.{ringHead, wordsOf}
 use Rattle.pool.specs.Chains.{blank}
 use Rattle.common.specs.declared.answer.Answer.the-variants.{Done, Refused}
@@ -106,14 +107,18 @@ pub record Opened : Type 0 where
 abbrev pub opened : Opening → List QueueTransferDescriptor → List ℕ → List ℕ → List ℕ → Opened
 opened o pool heads frames setups = record { opening = o; pool = pool; heads = heads; frames = frames; setups = setups }
 
--- every row zeroed but the ring head and the frame entries
+-- D zero records, and at place D the shared inactive descriptor: "next and alternate 1, token 0"
+abbrev pub openedPool : ℕ → List QueueTransferDescriptor
+openedPool descriptors = replicate descriptors blank ++ terminated ∷ []
+
+-- every row zeroed but the shared descriptor, the ring head and the frame entries
 unfoldable pub openOf : Settings → List QueueTransferDescriptor → List ℕ → List ℕ → List ℕ → Opened
 openOf s pool heads frames setups =
     settle
     (first (openChecks s (length pool) (length heads) (length frames) (length setups)))
     (λ r. opened (refusedOpening r) pool heads frames setups)
     (opened (acceptedOpening s)
-    (replicate (poolLength s) blank)
+    (openedPool (s .descriptors))
     (openedHeads (s .heads) (headsLength s))
     (replicate framesLength 1)
     (replicate (setupsLength s) 0))

@@ -118,6 +118,7 @@ decideWords s pool slots heads frames setups =
     (replicate framesLength 1)
     (replicate (setupsLength s) 0))
 
--- so many records are cleared: those of an accepted opening, and a refused one has none
-abbrev pub clearCount : Opening → ℕ
-clearCount o = o .core .settings .descriptors
+-- how many of so many records are opened: all where opening is accepted, else none
+abbrev pub openCount : Answer → ℕ → ℕ
+openCount Done pool = pool
+openCount (Refused r) pool = 0

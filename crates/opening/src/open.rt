@@ -1,9 +1,11 @@
 // Opening a controller: the core by value, and the row of slots beside the other lent rows.
 ghost use mathlib.Core.Path.{_≡_};
-ghost use Rattle.opening.specs.Words.{OpensWords, acceptedWords, clearCount, decideWords, decidedWords, openWords, openedRows, refusedWords, slotsFit};
+ghost use Rattle.opening.specs.Words.{OpensWords, acceptedWords, decideWords, decidedWords, openCount, openWords, openedRows, refusedWords, slotsFit};
 ghost use Rattle.words.specs.Opened.{openedRest};
 ghost use Prim.Native.Nat.{_≤_, _<_, _^_};
+ghost use lib.Dec.{eqb};
 ghost use lib.ListN.{length};
+ghost use Rattle.settings.specs.Settings.{poolLength};
 ghost use Rattle.opening.specs.Opening.{rowsFit, openedHeads};
 use crate::heads::put_head;
 use crate::hub::EhciRootHub;
@@ -15,7 +17,7 @@ use common::rows::fill_words;
 use descriptor::head::QueueHead;
 use descriptor::qtd::EHCI_LINK_TERMINATE;
 use descriptor::qtd::QueueTransferDescriptor;
-use pool::marking::clear_first;
+use pool::marking::open_first;
 use settings::settings::Settings;
 use words::core::Core;
 use words::core::Rest;
@@ -33,12 +35,22 @@ pub struct Opening {
     pub hub: EhciRootHub,
 }
 
+// D records and the shared one.
+fn pool_fits(s: Settings, pool: u64) -> bool
+    ensures { λ r. ⌜ r ≡ eqb pool (poolLength s) ⌝ }
+{
+    if pool == 0 {
+        return false;
+    }
+    pool - 1 == s.descriptors
+}
+
 // Lengths other than those that opening fixes are refused by every call that is lent the rows.
 pub fn rows_fit(s: Settings, pool: u64, heads: u64, frames: u64, setups: u64) -> bool
     ensures { λ r. ⌜ r ≡ rowsFit s pool heads frames setups ⌝ }
 {
     let endpoints = s.endpoints as u64;
-    (pool == s.descriptors)
+    pool_fits(s, pool)
         & (heads == HEAD * (endpoints + 1))
         & (frames == FRAMES)
         & (setups == 8 * endpoints)
@@ -158,11 +170,15 @@ pub fn decide_open(
     accept(settings)
 }
 
-// How many records are cleared; a refused opening has no descriptor.
-fn clear_count(o: Opening) -> usize
-    ensures { λ r. ⌜ r ≡ clearCount o ⌝ }
+// How many of so many records are opened: all or none.
+fn open_count(o: Opening, pool: u64) -> usize
+    ensures { λ r. ⌜ r ≡ openCount (o .answer) pool ⌝ }
 {
-    o.core.settings.descriptors as usize
+    let answer = o.answer;
+    match answer {
+        Answer::Done => pool as usize,
+        Answer::Refused(_) => 0,
+    }
 }
 
 pub fn open(
@@ -179,7 +195,7 @@ pub fn open(
 {
     let count = row_length(rows.len());
     let opening = decide_open(settings, count, slots, heads, frames, setups);
-    let clearing = clear_count(opening);
-    clear_first(rows, clearing);
+    let opened = open_count(opening, count);
+    open_first(rows, opened);
     opening
 }

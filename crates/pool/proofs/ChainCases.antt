@@ -1,7 +1,7 @@
 -- The returns of the functions that decide what is seen and what is written.
 use Prim.Native.Nat.{ℕ, _+_, _-_, _≤_, _<_, _^_}
 use mathlib.Core.Path.{_≡_, refl, sym, _∙_}
-use mathlib.Core.Bool.{Bool, true, false}
+use mathlib.Core.Bool.{Bool, true, false, not}
 use mathlib.Core.List.{[]}
 use native.Mathlib.Omega.{arith}
 use borrow.Author.Tests.{eq-eqb, ne-eqb}
@@ -13,7 +13,7 @@ use Rattle.token.specs.EhciQtd.{totalBytes}
 use Rattle.token.specs.Tokens.{onlyIf}
 use Rattle.pool.specs.declared.chain.View.{View}
 use Rattle.pool.specs.Transfers.{requestedAt}
-use Rattle.pool.specs.Chains.{firstError, isActive, isErring, lengthOf, numberIf, orElse, seeOf, standingOf, viewOf}
+use Rattle.pool.specs.Chains.{firstError, isActive, isErring, isShort, lengthOf, numberIf, orElse, seeOf, standingOf, viewOf}
 
 pub seen-none : record { stage = 0; failed = 0; moved = 0 } ≡ viewOf []
 unfolding viewOf standingOf firstError lengthOf
@@ -39,6 +39,18 @@ module _ (a w : ℕ) (z : a ≡ 0) where
 
   pub failed-not : (b : Bool) → b ≡ isErring w → b ≡ false → 0 ≡ orElse a (numberIf (isErring w) w 0)
   failed-not b e t = rw (eq-eqb a 0 z, sym e ∙ t)
+
+-- "inactive without error and has bytes left"
+module _ (w : ℕ) (b : Bool) (e : b ≡ isActive w) where
+  pub short-active : b ≡ true → false ≡ isShort w
+  short-active t = rw (sym e ∙ t)
+
+  module _ (b′ : Bool) (t : b ≡ false) (e′ : b′ ≡ isErring w) where
+    pub short-erring : b′ ≡ true → false ≡ isShort w
+    short-erring t′ = rw (sym e ∙ t, sym e′ ∙ t′)
+
+    pub short-left : (n : ℕ) → b′ ≡ false → n ≡ totalBytes w → not (eqb n 0) ≡ isShort w
+    short-left n t′ en = rw (sym e ∙ t, sym e′ ∙ t′, en)
 
 pub requested-lt : (kind : EndpointType) (length limit k : ℕ) → length < 2 ^ 32 → limit ≤ 16384 → requestedAt kind length limit k < 2 ^ 32
 unfolding requestedAt

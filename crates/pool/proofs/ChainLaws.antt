@@ -2,14 +2,15 @@
 -- meets a request's places in order and ends there.
 use Prim.Native.Nat.{ℕ, zero, suc, _+_, _-_, _*_, _%_, _≤_, _<_, _^_}
 use mathlib.Core.Path.{_≡_, refl, sym, ap, subst, _∙_}
-use mathlib.Core.List.{List, [], _∷_, map}
+use mathlib.Core.List.{List, [], _∷_, _++_, map}
+use native.Mathlib.Decide.{ℕ-discrete as decEq}
 use native.Mathlib.Omega.{arith}
 use lib.Dec.{eqb}
-use lib.ListN.{drop, getD, length, replicate, set, getD-replicate, length-replicate, length-set}
+use lib.ListN.{drop, getD, length, replicate, set, length-append, length-replicate, length-set}
 use lib.Seq.{ext-getD, getD-set-other, getD-set-same}
 use Rattle.descriptor.proofs.HeadFields.{next-reads}
 use Rattle.descriptor.specs.declared.qtd.QueueTransferDescriptor.{QueueTransferDescriptor as Record}
-use Rattle.descriptor.specs.Descriptors.{nextWord, withNext}
+use Rattle.descriptor.specs.Descriptors.{nextWord, terminated, withNext}
 use Rattle.descriptor.specs.EhciQtd.{qtdAddress, terminate}
 use Rattle.pool.specs.Plain.{Deed}
 use Rattle.pool.specs.Plain as Deeds
@@ -17,7 +18,7 @@ use Rattle.pool.specs.declared.transfer.Transfer.{Transfer}
 use Rattle.pool.specs.EhciChain.{follow, stopIf}
 use Rattle.pool.specs.Places.{Ascending, Each, Within, packed, upFrom}
 use Rattle.pool.specs.Transfers.{addressOf, nextOf, recordAt}
-use Rattle.pool.specs.Chains.{blank, fillOf, filledFrom, metFrom, nextAt, noChain, placeOf, withToken, writtenOf}
+use Rattle.pool.specs.Chains.{blank, fillOf, filledFrom, freshAt, metFrom, nextAt, noChain, placeOf, withToken, writtenOf}
 use Rattle.pool.proofs.Each.{each-at, each-map}
 use Rattle.pool.proofs.PlaceLaws.{list-packed, up-ascends, up-length, up-within}
 
@@ -161,27 +162,78 @@ up-at i (suc n) (suc k) h = up-at (suc i) n k (omega (arith, h)) ∙ along i k
     along : (i k : ℕ) → suc i + k ≡ i + suc k
     along i k = omega arith
 
-cleared : (base : ℕ) (rs : List Record) (i : ℕ) → i < length rs → getD (filledFrom Deeds.Clear base 0 (upFrom 0 (length rs)) rs) i blank ≡ blank
-cleared base rs i h =
-    let at : getD (upFrom 0 (length rs)) i 0 ≡ i = up-at 0 (length rs) i h ∙ along i in
-    let l : i < length (upFrom 0 (length rs)) = omega (arith, h, up-length 0 (length rs)) in
-    ap (λ (j : ℕ). getD (filledFrom Deeds.Clear base 0 (upFrom 0 (length rs)) rs) j blank) (sym at)
-    ∙ filled-listed Deeds.Clear base 0 (upFrom 0 (length rs)) rs i (up-ascends 0 (length rs)) (up-within (length rs)) l
+up-drop : (i n k : ℕ) → k ≤ n → drop k (upFrom i n) ≡ upFrom (i + k) (n - k)
+unfolding upFrom
+up-drop i n zero h =
+    let none : i ≡ i + 0 = omega arith in
+    let all : n ≡ n - 0 = omega arith in
+    ap (λ (a : ℕ). upFrom a n) none ∙ ap (upFrom (i + 0)) all
+up-drop i zero (suc k) h = absurd (omega (arith, h))
+up-drop i (suc n) (suc k) h =
+    let on : suc i + k ≡ i + suc k = omega arith in
+    let less : n - k ≡ suc n - suc k = omega arith in
+    up-drop (suc i) n k (omega (arith, h)) ∙ ap (λ (a : ℕ). upFrom a (n - k)) on ∙ ap (upFrom (i + suc k)) less
+
+-- each of the opened records, by the places after it
+opened-at : (base n : ℕ) (rs : List Record) (i : ℕ) → length rs ≡ n → i < n
+    → getD (filledFrom Deeds.Open base 0 (upFrom 0 n) rs) i blank ≡ freshAt (upFrom (suc i) (n - suc i))
+opened-at base n rs i e h =
+    let at : getD (upFrom 0 n) i 0 ≡ i = up-at 0 n i h ∙ along i in
+    let l : i < length (upFrom 0 n) = omega (arith, h, up-length 0 n) in
+    let within : Within (length rs) (upFrom 0 n) = subst (λ (m : ℕ). Within m (upFrom 0 n)) (sym e) (up-within n) in
+    ap (λ (j : ℕ). getD (filledFrom Deeds.Open base 0 (upFrom 0 n) rs) j blank) (sym at)
+    ∙ filled-listed Deeds.Open base 0 (upFrom 0 n) rs i (up-ascends 0 n) within l
+    ∙ ap freshAt (up-drop 0 n (suc i) (omega (arith, h)) ∙ ap (λ (j : ℕ). upFrom j (n - suc i)) (along (suc i)))
   where
     along : (i : ℕ) → 0 + i ≡ i
     along i = omega arith
 
--- clearing every place leaves thirteen zero words in each record
-pub fill-clear : (base : ℕ) (rs : List Record) → fillOf (record { places = packed (upFrom 0 (length rs)); base = base; deed = Deeds.Clear }) rs ≡ replicate (length rs) blank
-unfolding fillOf
-fill-clear base rs =
-    rw
-    (list-packed (upFrom 0 (length rs)))
-    (ext-getD
-    blank
-    (filledFrom Deeds.Clear base 0 (upFrom 0 (length rs)) rs)
-    (replicate (length rs) blank)
-    (filled-length Deeds.Clear base 0 (upFrom 0 (length rs)) rs ∙ sym (length-replicate (length rs) blank))
-    (λ i h.
-    let l : i < length rs = subst (λ (m : ℕ). i < m) (filled-length Deeds.Clear base 0 (upFrom 0 (length rs)) rs) h in
-    cleared base rs i l ∙ sym (getD-replicate (length rs) i blank blank l)))
+fresh-zero : (i m : ℕ) → 0 < m → freshAt (upFrom i m) ≡ blank
+unfolding upFrom
+fresh-zero i zero h = absurd (omega (arith, h))
+fresh-zero i (suc m) h = refl
+
+fresh-last : (i m : ℕ) → m ≡ 0 → freshAt (upFrom i m) ≡ terminated
+unfolding upFrom
+fresh-last i zero h = refl
+fresh-last i (suc m) h = absurd (omega (arith, h))
+
+module _ (k count : ℕ) (r : Record) where
+  pub fresh-shared : r ≡ terminated → k + 1 ≡ count → r ≡ freshAt (upFrom (k + 1) (count - (k + 1)))
+  fresh-shared e z = e ∙ sym (fresh-last (k + 1) (count - (k + 1)) (omega (arith, z)))
+
+  pub fresh-blank : r ≡ blank → k < count → (k + 1 ≡ count → ⊥) → r ≡ freshAt (upFrom (k + 1) (count - (k + 1)))
+  fresh-blank e h z = e ∙ sym (fresh-zero (k + 1) (count - (k + 1)) (omega (arith, h, z)))
+
+-- so many zero records, and one more
+pub row-length : (n : ℕ) (d : Record) → length (replicate n blank ++ d ∷ []) ≡ n + 1
+row-length n d = length-append (replicate n blank) (d ∷ []) ∙ ap (λ (m : ℕ). m + 1) (length-replicate n blank)
+
+pub row-zero : (n i : ℕ) (d : Record) → i < n → getD (replicate n blank ++ d ∷ []) i blank ≡ blank
+row-zero zero i d h = absurd (omega (arith, h))
+row-zero (suc n) zero d h = refl
+row-zero (suc n) (suc i) d h = row-zero n i d (omega (arith, h))
+
+pub row-last : (n : ℕ) (d : Record) → getD (replicate n blank ++ d ∷ []) n blank ≡ d
+row-last zero d = refl
+row-last (suc n) d = row-last n d
+
+-- opening every place leaves zero words in all but the last, and there the shared descriptor
+pub fill-open : (n : ℕ) (rs : List Record) → length rs ≡ n + 1
+    → filledFrom Deeds.Open 0 0 (upFrom 0 (n + 1)) rs ≡ replicate n blank ++ terminated ∷ []
+fill-open n rs e =
+    let now : List Record = filledFrom Deeds.Open 0 0 (upFrom 0 (n + 1)) rs in
+    let long : length now ≡ n + 1 = filled-length Deeds.Open 0 0 (upFrom 0 (n + 1)) rs ∙ e in
+    ext-getD blank now (replicate n blank ++ terminated ∷ []) (long ∙ sym (row-length n terminated))
+    (λ i h. here i (subst (λ (m : ℕ). i < m) long h))
+  where
+    here : (i : ℕ) → i < n + 1 → getD (filledFrom Deeds.Open 0 0 (upFrom 0 (n + 1)) rs) i blank ≡ getD (replicate n blank ++ terminated ∷ []) i blank
+    here i h = by (decEq i n)
+      where
+        by : Dec (i ≡ n) → getD (filledFrom Deeds.Open 0 0 (upFrom 0 (n + 1)) rs) i blank ≡ getD (replicate n blank ++ terminated ∷ []) i blank
+        by (yes z) =
+            opened-at 0 (n + 1) rs i e h ∙ fresh-last (suc i) (n + 1 - suc i) (omega (arith, z))
+            ∙ sym (ap (λ (j : ℕ). getD (replicate n blank ++ terminated ∷ []) j blank) z ∙ row-last n terminated)
+        by (no z) =
+            opened-at 0 (n + 1) rs i e h ∙ fresh-zero (suc i) (n + 1 - suc i) (omega (arith, z, h))
+            ∙ sym (row-zero n i terminated (omega (arith, z, h)))

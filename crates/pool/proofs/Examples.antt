@@ -1,8 +1,10 @@
 -- The definitions run: 01's job sheet, word for word, and what tokens say.
 use mathlib.Core.Path.{_≡_, refl}
+use Prim.Native.Nat.{_+_, _*_}
+use mathlib.Core.Bool.{true, false}
 use mathlib.Core.List.{List, [], _∷_}
 use lib.ListN.{replicate}
-use Rattle.common.specs.declared.kinds.Direction.the-variants.{In}
+use Rattle.common.specs.declared.kinds.Direction.the-variants.{In, Out}
 use Rattle.common.specs.declared.kinds.EndpointType.the-variants.{Bulk, Control}
 use Rattle.token.specs.Plans.{controlPlan}
 use Rattle.token.specs.Tokens.{tokenOf}
@@ -13,12 +15,12 @@ use Rattle.pool.specs.Plain as Deeds
 use Rattle.pool.specs.declared.transfer.Transfer.{Transfer}
 use Rattle.pool.specs.EhciChain.{follow}
 use Rattle.pool.specs.Places.{clearOf, markOf, placesFrom}
-use Rattle.pool.specs.Transfers.{bareAt, chunkQtd, recordAt, stageAt}
-use Rattle.pool.specs.Chains.{blank, filledFrom, firstError, lengthOf, metFrom, standingOf, viewOf}
+use Rattle.pool.specs.Transfers.{alternateWord, bareAt, chunkQtd, recordAt, stageAt}
+use Rattle.pool.specs.Chains.{Seen, blank, filledFrom, firstError, lengthOf, metFrom, readOf, standingOf, viewOf}
 
 -- In, 18 bytes at 10000FFF; pool at 100000, setup packets at 400000
 abbrev sheet-request : Transfer
-sheet-request = record { kind = Control; direction = In; address = 268439551; length = 18; limit = 16384; setup = 4194304 }
+sheet-request = record { kind = Control; direction = In; address = 268439551; length = 18; limit = 16384; setup = 4194304; alternate = 0x100400 }
 
 abbrev sheet-records : List Record
 sheet-records =
@@ -37,7 +39,25 @@ sheet-chain = refl
 
 -- bulk In, 16385 bytes in chunks of 16384: the tokens of document 01, the second one for one byte
 abbrev two-chunks : Transfer
-two-chunks = record { kind = Bulk; direction = In; address = 268435456; length = 16385; limit = 16384; setup = 0 }
+two-chunks = record { kind = Bulk; direction = In; address = 268435456; length = 16385; limit = 16384; setup = 0; alternate = 0x100400 }
+
+-- the first leads to the shared descriptor where it is short, the last nowhere; Out and control nowhere
+alternate : recordAt two-chunks 0 (7 ∷ []) 0 .alternate ≡ 0x100400
+unfolding recordAt bareAt chunkQtd newQtd withNext
+alternate = refl
+
+last-alternate : recordAt two-chunks 1 [] 0 .alternate ≡ 1
+unfolding recordAt bareAt chunkQtd newQtd withNext
+last-alternate = refl
+
+out-alternate : alternateWord Bulk Out 0x100400 ≡ 1
+out-alternate = refl
+
+control-alternate : alternateWord Control In 0x100400 ≡ 1
+control-alternate = refl
+
+in-alternate : alternateWord Bulk In 0x100400 ≡ 0x100400
+in-alternate = refl
 
 tokens : recordAt two-chunks 0 (7 ∷ []) 0 .token ≡ 1073745280
 unfolding recordAt bareAt chunkQtd tokenOf newQtd withNext
@@ -73,3 +93,34 @@ halted = refl
 active-first : standingOf (record { requested = 100; token = 6557120 } ∷ []) ≡ 2
 unfolding standingOf
 active-first = refl
+
+-- ---- order 1, by hand: a megabyte asked for in chunks of 16384
+
+-- 13384 of the first are left, the second and third are active
+abbrev asked-and-short : List Seen
+asked-and-short =
+    record { requested = 16384; token = 13384 * 65536 + 0xD00 }
+    ∷ record { requested = 16384; token = 0x40000D80 }
+    ∷ record { requested = 16384; token = 0x40008D80 }
+    ∷ []
+
+three-thousand : viewOf (readOf true asked-and-short) ≡ record { stage = 0; failed = 0; moved = 3000 }
+unfolding readOf viewOf standingOf firstError lengthOf
+three-thousand = refl
+
+-- without the order it waits for the second
+waits-on : viewOf (readOf false asked-and-short) ≡ record { stage = 2; failed = 0; moved = 3000 }
+unfolding readOf viewOf standingOf firstError lengthOf
+waits-on = refl
+
+-- an active one before the short one: not finished, but read up to the short one; the error after it is not read
+active-then-short : viewOf (readOf true (record { requested = 100; token = 6557056 } ∷ record { requested = 100; token = 2624768 } ∷ record { requested = 100; token = 64 } ∷ []))
+    ≡ record { stage = 2; failed = 0; moved = 60 }
+unfolding readOf viewOf standingOf firstError lengthOf
+active-then-short = refl
+
+-- an error is no short one: what follows it is read
+halted-then-short : viewOf (readOf true (record { requested = 100; token = 2624832 } ∷ record { requested = 100; token = 655360 } ∷ record { requested = 100; token = 64 } ∷ []))
+    ≡ record { stage = 1; failed = 2624832; moved = 150 }
+unfolding readOf viewOf standingOf firstError lengthOf
+halted-then-short = refl

@@ -1,7 +1,7 @@
 -- A request's records are seen a word of places at a time: a turn of the loop over one word, and the four words together.
-use Prim.Native.Nat.{ℕ, suc, _+_, _-_, _*_, _≤_, _<_, _^_}
+use Prim.Native.Nat.{ℕ, zero, suc, _+_, _-_, _*_, _≤_, _<_, _^_}
 use mathlib.Core.Path.{_≡_, refl, sym, ap, subst, _∙_}
-use mathlib.Core.Bool.{Bool, true, false, not}
+use mathlib.Core.Bool.{Bool, true, false, not, _&&_}
 use mathlib.Core.List.{List, [], _∷_, _++_, append-nil}
 use native.Mathlib.Numerals.{add-one}
 use native.Mathlib.Omega.{arith}
@@ -18,8 +18,8 @@ use Rattle.pool.specs.declared.asked.AskWords.{AskWords}
 use Rattle.pool.specs.declared.asked.Folded.{Folded}
 use Rattle.pool.specs.declared.chain.View.{View}
 use Rattle.pool.specs.Transfers.{requestedAt}
-use Rattle.pool.specs.Chains.{Seen, blank, joined, seenFrom, viewOf}
-use Rattle.pool.specs.Words.{AskWordsGood, Sees, WordGood, seenNext, wordPlaces}
+use Rattle.pool.specs.Chains.{Seen, blank, isShort, joined, readOf, seenFrom, viewOf}
+use Rattle.pool.specs.Words.{AskWordsGood, Sees, WordGood, leftIf, readOn, seenNext, wordPlaces}
 use Rattle.pool.proofs.Turns.{join-none, join-step, moved-more, none-moved, seen-start}
 use Rattle.pool.proofs.WordTurns.{word-few}
 
@@ -43,27 +43,54 @@ module _ (n : ℕ) (a : AskWords) (ys : List QueueTransferDescriptor) (j : ℕ) 
   abbrev pub leftOf : ℕ → List ℕ
   leftOf left = placesOf (64 * j) 64 left
 
+  abbrev seenAt : ℕ → List ℕ → List Seen
+  seenAt k qs = seenFrom (a .kind) (a .length) (a .limit) k qs ys
+
   -- everything that is seen at last, whatever places follow
   abbrev from-here : Folded → List ℕ → View
-  from-here u qs = joined (u .view) (viewOf (seenFrom (a .kind) (a .length) (a .limit) (u .k) qs ys))
+  from-here u qs = joined (u .view) (viewOf (readOn (u .ended) (a .stops) (seenAt (u .k) qs)))
 
   -- what a turn begins with: the places of `left` are still to be seen, and what is seen so far is u
   pub record Seeing (left : ℕ) (u : Folded) : Type 0 where
     pub within : Within n (leftOf left)
-    pub so-many : u .k + length (leftOf left) ≡ s .k + length (wordPlaces a j)
+    pub so-many : u .k + length (leftOf left) ≤ s .k + length (wordPlaces a j)
     pub in-bounds : u .view .moved ≤ u .k * 2 ^ 32
+    pub goes-on : 1 ≤ left → u .ended ≡ false
     pub whole : (qs : List ℕ) → from-here u (leftOf left ++ qs) ≡ from-here s (wordPlaces a j ++ qs)
 
+  -- once it has ended, no place that follows is seen
+  closed : (u : Folded) → u .ended ≡ true → (xs zs : List ℕ) → from-here u xs ≡ from-here u zs
+  closed u e xs zs =
+      ap (λ (b : Bool). joined (u .view) (viewOf (readOn b (a .stops) (seenAt (u .k) xs)))) e
+      ∙ sym (ap (λ (b : Bool). joined (u .view) (viewOf (readOn b (a .stops) (seenAt (u .k) zs)))) e)
+
+  none-of : (left : ℕ) → left ≡ 0 → leftOf left ≡ []
+  none-of left z = ap leftOf z ∙ places-zero (64 * j) 64
+
+  none-on : (left : ℕ) (u : Folded) → left ≡ 0 → 1 ≤ left → u .ended ≡ false
+  none-on left u z h = absurd (omega (arith, z, h))
+
   module _ (good : WordGood n a j s) where
-    pub seeing-start : (left : ℕ) → left ≡ getD (a .places) j 0 → Seeing left s
-    seeing-start left e =
-        subst (λ (x : ℕ). Seeing x s) (sym e)
-        (record { within = good .within; so-many = refl; in-bounds = good .in-bounds; whole = λ qs. refl })
+    pub seeing-start : (left : ℕ) → left ≡ leftIf (s .ended) (getD (a .places) j 0) → Seeing left s
+    seeing-start left e = go (s .ended) refl e
+      where
+        go : (b : Bool) → s .ended ≡ b → left ≡ leftIf b (getD (a .places) j 0) → Seeing left s
+        go true over z =
+            record {
+              within = subst (λ (l : List ℕ). Within n l) (sym (none-of left z)) tt;
+              so-many = omega (arith, ap length (none-of left z));
+              in-bounds = good .in-bounds;
+              goes-on = none-on left s z;
+              whole = λ qs. closed s over (leftOf left ++ qs) (wordPlaces a j ++ qs);
+            }
+        go false on e =
+            subst (λ (x : ℕ). Seeing x s) (sym e)
+            (record { within = good .within; so-many = omega arith; in-bounds = good .in-bounds; goes-on = λ h. on; whole = λ qs. refl })
 
     module _ (left : ℕ) (u : Folded) (seeing : Seeing left u) where
       pub seeing-done : left ≡ 0 → Sees a ys (wordPlaces a j) s u
       seeing-done z =
-          let none : leftOf left ≡ [] = ap leftOf z ∙ places-zero (64 * j) 64 in
+          let none : leftOf left ≡ [] = none-of left z in
           record {
             so-many = omega (arith, seeing .so-many, ap length none);
             in-bounds = seeing .in-bounds;
@@ -71,11 +98,11 @@ module _ (n : ℕ) (a : AskWords) (ys : List QueueTransferDescriptor) (j : ℕ) 
           }
 
       module _ (fits : left < 2 ^ 64) (some : 1 ≤ left) where
-        left-is : (p rest : ℕ) → p ≡ 64 * j + trailingZeros 64 left → rest ≡ bitAnd left (left - 1) → leftOf left ≡ p ∷ leftOf rest
-        left-is p rest ep er =
-            places-lowest (64 * j) 64 left fits some
-            ∙ ap (λ (q : ℕ). q ∷ leftOf (bitAnd left (left - 1))) (sym ep)
-            ∙ ap (λ (x : ℕ). p ∷ leftOf x) (sym er)
+        abbrev after : ℕ
+        after = bitAnd left (left - 1)
+
+        left-is : (p : ℕ) → p ≡ 64 * j + trailingZeros 64 left → leftOf left ≡ p ∷ leftOf after
+        left-is p ep = places-lowest (64 * j) 64 left fits some ∙ ap (λ (q : ℕ). q ∷ leftOf after) (sym ep)
 
         pub seeing-below : u .k < 256
         seeing-below =
@@ -85,43 +112,76 @@ module _ (n : ℕ) (a : AskWords) (ys : List QueueTransferDescriptor) (j : ℕ) 
               good .so-far,
               good .one-of-four,
               word-few (64 * j) 64 (getD (a .places) j 0),
-              ap length (left-is (64 * j + trailingZeros 64 left) (bitAnd left (left - 1)) refl refl),
+              ap length (left-is (64 * j + trailingZeros 64 left) refl),
             )
 
         pub seeing-in : (p : ℕ) → p ≡ 64 * j + trailingZeros 64 left → p < n
         seeing-in p ep =
-            let both : Within n (p ∷ leftOf (bitAnd left (left - 1))) = subst (λ (l : List ℕ). Within n l) (left-is p (bitAnd left (left - 1)) ep refl) (seeing .within) in
+            let both : Within n (p ∷ leftOf after) = subst (λ (l : List ℕ). Within n l) (left-is p ep) (seeing .within) in
             both .0
 
-        module _ (p rest w : ℕ) (v : Folded) (ep : p ≡ 64 * j + trailingZeros 64 left) (ew : w ≡ getD ys p blank .token) (ev : v ≡ seenNext u a w) (er : rest ≡ bitAnd left (left - 1)) where
-          pub left-fewer : length (leftOf rest) < length (leftOf left)
-          left-fewer = omega (arith, ap length (left-is p rest ep er))
+        module _ (p rest w : ℕ) (v : Folded) (ep : p ≡ 64 * j + trailingZeros 64 left) (ew : w ≡ getD ys p blank .token) (ev : v ≡ seenNext u a w) (er : rest ≡ leftIf (v .ended) after) where
+          -- what is left of the word: nothing, or the places after this one
+          pub record Rests : Type 0 where
+            pub within : Within n (leftOf rest)
+            pub no-more : length (leftOf rest) ≤ length (leftOf after)
+            pub goes-on : 1 ≤ rest → v .ended ≡ false
+            pub same : (qs : List ℕ) → from-here v (leftOf rest ++ qs) ≡ from-here v (leftOf after ++ qs)
 
-          more-whole : (qs : List ℕ) → from-here v (leftOf rest ++ qs) ≡ from-here u (leftOf left ++ qs)
-          unfolding seenFrom
+          rests : Rests
+          rests = go (v .ended) refl er
+            where
+              go : (b : Bool) → v .ended ≡ b → rest ≡ leftIf b after → Rests
+              go true over z =
+                  record {
+                    within = subst (λ (l : List ℕ). Within n l) (sym (none-of rest z)) tt;
+                    no-more = omega (arith, ap length (none-of rest z));
+                    goes-on = none-on rest v z;
+                    same = λ qs. closed v over (leftOf rest ++ qs) (leftOf after ++ qs);
+                  }
+              go false on e =
+                  let both : Within n (p ∷ leftOf after) = subst (λ (l : List ℕ). Within n l) (left-is p ep) (seeing .within) in
+                  record {
+                    within = subst (λ (x : ℕ). Within n (leftOf x)) (sym e) (both .1);
+                    no-more = omega (arith, ap (λ (x : ℕ). length (leftOf x)) e);
+                    goes-on = λ h. on;
+                    same = λ qs. ap (λ (x : ℕ). from-here v (leftOf x ++ qs)) e;
+                  }
+
+          pub left-fewer : length (leftOf rest) < length (leftOf left)
+          left-fewer = omega (arith, ap length (left-is p ep), rests .no-more)
+
+          more-whole : (qs : List ℕ) → from-here v (leftOf after ++ qs) ≡ from-here u (leftOf left ++ qs)
+          unfolding seenFrom readOf
           more-whole qs =
-              let more : List ℕ = leftOf rest ++ qs in
+              let more : List ℕ = leftOf after ++ qs in
+              let over : Bool = a .stops && isShort w in
               let here : Seen = record { requested = requestedAt (a .kind) (a .length) (a .limit) (u .k); token = w } in
-              let then : ℕ → List Seen = λ k. seenFrom (a .kind) (a .length) (a .limit) k more ys in
               ap (λ (z : Folded). from-here z more) ev
-              ∙ ap (λ (k : ℕ). joined (seenNext u a w .view) (viewOf (then k))) (add-one (u .k))
-              ∙ join-step (u .view) here (then (suc (u .k)))
-              ∙ ap (λ (x : ℕ). joined (u .view) (viewOf (record { requested = requestedAt (a .kind) (a .length) (a .limit) (u .k); token = x } ∷ then (suc (u .k))))) ew
-              ∙ ap (λ (l : List ℕ). from-here u (l ++ qs)) (sym (left-is p rest ep er))
+              ∙ ap (λ (k : ℕ). joined (seenNext u a w .view) (viewOf (readOn over (a .stops) (seenAt k more)))) (add-one (u .k))
+              ∙ join-step (u .view) here (readOn over (a .stops) (seenAt (suc (u .k)) more))
+              ∙ ap (λ (x : ℕ). joined (u .view) (viewOf (readOf (a .stops) (record { requested = requestedAt (a .kind) (a .length) (a .limit) (u .k); token = x } ∷ seenAt (suc (u .k)) more)))) ew
+              ∙ ap (λ (b : Bool). joined (u .view) (viewOf (readOn b (a .stops) (seenAt (u .k) (p ∷ more))))) (sym (seeing .goes-on some))
+              ∙ ap (λ (l : List ℕ). from-here u (l ++ qs)) (sym (left-is p ep))
 
           pub seeing-more : Seeing rest v
           seeing-more =
-              let both : Within n (p ∷ leftOf rest) = subst (λ (l : List ℕ). Within n l) (left-is p rest ep er) (seeing .within) in
               let next : v .k ≡ u .k + 1 = ap (λ (z : Folded). z .k) ev in
               record {
-                within = both .1;
-                so-many = omega (arith, seeing .so-many, next, ap length (left-is p rest ep er));
+                within = rests .within;
+                so-many = omega (arith, seeing .so-many, next, ap length (left-is p ep), rests .no-more);
                 in-bounds = subst (λ (k : ℕ). v .view .moved ≤ k * 2 ^ 32) (sym next)
                     (moved-more (a .kind) (a .length) (a .limit) (u .k) w (u .view) (v .view) (ap (λ (z : Folded). z .view) ev) (good .short) (good .limited) (seeing .in-bounds));
-                whole = λ qs. more-whole qs ∙ seeing .whole qs;
+                goes-on = rests .goes-on;
+                whole = λ qs. rests .same qs ∙ more-whole qs ∙ seeing .whole qs;
               }
 
 -- ---- the four words
+
+none-read : (ended stops : Bool) → [] ≡ readOn ended stops []
+unfolding readOf
+none-read true stops = refl
+none-read false stops = refl
 
 split-in : (n : ℕ) (xs ys : List ℕ) → Within n (xs ++ ys) → Within n xs × Within n ys
 split-in n [] ys w = (tt, w)
@@ -142,39 +202,65 @@ module _ (n : ℕ) (a : AskWords) (ys : List QueueTransferDescriptor) (good : As
   word-good : (j : ℕ) (s : Folded) → Within n (W j) → j < 4 → s .k ≤ 64 * j → s .view .moved ≤ s .k * 2 ^ 32 → WordGood n a j s
   word-good j s w h k m = record { within = w; short = good .short; limited = good .limited; one-of-four = h; so-far = k; in-bounds = m }
 
-  module _ (s₀ : Folded) (e : s₀ ≡ record { view = viewOf []; k = 0 }) where
-    pub good-first : WordGood n a 0 s₀
-    good-first =
-        let none : s₀ .k ≡ 0 = ap (λ (z : Folded). z .k) e in
-        word-good 0 s₀ (parts .0) (omega arith) (omega (arith, none))
-        (subst (λ (k : ℕ). s₀ .view .moved ≤ k * 2 ^ 32) (sym none) (none-moved (s₀ .view) (ap (λ (z : Folded). z .view) e)))
+  -- the places of n words, from word j on
+  unfoldable pub wordsFrom : ℕ → ℕ → List ℕ
+  wordsFrom j zero = []
+  wordsFrom j (suc n) = W j ++ wordsFrom (suc j) n
 
-    module _ (s₁ : Folded) (f₀ : Sees a ys (W 0) s₀ s₁) where
-      few₁ : s₁ .k ≤ 64
-      few₁ = omega (arith, f₀ .so-many, good-first .so-far, word-few 0 64 (getD (a .places) 0 0))
+  abbrev whole : View
+  whole = viewOf (readOf (a .stops) (seenFrom (a .kind) (a .length) (a .limit) 0 (setPlaces (a .places)) ys))
 
-      pub good-second : WordGood n a 1 s₁
-      good-second = word-good 1 s₁ (parts .1 .0) (omega arith) few₁ (f₀ .in-bounds)
+  abbrev at : Folded → List ℕ → View
+  at z qs = joined (z .view) (viewOf (readOn (z .ended) (a .stops) (seenFrom (a .kind) (a .length) (a .limit) (z .k) qs ys)))
 
-      module _ (s₂ : Folded) (f₁ : Sees a ys (W 1) s₁ s₂) where
-        few₂ : s₂ .k ≤ 128
-        few₂ = omega (arith, f₁ .so-many, few₁, word-few 64 64 (getD (a .places) 1 0))
+  -- what a turn begins with: the words below j are seen, and those from j on make the whole
+  pub record SeenTo (j : ℕ) (u : Folded) : Type 0 where
+    pub most : j ≤ 4
+    pub few : u .k ≤ 64 * j
+    pub in-bounds : u .view .moved ≤ u .k * 2 ^ 32
+    pub whole-is : at u (wordsFrom j (4 - j)) ≡ whole
 
-        pub good-third : WordGood n a 2 s₂
-        good-third = word-good 2 s₂ (parts .1 .1 .0) (omega arith) few₂ (f₁ .in-bounds)
+  pub to-start : (u : Folded) → u ≡ record { view = viewOf []; k = 0; ended = false } → SeenTo 0 u
+  unfolding setPlaces wordsFrom
+  to-start u e =
+      let none : u .k ≡ 0 = ap (λ (z : Folded). z .k) e in
+      record {
+        most = omega arith;
+        few = omega (arith, none);
+        in-bounds = subst (λ (k : ℕ). u .view .moved ≤ k * 2 ^ 32) (sym none) (none-moved (u .view) (ap (λ (z : Folded). z .view) e));
+        whole-is = ap (λ (z : Folded). at z (wordsFrom 0 4)) e
+            ∙ seen-start (viewOf (readOf (a .stops) (seenFrom (a .kind) (a .length) (a .limit) 0 (wordsFrom 0 4) ys))) (viewOf []) refl
+            ∙ ap (λ (l : List ℕ). viewOf (readOf (a .stops) (seenFrom (a .kind) (a .length) (a .limit) 0 (W 0 ++ (W 1 ++ (W 2 ++ l))) ys))) (append-nil (W 3));
+      }
 
-        module _ (s₃ : Folded) (f₂ : Sees a ys (W 2) s₂ s₃) where
-          few₃ : s₃ .k ≤ 192
-          few₃ = omega (arith, f₂ .so-many, few₂, word-few 128 64 (getD (a .places) 2 0))
+  one-within : (j : ℕ) → j < 4 → Within n (W j)
+  one-within zero h = parts .0
+  one-within (suc zero) h = parts .1 .0
+  one-within (suc (suc zero)) h = parts .1 .1 .0
+  one-within (suc (suc (suc zero))) h = parts .1 .1 .1
+  one-within (suc (suc (suc (suc j)))) h = absurd (omega (arith, h))
 
-          pub good-fourth : WordGood n a 3 s₃
-          good-fourth = word-good 3 s₃ (parts .1 .1 .1) (omega arith) few₃ (f₂ .in-bounds)
+  module _ (j : ℕ) (u : Folded) (so-far : SeenTo j u) (h : j < 4) where
+    pub to-good : WordGood n a j u
+    to-good = word-good j u (one-within j h) h (so-far .few) (so-far .in-bounds)
 
-          pub seen-whole : (s₄ : Folded) → Sees a ys (W 3) s₃ s₄
-              → s₄ .view ≡ viewOf (seenFrom (a .kind) (a .length) (a .limit) 0 (setPlaces (a .places)) ys)
-          unfolding setPlaces seenFrom
-          seen-whole s₄ f₃ =
-              join-none (s₄ .view) ∙ f₃ .whole [] ∙ f₂ .whole (W 3 ++ []) ∙ f₁ .whole (W 2 ++ (W 3 ++ [])) ∙ f₀ .whole (W 1 ++ (W 2 ++ (W 3 ++ [])))
-              ∙ ap (λ (l : List ℕ). joined (s₀ .view) (viewOf (seenFrom (a .kind) (a .length) (a .limit) (s₀ .k) (W 0 ++ (W 1 ++ (W 2 ++ l))) ys))) (append-nil (W 3))
-              ∙ ap (λ (z : Folded). joined (z .view) (viewOf (seenFrom (a .kind) (a .length) (a .limit) (z .k) (W 0 ++ (W 1 ++ (W 2 ++ W 3))) ys))) e
-              ∙ seen-start (viewOf (seenFrom (a .kind) (a .length) (a .limit) 0 (W 0 ++ (W 1 ++ (W 2 ++ W 3))) ys)) (viewOf []) refl
+    pub to-next : (v : Folded) → Sees a ys (W j) u v → SeenTo (j + 1) v
+    unfolding wordsFrom
+    to-next v f =
+        let left : 4 - j ≡ suc (4 - (j + 1)) = omega (arith, h) in
+        let on : wordsFrom (j + 1) (4 - (j + 1)) ≡ wordsFrom (suc j) (4 - (j + 1)) = ap (λ (i : ℕ). wordsFrom i (4 - (j + 1))) (add-one j) in
+        record {
+          most = omega (arith, h);
+          few = omega (arith, f .so-many, so-far .few, word-few (64 * j) 64 (getD (a .places) j 0));
+          in-bounds = f .in-bounds;
+          whole-is = ap (at v) on ∙ f .whole (wordsFrom (suc j) (4 - (j + 1))) ∙ ap (λ (m : ℕ). at u (wordsFrom j m)) (sym left) ∙ so-far .whole-is;
+        }
+
+  pub to-end : (j : ℕ) (u : Folded) → SeenTo j u → 4 ≤ j → u .view ≡ whole
+  unfolding wordsFrom seenFrom
+  to-end j u so-far h =
+      let none : 0 ≡ 4 - j = omega (arith, h) in
+      join-none (u .view)
+      ∙ ap (λ (l : List Seen). joined (u .view) (viewOf l)) (none-read (u .ended) (a .stops))
+      ∙ ap (λ (m : ℕ). at u (wordsFrom j m)) none
+      ∙ so-far .whole-is

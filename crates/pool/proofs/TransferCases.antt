@@ -1,10 +1,12 @@
 -- The returns of the functions that make a request's k-th descriptor.
 use Prim.Native.Nat.{ℕ}
-use mathlib.Core.Path.{_≡_}
+use mathlib.Core.Path.{_≡_, sym, _∙_}
+use mathlib.Core.Bool.{Bool, true, false}
 use borrow.Author.Tests.{eq-eqb, ne-eqb}
 use Rattle.token.specs.declared.plan.ControlTdPlan.{ControlTdPlan}
 use Rattle.token.specs.declared.plan.DataTd.the-variants.{Absent, Present}
 use Rattle.token.specs.declared.qtd.QtdToken.{QtdToken}
+use Rattle.common.specs.declared.kinds.Direction.{Direction}
 use Rattle.common.specs.declared.kinds.EndpointType.{EndpointType}
 use Rattle.common.specs.declared.kinds.EndpointType.the-variants.{Control, Isochronous, Bulk, Interrupt}
 use Rattle.token.specs.Chunks.{chunkAt}
@@ -12,7 +14,14 @@ use Rattle.token.specs.Plans.{controlPlan}
 use Rattle.descriptor.specs.declared.qtd.QueueTransferDescriptor.{QueueTransferDescriptor}
 use Rattle.descriptor.specs.Descriptors.{newQtd}
 use Rattle.pool.specs.declared.transfer.Transfer.{Transfer}
-use Rattle.pool.specs.Transfers.{requestedAt, stageAt}
+use Rattle.pool.specs.Transfers.{alternateWord, endsShort, requestedAt, stageAt}
+
+module _ (kind : EndpointType) (direction : Direction) (shared : ℕ) (b : Bool) (e : b ≡ endsShort kind direction) where
+  pub alternate-shared : b ≡ true → shared ≡ alternateWord kind direction shared
+  alternate-shared z = rw (sym e ∙ z)
+
+  pub alternate-none : b ≡ false → 1 ≡ alternateWord kind direction shared
+  alternate-none z = rw (sym e ∙ z)
 
 module _ (kind : EndpointType) (length limit k : ℕ) where
   pub asked-data : kind ≡ Control → k ≡ 1 → length ≡ requestedAt kind length limit k

@@ -1,7 +1,7 @@
 -- The returns of the functions that see a record by its word, and that make a record with the places to come in a cursor.
 use Prim.Native.Nat.{ℕ, _+_, _-_, _*_, _≤_, _<_, _^_}
 use mathlib.Core.Path.{_≡_, refl, sym, ap, subst, _∙_}
-use mathlib.Core.Bool.{Bool, true, false, not}
+use mathlib.Core.Bool.{Bool, true, false, not, _&&_}
 use mathlib.Core.List.{List, [], _∷_}
 use native.Mathlib.Omega.{arith}
 use lib.Count.{trailingZeros, trailing-le}
@@ -28,9 +28,9 @@ use Rattle.pool.specs.declared.chain.View.{View}
 use Rattle.pool.specs.declared.laying.Laying.{Laying}
 use Rattle.pool.specs.declared.transfer.Transfer.{Transfer}
 use Rattle.pool.specs.declared.writing.Writing.{Writing}
-use Rattle.pool.specs.Transfers.{addressOf, bareAt, bareFor, chunkQtd, isLast, nextOf, recordAt, requestedAt, stageAt}
-use Rattle.pool.specs.Chains.{isActive, isErring, numberIf, orElse, viewOf}
-use Rattle.pool.specs.Words.{chunksOf, layingIf, nextGood, seenNext, stagesOf, wordsIf}
+use Rattle.pool.specs.Transfers.{addressOf, alternateOf, bareAt, bareFor, chunkQtd, isLast, nextOf, recordAt, requestedAt, stageAt, withAlternate}
+use Rattle.pool.specs.Chains.{isActive, isErring, isShort, numberIf, orElse, seeOf, viewOf}
+use Rattle.pool.specs.Words.{chunksOf, layingIf, leftIf, nextGood, seenNext, stagesOf, wordsIf}
 use Rattle.pool.proofs.ChainCases.{requested-lt, see-made}
 
 -- ---- what is seen
@@ -39,18 +39,22 @@ pub word-sum-fits : (kind : EndpointType) (length limit k moved asked left r : �
     → k < 256 → length < 2 ^ 32 → limit ≤ 16384 → moved ≤ k * 2 ^ 32 → Fits w64 (moved + r)
 word-sum-fits kind length limit k moved asked left r ea er hk hl h hm = omega (arith, ea, er, hk, hm, requested-lt kind length limit k hl h)
 
-pub word-seen : (s : Folded) (a : AskWords) (w asked stage failed r : ℕ) → asked ≡ requestedAt (a .kind) (a .length) (a .limit) (s .k)
+pub word-seen : (s : Folded) (a : AskWords) (w asked stage failed r : ℕ) (short : Bool) → asked ≡ requestedAt (a .kind) (a .length) (a .limit) (s .k)
     → stage ≡ orElse (s .view .stage) (numberIf (isActive w) 2 (numberIf (isErring w) 1 0)) → failed ≡ orElse (s .view .failed) (numberIf (isErring w) w 0)
-    → r ≡ asked - totalBytes w
-    → record { view = record { stage = stage; failed = failed; moved = s .view .moved + r }; k = s .k + 1 } ≡ seenNext s a w
-word-seen s a w asked stage failed r ea es ef er =
-    ap (λ (v : View). record { view = v; k = s .k + 1 }) (see-made (s .view) asked (requestedAt (a .kind) (a .length) (a .limit) (s .k)) w stage failed r ea es ef er)
+    → r ≡ asked - totalBytes w → short ≡ isShort w
+    → record { view = record { stage = stage; failed = failed; moved = s .view .moved + r }; k = s .k + 1; ended = a .stops && short } ≡ seenNext s a w
+word-seen s a w asked stage failed r short ea es ef er eh =
+    ap (λ (v : View). record { view = v; k = s .k + 1; ended = a .stops && short }) (see-made (s .view) asked (requestedAt (a .kind) (a .length) (a .limit) (s .k)) w stage failed r ea es ef er)
+    ∙ ap (λ (b : Bool). record { view = seeOf (s .view) (requestedAt (a .kind) (a .length) (a .limit) (s .k)) w; k = s .k + 1; ended = a .stops && b }) eh
 
-pub none-made : (v : View) → v ≡ viewOf [] → _≡_ {A = Folded} (record { view = v; k = 0 }) (record { view = viewOf []; k = 0 })
-none-made v e = ap (λ (u : View). record { view = u; k = 0 }) e
+pub none-made : (v : View) → v ≡ viewOf [] → _≡_ {A = Folded} (record { view = v; k = 0; ended = false }) (record { view = viewOf []; k = 0; ended = false })
+none-made v e = ap (λ (u : View). record { view = u; k = 0; ended = false }) e
 
 pub place-fits : (j left r : ℕ) → j < 4 → r ≡ trailingZeros 64 left → Fits w64 (64 * j + r)
 place-fits j left r h e = omega (arith, h, e, trailing-le 64 left)
+
+pub left-open : (b : Bool) (x r : ℕ) → b ≡ false → r ≡ x → r ≡ leftIf b x
+left-open b x r e er = rw (e, er)
 
 -- ---- where the chain goes on
 
@@ -94,17 +98,19 @@ unfolding recordAt bareAt
 stage-made t k base rest to bare r c en eb er =
     er ∙ ap (λ (d : QueueTransferDescriptor). withNext d to) (eb ∙ control-bare (t .kind) t k (isLast rest) c) ∙ ap (withNext (bareFor (t .kind) t k (isLast rest))) en
 
-pub chunk-laid : (t : Transfer) (k base : ℕ) (rest : List ℕ) (to : NextQtd) (next bytes : ℕ) (last : Bool) (token : QtdToken) (pages : List ℕ) → isControl (t .kind) ≡ false
+pub chunk-laid : (t : Transfer) (k base : ℕ) (rest : List ℕ) (to : NextQtd) (next other bytes : ℕ) (last : Bool) (token : QtdToken) (pages : List ℕ) → isControl (t .kind) ≡ false
     → to ≡ nextOf base rest → next ≡ nextWord to → bytes ≡ chunkAt k (t .length) (t .limit) → last ≡ isNone rest → token ≡ chunkToken (t .direction) bytes last
-    → pages ≡ pageSlots (t .address + k * t .limit) bytes
-    → record { next = next; alternate = 1; token = token .0; pages = pages; upper = zeroSlots } ≡ recordAt t k rest base
+    → other ≡ alternateOf t last → pages ≡ pageSlots (t .address + k * t .limit) bytes
+    → record { next = next; alternate = other; token = token .0; pages = pages; upper = zeroSlots } ≡ recordAt t k rest base
 unfolding recordAt bareAt chunkQtd newQtd withNext
-chunk-laid t k base rest to next bytes last token pages c en ew eb el et ep =
-    ap (λ (n : ℕ). record { next = n; alternate = 1; token = token .0; pages = pages; upper = zeroSlots }) (ew ∙ ap nextWord en)
-    ∙ ap (λ (l : List ℕ). record { next = nextWord (nextOf base rest); alternate = 1; token = token .0; pages = l; upper = zeroSlots }) ep
-    ∙ ap (λ (w : QtdToken). record { next = nextWord (nextOf base rest); alternate = 1; token = w .0; pages = pageSlots (t .address + k * t .limit) bytes; upper = zeroSlots })
-    (et ∙ ap (chunkToken (t .direction) bytes) (el ∙ last-none rest))
-    ∙ ap (λ (m : ℕ). withNext (newQtd (chunkToken (t .direction) m (isLast rest)) (t .address + k * t .limit) m) (nextOf base rest)) eb
+chunk-laid t k base rest to next other bytes last token pages c en ew eb el et eo ep =
+    let is-last : last ≡ isLast rest = el ∙ last-none rest in
+    ap (λ (n : ℕ). record { next = n; alternate = other; token = token .0; pages = pages; upper = zeroSlots }) (ew ∙ ap nextWord en)
+    ∙ ap (λ (n : ℕ). record { next = nextWord (nextOf base rest); alternate = n; token = token .0; pages = pages; upper = zeroSlots }) (eo ∙ ap (alternateOf t) is-last)
+    ∙ ap (λ (l : List ℕ). record { next = nextWord (nextOf base rest); alternate = alternateOf t (isLast rest); token = token .0; pages = l; upper = zeroSlots }) ep
+    ∙ ap (λ (w : QtdToken). record { next = nextWord (nextOf base rest); alternate = alternateOf t (isLast rest); token = w .0; pages = pageSlots (t .address + k * t .limit) bytes; upper = zeroSlots })
+    (et ∙ ap (chunkToken (t .direction) bytes) is-last)
+    ∙ ap (λ (m : ℕ). withNext (withAlternate (newQtd (chunkToken (t .direction) m (isLast rest)) (t .address + k * t .limit) m) (alternateOf t (isLast rest))) (nextOf base rest)) eb
     ∙ ap (λ (d : QueueTransferDescriptor). withNext d (nextOf base rest)) (chunk-bare (t .kind) t k (isLast rest) c)
 
 -- ---- the parts of a writing

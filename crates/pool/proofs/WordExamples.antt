@@ -9,13 +9,13 @@ use Rattle.common.specs.declared.kinds.Direction.the-variants.{In}
 use Rattle.common.specs.declared.kinds.EndpointType.the-variants.{Bulk}
 use Rattle.token.specs.Tokens.{tokenOf}
 use Rattle.descriptor.specs.declared.qtd.QueueTransferDescriptor.{QueueTransferDescriptor as Record}
-use Rattle.descriptor.specs.Descriptors.{newQtd, withNext}
+use Rattle.descriptor.specs.Descriptors.{newQtd, terminated, withNext}
 use Rattle.descriptor.specs.Slots.{pageSlots, zeroSlots}
 use Rattle.pool.specs.declared.laying.Laying.{Laying}
 use Rattle.pool.specs.Places.{upFrom}
 use Rattle.pool.specs.Transfers.{bareAt, chunkQtd, recordAt, requestedAt}
 use Rattle.pool.specs.Chains.{blank, filledFrom, firstError, lengthOf, seenFrom, standingOf, viewOf}
-use Rattle.pool.specs.Words.{clearedTo, noLaying, noMarking, writtenWith}
+use Rattle.pool.specs.Words.{openedTo, noLaying, noMarking, writtenWith}
 
 -- bulk In, 16385 bytes in chunks of 16384, at places 0 and 2
 abbrev two-chunks : Laying
@@ -23,12 +23,12 @@ two-chunks =
     record {
       places = 5 ∷ 0 ∷ 0 ∷ 0 ∷ [];
       base = 1048576;
-      transfer = record { kind = Bulk; direction = In; address = 268435456; length = 16385; limit = 16384; setup = 0 };
+      transfer = record { kind = Bulk; direction = In; address = 268435456; length = 16385; limit = 16384; setup = 0; alternate = 0x100100 };
     }
 
 abbrev laid-records : List Record
 laid-records =
-    record { next = 1048704; alternate = 1; token = 1073745280; pages = 268435456 ∷ 268439552 ∷ 268443648 ∷ 268447744 ∷ 0 ∷ []; upper = zeroSlots }
+    record { next = 1048704; alternate = 0x100100; token = 1073745280; pages = 268435456 ∷ 268439552 ∷ 268443648 ∷ 268447744 ∷ 0 ∷ []; upper = zeroSlots }
     ∷ blank
     ∷ record { next = 1; alternate = 1; token = 101760; pages = 268451840 ∷ 0 ∷ 0 ∷ 0 ∷ 0 ∷ []; upper = zeroSlots }
     ∷ []
@@ -48,6 +48,7 @@ seen : viewOf (seenFrom Bulk 16385 16384 0 (setPlaces (5 ∷ 0 ∷ 0 ∷ 0 ∷ [
 unfolding setPlaces placesOf seenFrom viewOf standingOf firstError lengthOf requestedAt
 seen = refl
 
-cleared : clearedTo 2 laid-records ≡ blank ∷ blank ∷ getD laid-records 2 blank ∷ []
-unfolding clearedTo upFrom filledFrom
-cleared = refl
+-- D is 1: its record, and the shared one
+opened : openedTo 2 laid-records ≡ blank ∷ terminated ∷ getD laid-records 2 blank ∷ []
+unfolding openedTo upFrom filledFrom
+opened = refl

@@ -22,8 +22,8 @@ use Rattle.pool.specs.Plain as Deeds
 use Rattle.pool.specs.declared.laying.Laying.{Laying}
 use Rattle.pool.specs.declared.transfer.Transfer.{Transfer}
 use Rattle.pool.specs.Places.{upFrom}
-use Rattle.pool.specs.Chains.{blank, filledFrom, startsGood, transferGood, writtenOf}
-use Rattle.pool.specs.Words.{ChunksGood, LayingGood, StagesGood, clearedTo, nextGood, wherePlaces}
+use Rattle.pool.specs.Chains.{blank, filledFrom, freshAt, startsGood, transferGood, writtenOf}
+use Rattle.pool.specs.Words.{ChunksGood, LayingGood, StagesGood, openedTo, nextGood, wherePlaces}
 
 -- ---- how many places there are
 
@@ -142,27 +142,27 @@ module _ (n : ℕ) (l : Laying) (k : ℕ) (rest : List ℕ) (h : k < length (set
       let c : isControl (l .transfer .kind) ≡ false = where-some ps (isControl (l .transfer .kind) ≡ false) some-places (g .kind) in
       (c, t .1, chunk-start (l .transfer .kind) (l .transfer) (length ps) k c h (t .3), t .4, next-in (l .base) n rest (t .0) w)
 
--- ---- the first records cleared
+-- ---- the first records as opening leaves them
 
-pub clear-on : (count k : ℕ) (zs all : List QueueTransferDescriptor) (w : QueueTransferDescriptor) → k < count → w ≡ blank
-    → filledFrom Deeds.Clear 0 k (upFrom k (count - k)) zs ≡ all → filledFrom Deeds.Clear 0 (k + 1) (upFrom (k + 1) (count - (k + 1))) (set zs k w) ≡ all
+pub open-on : (count k : ℕ) (zs all : List QueueTransferDescriptor) (w : QueueTransferDescriptor) → k < count → w ≡ freshAt (upFrom (k + 1) (count - (k + 1)))
+    → filledFrom Deeds.Open 0 k (upFrom k (count - k)) zs ≡ all → filledFrom Deeds.Open 0 (k + 1) (upFrom (k + 1) (count - (k + 1))) (set zs k w) ≡ all
 unfolding filledFrom upFrom
-clear-on count k zs all w h ew left =
+open-on count k zs all w h ew left =
     let m : ℕ = count - (k + 1) in
     let one : count - k ≡ suc m = omega (arith, h) in
-    ap (λ (j : ℕ). filledFrom Deeds.Clear 0 j (upFrom j m) (set zs k w)) (add-one k)
-    ∙ ap (λ (v : QueueTransferDescriptor). filledFrom Deeds.Clear 0 (suc k) (upFrom (suc k) m) (set zs k v)) ew
-    ∙ ap (λ (j : ℕ). filledFrom Deeds.Clear 0 k (upFrom k j) zs) (sym one)
+    ap (λ (j : ℕ). filledFrom Deeds.Open 0 j (upFrom j m) (set zs k w)) (add-one k)
+    ∙ ap (λ (v : QueueTransferDescriptor). filledFrom Deeds.Open 0 (suc k) (upFrom (suc k) m) (set zs k v)) (ew ∙ ap (λ (j : ℕ). freshAt (upFrom j m)) (add-one k))
+    ∙ ap (λ (j : ℕ). filledFrom Deeds.Open 0 k (upFrom k j) zs) (sym one)
     ∙ left
 
-pub clear-end : (count k : ℕ) (zs all : List QueueTransferDescriptor) → count ≤ k → filledFrom Deeds.Clear 0 k (upFrom k (count - k)) zs ≡ all → zs ≡ all
+pub open-end : (count k : ℕ) (zs all : List QueueTransferDescriptor) → count ≤ k → filledFrom Deeds.Open 0 k (upFrom k (count - k)) zs ≡ all → zs ≡ all
 unfolding filledFrom upFrom
-clear-end count k zs all h left =
+open-end count k zs all h left =
     let none : count - k ≡ 0 = omega (arith, h) in
-    ap (λ (j : ℕ). filledFrom Deeds.Clear 0 k (upFrom k j) zs) (sym none) ∙ left
+    ap (λ (j : ℕ). filledFrom Deeds.Open 0 k (upFrom k j) zs) (sym none) ∙ left
 
-pub clear-start : (count : ℕ) (ys : List QueueTransferDescriptor) → filledFrom Deeds.Clear 0 0 (upFrom 0 (count - 0)) ys ≡ clearedTo count ys
-unfolding clearedTo
-clear-start count ys =
+pub open-start : (count : ℕ) (ys : List QueueTransferDescriptor) → filledFrom Deeds.Open 0 0 (upFrom 0 (count - 0)) ys ≡ openedTo count ys
+unfolding openedTo
+open-start count ys =
     let whole : count - 0 ≡ count = omega arith in
-    ap (λ (j : ℕ). filledFrom Deeds.Clear 0 0 (upFrom 0 j) ys) whole
+    ap (λ (j : ℕ). filledFrom Deeds.Open 0 0 (upFrom 0 j) ys) whole

@@ -1,6 +1,6 @@
 -- What a request's descriptors say (`viewOf`), and what is written to the pool (`fillOf`).
 use Prim.Native.Nat.{ℕ, suc, _+_, _-_, _*_, _/_, _≤_, _^_}
-use mathlib.Core.Bool.{Bool, true, false, not}
+use mathlib.Core.Bool.{Bool, true, false, cond, not, _&&_}
 use mathlib.Core.List.{List, [], _∷_, map}
 use lib.Dec.{eqb}
 use lib.ListN.{getD, set}
@@ -8,6 +8,7 @@ use Rattle.common.specs.declared.kinds.EndpointType.{EndpointType}
 use Rattle.common.specs.declared.kinds.EndpointType.the-variants.{Control, Isochronous, Bulk, Interrupt}
 use Rattle.token.specs.EhciQtd.{active, errors, totalBytes}
 use Rattle.descriptor.specs.declared.qtd.QueueTransferDescriptor.{QueueTransferDescriptor}
+use Rattle.descriptor.specs.Descriptors.{terminated}
 use Rattle.descriptor.specs.Slots.{zeroSlots}
 use Rattle.pool.specs.Plain.{Ask}
 use Rattle.pool.specs.Plain.{Chain}
@@ -30,10 +31,15 @@ abbrev pub withToken : QueueTransferDescriptor → ℕ → QueueTransferDescript
 withToken here w =
     record { next = here .next; alternate = here .alternate; token = w; pages = here .pages; upper = here .upper }
 
+-- what opening leaves, with these places to come: zero words, and at the last place the shared descriptor
+abbrev pub freshAt : List ℕ → QueueTransferDescriptor
+freshAt [] = terminated
+freshAt (q ∷ qs) = blank
+
 -- the k-th of a chain's records, with these places to come
 abbrev pub writtenOf : Deed → ℕ → ℕ → List ℕ → QueueTransferDescriptor → QueueTransferDescriptor
 writtenOf Deeds.Leave base k rest here = here
-writtenOf Deeds.Clear base k rest here = blank
+writtenOf Deeds.Open base k rest here = freshAt rest
 writtenOf (Deeds.Transfer t) base k rest here = recordAt t k rest base
 writtenOf (Deeds.Token w) base k rest here = withToken here w
 
@@ -76,7 +82,7 @@ seenFrom kind length limit k (p ∷ ps) rs =
 
 -- nothing is asked
 unfoldable pub noAsk : Ask
-noAsk = record { places = packed []; kind = Control; length = 0; limit = 0 }
+noAsk = record { places = packed []; kind = Control; length = 0; limit = 0; stops = false }
 
 abbrev pub isActive : ℕ → Bool
 isActive w = not (eqb (active w) 0)
@@ -87,6 +93,15 @@ isErring w = not (eqb (errors w) 0)
 abbrev pub numberIf : Bool → ℕ → ℕ → ℕ
 numberIf true a b = a
 numberIf false a b = b
+
+-- "inactive without error and has bytes left", whatever was requested
+abbrev pub isShort : ℕ → Bool
+isShort w = not (isActive w) && (not (isErring w) && not (eqb (totalBytes w) 0))
+
+-- "the reported length stops with that one": the descriptors that are read, of a request that stops so or of another
+unfoldable pub readOf : Bool → List Seen → List Seen
+readOf stops [] = []
+readOf stops (s ∷ ss) = s ∷ cond (stops && isShort (s .token)) [] (readOf stops ss)
 
 -- 0: every descriptor is inactive, none erring; 1: an error comes before any active one; 2: an active one comes first
 unfoldable pub standingOf : List Seen → ℕ
@@ -134,7 +149,7 @@ transferGood t base n count =
 
 abbrev pub deedGood : Deed → ℕ → ℕ → ℕ → Type 0
 deedGood Deeds.Leave base n count = Unit
-deedGood Deeds.Clear base n count = Unit
+deedGood Deeds.Open base n count = Unit
 deedGood (Deeds.Transfer t) base n count = transferGood t base n count
 deedGood (Deeds.Token w) base n count = Unit
 

@@ -1,5 +1,6 @@
 -- What the definitions say of a pool's records: which places, and what becomes of each or is asked of it.
 use Prim.Native.Nat.{ℕ}
+use mathlib.Core.Bool.{Bool}
 use mathlib.Core.List.{List}
 use Rattle.common.specs.declared.kinds.EndpointType.{EndpointType}
 use Rattle.pool.specs.declared.transfer.Transfer.{Transfer as Request}
@@ -11,7 +12,7 @@ pub record Places : Type 0 where
 
 -- what becomes of each record of a chain
 pub data Deed : Type 0 where
-  Leave Clear : Deed
+  Leave Open : Deed
   Transfer : Request → Deed
   Token : ℕ → Deed
 
@@ -21,8 +22,10 @@ pub record Chain : Type 0 where
   pub base : ℕ
   pub deed : Deed
 
+-- `stops`: it is read up to its first short descriptor, and no further
 pub record Ask : Type 0 where
   pub places : Places
   pub kind : EndpointType
   pub length : ℕ
   pub limit : ℕ
+  pub stops : Bool

@@ -1,11 +1,14 @@
--- Document 01, "Tokens and plans", "Descriptors, heads, links": a request's k-th descriptor.
+-- Document 01, "Tokens and plans", "Descriptors, heads, links", and order 1 of 02: a request's k-th descriptor.
 use Prim.Native.Nat.{ℕ, _+_, _*_}
-use mathlib.Core.Bool.{Bool, true, false}
+use mathlib.Core.Bool.{Bool, true, false, cond, not}
 use mathlib.Core.List.{List, [], _∷_}
 use lib.Dec.{eqb}
 use Rattle.token.specs.declared.plan.DataTd.{DataTd}
 use Rattle.token.specs.declared.plan.DataTd.the-variants.{Absent, Present}
 use Rattle.token.specs.declared.qtd.QtdToken.{QtdToken}
+use Rattle.common.specs.Kinds.{isControl}
+use Rattle.common.specs.declared.kinds.Direction.{Direction}
+use Rattle.common.specs.declared.kinds.Direction.the-variants.{Out, In}
 use Rattle.common.specs.declared.kinds.EndpointType.{EndpointType}
 use Rattle.common.specs.declared.kinds.EndpointType.the-variants.{Control, Isochronous, Bulk, Interrupt}
 use Rattle.token.specs.Chunks.{chunkAt}
@@ -50,12 +53,31 @@ abbrev pub isLast : List ℕ → Bool
 isLast [] = true
 isLast (q ∷ qs) = false
 
+-- "bulk and interrupt In requests .. (control stays)": they end with their first short descriptor
+abbrev pub endsShort : EndpointType → Direction → Bool
+endsShort kind Out = false
+endsShort kind In = not (isControl kind)
+
+-- the alternate word of all but the last: the address of the shared descriptor, or 1
+abbrev pub alternateWord : EndpointType → Direction → ℕ → ℕ
+alternateWord kind direction shared = cond (endsShort kind direction) shared 1
+
+-- "every descriptor but the last gets as alternate one shared inactive descriptor"; so of more than one
+abbrev pub alternateOf : Transfer → Bool → ℕ
+alternateOf t last = cond last 1 (t .alternate)
+
+abbrev pub withAlternate : QueueTransferDescriptor → ℕ → QueueTransferDescriptor
+withAlternate d word =
+    record { next = d .next; alternate = word; token = d .token; pages = d .pages; upper = d .upper }
+
 unfoldable pub chunkQtd : Transfer → ℕ → Bool → QueueTransferDescriptor
 chunkQtd t k last =
-    newQtd
+    withAlternate
+    (newQtd
     (chunkToken (t .direction) (chunkAt k (t .length) (t .limit)) last)
     (t .address + k * t .limit)
-    (chunkAt k (t .length) (t .limit))
+    (chunkAt k (t .length) (t .limit)))
+    (alternateOf t last)
 
 abbrev pub bareFor : EndpointType → Transfer → ℕ → Bool → QueueTransferDescriptor
 bareFor Control t k last = stageAt t k

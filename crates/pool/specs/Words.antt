@@ -1,7 +1,7 @@
 -- What is asked of the pool and written to it, the places as the words of a set.
 use Prim.Native.Nat.{ℕ, _+_, _-_, _*_, _≤_, _<_, _^_}
 use mathlib.Core.Path.{_≡_}
-use mathlib.Core.Bool.{Bool, true, false, cond, not}
+use mathlib.Core.Bool.{Bool, true, false, cond, not, _&&_}
 use mathlib.Core.List.{List, [], _∷_, _++_}
 use lib.ListN.{getD, length, replicate, set}
 use Rattle.bitset.specs.Places.{Within, setPlaces}
@@ -19,7 +19,7 @@ use Rattle.pool.specs.declared.transfer.Transfer.{Transfer}
 use Rattle.pool.specs.declared.writing.Writing.{Writing}
 use Rattle.pool.specs.Places.{upFrom}
 use Rattle.pool.specs.Transfers.{addressOf, requestedAt}
-use Rattle.pool.specs.Chains.{blank, filledFrom, joined, seeOf, seenFrom, transferGood, viewOf, withToken}
+use Rattle.pool.specs.Chains.{Seen, blank, filledFrom, isShort, joined, readOf, seeOf, seenFrom, transferGood, viewOf, withToken}
 
 -- no place
 abbrev pub noWords : List ℕ
@@ -34,7 +34,7 @@ wherePlaces (p ∷ ps) P = P
 
 -- nothing is asked
 unfoldable pub noAskWords : AskWords
-noAskWords = record { places = noWords; kind = Control; length = 0; limit = 0 }
+noAskWords = record { places = noWords; kind = Control; length = 0; limit = 0; stops = false }
 
 pub record AskWordsGood (n : ℕ) (a : AskWords) : Type 0 where
   pub within : Within n (setPlaces (a .places))
@@ -44,7 +44,19 @@ pub record AskWordsGood (n : ℕ) (a : AskWords) : Type 0 where
 -- one more record is seen
 abbrev pub seenNext : Folded → AskWords → ℕ → Folded
 seenNext s a word =
-    record { view = seeOf (s .view) (requestedAt (a .kind) (a .length) (a .limit) (s .k)) word; k = s .k + 1 }
+    record {
+      view = seeOf (s .view) (requestedAt (a .kind) (a .length) (a .limit) (s .k)) word;
+      k = s .k + 1;
+      ended = a .stops && isShort word;
+    }
+
+-- nothing is left to see once it has ended
+abbrev pub leftIf : Bool → ℕ → ℕ
+leftIf ended left = cond ended 0 left
+
+-- what is still read of the descriptors to come
+abbrev pub readOn : Bool → Bool → List Seen → List Seen
+readOn ended stops ss = cond ended [] (readOf stops ss)
 
 -- the places of word j of what is asked
 abbrev pub wordPlaces : AskWords → ℕ → List ℕ
@@ -52,11 +64,11 @@ wordPlaces a j = placesOf (64 * j) 64 (getD (a .places) j 0)
 
 -- what seeing the records at some places leaves: whatever places follow, the whole is seen
 pub record Sees (a : AskWords) (rs : List QueueTransferDescriptor) (ps : List ℕ) (s t : Folded) : Type 0 where
-  pub so-many : t .k ≡ s .k + length ps
+  pub so-many : t .k ≤ s .k + length ps
   pub in-bounds : t .view .moved ≤ t .k * 2 ^ 32
   pub whole : (qs : List ℕ)
-      → joined (t .view) (viewOf (seenFrom (a .kind) (a .length) (a .limit) (t .k) qs rs))
-      ≡ joined (s .view) (viewOf (seenFrom (a .kind) (a .length) (a .limit) (s .k) (ps ++ qs) rs))
+      → joined (t .view) (viewOf (readOn (t .ended) (a .stops) (seenFrom (a .kind) (a .length) (a .limit) (t .k) qs rs)))
+      ≡ joined (s .view) (viewOf (readOn (s .ended) (a .stops) (seenFrom (a .kind) (a .length) (a .limit) (s .k) (ps ++ qs) rs)))
 
 abbrev pub sees : AskWords → List QueueTransferDescriptor → List ℕ → Folded → Folded → Type 0
 sees a rs ps s t = Sees a rs ps s t
@@ -88,9 +100,9 @@ markedOf m rs = cond (m .marks) (set rs (m .place) (withToken (getD rs (m .place
 unfoldable pub writtenWith : Writing → List QueueTransferDescriptor → List QueueTransferDescriptor
 writtenWith w rs = markedOf (w .marking) (laidOf (w .laying) rs)
 
--- the first records are cleared
-unfoldable pub clearedTo : ℕ → List QueueTransferDescriptor → List QueueTransferDescriptor
-clearedTo count rs = filledFrom Deeds.Clear 0 0 (upFrom 0 count) rs
+-- the first records are as opening leaves them, the last of these the shared one
+unfoldable pub openedTo : ℕ → List QueueTransferDescriptor → List QueueTransferDescriptor
+openedTo count rs = filledFrom Deeds.Open 0 0 (upFrom 0 count) rs
 
 -- ---- what is asked of a caller
 
@@ -133,7 +145,7 @@ chunksOf w = layingIf (not (isControl (w .laying .transfer .kind))) (w .laying)
 -- nothing is written
 abbrev pub noTransfer : Transfer
 noTransfer =
-    record { kind = Control; direction = Directions.Out; address = 0; length = 0; limit = 0; setup = 0 }
+    record { kind = Control; direction = Directions.Out; address = 0; length = 0; limit = 0; setup = 0; alternate = 0 }
 
 unfoldable pub noLaying : Laying
 noLaying = record { places = noWords; base = 0; transfer = noTransfer }

@@ -3,8 +3,7 @@ ghost use mathlib.Core.Path.{_≡_};
 ghost use mathlib.Core.List.{[]};
 ghost use Prim.Native.Nat.{_-_, _<_};
 ghost use Rattle.token.specs.EhciQtd.{totalBytes};
-ghost use Rattle.pool.specs.Chains.{blank, isActive, isErring, numberIf, orElse, viewOf};
-use crate::transfer::requested;
+ghost use Rattle.pool.specs.Chains.{blank, isActive, isErring, isShort, numberIf, orElse, viewOf};
 use descriptor::qtd::QueueTransferDescriptor;
 use token::qtd::QtdToken;
 
@@ -55,6 +54,19 @@ pub fn failed_with(failed: u32, token: QtdToken) -> u32
         return token.0;
     }
     0
+}
+
+// Done without error, with bytes left.
+pub fn is_short(token: QtdToken) -> bool
+    ensures { λ r. ⌜ r ≡ isShort (token .0) ⌝ }
+{
+    if token.active() {
+        return false;
+    }
+    if token.has_error() {
+        return false;
+    }
+    token.total_bytes() != 0
 }
 
 pub fn moved_of(requested: u64, token: QtdToken) -> u64

@@ -6,7 +6,7 @@ ghost use lib.ListN.{length};
 ghost use Rattle.bitset.specs.Places.{setPlaces};
 ghost use Rattle.bitset.specs.Rest.{isNone, restOf};
 ghost use Rattle.common.specs.Kinds.{isControl};
-ghost use Rattle.pool.specs.Transfers.{nextOf, recordAt};
+ghost use Rattle.pool.specs.Transfers.{alternateOf, nextOf, recordAt};
 ghost use Rattle.pool.specs.Words.{StagesGood, ChunksGood, laidOf, nextGood, noLaying};
 use crate::row::replace;
 use crate::transfer::Transfer;
@@ -45,6 +45,7 @@ pub fn no_laying() -> Laying
             length: 0,
             limit: 0,
             setup: 0,
+            alternate: 0,
         },
     }
 }
@@ -85,21 +86,32 @@ fn stage_record(l: Laying, k: u64, next: Cursor) -> QueueTransferDescriptor
     bare.set_next(to)
 }
 
+// The last descriptor leads nowhere.
+fn alternate_of(t: Transfer, last: bool) -> u32
+    ensures { λ r. ⌜ r ≡ alternateOf t last ⌝ }
+{
+    if last {
+        return EHCI_LINK_TERMINATE;
+    }
+    t.alternate
+}
+
 // The k-th record of a request in chunks.
 fn chunk_record(l: Laying, k: u32, next: Cursor) -> QueueTransferDescriptor
     requires { ⌜ (isControl (l .transfer .kind) ≡ false) × (l .transfer .length ≤ 2 ^ 32 - l .transfer .address) × (k * l .transfer .limit ≤ l .transfer .length) × (l .transfer .limit ≤ 16384) × nextGood (l .base) (restOf next) ⌝ }
     ensures { λ r. ⌜ r ≡ recordAt (l .transfer) k (restOf next) (l .base) ⌝ }
 {
-    let to = next_at(l.base, next);
     let t = l.transfer;
     let limit = t.limit as u32;
     let start = (k as u64) * (limit as u64);
     let bytes = chunk_length(k, t.length, limit);
+    let to = next_at(l.base, next);
     let direction = t.direction;
-    let token = chunk_token(direction, bytes, at_end(next));
+    let last = at_end(next);
+    let token = chunk_token(direction, bytes, last);
     QueueTransferDescriptor {
         next: to.word(),
-        alternate: EHCI_LINK_TERMINATE,
+        alternate: alternate_of(t, last),
         token: token.0,
         pages: page_slots(t.address + start, bytes),
         upper: [0; 5],

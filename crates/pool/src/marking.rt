@@ -1,8 +1,10 @@
-// The token of one record is replaced, the other words stay. And the first records are cleared.
+// The token of one record is replaced, the other words stay. And the records as opening leaves them.
 ghost use mathlib.Core.Path.{_≡_};
-ghost use Prim.Native.Nat.{_≤_};
+ghost use Prim.Native.Nat.{_+_, _-_, _≤_, _<_};
 ghost use lib.ListN.{length};
-ghost use Rattle.pool.specs.Words.{MarkingGood, clearedTo, markedOf, noMarking};
+ghost use Rattle.pool.specs.Words.{MarkingGood, markedOf, noMarking, openedTo};
+ghost use Rattle.pool.specs.Chains.{freshAt};
+ghost use Rattle.pool.specs.Places.{upFrom};
 use crate::chain::no_record;
 use crate::row::replace;
 use crate::tokens::set_token;
@@ -35,14 +37,25 @@ pub fn mark_token(rows: &mut [QueueTransferDescriptor], m: Marking)
     set_token(rows, m.place, m.token);
 }
 
-// The first records become thirteen zero words.
-pub fn clear_first(rows: &mut [QueueTransferDescriptor], count: usize)
+// The k-th of so many records: zero words, and the last is the shared one, which is never active.
+fn fresh_record(k: usize, count: usize) -> QueueTransferDescriptor
+    requires { ⌜ k < count ⌝ }
+    ensures { λ r. ⌜ r ≡ freshAt (upFrom (k + 1) (count - (k + 1))) ⌝ }
+{
+    if k + 1 == count {
+        return QueueTransferDescriptor::terminated();
+    }
+    no_record()
+}
+
+// The first records as opening leaves them.
+pub fn open_first(rows: &mut [QueueTransferDescriptor], count: usize)
     requires { ⌜ count ≤ length (now rows) ⌝ }
-    ensures { λ _. ⌜ now (rows .exit) ≡ clearedTo count (now (rows .entry)) ⌝ }
+    ensures { λ _. ⌜ now (rows .exit) ≡ openedTo count (now (rows .entry)) ⌝ }
 {
     let mut k: usize = 0;
     while k < count {
-        let r = no_record();
+        let r = fresh_record(k, count);
         replace(rows, k, r);
         k += 1;
     }

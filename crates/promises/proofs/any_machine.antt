@@ -1,4 +1,5 @@
 -- What follows for any machine from a few facts of it.
+pub mod ShortRule
 pub mod Walking
 pub mod Leads
 pub mod Pictures

@@ -19,6 +19,7 @@ pub mod FaultTheorem
 pub mod RegisterTheorems
 pub mod IdTheorems
 pub mod CollectionLaws
+pub mod ShortLaws
 pub mod PlanLaws
 pub mod SubmissionLaws
 pub mod PacketLaws

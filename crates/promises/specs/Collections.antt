@@ -1,6 +1,6 @@
 -- What a collection answers: 10, 11 or 0, from the history, the request, and the tokens that its places have in the pool at that call.
 use Prim.Native.Nat.{ℕ, _+_, _-_, min}
-use mathlib.Core.Bool.{Bool, true, false, cond}
+use mathlib.Core.Bool.{Bool, true, false, cond, _&&_}
 use mathlib.Core.List.{List, [], _∷_, map}
 use mathlib.Core.Path.{_≡_}
 use lib.ListN.{getD}
@@ -8,14 +8,14 @@ use Rattle.token.specs.EhciQtd.{totalBytes}
 use Rattle.common.specs.declared.kinds.EndpointType.{EndpointType}
 use Rattle.common.specs.declared.kinds.EndpointType.the-variants.{Control, Isochronous, Bulk, Interrupt}
 use Rattle.descriptor.specs.declared.qtd.QueueTransferDescriptor.{QueueTransferDescriptor}
-use Rattle.pool.specs.Chains.{blank, isErring}
+use Rattle.pool.specs.Chains.{blank, isErring, isShort}
 use Rattle.settings.specs.declared.settings.Settings.{Settings}
 use Rattle.controller.specs.declared.lent.Readings.{Readings}
 use Rattle.ehci.specs.declared.call.Call.the-variants.{Collect}
 use Rattle.ehci.specs.Replies.{answeredValues}
 use Rattle.promises.specs.Runs.{Always, History, Moment, Promise, Rows}
 use Rattle.promises.specs.Events.{isCollected}
-use Rattle.promises.specs.Uses.{Use, isOf, uses}
+use Rattle.promises.specs.Uses.{Use, isOf, mayEndShort, uses}
 use Rattle.promises.specs.Bells.{cancelled}
 use Rattle.promises.specs.Rooms.{numberAt}
 use Rattle.promises.specs.Coverage.{dataOf}
@@ -46,6 +46,12 @@ abbrev pub erring : List ℕ → List ℕ
 erring [] = []
 erring (token ∷ tokens) = cond (isErring token) (token ∷ erring tokens) (erring tokens)
 
+-- of a request that may end short "the reported length stops with" the first that is inactive without error and has bytes left: nothing after
+-- it is read
+abbrev pub readTo : Bool → List QueueTransferDescriptor → List QueueTransferDescriptor
+readTo short [] = []
+readTo short (d ∷ ds) = d ∷ cond (short && isShort (d .token)) [] (readTo short ds)
+
 -- ---- what is due
 
 pub record Due : Type 0 where
@@ -65,7 +71,7 @@ dueOf false failed length = finishedDue failed length
 abbrev pub dueTo : Settings → History → Rows → Use → Due
 dueTo s h rows u =
     let r = u .request in
-    let records = recordsAt rows (u .places) in
+    let records = readTo (mayEndShort u) (recordsAt rows (u .places)) in
     dueOf (cancelled s (u .slot) h) (erring (tokensOf records))
     (moved (pieceOf (r .kind) (r .length) (s .limit)) (r .length) (tokensOf (dataOf (r .kind) records)))
 

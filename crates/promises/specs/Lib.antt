@@ -10,6 +10,8 @@ pub mod Ranges
 pub mod Rooms
 pub mod Coverage
 pub mod Collections
+pub mod EhciQueue
+pub mod Shorts
 pub mod Submissions
 pub mod Chains
 pub mod Boundaries

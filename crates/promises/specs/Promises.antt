@@ -6,6 +6,7 @@ use Rattle.promises.specs.Refusals.{FewWrites, RefusalsKeep}
 use Rattle.promises.specs.Checks.{InOrder}
 use Rattle.promises.specs.Chains.{ChainsWalked, NoDetachFails}
 use Rattle.promises.specs.Rooms.{ChainsLead, ExclusivePlaces, RoomExact}
+use Rattle.promises.specs.Shorts.{FullGoesOn, SharedStands, ShortStops}
 use Rattle.promises.specs.Submissions.{CollectsEnded, PacketsStand, SubmitsPlanned, SubmittedStays, TokensStand}
 use Rattle.promises.specs.Registers.{InterruptsAnswered, QuietBringUp, RegistersTied, RingsInTurn, StatusAcknowledged, WritesExactly}
 use Rattle.promises.specs.Ranges.{RangesKept, RunsWhileHeld}
@@ -30,6 +31,12 @@ pub record Promises {f : Form} (m : Machine f) : Type 0 where
   pub chains-walked : EveryRun ChainsWalked m
   -- each overlay leads through its request's descriptors, in order, and terminates
   pub chains-lead : EveryRun ChainsLead m
+  -- the shared descriptor stands at place D, in no request and on no chain
+  pub shared-stands : EveryRun SharedStands m
+  -- a short packet leads there from all but the last descriptor of a bulk or interrupt In request, and the controller's queue stays; by next it
+  -- goes on as the chain does
+  pub short-stops : EveryRun ShortStops m
+  pub full-goes-on : EveryRun FullGoesOn m
   -- a submit leaves its plan's descriptors with their tokens, the setup packet that was asked for, and its overlay
   pub submits-planned : EveryRun SubmitsPlanned m
   pub packets-stand : EveryRun PacketsStand m

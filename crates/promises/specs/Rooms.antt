@@ -7,7 +7,7 @@ use lib.ListN.{drop, getD, length}
 use Rattle.descriptor.specs.declared.qtd.QueueTransferDescriptor.{QueueTransferDescriptor}
 use Rattle.pool.specs.Chains.{blank, withToken}
 use Rattle.pool.specs.Places.{Each, Within}
-use Rattle.pool.specs.Transfers.{recordAt}
+use Rattle.pool.specs.Transfers.{alternateWord, recordAt}
 use Rattle.pool.specs.declared.transfer.Transfer.{Transfer}
 use Rattle.settings.specs.declared.settings.Settings.{Settings}
 use Rattle.common.specs.Answers.{passed}
@@ -103,6 +103,7 @@ transferFor s u =
       length = u .request .length;
       limit = s .limit;
       setup = s .setups + 8 * u .slot;
+      alternate = alternateWord (u .request .kind) (u .request .direction) (s .pool + 64 * s .descriptors);
     }
 
 -- a record but for its token

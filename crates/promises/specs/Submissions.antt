@@ -61,12 +61,11 @@ fieldsOf d =
 
 -- ---- "Tokens and plans"
 
--- so many bytes at an address: its page slots; alternate 1, upper slots 0; active and nothing else in its status, error counter 3, from the
--- first page on
-abbrev pub planned : ℕ → ℕ → ℕ → ℕ → ℕ → Fields
-planned pid address bytes toggle interrupt =
+-- so many bytes at an address: its page slots; upper slots 0; active and nothing else in its status, error counter 3, from the first page on
+abbrev pub planned : ℕ → ℕ → ℕ → ℕ → ℕ → ℕ → Fields
+planned alternate pid address bytes toggle interrupt =
     record {
-      alternate = 1;
+      alternate = alternate;
       pages = pageSlots address bytes;
       upper = replicate 5 0;
       status = 128;
@@ -89,24 +88,32 @@ statusAfter In = outCode
 
 -- "setup (8 bytes, toggle 0); data if length > 0 (toggle 1); status (0 bytes, toggle 1, interrupt)"; the Bool: length is 0
 abbrev pub stages : ℕ → Direction → ℕ → ℕ → Bool → List Fields
-stages packet d address length true = planned setupCode packet 8 0 0 ∷ planned inCode 0 0 1 1 ∷ []
+stages packet d address length true = planned 1 setupCode packet 8 0 0 ∷ planned 1 inCode 0 0 1 1 ∷ []
 stages packet d address length false =
-    planned setupCode packet 8 0 0 ∷ planned (pidBy d) address length 1 0 ∷ planned (statusAfter d) 0 0 1 1 ∷ []
+    planned 1 setupCode packet 8 0 0 ∷ planned 1 (pidBy d) address length 1 0 ∷ planned 1 (statusAfter d) 0 0 1 1 ∷ []
+
+-- "for bulk and interrupt In requests .. every descriptor but the last gets as alternate one shared inactive descriptor", whose address is given
+abbrev pub alternateBy : ℕ → Direction → ℕ
+alternateBy shared Out = 1
+alternateBy shared In = shared
 
 -- "chunks of C, then the rest .. Toggle 0; only the last interrupts": so many of C, and the last
-abbrev pub chunks : ℕ → ℕ → ℕ → ℕ → ℕ → List Fields
-chunks zero pid limit address length = planned pid address length 0 1 ∷ []
-chunks (suc n) pid limit address length = planned pid address limit 0 0 ∷ chunks n pid limit (address + limit) (length - limit)
+abbrev pub chunks : ℕ → ℕ → ℕ → ℕ → ℕ → ℕ → List Fields
+chunks zero alternate pid limit address length = planned 1 pid address length 0 1 ∷ []
+chunks (suc n) alternate pid limit address length =
+    planned alternate pid address limit 0 0 ∷ chunks n alternate pid limit (address + limit) (length - limit)
 
--- of a request of that direction for so many bytes at an address, with its setup packet's address, if any, and the limit
-abbrev pub plan : EndpointType → ℕ → Direction → ℕ → ℕ → ℕ → List Fields
-plan Control packet d address length limit = stages packet d address length (eqb length 0)
-plan Isochronous packet d address length limit = chunks ((length - 1) / limit) (pidBy d) limit address length
-plan Bulk packet d address length limit = chunks ((length - 1) / limit) (pidBy d) limit address length
-plan Interrupt packet d address length limit = chunks ((length - 1) / limit) (pidBy d) limit address length
+-- of a request of that direction for so many bytes at an address, with its setup packet's address, if any, that of the shared descriptor, and
+-- the limit
+abbrev pub plan : EndpointType → ℕ → ℕ → Direction → ℕ → ℕ → ℕ → List Fields
+plan Control packet shared d address length limit = stages packet d address length (eqb length 0)
+plan Isochronous packet shared d address length limit = chunks ((length - 1) / limit) (alternateBy shared d) (pidBy d) limit address length
+plan Bulk packet shared d address length limit = chunks ((length - 1) / limit) (alternateBy shared d) (pidBy d) limit address length
+plan Interrupt packet shared d address length limit = chunks ((length - 1) / limit) (alternateBy shared d) (pidBy d) limit address length
 
+-- the shared descriptor is at place D
 abbrev pub planFor : Settings → ℕ → TransferRequest → List Fields
-planFor s k t = plan (t .kind) (s .setups + 8 * k) (t .direction) (t .address) (t .length) (s .limit)
+planFor s k t = plan (t .kind) (s .setups + 8 * k) (s .pool + 64 * s .descriptors) (t .direction) (t .address) (t .length) (s .limit)
 
 -- ---- setup packets: 8 bytes a slot
 
@@ -176,7 +183,7 @@ abbrev pub placeOf : Use → ℕ → ℕ
 placeOf u j = getD (u .places) j 0
 
 abbrev pub plannedFor : Settings → Use → ℕ → Fields
-plannedFor s u j = getD (planFor s (u .slot) (u .request)) j (planned 0 0 0 0 0)
+plannedFor s u j = getD (planFor s (u .slot) (u .request)) j (planned 1 0 0 0 0 0)
 
 -- the last turn that touched its j-th record is its submit, and the record is the j-th of its plan; or it is a writeback, and the record has
 -- that token

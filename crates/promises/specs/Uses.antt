@@ -1,10 +1,13 @@
 -- The requests that are accepted and not collected, and the heads in each schedule, as the history tells them.
 use Prim.Native.Nat.{ℕ, _+_}
-use mathlib.Core.Bool.{Bool, not, cond, _&&_}
+use mathlib.Core.Bool.{Bool, true, false, not, cond, _&&_}
 use mathlib.Core.List.{List, [], _∷_}
-use lib.Dec.{eqb}
+use lib.Dec.{eqb, ltb}
+use lib.ListN.{length}
 use Rattle.token.specs.Chunks.{needOf}
-use Rattle.common.specs.Kinds.{isInterrupt}
+use Rattle.common.specs.Kinds.{isControl, isInterrupt}
+use Rattle.common.specs.declared.kinds.Direction.{Direction}
+use Rattle.common.specs.declared.kinds.Direction.the-variants.{Out, In}
 use Rattle.settings.specs.declared.settings.Settings.{Settings}
 use Rattle.request.specs.declared.judge.TransferRequest.{TransferRequest}
 use Rattle.promises.specs.Runs.{History, Turn}
@@ -19,6 +22,14 @@ pub record Use : Type 0 where
   pub id : ℕ
   pub request : TransferRequest
   pub places : List ℕ
+
+-- "bulk and interrupt In requests of more than one descriptor (control stays)"
+abbrev pub comesIn : Direction → Bool
+comesIn Out = false
+comesIn In = true
+
+abbrev pub mayEndShort : Use → Bool
+mayEndShort u = comesIn (u .request .direction) && (not (isControl (u .request .kind)) && ltb 1 (length (u .places)))
 
 abbrev pub isOf : ℕ → ℕ → Use → Bool
 isOf k id u = eqb (u .slot) k && eqb (u .id) id

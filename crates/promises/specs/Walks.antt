@@ -9,6 +9,7 @@ use Rattle.descriptor.specs.EhciQueueHead.{linkAddress, linkTerminate, linkType
 use Rattle.descriptor.specs.declared.qtd.QueueTransferDescriptor.{QueueTransferDescriptor}
 use Rattle.pool.specs.Chains.{blank}
 use Rattle.settings.specs.declared.settings.Settings.{Settings}
+use Rattle.settings.specs.Settings.{poolLength}
 use Rattle.promises.specs.Runs.{Rows}
 
 -- ---- where a word leads
@@ -37,10 +38,10 @@ linkLeads s word =
     (cond (not (eqb (linkType word) 1)) (Ends Nowhere)
     (cond (eqb (linkAddress word) (s .heads)) (Ends AtRingHead) (placeAt (s .heads) 128 (s .endpoints + 1) (linkAddress word))))
 
--- EHCI 3.5.1: the next pointer of a descriptor or an overlay
+-- EHCI 3.5.1: the next pointer of a descriptor or an overlay; the shared descriptor is among the records
 abbrev pub nextLeads : Settings → ℕ → Lead
 nextLeads s word =
-    cond (eqb (terminate word) 1) (Ends Terminated) (placeAt (s .pool) 64 (s .descriptors) (qtdAddress word))
+    cond (eqb (terminate word) 1) (Ends Terminated) (placeAt (s .pool) 64 (poolLength s) (qtdAddress word))
 
 -- ---- walks
 

@@ -20,5 +20,8 @@ pub mod RegisterExamples
 pub mod WrongCollections
 pub mod DueExamples
 pub mod PlanExamples
+pub mod ShortExamples
 pub mod WrongSubmissions
 pub mod WrongStays
+pub mod WrongShorts
+pub mod WrongReads

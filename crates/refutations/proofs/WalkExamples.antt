@@ -54,22 +54,27 @@ round : from 0x200082 (links 0x200102 0x200082 1) ≡ walked (1 ∷ 2 ∷ 1 ∷ 
 unfolding walkFrom
 round = refl
 
--- ---- descriptors at 0x100000 and 0x100040
+-- ---- descriptors at 0x100000 and 0x100040, and the shared one
 
 abbrev descriptor : ℕ → QueueTransferDescriptor
 descriptor next = record { next = next; alternate = 1; token = 0; pages = zeroSlots; upper = zeroSlots }
 
 abbrev chain : ℕ → ℕ → ℕ → Walk
-chain word a b = nextWalk three (descriptor a ∷ descriptor b ∷ []) word
+chain word a b = nextWalk three (descriptor a ∷ descriptor b ∷ descriptor 1 ∷ []) word
 
 chain-walk : (chain 1 1 1 ≡ ended Terminated) × (chain 0x100040 0 1 ≡ walked (1 ∷ []) Terminated)
     × (chain 0x100000 0x100040 1 ≡ walked (0 ∷ 1 ∷ []) Terminated)
 unfolding walkFrom
 chain-walk = (refl, refl, refl)
 
+-- the shared descriptor is met like any other
+chain-shared : chain 0x100080 1 1 ≡ walked (2 ∷ []) Terminated
+unfolding walkFrom
+chain-shared = refl
+
 -- a next pointer of 0, one into a descriptor, one below the pool, one past its last
 chain-astray : (chain 0 1 1 ≡ ended Nowhere) × (chain 0x100020 1 1 ≡ ended Nowhere) × (chain 0x0FFFC0 1 1 ≡ ended Nowhere)
-    × (chain 0x100080 1 1 ≡ ended Nowhere) × (chain 0x100000 0x100060 1 ≡ walked (0 ∷ []) Nowhere)
+    × (chain 0x1000C0 1 1 ≡ ended Nowhere) × (chain 0x100000 0x100060 1 ≡ walked (0 ∷ []) Nowhere)
     × (chain 0x100000 0x100040 0 ≡ walked (0 ∷ 1 ∷ []) Nowhere)
 unfolding walkFrom
 chain-astray = (refl, refl, refl, refl, refl, refl)

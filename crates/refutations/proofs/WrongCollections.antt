@@ -11,7 +11,7 @@ use Rattle.register.specs.Writes.{andThen, noWrites}
 use Rattle.common.specs.declared.kinds.EndpointType.the-variants.{Control}
 use Rattle.descriptor.specs.Descriptors.{terminated}
 use Rattle.descriptor.specs.declared.qtd.QueueTransferDescriptor.{QueueTransferDescriptor}
-use Rattle.pool.specs.Chains.{blank, fillOf, filledFrom, firstError, lengthOf, noChain, seenFrom, standingOf as stageSeen, viewOf, withToken}
+use Rattle.pool.specs.Chains.{blank, fillOf, filledFrom, firstError, lengthOf, noChain, readOf, seenFrom, standingOf as stageSeen, viewOf, withToken}
 use Rattle.pool.specs.Places.{clearOf, listOf, packed, placesFrom}
 use Rattle.pool.specs.Transfers.{requestedAt}
 use Rattle.pool.specs.Plain.{Ask}
@@ -113,7 +113,7 @@ abbrev pub unlinked : Applied
 unlinked = replies Pending (andThen noWrites 0 (ringWord 0x80031)) (apartNow (one 0 0 0 1 1 (leaves 1)))
 
 pub unlinks : core (linkedNow (one 0 0 0 0 0 linked)) looks ≡ unlinked
-unfolding applyOf decideOf asksOf askOf askable requestAsk placesFrom seenFrom viewOf stageSeen firstError lengthOf requestedAt rowsFit replied fillOf filledFrom noChain packed listOf collectDecided collectOf linkedOf acceptsOf endpointAt decoded slotAt unlinkOf waitingOf boundedOf unlinkedOf ringOf detachOf predecessorOf searchFrom precedesOne withEndpoint withSlot withBell stateOf
+unfolding applyOf decideOf asksOf askOf askable requestAsk placesFrom seenFrom readOf viewOf stageSeen firstError lengthOf requestedAt rowsFit replied fillOf filledFrom noChain packed listOf collectDecided collectOf linkedOf acceptsOf endpointAt decoded slotAt unlinkOf waitingOf boundedOf unlinkedOf ringOf detachOf predecessorOf searchFrom precedesOne withEndpoint withSlot withBell stateOf
 unlinks = rw (states-good .0)
 
 hears : core (apartNow (one 0 0 0 1 1 (leaves 1))) (acknowledges 0x20) ≡ replies (Done G.Yes) (acknowledgeWrites 0x20 0x27 true true) (apartNow (one 0x20 0x20 1 1 1 (leaves 1)))
@@ -126,7 +126,7 @@ counts = rw (states-good .2)
 
 -- what `core` answers in the end
 pub length-500 : core (apartNow (one 0 0x20 0 0 0 (leaves 0))) looks .reply .answer ≡ Done (G.Length 500)
-unfolding applyOf decideOf asksOf askOf askable requestAsk placesFrom seenFrom viewOf stageSeen firstError lengthOf requestedAt rowsFit replied fillOf filledFrom noChain packed listOf collectDecided collectOf acceptsOf endpointAt decoded slotAt unlinkingOf finishOf outcomeOf freed clearOf endedOverlay putAt terminated withOwner withEndpoint withSlot stateOf
+unfolding applyOf decideOf asksOf askOf askable requestAsk placesFrom seenFrom readOf viewOf stageSeen firstError lengthOf requestedAt rowsFit replied fillOf filledFrom noChain packed listOf collectDecided collectOf acceptsOf endpointAt decoded slotAt unlinkingOf finishOf outcomeOf freed clearOf endedOverlay putAt terminated withOwner withEndpoint withSlot stateOf
 length-500 = rw (states-good .3)
 
 -- ---- a machine that does so, but for its collects
@@ -230,7 +230,7 @@ tens-due due =
 -- ---- a length drawn as if every request were a control request
 
 abbrev asControl : Ask → Ask
-asControl a = record { places = a .places; kind = Control; length = a .length; limit = a .limit }
+asControl a = record { places = a .places; kind = Control; length = a .length; limit = a .limit; stops = false }
 
 abbrev misread : World → Call → Applied
 misread v c =
@@ -242,11 +242,11 @@ abbrev pub asksControl : Machine inPlain
 asksControl v c = cond (eqb (rank c) 2) (misread v c) (core v c)
 
 misread-unlinks : misread (linkedNow (one 0 0 0 0 0 linked)) looks ≡ unlinked
-unfolding decideOf asksOf askOf askable requestAsk placesFrom seenFrom viewOf stageSeen firstError lengthOf requestedAt rowsFit replied fillOf filledFrom noChain packed listOf collectDecided collectOf linkedOf acceptsOf endpointAt decoded slotAt unlinkOf waitingOf boundedOf unlinkedOf ringOf detachOf predecessorOf searchFrom precedesOne withEndpoint withSlot withBell stateOf
+unfolding decideOf asksOf askOf askable requestAsk placesFrom seenFrom readOf viewOf stageSeen firstError lengthOf requestedAt rowsFit replied fillOf filledFrom noChain packed listOf collectDecided collectOf linkedOf acceptsOf endpointAt decoded slotAt unlinkOf waitingOf boundedOf unlinkedOf ringOf detachOf predecessorOf searchFrom precedesOne withEndpoint withSlot withBell stateOf
 misread-unlinks = rw (states-good .0)
 
 misread-none : misread (apartNow (one 0 0x20 0 0 0 (leaves 0))) looks .reply .answer ≡ Done (G.Length 0)
-unfolding decideOf asksOf askOf askable requestAsk placesFrom seenFrom viewOf stageSeen firstError lengthOf requestedAt rowsFit replied fillOf filledFrom noChain packed listOf collectDecided collectOf acceptsOf endpointAt decoded slotAt unlinkingOf finishOf outcomeOf freed clearOf endedOverlay putAt terminated withOwner withEndpoint withSlot stateOf
+unfolding decideOf asksOf askOf askable requestAsk placesFrom seenFrom readOf viewOf stageSeen firstError lengthOf requestedAt rowsFit replied fillOf filledFrom noChain packed listOf collectDecided collectOf acceptsOf endpointAt decoded slotAt unlinkingOf finishOf outcomeOf freed clearOf endedOverlay putAt terminated withOwner withEndpoint withSlot stateOf
 misread-none = rw (states-good .3)
 
 pub asks-control-due : EveryRun CollectsDue asksControl → ⊥

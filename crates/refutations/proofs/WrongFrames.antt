@@ -2,7 +2,7 @@
 use Prim.Native.Nat.{ℕ, _+_}
 use mathlib.Core.Path.{_≡_, refl, sym, ap, _∙_}
 use mathlib.Core.Bool.{true, true≢false}
-use mathlib.Core.List.{List, [], _∷_}
+use mathlib.Core.List.{List, [], _∷_, _++_}
 use native.Mathlib.Omega.{arith}
 use lib.ListN.{length, replicate}
 use Rattle.register.specs.Bits.{withoutBits}
@@ -106,7 +106,7 @@ abbrev headsWith : ℕ → List ℕ
 headsWith next = headsOf 0x200002 (1 ∷ 0xF2002105 ∷ 0x40000001 ∷ 0 ∷ next ∷ 1 ∷ replicate 11 0) (replicate 17 0)
 
 abbrev world : Ehci → List QueueTransferDescriptor → ℕ → ℕ → World
-world s pool next frame = record { state = s; rows = record { pool = pool; heads = headsWith next; frames = replicate 1024 frame; setups = replicate 16 0 } }
+world s pool next frame = record { state = s; rows = record { pool = pool ++ terminated ∷ []; heads = headsWith next; frames = replicate 1024 frame; setups = replicate 16 0 } }
 
 abbrev opened : World
 opened = world (state (0 ∷ 0 ∷ []) (idle 1)) (blank ∷ blank ∷ []) 1 1

@@ -132,11 +132,11 @@ abbrev left : Machine inPlain → Rows
 left m = rowsOf (m (freshWorld trio) (Submit 0 asks reads))
 
 -- setup 00080E80, data 80120D80, status 80008C80, as 01's examples have them
-plain-planned : map fieldsOf (recordsMet trio (left plain) 0) ≡ planned 2 0x400000 8 0 0 ∷ planned 1 0x10000FFF 18 1 0 ∷ planned 0 0 0 1 1 ∷ []
+plain-planned : map fieldsOf (recordsMet trio (left plain) 0) ≡ planned 1 2 0x400000 8 0 0 ∷ planned 1 1 0x10000FFF 18 1 0 ∷ planned 1 0 0 0 1 1 ∷ []
 unfolding chainWalk walkFrom takenOf placesFrom markOf packed listOf fillOf filledFrom recordAt bareAt stageAt controlPlan newQtd withNext startedOverlay freshState openedHeads ringHead terminated needOf tokenOf pageSlots
 plain-planned = refl
 
-as-planned : planFor trio 0 asks ≡ planned 2 0x400000 8 0 0 ∷ planned 1 0x10000FFF 18 1 0 ∷ planned 0 0 0 1 1 ∷ []
+as-planned : planFor trio 0 asks ≡ planned 1 2 0x400000 8 0 0 ∷ planned 1 1 0x10000FFF 18 1 0 ∷ planned 1 0 0 0 1 1 ∷ []
 as-planned = refl
 
 plain-packet : (wLength (packetAt (left plain) 0) ≡ 18) × (wValue (packetAt (left plain) 0) ≡ 0x100)
@@ -152,7 +152,7 @@ lengthless-planned p =
     omega (arith, none)
 
 abbrev second : List Fields → Fields
-second fs = getD fs 1 (planned 0 0 0 0 0)
+second fs = getD fs 1 (planned 1 0 0 0 0 0)
 
 untoggled-planned : EveryRun SubmitsPlanned untoggled → ⊥
 unfolding historyOf worldOf chainWalk walkFrom takenOf placesFrom markOf packed listOf fillOf filledFrom recordAt bareAt stageAt controlPlan newQtd withNext startedOverlay freshState openedHeads ringHead terminated needOf tokenOf pageSlots

@@ -19,7 +19,8 @@ use Rattle.pool.specs.Transfers.{addressOf, nextOf}
 use Rattle.pool.specs.Plain.{Transfer as TransferDeed}
 use Rattle.pool.proofs.ChainLaws.{filled-others, follow-chain}
 use Rattle.pool.proofs.Each.{each-at, each-map}
-use Rattle.pool.proofs.GoodLaws.{places-good, request-good}
+use Rattle.settings.specs.Settings.{poolLength}
+use Rattle.pool.proofs.GoodLaws.{packed-good, request-good}
 use Rattle.pool.proofs.PlaceLaws.{list-packed, mark-either, mark-length, mark-others, places-ascend, places-hold, places-within}
 use Rattle.slot.proofs.SlotLaws.{slot-tells}
 use Rattle.common.proofs.TestLaws.{both-tells}
@@ -43,7 +44,7 @@ use Rattle.request.specs.Submit.{attachedBy, bufferGood, chainFor, first
 use Rattle.slot.specs.Ids.{afterId}
 use Rattle.request.specs.declared.judge.TransferRequest.{TransferRequest}
 use Rattle.request.proofs.JudgeCases.{judge-done, judge-room}
-use Rattle.request.proofs.JudgeLaws.{Judged}
+use Rattle.request.proofs.JudgeLaws.{free-le, Judged}
 use Rattle.request.proofs.SettleCases.{packed-first}
 
 -- ---- room: where every earlier check is passed, 6 exactly when too few descriptors are free
@@ -95,26 +96,31 @@ module _ (s : Ehci) (k : ℕ) (t : TransferRequest) (r : Ranges s) (j : Judged s
   pub places-needed : length (placesFor s t) ≡ needOfRequest s t
   places-needed = free-places s (needOfRequest s t) ∙ omega (arith, j .room)
 
+  -- places of the row, which has one record more than the places that are lent
+  row-within : Within (poolLength (s .settings)) (placesFor s t)
+  unfolding owners
+  row-within =
+      each-map (λ (i : ℕ). i < length owners) (λ (i : ℕ). i < poolLength (s .settings)) (λ i h. omega (arith, h, owners-length)) (placesFor s t)
+      (places-within owners 0 (needOfRequest s t))
+
   -- the pool may be told to write it
-  pub submit-good : chainGood (s .settings .descriptors) (chainFor s k t (takenFor s k t))
-  unfolding takenFor takenOf owners
+  pub submit-good : chainGood (poolLength (s .settings)) (chainFor s k t (takenFor s k t))
+  unfolding takenFor takenOf
   submit-good =
-      subst (λ (n : ℕ). chainGood n (chainFor s k t (takenFor s k t))) owners-length
-      (places-good (take (s .settings .descriptors) (s .owner)) 0 (needOfRequest s t) (s .settings .pool) (TransferDeed (transferOf s k t))
-      (omega (arith, owners-length, r .good .descriptors-most))
-      (request-good (transferOf s k t) (s .settings .pool) (length (take (s .settings .descriptors) (s .owner))) (length (placesFor s t))
-      (omega (arith, owners-length, r .good .pool-ends)) (buffer-ends t (j .in-range))
-      (omega (arith, open-within s k r (j .opened), r .good .setups-end)) (r .good .limit-least) (r .good .limit-most) places-needed))
+      packed-good (poolLength (s .settings)) (s .settings .pool) (TransferDeed (transferOf s k t)) (placesFor s t)
+      (omega (arith, places-needed, j .room, free-le s, r .good .descriptors-most)) row-within
+      (request-good (transferOf s k t) (s .settings .pool) (poolLength (s .settings)) (length (placesFor s t)) (r .good .pool-ends) (buffer-ends t (j .in-range))
+      (omega (arith, open-within s k r (j .opened), r .good .setups-end)) (r .good .limit-least) (r .good .limit-most) places-needed)
 
   -- from the overlay's next pointer on EHCI's walk meets exactly its places' addresses, ascending, and ends
-  pub submit-met : (rows : List QueueTransferDescriptor) (m : ℕ) → length rows ≡ s .settings .descriptors → 1 ≤ needOfRequest s t → needOfRequest s t ≤ m
+  pub submit-met : (rows : List QueueTransferDescriptor) (m : ℕ) → length rows ≡ poolLength (s .settings) → 1 ≤ needOfRequest s t → needOfRequest s t ≤ m
       → follow (nextAt (s .settings .pool) (fillOf (chainFor s k t (takenFor s k t)) rows)) m (firstIn s (takenFor s k t))
       ≡ map (addressOf (s .settings .pool)) (placesFor s t)
   unfolding takenFor takenOf fillOf owners
   submit-met rows m e one most =
       rw (first-next (s .settings .pool) (placesFor s t) (r .good .pool-aligned) (omega (arith, places-needed)), list-packed (placesFor s t))
       (follow-chain (transferOf s k t) (s .settings .pool) m (placesFor s t) rows (r .good .pool-aligned) (omega (arith, e, r .good .pool-ends))
-      (places-ascend 0 owners 0 (needOfRequest s t)) (subst (λ (n : ℕ). Within n (placesFor s t)) (owners-length ∙ sym e) (places-within owners 0 (needOfRequest s t)))
+      (places-ascend 0 owners 0 (needOfRequest s t)) (subst (λ (n : ℕ). Within n (placesFor s t)) (sym e) row-within)
       (omega (arith, places-needed)))
 
 -- ---- what stays

@@ -9,6 +9,7 @@ use Rattle.common.specs.declared.answer.Answer.the-variants.{Done}
 use Rattle.controller.specs.declared.lent.Readings.{Readings}
 use Rattle.descriptor.specs.Heads.{qhLink}
 use Rattle.pipe.specs.Endpoints.{encoded}
+use Rattle.pool.specs.Transfers.{alternateWord}
 use Rattle.pool.specs.Words.{LayingGood}
 use Rattle.pool.specs.Plain.{Chain}
 use Rattle.pool.specs.declared.laying.Laying.{Laying}
@@ -18,6 +19,7 @@ use Rattle.register.specs.declared.writes.Writes.{Writes}
 use Rattle.schedule.specs.Bell.{commandWord}
 use Rattle.schedule.specs.Links.{links, slotLink}
 use Rattle.settings.specs.declared.settings.Settings.{Settings}
+use Rattle.settings.specs.Settings.{poolLength, sharedAddress}
 use Rattle.state.specs.Plain.{Ehci}
 use Rattle.words.specs.declared.core.Core.{Core}
 use Rattle.words.specs.declared.core.Rest.{Rest}
@@ -34,6 +36,18 @@ use Rattle.request.specs.declared.judge.TransferRequest.{TransferRequest
 use Rattle.request.specs.Plain.{Taken}
 use Rattle.request.proofs.SettleCases.{settled-is}
 use Rattle.request.proofs.WordsSettle.{chain-viewed, first-below, first-viewed, id-viewed, kept-settings, laying-settled, slot-within, state-viewed, taken-some, tidy-settled}
+
+-- the laying that is made
+pub laid-for : (s : Settings) (k : ℕ) (t : TransferRequest) (places : List ℕ) (alternate : ℕ) → alternate ≡ alternateWord (t .kind) (t .direction) (sharedAddress s)
+    → _≡_ {A = Laying}
+    (record {
+      places = places;
+      base = s .pool;
+      transfer = record { kind = t .kind; direction = t .direction; address = t .address; length = t .length; limit = s .limit; setup = s .setups + 8 * k; alternate = alternate };
+    })
+    (layingFor s k t places)
+unfolding layingFor
+laid-for s k t places alternate e = rw e
 
 -- ---- `settle`
 
@@ -61,8 +75,11 @@ module _ (s : Settings) (r : Rest) (ws : List ℕ) (k : ℕ) (t : TransferReques
   head-below : headOf s k < 2 ^ 32
   head-below = omega (arith, slot-within s r ws k t good done, kept-settings s r ws k t good done .heads-end)
 
-  pub setups-below : s .setups ≤ 2 ^ 32
+  setups-below : s .setups ≤ 2 ^ 32
   setups-below = omega (arith, kept-settings s r ws k t good done .setups-end)
+
+  pub areas-below : (s .setups ≤ 2 ^ 32) × (sharedAddress s < 2 ^ 32)
+  areas-below = (setups-below, omega (arith, kept-settings s r ws k t good done .pool-ends))
 
 module _ (c : Core) (ws : List ℕ) (k : ℕ) (t : TransferRequest) (n : ℕ) (places : List ℕ) (good : Good (c .settings) (c .rest) ws)
     (done : judgeOf (view c ws) k t ≡ Done) (en : n ≡ needOfRequest (view c ws) t) (fit : Words (c .rest .free)) (ep : places ≡ lowestOf (c .rest .free) n) where
@@ -84,7 +101,7 @@ module _ (c : Core) (ws : List ℕ) (k : ℕ) (t : TransferRequest) (n : ℕ) (p
       ((head-room s r ws k t good done h eh, omega (arith, ef)), (places-some, place-below, head-below s r ws k t good done))
 
   module _ (d : Readings) (id : ℕ) (x : SubmittedWords) (ex : x ≡ acceptedWords c d k t id places) where
-    settled-laying : LayingGood (s .descriptors) (x .laying)
+    settled-laying : LayingGood (poolLength s) (x .laying)
     unfolding acceptedWords
     settled-laying = rw (ex, ep) (laying-settled s r ws k t good done fit n en)
 
@@ -118,5 +135,5 @@ module _ (c : Core) (ws : List ℕ) (k : ℕ) (t : TransferRequest) (n : ℕ) (p
           settled-is (view c ws) h f u h′ f′ u′ d k t (takenFor (view c ws) k t) (submittedView s x ws′) refl (rows-here h f h′ f′ er) eu accepted-here
 
       pub settled : (h f u h′ f′ u′ : List ℕ) → links h′ f′ ≡ linkedRows h f (t .kind) k (qhLink (headOf s k)) (firstOf s places) → u′ ≡ setupsWith u k t
-          → (submitted (submittedView s x ws′) h′ f′ u′ ≡ settledSubmit (view c ws) h f u d k t) × (Tidy s (x .rest) ws′ × LayingGood (s .descriptors) (x .laying))
+          → (submitted (submittedView s x ws′) h′ f′ u′ ≡ settledSubmit (view c ws) h f u d k t) × (Tidy s (x .rest) ws′ × LayingGood (poolLength s) (x .laying))
       settled h f u h′ f′ u′ er eu = (settled-words h f u h′ f′ u′ er eu, (settled-tidy, settled-laying))

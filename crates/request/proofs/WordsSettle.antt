@@ -25,6 +25,7 @@ use Rattle.pool.specs.Plain.{Places}
 use Rattle.pool.proofs.GoodLaws.{request-good}
 use Rattle.pool.proofs.PlaceLaws.{places-within}
 use Rattle.settings.specs.declared.settings.Settings.{Settings}
+use Rattle.settings.specs.Settings.{poolLength}
 use Rattle.settings.proofs.SettingsLaws as settings
 use Rattle.slot.specs.declared.slot.Slot.{Slot}
 use Rattle.state.specs.Slots.{withSlot}
@@ -65,6 +66,10 @@ need-one Interrupt len limit h = count-pos len limit h
 within-set : (n : ℕ) (ps : List ℕ) → WithinRow n ps → Within n ps
 within-set n [] w = tt
 within-set n (p ∷ ps) w = (w .0, within-set n ps (w .1))
+
+wider : (n m : ℕ) → n ≤ m → (ps : List ℕ) → Within n ps → Within m ps
+wider n m h [] w = tt
+wider n m h (p ∷ ps) w = let here : p < n = w .0 in (omega (arith, h, here), wider n m h ps (w .1))
 
 where-known : (ps : List ℕ) (P : Type 0) → P → wherePlaces ps P
 where-known [] P p = tt
@@ -142,6 +147,10 @@ module _ (s : Settings) (r : Rest) (ws : List ℕ) (k : ℕ) (t : TransferReques
         (subst (λ (m : ℕ). WithinRow m (placesFrom 0 (take (s .descriptors) (ownersOf ws)) 0 n)) long
         (places-within (take (s .descriptors) (ownersOf ws)) 0 n)))
 
+    -- and of the row, which has one record more
+    row-within : Within (poolLength s) (setPlaces (lowestOf (r .free) n))
+    row-within = wider (s .descriptors) (poolLength s) (omega arith) (setPlaces (lowestOf (r .free) n)) taken-within
+
     pub first-below : firstOf s (lowestOf (r .free) n) < 2 ^ 32
     first-below =
         omega (
@@ -194,14 +203,14 @@ module _ (s : Settings) (r : Rest) (ws : List ℕ) (k : ℕ) (t : TransferReques
         chain-some (setPlaces (lowestOf (r .free) n)) taken-some (s .pool) (Deeds.Transfer (transferOf (stateOf s r ws) k t))
         ∙ ap (λ (p : Places). record { places = p; base = s .pool; deed = Deeds.Transfer (transferOf (stateOf s r ws) k t) }) (sym taken-viewed)
 
-    pub laying-settled : LayingGood (s .descriptors) (layingFor s k t (lowestOf (r .free) n))
+    pub laying-settled : LayingGood (poolLength s) (layingFor s k t (lowestOf (r .free) n))
     unfolding layingFor
     laying-settled =
         record {
-          within = taken-within;
+          within = row-within;
           transfer =
               where-known (setPlaces (lowestOf (r .free) n)) _
-              (request-good (layingFor s k t (lowestOf (r .free) n) .transfer) (s .pool) (s .descriptors) (length (setPlaces (lowestOf (r .free) n)))
+              (request-good (layingFor s k t (lowestOf (r .free) n) .transfer) (s .pool) (poolLength s) (length (setPlaces (lowestOf (r .free) n)))
               (kept-settings .pool-ends) (buffer-ends t (judged .in-range)) (omega (arith, slot-within, kept-settings .setups-end))
               (kept-settings .limit-least) (kept-settings .limit-most) (taken-count ∙ needed));
         }

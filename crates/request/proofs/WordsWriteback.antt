@@ -18,6 +18,7 @@ use Rattle.pool.specs.Words.{MarkingGood, noMarking}
 use Rattle.pool.specs.declared.marking.Marking.{Marking}
 use Rattle.pool.proofs.WordLaws.{no-marking-good}
 use Rattle.settings.specs.declared.settings.Settings.{Settings}
+use Rattle.settings.specs.Settings.{poolLength}
 use Rattle.words.specs.declared.core.Rest.{Rest}
 use Rattle.words.specs.Good.{Good}
 use Rattle.words.specs.Record.{phaseIn, wordAt}
@@ -89,8 +90,8 @@ module _ (s : Settings) (r : Rest) (p token : ℕ) (i : Bool) (ei : i ≡ takenP
       (markingChain (s .pool) (record { marks = true; place = p; token = token })) refl
 
   -- what is then written is a place of the pool
-  pub mark-good : not i ≡ false → MarkingGood (s .descriptors) (record { marks = true; place = p; token = token })
-  mark-good h = record { within = λ _. taken-below s r p i ei (not-false i h) }
+  pub mark-good : not i ≡ false → MarkingGood (poolLength s) (record { marks = true; place = p; token = token })
+  mark-good h = record { within = λ _. let below : p < s .descriptors = taken-below s r p i ei (not-false i h) in omega (arith, below) }
 
 pub no-mark-good : (n : ℕ) (m : Marking) → m ≡ noMarking → MarkingGood n m
 no-mark-good n m e = rw e (no-marking-good n)

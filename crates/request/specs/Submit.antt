@@ -12,11 +12,11 @@ use Rattle.common.specs.declared.kinds.EndpointType.{EndpointType}
 use Rattle.descriptor.specs.Setups.{setupPacket}
 use Rattle.pool.specs.Chains.{noChain}
 use Rattle.pool.specs.Places.{listIf, markOf, packed, placesFrom}
-use Rattle.pool.specs.Transfers.{addressOf}
+use Rattle.pool.specs.Transfers.{addressOf, alternateWord}
 use Rattle.pool.specs.Plain.{Chain}
 use Rattle.pool.specs.Plain.{Transfer as TransferDeed}
 use Rattle.pool.specs.declared.transfer.Transfer.{Transfer}
-use Rattle.settings.specs.Settings.{memoryEnd}
+use Rattle.settings.specs.Settings.{memoryEnd, sharedAddress}
 use Rattle.common.specs.Tests.{every}
 use Rattle.slot.specs.Ids.{afterId}
 use Rattle.state.specs.Slots.{slotAt}
@@ -121,6 +121,7 @@ transferOf s slot t =
       length = t .length;
       limit = s .settings .limit;
       setup = s .settings .setups + 8 * slot;
+      alternate = alternateWord (t .kind) (t .direction) (sharedAddress (s .settings));
     }
 
 abbrev pub chainFor : Ehci → ℕ → TransferRequest → Taken → Chain

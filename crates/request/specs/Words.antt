@@ -11,7 +11,7 @@ use Rattle.pipe.specs.declared.endpoints.Endpoint.{Endpoint}
 use Rattle.pipe.specs.declared.endpoints.Endpoint.the-variants.{Linked}
 use Rattle.pool.specs.Chains.{noChain}
 use Rattle.pool.specs.Places.{packed}
-use Rattle.pool.specs.Transfers.{addressOf}
+use Rattle.pool.specs.Transfers.{addressOf, alternateWord}
 use Rattle.pool.specs.Words.{noLaying}
 use Rattle.pool.specs.Plain.{Chain}
 use Rattle.pool.specs.Plain.{Deed}
@@ -20,6 +20,7 @@ use Rattle.pool.specs.declared.laying.Laying.{Laying}
 use Rattle.pool.specs.declared.marking.Marking.{Marking}
 use Rattle.register.specs.Writes.{noWrites}
 use Rattle.settings.specs.declared.settings.Settings.{Settings}
+use Rattle.settings.specs.Settings.{sharedAddress}
 use Rattle.slot.specs.Ids.{afterId}
 use Rattle.words.specs.View.{stateOf}
 use Rattle.words.specs.Rest.{restWithFree}
@@ -88,6 +89,7 @@ layingFor s slot t places =
             length = t .length;
             limit = s .limit;
             setup = s .setups + 8 * slot;
+            alternate = alternateWord (t .kind) (t .direction) (sharedAddress s);
           };
     }
 

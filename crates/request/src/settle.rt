@@ -8,6 +8,7 @@ ghost use Rattle.descriptor.specs.Heads.{qhLink};
 ghost use Rattle.pipe.specs.Endpoints.{encoded};
 ghost use Rattle.pool.specs.Words.{LayingGood};
 ghost use Rattle.schedule.specs.Links.{links};
+ghost use Rattle.settings.specs.Settings.{poolLength, sharedAddress};
 ghost use Rattle.words.specs.Good.{Good, Tidy};
 ghost use Rattle.words.specs.Record.{SlotFits, idIn, lastAt, putPlaces, putSlot};
 ghost use Rattle.words.specs.View.{view};
@@ -33,6 +34,7 @@ use pipe::endpoints::Request;
 use pipe::slots::put_endpoint;
 use pool::laying::Laying;
 use pool::transfer::Transfer;
+use pool::transfer::alternate_word;
 use register::bits::with_bits;
 use register::operational::USBCMD;
 use register::writes::Writes;
@@ -124,11 +126,14 @@ fn put_request(slots: &mut [u64], slot: u8, t: TransferRequest, id: u64, places:
 }
 
 fn laying_for(core: Core, slot: u8, t: TransferRequest, places: [u64; 4]) -> Laying
-    requires { ⌜ core .settings .setups ≤ 2 ^ 32 ⌝ }
+    requires { ⌜ (core .settings .setups ≤ 2 ^ 32) × (sharedAddress (core .settings) < 2 ^ 32) ⌝ }
     ensures { λ r. ⌜ r ≡ layingFor (core .settings) slot t places ⌝ }
 {
     let kind = t.kind;
     let direction = t.direction;
+    let setup = core.settings.setups + 8 * (slot as u64);
+    let shared = (core.settings.pool + 64 * core.settings.descriptors) as u32;
+    let alternate = alternate_word(kind, direction, shared);
     Laying {
         places,
         base: core.settings.pool,
@@ -138,7 +143,8 @@ fn laying_for(core: Core, slot: u8, t: TransferRequest, places: [u64; 4]) -> Lay
             address: t.address,
             length: t.length,
             limit: core.settings.limit,
-            setup: core.settings.setups + 8 * (slot as u64),
+            setup,
+            alternate,
         },
     }
 }
@@ -160,7 +166,7 @@ fn accepted(
     id: u64,
     places: [u64; 4],
 ) -> Submitted
-    requires { ⌜ core .settings .setups ≤ 2 ^ 32 ⌝ }
+    requires { ⌜ (core .settings .setups ≤ 2 ^ 32) × (sharedAddress (core .settings) < 2 ^ 32) ⌝ }
     ensures { λ r. ⌜ r ≡ acceptedWords core readings slot t id places ⌝ }
 {
     let mut rest = core.rest;
@@ -195,7 +201,7 @@ pub fn settle(
     ensures { λ r. ⌜ submitted (submittedView (core .settings) r (now (slots .exit))) (now (heads .exit)) (now (frames .exit)) (now (setups .exit))
         ≡ settledSubmit (view core (now (slots .entry))) (now (heads .entry)) (now (frames .entry)) (now (setups .entry)) readings slot t ⌝ }
     ensures { λ r. ⌜ Tidy (core .settings) (r .rest) (now (slots .exit)) ⌝ }
-    ensures { λ r. ⌜ LayingGood (core .settings .descriptors) (r .laying) ⌝ }
+    ensures { λ r. ⌜ LayingGood (poolLength (core .settings)) (r .laying) ⌝ }
 {
     let free = core.rest.free;
     let places = lowest_places(free, wanted);

@@ -5,6 +5,7 @@ ghost use Prim.Native.Nat.{ℕ, _+_, _*_};
 ghost use lib.ListN.{length};
 ghost use Rattle.opening.specs.Opening.{rowsFit};
 ghost use Rattle.pool.specs.Words.{LayingGood};
+ghost use Rattle.settings.specs.Settings.{poolLength};
 ghost use Rattle.words.specs.Good.{Good, Tidy};
 ghost use Rattle.words.specs.View.{view};
 ghost use Rattle.request.specs.Submit.{submitOf, submitted};
@@ -50,7 +51,7 @@ pub fn submit(
         → submitted (submittedView (core .settings) r (now (slots .exit))) (now (heads .exit)) (now (frames .exit)) (now (setups .exit))
         ≡ submitOf (view core (now (slots .entry))) pool (now (heads .entry)) (now (frames .entry)) (now (setups .entry)) readings slot request) ⌝ }
     ensures { λ r. ⌜ Tidy (core .settings) (r .rest) (now (slots .exit)) ⌝ }
-    ensures { λ r. ⌜ LayingGood (core .settings .descriptors) (r .laying) ⌝ }
+    ensures { λ r. ⌜ LayingGood (poolLength (core .settings)) (r .laying) ⌝ }
 {
     let kind = request.kind;
     let wanted = need(kind, request.length, core.settings.limit);

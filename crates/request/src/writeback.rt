@@ -6,6 +6,7 @@ ghost use Prim.Native.Nat.{ℕ};
 ghost use Rattle.controller.specs.Lent.{acceptsOf};
 ghost use Rattle.controller.specs.Plain.{Lengths};
 ghost use Rattle.pool.specs.Words.{MarkingGood};
+ghost use Rattle.settings.specs.Settings.{poolLength};
 ghost use Rattle.words.specs.Good.{Good};
 ghost use Rattle.words.specs.View.{view};
 ghost use Rattle.request.specs.Words.{takenPlace, writtenView};
@@ -34,7 +35,7 @@ pub fn writeback(core: Core, place: u64, token: u32) -> WrittenBack
     ensures { λ r. ⌜ ((ws : List ℕ) → Good (core .settings) (core .rest) ws → (lent : Lengths) → acceptsOf (view core ws) lent ≡ true
         → writtenView (core .settings) r ws ≡ writebackOf (view core ws) lent place token) ⌝ }
     ensures { λ r. ⌜ r .rest ≡ core .rest ⌝ }
-    ensures { λ r. ⌜ MarkingGood (core .settings .descriptors) (r .marking) ⌝ }
+    ensures { λ r. ⌜ MarkingGood (poolLength (core .settings)) (r .marking) ⌝ }
 {
     let rest = core.rest;
     if !in_request(core, place) {

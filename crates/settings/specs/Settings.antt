@@ -6,12 +6,12 @@ use lib.Dec.{eqb, leb}
 use Rattle.settings.specs.declared.settings.Settings.{Settings}
 use Rattle.common.specs.Tests.{every, within}
 
--- where memory ends, and the rows' lengths: descriptors, 17 words a head with the ring head, frame entries, 8 bytes a slot
+-- where memory ends, and the rows' lengths: D descriptors and the shared one, 17 words a head with the ring head, frame entries, 8 bytes a slot
 abbrev pub memoryEnd : ℕ
 memoryEnd = 2 ^ 32
 
 abbrev pub poolLength : Settings → ℕ
-poolLength s = s .descriptors
+poolLength s = s .descriptors + 1
 
 abbrev pub headsLength : Settings → ℕ
 headsLength s = 17 * (s .endpoints + 1)
@@ -34,6 +34,10 @@ framesSize = 4096
 
 abbrev pub setupsSize : Settings → ℕ
 setupsSize s = 8 * s .endpoints
+
+-- where the shared descriptor is: at place D, 64 bytes a place
+abbrev pub sharedAddress : Settings → ℕ
+sharedAddress s = s .pool + 64 * s .descriptors
 
 -- a multiple of its alignment, ending at or below the end of memory
 unfoldable pub areaGood : ℕ → ℕ → ℕ → Bool

@@ -69,7 +69,7 @@ fn each_good(s: Settings) -> bool
     ensures { λ r. ⌜ r ≡ eachGood s ⌝ }
 {
     let endpoints = s.endpoints as u64;
-    let pool = area_good(s.pool, 64, 64 * s.descriptors);
+    let pool = area_good(s.pool, 64, 64 * (s.descriptors + 1));
     let heads = area_good(s.heads, 128, 128 * (endpoints + 1));
     let frames = area_good(s.frames, 4096, FRAMES_SIZE);
     let setups = area_good(s.setups, 8, 8 * endpoints);
@@ -81,7 +81,7 @@ fn no_overlap(s: Settings) -> bool
     ensures { λ r. ⌜ r ≡ noOverlap s ⌝ }
 {
     let endpoints = s.endpoints as u64;
-    let pool = 64 * s.descriptors;
+    let pool = 64 * (s.descriptors + 1);
     let heads = 128 * (endpoints + 1);
     let setups = 8 * endpoints;
     let pool_heads = apart(s.pool, pool, s.heads, heads);

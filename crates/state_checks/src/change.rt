@@ -115,10 +115,10 @@ fn record_with(mut r: QueueTransferDescriptor, word: u8, value: u32) -> QueueTra
 }
 
 fn pool_with(
-    mut pool: [QueueTransferDescriptor; 257],
+    mut pool: [QueueTransferDescriptor; 258],
     f: Fields,
-) -> [QueueTransferDescriptor; 257] {
-    let at = (f.n1 % 257) as usize;
+) -> [QueueTransferDescriptor; 258] {
+    let at = (f.n1 % 258) as usize;
     let record = pool[at];
     pool[at] = record_with(record, f.b2, low_word(f.n2));
     pool

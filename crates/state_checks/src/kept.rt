@@ -88,7 +88,7 @@ fn sevens() -> Rows {
         upper: [7; 5],
     };
     Rows {
-        pool: [seven; 257],
+        pool: [seven; 258],
         slots: [7; 193],
         heads: [7; 562],
         frames: [7; 1025],

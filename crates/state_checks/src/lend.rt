@@ -10,7 +10,7 @@ use settings::settings::Settings;
 use words::core::Core;
 
 pub struct Rows {
-    pub pool: [QueueTransferDescriptor; 257],
+    pub pool: [QueueTransferDescriptor; 258],
     pub slots: [u64; 193],
     pub heads: [u32; 562],
     pub frames: [u32; 1025],
@@ -38,7 +38,7 @@ pub struct CalledRows {
 
 fn gathered_opening(
     opening: Opening,
-    pool: [QueueTransferDescriptor; 257],
+    pool: [QueueTransferDescriptor; 258],
     slots: [u64; 193],
     heads: [u32; 562],
     frames: [u32; 1025],
@@ -58,7 +58,7 @@ fn gathered_opening(
 
 fn lend_open(
     settings: Settings,
-    pool: [QueueTransferDescriptor; 257],
+    pool: [QueueTransferDescriptor; 258],
     slots: [u64; 193],
     heads: [u32; 562],
     frames: [u32; 1025],
@@ -69,7 +69,7 @@ fn lend_open(
     f: usize,
     u: usize,
 ) -> OpenedRows
-    requires { ⌜ (d ≤ 257) × (k ≤ 193) × (h ≤ 562) × (f ≤ 1025) × (u ≤ 257) ⌝ }
+    requires { ⌜ (d ≤ 258) × (k ≤ 193) × (h ≤ 562) × (f ≤ 1025) × (u ≤ 257) ⌝ }
 {
     let mut records = pool;
     let mut kept = slots;
@@ -89,7 +89,7 @@ fn lend_open(
 
 fn gathered_reply(
     reply: Reply,
-    pool: [QueueTransferDescriptor; 257],
+    pool: [QueueTransferDescriptor; 258],
     slots: [u64; 193],
     heads: [u32; 562],
     frames: [u32; 1025],
@@ -109,7 +109,7 @@ fn gathered_reply(
 
 fn lend_call(
     core: Core,
-    pool: [QueueTransferDescriptor; 257],
+    pool: [QueueTransferDescriptor; 258],
     slots: [u64; 193],
     heads: [u32; 562],
     frames: [u32; 1025],
@@ -121,7 +121,7 @@ fn lend_call(
     u: usize,
     call: Call,
 ) -> CalledRows
-    requires { ⌜ (d ≤ 257) × (k ≤ 193) × (h ≤ 562) × (f ≤ 1025) × (u ≤ 257) ⌝ }
+    requires { ⌜ (d ≤ 258) × (k ≤ 193) × (h ≤ 562) × (f ≤ 1025) × (u ≤ 257) ⌝ }
 {
     let mut records = pool;
     let mut kept = slots;
@@ -147,7 +147,7 @@ pub fn opened(settings: Settings, rows: Rows, lent: Lent) -> OpenedRows {
     let heads = rows.heads;
     let frames = rows.frames;
     let setups = rows.setups;
-    let d = (lent.pool % 258) as usize;
+    let d = (lent.pool % 259) as usize;
     let k = (lent.slots % 194) as usize;
     let h = (lent.heads % 563) as usize;
     let f = (lent.frames % 1026) as usize;
@@ -161,7 +161,7 @@ pub fn called(core: Core, rows: Rows, lent: Lent, call: Call) -> CalledRows {
     let heads = rows.heads;
     let frames = rows.frames;
     let setups = rows.setups;
-    let d = (lent.pool % 258) as usize;
+    let d = (lent.pool % 259) as usize;
     let k = (lent.slots % 194) as usize;
     let h = (lent.heads % 563) as usize;
     let f = (lent.frames % 1026) as usize;

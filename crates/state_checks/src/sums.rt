@@ -51,9 +51,9 @@ fn record_sum(sum: u32, r: QueueTransferDescriptor) -> u32 {
     words(words(first, &pages), &upper)
 }
 
-pub fn pool_sum(pool: [QueueTransferDescriptor; 257]) -> u32 {
+pub fn pool_sum(pool: [QueueTransferDescriptor; 258]) -> u32 {
     let mut all = 0;
-    for k in 0..257 {
+    for k in 0..258 {
         all = record_sum(all, pool[k]);
     }
     all

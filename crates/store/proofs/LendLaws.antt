@@ -29,7 +29,7 @@ lent-words ss ws k long most same =
     ∙ take-append-seam ws (drop k ss)
 
 module _ (core : Core) (rs : List Record) (ss hs fs us : List ℕ) (d k h u : ℕ) (c : Call) (o : Reply) (wr : List Record) (ws wh wf wu : List ℕ) (r : Called)
-    (long : length ss ≡ 192) (bound : (d ≤ 256) × (k ≤ 192) × (h ≤ 561) × (u ≤ 256)) (same : length ws ≡ length (take k ss))
+    (long : length ss ≡ 192) (bound : (d ≤ 257) × (k ≤ 192) × (h ≤ 561) × (u ≤ 256)) (same : length ws ≡ length (take k ss))
     (e : applied (replyView (core .settings) o ws) wr wh wf wu ≡ applyWords core (take k ss) (take d rs) (take h hs) fs (take u us) c)
     (after : WordsAfter (acceptsWords core (take k ss) (length (take d rs)) (length (take h hs)) (length fs) (length (take u us))) core (take k ss) (o .rest) ws)
     (er : r ≡ gatheredOf core o (wr ++ drop d rs) (ws ++ drop k ss) (wh ++ drop h hs) wf (wu ++ drop u us)) where
@@ -54,7 +54,7 @@ module _ (core : Core) (rs : List Record) (ss hs fs us : List ℕ) (d k h u : �
       })
 
 module _ (s : Settings) (rs : List Record) (ss hs fs us : List ℕ) (d k h u : ℕ) (o : Opening) (wr : List Record) (ws wh wf wu : List ℕ) (r : OpenedRows)
-    (long : length ss ≡ 192) (bound : (d ≤ 256) × (k ≤ 192) × (h ≤ 561) × (u ≤ 256)) (same : length ws ≡ length (take k ss))
+    (long : length ss ≡ 192) (bound : (d ≤ 257) × (k ≤ 192) × (h ≤ 561) × (u ≤ 256)) (same : length ws ≡ length (take k ss))
     (e : openedRows o wr wh wf wu ≡ openWords s (take d rs) (take k ss) (take h hs) fs (take u us)) (opens : OpensWords s o (take k ss) ws)
     (er : r ≡ ownedRows o (wr ++ drop d rs) (ws ++ drop k ss) (wh ++ drop h hs) wf (wu ++ drop u us)) where
   pub opened-rows : rowsLeft r ≡ openLent s rs ss hs fs us d k h u

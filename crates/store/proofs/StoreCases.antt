@@ -56,7 +56,7 @@ blankWith c =
     record {
       core = c;
       slots = replicate 192 0;
-      pool = replicate 256 blank;
+      pool = replicate 257 blank;
       heads = replicate 561 0;
       frames = replicate 1024 0;
       setups = replicate 256 0;
@@ -64,7 +64,7 @@ blankWith c =
 
 abbrev blankAt : Ehci → plain.Store
 blankAt e =
-    record { state = e; pool = replicate 256 blank; heads = replicate 561 0; frames = replicate 1024 0; setups = replicate 256 0 }
+    record { state = e; pool = replicate 257 blank; heads = replicate 561 0; frames = replicate 1024 0; setups = replicate 256 0 }
 
 blank-view : storeView (blankWith blankCore) ≡ blankStore
 unfolding blankStore blankCore freshState

@@ -18,7 +18,7 @@ use Rattle.store.specs.Plain.{Called, OpenedRows, OpenedStore, Store}
 
 -- how much of each row is lent: what the settings say, and never more than there is. The frame list is lent whole
 abbrev pub recordsLent : Settings → ℕ
-recordsLent s = min (poolLength s) 256
+recordsLent s = min (poolLength s) 257
 
 abbrev pub wordsLent : Settings → ℕ
 wordsLent s = min (headsLength s) 561
@@ -35,7 +35,7 @@ unfoldable pub blankStore : Store
 blankStore =
     record {
       state = blankState;
-      pool = replicate 256 blank;
+      pool = replicate 257 blank;
       heads = replicate 561 0;
       frames = replicate 1024 0;
       setups = replicate 256 0;

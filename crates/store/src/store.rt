@@ -52,7 +52,7 @@ use words::row::RECORD;
 pub struct Store {
     pub core: Core,
     pub slots: [u64; 192],
-    pub pool: [QueueTransferDescriptor; 256],
+    pub pool: [QueueTransferDescriptor; 257],
     pub heads: [u32; 561],
     pub frames: [u32; 1024],
     pub setups: [u8; 256],
@@ -73,21 +73,21 @@ pub struct OpenedStore {
 // What opening decides, and the rows then.
 struct OpenedRows {
     opening: Opening,
-    pool: [QueueTransferDescriptor; 256],
+    pool: [QueueTransferDescriptor; 257],
     slots: [u64; 192],
     heads: [u32; 561],
     frames: [u32; 1024],
     setups: [u8; 256],
 }
 
-// How many records are lent.
+// How many records are lent: the shared one is after the others.
 fn records_lent(s: Settings) -> usize
     ensures { λ r. ⌜ r ≡ recordsLent s ⌝ }
 {
     if s.descriptors < 256 {
-        s.descriptors as usize
+        s.descriptors as usize + 1
     } else {
-        256
+        257
     }
 }
 
@@ -153,7 +153,7 @@ pub fn blank_store() -> Store
     Store {
         core: blank_core(),
         slots: [0; 192],
-        pool: [blank; 256],
+        pool: [blank; 257],
         heads: [0; 561],
         frames: [0; 1024],
         setups: [0; 256],
@@ -162,7 +162,7 @@ pub fn blank_store() -> Store
 
 fn owned_rows(
     opening: Opening,
-    pool: [QueueTransferDescriptor; 256],
+    pool: [QueueTransferDescriptor; 257],
     slots: [u64; 192],
     heads: [u32; 561],
     frames: [u32; 1024],
@@ -183,7 +183,7 @@ fn owned_rows(
 // The first d records, k words of the slots, h words of the heads, all the entries and the first u bytes are lent.
 fn lend_open(
     settings: Settings,
-    pool: [QueueTransferDescriptor; 256],
+    pool: [QueueTransferDescriptor; 257],
     slots: [u64; 192],
     heads: [u32; 561],
     frames: [u32; 1024],
@@ -193,7 +193,7 @@ fn lend_open(
     h: usize,
     u: usize,
 ) -> OpenedRows
-    requires { ⌜ (d ≤ 256) × (k ≤ 192) × (h ≤ 561) × (u ≤ 256) ⌝ }
+    requires { ⌜ (d ≤ 257) × (k ≤ 192) × (h ≤ 561) × (u ≤ 256) ⌝ }
     ensures { λ r. ⌜ rowsLeft r ≡ openLent settings pool slots heads frames setups d k h u ⌝ }
     ensures { λ r. ⌜ OpensWords settings (r .opening) (take k slots) (take k (r .slots)) ⌝ }
 {
@@ -272,7 +272,7 @@ pub fn open_in(store: Store, settings: Settings) -> OpenedStore
 fn gathered(
     core: Core,
     reply: Reply,
-    pool: [QueueTransferDescriptor; 256],
+    pool: [QueueTransferDescriptor; 257],
     slots: [u64; 192],
     heads: [u32; 561],
     frames: [u32; 1024],
@@ -301,7 +301,7 @@ fn gathered(
 // As in an opening, with the core and the call.
 fn lend_call(
     core: Core,
-    pool: [QueueTransferDescriptor; 256],
+    pool: [QueueTransferDescriptor; 257],
     slots: [u64; 192],
     heads: [u32; 561],
     frames: [u32; 1024],
@@ -312,7 +312,7 @@ fn lend_call(
     u: usize,
     call: Call,
 ) -> Called
-    requires { ⌜ (d ≤ 256) × (k ≤ 192) × (h ≤ 561) × (u ≤ 256) ⌝ }
+    requires { ⌜ (d ≤ 257) × (k ≤ 192) × (h ≤ 561) × (u ≤ 256) ⌝ }
     ensures { λ r. ⌜ calledAt k r ≡ callLent core pool slots heads frames setups d k h u call ⌝ }
     ensures { λ r. ⌜ LentCall core pool slots heads frames setups d k h u (r .store) ⌝ }
 {

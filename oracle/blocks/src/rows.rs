@@ -3,7 +3,8 @@ use std::fmt::Write;
 
 #[derive(Clone, PartialEq, Eq)]
 pub struct Rows {
-    pub pool: [[u32; 13]; 256],
+    /// 256 descriptors at most, and the shared one after the last.
+    pub pool: [[u32; 13]; 257],
     pub heads: [[u32; 17]; 33],
     pub frames: [u32; 1024],
     pub setups: [[u8; 8]; 32],
@@ -11,7 +12,7 @@ pub struct Rows {
 
 impl Rows {
     pub const BLANK: Self =
-        Self { pool: [[0; 13]; 256], heads: [[0; 17]; 33], frames: [0; 1024], setups: [[0; 8]; 32] };
+        Self { pool: [[0; 13]; 257], heads: [[0; 17]; 33], frames: [0; 1024], setups: [[0; 8]; 32] };
 
     /// Lines P, H, F and S for what differs from `before`.
     pub fn changes(&self, before: &Self, out: &mut String) {

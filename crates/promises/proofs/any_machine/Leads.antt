@@ -9,6 +9,7 @@ use lib.Dec.{eqb, ltb}
 use Rattle.descriptor.specs.EhciQtd.{qtdAddress, terminate}
 use Rattle.descriptor.specs.EhciQueueHead.{linkAddress, linkTerminate, linkType}
 use Rattle.settings.specs.declared.settings.Settings.{Settings}
+use Rattle.settings.specs.Settings.{poolLength}
 use Rattle.promises.specs.Walks.{AtRingHead, End, Ends, Lead, Nowhere, On, Terminated, TooLong, linkLeads, nextLeads, onIf, placeAt}
 use Rattle.promises.proofs.any_machine.Walking.{own-place}
 
@@ -141,25 +142,25 @@ module _ (s : Settings) (w : ℕ) where
   -- ---- next pointers
 
   abbrev next-chosen : Bool → Lead
-  next-chosen t = cond t (Ends Terminated) (placeAt (s .pool) 64 (s .descriptors) (qtdAddress w))
+  next-chosen t = cond t (Ends Terminated) (placeAt (s .pool) 64 (poolLength s) (qtdAddress w))
 
   -- on to place p exactly by the address of a descriptor there
-  pub next-on : (p : ℕ) → (nextLeads s w ≡ On p) ↔ ((terminate w ≡ 0) × (qtdAddress w ≡ s .pool + 64 * p) × (p < s .descriptors))
+  pub next-on : (p : ℕ) → (nextLeads s w ≡ On p) ↔ ((terminate w ≡ 0) × (qtdAddress w ≡ s .pool + 64 * p) × (p < poolLength s))
   next-on p = (there, back)
     where
-      by : (t : Bool) → eqb (terminate w) 1 ≡ t → next-chosen t ≡ On p → (terminate w ≡ 0) × (qtdAddress w ≡ s .pool + 64 * p) × (p < s .descriptors)
+      by : (t : Bool) → eqb (terminate w) 1 ≡ t → next-chosen t ≡ On p → (terminate w ≡ 0) × (qtdAddress w ≡ s .pool + 64 * p) × (p < poolLength s)
       by true e h = let z : _≡_ {A = ℕ} 0 (p + 4) = ap leadNumber h in absurd (omega (arith, z))
       by false e h =
-          let at = place-of (s .pool) 64 (s .descriptors) (qtdAddress w) p h in
+          let at = place-of (s .pool) 64 (poolLength s) (qtdAddress w) p h in
           (bit-off (terminate w) (omega arith) e, at .0, at .1)
 
-      there : nextLeads s w ≡ On p → (terminate w ≡ 0) × (qtdAddress w ≡ s .pool + 64 * p) × (p < s .descriptors)
+      there : nextLeads s w ≡ On p → (terminate w ≡ 0) × (qtdAddress w ≡ s .pool + 64 * p) × (p < poolLength s)
       there h = by (eqb (terminate w) 1) refl h
 
-      back : (terminate w ≡ 0) × (qtdAddress w ≡ s .pool + 64 * p) × (p < s .descriptors) → nextLeads s w ≡ On p
+      back : (terminate w ≡ 0) × (qtdAddress w ≡ s .pool + 64 * p) × (p < poolLength s) → nextLeads s w ≡ On p
       back h =
           let at : (s .pool + 64 * p - s .pool) / 64 ≡ p = omega arith in
-          rw (h .0, h .1) (own-place (s .pool) 64 (s .descriptors) (s .pool + 64 * p) p at (h .2) refl)
+          rw (h .0, h .1) (own-place (s .pool) 64 (poolLength s) (s .pool + 64 * p) p at (h .2) refl)
 
   pub next-stops : (nextLeads s w ≡ Ends Terminated) ↔ (terminate w ≡ 1)
   next-stops = (there, λ h. rw h)
@@ -167,7 +168,7 @@ module _ (s : Settings) (w : ℕ) where
       by : (t : Bool) → eqb (terminate w) 1 ≡ t → next-chosen t ≡ Ends Terminated → terminate w ≡ 1
       by true e h = eqb-true (terminate w) 1 e
       by false e h =
-          let z : _≡_ {A = ℕ} 0 2 = ap leadNumber (place-ends (s .pool) 64 (s .descriptors) (qtdAddress w) 0 Terminated h) in
+          let z : _≡_ {A = ℕ} 0 2 = ap leadNumber (place-ends (s .pool) 64 (poolLength s) (qtdAddress w) 0 Terminated h) in
           absurd (omega (arith, z))
 
       there : nextLeads s w ≡ Ends Terminated → terminate w ≡ 1

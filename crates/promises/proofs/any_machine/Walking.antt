@@ -14,6 +14,7 @@ use Rattle.pool.specs.EhciChain.{follow, stopIf}
 use Rattle.pool.specs.Places.{Each, Within}
 use Rattle.pool.specs.Transfers.{addressOf}
 use Rattle.settings.specs.declared.settings.Settings.{Settings}
+use Rattle.settings.specs.Settings.{poolLength}
 use Rattle.promises.specs.Walks.{End, Ends, Lead, On, Terminated, Walk, ended, meets, nextLeads, onward, placeAt, walkFrom}
 
 -- ---- one word
@@ -60,7 +61,7 @@ module _ (s : Settings) (pool : List QueueTransferDescriptor) where
       stopIf b (qtdAddress w ∷ addresses m (nextAt (s .pool) pool (qtdAddress w))) ≡ map (addressOf (s .pool)) ps
 
   -- where these are those of some places, and it might go on, the walk meets these places and terminates
-  pub chain-walked : (m w : ℕ) (ps : List ℕ) → Within (s .descriptors) ps → length ps < m → addresses m w ≡ map (addressOf (s .pool)) ps
+  pub chain-walked : (m w : ℕ) (ps : List ℕ) → Within (poolLength s) ps → length ps < m → addresses m w ≡ map (addressOf (s .pool)) ps
       → walkFrom (nextLeads s) nextWord m w ≡ record { met = ps; end = Terminated }
   unfolding follow
   chain-walked zero w ps i l e = absurd (omega (arith, l))
@@ -79,7 +80,7 @@ module _ (s : Settings) (pool : List QueueTransferDescriptor) where
       by false q more f =
           let here : qtdAddress w ≡ addressOf (s .pool) p = ap (λ (x : List ℕ). getD x 0 0) f in
           let there : placeOf (s .pool) (addressOf (s .pool) p) ≡ p = omega arith in
-          let on : nextLeads s w ≡ On p = rw (q, here) (own-place (s .pool) 64 (s .descriptors) (addressOf (s .pool) p) p there (i .0) refl) in
+          let on : nextLeads s w ≡ On p = rw (q, here) (own-place (s .pool) 64 (poolLength s) (addressOf (s .pool) p) p there (i .0) refl) in
           let rest : addresses m (nextWord p) ≡ map (addressOf (s .pool)) ps =
           ap (λ (x : ℕ). addresses m (nextWord x)) (sym there) ∙ ap (λ (a : ℕ). addresses m (nextAt (s .pool) pool a)) (sym here)
           ∙ ap (drop 1) f in

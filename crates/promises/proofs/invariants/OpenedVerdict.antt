@@ -36,7 +36,7 @@ use Rattle.promises.proofs.effects.EffectRanges.{kind-most}
 
 abbrev isSomebody : Tenant → Bool
 isSomebody Nobody = false
-isSomebody (Waits kind id n) = true
+isSomebody (Waits kind id d n) = true
 
 somebody-holds : (x : Endpoint) → isSomebody (tenantOf x) ≡ holdsRequest x
 somebody-holds Closed = refl

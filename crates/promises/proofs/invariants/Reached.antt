@@ -5,14 +5,15 @@ use mathlib.Core.List.{List, [], _∷_}
 use mathlib.Core.Path.{_≡_, refl, sym, ap, subst, _∙_}
 use native.Mathlib.Omega.{arith}
 use lib.ListN.{length, length-replicate, replicate}
-use Rattle.pool.specs.Chains.{blank}
-use Rattle.settings.specs.Settings.{framesLength, headsLength, poolLength, settingsGood, setupsLength}
+use Rattle.descriptor.specs.Descriptors.{terminated}
+use Rattle.pool.proofs.ChainLaws.{row-last, row-length}
+use Rattle.settings.specs.Settings.{framesLength, headsLength, settingsGood, setupsLength}
 use Rattle.settings.specs.declared.settings.Settings.{Settings}
 use Rattle.settings.proofs.SettingsLaws.{good-tells}
 use Rattle.state.proofs.RangesLaws.{ranges-tell}
 use Rattle.common.specs.declared.answer.Refusal.the-variants.{InvalidParameter}
 use Rattle.common.proofs.CheckLaws.{answers-apart}
-use Rattle.opening.specs.Opening.{Opened, acceptedOpening, freshState, openedHeads, refusedOpening, rowsFit}
+use Rattle.opening.specs.Opening.{Opened, acceptedOpening, freshState, openedHeads, openedPool, refusedOpening, rowsFit}
 use Rattle.opening.proofs.OpenLaws.{fresh-in-ranges, heads-words, rows-make}
 use Rattle.opening.proofs.OpenPool.{accepts, refuses-rows, refuses-settings}
 use Rattle.ehci.specs.declared.call.Call.{Call}
@@ -27,7 +28,7 @@ use Rattle.promises.proofs.invariants.SoundKeeps.{sound-keeps}
 abbrev pub freshRows : Settings → Rows
 freshRows s =
     record {
-      pool = replicate (poolLength s) blank;
+      pool = openedPool (s .descriptors);
       heads = openedHeads (s .heads) (headsLength s);
       frames = replicate framesLength 1;
       setups = replicate (setupsLength s) 0;
@@ -73,7 +74,8 @@ fresh-sound s e =
         boundaries-wide = length-replicate {A = ℕ} 32 0;
       };
       owners = length-replicate {A = ℕ} 256 0;
-      pool-fits = length-replicate (s .descriptors) blank;
+      pool-fits = row-length (s .descriptors) terminated;
+      shared-stands = row-last (s .descriptors) terminated;
       heads-fit = ap (λ (x : List ℕ). length x) (heads-words s g) ∙ omega (arith, length-replicate {A = ℕ} (headsLength s - 6) 0, g .endpoints-least);
       frames-fit = length-replicate {A = ℕ} 1024 1;
       setups-fit = length-replicate {A = ℕ} (8 * s .endpoints) 0;

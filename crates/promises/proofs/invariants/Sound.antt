@@ -1,11 +1,14 @@
--- Every world of a run is in its ranges, and its rows have the lengths that opening fixed.
+-- Every world of a run is in its ranges, its rows have the lengths that opening fixed, and the shared descriptor stands.
 use Prim.Native.Nat.{ℕ, _+_, _*_, _≤_, _<_}
 use mathlib.Core.Bool.{true}
 use mathlib.Core.List.{List}
 use mathlib.Core.Path.{_≡_, sym, ap, subst, _∙_}
 use native.Mathlib.Omega.{arith}
-use lib.ListN.{length}
+use lib.ListN.{getD, length}
+use Rattle.descriptor.specs.Descriptors.{terminated}
+use Rattle.pool.specs.Chains.{blank}
 use Rattle.settings.specs.declared.settings.Settings.{Settings}
+use Rattle.settings.specs.Settings.{poolLength}
 use Rattle.state.specs.Slots.{withSlot}
 use Rattle.state.specs.Plain.{Ehci}
 use Rattle.state.specs.Ranges.{inRanges}
@@ -29,7 +32,8 @@ pub record Sound (s : Settings) (w : World) : Type 0 where
   pub ranges : Ranges (w .state)
   pub wide : Wide (w .state)
   pub owners : length (w .state .owner) ≡ 256
-  pub pool-fits : length (w .rows .pool) ≡ s .descriptors
+  pub pool-fits : length (w .rows .pool) ≡ poolLength s
+  pub shared-stands : getD (w .rows .pool) (s .descriptors) blank ≡ terminated
   pub heads-fit : length (w .rows .heads) ≡ 17 * (s .endpoints + 1)
   pub frames-fit : length (w .rows .frames) ≡ 1024
   pub setups-fit : length (w .rows .setups) ≡ 8 * s .endpoints
@@ -43,7 +47,8 @@ pub record StateSound (s : Settings) (st : Ehci) : Type 0 where
   pub owners : length (st .owner) ≡ 256
 
 pub record RowsSound (s : Settings) (rows : Rows) : Type 0 where
-  pub pool-fits : length (rows .pool) ≡ s .descriptors
+  pub pool-fits : length (rows .pool) ≡ poolLength s
+  pub shared-stands : getD (rows .pool) (s .descriptors) blank ≡ terminated
   pub heads-fit : length (rows .heads) ≡ 17 * (s .endpoints + 1)
   pub frames-fit : length (rows .frames) ≡ 1024
   pub setups-fit : length (rows .setups) ≡ 8 * s .endpoints
@@ -59,6 +64,7 @@ both-sound s a st rows es er x y =
       wide = x′ .wide;
       owners = x′ .owners;
       pool-fits = y′ .pool-fits;
+      shared-stands = y′ .shared-stands;
       heads-fit = y′ .heads-fit;
       frames-fit = y′ .frames-fit;
       setups-fit = y′ .setups-fit;
@@ -69,7 +75,7 @@ module _ (s : Settings) (w : World) (g : Sound s w) where
   state-sound = record { settings-are = g .settings-are; ranges = g .ranges; wide = g .wide; owners = g .owners }
 
   pub rows-sound : RowsSound s (w .rows)
-  rows-sound = record { pool-fits = g .pool-fits; heads-fit = g .heads-fit; frames-fit = g .frames-fit; setups-fit = g .setups-fit }
+  rows-sound = record { pool-fits = g .pool-fits; shared-stands = g .shared-stands; heads-fit = g .heads-fit; frames-fit = g .frames-fit; setups-fit = g .setups-fit }
 
   -- by the settings that its state has
   pub of-state : Sound (w .state .settings) w
@@ -90,7 +96,7 @@ module _ (s : Settings) (w : World) (g : Sound s w) where
 
   pub heads-sound : (hs : List ℕ) → length hs ≡ length (w .rows .heads) → RowsSound s (withHeads (w .rows) hs)
   heads-sound hs e =
-      record { pool-fits = g .pool-fits; heads-fit = e ∙ g .heads-fit; frames-fit = g .frames-fit; setups-fit = g .setups-fit }
+      record { pool-fits = g .pool-fits; shared-stands = g .shared-stands; heads-fit = e ∙ g .heads-fit; frames-fit = g .frames-fit; setups-fit = g .setups-fit }
 
   -- ---- states
 

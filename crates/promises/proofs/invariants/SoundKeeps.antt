@@ -1,20 +1,23 @@
 -- Whatever a call does, a sound world stays sound.
 use Prim.Native.Nat.{ℕ, zero, suc, _+_, _*_, _≤_, _<_}
 use mathlib.Core.Bool.{Bool, true, false}
-use mathlib.Core.List.{List}
+use mathlib.Core.List.{List, [], _∷_}
 use mathlib.Core.Logic.{_⊎_, ⊎-elim}
 use mathlib.Core.Path.{_≡_, refl, sym, ap, subst, _∙_}
 use native.Mathlib.Omega.{arith}
-use lib.ListN.{length, length-replicate, length-set, replicate, set, take}
+use borrow.Author.Tests.{ltb-true}
+use lib.Dec.{ltb}
+use lib.ListN.{getD, length, length-replicate, length-set, length-take, replicate, set, take}
 use lib.Seq.{length-front}
 use Rattle.descriptor.specs.Descriptors.{terminated}
 use Rattle.descriptor.specs.Heads.{endpointHead, wordsOf}
 use Rattle.descriptor.specs.Setups.{setupPacket}
-use Rattle.pool.specs.Chains.{fillOf}
+use Rattle.pool.specs.Chains.{blank, fillOf, filledFrom}
 use Rattle.pool.specs.Plain.{Chain}
-use Rattle.pool.specs.Places.{markOf}
-use Rattle.pool.proofs.ChainLaws.{filled-length}
-use Rattle.pool.proofs.PlaceLaws.{mark-length}
+use Rattle.pool.specs.Places.{Each, listOf, markOf, packed}
+use Rattle.pool.proofs.ChainLaws.{filled-length, filled-others}
+use Rattle.pool.proofs.Each.{each-map}
+use Rattle.pool.proofs.PlaceLaws.{list-packed, mark-length, places-within}
 use Rattle.settings.specs.declared.settings.Settings.{Settings}
 use Rattle.state.specs.Slots.{withSlot}
 use Rattle.state.specs.State.{withBell, withBoundaries, withOwner}
@@ -27,6 +30,7 @@ use Rattle.pipe.specs.declared.endpoints.Request.{Request}
 use Rattle.pipe.specs.declared.endpoints.Endpoint.the-variants.{Closed, Idle, Linked, Unlinking}
 use Rattle.pipe.proofs.EndpointLaws.{LinkedGood, UnlinkingGood, bell-wide, endpoint-keeps, owner-wide, slot-wide}
 use Rattle.common.proofs.RowLaws.{put-length}
+use Rattle.common.proofs.TestLaws.{both-tells}
 use Rattle.controller.proofs.ReaderLaws.{open-within}
 use Rattle.schedule.specs.Bell.{fallenFrom}
 use Rattle.schedule.proofs.OverlayLaws.{started-length}
@@ -34,7 +38,8 @@ use Rattle.schedule.specs.Links.{attachedFrames, attachedRing, detachOf, givenL
 use Rattle.schedule.specs.declared.links.Predecessor.{Predecessor}
 use Rattle.schedule.specs.declared.links.Predecessor.the-variants.{First, Head, Missing}
 use Rattle.endpoint.specs.Calls.{newEndpoint}
-use Rattle.request.specs.Submit.{attachedBy, linkedRows, needOfRequest, setupsWith, stateWith, takenFor, takenOf}
+use Rattle.request.specs.Submit.{attachedBy, chainFor, linkedRows, needOfRequest, placesFor, setupsWith, stateWith, takenFor, takenOf}
+use Rattle.request.specs.Writeback.{inRequest, tokenChain}
 use Rattle.request.specs.declared.judge.TransferRequest.{TransferRequest}
 use Rattle.request.proofs.SubmitLaws.{submit-keeps}
 use Rattle.collection.specs.Calls.{finishOf, marked}
@@ -169,15 +174,30 @@ module _ (s : Settings) (w : World) (c : Call) (a : Applied) (g : Sound s w) whe
       both-sound s a _ _ (x .state-is) (x .rows-are) (state-sound s w g)
       (heads-sound s w g _ (length-set (w .rows .heads) (17 * (x .k + 1) + 1) (x .word)))
 
+  -- a chain that does not list place D leaves it
+  shared-aside : (chain : Chain) (ps : List ℕ) → chain .places ≡ packed ps → Each (λ p. s .descriptors ≡ p → ⊥) ps
+      → getD (fillOf chain (w .rows .pool)) (s .descriptors) blank ≡ terminated
+  unfolding fillOf
+  shared-aside chain ps e aside =
+      ap (λ (l : List ℕ). getD (filledFrom (chain .deed) (chain .base) 0 l (w .rows .pool)) (s .descriptors) blank) (ap listOf e ∙ list-packed ps)
+      ∙ filled-others (chain .deed) (chain .base) 0 ps (w .rows .pool) (s .descriptors) aside ∙ g .shared-stands
+
   writes-sound : WritesBack w c a → Sound s (leftBy a)
+  unfolding inRequest
   writes-sound x =
       both-sound s a _ _ (x .state-is) (x .rows-are) (state-sound s w g)
       (record {
         pool-fits = fill-length _ (w .rows .pool) ∙ g .pool-fits;
+        shared-stands = shared-aside (tokenChain st (x .place) (x .token)) (x .place ∷ []) refl (past, tt);
         heads-fit = g .heads-fit;
         frames-fit = g .frames-fit;
         setups-fit = g .setups-fit;
       })
+    where
+      past : s .descriptors ≡ x .place → ⊥
+      past e =
+          let below : x .place < st .settings .descriptors = ltb-true (x .place) (st .settings .descriptors) (both-tells (ltb (x .place) (st .settings .descriptors)) _ (x .in-request) .0) in
+          omega (arith, below, e, ap (λ (z : Settings). z .descriptors) (g .settings-are))
 
   marks-sound : Marks w c a → Sound s (leftBy a)
   marks-sound x =
@@ -203,6 +223,7 @@ module _ (s : Settings) (w : World) (c : Call) (a : Applied) (g : Sound s w) whe
       })
       (record {
         pool-fits = g .pool-fits;
+        shared-stands = g .shared-stands;
         heads-fit = detached-lengths st (w .rows .heads) (w .rows .frames) (x .k) .0 ∙ g .heads-fit;
         frames-fit = detached-lengths st (w .rows .heads) (w .rows .frames) (x .k) .1 ∙ g .frames-fit;
         setups-fit = g .setups-fit;
@@ -239,7 +260,7 @@ module _ (s : Settings) (w : World) (c : Call) (a : Applied) (g : Sound s w) whe
       good = slot-good s w g (x .k) here (x .unlinking) refl
 
   accepts-sound : Accepts w c a → Sound s (leftBy a)
-  unfolding stateWith withEndpoint withSlot withOwner linkedRows
+  unfolding stateWith withEndpoint withSlot withOwner linkedRows takenFor takenOf
   accepts-sound x =
       both-sound s a _ _ (x .state-is) (x .rows-are)
       (record {
@@ -250,11 +271,24 @@ module _ (s : Settings) (w : World) (c : Call) (a : Applied) (g : Sound s w) whe
       })
       (record {
         pool-fits = fill-length _ (w .rows .pool) ∙ g .pool-fits;
+        shared-stands = shared-aside (chainFor st (x .k) (x .t) (takenFor st (x .k) (x .t))) (placesFor st (x .t)) chain-places past;
         heads-fit = linked-lengths (w .rows .heads) (w .rows .frames) (x .k) _ _ (isInterrupt (x .t .kind)) .0 ∙ g .heads-fit;
         frames-fit = linked-lengths (w .rows .heads) (w .rows .frames) (x .k) _ _ (isInterrupt (x .t .kind)) .1 ∙ g .frames-fit;
         setups-fit = setups-length (w .rows .setups) (x .k) (x .t) room ∙ g .setups-fit;
       })
     where
+      front : List ℕ
+      front = take (st .settings .descriptors) (st .owner)
+
+      chain-places : takenFor st (x .k) (x .t) .places ≡ packed (placesFor st (x .t))
+      chain-places = refl
+
+      past : Each (λ p. s .descriptors ≡ p → ⊥) (placesFor st (x .t))
+      past =
+          each-map (λ (p : ℕ). p < length front) (λ (p : ℕ). s .descriptors ≡ p → ⊥)
+          (λ p h e. omega (arith, h, e, length-take (st .settings .descriptors) (st .owner), ap (λ (z : Settings). z .descriptors) (g .settings-are)))
+          (placesFor st (x .t)) (places-within front 0 (needOfRequest st (x .t)))
+
       room : 8 * x .k + 8 ≤ length (w .rows .setups)
       room =
           let e : st .settings .endpoints ≡ s .endpoints = ap (λ (z : Settings). z .endpoints) (g .settings-are) in

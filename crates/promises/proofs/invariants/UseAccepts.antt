@@ -21,6 +21,7 @@ use Rattle.pool.proofs.ChainLaws.{filled-listed}
 use Rattle.pool.proofs.Each.{each-at, each-map}
 use Rattle.pool.proofs.PlaceLaws.{list-packed, mark-count, mark-length, mark-takes, places-ascend, places-hold, places-within}
 use Rattle.settings.specs.declared.settings.Settings.{Settings}
+use Rattle.settings.specs.Settings.{poolLength}
 use Rattle.state.specs.Slots.{withSlot}
 use Rattle.state.specs.State.{withOwner}
 use Rattle.state.specs.Plain.{Ehci}
@@ -116,6 +117,11 @@ module _ (w : World) (k : ℕ) (t : TransferRequest) (sound : Sound (w .state .s
   front-length : length front ≡ s .descriptors
   front-length = length-take-le (s .descriptors) (st .owner) (omega (arith, sound .ranges .good .descriptors-most, sound .owners))
 
+  row-within : Within (poolLength s) (placesFor st t)
+  row-within =
+      each-map (λ (p : ℕ). p < length front) (λ (p : ℕ). p < poolLength s) (λ p h. omega (arith, h, front-length)) (placesFor st t)
+      (places-within front 0 (needOfRequest st t))
+
   within : k < s .endpoints
   within = open-within st k (sound .ranges) (judged .opened)
 
@@ -135,7 +141,7 @@ module _ (w : World) (k : ℕ) (t : TransferRequest) (sound : Sound (w .state .s
       ap (nextWalk s (acceptedWorld .rows .pool))
       (submit-starts (w .rows .heads) (w .rows .frames) k (slotLink st k) (firstIn st (takenFor st k t)) (omega (arith, within, sound .heads-fit)) (t .kind))
       ∙ chain-walked s (acceptedWorld .rows .pool) (s .descriptors + 1) (firstIn st (takenFor st k t)) (placesFor st t)
-      (subst (λ (n : ℕ). Within n (placesFor st t)) front-length (places-within front 0 (needOfRequest st t)))
+      row-within
       (omega (arith, need-most, places-needed st k t (sound .ranges) judged (sound .owners)))
       (submit-met st k t (sound .ranges) judged (sound .owners) (w .rows .pool) (s .descriptors + 1) (sound .pool-fits)
       (need-least (t .kind) (t .length) (s .limit) (sound .ranges .good .limit-least)) (omega (arith, need-most)))
@@ -152,7 +158,7 @@ module _ (w : World) (k : ℕ) (t : TransferRequest) (sound : Sound (w .state .s
       let along : 0 + j ≡ j = omega arith in
       ap (λ (l : List ℕ). getD (filledFrom (TransferDeed (transferOf st k t)) (s .pool) 0 l (w .rows .pool)) (getD (placesFor st t) j 0) blank) (list-packed (placesFor st t))
       ∙ filled-listed (TransferDeed (transferOf st k t)) (s .pool) 0 (placesFor st t) (w .rows .pool) j (places-ascend 0 front 0 (needOfRequest st t))
-      (subst (λ (n : ℕ). Within n (placesFor st t)) (front-length ∙ sym (sound .pool-fits)) (places-within front 0 (needOfRequest st t))) h
+      (subst (λ (n : ℕ). Within n (placesFor st t)) (sym (sound .pool-fits)) row-within) h
       ∙ ap (λ (n : ℕ). recordAt (transferOf st k t) n (drop (suc j) (placesFor st t)) (s .pool)) along
 
   new-owner : acceptedWorld .state .owner ≡ takenFor st k t .owner

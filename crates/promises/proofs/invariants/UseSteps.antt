@@ -25,7 +25,7 @@ use Rattle.pipe.specs.Endpoints.{withEndpoint, decoded, encoded}
 use Rattle.pipe.specs.declared.endpoints.Endpoint.the-variants.{Closed, Idle, Linked, Unlinking}
 use Rattle.pipe.specs.declared.endpoints.Request.{Request}
 use Rattle.pipe.specs.declared.endpoints.Endpoint.{Endpoint}
-use Rattle.pipe.proofs.EndpointLaws.{kind-there}
+use Rattle.pipe.proofs.EndpointLaws.{direction-there, kind-there}
 use Rattle.controller.specs.Readers.{hasEndpoint}
 use Rattle.controller.proofs.ReaderLaws.{open-within}
 use Rattle.opening.proofs.HeadLaws.{other-head}
@@ -91,8 +91,8 @@ pub tenant-back : (x : Endpoint) → tenantOf (decoded (encoded x)) ≡ tenantOf
 unfolding decoded
 tenant-back Closed = refl
 tenant-back (Idle p) = refl
-tenant-back (Linked p r) = rw (kind-there (p .kind))
-tenant-back (Unlinking p r b) = rw (kind-there (p .kind))
+tenant-back (Linked p r) = rw (kind-there (p .kind), direction-there (r .direction))
+tenant-back (Unlinking p r b) = rw (kind-there (p .kind), direction-there (r .direction))
 
 -- ---- the steps
 

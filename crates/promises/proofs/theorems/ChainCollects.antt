@@ -1,13 +1,15 @@
 -- A collect of a linked request answers 9, and unlinks it if it is finished.
-use Prim.Native.Nat.{ℕ, suc, _+_, _<_}
+use Prim.Native.Nat.{ℕ, suc, _+_, _≤_, _<_}
 use mathlib.Core.Path.{_≡_, refl, sym, ap, _∙_}
-use mathlib.Core.Bool.{Bool, true, false, not, cond}
+use mathlib.Core.Bool.{Bool, true, false, not, cond, _&&_, _||_}
 use mathlib.Core.List.{List, [], _∷_}
 use native.Mathlib.Decide.{ℕ-discrete as decEq}
+use native.Mathlib.Omega.{arith}
 use borrow.Author.Tests.{eq-eqb, eqb-false, eqb-true, le-leb, lt-ltb}
 use lib.ListN.{getD, length, take}
 use Rattle.pool.specs.declared.chain.View.{View}
 use Rattle.settings.specs.declared.settings.Settings.{Settings}
+use Rattle.settings.specs.Settings.{poolLength}
 use Rattle.pipe.specs.Endpoints.{endpointAt}
 use Rattle.common.specs.Kinds.{isInterrupt}
 use Rattle.pipe.specs.declared.endpoints.Endpoint.the-variants.{Linked}
@@ -32,7 +34,8 @@ use Rattle.promises.proofs.invariants.ChainEvents.{unlink-event}
 use lib.Dec.{eqb}
 use Rattle.common.specs.declared.kinds.EndpointType.{EndpointType}
 use Rattle.descriptor.specs.declared.qtd.QueueTransferDescriptor.{QueueTransferDescriptor}
-use Rattle.pool.specs.Chains.{blank, isActive, isErring, numberIf, seenFrom, standingOf, viewOf}
+use Rattle.pool.specs.Chains.{Seen, blank, isActive, isErring, isShort, numberIf, readOf, seenFrom, standingOf, viewOf}
+use Rattle.pool.specs.Transfers.{endsShort}
 use Rattle.ehci.specs.declared.call.Call.{Call}
 use Rattle.collection.specs.declared.collected.Collected.the-variants as C
 use Rattle.pool.specs.Places.{placesFrom}
@@ -44,18 +47,38 @@ use Rattle.promises.proofs.effects.EffectRequests.{none-leaves, collect
 
 -- ---- finished, as its descriptors say
 
-finished-stage : (kind : EndpointType) (n limit i : ℕ) (ps : List ℕ) (pool : List QueueTransferDescriptor)
-    → eqb (standingOf (seenFrom kind n limit i ps pool)) 2 ≡ not (isFinished pool ps)
-unfolding seenFrom standingOf
-finished-stage kind n limit i [] pool = refl
-finished-stage kind n limit i (p ∷ ps) pool =
-    by (isActive (getD pool p blank .token)) (isErring (getD pool p blank .token)) (finished-stage kind n limit (suc i) ps pool)
+finished-stage : (kind : EndpointType) (n limit i : ℕ) (short : Bool) (ps : List ℕ) (pool : List QueueTransferDescriptor)
+    → eqb (standingOf (readOf short (seenFrom kind n limit i ps pool))) 2 ≡ not (isFinished short pool ps)
+unfolding seenFrom standingOf readOf
+finished-stage kind n limit i short [] pool = refl
+finished-stage kind n limit i short (p ∷ ps) pool =
+    by (isActive (getD pool p blank .token)) (isErring (getD pool p blank .token)) (short && isShort (getD pool p blank .token)) (finished-stage kind n limit (suc i) short ps pool)
   where
-    by : (a e : Bool) → eqb (standingOf (seenFrom kind n limit (suc i) ps pool)) 2 ≡ not (isFinished pool ps)
-        → eqb (numberIf a 2 (numberIf e 1 (standingOf (seenFrom kind n limit (suc i) ps pool)))) 2 ≡ not (cond a false (cond e true (isFinished pool ps)))
-    by true e rest = refl
-    by false true rest = refl
-    by false false rest = rest
+    more : List Seen
+    more = readOf short (seenFrom kind n limit (suc i) ps pool)
+
+    by : (a e b : Bool) → eqb (standingOf more) 2 ≡ not (isFinished short pool ps)
+        → eqb (numberIf a 2 (numberIf e 1 (standingOf (cond b [] more)))) 2 ≡ not (cond a false (cond (e || b) true (isFinished short pool ps)))
+    by true e b rest = refl
+    by false true b rest = refl
+    by false false true rest = refl
+    by false false false rest = rest
+
+-- of one descriptor the rule says nothing new
+pub finished-alike : (pool : List QueueTransferDescriptor) (ps : List ℕ) → length ps ≤ 1 → (b c : Bool) → isFinished b pool ps ≡ isFinished c pool ps
+finished-alike pool [] h b c = refl
+finished-alike pool (p ∷ []) h b c = by (isActive token) (isErring token || (b && isShort token)) (isErring token || (c && isShort token))
+  where
+    token : ℕ
+    token = getD pool p blank .token
+
+    by : (a x y : Bool) → cond a false (cond x true true) ≡ cond a false (cond y true true)
+    by true x y = refl
+    by false true true = refl
+    by false true false = refl
+    by false false true = refl
+    by false false false = refl
+finished-alike pool (p ∷ q ∷ ps) h b c = absurd (omega (arith, h))
 
 module _ (s : Settings) (h : History) (w : World) (sound : Sound s w) (x : Chained s h w) (k : ℕ) (rd : Readings) (p : Pipe) (r : Request)
     (e : endpointAt (w .state) k ≡ Linked p r) (roomy : w .state .unanswered < 32) where
@@ -121,27 +144,29 @@ module _ (s : Settings) (h : History) (w : World) (sound : Sound s w) (x : Chain
   unfolding askable
   asks =
       let good = sound .ranges .good in
-      let same : w .state .settings .descriptors ≡ length (w .rows .pool) =
-      ap (λ (z : Settings). z .descriptors) (sound .settings-are) ∙ sym (sound .pool-fits) in
+      let same : poolLength (w .state .settings) ≡ length (w .rows .pool) =
+      ap poolLength (sound .settings-are) ∙ sym (sound .pool-fits) in
       rw (
         le-leb (w .state .settings .descriptors) 256 (good .descriptors-most),
-        eq-eqb (w .state .settings .descriptors) (length (w .rows .pool)) same,
+        eq-eqb (poolLength (w .state .settings)) (length (w .rows .pool)) same,
         le-leb (w .state .settings .limit) 16384 (good .limit-most),
         lt-ltb k 32 (slot-low s w sound k (Linked p r) e refl),
       )
 
   module _ (places : List ℕ) (own : places ≡ placesFrom 0 (take (w .state .settings .descriptors) (w .state .owner)) (k + 1) 256) where
-    stage-is : eqb (view .stage) 2 ≡ not (isFinished (w .rows .pool) places)
+    abbrev ends : Bool
+    ends = isFinished (endsShort (p .kind) (r .direction)) (w .rows .pool) places
+
+    stage-is : eqb (view .stage) 2 ≡ not ends
     unfolding asksOf askOf requestAsk viewOf
     stage-is =
         rw (asks, e, list-packed (placesFrom 0 (take (w .state .settings .descriptors) (w .state .owner)) (k + 1) 256), ← own)
-        (finished-stage (p .kind) (r .length) (w .state .settings .limit) 0 places (w .rows .pool))
+        (finished-stage (p .kind) (r .length) (w .state .settings .limit) 0 (endsShort (p .kind) (r .direction)) places (w .rows .pool))
 
-    pub collect-event : event s (turnOf (w .rows) call (core w call))
-        ≡ cond (isFinished (w .rows .pool) places) (cond (isInterrupt (p .kind)) (Parts k (rd .frame)) (Unlinks k)) Other
-    collect-event = by (isFinished (w .rows .pool) places) refl
+    pub collect-event : event s (turnOf (w .rows) call (core w call)) ≡ cond ends (cond (isInterrupt (p .kind)) (Parts k (rd .frame)) (Unlinks k)) Other
+    collect-event = by ends refl
       where
-        by : (b : Bool) → isFinished (w .rows .pool) places ≡ b
+        by : (b : Bool) → ends ≡ b
             → event s (turnOf (w .rows) call (core w call)) ≡ cond b (cond (isInterrupt (p .kind)) (Parts k (rd .frame)) (Unlinks k)) Other
         by true q = finished-event (eqb-false (view .stage) 2 (stage-is ∙ ap not q))
         by false q = unfinished-event (eqb-true (view .stage) 2 (stage-is ∙ ap not q))

@@ -1,7 +1,7 @@
 -- No detach fails: what a cancel and a collect of an uncollected request do, of every use.
 use Prim.Native.Nat.{ℕ, _<_, _+_}
 use mathlib.Core.Path.{_≡_, refl, sym, ap, subst, _∙_}
-use mathlib.Core.Bool.{Bool, true, false, _||_}
+use mathlib.Core.Bool.{Bool, true, false, cond, _||_}
 use mathlib.Core.List.{List}
 use lib.ListN.{length, take}
 use Rattle.settings.specs.declared.settings.Settings.{Settings}
@@ -13,11 +13,14 @@ use Rattle.pipe.specs.declared.endpoints.Endpoint.the-variants.{Closed, Idle, L
 use Rattle.pipe.specs.declared.endpoints.Pipe.{Pipe}
 use Rattle.pipe.specs.declared.endpoints.Request.{Request}
 use Rattle.pipe.specs.declared.endpoints.UnlinkBoundary.{UnlinkBoundary}
+use Rattle.controller.specs.declared.lent.Readings.{Readings}
+use Rattle.ehci.specs.declared.call.Call.the-variants.{Collect}
 use Rattle.ehci.specs.Replies.{answeredNumber}
-use Rattle.promises.specs.Runs.{EveryRun, History, World, core, historyOf, moment, worldOf}
+use Rattle.promises.specs.Runs.{EveryRun, History, World, core, historyOf, moment, turnOf, worldOf}
 use Rattle.promises.specs.Walks.{isIn}
-use Rattle.promises.specs.Uses.{Use, frameSlots, ringSlots, uses}
-use Rattle.promises.specs.Chains.{Detaches, NoDetachFails}
+use Rattle.promises.specs.Uses.{Use, frameSlots, mayEndShort, ringSlots, uses}
+use Rattle.promises.specs.Events.{Other, Parts, Unlinks, event}
+use Rattle.promises.specs.Chains.{Detaches, NoDetachFails, isFinished}
 use Rattle.promises.proofs.invariants.Sound.{Sound}
 use Rattle.promises.proofs.invariants.UseInv.{Kept, Nobody, Tenant, Waits, every-map, tenantAt, tenantOf, tenants-apart}
 use Rattle.promises.proofs.theorems.RoomPromises.{held}
@@ -25,15 +28,21 @@ use Rattle.promises.proofs.invariants.ChainInv.{Chained, linkedIn}
 use Rattle.promises.proofs.invariants.ChainDetach.{same-is}
 use Rattle.promises.proofs.theorems.ChainRuns.{chained}
 use Rattle.pool.specs.Places.{placesFrom}
+use Rattle.pool.specs.Transfers.{endsShort}
+use Rattle.promises.proofs.any_machine.ShortRule.{by-count}
 use Rattle.promises.proofs.theorems.ChainCancels.{RoomAt, Roomy, cancel-unlinks, mark-done}
-use Rattle.promises.proofs.theorems.ChainCollects.{collect-event, collect-waits}
+use Rattle.promises.proofs.theorems.ChainCollects.{collect-event, collect-waits, finished-alike}
 
 abbrev idOf : Tenant → ℕ
 idOf Nobody = 0
-idOf (Waits kind id n) = id
+idOf (Waits kind id d n) = id
+
+abbrev endsOf : Tenant → Bool
+endsOf Nobody = false
+endsOf (Waits kind id d n) = endsShort kind d
 
 module _ (s : Settings) (h : History) (w : World) (sound : Sound s w) (x : Chained s h w) (roomy : RoomAt s h w) (u : Use)
-    (holds : tenantAt (w .state) (u .slot) ≡ Waits (u .request .kind) (u .id) (u .request .length))
+    (holds : tenantAt (w .state) (u .slot) ≡ Waits (u .request .kind) (u .id) (u .request .direction) (u .request .length))
     (own : u .places ≡ placesFrom 0 (take (s .descriptors) (w .state .owner)) (u .slot + 1) 256) where
   abbrev k : ℕ
   k = u .slot
@@ -51,6 +60,17 @@ module _ (s : Settings) (h : History) (w : World) (sound : Sound s w) (x : Chain
       room : w .state .unanswered < 32
       room = roomy k p r e
 
+      rule : isFinished (endsShort (p .kind) (r .direction)) (w .rows .pool) (u .places) ≡ isFinished (mayEndShort u) (w .rows .pool) (u .places)
+      rule =
+          ap (λ (b : Bool). isFinished b (w .rows .pool) (u .places)) (ap (λ (y : Endpoint). endsOf (tenantOf y)) (sym e) ∙ ap endsOf holds)
+          ∙ by-count (λ b. isFinished b (w .rows .pool) (u .places)) u (finished-alike (w .rows .pool) (u .places))
+
+      ended : (rd : Readings) → event s (turnOf (w .rows) (Collect k (r .id) rd) (core w (Collect k (r .id) rd)))
+          ≡ cond (isFinished (mayEndShort u) (w .rows .pool) (u .places)) (cond (isInterrupt (p .kind)) (Parts k (rd .frame)) (Unlinks k)) Other
+      ended rd =
+          collect-event s h w sound x k rd p r e room (u .places) mine
+          ∙ ap (λ (b : Bool). cond b (cond (isInterrupt (p .kind)) (Parts k (rd .frame)) (Unlinks k)) Other) rule
+
       kind : (b : Bool) → linkedIn b (endpointAt (w .state) k) ≡ true → isInterrupt (p .kind) ≡ b
       kind b q = same-is b (isInterrupt (p .kind)) (sym (ap (linkedIn b) e) ∙ q)
 
@@ -61,8 +81,8 @@ module _ (s : Settings) (h : History) (w : World) (sound : Sound s w) (x : Chain
             leaves-ring = λ rd m. cancel-unlinks s h w sound x k rd p r e room .1 ∙ rw (kind false (sym (x .ring .members k) ∙ m));
             leaves-frames = λ rd m. cancel-unlinks s h w sound x k rd p r e room .1 ∙ rw (kind true (sym (x .periodic .members k) ∙ m));
             waits = λ rd m. ap answeredNumber (collect-waits s h w sound x k rd p r e room);
-            ends-ring = λ rd m. collect-event s h w sound x k rd p r e room (u .places) mine ∙ rw (kind false (sym (x .ring .members k) ∙ m));
-            ends-frames = λ rd m. collect-event s h w sound x k rd p r e room (u .places) mine ∙ rw (kind true (sym (x .periodic .members k) ∙ m));
+            ends-ring = λ rd m. ended rd ∙ rw (kind false (sym (x .ring .members k) ∙ m));
+            ends-frames = λ rd m. ended rd ∙ rw (kind true (sym (x .periodic .members k) ∙ m));
           }
 
   off : (b : Bool) (ks : List ℕ) (y : Endpoint) → endpointAt (w .state) k ≡ y → linkedIn b y ≡ false
@@ -97,8 +117,8 @@ module _ (s : Settings) (h : History) (w : World) (sound : Sound s w) (x : Chain
           }
 
   use-detaches : (y : Endpoint) → endpointAt (w .state) k ≡ y → Detaches s h (moment core w) u
-  use-detaches Closed e = absurd (tenants-apart (u .request .kind) (u .id) (u .request .length) (tenantAt (w .state) k) (ap tenantOf e) holds)
-  use-detaches (Idle p) e = absurd (tenants-apart (u .request .kind) (u .id) (u .request .length) (tenantAt (w .state) k) (ap tenantOf e) holds)
+  use-detaches Closed e = absurd (tenants-apart (u .request .kind) (u .id) (u .request .direction) (u .request .length) (tenantAt (w .state) k) (ap tenantOf e) holds)
+  use-detaches (Idle p) e = absurd (tenants-apart (u .request .kind) (u .id) (u .request .direction) (u .request .length) (tenantAt (w .state) k) (ap tenantOf e) holds)
   use-detaches (Linked p r) e = linked-detaches p r e
   use-detaches (Unlinking p r b) e = unlinking-detaches p r b e
 

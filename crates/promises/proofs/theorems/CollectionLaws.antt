@@ -1,7 +1,7 @@
 -- A collection answers what is due to its request: 10, 11 or 0, from the history, the request and the tokens of its places.
-use Prim.Native.Nat.{ℕ, suc, _+_, _-_, _*_, min}
+use Prim.Native.Nat.{ℕ, suc, _+_, _-_, _*_, _≤_, min}
 use mathlib.Core.Path.{_≡_, refl, sym, ap, ap₂, subst, _∙_}
-use mathlib.Core.Bool.{Bool, true, false, false≢true}
+use mathlib.Core.Bool.{Bool, true, false, cond, not, _&&_, false≢true}
 use mathlib.Core.List.{List, [], _∷_, map}
 use native.Mathlib.Decide.{ℕ-discrete as decEq}
 use native.Mathlib.Nat.{suc-mul}
@@ -11,16 +11,20 @@ use lib.Dec.{eqb}
 use lib.ListN.{getD, length, take}
 use Rattle.token.specs.EhciQtd.{totalBytes}
 use Rattle.token.specs.Chunks.{ifEmpty, needOf}
+use Rattle.common.specs.Kinds.{isControl}
+use Rattle.common.specs.declared.kinds.Direction.{Direction}
+use Rattle.common.specs.declared.kinds.Direction.the-variants.{Out, In}
 use Rattle.common.specs.declared.kinds.EndpointType.{EndpointType}
 use Rattle.common.specs.declared.kinds.EndpointType.the-variants.{Control, Isochronous, Bulk, Interrupt}
 use Rattle.descriptor.specs.declared.qtd.QueueTransferDescriptor.{QueueTransferDescriptor}
-use Rattle.pool.specs.Chains.{Seen, blank, firstError, isErring, lengthOf, seenFrom, viewOf}
+use Rattle.pool.specs.Chains.{Seen, blank, firstError, isErring, isShort, lengthOf, readOf, seenFrom, viewOf}
 use Rattle.pool.specs.Places.{placesFrom}
-use Rattle.pool.specs.Transfers.{requestedAt}
+use Rattle.pool.specs.Transfers.{endsShort, requestedAt}
 use Rattle.pool.specs.Plain.{Ask}
 use Rattle.pool.specs.declared.chain.View.{View}
 use Rattle.pool.proofs.PlaceLaws.{list-packed}
 use Rattle.settings.specs.declared.settings.Settings.{Settings}
+use Rattle.settings.specs.Settings.{poolLength}
 use Rattle.state.specs.Plain.{Ehci}
 use Rattle.controller.specs.Readers.{hasEndpoint}
 use Rattle.controller.specs.declared.lent.Readings.{Readings}
@@ -32,11 +36,12 @@ use Rattle.ehci.specs.Decides.{asksOf}
 use Rattle.ehci.specs.Door.{seenBy}
 use Rattle.ehci.specs.Replies.{answeredNumber, answeredValues, collectedAnswer}
 use Rattle.promises.specs.Runs.{EveryRun, History, World, core, historyOf, moment, worldOf}
-use Rattle.promises.specs.Uses.{Use, uses}
+use Rattle.promises.specs.Uses.{Use, mayEndShort, uses}
 use Rattle.promises.specs.Bells.{cancelled}
 use Rattle.promises.specs.Rooms.{Every}
 use Rattle.promises.specs.Coverage.{dataOf}
-use Rattle.promises.specs.Collections.{Answers, CollectsDue, dueOf, dueTo, erring, moved, pieceOf, recordsAt, those, tokensOf}
+use Rattle.promises.specs.Collections.{Answers, CollectsDue, Due, dueOf, dueTo, erring, moved, pieceOf, readTo, recordsAt, those, tokensOf}
+use Rattle.promises.proofs.any_machine.ShortRule.{by-count}
 use Rattle.promises.proofs.effects.EffectDoor.{seen}
 use Rattle.promises.proofs.invariants.Reached.{reached}
 use Rattle.promises.proofs.invariants.Sound.{Sound}
@@ -99,13 +104,66 @@ module _ (len limit : ℕ) (rs : List QueueTransferDescriptor) where
   unfolding lengthOf seenFrom requestedAt
   control-moved ps n = by-stage (λ b qs. eqb len 0 ≡ b → Says qs) (λ a b e. omega (arith, eqb-true len 0 e)) (λ a b c e. omega arith) (eqb len 0) ps n refl
 
-  all-moved : (kind : EndpointType) (ps : List ℕ) → length ps ≡ needOf kind len limit
+  -- of a request that is read to its end, or in chunks up to some descriptor
+  all-moved : (kind : EndpointType) (ps : List ℕ) → (isControl kind ≡ true → length ps ≡ needOf kind len limit)
       → lengthOf (seenFrom kind len limit 0 ps rs) ≡ moved (pieceOf kind len limit) len (tokensOf (dataOf kind (map (λ p. getD rs p blank) ps)))
   unfolding needOf requestedAt
-  all-moved Control ps n = control-moved ps n
+  all-moved Control ps n = control-moved ps (n refl)
   all-moved Isochronous ps n = chunks-all Isochronous (λ k. refl) ps
   all-moved Bulk ps n = chunks-all Bulk (λ k. refl) ps
   all-moved Interrupt ps n = chunks-all Interrupt (λ k. refl) ps
+
+-- ---- up to the first short one
+
+module _ (rs : List QueueTransferDescriptor) where
+  abbrev recordOf : ℕ → QueueTransferDescriptor
+  recordOf p = getD rs p blank
+
+  -- the places that are read
+  placesRead : Bool → List ℕ → List ℕ
+  placesRead short [] = []
+  placesRead short (p ∷ ps) = p ∷ cond (short && isShort (recordOf p .token)) [] (placesRead short ps)
+
+  seen-read : (kind : EndpointType) (len limit k : ℕ) (short : Bool) (ps : List ℕ)
+      → readOf short (seenFrom kind len limit k ps rs) ≡ seenFrom kind len limit k (placesRead short ps) rs
+  unfolding readOf seenFrom placesRead
+  seen-read kind len limit k short [] = refl
+  seen-read kind len limit k short (p ∷ ps) = by (short && isShort (recordOf p .token)) (seen-read kind len limit (suc k) short ps)
+    where
+      here : Seen
+      here = record { requested = requestedAt kind len limit k; token = recordOf p .token }
+
+      by : (b : Bool) → readOf short (seenFrom kind len limit (suc k) ps rs) ≡ seenFrom kind len limit (suc k) (placesRead short ps) rs
+          → here ∷ cond b [] (readOf short (seenFrom kind len limit (suc k) ps rs)) ≡ here ∷ seenFrom kind len limit (suc k) (cond b [] (placesRead short ps)) rs
+      by true on = refl
+      by false on = ap (λ (l : List Seen). here ∷ l) on
+
+  records-read : (short : Bool) (ps : List ℕ) → readTo short (map recordOf ps) ≡ map recordOf (placesRead short ps)
+  unfolding placesRead
+  records-read short [] = refl
+  records-read short (p ∷ ps) = by (short && isShort (recordOf p .token)) (records-read short ps)
+    where
+      by : (b : Bool) → readTo short (map recordOf ps) ≡ map recordOf (placesRead short ps)
+          → recordOf p ∷ cond b [] (readTo short (map recordOf ps)) ≡ recordOf p ∷ map recordOf (cond b [] (placesRead short ps))
+      by true on = refl
+      by false on = ap (λ (l : List QueueTransferDescriptor). recordOf p ∷ l) on
+
+  all-read : (ps : List ℕ) → placesRead false ps ≡ ps
+  unfolding placesRead
+  all-read [] = refl
+  all-read (p ∷ ps) = ap (λ (l : List ℕ). p ∷ l) (all-read ps)
+
+  -- of one descriptor the rule says nothing new
+  read-alike : (ps : List ℕ) → length ps ≤ 1 → (b c : Bool) → readTo b (map recordOf ps) ≡ readTo c (map recordOf ps)
+  read-alike [] h b c = refl
+  read-alike (p ∷ []) h b c = by (b && isShort (recordOf p .token)) (c && isShort (recordOf p .token))
+    where
+      by : (x y : Bool) → recordOf p ∷ cond x [] [] ≡ recordOf p ∷ cond y [] []
+      by true true = refl
+      by true false = refl
+      by false true = refl
+      by false false = refl
+  read-alike (p ∷ q ∷ ps) h b c = absurd (omega (arith, h))
 
 -- ---- the answer
 
@@ -122,15 +180,19 @@ due-outcome false ss (token ∷ more) n f l =
 
 abbrev kindIn : Tenant → EndpointType
 kindIn Nobody = Control
-kindIn (Waits kind id n) = kind
+kindIn (Waits kind id d n) = kind
 
 abbrev idIn : Tenant → ℕ
 idIn Nobody = 0
-idIn (Waits kind id n) = id
+idIn (Waits kind id d n) = id
+
+abbrev endsIn : Tenant → Bool
+endsIn Nobody = false
+endsIn (Waits kind id d n) = endsShort kind d
 
 abbrev lengthIn : Tenant → ℕ
 lengthIn Nobody = 0
-lengthIn (Waits kind id n) = n
+lengthIn (Waits kind id d n) = n
 
 none-those : (k id : ℕ) (us : List Use) → Avoids k us → those k id us ≡ []
 none-those k id [] e = refl
@@ -181,18 +243,18 @@ module _ (w : World) (h : History) (sound : Sound (w .state .settings) w) (kept 
   abbrev s : Settings
   s = w .state .settings
 
-  tenant-is : tenantAt st k ≡ Waits (x .p .kind) (x .r .id) (x .r .length)
+  tenant-is : tenantAt st k ≡ Waits (x .p .kind) (x .r .id) (x .r .direction) (x .r .length)
   tenant-is = ap tenantOf (x .unlinking)
 
   one : Sole s (st .owner) (tenantAt st) (w .rows .pool) (w .rows .heads) k id (ap idIn tenant-is ∙ x .same) (uses s h)
   one =
       sole s (st .owner) (tenantAt st) (w .rows .pool) (w .rows .heads) k id (ap idIn tenant-is ∙ x .same) (uses s h) (kept .each) (kept .apart)
-      (λ none. tenants-apart (x .p .kind) (x .r .id) (x .r .length) (tenantAt st k) (kept .rest k none .0) tenant-is)
+      (λ none. tenants-apart (x .p .kind) (x .r .id) (x .r .direction) (x .r .length) (tenantAt st k) (kept .rest k none .0) tenant-is)
 
   abbrev u : Use
   u = one .found
 
-  holds-it : Waits (u .request .kind) (u .id) (u .request .length) ≡ Waits (x .p .kind) (x .r .id) (x .r .length)
+  holds-it : Waits (u .request .kind) (u .id) (u .request .direction) (u .request .length) ≡ Waits (x .p .kind) (x .r .id) (x .r .direction) (x .r .length)
   holds-it = sym (one .kept .holds) ∙ ap (tenantAt st) (one .slot-is) ∙ tenant-is
 
   -- a collect looks at the records of its places
@@ -201,7 +263,7 @@ module _ (w : World) (h : History) (sound : Sound (w .state .settings) w) (kept 
   may-ask =
       rw (
         le-leb (s .descriptors) 256 (sound .ranges .good .descriptors-most),
-        eq-eqb (s .descriptors) (length (w .rows .pool)) (sym (sound .pool-fits)),
+        eq-eqb (poolLength s) (length (w .rows .pool)) (sym (sound .pool-fits)),
         le-leb (s .limit) 16384 (sound .ranges .good .limit-most),
         lt-ltb k 32 (open-below st k (ap hasEndpoint (x .unlinking))),
       )
@@ -210,30 +272,57 @@ module _ (w : World) (h : History) (sound : Sound (w .state .settings) w) (kept 
   unfolding askOf
   asks = rw (may-ask, x .unlinking)
 
-  abbrev seenAt : EndpointType → ℕ → List ℕ → List Seen
-  seenAt kind n ps = seenFrom kind n (s .limit) 0 ps (w .rows .pool)
+  abbrev seenAt : EndpointType → Bool → ℕ → List ℕ → List Seen
+  seenAt kind short n ps = readOf short (seenFrom kind n (s .limit) 0 ps (w .rows .pool))
 
-  sees : seen w (Collect k id rd) ≡ viewOf (seenAt (u .request .kind) (u .request .length) (u .places))
+  -- whether it stops at its first short descriptor
+  abbrev stops : Bool
+  stops = endsShort (u .request .kind) (u .request .direction)
+
+  sees : seen w (Collect k id rd) ≡ viewOf (seenAt (u .request .kind) stops (u .request .length) (u .places))
   unfolding asksOf requestAsk
   sees =
       ap (λ (a : Ask). seenBy a (w .rows .pool)) asks
-      ∙ ap (λ (ps : List ℕ). viewOf (seenAt (x .p .kind) (x .r .length) ps)) (list-packed (placesFrom 0 (take (s .descriptors) (st .owner)) (k + 1) 256) ∙ places)
-      ∙ sym (ap (λ (t : Tenant). viewOf (seenAt (kindIn t) (lengthIn t) (u .places))) holds-it)
+      ∙ ap (λ (ps : List ℕ). viewOf (seenAt (x .p .kind) (endsShort (x .p .kind) (x .r .direction)) (x .r .length) ps)) (list-packed (placesFrom 0 (take (s .descriptors) (st .owner)) (k + 1) 256) ∙ places)
+      ∙ sym (ap (λ (t : Tenant). viewOf (seenAt (kindIn t) (endsIn t) (lengthIn t) (u .places))) holds-it)
     where
       places : placesFrom 0 (take (s .descriptors) (st .owner)) (k + 1) 256 ≡ u .places
       places = ap (λ (j : ℕ). placesFrom 0 (take (s .descriptors) (st .owner)) (j + 1) 256) (sym (one .slot-is)) ∙ sym (one .kept .places-are)
 
+  -- the places that are read, and their records as the statement reads them
+  abbrev read : List ℕ
+  read = placesRead (w .rows .pool) stops (u .places)
+
+  records-are : map (λ p. getD (w .rows .pool) p blank) read ≡ readTo (mayEndShort u) (recordsAt (w .rows) (u .places))
+  records-are =
+      sym (records-read (w .rows .pool) stops (u .places))
+      ∙ by-count (λ b. readTo b (recordsAt (w .rows) (u .places))) u (read-alike (w .rows .pool) (u .places))
+
+  -- of a control request all are
+  whole : isControl (u .request .kind) ≡ true → length read ≡ needOf (u .request .kind) (u .request .length) (s .limit)
+  whole c =
+      ap (λ (b : Bool). length (placesRead (w .rows .pool) b (u .places))) (never (u .request .direction))
+      ∙ ap length (all-read (w .rows .pool) (u .places)) ∙ one .kept .as-needed
+    where
+      never : (d : Direction) → endsShort (u .request .kind) d ≡ false
+      never Out = refl
+      never In = ap not c
+
   due : (answeredNumber (core w (Collect k id rd) .reply .answer) ≡ dueTo s h (w .rows) u .number)
       × (answeredValues (core w (Collect k id rd) .reply .answer) ≡ dueTo s h (w .rows) u .values)
   due =
-      let seen-is = seenAt (u .request .kind) (u .request .length) (u .places) in
-      let failed = erring (tokensOf (recordsAt (w .rows) (u .places))) in
-      let n = moved (pieceOf (u .request .kind) (u .request .length) (s .limit)) (u .request .length) (tokensOf (dataOf (u .request .kind) (recordsAt (w .rows) (u .places)))) in
-      let out = due-outcome (cancelled s (u .slot) h) seen-is failed n (first-erring (u .request .kind) (u .request .length) (s .limit) (w .rows .pool) 0 (u .places))
-      (all-moved (u .request .length) (s .limit) (w .rows .pool) (u .request .kind) (u .places) (one .kept .as-needed)) in
+      let kind = u .request .kind in
+      let n = u .request .length in
+      let seen-is = seenFrom kind n (s .limit) 0 read (w .rows .pool) in
+      let met = map (λ p. getD (w .rows .pool) p blank) read in
+      let out = due-outcome (cancelled s (u .slot) h) seen-is (erring (tokensOf met)) (moved (pieceOf kind n (s .limit)) n (tokensOf (dataOf kind met)))
+      (first-erring kind n (s .limit) (w .rows .pool) 0 read) (all-moved n (s .limit) (w .rows .pool) kind read whole) in
       let answer : core w (Collect k id rd) .reply .answer ≡ collectedAnswer (outcomeOf (cancelled s (u .slot) h) (viewOf seen-is))
-      = x .answer-is ∙ ap₂ (λ (b : Bool) (v : View). collectedAnswer (outcomeOf b v)) (same-mark ∙ ap (λ (j : ℕ). cancelled s j h) (sym (one .slot-is))) sees in
-      (ap answeredNumber answer ∙ out .0, ap answeredValues answer ∙ out .1)
+      = x .answer-is ∙ ap₂ (λ (b : Bool) (v : View). collectedAnswer (outcomeOf b v)) (same-mark ∙ ap (λ (j : ℕ). cancelled s j h) (sym (one .slot-is)))
+      (sees ∙ ap viewOf (seen-read (w .rows .pool) kind n (s .limit) 0 stops (u .places))) in
+      let due-is : dueOf (cancelled s (u .slot) h) (erring (tokensOf met)) (moved (pieceOf kind n (s .limit)) n (tokensOf (dataOf kind met))) ≡ dueTo s h (w .rows) u
+      = ap (λ (ds : List QueueTransferDescriptor). dueOf (cancelled s (u .slot) h) (erring (tokensOf ds)) (moved (pieceOf kind n (s .limit)) n (tokensOf (dataOf kind ds)))) records-are in
+      (ap answeredNumber answer ∙ out .0 ∙ ap (λ (d : Due). d .number) due-is, ap answeredValues answer ∙ out .1 ∙ ap (λ (d : Due). d .values) due-is)
 
   answers : Answers s h (moment core w) k id rd
   answers = record { uncollected = u; only = one .only; number-is = due .0; values-are = due .1 }

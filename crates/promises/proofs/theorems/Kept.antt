@@ -16,6 +16,7 @@ use Rattle.promises.proofs.theorems.BoundaryCore as Boundaries
 use Rattle.promises.proofs.theorems.BoundaryCancels as Cancels
 use Rattle.promises.proofs.theorems.FaultTheorem as Faults
 use Rattle.promises.proofs.theorems.CollectionLaws as Collections
+use Rattle.promises.proofs.theorems.ShortLaws as Shorts
 use Rattle.promises.proofs.theorems.IdTheorems as Ids
 use Rattle.promises.proofs.theorems.CancelTheorems as ById
 
@@ -27,6 +28,9 @@ kept =
       in-order = Order.in-order;
       chains-walked = Chains.chains-walked;
       chains-lead = Rooms.chains-lead;
+      shared-stands = Shorts.shared-stands;
+      short-stops = Shorts.short-stops;
+      full-goes-on = Shorts.full-goes-on;
       submits-planned = Submissions.submits-planned;
       packets-stand = Packets.packets-stand;
       tokens-stand = Tokens.tokens-stand;

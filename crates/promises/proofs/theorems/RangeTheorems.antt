@@ -6,6 +6,7 @@ use mathlib.Core.Logic.{_⊎_, inl, inr}
 use mathlib.Core.Path.{_≡_, refl, sym, subst}
 use lib.ListN.{length}
 use Rattle.settings.specs.declared.settings.Settings.{Settings}
+use Rattle.common.specs.declared.kinds.Direction.{Direction}
 use Rattle.common.specs.declared.kinds.EndpointType.{EndpointType}
 use Rattle.pipe.specs.Endpoints.{endpointAt}
 use Rattle.pipe.specs.declared.endpoints.Endpoint.{Endpoint}
@@ -39,16 +40,16 @@ pub ranges-kept : EveryRun RangesKept core
 ranges-kept s w o cs = sound-ranges s _ _ (runs s w o cs .0)
 
 -- a slot with a tenant has an uncollected request
-tenant-held : (x : Endpoint) (kind : EndpointType) (id n : ℕ) → tenantOf x ≡ Waits kind id n → holdsRequest x ≡ true
-tenant-held Closed kind id n e = absurd (tenants-apart kind id n Nobody refl e)
-tenant-held (Idle p) kind id n e = absurd (tenants-apart kind id n Nobody refl e)
-tenant-held (Linked p r) kind id n e = refl
-tenant-held (Unlinking p r b) kind id n e = refl
+tenant-held : (x : Endpoint) (kind : EndpointType) (id : ℕ) (d : Direction) (n : ℕ) → tenantOf x ≡ Waits kind id d n → holdsRequest x ≡ true
+tenant-held Closed kind id d n e = absurd (tenants-apart kind id d n Nobody refl e)
+tenant-held (Idle p) kind id d n e = absurd (tenants-apart kind id d n Nobody refl e)
+tenant-held (Linked p r) kind id d n e = refl
+tenant-held (Unlinking p r b) kind id d n e = refl
 
 held-runs : (s : Settings) (w : World) (us : List Use) → HeldIn s us w → Idles (w .state) → (us ≡ []) ⊎ (w .state .running ≡ 1)
 held-runs s w [] held i = inl refl
 held-runs s w (u ∷ us) held i =
-    inr (i .runs (u .slot) (tenant-held (endpointAt (w .state) (u .slot)) (u .request .kind) (u .id) (u .request .length) (held .each .0 .holds)))
+    inr (i .runs (u .slot) (tenant-held (endpointAt (w .state) (u .slot)) (u .request .kind) (u .id) (u .request .direction) (u .request .length) (held .each .0 .holds)))
 
 pub runs-while-held : EveryRun RunsWhileHeld core
 runs-while-held s w o cs = held-runs s (worldOf core w cs) (uses s (historyOf core w cs)) (held s w o cs .1) (runs s w o cs .1)

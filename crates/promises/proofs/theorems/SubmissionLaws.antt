@@ -182,7 +182,7 @@ module _ (w : World) (k : ℕ) (t : TransferRequest) (sound : Sound (w .state .s
   as-planned : map fieldsOf (recordsMet s after k) ≡ planFor s k t
   as-planned =
       ap (map fieldsOf) (records-are w k t sound judged)
-      ∙ all-planned (transferOf (w .state) k t) (s .pool) (placesFor (w .state) t) (sound .ranges .good .limit-least) (sound .ranges .good .limit-most) (t .kind) refl
+      ∙ all-planned (transferOf (w .state) k t) (s .pool) (placesFor (w .state) t) (sound .ranges .good .limit-least) (sound .ranges .good .limit-most) (s .pool + 64 * s .descriptors) refl (t .kind) refl
       (control-short t (judged .in-range)) needed
 
   packet-room : 8 * k + 8 ≤ length (w .rows .setups)

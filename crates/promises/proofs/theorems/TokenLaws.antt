@@ -46,7 +46,7 @@ each-of : (P : ℕ → Type 0) (us : List Use) → Each P (placesInUse us) → E
 each-of P [] e = tt
 each-of P (u ∷ us) e = let both = each-split P (u .places) (placesInUse us) e in (both .0, each-of P us (both .1))
 
-fields-at : (f : ℕ → QueueTransferDescriptor) (ps : List ℕ) (j : ℕ) → j < length ps → getD (map fieldsOf (map f ps)) j (planned 0 0 0 0 0) ≡ fieldsOf (f (getD ps j 0))
+fields-at : (f : ℕ → QueueTransferDescriptor) (ps : List ℕ) (j : ℕ) → j < length ps → getD (map fieldsOf (map f ps)) j (planned 1 0 0 0 0 0) ≡ fieldsOf (f (getD ps j 0))
 fields-at f [] j h = absurd (omega (arith, h))
 fields-at f (p ∷ ps) zero h = refl
 fields-at f (p ∷ ps) (suc j) h = fields-at f ps j (omega (arith, h))
@@ -185,7 +185,7 @@ module _ (w : World) (h : History) (c : Call) (sound : Sound (w .state .settings
           untouched = tt;
           stands = inl (
             x .submits,
-            sym (fields-at (λ p. getD (rowsOf a .pool) p blank) (new .places) j l) ∙ ap (λ (fs : List Fields). getD fs j (planned 0 0 0 0 0)) (after-so .planned-so),
+            sym (fields-at (λ p. getD (rowsOf a .pool) p blank) (new .places) j l) ∙ ap (λ (fs : List Fields). getD fs j (planned 1 0 0 0 0 0)) (after-so .planned-so),
           );
         }
 

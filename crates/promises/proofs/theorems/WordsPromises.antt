@@ -10,6 +10,7 @@ use Rattle.promises.specs.Refusals.{FewWrites, RefusalsKeep}
 use Rattle.promises.specs.Checks.{InOrder}
 use Rattle.promises.specs.Chains.{ChainsWalked, NoDetachFails}
 use Rattle.promises.specs.Rooms.{ChainsLead, ExclusivePlaces, RoomExact}
+use Rattle.promises.specs.Shorts.{FullGoesOn, SharedStands, ShortStops}
 use Rattle.promises.specs.Submissions.{CollectsEnded, PacketsStand, SubmitsPlanned, SubmittedStays, TokensStand}
 use Rattle.promises.specs.Registers.{InterruptsAnswered, QuietBringUp, RegistersTied, RingsInTurn, StatusAcknowledged, WritesExactly}
 use Rattle.promises.specs.Ranges.{RangesKept, RunsWhileHeld}
@@ -59,6 +60,9 @@ kept-in-words m does =
       in-order = everywhere InOrder (λ state rows c. refl) (kept .in-order) m does;
       chains-walked = carried ChainsWalked (kept .chains-walked) m does;
       chains-lead = carried ChainsLead (kept .chains-lead) m does;
+      shared-stands = carried SharedStands (kept .shared-stands) m does;
+      short-stops = carried ShortStops (kept .short-stops) m does;
+      full-goes-on = carried FullGoesOn (kept .full-goes-on) m does;
       submits-planned = carried SubmitsPlanned (kept .submits-planned) m does;
       packets-stand = carried PacketsStand (kept .packets-stand) m does;
       tokens-stand = carried TokensStand (kept .tokens-stand) m does;

@@ -20,10 +20,10 @@ said-of before after i = recordChange i (getD before i blank) (getD after i blan
 
 abbrev Inv-loop : tie.InvT-loop
 Inv-loop out₀ at before after place₀ i₀ out place i =
-    (i ≤ 256) × (length out ≡ length out₀) × (out ≡ putAt out₀ at (linesTo (said-of before after) i)) × (place ≡ at + length (linesTo (said-of before after) i))
+    (i ≤ 257) × (length out ≡ length out₀) × (out ≡ putAt out₀ at (linesTo (said-of before after) i)) × (place ≡ at + length (linesTo (said-of before after) i))
 
 abbrev μ-loop : tie.MeasureT-loop
-μ-loop out₀ at before after place₀ i₀ out place i = 256 - i
+μ-loop out₀ at before after place₀ i₀ out place i = 257 - i
 
 loop-holds : tie.Need-loop-holds Inv-loop μ-loop
 loop-holds c =
@@ -57,8 +57,8 @@ loop-again c =
     let a = c .before .before .before .before .before .before .before .before .before .args in
     let l = c .before .before .before .before .before .before .before .loop in
     let p = c .before .before .put-record in
-    let some : length (a .t3) ≡ 256 = c .before .before .before .before .before .before .before .before .before .good .1 .1 .0 .1 .0 .1 in
-    let more : length (a .t4) ≡ 256 = c .before .before .before .before .before .before .before .before .before .good .1 .1 .1 .0 .1 .0 .1 in
+    let some : length (a .t3) ≡ 257 = c .before .before .before .before .before .before .before .before .before .good .1 .1 .0 .1 .0 .1 in
+    let more : length (a .t4) ≡ 257 = c .before .before .before .before .before .before .before .before .before .good .1 .1 .1 .0 .1 .0 .1 in
     let said = record-any (a .t3) (a .t4) (l .i) _ _ (omega arith) (omega arith) in
     let turned = lines-turn (said-of (a .t3) (a .t4)) (a .out .now) (l .out) (p .last .0) (a .at) (l .place) (p .result) (l .i) (omega (arith, c .before .before .before .before .before .before .before .before .before .pre))
     (l .inv .2) (l .inv .3) (p .ensures .0 ∙ ap (putAt (l .out) (l .place)) said) (p .ensures .1 ∙ ap (λ (x : List ℕ). l .place + length x) said) in
@@ -70,7 +70,7 @@ same-length c = c .before .loop .inv .1
 returns : tie.Need-returns Inv-loop μ-loop
 returns c =
     let l = c .before .loop in
-    let all : l .i ≡ 256 = omega arith in
+    let all : l .i ≡ 257 = omega arith in
     (l .inv .2 ∙ rw all, l .inv .3 ∙ rw all)
 
 pub put-records-spec : {M : Type 1} → statement M

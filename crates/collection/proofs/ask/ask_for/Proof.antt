@@ -4,17 +4,20 @@ use borrow.Author.Needs.{needs}
 use Rattle.collection.proofs.ask.ask_for.Statement.{statement}
 use Rattle.collection.proofs.ask.ask_for.Tie as tie
 
+cast-length : tie.Need-cast-length
+cast-length c = search needs
+
 cast-limit : tie.Need-cast-limit
 cast-limit c = search needs
 
+ends-short-requires : tie.Need-ends-short-requires
+ends-short-requires c κs = search needs
+
 places-at-requires : tie.Need-places-at-requires
 places-at-requires c κs = search needs
-
-cast-t9 : tie.Need-cast-t9
-cast-t9 c = search needs
 
 returns : tie.Need-returns
 returns c = search asked-words
 
 pub ask-for-spec : {M : Type 1} → statement M
-ask-for-spec = tie.close (tie.spec cast-limit places-at-requires cast-t9 returns)
+ask-for-spec = tie.close (tie.spec cast-length cast-limit ends-short-requires places-at-requires returns)

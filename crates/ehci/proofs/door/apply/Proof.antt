@@ -39,7 +39,7 @@ use denote.Triple.Table.{entered, cited}
 use denote.Triple.Walked.{says, Stays, gave-slice, stay-none, walkOf, goes-gave-slice, goes-none, Walks, ends-at, walked, walk-meets}
 use Rattle.descriptor.specs.declared.qtd.QueueTransferDescriptor.{QueueTransferDescriptor as Record}
 use Rattle.bitset.specs.Places.{setPlaces}
-use Rattle.pool.specs.Chains.{seenFrom, viewOf}
+use Rattle.pool.specs.Chains.{readOf, seenFrom, viewOf}
 use Rattle.pool.specs.Words.{AskWordsGood, WritingGood, writtenWith}
 use Rattle.ehci.specs.Decides.{came}
 use Rattle.ehci.specs.Door.{applied}
@@ -248,7 +248,7 @@ module _ {M : Type 1} (𝓤 : URA M) (H : Heap 𝓤) (A : Atoms 𝓤) (W : Given
         -- [the pool; its token; the slots; their token; …]
         assigns ! (addr ! (from ! (fld ! refl (hop ! (look-in ! 66 (sub ! 0 refl (whole !))) (stop !))))) (from ! (stop !)) (init ! 36 refl (tt, tt)) $ assigns ! (agg ! (and-then ! (load ! (from ! (stop !)) (looks ! 36 refl)) (and-then ! (load ! (from ! (fld ! refl (stop !))) (look-in ! 66 (sub ! 1 refl (whole !)))) (no-more !)))) (from ! (stop !)) (init ! 34 refl (tt, (tt, (record { fits = room .0 }, tt)))) $
         gives (fmOf 𝓤 H (W .laws) 𝓣) ask-of.ended (ask-of.clauses 𝓤 H A mem run) known-ask-of (to-ask-of l lv) (λ r. r ≡ l .ask) (λ r e. id⊢ 𝓤 _) ! (goes-ask-of l lv is-l) (λ j. and-then ! (load ! (from ! (stop !)) (looks ! 55 {τ = Lk′.mir} {v = lv} refl)) (no-more !)) (λ a av ea is-a. drop ! $ land ! (from ! (stop !)) (init ! 32 {τ = Q′.mir} {v = av} refl (LL.lawful Q.the-type Q′.the-laws 𝓤 H A W .typed a _ is-a .0)) $
-        shares (fmOf 𝓤 H (W .laws) 𝓣) fold.ended (fold.clauses 𝓤 H A mem run) known-fold R b o n rs refl room (to-fold a av) (λ ν δ u. u ≡ viewOf (seenFrom (a .kind) (a .length) (a .limit) 0 (setPlaces (a .places)) rs)) (λ ν δ r e. id⊢ 𝓤 _) ! (goes-fold a av is-a (subst (λ (z : Ask). AskWordsGood n z) (sym ea) (e₁ .ask-good))) (λ ν δ. fst∗ 𝓤 (A .lft (ν ∷ []) fullShare) (emp 𝓤))
+        shares (fmOf 𝓤 H (W .laws) 𝓣) fold.ended (fold.clauses 𝓤 H A mem run) known-fold R b o n rs refl room (to-fold a av) (λ ν δ u. u ≡ viewOf (readOf (a .stops) (seenFrom (a .kind) (a .length) (a .limit) 0 (setPlaces (a .places)) rs))) (λ ν δ r e. id⊢ 𝓤 _) ! (goes-fold a av is-a (subst (λ (z : Ask). AskWordsGood n z) (sym ea) (e₁ .ask-good))) (λ ν δ. fst∗ 𝓤 (A .lft (ν ∷ []) fullShare) (emp 𝓤))
         (λ ν δ j k. and-then ! (load ! (from ! (stop !)) (looks ! 34 refl)) (and-then ! (load ! (from ! (stop !)) (looks ! 32 {τ = Q′.mir} {v = av} refl)) (no-more !))) (λ ν₂ δ₂ v vv e₂ is-v. land ! (from ! (stop !)) (init ! 52 {τ = Vw′.mir} {v = vv} refl (LL.lawful Vw.the-type Vw′.the-laws 𝓤 H A W .typed v _ is-v .0)) $ forget ! 44 refl $
         assigns ! (of-opd ! (load ! (from ! (fld ! refl (stop !))) (look-in ! 66 (sub ! 1 refl (whole !))))) (from ! (stop !)) (init ! 44 refl (tt, record { fits = room .0 })) $
         assigns ! (addr ! (from ! (fld ! refl (hop ! (look-in ! 64 (sub ! 0 refl (whole !))) (stop !))))) (from ! (stop !)) (init ! 30 refl (tt, tt)) $ assigns ! (agg ! (and-then ! (load ! (from ! (stop !)) (looks ! 30 refl)) (and-then ! (load ! (from ! (fld ! refl (stop !))) (look-in ! 64 (sub ! 1 refl (whole !)))) (no-more !)))) (from ! (stop !)) (init ! 28 refl (tt, (tt, (record { fits = rooms .0 }, tt)))) $

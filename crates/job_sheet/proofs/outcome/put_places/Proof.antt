@@ -47,7 +47,7 @@ loop-again c =
     let l = c .before .before .before .before .before .before .loop in
     let e = c .before .before .put-place in
     let a = c .before .before .before .before .before .before .before .before .args in
-    let whole : length (a .t5) ≡ 256 = search needs in
+    let whole : length (a .t5) ≡ 257 = search needs in
     let d = place-put (l .out) (l .next) (a .t4) (a .t5) (a .slot) (l .p) _ _ 86 (omega (arith, whole)) (e .ensures) in
     (omega arith, lined-turn _ _ _ 86 (l .out) _ (l .next) (l .p) _ (omega arith) (l .inv .1) (e .kept .0) d)
 

@@ -1,4 +1,4 @@
--- `opening::open::open` meets its contract: a walk of its MIR over the five lent rows. Each is given up: the pool to `clear_first`, the four rows of numbers to `decide_open`. Assumes nothing.
+-- `opening::open::open` meets its contract: a walk of its MIR over the five lent rows. Each is given up: the pool to `open_first`, the four rows of numbers to `decide_open`. Assumes nothing.
 use mathlib.Core.Path.{_≡_, refl, _∙_, ap}
 use Prim.Native.Nat.{ℕ, _≤_}
 use mathlib.Core.List.{List, [], _∷_}
@@ -36,13 +36,13 @@ use denote.Triple.Statement.{Triple}
 use denote.Triple.Table.{entered, cited}
 use denote.Triple.Walked.{says, Stays, gave-slice, stay-none, walkOf, goes-gave-slice, goes-none, Walks, ends-at, walked, walk-meets}
 use Rattle.descriptor.specs.declared.qtd.QueueTransferDescriptor.{QueueTransferDescriptor as Record}
-use Rattle.pool.specs.Words.{clearedTo}
+use Rattle.pool.specs.Words.{openedTo}
 use Rattle.pool.proofs.Element.{R}
 use Rattle.pool.proofs.Calls.{met, gives}
 use Rattle.pool.proofs.Uses.{passes}
 use Rattle.pool.proofs.Lends.{row-at, says-two}
-use Rattle.opening.specs.Words.{OpensWords, clearCount, decideWords, decidedWords, openWords, openedRows}
-use Rattle.opening.proofs.WordsLaws.{may-clear, opens, together}
+use Rattle.opening.specs.Words.{OpensWords, openCount, decideWords, decidedWords, openWords, openedRows}
+use Rattle.opening.proofs.WordsLaws.{may-open, opens, together}
 use Rattle.settings.specs.declared.settings.Settings.{Settings}
 use Rattle.settings.proofs.settings.Settings as S
 use Rattle.settings.proofs.settings.Settings.Laws as S′
@@ -57,14 +57,14 @@ use Rattle.opening.proofs.open.decide_open as decide-open
 use Rattle.opening.proofs.open.decide_open.Symbol as decide-open-def
 use Rattle.opening.proofs.open.decide_open.Symbol.{name as #decide-open}
 use Rattle.opening.proofs.open.decide_open.Met as decide-open-thm
-use Rattle.opening.proofs.open.clear_count as clear-count
-use Rattle.opening.proofs.open.clear_count.Symbol as clear-count-def
-use Rattle.opening.proofs.open.clear_count.Symbol.{name as #clear-count}
-use Rattle.opening.proofs.open.clear_count.Met as clear-count-thm
-use Rattle.pool.proofs.marking.clear_first as clear-first
-use Rattle.pool.proofs.marking.clear_first.Symbol as clear-first-def
-use Rattle.pool.proofs.marking.clear_first.Symbol.{name as #clear-first}
-use Rattle.pool.proofs.marking.clear_first.Met as clear-first-thm
+use Rattle.opening.proofs.open.open_count as open-count
+use Rattle.opening.proofs.open.open_count.Symbol as open-count-def
+use Rattle.opening.proofs.open.open_count.Symbol.{name as #open-count}
+use Rattle.opening.proofs.open.open_count.Met as open-count-thm
+use Rattle.pool.proofs.marking.open_first as open-first
+use Rattle.pool.proofs.marking.open_first.Symbol as open-first-def
+use Rattle.pool.proofs.marking.open_first.Symbol.{name as #open-first}
+use Rattle.pool.proofs.marking.open_first.Met as open-first-thm
 use Rattle.opening.proofs.open.open.Key.{name as #open}
 use Rattle.opening.proofs.open.open as f
 use Rattle.opening.proofs.open.open.Statement as stated
@@ -145,24 +145,24 @@ module _ {M : Type 1} (𝓤 : URA M) (H : Heap 𝓤) (A : Atoms 𝓤) (W : Given
   abbrev told-decide : Opening → Lasts decide-open.ended (κ₁, (κ₂, (κ₃, (κ₄, tt)))) (to-decide .0 .3) → Type 0
   told-decide r ws = decidedWords r (ws .1 .1 .0) (ws .1 .1 .1 .0) (ws .1 .1 .1 .1 .0) (ws .1 .1 .1 .1 .1 .0) ≡ decideWords st n ss hs fs us
 
-  abbrev to-count : Opening → Val → met 𝓤 H A clear-count.ended (clear-count.clauses 𝓤 H A mem run) .Ghost
-  to-count r v = ((tt, tt, tt, (r, tt), (v ∷ [], tt)), tt)
+  abbrev to-count : Opening → Val → met 𝓤 H A open-count.ended (open-count.clauses 𝓤 H A mem run) .Ghost
+  to-count r v = ((tt, tt, tt, (r, (n, tt)), (v ∷ [], (vint w64 n ∷ [], tt))), tt)
 
-  goes-count : (r : Opening) (v : Val) → Is Re.the-row r (v ∷ []) → ent 𝓤 (sem 𝓤 H A ftrue) (met 𝓤 H A clear-count.ended (clear-count.clauses 𝓤 H A mem run) .pre (to-count r v))
-  goes-count r v is = qed W (‵ ftrue ∷ []) ∵ owned ! Re.the-row (Is Re.the-row) (LL.makes Re.the-type Re′.the-plain 𝓤 H A) r (v ∷ []) is $ fjoin ! $ nothing ! $ join ! $ frame ! $ done !
+  goes-count : (r : Opening) (v : Val) → Is Re.the-row r (v ∷ []) → ent 𝓤 (sem 𝓤 H A ftrue) (met 𝓤 H A open-count.ended (open-count.clauses 𝓤 H A mem run) .pre (to-count r v))
+  goes-count r v is = qed W (‵ ftrue ∷ []) ∵ owned ! u64 (Is u64) (uint-makes 𝓤 H A W w64) n (vint w64 n ∷ []) (refl, room .0) $ fjoin ! $ owned ! Re.the-row (Is Re.the-row) (LL.makes Re.the-type Re′.the-plain 𝓤 H A) r (v ∷ []) is $ fjoin ! $ nothing ! $ join ! $ frame ! $ done !
 
-  abbrev to-clear : ℕ → Val → met 𝓤 H A clear-first.ended (clear-first.clauses 𝓤 H A mem run) .Ghost
-  to-clear k v = (((κ₀, tt), (q₀, tt), tt, (row-at b o γ rs, (k, tt)), (vr ∷ [], (v ∷ [], tt))), tt)
+  abbrev to-open : ℕ → Val → met 𝓤 H A open-first.ended (open-first.clauses 𝓤 H A mem run) .Ghost
+  to-open k v = (((κ₀, tt), (q₀, tt), tt, (row-at b o γ rs, (k, tt)), (vr ∷ [], (v ∷ [], tt))), tt)
 
-  goes-clear : (k : ℕ) (v : Val) → Is usize k (v ∷ []) → k ≤ n → ent 𝓤 (⋆ 𝓤 H A (‵ (MutSlice (named 0) κ₀ R .own (row-at b o γ rs) (vr ∷ [])) ∷ ‵ (flft κ₀ q₀) ∷ [])) (met 𝓤 H A clear-first.ended (clear-first.clauses 𝓤 H A mem run) .pre (to-clear k v))
-  goes-clear k v is req =
+  goes-open : (k : ℕ) (v : Val) → Is usize k (v ∷ []) → k ≤ n → ent 𝓤 (⋆ 𝓤 H A (‵ (MutSlice (named 0) κ₀ R .own (row-at b o γ rs) (vr ∷ [])) ∷ ‵ (flft κ₀ q₀) ∷ [])) (met 𝓤 H A open-first.ended (open-first.clauses 𝓤 H A mem run) .pre (to-open k v))
+  goes-open k v is req =
       qed W (‵ (MutSlice (named 0) κ₀ R .own (row-at b o γ rs) (vr ∷ [])) ∷ ‵ (flft κ₀ q₀) ∷ []) ∵ says ! req $ nothing ! $ owned ! usize (Is usize) (uint-makes 𝓤 H A W w64) k (v ∷ []) is $ fjoin ! $ move ! (1 ∷ 0 ∷ []) $ fjoin ! $
       nothing ! $ move ! (2 ∷ 0 ∷ []) $ join ! $ frame ! $ done !
 
-  abbrev told-clear : (k : ℕ) (v : Val) → Unit {0} → Lasts clear-first.ended (κ₀, tt) (to-clear k v .0 .3) → Type 0
-  told-clear k v u ws = ws .0 ≡ clearedTo k rs
+  abbrev told-open : (k : ℕ) (v : Val) → Unit {0} → Lasts open-first.ended (κ₀, tt) (to-open k v .0 .3) → Type 0
+  told-open k v u ws = ws .0 ≡ openedTo k rs
 
-  module _ (𝓣 : Tables 𝓤 H) (known-row-length : Triple 𝓤 (𝓣 .C #row-length) (met 𝓤 H A row-length.ended (row-length.clauses 𝓤 H A mem run))) (known-decide-open : Triple 𝓤 (𝓣 .C #decide-open) (met 𝓤 H A decide-open.ended (decide-open.clauses 𝓤 H A mem run))) (known-clear-count : Triple 𝓤 (𝓣 .C #clear-count) (met 𝓤 H A clear-count.ended (clear-count.clauses 𝓤 H A mem run))) (known-clear-first : Triple 𝓤 (𝓣 .C #clear-first) (met 𝓤 H A clear-first.ended (clear-first.clauses 𝓤 H A mem run))) where
+  module _ (𝓣 : Tables 𝓤 H) (known-row-length : Triple 𝓤 (𝓣 .C #row-length) (met 𝓤 H A row-length.ended (row-length.clauses 𝓤 H A mem run))) (known-decide-open : Triple 𝓤 (𝓣 .C #decide-open) (met 𝓤 H A decide-open.ended (decide-open.clauses 𝓤 H A mem run))) (known-open-count : Triple 𝓤 (𝓣 .C #open-count) (met 𝓤 H A open-count.ended (open-count.clauses 𝓤 H A mem run))) (known-open-first : Triple 𝓤 (𝓣 .C #open-first) (met 𝓤 H A open-first.ended (open-first.clauses 𝓤 H A mem run))) where
     walk : ent 𝓤 (onEntry 𝓤 H A f.signature (κ₀, (κ₁, (κ₂, (κ₃, (κ₄, tt))))) (q₀, (q₁, (q₂, (q₃, (q₄, tt))))) a₀ at) (WpFn 𝓤 H (𝓣 .C) (𝓣 .Λ) code.function (kv ∷ vr ∷ vs ∷ vh ∷ vf ∷ vu ∷ []) Post)
     walk =
         qed W ((‵ (flft κ₀ q₀) ⊛ four) ∷ ‵ (owns (S.the-row ∷ MutSlice (named 0) κ₀ R ∷ MutSlice (named 1) κ₁ u64 ∷ MutSlice (named 2) κ₂ u32 ∷ MutSlice (named 3) κ₃ u32 ∷ MutSlice (named 4) κ₄ u8 ∷ []) a₀ at) ∷ []) ∵ enter ! (𝓣 .C) (𝓣 .Λ) code.function (kv ∷ vr ∷ vs ∷ vh ∷ vf ∷ vu ∷ []) _ $
@@ -182,9 +182,9 @@ module _ {M : Type 1} (𝓤 : URA M) (H : Heap 𝓤) (A : Atoms 𝓤) (W : Given
         (λ j. and-then ! (load ! (from ! (stop !)) (look ! 43 {τ = S′.mir} {v = kv} refl)) (and-then ! (load ! (from ! (stop !)) (look ! 31 refl)) (and-then ! (load ! (from ! (stop !)) (look ! 21 refl)) (and-then ! (load ! (from ! (stop !)) (look ! 17 refl)) (and-then ! (load ! (from ! (stop !)) (look ! 13 refl)) (and-then ! (load ! (from ! (stop !)) (look ! 9 refl)) (no-more !))))))) (λ r rv ws e is.
         fsplit ! $ drop ! $ fsplit ! $ drop ! $ fsplit ! $ fsplit ! $ move ! (1 ∷ []) $ feqL ! (λ same-s. move ! (1 ∷ []) $ fsplit ! $ fsplit ! $ move ! (1 ∷ []) $ feqL ! (λ same-h. move ! (1 ∷ []) $ fsplit ! $ fsplit ! $ move ! (1 ∷ []) $ feqL ! (λ same-f. move ! (1 ∷ []) $ fsplit ! $ fsplit ! $ move ! (1 ∷ []) $ feqL ! (λ same-u. move ! (1 ∷ []) $ drop ! $
         move ! (6 ∷ 5 ∷ []) $ land ! (from ! (stop !)) (init ! 33 {τ = Re′.mir} {v = rv} refl (LL.lawful Re.the-type Re′.the-laws 𝓤 H A W .typed r _ is .0)) $
-        gives (fmOf 𝓤 H (W .laws) 𝓣) clear-count.ended (clear-count.clauses 𝓤 H A mem run) known-clear-count (to-count r rv) (λ k. k ≡ clearCount r) (λ r e. id⊢ 𝓤 _) ! (goes-count r rv is) (λ j. and-then ! (load ! (from ! (stop !)) (look ! 34 {τ = Re′.mir} {v = rv} refl)) (no-more !)) (λ k kw ek is-k. drop ! $ land ! (from ! (stop !)) (init ! 31 {τ = tyInt w64} {v = kw} refl (uint-lawful 𝓤 H A W w64 .typed k _ is-k .0)) $
+        gives (fmOf 𝓤 H (W .laws) 𝓣) open-count.ended (open-count.clauses 𝓤 H A mem run) known-open-count (to-count r rv) (λ k. k ≡ openCount (r .answer) n) (λ r e. id⊢ 𝓤 _) ! (goes-count r rv is) (λ j. and-then ! (load ! (from ! (stop !)) (look ! 34 {τ = Re′.mir} {v = rv} refl)) (and-then ! (load ! (from ! (stop !)) (look ! 36 refl)) (no-more !))) (λ k kw ek is-k. drop ! $ land ! (from ! (stop !)) (init ! 31 {τ = tyInt w64} {v = kw} refl (uint-lawful 𝓤 H A W w64 .typed k _ is-k .0)) $
         assigns ! (addr ! (from ! (fld ! refl (hop ! (look-in ! 45 (sub ! 0 refl (whole !))) (stop !))))) (from ! (stop !)) (init ! 9 refl (tt, tt)) $ assigns ! (agg ! (and-then ! (load ! (from ! (stop !)) (look ! 9 refl)) (and-then ! (load ! (from ! (fld ! refl (stop !))) (look-in ! 45 (sub ! 1 refl (whole !)))) (no-more !)))) (from ! (stop !)) (init ! 7 refl (tt, (tt, (record { fits = room .0 }, tt)))) $
-        join ! $ passes (fmOf 𝓤 H (W .laws) 𝓣) clear-first.ended (clear-first.clauses 𝓤 H A mem run) known-clear-first (to-clear k kw) (told-clear k kw) (λ r zs. id⊢ 𝓤 _) ! (‵ (MutSlice (named 0) κ₀ R .own (row-at b o γ rs) (vr ∷ [])) ⊛ ‵ (flft κ₀ q₀)) (goes-clear k kw is-k (may-clear st rs ss hs fs us r (ws .1 .1 .0) (ws .1 .1 .1 .0) (ws .1 .1 .1 .1 .0) (ws .1 .1 .1 .1 .1 .0) e k ek))
+        join ! $ passes (fmOf 𝓤 H (W .laws) 𝓣) open-first.ended (open-first.clauses 𝓤 H A mem run) known-open-first (to-open k kw) (told-open k kw) (λ r zs. id⊢ 𝓤 _) ! (‵ (MutSlice (named 0) κ₀ R .own (row-at b o γ rs) (vr ∷ [])) ⊛ ‵ (flft κ₀ q₀)) (goes-open k kw is-k (may-open st rs ss hs fs us r (ws .1 .1 .0) (ws .1 .1 .1 .0) (ws .1 .1 .1 .1 .0) (ws .1 .1 .1 .1 .1 .0) e k ek))
         (λ j. and-then ! (load ! (from ! (stop !)) (look ! 6 refl)) (and-then ! (load ! (from ! (stop !)) (look ! 30 {τ = tyInt w64} {v = kw} refl)) (no-more !))) (λ y yv zs ez is-y.
         fsplit ! $ fsplit ! $ move ! (1 ∷ []) $ feqL ! (λ same-r. move ! (1 ∷ []) $ drop ! $ move ! (1 ∷ []) $ use1 W (‵ (flft κ₀ q₀)) (fst∗ 𝓤 (A .lft κ₀ q₀) (emp 𝓤)) $ land ! (from ! (stop !)) (init ! 11 refl (nothing-lawful 𝓤 H A W .typed y _ is-y .0)) $
         assigns ! (of-opd ! (load ! (from ! (stop !)) (look ! 33 {τ = Re′.mir} {v = rv} refl))) (from ! (stop !)) (init ! 49 {τ = Re′.mir} {v = rv} refl (LL.lawful Re.the-type Re′.the-laws 𝓤 H A W .typed r _ is .0)) $
@@ -192,14 +192,14 @@ module _ {M : Type 1} (𝓤 : URA M) (H : Heap 𝓤) (A : Atoms 𝓤) (W : Given
         move ! (49 ∷ 50 ∷ []) $ free1 ! $ move ! (47 ∷ 48 ∷ []) $ free1 ! $ move ! (45 ∷ 46 ∷ []) $ free1 ! $ move ! (43 ∷ 44 ∷ []) $ free1 ! $ move ! (41 ∷ 42 ∷ []) $ free1 ! $ move ! (39 ∷ 40 ∷ []) $ free1 ! $ move ! (37 ∷ 38 ∷ []) $ free1 ! $ move ! (35 ∷ 36 ∷ []) $ free1 ! $ move ! (33 ∷ 34 ∷ []) $ free1 ! $ move ! (31 ∷ 32 ∷ []) $ free1 ! $ move ! (29 ∷ 30 ∷ []) $ free1 ! $ move ! (27 ∷ 28 ∷ []) $ free1 ! $ move ! (25 ∷ 26 ∷ []) $ free1 ! $ move ! (23 ∷ 24 ∷ []) $ free1 ! $ move ! (21 ∷ 22 ∷ []) $ free1 ! $ move ! (19 ∷ 20 ∷ []) $ free1 ! $ move ! (17 ∷ 18 ∷ []) $ free1 ! $ move ! (15 ∷ 16 ∷ []) $ free1 ! $ move ! (13 ∷ 14 ∷ []) $ free1 ! $ move ! (11 ∷ 12 ∷ []) $ free1 ! $ move ! (9 ∷ 10 ∷ []) $ free1 ! $ move ! (7 ∷ 8 ∷ []) $ free1 ! $ free0 ! $
         keep ! (1 ∷ 0 ∷ 5 ∷ 4 ∷ 3 ∷ 2 ∷ 6 ∷ []) $ by ! (exits r rv (zs .0) (ws .1 .1 .0) (ws .1 .1 .1 .0) (ws .1 .1 .1 .1 .0) (ws .1 .1 .1 .1 .1 .0) same-r same-s same-h same-f same-u is (together st rs ss hs fs us r (ws .1 .1 .0) (ws .1 .1 .1 .0) (ws .1 .1 .1 .1 .0) (ws .1 .1 .1 .1 .1 .0) e k ek (zs .0) ez) (opens st rs ss hs fs us r (ws .1 .1 .0) (ws .1 .1 .1 .0) (ws .1 .1 .1 .1 .0) (ws .1 .1 .1 .1 .1 .0) e)))))))))))))))))))))))))))))))))
 
-module _ {M : Type 1} (𝓤 : URA M) (H : Heap 𝓤) (A : Atoms 𝓤) (W : Given 𝓤 H A) (mem : Memory → SProp 𝓤) (run : Routine → Fun 𝓤) (𝓣 : Tables 𝓤 H) (known-row-length : Triple 𝓤 (𝓣 .C #row-length) (met 𝓤 H A row-length.ended (row-length.clauses 𝓤 H A mem run))) (known-decide-open : Triple 𝓤 (𝓣 .C #decide-open) (met 𝓤 H A decide-open.ended (decide-open.clauses 𝓤 H A mem run))) (known-clear-count : Triple 𝓤 (𝓣 .C #clear-count) (met 𝓤 H A clear-count.ended (clear-count.clauses 𝓤 H A mem run))) (known-clear-first : Triple 𝓤 (𝓣 .C #clear-first) (met 𝓤 H A clear-first.ended (clear-first.clauses 𝓤 H A mem run))) where
+module _ {M : Type 1} (𝓤 : URA M) (H : Heap 𝓤) (A : Atoms 𝓤) (W : Given 𝓤 H A) (mem : Memory → SProp 𝓤) (run : Routine → Fun 𝓤) (𝓣 : Tables 𝓤 H) (known-row-length : Triple 𝓤 (𝓣 .C #row-length) (met 𝓤 H A row-length.ended (row-length.clauses 𝓤 H A mem run))) (known-decide-open : Triple 𝓤 (𝓣 .C #decide-open) (met 𝓤 H A decide-open.ended (decide-open.clauses 𝓤 H A mem run))) (known-open-count : Triple 𝓤 (𝓣 .C #open-count) (met 𝓤 H A open-count.ended (open-count.clauses 𝓤 H A mem run))) (known-open-first : Triple 𝓤 (𝓣 .C #open-first) (met 𝓤 H A open-first.ended (open-first.clauses 𝓤 H A mem run))) where
   open-walks : Walks 𝓤 H A f.ended stayed (WpFn 𝓤 H (𝓣 .C) (𝓣 .Λ) code.function) (f.clauses 𝓤 H A mem run)
   open-walks = walked 𝓤 H A f.ended stayed (f.clauses 𝓤 H A mem run) (WpFn 𝓤 H (𝓣 .C) (𝓣 .Λ) code.function)
       (λ κs. (LL.vals S.the-type S′.the-laws, (slice-vals, (slice-vals, (slice-vals, (slice-vals, (slice-vals, tt)))))))
       (λ κs. (LL.tells S.the-type S′.the-laws, (mut-slice-tells (named 0) (κs .0) R, (mut-slice-tells (named 1) (κs .1 .0) u64, (mut-slice-tells (named 2) (κs .1 .1 .0) u32, (mut-slice-tells (named 3) (κs .1 .1 .1 .0) u32, (mut-slice-tells (named 4) (κs .1 .1 .1 .1 .0) u8, tt)))))))
       (λ κs qs bounds a g are. via 𝓤 _ (fst∗ 𝓤 _ (emp 𝓤))
       (walk 𝓤 H A W mem run (κs .0) (κs .1 .0) (κs .1 .1 .0) (κs .1 .1 .1 .0) (κs .1 .1 .1 .1 .0) (qs .0) (qs .1 .0) (qs .1 .1 .0) (qs .1 .1 .1 .0) (qs .1 .1 .1 .1 .0) (a .0) (a .1 .0 .ptr .0) (a .1 .0 .ptr .1) (a .1 .0 .name) (a .1 .0 .now) (a .1 .1 .0 .ptr .0) (a .1 .1 .0 .ptr .1) (a .1 .1 .0 .name) (a .1 .1 .0 .now) (a .1 .1 .1 .0 .ptr .0) (a .1 .1 .1 .0 .ptr .1) (a .1 .1 .1 .0 .name) (a .1 .1 .1 .0 .now) (a .1 .1 .1 .1 .0 .ptr .0) (a .1 .1 .1 .1 .0 .ptr .1) (a .1 .1 .1 .1 .0 .name) (a .1 .1 .1 .1 .0 .now) (a .1 .1 .1 .1 .1 .0 .ptr .0) (a .1 .1 .1 .1 .1 .0 .ptr .1) (a .1 .1 .1 .1 .1 .0 .name) (a .1 .1 .1 .1 .1 .0 .now)
-      _ (are .0) (are .1 .0 .0 .1) (are .1 .1 .0 .0 .1) (are .1 .1 .1 .0 .0 .1) (are .1 .1 .1 .1 .0 .0 .1) (are .1 .1 .1 .1 .1 .0 .0 .1) 𝓣 known-row-length known-decide-open known-clear-count known-clear-first))
+      _ (are .0) (are .1 .0 .0 .1) (are .1 .1 .0 .0 .1) (are .1 .1 .1 .0 .0 .1) (are .1 .1 .1 .1 .0 .0 .1) (are .1 .1 .1 .1 .1 .0 .0 .1) 𝓣 known-row-length known-decide-open known-open-count known-open-first))
 
   open-meets : Meets 𝓤 H A f.signature (WpFn 𝓤 H (𝓣 .C) (𝓣 .Λ) code.function) (f.spec 𝓤 H A mem run)
   open-meets =
@@ -214,5 +214,5 @@ open-spec 𝓤 H 𝓜 𝓖 𝓡 =
     (open-meets 𝓤 H (𝓖 .A) (givenOf 𝓤 H 𝓜 𝓖) (𝓜 .mem) (𝓡 .run) (tablesOf 𝓤 H 𝓜 (tables 𝓤 H 𝓜 𝓡 code.env))
     (cited 𝓤 H (tripleOf 𝓤 H (𝓖 .A) row-length.signature (row-length.spec 𝓤 H (𝓖 .A) (𝓜 .mem) (𝓡 .run))) 𝓜 𝓡 code.env #row-length row-length-def.routine code.calls-opening·open·row-length (row-length-thm.met 𝓤 H 𝓜 𝓖 𝓡))
     (cited 𝓤 H (tripleOf 𝓤 H (𝓖 .A) decide-open.signature (decide-open.spec 𝓤 H (𝓖 .A) (𝓜 .mem) (𝓡 .run))) 𝓜 𝓡 code.env #decide-open decide-open-def.routine code.calls-opening·open·decide-open (decide-open-thm.met 𝓤 H 𝓜 𝓖 𝓡))
-    (cited 𝓤 H (tripleOf 𝓤 H (𝓖 .A) clear-count.signature (clear-count.spec 𝓤 H (𝓖 .A) (𝓜 .mem) (𝓡 .run))) 𝓜 𝓡 code.env #clear-count clear-count-def.routine code.calls-opening·open·clear-count (clear-count-thm.met 𝓤 H 𝓜 𝓖 𝓡))
-    (cited 𝓤 H (tripleOf 𝓤 H (𝓖 .A) clear-first.signature (clear-first.spec 𝓤 H (𝓖 .A) (𝓜 .mem) (𝓡 .run))) 𝓜 𝓡 code.env #clear-first clear-first-def.routine code.calls-pool·marking·clear-first (clear-first-thm.met 𝓤 H 𝓜 𝓖 𝓡)))
+    (cited 𝓤 H (tripleOf 𝓤 H (𝓖 .A) open-count.signature (open-count.spec 𝓤 H (𝓖 .A) (𝓜 .mem) (𝓡 .run))) 𝓜 𝓡 code.env #open-count open-count-def.routine code.calls-opening·open·open-count (open-count-thm.met 𝓤 H 𝓜 𝓖 𝓡))
+    (cited 𝓤 H (tripleOf 𝓤 H (𝓖 .A) open-first.signature (open-first.spec 𝓤 H (𝓖 .A) (𝓜 .mem) (𝓡 .run))) 𝓜 𝓡 code.env #open-first open-first-def.routine code.calls-pool·marking·open-first (open-first-thm.met 𝓤 H 𝓜 𝓖 𝓡)))

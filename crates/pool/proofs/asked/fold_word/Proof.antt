@@ -41,7 +41,7 @@ use Rattle.pool.proofs.Element.{R}
 use lib.Bits.{bitAnd}
 use lib.Count.{trailingZeros}
 use Rattle.pool.specs.Chains.{blank}
-use Rattle.pool.specs.Words.{WordGood, seenNext, sees, wordPlaces}
+use Rattle.pool.specs.Words.{WordGood, leftIf, seenNext, sees, wordPlaces}
 use Rattle.pool.proofs.Calls.{at-list, met, tests, gives, looks}
 use Rattle.pool.proofs.FoldTurns.{Seeing, left-fewer, leftOf, none-left, seeing-below, seeing-done, seeing-in, seeing-more, seeing-start, some-left}
 use Rattle.pool.specs.declared.asked.AskWords.{AskWords}
@@ -66,10 +66,10 @@ use Rattle.pool.proofs.asked.see_word as see-word
 use Rattle.pool.proofs.asked.see_word.Symbol as see-word-def
 use Rattle.pool.proofs.asked.see_word.Symbol.{name as #see-word}
 use Rattle.pool.proofs.asked.see_word.Met as see-word-thm
-use Rattle.bitset.proofs.word.drop_lowest as drop-lowest
-use Rattle.bitset.proofs.word.drop_lowest.Symbol as drop-lowest-def
-use Rattle.bitset.proofs.word.drop_lowest.Symbol.{name as #drop-lowest}
-use Rattle.bitset.proofs.word.drop_lowest.Met as drop-lowest-thm
+use Rattle.pool.proofs.asked.left_after as left-after
+use Rattle.pool.proofs.asked.left_after.Symbol as left-after-def
+use Rattle.pool.proofs.asked.left_after.Symbol.{name as #left-after}
+use Rattle.pool.proofs.asked.left_after.Met as left-after-thm
 use Rattle.pool.proofs.asked.fold_word.Key.{name as #fold-word}
 use Rattle.pool.proofs.asked.fold_word as f
 use Rattle.pool.proofs.asked.fold_word.Statement as stated
@@ -124,11 +124,11 @@ module _ {M : Type 1} (𝓤 : URA M) (H : Heap 𝓤) (A : Atoms 𝓤) (W : Given
       nothing ! $ move ! (2 ∷ 0 ∷ []) $ join ! $ frame ! $ nothing ! $ owned ! Fo.the-row (Is Fo.the-row) (LL.makes Fo.the-type Fo′.the-plain 𝓤 H A) before (fv ∷ []) is-before $ fjoin ! $ owned ! usize (Is usize) (uint-makes 𝓤 H A W w64) j (vint w64 j ∷ []) (refl, j-fits) $ fjoin ! $ owned ! Q.the-row (Is Q.the-row) (LL.makes Q.the-type Q′.the-plain 𝓤 H A) ask (qv ∷ []) is-ask $ fjoin ! $ move ! (1 ∷ 0 ∷ []) $ fjoin ! $ frame ! $
       owned ! Fo.the-row (Is Fo.the-row) (LL.makes Fo.the-type Fo′.the-plain 𝓤 H A) u (v ∷ []) is $ done !
 
-  abbrev to-word-at : (p : AskWords) (pv : Val) (i : ℕ) → met 𝓤 H A word-at.ended (word-at.clauses 𝓤 H A mem run) .Ghost
-  to-word-at p pv i = ((tt, tt, tt, (p, (i, tt)), (pv ∷ [], (vint w64 i ∷ [], tt))), tt)
+  abbrev to-word-at : (p : AskWords) (pv : Val) (i : ℕ) (u : Folded) (uv : Val) → met 𝓤 H A word-at.ended (word-at.clauses 𝓤 H A mem run) .Ghost
+  to-word-at p pv i u uv = ((tt, tt, tt, (p, (i, (u, tt))), (pv ∷ [], (vint w64 i ∷ [], (uv ∷ [], tt)))), tt)
 
-  goes-word-at : (p : AskWords) (pv : Val) (i : ℕ) → Is Q.the-row p (pv ∷ []) → i < 2 ^ 64 → i < 4 → ent 𝓤 (sem 𝓤 H A ftrue) (met 𝓤 H A word-at.ended (word-at.clauses 𝓤 H A mem run) .pre (to-word-at p pv i))
-  goes-word-at p pv i is-p is-i req = qed W (‵ ftrue ∷ []) ∵ says ! req $ owned ! usize (Is usize) (uint-makes 𝓤 H A W w64) i (vint w64 i ∷ []) (refl, is-i) $ fjoin ! $ owned ! Q.the-row (Is Q.the-row) (LL.makes Q.the-type Q′.the-plain 𝓤 H A) p (pv ∷ []) is-p $ fjoin ! $ nothing ! $ frame ! $ done !
+  goes-word-at : (p : AskWords) (pv : Val) (i : ℕ) (u : Folded) (uv : Val) → Is Q.the-row p (pv ∷ []) → i < 2 ^ 64 → Is Fo.the-row u (uv ∷ []) → i < 4 → ent 𝓤 (sem 𝓤 H A ftrue) (met 𝓤 H A word-at.ended (word-at.clauses 𝓤 H A mem run) .pre (to-word-at p pv i u uv))
+  goes-word-at p pv i u uv is-p is-i is-u req = qed W (‵ ftrue ∷ []) ∵ says ! req $ owned ! Fo.the-row (Is Fo.the-row) (LL.makes Fo.the-type Fo′.the-plain 𝓤 H A) u (uv ∷ []) is-u $ fjoin ! $ owned ! usize (Is usize) (uint-makes 𝓤 H A W w64) i (vint w64 i ∷ []) (refl, is-i) $ fjoin ! $ owned ! Q.the-row (Is Q.the-row) (LL.makes Q.the-type Q′.the-plain 𝓤 H A) p (pv ∷ []) is-p $ fjoin ! $ nothing ! $ frame ! $ done !
 
   abbrev to-lowest-place : (i : ℕ) (l : ℕ) → met 𝓤 H A lowest-place.ended (lowest-place.clauses 𝓤 H A mem run) .Ghost
   to-lowest-place i l = ((tt, tt, tt, (i, (l, tt)), (vint w64 i ∷ [], (vint w64 l ∷ [], tt))), tt)
@@ -142,11 +142,11 @@ module _ {M : Type 1} (𝓤 : URA M) (H : Heap 𝓤) (A : Atoms 𝓤) (W : Given
   goes-see-word : (u : Folded) (uv : Val) (p : AskWords) (pv : Val) (w : ℕ) → Is Fo.the-row u (uv ∷ []) → Is Q.the-row p (pv ∷ []) → w < 2 ^ 32 → (u .k < 256) × (p .length < 2 ^ 32) × (p .limit ≤ 16384) × (u .view .moved ≤ u .k * 2 ^ 32) → ent 𝓤 (sem 𝓤 H A ftrue) (met 𝓤 H A see-word.ended (see-word.clauses 𝓤 H A mem run) .pre (to-see-word u uv p pv w))
   goes-see-word u uv p pv w is-u is-p is-w req = qed W (‵ ftrue ∷ []) ∵ says ! req $ owned ! u32 (Is u32) (uint-makes 𝓤 H A W w32) w (vint w32 w ∷ []) (refl, is-w) $ fjoin ! $ owned ! Q.the-row (Is Q.the-row) (LL.makes Q.the-type Q′.the-plain 𝓤 H A) p (pv ∷ []) is-p $ fjoin ! $ owned ! Fo.the-row (Is Fo.the-row) (LL.makes Fo.the-type Fo′.the-plain 𝓤 H A) u (uv ∷ []) is-u $ fjoin ! $ nothing ! $ frame ! $ done !
 
-  abbrev to-drop-lowest : (l : ℕ) → met 𝓤 H A drop-lowest.ended (drop-lowest.clauses 𝓤 H A mem run) .Ghost
-  to-drop-lowest l = ((tt, tt, tt, (l, tt), (vint w64 l ∷ [], tt)), tt)
+  abbrev to-left-after : (u : Folded) (uv : Val) (l : ℕ) → met 𝓤 H A left-after.ended (left-after.clauses 𝓤 H A mem run) .Ghost
+  to-left-after u uv l = ((tt, tt, tt, (u, (l, tt)), (uv ∷ [], (vint w64 l ∷ [], tt))), tt)
 
-  goes-drop-lowest : (l : ℕ) → l < 2 ^ 64 → ent 𝓤 (sem 𝓤 H A ftrue) (met 𝓤 H A drop-lowest.ended (drop-lowest.clauses 𝓤 H A mem run) .pre (to-drop-lowest l))
-  goes-drop-lowest l is-l = qed W (‵ ftrue ∷ []) ∵ owned ! u64 (Is u64) (uint-makes 𝓤 H A W w64) l (vint w64 l ∷ []) (refl, is-l) $ fjoin ! $ nothing ! $ join ! $ frame ! $ done !
+  goes-left-after : (u : Folded) (uv : Val) (l : ℕ) → Is Fo.the-row u (uv ∷ []) → l < 2 ^ 64 → ent 𝓤 (sem 𝓤 H A ftrue) (met 𝓤 H A left-after.ended (left-after.clauses 𝓤 H A mem run) .pre (to-left-after u uv l))
+  goes-left-after u uv l is-u is-l = qed W (‵ ftrue ∷ []) ∵ owned ! u64 (Is u64) (uint-makes 𝓤 H A W w64) l (vint w64 l ∷ []) (refl, is-l) $ fjoin ! $ owned ! Fo.the-row (Is Fo.the-row) (LL.makes Fo.the-type Fo′.the-plain 𝓤 H A) u (uv ∷ []) is-u $ fjoin ! $ nothing ! $ join ! $ frame ! $ done !
 
   abbrev to-token-at : ℕ → met 𝓤 H A token-at.ended (token-at.clauses 𝓤 H A mem run) .Ghost
   to-token-at i = (((κ, tt), (q, tt), tt, (x, (i, tt)), (s ∷ [], (vint w64 i ∷ [], tt))), tt)
@@ -169,7 +169,7 @@ module _ {M : Type 1} (𝓤 : URA M) (H : Heap 𝓤) (A : Atoms 𝓤) (W : Given
   Nearer-wf : WellFounded Nearer
   Nearer-wf = InvImage·wf (λ (t : State). length (leftOf n ask ys j before (t .0))) (Nat·lt-wfRel .wf)
 
-  module _ (𝓣 : Tables 𝓤 H) (known-word-at : Triple 𝓤 (𝓣 .C #word-at) (met 𝓤 H A word-at.ended (word-at.clauses 𝓤 H A mem run))) (known-lowest-place : Triple 𝓤 (𝓣 .C #lowest-place) (met 𝓤 H A lowest-place.ended (lowest-place.clauses 𝓤 H A mem run))) (known-token-at : Triple 𝓤 (𝓣 .C #token-at) (met 𝓤 H A token-at.ended (token-at.clauses 𝓤 H A mem run))) (known-see-word : Triple 𝓤 (𝓣 .C #see-word) (met 𝓤 H A see-word.ended (see-word.clauses 𝓤 H A mem run))) (known-drop-lowest : Triple 𝓤 (𝓣 .C #drop-lowest) (met 𝓤 H A drop-lowest.ended (drop-lowest.clauses 𝓤 H A mem run))) (l₀ l₁ l₂ l₃ l₄ l₅ l₆ l₇ l₈ l₉ l₁₀ : ℕ) where
+  module _ (𝓣 : Tables 𝓤 H) (known-word-at : Triple 𝓤 (𝓣 .C #word-at) (met 𝓤 H A word-at.ended (word-at.clauses 𝓤 H A mem run))) (known-lowest-place : Triple 𝓤 (𝓣 .C #lowest-place) (met 𝓤 H A lowest-place.ended (lowest-place.clauses 𝓤 H A mem run))) (known-token-at : Triple 𝓤 (𝓣 .C #token-at) (met 𝓤 H A token-at.ended (token-at.clauses 𝓤 H A mem run))) (known-see-word : Triple 𝓤 (𝓣 .C #see-word) (met 𝓤 H A see-word.ended (see-word.clauses 𝓤 H A mem run))) (known-left-after : Triple 𝓤 (𝓣 .C #left-after) (met 𝓤 H A left-after.ended (left-after.clauses 𝓤 H A mem run))) (l₀ l₁ l₂ l₃ l₄ l₅ l₆ l₇ l₈ l₉ l₁₀ : ℕ) where
     abbrev En : Env 𝓤 H
     En = (Fo′.mir, l₀) ∷ (slice, l₁) ∷ (Q′.mir, l₂) ∷ (word, l₃) ∷ (Fo′.mir, l₄) ∷ (Fo′.mir, l₅) ∷ (word, l₆) ∷ (word, l₇) ∷ (narrow, l₈) ∷ (word, l₉) ∷ (tyBool, l₁₀) ∷ []
 
@@ -194,7 +194,7 @@ module _ {M : Type 1} (𝓤 : URA M) (H : Heap 𝓤) (A : Atoms 𝓤) (W : Given
         move ! (2 ∷ []) $ drop-item ! $ land ! (from ! (stop !)) (init ! 6 refl (uint-lawful 𝓤 H A W w32 .typed w _ is-w .0)) $ rewrite ! 6 (λ (z : Val). ‵ (fat fullShare narrow l₈ 0 z)) (ap only (uint-tells w32 w _ is-w)) refl $
         gives (fmOf 𝓤 H (W .laws) 𝓣) see-word.ended (see-word.clauses 𝓤 H A mem run) known-see-word (to-see-word (t .1) (t .2) ask qv w) (λ r. r ≡ seenNext (t .1) ask w) (λ r e. id⊢ 𝓤 _) ! (goes-see-word (t .1) (t .2) ask qv w (t .3 .1 .0) is-ask (is-w .1) (seeing-below n ask ys j before good (t .0) (t .1) (t .3 .1 .1) (t .3 .0) some, good .short, good .limited, t .3 .1 .1 .in-bounds)) (λ j. and-then ! (load ! (from ! (stop !)) (look ! 13 refl)) (and-then ! (load ! (from ! (stop !)) (look ! 19 refl)) (and-then ! (load ! (from ! (stop !)) (look ! 7 refl)) (no-more !)))) (λ u uv eu is-u.
         drop-item ! $ land ! (from ! (stop !)) (store ! 12 refl (LL.lawful Fo.the-type Fo′.the-laws 𝓤 H A W .typed u _ is-u .0)) $
-        gives (fmOf 𝓤 H (W .laws) 𝓣) drop-lowest.ended (drop-lowest.clauses 𝓤 H A mem run) known-drop-lowest (to-drop-lowest (t .0)) (λ r. r ≡ bitAnd (t .0) (t .0 - 1)) (λ r e. id⊢ 𝓤 _) ! (goes-drop-lowest (t .0) (t .3 .0)) (λ j. and-then ! (load ! (from ! (stop !)) (look ! 11 refl)) (no-more !)) (λ r rv er is-r.
+        gives (fmOf 𝓤 H (W .laws) 𝓣) left-after.ended (left-after.clauses 𝓤 H A mem run) known-left-after (to-left-after u uv (t .0)) (λ r. r ≡ leftIf (u .ended) (bitAnd (t .0) (t .0 - 1))) (λ r e. id⊢ 𝓤 _) ! (goes-left-after u uv (t .0) is-u (t .3 .0)) (λ j. and-then ! (load ! (from ! (stop !)) (look ! 13 refl)) (and-then ! (load ! (from ! (stop !)) (look ! 11 refl)) (no-more !))) (λ r rv er is-r.
         drop-item ! $ land ! (from ! (stop !)) (init ! 4 refl (uint-lawful 𝓤 H A W w64 .typed r _ is-r .0)) $ rewrite ! 4 (λ (z : Val). ‵ (fat fullShare word l₉ 0 z)) (ap only (uint-tells w64 r _ is-r)) refl $
         assigns-last ! (of-opd ! (load ! (from ! (stop !)) (look ! 4 refl))) (from ! (stop !)) (store ! 10 refl (tt, record { fits = is-r .1 })) $
         forget ! 2 refl $ forget ! 4 refl $ forget ! 6 refl $ forget ! 8 refl $
@@ -206,23 +206,23 @@ module _ {M : Type 1} (𝓤 : URA M) (H : Heap 𝓤) (A : Atoms 𝓤) (W : Given
     enters-loop : (t : State) → Sq W (At t) (runs (𝓣 .C) (𝓣 .Λ) En mir′.t-3 (atRet En Post))
     enters-loop t = first ! $ blocks ! $ loops ! 𝓣 Nearer Nearer-wf At turns t
 
-  module _ (𝓣 : Tables 𝓤 H) (known-word-at : Triple 𝓤 (𝓣 .C #word-at) (met 𝓤 H A word-at.ended (word-at.clauses 𝓤 H A mem run))) (known-lowest-place : Triple 𝓤 (𝓣 .C #lowest-place) (met 𝓤 H A lowest-place.ended (lowest-place.clauses 𝓤 H A mem run))) (known-token-at : Triple 𝓤 (𝓣 .C #token-at) (met 𝓤 H A token-at.ended (token-at.clauses 𝓤 H A mem run))) (known-see-word : Triple 𝓤 (𝓣 .C #see-word) (met 𝓤 H A see-word.ended (see-word.clauses 𝓤 H A mem run))) (known-drop-lowest : Triple 𝓤 (𝓣 .C #drop-lowest) (met 𝓤 H A drop-lowest.ended (drop-lowest.clauses 𝓤 H A mem run))) where
+  module _ (𝓣 : Tables 𝓤 H) (known-word-at : Triple 𝓤 (𝓣 .C #word-at) (met 𝓤 H A word-at.ended (word-at.clauses 𝓤 H A mem run))) (known-lowest-place : Triple 𝓤 (𝓣 .C #lowest-place) (met 𝓤 H A lowest-place.ended (lowest-place.clauses 𝓤 H A mem run))) (known-token-at : Triple 𝓤 (𝓣 .C #token-at) (met 𝓤 H A token-at.ended (token-at.clauses 𝓤 H A mem run))) (known-see-word : Triple 𝓤 (𝓣 .C #see-word) (met 𝓤 H A see-word.ended (see-word.clauses 𝓤 H A mem run))) (known-left-after : Triple 𝓤 (𝓣 .C #left-after) (met 𝓤 H A left-after.ended (left-after.clauses 𝓤 H A mem run))) where
     walk : ent 𝓤 (onEntry 𝓤 H A f.signature (κ, tt) (q, tt) a at) (WpFn 𝓤 H (𝓣 .C) (𝓣 .Λ) code.function (s ∷ qv ∷ vint w64 j ∷ fv ∷ []) Post)
     walk =
         qed W ((‵ (flft κ q) ⊛ ‵ ftrue) ∷ ‵ (owns (ShrSlice (named 0) κ R ∷ Q.the-row ∷ usize ∷ Fo.the-row ∷ []) a at) ∷ []) ∵ enter ! (𝓣 .C) (𝓣 .Λ) code.function (s ∷ qv ∷ vint w64 j ∷ fv ∷ []) _ $
         alloc1 ! (λ l₀. alloc1 ! (λ l₁. alloc1 ! (λ l₂. alloc1 ! (λ l₃. alloc1 ! (λ l₄. alloc1 ! (λ l₅. alloc1 ! (λ l₆. alloc1 ! (λ l₇. alloc1 ! (λ l₈. alloc1 ! (λ l₉. alloc1 ! (λ l₁₀. alloc0 ! $ params1 ! $
         pass1 ! (init ! 18 refl (tt, (tt, (record { fits = room .0 }, tt)))) $ pass1 ! (init ! 16 refl (LL.lawful Q.the-type Q′.the-laws 𝓤 H A W .typed ask _ is-ask .0)) $ pass1 ! (init ! 14 refl (tt, record { fits = j-fits })) $ pass1 ! (init ! 12 refl (LL.lawful Fo.the-type Fo′.the-laws 𝓤 H A W .typed before _ is-before .0)) $ pass0 ! $
         assigns ! (of-opd ! (load ! (from ! (stop !)) (look ! 12 refl))) (from ! (stop !)) (init ! 10 refl (LL.lawful Fo.the-type Fo′.the-laws 𝓤 H A W .typed before _ is-before .0)) $
-        gives (fmOf 𝓤 H (W .laws) 𝓣) word-at.ended (word-at.clauses 𝓤 H A mem run) known-word-at (to-word-at ask qv j) (λ r. r ≡ getD (ask .places) j 0) (λ r e. id⊢ 𝓤 _) ! (goes-word-at ask qv j is-ask j-fits (good .one-of-four)) (λ j. and-then ! (load ! (from ! (stop !)) (look ! 17 refl)) (and-then ! (load ! (from ! (stop !)) (look ! 15 refl)) (no-more !))) (λ r rv er is-r.
+        gives (fmOf 𝓤 H (W .laws) 𝓣) word-at.ended (word-at.clauses 𝓤 H A mem run) known-word-at (to-word-at ask qv j before fv) (λ r. r ≡ leftIf (before .ended) (getD (ask .places) j 0)) (λ r e. id⊢ 𝓤 _) ! (goes-word-at ask qv j before fv is-ask j-fits is-before (good .one-of-four)) (λ j. and-then ! (load ! (from ! (stop !)) (look ! 17 refl)) (and-then ! (load ! (from ! (stop !)) (look ! 15 refl)) (and-then ! (load ! (from ! (stop !)) (look ! 13 refl)) (no-more !)))) (λ r rv er is-r.
         drop-item ! $ land ! (from ! (stop !)) (init ! 8 refl (uint-lawful 𝓤 H A W w64 .typed r _ is-r .0)) $ rewrite ! 8 (λ (z : Val). ‵ (fat fullShare word l₆ 0 z)) (ap only (uint-tells w64 r _ is-r)) refl $
         move ! (23 ∷ []) $ fsplit ! $ move ! (24 ∷ []) $ split ! $
-        keep ! (2 ∷ 0 ∷ 4 ∷ 5 ∷ 6 ∷ 7 ∷ 8 ∷ 9 ∷ 10 ∷ 11 ∷ 12 ∷ 13 ∷ 14 ∷ 15 ∷ 16 ∷ 17 ∷ 18 ∷ 19 ∷ 20 ∷ 21 ∷ 22 ∷ 23 ∷ 24 ∷ 25 ∷ []) $ enters-loop 𝓣 known-word-at known-lowest-place known-token-at known-see-word known-drop-lowest l₀ l₁ l₂ l₃ l₄ l₅ l₆ l₇ l₈ l₉ l₁₀ (r, before, fv, (is-r .1, (is-before, seeing-start n ask ys j before good r er)))))))))))))))
+        keep ! (2 ∷ 0 ∷ 4 ∷ 5 ∷ 6 ∷ 7 ∷ 8 ∷ 9 ∷ 10 ∷ 11 ∷ 12 ∷ 13 ∷ 14 ∷ 15 ∷ 16 ∷ 17 ∷ 18 ∷ 19 ∷ 20 ∷ 21 ∷ 22 ∷ 23 ∷ 24 ∷ 25 ∷ []) $ enters-loop 𝓣 known-word-at known-lowest-place known-token-at known-see-word known-left-after l₀ l₁ l₂ l₃ l₄ l₅ l₆ l₇ l₈ l₉ l₁₀ (r, before, fv, (is-r .1, (is-before, seeing-start n ask ys j before good r er)))))))))))))))
 
-module _ {M : Type 1} (𝓤 : URA M) (H : Heap 𝓤) (A : Atoms 𝓤) (W : Given 𝓤 H A) (mem : Memory → SProp 𝓤) (run : Routine → Fun 𝓤) (𝓣 : Tables 𝓤 H) (known-word-at : Triple 𝓤 (𝓣 .C #word-at) (met 𝓤 H A word-at.ended (word-at.clauses 𝓤 H A mem run))) (known-lowest-place : Triple 𝓤 (𝓣 .C #lowest-place) (met 𝓤 H A lowest-place.ended (lowest-place.clauses 𝓤 H A mem run))) (known-token-at : Triple 𝓤 (𝓣 .C #token-at) (met 𝓤 H A token-at.ended (token-at.clauses 𝓤 H A mem run))) (known-see-word : Triple 𝓤 (𝓣 .C #see-word) (met 𝓤 H A see-word.ended (see-word.clauses 𝓤 H A mem run))) (known-drop-lowest : Triple 𝓤 (𝓣 .C #drop-lowest) (met 𝓤 H A drop-lowest.ended (drop-lowest.clauses 𝓤 H A mem run))) where
+module _ {M : Type 1} (𝓤 : URA M) (H : Heap 𝓤) (A : Atoms 𝓤) (W : Given 𝓤 H A) (mem : Memory → SProp 𝓤) (run : Routine → Fun 𝓤) (𝓣 : Tables 𝓤 H) (known-word-at : Triple 𝓤 (𝓣 .C #word-at) (met 𝓤 H A word-at.ended (word-at.clauses 𝓤 H A mem run))) (known-lowest-place : Triple 𝓤 (𝓣 .C #lowest-place) (met 𝓤 H A lowest-place.ended (lowest-place.clauses 𝓤 H A mem run))) (known-token-at : Triple 𝓤 (𝓣 .C #token-at) (met 𝓤 H A token-at.ended (token-at.clauses 𝓤 H A mem run))) (known-see-word : Triple 𝓤 (𝓣 .C #see-word) (met 𝓤 H A see-word.ended (see-word.clauses 𝓤 H A mem run))) (known-left-after : Triple 𝓤 (𝓣 .C #left-after) (met 𝓤 H A left-after.ended (left-after.clauses 𝓤 H A mem run))) where
   fold-word-walks : Walks 𝓤 H A f.ended stayed (WpFn 𝓤 H (𝓣 .C) (𝓣 .Λ) code.function) (f.clauses 𝓤 H A mem run)
   fold-word-walks = walked 𝓤 H A f.ended stayed (f.clauses 𝓤 H A mem run) (WpFn 𝓤 H (𝓣 .C) (𝓣 .Λ) code.function) (λ κs. (slice-vals, (LL.vals Q.the-type Q′.the-laws, (uint-vals w64, (LL.vals Fo.the-type Fo′.the-laws, tt))))) (λ κs. (shr-slice-tells (named 0) (κs .0) R, (LL.tells Q.the-type Q′.the-laws, (uint-tells w64, (LL.tells Fo.the-type Fo′.the-laws, tt)))))
       (λ κs qs bounds a g are. needs 𝓤 (WordGood (length (a .0 .now)) (a .1 .0) (a .1 .1 .0) (a .1 .1 .1 .0)) _
-      (λ good. walk 𝓤 H A W mem run (κs .0) (qs .0) (a .0 .ptr .0) (a .0 .ptr .1) (a .0 .name) (a .0 .now) (a .1 .0) (a .1 .1 .0) (a .1 .1 .1 .0) (are .0 .0 .1) (are .1 .0) (are .1 .1 .0 .1) (are .1 .1 .1 .0) good 𝓣 known-word-at known-lowest-place known-token-at known-see-word known-drop-lowest))
+      (λ good. walk 𝓤 H A W mem run (κs .0) (qs .0) (a .0 .ptr .0) (a .0 .ptr .1) (a .0 .name) (a .0 .now) (a .1 .0) (a .1 .1 .0) (a .1 .1 .1 .0) (are .0 .0 .1) (are .1 .0) (are .1 .1 .0 .1) (are .1 .1 .1 .0) good 𝓣 known-word-at known-lowest-place known-token-at known-see-word known-left-after))
 
   fold-word-meets : Meets 𝓤 H A f.signature (WpFn 𝓤 H (𝓣 .C) (𝓣 .Λ) code.function) (f.spec 𝓤 H A mem run)
   fold-word-meets =
@@ -239,4 +239,4 @@ fold-word-spec 𝓤 H 𝓜 𝓖 𝓡 =
     (cited 𝓤 H (tripleOf 𝓤 H (𝓖 .A) lowest-place.signature (lowest-place.spec 𝓤 H (𝓖 .A) (𝓜 .mem) (𝓡 .run))) 𝓜 𝓡 code.env #lowest-place lowest-place-def.routine code.calls-pool·asked·lowest-place (lowest-place-thm.met 𝓤 H 𝓜 𝓖 𝓡))
     (cited 𝓤 H (tripleOf 𝓤 H (𝓖 .A) token-at.signature (token-at.spec 𝓤 H (𝓖 .A) (𝓜 .mem) (𝓡 .run))) 𝓜 𝓡 code.env #token-at token-at-def.routine code.calls-pool·tokens·token-at (token-at-thm.met 𝓤 H 𝓜 𝓖 𝓡))
     (cited 𝓤 H (tripleOf 𝓤 H (𝓖 .A) see-word.signature (see-word.spec 𝓤 H (𝓖 .A) (𝓜 .mem) (𝓡 .run))) 𝓜 𝓡 code.env #see-word see-word-def.routine code.calls-pool·asked·see-word (see-word-thm.met 𝓤 H 𝓜 𝓖 𝓡))
-    (cited 𝓤 H (tripleOf 𝓤 H (𝓖 .A) drop-lowest.signature (drop-lowest.spec 𝓤 H (𝓖 .A) (𝓜 .mem) (𝓡 .run))) 𝓜 𝓡 code.env #drop-lowest drop-lowest-def.routine code.calls-bitset·word·drop-lowest (drop-lowest-thm.met 𝓤 H 𝓜 𝓖 𝓡)))
+    (cited 𝓤 H (tripleOf 𝓤 H (𝓖 .A) left-after.signature (left-after.spec 𝓤 H (𝓖 .A) (𝓜 .mem) (𝓡 .run))) 𝓜 𝓡 code.env #left-after left-after-def.routine code.calls-pool·asked·left-after (left-after-thm.met 𝓤 H 𝓜 𝓖 𝓡)))

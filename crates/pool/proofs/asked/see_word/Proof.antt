@@ -22,17 +22,11 @@ add-t11 c = search word-sum-fits
 add-t9 : tie.Need-add-t9
 add-t9 c = search needs
 
+is-short-requires : tie.Need-is-short-requires
+is-short-requires c κs = search needs
+
 returns : tie.Need-returns
 returns c = search word-seen
 
 pub see-word-spec : {M : Type 1} → statement M
-see-word-spec =
-    tie.close
-    (tie.spec
-    requested-requires
-    stage-with-requires
-    failed-with-requires
-    moved-of-requires
-    add-t11
-    add-t9
-    returns)
+see-word-spec = tie.close (tie.spec requested-requires stage-with-requires failed-with-requires moved-of-requires add-t11 add-t9 is-short-requires returns)

@@ -4,9 +4,6 @@ use borrow.Author.Needs.{needs}
 use Rattle.pool.proofs.laying.chunk_record.Statement.{statement}
 use Rattle.pool.proofs.laying.chunk_record.Tie as tie
 
-next-at-requires : tie.Need-next-at-requires
-next-at-requires c κs = search needs
-
 cast-limit : tie.Need-cast-limit
 cast-limit c = search needs
 
@@ -19,11 +16,17 @@ mul-start c = search needs
 chunk-length-requires : tie.Need-chunk-length-requires
 chunk-length-requires c κs = search needs
 
+next-at-requires : tie.Need-next-at-requires
+next-at-requires c κs = search needs
+
 at-end-requires : tie.Need-at-end-requires
 at-end-requires c κs = search needs
 
 chunk-token-requires : tie.Need-chunk-token-requires
 chunk-token-requires c κs = search needs
+
+alternate-of-requires : tie.Need-alternate-of-requires
+alternate-of-requires c κs = search needs
 
 word-requires : tie.Need-word-requires
 word-requires c κs = search needs
@@ -38,17 +41,4 @@ returns : tie.Need-returns
 returns c = search chunk-laid
 
 pub chunk-record-spec : {M : Type 1} → statement M
-chunk-record-spec =
-    tie.close
-    (tie.spec
-    next-at-requires
-    cast-limit
-    cast-start
-    mul-start
-    chunk-length-requires
-    at-end-requires
-    chunk-token-requires
-    word-requires
-    add-page-slots
-    page-slots-requires
-    returns)
+chunk-record-spec = tie.close (tie.spec cast-limit cast-start mul-start chunk-length-requires next-at-requires at-end-requires chunk-token-requires word-requires alternate-of-requires add-page-slots page-slots-requires returns)

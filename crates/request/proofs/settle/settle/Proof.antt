@@ -1,5 +1,5 @@
 -- `request::settle::settle` meets its contract.
-use Rattle.request.proofs.WordsCases.{rows-ready, settled, setup-room, setups-below}
+use Rattle.request.proofs.WordsCases.{areas-below, rows-ready, settled, setup-room}
 use Rattle.request.proofs.WordsSettle.{short-length, slot-room}
 use borrow.Author.Needs.{needs}
 use Rattle.request.proofs.settle.settle.Statement.{statement}
@@ -32,7 +32,7 @@ put-request-requires c κs =
 accepted-requires : tie.Need-accepted-requires
 accepted-requires c κs =
     let b = c .before .before .before .before .before .before .before .before .before .before .before .before .before .before .before .before .before .before .before .before .before .before .before in
-    setups-below (b .args .core .settings) (b .args .core .rest) (b .args .slots .now) (b .args .slot) (b .args .t) (b .pre .0) (b .pre .1 .1 .1)
+    areas-below (b .args .core .settings) (b .args .core .rest) (b .args .slots .now) (b .args .slot) (b .args .t) (b .pre .0) (b .pre .1 .1 .1)
 
 same-length : tie.Need-same-length
 same-length c = search needs

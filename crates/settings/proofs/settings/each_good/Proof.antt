@@ -8,14 +8,17 @@ use Rattle.settings.proofs.settings.area_good.Reads as area-good-reads
 cast-endpoints : tie.Need-cast-endpoints
 cast-endpoints c = search needs
 
+add-area-good : tie.Need-add-area-good
+add-area-good c = search needs
+
 mul-area-good : tie.Need-mul-area-good
 mul-area-good c = search needs
 
 area-good-requires : tie.Need-area-good-requires
 area-good-requires c κs = search needs
 
-add-area-good : tie.Need-add-area-good
-add-area-good c = search needs
+add-area-good-2 : tie.Need-add-area-good-2
+add-area-good-2 c = search needs
 
 mul-area-good-2 : tie.Need-mul-area-good-2
 mul-area-good-2 c = search needs
@@ -40,9 +43,10 @@ each-good-spec =
     tie.close
     (tie.spec
     cast-endpoints
+    add-area-good
     mul-area-good
     area-good-requires
-    add-area-good
+    add-area-good-2
     mul-area-good-2
     area-good-requires-2
     area-good-requires-3

@@ -8,6 +8,9 @@ use Rattle.settings.proofs.settings.apart.Reads as apart-reads
 cast-endpoints : tie.Need-cast-endpoints
 cast-endpoints c = search needs
 
+add-pool : tie.Need-add-pool
+add-pool c = search needs
+
 mul-pool : tie.Need-mul-pool
 mul-pool c = search needs
 
@@ -46,6 +49,7 @@ no-overlap-spec =
     tie.close
     (tie.spec
     cast-endpoints
+    add-pool
     mul-pool
     add-heads
     mul-heads

@@ -8,7 +8,7 @@ abbrev Inv-loop : tie.InvT-loop
 Inv-loop pool all₀ k₀ all k = Unit {0}
 
 abbrev μ-loop : tie.MeasureT-loop
-μ-loop pool all₀ k₀ all k = 257 - k
+μ-loop pool all₀ k₀ all k = 258 - k
 
 loop-holds : tie.Need-loop-holds Inv-loop μ-loop
 loop-holds c = search needs

@@ -1,0 +1,79 @@
+"""The logs of examples/ that the model writes, and call by call what is printed of them beside another build (`tools/cases` writes
+them): the short reply of 02's order 1. The blocks of the build without that order, examples/short-reply.base.blocks, are that
+build's model's, and nobody writes them."""
+
+import os
+
+from log_cases import acknowledge, collect, drain, endpoint, started, submit, writeback
+from model.blocks import replay
+from model.tokens import BULK
+
+TOP = os.path.dirname(os.path.dirname(os.path.abspath(__file__)))
+SHORT_REPLY = "examples/short-reply"
+BASE = SHORT_REPLY + ".base.blocks"
+SHORT_CALLS = {
+    0: "opening: D 64",
+    8: "open endpoint: bulk, address 5, number 1, packet size 512",
+    9: "submit on slot 0: In, 1,048,576 bytes",
+    10: "writeback of place 0: inactive, 13,384 bytes left",
+    11: "collect slot 0",
+    12: "acknowledge, USBSTS 0x20: an advance",
+    13: "drain",
+    14: "collect slot 0",
+}
+SHORT_HEAD = """\
+The short reply: a megabyte is asked for, and the camera answers 3,000 bytes.
+
+short-reply.log opens a controller (call 0), brings it up (calls 1 to 7), and goes on as below. Each block is what replay prints of
+its call, as the model of 01 (tools/model) has it:
+  port    this build
+  base    the build without 02's order 1
+A P line is a descriptor: place, next, alternate, token, page slots, upper slots; ".." stands for P lines that are left out. "all"
+stands where the two are the same. The two outputs are whole in short-reply.port.blocks and .base.blocks. Written by tools/cases.
+
+The request has 64 descriptors of 16,384 bytes (call 9). Five packets of 512 bytes and one of 440 come: the first descriptor is
+inactive, and 13,384 (0x3448) of its bytes are left (call 10). A packet that is shorter than 512 ends the reply.
+
+In this build the alternate of every descriptor but the last is the address of place 64, 00101000. The descriptor there is
+inactive (call 0: next and alternate 1, token 0), so the controller stops after the short packet. The request is finished: call 11
+unlinks it and rings, and once the ring is answered (calls 12 and 13) call 14 gives the length, 3,000, and frees all 64 places.
+
+In the base the alternate is 1, so the controller goes on with place 1. Nothing comes for it, and it stays active; the request waits
+for it, and collect answers 9 for ever (calls 11 and 14). Nobody has rung, so the advance of call 12 is not noted. A cancel would end
+the request, with 10 and no length.
+"""
+
+
+def short_reply():
+    ask = submit(0, BULK, address=0x10000000, length=64 * 16384, command=0x80031)
+    calls = started(D=64, E=2) + [endpoint(BULK), ask, writeback(0, 0x34480D00), collect(0, command=0x80031)]
+    return b"".join(calls + [acknowledge(0x20), drain(0x80031), collect(0, command=0x80031)])
+
+
+def shortened(lines):
+    """Of more than four P lines the first two and the last two."""
+    places = [at for at, line in enumerate(lines) if line.startswith("P ")]
+    if len(places) <= 4:
+        return lines
+    return lines[: places[2]] + [".."] + lines[places[-2] :]
+
+
+def beside(head, calls, texts):
+    """A head; then of each call what the sides printed, `all` where that is the same."""
+    out = [head]
+    sides = [(name, text.split(".\n")[:-1]) for name, text in texts.items()]
+    for call, words in calls.items():
+        out.append(f"\ncall {call}: {words}\n")
+        same = len({side[call] for _, side in sides}) == 1
+        for name, side in [("all", sides[0][1])] if same else sides:
+            out += [f"  {name:<7} {line}\n" for line in shortened(side[call].splitlines())]
+    return "".join(out)
+
+
+def files():
+    """The stored examples, by their names in the repository."""
+    log = short_reply()
+    with open(os.path.join(TOP, BASE)) as file:
+        texts = {"port": replay(log), "base": file.read()}
+    made = {".log": log, ".port.blocks": texts["port"].encode(), ".txt": beside(SHORT_HEAD, SHORT_CALLS, texts).encode()}
+    return {SHORT_REPLY + ending: data for ending, data in made.items()}
