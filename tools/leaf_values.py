@@ -8,7 +8,7 @@ from itertools import product
 
 from model import descriptors, registers, tokens
 from model.registers import field, port_register, with_field
-from model.tokens import BULK, IN, OUT, Part, token
+from model.tokens import BULK, CONTROL, IN, OUT, Part, token
 
 FLAGS, BACKGROUNDS, TOP = (0, 1), (0, 2**32 - 1), 2**32
 
@@ -54,6 +54,11 @@ def chunked(kind, length, limit, shown):
 
 def one_chunk(k, length, limit):
     return [tokens.chunk_length(k, length, limit)]
+
+
+def working_limit(kind, limit, size):
+    """02, order 4. The only multiple of size 0 is 0; no endpoint has that size."""
+    return [tokens.working_limit(kind, limit, size) if size or kind == CONTROL else 0]
 
 
 def port(raw):
@@ -154,6 +159,10 @@ EDGES = (2**16, 2**31, 2**32 - 2, 2**32 - 1)
 LENGTHS = (0, 1, 1000, 61441, 2**32 - 1, 2**32, 2**63, 2**64 - 2**33, 2**64 - 2**33 + 1, 2**64 - 1)
 SINGLE = list(product((0, 1, 2, 256, *EDGES), LENGTHS, (0, 1, 512, 20480, *EDGES)))
 
+# Limits and packet sizes: 01's own and beside them, sizes that divide and those that do not, above the limit, none, the largest.
+LIMITS = (0, 1, 7, 8, 511, 512, 513, 1000, 1023, 1024, 1025, 16383, 16384, 20480, 2**32 - 1, 2**32, 2**63, 2**64 - 1)
+SIZES = (0, 1, 2, 3, 7, 8, 64, 500, 511, 512, 513, 1000, 1023, 1024, 1025, 2**32, 2**64 - 1)
+
 TABLE = [
     (1, bits, [(v, c & d) for v, c, d in drawn(WORD, WORD, WORD)] + [(1 << k, 1 << j) for k, j in product((0, 31), (0, 31))]),
     (2, made, list(product(range(3), (0, 1, 512, 32766, 32767, 32768, 2**64 - 1), FLAGS, FLAGS))),
@@ -177,6 +186,7 @@ TABLE = [
     (17, writes, [(0,), (TOP - 1,)]),
     (18, tables, [()]),
     (19, order, [()]),
+    (20, working_limit, list(product(range(4), LIMITS, SIZES)) + drawn((0, 4), (1, 16385), (1, 1025))),
 ]  # fmt: skip
 
 

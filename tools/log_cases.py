@@ -1,7 +1,7 @@
 """The logs that the programs `replay` and `replay_cases` are run on, and what they must print (`tools/cases` writes both).
 
 For `replay` scripts of calls, each from an opening of its own, written for 01's rules one by one, some drawn by chance, then for
-02's order 1.
+02's orders 1 and 4.
 For `replay_cases` many logs: a record bad in each way for each call, cut anywhere, calls before any opening, openings refused
 and accepted in turn, empty logs. What is printed is the model's (model/blocks.py)."""
 
@@ -102,13 +102,14 @@ def submits():
     calls += [submit(1, BULK, address=2**32, length=1), submit(1, BULK, address=2**64 - 1, length=2**64 - 1), submit(1, BULK, length=6 * 16384), submit(1, BULK, address=2**40, length=0)]
     calls += [submit(1, BULK), submit(0, CONTROL, 1, length=18), submit(2, INTERRUPT, length=1), submit(0, BULK), submit(2, INTERRUPT, length=16385)]
     yield calls
-    for C, lengths in ((1, (0, 1, 5)), (512, (511, 512, 513, 1024)), (4097, (4096, 4097, 4098, 12292)), (16384, (16383, 16384, 16385, 40000))):
-        calls = started(C=C, D=8) + [endpoint(BULK), endpoint(INTERRUPT)]
+    # packet sizes that divide C
+    for C, packet, lengths in ((1, 1, (0, 1, 5)), (512, 512, (511, 512, 513, 1024)), (4097, 241, (4096, 4097, 4098, 12292)), (16384, 512, (16383, 16384, 16385, 40000))):
+        calls = started(C=C, D=8) + [endpoint(BULK, packet=packet), endpoint(INTERRUPT, packet=packet)]
         for length in lengths:
             calls += [submit(0, BULK, 0, length=length, command=0xFFFFFFFF), submit(1, INTERRUPT, length=length), cancel(0), cancel(1)] + answered()
             calls += [collect(0, 1 + lengths.index(length)), collect(1, 1 + lengths.index(length), frame=9)]
         yield calls
-    yield started(D=256, E=1, C=64) + [endpoint(BULK), submit(0, BULK, address=0xFFFFC000, length=16384), submit(0, BULK), cancel(0)] + answered() + [collect(0), submit(0, BULK, length=64 * 256 + 1)]
+    yield started(D=256, E=1, C=64) + [endpoint(BULK, packet=64), submit(0, BULK, address=0xFFFFC000, length=16384), submit(0, BULK), cancel(0)] + answered() + [collect(0), submit(0, BULK, length=64 * 256 + 1)]
     calls = started(D=7, E=3) + [endpoint(BULK), endpoint(BULK), endpoint(CONTROL)]
     calls += [submit(0, BULK), submit(1, BULK, length=16385), submit(2, CONTROL, 0, length=0), cancel(0), cancel(2)] + answered() + answered() + [collect(0), collect(2)]
     yield calls + [submit(0, BULK, length=16384 * 3), submit(2, CONTROL, 0, length=5)]
@@ -156,7 +157,7 @@ def reasons():
 def tokens():
     """Each bit of a token, alone, on each kind; two that err; an active one before and after."""
     for kind, places in ((CONTROL, 3), (BULK, 2), (INTERRUPT, 2)):
-        calls, id = started(C=64) + [endpoint(kind)], 0
+        calls, id = started(C=64) + [endpoint(kind, packet=64)], 0
         words = [[1 << bit] * places for bit in range(32)]
         words += [[0x00400008, 0x00200040], [0x00000080, 0x00000008], [0x00000008, 0x00000080], [0x00100010, 0x00080000], [0, 0x00050000]]
         for line in words:
@@ -192,9 +193,9 @@ def told(kind, id, tokens, direction=1, length=246):
     return calls + answered() + [collect(0, id, frame=frame) for frame in ((8, 9) if kind == INTERRUPT else (0,))]
 
 
-def lives(kind, cases, **asked):
+def lives(kind, cases, C=64, packet=64, **asked):
     """One request after the other. One that waits on is cancelled and collected."""
-    calls, keeper = started(C=64, E=1) + [endpoint(kind)], Replay()
+    calls, keeper = started(C=C, E=1) + [endpoint(kind, packet=packet)], Replay()
     for id, tokens in enumerate(cases, 1):
         calls += told(kind, id, tokens, **asked)
         for call in calls[keeper.count :]:
@@ -252,20 +253,20 @@ def short_replies():
     yield lives(CONTROL, [(at(0x00080E00), at(0x00080E00, 0)), (at(0x00080E00, 8),)], length=0)
     # cancelled: before it ends short, after it, and between its unlink and its collection
     asked, short = submit(0, BULK, length=246), writeback(0, left(10))
-    calls = started(C=64) + [endpoint(BULK), asked, cancel(0), short, collect(0)] + answered() + [collect(0), asked, short, cancel(0, 2)] + answered()
+    calls = started(C=64) + [endpoint(BULK, packet=64), asked, cancel(0), short, collect(0)] + answered() + [collect(0), asked, short, cancel(0, 2)] + answered()
     yield calls + [collect(0, 2), asked, short, collect(0, 3), cancel(0, 3)] + answered() + [collect(0, 3)]
 
 
 def extra_records():
     """The record at place D: nobody's, whoever has the others. As many places as ever are free."""
     for D in (1, 2, 63, 64, 65, 256):
-        calls = started(D=D, E=2, C=64) + [endpoint(BULK), endpoint(INTERRUPT), writeback(D, 1), submit(0, BULK, length=64 * (D + 1)), submit(0, BULK, length=64 * D)]
+        calls = started(D=D, E=2, C=64) + [endpoint(BULK, packet=64), endpoint(INTERRUPT, packet=64), writeback(D, 1), submit(0, BULK, length=64 * (D + 1)), submit(0, BULK, length=64 * D)]
         calls += [writeback(place, 0x80000000) for place in (D - 1, D, D + 1, 255, 256, 257)] + [submit(1, INTERRUPT, length=1), writeback(0, left(4)), collect(0)]
         yield calls + answered() + [collect(0), submit(1, INTERRUPT, length=64 * D), writeback(D, left(4)), cancel(1), collect(1, frame=9)]
     # the last record of memory
-    yield started(C=64, areas=(2**32 - 320, *AREAS[1:])) + [endpoint(BULK), submit(0, BULK, length=246), writeback(4, 1), writeback(0, left(64)), collect(0)] + answered() + [collect(0)]
+    yield started(C=64, areas=(2**32 - 320, *AREAS[1:])) + [endpoint(BULK, packet=64), submit(0, BULK, length=246), writeback(4, 1), writeback(0, left(64)), collect(0)] + answered() + [collect(0)]
     # places that are not neighbours, across an earlier request; then openings of fewer and of more descriptors
-    calls = started(D=8, E=3, C=64) + [endpoint(BULK)] * 3 + [submit(0, BULK, length=1), submit(1, BULK, length=65), submit(2, BULK, 0, length=65), cancel(0)]
+    calls = started(D=8, E=3, C=64) + [endpoint(BULK, packet=64)] * 3 + [submit(0, BULK, length=1), submit(1, BULK, length=65), submit(2, BULK, 0, length=65), cancel(0)]
     yield calls + answered() + [collect(0), submit(0, BULK, length=300), submit(0, BULK, length=129), opening(D=3), opening(D=8), opening(D=9), opening(D=7)]
 
 
@@ -281,6 +282,106 @@ def area_ends():
         yield [opening(D=2)] + [call for areas in places for call in (opening(D=D, areas=areas), record(ADDRESS))]
     # numbers of records whose bytes, or of which one more, do not fit in 64 bits
     yield [opening(D=2)] + [call for D in (2**58 - 2, 2**58 - 1, 2**58, 2**64 - 2, 2**64 - 1) for call in (opening(D=D), record(ADDRESS))]
+
+
+# ---- 02, order 4: packet sizes that do not divide C, that are C, and above it
+
+
+def done_with(slot, id, count, kind):
+    """The request's descriptors at the first places are done; it is collected."""
+    calls = [writeback(place, 0) for place in range(count)] + [collect(slot, id)]
+    return calls + (answered() + [collect(slot, id)] if kind != INTERRUPT else [collect(slot, id, frame=9)])
+
+
+def about(limit, C):
+    """Lengths about the chunks' ends by the limit, and about those by C."""
+    return sorted({0, 1, *(n * at + more for at in (limit, C) for n in (1, 2) for more in (-1, 0, 1))})
+
+
+def packet_ends():
+    """Requests of each kind and direction, about the ends of their chunks, each of at most four."""
+    sizes = ((1000, 512), (1000, 500), (1000, 501), (1000, 1000), (513, 512), (7, 3), (5, 3), (1, 1), (15, 8), (4097, 512), (16384, 7), (16383, 1024))
+    for i, (C, packet) in enumerate(sizes):
+        kinds = (BULK, INTERRUPT, CONTROL) if i == 0 else (BULK, INTERRUPT)[i % 2 :][:1]
+        for kind in kinds:
+            calls, id = started(C=C, D=4) + [endpoint(kind, packet=packet)], 0
+            for length in about(C - C % packet, C):
+                id += 1
+                calls += [submit(0, kind, (id + i) % 2, length=length)] + done_with(0, id, max(1, -(-length // (C - C % packet))) if kind != CONTROL else 3, kind)
+            yield calls
+    # the last bytes of memory
+    yield started(C=1000, D=5) + [endpoint(BULK), submit(0, BULK, address=2**32 - 2100, length=2100)] + done_with(0, 1, 5, BULK)
+
+
+def packet_rooms():
+    """Requests of as many chunks as there are descriptors, of one more, and of as many by C."""
+    for D, C, packet, limit in ((1, 1000, 512, 512), (6, 1000, 512, 512), (3, 16384, 7, 16380), (256, 16384, 7, 16380), (256, 1000, 512, 512), (256, 5, 3, 3)):
+        calls = started(D=D, E=2, C=C) + [endpoint(BULK, packet=packet), endpoint(INTERRUPT, packet=packet)]
+        for length in (D * limit + 1, D * C, (D + 1) * limit, D * limit):
+            calls.append(submit(0, BULK, address=0, length=length))
+        yield calls + [submit(1, INTERRUPT, length=0), cancel(0)] + answered() + [collect(0), submit(1, INTERRUPT, address=0, length=(D - 1) * limit + 1)]
+    # what others have, of other sizes
+    calls = started(D=8, E=4, C=1000) + [endpoint(BULK, packet=512), endpoint(BULK, packet=1000), endpoint(INTERRUPT, packet=300), endpoint(CONTROL, packet=1024)]
+    calls += [submit(0, BULK, length=1000), submit(1, BULK, length=1000), submit(3, CONTROL, length=3000), submit(2, INTERRUPT, length=1801), submit(2, INTERRUPT, length=1800)]
+    yield calls + [cancel(0)] + answered() + [collect(0), submit(0, BULK, length=1025), submit(0, BULK, length=1024)]
+
+
+def packet_openings():
+    """Sizes about C, for each kind; every set of reasons to refuse one."""
+    for C in (1, 2, 7, 8, 9, 64, 1000, 1023, 1024, 1025, 16384):
+        sizes = sorted({0, 1, C - 1, C, C + 1, 1023, 1024, 1025, 65535} & {*range(65536)})
+        calls = started(C=C, E=2)
+        for kind in (BULK, INTERRUPT, CONTROL, ISOCHRONOUS):
+            for packet in sizes:
+                calls += [endpoint(kind, packet=packet), record(CLOSE, (0,))]
+        yield calls
+    for full in (False, True):
+        for kind in (CONTROL, ISOCHRONOUS, BULK, INTERRUPT):
+            calls = [opening(E=1, C=8)] + ([endpoint(CONTROL, packet=8)] if full else [])
+            for address, number, packet in ((127, 15, 9), (128, 15, 9), (127, 16, 9), (127, 15, 8), (128, 15, 8)):
+                calls.append(endpoint(kind, address, number, packet))
+            yield calls
+
+
+def packet_sets():
+    """Set packet size about C, in each state of a slot; sizes below 8 are raised before they are judged."""
+    for C in (1, 7, 8, 9, 100, 254, 255, 256):
+        for kind in (BULK, INTERRUPT, CONTROL):
+            calls = started(C=C, E=2) + [endpoint(kind, packet=1)]
+            for size in sorted({0, 1, 7, 8, 9, C - 1, C, C + 1, 254, 255} & {*range(256)}):
+                calls.append(record(SET_PACKET, (0, size)))
+            # one that is not open; a busy one, whatever the size
+            calls += [record(SET_PACKET, (k, size)) for k in (1, 2, 255) for size in (8, 255)] + [submit(0, kind, length=C + 1)]
+            calls += [record(SET_PACKET, (0, size)) for size in (8, 255)] + [cancel(0)] + [record(SET_PACKET, (0, size)) for size in (8, 255)]
+            yield calls + answered() + [collect(0, frame=9), record(SET_PACKET, (0, 255)), record(CLOSE, (0,)), record(SET_PACKET, (0, 8))]
+
+
+def packet_changes():
+    """Sizes that are set between requests, some of them refused, and slots that are closed and opened again: each request is cut by its own."""
+    for kind in (BULK, INTERRUPT):
+        calls, id = started(C=100, D=16, E=2) + [endpoint(kind, packet=64)], 0
+        for size in (None, 33, 101, 7, 8, 255, 50, 51, 100, 99, 3):
+            id += 1
+            calls += [] if size is None else [record(SET_PACKET, (0, size)), record(SET_ADDRESS, (0, id))]
+            calls += [submit(0, kind, id % 2, length=250)] + done_with(0, id, 5, kind)
+        for packet in (3, 100, 101, 1):
+            calls += [record(CLOSE, (0,)), endpoint(kind, packet=packet), submit(0, kind, length=250)] + done_with(0, 1, 3, kind)
+        yield calls
+    # two slots of two sizes; the lower one is closed, opened with another kind and size, and the higher one keeps its own
+    calls = started(C=100, D=16, E=2) + [endpoint(BULK, packet=60), endpoint(BULK, packet=40), submit(0, BULK, length=130), submit(1, BULK, length=130)]
+    calls += [cancel(0), cancel(1)] + answered() * 2 + [collect(0), collect(1), record(CLOSE, (0,)), submit(1, BULK, length=130), endpoint(CONTROL, packet=1000)]
+    calls += [submit(0, CONTROL, length=130), record(CLOSE, (1,)), cancel(1, 2)] + answered() + [collect(1, 2), record(CLOSE, (1,)), endpoint(INTERRUPT, packet=70)]
+    yield calls + [submit(1, INTERRUPT, length=130), opening(C=50), opening(C=100)]
+
+
+def packet_shorts():
+    """Short replies under a limit that the size does not divide: chunks of 64, of 48 and of 99."""
+    yield lives(BULK, SHORT, C=100)
+    yield lives(INTERRUPT, SHORT[::3], C=127)
+    yield lives(BULK, [(at(*[IN_ALL] * place, left(n)),) for place in range(4) for n in (1, 38, 48, 49)] + [(at(*[IN_ALL] * 4),)], C=64, packet=24, length=182)
+    yield lives(INTERRUPT, [(at(left(n)),) for n in (0, 1, 99, 100)] + [(at(IN_ALL, left(1)),), (at(left(2), left(1)),)], C=100, packet=33, length=100)
+    yield lives(BULK, [(at(left(10), 0, 0, 0),), (at(0, left(64), left(65), left(54)),), (at(left(5), 0x40),)], C=100, direction=0)
+    yield lives(CONTROL, [(at(0x00000E00, 0x800A0D00, 0x80008C00),)], C=8, packet=512, length=18)
 
 
 def unlinks():
@@ -325,7 +426,12 @@ def scans():
         yield calls + [record(SCAN), record(SCAN_STEP, (), (1,)), record(SCAN), record(SCAN_STEP, (), (0,))]
 
 
-def drawn(seed, count):
+# of each limit the packet sizes that calls by chance open endpoints with: those that divide it, and others, up to one above it
+EVEN = {1: (1, 1, 2), 64: (8, 64, 64), 4096: (8, 64, 1024), 16384: (8, 64, 1024)}
+UNEVEN = {3: (1, 2, 3, 4), 9: (8, 9, 10), 100: (7, 64, 99, 101), 1000: (8, 512, 1000, 1001), 16384: (7, 48, 1023)}
+
+
+def drawn(seed, count, sizes=EVEN):
     """Calls by chance, with the model at hand so that many are accepted."""
     draw, keeper, calls = random.Random(seed), Replay(), []
     E, D = draw.choice([1, 2, 4, 8]), draw.choice([1, 3, 8, 20])
@@ -334,7 +440,8 @@ def drawn(seed, count):
         calls.append(call)
         keeper.block(call)
 
-    for call in started(D=D, E=E, C=draw.choice([1, 64, 4096, 16384])):
+    C = draw.choice([*sizes])
+    for call in started(D=D, E=E, C=C):
         make(call)
     for _ in range(count):
         k, state = draw.randrange(E + 1), keeper.world.state
@@ -346,7 +453,7 @@ def drawn(seed, count):
         size = draw.choice([0, 1, state.settings.C, 2 * state.settings.C + 1, draw.randrange(200)])
         make(
             draw.choice(
-                [endpoint(draw.choice([0, 2, 2, 3]), draw.randrange(130), draw.randrange(17), draw.choice([8, 64, 1024]))]
+                [endpoint(draw.choice([0, 2, 2, 3]), draw.randrange(130), draw.randrange(17), draw.choice(sizes[C]))]
                 + [submit(k, kind, draw.randrange(2), None if draw.random() < 0.9 else draw.randrange(2**48) if kind == CONTROL else 0, draw.choice([0x1000, 0xFFFFF000, 0x2000FFF]), size, command)] * 4
                 + [writeback(p, draw.choice([0, 0x80, 8, 0x40, 0x10000, draw.randrange(2**32)])) for p in (state.places_of(k) if held else [draw.randrange(D + 1)])[:3]] * 2
                 + [cancel(k, id, command, frame), collect(k, id, command, frame), collect(k, id, command, frame), collect(k, id, command, frame)]
@@ -365,8 +472,10 @@ def scripts():
         yield from family()
     for seed in range(20):
         yield drawn(seed, 60)
-    for family in (short_replies, extra_records, area_ends):
+    for family in (short_replies, extra_records, area_ends, packet_ends, packet_rooms, packet_openings, packet_sets, packet_changes, packet_shorts):
         yield from family()
+    for seed in range(200, 210):
+        yield drawn(seed, 60, UNEVEN)
 
 
 def changed(record, at, value):
@@ -442,6 +551,7 @@ def logs():
         for call in calls:
             yield [after, changed(call, draw.randrange(64), draw.choice([0, 1, 2, 3, 128, 255]))]
     yield from [*short_replies()][:1] + [*extra_records()][:2] + [*area_ends()]
+    yield from [*packet_ends()][:1] + [*packet_openings()][:2] + [*packet_sets()][3:6] + [*packet_changes()]
     yield []
 
 

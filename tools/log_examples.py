@@ -1,6 +1,6 @@
 """The logs of examples/ that the model writes, and call by call what is printed of them beside another build (`tools/cases` writes
-them): the short reply of 02's order 1. The blocks of the build without that order, examples/short-reply.base.blocks, are that
-build's model's, and nobody writes them."""
+them): the short reply of 02's order 1 and the packet's end of its order 4. The blocks of the build without that order, `.base.blocks`,
+are that build's model's, and nobody writes them."""
 
 import os
 
@@ -9,8 +9,6 @@ from model.blocks import replay
 from model.tokens import BULK
 
 TOP = os.path.dirname(os.path.dirname(os.path.abspath(__file__)))
-SHORT_REPLY = "examples/short-reply"
-BASE = SHORT_REPLY + ".base.blocks"
 SHORT_CALLS = {
     0: "opening: D 64",
     8: "open endpoint: bulk, address 5, number 1, packet size 512",
@@ -44,16 +42,64 @@ the request, with 10 and no length.
 """
 
 
+PACKET_CALLS = {
+    0: "opening: D 8, C 1000",
+    8: "open endpoint: bulk, address 5, number 1, packet size 512",
+    9: "submit on slot 0: Out, 3,000 bytes",
+    10: "writeback of place 0: inactive, no bytes left",
+    13: "writeback of place 3: inactive, no bytes left",
+    16: "collect slot 0",
+    17: "acknowledge, USBSTS 0x20: an advance",
+    18: "drain",
+    19: "collect slot 0",
+    20: "open endpoint: bulk, address 5, number 2, packet size 1001",
+}
+PACKET_HEAD = """\
+The packet's end: 3,000 bytes go to a camera in packets of 512 bytes, with a limit of 1,000 bytes for a descriptor.
+
+packet-end.log opens a controller (call 0), brings it up (calls 1 to 7), and goes on as below. Each block is what replay prints of
+its call, as the model of 01 (tools/model) has it:
+  port    this build
+  base    the build without 02's order 4
+A P line is a descriptor: place, next, alternate, token, page slots, upper slots. Bits 16 to 30 of the token are its bytes: 1,000 are
+3e8, 512 are 200, 440 are 1b8. "all" stands where the two are the same. The two outputs are whole in packet-end.port.blocks and
+.base.blocks. Written by tools/cases.
+
+In the base the request has three descriptors of 1,000 bytes (call 9). A packet does not go on from one descriptor to the next, so each
+of them is sent as a packet of 512 bytes and one of 488. A packet that is shorter than 512 ends a transfer (USB 5.8.3): the camera takes
+the first 1,000 bytes for all of it.
+
+In this build a descriptor has the largest multiple of 512 that is not above 1,000, which is 512: the request has five descriptors of
+512 bytes and one of 440. The only short packet is the last one, and it ends the 3,000 bytes.
+
+Calls 10 to 15 write back places 0 to 5; in the base the request has no places 3 to 5, so calls 13 to 15 answer 1 there. What is collected
+is 3,000 in both (call 19): the base does not know what the camera made of it.
+
+A packet of 1,001 bytes is above the limit: this build refuses an endpoint of such packets (call 20, answer 1), and the base opens it.
+"""
+
+
 def short_reply():
     ask = submit(0, BULK, address=0x10000000, length=64 * 16384, command=0x80031)
     calls = started(D=64, E=2) + [endpoint(BULK), ask, writeback(0, 0x34480D00), collect(0, command=0x80031)]
     return b"".join(calls + [acknowledge(0x20), drain(0x80031), collect(0, command=0x80031)])
 
 
+def packet_end():
+    ask = submit(0, BULK, 0, address=0x10000000, length=3000, command=0x80031)
+    calls = started(D=8, E=2, C=1000) + [endpoint(BULK), ask] + [writeback(place, 0x8C00 if place == 5 else 0xC00) for place in range(6)]
+    calls += [collect(0, command=0x80031), acknowledge(0x20), drain(0x80031), collect(0, command=0x80031)]
+    return b"".join(calls + [endpoint(BULK, number=2, packet=1001)])
+
+
+# of each example its log, and what its text says
+EXAMPLES = {"short-reply": (short_reply, SHORT_HEAD, SHORT_CALLS), "packet-end": (packet_end, PACKET_HEAD, PACKET_CALLS)}
+
+
 def shortened(lines):
-    """Of more than four P lines the first two and the last two."""
+    """Of more than eight P lines the first two and the last two."""
     places = [at for at, line in enumerate(lines) if line.startswith("P ")]
-    if len(places) <= 4:
+    if len(places) <= 8:
         return lines
     return lines[: places[2]] + [".."] + lines[places[-2] :]
 
@@ -72,8 +118,10 @@ def beside(head, calls, texts):
 
 def files():
     """The stored examples, by their names in the repository."""
-    log = short_reply()
-    with open(os.path.join(TOP, BASE)) as file:
-        texts = {"port": replay(log), "base": file.read()}
-    made = {".log": log, ".port.blocks": texts["port"].encode(), ".txt": beside(SHORT_HEAD, SHORT_CALLS, texts).encode()}
-    return {SHORT_REPLY + ending: data for ending, data in made.items()}
+    made = {}
+    for name, (make, head, calls) in EXAMPLES.items():
+        log, path = make(), f"examples/{name}"
+        with open(os.path.join(TOP, path + ".base.blocks")) as file:
+            texts = {"port": replay(log), "base": file.read()}
+        made |= {path + ".log": log, path + ".port.blocks": texts["port"].encode(), path + ".txt": beside(head, calls, texts).encode()}
+    return made

@@ -1,20 +1,20 @@
 """01, "Examples": each example as 01 has it, and what the model says of it (`tools/cases` compares the two). The job sheet's
-is crates/sheet. Then two of the state in words, worked out by hand from its table (docs/DECISIONS.md, 127 and 129), and those of
-02's order 1, worked out by hand from its rule."""
+is crates/sheet. Then those of the state in words, worked out by hand from its table (docs/DECISIONS.md, 127 and 129), and those of
+02's orders 1 and 4, worked out by hand from their rules."""
 
-from model.answers import DONE, INVALID
+from model.answers import DONE, ENDPOINT, FULL, INVALID, LIMIT, MEMORY, UNSUPPORTED
 from model.calls import World
 from model.collection import see
 from model.descriptors import characteristics, page_slots
 from model.interrupts import PORT_CHANGE, TRANSFER_ACTIVITY, acknowledge, drain
 from model.ranges import settings_good
-from model.records import OPEN_ENDPOINT, SUBMIT, WRITEBACK
+from model.records import CLOSE, OPEN_ENDPOINT, SET_PACKET, SUBMIT, WRITEBACK
 from model.registers import DOORBELL, USBCMD
 from model.requests import buffer_good
 from model.schedule import boundary_passed
 from model.state import IDLE, LINKED, UNLINKING, Settings, Slot, State, largest_rows
-from model.tokens import BULK, CONTROL, IN, INTERRUPT, OUT, SETUP, control_plan, token
-from model.words import encode, first_bound, good, view
+from model.tokens import BULK, CONTROL, IN, INTERRUPT, ISOCHRONOUS, OUT, SETUP, bytes_left, control_plan, token, working_limit
+from model.words import encode, first_bound, good, slot_words, view
 
 
 def passed(start, now):
@@ -36,11 +36,11 @@ def drains():
 
 
 def in_words():
-    """A controller of 66 descriptors and two slots: slot 0 has request 1, control, In, 18 bytes, at places 0, 1 and 65; slot 1 is an idle
-    bulk endpoint that has had four requests. The free words and the row of slots; whether they are in their ranges, and with place 65 free
+    """A controller of 66 descriptors and two slots: slot 0, of 64-byte packets, has request 1, control, In, 18 bytes, at places 0, 1 and 65;
+    slot 1 is an idle bulk endpoint of 512-byte packets that has had four requests. The free words and the row of slots; whether they are in their ranges, and with place 65 free
     as well; the owners that they stand for."""
     state = State(Settings(66, 2, 1, 16384, 1, 0x100000, 0x200000, 0x300000, 0x400000))
-    state.slots[0], state.slots[1] = Slot(LINKED), Slot(IDLE, BULK)
+    state.slots[0], state.slots[1] = Slot(LINKED, CONTROL, 64), Slot(IDLE, BULK, 512)
     state.slots[0].id, state.slots[0].request, state.slots[0].direction, state.slots[0].length = 2, 1, 1, 18
     state.slots[1].id = 5
     for place in (0, 1, 65):
@@ -54,14 +54,25 @@ def in_words():
 # ---- 02, order 1
 
 
-def submitted(kind, direction, length, D=66):
-    """A running controller with a request in slot 0; its descriptors are at the lowest places."""
-    world, settings = World(largest_rows()), Settings(D, 2, 1, 16384, 1, 0x100000, 0x200000, 0x300000, 0x400000)
+def running(D=66, C=16384):
+    """A running controller of two slots."""
+    world, settings = World(largest_rows()), Settings(D, 2, 1, C, 1, 0x100000, 0x200000, 0x300000, 0x400000)
     world.lent = settings.lengths()
     world.open(settings)
     world.state.running = 1
-    world.call(OPEN_ENDPOINT, kind, 5, 1, 512)
-    world.call(SUBMIT, 0, kind, direction, direction << 7, 0x10000000, length, 0)
+    return world
+
+
+def ask(world, kind, direction, length):
+    """The answer to a submit on slot 0."""
+    return world.call(SUBMIT, 0, kind, direction, direction << 7, 0x10000000, length, 0).number
+
+
+def submitted(kind, direction, length, D=66, C=16384, packet=512):
+    """With a request in slot 0; its descriptors are at the lowest places."""
+    world = running(D, C)
+    world.call(OPEN_ENDPOINT, kind, 5, 1, packet)
+    ask(world, kind, direction, length)
     return world
 
 
@@ -71,15 +82,15 @@ def full_pool(D):
     return world.state.places_of(0) == [*range(D)], world.rows.pool[D].words(), world.call(WRITEBACK, D, 0).number
 
 
-def alternates(kind, direction, length):
+def alternates(kind, direction, length, **given):
     """The alternates of a request's descriptors, then that of its head's overlay."""
-    world = submitted(kind, direction, length)
+    world = submitted(kind, direction, length, **given)
     return [world.rows.pool[place].alternate for place in world.state.places_of(0)] + [world.rows.head_word(0, 5)]
 
 
-def shown(kind, direction, length, *tokens):
+def shown(kind, direction, length, *tokens, **given):
     """Whether a request is finished, its first erring token and its length, with these tokens at its first descriptors."""
-    world = submitted(kind, direction, length)
+    world = submitted(kind, direction, length, **given)
     for place, word in enumerate(tokens):
         assert world.call(WRITEBACK, place, word).number == DONE
     return tuple(see(world.state, world.rows, 0))
@@ -128,6 +139,160 @@ def short_examples():
     yield "heads behind 64 records, and over the 65th", beside, [True, False, True]
 
 
+# ---- 02, order 4
+
+
+def cut(world):
+    """The bytes that the descriptors of slot 0's request are asked to move."""
+    return [bytes_left(world.rows.pool[place].token) for place in world.state.places_of(0)]
+
+
+def pieces(kind, length, C, packet):
+    return cut(submitted(kind, OUT, length, C=C, packet=packet))
+
+
+def laid(C, packet, length):
+    """Of each descriptor of a bulk In request its token and its first page slot."""
+    world = submitted(BULK, IN, length, C=C, packet=packet)
+    return [(world.rows.pool[place].token, world.rows.pool[place].pages[0]) for place in world.state.places_of(0)]
+
+
+def room(D, length):
+    """The answer to a bulk request of 512-byte packets under a limit of 1,000, with D descriptors."""
+    world = running(D, 1000)
+    world.call(OPEN_ENDPOINT, BULK, 5, 1, 512)
+    return ask(world, BULK, IN, length)
+
+
+def opens(C, *endpoints, full=False):
+    """The answers to openings of endpoints (kind, packet size), each on a controller of its own, all slots of which may be open."""
+    answers = []
+    for kind, packet in endpoints:
+        world = running(C=C)
+        for _ in range(2 * full):
+            world.call(OPEN_ENDPOINT, CONTROL, 5, 1, 8)
+        answers.append(world.call(OPEN_ENDPOINT, kind, 5, 1, packet).number)
+    return answers
+
+
+def sets(C, kind, packet, *sizes):
+    """Of each size that is set in turn: the answer, then the slot's size and the head's."""
+    world, said = running(C=C), []
+    world.call(OPEN_ENDPOINT, kind, 5, 1, packet)
+    for size in sizes:
+        answer = world.call(SET_PACKET, 0, size).number
+        said.append((answer, world.state.slots[0].packet, world.rows.head_word(0, 1) >> 16 & 0x7FF))
+    return said
+
+
+def set_elsewhere():
+    """Set packet size above C on a slot that is not open, and on one with a request."""
+    world = submitted(BULK, IN, 8, C=8, packet=8)
+    return [world.call(SET_PACKET, k, 9).number for k in (1, 2, 255, 0)]
+
+
+def between():
+    """1,000 bytes under a limit of 1,000, with packets of 512; then of 255, of 250, and of 250 beside a head that says 300."""
+    world, said = running(C=1000), []
+    world.call(OPEN_ENDPOINT, BULK, 5, 1, 512)
+    for size in (None, 255, 250, None):
+        if size:
+            world.call(SET_PACKET, 0, size)
+        if len(said) == 3:
+            world.rows.set_head(0, [characteristics(BULK, 5, 1, 300)], 1)
+        ask(world, BULK, IN, 1000)
+        said.append(cut(world))
+        # as collecting leaves it
+        world.state.owner, world.state.slots[0].phase = [0] * 256, IDLE
+        world.state.slots[0].forget()
+    return said
+
+
+def closed():
+    """The size of a slot that is open, closed, and opened again; its first word when it is closed."""
+    world = running(C=1000)
+    world.call(OPEN_ENDPOINT, BULK, 5, 1, 512)
+    sizes = [world.state.slots[0].packet]
+    world.call(CLOSE, 0)
+    sizes += [world.state.slots[0].packet, slot_words(world.state, 0)[0]]
+    world.call(OPEN_ENDPOINT, INTERRUPT, 5, 1, 3)
+    return sizes + [world.state.slots[0].packet]
+
+
+def full_word():
+    """The first word of a cancelled interrupt request with every field that it can have."""
+    state = State(Settings(66, 2, 1, 16384, 1, 0x100000, 0x200000, 0x300000, 0x400000))
+    slot = state.slots[0] = Slot(UNLINKING, INTERRUPT, 1024)
+    slot.direction, slot.length, slot.cancel, slot.boundary = 1, 3000, 1, 16383
+    return slot_words(state, 0)[0]
+
+
+def word_good(C, first):
+    """Whether a slot may have this first word, where it has no request."""
+    core, row = encode(State(Settings(66, 1, 1, C, 1, 0x100000, 0x200000, 0x300000, 0x400000)))
+    return good(core, [first] + row[1:])
+
+
+def packet_examples():
+    """02, order 4."""
+    # 512 is in 1,000 once, 7 in 16,384 2,340 times
+    limits = [(BULK, 1000, 512, 512), (INTERRUPT, 1000, 512, 512), (BULK, 16384, 7, 16380), (BULK, 16384, 512, 16384), (BULK, 1000, 1000, 1000)]
+    limits += [(BULK, 1023, 512, 512), (BULK, 1024, 512, 1024), (INTERRUPT, 5, 3, 3), (BULK, 1, 1, 1), (BULK, 2047, 1024, 1024), (CONTROL, 1000, 512, 1000)]
+    for kind, C, packet, limit in limits:
+        yield f"working limit, kind {kind}, {C} on {packet}", working_limit(kind, C, packet), limit
+    yield "3,000 bytes, 1,000 on 512", pieces(BULK, 3000, 1000, 512), [512, 512, 512, 512, 512, 440]
+    yield "3,000 bytes, 1,000 on 512, interrupt", pieces(INTERRUPT, 3000, 1000, 512), [512, 512, 512, 512, 512, 440]
+    yield "3,000 bytes, 1,000 on 500", pieces(BULK, 3000, 1000, 500), [1000, 1000, 1000]
+    yield "3,000 bytes, 1,000 on 512, control", pieces(CONTROL, 3000, 1000, 512), [8, 3000, 0]
+    yield "16,384 bytes, 16,384 on 7", pieces(BULK, 16384, 16384, 7), [16380, 4]
+    yield "32,760 bytes, 16,384 on 7", pieces(BULK, 32760, 16384, 7), [16380, 16380]
+    yield "32,761 bytes, 16,384 on 7", pieces(INTERRUPT, 32761, 16384, 7), [16380, 16380, 1]
+    yield "no bytes, 1,000 on 512", pieces(BULK, 0, 1000, 512), [0]
+    yield "512 bytes, 1,000 on 512", pieces(BULK, 512, 1000, 512), [512]
+    yield "1,000 bytes, 1,000 on 512", pieces(BULK, 1000, 1000, 512), [512, 488]
+    yield "2,000 bytes, 1,000 on 1,000", pieces(BULK, 2000, 1000, 1000), [1000, 1000]
+    # 512 is 0x200, 440 is 0x1B8; the buffer is at 0x10000000
+    parts = [(0x02000D80, 0x10000000), (0x02000D80, 0x10000200), (0x02000D80, 0x10000400), (0x02000D80, 0x10000600), (0x02000D80, 0x10000800), (0x01B88D80, 0x10000A00)]
+    yield "tokens and addresses, 1,000 on 512", laid(1000, 512, 3000), parts
+    # six chunks of 512 are 3,072 bytes
+    yield "room for 3,000, 3,072 and 3,073", [room(6, 3000), room(5, 3000), room(6, 3072), room(6, 3073), room(7, 3073)], [DONE, MEMORY, DONE, MEMORY, DONE]
+    # place 66 is at 0x101080
+    small = dict(C=1000, packet=512)
+    yield "alternates, 513 bytes, 1,000 on 512", alternates(BULK, IN, 513, **small), [0x101080, 1, 1]
+    yield "alternates, 512 bytes, 1,000 on 512", alternates(BULK, IN, 512, **small), [1, 1]
+    yield "all of 3,000", shown(BULK, IN, 3000, *[0xD00] * 6, **small), (True, 0, 3000)
+    # 200 left is 0xC8, 600 is 0x258: of 512, 312 came and none
+    yield "short in the second", shown(BULK, IN, 3000, 0xD00, 0xC80D00, **small), (True, 0, 824)
+    yield "short in the last", shown(INTERRUPT, IN, 3000, *[0xD00] * 5, 0xC80D00, **small), (True, 0, 2800)
+    yield "more left than a chunk has", shown(BULK, OUT, 3000, 0x2580C00, *[0xC00] * 5, **small), (True, 0, 2488)
+    yield "nothing came of 513", shown(BULK, IN, 513, 0x2000D00, **small), (True, 0, 0)
+    yield "control, 8 of 1,500", shown(CONTROL, IN, 1500, 0xE00, 0x85D40D00, 0x80008C00, **small), (True, 0, 8)
+    both = lambda packet: ((BULK, packet), (INTERRUPT, packet), (CONTROL, packet))
+    yield "opened with C and C + 1, C 1,000", opens(1000, *both(1000), *both(1001)), [DONE, DONE, DONE, INVALID, INVALID, DONE]
+    yield "opened with C and C + 1, C 1", opens(1, *both(1), *both(2), *both(1024)), [DONE] * 3 + [INVALID, INVALID, DONE] * 2
+    yield "opened with C and C + 1, C 1,023 and 1,024", opens(1023, *both(1024)) + opens(1024, *both(1024), *both(1025)), [INVALID, INVALID, DONE] + [DONE] * 3 + [INVALID] * 3
+    yield "isochronous above C", opens(8, (ISOCHRONOUS, 9)), [UNSUPPORTED]
+    yield "above C and at C with no slot left", opens(8, *both(9), *both(8), full=True), [INVALID, INVALID, LIMIT, LIMIT, LIMIT, LIMIT]
+    # refused, it stays what it was
+    yield "set packet size, C 8", sets(8, BULK, 5, 9, 8, 3, 255, 0), [(INVALID, 5, 5), (DONE, 8, 8), (DONE, 8, 8), (INVALID, 8, 8), (DONE, 8, 8)]
+    yield "set packet size, C 7", sets(7, INTERRUPT, 7, 0, 7, 8), [(INVALID, 7, 7)] * 3
+    yield "set packet size, C 7, control", sets(7, CONTROL, 1024, 0, 7, 255), [(DONE, 8, 8), (DONE, 8, 8), (DONE, 255, 255)]
+    yield "set packet size, C 254", sets(254, BULK, 254, 255, 254, 12), [(INVALID, 254, 254), (DONE, 254, 254), (DONE, 12, 12)]
+    yield "set packet size 9, C 8, not open and busy", set_elsewhere(), [ENDPOINT, ENDPOINT, ENDPOINT, FULL]
+    # three packets of 255 are 765; the head's word is not asked
+    yield "a size set between requests", between(), [[512, 488], [765, 235], [1000], [1000]]
+    yield "a closed slot's size", closed(), [512, 0, 0, 3]
+    # 3 + 3 * 4, 1,024 * 16, 2^15, 3,000 * 2^16; 2^48, 16,383 * 2^49
+    yield "every field of a first word", full_word(), 0x7FFF00000BB8C00F
+    # an idle bulk slot is 9, interrupt 13, control 1; a size stands 16-fold
+    yield "words of idle slots", [word_good(1000, 9 + 16 * size) for size in (0, 1, 512, 1000, 1001, 1024, 1025, 2047)], [False, True, True, True, False, False, False, False]
+    yield "words of idle interrupt slots", [word_good(1000, 13 + 16 * size) for size in (0, 1, 1000, 1001)], [False, True, True, False]
+    yield "words of idle control slots", [word_good(1000, 1 + 16 * size) for size in (0, 1, 1001, 1024, 1025, 2047)], [False, True, True, True, False, False]
+    yield "words of bulk slots, C 16,384", [word_good(16384, 9 + 16 * size) for size in (1024, 1025)], [True, False]
+    yield "words of closed slots", [word_good(1000, first) for first in (0, 16, 16 * 512, 8, 2**15)], [True, False, False, False, False]
+    yield "words of idle slots with more", [word_good(1000, 9 + 16 * 512 + more) for more in (0, 2**15, 2**16, 2**48, 2**49, 2**63)], [True] + [False] * 5
+
+
 def examples():
     """Of each example its name, what the model says and what 01 says."""
     yield "token, setup", token(SETUP, 8), 0x00080E80
@@ -145,10 +310,12 @@ def examples():
     yield "unlink, distance 8", passed(16380, 4), False
     yield "unlink, distance 9", passed(16380, 5), True
     yield "drain", drains(), [(PORT_CHANGE, 1, ((USBCMD, DOORBELL),)), (TRANSFER_ACTIVITY, 1, ())]
-    words = [0x252, 1, 3, 2, 0, 0, 9, 4, 0, 0, 0, 0]
+    # 2, 64 * 2^4, 2^15, 18 * 2^16; 1 + 2 * 4, 512 * 2^4
+    words = [0x128402, 1, 3, 2, 0, 0, 0x2009, 4, 0, 0, 0, 0]
     yield "words of two slots", in_words(), ([2**64 - 4, 1, 0, 0], words, True, False, True)
-    yield "bound of an unlinking bulk slot, 3 unanswered", first_bound(UNLINKING, BULK, 3), 4 * 2**38
+    yield "bound of an unlinking bulk slot, 3 unanswered", first_bound(UNLINKING, BULK, 3), 4 * 2**49
     yield from short_examples()
+    yield from packet_examples()
 
 
 def wrong():

@@ -97,12 +97,14 @@ def out_of_range(data):
                 yield changed(data, at + i, value)
 
 
-def drawn(draw):
+# sizes that divide C, and those that do not
+EVEN, UNEVEN = (0, 1, 64, 512, 1024, 1025), (3, 7, 48, 500, 1000, 1023)
+
+
+def drawn(draw, sizes=EVEN):
     """A sheet by chance, mostly good."""
     records = [
-        endpoint(
-            draw.choice([0, 0, 1, 2, 2, 2, 3]), draw.choice([0, 5, 127, 127, 128]), draw.choice([0, 1, 15, 15, 16]), draw.choice([0, 1, 64, 512, 1024, 1025])
-        )
+        endpoint(draw.choice([0, 0, 1, 2, 2, 2, 3]), draw.choice([0, 5, 127, 127, 128]), draw.choice([0, 1, 15, 15, 16]), draw.choice(sizes))
         for _ in range(draw.randint(0, 8))
     ]
     requests = []
@@ -135,6 +137,19 @@ def lengths():
                 yield sheet([endpoint(kind, 127, 15, 1024)], [request(0, direction, setup, 0x10000FFF, length)])
 
 
+def packets():
+    """02, order 4: a request of each kind on packet sizes that do not divide C, about the ends of its chunks by their limit and by C; records of
+    several sizes; as many chunks as there are places, and one more."""
+    none = bytes(6)
+    for packet, limit in ((7, 16380), (48, 16368), (1000, 16000), (1023, 16368), (513, 15903)):
+        for kind, direction in ((BULK, IN), (INTERRUPT, OUT)):
+            for length in (0, 1, limit, limit + 1, C, 2 * limit, 2 * C, 16 * limit, 16 * limit + 1):
+                yield sheet([endpoint(kind, 127, 15, packet)], [request(0, direction, none, 0x10000FFF, length)])
+        yield sheet([endpoint(CONTROL, 127, 15, packet)], [request(0, OUT, none, 0x10000FFF, C), request(0, OUT, none, 0x10000FFF, C)])
+    several = [endpoint(BULK, 1, 1, 7), endpoint(INTERRUPT, 1, 2, 1000), endpoint(BULK, 1, 3, 512), endpoint(CONTROL, 1, 0, 1023), endpoint(BULK, 1, 4, 1023)]
+    yield sheet(several, [request(k, OUT, none, 0x2000000 * k, 2 * C) for k in (0, 1, 2, 3, 4)] + [request(3, OUT, none, 0, C)])
+
+
 def cases():
     draw = random.Random(1)
     yield from shown().values()
@@ -144,6 +159,9 @@ def cases():
     yield from lengths()
     for _ in range(100):
         yield drawn(draw)
+    yield from packets()
+    for _ in range(50):
+        yield drawn(draw, UNEVEN)
 
 
 def files():

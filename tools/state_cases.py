@@ -93,8 +93,15 @@ def broken_words():
     yield [holds(0, 3), free()], [holds(0), free(3)]
     for wrong in (linked(1, 0, 0), linked(1, 1, 0, cancel=1), linked(1, 1, 0, boundary=1), slot(1, 1, phase=LINKED, kind=ISOCHRONOUS), unlinking(1, 1, 0, boundary=2)):
         yield [wrong], [linked(1, 1, 0)]
-    for first, last in ((0, 0), (2**52, 1), (2**63, 1)):
+    for first, last in ((0, 0), (2**63, 1)):
         yield [word(2, 0, packed(phase=UNLINKING, kind=INTERRUPT) + first, last)], [unlinking(2, cancel=1)]
+    # 02, order 4: C is 512
+    for packet in (0, 513, 1024, 1025):
+        yield [idle(0, packet=packet)], [idle(0)]
+        yield [unlinking(2, cancel=1, packet=packet)], [unlinking(2, cancel=1)]
+    for packet in (0, 1025, 2047):
+        yield [slot(1, 1, phase=LINKED, kind=CONTROL, direction=1, packet=packet)], [slot(1, 1, phase=LINKED, kind=CONTROL, direction=1)]
+    yield [slot(3, packet=64)], [slot(3)]
     # in two slots; neither free nor held; free and held; at D
     for places in ((0, 1, 2), (0,), (0, 1, 3), (0, 1, 4), (0, 1, 64), (0, 1, 255)):
         yield [holds(1, *places)], [holds(1, 0, 1)]
@@ -136,7 +143,7 @@ def first_words():
     """Every phase and kind, with each bit of the first word flipped, with and without a last id; each bit of a last id."""
     yield opening(D=16, E=8) + [number("unanswered", 2)]
     for nibble, last in product(range(16), (0, 1, TOP)):
-        yield [word(7, 1, last)] + trial(word(7, 0, nibble), TRIED)
+        yield [word(7, 1, last)] + trial(word(7, 0, nibble), TRIED) + trial(word(7, 0, nibble + packed(packet=64)), TRIED)
     for phase, boundary in ((LINKED, 0), (UNLINKING, 1), (UNLINKING, 2), (UNLINKING, 3)):
         yield [word(7, 1, 5)] + trial(word(7, 0, packed(phase=phase, kind=2, direction=1, length=2**32 - 1, boundary=boundary)), TRIED)
     for phase in range(4):
@@ -210,16 +217,16 @@ def one_bit_large():
     """A controller of 32 slots and 256 descriptors: the odd slots are idle, of the even ones one in three unlinks and the others are linked."""
     kinds = [(BULK, CONTROL, INTERRUPT)[k % 3] for k in range(32)]
     yield opening(D=256, E=32, C=16) + [number("running", 1)]
-    yield [open_endpoint(kinds[k], k, k % 16) for k in range(32)]
+    yield [open_endpoint(kinds[k], k, k % 16, 16) for k in range(32)]
     yield [submit(k, kinds[k], length=16 * k) for k in range(0, 32, 2)]
     yield [cancel(k) for k in range(0, 32, 6)]
     held, end = [()] * 32, 0
     for k in range(0, 32, 2):
         held[k] = range(end, end + (3 if kinds[k] == CONTROL else max(1, k)))
         end = held[k].stop
-    first = [packed(phase=LINKED if k % 2 == 0 else IDLE, kind=kinds[k], direction=k % 2 == 0, length=16 * k if k % 2 == 0 else 0) for k in range(32)]
+    first = [packed(phase=LINKED if k % 2 == 0 else IDLE, kind=kinds[k], packet=16, direction=k % 2 == 0, length=16 * k if k % 2 == 0 else 0) for k in range(32)]
     for k in range(0, 32, 6):
-        first[k] += packed(phase=1, cancel=1, boundary=k // 6 + 1)
+        first[k] += packed(phase=1, packet=0, cancel=1, boundary=k // 6 + 1)
     for k in (0, 1, 2, 15, 16, 30, 31):
         for j, value in enumerate((first[k], int(k % 2 == 0), *place_words(held[k]))):
             yield trial(word(k, j, value), TRIED)
@@ -395,8 +402,8 @@ SHORT += [(0x80, 0x10000, 0, 0), (0x50080, 0x10000, 0x40, 0x80), (0x80, 0x50080,
 SHORT += [(0x2000000, 0x80, 0x80, 0x80), (0x2010000, 0, 0, 0), (0, 0x7FFF0000, 0x80, 0x40), (0, 0, 0, 0x7FFF0000), (0x8000FF07, 0x80, 0x80, 0x80), (0xFFFFFF07, 0x80, 0x80, 0x80)]
 
 
-def kept(k, phase, direction, length, places=None):
-    return slot(k, 1, places, phase=phase, kind=KINDS[k], direction=direction, length=length)
+def kept(k, phase, direction, length, places=None, **more):
+    return slot(k, 1, places, phase=phase, kind=KINDS[k], direction=direction, length=length, **more)
 
 
 def shorts():
@@ -440,12 +447,12 @@ def short_places():
 
 def short_of_many():
     """A request of 256 descriptors, one of them short; those after it err, those before it are done."""
-    yield opening(D=256, E=1, C=16) + [number("running", 1), open_endpoint(BULK), submit(0, BULK, length=4096)]
+    yield opening(D=256, E=1, C=16) + [number("running", 1), open_endpoint(BULK, packet=16), submit(0, BULK, length=4096)]
     yield [token(p, 0x40) for p in range(256)]
     before = 0
     for short in (0, 1, 62, 63, 64, 127, 128, 191, 192, 254, 255):
         yield [token(p, 0) for p in range(before, short)] + [token(short, 0x50000)]
-        yield [kept(0, UNLINKING, 1, 4096, range(256))] + [number(name, 0) for name in FREE] + [collect(0)]
+        yield [kept(0, UNLINKING, 1, 4096, range(256), packet=16)] + [number(name, 0) for name in FREE] + [collect(0)]
         before = short
 
 
@@ -457,7 +464,87 @@ def alternates():
             yield [idle(k), holds(k), free(*(p for p in range(4) if p not in have)), submit(k, KINDS[k], direction, 0, length=length)]
     for D, C in ((1, 64), (64, 1), (256, 1)):
         for pool_at in (AREAS[0], 2**32 - 64 * (D + 1)):
-            yield opening(D=D, C=C, areas=(pool_at, *AREAS[1:])) + [number("running", 1), open_endpoint(INTERRUPT), submit(0, INTERRUPT, length=C * D)]
+            yield opening(D=D, C=C, areas=(pool_at, *AREAS[1:])) + [number("running", 1), open_endpoint(INTERRUPT, packet=C), submit(0, INTERRUPT, length=C * D)]
+
+
+# 02, order 4. Packet sizes; where C is 512, of 3, 200, 300 and 512 bytes the limits are 510, 400, 300 and 512
+
+
+def packet_words():
+    """Every phase and kind with a size of 0, about C and about the largest."""
+    for C in (1, 8, 512, 1000, 1024, 16384):
+        yield opening(D=16, E=8, C=C) + [number("unanswered", 1)]
+        for phase, kind in product(range(4), (CONTROL, BULK, INTERRUPT)):
+            for packet in sorted({0, 1, C - 1, C, C + 1, 1023, 1024, 1025, 2047} - {16383, 16384, 16385}):
+                yield [slot(7, 5 if phase in (LINKED, UNLINKING) else 0, phase=phase, kind=kind, packet=packet), TRIED]
+    # C below a size that slots have: of bulk and interrupt slots, then of a control slot alone
+    for closed in ((), (0,), (2,), (0, 2)):
+        yield three() + [record(CLOSE, (k,)) for k in closed]
+        for C in (65, 64, 63, 1):
+            yield [setting("C", C), TRIED, record(SET_PACKET, (1, 64)), submit(1, CONTROL, length=18), cancel(1), setting("C", 512)]
+
+
+def packet_heads():
+    """A limit is by the slot's size, whatever its head says, when a request is submitted and when it is collected."""
+    for k, packet in product(range(3), (3, 200, 300, 512)):
+        for said in (0, 1, 24, packet, 500, 2047):
+            yield three() + [idle(k, packet=packet), head(k, 1, said << 16), submit(k, KINDS[k], length=1000)] + [token(p, 0) for p in range(4)]
+            yield [collect(k), head(k, 1, said << 16), kept(k, UNLINKING, 1, 1000, packet=packet)] + numbers(unanswered=0, doorbell=0) + [collect(k, frame=9)]
+    for k in (0, 2):
+        yield three() + [idle(k, packet=300)]
+        yield trial(head(k, 1, 0xF12C2005), submit(k, KINDS[k], length=1000), 32)
+        yield trial(word(k, 0, packed(phase=IDLE, kind=KINDS[k], packet=300)), submit(k, KINDS[k], length=1000))
+
+
+def packet_collects():
+    """What is collected by the size in a slot's words, also of requests that hold fewer or more places than they need."""
+    for k, direction in product(range(3), (1, 0)):
+        yield three()
+        for packet, length, places in product((3, 200, 300, 512), (0, 400, 900, 2000), ((2,), (0, 1, 3), (0, 1, 2, 3))):
+            # 600 bytes left are more than any chunk has
+            tokens = (0, 350 << 16, 600 << 16, 10 << 16) if packet % 200 else (5 << 16, 0, 600 << 16, 0)
+            yield [token(p, value) for p, value in zip(places, tokens)] + [kept(k, UNLINKING, direction, length, places, packet=packet)]
+            yield [free(*(p for p in range(4) if p not in places)), collect(k, frame=9)]
+        # each bit of the first word: what the size is, and what is then moved
+        yield [kept(k, UNLINKING, direction, 1500, range(4), packet=300), free()] + [token(p, 250 << 16) for p in range(4)]
+        yield trial(word(k, 0, packed(phase=UNLINKING, kind=KINDS[k], packet=300, direction=direction, length=1500)), collect(k, frame=9))
+
+
+def packet_rooms():
+    """Requests about one chunk more, and about all the places that are free."""
+    for packet, limit in ((512, 512), (300, 300), (200, 400), (7, 511), (3, 510)):
+        for k, length, have in product((0, 2), (limit, limit + 1, 2 * limit, 4 * limit, 4 * limit + 1), ((), (1,))):
+            left = free(*(p for p in range(4) if p not in have))
+            yield three() + [linked(1, places=have) if have else idle(1), left, idle(k, packet=packet), submit(k, KINDS[k], length % 2, 0, length=length)]
+
+
+def packet_sets():
+    """Openings and set packet size about C: what they keep in a slot's words, and what they leave there."""
+    sizes = (0, 1, 7, 8, 9, 100, 101, 254, 255)
+    for C in (1, 7, 8, 100, 254, 16384):
+        yield opening(C=C) + [number("running", 1)] + [open_endpoint(kind, 5, k, 1) for k, kind in enumerate(KINDS)]
+        for k, size in product(range(4), sizes):
+            yield [slot(k, 9, phase=IDLE, kind=KINDS[k], packet=1)] if k < 3 else []
+            yield [record(SET_PACKET, (k, size))]
+        # a request of each slot: busy comes before a size above C
+        for k, phase in product(range(3), (LINKED, UNLINKING)):
+            yield [slot(k, 9, phase=phase, kind=KINDS[k], packet=1), record(SET_PACKET, (k, 8)), record(SET_PACKET, (k, 255)), record(CLOSE, (k,))]
+            yield [slot(k, 9, phase=IDLE, kind=KINDS[k], packet=1)]
+        # the last slot, and none; a control endpoint of any size
+        for kind, packet in product((CONTROL, ISOCHRONOUS, BULK, INTERRUPT), sorted({0, 1, C, C + 1, 1024, 1025})):
+            yield [open_endpoint(kind, 5, 3, packet), open_endpoint(kind, 5, 3, packet), record(CLOSE, (3,))]
+        yield [open_endpoint(CONTROL, 5, 3, 8)] + [open_endpoint(kind, 5, 3, C + more) for more in (0, 1) for kind in (CONTROL, ISOCHRONOUS, BULK, INTERRUPT)]
+    # each bit of the first word before the call
+    yield three()
+    for k, call in product(range(3), (record(SET_PACKET, (k, 255)) for k in range(3))):
+        yield trial(word(k, 0, packed(phase=IDLE, kind=KINDS[k], packet=300)), call)
+    for k in range(3):
+        yield trial(word(k, 0, packed(phase=IDLE, kind=KINDS[k], packet=300)), record(CLOSE, (k,)))
+    # of a size that is set, and of one that is refused, the next request's chunks
+    for k in (0, 2):
+        yield opening(C=100) + [number("running", 1), open_endpoint(KINDS[k], packet=64)]
+        for size in (33, 101, 8, 100):
+            yield [record(SET_PACKET, (0, size)), submit(0, KINDS[k], length=250), slot(0, 1, (), phase=IDLE, kind=KINDS[k], packet=64), free(0, 1, 2, 3)]
 
 
 def boundaries():
@@ -540,7 +627,7 @@ def hubs():
 
 FAMILIES = (
     openings, lengths, pool_lengths, first_checks, bounds, first_words, place_bits, places_of_none, one_bit, one_bit_large, reasons, writebacks, setups, ranges, taken, ids, row_words, links,
-    unanswered, cancels, views, shorts, short_bits, short_places, short_of_many, alternates, boundaries, interrupts, falls, bring_ups, hubs,
+    unanswered, cancels, views, shorts, short_bits, short_places, short_of_many, alternates, packet_words, packet_heads, packet_collects, packet_rooms, packet_sets, boundaries, interrupts, falls, bring_ups, hubs,
 )  # fmt: skip
 
 

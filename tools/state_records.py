@@ -20,6 +20,7 @@ FREE = [f"free {j}" for j in range(PLACE_WORDS)]
 NUMBERS = ["running", "step", "waited", "address", "enabled", "pending", "masked", "noted", "doorbell", "unanswered", *FREE]
 BITS = dict.fromkeys(("E", "ports", "running", "step", "address", "enabled", "noted", "doorbell", "unanswered"), 8) | {"pending": 32, "masked": 32}
 TOKEN = 2  # a token's place among a record's words
+PACKET = 64  # the packet size where none is given
 
 # how long the rows are: each is one longer than any opening lends it
 POOL, SLOTS, HEADS, ENTRIES, SETUPS = 258, 193, 562, 1025, 257
@@ -51,7 +52,8 @@ def word(k, j, value, *more):
 
 
 def packed(**fields):
-    """A first word."""
+    """A first word; an open slot's has a packet size."""
+    fields = {"packet": PACKET if fields.get("phase") else 0} | fields
     return sum(value << FIELDS[name][0] for name, value in fields.items())
 
 
@@ -114,7 +116,7 @@ def opening(D=4, E=4, ports=2, C=512, W=3, areas=AREAS):
     return [lend(*rows(D, E)), record(OPEN, (E, ports), (D, C, W, *areas))]
 
 
-def open_endpoint(kind, address=5, number=0, packet=64):
+def open_endpoint(kind, address=5, number=0, packet=PACKET):
     return record(OPEN_ENDPOINT, (kind, address, number), (packet,))
 
 
@@ -152,8 +154,8 @@ def three():
     return opening() + [number("running", 1)] + [open_endpoint(kind, 5, k) for k, kind in enumerate(KINDS)]
 
 
-def idle(k, last=0):
-    return slot(k, last, phase=IDLE, kind=KINDS[k])
+def idle(k, last=0, **more):
+    return slot(k, last, phase=IDLE, kind=KINDS[k], **more)
 
 
 def linked(k, last=1, length=100, places=None, **more):

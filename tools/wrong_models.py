@@ -20,9 +20,66 @@ IN_WORDS = [
     ("a longer row of records is taken", "calls", "self.lent == self.state.settings.lengths()", "self.lent[1:] == self.state.settings.lengths()[1:] and self.lent[0] > self.state.settings.D"),
     ("opening takes a row of D records", "opening", "lent == settings.lengths()", "lent[1:] == settings.lengths()[1:] and lent[0] in (settings.D, settings.D + 1)"),
     ("opening takes a longer row of records", "opening", "lent == settings.lengths()", "lent[1:] == settings.lengths()[1:] and lent[0] > settings.D"),
-    ("more than one descriptor is told by the length", "collection", "may_end_short(slot.kind, slot.direction)", "may_end_short(slot.kind, slot.direction) and slot.length > state.settings.C"),
+    ("more than one descriptor is told by the length", "collection", "may_end_short(slot.kind, slot.direction)", "may_end_short(slot.kind, slot.direction) and slot.length > state.limit_of(slot)"),
 ]  # fmt: skip
-ALL = FAULTS + IN_WORDS
+# 02, order 4
+RULE = "limit // packet * packet"
+JUDGED, SET, SUM = "packet_good(state.settings, kind, packet), INVALID)", "packet_good(state.settings, slot.kind, packet), INVALID)", "moved(slot, state.limit_of(slot), read)"
+BY_HEAD = "(lambda size: state.settings.C // size * size)(rows.head_word(k, 1) >> 16 & 2047 or 1)"
+PACKETS = [
+    ("the limit is C", "tokens", RULE, "limit"),
+    ("the limit is C for interrupt", "tokens", "limit if kind == CONTROL else", "limit if kind != BULK else"),
+    ("the limit is C for bulk", "tokens", "limit if kind == CONTROL else", "limit if kind != INTERRUPT else"),
+    ("the limit is rounded up", "tokens", RULE, "-(-limit // packet) * packet"),
+    ("the limit is the nearest multiple", "tokens", RULE, "max(1, (limit + packet // 2) // packet) * packet"),
+    ("the limit is below C", "tokens", RULE, "max(1, (limit - 1) // packet) * packet"),
+    ("a chunk is a packet", "tokens", RULE, "packet"),
+    ("the limit is by a size of at least 8", "tokens", RULE, "max(1, limit // max(packet, 8)) * max(packet, 8)"),
+    ("the need is by C", "requests", "descriptors_needed(kind, length, limit)", "descriptors_needed(kind, length, settings.C)"),
+    ("the chunks are by C", "requests", "address, length, limit)\n    write_chain", "address, length, settings.C)\n    write_chain"),
+    ("the sum is by C", "collection", SUM, "moved(slot, state.settings.C, read)"),
+    ("the limit is by the head's size at submit", "requests", "    limit = state.limit_of(slot)\n", f"    limit = {BY_HEAD}\n"),
+    ("the limit is by the head's size at collection", "collection", SUM, f"moved(slot, {BY_HEAD}, read)"),
+    ("opening takes a size above C", "endpoints", JUDGED, "1 <= packet <= 1024, INVALID)"),
+    ("opening refuses C", "endpoints", JUDGED, "packet_good(state.settings, kind, packet + (kind != 0)), INVALID)"),
+    ("opening takes C + 1", "endpoints", JUDGED, "packet_good(state.settings, kind, packet - (packet == state.settings.C + 1)), INVALID)"),
+    ("opening judges control by C", "endpoints", JUDGED, "packet_good(state.settings, 2, packet), INVALID)"),
+    ("opening judges isochronous by C first", "endpoints", "    need(kind != ISOCHRONOUS, UNSUPPORTED)\n", "    need(kind != ISOCHRONOUS or packet <= state.settings.C, INVALID)\n    need(kind != ISOCHRONOUS, UNSUPPORTED)\n"),
+    ("no slot left comes before a size above C", "endpoints", JUDGED, "1 <= packet <= 1024, INVALID)\n    need(any(slot.phase == CLOSED for slot in state.slots[: state.settings.E]), LIMIT)\n    need(packet_good(state.settings, kind, packet), INVALID)"),
+    ("a size above C answers 2", "endpoints", JUDGED, "1 <= packet <= 1024, INVALID)\n    need(packet_good(state.settings, kind, packet), LIMIT)"),
+    ("opening keeps a raised size", "endpoints", "Slot(IDLE, kind, packet)", "Slot(IDLE, kind, raised(packet))"),
+    ("set packet size takes a size above C", "endpoints", SET, "True, INVALID)"),
+    ("set packet size judges control by C", "endpoints", SET, "packet_good(state.settings, 2, packet), INVALID)"),
+    ("set packet size judges bulk alone by C", "endpoints", SET, "slot.kind != 2 or packet_good(state.settings, slot.kind, packet), INVALID)"),
+    ("set packet size judges before the raise", "endpoints", SET, "packet_good(state.settings, slot.kind, max(size, 1)), INVALID)"),
+    ("set packet size refuses 0", "endpoints", SET, "packet_good(state.settings, slot.kind, size), INVALID)"),
+    ("set packet size refuses C", "endpoints", SET, "packet_good(state.settings, slot.kind, packet + (slot.kind != 0)), INVALID)"),
+    ("set packet size refuses what is below 8", "endpoints", SET, "packet_good(state.settings, slot.kind, packet) and size >= 8, INVALID)"),
+    ("set packet size lowers to C", "endpoints", "raised(size)\n    need(", "raised(size) if state.slots[k].kind == 0 else min(raised(size), state.settings.C)\n    need("),
+    ("set packet size keeps the size before the raise", "endpoints", "    slot.packet = packet\n", "    slot.packet = size or 1\n"),
+    ("set packet size leaves the slot's size", "endpoints", "    slot.packet = packet\n", ""),
+    ("a size above C comes before busy", "endpoints", "    check_idle(state, k)\n    slot, packet", "    need(not state.is_open(k) or packet_good(state.settings, state.slots[k].kind, raised(size)), INVALID)\n    check_idle(state, k)\n    slot, packet"),
+    ("a size above C comes before not open", "endpoints", "    check_idle(state, k)\n    slot, packet", "    need(state.is_open(k) or raised(size) <= state.settings.C, INVALID)\n    check_idle(state, k)\n    slot, packet"),
+    ("a busy slot's size is set", "endpoints", "    check_idle(state, k)\n    slot, packet", "    need(state.is_open(k), ENDPOINT)\n    slot, packet"),
+    ("a refused size is kept", "endpoints", "raised(size)\n    need(", "raised(size)\n    slot.packet = min(packet, state.settings.C)\n    need("),
+    ("close keeps the size", "endpoints", "    state.slots[k] = Slot()\n", "    state.slots[k] = Slot(packet=state.slots[k].packet)\n"),
+    ("a collected request's slot has no size", "state", "        self.request = self.direction", "        self.packet = min(vars(self).get('packet', 0), 1)\n        self.request = self.direction"),
+    ("an open slot of size 0 is in the ranges", "ranges", "1 <= packet <= 1024", "packet <= 1024"),
+    ("a size of 1,025 is in the ranges", "ranges", "1 <= packet <= 1024", "1 <= packet <= 1025"),
+    ("any size of 11 bits is in the ranges", "ranges", "1 <= packet <= 1024", "1 <= packet <= 2047"),
+    ("1,024 is out of the ranges", "ranges", "1 <= packet <= 1024", "1 <= packet <= 1023"),
+    ("C is out of the ranges", "ranges", "packet <= settings.C", "packet < settings.C"),
+    ("C + 1 is in the ranges", "ranges", "packet <= settings.C", "packet <= settings.C + 1"),
+    ("an interrupt slot's size is not judged by C", "ranges", "(kind == CONTROL or", "(kind != BULK or"),
+    ("a bulk slot's size is not judged by C", "ranges", "(kind == CONTROL or", "(kind != INTERRUPT or"),
+    ("a control slot's size is judged by C", "ranges", "(kind == CONTROL or packet", "(packet"),
+    ("a control slot's size is judged by C in a state", "ranges", "packet_good(state.settings, slot.kind, slot.packet)", "packet_good(state.settings, BULK, slot.packet)"),
+    ("a control slot's size is judged by C in words", "words", "packet_good(core.settings, kind, first", "packet_good(core.settings, 2, first"),
+    ("an idle slot's word has no size", "words", "return 2**15", "return 2**4"),
+    ("the size stands after the direction", "words", '"packet": (4, 11), "direction": (15, 1)', '"packet": (5, 11), "direction": (4, 1)'),
+    ("a size has ten bits", "words", '"packet": (4, 11)', '"packet": (4, 10)'),
+]  # fmt: skip
+ALL = FAULTS + IN_WORDS + PACKETS
 
 
 def stored(program, name):
@@ -77,7 +134,7 @@ def first_other(program):
         for count, line in enumerate(PROGRAMS[program](stored(program, "stdin")), 1):
             if count > len(right) or line != right[count - 1]:
                 return count
-    except (IndexError, ValueError):
+    except (IndexError, ValueError, ZeroDivisionError):
         return count + 1
     return 0 if count == len(right) else count + 1
 

@@ -92,8 +92,9 @@ static void then(struct script *s, int step, u8 number, struct asked asked)
     s->turns[s->count++] = (struct turn){step, number, asked};
 }
 
-// A running controller with a control endpoint in slot 0, bulk endpoints in slots 1 and 2, an interrupt endpoint in slot 3.
-static void opening(struct script *s)
+// A running controller with a control endpoint in slot 0, bulk endpoints in slots 1 and 2, an interrupt endpoint in slot 3, these
+// three with this packet size.
+static void opening(struct script *s, u16 packet)
 {
     static const u32 readings[6] = {0, 0x1000, 0, 0, 0, 0};
     then(s, OPEN, 0, (struct asked){0});
@@ -104,7 +105,7 @@ static void opening(struct script *s)
     then(s, ALLOCATE_ADDRESS, 0, (struct asked){0});
     for (u8 k = 0; k < 4; k++)
         then(s, OPEN_ENDPOINT, 0, (struct asked){.kind = k == 0 ? CONTROL : k == 3 ? INTERRUPT : BULK, .device = 1, .number = k,
-            .packet = k == 0 ? 64 : 512});
+            .packet = k == 0 ? 64 : packet});
 }
 
 // n is the number of descriptors, 0 for a control request of 18 bytes. An interrupt request passes 9 micro-frames on.
@@ -124,7 +125,7 @@ static void life(struct script *s, u64 n, u64 id, int interrupt)
 // Every call at least once.
 static void every_call(struct script *s, u64 n)
 {
-    opening(s);
+    opening(s, 512);
     then(s, SET_ADDRESS, 0, (struct asked){.slot = 1, .device = 5});
     then(s, SET_PACKET_SIZE, 0, (struct asked){.slot = 1, .device = 64});
     then(s, SUBMIT, 0, (struct asked){.slot = 1, .kind = BULK, .direction = 1, .command = 0x31, .address = 0x10000200, .length = n * LIMIT});
@@ -181,17 +182,17 @@ static void lend(struct side *x)
     x->rows = (struct rows){x->pool, D + 1, x->slots, 6 * e, x->heads, 17 * (e + 1), x->frames, 1024, x->setups, 8 * e};
 }
 
-static void with_settings(struct side *x, u8 e)
+static void with_settings(struct side *x, u8 e, u64 limit)
 {
     memset(x, 0, sizeof *x);
-    x->core.settings = (struct settings){D, e, 4, LIMIT, 1000, 0x100000, 0x200000, 0x300000, 0x400000};
+    x->core.settings = (struct settings){D, e, 4, limit, 1000, 0x100000, 0x200000, 0x300000, 0x400000};
     lend(x);
 }
 
-static void open_side(struct side *x)
+static void open_side(struct side *x, u16 packet)
 {
     struct script s = {0};
-    opening(&s);
+    opening(&s, packet);
     play(x, &on_port, &s, just);
 }
 
@@ -235,17 +236,26 @@ static void both(int step, struct asked asked)
 }
 
 // Plain C goes on from what the port has opened.
-static void open_both(u8 e)
+static void open_both(u8 e, u64 limit, u16 packet)
 {
-    with_settings(&port, e);
-    open_side(&port);
+    with_settings(&port, e, limit);
+    open_side(&port, packet);
     plain = port;
     lend(&plain);
 }
 
+// The port sets a packet size, which plain C has no call for, and plain C goes on from there.
+static void set_both(u8 slot, u8 packet)
+{
+    struct answered out;
+    on_port.on[SET_PACKET_SIZE](&port, &(struct asked){.slot = slot, .device = packet}, &out);
+    memcpy(plain.slots, port.slots, sizeof plain.slots);
+    memcpy(plain.heads, port.heads, sizeof plain.heads);
+}
+
 static void same_lives(u8 e, u64 n, int interrupt)
 {
-    open_both(e);
+    open_both(e, LIMIT, 512);
     for (u64 id = 1; id <= 2; id++) {
         struct script s = {0};
         life(&s, n, id, interrupt);
@@ -315,6 +325,8 @@ static void random_call(void)
 {
     u8 slot = random_below(20) ? (u8)random_below(4) : (u8)random_below(40), odd = random_below(3) == 0;
     u32 command = odd ? (u32)random_below(1ul << 32) : 0x31;
+    if (random_below(50) == 0)
+        set_both(slot, (u8)random_below(256));
     switch (random_below(8)) {
     case 0:
     case 1:
@@ -359,6 +371,12 @@ static void bent(void)
     }
 }
 
+// Limits, and packet sizes that divide them or do not. The bits are flipped in the last.
+static const struct {
+    u64 limit;
+    u16 packet;
+} opened[10] = {{LIMIT, 512}, {LIMIT, 1}, {LIMIT, 1024}, {LIMIT, 1000}, {LIMIT, 7}, {4097, 1023}, {1000, 500}, {1000, 501}, {64, 64}, {1000, 512}};
+
 static void same_words(u8 e)
 {
     calls = 0;
@@ -369,7 +387,7 @@ static void same_words(u8 e)
     u64 in_lives = calls;
     for (int i = 0; i < 50000; i++) {
         if (i % 5000 == 0)
-            open_both(e);
+            open_both(e, opened[i / 5000].limit, opened[i / 5000].packet);
         random_call();
     }
     u64 at_random = calls - in_lives;
@@ -566,12 +584,12 @@ int main(int count, char **words)
     const struct way *way = strcmp(words[2], "plain") ? &on_port : &on_plain;
     struct side *x = way == &on_plain ? &plain : &port;
     u64 n = strtoul(words[4], 0, 10), k = count > 5 ? strtoul(words[5], 0, 10) : 1;
-    with_settings(x, (u8)strtoul(words[3], 0, 10));
+    with_settings(x, (u8)strtoul(words[3], 0, 10), LIMIT);
     if (!strcmp(verb, "round")) {
         rounds(x, n, k, just);
         return 0;
     }
-    open_side(x);
+    open_side(x, 512);
     if (!strcmp(verb, "count"))
         lives(x, way, n, k, just);
     else if (!strcmp(verb, "whole") && count == 7)

@@ -12,9 +12,16 @@ enum { USBCMD = 0x00, USBSTS = 0x04, USBINTR = 0x08 };
 
 enum { RECORD = 6, HEAD = 17, FRAMES = 1024 };
 
+enum { PACKET_MAX = 1024 };
+
 #define MEMORY_END 0x100000000ul
-#define CANCEL (1ul << 37)
-#define BOUNDARY (1ul << 38)
+
+// The fields of a slot's word 0 after phase and kind, each by its lowest bit: packet size, direction, length, cancelled, boundary.
+#define PACKET (1ul << 4)
+#define DIRECTION (1ul << 15)
+#define LENGTH (1ul << 16)
+#define CANCEL (1ul << 48)
+#define BOUNDARY (1ul << 49)
 
 static void answer(struct answered *out, u8 number, u64 value)
 {
@@ -67,13 +74,18 @@ static int core_good(const struct core *s)
     return machine & interrupt & doorbell;
 }
 
+static u64 packet_of(u64 word)
+{
+    return word / PACKET % 2048;
+}
+
 static u64 ones_from(u64 n, u64 from)
 {
     return n <= from ? 0 : n - from >= 64 ? ~0ul : (1ul << (n - from)) - 1;
 }
 
 // By kind, 0 to 3: of each phase. Those of unlinking control and bulk are put in.
-static const u64 BOUNDS[16] = {1, 16, CANCEL, 0, 0, 0, 0, 0, 0, 16, CANCEL, 0, 0, 16, CANCEL, 1ul << 52};
+static const u64 BOUNDS[16] = {1, DIRECTION, CANCEL, 0, 0, 0, 0, 0, 0, DIRECTION, CANCEL, 0, 0, DIRECTION, CANCEL, 1ul << 63};
 
 static int slots_good(const struct core *s, const u64 *slots)
 {
@@ -81,13 +93,16 @@ static int slots_good(const struct core *s, const u64 *slots)
     for (int i = 0; i < 16; i++)
         bounds[i] = BOUNDS[i];
     bounds[3] = bounds[11] = BOUNDARY * (s->rest.unanswered + 1ul);
+    // By kind: the largest packet size. A chunk has room for one packet at least.
+    u64 chunked = s->settings.limit < PACKET_MAX ? s->settings.limit : PACKET_MAX, packets[4] = {PACKET_MAX, 0, chunked, chunked};
     int good = 1;
     u64 n = s->settings.descriptors, end = RECORD * s->settings.endpoints;
     u64 twice = 0, a = s->rest.free[0], b = s->rest.free[1], c = s->rest.free[2], d = s->rest.free[3];
     for (u64 at = 0; at < end; at += RECORD) {
         u64 word = slots[at], last = slots[at + 1], w = slots[at + 2], x = slots[at + 3], y = slots[at + 4], z = slots[at + 5];
         u64 phase = word % 4;
-        good &= word < bounds[word % 16];
+        // A closed slot's size is 0 by its bound, an open one's from 1 on.
+        good &= (word < bounds[word % 16]) & (packet_of(word) - (phase != CLOSED) < packets[word / 4 % 4]);
         if (phase < LINKED) {
             good &= ((w | x | y | z) == 0) & (last <= phase * (~0ul - 1));
         } else {
@@ -235,8 +250,16 @@ static void lay_chunks(struct qtd *pool, u32 base, u32 shared, const u64 *places
     }
 }
 
+// The most bytes of a chunk: whole packets of an open slot's size. Both numbers are small.
+static u64 working_limit(const struct core *s, u64 word)
+{
+    u32 limit = (u32)s->settings.limit;
+    return limit - limit % (u32)packet_of(word);
+}
+
 // Submit.
 
+// `limit` is the working limit; a control request has none.
 static u64 need(const struct asked *a, u64 limit)
 {
     if (a->kind == CONTROL)
@@ -249,9 +272,10 @@ static int buffer_good(u64 address, u64 length)
     return length == 0 || (length <= MEMORY_END && address <= MEMORY_END - length);
 }
 
-static u8 judge(const struct core *s, const u64 *slots, const struct asked *a, u64 wanted)
+// All but the room.
+static u8 judge(const struct core *s, u64 word, const struct asked *a)
 {
-    u64 word = a->slot < s->settings.endpoints ? slots[RECORD * a->slot] : 0, phase = word % 4;
+    u64 phase = word % 4;
     if (phase == CLOSED)
         return NO_ENDPOINT;
     if (!s->rest.running)
@@ -265,9 +289,7 @@ static u8 judge(const struct core *s, const u64 *slots, const struct asked *a, u
     int good = buffer_good(a->address, a->length);
     if (a->kind == CONTROL)
         good &= (a->length <= 16384) & ((a->setup >> 7 & 1) == a->direction) & (a->setup < 1ul << 48);
-    if (!good)
-        return INVALID;
-    return count(s->rest.free) < wanted ? NO_MEMORY : DONE;
+    return good ? DONE : INVALID;
 }
 
 static void link_head(const struct core *s, const struct rows *r, const struct asked *a, u32 start)
@@ -300,19 +322,24 @@ void plain_submit(struct core *s, const struct rows *r, const struct asked *a, s
         answer(out, INVALID, 0);
         return;
     }
-    u64 limit = s->settings.limit, wanted = need(a, limit);
-    u8 refusal = judge(s, r->slots, a, wanted);
+    u64 k = a->slot, *record = r->slots + RECORD * k, *places = record + 2;
+    u64 word = k < s->settings.endpoints ? record[0] : 0;
+    u8 refusal = judge(s, word, a);
     if (refusal) {
         answer(out, refusal, 0);
         return;
     }
-    u64 k = a->slot, *record = r->slots + RECORD * k, *places = record + 2;
+    u64 limit = a->kind == CONTROL ? 0 : working_limit(s, word), wanted = need(a, limit);
+    if (count(s->rest.free) < wanted) {
+        answer(out, NO_MEMORY, 0);
+        return;
+    }
     u32 base = (u32)s->settings.pool;
     take_lowest(s->rest.free, wanted, places);
     for (int i = 0; i < 4; i++)
         s->rest.free[i] -= places[i];
     link_head(s, r, a, base + 64 * (u32)place(first(places)));
-    record[0] = LINKED + 4ul * a->kind + 16ul * a->direction + 32 * (u64)(u32)a->length;
+    record[0] = word + (LINKED - IDLE) + DIRECTION * a->direction + LENGTH * (u64)(u32)a->length;
     record[1] = record[1] == ~0ul ? 1 : record[1] + 1;
     if (a->kind == CONTROL) {
         put_setup(r->setups + 8 * k, a);
@@ -364,9 +391,10 @@ static u64 requested(u8 kind, u64 length, u64 limit, u64 k)
 static struct view fold(const struct core *s, const struct qtd *pool, const u64 *record)
 {
     struct view v = {0, 0, 0};
-    u64 k = 0, length = (u32)(record[0] / 32);
+    u64 k = 0, length = (u32)(record[0] / LENGTH);
     u8 kind = record[0] / 4 % 4;
-    int stops = kind != CONTROL && record[0] / 16 % 2;
+    u64 limit = kind == CONTROL ? 0 : working_limit(s, record[0]);
+    int stops = kind != CONTROL && record[0] / DIRECTION % 2;
     for (u64 i = 0; i < 4; i++)
         for (u64 word = record[2 + i]; word; word &= word - 1) {
             u32 token = pool[64 * i + __builtin_ctzl(word)].token;
@@ -374,7 +402,7 @@ static struct view fold(const struct core *s, const struct qtd *pool, const u64 
                 v.stage = token & 0x80 ? 2 : token & 0x78 ? 1 : 0;
             if (v.failed == 0 && token & 0x78)
                 v.failed = token;
-            u64 asked = requested(kind, length, s->settings.limit, k), left = token >> 16 & 0x7fff;
+            u64 asked = requested(kind, length, limit, k), left = token >> 16 & 0x7fff;
             v.moved += asked < left ? 0 : asked - left;
             k++;
             if (stops && (token & 0xf8) == 0 && left)
@@ -442,7 +470,7 @@ static void finish(struct core *s, u32 *head, u64 *record, struct view v, struct
         record[2 + i] = 0;
     }
     int cancelled = record[0] / CANCEL % 2;
-    record[0] = IDLE + 4 * (record[0] / 4 % 4);
+    record[0] = record[0] % DIRECTION - (UNLINKING - IDLE);
     record[1] = record[1] == ~0ul ? 0 : record[1];
     if (cancelled)
         answer(out, CANCELLED, 0);

@@ -27,7 +27,7 @@ pub enum Outcome {
 }
 
 /// Every kind and answer that a run must meet.
-const KINDS: [&str; 82] = [
+const KINDS: [&str; 89] = [
     "open -> 0",
     "open -> 1",
     "open -> 1, no place D",
@@ -40,6 +40,7 @@ const KINDS: [&str; 82] = [
     "allocate address -> 2",
     "open endpoint -> 0",
     "open endpoint -> 1",
+    "open endpoint -> 1, size above the limit",
     "open endpoint -> 2",
     "open endpoint -> 5",
     "close -> 0",
@@ -50,14 +51,19 @@ const KINDS: [&str; 82] = [
     "set address -> 3",
     "set address -> 4",
     "set packet size -> 0",
+    "set packet size -> 1, size above the limit",
     "set packet size -> 3",
     "set packet size -> 4",
     "submit -> 0",
+    "submit -> 0, whole packets",
+    "submit -> 0, whole packets, one chunk by the limit",
+    "submit -> 0, whole packets of a size set later",
     "submit -> 1",
     "submit -> 3",
     "submit -> 4",
     "submit -> 5",
     "submit -> 6",
+    "submit -> 6, room by the limit",
     "submit -> 8",
     "writeback -> 0",
     "writeback -> 1",
@@ -65,6 +71,7 @@ const KINDS: [&str; 82] = [
     "cancel -> 0",
     "cancel -> 3",
     "collect -> 0",
+    "collect -> 0, whole packets",
     "collect -> 0, short at once",
     "collect -> 0, short within",
     "collect -> 0, short after an active one",

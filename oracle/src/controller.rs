@@ -116,14 +116,18 @@ pub struct Flight {
     pub lengths: Vec<usize>,
     /// It may end before its last descriptor.
     pub early: bool,
+    /// Its chunks are shorter than the limit, for whole packets.
+    pub packed: bool,
     pub unlinking: bool,
 }
 
 impl Flight {
-    /// How a reply that ended early was answered.
+    /// How a reply that ended early was answered, or one whose chunks are whole packets.
     fn met(&self, answer: u8, unlinked: bool) -> &'static str {
         let short = self.tokens.iter().position(|token| is_short(QtdToken(*token)));
-        let Some(at) = short.filter(|at| self.early && at + 1 < self.tokens.len()) else { return "" };
+        let Some(at) = short.filter(|at| self.early && at + 1 < self.tokens.len()) else {
+            return if answer == DONE && self.packed { WHOLE } else { "" };
+        };
         match answer {
             PENDING if unlinked => ", short",
             DONE if self.tokens[..at].iter().any(|token| QtdToken(*token).active()) => ", short after an active one",
@@ -303,6 +307,9 @@ impl Controller {
                 tokens: submitted.qtds.iter().map(|qtd| qtd.read_cpu().token).collect(),
                 lengths: submitted.chunk_lengths.clone(),
                 early: may_end_early(submitted),
+                packed: submitted._setup_packet.is_none()
+                    && submitted.qtds.len() > 1
+                    && (submitted.chunk_lengths[0] as u64) < self.settings.limit,
                 unlinking: submitted.unlink_boundary.is_some(),
             })
         })
@@ -448,6 +455,9 @@ impl Controller {
             tags::rule("01-range");
             return Reply::only(INVALID);
         }
+        if self.above_limit(kind, packet as u64) {
+            return Reply::only(INVALID).met(ABOVE);
+        }
         let Some(slot) = self.endpoints.iter().position(|endpoint| endpoint.is_none()) else {
             tags::rule("01-slot");
             return Reply::only(LIMIT);
@@ -505,12 +515,41 @@ impl Controller {
         if self.busy(slot as usize) && tags::repaired("N6") {
             return Reply::only(FULL);
         }
+        if self.above_limit(self.kind(slot as usize).unwrap(), size.max(8) as u64) {
+            return Reply::only(INVALID).met(ABOVE);
+        }
         self.raw(slot as usize, |raw| raw.set_max_packet_size(size));
         Reply::only(DONE)
+    }
+
+    /// N25: a packet of this size has no room in a chunk. 000 does not ask. A control request has no chunks.
+    fn above_limit(&self, kind: u8, packet: u64) -> bool {
+        kind >= 2 && packet > self.settings.limit && tags::repaired("N25")
+    }
+
+    /// The packet size in the slot's head, where 000 has it.
+    fn packet_size(&self, slot: usize) -> u64 {
+        self.raw(slot, |raw| (raw.qh.read_cpu().endpoint_chars >> 16 & 0x7ff) as u64)
+    }
+
+    /// 02, order 4, for an open slot of kind bulk or interrupt.
+    pub fn working_limit(&self, slot: usize) -> Option<u64> {
+        let chunked = self.kind(slot).is_some_and(|kind| kind >= 2);
+        chunked.then(|| whole_packets(self.settings.limit, self.packet_size(slot)))
     }
 }
 
 // ---- requests
+
+/// The largest multiple of the packet size that is not above the limit. Of a packet that is longer there is none but 0 (N25):
+/// the limit stays.
+pub fn whole_packets(limit: u64, packet: u64) -> u64 {
+    if packet > limit { limit } else { limit - limit % packet }
+}
+
+// What a run must meet of order 4.
+const ABOVE: &str = ", size above the limit";
+const WHOLE: &str = ", whole packets";
 
 const TYPES: [RequestType; 4] = [RequestType::Standard, RequestType::Class, RequestType::Vendor, RequestType::Reserved];
 
@@ -630,8 +669,11 @@ impl Controller {
         }
         regs::set(regs::USBCMD, command);
         dma_api::want(Area::Setups, Some(slot));
-        let (handle, request, limit) = (self.handle(slot), request_of(asked), self.settings.limit);
-        let split = asked.kind >= 2 && !other && !self.busy(slot) && asked.length > limit && tags::repaired("C");
+        let chunked = asked.kind >= 2 && !other && !self.busy(slot);
+        let met = if chunked { self.packets_met(slot, asked.length) } else { ["", ""] };
+        let limit = if chunked { self.chunk_limit(slot, asked.length) } else { self.settings.limit };
+        let (handle, request) = (self.handle(slot), request_of(asked));
+        let split = chunked && asked.length > limit && tags::repaired("C");
         let (result, trace) = regs::traced(|| match (split, of_endpoint) {
             (true, _) => self.raw(slot, |raw| submit_split(raw, request, limit as usize)),
             (_, true) => self.raw(slot, |raw| raw.submit_request(request)),
@@ -643,9 +685,32 @@ impl Controller {
             self.lead_to_shared(slot);
         }
         match result {
-            Ok(id) => Reply::done(vec![id.raw().to_string()], accesses),
-            Err(error) => Reply::new(number_of(&error), vec![], accesses),
+            Ok(id) => Reply::done(vec![id.raw().to_string()], accesses).met(met[0]),
+            Err(error) => Reply::new(number_of(&error), vec![], accesses).met(met[1]),
         }
+    }
+
+    /// N24: 000 does not ask the packet size when it splits. Where that does not divide the limit, a request that is longer than
+    /// the working limit is split by the working limit.
+    fn chunk_limit(&self, slot: usize, length: u64) -> u64 {
+        let (limit, whole) = (self.settings.limit, self.working_limit(slot).unwrap());
+        if length > whole && whole < limit && tags::repaired("N24") { whole } else { limit }
+    }
+
+    /// What a run must meet of such a request, accepted and without room.
+    fn packets_met(&self, slot: usize, length: u64) -> [&'static str; 2] {
+        let (limit, whole) = (self.settings.limit, self.working_limit(slot).unwrap());
+        if length <= whole || whole == limit {
+            return ["", ""];
+        }
+        let set_later = self.packet_size(slot) != self.handle(slot).info().max_packet_size as u64;
+        let accepted = match length <= limit {
+            _ if set_later => ", whole packets of a size set later",
+            true => ", whole packets, one chunk by the limit",
+            false => WHOLE,
+        };
+        let room = length.div_ceil(limit) <= dma_api::free_places(Area::Descriptors) as u64;
+        [accepted, if room { ", room by the limit" } else { "" }]
     }
 
     /// N22: all alternates of 000's end. Those of a request that may end early lead to place D, but the last one's.

@@ -3,7 +3,7 @@ use std::collections::VecDeque;
 
 use blocks::record::{Record, call};
 
-use crate::backend::kmod::ehci::controller::{Controller, Flight};
+use crate::backend::kmod::ehci::controller::{Controller, Flight, whole_packets};
 
 const KIB16: u64 = 16384;
 
@@ -199,8 +199,8 @@ impl Generator {
             _ => self.draw.of(&[0, 1, 2, 3, u64::MAX]),
         };
         match self.draw.below(1000) {
-            0..60 => self.endpoint(),
-            60..500 if kind.is_none() && !self.draw.one_in(5) => self.endpoint(),
+            0..60 => self.endpoint(c),
+            60..500 if kind.is_none() && !self.draw.one_in(5) => self.endpoint(c),
             60..360 => match flight {
                 Some(flight) if !self.draw.one_in(4) => self.onward(slot, &flight),
                 _ => self.submit(c, slot, kind),
@@ -220,7 +220,7 @@ impl Generator {
             900..930 => Record::new(self.draw.of(&[call::REARM, call::REARM, call::ENABLE, call::DISABLE]), &[], &[]),
             930..945 => Record::new(call::CLOSE, &[slot], &[]),
             945..953 => Record::new(call::SET_ADDRESS, &[slot, self.draw.below(160) as u8], &[]),
-            953..961 => Record::new(call::SET_PACKET, &[slot, self.draw.of(&[0, 7, 8, 9, 64, 255])], &[]),
+            953..961 => self.set_packet(slot).1,
             961..973 => Record::new(call::SCAN, &[], &[]),
             973..978 => self.draw_step(c),
             978..984 => Record::new(call::POWER, &[self.draw.below(18) as u8], &[self.draw.word()]),
@@ -246,23 +246,46 @@ impl Generator {
         }
     }
 
-    fn endpoint(&mut self) -> Record {
+    fn endpoint(&mut self, c: &Controller) -> Record {
         let kind = if self.draw.one_in(12) { 1 } else { self.draw.of(&[0, 2, 2, 3]) };
         let address = if self.draw.one_in(10) { self.draw.of(&[128, 255]) } else { self.draw.below(128) as u8 };
         let number = if self.draw.one_in(10) { self.draw.of(&[16, 255]) } else { self.draw.below(16) as u8 };
-        let packet = match self.draw.below(12) {
-            0 => self.draw.of(&[0, 1025, 65535]),
-            1..4 => 1 + self.draw.below(1024),
-            _ => self.draw.of(&[1, 7, 8, 9, 64, 512, 1024]),
-        };
+        let packet = self.packet(c.settings.limit, kind);
         Record::new(call::ENDPOINT, &[kind, address, number], &[packet])
+    }
+
+    /// A packet size, mostly one that this kind may have: powers of two and others, the most, just over its half.
+    fn packet(&mut self, limit: u64, kind: u8) -> u64 {
+        let most = if kind < 2 { 1024 } else { limit.min(1024) };
+        let packet = match self.draw.below(16) {
+            0 => return self.draw.of(&[0, 1025, 65535]),
+            1 => return 1 + self.draw.below(1024),
+            2 => return limit + 1,
+            3 | 4 => 1 + self.draw.below(most),
+            5 => most,
+            6 => most / 2 + 1,
+            7..11 => self.draw.of(&[3, 7, 9, 100, 513, 1000, 1023]),
+            _ => self.draw.of(&[1, 8, 64, 512, 1024]),
+        };
+        packet.min(most)
+    }
+
+    /// A size to be set, after the raise, and the call.
+    fn set_packet(&mut self, slot: u8) -> (u64, Record) {
+        let size: u8 = match self.draw.below(4) {
+            0 => self.draw.below(256) as u8,
+            _ => self.draw.of(&[0, 7, 8, 9, 24, 64, 100, 255]),
+        };
+        (size.max(8) as u64, Record::new(call::SET_PACKET, &[slot, size], &[]))
     }
 
     // ---- requests
 
-    fn length(&mut self, c: &Controller, kind: u8) -> u64 {
-        let (limit, room) = (c.settings.limit, c.settings.descriptors);
-        match self.draw.below(12) {
+    /// About the multiples of the working limit, seldom of the limit itself.
+    fn length(&mut self, c: &Controller, kind: u8, whole: u64) -> u64 {
+        let room = c.settings.descriptors;
+        let limit = if self.draw.one_in(4) { c.settings.limit } else { whole };
+        match self.draw.below(13) {
             0 | 1 => 0,
             2 | 3 => self.draw.below(64),
             4 => self.draw.of(&[4095, 4096, 4097, 16383, KIB16, KIB16 + 1]),
@@ -273,6 +296,8 @@ impl Generator {
             10 | 11 if kind != 0 && room > 1 => {
                 limit * (1 + self.draw.below(room.min(6) - 1)) + 1 + self.draw.below(limit)
             }
+            // more than one by the working limit, one by the limit
+            12 => whole + self.draw.below(c.settings.limit - whole + 1),
             9 if self.draw.one_in(8) => self.draw.of(&[65536, 0xffff_ffff, 1 << 32, u64::MAX]),
             _ => self.draw.below(KIB16 + 1),
         }
@@ -283,7 +308,23 @@ impl Generator {
             Some(own) if !self.draw.one_in(10) => own,
             _ => self.draw.below(4) as u8,
         };
-        let length = self.length(c, kind);
+        let whole = c.working_limit(slot as usize).unwrap_or(c.settings.limit);
+        if own.is_some_and(|own| own >= 2) && self.draw.one_in(10) {
+            return self.submit_after_set(c, slot, kind);
+        }
+        self.request(c, slot, kind, whole)
+    }
+
+    /// A packet size is set, and a request follows whose length is about the new working limit.
+    fn submit_after_set(&mut self, c: &Controller, slot: u8, kind: u8) -> Record {
+        let (packet, set) = self.set_packet(slot);
+        let request = self.request(c, slot, kind, whole_packets(c.settings.limit, packet));
+        self.plan.extend([set, request]);
+        self.plan.pop_front().unwrap()
+    }
+
+    fn request(&mut self, c: &Controller, slot: u8, kind: u8, whole: u64) -> Record {
+        let length = self.length(c, kind, whole);
         let address = match self.draw.below(12) {
             0 | 1 => (1u64 << 32).saturating_sub(length),
             2 => (1u64 << 32).saturating_sub(length) + 1,

@@ -288,11 +288,11 @@ fn line_of(function: u64, words: &[u32]) -> String {
     format!("{function:08x} {words}")
 }
 
-/// What 000's own function says to a record. It has none for the bits of any word (1), a list of writes (17) and the places
-/// of a head's words (19, K1).
+/// What 000's own function says to a record. It has none for the bits of any word (1), a list of writes (17), the places
+/// of a head's words (19, K1) and a limit of whole packets (20: 02, order 4).
 fn said(function: u64, given: [u64; 4]) -> Option<Vec<u32>> {
     match function {
-        1 | 17 | 19 => None,
+        1 | 17 | 19 | 20 => None,
         7 => chunked(given),
         9 => one_chunk(given),
         10 => descriptor(given),

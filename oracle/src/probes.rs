@@ -29,6 +29,7 @@ pub fn run() {
     resets();
     polls();
     short_reply();
+    packets();
     lost_predecessor();
 }
 
@@ -124,6 +125,17 @@ fn short_reply() {
     let waits = (0..1000).all(|_| matches!(handle.reclaim(id), Ok(None)));
     let linked = handle.with_raw_mut::<EhciEndpoint, _>(|raw| raw.inflight.as_ref().unwrap().unlink_boundary.is_none());
     println!("N23: its first descriptor ends with 17480 left: pending at 1000 looks: {waits}; still linked: {linked}");
+}
+
+/// N24: 000's own split, with packets of 100 bytes.
+fn packets() {
+    let handle = endpoint(&controller(1), EndpointType::Bulk);
+    let buffer = Some(TransferBuffer { address: 0x1000_0000, len: 61441 });
+    handle.with_raw_mut::<EhciEndpoint, _>(|raw| raw.set_max_packet_size(100));
+    handle.submit(TransferRequest::Bulk { direction: Direction::Out, buffer }).unwrap();
+    let chunks = handle.with_raw_mut::<EhciEndpoint, _>(|raw| raw.inflight.as_ref().unwrap().chunk_lengths.clone());
+    let last = chunks[0] % 100;
+    println!("N24: the chunks of 61441 bytes in packets of 100: {chunks:?}; the first ends in a packet of {last}");
 }
 
 /// P1 and Q1: a head that its predecessor does not point to.

@@ -45,7 +45,16 @@ fn endpoint(kind: u8, address: u8, number: u8, packet: u64) -> Record {
 }
 
 fn bulk() -> Record {
-    endpoint(BULK, 5, 1, 512)
+    bulk_of(512)
+}
+
+/// A bulk endpoint with packets of this size.
+fn bulk_of(packet: u64) -> Record {
+    endpoint(BULK, 5, 1, packet)
+}
+
+fn set_packet(slot: u8, size: u8) -> Record {
+    Record::new(call::SET_PACKET, &[slot, size], &[])
 }
 
 fn on(number: u8, slot: u8) -> Record {
@@ -128,8 +137,10 @@ pub fn departures() -> Vec<(&'static str, Calls)> {
     let short = || with(running(), &[bulk(), submit(0, BULK, 1, 0x1000_0000, 20000), writeback(0, 0x3448_0d00)]);
     let collected = [collect(0, 1, 0), acknowledge(0x20), drain(), collect(0, 1, 0)];
     let short_then = |second| with(with(short(), &[writeback(1, second)]), &collected);
+    // 02's own: a limit of 1000 and packets of 512
+    let lab = with(started(4, 2, 1000), &[bulk(), submit(0, BULK, 0, 0x1000_0000, 1500)]);
     vec![
-        ("K1", vec![open(1, 1, 1, 1, 1), bulk()]),
+        ("K1", vec![open(1, 1, 1, 512, 1), bulk()]),
         ("K2", with(rung(), &[bulk(), one(1), cancel(1, 1, 0), acknowledge(0x24), drain(), drain()])),
         ("K3", with(asked(), &[acknowledge(0x20), cancel(0, 1, 0), drain()])),
         ("K4", with(running(), &[bulk(), keeps_bell])),
@@ -141,8 +152,8 @@ pub fn departures() -> Vec<(&'static str, Calls)> {
         ("N4", with(asked(), &[submit(0, CONTROL, 1, 0, 0)])),
         ("N5", with(vec![open(1, 1, 1, 1, 1), bare(call::START)], &[step(0), step(0)])),
         ("N6", with(asked(), &[Record::new(call::SET_ADDRESS, &[0, 9], &[])])),
-        ("N6", with(asked(), &[Record::new(call::SET_PACKET, &[0, 64], &[])])),
-        ("N6", vec![open(1, 1, 1, 1, 1), bulk(), Record::new(call::SET_ADDRESS, &[0, 200], &[])]),
+        ("N6", with(asked(), &[set_packet(0, 64)])),
+        ("N6", vec![open(1, 1, 1, 512, 1), bulk(), Record::new(call::SET_ADDRESS, &[0, 200], &[])]),
         ("N7", with(asked(), &[bare(call::START)])),
         ("N7", with(rung(), &brought_up())),
         ("N8", vec![open(1, 1, 2, 1, 1), power(1)]),
@@ -160,6 +171,11 @@ pub fn departures() -> Vec<(&'static str, Calls)> {
         ("N23", with(short(), &collected)),
         ("N23", short_then(0x0000_8d00)),
         ("N23", short_then(0x0e20_8d40)),
+        ("N24", with(running(), &[bulk_of(3), submit(0, BULK, 0, 0x1000_0000, 16384)])),
+        ("N24", lab),
+        ("N24", with(running(), &[bulk(), set_packet(0, 100), submit(0, BULK, 0, 0x1000_0000, 16384)])),
+        ("N25", vec![open(1, 1, 1, 1, 1), bulk_of(2)]),
+        ("N25", vec![open(1, 1, 1, 7, 1), bulk_of(7), set_packet(0, 1)]),
         ("C", with(running(), &[bulk(), submit(0, BULK, 1, 0x1000_0000, 16385)])),
         ("C", with(running(), &[bulk(), submit(0, BULK, 1, 0x1000_0fff, 20480)])),
         ("P4", with(unplugged, &scan(&[0, 0]))),
@@ -247,7 +263,7 @@ fn bring_ups() -> Vec<Calls> {
         with(begun(), &[0, 0x1000, 0, 2, 2, 0].map(step)),
         with(begun(), &[0, 0x1000, 0, 0, 0, 0x1000, 0x1000, 0].map(step)),
         with(with(begun(), &[step(0), step(0x1000), bare(call::START)]), &[0, 0x1000, 0, 0, 0, 0].map(step)),
-        with(started(1, 1, 1), &[bare(call::ENABLE), bare(call::START), bulk(), submit(0, BULK, 1, 0, 0)]),
+        with(started(1, 1, 512), &[bare(call::ENABLE), bare(call::START), bulk(), submit(0, BULK, 1, 0, 0)]),
     ]
 }
 
@@ -263,7 +279,7 @@ fn endpoints() -> Vec<Calls> {
     for slot in [0, 2, 3, 32, 255] {
         for value in [0, 7, 127, 128, 255] {
             asked.push(Record::new(call::SET_ADDRESS, &[slot, value], &[]));
-            asked.push(Record::new(call::SET_PACKET, &[slot, value], &[]));
+            asked.push(set_packet(slot, value));
         }
     }
     asked.extend([1, 1, 3].map(|slot| on(call::CLOSE, slot)));
@@ -303,7 +319,8 @@ fn submits() -> Vec<Calls> {
     let mut out = refused_submits();
     for limit in [1, 512, 4097, 16384] {
         for length in [0, 1, limit - 1, limit, limit + 1, 2 * limit, 3 * limit + 1, 4 * limit, 4 * limit + 1] {
-            let asked = [bulk(), submit(0, BULK, 0, 0x1000_0fff, length), submit(0, BULK, 0, 0, 1)];
+            let packet = if limit == 4097 { 241 } else { limit.min(512) };
+            let asked = [bulk_of(packet), submit(0, BULK, 0, 0x1000_0fff, length), submit(0, BULK, 0, 0, 1)];
             out.push(with(started(4, 1, limit), &asked));
         }
     }
@@ -358,7 +375,7 @@ fn unlinked(order: impl ExactSizeIterator<Item = u8> + Clone) -> Calls {
 /// Every error bit, before and after an active token; bytes left; late writebacks.
 fn tokens(incoming: u8) -> Vec<Calls> {
     let answered = [acknowledge(0x20), drain(), collect(0, 1, 0)];
-    let asked = || with(started(4, 1, 64), &[bulk(), submit(0, BULK, incoming, 0x1000, 100)]);
+    let asked = || with(started(4, 1, 64), &[bulk_of(64), submit(0, BULK, incoming, 0x1000, 100)]);
     let two = |first: u64, second: u64| {
         let left = [writeback(0, first), writeback(1, second), collect(0, 1, 0), collect(0, 1, 0)];
         with(with(asked(), &left), &answered)
@@ -379,7 +396,7 @@ fn more_tokens() -> Vec<Calls> {
     let stages = [writeback(0, 0x0008_0e00), writeback(1, 0x0002_0d00), writeback(2, 0x0c00), collect(0, 1, 0)];
     let control = with(with(with(control, &stages), &answered), &[submit(0, CONTROL, 0, 0, 0)]);
     let places = [writeback(0, 1), one(0), writeback(0, 1), writeback(1, 1), writeback(2, 1), writeback(u64::MAX, 1)];
-    vec![control, with(with(started(2, 1, 64), &[bulk()]), &places)]
+    vec![control, with(with(started(2, 1, 512), &[bulk()]), &places)]
 }
 
 /// Three descriptors, of 64, 64 and 22 bytes, in places 0 to 2.
@@ -433,7 +450,7 @@ fn short_replies() -> Vec<Calls> {
     // what has no place D in it: Out, one descriptor
     let ends = [writeback(0, LEFT), collect(0, 1, 0), writeback(1, LEFT), writeback(2, LEFT), collect(0, 1, 0)];
     out.push(with(with(read_of_three(BULK, 0), &ends), &answered));
-    let one = [bulk(), submit(0, BULK, 1, 0x1000, 64), writeback(0, LEFT), collect(0, 1, 0)];
+    let one = [bulk_of(64), submit(0, BULK, 1, 0x1000, 64), writeback(0, LEFT), collect(0, 1, 0)];
     out.push(with(with(started(4, 1, 64), &one), &answered));
     let polled = [writeback(0, LEFT), collect(0, 1, 100), collect(0, 1, 108), collect(0, 1, 109)];
     out.push(with(read_of_three(INTERRUPT, 1), &polled));
@@ -451,6 +468,83 @@ fn short_replies() -> Vec<Calls> {
 fn megabyte() -> Calls {
     let asked = [bulk(), submit(0, BULK, 1, 0x1000_0000, 1 << 20), writeback(0, 0x3448_0d00), collect(0, 1, 0)];
     with(with(started(64, 1, 16384), &asked), &[acknowledge(0x20), drain(), collect(0, 1, 0)])
+}
+
+/// Chunks of whole packets (02, order 4).
+fn packets() -> Vec<Calls> {
+    let mut out = Vec::new();
+    // limits with sizes that do not divide them, then with sizes that do
+    let uneven =
+        [(1000, 512), (1000, 999), (1000, 501), (16384, 1000), (16384, 1023), (16384, 7), (9, 8), (8, 7), (3, 2)];
+    for (limit, packet) in uneven.into_iter().chain([(1000, 1000), (1000, 500), (1024, 1024), (8, 8), (2, 1)]) {
+        let whole = limit - limit % packet;
+        for length in
+            [whole - 1, whole, whole + 1, limit, limit + 1, 2 * whole, 2 * whole + 1, 4 * whole, 4 * whole + 1]
+        {
+            let asked = [bulk_of(packet), submit(0, BULK, 0, 0x1000_0fff, length), submit(0, BULK, 0, 0, 1)];
+            out.push(with(started(4, 1, limit), &asked));
+        }
+    }
+    out.extend(sizes_above());
+    out.extend(sizes_set());
+    // one chunk by the limit and two descriptors: a reply may end at the first
+    let two = with(started(4, 1, 1000), &[bulk(), submit(0, BULK, 1, 0x1000, 1000)]);
+    let ended = [collect(0, 1, 0), acknowledge(0x20), drain(), collect(0, 1, 0)];
+    out.push(with(with(two.clone(), &[writeback(0, 0x01f4_0d00)]), &ended));
+    out.push(with(with(two, &[writeback(0, DONE), writeback(1, 0x0001_8d00)]), &ended));
+    // a control request has one data descriptor, whatever the limit and the size
+    let control = [endpoint(CONTROL, 5, 0, 512), submit(0, CONTROL, 1, 0x1000_0fff, 16384)];
+    out.push(with(started(4, 1, 64), &control));
+    out.push(with(started(4, 1, 1), &[endpoint(CONTROL, 5, 0, 1000), set_packet(0, 255), submit(0, CONTROL, 0, 0, 9)]));
+    out
+}
+
+/// About the limit and about the raise to 8, for each kind; after 5 and before 2, after 4.
+fn sizes_above() -> Vec<Calls> {
+    let mut out = Vec::new();
+    for limit in [1, 7, 8, 9, 64, 255, 256, 1023, 1024] {
+        let mut calls = started(4, 3, limit);
+        for kind in [BULK, INTERRUPT] {
+            calls.extend([limit + 1, 1024, 1025].map(|packet| endpoint(kind, 5, 1, packet)));
+        }
+        calls.extend([endpoint(CONTROL, 5, 0, 1024), bulk_of(limit.min(1024)), endpoint(INTERRUPT, 5, 2, 1)]);
+        // no slot is closed any more
+        calls.extend([
+            bulk_of(1),
+            bulk_of(limit + 1),
+            endpoint(ISOCHRONOUS, 5, 1, limit + 1),
+            endpoint(CONTROL, 1, 0, 9),
+        ]);
+        for slot in [0, 1, 2, 3] {
+            let about = [0, 7, 8, 9, limit.min(255) as u8, (limit + 1).min(255) as u8, 255];
+            calls.extend(about.map(|size| set_packet(slot, size)));
+        }
+        calls.extend([submit(1, BULK, 0, 0, limit), set_packet(1, 0), set_packet(1, 255), cancel(1, 1, 0)]);
+        calls.extend([
+            set_packet(1, 255),
+            acknowledge(0x20),
+            drain(),
+            collect(1, 1, 0),
+            set_packet(1, 255),
+            set_packet(1, 8),
+        ]);
+        out.push(calls);
+    }
+    out
+}
+
+/// A size set between requests counts from the next one on; the one that is in flight keeps its chunks.
+fn sizes_set() -> Vec<Calls> {
+    let mut calls = with(started(8, 2, 1000), &[bulk_of(7), endpoint(INTERRUPT, 5, 2, 1000)]);
+    for (turn, size) in [0, 9, 64, 100, 255, 8].into_iter().enumerate() {
+        let id = turn as u64 + 1;
+        for (slot, kind) in [(0, BULK), (1, INTERRUPT)] {
+            calls.extend([submit(slot, kind, 1, 0x1000, 3000), set_packet(slot, size)]);
+            calls.extend([writeback(0, DONE), writeback(1, 0x0064_0d00), collect(slot, id, 0)]);
+            calls.extend([acknowledge(0x20), drain(), collect(slot, id, 9), set_packet(slot, size)]);
+        }
+    }
+    vec![calls]
 }
 
 fn interrupts() -> Vec<Calls> {
@@ -503,7 +597,7 @@ fn ports() -> Vec<Calls> {
 /// The scripts of the fixed list: those by hand, then short ones by chance.
 fn fixed() -> Calls {
     let mut calls: Calls = vec![bare(call::START), bulk(), one(0), bare(call::SCAN), power(1), drain()];
-    let requests = [submits(), unlinks(), tokens(1), tokens(0), more_tokens(), short_replies()];
+    let requests = [submits(), unlinks(), tokens(1), tokens(0), more_tokens(), short_replies(), packets()];
     let by_hand = [openings(), bring_ups(), endpoints(), requests.concat(), interrupts(), ports()];
     let scripts: Vec<Calls> =
         departures().into_iter().map(|(_, calls)| calls).chain(by_hand.into_iter().flatten()).collect();
@@ -538,30 +632,40 @@ pub fn fixed_log() -> Vec<u8> {
     log
 }
 
-/// Requests of one to six chunks: limits, lengths about their multiples, offsets in a page, both kinds, both directions.
+/// Requests of one to six chunks: limits, packet sizes, lengths about the working limit's multiples, offsets in a page, both
+/// kinds, both directions.
 pub fn chunk_edges() -> Calls {
     let mut calls = Vec::new();
     for limit in [1, 2, 3, 63, 64, 512, 1000, 4095, 4096, 4097, 8192, 12289, 16383, 16384] {
-        calls.extend(started(5, 2, limit));
-        calls.extend([bulk(), endpoint(INTERRUPT, 5, 2, 8)]);
-        let lengths = (0..6).flat_map(|k| [(k * limit).saturating_sub(1), k * limit, k * limit + 1]);
-        let offsets = [0, 1, 0x7ff, 0xffe, 0xfff];
-        let asked = lengths.flat_map(|length| offsets.map(|offset| (length, 0x1000_0000 + offset)));
-        let mut id = 0;
-        for (turn, (length, address)) in asked.enumerate() {
-            let incoming = turn as u8 % 2;
-            // more than five chunks find no room, and take no id
-            if length <= 5 * limit {
-                id += 1;
+        for (bulk, polled) in [(512, 8), (1000, 7), (513, 1023), (100, 3)] {
+            calls.extend(started(5, 2, limit));
+            let packets = [bulk, polled].map(|packet: u64| packet.min(limit));
+            calls.extend([bulk_of(packets[0]), endpoint(INTERRUPT, 5, 2, packets[1])]);
+            calls.extend(edges_of(limit, packets));
+        }
+    }
+    calls
+}
+
+/// On a bulk endpoint in slot 0 and an interrupt endpoint in slot 1, with these packet sizes and five descriptors.
+fn edges_of(limit: u64, packets: [u64; 2]) -> Calls {
+    let mut calls = Vec::new();
+    let mut ids = [0, 0];
+    for (turn, (k, over)) in (0..6).flat_map(|k| [-1, 0, 1].map(|over| (k, over))).enumerate() {
+        for (other, offset) in [0, 1, 0x7ff, 0xffe, 0xfff].into_iter().enumerate() {
+            let incoming = (turn + other) as u8 % 2;
+            for (slot, kind) in [(0, BULK), (1, INTERRUPT)] {
+                let whole = limit - limit % packets[slot];
+                let length = (k * whole).saturating_add_signed(over);
+                // more than five chunks find no room, and take no id
+                ids[slot] += (length <= 5 * whole) as u64;
+                let (at, id) = (slot as u8, ids[slot]);
+                calls.extend([submit(at, kind, incoming, 0x1000_0000 + offset, length), cancel(at, id, 0)]);
+                if kind == BULK {
+                    calls.extend([acknowledge(0x20), drain()]);
+                }
+                calls.push(collect(at, id, 9));
             }
-            calls.extend([
-                submit(0, BULK, incoming, address, length),
-                cancel(0, id, 0),
-                acknowledge(0x20),
-                drain(),
-                collect(0, id, 0),
-            ]);
-            calls.extend([submit(1, INTERRUPT, incoming, address, length), cancel(1, id, 0), collect(1, id, 9)]);
         }
     }
     calls
@@ -571,7 +675,7 @@ pub fn chunk_edges() -> Calls {
 /// that may end early and one that may not; then 256 descriptors, short at several places.
 pub fn reply_edges() -> Calls {
     let mut calls = started(256, 2, 64);
-    calls.extend([bulk(), endpoint(INTERRUPT, 5, 2, 8)]);
+    calls.extend([bulk_of(64), endpoint(INTERRUPT, 5, 2, 8)]);
     let mut ids = [0, 0];
     let kinds = [(BULK, 0, 1), (INTERRUPT, 1, 1), (BULK, 0, 0)];
     for (kind, slot, incoming) in kinds {
@@ -614,7 +718,7 @@ pub fn log_of(calls: &[Record]) -> Vec<u8> {
 mod tests {
     use super::*;
 
-    /// Lines of the blocks of some calls, in order, worked out by hand from 02, order 1.
+    /// Lines of the blocks of some calls, in order, worked out by hand from 02, orders 1 and 4.
     fn hold(calls: Calls, lines: &[(usize, &[&str])]) {
         let _alone = crate::ALONE.lock().unwrap();
         let blocks = blocks_of(&calls);
@@ -719,7 +823,7 @@ mod tests {
         let at = |pool| opening(4, 1, 1, 64, 1, [pool, 0x200000, 0x300000, 0x400000]);
         let mut calls = vec![at(HIGH - 256), at(HIGH - 320)];
         calls.extend(brought_up());
-        calls.extend([bulk(), submit(0, BULK, 1, 0x1000, 256), writeback(4, 0), writeback(3, 0)]);
+        calls.extend([bulk_of(64), submit(0, BULK, 1, 0x1000, 256), writeback(4, 0), writeback(3, 0)]);
         let last = format!("P 3 00000001 00000001 00000000 000010c0 00000000 {ZEROS}");
         let fourth = format!("P 4 00000001 00000001 00000000 00000000 00000000 {ZEROS}");
         let opened = [
@@ -738,5 +842,61 @@ mod tests {
         let refused = ["C 11 10 1", "Q 1 0 0 0 0 00000000 00000000 0 1", "."];
         let written = ["C 12 10 0", &last, "Q 1 0 0 0 0 00000000 00000000 0 1", "."];
         hold(calls, &[(0, &["C 0 1 1", "."]), (1, &opened), (11, &refused), (12, &written)]);
+    }
+
+    /// A limit of 1000 and packets of 512: 1500 bytes are 512, 512 and 476, tokens 02000d80, 02000d80, 01dc8d80. The second has
+    /// 500 left: 512 + 12. Then packets of 100, which divide 1000: 1000 bytes are one chunk.
+    #[test]
+    fn a_chunk_ends_with_a_packet() {
+        let tokens = [writeback(0, 0x0d00), writeback(1, 0x01f4_0d00), collect(0, 1, 0)];
+        let ends = [acknowledge(0x20), drain(), collect(0, 1, 0), set_packet(0, 100), submit(0, BULK, 0, 0x1000, 1000)];
+        let calls = with(started(4, 2, 1000), &[bulk(), submit(0, BULK, 1, 0x1000, 1500)]);
+        let parts = [
+            "P 0 00100040 00100100 02000d80 00001000 00000000",
+            "P 1 00100080 00100100 02000d80 00001200 00000000",
+            "P 2 00000001 00000001 01dc8d80 00001400 00000000",
+            "P 0 00000001 00000001 03e88c80 00001000 00000000",
+        ]
+        .map(|words| format!("{words} {ZEROS}"));
+        let asked = [
+            "C 9 9 0 1",
+            &parts[0],
+            &parts[1],
+            &parts[2],
+            "H 0 0 00200082",
+            "H 1 0 00200002",
+            "H 1 4 00100000",
+            "Q 1 0 0 0 0 00000000 00000000 1 1",
+            "W 00 00080031",
+            ".",
+        ];
+        let collected = ["C 15 12 0 524", "H 1 4 00000001", "Q 1 0 0 0 0 00000000 00000020 4 1", "."];
+        let set = ["C 16 8 0", "H 1 1 f0642105", "Q 1 0 0 0 0 00000000 00000020 4 1", "."];
+        let again = [
+            "C 17 9 0 2",
+            &parts[3],
+            "H 0 0 00200082",
+            "H 1 4 00100000",
+            "Q 1 0 0 0 0 00000000 00000020 3 1",
+            "W 00 00080031",
+            ".",
+        ];
+        let calls = with(with(calls, &tokens), &ends);
+        hold(calls, &[(9, &asked), (15, &collected), (16, &set), (17, &again)]);
+    }
+
+    /// A limit of 64 and two slots: 65 is refused and 64 is not, after 5 and before 2, whatever the kind but control; then the
+    /// same of a size that is set. With a limit of 7 none can be set, because it is raised to 8.
+    #[test]
+    fn a_packet_longer_than_the_limit_is_refused() {
+        let _alone = crate::ALONE.lock().unwrap();
+        let opened = [bulk_of(65), endpoint(INTERRUPT, 5, 1, 1024), endpoint(ISOCHRONOUS, 5, 1, 65), bulk_of(64)];
+        let full = [endpoint(CONTROL, 5, 0, 1024), bulk_of(65), bulk_of(64)];
+        let set = [set_packet(0, 65), set_packet(0, 64), set_packet(1, 255), set_packet(2, 65)];
+        let low = [open(1, 1, 1, 7, 1), bulk_of(8), bulk_of(7), set_packet(0, 0), set_packet(0, 7)];
+        let calls = [&[open(4, 2, 1, 64, 1)], &opened[..], &full, &set, &low].concat();
+        let answers: Vec<String> =
+            blocks_of(&calls).iter().map(|block| block.split_whitespace().nth(3).unwrap().to_string()).collect();
+        assert_eq!(answers.join(" "), "0 1 1 5 0 0 1 2 1 0 0 3 0 1 0 1 1");
     }
 }

@@ -14,7 +14,7 @@ pub enum Sort {
 
 use Sort::{Departure, Outside, Rule};
 
-pub const TAGS: [(&str, Sort, &str); 33] = [
+pub const TAGS: [(&str, Sort, &str); 35] = [
     ("K1", Departure, "a head's overlay stands at byte 32: its words are read by name"),
     ("K2", Departure, "an advance counted again after a port change: not counted, ring dropped"),
     ("K3", Departure, "an advance counted that was acknowledged before the ring: not counted, ring dropped"),
@@ -35,10 +35,12 @@ pub const TAGS: [(&str, Sort, &str); 33] = [
     ("N20", Departure, "memory is gone after freeing: its words are kept, a closed head is zeroed"),
     ("N22", Departure, "every alternate ends: an In request's lead to a descriptor put at place D"),
     ("N23", Departure, "a short reply waits for the descriptors after it: they are hidden while 000 looks"),
+    ("N24", Departure, "a chunk may end inside a packet: the working limit is taken for the limit"),
     ("C", Departure, "more than one chunk at a limit other than 20480: the split is replaced"),
     ("P4", Departure, "an unplugged port is Uninit with its first reading: shown with the second"),
     ("N11", Outside, "a buffer past 2^32, or a control request above 16384 bytes: refused"),
     ("N17", Outside, "a controller without ports: refused"),
+    ("N25", Outside, "a bulk or interrupt packet size above the limit: refused"),
     ("setup", Outside, "a recipient above 3, which only the stand-in's type holds"),
     ("01-range", Outside, "a value outside 01's other ranges: opening, open endpoint, the setup's direction bit"),
     ("01-before", Rule, "a call before a first accepted opening"),
@@ -73,7 +75,8 @@ pub fn leave_out(tags: &str) {
 
 /// The repairs that can be left out.
 pub fn repairs() -> Vec<&'static str> {
-    let repair = |(tag, sort, _): &(&'static str, Sort, &str)| *sort == Departure || matches!(*tag, "N11" | "N17");
+    let repair =
+        |(tag, sort, _): &(&'static str, Sort, &str)| *sort == Departure || matches!(*tag, "N11" | "N17" | "N25");
     TAGS.iter().filter(|entry| repair(entry)).map(|(tag, ..)| *tag).collect()
 }
 
@@ -108,6 +111,7 @@ pub fn without_original() -> u64 {
         "N15",
         "N16",
         "N17",
+        "N25",
         "01-range",
         "01-before",
         "01-slot",

@@ -1,5 +1,5 @@
-"""A model of the controller, written from document 01 as 02's order 1 reads it (and docs/DECISIONS.md where both are silent), not from
-the code.
+"""A model of the controller, written from document 01 as 02's orders 1 and 4 read it (and docs/DECISIONS.md where these are silent),
+not from the code.
 
 A module a subject, each of them using only those above it:
 

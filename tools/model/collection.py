@@ -1,4 +1,4 @@
-"""01, "Unlinking and collecting", and 02, order 1 (EHCI 4.10): cancel and collect."""
+"""01, "Unlinking and collecting", and 02, orders 1 (EHCI 4.10) and 4: cancel and collect."""
 
 from typing import NamedTuple
 
@@ -50,7 +50,7 @@ def first_erring(tokens):
 
 
 def moved(slot, limit, tokens):
-    """The sum over data descriptors of max(0, requested - bytes left)."""
+    """The sum over data descriptors of max(0, requested - bytes left). The limit is still the submit's: a busy slot's size cannot be set."""
     requested = data_bytes(slot.kind, slot.length, limit)
     return sum(max(0, size - bytes_left(token)) for size, token in zip(requested, tokens))
 
@@ -59,7 +59,7 @@ def see(state, rows, k):
     slot, tokens = state.slots[k], [rows.pool[place].token for place in state.places_of(k)]
     may_be_short = may_end_short(slot.kind, slot.direction)
     read = up_to_short(tokens) if may_be_short else tokens
-    return Seen(finished(tokens, may_be_short), first_erring(read), moved(slot, state.settings.C, read))
+    return Seen(finished(tokens, may_be_short), first_erring(read), moved(slot, state.limit_of(slot), read))
 
 
 def check_uncrowded(state, k):

@@ -83,6 +83,11 @@ def with_address(word, address):
     return with_field(word, 0, 7, address)
 
 
+def raised(size):
+    """A packet size as it is set."""
+    return max(size, 8)
+
+
 def with_packet_size(word, size):
     """Characteristics with another packet size, raised to 8."""
-    return with_field(word, 16, 11, max(size, 8))
+    return with_field(word, 16, 11, raised(size))

@@ -1,7 +1,8 @@
-"""01, "Order of checks": addresses; open endpoint, close, set address, set packet size."""
+"""01, "Order of checks", and 02, order 4: addresses; open endpoint, close, set address, set packet size."""
 
 from model.answers import ENDPOINT, FULL, INVALID, LIMIT, UNSUPPORTED, Answer, need
-from model.descriptors import CHARACTERISTICS, HEAD_WORDS, head, with_address, with_packet_size
+from model.descriptors import CHARACTERISTICS, HEAD_WORDS, head, raised, with_address, with_packet_size
+from model.ranges import packet_good
 from model.state import CLOSED, IDLE, Slot
 from model.tokens import ISOCHRONOUS
 
@@ -14,13 +15,13 @@ def allocate_address(state):
 
 
 def open_endpoint(state, rows, kind, address, number, packet):
-    """5, then the ranges (1), then 2; the lowest closed slot is used. The packet size is written as it is given."""
+    """5, then the ranges (1), then 2; the lowest closed slot is used. The packet size is kept and written as it is given."""
     need(kind != ISOCHRONOUS, UNSUPPORTED)
-    need(address <= 127 and number <= 15 and 1 <= packet <= 1024, INVALID)
+    need(address <= 127 and number <= 15 and packet_good(state.settings, kind, packet), INVALID)
     closed = [k for k in range(state.settings.E) if state.slots[k].phase == CLOSED]
     need(closed, LIMIT)
     k = closed[0]
-    state.slots[k] = Slot(IDLE, kind)
+    state.slots[k] = Slot(IDLE, kind, packet)
     rows.set_head(k, head(kind, address, number, packet))
     return Answer(values=(k,))
 
@@ -47,6 +48,10 @@ def set_address(state, rows, k, address):
 
 
 def set_packet_size(state, rows, k, size):
+    """It is judged after the raise to 8, and by the slot's kind, which only an open slot has."""
     check_idle(state, k)
+    slot, packet = state.slots[k], raised(size)
+    need(packet_good(state.settings, slot.kind, packet), INVALID)
+    slot.packet = packet
     rows.set_head(k, [with_packet_size(rows.head_word(k, CHARACTERISTICS), size)], CHARACTERISTICS)
     return Answer()

@@ -1,6 +1,7 @@
 """01, "Order of checks. First: a lent row of a length other than opening fixed, or a state outside its ranges, 1."
 
-The ranges of what is opened are 01's ("Opening a controller"), with the descriptors' area of 02, order 1; those of the rest of a state are docs/DECISIONS.md's."""
+The ranges of what is opened are 01's ("Opening a controller"), with the descriptors' area of 02, order 1; a packet size's are 01's with
+02, order 4; those of the rest of a state are docs/DECISIONS.md's."""
 
 from functools import cache
 
@@ -34,6 +35,11 @@ def settings_good(settings):
     return aligned and below and areas_apart(settings)
 
 
+def packet_good(settings, kind, packet):
+    """02, order 4: of a bulk or interrupt endpoint at most C, so that one packet at least is in the limit."""
+    return 1 <= packet <= 1024 and (kind == CONTROL or packet <= settings.C)
+
+
 def request_empty(state, slot):
     return slot.request == slot.direction == slot.length == slot.cancel == state.still_to_come(slot) == 0
 
@@ -50,8 +56,10 @@ def request_good(state, slot):
 
 def slot_good(state, slot):
     if slot.phase == CLOSED:
-        return slot.kind == 0 and slot.id == 1 and request_empty(state, slot)
+        return slot.kind == slot.packet == 0 and slot.id == 1 and request_empty(state, slot)
     if slot.kind not in (CONTROL, BULK, INTERRUPT) or slot.id < 1:
+        return False
+    if not packet_good(state.settings, slot.kind, slot.packet):
         return False
     if slot.phase == IDLE:
         return request_empty(state, slot)

@@ -1,4 +1,4 @@
-"""01, "Order of checks" and "Descriptors, heads, links": submit and writeback."""
+"""01, "Order of checks" and "Descriptors, heads, links", and 02, orders 1 and 4: submit and writeback."""
 
 from model.answers import ENDPOINT, FULL, INVALID, MEMORY, NOT_READY, UNSUPPORTED, Answer, need
 from model.descriptors import END, OVERLAY, descriptor, setup_packet
@@ -15,10 +15,10 @@ def buffer_good(kind, direction, setup, address, length):
     return kind != CONTROL or length <= 16384 and setup < 2**48 and setup >> 7 & 1 == direction
 
 
-def plan(settings, k, kind, direction, address, length):
+def plan(settings, k, kind, direction, address, length, limit):
     if kind == CONTROL:
         return control_plan(direction, settings.setup_address(k), address, length)
-    return chunk_plan(direction, address, length, settings.C)
+    return chunk_plan(direction, address, length, limit)
 
 
 def alternate_for(settings, kind, direction):
@@ -57,10 +57,11 @@ def submit(state, rows, k, kind, direction, setup, address, length, command):
     need(kind != ISOCHRONOUS, UNSUPPORTED)
     need(kind == slot.kind, ENDPOINT)
     need(buffer_good(kind, direction, setup, address, length), INVALID)
-    count = descriptors_needed(kind, length, settings.C)
+    limit = state.limit_of(slot)
+    count = descriptors_needed(kind, length, limit)
     need(len(state.free_places()) >= count, MEMORY)
     places = take_places(state, k, count)
-    parts = plan(settings, k, kind, direction, address, length)
+    parts = plan(settings, k, kind, direction, address, length, limit)
     write_chain(settings, rows, parts, places, alternate_for(settings, kind, direction))
     if kind == CONTROL:
         rows.set_setup(k, setup_packet(setup, length))

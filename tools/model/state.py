@@ -4,7 +4,7 @@ closed slot, an owner for each descriptor). Unlinks are counted as 01 counts the
 from typing import NamedTuple
 
 from model.descriptors import HEAD_WORDS, Descriptor
-from model.tokens import CONTROL, INTERRUPT
+from model.tokens import CONTROL, INTERRUPT, working_limit
 
 CLOSED, IDLE, LINKED, UNLINKING = range(4)
 MOST_SLOTS, MOST_DESCRIPTORS, MOST_PORTS, FRAMES = 32, 256, 15, 1024
@@ -46,10 +46,11 @@ class Settings(NamedTuple):
 
 
 class Slot:
-    """An endpoint slot. `id` is the next request's; the last five are the uncollected request's, 0 where there is none."""
+    """An endpoint slot. `packet` is the packet size (02, order 4): the slot's own, since a lent head's may be altered, and 0 in a closed one.
+    `id` is the next request's; the last five are the uncollected request's, 0 where there is none."""
 
-    def __init__(self, phase=CLOSED, kind=CONTROL):
-        self.phase, self.kind, self.id = phase, kind, 1
+    def __init__(self, phase=CLOSED, kind=CONTROL, packet=0):
+        self.phase, self.kind, self.packet, self.id = phase, kind, packet, 1
         self.forget()
 
     def forget(self):
@@ -79,6 +80,10 @@ class State:
 
     def is_open(self, k):
         return k < self.settings.E and self.slots[k].phase != CLOSED
+
+    def limit_of(self, slot):
+        """What a slot's requests are cut by."""
+        return working_limit(slot.kind, self.settings.C, slot.packet)
 
     def unanswered(self):
         return self.unlinks - self.answered

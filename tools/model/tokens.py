@@ -35,6 +35,12 @@ class Part(NamedTuple):
     length: int
 
 
+def working_limit(kind, limit, packet):
+    """02, order 4: for bulk and interrupt the largest multiple of the packet size that is not above the limit. A packet shorter than the
+    others ends a transfer (USB 5.8.3), so no chunk but the last may end in one. Control data is one descriptor: no limit cuts it."""
+    return limit if kind == CONTROL else limit // packet * packet
+
+
 def chunks(length, limit):
     """Chunks of the limit, then the rest; length 0 is one chunk of 0."""
     return [min(limit, length - at) for at in range(0, length, limit)] or [0]
@@ -73,7 +79,7 @@ def may_end_short(kind, direction):
 
 
 def descriptors_needed(kind, length, limit):
-    """Control 2, or 3 with data; else 1 at length 0, otherwise length / C rounded up."""
+    """Control 2, or 3 with data; else 1 at length 0, otherwise length / limit rounded up; the limit is the working one."""
     if kind == CONTROL:
         return 3 if length > 0 else 2
     return -(-length // limit) if length > 0 else 1

@@ -104,14 +104,14 @@ pub extern "C" fn port_set_address(
 #[no_mangle]
 pub extern "C" fn port_set_packet_size(
     core: Core,
-    slots: &[u64],
+    slots: &mut [u64],
     heads: &mut [u32],
     slot: u8,
     size: u8,
 ) -> Replied
-    ensures { λ r. ⌜ HeadsCall core (now (slots .entry)) (now (slots .entry)) (now (heads .entry)) (now (heads .exit))
+    ensures { λ r. ⌜ HeadsCall core (now (slots .entry)) (now (slots .exit)) (now (heads .entry)) (now (heads .exit))
         r (refusedNumbers (core .rest)) (r .rest)
-        (besideHeads (seenIn (core .settings) r (now (slots .entry))) (now (heads .exit)))
+        (besideHeads (seenIn (core .settings) r (now (slots .exit))) (now (heads .exit)))
         (λ pool frames setups. seenChanged (setPacketSizeOf (view core (now (slots .entry))) pool (now (heads .entry)) frames setups slot size)) ⌝ }
 {
     pack_change(set_packet_size(core, slots, heads, slot, size))

@@ -1,12 +1,14 @@
 -- The definitions, run.
 use mathlib.Core.Path.{_≡_, refl}
 use mathlib.Core.Bool.{true, false}
-use mathlib.Core.List.{[], _∷_}
+use mathlib.Core.List.{[], _∷_, map}
 use Rattle.register.specs.Bits.{withoutBits}
 use Rattle.register.specs.Writes.{andThen, noWrites}
-use Rattle.pool.specs.Places.{clearOf}
+use Rattle.pool.specs.Chains.{Seen, firstError, lengthOf, readOf, seenFrom, standingOf, viewOf}
+use Rattle.pool.specs.Places.{clearOf, listOf, packed, placesFrom}
+use Rattle.pool.specs.Transfers.{requestedAt}
 use Rattle.settings.specs.Settings.{settingsGood, numbersGood, eachGood, noOverlap, areaGood, apartAreas}
-use Rattle.slot.specs.Ranges.{slotGood, phaseGood, closedGood, noRequest, idleGood, linkedGood, unlinkingGood, boundaryGood, openKind}
+use Rattle.slot.specs.Ranges.{slotGood, phaseGood, closedGood, noRequest, idleGood, linkedGood, unlinkingGood, boundaryGood, openKind, sizeGood, sizeKept}
 use Rattle.state.specs.Ranges.{inRanges, restGood, machineGood, interruptGood, doorbellGood, ownerGood, largest, slotsGood}
 use Rattle.state.specs.Slots.{slotAt, withSlot}
 use Rattle.state.specs.State.{withBell, withOwner}
@@ -17,35 +19,36 @@ use Rattle.common.specs.Rows.{putAt}
 use Rattle.schedule.specs.Bell.{ringOf, unlinkedOf}
 use Rattle.schedule.specs.Links.{detachOf, endedOverlay, predecessorOf}
 use Rattle.collection.specs.Answers.{outcomeOf}
+use Rattle.collection.specs.Asks.{askOf, askable, requestAsk}
 use Rattle.collection.specs.Unlinks.{boundedOf, unlinkOf, waitingOf}
 use Rattle.collection.specs.Calls.{cancelOf, collectOf, finishOf, freed, linkedOf, unlinkingOf}
-use Rattle.collection.specs.Examples.{cancelRow, cancelled, collectRow, collected, noFrames, oneRequest, ringOfOne, seen}
+use Rattle.collection.specs.Examples.{cancelRow, cancelled, collectRow, collected, cutRequest, noFrames, oneRequest, ringOfOne, seen, seenWith, viewLeft}
 use lib.ListN.{length}
 
 -- ---- the states are in their ranges, but the last
 
 linked-fits : acceptsOf (oneRequest 2 2 0 0 0) (lengths 5 (length ringOfOne) (length noFrames) 16) ≡ true
-unfolding acceptsOf rowsFit inRanges restGood machineGood interruptGood doorbellGood ownerGood largest slotsGood slotGood phaseGood closedGood idleGood noRequest linkedGood unlinkingGood boundaryGood openKind settingsGood numbersGood eachGood noOverlap areaGood apartAreas slotAt withoutBits
+unfolding acceptsOf rowsFit inRanges restGood machineGood interruptGood doorbellGood ownerGood largest slotsGood slotGood phaseGood closedGood idleGood noRequest linkedGood unlinkingGood boundaryGood openKind sizeGood sizeKept settingsGood numbersGood eachGood noOverlap areaGood apartAreas slotAt withoutBits
 linked-fits = refl
 
 crowded-fits : acceptsOf (oneRequest 2 2 0 0 32) (lengths 5 (length ringOfOne) (length noFrames) 16) ≡ true
-unfolding acceptsOf rowsFit inRanges restGood machineGood interruptGood doorbellGood ownerGood largest slotsGood slotGood phaseGood closedGood idleGood noRequest linkedGood unlinkingGood boundaryGood openKind settingsGood numbersGood eachGood noOverlap areaGood apartAreas slotAt withoutBits
+unfolding acceptsOf rowsFit inRanges restGood machineGood interruptGood doorbellGood ownerGood largest slotsGood slotGood phaseGood closedGood idleGood noRequest linkedGood unlinkingGood boundaryGood openKind sizeGood sizeKept settingsGood numbersGood eachGood noOverlap areaGood apartAreas slotAt withoutBits
 crowded-fits = refl
 
 waiting-fits : acceptsOf (oneRequest 3 2 0 1 1) (lengths 5 (length ringOfOne) (length noFrames) 16) ≡ true
-unfolding acceptsOf rowsFit inRanges restGood machineGood interruptGood doorbellGood ownerGood largest slotsGood slotGood phaseGood closedGood idleGood noRequest linkedGood unlinkingGood boundaryGood openKind settingsGood numbersGood eachGood noOverlap areaGood apartAreas slotAt withoutBits
+unfolding acceptsOf rowsFit inRanges restGood machineGood interruptGood doorbellGood ownerGood largest slotsGood slotGood phaseGood closedGood idleGood noRequest linkedGood unlinkingGood boundaryGood openKind sizeGood sizeKept settingsGood numbersGood eachGood noOverlap areaGood apartAreas slotAt withoutBits
 waiting-fits = refl
 
 passed-fits : acceptsOf (oneRequest 3 2 0 0 0) (lengths 5 (length ringOfOne) (length noFrames) 16) ≡ true
-unfolding acceptsOf rowsFit inRanges restGood machineGood interruptGood doorbellGood ownerGood largest slotsGood slotGood phaseGood closedGood idleGood noRequest linkedGood unlinkingGood boundaryGood openKind settingsGood numbersGood eachGood noOverlap areaGood apartAreas slotAt withoutBits
+unfolding acceptsOf rowsFit inRanges restGood machineGood interruptGood doorbellGood ownerGood largest slotsGood slotGood phaseGood closedGood idleGood noRequest linkedGood unlinkingGood boundaryGood openKind sizeGood sizeKept settingsGood numbersGood eachGood noOverlap areaGood apartAreas slotAt withoutBits
 passed-fits = refl
 
 marked-fits : acceptsOf (oneRequest 3 2 1 0 0) (lengths 5 (length ringOfOne) (length noFrames) 16) ≡ true
-unfolding acceptsOf rowsFit inRanges restGood machineGood interruptGood doorbellGood ownerGood largest slotsGood slotGood phaseGood closedGood idleGood noRequest linkedGood unlinkingGood boundaryGood openKind settingsGood numbersGood eachGood noOverlap areaGood apartAreas slotAt withoutBits
+unfolding acceptsOf rowsFit inRanges restGood machineGood interruptGood doorbellGood ownerGood largest slotsGood slotGood phaseGood closedGood idleGood noRequest linkedGood unlinkingGood boundaryGood openKind sizeGood sizeKept settingsGood numbersGood eachGood noOverlap areaGood apartAreas slotAt withoutBits
 marked-fits = refl
 
 outside : acceptsOf (oneRequest 1 2 0 0 0) (lengths 5 (length ringOfOne) (length noFrames) 16) ≡ false
-unfolding acceptsOf rowsFit inRanges restGood machineGood interruptGood doorbellGood ownerGood largest slotsGood slotGood phaseGood closedGood idleGood noRequest linkedGood unlinkingGood boundaryGood openKind settingsGood numbersGood eachGood noOverlap areaGood apartAreas slotAt withoutBits
+unfolding acceptsOf rowsFit inRanges restGood machineGood interruptGood doorbellGood ownerGood largest slotsGood slotGood phaseGood closedGood idleGood noRequest linkedGood unlinkingGood boundaryGood openKind sizeGood sizeKept settingsGood numbersGood eachGood noOverlap areaGood apartAreas slotAt withoutBits
 outside = refl
 
 -- ---- cancel: answer, writes, the ring head's link; the slot's phase, mark, boundary; unanswered; place 0's owner
@@ -130,3 +133,31 @@ collect-wrong-id = rw passed-fits
 pub collect-closed-slot : collectRow (collected (oneRequest 3 2 0 0 0) 0 (seen 0 0 20000) 1 1) ≡ 3 ∷ 0 ∷ 0 ∷ 0x200082 ∷ 7 ∷ 3 ∷ 0 ∷ 0 ∷ 0 ∷ 1 ∷ []
 unfolding collectOf linkedOf unlinkingOf finishOf freed clearOf outcomeOf endpointAt decoded slotAt unlinkOf waitingOf boundedOf unlinkedOf ringOf detachOf predecessorOf endedOverlay putAt withEndpoint withSlot withOwner withBell noWrites andThen
 collect-closed-slot = rw passed-fits
+
+-- ---- a limit of 1000 over packets of 512: the chunks of 1000 bytes are 512 and 488, where by the limit alone they would be one of 1000
+
+cut-fits : acceptsOf cutRequest (lengths 5 (length ringOfOne) (length noFrames) 16) ≡ true
+unfolding acceptsOf rowsFit inRanges restGood machineGood interruptGood doorbellGood ownerGood largest slotsGood slotGood phaseGood closedGood idleGood noRequest linkedGood unlinkingGood boundaryGood openKind sizeGood sizeKept settingsGood numbersGood eachGood noOverlap areaGood apartAreas slotAt withoutBits
+cut-fits = refl
+
+pub cut-chunks : map (λ (s : Seen). s .requested) (seenWith (askOf cutRequest 5 0) 0 88) ≡ 512 ∷ 488 ∷ []
+unfolding askOf askable requestAsk endpointAt decoded slotAt placesFrom packed listOf requestedAt seenFrom readOf
+cut-chunks = refl
+
+-- the first full, 88 bytes left in the second: 512 + 400; by the limit alone 1000
+cut-second : viewLeft cutRequest 0 88 ≡ seen 0 0 912
+unfolding askOf askable requestAsk endpointAt decoded slotAt placesFrom packed listOf requestedAt seenFrom readOf viewOf standingOf firstError lengthOf
+cut-second = refl
+
+-- 100 bytes left in the first: 412, and the second is not read; by the limit alone 900
+cut-first : viewLeft cutRequest 100 88 ≡ seen 0 0 412
+unfolding askOf askable requestAsk endpointAt decoded slotAt placesFrom packed listOf requestedAt seenFrom readOf viewOf standingOf firstError lengthOf
+cut-first = refl
+
+pub collect-cut-second : collectRow (collected cutRequest 0 (viewLeft cutRequest 0 88) 0 1) ≡ 0 ∷ 912 ∷ 0 ∷ 0x200082 ∷ 1 ∷ 1 ∷ 0 ∷ 0 ∷ 0 ∷ 0 ∷ []
+unfolding collectOf linkedOf unlinkingOf finishOf freed clearOf outcomeOf endpointAt decoded slotAt unlinkOf waitingOf boundedOf unlinkedOf ringOf detachOf predecessorOf endedOverlay putAt withEndpoint withSlot withOwner withBell noWrites andThen
+collect-cut-second = rw (cut-second, cut-fits)
+
+pub collect-cut-first : collectRow (collected cutRequest 0 (viewLeft cutRequest 100 88) 0 1) ≡ 0 ∷ 412 ∷ 0 ∷ 0x200082 ∷ 1 ∷ 1 ∷ 0 ∷ 0 ∷ 0 ∷ 0 ∷ []
+unfolding collectOf linkedOf unlinkingOf finishOf freed clearOf outcomeOf endpointAt decoded slotAt unlinkOf waitingOf boundedOf unlinkedOf ringOf detachOf predecessorOf endedOverlay putAt withEndpoint withSlot withOwner withBell noWrites andThen
+collect-cut-first = rw (cut-first, cut-fits)

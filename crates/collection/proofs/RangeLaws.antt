@@ -45,10 +45,17 @@ more-phase e u v h (Phase.linked p o r d c b) = Phase.linked p o r d c b
 more-phase e u v h (Phase.unlinking p o r d c b) =
     Phase.unlinking p o r d c (record { frame = b .frame; advances = λ ne. omega (arith, h, b .advances ne) })
 
-more-good : (E k u v : ℕ) (e : Slot) → u ≤ v → slotGood E k u e ≡ true → slotGood E k v e ≡ true
-more-good E k u v e h t =
-    let g = slot-tells E k u e t in
-    slot-makes E k v e (record { id-least = g .id-least; closed-from = g .closed-from; by-phase = more-phase e u v h (g .by-phase) })
+more-good : (E limit k u v : ℕ) (e : Slot) → u ≤ v → slotGood E limit k u e ≡ true → slotGood E limit k v e ≡ true
+more-good E limit k u v e h t =
+    let g = slot-tells E limit k u e t in
+    slot-makes E limit k v e
+    (record {
+      id-least = g .id-least;
+      closed-from = g .closed-from;
+      size-none = g .size-none;
+      size-open = g .size-open;
+      by-phase = more-phase e u v h (g .by-phase);
+    })
 
 -- ---- the doorbell after an unlink
 
@@ -79,7 +86,7 @@ module _ (s : Ehci) (r : Ranges s) where
         unanswered-most = g .most;
         owned = r .owned;
         unowned = r .unowned;
-        slots = λ k h. more-good (s .settings .endpoints) k (s .unanswered) (b .unanswered) (slotAt s k) (g .more) (r .slots k h);
+        slots = λ k h. more-good (s .settings .endpoints) (s .settings .limit) k (s .unanswered) (b .unanswered) (slotAt s k) (g .more) (r .slots k h);
       }
 
   asked-good : (cmd : ℕ) → s .unanswered < 32 → BellGood s (unlinkedOf (bellOf s) noWrites cmd .bell)
@@ -144,7 +151,7 @@ module _ (s : Ehci) (r : Ranges s) where
 -- ---- an unlink, a mark, an end
 
 module _ (s : Ehci) (k : ℕ) (g : Ranges s) (w : Wide s) (low : k < 32) (below : k < s .settings .endpoints) where
-  pub waiting-keeps : (rd : Readings) (p : Pipe) (r : Request) → OpenPipe p → 1 ≤ r .id → s .unanswered < 32 → Ranges (waitingOf s rd k p r .state)
+  pub waiting-keeps : (rd : Readings) (p : Pipe) (r : Request) → OpenPipe (s .settings .limit) p → 1 ≤ r .id → s .unanswered < 32 → Ranges (waitingOf s rd k p r .state)
   unfolding waitingOf withBell
   waiting-keeps rd p r pipe least h =
       let u = boundedOf (bellOf s) (p .kind) rd in
@@ -154,13 +161,13 @@ module _ (s : Ehci) (k : ℕ) (g : Ranges s) (w : Wide s) (low : k < 32) (below 
       (bell-wide s (b .noted) (b .doorbell) (b .unanswered) w) low (Unlinking p r (u .boundary))
       (record { pipe = pipe; request-least = least; suits = good .1; passable = good .2 }) (λ q. absurd (omega (arith, below, q)))
 
-  pub mark-keeps : (p : Pipe) (r : Request) (u : UnlinkBoundary) → EndpointGood (s .unanswered) (Unlinking p r u) → Ranges (markedOf s k p r u .state)
+  pub mark-keeps : (p : Pipe) (r : Request) (u : UnlinkBoundary) → EndpointGood (s .settings .limit) (s .unanswered) (Unlinking p r u) → Ranges (markedOf s k p r u .state)
   mark-keeps p r u good =
       endpoint-keeps s k g w low (Unlinking p (marked r) u)
       (record { pipe = good .pipe; request-least = good .request-least; suits = good .suits; passable = good .passable })
       (λ q. absurd (omega (arith, below, q)))
 
-  pub finish-keeps : (v : View) (p : Pipe) (r : Request) → OpenPipe p → Ranges (finishOf s v k p r .state)
+  pub finish-keeps : (v : View) (p : Pipe) (r : Request) → OpenPipe (s .settings .limit) p → Ranges (finishOf s v k p r .state)
   unfolding finishOf withOwner
   finish-keeps v p r pipe =
       endpoint-keeps (withOwner s o) k (owner-keeps s o g below-E none) (owner-wide s o w) low (Idle p) pipe (λ q. absurd (omega (arith, below, q)))
@@ -188,16 +195,16 @@ module _ (s : Ehci) (pool : ℕ) (h f : List ℕ) (setups : ℕ) (rd : Readings)
   unfolding g
   low-of x e o = (open-below s k (ap hasEndpoint e ∙ o), open-within s k g (ap hasEndpoint e ∙ o))
 
-  good-of : (x : Endpoint) → endpointAt s k ≡ x → hasEndpoint x ≡ true → EndpointGood (s .unanswered) x
+  good-of : (x : Endpoint) → endpointAt s k ≡ x → hasEndpoint x ≡ true → EndpointGood (s .settings .limit) (s .unanswered) x
   unfolding g
-  good-of x e o = subst (λ (y : Endpoint). EndpointGood (s .unanswered) y) e (endpoint-good s k g (low-of x e o .0))
+  good-of x e o = subst (λ (y : Endpoint). EndpointGood (s .settings .limit) (s .unanswered) y) e (endpoint-good s k g (low-of x e o .0))
 
   unlink-keeps : (p : Pipe) (r q : Request) → endpointAt s k ≡ Linked p r → q .id ≡ r .id → s .unanswered < 32
       → inRanges (unlinkOf s h f rd k p q .came .state) ≡ true
   unfolding g
   unlink-keeps p r q e i u =
       let low = low-of (Linked p r) e refl in
-      let good : LinkedGood p r = good-of (Linked p r) e refl in
+      let good : LinkedGood (s .settings .limit) p r = good-of (Linked p r) e refl in
       unlink-split s h f rd k p q (λ (l : Left). inRanges (l .came .state) ≡ true) inside
       (λ found. ranges-make (waitingOf s rd k p q .state)
       (waiting-keeps s k g w (low .0) (low .1) rd p q (good .pipe) (omega (arith, i, good .request-least)) u))
@@ -220,5 +227,5 @@ module _ (s : Ehci) (pool : ℕ) (h f : List ℕ) (setups : ℕ) (rd : Readings)
       ends : (p : Pipe) (r : Request) (u : UnlinkBoundary) → endpointAt s k ≡ Unlinking p r u → Ranges (finishOf s v k p r .state)
       ends p r u e =
           let low = low-of (Unlinking p r u) e refl in
-          let good : UnlinkingGood (s .unanswered) p r u = good-of (Unlinking p r u) e refl in
+          let good : UnlinkingGood (s .settings .limit) (s .unanswered) p r u = good-of (Unlinking p r u) e refl in
           finish-keeps s k g w (low .0) (low .1) v p r (good .pipe)

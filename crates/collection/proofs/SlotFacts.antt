@@ -17,9 +17,9 @@ use Rattle.controller.proofs.LentLaws.{Accepted, accepts-tells}
 use Rattle.controller.proofs.ReaderLaws.{open-below, open-within}
 
 -- its endpoint is as the ranges say
-pub endpoint-good : (s : Ehci) (k : ℕ) → Ranges s → k < 32 → EndpointGood (s .unanswered) (endpointAt s k)
+pub endpoint-good : (s : Ehci) (k : ℕ) → Ranges s → k < 32 → EndpointGood (s .settings .limit) (s .unanswered) (endpointAt s k)
 unfolding endpointAt
-endpoint-good s k r h = rw (lt-ltb k 32 h) (endpoint-tells (s .settings .endpoints) k (s .unanswered) (slotAt s k) (r .slots k h))
+endpoint-good s k r h = rw (lt-ltb k 32 h) (endpoint-tells (s .settings .endpoints) (s .settings .limit) k (s .unanswered) (slotAt s k) (r .slots k h))
 
 module _ (s : Ehci) (pool : ℕ) (h f : List ℕ) (setups k : ℕ) (b : Bool) (eb : b ≡ acceptsOf s (lengths pool (length h) (length f) setups)) (t : not b ≡ false)
     (x : Endpoint) (ex : x ≡ endpointAt s k) where

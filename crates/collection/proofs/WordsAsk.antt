@@ -1,5 +1,5 @@
 -- The returns of the functions that ask over words; what is asked may be handed to the pool.
-use Prim.Native.Nat.{ℕ, _+_, _≤_, _<_}
+use Prim.Native.Nat.{ℕ, _+_, _^_, _≤_, _<_}
 use mathlib.Core.Path.{_≡_, refl, sym, ap, subst, _∙_}
 use mathlib.Core.Bool.{Bool, true, false}
 use mathlib.Core.List.{List, [], _∷_}
@@ -7,6 +7,7 @@ use native.Mathlib.Omega.{arith}
 use borrow.Author.Tests.{eq-eqb, le-leb, lt-ltb}
 use lib.ListN.{length, length-take, take}
 use Rattle.bitset.specs.Places.{Within as WithinSet, setPlaces}
+use Rattle.common.specs.declared.kinds.EndpointType.{EndpointType}
 use Rattle.settings.specs.declared.settings.Settings.{Settings}
 use Rattle.settings.specs.Settings.{poolLength}
 use Rattle.pool.specs.Chains.{noAsk}
@@ -24,7 +25,9 @@ use Rattle.words.specs.View.{stateOf}
 use Rattle.words.proofs.GoodLaws.{good-settings}
 use Rattle.words.proofs.OwnerLaws.{ownersOf}
 use Rattle.words.proofs.PlacesLaws.{own-places}
-use Rattle.pipe.specs.Endpoints.{endpointAt}
+use Rattle.token.specs.Chunks.{workingLimit}
+use Rattle.token.proofs.LimitLaws.{working-most}
+use Rattle.pipe.specs.Endpoints.{endpointAt, limitOf}
 use Rattle.pipe.specs.declared.endpoints.Endpoint.{Endpoint}
 use Rattle.pipe.specs.declared.endpoints.Endpoint.the-variants.{Closed, Idle, Linked, Unlinking}
 use Rattle.pipe.specs.declared.endpoints.Pipe.{Pipe}
@@ -35,10 +38,15 @@ use Rattle.collection.specs.Asks.{askIf, askOf, askable, requestAsk}
 use Rattle.collection.specs.Words.{askView, requestAskWords}
 use Rattle.collection.proofs.WordsSlots.{slot-low}
 
-pub asked-words : (s : Settings) (ws ps : List ℕ) (k : ℕ) (p : Pipe) (q : Request) (stops : Bool) → ps ≡ placesAt ws k → stops ≡ endsShort (p .kind) (q .direction)
-    → _≡_ {A = AskWords} (record { places = ps; kind = p .kind; length = q .length; limit = s .limit; stops = stops }) (requestAskWords s ws k p q)
+-- the limit fits 32 bits
+pub asked-limit : (k : EndpointType) (limit size l : ℕ) → l ≡ workingLimit k limit size → limit ≤ 16384 → l < 2 ^ 32
+asked-limit k limit size l e most = omega (arith, e, most, working-most k limit size)
+
+pub asked-words : (s : Settings) (ws ps : List ℕ) (k l : ℕ) (p : Pipe) (q : Request) (stops : Bool) → ps ≡ placesAt ws k → l ≡ limitOf s p
+    → stops ≡ endsShort (p .kind) (q .direction)
+    → _≡_ {A = AskWords} (record { places = ps; kind = p .kind; length = q .length; limit = l; stops = stops }) (requestAskWords s ws k p q)
 unfolding requestAskWords
-asked-words s ws ps k p q stops e es = rw (e, es)
+asked-words s ws ps k l p q stops e el es = rw (e, el, es)
 
 -- ---- nothing is asked
 
@@ -84,7 +92,7 @@ module _ (s : Settings) (r : Rest) (ws : List ℕ) (good : Good s r ws) (k : ℕ
   request-view : (p : Pipe) (q : Request) → askView (requestAskWords s ws k p q) ≡ requestAsk (stateOf s r ws) k p q
   unfolding requestAskWords requestAsk stateOf
   request-view p q =
-      ap (λ (ps : List ℕ). record { places = packed ps; kind = p .kind; length = q .length; limit = s .limit; stops = endsShort (p .kind) (q .direction) }) (sym own-set)
+      ap (λ (ps : List ℕ). record { places = packed ps; kind = p .kind; length = q .length; limit = limitOf s p; stops = endsShort (p .kind) (q .direction) }) (sym own-set)
 
   may-ask : k < s .endpoints → askable (stateOf s r ws .settings) (poolLength s) k ≡ true
   unfolding askable stateOf
@@ -113,7 +121,12 @@ module _ (s : Settings) (r : Rest) (ws : List ℕ) (good : Good s r ws) (k : ℕ
     asked-good : (p : Pipe) (q : Request) → RequestAt s ws k p q → a ≡ requestAskWords s ws k p q → AskWordsGood (poolLength s) a
     unfolding requestAskWords
     asked-good p q at ea =
-        rw ea (record { within = own-within; short = at .length-below; limited = ask-limit s r ws good })
+        rw ea
+        (record {
+          within = own-within;
+          short = at .length-below;
+          limited = omega (arith, working-most (p .kind) (s .limit) (p .size), ask-limit s r ws good);
+        })
 
     pub asks-linked : (p : Pipe) (q : Request) → e ≡ Linked p q → a ≡ requestAskWords s ws k p q
         → askView a ≡ askOf (stateOf s r ws) (poolLength s) k

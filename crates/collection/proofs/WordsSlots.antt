@@ -45,7 +45,7 @@ kind-periodic Isochronous = refl
 kind-periodic Bulk = refl
 kind-periodic Interrupt = refl
 
-bounded-small : (b : Bell) (k : EndpointType) (rd : Readings) → b .unanswered < 32 → boundaryNumber (boundedOf b k rd .boundary) < 0x1_0000
+bounded-small : (b : Bell) (k : EndpointType) (rd : Readings) → b .unanswered < 32 → boundaryNumber (boundedOf b k rd .boundary) < 0x8000
 unfolding boundedOf
 bounded-small b Control rd h = omega arith
 bounded-small b Isochronous rd h = omega arith
@@ -105,8 +105,8 @@ module _ (s : Settings) (r : Rest) (ws : List ℕ) (good : Good s r ws) (k : ℕ
       pub own-fits : p .next < 2 ^ 64 → (u : Bounded) (b : Bell) (rd : Readings) → u ≡ boundedOf b (p .kind) rd → b .unanswered < 32
           → SlotFits (encoded (Unlinking p q (u .boundary)))
       own-fits most u b rd eu h =
-          unlinking-fits p q (own-at .own ∙ ap afterId (sym (o .same-id))) most (omega (arith, o .same-length, own-at .length-below)) (u .boundary)
-          (subst (λ (x : Bounded). boundaryNumber (x .boundary) < 0x1_0000) (sym eu) (bounded-small b (p .kind) rd h))
+          unlinking-fits p q (omega (arith, own-at .size)) (own-at .own ∙ ap afterId (sym (o .same-id))) most (omega (arith, o .same-length, own-at .length-below)) (u .boundary)
+          (subst (λ (x : Bounded). boundaryNumber (x .boundary) < 0x8000) (sym eu) (bounded-small b (p .kind) rd h))
 
   -- ---- what is read there tells it
 
@@ -142,7 +142,9 @@ module _ (s : Settings) (r : Rest) (ws : List ℕ) (good : Good s r ws) (k : ℕ
     pub mark-fits : p .next < 2 ^ 64 → (m : Request) → m ≡ marked q → SlotFits (encoded (Unlinking p m b))
     mark-fits most m em =
         let at = unlinking-at s r ws good k p q b e in
-        rw em (unlinking-fits p (marked q) (at .request .own) most (at .request .length-below) b (omega (arith, at .boundary-below)))
+        rw em (unlinking-fits p (marked q) (omega (arith, at .request .size)) (at .request .own) most (at .request .length-below) b (omega (arith, at .boundary-below)))
 
     pub finish-fits : p .next < 2 ^ 64 → SlotFits (encoded (Idle p))
-    finish-fits most = idle-fits p (unlinking-at s r ws good k p q b e .request .next-least) most
+    finish-fits most =
+        let at = unlinking-at s r ws good k p q b e .request in
+        idle-fits p (omega (arith, at .size)) (at .next-least) most

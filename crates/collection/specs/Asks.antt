@@ -12,7 +12,7 @@ use Rattle.common.specs.Tests.{every}
 use Rattle.settings.specs.declared.settings.Settings.{Settings}
 use Rattle.settings.specs.Settings.{poolLength}
 use Rattle.state.specs.Plain.{Ehci}
-use Rattle.pipe.specs.Endpoints.{endpointAt}
+use Rattle.pipe.specs.Endpoints.{endpointAt, limitOf}
 use Rattle.pipe.specs.declared.endpoints.Endpoint.{Endpoint}
 use Rattle.pipe.specs.declared.endpoints.Endpoint.the-variants.{Closed, Idle, Linked, Unlinking}
 use Rattle.pipe.specs.declared.endpoints.Pipe.{Pipe}
@@ -30,7 +30,7 @@ requestAsk s slot p r =
       places = packed (placesFrom 0 (take (s .settings .descriptors) (s .owner)) (slot + 1) 256);
       kind = p .kind;
       length = r .length;
-      limit = s .settings .limit;
+      limit = limitOf (s .settings) p;
       stops = endsShort (p .kind) (r .direction);
     }
 

@@ -12,7 +12,7 @@ use Rattle.pool.specs.Places.{packed}
 use Rattle.pool.specs.declared.asked.AskWords.{AskWords}
 use Rattle.pool.specs.Plain.{Ask}
 use Rattle.pool.specs.Transfers.{endsShort}
-use Rattle.pipe.specs.Endpoints.{endpointAt}
+use Rattle.pipe.specs.Endpoints.{endpointAt, limitOf}
 use Rattle.pipe.specs.declared.endpoints.Endpoint.the-variants.{Linked}
 use Rattle.pipe.specs.declared.endpoints.Pipe.{Pipe}
 use Rattle.pipe.specs.declared.endpoints.Request.{Request}
@@ -42,7 +42,7 @@ requestAskWords s ws slot p r =
       places = placesAt ws slot;
       kind = p .kind;
       length = r .length;
-      limit = s .limit;
+      limit = limitOf s p;
       stops = endsShort (p .kind) (r .direction);
     }
 

@@ -12,6 +12,7 @@ use pipe::endpoints::Endpoint;
 use pipe::endpoints::Pipe;
 use pipe::endpoints::Request;
 use pipe::slots::endpoint_at;
+use pipe::slots::limit_of;
 use pool::asked::AskWords;
 use pool::asked::no_ask_words;
 use pool::transfer::ends_short;
@@ -25,7 +26,7 @@ fn ask_for(core: Core, slots: &[u64], slot: u8, p: Pipe, r: Request) -> AskWords
     let kind = p.kind;
     let direction = r.direction;
     let length = r.length as u64;
-    let limit = core.settings.limit as u32;
+    let limit = limit_of(core.settings.limit, p) as u32;
     let stops = ends_short(kind, direction);
     AskWords {
         places: places_at(slots, slot),

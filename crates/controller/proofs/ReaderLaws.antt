@@ -1,6 +1,7 @@
 -- A slot from E on is closed, so an open one is below E.
 use Prim.Native.Nat.{ℕ, _≤_, _<_}
 use mathlib.Core.Path.{_≡_, refl, sym, ap, _∙_}
+use mathlib.Core.Logic.{_≢_}
 use mathlib.Core.Bool.{Bool, true, false}
 use native.Mathlib.Omega.{arith}
 use borrow.Author.Tests.{ltb-false, ltb-true}
@@ -27,6 +28,14 @@ module _ (s : Ehci) (k : ℕ) where
       by true q = ltb-true k 32 q
       by false q = absurd (shut-not (sym (at-none s k (ltb-false k 32 q))) o)
 
+  pub open-phase : isOpen s k ≡ true → slotAt s k .phase ≢ 0
+  open-phase o z =
+      shut-not
+      (sym
+      (at-slot s k (slotAt s k) Closed (open-below o) refl
+      (decode-closed (slotAt s k) (λ e. omega (arith, e, z)) (λ e. omega (arith, e, z)) (λ e. omega (arith, e, z)))))
+      o
+
   module _ (r : Ranges s) where
     pub shut-from : s .settings .endpoints ≤ k → endpointAt s k ≡ Closed
     shut-from h = by (ltb k 32) refl
@@ -34,7 +43,7 @@ module _ (s : Ehci) (k : ℕ) where
         by : (t : Bool) → ltb k 32 ≡ t → endpointAt s k ≡ Closed
         by true q =
             let lt : k < 32 = ltb-true k 32 q in
-            let g = slot-tells (s .settings .endpoints) k (s .unanswered) (slotAt s k) (r .slots k lt) in
+            let g = slot-tells (s .settings .endpoints) (s .settings .limit) k (s .unanswered) (slotAt s k) (r .slots k lt) in
             let z : slotAt s k .phase ≡ 0 = g .closed-from h in
             sym
             (at-slot s k (slotAt s k) Closed lt refl

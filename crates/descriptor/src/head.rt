@@ -152,11 +152,12 @@ pub fn set_max_packet_size(characteristics: u32, size: u8) -> u32
     ensures { λ r. ⌜ r ≡ withPacketSize characteristics size ⌝ }
 {
     let others = without_bits(characteristics, PACKET_SIZE_MASK);
-    with_bits(others, raised(size) << PACKET_SIZE_SHIFT)
+    with_bits(others, (raised(size) as u32) << PACKET_SIZE_SHIFT)
 }
 
-fn raised(size: u8) -> u32
+// The packet size that is set for a byte.
+pub fn raised(size: u8) -> u16
     ensures { λ r. ⌜ r ≡ max size 8 ⌝ }
 {
-    if size < 8 { 8 } else { size as u32 }
+    if size < 8 { 8 } else { size as u16 }
 }

@@ -91,11 +91,17 @@ pub fn set_address(core: Core, slots: &[u64], heads: &mut [u32], slot: u8, addre
     endpoint::calls::set_address(core, slots, heads, slot, address)
 }
 
-// Any byte is a packet size: it is raised to 8.
-pub fn set_packet_size(core: Core, slots: &[u64], heads: &mut [u32], slot: u8, size: u8) -> Change
-    ensures { λ r. ⌜ HeadsCall core (now (slots .entry)) (now (slots .entry)) (now (heads .entry)) (now (heads .exit))
+// A byte, which is raised to 8.
+pub fn set_packet_size(
+    core: Core,
+    slots: &mut [u64],
+    heads: &mut [u32],
+    slot: u8,
+    size: u8,
+) -> Change
+    ensures { λ r. ⌜ HeadsCall core (now (slots .entry)) (now (slots .exit)) (now (heads .entry)) (now (heads .exit))
         r (refusedChange (core .rest)) (r .rest)
-        (changeLeft (changedView (core .settings) r (now (slots .entry))) (now (heads .exit)))
+        (changeLeft (changedView (core .settings) r (now (slots .exit))) (now (heads .exit)))
         (λ pool frames setups. setPacketSizeOf (view core (now (slots .entry))) pool (now (heads .entry)) frames setups slot size) ⌝ }
 {
     if !takes_heads(core, slots, heads) {

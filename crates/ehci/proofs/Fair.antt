@@ -28,7 +28,7 @@ use Rattle.controller.specs.Plain.{Allotment}
 use Rattle.controller.specs.declared.lent.Readings.{Readings}
 use Rattle.schedule.specs.Bell.{bellOf}
 use Rattle.schedule.specs.Links.{detachOf, endedOverlay}
-use Rattle.endpoint.specs.Calls.{ChangeLeft, OpenLeft, changeOf, closeOf, fieldsGood, openChecks, openEndpointOf, setAddressOf, setPacketSizeOf, slotChecks}
+use Rattle.endpoint.specs.Calls.{ChangeLeft, OpenLeft, changeOf, closeOf, fieldsGood, openChecks, openEndpointOf, setAddressOf, setPacketSizeOf, slotChecks, raisedGood}
 use Rattle.request.specs.Submit.{acceptedWith, refusedSubmit, settledSubmit, submitChecks, submitOf}
 use Rattle.request.specs.Writeback.{refusedWriteback, writebackChecks, writebackOf}
 use Rattle.request.specs.Plain.{WrittenBack}
@@ -175,7 +175,7 @@ module _ (s : Ehci) (hs fs us : List ℕ) where
   unfolding openDecided openEndpointOf openChecks refusedReply replied
   open-fair n x =
       settle-fair (λ (o : OpenLeft). withFrames (openCame o) fs us)
-      (openChecks s (lengths n (length hs) (length fs) (length us)) (x .kind) (fieldsGood (x .address) (x .number) (x .packet))) _ _ refl
+      (openChecks s (lengths n (length hs) (length fs) (length us)) (x .kind) (fieldsGood (s .settings .limit) (x .kind) (x .address) (x .number) (x .packet))) _ _ refl
       (λ r. refl) (result-fair _ refl none-few)
 
   change-fair : (n k : ℕ) (good : Bool) (s′ : Ehci) (hs′ : List ℕ) → Fair (withFrames (changeCame (changeOf s n hs (length fs) (length us) k good s′ hs′)) fs us)
@@ -194,7 +194,7 @@ module _ (s : Ehci) (hs fs us : List ℕ) where
 
   packet-fair : (n k size : ℕ) → Fair (withFrames (packetDecided s n hs (length fs) (length us) k size) fs us)
   unfolding packetDecided setPacketSizeOf
-  packet-fair n k size = change-fair n k true s _
+  packet-fair n k size = change-fair n k (raisedGood s k size) _ _
 
   -- ---- requests
 

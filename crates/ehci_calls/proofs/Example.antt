@@ -9,7 +9,7 @@ use Rattle.state.specs.Ranges.{doorbellGood, interruptGood, machineGood}
 use Rattle.opening.specs.Opening.{rowsFit}
 use Rattle.words.specs.Opened.{openedRest, openedRow}
 use Rattle.words.specs.View.{stateOf}
-use Rattle.word_ranges.specs.Bounds.{boundsOf, wordGood}
+use Rattle.word_ranges.specs.Bounds.{boundsOf, sizeRight, wordGood}
 use Rattle.word_ranges.specs.Judge.{coreGood, scalarsGood, slotsGood, wordsGood}
 use Rattle.word_ranges.specs.Seen.{allMet, heldGood, seeOf, seenFrom}
 use Rattle.direct_calls.specs.Shapes.{takesCore}
@@ -23,11 +23,11 @@ unfolding coreGood scalarsGood settingsGood numbersGood eachGood noOverlap areaG
 core-good = refl
 
 row-accepted : accepts (openedRow 1) ≡ true
-unfolding acceptsWords rowsFit wordsGood slotsGood allMet seenFrom seeOf heldGood wordGood boundsOf allBelow noneIn onesBelow openedRest
+unfolding acceptsWords rowsFit wordsGood slotsGood allMet seenFrom seeOf heldGood wordGood sizeRight boundsOf allBelow noneIn onesBelow openedRest
 row-accepted = rw core-good
 
 row-refused : accepts damaged ≡ false
-unfolding acceptsWords rowsFit wordsGood slotsGood allMet seenFrom seeOf heldGood wordGood boundsOf allBelow noneIn onesBelow openedRest
+unfolding acceptsWords rowsFit wordsGood slotsGood allMet seenFrom seeOf heldGood wordGood sizeRight boundsOf allBelow noneIn onesBelow openedRest
 row-refused = rw core-good
 
 pub differ : Differ

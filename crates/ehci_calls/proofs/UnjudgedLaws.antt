@@ -37,13 +37,15 @@ use Rattle.ehci_calls.specs.Arms.{Unjudged}
 
 -- ---- a core in its ranges, with every slot closed, is in its ranges
 
-closed-slot : (E k u : ℕ) → slotGood E k u (slotIn 0 0) ≡ true
+closed-slot : (E limit k u : ℕ) → slotGood E limit k u (slotIn 0 0) ≡ true
 unfolding slotIn afterId
-closed-slot E k u =
-    slot-makes E k u (slotIn 0 0)
+closed-slot E limit k u =
+    slot-makes E limit k u (slotIn 0 0)
     (record {
       id-least = omega arith;
       closed-from = λ h. refl;
+      size-none = λ h. refl;
+      size-open = λ n. absurd (n refl);
       by-phase =
           Phase.closed refl refl refl
           (record { request-none = refl; direction-none = refl; length-none = refl; cancel-none = refl; boundary-none = refl });
@@ -57,11 +59,11 @@ module _ (c : Core) where
   unfolding stateOf
   closed-at k h = seen
     where
-      seen : slotGood (c .settings .endpoints) k (c .rest .unanswered) (slotAt (view c row) k) ≡ true
+      seen : slotGood (c .settings .endpoints) (c .settings .limit) k (c .rest .unanswered) (slotAt (view c row) k) ≡ true
       seen =
-          ap (slotGood (c .settings .endpoints) k (c .rest .unanswered)) (view-slot (c .settings) (c .rest) row k h)
+          ap (slotGood (c .settings .endpoints) (c .settings .limit) k (c .rest .unanswered)) (view-slot (c .settings) (c .rest) row k h)
           ∙ rw (zeros-at (6 * c .settings .endpoints) (6 * k), zeros-at (6 * c .settings .endpoints) (6 * k + 1))
-          (closed-slot (c .settings .endpoints) k (c .rest .unanswered))
+          (closed-slot (c .settings .endpoints) (c .settings .limit) k (c .rest .unanswered))
 
   closed-owners : ownerGood (view c row .owner) (c .settings .descriptors) (c .settings .endpoints) ≡ true
   unfolding stateOf

@@ -1,12 +1,13 @@
 -- The returns of the calls on endpoints, and what they may count on.
-use Prim.Native.Nat.{ℕ, _+_, _*_, _≤_, _<_}
+use Prim.Native.Nat.{ℕ, _+_, _*_, _≤_, _<_, max}
 use mathlib.Core.Path.{_≡_, refl, sym, ap, _∙_}
-use mathlib.Core.Bool.{Bool, true, false, not, _&&_}
+use mathlib.Core.Bool.{Bool, true, false, not, _&&_, _||_}
 use mathlib.Core.List.{List}
 use borrow.Author.Tests.{leb-false, leb-true, not-false}
-use lib.Dec.{leb}
+use lib.Dec.{eqb, leb}
 use lib.ListN.{length, replicate}
 use Rattle.common.specs.declared.kinds.EndpointType.{EndpointType}
+use Rattle.common.specs.declared.kinds.EndpointType.the-variants.{Control, Isochronous, Bulk, Interrupt}
 use Rattle.descriptor.specs.Heads.{endpointHead, withAddress, withPacketSize, wordsOf}
 use Rattle.common.proofs.TestLaws.{every-3, both-tells}
 use Rattle.state.specs.Plain.{Ehci}
@@ -14,17 +15,21 @@ use Rattle.common.specs.declared.answer.Answer.{Answer}
 use Rattle.common.specs.declared.answer.Answer.the-variants.{Done, Refused as RefusedCall}
 use Rattle.common.specs.declared.answer.Refusal.{Refusal}
 use Rattle.common.specs.declared.answer.Refusal.the-variants.{InvalidParameter, SlotLimitReached, InvalidEndpoint, QueueFull, NotSupported}
-use Rattle.pipe.specs.declared.endpoints.Endpoint.the-variants.{Closed}
+use Rattle.pipe.specs.declared.endpoints.Endpoint.the-variants.{Closed, Idle}
+use Rattle.pipe.specs.declared.endpoints.Pipe.{Pipe}
 use Rattle.common.specs.Answers.{Verdict, first, settle}
-use Rattle.pipe.specs.Endpoints.{withEndpoint}
-use Rattle.common.specs.Kinds.{isIsochronous}
+use Rattle.pipe.specs.Endpoints.{kindNumber, pipeOf, withEndpoint}
+use Rattle.slot.specs.Ranges.{sizeGood}
+use Rattle.slot.proofs.SlotLaws.{SizeGood, size-tells}
+use Rattle.state.specs.Slots.{slotAt}
+use Rattle.common.specs.Kinds.{isControl, isIsochronous}
 use Rattle.controller.specs.Lent.{acceptsOf, lengths}
 use Rattle.controller.specs.Readers.{isOpen, isUncollected}
 use Rattle.opening.specs.Heads.{headWord, withHeadWord}
 use Rattle.common.proofs.CheckLaws.{let-pass, verdictOf}
 use Rattle.endpoint.specs.declared.calls.Opened.{Opened}
 use Rattle.endpoint.specs.declared.calls.Opened.the-variants.{Slot, Refused}
-use Rattle.endpoint.specs.Calls.{changeLeft, changeOf, chosenOf, closeOf, fieldsGood, slotVerdict, lowestSlot, newEndpoint, openChecks, openEndpointOf, openLeft, setAddressOf, setPacketSizeOf, slotChecks, withHead}
+use Rattle.endpoint.specs.Calls.{changeLeft, changeOf, chosenOf, closeOf, fieldsGood, slotVerdict, lowestSlot, newEndpoint, openChecks, openEndpointOf, openLeft, raisedGood, setAddressOf, setPacketSizeOf, slotChecks, withHead, withSize}
 use Rattle.endpoint.proofs.SlotLaws.{below-room, open-room}
 
 -- ---- verdicts
@@ -47,23 +52,39 @@ slotOf (Refused r) = 0
 
 -- ---- open endpoint: what is asked
 
-pub fields-is : (a n p : ℕ) → (leb a 127 && leb n 15 && (leb 1 p && leb p 1024)) ≡ fieldsGood a n p
-unfolding fieldsGood
-fields-is a n p = every-3 (leb a 127) (leb n 15) (leb 1 p && leb p 1024)
+control-none : (kind : EndpointType) → isControl kind ≡ eqb (kindNumber kind) 0
+control-none Control = refl
+control-none Isochronous = refl
+control-none Bulk = refl
+control-none Interrupt = refl
 
-pub fields-tell : (a n p : ℕ) → fieldsGood a n p ≡ true → (a ≤ 127) × (n ≤ 15) × (p ≤ 1024)
-unfolding fieldsGood
-fields-tell a n p e =
-    let x = both-tells (leb a 127) _ e in
-    let y = both-tells (leb n 15) _ (x .1) in
-    let z = both-tells (leb 1 p && leb p 1024) true (y .1) in
-    let w = both-tells (leb 1 p) (leb p 1024) (z .0) in
-    (leb-true a 127 (x .0), leb-true n 15 (y .0), leb-true p 1024 (w .1))
+pub size-is : (limit : ℕ) (kind : EndpointType) (p : ℕ) (control : Bool) → control ≡ isControl kind
+    → ((leb 1 p && leb p 1024) && (control || leb p limit)) ≡ sizeGood limit (kindNumber kind) p
+unfolding sizeGood
+size-is limit kind p control e = rw (e, control-none kind)
+
+-- the endpoint with the size that is given
+pub size-given : (p : Pipe) (x n : ℕ) → n ≡ x → record { kind = p .kind; size = n; next = p .next } ≡ withSize p x
+size-given p x n e = rw e
+
+module _ (limit : ℕ) (kind : EndpointType) (a n p : ℕ) where
+  pub fields-is : (sized : Bool) → sized ≡ sizeGood limit (kindNumber kind) p
+      → (leb a 127 && leb n 15 && sized) ≡ fieldsGood limit kind a n p
+  unfolding fieldsGood
+  fields-is sized e = rw e (every-3 (leb a 127) (leb n 15) (sizeGood limit (kindNumber kind) p))
+
+  pub fields-tell : fieldsGood limit kind a n p ≡ true → (a ≤ 127) × (n ≤ 15) × SizeGood limit (kindNumber kind) p
+  unfolding fieldsGood
+  fields-tell e =
+      let x = both-tells (leb a 127) _ e in
+      let y = both-tells (leb n 15) _ (x .1) in
+      let z = both-tells (sizeGood limit (kindNumber kind) p) true (y .1) in
+      (leb-true a 127 (x .0), leb-true n 15 (y .0), size-tells limit (kindNumber kind) p (z .0))
 
 -- ---- open endpoint: what is done
 
-module _ (s : Ehci) (pool : ℕ) (h : List ℕ) (f u : ℕ) (kind : EndpointType) (a n p : ℕ) (good : Bool) (eg : good ≡ fieldsGood a n p)
-    (o : Opened) (eo : o ≡ chosenOf s (lengths pool (length h) f u) kind good) where
+module _ (s : Ehci) (pool : ℕ) (h : List ℕ) (f u : ℕ) (kind : EndpointType) (a n p : ℕ) (good : Bool)
+    (eg : good ≡ fieldsGood (s .settings .limit) kind a n p) (o : Opened) (eo : o ≡ chosenOf s (lengths pool (length h) f u) kind good) where
   chosen : openVerdict o ≡ first (openChecks s (lengths pool (length h) f u) kind good)
   unfolding chosenOf
   chosen = ap openVerdict eo ∙ open-there (first (openChecks s (lengths pool (length h) f u) kind good)) (lowestSlot s)
@@ -98,10 +119,10 @@ module _ (s : Ehci) (pool : ℕ) (h : List ℕ) (f u : ℕ) (kind : EndpointType
     pub open-room-for : (k < 32) × (k + 1 ≤ 32) × (17 * (k + 1) + 17 ≤ length h)
     open-room-for = below-room s pool h f u k (open-passed .0) (open-passed .3)
 
-    pub open-fields : (a ≤ 127) × (n ≤ 15) × (p ≤ 1024)
-    open-fields = fields-tell a n p (sym eg ∙ open-passed .2)
+    pub open-fields : (a ≤ 127) × (n ≤ 15) × SizeGood (s .settings .limit) (kindNumber kind) p
+    open-fields = fields-tell (s .settings .limit) kind a n p (sym eg ∙ open-passed .2)
 
-    pub open-done : (s′ : Ehci) (h′ : List ℕ) → s′ ≡ withEndpoint s k (newEndpoint kind)
+    pub open-done : (s′ : Ehci) (h′ : List ℕ) → s′ ≡ withEndpoint s k (newEndpoint kind p)
         → h′ ≡ withHead h k (wordsOf (endpointHead kind a n p))
         → openLeft (record { answer = Slot k; state = s′ }) h′ ≡ openEndpointOf s pool h f u kind a n p
     unfolding openEndpointOf
@@ -169,14 +190,16 @@ module _ (s : Ehci) (pool : ℕ) (h : List ℕ) (f u k : ℕ) (a : Answer) where
     address-done ea e w ew =
         rw ew (change-done s pool h f u k (leb x 127) a ea s (withHeadWord h (k + 1) 1 (withAddress (headWord h (k + 1) 1) x)) e)
 
-    pub size-refused : (r : Refusal) → a ≡ slotVerdict s (lengths pool (length h) f u) k true → a ≡ RefusedCall r
+    pub size-refused : (r : Refusal) → a ≡ slotVerdict s (lengths pool (length h) f u) k (raisedGood s k x) → a ≡ RefusedCall r
         → changeLeft (record { answer = RefusedCall r; state = s }) h ≡ setPacketSizeOf s pool h f u k x
     unfolding setPacketSizeOf
-    size-refused r ea e = change-refused s pool h f u k true a ea r _ _ e
+    size-refused r ea e = change-refused s pool h f u k (raisedGood s k x) a ea r _ _ e
 
-    pub size-done : a ≡ slotVerdict s (lengths pool (length h) f u) k true → a ≡ Done → (w : ℕ)
-        → w ≡ withPacketSize (headWord h (k + 1) 1) x
-        → changeLeft (record { answer = Done; state = s }) (withHeadWord h (k + 1) 1 w) ≡ setPacketSizeOf s pool h f u k x
+    pub size-done : a ≡ slotVerdict s (lengths pool (length h) f u) k (raisedGood s k x) → a ≡ Done → (s′ : Ehci) (w : ℕ)
+        → s′ ≡ withEndpoint s k (Idle (withSize (pipeOf (slotAt s k)) (max x 8))) → w ≡ withPacketSize (headWord h (k + 1) 1) x
+        → changeLeft (record { answer = Done; state = s′ }) (withHeadWord h (k + 1) 1 w) ≡ setPacketSizeOf s pool h f u k x
     unfolding setPacketSizeOf
-    size-done ea e w ew =
-        rw ew (change-done s pool h f u k true a ea s (withHeadWord h (k + 1) 1 (withPacketSize (headWord h (k + 1) 1) x)) e)
+    size-done ea e s′ w es ew =
+        rw (es, ew)
+        (change-done s pool h f u k (raisedGood s k x) a ea (withEndpoint s k (Idle (withSize (pipeOf (slotAt s k)) (max x 8))))
+        (withHeadWord h (k + 1) 1 (withPacketSize (headWord h (k + 1) 1) x)) e)

@@ -1,6 +1,6 @@
 -- Close, set address and set packet size: what an answer tells of the state before and of what is left.
 use Prim.Native.Nat.{ℕ, _+_, _*_, _%_, _≤_, _<_, max}
-use mathlib.Core.Path.{_≡_, refl, sym, subst, _∙_}
+use mathlib.Core.Path.{_≡_, refl, sym, ap, subst, _∙_}
 use mathlib.Core.Logic.{_≢_}
 use mathlib.Core.Bool.{Bool, true, false}
 use mathlib.Core.List.{List}
@@ -12,22 +12,30 @@ use lib.Seq.{getD-set-same}
 use Rattle.descriptor.specs.EhciQueueHead.{controlEndpoint, deviceAddress, endpointNumber, endpointSpeed, headOfList, inactivateOnNext, maximumPacketLength, nakReload, toggleControl}
 use Rattle.descriptor.specs.Heads.{withAddress, withPacketSize}
 use Rattle.descriptor.proofs.HeadFields.{address-reads, Characteristics, packet-reads}
+use Rattle.slot.specs.declared.slot.Slot.{Slot}
+use Rattle.slot.specs.Ranges.{slotGood}
+use Rattle.slot.proofs.SlotLaws.{Phase, size-tells as size-told, slot-tells}
 use Rattle.state.specs.Plain.{Ehci}
+use Rattle.state.specs.Slots.{slotAt}
 use Rattle.state.specs.Ranges.{inRanges}
 use Rattle.state.proofs.RangesLaws.{ranges-make, ranges-tell}
 use Rattle.common.specs.declared.answer.Answer.{Answer}
 use Rattle.common.specs.declared.answer.Answer.the-variants.{Done, Refused}
 use Rattle.common.specs.declared.answer.Refusal.{Refusal}
-use Rattle.pipe.specs.declared.endpoints.Endpoint.the-variants.{Closed}
-use Rattle.pipe.specs.Endpoints.{encoded, endpointAt, withEndpoint}
+use Rattle.pipe.specs.declared.endpoints.Endpoint.{Endpoint}
+use Rattle.pipe.specs.declared.endpoints.Endpoint.the-variants.{Closed, Idle}
+use Rattle.pipe.specs.declared.endpoints.Pipe.{Pipe}
+use Rattle.pipe.specs.Endpoints.{boundaryOf, encoded, endpointAt, pipeOf, requestOf, withEndpoint}
 use Rattle.controller.specs.Lent.{acceptsOf, lengths}
-use Rattle.controller.specs.Readers.{isOpen, isUncollected}
+use Rattle.controller.specs.Readers.{hasEndpoint, holdsRequest, isOpen, isUncollected}
 use Rattle.opening.specs.Heads.{headWord, withHeadWord}
-use Rattle.pipe.proofs.EndpointLaws.{endpoint-keeps, endpoint-other, endpoint-same, slot-wide, Wide}
+use Rattle.pipe.proofs.EndpointCases.{at-slot, decode-closed, decode-idle, decode-linked, decode-unlinking}
+use Rattle.pipe.proofs.EndpointLaws.{EndpointGood, OpenPipe, endpoint-keeps, endpoint-other, endpoint-same, endpoint-tells, kind-back, slot-wide, Wide}
 use Rattle.common.proofs.CheckLaws.{answers-apart}
+use Rattle.common.proofs.TestLaws.{false-true}
 use Rattle.controller.proofs.LentLaws.{accepts-tells}
 use Rattle.controller.proofs.ReaderLaws.{open-within}
-use Rattle.endpoint.specs.Calls.{changeLeft, ChangeLeft, changeOf, closeOf, slotVerdict, setAddressOf, setPacketSizeOf, withHead}
+use Rattle.endpoint.specs.Calls.{changeLeft, ChangeLeft, changeOf, closeOf, raisedGood, slotVerdict, setAddressOf, setPacketSizeOf, withHead, withSize}
 use Rattle.endpoint.proofs.Cases.{change-done, change-passed, change-refused}
 use Rattle.common.proofs.RowLaws.{Only, only-all, put-inside, put-only, set-only}
 use Rattle.endpoint.proofs.SlotLaws.{open-room}
@@ -130,29 +138,26 @@ module _ (s : Ehci) (pool : ℕ) (h : List ℕ) (f u k : ℕ) where
       change-by true (withEndpoint s k Closed) (withHead h k (replicate 17 0)) (λ c. endpointAt (c .change .state) j ≡ endpointAt s j)
       (λ r. refl) (λ from _. endpoint-other s k Closed j ne)
 
-  -- ---- set address, set packet size: word 1 alone
+  -- ---- set address: word 1 alone
 
   pub record WordSet (w : ℕ) (c : ChangeLeft) : Type 0 where
     pub from : Changes
     pub word : headWord (c .heads) (k + 1) 1 ≡ w
     pub only : Only (17 * (k + 1) + 1) 1 h (c .heads)
 
-  word-set : (w : ℕ) → Changes → WordSet w (changeLeft (record { answer = Done; state = s }) (withHeadWord h (k + 1) 1 w))
-  word-set w from =
+  word-set : (w : ℕ) (s′ : Ehci) → Changes → WordSet w (changeLeft (record { answer = Done; state = s′ }) (withHeadWord h (k + 1) 1 w))
+  word-set w s′ from =
       record {
         from = from;
         word = getD-set-same h (17 * (k + 1) + 1) w 0 (word-room from);
         only = set-only h (17 * (k + 1) + 1) w;
       }
 
-  module _ (good : Bool) (w : ℕ) where
-    word-state : changeOf s pool h f u k good s (withHeadWord h (k + 1) 1 w) .change .state ≡ s
-    word-state = change-by good s (withHeadWord h (k + 1) 1 w) (λ c. c .change .state ≡ s) (λ r. refl) (λ _ _. refl)
-
-    word-only : Only (17 * (k + 1) + 1) 1 h (changeOf s pool h f u k good s (withHeadWord h (k + 1) 1 w) .heads)
-    word-only =
-        change-by good s (withHeadWord h (k + 1) 1 w) (λ c. Only (17 * (k + 1) + 1) 1 h (c .heads))
-        (λ r. only-all (17 * (k + 1) + 1) 1 h) (λ from _. word-set w from .only)
+  word-only : (good : Bool) (w : ℕ) (s′ : Ehci)
+      → Only (17 * (k + 1) + 1) 1 h (changeOf s pool h f u k good s′ (withHeadWord h (k + 1) 1 w) .heads)
+  word-only good w s′ =
+      change-by good s′ (withHeadWord h (k + 1) 1 w) (λ c. Only (17 * (k + 1) + 1) 1 h (c .heads))
+      (λ r. only-all (17 * (k + 1) + 1) 1 h) (λ from _. word-set w s′ from .only)
 
   module _ (a : ℕ) where
     pub address-tells : setAddressOf s pool h f u k a .change .answer ≡ Done
@@ -161,7 +166,7 @@ module _ (s : Ehci) (pool : ℕ) (h : List ℕ) (f u k : ℕ) where
     address-tells e =
         let w : ℕ = withAddress (headWord h (k + 1) 1) a in
         change-tells (leb a 127) s (withHeadWord h (k + 1) 1 w) (λ c. (a ≤ 127) × WordSet w c)
-        (λ from g. (leb-true a 127 g, word-set w from)) e
+        (λ from g. (leb-true a 127 g, word-set w s from)) e
 
     pub address-denied : (r : Refusal) → setAddressOf s pool h f u k a .change .answer ≡ Refused r
         → setAddressOf s pool h f u k a .heads ≡ h
@@ -170,34 +175,107 @@ module _ (s : Ehci) (pool : ℕ) (h : List ℕ) (f u k : ℕ) where
 
     pub address-state : setAddressOf s pool h f u k a .change .state ≡ s
     unfolding setAddressOf
-    address-state = word-state (leb a 127) (withAddress (headWord h (k + 1) 1) a)
+    address-state =
+        change-by (leb a 127) s (withHeadWord h (k + 1) 1 (withAddress (headWord h (k + 1) 1) a)) (λ c. c .change .state ≡ s)
+        (λ r. refl) (λ _ _. refl)
 
     -- no word but that one, whatever is answered
     pub address-only : Only (17 * (k + 1) + 1) 1 h (setAddressOf s pool h f u k a .heads)
     unfolding setAddressOf
-    address-only = word-only (leb a 127) (withAddress (headWord h (k + 1) 1) a)
+    address-only = word-only (leb a 127) (withAddress (headWord h (k + 1) 1) a) s
+
+  -- ---- set packet size: word 1, and the size of the slot
+
+  abbrev slot : Slot
+  slot = slotAt s k
+
+  -- the slot of a call that is let pass is idle, and its kind is that of a slot that is open
+  module _ (from : Changes) where
+    room : k < 32
+    room = open-room s pool h f u k (from .accepted) (from .is-open) .0
+
+    good-here : slotGood (s .settings .endpoints) (s .settings .limit) k (s .unanswered) slot ≡ true
+    good-here = accepts-tells s (lengths pool (length h) f u) (from .accepted) .ranges .slots k room
+
+    by-phase : Phase slot (s .unanswered) → (slot .phase ≡ 1) × (slot .kind ≤ 3)
+    by-phase (Phase.closed p _ _ _) =
+        absurd (false-true (ap hasEndpoint (at-slot s k slot Closed room refl (decode-closed slot (λ q. omega arith) (λ q. omega arith) (λ q. omega arith))) ∙ from .is-open))
+    by-phase (Phase.idle p o _) = (p, o .most)
+    by-phase (Phase.linked p _ _ _ _ _) =
+        absurd (false-true (sym (from .is-idle) ∙ sym (ap holdsRequest (at-slot s k slot _ room refl (decode-linked slot (pipeOf slot) (requestOf slot) p refl refl)))))
+    by-phase (Phase.unlinking p _ _ _ _ _) =
+        absurd (false-true (sym (from .is-idle) ∙ sym (ap holdsRequest (at-slot s k slot _ room refl (decode-unlinking slot (pipeOf slot) (requestOf slot) (boundaryOf slot) p refl refl refl)))))
+
+    idle-here : (slot .phase ≡ 1) × (slot .kind ≤ 3)
+    idle-here = by-phase (slot-tells (s .settings .endpoints) (s .settings .limit) k (s .unanswered) slot good-here .by-phase)
+
+    pub idle-pipe : endpointAt s k ≡ Idle (pipeOf slot)
+    idle-pipe = sym (at-slot s k slot (Idle (pipeOf slot)) room refl (decode-idle slot (pipeOf slot) (idle-here .0) refl))
+
+    was-good : OpenPipe (s .settings .limit) (pipeOf slot)
+    was-good =
+        subst (λ (y : Endpoint). EndpointGood (s .settings .limit) (s .unanswered) y) (sym (decode-idle slot (pipeOf slot) (idle-here .0) refl))
+        (endpoint-tells (s .settings .endpoints) (s .settings .limit) k (s .unanswered) slot good-here)
+
+    -- a size that is let pass is in its range
+    pub resized-good : (x : ℕ) → raisedGood s k x ≡ true → OpenPipe (s .settings .limit) (withSize (pipeOf slot) (max x 8))
+    resized-good x g =
+        record {
+          next-least = was-good .next-least;
+          never = was-good .never;
+          size = rw (kind-back (slot .kind) (idle-here .1)) (size-told (s .settings .limit) (slot .kind) (max x 8) g);
+        }
 
   module _ (x : ℕ) where
-    pub size-tells : setPacketSizeOf s pool h f u k x .change .answer ≡ Done
-        → WordSet (withPacketSize (headWord h (k + 1) 1) x) (setPacketSizeOf s pool h f u k x)
+    abbrev resized : Pipe
+    resized = withSize (pipeOf slot) (max x 8)
+
+    abbrev sized : Ehci
+    sized = withEndpoint s k (Idle resized)
+
+    abbrev word : ℕ
+    word = withPacketSize (headWord h (k + 1) 1) x
+
+    pub record SizeSet (c : ChangeLeft) : Type 0 where
+      pub written : WordSet word c
+      pub good : OpenPipe (s .settings .limit) resized
+      pub state-is : c .change .state ≡ sized
+
+    pub size-tells : setPacketSizeOf s pool h f u k x .change .answer ≡ Done → SizeSet (setPacketSizeOf s pool h f u k x)
     unfolding setPacketSizeOf
     size-tells e =
-        let w : ℕ = withPacketSize (headWord h (k + 1) 1) x in
-        change-tells true s (withHeadWord h (k + 1) 1 w) (WordSet w) (λ from _. word-set w from) e
+        change-tells (raisedGood s k x) sized (withHeadWord h (k + 1) 1 word) SizeSet
+        (λ from g. record { written = word-set word sized from; good = resized-good from x g; state-is = refl }) e
 
     pub size-denied : (r : Refusal) → setPacketSizeOf s pool h f u k x .change .answer ≡ Refused r
-        → setPacketSizeOf s pool h f u k x .heads ≡ h
+        → (setPacketSizeOf s pool h f u k x .change .state ≡ s) × (setPacketSizeOf s pool h f u k x .heads ≡ h)
     unfolding setPacketSizeOf
-    size-denied r e = change-denied true s (withHeadWord h (k + 1) 1 (withPacketSize (headWord h (k + 1) 1) x)) r e .1
-
-    pub size-state : setPacketSizeOf s pool h f u k x .change .state ≡ s
-    unfolding setPacketSizeOf
-    size-state = word-state true (withPacketSize (headWord h (k + 1) 1) x)
+    size-denied r e = change-denied (raisedGood s k x) sized (withHeadWord h (k + 1) 1 word) r e
 
     -- no word but that one, whatever is answered
     pub size-only : Only (17 * (k + 1) + 1) 1 h (setPacketSizeOf s pool h f u k x .heads)
     unfolding setPacketSizeOf
-    size-only = word-only true (withPacketSize (headWord h (k + 1) 1) x)
+    size-only = word-only (raisedGood s k x) word sized
+
+    pub size-keeps : Wide s → inRanges s ≡ true → inRanges (setPacketSizeOf s pool h f u k x .change .state) ≡ true
+    unfolding setPacketSizeOf
+    size-keeps w e =
+        change-by (raisedGood s k x) sized (withHeadWord h (k + 1) 1 word) (λ c. inRanges (c .change .state) ≡ true) (λ r. e)
+        (λ from g. ranges-make sized
+        (endpoint-keeps s k (ranges-tell s e) w (room from) (Idle resized) (resized-good from x g)
+        (λ le. let lt = from .below in absurd (omega arith))))
+
+    pub sized-endpoint : Wide s → setPacketSizeOf s pool h f u k x .change .answer ≡ Done
+        → endpointAt (setPacketSizeOf s pool h f u k x .change .state) k ≡ Idle resized
+    sized-endpoint w e =
+        let t = size-tells e in rw (t .state-is) (endpoint-same s k (Idle resized) w (room (t .written .from)) tt)
+
+    -- of the others nothing changes, whatever is answered
+    pub size-others : (j : ℕ) → j ≢ k → endpointAt (setPacketSizeOf s pool h f u k x .change .state) j ≡ endpointAt s j
+    unfolding setPacketSizeOf
+    size-others j ne =
+        change-by (raisedGood s k x) sized (withHeadWord h (k + 1) 1 word) (λ c. endpointAt (c .change .state) j ≡ endpointAt s j)
+        (λ r. refl) (λ from _. endpoint-other s k (Idle resized) j ne)
 
 -- ---- what EHCI 3.6.2 reads in the word
 
@@ -230,11 +308,18 @@ module _ (s : Ehci) (pool : ℕ) (h : List ℕ) (f u k : ℕ) where
       subst
       (λ (v : ℕ). Characteristics v (deviceAddress was) (inactivateOnNext was) (endpointNumber was) (endpointSpeed was)
       (toggleControl was) (headOfList was) (max x 8) (controlEndpoint was) (nakReload was))
-      (sym (size-tells s pool h f u k x e .word)) (packet-reads was x lt)
+      (sym (size-tells s pool h f u k x e .written .word)) (packet-reads was x lt)
 
 -- the arrays of the state keep their lengths
-pub close-wide : (s : Ehci) (pool : ℕ) (h : List ℕ) (f u k : ℕ) → Wide s → Wide (closeOf s pool h f u k .change .state)
-unfolding closeOf withEndpoint
-close-wide s pool h f u k w =
-    change-by s pool h f u k true (withEndpoint s k Closed) (withHead h k (replicate 17 0)) (λ c. Wide (c .change .state)) (λ r. w)
-    (λ from _. slot-wide s k (encoded Closed) w)
+module _ (s : Ehci) (pool : ℕ) (h : List ℕ) (f u k : ℕ) (w : Wide s) where
+  pub close-wide : Wide (closeOf s pool h f u k .change .state)
+  unfolding closeOf withEndpoint
+  close-wide =
+      change-by s pool h f u k true (withEndpoint s k Closed) (withHead h k (replicate 17 0)) (λ c. Wide (c .change .state)) (λ r. w)
+      (λ from _. slot-wide s k (encoded Closed) w)
+
+  pub size-wide : (x : ℕ) → Wide (setPacketSizeOf s pool h f u k x .change .state)
+  unfolding setPacketSizeOf withEndpoint
+  size-wide x =
+      change-by s pool h f u k (raisedGood s k x) _ _ (λ c. Wide (c .change .state)) (λ r. w)
+      (λ from _. slot-wide s k (encoded (Idle (withSize (pipeOf (slotAt s k)) (max x 8)))) w)

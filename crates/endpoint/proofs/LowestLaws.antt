@@ -70,7 +70,7 @@ module _ (s : Ehci) (k : ℕ) (r : Ranges s) (lt : k < 32) where
   pub phase-open : getD (s .phases) k 0 ≢ 0 → isOpen s k ≡ true
   unfolding slotAt
   phase-open ne =
-      by-phase (slot-tells (s .settings .endpoints) k (s .unanswered) (slotAt s k) (r .slots k lt) .by-phase) ne
+      by-phase (slot-tells (s .settings .endpoints) (s .settings .limit) k (s .unanswered) (slotAt s k) (r .slots k lt) .by-phase) ne
 
 module _ (s : Ehci) (r : Ranges s) where
   most : s .settings .endpoints ≤ 32

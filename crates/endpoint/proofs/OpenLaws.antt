@@ -2,7 +2,7 @@
 use Prim.Native.Nat.{ℕ, _+_, _*_, _≤_, _<_}
 use mathlib.Core.Path.{_≡_, refl, sym, ap, subst, _∙_}
 use mathlib.Core.Logic.{_≢_}
-use mathlib.Core.Bool.{Bool, true, false, _&&_}
+use mathlib.Core.Bool.{Bool, true, false}
 use mathlib.Core.List.{List}
 use native.Mathlib.Omega.{arith}
 use borrow.Author.Tests.{le-leb, leb-false, leb-true, lt-leb, ltb-false, ltb-true}
@@ -12,14 +12,14 @@ use Rattle.common.specs.declared.kinds.EndpointType.{EndpointType}
 use Rattle.common.specs.declared.kinds.EndpointType.the-variants.{Isochronous}
 use Rattle.descriptor.specs.Descriptors.{terminated}
 use Rattle.descriptor.specs.Heads.{endpointHead, wordsOf}
-use Rattle.common.proofs.TestLaws.{both-tells}
+use Rattle.slot.proofs.SlotLaws.{SizeGood}
 use Rattle.state.specs.Plain.{Ehci}
 use Rattle.state.specs.Ranges.{inRanges}
 use Rattle.state.proofs.RangesLaws.{ranges-make, ranges-tell}
 use Rattle.common.specs.declared.answer.Refusal.{Refusal}
 use Rattle.common.specs.declared.answer.Refusal.the-variants.{SlotLimitReached}
 use Rattle.pipe.specs.declared.endpoints.Endpoint.the-variants.{Closed}
-use Rattle.pipe.specs.Endpoints.{encoded, endpointAt, flagNumber, withEndpoint}
+use Rattle.pipe.specs.Endpoints.{encoded, endpointAt, flagNumber, kindNumber, withEndpoint}
 use Rattle.common.specs.Kinds.{isIsochronous}
 use Rattle.controller.specs.Lent.{acceptsOf, lengths}
 use Rattle.controller.specs.Readers.{hasEndpoint, isOpen}
@@ -31,51 +31,43 @@ use Rattle.controller.proofs.LentLaws.{accepts-tells}
 use Rattle.endpoint.specs.declared.calls.Opened.{Opened}
 use Rattle.endpoint.specs.declared.calls.Opened.the-variants.{Slot, Refused}
 use Rattle.endpoint.specs.Calls.{chosenOf, fieldsGood, lowestSlot, newEndpoint, openChecks, openEndpointOf, openLeft, OpenLeft, withHead}
-use Rattle.endpoint.proofs.Cases.{open-done, open-passed, open-refused, openVerdict, slot-is, slotOf}
+use Rattle.endpoint.proofs.Cases.{fields-tell, open-done, open-passed, open-refused, openVerdict, slot-is, slotOf}
 use Rattle.endpoint.proofs.LowestLaws.{lower-open, lowest-closed}
 use Rattle.common.proofs.RowLaws.{Only, put-inside, put-only}
 use Rattle.endpoint.proofs.SlotLaws.{below-room}
 
 -- 01's ranges of what is asked
-pub record FieldsGood (a n p : ℕ) : Type 0 where
+pub record FieldsGood (limit : ℕ) (kind : EndpointType) (a n p : ℕ) : Type 0 where
   pub address-most : a ≤ 127
   pub number-most : n ≤ 15
-  pub packet-least : 1 ≤ p
-  pub packet-most : p ≤ 1024
+  pub packet : SizeGood limit (kindNumber kind) p
 
-pub fields-good : (a n p : ℕ) → fieldsGood a n p ≡ true → FieldsGood a n p
-unfolding fieldsGood
-fields-good a n p e =
-    let x = both-tells (leb a 127) _ e in
-    let y = both-tells (leb n 15) _ (x .1) in
-    let z = both-tells (leb 1 p && leb p 1024) true (y .1) in
-    let w = both-tells (leb 1 p) (leb p 1024) (z .0) in
-    record {
-      address-most = leb-true a 127 (x .0);
-      number-most = leb-true n 15 (y .0);
-      packet-least = leb-true 1 p (w .0);
-      packet-most = leb-true p 1024 (w .1);
-    }
+pub fields-good : (limit : ℕ) (kind : EndpointType) (a n p : ℕ) → fieldsGood limit kind a n p ≡ true → FieldsGood limit kind a n p
+fields-good limit kind a n p e =
+    let t = fields-tell limit kind a n p e in record { address-most = t .0; number-most = t .1; packet = t .2 }
 
 module _ (s : Ehci) (pool : ℕ) (h : List ℕ) (f u : ℕ) (kind : EndpointType) (a n p : ℕ) where
+  abbrev asked : Bool
+  asked = fieldsGood (s .settings .limit) kind a n p
+
   -- the state and what is asked, where slot k is opened
   pub record Opens (k : ℕ) : Type 0 where
     pub accepted : acceptsOf s (lengths pool (length h) f u) ≡ true
     pub never : kind ≢ Isochronous
-    pub fields : FieldsGood a n p
+    pub fields : FieldsGood (s .settings .limit) kind a n p
     pub below : k < s .settings .endpoints
     pub was-closed : endpointAt s k ≡ Closed
     pub lower : (j : ℕ) → j < k → isOpen s j ≡ true
 
-  opens : (k : ℕ) → Slot k ≡ chosenOf s (lengths pool (length h) f u) kind (fieldsGood a n p) → Opens k
+  opens : (k : ℕ) → Slot k ≡ chosenOf s (lengths pool (length h) f u) kind asked → Opens k
   opens k e =
-      let t = open-passed s pool h f u kind a n p (fieldsGood a n p) refl (Slot k) e k refl in
-      let is = slot-is s pool h f u kind a n p (fieldsGood a n p) refl (Slot k) e k refl in
+      let t = open-passed s pool h f u kind a n p asked refl (Slot k) e k refl in
+      let is = slot-is s pool h f u kind a n p asked refl (Slot k) e k refl in
       let r = accepts-tells s (lengths pool (length h) f u) (t .0) .ranges in
       record {
         accepted = t .0;
         never = not-isochronous kind (t .1);
-        fields = fields-good a n p (t .2);
+        fields = fields-good (s .settings .limit) kind a n p (t .2);
         below = t .3;
         was-closed = rw is (lowest-closed s r (omega (arith, t .3)));
         lower = λ j lt. lower-open s r j (omega (arith, t .3)) (omega arith);
@@ -84,29 +76,29 @@ module _ (s : Ehci) (pool : ℕ) (h : List ℕ) (f u : ℕ) (kind : EndpointType
   -- the call either refuses and leaves all as it was, or opens the lowest closed slot
   pub open-by : (P : OpenLeft → Type 0) → ((r : Refusal) → P (openLeft (record { answer = Refused r; state = s }) h))
       → ((k : ℕ) → Opens k
-      → P (openLeft (record { answer = Slot k; state = withEndpoint s k (newEndpoint kind) })
+      → P (openLeft (record { answer = Slot k; state = withEndpoint s k (newEndpoint kind p) })
       (withHead h k (wordsOf (endpointHead kind a n p)))))
       → P (openEndpointOf s pool h f u kind a n p)
-  open-by P denied done = by (chosenOf s (lengths pool (length h) f u) kind (fieldsGood a n p)) refl
+  open-by P denied done = by (chosenOf s (lengths pool (length h) f u) kind asked) refl
     where
-      by : (o : Opened) → o ≡ chosenOf s (lengths pool (length h) f u) kind (fieldsGood a n p)
+      by : (o : Opened) → o ≡ chosenOf s (lengths pool (length h) f u) kind asked
           → P (openEndpointOf s pool h f u kind a n p)
       by (Slot k) e =
-          subst P (open-done s pool h f u kind a n p (fieldsGood a n p) refl (Slot k) e k refl _ _ refl refl) (done k (opens k e))
-      by (Refused r) e = subst P (open-refused s pool h f u kind a n p (fieldsGood a n p) refl (Refused r) e r refl) (denied r)
+          subst P (open-done s pool h f u kind a n p asked refl (Slot k) e k refl _ _ refl refl) (done k (opens k e))
+      by (Refused r) e = subst P (open-refused s pool h f u kind a n p asked refl (Refused r) e r refl) (denied r)
 
   -- ---- a slot is opened
 
   pub record SlotOpened (k : ℕ) (o : OpenLeft) : Type 0 where
     pub from : Opens k
-    pub state-is : o .opening .state ≡ withEndpoint s k (newEndpoint kind)
+    pub state-is : o .opening .state ≡ withEndpoint s k (newEndpoint kind p)
     pub words : (i : ℕ) → i < 17 → headWord (o .heads) (k + 1) i ≡ getD (wordsOf (endpointHead kind a n p)) i 0
     pub link : headWord (o .heads) (k + 1) 0 ≡ 1
     pub only : Only (17 * (k + 1)) 17 h (o .heads)
 
   slot-opened : (k : ℕ) → Opens k
       → SlotOpened k
-      (openLeft (record { answer = Slot k; state = withEndpoint s k (newEndpoint kind) })
+      (openLeft (record { answer = Slot k; state = withEndpoint s k (newEndpoint kind p) })
       (withHead h k (wordsOf (endpointHead kind a n p))))
   unfolding endpointHead terminated
   slot-opened k from =
@@ -127,7 +119,7 @@ module _ (s : Ehci) (pool : ℕ) (h : List ℕ) (f u : ℕ) (kind : EndpointType
       (λ r k e. absurd (verdicts-apart r (ap openVerdict e)))
       (λ j from k e. subst
       (λ (i : ℕ). SlotOpened i
-      (openLeft (record { answer = Slot j; state = withEndpoint s j (newEndpoint kind) })
+      (openLeft (record { answer = Slot j; state = withEndpoint s j (newEndpoint kind p) })
       (withHead h j (wordsOf (endpointHead kind a n p))))) (ap slotOf e) (slot-opened j from))
 
   -- a refusal leaves all as it was
@@ -145,29 +137,29 @@ module _ (s : Ehci) (pool : ℕ) (h : List ℕ) (f u : ℕ) (kind : EndpointType
 
   module _ (w : Wide s) where
     pub opened-endpoint : (k : ℕ) → openEndpointOf s pool h f u kind a n p .opening .answer ≡ Slot k
-        → endpointAt (openEndpointOf s pool h f u kind a n p .opening .state) k ≡ newEndpoint kind
+        → endpointAt (openEndpointOf s pool h f u kind a n p .opening .state) k ≡ newEndpoint kind p
     opened-endpoint k e =
         let t = open-tells k e in
         let room = below-room s pool h f u k (t .from .accepted) (t .from .below) .0 in
-        rw (t .state-is) (endpoint-same s k (newEndpoint kind) w room tt)
+        rw (t .state-is) (endpoint-same s k (newEndpoint kind p) w room tt)
 
     pub open-keeps : inRanges s ≡ true → inRanges (openEndpointOf s pool h f u kind a n p .opening .state) ≡ true
     open-keeps e =
         open-by (λ o. inRanges (o .opening .state) ≡ true) (λ r. e)
         (λ k from.
         let room = below-room s pool h f u k (from .accepted) (from .below) .0 in
-        ranges-make (withEndpoint s k (newEndpoint kind))
-        (endpoint-keeps s k (ranges-tell s e) w room (newEndpoint kind)
-        (record { next-least = omega arith; never = from .never })
+        ranges-make (withEndpoint s k (newEndpoint kind p))
+        (endpoint-keeps s k (ranges-tell s e) w room (newEndpoint kind p)
+        (record { next-least = omega arith; never = from .never; size = from .fields .packet })
         (λ le. let lt = from .below in absurd (omega arith))))
 
   pub open-others : (k j : ℕ) → openEndpointOf s pool h f u kind a n p .opening .answer ≡ Slot k → j ≢ k
       → endpointAt (openEndpointOf s pool h f u kind a n p .opening .state) j ≡ endpointAt s j
-  open-others k j e ne = rw (open-tells k e .state-is) (endpoint-other s k (newEndpoint kind) j ne)
+  open-others k j e ne = rw (open-tells k e .state-is) (endpoint-other s k (newEndpoint kind p) j ne)
 
   -- ---- where every earlier check passes, 2 is answered exactly where no slot below E is closed
 
-  module _ (e : acceptsOf s (lengths pool (length h) f u) ≡ true) (i : isIsochronous kind ≡ false) (g : fieldsGood a n p ≡ true) where
+  module _ (e : acceptsOf s (lengths pool (length h) f u) ≡ true) (i : isIsochronous kind ≡ false) (g : asked ≡ true) where
     pub open-accepts : (j : ℕ) → j < s .settings .endpoints → isOpen s j ≡ false
         → openEndpointOf s pool h f u kind a n p .opening .answer ≡ Slot (lowestSlot s)
     unfolding openEndpointOf openChecks
@@ -201,4 +193,4 @@ pub open-wide : (s : Ehci) (pool : ℕ) (h : List ℕ) (f u : ℕ) (kind : Endpo
 unfolding withEndpoint
 open-wide s pool h f u kind a n p w =
     open-by s pool h f u kind a n p (λ o. Wide (o .opening .state)) (λ r. w)
-    (λ k from. slot-wide s k (encoded (newEndpoint kind)) w)
+    (λ k from. slot-wide s k (encoded (newEndpoint kind p)) w)

@@ -1,21 +1,24 @@
 -- Document 01: open endpoint, close, set address, set packet size.
-use Prim.Native.Nat.{ℕ, _+_, _*_}
+use Prim.Native.Nat.{ℕ, _+_, _*_, max}
 use mathlib.Core.Bool.{Bool, true, not}
 use mathlib.Core.List.{List, [], _∷_}
 use lib.Dec.{leb}
 use lib.ListN.{length, replicate}
 use Rattle.common.specs.declared.kinds.EndpointType.{EndpointType}
 use Rattle.descriptor.specs.Heads.{endpointHead, wordsOf, withAddress, withPacketSize}
-use Rattle.common.specs.Tests.{every, within}
+use Rattle.common.specs.Tests.{every}
 use Rattle.state.specs.Plain.{Ehci}
 use Rattle.common.specs.declared.answer.Answer.{Answer}
 use Rattle.common.specs.declared.answer.Answer.the-variants.{Done, Refused as RefusedCall}
 use Rattle.common.specs.declared.answer.Refusal.the-variants.{InvalidParameter, SlotLimitReached, InvalidEndpoint, QueueFull, NotSupported}
 use Rattle.pipe.specs.declared.endpoints.Endpoint.{Endpoint}
 use Rattle.pipe.specs.declared.endpoints.Endpoint.the-variants.{Closed, Idle}
+use Rattle.pipe.specs.declared.endpoints.Pipe.{Pipe}
 use Rattle.controller.specs.Plain.{Lengths}
 use Rattle.common.specs.Answers.{Check, first, refusalNumber, settle}
-use Rattle.pipe.specs.Endpoints.{withEndpoint}
+use Rattle.pipe.specs.Endpoints.{kindNumber, pipeOf, withEndpoint}
+use Rattle.slot.specs.Ranges.{sizeGood}
+use Rattle.state.specs.Slots.{slotAt}
 use Rattle.common.specs.Kinds.{isIsochronous}
 use Rattle.controller.specs.Lent.{acceptsOf, lengths}
 use Rattle.controller.specs.Readers.{isOpen, isUncollected}
@@ -45,9 +48,10 @@ pub record OpenLeft : Type 0 where
 abbrev pub openLeft : EndpointOpening → List ℕ → OpenLeft
 openLeft opening heads = record { opening = opening; heads = heads }
 
--- "address 0..=127, number 0..=15, packet size 1..=1024"
-unfoldable pub fieldsGood : ℕ → ℕ → ℕ → Bool
-fieldsGood address number packet = every (leb address 127 ∷ leb number 15 ∷ within packet 1 1024 ∷ [])
+-- "address 0..=127, number 0..=15, packet size 1..=1024", and of a bulk or interrupt endpoint not above C
+unfoldable pub fieldsGood : ℕ → EndpointType → ℕ → ℕ → ℕ → Bool
+fieldsGood limit kind address number packet =
+    every (leb address 127 ∷ leb number 15 ∷ sizeGood limit (kindNumber kind) packet ∷ [])
 
 abbrev pub lowestSlot : Ehci → ℕ
 lowestSlot s = lowestClosed (s .phases) (s .settings .endpoints)
@@ -65,14 +69,14 @@ unfoldable pub chosenOf : Ehci → Lengths → EndpointType → Bool → Opened
 chosenOf s lent kind good = settle (first (openChecks s lent kind good)) Refused (Slot (lowestSlot s))
 
 -- "Ids per slot start at 1 when it opens"
-abbrev pub newEndpoint : EndpointType → Endpoint
-newEndpoint kind = Idle (record { kind = kind; next = 1 })
+abbrev pub newEndpoint : EndpointType → ℕ → Endpoint
+newEndpoint kind packet = Idle (record { kind = kind; size = packet; next = 1 })
 
 unfoldable pub openEndpointOf : Ehci → ℕ → List ℕ → ℕ → ℕ → EndpointType → ℕ → ℕ → ℕ → OpenLeft
 openEndpointOf s pool heads frames setups kind address number packet =
-    settle (first (openChecks s (lengths pool (length heads) frames setups) kind (fieldsGood address number packet)))
+    settle (first (openChecks s (lengths pool (length heads) frames setups) kind (fieldsGood (s .settings .limit) kind address number packet)))
     (λ r. openLeft (record { answer = Refused r; state = s }) heads)
-    (openLeft (record { answer = Slot (lowestSlot s); state = withEndpoint s (lowestSlot s) (newEndpoint kind) })
+    (openLeft (record { answer = Slot (lowestSlot s); state = withEndpoint s (lowestSlot s) (newEndpoint kind packet) })
     (withHead heads (lowestSlot s) (wordsOf (endpointHead kind address number packet))))
 
 -- ---- close, set address, set packet size
@@ -114,8 +118,15 @@ setAddressOf s pool heads frames setups k address =
     changeOf s pool heads frames setups k (leb address 127) s
     (withHeadWord heads (k + 1) 1 (withAddress (headWord heads (k + 1) 1) address))
 
--- "Set packet size takes a byte": every byte is in its range
+-- "Set packet size takes a byte, raises it to 8": it is judged after the raise
+abbrev pub raisedGood : Ehci → ℕ → ℕ → Bool
+raisedGood s k size = sizeGood (s .settings .limit) (slotAt s k .kind) (max size 8)
+
+abbrev pub withSize : Pipe → ℕ → Pipe
+withSize p size = record { kind = p .kind; size = size; next = p .next }
+
 unfoldable pub setPacketSizeOf : Ehci → ℕ → List ℕ → ℕ → ℕ → ℕ → ℕ → ChangeLeft
 setPacketSizeOf s pool heads frames setups k size =
-    changeOf s pool heads frames setups k true s
+    changeOf s pool heads frames setups k (raisedGood s k size)
+    (withEndpoint s k (Idle (withSize (pipeOf (slotAt s k)) (max size 8))))
     (withHeadWord heads (k + 1) 1 (withPacketSize (headWord heads (k + 1) 1) size))

@@ -2,21 +2,25 @@
 // lengths of the rows that it is not lent are those that opening fixed.
 ghost use mathlib.Core.Path.{_≡_};
 ghost use mathlib.Core.Bool.{true};
-ghost use Prim.Native.Nat.{ℕ, _+_, _*_};
+ghost use Prim.Native.Nat.{ℕ, _+_, _*_, max};
 ghost use lib.ListN.{length};
 ghost use Rattle.opening.specs.Opening.{rowsFit};
 ghost use Rattle.words.specs.Good.{Good, Tidy};
 ghost use Rattle.words.specs.View.{view};
-ghost use Rattle.endpoint.specs.Calls.{changeLeft, closeOf, openEndpointOf, openLeft, setAddressOf, setPacketSizeOf, fieldsGood};
+ghost use Rattle.endpoint.specs.Calls.{changeLeft, closeOf, openEndpointOf, openLeft, setAddressOf, setPacketSizeOf, fieldsGood, withSize};
+ghost use Rattle.pipe.specs.Endpoints.{kindNumber};
+ghost use Rattle.slot.specs.Ranges.{sizeGood};
 ghost use Rattle.endpoint.specs.Words.{changedView, chosenWords, openedView, verdictWords};
 use crate::heads::write_head;
 use crate::lowest::lowest_closed;
 use common::answer::Answer;
 use common::answer::Refusal;
 use common::kinds::EndpointType;
+use common::kinds::is_control;
 use common::kinds::is_isochronous;
 use controller::readers::is_open;
 use controller::readers::uncollected;
+use descriptor::head::raised;
 use descriptor::head::set_device_address;
 use descriptor::head::set_max_packet_size;
 use opening::heads::CHARACTERISTICS;
@@ -24,6 +28,7 @@ use opening::heads::HEAD_WORDS;
 use opening::heads::put_head;
 use pipe::endpoints::Endpoint;
 use pipe::endpoints::Pipe;
+use pipe::slots::pipe_at;
 use pipe::slots::put_endpoint;
 use words::core::Core;
 use words::core::Rest;
@@ -44,10 +49,19 @@ pub struct Change {
     pub rest: Rest,
 }
 
-pub fn fields_good(address: u8, number: u8, packet: u16) -> bool
-    ensures { λ r. ⌜ r ≡ fieldsGood address number packet ⌝ }
+// A packet size; of a bulk or interrupt endpoint one packet at least fits the limit.
+fn size_good(limit: u64, kind: EndpointType, size: u16) -> bool
+    ensures { λ r. ⌜ r ≡ sizeGood limit (kindNumber kind) size ⌝ }
 {
-    (address <= 127) & (number <= 15) & ((1 <= packet) & (packet <= 1024))
+    let control = is_control(kind);
+    ((1 <= size) & (size <= 1024)) & (control | (size as u64 <= limit))
+}
+
+pub fn fields_good(limit: u64, kind: EndpointType, address: u8, number: u8, packet: u16) -> bool
+    ensures { λ r. ⌜ r ≡ fieldsGood limit kind address number packet ⌝ }
+{
+    let sized = size_good(limit, kind, packet);
+    (address <= 127) & (number <= 15) & sized
 }
 
 // The slot of a new endpoint, or why there is none.
@@ -85,11 +99,16 @@ pub fn open_endpoint(
     ensures { λ r. ⌜ Tidy (core .settings) (r .rest) (now (slots .exit)) ⌝ }
 {
     let rest = core.rest;
-    let good = fields_good(address, number, packet);
+    let good = fields_good(core.settings.limit, kind, address, number, packet);
     match choose(core, slots, kind, good) {
         Opened::Slot(slot) => {
             write_head(heads, slot, kind, address, number, packet);
-            put_endpoint(slots, slot, Endpoint::Idle(Pipe { kind, next: 1 }));
+            let pipe = Pipe {
+                kind,
+                size: packet,
+                next: 1,
+            };
+            put_endpoint(slots, slot, Endpoint::Idle(pipe));
             EndpointOpening {
                 answer: Opened::Slot(slot),
                 rest,
@@ -100,6 +119,25 @@ pub fn open_endpoint(
             rest,
         },
     }
+}
+
+// The endpoint with another packet size.
+fn resize(p: Pipe, size: u8) -> Pipe
+    ensures { λ r. ⌜ r ≡ withSize p (max size 8) ⌝ }
+{
+    let kind = p.kind;
+    Pipe {
+        kind,
+        size: raised(size),
+        next: p.next,
+    }
+}
+
+fn pipe_good(limit: u64, p: Pipe) -> bool
+    ensures { λ r. ⌜ r ≡ sizeGood limit (kindNumber (p .kind)) (p .size) ⌝ }
+{
+    let kind = p.kind;
+    size_good(limit, kind, p.size)
 }
 
 // What close, set address and set packet size ask, in 01's order; `good` where the value is in its range.
@@ -169,20 +207,29 @@ pub fn set_address(core: Core, slots: &[u64], heads: &mut [u32], slot: u8, addre
     }
 }
 
-// Any byte is a packet size: it is raised to 8.
-pub fn set_packet_size(core: Core, slots: &[u64], heads: &mut [u32], slot: u8, size: u8) -> Change
+// A byte, which is raised to 8: the head and the slot have it from then on.
+pub fn set_packet_size(
+    core: Core,
+    slots: &mut [u64],
+    heads: &mut [u32],
+    slot: u8,
+    size: u8,
+) -> Change
     requires { ⌜ Good (core .settings) (core .rest) (now slots) ⌝ }
     requires { ⌜ length (now heads) ≡ 17 * (core .settings .endpoints + 1) ⌝ }
     ensures { λ r. ⌜ ((pool frames setups : ℕ) → rowsFit (core .settings) pool (length (now (heads .entry))) frames setups ≡ true
-        → changeLeft (changedView (core .settings) r (now (slots .entry))) (now (heads .exit))
+        → changeLeft (changedView (core .settings) r (now (slots .exit))) (now (heads .exit))
         ≡ setPacketSizeOf (view core (now (slots .entry))) pool (now (heads .entry)) frames setups slot size) ⌝ }
-    ensures { λ r. ⌜ r .rest .free ≡ core .rest .free ⌝ }
+    ensures { λ r. ⌜ Tidy (core .settings) (r .rest) (now (slots .exit)) ⌝ }
 {
     let rest = core.rest;
-    match check_slot(core, slots, slot, true) {
+    let old = pipe_at(slots, slot);
+    let pipe = resize(old, size);
+    match check_slot(core, slots, slot, pipe_good(core.settings.limit, pipe)) {
         Answer::Done => {
             let at = HEAD_WORDS * (slot as usize + 1) + CHARACTERISTICS;
             heads[at] = set_max_packet_size(heads[at], size);
+            put_endpoint(slots, slot, Endpoint::Idle(pipe));
             Change {
                 answer: Answer::Done,
                 rest,

@@ -18,7 +18,7 @@ use Rattle.pool.specs.Places.{listOf, markOf, packed, placesFrom}
 use Rattle.pool.specs.Transfers.{bareAt, chunkQtd, recordAt}
 use Rattle.settings.specs.Settings.{apartAreas, areaGood, eachGood, noOverlap, numbersGood, settingsGood}
 use Rattle.slot.specs.declared.slot.Slot.{Slot}
-use Rattle.slot.specs.Ranges.{boundaryGood, closedGood, idleGood, linkedGood, noRequest, openKind, phaseGood, slotGood, unlinkingGood}
+use Rattle.slot.specs.Ranges.{boundaryGood, closedGood, idleGood, linkedGood, noRequest, openKind, phaseGood, sizeGood, sizeKept, slotGood, unlinkingGood}
 use Rattle.state.specs.Plain.{Ehci}
 use Rattle.state.specs.Ranges.{doorbellGood, inRanges, interruptGood, largest, machineGood, ownerGood, restGood, slotsGood}
 use Rattle.state.specs.Slots.{slotAt, withSlot}
@@ -66,6 +66,7 @@ stateOf running step enabled bell owner a b =
       owner = owner ++ replicate 254 0;
       phases = a .phase ∷ b .phase ∷ replicate 30 0;
       kinds = a .kind ∷ b .kind ∷ replicate 30 0;
+      sizes = a .size ∷ b .size ∷ replicate 30 0;
       ids = a .id ∷ b .id ∷ replicate 30 1;
       requests = a .request ∷ b .request ∷ replicate 30 0;
       directions = a .direction ∷ b .direction ∷ replicate 30 0;
@@ -76,14 +77,14 @@ stateOf running step enabled bell owner a b =
 
 -- closed; idle; with request 1, linked; the same, cancelled, with a boundary
 abbrev closed : Slot
-closed = bareSlot 0 0 1
+closed = bareSlot 0 0 0 1
 
 abbrev idle : Slot
-idle = bareSlot 1 2 1
+idle = bareSlot 1 2 512 1
 
 abbrev asked : ℕ → ℕ → ℕ → Slot
 asked phase cancel boundary =
-    record { phase = phase; kind = 2; id = 2; request = 1; direction = 0; length = 512; cancel = cancel; boundary = boundary }
+    record { phase = phase; kind = 2; size = 512; id = 2; request = 1; direction = 0; length = 512; cancel = cancel; boundary = boundary }
 
 abbrev linked : Slot
 linked = asked 2 0 0
@@ -99,7 +100,7 @@ abbrev rising : ℕ → ℕ → ℕ → Ehci
 rising running step enabled = stateOf running step enabled noBell (0 ∷ 0 ∷ []) closed closed
 
 rising-good : (running step enabled : ℕ) → leb running 1 ≡ true → leb step 6 ≡ true → leb enabled 1 ≡ true → inRanges (rising running step enabled) ≡ true
-unfolding stateOf inRanges restGood machineGood interruptGood doorbellGood ownerGood largest slotsGood slotGood phaseGood closedGood idleGood linkedGood unlinkingGood boundaryGood openKind noRequest settingsGood numbersGood eachGood noOverlap areaGood apartAreas slotAt withoutBits
+unfolding stateOf inRanges restGood machineGood interruptGood doorbellGood ownerGood largest slotsGood slotGood phaseGood closedGood idleGood linkedGood unlinkingGood boundaryGood openKind noRequest sizeGood sizeKept settingsGood numbersGood eachGood noOverlap areaGood apartAreas slotAt withoutBits
 rising-good running step enabled e f g = rw (e, f, g)
 
 -- running, interrupts on
@@ -135,7 +136,7 @@ ways = oneOpen ∷ twoOpen ∷ oneLinked ∷ twoLinked ∷ oneWaits ∷ twoWait 
 
 -- they are in their ranges
 ways-good : map inRanges ways ≡ replicate 8 true
-unfolding stateOf inRanges restGood machineGood interruptGood doorbellGood ownerGood largest slotsGood slotGood phaseGood closedGood idleGood linkedGood unlinkingGood boundaryGood openKind noRequest settingsGood numbersGood eachGood noOverlap areaGood apartAreas slotAt withoutBits
+unfolding stateOf inRanges restGood machineGood interruptGood doorbellGood ownerGood largest slotsGood slotGood phaseGood closedGood idleGood linkedGood unlinkingGood boundaryGood openKind noRequest sizeGood sizeKept settingsGood numbersGood eachGood noOverlap areaGood apartAreas slotAt withoutBits
 ways-good = refl
 
 good : (k : ℕ) → getD (map inRanges ways) k true ≡ getD (replicate 8 true) k true
@@ -234,11 +235,11 @@ unfolding after applyOf decideOf asksOf rowsFit replied fillOf filledFrom noChai
 enables = rw (rising-good 1 0 0 refl refl refl)
 
 opens-one : after (fresh (rising 1 0 1)) (openBulk 5 1) ≡ openedOne
-unfolding after applyOf decideOf asksOf rowsFit replied fillOf filledFrom noChain packed listOf openDecided openEndpointOf openChecks acceptsOf fieldsGood closedFrom withEndpoint withSlot endpointHead terminated putAt withRows stateOf
+unfolding after applyOf decideOf asksOf rowsFit replied fillOf filledFrom noChain packed listOf openDecided openEndpointOf openChecks acceptsOf fieldsGood sizeGood closedFrom withEndpoint withSlot endpointHead terminated putAt withRows stateOf
 opens-one = rw (rising-good 1 0 1 refl refl refl)
 
 opens-two : after openedOne (openBulk 5 2) ≡ openedTwo
-unfolding after applyOf decideOf asksOf rowsFit replied fillOf filledFrom noChain packed listOf openDecided openEndpointOf openChecks acceptsOf fieldsGood closedFrom withEndpoint withSlot endpointHead terminated putAt withRows stateOf
+unfolding after applyOf decideOf asksOf rowsFit replied fillOf filledFrom noChain packed listOf openDecided openEndpointOf openChecks acceptsOf fieldsGood sizeGood closedFrom withEndpoint withSlot endpointHead terminated putAt withRows stateOf
 opens-two = rw one-open-good
 
 links-one : after openedTwo (submitOut 0 0x500000 512) ≡ linkedOne
@@ -306,7 +307,7 @@ unfolding replyTo applyOf decideOf asksOf rowsFit replied submitDecided submitOf
 past-end = rw brought-up (rw one-open-good)
 
 fits : acceptsOf (oneRequest 3 3 0 16380 0) (lengths 5 (length ringOfOne) (length noFrames) 16) ≡ true
-unfolding acceptsOf rowsFit inRanges restGood machineGood interruptGood doorbellGood ownerGood largest slotsGood slotGood phaseGood closedGood idleGood linkedGood unlinkingGood boundaryGood openKind noRequest settingsGood numbersGood eachGood noOverlap areaGood apartAreas slotAt withoutBits
+unfolding acceptsOf rowsFit inRanges restGood machineGood interruptGood doorbellGood ownerGood largest slotsGood slotGood phaseGood closedGood idleGood linkedGood unlinkingGood boundaryGood openKind noRequest sizeGood sizeKept settingsGood numbersGood eachGood noOverlap areaGood apartAreas slotAt withoutBits
 fits = refl
 
 pending : unlinkRow 4 ≡ 8 ∷ 0 ∷ 9 ∷ []

@@ -45,7 +45,7 @@ fn turn() -> bool {
         return false;
     }
     out::put(function);
-    if function < 10 {
+    if function < 10 || function == 20 {
         token_line(function, a, b, c, d);
     } else {
         head_line(function, a, b, c, d);

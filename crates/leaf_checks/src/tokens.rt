@@ -109,6 +109,7 @@ pub fn token_line(function: u64, a: u64, b: u64, c: u64, d: u64) {
         6 => word(plan::chunk_token(direction(a), b, c == 1).raw()),
         7 => chunked(kind(a), b, low_word(c), low_word(d)),
         8 => port(low_word(a)),
-        _ => put(chunks::chunk_length(low_word(a), b, low_word(c))),
+        9 => put(chunks::chunk_length(low_word(a), b, low_word(c))),
+        _ => put(chunks::working_limit(kind(a), b, c)),
     }
 }

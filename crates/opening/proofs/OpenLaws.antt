@@ -31,16 +31,18 @@ use Rattle.slot.proofs.SlotLaws.{Phase, slot-makes}
 
 module _ (s : Settings) where
   -- every slot is closed
-  pub fresh-slot : (k : ℕ) → k < 32 → slotAt (freshState s) k ≡ bareSlot 0 0 1
+  pub fresh-slot : (k : ℕ) → k < 32 → slotAt (freshState s) k ≡ bareSlot 0 0 0 1
   unfolding slotAt freshState
   fresh-slot k h = rw (zeros-at 32 k, getD-replicate {A = ℕ} 32 k 1 0 h)
 
-  closed-right : (E k u : ℕ) → slotGood E k u (bareSlot 0 0 1) ≡ true
-  closed-right E k u =
-      slot-makes E k u (bareSlot 0 0 1)
+  closed-right : (E limit k u : ℕ) → slotGood E limit k u (bareSlot 0 0 0 1) ≡ true
+  closed-right E limit k u =
+      slot-makes E limit k u (bareSlot 0 0 0 1)
       (record {
         id-least = omega arith;
         closed-from = λ h. refl;
+        size-none = λ h. refl;
+        size-open = λ n. absurd (n refl);
         by-phase =
             Phase.closed refl refl refl
             (record { request-none = refl; direction-none = refl; length-none = refl; cancel-none = refl; boundary-none = refl });
@@ -67,7 +69,7 @@ module _ (s : Settings) where
         unanswered-most = omega arith;
         owned = λ i h. omega (arith, zeros-at 256 i);
         unowned = λ i h. zeros-at 256 i;
-        slots = λ k h. rw (fresh-slot k h) (closed-right (s .endpoints) k 0);
+        slots = λ k h. rw (fresh-slot k h) (closed-right (s .endpoints) (s .limit) k 0);
       })
 
 -- what a refused opening gives is accepted by no call

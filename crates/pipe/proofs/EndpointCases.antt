@@ -65,10 +65,10 @@ pub at-none : (s : Ehci) (k : ℕ) → 32 ≤ k → Closed ≡ endpointAt s k
 unfolding endpointAt
 at-none s k h = rw (le-ltb k 32 h)
 
-pub encode-closed : (e : Endpoint) (r : Slot) → e ≡ Closed → r ≡ bareSlot 0 0 1 → r ≡ encoded e
+pub encode-closed : (e : Endpoint) (r : Slot) → e ≡ Closed → r ≡ bareSlot 0 0 0 1 → r ≡ encoded e
 encode-closed e r ee er = er ∙ rw ee
 
-pub encode-idle : (e : Endpoint) (p : Pipe) (k : ℕ) (r : Slot) → e ≡ Idle p → k ≡ kindNumber (p .kind) → r ≡ bareSlot 1 k (p .next) → r ≡ encoded e
+pub encode-idle : (e : Endpoint) (p : Pipe) (k : ℕ) (r : Slot) → e ≡ Idle p → k ≡ kindNumber (p .kind) → r ≡ bareSlot 1 k (p .size) (p .next) → r ≡ encoded e
 encode-idle e p k r ee ek er = er ∙ rw (ee, ek)
 
 pub encode-linked : (e : Endpoint) (p : Pipe) (q : Request) (r : Slot) → e ≡ Linked p q → r ≡ slotWith 2 p q 0 → r ≡ encoded e

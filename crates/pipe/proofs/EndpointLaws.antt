@@ -28,7 +28,7 @@ use Rattle.state.specs.Slots.{slotAt, withSlot}
 use Rattle.state.specs.State.{withBell, withOwner}
 use Rattle.pipe.proofs.EndpointCases.{decode-closed, decode-idle, decode-linked, decode-unlinking}
 use Rattle.state.proofs.RangesLaws.{Ranges}
-use Rattle.slot.proofs.SlotLaws.{Bounded, OpenKind, Phase, slot-makes, slot-tells}
+use Rattle.slot.proofs.SlotLaws.{Bounded, OpenKind, Phase, SizeGood, slot-makes, slot-tells}
 
 -- ---- numbers and what they stand for
 
@@ -79,13 +79,14 @@ boundary-back e = by (decEq (e .kind) 3)
 -- ---- a slot's endpoint, encoded again
 
 module _ (e : Slot) (u : ℕ) where
-  again : Phase e u → encoded (decoded e) ≡ e
-  again (Phase.closed p k i n) =
+  again : Phase e u → (e .phase ≡ 0 → e .size ≡ 0) → encoded (decoded e) ≡ e
+  again (Phase.closed p k i n) z =
       ap encoded (sym (decode-closed e (λ q. omega arith) (λ q. omega arith) (λ q. omega arith)))
       ∙ λ j.
       record {
         phase = sym p j;
         kind = sym k j;
+        size = sym (z p) j;
         id = sym i j;
         request = sym (n .request-none) j;
         direction = sym (n .direction-none) j;
@@ -93,12 +94,13 @@ module _ (e : Slot) (u : ℕ) where
         cancel = sym (n .cancel-none) j;
         boundary = sym (n .boundary-none) j;
       }
-  again (Phase.idle p o n) =
+  again (Phase.idle p o n) z =
       ap encoded (sym (decode-idle e (pipeOf e) p refl))
       ∙ λ j.
       record {
         phase = sym p j;
         kind = kind-back (e .kind) (o .most) j;
+        size = e .size;
         id = e .id;
         request = sym (n .request-none) j;
         direction = sym (n .direction-none) j;
@@ -106,12 +108,13 @@ module _ (e : Slot) (u : ℕ) where
         cancel = sym (n .cancel-none) j;
         boundary = sym (n .boundary-none) j;
       }
-  again (Phase.linked p o r d c b) =
+  again (Phase.linked p o r d c b) z =
       ap encoded (sym (decode-linked e (pipeOf e) (requestOf e) p refl refl))
       ∙ λ j.
       record {
         phase = sym p j;
         kind = kind-back (e .kind) (o .most) j;
+        size = e .size;
         id = e .id;
         request = e .request;
         direction = direction-back (e .direction) d j;
@@ -119,12 +122,13 @@ module _ (e : Slot) (u : ℕ) where
         cancel = flag-back (e .cancel) (omega arith) j;
         boundary = sym b j;
       }
-  again (Phase.unlinking p o r d c b) =
+  again (Phase.unlinking p o r d c b) z =
       ap encoded (sym (decode-unlinking e (pipeOf e) (requestOf e) (boundaryOf e) p refl refl refl))
       ∙ λ j.
       record {
         phase = sym p j;
         kind = kind-back (e .kind) (o .most) j;
+        size = e .size;
         id = e .id;
         request = e .request;
         direction = direction-back (e .direction) d j;
@@ -133,8 +137,8 @@ module _ (e : Slot) (u : ℕ) where
         boundary = boundary-back e j;
       }
 
-  pub encode-decode : (E k : ℕ) → slotGood E k u e ≡ true → encoded (decoded e) ≡ e
-  encode-decode E k g = again (slot-tells E k u e g .by-phase)
+  pub encode-decode : (E limit k : ℕ) → slotGood E limit k u e ≡ true → encoded (decoded e) ≡ e
+  encode-decode E limit k g = let t = slot-tells E limit k u e g in again (t .by-phase) (t .size-none)
 
 -- ---- an endpoint's slot, decoded again
 
@@ -180,6 +184,7 @@ decode-encode (Unlinking p r b) h =
 pub record Wide (s : Ehci) : Type 0 where
   pub phases-wide : length (s .phases) ≡ 32
   pub kinds-wide : length (s .kinds) ≡ 32
+  pub sizes-wide : length (s .sizes) ≡ 32
   pub ids-wide : length (s .ids) ≡ 32
   pub requests-wide : length (s .requests) ≡ 32
   pub directions-wide : length (s .directions) ≡ 32
@@ -197,6 +202,7 @@ module _ (s : Ehci) (k : ℕ) where
       record {
         phase = set-here (s .phases) k (e .phase) (w .phases-wide) h j;
         kind = set-here (s .kinds) k (e .kind) (w .kinds-wide) h j;
+        size = set-here (s .sizes) k (e .size) (w .sizes-wide) h j;
         id = set-here (s .ids) k (e .id) (w .ids-wide) h j;
         request = set-here (s .requests) k (e .request) (w .requests-wide) h j;
         direction = set-here (s .directions) k (e .direction) (w .directions-wide) h j;
@@ -211,6 +217,7 @@ module _ (s : Ehci) (k : ℕ) where
       record {
         phase = getD-set-other (s .phases) k j (e .phase) 0 ne i;
         kind = getD-set-other (s .kinds) k j (e .kind) 0 ne i;
+        size = getD-set-other (s .sizes) k j (e .size) 0 ne i;
         id = getD-set-other (s .ids) k j (e .id) 0 ne i;
         request = getD-set-other (s .requests) k j (e .request) 0 ne i;
         direction = getD-set-other (s .directions) k j (e .direction) 0 ne i;
@@ -225,6 +232,7 @@ module _ (s : Ehci) (k : ℕ) where
       record {
         phases-wide = length-set (s .phases) k (e .phase) ∙ w .phases-wide;
         kinds-wide = length-set (s .kinds) k (e .kind) ∙ w .kinds-wide;
+        sizes-wide = length-set (s .sizes) k (e .size) ∙ w .sizes-wide;
         ids-wide = length-set (s .ids) k (e .id) ∙ w .ids-wide;
         requests-wide = length-set (s .requests) k (e .request) ∙ w .requests-wide;
         directions-wide = length-set (s .directions) k (e .direction) ∙ w .directions-wide;
@@ -243,14 +251,15 @@ module _ (s : Ehci) (k : ℕ) where
 
 -- ---- an endpoint of a state in its ranges
 
--- an open slot is never isochronous, and its next id is at least 1
-pub record OpenPipe (p : Pipe) : Type 0 where
+-- an open slot is never isochronous, its packet size is in its range, and its next id is at least 1
+pub record OpenPipe (limit : ℕ) (p : Pipe) : Type 0 where
   pub next-least : 1 ≤ p .next
   pub never : p .kind ≢ Isochronous
+  pub size : SizeGood limit (kindNumber (p .kind)) (p .size)
 
 -- a linked request has an id and is not cancelled
-pub record LinkedGood (p : Pipe) (r : Request) : Type 0 where
-  pub pipe : OpenPipe p
+pub record LinkedGood (limit : ℕ) (p : Pipe) (r : Request) : Type 0 where
+  pub pipe : OpenPipe limit p
   pub request-least : 1 ≤ r .id
   pub uncancelled : r .cancelled ≡ false
 
@@ -259,17 +268,17 @@ abbrev pub Passable : ℕ → UnlinkBoundary → Type 0
 Passable u (Async n) = n ≤ u
 Passable u (Periodic n) = n < 16384
 
-pub record UnlinkingGood (u : ℕ) (p : Pipe) (r : Request) (b : UnlinkBoundary) : Type 0 where
-  pub pipe : OpenPipe p
+pub record UnlinkingGood (limit u : ℕ) (p : Pipe) (r : Request) (b : UnlinkBoundary) : Type 0 where
+  pub pipe : OpenPipe limit p
   pub request-least : 1 ≤ r .id
   pub suits : Suits (p .kind) b
   pub passable : Passable u b
 
-abbrev pub EndpointGood : ℕ → Endpoint → Type 0
-EndpointGood u Closed = Unit {0}
-EndpointGood u (Idle p) = OpenPipe p
-EndpointGood u (Linked p r) = LinkedGood p r
-EndpointGood u (Unlinking p r b) = UnlinkingGood u p r b
+abbrev pub EndpointGood : ℕ → ℕ → Endpoint → Type 0
+EndpointGood limit u Closed = Unit {0}
+EndpointGood limit u (Idle p) = OpenPipe limit p
+EndpointGood limit u (Linked p r) = LinkedGood limit p r
+EndpointGood limit u (Unlinking p r b) = UnlinkingGood limit u p r b
 
 -- what encodes to a good slot
 open-number : (k : EndpointType) → k ≢ Isochronous → OpenKind (kindNumber k)
@@ -296,8 +305,8 @@ bounded-by u Bulk (Periodic n) s h = absurd s
 bounded-by u Interrupt (Async n) s h = absurd s
 bounded-by u Interrupt (Periodic n) s h = record { frame = λ q. h; advances = λ q. absurd (q refl) }
 
-module _ (u : ℕ) where
-  phase-of : (x : Endpoint) → EndpointGood u x → Phase (encoded x) u
+module _ (limit u : ℕ) where
+  phase-of : (x : Endpoint) → EndpointGood limit u x → Phase (encoded x) u
   phase-of Closed g =
       Phase.closed refl refl refl
       (record { request-none = refl; direction-none = refl; length-none = refl; cancel-none = refl; boundary-none = refl })
@@ -311,18 +320,32 @@ module _ (u : ℕ) where
       Phase.unlinking refl (open-number (p .kind) (g .pipe .never)) (g .request-least) (direction-most (r .direction))
       (flag-most (r .cancelled)) (bounded-by u (p .kind) b (g .suits) (g .passable))
 
-  id-of : (x : Endpoint) → EndpointGood u x → 1 ≤ encoded x .id
+  id-of : (x : Endpoint) → EndpointGood limit u x → 1 ≤ encoded x .id
   id-of Closed g = omega arith
   id-of (Idle p) g = g .next-least
   id-of (Linked p r) g = g .pipe .next-least
   id-of (Unlinking p r b) g = g .pipe .next-least
 
-  pub endpoint-makes : (E k : ℕ) (x : Endpoint) → EndpointGood u x → (E ≤ k → x ≡ Closed) → slotGood E k u (encoded x) ≡ true
+  none-of : (x : Endpoint) → encoded x .phase ≡ 0 → encoded x .size ≡ 0
+  none-of Closed z = refl
+  none-of (Idle p) z = absurd (omega (arith, z))
+  none-of (Linked p r) z = absurd (omega (arith, z))
+  none-of (Unlinking p r b) z = absurd (omega (arith, z))
+
+  size-of : (x : Endpoint) → EndpointGood limit u x → encoded x .phase ≢ 0 → SizeGood limit (encoded x .kind) (encoded x .size)
+  size-of Closed g n = absurd (n refl)
+  size-of (Idle p) g n = g .size
+  size-of (Linked p r) g n = g .pipe .size
+  size-of (Unlinking p r b) g n = g .pipe .size
+
+  pub endpoint-makes : (E k : ℕ) (x : Endpoint) → EndpointGood limit u x → (E ≤ k → x ≡ Closed) → slotGood E limit k u (encoded x) ≡ true
   endpoint-makes E k x g c =
-      slot-makes E k u (encoded x)
+      slot-makes E limit k u (encoded x)
       (record {
         id-least = id-of x g;
         closed-from = λ h. ap (λ (y : Endpoint). encoded y .phase) (c h);
+        size-none = none-of x;
+        size-open = size-of x g;
         by-phase = phase-of x g;
       })
 
@@ -346,30 +369,35 @@ module _ (e : Slot) (o : OpenKind (e .kind)) where
       by (yes q) = rw (eq-eqb (e .kind) 3 q) (b .frame q)
       by (no ne) = rw (ne-eqb (e .kind) 3 ne) (b .advances ne)
 
-module _ (E k u : ℕ) (e : Slot) where
-  endpoint-by : 1 ≤ e .id → Phase e u → EndpointGood u (decoded e)
+module _ (E limit k u : ℕ) (e : Slot) (sized : e .phase ≢ 0 → SizeGood limit (e .kind) (e .size)) where
+  open-pipe : 1 ≤ e .id → e .phase ≢ 0 → OpenKind (e .kind) → OpenPipe limit (pipeOf e)
+  open-pipe i n o =
+      record { next-least = i; never = kind-never e o; size = rw (kind-back (e .kind) (o .most)) (sized n) }
+
+  endpoint-by : 1 ≤ e .id → Phase e u → EndpointGood limit u (decoded e)
   endpoint-by i (Phase.closed p _ _ _) = rw (sym (decode-closed e (λ q. omega arith) (λ q. omega arith) (λ q. omega arith))) tt
   endpoint-by i (Phase.idle p o _) =
-      rw (sym (decode-idle e (pipeOf e) p refl)) (record { next-least = i; never = kind-never e o })
+      rw (sym (decode-idle e (pipeOf e) p refl)) (open-pipe i (λ q. omega (arith, q, p)) o)
   endpoint-by i (Phase.linked p o r _ c _) =
       rw (sym (decode-linked e (pipeOf e) (requestOf e) p refl refl))
-      (record { pipe = record { next-least = i; never = kind-never e o }; request-least = r; uncancelled = rw c })
+      (record { pipe = open-pipe i (λ q. omega (arith, q, p)) o; request-least = r; uncancelled = rw c })
   endpoint-by i (Phase.unlinking p o r _ _ b) =
       rw (sym (decode-unlinking e (pipeOf e) (requestOf e) (boundaryOf e) p refl refl refl))
       (record {
-        pipe = record { next-least = i; never = kind-never e o };
+        pipe = open-pipe i (λ q. omega (arith, q, p)) o;
         request-least = r;
         suits = slot-suits e o;
         passable = slot-passable e o u b;
       })
 
-  pub endpoint-tells : slotGood E k u e ≡ true → EndpointGood u (decoded e)
-  endpoint-tells t = let g = slot-tells E k u e t in endpoint-by (g .id-least) (g .by-phase)
+pub endpoint-tells : (E limit k u : ℕ) (e : Slot) → slotGood E limit k u e ≡ true → EndpointGood limit u (decoded e)
+endpoint-tells E limit k u e t =
+    let g = slot-tells E limit k u e t in endpoint-by E limit k u e (g .size-open) (g .id-least) (g .by-phase)
 
 -- ---- a slot or an endpoint put into a state in its ranges
 
 module _ (s : Ehci) (k : ℕ) (r : Ranges s) (w : Wide s) (h : k < 32) where
-  pub slot-keeps : (e : Slot) → slotGood (s .settings .endpoints) k (s .unanswered) e ≡ true → Ranges (withSlot s k e)
+  pub slot-keeps : (e : Slot) → slotGood (s .settings .endpoints) (s .settings .limit) k (s .unanswered) e ≡ true → Ranges (withSlot s k e)
   unfolding withSlot
   slot-keeps e t =
       record {
@@ -392,14 +420,14 @@ module _ (s : Ehci) (k : ℕ) (r : Ranges s) (w : Wide s) (h : k < 32) where
       }
     where
       at : (j : ℕ) → j < 32 → Dec (j ≡ k)
-          → slotGood (s .settings .endpoints) j (s .unanswered) (slotAt (withSlot s k e) j) ≡ true
+          → slotGood (s .settings .endpoints) (s .settings .limit) j (s .unanswered) (slotAt (withSlot s k e) j) ≡ true
       at j hj (yes q) = rw (q, slot-same s k e w h) t
       at j hj (no ne) = rw (slot-other s k e j ne) (r .slots j hj)
 
-  pub endpoint-keeps : (x : Endpoint) → EndpointGood (s .unanswered) x → (s .settings .endpoints ≤ k → x ≡ Closed)
+  pub endpoint-keeps : (x : Endpoint) → EndpointGood (s .settings .limit) (s .unanswered) x → (s .settings .endpoints ≤ k → x ≡ Closed)
       → Ranges (withEndpoint s k x)
   unfolding withEndpoint
-  endpoint-keeps x g c = slot-keeps (encoded x) (endpoint-makes (s .unanswered) (s .settings .endpoints) k x g c)
+  endpoint-keeps x g c = slot-keeps (encoded x) (endpoint-makes (s .settings .limit) (s .unanswered) (s .settings .endpoints) k x g c)
 
 -- ---- a state with another bell, or another row of owners
 
@@ -409,6 +437,7 @@ bell-wide s n d u w =
     record {
       phases-wide = w .phases-wide;
       kinds-wide = w .kinds-wide;
+      sizes-wide = w .sizes-wide;
       ids-wide = w .ids-wide;
       requests-wide = w .requests-wide;
       directions-wide = w .directions-wide;
@@ -424,6 +453,7 @@ module _ (s : Ehci) (o : List ℕ) where
       record {
         phases-wide = w .phases-wide;
         kinds-wide = w .kinds-wide;
+        sizes-wide = w .sizes-wide;
         ids-wide = w .ids-wide;
         requests-wide = w .requests-wide;
         directions-wide = w .directions-wide;

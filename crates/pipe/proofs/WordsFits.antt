@@ -39,6 +39,7 @@ closed-fits =
     record {
       phase-fits = omega arith;
       kind-fits = omega arith;
+      size-fits = omega arith;
       direction-fits = omega arith;
       length-fits = omega arith;
       cancel-fits = omega arith;
@@ -49,11 +50,12 @@ closed-fits =
       no-request = λ h. refl;
     }
 
-pub idle-fits : (p : Pipe) → 1 ≤ p .next → p .next < 2 ^ 64 → SlotFits (encoded (Idle p))
-idle-fits p least most =
+pub idle-fits : (p : Pipe) → p .size < 2048 → 1 ≤ p .next → p .next < 2 ^ 64 → SlotFits (encoded (Idle p))
+idle-fits p sized least most =
     record {
       phase-fits = omega arith;
       kind-fits = kind-below (p .kind);
+      size-fits = sized;
       direction-fits = omega arith;
       length-fits = omega arith;
       cancel-fits = omega arith;
@@ -66,15 +68,16 @@ idle-fits p least most =
 
 -- ---- with one: the next id is the one after its own
 
-module _ (p : Pipe) (q : Request) (own : p .next ≡ afterId (q .id)) (most : p .next < 2 ^ 64) (short : q .length < 0x1_0000_0000) where
+module _ (p : Pipe) (q : Request) (sized : p .size < 2048) (own : p .next ≡ afterId (q .id)) (most : p .next < 2 ^ 64) (short : q .length < 0x1_0000_0000) where
   next-least : 1 ≤ p .next
   next-least = omega (arith, own, id-one (q .id))
 
-  request-fits : (phase boundary : ℕ) → 2 ≤ phase → phase < 4 → boundary < 0x1_0000 → SlotFits (slotWith phase p q boundary)
+  request-fits : (phase boundary : ℕ) → 2 ≤ phase → phase < 4 → boundary < 0x8000 → SlotFits (slotWith phase p q boundary)
   request-fits phase boundary least below small =
       record {
         phase-fits = below;
         kind-fits = kind-below (p .kind);
+        size-fits = sized;
         direction-fits = direction-below (q .direction);
         length-fits = short;
         cancel-fits = flag-below (q .cancelled);
@@ -88,5 +91,5 @@ module _ (p : Pipe) (q : Request) (own : p .next ≡ afterId (q .id)) (most : p 
   pub linked-fits : SlotFits (encoded (Linked p q))
   linked-fits = request-fits 2 0 (omega arith) (omega arith) (omega arith)
 
-  pub unlinking-fits : (b : UnlinkBoundary) → boundaryNumber b < 0x1_0000 → SlotFits (encoded (Unlinking p q b))
+  pub unlinking-fits : (b : UnlinkBoundary) → boundaryNumber b < 0x8000 → SlotFits (encoded (Unlinking p q b))
   unlinking-fits b small = request-fits 3 (boundaryNumber b) (omega arith) (omega arith) small

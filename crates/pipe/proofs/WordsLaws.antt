@@ -11,9 +11,9 @@ use Rattle.settings.specs.declared.settings.Settings.{Settings}
 use Rattle.slot.specs.declared.slot.Slot.{Slot}
 use Rattle.words.specs.declared.core.Rest.{Rest}
 use Rattle.words.specs.Good.{Good, Tidy, noPlaces}
-use Rattle.words.specs.Record.{SlotFits, boundaryIn, lastAt, phaseIn, placesAt, putSlot, slotIn, wordAt}
+use Rattle.words.specs.Record.{SlotFits, lastAt, phaseIn, placesAt, putSlot, slotIn, wordAt}
 use Rattle.words.specs.View.{stateOf}
-use Rattle.words.proofs.GoodLaws.{good-boundary, good-length, good-settings}
+use Rattle.words.proofs.GoodLaws.{good-length, good-settings}
 use Rattle.words.proofs.PutLaws.{view-put}
 use Rattle.words.proofs.RowLaws.{word-beyond}
 use Rattle.words.proofs.TidyLaws.{tidy-put}
@@ -89,9 +89,6 @@ tidy-endpoint-put ws k e room fits s r none t = tidy-put ws k (encoded e) room f
 -- ---- `endpoint_at`
 
 module _ (s : Settings) (r : Rest) (ws : List ℕ) (k : ℕ) where
-  pub slot-readable : Good s r ws → boundaryIn (wordAt ws k) < 65536
-  slot-readable good = omega (arith, good-boundary s r ws good k)
-
   pub endpoint-of : (e : Slot) (x : Endpoint) → Good s r ws → e ≡ slotIn (wordAt ws k) (lastAt ws k) → x ≡ decoded e
       → x ≡ endpointAt (stateOf s r ws) k
   endpoint-of e x good ee ex = ex ∙ rw ee (sym (good-endpoint s r ws good k))

@@ -13,7 +13,7 @@ use Rattle.slot.specs.declared.slot.Slot.{Slot}
 use Rattle.slot.proofs.SlotLaws.{Phase}
 use Rattle.words.specs.declared.core.Rest.{Rest}
 use Rattle.words.specs.Good.{Good, noPlaces}
-use Rattle.words.specs.Record.{boundaryIn, idIn, kindIn, lastAt, lengthIn, phaseIn, placesAt, slotIn, wordAt}
+use Rattle.words.specs.Record.{boundaryIn, idIn, kindIn, lastAt, lengthIn, phaseIn, placesAt, sizeIn, slotIn, wordAt}
 use Rattle.words.specs.View.{stateOf}
 use Rattle.words.proofs.FitLaws.{id-one}
 use Rattle.words.proofs.GoodLaws.{good-beyond, good-boundary, good-settings, good-slot, good-slot-tells}
@@ -33,15 +33,17 @@ pub record IdleAt (s : Settings) (ws : List ℕ) (k : ℕ) (p : Pipe) : Type 0 w
   pub within : k < s .endpoints
   pub phase : phaseIn (wordAt ws k) ≡ 1
   pub kind : kindNumber (p .kind) ≡ kindIn (wordAt ws k)
+  pub size : p .size ≡ sizeIn (wordAt ws k)
   pub next : p .next ≡ idIn (lastAt ws k)
   pub next-least : 1 ≤ p .next
-  pub good : OpenPipe p
+  pub good : OpenPipe (s .limit) p
   pub empty : placesAt ws k ≡ noPlaces
 
 -- a slot's own request
 pub record RequestAt (s : Settings) (ws : List ℕ) (k : ℕ) (p : Pipe) (q : Request) : Type 0 where
   pub within : k < s .endpoints
   pub kind : kindNumber (p .kind) ≡ kindIn (wordAt ws k)
+  pub size : p .size ≡ sizeIn (wordAt ws k)
   pub own : p .next ≡ afterId (q .id)
   pub last : q .id ≡ lastAt ws k
   pub next-least : 1 ≤ p .next
@@ -52,14 +54,14 @@ pub record RequestAt (s : Settings) (ws : List ℕ) (k : ℕ) (p : Pipe) (q : Re
 pub record LinkedAt (s : Settings) (ws : List ℕ) (k : ℕ) (p : Pipe) (q : Request) : Type 0 where
   pub request : RequestAt s ws k p q
   pub phase : phaseIn (wordAt ws k) ≡ 2
-  pub good : LinkedGood p q
+  pub good : LinkedGood (s .limit) p q
 
 pub record UnlinkingAt (s : Settings) (r : Rest) (ws : List ℕ) (k : ℕ) (p : Pipe) (q : Request) (b : UnlinkBoundary) : Type 0 where
   pub request : RequestAt s ws k p q
   pub phase : phaseIn (wordAt ws k) ≡ 3
   pub boundary : boundaryNumber b ≡ boundaryIn (wordAt ws k)
   pub boundary-below : boundaryNumber b < 16384
-  pub good : UnlinkingGood (r .unanswered) p q b
+  pub good : UnlinkingGood (s .limit) (r .unanswered) p q b
 
 abbrev pub EndpointAt : Settings → Rest → List ℕ → ℕ → Endpoint → Type 0
 EndpointAt s r ws k Closed = phaseIn (wordAt ws k) ≡ 0
@@ -83,10 +85,10 @@ module _ (s : Settings) (r : Rest) (ws : List ℕ) (good : Good s r ws) (k : ℕ
   slot = slotIn (wordAt ws k) (lastAt ws k)
 
   module _ (below : k < 32) where
-    tells-good : (x : Endpoint) → decoded slot ≡ x → EndpointGood (r .unanswered) x
+    tells-good : (x : Endpoint) → decoded slot ≡ x → EndpointGood (s .limit) (r .unanswered) x
     tells-good x e =
-        subst (λ (y : Endpoint). EndpointGood (r .unanswered) y) e
-        (endpoint-tells (s .endpoints) k (r .unanswered) slot (good-slot s r ws good k below))
+        subst (λ (y : Endpoint). EndpointGood (s .limit) (r .unanswered) y) e
+        (endpoint-tells (s .endpoints) (s .limit) k (r .unanswered) slot (good-slot s r ws good k below))
 
     idle-slot : phaseIn (wordAt ws k) ≡ 1 → kindIn (wordAt ws k) ≤ 3 → IdleAt s ws k (pipeOf slot)
     unfolding slotIn
@@ -96,6 +98,7 @@ module _ (s : Settings) (r : Rest) (ws : List ℕ) (good : Good s r ws) (k : ℕ
           within = here;
           phase = p;
           kind = kind-back (kindIn (wordAt ws k)) m;
+          size = refl;
           next = refl;
           next-least = id-one (lastAt ws k);
           good = tells-good (Idle (pipeOf slot)) (word-idle (wordAt ws k) (lastAt ws k) p);
@@ -110,6 +113,7 @@ module _ (s : Settings) (r : Rest) (ws : List ℕ) (good : Good s r ws) (k : ℕ
         record {
           within = open-within (λ z. omega (arith, z, h));
           kind = kind-back (kindIn (wordAt ws k)) m;
+          size = refl;
           own = ap afterId own;
           last = sym own;
           next-least = id-one (lastAt ws k);

@@ -12,9 +12,11 @@ use Rattle.pipe.specs.declared.endpoints.Pipe.{Pipe}
 use Rattle.pipe.specs.declared.endpoints.Request.{Request}
 use Rattle.pipe.specs.declared.endpoints.UnlinkBoundary.{UnlinkBoundary}
 use Rattle.pipe.specs.declared.endpoints.UnlinkBoundary.the-variants.{Async, Periodic}
+use Rattle.settings.specs.declared.settings.Settings.{Settings}
 use Rattle.slot.specs.declared.slot.Slot.{Slot}
 use Rattle.state.specs.Plain.{Ehci}
 use Rattle.state.specs.Slots.{slotAt, withSlot}
+use Rattle.token.specs.Chunks.{workingLimit}
 
 -- ---- numbers: control 0, isochronous 1, bulk 2, interrupt 3; Out 0, In 1
 
@@ -48,7 +50,7 @@ flagNumber false = 0
 -- ---- from a slot's numbers
 
 abbrev pub pipeOf : Slot → Pipe
-pipeOf e = record { kind = kindOf (e .kind); next = e .id }
+pipeOf e = record { kind = kindOf (e .kind); size = e .size; next = e .id }
 
 abbrev pub requestOf : Slot → Request
 requestOf e = record { id = e .request; direction = directionOf (e .direction); length = e .length; cancelled = flagOf (e .cancel) }
@@ -70,6 +72,13 @@ decoded e =
 unfoldable pub endpointAt : Ehci → ℕ → Endpoint
 endpointAt s k = cond (ltb k 32) (decoded (slotAt s k)) Closed
 
+-- the limit of its chunks; a slot that is closed, or none, is of kind 0
+abbrev pub limitOf : Settings → Pipe → ℕ
+limitOf s p = workingLimit (p .kind) (s .limit) (p .size)
+
+abbrev pub limitAt : Ehci → ℕ → ℕ
+limitAt s k = limitOf (s .settings) (pipeOf (slotAt s k))
+
 -- ---- and back
 
 abbrev pub boundaryNumber : UnlinkBoundary → ℕ
@@ -81,6 +90,7 @@ slotWith phase p r boundary =
     record {
       phase = phase;
       kind = kindNumber (p .kind);
+      size = p .size;
       id = p .next;
       request = r .id;
       direction = directionNumber (r .direction);
@@ -89,13 +99,13 @@ slotWith phase p r boundary =
       boundary = boundary;
     }
 
-abbrev pub bareSlot : ℕ → ℕ → ℕ → Slot
-bareSlot phase kind id =
-    record { phase = phase; kind = kind; id = id; request = 0; direction = 0; length = 0; cancel = 0; boundary = 0 }
+abbrev pub bareSlot : ℕ → ℕ → ℕ → ℕ → Slot
+bareSlot phase kind size id =
+    record { phase = phase; kind = kind; size = size; id = id; request = 0; direction = 0; length = 0; cancel = 0; boundary = 0 }
 
 abbrev pub encoded : Endpoint → Slot
-encoded Closed = bareSlot 0 0 1
-encoded (Idle p) = bareSlot 1 (kindNumber (p .kind)) (p .next)
+encoded Closed = bareSlot 0 0 0 1
+encoded (Idle p) = bareSlot 1 (kindNumber (p .kind)) (p .size) (p .next)
 encoded (Linked p r) = slotWith 2 p r 0
 encoded (Unlinking p r b) = slotWith 3 p r (boundaryNumber b)
 

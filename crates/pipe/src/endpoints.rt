@@ -11,9 +11,10 @@ pub enum UnlinkBoundary {
     Periodic(u16),
 }
 
-// The endpoint's kind, and the id of its next request.
+// The endpoint's kind, its packet size, and the id of its next request.
 pub struct Pipe {
     pub kind: EndpointType,
+    pub size: u16,
     pub next: u64,
 }
 
@@ -78,11 +79,12 @@ fn flag_number(flag: bool) -> u8
     if flag { 1 } else { 0 }
 }
 
-fn pipe_of(e: Slot) -> Pipe
+pub fn pipe_of(e: Slot) -> Pipe
     ensures { λ r. ⌜ r ≡ pipeOf e ⌝ }
 {
     Pipe {
         kind: kind_of(e.kind),
+        size: e.size,
         next: e.id,
     }
 }
@@ -141,6 +143,7 @@ fn slot_with(phase: u8, p: Pipe, r: Request, boundary: u16) -> Slot
     Slot {
         phase,
         kind: kind_number(kind),
+        size: p.size,
         id: p.next,
         request: r.id,
         direction: direction_number(direction),
@@ -150,12 +153,13 @@ fn slot_with(phase: u8, p: Pipe, r: Request, boundary: u16) -> Slot
     }
 }
 
-fn bare_slot(phase: u8, kind: u8, id: u64) -> Slot
-    ensures { λ s. ⌜ s ≡ bareSlot phase kind id ⌝ }
+fn bare_slot(phase: u8, kind: u8, size: u16, id: u64) -> Slot
+    ensures { λ s. ⌜ s ≡ bareSlot phase kind size id ⌝ }
 {
     Slot {
         phase,
         kind,
+        size,
         id,
         request: 0,
         direction: 0,
@@ -169,10 +173,10 @@ pub fn encode(e: Endpoint) -> Slot
     ensures { λ r. ⌜ r ≡ encoded e ⌝ }
 {
     match e {
-        Endpoint::Closed => bare_slot(0, 0, 1),
+        Endpoint::Closed => bare_slot(0, 0, 0, 1),
         Endpoint::Idle(p) => {
             let kind = p.kind;
-            bare_slot(1, kind_number(kind), p.next)
+            bare_slot(1, kind_number(kind), p.size, p.next)
         }
         Endpoint::Linked(p, r) => slot_with(2, p, r, 0),
         Endpoint::Unlinking(p, r, b) => slot_with(3, p, r, boundary_number(b)),

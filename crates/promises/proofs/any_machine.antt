@@ -6,6 +6,7 @@ pub mod Pictures
 pub mod Boundary
 pub mod Once
 pub mod Waits
+pub mod WireLaws
 pub mod Numbers
 pub mod BoundaryExact
 pub mod RegisterLaws

@@ -22,6 +22,7 @@ pub mod CollectionLaws
 pub mod ShortLaws
 pub mod PlanLaws
 pub mod SubmissionLaws
+pub mod WholeLaws
 pub mod PacketLaws
 pub mod TokenLaws
 pub mod CancelTheorems

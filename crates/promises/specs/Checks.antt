@@ -15,7 +15,7 @@ use Rattle.common.specs.Answers.{Check, first}
 use Rattle.common.specs.declared.answer.Refusal.the-variants.{InvalidParameter, SlotLimitReached, InvalidEndpoint, QueueFull, NotSupported, Timeout}
 use Rattle.controller.specs.Readers.{freeCount, isOpen, isUncollected}
 use Rattle.schedule.specs.Links.{detachOf}
-use Rattle.endpoint.specs.Calls.{fieldsGood, lowestSlot}
+use Rattle.endpoint.specs.Calls.{fieldsGood, lowestSlot, raisedGood}
 use Rattle.request.specs.Submit.{needOfRequest, rangesGood}
 use Rattle.request.specs.Writeback.{inRequest}
 use Rattle.collection.specs.Calls.{crowded, wrongId}
@@ -58,7 +58,7 @@ furtherChecks w AllocateAddress = (ltb 127 (w .view .address), SlotLimitReached)
 -- "Open endpoint: 5, then address .. (1), then 2"
 furtherChecks w (OpenEndpoint x) =
     (isIsochronous (x .kind), NotSupported)
-    ∷ (not (fieldsGood (x .address) (x .number) (x .packet)), InvalidParameter)
+    ∷ (not (fieldsGood (w .view .settings .limit) (x .kind) (x .address) (x .number) (x .packet)), InvalidParameter)
     ∷ (leb (w .view .settings .endpoints) (lowestSlot (w .view)), SlotLimitReached)
     ∷ []
 -- "Close, set address (0..=127), set packet size: 3, 4, 1."
@@ -69,11 +69,14 @@ furtherChecks w (SetAddress k a) =
     ∷ (not (leb a 127), InvalidParameter)
     ∷ []
 furtherChecks w (SetPacketSize k size) =
-    (not (isOpen (w .view) k), InvalidEndpoint) ∷ (isUncollected (w .view) k, QueueFull) ∷ []
+    (not (isOpen (w .view) k), InvalidEndpoint)
+    ∷ (isUncollected (w .view) k, QueueFull)
+    ∷ (not (raisedGood (w .view) k size), InvalidParameter)
+    ∷ []
 furtherChecks w (Submit k t readings) =
     submitOrder (not (isOpen (w .view) k)) (eqb (w .view .running) 0) (isUncollected (w .view) k) (isIsochronous (t .kind))
     (not (eqb (kindNumber (t .kind)) (slotAt (w .view) k .kind))) (not (rangesGood t))
-    (ltb (freeCount (w .view)) (needOfRequest (w .view) t))
+    (ltb (freeCount (w .view)) (needOfRequest (w .view) k t))
 -- "Writeback (place, token): 1 unless an uncollected request has that descriptor"
 furtherChecks w (Writeback place token) = (not (inRequest (w .view) place), InvalidParameter) ∷ []
 -- "Cancel: 3 if not open, nothing uncollected, or wrong id." What stands before and after is met in no run (docs/DECISIONS.md)

@@ -15,14 +15,14 @@ use Rattle.ehci.specs.declared.call.Call.the-variants.{Collect}
 use Rattle.ehci.specs.Replies.{answeredValues}
 use Rattle.promises.specs.Runs.{Always, History, Moment, Promise, Rows}
 use Rattle.promises.specs.Events.{isCollected}
-use Rattle.promises.specs.Uses.{Use, isOf, mayEndShort, uses}
+use Rattle.promises.specs.Uses.{Use, isOf, limitOfUse, mayEndShort, uses}
 use Rattle.promises.specs.Bells.{cancelled}
 use Rattle.promises.specs.Rooms.{numberAt}
 use Rattle.promises.specs.Coverage.{dataOf}
 
 -- ---- the length
 
--- a control request's data is one piece; "chunks of C, then the rest"
+-- a control request's data is one piece; "chunks of C, then the rest", where C reads the working limit
 abbrev pub pieceOf : EndpointType → ℕ → ℕ → ℕ
 pieceOf Control length limit = length
 pieceOf Isochronous length limit = limit
@@ -73,7 +73,7 @@ dueTo s h rows u =
     let r = u .request in
     let records = readTo (mayEndShort u) (recordsAt rows (u .places)) in
     dueOf (cancelled s (u .slot) h) (erring (tokensOf records))
-    (moved (pieceOf (r .kind) (r .length) (s .limit)) (r .length) (tokensOf (dataOf (r .kind) records)))
+    (moved (pieceOf (r .kind) (r .length) (limitOfUse s u)) (r .length) (tokensOf (dataOf (r .kind) records)))
 
 -- ---- of any machine
 

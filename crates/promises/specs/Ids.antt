@@ -11,7 +11,8 @@ use Rattle.ehci.specs.declared.call.Call.{Call}
 use Rattle.ehci.specs.declared.call.Call.the-variants.{Cancel, Collect}
 use Rattle.promises.specs.Runs.{Always, History, Moment, Promise, turnBy}
 use Rattle.promises.specs.Events.{Event, Other, Reads, Drains, Submits, Unlinks, Parts, Collects, event}
-use Rattle.promises.specs.Opened.{Change, ClosesSlot, Halted, OpensSlot, Running, Same, change, isBusy, isShut, slotIn}
+use Rattle.promises.specs.Opened.{isBusy, isShut}
+use Rattle.promises.specs.Slots.{Change, ClosesSlot, Halted, OpensSlot, ResizesSlot, Running, Same, change, slotIn}
 use Rattle.promises.specs.Uses.{Use, isOf, uses}
 use Rattle.promises.specs.Rooms.{numberAt}
 
@@ -21,7 +22,8 @@ following id = cond (eqb id (2 ^ 64 - 1)) 1 (id + 1)
 -- a slot that is opened starts, and so does one that was closed
 abbrev pub startBy : ℕ → Change → ℕ → ℕ
 startBy k Same n = n
-startBy k (OpensSlot j kind) n = cond (eqb j k) 1 n
+startBy k (OpensSlot j kind size) n = cond (eqb j k) 1 n
+startBy k (ResizesSlot j size) n = n
 startBy k (ClosesSlot j) n = cond (eqb j k) 1 n
 startBy k Halted n = n
 startBy k Running n = n

@@ -1,6 +1,7 @@
 pub mod Runs
 pub mod Walks
 pub mod Events
+pub mod Slots
 pub mod Uses
 pub mod Bells
 pub mod Checks
@@ -12,6 +13,7 @@ pub mod Coverage
 pub mod Collections
 pub mod EhciQueue
 pub mod Shorts
+pub mod Packets
 pub mod Submissions
 pub mod Chains
 pub mod Boundaries

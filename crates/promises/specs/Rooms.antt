@@ -18,7 +18,7 @@ use Rattle.ehci.specs.declared.call.Call.{Call}
 use Rattle.ehci.specs.declared.call.Call.the-variants.{Submit, Writeback}
 use Rattle.ehci.specs.Replies.{answeredNumber}
 use Rattle.promises.specs.Runs.{Always, History, Moment, Promise, Turn, turnBy}
-use Rattle.promises.specs.Uses.{Use, needOfUse, needs, uses}
+use Rattle.promises.specs.Uses.{Use, limitOfUse, needOfUse, needs, uses}
 use Rattle.promises.specs.Walks.{Terminated, chainEnd, chainWalk}
 use Rattle.promises.specs.Opened.{beforeRoom, wanted}
 
@@ -33,21 +33,21 @@ Every P (u ∷ us) = P u × Every P us
 -- ---- room
 
 -- that is more than the pool has, or it is not
-abbrev pub Lacks : Settings → History → TransferRequest → Type 0
-Lacks s h t = s .descriptors < wanted s h t
+abbrev pub Lacks : Settings → History → ℕ → TransferRequest → Type 0
+Lacks s h k t = s .descriptors < wanted s h k t
 
-abbrev pub Fits : Settings → History → TransferRequest → Type 0
-Fits s h t = wanted s h t ≤ s .descriptors
+abbrev pub Fits : Settings → History → ℕ → TransferRequest → Type 0
+Fits s h k t = wanted s h k t ≤ s .descriptors
 
 -- free descriptors equal D minus the sum of the needs; a submit answers 6 only where the room lacks and 0 only where it does not; and
 -- where the history passes every earlier check, it answers 6 or 0 by the room alone
 pub record Room (s : Settings) (h : History) (w : Moment) : Type 0 where
   pub free : freeCount (w .view) + needs s (uses s h) ≡ s .descriptors
-  pub six-lacks : (k : ℕ) (t : TransferRequest) (readings : Readings) → numberAt w (Submit k t readings) ≡ 6 → Lacks s h t
-  pub zero-fits : (k : ℕ) (t : TransferRequest) (readings : Readings) → numberAt w (Submit k t readings) ≡ 0 → Fits s h t
-  pub lacks-six : (k : ℕ) (t : TransferRequest) (readings : Readings) → beforeRoom s h k t ≡ passed → Lacks s h t
+  pub six-lacks : (k : ℕ) (t : TransferRequest) (readings : Readings) → numberAt w (Submit k t readings) ≡ 6 → Lacks s h k t
+  pub zero-fits : (k : ℕ) (t : TransferRequest) (readings : Readings) → numberAt w (Submit k t readings) ≡ 0 → Fits s h k t
+  pub lacks-six : (k : ℕ) (t : TransferRequest) (readings : Readings) → beforeRoom s h k t ≡ passed → Lacks s h k t
       → numberAt w (Submit k t readings) ≡ 6
-  pub fits-zero : (k : ℕ) (t : TransferRequest) (readings : Readings) → beforeRoom s h k t ≡ passed → Fits s h t
+  pub fits-zero : (k : ℕ) (t : TransferRequest) (readings : Readings) → beforeRoom s h k t ≡ passed → Fits s h k t
       → numberAt w (Submit k t readings) ≡ 0
 
 abbrev pub RoomExact : Promise
@@ -101,7 +101,7 @@ transferFor s u =
       direction = u .request .direction;
       address = u .request .address;
       length = u .request .length;
-      limit = s .limit;
+      limit = limitOfUse s u;
       setup = s .setups + 8 * u .slot;
       alternate = alternateWord (u .request .kind) (u .request .direction) (s .pool + 64 * s .descriptors);
     }

@@ -24,7 +24,8 @@ use Rattle.ehci.specs.declared.call.Call.the-variants.{Collect, Submit, Writeba
 use Rattle.ehci.specs.Replies.{answeredNumber}
 use Rattle.promises.specs.Runs.{Always, History, Moment, Promise, Rows, Turn, rowsOf}
 use Rattle.promises.specs.Events.{Submits, event, isCollected}
-use Rattle.promises.specs.Uses.{Use, uses}
+use Rattle.promises.specs.Slots.{limitIn}
+use Rattle.promises.specs.Uses.{Use, limitOfUse, uses}
 use Rattle.promises.specs.Bells.{submits}
 use Rattle.promises.specs.Walks.{chainWalk}
 use Rattle.promises.specs.Rooms.{Every, numberAt}
@@ -97,7 +98,7 @@ abbrev pub alternateBy : ℕ → Direction → ℕ
 alternateBy shared Out = 1
 alternateBy shared In = shared
 
--- "chunks of C, then the rest .. Toggle 0; only the last interrupts": so many of C, and the last
+-- "chunks of C, then the rest .. Toggle 0; only the last interrupts": so many of the limit, and the last
 abbrev pub chunks : ℕ → ℕ → ℕ → ℕ → ℕ → ℕ → List Fields
 chunks zero alternate pid limit address length = planned 1 pid address length 0 1 ∷ []
 chunks (suc n) alternate pid limit address length =
@@ -112,8 +113,8 @@ plan Bulk packet shared d address length limit = chunks ((length - 1) / limit) (
 plan Interrupt packet shared d address length limit = chunks ((length - 1) / limit) (alternateBy shared d) (pidBy d) limit address length
 
 -- the shared descriptor is at place D
-abbrev pub planFor : Settings → ℕ → TransferRequest → List Fields
-planFor s k t = plan (t .kind) (s .setups + 8 * k) (s .pool + 64 * s .descriptors) (t .direction) (t .address) (t .length) (s .limit)
+abbrev pub planFor : Settings → ℕ → ℕ → TransferRequest → List Fields
+planFor s limit k t = plan (t .kind) (s .setups + 8 * k) (s .pool + 64 * s .descriptors) (t .direction) (t .address) (t .length) limit
 
 -- ---- setup packets: 8 bytes a slot
 
@@ -135,9 +136,9 @@ wordAt rows k i = getD (rows .heads) (17 * (k + 1) + i) 0
 
 -- ---- at an accepted submit's exit
 
-pub record Submitted (s : Settings) (rows : Rows) (k : ℕ) (t : TransferRequest) : Type 0 where
+pub record Submitted (s : Settings) (limit : ℕ) (rows : Rows) (k : ℕ) (t : TransferRequest) : Type 0 where
   -- the descriptors that its overlay leads through are those of its plan, in order
-  pub planned-so : map fieldsOf (recordsMet s rows k) ≡ planFor s k t
+  pub planned-so : map fieldsOf (recordsMet s rows k) ≡ planFor s limit k t
   -- a control request's packet reads as the call asked, and the setup descriptor leads to it
   pub packet : t .kind ≡ Control → Asks (packetAt rows k) (t .setup) (t .length)
   pub leads : t .kind ≡ Control → bytesOf (getD (recordsMet s rows k) 0 blank) ≡ upFrom (s .setups + 8 * k) 8
@@ -150,7 +151,7 @@ abbrev pub SubmitsPlanned : Promise
 SubmitsPlanned =
     Always
     (λ s h w. (k : ℕ) (t : TransferRequest) (readings : Readings) → numberAt w (Submit k t readings) ≡ 0
-    → Submitted s (rowsOf (w .does (Submit k t readings))) k t)
+    → Submitted s (limitIn s h k t) (rowsOf (w .does (Submit k t readings))) k t)
 
 -- ---- until it is collected
 
@@ -183,7 +184,7 @@ abbrev pub placeOf : Use → ℕ → ℕ
 placeOf u j = getD (u .places) j 0
 
 abbrev pub plannedFor : Settings → Use → ℕ → Fields
-plannedFor s u j = getD (planFor s (u .slot) (u .request)) j (planned 1 0 0 0 0 0)
+plannedFor s u j = getD (planFor s (limitOfUse s u) (u .slot) (u .request)) j (planned 1 0 0 0 0 0)
 
 -- the last turn that touched its j-th record is its submit, and the record is the j-th of its plan; or it is a writeback, and the record has
 -- that token

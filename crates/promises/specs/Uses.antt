@@ -4,23 +4,25 @@ use mathlib.Core.Bool.{Bool, true, false, not, cond, _&&_}
 use mathlib.Core.List.{List, [], _∷_}
 use lib.Dec.{eqb, ltb}
 use lib.ListN.{length}
-use Rattle.token.specs.Chunks.{needOf}
+use Rattle.token.specs.Chunks.{needOf, workingLimit}
 use Rattle.common.specs.Kinds.{isControl, isInterrupt}
 use Rattle.common.specs.declared.kinds.Direction.{Direction}
 use Rattle.common.specs.declared.kinds.Direction.the-variants.{Out, In}
 use Rattle.settings.specs.declared.settings.Settings.{Settings}
 use Rattle.request.specs.declared.judge.TransferRequest.{TransferRequest}
 use Rattle.promises.specs.Runs.{History, Turn}
+use Rattle.promises.specs.Slots.{sizeIn}
 use Rattle.promises.specs.Walks.{chainWalk}
 use Rattle.promises.specs.Events.{Event, Other, Reads, Drains, Submits, Unlinks, Parts, Collects, event}
 
 -- ---- uncollected requests, newest first
 
--- a request's places are those that its overlay leads to at its submit's exit
+-- a request's places are those that its overlay leads to at its submit's exit, its packet size is the one that its slot had then
 pub record Use : Type 0 where
   pub slot : ℕ
   pub id : ℕ
   pub request : TransferRequest
+  pub size : ℕ
   pub places : List ℕ
 
 -- "bulk and interrupt In requests of more than one descriptor (control stays)"
@@ -38,22 +40,27 @@ abbrev pub without : ℕ → ℕ → List Use → List Use
 without k id [] = []
 without k id (u ∷ us) = cond (isOf k id u) (without k id us) (u ∷ without k id us)
 
-abbrev pub usesAfter : Settings → Turn → Event → List Use → List Use
-usesAfter s t Other us = us
-usesAfter s t Reads us = us
-usesAfter s t Drains us = us
-usesAfter s t (Submits k id r) us = record { slot = k; id = id; request = r; places = chainWalk s (t .after) k } ∷ us
-usesAfter s t (Unlinks k) us = us
-usesAfter s t (Parts k frame) us = us
-usesAfter s t (Collects k id frame) us = without k id us
+abbrev pub usesAfter : Settings → Turn → History → Event → List Use → List Use
+usesAfter s t past Other us = us
+usesAfter s t past Reads us = us
+usesAfter s t past Drains us = us
+usesAfter s t past (Submits k id r) us =
+    record { slot = k; id = id; request = r; size = sizeIn k past; places = chainWalk s (t .after) k } ∷ us
+usesAfter s t past (Unlinks k) us = us
+usesAfter s t past (Parts k frame) us = us
+usesAfter s t past (Collects k id frame) us = without k id us
 
 unfoldable pub uses : Settings → History → List Use
 uses s [] = []
-uses s (t ∷ past) = usesAfter s t (event s t) (uses s past)
+uses s (t ∷ past) = usesAfter s t past (event s t) (uses s past)
+
+-- "need, chunks and demand 3 read the working limit"
+abbrev pub limitOfUse : Settings → Use → ℕ
+limitOfUse s u = workingLimit (u .request .kind) (s .limit) (u .size)
 
 -- "Need", by kind and length
 abbrev pub needOfUse : Settings → Use → ℕ
-needOfUse s u = needOf (u .request .kind) (u .request .length) (s .limit)
+needOfUse s u = needOf (u .request .kind) (u .request .length) (limitOfUse s u)
 
 abbrev pub needs : Settings → List Use → ℕ
 needs s [] = 0

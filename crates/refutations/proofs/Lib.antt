@@ -21,7 +21,9 @@ pub mod WrongCollections
 pub mod DueExamples
 pub mod PlanExamples
 pub mod ShortExamples
+pub mod PacketExamples
 pub mod WrongSubmissions
 pub mod WrongStays
 pub mod WrongShorts
+pub mod WrongPackets
 pub mod WrongReads

@@ -17,7 +17,8 @@ use Rattle.ehci.specs.declared.reply.Answered.the-variants.{Done, Refused}
 use Rattle.ehci.specs.declared.reply.Given.the-variants.{Id, Next, Nothing, Slot}
 use Rattle.promises.specs.Runs.{History, Rows, Turn}
 use Rattle.promises.specs.Uses.{uses}
-use Rattle.promises.specs.Opened.{beforeRoom, runsIn, slotIn}
+use Rattle.promises.specs.Opened.{beforeRoom}
+use Rattle.promises.specs.Slots.{runsIn, slotIn}
 
 module _ (s : Settings) (rows : Rows) where
   abbrev turn : Call → Answered → Turn

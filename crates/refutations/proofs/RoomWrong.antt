@@ -35,10 +35,12 @@ use Rattle.promises.specs.Runs.{EveryRun, Machine, World, inPlain, historyOf, r
 use Rattle.promises.specs.Walks.{chainWalk, walkFrom}
 use Rattle.promises.specs.Uses.{needs, uses}
 use Rattle.promises.specs.Rooms.{ExclusivePlaces, RoomExact, placesInUse}
-use Rattle.promises.specs.Opened.{SubmitVerdict, runsIn, slotIn}
+use Rattle.promises.specs.Opened.{SubmitVerdict}
+use Rattle.promises.specs.Slots.{runsIn, slotIn}
 use Rattle.promises.specs.Coverage.{Coverage, addressed, dataOf, recordsMet}
 use Rattle.promises.proofs.invariants.Reached.{freshWorld}
 use Rattle.refutations.proofs.WrongRuns.{opening, small}
+use Rattle.state.specs.Slots.{slotAt}
 
 -- ---- machines that take descriptors
 
@@ -52,9 +54,9 @@ written w k t taken =
     applied (record { state = withOwner (w .state) (taken .owner); answer = Done (Id 1); writes = noWrites })
     (fillOf (chainFor (w .state) k t taken) (w .rows .pool)) (startedOverlay (w .rows .heads) k (firstIn (w .state) taken) 0) (w .rows .frames) (w .rows .setups)
 
--- what it answers to an opening of an endpoint, how it submits, and what a writeback leaves
+-- what it answers to an opening of an endpoint of that number, how it submits, and what a writeback leaves
 pub record Ways : Type 0 where
-  pub opens : Answered
+  pub opens : ℕ → Answered
   pub submit : World → ℕ → TransferRequest → Applied
   pub writeback : Ehci → ℕ → Ehci
 
@@ -62,7 +64,7 @@ abbrev machine : Ways → Machine inPlain
 machine x w StartBringUp = stays w Pending (w .state)
 machine x w (BringUpStep v) = stays w Pending (w .state)
 machine x w AllocateAddress = stays w Pending (w .state)
-machine x w (OpenEndpoint f) = stays w (x .opens) (w .state)
+machine x w (OpenEndpoint f) = stays w (x .opens (f .number)) (w .state)
 machine x w (Close k) = stays w Pending (w .state)
 machine x w (SetAddress k a) = stays w Pending (w .state)
 machine x w (SetPacketSize k size) = stays w Pending (w .state)
@@ -76,32 +78,36 @@ machine x w Rearm = stays w Pending (w .state)
 machine x w Enable = stays w Pending (w .state)
 machine x w Disable = stays w Pending (w .state)
 
+-- endpoint n gets slot n
+abbrev numbered : ℕ → Answered
+numbered n = Done (Slot n)
+
 abbrev takesFree : World → ℕ → TransferRequest → Applied
-takesFree w k t = written w k t (takenOf (w .state .owner) 2 (needOfRequest (w .state) t) k)
+takesFree w k t = written w k t (takenOf (w .state .owner) 2 (needOfRequest (w .state) k t) k)
 
 abbrev pub plain : Machine inPlain
-plain = machine (record { opens = Pending; submit = takesFree; writeback = λ s place. s })
+plain = machine (record { opens = numbered; submit = takesFree; writeback = λ s place. s })
 
 -- a writeback frees the place
 abbrev freeing : Machine inPlain
-freeing = machine (record { opens = Pending; submit = takesFree; writeback = λ s place. withOwner s (set (s .owner) place 0) })
+freeing = machine (record { opens = numbered; submit = takesFree; writeback = λ s place. withOwner s (set (s .owner) place 0) })
 
 -- every request is given the first places, whoever has them
 abbrev first : Machine inPlain
-first = machine (record { opens = Pending; submit = λ w k t. written w k t (takenOf (replicate 256 0) 2 (needOfRequest (w .state) t) k); writeback = λ s place. s })
+first = machine (record { opens = numbered; submit = λ w k t. written w k t (takenOf (replicate 256 0) 2 (needOfRequest (w .state) k t) k); writeback = λ s place. s })
 
 -- the last byte is left out
 abbrev clipped : TransferRequest → TransferRequest
 clipped t = record { kind = t .kind; direction = t .direction; setup = t .setup; address = t .address; length = t .length - 1 }
 
 abbrev short : Machine inPlain
-short = machine (record { opens = Pending; submit = λ w k t. takesFree w k (clipped t); writeback = λ s place. s })
+short = machine (record { opens = numbered; submit = λ w k t. takesFree w k (clipped t); writeback = λ s place. s })
 
 -- slot 0 is open, and gets its request before bring-up
 abbrev eager : Machine inPlain
-eager = machine (record { opens = Done (Slot 0); submit = takesFree; writeback = λ s place. s })
+eager = machine (record { opens = λ n. Done (Slot 0); submit = takesFree; writeback = λ s place. s })
 
--- ---- one byte each to two slots, and a writeback between
+-- ---- two slots are opened; one byte each to them, and a writeback between
 
 abbrev pub byte : TransferRequest
 byte = record { kind = Bulk; direction = Out; setup = 0; address = 0x500000; length = 1 }
@@ -109,34 +115,37 @@ byte = record { kind = Bulk; direction = Out; setup = 0; address = 0x500000; len
 abbrev pub reads : Readings
 reads = record { command = 0; frame = 0 }
 
+abbrev opensBulk : ℕ → Call
+opensBulk n = OpenEndpoint (record { kind = Bulk; address = 1; number = n; packet = 512 })
+
 abbrev calls : List Call
-calls = Submit 1 byte reads ∷ Writeback 0 0 ∷ Submit 0 byte reads ∷ []
+calls = Submit 1 byte reads ∷ Writeback 0 0 ∷ Submit 0 byte reads ∷ opensBulk 1 ∷ opensBulk 0 ∷ []
 
 plain-places : placesInUse (uses small (historyOf plain (freshWorld small) calls)) ≡ 1 ∷ 0 ∷ []
-unfolding historyOf worldOf uses chainWalk walkFrom takenOf placesFrom markOf packed listOf fillOf filledFrom recordAt bareAt chunkQtd newQtd withNext startedOverlay freshState withOwner openedHeads ringHead terminated needOf chunkCount
+unfolding historyOf worldOf uses chainWalk walkFrom takenOf placesFrom markOf packed listOf fillOf filledFrom recordAt bareAt chunkQtd newQtd withNext startedOverlay freshState withOwner openedHeads ringHead terminated needOf chunkCount slotAt slotIn
 plain-places = refl
 
 plain-room : freeCount (worldOf plain (freshWorld small) calls .state) + needs small (uses small (historyOf plain (freshWorld small) calls)) ≡ 2
-unfolding historyOf worldOf uses chainWalk walkFrom takenOf placesFrom markOf packed listOf fillOf filledFrom recordAt bareAt chunkQtd newQtd withNext startedOverlay freshState withOwner openedHeads ringHead terminated needOf chunkCount freeCount countZero
+unfolding historyOf worldOf uses chainWalk walkFrom takenOf placesFrom markOf packed listOf fillOf filledFrom recordAt bareAt chunkQtd newQtd withNext startedOverlay freshState withOwner openedHeads ringHead terminated needOf chunkCount slotAt freeCount countZero slotIn
 plain-room = refl
 
 -- ---- refuted
 
 -- the place is free again, and given to slot 1 while slot 0's request has it
 freeing-exclusive : EveryRun ExclusivePlaces freeing → ⊥
-unfolding historyOf worldOf uses chainWalk walkFrom takenOf placesFrom markOf packed listOf fillOf filledFrom recordAt bareAt chunkQtd newQtd withNext startedOverlay freshState withOwner openedHeads ringHead terminated needOf chunkCount
+unfolding historyOf worldOf uses chainWalk walkFrom takenOf placesFrom markOf packed listOf fillOf filledFrom recordAt bareAt chunkQtd newQtd withNext startedOverlay freshState withOwner openedHeads ringHead terminated needOf chunkCount slotAt slotIn
 freeing-exclusive e = e small (freshWorld small) opening calls .distinct .0 .0 refl
 
 freeing-room : EveryRun RoomExact freeing → ⊥
-unfolding historyOf worldOf uses chainWalk walkFrom takenOf placesFrom markOf packed listOf fillOf filledFrom recordAt bareAt chunkQtd newQtd withNext startedOverlay freshState withOwner openedHeads ringHead terminated needOf chunkCount freeCount countZero
-freeing-room r = let three : _≡_ {A = ℕ} 3 2 = r small (freshWorld small) opening (Writeback 0 0 ∷ Submit 0 byte reads ∷ []) .free in omega (arith, three)
+unfolding historyOf worldOf uses chainWalk walkFrom takenOf placesFrom markOf packed listOf fillOf filledFrom recordAt bareAt chunkQtd newQtd withNext startedOverlay freshState withOwner openedHeads ringHead terminated needOf chunkCount slotAt freeCount countZero slotIn
+freeing-room r = let three : _≡_ {A = ℕ} 3 2 = r small (freshWorld small) opening (Writeback 0 0 ∷ Submit 0 byte reads ∷ opensBulk 0 ∷ []) .free in omega (arith, three)
 
 first-exclusive : EveryRun ExclusivePlaces first → ⊥
-unfolding historyOf worldOf uses chainWalk walkFrom takenOf placesFrom markOf packed listOf fillOf filledFrom recordAt bareAt chunkQtd newQtd withNext startedOverlay freshState withOwner openedHeads ringHead terminated needOf chunkCount
+unfolding historyOf worldOf uses chainWalk walkFrom takenOf placesFrom markOf packed listOf fillOf filledFrom recordAt bareAt chunkQtd newQtd withNext startedOverlay freshState withOwner openedHeads ringHead terminated needOf chunkCount slotAt slotIn
 first-exclusive e = e small (freshWorld small) opening calls .distinct .0 .0 refl
 
 first-room : EveryRun RoomExact first → ⊥
-unfolding historyOf worldOf uses chainWalk walkFrom takenOf placesFrom markOf packed listOf fillOf filledFrom recordAt bareAt chunkQtd newQtd withNext startedOverlay freshState withOwner openedHeads ringHead terminated needOf chunkCount freeCount countZero
+unfolding historyOf worldOf uses chainWalk walkFrom takenOf placesFrom markOf packed listOf fillOf filledFrom recordAt bareAt chunkQtd newQtd withNext startedOverlay freshState withOwner openedHeads ringHead terminated needOf chunkCount slotAt freeCount countZero slotIn
 first-room r = let three : _≡_ {A = ℕ} 3 2 = r small (freshWorld small) opening calls .free in omega (arith, three)
 
 -- a submit to a slot that was never opened is accepted, and not answered 3
@@ -154,7 +163,7 @@ eager-verdict v =
 
 -- no byte is addressed where one is asked
 short-coverage : EveryRun Coverage short → ⊥
-unfolding historyOf worldOf uses chainWalk walkFrom takenOf placesFrom markOf packed listOf fillOf filledFrom recordAt bareAt chunkQtd newQtd withNext startedOverlay freshState withOwner openedHeads ringHead terminated needOf chunkCount tokenOf pageSlots upFrom
+unfolding historyOf worldOf uses chainWalk walkFrom takenOf placesFrom markOf packed listOf fillOf filledFrom recordAt bareAt chunkQtd newQtd withNext startedOverlay freshState withOwner openedHeads ringHead terminated needOf chunkCount slotAt tokenOf pageSlots upFrom slotIn
 short-coverage c =
     let none : _≡_ {A = List ℕ} [] (0x500000 ∷ []) = c small (freshWorld small) opening [] 0 byte reads refl in
     let zero : _≡_ {A = ℕ} 0 1 = ap length none in
@@ -162,5 +171,5 @@ short-coverage c =
 
 -- and the right one covers it
 plain-coverage : addressed (dataOf Bulk (recordsMet small (rowsOf (plain (freshWorld small) (Submit 0 byte reads))) 0)) ≡ 0x500000 ∷ []
-unfolding historyOf worldOf uses chainWalk walkFrom takenOf placesFrom markOf packed listOf fillOf filledFrom recordAt bareAt chunkQtd newQtd withNext startedOverlay freshState withOwner openedHeads ringHead terminated needOf chunkCount tokenOf pageSlots upFrom
+unfolding historyOf worldOf uses chainWalk walkFrom takenOf placesFrom markOf packed listOf fillOf filledFrom recordAt bareAt chunkQtd newQtd withNext startedOverlay freshState withOwner openedHeads ringHead terminated needOf chunkCount slotAt tokenOf pageSlots upFrom slotIn
 plain-coverage = refl

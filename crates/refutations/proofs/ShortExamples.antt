@@ -25,6 +25,7 @@ asked kind direction places =
       slot = 0;
       id = 1;
       request = record { kind = kind; direction = direction; setup = 0; address = 0x500000; length = 32768 };
+      size = 512;
       places = places;
     }
 

@@ -104,7 +104,7 @@ free-good = good 6
 
 abbrev pub againOne : World
 againOne =
-    withRows (used (bellOf 0 0x20 0 0 0) (1 ∷ 0 ∷ []) (record { phase = 2; kind = 2; id = 3; request = 2; direction = 0; length = 512; cancel = 0; boundary = 0 }) (idle 1))
+    withRows (used (bellOf 0 0x20 0 0 0) (1 ∷ 0 ∷ []) (record { phase = 2; kind = 2; size = 512; id = 3; request = 2; direction = 0; length = 512; cancel = 0; boundary = 0 }) (idle 1))
     (chunk 0x502000 ∷ blank ∷ []) (headsOf 0x200082 (headOf 0x200002 0xF2002105 0x100000) (headOf 1 0xF2002205 1))
 
 pub submitted-again : core freeOne (submits 0 0x502000) ≡ replies (Done (G.Id 2)) (writesWith (reading 0x80031)) againOne
@@ -196,7 +196,7 @@ second-free-good = good 13
 
 abbrev pub againSecond : World
 againSecond =
-    withRows (used (bellOf 0 0x24 0 0 0) (1 ∷ 2 ∷ []) (waits 0) (record { phase = 2; kind = 2; id = 3; request = 2; direction = 0; length = 512; cancel = 0; boundary = 0 }))
+    withRows (used (bellOf 0 0x24 0 0 0) (1 ∷ 2 ∷ []) (waits 0) (record { phase = 2; kind = 2; size = 512; id = 3; request = 2; direction = 0; length = 512; cancel = 0; boundary = 0 }))
     (chunk 0x500000 ∷ chunk 0x502000 ∷ []) (headsOf 0x200102 (headOf 0x200002 0xF2002105 0x100000) (headOf 0x200002 0xF2002205 0x100040))
 
 pub submitted-second : core freeSecond (submits 1 0x502000) ≡ replies (Done (G.Id 2)) (writesWith (reading 0x80031)) againSecond

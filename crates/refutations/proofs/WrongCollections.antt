@@ -16,7 +16,7 @@ use Rattle.pool.specs.Places.{clearOf, listOf, packed, placesFrom}
 use Rattle.pool.specs.Transfers.{requestedAt}
 use Rattle.pool.specs.Plain.{Ask}
 use Rattle.settings.specs.Settings.{apartAreas, areaGood, eachGood, noOverlap, numbersGood, settingsGood}
-use Rattle.slot.specs.Ranges.{boundaryGood, closedGood, idleGood, linkedGood, noRequest, openKind, phaseGood, slotGood, unlinkingGood}
+use Rattle.slot.specs.Ranges.{boundaryGood, closedGood, idleGood, linkedGood, noRequest, openKind, phaseGood, slotGood, unlinkingGood, sizeGood, sizeKept}
 use Rattle.slot.specs.declared.slot.Slot.{Slot}
 use Rattle.state.specs.Ranges.{inRanges, doorbellGood, interruptGood, largest, machineGood, ownerGood, restGood, slotsGood}
 use Rattle.state.specs.Slots.{slotAt, withSlot}
@@ -51,7 +51,7 @@ use Rattle.promises.specs.Bells.{cancelled}
 use Rattle.promises.specs.Collections.{Answers, CollectsDue, Due, dueTo, those}
 use Rattle.promises.proofs.invariants.Reached.{freshWorld}
 use Rattle.refutations.proofs.WrongRuns.{acknowledges, asked, chunk, headOf, headsOf, linked, one, openedTwo, opening, reading, replies, request, small, stateOf, submits, withRows}
-use Rattle.refutations.proofs.WrongUp.{Rises, up-world, upCalls}
+use Rattle.refutations.proofs.WrongUp.{Rises, up-world, upCalls, up-size}
 use Rattle.refutations.proofs.WrongCalls.{linkedOne, submitted, submitsOne}
 use Rattle.refutations.proofs.Scripts.{Follows, Script, arrives, callsOf, is-told, turnsOf}
 
@@ -102,7 +102,7 @@ abbrev pub apartNow : Ehci → World
 apartNow s = withRows s moved512 (headsOf 0x200002 (headOf 0x200002 0xF2002105 0x100000) (headOf 1 0xF2002205 1))
 
 states-good : (inRanges (one 0 0 0 0 0 linked) ≡ true) × (inRanges (one 0 0 0 1 1 (leaves 1)) ≡ true) × (inRanges (one 0x20 0x20 1 1 1 (leaves 1)) ≡ true) × (inRanges (one 0 0x20 0 0 0 (leaves 0)) ≡ true)
-unfolding stateOf inRanges restGood machineGood interruptGood doorbellGood ownerGood largest slotsGood slotGood phaseGood closedGood idleGood linkedGood unlinkingGood boundaryGood openKind noRequest settingsGood numbersGood eachGood noOverlap areaGood apartAreas slotAt withoutBits
+unfolding stateOf inRanges restGood machineGood interruptGood doorbellGood ownerGood largest slotsGood slotGood sizeKept sizeGood phaseGood closedGood idleGood linkedGood unlinkingGood boundaryGood openKind noRequest settingsGood numbersGood eachGood noOverlap areaGood apartAreas slotAt withoutBits
 states-good = (refl, refl, refl, refl)
 
 pub written : core (linkedOne (one 0 0 0 0 0 linked)) (Writeback 0 0x000C8C00) ≡ replies (Done G.Nothing) noWrites (linkedNow (one 0 0 0 0 0 linked))
@@ -173,11 +173,11 @@ module _ (m : Machine inPlain) (plain : (v : World) (c : Call) → eqb (rank c) 
 
   -- one request is uncollected, and 0 with 500 is due to it
   abbrev first : Use
-  first = record { slot = 0; id = 1; request = request 0x500000; places = 0 ∷ [] }
+  first = record { slot = 0; id = 1; request = request 0x500000; size = 512; places = 0 ∷ [] }
 
   uses-are : uses small told ≡ first ∷ []
   unfolding uses historyOf ringWalk walkFrom chainWalk
-  uses-are = refl
+  uses-are = ap (λ (n : ℕ). record { slot = 0; id = 1; request = request 0x500000; size = n; places = 0 ∷ [] } ∷ []) (up-size m (rises-up m (λ v c e. plain v c (ap (λ (n : ℕ). eqb n 2) e))))
 
   due-is : dueTo small told (apartNow (one 0 0x20 0 0 0 (leaves 0)) .rows) first ≡ record { number = 0; values = 500 ∷ [] }
   unfolding cancelled historyOf ringWalk walkFrom

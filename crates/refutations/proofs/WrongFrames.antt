@@ -20,7 +20,7 @@ use Rattle.pool.specs.Places.{clearOf, listOf, markOf, packed, placesFrom}
 use Rattle.pool.specs.Transfers.{bareAt, chunkQtd, recordAt}
 use Rattle.settings.specs.Settings.{apartAreas, areaGood, eachGood, noOverlap, numbersGood, settingsGood}
 use Rattle.slot.specs.declared.slot.Slot.{Slot}
-use Rattle.slot.specs.Ranges.{boundaryGood, closedGood, idleGood, linkedGood, noRequest, openKind, phaseGood, slotGood, unlinkingGood}
+use Rattle.slot.specs.Ranges.{boundaryGood, closedGood, idleGood, linkedGood, noRequest, openKind, phaseGood, slotGood, unlinkingGood, sizeGood, sizeKept}
 use Rattle.state.specs.Plain.{Ehci}
 use Rattle.state.specs.Ranges.{doorbellGood, inRanges, interruptGood, largest, machineGood, ownerGood, restGood, slotsGood}
 use Rattle.state.specs.Slots.{slotAt, withSlot}
@@ -88,17 +88,17 @@ hasty w c = core w (sooner c)
 -- ---- an interrupt request, and what comes of it
 
 abbrev idle : ℕ → Slot
-idle id = bareSlot 1 3 id
+idle id = bareSlot 1 3 512 id
 
 abbrev asked : ℕ → ℕ → ℕ → Slot
-asked id phase cancel = record { phase = phase; kind = 3; id = id + 1; request = id; direction = 0; length = 512; cancel = cancel; boundary = 0 }
+asked id phase cancel = record { phase = phase; kind = 3; size = 512; id = id + 1; request = id; direction = 0; length = 512; cancel = cancel; boundary = 0 }
 
 abbrev state : List ℕ → Slot → Ehci
 state owner a = used noBell owner a closed
 
 states-good : (inRanges (state (0 ∷ 0 ∷ []) (idle 1)) ≡ true) × (inRanges (state (1 ∷ 0 ∷ []) (asked 1 2 0)) ≡ true)
     × (inRanges (state (1 ∷ 0 ∷ []) (asked 1 3 1)) ≡ true) × (inRanges (state (0 ∷ 0 ∷ []) (idle 2)) ≡ true)
-unfolding stateOf inRanges restGood machineGood interruptGood doorbellGood ownerGood largest slotsGood slotGood phaseGood closedGood idleGood linkedGood unlinkingGood boundaryGood openKind noRequest settingsGood numbersGood eachGood noOverlap areaGood apartAreas slotAt withoutBits
+unfolding stateOf inRanges restGood machineGood interruptGood doorbellGood ownerGood largest slotsGood slotGood sizeKept sizeGood phaseGood closedGood idleGood linkedGood unlinkingGood boundaryGood openKind noRequest settingsGood numbersGood eachGood noOverlap areaGood apartAreas slotAt withoutBits
 states-good = (refl, refl, refl, refl)
 
 -- slot 0's head: its overlay's next
@@ -133,7 +133,7 @@ abbrev submits : ℕ → Call
 submits address = Submit 0 (asks address) (reading 0x80031)
 
 opens : leftBy (core (fresh (rising 1 0)) openInterrupt) ≡ opened
-unfolding applyOf decideOf asksOf rowsFit replied fillOf filledFrom noChain packed listOf openDecided openEndpointOf openChecks acceptsOf fieldsGood closedFrom withEndpoint withSlot endpointHead terminated putAt stateOf
+unfolding applyOf decideOf asksOf rowsFit replied fillOf filledFrom noChain packed listOf openDecided openEndpointOf openChecks acceptsOf fieldsGood sizeGood closedFrom withEndpoint withSlot endpointHead terminated putAt stateOf
 opens = rw (rising-good 1 0 refl refl)
 
 links : core opened (submits 0x500000) ≡ replies (Done (G.Id 1)) (writesWith (reading 0x80031)) linked

@@ -15,7 +15,7 @@ use Rattle.pool.specs.Chains.{blank, fillOf, filledFrom, noChain}
 use Rattle.pool.specs.Places.{clearOf, listOf, markOf, packed, placesFrom}
 use Rattle.pool.specs.Transfers.{bareAt, chunkQtd, recordAt}
 use Rattle.settings.specs.Settings.{apartAreas, areaGood, eachGood, noOverlap, numbersGood, settingsGood}
-use Rattle.slot.specs.Ranges.{boundaryGood, closedGood, idleGood, linkedGood, noRequest, openKind, phaseGood, slotGood, unlinkingGood}
+use Rattle.slot.specs.Ranges.{boundaryGood, closedGood, idleGood, linkedGood, noRequest, openKind, phaseGood, slotGood, unlinkingGood, sizeGood, sizeKept}
 use Rattle.slot.specs.declared.slot.Slot.{Slot}
 use Rattle.state.specs.Plain.{Ehci}
 use Rattle.state.specs.Ranges.{doorbellGood, inRanges, interruptGood, largest, machineGood, ownerGood, restGood, slotsGood}
@@ -45,7 +45,7 @@ use Rattle.ehci.specs.Door.{Applied, applyOf}
 use Rattle.promises.specs.Runs.{EveryRun, History, Machine, World, inPlain, core, historyOf, moment, turnBy, turnOf, worldOf}
 use Rattle.promises.specs.Walks.{ringWalk, walkFrom}
 use Rattle.promises.specs.Events.{Submits, event, firstIn, isDone}
-use Rattle.promises.specs.Opened.{slotIn}
+use Rattle.promises.specs.Slots.{slotIn}
 use Rattle.promises.specs.Uses.{uses}
 use Rattle.promises.specs.Registers.{Access}
 use Rattle.promises.specs.Ids.{CancelsById, CollectsById, IdsInTurn, following, nextId}
@@ -118,7 +118,7 @@ second-due = ap (nextId small 0) (is-told thrice w upCalls openedTwo up second s
 
 abbrev slotOf : ℕ → ℕ → ℕ → ℕ → Slot
 slotOf n phase cancel boundary =
-    record { phase = phase; kind = 2; id = n + 1; request = n; direction = 0; length = 512; cancel = cancel; boundary = boundary }
+    record { phase = phase; kind = 2; size = 512; id = n + 1; request = n; direction = 0; length = 512; cancel = cancel; boundary = boundary }
 
 abbrev bare : ℕ → Ehci
 bare n = used (bellOf 0 0x20 0 0 0) (0 ∷ 0 ∷ []) (idle (n + 1)) (idle 1)
@@ -206,11 +206,11 @@ module _ (n : ℕ) (g : Goods n) where
     next-due = ap (nextId small 0) (is-told thrice w cs (linkedN n) e goesOn goes-so)
 
 goods-two : Goods 2
-unfolding stateOf inRanges restGood machineGood interruptGood doorbellGood ownerGood largest slotsGood slotGood phaseGood closedGood idleGood linkedGood unlinkingGood boundaryGood openKind noRequest settingsGood numbersGood eachGood noOverlap areaGood apartAreas slotAt withoutBits
+unfolding stateOf inRanges restGood machineGood interruptGood doorbellGood ownerGood largest slotsGood slotGood sizeKept sizeGood phaseGood closedGood idleGood linkedGood unlinkingGood boundaryGood openKind noRequest settingsGood numbersGood eachGood noOverlap areaGood apartAreas slotAt withoutBits
 goods-two = record { same = refl; more = refl; linked-good = refl; left-good = refl; heard-good = refl; counted-good = refl; free-good = refl }
 
 goods-three : Goods 3
-unfolding stateOf inRanges restGood machineGood interruptGood doorbellGood ownerGood largest slotsGood slotGood phaseGood closedGood idleGood linkedGood unlinkingGood boundaryGood openKind noRequest settingsGood numbersGood eachGood noOverlap areaGood apartAreas slotAt withoutBits
+unfolding stateOf inRanges restGood machineGood interruptGood doorbellGood ownerGood largest slotsGood slotGood sizeKept sizeGood phaseGood closedGood idleGood linkedGood unlinkingGood boundaryGood openKind noRequest settingsGood numbersGood eachGood noOverlap areaGood apartAreas slotAt withoutBits
 goods-three = record { same = refl; more = refl; linked-good = refl; left-good = refl; heard-good = refl; counted-good = refl; free-good = refl }
 
 -- ---- four requests

@@ -22,7 +22,7 @@ use Rattle.pool.specs.Transfers.{bareAt, chunkQtd, recordAt, requestedAt}
 use Rattle.pool.specs.Plain.{Ask}
 use Rattle.settings.specs.Settings.{apartAreas, areaGood, eachGood, noOverlap, numbersGood, settingsGood}
 use Rattle.slot.specs.Ids.{afterId}
-use Rattle.slot.specs.Ranges.{boundaryGood, closedGood, idleGood, linkedGood, noRequest, openKind, phaseGood, slotGood, unlinkingGood}
+use Rattle.slot.specs.Ranges.{boundaryGood, closedGood, idleGood, linkedGood, noRequest, openKind, phaseGood, slotGood, unlinkingGood, sizeGood, sizeKept}
 use Rattle.slot.specs.declared.slot.Slot.{Slot}
 use Rattle.state.specs.Ranges.{inRanges, doorbellGood, interruptGood, largest, machineGood, ownerGood, restGood, slotsGood}
 use Rattle.state.specs.Slots.{slotAt, withSlot}
@@ -56,7 +56,7 @@ use Rattle.promises.specs.Rooms.{Every}
 use Rattle.promises.specs.Chains.{Detaches, NoDetachFails}
 use Rattle.promises.proofs.invariants.Reached.{freshWorld}
 use Rattle.refutations.proofs.WrongRuns.{good, headOf, headsOf, idle, noBell, openedTwo, opening, reading, replies, small, stateOf, used, withRows}
-use Rattle.refutations.proofs.WrongUp.{up-world, upCalls}
+use Rattle.refutations.proofs.WrongUp.{up-world, upCalls, up-size}
 use Rattle.refutations.proofs.WrongCollections.{rank, rises-up}
 use Rattle.refutations.proofs.Scripts.{Follows, Script, arrives, callsOf, is-told, turnsOf}
 
@@ -73,7 +73,7 @@ looks = Collect 0 1 (reading 0x80031)
 
 abbrev slotOf : ℕ → ℕ → Slot
 slotOf phase boundary =
-    record { phase = phase; kind = 2; id = 2; request = 1; direction = 1; length = 16385; cancel = 0; boundary = boundary }
+    record { phase = phase; kind = 2; size = 512; id = 2; request = 1; direction = 1; length = 16385; cancel = 0; boundary = boundary }
 
 abbrev linkedState : Ehci
 linkedState = used noBell (1 ∷ 1 ∷ []) (slotOf 2 0) (idle 1)
@@ -95,7 +95,7 @@ opened-good : inRanges (used noBell (0 ∷ 0 ∷ []) (idle 1) (idle 1)) ≡ true
 opened-good = good 1
 
 linked-good : inRanges linkedState ≡ true
-unfolding stateOf inRanges restGood machineGood interruptGood doorbellGood ownerGood largest slotsGood slotGood phaseGood closedGood idleGood linkedGood unlinkingGood boundaryGood openKind noRequest settingsGood numbersGood eachGood noOverlap areaGood apartAreas slotAt withoutBits
+unfolding stateOf inRanges restGood machineGood interruptGood doorbellGood ownerGood largest slotsGood slotGood sizeKept sizeGood phaseGood closedGood idleGood linkedGood unlinkingGood boundaryGood openKind noRequest settingsGood numbersGood eachGood noOverlap areaGood apartAreas slotAt withoutBits
 linked-good = refl
 
 submitted : core openedTwo submits ≡ replies (Done (G.Id 1)) (writesWith (reading 0x80031)) (linkedWith 0x40000D80)
@@ -154,11 +154,11 @@ abbrev told : History
 told = turnsOf openedTwo (historyOf readsOn w upCalls) moves
 
 abbrev first : Use
-first = record { slot = 0; id = 1; request = asks; places = 0 ∷ 1 ∷ [] }
+first = record { slot = 0; id = 1; request = asks; size = 512; places = 0 ∷ 1 ∷ [] }
 
 uses-are : uses small told ≡ first ∷ []
 unfolding uses historyOf ringWalk walkFrom chainWalk
-uses-are = refl
+uses-are = ap (λ (n : ℕ). record { slot = 0; id = 1; request = asks; size = n; places = 0 ∷ 1 ∷ [] } ∷ []) (up-size readsOn (rises-up readsOn (λ v c e. rw (ap (λ (n : ℕ). eqb n 2) e))))
 
 linked-told : ringSlots small told ≡ 0 ∷ []
 unfolding ringSlots historyOf ringWalk walkFrom chainWalk

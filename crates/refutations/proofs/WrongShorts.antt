@@ -39,6 +39,7 @@ use Rattle.promises.specs.EhciQueue.{Fetched, Queue, pointer, visit}
 use Rattle.promises.specs.Shorts.{SharedStands, ShortStops, ShortToken, doneWith, memoryOf}
 use Rattle.promises.proofs.invariants.Reached.{freshWorld, opens-fresh}
 use Rattle.refutations.proofs.WrongRuns.{sized}
+use Rattle.state.specs.Slots.{slotAt}
 
 -- ---- two descriptors and the shared one, one slot
 
@@ -78,7 +79,7 @@ machine more of f w (OpenEndpoint x) = stays w
 machine more of f w (Close k) = stays w
 machine more of f w (SetAddress k a) = stays w
 machine more of f w (SetPacketSize k size) = stays w
-machine more of f w (Submit k t readings) = written f w k t (takenOf (w .state .owner) of (needOfRequest (w .state) t + more) k)
+machine more of f w (Submit k t readings) = written f w k t (takenOf (w .state .owner) of (needOfRequest (w .state) k t + more) k)
 machine more of f w (Writeback place token) = stays w
 machine more of f w (Cancel k id readings) = stays w
 machine more of f w (Collect k id readings) = stays w
@@ -112,7 +113,7 @@ abbrev left : Machine inPlain → Rows
 left m = rowsOf (m (freshWorld pair) call)
 
 abbrev first : Use
-first = record { slot = 0; id = 1; request = asks; places = 0 ∷ 1 ∷ [] }
+first = record { slot = 0; id = 1; request = asks; size = 0; places = 0 ∷ 1 ∷ [] }
 
 -- 13384 bytes are left, as after 3,000
 abbrev short : ℕ
@@ -126,20 +127,20 @@ leadsTo m = nextLeads pair (pointer (doneWith pair (left m) first 0 short .overl
 
 -- right: to place 2, and the queue stays
 plain-leads : leadsTo plain ≡ On 2
-unfolding takenOf placesFrom markOf packed listOf fillOf filledFrom recordAt bareAt chunkQtd newQtd withNext startedOverlay freshState openedHeads ringHead terminated needOf chunkCount tokenOf pageSlots
+unfolding takenOf placesFrom markOf packed listOf fillOf filledFrom recordAt bareAt chunkQtd newQtd withNext startedOverlay freshState openedHeads ringHead terminated needOf chunkCount slotAt tokenOf pageSlots
 plain-leads = refl
 
 plain-stays : visit (memoryOf pair (left plain)) (doneWith pair (left plain) first 0 short) ≡ doneWith pair (left plain) first 0 short
-unfolding takenOf placesFrom markOf packed listOf fillOf filledFrom recordAt bareAt chunkQtd newQtd withNext startedOverlay freshState openedHeads ringHead terminated needOf chunkCount tokenOf pageSlots
+unfolding takenOf placesFrom markOf packed listOf fillOf filledFrom recordAt bareAt chunkQtd newQtd withNext startedOverlay freshState openedHeads ringHead terminated needOf chunkCount slotAt tokenOf pageSlots
 plain-stays = refl
 
 -- as before the order: to the second descriptor, which is begun
 base-leads : leadsTo terminates ≡ On 1
-unfolding takenOf placesFrom markOf packed listOf fillOf filledFrom recordAt bareAt chunkQtd newQtd withNext startedOverlay freshState openedHeads ringHead terminated needOf chunkCount tokenOf pageSlots
+unfolding takenOf placesFrom markOf packed listOf fillOf filledFrom recordAt bareAt chunkQtd newQtd withNext startedOverlay freshState openedHeads ringHead terminated needOf chunkCount slotAt tokenOf pageSlots
 base-leads = refl
 
 base-begins : visit (memoryOf pair (left terminates)) (doneWith pair (left terminates) first 0 short) .current ≡ 0x100040
-unfolding takenOf placesFrom markOf packed listOf fillOf filledFrom recordAt bareAt chunkQtd newQtd withNext startedOverlay freshState openedHeads ringHead terminated needOf chunkCount tokenOf pageSlots
+unfolding takenOf placesFrom markOf packed listOf fillOf filledFrom recordAt bareAt chunkQtd newQtd withNext startedOverlay freshState openedHeads ringHead terminated needOf chunkCount slotAt tokenOf pageSlots
 base-begins = refl
 
 -- ---- refuted
@@ -149,29 +150,29 @@ placeOf (On p) = p
 placeOf (Ends e) = 0
 
 pub terminates-stops : EveryRun ShortStops terminates → ⊥
-unfolding historyOf worldOf uses chainWalk walkFrom takenOf placesFrom markOf packed listOf fillOf filledFrom recordAt bareAt chunkQtd newQtd withNext startedOverlay freshState openedHeads ringHead terminated needOf chunkCount tokenOf pageSlots
+unfolding historyOf worldOf uses chainWalk walkFrom takenOf placesFrom markOf packed listOf fillOf filledFrom recordAt bareAt chunkQtd newQtd withNext startedOverlay freshState openedHeads ringHead terminated needOf chunkCount slotAt tokenOf pageSlots
 terminates-stops p =
     let wrong : _≡_ {A = ℕ} 1 2 = ap placeOf (p pair (freshWorld pair) opened (call ∷ []) .0 refl 0 short (omega arith) is-short .leads) in
     omega (arith, wrong)
 
 -- the queue begins the shared descriptor
 pub wakes-stops : EveryRun ShortStops wakes → ⊥
-unfolding historyOf worldOf uses chainWalk walkFrom takenOf placesFrom markOf packed listOf fillOf filledFrom recordAt bareAt chunkQtd newQtd withNext startedOverlay freshState openedHeads ringHead terminated needOf chunkCount tokenOf pageSlots
+unfolding historyOf worldOf uses chainWalk walkFrom takenOf placesFrom markOf packed listOf fillOf filledFrom recordAt bareAt chunkQtd newQtd withNext startedOverlay freshState openedHeads ringHead terminated needOf chunkCount slotAt tokenOf pageSlots
 wakes-stops p =
     let wrong : _≡_ {A = ℕ} 0x100080 0x100000 = ap (λ (q : Queue). q .current) (p pair (freshWorld pair) opened (call ∷ []) .0 refl 0 short (omega arith) is-short .stays 1) in
     omega (arith, wrong)
 
 pub wakes-shared : EveryRun SharedStands wakes → ⊥
-unfolding historyOf worldOf uses chainWalk walkFrom takenOf placesFrom markOf packed listOf fillOf filledFrom recordAt bareAt chunkQtd newQtd withNext startedOverlay freshState openedHeads ringHead terminated needOf chunkCount tokenOf pageSlots
+unfolding historyOf worldOf uses chainWalk walkFrom takenOf placesFrom markOf packed listOf fillOf filledFrom recordAt bareAt chunkQtd newQtd withNext startedOverlay freshState openedHeads ringHead terminated needOf chunkCount slotAt tokenOf pageSlots
 wakes-shared p =
     let wrong : _≡_ {A = ℕ} 0x80 0 = ap (λ (d : QueueTransferDescriptor). d .token) (p pair (freshWorld pair) opened (call ∷ []) .stands) in
     omega (arith, wrong)
 
 -- its request has places 0, 1 and 2
 pub lends-shared : EveryRun SharedStands lends → ⊥
-unfolding historyOf worldOf uses chainWalk walkFrom takenOf placesFrom markOf packed listOf fillOf filledFrom recordAt bareAt chunkQtd newQtd withNext startedOverlay freshState openedHeads ringHead terminated needOf chunkCount tokenOf pageSlots
+unfolding historyOf worldOf uses chainWalk walkFrom takenOf placesFrom markOf packed listOf fillOf filledFrom recordAt bareAt chunkQtd newQtd withNext startedOverlay freshState openedHeads ringHead terminated needOf chunkCount slotAt tokenOf pageSlots
 lends-shared p = p pair (freshWorld pair) opened (call ∷ []) .lent-to-none .1 .1 .0 refl
 
 pub lends-met : EveryRun SharedStands lends → ⊥
-unfolding historyOf worldOf uses chainWalk walkFrom takenOf placesFrom markOf packed listOf fillOf filledFrom recordAt bareAt chunkQtd newQtd withNext startedOverlay freshState openedHeads ringHead terminated needOf chunkCount tokenOf pageSlots
+unfolding historyOf worldOf uses chainWalk walkFrom takenOf placesFrom markOf packed listOf fillOf filledFrom recordAt bareAt chunkQtd newQtd withNext startedOverlay freshState openedHeads ringHead terminated needOf chunkCount slotAt tokenOf pageSlots
 lends-met p = p pair (freshWorld pair) opened (call ∷ []) .met-by-none .0 .1 .1 .0 refl

@@ -27,7 +27,7 @@ use Rattle.promises.specs.Submissions.{CollectsEnded, SubmittedStays, TokenStan
 use Rattle.promises.proofs.theorems.TokenLaws.{backAt}
 use Rattle.promises.proofs.invariants.Reached.{freshWorld}
 use Rattle.refutations.proofs.WrongRuns.{linked, one, openedTwo, opening, reading, replies, request, small, submits}
-use Rattle.refutations.proofs.WrongUp.{up-world, upCalls}
+use Rattle.refutations.proofs.WrongUp.{up-world, upCalls, up-size}
 use Rattle.refutations.proofs.WrongCalls.{linkedOne, submitted, submitsOne}
 use Rattle.refutations.proofs.WrongCollections.{apartNow, c5, leaves, length-500, linkedNow, looks, rank, rises-up, unlinks, w5, written}
 use Rattle.refutations.proofs.Scripts.{Follows, Script, arrives, callsOf, is-told, turnsOf}
@@ -87,11 +87,11 @@ is-so : historyOf drops w (back ∷ cs) ≡ told
 is-so = is-told drops w upCalls openedTwo up writes (back-so, submits-so)
 
 abbrev first : Use
-first = record { slot = 0; id = 1; request = request 0x500000; places = 0 ∷ [] }
+first = record { slot = 0; id = 1; request = request 0x500000; size = 512; places = 0 ∷ [] }
 
 uses-are : uses small told ≡ first ∷ []
 unfolding uses historyOf ringWalk walkFrom chainWalk
-uses-are = refl
+uses-are = ap (λ (n : ℕ). record { slot = 0; id = 1; request = request 0x500000; size = n; places = 0 ∷ [] } ∷ []) (up-size drops (rises-up drops (λ v c e. drops-plain v c (ap (λ (n : ℕ). eqb n 3) e))))
 
 not-standing : TokenStands small told (moment drops (linkedOne (one 0 0 0 0 0 linked))) first 0 → ⊥
 not-standing x = by (x .since) (x .picture) (x .untouched)

@@ -8,11 +8,11 @@ use native.Mathlib.Omega.{arith}
 use lib.Dec.{eqb}
 use lib.ListN.{getD, replicate}
 use Rattle.register.specs.Writes.{noWrites}
-use Rattle.token.specs.Chunks.{needOf}
+use Rattle.token.specs.Chunks.{needOf, workingLimit}
 use Rattle.token.specs.Plans.{controlPlan}
 use Rattle.token.specs.Tokens.{tokenOf}
 use Rattle.common.specs.declared.kinds.Direction.the-variants.{In}
-use Rattle.common.specs.declared.kinds.EndpointType.the-variants.{Control}
+use Rattle.common.specs.declared.kinds.EndpointType.the-variants.{Control, Bulk}
 use Rattle.descriptor.specs.Descriptors.{newQtd, terminated, withNext}
 use Rattle.descriptor.specs.Heads.{ringHead}
 use Rattle.descriptor.specs.Setups.{setupPacket}
@@ -43,7 +43,7 @@ use Rattle.promises.specs.Coverage.{recordsMet}
 use Rattle.promises.specs.Submissions.{Fields, PacketsStand, SubmitsPlanned, SubmittedStays, fieldsOf, packetAt, planFor, planned}
 use Rattle.promises.proofs.invariants.Reached.{freshWorld, opens-fresh}
 use Rattle.refutations.proofs.WrongRuns.{linked, one, openedTwo, opening, reading, replies, request, small, stateOf, submits, sized}
-use Rattle.refutations.proofs.WrongUp.{up-world, upCalls}
+use Rattle.refutations.proofs.WrongUp.{up-world, upCalls, up-size}
 use Rattle.refutations.proofs.WrongCalls.{linkedOne, submitted}
 use Rattle.refutations.proofs.WrongCollections.{rank, rises-up}
 
@@ -89,7 +89,7 @@ machine x w (OpenEndpoint f) = stays w
 machine x w (Close k) = stays w
 machine x w (SetAddress k a) = stays w
 machine x w (SetPacketSize k size) = stays w
-machine x w (Submit k t readings) = written x w k t (takenOf (w .state .owner) 3 (needOfRequest (w .state) t) k)
+machine x w (Submit k t readings) = written x w k t (takenOf (w .state .owner) 3 (needOfRequest (w .state) k t) k)
 machine x w (Writeback place token) = stays w
 machine x w (Cancel k id readings) = stays w
 machine x w (Collect k id readings) = stays w
@@ -136,7 +136,7 @@ plain-planned : map fieldsOf (recordsMet trio (left plain) 0) ≡ planned 1 2 0x
 unfolding chainWalk walkFrom takenOf placesFrom markOf packed listOf fillOf filledFrom recordAt bareAt stageAt controlPlan newQtd withNext startedOverlay freshState openedHeads ringHead terminated needOf tokenOf pageSlots
 plain-planned = refl
 
-as-planned : planFor trio 0 asks ≡ planned 1 2 0x400000 8 0 0 ∷ planned 1 1 0x10000FFF 18 1 0 ∷ planned 1 0 0 0 1 1 ∷ []
+as-planned : planFor trio (trio .limit) 0 asks ≡ planned 1 2 0x400000 8 0 0 ∷ planned 1 1 0x10000FFF 18 1 0 ∷ planned 1 0 0 0 1 1 ∷ []
 as-planned = refl
 
 plain-packet : (wLength (packetAt (left plain) 0) ≡ 18) × (wValue (packetAt (left plain) 0) ≡ 0x100)
@@ -201,6 +201,7 @@ quiet-planned p =
     let interrupts : Applied → List ℕ = λ a. map (λ (f : Fields). f .interrupt) (map fieldsOf (recordsMet small (rowsOf a) 0)) in
     let is : interrupts (quiet (worldOf quiet w upCalls) call) ≡ 0 ∷ [] = ap (λ (v : World). interrupts (quiet v call)) up ∙ ap interrupts submits-quietly ∙ no-interrupt in
     let due : interrupts (quiet (worldOf quiet w upCalls) call) ≡ 1 ∷ []
-    = ap (map (λ (f : Fields). f .interrupt)) (p small w opening upCalls 0 (request 0x500000) (reading 0x80031) zero .planned-so) in
+    = ap (map (λ (f : Fields). f .interrupt)) (p small w opening upCalls 0 (request 0x500000) (reading 0x80031) zero .planned-so)
+    ∙ ap (λ (n : ℕ). map (λ (f : Fields). f .interrupt) (planFor small (workingLimit Bulk (small .limit) n) 0 (request 0x500000))) (up-size quiet (rises-up quiet (λ v c e. rw (ap (λ (n : ℕ). eqb n 1) e)))) in
     let none : _≡_ {A = ℕ} 0 1 = ap (λ (l : List ℕ). getD l 0 0) (sym is ∙ due) in
     omega (arith, none)

@@ -9,10 +9,15 @@ use Rattle.bring_up.specs.BringUp.{movedOn, ready, stageOf}
 use Rattle.ehci.specs.declared.call.Call.{Call}
 use Rattle.ehci.specs.declared.call.Call.the-variants.{StartBringUp, BringUpStep, OpenEndpoint}
 use Rattle.ehci.specs.declared.call.EndpointFields.{EndpointFields}
-use Rattle.promises.specs.Runs.{Machine, World, inPlain, core, leftBy, worldOf}
+use Rattle.promises.specs.Runs.{Machine, World, inPlain, core, leftBy, worldOf, historyOf}
 use Rattle.promises.specs.Registers.{Access, None, Starts, Steps, Submits, Leaves, Acknowledges, Drains, Rearms, Enables, Disables, accessOf}
 use Rattle.promises.proofs.invariants.Reached.{freshWorld}
-use Rattle.refutations.proofs.WrongRuns.{fresh, openBulk, openedOne, openedTwo, opens, opens-one, opens-two, rising, small, starts, stateOf, steps}
+use Rattle.refutations.proofs.WrongRuns.{fresh, openBulk, openedOne, openedTwo, opens, opens-one, opens-two, rising, small, starts, stateOf, steps, answers-one, answers-two}
+use Rattle.promises.specs.Slots.{changeBy, sizeIn, sizeOf, slotAfter, slotIn}
+use Rattle.ehci.specs.Door.{Applied}
+use Rattle.ehci.specs.declared.reply.Answered.{Answered}
+use Rattle.ehci.specs.declared.reply.Given.the-variants as G
+use Rattle.ehci.specs.declared.reply.Answered.the-variants.{Done}
 
 -- what a call asks of the registers, by number
 abbrev pub order : Access → ℕ
@@ -107,3 +112,16 @@ module _ (m : Machine inPlain) (same : Rises m) where
   up-world =
       let o1 = next m runCalls (openBulk 5 1) (fresh (rising 1 0)) openedOne run-world (same .opens (fresh (rising 1 0)) _ refl) opens-one in
       next m (openBulk 5 1 ∷ runCalls) (openBulk 5 2) openedOne openedTwo o1 (same .opens openedOne _ refl) opens-two
+
+  -- slot 0 is opened with packets of 512
+  pub up-size : sizeIn 0 (historyOf m (freshWorld small) upCalls) ≡ 512
+  unfolding historyOf slotIn stateOf
+  up-size =
+      let run = run-world in
+      let o1 = next m runCalls (openBulk 5 1) (fresh (rising 1 0)) openedOne run (same .opens (fresh (rising 1 0)) _ refl) opens-one in
+      let one : m (worldOf m (freshWorld small) runCalls) (openBulk 5 1) .reply .answer ≡ Done (G.Slot 0)
+      = ap (λ (v : World). m v (openBulk 5 1) .reply .answer) run ∙ ap (λ (a : Applied). a .reply .answer) (same .opens (fresh (rising 1 0)) _ refl) ∙ answers-one in
+      let two : m (worldOf m (freshWorld small) (openBulk 5 1 ∷ runCalls)) (openBulk 5 2) .reply .answer ≡ Done (G.Slot 1)
+      = ap (λ (v : World). m v (openBulk 5 2) .reply .answer) o1 ∙ ap (λ (a : Applied). a .reply .answer) (same .opens openedOne _ refl) ∙ answers-two in
+      ap (λ (a : Answered). sizeOf (slotAfter 0 (changeBy (openBulk 5 2) a) (slotIn 0 (historyOf m (freshWorld small) (openBulk 5 1 ∷ runCalls))))) two
+      ∙ ap (λ (a : Answered). sizeOf (slotAfter 0 (changeBy (openBulk 5 1) a) (slotIn 0 (historyOf m (freshWorld small) runCalls)))) one

@@ -29,6 +29,7 @@ use Rattle.promises.proofs.invariants.Reached.{freshWorld}
 use Rattle.refutations.proofs.RoomWrong.{byte, plain as takes, reads}
 use Rattle.refutations.proofs.WrongChains.{asks, opening, plain as links, three}
 use Rattle.refutations.proofs.WrongRuns.{opening as opened, small}
+use Rattle.state.specs.Slots.{slotAt}
 
 -- ---- a machine with other rows after each call
 
@@ -159,7 +160,7 @@ unterminated = changed takes (nextWord 0 0)
 
 chains-end : (chainEnd small (given takes) 0 ≡ Terminated) × (chainEnd small (given unstarted) 0 ≡ Nowhere) × (chainEnd small (given halfway) 0 ≡ Nowhere)
     × (chainEnd small (given unterminated) 0 ≡ Nowhere)
-unfolding chainEnd walkFrom worldOf takenOf placesFrom markOf packed listOf fillOf filledFrom recordAt bareAt chunkQtd newQtd withNext startedOverlay freshState withOwner openedHeads ringHead terminated needOf chunkCount
+unfolding chainEnd walkFrom worldOf takenOf placesFrom markOf packed listOf fillOf filledFrom recordAt bareAt chunkQtd newQtd withNext startedOverlay freshState withOwner openedHeads ringHead terminated needOf chunkCount slotAt
 chains-end = (refl, refl, refl, refl)
 
 no-chain : (m : Machine inPlain) → chainEnd small (given m) 0 ≡ Nowhere → chainEnd small (given m) 0 ≡ Terminated → ⊥

@@ -82,7 +82,7 @@ module _ (s : Ehci) (slot : ℕ) (t : TransferRequest) (o : Bool) (eo : o ≡ is
                   sym eg ∙ not-true g h,
                 )
 
-            module _ (hg : not g ≡ false) (f n : ℕ) (ef : f ≡ freeCount s) (en : n ≡ needOfRequest s t) where
+            module _ (hg : not g ≡ false) (f n : ℕ) (ef : f ≡ freeCount s) (en : n ≡ needOfRequest s slot t) where
               pub judge-room : f < n → Refused NoMemory ≡ judgeOf s slot t
               unfolding judgeOf
               judge-room h =

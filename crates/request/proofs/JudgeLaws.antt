@@ -17,8 +17,10 @@ use Rattle.state.specs.Slots.{slotAt}
 use Rattle.state.specs.Plain.{Ehci}
 use Rattle.state.proofs.RangesLaws.{Ranges}
 use Rattle.common.specs.Answers.{Verdict, first, passed, refused}
-use Rattle.pipe.specs.Endpoints.{flagNumber, kindNumber}
+use Rattle.pipe.specs.Endpoints.{flagNumber, kindNumber, limitAt}
+use Rattle.pipe.proofs.LimitLaws.{limit-least, limit-most}
 use Rattle.common.specs.Kinds.{isIsochronous}
+use Rattle.controller.proofs.ReaderLaws.{open-below}
 use Rattle.controller.specs.Readers.{countZero, freeCount, isOpen, isUncollected}
 use Rattle.common.specs.declared.answer.Answer.the-variants.{Done}
 use Rattle.common.proofs.CheckLaws.{answers-apart, let-pass}
@@ -36,7 +38,7 @@ pub record Judged (s : Ehci) (slot : ℕ) (t : TransferRequest) : Type 0 where
   pub supported : isIsochronous (t .kind) ≡ false
   pub same-kind : kindNumber (t .kind) ≡ slotAt s slot .kind
   pub in-range : rangesGood t ≡ true
-  pub room : needOfRequest s t ≤ freeCount s
+  pub room : needOfRequest s slot t ≤ freeCount s
 
 pub judge-tells : (s : Ehci) (slot : ℕ) (t : TransferRequest) → judgeOf s slot t ≡ Done → Judged s slot t
 unfolding judgeOf
@@ -47,7 +49,7 @@ judge-tells s slot t e =
     let d = let-pass (isIsochronous (t .kind)) _ _ (c .1) in
     let k = let-pass (not (eqb (kindNumber (t .kind)) (slotAt s slot .kind))) _ _ (d .1) in
     let g = let-pass (not (rangesGood t)) _ _ (k .1) in
-    let m = let-pass (ltb (freeCount s) (needOfRequest s t)) _ _ (g .1) in
+    let m = let-pass (ltb (freeCount s) (needOfRequest s slot t)) _ _ (g .1) in
     record {
       opened = not-false (isOpen s slot) (a .0);
       runs = b .0;
@@ -55,7 +57,7 @@ judge-tells s slot t e =
       supported = d .0;
       same-kind = eqb-true (kindNumber (t .kind)) (slotAt s slot .kind) (not-false (eqb (kindNumber (t .kind)) (slotAt s slot .kind)) (k .0));
       in-range = not-false (rangesGood t) (g .0);
-      room = ltb-false (freeCount s) (needOfRequest s t) (m .0);
+      room = ltb-false (freeCount s) (needOfRequest s slot t) (m .0);
     }
 
 -- ---- the length
@@ -74,24 +76,25 @@ unfolding freeCount
 free-le s = omega (arith, zeros-le (take (s .settings .descriptors) (s .owner)), length-take (s .settings .descriptors) (s .owner))
 
 -- as many chunks as there are descriptors are short
-many : (s : Ehci) (t : TransferRequest) → 1 ≤ s .settings .limit → s .settings .limit ≤ 16384 → s .settings .descriptors ≤ 256
-    → chunkCount (t .length) (s .settings .limit) ≤ freeCount s → t .length < 2 ^ 32
-many s t l m d n =
-    let few : chunkCount (t .length) (s .settings .limit) ≤ 256 = omega (arith, free-le s) in
-    omega (arith, covers (t .length) (s .settings .limit) l, mul-le-mul-right (s .settings .limit) few)
+many : (s : Ehci) (t : TransferRequest) (limit : ℕ) → 1 ≤ limit → limit ≤ 16384 → s .settings .descriptors ≤ 256
+    → chunkCount (t .length) limit ≤ freeCount s → t .length < 2 ^ 32
+many s t limit l m d n =
+    let few : chunkCount (t .length) limit ≤ 256 = omega (arith, free-le s) in
+    omega (arith, covers (t .length) limit l, mul-le-mul-right limit few)
 
-short-by : (s : Ehci) (k : EndpointType) (t : TransferRequest) → t .kind ≡ k → 1 ≤ s .settings .limit → s .settings .limit ≤ 16384 → s .settings .descriptors ≤ 256
-    → needOf k (t .length) (s .settings .limit) ≤ freeCount s → rangesGood t ≡ true → t .length < 2 ^ 32
+short-by : (s : Ehci) (k : EndpointType) (t : TransferRequest) (limit : ℕ) → t .kind ≡ k → 1 ≤ limit → limit ≤ 16384 → s .settings .descriptors ≤ 256
+    → needOf k (t .length) limit ≤ freeCount s → rangesGood t ≡ true → t .length < 2 ^ 32
 unfolding rangesGood controlGood needOf
-short-by s Control t e l m d n g =
+short-by s Control t limit e l m d n g =
     let c : controlGood t ≡ true = both-tells (bufferGood (t .address) (t .length)) _ (rw e at g) .1 in
     omega (arith, leb-true (t .length) 16384 (both-tells (leb (t .length) 16384) _ c .0))
-short-by s Isochronous t e l m d n g = many s t l m d n
-short-by s Bulk t e l m d n g = many s t l m d n
-short-by s Interrupt t e l m d n g = many s t l m d n
+short-by s Isochronous t limit e l m d n g = many s t limit l m d n
+short-by s Bulk t limit e l m d n g = many s t limit l m d n
+short-by s Interrupt t limit e l m d n g = many s t limit l m d n
 
 pub short : (s : Ehci) (k : ℕ) (t : TransferRequest) → Ranges s → Judged s k t → t .length < 2 ^ 32
 short s k t r j =
-    short-by s (t .kind) t refl (r .good .limit-least) (r .good .limit-most) (r .good .descriptors-most) (j .room) (j .in-range)
+    short-by s (t .kind) t (limitAt s k) refl (limit-least s r k (open-below s k (j .opened))) (limit-most s r k) (r .good .descriptors-most) (j .room)
+    (j .in-range)
 
 -- ---- the first place

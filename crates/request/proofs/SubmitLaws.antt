@@ -22,7 +22,7 @@ use Rattle.pool.proofs.Each.{each-at, each-map}
 use Rattle.settings.specs.Settings.{poolLength}
 use Rattle.pool.proofs.GoodLaws.{packed-good, request-good}
 use Rattle.pool.proofs.PlaceLaws.{list-packed, mark-either, mark-length, mark-others, places-ascend, places-hold, places-within}
-use Rattle.slot.proofs.SlotLaws.{slot-tells}
+use Rattle.slot.proofs.SlotLaws.{SlotGood, slot-tells}
 use Rattle.common.proofs.TestLaws.{both-tells}
 use Rattle.state.specs.Slots.{slotAt}
 use Rattle.state.specs.State.{withOwner}
@@ -39,7 +39,8 @@ use Rattle.schedule.specs.Links.{attachedFrames, attachedRing, startedOverlay}
 use Rattle.controller.specs.Readers.{freeCount, isOpen, isUncollected}
 use Rattle.common.proofs.CheckLaws.{answers-apart}
 use Rattle.controller.proofs.FreeLaws.{free-places}
-use Rattle.controller.proofs.ReaderLaws.{open-below, open-within}
+use Rattle.controller.proofs.ReaderLaws.{open-below, open-phase, open-within}
+use Rattle.pipe.proofs.LimitLaws.{limit-least, limit-most}
 use Rattle.request.specs.Submit.{attachedBy, bufferGood, chainFor, firstIn, idAt, judgeOf, linkedRows, linkedWith, needOfRequest, placesFor, rangesGood, stateWith, takenFor, takenOf, transferOf}
 use Rattle.slot.specs.Ids.{afterId}
 use Rattle.request.specs.declared.judge.TransferRequest.{TransferRequest}
@@ -51,20 +52,20 @@ use Rattle.request.proofs.SettleCases.{packed-first}
 
 module _ (s : Ehci) (k : ℕ) (t : TransferRequest) (o : isOpen s k ≡ true) (runs : s .running ≡ 0 → ⊥) (bare : isUncollected s k ≡ false)
     (supported : isIsochronous (t .kind) ≡ false) (same : kindNumber (t .kind) ≡ slotAt s k .kind) (good : rangesGood t ≡ true) where
-  pub room-lacks : freeCount s < needOfRequest s t → judgeOf s k t ≡ Refused NoMemory
+  pub room-lacks : freeCount s < needOfRequest s k t → judgeOf s k t ≡ Refused NoMemory
   room-lacks h =
       sym (judge-room s k t true (sym o) refl false runs (sym bare) refl false (sym supported) refl (kindNumber (t .kind)) refl same true (sym good) refl
-      (freeCount s) (needOfRequest s t) refl refl h)
+      (freeCount s) (needOfRequest s k t) refl refl h)
 
-  pub room-told : judgeOf s k t ≡ Refused NoMemory → freeCount s < needOfRequest s t
-  room-told e = by (ltb (freeCount s) (needOfRequest s t)) refl
+  pub room-told : judgeOf s k t ≡ Refused NoMemory → freeCount s < needOfRequest s k t
+  room-told e = by (ltb (freeCount s) (needOfRequest s k t)) refl
     where
-      by : (b : Bool) → ltb (freeCount s) (needOfRequest s t) ≡ b → freeCount s < needOfRequest s t
-      by true h = ltb-true (freeCount s) (needOfRequest s t) h
+      by : (b : Bool) → ltb (freeCount s) (needOfRequest s k t) ≡ b → freeCount s < needOfRequest s k t
+      by true h = ltb-true (freeCount s) (needOfRequest s k t) h
       by false h =
           absurd (answers-apart NoMemory (sym e
           ∙ sym (judge-done s k t true (sym o) refl false runs (sym bare) refl false (sym supported) refl (kindNumber (t .kind)) refl same true (sym good) refl
-          (freeCount s) (needOfRequest s t) refl refl (ltb-false (freeCount s) (needOfRequest s t) h))))
+          (freeCount s) (needOfRequest s k t) refl refl (ltb-false (freeCount s) (needOfRequest s k t) h))))
 
 -- ---- the chain
 
@@ -93,34 +94,34 @@ module _ (s : Ehci) (k : ℕ) (t : TransferRequest) (r : Ranges s) (j : Judged s
   owners-length = length-take-le (s .settings .descriptors) (s .owner) (omega (arith, r .good .descriptors-most))
 
   -- as many places as it needs
-  pub places-needed : length (placesFor s t) ≡ needOfRequest s t
-  places-needed = free-places s (needOfRequest s t) ∙ omega (arith, j .room)
+  pub places-needed : length (placesFor s k t) ≡ needOfRequest s k t
+  places-needed = free-places s (needOfRequest s k t) ∙ omega (arith, j .room)
 
   -- places of the row, which has one record more than the places that are lent
-  row-within : Within (poolLength (s .settings)) (placesFor s t)
+  row-within : Within (poolLength (s .settings)) (placesFor s k t)
   unfolding owners
   row-within =
-      each-map (λ (i : ℕ). i < length owners) (λ (i : ℕ). i < poolLength (s .settings)) (λ i h. omega (arith, h, owners-length)) (placesFor s t)
-      (places-within owners 0 (needOfRequest s t))
+      each-map (λ (i : ℕ). i < length owners) (λ (i : ℕ). i < poolLength (s .settings)) (λ i h. omega (arith, h, owners-length)) (placesFor s k t)
+      (places-within owners 0 (needOfRequest s k t))
 
   -- the pool may be told to write it
   pub submit-good : chainGood (poolLength (s .settings)) (chainFor s k t (takenFor s k t))
   unfolding takenFor takenOf
   submit-good =
-      packed-good (poolLength (s .settings)) (s .settings .pool) (TransferDeed (transferOf s k t)) (placesFor s t)
+      packed-good (poolLength (s .settings)) (s .settings .pool) (TransferDeed (transferOf s k t)) (placesFor s k t)
       (omega (arith, places-needed, j .room, free-le s, r .good .descriptors-most)) row-within
-      (request-good (transferOf s k t) (s .settings .pool) (poolLength (s .settings)) (length (placesFor s t)) (r .good .pool-ends) (buffer-ends t (j .in-range))
-      (omega (arith, open-within s k r (j .opened), r .good .setups-end)) (r .good .limit-least) (r .good .limit-most) places-needed)
+      (request-good (transferOf s k t) (s .settings .pool) (poolLength (s .settings)) (length (placesFor s k t)) (r .good .pool-ends) (buffer-ends t (j .in-range))
+      (omega (arith, open-within s k r (j .opened), r .good .setups-end)) (limit-least s r k (open-below s k (j .opened))) (limit-most s r k) places-needed)
 
   -- from the overlay's next pointer on EHCI's walk meets exactly its places' addresses, ascending, and ends
-  pub submit-met : (rows : List QueueTransferDescriptor) (m : ℕ) → length rows ≡ poolLength (s .settings) → 1 ≤ needOfRequest s t → needOfRequest s t ≤ m
+  pub submit-met : (rows : List QueueTransferDescriptor) (m : ℕ) → length rows ≡ poolLength (s .settings) → 1 ≤ needOfRequest s k t → needOfRequest s k t ≤ m
       → follow (nextAt (s .settings .pool) (fillOf (chainFor s k t (takenFor s k t)) rows)) m (firstIn s (takenFor s k t))
-      ≡ map (addressOf (s .settings .pool)) (placesFor s t)
+      ≡ map (addressOf (s .settings .pool)) (placesFor s k t)
   unfolding takenFor takenOf fillOf owners
   submit-met rows m e one most =
-      rw (first-next (s .settings .pool) (placesFor s t) (r .good .pool-aligned) (omega (arith, places-needed)), list-packed (placesFor s t))
-      (follow-chain (transferOf s k t) (s .settings .pool) m (placesFor s t) rows (r .good .pool-aligned) (omega (arith, e, r .good .pool-ends))
-      (places-ascend 0 owners 0 (needOfRequest s t)) (subst (λ (n : ℕ). Within n (placesFor s t)) (sym e) row-within)
+      rw (first-next (s .settings .pool) (placesFor s k t) (r .good .pool-aligned) (omega (arith, places-needed)), list-packed (placesFor s k t))
+      (follow-chain (transferOf s k t) (s .settings .pool) m (placesFor s k t) rows (r .good .pool-aligned) (omega (arith, e, r .good .pool-ends))
+      (places-ascend 0 owners 0 (needOfRequest s k t)) (subst (λ (n : ℕ). Within n (placesFor s k t)) (sym e) row-within)
       (omega (arith, places-needed)))
 
 -- ---- what stays
@@ -135,10 +136,10 @@ pub submit-places : (s : Ehci) (k y m : ℕ) (t : TransferRequest) → Ranges s 
 unfolding takenFor takenOf
 submit-places s k y m t r wide nx nz =
     let o = take (s .settings .descriptors) (s .owner) in
-    let long : length (markOf o (needOfRequest s t) (k + 1)) ≡ s .settings .descriptors =
-    mark-length o (needOfRequest s t) (k + 1) ∙ length-take-le (s .settings .descriptors) (s .owner) (omega (arith, r .good .descriptors-most)) in
-    rw (take-at (markOf o (needOfRequest s t) (k + 1)) (drop (s .settings .descriptors) (s .owner)) (s .settings .descriptors) long)
-    (mark-others 0 o (needOfRequest s t) (k + 1) y m nx nz)
+    let long : length (markOf o (needOfRequest s k t) (k + 1)) ≡ s .settings .descriptors =
+    mark-length o (needOfRequest s k t) (k + 1) ∙ length-take-le (s .settings .descriptors) (s .owner) (omega (arith, r .good .descriptors-most)) in
+    rw (take-at (markOf o (needOfRequest s k t) (k + 1)) (drop (s .settings .descriptors) (s .owner)) (s .settings .descriptors) long)
+    (mark-others 0 o (needOfRequest s k t) (k + 1) y m nx nz)
 
 -- a record that belongs to a request is not written
 pub submit-records : (s : Ehci) (k p : ℕ) (t : TransferRequest) (rows : List QueueTransferDescriptor)
@@ -146,11 +147,11 @@ pub submit-records : (s : Ehci) (k p : ℕ) (t : TransferRequest) (rows : List Q
     → getD (fillOf (chainFor s k t (takenFor s k t)) rows) p blank ≡ getD rows p blank
 unfolding takenFor takenOf fillOf
 submit-records s k p t rows ne =
-    rw (list-packed (placesFor s t))
-    (filled-others (TransferDeed (transferOf s k t)) (s .settings .pool) 0 (placesFor s t) rows p
+    rw (list-packed (placesFor s k t))
+    (filled-others (TransferDeed (transferOf s k t)) (s .settings .pool) 0 (placesFor s k t) rows p
     (each-map (λ (q : ℕ). getD (take (s .settings .descriptors) (s .owner)) q 0 ≡ 0) (λ (q : ℕ). p ≡ q → ⊥) (λ q h e. ne (ap (λ (z : ℕ). getD (take (s .settings .descriptors) (s .owner)) z 0) e ∙ h))
-    (placesFrom 0 (take (s .settings .descriptors) (s .owner)) 0 (needOfRequest s t))
-    (places-hold (take (s .settings .descriptors) (s .owner)) 0 (needOfRequest s t))))
+    (placesFrom 0 (take (s .settings .descriptors) (s .owner)) 0 (needOfRequest s k t))
+    (places-hold (take (s .settings .descriptors) (s .owner)) 0 (needOfRequest s k t))))
 
 -- of the heads' words only the ring head's link, and of the slot's head link, next, alternate and token
 module _ (heads frames : List ℕ) (k link first i : ℕ) (n0 : i ≢ 0) (n1 : i ≢ 17 * (k + 1)) (n4 : i ≢ 17 * (k + 1) + 4)
@@ -191,12 +192,12 @@ id-least id = by (eqb id (2 ^ 64 - 1))
 
 module _ (s : Ehci) (k : ℕ) (t : TransferRequest) (r : Ranges s) (j : Judged s k t) (w : Wide s) (wide : length (s .owner) ≡ 256) where
   marked : List ℕ
-  marked = markOf (take (s .settings .descriptors) (s .owner)) (needOfRequest s t) (k + 1)
+  marked = markOf (take (s .settings .descriptors) (s .owner)) (needOfRequest s k t) (k + 1)
 
   marked-length : length marked ≡ s .settings .descriptors
   unfolding marked
   marked-length =
-      mark-length (take (s .settings .descriptors) (s .owner)) (needOfRequest s t) (k + 1)
+      mark-length (take (s .settings .descriptors) (s .owner)) (needOfRequest s k t) (k + 1)
       ∙ length-take-le (s .settings .descriptors) (s .owner) (omega (arith, r .good .descriptors-most))
 
   below : k < s .settings .endpoints
@@ -205,7 +206,7 @@ module _ (s : Ehci) (k : ℕ) (t : TransferRequest) (r : Ranges s) (j : Judged s
   owned-all : Each (λ (x : ℕ). x ≤ s .settings .endpoints) marked
   unfolding marked
   owned-all =
-      mark-either (λ (x : ℕ). x ≤ s .settings .endpoints) (take (s .settings .descriptors) (s .owner)) (needOfRequest s t) (k + 1)
+      mark-either (λ (x : ℕ). x ≤ s .settings .endpoints) (take (s .settings .descriptors) (s .owner)) (needOfRequest s k t) (k + 1)
       (each-from (λ (x : ℕ). x ≤ s .settings .endpoints) (take (s .settings .descriptors) (s .owner)) each)
       (omega (arith, below))
     where
@@ -237,11 +238,20 @@ module _ (s : Ehci) (k : ℕ) (t : TransferRequest) (r : Ranges s) (j : Judged s
   submit-keeps =
       endpoint-keeps (withOwner s (takenFor s k t .owner)) k taken-keeps (owner-wide s (takenFor s k t .owner) w) (open-below s k (j .opened)) (linkedWith s k t)
       (record {
-        pipe = record { next-least = id-least (idAt s k); never = not-isochronous (t .kind) (j .supported) };
-        request-least = slot-tells (s .settings .endpoints) k (s .unanswered) (slotAt s k) (r .slots k (open-below s k (j .opened))) .id-least;
+        pipe =
+            record {
+              next-least = id-least (idAt s k);
+              never = not-isochronous (t .kind) (j .supported);
+              size = rw (j .same-kind) (here .size-open (open-phase s k (j .opened)));
+            };
+        request-least = here .id-least;
         uncancelled = refl;
       })
       (λ h. absurd (past h))
     where
+      here : SlotGood (s .settings .endpoints) (s .settings .limit) k (s .unanswered) (slotAt s k)
+      here =
+          slot-tells (s .settings .endpoints) (s .settings .limit) k (s .unanswered) (slotAt s k) (r .slots k (open-below s k (j .opened)))
+
       past : s .settings .endpoints ≤ k → ⊥
       past h = omega (arith, h, below)

@@ -8,7 +8,7 @@ use Rattle.bitset.specs.Places.{Words, lowestOf, setPlaces, withoutOf}
 use Rattle.common.specs.declared.answer.Answer.the-variants.{Done}
 use Rattle.controller.specs.declared.lent.Readings.{Readings}
 use Rattle.descriptor.specs.Heads.{qhLink}
-use Rattle.pipe.specs.Endpoints.{encoded}
+use Rattle.pipe.specs.Endpoints.{encoded, limitAt}
 use Rattle.pool.specs.Transfers.{alternateWord}
 use Rattle.pool.specs.Words.{LayingGood}
 use Rattle.pool.specs.Plain.{Chain}
@@ -24,7 +24,7 @@ use Rattle.state.specs.Plain.{Ehci}
 use Rattle.words.specs.declared.core.Core.{Core}
 use Rattle.words.specs.declared.core.Rest.{Rest}
 use Rattle.words.specs.Good.{Good, Tidy}
-use Rattle.words.specs.Record.{SlotFits, idIn, lastAt, putPlaces, putSlot}
+use Rattle.words.specs.Record.{SlotFits, idIn, lastAt, putPlaces, putSlot, sizeIn, wordAt}
 use Rattle.words.specs.Rest.{restWithFree}
 use Rattle.words.specs.View.{stateOf, view}
 use Rattle.request.specs.Submit.{acceptedWith, chainFor, firstIn, idAt, judgeOf, linkedRows, needOfRequest, settledSubmit, setupsWith, stateWith, submitted, takenFor, writesWith}
@@ -38,25 +38,25 @@ use Rattle.request.proofs.SettleCases.{settled-is}
 use Rattle.request.proofs.WordsSettle.{chain-viewed, first-below, first-viewed, id-viewed, kept-settings, laying-settled, slot-within, state-viewed, taken-some, tidy-settled}
 
 -- the laying that is made
-pub laid-for : (s : Settings) (k : ℕ) (t : TransferRequest) (places : List ℕ) (alternate : ℕ) → alternate ≡ alternateWord (t .kind) (t .direction) (sharedAddress s)
+pub laid-for : (s : Settings) (k : ℕ) (t : TransferRequest) (l : ℕ) (places : List ℕ) (alternate : ℕ) → alternate ≡ alternateWord (t .kind) (t .direction) (sharedAddress s)
     → _≡_ {A = Laying}
     (record {
       places = places;
       base = s .pool;
-      transfer = record { kind = t .kind; direction = t .direction; address = t .address; length = t .length; limit = s .limit; setup = s .setups + 8 * k; alternate = alternate };
+      transfer = record { kind = t .kind; direction = t .direction; address = t .address; length = t .length; limit = l; setup = s .setups + 8 * k; alternate = alternate };
     })
-    (layingFor s k t places)
+    (layingFor s k t l places)
 unfolding layingFor
-laid-for s k t places alternate e = rw e
+laid-for s k t l places alternate e = rw e
 
 -- ---- `settle`
 
-pub accepted-words : (c : Core) (d : Readings) (k id w w′ : ℕ) (t : TransferRequest) (places free : List ℕ) (none out : Writes) (l : Laying)
+pub accepted-words : (c : Core) (d : Readings) (k m id w w′ : ℕ) (t : TransferRequest) (places free : List ℕ) (none out : Writes) (l : Laying)
     → free ≡ withoutOf (c .rest .free) places → w ≡ withBits (d .command) 0x31 → w′ ≡ commandWord w → none ≡ noWrites → out ≡ andThen none 0 w′
-    → l ≡ layingFor (c .settings) k t places
-    → _≡_ {A = SubmittedWords} (record { answer = Accepted id; rest = restWithFree (c .rest) free; writes = out; laying = l }) (acceptedWords c d k t id places)
+    → l ≡ layingFor (c .settings) k t m places
+    → _≡_ {A = SubmittedWords} (record { answer = Accepted id; rest = restWithFree (c .rest) free; writes = out; laying = l }) (acceptedWords c d k t m id places)
 unfolding acceptedWords
-accepted-words c d k id w w′ t places free none out l ef e₁ e₂ e₃ e₄ el = rw (ef, el, e₄, e₃, e₂, e₁)
+accepted-words c d k m id w w′ t places free none out l ef e₁ e₂ e₃ e₄ el = rw (ef, el, e₄, e₃, e₂, e₁)
 
 accepted-made : (s : Ehci) (r : Readings) (k id : ℕ) (t : TransferRequest) (g : Taken) (s′ : Ehci) (w : Writes) (c : Chain)
     → id ≡ idAt s k → s′ ≡ stateWith s (g .owner) k t → w ≡ writesWith r → c ≡ chainFor s k t g
@@ -81,8 +81,8 @@ module _ (s : Settings) (r : Rest) (ws : List ℕ) (k : ℕ) (t : TransferReques
   pub areas-below : (s .setups ≤ 2 ^ 32) × (sharedAddress s < 2 ^ 32)
   areas-below = (setups-below, omega (arith, kept-settings s r ws k t good done .pool-ends))
 
-module _ (c : Core) (ws : List ℕ) (k : ℕ) (t : TransferRequest) (n : ℕ) (places : List ℕ) (good : Good (c .settings) (c .rest) ws)
-    (done : judgeOf (view c ws) k t ≡ Done) (en : n ≡ needOfRequest (view c ws) t) (fit : Words (c .rest .free)) (ep : places ≡ lowestOf (c .rest .free) n) where
+module _ (c : Core) (ws : List ℕ) (k : ℕ) (t : TransferRequest) (l n : ℕ) (places : List ℕ) (good : Good (c .settings) (c .rest) ws)
+    (done : judgeOf (view c ws) k t ≡ Done) (el : l ≡ limitAt (view c ws) k) (en : n ≡ needOfRequest (view c ws) k t) (fit : Words (c .rest .free)) (ep : places ≡ lowestOf (c .rest .free) n) where
   abbrev s : Settings
   s = c .settings
 
@@ -100,13 +100,13 @@ module _ (c : Core) (ws : List ℕ) (k : ℕ) (t : TransferRequest) (n : ℕ) (p
   rows-ready h f eh ef =
       ((head-room s r ws k t good done h eh, omega (arith, ef)), (places-some, place-below, head-below s r ws k t good done))
 
-  module _ (d : Readings) (id : ℕ) (x : SubmittedWords) (ex : x ≡ acceptedWords c d k t id places) where
+  module _ (d : Readings) (id : ℕ) (x : SubmittedWords) (ex : x ≡ acceptedWords c d k t l id places) where
     settled-laying : LayingGood (poolLength s) (x .laying)
     unfolding acceptedWords
-    settled-laying = rw (ex, ep) (laying-settled s r ws k t good done fit n en)
+    settled-laying = rw (ex, ep, el) (laying-settled s r ws k t good done fit n en)
 
-    module _ (ws′ : List ℕ) (ei : id ≡ idIn (lastAt ws k)) (fits : SlotFits (encoded (requestWith t id)))
-        (ew : ws′ ≡ putPlaces (putSlot ws k (encoded (requestWith t id))) k places) where
+    module _ (ws′ : List ℕ) (ei : id ≡ idIn (lastAt ws k)) (fits : SlotFits (encoded (requestWith t (sizeIn (wordAt ws k)) id)))
+        (ew : ws′ ≡ putPlaces (putSlot ws k (encoded (requestWith t (sizeIn (wordAt ws k)) id))) k places) where
       settled-tidy : Tidy s (x .rest) ws′
       unfolding acceptedWords
       settled-tidy = rw (ex, ew, ep) (tidy-settled s r ws k t good done fit n en id ei fits (restWithFree r (withoutOf (r .free) (lowestOf (r .free) n))) refl)
@@ -119,15 +119,15 @@ module _ (c : Core) (ws : List ℕ) (k : ℕ) (t : TransferRequest) (n : ℕ) (p
       unfolding stateOf
       rows-here h f h′ f′ er = er ∙ rw (ep, first-viewed s r ws k t good done fit n en)
 
-      laid-here : layingChain (layingFor s k t places) ≡ chainFor (view c ws) k t (takenFor (view c ws) k t)
-      laid-here = rw ep (chain-viewed s r ws k t good done fit n en)
+      laid-here : layingChain (layingFor s k t l places) ≡ chainFor (view c ws) k t (takenFor (view c ws) k t)
+      laid-here = rw (ep, el) (chain-viewed s r ws k t good done fit n en)
 
       accepted-here : submittedView s x ws′ ≡ acceptedWith (view c ws) d k t (takenFor (view c ws) k t)
       unfolding acceptedWords
       accepted-here =
           ap (λ (y : SubmittedWords). submittedView s y ws′) ex
           ∙ accepted-made (view c ws) d k id t (takenFor (view c ws) k t) (stateOf s (restWithFree r (withoutOf (r .free) places)) ws′) (writesWith d)
-          (layingChain (layingFor s k t places)) (ei ∙ id-viewed s r ws k t good done) (state-here (withoutOf (r .free) places)) refl laid-here
+          (layingChain (layingFor s k t l places)) (ei ∙ id-viewed s r ws k t good done) (state-here (withoutOf (r .free) places)) refl laid-here
 
       settled-words : (h f u h′ f′ u′ : List ℕ) → links h′ f′ ≡ linkedRows h f (t .kind) k (qhLink (headOf s k)) (firstOf s places) → u′ ≡ setupsWith u k t
           → submitted (submittedView s x ws′) h′ f′ u′ ≡ settledSubmit (view c ws) h f u d k t

@@ -80,7 +80,7 @@ module _ (s : Settings) (r : Rest) (ws : List ℕ) (k : ℕ) (t : TransferReques
             words-range h =
                 judge-range (stateOf s r ws) k t true opened refl false runs-viewed bare refl i ei hi n en (hk ∙ sym own-kind) g eg h
 
-            module _ (hg : not g ≡ false) (f m : ℕ) (ef : f ≡ length (setPlaces (r .free))) (em : m ≡ needOfRequest (stateOf s r ws) t) where
+            module _ (hg : not g ≡ false) (f m : ℕ) (ef : f ≡ length (setPlaces (r .free))) (em : m ≡ needOfRequest (stateOf s r ws) k t) where
               free-here : f ≡ freeCount (stateOf s r ws)
               free-here = ef ∙ free-good s r ws good
 

@@ -19,7 +19,7 @@ use Rattle.pipe.proofs.WordsFits.{linked-fits}
 use Rattle.schedule.specs.Links.{links}
 use Rattle.settings.specs.declared.settings.Settings.{Settings}
 use Rattle.slot.specs.Ids.{afterId}
-use Rattle.words.specs.Record.{SlotFits, idIn, putPlaces, putSlot}
+use Rattle.words.specs.Record.{SlotFits, idIn, putPlaces, putSlot, sizeIn}
 use Rattle.words.proofs.FitLaws.{id-below}
 use Rattle.request.specs.Submit.{linkedRows}
 use Rattle.request.specs.Words.{firstOf, headOf, requestWith}
@@ -52,18 +52,18 @@ address-fits s w c p ec ep h b = omega (arith, first-address s w c p ec ep h, b)
 
 -- ---- `put_request`
 
-module _ (t : TransferRequest) (id : ℕ) where
-  pub own-request-fits : id < 2 ^ 64 → t .length < 2 ^ 32 → SlotFits (encoded (requestWith t id))
+module _ (t : TransferRequest) (w id : ℕ) where
+  pub own-request-fits : id < 2 ^ 64 → t .length < 2 ^ 32 → SlotFits (encoded (requestWith t (sizeIn w) id))
   own-request-fits h short =
-      linked-fits (record { kind = t .kind; next = afterId id })
-      (record { id = id; direction = t .direction; length = t .length; cancelled = false }) refl (id-below id h) short
+      linked-fits (record { kind = t .kind; size = sizeIn w; next = afterId id })
+      (record { id = id; direction = t .direction; length = t .length; cancelled = false }) (omega arith) refl (id-below id h) short
 
-  module _ (n : ℕ) (en : n ≡ idIn id) where
+  module _ (z n : ℕ) (ez : z ≡ sizeIn w) (en : n ≡ idIn id) where
     pub request-fits : id < 2 ^ 64 → t .length < 2 ^ 32
-        → SlotFits (encoded (Linked (record { kind = t .kind; next = n }) (record { id = id; direction = t .direction; length = t .length; cancelled = false })))
-    request-fits h short = rw en (own-request-fits h short)
+        → SlotFits (encoded (Linked (record { kind = t .kind; size = z; next = n }) (record { id = id; direction = t .direction; length = t .length; cancelled = false })))
+    request-fits h short = rw (ez, en) (own-request-fits h short)
 
     pub request-put : (ws ws₁ ws₂ places : List ℕ) (k : ℕ)
-        → ws₁ ≡ putSlot ws k (encoded (Linked (record { kind = t .kind; next = n }) (record { id = id; direction = t .direction; length = t .length; cancelled = false })))
-        → ws₂ ≡ putPlaces ws₁ k places → ws₂ ≡ putPlaces (putSlot ws k (encoded (requestWith t id))) k places
-    request-put ws ws₁ ws₂ places k e₁ e₂ = e₂ ∙ rw (e₁, en)
+        → ws₁ ≡ putSlot ws k (encoded (Linked (record { kind = t .kind; size = z; next = n }) (record { id = id; direction = t .direction; length = t .length; cancelled = false })))
+        → ws₂ ≡ putPlaces ws₁ k places → ws₂ ≡ putPlaces (putSlot ws k (encoded (requestWith t (sizeIn w) id))) k places
+    request-put ws ws₁ ws₂ places k e₁ e₂ = e₂ ∙ rw (e₁, ez, en)

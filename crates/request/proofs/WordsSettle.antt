@@ -14,9 +14,10 @@ use Rattle.common.specs.declared.answer.Answer.the-variants.{Done}
 use Rattle.common.specs.declared.kinds.EndpointType.{EndpointType}
 use Rattle.common.specs.declared.kinds.EndpointType.the-variants.{Control, Isochronous, Bulk, Interrupt}
 use Rattle.controller.proofs.ReaderLaws.{open-within}
+use Rattle.pipe.proofs.LimitLaws.{limit-least, limit-most}
 use Rattle.controller.proofs.WordsCases.{held-word}
 use Rattle.controller.proofs.WordsLaws.{free-good}
-use Rattle.pipe.specs.Endpoints.{encoded, withEndpoint}
+use Rattle.pipe.specs.Endpoints.{encoded, limitAt, withEndpoint}
 use Rattle.pool.specs.Places.{Within as WithinRow, markOf, packed, placesFrom}
 use Rattle.pool.specs.Words.{LayingGood, wherePlaces}
 use Rattle.pool.specs.Plain.{Deed}
@@ -28,13 +29,13 @@ use Rattle.settings.specs.declared.settings.Settings.{Settings}
 use Rattle.settings.specs.Settings.{poolLength}
 use Rattle.settings.proofs.SettingsLaws as settings
 use Rattle.slot.specs.declared.slot.Slot.{Slot}
-use Rattle.state.specs.Slots.{withSlot}
+use Rattle.state.specs.Slots.{slotAt, withSlot}
 use Rattle.state.specs.State.{withOwner}
 use Rattle.token.specs.Chunks.{ifEmpty, needOf}
 use Rattle.token.proofs.ChunkLaws.{count-pos}
 use Rattle.words.specs.declared.core.Rest.{Rest}
 use Rattle.words.specs.Good.{Good, Tidy, noPlaces}
-use Rattle.words.specs.Record.{SlotFits, idIn, lastAt, phaseIn, placesAt, putPlaces, putSlot, slotIn, wordAt}
+use Rattle.words.specs.Record.{SlotFits, idIn, lastAt, phaseIn, placesAt, putPlaces, putSlot, sizeIn, slotIn, wordAt}
 use Rattle.words.specs.Rest.{restWithFree}
 use Rattle.words.specs.View.{stateOf}
 use Rattle.words.proofs.GoodLaws.{good-ranges, good-room, good-settings}
@@ -113,9 +114,19 @@ module _ (s : Settings) (r : Rest) (ws : List ℕ) (k : ℕ) (t : TransferReques
   unfolding slotIn
   id-viewed = sym (ap (λ (e : Slot). e .id) (view-slot s r ws k slot-below))
 
+  pub size-viewed : sizeIn (wordAt ws k) ≡ slotAt (stateOf s r ws) k .size
+  unfolding slotIn
+  size-viewed = sym (ap (λ (e : Slot). e .size) (view-slot s r ws k slot-below))
+
+  pub chunk-least : 1 ≤ limitAt (stateOf s r ws) k
+  chunk-least = limit-least (stateOf s r ws) (good-ranges s r ws good) k slot-below
+
+  pub chunk-most : limitAt (stateOf s r ws) k ≤ 16384
+  chunk-most = limit-most (stateOf s r ws) (good-ranges s r ws good) k
+
   -- ---- the places
 
-  module _ (fit : Words (r .free)) (n : ℕ) (en : n ≡ needOfRequest (stateOf s r ws) t) where
+  module _ (fit : Words (r .free)) (n : ℕ) (en : n ≡ needOfRequest (stateOf s r ws) k t) where
     enough : n ≤ length (setPlaces (r .free))
     enough = omega (arith, en, judged .room, free-good s r ws good)
 
@@ -123,12 +134,8 @@ module _ (s : Settings) (r : Rest) (ws : List ℕ) (k : ℕ) (t : TransferReques
     pub taken-count : length (setPlaces (lowestOf (r .free) n)) ≡ n
     taken-count = lowest-count (r .free) n fit ∙ omega (arith, enough)
 
-    pub needed : n ≡ needOf (t .kind) (t .length) (s .limit)
-    unfolding stateOf
-    needed = en
-
     pub taken-some : 1 ≤ length (setPlaces (lowestOf (r .free) n))
-    taken-some = omega (arith, taken-count, needed, need-one (t .kind) (t .length) (s .limit) (kept-settings .limit-least))
+    taken-some = omega (arith, taken-count, en, need-one (t .kind) (t .length) (limitAt (stateOf s r ws) k) chunk-least)
 
     row-places : placesFrom 0 (take (s .descriptors) (ownersOf ws)) 0 n ≡ setPlaces (lowestOf (r .free) n)
     row-places =
@@ -173,44 +180,44 @@ module _ (s : Settings) (r : Rest) (ws : List ℕ) (k : ℕ) (t : TransferReques
     unfolding takenFor takenOf stateOf
     owner-viewed = rw en
 
-    module _ (id : ℕ) (ei : id ≡ idIn (lastAt ws k)) (fits : SlotFits (encoded (requestWith t id))) where
+    module _ (id : ℕ) (ei : id ≡ idIn (lastAt ws k)) (fits : SlotFits (encoded (requestWith t (sizeIn (wordAt ws k)) id))) where
       slot-viewed : withSlot
           (withOwner (stateOf s r ws) (markOf (take (s .descriptors) (ownersOf ws)) n (k + 1) ++ drop (s .descriptors) (ownersOf ws)))
           k
-          (encoded (requestWith t id))
+          (encoded (requestWith t (sizeIn (wordAt ws k)) id))
           ≡ stateWith (stateOf s r ws) (takenFor (stateOf s r ws) k t .owner) k t
       unfolding stateWith withEndpoint
-      slot-viewed = rw (owner-viewed, ei ∙ id-viewed)
+      slot-viewed = rw (owner-viewed, size-viewed, ei ∙ id-viewed)
 
       pub state-viewed : (free : List ℕ)
-          → stateOf s (restWithFree r free) (putPlaces (putSlot ws k (encoded (requestWith t id))) k (lowestOf (r .free) n))
+          → stateOf s (restWithFree r free) (putPlaces (putSlot ws k (encoded (requestWith t (sizeIn (wordAt ws k)) id))) k (lowestOf (r .free) n))
           ≡ stateWith (stateOf s r ws) (takenFor (stateOf s r ws) k t .owner) k t
       state-viewed free =
-          view-taken s r ws (good .tidy) (kept-settings .descriptors-most) (kept-settings .endpoints-most) k (encoded (requestWith t id))
+          view-taken s r ws (good .tidy) (kept-settings .descriptors-most) (kept-settings .endpoints-most) k (encoded (requestWith t (sizeIn (wordAt ws k)) id))
           slot-within fits slot-empty fit n free
           ∙ slot-viewed
 
       pub tidy-settled : (r′ : Rest) → r′ .free ≡ withoutOf (r .free) (lowestOf (r .free) n)
-          → Tidy s r′ (putPlaces (putSlot ws k (encoded (requestWith t id))) k (lowestOf (r .free) n))
+          → Tidy s r′ (putPlaces (putSlot ws k (encoded (requestWith t (sizeIn (wordAt ws k)) id))) k (lowestOf (r .free) n))
       tidy-settled r′ left =
-          tidy-taken s r ws (good .tidy) k (encoded (requestWith t id)) slot-within fits r′ n slot-empty (omega arith) left
+          tidy-taken s r ws (good .tidy) k (encoded (requestWith t (sizeIn (wordAt ws k)) id)) slot-within fits r′ n slot-empty (omega arith) left
 
     -- ---- what is laid
 
-    pub chain-viewed : layingChain (layingFor s k t (lowestOf (r .free) n)) ≡ chainFor (stateOf s r ws) k t (takenFor (stateOf s r ws) k t)
+    pub chain-viewed : layingChain (layingFor s k t (limitAt (stateOf s r ws) k) (lowestOf (r .free) n)) ≡ chainFor (stateOf s r ws) k t (takenFor (stateOf s r ws) k t)
     unfolding layingFor stateOf
     chain-viewed =
         chain-some (setPlaces (lowestOf (r .free) n)) taken-some (s .pool) (Deeds.Transfer (transferOf (stateOf s r ws) k t))
         ∙ ap (λ (p : Places). record { places = p; base = s .pool; deed = Deeds.Transfer (transferOf (stateOf s r ws) k t) }) (sym taken-viewed)
 
-    pub laying-settled : LayingGood (poolLength s) (layingFor s k t (lowestOf (r .free) n))
+    pub laying-settled : LayingGood (poolLength s) (layingFor s k t (limitAt (stateOf s r ws) k) (lowestOf (r .free) n))
     unfolding layingFor
     laying-settled =
         record {
           within = row-within;
           transfer =
               where-known (setPlaces (lowestOf (r .free) n)) _
-              (request-good (layingFor s k t (lowestOf (r .free) n) .transfer) (s .pool) (poolLength s) (length (setPlaces (lowestOf (r .free) n)))
+              (request-good (layingFor s k t (limitAt (stateOf s r ws) k) (lowestOf (r .free) n) .transfer) (s .pool) (poolLength s) (length (setPlaces (lowestOf (r .free) n)))
               (kept-settings .pool-ends) (buffer-ends t (judged .in-range)) (omega (arith, slot-within, kept-settings .setups-end))
-              (kept-settings .limit-least) (kept-settings .limit-most) (taken-count ∙ needed));
+              chunk-least chunk-most (taken-count ∙ en));
         }

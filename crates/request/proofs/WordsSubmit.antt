@@ -1,6 +1,7 @@
 -- The returns of submit over words: what it refuses, what it settles.
 use Prim.Native.Nat.{ℕ, _≤_}
-use mathlib.Core.Path.{_≡_, refl, sym}
+use mathlib.Core.Path.{_≡_, refl, sym, _∙_}
+use native.Mathlib.Omega.{arith}
 use mathlib.Core.Bool.{true}
 use mathlib.Core.List.{List}
 use lib.ListN.{length}
@@ -17,8 +18,11 @@ use Rattle.settings.specs.declared.settings.Settings.{Settings}
 use Rattle.words.specs.declared.core.Rest.{Rest}
 use Rattle.words.specs.Good.{Good, Tidy}
 use Rattle.words.specs.View.{stateOf}
-use Rattle.token.specs.Chunks.{needOf}
-use Rattle.words.proofs.GoodLaws.{good-settings}
+use Rattle.token.specs.Chunks.{needOf, workingLimit}
+use Rattle.pipe.specs.declared.endpoints.Pipe.{Pipe}
+use Rattle.pipe.specs.Endpoints.{limitAt, limitOf, pipeOf}
+use Rattle.pipe.proofs.LimitLaws.{limit-view, word-limit-least}
+use Rattle.words.specs.Record.{lastAt, slotIn, wordAt}
 use Rattle.request.specs.Submit.{judgeOf, needOfRequest, refusedSubmit, settledSubmit, submitOf, submitted}
 use Rattle.request.specs.Words.{refusedWords, submittedView}
 use Rattle.request.specs.declared.answers.Submitted.{Submitted as SubmittedWords}
@@ -27,13 +31,19 @@ use Rattle.request.proofs.SubmitCases.{submit-done, submit-refused}
 
 -- ---- `submit`
 
-pub limit-good : (s : Settings) (r : Rest) (ws : List ℕ) → Good s r ws → 1 ≤ s .limit
-limit-good s r ws good = good-settings s r ws good .limit-least
+module _ (s : Settings) (r : Rest) (ws : List ℕ) (k l : ℕ) (p : Pipe) (good : Good s r ws) (ep : p ≡ pipeOf (slotIn (wordAt ws k) (lastAt ws k)))
+    (el : l ≡ workingLimit (p .kind) (s .limit) (p .size)) where
+  limit-here : l ≡ limitOf s (pipeOf (slotIn (wordAt ws k) (lastAt ws k)))
+  limit-here = el ∙ rw ep
 
-pub need-viewed : (s : Settings) (r : Rest) (ws : List ℕ) (t : TransferRequest) (n : ℕ) → n ≡ needOf (t .kind) (t .length) (s .limit)
-    → n ≡ needOfRequest (stateOf s r ws) t
-unfolding stateOf
-need-viewed s r ws t n e = e
+  pub limit-good : 1 ≤ l
+  limit-good = omega (arith, limit-here, word-limit-least s r ws good k)
+
+  pub limit-viewed : l ≡ limitAt (stateOf s r ws) k
+  limit-viewed = limit-here ∙ limit-view s r ws good k
+
+  pub need-viewed : (t : TransferRequest) (n : ℕ) → n ≡ needOf (t .kind) (t .length) l → n ≡ needOfRequest (stateOf s r ws) k t
+  need-viewed t n e = e ∙ rw limit-viewed
 
 refused-viewed : (s : Settings) (r : Rest) (ws : List ℕ) (q : Refusal) (x : SubmittedWords) → x ≡ refusedWords r q
     → submittedView s x ws ≡ refusedSubmit (stateOf s r ws) q

@@ -23,7 +23,7 @@ use Rattle.state.specs.Slots.{slotAt}
 use Rattle.state.specs.State.{withOwner}
 use Rattle.state.specs.Plain.{Ehci}
 use Rattle.common.specs.Answers.{Check, Verdict, passed, refused, first, refusalNumber, settle}
-use Rattle.pipe.specs.Endpoints.{directionNumber, kindNumber, withEndpoint}
+use Rattle.pipe.specs.Endpoints.{directionNumber, kindNumber, limitAt, withEndpoint}
 use Rattle.common.specs.Kinds.{isControl, isInterrupt, isIsochronous}
 use Rattle.controller.specs.Lent.{acceptsOf, lengths}
 use Rattle.controller.specs.Readers.{freeCount, isOpen, isUncollected}
@@ -70,8 +70,9 @@ onlyWhere false b = true
 unfoldable pub rangesGood : TransferRequest → Bool
 rangesGood t = bufferGood (t .address) (t .length) && onlyWhere (isControl (t .kind)) (controlGood t)
 
-abbrev pub needOfRequest : Ehci → TransferRequest → ℕ
-needOfRequest s t = needOf (t .kind) (t .length) (s .settings .limit)
+-- by the working limit of the slot
+abbrev pub needOfRequest : Ehci → ℕ → TransferRequest → ℕ
+needOfRequest s slot t = needOf (t .kind) (t .length) (limitAt s slot)
 
 -- "Submit: slot open 3, running 8, nothing uncollected 4, isochronous 5, kind equals the slot's 3, ranges 1, room 6"
 abbrev pub submitChecks : Ehci → ℕ → TransferRequest → List Check
@@ -82,7 +83,7 @@ submitChecks s slot t =
     ∷ (isIsochronous (t .kind), NotSupported)
     ∷ (not (eqb (kindNumber (t .kind)) (slotAt s slot .kind)), InvalidEndpoint)
     ∷ (not (rangesGood t), InvalidParameter)
-    ∷ (ltb (freeCount s) (needOfRequest s t), NoMemory)
+    ∷ (ltb (freeCount s) (needOfRequest s slot t), NoMemory)
     ∷ []
 
 abbrev pub answerOf : Verdict → Answer
@@ -103,10 +104,10 @@ takenOf owner D n slot =
     }
 
 unfoldable pub takenFor : Ehci → ℕ → TransferRequest → Taken
-takenFor s slot t = takenOf (s .owner) (s .settings .descriptors) (needOfRequest s t) slot
+takenFor s slot t = takenOf (s .owner) (s .settings .descriptors) (needOfRequest s slot t) slot
 
-abbrev pub placesFor : Ehci → TransferRequest → List ℕ
-placesFor s t = placesFrom 0 (take (s .settings .descriptors) (s .owner)) 0 (needOfRequest s t)
+abbrev pub placesFor : Ehci → ℕ → TransferRequest → List ℕ
+placesFor s slot t = placesFrom 0 (take (s .settings .descriptors) (s .owner)) 0 (needOfRequest s slot t)
 
 -- where its chain begins
 abbrev pub firstIn : Ehci → Taken → ℕ
@@ -119,7 +120,7 @@ transferOf s slot t =
       direction = t .direction;
       address = t .address;
       length = t .length;
-      limit = s .settings .limit;
+      limit = limitAt s slot;
       setup = s .settings .setups + 8 * slot;
       alternate = alternateWord (t .kind) (t .direction) (sharedAddress (s .settings));
     }
@@ -138,7 +139,7 @@ idAt s slot = slotAt s slot .id
 abbrev pub linkedWith : Ehci → ℕ → TransferRequest → Endpoint
 linkedWith s slot t =
     Linked
-    (record { kind = t .kind; next = afterId (idAt s slot) })
+    (record { kind = t .kind; size = slotAt s slot .size; next = afterId (idAt s slot) })
     (record { id = idAt s slot; direction = t .direction; length = t .length; cancelled = false })
 
 unfoldable pub stateWith : Ehci → List ℕ → ℕ → TransferRequest → Ehci
@@ -196,7 +197,7 @@ pub record Settles (s : Ehci) (heads frames setups slot : ℕ) (t : TransferRequ
   pub frames-within : 0 < frames
   pub setup-within : 8 * slot + 8 ≤ setups
   pub few : s .settings .descriptors ≤ 256
-  pub limited : 1 ≤ s .settings .limit
+  pub limited : 1 ≤ limitAt s slot
   pub first-below : firstIn s (takenFor s slot t) < 2 ^ 32
   pub head-below : headAddress s slot < 2 ^ 32
   pub setup-below : s .settings .setups ≤ 2 ^ 32

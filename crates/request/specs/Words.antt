@@ -62,11 +62,11 @@ writtenView s r ws =
 unfoldable pub refusedWords : Rest → Refusal → SubmittedWords
 refusedWords rest r = record { answer = Refused r; rest = rest; writes = noWrites; laying = noLaying }
 
--- the endpoint with a request of this id
-abbrev pub requestWith : TransferRequest → ℕ → Endpoint
-requestWith t id =
+-- the endpoint of this packet size with a request of this id
+abbrev pub requestWith : TransferRequest → ℕ → ℕ → Endpoint
+requestWith t size id =
     Linked
-    (record { kind = t .kind; next = afterId id })
+    (record { kind = t .kind; size = size; next = afterId id })
     (record { id = id; direction = t .direction; length = t .length; cancelled = false })
 
 -- the address of the lowest place
@@ -76,8 +76,8 @@ firstOf s places = addressOf (s .pool) (getD (setPlaces places) 0 0)
 abbrev pub headOf : Settings → ℕ → ℕ
 headOf s slot = s .heads + 128 * (slot + 1)
 
-unfoldable pub layingFor : Settings → ℕ → TransferRequest → List ℕ → Laying
-layingFor s slot t places =
+unfoldable pub layingFor : Settings → ℕ → TransferRequest → ℕ → List ℕ → Laying
+layingFor s slot t limit places =
     record {
       places = places;
       base = s .pool;
@@ -87,20 +87,20 @@ layingFor s slot t places =
             direction = t .direction;
             address = t .address;
             length = t .length;
-            limit = s .limit;
+            limit = limit;
             setup = s .setups + 8 * slot;
             alternate = alternateWord (t .kind) (t .direction) (sharedAddress s);
           };
     }
 
 -- its places are no longer free
-unfoldable pub acceptedWords : Core → Readings → ℕ → TransferRequest → ℕ → List ℕ → SubmittedWords
-acceptedWords c readings slot t id places =
+unfoldable pub acceptedWords : Core → Readings → ℕ → TransferRequest → ℕ → ℕ → List ℕ → SubmittedWords
+acceptedWords c readings slot t limit id places =
     record {
       answer = Accepted id;
       rest = restWithFree (c .rest) (withoutOf (c .rest .free) places);
       writes = writesWith readings;
-      laying = layingFor (c .settings) slot t places;
+      laying = layingFor (c .settings) slot t limit places;
     }
 
 -- ---- writeback

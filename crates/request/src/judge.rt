@@ -73,7 +73,7 @@ pub fn ranges_good(t: TransferRequest) -> bool
 // `wanted` is what the request needs.
 pub fn judge(core: Core, slots: &[u64], slot: u8, t: TransferRequest, wanted: u64) -> Answer
     requires { ⌜ Good (core .settings) (core .rest) (now slots) ⌝ }
-    requires { ⌜ wanted ≡ needOfRequest (view core (now slots)) t ⌝ }
+    requires { ⌜ wanted ≡ needOfRequest (view core (now slots)) slot t ⌝ }
     ensures { λ r. ⌜ r ≡ judgeOf (view core (now (slots .entry))) slot t ⌝ }
 {
     let kind = t.kind;

@@ -5,12 +5,12 @@ ghost use lib.ListN.{length};
 ghost use Rattle.bitset.specs.Places.{setPlaces};
 ghost use Rattle.common.specs.declared.answer.Answer.the-variants.{Done};
 ghost use Rattle.descriptor.specs.Heads.{qhLink};
-ghost use Rattle.pipe.specs.Endpoints.{encoded};
+ghost use Rattle.pipe.specs.Endpoints.{encoded, limitAt};
 ghost use Rattle.pool.specs.Words.{LayingGood};
 ghost use Rattle.schedule.specs.Links.{links};
 ghost use Rattle.settings.specs.Settings.{poolLength, sharedAddress};
 ghost use Rattle.words.specs.Good.{Good, Tidy};
-ghost use Rattle.words.specs.Record.{SlotFits, idIn, lastAt, putPlaces, putSlot};
+ghost use Rattle.words.specs.Record.{SlotFits, idIn, lastAt, putPlaces, putSlot, sizeIn, wordAt};
 ghost use Rattle.words.specs.View.{view};
 ghost use Rattle.request.specs.Submit.{judgeOf, linkedRows, needOfRequest, settledSubmit, submitted, setupsWith};
 ghost use Rattle.request.specs.Words.{acceptedWords, firstOf, headOf, layingFor, requestWith, submittedView};
@@ -47,6 +47,7 @@ use words::core::Core;
 use words::record::id_in;
 use words::row::RECORD;
 use words::row::put_places;
+use words::row::size_at;
 
 // Run, periodic schedule, asynchronous schedule.
 pub const USBCMD_SCHEDULES: u32 = 0x31;
@@ -106,13 +107,14 @@ fn link_rows(
 // The slot has a linked request with these places.
 fn put_request(slots: &mut [u64], slot: u8, t: TransferRequest, id: u64, places: [u64; 4])
     requires { ⌜ (6 * slot + 6 ≤ length (now slots)) × (t .length < 2 ^ 32) ⌝ }
-    ensures { λ _. ⌜ now (slots .exit) ≡ putPlaces (putSlot (now (slots .entry)) slot (encoded (requestWith t id))) slot places ⌝ }
-    ensures { λ _. ⌜ SlotFits (encoded (requestWith t id)) ⌝ }
+    ensures { λ _. ⌜ now (slots .exit) ≡ putPlaces (putSlot (now (slots .entry)) slot (encoded (requestWith t (sizeIn (wordAt (now (slots .entry)) slot)) id))) slot places ⌝ }
+    ensures { λ _. ⌜ SlotFits (encoded (requestWith t (sizeIn (wordAt (now (slots .entry)) slot)) id)) ⌝ }
 {
     let kind = t.kind;
     let direction = t.direction;
     let pipe = Pipe {
         kind,
+        size: size_at(slots, slot),
         next: id_in(id),
     };
     let request = Request {
@@ -125,9 +127,9 @@ fn put_request(slots: &mut [u64], slot: u8, t: TransferRequest, id: u64, places:
     put_places(slots, slot, places);
 }
 
-fn laying_for(core: Core, slot: u8, t: TransferRequest, places: [u64; 4]) -> Laying
+fn laying_for(core: Core, slot: u8, t: TransferRequest, limit: u64, places: [u64; 4]) -> Laying
     requires { ⌜ (core .settings .setups ≤ 2 ^ 32) × (sharedAddress (core .settings) < 2 ^ 32) ⌝ }
-    ensures { λ r. ⌜ r ≡ layingFor (core .settings) slot t places ⌝ }
+    ensures { λ r. ⌜ r ≡ layingFor (core .settings) slot t limit places ⌝ }
 {
     let kind = t.kind;
     let direction = t.direction;
@@ -142,7 +144,7 @@ fn laying_for(core: Core, slot: u8, t: TransferRequest, places: [u64; 4]) -> Lay
             direction,
             address: t.address,
             length: t.length,
-            limit: core.settings.limit,
+            limit,
             setup,
             alternate,
         },
@@ -163,11 +165,12 @@ fn accepted(
     readings: Readings,
     slot: u8,
     t: TransferRequest,
+    limit: u64,
     id: u64,
     places: [u64; 4],
 ) -> Submitted
     requires { ⌜ (core .settings .setups ≤ 2 ^ 32) × (sharedAddress (core .settings) < 2 ^ 32) ⌝ }
-    ensures { λ r. ⌜ r ≡ acceptedWords core readings slot t id places ⌝ }
+    ensures { λ r. ⌜ r ≡ acceptedWords core readings slot t limit id places ⌝ }
 {
     let mut rest = core.rest;
     let free = rest.free;
@@ -178,11 +181,11 @@ fn accepted(
         answer: Submission::Accepted(id),
         rest,
         writes: Writes::none().and_then(USBCMD, word),
-        laying: laying_for(core, slot, t, places),
+        laying: laying_for(core, slot, t, limit, places),
     }
 }
 
-// An accepted submit; `wanted` is what the request needs.
+// An accepted submit; `limit` is that of the slot's chunks, `wanted` what the request needs.
 pub fn settle(
     core: Core,
     slots: &mut [u64],
@@ -192,11 +195,12 @@ pub fn settle(
     readings: Readings,
     slot: u8,
     t: TransferRequest,
+    limit: u64,
     wanted: u64,
 ) -> Submitted
     requires { ⌜ Good (core .settings) (core .rest) (now slots) ⌝ }
     requires { ⌜ (length (now heads) ≡ 17 * (core .settings .endpoints + 1)) × (length (now frames) ≡ 1024) × (length (now setups) ≡ 8 * core .settings .endpoints) ⌝ }
-    requires { ⌜ wanted ≡ needOfRequest (view core (now slots)) t ⌝ }
+    requires { ⌜ (limit ≡ limitAt (view core (now slots)) slot) × (wanted ≡ needOfRequest (view core (now slots)) slot t) ⌝ }
     requires { ⌜ judgeOf (view core (now slots)) slot t ≡ Done ⌝ }
     ensures { λ r. ⌜ submitted (submittedView (core .settings) r (now (slots .exit))) (now (heads .exit)) (now (frames .exit)) (now (setups .exit))
         ≡ settledSubmit (view core (now (slots .entry))) (now (heads .entry)) (now (frames .entry)) (now (setups .entry)) readings slot t ⌝ }
@@ -209,5 +213,5 @@ pub fn settle(
     put_setup(setups, slot, t);
     let id = id_at(slots, slot);
     put_request(slots, slot, t, id, places);
-    accepted(core, readings, slot, t, id, places)
+    accepted(core, readings, slot, t, limit, id, places)
 }

@@ -18,6 +18,8 @@ use crate::settle::settle;
 use common::answer::Answer;
 use common::answer::Refusal;
 use controller::lent::Readings;
+use pipe::slots::limit_of;
+use pipe::slots::pipe_at;
 use pool::laying::no_laying;
 use register::writes::Writes;
 use token::chunks::need;
@@ -54,7 +56,8 @@ pub fn submit(
     ensures { λ r. ⌜ LayingGood (poolLength (core .settings)) (r .laying) ⌝ }
 {
     let kind = request.kind;
-    let wanted = need(kind, request.length, core.settings.limit);
+    let limit = limit_of(core.settings.limit, pipe_at(slots, slot));
+    let wanted = need(kind, request.length, limit);
     match judge(core, slots, slot, request, wanted) {
         Answer::Refused(refusal) => refuse(core.rest, refusal),
         Answer::Done => settle(
@@ -66,6 +69,7 @@ pub fn submit(
             readings,
             slot,
             request,
+            limit,
             wanted,
         ),
     }

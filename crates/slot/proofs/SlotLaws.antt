@@ -8,7 +8,7 @@ use native.Mathlib.Omega.{arith}
 use borrow.Author.Tests.{eq-eqb, eqb-false, eqb-true, le-leb, le-ltb, leb-true, lt-ltb, ltb-true, ltb-false, ne-eqb}
 use lib.Dec.{eqb, leb, ltb}
 use Rattle.slot.specs.declared.slot.Slot.{Slot}
-use Rattle.slot.specs.Ranges.{boundaryGood, closedGood, idleGood, linkedGood, noRequest, openKind, phaseGood, slotGood, unlinkingGood}
+use Rattle.slot.specs.Ranges.{boundaryGood, closedGood, idleGood, linkedGood, noRequest, openKind, phaseGood, sizeGood, sizeKept, slotGood, unlinkingGood}
 use Rattle.common.specs.Tests.{within}
 use Rattle.slot.proofs.SlotCases.{phase-closed, phase-idle, phase-linked, phase-unknown, phase-unlinking}
 use Rattle.common.proofs.TestLaws.{within-least, within-most, both-tells, within-makes}
@@ -38,9 +38,17 @@ pub data Phase (e : Slot) (unanswered : ℕ) : Type 0 where
   unlinking : e .phase ≡ 3 → OpenKind (e .kind) → 1 ≤ e .request → e .direction ≤ 1 → e .cancel ≤ 1
       → Bounded (e .kind) (e .boundary) unanswered → Phase e unanswered
 
-pub record SlotGood (E k unanswered : ℕ) (e : Slot) : Type 0 where
+-- a packet size: of bulk and interrupt at most the limit
+pub record SizeGood (limit kind size : ℕ) : Type 0 where
+  pub size-least : 1 ≤ size
+  pub size-most : size ≤ 1024
+  pub size-fits : kind ≢ 0 → size ≤ limit
+
+pub record SlotGood (E limit k unanswered : ℕ) (e : Slot) : Type 0 where
   pub id-least : 1 ≤ e .id
   pub closed-from : E ≤ k → e .phase ≡ 0
+  pub size-none : e .phase ≡ 0 → e .size ≡ 0
+  pub size-open : e .phase ≢ 0 → SizeGood limit (e .kind) (e .size)
   pub by-phase : Phase e unanswered
 
 -- ---- what the tests tell
@@ -181,24 +189,64 @@ module _ (e : Slot) (unanswered : ℕ) where
         boundary-makes (e .kind) (e .boundary) unanswered b,
       )
 
-module _ (E k unanswered : ℕ) (e : Slot) where
-  pub slot-tells : slotGood E k unanswered e ≡ true → SlotGood E k unanswered e
+module _ (limit kind size : ℕ) where
+  pub size-tells : sizeGood limit kind size ≡ true → SizeGood limit kind size
+  unfolding sizeGood
+  size-tells t =
+      let w = both-tells (within size 1 1024) (eqb kind 0 || leb size limit) t in
+      record {
+        size-least = within-least size 1 1024 (w .0);
+        size-most = within-most size 1 1024 (w .0);
+        size-fits = λ ne. leb-true size limit (either-tells (eqb kind 0) (leb size limit) (w .1) (ne-eqb kind 0 ne));
+      }
+
+  pub size-makes : SizeGood limit kind size → sizeGood limit kind size ≡ true
+  unfolding sizeGood
+  size-makes g =
+      rw (
+        within-makes size 1 1024 (g .size-least) (g .size-most),
+        either-makes (eqb kind 0) (leb size limit) (λ f. le-leb size limit (g .size-fits (eqb-false kind 0 f))),
+      )
+
+module _ (limit : ℕ) (e : Slot) where
+  kept-none : sizeKept limit e ≡ true → e .phase ≡ 0 → e .size ≡ 0
+  unfolding sizeKept
+  kept-none t p = eqb-true (e .size) 0 (rw (eq-eqb (e .phase) 0 p) at t)
+
+  kept-open : sizeKept limit e ≡ true → e .phase ≢ 0 → SizeGood limit (e .kind) (e .size)
+  unfolding sizeKept
+  kept-open t n = size-tells limit (e .kind) (e .size) (rw (ne-eqb (e .phase) 0 n) at t)
+
+  kept-makes : (e .phase ≡ 0 → e .size ≡ 0) → (e .phase ≢ 0 → SizeGood limit (e .kind) (e .size)) → sizeKept limit e ≡ true
+  unfolding sizeKept
+  kept-makes none sized = by (decEq (e .phase) 0)
+    where
+      by : Dec (e .phase ≡ 0) → sizeKept limit e ≡ true
+      by (yes p) = rw (eq-eqb (e .phase) 0 p) (eq-eqb (e .size) 0 (none p))
+      by (no n) = rw (ne-eqb (e .phase) 0 n) (size-makes limit (e .kind) (e .size) (sized n))
+
+module _ (E limit k unanswered : ℕ) (e : Slot) where
+  pub slot-tells : slotGood E limit k unanswered e ≡ true → SlotGood E limit k unanswered e
   unfolding slotGood
   slot-tells t =
       let i = both-tells (leb 1 (e .id)) _ t in
       let o = both-tells (ltb k E || eqb (e .phase) 0) _ (i .1) in
-      let p = both-tells (phaseGood e unanswered) true (o .1) in
+      let z = both-tells (sizeKept limit e) _ (o .1) in
+      let p = both-tells (phaseGood e unanswered) true (z .1) in
       record {
         id-least = leb-true 1 (e .id) (i .0);
         closed-from = λ h. eqb-true (e .phase) 0 (either-tells (ltb k E) (eqb (e .phase) 0) (o .0) (le-ltb k E h));
+        size-none = kept-none limit e (z .0);
+        size-open = kept-open limit e (z .0);
         by-phase = phase-tells e unanswered (p .0);
       }
 
-  pub slot-makes : SlotGood E k unanswered e → slotGood E k unanswered e ≡ true
+  pub slot-makes : SlotGood E limit k unanswered e → slotGood E limit k unanswered e ≡ true
   unfolding slotGood
   slot-makes g =
       rw (
         phase-makes e unanswered (g .by-phase),
+        kept-makes limit e (g .size-none) (g .size-open),
         le-leb 1 (e .id) (g .id-least),
         either-makes (ltb k E) (eqb (e .phase) 0) (λ f. eq-eqb (e .phase) 0 (g .closed-from (ltb-false k E f))),
       )

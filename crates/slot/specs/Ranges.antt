@@ -51,6 +51,15 @@ phaseGood e unanswered =
     (cond (eqb (e .phase) 2) (linkedGood e)
     (cond (eqb (e .phase) 3) (unlinkingGood e unanswered) false)))
 
+-- "packet size 1..=1024"; of a bulk or interrupt endpoint it is at most C, so that one packet at least fits a chunk
+unfoldable pub sizeGood : ℕ → ℕ → ℕ → Bool
+sizeGood limit kind size = within size 1 1024 && (eqb kind 0 || leb size limit)
+
+-- a closed slot has none
+unfoldable pub sizeKept : ℕ → Slot → Bool
+sizeKept limit e = cond (eqb (e .phase) 0) (eqb (e .size) 0) (sizeGood limit (e .kind) (e .size))
+
 -- ids are at least 1; slots from E on are closed
-unfoldable pub slotGood : ℕ → ℕ → ℕ → Slot → Bool
-slotGood E k unanswered e = every (leb 1 (e .id) ∷ (ltb k E || eqb (e .phase) 0) ∷ phaseGood e unanswered ∷ [])
+unfoldable pub slotGood : ℕ → ℕ → ℕ → ℕ → Slot → Bool
+slotGood E limit k unanswered e =
+    every (leb 1 (e .id) ∷ (ltb k E || eqb (e .phase) 0) ∷ sizeKept limit e ∷ phaseGood e unanswered ∷ [])

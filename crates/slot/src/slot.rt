@@ -2,6 +2,8 @@
 pub struct Slot {
     pub phase: u8,
     pub kind: u8,
+    // The endpoint's packet size, 0 where it is closed.
+    pub size: u16,
     pub id: u64,
     pub request: u64,
     pub direction: u8,

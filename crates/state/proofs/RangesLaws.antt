@@ -22,7 +22,7 @@ use Rattle.settings.proofs.SettingsLaws.{Good, good-tells, good-makes}
 
 -- slot k of a state is as it must be
 abbrev pub slotRight : Ehci → ℕ → Bool
-slotRight s k = slotGood (s .settings .endpoints) k (s .unanswered) (slotAt s k)
+slotRight s k = slotGood (s .settings .endpoints) (s .settings .limit) k (s .unanswered) (slotAt s k)
 
 pub record Ranges (s : Ehci) : Type 0 where
   pub good : Good (s .settings)

@@ -24,6 +24,8 @@ pub record Ehci : Type 0 where
   pub owner : List ℕ
   pub phases : List ℕ
   pub kinds : List ℕ
+  -- the packet sizes, 0 where a slot is closed
+  pub sizes : List ℕ
   -- the id that the slot's next request gets
   pub ids : List ℕ
   -- of the slot's request, 0 where it has none

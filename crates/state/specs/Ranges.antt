@@ -19,7 +19,7 @@ only w mask = eqb (withoutBits w mask) 0
 -- n slots, from slot k on
 unfoldable pub slotsGood : ℕ → ℕ → Ehci → Bool
 slotsGood k zero s = true
-slotsGood k (suc n) s = slotGood (s .settings .endpoints) k (s .unanswered) (slotAt s k) && slotsGood (suc k) n s
+slotsGood k (suc n) s = slotGood (s .settings .endpoints) (s .settings .limit) k (s .unanswered) (slotAt s k) && slotsGood (suc k) n s
 
 unfoldable pub largest : List ℕ → ℕ
 largest [] = 0

@@ -9,6 +9,7 @@ slotAt s k =
     record {
       phase = getD (s .phases) k 0;
       kind = getD (s .kinds) k 0;
+      size = getD (s .sizes) k 0;
       id = getD (s .ids) k 0;
       request = getD (s .requests) k 0;
       direction = getD (s .directions) k 0;
@@ -34,6 +35,7 @@ withSlot s k e =
       owner = s .owner;
       phases = set (s .phases) k (e .phase);
       kinds = set (s .kinds) k (e .kind);
+      sizes = set (s .sizes) k (e .size);
       ids = set (s .ids) k (e .id);
       requests = set (s .requests) k (e .request);
       directions = set (s .directions) k (e .direction);

@@ -1,9 +1,17 @@
 -- Document 01, "Tokens and plans": the chunks of a bulk or interrupt request, and how many descriptors a request needs.
-use Prim.Native.Nat.{ℕ, zero, suc, _+_, _-_, _*_, _/_, min}
+use Prim.Native.Nat.{ℕ, zero, suc, _+_, _-_, _*_, _/_, _%_, min}
 use mathlib.Core.Bool.{Bool, true, false}
 use lib.Dec.{eqb}
 use Rattle.common.specs.declared.kinds.EndpointType.{EndpointType}
 use Rattle.common.specs.declared.kinds.EndpointType.the-variants.{Control, Isochronous, Bulk, Interrupt}
+
+-- "For bulk and interrupt the working limit is the largest multiple of the slot's packet size .. that is not above C": a chunk of it ends with a
+-- full packet (USB 5.8.3). A control request has no chunks
+abbrev pub workingLimit : EndpointType → ℕ → ℕ → ℕ
+workingLimit Control limit size = limit
+workingLimit Isochronous limit size = limit - limit % size
+workingLimit Bulk limit size = limit - limit % size
+workingLimit Interrupt limit size = limit - limit % size
 
 -- max(0, min(limit, length − k · limit)), k from 0: a subtraction of naturals stops at 0
 abbrev pub chunkAt : ℕ → ℕ → ℕ → ℕ

@@ -1,9 +1,31 @@
 // The chunks of a bulk or interrupt request, and the number of descriptors that a request needs.
 ghost use mathlib.Core.Path.{_≡_};
-ghost use Prim.Native.Nat.{_≤_};
-ghost use Rattle.token.specs.Chunks.{chunkAt, chunkCount, needOf};
+ghost use Prim.Native.Nat.{_-_, _%_, _≤_};
+ghost use Rattle.token.specs.Chunks.{chunkAt, chunkCount, needOf, workingLimit};
 use crate::qtd::least;
 use common::kinds::EndpointType;
+
+// As many bytes as whole packets of this size have; none at size 0.
+fn whole_packets(limit: u64, size: u64) -> u64
+    ensures { λ r. ⌜ r ≡ limit - limit % size ⌝ }
+{
+    if size == 0 {
+        return 0;
+    }
+    limit - limit % size
+}
+
+// The limit of an endpoint's chunks: no packet but a request's last is short. A control request has no chunks.
+pub fn working_limit(kind: EndpointType, limit: u64, size: u64) -> u64
+    ensures { λ r. ⌜ r ≡ workingLimit kind limit size ⌝ }
+{
+    match kind {
+        EndpointType::Control => limit,
+        EndpointType::Isochronous => whole_packets(limit, size),
+        EndpointType::Bulk => whole_packets(limit, size),
+        EndpointType::Interrupt => whole_packets(limit, size),
+    }
+}
 
 pub fn chunk_count(length: u64, limit: u64) -> u64
     requires { ⌜ 1 ≤ limit ⌝ }

@@ -41,13 +41,15 @@ abbrev pub Row : List ℕ → Type 0
 Row ws = (i : ℕ) → getD ws i 0 < 2 ^ 64
 
 -- a slot beyond the row is closed
-closed-slot : (E k u : ℕ) → slotGood E k u (slotIn 0 0) ≡ true
+closed-slot : (E limit k u : ℕ) → slotGood E limit k u (slotIn 0 0) ≡ true
 unfolding slotIn afterId
-closed-slot E k u =
-    slot-makes E k u (slotIn 0 0)
+closed-slot E limit k u =
+    slot-makes E limit k u (slotIn 0 0)
     (record {
       id-least = omega arith;
       closed-from = λ h. refl;
+      size-none = λ p. refl;
+      size-open = λ n. absurd (n refl);
       by-phase =
           Phase.closed refl refl refl
           (record { request-none = refl; direction-none = refl; length-none = refl; cancel-none = refl; boundary-none = refl });
@@ -56,7 +58,7 @@ closed-slot E k u =
 module _ (s : Settings) (r : Rest) (ws : List ℕ) where
   -- the slots are gone over, from the free places on
   abbrev Passed : Type 0
-  Passed = Pass ws (r .unanswered) (s .descriptors) 0 (s .endpoints) (freeMet (r .free))
+  Passed = Pass ws (s .limit) (r .unanswered) (s .descriptors) 0 (s .endpoints) (freeMet (r .free))
 
   -- ---- what the judge tells
 
@@ -67,7 +69,7 @@ module _ (s : Settings) (r : Rest) (ws : List ℕ) where
       let l = both-tells (eqb (length ws) (6 * s .endpoints)) _ (c .1) in (
         c .0,
         eqb-true (length ws) (6 * s .endpoints) (l .0),
-        pass-tells ws (r .unanswered) (s .descriptors) (s .endpoints) 0 (freeMet (r .free)) (l .1),
+        pass-tells ws (s .limit) (r .unanswered) (s .descriptors) (s .endpoints) 0 (freeMet (r .free)) (l .1),
       )
 
   module _ (fits : length ws ≡ 6 * s .endpoints) (p : Passed) where
@@ -85,24 +87,24 @@ module _ (s : Settings) (r : Rest) (ws : List ℕ) where
     tidy-from : Tidy s r ws
     tidy-from = record { row-length = fits; held = held-at; shared-out = λ j i h h′. shared j i (four j h) }
 
-    slot-at : (k : ℕ) → slotGood (s .endpoints) k (r .unanswered) (slotIn (wordAt ws k) (lastAt ws k)) ≡ true
+    slot-at : (k : ℕ) → slotGood (s .endpoints) (s .limit) k (r .unanswered) (slotIn (wordAt ws k) (lastAt ws k)) ≡ true
     slot-at k = by (ltb k (s .endpoints)) refl
       where
-        by : (t : Bool) → ltb k (s .endpoints) ≡ t → slotGood (s .endpoints) k (r .unanswered) (slotIn (wordAt ws k) (lastAt ws k)) ≡ true
+        by : (t : Bool) → ltb k (s .endpoints) ≡ t → slotGood (s .endpoints) (s .limit) k (r .unanswered) (slotIn (wordAt ws k) (lastAt ws k)) ≡ true
         by true q =
             let h : k < s .endpoints = ltb-true k (s .endpoints) q in
             let c = p .each k (omega arith) (omega arith) in
-            slot-judged (r .unanswered) (wordAt ws k) (lastAt ws k) (s .endpoints) k (partAt ws k 0) (partAt ws k 1) (partAt ws k 2) (partAt ws k 3) h (c .bounded) (c .holds)
+            slot-judged (s .limit) (r .unanswered) (wordAt ws k) (lastAt ws k) (s .endpoints) k (partAt ws k 0) (partAt ws k 1) (partAt ws k 2) (partAt ws k 3) h (c .bounded) (c .holds)
         by false q =
             let h : s .endpoints ≤ k = ltb-false k (s .endpoints) q in
-            rw (word-beyond ws k (omega arith), last-beyond ws k (omega arith)) (closed-slot (s .endpoints) k (r .unanswered))
+            rw (word-beyond ws k (omega arith), last-beyond ws k (omega arith)) (closed-slot (s .endpoints) (s .limit) k (r .unanswered))
 
     right-at : (k : ℕ) → k < 32 → slotRight (stateOf s r ws) k ≡ true
     unfolding stateOf
     right-at k h = seen
       where
-        seen : slotGood (s .endpoints) k (r .unanswered) (slotAt (stateOf s r ws) k) ≡ true
-        seen = ap (slotGood (s .endpoints) k (r .unanswered)) (view-slot s r ws k h) ∙ slot-at k
+        seen : slotGood (s .endpoints) (s .limit) k (r .unanswered) (slotAt (stateOf s r ws) k) ≡ true
+        seen = ap (slotGood (s .endpoints) (s .limit) k (r .unanswered)) (view-slot s r ws k h) ∙ slot-at k
 
     slots-from : slotsGood 0 32 (stateOf s r ws) ≡ true
     slots-from = slots-make (stateOf s r ws) 0 32 (λ k h h′. right-at k (omega arith))
@@ -131,23 +133,23 @@ module _ (s : Settings) (r : Rest) (ws : List ℕ) where
     unfolding stateOf
     few = ranges-tell (stateOf s r ws) (good .ranges) .good .endpoints-most
 
-    right-slot : (k : ℕ) → slotRight (stateOf s r ws) k ≡ true → slotGood (s .endpoints) k (r .unanswered) (slotAt (stateOf s r ws) k) ≡ true
+    right-slot : (k : ℕ) → slotRight (stateOf s r ws) k ≡ true → slotGood (s .endpoints) (s .limit) k (r .unanswered) (slotAt (stateOf s r ws) k) ≡ true
     unfolding stateOf
     right-slot k e = e
 
-    good-slot : (k : ℕ) → k < 32 → slotGood (s .endpoints) k (r .unanswered) (slotIn (wordAt ws k) (lastAt ws k)) ≡ true
+    good-slot : (k : ℕ) → k < 32 → slotGood (s .endpoints) (s .limit) k (r .unanswered) (slotIn (wordAt ws k) (lastAt ws k)) ≡ true
     good-slot k h =
-        ap (slotGood (s .endpoints) k (r .unanswered)) (sym (view-slot s r ws k h))
+        ap (slotGood (s .endpoints) (s .limit) k (r .unanswered)) (sym (view-slot s r ws k h))
         ∙ right-slot k (slots-tell (stateOf s r ws) 0 32 (ranges-slots s r ws (good .ranges)) k (omega arith) (omega arith))
 
-    right : (k : ℕ) → k < s .endpoints → Right ws (r .unanswered) k
+    right : (k : ℕ) → k < s .endpoints → Right ws (s .limit) (r .unanswered) k
     right k h =
         let g = good-slot k (omega (arith, few)) in
         let t = good .tidy .held k h in
         record {
-          bounded = slot-word (r .unanswered) (wordAt ws k) (lastAt ws k) (s .endpoints) k (partAt ws k 0) (partAt ws k 1) (partAt ws k 2) (partAt ws k 3) g;
+          bounded = slot-word (s .limit) (r .unanswered) (wordAt ws k) (lastAt ws k) (s .endpoints) k (partAt ws k 0) (partAt ws k 1) (partAt ws k 2) (partAt ws k 3) g;
           holds =
-              slot-held (r .unanswered) (wordAt ws k) (lastAt ws k) (s .endpoints) k (partAt ws k 0) (partAt ws k 1) (partAt ws k 2) (partAt ws k 3) g
+              slot-held (s .limit) (r .unanswered) (wordAt ws k) (lastAt ws k) (s .endpoints) k (partAt ws k 0) (partAt ws k 1) (partAt ws k 2) (partAt ws k 3) g
               (row (6 * k + 1)) (t .closed) (t .idle) (t .empty);
         }
 
@@ -171,4 +173,4 @@ module _ (s : Settings) (r : Rest) (ws : List ℕ) where
           ranges-core s r ws (good .ranges),
           eq-eqb (length ws) (6 * s .endpoints) (good .tidy .row-length),
         )
-        (pass-makes ws (r .unanswered) (s .descriptors) (s .endpoints) 0 (freeMet (r .free)) passed)
+        (pass-makes ws (s .limit) (r .unanswered) (s .descriptors) (s .endpoints) 0 (freeMet (r .free)) passed)

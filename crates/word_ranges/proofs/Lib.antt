@@ -2,6 +2,7 @@ pub mod ScalarCases
 pub mod SeenCases
 pub mod JudgeCases
 pub mod WordLaws
+pub mod SizeLaws
 pub mod HeldLaws
 pub mod SlotJudge
 pub mod SeenLaws

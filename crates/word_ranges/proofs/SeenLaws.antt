@@ -71,34 +71,34 @@ module _ (s : Seen) (bounded : Bool) (w last : ℕ) where
 
 -- ---- the pass
 
-pub record Right (ws : List ℕ) (u k : ℕ) : Type 0 where
-  pub bounded : wordGood u (wordAt ws k) ≡ true
+pub record Right (ws : List ℕ) (limit u k : ℕ) : Type 0 where
+  pub bounded : wordGood limit u (wordAt ws k) ≡ true
   pub holds : heldGood (phaseIn (wordAt ws k)) (lastAt ws k) (placesAt ws k) ≡ true
 
-pub record Pass (ws : List ℕ) (u D k n : ℕ) (s : Seen) : Type 0 where
+pub record Pass (ws : List ℕ) (limit u D k n : ℕ) (s : Seen) : Type 0 where
   pub good : s .good ≡ true
   pub none-twice : s .twice ≡ 0
-  pub each : (i : ℕ) → k ≤ i → i < k + n → Right ws u i
+  pub each : (i : ℕ) → k ≤ i → i < k + n → Right ws limit u i
   pub first : Column (s .a) (column ws 0 k n) (getD (allBelow D) 0 0)
   pub second : Column (s .b) (column ws 1 k n) (getD (allBelow D) 1 0)
   pub third : Column (s .c) (column ws 2 k n) (getD (allBelow D) 2 0)
   pub fourth : Column (s .d) (column ws 3 k n) (getD (allBelow D) 3 0)
 
-module _ (ws : List ℕ) (u D : ℕ) where
+module _ (ws : List ℕ) (limit u D : ℕ) where
   abbrev seeAt : ℕ → Seen → Seen
-  seeAt k s = seeOf s (wordGood u (wordAt ws k)) (wordAt ws k) (lastAt ws k) (placesAt ws k)
+  seeAt k s = seeOf s (wordGood limit u (wordAt ws k)) (wordAt ws k) (lastAt ws k) (placesAt ws k)
 
   abbrev rightAt : ℕ → Bool
-  rightAt k = wordGood u (wordAt ws k) && heldGood (phaseIn (wordAt ws k)) (lastAt ws k) (placesAt ws k)
+  rightAt k = wordGood limit u (wordAt ws k) && heldGood (phaseIn (wordAt ws k)) (lastAt ws k) (placesAt ws k)
 
   same-at : (k : ℕ) (s : Seen) → heldGood (phaseIn (wordAt ws k)) (lastAt ws k) (placesAt ws k) ≡ true
       → seeAt k s ≡ meetPlaces s (rightAt k) (placesAt ws k)
   same-at k s h =
-      see-same s (wordGood u (wordAt ws k)) (wordAt ws k) (lastAt ws k) (partAt ws k 0) (partAt ws k 1) (partAt ws k 2) (partAt ws k 3) h
+      see-same s (wordGood limit u (wordAt ws k)) (wordAt ws k) (lastAt ws k) (partAt ws k 0) (partAt ws k 1) (partAt ws k 2) (partAt ws k 3) h
 
   -- ---- at the end
 
-  end-tells : (k : ℕ) (s : Seen) → allMet s D ≡ true → Pass ws u D k 0 s
+  end-tells : (k : ℕ) (s : Seen) → allMet s D ≡ true → Pass ws limit u D k 0 s
   unfolding allMet column metIn twiceIn
   end-tells k s e =
       let g = both-tells (s .good) _ e in
@@ -117,7 +117,7 @@ module _ (ws : List ℕ) (u D : ℕ) where
         fourth = record { none-twice = refl; all-met = eqb-true (s .d) (getD (allBelow D) 3 0) (d .0) };
       }
 
-  end-makes : (k : ℕ) (s : Seen) → Pass ws u D k 0 s → allMet s D ≡ true
+  end-makes : (k : ℕ) (s : Seen) → Pass ws limit u D k 0 s → allMet s D ≡ true
   unfolding allMet column metIn
   end-makes k s p =
       rw (
@@ -141,22 +141,22 @@ module _ (ws : List ℕ) (u D : ℕ) where
   abbrev twice-3 : Seen → ℕ → ℕ
   twice-3 s k = bitOr (twice-2 s k) (bitAnd (s .c) (partAt ws k 2))
 
-  more : (k n : ℕ) (s : Seen) → Pass ws u D (suc k) n (seeAt k s) → Pass ws u D k (suc n) s
+  more : (k n : ℕ) (s : Seen) → Pass ws limit u D (suc k) n (seeAt k s) → Pass ws limit u D k (suc n) s
   unfolding column
   more k n s p =
-      let g = both-tells (s .good) (rightAt k) (sym (see-good s (wordGood u (wordAt ws k)) (wordAt ws k) (lastAt ws k) (placesAt ws k)) ∙ p .good) in
-      let r = both-tells (wordGood u (wordAt ws k)) (heldGood (phaseIn (wordAt ws k)) (lastAt ws k) (placesAt ws k)) (g .1) in
+      let g = both-tells (s .good) (rightAt k) (sym (see-good s (wordGood limit u (wordAt ws k)) (wordAt ws k) (lastAt ws k) (placesAt ws k)) ∙ p .good) in
+      let r = both-tells (wordGood limit u (wordAt ws k)) (heldGood (phaseIn (wordAt ws k)) (lastAt ws k) (placesAt ws k)) (g .1) in
       from (g .0) (record { bounded = r .0; holds = r .1 })
-      (subst (λ (t : Seen). Pass ws u D (suc k) n t) (same-at k s (r .1)) p)
+      (subst (λ (t : Seen). Pass ws limit u D (suc k) n t) (same-at k s (r .1)) p)
     where
-      here : Right ws u k → ((i : ℕ) → suc k ≤ i → i < suc k + n → Right ws u i) → (i : ℕ) → k ≤ i → i < k + suc n → Right ws u i
+      here : Right ws limit u k → ((i : ℕ) → suc k ≤ i → i < suc k + n → Right ws limit u i) → (i : ℕ) → k ≤ i → i < k + suc n → Right ws limit u i
       here r later i h h′ = by (decEq k i)
         where
-          by : Dec (k ≡ i) → Right ws u i
-          by (yes q) = subst (Right ws u) q r
+          by : Dec (k ≡ i) → Right ws limit u i
+          by (yes q) = subst (Right ws limit u) q r
           by (no ne) = later i (omega arith) (omega arith)
 
-      from : s .good ≡ true → Right ws u k → Pass ws u D (suc k) n (meetPlaces s (rightAt k) (placesAt ws k)) → Pass ws u D k (suc n) s
+      from : s .good ≡ true → Right ws limit u k → Pass ws limit u D (suc k) n (meetPlaces s (rightAt k) (placesAt ws k)) → Pass ws limit u D k (suc n) s
       from g r q =
           let a = or-first (twice-1 s k) (bitAnd (s .b) (partAt ws k 1)) (or-first (twice-2 s k) (bitAnd (s .c) (partAt ws k 2)) (or-first (twice-3 s k) (bitAnd (s .d) (partAt ws k 3)) (q .none-twice))) in
           let b = or-first (twice-2 s k) (bitAnd (s .c) (partAt ws k 2)) (or-first (twice-3 s k) (bitAnd (s .d) (partAt ws k 3)) (q .none-twice)) in
@@ -171,11 +171,11 @@ module _ (ws : List ℕ) (u D : ℕ) where
             fourth = column-more (s .d) (partAt ws k 3) (column ws 3 (suc k) n) _ (or-second (twice-3 s k) (bitAnd (s .d) (partAt ws k 3)) (q .none-twice)) (q .fourth);
           }
 
-  less : (k n : ℕ) (s : Seen) → Pass ws u D k (suc n) s → Pass ws u D (suc k) n (seeAt k s)
+  less : (k n : ℕ) (s : Seen) → Pass ws limit u D k (suc n) s → Pass ws limit u D (suc k) n (seeAt k s)
   unfolding column
-  less k n s p = subst (λ (t : Seen). Pass ws u D (suc k) n t) (sym (same-at k s (r .holds))) met
+  less k n s p = subst (λ (t : Seen). Pass ws limit u D (suc k) n t) (sym (same-at k s (r .holds))) met
     where
-      r : Right ws u k
+      r : Right ws limit u k
       r = p .each k (omega arith) (omega arith)
 
       a : bitAnd (s .a) (partAt ws k 0) ≡ 0
@@ -190,7 +190,7 @@ module _ (ws : List ℕ) (u D : ℕ) where
       d : bitAnd (s .d) (partAt ws k 3) ≡ 0
       d = column-head (s .d) (partAt ws k 3) (column ws 3 (suc k) n) _ (p .fourth)
 
-      met : Pass ws u D (suc k) n (meetPlaces s (rightAt k) (placesAt ws k))
+      met : Pass ws limit u D (suc k) n (meetPlaces s (rightAt k) (placesAt ws k))
       met =
           record {
             good = both-makes (s .good) (rightAt k) (p .good) (both-makes _ _ (r .bounded) (r .holds));
@@ -207,12 +207,12 @@ module _ (ws : List ℕ) (u D : ℕ) where
             fourth = column-tail (s .d) (partAt ws k 3) (column ws 3 (suc k) n) _ (p .fourth);
           }
 
-  pub pass-tells : (n k : ℕ) (s : Seen) → allMet (seenFrom ws u k n s) D ≡ true → Pass ws u D k n s
+  pub pass-tells : (n k : ℕ) (s : Seen) → allMet (seenFrom ws limit u k n s) D ≡ true → Pass ws limit u D k n s
   unfolding seenFrom
   pass-tells zero k s e = end-tells k s e
   pass-tells (suc n) k s e = more k n s (pass-tells n (suc k) (seeAt k s) e)
 
-  pub pass-makes : (n k : ℕ) (s : Seen) → Pass ws u D k n s → allMet (seenFrom ws u k n s) D ≡ true
+  pub pass-makes : (n k : ℕ) (s : Seen) → Pass ws limit u D k n s → allMet (seenFrom ws limit u k n s) D ≡ true
   unfolding seenFrom
   pass-makes zero k s p = end-makes k s p
   pass-makes (suc n) k s p = pass-makes n (suc k) (seeAt k s) (less k n s p)

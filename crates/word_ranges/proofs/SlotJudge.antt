@@ -1,5 +1,5 @@
--- A slot's word below its bound and what it keeps as it must: exactly then the slot that the words stand for is good.
-use Prim.Native.Nat.{ℕ, _-_, _^_, _≤_, _<_}
+-- A slot's word in its range and what it keeps as it must: exactly then the slot that the words stand for is good.
+use Prim.Native.Nat.{ℕ, _-_, _/_, _^_, _≤_, _<_}
 use mathlib.Core.Path.{_≡_}
 use mathlib.Core.Logic.{_≢_}
 use mathlib.Core.Bool.{true}
@@ -11,11 +11,11 @@ use Rattle.slot.specs.Ids.{afterId}
 use Rattle.slot.specs.Ranges.{slotGood}
 use Rattle.slot.proofs.SlotLaws.{NoRequest, OpenKind, Phase, slot-makes, slot-tells}
 use Rattle.words.specs.Good.{noPlaces}
-use Rattle.words.specs.Record.{kindIn, phaseIn, slotIn}
+use Rattle.words.specs.Record.{kindIn, phaseIn, sizeIn, slotIn}
 use Rattle.word_ranges.specs.Bounds.{wordGood}
 use Rattle.word_ranges.specs.Seen.{heldGood}
 use Rattle.word_ranges.proofs.HeldLaws.{Kept, held-makes, held-tells}
-use Rattle.word_ranges.proofs.WordLaws.{Word, word-makes, word-tells}
+use Rattle.word_ranges.proofs.WordLaws.{Word, word-makes, word-sized, word-tells}
 
 after-least : (last : ℕ) → 1 ≤ afterId last
 unfolding afterId
@@ -25,10 +25,10 @@ after-least last = by (decEq last (2 ^ 64 - 1))
     by (yes q) = rw (eq-eqb last (2 ^ 64 - 1) q) (omega arith)
     by (no n) = rw (ne-eqb last (2 ^ 64 - 1) n) (omega arith)
 
-module _ (u w last : ℕ) where
+module _ (limit u w last : ℕ) where
   -- ---- from the words to the slot
 
-  none : phaseIn w < 2 → w < 16 → NoRequest (slotIn w last)
+  none : phaseIn w < 2 → w < 2 ^ 15 → NoRequest (slotIn w last)
   unfolding slotIn
   none p h =
       record {
@@ -62,35 +62,55 @@ module _ (u w last : ℕ) where
       Phase.unlinking e (kind (λ z. omega arith)) (request (omega arith) (k .own (omega arith))) (omega arith) (omega arith)
       (record { frame = λ z. omega arith; advances = λ n. absurd (n q) })
 
+  -- a closed slot's word is 0
+  size-0 : Word u w → phaseIn w ≡ 0 → sizeIn w ≡ 0
+  size-0 (Word.closed-word z) p = omega arith
+  size-0 (Word.idle-word e n h) p = absurd (omega arith)
+  size-0 (Word.linked-word e n h) p = absurd (omega arith)
+  size-0 (Word.advances-word e n m h) p = absurd (omega arith)
+  size-0 (Word.frame-word e q h) p = absurd (omega arith)
+
   least : 1 ≤ slotIn w last .id
   unfolding slotIn
   least = after-least last
 
-  pub slot-judged : (E k a b c d : ℕ) → k < E → wordGood u w ≡ true → heldGood (phaseIn w) last (a ∷ b ∷ c ∷ d ∷ []) ≡ true
-      → slotGood E k u (slotIn w last) ≡ true
+  pub slot-judged : (E k a b c d : ℕ) → k < E → wordGood limit u w ≡ true → heldGood (phaseIn w) last (a ∷ b ∷ c ∷ d ∷ []) ≡ true
+      → slotGood E limit k u (slotIn w last) ≡ true
+  unfolding slotIn
   slot-judged E k a b c d h good held =
-      slot-makes E k u (slotIn w last)
+      slot-makes E limit k u (slotIn w last)
       (record {
         id-least = least;
         closed-from = λ far. absurd (omega arith);
-        by-phase = phase (a ∷ b ∷ c ∷ d ∷ []) (held-tells (phaseIn w) last a b c d held) (word-tells u w good);
+        size-none = size-0 (word-tells limit u w good);
+        size-open = word-sized limit u w good;
+        by-phase = phase (a ∷ b ∷ c ∷ d ∷ []) (held-tells (phaseIn w) last a b c d held) (word-tells limit u w good);
       })
 
   -- ---- and back
 
-  bare : NoRequest (slotIn w last) → w < 16
+  bare : NoRequest (slotIn w last) → w < 2 ^ 15
   unfolding slotIn
   bare n =
-      let fields : w < 0x20_0000_0000 = omega (arith, n .cancel-none, n .boundary-none) in
-      let below : w < 32 = omega (arith, n .length-none) in
+      let fields : w < 0x1_0000_0000_0000 = omega (arith, n .cancel-none, n .boundary-none) in
+      let below : w < 0x1_0000 = omega (arith, n .length-none) in
       omega (arith, n .direction-none)
 
-  word : Phase (slotIn w last) u → Word u w
+  unsized : w < 2 ^ 15 → sizeIn w ≡ 0 → w < 16
+  unsized h z =
+      let few : w / 16 < 2048 = omega arith in
+      let none : w / 16 ≡ 0 = omega arith in
+      omega arith
+
+  nothing : phaseIn w ≡ 0 → kindIn w ≡ 0 → sizeIn w ≡ 0 → w < 2 ^ 15 → w ≡ 0
+  nothing p k z h = let low : w < 16 = unsized h z in omega arith
+
+  word : (phaseIn w ≡ 0 → sizeIn w ≡ 0) → Phase (slotIn w last) u → Word u w
   unfolding slotIn
-  word (Phase.closed e k i n) = Word.closed-word (omega (arith, bare n))
-  word (Phase.idle e k n) = Word.idle-word e (k .never) (bare n)
-  word (Phase.linked e k r d c b) = Word.linked-word e (k .never) (omega arith)
-  word (Phase.unlinking e k r d c b) = by (decEq (kindIn w) 3)
+  word z (Phase.closed e k i n) = Word.closed-word (nothing e k (z e) (bare n))
+  word z (Phase.idle e k n) = Word.idle-word e (k .never) (bare n)
+  word z (Phase.linked e k r d c b) = Word.linked-word e (k .never) (omega arith)
+  word z (Phase.unlinking e k r d c b) = by (decEq (kindIn w) 3)
     where
       by : Dec (kindIn w ≡ 3) → Word u w
       by (yes q) = Word.frame-word e q (omega (arith, b .frame q))
@@ -103,13 +123,16 @@ module _ (u w last : ℕ) where
   own (Phase.linked e k r d c b) p = rw (le-leb 2 (phaseIn w) p) at r
   own (Phase.unlinking e k r d c b) p = rw (le-leb 2 (phaseIn w) p) at r
 
-  module _ (E k a b c d : ℕ) (good : slotGood E k u (slotIn w last) ≡ true) where
-    pub slot-word : wordGood u w ≡ true
-    slot-word = word-makes u w (word (slot-tells E k u (slotIn w last) good .by-phase))
+  module _ (E k a b c d : ℕ) (good : slotGood E limit k u (slotIn w last) ≡ true) where
+    pub slot-word : wordGood limit u w ≡ true
+    unfolding slotIn
+    slot-word =
+        let g = slot-tells E limit k u (slotIn w last) good in
+        word-makes limit u w (word (g .size-none) (g .by-phase)) (g .size-open)
 
     pub slot-held : last < 2 ^ 64 → (phaseIn w ≡ 0 → last ≡ 0) → (phaseIn w ≡ 1 → last ≢ 2 ^ 64 - 1)
         → (phaseIn w < 2 → _≡_ {A = List ℕ} (a ∷ b ∷ c ∷ d ∷ []) noPlaces)
         → heldGood (phaseIn w) last (a ∷ b ∷ c ∷ d ∷ []) ≡ true
     slot-held fits closed idle empty =
         held-makes (phaseIn w) last a b c d fits
-        (record { closed = closed; idle = idle; empty = empty; own = own (slot-tells E k u (slotIn w last) good .by-phase) })
+        (record { closed = closed; idle = idle; empty = empty; own = own (slot-tells E limit k u (slotIn w last) good .by-phase) })

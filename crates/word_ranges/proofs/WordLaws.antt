@@ -1,13 +1,16 @@
--- The table of bounds in plain facts, both ways: what a slot's first word is, by its phase.
+-- The range rule of a slot's first word in plain facts, both ways: what it is, by its phase, and the packet size of an open slot.
 use Prim.Native.Nat.{ℕ, _+_, _*_, _%_, _^_, _<_}
 use mathlib.Core.Path.{_≡_}
 use mathlib.Core.Logic.{_≢_}
 use mathlib.Core.Bool.{true}
 use native.Mathlib.Decide.{ℕ-discrete as decEq}
 use native.Mathlib.Omega.{arith}
-use borrow.Author.Tests.{lt-ltb, ltb-true}
-use Rattle.words.specs.Record.{kindIn, phaseIn}
-use Rattle.word_ranges.specs.Bounds.{boundAt, boundsOf, wordGood}
+use borrow.Author.Tests.{eq-eqb, lt-ltb, ltb-true, ne-eqb}
+use lib.Dec.{ltb}
+use Rattle.common.proofs.TestLaws.{both-makes, both-tells}
+use Rattle.slot.proofs.SlotLaws.{SizeGood, size-makes, size-tells}
+use Rattle.words.specs.Record.{kindIn, phaseIn, sizeIn}
+use Rattle.word_ranges.specs.Bounds.{boundAt, boundsOf, sizeRight, wordGood}
 
 -- ---- a number of two bits
 
@@ -28,19 +31,26 @@ four n h = by (decEq n 0) (decEq n 1) (decEq n 2)
 
 -- ---- the facts
 
--- closed: nothing; idle: a kind; linked: direction and length besides; unlinking: whether cancelled, and the boundary
+-- closed: nothing; idle: a kind and a packet size; linked: direction and length besides; unlinking: whether cancelled, and the boundary
 pub data Word (u w : ℕ) : Type 0 where
   closed-word : w ≡ 0 → Word u w
-  idle-word : phaseIn w ≡ 1 → kindIn w ≢ 1 → w < 16 → Word u w
-  linked-word : phaseIn w ≡ 2 → kindIn w ≢ 1 → w < 2 ^ 37 → Word u w
-  advances-word : phaseIn w ≡ 3 → kindIn w ≢ 1 → kindIn w ≢ 3 → w < 2 ^ 38 * (u + 1) → Word u w
-  frame-word : phaseIn w ≡ 3 → kindIn w ≡ 3 → w < 2 ^ 52 → Word u w
+  idle-word : phaseIn w ≡ 1 → kindIn w ≢ 1 → w < 2 ^ 15 → Word u w
+  linked-word : phaseIn w ≡ 2 → kindIn w ≢ 1 → w < 2 ^ 48 → Word u w
+  advances-word : phaseIn w ≡ 3 → kindIn w ≢ 1 → kindIn w ≢ 3 → w < 2 ^ 49 * (u + 1) → Word u w
+  frame-word : phaseIn w ≡ 3 → kindIn w ≡ 3 → w < 2 ^ 63 → Word u w
 
-module _ (u w : ℕ) where
-  module _ (e : wordGood u w ≡ true) where
-    at : (n : ℕ) → w % 16 ≡ n → w < boundAt u n
+-- a slot that is open has a packet size
+abbrev pub Sized : ℕ → ℕ → Type 0
+Sized limit w = phaseIn w ≢ 0 → SizeGood limit (kindIn w) (sizeIn w)
+
+module _ (limit u w : ℕ) where
+  module _ (e : wordGood limit u w ≡ true) where
+    tests : (ltb w (boundAt u (w % 16)) ≡ true) × (sizeRight limit w ≡ true)
     unfolding wordGood
-    at n q = rw q at (ltb-true w (boundAt u (w % 16)) e)
+    tests = both-tells (ltb w (boundAt u (w % 16))) (sizeRight limit w) e
+
+    at : (n : ℕ) → w % 16 ≡ n → w < boundAt u n
+    at n q = rw q at (ltb-true w (boundAt u (w % 16)) (tests .0))
 
     tells : Four (phaseIn w) → Four (kindIn w) → Word u w
     unfolding boundsOf
@@ -64,11 +74,14 @@ module _ (u w : ℕ) where
     pub word-tells : Word u w
     word-tells = tells (four (phaseIn w) (omega arith)) (four (kindIn w) (omega arith))
 
-  below : (n : ℕ) → w % 16 ≡ n → w < boundAt u n → wordGood u w ≡ true
-  unfolding wordGood
+    pub word-sized : Sized limit w
+    unfolding sizeRight
+    word-sized n = size-tells limit (kindIn w) (sizeIn w) (rw (ne-eqb (phaseIn w) 0 n) at (tests .1))
+
+  below : (n : ℕ) → w % 16 ≡ n → w < boundAt u n → ltb w (boundAt u (w % 16)) ≡ true
   below n q h = rw q (lt-ltb w (boundAt u n) h)
 
-  makes : Word u w → Four (kindIn w) → wordGood u w ≡ true
+  makes : Word u w → Four (kindIn w) → ltb w (boundAt u (w % 16)) ≡ true
   unfolding boundsOf
   makes (closed-word z) k = below 0 (omega arith) (omega arith)
   makes (idle-word p n h) (is-0 k) = below 1 (omega arith) h
@@ -85,5 +98,14 @@ module _ (u w : ℕ) where
   makes (advances-word p n m h) (is-3 k) = absurd (m k)
   makes (frame-word p k h) j = below 15 (omega arith) h
 
-  pub word-makes : Word u w → wordGood u w ≡ true
-  word-makes x = makes x (four (kindIn w) (omega arith))
+  size-right : Sized limit w → sizeRight limit w ≡ true
+  unfolding sizeRight
+  size-right z = by (decEq (phaseIn w) 0)
+    where
+      by : Dec (phaseIn w ≡ 0) → sizeRight limit w ≡ true
+      by (yes p) = rw (eq-eqb (phaseIn w) 0 p)
+      by (no n) = rw (ne-eqb (phaseIn w) 0 n) (size-makes limit (kindIn w) (sizeIn w) (z n))
+
+  pub word-makes : Word u w → Sized limit w → wordGood limit u w ≡ true
+  unfolding wordGood
+  word-makes x z = both-makes (ltb w (boundAt u (w % 16))) (sizeRight limit w) (makes x (four (kindIn w) (omega arith))) (size-right z)

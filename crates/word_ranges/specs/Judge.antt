@@ -25,10 +25,10 @@ scalarsGood s r =
 unfoldable pub coreGood : Settings → Rest → Bool
 coreGood s r = settingsGood s && scalarsGood s r
 
-unfoldable pub slotsGood : List ℕ → ℕ → ℕ → ℕ → List ℕ → Bool
-slotsGood ws E D unanswered free = allMet (seenFrom ws unanswered 0 E (freeMet free)) D
+unfoldable pub slotsGood : List ℕ → ℕ → ℕ → ℕ → ℕ → List ℕ → Bool
+slotsGood ws E D limit unanswered free = allMet (seenFrom ws limit unanswered 0 E (freeMet free)) D
 
 unfoldable pub wordsGood : Settings → Rest → List ℕ → Bool
 wordsGood s r ws =
     coreGood s r
-    && (eqb (length ws) (6 * s .endpoints) && slotsGood ws (s .endpoints) (s .descriptors) (r .unanswered) (r .free))
+    && (eqb (length ws) (6 * s .endpoints) && slotsGood ws (s .endpoints) (s .descriptors) (s .limit) (r .unanswered) (r .free))

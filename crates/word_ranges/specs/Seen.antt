@@ -49,11 +49,11 @@ seeOf s bounded w last p =
     cond (ltb (phaseIn w) 2) (markGood s (bounded && heldGood (phaseIn w) last p)) (meetPlaces s (bounded && heldGood (phaseIn w) last p) p)
 
 -- n slots more, from slot k on
-unfoldable pub seenFrom : List ℕ → ℕ → ℕ → ℕ → Seen → Seen
-seenFrom ws unanswered k zero s = s
-seenFrom ws unanswered k (suc n) s =
-    seenFrom ws unanswered (suc k) n
-    (seeOf s (wordGood unanswered (wordAt ws k)) (wordAt ws k) (lastAt ws k) (placesAt ws k))
+unfoldable pub seenFrom : List ℕ → ℕ → ℕ → ℕ → ℕ → Seen → Seen
+seenFrom ws limit unanswered k zero s = s
+seenFrom ws limit unanswered k (suc n) s =
+    seenFrom ws limit unanswered (suc k) n
+    (seeOf s (wordGood limit unanswered (wordAt ws k)) (wordAt ws k) (lastAt ws k) (placesAt ws k))
 
 -- every slot good, no place met twice, each place below D met
 unfoldable pub allMet : Seen → ℕ → Bool

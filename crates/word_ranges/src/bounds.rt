@@ -1,17 +1,27 @@
-// A slot's first word is below a bound, by its lowest four bits: the phase and the kind. 0 where there is no such slot.
+// A slot's first word is below a bound, by its lowest four bits: the phase and the kind. 0 where there is no such slot. Its packet size has a
+// range of its own.
 ghost use mathlib.Core.Path.{_≡_};
-ghost use Rattle.word_ranges.specs.Bounds.{boundsOf};
+ghost use Rattle.word_ranges.specs.Bounds.{boundsOf, sizesOf};
+use token::qtd::least;
 use words::record::BOUNDARY;
 
 const CLOSED: u64 = 1;
 
-const IDLE: u64 = 16;
+// A packet size.
+const IDLE: u64 = 0x8000;
 
-// Direction and length.
-const LINKED: u64 = 0x20_0000_0000;
+// Direction and length besides.
+const LINKED: u64 = 0x1_0000_0000_0000;
 
 // Whether cancelled besides, and a FRINDEX.
-const FRAME: u64 = 0x10_0000_0000_0000;
+const FRAME: u64 = 0x8000_0000_0000_0000;
+
+const PACKET_MAX: u16 = 1024;
+
+// As many as eleven bits have, and the last of them.
+const SIZES: u16 = 2048;
+
+pub const LAST: u64 = 2047;
 
 // By kind, 0 to 3: of each phase. Those of unlinking control and bulk are put in.
 const BOUNDS: [u64; 16] = [
@@ -42,4 +52,29 @@ pub fn bounds_for(unanswered: u8) -> [u64; 16]
     bounds[3] = most;
     bounds[11] = most;
     bounds
+}
+
+// How many packet sizes a slot may have, from 1 on, by the same four bits: of bulk and interrupt up to the limit; where it is closed, any.
+pub fn sizes_for(limit: u64) -> [u16; 16]
+    ensures { λ r. ⌜ r ≡ sizesOf limit ⌝ }
+{
+    let most = least(limit, PACKET_MAX as u64) as u16;
+    [
+        SIZES,
+        PACKET_MAX,
+        PACKET_MAX,
+        PACKET_MAX,
+        SIZES,
+        most,
+        most,
+        most,
+        SIZES,
+        most,
+        most,
+        most,
+        SIZES,
+        most,
+        most,
+        most,
+    ]
 }

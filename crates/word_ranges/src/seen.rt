@@ -30,7 +30,7 @@ pub fn free_met(free: [u64; 4]) -> Seen
     }
 }
 
-// One slot more: whether its first word is below its bound, that word, its last id, its places. One with no request has no places to meet.
+// One slot more: whether its first word is in its range, that word, its last id, its places. One with no request has no places to meet.
 pub fn see_slot(
     s: Seen,
     bounded: bool,

@@ -83,8 +83,8 @@ phase-small e u h (unlinking p o r d c b) =
 
 -- ---- a slot that fits
 
-module _ (E k u : ℕ) (e : Slot) (most : u ≤ 32) (right : slotGood E k u e ≡ true) where
+module _ (E limit k u : ℕ) (e : Slot) (most : u ≤ 32) (right : slotGood E limit k u e ≡ true) where
   pub right-small : Small e
-  right-small = phase-small e u most (slot-tells E k u e right .by-phase)
+  right-small = phase-small e u most (slot-tells E limit k u e right .by-phase)
 
 -- ---- the slot of two words

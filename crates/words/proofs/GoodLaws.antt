@@ -77,20 +77,20 @@ module _ (s : Settings) (r : Rest) (ws : List ℕ) (good : Good s r ws) where
 
   -- ---- a slot
 
-  slot-right : (k : ℕ) → k < 32 → slotGood (s .endpoints) k (r .unanswered) (slotAt (stateOf s r ws) k) ≡ true
+  slot-right : (k : ℕ) → k < 32 → slotGood (s .endpoints) (s .limit) k (r .unanswered) (slotAt (stateOf s r ws) k) ≡ true
   unfolding stateOf
   slot-right k h = good-ranges .slots k h
 
-  pub good-slot : (k : ℕ) → k < 32 → slotGood (s .endpoints) k (r .unanswered) (slotIn (wordAt ws k) (lastAt ws k)) ≡ true
+  pub good-slot : (k : ℕ) → k < 32 → slotGood (s .endpoints) (s .limit) k (r .unanswered) (slotIn (wordAt ws k) (lastAt ws k)) ≡ true
   good-slot k h = rw (view-slot s r ws k h) at (slot-right k h)
 
-  pub good-slot-tells : (k : ℕ) → k < 32 → SlotGood (s .endpoints) k (r .unanswered) (slotIn (wordAt ws k) (lastAt ws k))
-  good-slot-tells k h = slot-tells (s .endpoints) k (r .unanswered) (slotIn (wordAt ws k) (lastAt ws k)) (good-slot k h)
+  pub good-slot-tells : (k : ℕ) → k < 32 → SlotGood (s .endpoints) (s .limit) k (r .unanswered) (slotIn (wordAt ws k) (lastAt ws k))
+  good-slot-tells k h = slot-tells (s .endpoints) (s .limit) k (r .unanswered) (slotIn (wordAt ws k) (lastAt ws k)) (good-slot k h)
 
   boundary-within : (k : ℕ) → k < 32 → boundaryIn (wordAt ws k) < 16384
   unfolding slotIn
   boundary-within k h =
-      right-small (s .endpoints) k (r .unanswered) (slotIn (wordAt ws k) (lastAt ws k)) (good-numbers .unanswered-most) (good-slot k h)
+      right-small (s .endpoints) (s .limit) k (r .unanswered) (slotIn (wordAt ws k) (lastAt ws k)) (good-numbers .unanswered-most) (good-slot k h)
       .boundary-small
 
   -- of every slot, also beyond the row

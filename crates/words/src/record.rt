@@ -1,12 +1,12 @@
 // One slot of the row: its first two words, taken apart and put together.
 ghost use mathlib.Core.Path.{_≡_};
 ghost use Prim.Native.Nat.{_<_};
-ghost use Rattle.words.specs.Record.{SlotFits, boundaryIn, idIn, lastOf, requestIn, slotIn, wordOf};
+ghost use Rattle.words.specs.Record.{SlotFits, idIn, lastOf, requestIn, slotIn, wordOf};
 use slot::slot::Slot;
 
-pub const BOUNDARY: u64 = 0x40_0000_0000;
+pub const BOUNDARY: u64 = 0x2_0000_0000_0000;
 
-pub const CANCELLED: u64 = 0x20_0000_0000;
+pub const CANCELLED: u64 = 0x1_0000_0000_0000;
 
 const LAST_ID: u64 = 0xFFFF_FFFF_FFFF_FFFF;
 
@@ -24,17 +24,17 @@ fn request_in(phase: u64, last: u64) -> u64
 }
 
 pub fn slot_in(word: u64, last: u64) -> Slot
-    requires { ⌜ boundaryIn word < 65536 ⌝ }
     ensures { λ r. ⌜ r ≡ slotIn word last ⌝ }
 {
     let phase = word % 4;
     Slot {
         phase: phase as u8,
         kind: (word / 4 % 4) as u8,
+        size: (word / 16 % 2048) as u16,
         id: id_in(last),
         request: request_in(phase, last),
-        direction: (word / 16 % 2) as u8,
-        length: (word / 32 % 0x1_0000_0000) as u32,
+        direction: (word / 0x8000 % 2) as u8,
+        length: (word / 0x1_0000 % 0x1_0000_0000) as u32,
         cancel: (word / CANCELLED % 2) as u8,
         boundary: (word / BOUNDARY) as u16,
     }
@@ -44,9 +44,12 @@ pub fn word_of(e: Slot) -> u64
     requires { ⌜ SlotFits e ⌝ }
     ensures { λ r. ⌜ r ≡ wordOf e ⌝ }
 {
-    let low = e.phase as u64 + 4 * (e.kind as u64) + 16 * (e.direction as u64);
+    let low = e.phase as u64
+        + 4 * (e.kind as u64)
+        + 16 * (e.size as u64)
+        + 0x8000 * (e.direction as u64);
     let high = CANCELLED * (e.cancel as u64) + BOUNDARY * (e.boundary as u64);
-    low + 32 * (e.length as u64) + high
+    low + 0x1_0000 * (e.length as u64) + high
 }
 
 pub fn last_of(e: Slot) -> u64

@@ -2,7 +2,7 @@
 ghost use mathlib.Core.Path.{_≡_};
 ghost use Prim.Native.Nat.{_+_, _*_, _≤_, _<_};
 ghost use lib.ListN.{length, replicate};
-ghost use Rattle.words.specs.Record.{SlotFits, boundaryIn, placesAt, putPlaces, putSlot, slotIn, wordAt, lastAt};
+ghost use Rattle.words.specs.Record.{SlotFits, placesAt, putPlaces, putSlot, sizeIn, slotIn, wordAt, lastAt};
 use crate::record::last_of;
 use crate::record::slot_in;
 use crate::record::word_of;
@@ -18,6 +18,12 @@ pub fn word_at(slots: &[u64], k: u8) -> u64
     if at < slots.len() { slots[at] } else { 0 }
 }
 
+pub fn size_at(slots: &[u64], k: u8) -> u16
+    ensures { λ r. ⌜ r ≡ sizeIn (wordAt (now (slots .entry)) k) ⌝ }
+{
+    (word_at(slots, k) / 16 % 2048) as u16
+}
+
 fn last_at(slots: &[u64], k: u8) -> u64
     ensures { λ r. ⌜ r ≡ lastAt (now (slots .entry)) k ⌝ }
 {
@@ -27,7 +33,6 @@ fn last_at(slots: &[u64], k: u8) -> u64
 
 // A slot beyond the row is closed.
 pub fn slot_at(slots: &[u64], k: u8) -> Slot
-    requires { ⌜ boundaryIn (wordAt (now slots) k) < 65536 ⌝ }
     ensures { λ r. ⌜ r ≡ slotIn (wordAt (now (slots .entry)) k) (lastAt (now (slots .entry)) k) ⌝ }
 {
     slot_in(word_at(slots, k), last_at(slots, k))

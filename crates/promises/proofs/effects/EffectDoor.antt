@@ -26,7 +26,7 @@ use Rattle.ehci.specs.Replies.{refusedReply, replied, settledReply}
 use Rattle.promises.specs.Runs.{Rows, World, core, turnOf}
 use Rattle.promises.specs.Events.{Other, event}
 use Rattle.schedule.specs.Bell.{someRing}
-use Rattle.promises.specs.Opened.{change}
+use Rattle.promises.specs.Slots.{change}
 use Rattle.promises.proofs.effects.Effects.{Effect, Idles, Sides, Switches, besides, still}
 use Rattle.interrupt.specs.Interrupts.{settledOr}
 use Rattle.interrupt.specs.Plain.{Settled}

@@ -1,5 +1,5 @@
 -- Open endpoint, close, set address, set packet size.
-use Prim.Native.Nat.{ℕ, _+_}
+use Prim.Native.Nat.{ℕ, _+_, max}
 use mathlib.Core.Bool.{true, false}
 use mathlib.Core.List.{List}
 use mathlib.Core.Path.{_≡_, refl, sym}
@@ -10,14 +10,15 @@ use Rattle.descriptor.specs.Heads.{withAddress, withPacketSize}
 use Rattle.common.proofs.TestLaws.{false-true}
 use Rattle.state.specs.Plain.{Ehci}
 use Rattle.common.specs.declared.answer.Refusal.the-variants.{InvalidParameter}
-use Rattle.pipe.specs.Endpoints.{endpointAt, withEndpoint}
+use Rattle.pipe.specs.Endpoints.{endpointAt, pipeOf, withEndpoint}
+use Rattle.state.specs.Slots.{slotAt}
 use Rattle.pipe.specs.declared.endpoints.Endpoint.{Endpoint}
 use Rattle.pipe.specs.declared.endpoints.Endpoint.the-variants.{Closed, Idle, Linked, Unlinking}
 use Rattle.pipe.specs.declared.endpoints.Pipe.{Pipe}
 use Rattle.opening.specs.Heads.{headWord, withHeadWord}
 use Rattle.controller.specs.Readers.{hasEndpoint, holdsRequest}
-use Rattle.endpoint.specs.Calls.{ChangeLeft, closeOf, setAddressOf, setPacketSizeOf, withHead}
-use Rattle.endpoint.proofs.ChangeLaws.{Changes, change-by}
+use Rattle.endpoint.specs.Calls.{ChangeLeft, closeOf, setAddressOf, raisedGood, setPacketSizeOf, withHead, withSize}
+use Rattle.endpoint.proofs.ChangeLaws.{Changes, change-by, idle-pipe, resized-good}
 use Rattle.endpoint.proofs.OpenLaws.{open-by}
 use Rattle.ehci.specs.declared.call.Call.{Call}
 use Rattle.ehci.specs.declared.call.Call.the-variants.{Close, OpenEndpoint, SetAddress, SetPacketSize}
@@ -27,7 +28,7 @@ use Rattle.ehci.specs.Door.{carriedOut}
 use Rattle.ehci.specs.Replies.{changedReply, replied}
 use Rattle.promises.specs.Runs.{World, core}
 use Rattle.promises.proofs.effects.RefusalNumbers.{undone}
-use Rattle.promises.proofs.effects.Effects.{Effect, closes, opens, rewrites}
+use Rattle.promises.proofs.effects.Effects.{Effect, closes, opens, resizes, rewrites}
 use Rattle.promises.proofs.effects.EffectDoor.{refused-still, rows-kept, through}
 
 -- an open slot that has no request is idle
@@ -70,6 +71,7 @@ module _ (w : World) where
         below = from .below;
         closed = from .was-closed;
         never = from .never;
+        sized = from .fields .packet;
         state-is = refl;
         rows-are = rows-kept w (OpenEndpoint x) _ (w .rows .frames) (w .rows .setups);
         silent = refl;
@@ -126,17 +128,19 @@ module _ (w : World) where
   size-effect k size =
       let word = withPacketSize (headWord hs (k + 1) 1) size in
       through Effect w (SetPacketSize k size) (refused-still w (SetPacketSize k size) InvalidParameter refl refl)
-      (change-by s n hs f u k true s (withHeadWord hs (k + 1) 1 word) (Changed (SetPacketSize k size))
-      (λ r. refused-still w (SetPacketSize k size) r refl refl)
-      (λ from g. rewrites
+      (change-by s n hs f u k (raisedGood s k size) (withEndpoint s k (Idle (withSize (pipeOf (slotAt s k)) (max size 8)))) (withHeadWord hs (k + 1) 1 word)
+      (Changed (SetPacketSize k size)) (λ r. refused-still w (SetPacketSize k size) r refl (rw (undone r)))
+      (λ from g. resizes
       (record {
         k = k;
-        p = idle-of k from .0;
+        p = pipeOf (slotAt s k);
+        size = max size 8;
         word = word;
-        idle = idle-of k from .1;
+        idle = idle-pipe s n hs f u k from;
+        sized = resized-good s n hs f u k from size g .size;
         state-is = refl;
         rows-are = rows-kept w (SetPacketSize k size) _ (w .rows .frames) (w .rows .setups);
         silent = refl;
         nothing = refl;
-        same = refl;
+        changes = refl;
       })))

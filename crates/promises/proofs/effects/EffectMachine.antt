@@ -38,7 +38,7 @@ use Rattle.ehci.specs.Decides.{allotDecided, allotReply}
 use Rattle.ehci.specs.declared.reply.Answered.the-variants.{Refused}
 use Rattle.ehci.specs.Replies.{broughtAnswer, broughtReply, replied}
 use Rattle.promises.specs.Runs.{World, core}
-use Rattle.promises.specs.Opened.{stepsBy}
+use Rattle.promises.specs.Slots.{stepsBy}
 use Rattle.promises.proofs.effects.RefusalNumbers.{undone}
 use Rattle.promises.proofs.effects.Effects.{Effect, Idles, Sides, Switches, besides}
 use Rattle.promises.proofs.effects.EffectDoor.{idles-on, leaves, refused-still, still-of, through, carried}

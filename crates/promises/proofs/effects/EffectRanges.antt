@@ -111,7 +111,7 @@ note-keeps s n h r =
 -- ---- the kind of a slot
 
 pub kind-most : (s : Ehci) → Ranges s → (k : ℕ) → k < 32 → slotAt s k .kind ≤ 3
-kind-most s r k low = by (slot-tells (s .settings .endpoints) k (s .unanswered) (slotAt s k) (r .slots k low) .by-phase)
+kind-most s r k low = by (slot-tells (s .settings .endpoints) (s .settings .limit) k (s .unanswered) (slotAt s k) (r .slots k low) .by-phase)
   where
     by : Phase (slotAt s k) (s .unanswered) → slotAt s k .kind ≤ 3
     by (Phase.closed p k i n) = omega (arith, k)
@@ -127,6 +127,7 @@ lower e b =
     record {
       phase = e .phase;
       kind = e .kind;
+      size = e .size;
       id = e .id;
       request = e .request;
       direction = e .direction;
@@ -172,11 +173,17 @@ module _ (e : Slot) (u : ℕ) (some : 1 ≤ u) where
   phase-falls (Phase.linked p o r d c b) = Phase.linked p o r d c (stays (λ q. omega (arith, p, q)) ∙ b)
   phase-falls (Phase.unlinking p o r d c b) = Phase.unlinking p o r d c (falls p b)
 
-  pub slot-falls : (E k : ℕ) → slotGood E k u e ≡ true → slotGood E k (u - 1) fallen ≡ true
-  slot-falls E k h =
-      let g = slot-tells E k u e h in
-      slot-makes E k (u - 1) fallen
-      (record { id-least = g .id-least; closed-from = g .closed-from; by-phase = phase-falls (g .by-phase) })
+  pub slot-falls : (E limit k : ℕ) → slotGood E limit k u e ≡ true → slotGood E limit k (u - 1) fallen ≡ true
+  slot-falls E limit k h =
+      let g = slot-tells E limit k u e h in
+      slot-makes E limit k (u - 1) fallen
+      (record {
+        id-least = g .id-least;
+        closed-from = g .closed-from;
+        size-none = g .size-none;
+        size-open = g .size-open;
+        by-phase = phase-falls (g .by-phase);
+      })
 
 -- the doorbell after a counted advance: rung again if unlinks remain
 pub advanced-bell : (b : Bell) (command : ℕ)
@@ -217,5 +224,5 @@ counted-keeps s command some r =
       unowned = r .unowned;
       slots = λ k h.
           rw (b .1, fallen-at 0 32 k (s .phases) (s .kinds) (s .boundaries) h, zero-add k)
-          (slot-falls (slotAt s k) (s .unanswered) u (s .settings .endpoints) k (r .slots k h));
+          (slot-falls (slotAt s k) (s .unanswered) u (s .settings .endpoints) (s .settings .limit) k (r .slots k h));
     }

@@ -16,7 +16,8 @@ use Rattle.common.specs.declared.kinds.EndpointType.the-variants.{Isochronous}
 use Rattle.state.specs.State.{withBell}
 use Rattle.state.specs.Plain.{Ehci}
 use Rattle.state.proofs.RangesLaws.{Ranges}
-use Rattle.pipe.specs.Endpoints.{endpointAt, withEndpoint}
+use Rattle.pipe.specs.Endpoints.{endpointAt, kindNumber, withEndpoint}
+use Rattle.slot.proofs.SlotLaws.{SizeGood}
 use Rattle.pipe.specs.declared.endpoints.Endpoint.the-variants.{Closed, Idle, Linked, Unlinking}
 use Rattle.pipe.specs.declared.endpoints.Pipe.{Pipe}
 use Rattle.pipe.specs.declared.endpoints.Request.{Request}
@@ -26,7 +27,7 @@ use Rattle.controller.specs.Readers.{isUncollected}
 use Rattle.controller.specs.declared.lent.Readings.{Readings}
 use Rattle.schedule.specs.Bell.{advancedOf, bellOf, someRing}
 use Rattle.schedule.specs.Links.{detachOf, endedOverlay, slotLink}
-use Rattle.endpoint.specs.Calls.{newEndpoint, withHead}
+use Rattle.endpoint.specs.Calls.{newEndpoint, withHead, withSize}
 use Rattle.request.specs.Submit.{chainFor, firstIn, idAt, linkedRows, setupsWith, stateWith, takenFor, writesWith}
 use Rattle.request.specs.Writeback.{inRequest, tokenChain}
 use Rattle.request.specs.declared.judge.TransferRequest.{TransferRequest}
@@ -43,7 +44,7 @@ use Rattle.ehci.specs.Door.{Applied}
 use Rattle.promises.specs.Runs.{Rows, Turn, World, rowsOf, turnOf}
 use Rattle.promises.specs.Events.{Other, Reads, Drains, Submits, Collects, event, leaving, Event, Unlinks, Parts, leavesFrames, leavesRing}
 use Rattle.promises.specs.Bells.{cancelsBy}
-use Rattle.promises.specs.Opened.{Change, ClosesSlot, Halted, OpensSlot, Running, Same, change}
+use Rattle.promises.specs.Slots.{Change, ClosesSlot, Halted, OpensSlot, ResizesSlot, Running, Same, change}
 use Rattle.settings.specs.declared.settings.Settings.{Settings}
 
 -- what of a state stands beside slots, owners and doorbell
@@ -73,6 +74,7 @@ besides s x =
       owner = s .owner;
       phases = s .phases;
       kinds = s .kinds;
+      sizes = s .sizes;
       ids = s .ids;
       requests = s .requests;
       directions = s .directions;
@@ -89,7 +91,8 @@ pub record Idles (s : Ehci) : Type 0 where
 -- whether the controller runs, before and after a change that is none of a slot
 abbrev pub Switches : Change → ℕ → ℕ → Type 0
 Switches Same before after = after ≡ before
-Switches (OpensSlot k kind) before after = ⊥
+Switches (OpensSlot k kind size) before after = ⊥
+Switches (ResizesSlot k size) before after = ⊥
 Switches (ClosesSlot k) before after = ⊥
 Switches Halted before after = after ≡ 0
 Switches Running before after = after ≡ 1
@@ -185,11 +188,12 @@ module _ (w : World) (c : Call) (a : Applied) where
     pub below : k < old .settings .endpoints
     pub closed : endpointAt old k ≡ Closed
     pub never : kind ≡ Isochronous → ⊥
-    pub state-is : new ≡ withEndpoint old k (newEndpoint kind)
+    pub sized : SizeGood (old .settings .limit) (kindNumber kind) packet
+    pub state-is : new ≡ withEndpoint old k (newEndpoint kind packet)
     pub rows-are : rowsOf a ≡ withHeads (w .rows) (withHead (w .rows .heads) k (wordsOf (endpointHead kind address endpoint packet)))
     pub silent : wrote ≡ noWrites
     pub nothing : event (old .settings) (turnOf (w .rows) c a) ≡ Other
-    pub changes : change (turnOf (w .rows) c a) ≡ OpensSlot k kind
+    pub changes : change (turnOf (w .rows) c a) ≡ OpensSlot k kind packet
 
   pub record Closes : Type 0 where
     pub k : ℕ
@@ -201,7 +205,7 @@ module _ (w : World) (c : Call) (a : Applied) where
     pub nothing : event (old .settings) (turnOf (w .rows) c a) ≡ Other
     pub changes : change (turnOf (w .rows) c a) ≡ ClosesSlot k
 
-  -- set address and set packet size: one word of an idle slot's head
+  -- set address: one word of an idle slot's head
   pub record Rewrites : Type 0 where
     pub k : ℕ
     pub p : Pipe
@@ -212,6 +216,20 @@ module _ (w : World) (c : Call) (a : Applied) where
     pub silent : wrote ≡ noWrites
     pub nothing : event (old .settings) (turnOf (w .rows) c a) ≡ Other
     pub same : change (turnOf (w .rows) c a) ≡ Same
+
+  -- set packet size: that word, and the slot's size
+  pub record Resizes : Type 0 where
+    pub k : ℕ
+    pub p : Pipe
+    pub size : ℕ
+    pub word : ℕ
+    pub idle : endpointAt old k ≡ Idle p
+    pub sized : SizeGood (old .settings .limit) (kindNumber (p .kind)) size
+    pub state-is : new ≡ withEndpoint old k (Idle (withSize p size))
+    pub rows-are : rowsOf a ≡ withHeads (w .rows) (withHeadWord (w .rows .heads) (k + 1) 1 word)
+    pub silent : wrote ≡ noWrites
+    pub nothing : event (old .settings) (turnOf (w .rows) c a) ≡ Other
+    pub changes : change (turnOf (w .rows) c a) ≡ ResizesSlot k size
 
   pub record Accepts : Type 0 where
     pub k : ℕ
@@ -299,6 +317,7 @@ pub data Effect (w : World) (c : Call) (a : Applied) : Type 0 where
   opens : Opens w c a → Effect w c a
   closes : Closes w c a → Effect w c a
   rewrites : Rewrites w c a → Effect w c a
+  resizes : Resizes w c a → Effect w c a
   accepts : Accepts w c a → Effect w c a
   writes-back : WritesBack w c a → Effect w c a
   marks : Marks w c a → Effect w c a

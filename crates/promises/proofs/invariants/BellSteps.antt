@@ -29,13 +29,13 @@ use Rattle.collection.specs.Calls.{finishOf, freed, marked}
 use Rattle.collection.specs.Unlinks.{passedBoundary}
 use Rattle.collection.proofs.SlotFacts.{endpoint-good}
 use Rattle.interrupt.specs.Interrupts.{noteIf, withRung}
-use Rattle.endpoint.specs.Calls.{newEndpoint}
+use Rattle.endpoint.specs.Calls.{newEndpoint, withSize}
 use Rattle.ehci.specs.declared.call.Call.{Call}
 use Rattle.ehci.specs.Door.{Applied}
 use Rattle.promises.specs.Runs.{History, Turn, World, turnOf}
 use Rattle.promises.specs.Events.{Event, Other, Reads, Drains, Submits, Collects, event, rings}
 use Rattle.promises.specs.Bells.{Answered, Bell, Quiet, Rung, bell, drains, isAnswered, isDrains, isReads, isUnlinks, isUp, linked, unlinking}
-use Rattle.promises.proofs.effects.Effects.{Still, Hears, Joins, Passes, Counts, Opens, Closes, Rewrites, Accepts, WritesBack, Marks, Collected, besides}
+use Rattle.promises.proofs.effects.Effects.{Still, Hears, Joins, Passes, Counts, Opens, Closes, Resizes, Rewrites, Accepts, WritesBack, Marks, Collected, besides}
 use Rattle.promises.proofs.effects.EffectEndpoints.{idle-is}
 use Rattle.promises.proofs.invariants.Sound.{Sound}
 use Rattle.promises.proofs.invariants.BellWaiting.{isLeft, waitsFor}
@@ -205,9 +205,18 @@ module _ (s : Settings) (w : World) (c : Call) (a : Applied) (h : History) (soun
       let e = is Other (x .nothing) in
       let q = no-writes (x .silent) in
       subst Next (sym (x .state-is))
-      (one-step Other e q refl refl refl (x .k) (omega (arith, x .below, sound .ranges .good .endpoints-most, ap (λ (z : Settings). z .endpoints) (sound .settings-are))) (λ j ne. aside-other j) (newEndpoint (x .kind)) tt
+      (one-step Other e q refl refl refl (x .k) (omega (arith, x .below, sound .ranges .good .endpoints-most, ap (λ (z : Settings). z .endpoints) (sound .settings-are))) (λ j ne. aside-other j) (newEndpoint (x .kind) (x .packet)) tt
       (λ v. ap (waitsFor (suc v)) (sym (x .closed)))
-      (stays (x .k) Other e (aside-other (x .k)) q refl refl refl (newEndpoint (x .kind)) (slot-is (x .k) Closed (x .closed))))
+      (stays (x .k) Other e (aside-other (x .k)) q refl refl refl (newEndpoint (x .kind) (x .packet)) (slot-is (x .k) Closed (x .closed))))
+
+  pub resizes-step : Resizes w c a → Next (a .reply .state)
+  resizes-step x =
+      let e = is Other (x .nothing) in
+      let q = no-writes (x .silent) in
+      subst Next (sym (x .state-is))
+      (one-step Other e q refl refl refl (x .k) (within (x .k) (Idle (x .p)) (x .idle) refl) (λ j ne. aside-other j) (Idle (withSize (x .p) (x .size))) tt
+      (λ v. ap (waitsFor (suc v)) (sym (x .idle)))
+      (stays (x .k) Other e (aside-other (x .k)) q refl refl refl (Idle (withSize (x .p) (x .size))) (slot-is (x .k) (Idle (x .p)) (x .idle))))
 
   pub closes-step : Closes w c a → Next (a .reply .state)
   closes-step x =
@@ -227,7 +236,7 @@ module _ (s : Settings) (w : World) (c : Call) (a : Applied) (h : History) (soun
       let e = is Other (x .nothing) in
       let q = no-writes (x .silent) in
       let known = within (x .k) (Unlinking (x .p) (x .r) (x .u)) (x .unlinking) refl in
-      let good = subst (EndpointGood (old .unanswered)) (x .unlinking) (endpoint-good old (x .k) (sound .ranges) known) in
+      let good = subst (EndpointGood (old .settings .limit) (old .unanswered)) (x .unlinking) (endpoint-good old (x .k) (sound .ranges) known) in
       subst Next (sym (x .state-is))
       (one-step Other e q refl refl refl (x .k) known (λ j ne. aside-other j) (Unlinking (x .p) (marked (x .r)) (x .u)) (good .suits)
       (λ v. ap (waitsFor (suc v)) (sym (x .unlinking)))

@@ -29,7 +29,7 @@ use Rattle.collection.specs.Unlinks.{passedBoundary, waitingFor, waitingOf}
 use Rattle.collection.specs.declared.unlink.Bounded.{Bounded}
 use Rattle.collection.proofs.SlotFacts.{endpoint-good}
 use Rattle.interrupt.specs.Interrupts.{noteIf, withRung}
-use Rattle.endpoint.specs.Calls.{newEndpoint}
+use Rattle.endpoint.specs.Calls.{newEndpoint, withSize}
 use Rattle.ehci.specs.declared.call.Call.{Call}
 use Rattle.ehci.specs.Door.{Applied}
 use Rattle.promises.specs.Runs.{History, Turn, World, turnOf}
@@ -178,7 +178,7 @@ module _ (s : Settings) (w : World) (c : Call) (a : Applied) (h : History) (soun
 
       by : Dec (j ≡ x .k) → Kept (endpointAt old j) (endpointAt (a .reply .state) j)
       by (yes q) =
-          let good = subst (EndpointGood (old .unanswered)) (x .unlinking) (endpoint-good old (x .k) (sound .ranges) known) in
+          let good = subst (EndpointGood (old .settings .limit) (old .unanswered)) (x .unlinking) (endpoint-good old (x .k) (sound .ranges) known) in
           Kept.marks (x .p) (x .r) (x .u) (ap (endpointAt old) q ∙ x .unlinking)
           (ap (endpointAt (a .reply .state)) q ∙ at (withEndpoint old (x .k) to) (x .state-is) (x .k) ∙ endpoint-same old (x .k) to (sound .wide) known (good .suits))
       by (no ne) = Kept.same (at (withEndpoint old (x .k) to) (x .state-is) j ∙ endpoint-other old (x .k) to j ne)
@@ -312,13 +312,16 @@ module _ (s : Settings) (w : World) (c : Call) (a : Applied) (h : History) (soun
   summary (Effect.counts x) named = counts-summary x
   summary (Effect.opens x) named =
       quiet-other (is s w c a h sound g Other (x .nothing)) (no-writes s w c a h sound g (x .silent))
-      (one-bare (x .k) (newEndpoint (x .kind)) (x .state-is)
+      (one-bare (x .k) (newEndpoint (x .kind) (x .packet)) (x .state-is)
       (omega (arith, x .below, sound .ranges .good .endpoints-most, ap (λ (z : Settings). z .endpoints) (sound .settings-are))) tt (ap holdsRequest (x .closed)) refl)
   summary (Effect.closes x) named =
       quiet-other (is s w c a h sound g Other (x .nothing)) (no-writes s w c a h sound g (x .silent))
       (one-bare (x .k) Closed (x .state-is) (within s w c a h sound g (x .k) (Idle (x .p)) (x .idle) refl) tt (ap holdsRequest (x .idle)) refl)
   summary (Effect.rewrites x) named =
       quiet-other (is s w c a h sound g Other (x .nothing)) (no-writes s w c a h sound g (x .silent)) (λ k. Kept.same (at old (x .state-is) k))
+  summary (Effect.resizes x) named =
+      quiet-other (is s w c a h sound g Other (x .nothing)) (no-writes s w c a h sound g (x .silent))
+      (one-bare (x .k) (Idle (withSize (x .p) (x .size))) (x .state-is) (within s w c a h sound g (x .k) (Idle (x .p)) (x .idle) refl) tt (ap holdsRequest (x .idle)) refl)
   summary (Effect.accepts x) named = accepts-summary x
   summary (Effect.writes-back x) named =
       quiet-other (is s w c a h sound g Other (x .nothing)) (no-writes s w c a h sound g (x .silent)) (λ k. Kept.same (at old (x .state-is) k))

@@ -202,6 +202,7 @@ module _ (s : Settings) (h : History) (w : World) (c : Call) (a : Applied) (soun
   chained-keeps (Effect.opens y) = Steps.opens-keeps s h w c a sound x y
   chained-keeps (Effect.closes y) = Steps.closes-keeps s h w c a sound x y
   chained-keeps (Effect.rewrites y) = Steps.rewrites-keeps s h w c a sound x y
+  chained-keeps (Effect.resizes y) = Steps.resizes-keeps s h w c a sound x y
   chained-keeps (Effect.accepts y) = accepts-keeps y
   chained-keeps (Effect.writes-back y) = Steps.writes-back-keeps s h w c a sound x y
   chained-keeps (Effect.marks y) = Steps.marks-keeps s h w c a sound x y

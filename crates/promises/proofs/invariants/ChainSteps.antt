@@ -23,7 +23,7 @@ use Rattle.pipe.proofs.EndpointLaws.{Wide, owner-wide}
 use Rattle.opening.specs.Heads.{withHeadWord}
 use Rattle.common.proofs.RowLaws.{put-before, put-behind}
 use Rattle.schedule.specs.Links.{endedOverlay, linkWord, ringLink}
-use Rattle.endpoint.specs.Calls.{newEndpoint, withHead}
+use Rattle.endpoint.specs.Calls.{newEndpoint, withHead, withSize}
 use Rattle.request.specs.Writeback.{tokenChain}
 use Rattle.collection.specs.Calls.{finishOf, freed, marked}
 use Rattle.collection.proofs.CollectLaws.{ended-others}
@@ -32,7 +32,7 @@ use Rattle.ehci.specs.Door.{Applied}
 use Rattle.promises.specs.Runs.{History, Rows, Turn, World, leftBy, rowsOf, turnOf}
 use Rattle.promises.specs.Events.{Collects, Drains, Event, Other, Reads, event}
 use Rattle.promises.specs.Uses.{frameSlots, framesAfter, ringAfter, ringSlots}
-use Rattle.promises.proofs.effects.Effects.{Closes, Collected, Counts, Hears, Joins, Marks, Opens, Passes, Rewrites, Still, WritesBack, besides, withHeads, withPool}
+use Rattle.promises.proofs.effects.Effects.{Closes, Collected, Counts, Hears, Joins, Marks, Opens, Passes, Resizes, Rewrites, Still, WritesBack, besides, withHeads, withPool}
 use Rattle.promises.proofs.invariants.Sound.{Sound, slot-below, slot-low}
 use Rattle.promises.proofs.invariants.ChainInv.{Chained, heads-long, Schedule, Schedules, linked-fields, linkedIn, schedule-stays, unlinked-stays}
 
@@ -162,7 +162,7 @@ module _ (s : Settings) (h : History) (w : World) (c : Call) (a : Applied) (soun
   pub opens-keeps : Opens w c a → Chained s (turn ∷ h) (leftBy a)
   unfolding endpointHead terminated
   opens-keeps y =
-      slot-keeps (y .k) (newEndpoint (y .kind)) (withHead (w .rows .heads) (y .k) (wordsOf (endpointHead (y .kind) (y .address) (y .endpoint) (y .packet)))) Other (y .nothing)
+      slot-keeps (y .k) (newEndpoint (y .kind) (y .packet)) (withHead (w .rows .heads) (y .k) (wordsOf (endpointHead (y .kind) (y .address) (y .endpoint) (y .packet)))) Other (y .nothing)
       (w .state) (y .state-is) (y .rows-are) refl refl refl (sound .wide) (omega (arith, y .below, sound .ranges .good .endpoints-most))
       (λ b. ap (linkedIn b) (y .closed)) (λ b. refl)
       (put-ring (y .k) (wordsOf (endpointHead (y .kind) (y .address) (y .endpoint) (y .packet))) refl (y .below))
@@ -175,6 +175,14 @@ module _ (s : Settings) (h : History) (w : World) (c : Call) (a : Applied) (soun
       (w .state) (y .state-is) (y .rows-are) refl refl refl (sound .wide) (slot-low s w sound (y .k) (Idle (y .p)) (y .idle) refl)
       (λ b. ap (linkedIn b) (y .idle)) (λ b. refl)
       (put-ring (y .k) (replicate 17 0) refl low) (put-links (y .k) (replicate 17 0) refl low) refl refl
+
+  pub resizes-keeps : Resizes w c a → Chained s (turn ∷ h) (leftBy a)
+  resizes-keeps y =
+      slot-keeps (y .k) (Idle (withSize (y .p) (y .size))) (withHeadWord (w .rows .heads) (y .k + 1) 1 (y .word)) Other (y .nothing)
+      (w .state) (y .state-is) (y .rows-are) refl refl refl (sound .wide) (slot-low s w sound (y .k) (Idle (y .p)) (y .idle) refl)
+      (λ b. ap (linkedIn b) (y .idle)) (λ b. refl)
+      (getD-set-other (w .rows .heads) (17 * (y .k + 1) + 1) 0 (y .word) 0 (λ e. omega arith))
+      (λ i ne. getD-set-other (w .rows .heads) (17 * (y .k + 1) + 1) (17 * (i + 1)) (y .word) 0 (λ e. omega arith)) refl refl
 
   pub marks-keeps : Marks w c a → Chained s (turn ∷ h) (leftBy a)
   marks-keeps y =

@@ -101,14 +101,14 @@ farther-aside k e Unrung u p = refl
 farther-aside k e Unanswered u p = refl
 farther-aside k e (Since start) u p = refl
 
-pub uses-aside : (s : Settings) (t : Turn) (us : List Use) (e : Event) → ((k : ℕ) → Aside k e) → usesAfter s t e us ≡ us
-uses-aside s t us Other a = refl
-uses-aside s t us Reads a = refl
-uses-aside s t us Drains a = refl
-uses-aside s t us (Submits j id r) a = absurd (true≢false (sym (eq-eqb j j refl) ∙ a j .no-submit))
-uses-aside s t us (Unlinks j) a = refl
-uses-aside s t us (Parts j frame) a = refl
-uses-aside s t us (Collects j id frame) a = absurd (true≢false (sym (eq-eqb j j refl) ∙ a j .no-collect))
+pub uses-aside : (s : Settings) (t : Turn) (h : History) (us : List Use) (e : Event) → ((k : ℕ) → Aside k e) → usesAfter s t h e us ≡ us
+uses-aside s t h us Other a = refl
+uses-aside s t h us Reads a = refl
+uses-aside s t h us Drains a = refl
+uses-aside s t h us (Submits j id r) a = absurd (true≢false (sym (eq-eqb j j refl) ∙ a j .no-submit))
+uses-aside s t h us (Unlinks j) a = refl
+uses-aside s t h us (Parts j frame) a = refl
+uses-aside s t h us (Collects j id frame) a = absurd (true≢false (sym (eq-eqb j j refl) ∙ a j .no-collect))
 
 pub joined-aside : (s : Settings) (t : Turn) (xs : List Hold) (e : Event) → ((k : ℕ) → Aside k e) → joined s t e xs ≡ xs
 joined-aside s t xs Other a = refl

@@ -32,6 +32,7 @@ use Rattle.promises.proofs.invariants.BellInvariant.{Calm, calm-bell}
 use Rattle.promises.proofs.invariants.BellSteps.{StateInv}
 use Rattle.promises.proofs.invariants.BellSummary.{Advances, Answers, Comes, Departs, Ends, Goes, Kept, Quiets, Summary}
 use Rattle.promises.proofs.invariants.FaultHolds.{AllHeld, Fits, Gone, Held, InSchedule, bell-rings, carried, farther-aside, fits-any, fits-kept, joined-aside, used-stays, usedBy, uses-aside}
+use Rattle.promises.specs.Slots.{sizeIn}
 
 answered-apart : Answered ≡ Rung → ⊥
 answered-apart e = true≢false (ap isAnswered e)
@@ -65,10 +66,10 @@ module _ (s : Settings) (w : World) (c : Call) (a : Applied) (h : History) (soun
       → usedBy (x .slot) (x .places) us′ × Fits (bell s (t ∷ h)) (f′ (x .slot)) (farther (x .slot) (rings t) e (x .reach))
 
   -- a turn that brings no new hold
-  no-new : (e : Event) → event s t ≡ e → ((xs : List Hold) → joined s t e xs ≡ xs) → HeldInv s h f → Carries e (usesAfter s t e us) → HeldInv s (t ∷ h) f′
+  no-new : (e : Event) → event s t ≡ e → ((xs : List Hold) → joined s t e xs ≡ xs) → HeldInv s h f → Carries e (usesAfter s t h e us) → HeldInv s (t ∷ h) f′
   unfolding uses holds
   no-new e q same inv one =
-      rw (q, same (onward (rings t) e (holds s h))) (carried us (usesAfter s t e us) b (bell s (t ∷ h)) f f′ (rings t) e one (holds s h) inv)
+      rw (q, same (onward (rings t) e (holds s h))) (carried us (usesAfter s t h e us) b (bell s (t ∷ h)) f f′ (rings t) e one (holds s h) inv)
 
   -- in a calm turn that is not about a hold's slot the hold stays
   calm-hold : Calm s t h → (e : Event) → (x : Hold) → Aside (x .slot) e → Kept (f (x .slot)) (f′ (x .slot)) → Fits b (f (x .slot)) (x .reach)
@@ -80,7 +81,7 @@ module _ (s : Settings) (w : World) (c : Call) (a : Applied) (h : History) (soun
   quiets-hold q inv =
       no-new (event s t) refl (λ xs. joined-aside s t xs (event s t) (q .aside)) inv
       (λ x y n. (
-        subst (usedBy (x .slot) (x .places)) (sym (uses-aside s t us (event s t) (q .aside))) (y .used),
+        subst (usedBy (x .slot) (x .places)) (sym (uses-aside s t h us (event s t) (q .aside))) (y .used),
         calm-hold (q .stays) (event s t) x (q .aside (x .slot)) (q .kept (x .slot)) (y .fits),
       ))
 
@@ -136,7 +137,7 @@ module _ (s : Settings) (w : World) (c : Call) (a : Applied) (h : History) (soun
       places = chainWalk s (t .after) (q .k)
 
       newest : Use
-      newest = record { slot = q .k; id = q .id; request = q .request; places = places }
+      newest = record { slot = q .k; id = q .id; request = q .request; size = sizeIn (q .k) h; places = places }
 
       new : Held (newest ∷ us) (bell s (t ∷ h)) f′ (record { slot = q .k; places = places; reach = Met })
       new = record { used = inl (refl, refl); fits = subst (λ (z : Endpoint). Fits (bell s (t ∷ h)) z Met) (sym (q .now)) tt }

@@ -18,14 +18,14 @@ use Rattle.pipe.proofs.EndpointLaws.{endpoint-other, endpoint-same}
 use Rattle.opening.specs.Opening.{freshState}
 use Rattle.controller.specs.Readers.{holdsRequest, isUncollected}
 use Rattle.schedule.specs.Bell.{fallenFrom}
-use Rattle.endpoint.specs.Calls.{newEndpoint}
+use Rattle.endpoint.specs.Calls.{newEndpoint, withSize}
 use Rattle.request.specs.Submit.{stateWith}
 use Rattle.collection.specs.Calls.{finishOf}
 use Rattle.collection.specs.Unlinks.{waitingOf}
 use Rattle.ehci.specs.declared.call.Call.{Call}
 use Rattle.ehci.specs.Door.{Applied}
 use Rattle.promises.specs.Runs.{World}
-use Rattle.promises.proofs.effects.Effects.{Effect, Idles, accepts, besides, closes, collects, counts, hears, joins, marks, opens, passes, rewrites, still, unlinks, writes-back}
+use Rattle.promises.proofs.effects.Effects.{Effect, Idles, accepts, besides, closes, collects, counts, hears, joins, marks, opens, passes, resizes, rewrites, still, unlinks, writes-back}
 use Rattle.promises.proofs.effects.EffectDoor.{idles-on}
 use Rattle.promises.proofs.effects.SlotViews.{view-boundaries}
 use Rattle.promises.proofs.invariants.Sound.{Sound, slot-low}
@@ -69,13 +69,17 @@ module _ (s : Settings) (w : World) (c : Call) (a : Applied) (g : Sound s w) (i 
       })
   idles-keeps (opens x) =
       moved _ _ (x .state-is)
-      (vacant-idles (w .state) (x .k) (newEndpoint (x .kind))
-      (endpoint-same (w .state) (x .k) (newEndpoint (x .kind)) (g .wide) (omega (arith, x .below, g .ranges .good .endpoints-most)) tt) refl i)
+      (vacant-idles (w .state) (x .k) (newEndpoint (x .kind) (x .packet))
+      (endpoint-same (w .state) (x .k) (newEndpoint (x .kind) (x .packet)) (g .wide) (omega (arith, x .below, g .ranges .good .endpoints-most)) tt) refl i)
   idles-keeps (closes x) =
       moved _ _ (x .state-is)
       (vacant-idles (w .state) (x .k) Closed
       (endpoint-same (w .state) (x .k) Closed (g .wide) (slot-low s w g (x .k) (Idle (x .p)) (x .idle) refl) tt) refl i)
   idles-keeps (rewrites x) = moved _ _ (x .state-is) i
+  idles-keeps (resizes x) =
+      moved _ _ (x .state-is)
+      (vacant-idles (w .state) (x .k) (Idle (withSize (x .p) (x .size)))
+      (endpoint-same (w .state) (x .k) (Idle (withSize (x .p) (x .size))) (g .wide) (slot-low s w g (x .k) (Idle (x .p)) (x .idle) refl) tt) refl i)
   idles-keeps (accepts x) =
       moved _ _ (x .state-is)
       (running-idles (w .state) _ refl refl (omega (arith, eqb-false (w .state .running) 0 (x .judged .runs), g .ranges .running-flag)) i)

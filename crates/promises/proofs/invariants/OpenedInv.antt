@@ -20,13 +20,17 @@ use Rattle.collection.specs.Unlinks.{waitingOf}
 use Rattle.ehci.specs.declared.call.Call.{Call}
 use Rattle.ehci.specs.Door.{Applied}
 use Rattle.promises.specs.Runs.{History, Opening, Turn, World, leftBy, turnOf}
-use Rattle.promises.specs.Opened.{Change, ClosesSlot, Halted, Open, OpensSlot, Running, Same, SlotKind, change, kindNow, kindIn, runsAfter, runsIn, slotAfter, slotIn}
-use Rattle.promises.proofs.effects.Effects.{Effect, Still, Switches, accepts, closes, collects, counts, hears, joins, marks, opens, passes, rewrites, still, unlinks, writes-back}
+use Rattle.promises.specs.Opened.{kindNow, kindIn}
+use Rattle.promises.specs.Slots.{Change, ClosesSlot, Halted, Open, OpensSlot, ResizesSlot, Running, Same, SlotKind, resized, change, runsAfter, runsIn, slotAfter, slotIn}
+use Rattle.promises.proofs.effects.Effects.{Effect, Still, Switches, accepts, closes, collects, counts, hears, joins, marks, opens, passes, resizes, rewrites, still, unlinks, writes-back, Resizes}
 use Rattle.promises.proofs.invariants.Reached.{opening-is}
 use Rattle.promises.proofs.effects.SlotViews.{view-open, view-kept}
 use Rattle.promises.proofs.invariants.Sound.{Sound, of-state}
 use Rattle.promises.proofs.invariants.BellFacts.{fresh-closed}
 use Rattle.promises.proofs.invariants.ViewsAfter.{view-after, viewed}
+use Rattle.common.specs.declared.kinds.EndpointType.{EndpointType}
+use native.Mathlib.Decide.{ℕ-discrete as decEq}
+use borrow.Author.Tests.{ne-eqb}
 
 -- ---- the kind of a slot
 
@@ -39,8 +43,8 @@ kind-again (Linked p r) = rw (kind-there (p .kind))
 kind-again (Unlinking p r b) = rw (kind-there (p .kind))
 
 -- the kind of an open slot is what its number stands for
-pub kind-slot : (s : Ehci) (k : ℕ) → isOpen s k ≡ true → kindNow s k ≡ Open (kindOf (slotAt s k .kind))
-kind-slot s k o = view-open kindIn s k o (Open (kindOf (slotAt s k .kind))) refl refl (λ b. refl)
+pub kind-slot : (s : Ehci) (k : ℕ) → isOpen s k ≡ true → kindNow s k ≡ Open (kindOf (slotAt s k .kind)) (slotAt s k .size)
+kind-slot s k o = view-open kindIn s k o (Open (kindOf (slotAt s k .kind)) (slotAt s k .size)) refl refl (λ b. refl)
 
 -- ---- the invariant
 
@@ -91,10 +95,20 @@ module _ (w : World) (c : Call) (a : Applied) (h : History) (told : Told h (w .s
 
         by : (y : Change) → change t ≡ y → Switches y (old .running) (x .sides .running) → Told (t ∷ h) new
         by Same e s = told-by Same e kinds (run ∙ s ∙ told .runs)
-        by (OpensSlot k kind) e s = absurd s
+        by (OpensSlot k kind size) e s = absurd s
+        by (ResizesSlot k size) e s = absurd s
         by (ClosesSlot k) e s = absurd s
         by Halted e s = told-by Halted e kinds (run ∙ s)
         by Running e s = told-by Running e kinds (run ∙ s)
+
+    -- the slot that is given another size has its kind
+    resized-here : (x : Resizes w c a) (j : ℕ) → cond (eqb (x .k) j) (resized (slotIn j h) (x .size)) (slotIn j h) ≡ cond (eqb (x .k) j) (Open (x .p .kind) (x .size)) (kindNow old j)
+    resized-here x j = ap (λ (z : SlotKind). cond (eqb (x .k) j) (resized z (x .size)) z) (told .slots j) ∙ own (decEq (x .k) j)
+      where
+        own : Dec (x .k ≡ j) → cond (eqb (x .k) j) (resized (kindNow old j) (x .size)) (kindNow old j) ≡ cond (eqb (x .k) j) (Open (x .p .kind) (x .size)) (kindNow old j)
+        own (yes e) =
+            ap (λ (z : SlotKind). cond (eqb (x .k) j) (resized z (x .size)) (kindNow old j)) (ap (λ (i : ℕ). kindNow old i) (sym e) ∙ ap kindIn (x .idle))
+        own (no ne) = rw (ne-eqb (x .k) j ne)
 
     told-here : Effect w c a → Told (t ∷ h) new
     unfolding withBell withBoundaries stateWith waitingOf finishOf withOwner withEndpoint withSlot
@@ -104,17 +118,21 @@ module _ (w : World) (c : Call) (a : Applied) (h : History) (told : Told h (w .s
     told-here (passes x) = unchanged (x .same) (after (passes x)) (ap (λ (y : Ehci). y .running) (x .state-is) ∙ x .runs-on .0)
     told-here (counts x) = unchanged (x .same) (after (counts x)) (ap (λ (y : Ehci). y .running) (x .state-is) ∙ x .runs-on .0)
     told-here (opens x) =
-        told-by (OpensSlot (x .k) (x .kind)) (x .changes) (λ j. ap (λ (z : SlotKind). cond (eqb (x .k) j) (Open (x .kind)) z) (told .slots j) ∙ sym (after (opens x) j))
+        told-by (OpensSlot (x .k) (x .kind) (x .packet)) (x .changes) (λ j. ap (λ (z : SlotKind). cond (eqb (x .k) j) (Open (x .kind) (x .packet)) z) (told .slots j) ∙ sym (after (opens x) j))
         (ap (λ (y : Ehci). y .running) (x .state-is) ∙ told .runs)
     told-here (closes x) =
         told-by (ClosesSlot (x .k)) (x .changes) (λ j. ap (λ (z : SlotKind). cond (eqb (x .k) j) (kindIn Closed) z) (told .slots j) ∙ sym (after (closes x) j))
         (ap (λ (y : Ehci). y .running) (x .state-is) ∙ told .runs)
     told-here (rewrites x) = unchanged (x .same) (after (rewrites x)) (ap (λ (y : Ehci). y .running) (x .state-is))
+    told-here (resizes x) =
+        told-by (ResizesSlot (x .k) (x .size)) (x .changes) (λ j. resized-here x j ∙ sym (after (resizes x) j))
+        (ap (λ (y : Ehci). y .running) (x .state-is) ∙ told .runs)
     told-here (accepts x) =
         unchanged (x .same)
         (λ j. after (accepts x) j
         ∙ view-kept kindIn old (x .k) _
-        (sym (kind-slot old (x .k) (x .judged .opened) ∙ ap (λ (n : ℕ). Open (kindOf n)) (sym (x .judged .same-kind)) ∙ ap Open (kind-there (x .t .kind)))) j)
+        (sym (kind-slot old (x .k) (x .judged .opened) ∙ ap (λ (n : ℕ). Open (kindOf n) (slotAt old (x .k) .size)) (sym (x .judged .same-kind))
+        ∙ ap (λ (y : EndpointType). Open y (slotAt old (x .k) .size)) (kind-there (x .t .kind)))) j)
         (ap (λ (y : Ehci). y .running) (x .state-is))
     told-here (writes-back x) = unchanged (x .same) (after (writes-back x)) (ap (λ (y : Ehci). y .running) (x .state-is))
     told-here (marks x) =

@@ -5,7 +5,7 @@ use mathlib.Core.List.{List, [], _∷_, map}
 use mathlib.Core.Path.{_≡_, refl, sym, ap, subst, _∙_}
 use native.Mathlib.Decide.{ℕ-discrete as decEq}
 use native.Mathlib.Omega.{arith}
-use borrow.Author.Tests.{eq-eqb, le-ltb, lt-ltb, ltb-false, ltb-true, ne-eqb}
+use borrow.Author.Tests.{eq-eqb, le-ltb, lt-ltb, ltb-false, ltb-true, ne-eqb, eqb-true}
 use lib.Dec.{eqb, ltb}
 use lib.ListN.{take}
 use Rattle.settings.specs.declared.settings.Settings.{Settings}
@@ -13,30 +13,36 @@ use Rattle.common.proofs.TestLaws.{false-true}
 use Rattle.state.specs.Slots.{slotAt}
 use Rattle.state.specs.Plain.{Ehci}
 use Rattle.common.specs.Answers.{first}
-use Rattle.pipe.specs.Endpoints.{endpointAt, flagNumber, kindNumber}
+use Rattle.pipe.specs.Endpoints.{endpointAt, flagNumber, kindNumber, kindOf, limitAt}
 use Rattle.pipe.specs.declared.endpoints.Endpoint.{Endpoint}
 use Rattle.pipe.specs.declared.endpoints.Endpoint.the-variants.{Closed, Idle, Linked, Unlinking}
-use Rattle.pipe.proofs.EndpointLaws.{kind-back}
+use Rattle.pipe.proofs.EndpointLaws.{kind-back, kind-there}
 use Rattle.controller.specs.Readers.{freeCount, hasEndpoint, holdsRequest, isOpen, isUncollected}
 use Rattle.controller.proofs.FreeLaws.{zeros-are}
 use Rattle.controller.proofs.ReaderLaws.{open-below}
-use Rattle.request.specs.Submit.{needOfRequest, submitChecks}
+use Rattle.request.specs.Submit.{needOfRequest, submitChecks, rangesGood}
 use Rattle.request.specs.declared.judge.TransferRequest.{TransferRequest}
 use Rattle.promises.specs.Runs.{History, World}
 use Rattle.promises.specs.Walks.{isIn}
 use Rattle.promises.specs.Uses.{Use, needs, uses}
 use Rattle.promises.specs.Rooms.{Every}
-use Rattle.promises.specs.Opened.{hasKind, isBusy, isShut, kindIn, runsIn, slotIn, submitAsks, wanted}
+use Rattle.promises.specs.Opened.{hasKind, isBusy, isShut, kindIn, submitAsks, wanted}
+use Rattle.promises.specs.Slots.{runsIn, slotIn, limitIn}
 use Rattle.promises.proofs.invariants.Sound.{Sound}
 use Rattle.promises.proofs.invariants.UseInv.{Avoids, Held, Nobody, Tenant, Waits, every-map, tenantAt, tenantOf}
 use Rattle.promises.proofs.invariants.OpenedInv.{Told, kind-slot}
 use Rattle.promises.proofs.effects.EffectRanges.{kind-most}
+use Rattle.promises.specs.SubmitOrder.{submitOrder}
+use Rattle.token.specs.Chunks.{needOf, workingLimit}
+use Rattle.promises.proofs.invariants.UseAccepts.{told-size}
+use Rattle.common.specs.declared.kinds.EndpointType.{EndpointType}
+use Rattle.common.specs.Kinds.{isIsochronous}
 
 -- ---- an uncollected request
 
 abbrev isSomebody : Tenant → Bool
 isSomebody Nobody = false
-isSomebody (Waits kind id d n) = true
+isSomebody (Waits kind z id d n) = true
 
 somebody-holds : (x : Endpoint) → isSomebody (tenantOf x) ≡ holdsRequest x
 somebody-holds Closed = refl
@@ -94,6 +100,15 @@ room-is free used all need e = by (ltb free need) refl
     by true q = lt-ltb all (used + need) (omega (arith, e, ltb-true free need q)) ∙ sym q
     by false q = le-ltb all (used + need) (omega (arith, e, ltb-false free need q)) ∙ sym q
 
+-- a request of another kind is refused before the room is asked
+kind-decides : (shut stopped busy never bad : Bool) (lacks other : Bool)
+    → first (submitOrder shut stopped busy never true bad lacks) ≡ first (submitOrder shut stopped busy never true bad other)
+kind-decides true stopped busy never bad lacks other = refl
+kind-decides false true busy never bad lacks other = refl
+kind-decides false false true never bad lacks other = refl
+kind-decides false false false true bad lacks other = refl
+kind-decides false false false false bad lacks other = refl
+
 -- ---- the verdict
 
 module _ (h : History) (w : World) (sound : Sound (w .state .settings) w) (held : Held (w .state .settings) h w) (told : Told h (w .state)) where
@@ -123,9 +138,25 @@ module _ (h : History) (w : World) (sound : Sound (w .state .settings) w) (held 
         runs : not (runsIn h) ≡ eqb (st .running) 0
         runs = flag-zero (runsIn h) ∙ sym (ap (λ (n : ℕ). eqb n 0) (told .runs))
 
-        room : ltb (s .descriptors) (wanted s h t) ≡ ltb (freeCount st) (needOfRequest st t)
-        room = room-is (freeCount st) (needs s (uses s h)) (s .descriptors) (needOfRequest st t) free-is
+        -- of a request of the slot's kind
+        limit : isOpen st k ≡ true → kindNumber (t .kind) ≡ slotAt st k .kind → limitIn s h k t ≡ limitAt st k
+        limit o e =
+            ap (workingLimit (t .kind) (s .limit)) (told-size h st k told o)
+            ∙ ap (λ (y : EndpointType). workingLimit y (s .limit) (slotAt st k .size)) (sym (kind-there (t .kind)) ∙ ap (λ (n : ℕ). kindOf n) e)
+
+        room : isOpen st k ≡ true → kindNumber (t .kind) ≡ slotAt st k .kind → ltb (s .descriptors) (wanted s h k t) ≡ ltb (freeCount st) (needOfRequest st k t)
+        room o e =
+            ap (λ (n : ℕ). ltb (s .descriptors) (needs s (uses s h) + needOf (t .kind) (t .length) n)) (limit o e)
+            ∙ room-is (freeCount st) (needs s (uses s h)) (s .descriptors) (needOfRequest st k t) free-is
+
+        same-kind : isOpen st k ≡ true → (b : Bool) → eqb (kindNumber (t .kind)) (slotAt st k .kind) ≡ b → first (submitAsks s h k t) ≡ first (submitChecks st k t)
+        same-kind o true e =
+            rw (shut, runs, held-is s h w held k, kind-is o, room o (eqb-true (kindNumber (t .kind)) (slotAt st k .kind) e))
+        same-kind o false e =
+            rw (shut, runs, held-is s h w held k, kind-is o, e)
+            (kind-decides (not (isOpen st k)) (eqb (st .running) 0) (isUncollected st k) (isIsochronous (t .kind)) (not (rangesGood t))
+            (ltb (s .descriptors) (wanted s h k t)) (ltb (freeCount st) (needOfRequest st k t)))
 
         by : (o : Bool) → isOpen st k ≡ o → first (submitAsks s h k t) ≡ first (submitChecks st k t)
-        by true q = rw (shut, runs, held-is s h w held k, kind-is q, room)
+        by true q = same-kind q (eqb (kindNumber (t .kind)) (slotAt st k .kind)) refl
         by false q = rw (shut, q)

@@ -66,6 +66,7 @@ fresh-sound s e =
       wide = record {
         phases-wide = length-replicate {A = ℕ} 32 0;
         kinds-wide = length-replicate {A = ℕ} 32 0;
+        sizes-wide = length-replicate {A = ℕ} 32 0;
         ids-wide = length-replicate {A = ℕ} 32 1;
         requests-wide = length-replicate {A = ℕ} 32 0;
         directions-wide = length-replicate {A = ℕ} 32 0;

@@ -106,6 +106,7 @@ module _ (s : Settings) (w : World) (g : Sound s w) where
       record {
         phases-wide = v .phases-wide;
         kinds-wide = v .kinds-wide;
+        sizes-wide = v .sizes-wide;
         ids-wide = v .ids-wide;
         requests-wide = v .requests-wide;
         directions-wide = v .directions-wide;
@@ -134,8 +135,8 @@ module _ (s : Settings) (w : World) (g : Sound s w) where
     pub slot-below : k < w .state .settings .endpoints
     slot-below = open-within (w .state) k (g .ranges) is-open
 
-    pub slot-good : EndpointGood (w .state .unanswered) x
-    slot-good = subst (λ (y : Endpoint). EndpointGood (w .state .unanswered) y) at (endpoint-good (w .state) k (g .ranges) slot-low)
+    pub slot-good : EndpointGood (w .state .settings .limit) (w .state .unanswered) x
+    slot-good = subst (λ (y : Endpoint). EndpointGood (w .state .settings .limit) (w .state .unanswered) y) at (endpoint-good (w .state) k (g .ranges) slot-low)
 
     -- its head is in the row
     pub head-within : 17 * (k + 1) + 17 ≤ length (w .rows .heads)

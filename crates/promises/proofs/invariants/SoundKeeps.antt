@@ -28,7 +28,7 @@ use Rattle.common.specs.Kinds.{isControl, isInterrupt}
 use Rattle.pipe.specs.declared.endpoints.Endpoint.{Endpoint}
 use Rattle.pipe.specs.declared.endpoints.Request.{Request}
 use Rattle.pipe.specs.declared.endpoints.Endpoint.the-variants.{Closed, Idle, Linked, Unlinking}
-use Rattle.pipe.proofs.EndpointLaws.{LinkedGood, UnlinkingGood, bell-wide, endpoint-keeps, owner-wide, slot-wide}
+use Rattle.pipe.proofs.EndpointLaws.{LinkedGood, UnlinkingGood, bell-wide, endpoint-keeps, owner-wide, slot-wide, OpenPipe}
 use Rattle.common.proofs.RowLaws.{put-length}
 use Rattle.common.proofs.TestLaws.{both-tells}
 use Rattle.controller.proofs.ReaderLaws.{open-within}
@@ -37,7 +37,7 @@ use Rattle.schedule.proofs.OverlayLaws.{started-length}
 use Rattle.schedule.specs.Links.{attachedFrames, attachedRing, detachOf, givenLink, linkWord, periodic, predecessorOf, startedOverlay}
 use Rattle.schedule.specs.declared.links.Predecessor.{Predecessor}
 use Rattle.schedule.specs.declared.links.Predecessor.the-variants.{First, Head, Missing}
-use Rattle.endpoint.specs.Calls.{newEndpoint}
+use Rattle.endpoint.specs.Calls.{newEndpoint, withSize}
 use Rattle.request.specs.Submit.{attachedBy, chainFor, linkedRows, needOfRequest, placesFor, setupsWith, stateWith, takenFor, takenOf}
 use Rattle.request.specs.Writeback.{inRequest, tokenChain}
 use Rattle.request.specs.declared.judge.TransferRequest.{TransferRequest}
@@ -50,8 +50,9 @@ use Rattle.collection.proofs.RangeLaws.{finish-keeps, mark-keeps, waiting-keeps
 use Rattle.ehci.specs.declared.call.Call.{Call}
 use Rattle.ehci.specs.Door.{Applied}
 use Rattle.promises.specs.Runs.{World, leftBy, rowsOf}
-use Rattle.promises.proofs.effects.Effects.{Accepts, Closes, Collected, Counts, Effect, Hears, Marks, Opens, Rewrites, Sides, Unlinked, WritesBack, accepts, besides, closes, collects, counts, hears, joins, marks, opens, passes, rewrites, still, unlinks, writes-back}
+use Rattle.promises.proofs.effects.Effects.{Accepts, Closes, Collected, Counts, Effect, Hears, Marks, Opens, Resizes, Rewrites, Sides, Unlinked, WritesBack, accepts, besides, closes, collects, counts, hears, joins, marks, opens, passes, resizes, rewrites, still, unlinks, writes-back}
 use Rattle.promises.proofs.invariants.Sound.{Sound, both-sound, endpoint-sound, head-within, heads-sound, rows-sound, sides-sound, sides-wide, slot-below, slot-good, slot-low, state-sound}
+use Rattle.controller.specs.Readers.{hasEndpoint}
 
 -- ---- lengths
 
@@ -97,8 +98,8 @@ taken-length : (s : Ehci) (k : ℕ) (t : TransferRequest) → length (takenFor s
 unfolding takenFor takenOf
 taken-length s k t =
     let d = s .settings .descriptors in
-    length-front (s .owner) (markOf (take d (s .owner)) (needOfRequest s t) (k + 1)) d
-    (mark-length (take d (s .owner)) (needOfRequest s t) (k + 1))
+    length-front (s .owner) (markOf (take d (s .owner)) (needOfRequest s k t) (k + 1)) d
+    (mark-length (take d (s .owner)) (needOfRequest s k t) (k + 1))
 
 -- ---- each kind of effect
 
@@ -134,6 +135,7 @@ module _ (s : Settings) (w : World) (c : Call) (a : Applied) (g : Sound s w) whe
         wide = record {
           phases-wide = g .wide .phases-wide;
           kinds-wide = g .wide .kinds-wide;
+          sizes-wide = g .wide .sizes-wide;
           ids-wide = g .wide .ids-wide;
           requests-wide = g .wide .requests-wide;
           directions-wide = g .wide .directions-wide;
@@ -149,9 +151,9 @@ module _ (s : Settings) (w : World) (c : Call) (a : Applied) (g : Sound s w) whe
   unfolding endpointHead terminated
   opens-sound x =
       both-sound s a _ _ (x .state-is) (x .rows-are)
-      (endpoint-sound s w g (x .k) (newEndpoint (x .kind))
-      (endpoint-keeps st (x .k) (g .ranges) (g .wide) low (newEndpoint (x .kind))
-      (record { next-least = omega arith; never = x .never }) (λ le. absurd (omega (arith, le, x .below)))))
+      (endpoint-sound s w g (x .k) (newEndpoint (x .kind) (x .packet))
+      (endpoint-keeps st (x .k) (g .ranges) (g .wide) low (newEndpoint (x .kind) (x .packet))
+      (record { next-least = omega arith; never = x .never; size = x .sized }) (λ le. absurd (omega (arith, le, x .below)))))
       (heads-sound s w g _ (put-length (w .rows .heads) (17 * (x .k + 1)) (wordsOf (endpointHead (x .kind) (x .address) (x .endpoint) (x .packet))) room))
     where
       low : x .k < 32
@@ -168,6 +170,20 @@ module _ (s : Settings) (w : World) (c : Call) (a : Applied) (g : Sound s w) whe
       (endpoint-sound s w g (x .k) Closed
       (endpoint-keeps st (x .k) (g .ranges) (g .wide) (slot-low s w g (x .k) (Idle (x .p)) (x .idle) refl) Closed tt (λ le. refl)))
       (heads-sound s w g _ (put-length (w .rows .heads) (17 * (x .k + 1)) (replicate 17 0) (head-within s w g (x .k) (Idle (x .p)) (x .idle) refl)))
+
+  resizes-sound : Resizes w c a → Sound s (leftBy a)
+  resizes-sound x =
+      both-sound s a _ _ (x .state-is) (x .rows-are)
+      (endpoint-sound s w g (x .k) (Idle (withSize (x .p) (x .size)))
+      (endpoint-keeps st (x .k) (g .ranges) (g .wide) (slot-low s w g (x .k) (Idle (x .p)) (x .idle) refl) (Idle (withSize (x .p) (x .size)))
+      (record { next-least = good .next-least; never = good .never; size = x .sized }) (λ le. absurd (omega (arith, le, below)))))
+      (heads-sound s w g _ (length-set (w .rows .heads) (17 * (x .k + 1) + 1) (x .word)))
+    where
+      good : OpenPipe (st .settings .limit) (x .p)
+      good = slot-good s w g (x .k) (Idle (x .p)) (x .idle) refl
+
+      below : x .k < st .settings .endpoints
+      below = open-within st (x .k) (g .ranges) (ap hasEndpoint (x .idle))
 
   rewrites-sound : Rewrites w c a → Sound s (leftBy a)
   rewrites-sound x =
@@ -232,7 +248,7 @@ module _ (s : Settings) (w : World) (c : Call) (a : Applied) (g : Sound s w) whe
       here : Endpoint
       here = Linked (x .p) (x .r)
 
-      good : LinkedGood (x .p) (x .r)
+      good : LinkedGood (st .settings .limit) (x .p) (x .r)
       good = slot-good s w g (x .k) here (x .linked) refl
 
       least : 1 ≤ x .asked .id
@@ -256,7 +272,7 @@ module _ (s : Settings) (w : World) (c : Call) (a : Applied) (g : Sound s w) whe
       here : Endpoint
       here = Unlinking (x .p) (x .r) (x .u)
 
-      good : UnlinkingGood (st .unanswered) (x .p) (x .r) (x .u)
+      good : UnlinkingGood (st .settings .limit) (st .unanswered) (x .p) (x .r) (x .u)
       good = slot-good s w g (x .k) here (x .unlinking) refl
 
   accepts-sound : Accepts w c a → Sound s (leftBy a)
@@ -271,7 +287,7 @@ module _ (s : Settings) (w : World) (c : Call) (a : Applied) (g : Sound s w) whe
       })
       (record {
         pool-fits = fill-length _ (w .rows .pool) ∙ g .pool-fits;
-        shared-stands = shared-aside (chainFor st (x .k) (x .t) (takenFor st (x .k) (x .t))) (placesFor st (x .t)) chain-places past;
+        shared-stands = shared-aside (chainFor st (x .k) (x .t) (takenFor st (x .k) (x .t))) (placesFor st (x .k) (x .t)) chain-places past;
         heads-fit = linked-lengths (w .rows .heads) (w .rows .frames) (x .k) _ _ (isInterrupt (x .t .kind)) .0 ∙ g .heads-fit;
         frames-fit = linked-lengths (w .rows .heads) (w .rows .frames) (x .k) _ _ (isInterrupt (x .t .kind)) .1 ∙ g .frames-fit;
         setups-fit = setups-length (w .rows .setups) (x .k) (x .t) room ∙ g .setups-fit;
@@ -280,14 +296,14 @@ module _ (s : Settings) (w : World) (c : Call) (a : Applied) (g : Sound s w) whe
       front : List ℕ
       front = take (st .settings .descriptors) (st .owner)
 
-      chain-places : takenFor st (x .k) (x .t) .places ≡ packed (placesFor st (x .t))
+      chain-places : takenFor st (x .k) (x .t) .places ≡ packed (placesFor st (x .k) (x .t))
       chain-places = refl
 
-      past : Each (λ p. s .descriptors ≡ p → ⊥) (placesFor st (x .t))
+      past : Each (λ p. s .descriptors ≡ p → ⊥) (placesFor st (x .k) (x .t))
       past =
           each-map (λ (p : ℕ). p < length front) (λ (p : ℕ). s .descriptors ≡ p → ⊥)
           (λ p h e. omega (arith, h, e, length-take (st .settings .descriptors) (st .owner), ap (λ (z : Settings). z .descriptors) (g .settings-are)))
-          (placesFor st (x .t)) (places-within front 0 (needOfRequest st (x .t)))
+          (placesFor st (x .k) (x .t)) (places-within front 0 (needOfRequest st (x .k) (x .t)))
 
       room : 8 * x .k + 8 ≤ length (w .rows .setups)
       room =
@@ -303,6 +319,7 @@ module _ (s : Settings) (w : World) (c : Call) (a : Applied) (g : Sound s w) whe
   sound-keeps (opens x) = opens-sound x
   sound-keeps (closes x) = closes-sound x
   sound-keeps (rewrites x) = rewrites-sound x
+  sound-keeps (resizes x) = resizes-sound x
   sound-keeps (accepts x) = accepts-sound x
   sound-keeps (writes-back x) = writes-sound x
   sound-keeps (marks x) = marks-sound x

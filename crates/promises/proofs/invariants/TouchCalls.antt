@@ -95,11 +95,11 @@ module _ (w : World) where
       (λ from g. level-touches w (SetAddress k a) _ plain-none (level s) refl))
 
   pub size-touches : (k size : ℕ) → Touches w (SetPacketSize k size) (core w (SetPacketSize k size))
-  unfolding packetDecided setPacketSizeOf changedReply replied noWrites
+  unfolding packetDecided setPacketSizeOf changedReply replied noWrites withEndpoint withSlot
   size-touches k size =
       through Touches w (SetPacketSize k size) (none-refused (SetPacketSize k size) refl InvalidParameter)
       (change-by s n hs (length fs) (length us) k _ _ _ (Changed (SetPacketSize k size)) (none-refused (SetPacketSize k size) refl)
-      (λ from g. level-touches w (SetPacketSize k size) _ plain-none (level s) refl))
+      (λ from g. level-touches w (SetPacketSize k size) _ plain-none (record { pending = refl; masked = refl; enabled = refl; step = refl }) refl))
 
   pub allot-touches : Touches w AllocateAddress (core w AllocateAddress)
   unfolding allotOf allotDecided replied withNextAddress noWrites

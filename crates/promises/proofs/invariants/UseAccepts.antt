@@ -1,6 +1,6 @@
 -- An accepted submit: its use joins the others, and each has its own slot, places and records.
 use Prim.Native.Nat.{ℕ, suc, _+_, _*_, _≤_, _<_}
-use mathlib.Core.Path.{_≡_, refl, sym, ap, subst, _∙_}
+use mathlib.Core.Path.{_≡_, refl, sym, ap, ap₂, subst, _∙_}
 use mathlib.Core.Logic.{_≢_}
 use mathlib.Core.Bool.{Bool, true, false, true≢false}
 use mathlib.Core.List.{List, [], _∷_}
@@ -8,29 +8,31 @@ use native.Mathlib.Omega.{arith}
 use lib.Dec.{eqb}
 use lib.ListN.{drop, getD, length, set, take}
 use lib.Seq.{getD-set-other, getD-set-same, length-take-le, take-at}
-use Rattle.token.specs.Chunks.{ifEmpty, needOf}
+use Rattle.token.specs.Chunks.{ifEmpty, needOf, workingLimit}
 use Rattle.common.specs.declared.kinds.EndpointType.{EndpointType}
 use Rattle.common.specs.declared.kinds.EndpointType.the-variants.{Control, Isochronous, Bulk, Interrupt}
 use Rattle.token.proofs.ChunkLaws.{count-pos}
 use Rattle.descriptor.specs.declared.qtd.QueueTransferDescriptor.{QueueTransferDescriptor}
 use Rattle.pool.specs.Chains.{blank, fillOf, filledFrom}
 use Rattle.pool.specs.Places.{Each, Within, countOf, markOf, placesFrom}
-use Rattle.pool.specs.Transfers.{recordAt}
+use Rattle.pool.specs.Transfers.{alternateWord, recordAt}
+use Rattle.pool.specs.declared.transfer.Transfer.{Transfer}
 use Rattle.pool.specs.Plain.{Transfer as TransferDeed}
 use Rattle.pool.proofs.ChainLaws.{filled-listed}
 use Rattle.pool.proofs.Each.{each-at, each-map}
 use Rattle.pool.proofs.PlaceLaws.{list-packed, mark-count, mark-length, mark-takes, places-ascend, places-hold, places-within}
 use Rattle.settings.specs.declared.settings.Settings.{Settings}
 use Rattle.settings.specs.Settings.{poolLength}
-use Rattle.state.specs.Slots.{withSlot}
+use Rattle.state.specs.Slots.{slotAt, withSlot}
 use Rattle.state.specs.State.{withOwner}
 use Rattle.state.specs.Plain.{Ehci}
-use Rattle.pipe.specs.Endpoints.{endpointAt, withEndpoint}
+use Rattle.pipe.specs.Endpoints.{endpointAt, kindOf, limitAt, withEndpoint}
 use Rattle.common.specs.Kinds.{isInterrupt}
 use Rattle.pipe.specs.declared.endpoints.Endpoint.{Endpoint}
 use Rattle.pipe.specs.declared.endpoints.Endpoint.the-variants.{Closed, Idle, Linked, Unlinking}
-use Rattle.pipe.proofs.EndpointLaws.{owner-wide}
-use Rattle.controller.specs.Readers.{freeCount, holdsRequest}
+use Rattle.pipe.proofs.EndpointLaws.{kind-there, owner-wide}
+use Rattle.pipe.proofs.LimitLaws.{limit-least}
+use Rattle.controller.specs.Readers.{freeCount, holdsRequest, isOpen}
 use Rattle.controller.proofs.FreeLaws.{zeros-are}
 use Rattle.controller.proofs.ReaderLaws.{open-below, open-within}
 use Rattle.schedule.specs.Links.{attachedFrames, attachedRing, slotLink, startedOverlay}
@@ -40,15 +42,17 @@ use Rattle.request.proofs.JudgeLaws.{Judged, free-le}
 use Rattle.request.proofs.SubmitLaws.{places-needed, submit-met, submit-others, submit-places, submit-records, submit-words}
 use Rattle.ehci.specs.declared.call.Call.{Call}
 use Rattle.ehci.specs.Door.{Applied}
-use Rattle.promises.specs.Runs.{History, World, leftBy, turnOf}
+use Rattle.promises.specs.Runs.{History, World, leftBy, rowsOf, turnOf}
 use Rattle.promises.specs.Events.{Submits}
+use Rattle.promises.specs.Slots.{limitIn, sizeIn, sizeOf}
 use Rattle.promises.specs.Uses.{Use, needs, uses}
 use Rattle.promises.specs.Walks.{Terminated, Walk, chainWalk, nextLeads, nextWalk}
 use Rattle.promises.proofs.effects.Effects.{Accepts}
 use Rattle.promises.proofs.effects.SlotViews.{view-same}
 use Rattle.promises.proofs.any_machine.Walking.{chain-walked, walk-along}
 use Rattle.promises.proofs.invariants.Sound.{Sound}
-use Rattle.promises.specs.Rooms.{untold}
+use Rattle.promises.specs.Rooms.{transferFor, untold}
+use Rattle.promises.proofs.invariants.OpenedInv.{Told, kind-slot}
 use Rattle.promises.proofs.invariants.UseInv.{Avoids, Held, HeldIn, Kept, Nobody, all-counted, every-both, every-map, overlayNext, placesAt, tenantAt, tenantOf, vacant-avoids}
 use Rattle.promises.proofs.invariants.UseSteps.{uses-by, tenant-back}
 
@@ -117,10 +121,10 @@ module _ (w : World) (k : ℕ) (t : TransferRequest) (sound : Sound (w .state .s
   front-length : length front ≡ s .descriptors
   front-length = length-take-le (s .descriptors) (st .owner) (omega (arith, sound .ranges .good .descriptors-most, sound .owners))
 
-  row-within : Within (poolLength s) (placesFor st t)
+  row-within : Within (poolLength s) (placesFor st k t)
   row-within =
-      each-map (λ (p : ℕ). p < length front) (λ (p : ℕ). p < poolLength s) (λ p h. omega (arith, h, front-length)) (placesFor st t)
-      (places-within front 0 (needOfRequest st t))
+      each-map (λ (p : ℕ). p < length front) (λ (p : ℕ). p < poolLength s) (λ p h. omega (arith, h, front-length)) (placesFor st k t)
+      (places-within front 0 (needOfRequest st k t))
 
   within : k < s .endpoints
   within = open-within st k (sound .ranges) (judged .opened)
@@ -128,49 +132,69 @@ module _ (w : World) (k : ℕ) (t : TransferRequest) (sound : Sound (w .state .s
   pub vacant : tenantAt st k ≡ Nobody
   vacant = vacant-of (endpointAt st k) (judged .bare)
 
-  need-most : needOfRequest st t ≤ s .descriptors
+  need-most : needOfRequest st k t ≤ s .descriptors
   need-most = omega (arith, judged .room, free-le st)
 
-  front-taken : take (s .descriptors) (takenFor st k t .owner) ≡ markOf front (needOfRequest st t) (k + 1)
+  front-taken : take (s .descriptors) (takenFor st k t .owner) ≡ markOf front (needOfRequest st k t) (k + 1)
   unfolding takenFor takenOf
-  front-taken = take-at (markOf front (needOfRequest st t) (k + 1)) (drop (s .descriptors) (st .owner)) (s .descriptors) (mark-length front (needOfRequest st t) (k + 1) ∙ front-length)
+  front-taken = take-at (markOf front (needOfRequest st k t) (k + 1)) (drop (s .descriptors) (st .owner)) (s .descriptors) (mark-length front (needOfRequest st k t) (k + 1) ∙ front-length)
 
   -- its overlay leads through the places that it takes
-  walked-all : nextWalk s (acceptedWorld .rows .pool) (overlayNext (acceptedWorld .rows .heads) k) ≡ record { met = placesFor st t; end = Terminated }
+  walked-all : nextWalk s (acceptedWorld .rows .pool) (overlayNext (acceptedWorld .rows .heads) k) ≡ record { met = placesFor st k t; end = Terminated }
   walked-all =
       ap (nextWalk s (acceptedWorld .rows .pool))
       (submit-starts (w .rows .heads) (w .rows .frames) k (slotLink st k) (firstIn st (takenFor st k t)) (omega (arith, within, sound .heads-fit)) (t .kind))
-      ∙ chain-walked s (acceptedWorld .rows .pool) (s .descriptors + 1) (firstIn st (takenFor st k t)) (placesFor st t)
+      ∙ chain-walked s (acceptedWorld .rows .pool) (s .descriptors + 1) (firstIn st (takenFor st k t)) (placesFor st k t)
       row-within
       (omega (arith, need-most, places-needed st k t (sound .ranges) judged (sound .owners)))
       (submit-met st k t (sound .ranges) judged (sound .owners) (w .rows .pool) (s .descriptors + 1) (sound .pool-fits)
-      (need-least (t .kind) (t .length) (s .limit) (sound .ranges .good .limit-least)) (omega (arith, need-most)))
+      (need-least (t .kind) (t .length) (limitAt st k) (limit-least st (sound .ranges) k (open-below st k (judged .opened)))) (omega (arith, need-most)))
 
-  pub walked : chainWalk s (acceptedWorld .rows) k ≡ placesFor st t
+  pub walked : chainWalk s (acceptedWorld .rows) k ≡ placesFor st k t
   unfolding chainWalk
   walked = ap (λ (x : Walk). x .met) walked-all
 
   -- its records are its descriptors, in order
-  pub submitted-record : (j : ℕ) → j < length (placesFor st t)
-      → getD (acceptedWorld .rows .pool) (getD (placesFor st t) j 0) blank ≡ recordAt (transferOf st k t) j (drop (suc j) (placesFor st t)) (s .pool)
+  pub submitted-record : (j : ℕ) → j < length (placesFor st k t)
+      → getD (acceptedWorld .rows .pool) (getD (placesFor st k t) j 0) blank ≡ recordAt (transferOf st k t) j (drop (suc j) (placesFor st k t)) (s .pool)
   unfolding takenFor takenOf fillOf
   submitted-record j h =
       let along : 0 + j ≡ j = omega arith in
-      ap (λ (l : List ℕ). getD (filledFrom (TransferDeed (transferOf st k t)) (s .pool) 0 l (w .rows .pool)) (getD (placesFor st t) j 0) blank) (list-packed (placesFor st t))
-      ∙ filled-listed (TransferDeed (transferOf st k t)) (s .pool) 0 (placesFor st t) (w .rows .pool) j (places-ascend 0 front 0 (needOfRequest st t))
-      (subst (λ (n : ℕ). Within n (placesFor st t)) (sym (sound .pool-fits)) row-within) h
-      ∙ ap (λ (n : ℕ). recordAt (transferOf st k t) n (drop (suc j) (placesFor st t)) (s .pool)) along
+      ap (λ (l : List ℕ). getD (filledFrom (TransferDeed (transferOf st k t)) (s .pool) 0 l (w .rows .pool)) (getD (placesFor st k t) j 0) blank) (list-packed (placesFor st k t))
+      ∙ filled-listed (TransferDeed (transferOf st k t)) (s .pool) 0 (placesFor st k t) (w .rows .pool) j (places-ascend 0 front 0 (needOfRequest st k t))
+      (subst (λ (n : ℕ). Within n (placesFor st k t)) (sym (sound .pool-fits)) row-within) h
+      ∙ ap (λ (n : ℕ). recordAt (transferOf st k t) n (drop (suc j) (placesFor st k t)) (s .pool)) along
 
   new-owner : acceptedWorld .state .owner ≡ takenFor st k t .owner
   unfolding stateWith withEndpoint withSlot withOwner
   new-owner = refl
 
-  new-front : take (s .descriptors) (acceptedWorld .state .owner) ≡ markOf front (needOfRequest st t) (k + 1)
+  new-front : take (s .descriptors) (acceptedWorld .state .owner) ≡ markOf front (needOfRequest st k t) (k + 1)
   new-front = ap (λ (o : List ℕ). take (s .descriptors) o) new-owner ∙ front-taken
 
-  -- the use, with its places
+  -- the slot's limit is that of the request's kind and the slot's size
+  pub limit-is : limitAt st k ≡ workingLimit (t .kind) (s .limit) (slotAt st k .size)
+  limit-is =
+      ap (λ (y : EndpointType). workingLimit y (s .limit) (slotAt st k .size)) (ap (λ (n : ℕ). kindOf n) (sym (judged .same-kind)) ∙ kind-there (t .kind))
+
+  -- the use, with its places, and its slot's size
   abbrev useOf : List ℕ → Use
-  useOf ps = record { slot = k; id = idAt st k; request = t; places = ps }
+  useOf ps = record { slot = k; id = idAt st k; request = t; size = slotAt st k .size; places = ps }
+
+  need-is : needOfRequest st k t ≡ needOf (t .kind) (t .length) (workingLimit (t .kind) (s .limit) (slotAt st k .size))
+  need-is = ap (needOf (t .kind) (t .length)) limit-is
+
+  transfer-is : (ps : List ℕ) → transferOf st k t ≡ transferFor s (useOf ps)
+  transfer-is ps = λ i.
+      record {
+        kind = t .kind;
+        direction = t .direction;
+        address = t .address;
+        length = t .length;
+        limit = limit-is i;
+        setup = s .setups + 8 * k;
+        alternate = alternateWord (t .kind) (t .direction) (s .pool + 64 * s .descriptors);
+      }
 
   abbrev KeptNow : Use → Type 0
   KeptNow u = Kept s (acceptedWorld .state .owner) (tenantAt (acceptedWorld .state)) (acceptedWorld .rows .pool) (acceptedWorld .rows .heads) u
@@ -178,19 +202,20 @@ module _ (w : World) (k : ℕ) (t : TransferRequest) (sound : Sound (w .state .s
   abbrev KeptThen : Use → Type 0
   KeptThen u = Kept s (st .owner) (tenantAt st) (w .rows .pool) (w .rows .heads) u
 
-  kept-new : placesAt s (st .owner) (tenantAt st) (w .rows .pool) (w .rows .heads) k ≡ [] → KeptNow (useOf (placesFor st t))
+  kept-new : placesAt s (st .owner) (tenantAt st) (w .rows .pool) (w .rows .heads) k ≡ [] → KeptNow (useOf (placesFor st k t))
   unfolding stateWith
   kept-new none =
       record {
         below = within;
         holds = view-same tenantOf tenant-back (withOwner st (takenFor st k t .owner)) k (linkedWith st k t) (owner-wide st _ (sound .wide)) (open-below st k (judged .opened));
         places-are = sym (ap (λ (o : List ℕ). placesFrom 0 o (k + 1) 256) new-front
-            ∙ mark-takes 0 front (needOfRequest st t) (k + 1) 256 (λ e. omega (arith, e))
+            ∙ mark-takes 0 front (needOfRequest st k t) (k + 1) 256 (λ e. omega (arith, e))
             (sym (all-counted front (k + 1) (omega (arith, front-length, sound .ranges .good .descriptors-most))) ∙ ap length none)
             (omega (arith, need-most, sound .ranges .good .descriptors-most)));
-        as-needed = places-needed st k t (sound .ranges) judged (sound .owners);
+        as-needed = places-needed st k t (sound .ranges) judged (sound .owners) ∙ need-is;
         leads = walked-all;
-        written = λ j h. ap untold (submitted-record j h);
+        written = λ j h. ap untold (submitted-record j h
+            ∙ ap (λ (x : Transfer). recordAt x j (drop (suc j) (placesFor st k t)) (s .pool)) (transfer-is (placesFor st k t)));
       }
 
   -- another slot's use
@@ -246,17 +271,29 @@ module _ (w : World) (k : ℕ) (t : TransferRequest) (sound : Sound (w .state .s
           ap (λ (o : List ℕ). placesFrom 0 (take (s .descriptors) o) (j + 1) 256) new-owner
               ∙ submit-places st k (j + 1) 256 t (sound .ranges) (sound .owners) (λ q. e .0 (omega (arith, q))) (λ q. omega (arith, q)) ∙ held .rest j (e .1) .1,
         );
-        room = ap (λ (o : List ℕ). countOf 0 o + (needOfRequest st t + needs s us)) new-front
-            ∙ omega (arith, mark-count front (needOfRequest st t) (k + 1) (λ e. omega (arith, e)), judged .room, zeros-are front, held .room);
+        room = ap₂ (λ (o : List ℕ) (n : ℕ). countOf 0 o + (n + needs s us)) new-front (sym need-is)
+            ∙ omega (arith, mark-count front (needOfRequest st k t) (k + 1) (λ e. omega (arith, e)), judged .room, zeros-are front, held .room);
       }
     where
       avoids : Avoids k us
       avoids = vacant-avoids s (st .owner) (tenantAt st) (w .rows .pool) (w .rows .heads) us k vacant (held .each)
 
-pub accepts-held : (w : World) (c : Call) (a : Applied) (h : History) → Sound (w .state .settings) w → (x : Accepts w c a) → Held (w .state .settings) h w
-    → Held (w .state .settings) (turnOf (w .rows) c a ∷ h) (leftBy a)
-accepts-held w c a h sound x held =
-    subst (λ (us : List Use). HeldIn s′ us (leftBy a)) (sym (uses-by s′ (turnOf (w .rows) c a) h (Submits (x .k) (idAt (w .state) (x .k)) (x .t)) (x .submits)))
+-- the history knows the size of an open slot
+pub told-size : (h : History) (st : Ehci) (k : ℕ) → Told h st → isOpen st k ≡ true → sizeIn k h ≡ slotAt st k .size
+told-size h st k told o = ap sizeOf (told .slots k ∙ kind-slot st k o)
+
+pub limit-told : (w : World) (k : ℕ) (t : TransferRequest) (sound : Sound (w .state .settings) w) (judged : Judged (w .state) k t) (h : History) → Told h (w .state)
+    → limitAt (w .state) k ≡ limitIn (w .state .settings) h k t
+limit-told w k t sound judged h told =
+    limit-is w k t sound judged ∙ ap (workingLimit (t .kind) (w .state .settings .limit)) (sym (told-size h (w .state) k told (judged .opened)))
+
+pub accepts-held : (w : World) (c : Call) (a : Applied) (h : History) → Told h (w .state) → Sound (w .state .settings) w → (x : Accepts w c a)
+    → Held (w .state .settings) h w → Held (w .state .settings) (turnOf (w .rows) c a ∷ h) (leftBy a)
+accepts-held w c a h told sound x held =
+    subst (λ (us : List Use). HeldIn s′ us (leftBy a))
+    (sym (uses-by s′ (turnOf (w .rows) c a) h (Submits (x .k) (idAt (w .state) (x .k)) (x .t)) (x .submits)
+    ∙ ap (λ (n : ℕ). record { slot = x .k; id = idAt (w .state) (x .k); request = x .t; size = n; places = chainWalk s′ (rowsOf a) (x .k) } ∷ uses s′ h)
+    (told-size h (w .state) (x .k) told (x .judged .opened))))
     (subst (λ (v : World). HeldIn s′ (tellsIn w (x .k) (x .t) sound (x .judged) v ∷ uses s′ h) v) (sym left) (accepted-holds w (x .k) (x .t) sound (x .judged) (uses s′ h) held))
   where
     s′ : Settings

@@ -49,7 +49,7 @@ without-none k id (u ∷ us) e = rw (ne-eqb (u .slot) k (e .0)) (ap (λ (l : Lis
 
 abbrev tenantId : Tenant → ℕ
 tenantId Nobody = 0
-tenantId (Waits kind id d n) = id
+tenantId (Waits kind z id d n) = id
 
 module _ (s : Settings) (owner : List ℕ) (tenant : ℕ → Tenant) (pool : List QueueTransferDescriptor) (heads : List ℕ) (k id : ℕ)
     (few : length (take (s .descriptors) owner) ≤ 256) (here : tenantId (tenant k) ≡ id) where

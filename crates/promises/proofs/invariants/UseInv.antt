@@ -28,23 +28,23 @@ use Rattle.promises.specs.Uses.{Use, isOf, needOfUse, needs, uses, witho
 
 pub data Tenant : Type 0 where
   Nobody : Tenant
-  Waits : EndpointType → ℕ → Direction → ℕ → Tenant
+  Waits : EndpointType → ℕ → ℕ → Direction → ℕ → Tenant
 
 abbrev pub tenantOf : Endpoint → Tenant
 tenantOf Closed = Nobody
 tenantOf (Idle p) = Nobody
-tenantOf (Linked p r) = Waits (p .kind) (r .id) (r .direction) (r .length)
-tenantOf (Unlinking p r b) = Waits (p .kind) (r .id) (r .direction) (r .length)
+tenantOf (Linked p r) = Waits (p .kind) (p .size) (r .id) (r .direction) (r .length)
+tenantOf (Unlinking p r b) = Waits (p .kind) (p .size) (r .id) (r .direction) (r .length)
 
 abbrev pub tenantAt : Ehci → ℕ → Tenant
 tenantAt s k = tenantOf (endpointAt s k)
 
 abbrev tenantNumber : Tenant → ℕ
 tenantNumber Nobody = 0
-tenantNumber (Waits kind id d n) = 1
+tenantNumber (Waits kind z id d n) = 1
 
-pub tenants-apart : (kind : EndpointType) (id : ℕ) (d : Direction) (n : ℕ) (x : Tenant) → x ≡ Nobody → x ≡ Waits kind id d n → ⊥
-tenants-apart kind id d n x e f = let z : _≡_ {A = ℕ} 0 1 = ap tenantNumber (sym e ∙ f) in omega (arith, z)
+pub tenants-apart : (kind : EndpointType) (z id : ℕ) (d : Direction) (n : ℕ) (x : Tenant) → x ≡ Nobody → x ≡ Waits kind z id d n → ⊥
+tenants-apart kind z id d n x e f = let z : _≡_ {A = ℕ} 0 1 = ap tenantNumber (sym e ∙ f) in omega (arith, z)
 
 -- ---- lists of uses
 
@@ -110,7 +110,7 @@ module _ (s : Settings) (owner : List ℕ) (tenant : ℕ → Tenant) (pool : Lis
 
   pub record Kept (u : Use) : Type 0 where
     pub below : u .slot < s .endpoints
-    pub holds : tenant (u .slot) ≡ Waits (u .request .kind) (u .id) (u .request .direction) (u .request .length)
+    pub holds : tenant (u .slot) ≡ Waits (u .request .kind) (u .size) (u .id) (u .request .direction) (u .request .length)
     pub places-are : u .places ≡ placesAt (u .slot)
     pub as-needed : length (u .places) ≡ needOfUse s u
     pub leads : nextWalk s pool (overlayNext heads (u .slot)) ≡ record { met = u .places; end = Terminated }
@@ -138,7 +138,7 @@ pub vacant-avoids : (s : Settings) (owner : List ℕ) (tenant : ℕ → Tenant) 
     → tenant k ≡ Nobody → Every (Kept s owner tenant pool heads) us → Avoids k us
 vacant-avoids s owner tenant pool heads us k e each =
     every-map (Kept s owner tenant pool heads) (λ u. u .slot ≡ k → ⊥)
-    (λ u kept z. tenants-apart (u .request .kind) (u .id) (u .request .direction) (u .request .length) (tenant (u .slot)) (ap tenant z ∙ e) (kept .holds)) us each
+    (λ u kept z. tenants-apart (u .request .kind) (u .size) (u .id) (u .request .direction) (u .request .length) (tenant (u .slot)) (ap tenant z ∙ e) (kept .holds)) us each
 
 -- 256 places are all places
 pub all-counted : (owner : List ℕ) (x : ℕ) → length owner ≤ 256 → length (placesFrom 0 owner x 256) ≡ countOf x owner

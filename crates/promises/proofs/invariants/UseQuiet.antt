@@ -37,7 +37,7 @@ module _ (s : Settings) (owner owner′ : List ℕ) (tenant tenant′ : ℕ → 
       }
     where
       word : overlayNext heads′ (u .slot) ≡ overlayNext heads (u .slot)
-      word = same-word (u .slot) (λ e. tenants-apart (u .request .kind) (u .id) (u .request .direction) (u .request .length) (tenant (u .slot)) e (kept .holds))
+      word = same-word (u .slot) (λ e. tenants-apart (u .request .kind) (u .size) (u .id) (u .request .direction) (u .request .length) (tenant (u .slot)) e (kept .holds))
 
       next : (p : ℕ) → getD pool′ p blank .next ≡ getD pool p blank .next
       next p = ap (λ (d : QueueTransferDescriptor). d .next) (same-record p)

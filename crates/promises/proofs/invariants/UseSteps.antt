@@ -41,7 +41,7 @@ use Rattle.ehci.specs.Door.{Applied}
 use Rattle.promises.specs.Runs.{History, Rows, Turn, World, leftBy, rowsOf, turnOf}
 use Rattle.promises.specs.Events.{Drains, Event, Other, Reads, event, leaving}
 use Rattle.promises.specs.Uses.{Use, uses, usesAfter}
-use Rattle.promises.proofs.effects.Effects.{Closes, Counts, Hears, Joins, Marks, Opens, Passes, Rewrites, Still, Unlinked, WritesBack, leaving-by, Effect, still, joins, passes, hears, counts, opens, closes, rewrites, writes-back, marks, unlinks}
+use Rattle.promises.proofs.effects.Effects.{Closes, Counts, Hears, Joins, Marks, Opens, Passes, Resizes, Rewrites, Still, Unlinked, WritesBack, leaving-by, Effect, still, joins, passes, hears, counts, opens, closes, resizes, rewrites, writes-back, marks, unlinks}
 use Rattle.promises.proofs.effects.SlotViews.{view-kept}
 use Rattle.promises.proofs.invariants.Sound.{Sound}
 use Rattle.promises.specs.Rooms.{untold}
@@ -51,12 +51,12 @@ use Rattle.promises.proofs.invariants.ViewsAfter.{view-after, viewed}
 
 -- ---- events that leave the uses
 
-pub uses-by : (s : Settings) (t : Turn) (h : History) (e : Event) → event s t ≡ e → uses s (t ∷ h) ≡ usesAfter s t e (uses s h)
+pub uses-by : (s : Settings) (t : Turn) (h : History) (e : Event) → event s t ≡ e → uses s (t ∷ h) ≡ usesAfter s t h e (uses s h)
 unfolding uses
-uses-by s t h e q = ap (λ (x : Event). usesAfter s t x (uses s h)) q
+uses-by s t h e q = ap (λ (x : Event). usesAfter s t h x (uses s h)) q
 
-pub uses-leaving : (s : Settings) (t : Turn) (k frame : ℕ) (us : List Use) → usesAfter s t (leaving s k frame t) us ≡ us
-uses-leaving s t k frame us = leaving-by s k frame t (λ e. usesAfter s t e us ≡ us) refl refl refl
+pub uses-leaving : (s : Settings) (t : Turn) (h : History) (k frame : ℕ) (us : List Use) → usesAfter s t h (leaving s k frame t) us ≡ us
+uses-leaving s t h k frame us = leaving-by s k frame t (λ e. usesAfter s t h e us ≡ us) refl refl refl
 
 -- ---- words and records
 
@@ -180,6 +180,15 @@ module _ (w : World) (c : Call) (a : Applied) (h : History) where
         (λ j n. ap (λ (r : Rows). overlayNext (r .heads) j) (x .rows-are)
         ∙ getD-set-other (w .rows .heads) (17 * (x .k + 1) + 1) (17 * (j + 1) + 4) (x .word) 0 (λ e. omega (arith, e)))
 
+    pub resizes-held : Resizes w c a → Held s h w → Held s (t ∷ h) (leftBy a)
+    unfolding withEndpoint withSlot
+    resizes-held x =
+        quiet (uses-by s t h Other (x .nothing)) (ap (λ (y : Ehci). y .owner) (x .state-is))
+        (λ j. after (resizes x) j ∙ view-kept tenantOf (w .state) (x .k) _ (sym (ap tenantOf (x .idle))) j)
+        (λ p. ap (λ (r : Rows). untold (getD (r .pool) p blank)) (x .rows-are))
+        (λ j n. ap (λ (r : Rows). overlayNext (r .heads) j) (x .rows-are)
+        ∙ getD-set-other (w .rows .heads) (17 * (x .k + 1) + 1) (17 * (j + 1) + 4) (x .word) 0 (λ e. omega (arith, e)))
+
     -- the place is one of the pool's
     pub requested-place : (place : ℕ) → inRequest (w .state) place ≡ true → place < length (w .rows .pool)
     unfolding inRequest
@@ -203,7 +212,7 @@ module _ (w : World) (c : Call) (a : Applied) (h : History) where
     pub unlinks-held : Unlinked w c a → Held s h w → Held s (t ∷ h) (leftBy a)
     unfolding waitingOf withEndpoint withSlot withBell
     unlinks-held x =
-        quiet (uses-by s t h (leaving s (x .k) (x .readings .frame) t) (x .leaves) ∙ uses-leaving s t (x .k) (x .readings .frame) (uses s h))
+        quiet (uses-by s t h (leaving s (x .k) (x .readings .frame) t) (x .leaves) ∙ uses-leaving s t h (x .k) (x .readings .frame) (uses s h))
         (ap (λ (y : Ehci). y .owner) (x .state-is))
         (λ j. after (unlinks x) j ∙ view-kept tenantOf (w .state) (x .k) _ (same ∙ sym (ap tenantOf (x .linked))) j)
         (λ p. ap (λ (r : Rows). untold (getD (r .pool) p blank)) (x .rows-are))

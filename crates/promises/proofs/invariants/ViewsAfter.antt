@@ -15,14 +15,14 @@ use Rattle.pipe.specs.declared.endpoints.UnlinkBoundary.{UnlinkBoundary}
 use Rattle.pipe.proofs.EndpointLaws.{Wide, bell-wide, owner-aside, owner-wide}
 use Rattle.controller.proofs.ReaderLaws.{open-below}
 use Rattle.schedule.specs.Bell.{bellOf}
-use Rattle.endpoint.specs.Calls.{newEndpoint}
+use Rattle.endpoint.specs.Calls.{newEndpoint, withSize}
 use Rattle.request.specs.Submit.{linkedWith, stateWith}
 use Rattle.collection.specs.Calls.{finishOf, marked}
 use Rattle.collection.specs.Unlinks.{boundedOf, waitingOf}
 use Rattle.ehci.specs.declared.call.Call.{Call}
 use Rattle.ehci.specs.Door.{Applied}
 use Rattle.promises.specs.Runs.{World}
-use Rattle.promises.proofs.effects.Effects.{Effect, accepts, closes, collects, counts, hears, joins, marks, opens, passes, rewrites, still, unlinks, writes-back}
+use Rattle.promises.proofs.effects.Effects.{Effect, accepts, closes, collects, counts, hears, joins, marks, opens, passes, resizes, rewrites, still, unlinks, writes-back}
 use Rattle.promises.proofs.effects.SlotViews.{view-bell, view-besides, view-boundaries, view-given}
 use Rattle.promises.proofs.invariants.Sound.{Sound, slot-low}
 
@@ -42,9 +42,10 @@ module _ {A : Type 0} (view : Endpoint → A) (w : World) (c : Call) (a : Applie
   viewed (joins x) = seen
   viewed (passes x) = seen
   viewed (counts x) = seen
-  viewed (opens x) = given (x .k) (newEndpoint (x .kind))
+  viewed (opens x) = given (x .k) (newEndpoint (x .kind) (x .packet))
   viewed (closes x) = given (x .k) Closed
   viewed (rewrites x) = seen
+  viewed (resizes x) = given (x .k) (Idle (withSize (x .p) (x .size)))
   viewed (accepts x) = given (x .k) (linkedWith old (x .k) (x .t))
   viewed (writes-back x) = seen
   viewed (marks x) = given (x .k) (Unlinking (x .p) (marked (x .r)) (x .u))
@@ -71,6 +72,7 @@ module _ {A : Type 0} (view : Endpoint → A) (w : World) (c : Call) (a : Applie
     view-after (opens x) = given-in old (x .k) _ (x .state-is) (sound .wide) (omega (arith, x .below, sound .ranges .good .endpoints-most)) (λ j. refl)
     view-after (closes x) = given-in old (x .k) _ (x .state-is) (sound .wide) (slot-low _ w sound (x .k) (Idle (x .p)) (x .idle) refl) (λ j. refl)
     view-after (rewrites x) = as-in old (x .state-is) (λ j. refl)
+    view-after (resizes x) = given-in old (x .k) _ (x .state-is) (sound .wide) (slot-low _ w sound (x .k) (Idle (x .p)) (x .idle) refl) (λ j. refl)
     view-after (accepts x) =
         given-in (withOwner old _) (x .k) _ (x .state-is) (owner-wide old _ (sound .wide)) (open-below old (x .k) (x .judged .opened)) (λ j. ap view (owner-aside old _ j))
     view-after (writes-back x) = as-in old (x .state-is) (λ j. refl)

@@ -25,7 +25,8 @@ use Rattle.ehci.specs.Replies.{answeredNumber}
 use Rattle.promises.specs.Runs.{EveryRun, History, World, core, historyOf, moment, worldOf}
 use Rattle.promises.specs.Checks.{checksOf, refusalIn}
 use Rattle.promises.specs.Events.{isCollected}
-use Rattle.promises.specs.Opened.{Tied, isBusy, isShut, kindIn, slotIn, verdictNumber}
+use Rattle.promises.specs.Opened.{Tied, isBusy, isShut, kindIn, verdictNumber}
+use Rattle.promises.specs.Slots.{slotIn}
 use Rattle.promises.specs.Uses.{Use, isOf, uses}
 use Rattle.promises.specs.Rooms.{Every, numberAt}
 use Rattle.promises.specs.Chains.{Detaches}
@@ -65,11 +66,11 @@ module _ (s : Settings) (h : History) (w : World) (k id : ℕ) (rd : Readings) w
 
 abbrev idOf : Tenant → ℕ
 idOf Nobody = 0
-idOf (Waits kind id d n) = id
+idOf (Waits kind z id d n) = id
 
 module _ (s : Settings) (h : History) (w : World) (k id : ℕ) where
   abbrev Holds : Use → Type 0
-  Holds u = tenantAt (w .state) (u .slot) ≡ Waits (u .request .kind) (u .id) (u .request .direction) (u .request .length)
+  Holds u = tenantAt (w .state) (u .slot) ≡ Waits (u .request .kind) (u .size) (u .id) (u .request .direction) (u .request .length)
 
   -- were the slot's request of that id, it would be no use's
   none-of-it : idOf (tenantAt (w .state) k) ≡ id → (us : List Use) → Every Holds us → isHeldAs k id us ≡ false → Avoids k us
@@ -91,9 +92,9 @@ module _ (s : Settings) (h : History) (w : World) (k id : ℕ) where
 
 -- the request of a slot is another than that
 another : (s : Settings) (h : History) (w : World) (k id : ℕ) (g : Held s h w) → isHeldAs k id (uses s h) ≡ false → (p : Pipe) (r : Request) (x : Endpoint)
-    → endpointAt (w .state) k ≡ x → tenantOf x ≡ Waits (p .kind) (r .id) (r .direction) (r .length) → r .id ≡ id → ⊥
+    → endpointAt (w .state) k ≡ x → tenantOf x ≡ Waits (p .kind) (p .size) (r .id) (r .direction) (r .length) → r .id ≡ id → ⊥
 another s h w k id g none p r x e is q =
-    other-id s h w k id g none (λ z. tenants-apart (p .kind) (r .id) (r .direction) (r .length) (tenantAt (w .state) k) z (ap tenantOf e ∙ is)) (ap idOf (ap tenantOf e ∙ is) ∙ q)
+    other-id s h w k id g none (λ z. tenants-apart (p .kind) (p .size) (r .id) (r .direction) (r .length) (tenantAt (w .state) k) z (ap tenantOf e ∙ is)) (ap idOf (ap tenantOf e ∙ is) ∙ q)
 
 refusal-is : (n : ℕ) → refusalIn n ≡ 3 → n ≡ 3
 refusal-is n e = by (leb 9 n) e

@@ -10,7 +10,7 @@ use lib.ListN.{getD, length, take}
 use Rattle.pool.specs.declared.chain.View.{View}
 use Rattle.settings.specs.declared.settings.Settings.{Settings}
 use Rattle.settings.specs.Settings.{poolLength}
-use Rattle.pipe.specs.Endpoints.{endpointAt}
+use Rattle.pipe.specs.Endpoints.{endpointAt, limitOf}
 use Rattle.common.specs.Kinds.{isInterrupt}
 use Rattle.pipe.specs.declared.endpoints.Endpoint.the-variants.{Linked}
 use Rattle.pipe.specs.declared.endpoints.Pipe.{Pipe}
@@ -161,7 +161,7 @@ module _ (s : Settings) (h : History) (w : World) (sound : Sound s w) (x : Chain
     unfolding asksOf askOf requestAsk viewOf
     stage-is =
         rw (asks, e, list-packed (placesFrom 0 (take (w .state .settings .descriptors) (w .state .owner)) (k + 1) 256), ← own)
-        (finished-stage (p .kind) (r .length) (w .state .settings .limit) 0 (endsShort (p .kind) (r .direction)) places (w .rows .pool))
+        (finished-stage (p .kind) (r .length) (limitOf (w .state .settings) p) 0 (endsShort (p .kind) (r .direction)) places (w .rows .pool))
 
     pub collect-event : event s (turnOf (w .rows) call (core w call)) ≡ cond ends (cond (isInterrupt (p .kind)) (Parts k (rd .frame)) (Unlinks k)) Other
     collect-event = by ends refl

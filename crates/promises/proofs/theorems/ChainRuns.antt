@@ -86,7 +86,7 @@ module _ (s : Settings) (h : History) (w : World) (sound : Sound s w) (x : Chain
 linked-held : (b : Bool) (x : Endpoint) → linkedIn b x ≡ true → tenantOf x ≡ Nobody → ⊥
 linked-held b Closed e q = false-true e
 linked-held b (Idle p) e q = false-true e
-linked-held b (Linked p r) e q = tenants-apart (p .kind) (r .id) (r .direction) (r .length) (tenantOf (Linked p r)) q refl
+linked-held b (Linked p r) e q = tenants-apart (p .kind) (p .size) (r .id) (r .direction) (r .length) (tenantOf (Linked p r)) q refl
 linked-held b (Unlinking p r u) e q = false-true e
 
 module _ (s : Settings) (h : History) (w : World) (x : Chained s h w) (held-by : Held s h w) where

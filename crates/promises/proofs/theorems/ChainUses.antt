@@ -35,14 +35,14 @@ use Rattle.promises.proofs.theorems.ChainCollects.{collect-event, colle
 
 abbrev idOf : Tenant → ℕ
 idOf Nobody = 0
-idOf (Waits kind id d n) = id
+idOf (Waits kind z id d n) = id
 
 abbrev endsOf : Tenant → Bool
 endsOf Nobody = false
-endsOf (Waits kind id d n) = endsShort kind d
+endsOf (Waits kind z id d n) = endsShort kind d
 
 module _ (s : Settings) (h : History) (w : World) (sound : Sound s w) (x : Chained s h w) (roomy : RoomAt s h w) (u : Use)
-    (holds : tenantAt (w .state) (u .slot) ≡ Waits (u .request .kind) (u .id) (u .request .direction) (u .request .length))
+    (holds : tenantAt (w .state) (u .slot) ≡ Waits (u .request .kind) (u .size) (u .id) (u .request .direction) (u .request .length))
     (own : u .places ≡ placesFrom 0 (take (s .descriptors) (w .state .owner)) (u .slot + 1) 256) where
   abbrev k : ℕ
   k = u .slot
@@ -52,7 +52,7 @@ module _ (s : Settings) (h : History) (w : World) (sound : Sound s w) (x : Chain
 
   -- by what its slot is
   linked-detaches : (p : Pipe) (r : Request) → endpointAt (w .state) k ≡ Linked p r → Detaches s h (moment core w) u
-  linked-detaches p r e = subst (λ (id : ℕ). Detaches s h (moment core w) (record { slot = k; id = id; request = u .request; places = u .places })) id made
+  linked-detaches p r e = subst (λ (id : ℕ). Detaches s h (moment core w) (record { slot = k; id = id; request = u .request; size = u .size; places = u .places })) id made
     where
       id : r .id ≡ u .id
       id = ap (λ (y : Endpoint). idOf (tenantOf y)) (sym e) ∙ ap idOf holds
@@ -74,7 +74,7 @@ module _ (s : Settings) (h : History) (w : World) (sound : Sound s w) (x : Chain
       kind : (b : Bool) → linkedIn b (endpointAt (w .state) k) ≡ true → isInterrupt (p .kind) ≡ b
       kind b q = same-is b (isInterrupt (p .kind)) (sym (ap (linkedIn b) e) ∙ q)
 
-      made : Detaches s h (moment core w) (record { slot = k; id = r .id; request = u .request; places = u .places })
+      made : Detaches s h (moment core w) (record { slot = k; id = r .id; request = u .request; size = u .size; places = u .places })
       made =
           record {
             cancels = λ rd. ap answeredNumber (cancel-unlinks s h w sound x k rd p r e room .0);
@@ -90,7 +90,7 @@ module _ (s : Settings) (h : History) (w : World) (sound : Sound s w) (x : Chain
   off b ks y e q m t = false-true (sym (m ∙ ap (linkedIn b) e ∙ q) ∙ t)
 
   unlinking-detaches : (p : Pipe) (r : Request) (b : UnlinkBoundary) → endpointAt (w .state) k ≡ Unlinking p r b → Detaches s h (moment core w) u
-  unlinking-detaches p r b e = subst (λ (id : ℕ). Detaches s h (moment core w) (record { slot = k; id = id; request = u .request; places = u .places })) id made
+  unlinking-detaches p r b e = subst (λ (id : ℕ). Detaches s h (moment core w) (record { slot = k; id = id; request = u .request; size = u .size; places = u .places })) id made
     where
       id : r .id ≡ u .id
       id = ap (λ (y : Endpoint). idOf (tenantOf y)) (sym e) ∙ ap idOf holds
@@ -105,7 +105,7 @@ module _ (s : Settings) (h : History) (w : World) (sound : Sound s w) (x : Chain
       neither true q m = not-ring q
       neither false q m = not-frames m
 
-      made : Detaches s h (moment core w) (record { slot = k; id = r .id; request = u .request; places = u .places })
+      made : Detaches s h (moment core w) (record { slot = k; id = r .id; request = u .request; size = u .size; places = u .places })
       made =
           record {
             cancels = λ rd. ap answeredNumber (mark-done s h w sound x k rd p r b e);
@@ -117,8 +117,8 @@ module _ (s : Settings) (h : History) (w : World) (sound : Sound s w) (x : Chain
           }
 
   use-detaches : (y : Endpoint) → endpointAt (w .state) k ≡ y → Detaches s h (moment core w) u
-  use-detaches Closed e = absurd (tenants-apart (u .request .kind) (u .id) (u .request .direction) (u .request .length) (tenantAt (w .state) k) (ap tenantOf e) holds)
-  use-detaches (Idle p) e = absurd (tenants-apart (u .request .kind) (u .id) (u .request .direction) (u .request .length) (tenantAt (w .state) k) (ap tenantOf e) holds)
+  use-detaches Closed e = absurd (tenants-apart (u .request .kind) (u .size) (u .id) (u .request .direction) (u .request .length) (tenantAt (w .state) k) (ap tenantOf e) holds)
+  use-detaches (Idle p) e = absurd (tenants-apart (u .request .kind) (u .size) (u .id) (u .request .direction) (u .request .length) (tenantAt (w .state) k) (ap tenantOf e) holds)
   use-detaches (Linked p r) e = linked-detaches p r e
   use-detaches (Unlinking p r b) e = unlinking-detaches p r b e
 

@@ -10,7 +10,7 @@ use borrow.Author.Tests.{eq-eqb, le-leb, lt-ltb, ne-eqb, eqb-true}
 use lib.Dec.{eqb}
 use lib.ListN.{getD, length, take}
 use Rattle.token.specs.EhciQtd.{totalBytes}
-use Rattle.token.specs.Chunks.{ifEmpty, needOf}
+use Rattle.token.specs.Chunks.{ifEmpty, needOf, workingLimit}
 use Rattle.common.specs.Kinds.{isControl}
 use Rattle.common.specs.declared.kinds.Direction.{Direction}
 use Rattle.common.specs.declared.kinds.Direction.the-variants.{Out, In}
@@ -36,7 +36,7 @@ use Rattle.ehci.specs.Decides.{asksOf}
 use Rattle.ehci.specs.Door.{seenBy}
 use Rattle.ehci.specs.Replies.{answeredNumber, answeredValues, collectedAnswer}
 use Rattle.promises.specs.Runs.{EveryRun, History, World, core, historyOf, moment, worldOf}
-use Rattle.promises.specs.Uses.{Use, mayEndShort, uses}
+use Rattle.promises.specs.Uses.{Use, mayEndShort, uses, limitOfUse}
 use Rattle.promises.specs.Bells.{cancelled}
 use Rattle.promises.specs.Rooms.{Every}
 use Rattle.promises.specs.Coverage.{dataOf}
@@ -51,6 +51,7 @@ use Rattle.promises.proofs.theorems.RoomPromises.{held}
 use Rattle.promises.proofs.theorems.BoundaryCalls.{Found, collect-found}
 use Rattle.promises.proofs.theorems.BoundaryCancels.{isMarked, marks-reached}
 use Rattle.promises.proofs.theorems.CoverBytes.{by-stage}
+use Rattle.pipe.specs.Endpoints.{limitOf}
 
 -- ---- the tokens
 
@@ -180,19 +181,23 @@ due-outcome false ss (token ∷ more) n f l =
 
 abbrev kindIn : Tenant → EndpointType
 kindIn Nobody = Control
-kindIn (Waits kind id d n) = kind
+kindIn (Waits kind z id d n) = kind
 
 abbrev idIn : Tenant → ℕ
 idIn Nobody = 0
-idIn (Waits kind id d n) = id
+idIn (Waits kind z id d n) = id
 
 abbrev endsIn : Tenant → Bool
 endsIn Nobody = false
-endsIn (Waits kind id d n) = endsShort kind d
+endsIn (Waits kind z id d n) = endsShort kind d
 
 abbrev lengthIn : Tenant → ℕ
 lengthIn Nobody = 0
-lengthIn (Waits kind id d n) = n
+lengthIn (Waits kind z id d n) = n
+
+abbrev limitFrom : Settings → Tenant → ℕ
+limitFrom s Nobody = 0
+limitFrom s (Waits kind z id d n) = workingLimit kind (s .limit) z
 
 none-those : (k id : ℕ) (us : List Use) → Avoids k us → those k id us ≡ []
 none-those k id [] e = refl
@@ -243,18 +248,18 @@ module _ (w : World) (h : History) (sound : Sound (w .state .settings) w) (kept 
   abbrev s : Settings
   s = w .state .settings
 
-  tenant-is : tenantAt st k ≡ Waits (x .p .kind) (x .r .id) (x .r .direction) (x .r .length)
+  tenant-is : tenantAt st k ≡ Waits (x .p .kind) (x .p .size) (x .r .id) (x .r .direction) (x .r .length)
   tenant-is = ap tenantOf (x .unlinking)
 
   one : Sole s (st .owner) (tenantAt st) (w .rows .pool) (w .rows .heads) k id (ap idIn tenant-is ∙ x .same) (uses s h)
   one =
       sole s (st .owner) (tenantAt st) (w .rows .pool) (w .rows .heads) k id (ap idIn tenant-is ∙ x .same) (uses s h) (kept .each) (kept .apart)
-      (λ none. tenants-apart (x .p .kind) (x .r .id) (x .r .direction) (x .r .length) (tenantAt st k) (kept .rest k none .0) tenant-is)
+      (λ none. tenants-apart (x .p .kind) (x .p .size) (x .r .id) (x .r .direction) (x .r .length) (tenantAt st k) (kept .rest k none .0) tenant-is)
 
   abbrev u : Use
   u = one .found
 
-  holds-it : Waits (u .request .kind) (u .id) (u .request .direction) (u .request .length) ≡ Waits (x .p .kind) (x .r .id) (x .r .direction) (x .r .length)
+  holds-it : Waits (u .request .kind) (u .size) (u .id) (u .request .direction) (u .request .length) ≡ Waits (x .p .kind) (x .p .size) (x .r .id) (x .r .direction) (x .r .length)
   holds-it = sym (one .kept .holds) ∙ ap (tenantAt st) (one .slot-is) ∙ tenant-is
 
   -- a collect looks at the records of its places
@@ -272,19 +277,19 @@ module _ (w : World) (h : History) (sound : Sound (w .state .settings) w) (kept 
   unfolding askOf
   asks = rw (may-ask, x .unlinking)
 
-  abbrev seenAt : EndpointType → Bool → ℕ → List ℕ → List Seen
-  seenAt kind short n ps = readOf short (seenFrom kind n (s .limit) 0 ps (w .rows .pool))
+  abbrev seenAt : EndpointType → Bool → ℕ → ℕ → List ℕ → List Seen
+  seenAt kind short n limit ps = readOf short (seenFrom kind n limit 0 ps (w .rows .pool))
 
   -- whether it stops at its first short descriptor
   abbrev stops : Bool
   stops = endsShort (u .request .kind) (u .request .direction)
 
-  sees : seen w (Collect k id rd) ≡ viewOf (seenAt (u .request .kind) stops (u .request .length) (u .places))
+  sees : seen w (Collect k id rd) ≡ viewOf (seenAt (u .request .kind) stops (u .request .length) (limitOfUse s u) (u .places))
   unfolding asksOf requestAsk
   sees =
       ap (λ (a : Ask). seenBy a (w .rows .pool)) asks
-      ∙ ap (λ (ps : List ℕ). viewOf (seenAt (x .p .kind) (endsShort (x .p .kind) (x .r .direction)) (x .r .length) ps)) (list-packed (placesFrom 0 (take (s .descriptors) (st .owner)) (k + 1) 256) ∙ places)
-      ∙ sym (ap (λ (t : Tenant). viewOf (seenAt (kindIn t) (endsIn t) (lengthIn t) (u .places))) holds-it)
+      ∙ ap (λ (ps : List ℕ). viewOf (seenAt (x .p .kind) (endsShort (x .p .kind) (x .r .direction)) (x .r .length) (limitOf s (x .p)) ps)) (list-packed (placesFrom 0 (take (s .descriptors) (st .owner)) (k + 1) 256) ∙ places)
+      ∙ sym (ap (λ (t : Tenant). viewOf (seenAt (kindIn t) (endsIn t) (lengthIn t) (limitFrom s t) (u .places))) holds-it)
     where
       places : placesFrom 0 (take (s .descriptors) (st .owner)) (k + 1) 256 ≡ u .places
       places = ap (λ (j : ℕ). placesFrom 0 (take (s .descriptors) (st .owner)) (j + 1) 256) (sym (one .slot-is)) ∙ sym (one .kept .places-are)
@@ -299,7 +304,7 @@ module _ (w : World) (h : History) (sound : Sound (w .state .settings) w) (kept 
       ∙ by-count (λ b. readTo b (recordsAt (w .rows) (u .places))) u (read-alike (w .rows .pool) (u .places))
 
   -- of a control request all are
-  whole : isControl (u .request .kind) ≡ true → length read ≡ needOf (u .request .kind) (u .request .length) (s .limit)
+  whole : isControl (u .request .kind) ≡ true → length read ≡ needOf (u .request .kind) (u .request .length) (limitOfUse s u)
   whole c =
       ap (λ (b : Bool). length (placesRead (w .rows .pool) b (u .places))) (never (u .request .direction))
       ∙ ap length (all-read (w .rows .pool) (u .places)) ∙ one .kept .as-needed
@@ -313,15 +318,16 @@ module _ (w : World) (h : History) (sound : Sound (w .state .settings) w) (kept 
   due =
       let kind = u .request .kind in
       let n = u .request .length in
-      let seen-is = seenFrom kind n (s .limit) 0 read (w .rows .pool) in
+      let limit = limitOfUse s u in
+      let seen-is = seenFrom kind n limit 0 read (w .rows .pool) in
       let met = map (λ p. getD (w .rows .pool) p blank) read in
-      let out = due-outcome (cancelled s (u .slot) h) seen-is (erring (tokensOf met)) (moved (pieceOf kind n (s .limit)) n (tokensOf (dataOf kind met)))
-      (first-erring kind n (s .limit) (w .rows .pool) 0 read) (all-moved n (s .limit) (w .rows .pool) kind read whole) in
+      let out = due-outcome (cancelled s (u .slot) h) seen-is (erring (tokensOf met)) (moved (pieceOf kind n limit) n (tokensOf (dataOf kind met)))
+      (first-erring kind n limit (w .rows .pool) 0 read) (all-moved n limit (w .rows .pool) kind read whole) in
       let answer : core w (Collect k id rd) .reply .answer ≡ collectedAnswer (outcomeOf (cancelled s (u .slot) h) (viewOf seen-is))
       = x .answer-is ∙ ap₂ (λ (b : Bool) (v : View). collectedAnswer (outcomeOf b v)) (same-mark ∙ ap (λ (j : ℕ). cancelled s j h) (sym (one .slot-is)))
-      (sees ∙ ap viewOf (seen-read (w .rows .pool) kind n (s .limit) 0 stops (u .places))) in
-      let due-is : dueOf (cancelled s (u .slot) h) (erring (tokensOf met)) (moved (pieceOf kind n (s .limit)) n (tokensOf (dataOf kind met))) ≡ dueTo s h (w .rows) u
-      = ap (λ (ds : List QueueTransferDescriptor). dueOf (cancelled s (u .slot) h) (erring (tokensOf ds)) (moved (pieceOf kind n (s .limit)) n (tokensOf (dataOf kind ds)))) records-are in
+      (sees ∙ ap viewOf (seen-read (w .rows .pool) kind n limit 0 stops (u .places))) in
+      let due-is : dueOf (cancelled s (u .slot) h) (erring (tokensOf met)) (moved (pieceOf kind n limit) n (tokensOf (dataOf kind met))) ≡ dueTo s h (w .rows) u
+      = ap (λ (ds : List QueueTransferDescriptor). dueOf (cancelled s (u .slot) h) (erring (tokensOf ds)) (moved (pieceOf kind n limit) n (tokensOf (dataOf kind ds)))) records-are in
       (ap answeredNumber answer ∙ out .0 ∙ ap (λ (d : Due). d .number) due-is, ap answeredValues answer ∙ out .1 ∙ ap (λ (d : Due). d .values) due-is)
 
   answers : Answers s h (moment core w) k id rd

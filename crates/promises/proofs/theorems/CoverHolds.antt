@@ -28,9 +28,11 @@ use Rattle.ehci.specs.declared.reply.Answered.{Answered}
 use Rattle.ehci.specs.Replies.{answeredNumber, answeredValues}
 use Rattle.promises.specs.Events.{Collects, Drains, Event, Other, Parts, Reads, Submits, Unlinks, event, firstIn, leaving, submitsBy}
 use Rattle.promises.proofs.theorems.CoverBytes.{all-covered, recordsFrom}
-use Rattle.promises.proofs.effects.Effects.{Accepts, Effect, still, hears, joins, passes, counts, opens, closes, rewrites, accepts, writes-back, marks, unlinks, collects, leaving-by}
+use Rattle.promises.proofs.effects.Effects.{Accepts, Effect, still, hears, joins, passes, counts, opens, closes, resizes, rewrites, accepts, writes-back, marks, unlinks, collects, leaving-by}
 use Rattle.promises.proofs.invariants.Sound.{Sound}
 use Rattle.promises.proofs.invariants.UseAccepts.{acceptedWorld, submitted-record, walked}
+use Rattle.pipe.proofs.LimitLaws.{limit-least, limit-most}
+use Rattle.controller.proofs.ReaderLaws.{open-below}
 
 -- ---- of an accepted request
 
@@ -59,11 +61,11 @@ module _ (w : World) (k : ℕ) (t : TransferRequest) (sound : Sound (w .state .s
   abbrev after : Rows
   after = acceptedWorld w k t sound judged .rows
 
-  pub records-are : recordsMet s after k ≡ recordsFrom (transferOf (w .state) k t) (s .pool) 0 (placesFor (w .state) t)
+  pub records-are : recordsMet s after k ≡ recordsFrom (transferOf (w .state) k t) (s .pool) 0 (placesFor (w .state) k t)
   records-are =
       ap (map (λ p. getD (after .pool) p blank)) (walked w k t sound judged)
-      ∙ records-by (λ p. getD (after .pool) p blank) (transferOf (w .state) k t) (s .pool) 0 (placesFor (w .state) t)
-      (λ j h. submitted-record w k t sound judged j h ∙ ap (λ (n : ℕ). recordAt (transferOf (w .state) k t) n (drop (suc j) (placesFor (w .state) t)) (s .pool)) (along j))
+      ∙ records-by (λ p. getD (after .pool) p blank) (transferOf (w .state) k t) (s .pool) 0 (placesFor (w .state) k t)
+      (λ j h. submitted-record w k t sound judged j h ∙ ap (λ (n : ℕ). recordAt (transferOf (w .state) k t) n (drop (suc j) (placesFor (w .state) k t)) (s .pool)) (along j))
     where
       along : (j : ℕ) → j ≡ 0 + j
       along j = omega arith
@@ -71,7 +73,7 @@ module _ (w : World) (k : ℕ) (t : TransferRequest) (sound : Sound (w .state .s
   covers-accepted : addressed (dataOf (t .kind) (recordsMet s after k)) ≡ upFrom (t .address) (t .length)
   covers-accepted =
       ap (λ (ds : List QueueTransferDescriptor). addressed (dataOf (t .kind) ds)) records-are
-      ∙ all-covered (transferOf (w .state) k t) (s .pool) (placesFor (w .state) t) (sound .ranges .good .limit-least) (sound .ranges .good .limit-most)
+      ∙ all-covered (transferOf (w .state) k t) (s .pool) (placesFor (w .state) k t) (limit-least (w .state) (sound .ranges) k (open-below (w .state) k (judged .opened))) (limit-most (w .state) (sound .ranges) k)
       (buffer-ends t (judged .in-range)) (t .kind) refl (control-short t (judged .in-range)) (places-needed (w .state) k t (sound .ranges) judged (sound .owners))
 
 -- ---- of any call
@@ -120,6 +122,7 @@ module _ (w : World) (c : Call) (a : Applied) (k id : ℕ) (t : TransferRequest)
   accepted-by P f (opens x) = absurd (not-so Other (x .nothing) refl)
   accepted-by P f (closes x) = absurd (not-so Other (x .nothing) refl)
   accepted-by P f (rewrites x) = absurd (not-so Other (x .nothing) refl)
+  accepted-by P f (resizes x) = absurd (not-so Other (x .nothing) refl)
   accepted-by P f (accepts x) =
       subst (λ (j : ℕ). P j t) (ap (λ (e : Event). slotIn e 0) (sym (x .submits) ∙ submits))
       (subst (λ (r : TransferRequest). P (x .k) r) (ap (λ (e : Event). requestIn e t) (sym (x .submits) ∙ submits)) (f x))

@@ -9,6 +9,7 @@ use Rattle.promises.proofs.theorems.ChainTheorems.{no-detach}
 use Rattle.promises.proofs.theorems.RoomPromises as Rooms
 use Rattle.promises.proofs.theorems.RangeTheorems as Ranges
 use Rattle.promises.proofs.theorems.SubmissionLaws as Submissions
+use Rattle.promises.proofs.theorems.WholeLaws as WholeLaws
 use Rattle.promises.proofs.theorems.PacketLaws as Packets
 use Rattle.promises.proofs.theorems.TokenLaws as Tokens
 use Rattle.promises.proofs.theorems.RegisterTheorems as Registers
@@ -32,6 +33,7 @@ kept =
       short-stops = Shorts.short-stops;
       full-goes-on = Shorts.full-goes-on;
       submits-planned = Submissions.submits-planned;
+      packets-whole = WholeLaws.packets-whole;
       packets-stand = Packets.packets-stand;
       tokens-stand = Tokens.tokens-stand;
       collects-ended = Submissions.collects-ended;

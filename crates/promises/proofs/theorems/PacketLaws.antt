@@ -12,12 +12,12 @@ use Rattle.promises.specs.Events.{Collects, Drains, Event, Other, Reads,
 use Rattle.promises.specs.Uses.{Use, uses, usesAfter, without}
 use Rattle.promises.specs.Rooms.{Every}
 use Rattle.promises.specs.Submissions.{Asks, PacketsStand, packetAt}
-use Rattle.promises.proofs.effects.Effects.{Accepts, Effect, still, hears, joins, passes, counts, opens, closes, rewrites, accepts, writes-back, marks, unlinks, collects}
+use Rattle.promises.proofs.effects.Effects.{Accepts, Effect, still, hears, joins, passes, counts, opens, closes, resizes, rewrites, accepts, writes-back, marks, unlinks, collects}
 use Rattle.promises.proofs.invariants.Reached.{reached}
 use Rattle.promises.proofs.invariants.Sound.{Sound}
 use Rattle.promises.proofs.invariants.UseInv.{Held, every-both, every-map, without-every}
 use Rattle.promises.proofs.invariants.UseSteps.{uses-by, uses-leaving}
-use Rattle.promises.proofs.invariants.UseHeld.{held-keeps, held-opens}
+use Rattle.promises.proofs.invariants.UseHeld.{Kept, kept-keeps, kept-opens}
 use Rattle.promises.proofs.theorems.SubmissionLaws.{packet-asks, packets-stay}
 
 abbrev ReadsIn : Rows → Use → Type 0
@@ -44,7 +44,7 @@ module _ (w : World) (h : History) (c : Call) (a : Applied) (sound : Sound (w .s
   same : (us : List Use) → uses s (t ∷ h) ≡ us → Every (ReadsIn (rowsOf a)) us → Stand s (t ∷ h) (leftBy a)
   same us e = subst (Every (ReadsIn (rowsOf a))) (sym e)
 
-  quiet : (e : Event) → event s t ≡ e → usesAfter s t e (uses s h) ≡ uses s h → Stand s (t ∷ h) (leftBy a)
+  quiet : (e : Event) → event s t ≡ e → usesAfter s t h e (uses s h) ≡ uses s h → Stand s (t ∷ h) (leftBy a)
   quiet e q z = same (uses s h) (uses-by s t h e q ∙ z) on
 
   joined : Accepts w c a → Stand s (t ∷ h) (leftBy a)
@@ -61,10 +61,11 @@ module _ (w : World) (h : History) (c : Call) (a : Applied) (sound : Sound (w .s
   stands-on (opens y) = quiet Other (y .nothing) refl
   stands-on (closes y) = quiet Other (y .nothing) refl
   stands-on (rewrites y) = quiet Other (y .nothing) refl
+  stands-on (resizes y) = quiet Other (y .nothing) refl
   stands-on (accepts y) = joined y
   stands-on (writes-back y) = quiet Other (y .nothing) refl
   stands-on (marks y) = quiet Other (y .nothing) refl
-  stands-on (unlinks y) = quiet (leaving s (y .k) (y .readings .frame) t) (y .leaves) (uses-leaving s t (y .k) (y .readings .frame) (uses s h))
+  stands-on (unlinks y) = quiet (leaving s (y .k) (y .readings .frame) t) (y .leaves) (uses-leaving s t h (y .k) (y .readings .frame) (uses s h))
   stands-on (collects y) =
       same (without (y .k) (y .r .id) (uses s h)) (uses-by s t h (Collects (y .k) (y .r .id) (y .frame)) (y .collects))
       (without-every (y .k) (y .r .id) (ReadsIn (rowsOf a)) (ReadsIn (rowsOf a)) (λ u e f. e) (uses s h) on)
@@ -72,17 +73,17 @@ module _ (w : World) (h : History) (c : Call) (a : Applied) (sound : Sound (w .s
 -- ---- of a run
 
 abbrev Both : Settings → History → World → Type 0
-Both s h w = Held s h w × Stand s h w
+Both s h w = Kept s h w × Stand s h w
 
 begins : (s : Settings) (w : World) → Opening s w → Both s [] w
 unfolding uses
-begins s w o = (held-opens s w o, tt)
+begins s w o = (kept-opens s w o, tt)
 
 keeps : (s : Settings) (h : History) (w : World) (c : Call) (a : Applied) → Sound s w → Both s h w → Effect w c a → Both s (turnOf (w .rows) c a ∷ h) (leftBy a)
 keeps s h w c a sound now x = (
-  held-keeps s h w c a sound (now .0) x,
+  kept-keeps s h w c a sound (now .0) x,
   subst (λ (z : Settings). Sound z w → Held z h w → Stand z h w → Stand z (turnOf (w .rows) c a ∷ h) (leftBy a)) (sound .settings-are)
-      (λ good kept stand. stands-on w h c a good kept x stand x) sound (now .0) (now .1),
+      (λ good kept stand. stands-on w h c a good kept x stand x) sound (now .0 .1) (now .1),
 )
 
 pub packets-stand : EveryRun PacketsStand core

@@ -40,16 +40,16 @@ pub ranges-kept : EveryRun RangesKept core
 ranges-kept s w o cs = sound-ranges s _ _ (runs s w o cs .0)
 
 -- a slot with a tenant has an uncollected request
-tenant-held : (x : Endpoint) (kind : EndpointType) (id : ℕ) (d : Direction) (n : ℕ) → tenantOf x ≡ Waits kind id d n → holdsRequest x ≡ true
-tenant-held Closed kind id d n e = absurd (tenants-apart kind id d n Nobody refl e)
-tenant-held (Idle p) kind id d n e = absurd (tenants-apart kind id d n Nobody refl e)
-tenant-held (Linked p r) kind id d n e = refl
-tenant-held (Unlinking p r b) kind id d n e = refl
+tenant-held : (x : Endpoint) (kind : EndpointType) (z id : ℕ) (d : Direction) (n : ℕ) → tenantOf x ≡ Waits kind z id d n → holdsRequest x ≡ true
+tenant-held Closed kind z id d n e = absurd (tenants-apart kind z id d n Nobody refl e)
+tenant-held (Idle p) kind z id d n e = absurd (tenants-apart kind z id d n Nobody refl e)
+tenant-held (Linked p r) kind z id d n e = refl
+tenant-held (Unlinking p r b) kind z id d n e = refl
 
 held-runs : (s : Settings) (w : World) (us : List Use) → HeldIn s us w → Idles (w .state) → (us ≡ []) ⊎ (w .state .running ≡ 1)
 held-runs s w [] held i = inl refl
 held-runs s w (u ∷ us) held i =
-    inr (i .runs (u .slot) (tenant-held (endpointAt (w .state) (u .slot)) (u .request .kind) (u .id) (u .request .direction) (u .request .length) (held .each .0 .holds)))
+    inr (i .runs (u .slot) (tenant-held (endpointAt (w .state) (u .slot)) (u .request .kind) (u .size) (u .id) (u .request .direction) (u .request .length) (held .each .0 .holds)))
 
 pub runs-while-held : EveryRun RunsWhileHeld core
 runs-while-held s w o cs = held-runs s (worldOf core w cs) (uses s (historyOf core w cs)) (held s w o cs .1) (runs s w o cs .1)

@@ -79,28 +79,28 @@ module _ (m : Machine inPlain) (s : Settings) (h : History) (w : World) (k : ℕ
   answered = numberAt (moment m w) (Submit k t readings)
 
   abbrev lacks : Bool
-  lacks = ltb (s .descriptors) (wanted s h t)
+  lacks = ltb (s .descriptors) (wanted s h k t)
 
-  six-lacks : answered ≡ 6 → Lacks s h t
-  six-lacks e = ltb-true (s .descriptors) (wanted s h t) (six-last lacks (earlierChecks s h k t) none (sym said ∙ e))
+  six-lacks : answered ≡ 6 → Lacks s h k t
+  six-lacks e = ltb-true (s .descriptors) (wanted s h k t) (six-last lacks (earlierChecks s h k t) none (sym said ∙ e))
     where
       none : NoSix (earlierChecks s h k t)
       none = ((λ q. omega (arith, q)), ((λ q. omega (arith, q)), ((λ q. omega (arith, q)), ((λ q. omega (arith, q)), ((λ q. omega (arith, q)), ((λ q. omega (arith, q)), tt))))))
 
-  zero-fits : answered ≡ 0 → Fits s h t
+  zero-fits : answered ≡ 0 → Fits s h k t
   zero-fits e =
-      ltb-false (s .descriptors) (wanted s h t)
+      ltb-false (s .descriptors) (wanted s h k t)
       (passed-last lacks (earlierChecks s h k t) (zero-passes (first (submitAsks s h k t)) (sym said ∙ e)))
 
   -- where the earlier checks are passed the last one decides
   room-decides : beforeRoom s h k t ≡ passed → answered ≡ verdictNumber (orElse lacks NoMemory passed)
   room-decides e = said ∙ ap verdictNumber (first-goes (earlierChecks s h k t) ((lacks, NoMemory) ∷ []) e)
 
-  lacks-six : beforeRoom s h k t ≡ passed → Lacks s h t → answered ≡ 6
-  lacks-six e l = room-decides e ∙ ap (λ (b : Bool). verdictNumber (orElse b NoMemory passed)) (lt-ltb (s .descriptors) (wanted s h t) l)
+  lacks-six : beforeRoom s h k t ≡ passed → Lacks s h k t → answered ≡ 6
+  lacks-six e l = room-decides e ∙ ap (λ (b : Bool). verdictNumber (orElse b NoMemory passed)) (lt-ltb (s .descriptors) (wanted s h k t) l)
 
-  fits-zero : beforeRoom s h k t ≡ passed → Fits s h t → answered ≡ 0
-  fits-zero e l = room-decides e ∙ ap (λ (b : Bool). verdictNumber (orElse b NoMemory passed)) (le-ltb (s .descriptors) (wanted s h t) l)
+  fits-zero : beforeRoom s h k t ≡ passed → Fits s h k t → answered ≡ 0
+  fits-zero e l = room-decides e ∙ ap (λ (b : Bool). verdictNumber (orElse b NoMemory passed)) (le-ltb (s .descriptors) (wanted s h k t) l)
 
 -- ---- of this port
 

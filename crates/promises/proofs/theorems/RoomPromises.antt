@@ -10,7 +10,7 @@ use Rattle.promises.proofs.effects.EffectOf.{effect}
 use Rattle.promises.proofs.invariants.Reached.{reached}
 use Rattle.promises.proofs.invariants.Sound.{Sound}
 use Rattle.promises.proofs.invariants.UseInv.{Held}
-use Rattle.promises.proofs.invariants.UseHeld.{held-keeps, held-opens}
+use Rattle.promises.proofs.invariants.UseHeld.{Kept, kept-keeps, kept-opens}
 use Rattle.promises.proofs.invariants.OpenedInv.{Told, told-keeps, told-opens}
 use Rattle.promises.proofs.invariants.OpenedVerdict.{held-is}
 use Rattle.promises.proofs.theorems.RoomLaws.{room-holds, verdict-holds}
@@ -19,10 +19,10 @@ use Rattle.promises.proofs.theorems.CoverHolds.{covered-holds}
 
 -- the uses of every history are tied to its world
 pub held : (s : Settings) (w : World) → Opening s w → (cs : List Call) → Sound s (worldOf core w cs) × Held s (historyOf core w cs) (worldOf core w cs)
-held = reached Held held-opens held-keeps
+held s w o cs = let now = reached Kept kept-opens kept-keeps s w o cs in (now .0, now .1 .1)
 
 -- and so are its slots, and whether the controller runs
-told : (s : Settings) (w : World) → Opening s w → (cs : List Call) → Sound s (worldOf core w cs) × Told (historyOf core w cs) (worldOf core w cs .state)
+pub told : (s : Settings) (w : World) → Opening s w → (cs : List Call) → Sound s (worldOf core w cs) × Told (historyOf core w cs) (worldOf core w cs .state)
 told = reached (λ s h w. Told h (w .state)) told-opens told-keeps
 
 pub fields-tied : EveryRun FieldsTied core

@@ -1,6 +1,6 @@
 -- An accepted submit leaves its descriptors as planned, its setup packet and its overlay; setup packets stay; a collection ends the overlay.
 use Prim.Native.Nat.{ℕ, suc, _+_, _-_, _*_, _%_, _^_, _≤_, _<_}
-use mathlib.Core.Path.{_≡_, refl, sym, ap, subst, _∙_}
+use mathlib.Core.Path.{_≡_, refl, sym, ap, subst, _∙_, subst₂}
 use mathlib.Core.Logic.{_≢_}
 use mathlib.Core.Bool.{Bool, true, false, not, false≢true}
 use mathlib.Core.List.{List, [], _∷_, map}
@@ -37,7 +37,7 @@ use Rattle.controller.specs.Lent.{acceptsOf, lengths}
 use Rattle.controller.specs.Readers.{hasEndpoint}
 use Rattle.controller.specs.Plain.{Lengths}
 use Rattle.controller.specs.declared.lent.Readings.{Readings}
-use Rattle.controller.proofs.ReaderLaws.{open-within}
+use Rattle.controller.proofs.ReaderLaws.{open-within, open-below}
 use Rattle.schedule.specs.Links.{attachedFrames, attachedRing, endedOverlay, slotLink, startedOverlay}
 use Rattle.request.specs.Submit.{attachedBy, firstIn, linkedRows, needOfRequest, placesFor, setupsWith, takenFor, takenOf, transferOf}
 use Rattle.request.specs.Writeback.{inRequest, refusedWriteback, writebackChecks, writebackOf}
@@ -62,19 +62,23 @@ use Rattle.promises.specs.Walks.{chainWalk}
 use Rattle.promises.specs.Rooms.{Every}
 use Rattle.promises.specs.Coverage.{bytesOf, recordsMet}
 use Rattle.promises.specs.Submissions.{Asks, CollectsEnded, Stays, Submitted, SubmitsPlanned, SubmittedStays, fieldsOf, packetAt, planFor, wordAt}
-use Rattle.promises.proofs.effects.Effects.{Accepts, Effect, still, hears, joins, passes, counts, opens, closes, rewrites, accepts, writes-back, marks, unlinks, collects}
+use Rattle.promises.proofs.effects.Effects.{Accepts, Effect, still, hears, joins, passes, counts, opens, closes, resizes, rewrites, accepts, writes-back, marks, unlinks, collects}
 use Rattle.promises.proofs.effects.EffectOf.{effect}
 use Rattle.promises.proofs.effects.EffectDoor.{seen, through, carried}
 use Rattle.promises.proofs.effects.RefusalNumbers.{uncollected, refusal-some}
 use Rattle.promises.proofs.invariants.Sound.{Sound}
 use Rattle.promises.proofs.invariants.UseInv.{Held, every-map, tenantAt, vacant-avoids}
-use Rattle.promises.proofs.invariants.UseAccepts.{acceptedWorld, need-least, submit-starts, vacant, walked}
+use Rattle.promises.proofs.invariants.UseAccepts.{acceptedWorld, need-least, submit-starts, vacant, walked, limit-told}
 use Rattle.promises.proofs.invariants.UseSteps.{requested-place}
 use Rattle.promises.proofs.theorems.CoverBytes.{recordsFrom, run-of}
 use Rattle.promises.proofs.theorems.CoverHolds.{accepted-by, control-short, records-are, zero-accepts}
 use Rattle.promises.proofs.theorems.PlanLaws.{all-planned}
-use Rattle.promises.proofs.theorems.RoomPromises.{held}
+use Rattle.promises.proofs.theorems.RoomPromises.{held, told}
 use Rattle.promises.proofs.theorems.BoundaryCalls.{collect-found}
+use Rattle.pipe.proofs.LimitLaws.{limit-least, limit-most}
+use Rattle.pipe.specs.Endpoints.{limitAt}
+use Rattle.promises.proofs.invariants.OpenedInv.{Told}
+use Rattle.promises.specs.Slots.{limitIn}
 
 -- ---- the overlay
 
@@ -176,13 +180,16 @@ module _ (w : World) (k : ℕ) (t : TransferRequest) (sound : Sound (w .state .s
   head-fits : 17 * (k + 1) + 17 ≤ length (w .rows .heads)
   head-fits = omega (arith, below, sound .heads-fit)
 
-  needed : length (placesFor (w .state) t) ≡ needOfRequest (w .state) t
+  needed : length (placesFor (w .state) k t) ≡ needOfRequest (w .state) k t
   needed = places-needed (w .state) k t (sound .ranges) judged (sound .owners)
 
-  as-planned : map fieldsOf (recordsMet s after k) ≡ planFor s k t
+  limit-some : 1 ≤ limitAt (w .state) k
+  limit-some = limit-least (w .state) (sound .ranges) k (open-below (w .state) k (judged .opened))
+
+  pub as-planned : map fieldsOf (recordsMet s after k) ≡ planFor s (limitAt (w .state) k) k t
   as-planned =
       ap (map fieldsOf) (records-are w k t sound judged)
-      ∙ all-planned (transferOf (w .state) k t) (s .pool) (placesFor (w .state) t) (sound .ranges .good .limit-least) (sound .ranges .good .limit-most) (s .pool + 64 * s .descriptors) refl (t .kind) refl
+      ∙ all-planned (transferOf (w .state) k t) (s .pool) (placesFor (w .state) k t) limit-some (limit-most (w .state) (sound .ranges) k) (s .pool + 64 * s .descriptors) refl (t .kind) refl
       (control-short t (judged .in-range)) needed
 
   packet-room : 8 * k + 8 ≤ length (w .rows .setups)
@@ -197,7 +204,7 @@ module _ (w : World) (k : ℕ) (t : TransferRequest) (sound : Sound (w .state .s
   leads-there : t .kind ≡ Control → bytesOf (getD (recordsMet s after k) 0 blank) ≡ upFrom (s .setups + 8 * k) 8
   leads-there e =
       ap (λ (ds : List QueueTransferDescriptor). bytesOf (getD ds 0 blank)) (records-are w k t sound judged)
-      ∙ first-of (placesFor (w .state) t) (omega (arith, needed, need-least (t .kind) (t .length) (s .limit) (sound .ranges .good .limit-least)))
+      ∙ first-of (placesFor (w .state) k t) (omega (arith, needed, need-least (t .kind) (t .length) (limitAt (w .state) k) limit-some))
     where
       first-of : (ps : List ℕ) → 1 ≤ length ps → bytesOf (getD (recordsFrom (transferOf (w .state) k t) (s .pool) 0 ps) 0 blank) ≡ upFrom (s .setups + 8 * k) 8
       first-of [] n = absurd (omega (arith, n))
@@ -208,10 +215,10 @@ module _ (w : World) (k : ℕ) (t : TransferRequest) (sound : Sound (w .state .s
   unfolding takenFor takenOf
   next-there =
       submit-starts (w .rows .heads) (w .rows .frames) k (slotLink (w .state) k) (firstIn (w .state) (takenFor (w .state) k t)) head-fits (t .kind)
-      ∙ ap (addressOf (s .pool)) (packed-first (placesFor (w .state) t))
+      ∙ ap (addressOf (s .pool)) (packed-first (placesFor (w .state) k t))
       ∙ ap (λ (ps : List ℕ). s .pool + 64 * getD ps 0 0) (sym (walked w k t sound judged))
 
-  pub submitted-so : Submitted s after k t
+  pub submitted-so : Submitted s (limitAt (w .state) k) after k t
   submitted-so =
       let first = firstIn (w .state) (takenFor (w .state) k t) in
       record {
@@ -225,13 +232,15 @@ module _ (w : World) (k : ℕ) (t : TransferRequest) (sound : Sound (w .state .s
             ∙ token-starts (w .rows .heads) (w .rows .frames) k (slotLink (w .state) k) first head-fits;
       }
 
-submitted-holds : (w : World) → Sound (w .state .settings) w → (k : ℕ) (t : TransferRequest) (rd : Readings) → answeredNumber (core w (Submit k t rd) .reply .answer) ≡ 0
-    → Submitted (w .state .settings) (rowsOf (core w (Submit k t rd))) k t
-submitted-holds w sound k t rd done =
+submitted-holds : (w : World) (h : History) → Sound (w .state .settings) w → Told h (w .state) → (k : ℕ) (t : TransferRequest) (rd : Readings)
+    → answeredNumber (core w (Submit k t rd) .reply .answer) ≡ 0
+    → Submitted (w .state .settings) (limitIn (w .state .settings) h k t) (rowsOf (core w (Submit k t rd))) k t
+submitted-holds w h sound knows k t rd done =
     let told = zero-accepts k t (core w (Submit k t rd) .reply .answer) done in
     accepted-by w (Submit k t rd) (core w (Submit k t rd)) k (told .0) t (told .1)
-    (λ j r. Submitted (w .state .settings) (rowsOf (core w (Submit k t rd))) j r)
-    (λ x. subst (λ (rows : Rows). Submitted (w .state .settings) rows (x .k) (x .t)) (sym (x .rows-are)) (submitted-so w (x .k) (x .t) sound (x .judged)))
+    (λ j r. Submitted (w .state .settings) (limitIn (w .state .settings) h j r) (rowsOf (core w (Submit k t rd))) j r)
+    (λ x. subst₂ (λ (l : ℕ) (rows : Rows). Submitted (w .state .settings) l rows (x .k) (x .t)) (limit-told w (x .k) (x .t) sound (x .judged) h knows) (sym (x .rows-are))
+    (submitted-so w (x .k) (x .t) sound (x .judged)))
     (effect w (Submit k t rd))
 
 -- ---- until it is collected
@@ -268,6 +277,7 @@ module _ (w : World) (h : History) (sound : Sound (w .state .settings) w) (kept 
   packets-stay (opens x) = unwritten _ (x .rows-are) refl
   packets-stay (closes x) = unwritten _ (x .rows-are) refl
   packets-stay (rewrites x) = unwritten _ (x .rows-are) refl
+  packets-stay (resizes x) = unwritten _ (x .rows-are) refl
   packets-stay (accepts x) = accepted-apart x
   packets-stay (writes-back x) = unwritten _ (x .rows-are) refl
   packets-stay (marks x) = unwritten _ (x .rows-are) refl
@@ -321,8 +331,10 @@ module _ (w : World) (k id : ℕ) (rd : Readings) where
 pub submits-planned : EveryRun SubmitsPlanned core
 submits-planned s w o cs k t rd done =
     let now = worldOf core w cs in
+    let h = historyOf core w cs in
     let sound = held s w o cs .0 in
-    subst (λ (z : Settings). Sound z now → Submitted z (rowsOf (core now (Submit k t rd))) k t) (sound .settings-are) (λ good. submitted-holds now good k t rd done) sound
+    subst (λ (z : Settings). Sound z now → Submitted z (limitIn z h k t) (rowsOf (core now (Submit k t rd))) k t) (sound .settings-are)
+    (λ good. submitted-holds now h good (told s w o cs .1) k t rd done) sound
 
 pub submitted-stays : EveryRun SubmittedStays core
 submitted-stays s w o cs =

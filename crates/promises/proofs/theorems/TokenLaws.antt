@@ -1,6 +1,6 @@
 -- In every world of a run each record of an uncollected request is that of its plan, or has the token that was last written back to it.
 use Prim.Native.Nat.{ℕ, zero, suc, _<_}
-use mathlib.Core.Path.{_≡_, refl, sym, ap, subst, _∙_}
+use mathlib.Core.Path.{_≡_, refl, sym, ap, subst, _∙_, subst₂}
 use mathlib.Core.Logic.{inl, inr, ⊎-elim}
 use mathlib.Core.Bool.{false}
 use mathlib.Core.List.{List, [], _∷_, _++_, map}
@@ -25,15 +25,17 @@ use Rattle.promises.specs.Walks.{chainWalk}
 use Rattle.promises.specs.Bells.{isSubmitsOf, submits}
 use Rattle.promises.specs.Rooms.{Every, Exclusive, RecordStays, placesInUse}
 use Rattle.promises.specs.Submissions.{Fields, Stays, Submitted, TokenStands, TokensStand, WritesTo, fieldsOf, placeOf, planned}
-use Rattle.promises.proofs.effects.Effects.{Accepts, Effect, still, hears, joins, passes, counts, opens, closes, rewrites, accepts, writes-back, marks, unlinks, collects}
+use Rattle.promises.proofs.effects.Effects.{Accepts, Effect, still, hears, joins, passes, counts, opens, closes, resizes, rewrites, accepts, writes-back, marks, unlinks, collects}
 use Rattle.promises.proofs.effects.EffectOf.{effect}
 use Rattle.promises.proofs.invariants.Sound.{Sound}
 use Rattle.promises.proofs.invariants.UseInv.{Held, every-both, every-map, tenantAt, vacant-avoids, without-every}
-use Rattle.promises.proofs.invariants.UseAccepts.{vacant}
+use Rattle.promises.proofs.invariants.UseAccepts.{vacant, limit-told}
 use Rattle.promises.proofs.invariants.UseSteps.{uses-by, uses-leaving}
 use Rattle.promises.proofs.invariants.MarkInv.{submits-leaving}
-use Rattle.promises.proofs.theorems.RoomPromises.{exclusive-places, held}
+use Rattle.promises.proofs.theorems.RoomPromises.{exclusive-places, held, told}
 use Rattle.promises.proofs.theorems.SubmissionLaws.{submitted-so, submitted-stays}
+use Rattle.promises.proofs.invariants.OpenedInv.{Told}
+use Rattle.promises.specs.Slots.{limitIn, sizeIn}
 
 -- ---- lists
 
@@ -110,7 +112,7 @@ module _ (p : ℕ) (t : Turn) where
 abbrev AllStand : Settings → History → World → Use → Type 0
 AllStand s h w u = (j : ℕ) → j < length (u .places) → TokenStands s h (moment core w) u j
 
-module _ (w : World) (h : History) (c : Call) (sound : Sound (w .state .settings) w) (kept : Held (w .state .settings) h w)
+module _ (w : World) (h : History) (c : Call) (sound : Sound (w .state .settings) w) (kept : Held (w .state .settings) h w) (told : Told h (w .state))
     (exclusive : Exclusive (w .state .settings) h (moment core w)) (stays : Stays (w .state .settings) h (moment core w)) (stand : Every (AllStand (w .state .settings) h w) (uses (w .state .settings) h)) where
   abbrev s : Settings
   s = w .state .settings
@@ -164,16 +166,18 @@ module _ (w : World) (h : History) (c : Call) (sound : Sound (w .state .settings
   same : (us : List Use) → uses s (t ∷ h) ≡ us → Every (AllStand s (t ∷ h) (leftBy a)) us → Every (AllStand s (t ∷ h) (leftBy a)) (uses s (t ∷ h))
   same us e = subst (Every (AllStand s (t ∷ h) (leftBy a))) (sym e)
 
-  quietly : (e : Event) → event s t ≡ e → usesAfter s t e (uses s h) ≡ uses s h → ((k : ℕ) → isSubmitsOf k e ≡ false) → Every (AllStand s (t ∷ h) (leftBy a)) (uses s (t ∷ h))
+  quietly : (e : Event) → event s t ≡ e → usesAfter s t h e (uses s h) ≡ uses s h → ((k : ℕ) → isSubmitsOf k e ≡ false) → Every (AllStand s (t ∷ h) (leftBy a)) (uses s (t ∷ h))
   quietly e q z f = same (uses s h) (uses-by s t h e q ∙ z) (on (none-submits e q f))
 
   -- the request that is accepted
   module _ (x : Accepts w c a) where
-    after-so : Submitted s (rowsOf a) (x .k) (x .t)
-    after-so = subst (λ (rows : Rows). Submitted s rows (x .k) (x .t)) (sym (x .rows-are)) (submitted-so w (x .k) (x .t) sound (x .judged))
+    after-so : Submitted s (limitIn s h (x .k) (x .t)) (rowsOf a) (x .k) (x .t)
+    after-so =
+        subst₂ (λ (l : ℕ) (rows : Rows). Submitted s l rows (x .k) (x .t)) (limit-told w (x .k) (x .t) sound (x .judged) h told) (sym (x .rows-are))
+        (submitted-so w (x .k) (x .t) sound (x .judged))
 
     abbrev new : Use
-    new = record { slot = x .k; id = idAt (w .state) (x .k); request = x .t; places = chainWalk s (rowsOf a) (x .k) }
+    new = record { slot = x .k; id = idAt (w .state) (x .k); request = x .t; size = sizeIn (x .k) h; places = chainWalk s (rowsOf a) (x .k) }
 
     new-stands : AllStand s (t ∷ h) (leftBy a) new
     new-stands j l =
@@ -206,11 +210,12 @@ module _ (w : World) (h : History) (c : Call) (sound : Sound (w .state .settings
   stands-on (opens y) = quietly Other (y .nothing) refl (λ k. refl)
   stands-on (closes y) = quietly Other (y .nothing) refl (λ k. refl)
   stands-on (rewrites y) = quietly Other (y .nothing) refl (λ k. refl)
+  stands-on (resizes y) = quietly Other (y .nothing) refl (λ k. refl)
   stands-on (accepts y) = joined y
   stands-on (writes-back y) = quietly Other (y .nothing) refl (λ k. refl)
   stands-on (marks y) = quietly Other (y .nothing) refl (λ k. refl)
   stands-on (unlinks y) =
-      quietly (leaving s (y .k) (y .readings .frame) t) (y .leaves) (uses-leaving s t (y .k) (y .readings .frame) (uses s h)) (λ k. submits-leaving s k (y .k) (y .readings .frame) t)
+      quietly (leaving s (y .k) (y .readings .frame) t) (y .leaves) (uses-leaving s t h (y .k) (y .readings .frame) (uses s h)) (λ k. submits-leaving s k (y .k) (y .readings .frame) t)
   stands-on (collects y) =
       same (without (y .k) (y .r .id) (uses s h)) (uses-by s t h (Collects (y .k) (y .r .id) (y .frame)) (y .collects))
       (without-every (y .k) (y .r .id) (AllStand s (t ∷ h) (leftBy a)) (AllStand s (t ∷ h) (leftBy a)) (λ u e f. e) (uses s h) (on (none-submits _ (y .collects) (λ k. refl))))
@@ -225,7 +230,7 @@ tokens-stand s w o (c ∷ cs) =
     let h = historyOf core w cs in
     let at = held s w o cs in
     subst
-    (λ (z : Settings). Sound z now → Held z h now → Exclusive z h (moment core now) → Stays z h (moment core now) → Every (AllStand z h now) (uses z h)
+    (λ (z : Settings). Sound z now → Held z h now → Told h (now .state) → Exclusive z h (moment core now) → Stays z h (moment core now) → Every (AllStand z h now) (uses z h)
     → Every (AllStand z (turnOf (now .rows) c (core now c) ∷ h) (leftBy (core now c))) (uses z (turnOf (now .rows) c (core now c) ∷ h)))
-    (at .0 .settings-are) (λ sound kept exclusive stays stand. stands-on now h c sound kept exclusive stays stand (effect now c)) (at .0) (at .1) (exclusive-places s w o cs) (submitted-stays s w o cs)
+    (at .0 .settings-are) (λ sound kept knows exclusive stays stand. stands-on now h c sound kept knows exclusive stays stand (effect now c)) (at .0) (at .1) (told s w o cs .1) (exclusive-places s w o cs) (submitted-stays s w o cs)
     (tokens-stand s w o cs)

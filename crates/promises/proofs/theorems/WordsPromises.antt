@@ -24,6 +24,7 @@ use Rattle.promises.specs.WordsRuns.{Does, inWords, letIn}
 use Rattle.promises.proofs.theorems.Kept.{kept}
 use Rattle.promises.proofs.theorems.WordsCalls.{let-in-faithful, refused-moment, refusing, same-moment}
 use Rattle.promises.proofs.theorems.WordsRuns.{carried}
+use Rattle.promises.specs.Packets.{PacketsWhole}
 
 -- ---- in every world: words that are let in do what their state does, and all others are refused
 
@@ -64,6 +65,7 @@ kept-in-words m does =
       short-stops = carried ShortStops (kept .short-stops) m does;
       full-goes-on = carried FullGoesOn (kept .full-goes-on) m does;
       submits-planned = carried SubmitsPlanned (kept .submits-planned) m does;
+      packets-whole = carried PacketsWhole (kept .packets-whole) m does;
       packets-stand = carried PacketsStand (kept .packets-stand) m does;
       tokens-stand = carried TokensStand (kept .tokens-stand) m does;
       collects-ended = carried CollectsEnded (kept .collects-ended) m does;

@@ -1,4 +1,5 @@
 -- `collection::finish::finish` meets its contract.
+use Rattle.pipe.proofs.WordsKnown.{pipe-next-below}
 use Rattle.collection.proofs.WordsCases.{finishes-words, tidy-finished}
 use Rattle.collection.proofs.WordsSlots.{finish-fits, unlinking-room, unlinking-room-after}
 use borrow.Author.Needs.{needs}
@@ -30,10 +31,10 @@ returns : tie.Need-returns
 returns c =
     let b = c .before .before .before .before .before .before .before .before .before .before .before .before .before .before .before .before in (
       finishes-words (b .args .core .settings) (b .args .core .rest) (b .args .slots .now) (b .pre .0) (b .args .k) (b .args .p) (b .args .r) (b .args .b)
-          (b .pre .1) (search needs) _ _ (c .before .before .before .before .before .before .before .before .put-endpoint .ensures) (c .before .before .before .before .put-places .ensures) _ (b .args .seen) _ _ (c .before .outcome-of .ensures)
+          (b .pre .1) (pipe-next-below (b .args .p) _ (b .good .1 .1 .1 .1 .0)) _ _ (c .before .before .before .before .before .before .before .before .put-endpoint .ensures) (c .before .before .before .before .put-places .ensures) _ (b .args .seen) _ _ (c .before .outcome-of .ensures)
           (c .none .ensures .1),
       tidy-finished (b .args .core .settings) (b .args .core .rest) (b .args .slots .now) (b .pre .0) (b .args .k) (b .args .p) (b .args .r) (b .args .b)
-          (b .pre .1) (search needs) _ _ (c .before .before .before .before .before .before .before .before .put-endpoint .ensures) (c .before .before .before .before .put-places .ensures) _ _ (c .before .before .before .before .before .before .before .before .before .before .before .places-at .ensures) (c .before .before .before .before .before .before .before .before .before .before .with .ensures),
+          (b .pre .1) (pipe-next-below (b .args .p) _ (b .good .1 .1 .1 .1 .0)) _ _ (c .before .before .before .before .before .before .before .before .put-endpoint .ensures) (c .before .before .before .before .put-places .ensures) _ _ (c .before .before .before .before .before .before .before .before .before .before .before .places-at .ensures) (c .before .before .before .before .before .before .before .before .before .before .with .ensures),
     )
 
 pub finish-spec : {M : Type 1} → statement M

@@ -10,6 +10,9 @@ without-bits-requires c κs = search needs
 raised-requires : tie.Need-raised-requires
 raised-requires c κs = search needs
 
+cast-with-bits : tie.Need-cast-with-bits
+cast-with-bits c = search needs
+
 with-bits-requires : tie.Need-with-bits-requires
 with-bits-requires c κs = search needs
 
@@ -18,4 +21,4 @@ returns c = search (needs, packet-put)
 
 pub set-max-packet-size-spec : {M : Type 1} → statement M
 set-max-packet-size-spec =
-    tie.close (tie.spec without-bits-requires raised-requires with-bits-requires returns)
+    tie.close (tie.spec without-bits-requires raised-requires cast-with-bits with-bits-requires returns)

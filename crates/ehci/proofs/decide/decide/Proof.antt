@@ -264,14 +264,14 @@ same-length-9 c = search needs
 returns-8 : tie.Need-returns-8
 unfolding packetDecided
 returns-8 c =
-    let begun = c .before .before .before .before .before .before .before .before .before .before .before .before .before .before in
+    let begun = c .before .before .before .before .before .before .before .before .before .before .before .before .before .before .before .before in
     let a = begun .args in
-    let on = c .before .before .before .before .before .before .before .before .before .if1 .left in
-    let is = c .before .before .before .before .before .before .before .call5 .given .1 in
-    let says = c .before .before .before .set-packet-size .ensures in
+    let on = c .before .before .before .before .before .before .before .before .before .before .before .if1 .left in
+    let is = c .before .before .before .before .before .before .before .before .before .call5 .given .1 in
+    let says = c .before .before .before .before .before .set-packet-size .ensures in
     let left = c .of-change3 .ensures in
     let rows = rows-fit _ _ _ _ _ _ _ (begun .pre) on in
-    keeps-call (a .core) (a .slots .now) (a .good) (a .records) (a .heads .now) (a .frames .now) (a .setups .now) (a .seen) (a .call) on (begun .pre) _ is _ _ _ _ (heads-call _ _ _ _ _ (changed-view (a .core) _ _ _ _ _ left (says .0 (a .records) _ _ rows))) (keeps-words (a .core) _ _ _ _ left (says .1))
+    tidies-call (a .core) (a .slots .now) (a .good) (a .records) (a .heads .now) (a .frames .now) (a .setups .now) (a .seen) (a .call) on (begun .pre) _ is _ _ _ _ _ (heads-call _ _ _ _ _ (changed-view (a .core) _ _ _ _ _ left (says .0 (a .records) _ _ rows))) (tidies-words (a .core) _ _ _ _ left _ (says .1))
 
 same-length-10 : tie.Need-same-length-10
 same-length-10 c = search needs
@@ -400,4 +400,84 @@ returns-17 c =
     keeps-call (a .core) (a .slots .now) (a .good) (a .records) (a .heads .now) (a .frames .now) (a .setups .now) (a .seen) (a .call) on (begun .pre) _ is _ _ _ _ (no-rows _ _ _ _ _ (settled-view (a .core) _ _ _ _ left (says .0 (a .slots .now) (good .ranges)))) (keeps-words (a .core) _ _ _ _ left (says .1))
 
 pub decide-spec : {M : Type 1} → statement M
-decide-spec = tie.close (tie.spec refused-requires returns enum-told start-requires of-brought-up-requires enum-known-call step-requires of-brought-up-requires-2 enum-told-2 on-allocate-requires enum-known-call-2 on-open-requires enum-known-call-3 close-requires of-change-requires enum-known-call-4 set-address-requires of-change-requires-2 enum-known-call-5 set-packet-size-requires of-change-requires-3 enum-known-call-6 on-submit-requires enum-known-call-7 on-writeback-requires enum-known-call-8 on-cancel-requires enum-known-call-9 on-collect-requires enum-known-call-10 on-acknowledge-requires enum-known-call-11 on-drain-requires enum-told-3 rearm-requires of-settled-requires enum-told-4 enable-requires of-settled-requires-2 enum-told-5 disable-requires of-settled-requires-3 same-length returns-2 returns-3 returns-4 same-length-2 same-length-3 returns-5 same-length-4 same-length-5 returns-6 same-length-6 same-length-7 returns-7 same-length-8 same-length-9 returns-8 same-length-10 same-length-11 same-length-12 same-length-13 returns-9 returns-10 same-length-14 same-length-15 same-length-16 returns-11 same-length-17 same-length-18 same-length-19 returns-12 returns-13 same-length-20 returns-14 returns-15 returns-16 returns-17)
+decide-spec =
+    tie.close
+    (tie.spec
+    refused-requires
+    returns
+    enum-told
+    start-requires
+    of-brought-up-requires
+    enum-known-call
+    step-requires
+    of-brought-up-requires-2
+    enum-told-2
+    on-allocate-requires
+    enum-known-call-2
+    on-open-requires
+    enum-known-call-3
+    close-requires
+    of-change-requires
+    enum-known-call-4
+    set-address-requires
+    of-change-requires-2
+    enum-known-call-5
+    set-packet-size-requires
+    of-change-requires-3
+    enum-known-call-6
+    on-submit-requires
+    enum-known-call-7
+    on-writeback-requires
+    enum-known-call-8
+    on-cancel-requires
+    enum-known-call-9
+    on-collect-requires
+    enum-known-call-10
+    on-acknowledge-requires
+    enum-known-call-11
+    on-drain-requires
+    enum-told-3
+    rearm-requires
+    of-settled-requires
+    enum-told-4
+    enable-requires
+    of-settled-requires-2
+    enum-told-5
+    disable-requires
+    of-settled-requires-3
+    same-length
+    returns-2
+    returns-3
+    returns-4
+    same-length-2
+    same-length-3
+    returns-5
+    same-length-4
+    same-length-5
+    returns-6
+    same-length-6
+    same-length-7
+    returns-7
+    same-length-8
+    same-length-9
+    returns-8
+    same-length-10
+    same-length-11
+    same-length-12
+    same-length-13
+    returns-9
+    returns-10
+    same-length-14
+    same-length-15
+    same-length-16
+    returns-11
+    same-length-17
+    same-length-18
+    same-length-19
+    returns-12
+    returns-13
+    same-length-20
+    returns-14
+    returns-15
+    returns-16
+    returns-17)

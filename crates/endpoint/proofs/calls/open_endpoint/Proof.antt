@@ -1,5 +1,5 @@
 -- `endpoint::calls::open_endpoint` meets its contract.
-use Rattle.endpoint.proofs.WordsOpen.{new-fits, opened-done, opened-fields, opened-head, opened-refused, opened-slot-room, opened-tidy}
+use Rattle.endpoint.proofs.WordsOpen.{opened-done, opened-fields, opened-fits, opened-head, opened-refused, opened-slot-room, opened-tidy}
 use borrow.Author.Needs.{needs}
 use Rattle.endpoint.proofs.calls.open_endpoint.Statement.{statement}
 use Rattle.endpoint.proofs.calls.open_endpoint.Tie as tie
@@ -25,7 +25,7 @@ write-head-requires c κs =
     )
 
 put-endpoint-requires : tie.Need-put-endpoint-requires
-put-endpoint-requires c κs = search (opened-slot-room, new-fits)
+put-endpoint-requires c κs = (search opened-slot-room, search (opened-fits, needs))
 
 enum-known-refusal : tie.Need-enum-known-refusal
 enum-known-refusal c = search needs

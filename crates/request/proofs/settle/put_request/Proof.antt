@@ -4,11 +4,14 @@ use borrow.Author.Needs.{needs}
 use Rattle.request.proofs.settle.put_request.Statement.{statement}
 use Rattle.request.proofs.settle.put_request.Tie as tie
 
+size-at-requires : tie.Need-size-at-requires
+size-at-requires c κs = search needs
+
 id-in-requires : tie.Need-id-in-requires
 id-in-requires c κs = search needs
 
-cast-t11 : tie.Need-cast-t11
-cast-t11 c = search needs
+cast-t14 : tie.Need-cast-t14
+cast-t14 c = search needs
 
 put-endpoint-requires : tie.Need-put-endpoint-requires
 put-endpoint-requires c κs = (search needs, search (request-fits, needs))
@@ -26,8 +29,9 @@ pub put-request-spec : {M : Type 1} → statement M
 put-request-spec =
     tie.close
     (tie.spec
+    size-at-requires
     id-in-requires
-    cast-t11
+    cast-t14
     put-endpoint-requires
     put-places-requires
     same-length

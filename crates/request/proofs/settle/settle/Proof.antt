@@ -11,7 +11,7 @@ lowest-places-requires c κs = search needs
 link-rows-requires : tie.Need-link-rows-requires
 link-rows-requires c κs =
     let b = c .before .before .before .before .before .before .before .before in
-    rows-ready (b .args .core) (b .args .slots .now) (b .args .slot) (b .args .t) _ _ (b .pre .0) (b .pre .1 .1 .1) (b .pre .1 .1 .0) (c .before .before .lowest-places .ensures .1) (c .before .before .lowest-places .ensures .0)
+    rows-ready (b .args .core) (b .args .slots .now) (b .args .slot) (b .args .t) _ _ _ (b .pre .0) (b .pre .1 .1 .1) (b .pre .1 .1 .0 .0) (b .pre .1 .1 .0 .1) (c .before .before .lowest-places .ensures .1) (c .before .before .lowest-places .ensures .0)
     (b .args .heads .now) (b .args .frames .now) (b .pre .1 .0 .0) (b .pre .1 .0 .1)
 
 put-setup-requires : tie.Need-put-setup-requires
@@ -50,7 +50,7 @@ returns : tie.Need-returns
 returns c =
     let b = c .before .before .before .before .before .before .before .before .before .before .before .before .before .before .before .before .before .before .before .before .before .before .before .before in
     let p = c .before .before .before .before .before .before .before .before .before .before .before .before .before .before .before .before .before .before .lowest-places in
-    settled (b .args .core) (b .args .slots .now) (b .args .slot) (b .args .t) _ _ (b .pre .0) (b .pre .1 .1 .1) (b .pre .1 .1 .0) (p .ensures .1) (p .ensures .0)
+    settled (b .args .core) (b .args .slots .now) (b .args .slot) (b .args .t) _ _ _ (b .pre .0) (b .pre .1 .1 .1) (b .pre .1 .1 .0 .0) (b .pre .1 .1 .0 .1) (p .ensures .1) (p .ensures .0)
     (b .args .readings) _ _ (c .accepted .ensures) _ (c .before .before .before .before .before .id-at .ensures) (c .before .before .before .put-request .ensures .1) (c .before .before .before .put-request .ensures .0)
     (b .args .heads .now) (b .args .frames .now) (b .args .setups .now) _ _ _ (c .before .before .before .before .before .before .before .before .before .before .before .before .before .before .before .link-rows .ensures) (c .before .before .before .before .before .before .before .before .before .put-setup .ensures)
 

@@ -9,15 +9,18 @@ use Rattle.word_ranges.proofs.judge.slots_good.Statement.{statement}
 use Rattle.word_ranges.proofs.judge.slots_good.Tie as tie
 
 abbrev Inv-loop : tie.InvT-loop
-Inv-loop slots endpoints descriptors unanswered bounds s₀ end at₀ s at =
+Inv-loop slots endpoints descriptors limit unanswered bounds sizes s₀ end at₀ s at =
     (at ≡ 6 * (at / 6)) × (at ≤ 6 * endpoints)
-    × (seenFrom slots unanswered (at / 6) (endpoints - at / 6) s ≡ seenFrom slots unanswered 0 endpoints s₀)
+    × (seenFrom slots limit unanswered (at / 6) (endpoints - at / 6) s ≡ seenFrom slots limit unanswered 0 endpoints s₀)
 
 abbrev μ-loop : tie.MeasureT-loop
-μ-loop slots endpoints descriptors unanswered bounds s₀ end at₀ s at = 6 * endpoints - at
+μ-loop slots endpoints descriptors limit unanswered bounds sizes s₀ end at₀ s at = 6 * endpoints - at
 
 bounds-for-requires : tie.Need-bounds-for-requires Inv-loop μ-loop
 bounds-for-requires c κs = search needs
+
+sizes-for-requires : tie.Need-sizes-for-requires Inv-loop μ-loop
+sizes-for-requires c κs = search needs
 
 free-met-requires : tie.Need-free-met-requires Inv-loop μ-loop
 free-met-requires c κs = search needs
@@ -26,7 +29,7 @@ mul-end : tie.Need-mul-end Inv-loop μ-loop
 mul-end c = search needs
 
 loop-holds : tie.Need-loop-holds Inv-loop μ-loop
-loop-holds c = (omega arith, omega arith, seen-start _ _ _ _)
+loop-holds c = (omega arith, omega arith, seen-start _ _ _ _ _)
 
 mul-word : tie.Need-mul-word Inv-loop μ-loop
 mul-word c = search needs
@@ -39,6 +42,18 @@ mul-bounded c = search needs
 
 array-read-bounded : tie.Need-array-read-bounded Inv-loop μ-loop
 array-read-bounded c = search needs
+
+add-sized : tie.Need-add-sized Inv-loop μ-loop
+add-sized c = search needs
+
+mul-sized : tie.Need-mul-sized Inv-loop μ-loop
+mul-sized c = search needs
+
+array-read-sized : tie.Need-array-read-sized Inv-loop μ-loop
+array-read-sized c = search needs
+
+cast-sized : tie.Need-cast-sized Inv-loop μ-loop
+cast-sized c = search needs
 
 add-see-slot : tie.Need-add-see-slot Inv-loop μ-loop
 add-see-slot c = search needs
@@ -99,8 +114,8 @@ loop-again c =
     let l = c .before .before .before .before .before .before .before .before .loop in (
       omega arith,
       omega arith,
-      seen-turn _ _ _ _ (l .at) (l .s) _ _ (l .inv .0) (omega arith) (c .before .before .before .before .before .before .before .before .before .before .bounds-for .ensures)
-          (c .see-slot .ensures) (l .inv .2),
+      seen-turn _ _ _ _ _ _ (l .at) (l .s) _ _ (l .inv .0) (omega arith) (c .before .before .before .before .before .before .before .before .before .before .before .bounds-for .ensures)
+          (c .before .before .before .before .before .before .before .before .before .before .sizes-for .ensures) (c .see-slot .ensures) (l .inv .2),
     )
 
 all-met-requires : tie.Need-all-met-requires Inv-loop μ-loop
@@ -116,6 +131,7 @@ slots-good-spec =
     Inv-loop
     μ-loop
     bounds-for-requires
+    sizes-for-requires
     free-met-requires
     mul-end
     loop-holds
@@ -123,6 +139,10 @@ slots-good-spec =
     shared-slice-read-word
     mul-bounded
     array-read-bounded
+    add-sized
+    mul-sized
+    array-read-sized
+    cast-sized
     add-see-slot
     mul-see-slot
     shared-slice-read-see-slot

@@ -10,14 +10,14 @@ cast-t4 c = search needs
 cast-t7 : tie.Need-cast-t7
 cast-t7 c = search needs
 
+cast-t10 : tie.Need-cast-t10
+cast-t10 c = search needs
+
 id-in-requires : tie.Need-id-in-requires
 id-in-requires c κs = search needs
 
 request-in-requires : tie.Need-request-in-requires
 request-in-requires c κs = search needs
-
-cast-t12 : tie.Need-cast-t12
-cast-t12 c = search needs
 
 cast-t15 : tie.Need-cast-t15
 cast-t15 c = search needs
@@ -25,8 +25,11 @@ cast-t15 c = search needs
 cast-t18 : tie.Need-cast-t18
 cast-t18 c = search needs
 
-cast-t20 : tie.Need-cast-t20
-cast-t20 c = search needs
+cast-t21 : tie.Need-cast-t21
+cast-t21 c = search needs
+
+cast-t23 : tie.Need-cast-t23
+cast-t23 c = search needs
 
 returns : tie.Need-returns
 returns c = search slot-parts
@@ -37,10 +40,11 @@ slot-in-spec =
     (tie.spec
     cast-t4
     cast-t7
+    cast-t10
     id-in-requires
     request-in-requires
-    cast-t12
     cast-t15
     cast-t18
-    cast-t20
+    cast-t21
+    cast-t23
     returns)

@@ -25,6 +25,15 @@ mul-low-2 c = search needs
 add-low-2 : tie.Need-add-low-2
 add-low-2 c = search needs
 
+cast-low-4 : tie.Need-cast-low-4
+cast-low-4 c = search needs
+
+mul-low-3 : tie.Need-mul-low-3
+mul-low-3 c = search needs
+
+add-low-3 : tie.Need-add-low-3
+add-low-3 c = search needs
+
 cast-high : tie.Need-cast-high
 cast-high c = search needs
 
@@ -67,6 +76,9 @@ word-of-spec =
     cast-low-3
     mul-low-2
     add-low-2
+    cast-low-4
+    mul-low-3
+    add-low-3
     cast-high
     mul-high
     cast-high-2
