@@ -1,7 +1,7 @@
 """The logs that the programs `replay` and `replay_cases` are run on, and what they must print (`tools/cases` writes both).
 
 For `replay` scripts of calls, each from an opening of its own, written for 01's rules one by one, some drawn by chance, then for
-02's orders 1 and 4.
+02's orders 1, 4 and 6.
 For `replay_cases` many logs: a record bad in each way for each call, cut anywhere, calls before any opening, openings refused
 and accepted in turn, empty logs. What is printed is the model's (model/blocks.py)."""
 
@@ -9,8 +9,8 @@ import random
 
 from model.blocks import Replay, replay
 from model.records import (
-    ACKNOWLEDGE, ADDRESS, BITS, CANCEL, CLOSE, COLLECT, DISABLE, DRAIN, ENABLE, MOST, OPEN, OPEN_ENDPOINT, POWER, REARM, SCAN, SCAN_STEP,
-    SET_ADDRESS, SET_PACKET, START, STEP, SUBMIT, USED, WRITEBACK, record,
+    ACKNOWLEDGE, ADDRESS, BITS, CANCEL, CLEAR_HALT, CLOSE, COLLECT, DISABLE, DRAIN, ENABLE, MOST, OPEN, OPEN_ENDPOINT, POWER, REARM, SCAN,
+    SCAN_STEP, SET_ADDRESS, SET_PACKET, START, STEP, SUBMIT, USED, WRITEBACK, record,
 )  # fmt: skip
 from model.tokens import BULK, CONTROL, INTERRUPT, ISOCHRONOUS
 
@@ -47,8 +47,12 @@ def cancel(slot, id=1, command=0, frame=0):
     return record(CANCEL, (slot,), (id, command, frame))
 
 
-def collect(slot, id=1, command=0, frame=0):
-    return record(COLLECT, (slot,), (id, command, frame))
+def collect(slot, id=1, command=0, frame=0, overlay=0):
+    return record(COLLECT, (slot,), (id, command, frame, overlay))
+
+
+def clear_halt(slot):
+    return record(CLEAR_HALT, (slot,))
 
 
 def acknowledge(status, interrupts=0x27, first=1, second=1):
@@ -384,6 +388,100 @@ def packet_shorts():
     yield lives(CONTROL, [(at(0x00000E00, 0x800A0D00, 0x80008C00),)], C=8, packet=512, length=18)
 
 
+# ---- 02, order 6: the toggle. What a submit writes shows what was kept: 80000000 or 0 in word 6 of its head
+
+BIT = 2**31
+# what is written back of a request, by how it ends: 50 and 100 bytes are left of some
+ENDS = {"done": 0xD00, "short": 0x320D00, "failed": 0x640D40, "cancelled": 0x640D80}
+
+
+def through(slot, id, kind, overlay, how="done", direction=1, length=100):
+    """A request at the first places, up to its collection with this overlay token; collects that do not pass are given one that
+    says otherwise."""
+    other = overlay ^ BIT
+    calls = [submit(slot, kind, direction, length=length), collect(slot, id, overlay=other)]
+    calls += [writeback(place, ENDS[how]) for place in range(3 if kind == CONTROL else 1)]
+    calls += [cancel(slot, id) if how == "cancelled" else collect(slot, id, overlay=other), collect(slot, id, frame=8, overlay=other)]
+    calls += [collect(slot, id + 1, frame=9, overlay=other)] + (answered() if kind != INTERRUPT else [])
+    return calls + [collect(slot, id, frame=9, overlay=overlay), collect(slot, id, overlay=other)]
+
+
+def toggle_reads():
+    """One request after the other, of each kind and direction: from 0 to 1, 1, 0 and 0, whatever way they end; packets in odd and even numbers."""
+    for kind in (BULK, INTERRUPT, CONTROL):
+        for direction in (1, 0):
+            calls, id = started(E=1) + [endpoint(kind)], 0
+            for how in ENDS:
+                for overlay in (0x80008D00, 0xFFFFFFFF, 0x7FFF8D40, 0):
+                    id += 1
+                    calls += through(0, id, kind, overlay, how, direction)
+            yield calls
+    # 1,536 bytes are three packets, 1,024 are two, none is one of no bytes
+    for kind in (BULK, INTERRUPT):
+        calls = started(E=1) + [endpoint(kind)]
+        for id, (length, overlay) in enumerate(((1536, BIT), (1536, 0), (512, BIT), (1024, BIT), (0, 0), (1024, 0), (1537, 0), (1025, BIT)), 1):
+            calls += through(0, id, kind, overlay, length=length)
+        yield calls
+
+
+def toggle_bits():
+    """Each bit of the token set alone, and each alone not."""
+    calls, words = started(D=1, E=1) + [endpoint(BULK)], [word ^ 1 << bit for bit in range(32) for word in (0, 2**32 - 1)]
+    for id, word in enumerate(words, 1):
+        calls += [submit(0, BULK, length=1), cancel(0, id)] + answered() + [collect(0, id, overlay=word)]
+    yield calls
+
+
+def toggle_halts():
+    """Clear-halt in each phase of a slot, on each kind, and of slots that are not there; then before and during bring-up."""
+    for kind in (BULK, INTERRUPT, CONTROL):
+        calls = started(E=2) + [clear_halt(k) for k in (0, 1, 2, 31, 32, 255)] + [endpoint(kind), clear_halt(0)] + through(0, 1, kind, BIT) + [clear_halt(1), clear_halt(2)]
+        # linked, unlinking, answered: 4, and the bit stays; collected, it goes
+        for id in (2, 3):
+            calls += [submit(0, kind), clear_halt(0), cancel(0, id), clear_halt(0)] + answered() + [clear_halt(0), collect(0, id, frame=9, overlay=BIT)]
+        calls += [clear_halt(0)] + through(0, 4, kind, BIT, "failed") + [clear_halt(0), clear_halt(0)] + through(0, 5, kind, BIT)
+        yield calls + [record(CLOSE, (0,)), clear_halt(0), endpoint(kind), submit(0, kind), clear_halt(0)]
+    yield [opening(), clear_halt(0), endpoint(BULK), endpoint(CONTROL), clear_halt(0), clear_halt(1), clear_halt(2)] + brought_up() + [submit(0, BULK)]
+    calls = started() + [endpoint(BULK), endpoint(INTERRUPT)] + through(0, 1, BULK, BIT) + through(1, 1, INTERRUPT, BIT) + [record(START), clear_halt(0), record(STEP, (), (0,)), clear_halt(3)]
+    yield calls + [submit(0, BULK)] + brought_up() + [submit(0, BULK), submit(1, INTERRUPT)]
+    # between openings: whoever has a controller keeps it
+    yield [clear_halt(0), opening(D=0), clear_halt(0)] + started() + [endpoint(BULK)] + through(0, 1, BULK, BIT) + [opening(E=0), submit(0, BULK), opening(), clear_halt(0)]
+
+
+def toggle_changes():
+    """What leaves the bit: every other call on the slot, on another, on none; and what does not: close, and a controller that is opened anew."""
+    between = [[record(SET_ADDRESS, (0, 9)), record(SET_ADDRESS, (0, 128))], [record(SET_PACKET, (0, 64)), record(SET_PACKET, (0, 255))], brought_up()]
+    between += [[record(call) for call in (ADDRESS, ENABLE, DISABLE, REARM, SCAN)], [endpoint(BULK, 6), clear_halt(1), record(CLOSE, (1,))], [record(START), record(START)] + brought_up()]
+    between += [[submit(0, ISOCHRONOUS), submit(0, BULK, address=2**32, length=1), submit(0, INTERRUPT, address=2**32, length=1), submit(0, BULK, length=5 * 16384)]]
+    between += [[acknowledge(0x37), drain(), drain(), drain()], [cancel(0), collect(0), collect(0, 99, frame=9), collect(1, overlay=0), record(SET_PACKET, (0, 0))]]
+    for kind in (BULK, INTERRUPT):
+        calls = started() + [endpoint(kind)] + through(0, 1, kind, BIT)
+        for id, others in enumerate(between, 2):
+            calls += others + through(0, id, kind, BIT)
+        # closed and opened: as an endpoint of its kind, of another, and with another one before it
+        for other in (kind, BULK + INTERRUPT - kind, CONTROL):
+            calls += [record(CLOSE, (0,)), endpoint(other)] + through(0, 1, other, BIT) + [record(CLOSE, (0,)), endpoint(kind)] + through(0, 1, kind, BIT)
+        yield calls + [opening(), *brought_up(), endpoint(kind), submit(0, kind)]
+
+
+def toggle_slots():
+    """Four slots, each with its own bit: collected in turn, one cleared, one closed."""
+    kinds = (BULK, CONTROL, BULK, INTERRUPT)
+    calls = started(E=4) + [endpoint(kind, k + 1) for k, kind in enumerate(kinds)]
+    for id, bits in enumerate(((0, 0, 1, 0), (1, 1, 0, 0), (0, 1, 1, 1), (1, 1, 1, 1)), 1):
+        for k, kind in enumerate(kinds):
+            calls += through(k, id, kind, bits[k] * BIT)
+    # all are linked at once, and each is collected after the others are cancelled
+    for id, cleared in enumerate((2, 1, 3, 0), 5):
+        calls += [clear_halt(cleared)] + [submit(k, kinds[k], length=1) for k in (0, 2, 3)] + [cancel(k, id) for k in (0, 2, 3)]
+        calls += answered() * 2 + [collect(k, id, frame=9, overlay=BIT) for k in (0, 2, 3)]
+    yield calls + [record(CLOSE, (2,)), submit(0, BULK), submit(3, INTERRUPT), endpoint(BULK), submit(2, BULK)]
+    # the last of 32
+    calls = started(D=32, E=32) + [endpoint(BULK, k) for k in range(32)] + [submit(k, BULK, length=1) for k in range(32)] + [cancel(k) for k in range(32)]
+    calls += answered() * 32 + [collect(k, overlay=BIT * (k >> 1 & 1 ^ k & 1)) for k in range(32)] + [clear_halt(k) for k in (1, 30, 31, 32)]
+    yield calls + [submit(k, BULK, length=1) for k in range(32)]
+
+
 def unlinks():
     calls = started(D=8, E=4, C=512) + [endpoint(BULK), endpoint(CONTROL), endpoint(BULK), endpoint(INTERRUPT)]
     calls += [submit(0, BULK), submit(1, CONTROL), submit(2, BULK), submit(3, INTERRUPT)]
@@ -431,8 +529,8 @@ EVEN = {1: (1, 1, 2), 64: (8, 64, 64), 4096: (8, 64, 1024), 16384: (8, 64, 1024)
 UNEVEN = {3: (1, 2, 3, 4), 9: (8, 9, 10), 100: (7, 64, 99, 101), 1000: (8, 512, 1000, 1001), 16384: (7, 48, 1023)}
 
 
-def drawn(seed, count, sizes=EVEN):
-    """Calls by chance, with the model at hand so that many are accepted."""
+def drawn(seed, count, sizes=EVEN, toggles=False):
+    """Calls by chance, with the model at hand so that many are accepted; where they are asked for, with overlay tokens and clear-halts."""
     draw, keeper, calls = random.Random(seed), Replay(), []
     E, D = draw.choice([1, 2, 4, 8]), draw.choice([1, 3, 8, 20])
 
@@ -451,16 +549,18 @@ def drawn(seed, count, sizes=EVEN):
         id = slot.request if held and draw.random() < 0.95 else draw.choice([0, 1, 2**64 - 1])
         frame, command = draw.randrange(2**32), draw.choice([0, 0x31, 0x71, 0xFFFFFFFF])
         size = draw.choice([0, 1, state.settings.C, 2 * state.settings.C + 1, draw.randrange(200)])
+        overlay = draw.choice([0x8D00, BIT + 0x8D00, draw.randrange(2**32)]) if toggles else 0
         make(
             draw.choice(
                 [endpoint(draw.choice([0, 2, 2, 3]), draw.randrange(130), draw.randrange(17), draw.choice(sizes[C]))]
                 + [submit(k, kind, draw.randrange(2), None if draw.random() < 0.9 else draw.randrange(2**48) if kind == CONTROL else 0, draw.choice([0x1000, 0xFFFFF000, 0x2000FFF]), size, command)] * 4
                 + [writeback(p, draw.choice([0, 0x80, 8, 0x40, 0x10000, draw.randrange(2**32)])) for p in (state.places_of(k) if held else [draw.randrange(D + 1)])[:3]] * 2
-                + [cancel(k, id, command, frame), collect(k, id, command, frame), collect(k, id, command, frame), collect(k, id, command, frame)]
+                + [cancel(k, id, command, frame)] + [collect(k, id, command, frame, overlay)] * 3
                 + [acknowledge(draw.choice([0x20, 0x24, 1, 0x37, 0]), 0x27, draw.randrange(2), draw.randrange(2)), acknowledge(0x20), drain(command), drain(command)]
                 + [record(draw.choice([REARM, ENABLE, DISABLE, ADDRESS]))]
                 + ([record(CLOSE, (k,)), record(SET_ADDRESS, (k, draw.randrange(130))), record(SET_PACKET, (k, draw.randrange(256)))] if draw.random() < 0.3 else [])
                 + ([record(START)] if draw.random() < 0.05 else [])
+                + ([clear_halt(k)] if toggles and draw.random() < 0.3 else [])
                 + ([record(STEP, (), (draw.choice([0, 0x1000, 2]),))] if draw.random() < 0.3 else [])
             )
         )
@@ -476,6 +576,10 @@ def scripts():
         yield from family()
     for seed in range(200, 210):
         yield drawn(seed, 60, UNEVEN)
+    for family in (toggle_reads, toggle_bits, toggle_halts, toggle_changes, toggle_slots):
+        yield from family()
+    for seed in range(300, 310):
+        yield drawn(seed, 80, UNEVEN if seed % 2 else EVEN, toggles=True)
 
 
 def changed(record, at, value):
@@ -552,6 +656,12 @@ def logs():
             yield [after, changed(call, draw.randrange(64), draw.choice([0, 1, 2, 3, 128, 255]))]
     yield from [*short_replies()][:1] + [*extra_records()][:2] + [*area_ends()]
     yield from [*packet_ends()][:1] + [*packet_openings()][:2] + [*packet_sets()][3:6] + [*packet_changes()]
+    yield from [*toggle_reads()][:1] + [*toggle_halts()] + [*toggle_changes()][:1]
+    # call 12 was read without the token, and 21 was no call
+    for word in (0, 1, BIT, 2**32 - 1, 2**32, 2**32 + BIT, 2**63, 2**64 - 1):
+        yield started() + [endpoint(BULK), submit(0, BULK), cancel(0)] + answered() + [collect(0, overlay=word), submit(0, BULK)]
+    for number in (21, 22):
+        yield started() + [endpoint(BULK), record(number, (0,)), record(number, (1,)), record(number, (0, 1)), after]
     yield []
 
 

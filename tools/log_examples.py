@@ -1,10 +1,10 @@
 """The logs of examples/ that the model writes, and call by call what is printed of them beside another build (`tools/cases` writes
-them): the short reply of 02's order 1 and the packet's end of its order 4. The blocks of the build without that order, `.base.blocks`,
+them): the short reply of 02's order 1, the packet's end of its order 4 and the toggle of its order 6. The blocks of the build without that order, `.base.blocks`,
 are that build's model's, and nobody writes them."""
 
 import os
 
-from log_cases import acknowledge, collect, drain, endpoint, started, submit, writeback
+from log_cases import acknowledge, clear_halt, collect, drain, endpoint, started, submit, writeback
 from model.blocks import replay
 from model.tokens import BULK
 
@@ -79,6 +79,52 @@ A packet of 1,001 bytes is above the limit: this build refuses an endpoint of su
 """
 
 
+TOGGLE_CALLS = {
+    8: "open endpoint: bulk, address 5, number 1, packet size 512",
+    9: "submit on slot 0: In, 1,536 bytes",
+    10: "writeback of place 0: inactive, no bytes left, toggle 1",
+    11: "collect slot 0",
+    12: "acknowledge, USBSTS 0x20: an advance",
+    13: "drain",
+    14: "collect slot 0, overlay token 80008d00",
+    15: "submit on slot 0: In, 1,024 bytes",
+    16: "writeback of place 0: inactive, no bytes left, toggle 1",
+    17: "collect slot 0",
+    18: "acknowledge, USBSTS 0x20: an advance",
+    19: "drain",
+    20: "collect slot 0, overlay token 80008d00",
+    21: "clear-halt on slot 0",
+    22: "submit on slot 0: In, 1,536 bytes",
+}
+TOGGLE_HEAD = """\
+The toggle: a first read has an odd number of packets, and the second loses one.
+
+toggle.log opens a controller (call 0), brings it up (calls 1 to 7), and goes on as below. Each block is what replay prints of its
+call, as the model of 01 (tools/model) has it:
+  port    this build
+  base    the build without 02's order 6. It takes a collect with an overlay token for a bad record, so it was given the log with n4 of
+          calls 14 and 20 put to 0; and it knows no call 21, so it ends there
+A P line is a descriptor: place, next, alternate, token, page slots, upper slots. An H line is a word of a head: word 6 of head 1 is the
+token of slot 0's overlay, and its bit 31 the toggle of the next packet. "all" stands where the two are the same. The two outputs are
+whole in toggle.port.blocks and .base.blocks. Written by tools/cases.
+
+The packets of an endpoint have toggle 0 and 1 in turn (USB 8.6). 1,536 bytes come in three packets of 512 (calls 9 to 14): 0, 1, 0. The
+controller counts in the overlay (EHCI 4.10.2), so its token has bit 31 set when the request is done: 80008d00. The host reads it once
+the boundary is set, and gives it to the collect that passes (call 14).
+
+In this build that bit is kept, and the next submit writes it into the overlay's token (call 15: H 1 6 80000000). The controller awaits a
+packet with toggle 1, and the camera sends one: 1, 0 for 1,024 bytes. The next one is 1 again (calls 16 to 20).
+
+In the base the overlay's token is 0 again after each submit (call 15 has no line for it, since it was 0 before). The controller awaits 0,
+and takes the camera's packet with toggle 1 for one that it has already had: it answers it and throws it away. The read loses its first
+512 bytes. What is collected in call 20 is what the writeback of call 16 says, in both.
+
+Then the camera halts its endpoint. The host sends it CLEAR_FEATURE(ENDPOINT_HALT), after which its next packet has toggle 0, and says so here
+by clear-halt (call 21). No line shows it: the bit is the slot's own. The next submit writes 0 (call 22), which is what call 20 left there;
+without the clear-halt it would be 80000000.
+"""
+
+
 def short_reply():
     ask = submit(0, BULK, address=0x10000000, length=64 * 16384, command=0x80031)
     calls = started(D=64, E=2) + [endpoint(BULK), ask, writeback(0, 0x34480D00), collect(0, command=0x80031)]
@@ -92,8 +138,23 @@ def packet_end():
     return b"".join(calls + [endpoint(BULK, number=2, packet=1001)])
 
 
+def read_of(id, length, token):
+    """A read that is done, up to its collection with the overlay's token; the last descriptor's is the same."""
+    calls = [submit(0, BULK, address=0x10000000, length=length, command=0x80031), writeback(0, token), collect(0, id, command=0x80031)]
+    return calls + [acknowledge(0x20), drain(0x80031), collect(0, id, command=0x80031, overlay=token)]
+
+
+def toggle():
+    calls = started(D=8, E=2) + [endpoint(BULK)] + read_of(1, 1536, 0x80008D00) + read_of(2, 1024, 0x80008D00)
+    return b"".join(calls + [clear_halt(0), submit(0, BULK, address=0x10000000, length=1536, command=0x80031)])
+
+
 # of each example its log, and what its text says
-EXAMPLES = {"short-reply": (short_reply, SHORT_HEAD, SHORT_CALLS), "packet-end": (packet_end, PACKET_HEAD, PACKET_CALLS)}
+EXAMPLES = {
+    "short-reply": (short_reply, SHORT_HEAD, SHORT_CALLS),
+    "packet-end": (packet_end, PACKET_HEAD, PACKET_CALLS),
+    "toggle": (toggle, TOGGLE_HEAD, TOGGLE_CALLS),
+}
 
 
 def shortened(lines):
@@ -105,14 +166,14 @@ def shortened(lines):
 
 
 def beside(head, calls, texts):
-    """A head; then of each call what the sides printed, `all` where that is the same."""
+    """A head; then of each call what the sides printed, `all` where that is the same. A side that has ended prints nothing."""
     out = [head]
-    sides = [(name, text.split(".\n")[:-1]) for name, text in texts.items()]
+    sides = [(name, text.split(".\n")) for name, text in texts.items()]
     for call, words in calls.items():
         out.append(f"\ncall {call}: {words}\n")
-        same = len({side[call] for _, side in sides}) == 1
-        for name, side in [("all", sides[0][1])] if same else sides:
-            out += [f"  {name:<7} {line}\n" for line in shortened(side[call].splitlines())]
+        said = [(name, side[call] if call < len(side) else "") for name, side in sides]
+        for name, block in [("all", said[0][1])] if len({block for _, block in said}) == 1 else said:
+            out += [f"  {name:<7} {line}\n" for line in shortened(block.splitlines())]
     return "".join(out)
 
 

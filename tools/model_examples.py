@@ -1,19 +1,23 @@
 """01, "Examples": each example as 01 has it, and what the model says of it (`tools/cases` compares the two). The job sheet's
 is crates/sheet. Then those of the state in words, worked out by hand from its table (docs/DECISIONS.md, 127 and 129), and those of
-02's orders 1 and 4, worked out by hand from their rules."""
+02's orders 1, 4 and 6, worked out by hand from their rules."""
 
-from model.answers import DONE, ENDPOINT, FULL, INVALID, LIMIT, MEMORY, UNSUPPORTED
+from model.answers import CANCELLED, DONE, ENDPOINT, FAILED, FULL, INVALID, LIMIT, MEMORY, PENDING, UNSUPPORTED
+from model.blocks import replay
 from model.calls import World
 from model.collection import see
 from model.descriptors import characteristics, page_slots
 from model.interrupts import PORT_CHANGE, TRANSFER_ACTIVITY, acknowledge, drain
-from model.ranges import settings_good
-from model.records import CLOSE, OPEN_ENDPOINT, SET_PACKET, SUBMIT, WRITEBACK
+from model.ranges import in_ranges, settings_good
+from model.records import (
+    ACKNOWLEDGE, ADDRESS, CANCEL, CLEAR_HALT, CLOSE, COLLECT, DRAIN, ENABLE, OPEN, OPEN_ENDPOINT, REARM, SET_ADDRESS, SET_PACKET, START, STEP, SUBMIT,
+    WRITEBACK, read, record,
+)  # fmt: skip
 from model.registers import DOORBELL, USBCMD
 from model.requests import buffer_good
 from model.schedule import boundary_passed
 from model.state import IDLE, LINKED, UNLINKING, Settings, Slot, State, largest_rows
-from model.tokens import BULK, CONTROL, IN, INTERRUPT, ISOCHRONOUS, OUT, SETUP, bytes_left, control_plan, token, working_limit
+from model.tokens import BULK, CONTROL, IN, INTERRUPT, ISOCHRONOUS, OUT, SETUP, bytes_left, control_plan, overlay_token, toggle_of, token, working_limit
 from model.words import encode, first_bound, good, slot_words, view
 
 
@@ -222,7 +226,7 @@ def closed():
 def full_word():
     """The first word of a cancelled interrupt request with every field that it can have."""
     state = State(Settings(66, 2, 1, 16384, 1, 0x100000, 0x200000, 0x300000, 0x400000))
-    slot = state.slots[0] = Slot(UNLINKING, INTERRUPT, 1024)
+    slot = state.slots[0] = Slot(UNLINKING, INTERRUPT, 1024, 1)
     slot.direction, slot.length, slot.cancel, slot.boundary = 1, 3000, 1, 16383
     return slot_words(state, 0)[0]
 
@@ -282,15 +286,201 @@ def packet_examples():
     # three packets of 255 are 765; the head's word is not asked
     yield "a size set between requests", between(), [[512, 488], [765, 235], [1000], [1000]]
     yield "a closed slot's size", closed(), [512, 0, 0, 3]
-    # 3 + 3 * 4, 1,024 * 16, 2^15, 3,000 * 2^16; 2^48, 16,383 * 2^49
-    yield "every field of a first word", full_word(), 0x7FFF00000BB8C00F
+    # 3 + 3 * 4, 1,024 * 16, 2^15, 2^16, 3,000 * 2^17 (0x17700000); 2^49, 16,383 * 2^50 (0xFFFC << 48)
+    yield "every field of a first word", full_word(), 0xFFFE00001771C00F
     # an idle bulk slot is 9, interrupt 13, control 1; a size stands 16-fold
     yield "words of idle slots", [word_good(1000, 9 + 16 * size) for size in (0, 1, 512, 1000, 1001, 1024, 1025, 2047)], [False, True, True, True, False, False, False, False]
     yield "words of idle interrupt slots", [word_good(1000, 13 + 16 * size) for size in (0, 1, 1000, 1001)], [False, True, True, False]
     yield "words of idle control slots", [word_good(1000, 1 + 16 * size) for size in (0, 1, 1001, 1024, 1025, 2047)], [False, True, True, True, False, False]
     yield "words of bulk slots, C 16,384", [word_good(16384, 9 + 16 * size) for size in (1024, 1025)], [True, False]
-    yield "words of closed slots", [word_good(1000, first) for first in (0, 16, 16 * 512, 8, 2**15)], [True, False, False, False, False]
-    yield "words of idle slots with more", [word_good(1000, 9 + 16 * 512 + more) for more in (0, 2**15, 2**16, 2**48, 2**49, 2**63)], [True] + [False] * 5
+    yield "words of closed slots", [word_good(1000, first) for first in (0, 16, 16 * 512, 8, 2**15, 2**16)], [True] + [False] * 5
+    yield "words of idle slots with more", [word_good(1000, 9 + 16 * 512 + more) for more in (0, 2**15, 2**16, 2**17, 2**48, 2**49, 2**50, 2**63)], [True] * 2 + [False] * 6
+
+
+# ---- 02, order 6. Of packets sent one after the other each has the other toggle: after an odd number the next one has 1
+
+
+def endpoint(kind, D=66):
+    """A running controller with one endpoint, in slot 0."""
+    world = running(D)
+    world.call(OPEN_ENDPOINT, kind, 5, 1, 512)
+    return world
+
+
+def collected(world, overlay, left=0xD00, cancelled=False, k=0, length=512, direction=IN):
+    """A request, from its submit to its collection with this overlay token: what the submit wrote into the overlay's token, what the
+    collection answered, and the toggle then. Its tokens are `left` when it is collected."""
+    slot = world.state.slots[k]
+    world.call(SUBMIT, k, slot.kind, direction, direction << 7, 0x10000000, length, 0)
+    wrote, id = world.rows.head_word(k, 6), slot.request
+    for place in world.state.places_of(k):
+        world.call(WRITEBACK, place, left)
+    world.call(CANCEL, k, id, 0, 0) if cancelled else world.call(COLLECT, k, id, 0, 0, 0)
+    world.call(ACKNOWLEDGE, 1, 1, 0x20, 0)
+    world.call(DRAIN, 0)
+    return wrote, world.call(COLLECT, k, id, 0, 9, overlay).number, slot.toggle
+
+
+def reads(kind, *overlays, **given):
+    """One request after the other on one endpoint."""
+    world = endpoint(kind)
+    return [collected(world, overlay, **given) for overlay in overlays]
+
+
+def toggled(kind=BULK):
+    """An endpoint whose toggle is 1."""
+    world = endpoint(kind)
+    collected(world, 0x80008D00)
+    return world
+
+
+def not_passing(world, overlay):
+    """Collects that do not pass, all with this overlay token, each with the toggle after it: of slots that are not open, of one that has no
+    request; of one that has, by another id, unfinished, finished (it unlinks), waiting; cancelled and waiting."""
+    said, slot = [], world.state.slots[0]
+
+    def tried(k, id):
+        said.append((world.call(COLLECT, k, id, 0, 0, overlay).number, slot.toggle))
+
+    for k in (1, 2, 255, 0):
+        tried(k, 1)
+    ask(world, BULK, IN, 512)
+    tried(0, slot.request + 1)
+    tried(0, slot.request)
+    world.call(WRITEBACK, 0, 0x8D00)
+    tried(0, slot.request)
+    tried(0, slot.request)
+    tried(0, slot.request + 1)
+    world.call(CANCEL, 0, slot.request, 0, 0)
+    tried(0, slot.request)
+    return said
+
+
+def halts(kind):
+    """Clear-halt on an endpoint whose toggle is 1, each with the toggle after it: on slots that are not open, with a linked request, with one
+    that is unlinked, once it is collected (with 1 again), once more."""
+    world = toggled(kind)
+    slot, said = world.state.slots[0], []
+
+    def cleared(k):
+        said.append((world.call(CLEAR_HALT, k).number, slot.toggle))
+
+    for k in (1, 2, 31, 32, 255):
+        cleared(k)
+    ask(world, kind, IN, 512)
+    cleared(0)
+    world.call(CANCEL, 0, 2, 0, 0)
+    cleared(0)
+    world.call(ACKNOWLEDGE, 1, 1, 0x20, 0)
+    world.call(DRAIN, 0)
+    world.call(COLLECT, 0, 2, 0, 9, 0x80000000)
+    cleared(0)
+    cleared(0)
+    return said
+
+
+def cleared_alone():
+    """Clear-halt while the controller does not run: its answer, whether all but the slots stays; the overlay's token of the next request."""
+    world = toggled()
+    world.state.running, before = 0, world.rows.copy()
+    answer = world.call(CLEAR_HALT, 0)
+    same = all(getattr(world.rows, name) == getattr(before, name) for name in ("pool", "heads", "frames", "setups"))
+    world.state.running = 1
+    return tuple(answer), same, collected(world, 0)[0]
+
+
+def opened_anew():
+    """The toggle of an endpoint with 1, of its slot when it is closed, and of the endpoint that is opened there."""
+    world = toggled()
+    said = [world.state.slots[0].toggle]
+    for number, *given in ((CLOSE, 0), (OPEN_ENDPOINT, BULK, 5, 1, 512)):
+        world.call(number, *given)
+        said.append(world.state.slots[0].toggle)
+    return said + [collected(world, 0)[0]]
+
+
+def left_alone():
+    """The toggle of an endpoint with 1 after each call that is neither a collect, clear-halt nor close."""
+    world, said = toggled(), []
+    calls = [(ADDRESS,), (SET_ADDRESS, 0, 9), (SET_PACKET, 0, 64), (REARM,), (ENABLE,), (START,)] + [(STEP, v) for v in (0, 0x1000, 0, 0, 0, 0)]
+    calls += [(OPEN_ENDPOINT, BULK, 6, 1, 8), (SUBMIT, 0, BULK, IN, 0, 0x10000000, 64, 0), (WRITEBACK, 0, 0x8D00), (CANCEL, 0, 2, 0, 0)]
+    for number, *given in calls + [(ACKNOWLEDGE, 1, 1, 0x20, 0), (DRAIN, 0), (CLEAR_HALT, 1), (CLOSE, 1)]:
+        said.append((world.call(number, *given).number, world.state.slots[0].toggle))
+    return said
+
+
+def two_slots():
+    """Of two bulk endpoints in turn what the submit wrote, and then the toggles of both."""
+    world, said = endpoint(BULK), []
+    world.call(OPEN_ENDPOINT, BULK, 5, 2, 512)
+    for k, overlay in ((1, 0x80000000), (0, 0), (1, 0x80000000), (0, 0x80000000), (1, 0), (0, 0x80000000)):
+        said.append((collected(world, overlay, k=k)[0], [slot.toggle for slot in world.state.slots[:2]]))
+    world.call(CLEAR_HALT, 1)
+    return said + [slot.toggle for slot in world.state.slots[:2]]
+
+
+def state_good(phase, toggle):
+    """Whether a slot may have this toggle; an open one is for bulk."""
+    world = endpoint(BULK)
+    world.state.slots[0] = Slot(phase, BULK, 512, toggle) if phase else Slot(toggle=toggle)
+    if phase > IDLE:
+        world.state.slots[0].request = 1
+    return in_ranges(world.state)
+
+
+def through_words():
+    """The first word of an idle bulk slot of 512-byte packets with toggle 1, and the toggle that it stands for; the same with toggle 0."""
+    said = []
+    for toggle in (1, 0):
+        world = toggled()
+        world.state.slots[0].toggle = toggle
+        core, row = encode(world.state)
+        said += [row[0], good(core, row), view(core, row).slots[0].toggle]
+    return said
+
+
+def is_read(number, small, *numbers):
+    return read(record(number, small, numbers)) is not None
+
+
+def toggle_examples():
+    """02, order 6."""
+    yield "overlay tokens", [overlay_token(kind, bit) for kind in (BULK, INTERRUPT, CONTROL) for bit in (0, 1)], [0, 0x80000000, 0, 0x80000000, 0, 0]
+    yield "toggles of tokens", [toggle_of(word) for word in (0, 0x7FFFFFFF, 0x80000000, 0xFFFFFFFF, 0x40000000, 1)], [0, 0, 1, 1, 0, 0]
+    # 1,536 bytes are three packets of 512: 0, 1, 0, and the next is 1. The second read takes 1, 0, 1, so the third is 0 again
+    once = (0, DONE, 1), (0x80000000, DONE, 0), (0, DONE, 1)
+    for kind in (BULK, INTERRUPT):
+        yield f"three reads of three packets, kind {kind}", reads(kind, 0x80008D00, 0x00008D00, 0x80008D00, length=1536), [*once]
+        yield f"three writes of three packets, kind {kind}", reads(kind, 0x80008C00, 0x00008C00, 0x80008C00, length=1536, direction=OUT), [*once]
+    # two packets: 0, 1
+    yield "reads of two packets", reads(BULK, 0x00008D00, 0x00008D00, length=1024), [(0, DONE, 0), (0, DONE, 0)]
+    yield "bit 31 alone", reads(BULK, 0x7FFFFFFF, 0xFFFFFFFF, 0x80000000, 0), [(0, DONE, 0), (0, DONE, 1), (0x80000000, DONE, 1), (0x80000000, DONE, 0)]
+    yield "kept at 10", reads(BULK, 0x80000D80, 0x80000D80, 0xD80, 0, cancelled=True), [(0, CANCELLED, 1), (0x80000000, CANCELLED, 1), (0x80000000, CANCELLED, 0), (0, CANCELLED, 0)]
+    yield "kept at 11", reads(INTERRUPT, 0x82000D40, 0x02000D40, 0, left=0x02000D40), [(0, FAILED, 1), (0x80000000, FAILED, 0), (0, FAILED, 0)]
+    yield "control", reads(CONTROL, 0x80008C00, 0x80008C00, 0x00008C00), [(0, DONE, 1), (0, DONE, 1), (0, DONE, 0)]
+    yield "control, cancelled", reads(CONTROL, 0x80008C00, 0, cancelled=True), [(0, CANCELLED, 1), (0, CANCELLED, 0)]
+    answers = [ENDPOINT, ENDPOINT, ENDPOINT, PENDING, ENDPOINT, PENDING, PENDING, PENDING, ENDPOINT, PENDING]
+    yield "not kept at 9 or 3, of 0", not_passing(endpoint(BULK), 0xFFFFFFFF), [(answer, 0) for answer in answers]
+    yield "not kept at 9 or 3, of 1", not_passing(toggled(), 0), [(answer, 1) for answer in answers]
+    for kind in (BULK, INTERRUPT, CONTROL):
+        yield f"clear-halt, kind {kind}", halts(kind), [(ENDPOINT, 1)] * 5 + [(FULL, 1), (FULL, 1), (DONE, 0), (DONE, 0)]
+    yield "clear-halt of a controller that does not run", cleared_alone(), ((DONE, (), (), ()), True, 0)
+    yield "opened anew", opened_anew(), [1, 0, 0, 0]
+    yield "left alone", left_alone(), [(DONE, 1)] * 20
+    # 1 to slot 1; 0 to slot 0; and so on: each submit writes what its own slot was given before
+    pairs = [(0, [0, 1]), (0, [0, 1]), (0x80000000, [0, 1]), (0, [1, 1]), (0x80000000, [1, 0]), (0x80000000, [1, 0])]
+    yield "two slots", two_slots(), pairs + [1, 0]
+    yield "toggles in the ranges", [state_good(phase, bit) for phase in (0, IDLE, LINKED, UNLINKING) for bit in (0, 1, 2)], [True, False, False] + [True, True, False] * 3
+    # 1 + 2 * 4, 512 * 16, 2^15
+    yield "a toggle in words", through_words(), [0xA009, True, 1, 0x2009, True, 0]
+    # linked from 2^49 on cancelled, from 2^50 on a boundary; a closed slot with a toggle
+    bounds = [first_bound(IDLE, BULK, 0), first_bound(LINKED, CONTROL, 0), first_bound(UNLINKING, CONTROL, 0), first_bound(UNLINKING, INTERRUPT, 0), first_bound(0, 0, 0)]
+    yield "bounds of first words", bounds, [2**16, 2**49, 2**50, 2**64, 1]
+    yield "words of idle slots with a toggle", [word_good(1000, 2**15 + first + 16 * 64) for first in (1, 9, 13, 5, 0)], [True, True, True, False, False]
+    yield "a collect's token of 32 bits", [is_read(COLLECT, (0,), 1, 0, 0, word) for word in (0, 2**31, 2**32 - 1, 2**32, 2**63)], [True, True, True, False, False]
+    yield "records of clear-halt", [is_read(21, (255,)), is_read(21, (0, 1)), is_read(21, (0,), 1), is_read(21, (0,), 0, 0, 0, 0, 0, 0, 1), is_read(22, ()), is_read(11, (0,), 1, 0, 0, 1)], [True] + [False] * 5
+    log = record(OPEN, (2, 1), (4, 512, 1, 0x100000, 0x200000, 0x300000, 0x400000)) + record(OPEN_ENDPOINT, (0, 5, 0), (8,)) + record(21, (0,)) + record(21, (1,))
+    yield "what is printed of clear-halt", [line for line in replay(log).splitlines() if " 21 " in line], ["C 2 21 0", "C 3 21 3"]
 
 
 def examples():
@@ -310,12 +500,13 @@ def examples():
     yield "unlink, distance 8", passed(16380, 4), False
     yield "unlink, distance 9", passed(16380, 5), True
     yield "drain", drains(), [(PORT_CHANGE, 1, ((USBCMD, DOORBELL),)), (TRANSFER_ACTIVITY, 1, ())]
-    # 2, 64 * 2^4, 2^15, 18 * 2^16; 1 + 2 * 4, 512 * 2^4
-    words = [0x128402, 1, 3, 2, 0, 0, 0x2009, 4, 0, 0, 0, 0]
+    # 2, 64 * 2^4, 2^16, 18 * 2^17; 1 + 2 * 4, 512 * 2^4
+    words = [0x250402, 1, 3, 2, 0, 0, 0x2009, 4, 0, 0, 0, 0]
     yield "words of two slots", in_words(), ([2**64 - 4, 1, 0, 0], words, True, False, True)
-    yield "bound of an unlinking bulk slot, 3 unanswered", first_bound(UNLINKING, BULK, 3), 4 * 2**49
+    yield "bound of an unlinking bulk slot, 3 unanswered", first_bound(UNLINKING, BULK, 3), 4 * 2**50
     yield from short_examples()
     yield from packet_examples()
+    yield from toggle_examples()
 
 
 def wrong():

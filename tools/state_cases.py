@@ -9,7 +9,7 @@ from model.state import CLOSED, IDLE, LINKED, UNLINKING, Settings
 from model.tokens import BULK, CONTROL, INTERRUPT, ISOCHRONOUS
 from model.words import PLACE_WORDS, SLOT_WORDS, place_words
 from state_records import (
-    AREAS, BITS, EVERY, FREE, KINDS, NUMBERS, TOP, acknowledge, busy, cancel, collect, drain, frame, free, head, holds, hub, idle, lend, linked,
+    AREAS, BITS, EVERY, FREE, KINDS, NUMBERS, TOP, acknowledge, busy, cancel, clear_halt, collect, drain, frame, free, head, holds, hub, idle, lend, linked,
     number, numbers, open_endpoint, opening, packed, pool_word, rows, setting, setup_byte, slot, submit, three, token, trial, unlinking, word,
     writeback,
 )  # fmt: skip
@@ -93,8 +93,7 @@ def broken_words():
     yield [holds(0, 3), free()], [holds(0), free(3)]
     for wrong in (linked(1, 0, 0), linked(1, 1, 0, cancel=1), linked(1, 1, 0, boundary=1), slot(1, 1, phase=LINKED, kind=ISOCHRONOUS), unlinking(1, 1, 0, boundary=2)):
         yield [wrong], [linked(1, 1, 0)]
-    for first, last in ((0, 0), (2**63, 1)):
-        yield [word(2, 0, packed(phase=UNLINKING, kind=INTERRUPT) + first, last)], [unlinking(2, cancel=1)]
+    yield [word(2, 0, packed(phase=UNLINKING, kind=INTERRUPT), 0)], [unlinking(2, cancel=1)]
     # 02, order 4: C is 512
     for packet in (0, 513, 1024, 1025):
         yield [idle(0, packet=packet)], [idle(0)]
@@ -102,6 +101,9 @@ def broken_words():
     for packet in (0, 1025, 2047):
         yield [slot(1, 1, phase=LINKED, kind=CONTROL, direction=1, packet=packet)], [slot(1, 1, phase=LINKED, kind=CONTROL, direction=1)]
     yield [slot(3, packet=64)], [slot(3)]
+    # 02, order 6: a closed slot has no toggle
+    yield [slot(3, toggle=1)], [slot(3)]
+    yield [slot(1, 1, phase=LINKED, kind=CONTROL, direction=1, toggle=1, cancel=1)], [slot(1, 1, phase=LINKED, kind=CONTROL, direction=1)]
     # in two slots; neither free nor held; free and held; at D
     for places in ((0, 1, 2), (0,), (0, 1, 3), (0, 1, 4), (0, 1, 64), (0, 1, 255)):
         yield [holds(1, *places)], [holds(1, 0, 1)]
@@ -189,7 +191,7 @@ def core_trials(values, call):
 BUSY_CORE = dict(zip(Settings._fields, (4, 4, 2, 512, 3, *AREAS))) | dict(zip(NUMBERS, (1, 0, 0, 1, 0, 5, 1, 0, 1, 1, 8, 0, 0, 0)))
 BUSY_WORDS = [packed(phase=IDLE, kind=BULK), 0, 0, 0, 0, 0, packed(phase=LINKED, kind=CONTROL, direction=1), 1, 3, 0, 0, 0]
 BUSY_WORDS += [packed(phase=UNLINKING, kind=INTERRUPT, direction=1, length=100, cancel=1), 1, 4, 0, 0, 0] + [0] * SLOT_WORDS
-SOME = [submit(0, BULK), cancel(1), collect(2, frame=9), drain(0x80B31)]
+SOME = [submit(0, BULK), cancel(1), collect(2, frame=9, overlay=2**31), drain(0x80B31)]
 
 
 def one_bit():
@@ -547,6 +549,126 @@ def packet_sets():
             yield [record(SET_PACKET, (0, size)), submit(0, KINDS[k], length=250), slot(0, 1, (), phase=IDLE, kind=KINDS[k], packet=64), free(0, 1, 2, 3)]
 
 
+# 02, order 6. A collect that passes is given tokens of which bit 31 alone counts; what a slot then has is seen in its words and in the next submit
+BIT = 2**31
+OVERLAYS = (0, BIT, BIT - 1, 2**32 - 1)
+
+
+def toggle_words():
+    """Every phase and kind with a toggle; each bit of words that have every field."""
+    yield opening(D=16, E=8) + [number("unanswered", 2)]
+    for phase, kind, toggle, last in product(range(4), range(4), (0, 1), (0, 1)):
+        yield [slot(7, last, phase=phase, kind=kind, toggle=toggle), TRIED]
+    yield [word(7, 1, 5)]
+    for phase, kind, cancel, boundary in ((IDLE, BULK, 0, 0), (LINKED, BULK, 0, 0), (UNLINKING, BULK, 1, 2), (UNLINKING, CONTROL, 0, 1), (UNLINKING, INTERRUPT, 1, 16383)):
+        busy = phase != IDLE
+        full = packed(phase=phase, kind=kind, toggle=1, direction=busy, length=(2**32 - 1) * busy, cancel=cancel, boundary=boundary)
+        yield trial(word(7, 0, full), TRIED) + trial(word(7, 0, full), clear_halt(7))
+
+
+def toggle_collects():
+    """Collects that pass, complete, cancelled and failed, of each kind and direction, from each toggle; then a submit."""
+    for k, direction in product(range(3), (1, 0)):
+        yield three()
+        for toggle, overlay, (cancelled, left) in product((0, 1), OVERLAYS, ((0, 0), (1, 0), (0, 0x640040), (1, 0x640080))):
+            yield [kept(k, UNLINKING, direction, 100, [0], toggle=toggle, cancel=cancelled), token(0, left), free(1, 2, 3)]
+            yield [collect(k, frame=9, overlay=overlay), submit(k, KINDS[k], direction, direction << 7, length=64), slot(k, 0, (), phase=IDLE, kind=KINDS[k]), free(0, 1, 2, 3)]
+    # each bit of the token; of a request whose descriptors and head say otherwise
+    for k, toggle, flip in product((0, 2), (0, 1), (0, 2**32 - 1)):
+        yield three() + [token(p, ~flip & BIT) for p in range(4)] + [head(k, 6, ~flip & 2**32 - 1)]
+        for bit in range(32):
+            yield [unlinking(k, places=[0], toggle=toggle), free(1, 2, 3), collect(k, frame=9, overlay=flip ^ 1 << bit)]
+    # requests that moved nothing, one packet, two and three of 64 bytes
+    for k, length, overlay in product((0, 2), (0, 64, 65, 129), (0, BIT)):
+        yield three() + [unlinking(k, length=length, places=[0], toggle=1), free(1, 2, 3), token(0, 0), collect(k, frame=9, overlay=overlay), submit(k, KINDS[k])]
+    # each bit of the first word of one that is collected
+    for k, overlay in product(range(3), (0, BIT)):
+        yield three() + [unlinking(k, places=[0], toggle=1), free(1, 2, 3), token(0, 0)]
+        yield trial(word(k, 0, packed(phase=UNLINKING, kind=KINDS[k], direction=1, length=100, toggle=1)), collect(k, frame=9, overlay=overlay))
+
+
+def toggle_waits():
+    """Collects that do not pass: with a token that says otherwise than the slot nothing of it is kept."""
+    for k, toggle in product(range(3), (0, 1)):
+        said, first = (1 - toggle) * BIT, frame(0, 1) if k == 2 else head(-1, 0, 1)
+        ends = [collect(j, id, frame=9, overlay=said) for j in (k, 3, 4, 32, 255) for id in (1, 2)]
+        yield three() + [idle(k, toggle=toggle)] + ends
+        # linked: active, then finished; once more with no link that leads to its head
+        asked = [idle(k, toggle=toggle), submit(k, KINDS[k], length=64 if k != 1 else 0)]
+        for finished, broken in (([], []), ([token(p, 0) for p in range(4)], []), ([token(p, 0x48) for p in range(4)], [first])):
+            yield three() + asked + finished + broken + [collect(k, 2, 9, said), collect(k, 1, 9, said)]
+        # waiting, cancelled or not: a boundary that is not passed; other ids; 32 unanswered, and a row of another length
+        for cancelled in (0, 1):
+            yield three() + numbers(unanswered=2, doorbell=1) + [unlinking(k, places=[0], toggle=toggle, cancel=cancelled, boundary=1), free(1, 2, 3)]
+            yield [collect(k, 1, 9, said), collect(k, 2, 10, said), collect(k, 0, 10, said), collect(3, 1, 10, said)]
+        yield three() + [linked(k, places=[0], toggle=toggle), free(1, 2, 3), number("unanswered", 32), collect(k, 1, 9, said), number("unanswered", 0)]
+        yield [unlinking(k, places=[0], toggle=toggle), lend(*rows(4, 3)), collect(k, 1, 9, said), lend(*rows(4, 4)), collect(k, 1, 9, said)]
+
+
+def toggle_submits():
+    """What a submit writes into the overlay's token, whatever stands there; what refused ones leave."""
+    for k, toggle, stands, direction in product(range(3), (0, 1), (0, BIT, 0x7FFF8D40, 2**32 - 1), (1, 0)):
+        others = [idle(j, toggle=1 - toggle) for j in range(3) if j != k]
+        yield three() + others + [idle(k, toggle=toggle), head(k, 6, stands), submit(k, KINDS[k], direction, direction << 7, length=1000)]
+    for k in range(3):
+        asked = submit(k, KINDS[k], length=64)
+        yield three() + [idle(k, toggle=1), number("running", 0), asked, number("running", 1), submit(k, ISOCHRONOUS), submit(k, KINDS[(k + 1) % 3])]
+        yield [submit(k, KINDS[k], address=0xFFFFFFFF, length=2), submit(k, KINDS[k], length=16384 if k != 1 else 16385), linked((k + 1) % 3, places=[0, 1, 2, 3]), free(), asked]
+        yield three() + [idle(k, toggle=1)] + trial(head(k, 6, 0x55555555), asked, 32)
+        yield trial(word(k, 0, packed(phase=IDLE, kind=KINDS[k], toggle=1)), asked) + [asked, asked]
+
+
+def toggle_clears():
+    """Clear-halt in each phase, on each kind, running or not; beside other slots with toggles, and with everything else altered."""
+    for k, toggle, running in product(range(3), (0, 1), (1, 0)):
+        yield three() + [idle(j, 3, toggle=1) for j in range(3)] + [number("running", running)]
+        for changed in (idle(k, 3, toggle=toggle), linked(k, 3, toggle=toggle), unlinking(k, 3, toggle=toggle), unlinking(k, 3, toggle=toggle, cancel=1)):
+            yield [changed, clear_halt(k), clear_halt(k)]
+        yield [clear_halt(j) for j in (3, 4, 31, 32, 33, 255)] + [slot(k), clear_halt(k)]
+    altered = [head(k, j, 0x1000 * (k + 2) + j + 1) for k in range(-1, 4) for j in range(17)] + [pool_word(p, j, 0x100 * (p + 1) + j) for p in range(6) for j in range(13)]
+    altered += [frame(at, at + 7) for at in (0, 1, 1023, 1024)] + [setup_byte(at, at + 1) for at in (0, 7, 8, 31, 32)]
+    yield three() + altered
+    for k in range(4):
+        yield [idle(j, 2**40 + j, toggle=1) for j in range(3)] + [clear_halt(k)] + trial(word(k, 0, packed(phase=IDLE, kind=KINDS[k % 3], toggle=1)), clear_halt(k))
+    # each bit of the core and of the words
+    yield busy() + [idle(0, toggle=1)]
+    yield from core_trials(BUSY_CORE, clear_halt(0))
+    for at, value in enumerate(BUSY_WORDS):
+        yield trial(word(0, at, value), clear_halt(0))
+    # 32 slots
+    yield opening(E=32) + [open_endpoint((BULK, CONTROL, INTERRUPT)[k % 3]) for k in range(32)]
+    for k in (0, 1, 2, 15, 16, 30, 31, 32):
+        yield [slot(j, j, phase=IDLE, kind=(BULK, CONTROL, INTERRUPT)[j % 3], toggle=1) for j in range(32)] + [clear_halt(k)]
+
+
+def toggle_stays():
+    """Every call beside slots that have toggles: but for a collect that passes, clear-halt and close each leaves them as they are."""
+    marked = [idle(0, toggle=1), linked(1, 1, 0, toggle=1), unlinking(2, cancel=1, toggle=1)]
+    for call in EVERY:
+        yield busy() + marked + [call]
+    for phase, toggle in product((IDLE, LINKED, UNLINKING), (1, 0)):
+        yield three() + [slot(k, 7 if phase != IDLE else 0, phase=phase, kind=KINDS[k], toggle=toggle) for k in range(3)]
+        yield [call for k in range(3) for call in (record(SET_ADDRESS, (k, 9)), record(SET_ADDRESS, (k, 128)), record(SET_PACKET, (k, 8)), record(SET_PACKET, (k, 255)), cancel(k, 7), cancel(k, 6))]
+    # bring-up, with and without requests
+    for requests in ([], [linked(0, toggle=1)]):
+        yield three() + [idle(k, toggle=1) for k in range(3)] + requests + [record(START)] + [record(STEP, (), (v,)) for v in (0x80B71, 0x1000, 0, 0, 0, 0)]
+    # closed, and opened again in the same slot and in another
+    for k in range(3):
+        yield three() + [idle(j, 5, toggle=1) for j in range(3)] + [record(CLOSE, (k,)), open_endpoint(KINDS[k]), submit(k, KINDS[k], length=18), open_endpoint(BULK), submit(3, BULK)]
+        other = (k + 1) % 3
+        yield three() + [idle(k, 5, toggle=1), idle(other, 5, toggle=1), record(CLOSE, (k,)), open_endpoint(BULK, packet=513), submit(other, KINDS[other], length=18)] + opening()
+    # linked, unlinked by a cancel and marked again; a writeback between them
+    for k, toggle in product(range(3), (0, 1)):
+        yield three() + [idle(k, toggle=toggle), submit(k, KINDS[k], length=18), writeback(0, (1 - toggle) * BIT), cancel(k), writeback(0, 0x80), cancel(k), clear_halt(k)]
+    # advances that are counted
+    yield opening(D=8, E=32)
+    for k in range(32):
+        yield [slot(k, 3, phase=UNLINKING, kind=(0, 2, 3)[k % 3], toggle=k >> 2 & 1, cancel=k >> 1 & 1, boundary=k)]
+    yield numbers(unanswered=32, doorbell=1, noted=1, pending=0x20)
+    for _ in range(6):
+        yield [drain(0x80B31), acknowledge(0x20, 0)]
+
+
 def boundaries():
     """FRINDEX at distances from its start; the doorbell before an unlink, with each reading of USBCMD."""
     yield three() + [submit(2, INTERRUPT), cancel(2)]
@@ -627,7 +749,7 @@ def hubs():
 
 FAMILIES = (
     openings, lengths, pool_lengths, first_checks, bounds, first_words, place_bits, places_of_none, one_bit, one_bit_large, reasons, writebacks, setups, ranges, taken, ids, row_words, links,
-    unanswered, cancels, views, shorts, short_bits, short_places, short_of_many, alternates, packet_words, packet_heads, packet_collects, packet_rooms, packet_sets, boundaries, interrupts, falls, bring_ups, hubs,
+    unanswered, cancels, views, shorts, short_bits, short_places, short_of_many, alternates, packet_words, packet_heads, packet_collects, packet_rooms, packet_sets, toggle_words, toggle_collects, toggle_waits, toggle_submits, toggle_clears, toggle_stays, boundaries, interrupts, falls, bring_ups, hubs,
 )  # fmt: skip
 
 

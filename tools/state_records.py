@@ -4,8 +4,8 @@ many times, and nothing of it stays."""
 
 from model.descriptors import HEAD_WORDS
 from model.records import (
-    ACKNOWLEDGE, ADDRESS, CANCEL, CLOSE, COLLECT, DISABLE, DRAIN, ENABLE, OPEN, OPEN_ENDPOINT, REARM, SET_ADDRESS, SET_PACKET, START,
-    STEP, SUBMIT, WRITEBACK, record,
+    ACKNOWLEDGE, ADDRESS, CANCEL, CLEAR_HALT, CLOSE, COLLECT, DISABLE, DRAIN, ENABLE, OPEN, OPEN_ENDPOINT, REARM, SET_ADDRESS, SET_PACKET,
+    START, STEP, SUBMIT, WRITEBACK, record,
 )  # fmt: skip
 from model.state import FRAMES, IDLE, LINKED, UNLINKING, Settings
 from model.tokens import BULK, CONTROL, INTERRUPT
@@ -128,8 +128,12 @@ def cancel(k, id=1, frame=0, command=0x80B31):
     return record(CANCEL, (k,), (id, command, frame))
 
 
-def collect(k, id=1, frame=0):
-    return record(COLLECT, (k,), (id, 0x80B31, frame))
+def collect(k, id=1, frame=0, overlay=0):
+    return record(COLLECT, (k,), (id, 0x80B31, frame, overlay))
+
+
+def clear_halt(k):
+    return record(CLEAR_HALT, (k,))
 
 
 def writeback(place, value=0x80):
@@ -176,4 +180,4 @@ def busy():
 # every call, each of them accepted where `busy` is (but for starting bring-up, which answers 4)
 EVERY = [record(START), record(STEP, (), (0,)), record(ADDRESS), open_endpoint(BULK, 1, 1, 8), record(CLOSE, (0,)), record(SET_ADDRESS, (0, 9)), record(SET_PACKET, (0, 9))]
 EVERY += [submit(0, BULK), writeback(0), cancel(1), collect(1), collect(2, frame=9), acknowledge(0x37, 0x3F, 1, 0)]
-EVERY += [drain(), record(REARM), record(ENABLE), record(DISABLE)]
+EVERY += [drain(), record(REARM), record(ENABLE), record(DISABLE), clear_halt(0)]

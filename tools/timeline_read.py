@@ -3,14 +3,15 @@ import os, re
 from collections import namedtuple
 
 from model import records as model_records
-from model.records import ACKNOWLEDGE, CANCEL, CLOSE, COLLECT, DRAIN, OPEN, SUBMIT, WRITEBACK
+from model.records import ACKNOWLEDGE, CANCEL, CLEAR_HALT, CLOSE, COLLECT, DRAIN, OPEN, SUBMIT, WRITEBACK
 from model.records import OPEN_ENDPOINT as ENDPOINT, SET_ADDRESS as ADDRESS, SET_PACKET as PACKET
 
 CALLS = [
     "", "open", "start bring-up", "bring-up step", "allocate address", "open endpoint", "close", "set address", "set packet size", "submit",
     "writeback", "cancel", "collect", "acknowledge", "drain", "rearm", "enable", "disable", "start scan", "scan step", "port power",
+    "clear-halt",
 ]  # fmt: skip
-ON_SLOT = (CLOSE, ADDRESS, PACKET, SUBMIT, CANCEL, COLLECT)
+ON_SLOT = (CLOSE, ADDRESS, PACKET, SUBMIT, CANCEL, COLLECT, CLEAR_HALT)
 SIZE = 64
 WORD = "[0-9a-f]{8}"
 LINES = re.compile(

@@ -75,11 +75,172 @@ PACKETS = [
     ("a control slot's size is judged by C", "ranges", "(kind == CONTROL or packet", "(packet"),
     ("a control slot's size is judged by C in a state", "ranges", "packet_good(state.settings, slot.kind, slot.packet)", "packet_good(state.settings, BULK, slot.packet)"),
     ("a control slot's size is judged by C in words", "words", "packet_good(core.settings, kind, first", "packet_good(core.settings, 2, first"),
-    ("an idle slot's word has no size", "words", "return 2**15", "return 2**4"),
-    ("the size stands after the direction", "words", '"packet": (4, 11), "direction": (15, 1)', '"packet": (5, 11), "direction": (4, 1)'),
+    ("an idle slot's word has no size", "words", "return 2**16", "return 2**4"),
+    ("the size stands after the toggle", "words", '"packet": (4, 11), "toggle": (15, 1)', '"packet": (5, 11), "toggle": (4, 1)'),
     ("a size has ten bits", "words", '"packet": (4, 11)', '"packet": (4, 10)'),
 ]  # fmt: skip
-ALL = FAULTS + IN_WORDS + PACKETS
+# 02, order 6
+KEPT, WRITTEN = "    slot.toggle = toggle_of(overlay)\n", "overlay_token(kind, slot.toggle)"
+WAITS, LINKED, BY_ID = "    if not boundary_passed(state, slot, frame):\n", "    if slot.phase == LINKED:\n", "    need(slot.request == id, ENDPOINT)\n    seen = "
+UNLINKS = "        return Answer(PENDING, writes=unlink(state, rows, k, command, frame) if seen.finished else ())\n"
+CLEARS, CLOSES = "    check_idle(state, k)\n    state.slots[k].toggle = 0\n", "    state.slots[k] = Slot()\n"
+FIELDS = '"toggle": (15, 1), "direction": (16, 1)'
+UNUSED = "any(small[few:]) or any(numbers[some:])"
+OF_SLOT = "return row[SLOT_WORDS * k : SLOT_WORDS * (k + 1)]"
+# a slot that is closed hands its bit to the endpoint that is opened there next
+HANDED = """opened = open_endpoint
+
+
+def open_endpoint(state, rows, *given):
+    answer = opened(state, rows, *given)
+    if answer.values:
+        state.slots[answer.values[0]].toggle = vars(state).setdefault("handed", {}).get(answer.values[0], 0)
+    return answer
+
+
+def close(state, rows, k):
+    check_idle(state, k)
+    vars(state).setdefault("handed", {})[k] = state.slots[k].toggle
+"""
+CLOSE = 'def close(state, rows, k):\n    """A closed slot keeps nothing; its head is zeroed."""\n    check_idle(state, k)\n'
+
+
+def kept_if(holds):
+    """The bit is kept where this holds, and else stays."""
+    return f"    slot.toggle = toggle_of(overlay) if {holds} else slot.toggle\n"
+
+
+def zero_unless(holds):
+    return f"    slot.toggle = toggle_of(overlay) if {holds} else 0\n"
+
+
+def unseen(phase, bit):
+    """Of a slot in this phase a bit of its first word is not looked at. The words' ranges alone do not show it: the plain state's refuse it too."""
+    return f"return [word & ~(2**{bit}) if j == 0 and word % 4 == {phase} else word for j, word in enumerate(row[SLOT_WORDS * k : SLOT_WORDS * (k + 1)])]"
+
+
+def cleared_if(holds, number):
+    """Clear-halt asks this too, after its own checks."""
+    return f"    check_idle(state, k)\n    need({holds}, {number})\n    state.slots[k].toggle = 0\n"
+
+
+CLEAR_ALL = "    for each in state.slots:\n        each.toggle = 0\n"
+TOGGLES = [
+    ("no toggle, as before the order", "requests", WRITTEN, "0"),
+    ("the bit is used for control too", "requests", WRITTEN, "2**31 * slot.toggle"),
+    ("the bit is not used for bulk", "requests", WRITTEN, "2**31 * slot.toggle * (kind == 3)"),
+    ("the bit is not used for interrupt", "requests", WRITTEN, "2**31 * slot.toggle * (kind == 2)"),
+    ("the bit is not used for Out", "requests", WRITTEN, "overlay_token(kind, slot.toggle * direction)"),
+    ("the bit is not used where nothing is moved", "requests", WRITTEN, "overlay_token(kind, slot.toggle * (length > 0))"),
+    ("slot 0's bit is used for all", "requests", WRITTEN, "overlay_token(kind, state.slots[0].toggle)"),
+    ("the other bit is used", "requests", WRITTEN, "overlay_token(kind, 1 - slot.toggle)"),
+    ("the bit goes to bit 30", "tokens", "2**31 * toggle\n", "2**30 * toggle\n"),
+    ("the bit goes to bit 0", "tokens", "2**31 * toggle\n", "toggle\n"),
+    ("a token with the bit is active", "tokens", "2**31 * toggle\n", "(2**31 + 0x80) * toggle\n"),
+    ("the head's other bits stay at submit", "requests", WRITTEN, "rows.head_word(k, 6) % 2**31 + overlay_token(kind, slot.toggle)"),
+    ("the head's own bit stays at submit", "requests", WRITTEN, "rows.head_word(k, 6) >> 31 << 31"),
+    ("a head's token with the bit stays one", "requests", WRITTEN, "rows.head_word(k, 6) >> 31 << 31 | overlay_token(kind, slot.toggle)"),
+    ("the descriptors have the bit too", "requests", "    write_chain(settings, rows, parts,", "    parts = [part._replace(token=part.token | overlay_token(kind, slot.toggle)) for part in parts]\n    write_chain(settings, rows, parts,"),
+    ("submit uses the bit up", "requests", "    request = hold_request(", "    slot.toggle = 0\n    request = hold_request("),
+    ("submit turns the bit", "requests", "    request = hold_request(", "    slot.toggle = 1 - slot.toggle\n    request = hold_request("),
+    ("a submit that is not running clears", "requests", "    need(state.running, NOT_READY)\n", "    slot.toggle *= state.running\n    need(state.running, NOT_READY)\n"),
+    ("a submit without room clears", "requests", "    need(len(state.free_places()) >= count, MEMORY)\n", "    slot.toggle *= len(state.free_places()) >= count\n    need(len(state.free_places()) >= count, MEMORY)\n"),
+    ("nothing is kept", "collection", KEPT, ""),
+    ("bit 30 is kept", "tokens", "field(word, 31, 1)", "field(word, 30, 1)"),
+    ("bit 0 is kept", "tokens", "field(word, 31, 1)", "field(word, 0, 1)"),
+    ("bit 15 is kept", "tokens", "field(word, 31, 1)", "field(word, 15, 1)"),
+    ("any bit is kept", "tokens", "return field(word, 31, 1)", "return int(word != 0)"),
+    ("the whole token is kept", "collection", KEPT, "    slot.toggle = overlay\n"),
+    ("not kept at 10", "collection", KEPT, kept_if("not cancelled")),
+    ("0 at 10", "collection", KEPT, zero_unless("not cancelled")),
+    ("not kept at 11", "collection", KEPT, kept_if("cancelled or not seen.failed")),
+    ("0 at 11", "collection", KEPT, zero_unless("cancelled or not seen.failed")),
+    ("kept at 10 and 11 alone", "collection", KEPT, kept_if("cancelled or seen.failed")),
+    ("not kept where nothing came", "collection", KEPT, kept_if("seen.length")),
+    ("kept for In alone", "collection", KEPT, kept_if("slot.direction")),
+    ("kept for Out alone", "collection", KEPT, kept_if("not slot.direction")),
+    ("not kept for control", "collection", KEPT, kept_if("slot.kind != 0")),
+    ("not kept for bulk", "collection", KEPT, kept_if("slot.kind != 2")),
+    ("not kept for interrupt", "collection", KEPT, kept_if("slot.kind != 3")),
+    ("1 stays 1", "collection", KEPT, "    slot.toggle |= toggle_of(overlay)\n"),
+    ("0 stays 0", "collection", KEPT, "    slot.toggle &= toggle_of(overlay)\n"),
+    ("the bit turns what was kept", "collection", KEPT, "    slot.toggle ^= toggle_of(overlay)\n"),
+    ("the last descriptor's bit is kept", "collection", KEPT, "    slot.toggle = toggle_of(rows.pool[state.places_of(k)[-1]].token)\n"),
+    ("the bit of the head's word is kept", "collection", KEPT, "    slot.toggle = toggle_of(rows.head_word(k, 6))\n"),
+    ("the packets are counted", "collection", KEPT, "    slot.toggle = (slot.toggle + max(1, -(-seen.length // slot.packet))) % 2\n"),
+    ("kept in slot 0", "collection", KEPT, "    state.slots[0].toggle = toggle_of(overlay)\n"),
+    ("kept in all slots", "collection", KEPT, "    for each in state.slots:\n        each.toggle = toggle_of(overlay) if each.phase else 0\n"),
+    ("the resting head has the bit", "collection", "    rows.set_head(k, RESTING, CURRENT)\n", "    rows.set_head(k, RESTING, CURRENT)\n    rows.set_head(k, [2**31 * slot.toggle], 6)\n"),
+    ("kept at 9, no request", "collection", "    if not slot.uncollected():\n        return", "    if not slot.uncollected():\n        slot.toggle = toggle_of(overlay)\n        return"),
+    ("kept at 9, linked", "collection", LINKED, LINKED + "        slot.toggle = slot.toggle if seen.finished else toggle_of(overlay)\n"),
+    ("kept at 9, unlinked by it", "collection", LINKED, LINKED + "        slot.toggle = toggle_of(overlay) if seen.finished else slot.toggle\n"),
+    ("kept at 9, waiting", "collection", WAITS, WAITS + "        slot.toggle = toggle_of(overlay)\n"),
+    ("kept at 9, cancelled and waiting", "collection", WAITS, WAITS + "        slot.toggle = toggle_of(overlay) if slot.cancel else slot.toggle\n"),
+    ("kept at 3, another id", "collection", BY_ID, "    slot.toggle = slot.toggle if slot.request == id else toggle_of(overlay)\n" + BY_ID),
+    ("kept at 3, no link leads to it", "collection", UNLINKS, "        had, slot.toggle = slot.toggle, toggle_of(overlay)\n        writes = unlink(state, rows, k, command, frame) if seen.finished else ()\n        slot.toggle = had\n        return Answer(PENDING, writes=writes)\n"),
+    ("turned at 1, crowded", "collection", "need(not linked or state.unanswered() < MOST_SLOTS, INVALID)", "if linked and state.unanswered() >= MOST_SLOTS:\n        state.slots[k].toggle ^= 1\n    need(not linked or state.unanswered() < MOST_SLOTS, INVALID)"),
+    ("cancel clears", "collection", "    slot.cancel = 1\n", "    slot.cancel, slot.toggle = 1, 0\n"),
+    ("an unlink clears", "schedule", "    slot.phase = UNLINKING\n", "    slot.phase, slot.toggle = UNLINKING, 0\n"),
+    ("an advance that is counted clears", "schedule", "    state.answered += 1\n", "    state.answered += 1\n" + CLEAR_ALL),
+    ("a writeback clears", "requests", "    rows.pool[place] = rows.pool[place]._replace(", "    state.slots[owner - 1].toggle = 0\n    rows.pool[place] = rows.pool[place]._replace("),
+    ("a writeback keeps the token's bit", "requests", "    rows.pool[place] = rows.pool[place]._replace(", "    state.slots[owner - 1].toggle = token >> 31\n    rows.pool[place] = rows.pool[place]._replace("),
+    ("set address clears", "endpoints", "    check_idle(state, k, address <= 127)\n", "    check_idle(state, k, address <= 127)\n    state.slots[k].toggle = 0\n"),
+    ("a refused set address clears", "endpoints", "    need(good, INVALID)\n", "    state.slots[k].toggle *= good\n    need(good, INVALID)\n"),
+    ("set packet size clears", "endpoints", "    slot.packet = packet\n", "    slot.packet, slot.toggle = packet, 0\n"),
+    ("starting bring-up clears", "bring_up", "STOP, 0, 0\n", "STOP, 0, 0\n" + CLEAR_ALL),
+    ("the end of bring-up clears", "bring_up", "state.running, state.step = 1, 0\n", "state.running, state.step = 1, 0\n    " + CLEAR_ALL.replace("\n    ", "\n        ")),
+    ("enable clears", "interrupts", "    state.enabled = flag\n", "    state.enabled = flag\n" + CLEAR_ALL),
+    ("acknowledge clears", "interrupts", "    state.pending |= p\n", "    state.pending |= p\n" + CLEAR_ALL),
+    ("an endpoint opens with 1", "endpoints", "Slot(IDLE, kind, packet)", "Slot(IDLE, kind, packet, 1)"),
+    ("an endpoint opens with the bit of the slot before it", "endpoints", "Slot(IDLE, kind, packet)", "Slot(IDLE, kind, packet, state.slots[k - 1].toggle)"),
+    ("an endpoint opens with the bit that was there", "endpoints", CLOSE, HANDED),
+    ("opening an endpoint clears all", "endpoints", "    state.slots[k] = Slot(IDLE, kind, packet)\n", "    state.slots[k] = Slot(IDLE, kind, packet)\n" + CLEAR_ALL),
+    ("close keeps the bit", "endpoints", CLOSES, "    state.slots[k] = Slot(toggle=state.slots[k].toggle)\n"),
+    ("close clears all", "endpoints", CLOSES, CLOSES + CLEAR_ALL),
+    ("clear-halt does nothing", "endpoints", CLEARS, "    check_idle(state, k)\n"),
+    ("clear-halt sets 1", "endpoints", CLEARS, "    check_idle(state, k)\n    state.slots[k].toggle = 1\n"),
+    ("clear-halt turns the bit", "endpoints", CLEARS, "    check_idle(state, k)\n    state.slots[k].toggle ^= 1\n"),
+    ("clear-halt clears slot 0", "endpoints", CLEARS, "    check_idle(state, k)\n    state.slots[0].toggle = 0\n"),
+    ("clear-halt clears all", "endpoints", CLEARS, "    check_idle(state, k)\n" + CLEAR_ALL),
+    ("clear-halt of a busy slot", "endpoints", CLEARS, "    need(state.is_open(k), ENDPOINT)\n    state.slots[k].toggle = 0\n"),
+    ("clear-halt of a linked slot", "endpoints", CLEARS, "    if not (state.is_open(k) and state.slots[k].phase == 2):\n        check_idle(state, k)\n    state.slots[k].toggle = 0\n"),
+    ("clear-halt of an unlinking slot", "endpoints", CLEARS, "    if not (state.is_open(k) and state.slots[k].phase == 3):\n        check_idle(state, k)\n    state.slots[k].toggle = 0\n"),
+    ("clear-halt that is refused with 4 clears", "endpoints", CLEARS, "    need(state.is_open(k), ENDPOINT)\n    state.slots[k].toggle = 0\n    check_idle(state, k)\n"),
+    ("clear-halt answers 4 of a slot that is not open", "endpoints", CLEARS, "    need(state.is_open(k), FULL)\n" + CLEARS),
+    ("clear-halt answers 3 of a busy slot", "endpoints", CLEARS, "    need(state.is_open(k) and not state.slots[k].uncollected(), ENDPOINT)\n" + CLEARS),
+    ("clear-halt answers 1 of no such slot", "endpoints", CLEARS, "    need(k < state.settings.E, INVALID)\n" + CLEARS),
+    ("clear-halt answers 0 of a slot that is not open", "endpoints", CLEARS, "    if not state.is_open(k):\n        return Answer()\n" + CLEARS),
+    ("clear-halt refuses control", "endpoints", CLEARS, cleared_if("state.slots[k].kind != 0", "UNSUPPORTED")),
+    ("clear-halt refuses control with 3", "endpoints", CLEARS, cleared_if("state.slots[k].kind != 0", "ENDPOINT")),
+    ("clear-halt leaves control", "endpoints", CLEARS, "    check_idle(state, k)\n    state.slots[k].toggle *= state.slots[k].kind == 0\n"),
+    ("clear-halt refuses interrupt", "endpoints", CLEARS, cleared_if("state.slots[k].kind != 3", "UNSUPPORTED")),
+    ("clear-halt refuses while it is not running", "endpoints", CLEARS, cleared_if("state.running", "8")),
+    ("clear-halt asks running first", "endpoints", CLEARS, "    need(state.running, 8)\n" + CLEARS),
+    ("clear-halt refuses a bit of 0", "endpoints", CLEARS, cleared_if("state.slots[k].toggle", "INVALID")),
+    ("clear-halt starts the ids again", "endpoints", CLEARS, CLEARS + "    state.slots[k].id = 1\n"),
+    ("clear-halt writes", "endpoints", CLEARS + "    return Answer()\n", CLEARS + "    return Answer(writes=((0, 0),))\n"),
+    ("clear-halt answers the bit", "endpoints", CLEARS + "    return Answer()\n", "    check_idle(state, k)\n    had, state.slots[k].toggle = state.slots[k].toggle, 0\n    return Answer(values=(had,))\n"),
+    ("clear-halt asks no row's length", "calls", "need(self.lent == self.state.settings.lengths() and", "need((number == CLEAR_HALT or self.lent == self.state.settings.lengths()) and"),
+    ("clear-halt asks no ranges of the words", "words", "if not good(self.core, row):", "if number != 21 and not good(self.core, row):"),
+    ("a collect with a token is bad, as before the order", "records", UNUSED, "any(small[few:]) or any(numbers[some - (number == COLLECT) :])"),
+    ("a collect's token may have 33 bits", "records", "COLLECT: {1: 32, 2: 32, 3: 32}", "COLLECT: {1: 32, 2: 32, 3: 33}"),
+    ("a collect's token may have 64 bits", "records", "COLLECT: {1: 32, 2: 32, 3: 32}", "COLLECT: {1: 32, 2: 32}"),
+    ("a collect's token has 31 bits", "records", "COLLECT: {1: 32, 2: 32, 3: 32}", "COLLECT: {1: 32, 2: 32, 3: 31}"),
+    ("a cancel may have a token", "records", UNUSED, "any(small[few:]) or any(numbers[some + (number == CANCEL) :])"),
+    ("call 21 is no call", "records", "    if len(record) != 64 or record[0] not in USED:\n", "    if len(record) != 64 or record[0] not in USED or record[0] == 21:\n"),
+    ("clear-halt may have a number", "records", UNUSED, "any(small[few:]) or any(numbers[some + (number == CLEAR_HALT) :])"),
+    ("clear-halt may have a second byte", "records", UNUSED, "any(small[few + (number == CLEAR_HALT) :]) or any(numbers[some:])"),
+    ("a closed slot may have a toggle", "words", OF_SLOT, unseen(0, 15)),
+    ("an idle slot's word has no toggle", "words", "return 2**16", "return 2**15"),
+    ("an idle slot may have a direction", "words", OF_SLOT, unseen(1, 16)),
+    ("a linked slot's word is below 2^48", "words", "return 2**49", "return 2**48"),
+    ("a linked slot may be cancelled", "words", OF_SLOT, unseen(2, 49)),
+    ("an interrupt slot's word is below 2^63", "words", "return 2**64 if", "return 2**63 if"),
+    ("a boundary is bounded as before the order", "words", "(unanswered + 1) * 2**50", "(unanswered + 1) * 2**49"),
+    ("the toggle stands after the direction", "words", FIELDS, '"toggle": (16, 1), "direction": (15, 1)'),
+    ("the words have no toggle", "words", "    slot.id = 1 if last == LAST_ID", "    slot.toggle = 0\n    slot.id = 1 if last == LAST_ID"),
+]  # fmt: skip
+ALL = FAULTS + IN_WORDS + PACKETS + TOGGLES
 
 
 def stored(program, name):

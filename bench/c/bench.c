@@ -1,7 +1,7 @@
 // The port and plain C, on controllers that the port's own calls open, bring up and give endpoints.
 //   bench same                   both sides at once, every word of core and rows and every answer compared after each call
 //   bench count SIDE E N K       K lives of a request with N descriptors (0: control) beside E slots, to be counted: the m_* functions
-//   bench round port E N K       K rounds of opening and all sixteen calls, to be counted
+//   bench round port E N K       K rounds of opening and all seventeen calls, to be counted
 //   bench whole SIDE E N K HOW   K lives as docs/INTEGRATION.md prescribes, to be counted; HOW is `all` where every token has
 //                                changed when the tokens are brought in, `last` where only the last has
 //   bench time SIDE E N K        lives, timed call by call
@@ -24,6 +24,7 @@ MEASURED(plain, acknowledge, plain_acknowledge)
 MEASURED(plain, drain, plain_drain)
 MEASURED(plain, finish, plain_collect)
 MEASURED(plain, rearm, plain_rearm)
+MEASURED(plain, clear_halt, plain_clear_halt)
 MEASURED(port, submit, c_submit)
 MEASURED(port, writeback, c_writeback)
 MEASURED(port, unlink, c_collect)
@@ -31,6 +32,7 @@ MEASURED(port, acknowledge, c_acknowledge)
 MEASURED(port, drain, c_drain)
 MEASURED(port, finish, c_collect)
 MEASURED(port, rearm, c_rearm)
+MEASURED(port, clear_halt, c_clear_halt)
 MEASURED(port, cancel, c_cancel)
 MEASURED(port, start_bring_up, c_start_bring_up)
 MEASURED(port, bring_up_step, c_bring_up_step)
@@ -54,12 +56,12 @@ __attribute__((noinline)) static void m_port_places(const struct side *x, u8 slo
     memcpy(out, places.words, 32);
 }
 
-// The calls of a life, which plain C has too, the others, and what is the hardware's.
-enum { SUBMIT, WRITEBACK, UNLINK, ACKNOWLEDGE, DRAIN, FINISH, REARM, CANCEL, START_BRING_UP, BRING_UP_STEP, ALLOCATE_ADDRESS,
-    OPEN_ENDPOINT, CLOSE, SET_ADDRESS, SET_PACKET_SIZE, ENABLE, DISABLE, OPEN, STEPS, CONTROLLER };
+// The calls of a life and clear halt, which plain C has too, the others, and what is the hardware's.
+enum { SUBMIT, WRITEBACK, UNLINK, ACKNOWLEDGE, DRAIN, FINISH, REARM, CLEAR_HALT, CANCEL, START_BRING_UP, BRING_UP_STEP,
+    ALLOCATE_ADDRESS, OPEN_ENDPOINT, CLOSE, SET_ADDRESS, SET_PACKET_SIZE, ENABLE, DISABLE, OPEN, STEPS, CONTROLLER };
 
-static const char *const names[STEPS] = {"submit", "writeback", "unlink", "acknowledge", "drain", "finish", "rearm", "cancel",
-    "start_bring_up", "bring_up_step", "allocate_address", "open_endpoint", "close", "set_address", "set_packet_size", "enable",
+static const char *const names[STEPS] = {"submit", "writeback", "unlink", "acknowledge", "drain", "finish", "rearm", "clear_halt",
+    "cancel", "start_bring_up", "bring_up_step", "allocate_address", "open_endpoint", "close", "set_address", "set_packet_size", "enable",
     "disable", "open"};
 
 struct way {
@@ -68,10 +70,10 @@ struct way {
 };
 
 static const struct way on_plain = {{m_plain_submit, m_plain_writeback, m_plain_unlink, m_plain_acknowledge, m_plain_drain,
-    m_plain_finish, m_plain_rearm}, m_plain_places};
+    m_plain_finish, m_plain_rearm, m_plain_clear_halt}, m_plain_places};
 
 static const struct way on_port = {{m_port_submit, m_port_writeback, m_port_unlink, m_port_acknowledge, m_port_drain,
-    m_port_finish, m_port_rearm, m_port_cancel, m_port_start_bring_up, m_port_bring_up_step, m_port_allocate_address,
+    m_port_finish, m_port_rearm, m_port_clear_halt, m_port_cancel, m_port_start_bring_up, m_port_bring_up_step, m_port_allocate_address,
     m_port_open_endpoint, m_port_close, m_port_set_address, m_port_set_packet_size, m_port_enable, m_port_disable, m_port_open},
     m_port_places};
 
@@ -108,7 +110,8 @@ static void opening(struct script *s, u16 packet)
             .packet = k == 0 ? 64 : packet});
 }
 
-// n is the number of descriptors, 0 for a control request of 18 bytes. An interrupt request passes 9 micro-frames on.
+// n is the number of descriptors, 0 for a control request of 18 bytes. An interrupt request passes 9 micro-frames on. Every other
+// life leaves the toggle 1.
 static void life(struct script *s, u64 n, u64 id, int interrupt)
 {
     u8 slot = n ? interrupt ? 3 : 1 : 0, kind = n ? interrupt ? INTERRUPT : BULK : CONTROL;
@@ -119,7 +122,8 @@ static void life(struct script *s, u64 n, u64 id, int interrupt)
     then(s, UNLINK, 9, (struct asked){.slot = slot, .id = id, .command = 0x31});
     then(s, ACKNOWLEDGE, 0, (struct asked){.command = 0x21, .frame = 0x27, .flag = 1, .again = 1});
     then(s, DRAIN, 0, (struct asked){.command = 0x31});
-    then(s, FINISH, 0, (struct asked){.slot = slot, .id = id, .command = 0x31, .frame = interrupt ? 9 : 0});
+    then(s, FINISH, 0, (struct asked){.slot = slot, .id = id, .command = 0x31, .frame = interrupt ? 9 : 0,
+        .overlay = id % 2 ? 0x80008d00 : 0x00008d00});
 }
 
 // Every call at least once.
@@ -128,6 +132,7 @@ static void every_call(struct script *s, u64 n)
     opening(s, 512);
     then(s, SET_ADDRESS, 0, (struct asked){.slot = 1, .device = 5});
     then(s, SET_PACKET_SIZE, 0, (struct asked){.slot = 1, .device = 64});
+    then(s, CLEAR_HALT, 0, (struct asked){.slot = 1});
     then(s, SUBMIT, 0, (struct asked){.slot = 1, .kind = BULK, .direction = 1, .command = 0x31, .address = 0x10000200, .length = n * LIMIT});
     then(s, WRITEBACK, 0, (struct asked){.id = n - 1, .command = 0x00008d00});
     then(s, CANCEL, 0, (struct asked){.slot = 1, .id = 1, .command = 0x31});
@@ -317,7 +322,8 @@ static void random_collect(u8 slot, u32 command)
         for (int i = 0; i < D; i++)
             if (random_below(4))
                 port.pool[i].token = plain.pool[i].token = random_token();
-    both(UNLINK, (struct asked){.slot = slot, .command = command, .id = random_below(10) ? last : random_below(4), .frame = (u32)random_below(1 << 20)});
+    both(UNLINK, (struct asked){.slot = slot, .command = command, .id = random_below(10) ? last : random_below(4), .frame = (u32)random_below(1 << 20),
+        .overlay = (u32)random_below(1ul << 32)});
 }
 
 // Several requests at once, wrong ids, kinds and tokens.
@@ -327,6 +333,8 @@ static void random_call(void)
     u32 command = odd ? (u32)random_below(1ul << 32) : 0x31;
     if (random_below(50) == 0)
         set_both(slot, (u8)random_below(256));
+    if (random_below(20) == 0)
+        both(CLEAR_HALT, (struct asked){.slot = slot});
     switch (random_below(8)) {
     case 0:
     case 1:
@@ -364,6 +372,7 @@ static void bent(void)
         *(at < of_core ? (u8 *)&plain.core + at : (u8 *)plain.slots + at - of_core) ^= 1 << bit % 8;
         both(REARM, (struct asked){0});
         both(DRAIN, (struct asked){.command = 0x31});
+        both(CLEAR_HALT, (struct asked){.slot = (u8)(bit % 4)});
         port.core = kept_port.core;
         plain.core = kept_plain.core;
         memcpy(port.slots, kept_port.slots, sizeof port.slots);
@@ -435,14 +444,16 @@ static void bring_in(struct side *x, const struct way *way, u8 slot, u64 changed
     exit(1);
 }
 
-// The hardware has done every descriptor. Unless all are to be brought in, all but the last were before.
-static void hardware(struct side *x, u64 n, int all)
+// The hardware has done every descriptor, and left the last token in the head. Unless all are to be brought in, all but the last
+// were before.
+static void hardware(struct side *x, u8 slot, u64 n, int all)
 {
     for (u64 k = 0; k < n; k++) {
         x->memory[k].token = k + 1 < n ? 0x00000d00 : 0x00008d00;
         if (!all && k + 1 < n)
             x->pool[k].token = x->memory[k].token;
     }
+    x->memory_heads[17 * (slot + 1) + 6] ^= 0x80008d00;
 }
 
 static void whole(struct side *x, const struct way *way, u64 n, u64 id, int all)
@@ -454,7 +465,7 @@ static void whole(struct side *x, const struct way *way, u64 n, u64 id, int all)
     call_now(x, way, SUBMIT, 0, s.turns[0].asked);
     way->places(x, collect.slot, places);
     m_mirror(x, places, collect.slot);
-    hardware(x, n, all);
+    hardware(x, collect.slot, n, all);
     acknowledge.command = 0x01;
     call_now(x, way, ACKNOWLEDGE, 0, acknowledge);
     call_now(x, way, DRAIN, 0, drain);
@@ -466,6 +477,7 @@ static void whole(struct side *x, const struct way *way, u64 n, u64 id, int all)
     call_now(x, way, DRAIN, 0, drain);
     call_now(x, way, REARM, 0, (struct asked){0});
     bring_in(x, way, collect.slot, 0);
+    collect.overlay = m_overlay(x, collect.slot);
     call_now(x, way, FINISH, 0, collect);
 }
 

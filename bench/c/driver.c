@@ -24,6 +24,11 @@ void m_mirror_link(struct side *x)
     BARRIER;
 }
 
+u32 m_overlay(struct side *x, u8 slot)
+{
+    return ((volatile u32 *)x->memory_heads)[17 * (slot + 1) + 6];
+}
+
 u64 m_bring_in(struct side *x, const u64 *places, call_on *writeback)
 {
     u64 changed = 0;

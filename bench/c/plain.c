@@ -1,4 +1,4 @@
-// The calls of a request's life in plain C: core and rows in place, the port's checks in its order, its loops.
+// The calls of a request's life, and clear halt, in plain C: core and rows in place, the port's checks in its order, its loops.
 #include "plain.h"
 
 enum { DONE = 0, INVALID = 1, NO_ENDPOINT = 3, FULL = 4, UNSUPPORTED = 5, NO_MEMORY = 6, NOT_READY = 8, PENDING = 9, CANCELLED = 10, FAILED = 11 };
@@ -16,12 +16,14 @@ enum { PACKET_MAX = 1024 };
 
 #define MEMORY_END 0x100000000ul
 
-// The fields of a slot's word 0 after phase and kind, each by its lowest bit: packet size, direction, length, cancelled, boundary.
+// The fields of a slot's word 0 after phase and kind, each by its lowest bit: packet size, toggle, direction, length, cancelled,
+// boundary.
 #define PACKET (1ul << 4)
-#define DIRECTION (1ul << 15)
-#define LENGTH (1ul << 16)
-#define CANCEL (1ul << 48)
-#define BOUNDARY (1ul << 49)
+#define TOGGLE (1ul << 15)
+#define DIRECTION (1ul << 16)
+#define LENGTH (1ul << 17)
+#define CANCEL (1ul << 49)
+#define BOUNDARY (1ul << 50)
 
 static void answer(struct answered *out, u8 number, u64 value)
 {
@@ -84,15 +86,16 @@ static u64 ones_from(u64 n, u64 from)
     return n <= from ? 0 : n - from >= 64 ? ~0ul : (1ul << (n - from)) - 1;
 }
 
-// By kind, 0 to 3: of each phase. Those of unlinking control and bulk are put in.
-static const u64 BOUNDS[16] = {1, DIRECTION, CANCEL, 0, 0, 0, 0, 0, 0, DIRECTION, CANCEL, 0, 0, DIRECTION, CANCEL, 1ul << 63};
+// By kind, 0 to 3: the most of each phase. Those of unlinking control and bulk are put in.
+static const u64 BOUNDS[16] = {0, DIRECTION - 1, CANCEL - 1, 0, 0, 0, 0, 0, 0, DIRECTION - 1, CANCEL - 1, 0, 0, DIRECTION - 1,
+    CANCEL - 1, ~0ul};
 
 static int slots_good(const struct core *s, const u64 *slots)
 {
     u64 bounds[16];
     for (int i = 0; i < 16; i++)
         bounds[i] = BOUNDS[i];
-    bounds[3] = bounds[11] = BOUNDARY * (s->rest.unanswered + 1ul);
+    bounds[3] = bounds[11] = BOUNDARY * (s->rest.unanswered + 1ul) - 1;
     // By kind: the largest packet size. A chunk has room for one packet at least.
     u64 chunked = s->settings.limit < PACKET_MAX ? s->settings.limit : PACKET_MAX, packets[4] = {PACKET_MAX, 0, chunked, chunked};
     int good = 1;
@@ -102,7 +105,7 @@ static int slots_good(const struct core *s, const u64 *slots)
         u64 word = slots[at], last = slots[at + 1], w = slots[at + 2], x = slots[at + 3], y = slots[at + 4], z = slots[at + 5];
         u64 phase = word % 4;
         // A closed slot's size is 0 by its bound, an open one's from 1 on.
-        good &= (word < bounds[word % 16]) & (packet_of(word) - (phase != CLOSED) < packets[word / 4 % 4]);
+        good &= (word <= bounds[word % 16]) & (packet_of(word) - (phase != CLOSED) < packets[word / 4 % 4]);
         if (phase < LINKED) {
             good &= ((w | x | y | z) == 0) & (last <= phase * (~0ul - 1));
         } else {
@@ -292,12 +295,13 @@ static u8 judge(const struct core *s, u64 word, const struct asked *a)
     return good ? DONE : INVALID;
 }
 
-static void link_head(const struct core *s, const struct rows *r, const struct asked *a, u32 start)
+// `word` is the slot's, whose toggle goes into the overlay; a control request has its own in each descriptor.
+static void link_head(const struct core *s, const struct rows *r, const struct asked *a, u64 word, u32 start)
 {
     u32 *head = r->heads + HEAD * (a->slot + 1), link = (u32)(s->settings.heads + 128 * (a->slot + 1ul)) + 2;
     head[4] = start;
     head[5] = 1;
-    head[6] = 0;
+    head[6] = a->kind == CONTROL ? 0 : (u32)(word / TOGGLE % 2) << 31;
     if (a->kind == INTERRUPT) {
         head[0] = r->frames[0];
         for (int i = 0; i < FRAMES; i++)
@@ -338,7 +342,7 @@ void plain_submit(struct core *s, const struct rows *r, const struct asked *a, s
     take_lowest(s->rest.free, wanted, places);
     for (int i = 0; i < 4; i++)
         s->rest.free[i] -= places[i];
-    link_head(s, r, a, base + 64 * (u32)place(first(places)));
+    link_head(s, r, a, word, base + 64 * (u32)place(first(places)));
     record[0] = word + (LINKED - IDLE) + DIRECTION * a->direction + LENGTH * (u64)(u32)a->length;
     record[1] = record[1] == ~0ul ? 1 : record[1] + 1;
     if (a->kind == CONTROL) {
@@ -458,7 +462,8 @@ static void unlink(struct core *s, const struct rows *r, const struct asked *a, 
     ring(&s->rest, a->command, out);
 }
 
-static void finish(struct core *s, u32 *head, u64 *record, struct view v, struct answered *out)
+// `overlay` is the token that the controller left in the head's overlay: its toggle stays with the slot.
+static void finish(struct core *s, u32 *head, u64 *record, u32 overlay, struct view v, struct answered *out)
 {
     head[3] = 0;
     head[4] = 1;
@@ -470,7 +475,7 @@ static void finish(struct core *s, u32 *head, u64 *record, struct view v, struct
         record[2 + i] = 0;
     }
     int cancelled = record[0] / CANCEL % 2;
-    record[0] = record[0] % DIRECTION - (UNLINKING - IDLE);
+    record[0] = record[0] % TOGGLE + TOGGLE * (overlay >> 31) - (UNLINKING - IDLE);
     record[1] = record[1] == ~0ul ? 0 : record[1];
     if (cancelled)
         answer(out, CANCELLED, 0);
@@ -505,9 +510,26 @@ void plain_collect(struct core *s, const struct rows *r, const struct asked *a, 
     else if (phase == LINKED && v.stage != 2)
         unlink(s, r, a, record, out);
     else if (phase == UNLINKING && passed(record[0], a->frame))
-        finish(s, r->heads + HEAD * (a->slot + 1), record, v, out);
+        finish(s, r->heads + HEAD * (a->slot + 1), record, a->overlay, v, out);
     else
         answer(out, PENDING, 0);
+}
+
+// Clear halt.
+
+void plain_clear_halt(struct core *s, const struct rows *r, const struct asked *a, struct answered *out)
+{
+    if (!words_good(s, r)) {
+        answer(out, INVALID, 0);
+        return;
+    }
+    u64 *record = r->slots + RECORD * a->slot, phase = a->slot < s->settings.endpoints ? record[0] % 4 : CLOSED;
+    if (phase != IDLE) {
+        answer(out, phase == CLOSED ? NO_ENDPOINT : FULL, 0);
+        return;
+    }
+    record[0] &= ~TOGGLE;
+    answer(out, DONE, 0);
 }
 
 // Interrupts. All but a drain ask of the core alone.

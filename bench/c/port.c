@@ -22,7 +22,8 @@ struct opened port_open(struct settings settings, POOL, SLOTS, HEADS, FRAMES, SE
 struct replied port_submit(struct core core, POOL, SLOTS, HEADS, FRAMES, SETUPS, u8 slot, u8 kind, u8 direction, u64 setup,
     u64 address, u64 length, u32 command, u32 frame);
 struct replied port_writeback(struct core core, POOL, SLOTS, HEADS, FRAMES, SETUPS, u64 place, u32 token);
-struct replied port_collect(struct core core, POOL, SLOTS, HEADS, FRAMES, SETUPS, u8 slot, u64 id, u32 command, u32 frame);
+struct replied port_collect(struct core core, POOL, SLOTS, HEADS, FRAMES, SETUPS, u8 slot, u64 id, u32 command, u32 frame,
+    u32 overlay);
 struct replied port_cancel(struct core core, SLOTS, HEADS, FRAMES, u8 slot, u64 id, u32 command, u32 frame);
 struct replied port_acknowledge(struct core core, u32 status, u32 interrupts, u8 flag, u8 again);
 struct replied port_drain(struct core core, SLOTS, u32 command);
@@ -36,6 +37,7 @@ struct replied port_open_endpoint(struct core core, SLOTS, HEADS, u8 kind, u8 ad
 struct replied port_close(struct core core, SLOTS, HEADS, u8 slot);
 struct replied port_set_address(struct core core, SLOTS, HEADS, u8 slot, u8 address);
 struct replied port_set_packet_size(struct core core, SLOTS, HEADS, u8 slot, u8 size);
+struct replied port_clear_halt(struct core core, SLOTS, u8 slot);
 
 #define L_POOL r->pool, r->pool_length
 #define L_SLOTS r->slots, r->slots_length
@@ -54,7 +56,7 @@ struct replied port_set_packet_size(struct core core, SLOTS, HEADS, u8 slot, u8 
 
 CALLER(c_submit, port_submit(*s, L_ALL, a->slot, a->kind, a->direction, a->setup, a->address, a->length, a->command, a->frame))
 CALLER(c_writeback, port_writeback(*s, L_ALL, a->id, a->command))
-CALLER(c_collect, port_collect(*s, L_ALL, a->slot, a->id, a->command, a->frame))
+CALLER(c_collect, port_collect(*s, L_ALL, a->slot, a->id, a->command, a->frame, a->overlay))
 CALLER(c_cancel, port_cancel(*s, L_SLOTS, L_HEADS, L_FRAMES, a->slot, a->id, a->command, a->frame))
 CALLER(c_acknowledge, port_acknowledge(*s, a->command, a->frame, a->flag, a->again))
 CALLER(c_drain, port_drain(*s, L_SLOTS, a->command))
@@ -68,6 +70,7 @@ CALLER(c_open_endpoint, port_open_endpoint(*s, L_SLOTS, L_HEADS, a->kind, a->dev
 CALLER(c_close, port_close(*s, L_SLOTS, L_HEADS, a->slot))
 CALLER(c_set_address, port_set_address(*s, L_SLOTS, L_HEADS, a->slot, a->device))
 CALLER(c_set_packet_size, port_set_packet_size(*s, L_SLOTS, L_HEADS, a->slot, a->device))
+CALLER(c_clear_halt, port_clear_halt(*s, L_SLOTS, a->slot))
 
 // With the settings that the core has.
 void c_open(struct core *s, const struct rows *r, const struct asked *a, struct answered *out)

@@ -27,7 +27,7 @@ pub enum Outcome {
 }
 
 /// Every kind and answer that a run must meet.
-const KINDS: [&str; 89] = [
+const KINDS: [&str; 105] = [
     "open -> 0",
     "open -> 1",
     "open -> 1, no place D",
@@ -58,6 +58,13 @@ const KINDS: [&str; 89] = [
     "submit -> 0, whole packets",
     "submit -> 0, whole packets, one chunk by the limit",
     "submit -> 0, whole packets of a size set later",
+    "submit -> 0, toggle 1, bulk In",
+    "submit -> 0, toggle 1, bulk Out",
+    "submit -> 0, toggle 1, interrupt",
+    "submit -> 0, toggle 1 of a cancelled request",
+    "submit -> 0, toggle 1 of a failed request",
+    "submit -> 0, toggle 1 and control",
+    "submit -> 0, toggle cleared",
     "submit -> 1",
     "submit -> 3",
     "submit -> 4",
@@ -77,7 +84,9 @@ const KINDS: [&str; 89] = [
     "collect -> 0, short after an active one",
     "collect -> 0, error after the short one",
     "collect -> 3",
+    "collect -> 3, another toggle",
     "collect -> 9",
+    "collect -> 9, another toggle",
     "collect -> 9, short",
     "collect -> 10",
     "collect -> 11",
@@ -97,6 +106,12 @@ const KINDS: [&str; 89] = [
     "scan step -> 1",
     "port power -> 0",
     "port power -> 1",
+    "clear-halt -> 0",
+    "clear-halt -> 0, toggle 1",
+    "clear-halt -> 0, control",
+    "clear-halt -> 0, not running",
+    "clear-halt -> 3",
+    "clear-halt -> 4",
     "bad record",
     "start bring-up -> 1, nothing opened",
     "bring-up step -> 1, nothing opened",
@@ -117,6 +132,7 @@ const KINDS: [&str; 89] = [
     "start scan -> 1, nothing opened",
     "scan step -> 1, nothing opened",
     "port power -> 1, nothing opened",
+    "clear-halt -> 1, nothing opened",
 ];
 
 /// The port's program, one block for each record.

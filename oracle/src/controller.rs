@@ -78,11 +78,13 @@ pub struct Reply {
     pub accesses: Vec<Access>,
     /// What else a run must meet with this kind and answer.
     pub met: &'static str,
+    /// The same of the toggle, counted beside it.
+    pub also: Vec<&'static str>,
 }
 
 impl Reply {
     fn new(answer: u8, values: Vec<String>, accesses: Vec<Access>) -> Self {
-        Self { answer, values, accesses, met: "" }
+        Self { answer, values, accesses, met: "", also: Vec::new() }
     }
 
     pub fn only(answer: u8) -> Self {
@@ -95,6 +97,10 @@ impl Reply {
 
     pub fn met(self, met: &'static str) -> Self {
         Self { met, ..self }
+    }
+
+    fn also(self, also: Vec<&'static str>) -> Self {
+        Self { also, ..self }
     }
 }
 
@@ -136,6 +142,37 @@ impl Flight {
             DONE => ", short within",
             _ => "",
         }
+    }
+}
+
+/// A slot's toggle (02, order 6), kept from the calls: 000 keeps none.
+#[derive(Clone, Copy, Default)]
+struct Toggle {
+    on: bool,
+    /// What the collect answered that kept it.
+    answer: u8,
+    /// It was 1 until a clear-halt.
+    cleared: bool,
+}
+
+impl Toggle {
+    /// What a run must meet of it at an accepted submit.
+    fn met(&self, kind: u8, incoming: bool) -> Vec<&'static str> {
+        let mut met = Vec::new();
+        match (kind, incoming) {
+            (0, _) if self.on => met.push(", toggle 1 and control"),
+            (2, true) if self.on => met.push(", toggle 1, bulk In"),
+            (2, false) if self.on => met.push(", toggle 1, bulk Out"),
+            (3, _) if self.on => met.push(", toggle 1, interrupt"),
+            _ if kind != 0 && self.cleared => met.push(", toggle cleared"),
+            _ => {}
+        }
+        match self.answer {
+            CANCELLED if self.on && kind != 0 => met.push(", toggle 1 of a cancelled request"),
+            FAILED if self.on && kind != 0 => met.push(", toggle 1 of a failed request"),
+            _ => {}
+        }
+        met
     }
 }
 
@@ -201,6 +238,7 @@ pub struct Controller {
     handler: EhciEventHandler,
     hub: Arc<Hub>,
     endpoints: Vec<Option<EndpointHandle>>,
+    toggles: Vec<Toggle>,
     running: bool,
     /// 01's note of an advance, beside the pending bits.
     note: bool,
@@ -235,6 +273,7 @@ impl Controller {
             handler,
             hub,
             endpoints,
+            toggles: vec![Toggle::default(); e],
             running: false,
             note: false,
             counted: false,
@@ -297,6 +336,11 @@ impl Controller {
     pub fn kind(&self, slot: usize) -> Option<u8> {
         let kind = self.endpoints.get(slot)?.as_ref()?.info().transfer_type;
         KINDS.iter().position(|k| *k == kind).map(|k| k as u8)
+    }
+
+    /// The slot's toggle, as kept from the calls.
+    pub fn toggle(&self, slot: usize) -> bool {
+        self.toggles.get(slot).is_some_and(|toggle| toggle.on)
     }
 
     pub fn flight(&self, slot: usize) -> Option<Flight> {
@@ -475,6 +519,7 @@ impl Controller {
             raw.qh.modify_cpu(|qh| qh.endpoint_chars = qh.endpoint_chars & !(0x7ff << 16) | (packet as u32) << 16);
         }
         self.endpoints[slot] = Some(EndpointHandle::new(info, raw));
+        self.toggles[slot] = Toggle::default();
         Reply::done(vec![slot.to_string()], vec![])
     }
 
@@ -520,6 +565,30 @@ impl Controller {
         }
         self.raw(slot as usize, |raw| raw.set_max_packet_size(size));
         Reply::only(DONE)
+    }
+
+    /// 000 has no such call. Whether the slot is open and has a request is 000's own state.
+    pub fn clear_halt(&mut self, slot: u8) -> Reply {
+        if !self.is_open(slot) {
+            return Reply::only(ENDPOINT);
+        }
+        tags::rule("02-halt");
+        let slot = slot as usize;
+        if self.busy(slot) {
+            return Reply::only(FULL);
+        }
+        let mut also = Vec::new();
+        if self.toggle(slot) {
+            also.push(", toggle 1");
+        }
+        if self.kind(slot) == Some(0) {
+            also.push(", control");
+        }
+        if !self.running {
+            also.push(", not running");
+        }
+        self.toggles[slot] = Toggle { on: false, answer: DONE, cleared: self.toggle(slot) };
+        Reply::only(DONE).also(also)
     }
 
     /// N25: a packet of this size has no room in a chunk. 000 does not ask. A control request has no chunks.
@@ -683,9 +752,13 @@ impl Controller {
         without_doorbell(&mut accesses);
         if result.is_ok() {
             self.lead_to_shared(slot);
+            self.go_on_with_toggle(slot);
         }
         match result {
-            Ok(id) => Reply::done(vec![id.raw().to_string()], accesses).met(met[0]),
+            Ok(id) => {
+                let toggle = self.toggles[slot].met(asked.kind, asked.incoming);
+                Reply::done(vec![id.raw().to_string()], accesses).met(met[0]).also(toggle)
+            }
             Err(error) => Reply::new(number_of(&error), vec![], accesses).met(met[1]),
         }
     }
@@ -725,6 +798,14 @@ impl Controller {
         });
     }
 
+    /// N26: 000 starts every request with an overlay token of 0. One of a bulk or interrupt slot goes on with the toggle that is
+    /// kept from the calls.
+    fn go_on_with_toggle(&self, slot: usize) {
+        if self.toggle(slot) && self.kind(slot) != Some(0) && tags::repaired("N26") {
+            self.raw(slot, |raw| raw.qh.modify_cpu(|qh| qh.overlay.token |= QtdToken::DATA_TOGGLE));
+        }
+    }
+
     /// The controller's own write of a token.
     pub fn writeback(&mut self, place: u64, token: u32) -> Reply {
         tags::rule("01-writeback");
@@ -753,7 +834,8 @@ impl Controller {
         Reply::new(answer, vec![], accesses)
     }
 
-    pub fn collect(&mut self, slot: u8, id: u64, command: u32, frame: u32, rows: &mut Rows) -> Reply {
+    /// `overlay` is the head's overlay token as the controller left it. A log's controller does not write it into the head.
+    pub fn collect(&mut self, slot: u8, id: u64, command: u32, frame: u32, overlay: u32, rows: &mut Rows) -> Reply {
         if !self.is_open(slot) {
             return Reply::only(ENDPOINT);
         }
@@ -779,7 +861,14 @@ impl Controller {
         };
         let unlinks = |flight: &Flight| !flight.unlinking && self.flight(slot as usize).is_some_and(|now| now.unlinking);
         let met = before.as_ref().map_or("", |flight| flight.met(answer, unlinks(flight)));
-        Reply::new(answer, values, accesses).met(met)
+        let given = overlay & QtdToken::DATA_TOGGLE != 0;
+        let passed = before.is_some() && !self.busy(slot as usize);
+        let other = !passed && given != self.toggle(slot as usize);
+        if passed {
+            self.toggles[slot as usize] = Toggle { on: given, answer, cleared: false };
+        }
+        let also = if other { vec![", another toggle"] } else { vec![] };
+        Reply::new(answer, values, accesses).met(met).also(also)
     }
 
     /// N23: while 000 looks at a request that may end early, the descriptors after the first short one are inactive, have

@@ -43,6 +43,15 @@ impl Draw {
         }
     }
 
+    /// An overlay token: as a controller might leave it with either toggle, the toggle alone, all else, any word.
+    fn overlay(&mut self) -> u64 {
+        match self.below(8) {
+            0 | 1 => self.word(),
+            2 => self.of(&[0x7fff_ffff, 0xffff_ffff]),
+            _ => self.of(&[0, 0x8000_0000, 0x0000_8d00, 0x8000_8d00, 0x8010_0d48]),
+        }
+    }
+
     fn frame(&mut self) -> u64 {
         match self.below(4) {
             0 => self.word(),
@@ -51,6 +60,9 @@ impl Draw {
         }
     }
 }
+
+/// The readings of a bring-up that is ready at once.
+pub const READY: [u64; 6] = [0x80001, 0x1000, 0x80000, 0x80000, 0x80000, 0];
 
 pub struct Generator {
     draw: Draw,
@@ -198,7 +210,7 @@ impl Generator {
             Some(flight) if !self.draw.one_in(12) => flight.id,
             _ => self.draw.of(&[0, 1, 2, 3, u64::MAX]),
         };
-        match self.draw.below(1000) {
+        match self.draw.below(1008) {
             0..60 => self.endpoint(c),
             60..500 if kind.is_none() && !self.draw.one_in(5) => self.endpoint(c),
             60..360 => match flight {
@@ -226,7 +238,8 @@ impl Generator {
             978..984 => Record::new(call::POWER, &[self.draw.below(18) as u8], &[self.draw.word()]),
             984..990 => Record::new(call::START, &[], &[]),
             990..994 => self.wrong_opening(),
-            _ => self.addresses(),
+            994..1000 => self.addresses(),
+            _ => Record::new(call::CLEAR_HALT, &[slot], &[]),
         }
     }
 
@@ -309,6 +322,9 @@ impl Generator {
             _ => self.draw.below(4) as u8,
         };
         let whole = c.working_limit(slot as usize).unwrap_or(c.settings.limit);
+        if c.toggle(slot as usize) && self.draw.one_in(3) {
+            return self.submit_over_toggle(c, slot, kind, whole);
+        }
         if own.is_some_and(|own| own >= 2) && self.draw.one_in(10) {
             return self.submit_after_set(c, slot, kind);
         }
@@ -320,6 +336,40 @@ impl Generator {
         let (packet, set) = self.set_packet(slot);
         let request = self.request(c, slot, kind, whole_packets(c.settings.limit, packet));
         self.plan.extend([set, request]);
+        self.plan.pop_front().unwrap()
+    }
+
+    /// A request after a call that clears the slot's toggle, or that must leave it: clear-halt here and on another slot, an
+    /// endpoint closed and another opened, address and packet size, a collect without a request, a bring-up, and clear-halt
+    /// amid it.
+    fn submit_over_toggle(&mut self, c: &Controller, slot: u8, kind: u8, whole: u64) -> Record {
+        let clear = |slot| Record::new(call::CLEAR_HALT, &[slot], &[]);
+        let idle = (0..c.settings.endpoints as usize).all(|slot| c.flight(slot).is_none());
+        match self.draw.below(10) {
+            0..3 => self.plan.push_back(clear(slot)),
+            3 => self.plan.push_back(clear((slot + 1) % c.settings.endpoints)),
+            4 => {
+                let opened = self.endpoint(c);
+                self.plan.extend([Record::new(call::CLOSE, &[slot], &[]), opened]);
+            }
+            5 => self.plan.push_back(Record::new(call::SET_ADDRESS, &[slot, self.draw.below(128) as u8], &[])),
+            6 => {
+                let set = self.set_packet(slot).1;
+                self.plan.push_back(set);
+            }
+            7 | 8 if idle => {
+                self.plan.push_back(Record::new(call::START, &[], &[]));
+                let amid = self.draw.one_in(3).then(|| clear(slot));
+                self.plan.extend(amid);
+                self.plan.extend(READY.map(|reading| Record::new(call::STEP, &[], &[reading])));
+            }
+            _ => {
+                let collect = self.collect(slot, 1);
+                self.plan.push_back(collect);
+            }
+        }
+        let request = self.request(c, slot, kind, whole);
+        self.plan.push_back(request);
         self.plan.pop_front().unwrap()
     }
 
@@ -442,7 +492,11 @@ impl Generator {
     /// The unlink by this call, what is written after it, its answer, the collection.
     fn collection(&mut self, slot: u8, id: u64, number: u8, late: Option<Record>) -> Record {
         let (command, frame) = (self.draw.command(), self.draw.frame());
-        self.plan.push_back(Record::new(number, &[slot], &[id, command, frame]));
+        let first = match number {
+            call::COLLECT => Record::new(number, &[slot], &[id, command, frame, self.draw.overlay()]),
+            _ => Record::new(number, &[slot], &[id, command, frame]),
+        };
+        self.plan.push_back(first);
         self.plan.extend(late);
         let status = self.draw.of(&[0x20, 0x24, 0x21, 0x37]);
         self.plan.push_back(Record::new(call::ACKNOWLEDGE, &[1, 1], &[status, 0x27]));
@@ -450,13 +504,14 @@ impl Generator {
             self.plan.push_back(Record::new(call::DRAIN, &[], &[self.draw.command()]));
         }
         let later = (frame + self.draw.of(&[0, 8, 9, 9, 10, 16383])) & 0xffff_ffff;
-        self.plan.push_back(Record::new(call::COLLECT, &[slot], &[id, self.draw.command(), later]));
+        let (command, overlay) = (self.draw.command(), self.draw.overlay());
+        self.plan.push_back(Record::new(call::COLLECT, &[slot], &[id, command, later, overlay]));
         self.plan.pop_front().unwrap()
     }
 
     fn collect(&mut self, slot: u8, id: u64) -> Record {
-        let (command, frame) = (self.draw.command(), self.draw.frame());
-        Record::new(call::COLLECT, &[slot], &[id, command, frame])
+        let (command, frame, overlay) = (self.draw.command(), self.draw.frame(), self.draw.overlay());
+        Record::new(call::COLLECT, &[slot], &[id, command, frame, overlay])
     }
 
     fn acknowledge(&mut self) -> Record {
@@ -483,7 +538,9 @@ pub fn plain(number: u8, slot: u8) -> Record {
         call::OPEN => opening(4, 4, 2, KIB16, 1, AREAS),
         call::ENDPOINT => Record::new(number, &[2, 1, 1], &[64]),
         call::SUBMIT => Record::new(number, &[slot, 2, 1], &[0, 0x1000, 64, 0]),
-        call::CLOSE | call::SET_ADDRESS | call::SET_PACKET | call::POWER => Record::new(number, &[slot], &[]),
+        call::CLOSE | call::SET_ADDRESS | call::SET_PACKET | call::POWER | call::CLEAR_HALT => {
+            Record::new(number, &[slot], &[])
+        }
         call::CANCEL | call::COLLECT => Record::new(number, &[slot], &[1, 0, 0]),
         call::ACKNOWLEDGE => Record::new(number, &[1, 1], &[0x24, 0x27]),
         _ => Record::new(number, &[], &[]),

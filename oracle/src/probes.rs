@@ -30,6 +30,7 @@ pub fn run() {
     polls();
     short_reply();
     packets();
+    toggle();
     lost_predecessor();
 }
 
@@ -136,6 +137,32 @@ fn packets() {
     let chunks = handle.with_raw_mut::<EhciEndpoint, _>(|raw| raw.inflight.as_ref().unwrap().chunk_lengths.clone());
     let last = chunks[0] % 100;
     println!("N24: the chunks of 61441 bytes in packets of 100: {chunks:?}; the first ends in a packet of {last}");
+}
+
+/// N26: a controller leaves toggle 1 in the overlay of a request that is collected; another is submitted.
+fn toggle() {
+    let ehci = controller(1);
+    let handle = endpoint(&ehci, EndpointType::Interrupt);
+    let request = || TransferRequest::Interrupt { direction: Direction::In, buffer: some_bytes() };
+    let id = handle.submit(request()).unwrap();
+    let left = handle.with_raw_mut::<EhciEndpoint, _>(|raw| {
+        raw.inflight.as_mut().unwrap().qtds[0].modify_cpu(|qtd| qtd.token &= !0x7fff_0080);
+        let token = raw.inflight.as_ref().unwrap().qtds[0].read_cpu().token | QtdToken::DATA_TOGGLE;
+        raw.qh.modify_cpu(|qh| qh.overlay.token = token);
+        token
+    });
+    let overlay = || handle.with_raw_mut::<EhciEndpoint, _>(|raw| raw.qh.read_cpu().overlay.token);
+    let collects = [0, 9].map(|frame| {
+        regs::set(regs::FRINDEX, frame);
+        handle.reclaim(id).unwrap().is_some()
+    });
+    assert_eq!(collects, [false, true]);
+    let collected = overlay();
+    handle.submit(request()).unwrap();
+    println!(
+        "N26: overlay token {left:08x} before a collection, {collected:08x} after it, {:08x} at the next submit",
+        overlay()
+    );
 }
 
 /// P1 and Q1: a head that its predecessor does not point to.

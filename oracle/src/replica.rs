@@ -131,7 +131,7 @@ impl Replica {
             }
             call::WRITEBACK => c.writeback(n[0], n[1] as u32),
             call::CANCEL => c.cancel(b[0], n[0], n[1] as u32, n[2] as u32),
-            call::COLLECT => c.collect(b[0], n[0], n[1] as u32, n[2] as u32, rows),
+            call::COLLECT => c.collect(b[0], n[0], n[1] as u32, n[2] as u32, n[3] as u32, rows),
             call::ACKNOWLEDGE => c.acknowledge(n[0] as u32, n[1] as u32, b[0] == 1, b[1] == 1),
             call::DRAIN => c.drain(n[0] as u32),
             call::REARM => c.rearm(),
@@ -139,7 +139,8 @@ impl Replica {
             call::DISABLE => c.disable(),
             call::SCAN => c.start_scan(),
             call::SCAN_STEP => c.scan_step(n[0] as u32),
-            _ => c.port_power(b[0], n[0] as u32),
+            call::POWER => c.port_power(b[0], n[0] as u32),
+            _ => c.clear_halt(b[0]),
         }
     }
 
@@ -157,6 +158,9 @@ impl Replica {
                 call::SCAN_STEP => ["", ", Connected", ", Disconnected"][value(2).parse::<usize>().unwrap()],
                 _ => "",
             };
+        }
+        for more in &reply.also {
+            *self.met.entry(format!("{label}{more}")).or_default() += 1;
         }
         *self.met.entry(label + reply.met).or_default() += 1;
     }

@@ -2,7 +2,7 @@
 //! scripts by chance they are the fixed list.
 use blocks::record::{Record, call};
 
-use crate::generate::{AREAS, Generator, opening};
+use crate::generate::{AREAS, Generator, READY, opening};
 use crate::replica::Replica;
 use crate::tags;
 
@@ -30,7 +30,7 @@ fn step(reading: u64) -> Record {
 
 fn brought_up() -> Calls {
     let mut calls = vec![bare(call::START)];
-    calls.extend([0x80001, 0x1000, 0x80000, 0x80000, 0x80000, 0].map(step));
+    calls.extend(READY.map(step));
     calls
 }
 
@@ -71,6 +71,11 @@ fn one(slot: u8) -> Record {
     submit(slot, BULK, 1, 0x1000_0000, 512)
 }
 
+/// An interrupt request of one descriptor.
+fn poll(slot: u8) -> Record {
+    submit(slot, INTERRUPT, 1, 0x1000_0000, 8)
+}
+
 fn writeback(place: u64, token: u64) -> Record {
     Record::new(call::WRITEBACK, &[], &[place, token])
 }
@@ -81,6 +86,15 @@ fn cancel(slot: u8, id: u64, frame: u64) -> Record {
 
 fn collect(slot: u8, id: u64, frame: u64) -> Record {
     Record::new(call::COLLECT, &[slot], &[id, 0x80031, frame])
+}
+
+/// A collect that is given the head's overlay token.
+fn collect_left(slot: u8, id: u64, frame: u64, overlay: u64) -> Record {
+    Record::new(call::COLLECT, &[slot], &[id, 0x80031, frame, overlay])
+}
+
+fn clear_halt(slot: u8) -> Record {
+    on(call::CLEAR_HALT, slot)
 }
 
 fn acknowledge(status: u64) -> Record {
@@ -139,6 +153,10 @@ pub fn departures() -> Vec<(&'static str, Calls)> {
     let short_then = |second| with(with(short(), &[writeback(1, second)]), &collected);
     // 02's own: a limit of 1000 and packets of 512
     let lab = with(started(4, 2, 1000), &[bulk(), submit(0, BULK, 0, 0x1000_0000, 1500)]);
+    // one packet is read, and then another
+    let packet =
+        [writeback(0, DONE), collect(0, 1, 0), acknowledge(0x20), drain(), collect_left(0, 1, 0, TOGGLE | DONE)];
+    let polled = [endpoint(INTERRUPT, 5, 1, 8), poll(0), cancel(0, 1, 0), collect_left(0, 1, 9, TOGGLE), poll(0)];
     vec![
         ("K1", vec![open(1, 1, 1, 512, 1), bulk()]),
         ("K2", with(rung(), &[bulk(), one(1), cancel(1, 1, 0), acknowledge(0x24), drain(), drain()])),
@@ -176,6 +194,8 @@ pub fn departures() -> Vec<(&'static str, Calls)> {
         ("N24", with(running(), &[bulk(), set_packet(0, 100), submit(0, BULK, 0, 0x1000_0000, 16384)])),
         ("N25", vec![open(1, 1, 1, 1, 1), bulk_of(2)]),
         ("N25", vec![open(1, 1, 1, 7, 1), bulk_of(7), set_packet(0, 1)]),
+        ("N26", with(with(asked(), &packet), &[one(0)])),
+        ("N26", with(running(), &polled)),
         ("C", with(running(), &[bulk(), submit(0, BULK, 1, 0x1000_0000, 16385)])),
         ("C", with(running(), &[bulk(), submit(0, BULK, 1, 0x1000_0fff, 20480)])),
         ("P4", with(unplugged, &scan(&[0, 0]))),
@@ -404,6 +424,7 @@ fn read_of_three(kind: u8, incoming: u8) -> Calls {
     with(started(4, 2, 64), &[endpoint(kind, 5, 1, 8), submit(0, kind, incoming, 0x1000, 150)])
 }
 
+const TOGGLE: u64 = 1 << 31;
 const DONE: u64 = 0x0d00;
 const LEFT: u64 = 0x000a_0d00;
 const AGAIN: u64 = 0x000a_0d80;
@@ -547,6 +568,132 @@ fn sizes_set() -> Vec<Calls> {
     vec![calls]
 }
 
+/// A request without data of a slot of `three`, and its end: 0 done, 10 cancelled, 11 in error. It gets the lowest places.
+fn ended(slot: u8, incoming: u8, id: u64, answer: u8, overlay: u64) -> Calls {
+    let mut calls = vec![submit(slot, [CONTROL, BULK, INTERRUPT][slot as usize], incoming, 0, 0)];
+    match answer {
+        10 => calls.push(cancel(slot, id, 0)),
+        _ => {
+            let token = if answer == 11 { 0x0d40 } else { DONE };
+            calls.extend([writeback(0, token), writeback(1, token), collect_left(slot, id, 0, !overlay & 0xffff_ffff)]);
+        }
+    }
+    if slot < 2 {
+        calls.extend([acknowledge(0x20), drain()]);
+    }
+    with(calls, &[collect_left(slot, id, 9, overlay)])
+}
+
+/// A control, a bulk and an interrupt endpoint, each with toggle 1 after its first request.
+fn toggled() -> Calls {
+    let ends = [0, 1, 2].map(|slot| ended(slot, 1, 1, 10, TOGGLE | DONE));
+    with(three(8), &ends.concat())
+}
+
+/// A request on each slot of `three`: what its overlay token is.
+fn asked_again() -> [Record; 3] {
+    [submit(0, CONTROL, 1, 0, 0), submit(1, BULK, 1, 0x1000, 512), submit(2, INTERRUPT, 0, 0x1000, 8)]
+}
+
+/// The toggle from one request to the next (02, order 6).
+fn toggles() -> Vec<Calls> {
+    let mut out = Vec::new();
+    // kept at each answer, of each kind, In and Out; then a 0 is kept
+    for answer in [0, 10, 11] {
+        for slot in [0, 1, 2] {
+            for incoming in [0, 1] {
+                let lives = [(1, TOGGLE), (2, !TOGGLE & 0xffff_ffff), (3, 0xffff_ffff)];
+                let lives = lives.map(|(id, overlay)| ended(slot, incoming, id, answer, overlay));
+                out.push(with(with(three(8), &lives.concat()), &asked_again()));
+            }
+        }
+    }
+    // one bit alone, and all but one
+    for slot in [1, 2] {
+        let words = (0..32).flat_map(|bit| [1 << bit, !(1u64 << bit) & 0xffff_ffff]);
+        let lives = words.enumerate().flat_map(|(turn, overlay)| ended(slot, 1, turn as u64 + 1, 10, overlay));
+        out.push(with(with(three(8), &lives.collect::<Calls>()), &asked_again()));
+    }
+    // In and Out in turn, an odd and an even number of packets, more than one descriptor
+    let mut turns = with(started(8, 1, 1000), &[bulk()]);
+    for (turn, (incoming, length, overlay)) in
+        [(1, 512, TOGGLE), (0, 1024, TOGGLE), (1, 1500, 0), (0, 1500, TOGGLE), (1, 0, TOGGLE)].into_iter().enumerate()
+    {
+        let id = turn as u64 + 1;
+        turns.extend([submit(0, BULK, incoming, 0x1000, length), cancel(0, id, 0), acknowledge(0x20), drain()]);
+        turns.push(collect_left(0, id, 0, overlay));
+    }
+    out.push(with(turns, &[one(0)]));
+    out.extend(toggles_kept());
+    out.extend(halts_cleared());
+    out
+}
+
+/// Calls between two requests that leave the toggle, or forget it.
+fn toggles_kept() -> Vec<Calls> {
+    let set_address = |slot, address| Record::new(call::SET_ADDRESS, &[slot, address], &[]);
+    let between = |calls: &[Record]| with(with(toggled(), calls), &asked_again());
+    let each = |call: fn(u8) -> Record| [0, 1, 2].map(call);
+    let mut out = vec![
+        between(&[]),
+        // a collect without a request looks at nothing, whatever its id
+        between(&each(|slot| collect_left(slot, 1, 9, 0))),
+        between(&each(|slot| collect_left(slot, 2, 0, 0x7fff_ffff))),
+        with(with(three(8), &each(|slot| collect_left(slot, 1, 9, 0xffff_ffff))), &asked_again()),
+        between(&[0, 1, 2].map(|slot| set_address(slot, 9))),
+        between(&[0, 1, 2].map(|slot| set_address(slot, 200))),
+        between(&each(|slot| set_packet(slot, 64))),
+        between(&brought_up()),
+        // a bring-up that does not halt in time, and another
+        between(&with(vec![bare(call::START), step(0), step(0), step(0), one(1)], &brought_up())),
+        between(&[cancel(1, 1, 0), cancel(2, 9, 0), acknowledge(0x3f), drain(), drain(), bare(call::REARM)]),
+        between(&[bare(call::ENABLE), bare(call::DISABLE), bare(call::ADDRESS), bare(call::SCAN), power(1)]),
+        // refused
+        between(&[submit(1, CONTROL, 1, 0, 0), submit(1, BULK, 1, HIGH, 1), submit(1, BULK, 1, 0, 200_000)]),
+        between(&[open(0, 3, 2, 16384, 2), endpoint(BULK, 5, 1, 512)]),
+        // closed and opened: a bulk endpoint in each slot
+        with(with(toggled(), &each(|slot| on(call::CLOSE, slot))), &[bulk(), bulk(), bulk(), one(0), one(1), one(2)]),
+        between(&[on(call::CLOSE, 1), endpoint(BULK, 6, 2, 64)]),
+        with(with(toggled(), &three(8)), &asked_again()),
+    ];
+    // while a request is in flight, before its unlink and before its boundary: what passes counts, and that alone
+    for (before, last) in [(0xffff_ffff, 0), (0, TOGGLE)] {
+        let looks = |slot| [collect_left(slot, 1, 0, before), collect_left(slot, 7, 0, before)];
+        let mut calls = with(three(8), &[one(1), poll(2)]);
+        calls.extend([looks(1), looks(2)].concat());
+        calls.extend([writeback(0, DONE), writeback(1, DONE)]);
+        calls.extend([looks(1), looks(1), looks(2), looks(2)].concat());
+        calls.extend([collect_left(2, 1, 8, before), acknowledge(0x20), drain()]);
+        calls.extend([collect_left(1, 1, 0, last), collect_left(2, 1, 9, last)]);
+        out.push(with(with(calls, &[looks(1), looks(2)].concat()), &asked_again()));
+    }
+    out
+}
+
+/// Clear-halt (02, order 6).
+fn halts_cleared() -> Vec<Calls> {
+    let between = |calls: &[Record]| with(with(toggled(), calls), &asked_again());
+    let every = [0, 1, 2].map(clear_halt);
+    let asked = asked_again();
+    let ends = |id| [0, 1, 2].map(|slot| ended(slot, 1, id, 10, TOGGLE).split_off(1)).concat();
+    vec![
+        between(&[clear_halt(0)]),
+        between(&[clear_halt(1)]),
+        between(&[clear_halt(2)]),
+        between(&with(vec![clear_halt(1)], &every)),
+        // not open, and no slot
+        between(&[3, 31, 32, 255].map(clear_halt)),
+        with(with(toggled(), &[on(call::CLOSE, 1)]), &[clear_halt(1), bulk(), clear_halt(1), one(1)]),
+        // in flight, linked and unlinking: refused, and what is collected counts
+        with(with(with(with(toggled(), &asked), &every), &ends(2)), &asked),
+        with(with(with(toggled(), &asked), &[cancel(1, 2, 0), clear_halt(1), collect(1, 2, 0), clear_halt(1)]), &every),
+        with(with(with(with(toggled(), &asked), &ends(2)), &every), &asked),
+        // not running: before the first bring-up, and amid another
+        with(with(vec![open(8, 3, 2, 16384, 2), bulk(), clear_halt(0)], &brought_up()), &[clear_halt(0), one(0)]),
+        between(&with(vec![bare(call::START), clear_halt(1), step(0), clear_halt(2)], &brought_up())),
+    ]
+}
+
 fn interrupts() -> Vec<Calls> {
     let flags = |first, second| Record::new(call::ACKNOWLEDGE, &[first, second], &[0x3f, 0xffff_ffff]);
     let mut out: Vec<Calls> = (0..14)
@@ -596,8 +743,8 @@ fn ports() -> Vec<Calls> {
 
 /// The scripts of the fixed list: those by hand, then short ones by chance.
 fn fixed() -> Calls {
-    let mut calls: Calls = vec![bare(call::START), bulk(), one(0), bare(call::SCAN), power(1), drain()];
-    let requests = [submits(), unlinks(), tokens(1), tokens(0), more_tokens(), short_replies(), packets()];
+    let mut calls: Calls = vec![bare(call::START), bulk(), one(0), bare(call::SCAN), power(1), drain(), clear_halt(0)];
+    let requests = [submits(), unlinks(), tokens(1), tokens(0), more_tokens(), short_replies(), packets(), toggles()];
     let by_hand = [openings(), bring_ups(), endpoints(), requests.concat(), interrupts(), ports()];
     let scripts: Vec<Calls> =
         departures().into_iter().map(|(_, calls)| calls).chain(by_hand.into_iter().flatten()).collect();
@@ -718,7 +865,7 @@ pub fn log_of(calls: &[Record]) -> Vec<u8> {
 mod tests {
     use super::*;
 
-    /// Lines of the blocks of some calls, in order, worked out by hand from 02, orders 1 and 4.
+    /// Lines of the blocks of some calls, in order, worked out by hand from 02, orders 1, 4 and 6.
     fn hold(calls: Calls, lines: &[(usize, &[&str])]) {
         let _alone = crate::ALONE.lock().unwrap();
         let blocks = blocks_of(&calls);
@@ -898,5 +1045,80 @@ mod tests {
         let answers: Vec<String> =
             blocks_of(&calls).iter().map(|block| block.split_whitespace().nth(3).unwrap().to_string()).collect();
         assert_eq!(answers.join(" "), "0 1 1 5 0 0 1 2 1 0 0 3 0 1 0 1 1");
+    }
+
+    /// Three packets of 512 are read, and the controller leaves 80008d00 in the overlay: the next submit writes 80000000. That
+    /// one is cancelled, clear-halt waits for its collection, and after a clear-halt the third starts with 0.
+    #[test]
+    fn the_toggle_survives_a_transfer() {
+        let calls = with(started(4, 2, 16384), &[bulk(), submit(0, BULK, 1, 0x1000, 1536), writeback(0, 0x8000_8d00)]);
+        let first = [collect(0, 1, 0), acknowledge(0x20), drain(), collect_left(0, 1, 0, 0x8000_8d00)];
+        let second = [submit(0, BULK, 1, 0x1000, 1536), cancel(0, 2, 0), clear_halt(0), acknowledge(0x20), drain()];
+        let third = [collect_left(0, 2, 0, 0xffff_ffff), clear_halt(0), submit(0, BULK, 0, 0x1000, 512)];
+        let parts = ["P 0 00000001 00000001 06008d80", "P 0 00000001 00000001 02008c80"];
+        let parts = parts.map(|words| format!("{words} 00001000 00000000 {ZEROS}"));
+        let collected = ["C 14 12 0 1536", "H 1 4 00000001", "Q 1 0 0 0 0 00000000 00000020 4 1", "."];
+        let again = [
+            "C 15 9 0 2",
+            &parts[0],
+            "H 0 0 00200082",
+            "H 1 4 00100000",
+            "H 1 6 80000000",
+            "Q 1 0 0 0 0 00000000 00000020 3 1",
+            "W 00 00080031",
+            ".",
+        ];
+        let refused = ["C 17 21 4", "Q 1 0 1 0 1 00000000 00000020 3 1", "."];
+        let cancelled = ["C 20 12 10", "H 1 4 00000001", "H 1 6 00000000", "Q 1 0 0 0 0 00000000 00000020 4 1", "."];
+        let cleared = ["C 21 21 0", "Q 1 0 0 0 0 00000000 00000020 4 1", "."];
+        let last = [
+            "C 22 9 0 3",
+            &parts[1],
+            "H 0 0 00200082",
+            "H 1 4 00100000",
+            "Q 1 0 0 0 0 00000000 00000020 3 1",
+            "W 00 00080031",
+            ".",
+        ];
+        let blocks: [(usize, &[&str]); 6] =
+            [(14, &collected), (15, &again), (17, &refused), (20, &cancelled), (21, &cleared), (22, &last)];
+        hold([&calls[..], &first, &second, &third].concat(), &blocks);
+    }
+
+    /// Kept at 11, at 10 and at 0, bit 31 alone, per slot; not used for control; left by a collect without a request, by set
+    /// address, set packet size and bring-up; forgotten at close. Of each submit the overlay token that it leaves, of each
+    /// clear-halt the answer.
+    #[test]
+    fn what_keeps_a_toggle_and_what_clears_it() {
+        let _alone = crate::ALONE.lock().unwrap();
+        let bulks = [ended(1, 1, 1, 11, TOGGLE), ended(1, 0, 2, 10, 0x7fff_ffff), ended(1, 1, 3, 0, 0xffff_ffff)];
+        let others = [ended(2, 0, 1, 0, TOGGLE), ended(0, 1, 1, 0, TOGGLE), ended(0, 0, 2, 10, TOGGLE)];
+        let left = [collect_left(1, 3, 0, 0), Record::new(call::SET_ADDRESS, &[1, 9], &[]), set_packet(1, 64)];
+        let asked = [clear_halt(3), clear_halt(0), one(1), clear_halt(1), poll(2), cancel(1, 4, 0)];
+        let closed = [acknowledge(0x20), drain(), collect_left(1, 4, 0, TOGGLE), on(call::CLOSE, 1), bulk(), one(1)];
+        let halted = [cancel(1, 1, 0), cancel(2, 2, 0), acknowledge(0x20), drain(), collect(1, 1, 0), collect(2, 2, 9)];
+        let stopped = [bare(call::START), clear_halt(0), clear_halt(1), clear_halt(2), clear_halt(255)];
+        let lives = [three(8), bulks.concat(), others.concat(), left.to_vec(), brought_up()].concat();
+        let calls = [&lives[..], &asked, &closed, &halted, &stopped].concat();
+        let (mut rows, mut seen) = (blocks::rows::Rows::BLANK, Vec::new());
+        for (record, block) in calls.iter().zip(blocks_of(&calls)) {
+            rows.read(&block);
+            match record.number {
+                call::SUBMIT => seen.push(format!("{:x}", rows.heads[record.b[0] as usize + 1][6])),
+                call::CLEAR_HALT => seen.push(block.split_whitespace().nth(3).unwrap().to_string()),
+                _ => {}
+            }
+        }
+        assert_eq!(seen.join(" "), "0 80000000 0 0 0 0 3 0 80000000 4 80000000 0 0 0 0 3");
+    }
+
+    /// An overlay token has 32 bits; clear-halt has a slot and nothing else; there is no call after it.
+    #[test]
+    fn the_records_of_order_6() {
+        let good = |record: Record| Record::read(&record.bytes()).is_some();
+        assert!(good(collect_left(255, u64::MAX, 0xffff_ffff, 0xffff_ffff)) && good(clear_halt(255)));
+        assert!(!good(collect_left(0, 1, 0, 1 << 32)) && !good(Record::new(call::COLLECT, &[0], &[1, 0, 0, 0, 1])));
+        assert!(!good(Record::new(21, &[0, 1], &[])) && !good(Record::new(21, &[0], &[1])) && !good(on(22, 0)));
+        assert!(!good(Record::new(call::CANCEL, &[0], &[1, 0, 0, 1])));
     }
 }

@@ -14,7 +14,7 @@ pub enum Sort {
 
 use Sort::{Departure, Outside, Rule};
 
-pub const TAGS: [(&str, Sort, &str); 35] = [
+pub const TAGS: [(&str, Sort, &str); 37] = [
     ("K1", Departure, "a head's overlay stands at byte 32: its words are read by name"),
     ("K2", Departure, "an advance counted again after a port change: not counted, ring dropped"),
     ("K3", Departure, "an advance counted that was acknowledged before the ring: not counted, ring dropped"),
@@ -36,6 +36,7 @@ pub const TAGS: [(&str, Sort, &str); 35] = [
     ("N22", Departure, "every alternate ends: an In request's lead to a descriptor put at place D"),
     ("N23", Departure, "a short reply waits for the descriptors after it: they are hidden while 000 looks"),
     ("N24", Departure, "a chunk may end inside a packet: the working limit is taken for the limit"),
+    ("N26", Departure, "the overlay token restarts at 0: the toggle that the last collect was given is put into it"),
     ("C", Departure, "more than one chunk at a limit other than 20480: the split is replaced"),
     ("P4", Departure, "an unplugged port is Uninit with its first reading: shown with the second"),
     ("N11", Outside, "a buffer past 2^32, or a control request above 16384 bytes: refused"),
@@ -50,6 +51,7 @@ pub const TAGS: [(&str, Sort, &str); 35] = [
     ("01-step", Rule, "a step with none begun"),
     ("01-restart", Rule, "a start over one already begun, or an opening over it"),
     ("01-port", Rule, "a port that is not there"),
+    ("02-halt", Rule, "clear-halt on an open slot"),
 ];
 
 struct Met {
@@ -118,6 +120,7 @@ pub fn without_original() -> u64 {
         "01-writeback",
         "01-step",
         "01-port",
+        "02-halt",
     ];
     tags.into_iter().map(count).sum()
 }
@@ -128,7 +131,7 @@ pub fn report() -> String {
     for (sort, title) in [
         (Departure, "departures of 000, repaired on its side"),
         (Outside, "outside the domain of the runs"),
-        (Rule, "said by 01 alone, 000 has nothing like it"),
+        (Rule, "said by 01 and 02 alone, 000 has nothing like it"),
     ] {
         out += &format!("{title}:\n");
         for (tag, of, text) in TAGS {

@@ -1,4 +1,4 @@
-"""A model of the controller, written from document 01 as 02's orders 1 and 4 read it (and docs/DECISIONS.md where these are silent),
+"""A model of the controller, written from document 01 as 02's orders 1, 4 and 6 read it (and docs/DECISIONS.md where these are silent),
 not from the code.
 
 A module a subject, each of them using only those above it:
@@ -11,7 +11,7 @@ A module a subject, each of them using only those above it:
     ranges       what every call asks first
     opening      opening a controller
     schedule     linking and unlinking heads, the doorbell, the boundary
-    endpoints    addresses; open, close, set address, set packet size
+    endpoints    addresses; open, close, set address, set packet size, clear-halt
     requests     submit, writeback
     collection   cancel, collect
     interrupts   acknowledge, drain, rearm, enable, disable

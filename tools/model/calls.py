@@ -4,8 +4,8 @@ from model import bring_up, collection, endpoints, interrupts, opening, requests
 from model.answers import INVALID, Answer, Refused, need
 from model.ranges import in_ranges
 from model.records import (
-    ACKNOWLEDGE, ADDRESS, CANCEL, CLOSE, COLLECT, DISABLE, DRAIN, ENABLE, OPEN_ENDPOINT, POWER, REARM, SCAN, SCAN_STEP, SET_ADDRESS,
-    SET_PACKET, START, STEP, SUBMIT, WRITEBACK,
+    ACKNOWLEDGE, ADDRESS, CANCEL, CLEAR_HALT, CLOSE, COLLECT, DISABLE, DRAIN, ENABLE, OPEN_ENDPOINT, POWER, REARM, SCAN, SCAN_STEP,
+    SET_ADDRESS, SET_PACKET, START, STEP, SUBMIT, WRITEBACK,
 )  # fmt: skip
 from model.state import Hub, Settings, State
 
@@ -18,6 +18,7 @@ ON_STATE = {
     START: bring_up.start,
     STEP: bring_up.step,
     ADDRESS: endpoints.allocate_address,
+    CLEAR_HALT: endpoints.clear_halt,
     ACKNOWLEDGE: interrupts.acknowledge,
     DRAIN: interrupts.drain,
     REARM: interrupts.rearm,

@@ -1,4 +1,4 @@
-"""01, "Unlinking and collecting", and 02, orders 1 (EHCI 4.10) and 4: cancel and collect."""
+"""01, "Unlinking and collecting", and 02, orders 1 (EHCI 4.10), 4 and 6 (EHCI 4.10.2): cancel and collect."""
 
 from typing import NamedTuple
 
@@ -6,7 +6,7 @@ from model.answers import CANCELLED, DONE, ENDPOINT, FAILED, INVALID, PENDING, A
 from model.descriptors import CURRENT, RESTING
 from model.schedule import boundary_passed, unlink
 from model.state import IDLE, LINKED, MOST_SLOTS
-from model.tokens import active, bytes_left, data_bytes, has_error, may_end_short
+from model.tokens import active, bytes_left, data_bytes, has_error, may_end_short, toggle_of
 
 
 class Seen(NamedTuple):
@@ -81,7 +81,8 @@ def cancel(state, rows, k, id, command, frame):
     return Answer(writes=writes)
 
 
-def collect(state, rows, k, id, command, frame):
+def collect(state, rows, k, id, command, frame, overlay):
+    """`overlay` is the token of the head's overlay as the controller left it; only a collect that passes looks at it."""
     check_uncrowded(state, k)
     need(state.is_open(k), ENDPOINT)
     slot = state.slots[k]
@@ -93,13 +94,14 @@ def collect(state, rows, k, id, command, frame):
         return Answer(PENDING, writes=unlink(state, rows, k, command, frame) if seen.finished else ())
     if not boundary_passed(state, slot, frame):
         return Answer(PENDING)
-    return gather(state, rows, k, seen)
+    return gather(state, rows, k, seen, overlay)
 
 
-def gather(state, rows, k, seen):
-    """Passed: descriptors freed, current 0, overlay terminated; Cancelled, else Failed, else complete."""
+def gather(state, rows, k, seen, overlay):
+    """Passed: the toggle kept, descriptors freed, current 0, overlay terminated; Cancelled, else Failed, else complete."""
     slot = state.slots[k]
     cancelled = slot.cancel
+    slot.toggle = toggle_of(overlay)
     state.owner = [0 if owner == k + 1 else owner for owner in state.owner]
     rows.set_head(k, RESTING, CURRENT)
     slot.phase = IDLE

@@ -1,4 +1,4 @@
-"""01, "Order of checks", and 02, order 4: addresses; open endpoint, close, set address, set packet size."""
+"""01, "Order of checks", and 02, orders 4 and 6: addresses; open endpoint, close, set address, set packet size, clear-halt."""
 
 from model.answers import ENDPOINT, FULL, INVALID, LIMIT, UNSUPPORTED, Answer, need
 from model.descriptors import CHARACTERISTICS, HEAD_WORDS, head, raised, with_address, with_packet_size
@@ -27,7 +27,7 @@ def open_endpoint(state, rows, kind, address, number, packet):
 
 
 def check_idle(state, k, good=True):
-    """Close, set address, set packet size: 3, 4, 1."""
+    """Close, set address, set packet size, clear-halt: 3, 4, 1."""
     need(state.is_open(k), ENDPOINT)
     need(not state.slots[k].uncollected(), FULL)
     need(good, INVALID)
@@ -54,4 +54,11 @@ def set_packet_size(state, rows, k, size):
     need(packet_good(state.settings, slot.kind, packet), INVALID)
     slot.packet = packet
     rows.set_head(k, [with_packet_size(rows.head_word(k, CHARACTERISTICS), size)], CHARACTERISTICS)
+    return Answer()
+
+
+def clear_halt(state, k):
+    """02, order 6: on every kind, running or not. The device's toggle is 0 after it too."""
+    check_idle(state, k)
+    state.slots[k].toggle = 0
     return Answer()

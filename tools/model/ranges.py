@@ -1,7 +1,7 @@
 """01, "Order of checks. First: a lent row of a length other than opening fixed, or a state outside its ranges, 1."
 
 The ranges of what is opened are 01's ("Opening a controller"), with the descriptors' area of 02, order 1; a packet size's are 01's with
-02, order 4; those of the rest of a state are docs/DECISIONS.md's."""
+02, order 4; a toggle is 02's order 6; those of the rest of a state are docs/DECISIONS.md's."""
 
 from functools import cache
 
@@ -56,8 +56,8 @@ def request_good(state, slot):
 
 def slot_good(state, slot):
     if slot.phase == CLOSED:
-        return slot.kind == slot.packet == 0 and slot.id == 1 and request_empty(state, slot)
-    if slot.kind not in (CONTROL, BULK, INTERRUPT) or slot.id < 1:
+        return slot.kind == slot.packet == slot.toggle == 0 and slot.id == 1 and request_empty(state, slot)
+    if slot.kind not in (CONTROL, BULK, INTERRUPT) or slot.toggle > 1 or slot.id < 1:
         return False
     if not packet_good(state.settings, slot.kind, slot.packet):
         return False

@@ -1,11 +1,11 @@
-"""01, "Order of checks" and "Descriptors, heads, links", and 02, orders 1 and 4: submit and writeback."""
+"""01, "Order of checks" and "Descriptors, heads, links", and 02, orders 1, 4 and 6: submit and writeback."""
 
 from model.answers import ENDPOINT, FULL, INVALID, MEMORY, NOT_READY, UNSUPPORTED, Answer, need
 from model.descriptors import END, OVERLAY, descriptor, setup_packet
 from model.registers import RUN_BITS, command as command_write
 from model.schedule import attach
 from model.state import LINKED
-from model.tokens import CONTROL, ISOCHRONOUS, chunk_plan, control_plan, descriptors_needed, may_end_short
+from model.tokens import CONTROL, ISOCHRONOUS, chunk_plan, control_plan, descriptors_needed, may_end_short, overlay_token
 
 
 def buffer_good(kind, direction, setup, address, length):
@@ -65,7 +65,7 @@ def submit(state, rows, k, kind, direction, setup, address, length, command):
     write_chain(settings, rows, parts, places, alternate_for(settings, kind, direction))
     if kind == CONTROL:
         rows.set_setup(k, setup_packet(setup, length))
-    rows.set_head(k, [settings.descriptor_address(places[0]), END, 0], OVERLAY)
+    rows.set_head(k, [settings.descriptor_address(places[0]), END, overlay_token(kind, slot.toggle)], OVERLAY)
     attach(state, rows, k)
     request = hold_request(slot, direction, length)
     return Answer(values=(request,), writes=(command_write(command | RUN_BITS),), places=tuple(places))

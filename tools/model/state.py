@@ -47,14 +47,15 @@ class Settings(NamedTuple):
 
 class Slot:
     """An endpoint slot. `packet` is the packet size (02, order 4): the slot's own, since a lent head's may be altered, and 0 in a closed one.
+    `toggle` is that of the endpoint's next packet (02, order 6): 0 from its opening on, till a collect that passes is given another.
     `id` is the next request's; the last five are the uncollected request's, 0 where there is none."""
 
-    def __init__(self, phase=CLOSED, kind=CONTROL, packet=0):
-        self.phase, self.kind, self.packet, self.id = phase, kind, packet, 1
+    def __init__(self, phase=CLOSED, kind=CONTROL, packet=0, toggle=0):
+        self.phase, self.kind, self.packet, self.toggle, self.id = phase, kind, packet, toggle, 1
         self.forget()
 
     def forget(self):
-        """No request. The boundary is an unlink's number, or the FRINDEX at which an interrupt request was unlinked."""
+        """No request; the toggle stays. The boundary is an unlink's number, or the FRINDEX at which an interrupt request was unlinked."""
         self.request = self.direction = self.length = self.cancel = self.boundary = 0
 
     def uncollected(self):

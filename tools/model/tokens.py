@@ -27,6 +27,15 @@ def bytes_left(word):
     return field(word, 16, 15)
 
 
+def toggle_of(word):
+    return field(word, 31, 1)
+
+
+def overlay_token(kind, toggle):
+    """02, order 6: the overlay's token at submit, the slot's toggle alone. A control head takes its toggles from the descriptors: 0."""
+    return 0 if kind == CONTROL else 2**31 * toggle
+
+
 class Part(NamedTuple):
     """What one descriptor of a request is for: its token, and where it moves how many bytes."""
 

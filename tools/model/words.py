@@ -1,6 +1,6 @@
 """A controller's state in words: the core, and the lent row of slots, six words of 64 bits a slot.
 
-    word 0       from its lowest bit on: phase (2 bits), kind (2), packet size (11), direction (1), length (32), cancelled (1), boundary (14)
+    word 0       from its lowest bit on: phase (2 bits), kind (2), packet size (11), toggle (1), direction (1), length (32), cancelled (1), boundary (14)
     word 1       the id of the slot's last request, 0 where there was none; an uncollected request has this id
     words 2 to 5 the places of the slot's request: bit i of the first is place i, of the second place 64 + i, and so on
 
@@ -18,7 +18,7 @@ from model.tokens import INTERRUPT, ISOCHRONOUS
 SLOT_WORDS, PLACE_WORDS = 6, 4
 LAST_ID = 2**64 - 1
 # of word 0: each field's lowest bit and how many it has
-FIELDS = {"phase": (0, 2), "kind": (2, 2), "packet": (4, 11), "direction": (15, 1), "length": (16, 32), "cancel": (48, 1), "boundary": (49, 14)}
+FIELDS = {"phase": (0, 2), "kind": (2, 2), "packet": (4, 11), "toggle": (15, 1), "direction": (16, 1), "length": (17, 32), "cancel": (49, 1), "boundary": (50, 14)}
 # the core's numbers that the plain state has as they are
 NUMBERS = ("running", "step", "waited", "address", "enabled", "pending", "masked", "noted", "doorbell")
 
@@ -104,10 +104,10 @@ def first_bound(phase, kind, unanswered):
     if kind == ISOCHRONOUS:
         return 0
     if phase == IDLE:
-        return 2**15
+        return 2**16
     if phase == LINKED:
-        return 2**48
-    return 2**63 if kind == INTERRUPT else (unanswered + 1) * 2**49
+        return 2**49
+    return 2**64 if kind == INTERRUPT else (unanswered + 1) * 2**50
 
 
 def slot_good(core, first, last, *places):

@@ -8,6 +8,7 @@ use Rattle.register.specs.Writes.{noWrites}
 use Rattle.state.specs.Plain.{Ehci}
 use Rattle.words.specs.declared.core.Core.{Core}
 use Rattle.endpoint.specs.Calls.{ChangeLeft, OpenLeft, changeLeft, openLeft}
+use Rattle.endpoint.specs.Plain.{Change as Changed}
 use Rattle.endpoint.specs.declared.calls.Change.{Change}
 use Rattle.endpoint.specs.declared.calls.EndpointOpening.{EndpointOpening}
 use Rattle.endpoint.specs.Words.{changedView, openedView}
@@ -25,7 +26,7 @@ use Rattle.direct_calls.specs.Shapes.{FramesCall, HeadsCall, SlotsCall}
 use Rattle.ehci.specs.Replies.{broughtAnswer, drainedAnswer, openedAnswer, simply}
 use Rattle.bench_port.specs.declared.numbers.Replied.{Replied}
 use Rattle.bench_port.specs.Numbers.{packOf, refusedNumbers}
-use Rattle.bench_port.specs.Border.{Seen, SeenHeads, SeenLinks, besideHeads, besideLinks, seenBrought, seenCancelled, seenChanged, seenDrained, seenIn, seenOpened}
+use Rattle.bench_port.specs.Border.{Seen, SeenHeads, SeenLinks, besideHeads, besideLinks, seenBrought, seenCancelled, seenChange, seenChanged, seenDrained, seenIn, seenOpened}
 use Rattle.bench_port.proofs.Mapped.{frames-mapped, heads-mapped, slots-mapped}
 
 module _ (c : Core) (ws ws′ : List ℕ) where
@@ -49,6 +50,15 @@ module _ (c : Core) (ws ws′ : List ℕ) where
       subst (λ (y : Replied). InSlots y (λ s. seenBrought (decides s))) (sym e)
       (slots-mapped (λ (y : BroughtUp). packOf (y .rest) (broughtAnswer (y .answer) (y .read) (y .wait)) (y .writes)) seenBrought
       c x (refusedWords (c .rest) InvalidParameter) (x .rest) ws ws′ (broughtView (c .settings) x ws′) decides k)
+
+  pub cleared : (x : Change) (decides : Ehci → Changed) (r : Replied)
+      → SlotsCall c ws ws′ x (refusedChange (c .rest)) (x .rest) (changedView (c .settings) x ws′) decides
+      → r ≡ packOf (x .rest) (simply (x .answer)) noWrites → InSlots r (λ s. seenChange (decides s))
+  unfolding packOf
+  cleared x decides r k e =
+      subst (λ (y : Replied). InSlots y (λ s. seenChange (decides s))) (sym e)
+      (slots-mapped (λ (y : Change). packOf (y .rest) (simply (y .answer)) noWrites) seenChange
+      c x (refusedChange (c .rest)) (x .rest) ws ws′ (changedView (c .settings) x ws′) decides k)
 
   module _ (heads heads′ : List ℕ) where
     abbrev InHeads : Replied → (ℕ → ℕ → ℕ → SeenHeads) → Type 0

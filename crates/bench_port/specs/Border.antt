@@ -12,6 +12,7 @@ use Rattle.pipe.specs.Endpoints.{directionOf, kindOf}
 use Rattle.controller.specs.Plain.{Allotment}
 use Rattle.controller.specs.declared.lent.Readings.{Readings}
 use Rattle.endpoint.specs.Calls.{ChangeLeft, OpenLeft}
+use Rattle.endpoint.specs.Plain.{Change}
 use Rattle.request.specs.declared.judge.TransferRequest.{TransferRequest}
 use Rattle.collection.specs.Unlinks.{Left}
 use Rattle.interrupt.specs.Plain.{Acknowledgement}
@@ -29,8 +30,8 @@ use Rattle.bench_port.specs.Numbers.{Numbers, numbersIn, numbersOf}
 
 -- ---- the calls that are lent the pool
 
-abbrev pub readingsOf : ℕ → ℕ → Readings
-readingsOf command frame = record { command = command; frame = frame }
+abbrev pub readingsOf : ℕ → ℕ → ℕ → Readings
+readingsOf command frame overlay = record { command = command; frame = frame; overlay = overlay }
 
 abbrev pub requestOf : ℕ → ℕ → ℕ → ℕ → ℕ → TransferRequest
 requestOf kind direction setup address length =
@@ -38,10 +39,10 @@ requestOf kind direction setup address length =
 
 abbrev pub submitOf : ℕ → ℕ → ℕ → ℕ → ℕ → ℕ → ℕ → ℕ → Call
 submitOf slot kind direction setup address length command frame =
-    Submit slot (requestOf kind direction setup address length) (readingsOf command frame)
+    Submit slot (requestOf kind direction setup address length) (readingsOf command frame 0)
 
-abbrev pub collectOf : ℕ → ℕ → ℕ → ℕ → Call
-collectOf slot id command frame = Collect slot id (readingsOf command frame)
+abbrev pub collectOf : ℕ → ℕ → ℕ → ℕ → ℕ → Call
+collectOf slot id command frame overlay = Collect slot id (readingsOf command frame overlay)
 
 -- ---- what is seen
 
@@ -101,8 +102,11 @@ seenBrought x = seenOf (x .state) (broughtAnswer (x .answer) (x .read) (x .wait)
 abbrev pub seenOpened : OpenLeft → SeenHeads
 seenOpened x = besideHeads (seenOf (x .opening .state) (openedAnswer (x .opening .answer)) noWrites) (x .heads)
 
+abbrev pub seenChange : Change → Seen
+seenChange x = seenOf (x .state) (simply (x .answer)) noWrites
+
 abbrev pub seenChanged : ChangeLeft → SeenHeads
-seenChanged x = besideHeads (seenOf (x .change .state) (simply (x .change .answer)) noWrites) (x .heads)
+seenChanged x = besideHeads (seenChange (x .change)) (x .heads)
 
 abbrev pub seenCancelled : Left → SeenLinks
 seenCancelled x = besideLinks (seenOf (x .came .state) (simply (x .came .answer)) (x .came .writes)) (x .rows .heads) (x .rows .frames)

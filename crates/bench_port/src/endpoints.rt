@@ -4,15 +4,16 @@ ghost use Rattle.register.specs.Writes.{noWrites};
 ghost use Rattle.words.specs.View.{view};
 ghost use Rattle.pipe.specs.Endpoints.{kindOf};
 ghost use Rattle.controller.specs.Address.{allotOf};
-ghost use Rattle.endpoint.specs.Calls.{closeOf, openEndpointOf, setAddressOf, setPacketSizeOf};
-ghost use Rattle.direct_calls.specs.Shapes.{CoreCall, HeadsCall};
+ghost use Rattle.endpoint.specs.Calls.{clearHaltOf, closeOf, openEndpointOf, setAddressOf, setPacketSizeOf};
+ghost use Rattle.direct_calls.specs.Shapes.{CoreCall, HeadsCall, SlotsCall};
 ghost use Rattle.ehci.specs.Replies.{allottedAnswer, openedAnswer, simply};
 ghost use Rattle.bench_port.specs.Numbers.{packOf, refusedNumbers};
-ghost use Rattle.bench_port.specs.Border.{besideHeads, seenAllotted, seenChanged, seenIn, seenOpened};
+ghost use Rattle.bench_port.specs.Border.{besideHeads, seenAllotted, seenChange, seenChanged, seenIn, seenOpened};
 use crate::numbers::Replied;
 use crate::numbers::pack;
 use controller::calls::Allotment;
 use direct_calls::endpoints::allocate_address;
+use direct_calls::endpoints::clear_halt;
 use direct_calls::endpoints::close;
 use direct_calls::endpoints::open_endpoint;
 use direct_calls::endpoints::set_address;
@@ -115,4 +116,12 @@ pub extern "C" fn port_set_packet_size(
         (λ pool frames setups. seenChanged (setPacketSizeOf (view core (now (slots .entry))) pool (now (heads .entry)) frames setups slot size)) ⌝ }
 {
     pack_change(set_packet_size(core, slots, heads, slot, size))
+}
+
+#[no_mangle]
+pub extern "C" fn port_clear_halt(core: Core, slots: &mut [u64], slot: u8) -> Replied
+    ensures { λ r. ⌜ SlotsCall core (now (slots .entry)) (now (slots .exit)) r (refusedNumbers (core .rest)) (r .rest)
+        (seenIn (core .settings) r (now (slots .exit))) (λ s. seenChange (clearHaltOf s slot)) ⌝ }
+{
+    pack_change(clear_halt(core, slots, slot))
 }

@@ -1,4 +1,4 @@
-// The border that bench/ measures over: opening and the sixteen calls, each exported for C over plain numbers.
+// The border that bench/ measures over: opening and the seventeen calls, each exported for C over plain numbers.
 pub mod bringing_up;
 pub mod endpoints;
 pub mod interrupts;

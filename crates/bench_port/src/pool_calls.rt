@@ -34,7 +34,12 @@ fn submit_call(
         address,
         length,
     };
-    Call::Submit(slot, request, Readings { command, frame })
+    let readings = Readings {
+        command,
+        frame,
+        overlay: 0,
+    };
+    Call::Submit(slot, request, readings)
 }
 
 fn writeback_call(place: u64, token: u32) -> Call
@@ -43,10 +48,15 @@ fn writeback_call(place: u64, token: u32) -> Call
     Call::Writeback(place, token)
 }
 
-fn collect_call(slot: u8, id: u64, command: u32, frame: u32) -> Call
-    ensures { λ r. ⌜ r ≡ collectOf slot id command frame ⌝ }
+fn collect_call(slot: u8, id: u64, command: u32, frame: u32, overlay: u32) -> Call
+    ensures { λ r. ⌜ r ≡ collectOf slot id command frame overlay ⌝ }
 {
-    Call::Collect(slot, id, Readings { command, frame })
+    let readings = Readings {
+        command,
+        frame,
+        overlay,
+    };
+    Call::Collect(slot, id, readings)
 }
 
 #[no_mangle]
@@ -120,14 +130,15 @@ pub extern "C" fn port_collect(
     id: u64,
     command: u32,
     frame: u32,
+    overlay: u32,
 ) -> Replied
     ensures { λ r. ⌜ besideRows (seenIn (core .settings) r (now (slots .exit))) (now (rows .exit)) (now (heads .exit)) (now (frames .exit)) (now (setups .exit))
         ≡ seenApplied (applyWords core (now (slots .entry)) (now (rows .entry)) (now (heads .entry)) (now (frames .entry)) (now (setups .entry))
-        (collectOf slot id command frame)) ⌝ }
+        (collectOf slot id command frame overlay)) ⌝ }
     ensures { λ r. ⌜ WordsAfter (acceptsWords core (now (slots .entry)) (size (now (rows .entry))) (size (now (heads .entry))) (size (now (frames .entry))) (size (now (setups .entry))))
         core (now (slots .entry)) (r .rest) (now (slots .exit)) ⌝ }
 {
-    let call = collect_call(slot, id, command, frame);
+    let call = collect_call(slot, id, command, frame, overlay);
     let reply = apply(core, rows, slots, heads, frames, setups, call);
     pack_reply(reply)
 }

@@ -37,8 +37,12 @@ pub extern "C" fn port_cancel(
     ensures { λ r. ⌜ FramesCall core (now (slots .entry)) (now (slots .exit)) (now (heads .entry)) (now (heads .exit))
         (now (frames .entry)) (now (frames .exit)) r (refusedNumbers (core .rest)) (r .rest)
         (besideLinks (seenIn (core .settings) r (now (slots .exit))) (now (heads .exit)) (now (frames .exit)))
-        (λ pool setups. seenCancelled (cancelOf (view core (now (slots .entry))) pool (now (heads .entry)) (now (frames .entry)) setups (readingsOf command frame) slot id)) ⌝ }
+        (λ pool setups. seenCancelled (cancelOf (view core (now (slots .entry))) pool (now (heads .entry)) (now (frames .entry)) setups (readingsOf command frame 0) slot id)) ⌝ }
 {
-    let readings = Readings { command, frame };
+    let readings = Readings {
+        command,
+        frame,
+        overlay: 0,
+    };
     pack_cancelled(cancel(core, slots, heads, frames, slot, id, readings))
 }

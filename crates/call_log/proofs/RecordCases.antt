@@ -14,9 +14,9 @@ use Rattle.call_log.specs.declared.record.Entry.the-variants.{Bad}
 
 -- no call has another number
 pub judged-rest : (n : ℕ) (f : Fields) → 14 < n → (n ≡ 15 → ⊥) → (n ≡ 16 → ⊥) → (n ≡ 17 → ⊥) → (n ≡ 18 → ⊥) → (n ≡ 19 → ⊥) → (n ≡ 20 → ⊥)
-    → Bad ≡ judgedAs n f
+    → (n ≡ 21 → ⊥) → Bad ≡ judgedAs n f
 unfolding judgedAs
-judged-rest n f h h15 h16 h17 h18 h19 h20 =
+judged-rest n f h h15 h16 h17 h18 h19 h20 h21 =
     rw (
       ne-eqb n 1 (λ e. omega (arith, h, e)),
       ne-eqb n 2 (λ e. omega (arith, h, e)),
@@ -38,6 +38,7 @@ judged-rest n f h h15 h16 h17 h18 h19 h20 =
       ne-eqb n 18 h18,
       ne-eqb n 19 h19,
       ne-eqb n 20 h20,
+      ne-eqb n 21 h21,
     )
 
 not-above : (n k : ℕ) → n ≤ 8 → 8 < k → n ≡ k → ⊥
@@ -68,6 +69,7 @@ judged-none n f h h1 h2 h3 h4 h5 h6 h7 h8 =
       ne-eqb n 18 (not-above n 18 h (lit< tt)),
       ne-eqb n 19 (not-above n 19 h (lit< tt)),
       ne-eqb n 20 (not-above n 20 h (lit< tt)),
+      ne-eqb n 21 (not-above n 21 h (lit< tt)),
     )
 
 pub judged-at : (n k : ℕ) (f : Fields) (r : Entry) → n ≡ k → r ≡ judgedAs k f → r ≡ judgedAs n f

@@ -18,7 +18,7 @@ use Rattle.common.specs.declared.kinds.Direction.the-variants as D
 use Rattle.pipe.proofs.EndpointLaws.{direction-back, direction-there, flag-back, flag-there, kind-back, kind-there}
 use Rattle.common.proofs.TestLaws.{both-first, both-second, both-tells, false-true}
 use Rattle.call_log.specs.Fields.{bytesOf, bytesSpare, fieldsOf, numbersSpare, usedOr0}
-use Rattle.call_log.specs.Records.{row, callFields, fieldsFor, recordOf, guarded, spare, isWord, plain, settingsOf, openEntry, bringUpStep, openEndpoint, close, setAddress, setPacketSize, submit, writeback, cancel, collect, acknowledge, drain, scanStep, portPower, judgedAs, entryFrom, entryOf, OwnCall, Own, Representable}
+use Rattle.call_log.specs.Records.{row, callFields, fieldsFor, recordOf, guarded, spare, isWord, plain, settingsOf, openEntry, bringUpStep, openEndpoint, close, setAddress, setPacketSize, submit, writeback, cancel, collect, acknowledge, drain, scanStep, portPower, clearHalt, judgedAs, entryFrom, entryOf, OwnCall, Own, Representable}
 use Rattle.call_log.specs.declared.fields.Fields.{Fields}
 use Rattle.call_log.specs.declared.record.Entry.{Entry}
 use Rattle.call_log.specs.declared.record.Entry.the-variants.{Open, Call as ACall, StartScan, ScanStep, PortPower, Bad}
@@ -121,10 +121,9 @@ endpoint-back f e t =
     let s = r .0 in
     row-is f 3 1 s 5 _ _ _ _ _ _ _ (omega arith) e (kind-back (f .b1) (leb-true (f .b1) 3 (r .1))) refl refl (low (2 ^ 16) (f .n1) (q .1)) (spare-n2 f 3 1 s (omega arith)) (spare-n3 f 3 1 s (omega arith)) (spare-n4 f 3 1 s (omega arith))
 
-close-back : (f : Fields) → f .number ≡ 6 → (spare f 1 0) ≡ true → fieldsFor (ACall (C.Close (f .b1))) ≡ f
-unfolding fieldsFor callFields
-close-back f e t =
-    row-is f 1 0 t 6 _ _ _ _ _ _ _ (omega arith) e refl (spare-b2 f 1 0 t (omega arith)) (spare-b3 f 1 0 t (omega arith)) (spare-n1 f 1 0 t (omega arith)) (spare-n2 f 1 0 t (omega arith)) (spare-n3 f 1 0 t (omega arith)) (spare-n4 f 1 0 t (omega arith))
+slot-back : (f : Fields) (k : ℕ) → f .number ≡ k → spare f 1 0 ≡ true → row k (f .b1) 0 0 0 0 0 0 ≡ f
+slot-back f k e t =
+    row-is f 1 0 t k _ _ _ _ _ _ _ (omega arith) e refl (spare-b2 f 1 0 t (omega arith)) (spare-b3 f 1 0 t (omega arith)) (spare-n1 f 1 0 t (omega arith)) (spare-n2 f 1 0 t (omega arith)) (spare-n3 f 1 0 t (omega arith)) (spare-n4 f 1 0 t (omega arith))
 
 pair-back : (f : Fields) (k : ℕ) → f .number ≡ k → spare f 2 0 ≡ true → row k (f .b1) (f .b2) 0 0 0 0 0 ≡ f
 pair-back f k e t =
@@ -132,7 +131,7 @@ pair-back f k e t =
 
 submit-back : (f : Fields) → f .number ≡ 9 → (spare f 3 4 && leb (f .b2) 3 && leb (f .b3) 1 && (ltb (f .n1) (2 ^ 48) && isWord (f .n4))) ≡ true → fieldsFor (ACall (C.Submit (f .b1)
     (record { kind = kindOf (f .b2); direction = directionOf (f .b3); setup = f .n1; address = f .n2; length = f .n3 })
-    (record { command = f .n4 % 2 ^ 32; frame = 0 }))) ≡ f
+    (record { command = f .n4 % 2 ^ 32; frame = 0; overlay = 0 }))) ≡ f
 unfolding fieldsFor callFields
 submit-back f e t =
     let t3 = both-tells (spare f 3 4 && leb (f .b2) 3 && leb (f .b3) 1) (ltb (f .n1) (2 ^ 48) && isWord (f .n4)) t in
@@ -148,12 +147,20 @@ writeback-back f e t =
     let s = r .0 in
     row-is f 0 2 s 10 _ _ _ _ _ _ _ (omega arith) e (spare-b1 f 0 2 s (omega arith)) (spare-b2 f 0 2 s (omega arith)) (spare-b3 f 0 2 s (omega arith)) refl (low (2 ^ 32) (f .n2) (r .1)) (spare-n3 f 0 2 s (omega arith)) (spare-n4 f 0 2 s (omega arith))
 
-leaves-back : (f : Fields) (k : ℕ) → f .number ≡ k → (spare f 1 3 && isWord (f .n2) && isWord (f .n3)) ≡ true → row k (f .b1) 0 0 (f .n1) (f .n2 % 2 ^ 32) (f .n3 % 2 ^ 32) 0 ≡ f
-leaves-back f k e t =
+cancel-back : (f : Fields) → f .number ≡ 11 → (spare f 1 3 && isWord (f .n2) && isWord (f .n3)) ≡ true → row 11 (f .b1) 0 0 (f .n1) (f .n2 % 2 ^ 32) (f .n3 % 2 ^ 32) 0 ≡ f
+cancel-back f e t =
     let q = both-tells (spare f 1 3 && isWord (f .n2)) (isWord (f .n3)) t in
     let r = both-tells (spare f 1 3) (isWord (f .n2)) (q .0) in
     let s = r .0 in
-    row-is f 1 3 s k _ _ _ _ _ _ _ (omega arith) e refl (spare-b2 f 1 3 s (omega arith)) (spare-b3 f 1 3 s (omega arith)) refl (low (2 ^ 32) (f .n2) (r .1)) (low (2 ^ 32) (f .n3) (q .1)) (spare-n4 f 1 3 s (omega arith))
+    row-is f 1 3 s 11 _ _ _ _ _ _ _ (omega arith) e refl (spare-b2 f 1 3 s (omega arith)) (spare-b3 f 1 3 s (omega arith)) refl (low (2 ^ 32) (f .n2) (r .1)) (low (2 ^ 32) (f .n3) (q .1)) (spare-n4 f 1 3 s (omega arith))
+
+collect-back : (f : Fields) → f .number ≡ 12 → (spare f 1 4 && isWord (f .n2) && isWord (f .n3) && isWord (f .n4)) ≡ true → row 12 (f .b1) 0 0 (f .n1) (f .n2 % 2 ^ 32) (f .n3 % 2 ^ 32) (f .n4 % 2 ^ 32) ≡ f
+collect-back f e t =
+    let p = both-tells (spare f 1 4 && isWord (f .n2) && isWord (f .n3)) (isWord (f .n4)) t in
+    let q = both-tells (spare f 1 4 && isWord (f .n2)) (isWord (f .n3)) (p .0) in
+    let r = both-tells (spare f 1 4) (isWord (f .n2)) (q .0) in
+    let s = r .0 in
+    row-is f 1 4 s 12 _ _ _ _ _ _ _ (omega arith) e refl (spare-b2 f 1 4 s (omega arith)) (spare-b3 f 1 4 s (omega arith)) refl (low (2 ^ 32) (f .n2) (r .1)) (low (2 ^ 32) (f .n3) (q .1)) (low (2 ^ 32) (f .n4) (p .1))
 
 acknowledge-back : (f : Fields) → f .number ≡ 13 → (spare f 2 2 && (leb (f .b1) 1 && leb (f .b2) 1) && isWord (f .n1) && isWord (f .n2)) ≡ true → fieldsFor (ACall (C.Acknowledge (record { status = f .n1 % 2 ^ 32; interrupts = f .n2 % 2 ^ 32; flag = flagOf (f .b1); again = flagOf (f .b2) }))) ≡ f
 unfolding fieldsFor callFields
@@ -192,20 +199,20 @@ module _ (f : Fields) (e : Entry) (ne : e ≡ Bad → ⊥) where
   or-else false x y h a b = b h
 
   judged-only : entryFrom f ≡ e → fieldsFor e ≡ f
-  unfolding judgedAs plain openEntry bringUpStep openEndpoint close setAddress setPacketSize submit writeback cancel collect acknowledge drain scanStep portPower fieldsFor callFields
+  unfolding judgedAs plain openEntry bringUpStep openEndpoint close setAddress setPacketSize submit writeback cancel collect acknowledge drain scanStep portPower clearHalt fieldsFor callFields
   judged-only h =
       or-else (eqb (f .number) 1) _ _ h (λ q g. only _ _ g (open-back f (eqb-true (f .number) 1 q))) (λ h.
       or-else (eqb (f .number) 2) _ _ h (λ q g. only _ _ g (plain-back f 2 (eqb-true (f .number) 2 q))) (λ h.
       or-else (eqb (f .number) 3) _ _ h (λ q g. only _ _ g (word-back f 3 (eqb-true (f .number) 3 q))) (λ h.
       or-else (eqb (f .number) 4) _ _ h (λ q g. only _ _ g (plain-back f 4 (eqb-true (f .number) 4 q))) (λ h.
       or-else (eqb (f .number) 5) _ _ h (λ q g. only _ _ g (endpoint-back f (eqb-true (f .number) 5 q))) (λ h.
-      or-else (eqb (f .number) 6) _ _ h (λ q g. only _ _ g (close-back f (eqb-true (f .number) 6 q))) (λ h.
+      or-else (eqb (f .number) 6) _ _ h (λ q g. only _ _ g (slot-back f 6 (eqb-true (f .number) 6 q))) (λ h.
       or-else (eqb (f .number) 7) _ _ h (λ q g. only _ _ g (pair-back f 7 (eqb-true (f .number) 7 q))) (λ h.
       or-else (eqb (f .number) 8) _ _ h (λ q g. only _ _ g (pair-back f 8 (eqb-true (f .number) 8 q))) (λ h.
       or-else (eqb (f .number) 9) _ _ h (λ q g. only _ _ g (submit-back f (eqb-true (f .number) 9 q))) (λ h.
       or-else (eqb (f .number) 10) _ _ h (λ q g. only _ _ g (writeback-back f (eqb-true (f .number) 10 q))) (λ h.
-      or-else (eqb (f .number) 11) _ _ h (λ q g. only _ _ g (leaves-back f 11 (eqb-true (f .number) 11 q))) (λ h.
-      or-else (eqb (f .number) 12) _ _ h (λ q g. only _ _ g (leaves-back f 12 (eqb-true (f .number) 12 q))) (λ h.
+      or-else (eqb (f .number) 11) _ _ h (λ q g. only _ _ g (cancel-back f (eqb-true (f .number) 11 q))) (λ h.
+      or-else (eqb (f .number) 12) _ _ h (λ q g. only _ _ g (collect-back f (eqb-true (f .number) 12 q))) (λ h.
       or-else (eqb (f .number) 13) _ _ h (λ q g. only _ _ g (acknowledge-back f (eqb-true (f .number) 13 q))) (λ h.
       or-else (eqb (f .number) 14) _ _ h (λ q g. only _ _ g (word-back f 14 (eqb-true (f .number) 14 q))) (λ h.
       or-else (eqb (f .number) 15) _ _ h (λ q g. only _ _ g (plain-back f 15 (eqb-true (f .number) 15 q))) (λ h.
@@ -214,7 +221,8 @@ module _ (f : Fields) (e : Entry) (ne : e ≡ Bad → ⊥) where
       or-else (eqb (f .number) 18) _ _ h (λ q g. only _ _ g (plain-back f 18 (eqb-true (f .number) 18 q))) (λ h.
       or-else (eqb (f .number) 19) _ _ h (λ q g. only _ _ g (word-back f 19 (eqb-true (f .number) 19 q))) (λ h.
       or-else (eqb (f .number) 20) _ _ h (λ q g. only _ _ g (power-back f (eqb-true (f .number) 20 q))) (λ h.
-      absurd (ne (sym h))))))))))))))))))))))
+      or-else (eqb (f .number) 21) _ _ h (λ q g. only _ _ g (slot-back f 21 (eqb-true (f .number) 21 q))) (λ h.
+      absurd (ne (sym h)))))))))))))))))))))))
 
 -- what is read as an entry is its record
 pub entry-only : (bs : List ℕ) (e : Entry) → entryOf bs ≡ e → (e ≡ Bad → ⊥) → Bytes bs → bs ≡ recordOf e
@@ -245,7 +253,7 @@ flag-low true = refl
 flag-low false = refl
 
 call-back : (c : Call) → OwnCall c → entryFrom (callFields c) ≡ ACall c
-unfolding judgedAs plain bringUpStep openEndpoint close setAddress setPacketSize submit writeback cancel collect acknowledge drain callFields bytesSpare numbersSpare
+unfolding judgedAs plain bringUpStep openEndpoint close setAddress setPacketSize submit writeback cancel collect acknowledge drain clearHalt callFields bytesSpare numbersSpare
 call-back C.StartBringUp h = refl
 call-back (C.BringUpStep v) h = rw (word-in v h, mod-eq-of-lt h)
 call-back C.AllocateAddress h = refl
@@ -263,10 +271,21 @@ call-back (C.Submit k t r) h =
       direction-there (t .direction),
       mod-eq-of-lt (h .1),
     )
-    (ap (λ (z : ℕ). ACall (C.Submit k t (record { command = r .command; frame = z }))) (sym (h .2)))
+    (ap (λ (z : ℕ). ACall (C.Submit k t (record { command = r .command; frame = z; overlay = 0 }))) (sym (h .2))
+    ∙ ap (λ (z : ℕ). ACall (C.Submit k t (record { command = r .command; frame = r .frame; overlay = z }))) (sym (h .3)))
 call-back (C.Writeback p t) h = rw (word-in t h, mod-eq-of-lt h)
-call-back (C.Cancel k id r) h = rw (word-in (r .command) (h .0), word-in (r .frame) (h .1), mod-eq-of-lt (h .0), mod-eq-of-lt (h .1))
-call-back (C.Collect k id r) h = rw (word-in (r .command) (h .0), word-in (r .frame) (h .1), mod-eq-of-lt (h .0), mod-eq-of-lt (h .1))
+call-back (C.Cancel k id r) h =
+    rw (word-in (r .command) (h .0), word-in (r .frame) (h .1), mod-eq-of-lt (h .0), mod-eq-of-lt (h .1))
+    (ap (λ (z : ℕ). ACall (C.Cancel k id (record { command = r .command; frame = r .frame; overlay = z }))) (sym (h .2)))
+call-back (C.Collect k id r) h =
+    rw (
+      word-in (r .command) (h .0),
+      word-in (r .frame) (h .1),
+      word-in (r .overlay) (h .2),
+      mod-eq-of-lt (h .0),
+      mod-eq-of-lt (h .1),
+      mod-eq-of-lt (h .2),
+    )
 call-back (C.Acknowledge x) h =
     rw (
       flag-low (x .flag),
@@ -282,6 +301,7 @@ call-back (C.Drain v) h = rw (word-in v h, mod-eq-of-lt h)
 call-back C.Rearm h = refl
 call-back C.Enable h = refl
 call-back C.Disable h = refl
+call-back (C.ClearHalt k) h = refl
 
 judged-back : (e : Entry) → Own e → entryFrom (fieldsFor e) ≡ e
 unfolding judgedAs plain openEntry scanStep portPower fieldsFor bytesSpare numbersSpare

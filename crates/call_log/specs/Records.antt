@@ -48,12 +48,13 @@ callFields (C.SetPacketSize slot size) = row 8 slot size 0 0 0 0 0
 callFields (C.Submit slot t r) = row 9 slot (kindNumber (t .kind)) (directionNumber (t .direction)) (t .setup) (t .address) (t .length) (r .command)
 callFields (C.Writeback place token) = row 10 0 0 0 place token 0 0
 callFields (C.Cancel slot id r) = row 11 slot 0 0 id (r .command) (r .frame) 0
-callFields (C.Collect slot id r) = row 12 slot 0 0 id (r .command) (r .frame) 0
+callFields (C.Collect slot id r) = row 12 slot 0 0 id (r .command) (r .frame) (r .overlay)
 callFields (C.Acknowledge x) = row 13 (flagNumber (x .flag)) (flagNumber (x .again)) 0 (x .status) (x .interrupts) 0 0
 callFields (C.Drain command) = row 14 0 0 0 command 0 0 0
 callFields C.Rearm = row 15 0 0 0 0 0 0 0
 callFields C.Enable = row 16 0 0 0 0 0 0 0
 callFields C.Disable = row 17 0 0 0 0 0 0 0
+callFields (C.ClearHalt slot) = row 21 slot 0 0 0 0 0 0
 
 unfoldable pub fieldsFor : Entry → Fields
 fieldsFor (Open s) =
@@ -139,23 +140,23 @@ submit f =
     (ACall
     (C.Submit (f .b1)
     (record { kind = kindOf (f .b2); direction = directionOf (f .b3); setup = f .n1; address = f .n2; length = f .n3 })
-    (record { command = f .n4 % 2 ^ 32; frame = 0 })))
+    (record { command = f .n4 % 2 ^ 32; frame = 0; overlay = 0 })))
 
 unfoldable pub writeback : Fields → Entry
 writeback f = guarded (spare f 0 2 && isWord (f .n2)) (ACall (C.Writeback (f .n1) (f .n2 % 2 ^ 32)))
 
--- USBCMD and FRINDEX, n2 and n3
-abbrev pub readingsOf : Fields → Readings
-readingsOf f = record { command = f .n2 % 2 ^ 32; frame = f .n3 % 2 ^ 32 }
-
-abbrev pub slotTest : Fields → Bool
-slotTest f = spare f 1 3 && isWord (f .n2) && isWord (f .n3)
+-- USBCMD and FRINDEX, n2 and n3; with the overlay's token
+abbrev pub readingsOf : Fields → ℕ → Readings
+readingsOf f overlay = record { command = f .n2 % 2 ^ 32; frame = f .n3 % 2 ^ 32; overlay = overlay }
 
 unfoldable pub cancel : Fields → Entry
-cancel f = guarded (slotTest f) (ACall (C.Cancel (f .b1) (f .n1) (readingsOf f)))
+cancel f = guarded (spare f 1 3 && isWord (f .n2) && isWord (f .n3)) (ACall (C.Cancel (f .b1) (f .n1) (readingsOf f 0)))
 
+-- the overlay's token is n4
 unfoldable pub collect : Fields → Entry
-collect f = guarded (slotTest f) (ACall (C.Collect (f .b1) (f .n1) (readingsOf f)))
+collect f =
+    guarded (spare f 1 4 && isWord (f .n2) && isWord (f .n3) && isWord (f .n4))
+    (ACall (C.Collect (f .b1) (f .n1) (readingsOf f (f .n4 % 2 ^ 32))))
 
 unfoldable pub acknowledge : Fields → Entry
 acknowledge f =
@@ -170,6 +171,9 @@ scanStep f = guarded (spare f 0 1 && isWord (f .n1)) (ScanStep (f .n1 % 2 ^ 32))
 
 unfoldable pub portPower : Fields → Entry
 portPower f = guarded (spare f 1 1 && isWord (f .n1)) (PortPower (f .b1) (f .n1 % 2 ^ 32))
+
+unfoldable pub clearHalt : Fields → Entry
+clearHalt f = guarded (spare f 1 0) (ACall (C.ClearHalt (f .b1)))
 
 unfoldable pub judgedAs : ℕ → Fields → Entry
 judgedAs n f =
@@ -193,7 +197,8 @@ judgedAs n f =
     (cond (eqb n 18) (plain f StartScan)
     (cond (eqb n 19) (scanStep f)
     (cond (eqb n 20) (portPower f)
-    Bad)))))))))))))))))))
+    (cond (eqb n 21) (clearHalt f)
+    Bad))))))))))))))))))))
 
 abbrev pub entryFrom : Fields → Entry
 entryFrom f = judgedAs (f .number) f
@@ -203,7 +208,7 @@ entryOf bs = cond (eqb (length bs) 64) (entryFrom (fieldsOf bs)) Bad
 
 -- ---- entries that have a record
 
--- what the call's own types hold; six setup bytes; submit is given no FRINDEX
+-- what the call's own types hold; six setup bytes; submit is given no FRINDEX, and collect alone the overlay's token
 abbrev pub OwnCall : Call → Type 0
 OwnCall C.StartBringUp = Unit
 OwnCall (C.BringUpStep reading) = reading < 2 ^ 32
@@ -212,15 +217,16 @@ OwnCall (C.OpenEndpoint e) = e .packet < 2 ^ 16
 OwnCall (C.Close slot) = Unit
 OwnCall (C.SetAddress slot address) = Unit
 OwnCall (C.SetPacketSize slot size) = Unit
-OwnCall (C.Submit slot t r) = (t .setup < 2 ^ 48) × (r .command < 2 ^ 32) × (r .frame ≡ 0)
+OwnCall (C.Submit slot t r) = (t .setup < 2 ^ 48) × (r .command < 2 ^ 32) × (r .frame ≡ 0) × (r .overlay ≡ 0)
 OwnCall (C.Writeback place token) = token < 2 ^ 32
-OwnCall (C.Cancel slot id r) = (r .command < 2 ^ 32) × (r .frame < 2 ^ 32)
-OwnCall (C.Collect slot id r) = (r .command < 2 ^ 32) × (r .frame < 2 ^ 32)
+OwnCall (C.Cancel slot id r) = (r .command < 2 ^ 32) × (r .frame < 2 ^ 32) × (r .overlay ≡ 0)
+OwnCall (C.Collect slot id r) = (r .command < 2 ^ 32) × (r .frame < 2 ^ 32) × (r .overlay < 2 ^ 32)
 OwnCall (C.Acknowledge x) = (x .status < 2 ^ 32) × (x .interrupts < 2 ^ 32)
 OwnCall (C.Drain command) = command < 2 ^ 32
 OwnCall C.Rearm = Unit
 OwnCall C.Enable = Unit
 OwnCall C.Disable = Unit
+OwnCall (C.ClearHalt slot) = Unit
 
 abbrev pub Own : Entry → Type 0
 Own (Open s) = Unit

@@ -18,6 +18,7 @@ ghost use Rattle.call_log.specs.Records.{
   drain,
   scanStep,
   portPower,
+  clearHalt,
   entryFrom,
   entryOf,
 };
@@ -148,6 +149,7 @@ fn submit_request(f: Fields) -> Entry
     let readings = Readings {
         command: low_word(f.n4),
         frame: 0,
+        overlay: 0,
     };
     let numbers = (f.n1 < SETUP_END) & (f.n4 < WORD_END);
     guard(
@@ -171,6 +173,7 @@ fn cancel_request(f: Fields) -> Entry
     let readings = Readings {
         command: low_word(f.n2),
         frame: low_word(f.n3),
+        overlay: 0,
     };
     guard(
         spare(f, 1, 3) & (f.n2 < WORD_END) & (f.n3 < WORD_END),
@@ -184,9 +187,10 @@ fn collect_request(f: Fields) -> Entry
     let readings = Readings {
         command: low_word(f.n2),
         frame: low_word(f.n3),
+        overlay: low_word(f.n4),
     };
     guard(
-        spare(f, 1, 3) & (f.n2 < WORD_END) & (f.n3 < WORD_END),
+        spare(f, 1, 4) & (f.n2 < WORD_END) & (f.n3 < WORD_END) & (f.n4 < WORD_END),
         Entry::Call(Call::Collect(f.b1, f.n1, readings)),
     )
 }
@@ -234,6 +238,12 @@ fn port_power(f: Fields) -> Entry
     )
 }
 
+fn clear_halt(f: Fields) -> Entry
+    ensures { λ r. ⌜ r ≡ clearHalt f ⌝ }
+{
+    guard(spare(f, 1, 0), Entry::Call(Call::ClearHalt(f.b1)))
+}
+
 // Calls 1 to 8, and 0, which is none.
 fn entry_first(f: Fields) -> Entry
     requires { ⌜ f .number ≤ 8 ⌝ }
@@ -269,7 +279,7 @@ fn entry_second(f: Fields) -> Entry
     }
 }
 
-// Calls 15 to 20, and numbers that no call has.
+// Calls 15 to 21, and numbers that no call has.
 fn entry_third(f: Fields) -> Entry
     requires { ⌜ 14 < f .number ⌝ }
     ensures { λ r. ⌜ r ≡ entryFrom f ⌝ }
@@ -282,6 +292,7 @@ fn entry_third(f: Fields) -> Entry
         18 => plain_entry(f, Entry::StartScan),
         19 => scan_step(f),
         20 => port_power(f),
+        21 => clear_halt(f),
         _ => Entry::Bad,
     }
 }

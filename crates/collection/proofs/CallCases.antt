@@ -26,7 +26,7 @@ use Rattle.collection.specs.declared.collected.Collected.{Collected}
 use Rattle.collection.specs.Plain.{Collection}
 use Rattle.collection.specs.Answers.{outcomeOf, pendingCollect, pendingOf, refusedCancel, refusedCollect}
 use Rattle.collection.specs.Unlinks.{left, passedBoundary, unlinkOf}
-use Rattle.collection.specs.Calls.{Ended, cancelOf, collectOf, ended, finishOf, freed, gathered, linkedOf, marked, markedOf, unlinkingOf}
+use Rattle.collection.specs.Calls.{Ended, cancelOf, collectOf, ended, finishOf, freed, gathered, keeping, linkedOf, marked, markedOf, unlinkingOf}
 
 -- ---- cancel
 
@@ -137,7 +137,7 @@ module _ (s : Ehci) (pool : ℕ) (h f : List ℕ) (setups : ℕ) (rd : Readings)
     collect-other p r u e ec n = rw (ec, sym eb ∙ not-false b t, sym ex ∙ e, ne-eqb (r .id) id n)
 
     pub collect-ends : (p : Pipe) (r : Request) (u : UnlinkBoundary) (h′ : List ℕ) → x ≡ Unlinking p r u
-        → ended c h′ ≡ unlinkingOf s h (rd .frame) v k p r u → r .id ≡ id
+        → ended c h′ ≡ unlinkingOf s h (rd .frame) v k (keeping rd p) r u → r .id ≡ id
         → gathered c h′ f ≡ collectOf s pool h f setups rd v k id
     unfolding collectOf
     collect-ends p r u h′ e ec n =

@@ -32,7 +32,7 @@ use Rattle.collection.specs.declared.collected.Collected.the-variants.{C
 use Rattle.collection.specs.declared.collected.Completion.{Completion}
 use Rattle.collection.specs.Answers.{collectedNumber, outcomeOf, pendingCollect}
 use Rattle.collection.specs.Unlinks.{passedBoundary}
-use Rattle.collection.specs.Calls.{Gathered, collectOf, finishOf, freed, gathered}
+use Rattle.collection.specs.Calls.{Gathered, collectOf, finishOf, freed, gathered, keeping}
 use Rattle.collection.proofs.CallCases.{collect-ends, unlinking-ends, unlinking-waits}
 use Rattle.collection.proofs.FreedLaws.{freed-front}
 
@@ -151,16 +151,16 @@ module _ (s : Ehci) (pool : ℕ) (h f : List ℕ) (setups : ℕ) (rd : Readings)
     (ok : acceptsOf s (lengths pool (length h) (length f) setups) ≡ true) (e : endpointAt s k ≡ Unlinking p r u) where
   -- passed: finished
   pub collect-passes : passedBoundary u (rd .frame) ≡ true
-      → collectOf s pool h f setups rd v k (r .id) ≡ gathered (finishOf s v k p r) (endedOverlay h k) f
+      → collectOf s pool h f setups rd v k (r .id) ≡ gathered (finishOf s v k (keeping rd p) r) (endedOverlay h k) f
   collect-passes t =
-      sym (collect-ends s pool h f setups rd v k (r .id) true (sym ok) (finishOf s v k p r) refl (endpointAt s k) refl p r u (endedOverlay h k) e
-      (unlinking-ends s h (rd .frame) v k p r u true (sym t) (finishOf s v k p r) (endedOverlay h k) refl refl refl) refl)
+      sym (collect-ends s pool h f setups rd v k (r .id) true (sym ok) (finishOf s v k (keeping rd p) r) refl (endpointAt s k) refl p r u (endedOverlay h k) e
+      (unlinking-ends s h (rd .frame) v k (keeping rd p) r u true (sym t) (finishOf s v k (keeping rd p) r) (endedOverlay h k) refl refl refl) refl)
 
   -- not passed: Pending, and nothing changes
   pub collect-waits : passedBoundary u (rd .frame) ≡ false → collectOf s pool h f setups rd v k (r .id) ≡ gathered (pendingCollect s) h f
   collect-waits t =
       sym (collect-ends s pool h f setups rd v k (r .id) true (sym ok) (pendingCollect s) refl (endpointAt s k) refl p r u h e
-      (unlinking-waits s h (rd .frame) v k p r u false (sym t) (pendingCollect s) refl refl) refl)
+      (unlinking-waits s h (rd .frame) v k (keeping rd p) r u false (sym t) (pendingCollect s) refl refl) refl)
 
   -- so a collect of an unlinking request that answers Pending changes nothing
   pub pending-changes-nothing : collectOf s pool h f setups rd v k (r .id) .came .answer ≡ Pending

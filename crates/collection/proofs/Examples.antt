@@ -8,7 +8,7 @@ use Rattle.pool.specs.Chains.{Seen, firstError, lengthOf, readOf, seenFrom, sta
 use Rattle.pool.specs.Places.{clearOf, listOf, packed, placesFrom}
 use Rattle.pool.specs.Transfers.{requestedAt}
 use Rattle.settings.specs.Settings.{settingsGood, numbersGood, eachGood, noOverlap, areaGood, apartAreas}
-use Rattle.slot.specs.Ranges.{slotGood, phaseGood, closedGood, noRequest, idleGood, linkedGood, unlinkingGood, boundaryGood, openKind, sizeGood, sizeKept}
+use Rattle.slot.specs.Ranges.{slotGood, phaseGood, closedGood, noRequest, idleGood, linkedGood, unlinkingGood, boundaryGood, openKind, sizeGood, sizeKept, toggleKept}
 use Rattle.state.specs.Ranges.{inRanges, restGood, machineGood, interruptGood, doorbellGood, ownerGood, largest, slotsGood}
 use Rattle.state.specs.Slots.{slotAt, withSlot}
 use Rattle.state.specs.State.{withBell, withOwner}
@@ -22,33 +22,33 @@ use Rattle.collection.specs.Answers.{outcomeOf}
 use Rattle.collection.specs.Asks.{askOf, askable, requestAsk}
 use Rattle.collection.specs.Unlinks.{boundedOf, unlinkOf, waitingOf}
 use Rattle.collection.specs.Calls.{cancelOf, collectOf, finishOf, freed, linkedOf, unlinkingOf}
-use Rattle.collection.specs.Examples.{cancelRow, cancelled, collectRow, collected, cutRequest, noFrames, oneRequest, ringOfOne, seen, seenWith, viewLeft}
+use Rattle.collection.specs.Examples.{cancelRow, cancelled, collectRow, collected, cutRequest, noFrames, oneRequest, requestUnder, ringOfOne, seen, seenWith, toggleRow, viewLeft}
 use lib.ListN.{length}
 
 -- ---- the states are in their ranges, but the last
 
 linked-fits : acceptsOf (oneRequest 2 2 0 0 0) (lengths 5 (length ringOfOne) (length noFrames) 16) ≡ true
-unfolding acceptsOf rowsFit inRanges restGood machineGood interruptGood doorbellGood ownerGood largest slotsGood slotGood phaseGood closedGood idleGood noRequest linkedGood unlinkingGood boundaryGood openKind sizeGood sizeKept settingsGood numbersGood eachGood noOverlap areaGood apartAreas slotAt withoutBits
+unfolding acceptsOf rowsFit inRanges restGood machineGood interruptGood doorbellGood ownerGood largest slotsGood slotGood phaseGood closedGood idleGood noRequest linkedGood unlinkingGood boundaryGood openKind sizeGood sizeKept toggleKept settingsGood numbersGood eachGood noOverlap areaGood apartAreas slotAt withoutBits
 linked-fits = refl
 
 crowded-fits : acceptsOf (oneRequest 2 2 0 0 32) (lengths 5 (length ringOfOne) (length noFrames) 16) ≡ true
-unfolding acceptsOf rowsFit inRanges restGood machineGood interruptGood doorbellGood ownerGood largest slotsGood slotGood phaseGood closedGood idleGood noRequest linkedGood unlinkingGood boundaryGood openKind sizeGood sizeKept settingsGood numbersGood eachGood noOverlap areaGood apartAreas slotAt withoutBits
+unfolding acceptsOf rowsFit inRanges restGood machineGood interruptGood doorbellGood ownerGood largest slotsGood slotGood phaseGood closedGood idleGood noRequest linkedGood unlinkingGood boundaryGood openKind sizeGood sizeKept toggleKept settingsGood numbersGood eachGood noOverlap areaGood apartAreas slotAt withoutBits
 crowded-fits = refl
 
 waiting-fits : acceptsOf (oneRequest 3 2 0 1 1) (lengths 5 (length ringOfOne) (length noFrames) 16) ≡ true
-unfolding acceptsOf rowsFit inRanges restGood machineGood interruptGood doorbellGood ownerGood largest slotsGood slotGood phaseGood closedGood idleGood noRequest linkedGood unlinkingGood boundaryGood openKind sizeGood sizeKept settingsGood numbersGood eachGood noOverlap areaGood apartAreas slotAt withoutBits
+unfolding acceptsOf rowsFit inRanges restGood machineGood interruptGood doorbellGood ownerGood largest slotsGood slotGood phaseGood closedGood idleGood noRequest linkedGood unlinkingGood boundaryGood openKind sizeGood sizeKept toggleKept settingsGood numbersGood eachGood noOverlap areaGood apartAreas slotAt withoutBits
 waiting-fits = refl
 
 passed-fits : acceptsOf (oneRequest 3 2 0 0 0) (lengths 5 (length ringOfOne) (length noFrames) 16) ≡ true
-unfolding acceptsOf rowsFit inRanges restGood machineGood interruptGood doorbellGood ownerGood largest slotsGood slotGood phaseGood closedGood idleGood noRequest linkedGood unlinkingGood boundaryGood openKind sizeGood sizeKept settingsGood numbersGood eachGood noOverlap areaGood apartAreas slotAt withoutBits
+unfolding acceptsOf rowsFit inRanges restGood machineGood interruptGood doorbellGood ownerGood largest slotsGood slotGood phaseGood closedGood idleGood noRequest linkedGood unlinkingGood boundaryGood openKind sizeGood sizeKept toggleKept settingsGood numbersGood eachGood noOverlap areaGood apartAreas slotAt withoutBits
 passed-fits = refl
 
 marked-fits : acceptsOf (oneRequest 3 2 1 0 0) (lengths 5 (length ringOfOne) (length noFrames) 16) ≡ true
-unfolding acceptsOf rowsFit inRanges restGood machineGood interruptGood doorbellGood ownerGood largest slotsGood slotGood phaseGood closedGood idleGood noRequest linkedGood unlinkingGood boundaryGood openKind sizeGood sizeKept settingsGood numbersGood eachGood noOverlap areaGood apartAreas slotAt withoutBits
+unfolding acceptsOf rowsFit inRanges restGood machineGood interruptGood doorbellGood ownerGood largest slotsGood slotGood phaseGood closedGood idleGood noRequest linkedGood unlinkingGood boundaryGood openKind sizeGood sizeKept toggleKept settingsGood numbersGood eachGood noOverlap areaGood apartAreas slotAt withoutBits
 marked-fits = refl
 
 outside : acceptsOf (oneRequest 1 2 0 0 0) (lengths 5 (length ringOfOne) (length noFrames) 16) ≡ false
-unfolding acceptsOf rowsFit inRanges restGood machineGood interruptGood doorbellGood ownerGood largest slotsGood slotGood phaseGood closedGood idleGood noRequest linkedGood unlinkingGood boundaryGood openKind sizeGood sizeKept settingsGood numbersGood eachGood noOverlap areaGood apartAreas slotAt withoutBits
+unfolding acceptsOf rowsFit inRanges restGood machineGood interruptGood doorbellGood ownerGood largest slotsGood slotGood phaseGood closedGood idleGood noRequest linkedGood unlinkingGood boundaryGood openKind sizeGood sizeKept toggleKept settingsGood numbersGood eachGood noOverlap areaGood apartAreas slotAt withoutBits
 outside = refl
 
 -- ---- cancel: answer, writes, the ring head's link; the slot's phase, mark, boundary; unanswered; place 0's owner
@@ -137,7 +137,7 @@ collect-closed-slot = rw passed-fits
 -- ---- a limit of 1000 over packets of 512: the chunks of 1000 bytes are 512 and 488, where by the limit alone they would be one of 1000
 
 cut-fits : acceptsOf cutRequest (lengths 5 (length ringOfOne) (length noFrames) 16) ≡ true
-unfolding acceptsOf rowsFit inRanges restGood machineGood interruptGood doorbellGood ownerGood largest slotsGood slotGood phaseGood closedGood idleGood noRequest linkedGood unlinkingGood boundaryGood openKind sizeGood sizeKept settingsGood numbersGood eachGood noOverlap areaGood apartAreas slotAt withoutBits
+unfolding acceptsOf rowsFit inRanges restGood machineGood interruptGood doorbellGood ownerGood largest slotsGood slotGood phaseGood closedGood idleGood noRequest linkedGood unlinkingGood boundaryGood openKind sizeGood sizeKept toggleKept settingsGood numbersGood eachGood noOverlap areaGood apartAreas slotAt withoutBits
 cut-fits = refl
 
 pub cut-chunks : map (λ (s : Seen). s .requested) (seenWith (askOf cutRequest 5 0) 0 88) ≡ 512 ∷ 488 ∷ []
@@ -161,3 +161,31 @@ collect-cut-second = rw (cut-second, cut-fits)
 pub collect-cut-first : collectRow (collected cutRequest 0 (viewLeft cutRequest 100 88) 0 1) ≡ 0 ∷ 412 ∷ 0 ∷ 0x200082 ∷ 1 ∷ 1 ∷ 0 ∷ 0 ∷ 0 ∷ 0 ∷ []
 unfolding collectOf linkedOf unlinkingOf finishOf freed clearOf outcomeOf endpointAt decoded slotAt unlinkOf waitingOf boundedOf unlinkedOf ringOf detachOf predecessorOf endedOverlay putAt withEndpoint withSlot withOwner withBell noWrites andThen
 collect-cut-first = rw (cut-first, cut-fits)
+
+-- ---- the toggle of a passing collect, complete, failed or cancelled, and of control too
+
+pub keeps-odd : (toggleRow (oneRequest 3 2 0 0 0) 0x80000D00 (seen 0 0 20000) 1 ≡ 1) × (toggleRow (oneRequest 3 2 0 0 0) 0x7FFFFFFF (seen 0 0 20000) 1 ≡ 0)
+unfolding collectOf linkedOf unlinkingOf finishOf freed clearOf outcomeOf endpointAt decoded slotAt withEndpoint withSlot withOwner
+keeps-odd = (rw passed-fits, rw passed-fits)
+
+pub keeps-failed : toggleRow (oneRequest 3 2 0 0 0) 0x80000040 (seen 1 0x48 16384) 1 ≡ 1
+unfolding collectOf linkedOf unlinkingOf finishOf freed clearOf outcomeOf endpointAt decoded slotAt withEndpoint withSlot withOwner
+keeps-failed = rw passed-fits
+
+pub keeps-cancelled : toggleRow (oneRequest 3 2 1 0 0) 0x80000D00 (seen 1 0x48 16384) 1 ≡ 1
+unfolding collectOf linkedOf unlinkingOf finishOf freed clearOf outcomeOf endpointAt decoded slotAt withEndpoint withSlot withOwner
+keeps-cancelled = rw marked-fits
+
+control-fits : acceptsOf (requestUnder 16384 100 3 0 0 0 0) (lengths 5 (length ringOfOne) (length noFrames) 16) ≡ true
+unfolding acceptsOf rowsFit inRanges restGood machineGood interruptGood doorbellGood ownerGood largest slotsGood slotGood phaseGood closedGood idleGood noRequest linkedGood unlinkingGood boundaryGood openKind sizeGood sizeKept toggleKept settingsGood numbersGood eachGood noOverlap areaGood apartAreas slotAt withoutBits
+control-fits = refl
+
+pub keeps-control : toggleRow (requestUnder 16384 100 3 0 0 0 0) 0x80000D00 (seen 0 0 100) 1 ≡ 1
+unfolding collectOf linkedOf unlinkingOf finishOf freed clearOf outcomeOf endpointAt decoded slotAt withEndpoint withSlot withOwner
+keeps-control = rw control-fits
+
+-- 9, one advance to come; 9, unlinked by it; 3, a wrong id
+pub keeps-none : (toggleRow (oneRequest 3 2 0 1 1) 0x80000D00 (seen 0 0 20000) 1 ≡ 0) × (toggleRow (oneRequest 2 2 0 0 0) 0x80000D00 (seen 0 0 20000) 1 ≡ 0)
+    × (toggleRow (oneRequest 3 2 0 0 0) 0x80000D00 (seen 0 0 20000) 2 ≡ 0)
+unfolding collectOf linkedOf unlinkingOf finishOf freed clearOf outcomeOf endpointAt decoded slotAt unlinkOf waitingOf boundedOf unlinkedOf ringOf detachOf predecessorOf withEndpoint withSlot withOwner withBell noWrites andThen
+keeps-none = (rw waiting-fits, rw linked-fits, rw passed-fits)

@@ -28,7 +28,7 @@ use Rattle.collection.specs.declared.collected.Collected.{Collected}
 use Rattle.collection.specs.declared.collected.Collected.the-variants.{Complete, Pending, Cancelled, Failed, Refused}
 use Rattle.collection.specs.declared.collected.Completion.{Completion}
 use Rattle.collection.specs.Unlinks.{Left, boundedOf, unlinkOf, waitingOf}
-use Rattle.collection.specs.Calls.{Gathered, cancelOf, collectOf, finishOf, marked, pendingLeft}
+use Rattle.collection.specs.Calls.{Gathered, cancelOf, collectOf, finishOf, keeping, marked, pendingLeft}
 use Rattle.collection.proofs.CollectLaws.{complete-length, failed-token}
 use Rattle.collection.proofs.FreedLaws.{freed-length}
 use Rattle.collection.proofs.Splits.{cancel-split, collect-split, unlink-split}
@@ -129,7 +129,7 @@ module _ (s : Ehci) (pool : ℕ) (h f : List ℕ) (setups : ℕ) (rd : Readings)
   pub collect-wide : (v : View) → Wide s → Wide (collectOf s pool h f setups rd v k id .came .state)
   collect-wide v w =
       collect-split s pool h f setups rd k id v (λ (g : Gathered). Wide (g .came .state)) (λ x. w) w
-      (λ p r ok e u i n. unlink-wide p r w) (λ p r u ok e i t. finish-wide s v k p r w)
+      (λ p r ok e u i n. unlink-wide p r w) (λ p r u ok e i t. finish-wide s v k (keeping rd p) r w)
 
   -- complete: the length is the sum over the descriptors that were seen
   pub collect-length : (seen : List Seen) (c : Completion) → collectOf s pool h f setups rd (viewOf seen) k id .came .answer ≡ Complete c → c .length ≡ lengthOf seen

@@ -26,12 +26,12 @@ use Rattle.pipe.specs.declared.endpoints.Pipe.{Pipe}
 use Rattle.pipe.specs.declared.endpoints.Request.{Request}
 use Rattle.pipe.specs.declared.endpoints.UnlinkBoundary.{UnlinkBoundary}
 use Rattle.controller.specs.declared.lent.Readings.{Readings}
-use Rattle.pipe.proofs.EndpointLaws.{EndpointGood, LinkedGood, OpenPipe, UnlinkingGood, Passable, Suits, Wide, bell-wide, endpoint-keeps, owner-keeps, owner-wide}
+use Rattle.pipe.proofs.EndpointLaws.{EndpointGood, LinkedGood, OpenPipe, UnlinkingGood, Passable, Suits, Wide, bell-wide, endpoint-keeps, owner-keeps, owner-wide, toggled-good}
 use Rattle.controller.proofs.ReaderLaws.{open-below, open-within}
 use Rattle.schedule.specs.Bell.{bellOf, mustRing, ringOf, rungIf, unlinkedOf}
 use Rattle.schedule.specs.declared.bell.Bell.{Bell}
 use Rattle.collection.specs.Unlinks.{Left, boundedOf, unlinkOf, waitingOf}
-use Rattle.collection.specs.Calls.{Gathered, cancelOf, collectOf, finishOf, freed, marked, markedOf}
+use Rattle.collection.specs.Calls.{Gathered, cancelOf, collectOf, finishOf, freed, keeping, marked, markedOf}
 use Rattle.collection.proofs.FreedLaws.{freed-hit, freed-miss, freed-past}
 use Rattle.collection.proofs.SlotFacts.{endpoint-good}
 use Rattle.collection.proofs.Splits.{cancel-split, collect-split, unlink-split}
@@ -54,6 +54,8 @@ more-good E limit k u v e h t =
       closed-from = g .closed-from;
       size-none = g .size-none;
       size-open = g .size-open;
+      toggle-none = g .toggle-none;
+      toggle-flag = g .toggle-flag;
       by-phase = more-phase e u v h (g .by-phase);
     })
 
@@ -222,10 +224,10 @@ module _ (s : Ehci) (pool : ℕ) (h f : List ℕ) (setups : ℕ) (rd : Readings)
   collect-keeps v =
       collect-split s pool h f setups rd k id v (λ (l : Gathered). inRanges (l .came .state) ≡ true) (λ x. inside) inside
       (λ p r ok e u i n. unlink-keeps p r r e refl u)
-      (λ p r u ok e i t. ranges-make (finishOf s v k p r .state) (ends p r u e))
+      (λ p r u ok e i t. ranges-make (finishOf s v k (keeping rd p) r .state) (ends p r u e))
     where
-      ends : (p : Pipe) (r : Request) (u : UnlinkBoundary) → endpointAt s k ≡ Unlinking p r u → Ranges (finishOf s v k p r .state)
+      ends : (p : Pipe) (r : Request) (u : UnlinkBoundary) → endpointAt s k ≡ Unlinking p r u → Ranges (finishOf s v k (keeping rd p) r .state)
       ends p r u e =
           let low = low-of (Unlinking p r u) e refl in
           let good : UnlinkingGood (s .settings .limit) (s .unanswered) p r u = good-of (Unlinking p r u) e refl in
-          finish-keeps s k g w (low .0) (low .1) v p r (good .pipe)
+          finish-keeps s k g w (low .0) (low .1) v (keeping rd p) r (toggled-good (s .settings .limit) p _ (good .pipe))

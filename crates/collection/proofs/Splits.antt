@@ -21,7 +21,7 @@ use Rattle.controller.specs.declared.lent.Readings.{Readings}
 use Rattle.schedule.specs.Links.{detachOf, endedOverlay}
 use Rattle.collection.specs.Answers.{pendingCollect, refusedCancel, refusedCollect}
 use Rattle.collection.specs.Unlinks.{Left, isMissing, left, passedBoundary, unlinkOf, waitingOf}
-use Rattle.collection.specs.Calls.{Gathered, cancelOf, collectOf, finishOf, gathered, linkedOf, marked, markedOf, pendingLeft, unlinkingOf}
+use Rattle.collection.specs.Calls.{Gathered, cancelOf, collectOf, finishOf, gathered, keeping, linkedOf, marked, markedOf, pendingLeft, unlinkingOf}
 
 module _ (s : Ehci) (h f : List ℕ) (rd : Readings) (k : ℕ) (p : Pipe) (r : Request) where
   pub unlink-split : (P : Left → Type 0) → P (left (refusedCancel s InvalidEndpoint) h f)
@@ -70,7 +70,7 @@ module _ (s : Ehci) (pool : ℕ) (h f : List ℕ) (setups : ℕ) (rd : Readings)
       → ((p : Pipe) (r : Request) → Fits → endpointAt s k ≡ Linked p r → s .unanswered < 32 → r .id ≡ id → (v .stage ≡ 2 → ⊥)
       → P (pendingLeft (unlinkOf s h f rd k p r)))
       → ((p : Pipe) (r : Request) (u : UnlinkBoundary) → Fits → endpointAt s k ≡ Unlinking p r u → r .id ≡ id → passedBoundary u (rd .frame) ≡ true
-      → P (gathered (finishOf s v k p r) (endedOverlay h k) f))
+      → P (gathered (finishOf s v k (keeping rd p) r) (endedOverlay h k) f))
       → P (collectOf s pool h f setups rd v k id)
   unfolding collectOf linkedOf unlinkingOf
   collect-split v P old waits unlinks ends = by (acceptsOf s (lengths pool (length h) (length f) setups)) refl

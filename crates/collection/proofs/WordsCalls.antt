@@ -22,7 +22,7 @@ use Rattle.controller.specs.declared.lent.Readings.{Readings}
 use Rattle.controller.proofs.LentLaws.{accepts-is}
 use Rattle.collection.specs.declared.answers.Cancellation.{Cancellation as CancellationWords}
 use Rattle.collection.specs.declared.answers.Collection.{Collection as CollectionWords}
-use Rattle.collection.specs.Calls.{cancelOf, collectOf, ended, gathered, linkedOf, marked, markedOf, unlinkingOf}
+use Rattle.collection.specs.Calls.{cancelOf, collectOf, ended, gathered, keeping, linkedOf, marked, markedOf, unlinkingOf}
 use Rattle.collection.specs.Unlinks.{left, unlinkOf}
 use Rattle.collection.specs.Words.{cancelledView, collectedView, pendingWords, refusedCancelWords, refusedCollectWords}
 use Rattle.collection.proofs.CallCases.{cancel-closed, cancel-crowded, cancel-idle, cancel-marks, cancel-other, cancel-unlinks, cancel-wrong, collect-closed, collect-crowded, collect-ends, collect-idle, collect-looks, collect-other, collect-wrong}
@@ -126,7 +126,7 @@ module _ (s : Settings) (r : Rest) (ws : List ℕ) (good : Good s r ws) (h f : L
           collect-looks (stateOf s r ws) pool h f setups rd v k id true accepted (collectedView s c ws′) refl x ex p q h′ f′ e ec u n
 
       pub collects-ends : (p : Pipe) (q : Request) (u : UnlinkBoundary) (ws′ h′ : List ℕ) → x ≡ Unlinking p q u
-          → ended (collectedView s c ws′) h′ ≡ unlinkingOf (stateOf s r ws) h (rd .frame) v k p q u → q .id ≡ id
+          → ended (collectedView s c ws′) h′ ≡ unlinkingOf (stateOf s r ws) h (rd .frame) v k (keeping rd p) q u → q .id ≡ id
           → gathered (collectedView s c ws′) h′ f ≡ collectOf (stateOf s r ws) pool h f setups rd v k id
       collects-ends p q u ws′ h′ e ec n =
           collect-ends (stateOf s r ws) pool h f setups rd v k id true accepted (collectedView s c ws′) refl x ex p q u h′ e ec n

@@ -24,7 +24,7 @@ use Rattle.words.proofs.KeptLaws.{tidy-freed}
 use Rattle.words.proofs.RestLaws.{view-bell}
 use Rattle.words.proofs.TakenLaws.{view-freed}
 use Rattle.words.proofs.TidyLaws.{tidy-rest}
-use Rattle.pipe.specs.Endpoints.{encoded, endpointAt, withEndpoint}
+use Rattle.pipe.specs.Endpoints.{encoded, endpointAt, withEndpoint, withToggle}
 use Rattle.pipe.specs.declared.endpoints.Endpoint.{Endpoint}
 use Rattle.pipe.specs.declared.endpoints.Endpoint.the-variants.{Idle, Unlinking}
 use Rattle.pipe.specs.declared.endpoints.Pipe.{Pipe}
@@ -47,6 +47,7 @@ use Rattle.collection.specs.Words.{OwnRequest, cancelledView, collectedV
 use Rattle.collection.proofs.CallCases.{finishes, linked-unlinks, linked-waits, marks, unlinking-ends, unlinking-waits}
 use Rattle.collection.proofs.UnlinkCases.{unlink-missing, unlink-waits, waits}
 use Rattle.collection.proofs.WordsSlots.{finish-fits, mark-fits, own-fits, slot-low, slot-room, unlinking-within}
+use Rattle.token.specs.Overlay.{keptToggle}
 
 -- ---- the answers
 
@@ -150,32 +151,39 @@ module _ (s : Settings) (r : Rest) (ws : List ℕ) (good : Good s r ws) (k : ℕ
     pub tidy-marked : Tidy s r ws′
     tidy-marked = put-tidy s r ws ws′ good k here p m b marked-fits ew r refl
 
-  module _ (mid ws′ : List ℕ) (em : mid ≡ putSlot ws k (encoded (Idle p))) (ew : ws′ ≡ putPlaces mid k noPlaces) where
-    idle-fit : SlotFits (encoded (Idle p))
-    idle-fit = finish-fits s r ws good k p q b e most
+  module _ (overlay : ℕ) (t : Bool) (n : Pipe) (et : t ≡ keptToggle overlay) (en : n ≡ withToggle p t) (mid ws′ : List ℕ)
+      (em : mid ≡ putSlot ws k (encoded (Idle n))) (ew : ws′ ≡ putPlaces mid k noPlaces) where
+    abbrev kept : Pipe
+    kept = withToggle p (keptToggle overlay)
 
-    row : ws′ ≡ putPlaces (putSlot ws k (encoded (Idle p))) k noPlaces
-    row = ew ∙ ap (λ (l : List ℕ). putPlaces l k noPlaces) em
+    kept-is : n ≡ kept
+    kept-is = en ∙ ap (λ (b : Bool). withToggle p b) et
+
+    idle-fit : SlotFits (encoded (Idle kept))
+    idle-fit = finish-fits s r ws good k p q b e most (keptToggle overlay) kept refl
+
+    row : ws′ ≡ putPlaces (putSlot ws k (encoded (Idle kept))) k noPlaces
+    row = ew ∙ ap (λ (l : List ℕ). putPlaces l k noPlaces) (em ∙ ap (λ (m : Pipe). putSlot ws k (encoded (Idle m))) kept-is)
 
     freed-view : (free : List ℕ)
         → stateOf s (restWithFree r free) ws′
-        ≡ withEndpoint (withOwner (stateOf s r ws) (freed (stateOf s r ws .owner) (stateOf s r ws .settings .descriptors) (k + 1))) k (Idle p)
+        ≡ withEndpoint (withOwner (stateOf s r ws) (freed (stateOf s r ws .owner) (stateOf s r ws .settings .descriptors) (k + 1))) k (Idle kept)
     unfolding withEndpoint freed stateOf
     freed-view free =
         ap (λ (l : List ℕ). stateOf s (restWithFree r free) l) row
         ∙ view-freed s r ws (good .tidy) (good-settings s r ws good .descriptors-most) (good-settings s r ws good .endpoints-most) k
-        (encoded (Idle p)) here idle-fit free
+        (encoded (Idle kept)) here idle-fit free
 
     pub finishes-words : (free : List ℕ) (v : View) (a : Collected) (w : Writes) → a ≡ outcomeOf (q .cancelled) v → w ≡ noWrites
-        → _≡_ {A = Collection} (record { answer = a; state = stateOf s (restWithFree r free) ws′; writes = w }) (finishOf (stateOf s r ws) v k p q)
+        → _≡_ {A = Collection} (record { answer = a; state = stateOf s (restWithFree r free) ws′; writes = w }) (finishOf (stateOf s r ws) v k kept q)
     finishes-words free v a w ea wn =
-        finishes (stateOf s r ws) (stateOf s (restWithFree r free) ws′) v k p q
+        finishes (stateOf s r ws) (stateOf s (restWithFree r free) ws′) v k kept q
         (freed (stateOf s r ws .owner) (stateOf s r ws .settings .descriptors) (k + 1)) a w refl ea (freed-view free) wn
 
     pub tidy-finished : (own free : List ℕ) → own ≡ placesAt ws k → free ≡ withOf (r .free) own → Tidy s (restWithFree r free) ws′
     tidy-finished own free eo ef =
         rw row
-        (tidy-freed s r ws (good .tidy) k (encoded (Idle p)) here idle-fit (restWithFree r free) (omega arith)
+        (tidy-freed s r ws (good .tidy) k (encoded (Idle kept)) here idle-fit (restWithFree r free) (omega arith)
         (λ z. absurd (omega (arith, z))) (ef ∙ ap (withOf (r .free)) eo))
 
 -- ---- `unlink`

@@ -20,7 +20,7 @@ use Rattle.words.specs.View.{stateOf}
 use Rattle.words.proofs.GoodLaws.{good-room, good-settings}
 use Rattle.words.proofs.RowLaws.{put-length}
 use Rattle.words.proofs.ViewLaws.{view-kind}
-use Rattle.pipe.specs.Endpoints.{boundaryNumber, encoded, endpointAt, kindNumber}
+use Rattle.pipe.specs.Endpoints.{boundaryNumber, encoded, endpointAt, kindNumber, withToggle}
 use Rattle.pipe.specs.declared.endpoints.Endpoint.{Endpoint}
 use Rattle.pipe.specs.declared.endpoints.Endpoint.the-variants.{Idle, Linked, Unlinking}
 use Rattle.pipe.specs.declared.endpoints.Pipe.{Pipe}
@@ -45,7 +45,7 @@ kind-periodic Isochronous = refl
 kind-periodic Bulk = refl
 kind-periodic Interrupt = refl
 
-bounded-small : (b : Bell) (k : EndpointType) (rd : Readings) → b .unanswered < 32 → boundaryNumber (boundedOf b k rd .boundary) < 0x8000
+bounded-small : (b : Bell) (k : EndpointType) (rd : Readings) → b .unanswered < 32 → boundaryNumber (boundedOf b k rd .boundary) < 0x4000
 unfolding boundedOf
 bounded-small b Control rd h = omega arith
 bounded-small b Isochronous rd h = omega arith
@@ -106,7 +106,7 @@ module _ (s : Settings) (r : Rest) (ws : List ℕ) (good : Good s r ws) (k : ℕ
           → SlotFits (encoded (Unlinking p q (u .boundary)))
       own-fits most u b rd eu h =
           unlinking-fits p q (omega (arith, own-at .size)) (own-at .own ∙ ap afterId (sym (o .same-id))) most (omega (arith, o .same-length, own-at .length-below)) (u .boundary)
-          (subst (λ (x : Bounded). boundaryNumber (x .boundary) < 0x8000) (sym eu) (bounded-small b (p .kind) rd h))
+          (subst (λ (x : Bounded). boundaryNumber (x .boundary) < 0x4000) (sym eu) (bounded-small b (p .kind) rd h))
 
   -- ---- what is read there tells it
 
@@ -144,7 +144,7 @@ module _ (s : Settings) (r : Rest) (ws : List ℕ) (good : Good s r ws) (k : ℕ
         let at = unlinking-at s r ws good k p q b e in
         rw em (unlinking-fits p (marked q) (omega (arith, at .request .size)) (at .request .own) most (at .request .length-below) b (omega (arith, at .boundary-below)))
 
-    pub finish-fits : p .next < 2 ^ 64 → SlotFits (encoded (Idle p))
-    finish-fits most =
+    pub finish-fits : p .next < 2 ^ 64 → (t : Bool) (n : Pipe) → n ≡ withToggle p t → SlotFits (encoded (Idle n))
+    finish-fits most t n en =
         let at = unlinking-at s r ws good k p q b e .request in
-        idle-fits p (omega (arith, at .size)) (at .next-least) most
+        subst (λ (m : Pipe). SlotFits (encoded (Idle m))) (sym en) (idle-fits (withToggle p t) (omega (arith, at .size)) (at .next-least) most)

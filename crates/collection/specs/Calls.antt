@@ -10,7 +10,7 @@ use Rattle.pool.specs.declared.chain.View.{View}
 use Rattle.state.specs.Plain.{Ehci}
 use Rattle.state.specs.State.{withOwner}
 use Rattle.common.specs.Answers.{Check, first, settle}
-use Rattle.pipe.specs.Endpoints.{endpointAt, withEndpoint}
+use Rattle.pipe.specs.Endpoints.{endpointAt, withEndpoint, withToggle}
 use Rattle.controller.specs.Lent.{acceptsOf, lengths}
 use Rattle.controller.specs.Readers.{isOpen, isUncollected}
 use Rattle.common.specs.declared.answer.Answer.the-variants.{Done}
@@ -27,6 +27,7 @@ use Rattle.collection.specs.Plain.{Cancellation}
 use Rattle.collection.specs.Plain.{Collection}
 use Rattle.collection.specs.Answers.{outcomeOf, pendingCollect, pendingOf, refusedCancel, refusedCollect}
 use Rattle.collection.specs.Unlinks.{Left, left, passedBoundary, unlinkOf}
+use Rattle.token.specs.Overlay.{keptToggle}
 
 -- a linked slot while 32 unlinks are unanswered: there are 31 other slots, so no run from opening comes to it (docs/DECISIONS.md, 13)
 abbrev pub crowdedAt : Endpoint → ℕ → Bool
@@ -148,12 +149,16 @@ collectChecks s lent slot id =
     ∷ (wrongId s slot id, InvalidEndpoint)
     ∷ []
 
+-- 02 order 6: "The passing collect call is given the head's overlay token .. and keeps its bit 31"
+abbrev pub keeping : Readings → Pipe → Pipe
+keeping readings p = withToggle p (keptToggle (readings .overlay))
+
 abbrev pub collectAt : Endpoint → Ehci → List ℕ → List ℕ → Readings → View → ℕ → Gathered
 collectAt Closed s heads frames readings view slot = gathered (refusedCollect s InvalidEndpoint) heads frames
 collectAt (Idle p) s heads frames readings view slot = gathered (pendingCollect s) heads frames
 collectAt (Linked p r) s heads frames readings view slot = linkedOf s heads frames readings (view .stage) slot p r
 collectAt (Unlinking p r b) s heads frames readings view slot =
-    withFrames (unlinkingOf s heads (readings .frame) view slot p r b) frames
+    withFrames (unlinkingOf s heads (readings .frame) view slot (keeping readings p) r b) frames
 
 unfoldable pub collectOf : Ehci → ℕ → List ℕ → List ℕ → ℕ → Readings → View → ℕ → ℕ → Gathered
 collectOf s pool heads frames setups readings view slot id =

@@ -50,6 +50,7 @@ requestUnder limit length phase kind cancel boundary unanswered =
       phases = phase ∷ replicate 31 0;
       kinds = kind ∷ replicate 31 0;
       sizes = 512 ∷ replicate 31 0;
+      toggles = replicate 32 0;
       ids = 2 ∷ replicate 31 1;
       requests = 1 ∷ replicate 31 0;
       directions = 1 ∷ replicate 31 0;
@@ -73,8 +74,11 @@ ringOfOne = 0x200082 ∷ (replicate 16 0 ++ (0x200002 ∷ replicate 33 7))
 abbrev pub noFrames : List ℕ
 noFrames = replicate 1024 1
 
+abbrev pub reading : ℕ → ℕ → Readings
+reading frame overlay = record { command = 0x31; frame = frame; overlay = overlay }
+
 abbrev pub readings : ℕ → Readings
-readings frame = record { command = 0x31; frame = frame }
+readings frame = reading frame 0
 
 abbrev pub seen : ℕ → ℕ → ℕ → View
 seen stage failed moved = record { stage = stage; failed = failed; moved = moved }
@@ -107,3 +111,7 @@ abbrev pub collectRow : Gathered → List ℕ
 collectRow g =
     collectedNumber (g .came .answer) ∷ collectedValue (g .came .answer) ∷ g .came .writes .count
     ∷ getD (g .rows .heads) 0 0 ∷ getD (g .rows .heads) 21 0 ∷ stateRow (g .came .state)
+
+-- slot 0's toggle after a collect that is given that token of the overlay
+abbrev pub toggleRow : Ehci → ℕ → View → ℕ → ℕ
+toggleRow s overlay view id = getD (collectOf s 5 ringOfOne noFrames 16 (reading 0 overlay) view 0 id .came .state .toggles) 0 0

@@ -107,8 +107,7 @@ pub fn collect(
             if own != id {
                 return refuse_collect(core.rest, Refusal::InvalidEndpoint);
             }
-            let frame = readings.frame;
-            collect_unlinking(core, slots, heads, frame, seen, slot, p, r, b)
+            collect_unlinking(core, slots, heads, readings, seen, slot, p, r, b)
         }
     }
 }

@@ -89,7 +89,7 @@ address-reads c a =
     }
 
 -- another packet size, and nothing else
-pub packet-reads : (c s : ℕ) → s < 256
+pub packet-reads : (c s : ℕ) → s < 2048
     → Characteristics (withPacketSize c s) (deviceAddress c) (inactivateOnNext c) (endpointNumber c) (endpointSpeed c)
     (toggleControl c) (headOfList c) (max s 8) (controlEndpoint c) (nakReload c)
 packet-reads c s hs =

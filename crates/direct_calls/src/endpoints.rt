@@ -1,12 +1,12 @@
-// The calls on endpoints. The next address is of the core alone; each of the others is lent the slots and the heads.
+// The calls on endpoints. The next address is of the core alone, clear halt is lent the slots, each of the others the slots and the heads.
 ghost use mathlib.Core.Path.{_≡_};
 ghost use Rattle.controller.specs.Address.{allotOf};
 ghost use Rattle.controller.specs.Words.{allottedView};
-ghost use Rattle.endpoint.specs.Calls.{changeLeft, closeOf, openEndpointOf, openLeft, setAddressOf, setPacketSizeOf};
+ghost use Rattle.endpoint.specs.Calls.{changeLeft, clearHaltOf, closeOf, openEndpointOf, openLeft, setAddressOf, setPacketSizeOf};
 ghost use Rattle.endpoint.specs.Words.{changedView, openedView};
 ghost use Rattle.words.specs.View.{view};
 ghost use Rattle.direct_calls.specs.Refusals.{refusedAllotment, refusedChange, refusedEndpoint};
-ghost use Rattle.direct_calls.specs.Shapes.{CoreCall, HeadsCall};
+ghost use Rattle.direct_calls.specs.Shapes.{CoreCall, HeadsCall, SlotsCall};
 use crate::takes::takes_heads;
 use common::answer::Answer;
 use common::answer::Refusal;
@@ -16,6 +16,7 @@ use controller::calls::Allotted;
 use endpoint::calls::Change;
 use endpoint::calls::EndpointOpening;
 use endpoint::calls::Opened;
+use word_ranges::judge::words_good;
 use word_ranges::scalars::core_good;
 use words::core::Core;
 use words::core::Rest;
@@ -57,7 +58,7 @@ pub fn open_endpoint(
     endpoint::calls::open_endpoint(core, slots, heads, kind, address, number, packet)
 }
 
-// What close, set address and set packet size leave of what is not in its ranges.
+// What close, set address, set packet size and clear halt leave of what is not in its ranges.
 fn refuse(rest: Rest) -> Change
     ensures { λ r. ⌜ r ≡ refusedChange rest ⌝ }
 {
@@ -108,4 +109,15 @@ pub fn set_packet_size(
         return refuse(core.rest);
     }
     endpoint::calls::set_packet_size(core, slots, heads, slot, size)
+}
+
+// Judges the slots alone, as it is lent no heads.
+pub fn clear_halt(core: Core, slots: &mut [u64], slot: u8) -> Change
+    ensures { λ r. ⌜ SlotsCall core (now (slots .entry)) (now (slots .exit)) r (refusedChange (core .rest)) (r .rest)
+        (changedView (core .settings) r (now (slots .exit))) (λ s. clearHaltOf s slot) ⌝ }
+{
+    if !words_good(core, slots) {
+        return refuse(core.rest);
+    }
+    endpoint::calls::clear_halt(core, slots, slot)
 }

@@ -28,14 +28,14 @@ use Rattle.controller.specs.Plain.{Allotment}
 use Rattle.controller.specs.declared.lent.Readings.{Readings}
 use Rattle.schedule.specs.Bell.{bellOf}
 use Rattle.schedule.specs.Links.{detachOf, endedOverlay}
-use Rattle.endpoint.specs.Calls.{ChangeLeft, OpenLeft, changeOf, closeOf, fieldsGood, openChecks, openEndpointOf, setAddressOf, setPacketSizeOf, slotChecks, raisedGood}
+use Rattle.endpoint.specs.Calls.{ChangeLeft, OpenLeft, changeOf, closeOf, fieldsGood, openChecks, openEndpointOf, setAddressOf, setPacketSizeOf, slotChecks, raisedGood, clearChecks, clearHaltOf}
 use Rattle.request.specs.Submit.{acceptedWith, refusedSubmit, settledSubmit, submitChecks, submitOf}
 use Rattle.request.specs.Writeback.{refusedWriteback, writebackChecks, writebackOf}
 use Rattle.request.specs.Plain.{WrittenBack}
 use Rattle.request.specs.declared.judge.TransferRequest.{TransferRequest}
 use Rattle.collection.specs.Answers.{outcomeOf, pendingCollect}
 use Rattle.collection.specs.declared.collected.Collected.the-variants.{Complete, Failed as FailedCollect}
-use Rattle.collection.specs.Calls.{Gathered, cancelAt, cancelChecks, cancelOf, collectAt, collectChecks, collectOf, endIf, ended, finishOf, gathered, linkedOf, marked, pendingLeft, unlinkingOf, withFrames as gatheredFrames}
+use Rattle.collection.specs.Calls.{Gathered, cancelAt, cancelChecks, cancelOf, collectAt, collectChecks, collectOf, endIf, ended, finishOf, gathered, keeping, linkedOf, marked, pendingLeft, unlinkingOf, withFrames as gatheredFrames}
 use Rattle.collection.specs.Unlinks.{Left, isMissing, passedBoundary, unlinkOf, waitingOf}
 use Rattle.interrupt.specs.Interrupts.{acknowledgeOf, disableOf, drainIf, drainOf, enableOf, heardIf, rearmIf, rearmOf, settledOr, clearedOf, countedOf}
 use Rattle.interrupt.specs.declared.drain.Cleared.{Cleared}
@@ -47,15 +47,16 @@ use Rattle.bring_up.specs.BringUp.{againOf, anyUncollected, onwardOf, ready, re
 use Rattle.bring_up.specs.Plain.{BroughtUp}
 use Rattle.bring_up.specs.declared.stage.Stage.{Stage}
 use Rattle.ehci.specs.declared.call.Call.{Call}
-use Rattle.ehci.specs.declared.call.Call.the-variants.{StartBringUp, BringUpStep, AllocateAddress, OpenEndpoint, Close, SetAddress, SetPacketSize, Submit, Writeback, Cancel, Collect, Acknowledge, Drain, Rearm, Enable, Disable}
+use Rattle.ehci.specs.declared.call.Call.the-variants.{StartBringUp, BringUpStep, AllocateAddress, OpenEndpoint, Close, SetAddress, SetPacketSize, Submit, Writeback, Cancel, Collect, Acknowledge, Drain, Rearm, Enable, Disable, ClearHalt}
 use Rattle.ehci.specs.declared.call.EndpointFields.{EndpointFields}
 use Rattle.ehci.specs.declared.call.InterruptReadings.{InterruptReadings}
 use Rattle.ehci.specs.declared.reply.Answered.{Answered}
 use Rattle.ehci.specs.declared.reply.Answered.the-variants.{Done, Pending, Cancelled, Failed, Refused}
 use Rattle.ehci.specs.Replies.{broughtReply, changedReply, collectedAnswer, drainedAnswer, refusedReply, replied, settledReply}
-use Rattle.ehci.specs.Decides.{Outcome, acknowledgeDecided, acknowledgeReply, addressDecided, allotDecided, allotReply, callOf, came, cancelCame, cancelDecided, changeCame, closeDecided, collectCame, collectDecided, decideOf, drainDecided, drainReply, fitting, openCame, openDecided, packetDecided, submitCame, submitDecided, withFrames, withSetups, writebackDecided, writtenReply}
+use Rattle.ehci.specs.Decides.{Outcome, acknowledgeDecided, acknowledgeReply, addressDecided, allotDecided, allotReply, callOf, came, cancelCame, cancelDecided, changeCame, clearDecided, closeDecided, collectCame, collectDecided, decideOf, drainDecided, drainReply, fitting, openCame, openDecided, packetDecided, submitCame, submitDecided, withFrames, withSetups, writebackDecided, writtenReply}
 use Rattle.ehci.specs.Refusals.{leftBy}
 use Rattle.ehci.proofs.Counts.{acknowledged-few, bounded-few, counted-few, none-few, one-few, stage-few}
+use Rattle.endpoint.specs.Plain.{Change}
 
 -- ---- checks that never answer 7
 
@@ -196,6 +197,11 @@ module _ (s : Ehci) (hs fs us : List ℕ) where
   unfolding packetDecided setPacketSizeOf
   packet-fair n k size = change-fair n k (raisedGood s k size) _ _
 
+  clear-fair : (k : ℕ) → Fair (came (clearDecided s k) hs fs us)
+  unfolding clearDecided clearHaltOf changedReply refusedReply replied
+  clear-fair k =
+      settle-fair (λ (c : Change). came (changedReply c) hs fs us) (clearChecks s k) _ _ refl (λ r. refl) (result-fair _ refl none-few)
+
   -- ---- requests
 
   submit-fair : (n : ℕ) (readings : Readings) (k : ℕ) (t : TransferRequest) → Fair (submitDecided s n hs fs us readings k t)
@@ -267,7 +273,7 @@ module _ (s : Ehci) (hs fs us : List ℕ) where
     collect-at v Closed = refused-fair InvalidEndpoint refl
     collect-at v (Idle p) = result-fair _ refl none-few
     collect-at v (Linked p r) = linked-fair (v .stage) p r
-    collect-at v (Unlinking p r u) = unlinking-fair v p r u
+    collect-at v (Unlinking p r u) = unlinking-fair v (keeping readings p) r u
 
     collect-fair : (v : View) → Fair (withSetups (collectDecided s n hs fs (length us) readings v k id) us)
     unfolding collectDecided collectOf refusedReply replied
@@ -348,6 +354,7 @@ module _ (s : Ehci) (hs fs us : List ℕ) where
   call-fair n v Rearm = rearm-fair
   call-fair n v Enable = enable-fair
   call-fair n v Disable = disable-fair
+  call-fair n v (ClearHalt k) = clear-fair k
 
   pub decided-fair : (n : ℕ) (v : View) (call : Call) → Fair (decideOf s n hs fs us v call)
   unfolding decideOf

@@ -25,6 +25,7 @@ use Rattle.controller.specs.declared.calls.Allotment.{Allotment}
 use Rattle.controller.specs.Plain.{Lengths}
 use Rattle.controller.specs.declared.lent.Readings.{Readings}
 use Rattle.endpoint.specs.Calls.{ChangeLeft, changeLeft, openEndpointOf, openLeft}
+use Rattle.endpoint.specs.Plain.{Change as ChangePlain}
 use Rattle.endpoint.specs.Words.{changedView, openedView}
 use Rattle.endpoint.specs.declared.calls.Change.{Change}
 use Rattle.endpoint.specs.declared.calls.EndpointOpening.{EndpointOpening}
@@ -186,6 +187,10 @@ module _ (c : Core) (d : Decided) (ws : List ℕ) where
   pub settled-view : (x : Settled) (y : SettledPlain) → d ≡ settledWords x → settledView (c .settings) x ws ≡ y → decidedView (c .settings) d ws ≡ settledReply y
   unfolding settledReply
   settled-view x y e f = left-view (c .settings) d _ _ _ ws e ∙ ap settledReply f
+
+  pub slot-view : (x : Change) (y : ChangePlain) → d ≡ changedWords x → changedView (c .settings) x ws ≡ y → decidedView (c .settings) d ws ≡ changedReply y
+  unfolding changedReply
+  slot-view x y e f = left-view (c .settings) d _ _ _ ws e ∙ ap changedReply f
 
   pub changed-view : (h : List ℕ) (x : Change) (y : ChangeLeft) → d ≡ changedWords x → changeLeft (changedView (c .settings) x ws) h ≡ y
       → headsCame (decidedView (c .settings) d ws) h ≡ changeCame y

@@ -15,7 +15,7 @@ use Rattle.controller.specs.Plain.{Lengths}
 use Rattle.controller.specs.declared.lent.Readings.{Readings}
 use Rattle.controller.specs.Address.{allotOf}
 use Rattle.controller.specs.Lent.{lengths}
-use Rattle.endpoint.specs.Calls.{ChangeLeft, OpenLeft, closeOf, openEndpointOf, setAddressOf, setPacketSizeOf}
+use Rattle.endpoint.specs.Calls.{ChangeLeft, OpenLeft, clearHaltOf, closeOf, openEndpointOf, setAddressOf, setPacketSizeOf}
 use Rattle.request.specs.Plain.{WrittenBack}
 use Rattle.request.specs.declared.judge.TransferRequest.{TransferRequest}
 use Rattle.request.specs.Submit.{Outcome as SubmitOutcome, submitOf}
@@ -28,7 +28,7 @@ use Rattle.interrupt.specs.Plain.{Drainage}
 use Rattle.interrupt.specs.Interrupts.{acknowledgeOf, disableOf, drainOf, enableOf, rearmOf}
 use Rattle.bring_up.specs.BringUp.{startOf, stepOf}
 use Rattle.ehci.specs.declared.call.Call.{Call}
-use Rattle.ehci.specs.declared.call.Call.the-variants.{StartBringUp, BringUpStep, AllocateAddress, OpenEndpoint, Close, SetAddress, SetPacketSize, Submit, Writeback, Cancel, Collect, Acknowledge, Drain, Rearm, Enable, Disable}
+use Rattle.ehci.specs.declared.call.Call.the-variants.{StartBringUp, BringUpStep, AllocateAddress, OpenEndpoint, Close, SetAddress, SetPacketSize, Submit, Writeback, Cancel, Collect, Acknowledge, Drain, Rearm, Enable, Disable, ClearHalt}
 use Rattle.ehci.specs.declared.call.EndpointFields.{EndpointFields}
 use Rattle.ehci.specs.declared.call.InterruptReadings.{InterruptReadings}
 use Rattle.ehci.specs.Plain.{Decided}
@@ -87,6 +87,9 @@ addressDecided s pool heads frames setups k a = changeCame (setAddressOf s pool 
 
 unfoldable pub packetDecided : Ehci → ℕ → List ℕ → ℕ → ℕ → ℕ → ℕ → HeadsOutcome
 packetDecided s pool heads frames setups k size = changeCame (setPacketSizeOf s pool heads frames setups k size)
+
+unfoldable pub clearDecided : Ehci → ℕ → Decided
+clearDecided s k = changedReply (clearHaltOf s k)
 
 abbrev pub submitCame : SubmitOutcome → Outcome
 submitCame o =
@@ -164,6 +167,7 @@ callOf s n hs fs us v (Drain w) = came (drainDecided s w) hs fs us
 callOf s n hs fs us v Rearm = came (settledReply (rearmOf s)) hs fs us
 callOf s n hs fs us v Enable = came (settledReply (enableOf s)) hs fs us
 callOf s n hs fs us v Disable = came (settledReply (disableOf s)) hs fs us
+callOf s n hs fs us v (ClearHalt k) = came (clearDecided s k) hs fs us
 
 abbrev pub fitting : Bool → Outcome → Outcome → Outcome
 fitting true a b = a
@@ -194,3 +198,4 @@ asksOf s n (Drain w) = noAsk
 asksOf s n Rearm = noAsk
 asksOf s n Enable = noAsk
 asksOf s n Disable = noAsk
+asksOf s n (ClearHalt k) = noAsk

@@ -37,4 +37,5 @@ pub enum Call {
     Rearm,
     Enable,
     Disable,
+    ClearHalt(u8),
 }

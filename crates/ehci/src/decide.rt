@@ -40,6 +40,7 @@ use collection::calls::collect;
 use common::answer::Refusal;
 use controller::calls::allocate_address;
 use controller::lent::Readings;
+use endpoint::calls::clear_halt;
 use endpoint::calls::close;
 use endpoint::calls::open_endpoint;
 use endpoint::calls::set_address;
@@ -294,5 +295,6 @@ pub fn decide(
         Call::Rearm => of_settled(rearm(core)),
         Call::Enable => of_settled(enable(core)),
         Call::Disable => of_settled(disable(core)),
+        Call::ClearHalt(slot) => of_change(clear_halt(core, slots, slot)),
     }
 }

@@ -64,6 +64,7 @@ fn asks(core: Core, slots: &[u64], good: bool, call: Call) -> AskWords
         Call::Rearm => no_ask_words(),
         Call::Enable => no_ask_words(),
         Call::Disable => no_ask_words(),
+        Call::ClearHalt(_) => no_ask_words(),
     }
 }
 

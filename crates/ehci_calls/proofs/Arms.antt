@@ -1,4 +1,4 @@
--- Each of the thirteen calls that are made directly is its arm of `apply`, for any result that meets its contract.
+-- Each of the fourteen calls that are made directly is its arm of `apply`, for any result that meets its contract.
 use Prim.Native.Nat.{ℕ}
 use mathlib.Core.Path.{refl}
 use mathlib.Core.List.{List}
@@ -9,7 +9,7 @@ use Rattle.controller.specs.Address.{allotOf}
 use Rattle.controller.specs.Words.{allottedView}
 use Rattle.controller.specs.declared.calls.Allotment.{Allotment}
 use Rattle.controller.specs.declared.lent.Readings.{Readings}
-use Rattle.endpoint.specs.Calls.{changeLeft, closeOf, openEndpointOf, openLeft, setAddressOf, setPacketSizeOf}
+use Rattle.endpoint.specs.Calls.{changeLeft, clearHaltOf, closeOf, openEndpointOf, openLeft, setAddressOf, setPacketSizeOf}
 use Rattle.endpoint.specs.Words.{changedView, openedView}
 use Rattle.endpoint.specs.declared.calls.Change.{Change}
 use Rattle.endpoint.specs.declared.calls.EndpointOpening.{EndpointOpening}
@@ -27,10 +27,10 @@ use Rattle.bring_up.specs.Words.{broughtView, refusedWords}
 use Rattle.bring_up.specs.declared.answers.BroughtUp.{BroughtUp}
 use Rattle.direct_calls.specs.Refusals.{refusedAcknowledgement, refusedAllotment, refusedChange, refusedDrainage, refusedEndpoint, refusedSettled}
 use Rattle.direct_calls.specs.Shapes.{CoreCall, FramesCall, HeadsCall, SlotsCall}
-use Rattle.ehci.specs.declared.call.Call.the-variants.{StartBringUp, BringUpStep, AllocateAddress, OpenEndpoint, Close, SetAddress, SetPacketSize, Cancel, Acknowledge, Drain, Rearm, Enable, Disable}
+use Rattle.ehci.specs.declared.call.Call.the-variants.{StartBringUp, BringUpStep, AllocateAddress, OpenEndpoint, Close, SetAddress, SetPacketSize, Cancel, Acknowledge, Drain, Rearm, Enable, Disable, ClearHalt}
 use Rattle.ehci.specs.declared.call.EndpointFields.{EndpointFields}
 use Rattle.ehci.specs.declared.call.InterruptReadings.{InterruptReadings}
-use Rattle.ehci.specs.Decides.{acknowledgeDecided, acknowledgeReply, addressDecided, allotDecided, allotReply, cancelCame, cancelDecided, changeCame, closeDecided, drainDecided, drainReply, openCame, openDecided, packetDecided}
+use Rattle.ehci.specs.Decides.{acknowledgeDecided, acknowledgeReply, addressDecided, allotDecided, allotReply, cancelCame, cancelDecided, changeCame, clearDecided, closeDecided, drainDecided, drainReply, openCame, openDecided, packetDecided}
 use Rattle.ehci.specs.Replies.{broughtReply, changedReply, settledReply}
 use Rattle.ehci.specs.WordsDecides.{broughtWords, changedWords, settledWords}
 use Rattle.ehci_calls.specs.Arms.{CoreArm, FramesArm, HeadsArm, SlotsArm, acknowledgedReply, allottedReply, cancelledReply, drainedReply, openedReply}
@@ -79,6 +79,14 @@ module _ (c : Core) where
     close-is-apply r k does =
         heads-is-apply c r _ _ (Close k) (λ x. changedWords x .reply) refl ws ws′ _ heads heads′ _ changeCame does (λ n fs us v. refl) refl
 
+    pub packet-is-apply : (r : Change) (k size : ℕ)
+        → HeadsCall c ws ws′ heads heads′ r (refusedChange (c .rest)) (r .rest) (changeLeft (changedView (c .settings) r ws′) heads′)
+        (λ pool frames setups. setPacketSizeOf (view c ws) pool heads frames setups k size)
+        → HeadsArm c ws ws′ heads heads′ (SetPacketSize k size) (changedWords r .reply)
+    unfolding packetDecided changedReply
+    packet-is-apply r k size does =
+        heads-is-apply c r _ _ (SetPacketSize k size) (λ x. changedWords x .reply) refl ws ws′ _ heads heads′ _ changeCame does (λ n fs us v. refl) refl
+
   module _ (ws heads heads′ : List ℕ) where
     pub address-is-apply : (r : Change) (k a : ℕ)
         → HeadsCall c ws ws heads heads′ r (refusedChange (c .rest)) (r .rest) (changeLeft (changedView (c .settings) r ws) heads′)
@@ -88,13 +96,12 @@ module _ (c : Core) where
     address-is-apply r k a does =
         heads-is-apply c r _ _ (SetAddress k a) (λ x. changedWords x .reply) refl ws ws _ heads heads′ _ changeCame does (λ n fs us v. refl) refl
 
-    pub packet-is-apply : (r : Change) (k size : ℕ)
-        → HeadsCall c ws ws heads heads′ r (refusedChange (c .rest)) (r .rest) (changeLeft (changedView (c .settings) r ws) heads′)
-        (λ pool frames setups. setPacketSizeOf (view c ws) pool heads frames setups k size)
-        → HeadsArm c ws ws heads heads′ (SetPacketSize k size) (changedWords r .reply)
-    unfolding packetDecided changedReply
-    packet-is-apply r k size does =
-        heads-is-apply c r _ _ (SetPacketSize k size) (λ x. changedWords x .reply) refl ws ws _ heads heads′ _ changeCame does (λ n fs us v. refl) refl
+  pub clear-is-apply : (ws ws′ : List ℕ) (r : Change) (k : ℕ)
+      → SlotsCall c ws ws′ r (refusedChange (c .rest)) (r .rest) (changedView (c .settings) r ws′) (λ s. clearHaltOf s k)
+      → SlotsArm c ws ws′ (ClearHalt k) (changedWords r .reply)
+  unfolding clearDecided changedReply
+  clear-is-apply ws ws′ r k does =
+      slots-is-apply c r _ _ (ClearHalt k) (λ x. changedWords x .reply) refl ws ws′ _ (λ s. clearHaltOf s k) changedReply does (λ s n hs fs us v. refl) refl
 
   -- ---- requests
 

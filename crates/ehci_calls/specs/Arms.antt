@@ -1,4 +1,4 @@
--- The thirteen calls that are made directly, held to the door: each leaves what `apply` leaves of its `Call`, where `apply` accepts the words and
+-- The fourteen calls that are made directly, held to the door: each leaves what `apply` leaves of its `Call`, where `apply` accepts the words and
 -- where the call refuses what it is lent. Between the two `apply` refuses what the call is not lent, and so does not judge.
 use Prim.Native.Nat.{ℕ}
 use mathlib.Core.Path.{_≡_}

@@ -1,2 +1,2 @@
-// The three calls that are lent the pool's records, by name, each over `ehci`'s one door. The other thirteen are crate `direct_calls`.
+// The three calls that are lent the pool's records, by name, each over `ehci`'s one door. The other fourteen are crate `direct_calls`.
 pub mod requests;

@@ -64,7 +64,7 @@ unfolding sizeGood
 size-is limit kind p control e = rw (e, control-none kind)
 
 -- the endpoint with the size that is given
-pub size-given : (p : Pipe) (x n : ℕ) → n ≡ x → record { kind = p .kind; size = n; next = p .next } ≡ withSize p x
+pub size-given : (p : Pipe) (x n : ℕ) → n ≡ x → record { kind = p .kind; size = n; toggle = p .toggle; next = p .next } ≡ withSize p x
 size-given p x n e = rw e
 
 module _ (limit : ℕ) (kind : EndpointType) (a n p : ℕ) where

@@ -308,7 +308,7 @@ module _ (s : Ehci) (pool : ℕ) (h : List ℕ) (f u k : ℕ) where
       subst
       (λ (v : ℕ). Characteristics v (deviceAddress was) (inactivateOnNext was) (endpointNumber was) (endpointSpeed was)
       (toggleControl was) (headOfList was) (max x 8) (controlEndpoint was) (nakReload was))
-      (sym (size-tells s pool h f u k x e .written .word)) (packet-reads was x lt)
+      (sym (size-tells s pool h f u k x e .written .word)) (packet-reads was x (omega (arith, lt)))
 
 -- the arrays of the state keep their lengths
 module _ (s : Ehci) (pool : ℕ) (h : List ℕ) (f u k : ℕ) (w : Wide s) where

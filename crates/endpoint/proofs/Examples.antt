@@ -9,7 +9,7 @@ use Rattle.common.specs.declared.kinds.EndpointType.the-variants.{Control, Isoc
 use Rattle.descriptor.specs.Descriptors.{terminated}
 use Rattle.descriptor.specs.Heads.{endpointHead}
 use Rattle.settings.specs.Settings.{settingsGood, numbersGood, eachGood, noOverlap, areaGood, apartAreas}
-use Rattle.slot.specs.Ranges.{slotGood, sizeKept, sizeGood, phaseGood, closedGood, idleGood, linkedGood, noRequest, openKind}
+use Rattle.slot.specs.Ranges.{slotGood, sizeKept, toggleKept, sizeGood, phaseGood, closedGood, idleGood, linkedGood, noRequest, openKind}
 use Rattle.state.specs.Plain.{Ehci}
 use Rattle.state.specs.Ranges.{inRanges, restGood, machineGood, interruptGood, doorbellGood, ownerGood, largest, slotsGood}
 use Rattle.state.specs.Slots.{slotAt, withSlot}
@@ -22,8 +22,8 @@ use Rattle.opening.specs.Opening.{freshState, rowsFit}
 use Rattle.common.specs.Rows.{putAt}
 use Rattle.endpoint.specs.declared.calls.Opened.the-variants.{Slot}
 use Rattle.endpoint.specs.Lowest.{closedFrom}
-use Rattle.endpoint.specs.Calls.{changeLeft, ChangeLeft, closeOf, fieldsGood, openChecks, openedNumber, openEndpointOf, openLeft, OpenLeft, setAddressOf, setPacketSizeOf, slotChecks}
-use Rattle.endpoint.specs.Examples.{blank, bothOpen, bulkHead, closedAt, headsOf, interruptHead, noneOpen, oneBusy, oneOpen, opened, tightBusy, tightHead, tightOpen, twoSlots, twoWith}
+use Rattle.endpoint.specs.Calls.{changeLeft, ChangeLeft, clearHaltOf, closeOf, fieldsGood, openChecks, openedNumber, openEndpointOf, openLeft, OpenLeft, setAddressOf, setPacketSizeOf, slotChecks}
+use Rattle.endpoint.specs.Examples.{blank, bothOpen, bulkHead, closedAt, headsOf, interruptHead, noneOpen, oneBusy, oneOdd, oneOpen, opened, tightBusy, tightHead, tightOpen, twoSlots, twoWith}
 
 -- the lengths that fit two slots
 abbrev fits : Lengths
@@ -34,35 +34,35 @@ unfolding freshState twoWith
 fresh-is = refl
 
 none-accepted : acceptsOf noneOpen fits ≡ true
-unfolding twoWith acceptsOf rowsFit inRanges restGood machineGood interruptGood doorbellGood ownerGood largest slotsGood slotGood sizeKept sizeGood phaseGood closedGood idleGood linkedGood noRequest openKind settingsGood numbersGood eachGood noOverlap areaGood apartAreas slotAt withoutBits
+unfolding twoWith acceptsOf rowsFit inRanges restGood machineGood interruptGood doorbellGood ownerGood largest slotsGood slotGood sizeKept toggleKept sizeGood phaseGood closedGood idleGood linkedGood noRequest openKind settingsGood numbersGood eachGood noOverlap areaGood apartAreas slotAt withoutBits
 none-accepted = refl
 
 one-accepted : acceptsOf oneOpen fits ≡ true
-unfolding twoWith acceptsOf rowsFit inRanges restGood machineGood interruptGood doorbellGood ownerGood largest slotsGood slotGood sizeKept sizeGood phaseGood closedGood idleGood linkedGood noRequest openKind settingsGood numbersGood eachGood noOverlap areaGood apartAreas slotAt withoutBits
+unfolding twoWith acceptsOf rowsFit inRanges restGood machineGood interruptGood doorbellGood ownerGood largest slotsGood slotGood sizeKept toggleKept sizeGood phaseGood closedGood idleGood linkedGood noRequest openKind settingsGood numbersGood eachGood noOverlap areaGood apartAreas slotAt withoutBits
 one-accepted = refl
 
 both-accepted : acceptsOf bothOpen fits ≡ true
-unfolding twoWith acceptsOf rowsFit inRanges restGood machineGood interruptGood doorbellGood ownerGood largest slotsGood slotGood sizeKept sizeGood phaseGood closedGood idleGood linkedGood noRequest openKind settingsGood numbersGood eachGood noOverlap areaGood apartAreas slotAt withoutBits
+unfolding twoWith acceptsOf rowsFit inRanges restGood machineGood interruptGood doorbellGood ownerGood largest slotsGood slotGood sizeKept toggleKept sizeGood phaseGood closedGood idleGood linkedGood noRequest openKind settingsGood numbersGood eachGood noOverlap areaGood apartAreas slotAt withoutBits
 both-accepted = refl
 
 busy-accepted : acceptsOf oneBusy fits ≡ true
-unfolding twoWith acceptsOf rowsFit inRanges restGood machineGood interruptGood doorbellGood ownerGood largest slotsGood slotGood sizeKept sizeGood phaseGood closedGood idleGood linkedGood noRequest openKind settingsGood numbersGood eachGood noOverlap areaGood apartAreas slotAt withoutBits
+unfolding twoWith acceptsOf rowsFit inRanges restGood machineGood interruptGood doorbellGood ownerGood largest slotsGood slotGood sizeKept toggleKept sizeGood phaseGood closedGood idleGood linkedGood noRequest openKind settingsGood numbersGood eachGood noOverlap areaGood apartAreas slotAt withoutBits
 busy-accepted = refl
 
 closed-accepted-1000 : acceptsOf (closedAt 1000) fits ≡ true
-unfolding twoWith acceptsOf rowsFit inRanges restGood machineGood interruptGood doorbellGood ownerGood largest slotsGood slotGood sizeKept sizeGood phaseGood closedGood idleGood linkedGood noRequest openKind settingsGood numbersGood eachGood noOverlap areaGood apartAreas slotAt withoutBits
+unfolding twoWith acceptsOf rowsFit inRanges restGood machineGood interruptGood doorbellGood ownerGood largest slotsGood slotGood sizeKept toggleKept sizeGood phaseGood closedGood idleGood linkedGood noRequest openKind settingsGood numbersGood eachGood noOverlap areaGood apartAreas slotAt withoutBits
 closed-accepted-1000 = refl
 
 closed-accepted-8 : acceptsOf (closedAt 8) fits ≡ true
-unfolding twoWith acceptsOf rowsFit inRanges restGood machineGood interruptGood doorbellGood ownerGood largest slotsGood slotGood sizeKept sizeGood phaseGood closedGood idleGood linkedGood noRequest openKind settingsGood numbersGood eachGood noOverlap areaGood apartAreas slotAt withoutBits
+unfolding twoWith acceptsOf rowsFit inRanges restGood machineGood interruptGood doorbellGood ownerGood largest slotsGood slotGood sizeKept toggleKept sizeGood phaseGood closedGood idleGood linkedGood noRequest openKind settingsGood numbersGood eachGood noOverlap areaGood apartAreas slotAt withoutBits
 closed-accepted-8 = refl
 
 tight-accepted : acceptsOf tightOpen fits ≡ true
-unfolding twoWith acceptsOf rowsFit inRanges restGood machineGood interruptGood doorbellGood ownerGood largest slotsGood slotGood sizeKept sizeGood phaseGood closedGood idleGood linkedGood noRequest openKind settingsGood numbersGood eachGood noOverlap areaGood apartAreas slotAt withoutBits
+unfolding twoWith acceptsOf rowsFit inRanges restGood machineGood interruptGood doorbellGood ownerGood largest slotsGood slotGood sizeKept toggleKept sizeGood phaseGood closedGood idleGood linkedGood noRequest openKind settingsGood numbersGood eachGood noOverlap areaGood apartAreas slotAt withoutBits
 tight-accepted = refl
 
 tight-busy-accepted : acceptsOf tightBusy fits ≡ true
-unfolding twoWith acceptsOf rowsFit inRanges restGood machineGood interruptGood doorbellGood ownerGood largest slotsGood slotGood sizeKept sizeGood phaseGood closedGood idleGood linkedGood noRequest openKind settingsGood numbersGood eachGood noOverlap areaGood apartAreas slotAt withoutBits
+unfolding twoWith acceptsOf rowsFit inRanges restGood machineGood interruptGood doorbellGood ownerGood largest slotsGood slotGood sizeKept toggleKept sizeGood phaseGood closedGood idleGood linkedGood noRequest openKind settingsGood numbersGood eachGood noOverlap areaGood apartAreas slotAt withoutBits
 tight-busy-accepted = refl
 
 -- ---- open endpoint
@@ -198,3 +198,49 @@ size-closed size = rw one-accepted
 pub size-busy : (size : ℕ) → answered (setPacketSizeOf tightBusy 17 (headsOf tightHead blank) 1024 16 0 size) ≡ 4
 unfolding twoWith setPacketSizeOf slotChecks endpointAt decoded slotAt
 size-busy size = rw tight-busy-accepted
+
+-- ---- the toggle: 1 after an odd number of packets, 0 when the halt is cleared and when the slot is closed
+
+odd-accepted : acceptsOf oneOdd fits ≡ true
+unfolding twoWith withEndpoint withSlot acceptsOf rowsFit inRanges restGood machineGood interruptGood doorbellGood ownerGood largest slotsGood slotGood sizeKept toggleKept sizeGood phaseGood closedGood idleGood linkedGood noRequest openKind settingsGood numbersGood eachGood noOverlap areaGood apartAreas slotAt withoutBits
+odd-accepted = refl
+
+odd-good : inRanges oneOdd ≡ true
+unfolding twoWith withEndpoint withSlot inRanges restGood machineGood interruptGood doorbellGood ownerGood largest slotsGood slotGood sizeKept toggleKept sizeGood phaseGood closedGood idleGood linkedGood noRequest openKind settingsGood numbersGood eachGood noOverlap areaGood apartAreas slotAt withoutBits
+odd-good = refl
+
+busy-good : inRanges oneBusy ≡ true
+unfolding twoWith inRanges restGood machineGood interruptGood doorbellGood ownerGood largest slotsGood slotGood sizeKept toggleKept sizeGood phaseGood closedGood idleGood linkedGood noRequest openKind settingsGood numbersGood eachGood noOverlap areaGood apartAreas slotAt withoutBits
+busy-good = refl
+
+tight-good : inRanges tightOpen ≡ true
+unfolding twoWith inRanges restGood machineGood interruptGood doorbellGood ownerGood largest slotsGood slotGood sizeKept toggleKept sizeGood phaseGood closedGood idleGood linkedGood noRequest openKind settingsGood numbersGood eachGood noOverlap areaGood apartAreas slotAt withoutBits
+tight-good = refl
+
+pub clears-odd : clearHaltOf oneOdd 0 ≡ record { answer = Done; state = oneOpen }
+unfolding twoWith clearHaltOf endpointAt decoded slotAt withEndpoint withSlot
+clears-odd = rw odd-good
+
+pub closes-odd : closeOf oneOdd 17 (headsOf bulkHead blank) 1024 16 0 ≡ changeLeft (record { answer = Done; state = noneOpen }) (headsOf blank blank)
+unfolding twoWith closeOf slotChecks endpointAt decoded slotAt withEndpoint withSlot putAt
+closes-odd = rw odd-accepted
+
+pub sizes-odd : slotAt (setPacketSizeOf oneOdd 17 (headsOf bulkHead blank) 1024 16 0 64 .change .state) 0 .toggle ≡ 1
+unfolding twoWith setPacketSizeOf slotChecks endpointAt decoded slotAt sizeGood withEndpoint withSlot
+sizes-odd = rw odd-accepted
+
+abbrev cleared : Ehci → ℕ → ℕ
+cleared s k = numberOf (clearHaltOf s k .answer)
+
+-- closed, or not there: 3; an uncollected request: 4; control, and a controller that does not run: 0
+pub clears-closed : (cleared oneOdd 1 ≡ 3) × (cleared oneOdd 2 ≡ 3) × (cleared oneOdd 255 ≡ 3)
+unfolding twoWith clearHaltOf endpointAt decoded slotAt withEndpoint withSlot
+clears-closed = (rw odd-good, rw odd-good, rw odd-good)
+
+pub clears-busy : cleared oneBusy 0 ≡ 4
+unfolding twoWith clearHaltOf endpointAt decoded slotAt
+clears-busy = rw busy-good
+
+pub clears-control : cleared tightOpen 1 ≡ 0
+unfolding twoWith clearHaltOf endpointAt decoded slotAt
+clears-control = rw tight-good

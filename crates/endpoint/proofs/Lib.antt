@@ -5,6 +5,8 @@ pub mod Cases
 pub mod WordsCases
 pub mod WordsOpen
 pub mod WordsChange
+pub mod WordsClear
 pub mod OpenLaws
 pub mod ChangeLaws
+pub mod ClearLaws
 pub mod Examples

@@ -129,7 +129,7 @@ module _ (s : Settings) (r : Rest) (ws : List ℕ) (good : Good s r ws) (h : Lis
     pub words-slot-room : 6 * k + 6 ≤ length ws
     words-slot-room = good-room s r ws good k words-within
 
-    had-none : placesAt ws k ≡ noPlaces
+    pub had-none : placesAt ws k ≡ noPlaces
     had-none =
         good .tidy .held k words-within .empty
         (omega (arith, leb-false 2 (phaseIn (wordAt ws k)) (held-word s r ws k (wordAt ws k) good refl ∙ was-idle)))

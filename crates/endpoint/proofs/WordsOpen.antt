@@ -1,7 +1,7 @@
 -- Open endpoint over words: what it is that the slot is chosen, and what is left.
 use Prim.Native.Nat.{ℕ, _+_, _*_, _^_, _≤_, _<_}
 use mathlib.Core.Path.{_≡_, sym, ap, subst, _∙_}
-use mathlib.Core.Bool.{Bool, true}
+use mathlib.Core.Bool.{Bool, false, true}
 use mathlib.Core.List.{List}
 use native.Mathlib.Omega.{arith}
 use lib.ListN.{length}
@@ -69,9 +69,9 @@ module _ (s : Settings) (r : Rest) (ws : List ℕ) (good : Good s r ws) (h : Lis
         (t .0, t .1, t .2 .size-most)
 
     -- whatever the id that it starts with
-    pub opened-fits : (next : ℕ) → 1 ≤ next → next < 2 ^ 64 → SlotFits (encoded (Idle (record { kind = kind; size = p; next = next })))
+    pub opened-fits : (next : ℕ) → 1 ≤ next → next < 2 ^ 64 → SlotFits (encoded (Idle (record { kind = kind; size = p; toggle = false; next = next })))
     opened-fits next least below =
-        idle-fits (record { kind = kind; size = p; next = next }) (omega (arith, opened-fields .2)) least below
+        idle-fits (record { kind = kind; size = p; toggle = false; next = next }) (omega (arith, opened-fields .2)) least below
 
     new-fits : SlotFits (encoded (newEndpoint kind p))
     new-fits = opened-fits 1 (omega arith) (omega arith)

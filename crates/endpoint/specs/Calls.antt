@@ -1,6 +1,6 @@
--- Document 01: open endpoint, close, set address, set packet size.
+-- Document 01: open endpoint, close, set address, set packet size; 02 order 6: clear-halt.
 use Prim.Native.Nat.{ℕ, _+_, _*_, max}
-use mathlib.Core.Bool.{Bool, true, not}
+use mathlib.Core.Bool.{Bool, true, false, not}
 use mathlib.Core.List.{List, [], _∷_}
 use lib.Dec.{leb}
 use lib.ListN.{length, replicate}
@@ -16,7 +16,7 @@ use Rattle.pipe.specs.declared.endpoints.Endpoint.the-variants.{Closed, Idle}
 use Rattle.pipe.specs.declared.endpoints.Pipe.{Pipe}
 use Rattle.controller.specs.Plain.{Lengths}
 use Rattle.common.specs.Answers.{Check, first, refusalNumber, settle}
-use Rattle.pipe.specs.Endpoints.{kindNumber, pipeOf, withEndpoint}
+use Rattle.pipe.specs.Endpoints.{kindNumber, pipeOf, withEndpoint, withToggle}
 use Rattle.slot.specs.Ranges.{sizeGood}
 use Rattle.state.specs.Slots.{slotAt}
 use Rattle.common.specs.Kinds.{isIsochronous}
@@ -29,6 +29,7 @@ use Rattle.endpoint.specs.Plain.{EndpointOpening}
 use Rattle.endpoint.specs.declared.calls.Opened.{Opened}
 use Rattle.endpoint.specs.declared.calls.Opened.the-variants.{Slot, Refused}
 use Rattle.endpoint.specs.Lowest.{lowestClosed}
+use Rattle.state.specs.Ranges.{inRanges}
 
 -- slot k's head is at place k + 1
 abbrev pub withHead : List ℕ → ℕ → List ℕ → List ℕ
@@ -68,9 +69,9 @@ openChecks s lent kind good =
 unfoldable pub chosenOf : Ehci → Lengths → EndpointType → Bool → Opened
 chosenOf s lent kind good = settle (first (openChecks s lent kind good)) Refused (Slot (lowestSlot s))
 
--- "Ids per slot start at 1 when it opens"
+-- "Ids per slot start at 1 when it opens"; 02 order 6: "a toggle bit, 0 at opening"
 abbrev pub newEndpoint : EndpointType → ℕ → Endpoint
-newEndpoint kind packet = Idle (record { kind = kind; size = packet; next = 1 })
+newEndpoint kind packet = Idle (record { kind = kind; size = packet; toggle = false; next = 1 })
 
 unfoldable pub openEndpointOf : Ehci → ℕ → List ℕ → ℕ → ℕ → EndpointType → ℕ → ℕ → ℕ → OpenLeft
 openEndpointOf s pool heads frames setups kind address number packet =
@@ -123,10 +124,23 @@ abbrev pub raisedGood : Ehci → ℕ → ℕ → Bool
 raisedGood s k size = sizeGood (s .settings .limit) (slotAt s k .kind) (max size 8)
 
 abbrev pub withSize : Pipe → ℕ → Pipe
-withSize p size = record { kind = p .kind; size = size; next = p .next }
+withSize p size = record { kind = p .kind; size = size; toggle = p .toggle; next = p .next }
 
 unfoldable pub setPacketSizeOf : Ehci → ℕ → List ℕ → ℕ → ℕ → ℕ → ℕ → ChangeLeft
 setPacketSizeOf s pool heads frames setups k size =
     changeOf s pool heads frames setups k (raisedGood s k size)
     (withEndpoint s k (Idle (withSize (pipeOf (slotAt s k)) (max size 8))))
     (withHeadWord heads (k + 1) 1 (withPacketSize (headWord heads (k + 1) 1) size))
+
+-- ---- clear-halt, which is lent the slots alone
+
+-- "clear-halt answers 3, then 4"
+abbrev pub clearChecks : Ehci → ℕ → List Check
+clearChecks s k = (not (inRanges s), InvalidParameter) ∷ (not (isOpen s k), InvalidEndpoint) ∷ (isUncollected s k, QueueFull) ∷ []
+
+-- "A clear-halt call sets it to 0"
+unfoldable pub clearHaltOf : Ehci → ℕ → Change
+clearHaltOf s k =
+    settle (first (clearChecks s k))
+    (λ r. record { answer = RefusedCall r; state = s })
+    (record { answer = Done; state = withEndpoint s k (Idle (withToggle (pipeOf (slotAt s k)) false)) })

@@ -1,9 +1,13 @@
 -- A controller with two slots, on which the definitions are run.
 use Prim.Native.Nat.{ℕ}
+use mathlib.Core.Bool.{true}
 use mathlib.Core.List.{List, _∷_, _++_}
 use lib.ListN.{replicate}
 use Rattle.settings.specs.declared.settings.Settings.{Settings}
+use Rattle.common.specs.declared.kinds.EndpointType.the-variants.{Bulk}
 use Rattle.state.specs.Plain.{Ehci}
+use Rattle.pipe.specs.Endpoints.{withEndpoint}
+use Rattle.pipe.specs.declared.endpoints.Endpoint.the-variants.{Idle}
 
 -- by the limit C
 abbrev pub twoAt : ℕ → Settings
@@ -42,6 +46,7 @@ twoWith limit phase₀ phase₁ kind₀ kind₁ size₀ size₁ request =
       phases = phase₀ ∷ phase₁ ∷ replicate 30 0;
       kinds = kind₀ ∷ kind₁ ∷ replicate 30 0;
       sizes = size₀ ∷ size₁ ∷ replicate 30 0;
+      toggles = replicate 32 0;
       ids = replicate 32 1;
       requests = request ∷ replicate 31 0;
       directions = replicate 32 0;
@@ -62,6 +67,10 @@ bothOpen = twoWith 16384 1 1 2 3 512 1024 0
 
 abbrev pub oneBusy : Ehci
 oneBusy = twoWith 16384 2 0 2 0 512 0 1
+
+-- slot 0 open for bulk, after an odd number of packets
+abbrev pub oneOdd : Ehci
+oneOdd = withEndpoint oneOpen 0 (Idle (record { kind = Bulk; size = 512; toggle = true; next = 1 }))
 
 -- both closed, by the limit
 abbrev pub closedAt : ℕ → Ehci

@@ -7,7 +7,7 @@ pub record EndpointOpening : Type 0 where
   pub answer : Opened
   pub state : Ehci
 
--- what close, set address and set packet size leave
+-- what close, set address, set packet size and clear-halt leave
 pub record Change : Type 0 where
   pub answer : Answer
   pub state : Ehci

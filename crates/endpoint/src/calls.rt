@@ -1,5 +1,5 @@
-// Open endpoint, close, set address, set packet size, on words in their ranges. Each is lent the slots and the heads; the
-// lengths of the rows that it is not lent are those that opening fixed.
+// Open endpoint, close, set address, set packet size, clear-halt, on words in their ranges. Clear-halt is lent the slots, each of the others
+// the slots and the heads; the lengths of the rows that it is not lent are those that opening fixed.
 ghost use mathlib.Core.Path.{_≡_};
 ghost use mathlib.Core.Bool.{true};
 ghost use Prim.Native.Nat.{ℕ, _+_, _*_, max};
@@ -7,7 +7,7 @@ ghost use lib.ListN.{length};
 ghost use Rattle.opening.specs.Opening.{rowsFit};
 ghost use Rattle.words.specs.Good.{Good, Tidy};
 ghost use Rattle.words.specs.View.{view};
-ghost use Rattle.endpoint.specs.Calls.{changeLeft, closeOf, openEndpointOf, openLeft, setAddressOf, setPacketSizeOf, fieldsGood, withSize};
+ghost use Rattle.endpoint.specs.Calls.{changeLeft, clearHaltOf, closeOf, openEndpointOf, openLeft, setAddressOf, setPacketSizeOf, fieldsGood, withSize};
 ghost use Rattle.pipe.specs.Endpoints.{kindNumber};
 ghost use Rattle.slot.specs.Ranges.{sizeGood};
 ghost use Rattle.endpoint.specs.Words.{changedView, chosenWords, openedView, verdictWords};
@@ -28,6 +28,7 @@ use opening::heads::HEAD_WORDS;
 use opening::heads::put_head;
 use pipe::endpoints::Endpoint;
 use pipe::endpoints::Pipe;
+use pipe::endpoints::with_toggle;
 use pipe::slots::pipe_at;
 use pipe::slots::put_endpoint;
 use words::core::Core;
@@ -43,7 +44,7 @@ pub struct EndpointOpening {
     pub rest: Rest,
 }
 
-// What close, set address and set packet size leave.
+// What close, set address, set packet size and clear-halt leave.
 pub struct Change {
     pub answer: Answer,
     pub rest: Rest,
@@ -106,6 +107,7 @@ pub fn open_endpoint(
             let pipe = Pipe {
                 kind,
                 size: packet,
+                toggle: false,
                 next: 1,
             };
             put_endpoint(slots, slot, Endpoint::Idle(pipe));
@@ -129,6 +131,7 @@ fn resize(p: Pipe, size: u8) -> Pipe
     Pipe {
         kind,
         size: raised(size),
+        toggle: p.toggle,
         next: p.next,
     }
 }
@@ -140,7 +143,7 @@ fn pipe_good(limit: u64, p: Pipe) -> bool
     size_good(limit, kind, p.size)
 }
 
-// What close, set address and set packet size ask, in 01's order; `good` where the value is in its range.
+// What close, set address, set packet size and clear-halt ask, in 01's order; `good` where the value is in its range.
 fn check_slot(core: Core, slots: &[u64], slot: u8, good: bool) -> Answer
     requires { ⌜ Good (core .settings) (core .rest) (now slots) ⌝ }
     ensures { λ r. ⌜ r ≡ verdictWords (view core (now (slots .entry))) slot good ⌝ }
@@ -230,6 +233,29 @@ pub fn set_packet_size(
             let at = HEAD_WORDS * (slot as usize + 1) + CHARACTERISTICS;
             heads[at] = set_max_packet_size(heads[at], size);
             put_endpoint(slots, slot, Endpoint::Idle(pipe));
+            Change {
+                answer: Answer::Done,
+                rest,
+            }
+        }
+        Answer::Refused(refusal) => Change {
+            answer: Answer::Refused(refusal),
+            rest,
+        },
+    }
+}
+
+// The toggle of the next packet is 0, as the device has it after its halt is cleared.
+pub fn clear_halt(core: Core, slots: &mut [u64], slot: u8) -> Change
+    requires { ⌜ Good (core .settings) (core .rest) (now slots) ⌝ }
+    ensures { λ r. ⌜ changedView (core .settings) r (now (slots .exit)) ≡ clearHaltOf (view core (now (slots .entry))) slot ⌝ }
+    ensures { λ r. ⌜ Tidy (core .settings) (r .rest) (now (slots .exit)) ⌝ }
+{
+    let rest = core.rest;
+    match check_slot(core, slots, slot, true) {
+        Answer::Done => {
+            let old = pipe_at(slots, slot);
+            put_endpoint(slots, slot, Endpoint::Idle(with_toggle(old, false)));
             Change {
                 answer: Answer::Done,
                 rest,

@@ -7,6 +7,7 @@ use lib.Dec.{eqb, leb}
 use lib.ListN.{getD, length, replicate}
 use Rattle.register.specs.Bits.{anyOf, onlyBits, withBits, withoutBits}
 use Rattle.register.specs.Writes.{andThen, noWrites}
+use Rattle.token.specs.Overlay.{overlayToken}
 use Rattle.token.specs.Chunks.{chunkCount, needOf}
 use Rattle.token.specs.Tokens.{tokenOf}
 use Rattle.descriptor.specs.declared.qtd.QueueTransferDescriptor.{QueueTransferDescriptor}
@@ -18,7 +19,7 @@ use Rattle.pool.specs.Places.{listOf, markOf, packed, placesFrom}
 use Rattle.pool.specs.Transfers.{bareAt, chunkQtd, recordAt}
 use Rattle.settings.specs.Settings.{apartAreas, areaGood, eachGood, noOverlap, numbersGood, settingsGood}
 use Rattle.slot.specs.declared.slot.Slot.{Slot}
-use Rattle.slot.specs.Ranges.{boundaryGood, closedGood, idleGood, linkedGood, noRequest, openKind, phaseGood, sizeGood, sizeKept, slotGood, unlinkingGood}
+use Rattle.slot.specs.Ranges.{boundaryGood, closedGood, idleGood, linkedGood, noRequest, openKind, phaseGood, sizeGood, sizeKept, slotGood, toggleKept, unlinkingGood}
 use Rattle.state.specs.Plain.{Ehci}
 use Rattle.state.specs.Ranges.{doorbellGood, inRanges, interruptGood, largest, machineGood, ownerGood, restGood, slotsGood}
 use Rattle.state.specs.Slots.{slotAt, withSlot}
@@ -67,6 +68,7 @@ stateOf running step enabled bell owner a b =
       phases = a .phase ∷ b .phase ∷ replicate 30 0;
       kinds = a .kind ∷ b .kind ∷ replicate 30 0;
       sizes = a .size ∷ b .size ∷ replicate 30 0;
+      toggles = a .toggle ∷ b .toggle ∷ replicate 30 0;
       ids = a .id ∷ b .id ∷ replicate 30 1;
       requests = a .request ∷ b .request ∷ replicate 30 0;
       directions = a .direction ∷ b .direction ∷ replicate 30 0;
@@ -77,14 +79,14 @@ stateOf running step enabled bell owner a b =
 
 -- closed; idle; with request 1, linked; the same, cancelled, with a boundary
 abbrev closed : Slot
-closed = bareSlot 0 0 0 1
+closed = bareSlot 0 0 0 0 1
 
 abbrev idle : Slot
-idle = bareSlot 1 2 512 1
+idle = bareSlot 1 2 512 0 1
 
 abbrev asked : ℕ → ℕ → ℕ → Slot
 asked phase cancel boundary =
-    record { phase = phase; kind = 2; size = 512; id = 2; request = 1; direction = 0; length = 512; cancel = cancel; boundary = boundary }
+    record { phase = phase; kind = 2; size = 512; toggle = 0; id = 2; request = 1; direction = 0; length = 512; cancel = cancel; boundary = boundary }
 
 abbrev linked : Slot
 linked = asked 2 0 0
@@ -100,7 +102,7 @@ abbrev rising : ℕ → ℕ → ℕ → Ehci
 rising running step enabled = stateOf running step enabled noBell (0 ∷ 0 ∷ []) closed closed
 
 rising-good : (running step enabled : ℕ) → leb running 1 ≡ true → leb step 6 ≡ true → leb enabled 1 ≡ true → inRanges (rising running step enabled) ≡ true
-unfolding stateOf inRanges restGood machineGood interruptGood doorbellGood ownerGood largest slotsGood slotGood phaseGood closedGood idleGood linkedGood unlinkingGood boundaryGood openKind noRequest sizeGood sizeKept settingsGood numbersGood eachGood noOverlap areaGood apartAreas slotAt withoutBits
+unfolding stateOf inRanges restGood machineGood interruptGood doorbellGood ownerGood largest slotsGood slotGood phaseGood closedGood idleGood linkedGood unlinkingGood boundaryGood openKind noRequest sizeGood sizeKept toggleKept settingsGood numbersGood eachGood noOverlap areaGood apartAreas slotAt withoutBits
 rising-good running step enabled e f g = rw (e, f, g)
 
 -- running, interrupts on
@@ -112,6 +114,10 @@ oneOpen = used noBell (0 ∷ 0 ∷ []) idle closed
 
 abbrev twoOpen : Ehci
 twoOpen = used noBell (0 ∷ 0 ∷ []) idle idle
+
+-- slot 0 has had one request, of an odd number of packets
+abbrev oneOdd : Ehci
+oneOdd = used noBell (0 ∷ 0 ∷ []) (bareSlot 1 2 512 1 2) idle
 
 abbrev oneLinked : Ehci
 oneLinked = used noBell (1 ∷ 0 ∷ []) linked idle
@@ -132,14 +138,14 @@ abbrev counted : Ehci
 counted = used (0x20 ∷ 0x24 ∷ 0 ∷ 1 ∷ 1 ∷ []) (1 ∷ 2 ∷ []) (waits 0) (waits 1)
 
 abbrev ways : List Ehci
-ways = oneOpen ∷ twoOpen ∷ oneLinked ∷ twoLinked ∷ oneWaits ∷ twoWait ∷ heard ∷ counted ∷ []
+ways = oneOpen ∷ twoOpen ∷ oneLinked ∷ twoLinked ∷ oneWaits ∷ twoWait ∷ heard ∷ counted ∷ oneOdd ∷ []
 
 -- they are in their ranges
-ways-good : map inRanges ways ≡ replicate 8 true
-unfolding stateOf inRanges restGood machineGood interruptGood doorbellGood ownerGood largest slotsGood slotGood phaseGood closedGood idleGood linkedGood unlinkingGood boundaryGood openKind noRequest sizeGood sizeKept settingsGood numbersGood eachGood noOverlap areaGood apartAreas slotAt withoutBits
+ways-good : map inRanges ways ≡ replicate 9 true
+unfolding stateOf inRanges restGood machineGood interruptGood doorbellGood ownerGood largest slotsGood slotGood phaseGood closedGood idleGood linkedGood unlinkingGood boundaryGood openKind noRequest sizeGood sizeKept toggleKept settingsGood numbersGood eachGood noOverlap areaGood apartAreas slotAt withoutBits
 ways-good = refl
 
-good : (k : ℕ) → getD (map inRanges ways) k true ≡ getD (replicate 8 true) k true
+good : (k : ℕ) → getD (map inRanges ways) k true ≡ getD (replicate 9 true) k true
 good k = ap (λ (l : List Bool). getD l k true) ways-good
 
 one-open-good : inRanges oneOpen ≡ true
@@ -165,6 +171,9 @@ heard-good = good 6
 
 counted-good : inRanges counted ≡ true
 counted-good = good 7
+
+one-odd-good : inRanges oneOdd ≡ true
+one-odd-good = good 8
 
 -- ---- the rows
 
@@ -243,11 +252,16 @@ unfolding after applyOf decideOf asksOf rowsFit replied fillOf filledFrom noChai
 opens-two = rw one-open-good
 
 links-one : after openedTwo (submitOut 0 0x500000 512) ≡ linkedOne
-unfolding after applyOf decideOf asksOf rowsFit replied fillOf filledFrom noChain packed listOf submitDecided submitOf acceptsOf endpointAt decoded slotAt rangesGood bufferGood freeCount countZero needOf chunkCount settledSubmit acceptedWith takenFor takenPlaces placesFrom markOf stateWith afterId withOwner withEndpoint withSlot linkedRows startedOverlay attachedRing setupsWith recordAt bareAt chunkQtd newQtd tokenOf pageSlots withNext withRows stateOf
+unfolding after applyOf decideOf asksOf rowsFit replied fillOf filledFrom noChain packed listOf submitDecided submitOf acceptsOf endpointAt decoded slotAt rangesGood bufferGood freeCount countZero needOf chunkCount settledSubmit acceptedWith takenFor takenPlaces placesFrom markOf stateWith afterId withOwner withEndpoint withSlot linkedRows startedOverlay overlayToken attachedRing setupsWith recordAt bareAt chunkQtd newQtd tokenOf pageSlots withNext withRows stateOf
 links-one = rw two-open-good
 
+-- the second read begins with DATA1
+links-odd : getD (after (withRows oneOdd (blank ∷ blank ∷ []) (headsOf 0x200002 (headOf 1 0xF2002105 1) (headOf 1 0xF2002205 1))) (submitOut 0 0x500000 512) .heads) 23 0 ≡ 0x80000000
+unfolding after applyOf decideOf asksOf rowsFit replied fillOf filledFrom noChain packed listOf submitDecided submitOf acceptsOf endpointAt decoded slotAt rangesGood bufferGood freeCount countZero needOf chunkCount settledSubmit acceptedWith takenFor takenPlaces placesFrom markOf stateWith afterId withOwner withEndpoint withSlot linkedRows startedOverlay overlayToken attachedRing setupsWith recordAt bareAt chunkQtd newQtd tokenOf pageSlots withNext withRows stateOf
+links-odd = rw one-odd-good
+
 links-two : after linkedOne (submitOut 1 0x501000 512) ≡ linkedTwo
-unfolding after applyOf decideOf asksOf rowsFit replied fillOf filledFrom noChain packed listOf submitDecided submitOf acceptsOf endpointAt decoded slotAt rangesGood bufferGood freeCount countZero needOf chunkCount settledSubmit acceptedWith takenFor takenPlaces placesFrom markOf stateWith afterId withOwner withEndpoint withSlot linkedRows startedOverlay attachedRing setupsWith recordAt bareAt chunkQtd newQtd tokenOf pageSlots withNext withRows stateOf
+unfolding after applyOf decideOf asksOf rowsFit replied fillOf filledFrom noChain packed listOf submitDecided submitOf acceptsOf endpointAt decoded slotAt rangesGood bufferGood freeCount countZero needOf chunkCount settledSubmit acceptedWith takenFor takenPlaces placesFrom markOf stateWith afterId withOwner withEndpoint withSlot linkedRows startedOverlay overlayToken attachedRing setupsWith recordAt bareAt chunkQtd newQtd tokenOf pageSlots withNext withRows stateOf
 links-two = rw one-linked-good
 
 unlinks-one : after linkedTwo (Cancel 0 1 (reading 0x80031)) ≡ unlinkedOne
@@ -307,7 +321,7 @@ unfolding replyTo applyOf decideOf asksOf rowsFit replied submitDecided submitOf
 past-end = rw brought-up (rw one-open-good)
 
 fits : acceptsOf (oneRequest 3 3 0 16380 0) (lengths 5 (length ringOfOne) (length noFrames) 16) ≡ true
-unfolding acceptsOf rowsFit inRanges restGood machineGood interruptGood doorbellGood ownerGood largest slotsGood slotGood phaseGood closedGood idleGood linkedGood unlinkingGood boundaryGood openKind noRequest sizeGood sizeKept settingsGood numbersGood eachGood noOverlap areaGood apartAreas slotAt withoutBits
+unfolding acceptsOf rowsFit inRanges restGood machineGood interruptGood doorbellGood ownerGood largest slotsGood slotGood phaseGood closedGood idleGood linkedGood unlinkingGood boundaryGood openKind noRequest sizeGood sizeKept toggleKept settingsGood numbersGood eachGood noOverlap areaGood apartAreas slotAt withoutBits
 fits = refl
 
 pending : unlinkRow 4 ≡ 8 ∷ 0 ∷ 9 ∷ []

@@ -93,7 +93,7 @@ openBulk address number = OpenEndpoint (record { kind = Bulk; address = address;
 
 -- USBCMD as read
 abbrev pub reading : ℕ → Readings
-reading command = record { command = command; frame = 0 }
+reading command = record { command = command; frame = 0; overlay = 0 }
 
 abbrev pub submitOut : ℕ → ℕ → ℕ → Call
 submitOut slot address length =

@@ -47,7 +47,7 @@ open-call-is e k h = rw h
 
 pub submit-call-is : (job : Job) (slots : List ℕ) (t : RequestRecord) (slot : ℕ) (k : EndpointType) (d : Direction) → slot ≡ slotOf slots (t .endpoint)
     → k ≡ kindFor job (t .endpoint) → d ≡ directionOf (t .direction)
-    → Submit slot (record { kind = k; direction = d; setup = t .setup; address = t .buffer; length = t .length }) (record { command = 0; frame = 0 }) ≡ submitCall job slots t
+    → Submit slot (record { kind = k; direction = d; setup = t .setup; address = t .buffer; length = t .length }) (record { command = 0; frame = 0; overlay = 0 }) ≡ submitCall job slots t
 unfolding submitCall
 submit-call-is job slots t slot k d es ek ed = rw (es, ek, ed)
 

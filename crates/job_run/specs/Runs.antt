@@ -144,7 +144,7 @@ submitCall job slots t =
       address = t .buffer;
       length = t .length;
     })
-    (record { command = 0; frame = 0 })
+    (record { command = 0; frame = 0; overlay = 0 })
 
 abbrev pub submitting : Ran → ℕ → Called → Ran
 submitting ran k c =

@@ -182,6 +182,7 @@ fn submit_call(job: Job, slots: [u8; 8], t: RequestRecord) -> Call
         Readings {
             command: 0,
             frame: 0,
+            overlay: 0,
         },
     )
 }

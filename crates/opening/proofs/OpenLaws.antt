@@ -31,18 +31,20 @@ use Rattle.slot.proofs.SlotLaws.{Phase, slot-makes}
 
 module _ (s : Settings) where
   -- every slot is closed
-  pub fresh-slot : (k : ℕ) → k < 32 → slotAt (freshState s) k ≡ bareSlot 0 0 0 1
+  pub fresh-slot : (k : ℕ) → k < 32 → slotAt (freshState s) k ≡ bareSlot 0 0 0 0 1
   unfolding slotAt freshState
   fresh-slot k h = rw (zeros-at 32 k, getD-replicate {A = ℕ} 32 k 1 0 h)
 
-  closed-right : (E limit k u : ℕ) → slotGood E limit k u (bareSlot 0 0 0 1) ≡ true
+  closed-right : (E limit k u : ℕ) → slotGood E limit k u (bareSlot 0 0 0 0 1) ≡ true
   closed-right E limit k u =
-      slot-makes E limit k u (bareSlot 0 0 0 1)
+      slot-makes E limit k u (bareSlot 0 0 0 0 1)
       (record {
         id-least = omega arith;
         closed-from = λ h. refl;
         size-none = λ h. refl;
         size-open = λ n. absurd (n refl);
+        toggle-none = λ h. refl;
+        toggle-flag = omega arith;
         by-phase =
             Phase.closed refl refl refl
             (record { request-none = refl; direction-none = refl; length-none = refl; cancel-none = refl; boundary-none = refl });

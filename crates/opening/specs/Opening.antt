@@ -38,6 +38,7 @@ freshState settings =
       phases = replicate 32 0;
       kinds = replicate 32 0;
       sizes = replicate 32 0;
+      toggles = replicate 32 0;
       ids = replicate 32 1;
       requests = replicate 32 0;
       directions = replicate 32 0;

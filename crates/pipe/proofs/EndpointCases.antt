@@ -12,7 +12,7 @@ use Rattle.pipe.specs.declared.endpoints.UnlinkBoundary.{UnlinkBoundary}
 use Rattle.pipe.specs.declared.endpoints.UnlinkBoundary.the-variants.{Async, Periodic}
 use Rattle.slot.specs.declared.slot.Slot.{Slot}
 use Rattle.state.specs.Plain.{Ehci}
-use Rattle.pipe.specs.Endpoints.{kindOf, kindNumber, directionOf, pipeOf, requestOf, boundaryOf, decoded, endpointAt, boundaryNumber, slotWith, bareSlot, encoded}
+use Rattle.pipe.specs.Endpoints.{kindOf, kindNumber, directionOf, pipeOf, requestOf, boundaryOf, decoded, endpointAt, boundaryNumber, slotWith, bareSlot, encoded, flagNumber}
 use Rattle.state.specs.Slots.{slotAt}
 
 pub kind-control : (n : ℕ) → n ≡ 0 → Control ≡ kindOf n
@@ -65,11 +65,12 @@ pub at-none : (s : Ehci) (k : ℕ) → 32 ≤ k → Closed ≡ endpointAt s k
 unfolding endpointAt
 at-none s k h = rw (le-ltb k 32 h)
 
-pub encode-closed : (e : Endpoint) (r : Slot) → e ≡ Closed → r ≡ bareSlot 0 0 0 1 → r ≡ encoded e
+pub encode-closed : (e : Endpoint) (r : Slot) → e ≡ Closed → r ≡ bareSlot 0 0 0 0 1 → r ≡ encoded e
 encode-closed e r ee er = er ∙ rw ee
 
-pub encode-idle : (e : Endpoint) (p : Pipe) (k : ℕ) (r : Slot) → e ≡ Idle p → k ≡ kindNumber (p .kind) → r ≡ bareSlot 1 k (p .size) (p .next) → r ≡ encoded e
-encode-idle e p k r ee ek er = er ∙ rw (ee, ek)
+pub encode-idle : (e : Endpoint) (p : Pipe) (k g : ℕ) (r : Slot) → e ≡ Idle p → k ≡ kindNumber (p .kind) → g ≡ flagNumber (p .toggle) → r ≡ bareSlot 1 k (p .size) g (p .next)
+    → r ≡ encoded e
+encode-idle e p k g r ee ek eg er = er ∙ rw (ee, ek, eg)
 
 pub encode-linked : (e : Endpoint) (p : Pipe) (q : Request) (r : Slot) → e ≡ Linked p q → r ≡ slotWith 2 p q 0 → r ≡ encoded e
 encode-linked e p q r ee er = er ∙ rw ee

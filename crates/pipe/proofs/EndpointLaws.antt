@@ -22,7 +22,7 @@ use Rattle.pipe.specs.declared.endpoints.UnlinkBoundary.{UnlinkBoundary}
 use Rattle.pipe.specs.declared.endpoints.UnlinkBoundary.the-variants.{Async, Periodic}
 use Rattle.slot.specs.declared.slot.Slot.{Slot}
 use Rattle.state.specs.Plain.{Ehci}
-use Rattle.pipe.specs.Endpoints.{boundaryNumber, boundaryOf, decoded, directionNumber, directionOf, encoded, endpointAt, flagNumber, flagOf, kindNumber, kindOf, pickBoundary, pipeOf, requestOf, withEndpoint}
+use Rattle.pipe.specs.Endpoints.{boundaryNumber, boundaryOf, decoded, directionNumber, directionOf, encoded, endpointAt, flagNumber, flagOf, kindNumber, kindOf, pickBoundary, pipeOf, requestOf, withEndpoint, withToggle}
 use Rattle.slot.specs.Ranges.{slotGood}
 use Rattle.state.specs.Slots.{slotAt, withSlot}
 use Rattle.state.specs.State.{withBell, withOwner}
@@ -79,14 +79,15 @@ boundary-back e = by (decEq (e .kind) 3)
 -- ---- a slot's endpoint, encoded again
 
 module _ (e : Slot) (u : ℕ) where
-  again : Phase e u → (e .phase ≡ 0 → e .size ≡ 0) → encoded (decoded e) ≡ e
-  again (Phase.closed p k i n) z =
+  again : Phase e u → (e .phase ≡ 0 → e .size ≡ 0) → (e .phase ≡ 0 → e .toggle ≡ 0) → e .toggle ≤ 1 → encoded (decoded e) ≡ e
+  again (Phase.closed p k i n) z g f =
       ap encoded (sym (decode-closed e (λ q. omega arith) (λ q. omega arith) (λ q. omega arith)))
       ∙ λ j.
       record {
         phase = sym p j;
         kind = sym k j;
         size = sym (z p) j;
+        toggle = sym (g p) j;
         id = sym i j;
         request = sym (n .request-none) j;
         direction = sym (n .direction-none) j;
@@ -94,13 +95,14 @@ module _ (e : Slot) (u : ℕ) where
         cancel = sym (n .cancel-none) j;
         boundary = sym (n .boundary-none) j;
       }
-  again (Phase.idle p o n) z =
+  again (Phase.idle p o n) z g f =
       ap encoded (sym (decode-idle e (pipeOf e) p refl))
       ∙ λ j.
       record {
         phase = sym p j;
         kind = kind-back (e .kind) (o .most) j;
         size = e .size;
+        toggle = flag-back (e .toggle) f j;
         id = e .id;
         request = sym (n .request-none) j;
         direction = sym (n .direction-none) j;
@@ -108,13 +110,14 @@ module _ (e : Slot) (u : ℕ) where
         cancel = sym (n .cancel-none) j;
         boundary = sym (n .boundary-none) j;
       }
-  again (Phase.linked p o r d c b) z =
+  again (Phase.linked p o r d c b) z g f =
       ap encoded (sym (decode-linked e (pipeOf e) (requestOf e) p refl refl))
       ∙ λ j.
       record {
         phase = sym p j;
         kind = kind-back (e .kind) (o .most) j;
         size = e .size;
+        toggle = flag-back (e .toggle) f j;
         id = e .id;
         request = e .request;
         direction = direction-back (e .direction) d j;
@@ -122,13 +125,14 @@ module _ (e : Slot) (u : ℕ) where
         cancel = flag-back (e .cancel) (omega arith) j;
         boundary = sym b j;
       }
-  again (Phase.unlinking p o r d c b) z =
+  again (Phase.unlinking p o r d c b) z g f =
       ap encoded (sym (decode-unlinking e (pipeOf e) (requestOf e) (boundaryOf e) p refl refl refl))
       ∙ λ j.
       record {
         phase = sym p j;
         kind = kind-back (e .kind) (o .most) j;
         size = e .size;
+        toggle = flag-back (e .toggle) f j;
         id = e .id;
         request = e .request;
         direction = direction-back (e .direction) d j;
@@ -138,7 +142,7 @@ module _ (e : Slot) (u : ℕ) where
       }
 
   pub encode-decode : (E limit k : ℕ) → slotGood E limit k u e ≡ true → encoded (decoded e) ≡ e
-  encode-decode E limit k g = let t = slot-tells E limit k u e g in again (t .by-phase) (t .size-none)
+  encode-decode E limit k g = let t = slot-tells E limit k u e g in again (t .by-phase) (t .size-none) (t .toggle-none) (t .toggle-flag)
 
 -- ---- an endpoint's slot, decoded again
 
@@ -173,10 +177,10 @@ boundary-there Interrupt (Periodic n) h = refl
 pub decode-encode : (x : Endpoint) → Proper x → decoded (encoded x) ≡ x
 unfolding decoded
 decode-encode Closed h = refl
-decode-encode (Idle p) h = rw (kind-there (p .kind))
-decode-encode (Linked p r) h = rw (kind-there (p .kind), direction-there (r .direction), flag-there (r .cancelled))
+decode-encode (Idle p) h = rw (kind-there (p .kind), flag-there (p .toggle))
+decode-encode (Linked p r) h = rw (kind-there (p .kind), flag-there (p .toggle), direction-there (r .direction), flag-there (r .cancelled))
 decode-encode (Unlinking p r b) h =
-    rw (boundary-there (p .kind) b h, kind-there (p .kind), direction-there (r .direction), flag-there (r .cancelled))
+    rw (boundary-there (p .kind) b h, kind-there (p .kind), flag-there (p .toggle), direction-there (r .direction), flag-there (r .cancelled))
 
 -- ---- slots of a state
 
@@ -185,6 +189,7 @@ pub record Wide (s : Ehci) : Type 0 where
   pub phases-wide : length (s .phases) ≡ 32
   pub kinds-wide : length (s .kinds) ≡ 32
   pub sizes-wide : length (s .sizes) ≡ 32
+  pub toggles-wide : length (s .toggles) ≡ 32
   pub ids-wide : length (s .ids) ≡ 32
   pub requests-wide : length (s .requests) ≡ 32
   pub directions-wide : length (s .directions) ≡ 32
@@ -203,6 +208,7 @@ module _ (s : Ehci) (k : ℕ) where
         phase = set-here (s .phases) k (e .phase) (w .phases-wide) h j;
         kind = set-here (s .kinds) k (e .kind) (w .kinds-wide) h j;
         size = set-here (s .sizes) k (e .size) (w .sizes-wide) h j;
+        toggle = set-here (s .toggles) k (e .toggle) (w .toggles-wide) h j;
         id = set-here (s .ids) k (e .id) (w .ids-wide) h j;
         request = set-here (s .requests) k (e .request) (w .requests-wide) h j;
         direction = set-here (s .directions) k (e .direction) (w .directions-wide) h j;
@@ -218,6 +224,7 @@ module _ (s : Ehci) (k : ℕ) where
         phase = getD-set-other (s .phases) k j (e .phase) 0 ne i;
         kind = getD-set-other (s .kinds) k j (e .kind) 0 ne i;
         size = getD-set-other (s .sizes) k j (e .size) 0 ne i;
+        toggle = getD-set-other (s .toggles) k j (e .toggle) 0 ne i;
         id = getD-set-other (s .ids) k j (e .id) 0 ne i;
         request = getD-set-other (s .requests) k j (e .request) 0 ne i;
         direction = getD-set-other (s .directions) k j (e .direction) 0 ne i;
@@ -233,6 +240,7 @@ module _ (s : Ehci) (k : ℕ) where
         phases-wide = length-set (s .phases) k (e .phase) ∙ w .phases-wide;
         kinds-wide = length-set (s .kinds) k (e .kind) ∙ w .kinds-wide;
         sizes-wide = length-set (s .sizes) k (e .size) ∙ w .sizes-wide;
+        toggles-wide = length-set (s .toggles) k (e .toggle) ∙ w .toggles-wide;
         ids-wide = length-set (s .ids) k (e .id) ∙ w .ids-wide;
         requests-wide = length-set (s .requests) k (e .request) ∙ w .requests-wide;
         directions-wide = length-set (s .directions) k (e .direction) ∙ w .directions-wide;
@@ -256,6 +264,10 @@ pub record OpenPipe (limit : ℕ) (p : Pipe) : Type 0 where
   pub next-least : 1 ≤ p .next
   pub never : p .kind ≢ Isochronous
   pub size : SizeGood limit (kindNumber (p .kind)) (p .size)
+
+-- whatever its toggle
+pub toggled-good : (limit : ℕ) (p : Pipe) (toggle : Bool) → OpenPipe limit p → OpenPipe limit (withToggle p toggle)
+toggled-good limit p toggle g = record { next-least = g .next-least; never = g .never; size = g .size }
 
 -- a linked request has an id and is not cancelled
 pub record LinkedGood (limit : ℕ) (p : Pipe) (r : Request) : Type 0 where
@@ -332,6 +344,18 @@ module _ (limit u : ℕ) where
   none-of (Linked p r) z = absurd (omega (arith, z))
   none-of (Unlinking p r b) z = absurd (omega (arith, z))
 
+  untoggled : (x : Endpoint) → encoded x .phase ≡ 0 → encoded x .toggle ≡ 0
+  untoggled Closed z = refl
+  untoggled (Idle p) z = absurd (omega (arith, z))
+  untoggled (Linked p r) z = absurd (omega (arith, z))
+  untoggled (Unlinking p r b) z = absurd (omega (arith, z))
+
+  toggle-of : (x : Endpoint) → encoded x .toggle ≤ 1
+  toggle-of Closed = omega arith
+  toggle-of (Idle p) = flag-most (p .toggle)
+  toggle-of (Linked p r) = flag-most (p .toggle)
+  toggle-of (Unlinking p r b) = flag-most (p .toggle)
+
   size-of : (x : Endpoint) → EndpointGood limit u x → encoded x .phase ≢ 0 → SizeGood limit (encoded x .kind) (encoded x .size)
   size-of Closed g n = absurd (n refl)
   size-of (Idle p) g n = g .size
@@ -346,6 +370,8 @@ module _ (limit u : ℕ) where
         closed-from = λ h. ap (λ (y : Endpoint). encoded y .phase) (c h);
         size-none = none-of x;
         size-open = size-of x g;
+        toggle-none = untoggled x;
+        toggle-flag = toggle-of x;
         by-phase = phase-of x g;
       })
 
@@ -438,6 +464,7 @@ bell-wide s n d u w =
       phases-wide = w .phases-wide;
       kinds-wide = w .kinds-wide;
       sizes-wide = w .sizes-wide;
+      toggles-wide = w .toggles-wide;
       ids-wide = w .ids-wide;
       requests-wide = w .requests-wide;
       directions-wide = w .directions-wide;
@@ -454,6 +481,7 @@ module _ (s : Ehci) (o : List ℕ) where
         phases-wide = w .phases-wide;
         kinds-wide = w .kinds-wide;
         sizes-wide = w .sizes-wide;
+        toggles-wide = w .toggles-wide;
         ids-wide = w .ids-wide;
         requests-wide = w .requests-wide;
         directions-wide = w .directions-wide;

@@ -40,6 +40,7 @@ closed-fits =
       phase-fits = omega arith;
       kind-fits = omega arith;
       size-fits = omega arith;
+      toggle-fits = omega arith;
       direction-fits = omega arith;
       length-fits = omega arith;
       cancel-fits = omega arith;
@@ -56,6 +57,7 @@ idle-fits p sized least most =
       phase-fits = omega arith;
       kind-fits = kind-below (p .kind);
       size-fits = sized;
+      toggle-fits = flag-below (p .toggle);
       direction-fits = omega arith;
       length-fits = omega arith;
       cancel-fits = omega arith;
@@ -72,12 +74,13 @@ module _ (p : Pipe) (q : Request) (sized : p .size < 2048) (own : p .next ≡ af
   next-least : 1 ≤ p .next
   next-least = omega (arith, own, id-one (q .id))
 
-  request-fits : (phase boundary : ℕ) → 2 ≤ phase → phase < 4 → boundary < 0x8000 → SlotFits (slotWith phase p q boundary)
+  request-fits : (phase boundary : ℕ) → 2 ≤ phase → phase < 4 → boundary < 0x4000 → SlotFits (slotWith phase p q boundary)
   request-fits phase boundary least below small =
       record {
         phase-fits = below;
         kind-fits = kind-below (p .kind);
         size-fits = sized;
+        toggle-fits = flag-below (p .toggle);
         direction-fits = direction-below (q .direction);
         length-fits = short;
         cancel-fits = flag-below (q .cancelled);
@@ -91,5 +94,5 @@ module _ (p : Pipe) (q : Request) (sized : p .size < 2048) (own : p .next ≡ af
   pub linked-fits : SlotFits (encoded (Linked p q))
   linked-fits = request-fits 2 0 (omega arith) (omega arith) (omega arith)
 
-  pub unlinking-fits : (b : UnlinkBoundary) → boundaryNumber b < 0x8000 → SlotFits (encoded (Unlinking p q b))
+  pub unlinking-fits : (b : UnlinkBoundary) → boundaryNumber b < 0x4000 → SlotFits (encoded (Unlinking p q b))
   unlinking-fits b small = request-fits 3 (boundaryNumber b) (omega arith) (omega arith) small

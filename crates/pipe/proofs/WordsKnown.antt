@@ -9,4 +9,4 @@ use Rattle.pipe.proofs.endpoints.Pipe as P
 use Rattle.pipe.proofs.endpoints.Pipe.Laws as P′
 
 pub pipe-next-below : (p : Pipe) (vs : List Val) → Is P.the-row p vs → p .next < 2 ^ 64
-pipe-next-below p vs g = LL.owed P.the-type P′.the-laws p _ g .1 .1 .0 .1
+pipe-next-below p vs g = LL.owed P.the-type P′.the-laws p _ g .1 .1 .1 .0 .1

@@ -13,7 +13,7 @@ use Rattle.slot.specs.declared.slot.Slot.{Slot}
 use Rattle.slot.proofs.SlotLaws.{Phase}
 use Rattle.words.specs.declared.core.Rest.{Rest}
 use Rattle.words.specs.Good.{Good, noPlaces}
-use Rattle.words.specs.Record.{boundaryIn, idIn, kindIn, lastAt, lengthIn, phaseIn, placesAt, sizeIn, slotIn, wordAt}
+use Rattle.words.specs.Record.{boundaryIn, idIn, kindIn, lastAt, lengthIn, phaseIn, placesAt, sizeIn, slotIn, toggleIn, wordAt}
 use Rattle.words.specs.View.{stateOf}
 use Rattle.words.proofs.FitLaws.{id-one}
 use Rattle.words.proofs.GoodLaws.{good-beyond, good-boundary, good-settings, good-slot, good-slot-tells}
@@ -23,7 +23,7 @@ use Rattle.pipe.specs.declared.endpoints.Endpoint.the-variants.{Closed, 
 use Rattle.pipe.specs.declared.endpoints.Pipe.{Pipe}
 use Rattle.pipe.specs.declared.endpoints.Request.{Request}
 use Rattle.pipe.specs.declared.endpoints.UnlinkBoundary.{UnlinkBoundary}
-use Rattle.pipe.specs.Endpoints.{boundaryNumber, boundaryOf, decoded, endpointAt, kindNumber, pipeOf, requestOf}
+use Rattle.pipe.specs.Endpoints.{boundaryNumber, boundaryOf, decoded, endpointAt, flagOf, kindNumber, pipeOf, requestOf}
 use Rattle.pipe.proofs.EndpointLaws.{EndpointGood, LinkedGood, OpenPipe, UnlinkingGood, boundary-back, endpoint-tells, kind-back}
 use Rattle.pipe.proofs.WordsLaws.{good-endpoint, word-closed, word-idle, word-linked, word-unlinking}
 
@@ -34,6 +34,7 @@ pub record IdleAt (s : Settings) (ws : List ℕ) (k : ℕ) (p : Pipe) : Type 0 w
   pub phase : phaseIn (wordAt ws k) ≡ 1
   pub kind : kindNumber (p .kind) ≡ kindIn (wordAt ws k)
   pub size : p .size ≡ sizeIn (wordAt ws k)
+  pub toggle : p .toggle ≡ flagOf (toggleIn (wordAt ws k))
   pub next : p .next ≡ idIn (lastAt ws k)
   pub next-least : 1 ≤ p .next
   pub good : OpenPipe (s .limit) p
@@ -44,6 +45,7 @@ pub record RequestAt (s : Settings) (ws : List ℕ) (k : ℕ) (p : Pipe) (q : Re
   pub within : k < s .endpoints
   pub kind : kindNumber (p .kind) ≡ kindIn (wordAt ws k)
   pub size : p .size ≡ sizeIn (wordAt ws k)
+  pub toggle : p .toggle ≡ flagOf (toggleIn (wordAt ws k))
   pub own : p .next ≡ afterId (q .id)
   pub last : q .id ≡ lastAt ws k
   pub next-least : 1 ≤ p .next
@@ -99,6 +101,7 @@ module _ (s : Settings) (r : Rest) (ws : List ℕ) (good : Good s r ws) (k : ℕ
           phase = p;
           kind = kind-back (kindIn (wordAt ws k)) m;
           size = refl;
+          toggle = refl;
           next = refl;
           next-least = id-one (lastAt ws k);
           good = tells-good (Idle (pipeOf slot)) (word-idle (wordAt ws k) (lastAt ws k) p);
@@ -114,6 +117,7 @@ module _ (s : Settings) (r : Rest) (ws : List ℕ) (good : Good s r ws) (k : ℕ
           within = open-within (λ z. omega (arith, z, h));
           kind = kind-back (kindIn (wordAt ws k)) m;
           size = refl;
+          toggle = refl;
           own = ap afterId own;
           last = sym own;
           next-least = id-one (lastAt ws k);

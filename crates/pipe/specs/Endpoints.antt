@@ -50,7 +50,10 @@ flagNumber false = 0
 -- ---- from a slot's numbers
 
 abbrev pub pipeOf : Slot → Pipe
-pipeOf e = record { kind = kindOf (e .kind); size = e .size; next = e .id }
+pipeOf e = record { kind = kindOf (e .kind); size = e .size; toggle = flagOf (e .toggle); next = e .id }
+
+abbrev pub withToggle : Pipe → Bool → Pipe
+withToggle p toggle = record { kind = p .kind; size = p .size; toggle = toggle; next = p .next }
 
 abbrev pub requestOf : Slot → Request
 requestOf e = record { id = e .request; direction = directionOf (e .direction); length = e .length; cancelled = flagOf (e .cancel) }
@@ -91,6 +94,7 @@ slotWith phase p r boundary =
       phase = phase;
       kind = kindNumber (p .kind);
       size = p .size;
+      toggle = flagNumber (p .toggle);
       id = p .next;
       request = r .id;
       direction = directionNumber (r .direction);
@@ -99,13 +103,13 @@ slotWith phase p r boundary =
       boundary = boundary;
     }
 
-abbrev pub bareSlot : ℕ → ℕ → ℕ → ℕ → Slot
-bareSlot phase kind size id =
-    record { phase = phase; kind = kind; size = size; id = id; request = 0; direction = 0; length = 0; cancel = 0; boundary = 0 }
+abbrev pub bareSlot : ℕ → ℕ → ℕ → ℕ → ℕ → Slot
+bareSlot phase kind size toggle id =
+    record { phase = phase; kind = kind; size = size; toggle = toggle; id = id; request = 0; direction = 0; length = 0; cancel = 0; boundary = 0 }
 
 abbrev pub encoded : Endpoint → Slot
-encoded Closed = bareSlot 0 0 0 1
-encoded (Idle p) = bareSlot 1 (kindNumber (p .kind)) (p .size) (p .next)
+encoded Closed = bareSlot 0 0 0 0 1
+encoded (Idle p) = bareSlot 1 (kindNumber (p .kind)) (p .size) (flagNumber (p .toggle)) (p .next)
 encoded (Linked p r) = slotWith 2 p r 0
 encoded (Unlinking p r b) = slotWith 3 p r (boundaryNumber b)
 

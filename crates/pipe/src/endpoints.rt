@@ -1,6 +1,6 @@
 // A slot's endpoint: the numbers of a slot taken apart, and put together again.
 ghost use mathlib.Core.Path.{_≡_};
-ghost use Rattle.pipe.specs.Endpoints.{kindOf, kindNumber, directionOf, directionNumber, flagNumber, pipeOf, requestOf, boundaryOf, decoded, boundaryNumber, slotWith, bareSlot, encoded};
+ghost use Rattle.pipe.specs.Endpoints.{kindOf, kindNumber, directionOf, directionNumber, flagNumber, pipeOf, requestOf, boundaryOf, decoded, boundaryNumber, slotWith, bareSlot, encoded, withToggle};
 use common::kinds::Direction;
 use common::kinds::EndpointType;
 use slot::slot::Slot;
@@ -11,10 +11,11 @@ pub enum UnlinkBoundary {
     Periodic(u16),
 }
 
-// The endpoint's kind, its packet size, and the id of its next request.
+// The endpoint's kind, its packet size, the data toggle of its next packet, and the id of its next request.
 pub struct Pipe {
     pub kind: EndpointType,
     pub size: u16,
+    pub toggle: bool,
     pub next: u64,
 }
 
@@ -85,7 +86,20 @@ pub fn pipe_of(e: Slot) -> Pipe
     Pipe {
         kind: kind_of(e.kind),
         size: e.size,
+        toggle: e.toggle != 0,
         next: e.id,
+    }
+}
+
+pub fn with_toggle(p: Pipe, toggle: bool) -> Pipe
+    ensures { λ r. ⌜ r ≡ withToggle p toggle ⌝ }
+{
+    let kind = p.kind;
+    Pipe {
+        kind,
+        size: p.size,
+        toggle,
+        next: p.next,
     }
 }
 
@@ -144,6 +158,7 @@ fn slot_with(phase: u8, p: Pipe, r: Request, boundary: u16) -> Slot
         phase,
         kind: kind_number(kind),
         size: p.size,
+        toggle: flag_number(p.toggle),
         id: p.next,
         request: r.id,
         direction: direction_number(direction),
@@ -153,13 +168,14 @@ fn slot_with(phase: u8, p: Pipe, r: Request, boundary: u16) -> Slot
     }
 }
 
-fn bare_slot(phase: u8, kind: u8, size: u16, id: u64) -> Slot
-    ensures { λ s. ⌜ s ≡ bareSlot phase kind size id ⌝ }
+fn bare_slot(phase: u8, kind: u8, size: u16, toggle: u8, id: u64) -> Slot
+    ensures { λ s. ⌜ s ≡ bareSlot phase kind size toggle id ⌝ }
 {
     Slot {
         phase,
         kind,
         size,
+        toggle,
         id,
         request: 0,
         direction: 0,
@@ -173,10 +189,10 @@ pub fn encode(e: Endpoint) -> Slot
     ensures { λ r. ⌜ r ≡ encoded e ⌝ }
 {
     match e {
-        Endpoint::Closed => bare_slot(0, 0, 0, 1),
+        Endpoint::Closed => bare_slot(0, 0, 0, 0, 1),
         Endpoint::Idle(p) => {
             let kind = p.kind;
-            bare_slot(1, kind_number(kind), p.size, p.next)
+            bare_slot(1, kind_number(kind), p.size, flag_number(p.toggle), p.next)
         }
         Endpoint::Linked(p, r) => slot_with(2, p, r, 0),
         Endpoint::Unlinking(p, r, b) => slot_with(3, p, r, boundary_number(b)),

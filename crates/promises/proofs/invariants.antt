@@ -13,6 +13,8 @@ pub mod UseHeld
 pub mod MarkInv
 pub mod OpenedInv
 pub mod OpenedVerdict
+pub mod HeadInv
+pub mod ToggleInv
 pub mod ChainLists
 pub mod WalkChains
 pub mod ChainInv

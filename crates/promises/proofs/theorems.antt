@@ -23,6 +23,7 @@ pub mod ShortLaws
 pub mod PlanLaws
 pub mod SubmissionLaws
 pub mod WholeLaws
+pub mod ToggleLaws
 pub mod PacketLaws
 pub mod TokenLaws
 pub mod CancelTheorems

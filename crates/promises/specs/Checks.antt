@@ -22,7 +22,7 @@ use Rattle.collection.specs.Calls.{crowded, wrongId}
 use Rattle.collection.specs.Unlinks.{isMissing}
 use Rattle.bring_up.specs.BringUp.{anyUncollected, ready, stageOf}
 use Rattle.ehci.specs.declared.call.Call.{Call}
-use Rattle.ehci.specs.declared.call.Call.the-variants.{StartBringUp, BringUpStep, AllocateAddress, OpenEndpoint, Close, SetAddress, SetPacketSize, Submit, Writeback, Cancel, Collect, Acknowledge, Drain, Rearm, Enable, Disable}
+use Rattle.ehci.specs.declared.call.Call.the-variants.{StartBringUp, BringUpStep, AllocateAddress, OpenEndpoint, Close, SetAddress, SetPacketSize, Submit, Writeback, Cancel, Collect, Acknowledge, Drain, Rearm, Enable, Disable, ClearHalt}
 use Rattle.ehci.specs.Decides.{asksOf}
 use Rattle.ehci.specs.Door.{seenBy}
 use Rattle.ehci.specs.Replies.{answeredNumber}
@@ -99,6 +99,8 @@ furtherChecks w (Drain command) = []
 furtherChecks w Rearm = []
 furtherChecks w Enable = []
 furtherChecks w Disable = []
+-- 02 order 6: "clear-halt answers 3, then 4"
+furtherChecks w (ClearHalt k) = (not (isOpen (w .view) k), InvalidEndpoint) ∷ (isUncollected (w .view) k, QueueFull) ∷ []
 
 -- "First: a lent row of a length other than opening fixed, or a state outside its ranges, 1."
 abbrev pub checksOf : Moment → Call → List Check

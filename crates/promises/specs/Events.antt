@@ -8,7 +8,7 @@ use Rattle.settings.specs.declared.settings.Settings.{Settings}
 use Rattle.request.specs.declared.judge.TransferRequest.{TransferRequest}
 use Rattle.schedule.specs.Bell.{someRing}
 use Rattle.ehci.specs.declared.call.Call.{Call}
-use Rattle.ehci.specs.declared.call.Call.the-variants.{StartBringUp, BringUpStep, AllocateAddress, OpenEndpoint, Close, SetAddress, SetPacketSize, Submit, Writeback, Cancel, Collect, Acknowledge, Drain, Rearm, Enable, Disable}
+use Rattle.ehci.specs.declared.call.Call.the-variants.{StartBringUp, BringUpStep, AllocateAddress, OpenEndpoint, Close, SetAddress, SetPacketSize, Submit, Writeback, Cancel, Collect, Acknowledge, Drain, Rearm, Enable, Disable, ClearHalt}
 use Rattle.ehci.specs.declared.reply.Answered.{Answered}
 use Rattle.ehci.specs.Replies.{answeredNumber, answeredValues}
 use Rattle.promises.specs.Runs.{Turn}
@@ -83,6 +83,7 @@ happens s (Drain w) t = cond (isDone (t .answer)) Drains Other
 happens s Rearm t = Other
 happens s Enable t = Other
 happens s Disable t = Other
+happens s (ClearHalt k) t = Other
 
 abbrev pub event : Settings → Turn → Event
 event s t = happens s (t .call) t

@@ -12,7 +12,7 @@ use Rattle.ehci.specs.declared.call.Call.the-variants.{Cancel, Collect}
 use Rattle.promises.specs.Runs.{Always, History, Moment, Promise, turnBy}
 use Rattle.promises.specs.Events.{Event, Other, Reads, Drains, Submits, Unlinks, Parts, Collects, event}
 use Rattle.promises.specs.Opened.{isBusy, isShut}
-use Rattle.promises.specs.Slots.{Change, ClosesSlot, Halted, OpensSlot, ResizesSlot, Running, Same, change, slotIn}
+use Rattle.promises.specs.Slots.{Change, ClearsHalt, ClosesSlot, Halted, OpensSlot, ResizesSlot, Running, Same, change, slotIn}
 use Rattle.promises.specs.Uses.{Use, isOf, uses}
 use Rattle.promises.specs.Rooms.{numberAt}
 
@@ -25,6 +25,7 @@ startBy k Same n = n
 startBy k (OpensSlot j kind size) n = cond (eqb j k) 1 n
 startBy k (ResizesSlot j size) n = n
 startBy k (ClosesSlot j) n = cond (eqb j k) 1 n
+startBy k (ClearsHalt j) n = n
 startBy k Halted n = n
 startBy k Running n = n
 

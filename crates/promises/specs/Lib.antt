@@ -13,8 +13,9 @@ pub mod Coverage
 pub mod Collections
 pub mod EhciQueue
 pub mod Shorts
-pub mod Packets
 pub mod Submissions
+pub mod Packets
+pub mod Toggles
 pub mod Chains
 pub mod Boundaries
 pub mod Faults

@@ -13,7 +13,9 @@ use Rattle.ehci.specs.declared.call.Call.the-variants.{Submit}
 use Rattle.promises.specs.Runs.{Always, Promise, Rows, rowsOf}
 use Rattle.promises.specs.Coverage.{recordsMet}
 use Rattle.promises.specs.Rooms.{numberAt}
-use Rattle.promises.specs.Slots.{limitIn, sizeIn}
+use Rattle.promises.specs.Slots.{Open, Shut, SlotKind, limitIn, sizeIn, slotIn}
+use Rattle.descriptor.specs.EhciQueueHead.{maximumPacketLength}
+use Rattle.promises.specs.Submissions.{wordAt}
 
 -- ---- USB 5.8.3: so many bytes are so many packets of the size as come before the last byte, and a last one with the rest
 
@@ -40,7 +42,16 @@ EachButLast P [] = Unit {0}
 EachButLast P (n ∷ []) = Unit {0}
 EachButLast P (n ∷ m ∷ ns) = P n × EachButLast P (m ∷ ns)
 
+-- ---- EHCI 3.6.2: the controller cuts packets by the size that it reads in a slot's head, an open one's own
+
+abbrev pub Sized : SlotKind → ℕ → Type 0
+Sized Shut characteristics = Unit {0}
+Sized (Open kind size) characteristics = maximumPacketLength characteristics ≡ size
+
 -- ---- of any machine
+
+abbrev pub HeadsSized : Promise
+HeadsSized = Always (λ s h w. (k : ℕ) → Sized (slotIn k h) (wordAt (w .rows) k 1))
 
 -- the bytes of each descriptor that slot k's overlay leads through
 abbrev pub bytesMet : Settings → Rows → ℕ → List ℕ

@@ -7,7 +7,8 @@ use Rattle.promises.specs.Checks.{InOrder}
 use Rattle.promises.specs.Chains.{ChainsWalked, NoDetachFails}
 use Rattle.promises.specs.Rooms.{ChainsLead, ExclusivePlaces, RoomExact}
 use Rattle.promises.specs.Shorts.{FullGoesOn, SharedStands, ShortStops}
-use Rattle.promises.specs.Packets.{PacketsWhole}
+use Rattle.promises.specs.Packets.{HeadsSized, PacketsWhole}
+use Rattle.promises.specs.Toggles.{TogglesKept, TogglesTied}
 use Rattle.promises.specs.Submissions.{CollectsEnded, PacketsStand, SubmitsPlanned, SubmittedStays, TokensStand}
 use Rattle.promises.specs.Registers.{InterruptsAnswered, QuietBringUp, RegistersTied, RingsInTurn, StatusAcknowledged, WritesExactly}
 use Rattle.promises.specs.Ranges.{RangesKept, RunsWhileHeld}
@@ -40,8 +41,11 @@ pub record Promises {f : Form} (m : Machine f) : Type 0 where
   pub full-goes-on : EveryRun FullGoesOn m
   -- a submit leaves its plan's descriptors with their tokens, the setup packet that was asked for, and its overlay
   pub submits-planned : EveryRun SubmitsPlanned m
-  -- no packet but a request's last is short
+  -- the controller reads each open slot's packet size in its head, and no packet but a request's last is short
+  pub heads-sized : EveryRun HeadsSized m
   pub packets-whole : EveryRun PacketsWhole m
+  -- a request begins with the toggle that the controller left
+  pub toggles-kept : EveryRun TogglesKept m
   pub packets-stand : EveryRun PacketsStand m
   pub tokens-stand : EveryRun TokensStand m
   -- a collection leaves current 0 and a terminated overlay
@@ -96,4 +100,5 @@ pub record Promises {f : Form} (m : Machine f) : Type 0 where
 
   pub state-says : EveryRun StateSays m
   pub fields-tied : EveryRun FieldsTied m
+  pub toggles-tied : EveryRun TogglesTied m
   pub registers-tied : EveryRun RegistersTied m

@@ -8,7 +8,7 @@ use Rattle.common.specs.declared.kinds.EndpointType.{EndpointType}
 use Rattle.settings.specs.declared.settings.Settings.{Settings}
 use Rattle.request.specs.declared.judge.TransferRequest.{TransferRequest}
 use Rattle.ehci.specs.declared.call.Call.{Call}
-use Rattle.ehci.specs.declared.call.Call.the-variants.{StartBringUp, BringUpStep, AllocateAddress, OpenEndpoint, Close, SetAddress, SetPacketSize, Submit, Writeback, Cancel, Collect, Acknowledge, Drain, Rearm, Enable, Disable}
+use Rattle.ehci.specs.declared.call.Call.the-variants.{StartBringUp, BringUpStep, AllocateAddress, OpenEndpoint, Close, SetAddress, SetPacketSize, Submit, Writeback, Cancel, Collect, Acknowledge, Drain, Rearm, Enable, Disable, ClearHalt}
 use Rattle.ehci.specs.declared.reply.Answered.{Answered}
 use Rattle.ehci.specs.Replies.{answeredNumber, answeredValues}
 use Rattle.promises.specs.Runs.{History, Turn}
@@ -23,6 +23,8 @@ pub data Change : Type 0 where
   OpensSlot : ℕ → EndpointType → ℕ → Change
   ResizesSlot : ℕ → ℕ → Change
   ClosesSlot : ℕ → Change
+  -- its halt is cleared
+  ClearsHalt : ℕ → Change
   -- from now on the controller does not run; it runs
   Halted Running : Change
 
@@ -58,6 +60,7 @@ changeBy (Drain v) a = Same
 changeBy Rearm a = Same
 changeBy Enable a = Same
 changeBy Disable a = Same
+changeBy (ClearHalt k) a = cond (isDone a) (ClearsHalt k) Same
 
 abbrev pub change : Turn → Change
 change t = changeBy (t .call) (t .answer)
@@ -78,6 +81,7 @@ slotAfter k Same old = old
 slotAfter k (OpensSlot j kind size) old = cond (eqb j k) (Open kind size) old
 slotAfter k (ResizesSlot j size) old = cond (eqb j k) (resized old size) old
 slotAfter k (ClosesSlot j) old = cond (eqb j k) Shut old
+slotAfter k (ClearsHalt j) old = old
 slotAfter k Halted old = old
 slotAfter k Running old = old
 
@@ -90,6 +94,7 @@ runsAfter Same old = old
 runsAfter (OpensSlot k kind size) old = old
 runsAfter (ResizesSlot k size) old = old
 runsAfter (ClosesSlot k) old = old
+runsAfter (ClearsHalt k) old = old
 runsAfter Halted old = false
 runsAfter Running old = true
 

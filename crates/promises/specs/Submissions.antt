@@ -142,10 +142,10 @@ pub record Submitted (s : Settings) (limit : ℕ) (rows : Rows) (k : ℕ) (t : T
   -- a control request's packet reads as the call asked, and the setup descriptor leads to it
   pub packet : t .kind ≡ Control → Asks (packetAt rows k) (t .setup) (t .length)
   pub leads : t .kind ≡ Control → bytesOf (getD (recordsMet s rows k) 0 blank) ≡ upFrom (s .setups + 8 * k) 8
-  -- "Submit writes overlay next = first descriptor, alternate 1, token 0"
+  -- "Submit writes overlay next = first descriptor, alternate 1, token 0", but for the toggle, which is `TogglesKept`'s
   pub next-is : wordAt rows k 4 ≡ s .pool + 64 * getD (chainWalk s rows k) 0 0
   pub alternate-is : wordAt rows k 5 ≡ 1
-  pub token-is : wordAt rows k 6 ≡ 0
+  pub token-is : wordAt rows k 6 ≡ 2 ^ 31 * dataToggle (wordAt rows k 6)
 
 abbrev pub SubmitsPlanned : Promise
 SubmitsPlanned =

@@ -22,8 +22,10 @@ pub mod DueExamples
 pub mod PlanExamples
 pub mod ShortExamples
 pub mod PacketExamples
+pub mod ToggleExamples
 pub mod WrongSubmissions
 pub mod WrongStays
 pub mod WrongShorts
 pub mod WrongPackets
+pub mod WrongToggles
 pub mod WrongReads

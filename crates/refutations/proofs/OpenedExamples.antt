@@ -61,7 +61,7 @@ module _ (s : Settings) (rows : Rows) where
   unfolding slotIn runsIn uses
   isochronous = refl
 
-  busy : beforeRoom s (turn (Submit 0 (asks Bulk) (record { command = 0; frame = 0 })) (Done (Id 1)) ∷ ended) 0 (asks Bulk) ≡ refused QueueFull
+  busy : beforeRoom s (turn (Submit 0 (asks Bulk) (record { command = 0; frame = 0; overlay = 0 })) (Done (Id 1)) ∷ ended) 0 (asks Bulk) ≡ refused QueueFull
   unfolding slotIn runsIn uses
   busy = refl
 

@@ -114,7 +114,7 @@ module _ (s : Settings) (rows : Rows) where
   -- ---- ids
 
   abbrev submits : Answered → Turn
-  submits a = turn (Submit 0 (record { kind = Bulk; direction = Out; setup = 0; address = 0x500000; length = 1 }) (record { command = 0; frame = 0 })) a
+  submits a = turn (Submit 0 (record { kind = Bulk; direction = Out; setup = 0; address = 0x500000; length = 1 }) (record { command = 0; frame = 0; overlay = 0 })) a
 
   abbrev opened : History
   opened = turn (OpenEndpoint (record { kind = Bulk; address = 1; number = 1; packet = 512 })) (Done (Slot 0)) ∷ []

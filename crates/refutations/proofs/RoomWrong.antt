@@ -26,7 +26,7 @@ use Rattle.request.specs.Submit.{chainFor, firstIn, needOfRequest, takenOf}
 use Rattle.request.specs.declared.judge.TransferRequest.{TransferRequest}
 use Rattle.request.specs.Plain.{Taken}
 use Rattle.ehci.specs.declared.call.Call.{Call}
-use Rattle.ehci.specs.declared.call.Call.the-variants.{StartBringUp, BringUpStep, AllocateAddress, OpenEndpoint, Close, SetAddress, SetPacketSize, Submit, Writeback, Cancel, Collect, Acknowledge, Drain, Rearm, Enable, Disable}
+use Rattle.ehci.specs.declared.call.Call.the-variants.{StartBringUp, BringUpStep, AllocateAddress, OpenEndpoint, Close, SetAddress, SetPacketSize, Submit, Writeback, Cancel, Collect, Acknowledge, Drain, Rearm, Enable, Disable, ClearHalt}
 use Rattle.ehci.specs.declared.reply.Answered.{Answered}
 use Rattle.ehci.specs.declared.reply.Answered.the-variants.{Done, Pending}
 use Rattle.ehci.specs.declared.reply.Given.the-variants.{Id, Nothing, Slot}
@@ -77,6 +77,7 @@ machine x w (Drain v) = stays w Pending (w .state)
 machine x w Rearm = stays w Pending (w .state)
 machine x w Enable = stays w Pending (w .state)
 machine x w Disable = stays w Pending (w .state)
+machine x w (ClearHalt k) = stays w Pending (w .state)
 
 -- endpoint n gets slot n
 abbrev numbered : ℕ → Answered
@@ -113,7 +114,7 @@ abbrev pub byte : TransferRequest
 byte = record { kind = Bulk; direction = Out; setup = 0; address = 0x500000; length = 1 }
 
 abbrev pub reads : Readings
-reads = record { command = 0; frame = 0 }
+reads = record { command = 0; frame = 0; overlay = 0 }
 
 abbrev opensBulk : ℕ → Call
 opensBulk n = OpenEndpoint (record { kind = Bulk; address = 1; number = n; packet = 512 })

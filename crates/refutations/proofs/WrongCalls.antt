@@ -6,6 +6,7 @@ use mathlib.Core.List.{List, [], _∷_}
 use lib.ListN.{length}
 use Rattle.register.specs.Bits.{anyOf, onlyBits, withBits, withoutBits}
 use Rattle.register.specs.Writes.{andThen, noWrites}
+use Rattle.token.specs.Overlay.{overlayToken}
 use Rattle.token.specs.Chunks.{chunkCount, needOf}
 use Rattle.token.specs.Tokens.{tokenOf}
 use Rattle.descriptor.specs.Descriptors.{newQtd, terminated, withNext}
@@ -59,7 +60,7 @@ opened-two-good : inRanges (used noBell (0 ∷ 0 ∷ []) (idle 1) (idle 1)) ≡ 
 opened-two-good = good 1
 
 pub submitted : core openedTwo (submits 0 0x500000) ≡ replies (Done (G.Id 1)) (writesWith (reading 0x80031)) (linkedOne (one 0 0 0 0 0 linked))
-unfolding applyOf decideOf asksOf rowsFit replied fillOf filledFrom noChain packed listOf submitDecided submitOf acceptsOf endpointAt decoded slotAt rangesGood bufferGood freeCount countZero needOf chunkCount settledSubmit acceptedWith takenFor takenPlaces placesFrom markOf stateWith afterId withOwner withEndpoint withSlot linkedRows startedOverlay attachedRing setupsWith recordAt bareAt chunkQtd newQtd tokenOf pageSlots withNext stateOf
+unfolding applyOf decideOf asksOf rowsFit replied fillOf filledFrom noChain packed listOf submitDecided submitOf acceptsOf endpointAt decoded slotAt rangesGood bufferGood freeCount countZero needOf chunkCount settledSubmit acceptedWith takenFor takenPlaces placesFrom markOf stateWith afterId withOwner withEndpoint withSlot linkedRows startedOverlay overlayToken attachedRing setupsWith recordAt bareAt chunkQtd newQtd tokenOf pageSlots withNext stateOf
 submitted = rw opened-two-good
 
 linked-good : inRanges (one 0 0 0 0 0 linked) ≡ true
@@ -104,11 +105,11 @@ free-good = good 6
 
 abbrev pub againOne : World
 againOne =
-    withRows (used (bellOf 0 0x20 0 0 0) (1 ∷ 0 ∷ []) (record { phase = 2; kind = 2; size = 512; id = 3; request = 2; direction = 0; length = 512; cancel = 0; boundary = 0 }) (idle 1))
+    withRows (used (bellOf 0 0x20 0 0 0) (1 ∷ 0 ∷ []) (record { phase = 2; kind = 2; size = 512; toggle = 0; id = 3; request = 2; direction = 0; length = 512; cancel = 0; boundary = 0 }) (idle 1))
     (chunk 0x502000 ∷ blank ∷ []) (headsOf 0x200082 (headOf 0x200002 0xF2002105 0x100000) (headOf 1 0xF2002205 1))
 
 pub submitted-again : core freeOne (submits 0 0x502000) ≡ replies (Done (G.Id 2)) (writesWith (reading 0x80031)) againOne
-unfolding applyOf decideOf asksOf rowsFit replied fillOf filledFrom noChain packed listOf submitDecided submitOf acceptsOf endpointAt decoded slotAt rangesGood bufferGood freeCount countZero needOf chunkCount settledSubmit acceptedWith takenFor takenPlaces placesFrom markOf stateWith afterId withOwner withEndpoint withSlot linkedRows startedOverlay attachedRing setupsWith recordAt bareAt chunkQtd newQtd tokenOf pageSlots withNext stateOf
+unfolding applyOf decideOf asksOf rowsFit replied fillOf filledFrom noChain packed listOf submitDecided submitOf acceptsOf endpointAt decoded slotAt rangesGood bufferGood freeCount countZero needOf chunkCount settledSubmit acceptedWith takenFor takenPlaces placesFrom markOf stateWith afterId withOwner withEndpoint withSlot linkedRows startedOverlay overlayToken attachedRing setupsWith recordAt bareAt chunkQtd newQtd tokenOf pageSlots withNext stateOf
 submitted-again = rw free-good
 
 -- ---- two requests, and what comes of them
@@ -127,7 +128,7 @@ abbrev pub apartTwo : Ehci → World
 apartTwo s = pairWorld s (headsOf 0x200002 (headOf 0x200002 0xF2002105 0x100000) (headOf 0x200002 0xF2002205 0x100040))
 
 pub submitted-two : core (linkedOne (one 0 0 0 0 0 linked)) (submits 1 0x501000) ≡ replies (Done (G.Id 1)) (writesWith (reading 0x80031)) linkedTwo
-unfolding applyOf decideOf asksOf rowsFit replied fillOf filledFrom noChain packed listOf submitDecided submitOf acceptsOf endpointAt decoded slotAt rangesGood bufferGood freeCount countZero needOf chunkCount settledSubmit acceptedWith takenFor takenPlaces placesFrom markOf stateWith afterId withOwner withEndpoint withSlot linkedRows startedOverlay attachedRing setupsWith recordAt bareAt chunkQtd newQtd tokenOf pageSlots withNext stateOf
+unfolding applyOf decideOf asksOf rowsFit replied fillOf filledFrom noChain packed listOf submitDecided submitOf acceptsOf endpointAt decoded slotAt rangesGood bufferGood freeCount countZero needOf chunkCount settledSubmit acceptedWith takenFor takenPlaces placesFrom markOf stateWith afterId withOwner withEndpoint withSlot linkedRows startedOverlay overlayToken attachedRing setupsWith recordAt bareAt chunkQtd newQtd tokenOf pageSlots withNext stateOf
 submitted-two = rw linked-good
 
 one-apart-good : inRanges (one 0 0 0 1 1 (waits 1)) ≡ true
@@ -135,7 +136,7 @@ one-apart-good = good 14
 
 -- a second request beside one that is out of the ring
 pub submitted-beside : core (apartOne (one 0 0 0 1 1 (waits 1))) (submits 1 0x501000) ≡ replies (Done (G.Id 1)) (writesWith (reading 0x80031)) apartFirst
-unfolding applyOf decideOf asksOf rowsFit replied fillOf filledFrom noChain packed listOf submitDecided submitOf acceptsOf endpointAt decoded slotAt rangesGood bufferGood freeCount countZero needOf chunkCount settledSubmit acceptedWith takenFor takenPlaces placesFrom markOf stateWith afterId withOwner withEndpoint withSlot linkedRows startedOverlay attachedRing setupsWith recordAt bareAt chunkQtd newQtd tokenOf pageSlots withNext stateOf
+unfolding applyOf decideOf asksOf rowsFit replied fillOf filledFrom noChain packed listOf submitDecided submitOf acceptsOf endpointAt decoded slotAt rangesGood bufferGood freeCount countZero needOf chunkCount settledSubmit acceptedWith takenFor takenPlaces placesFrom markOf stateWith afterId withOwner withEndpoint withSlot linkedRows startedOverlay overlayToken attachedRing setupsWith recordAt bareAt chunkQtd newQtd tokenOf pageSlots withNext stateOf
 submitted-beside = rw one-apart-good
 
 two-linked-good : inRanges (two 0 0 0 0 0 linked linked) ≡ true
@@ -196,11 +197,11 @@ second-free-good = good 13
 
 abbrev pub againSecond : World
 againSecond =
-    withRows (used (bellOf 0 0x24 0 0 0) (1 ∷ 2 ∷ []) (waits 0) (record { phase = 2; kind = 2; size = 512; id = 3; request = 2; direction = 0; length = 512; cancel = 0; boundary = 0 }))
+    withRows (used (bellOf 0 0x24 0 0 0) (1 ∷ 2 ∷ []) (waits 0) (record { phase = 2; kind = 2; size = 512; toggle = 0; id = 3; request = 2; direction = 0; length = 512; cancel = 0; boundary = 0 }))
     (chunk 0x500000 ∷ chunk 0x502000 ∷ []) (headsOf 0x200102 (headOf 0x200002 0xF2002105 0x100000) (headOf 0x200002 0xF2002205 0x100040))
 
 pub submitted-second : core freeSecond (submits 1 0x502000) ≡ replies (Done (G.Id 2)) (writesWith (reading 0x80031)) againSecond
-unfolding applyOf decideOf asksOf rowsFit replied fillOf filledFrom noChain packed listOf submitDecided submitOf acceptsOf endpointAt decoded slotAt rangesGood bufferGood freeCount countZero needOf chunkCount settledSubmit acceptedWith takenFor takenPlaces placesFrom markOf stateWith afterId withOwner withEndpoint withSlot linkedRows startedOverlay attachedRing setupsWith recordAt bareAt chunkQtd newQtd tokenOf pageSlots withNext stateOf
+unfolding applyOf decideOf asksOf rowsFit replied fillOf filledFrom noChain packed listOf submitDecided submitOf acceptsOf endpointAt decoded slotAt rangesGood bufferGood freeCount countZero needOf chunkCount settledSubmit acceptedWith takenFor takenPlaces placesFrom markOf stateWith afterId withOwner withEndpoint withSlot linkedRows startedOverlay overlayToken attachedRing setupsWith recordAt bareAt chunkQtd newQtd tokenOf pageSlots withNext stateOf
 submitted-second = rw second-free-good
 
 -- ---- runs

@@ -21,7 +21,7 @@ use Rattle.opening.specs.Opening.{openedHeads}
 use Rattle.controller.specs.declared.lent.Readings.{Readings}
 use Rattle.schedule.specs.Links.{attachedRing, linkWord, ringLink, withLinkWord, withRingLink}
 use Rattle.ehci.specs.declared.call.Call.{Call}
-use Rattle.ehci.specs.declared.call.Call.the-variants.{StartBringUp, BringUpStep, AllocateAddress, OpenEndpoint, Close, SetAddress, SetPacketSize, Submit, Writeback, Cancel, Collect, Acknowledge, Drain, Rearm, Enable, Disable}
+use Rattle.ehci.specs.declared.call.Call.the-variants.{StartBringUp, BringUpStep, AllocateAddress, OpenEndpoint, Close, SetAddress, SetPacketSize, Submit, Writeback, Cancel, Collect, Acknowledge, Drain, Rearm, Enable, Disable, ClearHalt}
 use Rattle.ehci.specs.declared.reply.Answered.{Answered}
 use Rattle.ehci.specs.declared.reply.Answered.the-variants.{Done, Pending}
 use Rattle.ehci.specs.declared.reply.Given.the-variants.{Id, Nothing}
@@ -79,6 +79,7 @@ linking x w (Drain v) = idle w
 linking x w Rearm = idle w
 linking x w Enable = idle w
 linking x w Disable = idle w
+linking x w (ClearHalt k) = idle w
 
 -- first in the ring, in every frame entry; the ring head's link skips the first head
 abbrev plainly : Ways
@@ -123,7 +124,7 @@ once = linking (record { ring = plainly .ring; frames = λ f link. set f 0 link;
 -- ---- runs
 
 abbrev reading : Readings
-reading = record { command = 0; frame = 0 }
+reading = record { command = 0; frame = 0; overlay = 0 }
 
 abbrev pub asks : EndpointType → ℕ → Call
 asks kind k = Submit k (record { kind = kind; direction = Out; setup = 0; address = 0; length = 0 }) reading

@@ -16,7 +16,7 @@ use Rattle.pool.specs.Places.{clearOf, listOf, packed, placesFrom}
 use Rattle.pool.specs.Transfers.{requestedAt}
 use Rattle.pool.specs.Plain.{Ask}
 use Rattle.settings.specs.Settings.{apartAreas, areaGood, eachGood, noOverlap, numbersGood, settingsGood}
-use Rattle.slot.specs.Ranges.{boundaryGood, closedGood, idleGood, linkedGood, noRequest, openKind, phaseGood, slotGood, unlinkingGood, sizeGood, sizeKept}
+use Rattle.slot.specs.Ranges.{boundaryGood, closedGood, idleGood, linkedGood, noRequest, openKind, phaseGood, slotGood, unlinkingGood, sizeGood, sizeKept, toggleKept}
 use Rattle.slot.specs.declared.slot.Slot.{Slot}
 use Rattle.state.specs.Ranges.{inRanges, doorbellGood, interruptGood, largest, machineGood, ownerGood, restGood, slotsGood}
 use Rattle.state.specs.Slots.{slotAt, withSlot}
@@ -35,7 +35,7 @@ use Rattle.collection.specs.Calls.{collectOf, finishOf, freed, linkedOf, unlink
 use Rattle.collection.specs.Unlinks.{boundedOf, unlinkOf, waitingOf}
 use Rattle.interrupt.specs.Interrupts.{acknowledgeOf, acknowledgeWrites, acknowledgedState, countedOf, drainOf, notedAfter, clearedOf}
 use Rattle.ehci.specs.declared.call.Call.{Call}
-use Rattle.ehci.specs.declared.call.Call.the-variants.{StartBringUp, BringUpStep, AllocateAddress, OpenEndpoint, Close, SetAddress, SetPacketSize, Submit, Writeback, Cancel, Collect, Acknowledge, Drain, Rearm, Enable, Disable}
+use Rattle.ehci.specs.declared.call.Call.the-variants.{StartBringUp, BringUpStep, AllocateAddress, OpenEndpoint, Close, SetAddress, SetPacketSize, Submit, Writeback, Cancel, Collect, Acknowledge, Drain, Rearm, Enable, Disable, ClearHalt}
 use Rattle.ehci.specs.declared.reply.Answered.{Answered}
 use Rattle.ehci.specs.declared.reply.Answered.the-variants.{Done, Pending, Cancelled, Failed, Refused}
 use Rattle.ehci.specs.declared.reply.Given.the-variants as G
@@ -75,6 +75,7 @@ rank (Drain v) = 4
 rank Rearm = 4
 rank Enable = 4
 rank Disable = 4
+rank (ClearHalt k) = 4
 
 pub rises-up : (m : Machine inPlain) → ((w : World) (c : Call) → rank c ≡ 0 → m w c ≡ core w c) → Rises m
 rises-up m same =
@@ -102,7 +103,7 @@ abbrev pub apartNow : Ehci → World
 apartNow s = withRows s moved512 (headsOf 0x200002 (headOf 0x200002 0xF2002105 0x100000) (headOf 1 0xF2002205 1))
 
 states-good : (inRanges (one 0 0 0 0 0 linked) ≡ true) × (inRanges (one 0 0 0 1 1 (leaves 1)) ≡ true) × (inRanges (one 0x20 0x20 1 1 1 (leaves 1)) ≡ true) × (inRanges (one 0 0x20 0 0 0 (leaves 0)) ≡ true)
-unfolding stateOf inRanges restGood machineGood interruptGood doorbellGood ownerGood largest slotsGood slotGood sizeKept sizeGood phaseGood closedGood idleGood linkedGood unlinkingGood boundaryGood openKind noRequest settingsGood numbersGood eachGood noOverlap areaGood apartAreas slotAt withoutBits
+unfolding stateOf inRanges restGood machineGood interruptGood doorbellGood ownerGood largest slotsGood slotGood sizeKept toggleKept sizeGood phaseGood closedGood idleGood linkedGood unlinkingGood boundaryGood openKind noRequest settingsGood numbersGood eachGood noOverlap areaGood apartAreas slotAt withoutBits
 states-good = (refl, refl, refl, refl)
 
 pub written : core (linkedOne (one 0 0 0 0 0 linked)) (Writeback 0 0x000C8C00) ≡ replies (Done G.Nothing) noWrites (linkedNow (one 0 0 0 0 0 linked))

@@ -7,6 +7,7 @@ use native.Mathlib.Omega.{arith}
 use lib.ListN.{length, replicate}
 use Rattle.register.specs.Bits.{withoutBits}
 use Rattle.register.specs.Writes.{noWrites}
+use Rattle.token.specs.Overlay.{overlayToken}
 use Rattle.token.specs.Chunks.{chunkCount, needOf}
 use Rattle.token.specs.Tokens.{tokenOf}
 use Rattle.common.specs.declared.kinds.Direction.the-variants.{Out}
@@ -20,7 +21,7 @@ use Rattle.pool.specs.Places.{clearOf, listOf, markOf, packed, placesFrom}
 use Rattle.pool.specs.Transfers.{bareAt, chunkQtd, recordAt}
 use Rattle.settings.specs.Settings.{apartAreas, areaGood, eachGood, noOverlap, numbersGood, settingsGood}
 use Rattle.slot.specs.declared.slot.Slot.{Slot}
-use Rattle.slot.specs.Ranges.{boundaryGood, closedGood, idleGood, linkedGood, noRequest, openKind, phaseGood, slotGood, unlinkingGood, sizeGood, sizeKept}
+use Rattle.slot.specs.Ranges.{boundaryGood, closedGood, idleGood, linkedGood, noRequest, openKind, phaseGood, slotGood, unlinkingGood, sizeGood, sizeKept, toggleKept}
 use Rattle.state.specs.Plain.{Ehci}
 use Rattle.state.specs.Ranges.{doorbellGood, inRanges, interruptGood, largest, machineGood, ownerGood, restGood, slotsGood}
 use Rattle.state.specs.Slots.{slotAt, withSlot}
@@ -42,7 +43,7 @@ use Rattle.collection.specs.Unlinks.{boundedOf, unlinkOf, waitingOf}
 use Rattle.collection.specs.Calls.{cancelOf, collectOf, finishOf, freed, unlinkingOf}
 use Rattle.collection.specs.Answers.{outcomeOf}
 use Rattle.ehci.specs.declared.call.Call.{Call}
-use Rattle.ehci.specs.declared.call.Call.the-variants.{StartBringUp, BringUpStep, AllocateAddress, OpenEndpoint, Close, SetAddress, SetPacketSize, Submit, Writeback, Cancel, Collect, Acknowledge, Drain, Rearm, Enable, Disable}
+use Rattle.ehci.specs.declared.call.Call.the-variants.{StartBringUp, BringUpStep, AllocateAddress, OpenEndpoint, Close, SetAddress, SetPacketSize, Submit, Writeback, Cancel, Collect, Acknowledge, Drain, Rearm, Enable, Disable, ClearHalt}
 use Rattle.ehci.specs.declared.reply.Answered.the-variants.{Done, Cancelled}
 use Rattle.ehci.specs.declared.reply.Given.the-variants as G
 use Rattle.ehci.specs.Replies.{replied}
@@ -62,7 +63,7 @@ use Rattle.refutations.proofs.Scripts.{Follows, Script, arrives, callsO
 -- ---- the machine: a collect takes FRINDEX to be 9 on from what was read
 
 abbrev later : Readings → Readings
-later r = record { command = r .command; frame = r .frame + 9 }
+later r = record { command = r .command; frame = r .frame + 9; overlay = r .overlay }
 
 abbrev sooner : Call → Call
 sooner StartBringUp = StartBringUp
@@ -81,6 +82,7 @@ sooner (Drain v) = Drain v
 sooner Rearm = Rearm
 sooner Enable = Enable
 sooner Disable = Disable
+sooner (ClearHalt k) = ClearHalt k
 
 abbrev pub hasty : Machine inPlain
 hasty w c = core w (sooner c)
@@ -88,17 +90,17 @@ hasty w c = core w (sooner c)
 -- ---- an interrupt request, and what comes of it
 
 abbrev idle : ℕ → Slot
-idle id = bareSlot 1 3 512 id
+idle id = bareSlot 1 3 512 0 id
 
 abbrev asked : ℕ → ℕ → ℕ → Slot
-asked id phase cancel = record { phase = phase; kind = 3; size = 512; id = id + 1; request = id; direction = 0; length = 512; cancel = cancel; boundary = 0 }
+asked id phase cancel = record { phase = phase; kind = 3; size = 512; toggle = 0; id = id + 1; request = id; direction = 0; length = 512; cancel = cancel; boundary = 0 }
 
 abbrev state : List ℕ → Slot → Ehci
 state owner a = used noBell owner a closed
 
 states-good : (inRanges (state (0 ∷ 0 ∷ []) (idle 1)) ≡ true) × (inRanges (state (1 ∷ 0 ∷ []) (asked 1 2 0)) ≡ true)
     × (inRanges (state (1 ∷ 0 ∷ []) (asked 1 3 1)) ≡ true) × (inRanges (state (0 ∷ 0 ∷ []) (idle 2)) ≡ true)
-unfolding stateOf inRanges restGood machineGood interruptGood doorbellGood ownerGood largest slotsGood slotGood sizeKept sizeGood phaseGood closedGood idleGood linkedGood unlinkingGood boundaryGood openKind noRequest settingsGood numbersGood eachGood noOverlap areaGood apartAreas slotAt withoutBits
+unfolding stateOf inRanges restGood machineGood interruptGood doorbellGood ownerGood largest slotsGood slotGood sizeKept toggleKept sizeGood phaseGood closedGood idleGood linkedGood unlinkingGood boundaryGood openKind noRequest settingsGood numbersGood eachGood noOverlap areaGood apartAreas slotAt withoutBits
 states-good = (refl, refl, refl, refl)
 
 -- slot 0's head: its overlay's next
@@ -137,7 +139,7 @@ unfolding applyOf decideOf asksOf rowsFit replied fillOf filledFrom noChain pack
 opens = rw (rising-good 1 0 refl refl)
 
 links : core opened (submits 0x500000) ≡ replies (Done (G.Id 1)) (writesWith (reading 0x80031)) linked
-unfolding applyOf decideOf asksOf rowsFit replied fillOf filledFrom noChain packed listOf submitDecided submitOf acceptsOf endpointAt decoded slotAt rangesGood bufferGood freeCount countZero needOf chunkCount settledSubmit acceptedWith takenFor takenPlaces placesFrom markOf stateWith afterId withOwner withEndpoint withSlot linkedRows startedOverlay attachedFrames setupsWith recordAt bareAt chunkQtd newQtd tokenOf pageSlots withNext stateOf
+unfolding applyOf decideOf asksOf rowsFit replied fillOf filledFrom noChain packed listOf submitDecided submitOf acceptsOf endpointAt decoded slotAt rangesGood bufferGood freeCount countZero needOf chunkCount settledSubmit acceptedWith takenFor takenPlaces placesFrom markOf stateWith afterId withOwner withEndpoint withSlot linkedRows startedOverlay overlayToken attachedFrames setupsWith recordAt bareAt chunkQtd newQtd tokenOf pageSlots withNext stateOf
 links = rw (states-good .0)
 
 unlinks : core linked (Cancel 0 1 (reading 0x80031)) ≡ replies (Done G.Nothing) noWrites parts
@@ -149,7 +151,7 @@ unfolding applyOf decideOf asksOf rowsFit replied fillOf filledFrom noChain pack
 collects = rw (states-good .2)
 
 links-again : core free (submits 0x502000) ≡ replies (Done (G.Id 2)) (writesWith (reading 0x80031)) again
-unfolding applyOf decideOf asksOf rowsFit replied fillOf filledFrom noChain packed listOf submitDecided submitOf acceptsOf endpointAt decoded slotAt rangesGood bufferGood freeCount countZero needOf chunkCount settledSubmit acceptedWith takenFor takenPlaces placesFrom markOf stateWith afterId withOwner withEndpoint withSlot linkedRows startedOverlay attachedFrames setupsWith recordAt bareAt chunkQtd newQtd tokenOf pageSlots withNext stateOf
+unfolding applyOf decideOf asksOf rowsFit replied fillOf filledFrom noChain packed listOf submitDecided submitOf acceptsOf endpointAt decoded slotAt rangesGood bufferGood freeCount countZero needOf chunkCount settledSubmit acceptedWith takenFor takenPlaces placesFrom markOf stateWith afterId withOwner withEndpoint withSlot linkedRows startedOverlay overlayToken attachedFrames setupsWith recordAt bareAt chunkQtd newQtd tokenOf pageSlots withNext stateOf
 links-again = rw (states-good .3)
 
 -- ---- the run: its collect reads the FRINDEX that its unlink read

@@ -7,6 +7,7 @@ use native.Mathlib.Omega.{arith}
 use lib.Dec.{eqb}
 use Rattle.register.specs.Bits.{anyOf, onlyBits, withBits, withoutBits}
 use Rattle.register.specs.Writes.{andThen, noWrites}
+use Rattle.token.specs.Overlay.{overlayToken}
 use Rattle.token.specs.Chunks.{chunkCount, needOf}
 use Rattle.token.specs.Tokens.{tokenOf}
 use Rattle.descriptor.specs.Descriptors.{newQtd, terminated, withNext}
@@ -15,7 +16,7 @@ use Rattle.pool.specs.Chains.{blank, fillOf, filledFrom, noChain}
 use Rattle.pool.specs.Places.{clearOf, listOf, markOf, packed, placesFrom}
 use Rattle.pool.specs.Transfers.{bareAt, chunkQtd, recordAt}
 use Rattle.settings.specs.Settings.{apartAreas, areaGood, eachGood, noOverlap, numbersGood, settingsGood}
-use Rattle.slot.specs.Ranges.{boundaryGood, closedGood, idleGood, linkedGood, noRequest, openKind, phaseGood, slotGood, unlinkingGood, sizeGood, sizeKept}
+use Rattle.slot.specs.Ranges.{boundaryGood, closedGood, idleGood, linkedGood, noRequest, openKind, phaseGood, slotGood, unlinkingGood, sizeGood, sizeKept, toggleKept}
 use Rattle.slot.specs.declared.slot.Slot.{Slot}
 use Rattle.state.specs.Plain.{Ehci}
 use Rattle.state.specs.Ranges.{doorbellGood, inRanges, interruptGood, largest, machineGood, ownerGood, restGood, slotsGood}
@@ -118,7 +119,7 @@ second-due = ap (nextId small 0) (is-told thrice w upCalls openedTwo up second s
 
 abbrev slotOf : ℕ → ℕ → ℕ → ℕ → Slot
 slotOf n phase cancel boundary =
-    record { phase = phase; kind = 2; size = 512; id = n + 1; request = n; direction = 0; length = 512; cancel = cancel; boundary = boundary }
+    record { phase = phase; kind = 2; size = 512; toggle = 0; id = n + 1; request = n; direction = 0; length = 512; cancel = cancel; boundary = boundary }
 
 abbrev bare : ℕ → Ehci
 bare n = used (bellOf 0 0x20 0 0 0) (0 ∷ 0 ∷ []) (idle (n + 1)) (idle 1)
@@ -174,7 +175,7 @@ module _ (n : ℕ) (g : Goods n) where
   ends-n = rw (g .counted-good, g .same)
 
   submits-n : core (freeN n) again ≡ replies (Done (G.Id (n + 1))) (writesWith (reading 0x80031)) (linkedN (n + 1))
-  unfolding applyOf decideOf asksOf rowsFit replied fillOf filledFrom noChain packed listOf submitDecided submitOf acceptsOf endpointAt decoded slotAt rangesGood bufferGood freeCount countZero needOf chunkCount settledSubmit acceptedWith takenFor takenPlaces placesFrom markOf stateWith afterId withOwner withEndpoint withSlot linkedRows startedOverlay attachedRing setupsWith recordAt bareAt chunkQtd newQtd tokenOf pageSlots withNext stateOf
+  unfolding applyOf decideOf asksOf rowsFit replied fillOf filledFrom noChain packed listOf submitDecided submitOf acceptsOf endpointAt decoded slotAt rangesGood bufferGood freeCount countZero needOf chunkCount settledSubmit acceptedWith takenFor takenPlaces placesFrom markOf stateWith afterId withOwner withEndpoint withSlot linkedRows startedOverlay overlayToken attachedRing setupsWith recordAt bareAt chunkQtd newQtd tokenOf pageSlots withNext stateOf
   submits-n = rw (g .free-good, g .more)
 
   -- and the next request is accepted
@@ -206,11 +207,11 @@ module _ (n : ℕ) (g : Goods n) where
     next-due = ap (nextId small 0) (is-told thrice w cs (linkedN n) e goesOn goes-so)
 
 goods-two : Goods 2
-unfolding stateOf inRanges restGood machineGood interruptGood doorbellGood ownerGood largest slotsGood slotGood sizeKept sizeGood phaseGood closedGood idleGood linkedGood unlinkingGood boundaryGood openKind noRequest settingsGood numbersGood eachGood noOverlap areaGood apartAreas slotAt withoutBits
+unfolding stateOf inRanges restGood machineGood interruptGood doorbellGood ownerGood largest slotsGood slotGood sizeKept toggleKept sizeGood phaseGood closedGood idleGood linkedGood unlinkingGood boundaryGood openKind noRequest settingsGood numbersGood eachGood noOverlap areaGood apartAreas slotAt withoutBits
 goods-two = record { same = refl; more = refl; linked-good = refl; left-good = refl; heard-good = refl; counted-good = refl; free-good = refl }
 
 goods-three : Goods 3
-unfolding stateOf inRanges restGood machineGood interruptGood doorbellGood ownerGood largest slotsGood slotGood sizeKept sizeGood phaseGood closedGood idleGood linkedGood unlinkingGood boundaryGood openKind noRequest settingsGood numbersGood eachGood noOverlap areaGood apartAreas slotAt withoutBits
+unfolding stateOf inRanges restGood machineGood interruptGood doorbellGood ownerGood largest slotsGood slotGood sizeKept toggleKept sizeGood phaseGood closedGood idleGood linkedGood unlinkingGood boundaryGood openKind noRequest settingsGood numbersGood eachGood noOverlap areaGood apartAreas slotAt withoutBits
 goods-three = record { same = refl; more = refl; linked-good = refl; left-good = refl; heard-good = refl; counted-good = refl; free-good = refl }
 
 -- ---- four requests

@@ -9,6 +9,7 @@ use lib.Dec.{eqb}
 use lib.ListN.{length, replicate}
 use Rattle.register.specs.Bits.{withBits, withoutBits}
 use Rattle.register.specs.Writes.{andThen, noWrites}
+use Rattle.token.specs.Overlay.{overlayToken}
 use Rattle.token.specs.Chunks.{chunkCount, needOf}
 use Rattle.token.specs.Tokens.{tokenOf}
 use Rattle.common.specs.declared.kinds.Direction.the-variants.{In}
@@ -22,7 +23,7 @@ use Rattle.pool.specs.Transfers.{bareAt, chunkQtd, recordAt, requestedAt}
 use Rattle.pool.specs.Plain.{Ask}
 use Rattle.settings.specs.Settings.{apartAreas, areaGood, eachGood, noOverlap, numbersGood, settingsGood}
 use Rattle.slot.specs.Ids.{afterId}
-use Rattle.slot.specs.Ranges.{boundaryGood, closedGood, idleGood, linkedGood, noRequest, openKind, phaseGood, slotGood, unlinkingGood, sizeGood, sizeKept}
+use Rattle.slot.specs.Ranges.{boundaryGood, closedGood, idleGood, linkedGood, noRequest, openKind, phaseGood, slotGood, unlinkingGood, sizeGood, sizeKept, toggleKept}
 use Rattle.slot.specs.declared.slot.Slot.{Slot}
 use Rattle.state.specs.Ranges.{inRanges, doorbellGood, interruptGood, largest, machineGood, ownerGood, restGood, slotsGood}
 use Rattle.state.specs.Slots.{slotAt, withSlot}
@@ -73,7 +74,7 @@ looks = Collect 0 1 (reading 0x80031)
 
 abbrev slotOf : ℕ → ℕ → Slot
 slotOf phase boundary =
-    record { phase = phase; kind = 2; size = 512; id = 2; request = 1; direction = 1; length = 16385; cancel = 0; boundary = boundary }
+    record { phase = phase; kind = 2; size = 512; toggle = 0; id = 2; request = 1; direction = 1; length = 16385; cancel = 0; boundary = boundary }
 
 abbrev linkedState : Ehci
 linkedState = used noBell (1 ∷ 1 ∷ []) (slotOf 2 0) (idle 1)
@@ -95,11 +96,11 @@ opened-good : inRanges (used noBell (0 ∷ 0 ∷ []) (idle 1) (idle 1)) ≡ true
 opened-good = good 1
 
 linked-good : inRanges linkedState ≡ true
-unfolding stateOf inRanges restGood machineGood interruptGood doorbellGood ownerGood largest slotsGood slotGood sizeKept sizeGood phaseGood closedGood idleGood linkedGood unlinkingGood boundaryGood openKind noRequest settingsGood numbersGood eachGood noOverlap areaGood apartAreas slotAt withoutBits
+unfolding stateOf inRanges restGood machineGood interruptGood doorbellGood ownerGood largest slotsGood slotGood sizeKept toggleKept sizeGood phaseGood closedGood idleGood linkedGood unlinkingGood boundaryGood openKind noRequest settingsGood numbersGood eachGood noOverlap areaGood apartAreas slotAt withoutBits
 linked-good = refl
 
 submitted : core openedTwo submits ≡ replies (Done (G.Id 1)) (writesWith (reading 0x80031)) (linkedWith 0x40000D80)
-unfolding applyOf decideOf asksOf rowsFit replied fillOf filledFrom noChain packed listOf submitDecided submitOf acceptsOf endpointAt decoded slotAt rangesGood bufferGood freeCount countZero needOf chunkCount settledSubmit acceptedWith takenFor takenPlaces placesFrom markOf stateWith afterId withOwner withEndpoint withSlot linkedRows startedOverlay attachedRing setupsWith recordAt bareAt chunkQtd newQtd tokenOf pageSlots withNext stateOf
+unfolding applyOf decideOf asksOf rowsFit replied fillOf filledFrom noChain packed listOf submitDecided submitOf acceptsOf endpointAt decoded slotAt rangesGood bufferGood freeCount countZero needOf chunkCount settledSubmit acceptedWith takenFor takenPlaces placesFrom markOf stateWith afterId withOwner withEndpoint withSlot linkedRows startedOverlay overlayToken attachedRing setupsWith recordAt bareAt chunkQtd newQtd tokenOf pageSlots withNext stateOf
 submitted = rw opened-good
 
 written : core (linkedWith 0x40000D80) (Writeback 0 short) ≡ replies (Done G.Nothing) noWrites (linkedWith short)

@@ -28,7 +28,7 @@ use Rattle.request.specs.Submit.{chainFor, firstIn, needOfRequest, takenOf}
 use Rattle.request.specs.declared.judge.TransferRequest.{TransferRequest}
 use Rattle.request.specs.Plain.{Taken}
 use Rattle.ehci.specs.declared.call.Call.{Call}
-use Rattle.ehci.specs.declared.call.Call.the-variants.{StartBringUp, BringUpStep, AllocateAddress, OpenEndpoint, Close, SetAddress, SetPacketSize, Submit, Writeback, Cancel, Collect, Acknowledge, Drain, Rearm, Enable, Disable}
+use Rattle.ehci.specs.declared.call.Call.the-variants.{StartBringUp, BringUpStep, AllocateAddress, OpenEndpoint, Close, SetAddress, SetPacketSize, Submit, Writeback, Cancel, Collect, Acknowledge, Drain, Rearm, Enable, Disable, ClearHalt}
 use Rattle.ehci.specs.declared.reply.Answered.the-variants.{Done, Pending}
 use Rattle.ehci.specs.declared.reply.Given.the-variants.{Id}
 use Rattle.ehci.specs.Door.{Applied, applied}
@@ -58,7 +58,7 @@ abbrev asks : TransferRequest
 asks = record { kind = Bulk; direction = In; setup = 0; address = 0x500000; length = 16385 }
 
 abbrev call : Call
-call = Submit 0 asks (record { command = 0; frame = 0 })
+call = Submit 0 asks (record { command = 0; frame = 0; overlay = 0 })
 
 -- ---- machines that take so many places and do something to the records
 
@@ -88,6 +88,7 @@ machine more of f w (Drain v) = stays w
 machine more of f w Rearm = stays w
 machine more of f w Enable = stays w
 machine more of f w Disable = stays w
+machine more of f w (ClearHalt k) = stays w
 
 abbrev plain : Machine inPlain
 plain = machine 0 2 (λ rs. rs)

@@ -31,7 +31,7 @@ use Rattle.schedule.specs.Links.{startedOverlay}
 use Rattle.request.specs.Submit.{chainFor, firstIn, needOfRequest, setupsWith, takenOf, writesWith}
 use Rattle.request.specs.declared.judge.TransferRequest.{TransferRequest}
 use Rattle.request.specs.Plain.{Taken}
-use Rattle.ehci.specs.declared.call.Call.the-variants.{StartBringUp, BringUpStep, AllocateAddress, OpenEndpoint, Close, SetAddress, SetPacketSize, Submit, Writeback, Cancel, Collect, Acknowledge, Drain, Rearm, Enable, Disable}
+use Rattle.ehci.specs.declared.call.Call.the-variants.{StartBringUp, BringUpStep, AllocateAddress, OpenEndpoint, Close, SetAddress, SetPacketSize, Submit, Writeback, Cancel, Collect, Acknowledge, Drain, Rearm, Enable, Disable, ClearHalt}
 use Rattle.ehci.specs.declared.reply.Answered.the-variants.{Done, Pending}
 use Rattle.ehci.specs.declared.reply.Given.the-variants.{Id}
 use Rattle.ehci.specs.Replies.{answeredNumber}
@@ -98,6 +98,7 @@ machine x w (Drain v) = stays w
 machine x w Rearm = stays w
 machine x w Enable = leaves w (x .enable (w .rows .setups))
 machine x w Disable = stays w
+machine x w (ClearHalt k) = stays w
 
 abbrev plain : Machine inPlain
 plain = machine (record { token = λ w. w; packet = λ t. t; enable = λ l. l })
@@ -126,7 +127,7 @@ abbrev asks : TransferRequest
 asks = record { kind = Control; direction = In; setup = 0x000001000680; address = 0x10000FFF; length = 18 }
 
 abbrev reads : Readings
-reads = record { command = 0; frame = 0 }
+reads = record { command = 0; frame = 0; overlay = 0 }
 
 abbrev left : Machine inPlain → Rows
 left m = rowsOf (m (freshWorld trio) (Submit 0 asks reads))

@@ -12,17 +12,18 @@ use Rattle.common.specs.Kinds.{isControl, isInterrupt}
 use Rattle.common.specs.Rows.{putAt}
 use Rattle.controller.specs.declared.lent.Readings.{Readings}
 use Rattle.schedule.specs.Links.{Links, attachedFrames, attachedRing, links, slotLink, startedOverlay}
-use Rattle.request.specs.Submit.{acceptedWith, firstIn, linkedRows, settledSubmit, setupsWith, submitted, takenFor}
+use Rattle.request.specs.Submit.{acceptedWith, firstIn, linkedRows, settledSubmit, setupsWith, submitted, takenFor, toggleAt}
 use Rattle.request.specs.Plain.{Submitted}
 use Rattle.request.specs.declared.judge.TransferRequest.{TransferRequest}
 use Rattle.request.specs.Plain.{Taken}
+use Rattle.token.specs.Overlay.{overlayToken}
 
-module _ (h f h′ : List ℕ) (kind : EndpointType) (k link first : ℕ) (i : Bool) (eh : h′ ≡ startedOverlay h k first 0) (ei : i ≡ isInterrupt kind) where
-  pub rows-frames : i ≡ true → (h″ f″ : List ℕ) → links h″ f″ ≡ attachedFrames h′ f k link → links h″ f″ ≡ linkedRows h f kind k link first
+module _ (h f h′ : List ℕ) (kind : EndpointType) (k link first token : ℕ) (i : Bool) (eh : h′ ≡ startedOverlay h k first token) (ei : i ≡ isInterrupt kind) where
+  pub rows-frames : i ≡ true → (h″ f″ : List ℕ) → links h″ f″ ≡ attachedFrames h′ f k link → links h″ f″ ≡ linkedRows h f kind k link first token
   unfolding linkedRows
   rows-frames t h″ f″ e = e ∙ rw (sym ei ∙ t, eh)
 
-  pub rows-ring : i ≡ false → (h″ : List ℕ) → h″ ≡ attachedRing h′ k link → links h″ f ≡ linkedRows h f kind k link first
+  pub rows-ring : i ≡ false → (h″ : List ℕ) → h″ ≡ attachedRing h′ k link → links h″ f ≡ linkedRows h f kind k link first token
   unfolding linkedRows
   rows-ring t h″ e = rw (sym ei ∙ t, e, eh)
 
@@ -42,7 +43,7 @@ packed-first [] = refl
 packed-first (p ∷ ps) = refl
 
 pub settled-is : (s : Ehci) (h f u h′ f′ u′ : List ℕ) (r : Readings) (k : ℕ) (t : TransferRequest) (g : Taken) (x : Submitted)
-    → g ≡ takenFor s k t → links h′ f′ ≡ linkedRows h f (t .kind) k (slotLink s k) (firstIn s g) → u′ ≡ setupsWith u k t
+    → g ≡ takenFor s k t → links h′ f′ ≡ linkedRows h f (t .kind) k (slotLink s k) (firstIn s g) (overlayToken (t .kind) (toggleAt s k)) → u′ ≡ setupsWith u k t
     → x ≡ acceptedWith s r k t g → submitted x h′ f′ u′ ≡ settledSubmit s h f u r k t
 unfolding settledSubmit
 settled-is s h f u h′ f′ u′ r k t g x eg el eu ex =

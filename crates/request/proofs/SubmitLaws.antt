@@ -154,20 +154,20 @@ submit-records s k p t rows ne =
     (places-hold (take (s .settings .descriptors) (s .owner)) 0 (needOfRequest s k t))))
 
 -- of the heads' words only the ring head's link, and of the slot's head link, next, alternate and token
-module _ (heads frames : List ℕ) (k link first i : ℕ) (n0 : i ≢ 0) (n1 : i ≢ 17 * (k + 1)) (n4 : i ≢ 17 * (k + 1) + 4)
+module _ (heads frames : List ℕ) (k link first token i : ℕ) (n0 : i ≢ 0) (n1 : i ≢ 17 * (k + 1)) (n4 : i ≢ 17 * (k + 1) + 4)
     (n5 : i ≢ 17 * (k + 1) + 5) (n6 : i ≢ 17 * (k + 1) + 6) where
-  overlay-word : getD (startedOverlay heads k first 0) i 0 ≡ getD heads i 0
-  overlay-word = started-word heads k first 0 i n4 n5 n6
+  overlay-word : getD (startedOverlay heads k first token) i 0 ≡ getD heads i 0
+  overlay-word = started-word heads k first token i n4 n5 n6
 
-  attached-word : (b : Bool) → getD (attachedBy b (startedOverlay heads k first 0) frames k link .heads) i 0 ≡ getD heads i 0
+  attached-word : (b : Bool) → getD (attachedBy b (startedOverlay heads k first token) frames k link .heads) i 0 ≡ getD heads i 0
   unfolding attachedFrames attachedRing
-  attached-word true = getD-set-other (startedOverlay heads k first 0) (17 * (k + 1)) i (getD frames 0 0) 0 n1 ∙ overlay-word
+  attached-word true = getD-set-other (startedOverlay heads k first token) (17 * (k + 1)) i (getD frames 0 0) 0 n1 ∙ overlay-word
   attached-word false =
-      let started = startedOverlay heads k first 0 in
+      let started = startedOverlay heads k first token in
       let one = set started (17 * (k + 1)) (getD started 0 0) in
       getD-set-other one 0 i link 0 n0 ∙ getD-set-other started (17 * (k + 1)) i (getD started 0 0) 0 n1 ∙ overlay-word
 
-  pub submit-words : (kind : EndpointType) → getD (linkedRows heads frames kind k link first .heads) i 0 ≡ getD heads i 0
+  pub submit-words : (kind : EndpointType) → getD (linkedRows heads frames kind k link first token .heads) i 0 ≡ getD heads i 0
   unfolding linkedRows
   submit-words kind = attached-word (isInterrupt kind)
 

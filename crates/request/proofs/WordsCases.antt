@@ -8,7 +8,7 @@ use Rattle.bitset.specs.Places.{Words, lowestOf, setPlaces, withoutOf}
 use Rattle.common.specs.declared.answer.Answer.the-variants.{Done}
 use Rattle.controller.specs.declared.lent.Readings.{Readings}
 use Rattle.descriptor.specs.Heads.{qhLink}
-use Rattle.pipe.specs.Endpoints.{encoded, limitAt}
+use Rattle.pipe.specs.Endpoints.{encoded, flagOf, limitAt}
 use Rattle.pool.specs.Transfers.{alternateWord}
 use Rattle.pool.specs.Words.{LayingGood}
 use Rattle.pool.specs.Plain.{Chain}
@@ -24,10 +24,10 @@ use Rattle.state.specs.Plain.{Ehci}
 use Rattle.words.specs.declared.core.Core.{Core}
 use Rattle.words.specs.declared.core.Rest.{Rest}
 use Rattle.words.specs.Good.{Good, Tidy}
-use Rattle.words.specs.Record.{SlotFits, idIn, lastAt, putPlaces, putSlot, sizeIn, wordAt}
+use Rattle.words.specs.Record.{SlotFits, idIn, lastAt, putPlaces, putSlot, sizeIn, toggleIn, wordAt}
 use Rattle.words.specs.Rest.{restWithFree}
 use Rattle.words.specs.View.{stateOf, view}
-use Rattle.request.specs.Submit.{acceptedWith, chainFor, firstIn, idAt, judgeOf, linkedRows, needOfRequest, settledSubmit, setupsWith, stateWith, submitted, takenFor, writesWith}
+use Rattle.request.specs.Submit.{acceptedWith, chainFor, firstIn, idAt, judgeOf, linkedRows, needOfRequest, settledSubmit, setupsWith, stateWith, submitted, takenFor, toggleAt, writesWith}
 use Rattle.request.specs.Words.{acceptedWords, firstOf, headOf, layingChain, layingFor, requestWith, submittedView}
 use Rattle.request.specs.declared.answers.Submission.the-variants.{Accepted}
 use Rattle.request.specs.Plain.{Submitted}
@@ -35,7 +35,8 @@ use Rattle.request.specs.declared.answers.Submitted.{Submitted as Submit
 use Rattle.request.specs.declared.judge.TransferRequest.{TransferRequest}
 use Rattle.request.specs.Plain.{Taken}
 use Rattle.request.proofs.SettleCases.{settled-is}
-use Rattle.request.proofs.WordsSettle.{chain-viewed, first-below, first-viewed, id-viewed, kept-settings, laying-settled, slot-within, state-viewed, taken-some, tidy-settled}
+use Rattle.request.proofs.WordsSettle.{chain-viewed, first-below, first-viewed, id-viewed, kept-settings, laying-settled, slot-within, state-viewed, taken-some, tidy-settled, toggle-viewed}
+use Rattle.token.specs.Overlay.{overlayToken}
 
 -- the laying that is made
 pub laid-for : (s : Settings) (k : ℕ) (t : TransferRequest) (l : ℕ) (places : List ℕ) (alternate : ℕ) → alternate ≡ alternateWord (t .kind) (t .direction) (sharedAddress s)
@@ -105,8 +106,8 @@ module _ (c : Core) (ws : List ℕ) (k : ℕ) (t : TransferRequest) (l n : ℕ) 
     unfolding acceptedWords
     settled-laying = rw (ex, ep, el) (laying-settled s r ws k t good done fit n en)
 
-    module _ (ws′ : List ℕ) (ei : id ≡ idIn (lastAt ws k)) (fits : SlotFits (encoded (requestWith t (sizeIn (wordAt ws k)) id)))
-        (ew : ws′ ≡ putPlaces (putSlot ws k (encoded (requestWith t (sizeIn (wordAt ws k)) id))) k places) where
+    module _ (ws′ : List ℕ) (ei : id ≡ idIn (lastAt ws k)) (fits : SlotFits (encoded (requestWith t (wordAt ws k) id)))
+        (ew : ws′ ≡ putPlaces (putSlot ws k (encoded (requestWith t (wordAt ws k) id))) k places) where
       settled-tidy : Tidy s (x .rest) ws′
       unfolding acceptedWords
       settled-tidy = rw (ex, ew, ep) (tidy-settled s r ws k t good done fit n en id ei fits (restWithFree r (withoutOf (r .free) (lowestOf (r .free) n))) refl)
@@ -114,10 +115,11 @@ module _ (c : Core) (ws : List ℕ) (k : ℕ) (t : TransferRequest) (l n : ℕ) 
       state-here : (free : List ℕ) → stateOf s (restWithFree r free) ws′ ≡ stateWith (view c ws) (takenFor (view c ws) k t .owner) k t
       state-here free = rw (ew, ep) (state-viewed s r ws k t good done fit n en id ei fits free)
 
-      rows-here : (h f h′ f′ : List ℕ) → links h′ f′ ≡ linkedRows h f (t .kind) k (qhLink (headOf s k)) (firstOf s places)
+      rows-here : (h f h′ f′ : List ℕ) → links h′ f′ ≡ linkedRows h f (t .kind) k (qhLink (headOf s k)) (firstOf s places) (overlayToken (t .kind) (flagOf (toggleIn (wordAt ws k))))
           → links h′ f′ ≡ linkedRows h f (t .kind) k (slotLink (view c ws) k) (firstIn (view c ws) (takenFor (view c ws) k t))
+          (overlayToken (t .kind) (toggleAt (view c ws) k))
       unfolding stateOf
-      rows-here h f h′ f′ er = er ∙ rw (ep, first-viewed s r ws k t good done fit n en)
+      rows-here h f h′ f′ er = er ∙ rw (ep, first-viewed s r ws k t good done fit n en, toggle-viewed s r ws k t good done)
 
       laid-here : layingChain (layingFor s k t l places) ≡ chainFor (view c ws) k t (takenFor (view c ws) k t)
       laid-here = rw (ep, el) (chain-viewed s r ws k t good done fit n en)
@@ -129,11 +131,13 @@ module _ (c : Core) (ws : List ℕ) (k : ℕ) (t : TransferRequest) (l n : ℕ) 
           ∙ accepted-made (view c ws) d k id t (takenFor (view c ws) k t) (stateOf s (restWithFree r (withoutOf (r .free) places)) ws′) (writesWith d)
           (layingChain (layingFor s k t l places)) (ei ∙ id-viewed s r ws k t good done) (state-here (withoutOf (r .free) places)) refl laid-here
 
-      settled-words : (h f u h′ f′ u′ : List ℕ) → links h′ f′ ≡ linkedRows h f (t .kind) k (qhLink (headOf s k)) (firstOf s places) → u′ ≡ setupsWith u k t
+      settled-words : (h f u h′ f′ u′ : List ℕ) → links h′ f′ ≡ linkedRows h f (t .kind) k (qhLink (headOf s k)) (firstOf s places) (overlayToken (t .kind) (flagOf (toggleIn (wordAt ws k)))) → u′ ≡ setupsWith u k t
           → submitted (submittedView s x ws′) h′ f′ u′ ≡ settledSubmit (view c ws) h f u d k t
       settled-words h f u h′ f′ u′ er eu =
           settled-is (view c ws) h f u h′ f′ u′ d k t (takenFor (view c ws) k t) (submittedView s x ws′) refl (rows-here h f h′ f′ er) eu accepted-here
 
-      pub settled : (h f u h′ f′ u′ : List ℕ) → links h′ f′ ≡ linkedRows h f (t .kind) k (qhLink (headOf s k)) (firstOf s places) → u′ ≡ setupsWith u k t
+      pub settled : (h f u h′ f′ u′ : List ℕ) (g : ℕ) → g ≡ toggleIn (wordAt ws k)
+          → links h′ f′ ≡ linkedRows h f (t .kind) k (qhLink (headOf s k)) (firstOf s places) (overlayToken (t .kind) (flagOf g)) → u′ ≡ setupsWith u k t
           → (submitted (submittedView s x ws′) h′ f′ u′ ≡ settledSubmit (view c ws) h f u d k t) × (Tidy s (x .rest) ws′ × LayingGood (poolLength s) (x .laying))
-      settled h f u h′ f′ u′ er eu = (settled-words h f u h′ f′ u′ er eu, (settled-tidy, settled-laying))
+      settled h f u h′ f′ u′ g eg er eu =
+          (settled-words h f u h′ f′ u′ (er ∙ ap (λ (n : ℕ). linkedRows h f (t .kind) k (qhLink (headOf s k)) (firstOf s places) (overlayToken (t .kind) (flagOf n))) eg) eu, (settled-tidy, settled-laying))

@@ -35,7 +35,7 @@ use Rattle.token.specs.Chunks.{ifEmpty, needOf}
 use Rattle.token.proofs.ChunkLaws.{count-pos}
 use Rattle.words.specs.declared.core.Rest.{Rest}
 use Rattle.words.specs.Good.{Good, Tidy, noPlaces}
-use Rattle.words.specs.Record.{SlotFits, idIn, lastAt, phaseIn, placesAt, putPlaces, putSlot, sizeIn, slotIn, wordAt}
+use Rattle.words.specs.Record.{SlotFits, idIn, lastAt, phaseIn, placesAt, putPlaces, putSlot, sizeIn, slotIn, toggleIn, wordAt}
 use Rattle.words.specs.Rest.{restWithFree}
 use Rattle.words.specs.View.{stateOf}
 use Rattle.words.proofs.GoodLaws.{good-ranges, good-room, good-settings}
@@ -118,6 +118,10 @@ module _ (s : Settings) (r : Rest) (ws : List ℕ) (k : ℕ) (t : TransferReques
   unfolding slotIn
   size-viewed = sym (ap (λ (e : Slot). e .size) (view-slot s r ws k slot-below))
 
+  pub toggle-viewed : toggleIn (wordAt ws k) ≡ slotAt (stateOf s r ws) k .toggle
+  unfolding slotIn
+  toggle-viewed = sym (ap (λ (e : Slot). e .toggle) (view-slot s r ws k slot-below))
+
   pub chunk-least : 1 ≤ limitAt (stateOf s r ws) k
   chunk-least = limit-least (stateOf s r ws) (good-ranges s r ws good) k slot-below
 
@@ -180,27 +184,27 @@ module _ (s : Settings) (r : Rest) (ws : List ℕ) (k : ℕ) (t : TransferReques
     unfolding takenFor takenOf stateOf
     owner-viewed = rw en
 
-    module _ (id : ℕ) (ei : id ≡ idIn (lastAt ws k)) (fits : SlotFits (encoded (requestWith t (sizeIn (wordAt ws k)) id))) where
+    module _ (id : ℕ) (ei : id ≡ idIn (lastAt ws k)) (fits : SlotFits (encoded (requestWith t (wordAt ws k) id))) where
       slot-viewed : withSlot
           (withOwner (stateOf s r ws) (markOf (take (s .descriptors) (ownersOf ws)) n (k + 1) ++ drop (s .descriptors) (ownersOf ws)))
           k
-          (encoded (requestWith t (sizeIn (wordAt ws k)) id))
+          (encoded (requestWith t (wordAt ws k) id))
           ≡ stateWith (stateOf s r ws) (takenFor (stateOf s r ws) k t .owner) k t
       unfolding stateWith withEndpoint
-      slot-viewed = rw (owner-viewed, size-viewed, ei ∙ id-viewed)
+      slot-viewed = rw (owner-viewed, size-viewed, toggle-viewed, ei ∙ id-viewed)
 
       pub state-viewed : (free : List ℕ)
-          → stateOf s (restWithFree r free) (putPlaces (putSlot ws k (encoded (requestWith t (sizeIn (wordAt ws k)) id))) k (lowestOf (r .free) n))
+          → stateOf s (restWithFree r free) (putPlaces (putSlot ws k (encoded (requestWith t (wordAt ws k) id))) k (lowestOf (r .free) n))
           ≡ stateWith (stateOf s r ws) (takenFor (stateOf s r ws) k t .owner) k t
       state-viewed free =
-          view-taken s r ws (good .tidy) (kept-settings .descriptors-most) (kept-settings .endpoints-most) k (encoded (requestWith t (sizeIn (wordAt ws k)) id))
+          view-taken s r ws (good .tidy) (kept-settings .descriptors-most) (kept-settings .endpoints-most) k (encoded (requestWith t (wordAt ws k) id))
           slot-within fits slot-empty fit n free
           ∙ slot-viewed
 
       pub tidy-settled : (r′ : Rest) → r′ .free ≡ withoutOf (r .free) (lowestOf (r .free) n)
-          → Tidy s r′ (putPlaces (putSlot ws k (encoded (requestWith t (sizeIn (wordAt ws k)) id))) k (lowestOf (r .free) n))
+          → Tidy s r′ (putPlaces (putSlot ws k (encoded (requestWith t (wordAt ws k) id))) k (lowestOf (r .free) n))
       tidy-settled r′ left =
-          tidy-taken s r ws (good .tidy) k (encoded (requestWith t (sizeIn (wordAt ws k)) id)) slot-within fits r′ n slot-empty (omega arith) left
+          tidy-taken s r ws (good .tidy) k (encoded (requestWith t (wordAt ws k) id)) slot-within fits r′ n slot-empty (omega arith) left
 
     -- ---- what is laid
 

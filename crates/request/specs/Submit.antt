@@ -23,7 +23,7 @@ use Rattle.state.specs.Slots.{slotAt}
 use Rattle.state.specs.State.{withOwner}
 use Rattle.state.specs.Plain.{Ehci}
 use Rattle.common.specs.Answers.{Check, Verdict, passed, refused, first, refusalNumber, settle}
-use Rattle.pipe.specs.Endpoints.{directionNumber, kindNumber, limitAt, withEndpoint}
+use Rattle.pipe.specs.Endpoints.{directionNumber, flagOf, kindNumber, limitAt, withEndpoint}
 use Rattle.common.specs.Kinds.{isControl, isInterrupt, isIsochronous}
 use Rattle.controller.specs.Lent.{acceptsOf, lengths}
 use Rattle.controller.specs.Readers.{freeCount, isOpen, isUncollected}
@@ -42,6 +42,7 @@ use Rattle.request.specs.declared.answers.Submission.the-variants.{Accep
 use Rattle.request.specs.Plain.{Submitted}
 use Rattle.request.specs.declared.judge.TransferRequest.{TransferRequest}
 use Rattle.request.specs.Plain.{Taken}
+use Rattle.token.specs.Overlay.{overlayToken}
 
 abbrev pub submissionNumber : Submission → ℕ
 submissionNumber (Accepted id) = 0
@@ -136,10 +137,14 @@ chainFor s slot t taken =
 abbrev pub idAt : Ehci → ℕ → ℕ
 idAt s slot = slotAt s slot .id
 
+-- the toggle of its next packet
+abbrev pub toggleAt : Ehci → ℕ → Bool
+toggleAt s slot = flagOf (slotAt s slot .toggle)
+
 abbrev pub linkedWith : Ehci → ℕ → TransferRequest → Endpoint
 linkedWith s slot t =
     Linked
-    (record { kind = t .kind; size = slotAt s slot .size; next = afterId (idAt s slot) })
+    (record { kind = t .kind; size = slotAt s slot .size; toggle = toggleAt s slot; next = afterId (idAt s slot) })
     (record { id = idAt s slot; direction = t .direction; length = t .length; cancelled = false })
 
 unfoldable pub stateWith : Ehci → List ℕ → ℕ → TransferRequest → Ehci
@@ -151,10 +156,10 @@ abbrev pub attachedBy : Bool → List ℕ → List ℕ → ℕ → ℕ → Links
 attachedBy true heads frames slot link = attachedFrames heads frames slot link
 attachedBy false heads frames slot link = links (attachedRing heads slot link) frames
 
--- the overlay (next the first descriptor, alternate 1, token 0), then the head goes into its schedule
-unfoldable pub linkedRows : List ℕ → List ℕ → EndpointType → ℕ → ℕ → ℕ → Links
-linkedRows heads frames kind slot link first =
-    attachedBy (isInterrupt kind) (startedOverlay heads slot first 0) frames slot link
+-- the overlay (next the first descriptor, alternate 1, a token), then the head goes into its schedule
+unfoldable pub linkedRows : List ℕ → List ℕ → EndpointType → ℕ → ℕ → ℕ → ℕ → Links
+linkedRows heads frames kind slot link first token =
+    attachedBy (isInterrupt kind) (startedOverlay heads slot first token) frames slot link
 
 unfoldable pub setupsWith : List ℕ → ℕ → TransferRequest → List ℕ
 setupsWith setups slot t =
@@ -207,7 +212,7 @@ unfoldable pub settledSubmit : Ehci → List ℕ → List ℕ → List ℕ → R
 settledSubmit s heads frames setups readings slot t =
     rowsAfter
     (acceptedWith s readings slot t (takenFor s slot t))
-    (linkedRows heads frames (t .kind) slot (slotLink s slot) (firstIn s (takenFor s slot t)))
+    (linkedRows heads frames (t .kind) slot (slotLink s slot) (firstIn s (takenFor s slot t)) (overlayToken (t .kind) (toggleAt s slot)))
     (setupsWith setups slot t)
 
 unfoldable pub submitOf : Ehci → ℕ → List ℕ → List ℕ → List ℕ → Readings → ℕ → TransferRequest → Outcome

@@ -33,6 +33,8 @@ use Rattle.request.specs.Plain.{WrittenBack}
 use Rattle.request.specs.declared.answers.Submitted.{Submitted as SubmittedWords}
 use Rattle.request.specs.declared.answers.WrittenBack.{WrittenBack as WrittenBackWords}
 use Rattle.request.specs.declared.judge.TransferRequest.{TransferRequest}
+use Rattle.words.specs.Record.{sizeIn, toggleIn}
+use Rattle.pipe.specs.Endpoints.{flagOf}
 
 -- ---- as what the definitions leave
 
@@ -62,11 +64,11 @@ writtenView s r ws =
 unfoldable pub refusedWords : Rest → Refusal → SubmittedWords
 refusedWords rest r = record { answer = Refused r; rest = rest; writes = noWrites; laying = noLaying }
 
--- the endpoint of this packet size with a request of this id
+-- a request of this id, and of its slot's word the packet size and the toggle
 abbrev pub requestWith : TransferRequest → ℕ → ℕ → Endpoint
-requestWith t size id =
+requestWith t w id =
     Linked
-    (record { kind = t .kind; size = size; next = afterId id })
+    (record { kind = t .kind; size = sizeIn w; toggle = flagOf (toggleIn w); next = afterId id })
     (record { id = id; direction = t .direction; length = t .length; cancelled = false })
 
 -- the address of the lowest place

@@ -9,8 +9,9 @@ ghost use Rattle.pipe.specs.Endpoints.{encoded, limitAt};
 ghost use Rattle.pool.specs.Words.{LayingGood};
 ghost use Rattle.schedule.specs.Links.{links};
 ghost use Rattle.settings.specs.Settings.{poolLength, sharedAddress};
+ghost use Rattle.token.specs.Overlay.{overlayToken};
 ghost use Rattle.words.specs.Good.{Good, Tidy};
-ghost use Rattle.words.specs.Record.{SlotFits, idIn, lastAt, putPlaces, putSlot, sizeIn, wordAt};
+ghost use Rattle.words.specs.Record.{SlotFits, idIn, lastAt, putPlaces, putSlot, wordAt};
 ghost use Rattle.words.specs.View.{view};
 ghost use Rattle.request.specs.Submit.{judgeOf, linkedRows, needOfRequest, settledSubmit, submitted, setupsWith};
 ghost use Rattle.request.specs.Words.{acceptedWords, firstOf, headOf, layingFor, requestWith, submittedView};
@@ -43,11 +44,13 @@ use schedule::links::attach_frames;
 use schedule::links::attach_ring;
 use schedule::links::head_address;
 use schedule::links::start_overlay;
+use token::overlay::overlay_token;
 use words::core::Core;
 use words::record::id_in;
 use words::row::RECORD;
 use words::row::put_places;
 use words::row::size_at;
+use words::row::toggle_at;
 
 // Run, periodic schedule, asynchronous schedule.
 pub const USBCMD_SCHEDULES: u32 = 0x31;
@@ -59,12 +62,13 @@ pub fn link_head(
     slot: u8,
     link: u32,
     first: u32,
+    token: u32,
 )
     requires { ⌜ 17 * (slot + 1) + 6 < length (now heads) ⌝ }
     requires { ⌜ 0 < length (now frames) ⌝ }
-    ensures { λ _. ⌜ links (now (heads .exit)) (now (frames .exit)) ≡ linkedRows (now (heads .entry)) (now (frames .entry)) kind slot link first ⌝ }
+    ensures { λ _. ⌜ links (now (heads .exit)) (now (frames .exit)) ≡ linkedRows (now (heads .entry)) (now (frames .entry)) kind slot link first token ⌝ }
 {
-    start_overlay(heads, slot, first, 0);
+    start_overlay(heads, slot, first, token);
     if is_interrupt(kind) {
         attach_frames(heads, frames, slot, link);
     } else {
@@ -91,30 +95,41 @@ fn link_rows(
     frames: &mut [u32],
     slot: u8,
     t: TransferRequest,
+    toggle: bool,
     places: [u64; 4],
 )
     requires { ⌜ (17 * (slot + 1) + 17 ≤ length (now heads)) × (0 < length (now frames)) ⌝ }
     requires { ⌜ (1 ≤ length (setPlaces places)) × (firstOf (core .settings) places < 2 ^ 32) × (headOf (core .settings) slot < 2 ^ 32) ⌝ }
     ensures { λ _. ⌜ links (now (heads .exit)) (now (frames .exit))
-        ≡ linkedRows (now (heads .entry)) (now (frames .entry)) (t .kind) slot (qhLink (headOf (core .settings) slot)) (firstOf (core .settings) places) ⌝ }
+        ≡ linkedRows (now (heads .entry)) (now (frames .entry)) (t .kind) slot (qhLink (headOf (core .settings) slot)) (firstOf (core .settings) places)
+        (overlayToken (t .kind) toggle) ⌝ }
 {
     let kind = t.kind;
     let first = (core.settings.pool + 64 * (place_at(cursor_of(places)) as u64)) as u32;
     let link = ehci_qh_link(head_address(core, slot));
-    link_head(heads, frames, kind, slot, link, first);
+    link_head(
+        heads,
+        frames,
+        kind,
+        slot,
+        link,
+        first,
+        overlay_token(kind, toggle),
+    );
 }
 
 // The slot has a linked request with these places.
 fn put_request(slots: &mut [u64], slot: u8, t: TransferRequest, id: u64, places: [u64; 4])
     requires { ⌜ (6 * slot + 6 ≤ length (now slots)) × (t .length < 2 ^ 32) ⌝ }
-    ensures { λ _. ⌜ now (slots .exit) ≡ putPlaces (putSlot (now (slots .entry)) slot (encoded (requestWith t (sizeIn (wordAt (now (slots .entry)) slot)) id))) slot places ⌝ }
-    ensures { λ _. ⌜ SlotFits (encoded (requestWith t (sizeIn (wordAt (now (slots .entry)) slot)) id)) ⌝ }
+    ensures { λ _. ⌜ now (slots .exit) ≡ putPlaces (putSlot (now (slots .entry)) slot (encoded (requestWith t (wordAt (now (slots .entry)) slot) id))) slot places ⌝ }
+    ensures { λ _. ⌜ SlotFits (encoded (requestWith t (wordAt (now (slots .entry)) slot) id)) ⌝ }
 {
     let kind = t.kind;
     let direction = t.direction;
     let pipe = Pipe {
         kind,
         size: size_at(slots, slot),
+        toggle: toggle_at(slots, slot) != 0,
         next: id_in(id),
     };
     let request = Request {
@@ -209,7 +224,15 @@ pub fn settle(
 {
     let free = core.rest.free;
     let places = lowest_places(free, wanted);
-    link_rows(core, heads, frames, slot, t, places);
+    link_rows(
+        core,
+        heads,
+        frames,
+        slot,
+        t,
+        toggle_at(slots, slot) != 0,
+        places,
+    );
     put_setup(setups, slot, t);
     let id = id_at(slots, slot);
     put_request(slots, slot, t, id, places);

@@ -113,7 +113,7 @@ detachOf s heads frames k =
 
 -- ---- the overlay
 
--- "Submit writes overlay next = first descriptor, alternate 1, token 0"
+-- "Submit writes overlay next = first descriptor, alternate 1, token 0"; 02 order 6 gives the token its toggle
 unfoldable pub startedOverlay : List ℕ → ℕ → ℕ → ℕ → List ℕ
 startedOverlay heads k first token =
     withHeadWord (withHeadWord (withHeadWord heads (k + 1) 4 first) (k + 1) 5 1) (k + 1) 6 token

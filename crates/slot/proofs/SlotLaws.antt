@@ -8,7 +8,7 @@ use native.Mathlib.Omega.{arith}
 use borrow.Author.Tests.{eq-eqb, eqb-false, eqb-true, le-leb, le-ltb, leb-true, lt-ltb, ltb-true, ltb-false, ne-eqb}
 use lib.Dec.{eqb, leb, ltb}
 use Rattle.slot.specs.declared.slot.Slot.{Slot}
-use Rattle.slot.specs.Ranges.{boundaryGood, closedGood, idleGood, linkedGood, noRequest, openKind, phaseGood, sizeGood, sizeKept, slotGood, unlinkingGood}
+use Rattle.slot.specs.Ranges.{boundaryGood, closedGood, idleGood, linkedGood, noRequest, openKind, phaseGood, sizeGood, sizeKept, slotGood, toggleKept, unlinkingGood}
 use Rattle.common.specs.Tests.{within}
 use Rattle.slot.proofs.SlotCases.{phase-closed, phase-idle, phase-linked, phase-unknown, phase-unlinking}
 use Rattle.common.proofs.TestLaws.{within-least, within-most, both-tells, within-makes}
@@ -49,6 +49,8 @@ pub record SlotGood (E limit k unanswered : ℕ) (e : Slot) : Type 0 where
   pub closed-from : E ≤ k → e .phase ≡ 0
   pub size-none : e .phase ≡ 0 → e .size ≡ 0
   pub size-open : e .phase ≢ 0 → SizeGood limit (e .kind) (e .size)
+  pub toggle-none : e .phase ≡ 0 → e .toggle ≡ 0
+  pub toggle-flag : e .toggle ≤ 1
   pub by-phase : Phase e unanswered
 
 -- ---- what the tests tell
@@ -225,6 +227,25 @@ module _ (limit : ℕ) (e : Slot) where
       by (yes p) = rw (eq-eqb (e .phase) 0 p) (eq-eqb (e .size) 0 (none p))
       by (no n) = rw (ne-eqb (e .phase) 0 n) (size-makes limit (e .kind) (e .size) (sized n))
 
+module _ (e : Slot) where
+  toggle-tells : toggleKept e ≡ true → (e .phase ≡ 0 → e .toggle ≡ 0) × (e .toggle ≤ 1)
+  unfolding toggleKept
+  toggle-tells t = by (decEq (e .phase) 0)
+    where
+      by : Dec (e .phase ≡ 0) → (e .phase ≡ 0 → e .toggle ≡ 0) × (e .toggle ≤ 1)
+      by (yes p) =
+          let z : e .toggle ≡ 0 = eqb-true (e .toggle) 0 (rw (eq-eqb (e .phase) 0 p) at t) in
+          (λ q. z, omega (arith, z))
+      by (no n) = (λ q. absurd (n q), leb-true (e .toggle) 1 (rw (ne-eqb (e .phase) 0 n) at t))
+
+  toggle-makes : (e .phase ≡ 0 → e .toggle ≡ 0) → e .toggle ≤ 1 → toggleKept e ≡ true
+  unfolding toggleKept
+  toggle-makes none flag = by (decEq (e .phase) 0)
+    where
+      by : Dec (e .phase ≡ 0) → toggleKept e ≡ true
+      by (yes p) = rw (eq-eqb (e .phase) 0 p) (eq-eqb (e .toggle) 0 (none p))
+      by (no n) = rw (ne-eqb (e .phase) 0 n) (le-leb (e .toggle) 1 flag)
+
 module _ (E limit k unanswered : ℕ) (e : Slot) where
   pub slot-tells : slotGood E limit k unanswered e ≡ true → SlotGood E limit k unanswered e
   unfolding slotGood
@@ -232,12 +253,15 @@ module _ (E limit k unanswered : ℕ) (e : Slot) where
       let i = both-tells (leb 1 (e .id)) _ t in
       let o = both-tells (ltb k E || eqb (e .phase) 0) _ (i .1) in
       let z = both-tells (sizeKept limit e) _ (o .1) in
-      let p = both-tells (phaseGood e unanswered) true (z .1) in
+      let g = both-tells (toggleKept e) _ (z .1) in
+      let p = both-tells (phaseGood e unanswered) true (g .1) in
       record {
         id-least = leb-true 1 (e .id) (i .0);
         closed-from = λ h. eqb-true (e .phase) 0 (either-tells (ltb k E) (eqb (e .phase) 0) (o .0) (le-ltb k E h));
         size-none = kept-none limit e (z .0);
         size-open = kept-open limit e (z .0);
+        toggle-none = toggle-tells e (g .0) .0;
+        toggle-flag = toggle-tells e (g .0) .1;
         by-phase = phase-tells e unanswered (p .0);
       }
 
@@ -247,6 +271,7 @@ module _ (E limit k unanswered : ℕ) (e : Slot) where
       rw (
         phase-makes e unanswered (g .by-phase),
         kept-makes limit e (g .size-none) (g .size-open),
+        toggle-makes e (g .toggle-none) (g .toggle-flag),
         le-leb 1 (e .id) (g .id-least),
         either-makes (ltb k E) (eqb (e .phase) 0) (λ f. eq-eqb (e .phase) 0 (g .closed-from (ltb-false k E f))),
       )

@@ -59,7 +59,11 @@ sizeGood limit kind size = within size 1 1024 && (eqb kind 0 || leb size limit)
 unfoldable pub sizeKept : ℕ → Slot → Bool
 sizeKept limit e = cond (eqb (e .phase) 0) (eqb (e .size) 0) (sizeGood limit (e .kind) (e .size))
 
+-- the toggle is a bit; a closed slot's is 0
+unfoldable pub toggleKept : Slot → Bool
+toggleKept e = cond (eqb (e .phase) 0) (eqb (e .toggle) 0) (flag (e .toggle))
+
 -- ids are at least 1; slots from E on are closed
 unfoldable pub slotGood : ℕ → ℕ → ℕ → ℕ → Slot → Bool
 slotGood E limit k unanswered e =
-    every (leb 1 (e .id) ∷ (ltb k E || eqb (e .phase) 0) ∷ sizeKept limit e ∷ phaseGood e unanswered ∷ [])
+    every (leb 1 (e .id) ∷ (ltb k E || eqb (e .phase) 0) ∷ sizeKept limit e ∷ toggleKept e ∷ phaseGood e unanswered ∷ [])

@@ -4,6 +4,8 @@ pub struct Slot {
     pub kind: u8,
     // The endpoint's packet size, 0 where it is closed.
     pub size: u16,
+    // The data toggle of its next packet, 0 where it is closed.
+    pub toggle: u8,
     pub id: u64,
     pub request: u64,
     pub direction: u8,

@@ -26,6 +26,8 @@ pub record Ehci : Type 0 where
   pub kinds : List ℕ
   -- the packet sizes, 0 where a slot is closed
   pub sizes : List ℕ
+  -- the data toggles of their next packets
+  pub toggles : List ℕ
   -- the id that the slot's next request gets
   pub ids : List ℕ
   -- of the slot's request, 0 where it has none

@@ -224,6 +224,7 @@ fn any_submit(f: Fields) -> Call {
     let readings = Readings {
         command: 0,
         frame: 0,
+        overlay: 0,
     };
     Call::Submit(f.b1, request, readings)
 }

@@ -12,16 +12,16 @@ use Rattle.state.specs.Ranges.{inRanges}
 use Rattle.opening.specs.Opening.{rowsFit}
 use Rattle.controller.specs.Address.{allotOf}
 use Rattle.controller.specs.Lent.{acceptsOf}
-use Rattle.endpoint.specs.Calls.{closeOf, openChecks, openEndpointOf, setAddressOf, setPacketSizeOf, slotChecks}
+use Rattle.endpoint.specs.Calls.{clearHaltOf, closeOf, openChecks, openEndpointOf, setAddressOf, setPacketSizeOf, slotChecks}
 use Rattle.request.specs.Submit.{refusedSubmit, settledSubmit, submitOf}
 use Rattle.request.specs.Writeback.{refusedWriteback, writebackOf}
 use Rattle.collection.specs.Calls.{cancelOf, collectOf}
 use Rattle.bring_up.specs.BringUp.{startOf, stepOf}
 use Rattle.interrupt.specs.Interrupts.{acknowledgeOf, disableOf, drainOf, enableOf, rearmOf}
 use Rattle.ehci.specs.declared.call.Call.{Call}
-use Rattle.ehci.specs.declared.call.Call.the-variants.{StartBringUp, BringUpStep, AllocateAddress, OpenEndpoint, Close, SetAddress, SetPacketSize, Submit, Writeback, Cancel, Collect, Acknowledge, Drain, Rearm, Enable, Disable}
+use Rattle.ehci.specs.declared.call.Call.the-variants.{StartBringUp, BringUpStep, AllocateAddress, OpenEndpoint, Close, SetAddress, SetPacketSize, Submit, Writeback, Cancel, Collect, Acknowledge, Drain, Rearm, Enable, Disable, ClearHalt}
 use Rattle.ehci.specs.declared.reply.Answered.the-variants.{Refused}
-use Rattle.ehci.specs.Decides.{acknowledgeDecided, addressDecided, allotDecided, callOf, cancelDecided, closeDecided, collectDecided, decideOf, drainDecided, openDecided, packetDecided, submitDecided, writebackDecided}
+use Rattle.ehci.specs.Decides.{acknowledgeDecided, addressDecided, allotDecided, callOf, cancelDecided, clearDecided, closeDecided, collectDecided, decideOf, drainDecided, openDecided, packetDecided, submitDecided, writebackDecided}
 use Rattle.ehci.specs.Door.{applyOf}
 use Rattle.ehci.specs.Refusals.{refusedWorld}
 use Rattle.ehci.specs.Replies.{broughtReply, changedReply, refusedReply, replied, settledReply}
@@ -34,7 +34,7 @@ module _ (s : Ehci) (pool : List Record) (heads frames setups : List ℕ) where
   module _ (v : View) (fit : fits ≡ true) (out : inRanges s ≡ false) where
     -- whatever the call, the ranges are asked first
     call-refused : (c : Call) → callOf s (length pool) heads frames setups v c .decided .reply .answer ≡ Refused InvalidParameter
-    unfolding startOf stepOf broughtReply allotOf allotDecided openDecided openEndpointOf openChecks closeDecided closeOf slotChecks addressDecided setAddressOf packetDecided setPacketSizeOf changedReply submitDecided submitOf settledSubmit refusedSubmit writebackDecided writebackOf refusedWriteback cancelDecided cancelOf collectDecided collectOf acknowledgeDecided acknowledgeOf drainDecided drainOf settledReply rearmOf enableOf disableOf replied acceptsOf
+    unfolding startOf stepOf broughtReply allotOf allotDecided openDecided openEndpointOf openChecks closeDecided closeOf slotChecks addressDecided setAddressOf packetDecided setPacketSizeOf clearDecided clearHaltOf changedReply submitDecided submitOf settledSubmit refusedSubmit writebackDecided writebackOf refusedWriteback cancelDecided cancelOf collectDecided collectOf acknowledgeDecided acknowledgeOf drainDecided drainOf settledReply rearmOf enableOf disableOf replied acceptsOf
     call-refused StartBringUp = rw out
     call-refused (BringUpStep w) = rw out
     call-refused AllocateAddress = rw out
@@ -51,6 +51,7 @@ module _ (s : Ehci) (pool : List Record) (heads frames setups : List ℕ) where
     call-refused Rearm = rw out
     call-refused Enable = rw out
     call-refused Disable = rw out
+    call-refused (ClearHalt k) = rw out
 
   module _ (c : Call) where
     abbrev Left : Type 0

@@ -4,4 +4,6 @@ pub mod PlanCases
 pub mod PortCases
 pub mod ChunkLaws
 pub mod LimitLaws
+pub mod OverlayLaws
 pub mod ChunkExamples
+pub mod OverlayExamples

@@ -4,3 +4,4 @@ pub mod Ports
 pub mod Tokens
 pub mod Plans
 pub mod Chunks
+pub mod Overlay

@@ -1,5 +1,5 @@
--- Words judged, worked out by hand from the table: phase + 4 kind + 16 size + 2^15 direction + 2^16 length +
--- 2^48 cancelled + 2^49 boundary.
+-- Words judged, worked out by hand from the table: phase + 4 kind + 16 size + 2^15 toggle + 2^16 direction + 2^17 length +
+-- 2^49 cancelled + 2^50 boundary.
 use Prim.Native.Nat.{ℕ, _+_, _-_, _*_, _^_}
 use mathlib.Core.Path.{_≡_, refl}
 use mathlib.Core.Bool.{true, false}
@@ -14,28 +14,28 @@ use Rattle.word_ranges.specs.Seen.{allMet, heldGood, seeOf, seenFrom}
 
 -- ---- the first word, of a core whose limit is 1000
 
--- closed; closed with kind 2; closed with a packet size of 64
-closed : (wordGood 1000 1 0 ≡ true) × (wordGood 1000 1 8 ≡ false) × (wordGood 1000 1 1024 ≡ false)
+-- closed; closed with kind 2; closed with a packet size of 64; closed with a toggle
+closed : (wordGood 1000 1 0 ≡ true) × (wordGood 1000 1 8 ≡ false) × (wordGood 1000 1 1024 ≡ false) × (wordGood 1000 1 (2 ^ 15) ≡ false)
 unfolding wordGood sizeRight sizeGood boundsOf
-closed = (refl, refl, refl)
+closed = (refl, refl, refl, refl)
 
--- idle bulk, packets of 64 bytes: 1 + 8 + 1024; idle of kind 1; idle bulk that keeps a direction
-idle : (wordGood 1000 1 1033 ≡ true) × (wordGood 1000 1 1029 ≡ false) × (wordGood 1000 1 (1033 + 2 ^ 15) ≡ false)
+-- idle bulk, packets of 64 bytes: 1 + 8 + 1024; idle of kind 1; idle bulk that keeps a direction; with a toggle
+idle : (wordGood 1000 1 1033 ≡ true) × (wordGood 1000 1 1029 ≡ false) × (wordGood 1000 1 (1033 + 2 ^ 16) ≡ false) × (wordGood 1000 1 (1033 + 2 ^ 15) ≡ true)
 unfolding wordGood sizeRight sizeGood boundsOf
-idle = (refl, refl, refl)
+idle = (refl, refl, refl, refl)
 
--- linked bulk IN of 512 bytes, packets of 64: 2 + 8 + 1024 + 2^15 + 2^16 * 512; the same cancelled
-linked : (wordGood 1000 1 33588234 ≡ true) × (wordGood 1000 1 (33588234 + 2 ^ 48) ≡ false)
+-- linked bulk IN of 512 bytes, packets of 64: 2 + 8 + 1024 + 2^16 + 2^17 * 512; the same cancelled
+linked : (wordGood 1000 1 67175434 ≡ true) × (wordGood 1000 1 (67175434 + 2 ^ 49) ≡ false)
 unfolding wordGood sizeRight sizeGood boundsOf
 linked = (refl, refl)
 
 -- unlinking control, packets of 64, with one advance to come, where one unlink is unanswered; with two; cancelled with one
-advances : (wordGood 1000 1 (1027 + 2 ^ 49) ≡ true) × (wordGood 1000 1 (1027 + 2 ^ 50) ≡ false) × (wordGood 1000 1 (1027 + 2 ^ 48 + 2 ^ 49) ≡ true)
+advances : (wordGood 1000 1 (1027 + 2 ^ 50) ≡ true) × (wordGood 1000 1 (1027 + 2 ^ 51) ≡ false) × (wordGood 1000 1 (1027 + 2 ^ 49 + 2 ^ 50) ≡ true)
 unfolding wordGood sizeRight sizeGood boundsOf
 advances = (refl, refl, refl)
 
 -- unlinking interrupt, packets of 8, from FRINDEX 0x3FFF; from 0x4000
-frame : (wordGood 1000 1 (143 + 2 ^ 49 * 0x3FFF) ≡ true) × (wordGood 1000 1 (143 + 2 ^ 49 * 0x4000) ≡ false)
+frame : (wordGood 1000 1 (143 + 2 ^ 50 * 0x3FFF) ≡ true) × (wordGood 1000 1 (143 + 2 ^ 50 * 0x4000) ≡ false)
 unfolding wordGood sizeRight sizeGood boundsOf
 frame = (refl, refl)
 

@@ -6,7 +6,7 @@ use mathlib.Core.Bool.{Bool, true, false, not, _&&_}
 use mathlib.Core.List.{List, [], _∷_}
 use native.Mathlib.Omega.{arith}
 use borrow.Author.Tests.{eq-eqb, ne-eqb, not-false, not-true}
-use lib.Dec.{ltb}
+use lib.Dec.{leb, ltb}
 use lib.ListN.{getD, length}
 use Rattle.settings.specs.declared.settings.Settings.{Settings}
 use Rattle.words.specs.declared.core.Rest.{Rest}
@@ -24,7 +24,7 @@ module _ (ws bounds sizes : List ℕ) (limit u E at : ℕ) (s t : Seen) where
 
   seen-step : (k n : ℕ) → at ≡ 6 * k → bounds ≡ boundsOf u → sizes ≡ sizesOf limit
       → t
-      ≡ seeOf s (ltb (getD ws at 0) (getD bounds (getD ws at 0 % 16) 0) && sized) (getD ws at 0) (getD ws (at + 1) 0)
+      ≡ seeOf s (leb (getD ws at 0) (getD bounds (getD ws at 0 % 16) 0) && sized) (getD ws at 0) (getD ws (at + 1) 0)
       (getD ws (at + 2) 0 ∷ getD ws (at + 3) 0 ∷ getD ws (at + 4) 0 ∷ getD ws (at + 5) 0 ∷ [])
       → seenFrom ws limit u (suc k) n t ≡ seenFrom ws limit u k (suc n) s
   unfolding seenFrom wordGood
@@ -33,7 +33,7 @@ module _ (ws bounds sizes : List ℕ) (limit u E at : ℕ) (s t : Seen) where
 
   pub seen-turn : (all : Seen) → at ≡ 6 * (at / 6) → at < 6 * E → bounds ≡ boundsOf u → sizes ≡ sizesOf limit
       → t
-      ≡ seeOf s (ltb (getD ws at 0) (getD bounds (getD ws at 0 % 16) 0) && sized) (getD ws at 0) (getD ws (at + 1) 0)
+      ≡ seeOf s (leb (getD ws at 0) (getD bounds (getD ws at 0 % 16) 0) && sized) (getD ws at 0) (getD ws (at + 1) 0)
       (getD ws (at + 2) 0 ∷ getD ws (at + 3) 0 ∷ getD ws (at + 4) 0 ∷ getD ws (at + 5) 0 ∷ [])
       → seenFrom ws limit u (at / 6) (E - at / 6) s ≡ all → seenFrom ws limit u ((at + 6) / 6) (E - (at + 6) / 6) t ≡ all
   seen-turn all ea h eb ez et inv =

@@ -1,5 +1,5 @@
 -- A slot's word in its range and what it keeps as it must: exactly then the slot that the words stand for is good.
-use Prim.Native.Nat.{ℕ, _-_, _/_, _^_, _≤_, _<_}
+use Prim.Native.Nat.{ℕ, _-_, _/_, _%_, _^_, _≤_, _<_}
 use mathlib.Core.Path.{_≡_}
 use mathlib.Core.Logic.{_≢_}
 use mathlib.Core.Bool.{true}
@@ -11,7 +11,7 @@ use Rattle.slot.specs.Ids.{afterId}
 use Rattle.slot.specs.Ranges.{slotGood}
 use Rattle.slot.proofs.SlotLaws.{NoRequest, OpenKind, Phase, slot-makes, slot-tells}
 use Rattle.words.specs.Good.{noPlaces}
-use Rattle.words.specs.Record.{kindIn, phaseIn, sizeIn, slotIn}
+use Rattle.words.specs.Record.{kindIn, phaseIn, sizeIn, slotIn, toggleIn}
 use Rattle.word_ranges.specs.Bounds.{wordGood}
 use Rattle.word_ranges.specs.Seen.{heldGood}
 use Rattle.word_ranges.proofs.HeldLaws.{Kept, held-makes, held-tells}
@@ -25,10 +25,13 @@ after-least last = by (decEq last (2 ^ 64 - 1))
     by (yes q) = rw (eq-eqb last (2 ^ 64 - 1) q) (omega arith)
     by (no n) = rw (ne-eqb last (2 ^ 64 - 1) n) (omega arith)
 
+bit-none : (x : ℕ) → x < 2 → x % 2 ≡ 0 → x ≡ 0
+bit-none x h e = omega arith
+
 module _ (limit u w last : ℕ) where
   -- ---- from the words to the slot
 
-  none : phaseIn w < 2 → w < 2 ^ 15 → NoRequest (slotIn w last)
+  none : phaseIn w < 2 → w < 2 ^ 16 → NoRequest (slotIn w last)
   unfolding slotIn
   none p h =
       record {
@@ -70,6 +73,13 @@ module _ (limit u w last : ℕ) where
   size-0 (Word.advances-word e n m h) p = absurd (omega arith)
   size-0 (Word.frame-word e q h) p = absurd (omega arith)
 
+  toggle-0 : Word u w → phaseIn w ≡ 0 → toggleIn w ≡ 0
+  toggle-0 (Word.closed-word z) p = omega arith
+  toggle-0 (Word.idle-word e n h) p = absurd (omega arith)
+  toggle-0 (Word.linked-word e n h) p = absurd (omega arith)
+  toggle-0 (Word.advances-word e n m h) p = absurd (omega arith)
+  toggle-0 (Word.frame-word e q h) p = absurd (omega arith)
+
   least : 1 ≤ slotIn w last .id
   unfolding slotIn
   least = after-least last
@@ -84,33 +94,38 @@ module _ (limit u w last : ℕ) where
         closed-from = λ far. absurd (omega arith);
         size-none = size-0 (word-tells limit u w good);
         size-open = word-sized limit u w good;
+        toggle-none = toggle-0 (word-tells limit u w good);
+        toggle-flag = omega arith;
         by-phase = phase (a ∷ b ∷ c ∷ d ∷ []) (held-tells (phaseIn w) last a b c d held) (word-tells limit u w good);
       })
 
   -- ---- and back
 
-  bare : NoRequest (slotIn w last) → w < 2 ^ 15
+  bare : NoRequest (slotIn w last) → w < 2 ^ 16
   unfolding slotIn
   bare n =
-      let fields : w < 0x1_0000_0000_0000 = omega (arith, n .cancel-none, n .boundary-none) in
-      let below : w < 0x1_0000 = omega (arith, n .length-none) in
+      let fields : w < 0x2_0000_0000_0000 = omega (arith, n .cancel-none, n .boundary-none) in
+      let below : w < 0x2_0000 = omega (arith, n .length-none) in
       omega (arith, n .direction-none)
 
-  unsized : w < 2 ^ 15 → sizeIn w ≡ 0 → w < 16
-  unsized h z =
-      let few : w / 16 < 2048 = omega arith in
+  unsized : w < 2 ^ 16 → sizeIn w ≡ 0 → toggleIn w ≡ 0 → w < 16
+  unsized h z g =
+      let once : w / 0x8000 < 2 = omega (arith, h) in
+      let none-there : w / 0x8000 ≡ 0 = bit-none (w / 0x8000) once g in
+      let low : w < 0x8000 = omega (arith, none-there) in
+      let few : w / 16 < 2048 = omega (arith, low) in
       let none : w / 16 ≡ 0 = omega arith in
       omega arith
 
-  nothing : phaseIn w ≡ 0 → kindIn w ≡ 0 → sizeIn w ≡ 0 → w < 2 ^ 15 → w ≡ 0
-  nothing p k z h = let low : w < 16 = unsized h z in omega arith
+  nothing : phaseIn w ≡ 0 → kindIn w ≡ 0 → sizeIn w ≡ 0 → toggleIn w ≡ 0 → w < 2 ^ 16 → w ≡ 0
+  nothing p k z g h = let low : w < 16 = unsized h z g in omega arith
 
-  word : (phaseIn w ≡ 0 → sizeIn w ≡ 0) → Phase (slotIn w last) u → Word u w
+  word : (phaseIn w ≡ 0 → sizeIn w ≡ 0) → (phaseIn w ≡ 0 → toggleIn w ≡ 0) → Phase (slotIn w last) u → Word u w
   unfolding slotIn
-  word z (Phase.closed e k i n) = Word.closed-word (nothing e k (z e) (bare n))
-  word z (Phase.idle e k n) = Word.idle-word e (k .never) (bare n)
-  word z (Phase.linked e k r d c b) = Word.linked-word e (k .never) (omega arith)
-  word z (Phase.unlinking e k r d c b) = by (decEq (kindIn w) 3)
+  word z g (Phase.closed e k i n) = Word.closed-word (nothing e k (z e) (g e) (bare n))
+  word z g (Phase.idle e k n) = Word.idle-word e (k .never) (bare n)
+  word z g (Phase.linked e k r d c b) = Word.linked-word e (k .never) (omega arith)
+  word z g (Phase.unlinking e k r d c b) = by (decEq (kindIn w) 3)
     where
       by : Dec (kindIn w ≡ 3) → Word u w
       by (yes q) = Word.frame-word e q (omega (arith, b .frame q))
@@ -128,7 +143,7 @@ module _ (limit u w last : ℕ) where
     unfolding slotIn
     slot-word =
         let g = slot-tells E limit k u (slotIn w last) good in
-        word-makes limit u w (word (g .size-none) (g .by-phase)) (g .size-open)
+        word-makes limit u w (word (g .size-none) (g .toggle-none) (g .by-phase)) (g .size-open)
 
     pub slot-held : last < 2 ^ 64 → (phaseIn w ≡ 0 → last ≡ 0) → (phaseIn w ≡ 1 → last ≢ 2 ^ 64 - 1)
         → (phaseIn w < 2 → _≡_ {A = List ℕ} (a ∷ b ∷ c ∷ d ∷ []) noPlaces)

@@ -1,20 +1,20 @@
-// A slot's first word is below a bound, by its lowest four bits: the phase and the kind. 0 where there is no such slot. Its packet size has a
-// range of its own.
+// A slot's first word is at most a bound, by its lowest four bits: the phase and the kind. 0 where there is no such slot. Its packet size has
+// a range of its own.
 ghost use mathlib.Core.Path.{_≡_};
 ghost use Rattle.word_ranges.specs.Bounds.{boundsOf, sizesOf};
 use token::qtd::least;
 use words::record::BOUNDARY;
 
-const CLOSED: u64 = 1;
+const CLOSED: u64 = 0;
 
-// A packet size.
-const IDLE: u64 = 0x8000;
+// A packet size and a toggle.
+const IDLE: u64 = 0xFFFF;
 
 // Direction and length besides.
-const LINKED: u64 = 0x1_0000_0000_0000;
+const LINKED: u64 = 0x1_FFFF_FFFF_FFFF;
 
 // Whether cancelled besides, and a FRINDEX.
-const FRAME: u64 = 0x8000_0000_0000_0000;
+const FRAME: u64 = 0xFFFF_FFFF_FFFF_FFFF;
 
 const PACKET_MAX: u16 = 1024;
 
@@ -47,7 +47,7 @@ const BOUNDS: [u64; 16] = [
 pub fn bounds_for(unanswered: u8) -> [u64; 16]
     ensures { λ r. ⌜ r ≡ boundsOf unanswered ⌝ }
 {
-    let most = BOUNDARY * (unanswered as u64 + 1);
+    let most = BOUNDARY * (unanswered as u64 + 1) - 1;
     let mut bounds = BOUNDS;
     bounds[3] = most;
     bounds[11] = most;

@@ -31,7 +31,7 @@ fn slots_good(
     let mut at: usize = 0;
     while at < end {
         let word = slots[at];
-        let bounded = word < bounds[(word % 16) as usize];
+        let bounded = word <= bounds[(word % 16) as usize];
         // The size less 1; 0 goes round to the last.
         let sized = (word / 16 % 2048 + LAST) % 2048 < sizes[(word % 16) as usize] as u64;
         s = see_slot(

@@ -9,18 +9,18 @@ use borrow.Author.Tests.{eqb-true, eqb-false, eq-eqb, ne-eqb, leb-true, leb-fals
 use lib.Dec.{eqb, leb}
 use lib.ListN.{getD, length, length-set, set, List·getD-eq-default}
 use lib.Seq.{getD-set-same, getD-set-other}
-use Rattle.words.specs.Record.{boundaryIn, cancelIn, directionIn, fallTo, fallenWord, kindIn, lastAt, lengthIn, partAt, phaseIn, sizeIn, wordAt}
+use Rattle.words.specs.Record.{boundaryIn, cancelIn, directionIn, fallTo, fallenWord, kindIn, lastAt, lengthIn, partAt, phaseIn, sizeIn, toggleIn, wordAt}
 
 -- ---- the fields of a fallen word
 
 -- a field that does not reach the boundary stays
-module _ (f : ℕ → ℕ) (w : ℕ) (stays : 0x2_0000_0000_0000 ≤ w → f (w - 0x2_0000_0000_0000) ≡ f w) where
+module _ (f : ℕ → ℕ) (w : ℕ) (stays : 0x4_0000_0000_0000 ≤ w → f (w - 0x4_0000_0000_0000) ≡ f w) where
   pub fallen-field : f (fallenWord w) ≡ f w
   unfolding fallenWord
-  fallen-field = go (eqb (phaseIn w) 3) (eqb (kindIn w) 3) (leb 0x2_0000_0000_0000 w) refl
+  fallen-field = go (eqb (phaseIn w) 3) (eqb (kindIn w) 3) (leb 0x4_0000_0000_0000 w) refl
     where
-      go : (a b c : Bool) → leb 0x2_0000_0000_0000 w ≡ c → f (cond (a && (not b && c)) (w - 0x2_0000_0000_0000) w) ≡ f w
-      go true false true e = stays (leb-true 0x2_0000_0000_0000 w e)
+      go : (a b c : Bool) → leb 0x4_0000_0000_0000 w ≡ c → f (cond (a && (not b && c)) (w - 0x4_0000_0000_0000) w) ≡ f w
+      go true false true e = stays (leb-true 0x4_0000_0000_0000 w e)
       go true false false e = refl
       go true true c e = refl
       go false b c e = refl
@@ -35,6 +35,9 @@ module _ (w : ℕ) where
   pub fallen-size : sizeIn (fallenWord w) ≡ sizeIn w
   fallen-size = fallen-field (λ v. sizeIn v) w (λ h. omega (arith, h))
 
+  pub fallen-toggle : toggleIn (fallenWord w) ≡ toggleIn w
+  fallen-toggle = fallen-field (λ v. toggleIn v) w (λ h. omega (arith, h))
+
   pub fallen-direction : directionIn (fallenWord w) ≡ directionIn w
   fallen-direction = fallen-field (λ v. directionIn v) w (λ h. omega (arith, h))
 
@@ -48,12 +51,12 @@ module _ (w : ℕ) where
   pub fallen-boundary : boundaryIn (fallenWord w)
       ≡ cond (eqb (phaseIn w) 3 && not (eqb (kindIn w) 3)) (boundaryIn w - 1) (boundaryIn w)
   unfolding fallenWord
-  fallen-boundary = go (eqb (phaseIn w) 3) (eqb (kindIn w) 3) (leb 0x2_0000_0000_0000 w) refl
+  fallen-boundary = go (eqb (phaseIn w) 3) (eqb (kindIn w) 3) (leb 0x4_0000_0000_0000 w) refl
     where
-      go : (a b c : Bool) → leb 0x2_0000_0000_0000 w ≡ c
-          → boundaryIn (cond (a && (not b && c)) (w - 0x2_0000_0000_0000) w) ≡ cond (a && not b) (boundaryIn w - 1) (boundaryIn w)
-      go true false true e = omega (arith, leb-true 0x2_0000_0000_0000 w e)
-      go true false false e = omega (arith, leb-false 0x2_0000_0000_0000 w e)
+      go : (a b c : Bool) → leb 0x4_0000_0000_0000 w ≡ c
+          → boundaryIn (cond (a && (not b && c)) (w - 0x4_0000_0000_0000) w) ≡ cond (a && not b) (boundaryIn w - 1) (boundaryIn w)
+      go true false true e = omega (arith, leb-true 0x4_0000_0000_0000 w e)
+      go true false false e = omega (arith, leb-false 0x4_0000_0000_0000 w e)
       go true true c e = refl
       go false b c e = refl
 
@@ -116,13 +119,13 @@ fall-word ws n k e = go (leb n k) refl
 -- ---- the returns of `fallen_word`
 
 module _ (w : ℕ) where
-  pub word-falls : phaseIn w ≡ 3 → (kindIn w ≡ 3 → ⊥) → 0x2_0000_0000_0000 ≤ w → w - 0x2_0000_0000_0000 ≡ fallenWord w
+  pub word-falls : phaseIn w ≡ 3 → (kindIn w ≡ 3 → ⊥) → 0x4_0000_0000_0000 ≤ w → w - 0x4_0000_0000_0000 ≡ fallenWord w
   unfolding fallenWord
-  word-falls p k h = rw (eq-eqb (phaseIn w) 3 p, ne-eqb (kindIn w) 3 k, le-leb 0x2_0000_0000_0000 w h)
+  word-falls p k h = rw (eq-eqb (phaseIn w) 3 p, ne-eqb (kindIn w) 3 k, le-leb 0x4_0000_0000_0000 w h)
 
-  pub word-waits : phaseIn w ≡ 3 → (kindIn w ≡ 3 → ⊥) → w < 0x2_0000_0000_0000 → w ≡ fallenWord w
+  pub word-waits : phaseIn w ≡ 3 → (kindIn w ≡ 3 → ⊥) → w < 0x4_0000_0000_0000 → w ≡ fallenWord w
   unfolding fallenWord
-  word-waits p k h = rw (eq-eqb (phaseIn w) 3 p, ne-eqb (kindIn w) 3 k, lt-leb 0x2_0000_0000_0000 w h)
+  word-waits p k h = rw (eq-eqb (phaseIn w) 3 p, ne-eqb (kindIn w) 3 k, lt-leb 0x4_0000_0000_0000 w h)
 
   pub word-periodic : phaseIn w ≡ 3 → kindIn w ≡ 3 → w ≡ fallenWord w
   unfolding fallenWord

@@ -8,11 +8,11 @@ use lib.ListN.{length}
 use Rattle.settings.specs.declared.settings.Settings.{Settings}
 use Rattle.state.specs.State.{withBell, withBoundaries}
 use Rattle.words.specs.declared.core.Rest.{Rest}
-use Rattle.words.specs.Record.{boundaryIn, cancelIn, directionIn, fallTo, fallenWord, idIn, kindIn, lastAt, lengthIn, phaseIn, requestIn, sizeIn, wordAt}
+use Rattle.words.specs.Record.{boundaryIn, cancelIn, directionIn, fallTo, fallenWord, idIn, kindIn, lastAt, lengthIn, phaseIn, requestIn, sizeIn, toggleIn, wordAt}
 use Rattle.words.specs.Rest.{restWithBell}
 use Rattle.words.specs.View.{eachFrom, stateOf}
 use Rattle.words.proofs.Each.{each-same}
-use Rattle.words.proofs.FallLaws.{fall-last, fall-part, fall-word, fallen-boundary, fallen-cancel, fallen-direction, fallen-kind, fallen-length, fallen-phase, fallen-size}
+use Rattle.words.proofs.FallLaws.{fall-last, fall-part, fall-word, fallen-boundary, fallen-cancel, fallen-direction, fallen-kind, fallen-length, fallen-phase, fallen-size, fallen-toggle}
 use Rattle.words.proofs.PutLaws.{owners-same}
 
 module _ (ws : List ℕ) (e : ℕ) (fits : length ws ≡ 6 * e) where
@@ -52,6 +52,7 @@ module _ (ws : List ℕ) (e : ℕ) (fits : length ws ≡ 6 * e) where
         field-same (λ w. phaseIn w) fallen-phase,
         field-same (λ w. kindIn w) fallen-kind,
         field-same (λ w. sizeIn w) fallen-size,
+        field-same (λ w. toggleIn w) fallen-toggle,
         ids-same,
         requests-same,
         field-same (λ w. directionIn w) fallen-direction,

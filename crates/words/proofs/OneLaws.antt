@@ -15,7 +15,7 @@ use Rattle.settings.specs.declared.settings.Settings.{Settings}
 use Rattle.state.specs.Plain.{Ehci}
 use Rattle.words.specs.declared.core.Rest.{Rest}
 use Rattle.words.specs.Good.{Held, Tidy}
-use Rattle.words.specs.Record.{boundaryIn, cancelIn, directionIn, idIn, kindIn, lastAt, lastOf, lengthIn, partAt, phaseIn, requestIn, sizeIn, slotIn, wordAt, wordOf}
+use Rattle.words.specs.Record.{boundaryIn, cancelIn, directionIn, idIn, kindIn, lastAt, lastOf, lengthIn, partAt, phaseIn, requestIn, sizeIn, slotIn, toggleIn, wordAt, wordOf}
 use Rattle.words.specs.View.{holdsBit, ownerFrom, stateOf}
 use Rattle.words.proofs.EachLaws.{each-equal}
 use Rattle.words.proofs.PickLaws.{placeBit}
@@ -85,6 +85,7 @@ module _ (s : Settings) (slots : s .endpoints ≤ 32) (r r′ : Rest) (ws ws′ 
           each-equal (λ k. phaseIn (wordAt ws k)) (λ k. phaseIn (wordAt ws′ k)) 32 k (ap (λ (v : Ehci). v .phases) e) h,
           each-equal (λ k. kindIn (wordAt ws k)) (λ k. kindIn (wordAt ws′ k)) 32 k (ap (λ (v : Ehci). v .kinds) e) h,
           each-equal (λ k. sizeIn (wordAt ws k)) (λ k. sizeIn (wordAt ws′ k)) 32 k (ap (λ (v : Ehci). v .sizes) e) h,
+          each-equal (λ k. toggleIn (wordAt ws k)) (λ k. toggleIn (wordAt ws′ k)) 32 k (ap (λ (v : Ehci). v .toggles) e) h,
           each-equal (λ k. idIn (lastAt ws k)) (λ k. idIn (lastAt ws′ k)) 32 k (ap (λ (v : Ehci). v .ids) e) h,
           each-equal (λ k. directionIn (wordAt ws k)) (λ k. directionIn (wordAt ws′ k)) 32 k (ap (λ (v : Ehci). v .directions) e) h,
           each-equal (λ k. lengthIn (wordAt ws k)) (λ k. lengthIn (wordAt ws′ k)) 32 k (ap (λ (v : Ehci). v .lengths) e) h,

@@ -13,7 +13,7 @@ use Rattle.slot.specs.Ids.{afterId}
 use Rattle.words.specs.declared.core.Rest.{Rest}
 use Rattle.words.specs.Good.{Held, Tidy}
 use Rattle.words.specs.Opened.{openedRest, openedRow}
-use Rattle.words.specs.Record.{boundaryIn, cancelIn, directionIn, idIn, kindIn, lastAt, lengthIn, phaseIn, requestIn, sizeIn, wordAt}
+use Rattle.words.specs.Record.{boundaryIn, cancelIn, directionIn, idIn, kindIn, lastAt, lengthIn, phaseIn, requestIn, sizeIn, toggleIn, wordAt}
 use Rattle.words.specs.View.{eachFrom, ownerFrom, stateOf}
 use Rattle.words.proofs.EachLaws.{each-replicate}
 use Rattle.words.proofs.SumLaws.{holds-bit, owner-none, sum-none}
@@ -79,6 +79,7 @@ module _ (s : Settings) where
         phases = replicate 32 0;
         kinds = replicate 32 0;
         sizes = replicate 32 0;
+        toggles = replicate 32 0;
         ids = replicate 32 1;
         requests = replicate 32 0;
         directions = replicate 32 0;
@@ -93,6 +94,7 @@ module _ (s : Settings) where
         zeros-field ws zeros (λ w. phaseIn w),
         zeros-field ws zeros (λ w. kindIn w),
         zeros-field ws zeros (λ w. sizeIn w),
+        zeros-field ws zeros (λ w. toggleIn w),
         zeros-ids ws zeros,
         zeros-requests ws zeros,
         zeros-field ws zeros (λ w. directionIn w),

@@ -9,10 +9,10 @@ use Rattle.slot.specs.declared.slot.Slot.{Slot}
 use Rattle.state.specs.Slots.{withSlot}
 use Rattle.state.specs.State.{withOwner}
 use Rattle.words.specs.declared.core.Rest.{Rest}
-use Rattle.words.specs.Record.{SlotFits, boundaryIn, cancelIn, directionIn, idIn, kindIn, lastAt, lengthIn, partAt, phaseIn, putPlaces, putSlot, requestIn, sizeIn, wordAt, wordOf}
+use Rattle.words.specs.Record.{SlotFits, boundaryIn, cancelIn, directionIn, idIn, kindIn, lastAt, lengthIn, partAt, phaseIn, putPlaces, putSlot, requestIn, sizeIn, toggleIn, wordAt, wordOf}
 use Rattle.words.specs.View.{eachFrom, holdsBit, ownerFrom, stateOf}
 use Rattle.words.proofs.Each.{each-same, each-set}
-use Rattle.words.proofs.RecordLaws.{boundary-back, cancel-back, direction-back, id-back, kind-back, length-back, phase-back, request-back, size-back}
+use Rattle.words.proofs.RecordLaws.{boundary-back, cancel-back, direction-back, id-back, kind-back, length-back, phase-back, request-back, size-back, toggle-back}
 use Rattle.words.proofs.RowLaws.{places-last, places-word, put-last, put-last-else, put-part, put-word, put-word-else}
 
 -- ---- rows whose slots have the same places
@@ -60,6 +60,7 @@ module _ (ws : List ℕ) (k : ℕ) (e : Slot) (below : k < 32) (room : 6 * k + 6
         put-field (λ w. phaseIn w) (e .phase) (phase-back e fits),
         put-field (λ w. kindIn w) (e .kind) (kind-back e fits),
         put-field (λ w. sizeIn w) (e .size) (size-back e fits),
+        put-field (λ w. toggleIn w) (e .toggle) (toggle-back e fits),
         put-ids,
         put-requests,
         put-field (λ w. directionIn w) (e .direction) (direction-back e fits),
@@ -95,6 +96,7 @@ module _ (ws : List ℕ) (k : ℕ) (w : List ℕ) where
         field-stays (λ v. phaseIn v),
         field-stays (λ v. kindIn v),
         field-stays (λ v. sizeIn v),
+        field-stays (λ v. toggleIn v),
         ids-stay,
         requests-stay,
         field-stays (λ v. directionIn v),

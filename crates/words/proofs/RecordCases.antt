@@ -4,7 +4,7 @@ use mathlib.Core.Path.{_≡_}
 use borrow.Author.Tests.{eq-eqb, ne-eqb, le-leb, lt-leb}
 use Rattle.slot.specs.Ids.{afterId}
 use Rattle.slot.specs.declared.slot.Slot.{Slot}
-use Rattle.words.specs.Record.{boundaryIn, cancelIn, directionIn, idIn, kindIn, lastOf, lengthIn, phaseIn, requestIn, sizeIn, slotIn}
+use Rattle.words.specs.Record.{boundaryIn, cancelIn, directionIn, idIn, kindIn, lastOf, lengthIn, phaseIn, requestIn, sizeIn, slotIn, toggleIn}
 
 -- ---- `id_in`
 
@@ -34,6 +34,7 @@ pub slot-parts : (w last i q : ℕ) → i ≡ idIn last → q ≡ requestIn (pha
       phase = phaseIn w;
       kind = kindIn w;
       size = sizeIn w;
+      toggle = toggleIn w;
       id = i;
       request = q;
       direction = directionIn w;

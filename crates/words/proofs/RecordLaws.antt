@@ -7,7 +7,7 @@ use native.Mathlib.Omega.{arith}
 use borrow.Author.Tests.{le-leb, leb-true, leb-false, lt-leb}
 use lib.Dec.{leb}
 use Rattle.slot.specs.declared.slot.Slot.{Slot}
-use Rattle.words.specs.Record.{SlotFits, boundaryIn, cancelIn, directionIn, idIn, kindIn, lastOf, lengthIn, phaseIn, requestIn, sizeIn, slotIn, wordOf}
+use Rattle.words.specs.Record.{SlotFits, boundaryIn, cancelIn, directionIn, idIn, kindIn, lastOf, lengthIn, phaseIn, requestIn, sizeIn, slotIn, toggleIn, wordOf}
 use Rattle.words.proofs.RecordCases.{id-follows, last-before, last-own, request-none, request-own}
 
 -- ---- a slot's fields in its words
@@ -25,23 +25,27 @@ module _ (e : Slot) (fits : SlotFits e) where
   unfolding wordOf
   size-back = omega (arith, fits .phase-fits, fits .kind-fits, fits .size-fits)
 
+  pub toggle-back : toggleIn (wordOf e) ≡ e .toggle
+  unfolding wordOf
+  toggle-back = omega (arith, fits .phase-fits, fits .kind-fits, fits .size-fits, fits .toggle-fits)
+
   pub direction-back : directionIn (wordOf e) ≡ e .direction
   unfolding wordOf
-  direction-back = omega (arith, fits .phase-fits, fits .kind-fits, fits .size-fits, fits .direction-fits)
+  direction-back = omega (arith, fits .phase-fits, fits .kind-fits, fits .size-fits, fits .toggle-fits, fits .direction-fits)
 
   pub length-back : lengthIn (wordOf e) ≡ e .length
   unfolding wordOf
-  length-back = omega (arith, fits .phase-fits, fits .kind-fits, fits .size-fits, fits .direction-fits, fits .length-fits)
+  length-back = omega (arith, fits .phase-fits, fits .kind-fits, fits .size-fits, fits .toggle-fits, fits .direction-fits, fits .length-fits)
 
   pub cancel-back : cancelIn (wordOf e) ≡ e .cancel
   unfolding wordOf
   cancel-back =
-      omega (arith, fits .phase-fits, fits .kind-fits, fits .size-fits, fits .direction-fits, fits .length-fits, fits .cancel-fits)
+      omega (arith, fits .phase-fits, fits .kind-fits, fits .size-fits, fits .toggle-fits, fits .direction-fits, fits .length-fits, fits .cancel-fits)
 
   pub boundary-back : boundaryIn (wordOf e) ≡ e .boundary
   unfolding wordOf
   boundary-back =
-      omega (arith, fits .phase-fits, fits .kind-fits, fits .size-fits, fits .direction-fits, fits .length-fits, fits .cancel-fits)
+      omega (arith, fits .phase-fits, fits .kind-fits, fits .size-fits, fits .toggle-fits, fits .direction-fits, fits .length-fits, fits .cancel-fits)
 
   pub id-back : idIn (lastOf e) ≡ e .id
   id-back = go (leb 2 (e .phase)) refl
@@ -72,34 +76,34 @@ module _ (e : Slot) (fits : SlotFits e) where
   pub slot-back : slotIn (wordOf e) (lastOf e) ≡ e
   unfolding slotIn
   slot-back =
-      rw (phase-back, kind-back, size-back, id-back, request-back, direction-back, length-back, cancel-back, boundary-back)
+      rw (phase-back, kind-back, size-back, toggle-back, id-back, request-back, direction-back, length-back, cancel-back, boundary-back)
 
 -- ---- and the words in their slot
 
 pub word-back : (w last : ℕ) → wordOf (slotIn w last) ≡ w
 unfolding wordOf slotIn
 word-back w last =
-    rw (above-48 w, above-49 w)
-    (sum (phaseIn w) (kindIn w) (sizeIn w) (directionIn w) (lengthIn w) (w / 0x1_0000 / 0x1_0000_0000 % 2) (w / 0x1_0000 / 0x2_0000_0000)
-    (w / 0x1_0000) w (low w) (high (w / 0x1_0000)))
+    rw (above-49 w, above-50 w)
+    (sum (phaseIn w) (kindIn w) (sizeIn w) (toggleIn w) (directionIn w) (lengthIn w) (w / 0x2_0000 / 0x1_0000_0000 % 2) (w / 0x2_0000 / 0x2_0000_0000)
+    (w / 0x2_0000) w (low w) (high (w / 0x2_0000)))
   where
-    sum : (p k s d l c b v x : ℕ) → p + 4 * k + 16 * s + 0x8000 * d + 0x1_0000 * v ≡ x → l + 0x1_0000_0000 * c + 0x2_0000_0000 * b ≡ v
-        → (p + 4 * k + 16 * s + 0x8000 * d) + 0x1_0000 * l + (0x1_0000_0000_0000 * c + 0x2_0000_0000_0000 * b) ≡ x
-    sum p k s d l c b v x e f = omega arith
+    sum : (p k s g d l c b v x : ℕ) → p + 4 * k + 16 * s + 0x8000 * g + 0x1_0000 * d + 0x2_0000 * v ≡ x → l + 0x1_0000_0000 * c + 0x2_0000_0000 * b ≡ v
+        → (p + 4 * k + 16 * s + 0x8000 * g + 0x1_0000 * d) + 0x2_0000 * l + (0x2_0000_0000_0000 * c + 0x4_0000_0000_0000 * b) ≡ x
+    sum p k s g d l c b v x e f = omega arith
 
-    low : (v : ℕ) → v % 4 + 4 * (v / 4 % 4) + 16 * (v / 16 % 2048) + 0x8000 * (v / 0x8000 % 2) + 0x1_0000 * (v / 0x1_0000) ≡ v
+    low : (v : ℕ) → v % 4 + 4 * (v / 4 % 4) + 16 * (v / 16 % 2048) + 0x8000 * (v / 0x8000 % 2) + 0x1_0000 * (v / 0x1_0000 % 2) + 0x2_0000 * (v / 0x2_0000) ≡ v
     low v =
-        rw (at-15 v, at-16 v)
-        (join (v % 4) (v / 4 % 4) (v / 16 % 2048) (v / 16 / 2048 % 2) (v / 16 / 4096) (v / 16) v (below v) (middle (v / 16)))
+        rw (at-15 v, at-16 v, at-17 v)
+        (join (v % 4) (v / 4 % 4) (v / 16 % 2048) (v / 16 / 2048 % 2) (v / 16 / 4096 % 2) (v / 16 / 8192) (v / 16) v (below v) (middle (v / 16)))
       where
-        join : (p k s d h x y : ℕ) → p + 4 * k + 16 * x ≡ y → s + 2048 * d + 4096 * h ≡ x
-            → p + 4 * k + 16 * s + 0x8000 * d + 0x1_0000 * h ≡ y
-        join p k s d h x y e f = omega arith
+        join : (p k s g d h x y : ℕ) → p + 4 * k + 16 * x ≡ y → s + 2048 * g + 4096 * d + 8192 * h ≡ x
+            → p + 4 * k + 16 * s + 0x8000 * g + 0x1_0000 * d + 0x2_0000 * h ≡ y
+        join p k s g d h x y e f = omega arith
 
         below : (x : ℕ) → x % 4 + 4 * (x / 4 % 4) + 16 * (x / 16) ≡ x
         below x = omega arith
 
-        middle : (x : ℕ) → x % 2048 + 2048 * (x / 2048 % 2) + 4096 * (x / 4096) ≡ x
+        middle : (x : ℕ) → x % 2048 + 2048 * (x / 2048 % 2) + 4096 * (x / 4096 % 2) + 8192 * (x / 8192) ≡ x
         middle x = omega arith
 
         at-15 : (x : ℕ) → x / 0x8000 ≡ x / 16 / 2048
@@ -108,14 +112,17 @@ word-back w last =
         at-16 : (x : ℕ) → x / 0x1_0000 ≡ x / 16 / 4096
         at-16 x = omega arith
 
+        at-17 : (x : ℕ) → x / 0x2_0000 ≡ x / 16 / 8192
+        at-17 x = omega arith
+
     high : (v : ℕ) → v % 0x1_0000_0000 + 0x1_0000_0000 * (v / 0x1_0000_0000 % 2) + 0x2_0000_0000 * (v / 0x2_0000_0000) ≡ v
     high v = omega arith
 
-    above-48 : (v : ℕ) → v / 0x1_0000_0000_0000 ≡ v / 0x1_0000 / 0x1_0000_0000
-    above-48 v = omega arith
-
-    above-49 : (v : ℕ) → v / 0x2_0000_0000_0000 ≡ v / 0x1_0000 / 0x2_0000_0000
+    above-49 : (v : ℕ) → v / 0x2_0000_0000_0000 ≡ v / 0x2_0000 / 0x1_0000_0000
     above-49 v = omega arith
+
+    above-50 : (v : ℕ) → v / 0x4_0000_0000_0000 ≡ v / 0x2_0000 / 0x2_0000_0000
+    above-50 v = omega arith
 
 module _ (w last : ℕ) where
   pub last-back-own : 2 ≤ phaseIn w → lastOf (slotIn w last) ≡ last

@@ -6,7 +6,7 @@ use lib.ListN.{getD, length}
 use Rattle.settings.specs.declared.settings.Settings.{Settings}
 use Rattle.state.specs.Slots.{slotAt}
 use Rattle.words.specs.declared.core.Rest.{Rest}
-use Rattle.words.specs.Record.{boundaryIn, cancelIn, directionIn, idIn, kindIn, lastAt, lengthIn, phaseIn, requestIn, sizeIn, slotIn, wordAt}
+use Rattle.words.specs.Record.{boundaryIn, cancelIn, directionIn, idIn, kindIn, lastAt, lengthIn, phaseIn, requestIn, sizeIn, slotIn, toggleIn, wordAt}
 use Rattle.words.specs.View.{ownerFrom, stateOf}
 use Rattle.words.proofs.Each.{each-here, each-length}
 
@@ -38,6 +38,10 @@ module _ (s : Settings) (r : Rest) (ws : List ℕ) where
     unfolding stateOf
     view-size = each-here (λ j. sizeIn (wordAt ws j)) 32 k below
 
+    pub view-toggle : getD (stateOf s r ws .toggles) k 0 ≡ toggleIn (wordAt ws k)
+    unfolding stateOf
+    view-toggle = each-here (λ j. toggleIn (wordAt ws j)) 32 k below
+
     pub view-id : getD (stateOf s r ws .ids) k 0 ≡ idIn (lastAt ws k)
     unfolding stateOf
     view-id = each-here (λ j. idIn (lastAt ws j)) 32 k below
@@ -65,4 +69,4 @@ module _ (s : Settings) (r : Rest) (ws : List ℕ) where
     pub view-slot : slotAt (stateOf s r ws) k ≡ slotIn (wordAt ws k) (lastAt ws k)
     unfolding slotAt slotIn
     view-slot =
-        rw (view-phase, view-kind, view-size, view-id, view-request, view-direction, view-length, view-cancel, view-boundary)
+        rw (view-phase, view-kind, view-size, view-toggle, view-id, view-request, view-direction, view-length, view-cancel, view-boundary)

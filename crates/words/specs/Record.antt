@@ -1,5 +1,5 @@
 -- The lent row of slots: six words a slot.
--- Word 0, from its lowest bit on: phase (2 bits), kind (2), packet size (11), direction (1), length (32), cancelled (1), boundary (the rest).
+-- Word 0, from its lowest bit on: phase (2 bits), kind (2), packet size (11), toggle (1), direction (1), length (32), cancelled (1), boundary (the rest).
 -- Word 1: the id of the slot's last request, 0 where there was none; a request has its own. Words 2 to 5: the request's places, a bit each.
 use Prim.Native.Nat.{ℕ, zero, suc, _+_, _-_, _*_, _/_, _%_, _^_, _≤_, _<_}
 use mathlib.Core.Path.{_≡_}
@@ -36,17 +36,20 @@ kindIn w = w / 4 % 4
 abbrev pub sizeIn : ℕ → ℕ
 sizeIn w = w / 16 % 2048
 
+abbrev pub toggleIn : ℕ → ℕ
+toggleIn w = w / 0x8000 % 2
+
 abbrev pub directionIn : ℕ → ℕ
-directionIn w = w / 0x8000 % 2
+directionIn w = w / 0x1_0000 % 2
 
 abbrev pub lengthIn : ℕ → ℕ
-lengthIn w = w / 0x1_0000 % 0x1_0000_0000
+lengthIn w = w / 0x2_0000 % 0x1_0000_0000
 
 abbrev pub cancelIn : ℕ → ℕ
-cancelIn w = w / 0x1_0000_0000_0000 % 2
+cancelIn w = w / 0x2_0000_0000_0000 % 2
 
 abbrev pub boundaryIn : ℕ → ℕ
-boundaryIn w = w / 0x2_0000_0000_0000
+boundaryIn w = w / 0x4_0000_0000_0000
 
 -- the id of the next request
 abbrev pub idIn : ℕ → ℕ
@@ -62,6 +65,7 @@ slotIn w last =
       phase = phaseIn w;
       kind = kindIn w;
       size = sizeIn w;
+      toggle = toggleIn w;
       id = idIn last;
       request = requestIn (phaseIn w) last;
       direction = directionIn w;
@@ -77,10 +81,11 @@ pub record SlotFits (e : Slot) : Type 0 where
   pub phase-fits : e .phase < 4
   pub kind-fits : e .kind < 4
   pub size-fits : e .size < 2048
+  pub toggle-fits : e .toggle < 2
   pub direction-fits : e .direction < 2
   pub length-fits : e .length < 0x1_0000_0000
   pub cancel-fits : e .cancel < 2
-  pub boundary-fits : e .boundary < 0x8000
+  pub boundary-fits : e .boundary < 0x4000
   pub id-least : 1 ≤ e .id
   pub id-fits : e .id < 2 ^ 64
   pub own-id : 2 ≤ e .phase → e .id ≡ afterId (e .request)
@@ -88,8 +93,8 @@ pub record SlotFits (e : Slot) : Type 0 where
 
 unfoldable pub wordOf : Slot → ℕ
 wordOf e =
-    (e .phase + 4 * e .kind + 16 * e .size + 0x8000 * e .direction) + 0x1_0000 * e .length
-    + (0x1_0000_0000_0000 * e .cancel + 0x2_0000_0000_0000 * e .boundary)
+    (e .phase + 4 * e .kind + 16 * e .size + 0x8000 * e .toggle + 0x1_0000 * e .direction) + 0x2_0000 * e .length
+    + (0x2_0000_0000_0000 * e .cancel + 0x4_0000_0000_0000 * e .boundary)
 
 unfoldable pub lastOf : Slot → ℕ
 lastOf e = cond (leb 2 (e .phase)) (e .request) (e .id - 1)
@@ -109,7 +114,7 @@ putPlaces ws k w =
 -- an unlinking control or bulk request has one advance less to wait for
 unfoldable pub fallenWord : ℕ → ℕ
 fallenWord w =
-    cond (eqb (phaseIn w) 3 && (not (eqb (kindIn w) 3) && leb 0x2_0000_0000_0000 w)) (w - 0x2_0000_0000_0000) w
+    cond (eqb (phaseIn w) 3 && (not (eqb (kindIn w) 3) && leb 0x4_0000_0000_0000 w)) (w - 0x4_0000_0000_0000) w
 
 -- in the first n slots
 unfoldable pub fallTo : List ℕ → ℕ → List ℕ

@@ -7,7 +7,7 @@ use Rattle.settings.specs.declared.settings.Settings.{Settings}
 use Rattle.state.specs.Plain.{Ehci}
 use Rattle.words.specs.declared.core.Core.{Core}
 use Rattle.words.specs.declared.core.Rest.{Rest}
-use Rattle.words.specs.Record.{boundaryIn, cancelIn, directionIn, idIn, kindIn, lastAt, lengthIn, partAt, phaseIn, requestIn, sizeIn, wordAt}
+use Rattle.words.specs.Record.{boundaryIn, cancelIn, directionIn, idIn, kindIn, lastAt, lengthIn, partAt, phaseIn, requestIn, sizeIn, toggleIn, wordAt}
 
 -- bit i of slot k's places: 1 where place i is one of them
 unfoldable pub holdsBit : List ℕ → ℕ → ℕ → ℕ
@@ -41,6 +41,7 @@ stateOf s r ws =
       phases = eachFrom (λ k. phaseIn (wordAt ws k)) 0 32;
       kinds = eachFrom (λ k. kindIn (wordAt ws k)) 0 32;
       sizes = eachFrom (λ k. sizeIn (wordAt ws k)) 0 32;
+      toggles = eachFrom (λ k. toggleIn (wordAt ws k)) 0 32;
       ids = eachFrom (λ k. idIn (lastAt ws k)) 0 32;
       requests = eachFrom (λ k. requestIn (phaseIn (wordAt ws k)) (lastAt ws k)) 0 32;
       directions = eachFrom (λ k. directionIn (wordAt ws k)) 0 32;

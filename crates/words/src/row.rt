@@ -2,7 +2,7 @@
 ghost use mathlib.Core.Path.{_≡_};
 ghost use Prim.Native.Nat.{_+_, _*_, _≤_, _<_};
 ghost use lib.ListN.{length, replicate};
-ghost use Rattle.words.specs.Record.{SlotFits, placesAt, putPlaces, putSlot, sizeIn, slotIn, wordAt, lastAt};
+ghost use Rattle.words.specs.Record.{SlotFits, placesAt, putPlaces, putSlot, sizeIn, slotIn, toggleIn, wordAt, lastAt};
 use crate::record::last_of;
 use crate::record::slot_in;
 use crate::record::word_of;
@@ -22,6 +22,12 @@ pub fn size_at(slots: &[u64], k: u8) -> u16
     ensures { λ r. ⌜ r ≡ sizeIn (wordAt (now (slots .entry)) k) ⌝ }
 {
     (word_at(slots, k) / 16 % 2048) as u16
+}
+
+pub fn toggle_at(slots: &[u64], k: u8) -> u8
+    ensures { λ r. ⌜ r ≡ toggleIn (wordAt (now (slots .entry)) k) ⌝ }
+{
+    (word_at(slots, k) / 0x8000 % 2) as u8
 }
 
 fn last_at(slots: &[u64], k: u8) -> u64

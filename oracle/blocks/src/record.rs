@@ -23,9 +23,10 @@ pub mod call {
     pub const SCAN: u8 = 18;
     pub const SCAN_STEP: u8 = 19;
     pub const POWER: u8 = 20;
-    pub const LAST: u8 = 20;
+    pub const CLEAR_HALT: u8 = 21;
+    pub const LAST: u8 = 21;
 
-    pub const NAMES: [&str; 21] = [
+    pub const NAMES: [&str; 22] = [
         "",
         "open",
         "start bring-up",
@@ -47,6 +48,7 @@ pub mod call {
         "start scan",
         "scan step",
         "port power",
+        "clear-halt",
     ];
 }
 
@@ -58,7 +60,7 @@ pub struct Record {
 }
 
 /// For each call the small parameters that it uses, each with the most that it may be, and its numbers' bits.
-const SHAPES: [(&[u8], &[u32]); 21] = [
+const SHAPES: [(&[u8], &[u32]); 22] = [
     (&[], &[]),
     (&[255, 255], &[64, 64, 64, 64, 64, 64, 64]),
     (&[], &[]),
@@ -71,7 +73,7 @@ const SHAPES: [(&[u8], &[u32]); 21] = [
     (&[255, 3, 1], &[48, 64, 64, 32]),
     (&[], &[64, 32]),
     (&[255], &[64, 32, 32]),
-    (&[255], &[64, 32, 32]),
+    (&[255], &[64, 32, 32, 32]),
     (&[1, 1], &[32, 32]),
     (&[], &[32]),
     (&[], &[]),
@@ -80,6 +82,7 @@ const SHAPES: [(&[u8], &[u32]); 21] = [
     (&[], &[]),
     (&[], &[32]),
     (&[255], &[32]),
+    (&[255], &[]),
 ];
 
 impl Record {

@@ -67,7 +67,7 @@ module _ {f : Form} (m : Machine f) (s : Settings) (w : WorldIn f) (orderly : Or
   )
     where
       none-read : Readings
-      none-read = record { command = 0; frame = 0 }
+      none-read = record { command = 0; frame = 0; overlay = 0 }
 
 -- and an interrupt request's boundary
 pub frames-kept : {f : Form} (m : Machine f) (s : Settings) (w : WorldIn f) → Exact s (runOf m w) → FramesKept s (runOf m w)

@@ -13,7 +13,7 @@ use Rattle.request.specs.declared.judge.TransferRequest.{TransferRequest}
 use Rattle.common.specs.Kinds.{isInterrupt}
 use Rattle.controller.specs.declared.lent.Readings.{Readings}
 use Rattle.ehci.specs.declared.call.Call.{Call}
-use Rattle.ehci.specs.declared.call.Call.the-variants.{StartBringUp, BringUpStep, AllocateAddress, OpenEndpoint, Close, SetAddress, SetPacketSize, Submit, Writeback, Cancel, Collect, Acknowledge, Drain, Rearm, Enable, Disable}
+use Rattle.ehci.specs.declared.call.Call.the-variants.{StartBringUp, BringUpStep, AllocateAddress, OpenEndpoint, Close, SetAddress, SetPacketSize, Submit, Writeback, Cancel, Collect, Acknowledge, Drain, Rearm, Enable, Disable, ClearHalt}
 use Rattle.ehci.specs.declared.reply.Answered.{Answered}
 use Rattle.ehci.specs.Replies.{answeredValues}
 use Rattle.promises.specs.Runs.{Form, History, Machine, Turn, WorldIn, historyOf, runOf}
@@ -105,6 +105,7 @@ module _ (s : Settings) (k : ℕ) (t : Turn) where
   is-collection Rearm e = absurd (false≢true e)
   is-collection Enable e = absurd (false≢true e)
   is-collection Disable e = absurd (false≢true e)
+  is-collection (ClearHalt j) e = absurd (false≢true e)
 
 -- ---- the picture, by numbers
 module _ (s : Settings) (k : ℕ) (newer older : History) (collection : Turn) (b : Boundary s k older) where

@@ -13,7 +13,7 @@ use Rattle.pipe.specs.Endpoints.{flagNumber}
 use Rattle.schedule.specs.Bell.{commandWord, ringWord}
 use Rattle.schedule.proofs.BellLaws.{command-clear, ring-set}
 use Rattle.ehci.specs.declared.call.Call.{Call}
-use Rattle.ehci.specs.declared.call.Call.the-variants.{StartBringUp, BringUpStep, AllocateAddress, OpenEndpoint, Close, SetAddress, SetPacketSize, Submit, Writeback, Cancel, Collect, Acknowledge, Drain, Rearm, Enable, Disable}
+use Rattle.ehci.specs.declared.call.Call.the-variants.{StartBringUp, BringUpStep, AllocateAddress, OpenEndpoint, Close, SetAddress, SetPacketSize, Submit, Writeback, Cancel, Collect, Acknowledge, Drain, Rearm, Enable, Disable, ClearHalt}
 use Rattle.ehci.specs.declared.call.InterruptReadings.{InterruptReadings}
 use Rattle.ehci.specs.Replies.{answeredValues}
 use Rattle.promises.specs.Runs.{EveryRun, Form, History, Machine, Moment, Turn, historyOf, moment, turnBy, worldOf}
@@ -186,6 +186,7 @@ module _ (s : Settings) (h : History) (w : Moment) where
   count-by Rearm = no-ring (isAccepted (turnBy w Rearm) && not (eqb (maskedIn h) 0)) (usbintr (cond (flagIn h) 0x27 0)) refl
   count-by Enable = no-ring (isAccepted (turnBy w Enable)) (usbintr 0x27) refl
   count-by Disable = no-ring (isAccepted (turnBy w Disable)) (usbintr 0) refl
+  count-by (ClearHalt k) = refl
 
 pub ring-once : {f : Form} (m : Machine f) → EveryRun WritesExactly m → EveryRun UpExactly m → EveryRun RingsInTurn m
 unfolding historyOf worldOf bell

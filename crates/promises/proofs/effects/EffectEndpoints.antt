@@ -1,12 +1,12 @@
--- Open endpoint, close, set address, set packet size.
-use Prim.Native.Nat.{ℕ, _+_, max}
+-- Open endpoint, close, set address, set packet size, clear-halt.
+use Prim.Native.Nat.{ℕ, _+_, max, _≤_, _<_}
 use mathlib.Core.Bool.{true, false}
 use mathlib.Core.List.{List}
 use mathlib.Core.Path.{_≡_, refl, sym}
 use lib.Dec.{leb}
 use lib.ListN.{length, replicate}
 use Rattle.register.specs.Writes.{noWrites}
-use Rattle.descriptor.specs.Heads.{withAddress, withPacketSize}
+use Rattle.descriptor.specs.Heads.{endpointHead, withAddress, withPacketSize}
 use Rattle.common.proofs.TestLaws.{false-true}
 use Rattle.state.specs.Plain.{Ehci}
 use Rattle.common.specs.declared.answer.Refusal.the-variants.{InvalidParameter}
@@ -21,15 +21,19 @@ use Rattle.endpoint.specs.Calls.{ChangeLeft, closeOf, setAddressOf, raisedGood,
 use Rattle.endpoint.proofs.ChangeLaws.{Changes, change-by, idle-pipe, resized-good}
 use Rattle.endpoint.proofs.OpenLaws.{open-by}
 use Rattle.ehci.specs.declared.call.Call.{Call}
-use Rattle.ehci.specs.declared.call.Call.the-variants.{Close, OpenEndpoint, SetAddress, SetPacketSize}
+use Rattle.ehci.specs.declared.call.Call.the-variants.{ClearHalt, Close, OpenEndpoint, SetAddress, SetPacketSize}
 use Rattle.ehci.specs.declared.call.EndpointFields.{EndpointFields}
-use Rattle.ehci.specs.Decides.{addressDecided, changeCame, closeDecided, openCame, openDecided, packetDecided, withFrames}
+use Rattle.ehci.specs.Decides.{addressDecided, changeCame, clearDecided, closeDecided, openCame, openDecided, packetDecided, withFrames}
 use Rattle.ehci.specs.Door.{carriedOut}
 use Rattle.ehci.specs.Replies.{changedReply, replied}
 use Rattle.promises.specs.Runs.{World, core}
 use Rattle.promises.proofs.effects.RefusalNumbers.{undone}
-use Rattle.promises.proofs.effects.Effects.{Effect, closes, opens, resizes, rewrites}
-use Rattle.promises.proofs.effects.EffectDoor.{refused-still, rows-kept, through}
+use Rattle.promises.proofs.effects.Effects.{Effect, clears, closes, opens, resizes, rewrites}
+use Rattle.promises.proofs.effects.EffectDoor.{carried, refused-still, rows-kept, through}
+use Rattle.descriptor.proofs.HeadFields.{address-reads, characteristics-read, packet-reads}
+use native.Mathlib.Omega.{arith}
+use Rattle.endpoint.specs.Plain.{Change}
+use Rattle.endpoint.proofs.ClearLaws.{clear-by, clear-idle}
 
 -- an open slot that has no request is idle
 pub idle-is : (x : Endpoint) → hasEndpoint x ≡ true → holdsRequest x ≡ false → (p : Pipe) × (x ≡ Idle p)
@@ -37,6 +41,9 @@ idle-is Closed o u = absurd (false-true o)
 idle-is (Idle p) o u = (p, refl)
 idle-is (Linked p r) o u = absurd (false-true (sym u))
 idle-is (Unlinking p r b) o u = absurd (false-true (sym u))
+
+size-small : (size : ℕ) → max size 8 ≤ 1024 → size < 2048
+size-small size most = omega (arith, most)
 
 module _ (w : World) where
   abbrev s : Ehci
@@ -55,7 +62,7 @@ module _ (w : World) where
   u = length (w .rows .setups)
 
   pub open-effect : (x : EndpointFields) → Effect w (OpenEndpoint x) (core w (OpenEndpoint x))
-  unfolding openDecided replied noWrites
+  unfolding openDecided replied noWrites endpointHead
   open-effect x =
       through Effect w (OpenEndpoint x) (refused-still w (OpenEndpoint x) InvalidParameter refl refl)
       (open-by s n hs f u (x .kind) (x .address) (x .number) (x .packet)
@@ -74,6 +81,7 @@ module _ (w : World) where
         sized = from .fields .packet;
         state-is = refl;
         rows-are = rows-kept w (OpenEndpoint x) _ (w .rows .frames) (w .rows .setups);
+        reads = characteristics-read (x .kind) (x .address) (x .number) (x .packet) (from .fields .address-most) (from .fields .number-most) (from .fields .packet .size-most) .packet-is;
         silent = refl;
         nothing = refl;
         changes = refl;
@@ -118,6 +126,7 @@ module _ (w : World) where
         idle = idle-of k from .1;
         state-is = refl;
         rows-are = rows-kept w (SetAddress k a) _ (w .rows .frames) (w .rows .setups);
+        reads = address-reads (headWord hs (k + 1) 1) a .packet-is;
         silent = refl;
         nothing = refl;
         same = refl;
@@ -140,6 +149,27 @@ module _ (w : World) where
         sized = resized-good s n hs f u k from size g .size;
         state-is = refl;
         rows-are = rows-kept w (SetPacketSize k size) _ (w .rows .frames) (w .rows .setups);
+        reads = packet-reads (headWord hs (k + 1) 1) size (size-small size (resized-good s n hs f u k from size g .size .size-most)) .packet-is;
+        silent = refl;
+        nothing = refl;
+        changes = refl;
+      })))
+
+  abbrev Cleared : ℕ → Change → Type 0
+  Cleared k o = Effect w (ClearHalt k) (carried w (changedReply o))
+
+  pub clear-effect : (k : ℕ) → Effect w (ClearHalt k) (core w (ClearHalt k))
+  unfolding clearDecided changedReply replied noWrites
+  clear-effect k =
+      through Effect w (ClearHalt k) (refused-still w (ClearHalt k) InvalidParameter refl refl)
+      (clear-by s k (Cleared k) (λ r. refused-still w (ClearHalt k) r refl (rw (undone r)))
+      (λ from. clears
+      (record {
+        k = k;
+        p = pipeOf (slotAt s k);
+        idle = clear-idle s k from;
+        state-is = refl;
+        rows-are = rows-kept w (ClearHalt k) hs (w .rows .frames) (w .rows .setups);
         silent = refl;
         nothing = refl;
         changes = refl;

@@ -128,6 +128,7 @@ lower e b =
       phase = e .phase;
       kind = e .kind;
       size = e .size;
+      toggle = e .toggle;
       id = e .id;
       request = e .request;
       direction = e .direction;
@@ -182,6 +183,8 @@ module _ (e : Slot) (u : ℕ) (some : 1 ≤ u) where
         closed-from = g .closed-from;
         size-none = g .size-none;
         size-open = g .size-open;
+        toggle-none = g .toggle-none;
+        toggle-flag = g .toggle-flag;
         by-phase = phase-falls (g .by-phase);
       })
 

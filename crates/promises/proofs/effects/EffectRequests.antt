@@ -42,6 +42,7 @@ use Rattle.promises.proofs.effects.RefusalNumbers.{uncollected, undone}
 use Rattle.promises.proofs.effects.Effects.{Effect, accepts, collects, marks, unlinks, writes-back, Unlinked}
 use Rattle.promises.proofs.effects.EffectDoor.{leaves, refused-still, rows-kept, seen, sidesOf, stays-in, still-of, through, carried}
 use Rattle.schedule.specs.Links.{detachOf}
+use Rattle.token.specs.Overlay.{keptToggle}
 
 -- no head leaves where the words of heads and frames stay
 pub none-leaves : (s : Settings) (k frame : ℕ) (old new : Rows) → new .heads ≡ old .heads → new .frames ≡ old .frames
@@ -222,10 +223,12 @@ module _ (w : World) where
           r = r;
           u = u;
           frame = rd .frame;
+          toggle = keptToggle (rd .overlay);
           view = seen w (Collect k id rd);
           unlinking = e;
           passed = through-it;
           state-is = refl;
+          kept = refl;
           rows-are = rows-kept w (Collect k id rd) _ fs us;
           silent = refl;
           collects = collected-as _ (r .id) _ (outcome-collected (r .cancelled) (seen w (Collect k id rd))) same;

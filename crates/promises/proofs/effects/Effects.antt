@@ -1,11 +1,11 @@
--- What a call can do to a world: thirteen kinds, whatever the call. Every invariant goes by these and not by the calls.
+-- What a call can do to a world: fifteen kinds, whatever the call. Every invariant goes by these and not by the calls.
 use Prim.Native.Nat.{ℕ, _+_, _<_}
 use mathlib.Core.Bool.{true, false, Bool, cond}
 use mathlib.Core.List.{List}
 use mathlib.Core.Path.{_≡_}
 use mathlib.Core.Logic.{_⊎_}
 use lib.Dec.{eqb}
-use lib.ListN.{replicate}
+use lib.ListN.{getD, replicate}
 use Rattle.register.specs.Writes.{listOf, noWrites}
 use Rattle.register.specs.declared.writes.Writes.{Writes}
 use Rattle.descriptor.specs.Heads.{endpointHead, wordsOf}
@@ -16,19 +16,19 @@ use Rattle.common.specs.declared.kinds.EndpointType.the-variants.{Isochronous}
 use Rattle.state.specs.State.{withBell}
 use Rattle.state.specs.Plain.{Ehci}
 use Rattle.state.proofs.RangesLaws.{Ranges}
-use Rattle.pipe.specs.Endpoints.{endpointAt, kindNumber, withEndpoint}
+use Rattle.pipe.specs.Endpoints.{endpointAt, kindNumber, withEndpoint, withToggle}
 use Rattle.slot.proofs.SlotLaws.{SizeGood}
 use Rattle.pipe.specs.declared.endpoints.Endpoint.the-variants.{Closed, Idle, Linked, Unlinking}
 use Rattle.pipe.specs.declared.endpoints.Pipe.{Pipe}
 use Rattle.pipe.specs.declared.endpoints.Request.{Request}
 use Rattle.pipe.specs.declared.endpoints.UnlinkBoundary.{UnlinkBoundary}
-use Rattle.opening.specs.Heads.{withHeadWord}
+use Rattle.opening.specs.Heads.{headWord, withHeadWord}
 use Rattle.controller.specs.Readers.{isUncollected}
 use Rattle.controller.specs.declared.lent.Readings.{Readings}
 use Rattle.schedule.specs.Bell.{advancedOf, bellOf, someRing}
 use Rattle.schedule.specs.Links.{detachOf, endedOverlay, slotLink}
 use Rattle.endpoint.specs.Calls.{newEndpoint, withHead, withSize}
-use Rattle.request.specs.Submit.{chainFor, firstIn, idAt, linkedRows, setupsWith, stateWith, takenFor, writesWith}
+use Rattle.request.specs.Submit.{chainFor, firstIn, idAt, linkedRows, setupsWith, stateWith, takenFor, toggleAt, writesWith}
 use Rattle.request.specs.Writeback.{inRequest, tokenChain}
 use Rattle.request.specs.declared.judge.TransferRequest.{TransferRequest}
 use Rattle.request.proofs.JudgeLaws.{Judged}
@@ -44,8 +44,11 @@ use Rattle.ehci.specs.Door.{Applied}
 use Rattle.promises.specs.Runs.{Rows, Turn, World, rowsOf, turnOf}
 use Rattle.promises.specs.Events.{Other, Reads, Drains, Submits, Collects, event, leaving, Event, Unlinks, Parts, leavesFrames, leavesRing}
 use Rattle.promises.specs.Bells.{cancelsBy}
-use Rattle.promises.specs.Slots.{Change, ClosesSlot, Halted, OpensSlot, ResizesSlot, Running, Same, change}
+use Rattle.promises.specs.Slots.{Change, ClearsHalt, ClosesSlot, Halted, OpensSlot, ResizesSlot, Running, Same, change}
 use Rattle.settings.specs.declared.settings.Settings.{Settings}
+use Rattle.descriptor.specs.EhciQueueHead.{maximumPacketLength}
+use Rattle.promises.specs.Toggles.{overlayGiven}
+use Rattle.token.specs.Overlay.{keptToggle, overlayToken}
 
 -- what of a state stands beside slots, owners and doorbell
 pub record Sides : Type 0 where
@@ -75,6 +78,7 @@ besides s x =
       phases = s .phases;
       kinds = s .kinds;
       sizes = s .sizes;
+      toggles = s .toggles;
       ids = s .ids;
       requests = s .requests;
       directions = s .directions;
@@ -94,6 +98,7 @@ Switches Same before after = after ≡ before
 Switches (OpensSlot k kind size) before after = ⊥
 Switches (ResizesSlot k size) before after = ⊥
 Switches (ClosesSlot k) before after = ⊥
+Switches (ClearsHalt k) before after = ⊥
 Switches Halted before after = after ≡ 0
 Switches Running before after = after ≡ 1
 
@@ -191,6 +196,7 @@ module _ (w : World) (c : Call) (a : Applied) where
     pub sized : SizeGood (old .settings .limit) (kindNumber kind) packet
     pub state-is : new ≡ withEndpoint old k (newEndpoint kind packet)
     pub rows-are : rowsOf a ≡ withHeads (w .rows) (withHead (w .rows .heads) k (wordsOf (endpointHead kind address endpoint packet)))
+    pub reads : maximumPacketLength (getD (wordsOf (endpointHead kind address endpoint packet)) 1 0) ≡ packet
     pub silent : wrote ≡ noWrites
     pub nothing : event (old .settings) (turnOf (w .rows) c a) ≡ Other
     pub changes : change (turnOf (w .rows) c a) ≡ OpensSlot k kind packet
@@ -213,6 +219,7 @@ module _ (w : World) (c : Call) (a : Applied) where
     pub idle : endpointAt old k ≡ Idle p
     pub state-is : new ≡ old
     pub rows-are : rowsOf a ≡ withHeads (w .rows) (withHeadWord (w .rows .heads) (k + 1) 1 word)
+    pub reads : maximumPacketLength word ≡ maximumPacketLength (headWord (w .rows .heads) (k + 1) 1)
     pub silent : wrote ≡ noWrites
     pub nothing : event (old .settings) (turnOf (w .rows) c a) ≡ Other
     pub same : change (turnOf (w .rows) c a) ≡ Same
@@ -227,9 +234,21 @@ module _ (w : World) (c : Call) (a : Applied) where
     pub sized : SizeGood (old .settings .limit) (kindNumber (p .kind)) size
     pub state-is : new ≡ withEndpoint old k (Idle (withSize p size))
     pub rows-are : rowsOf a ≡ withHeads (w .rows) (withHeadWord (w .rows .heads) (k + 1) 1 word)
+    pub reads : maximumPacketLength word ≡ size
     pub silent : wrote ≡ noWrites
     pub nothing : event (old .settings) (turnOf (w .rows) c a) ≡ Other
     pub changes : change (turnOf (w .rows) c a) ≡ ResizesSlot k size
+
+  -- clear-halt: the toggle of an idle slot
+  pub record Clears : Type 0 where
+    pub k : ℕ
+    pub p : Pipe
+    pub idle : endpointAt old k ≡ Idle p
+    pub state-is : new ≡ withEndpoint old k (Idle (withToggle p false))
+    pub rows-are : rowsOf a ≡ w .rows
+    pub silent : wrote ≡ noWrites
+    pub nothing : event (old .settings) (turnOf (w .rows) c a) ≡ Other
+    pub changes : change (turnOf (w .rows) c a) ≡ ClearsHalt k
 
   pub record Accepts : Type 0 where
     pub k : ℕ
@@ -239,8 +258,8 @@ module _ (w : World) (c : Call) (a : Applied) where
     pub state-is : new ≡ stateWith old (takenFor old k t .owner) k t
     pub rows-are : rowsOf a ≡ record {
       pool = fillOf (chainFor old k t (takenFor old k t)) (w .rows .pool);
-      heads = linkedRows (w .rows .heads) (w .rows .frames) (t .kind) k (slotLink old k) (firstIn old (takenFor old k t)) .heads;
-      frames = linkedRows (w .rows .heads) (w .rows .frames) (t .kind) k (slotLink old k) (firstIn old (takenFor old k t)) .frames;
+      heads = linkedRows (w .rows .heads) (w .rows .frames) (t .kind) k (slotLink old k) (firstIn old (takenFor old k t)) (overlayToken (t .kind) (toggleAt old k)) .heads;
+      frames = linkedRows (w .rows .heads) (w .rows .frames) (t .kind) k (slotLink old k) (firstIn old (takenFor old k t)) (overlayToken (t .kind) (toggleAt old k)) .frames;
       setups = setupsWith (w .rows .setups) k t;
     }
     pub writes-are : wrote ≡ writesWith readings
@@ -299,10 +318,13 @@ module _ (w : World) (c : Call) (a : Applied) where
     pub r : Request
     pub u : UnlinkBoundary
     pub frame : ℕ
+    pub toggle : Bool
     pub view : View
     pub unlinking : endpointAt old k ≡ Unlinking p r u
     pub passed : passedBoundary u frame ≡ true
-    pub state-is : new ≡ finishOf old view k p r .state
+    -- the toggle that the call was given
+    pub state-is : new ≡ finishOf old view k (withToggle p toggle) r .state
+    pub kept : toggle ≡ keptToggle (overlayGiven c)
     pub rows-are : rowsOf a ≡ withHeads (w .rows) (endedOverlay (w .rows .heads) k)
     pub silent : wrote ≡ noWrites
     pub collects : event (old .settings) (turnOf (w .rows) c a) ≡ Collects k (r .id) frame
@@ -318,6 +340,7 @@ pub data Effect (w : World) (c : Call) (a : Applied) : Type 0 where
   closes : Closes w c a → Effect w c a
   rewrites : Rewrites w c a → Effect w c a
   resizes : Resizes w c a → Effect w c a
+  clears : Clears w c a → Effect w c a
   accepts : Accepts w c a → Effect w c a
   writes-back : WritesBack w c a → Effect w c a
   marks : Marks w c a → Effect w c a

@@ -13,7 +13,7 @@ use Rattle.settings.specs.declared.settings.Settings.{Settings}
 use Rattle.state.specs.Slots.{withSlot}
 use Rattle.state.specs.State.{withBell, withBoundaries, withOwner}
 use Rattle.state.specs.Plain.{Ehci}
-use Rattle.pipe.specs.Endpoints.{endpointAt, flagNumber, withEndpoint}
+use Rattle.pipe.specs.Endpoints.{endpointAt, flagNumber, withEndpoint, withToggle}
 use Rattle.pipe.specs.declared.endpoints.Endpoint.{Endpoint}
 use Rattle.pipe.specs.declared.endpoints.Endpoint.the-variants.{Closed, Idle, Unlinking}
 use Rattle.pipe.specs.declared.endpoints.Pipe.{Pipe}
@@ -35,7 +35,7 @@ use Rattle.ehci.specs.Door.{Applied}
 use Rattle.promises.specs.Runs.{History, Turn, World, turnOf}
 use Rattle.promises.specs.Events.{Event, Other, Reads, Drains, Submits, Collects, event, rings}
 use Rattle.promises.specs.Bells.{Answered, Bell, Quiet, Rung, bell, drains, isAnswered, isDrains, isReads, isUnlinks, isUp, linked, unlinking}
-use Rattle.promises.proofs.effects.Effects.{Still, Hears, Joins, Passes, Counts, Opens, Closes, Resizes, Rewrites, Accepts, WritesBack, Marks, Collected, besides}
+use Rattle.promises.proofs.effects.Effects.{Still, Hears, Joins, Passes, Counts, Opens, Closes, Resizes, Rewrites, Accepts, WritesBack, Marks, Collected, besides, Clears}
 use Rattle.promises.proofs.effects.EffectEndpoints.{idle-is}
 use Rattle.promises.proofs.invariants.Sound.{Sound}
 use Rattle.promises.proofs.invariants.BellWaiting.{isLeft, waitsFor}
@@ -218,6 +218,15 @@ module _ (s : Settings) (w : World) (c : Call) (a : Applied) (h : History) (soun
       (λ v. ap (waitsFor (suc v)) (sym (x .idle)))
       (stays (x .k) Other e (aside-other (x .k)) q refl refl refl (Idle (withSize (x .p) (x .size))) (slot-is (x .k) (Idle (x .p)) (x .idle))))
 
+  pub clears-step : Clears w c a → Next (a .reply .state)
+  clears-step x =
+      let e = is Other (x .nothing) in
+      let q = no-writes (x .silent) in
+      subst Next (sym (x .state-is))
+      (one-step Other e q refl refl refl (x .k) (within (x .k) (Idle (x .p)) (x .idle) refl) (λ j ne. aside-other j) (Idle (withToggle (x .p) false)) tt
+      (λ v. ap (waitsFor (suc v)) (sym (x .idle)))
+      (stays (x .k) Other e (aside-other (x .k)) q refl refl refl (Idle (withToggle (x .p) false)) (slot-is (x .k) (Idle (x .p)) (x .idle))))
+
   pub closes-step : Closes w c a → Next (a .reply .state)
   closes-step x =
       let e = is Other (x .nothing) in
@@ -269,6 +278,6 @@ module _ (s : Settings) (w : World) (c : Call) (a : Applied) (h : History) (soun
       let here = slot-is (x .k) (Unlinking (x .p) (x .r) (x .u)) (x .unlinking) in
       subst Next (sym (x .state-is))
       (owned-step (Collects (x .k) (x .r .id) (x .frame)) e (no-writes (x .silent)) refl refl refl (x .k) (within (x .k) (Unlinking (x .p) (x .r) (x .u)) (x .unlinking) refl)
-      (λ j ne. aside-collects j (x .k) ne (x .r .id) (x .frame)) (freed (old .owner) (old .settings .descriptors) (x .k + 1)) (Idle (x .p)) tt
+      (λ j ne. aside-collects j (x .k) ne (x .r .id) (x .frame)) (freed (old .owner) (old .settings .descriptors) (x .k + 1)) (Idle (withToggle (x .p) (x .toggle))) tt
       (λ v. sym (ap (waitsFor (suc v)) (x .unlinking) ∙ passed-none v (x .u) (x .frame) (x .passed)))
       (free-now s (x .k) t h (x .r .id) (x .frame) e (leaving-off (x .k) (old .unanswered) (x .p) (x .r) (x .u) here)))

@@ -10,7 +10,7 @@ use Rattle.register.specs.declared.writes.Writes.{Writes}
 use Rattle.settings.specs.declared.settings.Settings.{Settings}
 use Rattle.state.specs.State.{withBell, withOwner}
 use Rattle.state.specs.Plain.{Ehci}
-use Rattle.pipe.specs.Endpoints.{endpointAt, withEndpoint}
+use Rattle.pipe.specs.Endpoints.{endpointAt, withEndpoint, withToggle}
 use Rattle.common.specs.Kinds.{isInterrupt}
 use Rattle.pipe.specs.declared.endpoints.Endpoint.{Endpoint}
 use Rattle.pipe.specs.declared.endpoints.Endpoint.the-variants.{Closed, Idle, Linked, Unlinking}
@@ -124,13 +124,14 @@ module _ (s : Settings) (w : World) (c : Call) (a : Applied) (h : History) where
     pub id : ℕ
     pub frame : ℕ
     pub p : Pipe
+    pub q : Pipe
     pub r : Request
     pub u : UnlinkBoundary
     pub event-is : event s t ≡ Collects k id frame
     pub stays : Calm s t h
     pub was : f k ≡ Unlinking p r u
     pub passed : passedBoundary u frame ≡ true
-    pub now : f′ k ≡ Idle p
+    pub now : f′ k ≡ Idle q
     pub others : Others k
 
   pub data Summary : Type 0 where
@@ -230,21 +231,23 @@ module _ (s : Settings) (w : World) (c : Call) (a : Applied) (h : History) (soun
   ends-summary x =
       let en = is s w c a h sound g (Collects (x .k) (x .r .id) (x .frame)) (x .collects) in
       let o = freed (old .owner) (old .settings .descriptors) (x .k + 1) in
-      let st = withEndpoint (withOwner old o) (x .k) (Idle (x .p)) in
+      let idle = Idle (withToggle (x .p) (x .toggle)) in
+      let st = withEndpoint (withOwner old o) (x .k) idle in
       Summary.ends
       (record {
         k = x .k;
         id = x .r .id;
         frame = x .frame;
         p = x .p;
+        q = _;
         r = x .r;
         u = x .u;
         event-is = en;
         stays = calm s w c a h sound g (Collects (x .k) (x .r .id) (x .frame)) en refl refl refl (no-writes s w c a h sound g (x .silent));
         was = x .unlinking;
         passed = x .passed;
-        now = at st (x .state-is) (x .k) ∙ endpoint-same (withOwner old o) (x .k) (Idle (x .p)) (owner-wide old o (sound .wide)) (within s w c a h sound g (x .k) (Unlinking (x .p) (x .r) (x .u)) (x .unlinking) refl) tt;
-        others = λ j ne. at st (x .state-is) j ∙ endpoint-other (withOwner old o) (x .k) (Idle (x .p)) j ne ∙ owner-aside old o j;
+        now = at st (x .state-is) (x .k) ∙ endpoint-same (withOwner old o) (x .k) idle (owner-wide old o (sound .wide)) (within s w c a h sound g (x .k) (Unlinking (x .p) (x .r) (x .u)) (x .unlinking) refl) tt;
+        others = λ j ne. at st (x .state-is) j ∙ endpoint-other (withOwner old o) (x .k) idle j ne ∙ owner-aside old o j;
       })
 
   goes-summary : (x : Unlinked w c a) → Named s w c a x → isInterrupt (x .p .kind) ≡ false → Summary s w c a h
@@ -322,6 +325,9 @@ module _ (s : Settings) (w : World) (c : Call) (a : Applied) (h : History) (soun
   summary (Effect.resizes x) named =
       quiet-other (is s w c a h sound g Other (x .nothing)) (no-writes s w c a h sound g (x .silent))
       (one-bare (x .k) (Idle (withSize (x .p) (x .size))) (x .state-is) (within s w c a h sound g (x .k) (Idle (x .p)) (x .idle) refl) tt (ap holdsRequest (x .idle)) refl)
+  summary (Effect.clears x) named =
+      quiet-other (is s w c a h sound g Other (x .nothing)) (no-writes s w c a h sound g (x .silent))
+      (one-bare (x .k) (Idle (withToggle (x .p) false)) (x .state-is) (within s w c a h sound g (x .k) (Idle (x .p)) (x .idle) refl) tt (ap holdsRequest (x .idle)) refl)
   summary (Effect.accepts x) named = accepts-summary x
   summary (Effect.writes-back x) named =
       quiet-other (is s w c a h sound g Other (x .nothing)) (no-writes s w c a h sound g (x .silent)) (λ k. Kept.same (at old (x .state-is) k))

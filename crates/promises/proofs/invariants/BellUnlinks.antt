@@ -38,7 +38,7 @@ use Rattle.promises.proofs.invariants.BellSlots.{Joined, Slot, aside-pa
 use Rattle.promises.proofs.invariants.BellInvariant.{BellInv, one-inv, unlink-counted, unlink-inv}
 use Rattle.promises.proofs.invariants.BellFacts.{bell-aside, silent-none, unlink-doorbell, unlink-noted, unlink-rings, unlink-unanswered}
 use Rattle.promises.proofs.invariants.BellTurns.{apart-now, going-now}
-use Rattle.promises.proofs.invariants.BellSteps.{StateInv, accepts-step, aside-of, calm, closes-step, collects-step, counts-step, hears-step, joins-step, marks-step, opens-step, passes-step, resizes-step, rewrites-step, slot-is, still-step, within, writes-back-step}
+use Rattle.promises.proofs.invariants.BellSteps.{StateInv, accepts-step, aside-of, calm, clears-step, closes-step, collects-step, counts-step, hears-step, joins-step, marks-step, opens-step, passes-step, resizes-step, rewrites-step, slot-is, still-step, within, writes-back-step}
 
 -- "boundary": a count for every kind but interrupt
 counts-advances : (k : EndpointType) → isInterrupt k ≡ false → (b : _) (readings : Readings) → (boundedOf b k readings ≡ askedOf b (readings .command)) × ((n : ℕ) → Suits k (Async n))
@@ -198,6 +198,7 @@ bells-keep s w c a h sound g (Effect.rewrites x) named = rewrites-step s w c a h
 bells-keep s w c a h sound g (Effect.resizes x) named = resizes-step s w c a h sound g x
 bells-keep s w c a h sound g (Effect.accepts x) named = accepts-step s w c a h sound g x
 bells-keep s w c a h sound g (Effect.writes-back x) named = writes-back-step s w c a h sound g x
+bells-keep s w c a h sound g (Effect.clears x) named = clears-step s w c a h sound g x
 bells-keep s w c a h sound g (Effect.marks x) named = marks-step s w c a h sound g x
 bells-keep s w c a h sound g (Effect.unlinks x) named = unlinks-step s w c a h sound g x (named x)
 bells-keep s w c a h sound g (Effect.collects x) named = collects-step s w c a h sound g x

@@ -21,7 +21,7 @@ use Rattle.controller.proofs.ReaderLaws.{open-below, open-within}
 use Rattle.schedule.specs.Bell.{bellOf}
 use Rattle.schedule.specs.Links.{Links, detachOf, ringLink, same, slotLink}
 use Rattle.schedule.specs.Walks.{Chain}
-use Rattle.request.specs.Submit.{firstIn, idAt, linkedRows, linkedWith, stateWith, takenFor}
+use Rattle.request.specs.Submit.{firstIn, idAt, linkedRows, linkedWith, stateWith, takenFor, toggleAt}
 use Rattle.request.proofs.SubmitLaws.{submit-others}
 use Rattle.collection.specs.Unlinks.{boundedOf, waitingOf}
 use Rattle.ehci.specs.declared.call.Call.{Call}
@@ -36,6 +36,7 @@ use Rattle.promises.proofs.invariants.ChainDetach.{Parted, frames-parte
 use Rattle.promises.proofs.invariants.ChainEvents.{unlink-told}
 use Rattle.promises.proofs.invariants.ChainSteps as Steps
 use Rattle.promises.proofs.invariants.ChainLinks.{bare-unlinked, links-frames, links-ring}
+use Rattle.token.specs.Overlay.{overlayToken}
 
 -- rows with the same heads and frames
 other-rows : (t : Ehci) (rows new : Rows) (ks js : List ℕ) → new .heads ≡ rows .heads → new .frames ≡ rows .frames
@@ -154,7 +155,7 @@ module _ (s : Settings) (h : History) (w : World) (c : Call) (a : Applied) (soun
     begins = firstIn (w .state) (takenFor (w .state) (y .k) (y .t))
 
     abbrev attached : Links
-    attached = linkedRows (w .rows .heads) (w .rows .frames) (y .t .kind) (y .k) (slotLink (w .state) (y .k)) begins
+    attached = linkedRows (w .rows .heads) (w .rows .frames) (y .t .kind) (y .k) (slotLink (w .state) (y .k)) begins (overlayToken (y .t .kind) (toggleAt (w .state) (y .k)))
 
     takes-settings : takes .settings ≡ w .state .settings
     unfolding stateWith withEndpoint withSlot withOwner
@@ -178,10 +179,10 @@ module _ (s : Settings) (h : History) (w : World) (c : Call) (a : Applied) (soun
     accepts-by : (b : Bool) → isInterrupt (y .t .kind) ≡ b
         → Schedules takes (withLinks (w .rows) (attached .heads) (attached .frames)) (cond b (ringSlots s h) (y .k ∷ ringSlots s h)) (cond b (y .k ∷ frameSlots s h) (frameSlots s h))
     accepts-by false e =
-        links-ring (w .state) takes (w .rows) (ringSlots s h) (frameSlots s h) x (y .k) begins room (sound .frames-fit) takes-settings takes-others bare (y .t .kind) e
+        links-ring (w .state) takes (w .rows) (ringSlots s h) (frameSlots s h) x (y .k) begins _ room (sound .frames-fit) takes-settings takes-others bare (y .t .kind) e
         (takes-now false ∙ ap (same false) e) (takes-now true ∙ ap (same true) e)
     accepts-by true e =
-        links-frames (w .state) takes (w .rows) (ringSlots s h) (frameSlots s h) x (y .k) begins room (sound .frames-fit) takes-settings takes-others bare (y .t .kind) e
+        links-frames (w .state) takes (w .rows) (ringSlots s h) (frameSlots s h) x (y .k) begins _ room (sound .frames-fit) takes-settings takes-others bare (y .t .kind) e
         (takes-now true ∙ ap (same true) e) (takes-now false ∙ ap (same false) e)
 
     pub accepts-keeps : Chained s (turnOf (w .rows) c a ∷ h) (leftBy a)
@@ -205,6 +206,7 @@ module _ (s : Settings) (h : History) (w : World) (c : Call) (a : Applied) (soun
   chained-keeps (Effect.resizes y) = Steps.resizes-keeps s h w c a sound x y
   chained-keeps (Effect.accepts y) = accepts-keeps y
   chained-keeps (Effect.writes-back y) = Steps.writes-back-keeps s h w c a sound x y
+  chained-keeps (Effect.clears y) = Steps.clears-keeps s h w c a sound x y
   chained-keeps (Effect.marks y) = Steps.marks-keeps s h w c a sound x y
   chained-keeps (Effect.unlinks y) = unlinks-keeps y
   chained-keeps (Effect.collects y) = Steps.collected-keeps s h w c a sound x y

@@ -36,16 +36,16 @@ bare-unlinked b (Unlinking p r u) e = refl
 
 -- ---- the overlay is written before the head is linked: no link changes
 
-module _ (h : List ℕ) (k first : ℕ) where
-  overlay-ring : ringLink (startedOverlay h k first 0) ≡ ringLink h
-  overlay-ring = started-word h k first 0 0 (λ e. omega arith) (λ e. omega arith) (λ e. omega arith)
+module _ (h : List ℕ) (k first token : ℕ) where
+  overlay-ring : ringLink (startedOverlay h k first token) ≡ ringLink h
+  overlay-ring = started-word h k first token 0 (λ e. omega arith) (λ e. omega arith) (λ e. omega arith)
 
-  overlay-link : (i : ℕ) → linkWord (startedOverlay h k first 0) i ≡ linkWord h i
-  overlay-link i = started-word h k first 0 (17 * (i + 1)) (λ e. omega arith) (λ e. omega arith) (λ e. omega arith)
+  overlay-link : (i : ℕ) → linkWord (startedOverlay h k first token) i ≡ linkWord h i
+  overlay-link i = started-word h k first token (17 * (i + 1)) (λ e. omega arith) (λ e. omega arith) (λ e. omega arith)
 
 -- ---- linking
 
-module _ (s t : Ehci) (rows : Rows) (ks js : List ℕ) (x : Schedules s rows ks js) (k first : ℕ) (room : 17 * (k + 1) + 17 ≤ length (rows .heads))
+module _ (s t : Ehci) (rows : Rows) (ks js : List ℕ) (x : Schedules s rows ks js) (k first token : ℕ) (room : 17 * (k + 1) + 17 ≤ length (rows .heads))
     (full : length (rows .frames) ≡ 1024) (e : t .settings ≡ s .settings)
     (others : (b : Bool) (i : ℕ) → (i ≡ k → ⊥) → linkedIn b (endpointAt t i) ≡ linkedIn b (endpointAt s i))
     (bare : (b : Bool) → linkedIn b (endpointAt s k) ≡ false) where
@@ -56,10 +56,10 @@ module _ (s t : Ehci) (rows : Rows) (ks js : List ℕ) (x : Schedules s rows ks 
   f = rows .frames
 
   abbrev started : List ℕ
-  started = startedOverlay h k first 0
+  started = startedOverlay h k first token
 
   abbrev linked : EndpointType → Links
-  linked kind = linkedRows h f kind k (slotLink s k) first
+  linked kind = linkedRows h f kind k (slotLink s k) first token
 
   -- the head of a linked slot is another
   another : (b : Bool) (i : ℕ) → linkedIn b (endpointAt s i) ≡ true → i ≡ k → ⊥
@@ -68,7 +68,7 @@ module _ (s t : Ehci) (rows : Rows) (ks js : List ℕ) (x : Schedules s rows ks 
   linked-word : (kind : EndpointType) (b : Bool) (i : ℕ) → linkedIn b (endpointAt s i) ≡ true → linkWord (linked kind .heads) i ≡ linkWord h i
   linked-word kind b i m =
       let ne = another b i m in
-      submit-words h f k (slotLink s k) first (17 * (i + 1)) (λ q. omega arith) (λ q. ne (omega arith)) (λ q. omega arith) (λ q. omega arith) (λ q. omega arith) kind
+      submit-words h f k (slotLink s k) first token (17 * (i + 1)) (λ q. omega arith) (λ q. ne (omega arith)) (λ q. omega arith) (λ q. omega arith) (λ q. omega arith) kind
 
   -- the other schedule stays
   who : (b : Bool) → linkedIn b (endpointAt t k) ≡ false → (i : ℕ) → linkedIn b (endpointAt t i) ≡ linkedIn b (endpointAt s i)
@@ -79,16 +79,16 @@ module _ (s t : Ehci) (rows : Rows) (ks js : List ℕ) (x : Schedules s rows ks 
       by (no ne) = others b i ne
 
   ring-chain : Chain s started (ringLink started) ks (s .settings .heads + 2)
-  ring-chain = rw (overlay-ring h k first) (chain-stays s s h started (ringLink h) (s .settings .heads + 2) ks refl (λ i m. overlay-link h k first i) (x .ring .chain))
+  ring-chain = rw (overlay-ring h k first token) (chain-stays s s h started (ringLink h) (s .settings .heads + 2) ks refl (λ i m. overlay-link h k first token i) (x .ring .chain))
 
   frame-chain : Chain s started (getD f 0 0) js 1
-  frame-chain = chain-stays s s h started (getD f 0 0) 1 js refl (λ i m. overlay-link h k first i) (x .periodic .chain)
+  frame-chain = chain-stays s s h started (getD f 0 0) 1 js refl (λ i m. overlay-link h k first token i) (x .periodic .chain)
 
   avoided : (b : Bool) (ls : List ℕ) → ((i : ℕ) → isIn i ls ≡ linkedIn b (endpointAt s i)) → Avoids k ls
   avoided b ls m = out-avoids k ls (m k ∙ bare b)
 
   head-room : 17 * (k + 1) < length started
-  head-room = omega (arith, room, started-length h k first 0)
+  head-room = omega (arith, room, started-length h k first token)
 
   -- into the ring
   module _ (kind : EndpointType) (q : isInterrupt kind ≡ false) where
@@ -133,7 +133,7 @@ module _ (s t : Ehci) (rows : Rows) (ks js : List ℕ) (x : Schedules s rows ks 
 
     ring-same : ringLink (linked kind .heads) ≡ ringLink h
     unfolding attachedFrames
-    ring-same = rw frame-rows (getD-set-other started (17 * (k + 1)) 0 (getD f 0 0) 0 (λ z. omega arith) ∙ overlay-ring h k first)
+    ring-same = rw frame-rows (getD-set-other started (17 * (k + 1)) 0 (getD f 0 0) 0 (λ z. omega arith) ∙ overlay-ring h k first token)
 
     pub links-frames : linkedIn true (endpointAt t k) ≡ true → linkedIn false (endpointAt t k) ≡ false
         → Schedules t (withLinks rows (linked kind .heads) (linked kind .frames)) ks (k ∷ js)

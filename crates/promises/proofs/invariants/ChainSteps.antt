@@ -16,7 +16,7 @@ use Rattle.common.proofs.TestLaws.{false-true}
 use Rattle.state.specs.State.{withBell, withBoundaries, withOwner}
 use Rattle.state.specs.Slots.{withSlot}
 use Rattle.state.specs.Plain.{Ehci}
-use Rattle.pipe.specs.Endpoints.{endpointAt, withEndpoint}
+use Rattle.pipe.specs.Endpoints.{endpointAt, withEndpoint, withToggle}
 use Rattle.pipe.specs.declared.endpoints.Endpoint.{Endpoint}
 use Rattle.pipe.specs.declared.endpoints.Endpoint.the-variants.{Closed, Idle, Unlinking}
 use Rattle.pipe.proofs.EndpointLaws.{Wide, owner-wide}
@@ -32,7 +32,7 @@ use Rattle.ehci.specs.Door.{Applied}
 use Rattle.promises.specs.Runs.{History, Rows, Turn, World, leftBy, rowsOf, turnOf}
 use Rattle.promises.specs.Events.{Collects, Drains, Event, Other, Reads, event}
 use Rattle.promises.specs.Uses.{frameSlots, framesAfter, ringAfter, ringSlots}
-use Rattle.promises.proofs.effects.Effects.{Closes, Collected, Counts, Hears, Joins, Marks, Opens, Passes, Resizes, Rewrites, Still, WritesBack, besides, withHeads, withPool}
+use Rattle.promises.proofs.effects.Effects.{Clears, Closes, Collected, Counts, Hears, Joins, Marks, Opens, Passes, Resizes, Rewrites, Still, WritesBack, besides, withHeads, withPool}
 use Rattle.promises.proofs.invariants.Sound.{Sound, slot-below, slot-low}
 use Rattle.promises.proofs.invariants.ChainInv.{Chained, heads-long, Schedule, Schedules, linked-fields, linkedIn, schedule-stays, unlinked-stays}
 
@@ -184,6 +184,12 @@ module _ (s : Settings) (h : History) (w : World) (c : Call) (a : Applied) (soun
       (getD-set-other (w .rows .heads) (17 * (y .k + 1) + 1) 0 (y .word) 0 (λ e. omega arith))
       (λ i ne. getD-set-other (w .rows .heads) (17 * (y .k + 1) + 1) (17 * (i + 1)) (y .word) 0 (λ e. omega arith)) refl refl
 
+  pub clears-keeps : Clears w c a → Chained s (turn ∷ h) (leftBy a)
+  clears-keeps y =
+      slot-keeps (y .k) (Idle (withToggle (y .p) false)) (w .rows .heads) Other (y .nothing)
+      (w .state) (y .state-is) (y .rows-are) refl refl refl (sound .wide) (slot-low s w sound (y .k) (Idle (y .p)) (y .idle) refl)
+      (λ b. ap (linkedIn b) (y .idle)) (λ b. refl) refl (λ i ne. refl) refl refl
+
   pub marks-keeps : Marks w c a → Chained s (turn ∷ h) (leftBy a)
   marks-keeps y =
       slot-keeps (y .k) (Unlinking (y .p) (marked (y .r)) (y .u)) (w .rows .heads) Other (y .nothing)
@@ -194,7 +200,7 @@ module _ (s : Settings) (h : History) (w : World) (c : Call) (a : Applied) (soun
   unfolding finishOf withOwner
   collected-keeps y =
       let room = head-within (y .k) (slot-below s w sound (y .k) (Unlinking (y .p) (y .r) (y .u)) (y .unlinking) refl) in
-      slot-keeps (y .k) (Idle (y .p)) (endedOverlay (w .rows .heads) (y .k)) (Collects (y .k) (y .r .id) (y .frame)) (y .collects)
+      slot-keeps (y .k) (Idle (withToggle (y .p) (y .toggle))) (endedOverlay (w .rows .heads) (y .k)) (Collects (y .k) (y .r .id) (y .frame)) (y .collects)
       (withOwner (w .state) (freed (w .state .owner) (w .state .settings .descriptors) (y .k + 1))) (y .state-is) (y .rows-are) refl refl refl
       (owner-wide (w .state) (freed (w .state .owner) (w .state .settings .descriptors) (y .k + 1)) (sound .wide))
       (slot-low s w sound (y .k) (Unlinking (y .p) (y .r) (y .u)) (y .unlinking) refl)

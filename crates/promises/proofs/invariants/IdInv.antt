@@ -18,9 +18,9 @@ use Rattle.ehci.specs.declared.call.Call.{Call}
 use Rattle.ehci.specs.Door.{Applied}
 use Rattle.promises.specs.Runs.{History, Opening, Turn, World, leftBy, turnOf}
 use Rattle.promises.specs.Events.{Event, Other, Reads, Drains, Submits, Collects, event, leaving}
-use Rattle.promises.specs.Slots.{Change, ClosesSlot, Halted, OpensSlot, ResizesSlot, Running, Same, change}
+use Rattle.promises.specs.Slots.{Change, ClearsHalt, ClosesSlot, Halted, OpensSlot, ResizesSlot, Running, Same, change}
 use Rattle.promises.specs.Ids.{following, nextId, startBy, takenBy}
-use Rattle.promises.proofs.effects.Effects.{Effect, Still, Switches, accepts, closes, collects, counts, hears, joins, marks, opens, passes, resizes, rewrites, still, unlinks, writes-back, leaving-by}
+use Rattle.promises.proofs.effects.Effects.{Effect, Still, Switches, accepts, closes, collects, counts, hears, joins, marks, opens, passes, resizes, rewrites, still, unlinks, writes-back, leaving-by, clears}
 use Rattle.promises.proofs.effects.SlotViews.{view-open, view-kept}
 use Rattle.promises.proofs.invariants.Reached.{opening-is}
 use Rattle.promises.proofs.invariants.Sound.{Sound}
@@ -104,6 +104,7 @@ module _ (w : World) (c : Call) (a : Applied) (h : History) (told : IdsTold (w .
       by (OpensSlot k kind size) e s = absurd s
       by (ResizesSlot k size) e s = absurd s
       by (ClosesSlot k) e s = absurd s
+      by (ClearsHalt k) e s = absurd s
       by Halted e s = told-by Other Halted (x .nothing) e kept
       by Running e s = told-by Other Running (x .nothing) e kept
 
@@ -119,6 +120,9 @@ module _ (w : World) (c : Call) (a : Applied) (h : History) (told : IdsTold (w .
   told-here (resizes x) =
       told-by Other (ResizesSlot (x .k) (x .size)) (x .nothing) (x .changes)
       (λ j. sym (after (resizes x) j ∙ view-kept nextIn old (x .k) _ (sym (ap nextIn (x .idle))) j))
+  told-here (clears x) =
+      told-by Other (ClearsHalt (x .k)) (x .nothing) (x .changes)
+      (λ j. sym (after (clears x) j ∙ view-kept nextIn old (x .k) _ (sym (ap nextIn (x .idle))) j))
   told-here (accepts x) =
       told-by (Submits (x .k) (idAt old (x .k)) (x .t)) Same (x .submits) (x .same)
       (λ j. sym (after (accepts x) j

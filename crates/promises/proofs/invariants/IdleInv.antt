@@ -11,7 +11,7 @@ use Rattle.common.proofs.TestLaws.{false-true}
 use Rattle.state.specs.Slots.{slotAt, withSlot}
 use Rattle.state.specs.State.{withBell, withBoundaries, withOwner}
 use Rattle.state.specs.Plain.{Ehci}
-use Rattle.pipe.specs.Endpoints.{endpointAt, withEndpoint}
+use Rattle.pipe.specs.Endpoints.{endpointAt, withEndpoint, withToggle}
 use Rattle.pipe.specs.declared.endpoints.Endpoint.{Endpoint}
 use Rattle.pipe.specs.declared.endpoints.Endpoint.the-variants.{Closed, Idle}
 use Rattle.pipe.proofs.EndpointLaws.{endpoint-other, endpoint-same}
@@ -25,7 +25,7 @@ use Rattle.collection.specs.Unlinks.{waitingOf}
 use Rattle.ehci.specs.declared.call.Call.{Call}
 use Rattle.ehci.specs.Door.{Applied}
 use Rattle.promises.specs.Runs.{World}
-use Rattle.promises.proofs.effects.Effects.{Effect, Idles, accepts, besides, closes, collects, counts, hears, joins, marks, opens, passes, resizes, rewrites, still, unlinks, writes-back}
+use Rattle.promises.proofs.effects.Effects.{Effect, Idles, accepts, besides, clears, closes, collects, counts, hears, joins, marks, opens, passes, resizes, rewrites, still, unlinks, writes-back}
 use Rattle.promises.proofs.effects.EffectDoor.{idles-on}
 use Rattle.promises.proofs.effects.SlotViews.{view-boundaries}
 use Rattle.promises.proofs.invariants.Sound.{Sound, slot-low}
@@ -80,6 +80,10 @@ module _ (s : Settings) (w : World) (c : Call) (a : Applied) (g : Sound s w) (i 
       moved _ _ (x .state-is)
       (vacant-idles (w .state) (x .k) (Idle (withSize (x .p) (x .size)))
       (endpoint-same (w .state) (x .k) (Idle (withSize (x .p) (x .size))) (g .wide) (slot-low s w g (x .k) (Idle (x .p)) (x .idle) refl) tt) refl i)
+  idles-keeps (clears x) =
+      moved _ _ (x .state-is)
+      (vacant-idles (w .state) (x .k) (Idle (withToggle (x .p) false))
+      (endpoint-same (w .state) (x .k) (Idle (withToggle (x .p) false)) (g .wide) (slot-low s w g (x .k) (Idle (x .p)) (x .idle) refl) tt) refl i)
   idles-keeps (accepts x) =
       moved _ _ (x .state-is)
       (running-idles (w .state) _ refl refl (omega (arith, eqb-false (w .state .running) 0 (x .judged .runs), g .ranges .running-flag)) i)

@@ -17,7 +17,7 @@ use Rattle.ehci.specs.Door.{Applied}
 use Rattle.promises.specs.Runs.{History, Opening, Turn, World, leftBy, turnOf}
 use Rattle.promises.specs.Events.{Drains, Event, Other, Reads, event, leaving}
 use Rattle.promises.specs.Bells.{cancelled, cancelsBy, isCollectsOf, isSubmitsOf, renews}
-use Rattle.promises.proofs.effects.Effects.{Accepts, Collected, Effect, Marks, Unlinked, still, hears, joins, passes, counts, opens, closes, resizes, rewrites, accepts, writes-back, marks, unlinks, collects, leaving-by}
+use Rattle.promises.proofs.effects.Effects.{Accepts, Collected, Effect, Marks, Unlinked, still, hears, joins, passes, counts, opens, closes, resizes, rewrites, accepts, writes-back, marks, unlinks, collects, leaving-by, clears}
 use Rattle.promises.proofs.effects.SlotViews.{view-kept}
 use Rattle.promises.proofs.invariants.Reached.{opening-is}
 use Rattle.promises.proofs.invariants.Sound.{Sound}
@@ -151,6 +151,8 @@ module _ (w : World) (c : Call) (a : Applied) (h : History) (sound : Sound (w .s
   keeps-here g (rewrites x) = quiet Other (x .nothing) (λ k. refl) (λ k. refl) (after (rewrites x)) g
   keeps-here g (resizes x) =
       quiet Other (x .nothing) (λ k. refl) (λ k. refl) (λ k. after (resizes x) k ∙ view-kept markIn (w .state) (x .k) _ (sym (ap markIn (x .idle))) k) g
+  keeps-here g (clears x) =
+      quiet Other (x .nothing) (λ k. refl) (λ k. refl) (λ k. after (clears x) k ∙ view-kept markIn (w .state) (x .k) _ (sym (ap markIn (x .idle))) k) g
   keeps-here g (accepts x) = accepts-marked x g
   keeps-here g (writes-back x) = quiet Other (x .nothing) (λ k. refl) (λ k. refl) (after (writes-back x)) g
   keeps-here g (marks x) = marks-marked x g

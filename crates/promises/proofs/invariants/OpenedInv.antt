@@ -21,8 +21,8 @@ use Rattle.ehci.specs.declared.call.Call.{Call}
 use Rattle.ehci.specs.Door.{Applied}
 use Rattle.promises.specs.Runs.{History, Opening, Turn, World, leftBy, turnOf}
 use Rattle.promises.specs.Opened.{kindNow, kindIn}
-use Rattle.promises.specs.Slots.{Change, ClosesSlot, Halted, Open, OpensSlot, ResizesSlot, Running, Same, SlotKind, resized, change, runsAfter, runsIn, slotAfter, slotIn}
-use Rattle.promises.proofs.effects.Effects.{Effect, Still, Switches, accepts, closes, collects, counts, hears, joins, marks, opens, passes, resizes, rewrites, still, unlinks, writes-back, Resizes}
+use Rattle.promises.specs.Slots.{Change, ClosesSlot, Halted, Open, OpensSlot, ResizesSlot, Running, Same, SlotKind, resized, change, runsAfter, runsIn, slotAfter, slotIn, ClearsHalt}
+use Rattle.promises.proofs.effects.Effects.{Effect, Still, Switches, accepts, closes, collects, counts, hears, joins, marks, opens, passes, resizes, rewrites, still, unlinks, writes-back, Resizes, clears}
 use Rattle.promises.proofs.invariants.Reached.{opening-is}
 use Rattle.promises.proofs.effects.SlotViews.{view-open, view-kept}
 use Rattle.promises.proofs.invariants.Sound.{Sound, of-state}
@@ -98,6 +98,7 @@ module _ (w : World) (c : Call) (a : Applied) (h : History) (told : Told h (w .s
         by (OpensSlot k kind size) e s = absurd s
         by (ResizesSlot k size) e s = absurd s
         by (ClosesSlot k) e s = absurd s
+        by (ClearsHalt k) e s = absurd s
         by Halted e s = told-by Halted e kinds (run ∙ s)
         by Running e s = told-by Running e kinds (run ∙ s)
 
@@ -126,6 +127,9 @@ module _ (w : World) (c : Call) (a : Applied) (h : History) (told : Told h (w .s
     told-here (rewrites x) = unchanged (x .same) (after (rewrites x)) (ap (λ (y : Ehci). y .running) (x .state-is))
     told-here (resizes x) =
         told-by (ResizesSlot (x .k) (x .size)) (x .changes) (λ j. resized-here x j ∙ sym (after (resizes x) j))
+        (ap (λ (y : Ehci). y .running) (x .state-is) ∙ told .runs)
+    told-here (clears x) =
+        told-by (ClearsHalt (x .k)) (x .changes) (λ j. told .slots j ∙ sym (after (clears x) j ∙ view-kept kindIn old (x .k) _ (sym (ap kindIn (x .idle))) j))
         (ap (λ (y : Ehci). y .running) (x .state-is) ∙ told .runs)
     told-here (accepts x) =
         unchanged (x .same)

@@ -67,6 +67,7 @@ fresh-sound s e =
         phases-wide = length-replicate {A = ℕ} 32 0;
         kinds-wide = length-replicate {A = ℕ} 32 0;
         sizes-wide = length-replicate {A = ℕ} 32 0;
+        toggles-wide = length-replicate {A = ℕ} 32 0;
         ids-wide = length-replicate {A = ℕ} 32 1;
         requests-wide = length-replicate {A = ℕ} 32 0;
         directions-wide = length-replicate {A = ℕ} 32 0;

@@ -107,6 +107,7 @@ module _ (s : Settings) (w : World) (g : Sound s w) where
         phases-wide = v .phases-wide;
         kinds-wide = v .kinds-wide;
         sizes-wide = v .sizes-wide;
+        toggles-wide = v .toggles-wide;
         ids-wide = v .ids-wide;
         requests-wide = v .requests-wide;
         directions-wide = v .directions-wide;

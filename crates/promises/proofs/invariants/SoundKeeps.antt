@@ -23,12 +23,12 @@ use Rattle.state.specs.Slots.{withSlot}
 use Rattle.state.specs.State.{withBell, withBoundaries, withOwner}
 use Rattle.state.specs.Plain.{Ehci}
 use Rattle.state.proofs.RangesLaws.{Ranges}
-use Rattle.pipe.specs.Endpoints.{withEndpoint}
+use Rattle.pipe.specs.Endpoints.{withEndpoint, withToggle}
 use Rattle.common.specs.Kinds.{isControl, isInterrupt}
 use Rattle.pipe.specs.declared.endpoints.Endpoint.{Endpoint}
 use Rattle.pipe.specs.declared.endpoints.Request.{Request}
 use Rattle.pipe.specs.declared.endpoints.Endpoint.the-variants.{Closed, Idle, Linked, Unlinking}
-use Rattle.pipe.proofs.EndpointLaws.{LinkedGood, UnlinkingGood, bell-wide, endpoint-keeps, owner-wide, slot-wide, OpenPipe}
+use Rattle.pipe.proofs.EndpointLaws.{LinkedGood, UnlinkingGood, bell-wide, endpoint-keeps, owner-wide, slot-wide, OpenPipe, toggled-good}
 use Rattle.common.proofs.RowLaws.{put-length}
 use Rattle.common.proofs.TestLaws.{both-tells}
 use Rattle.controller.proofs.ReaderLaws.{open-within}
@@ -50,7 +50,7 @@ use Rattle.collection.proofs.RangeLaws.{finish-keeps, mark-keeps, waiting-keeps
 use Rattle.ehci.specs.declared.call.Call.{Call}
 use Rattle.ehci.specs.Door.{Applied}
 use Rattle.promises.specs.Runs.{World, leftBy, rowsOf}
-use Rattle.promises.proofs.effects.Effects.{Accepts, Closes, Collected, Counts, Effect, Hears, Marks, Opens, Resizes, Rewrites, Sides, Unlinked, WritesBack, accepts, besides, closes, collects, counts, hears, joins, marks, opens, passes, resizes, rewrites, still, unlinks, writes-back}
+use Rattle.promises.proofs.effects.Effects.{Accepts, Clears, Closes, Collected, Counts, Effect, Hears, Marks, Opens, Resizes, Rewrites, Sides, Unlinked, WritesBack, accepts, besides, clears, closes, collects, counts, hears, joins, marks, opens, passes, resizes, rewrites, still, unlinks, writes-back}
 use Rattle.promises.proofs.invariants.Sound.{Sound, both-sound, endpoint-sound, head-within, heads-sound, rows-sound, sides-sound, sides-wide, slot-below, slot-good, slot-low, state-sound}
 use Rattle.controller.specs.Readers.{hasEndpoint}
 
@@ -73,14 +73,14 @@ detached-lengths : (s : Ehci) (h f : List ℕ) (k : ℕ)
 unfolding detachOf
 detached-lengths s h f k = given-lengths h f (linkWord h k) (periodic s k) (predecessorOf s h f k)
 
-linked-lengths : (h f : List ℕ) (k link first : ℕ) (b : Bool)
-    → (length (attachedBy b (startedOverlay h k first 0) f k link .heads) ≡ length h)
-    × (length (attachedBy b (startedOverlay h k first 0) f k link .frames) ≡ length f)
+linked-lengths : (h f : List ℕ) (k link first token : ℕ) (b : Bool)
+    → (length (attachedBy b (startedOverlay h k first token) f k link .heads) ≡ length h)
+    × (length (attachedBy b (startedOverlay h k first token) f k link .frames) ≡ length f)
 unfolding attachedFrames attachedRing
-linked-lengths h f k link first true =
-    (length-set (startedOverlay h k first 0) _ _ ∙ started-length h k first 0, length-replicate (length f) link)
-linked-lengths h f k link first false =
-    (length-set (set (startedOverlay h k first 0) _ _) 0 link ∙ length-set (startedOverlay h k first 0) _ _ ∙ started-length h k first 0, refl)
+linked-lengths h f k link first token true =
+    (length-set (startedOverlay h k first token) _ _ ∙ started-length h k first token, length-replicate (length f) link)
+linked-lengths h f k link first token false =
+    (length-set (set (startedOverlay h k first token) _ _) 0 link ∙ length-set (startedOverlay h k first token) _ _ ∙ started-length h k first token, refl)
 
 fill-length : (c : Chain) (rs : List _) → length (fillOf c rs) ≡ length rs
 unfolding fillOf
@@ -136,6 +136,7 @@ module _ (s : Settings) (w : World) (c : Call) (a : Applied) (g : Sound s w) whe
           phases-wide = g .wide .phases-wide;
           kinds-wide = g .wide .kinds-wide;
           sizes-wide = g .wide .sizes-wide;
+          toggles-wide = g .wide .toggles-wide;
           ids-wide = g .wide .ids-wide;
           requests-wide = g .wide .requests-wide;
           directions-wide = g .wide .directions-wide;
@@ -215,6 +216,15 @@ module _ (s : Settings) (w : World) (c : Call) (a : Applied) (g : Sound s w) whe
           let below : x .place < st .settings .descriptors = ltb-true (x .place) (st .settings .descriptors) (both-tells (ltb (x .place) (st .settings .descriptors)) _ (x .in-request) .0) in
           omega (arith, below, e, ap (λ (z : Settings). z .descriptors) (g .settings-are))
 
+  clears-sound : Clears w c a → Sound s (leftBy a)
+  clears-sound x =
+      both-sound s a _ _ (x .state-is) (x .rows-are)
+      (endpoint-sound s w g (x .k) (Idle (withToggle (x .p) false))
+      (endpoint-keeps st (x .k) (g .ranges) (g .wide) (slot-low s w g (x .k) (Idle (x .p)) (x .idle) refl) (Idle (withToggle (x .p) false))
+      (toggled-good _ (x .p) false (slot-good s w g (x .k) (Idle (x .p)) (x .idle) refl))
+      (λ le. absurd (omega (arith, le, slot-below s w g (x .k) (Idle (x .p)) (x .idle) refl)))))
+      (rows-sound s w g)
+
   marks-sound : Marks w c a → Sound s (leftBy a)
   marks-sound x =
       both-sound s a _ _ (x .state-is) (x .rows-are)
@@ -263,9 +273,9 @@ module _ (s : Settings) (w : World) (c : Call) (a : Applied) (g : Sound s w) whe
       (record {
         settings-are = g .settings-are;
         ranges = finish-keeps st (x .k) (g .ranges) (g .wide) (slot-low s w g (x .k) here (x .unlinking) refl)
-            (slot-below s w g (x .k) here (x .unlinking) refl) (x .view) (x .p) (x .r) (good .pipe);
+            (slot-below s w g (x .k) here (x .unlinking) refl) (x .view) (withToggle (x .p) (x .toggle)) (x .r) (toggled-good _ (x .p) (x .toggle) (good .pipe));
         wide = slot-wide _ (x .k) _ (owner-wide st _ (g .wide));
-        owners = finish-long st (x .view) (x .k) (x .p) (x .r) ∙ g .owners;
+        owners = finish-long st (x .view) (x .k) (withToggle (x .p) (x .toggle)) (x .r) ∙ g .owners;
       })
       (heads-sound s w g _ (ended-length (w .rows .heads) (x .k) (head-within s w g (x .k) here (x .unlinking) refl)))
     where
@@ -288,8 +298,8 @@ module _ (s : Settings) (w : World) (c : Call) (a : Applied) (g : Sound s w) whe
       (record {
         pool-fits = fill-length _ (w .rows .pool) ∙ g .pool-fits;
         shared-stands = shared-aside (chainFor st (x .k) (x .t) (takenFor st (x .k) (x .t))) (placesFor st (x .k) (x .t)) chain-places past;
-        heads-fit = linked-lengths (w .rows .heads) (w .rows .frames) (x .k) _ _ (isInterrupt (x .t .kind)) .0 ∙ g .heads-fit;
-        frames-fit = linked-lengths (w .rows .heads) (w .rows .frames) (x .k) _ _ (isInterrupt (x .t .kind)) .1 ∙ g .frames-fit;
+        heads-fit = linked-lengths (w .rows .heads) (w .rows .frames) (x .k) _ _ _ (isInterrupt (x .t .kind)) .0 ∙ g .heads-fit;
+        frames-fit = linked-lengths (w .rows .heads) (w .rows .frames) (x .k) _ _ _ (isInterrupt (x .t .kind)) .1 ∙ g .frames-fit;
         setups-fit = setups-length (w .rows .setups) (x .k) (x .t) room ∙ g .setups-fit;
       })
     where
@@ -320,6 +330,7 @@ module _ (s : Settings) (w : World) (c : Call) (a : Applied) (g : Sound s w) whe
   sound-keeps (closes x) = closes-sound x
   sound-keeps (rewrites x) = rewrites-sound x
   sound-keeps (resizes x) = resizes-sound x
+  sound-keeps (clears x) = clears-sound x
   sound-keeps (accepts x) = accepts-sound x
   sound-keeps (writes-back x) = writes-sound x
   sound-keeps (marks x) = marks-sound x

@@ -34,10 +34,10 @@ use Rattle.collection.specs.Calls.{Gathered, finishOf, marked, pendingLeft}
 use Rattle.collection.specs.Unlinks.{Left, unlinkOf, waitingOf}
 use Rattle.collection.proofs.Splits.{cancel-split, collect-split, unlink-split}
 use Rattle.ehci.specs.declared.call.Call.{Call}
-use Rattle.ehci.specs.declared.call.Call.the-variants.{AllocateAddress, OpenEndpoint, Close, SetAddress, SetPacketSize, Submit, Writeback, Cancel, Collect}
+use Rattle.ehci.specs.declared.call.Call.the-variants.{AllocateAddress, OpenEndpoint, Close, SetAddress, SetPacketSize, Submit, Writeback, Cancel, Collect, ClearHalt}
 use Rattle.ehci.specs.declared.call.EndpointFields.{EndpointFields}
 use Rattle.ehci.specs.declared.reply.Answered.the-variants.{Refused}
-use Rattle.ehci.specs.Decides.{addressDecided, allotDecided, allotReply, cancelCame, cancelDecided, changeCame, closeDecided, collectCame, collectDecided, openCame, openDecided, packetDecided, submitCame, submitDecided, withFrames, withSetups, writebackDecided, writtenReply}
+use Rattle.ehci.specs.Decides.{addressDecided, allotDecided, allotReply, cancelCame, cancelDecided, changeCame, clearDecided, closeDecided, collectCame, collectDecided, openCame, openDecided, packetDecided, submitCame, submitDecided, withFrames, withSetups, writebackDecided, writtenReply}
 use Rattle.ehci.specs.Door.{carriedOut}
 use Rattle.ehci.specs.Replies.{changedReply, replied}
 use Rattle.promises.specs.Runs.{World, core}
@@ -45,6 +45,8 @@ use Rattle.promises.specs.Registers.{None, accessOf}
 use Rattle.promises.proofs.effects.EffectDoor.{leaves, seen, through, carried}
 use Rattle.promises.proofs.effects.RefusalNumbers.{undone}
 use Rattle.promises.proofs.invariants.Touches.{Plain, Touches, bounded-shape, level, level-touches, plain-leaves, plain-none, plain-submits, refused-touches, writesBy}
+use Rattle.endpoint.proofs.ClearLaws.{clear-by}
+use Rattle.endpoint.specs.Plain.{Change}
 
 module _ (w : World) where
   abbrev s : Ehci
@@ -100,6 +102,13 @@ module _ (w : World) where
       through Touches w (SetPacketSize k size) (none-refused (SetPacketSize k size) refl InvalidParameter)
       (change-by s n hs (length fs) (length us) k _ _ _ (Changed (SetPacketSize k size)) (none-refused (SetPacketSize k size) refl)
       (λ from g. level-touches w (SetPacketSize k size) _ plain-none (record { pending = refl; masked = refl; enabled = refl; step = refl }) refl))
+
+  pub clear-touches : (k : ℕ) → Touches w (ClearHalt k) (core w (ClearHalt k))
+  unfolding clearDecided changedReply replied noWrites withEndpoint withSlot
+  clear-touches k =
+      through Touches w (ClearHalt k) (none-refused (ClearHalt k) refl InvalidParameter)
+      (clear-by s k (λ (o : Change). Touches w (ClearHalt k) (carried w (changedReply o))) (none-refused (ClearHalt k) refl)
+      (λ from. level-touches w (ClearHalt k) _ plain-none (record { pending = refl; masked = refl; enabled = refl; step = refl }) refl))
 
   pub allot-touches : Touches w AllocateAddress (core w AllocateAddress)
   unfolding allotOf allotDecided replied withNextAddress noWrites

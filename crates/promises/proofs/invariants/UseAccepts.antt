@@ -36,7 +36,7 @@ use Rattle.controller.specs.Readers.{freeCount, holdsRequest, isOpen}
 use Rattle.controller.proofs.FreeLaws.{zeros-are}
 use Rattle.controller.proofs.ReaderLaws.{open-below, open-within}
 use Rattle.schedule.specs.Links.{attachedFrames, attachedRing, slotLink, startedOverlay}
-use Rattle.request.specs.Submit.{attachedBy, chainFor, firstIn, idAt, linkedRows, linkedWith, needOfRequest, placesFor, setupsWith, stateWith, takenFor, takenOf, transferOf}
+use Rattle.request.specs.Submit.{attachedBy, chainFor, firstIn, idAt, linkedRows, linkedWith, needOfRequest, placesFor, setupsWith, stateWith, takenFor, takenOf, toggleAt, transferOf}
 use Rattle.request.specs.declared.judge.TransferRequest.{TransferRequest}
 use Rattle.request.proofs.JudgeLaws.{Judged, free-le}
 use Rattle.request.proofs.SubmitLaws.{places-needed, submit-met, submit-others, submit-places, submit-records, submit-words}
@@ -55,6 +55,7 @@ use Rattle.promises.specs.Rooms.{transferFor, untold}
 use Rattle.promises.proofs.invariants.OpenedInv.{Told, kind-slot}
 use Rattle.promises.proofs.invariants.UseInv.{Avoids, Held, HeldIn, Kept, Nobody, all-counted, every-both, every-map, overlayNext, placesAt, tenantAt, tenantOf, vacant-avoids}
 use Rattle.promises.proofs.invariants.UseSteps.{uses-by, tenant-back}
+use Rattle.token.specs.Overlay.{overlayToken}
 
 pub vacant-of : (e : Endpoint) → holdsRequest e ≡ false → tenantOf e ≡ Nobody
 vacant-of Closed h = refl
@@ -74,24 +75,24 @@ need-least Bulk n limit h = count-pos n limit h
 need-least Interrupt n limit h = count-pos n limit h
 
 -- the overlay's next word is where the chain begins
-module _ (heads frames : List ℕ) (k link start : ℕ) (fits : 17 * (k + 1) + 17 ≤ length heads) where
-  overlay-starts : getD (startedOverlay heads k start 0) (17 * (k + 1) + 4) 0 ≡ start
+module _ (heads frames : List ℕ) (k link start token : ℕ) (fits : 17 * (k + 1) + 17 ≤ length heads) where
+  overlay-starts : getD (startedOverlay heads k start token) (17 * (k + 1) + 4) 0 ≡ start
   unfolding startedOverlay
   overlay-starts =
       let one = set heads (17 * (k + 1) + 4) start in
       let two = set one (17 * (k + 1) + 5) 1 in
-      getD-set-other two (17 * (k + 1) + 6) (17 * (k + 1) + 4) 0 0 (λ e. omega (arith, e)) ∙ getD-set-other one (17 * (k + 1) + 5) (17 * (k + 1) + 4) 1 0 (λ e. omega (arith, e))
+      getD-set-other two (17 * (k + 1) + 6) (17 * (k + 1) + 4) token 0 (λ e. omega (arith, e)) ∙ getD-set-other one (17 * (k + 1) + 5) (17 * (k + 1) + 4) 1 0 (λ e. omega (arith, e))
       ∙ getD-set-same heads (17 * (k + 1) + 4) start 0 (omega (arith, fits))
 
-  attach-starts : (b : Bool) → overlayNext (attachedBy b (startedOverlay heads k start 0) frames k link .heads) k ≡ start
+  attach-starts : (b : Bool) → overlayNext (attachedBy b (startedOverlay heads k start token) frames k link .heads) k ≡ start
   unfolding attachedFrames attachedRing
-  attach-starts true = getD-set-other (startedOverlay heads k start 0) (17 * (k + 1)) (17 * (k + 1) + 4) (getD frames 0 0) 0 (λ e. omega (arith, e)) ∙ overlay-starts
+  attach-starts true = getD-set-other (startedOverlay heads k start token) (17 * (k + 1)) (17 * (k + 1) + 4) (getD frames 0 0) 0 (λ e. omega (arith, e)) ∙ overlay-starts
   attach-starts false =
-      let started = startedOverlay heads k start 0 in
+      let started = startedOverlay heads k start token in
       getD-set-other (set started (17 * (k + 1)) (getD started 0 0)) 0 (17 * (k + 1) + 4) link 0 (λ e. omega (arith, e))
       ∙ getD-set-other started (17 * (k + 1)) (17 * (k + 1) + 4) (getD started 0 0) 0 (λ e. omega (arith, e)) ∙ overlay-starts
 
-  pub submit-starts : (kind : EndpointType) → overlayNext (linkedRows heads frames kind k link start .heads) k ≡ start
+  pub submit-starts : (kind : EndpointType) → overlayNext (linkedRows heads frames kind k link start token .heads) k ≡ start
   unfolding linkedRows
   submit-starts kind = attach-starts (isInterrupt kind)
 
@@ -112,8 +113,8 @@ module _ (w : World) (k : ℕ) (t : TransferRequest) (sound : Sound (w .state .s
         state = stateWith st (takenFor st k t .owner) k t;
         rows = record {
           pool = fillOf (chainFor st k t (takenFor st k t)) (w .rows .pool);
-          heads = linkedRows (w .rows .heads) (w .rows .frames) (t .kind) k (slotLink st k) (firstIn st (takenFor st k t)) .heads;
-          frames = linkedRows (w .rows .heads) (w .rows .frames) (t .kind) k (slotLink st k) (firstIn st (takenFor st k t)) .frames;
+          heads = linkedRows (w .rows .heads) (w .rows .frames) (t .kind) k (slotLink st k) (firstIn st (takenFor st k t)) (overlayToken (t .kind) (toggleAt st k)) .heads;
+          frames = linkedRows (w .rows .heads) (w .rows .frames) (t .kind) k (slotLink st k) (firstIn st (takenFor st k t)) (overlayToken (t .kind) (toggleAt st k)) .frames;
           setups = setupsWith (w .rows .setups) k t;
         };
       }
@@ -143,7 +144,7 @@ module _ (w : World) (k : ℕ) (t : TransferRequest) (sound : Sound (w .state .s
   walked-all : nextWalk s (acceptedWorld .rows .pool) (overlayNext (acceptedWorld .rows .heads) k) ≡ record { met = placesFor st k t; end = Terminated }
   walked-all =
       ap (nextWalk s (acceptedWorld .rows .pool))
-      (submit-starts (w .rows .heads) (w .rows .frames) k (slotLink st k) (firstIn st (takenFor st k t)) (omega (arith, within, sound .heads-fit)) (t .kind))
+      (submit-starts (w .rows .heads) (w .rows .frames) k (slotLink st k) (firstIn st (takenFor st k t)) _ (omega (arith, within, sound .heads-fit)) (t .kind))
       ∙ chain-walked s (acceptedWorld .rows .pool) (s .descriptors + 1) (firstIn st (takenFor st k t)) (placesFor st k t)
       row-within
       (omega (arith, need-most, places-needed st k t (sound .ranges) judged (sound .owners)))
@@ -239,7 +240,7 @@ module _ (w : World) (k : ℕ) (t : TransferRequest) (sound : Sound (w .state .s
 
       word : overlayNext (acceptedWorld .rows .heads) (u .slot) ≡ overlayNext (w .rows .heads) (u .slot)
       word =
-          submit-words (w .rows .heads) (w .rows .frames) k (slotLink st k) (firstIn st (takenFor st k t)) (17 * (u .slot + 1) + 4) (λ e. omega (arith, e)) (λ e. omega (arith, e))
+          submit-words (w .rows .heads) (w .rows .frames) k (slotLink st k) (firstIn st (takenFor st k t)) _ (17 * (u .slot + 1) + 4) (λ e. omega (arith, e)) (λ e. omega (arith, e))
           (λ e. ne (omega (arith, e))) (λ e. omega (arith, e)) (λ e. omega (arith, e)) (t .kind)
 
       owned : Each (λ p. getD front p 0 ≡ u .slot + 1) (u .places)

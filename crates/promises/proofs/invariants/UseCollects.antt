@@ -2,7 +2,7 @@
 use Prim.Native.Nat.{ℕ, _+_, _*_, _≤_, _<_}
 use mathlib.Core.Path.{_≡_, refl, sym, ap, subst, _∙_}
 use mathlib.Core.Logic.{_≢_}
-use mathlib.Core.Bool.{false, true≢false}
+use mathlib.Core.Bool.{Bool, false, true≢false}
 use mathlib.Core.List.{List, [], _∷_}
 use native.Mathlib.Decide.{ℕ-discrete as decEq}
 use native.Mathlib.Omega.{arith}
@@ -17,7 +17,7 @@ use Rattle.settings.specs.declared.settings.Settings.{Settings}
 use Rattle.state.specs.Slots.{withSlot}
 use Rattle.state.specs.State.{withOwner}
 use Rattle.state.specs.Plain.{Ehci}
-use Rattle.pipe.specs.Endpoints.{endpointAt, withEndpoint}
+use Rattle.pipe.specs.Endpoints.{endpointAt, withEndpoint, withToggle}
 use Rattle.pipe.specs.declared.endpoints.Endpoint.{Endpoint}
 use Rattle.pipe.specs.declared.endpoints.Endpoint.the-variants.{Idle, Unlinking}
 use Rattle.pipe.specs.declared.endpoints.Pipe.{Pipe}
@@ -81,7 +81,7 @@ module _ (s : Settings) (owner : List ℕ) (tenant : ℕ → Tenant) (pool : Lis
           (omega (arith, counted u (e .0) q, ap (needs s) (without-none k id us (subst (λ (j : ℕ). Avoids j us) q (a .0)))))
       by (no ne) on = rw (ne-eqb (u .slot) k ne) (omega (arith, on (λ f. none (ne, f))))
 
-module _ (w : World) (view : View) (k : ℕ) (p : Pipe) (r : Request) (b : UnlinkBoundary) (sound : Sound (w .state .settings) w)
+module _ (w : World) (view : View) (k : ℕ) (p : Pipe) (toggle : Bool) (r : Request) (b : UnlinkBoundary) (sound : Sound (w .state .settings) w)
     (unlinking : endpointAt (w .state) k ≡ Unlinking p r b) where
   abbrev st : Ehci
   st = w .state
@@ -94,7 +94,7 @@ module _ (w : World) (view : View) (k : ℕ) (p : Pipe) (r : Request) (b : Unlin
 
   -- the world that a collection leaves
   abbrev pub collectedWorld : World
-  collectedWorld = record { state = finishOf st view k p r .state; rows = withHeads (w .rows) (endedOverlay (w .rows .heads) k) }
+  collectedWorld = record { state = finishOf st view k (withToggle p toggle) r .state; rows = withHeads (w .rows) (endedOverlay (w .rows .heads) k) }
 
   opened : k < s .endpoints
   opened = open-within st k (sound .ranges) (ap hasEndpoint unlinking)
@@ -104,7 +104,7 @@ module _ (w : World) (view : View) (k : ℕ) (p : Pipe) (r : Request) (b : Unlin
 
   tenant-elsewhere : (j : ℕ) → j ≢ k → tenantAt (collectedWorld .state) j ≡ tenantAt st j
   unfolding finishOf
-  tenant-elsewhere j ne = ap tenantOf (endpoint-other (withOwner st _) k (Idle p) j ne ∙ owner-aside st _ j)
+  tenant-elsewhere j ne = ap tenantOf (endpoint-other (withOwner st _) k (Idle (withToggle p toggle)) j ne ∙ owner-aside st _ j)
 
   new-front : take (s .descriptors) (collectedWorld .state .owner) ≡ clearOf (k + 1) front
   unfolding finishOf withEndpoint withSlot withOwner
@@ -125,7 +125,7 @@ module _ (w : World) (view : View) (k : ℕ) (p : Pipe) (r : Request) (b : Unlin
       record {
         below = kept .below;
         holds = tenant-elsewhere (u .slot) ne ∙ kept .holds;
-        places-are = kept .places-are ∙ sym (finish-others st view k p r (u .slot) 256 ne);
+        places-are = kept .places-are ∙ sym (finish-others st view k (withToggle p toggle) r (u .slot) 256 ne);
         as-needed = kept .as-needed;
         leads = ap (nextWalk s (w .rows .pool)) (word-elsewhere (u .slot) ne) ∙ kept .leads;
         written = kept .written;
@@ -156,22 +156,22 @@ module _ (w : World) (view : View) (k : ℕ) (p : Pipe) (r : Request) (b : Unlin
       by : (j : ℕ) → Avoids j (without k (r .id) us) → Dec (j ≡ k)
           → (tenantAt (collectedWorld .state) j ≡ Nobody) × (placesFrom 0 (take (s .descriptors) (collectedWorld .state .owner)) (j + 1) 256 ≡ [])
       by j e (yes q) = (
-        ap (tenantAt (collectedWorld .state)) q ∙ ap tenantOf (finish-idle st view k p r (sound .wide) (open-below st k (ap hasEndpoint unlinking))),
-        ap (λ (i : ℕ). placesFrom 0 (take (s .descriptors) (collectedWorld .state .owner)) (i + 1) 256) q ∙ finish-none st view k p r 256,
+        ap (tenantAt (collectedWorld .state)) q ∙ ap tenantOf (finish-idle st view k (withToggle p toggle) r (sound .wide) (open-below st k (ap hasEndpoint unlinking))),
+        ap (λ (i : ℕ). placesFrom 0 (take (s .descriptors) (collectedWorld .state .owner)) (i + 1) 256) q ∙ finish-none st view k (withToggle p toggle) r 256,
       )
       by j e (no ne) =
           let old = held .rest j (without-avoids k (r .id) j ne us e) in
-          (tenant-elsewhere j ne ∙ old .0, finish-others st view k p r j 256 ne ∙ old .1)
+          (tenant-elsewhere j ne ∙ old .0, finish-others st view k (withToggle p toggle) r j 256 ne ∙ old .1)
 
 pub collects-held : (w : World) (c : Call) (a : Applied) (h : History) → Sound (w .state .settings) w → (x : Collected w c a) → Held (w .state .settings) h w
     → Held (w .state .settings) (turnOf (w .rows) c a ∷ h) (leftBy a)
 collects-held w c a h sound x held =
     subst (λ (us : List Use). HeldIn s′ us (leftBy a)) (sym (uses-by s′ (turnOf (w .rows) c a) h (Collects (x .k) (x .r .id) (x .frame)) (x .collects)))
     (subst (λ (v : World). HeldIn s′ (without (x .k) (x .r .id) (uses s′ h)) v) (sym left)
-    (collected-holds w (x .view) (x .k) (x .p) (x .r) (x .u) sound (x .unlinking) (uses s′ h) held))
+    (collected-holds w (x .view) (x .k) (x .p) (x .toggle) (x .r) (x .u) sound (x .unlinking) (uses s′ h) held))
   where
     s′ : Settings
     s′ = w .state .settings
 
-    left : leftBy a ≡ collectedWorld w (x .view) (x .k) (x .p) (x .r) (x .u) sound (x .unlinking)
+    left : leftBy a ≡ collectedWorld w (x .view) (x .k) (x .p) (x .toggle) (x .r) (x .u) sound (x .unlinking)
     left = λ i. record { state = x .state-is i; rows = x .rows-are i }

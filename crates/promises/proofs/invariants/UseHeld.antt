@@ -17,12 +17,12 @@ use Rattle.ehci.specs.declared.call.Call.{Call}
 use Rattle.ehci.specs.Door.{Applied}
 use Rattle.promises.specs.Runs.{History, Opening, Rows, World, leftBy, turnOf}
 use Rattle.promises.specs.Uses.{uses}
-use Rattle.promises.proofs.effects.Effects.{Effect, still, hears, joins, passes, counts, opens, closes, resizes, rewrites, accepts as takes, writes-back, marks, unlinks, collects}
+use Rattle.promises.proofs.effects.Effects.{Effect, still, hears, joins, passes, counts, opens, closes, resizes, rewrites, accepts as takes, writes-back, marks, unlinks, collects, clears}
 use Rattle.promises.proofs.invariants.Reached.{freshRows, opening-is}
 use Rattle.promises.proofs.invariants.Sound.{Sound}
 use Rattle.promises.proofs.invariants.OpenedInv.{Told, told-keeps, told-opens}
 use Rattle.promises.proofs.invariants.UseInv.{Held, HeldIn, tenantOf}
-use Rattle.promises.proofs.invariants.UseSteps.{closes-held, counts-held, hears-held, joins-held, marks-held, opens-held, passes-held, resizes-held, rewrites-held, still-held, unlinks-held, writes-back-held}
+use Rattle.promises.proofs.invariants.UseSteps.{clears-held, closes-held, counts-held, hears-held, joins-held, marks-held, opens-held, passes-held, resizes-held, rewrites-held, still-held, unlinks-held, writes-back-held}
 use Rattle.promises.proofs.invariants.UseAccepts.{accepts-held}
 use Rattle.promises.proofs.invariants.UseCollects.{collects-held}
 use Rattle.promises.proofs.invariants.BellFacts.{fresh-closed}
@@ -64,6 +64,7 @@ keeps-here w c a h told sound held (rewrites x) = rewrites-held w c a h sound x 
 keeps-here w c a h told sound held (resizes x) = resizes-held w c a h sound x held
 keeps-here w c a h told sound held (takes x) = accepts-held w c a h told sound x held
 keeps-here w c a h told sound held (writes-back x) = writes-back-held w c a h sound x held
+keeps-here w c a h told sound held (clears x) = clears-held w c a h sound x held
 keeps-here w c a h told sound held (marks x) = marks-held w c a h sound x held
 keeps-here w c a h told sound held (unlinks x) = unlinks-held w c a h sound x held
 keeps-here w c a h told sound held (collects x) = collects-held w c a h sound x held

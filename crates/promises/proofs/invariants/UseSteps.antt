@@ -41,7 +41,7 @@ use Rattle.ehci.specs.Door.{Applied}
 use Rattle.promises.specs.Runs.{History, Rows, Turn, World, leftBy, rowsOf, turnOf}
 use Rattle.promises.specs.Events.{Drains, Event, Other, Reads, event, leaving}
 use Rattle.promises.specs.Uses.{Use, uses, usesAfter}
-use Rattle.promises.proofs.effects.Effects.{Closes, Counts, Hears, Joins, Marks, Opens, Passes, Resizes, Rewrites, Still, Unlinked, WritesBack, leaving-by, Effect, still, joins, passes, hears, counts, opens, closes, resizes, rewrites, writes-back, marks, unlinks}
+use Rattle.promises.proofs.effects.Effects.{Closes, Counts, Hears, Joins, Marks, Opens, Passes, Resizes, Rewrites, Still, Unlinked, WritesBack, leaving-by, Effect, still, joins, passes, hears, counts, opens, closes, resizes, rewrites, writes-back, marks, unlinks, Clears, clears}
 use Rattle.promises.proofs.effects.SlotViews.{view-kept}
 use Rattle.promises.proofs.invariants.Sound.{Sound}
 use Rattle.promises.specs.Rooms.{untold}
@@ -60,19 +60,20 @@ uses-leaving s t h k frame us = leaving-by s k frame t (λ e. usesAfter s t h e 
 
 -- ---- words and records
 
-head-length : (kind : EndpointType) (address number packet : ℕ) → length (wordsOf (endpointHead kind address number packet)) ≡ 17
+pub head-length : (kind : EndpointType) (address number packet : ℕ) → length (wordsOf (endpointHead kind address number packet)) ≡ 17
 unfolding endpointHead terminated
 head-length kind address number packet = refl
 
 -- detaching writes links only
-pub detach-word : (s : Ehci) (heads frames : List ℕ) (k j : ℕ) → overlayNext (detachOf s heads frames k .rows .heads) j ≡ overlayNext heads j
+pub detach-word : (s : Ehci) (heads frames : List ℕ) (k j i : ℕ) → 1 ≤ i → i < 17
+    → getD (detachOf s heads frames k .rows .heads) (17 * (j + 1) + i) 0 ≡ getD heads (17 * (j + 1) + i) 0
 unfolding detachOf
-detach-word s heads frames k j = by (predecessorOf s heads frames k) (periodic s k)
+detach-word s heads frames k j i some low = by (predecessorOf s heads frames k) (periodic s k)
   where
-    by : (p : Predecessor) (b : Bool) → overlayNext (givenLink p b heads frames (linkWord heads k) .heads) j ≡ overlayNext heads j
+    by : (p : Predecessor) (b : Bool) → getD (givenLink p b heads frames (linkWord heads k) .heads) (17 * (j + 1) + i) 0 ≡ getD heads (17 * (j + 1) + i) 0
     by First true = refl
-    by First false = getD-set-other heads 0 (17 * (j + 1) + 4) (linkWord heads k) 0 (λ e. omega (arith, e))
-    by (Head i) b = getD-set-other heads (17 * (i + 1)) (17 * (j + 1) + 4) (linkWord heads k) 0 (λ e. omega (arith, e))
+    by First false = getD-set-other heads 0 (17 * (j + 1) + i) (linkWord heads k) 0 (λ e. omega (arith, e))
+    by (Head p) b = getD-set-other heads (17 * (p + 1)) (17 * (j + 1) + i) (linkWord heads k) 0 (λ e. omega (arith, e, some, low))
     by Missing b = refl
 
 -- only a token changes
@@ -202,6 +203,13 @@ module _ (w : World) (c : Call) (a : Applied) (h : History) where
         ∙ token-written (x .place) (x .token) (w .rows .pool) (requested-place (x .place) (x .in-request)) p)
         (λ j n. ap (λ (r : Rows). overlayNext (r .heads) j) (x .rows-are))
 
+    pub clears-held : Clears w c a → Held s h w → Held s (t ∷ h) (leftBy a)
+    unfolding withEndpoint withSlot
+    clears-held x =
+        rowless (uses-by s t h Other (x .nothing)) (ap (λ (y : Ehci). y .owner) (x .state-is))
+        (λ j. after (clears x) j ∙ view-kept tenantOf (w .state) (x .k) _ (sym (ap tenantOf (x .idle))) j)
+        (x .rows-are)
+
     pub marks-held : Marks w c a → Held s h w → Held s (t ∷ h) (leftBy a)
     unfolding withEndpoint withSlot
     marks-held x =
@@ -216,7 +224,7 @@ module _ (w : World) (c : Call) (a : Applied) (h : History) where
         (ap (λ (y : Ehci). y .owner) (x .state-is))
         (λ j. after (unlinks x) j ∙ view-kept tenantOf (w .state) (x .k) _ (same ∙ sym (ap tenantOf (x .linked))) j)
         (λ p. ap (λ (r : Rows). untold (getD (r .pool) p blank)) (x .rows-are))
-        (λ j n. ap (λ (r : Rows). overlayNext (r .heads) j) (x .rows-are) ∙ detach-word (w .state) (w .rows .heads) (w .rows .frames) (x .k) j)
+        (λ j n. ap (λ (r : Rows). overlayNext (r .heads) j) (x .rows-are) ∙ detach-word (w .state) (w .rows .heads) (w .rows .frames) (x .k) j 4 (omega arith) (omega arith))
       where
         of : Request → Tenant
         of r = tenantOf (Linked (x .p) r)

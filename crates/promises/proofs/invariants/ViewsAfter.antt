@@ -1,12 +1,12 @@
 -- What is seen of a slot's endpoint, but for its boundary, after each effect: at most one slot is given another endpoint.
 use Prim.Native.Nat.{ℕ, _<_}
-use mathlib.Core.Bool.{cond}
+use mathlib.Core.Bool.{cond, false}
 use mathlib.Core.Path.{_≡_, refl, ap, _∙_}
 use native.Mathlib.Omega.{arith}
 use lib.Dec.{eqb}
 use Rattle.state.specs.State.{withBell, withOwner}
 use Rattle.state.specs.Plain.{Ehci}
-use Rattle.pipe.specs.Endpoints.{decoded, encoded, endpointAt, withEndpoint}
+use Rattle.pipe.specs.Endpoints.{decoded, encoded, endpointAt, withEndpoint, withToggle}
 use Rattle.pipe.specs.declared.endpoints.Endpoint.{Endpoint}
 use Rattle.pipe.specs.declared.endpoints.Endpoint.the-variants.{Closed, Idle, Linked, Unlinking}
 use Rattle.pipe.specs.declared.endpoints.Pipe.{Pipe}
@@ -22,7 +22,7 @@ use Rattle.collection.specs.Unlinks.{boundedOf, waitingOf}
 use Rattle.ehci.specs.declared.call.Call.{Call}
 use Rattle.ehci.specs.Door.{Applied}
 use Rattle.promises.specs.Runs.{World}
-use Rattle.promises.proofs.effects.Effects.{Effect, accepts, closes, collects, counts, hears, joins, marks, opens, passes, resizes, rewrites, still, unlinks, writes-back}
+use Rattle.promises.proofs.effects.Effects.{Effect, accepts, clears, closes, collects, counts, hears, joins, marks, opens, passes, resizes, rewrites, still, unlinks, writes-back}
 use Rattle.promises.proofs.effects.SlotViews.{view-bell, view-besides, view-boundaries, view-given}
 use Rattle.promises.proofs.invariants.Sound.{Sound, slot-low}
 
@@ -46,11 +46,12 @@ module _ {A : Type 0} (view : Endpoint → A) (w : World) (c : Call) (a : Applie
   viewed (closes x) = given (x .k) Closed
   viewed (rewrites x) = seen
   viewed (resizes x) = given (x .k) (Idle (withSize (x .p) (x .size)))
+  viewed (clears x) = given (x .k) (Idle (withToggle (x .p) false))
   viewed (accepts x) = given (x .k) (linkedWith old (x .k) (x .t))
   viewed (writes-back x) = seen
   viewed (marks x) = given (x .k) (Unlinking (x .p) (marked (x .r)) (x .u))
   viewed (unlinks x) = given (x .k) (Unlinking (x .p) (x .asked) (boundedOf (bellOf old) (x .p .kind) (x .readings) .boundary))
-  viewed (collects x) = given (x .k) (Idle (x .p))
+  viewed (collects x) = given (x .k) (Idle (withToggle (x .p) (x .toggle)))
 
   module _ (back : (x : Endpoint) → view (decoded (encoded x)) ≡ view x) (alike : (p : Pipe) (r : Request) (b d : UnlinkBoundary) → view (Unlinking p r b) ≡ view (Unlinking p r d))
       (sound : Sound (w .state .settings) w) where
@@ -73,6 +74,7 @@ module _ {A : Type 0} (view : Endpoint → A) (w : World) (c : Call) (a : Applie
     view-after (closes x) = given-in old (x .k) _ (x .state-is) (sound .wide) (slot-low _ w sound (x .k) (Idle (x .p)) (x .idle) refl) (λ j. refl)
     view-after (rewrites x) = as-in old (x .state-is) (λ j. refl)
     view-after (resizes x) = given-in old (x .k) _ (x .state-is) (sound .wide) (slot-low _ w sound (x .k) (Idle (x .p)) (x .idle) refl) (λ j. refl)
+    view-after (clears x) = given-in old (x .k) _ (x .state-is) (sound .wide) (slot-low _ w sound (x .k) (Idle (x .p)) (x .idle) refl) (λ j. refl)
     view-after (accepts x) =
         given-in (withOwner old _) (x .k) _ (x .state-is) (owner-wide old _ (sound .wide)) (open-below old (x .k) (x .judged .opened)) (λ j. ap view (owner-aside old _ j))
     view-after (writes-back x) = as-in old (x .state-is) (λ j. refl)

@@ -28,7 +28,7 @@ use Rattle.ehci.specs.declared.reply.Answered.{Answered}
 use Rattle.ehci.specs.Replies.{answeredNumber, answeredValues}
 use Rattle.promises.specs.Events.{Collects, Drains, Event, Other, Parts, Reads, Submits, Unlinks, event, firstIn, leaving, submitsBy}
 use Rattle.promises.proofs.theorems.CoverBytes.{all-covered, recordsFrom}
-use Rattle.promises.proofs.effects.Effects.{Accepts, Effect, still, hears, joins, passes, counts, opens, closes, resizes, rewrites, accepts, writes-back, marks, unlinks, collects, leaving-by}
+use Rattle.promises.proofs.effects.Effects.{Accepts, Effect, still, hears, joins, passes, counts, opens, closes, resizes, rewrites, accepts, writes-back, marks, unlinks, collects, leaving-by, clears}
 use Rattle.promises.proofs.invariants.Sound.{Sound}
 use Rattle.promises.proofs.invariants.UseAccepts.{acceptedWorld, submitted-record, walked}
 use Rattle.pipe.proofs.LimitLaws.{limit-least, limit-most}
@@ -123,6 +123,7 @@ module _ (w : World) (c : Call) (a : Applied) (k id : ℕ) (t : TransferRequest)
   accepted-by P f (closes x) = absurd (not-so Other (x .nothing) refl)
   accepted-by P f (rewrites x) = absurd (not-so Other (x .nothing) refl)
   accepted-by P f (resizes x) = absurd (not-so Other (x .nothing) refl)
+  accepted-by P f (clears x) = absurd (not-so Other (x .nothing) refl)
   accepted-by P f (accepts x) =
       subst (λ (j : ℕ). P j t) (ap (λ (e : Event). slotIn e 0) (sym (x .submits) ∙ submits))
       (subst (λ (r : TransferRequest). P (x .k) r) (ap (λ (e : Event). requestIn e t) (sym (x .submits) ∙ submits)) (f x))

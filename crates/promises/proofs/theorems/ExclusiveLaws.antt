@@ -22,7 +22,7 @@ use Rattle.promises.specs.Runs.{History, Machine, Rows, Turn, World, inP
 use Rattle.promises.specs.Rooms.{Distinct, Every, Exclusive, Led, RecordStays, TokenWritten, placesInUse}
 use Rattle.promises.specs.Uses.{Use, uses}
 use Rattle.promises.specs.Walks.{Walk, chainEnd, chainWalk}
-use Rattle.promises.proofs.effects.Effects.{Accepts, Effect, WritesBack, still, hears, joins, passes, counts, opens, closes, resizes, rewrites, accepts, writes-back, marks, unlinks, collects}
+use Rattle.promises.proofs.effects.Effects.{Accepts, Effect, WritesBack, still, hears, joins, passes, counts, opens, closes, resizes, rewrites, accepts, writes-back, marks, unlinks, collects, clears}
 use Rattle.promises.proofs.invariants.Sound.{Sound}
 use Rattle.promises.proofs.invariants.UseInv.{Apart, Avoids, Held, Kept, every-map, tenantAt}
 use Rattle.promises.proofs.invariants.UseQuiet.{each-all}
@@ -140,6 +140,7 @@ module _ (w : World) (sound : Sound (w .state .settings) w) where
     records-stay (closes x) = pool-stays _ (x .rows-are) refl
     records-stay (rewrites x) = pool-stays _ (x .rows-are) refl
     records-stay (resizes x) = pool-stays _ (x .rows-are) refl
+    records-stay (clears x) = pool-stays _ (x .rows-are) refl
     records-stay (accepts x) = submit-stays x
     records-stay (writes-back x) = each-all (RecordStays t) (token-written x) (placesInUse us)
     records-stay (marks x) = pool-stays _ (x .rows-are) refl

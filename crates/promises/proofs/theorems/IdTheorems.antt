@@ -13,7 +13,7 @@ use Rattle.promises.specs.Runs.{EveryRun, History, Opening, Turn, World,
 use Rattle.promises.specs.Events.{Event, Other, Reads, Drains, Submits, Unlinks, Parts, Collects, event, leavesFrames, leavesRing, leaving}
 use Rattle.promises.specs.Bells.{isSubmitsOf}
 use Rattle.promises.specs.Ids.{IdsInTurn, nextId}
-use Rattle.promises.proofs.effects.Effects.{Effect, accepts, closes, collects, counts, hears, joins, marks, opens, passes, resizes, rewrites, still, unlinks, writes-back}
+use Rattle.promises.proofs.effects.Effects.{Effect, accepts, clears, closes, collects, counts, hears, joins, marks, opens, passes, resizes, rewrites, still, unlinks, writes-back}
 use Rattle.promises.proofs.effects.EffectOf.{effect}
 use Rattle.promises.proofs.invariants.IdInv.{IdsTold, ids-keep, ids-open, next-slot}
 use Rattle.promises.proofs.invariants.Reached.{reached}
@@ -66,6 +66,7 @@ module _ (w : World) (c : Call) (a : Applied) (h : History) (told : IdsTold (w .
   due (closes x) = never Other (x .nothing) refl
   due (rewrites x) = never Other (x .nothing) refl
   due (resizes x) = never Other (x .nothing) refl
+  due (clears x) = never Other (x .nothing) refl
   due (accepts x) =
       let same = sym (x .submits) ∙ submits in
       let slot : x .k ≡ k = ap (λ (e : Event). slot-in e 0) same in

@@ -11,6 +11,7 @@ use Rattle.promises.proofs.theorems.RangeTheorems as Ranges
 use Rattle.promises.proofs.theorems.SubmissionLaws as Submissions
 use Rattle.promises.proofs.theorems.WholeLaws as WholeLaws
 use Rattle.promises.proofs.theorems.PacketLaws as Packets
+use Rattle.promises.proofs.theorems.ToggleLaws as Toggles
 use Rattle.promises.proofs.theorems.TokenLaws as Tokens
 use Rattle.promises.proofs.theorems.RegisterTheorems as Registers
 use Rattle.promises.proofs.theorems.BoundaryCore as Boundaries
@@ -33,7 +34,9 @@ kept =
       short-stops = Shorts.short-stops;
       full-goes-on = Shorts.full-goes-on;
       submits-planned = Submissions.submits-planned;
+      heads-sized = Rooms.heads-sized;
       packets-whole = WholeLaws.packets-whole;
+      toggles-kept = Toggles.toggles-kept;
       packets-stand = Packets.packets-stand;
       tokens-stand = Tokens.tokens-stand;
       collects-ended = Submissions.collects-ended;
@@ -68,5 +71,6 @@ kept =
       collects-by-id = ById.collects-by-id;
       state-says = Cancels.state-says;
       fields-tied = Rooms.fields-tied;
+      toggles-tied = Toggles.toggles-tied;
       registers-tied = Registers.registers-tied;
     }

@@ -27,11 +27,11 @@ use Rattle.controller.specs.Plain.{Lengths}
 use Rattle.controller.specs.Readers.{hasEndpoint, holdsRequest, isOpen, isUncollected}
 use Rattle.schedule.specs.Links.{endedOverlay}
 use Rattle.controller.specs.declared.lent.Readings.{Readings}
-use Rattle.endpoint.specs.Calls.{closeOf, openChecks, openEndpointOf, setAddressOf, setPacketSizeOf, slotChecks}
+use Rattle.endpoint.specs.Calls.{clearChecks, clearHaltOf, closeOf, openChecks, openEndpointOf, setAddressOf, setPacketSizeOf, slotChecks}
 use Rattle.request.specs.Submit.{acceptedWith, refusedSubmit, settledSubmit, submitOf}
 use Rattle.request.specs.Writeback.{refusedWriteback, writebackOf}
 use Rattle.request.specs.declared.judge.TransferRequest.{TransferRequest}
-use Rattle.collection.specs.Calls.{cancelAt, cancelChecks, cancelOf, collectAt, collectChecks, collectOf, crowded, endIf, ended, finishOf, gathered, linkedOf, marked, pendingLeft, unlinkingOf, withFrames}
+use Rattle.collection.specs.Calls.{cancelAt, cancelChecks, cancelOf, collectAt, collectChecks, collectOf, crowded, endIf, ended, finishOf, gathered, keeping, linkedOf, marked, pendingLeft, unlinkingOf, withFrames}
 use Rattle.collection.specs.Answers.{outcomeOf, pendingCollect}
 use Rattle.collection.specs.Unlinks.{passedBoundary, unlinkOf, waitingOf}
 use Rattle.bring_up.specs.BringUp.{againOf, anyUncollected, onwardOf, ready, registerOf, stageOf, startOf, stepOf}
@@ -39,12 +39,12 @@ use Rattle.bring_up.specs.declared.stage.Stage.{Stage}
 use Rattle.interrupt.specs.Plain.{Settled}
 use Rattle.interrupt.specs.Interrupts.{acknowledgeOf, countedOf, disableOf, drainIf, drainOf, enableOf, heardIf, rearmIf, rearmOf, settledOr, clearedOf}
 use Rattle.ehci.specs.declared.call.Call.{Call}
-use Rattle.ehci.specs.declared.call.Call.the-variants.{StartBringUp, BringUpStep, AllocateAddress, OpenEndpoint, Close, SetAddress, SetPacketSize, Submit, Writeback, Cancel, Collect, Acknowledge, Drain, Rearm, Enable, Disable}
+use Rattle.ehci.specs.declared.call.Call.the-variants.{StartBringUp, BringUpStep, AllocateAddress, OpenEndpoint, Close, SetAddress, SetPacketSize, Submit, Writeback, Cancel, Collect, Acknowledge, Drain, Rearm, Enable, Disable, ClearHalt}
 use Rattle.ehci.specs.declared.call.EndpointFields.{EndpointFields}
 use Rattle.ehci.specs.declared.call.InterruptReadings.{InterruptReadings}
 use Rattle.ehci.specs.declared.reply.Answered.{Answered}
 use Rattle.ehci.specs.declared.reply.Answered.the-variants.{Done, Pending, Cancelled, Failed, Refused}
-use Rattle.ehci.specs.Decides.{acknowledgeDecided, acknowledgeReply, addressDecided, allotDecided, allotReply, callOf, cancelCame, cancelDecided, changeCame, closeDecided, collectCame, collectDecided, decideOf, drainDecided, drainReply, openCame, openDecided, packetDecided, submitCame, submitDecided, writebackDecided, writtenReply}
+use Rattle.ehci.specs.Decides.{acknowledgeDecided, acknowledgeReply, addressDecided, allotDecided, allotReply, callOf, cancelCame, cancelDecided, changeCame, clearDecided, closeDecided, collectCame, collectDecided, decideOf, drainDecided, drainReply, openCame, openDecided, packetDecided, submitCame, submitDecided, writebackDecided, writtenReply}
 use Rattle.ehci.specs.Door.{applyOf}
 use Rattle.ehci.specs.Replies.{answeredNumber, broughtReply, changedReply, collectedAnswer, refusedReply, replied, settledReply, simply}
 use Rattle.promises.specs.Runs.{Everywhere, World, core, moment}
@@ -273,7 +273,7 @@ module _ (w : World) where
   collect-says k rd v Closed h = absurd (false-true h)
   collect-says k rd v (Idle p) h = refl
   collect-says k rd v (Linked p r) h = linked-says rd k p r (eqb (v .stage) 2)
-  collect-says k rd v (Unlinking p r b) h = unlinking-says v k p r (passedBoundary b (rd .frame))
+  collect-says k rd v (Unlinking p r b) h = unlinking-says v k (keeping rd p) r (passedBoundary b (rd .frame))
 
   collect-order : (k id : ℕ) (rd : Readings) → verdictIn (core w (Collect k id rd) .reply .answer) ≡ first (checksOf (moment core w) (Collect k id rd))
   unfolding collectDecided collectOf replied
@@ -339,6 +339,10 @@ module _ (w : World) where
   unfolding disableOf
   disable-order = by-ranges Disable (settled-says (not (inRanges s)) _ refl)
 
+  clear-order : (k : ℕ) → verdictIn (core w (ClearHalt k) .reply .answer) ≡ first (checksOf (moment core w) (ClearHalt k))
+  unfolding clearDecided clearHaltOf changedReply replied
+  clear-order k = by-ranges (ClearHalt k) (settle-says (λ o. verdictIn (changedReply o .reply .answer)) (first (clearChecks s k)) _ _ (λ r. refl) refl)
+
 in-turn : (w : World) (c : Call) → verdictIn (core w c .reply .answer) ≡ first (checksOf (moment core w) c)
 in-turn w StartBringUp = start-order w
 in-turn w (BringUpStep v) = step-order w v
@@ -356,6 +360,7 @@ in-turn w (Drain command) = drain-order w command
 in-turn w Rearm = rearm-order w
 in-turn w Enable = enable-order w
 in-turn w Disable = disable-order w
+in-turn w (ClearHalt k) = clear-order w k
 
 pub in-order : Everywhere InOrder core
 in-order w t c = number-says (core w c .reply .answer) ∙ ap verdictNumber (in-turn w c)

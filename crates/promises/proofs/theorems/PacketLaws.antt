@@ -12,7 +12,7 @@ use Rattle.promises.specs.Events.{Collects, Drains, Event, Other, Reads,
 use Rattle.promises.specs.Uses.{Use, uses, usesAfter, without}
 use Rattle.promises.specs.Rooms.{Every}
 use Rattle.promises.specs.Submissions.{Asks, PacketsStand, packetAt}
-use Rattle.promises.proofs.effects.Effects.{Accepts, Effect, still, hears, joins, passes, counts, opens, closes, resizes, rewrites, accepts, writes-back, marks, unlinks, collects}
+use Rattle.promises.proofs.effects.Effects.{Accepts, Effect, still, hears, joins, passes, counts, opens, closes, resizes, rewrites, accepts, writes-back, marks, unlinks, collects, clears}
 use Rattle.promises.proofs.invariants.Reached.{reached}
 use Rattle.promises.proofs.invariants.Sound.{Sound}
 use Rattle.promises.proofs.invariants.UseInv.{Held, every-both, every-map, without-every}
@@ -62,6 +62,7 @@ module _ (w : World) (h : History) (c : Call) (a : Applied) (sound : Sound (w .s
   stands-on (closes y) = quiet Other (y .nothing) refl
   stands-on (rewrites y) = quiet Other (y .nothing) refl
   stands-on (resizes y) = quiet Other (y .nothing) refl
+  stands-on (clears y) = quiet Other (y .nothing) refl
   stands-on (accepts y) = joined y
   stands-on (writes-back y) = quiet Other (y .nothing) refl
   stands-on (marks y) = quiet Other (y .nothing) refl

@@ -16,6 +16,8 @@ use Rattle.promises.proofs.invariants.OpenedVerdict.{held-is}
 use Rattle.promises.proofs.theorems.RoomLaws.{room-holds, verdict-holds}
 use Rattle.promises.proofs.theorems.ExclusiveLaws.{exclusive-holds, led-holds}
 use Rattle.promises.proofs.theorems.CoverHolds.{covered-holds}
+use Rattle.promises.specs.Packets.{HeadsSized}
+use Rattle.promises.proofs.invariants.HeadInv.{Headed, headed-opens, headed-keeps}
 
 -- the uses of every history are tied to its world
 pub held : (s : Settings) (w : World) → Opening s w → (cs : List Call) → Sound s (worldOf core w cs) × Held s (historyOf core w cs) (worldOf core w cs)
@@ -48,3 +50,6 @@ chains-lead s w o cs = led-holds s (historyOf core w cs) (worldOf core w cs) (he
 
 pub buffers-covered : EveryRun Coverage core
 buffers-covered s w o cs = covered-holds core effect s (historyOf core w cs) (worldOf core w cs) (held s w o cs .0)
+
+pub heads-sized : EveryRun HeadsSized core
+heads-sized s w o cs = reached (λ s h w. Headed h (w .rows)) headed-opens headed-keeps s w o cs .1

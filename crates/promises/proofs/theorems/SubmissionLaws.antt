@@ -39,7 +39,7 @@ use Rattle.controller.specs.Plain.{Lengths}
 use Rattle.controller.specs.declared.lent.Readings.{Readings}
 use Rattle.controller.proofs.ReaderLaws.{open-within, open-below}
 use Rattle.schedule.specs.Links.{attachedFrames, attachedRing, endedOverlay, slotLink, startedOverlay}
-use Rattle.request.specs.Submit.{attachedBy, firstIn, linkedRows, needOfRequest, placesFor, setupsWith, takenFor, takenOf, transferOf}
+use Rattle.request.specs.Submit.{attachedBy, firstIn, linkedRows, needOfRequest, placesFor, setupsWith, takenFor, takenOf, toggleAt, transferOf}
 use Rattle.request.specs.Writeback.{inRequest, refusedWriteback, writebackChecks, writebackOf}
 use Rattle.request.specs.Plain.{WrittenBack}
 use Rattle.request.specs.declared.judge.TransferRequest.{TransferRequest}
@@ -62,7 +62,7 @@ use Rattle.promises.specs.Walks.{chainWalk}
 use Rattle.promises.specs.Rooms.{Every}
 use Rattle.promises.specs.Coverage.{bytesOf, recordsMet}
 use Rattle.promises.specs.Submissions.{Asks, CollectsEnded, Stays, Submitted, SubmitsPlanned, SubmittedStays, fieldsOf, packetAt, planFor, wordAt}
-use Rattle.promises.proofs.effects.Effects.{Accepts, Effect, still, hears, joins, passes, counts, opens, closes, resizes, rewrites, accepts, writes-back, marks, unlinks, collects}
+use Rattle.promises.proofs.effects.Effects.{Accepts, Effect, still, hears, joins, passes, counts, opens, closes, resizes, rewrites, accepts, writes-back, marks, unlinks, collects, clears}
 use Rattle.promises.proofs.effects.EffectOf.{effect}
 use Rattle.promises.proofs.effects.EffectDoor.{seen, through, carried}
 use Rattle.promises.proofs.effects.RefusalNumbers.{uncollected, refusal-some}
@@ -79,39 +79,42 @@ use Rattle.pipe.proofs.LimitLaws.{limit-least, limit-most}
 use Rattle.pipe.specs.Endpoints.{limitAt}
 use Rattle.promises.proofs.invariants.OpenedInv.{Told}
 use Rattle.promises.specs.Slots.{limitIn}
+use Rattle.token.specs.Overlay.{overlayToken}
+use Rattle.token.specs.EhciQtd.{dataToggle}
+use Rattle.token.proofs.OverlayLaws.{overlay-alone}
 
 -- ---- the overlay
 
-module _ (heads frames : List ℕ) (k link start : ℕ) (fits : 17 * (k + 1) + 17 ≤ length heads) where
-  alternate-starts : getD (startedOverlay heads k start 0) (17 * (k + 1) + 5) 0 ≡ 1
+module _ (heads frames : List ℕ) (k link start token : ℕ) (fits : 17 * (k + 1) + 17 ≤ length heads) where
+  alternate-starts : getD (startedOverlay heads k start token) (17 * (k + 1) + 5) 0 ≡ 1
   unfolding startedOverlay
   alternate-starts =
       let one = set heads (17 * (k + 1) + 4) start in
-      getD-set-other (set one (17 * (k + 1) + 5) 1) (17 * (k + 1) + 6) (17 * (k + 1) + 5) 0 0 (λ e. omega (arith, e))
+      getD-set-other (set one (17 * (k + 1) + 5) 1) (17 * (k + 1) + 6) (17 * (k + 1) + 5) token 0 (λ e. omega (arith, e))
       ∙ getD-set-same one (17 * (k + 1) + 5) 1 0 (subst (λ (n : ℕ). 17 * (k + 1) + 5 < n) (sym (length-set heads (17 * (k + 1) + 4) start)) (omega (arith, fits)))
 
-  token-starts : getD (startedOverlay heads k start 0) (17 * (k + 1) + 6) 0 ≡ 0
+  token-starts : getD (startedOverlay heads k start token) (17 * (k + 1) + 6) 0 ≡ token
   unfolding startedOverlay
   token-starts =
       let one = set heads (17 * (k + 1) + 4) start in
       let two = set one (17 * (k + 1) + 5) 1 in
-      getD-set-same two (17 * (k + 1) + 6) 0 0
+      getD-set-same two (17 * (k + 1) + 6) token 0
       (subst (λ (n : ℕ). 17 * (k + 1) + 6 < n) (sym (length-set one (17 * (k + 1) + 5) 1 ∙ length-set heads (17 * (k + 1) + 4) start)) (omega (arith, fits)))
 
   -- going into a schedule writes links only
   linked-word : (i : ℕ) → 1 ≤ i → i < 17 → (kind : EndpointType)
-      → getD (linkedRows heads frames kind k link start .heads) (17 * (k + 1) + i) 0 ≡ getD (startedOverlay heads k start 0) (17 * (k + 1) + i) 0
+      → getD (linkedRows heads frames kind k link start token .heads) (17 * (k + 1) + i) 0 ≡ getD (startedOverlay heads k start token) (17 * (k + 1) + i) 0
   unfolding linkedRows attachedFrames attachedRing
   linked-word i low high kind = by (isInterrupt kind)
     where
       started : List ℕ
-      started = startedOverlay heads k start 0
+      started = startedOverlay heads k start token
 
-      by : (b : Bool) → getD (attachedBy b (startedOverlay heads k start 0) frames k link .heads) (17 * (k + 1) + i) 0 ≡ getD (startedOverlay heads k start 0) (17 * (k + 1) + i) 0
-      by true = getD-set-other (startedOverlay heads k start 0) (17 * (k + 1)) (17 * (k + 1) + i) (getD frames 0 0) 0 (λ e. omega (arith, e, low))
+      by : (b : Bool) → getD (attachedBy b (startedOverlay heads k start token) frames k link .heads) (17 * (k + 1) + i) 0 ≡ getD (startedOverlay heads k start token) (17 * (k + 1) + i) 0
+      by true = getD-set-other (startedOverlay heads k start token) (17 * (k + 1)) (17 * (k + 1) + i) (getD frames 0 0) 0 (λ e. omega (arith, e, low))
       by false =
-          getD-set-other (set (startedOverlay heads k start 0) (17 * (k + 1)) (getD (startedOverlay heads k start 0) 0 0)) 0 (17 * (k + 1) + i) link 0 (λ e. omega (arith, e))
-          ∙ getD-set-other (startedOverlay heads k start 0) (17 * (k + 1)) (17 * (k + 1) + i) (getD (startedOverlay heads k start 0) 0 0) 0 (λ e. omega (arith, e, low))
+          getD-set-other (set (startedOverlay heads k start token) (17 * (k + 1)) (getD (startedOverlay heads k start token) 0 0)) 0 (17 * (k + 1) + i) link 0 (λ e. omega (arith, e))
+          ∙ getD-set-other (startedOverlay heads k start token) (17 * (k + 1)) (17 * (k + 1) + i) (getD (startedOverlay heads k start token) 0 0) 0 (λ e. omega (arith, e, low))
 
 -- ---- setup packets
 
@@ -214,9 +217,15 @@ module _ (w : World) (k : ℕ) (t : TransferRequest) (sound : Sound (w .state .s
   next-there : wordAt after k 4 ≡ s .pool + 64 * getD (chainWalk s after k) 0 0
   unfolding takenFor takenOf
   next-there =
-      submit-starts (w .rows .heads) (w .rows .frames) k (slotLink (w .state) k) (firstIn (w .state) (takenFor (w .state) k t)) head-fits (t .kind)
+      submit-starts (w .rows .heads) (w .rows .frames) k (slotLink (w .state) k) (firstIn (w .state) (takenFor (w .state) k t)) _ head-fits (t .kind)
       ∙ ap (addressOf (s .pool)) (packed-first (placesFor (w .state) k t))
       ∙ ap (λ (ps : List ℕ). s .pool + 64 * getD ps 0 0) (sym (walked w k t sound judged))
+
+  pub token-there : wordAt after k 6 ≡ overlayToken (t .kind) (toggleAt (w .state) k)
+  token-there =
+      let first = firstIn (w .state) (takenFor (w .state) k t) in
+      linked-word (w .rows .heads) (w .rows .frames) k (slotLink (w .state) k) first _ head-fits 6 (omega arith) (omega arith) (t .kind)
+      ∙ token-starts (w .rows .heads) (w .rows .frames) k (slotLink (w .state) k) first _ head-fits
 
   pub submitted-so : Submitted s (limitAt (w .state) k) after k t
   submitted-so =
@@ -226,10 +235,9 @@ module _ (w : World) (k : ℕ) (t : TransferRequest) (sound : Sound (w .state .s
         packet = packet-asks;
         leads = leads-there;
         next-is = next-there;
-        alternate-is = linked-word (w .rows .heads) (w .rows .frames) k (slotLink (w .state) k) first head-fits 5 (omega arith) (omega arith) (t .kind)
-            ∙ alternate-starts (w .rows .heads) (w .rows .frames) k (slotLink (w .state) k) first head-fits;
-        token-is = linked-word (w .rows .heads) (w .rows .frames) k (slotLink (w .state) k) first head-fits 6 (omega arith) (omega arith) (t .kind)
-            ∙ token-starts (w .rows .heads) (w .rows .frames) k (slotLink (w .state) k) first head-fits;
+        alternate-is = linked-word (w .rows .heads) (w .rows .frames) k (slotLink (w .state) k) first _ head-fits 5 (omega arith) (omega arith) (t .kind)
+            ∙ alternate-starts (w .rows .heads) (w .rows .frames) k (slotLink (w .state) k) first _ head-fits;
+        token-is = subst (λ (n : ℕ). n ≡ 2 ^ 31 * dataToggle n) (sym token-there) (overlay-alone (t .kind) (toggleAt (w .state) k));
       }
 
 submitted-holds : (w : World) (h : History) → Sound (w .state .settings) w → Told h (w .state) → (k : ℕ) (t : TransferRequest) (rd : Readings)
@@ -278,6 +286,7 @@ module _ (w : World) (h : History) (sound : Sound (w .state .settings) w) (kept 
   packets-stay (closes x) = unwritten _ (x .rows-are) refl
   packets-stay (rewrites x) = unwritten _ (x .rows-are) refl
   packets-stay (resizes x) = unwritten _ (x .rows-are) refl
+  packets-stay (clears x) = unwritten _ (x .rows-are) refl
   packets-stay (accepts x) = accepted-apart x
   packets-stay (writes-back x) = unwritten _ (x .rows-are) refl
   packets-stay (marks x) = unwritten _ (x .rows-are) refl

@@ -15,7 +15,7 @@ use Rattle.pool.proofs.Each.{each-at}
 use Rattle.settings.specs.declared.settings.Settings.{Settings}
 use Rattle.request.specs.Submit.{idAt}
 use Rattle.ehci.specs.declared.call.Call.{Call}
-use Rattle.ehci.specs.declared.call.Call.the-variants.{StartBringUp, BringUpStep, AllocateAddress, OpenEndpoint, Close, SetAddress, SetPacketSize, Submit, Writeback, Cancel, Collect, Acknowledge, Drain, Rearm, Enable, Disable}
+use Rattle.ehci.specs.declared.call.Call.the-variants.{StartBringUp, BringUpStep, AllocateAddress, OpenEndpoint, Close, SetAddress, SetPacketSize, Submit, Writeback, Cancel, Collect, Acknowledge, Drain, Rearm, Enable, Disable, ClearHalt}
 use Rattle.ehci.specs.Door.{Applied}
 use Rattle.ehci.specs.Replies.{answeredNumber}
 use Rattle.promises.specs.Runs.{EveryRun, History, Rows, Turn, World, core, historyOf, leftBy, moment, rowsOf, turnOf, worldOf}
@@ -25,7 +25,7 @@ use Rattle.promises.specs.Walks.{chainWalk}
 use Rattle.promises.specs.Bells.{isSubmitsOf, submits}
 use Rattle.promises.specs.Rooms.{Every, Exclusive, RecordStays, placesInUse}
 use Rattle.promises.specs.Submissions.{Fields, Stays, Submitted, TokenStands, TokensStand, WritesTo, fieldsOf, placeOf, planned}
-use Rattle.promises.proofs.effects.Effects.{Accepts, Effect, still, hears, joins, passes, counts, opens, closes, resizes, rewrites, accepts, writes-back, marks, unlinks, collects}
+use Rattle.promises.proofs.effects.Effects.{Accepts, Effect, still, hears, joins, passes, counts, opens, closes, resizes, rewrites, accepts, writes-back, marks, unlinks, collects, clears}
 use Rattle.promises.proofs.effects.EffectOf.{effect}
 use Rattle.promises.proofs.invariants.Sound.{Sound}
 use Rattle.promises.proofs.invariants.UseInv.{Held, every-both, every-map, tenantAt, vacant-avoids, without-every}
@@ -73,6 +73,7 @@ backAt (Drain v) = []
 backAt Rearm = []
 backAt Enable = []
 backAt Disable = []
+backAt (ClearHalt k) = []
 
 module _ (p : ℕ) (t : Turn) where
   abbrev Wrote : Type 0
@@ -106,6 +107,7 @@ module _ (p : ℕ) (t : Turn) where
       go Rearm q = other Rearm q refl
       go Enable q = other Enable q refl
       go Disable q = other Disable q refl
+      go (ClearHalt k) q = other (ClearHalt k) q refl
 
 -- ---- one more call
 
@@ -211,6 +213,7 @@ module _ (w : World) (h : History) (c : Call) (sound : Sound (w .state .settings
   stands-on (closes y) = quietly Other (y .nothing) refl (λ k. refl)
   stands-on (rewrites y) = quietly Other (y .nothing) refl (λ k. refl)
   stands-on (resizes y) = quietly Other (y .nothing) refl (λ k. refl)
+  stands-on (clears y) = quietly Other (y .nothing) refl (λ k. refl)
   stands-on (accepts y) = joined y
   stands-on (writes-back y) = quietly Other (y .nothing) refl (λ k. refl)
   stands-on (marks y) = quietly Other (y .nothing) refl (λ k. refl)

@@ -24,7 +24,8 @@ use Rattle.promises.specs.WordsRuns.{Does, inWords, letIn}
 use Rattle.promises.proofs.theorems.Kept.{kept}
 use Rattle.promises.proofs.theorems.WordsCalls.{let-in-faithful, refused-moment, refusing, same-moment}
 use Rattle.promises.proofs.theorems.WordsRuns.{carried}
-use Rattle.promises.specs.Packets.{PacketsWhole}
+use Rattle.promises.specs.Packets.{HeadsSized, PacketsWhole}
+use Rattle.promises.specs.Toggles.{TogglesKept, TogglesTied}
 
 -- ---- in every world: words that are let in do what their state does, and all others are refused
 
@@ -65,7 +66,9 @@ kept-in-words m does =
       short-stops = carried ShortStops (kept .short-stops) m does;
       full-goes-on = carried FullGoesOn (kept .full-goes-on) m does;
       submits-planned = carried SubmitsPlanned (kept .submits-planned) m does;
+      heads-sized = carried HeadsSized (kept .heads-sized) m does;
       packets-whole = carried PacketsWhole (kept .packets-whole) m does;
+      toggles-kept = carried TogglesKept (kept .toggles-kept) m does;
       packets-stand = carried PacketsStand (kept .packets-stand) m does;
       tokens-stand = carried TokensStand (kept .tokens-stand) m does;
       collects-ended = carried CollectsEnded (kept .collects-ended) m does;
@@ -100,5 +103,6 @@ kept-in-words m does =
       collects-by-id = carried CollectsById (kept .collects-by-id) m does;
       state-says = carried StateSays (kept .state-says) m does;
       fields-tied = carried FieldsTied (kept .fields-tied) m does;
+      toggles-tied = carried TogglesTied (kept .toggles-tied) m does;
       registers-tied = carried RegistersTied (kept .registers-tied) m does;
     }

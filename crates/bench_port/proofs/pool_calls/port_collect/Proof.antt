@@ -76,18 +76,18 @@ use Rattle.bench_port.proofs.pool_calls.port_collect.Code as code
 
 -- the five rows are given up
 abbrev stayed : Stays (f.ended .signature .params) (f.ended .kept)
-stayed = (stay-none (λ _. Co.the-row) yes, (gave-slice (0 ∷ []) tt (plain (λ _. R)), (gave-slice (1 ∷ []) tt (plain (λ _. u64)), (gave-slice (2 ∷ []) tt (plain (λ _. u32)), (gave-slice (3 ∷ []) tt (plain (λ _. u32)), (gave-slice (4 ∷ []) tt (plain (λ _. u8)), (stay-none (λ _. u8) yes, (stay-none (λ _. u64) yes, (stay-none (λ _. u32) yes, (stay-none (λ _. u32) yes, tt))))))))))
+stayed = (stay-none (λ _. Co.the-row) yes, (gave-slice (0 ∷ []) tt (plain (λ _. R)), (gave-slice (1 ∷ []) tt (plain (λ _. u64)), (gave-slice (2 ∷ []) tt (plain (λ _. u32)), (gave-slice (3 ∷ []) tt (plain (λ _. u32)), (gave-slice (4 ∷ []) tt (plain (λ _. u8)), (stay-none (λ _. u8) yes, (stay-none (λ _. u64) yes, (stay-none (λ _. u32) yes, (stay-none (λ _. u32) yes, (stay-none (λ _. u32) yes, tt)))))))))))
 
-module _ {M : Type 1} (𝓤 : URA M) (H : Heap 𝓤) (A : Atoms 𝓤) (W : Given 𝓤 H A) (mem : Memory → SProp 𝓤) (run : Routine → Fun 𝓤) (κ₀ κ₁ κ₂ κ₃ κ₄ : Lft) (q₀ q₁ q₂ q₃ q₄ : Share) (core : Core) (br or : ℕ) (γr : GName) (rs : List Record) (bs os : ℕ) (γs : GName) (ss : List ℕ) (bh oh : ℕ) (γh : GName) (hs : List ℕ) (bf of : ℕ) (γf : GName) (fs : List ℕ) (bu ou : ℕ) (γu : GName) (us : List ℕ) (slot id command frame-at : ℕ)
-    (kv v-slot v-id v-command v-frame-at : Val) (is-core : Is Co.the-row core (kv ∷ [])) (is-slot : Is u8 slot (v-slot ∷ [])) (is-id : Is u64 id (v-id ∷ [])) (is-command : Is u32 command (v-command ∷ [])) (is-frame-at : Is u32 frame-at (v-frame-at ∷ [])) (roomr : Room R (length rs)) (rooms : Room u64 (length ss)) (roomh : Room u32 (length hs)) (roomf : Room u32 (length fs)) (roomu : Room u8 (length us)) where
+module _ {M : Type 1} (𝓤 : URA M) (H : Heap 𝓤) (A : Atoms 𝓤) (W : Given 𝓤 H A) (mem : Memory → SProp 𝓤) (run : Routine → Fun 𝓤) (κ₀ κ₁ κ₂ κ₃ κ₄ : Lft) (q₀ q₁ q₂ q₃ q₄ : Share) (core : Core) (br or : ℕ) (γr : GName) (rs : List Record) (bs os : ℕ) (γs : GName) (ss : List ℕ) (bh oh : ℕ) (γh : GName) (hs : List ℕ) (bf of : ℕ) (γf : GName) (fs : List ℕ) (bu ou : ℕ) (γu : GName) (us : List ℕ) (slot id command frame-at overlay : ℕ)
+    (kv v-slot v-id v-command v-frame-at v-overlay : Val) (is-core : Is Co.the-row core (kv ∷ [])) (is-slot : Is u8 slot (v-slot ∷ [])) (is-id : Is u64 id (v-id ∷ [])) (is-command : Is u32 command (v-command ∷ [])) (is-frame-at : Is u32 frame-at (v-frame-at ∷ [])) (is-overlay : Is u32 overlay (v-overlay ∷ [])) (roomr : Room R (length rs)) (rooms : Room u64 (length ss)) (roomh : Room u32 (length hs)) (roomf : Room u32 (length fs)) (roomu : Room u8 (length us)) where
   abbrev Row : Type 0
   Row = RefT (List ℕ)
 
   abbrev Arg : Type 0
-  Arg = Core × (RefT (List Record) × (Row × (Row × (Row × (Row × (ℕ × (ℕ × (ℕ × (ℕ × (Unit {0}))))))))))
+  Arg = Core × (RefT (List Record) × (Row × (Row × (Row × (Row × (ℕ × (ℕ × (ℕ × (ℕ × (ℕ × (Unit {0})))))))))))
 
   abbrev a₀ : Arg
-  a₀ = (core, (row-at br or γr rs, (row-at bs os γs ss, (row-at bh oh γh hs, (row-at bf of γf fs, (row-at bu ou γu us, (slot, (id, (command, (frame-at, tt))))))))))
+  a₀ = (core, (row-at br or γr rs, (row-at bs os γs ss, (row-at bh oh γh hs, (row-at bf of γf fs, (row-at bu ou γu us, (slot, (id, (command, (frame-at, (overlay, tt)))))))))))
 
   abbrev vr : Val
   vr = sliceVal (br, or) (length rs)
@@ -105,7 +105,7 @@ module _ {M : Type 1} (𝓤 : URA M) (H : Heap 𝓤) (A : Atoms 𝓤) (W : Given
   vu = sliceVal (bu, ou) (length us)
 
   abbrev at : Vals f.signature (κ₀, (κ₁, (κ₂, (κ₃, (κ₄, tt)))))
-  at = (kv ∷ [], (vr ∷ [], (vs ∷ [], (vh ∷ [], (vf ∷ [], (vu ∷ [], (v-slot ∷ [], (v-id ∷ [], (v-command ∷ [], (v-frame-at ∷ [], tt))))))))))
+  at = (kv ∷ [], (vr ∷ [], (vs ∷ [], (vh ∷ [], (vf ∷ [], (vu ∷ [], (v-slot ∷ [], (v-id ∷ [], (v-command ∷ [], (v-frame-at ∷ [], (v-overlay ∷ [], tt)))))))))))
 
   abbrev Post : Val → SProp 𝓤
   Post = walkOf 𝓤 H A f.ended stayed (f.clauses 𝓤 H A mem run) .post (((κ₀, (κ₁, (κ₂, (κ₃, (κ₄, tt))))), (q₀, (q₁, (q₂, (q₃, (q₄, tt))))), tt, a₀, at), tt)
@@ -115,22 +115,22 @@ module _ {M : Type 1} (𝓤 : URA M) (H : Heap 𝓤) (A : Atoms 𝓤) (W : Given
 
   -- what the five rows own, and the numbers behind them
   abbrev owned-all : Fml
-  owned-all = fsep (MutSlice (named 0) κ₀ R .own (row-at br or γr rs) (vr ∷ [])) (fsep (MutSlice (named 1) κ₁ u64 .own (row-at bs os γs ss) (vs ∷ [])) (fsep (MutSlice (named 2) κ₂ u32 .own (row-at bh oh γh hs) (vh ∷ [])) (fsep (MutSlice (named 3) κ₃ u32 .own (row-at bf of γf fs) (vf ∷ [])) (fsep (MutSlice (named 4) κ₄ u8 .own (row-at bu ou γu us) (vu ∷ [])) (fsep (u8 .own slot (v-slot ∷ [])) (fsep (u64 .own id (v-id ∷ [])) (fsep (u32 .own command (v-command ∷ [])) (fsep (u32 .own frame-at (v-frame-at ∷ [])) (ftrue)))))))))
+  owned-all = fsep (MutSlice (named 0) κ₀ R .own (row-at br or γr rs) (vr ∷ [])) (fsep (MutSlice (named 1) κ₁ u64 .own (row-at bs os γs ss) (vs ∷ [])) (fsep (MutSlice (named 2) κ₂ u32 .own (row-at bh oh γh hs) (vh ∷ [])) (fsep (MutSlice (named 3) κ₃ u32 .own (row-at bf of γf fs) (vf ∷ [])) (fsep (MutSlice (named 4) κ₄ u8 .own (row-at bu ou γu us) (vu ∷ [])) (fsep (u8 .own slot (v-slot ∷ [])) (fsep (u64 .own id (v-id ∷ [])) (fsep (u32 .own command (v-command ∷ [])) (fsep (u32 .own frame-at (v-frame-at ∷ [])) (fsep (u32 .own overlay (v-overlay ∷ [])) (ftrue))))))))))
 
-  exits : (r : Replied) (v : Val) (wr : List Record) (ws wh wf wu : List ℕ) → length wr ≡ length rs → length ws ≡ length ss → length wh ≡ length hs → length wf ≡ length fs → length wu ≡ length us → Is Rp.the-row r (v ∷ []) → besideRows (seenIn (core .settings) r ws) wr wh wf wu ≡ seenApplied (applyWords core ss rs hs fs us (collectOf slot id command frame-at)) → WordsAfter (acceptsWords core ss (length rs) (length hs) (length fs) (length us)) core ss (r .rest) ws
+  exits : (r : Replied) (v : Val) (wr : List Record) (ws wh wf wu : List ℕ) → length wr ≡ length rs → length ws ≡ length ss → length wh ≡ length hs → length wf ≡ length fs → length wu ≡ length us → Is Rp.the-row r (v ∷ []) → besideRows (seenIn (core .settings) r ws) wr wh wf wu ≡ seenApplied (applyWords core ss rs hs fs us (collectOf slot id command frame-at overlay)) → WordsAfter (acceptsWords core ss (length rs) (length hs) (length fs) (length us)) core ss (r .rest) ws
       → ent 𝓤 (⋆ 𝓤 H A (‵ (finally R γr wr) ∷ ‵ (finally u64 γs ws) ∷ ‵ (finally u32 γh wh) ∷ ‵ (finally u32 γf wf) ∷ ‵ (finally u8 γu wu) ∷ tokens ∷ [])) (Post v)
   exits r v wr ws wh wf wu er es eh ef eu is e₁ e₂ =
       qed W (‵ (finally R γr wr) ∷ ‵ (finally u64 γs ws) ∷ ‵ (finally u32 γh wh) ∷ ‵ (finally u32 γf wf) ∷ ‵ (finally u8 γu wu) ∷ tokens ∷ []) ∵
-      suffices ! _ (ends-at 𝓤 H A f.ended stayed (f.clauses 𝓤 H A mem run) W (((κ₀, (κ₁, (κ₂, (κ₃, (κ₄, tt))))), (q₀, (q₁, (q₂, (q₃, (q₄, tt))))), tt, a₀, at), tt) v r (tt, (wr, (ws, (wh, (wf, (wu, (tt, (tt, (tt, (tt, tt)))))))))) (tt, (er, (es, (eh, (ef, (eu, (tt, (tt, (tt, (tt, tt))))))))))) $ says-two ! e₁ e₂ $
+      suffices ! _ (ends-at 𝓤 H A f.ended stayed (f.clauses 𝓤 H A mem run) W (((κ₀, (κ₁, (κ₂, (κ₃, (κ₄, tt))))), (q₀, (q₁, (q₂, (q₃, (q₄, tt))))), tt, a₀, at), tt) v r (tt, (wr, (ws, (wh, (wf, (wu, (tt, (tt, (tt, (tt, (tt, tt))))))))))) (tt, (er, (es, (eh, (ef, (eu, (tt, (tt, (tt, (tt, (tt, tt)))))))))))) $ says-two ! e₁ e₂ $
       move ! (5 ∷ []) $ frame ! $
-      nothing ! $ owned ! u32 (Is u32) (uint-makes 𝓤 H A W w32) frame-at (v-frame-at ∷ []) is-frame-at $ fjoin ! $ owned ! u32 (Is u32) (uint-makes 𝓤 H A W w32) command (v-command ∷ []) is-command $ fjoin ! $ owned ! u64 (Is u64) (uint-makes 𝓤 H A W w64) id (v-id ∷ []) is-id $ fjoin ! $ owned ! u8 (Is u8) (uint-makes 𝓤 H A W w8) slot (v-slot ∷ []) is-slot $ fjoin ! $ move ! (5 ∷ 0 ∷ []) $ fjoin ! $ move ! (4 ∷ 0 ∷ []) $ fjoin ! $ move ! (3 ∷ 0 ∷ []) $ fjoin ! $ move ! (2 ∷ 0 ∷ []) $ fjoin ! $ move ! (1 ∷ 0 ∷ []) $ fjoin ! $
+      nothing ! $ owned ! u32 (Is u32) (uint-makes 𝓤 H A W w32) overlay (v-overlay ∷ []) is-overlay $ fjoin ! $ owned ! u32 (Is u32) (uint-makes 𝓤 H A W w32) frame-at (v-frame-at ∷ []) is-frame-at $ fjoin ! $ owned ! u32 (Is u32) (uint-makes 𝓤 H A W w32) command (v-command ∷ []) is-command $ fjoin ! $ owned ! u64 (Is u64) (uint-makes 𝓤 H A W w64) id (v-id ∷ []) is-id $ fjoin ! $ owned ! u8 (Is u8) (uint-makes 𝓤 H A W w8) slot (v-slot ∷ []) is-slot $ fjoin ! $ move ! (5 ∷ 0 ∷ []) $ fjoin ! $ move ! (4 ∷ 0 ∷ []) $ fjoin ! $ move ! (3 ∷ 0 ∷ []) $ fjoin ! $ move ! (2 ∷ 0 ∷ []) $ fjoin ! $ move ! (1 ∷ 0 ∷ []) $ fjoin ! $
       owned ! Co.the-row (Is Co.the-row) (LL.makes Co.the-type Co′.the-plain 𝓤 H A) core (kv ∷ []) is-core $ fjoin ! $ frame ! $ owned ! Rp.the-row (Is Rp.the-row) (LL.makes Rp.the-type Rp′.the-plain 𝓤 H A) r (v ∷ []) is $ done !
 
   abbrev to-make : met 𝓤 H A make.ended (make.clauses 𝓤 H A mem run) .Ghost
-  to-make = ((tt, tt, tt, (slot, (id, (command, (frame-at, tt)))), (v-slot ∷ [], (v-id ∷ [], (v-command ∷ [], (v-frame-at ∷ [], tt))))), tt)
+  to-make = ((tt, tt, tt, (slot, (id, (command, (frame-at, (overlay, tt))))), (v-slot ∷ [], (v-id ∷ [], (v-command ∷ [], (v-frame-at ∷ [], (v-overlay ∷ [], tt)))))), tt)
 
   goes-make : ent 𝓤 (sem 𝓤 H A ftrue) (met 𝓤 H A make.ended (make.clauses 𝓤 H A mem run) .pre to-make)
-  goes-make = qed W (‵ ftrue ∷ []) ∵ owned ! u32 (Is u32) (uint-makes 𝓤 H A W w32) frame-at (v-frame-at ∷ []) is-frame-at $ fjoin ! $ owned ! u32 (Is u32) (uint-makes 𝓤 H A W w32) command (v-command ∷ []) is-command $ fjoin ! $ owned ! u64 (Is u64) (uint-makes 𝓤 H A W w64) id (v-id ∷ []) is-id $ fjoin ! $ owned ! u8 (Is u8) (uint-makes 𝓤 H A W w8) slot (v-slot ∷ []) is-slot $ fjoin ! $ nothing ! $ join ! $ frame ! $ done !
+  goes-make = qed W (‵ ftrue ∷ []) ∵ owned ! u32 (Is u32) (uint-makes 𝓤 H A W w32) overlay (v-overlay ∷ []) is-overlay $ fjoin ! $ owned ! u32 (Is u32) (uint-makes 𝓤 H A W w32) frame-at (v-frame-at ∷ []) is-frame-at $ fjoin ! $ owned ! u32 (Is u32) (uint-makes 𝓤 H A W w32) command (v-command ∷ []) is-command $ fjoin ! $ owned ! u64 (Is u64) (uint-makes 𝓤 H A W w64) id (v-id ∷ []) is-id $ fjoin ! $ owned ! u8 (Is u8) (uint-makes 𝓤 H A W w8) slot (v-slot ∷ []) is-slot $ fjoin ! $ nothing ! $ join ! $ frame ! $ done !
 
   abbrev to-pack : Reply → Val → met 𝓤 H A pack.ended (pack.clauses 𝓤 H A mem run) .Ghost
   to-pack x v = ((tt, tt, tt, (x, tt), (v ∷ [], tt)), tt)
@@ -153,46 +153,46 @@ module _ {M : Type 1} (𝓤 : URA M) (H : Heap 𝓤) (A : Atoms 𝓤) (W : Given
   told cl cv x ws = (applied (replyView (core .settings) x (ws .1 .1 .0)) (ws .1 .0) (ws .1 .1 .1 .0) (ws .1 .1 .1 .1 .0) (ws .1 .1 .1 .1 .1 .0) ≡ applyWords core ss rs hs fs us cl) × (WordsAfter (acceptsWords core ss (length rs) (length hs) (length fs) (length us)) core ss (x .rest) (ws .1 .1 .0))
 
   module _ (𝓣 : Tables 𝓤 H) (known-make : Triple 𝓤 (𝓣 .C #make) (met 𝓤 H A make.ended (make.clauses 𝓤 H A mem run))) (known-apply : Triple 𝓤 (𝓣 .C #apply) (met 𝓤 H A apply.ended (apply.clauses 𝓤 H A mem run))) (known-pack : Triple 𝓤 (𝓣 .C #pack) (met 𝓤 H A pack.ended (pack.clauses 𝓤 H A mem run))) where
-    walk : ent 𝓤 (onEntry 𝓤 H A f.signature (κ₀, (κ₁, (κ₂, (κ₃, (κ₄, tt))))) (q₀, (q₁, (q₂, (q₃, (q₄, tt))))) a₀ at) (WpFn 𝓤 H (𝓣 .C) (𝓣 .Λ) code.function (kv ∷ vr ∷ vs ∷ vh ∷ vf ∷ vu ∷ v-slot ∷ v-id ∷ v-command ∷ v-frame-at ∷ []) Post)
+    walk : ent 𝓤 (onEntry 𝓤 H A f.signature (κ₀, (κ₁, (κ₂, (κ₃, (κ₄, tt))))) (q₀, (q₁, (q₂, (q₃, (q₄, tt))))) a₀ at) (WpFn 𝓤 H (𝓣 .C) (𝓣 .Λ) code.function (kv ∷ vr ∷ vs ∷ vh ∷ vf ∷ vu ∷ v-slot ∷ v-id ∷ v-command ∷ v-frame-at ∷ v-overlay ∷ []) Post)
     walk =
-        qed W (tokens ∷ ‵ (owns (Co.the-row ∷ MutSlice (named 0) κ₀ R ∷ MutSlice (named 1) κ₁ u64 ∷ MutSlice (named 2) κ₂ u32 ∷ MutSlice (named 3) κ₃ u32 ∷ MutSlice (named 4) κ₄ u8 ∷ u8 ∷ u64 ∷ u32 ∷ u32 ∷ []) a₀ at) ∷ []) ∵ enter ! (𝓣 .C) (𝓣 .Λ) code.function (kv ∷ vr ∷ vs ∷ vh ∷ vf ∷ vu ∷ v-slot ∷ v-id ∷ v-command ∷ v-frame-at ∷ []) _ $
-        alloc1 ! (λ l₀. alloc1 ! (λ l₁. alloc1 ! (λ l₂. alloc1 ! (λ l₃. alloc1 ! (λ l₄. alloc1 ! (λ l₅. alloc1 ! (λ l₆. alloc1 ! (λ l₇. alloc1 ! (λ l₈. alloc1 ! (λ l₉. alloc1 ! (λ l₁₀. alloc1 ! (λ l₁₁. alloc1 ! (λ l₁₂. alloc1 ! (λ l₁₃. alloc1 ! (λ l₁₄. alloc1 ! (λ l₁₅. alloc1 ! (λ l₁₆. alloc1 ! (λ l₁₇. alloc1 ! (λ l₁₈. alloc1 ! (λ l₁₉. alloc1 ! (λ l₂₀. alloc1 ! (λ l₂₁. alloc1 ! (λ l₂₂. alloc0 ! $ params1 ! $
-        pass1 ! (init ! 42 refl (LL.lawful Co.the-type Co′.the-laws 𝓤 H A W .typed core _ is-core .0)) $ pass1 ! (init ! 40 refl (tt, (tt, (record { fits = roomr .0 }, tt)))) $ pass1 ! (init ! 38 refl (tt, (tt, (record { fits = rooms .0 }, tt)))) $ pass1 ! (init ! 36 refl (tt, (tt, (record { fits = roomh .0 }, tt)))) $ pass1 ! (init ! 34 refl (tt, (tt, (record { fits = roomf .0 }, tt)))) $ pass1 ! (init ! 32 refl (tt, (tt, (record { fits = roomu .0 }, tt)))) $ pass1 ! (init ! 30 refl (uint-lawful 𝓤 H A W w8 .typed slot _ is-slot .0)) $ pass1 ! (init ! 28 refl (uint-lawful 𝓤 H A W w64 .typed id _ is-id .0)) $ pass1 ! (init ! 26 refl (uint-lawful 𝓤 H A W w32 .typed command _ is-command .0)) $ pass1 ! (init ! 24 refl (uint-lawful 𝓤 H A W w32 .typed frame-at _ is-frame-at .0)) $ pass0 ! $
-        move ! (47 ∷ 46 ∷ []) $ fsplit ! $ drop ! $
-        -- [what the five rows and the numbers own; the five tokens; _22 at 2; …; and so on to _0 at 46; …]
-        gives (fmOf 𝓤 H (W .laws) 𝓣) make.ended (make.clauses 𝓤 H A mem run) known-make to-make (λ x. x ≡ collectOf slot id command frame-at) (λ x e. id⊢ 𝓤 _) ! goes-make (λ j. and-then ! (load ! (from ! (stop !)) (look ! 33 {τ = tyInt w8} {v = v-slot} refl)) (and-then ! (load ! (from ! (stop !)) (look ! 31 {τ = tyInt w64} {v = v-id} refl)) (and-then ! (load ! (from ! (stop !)) (look ! 29 {τ = tyInt w32} {v = v-command} refl)) (and-then ! (load ! (from ! (stop !)) (look ! 27 {τ = tyInt w32} {v = v-frame-at} refl)) (no-more !))))) (λ cl cv e-cl is-cl.
+        qed W (tokens ∷ ‵ (owns (Co.the-row ∷ MutSlice (named 0) κ₀ R ∷ MutSlice (named 1) κ₁ u64 ∷ MutSlice (named 2) κ₂ u32 ∷ MutSlice (named 3) κ₃ u32 ∷ MutSlice (named 4) κ₄ u8 ∷ u8 ∷ u64 ∷ u32 ∷ u32 ∷ u32 ∷ []) a₀ at) ∷ []) ∵ enter ! (𝓣 .C) (𝓣 .Λ) code.function (kv ∷ vr ∷ vs ∷ vh ∷ vf ∷ vu ∷ v-slot ∷ v-id ∷ v-command ∷ v-frame-at ∷ v-overlay ∷ []) _ $
+        alloc1 ! (λ l₀. alloc1 ! (λ l₁. alloc1 ! (λ l₂. alloc1 ! (λ l₃. alloc1 ! (λ l₄. alloc1 ! (λ l₅. alloc1 ! (λ l₆. alloc1 ! (λ l₇. alloc1 ! (λ l₈. alloc1 ! (λ l₉. alloc1 ! (λ l₁₀. alloc1 ! (λ l₁₁. alloc1 ! (λ l₁₂. alloc1 ! (λ l₁₃. alloc1 ! (λ l₁₄. alloc1 ! (λ l₁₅. alloc1 ! (λ l₁₆. alloc1 ! (λ l₁₇. alloc1 ! (λ l₁₈. alloc1 ! (λ l₁₉. alloc1 ! (λ l₂₀. alloc1 ! (λ l₂₁. alloc1 ! (λ l₂₂. alloc1 ! (λ l₂₃. alloc0 ! $ params1 ! $
+        pass1 ! (init ! 44 refl (LL.lawful Co.the-type Co′.the-laws 𝓤 H A W .typed core _ is-core .0)) $ pass1 ! (init ! 42 refl (tt, (tt, (record { fits = roomr .0 }, tt)))) $ pass1 ! (init ! 40 refl (tt, (tt, (record { fits = rooms .0 }, tt)))) $ pass1 ! (init ! 38 refl (tt, (tt, (record { fits = roomh .0 }, tt)))) $ pass1 ! (init ! 36 refl (tt, (tt, (record { fits = roomf .0 }, tt)))) $ pass1 ! (init ! 34 refl (tt, (tt, (record { fits = roomu .0 }, tt)))) $ pass1 ! (init ! 32 refl (uint-lawful 𝓤 H A W w8 .typed slot _ is-slot .0)) $ pass1 ! (init ! 30 refl (uint-lawful 𝓤 H A W w64 .typed id _ is-id .0)) $ pass1 ! (init ! 28 refl (uint-lawful 𝓤 H A W w32 .typed command _ is-command .0)) $ pass1 ! (init ! 26 refl (uint-lawful 𝓤 H A W w32 .typed frame-at _ is-frame-at .0)) $ pass1 ! (init ! 24 refl (uint-lawful 𝓤 H A W w32 .typed overlay _ is-overlay .0)) $ pass0 ! $
+        move ! (49 ∷ 48 ∷ []) $ fsplit ! $ drop ! $
+        -- [what the five rows and the numbers own; the five tokens; _23 at 2; …; and so on to _0 at 48; …]
+        gives (fmOf 𝓤 H (W .laws) 𝓣) make.ended (make.clauses 𝓤 H A mem run) known-make to-make (λ x. x ≡ collectOf slot id command frame-at overlay) (λ x e. id⊢ 𝓤 _) ! goes-make (λ j. and-then ! (load ! (from ! (stop !)) (look ! 35 {τ = tyInt w8} {v = v-slot} refl)) (and-then ! (load ! (from ! (stop !)) (look ! 33 {τ = tyInt w64} {v = v-id} refl)) (and-then ! (load ! (from ! (stop !)) (look ! 31 {τ = tyInt w32} {v = v-command} refl)) (and-then ! (load ! (from ! (stop !)) (look ! 29 {τ = tyInt w32} {v = v-frame-at} refl)) (and-then ! (load ! (from ! (stop !)) (look ! 27 {τ = tyInt w32} {v = v-overlay} refl)) (no-more !)))))) (λ cl cv e-cl is-cl.
         drop ! $ land ! (from ! (stop !)) (init ! 24 {τ = Cl′.mir} {v = cv} refl (EL.lawful Cl.the-type Cl′.the-laws 𝓤 H A W tt .typed cl _ is-cl .0)) $
-        assigns ! (addr ! (from ! (fld ! refl (hop ! (look-in ! 42 (sub ! 0 refl (whole !))) (stop !))))) (from ! (stop !)) (init ! 20 refl (tt, tt)) $ assigns ! (agg ! (and-then ! (load ! (from ! (stop !)) (look ! 20 refl)) (and-then ! (load ! (from ! (fld ! refl (stop !))) (look-in ! 42 (sub ! 1 refl (whole !)))) (no-more !)))) (from ! (stop !)) (init ! 18 refl (tt, (tt, (record { fits = roomr .0 }, tt)))) $
-        assigns ! (addr ! (from ! (fld ! refl (hop ! (look-in ! 40 (sub ! 0 refl (whole !))) (stop !))))) (from ! (stop !)) (init ! 16 refl (tt, tt)) $ assigns ! (agg ! (and-then ! (load ! (from ! (stop !)) (look ! 16 refl)) (and-then ! (load ! (from ! (fld ! refl (stop !))) (look-in ! 40 (sub ! 1 refl (whole !)))) (no-more !)))) (from ! (stop !)) (init ! 14 refl (tt, (tt, (record { fits = rooms .0 }, tt)))) $
-        assigns ! (addr ! (from ! (fld ! refl (hop ! (look-in ! 38 (sub ! 0 refl (whole !))) (stop !))))) (from ! (stop !)) (init ! 12 refl (tt, tt)) $ assigns ! (agg ! (and-then ! (load ! (from ! (stop !)) (look ! 12 refl)) (and-then ! (load ! (from ! (fld ! refl (stop !))) (look-in ! 38 (sub ! 1 refl (whole !)))) (no-more !)))) (from ! (stop !)) (init ! 10 refl (tt, (tt, (record { fits = roomh .0 }, tt)))) $
-        assigns ! (addr ! (from ! (fld ! refl (hop ! (look-in ! 36 (sub ! 0 refl (whole !))) (stop !))))) (from ! (stop !)) (init ! 8 refl (tt, tt)) $ assigns ! (agg ! (and-then ! (load ! (from ! (stop !)) (look ! 8 refl)) (and-then ! (load ! (from ! (fld ! refl (stop !))) (look-in ! 36 (sub ! 1 refl (whole !)))) (no-more !)))) (from ! (stop !)) (init ! 6 refl (tt, (tt, (record { fits = roomf .0 }, tt)))) $
-        assigns ! (addr ! (from ! (fld ! refl (hop ! (look-in ! 34 (sub ! 0 refl (whole !))) (stop !))))) (from ! (stop !)) (init ! 4 refl (tt, tt)) $ assigns ! (agg ! (and-then ! (load ! (from ! (stop !)) (look ! 4 refl)) (and-then ! (load ! (from ! (fld ! refl (stop !))) (look-in ! 34 (sub ! 1 refl (whole !)))) (no-more !)))) (from ! (stop !)) (init ! 2 refl (tt, (tt, (record { fits = roomu .0 }, tt)))) $
+        assigns ! (addr ! (from ! (fld ! refl (hop ! (look-in ! 44 (sub ! 0 refl (whole !))) (stop !))))) (from ! (stop !)) (init ! 20 refl (tt, tt)) $ assigns ! (agg ! (and-then ! (load ! (from ! (stop !)) (look ! 20 refl)) (and-then ! (load ! (from ! (fld ! refl (stop !))) (look-in ! 44 (sub ! 1 refl (whole !)))) (no-more !)))) (from ! (stop !)) (init ! 18 refl (tt, (tt, (record { fits = roomr .0 }, tt)))) $
+        assigns ! (addr ! (from ! (fld ! refl (hop ! (look-in ! 42 (sub ! 0 refl (whole !))) (stop !))))) (from ! (stop !)) (init ! 16 refl (tt, tt)) $ assigns ! (agg ! (and-then ! (load ! (from ! (stop !)) (look ! 16 refl)) (and-then ! (load ! (from ! (fld ! refl (stop !))) (look-in ! 42 (sub ! 1 refl (whole !)))) (no-more !)))) (from ! (stop !)) (init ! 14 refl (tt, (tt, (record { fits = rooms .0 }, tt)))) $
+        assigns ! (addr ! (from ! (fld ! refl (hop ! (look-in ! 40 (sub ! 0 refl (whole !))) (stop !))))) (from ! (stop !)) (init ! 12 refl (tt, tt)) $ assigns ! (agg ! (and-then ! (load ! (from ! (stop !)) (look ! 12 refl)) (and-then ! (load ! (from ! (fld ! refl (stop !))) (look-in ! 40 (sub ! 1 refl (whole !)))) (no-more !)))) (from ! (stop !)) (init ! 10 refl (tt, (tt, (record { fits = roomh .0 }, tt)))) $
+        assigns ! (addr ! (from ! (fld ! refl (hop ! (look-in ! 38 (sub ! 0 refl (whole !))) (stop !))))) (from ! (stop !)) (init ! 8 refl (tt, tt)) $ assigns ! (agg ! (and-then ! (load ! (from ! (stop !)) (look ! 8 refl)) (and-then ! (load ! (from ! (fld ! refl (stop !))) (look-in ! 38 (sub ! 1 refl (whole !)))) (no-more !)))) (from ! (stop !)) (init ! 6 refl (tt, (tt, (record { fits = roomf .0 }, tt)))) $
+        assigns ! (addr ! (from ! (fld ! refl (hop ! (look-in ! 36 (sub ! 0 refl (whole !))) (stop !))))) (from ! (stop !)) (init ! 4 refl (tt, tt)) $ assigns ! (agg ! (and-then ! (load ! (from ! (stop !)) (look ! 4 refl)) (and-then ! (load ! (from ! (fld ! refl (stop !))) (look-in ! 36 (sub ! 1 refl (whole !)))) (no-more !)))) (from ! (stop !)) (init ! 2 refl (tt, (tt, (record { fits = roomu .0 }, tt)))) $
         join ! $
         passes (fmOf 𝓤 H (W .laws) 𝓣) apply.ended (apply.clauses 𝓤 H A mem run) known-apply (to-apply cl cv) (told cl cv) (λ x ws. two-facts 𝓤 (applied (replyView (core .settings) x (ws .1 .1 .0)) (ws .1 .0) (ws .1 .1 .1 .0) (ws .1 .1 .1 .1 .0) (ws .1 .1 .1 .1 .1 .0) ≡ applyWords core ss rs hs fs us cl) (WordsAfter (acceptsWords core ss (length rs) (length hs) (length fs) (length us)) core ss (x .rest) (ws .1 .1 .0))) ! (‵ owned-all ⊛ tokens) (goes-apply cl cv is-cl)
-        (λ j. and-then ! (load ! (from ! (stop !)) (look ! 43 {τ = Co′.mir} {v = kv} refl)) (and-then ! (load ! (from ! (stop !)) (look ! 17 refl)) (and-then ! (load ! (from ! (stop !)) (look ! 13 refl)) (and-then ! (load ! (from ! (stop !)) (look ! 9 refl)) (and-then ! (load ! (from ! (stop !)) (look ! 5 refl)) (and-then ! (load ! (from ! (stop !)) (look ! 1 refl)) (and-then ! (load ! (from ! (stop !)) (look ! 23 {τ = Cl′.mir} {v = cv} refl)) (no-more !)))))))) (λ x xv ws e is-x.
+        (λ j. and-then ! (load ! (from ! (stop !)) (look ! 45 {τ = Co′.mir} {v = kv} refl)) (and-then ! (load ! (from ! (stop !)) (look ! 17 refl)) (and-then ! (load ! (from ! (stop !)) (look ! 13 refl)) (and-then ! (load ! (from ! (stop !)) (look ! 9 refl)) (and-then ! (load ! (from ! (stop !)) (look ! 5 refl)) (and-then ! (load ! (from ! (stop !)) (look ! 1 refl)) (and-then ! (load ! (from ! (stop !)) (look ! 23 {τ = Cl′.mir} {v = cv} refl)) (no-more !)))))))) (λ x xv ws e is-x.
         -- [what is said of the rows' last lists; the five tokens; …]
         fsplit ! $ drop ! $ fsplit ! $ fsplit ! $ move ! (1 ∷ []) $ feqL ! (λ er. move ! (1 ∷ []) $ fsplit ! $ fsplit ! $ move ! (1 ∷ []) $ feqL ! (λ es. move ! (1 ∷ []) $ fsplit ! $ fsplit ! $ move ! (1 ∷ []) $ feqL ! (λ eh. move ! (1 ∷ []) $ fsplit ! $ fsplit ! $ move ! (1 ∷ []) $ feqL ! (λ ef. move ! (1 ∷ []) $ fsplit ! $ fsplit ! $ move ! (1 ∷ []) $ feqL ! (λ eu. move ! (1 ∷ []) $ drop ! $
         -- [setups' last list; frames'; heads'; slots'; the records'; the five tokens; …]
         move ! (4 ∷ 3 ∷ 2 ∷ 1 ∷ 0 ∷ []) $
         land ! (from ! (stop !)) (init ! 26 {τ = Re′.mir} {v = xv} refl (LL.lawful Re.the-type Re′.the-laws 𝓤 H A W .typed x _ is-x .0)) $
         gives (fmOf 𝓤 H (W .laws) 𝓣) pack.ended (pack.clauses 𝓤 H A mem run) known-pack (to-pack x xv) (λ z. z ≡ packOf (x .rest) (x .answer) (x .writes)) (λ z e. id⊢ 𝓤 _) ! (goes-pack x xv is-x) (λ j. and-then ! (load ! (from ! (stop !)) (look ! 27 {τ = Re′.mir} {v = xv} refl)) (no-more !)) (λ z zv e-pack is-z.
-        drop ! $ land ! (from ! (stop !)) (init ! 50 {τ = Rp′.mir} {v = zv} refl (LL.lawful Rp.the-type Rp′.the-laws 𝓤 H A W .typed z _ is-z .0)) $
-        returns ! (look ! 50 {τ = Rp′.mir} {v = zv} refl) $ forget ! 6 refl $ forget ! 8 refl $ forget ! 10 refl $ forget ! 12 refl $ forget ! 14 refl $ forget ! 16 refl $ forget ! 18 refl $ forget ! 20 refl $ forget ! 22 refl $ forget ! 24 refl $ forget ! 26 refl $ forget ! 28 refl $ forget ! 30 refl $ forget ! 32 refl $ forget ! 34 refl $ forget ! 36 refl $ forget ! 38 refl $ forget ! 40 refl $ forget ! 42 refl $ forget ! 44 refl $ forget ! 46 refl $ forget ! 48 refl $ forget ! 50 refl $
-        move ! (50 ∷ 51 ∷ []) $ free1 ! $ move ! (48 ∷ 49 ∷ []) $ free1 ! $ move ! (46 ∷ 47 ∷ []) $ free1 ! $ move ! (44 ∷ 45 ∷ []) $ free1 ! $ move ! (42 ∷ 43 ∷ []) $ free1 ! $ move ! (40 ∷ 41 ∷ []) $ free1 ! $ move ! (38 ∷ 39 ∷ []) $ free1 ! $ move ! (36 ∷ 37 ∷ []) $ free1 ! $ move ! (34 ∷ 35 ∷ []) $ free1 ! $ move ! (32 ∷ 33 ∷ []) $ free1 ! $ move ! (30 ∷ 31 ∷ []) $ free1 ! $ move ! (28 ∷ 29 ∷ []) $ free1 ! $ move ! (26 ∷ 27 ∷ []) $ free1 ! $ move ! (24 ∷ 25 ∷ []) $ free1 ! $ move ! (22 ∷ 23 ∷ []) $ free1 ! $ move ! (20 ∷ 21 ∷ []) $ free1 ! $ move ! (18 ∷ 19 ∷ []) $ free1 ! $ move ! (16 ∷ 17 ∷ []) $ free1 ! $ move ! (14 ∷ 15 ∷ []) $ free1 ! $ move ! (12 ∷ 13 ∷ []) $ free1 ! $ move ! (10 ∷ 11 ∷ []) $ free1 ! $ move ! (8 ∷ 9 ∷ []) $ free1 ! $ move ! (6 ∷ 7 ∷ []) $ free1 ! $ free0 ! $
-        by ! (exits z zv (ws .1 .0) (ws .1 .1 .0) (ws .1 .1 .1 .0) (ws .1 .1 .1 .1 .0) (ws .1 .1 .1 .1 .1 .0) er es eh ef eu is-z (seen-rows core ss x z e-pack (ws .1 .1 .0) rs hs fs us cl (collectOf slot id command frame-at) (ws .1 .0) (ws .1 .1 .1 .0) (ws .1 .1 .1 .1 .0) (ws .1 .1 .1 .1 .1 .0) e-cl (e .0)) (words-after core ss x z e-pack (ws .1 .1 .0) (acceptsWords core ss (length rs) (length hs) (length fs) (length us)) (e .1))))))))))))))))))))))))))))))))))
+        drop ! $ land ! (from ! (stop !)) (init ! 52 {τ = Rp′.mir} {v = zv} refl (LL.lawful Rp.the-type Rp′.the-laws 𝓤 H A W .typed z _ is-z .0)) $
+        returns ! (look ! 52 {τ = Rp′.mir} {v = zv} refl) $ forget ! 6 refl $ forget ! 8 refl $ forget ! 10 refl $ forget ! 12 refl $ forget ! 14 refl $ forget ! 16 refl $ forget ! 18 refl $ forget ! 20 refl $ forget ! 22 refl $ forget ! 24 refl $ forget ! 26 refl $ forget ! 28 refl $ forget ! 30 refl $ forget ! 32 refl $ forget ! 34 refl $ forget ! 36 refl $ forget ! 38 refl $ forget ! 40 refl $ forget ! 42 refl $ forget ! 44 refl $ forget ! 46 refl $ forget ! 48 refl $ forget ! 50 refl $ forget ! 52 refl $
+        move ! (52 ∷ 53 ∷ []) $ free1 ! $ move ! (50 ∷ 51 ∷ []) $ free1 ! $ move ! (48 ∷ 49 ∷ []) $ free1 ! $ move ! (46 ∷ 47 ∷ []) $ free1 ! $ move ! (44 ∷ 45 ∷ []) $ free1 ! $ move ! (42 ∷ 43 ∷ []) $ free1 ! $ move ! (40 ∷ 41 ∷ []) $ free1 ! $ move ! (38 ∷ 39 ∷ []) $ free1 ! $ move ! (36 ∷ 37 ∷ []) $ free1 ! $ move ! (34 ∷ 35 ∷ []) $ free1 ! $ move ! (32 ∷ 33 ∷ []) $ free1 ! $ move ! (30 ∷ 31 ∷ []) $ free1 ! $ move ! (28 ∷ 29 ∷ []) $ free1 ! $ move ! (26 ∷ 27 ∷ []) $ free1 ! $ move ! (24 ∷ 25 ∷ []) $ free1 ! $ move ! (22 ∷ 23 ∷ []) $ free1 ! $ move ! (20 ∷ 21 ∷ []) $ free1 ! $ move ! (18 ∷ 19 ∷ []) $ free1 ! $ move ! (16 ∷ 17 ∷ []) $ free1 ! $ move ! (14 ∷ 15 ∷ []) $ free1 ! $ move ! (12 ∷ 13 ∷ []) $ free1 ! $ move ! (10 ∷ 11 ∷ []) $ free1 ! $ move ! (8 ∷ 9 ∷ []) $ free1 ! $ move ! (6 ∷ 7 ∷ []) $ free1 ! $ free0 ! $
+        by ! (exits z zv (ws .1 .0) (ws .1 .1 .0) (ws .1 .1 .1 .0) (ws .1 .1 .1 .1 .0) (ws .1 .1 .1 .1 .1 .0) er es eh ef eu is-z (seen-rows core ss x z e-pack (ws .1 .1 .0) rs hs fs us cl (collectOf slot id command frame-at overlay) (ws .1 .0) (ws .1 .1 .1 .0) (ws .1 .1 .1 .1 .0) (ws .1 .1 .1 .1 .1 .0) e-cl (e .0)) (words-after core ss x z e-pack (ws .1 .1 .0) (acceptsWords core ss (length rs) (length hs) (length fs) (length us)) (e .1)))))))))))))))))))))))))))))))))))
 
 module _ {M : Type 1} (𝓤 : URA M) (H : Heap 𝓤) (A : Atoms 𝓤) (W : Given 𝓤 H A) (mem : Memory → SProp 𝓤) (run : Routine → Fun 𝓤) (𝓣 : Tables 𝓤 H) (known-make : Triple 𝓤 (𝓣 .C #make) (met 𝓤 H A make.ended (make.clauses 𝓤 H A mem run))) (known-apply : Triple 𝓤 (𝓣 .C #apply) (met 𝓤 H A apply.ended (apply.clauses 𝓤 H A mem run))) (known-pack : Triple 𝓤 (𝓣 .C #pack) (met 𝓤 H A pack.ended (pack.clauses 𝓤 H A mem run))) where
   port-collect-walks : Walks 𝓤 H A f.ended stayed (WpFn 𝓤 H (𝓣 .C) (𝓣 .Λ) code.function) (f.clauses 𝓤 H A mem run)
   port-collect-walks = walked 𝓤 H A f.ended stayed (f.clauses 𝓤 H A mem run) (WpFn 𝓤 H (𝓣 .C) (𝓣 .Λ) code.function)
-      (λ κs. (LL.vals Co.the-type Co′.the-laws, (slice-vals, (slice-vals, (slice-vals, (slice-vals, (slice-vals, (uint-vals w8, (uint-vals w64, (uint-vals w32, (uint-vals w32, tt)))))))))))
-      (λ κs. (LL.tells Co.the-type Co′.the-laws, (mut-slice-tells (named 0) (κs .0) R, (mut-slice-tells (named 1) (κs .1 .0) u64, (mut-slice-tells (named 2) (κs .1 .1 .0) u32, (mut-slice-tells (named 3) (κs .1 .1 .1 .0) u32, (mut-slice-tells (named 4) (κs .1 .1 .1 .1 .0) u8, (uint-tells w8, (uint-tells w64, (uint-tells w32, (uint-tells w32, tt)))))))))))
+      (λ κs. (LL.vals Co.the-type Co′.the-laws, (slice-vals, (slice-vals, (slice-vals, (slice-vals, (slice-vals, (uint-vals w8, (uint-vals w64, (uint-vals w32, (uint-vals w32, (uint-vals w32, tt))))))))))))
+      (λ κs. (LL.tells Co.the-type Co′.the-laws, (mut-slice-tells (named 0) (κs .0) R, (mut-slice-tells (named 1) (κs .1 .0) u64, (mut-slice-tells (named 2) (κs .1 .1 .0) u32, (mut-slice-tells (named 3) (κs .1 .1 .1 .0) u32, (mut-slice-tells (named 4) (κs .1 .1 .1 .1 .0) u8, (uint-tells w8, (uint-tells w64, (uint-tells w32, (uint-tells w32, (uint-tells w32, tt))))))))))))
       (λ κs qs bounds a g are. via 𝓤 _ (fst∗ 𝓤 _ (emp 𝓤))
-      (walk 𝓤 H A W mem run (κs .0) (κs .1 .0) (κs .1 .1 .0) (κs .1 .1 .1 .0) (κs .1 .1 .1 .1 .0) (qs .0) (qs .1 .0) (qs .1 .1 .0) (qs .1 .1 .1 .0) (qs .1 .1 .1 .1 .0) (a .0) (a .1 .0 .ptr .0) (a .1 .0 .ptr .1) (a .1 .0 .name) (a .1 .0 .now) (a .1 .1 .0 .ptr .0) (a .1 .1 .0 .ptr .1) (a .1 .1 .0 .name) (a .1 .1 .0 .now) (a .1 .1 .1 .0 .ptr .0) (a .1 .1 .1 .0 .ptr .1) (a .1 .1 .1 .0 .name) (a .1 .1 .1 .0 .now) (a .1 .1 .1 .1 .0 .ptr .0) (a .1 .1 .1 .1 .0 .ptr .1) (a .1 .1 .1 .1 .0 .name) (a .1 .1 .1 .1 .0 .now) (a .1 .1 .1 .1 .1 .0 .ptr .0) (a .1 .1 .1 .1 .1 .0 .ptr .1) (a .1 .1 .1 .1 .1 .0 .name) (a .1 .1 .1 .1 .1 .0 .now) (a .1 .1 .1 .1 .1 .1 .0) (a .1 .1 .1 .1 .1 .1 .1 .0) (a .1 .1 .1 .1 .1 .1 .1 .1 .0) (a .1 .1 .1 .1 .1 .1 .1 .1 .1 .0)
-      _ _ _ _ _ (are .0) (are .1 .1 .1 .1 .1 .1 .0) (are .1 .1 .1 .1 .1 .1 .1 .0) (are .1 .1 .1 .1 .1 .1 .1 .1 .0) (are .1 .1 .1 .1 .1 .1 .1 .1 .1 .0) (are .1 .0 .0 .1) (are .1 .1 .0 .0 .1) (are .1 .1 .1 .0 .0 .1) (are .1 .1 .1 .1 .0 .0 .1) (are .1 .1 .1 .1 .1 .0 .0 .1) 𝓣 known-make known-apply known-pack))
+      (walk 𝓤 H A W mem run (κs .0) (κs .1 .0) (κs .1 .1 .0) (κs .1 .1 .1 .0) (κs .1 .1 .1 .1 .0) (qs .0) (qs .1 .0) (qs .1 .1 .0) (qs .1 .1 .1 .0) (qs .1 .1 .1 .1 .0) (a .0) (a .1 .0 .ptr .0) (a .1 .0 .ptr .1) (a .1 .0 .name) (a .1 .0 .now) (a .1 .1 .0 .ptr .0) (a .1 .1 .0 .ptr .1) (a .1 .1 .0 .name) (a .1 .1 .0 .now) (a .1 .1 .1 .0 .ptr .0) (a .1 .1 .1 .0 .ptr .1) (a .1 .1 .1 .0 .name) (a .1 .1 .1 .0 .now) (a .1 .1 .1 .1 .0 .ptr .0) (a .1 .1 .1 .1 .0 .ptr .1) (a .1 .1 .1 .1 .0 .name) (a .1 .1 .1 .1 .0 .now) (a .1 .1 .1 .1 .1 .0 .ptr .0) (a .1 .1 .1 .1 .1 .0 .ptr .1) (a .1 .1 .1 .1 .1 .0 .name) (a .1 .1 .1 .1 .1 .0 .now) (a .1 .1 .1 .1 .1 .1 .0) (a .1 .1 .1 .1 .1 .1 .1 .0) (a .1 .1 .1 .1 .1 .1 .1 .1 .0) (a .1 .1 .1 .1 .1 .1 .1 .1 .1 .0) (a .1 .1 .1 .1 .1 .1 .1 .1 .1 .1 .0)
+      _ _ _ _ _ _ (are .0) (are .1 .1 .1 .1 .1 .1 .0) (are .1 .1 .1 .1 .1 .1 .1 .0) (are .1 .1 .1 .1 .1 .1 .1 .1 .0) (are .1 .1 .1 .1 .1 .1 .1 .1 .1 .0) (are .1 .1 .1 .1 .1 .1 .1 .1 .1 .1 .0) (are .1 .0 .0 .1) (are .1 .1 .0 .0 .1) (are .1 .1 .1 .0 .0 .1) (are .1 .1 .1 .1 .0 .0 .1) (are .1 .1 .1 .1 .1 .0 .0 .1) 𝓣 known-make known-apply known-pack))
 
   port-collect-meets : Meets 𝓤 H A f.signature (WpFn 𝓤 H (𝓣 .C) (𝓣 .Λ) code.function) (f.spec 𝓤 H A mem run)
   port-collect-meets =
-      walk-meets 𝓤 H A f.ended stayed W (goes-none 𝓤 H A W 5 (λ _. Co.the-row) yes (λ κs x f. refl), (goes-gave-slice 𝓤 H A W 5 0 tt (plain (λ _. R)), (goes-gave-slice 𝓤 H A W 5 1 tt (plain (λ _. u64)), (goes-gave-slice 𝓤 H A W 5 2 tt (plain (λ _. u32)), (goes-gave-slice 𝓤 H A W 5 3 tt (plain (λ _. u32)), (goes-gave-slice 𝓤 H A W 5 4 tt (plain (λ _. u8)), (goes-none 𝓤 H A W 5 (λ _. u8) yes (λ κs x f. refl), (goes-none 𝓤 H A W 5 (λ _. u64) yes (λ κs x f. refl), (goes-none 𝓤 H A W 5 (λ _. u32) yes (λ κs x f. refl), (goes-none 𝓤 H A W 5 (λ _. u32) yes (λ κs x f. refl), tt)))))))))) (f.clauses 𝓤 H A mem run)
+      walk-meets 𝓤 H A f.ended stayed W (goes-none 𝓤 H A W 5 (λ _. Co.the-row) yes (λ κs x f. refl), (goes-gave-slice 𝓤 H A W 5 0 tt (plain (λ _. R)), (goes-gave-slice 𝓤 H A W 5 1 tt (plain (λ _. u64)), (goes-gave-slice 𝓤 H A W 5 2 tt (plain (λ _. u32)), (goes-gave-slice 𝓤 H A W 5 3 tt (plain (λ _. u32)), (goes-gave-slice 𝓤 H A W 5 4 tt (plain (λ _. u8)), (goes-none 𝓤 H A W 5 (λ _. u8) yes (λ κs x f. refl), (goes-none 𝓤 H A W 5 (λ _. u64) yes (λ κs x f. refl), (goes-none 𝓤 H A W 5 (λ _. u32) yes (λ κs x f. refl), (goes-none 𝓤 H A W 5 (λ _. u32) yes (λ κs x f. refl), (goes-none 𝓤 H A W 5 (λ _. u32) yes (λ κs x f. refl), tt))))))))))) (f.clauses 𝓤 H A mem run)
       (WpFn 𝓤 H (𝓣 .C) (𝓣 .Λ) code.function) (WpFn-mono 𝓤 H (W .laws) 𝓣 code.function) port-collect-walks
 
 pub port-collect-spec : {M : Type 1} → stated.statement M

@@ -24,6 +24,9 @@ scan-step-requires c κs = search needs
 port-power-requires : tie.Need-port-power-requires
 port-power-requires c κs = search needs
 
+clear-halt-requires : tie.Need-clear-halt-requires
+clear-halt-requires c κs = search needs
+
 returns : tie.Need-returns
 unfolding judgedAs
 returns c = judged-at _ 15 _ _ (c .before .match .keys1) (c .plain-entry .ensures)
@@ -49,9 +52,13 @@ unfolding judgedAs
 returns-6 c = judged-at _ 20 _ _ (c .before .match .keys6) (c .port-power .ensures)
 
 returns-7 : tie.Need-returns-7
-returns-7 c =
+unfolding judgedAs
+returns-7 c = judged-at _ 21 _ _ (c .before .match .keys7) (c .clear-halt .ensures)
+
+returns-8 : tie.Need-returns-8
+returns-8 c =
     let r = c .match .rest in
-    judged-rest (c .before .args .f .number) (c .before .args .f) (c .before .pre) (r .0 .0 .0 .0 .0 .1) (r .0 .0 .0 .0 .1) (r .0 .0 .0 .1) (r .0 .0 .1) (r .0 .1) (r .1)
+    judged-rest (c .before .args .f .number) (c .before .args .f) (c .before .pre) (r .0 .0 .0 .0 .0 .0 .1) (r .0 .0 .0 .0 .0 .1) (r .0 .0 .0 .0 .1) (r .0 .0 .0 .1) (r .0 .0 .1) (r .0 .1) (r .1)
 
 pub entry-third-spec : {M : Type 1} → statement M
 entry-third-spec =
@@ -63,10 +70,12 @@ entry-third-spec =
     plain-entry-requires-4
     scan-step-requires
     port-power-requires
+    clear-halt-requires
     returns
     returns-2
     returns-3
     returns-4
     returns-5
     returns-6
-    returns-7)
+    returns-7
+    returns-8)

@@ -12,8 +12,19 @@ places-at-requires c κs = search unlinking-room
 with-requires : tie.Need-with-requires
 with-requires c κs = search needs
 
+kept-toggle-requires : tie.Need-kept-toggle-requires
+kept-toggle-requires c κs = search needs
+
+with-toggle-requires : tie.Need-with-toggle-requires
+with-toggle-requires c κs = search needs
+
 put-endpoint-requires : tie.Need-put-endpoint-requires
-put-endpoint-requires c κs = (search unlinking-room, search (finish-fits, needs))
+put-endpoint-requires c κs =
+    let b = c .before .before .before .before .before .before .before .before .before in (
+      search unlinking-room,
+      finish-fits (b .args .core .settings) (b .args .core .rest) (b .args .slots .now) (b .pre .0) (b .args .k) (b .args .p) (b .args .r) (b .args .b)
+          (b .pre .1) (pipe-next-below (b .args .p) _ (b .good .1 .1 .1 .1 .0)) _ _ (c .before .with-toggle .ensures),
+    )
 
 put-places-requires : tie.Need-put-places-requires
 put-places-requires c κs = search unlinking-room-after
@@ -29,12 +40,13 @@ same-length c = search needs
 
 returns : tie.Need-returns
 returns c =
-    let b = c .before .before .before .before .before .before .before .before .before .before .before .before .before .before .before .before in (
+    let b = c .before .before .before .before .before .before .before .before .before .before .before .before .before .before .before .before .before .before in (
       finishes-words (b .args .core .settings) (b .args .core .rest) (b .args .slots .now) (b .pre .0) (b .args .k) (b .args .p) (b .args .r) (b .args .b)
-          (b .pre .1) (pipe-next-below (b .args .p) _ (b .good .1 .1 .1 .1 .0)) _ _ (c .before .before .before .before .before .before .before .before .put-endpoint .ensures) (c .before .before .before .before .put-places .ensures) _ (b .args .seen) _ _ (c .before .outcome-of .ensures)
-          (c .none .ensures .1),
+          (b .pre .1) (pipe-next-below (b .args .p) _ (b .good .1 .1 .1 .1 .0)) (b .args .overlay) _ _ (c .before .before .before .before .before .before .before .before .before .before .before .kept-toggle .ensures) (c .before .before .before .before .before .before .before .before .before .before .with-toggle .ensures) _ _
+          (c .before .before .before .before .before .before .before .before .put-endpoint .ensures) (c .before .before .before .before .put-places .ensures) _ (b .args .seen) _ _ (c .before .outcome-of .ensures) (c .none .ensures .1),
       tidy-finished (b .args .core .settings) (b .args .core .rest) (b .args .slots .now) (b .pre .0) (b .args .k) (b .args .p) (b .args .r) (b .args .b)
-          (b .pre .1) (pipe-next-below (b .args .p) _ (b .good .1 .1 .1 .1 .0)) _ _ (c .before .before .before .before .before .before .before .before .put-endpoint .ensures) (c .before .before .before .before .put-places .ensures) _ _ (c .before .before .before .before .before .before .before .before .before .before .before .places-at .ensures) (c .before .before .before .before .before .before .before .before .before .before .with .ensures),
+          (b .pre .1) (pipe-next-below (b .args .p) _ (b .good .1 .1 .1 .1 .0)) (b .args .overlay) _ _ (c .before .before .before .before .before .before .before .before .before .before .before .kept-toggle .ensures) (c .before .before .before .before .before .before .before .before .before .before .with-toggle .ensures) _ _
+          (c .before .before .before .before .before .before .before .before .put-endpoint .ensures) (c .before .before .before .before .put-places .ensures) _ _ (c .before .before .before .before .before .before .before .before .before .before .before .before .before .places-at .ensures) (c .before .before .before .before .before .before .before .before .before .before .before .before .with .ensures),
     )
 
 pub finish-spec : {M : Type 1} → statement M
@@ -43,6 +55,8 @@ finish-spec =
     (tie.spec
     places-at-requires
     with-requires
+    kept-toggle-requires
+    with-toggle-requires
     put-endpoint-requires
     put-places-requires
     outcome-of-requires

@@ -1,4 +1,5 @@
 -- `collection::unlink::mark` meets its contract.
+use Rattle.pipe.proofs.WordsKnown.{pipe-next-below}
 use Rattle.collection.proofs.WordsCases.{marks-words, tidy-marked}
 use Rattle.collection.proofs.WordsSlots.{mark-fits, unlinking-room}
 use borrow.Author.Needs.{needs}
@@ -18,7 +19,13 @@ same-length : tie.Need-same-length
 same-length c = search needs
 
 returns : tie.Need-returns
-returns c = (search (marks-words, needs), search (tidy-marked, needs))
+returns c =
+    let b = c .before .before .before .before .before .before .before .before in (
+      marks-words (b .args .core .settings) (b .args .core .rest) (b .args .slots .now) (b .pre .0) (b .args .k) (b .args .p) (b .args .r) (b .args .b) (b .pre .1)
+          (pipe-next-below (b .args .p) _ (b .good .1 .1 .1 .0)) _ _ (c .before .before .before .before .marked .ensures) (c .before .before .before .put-endpoint .ensures) _ (c .none .ensures .1),
+      tidy-marked (b .args .core .settings) (b .args .core .rest) (b .args .slots .now) (b .pre .0) (b .args .k) (b .args .p) (b .args .r) (b .args .b) (b .pre .1)
+          (pipe-next-below (b .args .p) _ (b .good .1 .1 .1 .0)) _ _ (c .before .before .before .before .marked .ensures) (c .before .before .before .put-endpoint .ensures),
+    )
 
 pub mark-spec : {M : Type 1} → statement M
 mark-spec =

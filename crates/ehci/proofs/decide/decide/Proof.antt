@@ -3,10 +3,10 @@ use mathlib.Core.Path.{ap}
 use Rattle.words.specs.declared.core.Rest.{Rest}
 use Rattle.words.proofs.TidyLaws.{tidy-rest}
 use Rattle.controller.proofs.WordsLent.{accepts-viewed}
-use Rattle.ehci.specs.Decides.{addressDecided, closeDecided, packetDecided}
+use Rattle.ehci.specs.Decides.{addressDecided, clearDecided, closeDecided, packetDecided}
 use Rattle.ehci.proofs.Cases.{heads-call, links-call, no-rows}
 use Rattle.ehci.proofs.WordsCalls.{frames-below, frames-fit, heads-below, heads-fit, keeps-call, rows-fit, setups-fit, tidies-call, waited-fits, words-good, words-refuse, writes-call}
-use Rattle.ehci.proofs.WordsCases.{brought-view, changed-view, keeps-words, settled-view, tidies-words}
+use Rattle.ehci.proofs.WordsCases.{brought-view, changed-view, keeps-words, settled-view, slot-view, tidies-words}
 use borrow.Author.Needs.{needs}
 use Rattle.ehci.proofs.decide.decide.Statement.{statement}
 use Rattle.ehci.proofs.decide.decide.Tie as tie
@@ -168,6 +168,18 @@ disable-requires c κs = search needs
 
 of-settled-requires-3 : tie.Need-of-settled-requires-3
 of-settled-requires-3 c κs = search needs
+
+enum-known-call-12 : tie.Need-enum-known-call-12
+enum-known-call-12 c = search needs
+
+clear-halt-requires : tie.Need-clear-halt-requires
+clear-halt-requires c κs =
+    let pre = c .before .before .before .before .before .before .before .before .before .pre in
+    let on = c .before .before .before .before .if1 .left in
+    words-good _ _ _ _ _ _ _ pre on
+
+of-change-requires-4 : tie.Need-of-change-requires-4
+of-change-requires-4 c κs = search needs
 
 same-length : tie.Need-same-length
 same-length c = search needs
@@ -399,6 +411,20 @@ returns-17 c =
     let good = words-good _ _ _ _ _ _ _ (begun .pre) on in
     keeps-call (a .core) (a .slots .now) (a .good) (a .records) (a .heads .now) (a .frames .now) (a .setups .now) (a .seen) (a .call) on (begun .pre) _ is _ _ _ _ (no-rows _ _ _ _ _ (settled-view (a .core) _ _ _ _ left (says .0 (a .slots .now) (good .ranges)))) (keeps-words (a .core) _ _ _ _ left (says .1))
 
+same-length-21 : tie.Need-same-length-21
+same-length-21 c = search needs
+
+returns-18 : tie.Need-returns-18
+unfolding clearDecided
+returns-18 c =
+    let begun = c .before .before .before .before .before .before .before .before .before .before .before .before .before in
+    let a = begun .args in
+    let on = c .before .before .before .before .before .before .before .before .if1 .left in
+    let is = c .before .before .before .before .before .before .call12 .given .1 in
+    let says = c .before .before .before .clear-halt .ensures in
+    let left = c .of-change4 .ensures in
+    tidies-call (a .core) (a .slots .now) (a .good) (a .records) (a .heads .now) (a .frames .now) (a .setups .now) (a .seen) (a .call) on (begun .pre) _ is _ _ _ _ _ (no-rows _ _ _ _ _ (slot-view (a .core) _ _ _ _ left (says .0))) (tidies-words (a .core) _ _ _ _ left _ (says .1))
+
 pub decide-spec : {M : Type 1} → statement M
 decide-spec =
     tie.close
@@ -445,6 +471,9 @@ decide-spec =
     enum-told-5
     disable-requires
     of-settled-requires-3
+    enum-known-call-12
+    clear-halt-requires
+    of-change-requires-4
     same-length
     returns-2
     returns-3
@@ -480,4 +509,6 @@ decide-spec =
     returns-14
     returns-15
     returns-16
-    returns-17)
+    returns-17
+    same-length-21
+    returns-18)

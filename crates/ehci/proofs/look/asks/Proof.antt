@@ -109,6 +109,12 @@ enum-told-15 c = search needs
 no-ask-words-requires-16 : tie.Need-no-ask-words-requires-16
 no-ask-words-requires-16 c κs = search needs
 
+enum-told-16 : tie.Need-enum-told-16
+enum-told-16 c = search needs
+
+no-ask-words-requires-17 : tie.Need-no-ask-words-requires-17
+no-ask-words-requires-17 c κs = search needs
+
 returns-2 : tie.Need-returns-2
 unfolding asksOf
 returns-2 c = asks-none _ _ _ _ _ _ (c .before .enum-told .given .1) refl (c .no-ask-words2 .ensures)
@@ -172,5 +178,9 @@ returns-17 : tie.Need-returns-17
 unfolding asksOf
 returns-17 c = asks-none _ _ _ _ _ _ (c .before .enum-told15 .given .1) refl (c .no-ask-words16 .ensures)
 
+returns-18 : tie.Need-returns-18
+unfolding asksOf
+returns-18 c = asks-none _ _ _ _ _ _ (c .before .enum-told16 .given .1) refl (c .no-ask-words17 .ensures)
+
 pub asks-spec : {M : Type 1} → statement M
-asks-spec = tie.close (tie.spec no-ask-words-requires returns enum-told no-ask-words-requires-2 enum-told-2 no-ask-words-requires-3 enum-told-3 no-ask-words-requires-4 enum-told-4 no-ask-words-requires-5 enum-told-5 no-ask-words-requires-6 enum-told-6 no-ask-words-requires-7 enum-told-7 no-ask-words-requires-8 enum-told-8 no-ask-words-requires-9 enum-told-9 no-ask-words-requires-10 enum-told-10 no-ask-words-requires-11 enum-known-call ask-requires enum-told-11 no-ask-words-requires-12 enum-told-12 no-ask-words-requires-13 enum-told-13 no-ask-words-requires-14 enum-told-14 no-ask-words-requires-15 enum-told-15 no-ask-words-requires-16 returns-2 returns-3 returns-4 returns-5 returns-6 returns-7 returns-8 returns-9 returns-10 returns-11 returns-12 returns-13 returns-14 returns-15 returns-16 returns-17)
+asks-spec = tie.close (tie.spec no-ask-words-requires returns enum-told no-ask-words-requires-2 enum-told-2 no-ask-words-requires-3 enum-told-3 no-ask-words-requires-4 enum-told-4 no-ask-words-requires-5 enum-told-5 no-ask-words-requires-6 enum-told-6 no-ask-words-requires-7 enum-told-7 no-ask-words-requires-8 enum-told-8 no-ask-words-requires-9 enum-told-9 no-ask-words-requires-10 enum-told-10 no-ask-words-requires-11 enum-known-call ask-requires enum-told-11 no-ask-words-requires-12 enum-told-12 no-ask-words-requires-13 enum-told-13 no-ask-words-requires-14 enum-told-14 no-ask-words-requires-15 enum-told-15 no-ask-words-requires-16 enum-told-16 no-ask-words-requires-17 returns-2 returns-3 returns-4 returns-5 returns-6 returns-7 returns-8 returns-9 returns-10 returns-11 returns-12 returns-13 returns-14 returns-15 returns-16 returns-17 returns-18)

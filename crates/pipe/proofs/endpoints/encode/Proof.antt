@@ -16,6 +16,9 @@ enum-known-e c = search needs
 kind-number-requires : tie.Need-kind-number-requires
 kind-number-requires c κs = search needs
 
+flag-number-requires : tie.Need-flag-number-requires
+flag-number-requires c κs = search needs
+
 bare-slot-requires-2 : tie.Need-bare-slot-requires-2
 bare-slot-requires-2 c κs = search needs
 
@@ -54,6 +57,7 @@ encode-spec =
     bare-slot-requires
     enum-known-e
     kind-number-requires
+    flag-number-requires
     bare-slot-requires-2
     enum-known-e-2
     slot-with-requires

@@ -7,7 +7,7 @@ kind-of-requires : tie.Need-kind-of-requires
 kind-of-requires c κs = search needs
 
 returns : tie.Need-returns
-returns c = rw (c .kind-of .ensures)
+returns c = rw (c .before .kind-of .ensures)
 
 pub pipe-of-spec : {M : Type 1} → statement M
 pipe-of-spec = tie.close (tie.spec kind-of-requires returns)

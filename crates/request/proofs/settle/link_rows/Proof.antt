@@ -25,6 +25,9 @@ head-address-requires c κs = search needs
 ehci-qh-link-requires : tie.Need-ehci-qh-link-requires
 ehci-qh-link-requires c κs = search needs
 
+overlay-token-requires : tie.Need-overlay-token-requires
+overlay-token-requires c κs = search needs
+
 link-head-requires : tie.Need-link-head-requires
 link-head-requires c κs = search needs
 
@@ -48,6 +51,7 @@ link-rows-spec =
     cast-first
     head-address-requires
     ehci-qh-link-requires
+    overlay-token-requires
     link-head-requires
     same-length
     same-length-2

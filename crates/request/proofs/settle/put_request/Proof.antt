@@ -7,11 +7,14 @@ use Rattle.request.proofs.settle.put_request.Tie as tie
 size-at-requires : tie.Need-size-at-requires
 size-at-requires c κs = search needs
 
+toggle-at-requires : tie.Need-toggle-at-requires
+toggle-at-requires c κs = search needs
+
 id-in-requires : tie.Need-id-in-requires
 id-in-requires c κs = search needs
 
-cast-t14 : tie.Need-cast-t14
-cast-t14 c = search needs
+cast-t18 : tie.Need-cast-t18
+cast-t18 c = search needs
 
 put-endpoint-requires : tie.Need-put-endpoint-requires
 put-endpoint-requires c κs = (search needs, search (request-fits, needs))
@@ -30,8 +33,9 @@ put-request-spec =
     tie.close
     (tie.spec
     size-at-requires
+    toggle-at-requires
     id-in-requires
-    cast-t14
+    cast-t18
     put-endpoint-requires
     put-places-requires
     same-length

@@ -11,6 +11,9 @@ add-most c = search needs
 mul-most : tie.Need-mul-most
 mul-most c = search needs
 
+sub-most : tie.Need-sub-most
+sub-most c = search needs
+
 array-write-bounds : tie.Need-array-write-bounds
 array-write-bounds c = search needs
 
@@ -23,4 +26,4 @@ returns c = refl
 
 pub bounds-for-spec : {M : Type 1} → statement M
 bounds-for-spec =
-    tie.close (tie.spec add-most mul-most array-write-bounds array-write-bounds-2 returns)
+    tie.close (tie.spec add-most mul-most sub-most array-write-bounds array-write-bounds-2 returns)

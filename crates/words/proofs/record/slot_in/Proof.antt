@@ -13,14 +13,14 @@ cast-t7 c = search needs
 cast-t10 : tie.Need-cast-t10
 cast-t10 c = search needs
 
+cast-t13 : tie.Need-cast-t13
+cast-t13 c = search needs
+
 id-in-requires : tie.Need-id-in-requires
 id-in-requires c κs = search needs
 
 request-in-requires : tie.Need-request-in-requires
 request-in-requires c κs = search needs
-
-cast-t15 : tie.Need-cast-t15
-cast-t15 c = search needs
 
 cast-t18 : tie.Need-cast-t18
 cast-t18 c = search needs
@@ -28,8 +28,11 @@ cast-t18 c = search needs
 cast-t21 : tie.Need-cast-t21
 cast-t21 c = search needs
 
-cast-t23 : tie.Need-cast-t23
-cast-t23 c = search needs
+cast-t24 : tie.Need-cast-t24
+cast-t24 c = search needs
+
+cast-t26 : tie.Need-cast-t26
+cast-t26 c = search needs
 
 returns : tie.Need-returns
 returns c = search slot-parts
@@ -41,10 +44,11 @@ slot-in-spec =
     cast-t4
     cast-t7
     cast-t10
+    cast-t13
     id-in-requires
     request-in-requires
-    cast-t15
     cast-t18
     cast-t21
-    cast-t23
+    cast-t24
+    cast-t26
     returns)

@@ -34,6 +34,15 @@ mul-low-3 c = search needs
 add-low-3 : tie.Need-add-low-3
 add-low-3 c = search needs
 
+cast-low-5 : tie.Need-cast-low-5
+cast-low-5 c = search needs
+
+mul-low-4 : tie.Need-mul-low-4
+mul-low-4 c = search needs
+
+add-low-4 : tie.Need-add-low-4
+add-low-4 c = search needs
+
 cast-high : tie.Need-cast-high
 cast-high c = search needs
 
@@ -79,6 +88,9 @@ word-of-spec =
     cast-low-4
     mul-low-3
     add-low-3
+    cast-low-5
+    mul-low-4
+    add-low-4
     cast-high
     mul-high
     cast-high-2
