@@ -35,7 +35,8 @@ def changed(raw, count, flag):
 
 
 def read(raw):
-    return [tokens.bytes_left(raw), int(tokens.active(raw)), int(tokens.has_error(raw))]
+    """The bytes left; whether it is active, errs (02, order 7: bit 6 alone), was retried (bit 3)."""
+    return [tokens.bytes_left(raw), int(tokens.active(raw)), int(tokens.has_error(raw)), int(tokens.retried(raw))]
 
 
 def control(direction, length):
@@ -168,6 +169,7 @@ TABLE = [
     (2, made, list(product(range(3), (0, 1, 512, 32766, 32767, 32768, 2**64 - 1), FLAGS, FLAGS))),
     (3, changed, list(product(BACKGROUNDS, (0, 1, 2, 3, 4, 255), FLAGS))),
     (4, read, [(2**bit,) for bit in range(32)] + [(0,), (TOP - 1,)]),
+    (4, read, [(TOP - 1 - 2**bit,) for bit in range(32)] + [(others + 8 * bits,) for others, bits in product((0x00000D00, 0xFFFFFF07), range(32))]),
     (5, control, list(product((OUT, IN), (0, 1, 8, 18, 16384)))),
     (6, chunk, list(product((OUT, IN), (0, 1, 512, 16384), FLAGS))),
     (7, chunked, [(BULK, length, limit, beyond(length, limit)) for length, limit in CHUNKS]),

@@ -1,7 +1,7 @@
 """The logs that the programs `replay` and `replay_cases` are run on, and what they must print (`tools/cases` writes both).
 
 For `replay` scripts of calls, each from an opening of its own, written for 01's rules one by one, some drawn by chance, then for
-02's orders 1, 4 and 6.
+02's orders 1, 4, 6 and 7.
 For `replay_cases` many logs: a record bad in each way for each call, cut anywhere, calls before any opening, openings refused
 and accepted in turn, empty logs. What is printed is the model's (model/blocks.py)."""
 
@@ -159,11 +159,12 @@ def reasons():
 
 
 def tokens():
-    """Each bit of a token, alone, on each kind; two that err; an active one before and after."""
+    """Each bit of a token, alone, on each kind; two that err, or had to be tried again; an active one before and after."""
     for kind, places in ((CONTROL, 3), (BULK, 2), (INTERRUPT, 2)):
         calls, id = started(C=64) + [endpoint(kind, packet=64)], 0
         words = [[1 << bit] * places for bit in range(32)]
         words += [[0x00400008, 0x00200040], [0x00000080, 0x00000008], [0x00000008, 0x00000080], [0x00100010, 0x00080000], [0, 0x00050000]]
+        words += [[0x00400048, 0x00200040], [0x00000080, 0x00000040], [0x00000040, 0x00000080]]
         for line in words:
             id += 1
             calls.append(submit(0, kind, length=64 if kind == CONTROL else 100))
@@ -482,6 +483,88 @@ def toggle_slots():
     yield calls + [submit(k, BULK, length=1) for k in range(32)]
 
 
+# ---- 02, order 7: retried packets. Requests of four descriptors, as in order 1's; bit 3 is 8, and Halted 0x40
+
+RETRY = 8
+DONE = [IN_ALL, IN_ALL, IN_ALL, IN_ALL + 0x8000]
+
+
+def retried_at(places, words=DONE):
+    """These words, with bit 3 at some places."""
+    return at(*[word | RETRY * (place in places) for place, word in enumerate(words)])
+
+
+def subsets(count):
+    return [[place for place in range(count) if chosen >> place & 1] for chosen in range(2**count)]
+
+
+RETRIED = [
+    # every set of places
+    *[(retried_at(places),) for places in subsets(4)],
+    # bits 3 to 6 in the middle, each set of them, before two that are active: it waits, and is complete when these are done; or it fails
+    *[(at(IN_ALL, IN_ALL + 8 * bits), [(2, IN_ALL), (3, IN_ALL)]) for bits in range(16)],
+    # some of them in the first, in the last, and in one with bytes left, which ends the request or errs
+    *[([(place, word + 8 * bits)], [(j, DONE[j]) for j in range(4) if j != place]) for place, word in ((0, IN_ALL), (3, IN_ALL), (0, left(10))) for bits in (1, 2, 4, 6, 8, 9, 15)],
+    # a short one in each place: retried ones before it, itself, after it; errors after it
+    *[(at(*[IN_ALL + RETRY] * place, left(10) + bits, *[IN_ALL + 8] * (3 - place)),) for place in range(4) for bits in (0, 8, 0x10, 0x20, 0x38)],
+    *[(at(*[IN_ALL] * place, left(10) + 8, *[left(3) + 0x48] * (3 - place)),) for place in range(4)],
+    # more left than was asked for; an empty packet; two short ones
+    (at(left(65) + 8, 8),), (at(IN_ALL + 8, left(32767) + 8),), (at(left(64) + 8),), (at(left(5) + 8, left(6) + 8, 8, 8),),
+    # halted before and after retried ones; its token is as it is, also where it is active
+    (at(IN_HALTED + 8, IN_ALL + 8),), (at(IN_ALL + 8, IN_ALL + 8, IN_HALTED),), (at(IN_ALL + 0x30, left(64) + 0x78),), ([(0, IN_HALTED)], [(0, left(64) + 0xC8)]), (retried_at([0, 1]), [(3, 0x40000148)]),
+    # between the unlink and the collection: retried by then, no longer retried; active and retried, before a short one and with none
+    (at(*DONE), retried_at([1, 2])), (retried_at([0, 1, 2, 3]), at(*DONE)), (at(*DONE), [(place, IN_ACTIVE + RETRY) for place in range(4)]), (at(*DONE), [(2, IN_ACTIVE + RETRY)]),
+    ([(0, left(10))], at(left(30) + 0x88, left(5) + 8, 8, 8)), ([(0, left(10))], at(left(30) + 0x88, left(20) + 0x80, left(5), 8)), ([(0, left(10) + 8)], at(left(30) + 0x80, 8, IN_ACTIVE + 8)),
+]  # fmt: skip
+
+
+def retried_reads():
+    """Bulk and interrupt, In and Out; one descriptor, two, no bytes; each bit of a token that is collected."""
+    yield lives(BULK, RETRIED)
+    yield lives(BULK, RETRIED[::2], direction=0)
+    yield lives(INTERRUPT, RETRIED[::2])
+    yield lives(INTERRUPT, RETRIED[1::2], direction=0)
+    yield lives(BULK, RETRIED[::5], C=100)
+    for kind in (BULK, INTERRUPT):
+        for length in (0, 64):
+            yield lives(kind, [(at(word + 8 * bits),) for word in (0, left(1)) for bits in (0, 1, 2, 4, 7, 8, 9)], length=length)
+        yield lives(kind, [(at(*words),) for words in ((8, 0), (8, 8), (0, 8), (left(1), 8), (left(1) + 8, 8), (8, 0x48))], length=65)
+    yield lives(BULK, [(at(*[1 << bit] * 2), at(*[1 << bit & ~0x80] * 2)) for bit in range(32)], direction=0, length=128)
+
+
+def retried_controls():
+    """Setup, data and status, each set of them; and no data. Bits 3 to 6 of each; active ones at the collection."""
+    for direction in (1, 0):
+        stages = [0x00000E00, 0x80000D00 - 0x100 * (1 - direction), 0x80008C00 + 0x100 * (1 - direction)]
+        cases = [(retried_at(places, stages),) for places in subsets(3)]
+        cases += [(at(*[word + 8 * bits * (j == place) for j, word in enumerate(stages)]),) for place in range(3) for bits in (2, 4, 6, 7, 8, 9, 15)]
+        # one that is retried is no end; bytes left of the data and of the setup
+        cases += [([(0, stages[0] + bits)], at(*stages)) for bits in (8, 0x10, 0x20, 0x38, 0x40)] + [(at(stages[0] + 8, stages[1] + 0xA0008, stages[2] + 8),), (at(0x00080E08, *stages[1:]),)]
+        cases += [(at(*stages), [(place, word + 0x88) for place, word in enumerate(stages) if place in places]) for places in subsets(3)]
+        yield lives(CONTROL, cases, direction=direction, length=18)
+        yield lives(CONTROL, [(retried_at(places, [0x00000E00, 0x80008D00]),) for places in subsets(2)] + [(at(0x00000E08, 0x80008D48),), (at(0x8, 0), at(0x88, 0x88))], direction=direction, length=0)
+
+
+def retried_cancels():
+    """Cancelled ones, before they are finished, after it, and after their unlink; what waits or is not there: none carries a count."""
+    for kind, places in ((BULK, 4), (INTERRUPT, 4), (CONTROL, 3)):
+        asked, calls = submit(0, kind, length=246), started(C=64) + [endpoint(kind, packet=64)]
+        words = [writeback(place, RETRY) for place in range(places)]
+        for id, between in enumerate(([cancel], [*words, cancel], [*words, collect, cancel], [*words, writeback(1, 0x48), cancel], [*words, writeback(1, 0x48), collect, cancel]), 1):
+            calls += [asked] + [call(0, id) if callable(call) else call for call in between] + [collect(0, id), collect(0, id + 1)] + answered() + [collect(0, id, frame=9), collect(0, id, frame=9), collect(1)]
+        yield calls
+
+
+def retried_slots():
+    """Two requests whose places alternate, one of them retried; then a request of all 256 descriptors, and one that ends with the last."""
+    calls = started(D=8, E=4, C=64) + [endpoint(BULK, packet=64)] * 4 + [submit(0, BULK, length=1), submit(1, BULK, length=1), submit(2, BULK, length=1), cancel(0), cancel(2)]
+    calls += answered() * 2 + [collect(0), collect(2), submit(3, BULK, length=200)] + [writeback(place, IN_ALL + RETRY * (place != 1)) for place in (0, 2, 3, 4)]
+    yield calls + [writeback(1, left(63)), collect(1), collect(3)] + answered() * 2 + [collect(1), collect(3)]
+    for direction in (0, 1):
+        calls = started(D=256, E=1, C=8) + [endpoint(BULK, packet=8), submit(0, BULK, direction, length=2048)] + [writeback(place, RETRY) for place in range(255)] + [collect(0), writeback(255, 0x10008)]
+        yield calls + [collect(0)] + answered() + [collect(0)]
+
+
 def unlinks():
     calls = started(D=8, E=4, C=512) + [endpoint(BULK), endpoint(CONTROL), endpoint(BULK), endpoint(INTERRUPT)]
     calls += [submit(0, BULK), submit(1, CONTROL), submit(2, BULK), submit(3, INTERRUPT)]
@@ -529,8 +612,13 @@ EVEN = {1: (1, 1, 2), 64: (8, 64, 64), 4096: (8, 64, 1024), 16384: (8, 64, 1024)
 UNEVEN = {3: (1, 2, 3, 4), 9: (8, 9, 10), 100: (7, 64, 99, 101), 1000: (8, 512, 1000, 1001), 16384: (7, 48, 1023)}
 
 
-def drawn(seed, count, sizes=EVEN, toggles=False):
-    """Calls by chance, with the model at hand so that many are accepted; where they are asked for, with overlay tokens and clear-halts."""
+WORDS = (0, 0x80, 8, 0x40, 0x10000)
+RETRIED_WORDS = (0, 8, 8, 0x10, 0x20, 0x38, 0x48, 0x10008, 0x20000, 0x88)
+
+
+def drawn(seed, count, sizes=EVEN, toggles=False, words=WORDS):
+    """Calls by chance, with the model at hand so that many are accepted; where they are asked for, with overlay tokens and clear-halts.
+    The tokens that are written back are of the words, or any."""
     draw, keeper, calls = random.Random(seed), Replay(), []
     E, D = draw.choice([1, 2, 4, 8]), draw.choice([1, 3, 8, 20])
 
@@ -554,7 +642,7 @@ def drawn(seed, count, sizes=EVEN, toggles=False):
             draw.choice(
                 [endpoint(draw.choice([0, 2, 2, 3]), draw.randrange(130), draw.randrange(17), draw.choice(sizes[C]))]
                 + [submit(k, kind, draw.randrange(2), None if draw.random() < 0.9 else draw.randrange(2**48) if kind == CONTROL else 0, draw.choice([0x1000, 0xFFFFF000, 0x2000FFF]), size, command)] * 4
-                + [writeback(p, draw.choice([0, 0x80, 8, 0x40, 0x10000, draw.randrange(2**32)])) for p in (state.places_of(k) if held else [draw.randrange(D + 1)])[:3]] * 2
+                + [writeback(p, draw.choice([*words, draw.randrange(2**32)])) for p in (state.places_of(k) if held else [draw.randrange(D + 1)])[:3]] * 2
                 + [cancel(k, id, command, frame)] + [collect(k, id, command, frame, overlay)] * 3
                 + [acknowledge(draw.choice([0x20, 0x24, 1, 0x37, 0]), 0x27, draw.randrange(2), draw.randrange(2)), acknowledge(0x20), drain(command), drain(command)]
                 + [record(draw.choice([REARM, ENABLE, DISABLE, ADDRESS]))]
@@ -580,6 +668,10 @@ def scripts():
         yield from family()
     for seed in range(300, 310):
         yield drawn(seed, 80, UNEVEN if seed % 2 else EVEN, toggles=True)
+    for family in (retried_reads, retried_controls, retried_cancels, retried_slots):
+        yield from family()
+    for seed in range(400, 412):
+        yield drawn(seed, 80, EVEN, toggles=True, words=RETRIED_WORDS)
 
 
 def changed(record, at, value):
@@ -657,6 +749,7 @@ def logs():
     yield from [*short_replies()][:1] + [*extra_records()][:2] + [*area_ends()]
     yield from [*packet_ends()][:1] + [*packet_openings()][:2] + [*packet_sets()][3:6] + [*packet_changes()]
     yield from [*toggle_reads()][:1] + [*toggle_halts()] + [*toggle_changes()][:1]
+    yield from [*retried_reads()][:1] + [*retried_controls()][:1] + [*retried_cancels()][:1] + [*retried_slots()][:1]
     # call 12 was read without the token, and 21 was no call
     for word in (0, 1, BIT, 2**32 - 1, 2**32, 2**32 + BIT, 2**63, 2**64 - 1):
         yield started() + [endpoint(BULK), submit(0, BULK), cancel(0)] + answered() + [collect(0, overlay=word), submit(0, BULK)]

@@ -1,6 +1,6 @@
 """The logs of examples/ that the model writes, and call by call what is printed of them beside another build (`tools/cases` writes
-them): the short reply of 02's order 1, the packet's end of its order 4 and the toggle of its order 6. The blocks of the build without that order, `.base.blocks`,
-are that build's model's, and nobody writes them."""
+them): the short reply of 02's order 1, the packet's end of its order 4, the toggle of its order 6 and the retried packet of its order 7. The
+blocks of the build without that order, `.base.blocks`, are that build's model's, and nobody writes them."""
 
 import os
 
@@ -39,6 +39,8 @@ unlinks it and rings, and once the ring is answered (calls 12 and 13) call 14 gi
 In the base the alternate is 1, so the controller goes on with place 1. Nothing comes for it, and it stays active; the request waits
 for it, and collect answers 9 for ever (calls 11 and 14). Nobody has rung, so the advance of call 12 is not noted. A cancel would end
 the request, with 10 and no length.
+
+The 0 after the length is how many descriptors had a packet that was retried (02's order 7).
 """
 
 
@@ -73,7 +75,8 @@ In this build a descriptor has the largest multiple of 512 that is not above 1,0
 512 bytes and one of 440. The only short packet is the last one, and it ends the 3,000 bytes.
 
 Calls 10 to 15 write back places 0 to 5; in the base the request has no places 3 to 5, so calls 13 to 15 answer 1 there. What is collected
-is 3,000 in both (call 19): the base does not know what the camera made of it.
+is 3,000 in both (call 19): the base does not know what the camera made of it. The 0 after it is how many descriptors had a packet that was
+retried (02's order 7), which the base does not say yet.
 
 A packet of 1,001 bytes is above the limit: this build refuses an endpoint of such packets (call 20, answer 1), and the base opens it.
 """
@@ -117,11 +120,57 @@ packet with toggle 1, and the camera sends one: 1, 0 for 1,024 bytes. The next o
 
 In the base the overlay's token is 0 again after each submit (call 15 has no line for it, since it was 0 before). The controller awaits 0,
 and takes the camera's packet with toggle 1 for one that it has already had: it answers it and throws it away. The read loses its first
-512 bytes. What is collected in call 20 is what the writeback of call 16 says, in both.
+512 bytes. What is collected in call 20 is what the writeback of call 16 says, in both. The 0 after a length is how many descriptors had a
+packet that was retried (02's order 7), which the base does not say yet.
 
 Then the camera halts its endpoint. The host sends it CLEAR_FEATURE(ENDPOINT_HALT), after which its next packet has toggle 0, and says so here
 by clear-halt (call 21). No line shows it: the bit is the slot's own. The next submit writes 0 (call 22), which is what call 20 left there;
 without the clear-halt it would be 80000000.
+"""
+
+
+RETRIED_CALLS = {
+    8: "open endpoint: bulk, address 5, number 1, packet size 512",
+    9: "submit on slot 0: In, 65,536 bytes",
+    10: "writeback of place 0: inactive, no bytes left",
+    11: "writeback of place 1: inactive, no bytes left, bit 3 set",
+    12: "collect slot 0",
+    13: "writeback of place 2: inactive, no bytes left",
+    14: "writeback of place 3: inactive, no bytes left",
+    15: "collect slot 0",
+    16: "acknowledge, USBSTS 0x20: an advance",
+    17: "drain",
+    18: "collect slot 0",
+    19: "submit on slot 0: In, 512 bytes",
+    20: "writeback of place 0: inactive, 512 bytes left, bits 3 and 6 set, no retry left",
+    21: "collect slot 0",
+    22: "acknowledge, USBSTS 0x20: an advance",
+    23: "drain",
+    24: "collect slot 0",
+}
+RETRIED_HEAD = """\
+The retried packet: in the middle of a frame a packet is lost, the retry brings it, and the frame is thrown away.
+
+retried.log opens a controller (call 0), brings it up (calls 1 to 7), and goes on as below. Each block is what replay prints of its
+call, as the model of 01 (tools/model) has it:
+  port    this build
+  base    the build without 02's order 7
+A P line is a descriptor: place, next, alternate, token, page slots, upper slots. "all" stands where the two are the same. The two
+outputs are whole in retried.port.blocks and .base.blocks. Written by tools/cases.
+
+A frame of 65,536 bytes has four descriptors of 16,384 bytes (call 9). All of its bytes come. One packet of the second descriptor had to be
+asked for twice: the controller did not understand the first answer, tried again, and the retry went through. It leaves bit 3 of that
+token set (EHCI 3.5.3), 00000d08 in call 11; the descriptor is inactive, and no bytes are left.
+
+In this build that is no error. The request goes on (call 12 answers 9 and changes nothing), call 15 unlinks it when all four are done,
+and call 18 collects it: 65,536 bytes, and 1 of its descriptors was retried.
+
+In the base bit 3 is an error. Call 12 takes the request for finished and unlinks it with half of the frame still to come. The controller
+is already at the rest and brings it (calls 13 and 14), but call 18 answers Failed, 11, with the token 00000d08. The frame is thrown away,
+and all of it is in memory.
+
+Where no retry helps, the controller gives up and sets bit 6, Halted, as well (call 20). That is an error in both: call 24 answers 11 with
+the token as it is, 02008148.
 """
 
 
@@ -149,11 +198,24 @@ def toggle():
     return b"".join(calls + [clear_halt(0), submit(0, BULK, address=0x10000000, length=1536, command=0x80031)])
 
 
+def passed(id):
+    """A collect that unlinks, or waits; the ring's answer; the collection."""
+    return [collect(0, id, command=0x80031), acknowledge(0x20), drain(0x80031), collect(0, id, command=0x80031)]
+
+
+def retried():
+    ask = lambda length: submit(0, BULK, address=0x10000000, length=length, command=0x80031)
+    calls = started(D=8, E=2) + [endpoint(BULK), ask(65536), writeback(0, 0xD00), writeback(1, 0xD08), collect(0, command=0x80031)]
+    calls += [writeback(2, 0xD00), writeback(3, 0x8D00)] + passed(1)
+    return b"".join(calls + [ask(512), writeback(0, 0x02008148)] + passed(2))
+
+
 # of each example its log, and what its text says
 EXAMPLES = {
     "short-reply": (short_reply, SHORT_HEAD, SHORT_CALLS),
     "packet-end": (packet_end, PACKET_HEAD, PACKET_CALLS),
     "toggle": (toggle, TOGGLE_HEAD, TOGGLE_CALLS),
+    "retried": (retried, RETRIED_HEAD, RETRIED_CALLS),
 }
 
 

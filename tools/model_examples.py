@@ -1,6 +1,6 @@
 """01, "Examples": each example as 01 has it, and what the model says of it (`tools/cases` compares the two). The job sheet's
 is crates/sheet. Then those of the state in words, worked out by hand from its table (docs/DECISIONS.md, 127 and 129), and those of
-02's orders 1, 4 and 6, worked out by hand from their rules."""
+02's orders 1, 4, 6 and 7, worked out by hand from their rules."""
 
 from model.answers import CANCELLED, DONE, ENDPOINT, FAILED, FULL, INVALID, LIMIT, MEMORY, PENDING, UNSUPPORTED
 from model.blocks import replay
@@ -17,7 +17,10 @@ from model.registers import DOORBELL, USBCMD
 from model.requests import buffer_good
 from model.schedule import boundary_passed
 from model.state import IDLE, LINKED, UNLINKING, Settings, Slot, State, largest_rows
-from model.tokens import BULK, CONTROL, IN, INTERRUPT, ISOCHRONOUS, OUT, SETUP, bytes_left, control_plan, overlay_token, toggle_of, token, working_limit
+from model.tokens import (
+    BULK, CONTROL, IN, INTERRUPT, ISOCHRONOUS, OUT, SETUP, bytes_left, control_plan, has_error, overlay_token, retried, toggle_of, token,
+    working_limit,
+)  # fmt: skip
 from model.words import encode, first_bound, good, slot_words, view
 
 
@@ -92,12 +95,18 @@ def alternates(kind, direction, length, **given):
     return [world.rows.pool[place].alternate for place in world.state.places_of(0)] + [world.rows.head_word(0, 5)]
 
 
-def shown(kind, direction, length, *tokens, **given):
-    """Whether a request is finished, its first erring token and its length, with these tokens at its first descriptors."""
+def written(kind, direction, length, *tokens, **given):
+    """With a request in slot 0 that has these tokens at its first descriptors."""
     world = submitted(kind, direction, length, **given)
     for place, word in enumerate(tokens):
         assert world.call(WRITEBACK, place, word).number == DONE
-    return tuple(see(world.state, world.rows, 0))
+    return world
+
+
+def shown(*request, **given):
+    """Whether a request is finished, its first erring token and its length."""
+    world = written(*request, **given)
+    return tuple(see(world.state, world.rows, 0))[:3]
 
 
 def area_good(D, pool_at=0x100000, heads_at=0x200000):
@@ -483,6 +492,107 @@ def toggle_examples():
     yield "what is printed of clear-halt", [line for line in replay(log).splitlines() if " 21 " in line], ["C 2 21 0", "C 3 21 3"]
 
 
+# ---- 02, order 7. Bit 3, 8, is a transaction error, 0x10 babble, 0x20 a buffer error, 0x40 Halted. A frame is four descriptors of 16,384 bytes
+FRAME = 65536
+RETRIED_IN, LAST_IN = 0x00000D08, 0x00008D00
+
+
+def counted(*request, **given):
+    """Whether a request is finished, its first erring token, its length and how many of its descriptors were retried."""
+    world = written(*request, **given)
+    return tuple(see(world.state, world.rows, 0))
+
+
+def gathered(kind, direction, length, before, after=(), cancelled=False, **given):
+    """What the collection answers and carries of a request that is unlinked with the tokens `before` (by a cancel, or by a collect), and has
+    those of `after` once its boundary has passed; None where it was not unlinked."""
+    world = written(kind, direction, length, *before, **given)
+    world.call(CANCEL, 0, 1, 0, 0) if cancelled else world.call(COLLECT, 0, 1, 0, 0, 0)
+    if world.state.slots[0].phase != UNLINKING:
+        return None
+    for place, word in enumerate(after):
+        world.call(WRITEBACK, place, word)
+    world.call(ACKNOWLEDGE, 1, 1, 0x20, 0)
+    world.call(DRAIN, 0)
+    answer = world.call(COLLECT, 0, 1, 0, 9, 0)
+    return answer.number, answer.values
+
+
+def beside_another():
+    """What is collected of slot 0, whose request has places 0 and 2; 1 and 3 are slot 1's, and were retried."""
+    world = running()
+    for k in (0, 1):
+        world.call(OPEN_ENDPOINT, BULK, 5, k + 1, 512)
+    submit = lambda k, length: world.call(SUBMIT, k, BULK, IN, 0, 0x10000000, length, 0)
+    submit(0, 512)
+    submit(1, 512)
+    world.state.owner = [1, 2, 1, 2] + [0] * 252
+    world.state.slots[0].length = world.state.slots[1].length = 32768
+    for place, word in enumerate((0xD00, 0xD08, 0x8D08, 0x8D08)):
+        world.call(WRITEBACK, place, word)
+    return see(world.state, world.rows, 0).retried, see(world.state, world.rows, 1).retried
+
+
+def printed(length, *tokens):
+    """The last line of a log's collects: a bulk In request of these tokens, up to its collection."""
+    calls = [record(OPEN, (1, 1), (8, 16384, 1, 0x100000, 0x200000, 0x300000, 0x400000)), record(START)]
+    calls += [record(STEP, (), (v,)) for v in (0x80001, 0x1000, 0x80000, 0x80000, 0x80000, 0)] + [record(OPEN_ENDPOINT, (BULK, 5, 1), (512,))]
+    calls += [record(SUBMIT, (0, BULK, IN), (0, 0x10000000, length, 0))] + [record(WRITEBACK, (), (place, word)) for place, word in enumerate(tokens)]
+    calls += [record(COLLECT, (0,), (1, 0, 0)), record(ACKNOWLEDGE, (1, 1), (0x20, 0)), record(DRAIN), record(COLLECT, (0,), (1, 0, 0))]
+    return [line.split(" ", 2)[2] for line in replay(b"".join(calls)).splitlines() if line.startswith("C ") and line.split()[2] == "12"][-1]
+
+
+def retried_examples():
+    """02, order 7."""
+    yield "what errs", [has_error(word) for word in (0, 8, 0x10, 0x20, 0x38, 0x40, 0x48, 0x78, 0x80, 0xC0, 0xFFFFFFBF)], [False] * 5 + [True] * 3 + [False, True, False]
+    yield "what was retried", [retried(word) for word in (0, 8, 0x10, 0x20, 0x40, 0x48, 0x88, 4, 0xFFFFFFF7)], [False, True, False, False, False, True, True, False, False]
+    # all bytes came; one descriptor was retried, then all
+    yield "a frame, none retried", counted(BULK, IN, FRAME, DONE_IN, DONE_IN, DONE_IN, LAST_IN), (True, 0, FRAME, 0)
+    for kind in (BULK, INTERRUPT):
+        yield f"a frame, one retried in the middle, kind {kind}", counted(kind, IN, FRAME, DONE_IN, RETRIED_IN, DONE_IN, LAST_IN), (True, 0, FRAME, 1)
+    yield "a frame, all retried", counted(BULK, IN, FRAME, RETRIED_IN, RETRIED_IN, RETRIED_IN, 0x8D08), (True, 0, FRAME, 4)
+    yield "a frame that goes out, the last retried", counted(BULK, OUT, FRAME, 0xC00, 0xC00, 0xC00, 0x8C08), (True, 0, FRAME, 1)
+    yield "a retried one is not the end", counted(BULK, IN, FRAME, DONE_IN, RETRIED_IN), (False, 0, 32768, 1)
+    yield "nor are bits 4 and 5", [counted(BULK, IN, FRAME, DONE_IN, DONE_IN + bits)[0] for bits in (0x10, 0x20, 0x30, 0x38, 0x40)], [False] * 4 + [True]
+    # a descriptor counts once, and bits 4 and 5 do not
+    yield "bits 4 and 5", counted(BULK, IN, FRAME, 0xD10, 0xD20, 0xD30, 0x8D38), (True, 0, FRAME, 1)
+    yield "bits 4 and 5, one descriptor", [gathered(BULK, IN, 512, [0x8D00 + bits]) for bits in (0x10, 0x20, 0x30, 8)], [(DONE, (512, 0))] * 3 + [(DONE, (512, 1))]
+    # the retries are used up: Halted as well, the token as it is
+    yield "halted and retried", gathered(BULK, IN, FRAME, [DONE_IN, RETRIED_IN, 0x20000148]), (FAILED, (0x20000148,))
+    yield "halted with bits 3 to 5", gathered(INTERRUPT, OUT, FRAME, [0x40000C78]), (FAILED, (0x40000C78,))
+    yield "the first that is halted", gathered(BULK, OUT, FRAME, [0xC08, 0xC30, 0x40000C40, 0x40008C48]), (FAILED, (0x40000C40,))
+    yield "halted while active", gathered(BULK, IN, FRAME, [HALTED_IN], [0x400000C8]), (FAILED, (0x400000C8,))
+    # 13,384 left: 3,000 came, and the rest is left out, whatever it says
+    yield "a retried short one ends it", counted(BULK, IN, MEGABYTE, SHORT_IN + 8), (True, 0, 3000, 1)
+    yield "a short one with bits 4 and 5 ends it", counted(BULK, IN, MEGABYTE, SHORT_IN + 0x30), (True, 0, 3000, 0)
+    yield "a halted one is not short", counted(BULK, IN, MEGABYTE, SHORT_IN + 0x48, SHORT_IN), (True, SHORT_IN + 0x48, 6000, 1)
+    yield "before, with and after the short one", counted(BULK, IN, MEGABYTE, RETRIED_IN, DONE_IN, SHORT_IN + 8, RETRIED_IN, 0xD48), (True, 0, 35768, 2)
+    yield "after the short one alone", counted(INTERRUPT, IN, MEGABYTE, DONE_IN, SHORT_IN, RETRIED_IN, RETRIED_IN), (True, 0, 19384, 0)
+    yield "Out is read to its end", counted(BULK, OUT, FRAME, 0x34480C08, 0xC08, 0xC00, 0x8C08), (True, 0, 52152, 3)
+    # setup, data, status; no bytes of setup and status count
+    yield "control, none retried", gathered(CONTROL, IN, 18, [0xE00, 0x80000D00, 0x80008C00]), (DONE, (18, 0))
+    yield "control, setup retried", gathered(CONTROL, IN, 18, [0xE08, 0x80000D00, 0x80008C00]), (DONE, (18, 1))
+    yield "control, data retried", gathered(CONTROL, IN, 18, [0xE00, 0x800A0D08, 0x80008C00]), (DONE, (8, 1))
+    yield "control, status retried", gathered(CONTROL, IN, 18, [0xE00, 0x80000D00, 0x80008C08]), (DONE, (18, 1))
+    yield "control, all retried", gathered(CONTROL, OUT, 18, [0xE08, 0x80000C08, 0x80008D08]), (DONE, (18, 3))
+    yield "control without data, both retried", gathered(CONTROL, OUT, 0, [0xE08, 0x80008D08]), (DONE, (0, 2))
+    yield "control, a retried setup is waited on", gathered(CONTROL, IN, 18, [0xE08]), None
+    # once it is unlinked the controller may have written on: what is there at the collection counts
+    done, none = [DONE_IN, DONE_IN, DONE_IN, LAST_IN], (0x40000D80,) * 4
+    yield "retried after the unlink", gathered(BULK, IN, FRAME, done, [RETRIED_IN, RETRIED_IN]), (DONE, (FRAME, 2))
+    yield "no longer retried after the unlink", gathered(BULK, IN, FRAME, [RETRIED_IN] * 4, done), (DONE, (FRAME, 0))
+    yield "active and retried at the collection", gathered(BULK, IN, FRAME, done, [word + 8 for word in none]), (DONE, (0, 4))
+    yield "active and retried before a short one", gathered(BULK, IN, FRAME, [SHORT_IN], [0x01800D88, SHORT_IN + 8, RETRIED_IN]), (DONE, (19000, 2))
+    yield "active and retried, control", gathered(CONTROL, IN, 18, [0xE00, 0x80000D00, 0x80008C00], [0xE88, 0x80120D80, 0x80008C88]), (DONE, (0, 2))
+    yield "cancelled, retried", gathered(BULK, IN, FRAME, [RETRIED_IN] * 4, cancelled=True), (CANCELLED, ())
+    yield "cancelled, halted and retried", gathered(BULK, IN, FRAME, [HALTED_IN + 8], cancelled=True), (CANCELLED, ())
+    # 64 of 64 and 256 of 256
+    yield "a megabyte, all retried", counted(BULK, IN, MEGABYTE, *[RETRIED_IN] * 64), (True, 0, MEGABYTE, 64)
+    yield "256 descriptors, all retried", counted(BULK, OUT, 256 * 16384, *[0xC08] * 256, D=256), (True, 0, 4194304, 256)
+    yield "beside another slot's", beside_another(), (1, 2)
+    yield "what is printed", [printed(FRAME, *done), printed(FRAME, DONE_IN, RETRIED_IN, DONE_IN, LAST_IN), printed(FRAME, RETRIED_IN, 0x20000148)], ["12 0 65536 0", "12 0 65536 1", "12 11 20000148"]
+
+
 def examples():
     """Of each example its name, what the model says and what 01 says."""
     yield "token, setup", token(SETUP, 8), 0x00080E80
@@ -507,6 +617,7 @@ def examples():
     yield from short_examples()
     yield from packet_examples()
     yield from toggle_examples()
+    yield from retried_examples()
 
 
 def wrong():

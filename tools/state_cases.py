@@ -669,6 +669,79 @@ def toggle_stays():
         yield [drain(0x80B31), acknowledge(0x20, 0)]
 
 
+# 02, order 7. Tokens of four places: bit 3, 8, is a packet that was retried; 0x10 and 0x20 are no error either; 0x40 is Halted. Each place alone; all
+# but one; before an active one; with 0x40, before it and after it; one short, that was retried or not, with retried ones before and after it;
+# active ones that were retried, about a short one
+RETRIED = [tuple(8 if p == place else 0 for p in range(4)) for place in range(4)] + [tuple(0 if p == place else 8 for p in range(4)) for place in range(4)]
+RETRIED += [(8, 8, 8, 8), (0x10, 0x20, 0x30, 0), (0x38, 0x18, 0x28, 8), (8, 0x80, 8, 8), (0x10, 0x80, 0, 0), (0x20, 0x80, 0, 0), (0x38, 0, 0, 0x80)]
+RETRIED += [(0x48, 8, 0, 0), (8, 0x40, 8, 8), (8, 8, 8, 0x78), (0x18, 0x28, 0x50, 0x60), (0x88, 0x48, 0x40, 0), (0, 0xC8, 0, 8), (0x30, 0x40000148, 0, 0)]
+RETRIED += [(0x10008, 0x80, 0x80, 0x80), (0x10000, 8, 8, 8), (8, 0x10000, 8, 8), (8, 0x10008, 0x48, 8), (0, 8, 0x10010, 0x88), (8, 8, 8, 0x20008), (0x10030, 8, 0x40, 8)]
+RETRIED += [(0x50088, 0x10008, 8, 8), (0x88, 0x88, 0x88, 0x88), (0x80, 0x10020, 8, 0x40), (0x7FFF0008, 8, 0, 0), (0x10048, 0x10008, 8, 8), (0xFFFFFFBF, 8, 8, 8), (0xFFFFFF3F, 0xFFFFFF37, 0, 0)]
+
+
+def retried_views():
+    """A request of each kind and direction: what a collect sees of it while it is linked, once its boundary has passed, and cancelled."""
+    for k, direction in product(range(3), (1, 0)):
+        length = 18 if KINDS[k] == CONTROL else 2000
+        yield three()
+        for tokens in RETRIED:
+            yield [idle(k), submit(k, KINDS[k], direction, direction << 7, length=length)] + [token(p, value) for p, value in enumerate(tokens)]
+            yield [collect(k), kept(k, UNLINKING, direction, length)] + numbers(unanswered=0, doorbell=0) + [collect(k, frame=9)]
+        for tokens in RETRIED[8::4]:
+            yield [kept(k, UNLINKING, direction, length, range(4), cancel=1), free()] + [token(p, value) for p, value in enumerate(tokens)] + [collect(k, frame=9)]
+
+
+def retried_bits():
+    """Each bit of each token: of a linked request whose others are active, and of one that is collected whose others were retried."""
+    for k, direction in ((0, 1), (2, 1), (0, 0), (1, 1)):
+        length = 18 if KINDS[k] == CONTROL else 2000
+        yield three() + [submit(k, KINDS[k], direction, direction << 7, length=length)]
+        yield [token(p, 0x80) for p in range(4)]
+        for place in range(4):
+            yield trial(token(place, 8), collect(k), 32) + [token(place, 8)]
+        yield [kept(k, UNLINKING, direction, length)] + numbers(unanswered=0, doorbell=0)
+        for tokens in ((8, 8, 8, 8), (0x50088, 0x38, 0x30008, 8)):
+            yield [token(p, value) for p, value in enumerate(tokens)]
+            for place, value in enumerate(tokens):
+                yield trial(token(place, value), collect(k, frame=9), 32)
+        yield trial(word(k, 0, packed(phase=UNLINKING, kind=KINDS[k], direction=direction, length=length)), collect(k, frame=9))
+
+
+def retried_places():
+    """Requests that hold fewer or more places than they need, all of them retried, and so are the others' places, the free ones and place D."""
+    for k, direction, length in product(range(3), (1, 0), (0, 100, 2000)):
+        yield three() + [token(p, 8) for p in range(5)]
+        for places in ((), (1,), (0, 2), (0, 1, 3), (0, 1, 2, 3)):
+            left = [p for p in range(4) if p not in places]
+            yield [kept(k, UNLINKING, direction, length, places), free(*left), collect(k, frame=9)]
+            # another slot has what is left
+            other = (k + 1) % 3
+            yield [kept(k, UNLINKING, direction, length, places), kept(other, UNLINKING, 1, 100, left), free(), collect(k, frame=9), idle(other), holds(other)]
+
+
+def retried_of_many():
+    """A request of 256 descriptors, of which the first so many were retried; and one of them short, of an In request."""
+    yield opening(D=256, E=1, C=16) + [number("running", 1), open_endpoint(BULK, packet=16), submit(0, BULK, length=4096)]
+    yield [token(p, 0) for p in range(256)]
+    before = 0
+    for count, direction in product((0, 1, 62, 63, 64, 65, 127, 128, 129, 191, 192, 193, 254, 255, 256), (0, 1)):
+        yield [token(p, 8) for p in range(before, count)]
+        yield [kept(0, UNLINKING, direction, 4096, range(256), packet=16)] + [number(name, 0) for name in FREE] + [collect(0)]
+        before = count
+    for short, direction in product((0, 1, 63, 64, 65, 128, 192, 254, 255), (1, 0)):
+        yield [token(short, 0x50008), kept(0, UNLINKING, direction, 4096, range(256), packet=16)] + [number(name, 0) for name in FREE] + [collect(0), token(short, 8)]
+
+
+def retried_waits():
+    """Collects that are not complete carry no count: without a request, by another id, unfinished, waiting, crowded, of a row of another length."""
+    for k in range(3):
+        yield three() + [token(p, 8) for p in range(5)] + [collect(j, id, frame=9) for j in (k, 3, 4, 255) for id in (0, 1)]
+        yield [linked(k, places=[0]), free(1, 2, 3), collect(k, 2, 9), number("unanswered", 32), collect(k, 1, 9), number("unanswered", 0), token(0, 0x88), collect(k, 1, 9)]
+        for cancelled in (0, 1):
+            yield numbers(unanswered=2, doorbell=1) + [unlinking(k, places=[0], cancel=cancelled, boundary=1), token(0, 8), collect(k, 1, 9), collect(k, 2, 10)]
+        yield numbers(unanswered=0, doorbell=0) + [unlinking(k, places=[0]), lend(*rows(4, 3)), collect(k, 1, 9), lend(*rows(4, 4)), collect(k, 1, 9)]
+
+
 def boundaries():
     """FRINDEX at distances from its start; the doorbell before an unlink, with each reading of USBCMD."""
     yield three() + [submit(2, INTERRUPT), cancel(2)]
@@ -749,7 +822,7 @@ def hubs():
 
 FAMILIES = (
     openings, lengths, pool_lengths, first_checks, bounds, first_words, place_bits, places_of_none, one_bit, one_bit_large, reasons, writebacks, setups, ranges, taken, ids, row_words, links,
-    unanswered, cancels, views, shorts, short_bits, short_places, short_of_many, alternates, packet_words, packet_heads, packet_collects, packet_rooms, packet_sets, toggle_words, toggle_collects, toggle_waits, toggle_submits, toggle_clears, toggle_stays, boundaries, interrupts, falls, bring_ups, hubs,
+    unanswered, cancels, views, shorts, short_bits, short_places, short_of_many, alternates, packet_words, packet_heads, packet_collects, packet_rooms, packet_sets, toggle_words, toggle_collects, toggle_waits, toggle_submits, toggle_clears, toggle_stays, retried_views, retried_bits, retried_places, retried_of_many, retried_waits, boundaries, interrupts, falls, bring_ups, hubs,
 )  # fmt: skip
 
 

@@ -240,7 +240,112 @@ TOGGLES = [
     ("the toggle stands after the direction", "words", FIELDS, '"toggle": (16, 1), "direction": (15, 1)'),
     ("the words have no toggle", "words", "    slot.id = 1 if last == LAST_ID", "    slot.toggle = 0\n    slot.id = 1 if last == LAST_ID"),
 ]  # fmt: skip
-ALL = FAULTS + IN_WORDS + PACKETS + TOGGLES
+# 02, order 7
+ERRS, ENDS, ENDED_SHORT, GIVES = "return field(word, 6, 1) == 1", "        if has_error(token):\n            return True\n", "and not has_error(token) and", "        if has_error(token):\n            return token\n"
+COUNTS, COUNTED, COMPLETE = "retried(token) for token in tokens", "how_many_retried(read)", "Answer(DONE, (seen.length, seen.retried))"
+IN_FINISHED, AT_COLLECTION = "        if may_be_short and ended_short(token):\n", "        if ended_short(token):\n"
+SEES = "    seen = see(state, rows, k)\n"
+
+
+def ends_with(bits):
+    """One of these bits ends the wait."""
+    return ENDS.replace("has_error(token)", f"token & {bits}")
+
+
+def short_without(bits):
+    """One that has none of these bits is short."""
+    return f"and not token & {bits} and"
+
+
+def gives_with(bits):
+    """The first that has one of these bits is given."""
+    return GIVES.replace("has_error(token)", f"token & {bits}")
+
+
+def counted_if(holds):
+    """A request's retried descriptors are counted where this holds."""
+    return f"how_many_retried(read) * bool({holds})"
+
+
+RETRIES = [
+    ("bits 3 to 6 err, as before the order", "tokens", ERRS, "return field(word, 3, 4) != 0"),
+    ("bits 3 to 6 end the wait", "collection", ENDS, ends_with(0x78)),
+    ("bits 3 to 6 are not short", "collection", ENDED_SHORT, short_without(0x78)),
+    ("bits 3 to 6 do not end the wait short", "collection", IN_FINISHED, "        if may_be_short and ended_short(token) and not token & 0x78:\n"),
+    ("bits 3 to 6 are not short at collection", "collection", AT_COLLECTION, "        if ended_short(token) and not token & 0x78:\n"),
+    ("bits 3 to 6 fail", "collection", GIVES, gives_with(0x78)),
+    *[(f"bit {bit} ends the wait too", "collection", ENDS, ends_with(0x40 + 2**bit)) for bit in (3, 4, 5)],
+    *[(f"bit {bit} is not short either", "collection", ENDED_SHORT, short_without(0x40 + 2**bit)) for bit in (3, 4, 5)],
+    *[(f"bit {bit} fails too", "collection", GIVES, gives_with(0x40 + 2**bit)) for bit in (3, 4, 5)],
+    *[(f"bit {bit} errs alone", "tokens", ERRS, f"return field(word, {bit}, 1) == 1") for bit in (3, 4, 5)],
+    *[(f"bit {bit} errs too", "tokens", ERRS, f"return word & {0x40 + 2**bit} != 0") for bit in (3, 4, 5)],
+    ("nothing errs", "tokens", ERRS, "return False"),
+    ("bit 6 does not end the wait", "collection", ENDS, ""),
+    ("bit 6 does not fail", "collection", GIVES, gives_with(0)),
+    ("bit 6 with bit 3 is no error", "tokens", ERRS, "return word & 0x48 == 0x40"),
+    ("bit 6 with bits 4 or 5 is no error", "tokens", ERRS, "return word & 0x70 == 0x40"),
+    ("bit 6 without bit 3 is no error", "tokens", ERRS, "return word & 0x48 == 0x48"),
+    ("bit 6 of an active one is no error", "tokens", ERRS, "return word & 0xC0 == 0x40"),
+    ("bit 6 of one with bytes left alone is an error", "tokens", ERRS, "return word & 0x40 != 0 and field(word, 16, 15) > 0"),
+    ("a retried one is waited for", "collection", "        if active(token):\n            return False\n", "        if active(token) or retried(token):\n            return False\n"),
+    ("the token is given without bit 3", "collection", GIVES, GIVES.replace("return token", "return token & ~8")),
+    ("the token is given without bits 3 to 5", "collection", GIVES, GIVES.replace("return token", "return token & ~0x38")),
+    ("a retried token before the halted one is given", "collection", GIVES, GIVES.replace("return token", "return next(other for other in tokens if other & 0x48)")),
+    ("no count, as before the order", "collection", COMPLETE, "Answer(DONE, (seen.length,))"),
+    ("a count of 0 is left out", "collection", COMPLETE, "Answer(DONE, (seen.length, seen.retried) if seen.retried else (seen.length,))"),
+    ("no count where nothing came", "collection", COMPLETE, "Answer(DONE, (seen.length, seen.retried) if seen.length else (seen.length,))"),
+    ("the count comes first", "collection", COMPLETE, "Answer(DONE, (seen.retried, seen.length))"),
+    ("10 carries the count", "collection", "Answer(CANCELLED)", "Answer(CANCELLED, (seen.retried,))"),
+    ("10 carries a count that is not 0", "collection", "Answer(CANCELLED)", "Answer(CANCELLED, (seen.retried,) if seen.retried else ())"),
+    ("10 carries length and count", "collection", "Answer(CANCELLED)", "Answer(CANCELLED, (seen.length, seen.retried))"),
+    ("11 carries the count", "collection", "Answer(FAILED, (seen.failed,))", "Answer(FAILED, (seen.failed, seen.retried))"),
+    ("11 carries a count that is not 0", "collection", "Answer(FAILED, (seen.failed,))", "Answer(FAILED, (seen.failed, seen.retried) if seen.retried else (seen.failed,))"),
+    ("9 carries the count", "collection", WAITS + "        return Answer(PENDING)\n", WAITS + "        return Answer(PENDING, (seen.retried,))\n"),
+    *[(f"bit {bit} is counted", "tokens", "return field(word, 3, 1) == 1", f"return field(word, {bit}, 1) == 1") for bit in (0, 1, 2, 4, 5, 6, 7)],
+    ("any of bits 3 to 5 is counted", "tokens", "return field(word, 3, 1) == 1", "return word & 0x38 != 0"),
+    ("any of bits 3 to 6 is counted", "tokens", "return field(word, 3, 1) == 1", "return word & 0x78 != 0"),
+    ("bit 3 is counted alone", "tokens", "return field(word, 3, 1) == 1", "return word & 0x38 == 8"),
+    ("the bits 3 to 5 are counted", "collection", COUNTS, "(token & 0x38).bit_count() for token in tokens"),
+    ("the error counter is counted", "collection", COUNTS, "token >> 10 & 3 != 3 for token in tokens"),
+    ("retries by the error counter", "collection", COUNTS, "3 - (token >> 10 & 3) for token in tokens"),
+    ("those that are not retried are counted", "collection", COUNTS, "not retried(token) for token in tokens"),
+    ("setup is not counted", "collection", COUNTED, "how_many_retried(read[slot.kind == 0 :])"),
+    ("status is not counted", "collection", COUNTED, "how_many_retried(read[: len(read) - (slot.kind == 0)])"),
+    ("setup and status are not counted", "collection", COUNTED, "how_many_retried(read[1:-1] if slot.kind == 0 else read)"),
+    ("data is not counted", "collection", COUNTED, "how_many_retried(read[:1] + read[-1:] if slot.kind == 0 else read)"),
+    ("the first is not counted", "collection", COUNTED, "how_many_retried(read[1:])"),
+    ("the last is not counted", "collection", COUNTED, "how_many_retried(read[:-1])"),
+    ("active ones are not counted", "collection", COUNTS, "retried(token) and not active(token) for token in tokens"),
+    ("active ones of control are not counted", "collection", COUNTED, "how_many_retried([token for token in read if slot.kind or not active(token)])"),
+    ("active ones alone are counted", "collection", COUNTS, "retried(token) and active(token) for token in tokens"),
+    ("the count ends at an active one", "collection", COUNTED, "how_many_retried(read[: next((i for i, token in enumerate(read) if active(token)), len(read))])"),
+    ("those with bytes left are not counted", "collection", COUNTS, "retried(token) and not bytes_left(token) for token in tokens"),
+    ("those with bytes left alone are counted", "collection", COUNTS, "retried(token) and bytes_left(token) > 0 for token in tokens"),
+    ("the count goes on after the short one", "collection", COUNTED, "how_many_retried(tokens)"),
+    ("the count ends before the short one", "collection", COUNTED, "how_many_retried(read if len(read) == len(tokens) and not (may_be_short and read and ended_short(read[-1])) else read[:-1])"),
+    ("the count ends at a short one of any request", "collection", COUNTED, "how_many_retried(up_to_short(tokens))"),
+    ("the count ends with the bytes that are asked for", "collection", COUNTED, "how_many_retried(read[: len(list(data_bytes(slot.kind, slot.length, state.limit_of(slot))))])"),
+    ("the count is of the pool", "collection", COUNTED, "how_many_retried([record.token for record in rows.pool[: state.settings.D]])"),
+    ("place D is counted", "collection", COUNTED, "how_many_retried(read + [rows.pool[state.settings.D].token])"),
+    ("the count is of the first places", "collection", COUNTED, "how_many_retried([record.token for record in rows.pool[: len(read)]])"),
+    ("whether, not how many", "collection", COUNTED, "min(1, how_many_retried(read))"),
+    ("neighbours are counted once", "collection", COUNTED, "sum(retried(token) and not (i and retried(read[i - 1])) for i, token in enumerate(read))"),
+    ("the count is at most 255", "collection", COUNTED, "min(255, how_many_retried(read))"),
+    ("the count has eight bits", "collection", COUNTED, "how_many_retried(read) % 256"),
+    ("the count is of the first 64", "collection", COUNTED, "how_many_retried(read[:64])"),
+    ("In alone is counted", "collection", COUNTED, counted_if("slot.direction")),
+    ("Out alone is counted", "collection", COUNTED, counted_if("slot.direction == 0")),
+    ("control is not counted", "collection", COUNTED, counted_if("slot.kind != 0")),
+    ("bulk is not counted", "collection", COUNTED, counted_if("slot.kind != 2")),
+    ("interrupt is not counted", "collection", COUNTED, counted_if("slot.kind != 3")),
+    ("one descriptor is not counted", "collection", COUNTED, counted_if("len(tokens) > 1")),
+    ("counted when it is unlinked", "collection", SEES, SEES + "    if slot.phase == LINKED:\n        slot.counted = seen.retried\n    seen = seen._replace(retried=vars(slot).get('counted', seen.retried))\n"),
+    ("the counts of a slot add up", "collection", "    if seen.failed:\n", "    slot.total = vars(slot).get('total', 0) + seen.retried\n    seen = seen._replace(retried=slot.total)\n    if seen.failed:\n"),
+    ("retried ones move nothing", "collection", "for size, token in zip(requested, tokens))", "for size, token in zip(requested, tokens) if not retried(token))"),
+    ("the count is taken off the length", "collection", COMPLETE, "Answer(DONE, (max(0, seen.length - seen.retried), seen.retried))"),
+    ("a retried request gives the length asked for", "collection", SUM, f"slot.length if how_many_retried(read) else {SUM}"),
+]  # fmt: skip
+ALL = FAULTS + IN_WORDS + PACKETS + TOGGLES + RETRIES
 
 
 def stored(program, name):

@@ -56,7 +56,7 @@ __attribute__((noinline)) static void m_port_places(const struct side *x, u8 slo
     memcpy(out, places.words, 32);
 }
 
-// The calls of a life and clear halt, which plain C has too, the others, and what is the hardware's.
+// The calls of a life and clear-halt, which plain C has too, the others, and what is the hardware's.
 enum { SUBMIT, WRITEBACK, UNLINK, ACKNOWLEDGE, DRAIN, FINISH, REARM, CLEAR_HALT, CANCEL, START_BRING_UP, BRING_UP_STEP,
     ALLOCATE_ADDRESS, OPEN_ENDPOINT, CLOSE, SET_ADDRESS, SET_PACKET_SIZE, ENABLE, DISABLE, OPEN, STEPS, CONTROLLER };
 
@@ -307,11 +307,11 @@ static void random_submit(u8 slot, u32 command)
     both(SUBMIT, a);
 }
 
-// Done, with bytes left or none; now and then active, or in error.
+// Done, with bytes left or none; now and then active or halted, and with any of the other error bits.
 static u32 random_token(void)
 {
     u32 left = random_below(2) ? (u32)random_below(0x7fff) << 16 : 0;
-    return 0x00000d00 + left + (random_below(8) ? 0 : random_below(2) ? 0x80 : 0x40);
+    return 0x00000d00 + left + (random_below(8) ? 0 : random_below(2) ? 0x80 : 0x40) + (random_below(4) ? 0 : 8 * random_below(8));
 }
 
 // Some tokens are the hardware's, then a collect.

@@ -1,4 +1,4 @@
-// The calls of a request's life, and clear halt, in plain C: core and rows in place, the port's checks in its order, its loops.
+// The calls of a request's life, and clear-halt, in plain C: core and rows in place, the port's checks in its order, its loops.
 #include "plain.h"
 
 enum { DONE = 0, INVALID = 1, NO_ENDPOINT = 3, FULL = 4, UNSUPPORTED = 5, NO_MEMORY = 6, NOT_READY = 8, PENDING = 9, CANCELLED = 10, FAILED = 11 };
@@ -377,6 +377,7 @@ const u64 *plain_places(const u64 *slots, u8 slot)
 
 struct view {
     u8 stage;
+    u16 retried;
     u32 failed;
     u64 moved;
 };
@@ -394,7 +395,7 @@ static u64 requested(u8 kind, u64 length, u64 limit, u64 k)
 // What the tokens of a slot's request say: of an In request in chunks, those up to the first short one.
 static struct view fold(const struct core *s, const struct qtd *pool, const u64 *record)
 {
-    struct view v = {0, 0, 0};
+    struct view v = {0, 0, 0, 0};
     u64 k = 0, length = (u32)(record[0] / LENGTH);
     u8 kind = record[0] / 4 % 4;
     u64 limit = kind == CONTROL ? 0 : working_limit(s, record[0]);
@@ -403,13 +404,14 @@ static struct view fold(const struct core *s, const struct qtd *pool, const u64 
         for (u64 word = record[2 + i]; word; word &= word - 1) {
             u32 token = pool[64 * i + __builtin_ctzl(word)].token;
             if (v.stage == 0)
-                v.stage = token & 0x80 ? 2 : token & 0x78 ? 1 : 0;
-            if (v.failed == 0 && token & 0x78)
+                v.stage = token & 0x80 ? 2 : token & 0x40 ? 1 : 0;
+            if (v.failed == 0 && token & 0x40)
                 v.failed = token;
+            v.retried += token >> 3 & 1;
             u64 asked = requested(kind, length, limit, k), left = token >> 16 & 0x7fff;
             v.moved += asked < left ? 0 : asked - left;
             k++;
-            if (stops && (token & 0xf8) == 0 && left)
+            if (stops && (token & 0xc0) == 0 && left)
                 return v;
         }
     return v;
@@ -481,8 +483,10 @@ static void finish(struct core *s, u32 *head, u64 *record, u32 overlay, struct v
         answer(out, CANCELLED, 0);
     else if (v.failed)
         answer(out, FAILED, v.failed);
-    else
+    else {
         answer(out, DONE, v.moved);
+        out->other = v.retried;
+    }
 }
 
 static int passed(u64 word, u32 frame)
@@ -515,7 +519,7 @@ void plain_collect(struct core *s, const struct rows *r, const struct asked *a, 
         answer(out, PENDING, 0);
 }
 
-// Clear halt.
+// Clear-halt.
 
 void plain_clear_halt(struct core *s, const struct rows *r, const struct asked *a, struct answered *out)
 {

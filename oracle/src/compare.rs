@@ -27,7 +27,7 @@ pub enum Outcome {
 }
 
 /// Every kind and answer that a run must meet.
-const KINDS: [&str; 105] = [
+const KINDS: [&str; 120] = [
     "open -> 0",
     "open -> 1",
     "open -> 1, no place D",
@@ -83,13 +83,28 @@ const KINDS: [&str; 105] = [
     "collect -> 0, short within",
     "collect -> 0, short after an active one",
     "collect -> 0, error after the short one",
+    "collect -> 0, one retried",
+    "collect -> 0, some retried",
+    "collect -> 0, bits 4 and 5 alone",
+    "collect -> 0, retried, control",
+    "collect -> 0, retried, bulk",
+    "collect -> 0, retried, interrupt",
+    "collect -> 0, retried setup stage",
+    "collect -> 0, retried status stage",
+    "collect -> 0, retried and active",
+    "collect -> 0, retried and short",
+    "collect -> 0, retried after the short one",
     "collect -> 3",
     "collect -> 3, another toggle",
     "collect -> 9",
     "collect -> 9, another toggle",
     "collect -> 9, short",
+    "collect -> 9, no unlink for an error of 000's",
     "collect -> 10",
+    "collect -> 10, retried",
     "collect -> 11",
+    "collect -> 11, after an error of 000's",
+    "collect -> 11, retried too",
     "acknowledge -> 0",
     "acknowledge -> 0, yes",
     "drain -> 0, Nothing",

@@ -78,7 +78,7 @@ pub struct Reply {
     pub accesses: Vec<Access>,
     /// What else a run must meet with this kind and answer.
     pub met: &'static str,
-    /// The same of the toggle, counted beside it.
+    /// The same of the toggle and of retried packets, counted beside it.
     pub also: Vec<&'static str>,
 }
 
@@ -116,6 +116,7 @@ pub struct Asked {
 /// The request in flight on a slot.
 pub struct Flight {
     pub id: u64,
+    pub kind: u8,
     pub places: Vec<usize>,
     pub tokens: Vec<u32>,
     /// The bytes that each descriptor was asked for.
@@ -137,11 +138,71 @@ impl Flight {
         match answer {
             PENDING if unlinked => ", short",
             DONE if self.tokens[..at].iter().any(|token| QtdToken(*token).active()) => ", short after an active one",
-            DONE if self.tokens[at..].iter().any(|token| QtdToken(*token).has_error()) => ", error after the short one",
+            DONE if self.tokens[at..].iter().any(|token| halted(QtdToken(*token))) => ", error after the short one",
             DONE if at == 0 => ", short at once",
             DONE => ", short within",
             _ => "",
         }
+    }
+
+    /// Its tokens that a collection reads: up to and with the first short one (N23), or all.
+    fn read(&self) -> &[u32] {
+        let short = self.tokens.iter().position(|token| is_short(QtdToken(*token)));
+        match short.filter(|_| self.early && tags::stands("N23")) {
+            Some(at) => &self.tokens[..=at],
+            None => &self.tokens,
+        }
+    }
+
+    /// How many of them have bit 3 set (02, order 7).
+    fn retried(&self) -> usize {
+        self.read().iter().filter(|token| *token & RETRIED != 0).count()
+    }
+
+    /// N27: 000 itself, with nothing taken out of the tokens that it meets, would have done something else than it did: begun
+    /// the unlink, failed, or failed with another token.
+    fn otherwise(&self, answer: u8, unlinked: bool) -> bool {
+        let read = || self.read().iter().map(|token| QtdToken(*token));
+        let erring = read().find(|token| token.has_error());
+        match answer {
+            PENDING if !self.unlinking && !unlinked => {
+                read().find(|token| token.active() || token.has_error()).is_some_and(|token| !token.active())
+            }
+            DONE => erring.is_some(),
+            FAILED => erring.is_some_and(|token| !halted(token)),
+            _ => false,
+        }
+    }
+
+    /// What a run must meet of retried packets, at a collect of this request.
+    fn retries_met(&self, answer: u8, unlinked: bool) -> Vec<&'static str> {
+        let (read, bit) = (self.read(), |token: &u32| *token & RETRIED != 0);
+        let (first, last) = (bit(&self.tokens[0]), bit(self.tokens.last().unwrap()));
+        let failed = read.iter().find(|token| halted(QtdToken(**token)));
+        let count = self.retried();
+        let met = match answer {
+            PENDING => vec![(self.otherwise(answer, unlinked), ", no unlink for an error of 000's")],
+            DONE => vec![
+                (count == 1, ", one retried"),
+                (count > 1, ", some retried"),
+                (count == 0 && self.otherwise(answer, unlinked), ", bits 4 and 5 alone"),
+                (count > 0 && self.kind == 0, ", retried, control"),
+                (count > 0 && self.kind == 2, ", retried, bulk"),
+                (count > 0 && self.kind == 3, ", retried, interrupt"),
+                (self.kind == 0 && first, ", retried setup stage"),
+                (self.kind == 0 && last, ", retried status stage"),
+                (read.iter().any(|token| bit(token) && QtdToken(*token).active()), ", retried and active"),
+                (read.len() < self.tokens.len() && bit(read.last().unwrap()), ", retried and short"),
+                (self.tokens[read.len()..].iter().any(bit), ", retried after the short one"),
+            ],
+            CANCELLED => vec![(count > 0, ", retried")],
+            FAILED => vec![
+                (self.otherwise(answer, unlinked), ", after an error of 000's"),
+                (failed.is_some_and(bit), ", retried too"),
+            ],
+            _ => vec![],
+        };
+        met.into_iter().filter(|(met, _)| *met).map(|(_, label)| label).collect()
     }
 }
 
@@ -347,6 +408,7 @@ impl Controller {
         self.endpoints.get(slot)?.as_ref()?.with_raw_mut::<EhciEndpoint, _>(|raw| {
             raw.inflight.as_ref().map(|submitted| Flight {
                 id: submitted.request_id.raw(),
+                kind: KINDS.iter().position(|kind| *kind == raw.transfer_type).unwrap() as u8,
                 places: submitted.qtds.iter().map(place_of).collect(),
                 tokens: submitted.qtds.iter().map(|qtd| qtd.read_cpu().token).collect(),
                 lengths: submitted.chunk_lengths.clone(),
@@ -713,9 +775,23 @@ fn may_end_early(submitted: &SubmittedTransfer) -> bool {
     incoming && submitted._setup_packet.is_none() && submitted.qtds.len() > 1
 }
 
+// Bits of a token. 000 has one name for bits 3 to 6.
+const RETRIED: u32 = 1 << 3;
+const HALTED: u32 = 1 << 6;
+
+/// 02, order 7: an error is this bit alone.
+fn halted(token: QtdToken) -> bool {
+    token.raw() & HALTED != 0
+}
+
+/// A token as 000 must be given it, so that its error is 02's (N27): bits 3 to 5 are taken out where 6 is clear.
+pub(super) fn without_retries(token: QtdToken) -> QtdToken {
+    if halted(token) { token } else { QtdToken(token.raw() & !QtdToken::ERROR_MASK) }
+}
+
 /// Inactive, without error, and with bytes left, whatever was asked for.
 fn is_short(token: QtdToken) -> bool {
-    !token.active() && !token.has_error() && token.total_bytes() > 0
+    !token.active() && !halted(token) && token.total_bytes() > 0
 }
 
 impl Controller {
@@ -840,10 +916,11 @@ impl Controller {
             return Reply::only(ENDPOINT);
         }
         let before = self.flight(slot as usize);
-        let hidden = self.hide_after_short(slot as usize, id);
+        self.hide_after_short(slot as usize, id);
+        self.hide_retries(slot as usize, id);
         let (result, accesses) =
             self.unlinking(slot as usize, command, frame, |handle| handle.reclaim(RequestId::new(id)));
-        self.put_back(slot as usize, &hidden);
+        self.put_back(slot as usize, &before);
         if let Some(flight) = &before
             && !self.busy(slot as usize)
             && !tags::repaired("N20")
@@ -852,7 +929,14 @@ impl Controller {
         }
         let (answer, values) = match result {
             Ok(None) => (PENDING, vec![]),
-            Ok(Some(completion)) => (DONE, vec![completion.actual_length.to_string()]),
+            Ok(Some(completion)) => {
+                // 000 has no count. These are the tokens of its memory, as they were before it looked.
+                let retried = before.as_ref().unwrap().retried();
+                if retried > 0 {
+                    tags::rule("02-retried");
+                }
+                (DONE, vec![completion.actual_length.to_string(), retried.to_string()])
+            }
             Err(TransferError::Other(text)) => match text.0.strip_prefix("EHCI qTD failed token=0x") {
                 Some(token) => (FAILED, vec![format!("{token:0>8}")]),
                 None => (UNNAMED, vec![]),
@@ -861,51 +945,72 @@ impl Controller {
         };
         let unlinks = |flight: &Flight| !flight.unlinking && self.flight(slot as usize).is_some_and(|now| now.unlinking);
         let met = before.as_ref().map_or("", |flight| flight.met(answer, unlinks(flight)));
+        let retries = before.as_ref().filter(|flight| flight.id == id).map_or(vec![], |flight| {
+            if tags::stands("N27") && flight.otherwise(answer, unlinks(flight)) {
+                tags::repaired("N27");
+            }
+            flight.retries_met(answer, unlinks(flight))
+        });
         let given = overlay & QtdToken::DATA_TOGGLE != 0;
         let passed = before.is_some() && !self.busy(slot as usize);
         let other = !passed && given != self.toggle(slot as usize);
         if passed {
             self.toggles[slot as usize] = Toggle { on: given, answer, cleared: false };
         }
-        let also = if other { vec![", another toggle"] } else { vec![] };
-        Reply::new(answer, values, accesses).met(met).also(also)
+        let toggle = other.then_some(", another toggle");
+        Reply::new(answer, values, accesses).met(met).also(toggle.into_iter().chain(retries).collect())
     }
 
     /// N23: while 000 looks at a request that may end early, the descriptors after the first short one are inactive, have
-    /// no error and everything left. Gives their tokens as they were.
+    /// no error and everything left.
     ///
     /// Why this is 02's rule. 000 asks the descriptors in order, and twice.
     /// - Before the unlink it stops at the first active one (not finished) or the first in error (finished); past the last it
-    ///   is finished. Up to the short one nothing is altered: an active one before it is met first, and 000 waits; one in
+    ///   is finished. Up to the short one nothing is altered here: an active one before it is met first, and 000 waits; one in
     ///   error before it is met first, and 000 is finished. If neither is, 000 passes the short one, meets no active one
     ///   behind it, and is finished, which is what the short one says.
     /// - At the collection it does not ask for active ones. It ends in the first error, or adds max(0, requested - left) of
-    ///   each. Up to and with the short one nothing is altered, so an error before it counts, and an active one before it
+    ///   each. Up to and with the short one nothing is altered here, so an error before it counts, and an active one before it
     ///   (written after the unlink began) adds what it says. Behind it no error is met, and each adds 0, because a chunk is
     ///   never longer than 32767 bytes.
     ///
     /// Where none is short, or the last is the first, nothing is altered.
-    fn hide_after_short(&self, slot: usize, id: u64) -> Vec<u32> {
-        let hidden = self.raw(slot, |raw| {
+    fn hide_after_short(&self, slot: usize, id: u64) {
+        self.raw(slot, |raw| {
             let asked = |submitted: &&mut SubmittedTransfer| submitted.request_id.raw() == id && may_end_early(submitted);
             let qtds = &mut raw.inflight.as_mut().filter(asked)?.qtds;
             let first = qtds.iter().position(|qtd| is_short(qtd.read_cpu().token()))?;
             let after = &mut qtds[first + 1..];
-            if after.is_empty() || !tags::repaired("N23") {
-                return None;
+            if !after.is_empty() && tags::repaired("N23") {
+                after.iter_mut().for_each(|qtd| qtd.modify_cpu(|qtd| qtd.token = QtdToken::TOTAL_BYTES_MASK));
             }
-            let tokens = after.iter().map(|qtd| qtd.read_cpu().token).collect();
-            after.iter_mut().for_each(|qtd| qtd.modify_cpu(|qtd| qtd.token = QtdToken::TOTAL_BYTES_MASK));
-            Some(tokens)
+            Some(())
         });
-        hidden.unwrap_or_default()
     }
 
-    /// The last tokens of the slot's request as they were. After a collection there is none.
-    fn put_back(&self, slot: usize, tokens: &[u32]) {
+    /// N27: while 000 looks at a request, bits 3 to 5 are clear in each token whose bit 6 is clear.
+    ///
+    /// Why this is 02's rule. 000 asks a token three things: active (bit 7), the bytes left (bits 16 to 30), and error, which
+    /// is any of bits 3 to 6. The first two do not look at what is altered. The third says, of a token altered so, whether bit
+    /// 6 is set. So 000's order, its sum and its first error stand, with 02's error in the place of 000's. A token with bit
+    /// 6 is not altered, and 000 gives it as it is.
+    fn hide_retries(&self, slot: usize, id: u64) {
+        if !tags::stands("N27") {
+            return;
+        }
         self.raw(slot, |raw| {
-            let Some(submitted) = &mut raw.inflight else { return };
-            for (qtd, token) in submitted.qtds.iter_mut().rev().zip(tokens.iter().rev()) {
+            let Some(submitted) = raw.inflight.as_mut().filter(|submitted| submitted.request_id.raw() == id) else { return };
+            for qtd in &mut submitted.qtds {
+                qtd.modify_cpu(|qtd| qtd.token = without_retries(qtd.token()).raw());
+            }
+        });
+    }
+
+    /// The tokens of the slot's request as they were. After a collection there is none.
+    fn put_back(&self, slot: usize, before: &Option<Flight>) {
+        self.raw(slot, |raw| {
+            let (Some(submitted), Some(flight)) = (&mut raw.inflight, before) else { return };
+            for (qtd, token) in submitted.qtds.iter_mut().zip(&flight.tokens) {
                 qtd.modify_cpu(|qtd| qtd.token = *token);
             }
         });

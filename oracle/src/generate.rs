@@ -52,6 +52,22 @@ impl Draw {
         }
     }
 
+    /// Bits 3 to 6 of a token, one of them at least: retried, the two beside it, halted, mixed.
+    fn status(&mut self) -> u32 {
+        match self.below(8) {
+            0..3 => 8,
+            3 => self.of(&[0x10, 0x20, 0x30]),
+            4 => self.of(&[0x18, 0x28, 0x38]),
+            5 | 6 => 0x40,
+            _ => 0x40 | (self.below(8) as u32) << 3,
+        }
+    }
+
+    /// Bits 3 to 5 alone, or none.
+    fn retried(&mut self) -> u32 {
+        self.of(&[0, 0, 8, 8, 8, 0x10, 0x20, 0x38])
+    }
+
     fn frame(&mut self) -> u64 {
         match self.below(4) {
             0 => self.word(),
@@ -395,12 +411,15 @@ impl Generator {
     /// A token as a controller might leave it, or any word.
     fn token(&mut self, old: u32) -> u64 {
         let left = (self.draw.below(64) as u32) << 16;
-        let token = match self.draw.below(8) {
+        let token = match self.draw.below(10) {
             0 => self.draw.word() as u32,
-            1 => old & !0x80 | 1 << (3 + self.draw.below(4)),
-            2 => old | 1 << (3 + self.draw.below(4)),
+            1 => old & !0x80 | self.draw.status(),
+            2 => old | self.draw.status(),
             3 => old & !0x7fff_0080 | left,
             4 => old & !0x80,
+            // retried, done or with bytes left
+            5 => old & !0x7fff_00f8 | self.draw.retried(),
+            6 => old & !0x7fff_00f8 | self.draw.retried() | left,
             _ => old & !0x7fff_0080,
         };
         token as u64
@@ -436,13 +455,30 @@ impl Generator {
             return self.finish_short(slot, flight);
         }
         let whole = flight.places.len() <= 8 || self.draw.one_in(10);
-        let clean = !self.draw.one_in(4);
+        let (clean, retried) = (!self.draw.one_in(4), self.draw.one_in(3));
         for (place, token) in flight.places.iter().zip(&flight.tokens).take(if whole { 256 } else { 3 }) {
-            let token =
-                if clean { (token & !0x7fff_0080) as u64 | self.draw.below(9) << 16 } else { self.token(*token) };
+            let token = match clean {
+                true if retried => (token & !0x7fff_00f8 | self.draw.retried()) as u64 | self.draw.below(3) << 16,
+                true => (token & !0x7fff_0080) as u64 | self.draw.below(9) << 16,
+                false => self.token(*token),
+            };
             self.plan.push_back(Record::new(call::WRITEBACK, &[], &[*place as u64, token]));
         }
-        self.collection(slot, flight.id, if whole { call::COLLECT } else { call::CANCEL }, None)
+        let late = if retried { self.late(flight) } else { None };
+        self.collection(slot, flight.id, if whole { call::COLLECT } else { call::CANCEL }, late)
+    }
+
+    /// After the unlink one of the descriptors is written once more: active and retried, halted, or retried alone.
+    fn late(&mut self, flight: &Flight) -> Option<Record> {
+        let i = self.draw.below(flight.places.len() as u64) as usize;
+        let done = flight.tokens[i] & !0x7fff_00f8;
+        let token = match self.draw.below(6) {
+            0 => done | 0x80 | self.draw.retried(),
+            1 => done | self.draw.status(),
+            2 => done | self.draw.retried(),
+            _ => return None,
+        };
+        Some(Record::new(call::WRITEBACK, &[], &[flight.places[i] as u64, token as u64]))
     }
 
     /// The same, but one of the descriptors has bytes left: those before it are done, those after it as they were, but for one.
@@ -452,8 +488,13 @@ impl Generator {
         let at = if self.draw.one_in(10) { self.draw.below(count) } else { self.draw.below(count.min(8)) };
         let write = |i: u64, token| Record::new(call::WRITEBACK, &[], &[flight.places[i as usize] as u64, token]);
         let done = |i: u64| (flight.tokens[i as usize] & !0x7fff_00f8) as u64;
-        self.plan.extend((0..at).map(|i| write(i, done(i))));
-        let left = self.left(flight.lengths[at as usize]);
+        let retried = self.draw.one_in(3);
+        let bits = |draw: &mut Draw| if retried { draw.retried() as u64 } else { 0 };
+        for i in 0..at {
+            let bits = bits(&mut self.draw);
+            self.plan.push_back(write(i, done(i) | bits));
+        }
+        let left = self.left(flight.lengths[at as usize]) | bits(&mut self.draw);
         self.plan.push_back(write(at, done(at) | left));
         let after = |draw: &mut Draw| at + 1 + draw.below(count - at - 1);
         if at + 1 < count && self.draw.one_in(3) {
@@ -464,7 +505,7 @@ impl Generator {
         let late = match self.draw.below(6) {
             0 | 1 if at > 0 => {
                 let i = self.draw.below(at);
-                Some(write(i, done(i) | 0x80 | self.left(flight.lengths[i as usize])))
+                Some(write(i, done(i) | 0x80 | self.left(flight.lengths[i as usize]) | bits(&mut self.draw)))
             }
             2 | 3 if at + 1 < count => {
                 let i = after(&mut self.draw);

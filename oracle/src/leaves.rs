@@ -1,6 +1,6 @@
 // 000's leaves: against 01's formulas, over all values where that is cheap, and against what the port's program `leaf_checks`
 // printed of its records.
-use super::controller::{descriptor_words, new_ehci, new_endpoint, setup_of, words_of_head};
+use super::controller::{descriptor_words, new_ehci, new_endpoint, setup_of, without_retries, words_of_head};
 use super::*;
 use crate::regs;
 use usb_if::endpoint::TransferBuffer;
@@ -68,9 +68,11 @@ mod formula {
 }
 
 pub fn run() {
+    let (readings, retried) = token_readers();
     let counts = [
         ("tokens", tokens()),
-        ("readings of a token", token_readers()),
+        ("readings of a token", readings),
+        ("readings of a token with bits 3 to 5 and not 6, which are altered for 000 (N27)", retried),
         ("control plans", plans()),
         ("splits at 20480", splits()),
         ("descriptors", descriptors()),
@@ -84,7 +86,7 @@ pub fn run() {
     for (name, count) in counts {
         println!("{count:>9}  {name}");
     }
-    println!("{:>9}  in all, equal to 01's formulas", counts.iter().map(|(_, count)| count).sum::<u64>());
+    println!("{:>9}  in all, equal to 01's formulas as 02 has them", counts.iter().map(|(_, count)| count).sum::<u64>());
 }
 
 fn tokens() -> u64 {
@@ -101,20 +103,31 @@ fn tokens() -> u64 {
     count
 }
 
-/// Every value of the low 16 bits with a few of the high ones, and the other way round.
-fn token_readers() -> u64 {
-    let mut count = 0;
+/// Every value of the low 16 bits with a few of the high ones, and the other way round. An error is bit 6 (02, order 7); 000
+/// says so of tokens whose bits 3 to 5 are clear or whose bit 6 is set, and of the others once N27 has altered them. These are
+/// counted apart.
+fn token_readers() -> (u64, u64) {
+    let (mut count, mut retried) = (0, 0);
     for half in 0..=0xffffu32 {
         for other in [0, 0x8000, 0x7fff, 0xffff] {
             for raw in [half | other << 16, half << 16 | other] {
                 let token = QtdToken(raw);
-                assert_eq!(token.total_bytes() as u32, raw / 65536 % 32768);
-                assert_eq!((token.active(), token.has_error()), (raw / 128 % 2 == 1, raw / 8 % 16 != 0));
-                count += 1;
+                let expected = (raw / 65536 % 32768, raw / 128 % 2 == 1, raw / 64 % 2 == 1);
+                assert_eq!(token_read(without_retries(token)), expected);
+                assert_eq!(token_read(token) == expected, raw / 8 % 8 == 0 || expected.2);
+                match token_read(token) == expected {
+                    true => count += 1,
+                    false => retried += 1,
+                }
             }
         }
     }
-    count
+    (count, retried)
+}
+
+/// The bytes left, active, error.
+fn token_read(token: QtdToken) -> (u32, bool, bool) {
+    (token.total_bytes() as u32, token.active(), token.has_error())
 }
 
 fn plans() -> u64 {
@@ -267,11 +280,12 @@ pub fn hold(records: &[u8], text: &str) -> bool {
         println!("{} bytes of records, {} lines: a record has {RECORD} bytes and one line", records.len(), lines.len());
         return false;
     }
-    let (mut equal, mut differ, mut alone) = (0, 0, 0);
+    let (mut equal, mut differ, mut alone, mut retried) = (0, 0, 0, 0);
     for (record, line) in records.chunks(RECORD).zip(lines) {
         let number = |i: usize| u64::from_le_bytes(record[8 * i..][..8].try_into().unwrap());
         match said(number(0), [1, 2, 3, 4].map(number)) {
             None => alone += 1,
+            Some(words) if line_of(number(0), &words) == line && altered(number(0), number(1)) => retried += 1,
             Some(words) if line_of(number(0), &words) == line => equal += 1,
             Some(words) => {
                 println!("differs: {line}\n    000: {}", line_of(number(0), &words));
@@ -280,7 +294,14 @@ pub fn hold(records: &[u8], text: &str) -> bool {
         }
     }
     println!("{equal} lines of leaf_checks equal to 000, {differ} differ, {alone} have nothing in 000 to be held to");
-    differ == 0 && equal > 0
+    println!("{retried} are of a token with bits 3 to 5 and not 6, equal to 000 once these are taken out (N27)");
+    differ == 0 && equal + retried > 0
+}
+
+/// A reading of a token that 000 takes for an error and 02, order 7, does not.
+fn altered(function: u64, given: u64) -> bool {
+    let token = QtdToken(given as u32);
+    function == 4 && without_retries(token) != token
 }
 
 fn line_of(function: u64, words: &[u32]) -> String {
@@ -288,7 +309,8 @@ fn line_of(function: u64, words: &[u32]) -> String {
     format!("{function:08x} {words}")
 }
 
-/// What 000's own function says to a record. It has none for the bits of any word (1), a list of writes (17), the places
+/// What 000's own function says to a record; of a token's reading (4) with N27, and bit 3, which 000 does not read (02, order
+/// 7), beside it. It has none for the bits of any word (1), a list of writes (17), the places
 /// of a head's words (19, K1) and a limit of whole packets (20: 02, order 4).
 fn said(function: u64, given: [u64; 4]) -> Option<Vec<u32>> {
     match function {
@@ -316,7 +338,10 @@ fn token_words(function: u64, [a, b, c, d]: [u64; 4]) -> Vec<u32> {
         ]
         .map(QtdToken::raw)
         .to_vec(),
-        4 => vec![token.total_bytes() as u32, token.active() as u32, token.has_error() as u32],
+        4 => {
+            let (left, active, error) = token_read(without_retries(token));
+            vec![left, active as u32, error as u32, token.raw() >> 3 & 1]
+        }
         5 => stages(DIRECTIONS[a as usize], size),
         6 => vec![started(PIDS[a as usize], size, flag, false)],
         _ => {
@@ -450,5 +475,9 @@ mod tests {
         assert_eq!(found.into_iter().collect::<Vec<_>>(), [2, 3, 4, 5, 6, 7, 8, 9, 10, 11, 12, 13, 14, 15, 16, 18]);
         assert!(!hold(&records[RECORD..], &text));
         assert!(!hold(&[], ""));
+        // bits 3 and 5: no error (N27), which 000 itself would say, and bit 3
+        let token: Vec<u8> = [4, 0x0007_0028, 0, 0, 0].iter().flat_map(|number: &u64| number.to_le_bytes()).collect();
+        let line = |error, retried| line_of(4, &[7, 0, error, retried]);
+        assert!(hold(&token, &line(0, 1)) && !hold(&token, &line(1, 1)) && !hold(&token, &line(0, 0)));
     }
 }

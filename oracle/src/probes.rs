@@ -31,6 +31,7 @@ pub fn run() {
     short_reply();
     packets();
     toggle();
+    errors();
     lost_predecessor();
 }
 
@@ -163,6 +164,12 @@ fn toggle() {
         "N26: overlay token {left:08x} before a collection, {collected:08x} after it, {:08x} at the next submit",
         overlay()
     );
+}
+
+/// N27: which of the status bits are an error, alone and beside active.
+fn errors() {
+    let says = |more: u32| (0..8).map(|bit| QtdToken(1 << bit | more).has_error() as u8).collect::<Vec<_>>();
+    println!("N27: error of a token with bit 0, 1, .. 7 alone: {:?}; and active: {:?}", says(0), says(0x80));
 }
 
 /// P1 and Q1: a head that its predecessor does not point to.

@@ -157,6 +157,11 @@ pub fn departures() -> Vec<(&'static str, Calls)> {
     let packet =
         [writeback(0, DONE), collect(0, 1, 0), acknowledge(0x20), drain(), collect_left(0, 1, 0, TOGGLE | DONE)];
     let polled = [endpoint(INTERRUPT, 5, 1, 8), poll(0), cancel(0, 1, 0), collect_left(0, 1, 9, TOGGLE), poll(0)];
+    // a frame of 20000 bytes in two descriptors, a packet of the first retried
+    let frame = with(running(), &[bulk(), submit(0, BULK, 1, 0x1000_0000, 20000), writeback(0, RETRIED | DONE)]);
+    let whole = with(vec![writeback(1, 0x8d00)], &collected);
+    let polled_again =
+        [endpoint(INTERRUPT, 5, 1, 8), poll(0), writeback(0, 0x8d10), collect(0, 1, 0), collect(0, 1, 9)];
     vec![
         ("K1", vec![open(1, 1, 1, 512, 1), bulk()]),
         ("K2", with(rung(), &[bulk(), one(1), cancel(1, 1, 0), acknowledge(0x24), drain(), drain()])),
@@ -196,6 +201,11 @@ pub fn departures() -> Vec<(&'static str, Calls)> {
         ("N25", vec![open(1, 1, 1, 7, 1), bulk_of(7), set_packet(0, 1)]),
         ("N26", with(with(asked(), &packet), &[one(0)])),
         ("N26", with(running(), &polled)),
+        ("N27", with(asked(), &with(vec![writeback(0, RETRIED | 0x8d00)], &collected))),
+        ("N27", with(frame.clone(), &[collect(0, 1, 0)])),
+        ("N27", with(frame.clone(), &whole)),
+        ("N27", with(frame, &with(vec![writeback(1, 0x8d48)], &collected))),
+        ("N27", with(running(), &polled_again)),
         ("C", with(running(), &[bulk(), submit(0, BULK, 1, 0x1000_0000, 16385)])),
         ("C", with(running(), &[bulk(), submit(0, BULK, 1, 0x1000_0fff, 20480)])),
         ("P4", with(unplugged, &scan(&[0, 0]))),
@@ -404,8 +414,10 @@ fn tokens(incoming: u8) -> Vec<Calls> {
     out.extend((0..8).map(|bit| two(0x80, 1 << bit)));
     out.extend((0..8).map(|bit| two(0x0010_0000, 1 << bit)));
     out.extend([two(0x7fff_0000, 0x0005_0000), two(0x0040_0000, 0x0024_0000), two(0x48, 0x08), two(0x0008_0d88, 0)]);
-    let late = [writeback(0, 8), collect(0, 1, 0), writeback(0, 0), writeback(1, 0x80)];
-    out.push(with(with(with(asked(), &late), &answered), &[writeback(0, 1)]));
+    for first in [8, 0x40] {
+        let late = [writeback(0, first), collect(0, 1, 0), writeback(0, 0), writeback(1, 0x80)];
+        out.push(with(with(with(asked(), &late), &answered), &[writeback(0, 1)]));
+    }
     out
 }
 
@@ -425,6 +437,7 @@ fn read_of_three(kind: u8, incoming: u8) -> Calls {
 }
 
 const TOGGLE: u64 = 1 << 31;
+const RETRIED: u64 = 1 << 3;
 const DONE: u64 = 0x0d00;
 const LEFT: u64 = 0x000a_0d00;
 const AGAIN: u64 = 0x000a_0d80;
@@ -566,6 +579,109 @@ fn sizes_set() -> Vec<Calls> {
         }
     }
     vec![calls]
+}
+
+/// The tokens written before the unlink, by their places, and those written after it.
+type Written<'a> = (&'a [(u64, u64)], &'a [(u64, u64)]);
+
+/// Requests of slot 0 in turn, in the lowest places. One that is not finished by what is written is cancelled at last.
+fn lives(kind: u8, incoming: u8, length: u64, replies: &[Written]) -> Calls {
+    let mut calls = with(started(4, 2, 64), &[endpoint(kind, 5, 1, 8)]);
+    let written = |tokens: &[(u64, u64)]| tokens.iter().map(|(at, token)| writeback(*at, *token)).collect::<Calls>();
+    for (turn, (tokens, late)) in replies.iter().enumerate() {
+        let id = turn as u64 + 1;
+        calls.push(submit(0, kind, incoming, 0x1000, length));
+        calls.extend(written(tokens));
+        calls.extend([collect(0, id, 0), collect(0, id, 0)]);
+        calls.extend(written(late));
+        calls.extend([acknowledge(0x20), drain(), collect(0, id, 9), cancel(0, id, 9)]);
+        calls.extend([acknowledge(0x20), drain(), collect(0, id, 18)]);
+    }
+    calls
+}
+
+/// Bits 3 to 5 with 6 clear are no error, and bit 3 is counted (02, order 7).
+fn retries() -> Vec<Calls> {
+    let mut out = Vec::new();
+    // bits 3 to 6 in every mix, at one of three places; the others done, or the last active until a first look
+    for (kind, incoming, length, places) in
+        [(BULK, 1, 150, 0..3), (BULK, 0, 150, 1..2), (INTERRUPT, 1, 150, 1..2), (CONTROL, 1, 40, 0..3)]
+    {
+        for at in places {
+            let done = |mix: u64| [0, 1, 2].map(|place| (place, if place == at { DONE | mix << 3 } else { DONE }));
+            let mixes: Vec<_> = (0..16).map(done).collect();
+            let whole: Vec<Written> = mixes.iter().map(|tokens| (&tokens[..], &[][..])).collect();
+            out.push(lives(kind, incoming, length, &whole));
+            if at == 1 {
+                let parts: Vec<Written> = mixes.iter().map(|tokens| (&tokens[..2], &[(2, DONE)][..])).collect();
+                out.push(lives(kind, incoming, length, &parts));
+            }
+        }
+    }
+    out.push(lives(BULK, 1, 150, &RETRIES));
+    out.push(lives(BULK, 0, 150, &RETRIES));
+    out.push(lives(INTERRUPT, 1, 150, &RETRIES));
+    out.push(lives(CONTROL, 1, 40, &RETRIES));
+    // one descriptor, without data too; a control request without data
+    let one: [Written; 6] = [
+        (&[(0, RETRIED | DONE)], &[]),
+        (&[(0, RETRIED | LEFT)], &[]),
+        (&[(0, RETRIED | HALTED)], &[]),
+        (&[(0, 0x30 | DONE)], &[]),
+        (&[(0, DONE)], &[(0, RETRIED | AGAIN)]),
+        (&[(0, RETRIED | AGAIN)], &[]),
+    ];
+    out.extend([lives(BULK, 1, 64, &one), lives(BULK, 0, 0, &one), lives(INTERRUPT, 1, 8, &one)]);
+    let stages = [(0, RETRIED | DONE), (1, RETRIED | DONE)];
+    out.push(lives(CONTROL, 0, 0, &[(&stages, &[]), (&stages[..1], &[(1, DONE)]), (&stages[1..], &[(0, 0x0d48)])]));
+    // cancelled: no count; before the unlink has begun and after
+    let ended = [acknowledge(0x20), drain(), collect(0, 1, 0)];
+    for calls in [vec![], vec![writeback(1, DONE), writeback(2, DONE), collect(0, 1, 0)]] {
+        let calls = with(with(vec![writeback(0, RETRIED | DONE)], &calls), &[cancel(0, 1, 0)]);
+        out.push(with(with(read_of_three(BULK, 1), &calls), &ended));
+    }
+    out.push(many_retried());
+    out
+}
+
+/// Of three descriptors.
+const RETRIES: [Written; 20] = [
+    // in the middle, all of them, with more than bit 3
+    (&[(0, DONE), (1, RETRIED | DONE), (2, DONE)], &[]),
+    (&[(0, RETRIED | DONE), (1, RETRIED | DONE), (2, RETRIED | DONE)], &[]),
+    (&[(0, 0x18 | DONE), (1, 0x28 | DONE), (2, 0x38 | DONE)], &[]),
+    (&[(0, 0x10 | DONE), (1, 0x20 | DONE), (2, 0x30 | DONE)], &[]),
+    // short: itself, one before it, those after it
+    (&[(0, RETRIED | LEFT)], &[]),
+    (&[(0, DONE), (1, RETRIED | LEFT)], &[]),
+    (&[(0, RETRIED | DONE), (1, LEFT)], &[]),
+    (&[(0, RETRIED | DONE), (1, 0x20 | LEFT), (2, RETRIED | DONE)], &[]),
+    (&[(0, LEFT), (1, RETRIED | DONE), (2, RETRIED | LEFT)], &[]),
+    (&[(0, LEFT), (1, RETRIED | AGAIN)], &[(2, RETRIED | HALTED)]),
+    (&[(0, 0x30 | LEFT), (1, RETRIED | LEFT)], &[]),
+    // active, before the unlink and after it
+    (&[(0, RETRIED | AGAIN), (1, RETRIED | LEFT)], &[(0, RETRIED | DONE)]),
+    (&[(0, DONE), (1, LEFT)], &[(0, RETRIED | AGAIN)]),
+    (&[(0, DONE), (1, DONE), (2, DONE)], &[(0, RETRIED | AGAIN), (2, RETRIED | AGAIN)]),
+    (&[(0, DONE), (1, DONE), (2, DONE)], &[(1, 0x30 | AGAIN)]),
+    // retried after the unlink, and no longer
+    (&[(0, DONE), (1, DONE), (2, DONE)], &[(1, RETRIED | DONE)]),
+    (&[(0, RETRIED | DONE), (1, DONE), (2, DONE)], &[(0, DONE)]),
+    // an error after it, with bit 3 and without; halted once the unlink has begun
+    (&[(0, RETRIED | DONE), (1, HALTED)], &[]),
+    (&[(0, 0x10 | DONE), (1, RETRIED | HALTED), (2, 0x30 | HALTED)], &[]),
+    (&[(0, RETRIED | DONE), (1, RETRIED | DONE), (2, DONE)], &[(2, 0x78 | DONE), (0, 0xb8 | DONE)]),
+];
+
+/// 256 descriptors, in each a packet retried; then a reply that ends at the 200th.
+fn many_retried() -> Calls {
+    let mut calls = with(started(256, 1, 64), &[bulk_of(64)]);
+    for (id, ends) in [(1, DONE), (2, LEFT)] {
+        calls.push(submit(0, BULK, 1, 0x1000, 256 * 64));
+        calls.extend((0..256).map(|i| writeback(i, RETRIED | if i == 199 { ends } else { DONE })));
+        calls.extend([collect(0, id, 0), acknowledge(0x20), drain(), collect(0, id, 0)]);
+    }
+    calls
 }
 
 /// A request without data of a slot of `three`, and its end: 0 done, 10 cancelled, 11 in error. It gets the lowest places.
@@ -744,7 +860,8 @@ fn ports() -> Vec<Calls> {
 /// The scripts of the fixed list: those by hand, then short ones by chance.
 fn fixed() -> Calls {
     let mut calls: Calls = vec![bare(call::START), bulk(), one(0), bare(call::SCAN), power(1), drain(), clear_halt(0)];
-    let requests = [submits(), unlinks(), tokens(1), tokens(0), more_tokens(), short_replies(), packets(), toggles()];
+    let tokens = [tokens(1), tokens(0), more_tokens(), short_replies(), retries()].concat();
+    let requests = [submits(), unlinks(), tokens, packets(), toggles()];
     let by_hand = [openings(), bring_ups(), endpoints(), requests.concat(), interrupts(), ports()];
     let scripts: Vec<Calls> =
         departures().into_iter().map(|(_, calls)| calls).chain(by_hand.into_iter().flatten()).collect();
@@ -818,7 +935,7 @@ fn edges_of(limit: u64, packets: [u64; 2]) -> Calls {
     calls
 }
 
-/// Three descriptors with every mix of seven tokens, once before the unlink and once at the collection, for those requests
+/// Three descriptors with every mix of ten tokens, once before the unlink and once at the collection, for those requests
 /// that may end early and one that may not; then 256 descriptors, short at several places.
 pub fn reply_edges() -> Calls {
     let mut calls = started(256, 2, 64);
@@ -826,9 +943,11 @@ pub fn reply_edges() -> Calls {
     let mut ids = [0, 0];
     let kinds = [(BULK, 0, 1), (INTERRUPT, 1, 1), (BULK, 0, 0)];
     for (kind, slot, incoming) in kinds {
-        for mix in 0..7 * 7 * 7 {
-            let tokens = [0x0040_0d80, AGAIN, DONE, LEFT, 0x0d40, HALTED, 0x000a_0dc0];
-            let mixed = [0, 1, 2].map(|at| writeback(at, tokens[mix / 7usize.pow(at as u32) % 7]));
+        for mix in 0..1000 {
+            let plain = [0x0040_0d80, AGAIN, DONE, LEFT, HALTED, 0x000a_0dc0];
+            let retried = [RETRIED | AGAIN, RETRIED | DONE, 0x38 | LEFT, 0x30 | DONE];
+            let tokens = [&plain[..], &retried].concat();
+            let mixed = [0, 1, 2].map(|at| writeback(at, tokens[mix / 10usize.pow(at as u32) % 10]));
             ids[slot as usize] += 1;
             let id = ids[slot as usize];
             calls.push(submit(slot, kind, incoming, 0x1000, 150));
@@ -842,7 +961,7 @@ pub fn reply_edges() -> Calls {
     for (turn, at) in [0, 1, 63, 64, 127, 254, 255].into_iter().enumerate() {
         let id = ids[1] + 1 + turn as u64;
         calls.push(submit(1, INTERRUPT, 1, 0x1000, 256 * 64));
-        calls.extend((0..at).map(|i| writeback(i, DONE)));
+        calls.extend((0..at).map(|i| writeback(i, DONE | i % 2 * RETRIED)));
         calls.extend([writeback(256, LEFT), writeback(at, LEFT), collect(1, id, 0), collect(1, id, 9)]);
     }
     calls
@@ -865,7 +984,7 @@ pub fn log_of(calls: &[Record]) -> Vec<u8> {
 mod tests {
     use super::*;
 
-    /// Lines of the blocks of some calls, in order, worked out by hand from 02, orders 1, 4 and 6.
+    /// Lines of the blocks of some calls, in order, worked out by hand from 02, orders 1, 4, 6 and 7.
     fn hold(calls: Calls, lines: &[(usize, &[&str])]) {
         let _alone = crate::ALONE.lock().unwrap();
         let blocks = blocks_of(&calls);
@@ -918,7 +1037,7 @@ mod tests {
             ".",
         ];
         let unlinked = ["C 12 12 9", "H 0 0 00200002", "Q 1 0 1 0 1 00000000 00000000 1 1", "W 00 00080071", "."];
-        let collected = ["C 16 12 0 118", "H 1 4 00000001", "Q 1 0 0 0 0 00000000 00000020 4 1", "."];
+        let collected = ["C 16 12 0 118 0", "H 1 4 00000001", "Q 1 0 0 0 0 00000000 00000020 4 1", "."];
         hold(calls, &[(0, &opened), (9, &asked), (12, &unlinked), (16, &collected)]);
     }
 
@@ -930,7 +1049,7 @@ mod tests {
         let again = [writeback(0, 0x003c_0d80), acknowledge(0x20), drain(), collect(0, 1, 0)];
         let waits = ["C 11 12 9", "Q 1 0 0 0 0 00000000 00000000 1 1", "."];
         let unlinked = ["C 13 12 9", "H 0 0 00200002", "Q 1 0 1 0 1 00000000 00000000 1 1", "W 00 00080071", "."];
-        let collected = ["C 17 12 0 58", "H 1 4 00000001", "Q 1 0 0 0 0 00000000 00000020 4 1", "."];
+        let collected = ["C 17 12 0 58 0", "H 1 4 00000001", "Q 1 0 0 0 0 00000000 00000020 4 1", "."];
         let calls = with(with(read_of_three(BULK, 1), &tokens), &again);
         hold(calls, &[(11, &waits), (13, &unlinked), (17, &collected)]);
     }
@@ -960,7 +1079,7 @@ mod tests {
             ".",
         ];
         let waits = ["C 11 12 9", "Q 1 0 0 0 0 00000000 00000000 1 1", "."];
-        let collected = ["C 17 12 0 120", "H 1 4 00000001", "Q 1 0 0 0 0 00000000 00000020 4 1", "."];
+        let collected = ["C 17 12 0 120 0", "H 1 4 00000001", "Q 1 0 0 0 0 00000000 00000020 4 1", "."];
         hold(with(with(read_of_three(BULK, 0), &tokens), &ends), &[(9, &asked), (11, &waits), (17, &collected)]);
     }
 
@@ -1017,7 +1136,7 @@ mod tests {
             "W 00 00080031",
             ".",
         ];
-        let collected = ["C 15 12 0 524", "H 1 4 00000001", "Q 1 0 0 0 0 00000000 00000020 4 1", "."];
+        let collected = ["C 15 12 0 524 0", "H 1 4 00000001", "Q 1 0 0 0 0 00000000 00000020 4 1", "."];
         let set = ["C 16 8 0", "H 1 1 f0642105", "Q 1 0 0 0 0 00000000 00000020 4 1", "."];
         let again = [
             "C 17 9 0 2",
@@ -1057,7 +1176,7 @@ mod tests {
         let third = [collect_left(0, 2, 0, 0xffff_ffff), clear_halt(0), submit(0, BULK, 0, 0x1000, 512)];
         let parts = ["P 0 00000001 00000001 06008d80", "P 0 00000001 00000001 02008c80"];
         let parts = parts.map(|words| format!("{words} 00001000 00000000 {ZEROS}"));
-        let collected = ["C 14 12 0 1536", "H 1 4 00000001", "Q 1 0 0 0 0 00000000 00000020 4 1", "."];
+        let collected = ["C 14 12 0 1536 0", "H 1 4 00000001", "Q 1 0 0 0 0 00000000 00000020 4 1", "."];
         let again = [
             "C 15 9 0 2",
             &parts[0],
@@ -1110,6 +1229,54 @@ mod tests {
             }
         }
         assert_eq!(seen.join(" "), "0 80000000 0 0 0 0 3 0 80000000 4 80000000 0 0 0 0 3");
+    }
+
+    /// 150 bytes at limit 64 are 64, 64 and 22. A packet of the first was retried and the others are active: not finished, and
+    /// the token stays as the controller wrote it. The others done, one of them with bits 4 and 5: finished, 150 bytes, one
+    /// retried. The same with bit 6 beside bit 3 in the last: failed with that token, and no count.
+    #[test]
+    fn a_retried_packet_is_no_failure() {
+        let tokens =
+            [writeback(0, 0x0d08), collect(0, 1, 0), writeback(1, 0x0d30), writeback(2, 0x8d00), collect(0, 1, 0)];
+        let again = [submit(0, BULK, 1, 0x1000, 150), writeback(0, 0x0d08), writeback(1, 0x0d30), writeback(2, 0x8d48)];
+        let ended = |id| [acknowledge(0x20), drain(), collect(0, id, 0)];
+        let first = with(with(read_of_three(BULK, 1), &tokens), &ended(1));
+        let second = with(with(again.to_vec(), &[collect(0, 2, 0)]), &ended(2));
+        let written = format!("P 0 00100040 00100100 00000d08 00001000 00000000 {ZEROS}");
+        let retried = ["C 10 10 0", &written, "Q 1 0 0 0 0 00000000 00000000 1 1", "."];
+        let waits = ["C 11 12 9", "Q 1 0 0 0 0 00000000 00000000 1 1", "."];
+        let unlinked = ["C 14 12 9", "H 0 0 00200002", "Q 1 0 1 0 1 00000000 00000000 1 1", "W 00 00080071", "."];
+        let collected = ["C 17 12 0 150 1", "H 1 4 00000001", "Q 1 0 0 0 0 00000000 00000020 4 1", "."];
+        let failed = ["C 25 12 11 00008d48", "H 1 4 00000001", "Q 1 0 0 0 0 00000000 00000020 4 1", "."];
+        let blocks: [(usize, &[&str]); 5] =
+            [(10, &retried), (11, &waits), (14, &unlinked), (17, &collected), (25, &failed)];
+        hold(with(first, &second), &blocks);
+    }
+
+    /// What the collections answer that pass: two retried; a short one retried, 64 - 10; one after the short one, which is not
+    /// read, 64 + 54; bits 4 and 5; an error behind a retried one, with bit 3 itself; a retried one that is active again with 10
+    /// left, 54 + 54; one that is not finished, cancelled. Then a control request whose setup and status stages were retried, of
+    /// 40 bytes 10 left.
+    #[test]
+    fn what_is_counted_as_retried() {
+        let _alone = crate::ALONE.lock().unwrap();
+        let bulks: [Written; 7] = [
+            (&[(0, 0x0d08), (1, 0x0d08), (2, 0x0d00)], &[]),
+            (&[(0, 0x000a_0d08)], &[]),
+            (&[(0, 0x0d00), (1, 0x000a_0d00)], &[(2, 0x08)]),
+            (&[(0, 0x0d10), (1, 0x0d20), (2, 0x0d30)], &[]),
+            (&[(0, 0x0d08), (1, 0x000a_0d48)], &[]),
+            (&[(0, 0x0d08), (1, 0x000a_0d00)], &[(0, 0x000a_0d88)]),
+            (&[(0, 0x0d08)], &[]),
+        ];
+        let control: [Written; 1] = [(&[(0, 0x0e08), (1, 0x000a_0d00), (2, 0x0c08)], &[])];
+        let calls = with(lives(BULK, 1, 150, &bulks), &lives(CONTROL, 1, 40, &control));
+        let passed = |(record, block): (&Record, String)| {
+            let words: Vec<&str> = block.lines().next().unwrap().split(' ').skip(3).collect();
+            (record.number == call::COLLECT && words[0] != "9").then(|| words.join(" "))
+        };
+        let answers: Vec<String> = calls.iter().zip(blocks_of(&calls)).filter_map(passed).collect();
+        assert_eq!(answers.join(", "), "0 150 2, 0 54 1, 0 118 0, 0 150 0, 11 000a0d48, 0 108 1, 10, 0 30 2");
     }
 
     /// An overlay token has 32 bits; clear-halt has a slot and nothing else; there is no call after it.

@@ -14,7 +14,7 @@ pub enum Sort {
 
 use Sort::{Departure, Outside, Rule};
 
-pub const TAGS: [(&str, Sort, &str); 37] = [
+pub const TAGS: [(&str, Sort, &str); 39] = [
     ("K1", Departure, "a head's overlay stands at byte 32: its words are read by name"),
     ("K2", Departure, "an advance counted again after a port change: not counted, ring dropped"),
     ("K3", Departure, "an advance counted that was acknowledged before the ring: not counted, ring dropped"),
@@ -37,6 +37,7 @@ pub const TAGS: [(&str, Sort, &str); 37] = [
     ("N23", Departure, "a short reply waits for the descriptors after it: they are hidden while 000 looks"),
     ("N24", Departure, "a chunk may end inside a packet: the working limit is taken for the limit"),
     ("N26", Departure, "the overlay token restarts at 0: the toggle that the last collect was given is put into it"),
+    ("N27", Departure, "any of bits 3 to 6 is an error: 3 to 5 are taken out while 000 looks, where 6 is clear"),
     ("C", Departure, "more than one chunk at a limit other than 20480: the split is replaced"),
     ("P4", Departure, "an unplugged port is Uninit with its first reading: shown with the second"),
     ("N11", Outside, "a buffer past 2^32, or a control request above 16384 bytes: refused"),
@@ -52,6 +53,7 @@ pub const TAGS: [(&str, Sort, &str); 37] = [
     ("01-restart", Rule, "a start over one already begun, or an opening over it"),
     ("01-port", Rule, "a port that is not there"),
     ("02-halt", Rule, "clear-halt on an open slot"),
+    ("02-retried", Rule, "how many descriptors have bit 3, where that is not 0"),
 ];
 
 struct Met {

@@ -1,4 +1,4 @@
-"""A model of the controller, written from document 01 as 02's orders 1, 4 and 6 read it (and docs/DECISIONS.md where these are silent),
+"""A model of the controller, written from document 01 as 02's orders 1, 4, 6 and 7 read it (and docs/DECISIONS.md where these are silent),
 not from the code.
 
 A module a subject, each of them using only those above it:

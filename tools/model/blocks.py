@@ -16,7 +16,8 @@ READS_NEXT = (START, STEP, SCAN, SCAN_STEP, POWER)
 def values_shown(number, answer):
     """The register to read next in two hexadecimal digits, `-` for none; a token in eight; the rest decimal."""
     if answer.number == FAILED:
-        return [f"{answer.values[0]:08x}"]
+        token, *rest = answer.values
+        return [f"{token:08x}", *map(str, rest)]
     if number in READS_NEXT and answer.values:
         register, *rest = answer.values
         return ["-" if register is None else f"{register:02x}", *map(str, rest)]

@@ -1,4 +1,4 @@
-"""01, "Unlinking and collecting", and 02, orders 1 (EHCI 4.10), 4 and 6 (EHCI 4.10.2): cancel and collect."""
+"""01, "Unlinking and collecting", and 02, orders 1 (EHCI 4.10), 4, 6 (EHCI 4.10.2) and 7 (EHCI 3.5.3): cancel and collect."""
 
 from typing import NamedTuple
 
@@ -6,15 +6,17 @@ from model.answers import CANCELLED, DONE, ENDPOINT, FAILED, INVALID, PENDING, A
 from model.descriptors import CURRENT, RESTING
 from model.schedule import boundary_passed, unlink
 from model.state import IDLE, LINKED, MOST_SLOTS
-from model.tokens import active, bytes_left, data_bytes, has_error, may_end_short, toggle_of
+from model.tokens import active, bytes_left, data_bytes, has_error, may_end_short, retried, toggle_of
 
 
 class Seen(NamedTuple):
-    """What a request's descriptors show: whether it is finished; of those that are read the first erring token (0 if none errs), the length."""
+    """What a request's descriptors show: whether it is finished; of those that are read the first erring token (0 if none errs), the length,
+    and how many were retried."""
 
     finished: bool
     failed: int
     length: int
+    retried: int
 
 
 def ended_short(token):
@@ -55,11 +57,16 @@ def moved(slot, limit, tokens):
     return sum(max(0, size - bytes_left(token)) for size, token in zip(requested, tokens))
 
 
+def how_many_retried(tokens):
+    """02, order 7: setup and status included, active or not."""
+    return sum(retried(token) for token in tokens)
+
+
 def see(state, rows, k):
     slot, tokens = state.slots[k], [rows.pool[place].token for place in state.places_of(k)]
     may_be_short = may_end_short(slot.kind, slot.direction)
     read = up_to_short(tokens) if may_be_short else tokens
-    return Seen(finished(tokens, may_be_short), first_erring(read), moved(slot, state.limit_of(slot), read))
+    return Seen(finished(tokens, may_be_short), first_erring(read), moved(slot, state.limit_of(slot), read), how_many_retried(read))
 
 
 def check_uncrowded(state, k):
@@ -98,7 +105,8 @@ def collect(state, rows, k, id, command, frame, overlay):
 
 
 def gather(state, rows, k, seen, overlay):
-    """Passed: the toggle kept, descriptors freed, current 0, overlay terminated; Cancelled, else Failed, else complete."""
+    """Passed: the toggle kept, descriptors freed, current 0, overlay terminated; Cancelled, else Failed, else complete: the length,
+    and always how many were retried."""
     slot = state.slots[k]
     cancelled = slot.cancel
     slot.toggle = toggle_of(overlay)
@@ -110,4 +118,4 @@ def gather(state, rows, k, seen, overlay):
         return Answer(CANCELLED)
     if seen.failed:
         return Answer(FAILED, (seen.failed,))
-    return Answer(DONE, (seen.length,))
+    return Answer(DONE, (seen.length, seen.retried))

@@ -19,8 +19,13 @@ def active(word):
 
 
 def has_error(word):
-    """Any of bits 3 to 6."""
-    return field(word, 3, 4) != 0
+    """02, order 7: bit 6, Halted, alone: with it clear, bits 3 to 5 are no error."""
+    return field(word, 6, 1) == 1
+
+
+def retried(word):
+    """02, order 7: bit 3, a transaction error; without bit 6 a retry of that packet went through."""
+    return field(word, 3, 1) == 1
 
 
 def bytes_left(word):

@@ -26,7 +26,7 @@ givenNumber G.Nothing = 0
 givenNumber (G.Slot k) = k
 givenNumber (G.Address a) = a
 givenNumber (G.Id id) = id
-givenNumber (G.Length n) = n
+givenNumber (G.Length n retried) = n
 givenNumber G.No = 0
 givenNumber G.Yes = 1
 givenNumber (G.Event e) = eventNumber e
@@ -40,20 +40,20 @@ valueOf Cancelled = 0
 valueOf (Failed token) = token
 valueOf (Refused r) = 0
 
--- the milliseconds before a register is read
-abbrev pub givenWait : Given → ℕ
-givenWait G.Nothing = 0
-givenWait (G.Slot k) = 0
-givenWait (G.Address a) = 0
-givenWait (G.Id id) = 0
-givenWait (G.Length n) = 0
-givenWait G.No = 0
-givenWait G.Yes = 0
-givenWait (G.Event e) = 0
-givenWait (G.Next read wait) = wait
+-- and besides: the milliseconds before a register is read, the descriptors that were retried
+abbrev pub givenOther : Given → ℕ
+givenOther G.Nothing = 0
+givenOther (G.Slot k) = 0
+givenOther (G.Address a) = 0
+givenOther (G.Id id) = 0
+givenOther (G.Length n retried) = retried
+givenOther G.No = 0
+givenOther G.Yes = 0
+givenOther (G.Event e) = 0
+givenOther (G.Next read wait) = wait
 
 abbrev pub otherOf : Answered → ℕ
-otherOf (Done given) = givenWait given
+otherOf (Done given) = givenOther given
 otherOf Pending = 0
 otherOf Cancelled = 0
 otherOf (Failed token) = 0

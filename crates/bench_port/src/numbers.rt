@@ -1,6 +1,6 @@
 // What an exported call answers, in numbers.
 ghost use mathlib.Core.Path.{_≡_};
-ghost use Rattle.bench_port.specs.Numbers.{registerNumber, givenNumber, valueOf, givenWait, otherOf, offsetsOf, valuesOf, packOf};
+ghost use Rattle.bench_port.specs.Numbers.{registerNumber, givenNumber, valueOf, givenOther, otherOf, offsetsOf, valuesOf, packOf};
 use common::reads::NextRead;
 use ehci::reply::Answered;
 use ehci::reply::Given;
@@ -13,8 +13,8 @@ use words::core::Rest;
 // Beyond every register's offset.
 pub const NO_REGISTER: u64 = 0x1_0000_0000;
 
-// `value` is what goes with the number, 0 where nothing does; of bring-up it is the register to read next, and `other` is the
-// wait before it.
+// `value` is what goes with the number, 0 where nothing does; `other` is what goes with it besides. Of bring-up they are the register to read
+// next and the wait before it, of a complete collect the length and how many descriptors were retried.
 #[repr(C)]
 pub struct Replied {
     pub rest: Rest,
@@ -43,7 +43,7 @@ fn given_number(given: Given) -> u64
         Given::Slot(slot) => slot as u64,
         Given::Address(address) => address as u64,
         Given::Id(id) => id,
-        Given::Length(length) => length,
+        Given::Length(length, _) => length,
         Given::No => 0,
         Given::Yes => 1,
         Given::Event(event) => event_number(event),
@@ -63,15 +63,15 @@ fn value_of(answer: Answered) -> u64
     }
 }
 
-fn given_wait(given: Given) -> u64
-    ensures { λ r. ⌜ r ≡ givenWait given ⌝ }
+fn given_other(given: Given) -> u64
+    ensures { λ r. ⌜ r ≡ givenOther given ⌝ }
 {
     match given {
         Given::Nothing => 0,
         Given::Slot(_) => 0,
         Given::Address(_) => 0,
         Given::Id(_) => 0,
-        Given::Length(_) => 0,
+        Given::Length(_, retried) => retried as u64,
         Given::No => 0,
         Given::Yes => 0,
         Given::Event(_) => 0,
@@ -83,7 +83,7 @@ fn other_of(answer: Answered) -> u64
     ensures { λ r. ⌜ r ≡ otherOf answer ⌝ }
 {
     match answer {
-        Answered::Done(given) => given_wait(given),
+        Answered::Done(given) => given_other(given),
         Answered::Pending => 0,
         Answered::Cancelled => 0,
         Answered::Failed(_) => 0,

@@ -69,9 +69,9 @@ fn event_value(event: Event) -> u64
     }
 }
 
-// The event and its value, of a drain.
-fn event_line(n: u64, call: u8, event: u64, value: u64) -> Line
-    ensures { λ r. ⌜ lineBytes r ≡ callLine n call 0 (decimal event ∷ decimal value ∷ []) ⌝ }
+// Two numbers with 0: the event and its value, of a drain; the length and how many were retried, of a collect.
+fn line_with_two(n: u64, call: u8, first: u64, second: u64) -> Line
+    ensures { λ r. ⌜ lineBytes r ≡ callLine n call 0 (decimal first ∷ decimal second ∷ []) ⌝ }
 {
     let mut cells = [Cell { part: Part::Dash }; 14];
     cells[0] = Cell {
@@ -84,10 +84,10 @@ fn event_line(n: u64, call: u8, event: u64, value: u64) -> Line
         part: Part::Decimal(0),
     };
     cells[3] = Cell {
-        part: Part::Decimal(event),
+        part: Part::Decimal(first),
     };
     cells[4] = Cell {
-        part: Part::Decimal(value),
+        part: Part::Decimal(second),
     };
     Line {
         letter: b'C',
@@ -144,10 +144,10 @@ fn given_line(n: u64, call: u8, given: Given) -> Line
         Given::Slot(slot) => line_with(n, call, 0, Part::Decimal(slot as u64)),
         Given::Address(address) => line_with(n, call, 0, Part::Decimal(address as u64)),
         Given::Id(id) => line_with(n, call, 0, Part::Decimal(id)),
-        Given::Length(length) => line_with(n, call, 0, Part::Decimal(length)),
+        Given::Length(length, retried) => line_with_two(n, call, length, retried as u64),
         Given::No => line_with(n, call, 0, Part::Decimal(0)),
         Given::Yes => line_with(n, call, 0, Part::Decimal(1)),
-        Given::Event(event) => event_line(n, call, event_number(event), event_value(event)),
+        Given::Event(event) => line_with_two(n, call, event_number(event), event_value(event)),
         Given::Next(read, wait) => step_line(n, call, register_part(read), wait, 0, 0),
     }
 }

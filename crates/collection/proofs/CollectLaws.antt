@@ -8,7 +8,7 @@ use native.Mathlib.Decide.{ℕ-discrete as decEq}
 use native.Mathlib.Omega.{arith}
 use lib.Dec.{eqb}
 use lib.ListN.{getD, length, take}
-use Rattle.pool.specs.Chains.{Seen, firstError, lengthOf, viewOf}
+use Rattle.pool.specs.Chains.{Seen, firstError, lengthOf, retriedOf, viewOf}
 use Rattle.pool.specs.Places.{clearOf, placesFrom}
 use Rattle.pool.specs.declared.chain.View.{View}
 use Rattle.pool.proofs.PlaceLaws.{clear-none, clear-others, places-none}
@@ -107,6 +107,13 @@ lengthIn Cancelled = 0
 lengthIn (Failed t) = 0
 lengthIn (Refused r) = 0
 
+abbrev retriedIn : Collected → ℕ
+retriedIn (Complete c) = c .retried
+retriedIn Pending = 0
+retriedIn Cancelled = 0
+retriedIn (Failed t) = 0
+retriedIn (Refused r) = 0
+
 abbrev tokenIn : Collected → ℕ
 tokenIn (Complete c) = 0
 tokenIn Pending = 0
@@ -115,7 +122,7 @@ tokenIn (Failed t) = t
 tokenIn (Refused r) = 0
 
 module _ (cancelled : Bool) (seen : List Seen) where
-  outcome-split : (P : Collected → Type 0) → P Cancelled → P (Failed (firstError seen)) → P (Complete (record { length = lengthOf seen }))
+  outcome-split : (P : Collected → Type 0) → P Cancelled → P (Failed (firstError seen)) → P (Complete (record { length = lengthOf seen; retried = retriedOf seen }))
       → P (outcomeOf cancelled (viewOf seen))
   unfolding outcomeOf viewOf
   outcome-split P c f d = by cancelled refl (eqb (firstError seen) 0) refl
@@ -129,6 +136,11 @@ module _ (cancelled : Bool) (seen : List Seen) where
   pub complete-length : (c : Completion) → outcomeOf cancelled (viewOf seen) ≡ Complete c → c .length ≡ lengthOf seen
   complete-length c = outcome-split (λ (x : Collected). x ≡ Complete c → c .length ≡ lengthOf seen) (λ e. absurd (omega (arith, ap collectedNumber e)))
       (λ e. absurd (omega (arith, ap collectedNumber e))) (λ e. sym (ap lengthIn e))
+
+  -- and the count that of the tokens that say so
+  pub complete-retried : (c : Completion) → outcomeOf cancelled (viewOf seen) ≡ Complete c → c .retried ≡ retriedOf seen
+  complete-retried c = outcome-split (λ (x : Collected). x ≡ Complete c → c .retried ≡ retriedOf seen) (λ e. absurd (omega (arith, ap collectedNumber e)))
+      (λ e. absurd (omega (arith, ap collectedNumber e))) (λ e. sym (ap retriedIn e))
 
   -- failed: the token is the first erring one
   pub failed-token : (t : ℕ) → outcomeOf cancelled (viewOf seen) ≡ Failed t → t ≡ firstError seen

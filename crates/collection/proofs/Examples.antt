@@ -4,7 +4,7 @@ use mathlib.Core.Bool.{true, false}
 use mathlib.Core.List.{[], _∷_, map}
 use Rattle.register.specs.Bits.{withoutBits}
 use Rattle.register.specs.Writes.{andThen, noWrites}
-use Rattle.pool.specs.Chains.{Seen, firstError, lengthOf, readOf, seenFrom, standingOf, viewOf}
+use Rattle.pool.specs.Chains.{Seen, firstError, lengthOf, readOf, retriedOf, seenFrom, standingOf, viewOf}
 use Rattle.pool.specs.Places.{clearOf, listOf, packed, placesFrom}
 use Rattle.pool.specs.Transfers.{requestedAt}
 use Rattle.settings.specs.Settings.{settingsGood, numbersGood, eachGood, noOverlap, areaGood, apartAreas}
@@ -146,12 +146,12 @@ cut-chunks = refl
 
 -- the first full, 88 bytes left in the second: 512 + 400; by the limit alone 1000
 cut-second : viewLeft cutRequest 0 88 ≡ seen 0 0 912
-unfolding askOf askable requestAsk endpointAt decoded slotAt placesFrom packed listOf requestedAt seenFrom readOf viewOf standingOf firstError lengthOf
+unfolding askOf askable requestAsk endpointAt decoded slotAt placesFrom packed listOf requestedAt seenFrom readOf viewOf standingOf firstError lengthOf retriedOf
 cut-second = refl
 
 -- 100 bytes left in the first: 412, and the second is not read; by the limit alone 900
 cut-first : viewLeft cutRequest 100 88 ≡ seen 0 0 412
-unfolding askOf askable requestAsk endpointAt decoded slotAt placesFrom packed listOf requestedAt seenFrom readOf viewOf standingOf firstError lengthOf
+unfolding askOf askable requestAsk endpointAt decoded slotAt placesFrom packed listOf requestedAt seenFrom readOf viewOf standingOf firstError lengthOf retriedOf
 cut-first = refl
 
 pub collect-cut-second : collectRow (collected cutRequest 0 (viewLeft cutRequest 0 88) 0 1) ≡ 0 ∷ 912 ∷ 0 ∷ 0x200082 ∷ 1 ∷ 1 ∷ 0 ∷ 0 ∷ 0 ∷ 0 ∷ []

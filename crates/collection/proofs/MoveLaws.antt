@@ -9,7 +9,7 @@ use Rattle.register.specs.Writes.{noWrites}
 use Rattle.register.specs.declared.writes.Writes.{Writes}
 use Rattle.common.specs.declared.kinds.EndpointType.{EndpointType}
 use Rattle.common.specs.declared.kinds.EndpointType.the-variants.{Control, Isochronous, Bulk, Interrupt}
-use Rattle.pool.specs.Chains.{Seen, firstError, lengthOf, viewOf}
+use Rattle.pool.specs.Chains.{Seen, firstError, lengthOf, retriedOf, viewOf}
 use Rattle.pool.specs.declared.chain.View.{View}
 use Rattle.state.specs.Plain.{Ehci}
 use Rattle.state.specs.Slots.{withSlot}
@@ -29,7 +29,7 @@ use Rattle.collection.specs.declared.collected.Collected.the-variants.{C
 use Rattle.collection.specs.declared.collected.Completion.{Completion}
 use Rattle.collection.specs.Unlinks.{Left, boundedOf, unlinkOf, waitingOf}
 use Rattle.collection.specs.Calls.{Gathered, cancelOf, collectOf, finishOf, keeping, marked, pendingLeft}
-use Rattle.collection.proofs.CollectLaws.{complete-length, failed-token}
+use Rattle.collection.proofs.CollectLaws.{complete-length, complete-retried, failed-token}
 use Rattle.collection.proofs.FreedLaws.{freed-length}
 use Rattle.collection.proofs.Splits.{cancel-split, collect-split, unlink-split}
 
@@ -140,6 +140,16 @@ module _ (s : Ehci) (pool : ℕ) (h f : List ℕ) (setups : ℕ) (rd : Readings)
       (λ p r ok e u i n. pendings (λ (a : Collected). a ≡ Complete c → c .length ≡ lengthOf seen) s h f rd k p r (λ q. absurd (pending-complete c q))
       (λ x q. absurd (refused-complete x c q)))
       (λ p r u ok e i t. complete-length (r .cancelled) seen c)
+
+  -- and the count that of those that were retried
+  pub collect-retried : (seen : List Seen) (c : Completion) → collectOf s pool h f setups rd (viewOf seen) k id .came .answer ≡ Complete c → c .retried ≡ retriedOf seen
+  unfolding finishOf
+  collect-retried seen c =
+      collect-split s pool h f setups rd k id (viewOf seen) (λ (g : Gathered). g .came .answer ≡ Complete c → c .retried ≡ retriedOf seen)
+      (λ x e. absurd (refused-complete x c e)) (λ e. absurd (pending-complete c e))
+      (λ p r ok e u i n. pendings (λ (a : Collected). a ≡ Complete c → c .retried ≡ retriedOf seen) s h f rd k p r (λ q. absurd (pending-complete c q))
+      (λ x q. absurd (refused-complete x c q)))
+      (λ p r u ok e i t. complete-retried (r .cancelled) seen c)
 
   -- failed: the token is the first erring one that was seen
   pub collect-token : (seen : List Seen) (t : ℕ) → collectOf s pool h f setups rd (viewOf seen) k id .came .answer ≡ Failed t → t ≡ firstError seen

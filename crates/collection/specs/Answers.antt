@@ -34,11 +34,12 @@ abbrev pub pendingOf : Answer → Collected
 pendingOf Done = Pending
 pendingOf (RefusedCall r) = Refused r
 
--- "Cancelled if cancelled; else Failed with the first erring token; else the sum .."
+-- "Cancelled if cancelled; else Failed with the first erring token; else the sum .."; 02 order 7: "a complete answer also gives how many" were
+-- retried
 unfoldable pub outcomeOf : Bool → View → Collected
 outcomeOf cancelled view =
     cond cancelled Cancelled
-    (cond (eqb (view .failed) 0) (Complete (record { length = view .moved })) (Failed (view .failed)))
+    (cond (eqb (view .failed) 0) (Complete (record { length = view .moved; retried = view .retried })) (Failed (view .failed)))
 
 -- a refusal, and a request that waits: the state as it was, no write
 abbrev pub refusedCancel : Ehci → Refusal → Cancellation

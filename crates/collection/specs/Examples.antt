@@ -81,7 +81,7 @@ abbrev pub readings : ℕ → Readings
 readings frame = reading frame 0
 
 abbrev pub seen : ℕ → ℕ → ℕ → View
-seen stage failed moved = record { stage = stage; failed = failed; moved = moved }
+seen stage failed moved = record { stage = stage; failed = failed; moved = moved; retried = 0 }
 
 abbrev pub cancelled : Ehci → ℕ → ℕ → Left
 cancelled s slot id = cancelOf s 5 ringOfOne noFrames 16 (readings 0) slot id

@@ -5,9 +5,10 @@ use common::answer::Answer;
 use common::answer::Refusal;
 use pool::chain::View;
 
-// What a request that is complete gives: how many bytes were moved.
+// What a request that is complete gives: how many bytes were moved, and how many of its descriptors went through only in a retry.
 pub struct Completion {
     pub length: u64,
+    pub retried: u16,
 }
 
 pub enum Collected {
@@ -53,5 +54,8 @@ pub fn outcome_of(cancelled: bool, view: View) -> Collected
     if failed != 0 {
         return Collected::Failed(failed);
     }
-    Collected::Complete(Completion { length: view.moved })
+    Collected::Complete(Completion {
+        length: view.moved,
+        retried: view.retried,
+    })
 }

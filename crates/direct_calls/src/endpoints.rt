@@ -1,4 +1,4 @@
-// The calls on endpoints. The next address is of the core alone, clear halt is lent the slots, each of the others the slots and the heads.
+// The calls on endpoints. The next address is of the core alone, clear-halt is lent the slots, each of the others the slots and the heads.
 ghost use mathlib.Core.Path.{_≡_};
 ghost use Rattle.controller.specs.Address.{allotOf};
 ghost use Rattle.controller.specs.Words.{allottedView};
@@ -58,7 +58,7 @@ pub fn open_endpoint(
     endpoint::calls::open_endpoint(core, slots, heads, kind, address, number, packet)
 }
 
-// What close, set address, set packet size and clear halt leave of what is not in its ranges.
+// What close, set address, set packet size and clear-halt leave of what is not in its ranges.
 fn refuse(rest: Rest) -> Change
     ensures { λ r. ⌜ r ≡ refusedChange rest ⌝ }
 {

@@ -255,7 +255,7 @@ module _ (s : Ehci) (hs fs us : List ℕ) where
     outcome-given true v = refl
     outcome-given false v = by (eqb (v .failed) 0)
       where
-        by : (b : Bool) → isRefused (collectedAnswer (cond b (Complete (record { length = v .moved })) (FailedCollect (v .failed)))) ≡ false
+        by : (b : Bool) → isRefused (collectedAnswer (cond b (Complete (record { length = v .moved; retried = v .retried })) (FailedCollect (v .failed)))) ≡ false
         by true = refl
         by false = refl
 

@@ -66,7 +66,7 @@ givenValues G.Nothing = []
 givenValues (G.Slot k) = k ∷ []
 givenValues (G.Address a) = a ∷ []
 givenValues (G.Id id) = id ∷ []
-givenValues (G.Length n) = n ∷ []
+givenValues (G.Length n retried) = n ∷ retried ∷ []
 givenValues G.No = 0 ∷ []
 givenValues G.Yes = 1 ∷ []
 givenValues (G.Event e) = eventNumber e ∷ eventValue e ∷ []
@@ -108,7 +108,7 @@ submittedAnswer (S.Accepted id) = Done (G.Id id)
 submittedAnswer (S.Refused r) = Refused r
 
 abbrev pub collectedAnswer : Collected → Answered
-collectedAnswer (C.Complete done) = Done (G.Length (done .length))
+collectedAnswer (C.Complete done) = Done (G.Length (done .length) (done .retried))
 collectedAnswer C.Pending = Pending
 collectedAnswer C.Cancelled = Cancelled
 collectedAnswer (C.Failed token) = Failed token

@@ -37,7 +37,8 @@ pub enum Given {
     Slot(u8),
     Address(u8),
     Id(u64),
-    Length(u64),
+    // The bytes that were moved, and how many descriptors were retried.
+    Length(u64, u16),
     No,
     Yes,
     Event(Event),
@@ -131,7 +132,7 @@ pub fn collected_answer(answer: Collected) -> Answered
     ensures { λ r. ⌜ r ≡ collectedAnswer answer ⌝ }
 {
     match answer {
-        Collected::Complete(done) => Answered::Done(Given::Length(done.length)),
+        Collected::Complete(done) => Answered::Done(Given::Length(done.length, done.retried)),
         Collected::Pending => Answered::Pending,
         Collected::Cancelled => Answered::Cancelled,
         Collected::Failed(token) => Answered::Failed(token),

@@ -62,6 +62,7 @@ fn read(token: QtdToken) {
     word(token.total_bytes());
     flag(token.active());
     flag(token.has_error());
+    flag(token.retried());
 }
 
 // Nothing is printed of a data stage that is absent.

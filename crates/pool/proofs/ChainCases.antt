@@ -13,10 +13,10 @@ use Rattle.token.specs.EhciQtd.{totalBytes}
 use Rattle.token.specs.Tokens.{onlyIf}
 use Rattle.pool.specs.declared.chain.View.{View}
 use Rattle.pool.specs.Transfers.{requestedAt}
-use Rattle.pool.specs.Chains.{firstError, isActive, isErring, isShort, lengthOf, numberIf, orElse, seeOf, standingOf, viewOf}
+use Rattle.pool.specs.Chains.{firstError, isActive, isErring, isRetried, isShort, lengthOf, numberIf, orElse, retriedOf, seeOf, standingOf, viewOf}
 
-pub seen-none : record { stage = 0; failed = 0; moved = 0 } ≡ viewOf []
-unfolding viewOf standingOf firstError lengthOf
+pub seen-none : record { stage = 0; failed = 0; moved = 0; retried = 0 } ≡ viewOf []
+unfolding viewOf standingOf firstError lengthOf retriedOf
 seen-none = refl
 
 pub was-set : (a b : ℕ) → (a ≡ 0 → ⊥) → a ≡ orElse a b
@@ -39,6 +39,20 @@ module _ (a w : ℕ) (z : a ≡ 0) where
 
   pub failed-not : (b : Bool) → b ≡ isErring w → b ≡ false → 0 ≡ orElse a (numberIf (isErring w) w 0)
   failed-not b e t = rw (eq-eqb a 0 z, sym e ∙ t)
+
+module _ (w : ℕ) (b : Bool) (e : b ≡ isRetried w) where
+  pub retried-one : b ≡ true → 1 ≡ numberIf (isRetried w) 1 0
+  retried-one t = rw (sym e ∙ t)
+
+  pub retried-not : b ≡ false → 0 ≡ numberIf (isRetried w) 1 0
+  retried-not t = rw (sym e ∙ t)
+
+pub retried-few : (w : ℕ) → numberIf (isRetried w) 1 0 ≤ 1
+retried-few w = by (isRetried w)
+  where
+    by : (b : Bool) → numberIf b 1 0 ≤ 1
+    by true = omega arith
+    by false = omega arith
 
 -- "inactive without error and has bytes left"
 module _ (w : ℕ) (b : Bool) (e : b ≡ isActive w) where
@@ -63,12 +77,13 @@ requested-lt Isochronous length limit k h h′ = omega (arith, h′)
 requested-lt Bulk length limit k h h′ = omega (arith, h′)
 requested-lt Interrupt length limit k h h′ = omega (arith, h′)
 
-pub see-made : (u : View) (asked requested w s f r : ℕ) → asked ≡ requested → s ≡ orElse (u .stage) (numberIf (isActive w) 2 (numberIf (isErring w) 1 0))
+pub see-made : (u : View) (asked requested w s f r m : ℕ) → asked ≡ requested → s ≡ orElse (u .stage) (numberIf (isActive w) 2 (numberIf (isErring w) 1 0))
     → f ≡ orElse (u .failed) (numberIf (isErring w) w 0) → r ≡ asked - totalBytes w
-    → record { stage = s; failed = f; moved = u .moved + r } ≡ seeOf u requested w
-unfolding viewOf standingOf firstError lengthOf
-see-made u asked requested w s f r ea es ef er =
+    → m ≡ numberIf (isRetried w) 1 0 → record { stage = s; failed = f; moved = u .moved + r; retried = u .retried + m } ≡ seeOf u requested w
+unfolding viewOf standingOf firstError lengthOf retriedOf
+see-made u asked requested w s f r m ea es ef er em =
     let sum : u .moved + r ≡ u .moved + ((requested - totalBytes w) + 0) = omega (arith, ea, er) in
-    rw (es, ef, sum)
+    let count : u .retried + m ≡ u .retried + (numberIf (isRetried w) 1 0 + 0) = omega (arith, em) in
+    rw (es, ef, sum, count)
 
 -- the list's end, and the place to come

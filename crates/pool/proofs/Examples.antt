@@ -16,7 +16,7 @@ use Rattle.pool.specs.declared.transfer.Transfer.{Transfer}
 use Rattle.pool.specs.EhciChain.{follow}
 use Rattle.pool.specs.Places.{clearOf, markOf, placesFrom}
 use Rattle.pool.specs.Transfers.{alternateWord, bareAt, chunkQtd, recordAt, stageAt}
-use Rattle.pool.specs.Chains.{Seen, blank, filledFrom, firstError, lengthOf, metFrom, readOf, standingOf, viewOf}
+use Rattle.pool.specs.Chains.{Seen, blank, filledFrom, firstError, lengthOf, metFrom, readOf, retriedOf, standingOf, viewOf}
 
 -- In, 18 bytes at 10000FFF; pool at 100000, setup packets at 400000
 abbrev sheet-request : Transfer
@@ -81,13 +81,13 @@ unfolding clearOf
 freed = refl
 
 -- a short second chunk, of 16384 and 100 bytes: 60 are left
-short : viewOf (record { requested = 16384; token = 3328 } ∷ record { requested = 100; token = 3968256 } ∷ []) ≡ record { stage = 0; failed = 0; moved = 16424 }
-unfolding viewOf standingOf firstError lengthOf
+short : viewOf (record { requested = 16384; token = 3328 } ∷ record { requested = 100; token = 3968256 } ∷ []) ≡ record { stage = 0; failed = 0; moved = 16424; retried = 0 }
+unfolding viewOf standingOf firstError lengthOf retriedOf
 short = refl
 
 -- halted before an active one; an active one that errs
-halted : viewOf (record { requested = 100; token = 2624832 } ∷ record { requested = 100; token = 6589824 } ∷ []) ≡ record { stage = 1; failed = 2624832; moved = 60 }
-unfolding viewOf standingOf firstError lengthOf
+halted : viewOf (record { requested = 100; token = 2624832 } ∷ record { requested = 100; token = 6589824 } ∷ []) ≡ record { stage = 1; failed = 2624832; moved = 60; retried = 0 }
+unfolding viewOf standingOf firstError lengthOf retriedOf
 halted = refl
 
 active-first : standingOf (record { requested = 100; token = 6557120 } ∷ []) ≡ 2
@@ -104,23 +104,47 @@ asked-and-short =
     ∷ record { requested = 16384; token = 0x40008D80 }
     ∷ []
 
-three-thousand : viewOf (readOf true asked-and-short) ≡ record { stage = 0; failed = 0; moved = 3000 }
-unfolding readOf viewOf standingOf firstError lengthOf
+three-thousand : viewOf (readOf true asked-and-short) ≡ record { stage = 0; failed = 0; moved = 3000; retried = 0 }
+unfolding readOf viewOf standingOf firstError lengthOf retriedOf
 three-thousand = refl
 
 -- without the order it waits for the second
-waits-on : viewOf (readOf false asked-and-short) ≡ record { stage = 2; failed = 0; moved = 3000 }
-unfolding readOf viewOf standingOf firstError lengthOf
+waits-on : viewOf (readOf false asked-and-short) ≡ record { stage = 2; failed = 0; moved = 3000; retried = 0 }
+unfolding readOf viewOf standingOf firstError lengthOf retriedOf
 waits-on = refl
 
 -- an active one before the short one: not finished, but read up to the short one; the error after it is not read
 active-then-short : viewOf (readOf true (record { requested = 100; token = 6557056 } ∷ record { requested = 100; token = 2624768 } ∷ record { requested = 100; token = 64 } ∷ []))
-    ≡ record { stage = 2; failed = 0; moved = 60 }
-unfolding readOf viewOf standingOf firstError lengthOf
+    ≡ record { stage = 2; failed = 0; moved = 60; retried = 0 }
+unfolding readOf viewOf standingOf firstError lengthOf retriedOf
 active-then-short = refl
 
 -- an error is no short one: what follows it is read
 halted-then-short : viewOf (readOf true (record { requested = 100; token = 2624832 } ∷ record { requested = 100; token = 655360 } ∷ record { requested = 100; token = 64 } ∷ []))
-    ≡ record { stage = 1; failed = 2624832; moved = 150 }
-unfolding readOf viewOf standingOf firstError lengthOf
+    ≡ record { stage = 1; failed = 2624832; moved = 150; retried = 0 }
+unfolding readOf viewOf standingOf firstError lengthOf retriedOf
 halted-then-short = refl
+
+-- ---- order 7, by hand: 512 bytes each
+
+-- a packet of the second was retried and went through: complete, one retried
+retried-once : viewOf (record { requested = 512; token = 0xD00 } ∷ record { requested = 512; token = 0xD08 } ∷ record { requested = 512; token = 0x8D00 } ∷ [])
+    ≡ record { stage = 0; failed = 0; moved = 1536; retried = 1 }
+unfolding viewOf standingOf firstError lengthOf retriedOf
+retried-once = refl
+
+-- bits 4 and 5 are no error and not counted; an active one with bit 3 is counted
+babble-alone : viewOf (record { requested = 512; token = 0xD30 } ∷ record { requested = 512; token = 0x2008D88 } ∷ []) ≡ record { stage = 2; failed = 0; moved = 512; retried = 1 }
+unfolding viewOf standingOf firstError lengthOf retriedOf
+babble-alone = refl
+
+-- halted after three tries is an error
+halted-retried : viewOf (record { requested = 512; token = 0x2000D48 } ∷ []) ≡ record { stage = 1; failed = 0x2000D48; moved = 0; retried = 1 }
+unfolding viewOf standingOf firstError lengthOf retriedOf
+halted-retried = refl
+
+-- short, with a retry: it ends the request, and the one after it is not counted
+short-retried : viewOf (readOf true (record { requested = 512; token = 0x640D08 } ∷ record { requested = 512; token = 0x2008D08 } ∷ []))
+    ≡ record { stage = 0; failed = 0; moved = 412; retried = 1 }
+unfolding readOf viewOf standingOf firstError lengthOf retriedOf
+short-retried = refl

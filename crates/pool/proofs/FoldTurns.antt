@@ -20,7 +20,7 @@ use Rattle.pool.specs.declared.chain.View.{View}
 use Rattle.pool.specs.Transfers.{requestedAt}
 use Rattle.pool.specs.Chains.{Seen, blank, isShort, joined, readOf, seenFrom, viewOf}
 use Rattle.pool.specs.Words.{AskWordsGood, Sees, WordGood, leftIf, readOn, seenNext, wordPlaces}
-use Rattle.pool.proofs.Turns.{join-none, join-step, moved-more, none-moved, seen-start}
+use Rattle.pool.proofs.Turns.{join-none, join-step, more-bounded, none-bounded, seen-start}
 use Rattle.pool.proofs.WordTurns.{word-few}
 
 pub some-left : (x : ℕ) → T (not (eqb x 0)) → 1 ≤ x
@@ -54,7 +54,7 @@ module _ (n : ℕ) (a : AskWords) (ys : List QueueTransferDescriptor) (j : ℕ) 
   pub record Seeing (left : ℕ) (u : Folded) : Type 0 where
     pub within : Within n (leftOf left)
     pub so-many : u .k + length (leftOf left) ≤ s .k + length (wordPlaces a j)
-    pub in-bounds : u .view .moved ≤ u .k * 2 ^ 32
+    pub in-bounds : (u .view .moved ≤ u .k * 2 ^ 32) × (u .view .retried ≤ u .k)
     pub goes-on : 1 ≤ left → u .ended ≡ false
     pub whole : (qs : List ℕ) → from-here u (leftOf left ++ qs) ≡ from-here s (wordPlaces a j ++ qs)
 
@@ -170,8 +170,8 @@ module _ (n : ℕ) (a : AskWords) (ys : List QueueTransferDescriptor) (j : ℕ) 
               record {
                 within = rests .within;
                 so-many = omega (arith, seeing .so-many, next, ap length (left-is p ep), rests .no-more);
-                in-bounds = subst (λ (k : ℕ). v .view .moved ≤ k * 2 ^ 32) (sym next)
-                    (moved-more (a .kind) (a .length) (a .limit) (u .k) w (u .view) (v .view) (ap (λ (z : Folded). z .view) ev) (good .short) (good .limited) (seeing .in-bounds));
+                in-bounds = subst (λ (k : ℕ). (v .view .moved ≤ k * 2 ^ 32) × (v .view .retried ≤ k)) (sym next)
+                    (more-bounded (a .kind) (a .length) (a .limit) (u .k) w (u .view) (v .view) (ap (λ (z : Folded). z .view) ev) (good .short) (good .limited) (seeing .in-bounds));
                 goes-on = rests .goes-on;
                 whole = λ qs. rests .same qs ∙ more-whole qs ∙ seeing .whole qs;
               }
@@ -199,7 +199,7 @@ module _ (n : ℕ) (a : AskWords) (ys : List QueueTransferDescriptor) (good : As
       let a₂ : Within n (W 2) × Within n (W 3) = split-in n (W 2) (W 3) (a₁ .1) in
       (a₀ .0, (a₁ .0, (a₂ .0, a₂ .1)))
 
-  word-good : (j : ℕ) (s : Folded) → Within n (W j) → j < 4 → s .k ≤ 64 * j → s .view .moved ≤ s .k * 2 ^ 32 → WordGood n a j s
+  word-good : (j : ℕ) (s : Folded) → Within n (W j) → j < 4 → s .k ≤ 64 * j → (s .view .moved ≤ s .k * 2 ^ 32) × (s .view .retried ≤ s .k) → WordGood n a j s
   word-good j s w h k m = record { within = w; short = good .short; limited = good .limited; one-of-four = h; so-far = k; in-bounds = m }
 
   -- the places of n words, from word j on
@@ -217,7 +217,7 @@ module _ (n : ℕ) (a : AskWords) (ys : List QueueTransferDescriptor) (good : As
   pub record SeenTo (j : ℕ) (u : Folded) : Type 0 where
     pub most : j ≤ 4
     pub few : u .k ≤ 64 * j
-    pub in-bounds : u .view .moved ≤ u .k * 2 ^ 32
+    pub in-bounds : (u .view .moved ≤ u .k * 2 ^ 32) × (u .view .retried ≤ u .k)
     pub whole-is : at u (wordsFrom j (4 - j)) ≡ whole
 
   pub to-start : (u : Folded) → u ≡ record { view = viewOf []; k = 0; ended = false } → SeenTo 0 u
@@ -227,7 +227,7 @@ module _ (n : ℕ) (a : AskWords) (ys : List QueueTransferDescriptor) (good : As
       record {
         most = omega arith;
         few = omega (arith, none);
-        in-bounds = subst (λ (k : ℕ). u .view .moved ≤ k * 2 ^ 32) (sym none) (none-moved (u .view) (ap (λ (z : Folded). z .view) e));
+        in-bounds = subst (λ (k : ℕ). (u .view .moved ≤ k * 2 ^ 32) × (u .view .retried ≤ k)) (sym none) (none-bounded (u .view) (ap (λ (z : Folded). z .view) e));
         whole-is = ap (λ (z : Folded). at z (wordsFrom 0 4)) e
             ∙ seen-start (viewOf (readOf (a .stops) (seenFrom (a .kind) (a .length) (a .limit) 0 (wordsFrom 0 4) ys))) (viewOf []) refl
             ∙ ap (λ (l : List ℕ). viewOf (readOf (a .stops) (seenFrom (a .kind) (a .length) (a .limit) 0 (W 0 ++ (W 1 ++ (W 2 ++ l))) ys))) (append-nil (W 3));

@@ -5,7 +5,7 @@ use mathlib.Core.Bool.{Bool, true, false, not, _&&_}
 use mathlib.Core.List.{List, [], _∷_}
 use native.Mathlib.Omega.{arith}
 use lib.Count.{trailingZeros, trailing-le}
-use mir.Syntax.{w64}
+use mir.Syntax.{w16, w64}
 use mir.Val.{Fits}
 use Rattle.bitset.specs.declared.cursor.Cursor.{Cursor}
 use Rattle.bitset.specs.Rest.{isNone, placeAt, restOf}
@@ -29,9 +29,9 @@ use Rattle.pool.specs.declared.laying.Laying.{Laying}
 use Rattle.pool.specs.declared.transfer.Transfer.{Transfer}
 use Rattle.pool.specs.declared.writing.Writing.{Writing}
 use Rattle.pool.specs.Transfers.{addressOf, alternateOf, bareAt, bareFor, chunkQtd, isLast, nextOf, recordAt, requestedAt, stageAt, withAlternate}
-use Rattle.pool.specs.Chains.{isActive, isErring, isShort, numberIf, orElse, seeOf, viewOf}
+use Rattle.pool.specs.Chains.{isActive, isErring, isRetried, isShort, numberIf, orElse, seeOf, viewOf}
 use Rattle.pool.specs.Words.{chunksOf, layingIf, leftIf, nextGood, seenNext, stagesOf, wordsIf}
-use Rattle.pool.proofs.ChainCases.{requested-lt, see-made}
+use Rattle.pool.proofs.ChainCases.{requested-lt, retried-few, see-made}
 
 -- ---- what is seen
 
@@ -39,12 +39,15 @@ pub word-sum-fits : (kind : EndpointType) (length limit k moved asked left r : �
     → k < 256 → length < 2 ^ 32 → limit ≤ 16384 → moved ≤ k * 2 ^ 32 → Fits w64 (moved + r)
 word-sum-fits kind length limit k moved asked left r ea er hk hl h hm = omega (arith, ea, er, hk, hm, requested-lt kind length limit k hl h)
 
-pub word-seen : (s : Folded) (a : AskWords) (w asked stage failed r : ℕ) (short : Bool) → asked ≡ requestedAt (a .kind) (a .length) (a .limit) (s .k)
+pub word-count-fits : (k count r w : ℕ) → r ≡ numberIf (isRetried w) 1 0 → k < 256 → count ≤ k → Fits w16 (count + r)
+word-count-fits k count r w e hk h = omega (arith, e, hk, h, retried-few w)
+
+pub word-seen : (s : Folded) (a : AskWords) (w asked stage failed r m : ℕ) (short : Bool) → asked ≡ requestedAt (a .kind) (a .length) (a .limit) (s .k)
     → stage ≡ orElse (s .view .stage) (numberIf (isActive w) 2 (numberIf (isErring w) 1 0)) → failed ≡ orElse (s .view .failed) (numberIf (isErring w) w 0)
-    → r ≡ asked - totalBytes w → short ≡ isShort w
-    → record { view = record { stage = stage; failed = failed; moved = s .view .moved + r }; k = s .k + 1; ended = a .stops && short } ≡ seenNext s a w
-word-seen s a w asked stage failed r short ea es ef er eh =
-    ap (λ (v : View). record { view = v; k = s .k + 1; ended = a .stops && short }) (see-made (s .view) asked (requestedAt (a .kind) (a .length) (a .limit) (s .k)) w stage failed r ea es ef er)
+    → r ≡ asked - totalBytes w → m ≡ numberIf (isRetried w) 1 0 → short ≡ isShort w
+    → record { view = record { stage = stage; failed = failed; moved = s .view .moved + r; retried = s .view .retried + m }; k = s .k + 1; ended = a .stops && short } ≡ seenNext s a w
+word-seen s a w asked stage failed r m short ea es ef er em eh =
+    ap (λ (v : View). record { view = v; k = s .k + 1; ended = a .stops && short }) (see-made (s .view) asked (requestedAt (a .kind) (a .length) (a .limit) (s .k)) w stage failed r m ea es ef er em)
     ∙ ap (λ (b : Bool). record { view = seeOf (s .view) (requestedAt (a .kind) (a .length) (a .limit) (s .k)) w; k = s .k + 1; ended = a .stops && b }) eh
 
 pub none-made : (v : View) → v ≡ viewOf [] → _≡_ {A = Folded} (record { view = v; k = 0; ended = false }) (record { view = viewOf []; k = 0; ended = false })

@@ -14,7 +14,7 @@ use Rattle.descriptor.specs.Slots.{pageSlots, zeroSlots}
 use Rattle.pool.specs.declared.laying.Laying.{Laying}
 use Rattle.pool.specs.Places.{upFrom}
 use Rattle.pool.specs.Transfers.{bareAt, chunkQtd, recordAt, requestedAt}
-use Rattle.pool.specs.Chains.{blank, filledFrom, firstError, lengthOf, seenFrom, standingOf, viewOf}
+use Rattle.pool.specs.Chains.{blank, filledFrom, firstError, lengthOf, retriedOf, seenFrom, standingOf, viewOf}
 use Rattle.pool.specs.Words.{openedTo, noLaying, noMarking, writtenWith}
 
 -- bulk In, 16385 bytes in chunks of 16384, at places 0 and 2
@@ -44,8 +44,8 @@ marked = refl
 
 -- both chunks are done, the second one left its byte
 seen : viewOf (seenFrom Bulk 16385 16384 0 (setPlaces (5 ∷ 0 ∷ 0 ∷ 0 ∷ [])) (record { next = 0; alternate = 0; token = 3328; pages = zeroSlots; upper = zeroSlots } ∷ blank ∷ record { next = 0; alternate = 0; token = 68864; pages = zeroSlots; upper = zeroSlots } ∷ []))
-    ≡ record { stage = 0; failed = 0; moved = 16384 }
-unfolding setPlaces placesOf seenFrom viewOf standingOf firstError lengthOf requestedAt
+    ≡ record { stage = 0; failed = 0; moved = 16384; retried = 0 }
+unfolding setPlaces placesOf seenFrom viewOf standingOf firstError lengthOf retriedOf requestedAt
 seen = refl
 
 -- D is 1: its record, and the shared one

@@ -6,7 +6,7 @@ use lib.Dec.{eqb}
 use lib.ListN.{getD, set}
 use Rattle.common.specs.declared.kinds.EndpointType.{EndpointType}
 use Rattle.common.specs.declared.kinds.EndpointType.the-variants.{Control, Isochronous, Bulk, Interrupt}
-use Rattle.token.specs.EhciQtd.{active, errors, totalBytes}
+use Rattle.token.specs.EhciQtd.{active, halted, totalBytes, transactionError}
 use Rattle.descriptor.specs.declared.qtd.QueueTransferDescriptor.{QueueTransferDescriptor}
 use Rattle.descriptor.specs.Descriptors.{terminated}
 use Rattle.descriptor.specs.Slots.{zeroSlots}
@@ -87,8 +87,12 @@ noAsk = record { places = packed []; kind = Control; length = 0; limit = 0; stop
 abbrev pub isActive : ℕ → Bool
 isActive w = not (eqb (active w) 0)
 
+-- 02 order 7: "Error shall mean bit 6, Halted, alone"
 abbrev pub isErring : ℕ → Bool
-isErring w = not (eqb (errors w) 0)
+isErring w = not (eqb (halted w) 0)
+
+abbrev pub isRetried : ℕ → Bool
+isRetried w = not (eqb (transactionError w) 0)
 
 abbrev pub numberIf : Bool → ℕ → ℕ → ℕ
 numberIf true a b = a
@@ -118,8 +122,13 @@ unfoldable pub lengthOf : List Seen → ℕ
 lengthOf [] = 0
 lengthOf (s ∷ ss) = (s .requested - totalBytes (s .token)) + lengthOf ss
 
+-- "how many of its descriptors have bit 3 set"
+unfoldable pub retriedOf : List Seen → ℕ
+retriedOf [] = 0
+retriedOf (s ∷ ss) = numberIf (isRetried (s .token)) 1 0 + retriedOf ss
+
 unfoldable pub viewOf : List Seen → View
-viewOf ss = record { stage = standingOf ss; failed = firstError ss; moved = lengthOf ss }
+viewOf ss = record { stage = standingOf ss; failed = firstError ss; moved = lengthOf ss; retried = retriedOf ss }
 
 abbrev pub orElse : ℕ → ℕ → ℕ
 orElse a b = numberIf (eqb a 0) b a
@@ -127,7 +136,12 @@ orElse a b = numberIf (eqb a 0) b a
 -- what is seen first, then more
 abbrev pub joined : View → View → View
 joined u v =
-    record { stage = orElse (u .stage) (v .stage); failed = orElse (u .failed) (v .failed); moved = u .moved + v .moved }
+    record {
+      stage = orElse (u .stage) (v .stage);
+      failed = orElse (u .failed) (v .failed);
+      moved = u .moved + v .moved;
+      retried = u .retried + v .retried;
+    }
 
 abbrev pub seeOf : View → ℕ → ℕ → View
 seeOf u requested token = joined u (viewOf (record { requested = requested; token = token } ∷ []))

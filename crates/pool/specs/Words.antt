@@ -65,7 +65,7 @@ wordPlaces a j = placesOf (64 * j) 64 (getD (a .places) j 0)
 -- what seeing the records at some places leaves: whatever places follow, the whole is seen
 pub record Sees (a : AskWords) (rs : List QueueTransferDescriptor) (ps : List ℕ) (s t : Folded) : Type 0 where
   pub so-many : t .k ≤ s .k + length ps
-  pub in-bounds : t .view .moved ≤ t .k * 2 ^ 32
+  pub in-bounds : (t .view .moved ≤ t .k * 2 ^ 32) × (t .view .retried ≤ t .k)
   pub whole : (qs : List ℕ)
       → joined (t .view) (viewOf (readOn (t .ended) (a .stops) (seenFrom (a .kind) (a .length) (a .limit) (t .k) qs rs)))
       ≡ joined (s .view) (viewOf (readOn (s .ended) (a .stops) (seenFrom (a .kind) (a .length) (a .limit) (s .k) (ps ++ qs) rs)))
@@ -79,7 +79,7 @@ pub record WordGood (n : ℕ) (a : AskWords) (j : ℕ) (s : Folded) : Type 0 whe
   pub limited : a .limit ≤ 16384
   pub one-of-four : j < 4
   pub so-far : s .k ≤ 64 * j
-  pub in-bounds : s .view .moved ≤ s .k * 2 ^ 32
+  pub in-bounds : (s .view .moved ≤ s .k * 2 ^ 32) × (s .view .retried ≤ s .k)
 
 -- ---- what is written
 

@@ -14,6 +14,7 @@ use crate::chain::failed_with;
 use crate::chain::is_short;
 use crate::chain::moved_of;
 use crate::chain::nothing_seen;
+use crate::chain::retried_of;
 use crate::chain::stage_with;
 use crate::tokens::token_at;
 use crate::transfer::requested;
@@ -67,7 +68,7 @@ fn none_folded() -> Folded
 
 // One more descriptor of a request is seen, by its token's word.
 fn see_word(seen: Folded, ask: AskWords, word: u32) -> Folded
-    requires { ⌜ (seen .k < 256) × (ask .length < 2 ^ 32) × (ask .limit ≤ 16384) × (seen .view .moved ≤ seen .k * 2 ^ 32) ⌝ }
+    requires { ⌜ (seen .k < 256) × (ask .length < 2 ^ 32) × (ask .limit ≤ 16384) × (seen .view .moved ≤ seen .k * 2 ^ 32) × (seen .view .retried ≤ seen .k) ⌝ }
     ensures { λ r. ⌜ r ≡ seenNext seen ask word ⌝ }
 {
     let kind = ask.kind;
@@ -75,6 +76,7 @@ fn see_word(seen: Folded, ask: AskWords, word: u32) -> Folded
     let token = QtdToken(word);
     let view = View {
         stage: stage_with(seen.view.stage, token),
+        retried: seen.view.retried + retried_of(token),
         failed: failed_with(seen.view.failed, token),
         moved: seen.view.moved + moved_of(asked, token),
     };

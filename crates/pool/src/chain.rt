@@ -3,12 +3,13 @@ ghost use mathlib.Core.Path.{_≡_};
 ghost use mathlib.Core.List.{[]};
 ghost use Prim.Native.Nat.{_-_, _<_};
 ghost use Rattle.token.specs.EhciQtd.{totalBytes};
-ghost use Rattle.pool.specs.Chains.{blank, isActive, isErring, isShort, numberIf, orElse, viewOf};
+ghost use Rattle.pool.specs.Chains.{blank, isActive, isErring, isRetried, isShort, numberIf, orElse, viewOf};
 use descriptor::qtd::QueueTransferDescriptor;
 use token::qtd::QtdToken;
 
 pub struct View {
     pub stage: u8,
+    pub retried: u16,
     pub failed: u32,
     pub moved: u64,
 }
@@ -18,6 +19,7 @@ pub fn nothing_seen() -> View
 {
     View {
         stage: 0,
+        retried: 0,
         failed: 0,
         moved: 0,
     }
@@ -52,6 +54,16 @@ pub fn failed_with(failed: u32, token: QtdToken) -> u32
     }
     if token.has_error() {
         return token.0;
+    }
+    0
+}
+
+// Whether a packet of its descriptor went through only in a retry, as a number.
+pub fn retried_of(token: QtdToken) -> u16
+    ensures { λ r. ⌜ r ≡ numberIf (isRetried (token .0)) 1 0 ⌝ }
+{
+    if token.retried() {
+        return 1;
     }
     0
 }

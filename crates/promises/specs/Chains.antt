@@ -6,10 +6,11 @@ use mathlib.Core.List.{List, [], _∷_, map}
 use mathlib.Core.Path.{_≡_}
 use lib.ListN.{getD}
 use Rattle.descriptor.specs.declared.qtd.QueueTransferDescriptor.{QueueTransferDescriptor}
-use Rattle.pool.specs.Chains.{blank, isActive, isErring, isShort}
+use Rattle.pool.specs.Chains.{blank}
 use Rattle.settings.specs.declared.settings.Settings.{Settings}
 use Rattle.controller.specs.declared.lent.Readings.{Readings}
 use Rattle.ehci.specs.declared.call.Call.the-variants.{Cancel, Collect}
+use Rattle.promises.specs.Tokens.{isActive, isErring, isShort}
 use Rattle.promises.specs.Runs.{Always, History, Moment, Promise, turnBy}
 use Rattle.promises.specs.Walks.{AtRingHead, Terminated, frameEnd, frameWalk, isIn, ringEnd, ringWalk}
 use Rattle.promises.specs.Events.{Other, Parts, Unlinks, event}

@@ -4,17 +4,18 @@ use mathlib.Core.Bool.{Bool, true, false, cond, _&&_}
 use mathlib.Core.List.{List, [], _∷_, map}
 use mathlib.Core.Path.{_≡_}
 use lib.ListN.{getD}
-use Rattle.token.specs.EhciQtd.{totalBytes}
+use Rattle.token.specs.EhciQtd.{totalBytes, transactionError}
 use Rattle.common.specs.declared.kinds.EndpointType.{EndpointType}
 use Rattle.common.specs.declared.kinds.EndpointType.the-variants.{Control, Isochronous, Bulk, Interrupt}
 use Rattle.descriptor.specs.declared.qtd.QueueTransferDescriptor.{QueueTransferDescriptor}
-use Rattle.pool.specs.Chains.{blank, isErring, isShort}
+use Rattle.pool.specs.Chains.{blank}
 use Rattle.settings.specs.declared.settings.Settings.{Settings}
 use Rattle.controller.specs.declared.lent.Readings.{Readings}
 use Rattle.ehci.specs.declared.call.Call.the-variants.{Collect}
 use Rattle.ehci.specs.Replies.{answeredValues}
 use Rattle.promises.specs.Runs.{Always, History, Moment, Promise, Rows}
 use Rattle.promises.specs.Events.{isCollected}
+use Rattle.promises.specs.Tokens.{isErring, isShort}
 use Rattle.promises.specs.Uses.{Use, isOf, limitOfUse, mayEndShort, uses}
 use Rattle.promises.specs.Bells.{cancelled}
 use Rattle.promises.specs.Rooms.{numberAt}
@@ -46,6 +47,11 @@ abbrev pub erring : List ℕ → List ℕ
 erring [] = []
 erring (token ∷ tokens) = cond (isErring token) (token ∷ erring tokens) (erring tokens)
 
+-- 02 order 7: "how many of its descriptors have bit 3 set"
+abbrev pub retries : List ℕ → ℕ
+retries [] = 0
+retries (token ∷ tokens) = transactionError token + retries tokens
+
 -- of a request that may end short "the reported length stops with" the first that is inactive without error and has bytes left: nothing after
 -- it is read
 abbrev pub readTo : Bool → List QueueTransferDescriptor → List QueueTransferDescriptor
@@ -58,22 +64,22 @@ pub record Due : Type 0 where
   pub number : ℕ
   pub values : List ℕ
 
--- "else Failed with the first erring token; else the sum"
-abbrev pub finishedDue : List ℕ → ℕ → Due
-finishedDue [] length = record { number = 0; values = length ∷ [] }
-finishedDue (token ∷ more) length = record { number = 11; values = token ∷ [] }
+-- "else Failed with the first erring token; else the sum", and how many were retried
+abbrev pub finishedDue : List ℕ → ℕ → ℕ → Due
+finishedDue [] length retried = record { number = 0; values = length ∷ retried ∷ [] }
+finishedDue (token ∷ more) length retried = record { number = 11; values = token ∷ [] }
 
 -- "Cancelled if cancelled"
-abbrev pub dueOf : Bool → List ℕ → ℕ → Due
-dueOf true failed length = record { number = 10; values = [] }
-dueOf false failed length = finishedDue failed length
+abbrev pub dueOf : Bool → List ℕ → ℕ → ℕ → Due
+dueOf true failed length retried = record { number = 10; values = [] }
+dueOf false failed length retried = finishedDue failed length retried
 
 abbrev pub dueTo : Settings → History → Rows → Use → Due
 dueTo s h rows u =
     let r = u .request in
     let records = readTo (mayEndShort u) (recordsAt rows (u .places)) in
     dueOf (cancelled s (u .slot) h) (erring (tokensOf records))
-    (moved (pieceOf (r .kind) (r .length) (limitOfUse s u)) (r .length) (tokensOf (dataOf (r .kind) records)))
+    (moved (pieceOf (r .kind) (r .length) (limitOfUse s u)) (r .length) (tokensOf (dataOf (r .kind) records))) (retries (tokensOf records))
 
 -- ---- of any machine
 

@@ -3,12 +3,8 @@
 use Prim.Native.Nat.{ℕ, zero, suc}
 use mathlib.Core.Bool.{cond, not, _&&_, _||_}
 use lib.Dec.{eqb}
-use Rattle.token.specs.EhciQtd.{active, field, totalBytes}
+use Rattle.token.specs.EhciQtd.{active, halted, totalBytes}
 use Rattle.descriptor.specs.EhciQtd.{qtdAddress, terminate}
-
--- 3.5.3: of the status, bit 6
-abbrev pub halted : ℕ → ℕ
-halted token = field token 6 1
 
 -- a descriptor, as it is fetched from memory
 pub record Fetched : Type 0 where

@@ -16,6 +16,7 @@ pub mod Shorts
 pub mod Submissions
 pub mod Packets
 pub mod Toggles
+pub mod Tokens
 pub mod Chains
 pub mod Boundaries
 pub mod Faults

@@ -5,7 +5,7 @@ use mathlib.Core.Logic.{_⊎_}
 use mathlib.Core.Path.{_≡_}
 use lib.Dec.{ltb}
 use lib.ListN.{getD, length, replicate}
-use Rattle.token.specs.EhciQtd.{active, totalBytes}
+use Rattle.token.specs.EhciQtd.{active, halted, totalBytes}
 use Rattle.descriptor.specs.declared.qtd.QueueTransferDescriptor.{QueueTransferDescriptor}
 use Rattle.pool.specs.Chains.{blank}
 use Rattle.pool.specs.Places.{Each}
@@ -14,7 +14,7 @@ use Rattle.promises.specs.Runs.{Always, History, Moment, Promise, Rows}
 use Rattle.promises.specs.Uses.{Use, mayEndShort, uses}
 use Rattle.promises.specs.Walks.{Ends, Lead, On, Terminated, chainWalk, nextLeads}
 use Rattle.promises.specs.Rooms.{Every, placesInUse}
-use Rattle.promises.specs.EhciQueue.{Fetched, Queue, halted, pointer, visits}
+use Rattle.promises.specs.EhciQueue.{Fetched, Queue, pointer, visits}
 
 -- ---- the shared descriptor
 

@@ -1,4 +1,5 @@
--- Machines that answer a collection wrongly: 10 to every one, or a length drawn as if each request were a control request. What is due is refuted of both.
+-- Machines that answer a collection wrongly: 10 to every one; 11 to one with a retried packet, as before order 7; no count of these; a length
+-- drawn as if each request were a control request. What is due is refuted of each.
 use Prim.Native.Nat.{ℕ}
 use mathlib.Core.Path.{_≡_, refl, sym, ap, _∙_}
 use mathlib.Core.Bool.{true, false, cond}
@@ -11,7 +12,7 @@ use Rattle.register.specs.Writes.{andThen, noWrites}
 use Rattle.common.specs.declared.kinds.EndpointType.the-variants.{Control}
 use Rattle.descriptor.specs.Descriptors.{terminated}
 use Rattle.descriptor.specs.declared.qtd.QueueTransferDescriptor.{QueueTransferDescriptor}
-use Rattle.pool.specs.Chains.{blank, fillOf, filledFrom, firstError, lengthOf, noChain, readOf, seenFrom, standingOf as stageSeen, viewOf, withToken}
+use Rattle.pool.specs.Chains.{blank, fillOf, filledFrom, firstError, lengthOf, noChain, readOf, retriedOf, seenFrom, standingOf as stageSeen, viewOf, withToken}
 use Rattle.pool.specs.Places.{clearOf, listOf, packed, placesFrom}
 use Rattle.pool.specs.Transfers.{requestedAt}
 use Rattle.pool.specs.Plain.{Ask}
@@ -81,7 +82,7 @@ pub rises-up : (m : Machine inPlain) → ((w : World) (c : Call) → rank c ≡ 
 rises-up m same =
     record { starts = λ w n. same w StartBringUp refl; steps = λ w v n. same w (BringUpStep v) refl; opens = λ w x n. same w (OpenEndpoint x) refl }
 
--- ---- 512 bytes of which 500 are moved
+-- ---- 512 bytes of which 500 are moved, in a retry
 
 abbrev w : World
 w = freshWorld small
@@ -94,7 +95,7 @@ abbrev pub leaves : ℕ → Slot
 leaves boundary = asked 3 0 boundary
 
 abbrev moved512 : List QueueTransferDescriptor
-moved512 = withToken (chunk 0x500000) 0x000C8C00 ∷ blank ∷ []
+moved512 = withToken (chunk 0x500000) 0x000C8C08 ∷ blank ∷ []
 
 abbrev pub linkedNow : Ehci → World
 linkedNow s = withRows s moved512 (headsOf 0x200082 (headOf 0x200002 0xF2002105 0x100000) (headOf 1 0xF2002205 1))
@@ -106,7 +107,7 @@ states-good : (inRanges (one 0 0 0 0 0 linked) ≡ true) × (inRanges (one 0 0 0
 unfolding stateOf inRanges restGood machineGood interruptGood doorbellGood ownerGood largest slotsGood slotGood sizeKept toggleKept sizeGood phaseGood closedGood idleGood linkedGood unlinkingGood boundaryGood openKind noRequest settingsGood numbersGood eachGood noOverlap areaGood apartAreas slotAt withoutBits
 states-good = (refl, refl, refl, refl)
 
-pub written : core (linkedOne (one 0 0 0 0 0 linked)) (Writeback 0 0x000C8C00) ≡ replies (Done G.Nothing) noWrites (linkedNow (one 0 0 0 0 0 linked))
+pub written : core (linkedOne (one 0 0 0 0 0 linked)) (Writeback 0 0x000C8C08) ≡ replies (Done G.Nothing) noWrites (linkedNow (one 0 0 0 0 0 linked))
 unfolding applyOf decideOf asksOf rowsFit replied fillOf filledFrom noChain packed listOf writebackDecided writebackOf acceptsOf inRequest endpointAt decoded slotAt stateOf
 written = rw (states-good .0)
 
@@ -114,7 +115,7 @@ abbrev pub unlinked : Applied
 unlinked = replies Pending (andThen noWrites 0 (ringWord 0x80031)) (apartNow (one 0 0 0 1 1 (leaves 1)))
 
 pub unlinks : core (linkedNow (one 0 0 0 0 0 linked)) looks ≡ unlinked
-unfolding applyOf decideOf asksOf askOf askable requestAsk placesFrom seenFrom readOf viewOf stageSeen firstError lengthOf requestedAt rowsFit replied fillOf filledFrom noChain packed listOf collectDecided collectOf linkedOf acceptsOf endpointAt decoded slotAt unlinkOf waitingOf boundedOf unlinkedOf ringOf detachOf predecessorOf searchFrom precedesOne withEndpoint withSlot withBell stateOf
+unfolding applyOf decideOf asksOf askOf askable requestAsk placesFrom seenFrom readOf viewOf stageSeen firstError lengthOf retriedOf requestedAt rowsFit replied fillOf filledFrom noChain packed listOf collectDecided collectOf linkedOf acceptsOf endpointAt decoded slotAt unlinkOf waitingOf boundedOf unlinkedOf ringOf detachOf predecessorOf searchFrom precedesOne withEndpoint withSlot withBell stateOf
 unlinks = rw (states-good .0)
 
 hears : core (apartNow (one 0 0 0 1 1 (leaves 1))) (acknowledges 0x20) ≡ replies (Done G.Yes) (acknowledgeWrites 0x20 0x27 true true) (apartNow (one 0x20 0x20 1 1 1 (leaves 1)))
@@ -126,19 +127,19 @@ unfolding applyOf decideOf asksOf rowsFit replied fillOf filledFrom noChain pack
 counts = rw (states-good .2)
 
 -- what `core` answers in the end
-pub length-500 : core (apartNow (one 0 0x20 0 0 0 (leaves 0))) looks .reply .answer ≡ Done (G.Length 500)
-unfolding applyOf decideOf asksOf askOf askable requestAsk placesFrom seenFrom readOf viewOf stageSeen firstError lengthOf requestedAt rowsFit replied fillOf filledFrom noChain packed listOf collectDecided collectOf acceptsOf endpointAt decoded slotAt unlinkingOf finishOf outcomeOf freed clearOf endedOverlay putAt terminated withOwner withEndpoint withSlot stateOf
+pub length-500 : core (apartNow (one 0 0x20 0 0 0 (leaves 0))) looks .reply .answer ≡ Done (G.Length 500 1)
+unfolding applyOf decideOf asksOf askOf askable requestAsk placesFrom seenFrom readOf viewOf stageSeen firstError lengthOf retriedOf requestedAt rowsFit replied fillOf filledFrom noChain packed listOf collectDecided collectOf acceptsOf endpointAt decoded slotAt unlinkingOf finishOf outcomeOf freed clearOf endedOverlay putAt terminated withOwner withEndpoint withSlot stateOf
 length-500 = rw (states-good .3)
 
 -- ---- a machine that does so, but for its collects
 
--- one request; its token written back, inactive, 12 bytes left; a collect that unlinks; the answer; a drain
+-- one request; its token written back, inactive, retried, 12 bytes left; a collect that unlinks; the answer; a drain
 abbrev moves : Script
 moves =
     (Drain 0x80031, replies (Done (G.Event E.TransferActivity)) noWrites (apartNow (one 0 0x20 0 0 0 (leaves 0))))
     ∷ (acknowledges 0x20, replies (Done G.Yes) (acknowledgeWrites 0x20 0x27 true true) (apartNow (one 0x20 0x20 1 1 1 (leaves 1))))
     ∷ (looks, unlinked)
-    ∷ (Writeback 0 0x000C8C00, replies (Done G.Nothing) noWrites (linkedNow (one 0 0 0 0 0 linked)))
+    ∷ (Writeback 0 0x000C8C08, replies (Done G.Nothing) noWrites (linkedNow (one 0 0 0 0 0 linked)))
     ∷ submitsOne
 
 abbrev pub c5 : List Call
@@ -156,7 +157,7 @@ module _ (m : Machine inPlain) (plain : (v : World) (c : Call) → eqb (rank c) 
       (
         finds,
         (
-          plain (linkedOne (one 0 0 0 0 0 linked)) (Writeback 0 0x000C8C00) refl ∙ written,
+          plain (linkedOne (one 0 0 0 0 0 linked)) (Writeback 0 0x000C8C08) refl ∙ written,
           (plain openedTwo (submits 0 0x500000) refl ∙ submitted, tt),
         ),
       ),
@@ -172,7 +173,7 @@ module _ (m : Machine inPlain) (plain : (v : World) (c : Call) → eqb (rank c) 
   is-so : historyOf m w c5 ≡ told
   is-so = is-told m w upCalls openedTwo w0 moves follows
 
-  -- one request is uncollected, and 0 with 500 is due to it
+  -- one request is uncollected, and 0 with 500 and 1 is due to it
   abbrev first : Use
   first = record { slot = 0; id = 1; request = request 0x500000; size = 512; places = 0 ∷ [] }
 
@@ -180,7 +181,7 @@ module _ (m : Machine inPlain) (plain : (v : World) (c : Call) → eqb (rank c) 
   unfolding uses historyOf ringWalk walkFrom chainWalk
   uses-are = ap (λ (n : ℕ). record { slot = 0; id = 1; request = request 0x500000; size = n; places = 0 ∷ [] } ∷ []) (up-size m (rises-up m (λ v c e. plain v c (ap (λ (n : ℕ). eqb n 2) e))))
 
-  due-is : dueTo small told (apartNow (one 0 0x20 0 0 0 (leaves 0)) .rows) first ≡ record { number = 0; values = 500 ∷ [] }
+  due-is : dueTo small told (apartNow (one 0 0x20 0 0 0 (leaves 0)) .rows) first ≡ record { number = 0; values = 500 ∷ 1 ∷ [] }
   unfolding cancelled historyOf ringWalk walkFrom
   due-is = refl
 
@@ -188,7 +189,7 @@ module _ (m : Machine inPlain) (plain : (v : World) (c : Call) → eqb (rank c) 
   end = worldOf m w c5
 
   pub due-here : EveryRun CollectsDue m → isCollected (m (apartNow (one 0 0x20 0 0 0 (leaves 0))) looks .reply .answer) ≡ true
-      → (answeredNumber (m (apartNow (one 0 0x20 0 0 0 (leaves 0))) looks .reply .answer) ≡ 0) × (answeredValues (m (apartNow (one 0 0x20 0 0 0 (leaves 0))) looks .reply .answer) ≡ 500 ∷ [])
+      → (answeredNumber (m (apartNow (one 0 0x20 0 0 0 (leaves 0))) looks .reply .answer) ≡ 0) × (answeredValues (m (apartNow (one 0 0x20 0 0 0 (leaves 0))) looks .reply .answer) ≡ 500 ∷ 1 ∷ [])
   due-here due e = (at answeredNumber (λ d. d .number) (x .number-is), at answeredValues (λ d. d .values) (x .values-are))
     where
       x : Answers small (historyOf m w c5) (moment m end) 0 1 (reading 0x80031)
@@ -198,7 +199,7 @@ module _ (m : Machine inPlain) (plain : (v : World) (c : Call) → eqb (rank c) 
       use-is = ap (λ (l : List Use). getD l 0 first) (sym (x .only) ∙ ap (λ (h : History). those 0 1 (uses small h)) is-so ∙ ap (those 0 1) uses-are)
 
       at : {A : Type 0} (f : Answered → A) (g : Due → A) → f (m end looks .reply .answer) ≡ g (dueTo small (historyOf m w c5) (end .rows) (x .uncollected))
-          → f (m (apartNow (one 0 0x20 0 0 0 (leaves 0))) looks .reply .answer) ≡ g (record { number = 0; values = 500 ∷ [] })
+          → f (m (apartNow (one 0 0x20 0 0 0 (leaves 0))) looks .reply .answer) ≡ g (record { number = 0; values = 500 ∷ 1 ∷ [] })
       at f g q =
           sym (ap (λ (v : World). f (m v looks .reply .answer)) w5) ∙ q
           ∙ ap (λ (u : Use). g (dueTo small (historyOf m w c5) (end .rows) u)) use-is
@@ -206,8 +207,16 @@ module _ (m : Machine inPlain) (plain : (v : World) (c : Call) → eqb (rank c) 
           ∙ ap (λ (v : World). g (dueTo small told (v .rows) first)) w5
           ∙ ap g due-is
 
--- ---- 10 to every collection
+-- ---- another answer to every collection
 
+abbrev answering : (Answered → Answered) → Applied → Applied
+answering f a =
+    applied (record { state = a .reply .state; answer = f (a .reply .answer); writes = a .reply .writes }) (a .pool) (a .heads) (a .frames) (a .setups)
+
+abbrev answers : (Answered → Answered) → Machine inPlain
+answers f v c = cond (eqb (rank c) 2) (answering f (core v c)) (core v c)
+
+-- 10
 abbrev tenFor : Answered → Answered
 tenFor (Done given) = Cancelled
 tenFor Pending = Pending
@@ -215,18 +224,49 @@ tenFor Cancelled = Cancelled
 tenFor (Failed token) = Cancelled
 tenFor (Refused r) = Refused r
 
-abbrev answering : Applied → Applied
-answering a =
-    applied (record { state = a .reply .state; answer = tenFor (a .reply .answer); writes = a .reply .writes }) (a .pool) (a .heads) (a .frames) (a .setups)
-
 abbrev pub tens : Machine inPlain
-tens v c = cond (eqb (rank c) 2) (answering (core v c)) (core v c)
+tens = answers tenFor
 
 pub tens-due : EveryRun CollectsDue tens → ⊥
 tens-due due =
     let ten : tens (apartNow (one 0 0x20 0 0 0 (leaves 0))) looks .reply .answer ≡ Cancelled = ap tenFor length-500 in
-    let zero = due-here tens (λ v c e. rw e) (ap answering unlinks) due (ap (λ (a : Answered). isCollected a) ten) .0 in
+    let zero = due-here tens (λ v c e. rw e) (ap (answering tenFor) unlinks) due (ap (λ (a : Answered). isCollected a) ten) .0 in
     omega (arith, sym (ap answeredNumber ten) ∙ zero)
+
+-- 11 with the retried token
+abbrev failFor : Answered → Answered
+failFor (Done given) = Failed 0x000C8C08
+failFor Pending = Pending
+failFor Cancelled = Cancelled
+failFor (Failed token) = Failed token
+failFor (Refused r) = Refused r
+
+abbrev pub strict : Machine inPlain
+strict = answers failFor
+
+pub strict-due : EveryRun CollectsDue strict → ⊥
+strict-due due =
+    let fails : strict (apartNow (one 0 0x20 0 0 0 (leaves 0))) looks .reply .answer ≡ Failed 0x000C8C08 = ap failFor length-500 in
+    let zero = due-here strict (λ v c e. rw e) (ap (answering failFor) unlinks) due (ap (λ (a : Answered). isCollected a) fails) .0 in
+    omega (arith, sym (ap answeredNumber fails) ∙ zero)
+
+-- 0 with the length, and no retry
+abbrev noneFor : Answered → Answered
+noneFor (Done given) = Done (G.Length 500 0)
+noneFor Pending = Pending
+noneFor Cancelled = Cancelled
+noneFor (Failed token) = Failed token
+noneFor (Refused r) = Refused r
+
+abbrev pub uncounting : Machine inPlain
+uncounting = answers noneFor
+
+pub uncounting-due : EveryRun CollectsDue uncounting → ⊥
+uncounting-due due =
+    let none : uncounting (apartNow (one 0 0x20 0 0 0 (leaves 0))) looks .reply .answer ≡ Done (G.Length 500 0) = ap noneFor length-500 in
+    let some = due-here uncounting (λ v c e. rw e) (ap (answering noneFor) unlinks) due (ap (λ (a : Answered). isCollected a) none) .1 in
+    let wrong : _≡_ {A = ℕ} 0 1 = ap (λ (l : List ℕ). getD l 1 0) (sym (ap answeredValues none) ∙ some) in
+    omega (arith, wrong)
 
 -- ---- a length drawn as if every request were a control request
 
@@ -243,11 +283,11 @@ abbrev pub asksControl : Machine inPlain
 asksControl v c = cond (eqb (rank c) 2) (misread v c) (core v c)
 
 misread-unlinks : misread (linkedNow (one 0 0 0 0 0 linked)) looks ≡ unlinked
-unfolding decideOf asksOf askOf askable requestAsk placesFrom seenFrom readOf viewOf stageSeen firstError lengthOf requestedAt rowsFit replied fillOf filledFrom noChain packed listOf collectDecided collectOf linkedOf acceptsOf endpointAt decoded slotAt unlinkOf waitingOf boundedOf unlinkedOf ringOf detachOf predecessorOf searchFrom precedesOne withEndpoint withSlot withBell stateOf
+unfolding decideOf asksOf askOf askable requestAsk placesFrom seenFrom readOf viewOf stageSeen firstError lengthOf retriedOf requestedAt rowsFit replied fillOf filledFrom noChain packed listOf collectDecided collectOf linkedOf acceptsOf endpointAt decoded slotAt unlinkOf waitingOf boundedOf unlinkedOf ringOf detachOf predecessorOf searchFrom precedesOne withEndpoint withSlot withBell stateOf
 misread-unlinks = rw (states-good .0)
 
-misread-none : misread (apartNow (one 0 0x20 0 0 0 (leaves 0))) looks .reply .answer ≡ Done (G.Length 0)
-unfolding decideOf asksOf askOf askable requestAsk placesFrom seenFrom readOf viewOf stageSeen firstError lengthOf requestedAt rowsFit replied fillOf filledFrom noChain packed listOf collectDecided collectOf acceptsOf endpointAt decoded slotAt unlinkingOf finishOf outcomeOf freed clearOf endedOverlay putAt terminated withOwner withEndpoint withSlot stateOf
+misread-none : misread (apartNow (one 0 0x20 0 0 0 (leaves 0))) looks .reply .answer ≡ Done (G.Length 0 1)
+unfolding decideOf asksOf askOf askable requestAsk placesFrom seenFrom readOf viewOf stageSeen firstError lengthOf retriedOf requestedAt rowsFit replied fillOf filledFrom noChain packed listOf collectDecided collectOf acceptsOf endpointAt decoded slotAt unlinkingOf finishOf outcomeOf freed clearOf endedOverlay putAt terminated withOwner withEndpoint withSlot stateOf
 misread-none = rw (states-good .3)
 
 pub asks-control-due : EveryRun CollectsDue asksControl → ⊥
@@ -257,5 +297,5 @@ asks-control-due due =
     omega (arith, none)
 
 -- and `core` answers as is due
-pub core-due : answeredValues (core (apartNow (one 0 0x20 0 0 0 (leaves 0))) looks .reply .answer) ≡ 500 ∷ []
+pub core-due : answeredValues (core (apartNow (one 0 0x20 0 0 0 (leaves 0))) looks .reply .answer) ≡ 500 ∷ 1 ∷ []
 core-due = ap answeredValues length-500

@@ -47,7 +47,7 @@ drops-plain : (v : World) (c : Call) → eqb (rank c) 3 ≡ false → drops v c 
 drops-plain v c e = rw e
 
 abbrev back : Call
-back = Writeback 0 0x000C8C00
+back = Writeback 0 0x000C8C08
 
 abbrev cs : List Call
 cs = callsOf upCalls submitsOne
@@ -69,8 +69,8 @@ drops-stays p =
     let zero : answeredNumber (drops (worldOf drops w cs) back .reply .answer) ≡ 0
     = ap (λ (v : World). answeredNumber (drops v back .reply .answer)) submits-there ∙ ap (λ (a : Applied). answeredNumber (a .reply .answer)) written in
     let is : tokenIn (rowsOf (drops (worldOf drops w cs) back) .pool) ≡ 0x02008C80 = ap (λ (v : World). tokenIn (rowsOf (drops v back) .pool)) submits-there in
-    let due : tokenIn (rowsOf (drops (worldOf drops w cs) back) .pool) ≡ 0x000C8C00
-    = ap (λ (d : QueueTransferDescriptor). d .token) (p small w opening cs .written 0 0x000C8C00 zero) in
+    let due : tokenIn (rowsOf (drops (worldOf drops w cs) back) .pool) ≡ 0x000C8C08
+    = ap (λ (d : QueueTransferDescriptor). d .token) (p small w opening cs .written 0 0x000C8C08 zero) in
     omega (arith, sym is ∙ due)
 
 -- so the record has not the token that was last written back
@@ -102,9 +102,9 @@ not-standing x = by (x .since) (x .picture) (x .untouched)
     by : (since : History) → told ≡ since ++ x .last ∷ x .before → Untouched small 0 0 since → ⊥
     by [] e u =
         ⊎-elim (λ z. false≢true (ap (λ (h : History). isSubmitsOf 0 (event small (newest h))) e ∙ ap (isSubmitsOf 0) (z .0)))
-        (λ z. let none : _≡_ {A = ℕ} 0x000C8C00 0x02008C80 = ap (λ (h : History). getD (backAt (newest h .call)) 1 0) e ∙ ap (λ (c : Call). getD (backAt c) 1 0) (z .0) in omega (arith, none))
+        (λ z. let none : _≡_ {A = ℕ} 0x000C8C08 0x02008C80 = ap (λ (h : History). getD (backAt (newest h .call)) 1 0) e ∙ ap (λ (c : Call). getD (backAt c) 1 0) (z .0) in omega (arith, none))
         (x .stands)
-    by (t ∷ since) e u = u .0 0x000C8C00 (sym (ap (λ (h : History). newest h .call) e), sym (ap (λ (h : History). answeredNumber (newest h .answer)) e))
+    by (t ∷ since) e u = u .0 0x000C8C08 (sym (ap (λ (h : History). newest h .call) e), sym (ap (λ (h : History). answeredNumber (newest h .answer)) e))
 
 abbrev AllStand : History → World → List Use → Type 0
 AllStand h v us = Every (λ u. (j : ℕ) → j < length (u .places) → TokenStands small h (moment drops v) u j) us

@@ -27,12 +27,15 @@ totalBytes w = field w 16 15
 abbrev pub dataToggle : ℕ → ℕ
 dataToggle w = field w 31 1
 
--- of the status: Active, and the four bits from Transaction Error (3) over Babble and Data Buffer Error to Halted (6)
+-- of the status: Active; Halted; Transaction Error, which stays set where a retry went through
 abbrev pub active : ℕ → ℕ
 active w = field w 7 1
 
-abbrev pub errors : ℕ → ℕ
-errors w = field w 3 4
+abbrev pub halted : ℕ → ℕ
+halted w = field w 6 1
+
+abbrev pub transactionError : ℕ → ℕ
+transactionError w = field w 3 1
 
 -- PID codes (table 3-16)
 abbrev pub outCode : ℕ

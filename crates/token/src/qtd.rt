@@ -4,7 +4,7 @@ ghost use Prim.Native.Nat.{min};
 ghost use mathlib.Core.Bool.{not};
 ghost use lib.Dec.{eqb};
 ghost use Rattle.register.specs.Bits.{withField};
-ghost use Rattle.token.specs.EhciQtd.{totalBytes, active, errors};
+ghost use Rattle.token.specs.EhciQtd.{totalBytes, active, halted, transactionError};
 ghost use Rattle.token.specs.Tokens.{pidOf, onlyIf, newToken, tokenOf, withFlag};
 use register::bits::any_of;
 use register::bits::with_bits;
@@ -32,7 +32,9 @@ impl QtdPid {
 pub struct QtdToken(pub u32);
 
 impl QtdToken {
-    pub const ERROR_MASK: u32 = (1 << 6) | (1 << 5) | (1 << 4) | (1 << 3);
+    pub const HALTED: u32 = 1 << 6;
+
+    pub const TRANSACTION_ERROR: u32 = 1 << 3;
 
     pub const ACTIVE: u32 = 1 << 7;
 
@@ -104,10 +106,17 @@ impl QtdToken {
         any_of(self.0, Self::ACTIVE)
     }
 
+    // Halted alone: the other three stay set though a retry went through.
     pub fn has_error(self) -> bool
-        ensures { λ r. ⌜ r ≡ not (eqb (errors (self .0)) 0) ⌝ }
+        ensures { λ r. ⌜ r ≡ not (eqb (halted (self .0)) 0) ⌝ }
     {
-        any_of(self.0, Self::ERROR_MASK)
+        any_of(self.0, Self::HALTED)
+    }
+
+    pub fn retried(self) -> bool
+        ensures { λ r. ⌜ r ≡ not (eqb (transactionError (self .0)) 0) ⌝ }
+    {
+        any_of(self.0, Self::TRANSACTION_ERROR)
     }
 
     // An active token with three tries, as every descriptor of a request starts.

@@ -9,7 +9,7 @@ use native.Mathlib.Omega.{arith}
 use borrow.Author.Tests.{eq-eqb, le-leb, lt-ltb, ne-eqb, eqb-true}
 use lib.Dec.{eqb}
 use lib.ListN.{getD, length, take}
-use Rattle.token.specs.EhciQtd.{totalBytes}
+use Rattle.token.specs.EhciQtd.{totalBytes, transactionError}
 use Rattle.token.specs.Chunks.{ifEmpty, needOf, workingLimit}
 use Rattle.common.specs.Kinds.{isControl}
 use Rattle.common.specs.declared.kinds.Direction.{Direction}
@@ -17,7 +17,7 @@ use Rattle.common.specs.declared.kinds.Direction.the-variants.{Out, In}
 use Rattle.common.specs.declared.kinds.EndpointType.{EndpointType}
 use Rattle.common.specs.declared.kinds.EndpointType.the-variants.{Control, Isochronous, Bulk, Interrupt}
 use Rattle.descriptor.specs.declared.qtd.QueueTransferDescriptor.{QueueTransferDescriptor}
-use Rattle.pool.specs.Chains.{Seen, blank, firstError, isErring, isShort, lengthOf, readOf, seenFrom, viewOf}
+use Rattle.pool.specs.Chains.{Seen, blank, firstError, isErring, isRetried, isShort, lengthOf, numberIf, readOf, retriedOf, seenFrom, viewOf}
 use Rattle.pool.specs.Places.{placesFrom}
 use Rattle.pool.specs.Transfers.{endsShort, requestedAt}
 use Rattle.pool.specs.Plain.{Ask}
@@ -40,7 +40,7 @@ use Rattle.promises.specs.Uses.{Use, mayEndShort, uses, limitOfUse}
 use Rattle.promises.specs.Bells.{cancelled}
 use Rattle.promises.specs.Rooms.{Every}
 use Rattle.promises.specs.Coverage.{dataOf}
-use Rattle.promises.specs.Collections.{Answers, CollectsDue, Due, dueOf, dueTo, erring, moved, pieceOf, readTo, recordsAt, those, tokensOf}
+use Rattle.promises.specs.Collections.{Answers, CollectsDue, Due, dueOf, dueTo, erring, moved, pieceOf, readTo, recordsAt, retries, those, tokensOf}
 use Rattle.promises.proofs.any_machine.ShortRule.{by-count}
 use Rattle.promises.proofs.effects.EffectDoor.{seen}
 use Rattle.promises.proofs.invariants.Reached.{reached}
@@ -114,6 +114,20 @@ module _ (len limit : ℕ) (rs : List QueueTransferDescriptor) where
   all-moved Bulk ps n = chunks-all Bulk (λ k. refl) ps
   all-moved Interrupt ps n = chunks-all Interrupt (λ k. refl) ps
 
+-- how many were retried
+one-bit : (w : ℕ) → numberIf (isRetried w) 1 0 ≡ transactionError w
+one-bit w = by (decEq (transactionError w) 0)
+  where
+    by : Dec (transactionError w ≡ 0) → numberIf (isRetried w) 1 0 ≡ transactionError w
+    by (yes z) = rw z
+    by (no ne) = rw (ne-eqb (transactionError w) 0 ne) (omega (arith, ne))
+
+all-retried : (kind : EndpointType) (len limit : ℕ) (rs : List QueueTransferDescriptor) (k : ℕ) (ps : List ℕ)
+    → retriedOf (seenFrom kind len limit k ps rs) ≡ retries (tokensOf (map (λ p. getD rs p blank) ps))
+unfolding seenFrom retriedOf
+all-retried kind len limit rs k [] = refl
+all-retried kind len limit rs k (p ∷ ps) = ap₂ _+_ (one-bit (getD rs p blank .token)) (all-retried kind len limit rs (suc k) ps)
+
 -- ---- up to the first short one
 
 module _ (rs : List QueueTransferDescriptor) where
@@ -168,13 +182,13 @@ module _ (rs : List QueueTransferDescriptor) where
 
 -- ---- the answer
 
-due-outcome : (b : Bool) (ss : List Seen) (failed : List ℕ) (n : ℕ) → FirstIs (firstError ss) failed → lengthOf ss ≡ n
-    → (answeredNumber (collectedAnswer (outcomeOf b (viewOf ss))) ≡ dueOf b failed n .number)
-    × (answeredValues (collectedAnswer (outcomeOf b (viewOf ss))) ≡ dueOf b failed n .values)
+due-outcome : (b : Bool) (ss : List Seen) (failed : List ℕ) (n c : ℕ) → FirstIs (firstError ss) failed → lengthOf ss ≡ n → retriedOf ss ≡ c
+    → (answeredNumber (collectedAnswer (outcomeOf b (viewOf ss))) ≡ dueOf b failed n c .number)
+    × (answeredValues (collectedAnswer (outcomeOf b (viewOf ss))) ≡ dueOf b failed n c .values)
 unfolding outcomeOf viewOf
-due-outcome true ss failed n f l = (refl, refl)
-due-outcome false ss [] n f l = rw (eq-eqb (firstError ss) 0 f) (refl, ap (λ (m : ℕ). m ∷ []) l)
-due-outcome false ss (token ∷ more) n f l =
+due-outcome true ss failed n c f l r = (refl, refl)
+due-outcome false ss [] n c f l r = rw (eq-eqb (firstError ss) 0 f) (refl, ap₂ (λ (m d : ℕ). m ∷ d ∷ []) l r)
+due-outcome false ss (token ∷ more) n c f l r =
     rw (ne-eqb (firstError ss) 0 (λ z. f .1 (sym (f .0) ∙ z))) (refl, ap (λ (m : ℕ). m ∷ []) (f .0))
 
 -- ---- the request
@@ -321,13 +335,13 @@ module _ (w : World) (h : History) (sound : Sound (w .state .settings) w) (kept 
       let limit = limitOfUse s u in
       let seen-is = seenFrom kind n limit 0 read (w .rows .pool) in
       let met = map (λ p. getD (w .rows .pool) p blank) read in
-      let out = due-outcome (cancelled s (u .slot) h) seen-is (erring (tokensOf met)) (moved (pieceOf kind n limit) n (tokensOf (dataOf kind met)))
-      (first-erring kind n limit (w .rows .pool) 0 read) (all-moved n limit (w .rows .pool) kind read whole) in
+      let out = due-outcome (cancelled s (u .slot) h) seen-is (erring (tokensOf met)) (moved (pieceOf kind n limit) n (tokensOf (dataOf kind met))) (retries (tokensOf met))
+      (first-erring kind n limit (w .rows .pool) 0 read) (all-moved n limit (w .rows .pool) kind read whole) (all-retried kind n limit (w .rows .pool) 0 read) in
       let answer : core w (Collect k id rd) .reply .answer ≡ collectedAnswer (outcomeOf (cancelled s (u .slot) h) (viewOf seen-is))
       = x .answer-is ∙ ap₂ (λ (b : Bool) (v : View). collectedAnswer (outcomeOf b v)) (same-mark ∙ ap (λ (j : ℕ). cancelled s j h) (sym (one .slot-is)))
       (sees ∙ ap viewOf (seen-read (w .rows .pool) kind n limit 0 stops (u .places))) in
-      let due-is : dueOf (cancelled s (u .slot) h) (erring (tokensOf met)) (moved (pieceOf kind n limit) n (tokensOf (dataOf kind met))) ≡ dueTo s h (w .rows) u
-      = ap (λ (ds : List QueueTransferDescriptor). dueOf (cancelled s (u .slot) h) (erring (tokensOf ds)) (moved (pieceOf kind n limit) n (tokensOf (dataOf kind ds)))) records-are in
+      let due-is : dueOf (cancelled s (u .slot) h) (erring (tokensOf met)) (moved (pieceOf kind n limit) n (tokensOf (dataOf kind met))) (retries (tokensOf met)) ≡ dueTo s h (w .rows) u
+      = ap (λ (ds : List QueueTransferDescriptor). dueOf (cancelled s (u .slot) h) (erring (tokensOf ds)) (moved (pieceOf kind n limit) n (tokensOf (dataOf kind ds))) (retries (tokensOf ds))) records-are in
       (ap answeredNumber answer ∙ out .0 ∙ ap (λ (d : Due). d .number) due-is, ap answeredValues answer ∙ out .1 ∙ ap (λ (d : Due). d .values) due-is)
 
   answers : Answers s h (moment core w) k id rd

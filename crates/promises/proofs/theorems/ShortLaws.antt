@@ -8,7 +8,7 @@ use native.Mathlib.Omega.{arith}
 use borrow.Author.Tests.{eq-eqb, ltb-false, ltb-true, ne-eqb}
 use lib.Dec.{eqb, ltb}
 use lib.ListN.{drop, getD, length, length-take, take}
-use Rattle.token.specs.EhciQtd.{active, totalBytes}
+use Rattle.token.specs.EhciQtd.{active, halted, totalBytes}
 use Rattle.token.specs.Plans.{controlPlan}
 use Rattle.token.specs.declared.plan.DataTd.{DataTd}
 use Rattle.token.specs.declared.plan.DataTd.the-variants.{Absent, Present}
@@ -37,7 +37,7 @@ use Rattle.promises.specs.Runs.{EveryRun, History, World, core, historyO
 use Rattle.promises.specs.Uses.{Use, comesIn, mayEndShort, uses}
 use Rattle.promises.specs.Walks.{Ends, On, Terminated, Walk, chainWalk, nextLeads}
 use Rattle.promises.specs.Rooms.{Every, placesInUse, transferFor, untold}
-use Rattle.promises.specs.EhciQueue.{Fetched, Queue, begunAt, halted, pointer, visit, visits}
+use Rattle.promises.specs.EhciQueue.{Fetched, Queue, begunAt, pointer, visit, visits}
 use Rattle.promises.specs.Shorts.{FullGoesOn, Shared, SharedStands, ShortStops, ShortToken, StopsAt, doneWith, following, memoryOf, placeIn}
 use Rattle.promises.proofs.any_machine.Leads.{next-on, next-stops}
 use Rattle.promises.proofs.effects.EffectOf.{effect}

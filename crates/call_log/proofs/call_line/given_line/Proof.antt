@@ -16,8 +16,8 @@ bare-line-requires c κs = search needs
 enum-known-given : tie.Need-enum-known-given
 enum-known-given c = search needs
 
-cast-t12 : tie.Need-cast-t12
-cast-t12 c = search needs
+cast-t13 : tie.Need-cast-t13
+cast-t13 c = search needs
 
 line-with-requires : tie.Need-line-with-requires
 line-with-requires c κs = search needs
@@ -25,8 +25,8 @@ line-with-requires c κs = search needs
 enum-known-given-2 : tie.Need-enum-known-given-2
 enum-known-given-2 c = search needs
 
-cast-t14 : tie.Need-cast-t14
-cast-t14 c = search needs
+cast-t15 : tie.Need-cast-t15
+cast-t15 c = search needs
 
 line-with-requires-2 : tie.Need-line-with-requires-2
 line-with-requires-2 c κs = search needs
@@ -40,20 +40,23 @@ line-with-requires-3 c κs = search needs
 enum-known-given-4 : tie.Need-enum-known-given-4
 enum-known-given-4 c = search needs
 
-line-with-requires-4 : tie.Need-line-with-requires-4
-line-with-requires-4 c κs = search needs
+cast-line-with-two : tie.Need-cast-line-with-two
+cast-line-with-two c = search needs
+
+line-with-two-requires : tie.Need-line-with-two-requires
+line-with-two-requires c κs = search needs
 
 enum-told-2 : tie.Need-enum-told-2
 enum-told-2 c = search needs
 
-line-with-requires-5 : tie.Need-line-with-requires-5
-line-with-requires-5 c κs = search needs
+line-with-requires-4 : tie.Need-line-with-requires-4
+line-with-requires-4 c κs = search needs
 
 enum-told-3 : tie.Need-enum-told-3
 enum-told-3 c = search needs
 
-line-with-requires-6 : tie.Need-line-with-requires-6
-line-with-requires-6 c κs = search needs
+line-with-requires-5 : tie.Need-line-with-requires-5
+line-with-requires-5 c κs = search needs
 
 enum-known-given-5 : tie.Need-enum-known-given-5
 enum-known-given-5 c = search needs
@@ -64,8 +67,8 @@ event-number-requires c κs = search needs
 event-value-requires : tie.Need-event-value-requires
 event-value-requires c κs = search needs
 
-event-line-requires : tie.Need-event-line-requires
-event-line-requires c κs = search needs
+line-with-two-requires-2 : tie.Need-line-with-two-requires-2
+line-with-two-requires-2 c κs = search needs
 
 enum-known-given-6 : tie.Need-enum-known-given-6
 enum-known-given-6 c = search needs
@@ -94,19 +97,19 @@ returns-4 c = rw (c .before .before .given3 .given .1) (c .line-with3 .ensures)
 
 returns-5 : tie.Need-returns-5
 unfolding saidLine lineOf callLine stepLine
-returns-5 c = rw (c .before .before .given4 .given .1) (c .line-with4 .ensures)
+returns-5 c = rw (c .before .before .given4 .given .1) (c .line-with-two .ensures)
 
 returns-6 : tie.Need-returns-6
 unfolding saidLine lineOf callLine stepLine
-returns-6 c = rw (c .before .enum-told2 .given .1) (c .line-with5 .ensures)
+returns-6 c = rw (c .before .enum-told2 .given .1) (c .line-with4 .ensures)
 
 returns-7 : tie.Need-returns-7
 unfolding saidLine lineOf callLine stepLine
-returns-7 c = rw (c .before .enum-told3 .given .1) (c .line-with6 .ensures)
+returns-7 c = rw (c .before .enum-told3 .given .1) (c .line-with5 .ensures)
 
 returns-8 : tie.Need-returns-8
 unfolding saidLine lineOf callLine stepLine
-returns-8 c = rw (c .before .before .before .before .given5 .given .1, ← c .before .before .event-number .ensures, ← c .before .event-value .ensures) (c .event-line .ensures)
+returns-8 c = rw (c .before .before .before .before .given5 .given .1, ← c .before .before .event-number .ensures, ← c .before .event-value .ensures) (c .line-with-two2 .ensures)
 
 returns-9 : tie.Need-returns-9
 unfolding stepLine
@@ -121,23 +124,24 @@ given-line-spec =
     enum-told
     bare-line-requires
     enum-known-given
-    cast-t12
+    cast-t13
     line-with-requires
     enum-known-given-2
-    cast-t14
+    cast-t15
     line-with-requires-2
     enum-known-given-3
     line-with-requires-3
     enum-known-given-4
-    line-with-requires-4
+    cast-line-with-two
+    line-with-two-requires
     enum-told-2
-    line-with-requires-5
+    line-with-requires-4
     enum-told-3
-    line-with-requires-6
+    line-with-requires-5
     enum-known-given-5
     event-number-requires
     event-value-requires
-    event-line-requires
+    line-with-two-requires-2
     enum-known-given-6
     register-part-requires
     step-line-requires

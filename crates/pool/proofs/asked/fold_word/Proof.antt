@@ -139,7 +139,7 @@ module _ {M : Type 1} (𝓤 : URA M) (H : Heap 𝓤) (A : Atoms 𝓤) (W : Given
   abbrev to-see-word : (u : Folded) (uv : Val) (p : AskWords) (pv : Val) (w : ℕ) → met 𝓤 H A see-word.ended (see-word.clauses 𝓤 H A mem run) .Ghost
   to-see-word u uv p pv w = ((tt, tt, tt, (u, (p, (w, tt))), (uv ∷ [], (pv ∷ [], (vint w32 w ∷ [], tt)))), tt)
 
-  goes-see-word : (u : Folded) (uv : Val) (p : AskWords) (pv : Val) (w : ℕ) → Is Fo.the-row u (uv ∷ []) → Is Q.the-row p (pv ∷ []) → w < 2 ^ 32 → (u .k < 256) × (p .length < 2 ^ 32) × (p .limit ≤ 16384) × (u .view .moved ≤ u .k * 2 ^ 32) → ent 𝓤 (sem 𝓤 H A ftrue) (met 𝓤 H A see-word.ended (see-word.clauses 𝓤 H A mem run) .pre (to-see-word u uv p pv w))
+  goes-see-word : (u : Folded) (uv : Val) (p : AskWords) (pv : Val) (w : ℕ) → Is Fo.the-row u (uv ∷ []) → Is Q.the-row p (pv ∷ []) → w < 2 ^ 32 → (u .k < 256) × (p .length < 2 ^ 32) × (p .limit ≤ 16384) × (u .view .moved ≤ u .k * 2 ^ 32) × (u .view .retried ≤ u .k) → ent 𝓤 (sem 𝓤 H A ftrue) (met 𝓤 H A see-word.ended (see-word.clauses 𝓤 H A mem run) .pre (to-see-word u uv p pv w))
   goes-see-word u uv p pv w is-u is-p is-w req = qed W (‵ ftrue ∷ []) ∵ says ! req $ owned ! u32 (Is u32) (uint-makes 𝓤 H A W w32) w (vint w32 w ∷ []) (refl, is-w) $ fjoin ! $ owned ! Q.the-row (Is Q.the-row) (LL.makes Q.the-type Q′.the-plain 𝓤 H A) p (pv ∷ []) is-p $ fjoin ! $ owned ! Fo.the-row (Is Fo.the-row) (LL.makes Fo.the-type Fo′.the-plain 𝓤 H A) u (uv ∷ []) is-u $ fjoin ! $ nothing ! $ frame ! $ done !
 
   abbrev to-left-after : (u : Folded) (uv : Val) (l : ℕ) → met 𝓤 H A left-after.ended (left-after.clauses 𝓤 H A mem run) .Ghost
@@ -192,7 +192,7 @@ module _ {M : Type 1} (𝓤 : URA M) (H : Heap 𝓤) (A : Atoms 𝓤) (W : Given
         looks (fmOf 𝓤 H (W .laws) 𝓣) token-at.ended (token-at.clauses 𝓤 H A mem run) known-token-at (to-token-at p) (λ r. r ≡ getD ys p blank .token) (λ r e. id⊢ 𝓤 _) ! x (s ∷ []) (goes-token-at p (is-p .1) (seeing-in n ask ys j before good (t .0) (t .1) (t .3 .1 .1) (t .3 .0) some p ep)) (fst∗ 𝓤 (A .lft κ q) (emp 𝓤))
         (λ j k. and-then ! (load ! (from ! (stop !)) (look ! 20 refl)) (and-then ! (load ! (from ! (stop !)) (look ! 8 refl)) (no-more !))) (λ w wv ew is-w.
         move ! (2 ∷ []) $ drop-item ! $ land ! (from ! (stop !)) (init ! 6 refl (uint-lawful 𝓤 H A W w32 .typed w _ is-w .0)) $ rewrite ! 6 (λ (z : Val). ‵ (fat fullShare narrow l₈ 0 z)) (ap only (uint-tells w32 w _ is-w)) refl $
-        gives (fmOf 𝓤 H (W .laws) 𝓣) see-word.ended (see-word.clauses 𝓤 H A mem run) known-see-word (to-see-word (t .1) (t .2) ask qv w) (λ r. r ≡ seenNext (t .1) ask w) (λ r e. id⊢ 𝓤 _) ! (goes-see-word (t .1) (t .2) ask qv w (t .3 .1 .0) is-ask (is-w .1) (seeing-below n ask ys j before good (t .0) (t .1) (t .3 .1 .1) (t .3 .0) some, good .short, good .limited, t .3 .1 .1 .in-bounds)) (λ j. and-then ! (load ! (from ! (stop !)) (look ! 13 refl)) (and-then ! (load ! (from ! (stop !)) (look ! 19 refl)) (and-then ! (load ! (from ! (stop !)) (look ! 7 refl)) (no-more !)))) (λ u uv eu is-u.
+        gives (fmOf 𝓤 H (W .laws) 𝓣) see-word.ended (see-word.clauses 𝓤 H A mem run) known-see-word (to-see-word (t .1) (t .2) ask qv w) (λ r. r ≡ seenNext (t .1) ask w) (λ r e. id⊢ 𝓤 _) ! (goes-see-word (t .1) (t .2) ask qv w (t .3 .1 .0) is-ask (is-w .1) (seeing-below n ask ys j before good (t .0) (t .1) (t .3 .1 .1) (t .3 .0) some, good .short, good .limited, t .3 .1 .1 .in-bounds .0, t .3 .1 .1 .in-bounds .1)) (λ j. and-then ! (load ! (from ! (stop !)) (look ! 13 refl)) (and-then ! (load ! (from ! (stop !)) (look ! 19 refl)) (and-then ! (load ! (from ! (stop !)) (look ! 7 refl)) (no-more !)))) (λ u uv eu is-u.
         drop-item ! $ land ! (from ! (stop !)) (store ! 12 refl (LL.lawful Fo.the-type Fo′.the-laws 𝓤 H A W .typed u _ is-u .0)) $
         gives (fmOf 𝓤 H (W .laws) 𝓣) left-after.ended (left-after.clauses 𝓤 H A mem run) known-left-after (to-left-after u uv (t .0)) (λ r. r ≡ leftIf (u .ended) (bitAnd (t .0) (t .0 - 1))) (λ r e. id⊢ 𝓤 _) ! (goes-left-after u uv (t .0) is-u (t .3 .0)) (λ j. and-then ! (load ! (from ! (stop !)) (look ! 13 refl)) (and-then ! (load ! (from ! (stop !)) (look ! 11 refl)) (no-more !))) (λ r rv er is-r.
         drop-item ! $ land ! (from ! (stop !)) (init ! 4 refl (uint-lawful 𝓤 H A W w64 .typed r _ is-r .0)) $ rewrite ! 4 (λ (z : Val). ‵ (fat fullShare word l₉ 0 z)) (ap only (uint-tells w64 r _ is-r)) refl $

@@ -9,7 +9,7 @@ any-of-requires : tie.Need-any-of-requires
 any-of-requires c κs = search needs
 
 returns : tie.Need-returns
-returns c = c .any-of .ensures ∙ any-field (c .before .args .self .0) 3 4
+returns c = c .any-of .ensures ∙ any-field (c .before .args .self .0) 6 1
 
 pub has-error-spec : {M : Type 1} → statement M
 has-error-spec = tie.close (tie.spec any-of-requires returns)

@@ -1,10 +1,10 @@
--- `call_log::call_line::event_line` meets its contract.
+-- `call_log::call_line::line_with_two` meets its contract.
 use mathlib.Core.Path.{refl}
 use Rattle.call_log.specs.CallLine.{callLine}
 use Rattle.call_log.specs.Lines.{lineBytes, partsBytes, lineOf}
 use borrow.Author.Needs.{needs}
-use Rattle.call_log.proofs.call_line.event_line.Statement.{statement}
-use Rattle.call_log.proofs.call_line.event_line.Tie as tie
+use Rattle.call_log.proofs.call_line.line_with_two.Statement.{statement}
+use Rattle.call_log.proofs.call_line.line_with_two.Tie as tie
 
 array-set-from-cells : tie.Need-array-set-from-cells
 array-set-from-cells c = search needs
@@ -25,8 +25,8 @@ returns : tie.Need-returns
 unfolding lineBytes partsBytes lineOf callLine
 returns c = refl
 
-pub event-line-spec : {M : Type 1} → statement M
-event-line-spec =
+pub line-with-two-spec : {M : Type 1} → statement M
+line-with-two-spec =
     tie.close
     (tie.spec
     array-set-from-cells
