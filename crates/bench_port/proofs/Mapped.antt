@@ -9,9 +9,9 @@ use Rattle.bench_port.specs.declared.numbers.Replied.{Replied}
 
 -- f packs what a call returns, g what is seen of it
 module _ {R S T : Type 0} (f : R → Replied) (g : S → T) (c : Core) (x refusal : R) (rest : Rest) where
-  pub core-mapped : (seen : List ℕ → S) (decides : Ehci → S) → CoreCall c x refusal rest seen decides
+  pub core_mapped : (seen : List ℕ → S) (decides : Ehci → S) → CoreCall c x refusal rest seen decides
       → CoreCall c (f x) (f refusal) rest (λ ws. g (seen ws)) (λ s. g (decides s))
-  core-mapped seen decides k =
+  core_mapped seen decides k =
       record {
         refused = λ t. ap f (k.refused t);
         decided = λ ws h. ap g (k.decided ws h);
@@ -19,9 +19,9 @@ module _ {R S T : Type 0} (f : R → Replied) (g : S → T) (c : Core) (x refusa
       }
 
   module _ (ws ws' : List ℕ) where
-    pub slots-mapped : (seen : S) (decides : Ehci → S) → SlotsCall c ws ws' x refusal rest seen decides
+    pub slots_mapped : (seen : S) (decides : Ehci → S) → SlotsCall c ws ws' x refusal rest seen decides
         → SlotsCall c ws ws' (f x) (f refusal) rest (g seen) (λ s. g (decides s))
-    slots-mapped seen decides k =
+    slots_mapped seen decides k =
         record {
           refused = λ t. (ap f (k.refused t).0, (k.refused t).1);
           decided = λ t. ap g (k.decided t);
@@ -29,19 +29,19 @@ module _ {R S T : Type 0} (f : R → Replied) (g : S → T) (c : Core) (x refusa
         }
 
     module _ (heads heads' : List ℕ) where
-      pub heads-mapped : (seen : S) (decides : ℕ → ℕ → ℕ → S) → HeadsCall c ws ws' heads heads' x refusal rest seen decides
+      pub heads_mapped : (seen : S) (decides : ℕ → ℕ → ℕ → S) → HeadsCall c ws ws' heads heads' x refusal rest seen decides
           → HeadsCall c ws ws' heads heads' (f x) (f refusal) rest (g seen) (λ pool frames setups. g (decides pool frames setups))
-      heads-mapped seen decides k =
+      heads_mapped seen decides k =
           record {
             refused = λ t. (ap f (k.refused t).0, (k.refused t).1, (k.refused t).2);
             decided = λ t pool frames setups h. ap g (k.decided t pool frames setups h);
             tidy = k.tidy;
           }
 
-      pub frames-mapped : (frames frames' : List ℕ) (seen : S) (decides : ℕ → ℕ → S)
+      pub frames_mapped : (frames frames' : List ℕ) (seen : S) (decides : ℕ → ℕ → S)
           → FramesCall c ws ws' heads heads' frames frames' x refusal rest seen decides
           → FramesCall c ws ws' heads heads' frames frames' (f x) (f refusal) rest (g seen) (λ pool setups. g (decides pool setups))
-      frames-mapped frames frames' seen decides k =
+      frames_mapped frames frames' seen decides k =
           record {
             refused = λ t. (ap f (k.refused t).0, (k.refused t).1, (k.refused t).2, (k.refused t).3);
             decided = λ t pool setups h. ap g (k.decided t pool setups h);

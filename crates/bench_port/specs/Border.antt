@@ -1,13 +1,13 @@
 -- What C sees of a call: the state that the words then stand for, the numbers of its answer, and the rows that it was lent.
 use Rattle.core.specs.Prelude.{ℕ, List}
 use Rattle.descriptor.specs.declared.qtd.QueueTransferDescriptor.{QueueTransferDescriptor}
-use Rattle.register.specs.Writes.{noWrites}
+use Rattle.register.specs.Writes.{no_writes}
 use Rattle.register.specs.declared.writes.Writes.{Writes}
 use Rattle.settings.specs.declared.settings.Settings.{Settings}
 use Rattle.state.specs.Plain.{Ehci}
 use Rattle.words.specs.Record.{places_at}
 use Rattle.words.specs.View.{state_of}
-use Rattle.pipe.specs.Endpoints.{directionOf, kind_of}
+use Rattle.pipe.specs.Endpoints.{direction_of, kind_of}
 use Rattle.controller.specs.Plain.{Allotment}
 use Rattle.controller.specs.declared.lent.Readings.{Readings}
 use Rattle.endpoint.specs.Calls.{ChangeLeft, OpenLeft}
@@ -22,26 +22,26 @@ use Rattle.ehci.specs.declared.call.Call.{Call}
 use Rattle.ehci.specs.declared.call.Call.TheVariants.{Submit, Collect}
 use Rattle.ehci.specs.declared.reply.Answered.{Answered}
 use Rattle.ehci.specs.Door.{Applied}
-use Rattle.ehci.specs.Replies.{acknowledgedAnswer, allottedAnswer, broughtAnswer, drainedAnswer, openedAnswer, simply}
+use Rattle.ehci.specs.Replies.{acknowledged_answer, allotted_answer, brought_answer, drained_answer, opened_answer, simply}
 use Rattle.bench_port.specs.declared.numbers.Replied.{Replied}
 use Rattle.bench_port.specs.declared.placed.PortPlaces.{PortPlaces}
-use Rattle.bench_port.specs.Numbers.{Numbers, numbersIn, numbersOf}
+use Rattle.bench_port.specs.Numbers.{Numbers, numbers_in, numbers_of}
 
 -- ---- the calls that are lent the pool
 
-abbrev pub readingsOf : ℕ → ℕ → ℕ → Readings
-readingsOf command frame overlay = record { command = command; frame = frame; overlay = overlay }
+abbrev pub readings_of : ℕ → ℕ → ℕ → Readings
+readings_of command frame overlay = record { command = command; frame = frame; overlay = overlay }
 
-abbrev pub requestOf : ℕ → ℕ → ℕ → ℕ → ℕ → TransferRequest
-requestOf kind direction setup address length =
-    record { kind = kind_of kind; direction = directionOf direction; setup = setup; address = address; length = length }
+abbrev pub request_of : ℕ → ℕ → ℕ → ℕ → ℕ → TransferRequest
+request_of kind direction setup address length =
+    record { kind = kind_of kind; direction = direction_of direction; setup = setup; address = address; length = length }
 
-abbrev pub submitOf : ℕ → ℕ → ℕ → ℕ → ℕ → ℕ → ℕ → ℕ → Call
-submitOf slot kind direction setup address length command frame =
-    Submit slot (requestOf kind direction setup address length) (readingsOf command frame 0)
+abbrev pub submit_of : ℕ → ℕ → ℕ → ℕ → ℕ → ℕ → ℕ → ℕ → Call
+submit_of slot kind direction setup address length command frame =
+    Submit slot (request_of kind direction setup address length) (readings_of command frame 0)
 
-abbrev pub collectOf : ℕ → ℕ → ℕ → ℕ → ℕ → Call
-collectOf slot id command frame overlay = Collect slot id (readingsOf command frame overlay)
+abbrev pub collect_of : ℕ → ℕ → ℕ → ℕ → ℕ → Call
+collect_of slot id command frame overlay = Collect slot id (readings_of command frame overlay)
 
 -- ---- what is seen
 
@@ -49,26 +49,26 @@ pub record Seen : Type 0 where
   pub state : Ehci
   pub numbers : Numbers
 
-abbrev pub seenIn : Settings → Replied → List ℕ → Seen
-seenIn s r ws = record { state = state_of s r.rest ws; numbers = numbersIn r }
+abbrev pub seen_in : Settings → Replied → List ℕ → Seen
+seen_in s r ws = record { state = state_of s r.rest ws; numbers = numbers_in r }
 
-abbrev pub seenOf : Ehci → Answered → Writes → Seen
-seenOf s answer writes = record { state = s; numbers = numbersOf answer writes }
+abbrev pub seen_of : Ehci → Answered → Writes → Seen
+seen_of s answer writes = record { state = s; numbers = numbers_of answer writes }
 
 pub record SeenHeads : Type 0 where
   pub seen : Seen
   pub heads : List ℕ
 
-abbrev pub besideHeads : Seen → List ℕ → SeenHeads
-besideHeads seen heads = record { seen = seen; heads = heads }
+abbrev pub beside_heads : Seen → List ℕ → SeenHeads
+beside_heads seen heads = record { seen = seen; heads = heads }
 
 pub record SeenLinks : Type 0 where
   pub seen : Seen
   pub heads : List ℕ
   pub frames : List ℕ
 
-abbrev pub besideLinks : Seen → List ℕ → List ℕ → SeenLinks
-besideLinks seen heads frames = record { seen = seen; heads = heads; frames = frames }
+abbrev pub beside_links : Seen → List ℕ → List ℕ → SeenLinks
+beside_links seen heads frames = record { seen = seen; heads = heads; frames = frames }
 
 pub record SeenRows : Type 0 where
   pub seen : Seen
@@ -77,43 +77,43 @@ pub record SeenRows : Type 0 where
   pub frames : List ℕ
   pub setups : List ℕ
 
-abbrev pub besideRows : Seen → List QueueTransferDescriptor → List ℕ → List ℕ → List ℕ → SeenRows
-besideRows seen pool heads frames setups =
+abbrev pub beside_rows : Seen → List QueueTransferDescriptor → List ℕ → List ℕ → List ℕ → SeenRows
+beside_rows seen pool heads frames setups =
     record { seen = seen; pool = pool; heads = heads; frames = frames; setups = setups }
 
 -- ---- of what each call leaves
 
-abbrev pub seenAcknowledged : Acknowledgement → Seen
-seenAcknowledged x = seenOf x.state (acknowledgedAnswer x.answer) x.writes
+abbrev pub seen_acknowledged : Acknowledgement → Seen
+seen_acknowledged x = seen_of x.state (acknowledged_answer x.answer) x.writes
 
-abbrev pub seenDrained : Drainage → Seen
-seenDrained x = seenOf x.state (drainedAnswer x.answer) x.writes
+abbrev pub seen_drained : Drainage → Seen
+seen_drained x = seen_of x.state (drained_answer x.answer) x.writes
 
-abbrev pub seenSettled : Settled → Seen
-seenSettled x = seenOf x.state (simply x.answer) x.writes
+abbrev pub seen_settled : Settled → Seen
+seen_settled x = seen_of x.state (simply x.answer) x.writes
 
-abbrev pub seenAllotted : Allotment → Seen
-seenAllotted x = seenOf x.state (allottedAnswer x.answer) noWrites
+abbrev pub seen_allotted : Allotment → Seen
+seen_allotted x = seen_of x.state (allotted_answer x.answer) no_writes
 
-abbrev pub seenBrought : BroughtUp → Seen
-seenBrought x = seenOf x.state (broughtAnswer x.answer x.read x.wait) x.writes
+abbrev pub seen_brought : BroughtUp → Seen
+seen_brought x = seen_of x.state (brought_answer x.answer x.read x.wait) x.writes
 
-abbrev pub seenOpened : OpenLeft → SeenHeads
-seenOpened x = besideHeads (seenOf x.opening.state (openedAnswer x.opening.answer) noWrites) x.heads
+abbrev pub seen_opened : OpenLeft → SeenHeads
+seen_opened x = beside_heads (seen_of x.opening.state (opened_answer x.opening.answer) no_writes) x.heads
 
-abbrev pub seenChange : Change → Seen
-seenChange x = seenOf x.state (simply x.answer) noWrites
+abbrev pub seen_change : Change → Seen
+seen_change x = seen_of x.state (simply x.answer) no_writes
 
-abbrev pub seenChanged : ChangeLeft → SeenHeads
-seenChanged x = besideHeads (seenChange x.change) x.heads
+abbrev pub seen_changed : ChangeLeft → SeenHeads
+seen_changed x = beside_heads (seen_change x.change) x.heads
 
-abbrev pub seenCancelled : Left → SeenLinks
-seenCancelled x = besideLinks (seenOf x.came.state (simply x.came.answer) x.came.writes) x.rows.heads x.rows.frames
+abbrev pub seen_cancelled : Left → SeenLinks
+seen_cancelled x = beside_links (seen_of x.came.state (simply x.came.answer) x.came.writes) x.rows.heads x.rows.frames
 
-abbrev pub seenApplied : Applied → SeenRows
-seenApplied a = besideRows (seenOf a.reply.state a.reply.answer a.reply.writes) a.pool a.heads a.frames a.setups
+abbrev pub seen_applied : Applied → SeenRows
+seen_applied a = beside_rows (seen_of a.reply.state a.reply.answer a.reply.writes) a.pool a.heads a.frames a.setups
 
 -- ---- the descriptors of a slot's request
 
-abbrev pub seenPlaces : List ℕ → ℕ → PortPlaces
-seenPlaces ws k = record { words = places_at ws k }
+abbrev pub seen_places : List ℕ → ℕ → PortPlaces
+seen_places ws k = record { words = places_at ws k }

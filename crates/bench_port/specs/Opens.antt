@@ -8,8 +8,8 @@ use Rattle.opening.specs.declared.open.Opening.{Opening}
 use Rattle.opening.specs.Words.{BlankWords, FreshWords, OpenedRows}
 use Rattle.bench_port.specs.declared.opens.PortOpened.{PortOpened}
 
-abbrev pub packOpening : Opening → PortOpened
-packOpening o = record { core = o.core; hub = o.hub; number = number_of o.answer }
+abbrev pub pack_opening : Opening → PortOpened
+pack_opening o = record { core = o.core; hub = o.hub; number = number_of o.answer }
 
 pub record SeenOpening : Type 0 where
   pub number : ℕ
@@ -19,12 +19,12 @@ pub record SeenOpening : Type 0 where
   pub frames : List ℕ
   pub setups : List ℕ
 
-abbrev pub besideOpened : PortOpened → List QueueTransferDescriptor → List ℕ → List ℕ → List ℕ → SeenOpening
-besideOpened r pool heads frames setups =
+abbrev pub beside_opened : PortOpened → List QueueTransferDescriptor → List ℕ → List ℕ → List ℕ → SeenOpening
+beside_opened r pool heads frames setups =
     record { number = r.number; hub = r.hub; pool = pool; heads = heads; frames = frames; setups = setups }
 
-abbrev pub seenOpening : OpenedRows → SeenOpening
-seenOpening o =
+abbrev pub seen_opening : OpenedRows → SeenOpening
+seen_opening o =
     record {
       number = number_of o.answer;
       hub = o.hub;

@@ -1,14 +1,14 @@
 // The calls on endpoints.
 ghost use Rattle.core.specs.Prelude.{◌≡◌};
-ghost use Rattle.register.specs.Writes.{noWrites};
+ghost use Rattle.register.specs.Writes.{no_writes};
 ghost use Rattle.words.specs.View.{view};
 ghost use Rattle.pipe.specs.Endpoints.{kind_of};
-ghost use Rattle.controller.specs.Address.{allotOf};
-ghost use Rattle.endpoint.specs.Calls.{clearHaltOf, closeOf, openEndpointOf, setAddressOf, setPacketSizeOf};
+ghost use Rattle.controller.specs.Address.{allot_of};
+ghost use Rattle.endpoint.specs.Calls.{clear_halt_of, close_of, open_endpoint_of, set_address_of, set_packet_size_of};
 ghost use Rattle.direct_calls.specs.Shapes.{CoreCall, HeadsCall, SlotsCall};
-ghost use Rattle.ehci.specs.Replies.{allottedAnswer, openedAnswer, simply};
-ghost use Rattle.bench_port.specs.Numbers.{packOf, refusedNumbers};
-ghost use Rattle.bench_port.specs.Border.{besideHeads, seenAllotted, seenChange, seenChanged, seenIn, seenOpened};
+ghost use Rattle.ehci.specs.Replies.{allotted_answer, opened_answer, simply};
+ghost use Rattle.bench_port.specs.Numbers.{pack_of, refused_numbers};
+ghost use Rattle.bench_port.specs.Border.{beside_heads, seen_allotted, seen_change, seen_changed, seen_in, seen_opened};
 
 use crate::numbers::{Replied, pack};
 use controller::calls::Allotment;
@@ -22,7 +22,7 @@ use register::writes::Writes;
 use words::core::Core;
 
 fn pack_allotted(x: Allotment) -> Replied
-    ensures { result ≡ packOf x.rest (allottedAnswer x.answer) noWrites }
+    ensures { result ≡ pack_of x.rest (allotted_answer x.answer) no_writes }
 {
     let answer = x.answer;
     let rest = x.rest;
@@ -30,7 +30,7 @@ fn pack_allotted(x: Allotment) -> Replied
 }
 
 fn pack_opened(x: EndpointOpening) -> Replied
-    ensures { result ≡ packOf x.rest (openedAnswer x.answer) noWrites }
+    ensures { result ≡ pack_of x.rest (opened_answer x.answer) no_writes }
 {
     let answer = x.answer;
     let rest = x.rest;
@@ -38,7 +38,7 @@ fn pack_opened(x: EndpointOpening) -> Replied
 }
 
 fn pack_change(x: Change) -> Replied
-    ensures { result ≡ packOf x.rest (simply x.answer) noWrites }
+    ensures { result ≡ pack_of x.rest (simply x.answer) no_writes }
 {
     let answer = x.answer;
     let rest = x.rest;
@@ -47,7 +47,7 @@ fn pack_change(x: Change) -> Replied
 
 #[unsafe(no_mangle)]
 pub extern "C" fn port_allocate_address(core: Core) -> Replied
-    ensures { CoreCall core result (refusedNumbers core.rest) result.rest (seenIn core.settings result) (λ s. seenAllotted (allotOf s)) }
+    ensures { CoreCall core result (refused_numbers core.rest) result.rest (seen_in core.settings result) (λ s. seen_allotted (allot_of s)) }
 {
     pack_allotted(allocate_address(core))
 }
@@ -63,9 +63,9 @@ pub extern "C" fn port_open_endpoint(
     packet: u16,
 ) -> Replied
     ensures { HeadsCall core slots.old slots.new heads.old heads.new
-        result (refusedNumbers core.rest) result.rest
-        (besideHeads (seenIn core.settings result slots.new) heads.new)
-        (λ pool frames setups. seenOpened (openEndpointOf (view core slots.old) pool heads.old frames setups (kind_of kind) address number packet)) }
+        result (refused_numbers core.rest) result.rest
+        (beside_heads (seen_in core.settings result slots.new) heads.new)
+        (λ pool frames setups. seen_opened (open_endpoint_of (view core slots.old) pool heads.old frames setups (kind_of kind) address number packet)) }
 {
     pack_opened(open_endpoint(core, slots, heads, kind_of(kind), address, number, packet))
 }
@@ -73,9 +73,9 @@ pub extern "C" fn port_open_endpoint(
 #[unsafe(no_mangle)]
 pub extern "C" fn port_close(core: Core, slots: &mut [u64], heads: &mut [u32], slot: u8) -> Replied
     ensures { HeadsCall core slots.old slots.new heads.old heads.new
-        result (refusedNumbers core.rest) result.rest
-        (besideHeads (seenIn core.settings result slots.new) heads.new)
-        (λ pool frames setups. seenChanged (closeOf (view core slots.old) pool heads.old frames setups slot)) }
+        result (refused_numbers core.rest) result.rest
+        (beside_heads (seen_in core.settings result slots.new) heads.new)
+        (λ pool frames setups. seen_changed (close_of (view core slots.old) pool heads.old frames setups slot)) }
 {
     pack_change(close(core, slots, heads, slot))
 }
@@ -89,9 +89,9 @@ pub extern "C" fn port_set_address(
     address: u8,
 ) -> Replied
     ensures { HeadsCall core slots.now slots.now heads.old heads.new
-        result (refusedNumbers core.rest) result.rest
-        (besideHeads (seenIn core.settings result slots.now) heads.new)
-        (λ pool frames setups. seenChanged (setAddressOf (view core slots.now) pool heads.old frames setups slot address)) }
+        result (refused_numbers core.rest) result.rest
+        (beside_heads (seen_in core.settings result slots.now) heads.new)
+        (λ pool frames setups. seen_changed (set_address_of (view core slots.now) pool heads.old frames setups slot address)) }
 {
     pack_change(set_address(core, slots, heads, slot, address))
 }
@@ -105,17 +105,17 @@ pub extern "C" fn port_set_packet_size(
     size: u8,
 ) -> Replied
     ensures { HeadsCall core slots.old slots.new heads.old heads.new
-        result (refusedNumbers core.rest) result.rest
-        (besideHeads (seenIn core.settings result slots.new) heads.new)
-        (λ pool frames setups. seenChanged (setPacketSizeOf (view core slots.old) pool heads.old frames setups slot size)) }
+        result (refused_numbers core.rest) result.rest
+        (beside_heads (seen_in core.settings result slots.new) heads.new)
+        (λ pool frames setups. seen_changed (set_packet_size_of (view core slots.old) pool heads.old frames setups slot size)) }
 {
     pack_change(set_packet_size(core, slots, heads, slot, size))
 }
 
 #[unsafe(no_mangle)]
 pub extern "C" fn port_clear_halt(core: Core, slots: &mut [u64], slot: u8) -> Replied
-    ensures { SlotsCall core slots.old slots.new result (refusedNumbers core.rest) result.rest
-        (seenIn core.settings result slots.new) (λ s. seenChange (clearHaltOf s slot)) }
+    ensures { SlotsCall core slots.old slots.new result (refused_numbers core.rest) result.rest
+        (seen_in core.settings result slots.new) (λ s. seen_change (clear_halt_of s slot)) }
 {
     pack_change(clear_halt(core, slots, slot))
 }

@@ -1,11 +1,11 @@
 // The calls on interrupts.
 ghost use Rattle.core.specs.Prelude.{◌≡◌};
-ghost use Rattle.pipe.specs.Endpoints.{flagOf};
-ghost use Rattle.interrupt.specs.Interrupts.{acknowledgeOf, disableOf, drainOf, enableOf, rearmOf};
+ghost use Rattle.pipe.specs.Endpoints.{flag_of};
+ghost use Rattle.interrupt.specs.Interrupts.{acknowledge_of, disable_of, drain_of, enable_of, rearm_of};
 ghost use Rattle.direct_calls.specs.Shapes.{CoreCall, SlotsCall};
-ghost use Rattle.ehci.specs.Replies.{acknowledgedAnswer, drainedAnswer, simply};
-ghost use Rattle.bench_port.specs.Numbers.{packOf, refusedNumbers};
-ghost use Rattle.bench_port.specs.Border.{seenAcknowledged, seenDrained, seenIn, seenSettled};
+ghost use Rattle.ehci.specs.Replies.{acknowledged_answer, drained_answer, simply};
+ghost use Rattle.bench_port.specs.Numbers.{pack_of, refused_numbers};
+ghost use Rattle.bench_port.specs.Border.{seen_acknowledged, seen_drained, seen_in, seen_settled};
 
 use crate::numbers::{Replied, pack};
 use direct_calls::interrupts::{acknowledge, disable, drain, enable, rearm};
@@ -14,7 +14,7 @@ use interrupt::answers::{Acknowledgement, Drainage, Settled};
 use words::core::Core;
 
 fn pack_acknowledged(x: Acknowledgement) -> Replied
-    ensures { result ≡ packOf x.rest (acknowledgedAnswer x.answer) x.writes }
+    ensures { result ≡ pack_of x.rest (acknowledged_answer x.answer) x.writes }
 {
     let answer = x.answer;
     let rest = x.rest;
@@ -23,7 +23,7 @@ fn pack_acknowledged(x: Acknowledgement) -> Replied
 }
 
 fn pack_drained(x: Drainage) -> Replied
-    ensures { result ≡ packOf x.rest (drainedAnswer x.answer) x.writes }
+    ensures { result ≡ pack_of x.rest (drained_answer x.answer) x.writes }
 {
     let answer = x.answer;
     let rest = x.rest;
@@ -32,7 +32,7 @@ fn pack_drained(x: Drainage) -> Replied
 }
 
 fn pack_settled(x: Settled) -> Replied
-    ensures { result ≡ packOf x.rest (simply x.answer) x.writes }
+    ensures { result ≡ pack_of x.rest (simply x.answer) x.writes }
 {
     let answer = x.answer;
     let rest = x.rest;
@@ -49,37 +49,37 @@ pub extern "C" fn port_acknowledge(
     flag: u8,
     again: u8,
 ) -> Replied
-    ensures { CoreCall core result (refusedNumbers core.rest) result.rest (seenIn core.settings result)
-        (λ s. seenAcknowledged (acknowledgeOf s status interrupts (flagOf flag) (flagOf again))) }
+    ensures { CoreCall core result (refused_numbers core.rest) result.rest (seen_in core.settings result)
+        (λ s. seen_acknowledged (acknowledge_of s status interrupts (flag_of flag) (flag_of again))) }
 {
     pack_acknowledged(acknowledge(core, status, interrupts, flag != 0, again != 0))
 }
 
 #[unsafe(no_mangle)]
 pub extern "C" fn port_drain(core: Core, slots: &mut [u64], command: u32) -> Replied
-    ensures { SlotsCall core slots.old slots.new result (refusedNumbers core.rest) result.rest
-        (seenIn core.settings result slots.new) (λ s. seenDrained (drainOf s command)) }
+    ensures { SlotsCall core slots.old slots.new result (refused_numbers core.rest) result.rest
+        (seen_in core.settings result slots.new) (λ s. seen_drained (drain_of s command)) }
 {
     pack_drained(drain(core, slots, command))
 }
 
 #[unsafe(no_mangle)]
 pub extern "C" fn port_rearm(core: Core) -> Replied
-    ensures { CoreCall core result (refusedNumbers core.rest) result.rest (seenIn core.settings result) (λ s. seenSettled (rearmOf s)) }
+    ensures { CoreCall core result (refused_numbers core.rest) result.rest (seen_in core.settings result) (λ s. seen_settled (rearm_of s)) }
 {
     pack_settled(rearm(core))
 }
 
 #[unsafe(no_mangle)]
 pub extern "C" fn port_enable(core: Core) -> Replied
-    ensures { CoreCall core result (refusedNumbers core.rest) result.rest (seenIn core.settings result) (λ s. seenSettled (enableOf s)) }
+    ensures { CoreCall core result (refused_numbers core.rest) result.rest (seen_in core.settings result) (λ s. seen_settled (enable_of s)) }
 {
     pack_settled(enable(core))
 }
 
 #[unsafe(no_mangle)]
 pub extern "C" fn port_disable(core: Core) -> Replied
-    ensures { CoreCall core result (refusedNumbers core.rest) result.rest (seenIn core.settings result) (λ s. seenSettled (disableOf s)) }
+    ensures { CoreCall core result (refused_numbers core.rest) result.rest (seen_in core.settings result) (λ s. seen_settled (disable_of s)) }
 {
     pack_settled(disable(core))
 }

@@ -1,6 +1,6 @@
 // What an exported call answers, in numbers.
 ghost use Rattle.core.specs.Prelude.{◌≡◌};
-ghost use Rattle.bench_port.specs.Numbers.{registerNumber, givenNumber, value_of, givenOther, other_of, offsetsOf, values_of, packOf};
+ghost use Rattle.bench_port.specs.Numbers.{register_number, given_number, value_of, given_other, other_of, offsets_of, values_of, pack_of};
 
 use common::reads::NextRead;
 use ehci::reply::{Answered, Given, Reply, event_number};
@@ -25,7 +25,7 @@ pub struct Replied {
 }
 
 fn register_number(read: NextRead) -> u64
-    ensures { result ≡ registerNumber read }
+    ensures { result ≡ register_number read }
 {
     match read {
         NextRead::Nothing => NO_REGISTER,
@@ -34,7 +34,7 @@ fn register_number(read: NextRead) -> u64
 }
 
 fn given_number(given: Given) -> u64
-    ensures { result ≡ givenNumber given }
+    ensures { result ≡ given_number given }
 {
     match given {
         Given::Nothing => 0,
@@ -62,7 +62,7 @@ fn value_of(answer: Answered) -> u64
 }
 
 fn given_other(given: Given) -> u64
-    ensures { result ≡ givenOther given }
+    ensures { result ≡ given_other given }
 {
     match given {
         Given::Nothing => 0,
@@ -90,7 +90,7 @@ fn other_of(answer: Answered) -> u64
 }
 
 fn offsets_of(w: [Write; 6]) -> [u32; 6]
-    ensures { result ≡ offsetsOf w }
+    ensures { result ≡ offsets_of w }
 {
     [
         w[0].offset,
@@ -111,7 +111,7 @@ fn values_of(w: [Write; 6]) -> [u32; 6]
 }
 
 pub fn pack(rest: Rest, answer: Answered, writes: Writes) -> Replied
-    ensures { result ≡ packOf rest answer writes }
+    ensures { result ≡ pack_of rest answer writes }
 {
     let list = writes.writes;
     Replied {
@@ -126,7 +126,7 @@ pub fn pack(rest: Rest, answer: Answered, writes: Writes) -> Replied
 }
 
 pub fn pack_reply(reply: Reply) -> Replied
-    ensures { result ≡ packOf reply.rest reply.answer reply.writes }
+    ensures { result ≡ pack_of reply.rest reply.answer reply.writes }
 {
     let rest = reply.rest;
     let answer = reply.answer;

@@ -1,7 +1,7 @@
 // Opening. The core, which the caller keeps, and the root hub's record come back by value.
 ghost use Rattle.core.specs.Prelude.{◌≡◌};
-ghost use Rattle.opening.specs.Words.{openWords};
-ghost use Rattle.bench_port.specs.Opens.{OpensPort, besideOpened, packOpening, seenOpening};
+ghost use Rattle.opening.specs.Words.{open_words};
+ghost use Rattle.bench_port.specs.Opens.{OpensPort, beside_opened, pack_opening, seen_opening};
 
 use descriptor::qtd::QueueTransferDescriptor;
 use opening::hub::EhciRootHub;
@@ -18,7 +18,7 @@ pub struct PortOpened {
 }
 
 fn pack_opening(opening: Opening) -> PortOpened
-    ensures { result ≡ packOpening opening }
+    ensures { result ≡ pack_opening opening }
 {
     let core = opening.core;
     let hub = opening.hub;
@@ -39,8 +39,8 @@ pub extern "C" fn port_open(
     frames: &mut [u32],
     setups: &mut [u8],
 ) -> PortOpened
-    ensures setups_after { besideOpened result rows.new heads.new frames.new setups.new
-        ≡ seenOpening (openWords settings rows.old slots.old heads.old frames.old setups.old) }
+    ensures setups_after { beside_opened result rows.new heads.new frames.new setups.new
+        ≡ seen_opening (open_words settings rows.old slots.old heads.old frames.old setups.old) }
     ensures opens_port { OpensPort settings result slots.old slots.new }
 {
     let opening = open(settings, rows, slots, heads, frames, setups);

@@ -1,6 +1,6 @@
 // Which descriptors a slot's request has.
 ghost use Rattle.core.specs.Prelude.{◌≡◌};
-ghost use Rattle.bench_port.specs.Border.{seenPlaces};
+ghost use Rattle.bench_port.specs.Border.{seen_places};
 
 use controller::readers::request_places;
 
@@ -13,7 +13,7 @@ pub struct PortPlaces {
 
 #[unsafe(no_mangle)]
 pub extern "C" fn port_places(slots: &[u64], slot: u8) -> PortPlaces
-    ensures { result ≡ seenPlaces slots.now slot }
+    ensures { result ≡ seen_places slots.now slot }
 {
     PortPlaces {
         words: request_places(slots, slot),

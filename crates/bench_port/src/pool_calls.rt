@@ -1,8 +1,8 @@
 // The three calls that are lent the pool's records: through the one door.
 ghost use Rattle.core.specs.Prelude.{◌≡◌, length as size};
-ghost use Rattle.ehci.specs.WordsDoor.{WordsAfter, acceptsWords, applyWords};
+ghost use Rattle.ehci.specs.WordsDoor.{WordsAfter, accepts_words, apply_words};
 ghost use Rattle.ehci.specs.declared.call.Call.TheVariants.{Writeback};
-ghost use Rattle.bench_port.specs.Border.{besideRows, collectOf, seenApplied, seenIn, submitOf};
+ghost use Rattle.bench_port.specs.Border.{beside_rows, collect_of, seen_applied, seen_in, submit_of};
 
 use crate::numbers::{Replied, pack_reply};
 use controller::lent::Readings;
@@ -23,7 +23,7 @@ fn submit_call(
     command: u32,
     frame: u32,
 ) -> Call
-    ensures { result ≡ submitOf slot kind direction setup address length command frame }
+    ensures { result ≡ submit_of slot kind direction setup address length command frame }
 {
     let request = TransferRequest {
         kind: kind_of(kind),
@@ -47,7 +47,7 @@ fn writeback_call(place: u64, token: u32) -> Call
 }
 
 fn collect_call(slot: u8, id: u64, command: u32, frame: u32, overlay: u32) -> Call
-    ensures { result ≡ collectOf slot id command frame overlay }
+    ensures { result ≡ collect_of slot id command frame overlay }
 {
     let readings = Readings {
         command,
@@ -74,10 +74,10 @@ pub extern "C" fn port_submit(
     command: u32,
     frame: u32,
 ) -> Replied
-    ensures setups_after { besideRows (seenIn core.settings result slots.new) rows.new heads.new frames.new setups.new
-        ≡ seenApplied (applyWords core slots.old rows.old heads.old frames.old setups.old
-        (submitOf slot kind direction setup address length command frame)) }
-    ensures words_after { WordsAfter (acceptsWords core slots.old (size rows.old) (size heads.old) (size frames.old) (size setups.old))
+    ensures setups_after { beside_rows (seen_in core.settings result slots.new) rows.new heads.new frames.new setups.new
+        ≡ seen_applied (apply_words core slots.old rows.old heads.old frames.old setups.old
+        (submit_of slot kind direction setup address length command frame)) }
+    ensures words_after { WordsAfter (accepts_words core slots.old (size rows.old) (size heads.old) (size frames.old) (size setups.old))
         core slots.old result.rest slots.new }
 {
     let call = submit_call(
@@ -98,10 +98,10 @@ pub extern "C" fn port_writeback(
     place: u64,
     token: u32,
 ) -> Replied
-    ensures setups_after { besideRows (seenIn core.settings result slots.new) rows.new heads.new frames.new setups.new
-        ≡ seenApplied (applyWords core slots.old rows.old heads.old frames.old setups.old
+    ensures setups_after { beside_rows (seen_in core.settings result slots.new) rows.new heads.new frames.new setups.new
+        ≡ seen_applied (apply_words core slots.old rows.old heads.old frames.old setups.old
         (Writeback place token)) }
-    ensures words_after { WordsAfter (acceptsWords core slots.old (size rows.old) (size heads.old) (size frames.old) (size setups.old))
+    ensures words_after { WordsAfter (accepts_words core slots.old (size rows.old) (size heads.old) (size frames.old) (size setups.old))
         core slots.old result.rest slots.new }
 {
     let call = writeback_call(place, token);
@@ -123,10 +123,10 @@ pub extern "C" fn port_collect(
     frame: u32,
     overlay: u32,
 ) -> Replied
-    ensures setups_after { besideRows (seenIn core.settings result slots.new) rows.new heads.new frames.new setups.new
-        ≡ seenApplied (applyWords core slots.old rows.old heads.old frames.old setups.old
-        (collectOf slot id command frame overlay)) }
-    ensures words_after { WordsAfter (acceptsWords core slots.old (size rows.old) (size heads.old) (size frames.old) (size setups.old))
+    ensures setups_after { beside_rows (seen_in core.settings result slots.new) rows.new heads.new frames.new setups.new
+        ≡ seen_applied (apply_words core slots.old rows.old heads.old frames.old setups.old
+        (collect_of slot id command frame overlay)) }
+    ensures words_after { WordsAfter (accepts_words core slots.old (size rows.old) (size heads.old) (size frames.old) (size setups.old))
         core slots.old result.rest slots.new }
 {
     let call = collect_call(slot, id, command, frame, overlay);

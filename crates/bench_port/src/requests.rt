@@ -1,11 +1,11 @@
 // Cancel: the call on requests that is lent no records.
 ghost use Rattle.core.specs.Prelude.{◌≡◌};
 ghost use Rattle.words.specs.View.{view};
-ghost use Rattle.collection.specs.Calls.{cancelOf};
+ghost use Rattle.collection.specs.Calls.{cancel_of};
 ghost use Rattle.direct_calls.specs.Shapes.{FramesCall};
 ghost use Rattle.ehci.specs.Replies.{simply};
-ghost use Rattle.bench_port.specs.Numbers.{packOf, refusedNumbers};
-ghost use Rattle.bench_port.specs.Border.{besideLinks, readingsOf, seenCancelled, seenIn};
+ghost use Rattle.bench_port.specs.Numbers.{pack_of, refused_numbers};
+ghost use Rattle.bench_port.specs.Border.{beside_links, readings_of, seen_cancelled, seen_in};
 
 use crate::numbers::{Replied, pack};
 use collection::answers::Cancellation;
@@ -15,7 +15,7 @@ use ehci::reply::simple;
 use words::core::Core;
 
 fn pack_cancelled(x: Cancellation) -> Replied
-    ensures { result ≡ packOf x.rest (simply x.answer) x.writes }
+    ensures { result ≡ pack_of x.rest (simply x.answer) x.writes }
 {
     let answer = x.answer;
     let rest = x.rest;
@@ -35,9 +35,9 @@ pub extern "C" fn port_cancel(
     frame: u32,
 ) -> Replied
     ensures { FramesCall core slots.old slots.new heads.old heads.new
-        frames.old frames.new result (refusedNumbers core.rest) result.rest
-        (besideLinks (seenIn core.settings result slots.new) heads.new frames.new)
-        (λ pool setups. seenCancelled (cancelOf (view core slots.old) pool heads.old frames.old setups (readingsOf command frame 0) slot id)) }
+        frames.old frames.new result (refused_numbers core.rest) result.rest
+        (beside_links (seen_in core.settings result slots.new) heads.new frames.new)
+        (λ pool setups. seen_cancelled (cancel_of (view core slots.old) pool heads.old frames.old setups (readings_of command frame 0) slot id)) }
 {
     let readings = Readings {
         command,

@@ -8,42 +8,42 @@ unfoldable pub bit : ℕ → ℕ → ℕ
 bit w i = w / 2 ^ i % 2
 
 -- 1 where a test says true
-abbrev pub oneIf : Bool → ℕ
-oneIf true = 1
-oneIf false = 0
+abbrev pub one_if : Bool → ℕ
+one_if true = 1
+one_if false = 0
 
 abbrev pub pick : Bool → ℕ → ℕ → ℕ
 pick true a b = a
 pick false a b = b
 
-abbrev pub consIf : Bool → ℕ → List ℕ → List ℕ
-consIf true i l = l
-consIf false i l = i ∷ l
+abbrev pub cons_if : Bool → ℕ → List ℕ → List ℕ
+cons_if true i l = l
+cons_if false i l = i ∷ l
 
 -- the set bits among the k lowest of x; the lowest is place i
 unfoldable pub places_of : ℕ → ℕ → ℕ → List ℕ
 places_of i zero x = []
-places_of i (suc k) x = consIf (eqb (x % 2) 0) i (places_of (suc i) k (x / 2))
+places_of i (suc k) x = cons_if (eqb (x % 2) 0) i (places_of (suc i) k (x / 2))
 
 -- x without its n lowest set bits
-unfoldable pub dropBits : ℕ → ℕ → ℕ → ℕ
-dropBits zero x n = 0
-dropBits (suc k) x n = pick (eqb n 0) x (dropBits k (x / 2) (n - x % 2) * 2)
+unfoldable pub drop_bits : ℕ → ℕ → ℕ → ℕ
+drop_bits zero x n = 0
+drop_bits (suc k) x n = pick (eqb n 0) x (drop_bits k (x / 2) (n - x % 2) * 2)
 
 -- these bits alone
-abbrev pub takeBits : ℕ → ℕ → ℕ → ℕ
-takeBits k x n = x - dropBits k x n
+abbrev pub take_bits : ℕ → ℕ → ℕ → ℕ
+take_bits k x n = x - drop_bits k x n
 
 unfoldable pub part_of : ℕ → ℕ → Part
-part_of x n = record { taken = takeBits 64 x n; left = n - ones x }
+part_of x n = record { taken = take_bits 64 x n; left = n - ones x }
 
 -- the n lowest bits, all 64 where n is more
-unfoldable pub onesBelow : ℕ → ℕ
-onesBelow n = 2 ^ min n 64 - 1
+unfoldable pub ones_below : ℕ → ℕ
+ones_below n = 2 ^ min n 64 - 1
 
 -- the bits of x cleared
-unfoldable pub clearedOf : ℕ → ℕ → ℕ
-clearedOf w x = w - bit_and w x
+unfoldable pub cleared_of : ℕ → ℕ → ℕ
+cleared_of w x = w - bit_and w x
 
 abbrev pub Each : (ℕ → Type 0) → List ℕ → Type 0
 Each P [] = Unit

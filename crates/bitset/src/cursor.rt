@@ -1,7 +1,7 @@
 // A set that is gone through from its lowest place on.
 ghost use Rattle.std.specs.Prelude.{◌≡◌, ◌≤◌, ◌<◌};
-ghost use Rattle.bitset.specs.Places.{setPlaces};
-ghost use Rattle.bitset.specs.Rest.{rest_of, comingOf, next_of, settled_of, cursorOf, advanceOf, placeAt, is_none, tailOf};
+ghost use Rattle.bitset.specs.Places.{set_places};
+ghost use Rattle.bitset.specs.Rest.{rest_of, coming_of, next_of, settled_of, cursor_of, advance_of, place_at, is_none, tail_of};
 
 use crate::word::{drop_lowest, lowest};
 
@@ -30,7 +30,7 @@ fn next_word(c: Cursor) -> Cursor
 
 // At a word that is not 0, where there is one.
 fn settled(c: Cursor) -> Cursor
-    ensures { (result ≡ settled_of c) × (rest_of result ≡ comingOf c) }
+    ensures { (result ≡ settled_of c) × (rest_of result ≡ coming_of c) }
 {
     let mut at = c;
     while at.word == 0 {
@@ -44,7 +44,7 @@ fn settled(c: Cursor) -> Cursor
 
 // At the lowest place of a set.
 pub fn cursor_of(w: [u64; 4]) -> Cursor
-    ensures { (result ≡ cursorOf w) × (rest_of result ≡ setPlaces w) }
+    ensures { (result ≡ cursor_of w) × (rest_of result ≡ set_places w) }
 {
     settled(Cursor {
         base: 0,
@@ -62,14 +62,14 @@ pub fn at_end(c: Cursor) -> bool
 }
 
 pub fn place_at(c: Cursor) -> usize
-    ensures { (result ≡ placeAt c) × (result < 320) }
+    ensures { (result ≡ place_at c) × (result < 320) }
 {
     c.base as usize + lowest(c.word) as usize
 }
 
 // At the place after this one; at its end it stays.
 pub fn advance(c: Cursor) -> Cursor
-    ensures { (result ≡ advanceOf c) × (rest_of result ≡ tailOf (rest_of c)) }
+    ensures { (result ≡ advance_of c) × (rest_of result ≡ tail_of (rest_of c)) }
 {
     if c.word == 0 {
         return c;

@@ -2,7 +2,7 @@
 ghost use Rattle.std.specs.Prelude.{◌≡◌, ◌-◌, ◌≤◌, ◌<◌, ◌^◌};
 ghost use Rattle.std.specs.Int.Bits.{bit_and};
 ghost use Rattle.std.specs.Int.Count.{ones, count_trailing_zeros};
-ghost use Rattle.bitset.specs.Words.{dropBits, part_of, onesBelow, clearedOf};
+ghost use Rattle.bitset.specs.Words.{drop_bits, part_of, ones_below, cleared_of};
 
 // Bits that were taken from a word, and how many are still wanted.
 #[derive(Drop)]
@@ -34,7 +34,7 @@ pub fn drop_lowest(x: u64) -> u64
 // The n lowest set bits are cleared.
 fn drop_low(x: u64, n: u64) -> u64
     requires { n ≤ ones x }
-    ensures { result ≡ dropBits 64 x n }
+    ensures { result ≡ drop_bits 64 x n }
 {
     let mut rest = x;
     let mut done: u64 = 0;
@@ -65,7 +65,7 @@ pub fn take_part(x: u64, n: u64) -> Part
 
 // The n lowest bits, all where n is 64 or more.
 pub fn ones_below(n: u64) -> u64
-    ensures { result ≡ onesBelow n }
+    ensures { result ≡ ones_below n }
 {
     if 64 <= n {
         0xFFFF_FFFF_FFFF_FFFF
@@ -76,7 +76,7 @@ pub fn ones_below(n: u64) -> u64
 
 // The bits of x are cleared.
 pub fn cleared(w: u64, x: u64) -> u64
-    ensures { result ≡ clearedOf w x }
+    ensures { result ≡ cleared_of w x }
 {
     w - (w & x)
 }

@@ -1,24 +1,24 @@
 -- What the calls over words leave, as the state that the words stand for.
 use Rattle.core.specs.Prelude.{ℕ, zero, suc, Bool, false, ◌||◌, List, nat_le}
-use Rattle.register.specs.Writes.{noWrites}
+use Rattle.register.specs.Writes.{no_writes}
 use Rattle.settings.specs.declared.settings.Settings.{Settings}
 use Rattle.common.specs.declared.answer.Answer.TheVariants.{Refused}
 use Rattle.common.specs.declared.answer.Refusal.{Refusal}
 use Rattle.common.specs.declared.reads.NextRead.TheVariants.{Nothing}
 use Rattle.words.specs.declared.core.Rest.{Rest}
-use Rattle.words.specs.Record.{phaseIn, word_at}
+use Rattle.words.specs.Record.{phase_in, word_at}
 use Rattle.words.specs.View.{state_of}
 use Rattle.bring_up.specs.Plain.{BroughtUp}
 use Rattle.bring_up.specs.declared.answers.BroughtUp.{BroughtUp as BroughtUpWords}
 
-abbrev pub broughtView : Settings → BroughtUpWords → List ℕ → BroughtUp
-broughtView s r ws =
+abbrev pub brought_view : Settings → BroughtUpWords → List ℕ → BroughtUp
+brought_view s r ws =
     record { answer = r.answer; state = state_of s r.rest ws; writes = r.writes; read = r.read; wait = r.wait }
 
-abbrev pub refusedWords : Rest → Refusal → BroughtUpWords
-refusedWords rest r = record { answer = Refused r; rest = rest; writes = noWrites; read = Nothing; wait = 0 }
+abbrev pub refused_words : Rest → Refusal → BroughtUpWords
+refused_words rest r = record { answer = Refused r; rest = rest; writes = no_writes; read = Nothing; wait = 0 }
 
 -- any of n slots, from slot k on, has a request: its phase is linked or unlinking
-unfoldable pub anyHeld : ℕ → ℕ → List ℕ → Bool
-anyHeld k zero ws = false
-anyHeld k (suc n) ws = nat_le 2 (phaseIn (word_at ws k)) || anyHeld (suc k) n ws
+unfoldable pub any_held : ℕ → ℕ → List ℕ → Bool
+any_held k zero ws = false
+any_held k (suc n) ws = nat_le 2 (phase_in (word_at ws k)) || any_held (suc k) n ws

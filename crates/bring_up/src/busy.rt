@@ -1,12 +1,12 @@
 // Whether any slot has an uncollected request.
 ghost use Rattle.core.specs.Prelude.{◌≡◌, ◌*◌, length};
-ghost use Rattle.bring_up.specs.Words.{anyHeld};
+ghost use Rattle.bring_up.specs.Words.{any_held};
 
 use words::row::RECORD;
 
 pub fn any_uncollected(slots: &[u64], endpoints: u8) -> bool
     requires { length slots.now ≡ 6 * endpoints }
-    ensures { result ≡ anyHeld 0 endpoints slots.now }
+    ensures { result ≡ any_held 0 endpoints slots.now }
 {
     let end = endpoints as usize;
     let mut busy = false;

@@ -1,8 +1,8 @@
 // Start and step, on a state in its ranges. A step looks at the core alone.
 ghost use Rattle.core.specs.Prelude.{◌≡◌, ℕ, ◌<◌, true, List};
-ghost use Rattle.state.specs.Ranges.{inRanges};
-ghost use Rattle.bring_up.specs.BringUp.{againOf, start_of, step_of};
-ghost use Rattle.bring_up.specs.Words.{broughtView, refusedWords};
+ghost use Rattle.state.specs.Ranges.{in_ranges};
+ghost use Rattle.bring_up.specs.BringUp.{again_of, start_of, step_of};
+ghost use Rattle.bring_up.specs.Words.{brought_view, refused_words};
 ghost use Rattle.words.specs.Good.{Good};
 ghost use Rattle.words.specs.View.{view};
 
@@ -16,7 +16,7 @@ use register::writes::Writes;
 use words::core::{Core, Rest};
 
 pub fn refuse(rest: Rest, refusal: Refusal) -> BroughtUp
-    ensures { result ≡ refusedWords rest refusal }
+    ensures { result ≡ refused_words rest refusal }
 {
     BroughtUp {
         answer: Answer::Refused(refusal),
@@ -30,7 +30,7 @@ pub fn refuse(rest: Rest, refusal: Refusal) -> BroughtUp
 // The W-th read that is not ready ends the bring-up.
 fn wait_again(core: Core, register: u32) -> BroughtUp
     requires { core.rest.waited < 65536 }
-    ensures by_index { (ws : List ℕ) → broughtView core.settings result ws ≡ againOf (view core ws) register }
+    ensures by_index { (ws : List ℕ) → brought_view core.settings result ws ≡ again_of (view core ws) register }
     ensures free_value { result.rest.free ≡ core.rest.free }
 {
     let mut rest = core.rest;
@@ -54,7 +54,7 @@ fn wait_again(core: Core, register: u32) -> BroughtUp
 // Begins, also where one is begun or the controller runs.
 pub fn start(core: Core, slots: &[u64]) -> BroughtUp
     requires { Good core.settings core.rest slots.now }
-    ensures slots_value { broughtView core.settings result slots.now ≡ start_of (view core slots.now) }
+    ensures slots_value { brought_view core.settings result slots.now ≡ start_of (view core slots.now) }
     ensures free_value { result.rest.free ≡ core.rest.free }
 {
     let mut rest = core.rest;
@@ -78,7 +78,7 @@ pub fn start(core: Core, slots: &[u64]) -> BroughtUp
 pub fn step(core: Core, reading: u32) -> BroughtUp
     requires waited_bound { core.rest.waited < 65536 }
     requires frames_bound { (core.settings.frames < 4294967296) × (core.settings.heads < 4294967296) }
-    ensures by_index { (ws : List ℕ) → inRanges (view core ws) ≡ true → broughtView core.settings result ws ≡ step_of (view core ws) reading }
+    ensures by_index { (ws : List ℕ) → in_ranges (view core ws) ≡ true → brought_view core.settings result ws ≡ step_of (view core ws) reading }
     ensures free_value { result.rest.free ≡ core.rest.free }
 {
     let mut rest = core.rest;

@@ -1,14 +1,14 @@
 // The stages of bring-up: for each what its reading must show, what it writes, and what is read next.
 ghost use Rattle.core.specs.Prelude.{◌≡◌, ◌<◌};
 ghost use Rattle.bring_up.specs.BringUp.{
-  stageOf,
-  registerOf,
+  stage_of,
+  register_of,
   ready,
-  setUp,
+  set_up,
   command,
-  stageWrites,
-  onTo,
-  movedOn,
+  stage_writes,
+  on_to,
+  moved_on,
 };
 
 use common::reads::NextRead;
@@ -56,7 +56,7 @@ pub struct Moved {
 }
 
 pub fn stage_of(step: u8) -> Stage
-    ensures { result ≡ stageOf step }
+    ensures { result ≡ stage_of step }
 {
     match step {
         1 => Stage::Stop,
@@ -69,7 +69,7 @@ pub fn stage_of(step: u8) -> Stage
 }
 
 pub fn register_of(stage: Stage) -> u32
-    ensures { result ≡ registerOf stage }
+    ensures { result ≡ register_of stage }
 {
     match stage {
         Stage::Stop => USBCMD,
@@ -98,7 +98,7 @@ pub fn is_ready(stage: Stage, reading: u32) -> bool
 fn set_up(frames: u64, heads: u64) -> Writes
     requires frames_bound { frames < 4294967296 }
     requires heads_bound { heads < 4294967296 }
-    ensures { result ≡ setUp frames heads }
+    ensures { result ≡ set_up frames heads }
 {
     Writes::none()
         .and_then(CTRLDSSEGMENT, 0)
@@ -117,7 +117,7 @@ fn command(value: u32) -> Writes
 pub fn stage_writes(stage: Stage, reading: u32, frames: u64, heads: u64) -> Writes
     requires frames_bound { frames < 4294967296 }
     requires heads_bound { heads < 4294967296 }
-    ensures { result ≡ stageWrites stage reading frames heads }
+    ensures { result ≡ stage_writes stage reading frames heads }
 {
     match stage {
         Stage::Stop => command(without_bits(reading, RUNNING)),
@@ -130,7 +130,7 @@ pub fn stage_writes(stage: Stage, reading: u32, frames: u64, heads: u64) -> Writ
 }
 
 fn on_to(step: u8, register: u32) -> Moved
-    ensures { result ≡ onTo step register }
+    ensures { result ≡ on_to step register }
 {
     Moved {
         running: 0,
@@ -141,7 +141,7 @@ fn on_to(step: u8, register: u32) -> Moved
 }
 
 pub fn moved_on(stage: Stage) -> Moved
-    ensures { result ≡ movedOn stage }
+    ensures { result ≡ moved_on stage }
 {
     match stage {
         Stage::Stop => on_to(2, USBSTS),

@@ -5,16 +5,16 @@ use mathlib.Core.Path.{refl, sym, ap, ◌∙◌}
 use borrow.Author.Tests.{eq-eqb, ne_eqb}
 use lib.Dec.{lit<}
 use Rattle.call_log.specs.Fields.{fields_of}
-use Rattle.call_log.specs.Records.{entry_of, entryFrom, judgedAs}
+use Rattle.call_log.specs.Records.{entry_of, entry_from, judged_as}
 use Rattle.call_log.specs.declared.fields.Fields.{Fields}
 use Rattle.call_log.specs.declared.record.Entry.{Entry}
 use Rattle.call_log.specs.declared.record.Entry.TheVariants.{Bad}
 
 -- no call has another number
-pub judged-rest : (n : ℕ) (f : Fields) → 14 < n → (n ≡ 15 → ⊥) → (n ≡ 16 → ⊥) → (n ≡ 17 → ⊥) → (n ≡ 18 → ⊥) → (n ≡ 19 → ⊥) → (n ≡ 20 → ⊥)
-    → (n ≡ 21 → ⊥) → Bad ≡ judgedAs n f
-unfolding judgedAs
-judged-rest n f h h15 h16 h17 h18 h19 h20 h21 =
+pub judged_rest : (n : ℕ) (f : Fields) → 14 < n → (n ≡ 15 → ⊥) → (n ≡ 16 → ⊥) → (n ≡ 17 → ⊥) → (n ≡ 18 → ⊥) → (n ≡ 19 → ⊥) → (n ≡ 20 → ⊥)
+    → (n ≡ 21 → ⊥) → Bad ≡ judged_as n f
+unfolding judged_as
+judged_rest n f h h15 h16 h17 h18 h19 h20 h21 =
     rw (
       ne_eqb n 1 (λ e. omega (arith, h, e)),
       ne_eqb n 2 (λ e. omega (arith, h, e)),
@@ -39,13 +39,13 @@ judged-rest n f h h15 h16 h17 h18 h19 h20 h21 =
       ne_eqb n 21 h21,
     )
 
-not-above : (n k : ℕ) → n ≤ 8 → 8 < k → n ≡ k → ⊥
-not-above n k h g e = omega (arith, h, g, e)
+not_above : (n k : ℕ) → n ≤ 8 → 8 < k → n ≡ k → ⊥
+not_above n k h g e = omega (arith, h, g, e)
 
-pub judged-none : (n : ℕ) (f : Fields) → n ≤ 8 → (n ≡ 1 → ⊥) → (n ≡ 2 → ⊥) → (n ≡ 3 → ⊥) → (n ≡ 4 → ⊥) → (n ≡ 5 → ⊥) → (n ≡ 6 → ⊥) → (n ≡ 7 → ⊥)
-    → (n ≡ 8 → ⊥) → Bad ≡ judgedAs n f
-unfolding judgedAs
-judged-none n f h h1 h2 h3 h4 h5 h6 h7 h8 =
+pub judged_none : (n : ℕ) (f : Fields) → n ≤ 8 → (n ≡ 1 → ⊥) → (n ≡ 2 → ⊥) → (n ≡ 3 → ⊥) → (n ≡ 4 → ⊥) → (n ≡ 5 → ⊥) → (n ≡ 6 → ⊥) → (n ≡ 7 → ⊥)
+    → (n ≡ 8 → ⊥) → Bad ≡ judged_as n f
+unfolding judged_as
+judged_none n f h h1 h2 h3 h4 h5 h6 h7 h8 =
     rw (
       ne_eqb n 1 h1,
       ne_eqb n 2 h2,
@@ -55,28 +55,28 @@ judged-none n f h h1 h2 h3 h4 h5 h6 h7 h8 =
       ne_eqb n 6 h6,
       ne_eqb n 7 h7,
       ne_eqb n 8 h8,
-      ne_eqb n 9 (not-above n 9 h (lit< tt)),
-      ne_eqb n 10 (not-above n 10 h (lit< tt)),
-      ne_eqb n 11 (not-above n 11 h (lit< tt)),
-      ne_eqb n 12 (not-above n 12 h (lit< tt)),
-      ne_eqb n 13 (not-above n 13 h (lit< tt)),
-      ne_eqb n 14 (not-above n 14 h (lit< tt)),
-      ne_eqb n 15 (not-above n 15 h (lit< tt)),
-      ne_eqb n 16 (not-above n 16 h (lit< tt)),
-      ne_eqb n 17 (not-above n 17 h (lit< tt)),
-      ne_eqb n 18 (not-above n 18 h (lit< tt)),
-      ne_eqb n 19 (not-above n 19 h (lit< tt)),
-      ne_eqb n 20 (not-above n 20 h (lit< tt)),
-      ne_eqb n 21 (not-above n 21 h (lit< tt)),
+      ne_eqb n 9 (not_above n 9 h (lit< tt)),
+      ne_eqb n 10 (not_above n 10 h (lit< tt)),
+      ne_eqb n 11 (not_above n 11 h (lit< tt)),
+      ne_eqb n 12 (not_above n 12 h (lit< tt)),
+      ne_eqb n 13 (not_above n 13 h (lit< tt)),
+      ne_eqb n 14 (not_above n 14 h (lit< tt)),
+      ne_eqb n 15 (not_above n 15 h (lit< tt)),
+      ne_eqb n 16 (not_above n 16 h (lit< tt)),
+      ne_eqb n 17 (not_above n 17 h (lit< tt)),
+      ne_eqb n 18 (not_above n 18 h (lit< tt)),
+      ne_eqb n 19 (not_above n 19 h (lit< tt)),
+      ne_eqb n 20 (not_above n 20 h (lit< tt)),
+      ne_eqb n 21 (not_above n 21 h (lit< tt)),
     )
 
-pub judged-at : (n k : ℕ) (f : Fields) (r : Entry) → n ≡ k → r ≡ judgedAs k f → r ≡ judgedAs n f
-judged-at n k f r e h = rw e h
+pub judged_at : (n k : ℕ) (f : Fields) (r : Entry) → n ≡ k → r ≡ judged_as k f → r ≡ judged_as n f
+judged_at n k f r e h = rw e h
 
-pub entry-cut : (bs : List ℕ) → (length bs ≡ 64 → ⊥) → Bad ≡ entry_of bs
+pub entry_cut : (bs : List ℕ) → (length bs ≡ 64 → ⊥) → Bad ≡ entry_of bs
 unfolding entry_of
-entry-cut bs h = rw (ne_eqb (length bs) 64 h)
+entry_cut bs h = rw (ne_eqb (length bs) 64 h)
 
-pub entry_whole : (bs : List ℕ) (f : Fields) (r : Entry) → length bs ≡ 64 → f ≡ fields_of bs → r ≡ entryFrom f → r ≡ entry_of bs
+pub entry_whole : (bs : List ℕ) (f : Fields) (r : Entry) → length bs ≡ 64 → f ≡ fields_of bs → r ≡ entry_from f → r ≡ entry_of bs
 unfolding entry_of
 entry_whole bs f r h e g = rw (eq-eqb (length bs) 64 h, ← e) g

@@ -4,5 +4,5 @@ use mathlib.Core.Path.{sym, ◌∙◌}
 use Rattle.call_log.specs.declared.record.Entry.{Entry}
 use Rattle.call_log.specs.Records.{entry_of}
 
-pub same-entry : (bytes : List ℕ) (a b : Entry) → a ≡ entry_of bytes → b ≡ entry_of bytes → a ≡ b
-same-entry bytes a b e f = e ∙ sym f
+pub same_entry : (bytes : List ℕ) (a b : Entry) → a ≡ entry_of bytes → b ≡ entry_of bytes → a ≡ b
+same_entry bytes a b e f = e ∙ sym f

@@ -1,16 +1,16 @@
 -- The first line of a block: C, the record's number, the call's number, the answer, and its values.
 use Rattle.core.specs.Prelude.{ℕ, List, [], ◌∷◌}
-use Rattle.common.specs.Answers.{refusalNumber}
+use Rattle.common.specs.Answers.{refusal_number}
 use Rattle.common.specs.declared.answer.Answer.{Answer}
 use Rattle.common.specs.declared.answer.Answer.TheVariants as A
 use Rattle.common.specs.declared.reads.NextRead.{NextRead}
 use Rattle.common.specs.declared.reads.NextRead.TheVariants as N
-use Rattle.ehci.specs.Replies.{answeredNumber, eventNumber, eventValue}
+use Rattle.ehci.specs.Replies.{answered_number, event_number, event_value}
 use Rattle.ehci.specs.declared.reply.Answered.{Answered}
 use Rattle.ehci.specs.declared.reply.Answered.TheVariants.{Done, Pending, Cancelled, Failed, Refused}
 use Rattle.ehci.specs.declared.reply.Given.{Given}
 use Rattle.ehci.specs.declared.reply.Given.TheVariants as G
-use Rattle.root_hub.specs.Ports.{eventPort, portEventNumber}
+use Rattle.root_hub.specs.Ports.{event_port, port_event_number}
 use Rattle.root_hub.specs.declared.ports.PortEvent.{PortEvent}
 use Rattle.text.specs.Text.{decimal, hex}
 use Rattle.call_log.specs.Lines.{line_of, word}
@@ -18,51 +18,51 @@ use Rattle.call_log.specs.declared.line.Part.{Part}
 use Rattle.call_log.specs.declared.line.Part.TheVariants.{Byte, Dash}
 
 -- C record-number call-number answer values
-unfoldable pub callLine : ℕ → ℕ → ℕ → List (List ℕ) → List ℕ
-callLine n call answer values = line_of 67 (decimal n ∷ decimal call ∷ decimal answer ∷ values)
+unfoldable pub call_line : ℕ → ℕ → ℕ → List (List ℕ) → List ℕ
+call_line n call answer values = line_of 67 (decimal n ∷ decimal call ∷ decimal answer ∷ values)
 
 -- the register to read next: two hex digits, `-` for none
 abbrev pub register : NextRead → List ℕ
 register N.Nothing = 45 ∷ []
 register (N.Register offset) = hex offset 2
 
-abbrev pub registerPart : NextRead → Part
-registerPart N.Nothing = Dash
-registerPart (N.Register offset) = Byte offset
+abbrev pub register_part : NextRead → Part
+register_part N.Nothing = Dash
+register_part (N.Register offset) = Byte offset
 
 -- start, step and power calls: the register, the milliseconds to wait, the event and its port
-abbrev pub stepValues : NextRead → ℕ → ℕ → ℕ → List (List ℕ)
-stepValues read wait event port = register read ∷ decimal wait ∷ decimal event ∷ decimal port ∷ []
+abbrev pub step_values : NextRead → ℕ → ℕ → ℕ → List (List ℕ)
+step_values read wait event port = register read ∷ decimal wait ∷ decimal event ∷ decimal port ∷ []
 
-unfoldable pub stepLine : ℕ → ℕ → NextRead → ℕ → ℕ → ℕ → List ℕ
-stepLine n call read wait event port = callLine n call 0 (stepValues read wait event port)
+unfoldable pub step_line : ℕ → ℕ → NextRead → ℕ → ℕ → ℕ → List ℕ
+step_line n call read wait event port = call_line n call 0 (step_values read wait event port)
 
-abbrev pub givenValues : Given → List (List ℕ)
-givenValues G.Nothing = []
-givenValues (G.Slot slot) = decimal slot ∷ []
-givenValues (G.Address address) = decimal address ∷ []
-givenValues (G.Id id) = decimal id ∷ []
-givenValues (G.Length retried length) = decimal length ∷ decimal retried ∷ []
-givenValues G.No = decimal 0 ∷ []
-givenValues G.Yes = decimal 1 ∷ []
-givenValues (G.Event event) = decimal (eventNumber event) ∷ decimal (eventValue event) ∷ []
-givenValues (G.Next read wait) = stepValues read wait 0 0
+abbrev pub given_values : Given → List (List ℕ)
+given_values G.Nothing = []
+given_values (G.Slot slot) = decimal slot ∷ []
+given_values (G.Address address) = decimal address ∷ []
+given_values (G.Id id) = decimal id ∷ []
+given_values (G.Length retried length) = decimal length ∷ decimal retried ∷ []
+given_values G.No = decimal 0 ∷ []
+given_values G.Yes = decimal 1 ∷ []
+given_values (G.Event event) = decimal (event_number event) ∷ decimal (event_value event) ∷ []
+given_values (G.Next read wait) = step_values read wait 0 0
 
 -- collect 11 the token; every other answer but 0 gives no values
-abbrev pub answeredValues : Answered → List (List ℕ)
-answeredValues (Done given) = givenValues given
-answeredValues Pending = []
-answeredValues Cancelled = []
-answeredValues (Failed token) = word token ∷ []
-answeredValues (Refused refusal) = []
+abbrev pub answered_values : Answered → List (List ℕ)
+answered_values (Done given) = given_values given
+answered_values Pending = []
+answered_values Cancelled = []
+answered_values (Failed token) = word token ∷ []
+answered_values (Refused refusal) = []
 
-abbrev pub givenLine : ℕ → ℕ → Given → List ℕ
-givenLine n call given = callLine n call 0 (givenValues given)
+abbrev pub given_line : ℕ → ℕ → Given → List ℕ
+given_line n call given = call_line n call 0 (given_values given)
 
-abbrev pub answeredLine : ℕ → ℕ → Answered → List ℕ
-answeredLine n call answered = callLine n call (answeredNumber answered) (answeredValues answered)
+abbrev pub answered_line : ℕ → ℕ → Answered → List ℕ
+answered_line n call answered = call_line n call (answered_number answered) (answered_values answered)
 
 -- a scan's start or step, or port power: refused, it gives no values
-abbrev pub scanLine : ℕ → ℕ → Answer → NextRead → ℕ → PortEvent → List ℕ
-scanLine n call A.Done read wait event = stepLine n call read wait (portEventNumber event) (eventPort event)
-scanLine n call (A.Refused refusal) read wait event = callLine n call (refusalNumber refusal) []
+abbrev pub scan_line : ℕ → ℕ → Answer → NextRead → ℕ → PortEvent → List ℕ
+scan_line n call A.Done read wait event = step_line n call read wait (port_event_number event) (event_port event)
+scan_line n call (A.Refused refusal) read wait event = call_line n call (refusal_number refusal) []

@@ -1,17 +1,17 @@
 -- A record: 64 bytes, byte 0 the call's number, bytes 1 to 7 small parameters, then seven 64-bit little-endian numbers.
 use Rattle.core.specs.Prelude.{ℕ, Bool, ◌&&◌, ◌||◌, List, [], ◌∷◌, ◌++◌, ◌==◌, nat_le, slice_index}
-use Rattle.text.specs.Numbers.{littleEndian, number_at}
+use Rattle.text.specs.Numbers.{little_endian, number_at}
 use Rattle.call_log.specs.declared.fields.Fields.{Fields}
 
-abbrev pub smallBytes : Fields → List ℕ
-smallBytes f = f.number ∷ f.b1 ∷ f.b2 ∷ f.b3 ∷ f.b4 ∷ f.b5 ∷ f.b6 ∷ f.b7 ∷ []
+abbrev pub small_bytes : Fields → List ℕ
+small_bytes f = f.number ∷ f.b1 ∷ f.b2 ∷ f.b3 ∷ f.b4 ∷ f.b5 ∷ f.b6 ∷ f.b7 ∷ []
 
 -- the 64 bytes of a record
 unfoldable pub bytes_of : Fields → List ℕ
 bytes_of f =
-    smallBytes f
-    ++ (littleEndian 8 f.n1
-    ++ (littleEndian 8 f.n2 ++ (littleEndian 8 f.n3 ++ (littleEndian 8 f.n4 ++ (littleEndian 8 f.n5 ++ (littleEndian 8 f.n6 ++ littleEndian 8 f.n7))))))
+    small_bytes f
+    ++ (little_endian 8 f.n1
+    ++ (little_endian 8 f.n2 ++ (little_endian 8 f.n3 ++ (little_endian 8 f.n4 ++ (little_endian 8 f.n5 ++ (little_endian 8 f.n6 ++ little_endian 8 f.n7))))))
 
 unfoldable pub fields_of : List ℕ → Fields
 fields_of bs =
@@ -34,14 +34,14 @@ fields_of bs =
     }
 
 -- parameter k is among the first so many, which are used, or it is 0
-abbrev pub usedOr0 : ℕ → ℕ → ℕ → Bool
-usedOr0 k used x = nat_le k used || x == 0
+abbrev pub used_or0 : ℕ → ℕ → ℕ → Bool
+used_or0 k used x = nat_le k used || x == 0
 
 -- small parameters after the first so many are 0: no call uses more than three
-unfoldable pub bytesSpare : Fields → ℕ → Bool
-bytesSpare f used =
-    usedOr0 1 used f.b1 && usedOr0 2 used f.b2 && usedOr0 3 used f.b3 && f.b4 == 0 && f.b5 == 0 && f.b6 == 0 && f.b7 == 0
+unfoldable pub bytes_spare : Fields → ℕ → Bool
+bytes_spare f used =
+    used_or0 1 used f.b1 && used_or0 2 used f.b2 && used_or0 3 used f.b3 && f.b4 == 0 && f.b5 == 0 && f.b6 == 0 && f.b7 == 0
 
-unfoldable pub numbersSpare : Fields → ℕ → Bool
-numbersSpare f used =
-    usedOr0 1 used f.n1 && usedOr0 2 used f.n2 && usedOr0 3 used f.n3 && usedOr0 4 used f.n4 && usedOr0 5 used f.n5 && usedOr0 6 used f.n6 && usedOr0 7 used f.n7
+unfoldable pub numbers_spare : Fields → ℕ → Bool
+numbers_spare f used =
+    used_or0 1 used f.n1 && used_or0 2 used f.n2 && used_or0 3 used f.n3 && used_or0 4 used f.n4 && used_or0 5 used f.n5 && used_or0 6 used f.n6 && used_or0 7 used f.n7

@@ -1,6 +1,6 @@
 -- The lines of a block.
 use Rattle.core.specs.Prelude.{ℕ, List, [], ◌∷◌, ◌++◌, take, slice_index}
-use Rattle.controller.specs.Readers.{freeCount}
+use Rattle.controller.specs.Readers.{free_count}
 use Rattle.descriptor.specs.declared.qtd.QueueTransferDescriptor.{QueueTransferDescriptor}
 use Rattle.state.specs.Plain.{Ehci}
 use Rattle.text.specs.Text.{decimal, hex}
@@ -12,27 +12,27 @@ use Rattle.call_log.specs.declared.line.Part.TheVariants.{Decimal, Word, Byte, J
 
 -- ---- what the code's parts and lines say
 
-abbrev pub partBytes : Part → List ℕ
-partBytes (Decimal n) = 32 ∷ decimal n
-partBytes (Word n) = 32 ∷ hex n 8
-partBytes (Byte n) = 32 ∷ hex n 2
-partBytes (Joined n) = hex n 2
-partBytes Dash = 32 ∷ 45 ∷ []
+abbrev pub part_bytes : Part → List ℕ
+part_bytes (Decimal n) = 32 ∷ decimal n
+part_bytes (Word n) = 32 ∷ hex n 8
+part_bytes (Byte n) = 32 ∷ hex n 2
+part_bytes (Joined n) = hex n 2
+part_bytes Dash = 32 ∷ 45 ∷ []
 
-unfoldable pub partsBytes : List Cell → List ℕ
-partsBytes [] = []
-partsBytes (cell ∷ cells) = partBytes cell.part ++ partsBytes cells
+unfoldable pub parts_bytes : List Cell → List ℕ
+parts_bytes [] = []
+parts_bytes (cell ∷ cells) = part_bytes cell.part ++ parts_bytes cells
 
-unfoldable pub lineBytes : Line → List ℕ
-lineBytes line = line.letter ∷ (partsBytes (take line.count line.cells) ++ (10 ∷ []))
+unfoldable pub line_bytes : Line → List ℕ
+line_bytes line = line.letter ∷ (parts_bytes (take line.count line.cells) ++ (10 ∷ []))
 
 -- some parts, as a line
 abbrev pub said : List Part → List ℕ
 said [] = []
-said (part ∷ parts) = partBytes part ++ said parts
+said (part ∷ parts) = part_bytes part ++ said parts
 
-unfoldable pub saidLine : ℕ → List Part → List ℕ
-saidLine letter parts = letter ∷ (said parts ++ (10 ∷ []))
+unfoldable pub said_line : ℕ → List Part → List ℕ
+said_line letter parts = letter ∷ (said parts ++ (10 ∷ []))
 
 -- ---- the lines: a letter, its parts each after a space, and the line's end
 
@@ -48,8 +48,8 @@ abbrev pub word : ℕ → List ℕ
 word value = hex value 8
 
 -- P place and the record's 13 words
-unfoldable pub recordLine : ℕ → QueueTransferDescriptor → List ℕ
-recordLine place r =
+unfoldable pub record_line : ℕ → QueueTransferDescriptor → List ℕ
+record_line place r =
     line_of 80
     (decimal place ∷ word r.next ∷ word r.alternate ∷ word r.token
     ∷ word (slice_index r.pages 0) ∷ word (slice_index r.pages 1) ∷ word (slice_index r.pages 2) ∷ word (slice_index r.pages 3) ∷ word (slice_index r.pages 4)
@@ -57,16 +57,16 @@ recordLine place r =
     ∷ [])
 
 -- H place word value
-unfoldable pub headLine : ℕ → ℕ → ℕ → List ℕ
-headLine place i value = line_of 72 (decimal place ∷ decimal i ∷ word value ∷ [])
+unfoldable pub head_line : ℕ → ℕ → ℕ → List ℕ
+head_line place i value = line_of 72 (decimal place ∷ decimal i ∷ word value ∷ [])
 
 -- F first last value
-unfoldable pub frameLine : ℕ → ℕ → ℕ → List ℕ
-frameLine first last value = line_of 70 (decimal first ∷ decimal last ∷ word value ∷ [])
+unfoldable pub frame_line : ℕ → ℕ → ℕ → List ℕ
+frame_line first last value = line_of 70 (decimal first ∷ decimal last ∷ word value ∷ [])
 
 -- S slot and 16 hex digits, the setup bytes in memory order
-unfoldable pub setupLine : ℕ → List ℕ → List ℕ
-setupLine slot bytes =
+unfoldable pub setup_line : ℕ → List ℕ → List ℕ
+setup_line slot bytes =
     line_of 83
     (decimal slot
     ∷ (hex (slice_index bytes 0) 2
@@ -76,11 +76,11 @@ setupLine slot bytes =
     ∷ [])
 
 -- U port state
-unfoldable pub portLine : ℕ → ℕ → List ℕ
-portLine port state = line_of 85 (decimal port ∷ decimal state ∷ [])
+unfoldable pub port_line : ℕ → ℕ → List ℕ
+port_line port state = line_of 85 (decimal port ∷ decimal state ∷ [])
 
-unfoldable pub shownOf : Ehci → Seen
-shownOf s =
+unfoldable pub shown_of : Ehci → Seen
+shown_of s =
     record {
       running = s.running;
       flag = s.enabled;
@@ -89,20 +89,20 @@ shownOf s =
       unanswered = s.unanswered;
       pending = s.pending;
       masked = s.masked;
-      free = freeCount s;
+      free = free_count s;
       address = s.address;
     }
 
 -- Q running flag doorbell note unanswered pending masked free next-address
-unfoldable pub shownLine : Seen → List ℕ
-shownLine x =
+unfoldable pub shown_line : Seen → List ℕ
+shown_line x =
     line_of 81
     (decimal x.running ∷ decimal x.flag ∷ decimal x.doorbell ∷ decimal x.note ∷ decimal x.unanswered ∷ word x.pending
     ∷ word x.masked ∷ decimal x.free ∷ decimal x.address ∷ [])
 
-abbrev pub stateLine : Ehci → List ℕ
-stateLine s = shownLine (shownOf s)
+abbrev pub state_line : Ehci → List ℕ
+state_line s = shown_line (shown_of s)
 
 -- W offset value
-unfoldable pub writeLine : ℕ → ℕ → List ℕ
-writeLine offset value = line_of 87 (hex offset 2 ∷ word value ∷ [])
+unfoldable pub write_line : ℕ → ℕ → List ℕ
+write_line offset value = line_of 87 (hex offset 2 ∷ word value ∷ [])

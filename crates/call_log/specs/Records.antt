@@ -3,9 +3,9 @@ use Rattle.core.specs.Prelude.{◌≡◌, ℕ, ◌%◌, ◌^◌, ◌<◌, Bool, 
 use Rattle.controller.specs.declared.lent.Readings.{Readings}
 use Rattle.ehci.specs.declared.call.Call.{Call}
 use Rattle.ehci.specs.declared.call.Call.TheVariants as C
-use Rattle.pipe.specs.Endpoints.{directionNumber, directionOf, flagNumber, flagOf, kindNumber, kind_of}
+use Rattle.pipe.specs.Endpoints.{direction_number, direction_of, flag_number, flag_of, kind_number, kind_of}
 use Rattle.settings.specs.declared.settings.Settings.{Settings}
-use Rattle.call_log.specs.Fields.{bytes_of, bytesSpare, fields_of, numbersSpare}
+use Rattle.call_log.specs.Fields.{bytes_of, bytes_spare, fields_of, numbers_spare}
 use Rattle.call_log.specs.declared.fields.Fields.{Fields}
 use Rattle.call_log.specs.declared.record.Entry.{Entry}
 use Rattle.call_log.specs.declared.record.Entry.TheVariants.{Open, Call as ACall, StartScan, ScanStep, PortPower, Bad}
@@ -32,27 +32,27 @@ row number b1 b2 b3 n1 n2 n3 n4 =
       n7 = 0;
     }
 
-unfoldable pub callFields : Call → Fields
-callFields C.StartBringUp = row 2 0 0 0 0 0 0 0
-callFields (C.BringUpStep reading) = row 3 0 0 0 reading 0 0 0
-callFields C.AllocateAddress = row 4 0 0 0 0 0 0 0
-callFields (C.OpenEndpoint e) = row 5 (kindNumber e.kind) e.address e.number e.packet 0 0 0
-callFields (C.Close slot) = row 6 slot 0 0 0 0 0 0
-callFields (C.SetAddress slot address) = row 7 slot address 0 0 0 0 0
-callFields (C.SetPacketSize slot size) = row 8 slot size 0 0 0 0 0
-callFields (C.Submit slot t r) = row 9 slot (kindNumber t.kind) (directionNumber t.direction) t.setup t.address t.length r.command
-callFields (C.Writeback place token) = row 10 0 0 0 place token 0 0
-callFields (C.Cancel slot id r) = row 11 slot 0 0 id r.command r.frame 0
-callFields (C.Collect slot id r) = row 12 slot 0 0 id r.command r.frame r.overlay
-callFields (C.Acknowledge x) = row 13 (flagNumber x.flag) (flagNumber x.again) 0 x.status x.interrupts 0 0
-callFields (C.Drain command) = row 14 0 0 0 command 0 0 0
-callFields C.Rearm = row 15 0 0 0 0 0 0 0
-callFields C.Enable = row 16 0 0 0 0 0 0 0
-callFields C.Disable = row 17 0 0 0 0 0 0 0
-callFields (C.ClearHalt slot) = row 21 slot 0 0 0 0 0 0
+unfoldable pub call_fields : Call → Fields
+call_fields C.StartBringUp = row 2 0 0 0 0 0 0 0
+call_fields (C.BringUpStep reading) = row 3 0 0 0 reading 0 0 0
+call_fields C.AllocateAddress = row 4 0 0 0 0 0 0 0
+call_fields (C.OpenEndpoint e) = row 5 (kind_number e.kind) e.address e.number e.packet 0 0 0
+call_fields (C.Close slot) = row 6 slot 0 0 0 0 0 0
+call_fields (C.SetAddress slot address) = row 7 slot address 0 0 0 0 0
+call_fields (C.SetPacketSize slot size) = row 8 slot size 0 0 0 0 0
+call_fields (C.Submit slot t r) = row 9 slot (kind_number t.kind) (direction_number t.direction) t.setup t.address t.length r.command
+call_fields (C.Writeback place token) = row 10 0 0 0 place token 0 0
+call_fields (C.Cancel slot id r) = row 11 slot 0 0 id r.command r.frame 0
+call_fields (C.Collect slot id r) = row 12 slot 0 0 id r.command r.frame r.overlay
+call_fields (C.Acknowledge x) = row 13 (flag_number x.flag) (flag_number x.again) 0 x.status x.interrupts 0 0
+call_fields (C.Drain command) = row 14 0 0 0 command 0 0 0
+call_fields C.Rearm = row 15 0 0 0 0 0 0 0
+call_fields C.Enable = row 16 0 0 0 0 0 0 0
+call_fields C.Disable = row 17 0 0 0 0 0 0 0
+call_fields (C.ClearHalt slot) = row 21 slot 0 0 0 0 0 0
 
-unfoldable pub fieldsFor : Entry → Fields
-fieldsFor (Open s) =
+unfoldable pub fields_for : Entry → Fields
+fields_for (Open s) =
     record {
       number = 1;
       b1 = s.endpoints;
@@ -70,15 +70,15 @@ fieldsFor (Open s) =
       n6 = s.frames;
       n7 = s.setups;
     }
-fieldsFor (ACall call) = callFields call
-fieldsFor StartScan = row 18 0 0 0 0 0 0 0
-fieldsFor (ScanStep reading) = row 19 0 0 0 reading 0 0 0
-fieldsFor (PortPower port reading) = row 20 port 0 0 reading 0 0 0
-fieldsFor Bad = row 0 0 0 0 0 0 0 0
+fields_for (ACall call) = call_fields call
+fields_for StartScan = row 18 0 0 0 0 0 0 0
+fields_for (ScanStep reading) = row 19 0 0 0 reading 0 0 0
+fields_for (PortPower port reading) = row 20 port 0 0 reading 0 0 0
+fields_for Bad = row 0 0 0 0 0 0 0 0
 
 -- the record of an entry that has one
-unfoldable pub recordOf : Entry → List ℕ
-recordOf e = bytes_of (fieldsFor e)
+unfoldable pub record_of : Entry → List ℕ
+record_of e = bytes_of (fields_for e)
 
 -- ---- the reader
 
@@ -87,16 +87,16 @@ guarded true e = e
 guarded false e = Bad
 
 abbrev pub spare : Fields → ℕ → ℕ → Bool
-spare f bytes numbers = bytesSpare f bytes && numbersSpare f numbers
+spare f bytes numbers = bytes_spare f bytes && numbers_spare f numbers
 
-abbrev pub isWord : ℕ → Bool
-isWord n = nat_lt n (2 ^ 32)
+abbrev pub is_word : ℕ → Bool
+is_word n = nat_lt n (2 ^ 32)
 
 unfoldable pub plain : Fields → Entry → Entry
 plain f e = guarded (spare f 0 0) e
 
-abbrev pub settingsOf : Fields → Settings
-settingsOf f =
+abbrev pub settings_of : Fields → Settings
+settings_of f =
     record {
       descriptors = f.n1;
       endpoints = f.b1;
@@ -109,77 +109,77 @@ settingsOf f =
       setups = f.n7;
     }
 
-unfoldable pub openEntry : Fields → Entry
-openEntry f = guarded (spare f 2 7) (Open (settingsOf f))
+unfoldable pub open_entry : Fields → Entry
+open_entry f = guarded (spare f 2 7) (Open (settings_of f))
 
-unfoldable pub bringUpStep : Fields → Entry
-bringUpStep f = guarded (spare f 0 1 && isWord f.n1) (ACall (C.BringUpStep (f.n1 % 2 ^ 32)))
+unfoldable pub bring_up_step : Fields → Entry
+bring_up_step f = guarded (spare f 0 1 && is_word f.n1) (ACall (C.BringUpStep (f.n1 % 2 ^ 32)))
 
-unfoldable pub openEndpoint : Fields → Entry
-openEndpoint f =
+unfoldable pub open_endpoint : Fields → Entry
+open_endpoint f =
     guarded (spare f 3 1 && nat_le f.b1 3 && nat_lt f.n1 (2 ^ 16))
     (ACall (C.OpenEndpoint (record { kind = kind_of f.b1; address = f.b2; number = f.b3; packet = f.n1 % 2 ^ 16 })))
 
 unfoldable pub close : Fields → Entry
 close f = guarded (spare f 1 0) (ACall (C.Close f.b1))
 
-unfoldable pub setAddress : Fields → Entry
-setAddress f = guarded (spare f 2 0) (ACall (C.SetAddress f.b1 f.b2))
+unfoldable pub set_address : Fields → Entry
+set_address f = guarded (spare f 2 0) (ACall (C.SetAddress f.b1 f.b2))
 
-unfoldable pub setPacketSize : Fields → Entry
-setPacketSize f = guarded (spare f 2 0) (ACall (C.SetPacketSize f.b1 f.b2))
+unfoldable pub set_packet_size : Fields → Entry
+set_packet_size f = guarded (spare f 2 0) (ACall (C.SetPacketSize f.b1 f.b2))
 
 unfoldable pub submit : Fields → Entry
 submit f =
-    guarded (spare f 3 4 && nat_le f.b2 3 && nat_le f.b3 1 && (nat_lt f.n1 (2 ^ 48) && isWord f.n4))
+    guarded (spare f 3 4 && nat_le f.b2 3 && nat_le f.b3 1 && (nat_lt f.n1 (2 ^ 48) && is_word f.n4))
     (ACall
     (C.Submit f.b1
-    (record { kind = kind_of f.b2; direction = directionOf f.b3; setup = f.n1; address = f.n2; length = f.n3 })
+    (record { kind = kind_of f.b2; direction = direction_of f.b3; setup = f.n1; address = f.n2; length = f.n3 })
     (record { command = f.n4 % 2 ^ 32; frame = 0; overlay = 0 })))
 
 unfoldable pub writeback : Fields → Entry
-writeback f = guarded (spare f 0 2 && isWord f.n2) (ACall (C.Writeback f.n1 (f.n2 % 2 ^ 32)))
+writeback f = guarded (spare f 0 2 && is_word f.n2) (ACall (C.Writeback f.n1 (f.n2 % 2 ^ 32)))
 
 -- USBCMD and FRINDEX, n2 and n3; with the overlay's token
-abbrev pub readingsOf : Fields → ℕ → Readings
-readingsOf f overlay = record { command = f.n2 % 2 ^ 32; frame = f.n3 % 2 ^ 32; overlay = overlay }
+abbrev pub readings_of : Fields → ℕ → Readings
+readings_of f overlay = record { command = f.n2 % 2 ^ 32; frame = f.n3 % 2 ^ 32; overlay = overlay }
 
 unfoldable pub cancel : Fields → Entry
-cancel f = guarded (spare f 1 3 && isWord f.n2 && isWord f.n3) (ACall (C.Cancel f.b1 f.n1 (readingsOf f 0)))
+cancel f = guarded (spare f 1 3 && is_word f.n2 && is_word f.n3) (ACall (C.Cancel f.b1 f.n1 (readings_of f 0)))
 
 -- the overlay's token is n4
 unfoldable pub collect : Fields → Entry
 collect f =
-    guarded (spare f 1 4 && isWord f.n2 && isWord f.n3 && isWord f.n4)
-    (ACall (C.Collect f.b1 f.n1 (readingsOf f (f.n4 % 2 ^ 32))))
+    guarded (spare f 1 4 && is_word f.n2 && is_word f.n3 && is_word f.n4)
+    (ACall (C.Collect f.b1 f.n1 (readings_of f (f.n4 % 2 ^ 32))))
 
 unfoldable pub acknowledge : Fields → Entry
 acknowledge f =
-    guarded (spare f 2 2 && (nat_le f.b1 1 && nat_le f.b2 1) && isWord f.n1 && isWord f.n2)
-    (ACall (C.Acknowledge (record { status = f.n1 % 2 ^ 32; interrupts = f.n2 % 2 ^ 32; flag = flagOf f.b1; again = flagOf f.b2 })))
+    guarded (spare f 2 2 && (nat_le f.b1 1 && nat_le f.b2 1) && is_word f.n1 && is_word f.n2)
+    (ACall (C.Acknowledge (record { status = f.n1 % 2 ^ 32; interrupts = f.n2 % 2 ^ 32; flag = flag_of f.b1; again = flag_of f.b2 })))
 
 unfoldable pub drain : Fields → Entry
-drain f = guarded (spare f 0 1 && isWord f.n1) (ACall (C.Drain (f.n1 % 2 ^ 32)))
+drain f = guarded (spare f 0 1 && is_word f.n1) (ACall (C.Drain (f.n1 % 2 ^ 32)))
 
-unfoldable pub scanStep : Fields → Entry
-scanStep f = guarded (spare f 0 1 && isWord f.n1) (ScanStep (f.n1 % 2 ^ 32))
+unfoldable pub scan_step : Fields → Entry
+scan_step f = guarded (spare f 0 1 && is_word f.n1) (ScanStep (f.n1 % 2 ^ 32))
 
-unfoldable pub portPower : Fields → Entry
-portPower f = guarded (spare f 1 1 && isWord f.n1) (PortPower f.b1 (f.n1 % 2 ^ 32))
+unfoldable pub port_power : Fields → Entry
+port_power f = guarded (spare f 1 1 && is_word f.n1) (PortPower f.b1 (f.n1 % 2 ^ 32))
 
-unfoldable pub clearHalt : Fields → Entry
-clearHalt f = guarded (spare f 1 0) (ACall (C.ClearHalt f.b1))
+unfoldable pub clear_halt : Fields → Entry
+clear_halt f = guarded (spare f 1 0) (ACall (C.ClearHalt f.b1))
 
-unfoldable pub judgedAs : ℕ → Fields → Entry
-judgedAs n f =
-    cond (n == 1) (openEntry f)
+unfoldable pub judged_as : ℕ → Fields → Entry
+judged_as n f =
+    cond (n == 1) (open_entry f)
     (cond (n == 2) (plain f (ACall C.StartBringUp))
-    (cond (n == 3) (bringUpStep f)
+    (cond (n == 3) (bring_up_step f)
     (cond (n == 4) (plain f (ACall C.AllocateAddress))
-    (cond (n == 5) (openEndpoint f)
+    (cond (n == 5) (open_endpoint f)
     (cond (n == 6) (close f)
-    (cond (n == 7) (setAddress f)
-    (cond (n == 8) (setPacketSize f)
+    (cond (n == 7) (set_address f)
+    (cond (n == 8) (set_packet_size f)
     (cond (n == 9) (submit f)
     (cond (n == 10) (writeback f)
     (cond (n == 11) (cancel f)
@@ -190,16 +190,16 @@ judgedAs n f =
     (cond (n == 16) (plain f (ACall C.Enable))
     (cond (n == 17) (plain f (ACall C.Disable))
     (cond (n == 18) (plain f StartScan)
-    (cond (n == 19) (scanStep f)
-    (cond (n == 20) (portPower f)
-    (cond (n == 21) (clearHalt f)
+    (cond (n == 19) (scan_step f)
+    (cond (n == 20) (port_power f)
+    (cond (n == 21) (clear_halt f)
     Bad))))))))))))))))))))
 
-abbrev pub entryFrom : Fields → Entry
-entryFrom f = judgedAs f.number f
+abbrev pub entry_from : Fields → Entry
+entry_from f = judged_as f.number f
 
 unfoldable pub entry_of : List ℕ → Entry
-entry_of bs = cond (length bs == 64) (entryFrom (fields_of bs)) Bad
+entry_of bs = cond (length bs == 64) (entry_from (fields_of bs)) Bad
 
 -- ---- entries that have a record
 
@@ -242,5 +242,5 @@ pub record NumbersFit (f : Fields) : Type 0 where
   pub fit7 : f.n7 < 2 ^ 64
 
 pub record Representable (e : Entry) : Type 0 where
-  pub numbers : NumbersFit (fieldsFor e)
+  pub numbers : NumbersFit (fields_for e)
   pub own : Own e

@@ -1,11 +1,11 @@
 // A block: what a call did, as lines.
 ghost use Rattle.core.specs.Prelude.{◌≡◌, ℕ, ◌+◌, ◌≤◌, true, List, [], ◌∷◌, length};
 ghost use Rattle.common.specs.Rows.{put_at};
-ghost use Rattle.call_log.specs.Block.{block_of, rowsLines};
-ghost use Rattle.call_log.specs.Words.{Shows, restShown, shownIn};
-ghost use Rattle.call_log.specs.Changes.{frameLines, headLines, portLines, setupLines};
+ghost use Rattle.call_log.specs.Block.{block_of, rows_lines};
+ghost use Rattle.call_log.specs.Words.{Shows, rest_shown, shown_in};
+ghost use Rattle.call_log.specs.Changes.{frame_lines, head_lines, port_lines, setup_lines};
 ghost use Rattle.text.specs.Text.{only_if};
-ghost use Rattle.call_log.specs.Lines.{lineBytes, shownLine};
+ghost use Rattle.call_log.specs.Lines.{line_bytes, shown_line};
 ghost use Rattle.words.specs.View.{view};
 
 use crate::frames::put_frames;
@@ -32,32 +32,32 @@ pub struct Rows {
 
 fn put_head_rows(out: &mut [u8], at: usize, before: [u32; 561], after: [u32; 561]) -> usize
     requires { at + 30029 ≤ length out.old }
-    ensures out_after { out.new ≡ put_at out.old at (headLines before after) }
-    ensures value { result ≡ at + length (headLines before after) }
+    ensures out_after { out.new ≡ put_at out.old at (head_lines before after) }
+    ensures value { result ≡ at + length (head_lines before after) }
 {
     put_heads(out, at, &before, &after)
 }
 
 fn put_frame_rows(out: &mut [u8], at: usize, before: [u32; 1024], after: [u32; 1024]) -> usize
     requires { at + 54568 ≤ length out.old }
-    ensures out_after { out.new ≡ put_at out.old at (frameLines before after) }
-    ensures value { result ≡ at + length (frameLines before after) }
+    ensures out_after { out.new ≡ put_at out.old at (frame_lines before after) }
+    ensures value { result ≡ at + length (frame_lines before after) }
 {
     put_frames(out, at, &before, &after)
 }
 
 fn put_setup_rows(out: &mut [u8], at: usize, before: [u8; 256], after: [u8; 256]) -> usize
     requires { at + 1576 ≤ length out.old }
-    ensures out_after { out.new ≡ put_at out.old at (setupLines 32 before after) }
-    ensures value { result ≡ at + length (setupLines 32 before after) }
+    ensures out_after { out.new ≡ put_at out.old at (setup_lines 32 before after) }
+    ensures value { result ≡ at + length (setup_lines 32 before after) }
 {
     put_setups(out, at, 32, &before, &after)
 }
 
 pub fn put_rows(out: &mut [u8], at: usize, before: Rows, after: Rows) -> usize
     requires { at + 121561 ≤ length out.old }
-    ensures out_after { out.new ≡ put_at out.old at (rowsLines before after) }
-    ensures value { result ≡ at + length (rowsLines before after) }
+    ensures out_after { out.new ≡ put_at out.old at (rows_lines before after) }
+    ensures value { result ≡ at + length (rows_lines before after) }
 {
     let old_pool = before.pool;
     let new_pool = after.pool;
@@ -82,8 +82,8 @@ fn put_port_rows(
     after: [u8; 15],
 ) -> usize
     requires { at + 956 ≤ length out.old }
-    ensures out_after { out.new ≡ put_at out.old at (portLines opening ports before after) }
-    ensures value { result ≡ at + length (portLines opening ports before after) }
+    ensures out_after { out.new ≡ put_at out.old at (port_lines opening ports before after) }
+    ensures value { result ≡ at + length (port_lines opening ports before after) }
 {
     put_ports(out, at, opening, ports, &before, &after)
 }
@@ -91,8 +91,8 @@ fn put_port_rows(
 // The controller's line, once one is opened.
 fn put_state(out: &mut [u8], at: usize, opened: bool, core: Core) -> usize
     requires { at + 296 ≤ length out.old }
-    ensures out_after { out.new ≡ put_at out.old at (only_if opened (shownLine (shownIn core))) }
-    ensures value { result ≡ at + length (only_if opened (shownLine (shownIn core))) }
+    ensures out_after { out.new ≡ put_at out.old at (only_if opened (shown_line (shown_in core))) }
+    ensures value { result ≡ at + length (only_if opened (shown_line (shown_in core))) }
 {
     if opened {
         let line = state_line(core);
@@ -114,8 +114,8 @@ fn put_end(out: &mut [u8], at: usize) -> usize
 // The lines after the rows.
 fn put_rest(out: &mut [u8], at: usize, opened: bool, core: Core, writes: Writes) -> usize
     requires { at + 850 ≤ length out.old }
-    ensures out_after { out.new ≡ put_at out.old at (restShown opened (shownIn core) writes) }
-    ensures value { result ≡ at + length (restShown opened (shownIn core) writes) }
+    ensures out_after { out.new ≡ put_at out.old at (rest_shown opened (shown_in core) writes) }
+    ensures value { result ≡ at + length (rest_shown opened (shown_in core) writes) }
 {
     let first = put_state(out, at, opened, core);
     let last = put_writes(out, first, writes);
@@ -135,9 +135,9 @@ pub fn put_block(
 ) -> usize
     requires { 131072 ≤ length out.old }
     ensures by_index { (ws : List ℕ) → (opened ≡ true → Shows core ws)
-        → out.new ≡ put_at out.old 0 (block_of (lineBytes first) opening before after opened (view core ws) writes) }
+        → out.new ≡ put_at out.old 0 (block_of (line_bytes first) opening before after opened (view core ws) writes) }
     ensures by_index_2 { (ws : List ℕ) → (opened ≡ true → Shows core ws)
-        → result ≡ length (block_of (lineBytes first) opening before after opened (view core ws) writes) }
+        → result ≡ length (block_of (line_bytes first) opening before after opened (view core ws) writes) }
     ensures upper_bound { result ≤ length out.new }
 {
     let rows = put_line(out, 0, first);

@@ -1,17 +1,17 @@
 // The first line of a block: the record's number, the call's, its answer, and what the answer gives.
 ghost use Rattle.core.specs.Prelude.{◌≡◌, [], ◌∷◌};
 ghost use Rattle.text.specs.Text.{decimal};
-ghost use Rattle.ehci.specs.Replies.{eventValue};
-ghost use Rattle.root_hub.specs.Ports.{portEventNumber};
+ghost use Rattle.ehci.specs.Replies.{event_value};
+ghost use Rattle.root_hub.specs.Ports.{port_event_number};
 ghost use Rattle.call_log.specs.CallLine.{
-  answeredLine,
-  callLine,
-  givenLine,
-  registerPart,
-  scanLine,
-  stepLine,
+  answered_line,
+  call_line,
+  given_line,
+  register_part,
+  scan_line,
+  step_line,
 };
-ghost use Rattle.call_log.specs.Lines.{lineBytes, saidLine};
+ghost use Rattle.call_log.specs.Lines.{line_bytes, said_line};
 
 use crate::line::{Cell, Line, Part};
 use crate::lines::line_of_three;
@@ -22,7 +22,7 @@ use root_hub::ports::PortEvent;
 
 // An answer that gives nothing.
 fn bare_line(n: u64, call: u8, answer: u8) -> Line
-    ensures { lineBytes result ≡ callLine n call answer [] }
+    ensures { line_bytes result ≡ call_line n call answer [] }
 {
     line_of_three(
         b'C',
@@ -33,7 +33,7 @@ fn bare_line(n: u64, call: u8, answer: u8) -> Line
 }
 
 fn line_with(n: u64, call: u8, answer: u8, value: Part) -> Line
-    ensures { lineBytes result ≡ saidLine 67 (Part.Decimal n ∷ Part.Decimal call ∷ Part.Decimal answer ∷ value ∷ []) }
+    ensures { line_bytes result ≡ said_line 67 (Part.Decimal n ∷ Part.Decimal call ∷ Part.Decimal answer ∷ value ∷ []) }
 {
     let mut cells = [Cell { part: Part::Dash }; 14];
     cells[0] = Cell {
@@ -54,7 +54,7 @@ fn line_with(n: u64, call: u8, answer: u8, value: Part) -> Line
 }
 
 fn event_value(event: Event) -> u64
-    ensures { result ≡ eventValue event }
+    ensures { result ≡ event_value event }
 {
     match event {
         Event::Nothing => 0,
@@ -66,7 +66,7 @@ fn event_value(event: Event) -> u64
 
 // Two numbers with 0: the event and its value, of a drain; the length and how many were retried, of a collect.
 fn line_with_two(n: u64, call: u8, first: u64, second: u64) -> Line
-    ensures { lineBytes result ≡ callLine n call 0 (decimal first ∷ decimal second ∷ []) }
+    ensures { line_bytes result ≡ call_line n call 0 (decimal first ∷ decimal second ∷ []) }
 {
     let mut cells = [Cell { part: Part::Dash }; 14];
     cells[0] = Cell {
@@ -92,7 +92,7 @@ fn line_with_two(n: u64, call: u8, first: u64, second: u64) -> Line
 }
 
 fn register_part(read: NextRead) -> Part
-    ensures { result ≡ registerPart read }
+    ensures { result ≡ register_part read }
 {
     match read {
         NextRead::Nothing => Part::Dash,
@@ -102,7 +102,7 @@ fn register_part(read: NextRead) -> Part
 
 // The register to read next, the milliseconds to wait, the event and its port.
 fn step_line(n: u64, call: u8, read: Part, wait: u32, event: u8, port: u8) -> Line
-    ensures { lineBytes result ≡ saidLine 67 (Part.Decimal n ∷ Part.Decimal call ∷ Part.Decimal 0 ∷ read ∷ Part.Decimal wait ∷ Part.Decimal event ∷ Part.Decimal port ∷ []) }
+    ensures { line_bytes result ≡ said_line 67 (Part.Decimal n ∷ Part.Decimal call ∷ Part.Decimal 0 ∷ read ∷ Part.Decimal wait ∷ Part.Decimal event ∷ Part.Decimal port ∷ []) }
 {
     let mut cells = [Cell { part: Part::Dash }; 14];
     cells[0] = Cell {
@@ -132,7 +132,7 @@ fn step_line(n: u64, call: u8, read: Part, wait: u32, event: u8, port: u8) -> Li
 }
 
 fn given_line(n: u64, call: u8, given: Given) -> Line
-    ensures { lineBytes result ≡ givenLine n call given }
+    ensures { line_bytes result ≡ given_line n call given }
 {
     match given {
         Given::Nothing => bare_line(n, call, 0),
@@ -148,7 +148,7 @@ fn given_line(n: u64, call: u8, given: Given) -> Line
 }
 
 pub fn call_line(n: u64, call: u8, answered: Answered) -> Line
-    ensures { lineBytes result ≡ answeredLine n call answered }
+    ensures { line_bytes result ≡ answered_line n call answered }
 {
     match answered {
         Answered::Done(given) => given_line(n, call, given),
@@ -160,7 +160,7 @@ pub fn call_line(n: u64, call: u8, answered: Answered) -> Line
 }
 
 fn port_event_number(event: PortEvent) -> u8
-    ensures { result ≡ portEventNumber event }
+    ensures { result ≡ port_event_number event }
 {
     match event {
         PortEvent::Nothing => 0,
@@ -178,7 +178,7 @@ pub fn scan_line(
     wait: u32,
     event: PortEvent,
 ) -> Line
-    ensures { lineBytes result ≡ scanLine n call answer read wait event }
+    ensures { line_bytes result ≡ scan_line n call answer read wait event }
 {
     match answer {
         Answer::Done => step_line(

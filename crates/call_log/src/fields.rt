@@ -1,6 +1,6 @@
 // The numbers of a record: the call's, seven small parameters, and seven of 64 bits, the lowest byte first.
 ghost use Rattle.core.specs.Prelude.{◌≡◌, ◌&&◌, length};
-ghost use Rattle.call_log.specs.Fields.{bytesSpare, fields_of, numbersSpare};
+ghost use Rattle.call_log.specs.Fields.{bytes_spare, fields_of, numbers_spare};
 
 use text::number::number64;
 
@@ -50,7 +50,7 @@ pub fn decode(bytes: &[u8]) -> Fields
 
 // A call uses the first so many of the small parameters: the others are 0.
 fn bytes_spare(f: Fields, used: u8) -> bool
-    ensures { result ≡ bytesSpare f used }
+    ensures { result ≡ bytes_spare f used }
 {
     ((1 <= used) | (f.b1 == 0))
         & ((2 <= used) | (f.b2 == 0))
@@ -62,7 +62,7 @@ fn bytes_spare(f: Fields, used: u8) -> bool
 }
 
 fn numbers_spare(f: Fields, used: u8) -> bool
-    ensures { result ≡ numbersSpare f used }
+    ensures { result ≡ numbers_spare f used }
 {
     ((1 <= used) | (f.n1 == 0))
         & ((2 <= used) | (f.n2 == 0))
@@ -75,7 +75,7 @@ fn numbers_spare(f: Fields, used: u8) -> bool
 
 // What a call does not use is 0.
 pub fn spare(f: Fields, bytes: u8, numbers: u8) -> bool
-    ensures { result ≡ (bytesSpare f bytes && numbersSpare f numbers) }
+    ensures { result ≡ (bytes_spare f bytes && numbers_spare f numbers) }
 {
     bytes_spare(f, bytes) & numbers_spare(f, numbers)
 }

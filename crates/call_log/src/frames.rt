@@ -2,8 +2,8 @@
 ghost use Rattle.core.specs.Prelude.{◌≡◌, ◌+◌, ◌*◌, ◌<◌, ◌≤◌, Bool, length, if◌then◌else◌};
 ghost use Rattle.common.specs.Rows.{put_at};
 ghost use Rattle.text.specs.Text.{only_if};
-ghost use Rattle.call_log.specs.Changes.{frameLines, goesOn, runEnds};
-ghost use Rattle.call_log.specs.Lines.{frameLine};
+ghost use Rattle.call_log.specs.Changes.{frame_lines, goes_further, run_ends};
+ghost use Rattle.call_log.specs.Lines.{frame_line};
 
 use crate::line::put_line;
 use crate::lines::frame_line;
@@ -12,7 +12,7 @@ use crate::lines::frame_line;
 fn goes_on(before: &[u32], after: &[u32], i: usize) -> bool
     requires before_len { length before.now ≡ length after.now }
     requires i_in_bounds { i < length after.now }
-    ensures { result ≡ goesOn before.now after.now i }
+    ensures { result ≡ goes_further before.now after.now i }
 {
     if i + 1 < after.len() {
         return (before[i] != after[i])
@@ -25,7 +25,7 @@ fn goes_on(before: &[u32], after: &[u32], i: usize) -> bool
 fn run_ends(before: &[u32], after: &[u32], i: usize, on: bool) -> bool
     requires before_len { length before.now ≡ length after.now }
     requires i_in_bounds { i < length after.now }
-    ensures { result ≡ runEnds before.now after.now i on }
+    ensures { result ≡ run_ends before.now after.now i on }
 {
     (before[i] != after[i]) & !on
 }
@@ -40,8 +40,8 @@ fn next_first(on: bool, first: usize, i: usize) -> usize
 
 fn put_frame(out: &mut [u8], at: usize, ends: bool, first: usize, i: usize, value: u32) -> usize
     requires { at + 296 ≤ length out.old }
-    ensures out_after { out.new ≡ put_at out.old at (only_if ends (frameLine first i value)) }
-    ensures value { result ≡ at + length (only_if ends (frameLine first i value)) }
+    ensures out_after { out.new ≡ put_at out.old at (only_if ends (frame_line first i value)) }
+    ensures value { result ≡ at + length (only_if ends (frame_line first i value)) }
 {
     if ends {
         let line = frame_line(first as u64, i as u64, value);
@@ -54,8 +54,8 @@ pub fn put_frames(out: &mut [u8], at: usize, before: &[u32], after: &[u32]) -> u
     requires before_len { length before.now ≡ length after.now }
     requires after_len_bound { length after.now ≤ 1024 }
     requires after_in_bounds { at + 53 * length after.now + 296 ≤ length out.old }
-    ensures out_after { out.new ≡ put_at out.old at (frameLines before.now after.now) }
-    ensures value { result ≡ at + length (frameLines before.now after.now) }
+    ensures out_after { out.new ≡ put_at out.old at (frame_lines before.now after.now) }
+    ensures value { result ≡ at + length (frame_lines before.now after.now) }
 {
     let mut place = at;
     let mut first = 0;

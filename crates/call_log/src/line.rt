@@ -2,7 +2,7 @@
 ghost use Rattle.core.specs.Prelude.{◌≡◌, ◌+◌, ◌*◌, ◌≤◌, min, [], ◌∷◌, length, take};
 ghost use Rattle.common.specs.Rows.{put_at};
 ghost use Rattle.text.specs.Text.{hex};
-ghost use Rattle.call_log.specs.Lines.{lineBytes, partBytes, partsBytes};
+ghost use Rattle.call_log.specs.Lines.{line_bytes, part_bytes, parts_bytes};
 
 use text::digits::{put, put_decimal, put_hex};
 
@@ -32,8 +32,8 @@ pub struct Line {
 
 fn put_spaced_decimal(out: &mut [u8], at: usize, n: u64) -> usize
     requires { at + 21 ≤ length out.old }
-    ensures out_after { out.new ≡ put_at out.old at (partBytes (Part.Decimal n)) }
-    ensures value { result ≡ at + length (partBytes (Part.Decimal n)) }
+    ensures out_after { out.new ≡ put_at out.old at (part_bytes (Part.Decimal n)) }
+    ensures value { result ≡ at + length (part_bytes (Part.Decimal n)) }
 {
     let next = put(out, at, b' ');
     put_decimal(out, next, n)
@@ -60,8 +60,8 @@ fn put_dash(out: &mut [u8], at: usize) -> usize
 
 fn put_part(out: &mut [u8], at: usize, part: Part) -> usize
     requires { at + 21 ≤ length out.old }
-    ensures out_after { out.new ≡ put_at out.old at (partBytes part) }
-    ensures value { result ≡ at + length (partBytes part) }
+    ensures out_after { out.new ≡ put_at out.old at (part_bytes part) }
+    ensures value { result ≡ at + length (part_bytes part) }
 {
     match part {
         Part::Decimal(n) => put_spaced_decimal(out, at, n),
@@ -75,8 +75,8 @@ fn put_part(out: &mut [u8], at: usize, part: Part) -> usize
 fn put_parts(out: &mut [u8], at: usize, cells: [Cell; 14], count: usize) -> usize
     requires count_bound { count ≤ 14 }
     requires count_in_bounds { at + 21 * count ≤ length out.old }
-    ensures out_after { out.new ≡ put_at out.old at (partsBytes (take count cells)) }
-    ensures value { result ≡ at + length (partsBytes (take count cells)) }
+    ensures out_after { out.new ≡ put_at out.old at (parts_bytes (take count cells)) }
+    ensures value { result ≡ at + length (parts_bytes (take count cells)) }
 {
     let mut place = at;
     let mut i = 0;
@@ -98,8 +98,8 @@ pub fn least(n: usize, most: usize) -> usize
 
 pub fn put_line(out: &mut [u8], at: usize, line: Line) -> usize
     requires { at + 296 ≤ length out.old }
-    ensures out_after { out.new ≡ put_at out.old at (lineBytes line) }
-    ensures value { result ≡ at + length (lineBytes line) }
+    ensures out_after { out.new ≡ put_at out.old at (line_bytes line) }
+    ensures value { result ≡ at + length (line_bytes line) }
 {
     let cells = line.cells;
     let first = put(out, at, line.letter);

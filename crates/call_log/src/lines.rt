@@ -1,17 +1,17 @@
 // The lines of a block but the first: rows, ports, the controller, register writes.
 ghost use Rattle.core.specs.Prelude.{◌≡◌, [], ◌∷◌, ◌++◌};
 ghost use Rattle.call_log.specs.Lines.{
-  frameLine,
-  headLine,
-  lineBytes,
-  portLine,
-  recordLine,
-  saidLine,
-  setupLine,
-  shownLine,
-  writeLine,
+  frame_line,
+  head_line,
+  line_bytes,
+  port_line,
+  record_line,
+  said_line,
+  setup_line,
+  shown_line,
+  write_line,
 };
-ghost use Rattle.call_log.specs.Words.{shownIn};
+ghost use Rattle.call_log.specs.Words.{shown_in};
 
 use crate::line::{Cell, Line, Part};
 use controller::readers::free_count;
@@ -19,7 +19,7 @@ use descriptor::qtd::QueueTransferDescriptor;
 use words::core::Core;
 
 pub fn line_of_two(letter: u8, a: Part, b: Part) -> Line
-    ensures { lineBytes result ≡ saidLine letter (a ∷ b ∷ []) }
+    ensures { line_bytes result ≡ said_line letter (a ∷ b ∷ []) }
 {
     let mut cells = [Cell { part: Part::Dash }; 14];
     cells[0] = Cell { part: a };
@@ -32,7 +32,7 @@ pub fn line_of_two(letter: u8, a: Part, b: Part) -> Line
 }
 
 pub fn line_of_three(letter: u8, a: Part, b: Part, c: Part) -> Line
-    ensures { lineBytes result ≡ saidLine letter (a ∷ b ∷ c ∷ []) }
+    ensures { line_bytes result ≡ said_line letter (a ∷ b ∷ c ∷ []) }
 {
     let mut cells = [Cell { part: Part::Dash }; 14];
     cells[0] = Cell { part: a };
@@ -46,7 +46,7 @@ pub fn line_of_three(letter: u8, a: Part, b: Part, c: Part) -> Line
 }
 
 pub fn head_line(place: u64, word: u64, value: u32) -> Line
-    ensures { lineBytes result ≡ headLine place word value }
+    ensures { line_bytes result ≡ head_line place word value }
 {
     line_of_three(
         b'H',
@@ -57,7 +57,7 @@ pub fn head_line(place: u64, word: u64, value: u32) -> Line
 }
 
 pub fn frame_line(first: u64, last: u64, value: u32) -> Line
-    ensures { lineBytes result ≡ frameLine first last value }
+    ensures { line_bytes result ≡ frame_line first last value }
 {
     line_of_three(
         b'F',
@@ -68,7 +68,7 @@ pub fn frame_line(first: u64, last: u64, value: u32) -> Line
 }
 
 pub fn port_line(port: u8, state: u8) -> Line
-    ensures { lineBytes result ≡ portLine port state }
+    ensures { line_bytes result ≡ port_line port state }
 {
     line_of_two(
         b'U',
@@ -78,13 +78,13 @@ pub fn port_line(port: u8, state: u8) -> Line
 }
 
 pub fn write_line(offset: u32, value: u32) -> Line
-    ensures { lineBytes result ≡ writeLine offset value }
+    ensures { line_bytes result ≡ write_line offset value }
 {
     line_of_two(b'W', Part::Byte(offset), Part::Word(value))
 }
 
 pub fn record_line(place: u64, r: QueueTransferDescriptor) -> Line
-    ensures { lineBytes result ≡ recordLine place r }
+    ensures { line_bytes result ≡ record_line place r }
 {
     let pages = r.pages;
     let upper = r.upper;
@@ -140,7 +140,7 @@ pub fn record_line(place: u64, r: QueueTransferDescriptor) -> Line
 
 // The setup bytes are in memory order.
 pub fn setup_line(slot: u64, b0: u8, b1: u8, b2: u8, b3: u8, b4: u8, b5: u8, b6: u8, b7: u8) -> Line
-    ensures { lineBytes result ≡ setupLine slot (b0 ∷ b1 ∷ b2 ∷ b3 ∷ b4 ∷ b5 ∷ b6 ∷ b7 ∷ []) }
+    ensures { line_bytes result ≡ setup_line slot (b0 ∷ b1 ∷ b2 ∷ b3 ∷ b4 ∷ b5 ∷ b6 ∷ b7 ∷ []) }
 {
     let mut cells = [Cell { part: Part::Dash }; 14];
     cells[0] = Cell {
@@ -192,7 +192,7 @@ pub struct Seen {
 }
 
 fn shown(core: Core) -> Seen
-    ensures { result ≡ shownIn core }
+    ensures { result ≡ shown_in core }
 {
     let free = free_count(core);
     Seen {
@@ -209,7 +209,7 @@ fn shown(core: Core) -> Seen
 }
 
 fn shown_line(x: Seen) -> Line
-    ensures { lineBytes result ≡ shownLine x }
+    ensures { line_bytes result ≡ shown_line x }
 {
     let mut cells = [Cell { part: Part::Dash }; 14];
     cells[0] = Cell {
@@ -247,7 +247,7 @@ fn shown_line(x: Seen) -> Line
 }
 
 pub fn state_line(core: Core) -> Line
-    ensures { lineBytes result ≡ shownLine (shownIn core) }
+    ensures { line_bytes result ≡ shown_line (shown_in core) }
 {
     shown_line(shown(core))
 }

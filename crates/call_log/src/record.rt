@@ -3,22 +3,22 @@ ghost use Rattle.core.specs.Prelude.{◌≡◌, ◌%◌, ◌^◌, ◌<◌, ◌�
 ghost use Rattle.call_log.specs.Records.{
   guarded,
   plain,
-  openEntry,
-  bringUpStep,
-  openEndpoint,
+  open_entry,
+  bring_up_step,
+  open_endpoint,
   close,
-  setAddress,
-  setPacketSize,
+  set_address,
+  set_packet_size,
   submit,
   writeback,
   cancel,
   collect,
   acknowledge,
   drain,
-  scanStep,
-  portPower,
-  clearHalt,
-  entryFrom,
+  scan_step,
+  port_power,
+  clear_halt,
+  entry_from,
   entry_of,
 };
 
@@ -73,7 +73,7 @@ fn plain_entry(f: Fields, entry: Entry) -> Entry
 }
 
 fn open(f: Fields) -> Entry
-    ensures { result ≡ openEntry f }
+    ensures { result ≡ open_entry f }
 {
     let settings = Settings {
         descriptors: f.n1,
@@ -90,7 +90,7 @@ fn open(f: Fields) -> Entry
 }
 
 fn bring_up_step(f: Fields) -> Entry
-    ensures { result ≡ bringUpStep f }
+    ensures { result ≡ bring_up_step f }
 {
     guard(
         spare(f, 0, 1) & (f.n1 < WORD_END),
@@ -99,7 +99,7 @@ fn bring_up_step(f: Fields) -> Entry
 }
 
 fn open_endpoint(f: Fields) -> Entry
-    ensures { result ≡ openEndpoint f }
+    ensures { result ≡ open_endpoint f }
 {
     let endpoint = EndpointFields {
         kind: kind_of(f.b1),
@@ -120,13 +120,13 @@ fn close_slot(f: Fields) -> Entry
 }
 
 fn set_address(f: Fields) -> Entry
-    ensures { result ≡ setAddress f }
+    ensures { result ≡ set_address f }
 {
     guard(spare(f, 2, 0), Entry::Call(Call::SetAddress(f.b1, f.b2)))
 }
 
 fn set_packet_size(f: Fields) -> Entry
-    ensures { result ≡ setPacketSize f }
+    ensures { result ≡ set_packet_size f }
 {
     guard(spare(f, 2, 0), Entry::Call(Call::SetPacketSize(f.b1, f.b2)))
 }
@@ -216,7 +216,7 @@ fn drain_events(f: Fields) -> Entry
 }
 
 fn scan_step(f: Fields) -> Entry
-    ensures { result ≡ scanStep f }
+    ensures { result ≡ scan_step f }
 {
     guard(
         spare(f, 0, 1) & (f.n1 < WORD_END),
@@ -225,7 +225,7 @@ fn scan_step(f: Fields) -> Entry
 }
 
 fn port_power(f: Fields) -> Entry
-    ensures { result ≡ portPower f }
+    ensures { result ≡ port_power f }
 {
     guard(
         spare(f, 1, 1) & (f.n1 < WORD_END),
@@ -234,7 +234,7 @@ fn port_power(f: Fields) -> Entry
 }
 
 fn clear_halt(f: Fields) -> Entry
-    ensures { result ≡ clearHalt f }
+    ensures { result ≡ clear_halt f }
 {
     guard(spare(f, 1, 0), Entry::Call(Call::ClearHalt(f.b1)))
 }
@@ -242,7 +242,7 @@ fn clear_halt(f: Fields) -> Entry
 // Calls 1 to 8, and 0, which is none.
 fn entry_first(f: Fields) -> Entry
     requires { f.number ≤ 8 }
-    ensures { result ≡ entryFrom f }
+    ensures { result ≡ entry_from f }
 {
     let number = f.number;
     match number {
@@ -261,7 +261,7 @@ fn entry_first(f: Fields) -> Entry
 // Calls 9 to 14.
 fn entry_second(f: Fields) -> Entry
     requires { (8 < f.number) × (f.number ≤ 14) }
-    ensures { result ≡ entryFrom f }
+    ensures { result ≡ entry_from f }
 {
     let number = f.number;
     match number {
@@ -277,7 +277,7 @@ fn entry_second(f: Fields) -> Entry
 // Calls 15 to 21, and numbers that no call has.
 fn entry_third(f: Fields) -> Entry
     requires { 14 < f.number }
-    ensures { result ≡ entryFrom f }
+    ensures { result ≡ entry_from f }
 {
     let number = f.number;
     match number {
@@ -293,7 +293,7 @@ fn entry_third(f: Fields) -> Entry
 }
 
 fn entry_from(f: Fields) -> Entry
-    ensures { result ≡ entryFrom f }
+    ensures { result ≡ entry_from f }
 {
     let number = f.number;
     if number <= 8 {

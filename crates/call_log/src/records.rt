@@ -1,7 +1,7 @@
 // The descriptor records that changed.
 ghost use Rattle.core.specs.Prelude.{◌≡◌, ◌+◌, ◌*◌, ◌≤◌, length};
 ghost use Rattle.common.specs.Rows.{put_at};
-ghost use Rattle.call_log.specs.Changes.{recordChange, recordLines, sameFive, sameRecord};
+ghost use Rattle.call_log.specs.Changes.{record_change, record_lines, same_five, same_record};
 
 use crate::line::put_line;
 use crate::lines::record_line;
@@ -10,13 +10,13 @@ use descriptor::qtd::QueueTransferDescriptor;
 const RECORDS: usize = 257;
 
 fn same_five(a: [u32; 5], b: [u32; 5]) -> bool
-    ensures { result ≡ sameFive a b }
+    ensures { result ≡ same_five a b }
 {
     (a[0] == b[0]) & (a[1] == b[1]) & (a[2] == b[2]) & (a[3] == b[3]) & (a[4] == b[4])
 }
 
 fn same_record(a: QueueTransferDescriptor, b: QueueTransferDescriptor) -> bool
-    ensures { result ≡ sameRecord a b }
+    ensures { result ≡ same_record a b }
 {
     let a_pages = a.pages;
     let b_pages = b.pages;
@@ -35,8 +35,8 @@ fn put_record(
     after: QueueTransferDescriptor,
 ) -> usize
     requires { at + 296 ≤ length out.old }
-    ensures out_after { out.new ≡ put_at out.old at (recordChange place before after) }
-    ensures value { result ≡ at + length (recordChange place before after) }
+    ensures out_after { out.new ≡ put_at out.old at (record_change place before after) }
+    ensures value { result ≡ at + length (record_change place before after) }
 {
     if same_record(before, after) {
         return at;
@@ -52,8 +52,8 @@ pub fn put_records(
     after: [QueueTransferDescriptor; 257],
 ) -> usize
     requires { at + 140 * 257 + 296 ≤ length out.old }
-    ensures out_after { out.new ≡ put_at out.old at (recordLines before after) }
-    ensures value { result ≡ at + length (recordLines before after) }
+    ensures out_after { out.new ≡ put_at out.old at (record_lines before after) }
+    ensures value { result ≡ at + length (record_lines before after) }
 {
     let mut place = at;
     let mut i = 0;

@@ -2,10 +2,10 @@
 ghost use Rattle.core.specs.Prelude.{◌≡◌, ◌+◌, ◌*◌, ◌≤◌, length};
 ghost use Rattle.common.specs.Rows.{put_at};
 ghost use Rattle.call_log.specs.Changes.{
-  headChange,
-  headLines,
-  portChange,
-  portLines,
+  head_change,
+  head_lines,
+  port_change,
+  port_lines,
 };
 
 use crate::line::{least, put_line};
@@ -14,8 +14,8 @@ use opening::heads::HEAD_WORDS;
 
 fn put_head(out: &mut [u8], at: usize, i: usize, before: u32, after: u32) -> usize
     requires { at + 296 ≤ length out.old }
-    ensures out_after { out.new ≡ put_at out.old at (headChange i before after) }
-    ensures value { result ≡ at + length (headChange i before after) }
+    ensures out_after { out.new ≡ put_at out.old at (head_change i before after) }
+    ensures value { result ≡ at + length (head_change i before after) }
 {
     if before == after {
         return at;
@@ -27,8 +27,8 @@ fn put_head(out: &mut [u8], at: usize, i: usize, before: u32, after: u32) -> usi
 pub fn put_heads(out: &mut [u8], at: usize, before: &[u32], after: &[u32]) -> usize
     requires before_len { length before.now ≡ length after.now }
     requires after_in_bounds { at + 53 * length after.now + 296 ≤ length out.old }
-    ensures out_after { out.new ≡ put_at out.old at (headLines before.now after.now) }
-    ensures value { result ≡ at + length (headLines before.now after.now) }
+    ensures out_after { out.new ≡ put_at out.old at (head_lines before.now after.now) }
+    ensures value { result ≡ at + length (head_lines before.now after.now) }
 {
     let mut place = at;
     let mut i = 0;
@@ -43,8 +43,8 @@ pub fn put_heads(out: &mut [u8], at: usize, before: &[u32], after: &[u32]) -> us
 fn put_port(out: &mut [u8], at: usize, i: usize, opening: bool, before: u8, after: u8) -> usize
     requires i_bound { i ≤ 254 }
     requires at_in_bounds { at + 296 ≤ length out.old }
-    ensures out_after { out.new ≡ put_at out.old at (portChange opening i before after) }
-    ensures value { result ≡ at + length (portChange opening i before after) }
+    ensures out_after { out.new ≡ put_at out.old at (port_change opening i before after) }
+    ensures value { result ≡ at + length (port_change opening i before after) }
 {
     if opening | (before != after) {
         let line = port_line((i + 1) as u8, after);
@@ -65,8 +65,8 @@ pub fn put_ports(
     requires after_len_bound { length after.now ≤ 255 }
     requires before_len { length before.now ≡ length after.now }
     requires after_in_bounds { at + 44 * length after.now + 296 ≤ length out.old }
-    ensures out_after { out.new ≡ put_at out.old at (portLines opening ports before.now after.now) }
-    ensures value { result ≡ at + length (portLines opening ports before.now after.now) }
+    ensures out_after { out.new ≡ put_at out.old at (port_lines opening ports before.now after.now) }
+    ensures value { result ≡ at + length (port_lines opening ports before.now after.now) }
 {
     let count = least(ports as usize, after.len());
     let mut place = at;

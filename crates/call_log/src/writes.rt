@@ -1,8 +1,8 @@
 // The register writes of a call, in order.
 ghost use Rattle.core.specs.Prelude.{◌≡◌, ◌+◌, ◌*◌, ◌≤◌, length};
 ghost use Rattle.common.specs.Rows.{put_at};
-ghost use Rattle.call_log.specs.Changes.{writeLines};
-ghost use Rattle.call_log.specs.Lines.{writeLine};
+ghost use Rattle.call_log.specs.Changes.{write_lines};
+ghost use Rattle.call_log.specs.Lines.{write_line};
 
 use crate::line::{least, put_line};
 use crate::lines::write_line;
@@ -13,8 +13,8 @@ const WRITES: usize = 6;
 
 fn put_write(out: &mut [u8], at: usize, offset: u32, value: u32) -> usize
     requires { at + 296 ≤ length out.old }
-    ensures out_after { out.new ≡ put_at out.old at (writeLine offset value) }
-    ensures value { result ≡ at + length (writeLine offset value) }
+    ensures out_after { out.new ≡ put_at out.old at (write_line offset value) }
+    ensures value { result ≡ at + length (write_line offset value) }
 {
     let line = write_line(offset, value);
     put_line(out, at, line)
@@ -22,8 +22,8 @@ fn put_write(out: &mut [u8], at: usize, offset: u32, value: u32) -> usize
 
 pub fn put_writes(out: &mut [u8], at: usize, writes: Writes) -> usize
     requires { at + 14 * 6 + 296 ≤ length out.old }
-    ensures out_after { out.new ≡ put_at out.old at (writeLines writes) }
-    ensures value { result ≡ at + length (writeLines writes) }
+    ensures out_after { out.new ≡ put_at out.old at (write_lines writes) }
+    ensures value { result ≡ at + length (write_lines writes) }
 {
     let list = writes.writes;
     let count = least(writes.count as usize, WRITES);

@@ -6,20 +6,20 @@ use Rattle.common.specs.declared.answer.Answer.{Answer}
 use Rattle.common.specs.declared.answer.Answer.TheVariants.{Refused as RefusedCall}
 use Rattle.common.specs.declared.answer.Refusal.{Refusal}
 use Rattle.collection.specs.declared.collected.Collected.TheVariants.{Complete, Cancelled, Failed, Refused}
-use Rattle.collection.specs.Answers.{outcomeOf, pendingOf}
+use Rattle.collection.specs.Answers.{outcome_of, pending_of}
 
 module _ (b : Bool) (v : View) where
-  pub outcome-cancelled : b ≡ true → Cancelled ≡ outcomeOf b v
-  unfolding outcomeOf
-  outcome-cancelled e = rw e
+  pub outcome_cancelled : b ≡ true → Cancelled ≡ outcome_of b v
+  unfolding outcome_of
+  outcome_cancelled e = rw e
 
-  pub outcome-failed : b ≡ false → (v.failed ≡ 0 → ⊥) → Failed v.failed ≡ outcomeOf b v
-  unfolding outcomeOf
-  outcome-failed e n = rw (e, ne_eqb v.failed 0 n)
+  pub outcome_failed : b ≡ false → (v.failed ≡ 0 → ⊥) → Failed v.failed ≡ outcome_of b v
+  unfolding outcome_of
+  outcome_failed e n = rw (e, ne_eqb v.failed 0 n)
 
-  pub outcome-complete : b ≡ false → v.failed ≡ 0 → Complete v.retried v.moved ≡ outcomeOf b v
-  unfolding outcomeOf
-  outcome-complete e z = rw (e, eq-eqb v.failed 0 z)
+  pub outcome_complete : b ≡ false → v.failed ≡ 0 → Complete v.retried v.moved ≡ outcome_of b v
+  unfolding outcome_of
+  outcome_complete e z = rw (e, eq-eqb v.failed 0 z)
 
-pub pending-refused : (a : Answer) (r : Refusal) → a ≡ RefusedCall r → Refused r ≡ pendingOf a
-pending-refused a r e = rw e
+pub pending_refused : (a : Answer) (r : Refusal) → a ≡ RefusedCall r → Refused r ≡ pending_of a
+pending_refused a r e = rw e

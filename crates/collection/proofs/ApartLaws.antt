@@ -4,10 +4,10 @@ use mathlib.Core.Bool.{true≢false}
 use mathlib.Core.Path.{refl, ◌∙◌}
 use Rattle.pool.specs.declared.chain.View.{View}
 use Rattle.state.specs.Plain.{Ehci}
-use Rattle.pipe.specs.Endpoints.{endpointAt}
+use Rattle.pipe.specs.Endpoints.{endpoint_at}
 use Rattle.pipe.specs.declared.endpoints.Endpoint.{Endpoint}
 use Rattle.pipe.specs.declared.endpoints.Endpoint.TheVariants.{Closed, Idle, Linked, Unlinking}
-use Rattle.controller.specs.Lent.{acceptsOf, lengths}
+use Rattle.controller.specs.Lent.{accepts_of, lengths}
 use Rattle.controller.specs.declared.lent.Readings.{Readings}
 use Rattle.common.specs.declared.kinds.EndpointType.{EndpointType}
 use Rattle.common.specs.declared.kinds.EndpointType.TheVariants.{Control, Isochronous, Bulk, Interrupt}
@@ -15,48 +15,48 @@ use Rattle.pipe.specs.declared.endpoints.Pipe.{Pipe}
 use Rattle.pipe.specs.declared.endpoints.Request.{Request}
 use Rattle.pipe.specs.declared.endpoints.UnlinkBoundary.{UnlinkBoundary}
 use Rattle.schedule.specs.declared.bell.Bell.{Bell}
-use Rattle.collection.specs.Apart.{aloneAt, aloneOf, lookAt, look_of, oldAt}
-use Rattle.collection.specs.Calls.{collectOf, linkedOf, withFrames}
-use Rattle.collection.specs.Unlinks.{boundedOf, unlinkOf, waitingOf}
-use Rattle.schedule.specs.Bell.{bellOf}
+use Rattle.collection.specs.Apart.{alone_at, alone_of, look_at, look_of, old_at}
+use Rattle.collection.specs.Calls.{collect_of, linked_of, with_frames}
+use Rattle.collection.specs.Unlinks.{bounded_of, unlink_of, waiting_of}
+use Rattle.schedule.specs.Bell.{bell_of}
 
-abbrev pub hasBoundary : Endpoint → Bool
-hasBoundary Closed = false
-hasBoundary (Idle p) = false
-hasBoundary (Linked p r) = false
-hasBoundary (Unlinking p r b) = true
+abbrev pub has_boundary : Endpoint → Bool
+has_boundary Closed = false
+has_boundary (Idle p) = false
+has_boundary (Linked p r) = false
+has_boundary (Unlinking p r b) = true
 
-abbrev pub isLinked : Endpoint → Bool
-isLinked Closed = false
-isLinked (Idle p) = false
-isLinked (Linked p r) = true
-isLinked (Unlinking p r b) = false
+abbrev pub is_linked : Endpoint → Bool
+is_linked Closed = false
+is_linked (Idle p) = false
+is_linked (Linked p r) = true
+is_linked (Unlinking p r b) = false
 
 module _ (s : Ehci) (pool : ℕ) (h f : List ℕ) (setups : ℕ) (rd : Readings) (v : View) (k id : ℕ) where
   abbrev Looks : Type 0
-  Looks = collectOf s pool h f setups rd v k id ≡ look_of s pool h f setups rd v k id
+  Looks = collect_of s pool h f setups rd v k id ≡ look_of s pool h f setups rd v k id
 
   abbrev Ends : Type 0
-  Ends = collectOf s pool h f setups rd v k id ≡ withFrames (aloneOf s pool h (length f) setups rd v k id) f
+  Ends = collect_of s pool h f setups rd v k id ≡ with_frames (alone_of s pool h (length f) setups rd v k id) f
 
   -- where no boundary is set
-  pub old-look : (x : Endpoint) → endpointAt s k ≡ x → hasBoundary x ≡ false → Looks
-  unfolding collectOf look_of
-  old-look Closed e n = rw e
-  old-look (Idle p) e n = rw e
-  old-look (Linked p r) e n = rw e
-  old-look (Unlinking p r b) e n = absurd (true≢false n)
+  pub old_look : (x : Endpoint) → endpoint_at s k ≡ x → has_boundary x ≡ false → Looks
+  unfolding collect_of look_of
+  old_look Closed e n = rw e
+  old_look (Idle p) e n = rw e
+  old_look (Linked p r) e n = rw e
+  old_look (Unlinking p r b) e n = absurd (true≢false n)
 
   -- where one is, and where nothing is uncollected
-  pub old-alone : (x : Endpoint) → endpointAt s k ≡ x → isLinked x ≡ false → Ends
-  unfolding collectOf aloneOf
-  old-alone x e n = by (acceptsOf s (lengths pool (length h) (length f) setups)) refl
+  pub old_alone : (x : Endpoint) → endpoint_at s k ≡ x → is_linked x ≡ false → Ends
+  unfolding collect_of alone_of
+  old_alone x e n = by (accepts_of s (lengths pool (length h) (length f) setups)) refl
     where
-      by : (a : Bool) → acceptsOf s (lengths pool (length h) (length f) setups) ≡ a → Ends
+      by : (a : Bool) → accepts_of s (lengths pool (length h) (length f) setups) ≡ a → Ends
 
-      at : acceptsOf s (lengths pool (length h) (length f) setups) ≡ true → (y : Endpoint) → endpointAt s k ≡ y → isLinked y ≡ false → Ends
+      at : accepts_of s (lengths pool (length h) (length f) setups) ≡ true → (y : Endpoint) → endpoint_at s k ≡ y → is_linked y ≡ false → Ends
 
-      own : (p : Pipe) (r : Request) (b : UnlinkBoundary) → acceptsOf s (lengths pool (length h) (length f) setups) ≡ true → endpointAt s k ≡ Unlinking p r b
+      own : (p : Pipe) (r : Request) (b : UnlinkBoundary) → accepts_of s (lengths pool (length h) (length f) setups) ≡ true → endpoint_at s k ≡ Unlinking p r b
           → (c : Bool) → eqb r.id id ≡ c → Ends
       own p r b ok q false i = rw (q, ok, i)
       own p r b ok q true i = rw (q, ok, i)
@@ -68,52 +68,52 @@ module _ (s : Ehci) (pool : ℕ) (h f : List ℕ) (setups : ℕ) (rd : Readings)
       by false bad = rw bad
 
   -- "The old call .. is look where no boundary is set and collect where one is"
-  pub old-is : collectOf s pool h f setups rd v k id
-      ≡ oldAt (endpointAt s k) (look_of s pool h f setups rd v k id) (withFrames (aloneOf s pool h (length f) setups rd v k id) f)
-  old-is = at (endpointAt s k) refl
+  pub old_is : collect_of s pool h f setups rd v k id
+      ≡ old_at (endpoint_at s k) (look_of s pool h f setups rd v k id) (with_frames (alone_of s pool h (length f) setups rd v k id) f)
+  old_is = at (endpoint_at s k) refl
     where
-      at : (x : Endpoint) → endpointAt s k ≡ x
-          → collectOf s pool h f setups rd v k id ≡ oldAt (endpointAt s k) (look_of s pool h f setups rd v k id) (withFrames (aloneOf s pool h (length f) setups rd v k id) f)
-      at Closed e = old-look Closed e refl ∙ rw e
-      at (Idle p) e = old-look (Idle p) e refl ∙ rw e
-      at (Linked p r) e = old-look (Linked p r) e refl ∙ rw e
-      at (Unlinking p r b) e = old-alone (Unlinking p r b) e refl ∙ rw e
+      at : (x : Endpoint) → endpoint_at s k ≡ x
+          → collect_of s pool h f setups rd v k id ≡ old_at (endpoint_at s k) (look_of s pool h f setups rd v k id) (with_frames (alone_of s pool h (length f) setups rd v k id) f)
+      at Closed e = old_look Closed e refl ∙ rw e
+      at (Idle p) e = old_look (Idle p) e refl ∙ rw e
+      at (Linked p r) e = old_look (Linked p r) e refl ∙ rw e
+      at (Unlinking p r b) e = old_alone (Unlinking p r b) e refl ∙ rw e
 
 -- ---- what is not read
 
 abbrev reading : ℕ → ℕ → ℕ → Readings
 reading command frame overlay = record { command = command; frame = frame; overlay = overlay }
 
-bounded-unread : (b : Bell) (kind : EndpointType) (command frame x y : ℕ) → boundedOf b kind (reading command frame x) ≡ boundedOf b kind (reading command frame y)
-unfolding boundedOf
-bounded-unread b Control command frame x y = refl
-bounded-unread b Isochronous command frame x y = refl
-bounded-unread b Bulk command frame x y = refl
-bounded-unread b Interrupt command frame x y = refl
+bounded_unread : (b : Bell) (kind : EndpointType) (command frame x y : ℕ) → bounded_of b kind (reading command frame x) ≡ bounded_of b kind (reading command frame y)
+unfolding bounded_of
+bounded_unread b Control command frame x y = refl
+bounded_unread b Isochronous command frame x y = refl
+bounded_unread b Bulk command frame x y = refl
+bounded_unread b Interrupt command frame x y = refl
 
 module _ (s : Ehci) (pool : ℕ) (h : List ℕ) (setups : ℕ) (v : View) (k id : ℕ) where
   -- a look does not read the overlay's token
-  pub look-unread : (f : List ℕ) (command frame x y : ℕ)
+  pub look_unread : (f : List ℕ) (command frame x y : ℕ)
       → look_of s pool h f setups (reading command frame x) v k id ≡ look_of s pool h f setups (reading command frame y) v k id
-  unfolding look_of linkedOf unlinkOf waitingOf
-  look-unread f command frame x y = rw (at (endpointAt s k))
+  unfolding look_of linked_of unlink_of waiting_of
+  look_unread f command frame x y = rw (at (endpoint_at s k))
     where
-      unlinks : (p : Pipe) (r : Request) → linkedOf s h f (reading command frame x) v.stage k p r ≡ linkedOf s h f (reading command frame y) v.stage k p r
-      unlinks p r = rw (bounded-unread (bellOf s) p.kind command frame x y)
+      unlinks : (p : Pipe) (r : Request) → linked_of s h f (reading command frame x) v.stage k p r ≡ linked_of s h f (reading command frame y) v.stage k p r
+      unlinks p r = rw (bounded_unread (bell_of s) p.kind command frame x y)
 
-      at : (e : Endpoint) → lookAt e s h f (reading command frame x) v k ≡ lookAt e s h f (reading command frame y) v k
+      at : (e : Endpoint) → look_at e s h f (reading command frame x) v k ≡ look_at e s h f (reading command frame y) v k
       at Closed = refl
       at (Idle p) = refl
       at (Linked p r) = unlinks p r
       at (Unlinking p r b) = refl
 
   -- and collect alone not USBCMD
-  pub alone-unread : (frames x y frame overlay : ℕ)
-      → aloneOf s pool h frames setups (reading x frame overlay) v k id ≡ aloneOf s pool h frames setups (reading y frame overlay) v k id
-  unfolding aloneOf
-  alone-unread frames x y frame overlay = rw (at (endpointAt s k))
+  pub alone_unread : (frames x y frame overlay : ℕ)
+      → alone_of s pool h frames setups (reading x frame overlay) v k id ≡ alone_of s pool h frames setups (reading y frame overlay) v k id
+  unfolding alone_of
+  alone_unread frames x y frame overlay = rw (at (endpoint_at s k))
     where
-      at : (e : Endpoint) → aloneAt e s h (reading x frame overlay) v k ≡ aloneAt e s h (reading y frame overlay) v k
+      at : (e : Endpoint) → alone_at e s h (reading x frame overlay) v k ≡ alone_at e s h (reading y frame overlay) v k
       at Closed = refl
       at (Idle p) = refl
       at (Linked p r) = refl

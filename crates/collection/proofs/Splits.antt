@@ -4,8 +4,8 @@ use mathlib.Core.Path.{refl}
 use borrow.Author.Tests.{eqb-false, eqb-true, leb-false}
 use Rattle.pool.specs.declared.chain.View.{View}
 use Rattle.state.specs.Plain.{Ehci}
-use Rattle.pipe.specs.Endpoints.{endpointAt}
-use Rattle.controller.specs.Lent.{acceptsOf, lengths}
+use Rattle.pipe.specs.Endpoints.{endpoint_at}
+use Rattle.controller.specs.Lent.{accepts_of, lengths}
 use Rattle.common.specs.declared.answer.Refusal.{Refusal}
 use Rattle.common.specs.declared.answer.Refusal.TheVariants.{InvalidEndpoint, InvalidParameter}
 use Rattle.pipe.specs.declared.endpoints.Endpoint.{Endpoint}
@@ -14,83 +14,83 @@ use Rattle.pipe.specs.declared.endpoints.Pipe.{Pipe}
 use Rattle.pipe.specs.declared.endpoints.Request.{Request}
 use Rattle.pipe.specs.declared.endpoints.UnlinkBoundary.{UnlinkBoundary}
 use Rattle.controller.specs.declared.lent.Readings.{Readings}
-use Rattle.schedule.specs.Links.{detachOf, endedOverlay}
-use Rattle.collection.specs.Answers.{pendingCollect, refusedCancel, refusedCollect}
-use Rattle.collection.specs.Unlinks.{Left, isMissing, left, passedBoundary, unlinkOf, waitingOf}
-use Rattle.collection.specs.Calls.{Gathered, cancelOf, collectOf, finishOf, gathered, keeping, linkedOf, marked, markedOf, pendingLeft, unlinkingOf}
+use Rattle.schedule.specs.Links.{detach_of, ended_overlay}
+use Rattle.collection.specs.Answers.{pending_collect, refused_cancel, refused_collect}
+use Rattle.collection.specs.Unlinks.{Left, is_missing, left, passed_boundary, unlink_of, waiting_of}
+use Rattle.collection.specs.Calls.{Gathered, cancel_of, collect_of, finish_of, gathered, keeping, linked_of, marked, marked_of, pending_left, unlinking_of}
 
 module _ (s : Ehci) (h f : List ℕ) (rd : Readings) (k : ℕ) (p : Pipe) (r : Request) where
-  pub unlink-split : (P : Left → Type 0) → P (left (refusedCancel s InvalidEndpoint) h f)
-      → (isMissing (detachOf s h f k).predecessor ≡ false → P (record { came = waitingOf s rd k p r; rows = (detachOf s h f k).rows }))
-      → P (unlinkOf s h f rd k p r)
-  unfolding unlinkOf
-  unlink-split P old new = by (isMissing (detachOf s h f k).predecessor) refl
+  pub unlink_split : (P : Left → Type 0) → P (left (refused_cancel s InvalidEndpoint) h f)
+      → (is_missing (detach_of s h f k).predecessor ≡ false → P (record { came = waiting_of s rd k p r; rows = (detach_of s h f k).rows }))
+      → P (unlink_of s h f rd k p r)
+  unfolding unlink_of
+  unlink_split P old new = by (is_missing (detach_of s h f k).predecessor) refl
     where
-      by : (b : Bool) → isMissing (detachOf s h f k).predecessor ≡ b → P (unlinkOf s h f rd k p r)
+      by : (b : Bool) → is_missing (detach_of s h f k).predecessor ≡ b → P (unlink_of s h f rd k p r)
       by true e = rw e old
       by false e = rw e (new e)
 
 module _ (s : Ehci) (pool : ℕ) (h f : List ℕ) (setups : ℕ) (rd : Readings) (k id : ℕ) where
   abbrev Fits : Type 0
-  Fits = acceptsOf s (lengths pool (length h) (length f) setups) ≡ true
+  Fits = accepts_of s (lengths pool (length h) (length f) setups) ≡ true
 
-  pub cancel-split : (P : Left → Type 0) → ((x : Refusal) → P (left (refusedCancel s x) h f))
-      → ((p : Pipe) (r : Request) → Fits → endpointAt s k ≡ Linked p r → s.unanswered < 32 → r.id ≡ id → P (unlinkOf s h f rd k p (marked r)))
-      → ((p : Pipe) (r : Request) (u : UnlinkBoundary) → Fits → endpointAt s k ≡ Unlinking p r u → r.id ≡ id → P (left (markedOf s k p r u) h f))
-      → P (cancelOf s pool h f setups rd k id)
-  unfolding cancelOf
-  cancel-split P old unlinks marks = by (acceptsOf s (lengths pool (length h) (length f) setups)) refl
+  pub cancel_split : (P : Left → Type 0) → ((x : Refusal) → P (left (refused_cancel s x) h f))
+      → ((p : Pipe) (r : Request) → Fits → endpoint_at s k ≡ Linked p r → s.unanswered < 32 → r.id ≡ id → P (unlink_of s h f rd k p (marked r)))
+      → ((p : Pipe) (r : Request) (u : UnlinkBoundary) → Fits → endpoint_at s k ≡ Unlinking p r u → r.id ≡ id → P (left (marked_of s k p r u) h f))
+      → P (cancel_of s pool h f setups rd k id)
+  unfolding cancel_of
+  cancel_split P old unlinks marks = by (accepts_of s (lengths pool (length h) (length f) setups)) refl
     where
-      at-linked : (p : Pipe) (r : Request) → Fits → endpointAt s k ≡ Linked p r → (b : Bool) → leb 32 s.unanswered ≡ b
-          → (c : Bool) → eqb r.id id ≡ c → P (cancelOf s pool h f setups rd k id)
-      at-linked p r ok e true u c i = rw (ok, e, u) (old InvalidParameter)
-      at-linked p r ok e false u false i = rw (ok, e, u, i) (old InvalidEndpoint)
-      at-linked p r ok e false u true i = rw (ok, e, u, i) (unlinks p r ok e (leb-false 32 s.unanswered u) (eqb-true r.id id i))
+      at_linked : (p : Pipe) (r : Request) → Fits → endpoint_at s k ≡ Linked p r → (b : Bool) → leb 32 s.unanswered ≡ b
+          → (c : Bool) → eqb r.id id ≡ c → P (cancel_of s pool h f setups rd k id)
+      at_linked p r ok e true u c i = rw (ok, e, u) (old InvalidParameter)
+      at_linked p r ok e false u false i = rw (ok, e, u, i) (old InvalidEndpoint)
+      at_linked p r ok e false u true i = rw (ok, e, u, i) (unlinks p r ok e (leb-false 32 s.unanswered u) (eqb-true r.id id i))
 
-      at-unlinking : (p : Pipe) (r : Request) (u : UnlinkBoundary) → Fits → endpointAt s k ≡ Unlinking p r u
-          → (c : Bool) → eqb r.id id ≡ c → P (cancelOf s pool h f setups rd k id)
-      at-unlinking p r u ok e false i = rw (ok, e, i) (old InvalidEndpoint)
-      at-unlinking p r u ok e true i = rw (ok, e, i) (marks p r u ok e (eqb-true r.id id i))
+      at_unlinking : (p : Pipe) (r : Request) (u : UnlinkBoundary) → Fits → endpoint_at s k ≡ Unlinking p r u
+          → (c : Bool) → eqb r.id id ≡ c → P (cancel_of s pool h f setups rd k id)
+      at_unlinking p r u ok e false i = rw (ok, e, i) (old InvalidEndpoint)
+      at_unlinking p r u ok e true i = rw (ok, e, i) (marks p r u ok e (eqb-true r.id id i))
 
-      at : Fits → (x : Endpoint) → endpointAt s k ≡ x → P (cancelOf s pool h f setups rd k id)
+      at : Fits → (x : Endpoint) → endpoint_at s k ≡ x → P (cancel_of s pool h f setups rd k id)
       at ok Closed e = rw (ok, e) (old InvalidEndpoint)
       at ok (Idle p) e = rw (ok, e) (old InvalidEndpoint)
-      at ok (Linked p r) e = at-linked p r ok e (leb 32 s.unanswered) refl (eqb r.id id) refl
-      at ok (Unlinking p r u) e = at-unlinking p r u ok e (eqb r.id id) refl
+      at ok (Linked p r) e = at_linked p r ok e (leb 32 s.unanswered) refl (eqb r.id id) refl
+      at ok (Unlinking p r u) e = at_unlinking p r u ok e (eqb r.id id) refl
 
-      by : (b : Bool) → acceptsOf s (lengths pool (length h) (length f) setups) ≡ b → P (cancelOf s pool h f setups rd k id)
-      by true ok = at ok (endpointAt s k) refl
+      by : (b : Bool) → accepts_of s (lengths pool (length h) (length f) setups) ≡ b → P (cancel_of s pool h f setups rd k id)
+      by true ok = at ok (endpoint_at s k) refl
       by false bad = rw bad (old InvalidParameter)
 
-  pub collect-split : (v : View) (P : Gathered → Type 0) → ((x : Refusal) → P (gathered (refusedCollect s x) h f)) → P (gathered (pendingCollect s) h f)
-      → ((p : Pipe) (r : Request) → Fits → endpointAt s k ≡ Linked p r → s.unanswered < 32 → r.id ≡ id → (v.stage ≡ 2 → ⊥)
-      → P (pendingLeft (unlinkOf s h f rd k p r)))
-      → ((p : Pipe) (r : Request) (u : UnlinkBoundary) → Fits → endpointAt s k ≡ Unlinking p r u → r.id ≡ id → passedBoundary u rd.frame ≡ true
-      → P (gathered (finishOf s v k (keeping rd p) r) (endedOverlay h k) f))
-      → P (collectOf s pool h f setups rd v k id)
-  unfolding collectOf linkedOf unlinkingOf
-  collect-split v P old waits unlinks ends = by (acceptsOf s (lengths pool (length h) (length f) setups)) refl
+  pub collect_split : (v : View) (P : Gathered → Type 0) → ((x : Refusal) → P (gathered (refused_collect s x) h f)) → P (gathered (pending_collect s) h f)
+      → ((p : Pipe) (r : Request) → Fits → endpoint_at s k ≡ Linked p r → s.unanswered < 32 → r.id ≡ id → (v.stage ≡ 2 → ⊥)
+      → P (pending_left (unlink_of s h f rd k p r)))
+      → ((p : Pipe) (r : Request) (u : UnlinkBoundary) → Fits → endpoint_at s k ≡ Unlinking p r u → r.id ≡ id → passed_boundary u rd.frame ≡ true
+      → P (gathered (finish_of s v k (keeping rd p) r) (ended_overlay h k) f))
+      → P (collect_of s pool h f setups rd v k id)
+  unfolding collect_of linked_of unlinking_of
+  collect_split v P old waits unlinks ends = by (accepts_of s (lengths pool (length h) (length f) setups)) refl
     where
-      at-linked : (p : Pipe) (r : Request) → Fits → endpointAt s k ≡ Linked p r → (b : Bool) → leb 32 s.unanswered ≡ b
-          → (c : Bool) → eqb r.id id ≡ c → (d : Bool) → eqb v.stage 2 ≡ d → P (collectOf s pool h f setups rd v k id)
-      at-linked p r ok e true u c i d g = rw (ok, e, u) (old InvalidParameter)
-      at-linked p r ok e false u false i d g = rw (ok, e, u, i) (old InvalidEndpoint)
-      at-linked p r ok e false u true i true g = rw (ok, e, u, i, g) waits
-      at-linked p r ok e false u true i false g =
+      at_linked : (p : Pipe) (r : Request) → Fits → endpoint_at s k ≡ Linked p r → (b : Bool) → leb 32 s.unanswered ≡ b
+          → (c : Bool) → eqb r.id id ≡ c → (d : Bool) → eqb v.stage 2 ≡ d → P (collect_of s pool h f setups rd v k id)
+      at_linked p r ok e true u c i d g = rw (ok, e, u) (old InvalidParameter)
+      at_linked p r ok e false u false i d g = rw (ok, e, u, i) (old InvalidEndpoint)
+      at_linked p r ok e false u true i true g = rw (ok, e, u, i, g) waits
+      at_linked p r ok e false u true i false g =
           rw (ok, e, u, i, g) (unlinks p r ok e (leb-false 32 s.unanswered u) (eqb-true r.id id i) (eqb-false v.stage 2 g))
 
-      at-unlinking : (p : Pipe) (r : Request) (u : UnlinkBoundary) → Fits → endpointAt s k ≡ Unlinking p r u
-          → (c : Bool) → eqb r.id id ≡ c → (d : Bool) → passedBoundary u rd.frame ≡ d → P (collectOf s pool h f setups rd v k id)
-      at-unlinking p r u ok e false i d g = rw (ok, e, i) (old InvalidEndpoint)
-      at-unlinking p r u ok e true i false g = rw (ok, e, i, g) waits
-      at-unlinking p r u ok e true i true g = rw (ok, e, i, g) (ends p r u ok e (eqb-true r.id id i) g)
+      at_unlinking : (p : Pipe) (r : Request) (u : UnlinkBoundary) → Fits → endpoint_at s k ≡ Unlinking p r u
+          → (c : Bool) → eqb r.id id ≡ c → (d : Bool) → passed_boundary u rd.frame ≡ d → P (collect_of s pool h f setups rd v k id)
+      at_unlinking p r u ok e false i d g = rw (ok, e, i) (old InvalidEndpoint)
+      at_unlinking p r u ok e true i false g = rw (ok, e, i, g) waits
+      at_unlinking p r u ok e true i true g = rw (ok, e, i, g) (ends p r u ok e (eqb-true r.id id i) g)
 
-      at : Fits → (x : Endpoint) → endpointAt s k ≡ x → P (collectOf s pool h f setups rd v k id)
+      at : Fits → (x : Endpoint) → endpoint_at s k ≡ x → P (collect_of s pool h f setups rd v k id)
       at ok Closed e = rw (ok, e) (old InvalidEndpoint)
       at ok (Idle p) e = rw (ok, e) waits
-      at ok (Linked p r) e = at-linked p r ok e (leb 32 s.unanswered) refl (eqb r.id id) refl (eqb v.stage 2) refl
-      at ok (Unlinking p r u) e = at-unlinking p r u ok e (eqb r.id id) refl (passedBoundary u rd.frame) refl
+      at ok (Linked p r) e = at_linked p r ok e (leb 32 s.unanswered) refl (eqb r.id id) refl (eqb v.stage 2) refl
+      at ok (Unlinking p r u) e = at_unlinking p r u ok e (eqb r.id id) refl (passed_boundary u rd.frame) refl
 
-      by : (b : Bool) → acceptsOf s (lengths pool (length h) (length f) setups) ≡ b → P (collectOf s pool h f setups rd v k id)
-      by true ok = at ok (endpointAt s k) refl
+      by : (b : Bool) → accepts_of s (lengths pool (length h) (length f) setups) ≡ b → P (collect_of s pool h f setups rd v k id)
+      by true ok = at ok (endpoint_at s k) refl
       by false bad = rw bad (old InvalidParameter)

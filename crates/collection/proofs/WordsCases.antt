@@ -2,35 +2,35 @@
 use Rattle.core.specs.Prelude.{◌≡◌, ℕ, ◌+◌, ◌^◌, ◌<◌, Bool, true, false, not, List}
 use mathlib.Core.Path.{refl, sym, ap, subst, ◌∙◌}
 use native.Mathlib.Omega.{arith}
-use Rattle.register.specs.Writes.{noWrites}
+use Rattle.register.specs.Writes.{no_writes}
 use Rattle.register.specs.declared.writes.Writes.{Writes}
-use Rattle.bitset.specs.Places.{withOf}
+use Rattle.bitset.specs.Places.{with_of}
 use Rattle.common.specs.declared.answer.Answer.TheVariants.{Done, Refused as RefusedCall}
 use Rattle.common.specs.declared.answer.Refusal.{Refusal}
 use Rattle.common.specs.declared.answer.Refusal.TheVariants.{InvalidEndpoint}
 use Rattle.settings.specs.declared.settings.Settings.{Settings}
 use Rattle.state.specs.Plain.{Ehci}
-use Rattle.state.specs.State.{withOwner}
+use Rattle.state.specs.State.{with_owner}
 use Rattle.pool.specs.declared.chain.View.{View}
 use Rattle.words.specs.declared.core.Rest.{Rest}
-use Rattle.words.specs.Good.{Good, Tidy, noPlaces}
-use Rattle.words.specs.Record.{SlotFits, places_at, putPlaces, putSlot}
-use Rattle.words.specs.Rest.{restWithBell, restWithFree}
+use Rattle.words.specs.Good.{Good, Tidy, no_places}
+use Rattle.words.specs.Record.{SlotFits, places_at, put_places, put_slot}
+use Rattle.words.specs.Rest.{rest_with_bell, rest_with_free}
 use Rattle.words.specs.View.{state_of}
-use Rattle.words.proofs.GoodLaws.{good-settings}
-use Rattle.words.proofs.KeptLaws.{tidy-freed}
-use Rattle.words.proofs.RestLaws.{view-bell}
-use Rattle.words.proofs.TakenLaws.{view-freed}
-use Rattle.words.proofs.TidyLaws.{tidy-rest}
-use Rattle.pipe.specs.Endpoints.{encoded, endpointAt, withEndpoint, withToggle}
+use Rattle.words.proofs.GoodLaws.{good_settings}
+use Rattle.words.proofs.KeptLaws.{tidy_freed}
+use Rattle.words.proofs.RestLaws.{view_bell}
+use Rattle.words.proofs.TakenLaws.{view_freed}
+use Rattle.words.proofs.TidyLaws.{tidy_rest}
+use Rattle.pipe.specs.Endpoints.{encoded, endpoint_at, with_endpoint, with_toggle}
 use Rattle.pipe.specs.declared.endpoints.Endpoint.{Endpoint}
 use Rattle.pipe.specs.declared.endpoints.Endpoint.TheVariants.{Idle, Unlinking}
 use Rattle.pipe.specs.declared.endpoints.Pipe.{Pipe}
 use Rattle.pipe.specs.declared.endpoints.Request.{Request}
 use Rattle.pipe.specs.declared.endpoints.UnlinkBoundary.{UnlinkBoundary}
-use Rattle.pipe.proofs.WordsLaws.{tidy-endpoint-put, view-endpoint-put}
+use Rattle.pipe.proofs.WordsLaws.{tidy_endpoint_put, view_endpoint_put}
 use Rattle.controller.specs.declared.lent.Readings.{Readings}
-use Rattle.schedule.specs.Links.{detachOf, endedOverlay, links}
+use Rattle.schedule.specs.Links.{detach_of, ended_overlay, links}
 use Rattle.collection.specs.Plain.{Cancellation}
 use Rattle.collection.specs.declared.collected.Collected.{Collected}
 use Rattle.collection.specs.declared.collected.Collected.TheVariants.{Passed, Pending, Refused}
@@ -38,198 +38,198 @@ use Rattle.collection.specs.Plain.{Collection}
 use Rattle.collection.specs.declared.answers.Cancellation.{Cancellation as CancellationWords}
 use Rattle.collection.specs.declared.answers.Collection.{Collection as CollectionWords}
 use Rattle.collection.specs.declared.unlink.Bounded.{Bounded}
-use Rattle.collection.specs.Answers.{outcomeOf, pendingCollect, pendingOf, refusedCancel, refusedCollect}
-use Rattle.collection.specs.Calls.{ended, finishOf, freed, gathered, linkedOf, marked, markedOf, unlinkingOf}
-use Rattle.collection.specs.Unlinks.{boundedOf, isMissing, left, passedBoundary, unlinkOf, waitingOf}
-use Rattle.collection.specs.Words.{OwnRequest, cancelledView, collectedView, passedWords, pendingWords, refusedCancelWords, refusedCollectWords}
-use Rattle.collection.proofs.CallCases.{finishes, linked-unlinks, linked-waits, marks, unlinking-ends, unlinking-waits}
-use Rattle.collection.proofs.UnlinkCases.{unlink-missing, unlink-waits, waits}
-use Rattle.collection.proofs.WordsSlots.{finish-fits, mark-fits, own-fits, slot-low, slot-room, unlinking-within}
-use Rattle.token.specs.Overlay.{keptToggle}
+use Rattle.collection.specs.Answers.{outcome_of, pending_collect, pending_of, refused_cancel, refused_collect}
+use Rattle.collection.specs.Calls.{ended, finish_of, freed, gathered, linked_of, marked, marked_of, unlinking_of}
+use Rattle.collection.specs.Unlinks.{bounded_of, is_missing, left, passed_boundary, unlink_of, waiting_of}
+use Rattle.collection.specs.Words.{OwnRequest, cancelled_view, collected_view, passed_words, pending_words, refused_cancel_words, refused_collect_words}
+use Rattle.collection.proofs.CallCases.{finishes, linked_unlinks, linked_waits, marks, unlinking_ends, unlinking_waits}
+use Rattle.collection.proofs.UnlinkCases.{unlink_missing, unlink_waits, waits}
+use Rattle.collection.proofs.WordsSlots.{finish_fits, mark_fits, own_fits, slot_low, slot_room, unlinking_within}
+use Rattle.token.specs.Overlay.{kept_toggle}
 
 -- ---- the answers
 
-module _ (r : Rest) (w : Writes) (ew : w ≡ noWrites) where
-  pub cancel-refused-words : (x : Refusal)
-      → ◌≡◌ {A = CancellationWords} (record { answer = RefusedCall x; rest = r; writes = w }) (refusedCancelWords r x)
-  cancel-refused-words x = rw ew
+module _ (r : Rest) (w : Writes) (ew : w ≡ no_writes) where
+  pub cancel_refused_words : (x : Refusal)
+      → ◌≡◌ {A = CancellationWords} (record { answer = RefusedCall x; rest = r; writes = w }) (refused_cancel_words r x)
+  cancel_refused_words x = rw ew
 
-  pub collect-refused-words : (x : Refusal)
-      → ◌≡◌ {A = CollectionWords} (record { answer = Refused x; rest = r; writes = w }) (refusedCollectWords r x)
-  collect-refused-words x = rw ew
+  pub collect_refused_words : (x : Refusal)
+      → ◌≡◌ {A = CollectionWords} (record { answer = Refused x; rest = r; writes = w }) (refused_collect_words r x)
+  collect_refused_words x = rw ew
 
-  pub collect-pending-words : ◌≡◌ {A = CollectionWords} (record { answer = Pending; rest = r; writes = w }) (pendingWords r)
-  collect-pending-words = rw ew
+  pub collect_pending_words : ◌≡◌ {A = CollectionWords} (record { answer = Pending; rest = r; writes = w }) (pending_words r)
+  collect_pending_words = rw ew
 
-  pub look-passed-words : ◌≡◌ {A = CollectionWords} (record { answer = Passed; rest = r; writes = w }) (passedWords r)
-  look-passed-words = rw ew
+  pub look_passed_words : ◌≡◌ {A = CollectionWords} (record { answer = Passed; rest = r; writes = w }) (passed_words r)
+  look_passed_words = rw ew
 
 -- where nothing changes
 module _ (s : Settings) (r : Rest) (ws : List ℕ) where
-  pub refused-cancel-view : (c : CancellationWords) (x : Refusal) → c ≡ refusedCancelWords r x
-      → cancelledView s c ws ≡ refusedCancel (state_of s r ws) x
-  refused-cancel-view c x e = ap (λ (y : CancellationWords). cancelledView s y ws) e
+  pub refused_cancel_view : (c : CancellationWords) (x : Refusal) → c ≡ refused_cancel_words r x
+      → cancelled_view s c ws ≡ refused_cancel (state_of s r ws) x
+  refused_cancel_view c x e = ap (λ (y : CancellationWords). cancelled_view s y ws) e
 
-  pub refused-collect-view : (c : CollectionWords) (x : Refusal) → c ≡ refusedCollectWords r x
-      → collectedView s c ws ≡ refusedCollect (state_of s r ws) x
-  refused-collect-view c x e = ap (λ (y : CollectionWords). collectedView s y ws) e
+  pub refused_collect_view : (c : CollectionWords) (x : Refusal) → c ≡ refused_collect_words r x
+      → collected_view s c ws ≡ refused_collect (state_of s r ws) x
+  refused_collect_view c x e = ap (λ (y : CollectionWords). collected_view s y ws) e
 
-  pub pending-view : (c : CollectionWords) → c ≡ pendingWords r → collectedView s c ws ≡ pendingCollect (state_of s r ws)
-  pending-view c e = ap (λ (y : CollectionWords). collectedView s y ws) e
+  pub pending_view : (c : CollectionWords) → c ≡ pending_words r → collected_view s c ws ≡ pending_collect (state_of s r ws)
+  pending_view c e = ap (λ (y : CollectionWords). collected_view s y ws) e
 
   module _ (good : Good s r ws) where
-    pub tidy-refused-cancel : (c : CancellationWords) (x : Refusal) → c ≡ refusedCancelWords r x → Tidy s c.rest ws
-    tidy-refused-cancel c x e = subst (λ (y : CancellationWords). Tidy s y.rest ws) (sym e) good.tidy
+    pub tidy_refused_cancel : (c : CancellationWords) (x : Refusal) → c ≡ refused_cancel_words r x → Tidy s c.rest ws
+    tidy_refused_cancel c x e = subst (λ (y : CancellationWords). Tidy s y.rest ws) (sym e) good.tidy
 
-    pub tidy-refused-collect : (c : CollectionWords) (x : Refusal) → c ≡ refusedCollectWords r x → Tidy s c.rest ws
-    tidy-refused-collect c x e = subst (λ (y : CollectionWords). Tidy s y.rest ws) (sym e) good.tidy
+    pub tidy_refused_collect : (c : CollectionWords) (x : Refusal) → c ≡ refused_collect_words r x → Tidy s c.rest ws
+    tidy_refused_collect c x e = subst (λ (y : CollectionWords). Tidy s y.rest ws) (sym e) good.tidy
 
-    pub tidy-pending : (c : CollectionWords) → c ≡ pendingWords r → Tidy s c.rest ws
-    tidy-pending c e = subst (λ (y : CollectionWords). Tidy s y.rest ws) (sym e) good.tidy
+    pub tidy_pending : (c : CollectionWords) → c ≡ pending_words r → Tidy s c.rest ws
+    tidy_pending c e = subst (λ (y : CollectionWords). Tidy s y.rest ws) (sym e) good.tidy
 
 -- ---- a slot is written
 
 module _ (s : Settings) (r : Rest) (ws ws' : List ℕ) (good : Good s r ws) (k : ℕ) (here : k < s.endpoints) where
   -- its endpoint alone
-  put_view : (e : Endpoint) → SlotFits (encoded e) → ws' ≡ putSlot ws k (encoded e) → (t : Rest)
-      → state_of s t ws' ≡ withEndpoint (state_of s t ws) k e
+  put_view : (e : Endpoint) → SlotFits (encoded e) → ws' ≡ put_slot ws k (encoded e) → (t : Rest)
+      → state_of s t ws' ≡ with_endpoint (state_of s t ws) k e
   put_view e fits ew t =
       ap (λ (l : List ℕ). state_of s t l) ew
-      ∙ view-endpoint-put ws k e (slot-low s r ws good k here) (slot-room s r ws good k here) fits s t
+      ∙ view_endpoint_put ws k e (slot_low s r ws good k here) (slot_room s r ws good k here) fits s t
 
-  put-tidy : (p : Pipe) (q : Request) (b : UnlinkBoundary) → SlotFits (encoded (Unlinking p q b)) → ws' ≡ putSlot ws k (encoded (Unlinking p q b))
+  put_tidy : (p : Pipe) (q : Request) (b : UnlinkBoundary) → SlotFits (encoded (Unlinking p q b)) → ws' ≡ put_slot ws k (encoded (Unlinking p q b))
       → (t : Rest) → t.free ≡ r.free → Tidy s t ws'
-  put-tidy p q b fits ew t et =
-      tidy-rest s r t ws' et
+  put_tidy p q b fits ew t et =
+      tidy_rest s r t ws' et
       (rw ew
-      (tidy-endpoint-put ws k (Unlinking p q b) (slot-room s r ws good k here) fits s r (λ h. absurd (omega (arith, h))) good.tidy))
+      (tidy_endpoint_put ws k (Unlinking p q b) (slot_room s r ws good k here) fits s r (λ h. absurd (omega (arith, h))) good.tidy))
 
   -- ---- `waiting`
 
   module _ (p : Pipe) (q : Request) (o : OwnRequest (state_of s r ws) k p q) (most : p.next < 2 ^ 64) (few : r.unanswered < 32)
       (rd : Readings) (u : Bounded)
-      (eu : u ≡ boundedOf (record { noted = r.noted; doorbell = r.doorbell; unanswered = r.unanswered }) p.kind rd)
-      (ew : ws' ≡ putSlot ws k (encoded (Unlinking p q u.boundary))) where
-    until-fits : SlotFits (encoded (Unlinking p q u.boundary))
-    until-fits =
-        own-fits s r ws good k p q o most u (record { noted = r.noted; doorbell = r.doorbell; unanswered = r.unanswered }) rd eu few
+      (eu : u ≡ bounded_of (record { noted = r.noted; doorbell = r.doorbell; unanswered = r.unanswered }) p.kind rd)
+      (ew : ws' ≡ put_slot ws k (encoded (Unlinking p q u.boundary))) where
+    until_fits : SlotFits (encoded (Unlinking p q u.boundary))
+    until_fits =
+        own_fits s r ws good k p q o most u (record { noted = r.noted; doorbell = r.doorbell; unanswered = r.unanswered }) rd eu few
 
-    abbrev waited-rest : Rest
-    waited-rest = restWithBell r u.rung.bell.noted u.rung.bell.doorbell u.rung.bell.unanswered
+    abbrev waited_rest : Rest
+    waited_rest = rest_with_bell r u.rung.bell.noted u.rung.bell.doorbell u.rung.bell.unanswered
 
-    bounded-view : u ≡ boundedOf (record { noted = (state_of s r ws).noted; doorbell = (state_of s r ws).doorbell; unanswered = (state_of s r ws).unanswered }) p.kind rd
+    bounded_view : u ≡ bounded_of (record { noted = (state_of s r ws).noted; doorbell = (state_of s r ws).doorbell; unanswered = (state_of s r ws).unanswered }) p.kind rd
     unfolding state_of
-    bounded-view = eu
+    bounded_view = eu
 
     pub waited : ◌≡◌ {A = Cancellation}
-        (record { answer = Done; state = state_of s waited-rest ws'; writes = u.rung.writes })
-        (waitingOf (state_of s r ws) rd k p q)
+        (record { answer = Done; state = state_of s waited_rest ws'; writes = u.rung.writes })
+        (waiting_of (state_of s r ws) rd k p q)
     waited =
-        waits (state_of s r ws) (state_of s waited-rest ws') rd k p q u bounded-view
-        (put_view (Unlinking p q u.boundary) until-fits ew waited-rest
-        ∙ ap (λ (v : Ehci). withEndpoint v k (Unlinking p q u.boundary))
-        (view-bell s r ws u.rung.bell.noted u.rung.bell.doorbell u.rung.bell.unanswered))
+        waits (state_of s r ws) (state_of s waited_rest ws') rd k p q u bounded_view
+        (put_view (Unlinking p q u.boundary) until_fits ew waited_rest
+        ∙ ap (λ (v : Ehci). with_endpoint v k (Unlinking p q u.boundary))
+        (view_bell s r ws u.rung.bell.noted u.rung.bell.doorbell u.rung.bell.unanswered))
 
-    pub tidy-waited : Tidy s waited-rest ws'
-    tidy-waited = put-tidy p q u.boundary until-fits ew waited-rest refl
+    pub tidy_waited : Tidy s waited_rest ws'
+    tidy_waited = put_tidy p q u.boundary until_fits ew waited_rest refl
 
 -- ---- `mark` and `finish`
 
 module _ (s : Settings) (r : Rest) (ws : List ℕ) (good : Good s r ws) (k : ℕ) (p : Pipe) (q : Request) (b : UnlinkBoundary)
-    (e : endpointAt (state_of s r ws) k ≡ Unlinking p q b) (most : p.next < 2 ^ 64) where
+    (e : endpoint_at (state_of s r ws) k ≡ Unlinking p q b) (most : p.next < 2 ^ 64) where
   here : k < s.endpoints
-  here = unlinking-within s r ws good k p q b e
+  here = unlinking_within s r ws good k p q b e
 
-  module _ (ws' : List ℕ) (m : Request) (em : m ≡ marked q) (ew : ws' ≡ putSlot ws k (encoded (Unlinking p m b))) where
-    marked-fits : SlotFits (encoded (Unlinking p m b))
-    marked-fits = mark-fits s r ws good k p q b e most m em
+  module _ (ws' : List ℕ) (m : Request) (em : m ≡ marked q) (ew : ws' ≡ put_slot ws k (encoded (Unlinking p m b))) where
+    marked_fits : SlotFits (encoded (Unlinking p m b))
+    marked_fits = mark_fits s r ws good k p q b e most m em
 
-    pub marks-words : (w : Writes) → w ≡ noWrites
-        → ◌≡◌ {A = Cancellation} (record { answer = Done; state = state_of s r ws'; writes = w }) (markedOf (state_of s r ws) k p q b)
-    marks-words w wn =
-        marks (state_of s r ws) (state_of s r ws') k p q m b w em (put_view s r ws ws' good k here (Unlinking p m b) marked-fits ew r) wn
+    pub marks_words : (w : Writes) → w ≡ no_writes
+        → ◌≡◌ {A = Cancellation} (record { answer = Done; state = state_of s r ws'; writes = w }) (marked_of (state_of s r ws) k p q b)
+    marks_words w wn =
+        marks (state_of s r ws) (state_of s r ws') k p q m b w em (put_view s r ws ws' good k here (Unlinking p m b) marked_fits ew r) wn
 
-    pub tidy-marked : Tidy s r ws'
-    tidy-marked = put-tidy s r ws ws' good k here p m b marked-fits ew r refl
+    pub tidy_marked : Tidy s r ws'
+    tidy_marked = put_tidy s r ws ws' good k here p m b marked_fits ew r refl
 
-  module _ (overlay : ℕ) (t : Bool) (n : Pipe) (et : t ≡ keptToggle overlay) (en : n ≡ withToggle p t) (mid ws' : List ℕ)
-      (em : mid ≡ putSlot ws k (encoded (Idle n))) (ew : ws' ≡ putPlaces mid k noPlaces) where
+  module _ (overlay : ℕ) (t : Bool) (n : Pipe) (et : t ≡ kept_toggle overlay) (en : n ≡ with_toggle p t) (mid ws' : List ℕ)
+      (em : mid ≡ put_slot ws k (encoded (Idle n))) (ew : ws' ≡ put_places mid k no_places) where
     abbrev kept : Pipe
-    kept = withToggle p (keptToggle overlay)
+    kept = with_toggle p (kept_toggle overlay)
 
-    kept-is : n ≡ kept
-    kept-is = en ∙ ap (λ (b : Bool). withToggle p b) et
+    kept_is : n ≡ kept
+    kept_is = en ∙ ap (λ (b : Bool). with_toggle p b) et
 
-    idle-fit : SlotFits (encoded (Idle kept))
-    idle-fit = finish-fits s r ws good k p q b e most (keptToggle overlay) kept refl
+    idle_fit : SlotFits (encoded (Idle kept))
+    idle_fit = finish_fits s r ws good k p q b e most (kept_toggle overlay) kept refl
 
-    row : ws' ≡ putPlaces (putSlot ws k (encoded (Idle kept))) k noPlaces
-    row = ew ∙ ap (λ (l : List ℕ). putPlaces l k noPlaces) (em ∙ ap (λ (m : Pipe). putSlot ws k (encoded (Idle m))) kept-is)
+    row : ws' ≡ put_places (put_slot ws k (encoded (Idle kept))) k no_places
+    row = ew ∙ ap (λ (l : List ℕ). put_places l k no_places) (em ∙ ap (λ (m : Pipe). put_slot ws k (encoded (Idle m))) kept_is)
 
-    freed-view : (free : List ℕ)
-        → state_of s (restWithFree r free) ws'
-        ≡ withEndpoint (withOwner (state_of s r ws) (freed (state_of s r ws).owner (state_of s r ws).settings.descriptors (k + 1))) k (Idle kept)
-    unfolding withEndpoint freed state_of
-    freed-view free =
-        ap (λ (l : List ℕ). state_of s (restWithFree r free) l) row
-        ∙ view-freed s r ws good.tidy (good-settings s r ws good).descriptors-most (good-settings s r ws good).endpoints-most k
-        (encoded (Idle kept)) here idle-fit free
+    freed_view : (free : List ℕ)
+        → state_of s (rest_with_free r free) ws'
+        ≡ with_endpoint (with_owner (state_of s r ws) (freed (state_of s r ws).owner (state_of s r ws).settings.descriptors (k + 1))) k (Idle kept)
+    unfolding with_endpoint freed state_of
+    freed_view free =
+        ap (λ (l : List ℕ). state_of s (rest_with_free r free) l) row
+        ∙ view_freed s r ws good.tidy (good_settings s r ws good).descriptors_most (good_settings s r ws good).endpoints_most k
+        (encoded (Idle kept)) here idle_fit free
 
-    pub finishes-words : (free : List ℕ) (v : View) (a : Collected) (w : Writes) → a ≡ outcomeOf q.cancelled v → w ≡ noWrites
-        → ◌≡◌ {A = Collection} (record { answer = a; state = state_of s (restWithFree r free) ws'; writes = w }) (finishOf (state_of s r ws) v k kept q)
-    finishes-words free v a w ea wn =
-        finishes (state_of s r ws) (state_of s (restWithFree r free) ws') v k kept q
-        (freed (state_of s r ws).owner (state_of s r ws).settings.descriptors (k + 1)) a w refl ea (freed-view free) wn
+    pub finishes_words : (free : List ℕ) (v : View) (a : Collected) (w : Writes) → a ≡ outcome_of q.cancelled v → w ≡ no_writes
+        → ◌≡◌ {A = Collection} (record { answer = a; state = state_of s (rest_with_free r free) ws'; writes = w }) (finish_of (state_of s r ws) v k kept q)
+    finishes_words free v a w ea wn =
+        finishes (state_of s r ws) (state_of s (rest_with_free r free) ws') v k kept q
+        (freed (state_of s r ws).owner (state_of s r ws).settings.descriptors (k + 1)) a w refl ea (freed_view free) wn
 
-    pub tidy-finished : (own free : List ℕ) → own ≡ places_at ws k → free ≡ withOf r.free own → Tidy s (restWithFree r free) ws'
-    tidy-finished own free eo ef =
+    pub tidy_finished : (own free : List ℕ) → own ≡ places_at ws k → free ≡ with_of r.free own → Tidy s (rest_with_free r free) ws'
+    tidy_finished own free eo ef =
         rw row
-        (tidy-freed s r ws good.tidy k (encoded (Idle kept)) here idle-fit (restWithFree r free) (omega arith)
-        (λ z. absurd (omega (arith, z))) (ef ∙ ap (withOf r.free) eo))
+        (tidy_freed s r ws good.tidy k (encoded (Idle kept)) here idle_fit (rest_with_free r free) (omega arith)
+        (λ z. absurd (omega (arith, z))) (ef ∙ ap (with_of r.free) eo))
 
 -- ---- `unlink`
 
 module _ (s : Settings) (r : Rest) (ws h f : List ℕ) (rd : Readings) (k : ℕ) (p : Pipe) (q : Request) where
-  module _ (m : Bool) (h' f' : List ℕ) (em : m ≡ isMissing (detachOf (state_of s r ws) h f k).predecessor) (er : links h' f' ≡ (detachOf (state_of s r ws) h f k).rows) where
-    pub unlinks-waits : (ws' : List ℕ) (c : CancellationWords) → m ≡ false → cancelledView s c ws' ≡ waitingOf (state_of s r ws) rd k p q
-        → left (cancelledView s c ws') h' f' ≡ unlinkOf (state_of s r ws) h f rd k p q
-    unlinks-waits ws' c t ec = unlink-waits (state_of s r ws) h f rd k p q m h' f' em er (cancelledView s c ws') t ec
+  module _ (m : Bool) (h' f' : List ℕ) (em : m ≡ is_missing (detach_of (state_of s r ws) h f k).predecessor) (er : links h' f' ≡ (detach_of (state_of s r ws) h f k).rows) where
+    pub unlinks_waits : (ws' : List ℕ) (c : CancellationWords) → m ≡ false → cancelled_view s c ws' ≡ waiting_of (state_of s r ws) rd k p q
+        → left (cancelled_view s c ws') h' f' ≡ unlink_of (state_of s r ws) h f rd k p q
+    unlinks_waits ws' c t ec = unlink_waits (state_of s r ws) h f rd k p q m h' f' em er (cancelled_view s c ws') t ec
 
-    pub unlinks-none : (c : CancellationWords) → m ≡ true → c ≡ refusedCancelWords r InvalidEndpoint
-        → left (cancelledView s c ws) h' f' ≡ unlinkOf (state_of s r ws) h f rd k p q
-    unlinks-none c t ec =
-        unlink-missing (state_of s r ws) h f rd k p q m h' f' em er (cancelledView s c ws) t (refused-cancel-view s r ws c InvalidEndpoint ec)
+    pub unlinks_none : (c : CancellationWords) → m ≡ true → c ≡ refused_cancel_words r InvalidEndpoint
+        → left (cancelled_view s c ws) h' f' ≡ unlink_of (state_of s r ws) h f rd k p q
+    unlinks_none c t ec =
+        unlink_missing (state_of s r ws) h f rd k p q m h' f' em er (cancelled_view s c ws) t (refused_cancel_view s r ws c InvalidEndpoint ec)
 
     -- ---- `collect_linked`
 
-    pub linked-lost-words : (stage : ℕ) (c : CollectionWords) → (stage ≡ 2 → ⊥) → m ≡ true → c ≡ refusedCollectWords r InvalidEndpoint
-        → gathered (collectedView s c ws) h' f' ≡ linkedOf (state_of s r ws) h f rd stage k p q
-    linked-lost-words stage c n t ec =
+    pub linked_lost_words : (stage : ℕ) (c : CollectionWords) → (stage ≡ 2 → ⊥) → m ≡ true → c ≡ refused_collect_words r InvalidEndpoint
+        → gathered (collected_view s c ws) h' f' ≡ linked_of (state_of s r ws) h f rd stage k p q
+    linked_lost_words stage c n t ec =
         rw ec
-        (linked-unlinks (state_of s r ws) h f rd stage k p q (cancelledView s (refusedCancelWords r InvalidEndpoint) ws) (Refused InvalidEndpoint) h' f'
-        (unlinks-none (refusedCancelWords r InvalidEndpoint) t refl) refl n)
+        (linked_unlinks (state_of s r ws) h f rd stage k p q (cancelled_view s (refused_cancel_words r InvalidEndpoint) ws) (Refused InvalidEndpoint) h' f'
+        (unlinks_none (refused_cancel_words r InvalidEndpoint) t refl) refl n)
 
-    pub linked-unlinks-words : (stage : ℕ) (l : CancellationWords) (ws' : List ℕ) (a : Collected) → (stage ≡ 2 → ⊥) → m ≡ false
-        → cancelledView s l ws' ≡ waitingOf (state_of s r ws) rd k p q → a ≡ pendingOf l.answer
+    pub linked_unlinks_words : (stage : ℕ) (l : CancellationWords) (ws' : List ℕ) (a : Collected) → (stage ≡ 2 → ⊥) → m ≡ false
+        → cancelled_view s l ws' ≡ waiting_of (state_of s r ws) rd k p q → a ≡ pending_of l.answer
         → gathered (record { answer = a; state = state_of s l.rest ws'; writes = l.writes }) h' f'
-        ≡ linkedOf (state_of s r ws) h f rd stage k p q
-    linked-unlinks-words stage l ws' a n t ec ea =
-        linked-unlinks (state_of s r ws) h f rd stage k p q (cancelledView s l ws') a h' f' (unlinks-waits ws' l t ec) ea n
+        ≡ linked_of (state_of s r ws) h f rd stage k p q
+    linked_unlinks_words stage l ws' a n t ec ea =
+        linked_unlinks (state_of s r ws) h f rd stage k p q (cancelled_view s l ws') a h' f' (unlinks_waits ws' l t ec) ea n
 
-  pub linked-waits-words : (stage : ℕ) (c : CollectionWords) → c ≡ pendingWords r → stage ≡ 2
-      → gathered (collectedView s c ws) h f ≡ linkedOf (state_of s r ws) h f rd stage k p q
-  linked-waits-words stage c ec e = linked-waits (state_of s r ws) h f rd stage k p q (collectedView s c ws) (pending-view s r ws c ec) e
+  pub linked_waits_words : (stage : ℕ) (c : CollectionWords) → c ≡ pending_words r → stage ≡ 2
+      → gathered (collected_view s c ws) h f ≡ linked_of (state_of s r ws) h f rd stage k p q
+  linked_waits_words stage c ec e = linked_waits (state_of s r ws) h f rd stage k p q (collected_view s c ws) (pending_view s r ws c ec) e
 
 -- ---- `collect_unlinking`
 
 module _ (s : Settings) (r : Rest) (ws h : List ℕ) (frame : ℕ) (v : View) (k : ℕ) (p : Pipe) (q : Request) (u : UnlinkBoundary) (b : Bool)
-    (eb : b ≡ passedBoundary u frame) (c : CollectionWords) where
-  pub unlinking-waits-words : c ≡ pendingWords r → not b ≡ true
-      → ended (collectedView s c ws) h ≡ unlinkingOf (state_of s r ws) h frame v k p q u
-  unlinking-waits-words ec t =
-      unlinking-waits (state_of s r ws) h frame v k p q u b eb (collectedView s c ws) (pending-view s r ws c ec) t
+    (eb : b ≡ passed_boundary u frame) (c : CollectionWords) where
+  pub unlinking_waits_words : c ≡ pending_words r → not b ≡ true
+      → ended (collected_view s c ws) h ≡ unlinking_of (state_of s r ws) h frame v k p q u
+  unlinking_waits_words ec t =
+      unlinking_waits (state_of s r ws) h frame v k p q u b eb (collected_view s c ws) (pending_view s r ws c ec) t
 
-  pub unlinking-ends-words : (ws' h' : List ℕ) → h' ≡ endedOverlay h k → collectedView s c ws' ≡ finishOf (state_of s r ws) v k p q
-      → not b ≡ false → ended (collectedView s c ws') h' ≡ unlinkingOf (state_of s r ws) h frame v k p q u
-  unlinking-ends-words ws' h' eh ec t =
-      unlinking-ends (state_of s r ws) h frame v k p q u b eb (collectedView s c ws') h' eh ec t
+  pub unlinking_ends_words : (ws' h' : List ℕ) → h' ≡ ended_overlay h k → collected_view s c ws' ≡ finish_of (state_of s r ws) v k p q
+      → not b ≡ false → ended (collected_view s c ws') h' ≡ unlinking_of (state_of s r ws) h frame v k p q u
+  unlinking_ends_words ws' h' eh ec t =
+      unlinking_ends (state_of s r ws) h frame v k p q u b eb (collected_view s c ws') h' eh ec t

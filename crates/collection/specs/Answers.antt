@@ -1,9 +1,9 @@
 -- Document 01, "Numbers a call answers": what cancel, collect and look answer.
 use Rattle.core.specs.Prelude.{ℕ, Bool, cond, ◌==◌}
-use Rattle.register.specs.Writes.{noWrites}
+use Rattle.register.specs.Writes.{no_writes}
 use Rattle.pool.specs.declared.chain.View.{View}
 use Rattle.state.specs.Plain.{Ehci}
-use Rattle.common.specs.Answers.{refusalNumber}
+use Rattle.common.specs.Answers.{refusal_number}
 use Rattle.common.specs.declared.answer.Answer.{Answer}
 use Rattle.common.specs.declared.answer.Answer.TheVariants.{Done, Refused as RefusedCall}
 use Rattle.common.specs.declared.answer.Refusal.{Refusal}
@@ -12,45 +12,45 @@ use Rattle.collection.specs.declared.collected.Collected.{Collected}
 use Rattle.collection.specs.declared.collected.Collected.TheVariants.{Complete, Passed, Pending, Cancelled, Failed, Refused}
 use Rattle.collection.specs.Plain.{Collection}
 
-abbrev pub collectedNumber : Collected → ℕ
-collectedNumber (Complete retried length) = 0
-collectedNumber Passed = 0
-collectedNumber Pending = 9
-collectedNumber Cancelled = 10
-collectedNumber (Failed token) = 11
-collectedNumber (Refused r) = refusalNumber r
+abbrev pub collected_number : Collected → ℕ
+collected_number (Complete retried length) = 0
+collected_number Passed = 0
+collected_number Pending = 9
+collected_number Cancelled = 10
+collected_number (Failed token) = 11
+collected_number (Refused r) = refusal_number r
 
 -- "collected complete, with its length"; "gives the raw token"
-abbrev pub collectedValue : Collected → ℕ
-collectedValue (Complete retried length) = length
-collectedValue Passed = 0
-collectedValue Pending = 0
-collectedValue Cancelled = 0
-collectedValue (Failed token) = token
-collectedValue (Refused r) = 0
+abbrev pub collected_value : Collected → ℕ
+collected_value (Complete retried length) = length
+collected_value Passed = 0
+collected_value Pending = 0
+collected_value Cancelled = 0
+collected_value (Failed token) = token
+collected_value (Refused r) = 0
 
 -- an unlink that is made answers Pending
-abbrev pub pendingOf : Answer → Collected
-pendingOf Done = Pending
-pendingOf (RefusedCall r) = Refused r
+abbrev pub pending_of : Answer → Collected
+pending_of Done = Pending
+pending_of (RefusedCall r) = Refused r
 
 -- "Cancelled if cancelled; else Failed with the first erring token; else the sum .."; 02 order 7: "a complete answer also gives how many" were
 -- retried
-unfoldable pub outcomeOf : Bool → View → Collected
-outcomeOf cancelled view =
+unfoldable pub outcome_of : Bool → View → Collected
+outcome_of cancelled view =
     cond cancelled Cancelled
     (cond (view.failed == 0) (Complete view.retried view.moved) (Failed view.failed))
 
 -- a refusal, and a request that waits: the state as it was, no write
-abbrev pub refusedCancel : Ehci → Refusal → Cancellation
-refusedCancel s r = record { answer = RefusedCall r; state = s; writes = noWrites }
+abbrev pub refused_cancel : Ehci → Refusal → Cancellation
+refused_cancel s r = record { answer = RefusedCall r; state = s; writes = no_writes }
 
-abbrev pub refusedCollect : Ehci → Refusal → Collection
-refusedCollect s r = record { answer = Refused r; state = s; writes = noWrites }
+abbrev pub refused_collect : Ehci → Refusal → Collection
+refused_collect s r = record { answer = Refused r; state = s; writes = no_writes }
 
 -- 02 order 10: a look that finds the boundary passed
-abbrev pub passedCollect : Ehci → Collection
-passedCollect s = record { answer = Passed; state = s; writes = noWrites }
+abbrev pub passed_collect : Ehci → Collection
+passed_collect s = record { answer = Passed; state = s; writes = no_writes }
 
-abbrev pub pendingCollect : Ehci → Collection
-pendingCollect s = record { answer = Pending; state = s; writes = noWrites }
+abbrev pub pending_collect : Ehci → Collection
+pending_collect s = record { answer = Pending; state = s; writes = no_writes }

@@ -1,7 +1,7 @@
 -- Cancel and collect on one controller: the states that proofs/Examples.antt runs the definitions on.
 use Rattle.core.specs.Prelude.{ℕ, ◌*◌, List, [], ◌∷◌, ◌++◌, replicate, slice_index}
 use Rattle.descriptor.specs.declared.qtd.QueueTransferDescriptor.{QueueTransferDescriptor}
-use Rattle.pool.specs.Chains.{Seen, blank, read_of, seenFrom, view_of, withToken}
+use Rattle.pool.specs.Chains.{Seen, blank, read_of, seen_from, view_of, with_token}
 use Rattle.pool.specs.Places.{list_of}
 use Rattle.pool.specs.Plain.{Ask}
 use Rattle.pool.specs.declared.chain.View.{View}
@@ -9,14 +9,14 @@ use Rattle.settings.specs.declared.settings.Settings.{Settings}
 use Rattle.state.specs.Plain.{Ehci}
 use Rattle.common.specs.Answers.{number_of}
 use Rattle.controller.specs.declared.lent.Readings.{Readings}
-use Rattle.collection.specs.Answers.{collectedNumber, collectedValue}
-use Rattle.collection.specs.Asks.{askOf}
+use Rattle.collection.specs.Answers.{collected_number, collected_value}
+use Rattle.collection.specs.Asks.{ask_of}
 use Rattle.collection.specs.Unlinks.{Left}
-use Rattle.collection.specs.Calls.{Gathered, cancelOf, collectOf, withFrames}
-use Rattle.collection.specs.Apart.{aloneOf, look_of}
+use Rattle.collection.specs.Calls.{Gathered, cancel_of, collect_of, with_frames}
+use Rattle.collection.specs.Apart.{alone_of, look_of}
 
-abbrev pub fewSettings : ℕ → Settings
-fewSettings limit =
+abbrev pub few_settings : ℕ → Settings
+few_settings limit =
     record {
       descriptors = 4;
       endpoints = 2;
@@ -31,10 +31,10 @@ fewSettings limit =
 
 -- slot 0 has packets of 512 bytes and request 1, In, in places 0 and 1; the limit, the request's length, phase, kind, cancelled, boundary and
 -- unanswered unlinks as given
-abbrev pub requestUnder : ℕ → ℕ → ℕ → ℕ → ℕ → ℕ → ℕ → Ehci
-requestUnder limit length phase kind cancel boundary unanswered =
+abbrev pub request_under : ℕ → ℕ → ℕ → ℕ → ℕ → ℕ → ℕ → Ehci
+request_under limit length phase kind cancel boundary unanswered =
     record {
-      settings = fewSettings limit;
+      settings = few_settings limit;
       running = 1;
       step = 0;
       waited = 0;
@@ -59,19 +59,19 @@ requestUnder limit length phase kind cancel boundary unanswered =
     }
 
 -- 20000 bytes
-abbrev pub oneRequest : ℕ → ℕ → ℕ → ℕ → ℕ → Ehci
-oneRequest phase kind cancel boundary unanswered = requestUnder 16384 20000 phase kind cancel boundary unanswered
+abbrev pub one_request : ℕ → ℕ → ℕ → ℕ → ℕ → Ehci
+one_request phase kind cancel boundary unanswered = request_under 16384 20000 phase kind cancel boundary unanswered
 
 -- bulk, 1000 bytes under a limit of 1000, its boundary passed: the limit is no multiple of the packet
-abbrev pub cutRequest : Ehci
-cutRequest = requestUnder 1000 1000 3 2 0 0 0
+abbrev pub cut_request : Ehci
+cut_request = request_under 1000 1000 3 2 0 0 0
 
 -- the ring head leads to slot 0's head, and that back to the ring head
-abbrev pub ringOfOne : List ℕ
-ringOfOne = 0x200082 ∷ (replicate 16 0 ++ (0x200002 ∷ replicate 33 7))
+abbrev pub ring_of_one : List ℕ
+ring_of_one = 0x200082 ∷ (replicate 16 0 ++ (0x200002 ∷ replicate 33 7))
 
-abbrev pub noFrames : List ℕ
-noFrames = replicate 1024 1
+abbrev pub no_frames : List ℕ
+no_frames = replicate 1024 1
 
 abbrev pub reading : ℕ → ℕ → Readings
 reading frame overlay = record { command = 0x31; frame = frame; overlay = overlay }
@@ -83,40 +83,40 @@ abbrev pub seen : ℕ → ℕ → ℕ → View
 seen stage failed moved = record { stage = stage; failed = failed; moved = moved; retried = 0 }
 
 abbrev pub cancelled : Ehci → ℕ → ℕ → Left
-cancelled s slot id = cancelOf s 5 ringOfOne noFrames 16 (readings 0) slot id
+cancelled s slot id = cancel_of s 5 ring_of_one no_frames 16 (readings 0) slot id
 
 abbrev pub collected : Ehci → ℕ → View → ℕ → ℕ → Gathered
-collected s frame view slot id = collectOf s 5 ringOfOne noFrames 16 (readings frame) view slot id
+collected s frame view slot id = collect_of s 5 ring_of_one no_frames 16 (readings frame) view slot id
 
 abbrev pub looked : Ehci → ℕ → View → ℕ → ℕ → Gathered
-looked s frame view slot id = look_of s 5 ringOfOne noFrames 16 (readings frame) view slot id
+looked s frame view slot id = look_of s 5 ring_of_one no_frames 16 (readings frame) view slot id
 
 abbrev pub alone : Ehci → ℕ → View → ℕ → ℕ → Gathered
-alone s frame view slot id = withFrames (aloneOf s 5 ringOfOne 1024 16 (readings frame) view slot id) noFrames
+alone s frame view slot id = with_frames (alone_of s 5 ring_of_one 1024 16 (readings frame) view slot id) no_frames
 
 -- ---- what its two descriptors say, inactive and without error, with so many bytes left in each
 
-abbrev pub tokensLeft : ℕ → ℕ → List QueueTransferDescriptor
-tokensLeft a b = withToken blank (0x1_0000 * a) ∷ withToken blank (0x1_0000 * b) ∷ []
+abbrev pub tokens_left : ℕ → ℕ → List QueueTransferDescriptor
+tokens_left a b = with_token blank (0x1_0000 * a) ∷ with_token blank (0x1_0000 * b) ∷ []
 
-abbrev pub seenWith : Ask → ℕ → ℕ → List Seen
-seenWith k a b = read_of k.stops (seenFrom k.kind k.length k.limit 0 (list_of k.places) (tokensLeft a b))
+abbrev pub seen_with : Ask → ℕ → ℕ → List Seen
+seen_with k a b = read_of k.stops (seen_from k.kind k.length k.limit 0 (list_of k.places) (tokens_left a b))
 
-abbrev pub viewLeft : Ehci → ℕ → ℕ → View
-viewLeft s a b = view_of (seenWith (askOf s 5 0) a b)
+abbrev pub view_left : Ehci → ℕ → ℕ → View
+view_left s a b = view_of (seen_with (ask_of s 5 0) a b)
 
 -- the slot's phase, its mark and boundary; unanswered; the owner of place 0
-abbrev pub stateRow : Ehci → List ℕ
-stateRow s = slice_index s.phases 0 ∷ slice_index s.cancels 0 ∷ slice_index s.boundaries 0 ∷ s.unanswered ∷ slice_index s.owner 0 ∷ []
+abbrev pub state_row : Ehci → List ℕ
+state_row s = slice_index s.phases 0 ∷ slice_index s.cancels 0 ∷ slice_index s.boundaries 0 ∷ s.unanswered ∷ slice_index s.owner 0 ∷ []
 
-abbrev pub cancelRow : Left → List ℕ
-cancelRow l = number_of l.came.answer ∷ l.came.writes.count ∷ slice_index l.rows.heads 0 ∷ stateRow l.came.state
+abbrev pub cancel_row : Left → List ℕ
+cancel_row l = number_of l.came.answer ∷ l.came.writes.count ∷ slice_index l.rows.heads 0 ∷ state_row l.came.state
 
-abbrev pub collectRow : Gathered → List ℕ
-collectRow g =
-    collectedNumber g.came.answer ∷ collectedValue g.came.answer ∷ g.came.writes.count
-    ∷ slice_index g.rows.heads 0 ∷ slice_index g.rows.heads 21 ∷ stateRow g.came.state
+abbrev pub collect_row : Gathered → List ℕ
+collect_row g =
+    collected_number g.came.answer ∷ collected_value g.came.answer ∷ g.came.writes.count
+    ∷ slice_index g.rows.heads 0 ∷ slice_index g.rows.heads 21 ∷ state_row g.came.state
 
 -- slot 0's toggle after a collect that is given that token of the overlay
-abbrev pub toggleRow : Ehci → ℕ → View → ℕ → ℕ
-toggleRow s overlay view id = slice_index (collectOf s 5 ringOfOne noFrames 16 (reading 0 overlay) view 0 id).came.state.toggles 0
+abbrev pub toggle_row : Ehci → ℕ → View → ℕ → ℕ
+toggle_row s overlay view id = slice_index (collect_of s 5 ring_of_one no_frames 16 (reading 0 overlay) view 0 id).came.state.toggles 0

@@ -1,7 +1,7 @@
 -- What cancel and collect over words leave, as the state that the words stand for.
 use Rattle.core.specs.Prelude.{◌≡◌, ℕ, cond, List}
-use Rattle.register.specs.Writes.{noWrites}
-use Rattle.bitset.specs.Places.{setPlaces}
+use Rattle.register.specs.Writes.{no_writes}
+use Rattle.bitset.specs.Places.{set_places}
 use Rattle.common.specs.declared.answer.Answer.TheVariants.{Refused as RefusedCall}
 use Rattle.common.specs.declared.answer.Refusal.{Refusal}
 use Rattle.settings.specs.declared.settings.Settings.{Settings}
@@ -9,8 +9,8 @@ use Rattle.state.specs.Plain.{Ehci}
 use Rattle.pool.specs.Places.{packed}
 use Rattle.pool.specs.declared.asked.AskWords.{AskWords}
 use Rattle.pool.specs.Plain.{Ask}
-use Rattle.pool.specs.Transfers.{endsShort}
-use Rattle.pipe.specs.Endpoints.{endpointAt, limitOf}
+use Rattle.pool.specs.Transfers.{ends_short}
+use Rattle.pipe.specs.Endpoints.{endpoint_at, limit_of}
 use Rattle.pipe.specs.declared.endpoints.Endpoint.TheVariants.{Linked}
 use Rattle.pipe.specs.declared.endpoints.Pipe.{Pipe}
 use Rattle.pipe.specs.declared.endpoints.Request.{Request}
@@ -19,51 +19,51 @@ use Rattle.words.specs.declared.core.Rest.{Rest}
 use Rattle.words.specs.Record.{places_at}
 use Rattle.words.specs.View.{state_of}
 use Rattle.collection.specs.Plain.{Cancellation}
-use Rattle.collection.specs.Unlinks.{passedBoundary}
+use Rattle.collection.specs.Unlinks.{passed_boundary}
 use Rattle.collection.specs.declared.collected.Collected.TheVariants.{Passed, Pending, Refused}
 use Rattle.collection.specs.Plain.{Collection}
 use Rattle.collection.specs.declared.answers.Cancellation.{Cancellation as CancellationWords}
 use Rattle.collection.specs.declared.answers.Collection.{Collection as CollectionWords}
 
-abbrev pub cancelledView : Settings → CancellationWords → List ℕ → Cancellation
-cancelledView s r ws = record { answer = r.answer; state = state_of s r.rest ws; writes = r.writes }
+abbrev pub cancelled_view : Settings → CancellationWords → List ℕ → Cancellation
+cancelled_view s r ws = record { answer = r.answer; state = state_of s r.rest ws; writes = r.writes }
 
-abbrev pub collectedView : Settings → CollectionWords → List ℕ → Collection
-collectedView s r ws = record { answer = r.answer; state = state_of s r.rest ws; writes = r.writes }
+abbrev pub collected_view : Settings → CollectionWords → List ℕ → Collection
+collected_view s r ws = record { answer = r.answer; state = state_of s r.rest ws; writes = r.writes }
 
-abbrev pub askView : AskWords → Ask
-askView a =
-    record { places = packed (setPlaces a.places); kind = a.kind; length = a.length; limit = a.limit; stops = a.stops }
+abbrev pub ask_view : AskWords → Ask
+ask_view a =
+    record { places = packed (set_places a.places); kind = a.kind; length = a.length; limit = a.limit; stops = a.stops }
 
 -- what is asked of a slot's own request
-unfoldable pub requestAskWords : Settings → List ℕ → ℕ → Pipe → Request → AskWords
-requestAskWords s ws slot p r =
+unfoldable pub request_ask_words : Settings → List ℕ → ℕ → Pipe → Request → AskWords
+request_ask_words s ws slot p r =
     record {
       places = places_at ws slot;
       kind = p.kind;
       length = r.length;
-      limit = limitOf s p;
-      stops = endsShort p.kind r.direction;
+      limit = limit_of s p;
+      stops = ends_short p.kind r.direction;
     }
 
-abbrev pub refusedCancelWords : Rest → Refusal → CancellationWords
-refusedCancelWords rest r = record { answer = RefusedCall r; rest = rest; writes = noWrites }
+abbrev pub refused_cancel_words : Rest → Refusal → CancellationWords
+refused_cancel_words rest r = record { answer = RefusedCall r; rest = rest; writes = no_writes }
 
-abbrev pub refusedCollectWords : Rest → Refusal → CollectionWords
-refusedCollectWords rest r = record { answer = Refused r; rest = rest; writes = noWrites }
+abbrev pub refused_collect_words : Rest → Refusal → CollectionWords
+refused_collect_words rest r = record { answer = Refused r; rest = rest; writes = no_writes }
 
-abbrev pub pendingWords : Rest → CollectionWords
-pendingWords rest = record { answer = Pending; rest = rest; writes = noWrites }
+abbrev pub pending_words : Rest → CollectionWords
+pending_words rest = record { answer = Pending; rest = rest; writes = no_writes }
 
-abbrev pub passedWords : Rest → CollectionWords
-passedWords rest = record { answer = Passed; rest = rest; writes = noWrites }
+abbrev pub passed_words : Rest → CollectionWords
+passed_words rest = record { answer = Passed; rest = rest; writes = no_writes }
 
-abbrev pub lookedWords : Rest → ℕ → UnlinkBoundary → CollectionWords
-lookedWords rest frame b = cond (passedBoundary b frame) (passedWords rest) (pendingWords rest)
+abbrev pub looked_words : Rest → ℕ → UnlinkBoundary → CollectionWords
+looked_words rest frame b = cond (passed_boundary b frame) (passed_words rest) (pending_words rest)
 
 -- slot k's linked request, but for its mark
 pub record OwnRequest (s : Ehci) (k : ℕ) (p : Pipe) (r : Request) : Type 0 where
   pub own : Request
-  pub linked : endpointAt s k ≡ Linked p own
+  pub linked : endpoint_at s k ≡ Linked p own
   pub same_id : r.id ≡ own.id
   pub same_length : r.length ≡ own.length

@@ -1,6 +1,6 @@
 // What cancel, collect and look leave.
 ghost use Rattle.core.specs.Prelude.{◌≡◌};
-ghost use Rattle.collection.specs.Words.{refusedCancelWords, refusedCollectWords, passedWords, pendingWords};
+ghost use Rattle.collection.specs.Words.{refused_cancel_words, refused_collect_words, passed_words, pending_words};
 
 use crate::collected::Collected;
 use common::answer::{Answer, Refusal};
@@ -23,7 +23,7 @@ pub struct Collection {
 }
 
 pub fn refuse_cancel(rest: Rest, refusal: Refusal) -> Cancellation
-    ensures { result ≡ refusedCancelWords rest refusal }
+    ensures { result ≡ refused_cancel_words rest refusal }
 {
     Cancellation {
         answer: Answer::Refused(refusal),
@@ -33,7 +33,7 @@ pub fn refuse_cancel(rest: Rest, refusal: Refusal) -> Cancellation
 }
 
 pub fn refuse_collect(rest: Rest, refusal: Refusal) -> Collection
-    ensures { result ≡ refusedCollectWords rest refusal }
+    ensures { result ≡ refused_collect_words rest refusal }
 {
     Collection {
         answer: Collected::Refused(refusal),
@@ -43,7 +43,7 @@ pub fn refuse_collect(rest: Rest, refusal: Refusal) -> Collection
 }
 
 pub fn show_passed(rest: Rest) -> Collection
-    ensures { result ≡ passedWords rest }
+    ensures { result ≡ passed_words rest }
 {
     Collection {
         answer: Collected::Passed,
@@ -53,7 +53,7 @@ pub fn show_passed(rest: Rest) -> Collection
 }
 
 pub fn still_pending(rest: Rest) -> Collection
-    ensures { result ≡ pendingWords rest }
+    ensures { result ≡ pending_words rest }
 {
     Collection {
         answer: Collected::Pending,

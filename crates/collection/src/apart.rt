@@ -1,12 +1,12 @@
 // Looking apart from collecting: a look frees nothing, and collect alone unlinks nothing.
 ghost use Rattle.core.specs.Prelude.{◌≡◌, ℕ, ◌+◌, ◌*◌, true, length};
-ghost use Rattle.opening.specs.Opening.{rowsFit};
+ghost use Rattle.opening.specs.Opening.{rows_are_fit};
 ghost use Rattle.words.specs.Good.{Good, Tidy};
 ghost use Rattle.words.specs.View.{view};
-ghost use Rattle.collection.specs.Apart.{aloneOf, look_of};
+ghost use Rattle.collection.specs.Apart.{alone_of, look_of};
 ghost use Rattle.collection.specs.Calls.{ended, gathered};
-ghost use Rattle.collection.specs.Unlinks.{frameBelow};
-ghost use Rattle.collection.specs.Words.{collectedView, lookedWords};
+ghost use Rattle.collection.specs.Unlinks.{frame_below};
+ghost use Rattle.collection.specs.Words.{collected_view, looked_words};
 
 use crate::answers::{Collection, refuse_collect, show_passed, still_pending};
 use crate::calls::collect;
@@ -20,8 +20,8 @@ use pool::chain::View;
 use words::core::{Core, Rest};
 
 fn look_unlinking(rest: Rest, frame: u32, boundary: UnlinkBoundary) -> Collection
-    requires { frameBelow boundary }
-    ensures { result ≡ lookedWords rest frame boundary }
+    requires { frame_below boundary }
+    ensures { result ≡ looked_words rest frame boundary }
 {
     if passed(boundary, frame) {
         return show_passed(rest);
@@ -42,8 +42,8 @@ pub fn look(
 ) -> Collection
     requires good { Good core.settings core.rest slots.old }
     requires heads_len { (length heads.old ≡ 17 * (core.settings.endpoints + 1)) × (length frames.old ≡ 1024) }
-    ensures by_index { (pool setups : ℕ) → rowsFit core.settings pool (length heads.old) (length frames.old) setups ≡ true
-        → gathered (collectedView core.settings result slots.new) heads.new frames.new
+    ensures by_index { (pool setups : ℕ) → rows_are_fit core.settings pool (length heads.old) (length frames.old) setups ≡ true
+        → gathered (collected_view core.settings result slots.new) heads.new frames.new
         ≡ look_of (view core slots.old) pool heads.old frames.old setups readings seen slot id }
     ensures tidy { Tidy core.settings result.rest slots.new }
 {
@@ -71,9 +71,9 @@ pub fn collect_alone(
 ) -> Collection
     requires good { Good core.settings core.rest slots.old }
     requires heads_len { length heads.old ≡ 17 * (core.settings.endpoints + 1) }
-    ensures by_index { (pool frames setups : ℕ) → rowsFit core.settings pool (length heads.old) frames setups ≡ true
-        → ended (collectedView core.settings result slots.new) heads.new
-        ≡ aloneOf (view core slots.old) pool heads.old frames setups readings seen slot id }
+    ensures by_index { (pool frames setups : ℕ) → rows_are_fit core.settings pool (length heads.old) frames setups ≡ true
+        → ended (collected_view core.settings result slots.new) heads.new
+        ≡ alone_of (view core slots.old) pool heads.old frames setups readings seen slot id }
     ensures tidy { Tidy core.settings result.rest slots.new }
 {
     match endpoint_at(core, slots, slot) {

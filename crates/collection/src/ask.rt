@@ -3,9 +3,9 @@ ghost use Rattle.core.specs.Prelude.{◌≡◌, ◌+◌, ◌*◌, ◌≤◌, len
 ghost use Rattle.words.specs.Good.{Good};
 ghost use Rattle.words.specs.View.{view};
 ghost use Rattle.pool.specs.Words.{AskWordsGood};
-ghost use Rattle.settings.specs.Settings.{poolLength};
-ghost use Rattle.collection.specs.Asks.{askOf};
-ghost use Rattle.collection.specs.Words.{askView, requestAskWords};
+ghost use Rattle.settings.specs.Settings.{pool_length};
+ghost use Rattle.collection.specs.Asks.{ask_of};
+ghost use Rattle.collection.specs.Words.{ask_view, request_ask_words};
 
 use pipe::endpoints::{Endpoint, Pipe, Request};
 use pipe::slots::{endpoint_at, limit_of};
@@ -16,7 +16,7 @@ use words::row::places_at;
 
 fn ask_for(core: Core, slots: &[u64], slot: u8, p: Pipe, r: Request) -> AskWords
     requires { (6 * slot + 6 ≤ length slots.now) × (core.settings.limit ≤ 16384) }
-    ensures { result ≡ requestAskWords core.settings slots.now slot p r }
+    ensures { result ≡ request_ask_words core.settings slots.now slot p r }
 {
     let kind = p.kind;
     let direction = r.direction;
@@ -35,8 +35,8 @@ fn ask_for(core: Core, slots: &[u64], slot: u8, p: Pipe, r: Request) -> AskWords
 // Nothing where the slot has no request.
 pub fn ask(core: Core, slots: &[u64], slot: u8) -> AskWords
     requires { Good core.settings core.rest slots.now }
-    ensures result_value { askView result ≡ askOf (view core slots.now) (poolLength core.settings) slot }
-    ensures ask_words_good { AskWordsGood (poolLength core.settings) result }
+    ensures result_value { ask_view result ≡ ask_of (view core slots.now) (pool_length core.settings) slot }
+    ensures ask_words_good { AskWordsGood (pool_length core.settings) result }
 {
     match endpoint_at(core, slots, slot) {
         Endpoint::Closed => no_ask_words(),

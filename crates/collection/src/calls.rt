@@ -1,11 +1,11 @@
 // Cancel and collect, on words in their ranges. The lengths of the rows that are not lent are those that opening fixed.
 ghost use Rattle.core.specs.Prelude.{◌≡◌, ℕ, ◌+◌, ◌*◌, true, length};
-ghost use Rattle.opening.specs.Opening.{rowsFit};
+ghost use Rattle.opening.specs.Opening.{rows_are_fit};
 ghost use Rattle.words.specs.Good.{Good, Tidy};
 ghost use Rattle.words.specs.View.{view};
-ghost use Rattle.collection.specs.Calls.{cancelOf, collectOf, gathered};
+ghost use Rattle.collection.specs.Calls.{cancel_of, collect_of, gathered};
 ghost use Rattle.collection.specs.Unlinks.{left};
-ghost use Rattle.collection.specs.Words.{cancelledView, collectedView};
+ghost use Rattle.collection.specs.Words.{cancelled_view, collected_view};
 
 use crate::answers::{Cancellation, Collection, refuse_cancel, refuse_collect, still_pending};
 use crate::finish::{collect_linked, collect_unlinking};
@@ -31,9 +31,9 @@ pub fn cancel(
 ) -> Cancellation
     requires good { Good core.settings core.rest slots.old }
     requires heads_len { (length heads.old ≡ 17 * (core.settings.endpoints + 1)) × (length frames.old ≡ 1024) }
-    ensures by_index { (pool setups : ℕ) → rowsFit core.settings pool (length heads.old) (length frames.old) setups ≡ true
-        → left (cancelledView core.settings result slots.new) heads.new frames.new
-        ≡ cancelOf (view core slots.old) pool heads.old frames.old setups readings slot id }
+    ensures by_index { (pool setups : ℕ) → rows_are_fit core.settings pool (length heads.old) (length frames.old) setups ≡ true
+        → left (cancelled_view core.settings result slots.new) heads.new frames.new
+        ≡ cancel_of (view core slots.old) pool heads.old frames.old setups readings slot id }
     ensures tidy { Tidy core.settings result.rest slots.new }
 {
     match endpoint_at(core, slots, slot) {
@@ -73,9 +73,9 @@ pub fn collect(
 ) -> Collection
     requires good { Good core.settings core.rest slots.old }
     requires heads_len { (length heads.old ≡ 17 * (core.settings.endpoints + 1)) × (length frames.old ≡ 1024) }
-    ensures by_index { (pool setups : ℕ) → rowsFit core.settings pool (length heads.old) (length frames.old) setups ≡ true
-        → gathered (collectedView core.settings result slots.new) heads.new frames.new
-        ≡ collectOf (view core slots.old) pool heads.old frames.old setups readings seen slot id }
+    ensures by_index { (pool setups : ℕ) → rows_are_fit core.settings pool (length heads.old) (length frames.old) setups ≡ true
+        → gathered (collected_view core.settings result slots.new) heads.new frames.new
+        ≡ collect_of (view core slots.old) pool heads.old frames.old setups readings seen slot id }
     ensures tidy { Tidy core.settings result.rest slots.new }
 {
     match endpoint_at(core, slots, slot) {

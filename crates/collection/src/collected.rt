@@ -1,6 +1,6 @@
 // What cancel, collect and look answer.
 ghost use Rattle.core.specs.Prelude.{◌≡◌};
-ghost use Rattle.collection.specs.Answers.{collectedNumber, pendingOf, outcomeOf};
+ghost use Rattle.collection.specs.Answers.{collected_number, pending_of, outcome_of};
 
 use common::answer::{Answer, Refusal};
 use pool::chain::View;
@@ -19,7 +19,7 @@ pub enum Collected {
 
 impl Collected {
     pub fn number(self) -> u8
-        ensures { result ≡ collectedNumber self }
+        ensures { result ≡ collected_number self }
     {
         match self {
             Collected::Complete(_, _) => 0,
@@ -34,7 +34,7 @@ impl Collected {
 
 // The answer of a collect that unlinks.
 pub fn pending_of(answer: Answer) -> Collected
-    ensures { result ≡ pendingOf answer }
+    ensures { result ≡ pending_of answer }
 {
     match answer {
         Answer::Done => Collected::Pending,
@@ -44,7 +44,7 @@ pub fn pending_of(answer: Answer) -> Collected
 
 // The answer of a collect whose boundary has passed.
 pub fn outcome_of(cancelled: bool, view: View) -> Collected
-    ensures { result ≡ outcomeOf cancelled view }
+    ensures { result ≡ outcome_of cancelled view }
 {
     if cancelled {
         return Collected::Cancelled;

@@ -1,12 +1,12 @@
 // What a collect does with a request, by whether its boundary is set.
 ghost use Rattle.core.specs.Prelude.{◌≡◌, ◌+◌, ◌*◌, ◌<◌, length};
-ghost use Rattle.pipe.specs.Endpoints.{endpointAt, withToggle};
-ghost use Rattle.token.specs.Overlay.{keptToggle};
+ghost use Rattle.pipe.specs.Endpoints.{endpoint_at, with_toggle};
+ghost use Rattle.token.specs.Overlay.{kept_toggle};
 ghost use Rattle.pipe.specs.declared.endpoints.Endpoint.TheVariants.{Linked, Unlinking};
 ghost use Rattle.words.specs.Good.{Good, Tidy};
 ghost use Rattle.words.specs.View.{view};
-ghost use Rattle.collection.specs.Calls.{ended, finishOf, gathered, keeping, linkedOf, unlinkingOf};
-ghost use Rattle.collection.specs.Words.{collectedView};
+ghost use Rattle.collection.specs.Calls.{ended, finish_of, gathered, keeping, linked_of, unlinking_of};
+ghost use Rattle.collection.specs.Words.{collected_view};
 
 use crate::answers::{Collection, refuse_collect, still_pending};
 use crate::collected::{outcome_of, pending_of};
@@ -35,8 +35,8 @@ fn finish(
     overlay: u32,
 ) -> Collection
     requires good { Good core.settings core.rest slots.old }
-    requires k_value { endpointAt (view core slots.old) k ≡ Unlinking p r b }
-    ensures slots_after { collectedView core.settings result slots.new ≡ finishOf (view core slots.old) seen k (withToggle p (keptToggle overlay)) r }
+    requires k_value { endpoint_at (view core slots.old) k ≡ Unlinking p r b }
+    ensures slots_after { collected_view core.settings result slots.new ≡ finish_of (view core slots.old) seen k (with_toggle p (kept_toggle overlay)) r }
     ensures tidy { Tidy core.settings result.rest slots.new }
 {
     let mut rest = core.rest;
@@ -67,10 +67,10 @@ pub fn collect_linked(
     r: Request,
 ) -> Collection
     requires good { Good core.settings core.rest slots.old }
-    requires k_value { (endpointAt (view core slots.old) k ≡ Linked p r) × (core.rest.unanswered < 32) }
+    requires k_value { (endpoint_at (view core slots.old) k ≡ Linked p r) × (core.rest.unanswered < 32) }
     requires heads_len { (length heads.old ≡ 17 * (core.settings.endpoints + 1)) × (0 < length frames.old) }
-    ensures frames_after { gathered (collectedView core.settings result slots.new) heads.new frames.new
-        ≡ linkedOf (view core slots.old) heads.old frames.old readings stage k p r }
+    ensures frames_after { gathered (collected_view core.settings result slots.new) heads.new frames.new
+        ≡ linked_of (view core slots.old) heads.old frames.old readings stage k p r }
     ensures tidy { Tidy core.settings result.rest slots.new }
 {
     if stage == STANDS_ACTIVE {
@@ -104,10 +104,10 @@ pub fn collect_unlinking(
     boundary: UnlinkBoundary,
 ) -> Collection
     requires good { Good core.settings core.rest slots.old }
-    requires k_value { endpointAt (view core slots.old) k ≡ Unlinking p r boundary }
+    requires k_value { endpoint_at (view core slots.old) k ≡ Unlinking p r boundary }
     requires heads_len { length heads.old ≡ 17 * (core.settings.endpoints + 1) }
-    ensures heads_after { ended (collectedView core.settings result slots.new) heads.new
-        ≡ unlinkingOf (view core slots.old) heads.old readings.frame seen k (keeping readings p) r boundary }
+    ensures heads_after { ended (collected_view core.settings result slots.new) heads.new
+        ≡ unlinking_of (view core slots.old) heads.old readings.frame seen k (keeping readings p) r boundary }
     ensures tidy { Tidy core.settings result.rest slots.new }
 {
     if !passed(boundary, readings.frame) {

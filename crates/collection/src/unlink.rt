@@ -1,14 +1,14 @@
 // Unlinking a request: its head out of the schedule, the boundary that it waits for, and the mark of a cancelled one.
 ghost use Rattle.core.specs.Prelude.{◌≡◌, ◌+◌, ◌*◌, ◌<◌, length};
-ghost use Rattle.pipe.specs.Endpoints.{endpointAt};
+ghost use Rattle.pipe.specs.Endpoints.{endpoint_at};
 ghost use Rattle.pipe.specs.declared.endpoints.Endpoint.TheVariants.{Unlinking};
-ghost use Rattle.common.specs.Kinds.{isInterrupt};
-ghost use Rattle.schedule.specs.Links.{detachOf, links, periodic};
+ghost use Rattle.common.specs.Kinds.{is_interrupt};
+ghost use Rattle.schedule.specs.Links.{detach_of, links, periodic};
 ghost use Rattle.words.specs.Good.{Good, Tidy};
 ghost use Rattle.words.specs.View.{view};
-ghost use Rattle.collection.specs.Calls.{markedOf, marked};
-ghost use Rattle.collection.specs.Unlinks.{isMissing, left, unlinkOf, waitingOf, asked_of, boundedOf, frameBelow, passedBoundary};
-ghost use Rattle.collection.specs.Words.{OwnRequest, cancelledView};
+ghost use Rattle.collection.specs.Calls.{marked_of, marked};
+ghost use Rattle.collection.specs.Unlinks.{is_missing, left, unlink_of, waiting_of, asked_of, bounded_of, frame_below, passed_boundary};
+ghost use Rattle.collection.specs.Words.{OwnRequest, cancelled_view};
 ghost use Rattle.pipe.specs.declared.endpoints.UnlinkBoundary.TheVariants.{Async};
 
 use crate::answers::{Cancellation, refuse_cancel};
@@ -47,7 +47,7 @@ fn asked(bell: Bell, command: u32) -> Bounded
 
 pub fn boundary_now(bell: Bell, kind: EndpointType, readings: Readings) -> Bounded
     requires { bell.unanswered < 32 }
-    ensures { result ≡ boundedOf bell kind readings }
+    ensures { result ≡ bounded_of bell kind readings }
 {
     match kind {
         EndpointType::Control => asked(bell, readings.command),
@@ -80,8 +80,8 @@ pub fn marked(r: Request) -> Request
 
 // Whether a boundary has passed.
 pub fn passed(boundary: UnlinkBoundary, frame: u32) -> bool
-    requires { frameBelow boundary }
-    ensures { result ≡ passedBoundary boundary frame }
+    requires { frame_below boundary }
+    ensures { result ≡ passed_boundary boundary frame }
 {
     match boundary {
         UnlinkBoundary::Async(n) => n == 0,
@@ -101,7 +101,7 @@ pub fn waiting(
     requires good { Good core.settings core.rest slots.old }
     requires k_lt_endpoints { (k < core.settings.endpoints) × (core.rest.unanswered < 32) }
     requires own_request { OwnRequest (view core slots.old) k p r }
-    ensures slots_after { cancelledView core.settings result slots.new ≡ waitingOf (view core slots.old) readings k p r }
+    ensures slots_after { cancelled_view core.settings result slots.new ≡ waiting_of (view core slots.old) readings k p r }
     ensures tidy { Tidy core.settings result.rest slots.new }
 {
     let mut rest = core.rest;
@@ -136,10 +136,10 @@ pub fn is_lost(
 ) -> bool
     requires good { Good core.settings core.rest slots.now }
     requires k_lt_endpoints { (k < core.settings.endpoints) × (length heads.old ≡ 17 * (core.settings.endpoints + 1)) × (0 < length frames.old) }
-    requires kind_value { isInterrupt kind ≡ periodic (view core slots.now) k }
-    ensures value { result ≡ isMissing (detachOf (view core slots.now) heads.old frames.old k).predecessor }
+    requires kind_value { is_interrupt kind ≡ periodic (view core slots.now) k }
+    ensures value { result ≡ is_missing (detach_of (view core slots.now) heads.old frames.old k).predecessor }
     ensures frames_after { links heads.new frames.new
-        ≡ (detachOf (view core slots.now) heads.old frames.old k).rows }
+        ≡ (detach_of (view core slots.now) heads.old frames.old k).rows }
 {
     let address = head_address(core, k);
     match detach(core, slots, heads, frames, k, is_interrupt(kind), address) {
@@ -164,8 +164,8 @@ pub fn unlink(
     requires k_lt_endpoints { (k < core.settings.endpoints) × (core.rest.unanswered < 32) }
     requires own_request { OwnRequest (view core slots.old) k p r }
     requires heads_len { (length heads.old ≡ 17 * (core.settings.endpoints + 1)) × (0 < length frames.old) }
-    ensures frames_after { left (cancelledView core.settings result slots.new) heads.new frames.new
-        ≡ unlinkOf (view core slots.old) heads.old frames.old readings k p r }
+    ensures frames_after { left (cancelled_view core.settings result slots.new) heads.new frames.new
+        ≡ unlink_of (view core slots.old) heads.old frames.old readings k p r }
     ensures tidy { Tidy core.settings result.rest slots.new }
 {
     let kind = p.kind;
@@ -185,8 +185,8 @@ pub fn mark(
     b: UnlinkBoundary,
 ) -> Cancellation
     requires good { Good core.settings core.rest slots.old }
-    requires k_value { endpointAt (view core slots.old) k ≡ Unlinking p r b }
-    ensures slots_after { cancelledView core.settings result slots.new ≡ markedOf (view core slots.old) k p r b }
+    requires k_value { endpoint_at (view core slots.old) k ≡ Unlinking p r b }
+    ensures slots_after { cancelled_view core.settings result slots.new ≡ marked_of (view core slots.old) k p r b }
     ensures tidy { Tidy core.settings result.rest slots.new }
 {
     let rest = core.rest;

@@ -8,27 +8,27 @@ use Rattle.common.specs.declared.answer.Answer.{Answer}
 use Rattle.common.specs.declared.answer.Answer.TheVariants.{Done, Refused}
 use Rattle.common.specs.declared.answer.Refusal.{Refusal}
 
-abbrev verdictNumber : Verdict → ℕ
-verdictNumber passed = 1
-verdictNumber (refused r) = 0
+abbrev verdict_number : Verdict → ℕ
+verdict_number passed = 1
+verdict_number (refused r) = 0
 
-pub verdicts-apart : (r : Refusal) → refused r ≡ passed → ⊥
-verdicts-apart r e = let z : ◌≡◌ {A = ℕ} 0 1 = ap verdictNumber e in omega arith
+pub verdicts_apart : (r : Refusal) → refused r ≡ passed → ⊥
+verdicts_apart r e = let z : ◌≡◌ {A = ℕ} 0 1 = ap verdict_number e in omega arith
 
-abbrev pub verdictOf : Answer → Verdict
-verdictOf Done = passed
-verdictOf (Refused r) = refused r
+abbrev pub verdict_of : Answer → Verdict
+verdict_of Done = passed
+verdict_of (Refused r) = refused r
 
-pub answers-apart : (r : Refusal) → Refused r ≡ Done → ⊥
-answers-apart r e = verdicts-apart r (ap verdictOf e)
+pub answers_apart : (r : Refusal) → Refused r ≡ Done → ⊥
+answers_apart r e = verdicts_apart r (ap verdict_of e)
 
 -- a check that let the call pass said false
-pub let-pass : (b : Bool) (r : Refusal) (v : Verdict) → or_else b r v ≡ passed → (b ≡ false) × (v ≡ passed)
-let-pass false r v e = (refl, e)
-let-pass true r v e = absurd (verdicts-apart r e)
+pub let_pass : (b : Bool) (r : Refusal) (v : Verdict) → or_else b r v ≡ passed → (b ≡ false) × (v ≡ passed)
+let_pass false r v e = (refl, e)
+let_pass true r v e = absurd (verdicts_apart r e)
 
 -- checks, then settle: what holds of a refusal and of what is new holds of what is left
-pub settled-by : {A : Type 0} (v : Verdict) (old : Refusal → A) (new : A) (P : A → Type 0)
+pub settled_by : {A : Type 0} (v : Verdict) (old : Refusal → A) (new : A) (P : A → Type 0)
     → ((r : Refusal) → v ≡ refused r → P (old r)) → (v ≡ passed → P new) → P (settle v old new)
-settled-by passed old new P denied done = done refl
-settled-by (refused r) old new P denied done = denied r refl
+settled_by passed old new P denied done = done refl
+settled_by (refused r) old new P denied done = denied r refl

@@ -20,9 +20,9 @@ module _ (row : List ℕ) (at : ℕ) (ws : List ℕ) (h : at + length ws ≤ len
   front : length (take at row) ≡ at
   front = length-take-le at row (omega arith)
 
-  pub put-length : length (put_at row at ws) ≡ length row
+  pub put_length : length (put_at row at ws) ≡ length row
   unfolding put_at rest
-  put-length =
+  put_length =
       omega (
         arith,
         length-append (take at row) (ws ++ rest),
@@ -31,37 +31,37 @@ module _ (row : List ℕ) (at : ℕ) (ws : List ℕ) (h : at + length ws ≤ len
         front,
       )
 
-  pub put-before : (i : ℕ) → i < at → get_or (put_at row at ws) i 0 ≡ get_or row i 0
+  pub put_before : (i : ℕ) → i < at → get_or (put_at row at ws) i 0 ≡ get_or row i 0
   unfolding put_at rest
-  put-before i lt = get_or-append (take at row) (ws ++ rest) 0 i (omega (arith, front)) ∙ get_or-take at row i 0 lt
+  put_before i lt = get_or-append (take at row) (ws ++ rest) 0 i (omega (arith, front)) ∙ get_or-take at row i 0 lt
 
-  put-from : (i : ℕ) → get_or (put_at row at ws) (at + i) 0 ≡ get_or (ws ++ rest) i 0
+  put_from : (i : ℕ) → get_or (put_at row at ws) (at + i) 0 ≡ get_or (ws ++ rest) i 0
   unfolding put_at rest
-  put-from i =
+  put_from i =
       ap (λ (n : ℕ). get_or (put_at row at ws) (n + i) 0) (sym front) ∙ get_or-append-add (take at row) (ws ++ rest) i 0
 
-  pub put-inside : (i : ℕ) → i < length ws → get_or (put_at row at ws) (at + i) 0 ≡ get_or ws i 0
-  put-inside i lt = put-from i ∙ get_or-append ws rest 0 i lt
+  pub put_inside : (i : ℕ) → i < length ws → get_or (put_at row at ws) (at + i) 0 ≡ get_or ws i 0
+  put_inside i lt = put_from i ∙ get_or-append ws rest 0 i lt
 
-  pub put-behind : (i : ℕ) → at + length ws ≤ i → get_or (put_at row at ws) i 0 ≡ get_or row i 0
+  pub put_behind : (i : ℕ) → at + length ws ≤ i → get_or (put_at row at ws) i 0 ≡ get_or row i 0
   unfolding rest
-  put-behind i le =
+  put_behind i le =
       let j : ℕ = i - (at + length ws) in
       let here : at + (length ws + j) ≡ i = omega arith in
       let there : at + length ws + j ≡ i = omega arith in
-      ap (λ (n : ℕ). get_or (put_at row at ws) n 0) (sym here) ∙ put-from (length ws + j) ∙ get_or-append-add ws rest j 0
+      ap (λ (n : ℕ). get_or (put_at row at ws) n 0) (sym here) ∙ put_from (length ws + j) ∙ get_or-append-add ws rest j 0
       ∙ get_or-drop (at + length ws) row j 0 ∙ ap (λ (n : ℕ). get_or row n 0) there
 
   pub put_only : Only at (length ws) row (put_at row at ws)
-  put_only = record { same_length = put-length; before = put-before; behind = put-behind }
+  put_only = record { same_length = put_length; before = put_before; behind = put_behind }
 
-pub set-only : (row : List ℕ) (at w : ℕ) → Only at 1 row (set row at w)
-set-only row at w =
+pub set_only : (row : List ℕ) (at w : ℕ) → Only at 1 row (set row at w)
+set_only row at w =
     record {
       same_length = length-set row at w;
       before = λ i lt. get_or-set_other row at i w 0 (λ e. omega arith);
       behind = λ i le. get_or-set_other row at i w 0 (λ e. omega arith);
     }
 
-pub only-all : (at n : ℕ) (row : List ℕ) → Only at n row row
-only-all at n row = record { same_length = refl; before = λ i lt. refl; behind = λ i le. refl }
+pub only_all : (at n : ℕ) (row : List ℕ) → Only at n row row
+only_all at n row = record { same_length = refl; before = λ i lt. refl; behind = λ i le. refl }

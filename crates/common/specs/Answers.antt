@@ -5,19 +5,19 @@ use Rattle.common.specs.declared.answer.Answer.TheVariants.{Done, Refused}
 use Rattle.common.specs.declared.answer.Refusal.{Refusal}
 use Rattle.common.specs.declared.answer.Refusal.TheVariants.{InvalidParameter, SlotLimitReached, InvalidEndpoint, QueueFull, NotSupported, NoMemory, Timeout, NotReady}
 
-abbrev pub refusalNumber : Refusal → ℕ
-refusalNumber InvalidParameter = 1
-refusalNumber SlotLimitReached = 2
-refusalNumber InvalidEndpoint = 3
-refusalNumber QueueFull = 4
-refusalNumber NotSupported = 5
-refusalNumber NoMemory = 6
-refusalNumber Timeout = 7
-refusalNumber NotReady = 8
+abbrev pub refusal_number : Refusal → ℕ
+refusal_number InvalidParameter = 1
+refusal_number SlotLimitReached = 2
+refusal_number InvalidEndpoint = 3
+refusal_number QueueFull = 4
+refusal_number NotSupported = 5
+refusal_number NoMemory = 6
+refusal_number Timeout = 7
+refusal_number NotReady = 8
 
 abbrev pub number_of : Answer → ℕ
 number_of Done = 0
-number_of (Refused r) = refusalNumber r
+number_of (Refused r) = refusal_number r
 
 -- ---- checks, then settle
 

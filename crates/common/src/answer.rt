@@ -1,6 +1,6 @@
 // The refusals of document 01's table, with their numbers. A result that is no refusal has its own type with its call.
 ghost use Rattle.std.specs.Prelude.{◌≡◌};
-ghost use Rattle.common.specs.Answers.{refusalNumber, number_of};
+ghost use Rattle.common.specs.Answers.{refusal_number, number_of};
 
 #[derive(Drop)]
 pub enum Refusal {
@@ -16,7 +16,7 @@ pub enum Refusal {
 
 impl Refusal {
     pub fn number(self) -> u8
-        ensures { result ≡ refusalNumber self }
+        ensures { result ≡ refusal_number self }
     {
         match self {
             Refusal::InvalidParameter => 1,

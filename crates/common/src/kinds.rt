@@ -1,6 +1,6 @@
 // What a request says of itself: 000's `EndpointType` and `Direction`.
 ghost use Rattle.std.specs.Prelude.{◌≡◌};
-ghost use Rattle.common.specs.Kinds.{isControl, isIsochronous, isInterrupt};
+ghost use Rattle.common.specs.Kinds.{is_control, is_isochronous, is_interrupt};
 
 // The last of the kinds, numbered from 0 in this order.
 pub const KIND_MAX: u8 = 3;
@@ -20,7 +20,7 @@ pub enum Direction {
 }
 
 pub fn is_control(kind: EndpointType) -> bool
-    ensures { result ≡ isControl kind }
+    ensures { result ≡ is_control kind }
 {
     match kind {
         EndpointType::Control => true,
@@ -31,7 +31,7 @@ pub fn is_control(kind: EndpointType) -> bool
 }
 
 pub fn is_isochronous(kind: EndpointType) -> bool
-    ensures { result ≡ isIsochronous kind }
+    ensures { result ≡ is_isochronous kind }
 {
     match kind {
         EndpointType::Control => false,
@@ -42,7 +42,7 @@ pub fn is_isochronous(kind: EndpointType) -> bool
 }
 
 pub fn is_interrupt(kind: EndpointType) -> bool
-    ensures { result ≡ isInterrupt kind }
+    ensures { result ≡ is_interrupt kind }
 {
     match kind {
         EndpointType::Control => false,

@@ -3,53 +3,53 @@ use Rattle.core.specs.Prelude.{◌≡◌, ℕ, ◌<◌, ◌≤◌, Bool, true, f
 use mathlib.Core.Path.{refl, sym, ap, ◌∙◌}
 use native.Mathlib.Omega.{arith}
 use borrow.Author.Tests.{ltb-false, ltb-true}
-use Rattle.common.proofs.TestLaws.{false-true}
-use Rattle.slot.proofs.SlotLaws.{slot-tells}
+use Rattle.common.proofs.TestLaws.{false_true}
+use Rattle.slot.proofs.SlotLaws.{slot_tells}
 use Rattle.state.specs.Slots.{slot_at}
 use Rattle.state.specs.Plain.{Ehci}
 use Rattle.state.proofs.RangesLaws.{Ranges}
-use Rattle.pipe.specs.Endpoints.{endpointAt}
+use Rattle.pipe.specs.Endpoints.{endpoint_at}
 use Rattle.pipe.specs.declared.endpoints.Endpoint.TheVariants.{Closed}
-use Rattle.pipe.proofs.EndpointCases.{at_none, at_slot, decode-closed}
-use Rattle.controller.specs.Readers.{hasEndpoint, isOpen}
+use Rattle.pipe.proofs.EndpointCases.{at_none, at_slot, decode_closed}
+use Rattle.controller.specs.Readers.{has_endpoint, is_opened}
 
 module _ (s : Ehci) (k : ℕ) where
   -- a slot that is closed is not open
-  shut-not : endpointAt s k ≡ Closed → isOpen s k ≡ true → ⊥
-  shut-not e o = false-true (sym (ap hasEndpoint e) ∙ o)
+  shut_not : endpoint_at s k ≡ Closed → is_opened s k ≡ true → ⊥
+  shut_not e o = false_true (sym (ap has_endpoint e) ∙ o)
 
-  pub open-below : isOpen s k ≡ true → k < 32
-  open-below o = by (ltb k 32) refl
+  pub open_below : is_opened s k ≡ true → k < 32
+  open_below o = by (ltb k 32) refl
     where
       by : (t : Bool) → ltb k 32 ≡ t → k < 32
       by true q = ltb-true k 32 q
-      by false q = absurd (shut-not (sym (at_none s k (ltb-false k 32 q))) o)
+      by false q = absurd (shut_not (sym (at_none s k (ltb-false k 32 q))) o)
 
-  pub open-phase : isOpen s k ≡ true → (slot_at s k).phase ≢ 0
-  open-phase o z =
-      shut-not
+  pub open_phase : is_opened s k ≡ true → (slot_at s k).phase ≢ 0
+  open_phase o z =
+      shut_not
       (sym
-      (at_slot s k (slot_at s k) Closed (open-below o) refl
-      (decode-closed (slot_at s k) (λ e. omega (arith, e, z)) (λ e. omega (arith, e, z)) (λ e. omega (arith, e, z)))))
+      (at_slot s k (slot_at s k) Closed (open_below o) refl
+      (decode_closed (slot_at s k) (λ e. omega (arith, e, z)) (λ e. omega (arith, e, z)) (λ e. omega (arith, e, z)))))
       o
 
   module _ (r : Ranges s) where
-    pub shut-from : s.settings.endpoints ≤ k → endpointAt s k ≡ Closed
-    shut-from h = by (ltb k 32) refl
+    pub shut_from : s.settings.endpoints ≤ k → endpoint_at s k ≡ Closed
+    shut_from h = by (ltb k 32) refl
       where
-        by : (t : Bool) → ltb k 32 ≡ t → endpointAt s k ≡ Closed
+        by : (t : Bool) → ltb k 32 ≡ t → endpoint_at s k ≡ Closed
         by true q =
             let lt : k < 32 = ltb-true k 32 q in
-            let g = slot-tells s.settings.endpoints s.settings.limit k s.unanswered (slot_at s k) (r.slots k lt) in
-            let z : (slot_at s k).phase ≡ 0 = g.closed-from h in
+            let g = slot_tells s.settings.endpoints s.settings.limit k s.unanswered (slot_at s k) (r.slots k lt) in
+            let z : (slot_at s k).phase ≡ 0 = g.closed_from_lem h in
             sym
             (at_slot s k (slot_at s k) Closed lt refl
-            (decode-closed (slot_at s k) (λ e. omega arith) (λ e. omega arith) (λ e. omega arith)))
+            (decode_closed (slot_at s k) (λ e. omega arith) (λ e. omega arith) (λ e. omega arith)))
         by false q = sym (at_none s k (ltb-false k 32 q))
 
-    pub open-within : isOpen s k ≡ true → k < s.settings.endpoints
-    open-within o = by (ltb k s.settings.endpoints) refl
+    pub open_within : is_opened s k ≡ true → k < s.settings.endpoints
+    open_within o = by (ltb k s.settings.endpoints) refl
       where
         by : (t : Bool) → ltb k s.settings.endpoints ≡ t → k < s.settings.endpoints
         by true q = ltb-true k s.settings.endpoints q
-        by false q = absurd (shut-not (shut-from (ltb-false k s.settings.endpoints q)) o)
+        by false q = absurd (shut_not (shut_from (ltb-false k s.settings.endpoints q)) o)

@@ -1,17 +1,17 @@
 -- What an allotment over words leaves, as the state that the words stand for; and what a slot's first word says.
 use Rattle.core.specs.Prelude.{ℕ, Bool, not, List, ◌==◌, nat_le}
-use Rattle.words.specs.Record.{phaseIn, word_at}
+use Rattle.words.specs.Record.{phase_in, word_at}
 use Rattle.settings.specs.declared.settings.Settings.{Settings}
 use Rattle.words.specs.View.{state_of}
 use Rattle.controller.specs.Plain.{Allotment}
 use Rattle.controller.specs.declared.calls.Allotment.{Allotment as AllotmentWords}
 
-abbrev pub allottedView : Settings → AllotmentWords → List ℕ → Allotment
-allottedView s r ws = record { answer = r.answer; state = state_of s r.rest ws }
+abbrev pub allotted_view : Settings → AllotmentWords → List ℕ → Allotment
+allotted_view s r ws = record { answer = r.answer; state = state_of s r.rest ws }
 
 -- the slot has an endpoint; it has an uncollected request
 abbrev pub open_at : List ℕ → ℕ → Bool
-open_at ws k = not (phaseIn (word_at ws k) == 0)
+open_at ws k = not (phase_in (word_at ws k) == 0)
 
 abbrev pub held_at : List ℕ → ℕ → Bool
-held_at ws k = nat_le 2 (phaseIn (word_at ws k))
+held_at ws k = nat_le 2 (phase_in (word_at ws k))

@@ -1,9 +1,9 @@
 // The next device address, of a core in its ranges.
 ghost use Rattle.core.specs.Prelude.{◌≡◌, ℕ, true, List};
-ghost use Rattle.state.specs.Ranges.{inRanges};
+ghost use Rattle.state.specs.Ranges.{in_ranges};
 ghost use Rattle.words.specs.View.{view};
-ghost use Rattle.controller.specs.Address.{allotOf};
-ghost use Rattle.controller.specs.Words.{allottedView};
+ghost use Rattle.controller.specs.Address.{allot_of};
+ghost use Rattle.controller.specs.Words.{allotted_view};
 
 use common::answer::Refusal;
 use words::core::{Core, Rest};
@@ -21,7 +21,7 @@ pub struct Allotment {
 }
 
 pub fn allocate_address(core: Core) -> Allotment
-    ensures by_index { (ws : List ℕ) → inRanges (view core ws) ≡ true → allottedView core.settings result ws ≡ allotOf (view core ws) }
+    ensures by_index { (ws : List ℕ) → in_ranges (view core ws) ≡ true → allotted_view core.settings result ws ≡ allot_of (view core ws) }
     ensures free_value { result.rest.free ≡ core.rest.free }
 {
     let mut rest = core.rest;

@@ -1,7 +1,7 @@
 // What a caller may ask of the words. Nothing changes. A slot that the row does not have is closed, with no request.
 ghost use Rattle.core.specs.Prelude.{◌≡◌, ◌+◌, ◌*◌, length, slice_index};
-ghost use Rattle.bitset.specs.Places.{setPlaces, hasPlace as inPlaces};
-ghost use Rattle.pipe.specs.Endpoints.{flagOf};
+ghost use Rattle.bitset.specs.Places.{set_places, has_place as inPlaces};
+ghost use Rattle.pipe.specs.Endpoints.{flag_of};
 ghost use Rattle.words.specs.Record.{places_at};
 ghost use Rattle.controller.specs.Words.{held_at, open_at};
 
@@ -11,7 +11,7 @@ use words::row::{RECORD, word_at};
 
 // The number of free descriptors.
 pub fn free_count(core: Core) -> u64
-    ensures { result ≡ length (setPlaces core.rest.free) }
+    ensures { result ≡ length (set_places core.rest.free) }
 {
     let free = core.rest.free;
     count(free)
@@ -58,13 +58,13 @@ pub fn has_place(slots: &[u64], slot: u8, place: u64) -> bool
 }
 
 pub fn running(core: Core) -> bool
-    ensures { result ≡ flagOf core.rest.running }
+    ensures { result ≡ flag_of core.rest.running }
 {
     core.rest.running != 0
 }
 
 pub fn interrupts_enabled(core: Core) -> bool
-    ensures { result ≡ flagOf core.rest.enabled }
+    ensures { result ≡ flag_of core.rest.enabled }
 {
     core.rest.enabled != 0
 }

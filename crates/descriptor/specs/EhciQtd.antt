@@ -8,8 +8,8 @@ field w lo n = w / 2 ^ lo % 2 ^ n
 abbrev pub terminate : ℕ → ℕ
 terminate w = field w 0 1
 
-abbrev pub qtdAddress : ℕ → ℕ
-qtdAddress w = field w 5 27 * 2 ^ 5
+abbrev pub qtd_address : ℕ → ℕ
+qtd_address w = field w 5 27 * 2 ^ 5
 
 -- 3.5.4: a page slot: the page that it leads to; in slot 0 also the offset at which the buffer starts
 abbrev pub page : ℕ → ℕ
@@ -20,7 +20,7 @@ offset w = field w 0 12
 
 -- byte j of the buffer of a descriptor with these page slots and upper slots (appendix B): pages are 4096 bytes,
 -- and the offset runs on from slot to slot
-abbrev pub byteAddress : List ℕ → List ℕ → ℕ → ℕ
-byteAddress pages upper j =
+abbrev pub byte_address : List ℕ → List ℕ → ℕ → ℕ
+byte_address pages upper j =
     let o : ℕ = offset (get_or pages 0 0) + j in
     get_or upper (o / 4096) 0 * 2 ^ 32 + page (get_or pages (o / 4096) 0) + o % 4096

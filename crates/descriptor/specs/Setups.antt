@@ -6,7 +6,7 @@ use Rattle.std.specs.Prelude.{ℕ, ◌/◌, ◌%◌, ◌^◌, List, [], ◌∷�
 abbrev pub byte_of : ℕ → ℕ → ℕ
 byte_of n k = n / 2 ^ k % 256
 
-unfoldable pub setupPacket : ℕ → ℕ → List ℕ
-setupPacket setup length =
+unfoldable pub setup_packet : ℕ → ℕ → List ℕ
+setup_packet setup length =
     byte_of setup 0 ∷ byte_of setup 8 ∷ byte_of setup 16 ∷ byte_of setup 24 ∷ byte_of setup 32 ∷ byte_of setup 40
     ∷ byte_of length 0 ∷ byte_of length 8 ∷ []

@@ -8,21 +8,21 @@ byte bytes k = get_or bytes k 0
 abbrev pub word_at : List ℕ → ℕ → ℕ
 word_at bytes k = byte bytes k + byte bytes (k + 1) * 2 ^ 8
 
-abbrev pub bmRequestType : List ℕ → ℕ
-bmRequestType bytes = byte bytes 0
+abbrev pub bm_request_type : List ℕ → ℕ
+bm_request_type bytes = byte bytes 0
 
 -- of it, bit 7: 1 is device to host
-abbrev pub transferDirection : ℕ → ℕ
-transferDirection requestType = requestType / 2 ^ 7 % 2
+abbrev pub transfer_direction : ℕ → ℕ
+transfer_direction requestType = requestType / 2 ^ 7 % 2
 
-abbrev pub bRequest : List ℕ → ℕ
-bRequest bytes = byte bytes 1
+abbrev pub b_request : List ℕ → ℕ
+b_request bytes = byte bytes 1
 
-abbrev pub wValue : List ℕ → ℕ
-wValue bytes = word_at bytes 2
+abbrev pub w_value : List ℕ → ℕ
+w_value bytes = word_at bytes 2
 
-abbrev pub wIndex : List ℕ → ℕ
-wIndex bytes = word_at bytes 4
+abbrev pub w_index : List ℕ → ℕ
+w_index bytes = word_at bytes 4
 
-abbrev pub wLength : List ℕ → ℕ
-wLength bytes = word_at bytes 6
+abbrev pub w_length : List ℕ → ℕ
+w_length bytes = word_at bytes 6

@@ -1,16 +1,16 @@
 // A queue head (EHCI 3.6): 000's `QueueHead`, and the changes of its characteristics.
 ghost use Rattle.std.specs.Prelude.{◌≡◌, ◌≤◌, max};
 ghost use Rattle.descriptor.specs.Heads.{
-  qhLink,
-  controlBit,
-  interruptBit,
-  characteristicsOf,
-  capabilitiesOf,
-  endpointHead,
-  ringHead,
+  qh_link,
+  control_bit,
+  interrupt_bit,
+  characteristics_of,
+  capabilities_of,
+  endpoint_head,
+  ring_head,
   words_of,
-  withAddress,
-  withPacketSize,
+  with_address,
+  with_packet_size,
 };
 
 use crate::qtd::{EHCI_LINK_TERMINATE, QueueTransferDescriptor};
@@ -49,13 +49,13 @@ pub struct QueueHead {
 
 // The link value of a head at an address.
 pub fn ehci_qh_link(address: u32) -> u32
-    ensures { result ≡ qhLink address }
+    ensures { result ≡ qh_link address }
 {
     address - address % 32 + EHCI_QH_LINK_TYPE_QH
 }
 
 fn control_bit(kind: EndpointType) -> u32
-    ensures value { result ≡ controlBit kind }
+    ensures value { result ≡ control_bit kind }
     ensures upper_bound { result ≤ 16384 }
 {
     match kind {
@@ -67,7 +67,7 @@ fn control_bit(kind: EndpointType) -> u32
 }
 
 fn interrupt_bit(kind: EndpointType) -> u32
-    ensures value { result ≡ interruptBit kind }
+    ensures value { result ≡ interrupt_bit kind }
     ensures upper_bound { result ≤ 1 }
 {
     match kind {
@@ -81,7 +81,7 @@ fn interrupt_bit(kind: EndpointType) -> u32
 impl QueueHead {
     // The ring head, linked to itself.
     pub fn async_head(address: u32) -> QueueHead
-        ensures { result ≡ ringHead address }
+        ensures { result ≡ ring_head address }
     {
         QueueHead {
             link: ehci_qh_link(address),
@@ -97,7 +97,7 @@ impl QueueHead {
         requires address_bound { address ≤ 127 }
         requires number_bound { number ≤ 15 }
         requires packet_bound { packet ≤ 1024 }
-        ensures { result ≡ endpointHead kind address number packet }
+        ensures { result ≡ endpoint_head kind address number packet }
     {
         let fields = (address as u32) + (number as u32) * 0x100 + (packet as u32) * 0x1_0000;
         QueueHead {
@@ -140,7 +140,7 @@ impl QueueHead {
 
 // A characteristics word with another device address.
 pub fn set_device_address(characteristics: u32, address: u8) -> u32
-    ensures { result ≡ withAddress characteristics address }
+    ensures { result ≡ with_address characteristics address }
 {
     let others = without_bits(characteristics, ADDRESS_MASK);
     with_bits(others, (address % 128) as u32)
@@ -148,7 +148,7 @@ pub fn set_device_address(characteristics: u32, address: u8) -> u32
 
 // A characteristics word with another packet size, which is raised to 8.
 pub fn set_max_packet_size(characteristics: u32, size: u8) -> u32
-    ensures { result ≡ withPacketSize characteristics size }
+    ensures { result ≡ with_packet_size characteristics size }
 {
     let others = without_bits(characteristics, PACKET_SIZE_MASK);
     with_bits(others, (raised(size) as u32) << PACKET_SIZE_SHIFT)

@@ -1,6 +1,6 @@
 // A transfer descriptor (EHCI 3.5): 000's `QueueTransferDescriptor`, with 01's names for its words.
 ghost use Rattle.std.specs.Prelude.{◌≡◌, ◌-◌, ◌≤◌, ◌^◌};
-ghost use Rattle.descriptor.specs.Descriptors.{terminated, newQtd, qtdWith, nextWord, with_next};
+ghost use Rattle.descriptor.specs.Descriptors.{terminated, new_qtd, qtd_with, word_of_next, with_next};
 
 use crate::slots::page_slots;
 use token::qtd::QtdToken;
@@ -27,7 +27,7 @@ pub enum NextQtd {
 
 impl NextQtd {
     pub fn word(self) -> u32
-        ensures { result ≡ nextWord self }
+        ensures { result ≡ word_of_next self }
     {
         match self {
             NextQtd::Terminate => EHCI_LINK_TERMINATE,
@@ -51,14 +51,14 @@ impl QueueTransferDescriptor {
 
     pub fn new(token: QtdToken, address: u64, length: u64) -> QueueTransferDescriptor
         requires { length ≤ 2 ^ 32 - address }
-        ensures { result ≡ newQtd token address length }
+        ensures { result ≡ new_qtd token address length }
     {
         QueueTransferDescriptor::with_slots(token, page_slots(address, length))
     }
 
     // The page slots are taken by value, as `page_slots` returns them.
     pub fn with_slots(token: QtdToken, pages: [u32; 5]) -> QueueTransferDescriptor
-        ensures { result ≡ qtdWith token pages }
+        ensures { result ≡ qtd_with token pages }
     {
         QueueTransferDescriptor {
             next: EHCI_LINK_TERMINATE,

@@ -1,13 +1,13 @@
 // The five page slots of a buffer (EHCI 3.5.4).
 ghost use Rattle.std.specs.Prelude.{◌≡◌, ◌-◌, ◌≤◌, ◌^◌, ltb};
-ghost use Rattle.descriptor.specs.Slots.{pageIf, pageSlots};
+ghost use Rattle.descriptor.specs.Slots.{page_if, page_slots};
 
 pub const PAGE: u64 = 4096;
 
 // The buffer ends at or below 2^32; one of no bytes may have any address.
 pub fn page_slots(address: u64, length: u64) -> [u32; 5]
     requires { length ≤ 2 ^ 32 - address }
-    ensures { result ≡ pageSlots address length }
+    ensures { result ≡ page_slots address length }
 {
     if length == 0 {
         return [0; 5];
@@ -25,7 +25,7 @@ pub fn page_slots(address: u64, length: u64) -> [u32; 5]
 
 fn page_below(page: u64, end: u64) -> u32
     requires { end ≤ 2 ^ 32 }
-    ensures { result ≡ pageIf (ltb page end) page }
+    ensures { result ≡ page_if (ltb page end) page }
 {
     if page < end { page as u32 } else { 0 }
 }

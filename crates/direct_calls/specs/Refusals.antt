@@ -1,7 +1,7 @@
 -- What each call leaves of words that are not in their ranges: 1, the rest as it was, no write.
 use Rattle.common.specs.declared.answer.Answer.TheVariants.{Refused as RefusedCall}
 use Rattle.common.specs.declared.answer.Refusal.TheVariants.{InvalidParameter}
-use Rattle.register.specs.Writes.{noWrites}
+use Rattle.register.specs.Writes.{no_writes}
 use Rattle.words.specs.declared.core.Rest.{Rest}
 use Rattle.controller.specs.declared.calls.Allotted.TheVariants.{Refused as RefusedAllotted}
 use Rattle.controller.specs.declared.calls.Allotment.{Allotment}
@@ -14,20 +14,20 @@ use Rattle.interrupt.specs.declared.answers.Acknowledgement.{Acknowledgement}
 use Rattle.interrupt.specs.declared.answers.Drainage.{Drainage}
 use Rattle.interrupt.specs.declared.answers.Settled.{Settled}
 
-abbrev pub refusedAcknowledgement : Rest → Acknowledgement
-refusedAcknowledgement rest = record { answer = RefusedAcknowledged InvalidParameter; rest = rest; writes = noWrites }
+abbrev pub refused_acknowledgement : Rest → Acknowledgement
+refused_acknowledgement rest = record { answer = RefusedAcknowledged InvalidParameter; rest = rest; writes = no_writes }
 
-abbrev pub refusedDrainage : Rest → Drainage
-refusedDrainage rest = record { answer = RefusedDrained InvalidParameter; rest = rest; writes = noWrites }
+abbrev pub refused_drainage : Rest → Drainage
+refused_drainage rest = record { answer = RefusedDrained InvalidParameter; rest = rest; writes = no_writes }
 
-abbrev pub refusedSettled : Rest → Settled
-refusedSettled rest = record { answer = RefusedCall InvalidParameter; rest = rest; writes = noWrites }
+abbrev pub refused_settled : Rest → Settled
+refused_settled rest = record { answer = RefusedCall InvalidParameter; rest = rest; writes = no_writes }
 
-abbrev pub refusedAllotment : Rest → Allotment
-refusedAllotment rest = record { answer = RefusedAllotted InvalidParameter; rest = rest }
+abbrev pub refused_allotment : Rest → Allotment
+refused_allotment rest = record { answer = RefusedAllotted InvalidParameter; rest = rest }
 
-abbrev pub refusedEndpoint : Rest → EndpointOpening
-refusedEndpoint rest = record { answer = RefusedOpened InvalidParameter; rest = rest }
+abbrev pub refused_endpoint : Rest → EndpointOpening
+refused_endpoint rest = record { answer = RefusedOpened InvalidParameter; rest = rest }
 
-abbrev pub refusedChange : Rest → Change
-refusedChange rest = record { answer = RefusedCall InvalidParameter; rest = rest }
+abbrev pub refused_change : Rest → Change
+refused_change rest = record { answer = RefusedCall InvalidParameter; rest = rest }

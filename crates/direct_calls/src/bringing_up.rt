@@ -2,7 +2,7 @@
 ghost use Rattle.core.specs.Prelude.{◌≡◌};
 ghost use Rattle.common.specs.declared.answer.Refusal.TheVariants.{InvalidParameter};
 ghost use Rattle.bring_up.specs.BringUp.{start_of, step_of};
-ghost use Rattle.bring_up.specs.Words.{broughtView, refusedWords};
+ghost use Rattle.bring_up.specs.Words.{brought_view, refused_words};
 ghost use Rattle.direct_calls.specs.Shapes.{CoreCall, SlotsCall};
 
 use bring_up::answers::BroughtUp;
@@ -13,8 +13,8 @@ use word_ranges::scalars::core_good;
 use words::core::Core;
 
 pub fn start_bring_up(core: Core, slots: &[u64]) -> BroughtUp
-    ensures { SlotsCall core slots.now slots.now result (refusedWords core.rest InvalidParameter) result.rest
-        (broughtView core.settings result slots.now) start_of }
+    ensures { SlotsCall core slots.now slots.now result (refused_words core.rest InvalidParameter) result.rest
+        (brought_view core.settings result slots.now) start_of }
 {
     if !words_good(core, slots) {
         return refuse(core.rest, Refusal::InvalidParameter);
@@ -24,8 +24,8 @@ pub fn start_bring_up(core: Core, slots: &[u64]) -> BroughtUp
 
 // With what was read of the register that the call before asked for.
 pub fn bring_up_step(core: Core, reading: u32) -> BroughtUp
-    ensures { CoreCall core result (refusedWords core.rest InvalidParameter) result.rest
-        (broughtView core.settings result) (λ s. step_of s reading) }
+    ensures { CoreCall core result (refused_words core.rest InvalidParameter) result.rest
+        (brought_view core.settings result) (λ s. step_of s reading) }
 {
     if !core_good(core) {
         return refuse(core.rest, Refusal::InvalidParameter);

@@ -1,11 +1,11 @@
 // The calls on endpoints. The next address is of the core alone, clear-halt is lent the slots, each of the others the slots and the heads.
 ghost use Rattle.core.specs.Prelude.{◌≡◌};
-ghost use Rattle.controller.specs.Address.{allotOf};
-ghost use Rattle.controller.specs.Words.{allottedView};
-ghost use Rattle.endpoint.specs.Calls.{changeLeft, clearHaltOf, closeOf, openEndpointOf, openLeft, setAddressOf, setPacketSizeOf};
-ghost use Rattle.endpoint.specs.Words.{changedView, openedView};
+ghost use Rattle.controller.specs.Address.{allot_of};
+ghost use Rattle.controller.specs.Words.{allotted_view};
+ghost use Rattle.endpoint.specs.Calls.{change_left, clear_halt_of, close_of, open_endpoint_of, open_left, set_address_of, set_packet_size_of};
+ghost use Rattle.endpoint.specs.Words.{changed_view, opened_view};
 ghost use Rattle.words.specs.View.{view};
-ghost use Rattle.direct_calls.specs.Refusals.{refusedAllotment, refusedChange, refusedEndpoint};
+ghost use Rattle.direct_calls.specs.Refusals.{refused_allotment, refused_change, refused_endpoint};
 ghost use Rattle.direct_calls.specs.Shapes.{CoreCall, HeadsCall, SlotsCall};
 
 use crate::takes::takes_heads;
@@ -18,7 +18,7 @@ use word_ranges::scalars::core_good;
 use words::core::{Core, Rest};
 
 pub fn allocate_address(core: Core) -> Allotment
-    ensures { CoreCall core result (refusedAllotment core.rest) result.rest (allottedView core.settings result) allotOf }
+    ensures { CoreCall core result (refused_allotment core.rest) result.rest (allotted_view core.settings result) allot_of }
 {
     if !core_good(core) {
         let rest = core.rest;
@@ -40,9 +40,9 @@ pub fn open_endpoint(
     packet: u16,
 ) -> EndpointOpening
     ensures { HeadsCall core slots.old slots.new heads.old heads.new
-        result (refusedEndpoint core.rest) result.rest
-        (openLeft (openedView core.settings result slots.new) heads.new)
-        (λ pool frames setups. openEndpointOf (view core slots.old) pool heads.old frames setups kind address number packet) }
+        result (refused_endpoint core.rest) result.rest
+        (open_left (opened_view core.settings result slots.new) heads.new)
+        (λ pool frames setups. open_endpoint_of (view core slots.old) pool heads.old frames setups kind address number packet) }
 {
     if !takes_heads(core, slots, heads) {
         let rest = core.rest;
@@ -56,7 +56,7 @@ pub fn open_endpoint(
 
 // What close, set address, set packet size and clear-halt leave of what is not in its ranges.
 fn refuse(rest: Rest) -> Change
-    ensures { result ≡ refusedChange rest }
+    ensures { result ≡ refused_change rest }
 {
     Change {
         answer: Answer::Refused(Refusal::InvalidParameter),
@@ -66,9 +66,9 @@ fn refuse(rest: Rest) -> Change
 
 pub fn close(core: Core, slots: &mut [u64], heads: &mut [u32], slot: u8) -> Change
     ensures { HeadsCall core slots.old slots.new heads.old heads.new
-        result (refusedChange core.rest) result.rest
-        (changeLeft (changedView core.settings result slots.new) heads.new)
-        (λ pool frames setups. closeOf (view core slots.old) pool heads.old frames setups slot) }
+        result (refused_change core.rest) result.rest
+        (change_left (changed_view core.settings result slots.new) heads.new)
+        (λ pool frames setups. close_of (view core slots.old) pool heads.old frames setups slot) }
 {
     if !takes_heads(core, slots, heads) {
         return refuse(core.rest);
@@ -78,9 +78,9 @@ pub fn close(core: Core, slots: &mut [u64], heads: &mut [u32], slot: u8) -> Chan
 
 pub fn set_address(core: Core, slots: &[u64], heads: &mut [u32], slot: u8, address: u8) -> Change
     ensures { HeadsCall core slots.now slots.now heads.old heads.new
-        result (refusedChange core.rest) result.rest
-        (changeLeft (changedView core.settings result slots.now) heads.new)
-        (λ pool frames setups. setAddressOf (view core slots.now) pool heads.old frames setups slot address) }
+        result (refused_change core.rest) result.rest
+        (change_left (changed_view core.settings result slots.now) heads.new)
+        (λ pool frames setups. set_address_of (view core slots.now) pool heads.old frames setups slot address) }
 {
     if !takes_heads(core, slots, heads) {
         return refuse(core.rest);
@@ -97,9 +97,9 @@ pub fn set_packet_size(
     size: u8,
 ) -> Change
     ensures { HeadsCall core slots.old slots.new heads.old heads.new
-        result (refusedChange core.rest) result.rest
-        (changeLeft (changedView core.settings result slots.new) heads.new)
-        (λ pool frames setups. setPacketSizeOf (view core slots.old) pool heads.old frames setups slot size) }
+        result (refused_change core.rest) result.rest
+        (change_left (changed_view core.settings result slots.new) heads.new)
+        (λ pool frames setups. set_packet_size_of (view core slots.old) pool heads.old frames setups slot size) }
 {
     if !takes_heads(core, slots, heads) {
         return refuse(core.rest);
@@ -109,8 +109,8 @@ pub fn set_packet_size(
 
 // Judges the slots alone, as it is lent no heads.
 pub fn clear_halt(core: Core, slots: &mut [u64], slot: u8) -> Change
-    ensures { SlotsCall core slots.old slots.new result (refusedChange core.rest) result.rest
-        (changedView core.settings result slots.new) (λ s. clearHaltOf s slot) }
+    ensures { SlotsCall core slots.old slots.new result (refused_change core.rest) result.rest
+        (changed_view core.settings result slots.new) (λ s. clear_halt_of s slot) }
 {
     if !words_good(core, slots) {
         return refuse(core.rest);

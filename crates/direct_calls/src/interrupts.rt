@@ -1,8 +1,8 @@
 // The calls on interrupts. All but a drain are lent the core alone.
 ghost use Rattle.core.specs.Prelude.{◌≡◌};
-ghost use Rattle.interrupt.specs.Interrupts.{acknowledgeOf, disableOf, drainOf, enableOf, rearmOf};
-ghost use Rattle.interrupt.specs.Words.{acknowledgedView, drainedView, settledView};
-ghost use Rattle.direct_calls.specs.Refusals.{refusedAcknowledgement, refusedDrainage, refusedSettled};
+ghost use Rattle.interrupt.specs.Interrupts.{acknowledge_of, disable_of, drain_of, enable_of, rearm_of};
+ghost use Rattle.interrupt.specs.Words.{acknowledged_view, drained_view, settled_view};
+ghost use Rattle.direct_calls.specs.Refusals.{refused_acknowledgement, refused_drainage, refused_settled};
 ghost use Rattle.direct_calls.specs.Shapes.{CoreCall, SlotsCall};
 
 use common::answer::{Answer, Refusal};
@@ -14,7 +14,7 @@ use words::core::{Core, Rest};
 
 // What rearm, enable and disable leave of a core that is not in its ranges.
 fn refuse(rest: Rest) -> Settled
-    ensures { result ≡ refusedSettled rest }
+    ensures { result ≡ refused_settled rest }
 {
     Settled {
         answer: Answer::Refused(Refusal::InvalidParameter),
@@ -24,7 +24,7 @@ fn refuse(rest: Rest) -> Settled
 }
 
 fn refuse_acknowledge(rest: Rest) -> Acknowledgement
-    ensures { result ≡ refusedAcknowledgement rest }
+    ensures { result ≡ refused_acknowledgement rest }
 {
     Acknowledgement {
         answer: Acknowledged::Refused(Refusal::InvalidParameter),
@@ -40,8 +40,8 @@ pub fn acknowledge(
     flag: bool,
     again: bool,
 ) -> Acknowledgement
-    ensures { CoreCall core result (refusedAcknowledgement core.rest) result.rest
-        (acknowledgedView core.settings result) (λ s. acknowledgeOf s status interrupts flag again) }
+    ensures { CoreCall core result (refused_acknowledgement core.rest) result.rest
+        (acknowledged_view core.settings result) (λ s. acknowledge_of s status interrupts flag again) }
 {
     if !core_good(core) {
         return refuse_acknowledge(core.rest);
@@ -50,7 +50,7 @@ pub fn acknowledge(
 }
 
 fn refuse_drain(rest: Rest) -> Drainage
-    ensures { result ≡ refusedDrainage rest }
+    ensures { result ≡ refused_drainage rest }
 {
     Drainage {
         answer: Drained::Refused(Refusal::InvalidParameter),
@@ -61,8 +61,8 @@ fn refuse_drain(rest: Rest) -> Drainage
 
 // Given USBCMD as read, for the ring that a counted advance may make.
 pub fn drain(core: Core, slots: &mut [u64], command: u32) -> Drainage
-    ensures { SlotsCall core slots.old slots.new result (refusedDrainage core.rest) result.rest
-        (drainedView core.settings result slots.new) (λ s. drainOf s command) }
+    ensures { SlotsCall core slots.old slots.new result (refused_drainage core.rest) result.rest
+        (drained_view core.settings result slots.new) (λ s. drain_of s command) }
 {
     if !words_good(core, slots) {
         return refuse_drain(core.rest);
@@ -71,7 +71,7 @@ pub fn drain(core: Core, slots: &mut [u64], command: u32) -> Drainage
 }
 
 pub fn rearm(core: Core) -> Settled
-    ensures { CoreCall core result (refusedSettled core.rest) result.rest (settledView core.settings result) rearmOf }
+    ensures { CoreCall core result (refused_settled core.rest) result.rest (settled_view core.settings result) rearm_of }
 {
     if !core_good(core) {
         return refuse(core.rest);
@@ -80,7 +80,7 @@ pub fn rearm(core: Core) -> Settled
 }
 
 pub fn enable(core: Core) -> Settled
-    ensures { CoreCall core result (refusedSettled core.rest) result.rest (settledView core.settings result) enableOf }
+    ensures { CoreCall core result (refused_settled core.rest) result.rest (settled_view core.settings result) enable_of }
 {
     if !core_good(core) {
         return refuse(core.rest);
@@ -89,7 +89,7 @@ pub fn enable(core: Core) -> Settled
 }
 
 pub fn disable(core: Core) -> Settled
-    ensures { CoreCall core result (refusedSettled core.rest) result.rest (settledView core.settings result) disableOf }
+    ensures { CoreCall core result (refused_settled core.rest) result.rest (settled_view core.settings result) disable_of }
 {
     if !core_good(core) {
         return refuse(core.rest);

@@ -2,9 +2,9 @@
 ghost use Rattle.core.specs.Prelude.{◌≡◌};
 ghost use Rattle.common.specs.declared.answer.Refusal.TheVariants.{InvalidParameter};
 ghost use Rattle.words.specs.View.{view};
-ghost use Rattle.collection.specs.Calls.{cancelOf};
+ghost use Rattle.collection.specs.Calls.{cancel_of};
 ghost use Rattle.collection.specs.Unlinks.{left};
-ghost use Rattle.collection.specs.Words.{cancelledView, refusedCancelWords};
+ghost use Rattle.collection.specs.Words.{cancelled_view, refused_cancel_words};
 ghost use Rattle.direct_calls.specs.Shapes.{FramesCall};
 
 use crate::takes::takes_frames;
@@ -23,9 +23,9 @@ pub fn cancel(
     readings: Readings,
 ) -> Cancellation
     ensures { FramesCall core slots.old slots.new heads.old heads.new
-        frames.old frames.new result (refusedCancelWords core.rest InvalidParameter) result.rest
-        (left (cancelledView core.settings result slots.new) heads.new frames.new)
-        (λ pool setups. cancelOf (view core slots.old) pool heads.old frames.old setups readings slot id) }
+        frames.old frames.new result (refused_cancel_words core.rest InvalidParameter) result.rest
+        (left (cancelled_view core.settings result slots.new) heads.new frames.new)
+        (λ pool setups. cancel_of (view core slots.old) pool heads.old frames.old setups readings slot id) }
 {
     if !takes_frames(core, slots, heads, frames) {
         return refuse_cancel(core.rest, Refusal::InvalidParameter);

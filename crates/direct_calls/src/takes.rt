@@ -1,6 +1,6 @@
 // What a call that is lent heads, or heads and frames, asks first: their lengths, and the ranges of core and slots.
 ghost use Rattle.core.specs.Prelude.{◌≡◌, length};
-ghost use Rattle.direct_calls.specs.Shapes.{takesFrames, takesHeads};
+ghost use Rattle.direct_calls.specs.Shapes.{takes_frames, takes_heads};
 
 use opening::heads::HEAD_WORDS;
 use opening::open::FRAMES;
@@ -8,7 +8,7 @@ use word_ranges::judge::words_good;
 use words::core::Core;
 
 pub fn takes_heads(core: Core, slots: &[u64], heads: &[u32]) -> bool
-    ensures { result ≡ takesHeads core slots.now (length heads.now) }
+    ensures { result ≡ takes_heads core slots.now (length heads.now) }
 {
     let endpoints = core.settings.endpoints as usize;
     if heads.len() != HEAD_WORDS * (endpoints + 1) {
@@ -18,7 +18,7 @@ pub fn takes_heads(core: Core, slots: &[u64], heads: &[u32]) -> bool
 }
 
 pub fn takes_frames(core: Core, slots: &[u64], heads: &[u32], frames: &[u32]) -> bool
-    ensures { result ≡ takesFrames core slots.now (length heads.now) (length frames.now) }
+    ensures { result ≡ takes_frames core slots.now (length heads.now) (length frames.now) }
 {
     if frames.len() as u64 != FRAMES {
         return false;

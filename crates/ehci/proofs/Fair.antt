@@ -2,45 +2,45 @@
 use Rattle.core.specs.Prelude.{◌≡◌, ℕ, ◌+◌, ◌≤◌, Bool, true, false, cond, not, ◌&&◌, eqb, ltb, leb, List, [], ◌∷◌, length}
 use mathlib.Core.Path.{refl, sym, ap, subst, ◌∙◌}
 use borrow.Author.Tests.{not-true}
-use Rattle.register.specs.Bits.{any_of, onlyBits, withoutBits}
-use Rattle.common.proofs.TestLaws.{false-true, both-tells}
+use Rattle.register.specs.Bits.{any_of, only_bits, without_bits}
+use Rattle.common.proofs.TestLaws.{false_true, both_tells}
 use Rattle.pool.specs.declared.chain.View.{View}
-use Rattle.state.specs.Ranges.{inRanges}
+use Rattle.state.specs.Ranges.{in_ranges}
 use Rattle.state.specs.Plain.{Ehci}
 use Rattle.common.specs.Answers.{Check, Verdict, first, or_else, passed, refused, settle}
 use Rattle.common.specs.declared.answer.Refusal.{Refusal}
 use Rattle.common.specs.declared.answer.Refusal.TheVariants.{InvalidParameter, SlotLimitReached, InvalidEndpoint, QueueFull, NotSupported, NoMemory, Timeout, NotReady}
-use Rattle.common.proofs.CheckLaws.{settled-by, verdicts-apart}
-use Rattle.pipe.specs.Endpoints.{endpointAt}
+use Rattle.common.proofs.CheckLaws.{settled_by, verdicts_apart}
+use Rattle.pipe.specs.Endpoints.{endpoint_at}
 use Rattle.pipe.specs.declared.endpoints.Endpoint.{Endpoint}
 use Rattle.pipe.specs.declared.endpoints.Endpoint.TheVariants.{Closed, Idle, Linked, Unlinking}
 use Rattle.pipe.specs.declared.endpoints.Pipe.{Pipe}
 use Rattle.pipe.specs.declared.endpoints.Request.{Request}
 use Rattle.pipe.specs.declared.endpoints.UnlinkBoundary.{UnlinkBoundary}
-use Rattle.opening.specs.Opening.{rowsFit}
-use Rattle.controller.specs.Address.{allotOf}
-use Rattle.controller.specs.Lent.{acceptsOf, lengths}
+use Rattle.opening.specs.Opening.{rows_are_fit}
+use Rattle.controller.specs.Address.{allot_of}
+use Rattle.controller.specs.Lent.{accepts_of, lengths}
 use Rattle.controller.specs.Plain.{Allotment}
 use Rattle.controller.specs.declared.lent.Readings.{Readings}
-use Rattle.schedule.specs.Bell.{bellOf}
-use Rattle.schedule.specs.Links.{detachOf, endedOverlay}
-use Rattle.endpoint.specs.Calls.{ChangeLeft, OpenLeft, changeOf, closeOf, fieldsGood, openChecks, openEndpointOf, setAddressOf, setPacketSizeOf, slotChecks, raisedGood, clearChecks, clearHaltOf}
-use Rattle.request.specs.Submit.{acceptedWith, refusedSubmit, settledSubmit, submitChecks, submitOf}
-use Rattle.request.specs.Writeback.{refusedWriteback, writebackChecks, writebackOf}
+use Rattle.schedule.specs.Bell.{bell_of}
+use Rattle.schedule.specs.Links.{detach_of, ended_overlay}
+use Rattle.endpoint.specs.Calls.{ChangeLeft, OpenLeft, change_of, close_of, fields_good, open_checks, open_endpoint_of, set_address_of, set_packet_size_of, slot_checks, raised_good, clear_checks, clear_halt_of}
+use Rattle.request.specs.Submit.{accepted_with, refused_submit, settled_submit, submit_checks, submit_of}
+use Rattle.request.specs.Writeback.{refused_writeback, writeback_checks, writeback_of}
 use Rattle.request.specs.Plain.{WrittenBack}
 use Rattle.request.specs.declared.judge.TransferRequest.{TransferRequest}
-use Rattle.collection.specs.Answers.{outcomeOf, passedCollect, pendingCollect}
-use Rattle.collection.specs.Apart.{aloneAt, aloneChecks, aloneOf, lookAt, look_of}
+use Rattle.collection.specs.Answers.{outcome_of, passed_collect, pending_collect}
+use Rattle.collection.specs.Apart.{alone_at, alone_checks, alone_of, look_at, look_of}
 use Rattle.collection.specs.declared.collected.Collected.TheVariants.{Complete, Failed as FailedCollect}
-use Rattle.collection.specs.Calls.{Ended, Gathered, cancelAt, cancelChecks, cancelOf, collectAt, collectChecks, collectOf, endIf, ended, finishOf, gathered, keeping, linkedOf, marked, pendingLeft, unlinkingOf, withFrames as gatheredFrames}
-use Rattle.collection.specs.Unlinks.{Left, isMissing, passedBoundary, unlinkOf, waitingOf}
-use Rattle.interrupt.specs.Interrupts.{acknowledgeOf, disableOf, drainIf, drainOf, enableOf, heardIf, rearmIf, rearmOf, settledOr, clearedOf, countedOf}
+use Rattle.collection.specs.Calls.{Ended, Gathered, cancel_at, cancel_checks, cancel_of, collect_at, collect_checks, collect_of, end_if, ended, finish_of, gathered, keeping, linked_of, marked, pending_left, unlinking_of, with_frames as gatheredFrames}
+use Rattle.collection.specs.Unlinks.{Left, is_missing, passed_boundary, unlink_of, waiting_of}
+use Rattle.interrupt.specs.Interrupts.{acknowledge_of, disable_of, drain_if, drain_of, enable_of, heard_if, rearm_if, rearm_of, settled_or, cleared_of, counted_of}
 use Rattle.interrupt.specs.declared.drain.Cleared.{Cleared}
 use Rattle.interrupt.specs.Plain.{Acknowledgement}
 use Rattle.interrupt.specs.Plain.{Drainage}
 use Rattle.interrupt.specs.declared.answers.Drained.TheVariants.{PortChange, TransferActivity, Stopped}
 use Rattle.interrupt.specs.Plain.{Settled}
-use Rattle.bring_up.specs.BringUp.{againOf, anyUncollected, onwardOf, ready, registerOf, stageOf, start_of, step_of}
+use Rattle.bring_up.specs.BringUp.{again_of, any_uncollected, onward_of, ready, register_of, stage_of, start_of, step_of}
 use Rattle.bring_up.specs.Plain.{BroughtUp}
 use Rattle.bring_up.specs.declared.stage.Stage.{Stage}
 use Rattle.ehci.specs.declared.call.Call.{Call}
@@ -49,40 +49,40 @@ use Rattle.ehci.specs.declared.call.EndpointFields.{EndpointFields}
 use Rattle.ehci.specs.declared.call.InterruptReadings.{InterruptReadings}
 use Rattle.ehci.specs.declared.reply.Answered.{Answered}
 use Rattle.ehci.specs.declared.reply.Answered.TheVariants.{Done, Pending, Cancelled, Failed, Refused}
-use Rattle.ehci.specs.Replies.{broughtReply, changedReply, collectedAnswer, drainedAnswer, refusedReply, replied, settledReply}
-use Rattle.ehci.specs.Decides.{Outcome, acknowledgeDecided, acknowledgeReply, addressDecided, allotDecided, allotReply, aloneCame, aloneDecided, aloneReadings, call_of, came, cancelCame, cancelDecided, changeCame, clearDecided, closeDecided, collectCame, collectDecided, decideOf, drainDecided, drainReply, fitting, lookDecided, lookReadings, openCame, openDecided, packetDecided, submitCame, submitDecided, withFrames, withSetups, writebackDecided, writtenReply}
-use Rattle.ehci.specs.Refusals.{leftBy}
-use Rattle.ehci.proofs.Counts.{acknowledged-few, bounded-few, counted-few, none-few, one-few, stage-few}
+use Rattle.ehci.specs.Replies.{brought_reply, changed_reply, collected_answer, drained_answer, refused_reply, replied, settled_reply}
+use Rattle.ehci.specs.Decides.{Outcome, acknowledge_decided, acknowledge_reply, address_decided, allot_decided, allot_reply, alone_came, alone_decided, alone_readings, call_of, came, cancel_came, cancel_decided, change_came, clear_decided, close_decided, collect_came, collect_decided, decide_of, drain_decided, drain_reply, fitting, look_decided, look_readings, open_came, open_decided, packet_decided, submit_came, submit_decided, with_frames, with_setups, writeback_decided, written_reply}
+use Rattle.ehci.specs.Refusals.{left_by}
+use Rattle.ehci.proofs.Counts.{acknowledged_few, bounded_few, counted_few, none_few, one_few, stage_few}
 use Rattle.endpoint.specs.Plain.{Change}
 
 -- ---- checks that never answer 7
 
-abbrev isTimeout : Refusal → Bool
-isTimeout InvalidParameter = false
-isTimeout SlotLimitReached = false
-isTimeout InvalidEndpoint = false
-isTimeout QueueFull = false
-isTimeout NotSupported = false
-isTimeout NoMemory = false
-isTimeout Timeout = true
-isTimeout NotReady = false
+abbrev is_timeout : Refusal → Bool
+is_timeout InvalidParameter = false
+is_timeout SlotLimitReached = false
+is_timeout InvalidEndpoint = false
+is_timeout QueueFull = false
+is_timeout NotSupported = false
+is_timeout NoMemory = false
+is_timeout Timeout = true
+is_timeout NotReady = false
 
 abbrev timely : List Check → Bool
 timely [] = true
-timely (c ∷ cs) = not (isTimeout c.1) && timely cs
+timely (c ∷ cs) = not (is_timeout c.1) && timely cs
 
-abbrev timeoutIn : Verdict → Bool
-timeoutIn passed = false
-timeoutIn (refused r) = isTimeout r
+abbrev timeout_in : Verdict → Bool
+timeout_in passed = false
+timeout_in (refused r) = is_timeout r
 
-first-timely : (cs : List Check) → timely cs ≡ true → (r : Refusal) → first cs ≡ refused r → isTimeout r ≡ false
-first-timely [] t r e = absurd (verdicts-apart r (sym e))
-first-timely (c ∷ cs) t r e =
-    let both = both-tells (not (isTimeout c.1)) (timely cs) t in
-    by c.0 (not-true (isTimeout c.1) both.0) (first-timely cs both.1 r) e
+first_timely : (cs : List Check) → timely cs ≡ true → (r : Refusal) → first cs ≡ refused r → is_timeout r ≡ false
+first_timely [] t r e = absurd (verdicts_apart r (sym e))
+first_timely (c ∷ cs) t r e =
+    let both = both_tells (not (is_timeout c.1)) (timely cs) t in
+    by c.0 (not-true (is_timeout c.1) both.0) (first_timely cs both.1 r) e
   where
-    by : (b : Bool) → isTimeout c.1 ≡ false → (first cs ≡ refused r → isTimeout r ≡ false) → or_else b c.1 (first cs) ≡ refused r → isTimeout r ≡ false
-    by true n rest q = sym (ap timeoutIn q) ∙ n
+    by : (b : Bool) → is_timeout c.1 ≡ false → (first cs ≡ refused r → is_timeout r ≡ false) → or_else b c.1 (first cs) ≡ refused r → is_timeout r ≡ false
+    by true n rest q = sym (ap timeout_in q) ∙ n
     by false n rest q = rest q
 
 -- ---- an answer's refusal
@@ -94,301 +94,301 @@ is_refused Cancelled = false
 is_refused (Failed token) = false
 is_refused (Refused r) = true
 
-abbrev pub refusalIn : Answered → Refusal
-refusalIn (Done given) = InvalidParameter
-refusalIn Pending = InvalidParameter
-refusalIn Cancelled = InvalidParameter
-refusalIn (Failed token) = InvalidParameter
-refusalIn (Refused r) = r
+abbrev pub refusal_in : Answered → Refusal
+refusal_in (Done given) = InvalidParameter
+refusal_in Pending = InvalidParameter
+refusal_in Cancelled = InvalidParameter
+refusal_in (Failed token) = InvalidParameter
+refusal_in (Refused r) = r
 
-left-same : (s : Ehci) (r : Refusal) → isTimeout r ≡ false → leftBy r s ≡ s
-left-same s InvalidParameter n = refl
-left-same s SlotLimitReached n = refl
-left-same s InvalidEndpoint n = refl
-left-same s QueueFull n = refl
-left-same s NotSupported n = refl
-left-same s NoMemory n = refl
-left-same s Timeout n = absurd (false-true (sym n))
-left-same s NotReady n = refl
+left_same : (s : Ehci) (r : Refusal) → is_timeout r ≡ false → left_by r s ≡ s
+left_same s InvalidParameter n = refl
+left_same s SlotLimitReached n = refl
+left_same s InvalidEndpoint n = refl
+left_same s QueueFull n = refl
+left_same s NotSupported n = refl
+left_same s NoMemory n = refl
+left_same s Timeout n = absurd (false_true (sym n))
+left_same s NotReady n = refl
 
 module _ (s : Ehci) (hs fs us : List ℕ) where
   pub record Fair (o : Outcome) : Type 0 where
     pub few : o.decided.reply.writes.count ≤ 6
-    pub keeps : (r : Refusal) → o.decided.reply.answer ≡ Refused r → o ≡ came (refusedReply (leftBy r s) r) hs fs us
+    pub keeps : (r : Refusal) → o.decided.reply.answer ≡ Refused r → o ≡ came (refused_reply (left_by r s) r) hs fs us
 
-  refusal-fair : (x : Refusal) → Fair (came (refusedReply (leftBy x s) x) hs fs us)
-  unfolding refusedReply replied
-  refusal-fair x =
-      record { few = none-few; keeps = λ r e. ap (λ (y : Refusal). came (refusedReply (leftBy y s) y) hs fs us) (ap refusalIn e) }
+  refusal_fair : (x : Refusal) → Fair (came (refused_reply (left_by x s) x) hs fs us)
+  unfolding refused_reply replied
+  refusal_fair x =
+      record { few = none_few; keeps = λ r e. ap (λ (y : Refusal). came (refused_reply (left_by y s) y) hs fs us) (ap refusal_in e) }
 
-  refused-fair : (x : Refusal) → isTimeout x ≡ false → Fair (came (refusedReply s x) hs fs us)
-  refused-fair x n = subst (λ (z : Ehci). Fair (came (refusedReply z x) hs fs us)) (left-same s x n) (refusal-fair x)
+  refused_fair : (x : Refusal) → is_timeout x ≡ false → Fair (came (refused_reply s x) hs fs us)
+  refused_fair x n = subst (λ (z : Ehci). Fair (came (refused_reply z x) hs fs us)) (left_same s x n) (refusal_fair x)
 
-  result-fair : (o : Outcome) → is_refused o.decided.reply.answer ≡ false → o.decided.reply.writes.count ≤ 6 → Fair o
-  result-fair o n le = record { few = le; keeps = λ r e. absurd (false-true (sym n ∙ ap is_refused e)) }
+  result_fair : (o : Outcome) → is_refused o.decided.reply.answer ≡ false → o.decided.reply.writes.count ≤ 6 → Fair o
+  result_fair o n le = record { few = le; keeps = λ r e. absurd (false_true (sym n ∙ ap is_refused e)) }
 
   -- checks, then settle: the refusals leave all as before, and what is left where none holds is fair
-  settle-fair : {A : Type 0} (g : A → Outcome) (cs : List Check) (old : Refusal → A) (new : A) → timely cs ≡ true
-      → ((r : Refusal) → g (old r) ≡ came (refusedReply s r) hs fs us) → Fair (g new) → Fair (g (settle (first cs) old new))
-  settle-fair g cs old new t same fair =
-      settled-by (first cs) old new (λ x. Fair (g x)) (λ r e. subst Fair (sym (same r)) (refused-fair r (first-timely cs t r e))) (λ e. fair)
+  settle_fair : {A : Type 0} (g : A → Outcome) (cs : List Check) (old : Refusal → A) (new : A) → timely cs ≡ true
+      → ((r : Refusal) → g (old r) ≡ came (refused_reply s r) hs fs us) → Fair (g new) → Fair (g (settle (first cs) old new))
+  settle_fair g cs old new t same fair =
+      settled_by (first cs) old new (λ x. Fair (g x)) (λ r e. subst Fair (sym (same r)) (refused_fair r (first_timely cs t r e))) (λ e. fair)
 
   -- ---- bring-up
 
-  start-fair : Fair (came (broughtReply (start_of s)) hs fs us)
-  unfolding start_of broughtReply refusedReply replied
-  start-fair =
-      settle-fair (λ (b : BroughtUp). came (broughtReply b) hs fs us) ((not (inRanges s), InvalidParameter) ∷ (anyUncollected 0 32 s, QueueFull) ∷ []) _ _ refl
-      (λ r. refl) (result-fair _ refl (one-few 8 0))
+  start_fair : Fair (came (brought_reply (start_of s)) hs fs us)
+  unfolding start_of brought_reply refused_reply replied
+  start_fair =
+      settle_fair (λ (b : BroughtUp). came (brought_reply b) hs fs us) ((not (in_ranges s), InvalidParameter) ∷ (any_uncollected 0 32 s, QueueFull) ∷ []) _ _ refl
+      (λ r. refl) (result_fair _ refl (one_few 8 0))
 
-  onward-fair : (stage : Stage) (v : ℕ) → Fair (came (broughtReply (onwardOf s stage v)) hs fs us)
-  unfolding onwardOf broughtReply replied
-  onward-fair stage v = result-fair _ refl (stage-few stage v s.settings.frames s.settings.heads)
+  onward_fair : (stage : Stage) (v : ℕ) → Fair (came (brought_reply (onward_of s stage v)) hs fs us)
+  unfolding onward_of brought_reply replied
+  onward_fair stage v = result_fair _ refl (stage_few stage v s.settings.frames s.settings.heads)
 
-  picked-fair : (b : Bool) (x y : BroughtUp) → Fair (came (broughtReply x) hs fs us) → Fair (came (broughtReply y) hs fs us)
-      → Fair (came (broughtReply (cond b x y)) hs fs us)
-  picked-fair true x y fx fy = fx
-  picked-fair false x y fx fy = fy
+  picked_fair : (b : Bool) (x y : BroughtUp) → Fair (came (brought_reply x) hs fs us) → Fair (came (brought_reply y) hs fs us)
+      → Fair (came (brought_reply (cond b x y)) hs fs us)
+  picked_fair true x y fx fy = fx
+  picked_fair false x y fx fy = fy
 
-  again-fair : (register : ℕ) → Fair (came (broughtReply (againOf s register)) hs fs us)
-  unfolding againOf broughtReply refusedReply replied
-  again-fair register = picked-fair (ltb (s.waited + 1) s.settings.wait) _ _ (result-fair _ refl none-few) (refusal-fair Timeout)
+  again_fair : (register : ℕ) → Fair (came (brought_reply (again_of s register)) hs fs us)
+  unfolding again_of brought_reply refused_reply replied
+  again_fair register = picked_fair (ltb (s.waited + 1) s.settings.wait) _ _ (result_fair _ refl none_few) (refusal_fair Timeout)
 
-  step-fair : (v : ℕ) → Fair (came (broughtReply (step_of s v)) hs fs us)
-  unfolding step_of broughtReply refusedReply replied
-  step-fair v =
-      let stage : Stage = stageOf s.step in
-      settle-fair (λ (b : BroughtUp). came (broughtReply b) hs fs us) ((not (inRanges s), InvalidParameter) ∷ (eqb s.step 0, InvalidParameter) ∷ []) _ _ refl
-      (λ r. refl) (picked-fair (ready stage v) (onwardOf s stage v) (againOf s (registerOf stage)) (onward-fair stage v) (again-fair (registerOf stage)))
+  step_fair : (v : ℕ) → Fair (came (brought_reply (step_of s v)) hs fs us)
+  unfolding step_of brought_reply refused_reply replied
+  step_fair v =
+      let stage : Stage = stage_of s.step in
+      settle_fair (λ (b : BroughtUp). came (brought_reply b) hs fs us) ((not (in_ranges s), InvalidParameter) ∷ (eqb s.step 0, InvalidParameter) ∷ []) _ _ refl
+      (λ r. refl) (picked_fair (ready stage v) (onward_of s stage v) (again_of s (register_of stage)) (onward_fair stage v) (again_fair (register_of stage)))
 
   -- ---- addresses and endpoints
 
-  allot-fair : Fair (came (allotDecided s) hs fs us)
-  unfolding allotDecided allotOf refusedReply replied
-  allot-fair =
-      settle-fair (λ (a : Allotment). came (allotReply a) hs fs us) ((not (inRanges s), InvalidParameter) ∷ (ltb 127 s.address, SlotLimitReached) ∷ []) _ _ refl
-      (λ r. refl) (result-fair _ refl none-few)
+  allot_fair : Fair (came (allot_decided s) hs fs us)
+  unfolding allot_decided allot_of refused_reply replied
+  allot_fair =
+      settle_fair (λ (a : Allotment). came (allot_reply a) hs fs us) ((not (in_ranges s), InvalidParameter) ∷ (ltb 127 s.address, SlotLimitReached) ∷ []) _ _ refl
+      (λ r. refl) (result_fair _ refl none_few)
 
-  open-fair : (n : ℕ) (x : EndpointFields) → Fair (withFrames (openDecided s n hs (length fs) (length us) x) fs us)
-  unfolding openDecided openEndpointOf openChecks refusedReply replied
-  open-fair n x =
-      settle-fair (λ (o : OpenLeft). withFrames (openCame o) fs us)
-      (openChecks s (lengths n (length hs) (length fs) (length us)) x.kind (fieldsGood s.settings.limit x.kind x.address x.number x.packet)) _ _ refl
-      (λ r. refl) (result-fair _ refl none-few)
+  open_fair : (n : ℕ) (x : EndpointFields) → Fair (with_frames (open_decided s n hs (length fs) (length us) x) fs us)
+  unfolding open_decided open_endpoint_of open_checks refused_reply replied
+  open_fair n x =
+      settle_fair (λ (o : OpenLeft). with_frames (open_came o) fs us)
+      (open_checks s (lengths n (length hs) (length fs) (length us)) x.kind (fields_good s.settings.limit x.kind x.address x.number x.packet)) _ _ refl
+      (λ r. refl) (result_fair _ refl none_few)
 
-  change-fair : (n k : ℕ) (good : Bool) (s' : Ehci) (hs' : List ℕ) → Fair (withFrames (changeCame (changeOf s n hs (length fs) (length us) k good s' hs')) fs us)
-  unfolding slotChecks changedReply refusedReply replied
-  change-fair n k good s' hs' =
-      settle-fair (λ (c : ChangeLeft). withFrames (changeCame c) fs us) (slotChecks s (lengths n (length hs) (length fs) (length us)) k good) _ _ refl
-      (λ r. refl) (result-fair _ refl none-few)
+  change_fair : (n k : ℕ) (good : Bool) (s' : Ehci) (hs' : List ℕ) → Fair (with_frames (change_came (change_of s n hs (length fs) (length us) k good s' hs')) fs us)
+  unfolding slot_checks changed_reply refused_reply replied
+  change_fair n k good s' hs' =
+      settle_fair (λ (c : ChangeLeft). with_frames (change_came c) fs us) (slot_checks s (lengths n (length hs) (length fs) (length us)) k good) _ _ refl
+      (λ r. refl) (result_fair _ refl none_few)
 
-  close-fair : (n k : ℕ) → Fair (withFrames (closeDecided s n hs (length fs) (length us) k) fs us)
-  unfolding closeDecided closeOf
-  close-fair n k = change-fair n k true _ _
+  close_fair : (n k : ℕ) → Fair (with_frames (close_decided s n hs (length fs) (length us) k) fs us)
+  unfolding close_decided close_of
+  close_fair n k = change_fair n k true _ _
 
-  address-fair : (n k a : ℕ) → Fair (withFrames (addressDecided s n hs (length fs) (length us) k a) fs us)
-  unfolding addressDecided setAddressOf
-  address-fair n k a = change-fair n k (leb a 127) s _
+  address_fair : (n k a : ℕ) → Fair (with_frames (address_decided s n hs (length fs) (length us) k a) fs us)
+  unfolding address_decided set_address_of
+  address_fair n k a = change_fair n k (leb a 127) s _
 
-  packet-fair : (n k size : ℕ) → Fair (withFrames (packetDecided s n hs (length fs) (length us) k size) fs us)
-  unfolding packetDecided setPacketSizeOf
-  packet-fair n k size = change-fair n k (raisedGood s k size) _ _
+  packet_fair : (n k size : ℕ) → Fair (with_frames (packet_decided s n hs (length fs) (length us) k size) fs us)
+  unfolding packet_decided set_packet_size_of
+  packet_fair n k size = change_fair n k (raised_good s k size) _ _
 
-  clear-fair : (k : ℕ) → Fair (came (clearDecided s k) hs fs us)
-  unfolding clearDecided clearHaltOf changedReply refusedReply replied
-  clear-fair k =
-      settle-fair (λ (c : Change). came (changedReply c) hs fs us) (clearChecks s k) _ _ refl (λ r. refl) (result-fair _ refl none-few)
+  clear_fair : (k : ℕ) → Fair (came (clear_decided s k) hs fs us)
+  unfolding clear_decided clear_halt_of changed_reply refused_reply replied
+  clear_fair k =
+      settle_fair (λ (c : Change). came (changed_reply c) hs fs us) (clear_checks s k) _ _ refl (λ r. refl) (result_fair _ refl none_few)
 
   -- ---- requests
 
-  submit-fair : (n : ℕ) (readings : Readings) (k : ℕ) (t : TransferRequest) → Fair (submitDecided s n hs fs us readings k t)
-  unfolding submitDecided submitOf refusedSubmit settledSubmit acceptedWith refusedReply replied
-  submit-fair n readings k t =
-      settle-fair submitCame ((not (acceptsOf s (lengths n (length hs) (length fs) (length us))), InvalidParameter) ∷ submitChecks s k t) _ _ refl
-      (λ r. refl) (result-fair _ refl (one-few 0 _))
+  submit_fair : (n : ℕ) (readings : Readings) (k : ℕ) (t : TransferRequest) → Fair (submit_decided s n hs fs us readings k t)
+  unfolding submit_decided submit_of refused_submit settled_submit accepted_with refused_reply replied
+  submit_fair n readings k t =
+      settle_fair submit_came ((not (accepts_of s (lengths n (length hs) (length fs) (length us))), InvalidParameter) ∷ submit_checks s k t) _ _ refl
+      (λ r. refl) (result_fair _ refl (one_few 0 _))
 
-  writeback-fair : (n place token : ℕ) → Fair (came (writebackDecided s (lengths n (length hs) (length fs) (length us)) place token) hs fs us)
-  unfolding writebackDecided writebackOf refusedWriteback refusedReply replied
-  writeback-fair n place token =
-      settle-fair (λ (x : WrittenBack). came (writtenReply x) hs fs us) (writebackChecks s (lengths n (length hs) (length fs) (length us)) place) _ _ refl
-      (λ r. refl) (result-fair _ refl none-few)
+  writeback_fair : (n place token : ℕ) → Fair (came (writeback_decided s (lengths n (length hs) (length fs) (length us)) place token) hs fs us)
+  unfolding writeback_decided writeback_of refused_writeback refused_reply replied
+  writeback_fair n place token =
+      settle_fair (λ (x : WrittenBack). came (written_reply x) hs fs us) (writeback_checks s (lengths n (length hs) (length fs) (length us)) place) _ _ refl
+      (λ r. refl) (result_fair _ refl none_few)
 
   module _ (n : ℕ) (readings : Readings) (k id : ℕ) where
-    unlink-fair : (p : Pipe) (r : Request) → Fair (withSetups (cancelCame (unlinkOf s hs fs readings k p r)) us)
-    unfolding unlinkOf waitingOf refusedReply replied
-    unlink-fair p r =
-        settle-fair (λ (l : Left). withSetups (cancelCame l) us) ((isMissing (detachOf s hs fs k).predecessor, InvalidEndpoint) ∷ []) _ _ refl
-        (λ x. refl) (result-fair _ refl (bounded-few (bellOf s) p.kind readings))
+    unlink_fair : (p : Pipe) (r : Request) → Fair (with_setups (cancel_came (unlink_of s hs fs readings k p r)) us)
+    unfolding unlink_of waiting_of refused_reply replied
+    unlink_fair p r =
+        settle_fair (λ (l : Left). with_setups (cancel_came l) us) ((is_missing (detach_of s hs fs k).predecessor, InvalidEndpoint) ∷ []) _ _ refl
+        (λ x. refl) (result_fair _ refl (bounded_few (bell_of s) p.kind readings))
 
-    cancel-at : (x : Endpoint) → Fair (withSetups (cancelCame (cancelAt x s hs fs readings k)) us)
-    unfolding refusedReply replied
-    cancel-at Closed = refused-fair InvalidEndpoint refl
-    cancel-at (Idle p) = refused-fair InvalidEndpoint refl
-    cancel-at (Linked p r) = unlink-fair p (marked r)
-    cancel-at (Unlinking p r u) = result-fair _ refl none-few
+    cancel_at_lem : (x : Endpoint) → Fair (with_setups (cancel_came (cancel_at x s hs fs readings k)) us)
+    unfolding refused_reply replied
+    cancel_at_lem Closed = refused_fair InvalidEndpoint refl
+    cancel_at_lem (Idle p) = refused_fair InvalidEndpoint refl
+    cancel_at_lem (Linked p r) = unlink_fair p (marked r)
+    cancel_at_lem (Unlinking p r u) = result_fair _ refl none_few
 
-    cancel-fair : Fair (withSetups (cancelDecided s n hs fs (length us) readings k id) us)
-    unfolding cancelDecided cancelOf refusedReply replied
-    cancel-fair =
-        settle-fair (λ (l : Left). withSetups (cancelCame l) us) (cancelChecks s (lengths n (length hs) (length fs) (length us)) k id) _ _ refl
-        (λ x. refl) (cancel-at (endpointAt s k))
+    cancel_fair : Fair (with_setups (cancel_decided s n hs fs (length us) readings k id) us)
+    unfolding cancel_decided cancel_of refused_reply replied
+    cancel_fair =
+        settle_fair (λ (l : Left). with_setups (cancel_came l) us) (cancel_checks s (lengths n (length hs) (length fs) (length us)) k id) _ _ refl
+        (λ x. refl) (cancel_at_lem (endpoint_at s k))
 
-    gathers-fair : (p : Pipe) (r : Request) → Fair (withSetups (collectCame (pendingLeft (unlinkOf s hs fs readings k p r))) us)
-    unfolding unlinkOf waitingOf refusedReply replied
-    gathers-fair p r =
-        settle-fair (λ (l : Left). withSetups (collectCame (pendingLeft l)) us) ((isMissing (detachOf s hs fs k).predecessor, InvalidEndpoint) ∷ []) _ _ refl
-        (λ x. refl) (result-fair _ refl (bounded-few (bellOf s) p.kind readings))
+    gathers_fair : (p : Pipe) (r : Request) → Fair (with_setups (collect_came (pending_left (unlink_of s hs fs readings k p r))) us)
+    unfolding unlink_of waiting_of refused_reply replied
+    gathers_fair p r =
+        settle_fair (λ (l : Left). with_setups (collect_came (pending_left l)) us) ((is_missing (detach_of s hs fs k).predecessor, InvalidEndpoint) ∷ []) _ _ refl
+        (λ x. refl) (result_fair _ refl (bounded_few (bell_of s) p.kind readings))
 
-    linked-fair : (stage : ℕ) (p : Pipe) (r : Request) → Fair (withSetups (collectCame (linkedOf s hs fs readings stage k p r)) us)
-    unfolding linkedOf replied
-    linked-fair stage p r = by (eqb stage 2)
+    linked_fair : (stage : ℕ) (p : Pipe) (r : Request) → Fair (with_setups (collect_came (linked_of s hs fs readings stage k p r)) us)
+    unfolding linked_of replied
+    linked_fair stage p r = by (eqb stage 2)
       where
-        by : (b : Bool) → Fair (withSetups (collectCame (cond b (gathered (pendingCollect s) hs fs) (pendingLeft (unlinkOf s hs fs readings k p r)))) us)
-        by true = result-fair _ refl none-few
-        by false = gathers-fair p r
+        by : (b : Bool) → Fair (with_setups (collect_came (cond b (gathered (pending_collect s) hs fs) (pending_left (unlink_of s hs fs readings k p r)))) us)
+        by true = result_fair _ refl none_few
+        by false = gathers_fair p r
 
-    outcome-given : (c : Bool) (v : View) → is_refused (collectedAnswer (outcomeOf c v)) ≡ false
-    unfolding outcomeOf
-    outcome-given true v = refl
-    outcome-given false v = by (eqb v.failed 0)
+    outcome_given : (c : Bool) (v : View) → is_refused (collected_answer (outcome_of c v)) ≡ false
+    unfolding outcome_of
+    outcome_given true v = refl
+    outcome_given false v = by (eqb v.failed 0)
       where
-        by : (b : Bool) → is_refused (collectedAnswer (cond b (Complete v.retried v.moved) (FailedCollect v.failed))) ≡ false
+        by : (b : Bool) → is_refused (collected_answer (cond b (Complete v.retried v.moved) (FailedCollect v.failed))) ≡ false
         by true = refl
         by false = refl
 
-    unlinking-fair : (v : View) (p : Pipe) (r : Request) (u : UnlinkBoundary)
-        → Fair (withSetups (collectCame (gatheredFrames (unlinkingOf s hs readings.frame v k p r u) fs)) us)
-    unfolding unlinkingOf finishOf replied
-    unlinking-fair v p r u = by (passedBoundary u readings.frame)
+    unlinking_fair : (v : View) (p : Pipe) (r : Request) (u : UnlinkBoundary)
+        → Fair (with_setups (collect_came (gatheredFrames (unlinking_of s hs readings.frame v k p r u) fs)) us)
+    unfolding unlinking_of finish_of replied
+    unlinking_fair v p r u = by (passed_boundary u readings.frame)
       where
-        by : (b : Bool) → Fair (withSetups (collectCame (gatheredFrames (endIf b (ended (finishOf s v k p r) (endedOverlay hs k)) (ended (pendingCollect s) hs)) fs)) us)
-        by true = result-fair _ (outcome-given r.cancelled v) none-few
-        by false = result-fair _ refl none-few
+        by : (b : Bool) → Fair (with_setups (collect_came (gatheredFrames (end_if b (ended (finish_of s v k p r) (ended_overlay hs k)) (ended (pending_collect s) hs)) fs)) us)
+        by true = result_fair _ (outcome_given r.cancelled v) none_few
+        by false = result_fair _ refl none_few
 
-    collect-at : (v : View) (x : Endpoint) → Fair (withSetups (collectCame (collectAt x s hs fs readings v k)) us)
-    unfolding refusedReply replied
-    collect-at v Closed = refused-fair InvalidEndpoint refl
-    collect-at v (Idle p) = result-fair _ refl none-few
-    collect-at v (Linked p r) = linked-fair v.stage p r
-    collect-at v (Unlinking p r u) = unlinking-fair v (keeping readings p) r u
+    collect_at_lem : (v : View) (x : Endpoint) → Fair (with_setups (collect_came (collect_at x s hs fs readings v k)) us)
+    unfolding refused_reply replied
+    collect_at_lem v Closed = refused_fair InvalidEndpoint refl
+    collect_at_lem v (Idle p) = result_fair _ refl none_few
+    collect_at_lem v (Linked p r) = linked_fair v.stage p r
+    collect_at_lem v (Unlinking p r u) = unlinking_fair v (keeping readings p) r u
 
-    collect-fair : (v : View) → Fair (withSetups (collectDecided s n hs fs (length us) readings v k id) us)
-    unfolding collectDecided collectOf refusedReply replied
-    collect-fair v =
-        settle-fair (λ (g : Gathered). withSetups (collectCame g) us) (collectChecks s (lengths n (length hs) (length fs) (length us)) k id) _ _ refl
-        (λ x. refl) (collect-at v (endpointAt s k))
+    collect_fair : (v : View) → Fair (with_setups (collect_decided s n hs fs (length us) readings v k id) us)
+    unfolding collect_decided collect_of refused_reply replied
+    collect_fair v =
+        settle_fair (λ (g : Gathered). with_setups (collect_came g) us) (collect_checks s (lengths n (length hs) (length fs) (length us)) k id) _ _ refl
+        (λ x. refl) (collect_at_lem v (endpoint_at s k))
 
-    look_at : (v : View) (x : Endpoint) → Fair (withSetups (collectCame (lookAt x s hs fs readings v k)) us)
-    unfolding refusedReply replied
-    look_at v Closed = refused-fair InvalidEndpoint refl
-    look_at v (Idle p) = result-fair _ refl none-few
-    look_at v (Linked p r) = linked-fair v.stage p r
-    look_at v (Unlinking p r u) = by (passedBoundary u readings.frame)
+    look_at_lem : (v : View) (x : Endpoint) → Fair (with_setups (collect_came (look_at x s hs fs readings v k)) us)
+    unfolding refused_reply replied
+    look_at_lem v Closed = refused_fair InvalidEndpoint refl
+    look_at_lem v (Idle p) = result_fair _ refl none_few
+    look_at_lem v (Linked p r) = linked_fair v.stage p r
+    look_at_lem v (Unlinking p r u) = by (passed_boundary u readings.frame)
       where
-        by : (b : Bool) → Fair (withSetups (collectCame (gathered (cond b (passedCollect s) (pendingCollect s)) hs fs)) us)
-        by true = result-fair _ refl none-few
-        by false = result-fair _ refl none-few
+        by : (b : Bool) → Fair (with_setups (collect_came (gathered (cond b (passed_collect s) (pending_collect s)) hs fs)) us)
+        by true = result_fair _ refl none_few
+        by false = result_fair _ refl none_few
 
-    alone_at : (v : View) (x : Endpoint) → Fair (withFrames (aloneCame (aloneAt x s hs readings v k)) fs us)
-    unfolding refusedReply replied
-    alone_at v Closed = refused-fair InvalidEndpoint refl
-    alone_at v (Idle p) = result-fair _ refl none-few
-    alone_at v (Linked p r) = result-fair _ refl none-few
-    alone_at v (Unlinking p r u) = unlinking-fair v (keeping readings p) r u
+    alone_at_lem : (v : View) (x : Endpoint) → Fair (with_frames (alone_came (alone_at x s hs readings v k)) fs us)
+    unfolding refused_reply replied
+    alone_at_lem v Closed = refused_fair InvalidEndpoint refl
+    alone_at_lem v (Idle p) = result_fair _ refl none_few
+    alone_at_lem v (Linked p r) = result_fair _ refl none_few
+    alone_at_lem v (Unlinking p r u) = unlinking_fair v (keeping readings p) r u
 
-  look-fair : (n command frame : ℕ) (v : View) (k id : ℕ) → Fair (withSetups (lookDecided s n hs fs (length us) command frame v k id) us)
-  unfolding lookDecided look_of refusedReply replied
-  look-fair n command frame v k id =
-      settle-fair (λ (g : Gathered). withSetups (collectCame g) us) (collectChecks s (lengths n (length hs) (length fs) (length us)) k id) _ _ refl
-      (λ x. refl) (look_at n (lookReadings command frame) k id v (endpointAt s k))
+  look_fair : (n command frame : ℕ) (v : View) (k id : ℕ) → Fair (with_setups (look_decided s n hs fs (length us) command frame v k id) us)
+  unfolding look_decided look_of refused_reply replied
+  look_fair n command frame v k id =
+      settle_fair (λ (g : Gathered). with_setups (collect_came g) us) (collect_checks s (lengths n (length hs) (length fs) (length us)) k id) _ _ refl
+      (λ x. refl) (look_at_lem n (look_readings command frame) k id v (endpoint_at s k))
 
-  alone-fair : (n frame overlay : ℕ) (v : View) (k id : ℕ) → Fair (withFrames (aloneDecided s n hs (length fs) (length us) frame overlay v k id) fs us)
-  unfolding aloneDecided aloneOf refusedReply replied
-  alone-fair n frame overlay v k id =
-      settle-fair (λ (e : Ended). withFrames (aloneCame e) fs us) (aloneChecks s (lengths n (length hs) (length fs) (length us)) k id) _ _ refl
-      (λ x. refl) (alone_at n (aloneReadings frame overlay) k id v (endpointAt s k))
+  alone_fair : (n frame overlay : ℕ) (v : View) (k id : ℕ) → Fair (with_frames (alone_decided s n hs (length fs) (length us) frame overlay v k id) fs us)
+  unfolding alone_decided alone_of refused_reply replied
+  alone_fair n frame overlay v k id =
+      settle_fair (λ (e : Ended). with_frames (alone_came e) fs us) (alone_checks s (lengths n (length hs) (length fs) (length us)) k id) _ _ refl
+      (λ x. refl) (alone_at_lem n (alone_readings frame overlay) k id v (endpoint_at s k))
 
   -- ---- interrupts
 
-  acknowledge-fair : (x : InterruptReadings) → Fair (came (acknowledgeDecided s x) hs fs us)
-  unfolding acknowledgeDecided acknowledgeOf refusedReply replied
-  acknowledge-fair x =
-      settle-fair (λ (a : Acknowledgement). came (acknowledgeReply a) hs fs us) ((not (inRanges s), InvalidParameter) ∷ []) _ _ refl
-      (λ r. refl) (by (eqb (onlyBits x.status 0x37) 0))
+  acknowledge_fair : (x : InterruptReadings) → Fair (came (acknowledge_decided s x) hs fs us)
+  unfolding acknowledge_decided acknowledge_of refused_reply replied
+  acknowledge_fair x =
+      settle_fair (λ (a : Acknowledgement). came (acknowledge_reply a) hs fs us) ((not (in_ranges s), InvalidParameter) ∷ []) _ _ refl
+      (λ r. refl) (by (eqb (only_bits x.status 0x37) 0))
     where
-      by : (b : Bool) → Fair (came (acknowledgeReply (heardIf b s (onlyBits x.status 0x37) x.interrupts x.flag x.again)) hs fs us)
-      by true = result-fair _ refl none-few
-      by false = result-fair _ refl (acknowledged-few (onlyBits x.status 0x37) x.interrupts x.flag x.again)
+      by : (b : Bool) → Fair (came (acknowledge_reply (heard_if b s (only_bits x.status 0x37) x.interrupts x.flag x.again)) hs fs us)
+      by true = result_fair _ refl none_few
+      by false = result_fair _ refl (acknowledged_few (only_bits x.status 0x37) x.interrupts x.flag x.again)
 
-  event-given : (pending : ℕ) → is_refused (drainedAnswer (clearedOf pending).event) ≡ false
-  unfolding clearedOf
-  event-given pending = by (any_of pending 4) (any_of pending 0x23)
+  event_given : (pending : ℕ) → is_refused (drained_answer (cleared_of pending).event) ≡ false
+  unfolding cleared_of
+  event_given pending = by (any_of pending 4) (any_of pending 0x23)
     where
       by : (a b : Bool)
-          → is_refused (drainedAnswer (cond {A = Cleared} a (record { event = PortChange; left = withoutBits pending 4 })
-          (cond b (record { event = TransferActivity; left = withoutBits pending 0x23 }) (record { event = Stopped; left = 0 }))).event) ≡ false
+          → is_refused (drained_answer (cond {A = Cleared} a (record { event = PortChange; left = without_bits pending 4 })
+          (cond b (record { event = TransferActivity; left = without_bits pending 0x23 }) (record { event = Stopped; left = 0 }))).event) ≡ false
       by true b = refl
       by false true = refl
       by false false = refl
 
-  drain-fair : (command : ℕ) → Fair (came (drainDecided s command) hs fs us)
-  unfolding drainDecided drainOf refusedReply replied
-  drain-fair command =
-      settle-fair (λ (d : Drainage). came (drainReply d) hs fs us) ((not (inRanges s), InvalidParameter) ∷ []) _ _ refl
+  drain_fair : (command : ℕ) → Fair (came (drain_decided s command) hs fs us)
+  unfolding drain_decided drain_of refused_reply replied
+  drain_fair command =
+      settle_fair (λ (d : Drainage). came (drain_reply d) hs fs us) ((not (in_ranges s), InvalidParameter) ∷ []) _ _ refl
       (λ r. refl) (by (eqb s.pending 0))
     where
-      by : (b : Bool) → Fair (came (drainReply (drainIf b s (countedOf s command) (clearedOf s.pending))) hs fs us)
-      by true = result-fair _ refl none-few
-      by false = result-fair _ (event-given s.pending) (counted-few s command)
+      by : (b : Bool) → Fair (came (drain_reply (drain_if b s (counted_of s command) (cleared_of s.pending))) hs fs us)
+      by true = result_fair _ refl none_few
+      by false = result_fair _ (event_given s.pending) (counted_few s command)
 
-  settled-fair : (b : Bool) (x : Settled) → Fair (came (settledReply x) hs fs us) → Fair (came (settledReply (settledOr b s x)) hs fs us)
-  unfolding settledReply refusedReply replied
-  settled-fair true x f = refused-fair InvalidParameter refl
-  settled-fair false x f = f
+  settled_fair : (b : Bool) (x : Settled) → Fair (came (settled_reply x) hs fs us) → Fair (came (settled_reply (settled_or b s x)) hs fs us)
+  unfolding settled_reply refused_reply replied
+  settled_fair true x f = refused_fair InvalidParameter refl
+  settled_fair false x f = f
 
-  rearm-fair : Fair (came (settledReply (rearmOf s)) hs fs us)
-  unfolding rearmOf settledReply replied
-  rearm-fair = settled-fair (not (inRanges s)) (rearmIf (eqb s.masked 0) s) (by (eqb s.masked 0))
+  rearm_fair : Fair (came (settled_reply (rearm_of s)) hs fs us)
+  unfolding rearm_of settled_reply replied
+  rearm_fair = settled_fair (not (in_ranges s)) (rearm_if (eqb s.masked 0) s) (by (eqb s.masked 0))
     where
-      by : (b : Bool) → Fair (came (settledReply (rearmIf b s)) hs fs us)
-      by true = result-fair _ refl none-few
-      by false = result-fair _ refl (one-few 8 _)
+      by : (b : Bool) → Fair (came (settled_reply (rearm_if b s)) hs fs us)
+      by true = result_fair _ refl none_few
+      by false = result_fair _ refl (one_few 8 _)
 
-  enable-fair : Fair (came (settledReply (enableOf s)) hs fs us)
-  unfolding enableOf settledReply replied
-  enable-fair = settled-fair (not (inRanges s)) _ (result-fair _ refl (one-few 8 _))
+  enable_fair : Fair (came (settled_reply (enable_of s)) hs fs us)
+  unfolding enable_of settled_reply replied
+  enable_fair = settled_fair (not (in_ranges s)) _ (result_fair _ refl (one_few 8 _))
 
-  disable-fair : Fair (came (settledReply (disableOf s)) hs fs us)
-  unfolding disableOf settledReply replied
-  disable-fair = settled-fair (not (inRanges s)) _ (result-fair _ refl (one-few 8 _))
+  disable_fair : Fair (came (settled_reply (disable_of s)) hs fs us)
+  unfolding disable_of settled_reply replied
+  disable_fair = settled_fair (not (in_ranges s)) _ (result_fair _ refl (one_few 8 _))
 
   -- ---- any call
 
-  call-fair : (n : ℕ) (v : View) (call : Call) → Fair (call_of s n hs fs us v call)
-  call-fair n v StartBringUp = start-fair
-  call-fair n v (BringUpStep w) = step-fair w
-  call-fair n v AllocateAddress = allot-fair
-  call-fair n v (OpenEndpoint x) = open-fair n x
-  call-fair n v (Close k) = close-fair n k
-  call-fair n v (SetAddress k a) = address-fair n k a
-  call-fair n v (SetPacketSize k size) = packet-fair n k size
-  call-fair n v (Submit k t readings) = submit-fair n readings k t
-  call-fair n v (Writeback place token) = writeback-fair n place token
-  call-fair n v (Cancel k id readings) = cancel-fair n readings k id
-  call-fair n v (Collect k id readings) = collect-fair n readings k id v
-  call-fair n v (Acknowledge x) = acknowledge-fair x
-  call-fair n v (Drain w) = drain-fair w
-  call-fair n v Rearm = rearm-fair
-  call-fair n v Enable = enable-fair
-  call-fair n v Disable = disable-fair
-  call-fair n v (ClearHalt k) = clear-fair k
-  call-fair n v (Look k id command frame) = look-fair n command frame v k id
-  call-fair n v (CollectAlone k id frame overlay) = alone-fair n frame overlay v k id
+  call_fair : (n : ℕ) (v : View) (call : Call) → Fair (call_of s n hs fs us v call)
+  call_fair n v StartBringUp = start_fair
+  call_fair n v (BringUpStep w) = step_fair w
+  call_fair n v AllocateAddress = allot_fair
+  call_fair n v (OpenEndpoint x) = open_fair n x
+  call_fair n v (Close k) = close_fair n k
+  call_fair n v (SetAddress k a) = address_fair n k a
+  call_fair n v (SetPacketSize k size) = packet_fair n k size
+  call_fair n v (Submit k t readings) = submit_fair n readings k t
+  call_fair n v (Writeback place token) = writeback_fair n place token
+  call_fair n v (Cancel k id readings) = cancel_fair n readings k id
+  call_fair n v (Collect k id readings) = collect_fair n readings k id v
+  call_fair n v (Acknowledge x) = acknowledge_fair x
+  call_fair n v (Drain w) = drain_fair w
+  call_fair n v Rearm = rearm_fair
+  call_fair n v Enable = enable_fair
+  call_fair n v Disable = disable_fair
+  call_fair n v (ClearHalt k) = clear_fair k
+  call_fair n v (Look k id command frame) = look_fair n command frame v k id
+  call_fair n v (CollectAlone k id frame overlay) = alone_fair n frame overlay v k id
 
-  pub decided-fair : (n : ℕ) (v : View) (call : Call) → Fair (decideOf s n hs fs us v call)
-  unfolding decideOf
-  decided-fair n v call = by (rowsFit s.settings n (length hs) (length fs) (length us))
+  pub decided_fair : (n : ℕ) (v : View) (call : Call) → Fair (decide_of s n hs fs us v call)
+  unfolding decide_of
+  decided_fair n v call = by (rows_are_fit s.settings n (length hs) (length fs) (length us))
     where
-      by : (b : Bool) → Fair (fitting b (call_of s n hs fs us v call) (came (refusedReply s InvalidParameter) hs fs us))
-      by true = call-fair n v call
-      by false = refused-fair InvalidParameter refl
+      by : (b : Bool) → Fair (fitting b (call_of s n hs fs us v call) (came (refused_reply s InvalidParameter) hs fs us))
+      by true = call_fair n v call
+      by false = refused_fair InvalidParameter refl

@@ -1,78 +1,78 @@
 -- What `look` finds: whether the words are accepted, and what is asked of the pool.
 use Rattle.core.specs.Prelude.{◌≡◌, ℕ, Bool, true, false, not, ◌&&◌, List}
 use mathlib.Core.Path.{refl, sym, ap, subst, ◌∙◌}
-use Rattle.common.proofs.TestLaws.{false-true}
-use Rattle.pool.specs.Chains.{noAsk}
-use Rattle.pool.specs.Words.{AskWordsGood, noAskWords}
+use Rattle.common.proofs.TestLaws.{false_true}
+use Rattle.pool.specs.Chains.{no_ask}
+use Rattle.pool.specs.Words.{AskWordsGood, no_ask_words}
 use Rattle.pool.specs.declared.asked.AskWords.{AskWords}
-use Rattle.pool.proofs.WordLaws.{no-ask-words-good}
-use Rattle.settings.specs.Settings.{poolLength}
-use Rattle.opening.specs.Opening.{rowsFit}
+use Rattle.pool.proofs.WordLaws.{no_ask_words_good}
+use Rattle.settings.specs.Settings.{pool_length}
+use Rattle.opening.specs.Opening.{rows_are_fit}
 use Rattle.opening.proofs.OpenLaws.{rows_tell}
 use Rattle.words.specs.declared.core.Core.{Core}
 use Rattle.words.specs.Good.{Good}
 use Rattle.words.specs.View.{view}
-use Rattle.word_ranges.specs.Judge.{wordsGood}
-use Rattle.collection.specs.Asks.{askOf}
-use Rattle.collection.specs.Words.{askView}
+use Rattle.word_ranges.specs.Judge.{words_good}
+use Rattle.collection.specs.Asks.{ask_of}
+use Rattle.collection.specs.Words.{ask_view}
 use Rattle.ehci.specs.declared.call.Call.{Call}
-use Rattle.ehci.specs.Decides.{asksOf}
+use Rattle.ehci.specs.Decides.{asks_of}
 use Rattle.ehci.specs.WordsDecides.{AsksGood, LooksGood}
-use Rattle.ehci.specs.WordsDoor.{acceptsWords}
-use Rattle.ehci.proofs.DoorLaws.{accepts-judged}
+use Rattle.ehci.specs.WordsDoor.{accepts_words}
+use Rattle.ehci.proofs.DoorLaws.{accepts_judged}
 use Rattle.ehci.proofs.WordsCalls.{not-false, not-true}
-use Rattle.ehci.proofs.WordsChains.{no-ask-view}
+use Rattle.ehci.proofs.WordsChains.{no_ask_view}
 
-pub accepts-are : (c : Core) (ws : List ℕ) (pool heads frames setups : ℕ) (f g : Bool) → f ≡ rowsFit c.settings pool heads frames setups → g ≡ wordsGood c.settings c.rest ws
-    → (f && g) ≡ acceptsWords c ws pool heads frames setups
-unfolding acceptsWords
-accepts-are c ws pool heads frames setups f g ef eg = rw (ef, eg)
+pub accepts_are : (c : Core) (ws : List ℕ) (pool heads frames setups : ℕ) (f g : Bool) → f ≡ rows_are_fit c.settings pool heads frames setups → g ≡ words_good c.settings c.rest ws
+    → (f && g) ≡ accepts_words c ws pool heads frames setups
+unfolding accepts_words
+accepts_are c ws pool heads frames setups f g ef eg = rw (ef, eg)
 
 -- ---- what is asked
 
 module _ (c : Core) (ws : List ℕ) (good : Bool) (call : Call) (a : AskWords) where
-  pub asks-refused : not good ≡ true → a ≡ noAskWords → AsksGood c ws good call a
-  asks-refused h e =
+  pub asks_refused : not good ≡ true → a ≡ no_ask_words → AsksGood c ws good call a
+  asks_refused h e =
       record {
-        ask-is = λ yes. absurd (false-true (sym (not-true good h) ∙ yes));
-        ask-good = subst (λ (x : AskWords). AskWordsGood (poolLength c.settings) x) (sym e) (no-ask-words-good (poolLength c.settings));
-        none-asked = λ no. e;
+        ask_is = λ yes. absurd (false_true (sym (not-true good h) ∙ yes));
+        ask_good = subst (λ (x : AskWords). AskWordsGood (pool_length c.settings) x) (sym e) (no_ask_words_good (pool_length c.settings));
+        none_asked = λ no. e;
       }
 
-  pub asks_none : (k : Call) → call ≡ k → asksOf (view c ws) (poolLength c.settings) k ≡ noAsk → a ≡ noAskWords → AsksGood c ws good call a
+  pub asks_none : (k : Call) → call ≡ k → asks_of (view c ws) (pool_length c.settings) k ≡ no_ask → a ≡ no_ask_words → AsksGood c ws good call a
   asks_none k is none e =
       record {
-        ask-is = λ yes. ap askView e ∙ no-ask-view ∙ sym none ∙ ap (asksOf (view c ws) (poolLength c.settings)) (sym is);
-        ask-good = subst (λ (x : AskWords). AskWordsGood (poolLength c.settings) x) (sym e) (no-ask-words-good (poolLength c.settings));
-        none-asked = λ no. e;
+        ask_is = λ yes. ap ask_view e ∙ no_ask_view ∙ sym none ∙ ap (asks_of (view c ws) (pool_length c.settings)) (sym is);
+        ask_good = subst (λ (x : AskWords). AskWordsGood (pool_length c.settings) x) (sym e) (no_ask_words_good (pool_length c.settings));
+        none_asked = λ no. e;
       }
 
-  pub asks-slot : (k : ℕ) (asker : Call) → call ≡ asker → asksOf (view c ws) (poolLength c.settings) asker ≡ askOf (view c ws) (poolLength c.settings) k
-      → not good ≡ false → askView a ≡ askOf (view c ws) (poolLength c.settings) k → AskWordsGood (poolLength c.settings) a → AsksGood c ws good call a
-  asks-slot k asker is asks h e g =
+  pub asks_slot : (k : ℕ) (asker : Call) → call ≡ asker → asks_of (view c ws) (pool_length c.settings) asker ≡ ask_of (view c ws) (pool_length c.settings) k
+      → not good ≡ false → ask_view a ≡ ask_of (view c ws) (pool_length c.settings) k → AskWordsGood (pool_length c.settings) a → AsksGood c ws good call a
+  asks_slot k asker is asks h e g =
       record {
-        ask-is = λ yes. e ∙ sym asks ∙ ap (asksOf (view c ws) (poolLength c.settings)) (sym is);
-        ask-good = g;
-        none-asked = λ no. absurd (false-true (sym no ∙ not-false good h));
+        ask_is = λ yes. e ∙ sym asks ∙ ap (asks_of (view c ws) (pool_length c.settings)) (sym is);
+        ask_good = g;
+        none_asked = λ no. absurd (false_true (sym no ∙ not-false good h));
       }
 
 -- ---- both
 
-module _ (c : Core) (ws : List ℕ) (pool heads frames setups : ℕ) (g : Bool) (e : g ≡ acceptsWords c ws pool heads frames setups) where
-  pub may-ask : g ≡ true → Good c.settings c.rest ws
-  may-ask h = (accepts-judged c ws pool heads frames setups (sym e ∙ h)).words
+module _ (c : Core) (ws : List ℕ) (pool heads frames setups : ℕ) (g : Bool) (e : g ≡ accepts_words c ws pool heads frames setups) where
+  pub may_ask : g ≡ true → Good c.settings c.rest ws
+  may_ask h = (accepts_judged c ws pool heads frames setups (sym e ∙ h)).words
 
-  same-pool : g ≡ true → poolLength c.settings ≡ pool
-  same-pool h = sym (rows_tell c.settings pool heads frames setups (accepts-judged c ws pool heads frames setups (sym e ∙ h)).rows).pool-fits
+  same_pool : g ≡ true → pool_length c.settings ≡ pool
+  same_pool h = sym (rows_tell c.settings pool heads frames setups (accepts_judged c ws pool heads frames setups (sym e ∙ h)).rows).pool_fits_lem
 
   pub looks : (call : Call) (a : AskWords) → AsksGood c ws g call a → LooksGood c ws pool heads frames setups call (record { good = g; ask = a })
   looks call a asked =
       record {
-        good-is = e;
-        ask-is = λ yes. asked.ask-is yes ∙ ap (λ (n : ℕ). asksOf (view c ws) n call) (same-pool yes);
-        ask-good = by g refl;
+        good_is = e;
+        ask_is = λ yes. asked.ask_is yes ∙ ap (λ (n : ℕ). asks_of (view c ws) n call) (same_pool yes);
+        ask_good = by g refl;
       }
     where
       by : (b : Bool) → g ≡ b → AskWordsGood pool a
-      by true h = subst (λ (n : ℕ). AskWordsGood n a) (same-pool h) asked.ask-good
-      by false h = subst (λ (x : AskWords). AskWordsGood pool x) (sym (asked.none-asked h)) (no-ask-words-good pool)
+      by true h = subst (λ (n : ℕ). AskWordsGood n a) (same_pool h) asked.ask_good
+      by false h = subst (λ (x : AskWords). AskWordsGood pool x) (sym (asked.none_asked h)) (no_ask_words_good pool)

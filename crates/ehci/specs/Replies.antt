@@ -1,10 +1,10 @@
 -- Document 01, "Numbers a call answers", for any call: the number, what goes with it, and what a call's own result says.
 use Rattle.core.specs.Prelude.{ℕ, List, [], ◌∷◌}
-use Rattle.register.specs.Writes.{noWrites}
+use Rattle.register.specs.Writes.{no_writes}
 use Rattle.register.specs.declared.writes.Writes.{Writes}
-use Rattle.pool.specs.Chains.{noChain}
+use Rattle.pool.specs.Chains.{no_chain}
 use Rattle.state.specs.Plain.{Ehci}
-use Rattle.common.specs.Answers.{refusalNumber}
+use Rattle.common.specs.Answers.{refusal_number}
 use Rattle.common.specs.declared.answer.Answer.{Answer}
 use Rattle.common.specs.declared.answer.Answer.TheVariants as A
 use Rattle.common.specs.declared.answer.Refusal.{Refusal}
@@ -35,105 +35,105 @@ use Rattle.ehci.specs.declared.reply.Given.TheVariants as G
 
 -- ---- the number and the values of an answer
 
-abbrev pub answeredNumber : Answered → ℕ
-answeredNumber (Done given) = 0
-answeredNumber Pending = 9
-answeredNumber Cancelled = 10
-answeredNumber (Failed token) = 11
-answeredNumber (Refused r) = refusalNumber r
+abbrev pub answered_number : Answered → ℕ
+answered_number (Done given) = 0
+answered_number Pending = 9
+answered_number Cancelled = 10
+answered_number (Failed token) = 11
+answered_number (Refused r) = refusal_number r
 
-abbrev pub eventNumber : Event → ℕ
-eventNumber E.Nothing = 0
-eventNumber E.PortChange = 1
-eventNumber E.TransferActivity = 2
-eventNumber E.Stopped = 3
+abbrev pub event_number : Event → ℕ
+event_number E.Nothing = 0
+event_number E.PortChange = 1
+event_number E.TransferActivity = 2
+event_number E.Stopped = 3
 
 -- PortChange says port 0, TransferActivity a count of 1
-abbrev pub eventValue : Event → ℕ
-eventValue E.Nothing = 0
-eventValue E.PortChange = 0
-eventValue E.TransferActivity = 1
-eventValue E.Stopped = 0
+abbrev pub event_value : Event → ℕ
+event_value E.Nothing = 0
+event_value E.PortChange = 0
+event_value E.TransferActivity = 1
+event_value E.Stopped = 0
 
 -- a register to read, or none
-abbrev pub readValues : NextRead → List ℕ
-readValues N.Nothing = []
-readValues (N.Register offset) = offset ∷ []
+abbrev pub read_values : NextRead → List ℕ
+read_values N.Nothing = []
+read_values (N.Register offset) = offset ∷ []
 
-abbrev pub givenValues : Given → List ℕ
-givenValues G.Nothing = []
-givenValues (G.Slot k) = k ∷ []
-givenValues (G.Address a) = a ∷ []
-givenValues (G.Id id) = id ∷ []
-givenValues (G.Length retried n) = n ∷ retried ∷ []
-givenValues G.Passed = 0 ∷ []
-givenValues G.No = 0 ∷ []
-givenValues G.Yes = 1 ∷ []
-givenValues (G.Event e) = eventNumber e ∷ eventValue e ∷ []
-givenValues (G.Next read wait) = wait ∷ readValues read
+abbrev pub given_values : Given → List ℕ
+given_values G.Nothing = []
+given_values (G.Slot k) = k ∷ []
+given_values (G.Address a) = a ∷ []
+given_values (G.Id id) = id ∷ []
+given_values (G.Length retried n) = n ∷ retried ∷ []
+given_values G.Passed = 0 ∷ []
+given_values G.No = 0 ∷ []
+given_values G.Yes = 1 ∷ []
+given_values (G.Event e) = event_number e ∷ event_value e ∷ []
+given_values (G.Next read wait) = wait ∷ read_values read
 
 -- "collected complete, with its length"; "gives the raw token"
-abbrev pub answeredValues : Answered → List ℕ
-answeredValues (Done given) = givenValues given
-answeredValues Pending = []
-answeredValues Cancelled = []
-answeredValues (Failed token) = token ∷ []
-answeredValues (Refused r) = []
+abbrev pub answered_values : Answered → List ℕ
+answered_values (Done given) = given_values given
+answered_values Pending = []
+answered_values Cancelled = []
+answered_values (Failed token) = token ∷ []
+answered_values (Refused r) = []
 
 -- ---- what a call's own result says
 
 unfoldable pub replied : Ehci → Answered → Writes → Decided
-replied s a w = record { reply = record { state = s; answer = a; writes = w }; chain = noChain }
+replied s a w = record { reply = record { state = s; answer = a; writes = w }; chain = no_chain }
 
 abbrev pub simply : Answer → Answered
 simply A.Done = Done G.Nothing
 simply (A.Refused r) = Refused r
 
-unfoldable pub refusedReply : Ehci → Refusal → Decided
-refusedReply s r = replied s (Refused r) noWrites
+unfoldable pub refused_reply : Ehci → Refusal → Decided
+refused_reply s r = replied s (Refused r) no_writes
 
-unfoldable pub changedReply : Change → Decided
-changedReply c = replied c.state (simply c.answer) noWrites
+unfoldable pub changed_reply : Change → Decided
+changed_reply c = replied c.state (simply c.answer) no_writes
 
-abbrev pub openedAnswer : Opened → Answered
-openedAnswer (O.Slot k) = Done (G.Slot k)
-openedAnswer (O.Refused r) = Refused r
+abbrev pub opened_answer : Opened → Answered
+opened_answer (O.Slot k) = Done (G.Slot k)
+opened_answer (O.Refused r) = Refused r
 
-abbrev pub allottedAnswer : Allotted → Answered
-allottedAnswer (L.Address a) = Done (G.Address a)
-allottedAnswer (L.Refused r) = Refused r
+abbrev pub allotted_answer : Allotted → Answered
+allotted_answer (L.Address a) = Done (G.Address a)
+allotted_answer (L.Refused r) = Refused r
 
-abbrev pub submittedAnswer : Submission → Answered
-submittedAnswer (S.Accepted id) = Done (G.Id id)
-submittedAnswer (S.Refused r) = Refused r
+abbrev pub submitted_answer : Submission → Answered
+submitted_answer (S.Accepted id) = Done (G.Id id)
+submitted_answer (S.Refused r) = Refused r
 
-abbrev pub collectedAnswer : Collected → Answered
-collectedAnswer (C.Complete retried n) = Done (G.Length retried n)
-collectedAnswer C.Passed = Done G.Passed
-collectedAnswer C.Pending = Pending
-collectedAnswer C.Cancelled = Cancelled
-collectedAnswer (C.Failed token) = Failed token
-collectedAnswer (C.Refused r) = Refused r
+abbrev pub collected_answer : Collected → Answered
+collected_answer (C.Complete retried n) = Done (G.Length retried n)
+collected_answer C.Passed = Done G.Passed
+collected_answer C.Pending = Pending
+collected_answer C.Cancelled = Cancelled
+collected_answer (C.Failed token) = Failed token
+collected_answer (C.Refused r) = Refused r
 
-abbrev pub acknowledgedAnswer : Acknowledged → Answered
-acknowledgedAnswer K.No = Done G.No
-acknowledgedAnswer K.Yes = Done G.Yes
-acknowledgedAnswer (K.Refused r) = Refused r
+abbrev pub acknowledged_answer : Acknowledged → Answered
+acknowledged_answer K.No = Done G.No
+acknowledged_answer K.Yes = Done G.Yes
+acknowledged_answer (K.Refused r) = Refused r
 
-abbrev pub drainedAnswer : Drained → Answered
-drainedAnswer D.Nothing = Done (G.Event E.Nothing)
-drainedAnswer D.PortChange = Done (G.Event E.PortChange)
-drainedAnswer D.TransferActivity = Done (G.Event E.TransferActivity)
-drainedAnswer D.Stopped = Done (G.Event E.Stopped)
-drainedAnswer (D.Refused r) = Refused r
+abbrev pub drained_answer : Drained → Answered
+drained_answer D.Nothing = Done (G.Event E.Nothing)
+drained_answer D.PortChange = Done (G.Event E.PortChange)
+drained_answer D.TransferActivity = Done (G.Event E.TransferActivity)
+drained_answer D.Stopped = Done (G.Event E.Stopped)
+drained_answer (D.Refused r) = Refused r
 
-unfoldable pub settledReply : Settled → Decided
-settledReply x = replied x.state (simply x.answer) x.writes
+unfoldable pub settled_reply : Settled → Decided
+settled_reply x = replied x.state (simply x.answer) x.writes
 
 -- a start or a step: the register to read next, and the milliseconds before it
-abbrev pub broughtAnswer : Answer → NextRead → ℕ → Answered
-broughtAnswer A.Done read wait = Done (G.Next read wait)
-broughtAnswer (A.Refused r) read wait = Refused r
+abbrev pub brought_answer : Answer → NextRead → ℕ → Answered
+brought_answer A.Done read wait = Done (G.Next read wait)
+brought_answer (A.Refused r) read wait = Refused r
 
-unfoldable pub broughtReply : BroughtUp → Decided
-broughtReply b = replied b.state (broughtAnswer b.answer b.read b.wait) b.writes
+unfoldable pub brought_reply : BroughtUp → Decided
+brought_reply b = replied b.state (brought_answer b.answer b.read b.wait) b.writes

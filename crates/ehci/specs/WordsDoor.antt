@@ -4,40 +4,40 @@ use Rattle.core.specs.Prelude.{◌≡◌, ℕ, Bool, true, false, cond, ◌&&◌
 use Rattle.common.specs.declared.answer.Refusal.TheVariants.{InvalidParameter}
 use Rattle.descriptor.specs.declared.qtd.QueueTransferDescriptor.{QueueTransferDescriptor}
 use Rattle.settings.specs.declared.settings.Settings.{Settings}
-use Rattle.opening.specs.Opening.{rowsFit}
+use Rattle.opening.specs.Opening.{rows_are_fit}
 use Rattle.words.specs.declared.core.Core.{Core}
 use Rattle.words.specs.declared.core.Rest.{Rest}
 use Rattle.words.specs.Good.{Good, Tidy}
 use Rattle.words.specs.View.{state_of, view}
-use Rattle.word_ranges.specs.Judge.{wordsGood}
+use Rattle.word_ranges.specs.Judge.{words_good}
 use Rattle.ehci.specs.declared.call.Call.{Call}
 use Rattle.ehci.specs.Plain.{Reply}
 use Rattle.ehci.specs.declared.reply.Reply.{Reply as ReplyWords}
-use Rattle.ehci.specs.Door.{Applied, applied, applyOf}
-use Rattle.ehci.specs.Replies.{refusedReply}
+use Rattle.ehci.specs.Door.{Applied, applied, apply_of}
+use Rattle.ehci.specs.Replies.{refused_reply}
 
 -- what is left, as the state that the words stand for
-abbrev pub replyView : Settings → ReplyWords → List ℕ → Reply
-replyView s r ws = record { state = state_of s r.rest ws; answer = r.answer; writes = r.writes }
+abbrev pub reply_view : Settings → ReplyWords → List ℕ → Reply
+reply_view s r ws = record { state = state_of s r.rest ws; answer = r.answer; writes = r.writes }
 
 -- what every call asks first: the rows' lengths and the words' ranges
-unfoldable pub acceptsWords : Core → List ℕ → ℕ → ℕ → ℕ → ℕ → Bool
-acceptsWords c ws pool heads frames setups =
-    rowsFit c.settings pool heads frames setups && wordsGood c.settings c.rest ws
+unfoldable pub accepts_words : Core → List ℕ → ℕ → ℕ → ℕ → ℕ → Bool
+accepts_words c ws pool heads frames setups =
+    rows_are_fit c.settings pool heads frames setups && words_good c.settings c.rest ws
 
 -- what a call that is accepted may count on
 pub record Judged (c : Core) (ws : List ℕ) (pool heads frames setups : ℕ) : Type 0 where
   pub words : Good c.settings c.rest ws
-  pub rows : rowsFit c.settings pool heads frames setups ≡ true
+  pub rows : rows_are_fit c.settings pool heads frames setups ≡ true
 
 -- the words after a call: tidy where they were accepted, else as they were
 pub record WordsAfter (good : Bool) (c : Core) (ws : List ℕ) (rest : Rest) (ws' : List ℕ) : Type 0 where
   pub tidy : good ≡ true → Tidy c.settings rest ws'
-  pub rest-stays : good ≡ false → rest ≡ c.rest
+  pub rest_stays : good ≡ false → rest ≡ c.rest
   pub row_stays : good ≡ false → ws' ≡ ws
 
-unfoldable pub applyWords : Core → List ℕ → List QueueTransferDescriptor → List ℕ → List ℕ → List ℕ → Call → Applied
-applyWords c ws pool heads frames setups call =
-    cond (acceptsWords c ws (length pool) (length heads) (length frames) (length setups))
-    (applyOf (view c ws) pool heads frames setups call)
-    (applied (refusedReply (view c ws) InvalidParameter).reply pool heads frames setups)
+unfoldable pub apply_words : Core → List ℕ → List QueueTransferDescriptor → List ℕ → List ℕ → List ℕ → Call → Applied
+apply_words c ws pool heads frames setups call =
+    cond (accepts_words c ws (length pool) (length heads) (length frames) (length setups))
+    (apply_of (view c ws) pool heads frames setups call)
+    (applied (refused_reply (view c ws) InvalidParameter).reply pool heads frames setups)

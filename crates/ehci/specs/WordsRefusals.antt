@@ -5,15 +5,15 @@ use Rattle.descriptor.specs.declared.qtd.QueueTransferDescriptor.{QueueTransferD
 use Rattle.words.specs.declared.core.Core.{Core}
 use Rattle.words.specs.View.{view}
 use Rattle.ehci.specs.declared.call.Call.{Call}
-use Rattle.ehci.specs.Door.{applyOf}
-use Rattle.ehci.specs.Refusals.{refusedWorld}
-use Rattle.ehci.specs.WordsDoor.{acceptsWords, applyWords}
+use Rattle.ehci.specs.Door.{apply_of}
+use Rattle.ehci.specs.Refusals.{refused_world}
+use Rattle.ehci.specs.WordsDoor.{accepts_words, apply_words}
 
 pub record ByRange (c : Core) (ws : List ℕ) (pool : List QueueTransferDescriptor) (heads frames setups : List ℕ) (call : Call) : Type 0 where
-  pub accepted : acceptsWords c ws (length pool) (length heads) (length frames) (length setups) ≡ true
-      → applyWords c ws pool heads frames setups call ≡ applyOf (view c ws) pool heads frames setups call
-  pub refused : acceptsWords c ws (length pool) (length heads) (length frames) (length setups) ≡ false
-      → applyWords c ws pool heads frames setups call ≡ refusedWorld (view c ws) pool heads frames setups InvalidParameter
+  pub accepted : accepts_words c ws (length pool) (length heads) (length frames) (length setups) ≡ true
+      → apply_words c ws pool heads frames setups call ≡ apply_of (view c ws) pool heads frames setups call
+  pub refused : accepts_words c ws (length pool) (length heads) (length frames) (length setups) ≡ false
+      → apply_words c ws pool heads frames setups call ≡ refused_world (view c ws) pool heads frames setups InvalidParameter
 
 abbrev pub RefusalsByRange : Type 0
 RefusalsByRange =

@@ -1,14 +1,14 @@
 // What a call decides on a state in words. It never sees the pool's records: what they say comes in, what is written to them goes out.
 ghost use Rattle.core.specs.Prelude.{◌≡◌, ℕ, ◌+◌, ◌*◌, true, List, length};
-ghost use Rattle.state.specs.Ranges.{inRanges};
-ghost use Rattle.opening.specs.Opening.{rowsFit};
-ghost use Rattle.controller.specs.Lent.{acceptsOf};
+ghost use Rattle.state.specs.Ranges.{in_ranges};
+ghost use Rattle.opening.specs.Opening.{rows_are_fit};
+ghost use Rattle.controller.specs.Lent.{accepts_of};
 ghost use Rattle.controller.specs.Plain.{Lengths};
-ghost use Rattle.settings.specs.Settings.{poolLength};
+ghost use Rattle.settings.specs.Settings.{pool_length};
 ghost use Rattle.words.specs.Good.{Good, Tidy};
 ghost use Rattle.words.specs.View.{view};
-ghost use Rattle.ehci.specs.Decides.{acknowledgeDecided, allotDecided, aloneDecided, came, cancelDecided, collectDecided, drainDecided, headsCame, linksCame, lookDecided, openDecided, submitDecided, writebackDecided};
-ghost use Rattle.ehci.specs.WordsDecides.{Keeps, Tidies, Writable, decideWords, decidedView};
+ghost use Rattle.ehci.specs.Decides.{acknowledge_decided, allot_decided, alone_decided, came, cancel_decided, collect_decided, drain_decided, heads_came, links_came, look_decided, open_decided, submit_decided, writeback_decided};
+ghost use Rattle.ehci.specs.WordsDecides.{Keeps, Tidies, Writable, decide_words, decided_view};
 ghost use Rattle.ehci.specs.WordsDoor.{Judged, WordsAfter};
 
 use crate::call::{Call, EndpointFields, InterruptReadings};
@@ -33,7 +33,7 @@ use request::writeback::writeback;
 use words::core::Core;
 
 fn on_allocate(core: Core) -> Decided
-    ensures by_index { (ws : List ℕ) → inRanges (view core ws) ≡ true → decidedView core.settings result ws ≡ allotDecided (view core ws) }
+    ensures by_index { (ws : List ℕ) → in_ranges (view core ws) ≡ true → decided_view core.settings result ws ≡ allot_decided (view core ws) }
     ensures keeps { Keeps core result }
 {
     let a = allocate_address(core);
@@ -45,9 +45,9 @@ fn on_allocate(core: Core) -> Decided
 fn on_open(core: Core, slots: &mut [u64], heads: &mut [u32], fields: EndpointFields) -> Decided
     requires good { Good core.settings core.rest slots.old }
     requires heads_len { length heads.old ≡ 17 * (core.settings.endpoints + 1) }
-    ensures by_index { (pool frames setups : ℕ) → rowsFit core.settings pool (length heads.old) frames setups ≡ true
-        → headsCame (decidedView core.settings result slots.new) heads.new
-        ≡ openDecided (view core slots.old) pool heads.old frames setups fields }
+    ensures by_index { (pool frames setups : ℕ) → rows_are_fit core.settings pool (length heads.old) frames setups ≡ true
+        → heads_came (decided_view core.settings result slots.new) heads.new
+        ≡ open_decided (view core slots.old) pool heads.old frames setups fields }
     ensures tidies { Tidies core result slots.new }
 {
     let kind = fields.kind;
@@ -77,11 +77,11 @@ fn on_submit(
 ) -> Decided
     requires good { Good core.settings core.rest slots.old }
     requires heads_len { (length heads.old ≡ 17 * (core.settings.endpoints + 1)) × (length frames.old ≡ 1024) × (length setups.old ≡ 8 * core.settings.endpoints) }
-    ensures by_index { (pool : ℕ) → rowsFit core.settings pool (length heads.old) (length frames.old) (length setups.old) ≡ true
-        → came (decidedView core.settings result slots.new) heads.new frames.new setups.new
-        ≡ submitDecided (view core slots.old) pool heads.old frames.old setups.old readings slot request }
+    ensures by_index { (pool : ℕ) → rows_are_fit core.settings pool (length heads.old) (length frames.old) (length setups.old) ≡ true
+        → came (decided_view core.settings result slots.new) heads.new frames.new setups.new
+        ≡ submit_decided (view core slots.old) pool heads.old frames.old setups.old readings slot request }
     ensures tidy { Tidy core.settings result.reply.rest slots.new }
-    ensures writable { Writable (poolLength core.settings) result.writing }
+    ensures writable { Writable (pool_length core.settings) result.writing }
 {
     let x = submit(core, slots, heads, frames, setups, readings, slot, request);
     let answer = x.answer;
@@ -99,10 +99,10 @@ fn on_submit(
 }
 
 fn on_writeback(core: Core, place: u64, token: u32) -> Decided
-    ensures by_index { (ws : List ℕ) → Good core.settings core.rest ws → (lent : Lengths) → acceptsOf (view core ws) lent ≡ true
-        → decidedView core.settings result ws ≡ writebackDecided (view core ws) lent place token }
+    ensures by_index { (ws : List ℕ) → Good core.settings core.rest ws → (lent : Lengths) → accepts_of (view core ws) lent ≡ true
+        → decided_view core.settings result ws ≡ writeback_decided (view core ws) lent place token }
     ensures rest_value { result.reply.rest ≡ core.rest }
-    ensures writable { Writable (poolLength core.settings) result.writing }
+    ensures writable { Writable (pool_length core.settings) result.writing }
 {
     let x = writeback(core, place, token);
     let answer = x.answer;
@@ -129,9 +129,9 @@ fn on_cancel(
 ) -> Decided
     requires good { Good core.settings core.rest slots.old }
     requires heads_len { (length heads.old ≡ 17 * (core.settings.endpoints + 1)) × (length frames.old ≡ 1024) }
-    ensures by_index { (pool setups : ℕ) → rowsFit core.settings pool (length heads.old) (length frames.old) setups ≡ true
-        → linksCame (decidedView core.settings result slots.new) heads.new frames.new
-        ≡ cancelDecided (view core slots.old) pool heads.old frames.old setups readings slot id }
+    ensures by_index { (pool setups : ℕ) → rows_are_fit core.settings pool (length heads.old) (length frames.old) setups ≡ true
+        → links_came (decided_view core.settings result slots.new) heads.new frames.new
+        ≡ cancel_decided (view core slots.old) pool heads.old frames.old setups readings slot id }
     ensures tidies { Tidies core result slots.new }
 {
     let x = cancel(core, slots, heads, frames, readings, slot, id);
@@ -153,9 +153,9 @@ fn on_collect(
 ) -> Decided
     requires good { Good core.settings core.rest slots.old }
     requires heads_len { (length heads.old ≡ 17 * (core.settings.endpoints + 1)) × (length frames.old ≡ 1024) }
-    ensures by_index { (pool setups : ℕ) → rowsFit core.settings pool (length heads.old) (length frames.old) setups ≡ true
-        → linksCame (decidedView core.settings result slots.new) heads.new frames.new
-        ≡ collectDecided (view core slots.old) pool heads.old frames.old setups readings seen slot id }
+    ensures by_index { (pool setups : ℕ) → rows_are_fit core.settings pool (length heads.old) (length frames.old) setups ≡ true
+        → links_came (decided_view core.settings result slots.new) heads.new frames.new
+        ≡ collect_decided (view core slots.old) pool heads.old frames.old setups readings seen slot id }
     ensures tidies { Tidies core result slots.new }
 {
     let x = collect(core, slots, heads, frames, readings, seen, slot, id);
@@ -178,9 +178,9 @@ fn on_look(
 ) -> Decided
     requires good { Good core.settings core.rest slots.old }
     requires heads_len { (length heads.old ≡ 17 * (core.settings.endpoints + 1)) × (length frames.old ≡ 1024) }
-    ensures by_index { (pool setups : ℕ) → rowsFit core.settings pool (length heads.old) (length frames.old) setups ≡ true
-        → linksCame (decidedView core.settings result slots.new) heads.new frames.new
-        ≡ lookDecided (view core slots.old) pool heads.old frames.old setups command frame seen slot id }
+    ensures by_index { (pool setups : ℕ) → rows_are_fit core.settings pool (length heads.old) (length frames.old) setups ≡ true
+        → links_came (decided_view core.settings result slots.new) heads.new frames.new
+        ≡ look_decided (view core slots.old) pool heads.old frames.old setups command frame seen slot id }
     ensures tidies { Tidies core result slots.new }
 {
     let readings = Readings {
@@ -207,9 +207,9 @@ fn on_collect_alone(
 ) -> Decided
     requires good { Good core.settings core.rest slots.old }
     requires heads_len { length heads.old ≡ 17 * (core.settings.endpoints + 1) }
-    ensures by_index { (pool frames setups : ℕ) → rowsFit core.settings pool (length heads.old) frames setups ≡ true
-        → headsCame (decidedView core.settings result slots.new) heads.new
-        ≡ aloneDecided (view core slots.old) pool heads.old frames setups frame overlay seen slot id }
+    ensures by_index { (pool frames setups : ℕ) → rows_are_fit core.settings pool (length heads.old) frames setups ≡ true
+        → heads_came (decided_view core.settings result slots.new) heads.new
+        ≡ alone_decided (view core slots.old) pool heads.old frames setups frame overlay seen slot id }
     ensures tidies { Tidies core result slots.new }
 {
     let readings = Readings {
@@ -225,7 +225,7 @@ fn on_collect_alone(
 }
 
 fn on_acknowledge(core: Core, readings: InterruptReadings) -> Decided
-    ensures by_index { (ws : List ℕ) → inRanges (view core ws) ≡ true → decidedView core.settings result ws ≡ acknowledgeDecided (view core ws) readings }
+    ensures by_index { (ws : List ℕ) → in_ranges (view core ws) ≡ true → decided_view core.settings result ws ≡ acknowledge_decided (view core ws) readings }
     ensures keeps { Keeps core result }
 {
     let x = acknowledge(
@@ -243,7 +243,7 @@ fn on_acknowledge(core: Core, readings: InterruptReadings) -> Decided
 
 fn on_drain(core: Core, slots: &mut [u64], command: u32) -> Decided
     requires { Good core.settings core.rest slots.old }
-    ensures slots_after { decidedView core.settings result slots.new ≡ drainDecided (view core slots.old) command }
+    ensures slots_after { decided_view core.settings result slots.new ≡ drain_decided (view core slots.old) command }
     ensures tidies { Tidies core result slots.new }
 {
     let x = drain(core, slots, command);
@@ -266,8 +266,8 @@ pub fn decide(
     call: Call,
 ) -> Decided
     requires { good ≡ true → Judged core slots.old records (length heads.old) (length frames.old) (length setups.old) }
-    ensures setups_after { came (decidedView core.settings result slots.new) heads.new frames.new setups.new
-        ≡ decideWords core slots.old good records heads.old frames.old setups.old seen call }
+    ensures setups_after { came (decided_view core.settings result slots.new) heads.new frames.new setups.new
+        ≡ decide_words core slots.old good records heads.old frames.old setups.old seen call }
     ensures words_after { WordsAfter good core slots.old result.reply.rest slots.new }
     ensures writable { Writable records result.writing }
 {

@@ -1,7 +1,7 @@
 // The one door: any call, over the core by value and the five lent rows.
 ghost use Rattle.core.specs.Prelude.{◌≡◌, length};
 ghost use Rattle.ehci.specs.Door.{applied};
-ghost use Rattle.ehci.specs.WordsDoor.{WordsAfter, acceptsWords, applyWords, replyView};
+ghost use Rattle.ehci.specs.WordsDoor.{WordsAfter, accepts_words, apply_words, reply_view};
 
 use crate::call::Call;
 use crate::decide::decide;
@@ -45,9 +45,9 @@ pub fn apply(
     setups: &mut [u8],
     call: Call,
 ) -> Reply
-    ensures setups_after { applied (replyView core.settings result slots.new) rows.new heads.new frames.new setups.new
-        ≡ applyWords core slots.old rows.old heads.old frames.old setups.old call }
-    ensures words_after { WordsAfter (acceptsWords core slots.old (length rows.old) (length heads.old) (length frames.old) (length setups.old))
+    ensures setups_after { applied (reply_view core.settings result slots.new) rows.new heads.new frames.new setups.new
+        ≡ apply_words core slots.old rows.old heads.old frames.old setups.old call }
+    ensures words_after { WordsAfter (accepts_words core slots.old (length rows.old) (length heads.old) (length frames.old) (length setups.old))
         core slots.old result.rest slots.new }
 {
     let looked = look(

@@ -2,7 +2,7 @@
 ghost use Rattle.core.specs.Prelude.{◌≡◌, true};
 ghost use Rattle.words.specs.Good.{Good};
 ghost use Rattle.ehci.specs.WordsDecides.{AsksGood, LooksGood};
-ghost use Rattle.ehci.specs.WordsDoor.{acceptsWords};
+ghost use Rattle.ehci.specs.WordsDoor.{accepts_words};
 
 use crate::call::Call;
 use collection::ask::ask;
@@ -27,7 +27,7 @@ pub struct Lent {
 }
 
 fn accepts(core: Core, slots: &[u64], lent: Lent) -> bool
-    ensures { result ≡ acceptsWords core slots.now lent.pool lent.heads lent.frames lent.setups }
+    ensures { result ≡ accepts_words core slots.now lent.pool lent.heads lent.frames lent.setups }
 {
     let fit = rows_fit(
         core.settings,

@@ -1,7 +1,7 @@
 // What any call answers and leaves, and what is then written to the pool.
 ghost use Rattle.core.specs.Prelude.{◌≡◌};
-ghost use Rattle.ehci.specs.WordsDecides.{repliedWords, refusedReplyWords, changedWords, settledWords, broughtWords, laidOnly, markedOnly};
-ghost use Rattle.ehci.specs.Replies.{answeredNumber, eventNumber, simply, openedAnswer, allottedAnswer, submittedAnswer, collectedAnswer, acknowledgedAnswer, drainedAnswer, broughtAnswer};
+ghost use Rattle.ehci.specs.WordsDecides.{replied_words, refused_reply_words, changed_words, settled_words, brought_words, laid_only, marked_only};
+ghost use Rattle.ehci.specs.Replies.{answered_number, event_number, simply, opened_answer, allotted_answer, submitted_answer, collected_answer, acknowledged_answer, drained_answer, brought_answer};
 
 use bring_up::answers::BroughtUp;
 use collection::collected::Collected;
@@ -55,7 +55,7 @@ pub enum Answered {
 
 impl Answered {
     pub fn number(self) -> u8
-        ensures { result ≡ answeredNumber self }
+        ensures { result ≡ answered_number self }
     {
         match self {
             Answered::Done(_) => 0,
@@ -83,7 +83,7 @@ pub struct Decided {
 
 // The number of a drain's event.
 pub fn event_number(event: Event) -> u64
-    ensures { result ≡ eventNumber event }
+    ensures { result ≡ event_number event }
 {
     match event {
         Event::Nothing => 0,
@@ -103,7 +103,7 @@ pub fn simple(answer: Answer) -> Answered
 }
 
 pub fn opened_answer(answer: Opened) -> Answered
-    ensures { result ≡ openedAnswer answer }
+    ensures { result ≡ opened_answer answer }
 {
     match answer {
         Opened::Slot(slot) => Answered::Done(Given::Slot(slot)),
@@ -112,7 +112,7 @@ pub fn opened_answer(answer: Opened) -> Answered
 }
 
 pub fn allotted_answer(answer: Allotted) -> Answered
-    ensures { result ≡ allottedAnswer answer }
+    ensures { result ≡ allotted_answer answer }
 {
     match answer {
         Allotted::Address(address) => Answered::Done(Given::Address(address)),
@@ -121,7 +121,7 @@ pub fn allotted_answer(answer: Allotted) -> Answered
 }
 
 pub fn submitted_answer(answer: Submission) -> Answered
-    ensures { result ≡ submittedAnswer answer }
+    ensures { result ≡ submitted_answer answer }
 {
     match answer {
         Submission::Accepted(id) => Answered::Done(Given::Id(id)),
@@ -130,7 +130,7 @@ pub fn submitted_answer(answer: Submission) -> Answered
 }
 
 pub fn collected_answer(answer: Collected) -> Answered
-    ensures { result ≡ collectedAnswer answer }
+    ensures { result ≡ collected_answer answer }
 {
     match answer {
         Collected::Complete(retried, length) => Answered::Done(Given::Length(retried, length)),
@@ -143,7 +143,7 @@ pub fn collected_answer(answer: Collected) -> Answered
 }
 
 pub fn acknowledged_answer(answer: Acknowledged) -> Answered
-    ensures { result ≡ acknowledgedAnswer answer }
+    ensures { result ≡ acknowledged_answer answer }
 {
     match answer {
         Acknowledged::No => Answered::Done(Given::No),
@@ -153,7 +153,7 @@ pub fn acknowledged_answer(answer: Acknowledged) -> Answered
 }
 
 pub fn drained_answer(answer: Drained) -> Answered
-    ensures { result ≡ drainedAnswer answer }
+    ensures { result ≡ drained_answer answer }
 {
     match answer {
         Drained::Nothing => Answered::Done(Given::Event(Event::Nothing)),
@@ -165,7 +165,7 @@ pub fn drained_answer(answer: Drained) -> Answered
 }
 
 pub fn brought_answer(answer: Answer, read: NextRead, wait: u32) -> Answered
-    ensures { result ≡ broughtAnswer answer read wait }
+    ensures { result ≡ brought_answer answer read wait }
 {
     match answer {
         Answer::Done => Answered::Done(Given::Next(read, wait)),
@@ -175,7 +175,7 @@ pub fn brought_answer(answer: Answer, read: NextRead, wait: u32) -> Answered
 
 // A transfer's records are written, and no token.
 pub fn laid(laying: Laying) -> Writing
-    ensures { result ≡ laidOnly laying }
+    ensures { result ≡ laid_only laying }
 {
     Writing {
         laying,
@@ -185,7 +185,7 @@ pub fn laid(laying: Laying) -> Writing
 
 // A token is written, and no transfer's records.
 pub fn marked(marking: Marking) -> Writing
-    ensures { result ≡ markedOnly marking }
+    ensures { result ≡ marked_only marking }
 {
     Writing {
         laying: no_laying(),
@@ -195,7 +195,7 @@ pub fn marked(marking: Marking) -> Writing
 
 // Nothing of the pool is written.
 pub fn leave(rest: Rest, answer: Answered, writes: Writes) -> Decided
-    ensures { result ≡ repliedWords rest answer writes }
+    ensures { result ≡ replied_words rest answer writes }
 {
     Decided {
         reply: Reply {
@@ -208,13 +208,13 @@ pub fn leave(rest: Rest, answer: Answered, writes: Writes) -> Decided
 }
 
 pub fn refused(rest: Rest, refusal: Refusal) -> Decided
-    ensures { result ≡ refusedReplyWords rest refusal }
+    ensures { result ≡ refused_reply_words rest refusal }
 {
     leave(rest, Answered::Refused(refusal), Writes::none())
 }
 
 pub fn of_change(c: Change) -> Decided
-    ensures { result ≡ changedWords c }
+    ensures { result ≡ changed_words c }
 {
     let answer = c.answer;
     let rest = c.rest;
@@ -222,7 +222,7 @@ pub fn of_change(c: Change) -> Decided
 }
 
 pub fn of_settled(x: Settled) -> Decided
-    ensures { result ≡ settledWords x }
+    ensures { result ≡ settled_words x }
 {
     let answer = x.answer;
     let rest = x.rest;
@@ -231,7 +231,7 @@ pub fn of_settled(x: Settled) -> Decided
 }
 
 pub fn of_brought_up(b: BroughtUp) -> Decided
-    ensures { result ≡ broughtWords b }
+    ensures { result ≡ brought_words b }
 {
     let answer = b.answer;
     let rest = b.rest;

@@ -1,41 +1,41 @@
 -- The world of the example is as it says: by computing.
 use Rattle.core.specs.Prelude.{◌≡◌, true, false}
 use mathlib.Core.Path.{refl}
-use Rattle.register.specs.Bits.{onlyBits, withoutBits}
-use Rattle.bitset.specs.Places.{all_below, noneIn}
-use Rattle.bitset.specs.Words.{onesBelow}
-use Rattle.settings.specs.Settings.{apartAreas, areaGood, eachGood, noOverlap, numbersGood, settingsGood}
-use Rattle.state.specs.Ranges.{doorbellGood, interruptGood, machineGood}
-use Rattle.opening.specs.Opening.{rowsFit}
-use Rattle.words.specs.Opened.{openedRest, openedRow}
+use Rattle.register.specs.Bits.{only_bits, without_bits}
+use Rattle.bitset.specs.Places.{all_below, none_in}
+use Rattle.bitset.specs.Words.{ones_below}
+use Rattle.settings.specs.Settings.{apart_areas, area_good, each_good, no_overlap, numbers_good, settings_good}
+use Rattle.state.specs.Ranges.{doorbell_good, interrupt_good, machine_good}
+use Rattle.opening.specs.Opening.{rows_are_fit}
+use Rattle.words.specs.Opened.{opened_rest, opened_row}
 use Rattle.words.specs.View.{state_of}
-use Rattle.word_ranges.specs.Bounds.{bounds_of, sizeRight, wordGood}
-use Rattle.word_ranges.specs.Judge.{coreGood, scalarsGood, slotsGood, wordsGood}
-use Rattle.word_ranges.specs.Seen.{allMet, heldGood, seeOf, seenFrom}
-use Rattle.direct_calls.specs.Shapes.{takesCore}
-use Rattle.ehci.specs.Replies.{refusedReply, replied}
-use Rattle.ehci.specs.WordsDoor.{acceptsWords, applyWords}
-use Rattle.ehci_calls.specs.Example.{Differ, accepts, damaged, openedCore}
-use Rattle.ehci_calls.proofs.UnjudgedLaws.{acknowledge-unjudged}
+use Rattle.word_ranges.specs.Bounds.{bounds_of, size_right, word_good}
+use Rattle.word_ranges.specs.Judge.{core_good, scalars_good, slots_good, words_good}
+use Rattle.word_ranges.specs.Seen.{all_met, held_good, see_of, seen_from}
+use Rattle.direct_calls.specs.Shapes.{takes_core}
+use Rattle.ehci.specs.Replies.{refused_reply, replied}
+use Rattle.ehci.specs.WordsDoor.{accepts_words, apply_words}
+use Rattle.ehci_calls.specs.Example.{Differ, accepts, damaged, opened_core}
+use Rattle.ehci_calls.proofs.UnjudgedLaws.{acknowledge_unjudged}
 
-core-good : takesCore openedCore ≡ true
-unfolding coreGood scalarsGood settingsGood numbersGood eachGood noOverlap areaGood apartAreas machineGood interruptGood doorbellGood state_of openedRest withoutBits
-core-good = refl
+core_good_lem : takes_core opened_core ≡ true
+unfolding core_good scalars_good settings_good numbers_good each_good no_overlap area_good apart_areas machine_good interrupt_good doorbell_good state_of opened_rest without_bits
+core_good_lem = refl
 
-row-accepted : accepts (openedRow 1) ≡ true
-unfolding acceptsWords rowsFit wordsGood slotsGood allMet seenFrom seeOf heldGood wordGood sizeRight bounds_of all_below noneIn onesBelow openedRest
-row-accepted = rw core-good
+row_accepted : accepts (opened_row 1) ≡ true
+unfolding accepts_words rows_are_fit words_good slots_good all_met seen_from see_of held_good word_good size_right bounds_of all_below none_in ones_below opened_rest
+row_accepted = rw core_good_lem
 
-row-refused : accepts damaged ≡ false
-unfolding acceptsWords rowsFit wordsGood slotsGood allMet seenFrom seeOf heldGood wordGood sizeRight bounds_of all_below noneIn onesBelow openedRest
-row-refused = rw core-good
+row_refused : accepts damaged ≡ false
+unfolding accepts_words rows_are_fit words_good slots_good all_met seen_from see_of held_good word_good size_right bounds_of all_below none_in ones_below opened_rest
+row_refused = rw core_good_lem
 
 pub differ : Differ
-unfolding applyWords refusedReply replied onlyBits
+unfolding apply_words refused_reply replied only_bits
 differ =
     record {
-      accepted = row-accepted;
-      refused = row-refused;
-      door-answers-1 = rw row-refused;
-      call-answers-yes = λ r does. acknowledge-unjudged openedCore core-good r 1 0 true true does refl;
+      accepted = row_accepted;
+      refused = row_refused;
+      door_answers_1 = rw row_refused;
+      call_answers_yes = λ r does. acknowledge_unjudged opened_core core_good_lem r 1 0 true true does refl;
     }

@@ -4,20 +4,20 @@ use Rattle.common.specs.declared.answer.Refusal.TheVariants.{InvalidParameter}
 use Rattle.descriptor.specs.declared.qtd.QueueTransferDescriptor.{QueueTransferDescriptor}
 use Rattle.pool.specs.Chains.{blank}
 use Rattle.words.specs.declared.core.Core.{Core}
-use Rattle.words.specs.Opened.{openedRest, openedRow}
-use Rattle.interrupt.specs.Interrupts.{acknowledgeOf}
-use Rattle.interrupt.specs.Words.{acknowledgedView}
+use Rattle.words.specs.Opened.{opened_rest, opened_row}
+use Rattle.interrupt.specs.Interrupts.{acknowledge_of}
+use Rattle.interrupt.specs.Words.{acknowledged_view}
 use Rattle.interrupt.specs.declared.answers.Acknowledged.TheVariants.{Yes}
 use Rattle.interrupt.specs.declared.answers.Acknowledgement.{Acknowledgement}
-use Rattle.direct_calls.specs.Refusals.{refusedAcknowledgement}
+use Rattle.direct_calls.specs.Refusals.{refused_acknowledgement}
 use Rattle.direct_calls.specs.Shapes.{CoreCall}
 use Rattle.ehci.specs.declared.call.Call.TheVariants.{Acknowledge}
 use Rattle.ehci.specs.declared.call.InterruptReadings.{InterruptReadings}
 use Rattle.ehci.specs.declared.reply.Answered.TheVariants.{Refused}
-use Rattle.ehci.specs.WordsDoor.{acceptsWords, applyWords}
+use Rattle.ehci.specs.WordsDoor.{accepts_words, apply_words}
 
-abbrev pub openedCore : Core
-openedCore =
+abbrev pub opened_core : Core
+opened_core =
     record {
       settings = record {
         descriptors = 1;
@@ -30,7 +30,7 @@ openedCore =
         frames = 0x300000;
         setups = 0x400000;
       };
-      rest = openedRest 1;
+      rest = opened_rest 1;
     }
 
 abbrev pub pool : List QueueTransferDescriptor
@@ -50,17 +50,17 @@ abbrev pub damaged : List ℕ
 damaged = 8 ∷ 0 ∷ 0 ∷ 0 ∷ 0 ∷ 0 ∷ []
 
 abbrev pub accepts : List ℕ → Bool
-accepts ws = acceptsWords openedCore ws (length pool) (length heads) (length frames) (length setups)
+accepts ws = accepts_words opened_core ws (length pool) (length heads) (length frames) (length setups)
 
 -- USBSTS with bit 0
 abbrev pub heard : InterruptReadings
 heard = record { status = 1; interrupts = 0; flag = true; again = true }
 
 pub record Differ : Type 0 where
-  pub accepted : accepts (openedRow 1) ≡ true
+  pub accepted : accepts (opened_row 1) ≡ true
   pub refused : accepts damaged ≡ false
-  pub door-answers-1 : (applyWords openedCore damaged pool heads frames setups (Acknowledge heard)).reply.answer ≡ Refused InvalidParameter
-  pub call-answers-yes : (r : Acknowledgement)
-      → CoreCall openedCore r (refusedAcknowledgement openedCore.rest) r.rest (acknowledgedView openedCore.settings r)
-      (λ s. acknowledgeOf s heard.status heard.interrupts heard.flag heard.again)
+  pub door_answers_1 : (apply_words opened_core damaged pool heads frames setups (Acknowledge heard)).reply.answer ≡ Refused InvalidParameter
+  pub call_answers_yes : (r : Acknowledgement)
+      → CoreCall opened_core r (refused_acknowledgement opened_core.rest) r.rest (acknowledged_view opened_core.settings r)
+      (λ s. acknowledge_of s heard.status heard.interrupts heard.flag heard.again)
       → r.answer ≡ Yes

@@ -1,7 +1,7 @@
 // The calls on requests that are lent the pool's records, by name.
 ghost use Rattle.core.specs.Prelude.{◌≡◌, length};
 ghost use Rattle.ehci.specs.Door.{applied};
-ghost use Rattle.ehci.specs.WordsDoor.{WordsAfter, acceptsWords, applyWords, replyView};
+ghost use Rattle.ehci.specs.WordsDoor.{WordsAfter, accepts_words, apply_words, reply_view};
 ghost use Rattle.ehci.specs.declared.call.Call.TheVariants.{Submit, Writeback, Collect};
 
 use controller::lent::Readings;
@@ -29,9 +29,9 @@ pub fn submit(
     request: TransferRequest,
     readings: Readings,
 ) -> Reply
-    ensures setups_after { applied (replyView core.settings result slots.new) rows.new heads.new frames.new setups.new
-        ≡ applyWords core slots.old rows.old heads.old frames.old setups.old (Submit slot request readings) }
-    ensures words_after { WordsAfter (acceptsWords core slots.old (length rows.old) (length heads.old) (length frames.old) (length setups.old))
+    ensures setups_after { applied (reply_view core.settings result slots.new) rows.new heads.new frames.new setups.new
+        ≡ apply_words core slots.old rows.old heads.old frames.old setups.old (Submit slot request readings) }
+    ensures words_after { WordsAfter (accepts_words core slots.old (length rows.old) (length heads.old) (length frames.old) (length setups.old))
         core slots.old result.rest slots.new }
 {
     let call = as_submit(slot, request, readings);
@@ -54,9 +54,9 @@ pub fn writeback(
     place: u64,
     token: u32,
 ) -> Reply
-    ensures setups_after { applied (replyView core.settings result slots.new) rows.new heads.new frames.new setups.new
-        ≡ applyWords core slots.old rows.old heads.old frames.old setups.old (Writeback place token) }
-    ensures words_after { WordsAfter (acceptsWords core slots.old (length rows.old) (length heads.old) (length frames.old) (length setups.old))
+    ensures setups_after { applied (reply_view core.settings result slots.new) rows.new heads.new frames.new setups.new
+        ≡ apply_words core slots.old rows.old heads.old frames.old setups.old (Writeback place token) }
+    ensures words_after { WordsAfter (accepts_words core slots.old (length rows.old) (length heads.old) (length frames.old) (length setups.old))
         core slots.old result.rest slots.new }
 {
     let call = as_writeback(place, token);
@@ -80,9 +80,9 @@ pub fn collect(
     id: u64,
     readings: Readings,
 ) -> Reply
-    ensures setups_after { applied (replyView core.settings result slots.new) rows.new heads.new frames.new setups.new
-        ≡ applyWords core slots.old rows.old heads.old frames.old setups.old (Collect slot id readings) }
-    ensures words_after { WordsAfter (acceptsWords core slots.old (length rows.old) (length heads.old) (length frames.old) (length setups.old))
+    ensures setups_after { applied (reply_view core.settings result slots.new) rows.new heads.new frames.new setups.new
+        ≡ apply_words core slots.old rows.old heads.old frames.old setups.old (Collect slot id readings) }
+    ensures words_after { WordsAfter (accepts_words core slots.old (length rows.old) (length heads.old) (length frames.old) (length setups.old))
         core slots.old result.rest slots.new }
 {
     let call = as_collect(slot, id, readings);

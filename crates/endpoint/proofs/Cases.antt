@@ -4,8 +4,8 @@ use mathlib.Core.Path.{refl, sym, ap, ◌∙◌}
 use borrow.Author.Tests.{leb-false, leb-true, not-false}
 use Rattle.common.specs.declared.kinds.EndpointType.{EndpointType}
 use Rattle.common.specs.declared.kinds.EndpointType.TheVariants.{Control, Isochronous, Bulk, Interrupt}
-use Rattle.descriptor.specs.Heads.{endpointHead, withAddress, withPacketSize, words_of}
-use Rattle.common.proofs.TestLaws.{every-3, both-tells}
+use Rattle.descriptor.specs.Heads.{endpoint_head, with_address, with_packet_size, words_of}
+use Rattle.common.proofs.TestLaws.{every_3, both_tells}
 use Rattle.state.specs.Plain.{Ehci}
 use Rattle.common.specs.declared.answer.Answer.{Answer}
 use Rattle.common.specs.declared.answer.Answer.TheVariants.{Done, Refused as RefusedCall}
@@ -14,33 +14,33 @@ use Rattle.common.specs.declared.answer.Refusal.TheVariants.{InvalidParameter, S
 use Rattle.pipe.specs.declared.endpoints.Endpoint.TheVariants.{Closed, Idle}
 use Rattle.pipe.specs.declared.endpoints.Pipe.{Pipe}
 use Rattle.common.specs.Answers.{Verdict, first, settle}
-use Rattle.pipe.specs.Endpoints.{kindNumber, pipeOf, withEndpoint}
-use Rattle.slot.specs.Ranges.{sizeGood}
-use Rattle.slot.proofs.SlotLaws.{SizeGood, size-tells}
+use Rattle.pipe.specs.Endpoints.{kind_number, pipe_of, with_endpoint}
+use Rattle.slot.specs.Ranges.{size_good}
+use Rattle.slot.proofs.SlotLaws.{SizeGood, size_tells}
 use Rattle.state.specs.Slots.{slot_at}
-use Rattle.common.specs.Kinds.{isControl, isIsochronous}
-use Rattle.controller.specs.Lent.{acceptsOf, lengths}
-use Rattle.controller.specs.Readers.{isOpen, isUncollected}
-use Rattle.opening.specs.Heads.{headWord, withHeadWord}
-use Rattle.common.proofs.CheckLaws.{let-pass, verdictOf}
+use Rattle.common.specs.Kinds.{is_control, is_isochronous}
+use Rattle.controller.specs.Lent.{accepts_of, lengths}
+use Rattle.controller.specs.Readers.{is_opened, is_uncollected}
+use Rattle.opening.specs.Heads.{head_word, with_head_word}
+use Rattle.common.proofs.CheckLaws.{let_pass, verdict_of}
 use Rattle.endpoint.specs.declared.calls.Opened.{Opened}
 use Rattle.endpoint.specs.declared.calls.Opened.TheVariants.{Slot, Refused}
-use Rattle.endpoint.specs.Calls.{changeLeft, changeOf, chosen_of, closeOf, fieldsGood, slotVerdict, lowestSlot, newEndpoint, openChecks, openEndpointOf, openLeft, raisedGood, setAddressOf, setPacketSizeOf, slotChecks, with_head, withSize}
-use Rattle.endpoint.proofs.SlotLaws.{below-room, open-room}
+use Rattle.endpoint.specs.Calls.{change_left, change_of, chosen_of, close_of, fields_good, slot_verdict, lowest_slot, new_endpoint, open_checks, open_endpoint_of, open_left, raised_good, set_address_of, set_packet_size_of, slot_checks, with_head, with_size}
+use Rattle.endpoint.proofs.SlotLaws.{below_room, open_room}
 
 -- ---- verdicts
 
-verdict-there : (v : Verdict) → verdictOf (settle v RefusedCall Done) ≡ v
-verdict-there Verdict.passed = refl
-verdict-there (Verdict.refused r) = refl
+verdict_there : (v : Verdict) → verdict_of (settle v RefusedCall Done) ≡ v
+verdict_there Verdict.passed = refl
+verdict_there (Verdict.refused r) = refl
 
-abbrev pub openVerdict : Opened → Verdict
-openVerdict (Slot k) = Verdict.passed
-openVerdict (Refused r) = Verdict.refused r
+abbrev pub open_verdict : Opened → Verdict
+open_verdict (Slot k) = Verdict.passed
+open_verdict (Refused r) = Verdict.refused r
 
-open-there : (v : Verdict) (k : ℕ) → openVerdict (settle v Refused (Slot k)) ≡ v
-open-there Verdict.passed k = refl
-open-there (Verdict.refused r) k = refl
+open_there : (v : Verdict) (k : ℕ) → open_verdict (settle v Refused (Slot k)) ≡ v
+open_there Verdict.passed k = refl
+open_there (Verdict.refused r) k = refl
 
 abbrev pub slot_of : Opened → ℕ
 slot_of (Slot k) = k
@@ -48,80 +48,80 @@ slot_of (Refused r) = 0
 
 -- ---- open endpoint: what is asked
 
-control-none : (kind : EndpointType) → isControl kind ≡ eqb (kindNumber kind) 0
-control-none Control = refl
-control-none Isochronous = refl
-control-none Bulk = refl
-control-none Interrupt = refl
+control_none : (kind : EndpointType) → is_control kind ≡ eqb (kind_number kind) 0
+control_none Control = refl
+control_none Isochronous = refl
+control_none Bulk = refl
+control_none Interrupt = refl
 
-pub size_is : (limit : ℕ) (kind : EndpointType) (p : ℕ) (control : Bool) → control ≡ isControl kind
-    → ((leb 1 p && leb p 1024) && (control || leb p limit)) ≡ sizeGood limit (kindNumber kind) p
-unfolding sizeGood
-size_is limit kind p control e = rw (e, control-none kind)
+pub size_is : (limit : ℕ) (kind : EndpointType) (p : ℕ) (control : Bool) → control ≡ is_control kind
+    → ((leb 1 p && leb p 1024) && (control || leb p limit)) ≡ size_good limit (kind_number kind) p
+unfolding size_good
+size_is limit kind p control e = rw (e, control_none kind)
 
 -- the endpoint with the size that is given
-pub size-given : (p : Pipe) (x n : ℕ) → n ≡ x → record { kind = p.kind; size = n; toggle = p.toggle; next = p.next } ≡ withSize p x
-size-given p x n e = rw e
+pub size_given : (p : Pipe) (x n : ℕ) → n ≡ x → record { kind = p.kind; size = n; toggle = p.toggle; next = p.next } ≡ with_size p x
+size_given p x n e = rw e
 
 module _ (limit : ℕ) (kind : EndpointType) (a n p : ℕ) where
-  pub fields-is : (sized : Bool) → sized ≡ sizeGood limit (kindNumber kind) p
-      → (leb a 127 && leb n 15 && sized) ≡ fieldsGood limit kind a n p
-  unfolding fieldsGood
-  fields-is sized e = rw e (every-3 (leb a 127) (leb n 15) (sizeGood limit (kindNumber kind) p))
+  pub fields_is : (sized : Bool) → sized ≡ size_good limit (kind_number kind) p
+      → (leb a 127 && leb n 15 && sized) ≡ fields_good limit kind a n p
+  unfolding fields_good
+  fields_is sized e = rw e (every_3 (leb a 127) (leb n 15) (size_good limit (kind_number kind) p))
 
-  pub fields-tell : fieldsGood limit kind a n p ≡ true → (a ≤ 127) × (n ≤ 15) × SizeGood limit (kindNumber kind) p
-  unfolding fieldsGood
-  fields-tell e =
-      let x = both-tells (leb a 127) _ e in
-      let y = both-tells (leb n 15) _ x.1 in
-      let z = both-tells (sizeGood limit (kindNumber kind) p) true y.1 in
-      (leb-true a 127 x.0, leb-true n 15 y.0, size-tells limit (kindNumber kind) p z.0)
+  pub fields_tell : fields_good limit kind a n p ≡ true → (a ≤ 127) × (n ≤ 15) × SizeGood limit (kind_number kind) p
+  unfolding fields_good
+  fields_tell e =
+      let x = both_tells (leb a 127) _ e in
+      let y = both_tells (leb n 15) _ x.1 in
+      let z = both_tells (size_good limit (kind_number kind) p) true y.1 in
+      (leb-true a 127 x.0, leb-true n 15 y.0, size_tells limit (kind_number kind) p z.0)
 
 -- ---- open endpoint: what is done
 
 module _ (s : Ehci) (pool : ℕ) (h : List ℕ) (f u : ℕ) (kind : EndpointType) (a n p : ℕ) (good : Bool)
-    (eg : good ≡ fieldsGood s.settings.limit kind a n p) (o : Opened) (eo : o ≡ chosen_of s (lengths pool (length h) f u) kind good) where
-  chosen : openVerdict o ≡ first (openChecks s (lengths pool (length h) f u) kind good)
+    (eg : good ≡ fields_good s.settings.limit kind a n p) (o : Opened) (eo : o ≡ chosen_of s (lengths pool (length h) f u) kind good) where
+  chosen : open_verdict o ≡ first (open_checks s (lengths pool (length h) f u) kind good)
   unfolding chosen_of
-  chosen = ap openVerdict eo ∙ open-there (first (openChecks s (lengths pool (length h) f u) kind good)) (lowestSlot s)
+  chosen = ap open_verdict eo ∙ open_there (first (open_checks s (lengths pool (length h) f u) kind good)) (lowest_slot s)
 
-  pub open-refused : (r : Refusal) → o ≡ Refused r
-      → openLeft (record { answer = Refused r; state = s }) h ≡ openEndpointOf s pool h f u kind a n p
-  unfolding openEndpointOf
-  open-refused r e = rw (← eg, sym chosen ∙ ap openVerdict e)
+  pub open_refused : (r : Refusal) → o ≡ Refused r
+      → open_left (record { answer = Refused r; state = s }) h ≡ open_endpoint_of s pool h f u kind a n p
+  unfolding open_endpoint_of
+  open_refused r e = rw (← eg, sym chosen ∙ ap open_verdict e)
 
   module _ (k : ℕ) (e : o ≡ Slot k) where
-    went : first (openChecks s (lengths pool (length h) f u) kind good) ≡ Verdict.passed
-    went = sym chosen ∙ ap openVerdict e
+    went : first (open_checks s (lengths pool (length h) f u) kind good) ≡ Verdict.passed
+    went = sym chosen ∙ ap open_verdict e
 
-    pub slot_is : k ≡ lowestSlot s
+    pub slot_is : k ≡ lowest_slot s
     unfolding chosen_of
     slot_is = ap slot_of (sym e ∙ eo) ∙ rw went
 
     -- every check let it pass
-    pub open-passed : (acceptsOf s (lengths pool (length h) f u) ≡ true) × (isIsochronous kind ≡ false) × (good ≡ true) × (k < s.settings.endpoints)
-    unfolding openChecks
-    open-passed =
-        let l = let-pass (not (acceptsOf s (lengths pool (length h) f u))) InvalidParameter _ went in
-        let i = let-pass (isIsochronous kind) NotSupported _ l.1 in
-        let g = let-pass (not good) InvalidParameter _ i.1 in
-        let b = let-pass (leb s.settings.endpoints (lowestSlot s)) SlotLimitReached _ g.1 in (
-          not-false (acceptsOf s (lengths pool (length h) f u)) l.0,
+    pub open_passed : (accepts_of s (lengths pool (length h) f u) ≡ true) × (is_isochronous kind ≡ false) × (good ≡ true) × (k < s.settings.endpoints)
+    unfolding open_checks
+    open_passed =
+        let l = let_pass (not (accepts_of s (lengths pool (length h) f u))) InvalidParameter _ went in
+        let i = let_pass (is_isochronous kind) NotSupported _ l.1 in
+        let g = let_pass (not good) InvalidParameter _ i.1 in
+        let b = let_pass (leb s.settings.endpoints (lowest_slot s)) SlotLimitReached _ g.1 in (
+          not-false (accepts_of s (lengths pool (length h) f u)) l.0,
           i.0,
           not-false good g.0,
-          (rw slot_is (leb-false s.settings.endpoints (lowestSlot s) b.0)),
+          (rw slot_is (leb-false s.settings.endpoints (lowest_slot s) b.0)),
         )
 
-    pub open-room-for : (k < 32) × (k + 1 ≤ 32) × (17 * (k + 1) + 17 ≤ length h)
-    open-room-for = below-room s pool h f u k open-passed.0 open-passed.3
+    pub open_room_for : (k < 32) × (k + 1 ≤ 32) × (17 * (k + 1) + 17 ≤ length h)
+    open_room_for = below_room s pool h f u k open_passed.0 open_passed.3
 
-    pub open-fields : (a ≤ 127) × (n ≤ 15) × SizeGood s.settings.limit (kindNumber kind) p
-    open-fields = fields-tell s.settings.limit kind a n p (sym eg ∙ open-passed.2)
+    pub open_fields : (a ≤ 127) × (n ≤ 15) × SizeGood s.settings.limit (kind_number kind) p
+    open_fields = fields_tell s.settings.limit kind a n p (sym eg ∙ open_passed.2)
 
-    pub open_done : (s' : Ehci) (h' : List ℕ) → s' ≡ withEndpoint s k (newEndpoint kind p)
-        → h' ≡ with_head h k (words_of (endpointHead kind a n p))
-        → openLeft (record { answer = Slot k; state = s' }) h' ≡ openEndpointOf s pool h f u kind a n p
-    unfolding openEndpointOf
+    pub open_done : (s' : Ehci) (h' : List ℕ) → s' ≡ with_endpoint s k (new_endpoint kind p)
+        → h' ≡ with_head h k (words_of (endpoint_head kind a n p))
+        → open_left (record { answer = Slot k; state = s' }) h' ≡ open_endpoint_of s pool h f u kind a n p
+    unfolding open_endpoint_of
     open_done s' h' es eh = rw (es, eh, ← eg, went, slot_is)
 
 -- ---- close, set address, set packet size: what is asked
@@ -129,73 +129,73 @@ module _ (s : Ehci) (pool : ℕ) (h : List ℕ) (f u : ℕ) (kind : EndpointType
 -- ---- close, set address, set packet size: what is done
 
 module _ (s : Ehci) (pool : ℕ) (h : List ℕ) (f u k : ℕ) (good : Bool) (a : Answer)
-    (ea : a ≡ slotVerdict s (lengths pool (length h) f u) k good) where
-  judged : verdictOf a ≡ first (slotChecks s (lengths pool (length h) f u) k good)
-  unfolding slotVerdict
-  judged = ap verdictOf ea ∙ verdict-there (first (slotChecks s (lengths pool (length h) f u) k good))
+    (ea : a ≡ slot_verdict s (lengths pool (length h) f u) k good) where
+  judged : verdict_of a ≡ first (slot_checks s (lengths pool (length h) f u) k good)
+  unfolding slot_verdict
+  judged = ap verdict_of ea ∙ verdict_there (first (slot_checks s (lengths pool (length h) f u) k good))
 
-  pub change-refused : (r : Refusal) (s' : Ehci) (h' : List ℕ) → a ≡ RefusedCall r
-      → changeLeft (record { answer = RefusedCall r; state = s }) h ≡ changeOf s pool h f u k good s' h'
-  change-refused r s' h' e = rw (sym judged ∙ ap verdictOf e)
+  pub change_refused : (r : Refusal) (s' : Ehci) (h' : List ℕ) → a ≡ RefusedCall r
+      → change_left (record { answer = RefusedCall r; state = s }) h ≡ change_of s pool h f u k good s' h'
+  change_refused r s' h' e = rw (sym judged ∙ ap verdict_of e)
 
-  pub change-done : (s' : Ehci) (h' : List ℕ) → a ≡ Done
-      → changeLeft (record { answer = Done; state = s' }) h' ≡ changeOf s pool h f u k good s' h'
-  change-done s' h' e = rw (sym judged ∙ ap verdictOf e)
+  pub change_done : (s' : Ehci) (h' : List ℕ) → a ≡ Done
+      → change_left (record { answer = Done; state = s' }) h' ≡ change_of s pool h f u k good s' h'
+  change_done s' h' e = rw (sym judged ∙ ap verdict_of e)
 
   -- every check let it pass
-  pub change-passed : a ≡ Done
-      → (acceptsOf s (lengths pool (length h) f u) ≡ true) × (isOpen s k ≡ true) × (isUncollected s k ≡ false) × (good ≡ true)
-  unfolding slotChecks
-  change-passed e =
-      let l = let-pass (not (acceptsOf s (lengths pool (length h) f u))) InvalidParameter _ (sym judged ∙ ap verdictOf e) in
-      let o = let-pass (not (isOpen s k)) InvalidEndpoint _ l.1 in
-      let c = let-pass (isUncollected s k) QueueFull _ o.1 in
-      let g = let-pass (not good) InvalidParameter _ c.1 in (
-        not-false (acceptsOf s (lengths pool (length h) f u)) l.0,
-        not-false (isOpen s k) o.0,
+  pub change_passed : a ≡ Done
+      → (accepts_of s (lengths pool (length h) f u) ≡ true) × (is_opened s k ≡ true) × (is_uncollected s k ≡ false) × (good ≡ true)
+  unfolding slot_checks
+  change_passed e =
+      let l = let_pass (not (accepts_of s (lengths pool (length h) f u))) InvalidParameter _ (sym judged ∙ ap verdict_of e) in
+      let o = let_pass (not (is_opened s k)) InvalidEndpoint _ l.1 in
+      let c = let_pass (is_uncollected s k) QueueFull _ o.1 in
+      let g = let_pass (not good) InvalidParameter _ c.1 in (
+        not-false (accepts_of s (lengths pool (length h) f u)) l.0,
+        not-false (is_opened s k) o.0,
         c.0,
         not-false good g.0,
       )
 
-  pub change-room : a ≡ Done → (k < 32) × (k + 1 ≤ 32) × (17 * (k + 1) + 17 ≤ length h)
-  change-room e = open-room s pool h f u k (change-passed e).0 (change-passed e).1
+  pub change_room : a ≡ Done → (k < 32) × (k + 1 ≤ 32) × (17 * (k + 1) + 17 ≤ length h)
+  change_room e = open_room s pool h f u k (change_passed e).0 (change_passed e).1
 
 module _ (s : Ehci) (pool : ℕ) (h : List ℕ) (f u k : ℕ) (a : Answer) where
-  pub close-refused : (r : Refusal) → a ≡ slotVerdict s (lengths pool (length h) f u) k true → a ≡ RefusedCall r
-      → changeLeft (record { answer = RefusedCall r; state = s }) h ≡ closeOf s pool h f u k
-  unfolding closeOf
-  close-refused r ea e = change-refused s pool h f u k true a ea r _ _ e
+  pub close_refused : (r : Refusal) → a ≡ slot_verdict s (lengths pool (length h) f u) k true → a ≡ RefusedCall r
+      → change_left (record { answer = RefusedCall r; state = s }) h ≡ close_of s pool h f u k
+  unfolding close_of
+  close_refused r ea e = change_refused s pool h f u k true a ea r _ _ e
 
-  pub close-done : a ≡ slotVerdict s (lengths pool (length h) f u) k true → a ≡ Done → (s' : Ehci) (h' : List ℕ)
-      → s' ≡ withEndpoint s k Closed → h' ≡ with_head h k (replicate 17 0)
-      → changeLeft (record { answer = Done; state = s' }) h' ≡ closeOf s pool h f u k
-  unfolding closeOf
-  close-done ea e s' h' es eh =
-      rw (es, eh) (change-done s pool h f u k true a ea (withEndpoint s k Closed) (with_head h k (replicate 17 0)) e)
+  pub close_done : a ≡ slot_verdict s (lengths pool (length h) f u) k true → a ≡ Done → (s' : Ehci) (h' : List ℕ)
+      → s' ≡ with_endpoint s k Closed → h' ≡ with_head h k (replicate 17 0)
+      → change_left (record { answer = Done; state = s' }) h' ≡ close_of s pool h f u k
+  unfolding close_of
+  close_done ea e s' h' es eh =
+      rw (es, eh) (change_done s pool h f u k true a ea (with_endpoint s k Closed) (with_head h k (replicate 17 0)) e)
 
   module _ (x : ℕ) where
-    pub address-refused : (r : Refusal) → a ≡ slotVerdict s (lengths pool (length h) f u) k (leb x 127) → a ≡ RefusedCall r
-        → changeLeft (record { answer = RefusedCall r; state = s }) h ≡ setAddressOf s pool h f u k x
-    unfolding setAddressOf
-    address-refused r ea e = change-refused s pool h f u k (leb x 127) a ea r _ _ e
+    pub address_refused : (r : Refusal) → a ≡ slot_verdict s (lengths pool (length h) f u) k (leb x 127) → a ≡ RefusedCall r
+        → change_left (record { answer = RefusedCall r; state = s }) h ≡ set_address_of s pool h f u k x
+    unfolding set_address_of
+    address_refused r ea e = change_refused s pool h f u k (leb x 127) a ea r _ _ e
 
-    pub address-done : a ≡ slotVerdict s (lengths pool (length h) f u) k (leb x 127) → a ≡ Done → (w : ℕ)
-        → w ≡ withAddress (headWord h (k + 1) 1) x
-        → changeLeft (record { answer = Done; state = s }) (withHeadWord h (k + 1) 1 w) ≡ setAddressOf s pool h f u k x
-    unfolding setAddressOf
-    address-done ea e w ew =
-        rw ew (change-done s pool h f u k (leb x 127) a ea s (withHeadWord h (k + 1) 1 (withAddress (headWord h (k + 1) 1) x)) e)
+    pub address_done : a ≡ slot_verdict s (lengths pool (length h) f u) k (leb x 127) → a ≡ Done → (w : ℕ)
+        → w ≡ with_address (head_word h (k + 1) 1) x
+        → change_left (record { answer = Done; state = s }) (with_head_word h (k + 1) 1 w) ≡ set_address_of s pool h f u k x
+    unfolding set_address_of
+    address_done ea e w ew =
+        rw ew (change_done s pool h f u k (leb x 127) a ea s (with_head_word h (k + 1) 1 (with_address (head_word h (k + 1) 1) x)) e)
 
-    pub size-refused : (r : Refusal) → a ≡ slotVerdict s (lengths pool (length h) f u) k (raisedGood s k x) → a ≡ RefusedCall r
-        → changeLeft (record { answer = RefusedCall r; state = s }) h ≡ setPacketSizeOf s pool h f u k x
-    unfolding setPacketSizeOf
-    size-refused r ea e = change-refused s pool h f u k (raisedGood s k x) a ea r _ _ e
+    pub size_refused : (r : Refusal) → a ≡ slot_verdict s (lengths pool (length h) f u) k (raised_good s k x) → a ≡ RefusedCall r
+        → change_left (record { answer = RefusedCall r; state = s }) h ≡ set_packet_size_of s pool h f u k x
+    unfolding set_packet_size_of
+    size_refused r ea e = change_refused s pool h f u k (raised_good s k x) a ea r _ _ e
 
-    pub size-done : a ≡ slotVerdict s (lengths pool (length h) f u) k (raisedGood s k x) → a ≡ Done → (s' : Ehci) (w : ℕ)
-        → s' ≡ withEndpoint s k (Idle (withSize (pipeOf (slot_at s k)) (max x 8))) → w ≡ withPacketSize (headWord h (k + 1) 1) x
-        → changeLeft (record { answer = Done; state = s' }) (withHeadWord h (k + 1) 1 w) ≡ setPacketSizeOf s pool h f u k x
-    unfolding setPacketSizeOf
-    size-done ea e s' w es ew =
+    pub size_done : a ≡ slot_verdict s (lengths pool (length h) f u) k (raised_good s k x) → a ≡ Done → (s' : Ehci) (w : ℕ)
+        → s' ≡ with_endpoint s k (Idle (with_size (pipe_of (slot_at s k)) (max x 8))) → w ≡ with_packet_size (head_word h (k + 1) 1) x
+        → change_left (record { answer = Done; state = s' }) (with_head_word h (k + 1) 1 w) ≡ set_packet_size_of s pool h f u k x
+    unfolding set_packet_size_of
+    size_done ea e s' w es ew =
         rw (es, ew)
-        (change-done s pool h f u k (raisedGood s k x) a ea (withEndpoint s k (Idle (withSize (pipeOf (slot_at s k)) (max x 8))))
-        (withHeadWord h (k + 1) 1 (withPacketSize (headWord h (k + 1) 1) x)) e)
+        (change_done s pool h f u k (raised_good s k x) a ea (with_endpoint s k (Idle (with_size (pipe_of (slot_at s k)) (max x 8))))
+        (with_head_word h (k + 1) 1 (with_packet_size (head_word h (k + 1) 1) x)) e)

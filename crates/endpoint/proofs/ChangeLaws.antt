@@ -5,180 +5,180 @@ use native.Mathlib.Omega.{arith}
 use borrow.Author.Tests.{leb-true}
 use lib.ListN.{get_or-replicate}
 use lib.Seq.{get_or-set_same}
-use Rattle.descriptor.specs.EhciQueueHead.{controlEndpoint, deviceAddress, endpointNumber, endpointSpeed, headOfList, inactivateOnNext, maximumPacketLength, nakReload, toggleControl}
-use Rattle.descriptor.specs.Heads.{withAddress, withPacketSize}
-use Rattle.descriptor.proofs.HeadFields.{address-reads, Characteristics, packet-reads}
+use Rattle.descriptor.specs.EhciQueueHead.{control_endpoint, device_address, endpoint_number, endpoint_speed, head_of_list, inactivate_on_next, maximum_packet_length, nak_reload, toggle_control}
+use Rattle.descriptor.specs.Heads.{with_address, with_packet_size}
+use Rattle.descriptor.proofs.HeadFields.{address_reads, Characteristics, packet_reads}
 use Rattle.slot.specs.declared.slot.Slot.{Slot}
-use Rattle.slot.specs.Ranges.{slotGood}
-use Rattle.slot.proofs.SlotLaws.{Phase, size-tells as size-told, slot-tells}
+use Rattle.slot.specs.Ranges.{slot_good}
+use Rattle.slot.proofs.SlotLaws.{Phase, size_tells as size_told, slot_tells}
 use Rattle.state.specs.Plain.{Ehci}
 use Rattle.state.specs.Slots.{slot_at}
-use Rattle.state.specs.Ranges.{inRanges}
-use Rattle.state.proofs.RangesLaws.{ranges-make, ranges-tell}
+use Rattle.state.specs.Ranges.{in_ranges}
+use Rattle.state.proofs.RangesLaws.{ranges_make, ranges_tell}
 use Rattle.common.specs.declared.answer.Answer.{Answer}
 use Rattle.common.specs.declared.answer.Answer.TheVariants.{Done, Refused}
 use Rattle.common.specs.declared.answer.Refusal.{Refusal}
 use Rattle.pipe.specs.declared.endpoints.Endpoint.{Endpoint}
 use Rattle.pipe.specs.declared.endpoints.Endpoint.TheVariants.{Closed, Idle}
 use Rattle.pipe.specs.declared.endpoints.Pipe.{Pipe}
-use Rattle.pipe.specs.Endpoints.{boundaryOf, encoded, endpointAt, pipeOf, requestOf, withEndpoint}
-use Rattle.controller.specs.Lent.{acceptsOf, lengths}
-use Rattle.controller.specs.Readers.{hasEndpoint, holdsRequest, isOpen, isUncollected}
-use Rattle.opening.specs.Heads.{headWord, withHeadWord}
-use Rattle.pipe.proofs.EndpointCases.{at_slot, decode-closed, decode-idle, decode-linked, decode-unlinking}
-use Rattle.pipe.proofs.EndpointLaws.{EndpointGood, OpenPipe, endpoint-keeps, endpoint-other, endpoint-same, endpoint-tells, kind-back, slot-wide, Wide}
-use Rattle.common.proofs.CheckLaws.{answers-apart}
-use Rattle.common.proofs.TestLaws.{false-true}
-use Rattle.controller.proofs.LentLaws.{accepts-tells}
-use Rattle.controller.proofs.ReaderLaws.{open-within}
-use Rattle.endpoint.specs.Calls.{changeLeft, ChangeLeft, changeOf, closeOf, raisedGood, slotVerdict, setAddressOf, setPacketSizeOf, with_head, withSize}
-use Rattle.endpoint.proofs.Cases.{change-done, change-passed, change-refused}
-use Rattle.common.proofs.RowLaws.{Only, only-all, put-inside, put_only, set-only}
-use Rattle.endpoint.proofs.SlotLaws.{open-room}
+use Rattle.pipe.specs.Endpoints.{boundary_of, encoded, endpoint_at, pipe_of, request_of, with_endpoint}
+use Rattle.controller.specs.Lent.{accepts_of, lengths}
+use Rattle.controller.specs.Readers.{has_endpoint, holds_request, is_opened, is_uncollected}
+use Rattle.opening.specs.Heads.{head_word, with_head_word}
+use Rattle.pipe.proofs.EndpointCases.{at_slot, decode_closed, decode_idle, decode_linked, decode_unlinking}
+use Rattle.pipe.proofs.EndpointLaws.{EndpointGood, OpenPipe, endpoint_keeps, endpoint_other, endpoint_same, endpoint_tells, kind_back, slot_wide, Wide}
+use Rattle.common.proofs.CheckLaws.{answers_apart}
+use Rattle.common.proofs.TestLaws.{false_true}
+use Rattle.controller.proofs.LentLaws.{accepts_tells}
+use Rattle.controller.proofs.ReaderLaws.{open_within}
+use Rattle.endpoint.specs.Calls.{change_left, ChangeLeft, change_of, close_of, raised_good, slot_verdict, set_address_of, set_packet_size_of, with_head, with_size}
+use Rattle.endpoint.proofs.Cases.{change_done, change_passed, change_refused}
+use Rattle.common.proofs.RowLaws.{Only, only_all, put_inside, put_only, set_only}
+use Rattle.endpoint.proofs.SlotLaws.{open_room}
 
 module _ (s : Ehci) (pool : ℕ) (h : List ℕ) (f u k : ℕ) where
   -- the state and the slot, where the call is accepted: open, idle and below E
   pub record Changes : Type 0 where
-    pub accepted : acceptsOf s (lengths pool (length h) f u) ≡ true
-    pub is_open : isOpen s k ≡ true
-    pub is-idle : isUncollected s k ≡ false
+    pub accepted : accepts_of s (lengths pool (length h) f u) ≡ true
+    pub is_open : is_opened s k ≡ true
+    pub is_idle_lem : is_uncollected s k ≡ false
     pub below : k < s.settings.endpoints
 
   module _ (good : Bool) (s' : Ehci) (h' : List ℕ) where
     -- a call refuses and leaves all as it was, or does what it is for
-    pub change-by : (P : ChangeLeft → Type 0) → ((r : Refusal) → P (changeLeft (record { answer = Refused r; state = s }) h))
-        → (Changes → good ≡ true → P (changeLeft (record { answer = Done; state = s' }) h'))
-        → P (changeOf s pool h f u k good s' h')
-    change-by P denied done = by (slotVerdict s (lengths pool (length h) f u) k good) refl
+    pub change_by_lem : (P : ChangeLeft → Type 0) → ((r : Refusal) → P (change_left (record { answer = Refused r; state = s }) h))
+        → (Changes → good ≡ true → P (change_left (record { answer = Done; state = s' }) h'))
+        → P (change_of s pool h f u k good s' h')
+    change_by_lem P denied done = by (slot_verdict s (lengths pool (length h) f u) k good) refl
       where
-        by : (a : Answer) → a ≡ slotVerdict s (lengths pool (length h) f u) k good → P (changeOf s pool h f u k good s' h')
+        by : (a : Answer) → a ≡ slot_verdict s (lengths pool (length h) f u) k good → P (change_of s pool h f u k good s' h')
         by Done e =
-            let t = change-passed s pool h f u k good Done e refl in
-            let r = (accepts-tells s (lengths pool (length h) f u) t.0).ranges in
-            subst P (change-done s pool h f u k good Done e s' h' refl)
-            (done (record { accepted = t.0; is_open = t.1; is-idle = t.2; below = open-within s k r t.1 }) t.3)
-        by (Refused r) e = subst P (change-refused s pool h f u k good (Refused r) e r s' h' refl) (denied r)
+            let t = change_passed s pool h f u k good Done e refl in
+            let r = (accepts_tells s (lengths pool (length h) f u) t.0).ranges in
+            subst P (change_done s pool h f u k good Done e s' h' refl)
+            (done (record { accepted = t.0; is_open = t.1; is_idle_lem = t.2; below = open_within s k r t.1 }) t.3)
+        by (Refused r) e = subst P (change_refused s pool h f u k good (Refused r) e r s' h' refl) (denied r)
 
-    pub change-denied : (r : Refusal) → (changeOf s pool h f u k good s' h').change.answer ≡ Refused r
-        → ((changeOf s pool h f u k good s' h').change.state ≡ s) × ((changeOf s pool h f u k good s' h').heads ≡ h)
-    change-denied =
-        change-by (λ c. (r : Refusal) → c.change.answer ≡ Refused r → (c.change.state ≡ s) × (c.heads ≡ h))
+    pub change_denied : (r : Refusal) → (change_of s pool h f u k good s' h').change.answer ≡ Refused r
+        → ((change_of s pool h f u k good s' h').change.state ≡ s) × ((change_of s pool h f u k good s' h').heads ≡ h)
+    change_denied =
+        change_by_lem (λ c. (r : Refusal) → c.change.answer ≡ Refused r → (c.change.state ≡ s) × (c.heads ≡ h))
         (λ _ _ _. (refl, refl))
-        (λ _ _ r e. absurd (answers-apart r (sym e)))
+        (λ _ _ r e. absurd (answers_apart r (sym e)))
 
     -- what holds of what it is for holds where it answers 0
-    pub change-tells : (P : ChangeLeft → Type 0) → (Changes → good ≡ true → P (changeLeft (record { answer = Done; state = s' }) h'))
-        → (changeOf s pool h f u k good s' h').change.answer ≡ Done → P (changeOf s pool h f u k good s' h')
-    change-tells P done =
-        change-by (λ c. c.change.answer ≡ Done → P c)
-        (λ r e. absurd (answers-apart r e))
+    pub change_tells : (P : ChangeLeft → Type 0) → (Changes → good ≡ true → P (change_left (record { answer = Done; state = s' }) h'))
+        → (change_of s pool h f u k good s' h').change.answer ≡ Done → P (change_of s pool h f u k good s' h')
+    change_tells P done =
+        change_by_lem (λ c. c.change.answer ≡ Done → P c)
+        (λ r e. absurd (answers_apart r e))
         (λ from g e. done from g)
 
   word_room : Changes → 17 * (k + 1) + 1 < length h
-  word_room from = omega (arith, (open-room s pool h f u k from.accepted from.is_open).2)
+  word_room from = omega (arith, (open_room s pool h f u k from.accepted from.is_open).2)
 
   -- ---- close
 
   pub record SlotClosed (c : ChangeLeft) : Type 0 where
     pub from : Changes
-    pub state-is : c.change.state ≡ withEndpoint s k Closed
-    pub words : (i : ℕ) → i < 17 → headWord c.heads (k + 1) i ≡ 0
+    pub state_is : c.change.state ≡ with_endpoint s k Closed
+    pub words : (i : ℕ) → i < 17 → head_word c.heads (k + 1) i ≡ 0
     pub only : Only (17 * (k + 1)) 17 h c.heads
 
-  slot-closed : Changes
-      → SlotClosed (changeLeft (record { answer = Done; state = withEndpoint s k Closed }) (with_head h k (replicate 17 0)))
-  slot-closed from =
-      let room = (open-room s pool h f u k from.accepted from.is_open).2 in
+  slot_closed : Changes
+      → SlotClosed (change_left (record { answer = Done; state = with_endpoint s k Closed }) (with_head h k (replicate 17 0)))
+  slot_closed from =
+      let room = (open_room s pool h f u k from.accepted from.is_open).2 in
       record {
         from = from;
-        state-is = refl;
-        words = λ i lt. put-inside h (17 * (k + 1)) (replicate 17 0) room i lt ∙ get_or-replicate {A = ℕ} 17 i 0 0 lt;
+        state_is = refl;
+        words = λ i lt. put_inside h (17 * (k + 1)) (replicate 17 0) room i lt ∙ get_or-replicate {A = ℕ} 17 i 0 0 lt;
         only = put_only h (17 * (k + 1)) (replicate 17 0) room;
       }
 
-  pub close-tells : (closeOf s pool h f u k).change.answer ≡ Done → SlotClosed (closeOf s pool h f u k)
-  unfolding closeOf
-  close-tells e = change-tells true (withEndpoint s k Closed) (with_head h k (replicate 17 0)) SlotClosed (λ from _. slot-closed from) e
+  pub close_tells : (close_of s pool h f u k).change.answer ≡ Done → SlotClosed (close_of s pool h f u k)
+  unfolding close_of
+  close_tells e = change_tells true (with_endpoint s k Closed) (with_head h k (replicate 17 0)) SlotClosed (λ from _. slot_closed from) e
 
-  pub close-denied : (r : Refusal) → (closeOf s pool h f u k).change.answer ≡ Refused r
-      → ((closeOf s pool h f u k).change.state ≡ s) × ((closeOf s pool h f u k).heads ≡ h)
-  unfolding closeOf
-  close-denied r e = change-denied true (withEndpoint s k Closed) (with_head h k (replicate 17 0)) r e
+  pub close_denied : (r : Refusal) → (close_of s pool h f u k).change.answer ≡ Refused r
+      → ((close_of s pool h f u k).change.state ≡ s) × ((close_of s pool h f u k).heads ≡ h)
+  unfolding close_of
+  close_denied r e = change_denied true (with_endpoint s k Closed) (with_head h k (replicate 17 0)) r e
 
   -- no word but those of its head, whatever is answered
-  pub close-only : Only (17 * (k + 1)) 17 h (closeOf s pool h f u k).heads
-  unfolding closeOf
-  close-only =
-      change-by true (withEndpoint s k Closed) (with_head h k (replicate 17 0)) (λ c. Only (17 * (k + 1)) 17 h c.heads)
-      (λ r. only-all (17 * (k + 1)) 17 h) (λ from _. (slot-closed from).only)
+  pub close_only : Only (17 * (k + 1)) 17 h (close_of s pool h f u k).heads
+  unfolding close_of
+  close_only =
+      change_by_lem true (with_endpoint s k Closed) (with_head h k (replicate 17 0)) (λ c. Only (17 * (k + 1)) 17 h c.heads)
+      (λ r. only_all (17 * (k + 1)) 17 h) (λ from _. (slot_closed from).only)
 
-  pub close-keeps : Wide s → inRanges s ≡ true → inRanges (closeOf s pool h f u k).change.state ≡ true
-  unfolding closeOf
-  close-keeps w e =
-      change-by true (withEndpoint s k Closed) (with_head h k (replicate 17 0)) (λ c. inRanges c.change.state ≡ true) (λ r. e)
+  pub close_keeps : Wide s → in_ranges s ≡ true → in_ranges (close_of s pool h f u k).change.state ≡ true
+  unfolding close_of
+  close_keeps w e =
+      change_by_lem true (with_endpoint s k Closed) (with_head h k (replicate 17 0)) (λ c. in_ranges c.change.state ≡ true) (λ r. e)
       (λ from _.
-      let room = (open-room s pool h f u k from.accepted from.is_open).0 in
-      ranges-make (withEndpoint s k Closed) (endpoint-keeps s k (ranges-tell s e) w room Closed tt (λ le. refl)))
+      let room = (open_room s pool h f u k from.accepted from.is_open).0 in
+      ranges_make (with_endpoint s k Closed) (endpoint_keeps s k (ranges_tell s e) w room Closed tt (λ le. refl)))
 
-  pub closed-endpoint : Wide s → (closeOf s pool h f u k).change.answer ≡ Done
-      → endpointAt (closeOf s pool h f u k).change.state k ≡ Closed
-  closed-endpoint w e =
-      let t = close-tells e in
-      let room = (open-room s pool h f u k t.from.accepted t.from.is_open).0 in
-      rw t.state-is (endpoint-same s k Closed w room tt)
+  pub closed_endpoint : Wide s → (close_of s pool h f u k).change.answer ≡ Done
+      → endpoint_at (close_of s pool h f u k).change.state k ≡ Closed
+  closed_endpoint w e =
+      let t = close_tells e in
+      let room = (open_room s pool h f u k t.from.accepted t.from.is_open).0 in
+      rw t.state_is (endpoint_same s k Closed w room tt)
 
   -- of the others nothing changes, whatever is answered
-  pub close-others : (j : ℕ) → j ≢ k → endpointAt (closeOf s pool h f u k).change.state j ≡ endpointAt s j
-  unfolding closeOf
-  close-others j ne =
-      change-by true (withEndpoint s k Closed) (with_head h k (replicate 17 0)) (λ c. endpointAt c.change.state j ≡ endpointAt s j)
-      (λ r. refl) (λ from _. endpoint-other s k Closed j ne)
+  pub close_others : (j : ℕ) → j ≢ k → endpoint_at (close_of s pool h f u k).change.state j ≡ endpoint_at s j
+  unfolding close_of
+  close_others j ne =
+      change_by_lem true (with_endpoint s k Closed) (with_head h k (replicate 17 0)) (λ c. endpoint_at c.change.state j ≡ endpoint_at s j)
+      (λ r. refl) (λ from _. endpoint_other s k Closed j ne)
 
   -- ---- set address: word 1 alone
 
   pub record WordSet (w : ℕ) (c : ChangeLeft) : Type 0 where
     pub from : Changes
-    pub word : headWord c.heads (k + 1) 1 ≡ w
+    pub word : head_word c.heads (k + 1) 1 ≡ w
     pub only : Only (17 * (k + 1) + 1) 1 h c.heads
 
-  word_set : (w : ℕ) (s' : Ehci) → Changes → WordSet w (changeLeft (record { answer = Done; state = s' }) (withHeadWord h (k + 1) 1 w))
+  word_set : (w : ℕ) (s' : Ehci) → Changes → WordSet w (change_left (record { answer = Done; state = s' }) (with_head_word h (k + 1) 1 w))
   word_set w s' from =
       record {
         from = from;
         word = get_or-set_same h (17 * (k + 1) + 1) w 0 (word_room from);
-        only = set-only h (17 * (k + 1) + 1) w;
+        only = set_only h (17 * (k + 1) + 1) w;
       }
 
-  word-only : (good : Bool) (w : ℕ) (s' : Ehci)
-      → Only (17 * (k + 1) + 1) 1 h (changeOf s pool h f u k good s' (withHeadWord h (k + 1) 1 w)).heads
-  word-only good w s' =
-      change-by good s' (withHeadWord h (k + 1) 1 w) (λ c. Only (17 * (k + 1) + 1) 1 h c.heads)
-      (λ r. only-all (17 * (k + 1) + 1) 1 h) (λ from _. (word_set w s' from).only)
+  word_only : (good : Bool) (w : ℕ) (s' : Ehci)
+      → Only (17 * (k + 1) + 1) 1 h (change_of s pool h f u k good s' (with_head_word h (k + 1) 1 w)).heads
+  word_only good w s' =
+      change_by_lem good s' (with_head_word h (k + 1) 1 w) (λ c. Only (17 * (k + 1) + 1) 1 h c.heads)
+      (λ r. only_all (17 * (k + 1) + 1) 1 h) (λ from _. (word_set w s' from).only)
 
   module _ (a : ℕ) where
-    pub address-tells : (setAddressOf s pool h f u k a).change.answer ≡ Done
-        → (a ≤ 127) × WordSet (withAddress (headWord h (k + 1) 1) a) (setAddressOf s pool h f u k a)
-    unfolding setAddressOf
-    address-tells e =
-        let w : ℕ = withAddress (headWord h (k + 1) 1) a in
-        change-tells (leb a 127) s (withHeadWord h (k + 1) 1 w) (λ c. (a ≤ 127) × WordSet w c)
+    pub address_tells : (set_address_of s pool h f u k a).change.answer ≡ Done
+        → (a ≤ 127) × WordSet (with_address (head_word h (k + 1) 1) a) (set_address_of s pool h f u k a)
+    unfolding set_address_of
+    address_tells e =
+        let w : ℕ = with_address (head_word h (k + 1) 1) a in
+        change_tells (leb a 127) s (with_head_word h (k + 1) 1 w) (λ c. (a ≤ 127) × WordSet w c)
         (λ from g. (leb-true a 127 g, word_set w s from)) e
 
-    pub address-denied : (r : Refusal) → (setAddressOf s pool h f u k a).change.answer ≡ Refused r
-        → (setAddressOf s pool h f u k a).heads ≡ h
-    unfolding setAddressOf
-    address-denied r e = (change-denied (leb a 127) s (withHeadWord h (k + 1) 1 (withAddress (headWord h (k + 1) 1) a)) r e).1
+    pub address_denied : (r : Refusal) → (set_address_of s pool h f u k a).change.answer ≡ Refused r
+        → (set_address_of s pool h f u k a).heads ≡ h
+    unfolding set_address_of
+    address_denied r e = (change_denied (leb a 127) s (with_head_word h (k + 1) 1 (with_address (head_word h (k + 1) 1) a)) r e).1
 
-    pub address-state : (setAddressOf s pool h f u k a).change.state ≡ s
-    unfolding setAddressOf
-    address-state =
-        change-by (leb a 127) s (withHeadWord h (k + 1) 1 (withAddress (headWord h (k + 1) 1) a)) (λ c. c.change.state ≡ s)
+    pub address_state : (set_address_of s pool h f u k a).change.state ≡ s
+    unfolding set_address_of
+    address_state =
+        change_by_lem (leb a 127) s (with_head_word h (k + 1) 1 (with_address (head_word h (k + 1) 1) a)) (λ c. c.change.state ≡ s)
         (λ r. refl) (λ _ _. refl)
 
     -- no word but that one, whatever is answered
-    pub address-only : Only (17 * (k + 1) + 1) 1 h (setAddressOf s pool h f u k a).heads
-    unfolding setAddressOf
-    address-only = word-only (leb a 127) (withAddress (headWord h (k + 1) 1) a) s
+    pub address_only : Only (17 * (k + 1) + 1) 1 h (set_address_of s pool h f u k a).heads
+    unfolding set_address_of
+    address_only = word_only (leb a 127) (with_address (head_word h (k + 1) 1) a) s
 
   -- ---- set packet size: word 1, and the size of the slot
 
@@ -188,134 +188,134 @@ module _ (s : Ehci) (pool : ℕ) (h : List ℕ) (f u k : ℕ) where
   -- the slot of a call that is let pass is idle, and its kind is that of a slot that is open
   module _ (from : Changes) where
     room : k < 32
-    room = (open-room s pool h f u k from.accepted from.is_open).0
+    room = (open_room s pool h f u k from.accepted from.is_open).0
 
-    good-here : slotGood s.settings.endpoints s.settings.limit k s.unanswered slot ≡ true
-    good-here = (accepts-tells s (lengths pool (length h) f u) from.accepted).ranges.slots k room
+    good_here : slot_good s.settings.endpoints s.settings.limit k s.unanswered slot ≡ true
+    good_here = (accepts_tells s (lengths pool (length h) f u) from.accepted).ranges.slots k room
 
-    by-phase : Phase slot s.unanswered → (slot.phase ≡ 1) × (slot.kind ≤ 3)
-    by-phase (Phase.closed p _ _ _) =
-        absurd (false-true (ap hasEndpoint (at_slot s k slot Closed room refl (decode-closed slot (λ q. omega arith) (λ q. omega arith) (λ q. omega arith))) ∙ from.is_open))
-    by-phase (Phase.idle p o _) = (p, o.most)
-    by-phase (Phase.linked p _ _ _ _ _) =
-        absurd (false-true (sym from.is-idle ∙ sym (ap holdsRequest (at_slot s k slot _ room refl (decode-linked slot (pipeOf slot) (requestOf slot) p refl refl)))))
-    by-phase (Phase.unlinking p _ _ _ _ _) =
-        absurd (false-true (sym from.is-idle ∙ sym (ap holdsRequest (at_slot s k slot _ room refl (decode-unlinking slot (pipeOf slot) (requestOf slot) (boundaryOf slot) p refl refl refl)))))
+    by_phase : Phase slot s.unanswered → (slot.phase ≡ 1) × (slot.kind ≤ 3)
+    by_phase (Phase.closed p _ _ _) =
+        absurd (false_true (ap has_endpoint (at_slot s k slot Closed room refl (decode_closed slot (λ q. omega arith) (λ q. omega arith) (λ q. omega arith))) ∙ from.is_open))
+    by_phase (Phase.idle p o _) = (p, o.most)
+    by_phase (Phase.linked p _ _ _ _ _) =
+        absurd (false_true (sym from.is_idle_lem ∙ sym (ap holds_request (at_slot s k slot _ room refl (decode_linked slot (pipe_of slot) (request_of slot) p refl refl)))))
+    by_phase (Phase.unlinking p _ _ _ _ _) =
+        absurd (false_true (sym from.is_idle_lem ∙ sym (ap holds_request (at_slot s k slot _ room refl (decode_unlinking slot (pipe_of slot) (request_of slot) (boundary_of slot) p refl refl refl)))))
 
-    idle-here : (slot.phase ≡ 1) × (slot.kind ≤ 3)
-    idle-here = by-phase (slot-tells s.settings.endpoints s.settings.limit k s.unanswered slot good-here).by-phase
+    idle_here : (slot.phase ≡ 1) × (slot.kind ≤ 3)
+    idle_here = by_phase (slot_tells s.settings.endpoints s.settings.limit k s.unanswered slot good_here).by_phase
 
-    pub idle-pipe : endpointAt s k ≡ Idle (pipeOf slot)
-    idle-pipe = sym (at_slot s k slot (Idle (pipeOf slot)) room refl (decode-idle slot (pipeOf slot) idle-here.0 refl))
+    pub idle_pipe : endpoint_at s k ≡ Idle (pipe_of slot)
+    idle_pipe = sym (at_slot s k slot (Idle (pipe_of slot)) room refl (decode_idle slot (pipe_of slot) idle_here.0 refl))
 
-    was-good : OpenPipe s.settings.limit (pipeOf slot)
-    was-good =
-        subst (λ (y : Endpoint). EndpointGood s.settings.limit s.unanswered y) (sym (decode-idle slot (pipeOf slot) idle-here.0 refl))
-        (endpoint-tells s.settings.endpoints s.settings.limit k s.unanswered slot good-here)
+    was_good : OpenPipe s.settings.limit (pipe_of slot)
+    was_good =
+        subst (λ (y : Endpoint). EndpointGood s.settings.limit s.unanswered y) (sym (decode_idle slot (pipe_of slot) idle_here.0 refl))
+        (endpoint_tells s.settings.endpoints s.settings.limit k s.unanswered slot good_here)
 
     -- a size that is let pass is in its range
-    pub resized-good : (x : ℕ) → raisedGood s k x ≡ true → OpenPipe s.settings.limit (withSize (pipeOf slot) (max x 8))
-    resized-good x g =
+    pub resized_good : (x : ℕ) → raised_good s k x ≡ true → OpenPipe s.settings.limit (with_size (pipe_of slot) (max x 8))
+    resized_good x g =
         record {
-          next-least = was-good.next-least;
-          never = was-good.never;
-          size = rw (kind-back slot.kind idle-here.1) (size-told s.settings.limit slot.kind (max x 8) g);
+          next_least = was_good.next_least;
+          never = was_good.never;
+          size = rw (kind_back slot.kind idle_here.1) (size_told s.settings.limit slot.kind (max x 8) g);
         }
 
   module _ (x : ℕ) where
     abbrev resized : Pipe
-    resized = withSize (pipeOf slot) (max x 8)
+    resized = with_size (pipe_of slot) (max x 8)
 
     abbrev sized : Ehci
-    sized = withEndpoint s k (Idle resized)
+    sized = with_endpoint s k (Idle resized)
 
     abbrev word : ℕ
-    word = withPacketSize (headWord h (k + 1) 1) x
+    word = with_packet_size (head_word h (k + 1) 1) x
 
     pub record SizeSet (c : ChangeLeft) : Type 0 where
       pub written : WordSet word c
       pub good : OpenPipe s.settings.limit resized
-      pub state-is : c.change.state ≡ sized
+      pub state_is : c.change.state ≡ sized
 
-    pub size-tells : (setPacketSizeOf s pool h f u k x).change.answer ≡ Done → SizeSet (setPacketSizeOf s pool h f u k x)
-    unfolding setPacketSizeOf
-    size-tells e =
-        change-tells (raisedGood s k x) sized (withHeadWord h (k + 1) 1 word) SizeSet
-        (λ from g. record { written = word_set word sized from; good = resized-good from x g; state-is = refl }) e
+    pub size_tells : (set_packet_size_of s pool h f u k x).change.answer ≡ Done → SizeSet (set_packet_size_of s pool h f u k x)
+    unfolding set_packet_size_of
+    size_tells e =
+        change_tells (raised_good s k x) sized (with_head_word h (k + 1) 1 word) SizeSet
+        (λ from g. record { written = word_set word sized from; good = resized_good from x g; state_is = refl }) e
 
-    pub size-denied : (r : Refusal) → (setPacketSizeOf s pool h f u k x).change.answer ≡ Refused r
-        → ((setPacketSizeOf s pool h f u k x).change.state ≡ s) × ((setPacketSizeOf s pool h f u k x).heads ≡ h)
-    unfolding setPacketSizeOf
-    size-denied r e = change-denied (raisedGood s k x) sized (withHeadWord h (k + 1) 1 word) r e
+    pub size_denied : (r : Refusal) → (set_packet_size_of s pool h f u k x).change.answer ≡ Refused r
+        → ((set_packet_size_of s pool h f u k x).change.state ≡ s) × ((set_packet_size_of s pool h f u k x).heads ≡ h)
+    unfolding set_packet_size_of
+    size_denied r e = change_denied (raised_good s k x) sized (with_head_word h (k + 1) 1 word) r e
 
     -- no word but that one, whatever is answered
-    pub size-only : Only (17 * (k + 1) + 1) 1 h (setPacketSizeOf s pool h f u k x).heads
-    unfolding setPacketSizeOf
-    size-only = word-only (raisedGood s k x) word sized
+    pub size_only : Only (17 * (k + 1) + 1) 1 h (set_packet_size_of s pool h f u k x).heads
+    unfolding set_packet_size_of
+    size_only = word_only (raised_good s k x) word sized
 
-    pub size-keeps : Wide s → inRanges s ≡ true → inRanges (setPacketSizeOf s pool h f u k x).change.state ≡ true
-    unfolding setPacketSizeOf
-    size-keeps w e =
-        change-by (raisedGood s k x) sized (withHeadWord h (k + 1) 1 word) (λ c. inRanges c.change.state ≡ true) (λ r. e)
-        (λ from g. ranges-make sized
-        (endpoint-keeps s k (ranges-tell s e) w (room from) (Idle resized) (resized-good from x g)
+    pub size_keeps : Wide s → in_ranges s ≡ true → in_ranges (set_packet_size_of s pool h f u k x).change.state ≡ true
+    unfolding set_packet_size_of
+    size_keeps w e =
+        change_by_lem (raised_good s k x) sized (with_head_word h (k + 1) 1 word) (λ c. in_ranges c.change.state ≡ true) (λ r. e)
+        (λ from g. ranges_make sized
+        (endpoint_keeps s k (ranges_tell s e) w (room from) (Idle resized) (resized_good from x g)
         (λ le. let lt = from.below in absurd (omega arith))))
 
-    pub sized-endpoint : Wide s → (setPacketSizeOf s pool h f u k x).change.answer ≡ Done
-        → endpointAt (setPacketSizeOf s pool h f u k x).change.state k ≡ Idle resized
-    sized-endpoint w e =
-        let t = size-tells e in rw t.state-is (endpoint-same s k (Idle resized) w (room t.written.from) tt)
+    pub sized_endpoint : Wide s → (set_packet_size_of s pool h f u k x).change.answer ≡ Done
+        → endpoint_at (set_packet_size_of s pool h f u k x).change.state k ≡ Idle resized
+    sized_endpoint w e =
+        let t = size_tells e in rw t.state_is (endpoint_same s k (Idle resized) w (room t.written.from) tt)
 
     -- of the others nothing changes, whatever is answered
-    pub size-others : (j : ℕ) → j ≢ k → endpointAt (setPacketSizeOf s pool h f u k x).change.state j ≡ endpointAt s j
-    unfolding setPacketSizeOf
-    size-others j ne =
-        change-by (raisedGood s k x) sized (withHeadWord h (k + 1) 1 word) (λ c. endpointAt c.change.state j ≡ endpointAt s j)
-        (λ r. refl) (λ from _. endpoint-other s k (Idle resized) j ne)
+    pub size_others : (j : ℕ) → j ≢ k → endpoint_at (set_packet_size_of s pool h f u k x).change.state j ≡ endpoint_at s j
+    unfolding set_packet_size_of
+    size_others j ne =
+        change_by_lem (raised_good s k x) sized (with_head_word h (k + 1) 1 word) (λ c. endpoint_at c.change.state j ≡ endpoint_at s j)
+        (λ r. refl) (λ from _. endpoint_other s k (Idle resized) j ne)
 
 -- ---- what EHCI 3.6.2 reads in the word
 
 module _ (s : Ehci) (pool : ℕ) (h : List ℕ) (f u k : ℕ) where
   abbrev was : ℕ
-  was = headWord h (k + 1) 1
+  was = head_word h (k + 1) 1
 
   -- the address that was asked, and every other field as before
-  pub address-fields : (a : ℕ) → (setAddressOf s pool h f u k a).change.answer ≡ Done
-      → Characteristics (headWord (setAddressOf s pool h f u k a).heads (k + 1) 1) a (inactivateOnNext was)
-      (endpointNumber was) (endpointSpeed was) (toggleControl was) (headOfList was) (maximumPacketLength was)
-      (controlEndpoint was) (nakReload was)
-  address-fields a e =
-      let t = address-tells s pool h f u k a e in
+  pub address_fields : (a : ℕ) → (set_address_of s pool h f u k a).change.answer ≡ Done
+      → Characteristics (head_word (set_address_of s pool h f u k a).heads (k + 1) 1) a (inactivate_on_next was)
+      (endpoint_number was) (endpoint_speed was) (toggle_control was) (head_of_list was) (maximum_packet_length was)
+      (control_endpoint was) (nak_reload was)
+  address_fields a e =
+      let t = address_tells s pool h f u k a e in
       let small : a % 128 ≡ a = omega (arith, t.0) in
       subst
-      (λ (v : ℕ). Characteristics v a (inactivateOnNext was) (endpointNumber was) (endpointSpeed was) (toggleControl was)
-      (headOfList was) (maximumPacketLength was) (controlEndpoint was) (nakReload was)) (sym t.1.word)
+      (λ (v : ℕ). Characteristics v a (inactivate_on_next was) (endpoint_number was) (endpoint_speed was) (toggle_control was)
+      (head_of_list was) (maximum_packet_length was) (control_endpoint was) (nak_reload was)) (sym t.1.word)
       (subst
-      (λ (b : ℕ). Characteristics (withAddress was a) b (inactivateOnNext was) (endpointNumber was) (endpointSpeed was)
-      (toggleControl was) (headOfList was) (maximumPacketLength was) (controlEndpoint was) (nakReload was)) small
-      (address-reads was a))
+      (λ (b : ℕ). Characteristics (with_address was a) b (inactivate_on_next was) (endpoint_number was) (endpoint_speed was)
+      (toggle_control was) (head_of_list was) (maximum_packet_length was) (control_endpoint was) (nak_reload was)) small
+      (address_reads was a))
 
   -- the size raised to 8, and every other field as before
-  pub size-fields : (x : ℕ) → x < 256 → (setPacketSizeOf s pool h f u k x).change.answer ≡ Done
-      → Characteristics (headWord (setPacketSizeOf s pool h f u k x).heads (k + 1) 1) (deviceAddress was) (inactivateOnNext was)
-      (endpointNumber was) (endpointSpeed was) (toggleControl was) (headOfList was) (max x 8) (controlEndpoint was)
-      (nakReload was)
-  size-fields x lt e =
+  pub size_fields : (x : ℕ) → x < 256 → (set_packet_size_of s pool h f u k x).change.answer ≡ Done
+      → Characteristics (head_word (set_packet_size_of s pool h f u k x).heads (k + 1) 1) (device_address was) (inactivate_on_next was)
+      (endpoint_number was) (endpoint_speed was) (toggle_control was) (head_of_list was) (max x 8) (control_endpoint was)
+      (nak_reload was)
+  size_fields x lt e =
       subst
-      (λ (v : ℕ). Characteristics v (deviceAddress was) (inactivateOnNext was) (endpointNumber was) (endpointSpeed was)
-      (toggleControl was) (headOfList was) (max x 8) (controlEndpoint was) (nakReload was))
-      (sym (size-tells s pool h f u k x e).written.word) (packet-reads was x (omega (arith, lt)))
+      (λ (v : ℕ). Characteristics v (device_address was) (inactivate_on_next was) (endpoint_number was) (endpoint_speed was)
+      (toggle_control was) (head_of_list was) (max x 8) (control_endpoint was) (nak_reload was))
+      (sym (size_tells s pool h f u k x e).written.word) (packet_reads was x (omega (arith, lt)))
 
 -- the arrays of the state keep their lengths
 module _ (s : Ehci) (pool : ℕ) (h : List ℕ) (f u k : ℕ) (w : Wide s) where
-  pub close-wide : Wide (closeOf s pool h f u k).change.state
-  unfolding closeOf withEndpoint
-  close-wide =
-      change-by s pool h f u k true (withEndpoint s k Closed) (with_head h k (replicate 17 0)) (λ c. Wide c.change.state) (λ r. w)
-      (λ from _. slot-wide s k (encoded Closed) w)
+  pub close_wide : Wide (close_of s pool h f u k).change.state
+  unfolding close_of with_endpoint
+  close_wide =
+      change_by_lem s pool h f u k true (with_endpoint s k Closed) (with_head h k (replicate 17 0)) (λ c. Wide c.change.state) (λ r. w)
+      (λ from _. slot_wide s k (encoded Closed) w)
 
-  pub size-wide : (x : ℕ) → Wide (setPacketSizeOf s pool h f u k x).change.state
-  unfolding setPacketSizeOf withEndpoint
-  size-wide x =
-      change-by s pool h f u k (raisedGood s k x) _ _ (λ c. Wide c.change.state) (λ r. w)
-      (λ from _. slot-wide s k (encoded (Idle (withSize (pipeOf (slot_at s k)) (max x 8)))) w)
+  pub size_wide : (x : ℕ) → Wide (set_packet_size_of s pool h f u k x).change.state
+  unfolding set_packet_size_of with_endpoint
+  size_wide x =
+      change_by_lem s pool h f u k (raised_good s k x) _ _ (λ c. Wide c.change.state) (λ r. w)
+      (λ from _. slot_wide s k (encoded (Idle (with_size (pipe_of (slot_at s k)) (max x 8)))) w)

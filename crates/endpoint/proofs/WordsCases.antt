@@ -7,90 +7,90 @@ use borrow.Author.Tests.{le-leb, lt-leb, not-false, not-true}
 use Rattle.common.specs.declared.kinds.EndpointType.{EndpointType}
 use Rattle.common.specs.declared.answer.Answer.TheVariants.{Done, Refused as RefusedCall}
 use Rattle.common.specs.declared.answer.Refusal.TheVariants.{InvalidParameter, SlotLimitReached, InvalidEndpoint, QueueFull, NotSupported}
-use Rattle.common.specs.Kinds.{isIsochronous}
+use Rattle.common.specs.Kinds.{is_isochronous}
 use Rattle.settings.specs.declared.settings.Settings.{Settings}
 use Rattle.state.specs.Plain.{Ehci}
 use Rattle.words.specs.declared.core.Rest.{Rest}
 use Rattle.words.specs.Good.{Good}
-use Rattle.words.specs.Record.{phaseIn, word_at}
-use Rattle.words.specs.View.{eachFrom, state_of}
-use Rattle.words.proofs.Each.{each-here}
-use Rattle.words.proofs.GoodLaws.{good_length, good-settings}
-use Rattle.controller.specs.Readers.{isOpen, isUncollected}
+use Rattle.words.specs.Record.{phase_in, word_at}
+use Rattle.words.specs.View.{each_from, state_of}
+use Rattle.words.proofs.Each.{each_here}
+use Rattle.words.proofs.GoodLaws.{good_length, good_settings}
+use Rattle.controller.specs.Readers.{is_opened, is_uncollected}
 use Rattle.controller.specs.Words.{held_at, open_at}
-use Rattle.controller.proofs.WordsCases.{held-viewed, open-viewed}
+use Rattle.controller.proofs.WordsCases.{held_viewed, open_viewed}
 use Rattle.endpoint.specs.declared.calls.Opened.TheVariants.{Slot, Refused}
-use Rattle.endpoint.specs.Calls.{lowestSlot}
-use Rattle.endpoint.specs.Lowest.{closedFrom}
-use Rattle.endpoint.specs.Words.{chosenWords, verdictWords}
-use Rattle.endpoint.proofs.LowestCases.{found, not-here, nowhere}
+use Rattle.endpoint.specs.Calls.{lowest_slot}
+use Rattle.endpoint.specs.Lowest.{closed_from}
+use Rattle.endpoint.specs.Words.{chosen_words, verdict_words}
+use Rattle.endpoint.proofs.LowestCases.{found, not_here, nowhere}
 
 -- ---- `lowest_closed`: what is found from slot k on is what is found
 
-abbrev pub phasesOf : List ℕ → List ℕ
-phasesOf ws = eachFrom (λ k. phaseIn (word_at ws k)) 0 32
+abbrev pub phases_of : List ℕ → List ℕ
+phases_of ws = each_from (λ k. phase_in (word_at ws k)) 0 32
 
 module _ (ws : List ℕ) (n : ℕ) where
   abbrev pub Sought : ℕ → Type 0
-  Sought k = closedFrom (phasesOf ws) k (n - k) ≡ closedFrom (phasesOf ws) 0 n
+  Sought k = closed_from (phases_of ws) k (n - k) ≡ closed_from (phases_of ws) 0 n
 
-  pub seek-starts : Sought 0
-  seek-starts = rw (sub-zero n)
+  pub seek_starts : Sought 0
+  seek_starts = rw (sub-zero n)
 
   module _ (k : ℕ) (lt : k < n) (most : n ≤ 32) where
-    pub seek-goes-on : (phaseIn (word_at ws k) ≡ 0 → ⊥) → Sought k → Sought (k + 1)
-    seek-goes-on ne inv =
-        not-here (phasesOf ws) k n (λ z. ne (sym (each-here (λ j. phaseIn (word_at ws j)) 32 k (omega arith)) ∙ z)) lt
-        (closedFrom (phasesOf ws) 0 n) inv
+    pub seek_goes_on : (phase_in (word_at ws k) ≡ 0 → ⊥) → Sought k → Sought (k + 1)
+    seek_goes_on ne inv =
+        not_here (phases_of ws) k n (λ z. ne (sym (each_here (λ j. phase_in (word_at ws j)) 32 k (omega arith)) ∙ z)) lt
+        (closed_from (phases_of ws) 0 n) inv
 
-    pub seek_finds : phaseIn (word_at ws k) ≡ 0 → Sought k → k ≡ closedFrom (phasesOf ws) 0 n
+    pub seek_finds : phase_in (word_at ws k) ≡ 0 → Sought k → k ≡ closed_from (phases_of ws) 0 n
     seek_finds z inv =
-        found (phasesOf ws) k n (each-here (λ j. phaseIn (word_at ws j)) 32 k (omega arith) ∙ z) lt (closedFrom (phasesOf ws) 0 n) inv
+        found (phases_of ws) k n (each_here (λ j. phase_in (word_at ws j)) 32 k (omega arith) ∙ z) lt (closed_from (phases_of ws) 0 n) inv
 
-  pub seek-ends : (k : ℕ) → n ≤ k → Sought k → k ≡ closedFrom (phasesOf ws) 0 n
-  seek-ends k le inv = nowhere (phasesOf ws) k n le (closedFrom (phasesOf ws) 0 n) inv
+  pub seek_ends : (k : ℕ) → n ≤ k → Sought k → k ≡ closed_from (phases_of ws) 0 n
+  seek_ends k le inv = nowhere (phases_of ws) k n le (closed_from (phases_of ws) 0 n) inv
 
 module _ (s : Settings) (r : Rest) (ws : List ℕ) where
-  pub lowest-is : (k : ℕ) → k ≡ closedFrom (phasesOf ws) 0 s.endpoints → k ≡ lowestSlot (state_of s r ws)
+  pub lowest_is : (k : ℕ) → k ≡ closed_from (phases_of ws) 0 s.endpoints → k ≡ lowest_slot (state_of s r ws)
   unfolding state_of
-  lowest-is k e = e
+  lowest_is k e = e
 
-  pub word-inside : (j : ℕ) → Good s r ws → j < s.endpoints → 6 * j < length ws
-  word-inside j good h = omega (arith, good_length s r ws good)
+  pub word_inside : (j : ℕ) → Good s r ws → j < s.endpoints → 6 * j < length ws
+  word_inside j good h = omega (arith, good_length s r ws good)
 
-  pub good-most : Good s r ws → s.endpoints ≤ 32
-  good-most good = (good-settings s r ws good).endpoints-most
+  pub good_most : Good s r ws → s.endpoints ≤ 32
+  good_most good = (good_settings s r ws good).endpoints_most
 
 -- ---- `choose`
 
-module _ (s : Ehci) (kind : EndpointType) (good : Bool) (i : Bool) (ei : i ≡ isIsochronous kind) where
-  pub words-kind : i ≡ true → Refused NotSupported ≡ chosenWords s kind good
-  unfolding chosenWords
-  words-kind t = rw (sym ei ∙ t)
+module _ (s : Ehci) (kind : EndpointType) (good : Bool) (i : Bool) (ei : i ≡ is_isochronous kind) where
+  pub words_kind : i ≡ true → Refused NotSupported ≡ chosen_words s kind good
+  unfolding chosen_words
+  words_kind t = rw (sym ei ∙ t)
 
-  pub words-fields : i ≡ false → not good ≡ true → Refused InvalidParameter ≡ chosenWords s kind good
-  unfolding chosenWords
-  words-fields t t₁ = rw (sym ei ∙ t, t₁)
+  pub words_fields : i ≡ false → not good ≡ true → Refused InvalidParameter ≡ chosen_words s kind good
+  unfolding chosen_words
+  words_fields t t₁ = rw (sym ei ∙ t, t₁)
 
-  module _ (k : ℕ) (ek : k ≡ lowestSlot s) where
-    pub none_below : i ≡ false → not good ≡ false → s.settings.endpoints ≤ k → Refused SlotLimitReached ≡ chosenWords s kind good
-    unfolding chosenWords
+  module _ (k : ℕ) (ek : k ≡ lowest_slot s) where
+    pub none_below : i ≡ false → not good ≡ false → s.settings.endpoints ≤ k → Refused SlotLimitReached ≡ chosen_words s kind good
+    unfolding chosen_words
     none_below t t₁ h = rw (sym ei ∙ t, t₁, sym ek, le-leb s.settings.endpoints k h)
 
-    pub one_below : i ≡ false → not good ≡ false → k < s.settings.endpoints → Slot k ≡ chosenWords s kind good
-    unfolding chosenWords
+    pub one_below : i ≡ false → not good ≡ false → k < s.settings.endpoints → Slot k ≡ chosen_words s kind good
+    unfolding chosen_words
     one_below t t₁ h = rw (sym ei ∙ t, t₁, sym ek, lt-leb s.settings.endpoints k h)
 
 module _ (s : Settings) (r : Rest) (ws : List ℕ) (kind : EndpointType) (good : Bool) (i : Bool) (k : ℕ) where
-  pub words-none : i ≡ isIsochronous kind → k ≡ lowestSlot (state_of s r ws) → i ≡ false → not good ≡ false → s.endpoints ≤ k
-      → Refused SlotLimitReached ≡ chosenWords (state_of s r ws) kind good
+  pub words_none : i ≡ is_isochronous kind → k ≡ lowest_slot (state_of s r ws) → i ≡ false → not good ≡ false → s.endpoints ≤ k
+      → Refused SlotLimitReached ≡ chosen_words (state_of s r ws) kind good
   unfolding state_of
-  words-none ei ek t t₁ h = none_below (state_of s r ws) kind good i ei k ek t t₁ h
+  words_none ei ek t t₁ h = none_below (state_of s r ws) kind good i ei k ek t t₁ h
 
-  pub words-slot : i ≡ isIsochronous kind → k ≡ lowestSlot (state_of s r ws) → i ≡ false → not good ≡ false → k < s.endpoints
-      → Slot k ≡ chosenWords (state_of s r ws) kind good
+  pub words_slot : i ≡ is_isochronous kind → k ≡ lowest_slot (state_of s r ws) → i ≡ false → not good ≡ false → k < s.endpoints
+      → Slot k ≡ chosen_words (state_of s r ws) kind good
   unfolding state_of
-  words-slot ei ek t t₁ h = one_below (state_of s r ws) kind good i ei k ek t t₁ h
+  words_slot ei ek t t₁ h = one_below (state_of s r ws) kind good i ei k ek t t₁ h
 
 -- ---- `check_slot`
 
@@ -98,25 +98,25 @@ module _ (s : Settings) (r : Rest) (ws : List ℕ) (words : Good s r ws) (k : �
   abbrev told : Ehci
   told = state_of s r ws
 
-  is_open : {b : Bool} → o ≡ b → isOpen told k ≡ b
-  is_open t = sym (eo ∙ open-viewed s r ws words k) ∙ t
+  is_open : {b : Bool} → o ≡ b → is_opened told k ≡ b
+  is_open t = sym (eo ∙ open_viewed s r ws words k) ∙ t
 
-  pub words-shut : not o ≡ true → RefusedCall InvalidEndpoint ≡ verdictWords told k good
-  unfolding verdictWords
-  words-shut t = rw (is_open (not-true o t))
+  pub words_shut : not o ≡ true → RefusedCall InvalidEndpoint ≡ verdict_words told k good
+  unfolding verdict_words
+  words_shut t = rw (is_open (not-true o t))
 
   module _ (u : Bool) (eu : u ≡ held_at ws k) where
-    is_held : {b : Bool} → u ≡ b → isUncollected told k ≡ b
-    is_held t = sym (eu ∙ held-viewed s r ws words k) ∙ t
+    is_held : {b : Bool} → u ≡ b → is_uncollected told k ≡ b
+    is_held t = sym (eu ∙ held_viewed s r ws words k) ∙ t
 
-    pub words-busy : not o ≡ false → u ≡ true → RefusedCall QueueFull ≡ verdictWords told k good
-    unfolding verdictWords
-    words-busy t t₁ = rw (is_open (not-false o t), is_held t₁)
+    pub words_busy : not o ≡ false → u ≡ true → RefusedCall QueueFull ≡ verdict_words told k good
+    unfolding verdict_words
+    words_busy t t₁ = rw (is_open (not-false o t), is_held t₁)
 
-    pub words-value : not o ≡ false → u ≡ false → not good ≡ true → RefusedCall InvalidParameter ≡ verdictWords told k good
-    unfolding verdictWords
-    words-value t t₁ t₂ = rw (is_open (not-false o t), is_held t₁, t₂)
+    pub words_value : not o ≡ false → u ≡ false → not good ≡ true → RefusedCall InvalidParameter ≡ verdict_words told k good
+    unfolding verdict_words
+    words_value t t₁ t₂ = rw (is_open (not-false o t), is_held t₁, t₂)
 
-    pub words-passed : not o ≡ false → u ≡ false → not good ≡ false → Done ≡ verdictWords told k good
-    unfolding verdictWords
-    words-passed t t₁ t₂ = rw (is_open (not-false o t), is_held t₁, t₂)
+    pub words_passed : not o ≡ false → u ≡ false → not good ≡ false → Done ≡ verdict_words told k good
+    unfolding verdict_words
+    words_passed t t₁ t₂ = rw (is_open (not-false o t), is_held t₁, t₂)

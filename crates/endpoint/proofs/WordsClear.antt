@@ -7,68 +7,68 @@ use Rattle.common.specs.Answers.{first}
 use Rattle.common.specs.declared.answer.Answer.{Answer}
 use Rattle.common.specs.declared.answer.Answer.TheVariants.{Done, Refused}
 use Rattle.common.specs.declared.answer.Refusal.{Refusal}
-use Rattle.common.proofs.CheckLaws.{verdictOf}
+use Rattle.common.proofs.CheckLaws.{verdict_of}
 use Rattle.settings.specs.declared.settings.Settings.{Settings}
 use Rattle.slot.specs.declared.slot.Slot.{Slot}
 use Rattle.state.specs.Plain.{Ehci}
-use Rattle.state.specs.Ranges.{inRanges}
+use Rattle.state.specs.Ranges.{in_ranges}
 use Rattle.state.specs.Slots.{slot_at}
 use Rattle.words.specs.declared.core.Rest.{Rest}
 use Rattle.words.specs.Good.{Good, Tidy}
-use Rattle.words.specs.Record.{SlotFits, idIn, last_at, putSlot, sizeIn, slotIn, word_at}
+use Rattle.words.specs.Record.{SlotFits, id_in, last_at, put_slot, size_in, slot_in, word_at}
 use Rattle.words.specs.View.{state_of}
-use Rattle.words.proofs.FitLaws.{id_below, id-one}
-use Rattle.words.proofs.ViewLaws.{view-slot}
-use Rattle.pipe.specs.Endpoints.{encoded, pipeOf, withEndpoint, withToggle}
+use Rattle.words.proofs.FitLaws.{id_below, id_one}
+use Rattle.words.proofs.ViewLaws.{view_slot}
+use Rattle.pipe.specs.Endpoints.{encoded, pipe_of, with_endpoint, with_toggle}
 use Rattle.pipe.specs.declared.endpoints.Endpoint.{Endpoint}
 use Rattle.pipe.specs.declared.endpoints.Endpoint.TheVariants.{Idle}
 use Rattle.pipe.specs.declared.endpoints.Pipe.{Pipe}
-use Rattle.pipe.proofs.WordsFits.{idle-fits}
-use Rattle.pipe.proofs.WordsLaws.{tidy-endpoint-put, view-endpoint-put}
-use Rattle.controller.specs.Readers.{isOpen, isUncollected}
-use Rattle.endpoint.specs.Calls.{clearChecks, clearHaltOf}
+use Rattle.pipe.proofs.WordsFits.{idle_fits}
+use Rattle.pipe.proofs.WordsLaws.{tidy_endpoint_put, view_endpoint_put}
+use Rattle.controller.specs.Readers.{is_opened, is_uncollected}
+use Rattle.endpoint.specs.Calls.{clear_checks, clear_halt_of}
 use Rattle.endpoint.specs.Plain.{Change}
-use Rattle.endpoint.specs.Words.{verdictWords}
-use Rattle.endpoint.proofs.WordsChange.{had-none, words-room, words-slot-room}
+use Rattle.endpoint.specs.Words.{verdict_words}
+use Rattle.endpoint.proofs.WordsChange.{had_none, words_room, words_slot_room}
 
 -- what is asked of a state in its ranges
-verdict-clear : (s : Ehci) (k : ℕ) → inRanges s ≡ true → verdictOf (verdictWords s k true) ≡ first (clearChecks s k)
-unfolding verdictWords
-verdict-clear s k e = by (isOpen s k) refl (isUncollected s k) refl
+verdict_clear : (s : Ehci) (k : ℕ) → in_ranges s ≡ true → verdict_of (verdict_words s k true) ≡ first (clear_checks s k)
+unfolding verdict_words
+verdict_clear s k e = by (is_opened s k) refl (is_uncollected s k) refl
   where
-    by : (o : Bool) → isOpen s k ≡ o → (u : Bool) → isUncollected s k ≡ u → verdictOf (verdictWords s k true) ≡ first (clearChecks s k)
+    by : (o : Bool) → is_opened s k ≡ o → (u : Bool) → is_uncollected s k ≡ u → verdict_of (verdict_words s k true) ≡ first (clear_checks s k)
     by false o u q = rw (e, o)
     by true o true q = rw (e, o, q)
     by true o false q = rw (e, o, q)
 
 -- what is put fits the words of its slot
-module _ (ws : List ℕ) (k : ℕ) (old p : Pipe) (eo : old ≡ pipeOf (slotIn (word_at ws k) (last_at ws k))) (ep : p ≡ withToggle old false) where
-  pipe-is : p ≡ withToggle (pipeOf (slotIn (word_at ws k) (last_at ws k))) false
-  pipe-is = ep ∙ ap (λ (q : Pipe). withToggle q false) eo
+module _ (ws : List ℕ) (k : ℕ) (old p : Pipe) (eo : old ≡ pipe_of (slot_in (word_at ws k) (last_at ws k))) (ep : p ≡ with_toggle old false) where
+  pipe_is : p ≡ with_toggle (pipe_of (slot_in (word_at ws k) (last_at ws k))) false
+  pipe_is = ep ∙ ap (λ (q : Pipe). with_toggle q false) eo
 
-  size_is : p.size ≡ sizeIn (word_at ws k)
-  unfolding slotIn
-  size_is = ap (λ (q : Pipe). q.size) pipe-is
+  size_is : p.size ≡ size_in (word_at ws k)
+  unfolding slot_in
+  size_is = ap (λ (q : Pipe). q.size) pipe_is
 
-  next-is : p.next ≡ idIn (last_at ws k)
-  unfolding slotIn
-  next-is = ap (λ (q : Pipe). q.next) pipe-is
+  next_is : p.next ≡ id_in (last_at ws k)
+  unfolding slot_in
+  next_is = ap (λ (q : Pipe). q.next) pipe_is
 
-  pub clearing-fits : last_at ws k < 2 ^ 64 → SlotFits (encoded (Idle p))
-  clearing-fits below =
-      idle-fits p (omega (arith, size_is)) (omega (arith, next-is, id-one (last_at ws k)))
-      (omega (arith, next-is, id_below (last_at ws k) below))
+  pub clearing_fits : last_at ws k < 2 ^ 64 → SlotFits (encoded (Idle p))
+  clearing_fits below =
+      idle_fits p (omega (arith, size_is)) (omega (arith, next_is, id_one (last_at ws k)))
+      (omega (arith, next_is, id_below (last_at ws k) below))
 
-module _ (s : Settings) (r : Rest) (ws : List ℕ) (good : Good s r ws) (k : ℕ) (a : Answer) (ea : a ≡ verdictWords (state_of s r ws) k true) where
+module _ (s : Settings) (r : Rest) (ws : List ℕ) (good : Good s r ws) (k : ℕ) (a : Answer) (ea : a ≡ verdict_words (state_of s r ws) k true) where
   abbrev st : Ehci
   st = state_of s r ws
 
-  asked : verdictOf a ≡ first (clearChecks st k)
-  asked = ap verdictOf ea ∙ verdict-clear st k good.ranges
+  asked : verdict_of a ≡ first (clear_checks st k)
+  asked = ap verdict_of ea ∙ verdict_clear st k good.ranges
 
-  pub clearing-refused : (q : Refusal) → a ≡ Refused q → ◌≡◌ {A = Change} (record { answer = Refused q; state = st }) (clearHaltOf st k)
-  unfolding clearHaltOf
-  clearing-refused q e = rw (sym asked ∙ ap verdictOf e)
+  pub clearing_refused : (q : Refusal) → a ≡ Refused q → ◌≡◌ {A = Change} (record { answer = Refused q; state = st }) (clear_halt_of st k)
+  unfolding clear_halt_of
+  clearing_refused q e = rw (sym asked ∙ ap verdict_of e)
 
   -- the heads are not lent: any that fit
   abbrev heads : List ℕ
@@ -78,30 +78,30 @@ module _ (s : Settings) (r : Rest) (ws : List ℕ) (good : Good s r ws) (k : ℕ
   fit = length-replicate {A = ℕ} (17 * (s.endpoints + 1)) 0
 
   module _ (e : a ≡ Done) where
-    pub clearing-room : 6 * k + 6 ≤ length ws
-    clearing-room = words-slot-room s r ws good heads fit k a true ea e
+    pub clearing_room : 6 * k + 6 ≤ length ws
+    clearing_room = words_slot_room s r ws good heads fit k a true ea e
 
-    module _ (old p : Pipe) (eo : old ≡ pipeOf (slotIn (word_at ws k) (last_at ws k))) (ep : p ≡ withToggle old false) (below : last_at ws k < 2 ^ 64)
-        (ws' : List ℕ) (ew : ws' ≡ putSlot ws k (encoded (Idle p))) where
+    module _ (old p : Pipe) (eo : old ≡ pipe_of (slot_in (word_at ws k) (last_at ws k))) (ep : p ≡ with_toggle old false) (below : last_at ws k < 2 ^ 64)
+        (ws' : List ℕ) (ew : ws' ≡ put_slot ws k (encoded (Idle p))) where
       low : k < 32
-      low = (words-room s r ws good heads fit k a true ea e).0
+      low = (words_room s r ws good heads fit k a true ea e).0
 
-      pipe-state : Idle p ≡ Idle (withToggle (pipeOf (slot_at st k)) false)
-      pipe-state =
-          ap Idle (pipe-is ws k old p eo ep) ∙ ap (λ (y : Slot). Idle (withToggle (pipeOf y) false)) (sym (view-slot s r ws k low))
+      pipe_state : Idle p ≡ Idle (with_toggle (pipe_of (slot_at st k)) false)
+      pipe_state =
+          ap Idle (pipe_is ws k old p eo ep) ∙ ap (λ (y : Slot). Idle (with_toggle (pipe_of y) false)) (sym (view_slot s r ws k low))
 
-      put-state : state_of s r ws' ≡ withEndpoint st k (Idle (withToggle (pipeOf (slot_at st k)) false))
-      put-state =
+      put_state_lem : state_of s r ws' ≡ with_endpoint st k (Idle (with_toggle (pipe_of (slot_at st k)) false))
+      put_state_lem =
           ap (λ (l : List ℕ). state_of s r l) ew
-          ∙ view-endpoint-put ws k (Idle p) low clearing-room (clearing-fits ws k old p eo ep below) s r
-          ∙ ap (λ (y : Endpoint). withEndpoint st k y) pipe-state
+          ∙ view_endpoint_put ws k (Idle p) low clearing_room (clearing_fits ws k old p eo ep below) s r
+          ∙ ap (λ (y : Endpoint). with_endpoint st k y) pipe_state
 
-      pub clearing-done : ◌≡◌ {A = Change} (record { answer = Done; state = state_of s r ws' }) (clearHaltOf st k)
-      unfolding clearHaltOf
-      clearing-done = rw (put-state, sym asked ∙ ap verdictOf e)
+      pub clearing_done : ◌≡◌ {A = Change} (record { answer = Done; state = state_of s r ws' }) (clear_halt_of st k)
+      unfolding clear_halt_of
+      clearing_done = rw (put_state_lem, sym asked ∙ ap verdict_of e)
 
-      pub clearing-tidy : Tidy s r ws'
-      clearing-tidy =
+      pub clearing_tidy : Tidy s r ws'
+      clearing_tidy =
           subst (λ (l : List ℕ). Tidy s r l) (sym ew)
-          (tidy-endpoint-put ws k (Idle p) clearing-room (clearing-fits ws k old p eo ep below) s r
-          (λ _. had-none s r ws good heads fit k a true ea e) good.tidy)
+          (tidy_endpoint_put ws k (Idle p) clearing_room (clearing_fits ws k old p eo ep below) s r
+          (λ _. had_none s r ws good heads fit k a true ea e) good.tidy)

@@ -1,7 +1,7 @@
 -- Document 01: open endpoint, close, set address, set packet size; 02 order 6: clear-halt.
 use Rattle.core.specs.Prelude.{ℕ, ◌+◌, ◌*◌, max, Bool, true, false, not, List, [], ◌∷◌, length, replicate, nat_le}
 use Rattle.common.specs.declared.kinds.EndpointType.{EndpointType}
-use Rattle.descriptor.specs.Heads.{endpointHead, words_of, withAddress, withPacketSize}
+use Rattle.descriptor.specs.Heads.{endpoint_head, words_of, with_address, with_packet_size}
 use Rattle.common.specs.Tests.{every}
 use Rattle.state.specs.Plain.{Ehci}
 use Rattle.common.specs.declared.answer.Answer.{Answer}
@@ -11,21 +11,21 @@ use Rattle.pipe.specs.declared.endpoints.Endpoint.{Endpoint}
 use Rattle.pipe.specs.declared.endpoints.Endpoint.TheVariants.{Closed, Idle}
 use Rattle.pipe.specs.declared.endpoints.Pipe.{Pipe}
 use Rattle.controller.specs.Plain.{Lengths}
-use Rattle.common.specs.Answers.{Check, first, refusalNumber, settle}
-use Rattle.pipe.specs.Endpoints.{kindNumber, pipeOf, withEndpoint, withToggle}
-use Rattle.slot.specs.Ranges.{sizeGood}
+use Rattle.common.specs.Answers.{Check, first, refusal_number, settle}
+use Rattle.pipe.specs.Endpoints.{kind_number, pipe_of, with_endpoint, with_toggle}
+use Rattle.slot.specs.Ranges.{size_good}
 use Rattle.state.specs.Slots.{slot_at}
-use Rattle.common.specs.Kinds.{isIsochronous}
-use Rattle.controller.specs.Lent.{acceptsOf, lengths}
-use Rattle.controller.specs.Readers.{isOpen, isUncollected}
-use Rattle.opening.specs.Heads.{headWord, withHeadWord}
+use Rattle.common.specs.Kinds.{is_isochronous}
+use Rattle.controller.specs.Lent.{accepts_of, lengths}
+use Rattle.controller.specs.Readers.{is_opened, is_uncollected}
+use Rattle.opening.specs.Heads.{head_word, with_head_word}
 use Rattle.common.specs.Rows.{put_at}
 use Rattle.endpoint.specs.Plain.{Change}
 use Rattle.endpoint.specs.Plain.{EndpointOpening}
 use Rattle.endpoint.specs.declared.calls.Opened.{Opened}
 use Rattle.endpoint.specs.declared.calls.Opened.TheVariants.{Slot, Refused}
-use Rattle.endpoint.specs.Lowest.{lowestClosed}
-use Rattle.state.specs.Ranges.{inRanges}
+use Rattle.endpoint.specs.Lowest.{lowest_closed}
+use Rattle.state.specs.Ranges.{in_ranges}
 
 -- slot k's head is at place k + 1
 abbrev pub with_head : List ℕ → ℕ → List ℕ → List ℕ
@@ -33,48 +33,48 @@ with_head heads k words = put_at heads (17 * (k + 1)) words
 
 -- ---- open endpoint
 
-abbrev pub openedNumber : Opened → ℕ
-openedNumber (Slot k) = 0
-openedNumber (Refused r) = refusalNumber r
+abbrev pub opened_number : Opened → ℕ
+opened_number (Slot k) = 0
+opened_number (Refused r) = refusal_number r
 
 -- what it leaves: its result and the heads
 pub record OpenLeft : Type 0 where
   pub opening : EndpointOpening
   pub heads : List ℕ
 
-abbrev pub openLeft : EndpointOpening → List ℕ → OpenLeft
-openLeft opening heads = record { opening = opening; heads = heads }
+abbrev pub open_left : EndpointOpening → List ℕ → OpenLeft
+open_left opening heads = record { opening = opening; heads = heads }
 
 -- "address 0..=127, number 0..=15, packet size 1..=1024", and of a bulk or interrupt endpoint not above C
-unfoldable pub fieldsGood : ℕ → EndpointType → ℕ → ℕ → ℕ → Bool
-fieldsGood limit kind address number packet =
-    every (nat_le address 127 ∷ nat_le number 15 ∷ sizeGood limit (kindNumber kind) packet ∷ [])
+unfoldable pub fields_good : ℕ → EndpointType → ℕ → ℕ → ℕ → Bool
+fields_good limit kind address number packet =
+    every (nat_le address 127 ∷ nat_le number 15 ∷ size_good limit (kind_number kind) packet ∷ [])
 
-abbrev pub lowestSlot : Ehci → ℕ
-lowestSlot s = lowestClosed s.phases s.settings.endpoints
+abbrev pub lowest_slot : Ehci → ℕ
+lowest_slot s = lowest_closed s.phases s.settings.endpoints
 
 -- "5, then address .. (1), then 2"
-unfoldable pub openChecks : Ehci → Lengths → EndpointType → Bool → List Check
-openChecks s lent kind good =
-    (not (acceptsOf s lent), InvalidParameter)
-    ∷ (isIsochronous kind, NotSupported)
+unfoldable pub open_checks : Ehci → Lengths → EndpointType → Bool → List Check
+open_checks s lent kind good =
+    (not (accepts_of s lent), InvalidParameter)
+    ∷ (is_isochronous kind, NotSupported)
     ∷ (not good, InvalidParameter)
-    ∷ (nat_le s.settings.endpoints (lowestSlot s), SlotLimitReached)
+    ∷ (nat_le s.settings.endpoints (lowest_slot s), SlotLimitReached)
     ∷ []
 
 unfoldable pub chosen_of : Ehci → Lengths → EndpointType → Bool → Opened
-chosen_of s lent kind good = settle (first (openChecks s lent kind good)) Refused (Slot (lowestSlot s))
+chosen_of s lent kind good = settle (first (open_checks s lent kind good)) Refused (Slot (lowest_slot s))
 
 -- "Ids per slot start at 1 when it opens"; 02 order 6: "a toggle bit, 0 at opening"
-abbrev pub newEndpoint : EndpointType → ℕ → Endpoint
-newEndpoint kind packet = Idle (record { kind = kind; size = packet; toggle = false; next = 1 })
+abbrev pub new_endpoint : EndpointType → ℕ → Endpoint
+new_endpoint kind packet = Idle (record { kind = kind; size = packet; toggle = false; next = 1 })
 
-unfoldable pub openEndpointOf : Ehci → ℕ → List ℕ → ℕ → ℕ → EndpointType → ℕ → ℕ → ℕ → OpenLeft
-openEndpointOf s pool heads frames setups kind address number packet =
-    settle (first (openChecks s (lengths pool (length heads) frames setups) kind (fieldsGood s.settings.limit kind address number packet)))
-    (λ r. openLeft (record { answer = Refused r; state = s }) heads)
-    (openLeft (record { answer = Slot (lowestSlot s); state = withEndpoint s (lowestSlot s) (newEndpoint kind packet) })
-    (with_head heads (lowestSlot s) (words_of (endpointHead kind address number packet))))
+unfoldable pub open_endpoint_of : Ehci → ℕ → List ℕ → ℕ → ℕ → EndpointType → ℕ → ℕ → ℕ → OpenLeft
+open_endpoint_of s pool heads frames setups kind address number packet =
+    settle (first (open_checks s (lengths pool (length heads) frames setups) kind (fields_good s.settings.limit kind address number packet)))
+    (λ r. open_left (record { answer = Refused r; state = s }) heads)
+    (open_left (record { answer = Slot (lowest_slot s); state = with_endpoint s (lowest_slot s) (new_endpoint kind packet) })
+    (with_head heads (lowest_slot s) (words_of (endpoint_head kind address number packet))))
 
 -- ---- close, set address, set packet size
 
@@ -82,61 +82,61 @@ pub record ChangeLeft : Type 0 where
   pub change : Change
   pub heads : List ℕ
 
-abbrev pub changeLeft : Change → List ℕ → ChangeLeft
-changeLeft change heads = record { change = change; heads = heads }
+abbrev pub change_left : Change → List ℕ → ChangeLeft
+change_left change heads = record { change = change; heads = heads }
 
 -- "3, 4, 1": the last where a value is out of its range
-unfoldable pub slotChecks : Ehci → Lengths → ℕ → Bool → List Check
-slotChecks s lent k good =
-    (not (acceptsOf s lent), InvalidParameter)
-    ∷ (not (isOpen s k), InvalidEndpoint)
-    ∷ (isUncollected s k, QueueFull)
+unfoldable pub slot_checks : Ehci → Lengths → ℕ → Bool → List Check
+slot_checks s lent k good =
+    (not (accepts_of s lent), InvalidParameter)
+    ∷ (not (is_opened s k), InvalidEndpoint)
+    ∷ (is_uncollected s k, QueueFull)
     ∷ (not good, InvalidParameter)
     ∷ []
 
-unfoldable pub slotVerdict : Ehci → Lengths → ℕ → Bool → Answer
-slotVerdict s lent k good = settle (first (slotChecks s lent k good)) RefusedCall Done
+unfoldable pub slot_verdict : Ehci → Lengths → ℕ → Bool → Answer
+slot_verdict s lent k good = settle (first (slot_checks s lent k good)) RefusedCall Done
 
 -- a call on slot k that leaves a state and heads where it is not refused
-abbrev pub changeOf : Ehci → ℕ → List ℕ → ℕ → ℕ → ℕ → Bool → Ehci → List ℕ → ChangeLeft
-changeOf s pool heads frames setups k good s' heads' =
-    settle (first (slotChecks s (lengths pool (length heads) frames setups) k good))
-    (λ r. changeLeft (record { answer = RefusedCall r; state = s }) heads)
-    (changeLeft (record { answer = Done; state = s' }) heads')
+abbrev pub change_of : Ehci → ℕ → List ℕ → ℕ → ℕ → ℕ → Bool → Ehci → List ℕ → ChangeLeft
+change_of s pool heads frames setups k good s' heads' =
+    settle (first (slot_checks s (lengths pool (length heads) frames setups) k good))
+    (λ r. change_left (record { answer = RefusedCall r; state = s }) heads)
+    (change_left (record { answer = Done; state = s' }) heads')
 
 -- "Close zeroes the head"
-unfoldable pub closeOf : Ehci → ℕ → List ℕ → ℕ → ℕ → ℕ → ChangeLeft
-closeOf s pool heads frames setups k =
-    changeOf s pool heads frames setups k true (withEndpoint s k Closed) (with_head heads k (replicate 17 0))
+unfoldable pub close_of : Ehci → ℕ → List ℕ → ℕ → ℕ → ℕ → ChangeLeft
+close_of s pool heads frames setups k =
+    change_of s pool heads frames setups k true (with_endpoint s k Closed) (with_head heads k (replicate 17 0))
 
 -- the characteristics are a head's word 1; "set address (0..=127)"
-unfoldable pub setAddressOf : Ehci → ℕ → List ℕ → ℕ → ℕ → ℕ → ℕ → ChangeLeft
-setAddressOf s pool heads frames setups k address =
-    changeOf s pool heads frames setups k (nat_le address 127) s
-    (withHeadWord heads (k + 1) 1 (withAddress (headWord heads (k + 1) 1) address))
+unfoldable pub set_address_of : Ehci → ℕ → List ℕ → ℕ → ℕ → ℕ → ℕ → ChangeLeft
+set_address_of s pool heads frames setups k address =
+    change_of s pool heads frames setups k (nat_le address 127) s
+    (with_head_word heads (k + 1) 1 (with_address (head_word heads (k + 1) 1) address))
 
 -- "Set packet size takes a byte, raises it to 8": it is judged after the raise
-abbrev pub raisedGood : Ehci → ℕ → ℕ → Bool
-raisedGood s k size = sizeGood s.settings.limit (slot_at s k).kind (max size 8)
+abbrev pub raised_good : Ehci → ℕ → ℕ → Bool
+raised_good s k size = size_good s.settings.limit (slot_at s k).kind (max size 8)
 
-abbrev pub withSize : Pipe → ℕ → Pipe
-withSize p size = record { kind = p.kind; size = size; toggle = p.toggle; next = p.next }
+abbrev pub with_size : Pipe → ℕ → Pipe
+with_size p size = record { kind = p.kind; size = size; toggle = p.toggle; next = p.next }
 
-unfoldable pub setPacketSizeOf : Ehci → ℕ → List ℕ → ℕ → ℕ → ℕ → ℕ → ChangeLeft
-setPacketSizeOf s pool heads frames setups k size =
-    changeOf s pool heads frames setups k (raisedGood s k size)
-    (withEndpoint s k (Idle (withSize (pipeOf (slot_at s k)) (max size 8))))
-    (withHeadWord heads (k + 1) 1 (withPacketSize (headWord heads (k + 1) 1) size))
+unfoldable pub set_packet_size_of : Ehci → ℕ → List ℕ → ℕ → ℕ → ℕ → ℕ → ChangeLeft
+set_packet_size_of s pool heads frames setups k size =
+    change_of s pool heads frames setups k (raised_good s k size)
+    (with_endpoint s k (Idle (with_size (pipe_of (slot_at s k)) (max size 8))))
+    (with_head_word heads (k + 1) 1 (with_packet_size (head_word heads (k + 1) 1) size))
 
 -- ---- clear-halt, which is lent the slots alone
 
 -- "clear-halt answers 3, then 4"
-abbrev pub clearChecks : Ehci → ℕ → List Check
-clearChecks s k = (not (inRanges s), InvalidParameter) ∷ (not (isOpen s k), InvalidEndpoint) ∷ (isUncollected s k, QueueFull) ∷ []
+abbrev pub clear_checks : Ehci → ℕ → List Check
+clear_checks s k = (not (in_ranges s), InvalidParameter) ∷ (not (is_opened s k), InvalidEndpoint) ∷ (is_uncollected s k, QueueFull) ∷ []
 
 -- "A clear-halt call sets it to 0"
-unfoldable pub clearHaltOf : Ehci → ℕ → Change
-clearHaltOf s k =
-    settle (first (clearChecks s k))
+unfoldable pub clear_halt_of : Ehci → ℕ → Change
+clear_halt_of s k =
+    settle (first (clear_checks s k))
     (λ r. record { answer = RefusedCall r; state = s })
-    (record { answer = Done; state = withEndpoint s k (Idle (withToggle (pipeOf (slot_at s k)) false)) })
+    (record { answer = Done; state = with_endpoint s k (Idle (with_toggle (pipe_of (slot_at s k)) false)) })

@@ -1,13 +1,13 @@
 // Open endpoint, close, set address, set packet size, clear-halt, on words in their ranges. Clear-halt is lent the slots, each of the others
 // the slots and the heads; the lengths of the rows that it is not lent are those that opening fixed.
 ghost use Rattle.core.specs.Prelude.{◌≡◌, ℕ, ◌+◌, ◌*◌, max, true, length};
-ghost use Rattle.opening.specs.Opening.{rowsFit};
+ghost use Rattle.opening.specs.Opening.{rows_are_fit};
 ghost use Rattle.words.specs.Good.{Good, Tidy};
 ghost use Rattle.words.specs.View.{view};
-ghost use Rattle.endpoint.specs.Calls.{changeLeft, clearHaltOf, closeOf, openEndpointOf, openLeft, setAddressOf, setPacketSizeOf, fieldsGood, withSize};
-ghost use Rattle.pipe.specs.Endpoints.{kindNumber};
-ghost use Rattle.slot.specs.Ranges.{sizeGood};
-ghost use Rattle.endpoint.specs.Words.{changedView, chosenWords, openedView, verdictWords};
+ghost use Rattle.endpoint.specs.Calls.{change_left, clear_halt_of, close_of, open_endpoint_of, open_left, set_address_of, set_packet_size_of, fields_good, with_size};
+ghost use Rattle.pipe.specs.Endpoints.{kind_number};
+ghost use Rattle.slot.specs.Ranges.{size_good};
+ghost use Rattle.endpoint.specs.Words.{changed_view, chosen_words, opened_view, verdict_words};
 
 use crate::heads::write_head;
 use crate::lowest::lowest_closed;
@@ -41,14 +41,14 @@ pub struct Change {
 
 // A packet size; of a bulk or interrupt endpoint one packet at least fits the limit.
 fn size_good(limit: u64, kind: EndpointType, size: u16) -> bool
-    ensures { result ≡ sizeGood limit (kindNumber kind) size }
+    ensures { result ≡ size_good limit (kind_number kind) size }
 {
     let control = is_control(kind);
     ((1 <= size) & (size <= 1024)) & (control | (size as u64 <= limit))
 }
 
 pub fn fields_good(limit: u64, kind: EndpointType, address: u8, number: u8, packet: u16) -> bool
-    ensures { result ≡ fieldsGood limit kind address number packet }
+    ensures { result ≡ fields_good limit kind address number packet }
 {
     let sized = size_good(limit, kind, packet);
     (address <= 127) & (number <= 15) & sized
@@ -57,7 +57,7 @@ pub fn fields_good(limit: u64, kind: EndpointType, address: u8, number: u8, pack
 // The slot of a new endpoint, or why there is none.
 fn choose(core: Core, slots: &[u64], kind: EndpointType, good: bool) -> Opened
     requires { Good core.settings core.rest slots.now }
-    ensures { result ≡ chosenWords (view core slots.now) kind good }
+    ensures { result ≡ chosen_words (view core slots.now) kind good }
 {
     if is_isochronous(kind) {
         return Opened::Refused(Refusal::NotSupported);
@@ -83,9 +83,9 @@ pub fn open_endpoint(
 ) -> EndpointOpening
     requires good { Good core.settings core.rest slots.old }
     requires heads_len { length heads.old ≡ 17 * (core.settings.endpoints + 1) }
-    ensures by_index { (pool frames setups : ℕ) → rowsFit core.settings pool (length heads.old) frames setups ≡ true
-        → openLeft (openedView core.settings result slots.new) heads.new
-        ≡ openEndpointOf (view core slots.old) pool heads.old frames setups kind address number packet }
+    ensures by_index { (pool frames setups : ℕ) → rows_are_fit core.settings pool (length heads.old) frames setups ≡ true
+        → open_left (opened_view core.settings result slots.new) heads.new
+        ≡ open_endpoint_of (view core slots.old) pool heads.old frames setups kind address number packet }
     ensures tidy { Tidy core.settings result.rest slots.new }
 {
     let rest = core.rest;
@@ -114,7 +114,7 @@ pub fn open_endpoint(
 
 // The endpoint with another packet size.
 fn resize(p: Pipe, size: u8) -> Pipe
-    ensures { result ≡ withSize p (max size 8) }
+    ensures { result ≡ with_size p (max size 8) }
 {
     let kind = p.kind;
     Pipe {
@@ -126,7 +126,7 @@ fn resize(p: Pipe, size: u8) -> Pipe
 }
 
 fn pipe_good(limit: u64, p: Pipe) -> bool
-    ensures { result ≡ sizeGood limit (kindNumber p.kind) p.size }
+    ensures { result ≡ size_good limit (kind_number p.kind) p.size }
 {
     let kind = p.kind;
     size_good(limit, kind, p.size)
@@ -135,7 +135,7 @@ fn pipe_good(limit: u64, p: Pipe) -> bool
 // What close, set address, set packet size and clear-halt ask, in 01's order; `good` where the value is in its range.
 fn check_slot(core: Core, slots: &[u64], slot: u8, good: bool) -> Answer
     requires { Good core.settings core.rest slots.now }
-    ensures { result ≡ verdictWords (view core slots.now) slot good }
+    ensures { result ≡ verdict_words (view core slots.now) slot good }
 {
     if !is_open(slots, slot) {
         return Answer::Refused(Refusal::InvalidEndpoint);
@@ -152,9 +152,9 @@ fn check_slot(core: Core, slots: &[u64], slot: u8, good: bool) -> Answer
 pub fn close(core: Core, slots: &mut [u64], heads: &mut [u32], slot: u8) -> Change
     requires good { Good core.settings core.rest slots.old }
     requires heads_len { length heads.old ≡ 17 * (core.settings.endpoints + 1) }
-    ensures by_index { (pool frames setups : ℕ) → rowsFit core.settings pool (length heads.old) frames setups ≡ true
-        → changeLeft (changedView core.settings result slots.new) heads.new
-        ≡ closeOf (view core slots.old) pool heads.old frames setups slot }
+    ensures by_index { (pool frames setups : ℕ) → rows_are_fit core.settings pool (length heads.old) frames setups ≡ true
+        → change_left (changed_view core.settings result slots.new) heads.new
+        ≡ close_of (view core slots.old) pool heads.old frames setups slot }
     ensures tidy { Tidy core.settings result.rest slots.new }
 {
     let rest = core.rest;
@@ -177,9 +177,9 @@ pub fn close(core: Core, slots: &mut [u64], heads: &mut [u32], slot: u8) -> Chan
 pub fn set_address(core: Core, slots: &[u64], heads: &mut [u32], slot: u8, address: u8) -> Change
     requires good { Good core.settings core.rest slots.now }
     requires heads_len { length heads.old ≡ 17 * (core.settings.endpoints + 1) }
-    ensures by_index { (pool frames setups : ℕ) → rowsFit core.settings pool (length heads.old) frames setups ≡ true
-        → changeLeft (changedView core.settings result slots.now) heads.new
-        ≡ setAddressOf (view core slots.now) pool heads.old frames setups slot address }
+    ensures by_index { (pool frames setups : ℕ) → rows_are_fit core.settings pool (length heads.old) frames setups ≡ true
+        → change_left (changed_view core.settings result slots.now) heads.new
+        ≡ set_address_of (view core slots.now) pool heads.old frames setups slot address }
     ensures free_value { result.rest.free ≡ core.rest.free }
 {
     let rest = core.rest;
@@ -209,9 +209,9 @@ pub fn set_packet_size(
 ) -> Change
     requires good { Good core.settings core.rest slots.old }
     requires heads_len { length heads.old ≡ 17 * (core.settings.endpoints + 1) }
-    ensures by_index { (pool frames setups : ℕ) → rowsFit core.settings pool (length heads.old) frames setups ≡ true
-        → changeLeft (changedView core.settings result slots.new) heads.new
-        ≡ setPacketSizeOf (view core slots.old) pool heads.old frames setups slot size }
+    ensures by_index { (pool frames setups : ℕ) → rows_are_fit core.settings pool (length heads.old) frames setups ≡ true
+        → change_left (changed_view core.settings result slots.new) heads.new
+        ≡ set_packet_size_of (view core slots.old) pool heads.old frames setups slot size }
     ensures tidy { Tidy core.settings result.rest slots.new }
 {
     let rest = core.rest;
@@ -237,7 +237,7 @@ pub fn set_packet_size(
 // The toggle of the next packet is 0, as the device has it after its halt is cleared.
 pub fn clear_halt(core: Core, slots: &mut [u64], slot: u8) -> Change
     requires { Good core.settings core.rest slots.old }
-    ensures slots_after { changedView core.settings result slots.new ≡ clearHaltOf (view core slots.old) slot }
+    ensures slots_after { changed_view core.settings result slots.new ≡ clear_halt_of (view core slots.old) slot }
     ensures tidy { Tidy core.settings result.rest slots.new }
 {
     let rest = core.rest;

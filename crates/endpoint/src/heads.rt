@@ -1,6 +1,6 @@
 // The head of a slot.
 ghost use Rattle.core.specs.Prelude.{◌≡◌, ◌+◌, ◌*◌, ◌≤◌, length};
-ghost use Rattle.descriptor.specs.Heads.{endpointHead, words_of};
+ghost use Rattle.descriptor.specs.Heads.{endpoint_head, words_of};
 ghost use Rattle.endpoint.specs.Calls.{with_head};
 
 use common::kinds::EndpointType;
@@ -19,7 +19,7 @@ pub fn write_head(
     requires slot_bound { (slot + 1 ≤ 32) × (17 * (slot + 1) + 17 ≤ length heads.old) }
     requires address_bound { (address ≤ 127) × (number ≤ 15) × (packet ≤ 1024) }
     ensures { heads.new
-        ≡ with_head heads.old slot (words_of (endpointHead kind address number packet)) }
+        ≡ with_head heads.old slot (words_of (endpoint_head kind address number packet)) }
 {
     let head = QueueHead::endpoint(kind, address, number, packet);
     put_head(heads, slot as usize + 1, head.words());

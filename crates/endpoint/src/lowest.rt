@@ -2,7 +2,7 @@
 ghost use Rattle.core.specs.Prelude.{◌≡◌};
 ghost use Rattle.words.specs.Good.{Good};
 ghost use Rattle.words.specs.View.{view};
-ghost use Rattle.endpoint.specs.Calls.{lowestSlot};
+ghost use Rattle.endpoint.specs.Calls.{lowest_slot};
 
 use words::core::Core;
 use words::row::RECORD;
@@ -10,7 +10,7 @@ use words::row::RECORD;
 // The lowest closed slot; the number of slots where none is.
 pub fn lowest_closed(core: Core, slots: &[u64]) -> u8
     requires { Good core.settings core.rest slots.now }
-    ensures { result ≡ lowestSlot (view core slots.now) }
+    ensures { result ≡ lowest_slot (view core slots.now) }
 {
     let endpoints = core.settings.endpoints;
     let mut k: u8 = 0;

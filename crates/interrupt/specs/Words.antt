@@ -11,14 +11,14 @@ use Rattle.interrupt.specs.declared.answers.Drainage.{Drainage as DrainageWords}
 use Rattle.interrupt.specs.declared.answers.Settled.{Settled as SettledWords}
 use Rattle.interrupt.specs.declared.drain.Counted.{Counted as CountedWords}
 
-abbrev pub acknowledgedView : Settings → AcknowledgementWords → List ℕ → Acknowledgement
-acknowledgedView s r ws = record { answer = r.answer; state = state_of s r.rest ws; writes = r.writes }
+abbrev pub acknowledged_view : Settings → AcknowledgementWords → List ℕ → Acknowledgement
+acknowledged_view s r ws = record { answer = r.answer; state = state_of s r.rest ws; writes = r.writes }
 
-abbrev pub countedView : Settings → CountedWords → List ℕ → Counted
-countedView s r ws = record { state = state_of s r.rest ws; writes = r.writes }
+abbrev pub counted_view : Settings → CountedWords → List ℕ → Counted
+counted_view s r ws = record { state = state_of s r.rest ws; writes = r.writes }
 
-abbrev pub drainedView : Settings → DrainageWords → List ℕ → Drainage
-drainedView s r ws = record { answer = r.answer; state = state_of s r.rest ws; writes = r.writes }
+abbrev pub drained_view : Settings → DrainageWords → List ℕ → Drainage
+drained_view s r ws = record { answer = r.answer; state = state_of s r.rest ws; writes = r.writes }
 
-abbrev pub settledView : Settings → SettledWords → List ℕ → Settled
-settledView s r ws = record { answer = r.answer; state = state_of s r.rest ws; writes = r.writes }
+abbrev pub settled_view : Settings → SettledWords → List ℕ → Settled
+settled_view s r ws = record { answer = r.answer; state = state_of s r.rest ws; writes = r.writes }

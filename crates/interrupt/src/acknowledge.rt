@@ -1,6 +1,6 @@
 // What an acknowledgment writes and notes.
 ghost use Rattle.core.specs.Prelude.{◌≡◌};
-ghost use Rattle.interrupt.specs.Interrupts.{maskWord, acknowledgeWrites};
+ghost use Rattle.interrupt.specs.Interrupts.{mask_word, acknowledge_writes};
 
 use register::bits::{only_bits, without_bits};
 use register::operational::{
@@ -25,7 +25,7 @@ pub const PENDING: u32 = USBSTS_USBINT
     | USBSTS_INTERRUPT_ASYNC_ADVANCE;
 
 fn mask_word(p: u32, interrupts: u32, flag: bool) -> u32
-    ensures { result ≡ maskWord p interrupts flag }
+    ensures { result ≡ mask_word p interrupts flag }
 {
     if flag {
         without_bits(interrupts, only_bits(p, MASKABLE))
@@ -36,7 +36,7 @@ fn mask_word(p: u32, interrupts: u32, flag: bool) -> u32
 
 // USBSTS, and USBINTR by the first flag reading; once more where the second differs.
 pub fn acknowledge_writes(p: u32, interrupts: u32, flag: bool, again: bool) -> Writes
-    ensures { result ≡ acknowledgeWrites p interrupts flag again }
+    ensures { result ≡ acknowledge_writes p interrupts flag again }
 {
     let writes = Writes::none()
         .and_then(USBSTS, p)

@@ -2,9 +2,9 @@
 ghost use Rattle.core.specs.Prelude.{◌≡◌, ℕ, true, not, ◌&&◌, List, ◌==◌};
 ghost use Rattle.register.specs.Bits.{any_of};
 ghost use Rattle.token.specs.Tokens.{only_if};
-ghost use Rattle.state.specs.Ranges.{inRanges};
-ghost use Rattle.interrupt.specs.Interrupts.{noteIf, acknowledgeOf, drainOf, rearmOf, enableOf, disableOf};
-ghost use Rattle.interrupt.specs.Words.{acknowledgedView, drainedView, settledView};
+ghost use Rattle.state.specs.Ranges.{in_ranges};
+ghost use Rattle.interrupt.specs.Interrupts.{note_if, acknowledge_of, drain_of, rearm_of, enable_of, disable_of};
+ghost use Rattle.interrupt.specs.Words.{acknowledged_view, drained_view, settled_view};
 ghost use Rattle.words.specs.Good.{Good, Tidy};
 ghost use Rattle.words.specs.View.{view};
 
@@ -19,7 +19,7 @@ use words::core::Core;
 
 // An advance is noted only while the doorbell is up.
 fn noted_after(doorbell: u8, noted: u8, p: u32) -> u8
-    ensures { result ≡ noteIf (any_of p 0x20 && doorbell == 1) noted }
+    ensures { result ≡ note_if (any_of p 0x20 && doorbell == 1) noted }
 {
     if any_of(p, USBSTS_INTERRUPT_ASYNC_ADVANCE) {
         if doorbell == 1 {
@@ -36,8 +36,8 @@ pub fn acknowledge(
     flag: bool,
     again: bool,
 ) -> Acknowledgement
-    ensures by_index { (ws : List ℕ) → inRanges (view core ws) ≡ true
-        → acknowledgedView core.settings result ws ≡ acknowledgeOf (view core ws) status interrupts flag again }
+    ensures by_index { (ws : List ℕ) → in_ranges (view core ws) ≡ true
+        → acknowledged_view core.settings result ws ≡ acknowledge_of (view core ws) status interrupts flag again }
     ensures free_value { result.rest.free ≡ core.rest.free }
 {
     let mut rest = core.rest;
@@ -63,7 +63,7 @@ pub fn acknowledge(
 // Given USBCMD as read, for the ring that a counted advance may make.
 pub fn drain(core: Core, slots: &mut [u64], command: u32) -> Drainage
     requires { Good core.settings core.rest slots.old }
-    ensures slots_after { drainedView core.settings result slots.new ≡ drainOf (view core slots.old) command }
+    ensures slots_after { drained_view core.settings result slots.new ≡ drain_of (view core slots.old) command }
     ensures tidy { Tidy core.settings result.rest slots.new }
 {
     let pending = core.rest.pending;
@@ -95,7 +95,7 @@ fn enabled_word(enabled: u8) -> u32
 }
 
 pub fn rearm(core: Core) -> Settled
-    ensures by_index { (ws : List ℕ) → inRanges (view core ws) ≡ true → settledView core.settings result ws ≡ rearmOf (view core ws) }
+    ensures by_index { (ws : List ℕ) → in_ranges (view core ws) ≡ true → settled_view core.settings result ws ≡ rearm_of (view core ws) }
     ensures free_value { result.rest.free ≡ core.rest.free }
 {
     let mut rest = core.rest;
@@ -116,7 +116,7 @@ pub fn rearm(core: Core) -> Settled
 }
 
 pub fn enable(core: Core) -> Settled
-    ensures by_index { (ws : List ℕ) → inRanges (view core ws) ≡ true → settledView core.settings result ws ≡ enableOf (view core ws) }
+    ensures by_index { (ws : List ℕ) → in_ranges (view core ws) ≡ true → settled_view core.settings result ws ≡ enable_of (view core ws) }
     ensures free_value { result.rest.free ≡ core.rest.free }
 {
     let mut rest = core.rest;
@@ -129,7 +129,7 @@ pub fn enable(core: Core) -> Settled
 }
 
 pub fn disable(core: Core) -> Settled
-    ensures by_index { (ws : List ℕ) → inRanges (view core ws) ≡ true → settledView core.settings result ws ≡ disableOf (view core ws) }
+    ensures by_index { (ws : List ℕ) → in_ranges (view core ws) ≡ true → settled_view core.settings result ws ≡ disable_of (view core ws) }
     ensures free_value { result.rest.free ≡ core.rest.free }
 {
     let mut rest = core.rest;

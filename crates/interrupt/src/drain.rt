@@ -1,7 +1,7 @@
 // What a drain counts, and what it takes.
 ghost use Rattle.core.specs.Prelude.{◌≡◌};
-ghost use Rattle.interrupt.specs.Interrupts.{countedOf, clearedOf};
-ghost use Rattle.interrupt.specs.Words.{countedView};
+ghost use Rattle.interrupt.specs.Interrupts.{counted_of, cleared_of};
+ghost use Rattle.interrupt.specs.Words.{counted_view};
 ghost use Rattle.words.specs.Good.{Good, Tidy};
 ghost use Rattle.words.specs.View.{view};
 
@@ -32,7 +32,7 @@ pub struct Counted {
 
 // Port change first, then activity, then what is left.
 pub fn clear_pending(pending: u32) -> Cleared
-    ensures { result ≡ clearedOf pending }
+    ensures { result ≡ cleared_of pending }
 {
     if any_of(pending, USBSTS_PORT_CHANGE) {
         return Cleared {
@@ -55,7 +55,7 @@ pub fn clear_pending(pending: u32) -> Cleared
 // A noted advance counts once.
 pub fn count_noted(core: Core, slots: &mut [u64], command: u32) -> Counted
     requires { Good core.settings core.rest slots.old }
-    ensures slots_after { countedView core.settings result slots.new ≡ countedOf (view core slots.old) command }
+    ensures slots_after { counted_view core.settings result slots.new ≡ counted_of (view core slots.old) command }
     ensures tidy { Tidy core.settings result.rest slots.new }
 {
     let mut rest = core.rest;

@@ -11,72 +11,72 @@ use lib.Seq.{length-take-le, take_all}
 use Rattle.common.specs.Rows.{put_at}
 use Rattle.job_sheet.specs.declared.outcome.Outcome.{Outcome}
 use Rattle.job_sheet.specs.declared.sheet.Sheet.{Sheet}
-use Rattle.job_sheet.specs.Listing.{badLine}
-use Rattle.job_sheet.specs.Outcomes.{listingOf}
-use Rattle.job_sheet.specs.Reading.{badSheet, jobIn, packed, sheetFits, sheetOf, sizesFit}
-use Rattle.job_sheet.proofs.ReadCases.{sizes-fit}
-use Rattle.common.proofs.TestLaws.{both-tells}
-use Rattle.store.specs.Words.{storeView}
+use Rattle.job_sheet.specs.Listing.{bad_line}
+use Rattle.job_sheet.specs.Outcomes.{listing_of}
+use Rattle.job_sheet.specs.Reading.{bad_sheet, job_in, packed, sheet_fits, sheet_of, sizes_fit}
+use Rattle.job_sheet.proofs.ReadCases.{sizes_fit_lem}
+use Rattle.common.proofs.TestLaws.{both_tells}
+use Rattle.store.specs.Words.{store_view}
 use Rattle.job_run.specs.declared.run.Ran as code
 use Rattle.job_run.specs.Plain.{Ran}
-use Rattle.job_run.specs.Words.{ranView}
-use Rattle.job_run.specs.Prints.{RoomEnough, longestSheet, outcomeOf, printSheet, printedOf}
+use Rattle.job_run.specs.Words.{ran_view}
+use Rattle.job_run.specs.Prints.{RoomEnough, longest_sheet, outcome_of, print_sheet, printed_of}
 use Rattle.job_run.specs.Runs.{run_of}
 
-pub outcome-is : (ran : code.Ran) (owner : List ℕ) → owner ≡ (storeView ran.store).state.owner
-    → record { opened = ran.opened; slots = ran.slots; submitted = ran.submitted; ids = ran.ids; owner = owner; pool = ran.store.pool } ≡ outcomeOf (ranView ran)
-outcome-is ran owner e = rw e
+pub outcome_is : (ran : code.Ran) (owner : List ℕ) → owner ≡ (store_view ran.store).state.owner
+    → record { opened = ran.opened; slots = ran.slots; submitted = ran.submitted; ids = ran.ids; owner = owner; pool = ran.store.pool } ≡ outcome_of (ran_view ran)
+outcome_is ran owner e = rw e
 
-bad-prints : (s : Sheet) → s.good ≡ false → badLine ≡ printSheet s
-bad-prints s e = rw e
+bad_prints : (s : Sheet) → s.good ≡ false → bad_line ≡ print_sheet s
+bad_prints s e = rw e
 
-good-prints : (s : Sheet) (o : Outcome) → s.good ≡ true → o ≡ outcomeOf (run_of s.job) → listingOf s.job o ≡ printSheet s
-good-prints s o e eo = rw (e, eo)
+good_prints : (s : Sheet) (o : Outcome) → s.good ≡ true → o ≡ outcome_of (run_of s.job) → listing_of s.job o ≡ print_sheet s
+good_prints s o e eo = rw (e, eo)
 
-module _ (bytes : List ℕ) (s : Sheet) (es : s ≡ sheetOf bytes) (out after : List ℕ) (r : ℕ) where
-  printed : (line : List ℕ) → line ≡ printSheet s → after ≡ put_at out 0 line → r ≡ length line → (after ≡ put_at out 0 (printedOf bytes)) × (r ≡ length (printedOf bytes))
-  unfolding printedOf
+module _ (bytes : List ℕ) (s : Sheet) (es : s ≡ sheet_of bytes) (out after : List ℕ) (r : ℕ) where
+  printed : (line : List ℕ) → line ≡ print_sheet s → after ≡ put_at out 0 line → r ≡ length line → (after ≡ put_at out 0 (printed_of bytes)) × (r ≡ length (printed_of bytes))
+  unfolding printed_of
   printed line el ea er =
-      let same : line ≡ printSheet (sheetOf bytes) = el ∙ ap printSheet es in
+      let same : line ≡ print_sheet (sheet_of bytes) = el ∙ ap print_sheet es in
       (ea ∙ ap (put_at out 0) same, er ∙ ap length same)
 
-  pub bad-printed : not s.good ≡ true → after ≡ put_at out 0 badLine → r ≡ 0 + 10 → (after ≡ put_at out 0 (printedOf bytes)) × (r ≡ length (printedOf bytes))
-  unfolding badLine
-  bad-printed bad ea er = printed badLine (bad-prints s (not-true s.good bad)) ea er
+  pub bad_printed : not s.good ≡ true → after ≡ put_at out 0 bad_line → r ≡ 0 + 10 → (after ≡ put_at out 0 (printed_of bytes)) × (r ≡ length (printed_of bytes))
+  unfolding bad_line
+  bad_printed bad ea er = printed bad_line (bad_prints s (not-true s.good bad)) ea er
 
-  pub good-printed : (ran : Ran) (o : Outcome) → not s.good ≡ false → ran ≡ run_of s.job → o ≡ outcomeOf ran → after ≡ put_at out 0 (listingOf s.job o)
-      → r ≡ 0 + length (listingOf s.job o) → (after ≡ put_at out 0 (printedOf bytes)) × (r ≡ length (printedOf bytes))
-  good-printed ran o good er eo ea el =
-      let long : r ≡ length (listingOf s.job o) = omega (arith, el) in
-      printed (listingOf s.job o) (good-prints s o (not-false s.good good) (eo ∙ ap outcomeOf er)) ea long
+  pub good_printed : (ran : Ran) (o : Outcome) → not s.good ≡ false → ran ≡ run_of s.job → o ≡ outcome_of ran → after ≡ put_at out 0 (listing_of s.job o)
+      → r ≡ 0 + length (listing_of s.job o) → (after ≡ put_at out 0 (printed_of bytes)) × (r ≡ length (printed_of bytes))
+  good_printed ran o good er eo ea el =
+      let long : r ≡ length (listing_of s.job o) = omega (arith, el) in
+      printed (listing_of s.job o) (good_prints s o (not-false s.good good) (eo ∙ ap outcome_of er)) ea long
 
-pub front-taken : (n : ℕ) (l : List ℕ) → n ≤ length l → n ≡ length (take n l)
-front-taken n l h = sym (length-take-le n l h)
+pub front_taken : (n : ℕ) (l : List ℕ) → n ≤ length l → n ≡ length (take n l)
+front_taken n l h = sym (length-take-le n l h)
 
 -- ---- room for more than the longest sheet
 
-fits-short : (bytes : List ℕ) → sheetFits bytes ≡ true → length bytes ≤ longestSheet
-unfolding sheetFits
-fits-short bytes f =
-    let s = sizes-fit bytes (both-tells (sizesFit bytes) _ f).0 in
+fits_short : (bytes : List ℕ) → sheet_fits bytes ≡ true → length bytes ≤ longest_sheet
+unfolding sheet_fits
+fits_short bytes f =
+    let s = sizes_fit_lem bytes (both_tells (sizes_fit bytes) _ f).0 in
     omega (arith, s.whole, s.few, s.some)
 
 -- what is longer is no sheet
-long-bad : (bytes : List ℕ) → longestSheet < length bytes → sheetOf bytes ≡ badSheet
-unfolding sheetOf
-long-bad bytes l = by (sheetFits bytes) refl
+long_bad : (bytes : List ℕ) → longest_sheet < length bytes → sheet_of bytes ≡ bad_sheet
+unfolding sheet_of
+long_bad bytes l = by (sheet_fits bytes) refl
   where
-    by : (b : Bool) → sheetFits bytes ≡ b → cond b (record { good = true; job = packed (jobIn bytes) }) badSheet ≡ badSheet
-    by true e = absurd (omega (arith, l, fits-short bytes e))
+    by : (b : Bool) → sheet_fits bytes ≡ b → cond b (record { good = true; job = packed (job_in bytes) }) bad_sheet ≡ bad_sheet
+    by true e = absurd (omega (arith, l, fits_short bytes e))
     by false e = refl
 
-pub room-enough : RoomEnough
-unfolding printedOf
-room-enough bytes room l = by (ltb room (length bytes)) refl
+pub room_enough : RoomEnough
+unfolding printed_of
+room_enough bytes room l = by (ltb room (length bytes)) refl
   where
-    by : (b : Bool) → ltb room (length bytes) ≡ b → printSheet (sheetOf (take room bytes)) ≡ printSheet (sheetOf bytes)
+    by : (b : Bool) → ltb room (length bytes) ≡ b → print_sheet (sheet_of (take room bytes)) ≡ print_sheet (sheet_of bytes)
     by true e =
         let h : room < length bytes = ltb-true room (length bytes) e in
-        let cut = front-taken room bytes (omega arith) in
-        ap printSheet (long-bad (take room bytes) (omega (arith, cut)) ∙ sym (long-bad bytes (omega arith)))
-    by false e = ap (λ (x : List ℕ). printSheet (sheetOf x)) (take_all room bytes (ltb-false room (length bytes) e))
+        let cut = front_taken room bytes (omega arith) in
+        ap print_sheet (long_bad (take room bytes) (omega (arith, cut)) ∙ sym (long_bad bytes (omega arith)))
+    by false e = ap (λ (x : List ℕ). print_sheet (sheet_of x)) (take_all room bytes (ltb-false room (length bytes) e))

@@ -1,14 +1,14 @@
 // The controller that a sheet's job is run on: opened in a store of its own, and brought up through its steps.
 ghost use Rattle.std.specs.Prelude.{◌≡◌};
-ghost use Rattle.job_run.specs.Runs.{sheetSettings, after_call, runningStore};
-ghost use Rattle.store.specs.Words.{Tended, storeView};
+ghost use Rattle.job_run.specs.Runs.{sheet_settings, after_call, running_store};
+ghost use Rattle.store.specs.Words.{Tended, store_view};
 
 use ehci::call::Call;
 use settings::settings::Settings;
 use store::store::{Store, blank_store, call_on, open_in};
 
 fn sheet_settings() -> Settings
-    ensures { result ≡ sheetSettings }
+    ensures { result ≡ sheet_settings }
 {
     Settings {
         descriptors: 16,
@@ -25,7 +25,7 @@ fn sheet_settings() -> Settings
 
 fn after_call(store: Store, call: Call) -> Store
     requires { Tended store }
-    ensures result_value { storeView result ≡ after_call (storeView store) call }
+    ensures result_value { store_view result ≡ after_call (store_view store) call }
     ensures tended { Tended result }
 {
     let called = call_on(store, call);
@@ -34,7 +34,7 @@ fn after_call(store: Store, call: Call) -> Store
 
 // The six readings: USBCMD; USBSTS halted; USBCMD; USBCMD, reset over; USBCMD; USBSTS, not halted.
 pub fn running_store() -> Store
-    ensures result_value { storeView result ≡ runningStore }
+    ensures result_value { store_view result ≡ running_store }
     ensures tended { Tended result }
 {
     let opened = open_in(blank_store(), sheet_settings());

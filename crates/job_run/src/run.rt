@@ -1,20 +1,20 @@
 // A job's calls, one after the other: the endpoint records are opened, then the requests are submitted.
 ghost use Rattle.std.specs.Prelude.{◌≡◌, ◌≤◌, ◌<◌};
 ghost use Rattle.job_run.specs.Runs.{
-  slotGiven,
-  slotTold,
-  idGiven,
-  idTold,
-  openCall,
-  openStep,
-  openedTo,
-  kindFor,
-  submitCall,
-  submitStep,
-  submittedTo,
+  slot_given,
+  slot_told,
+  id_given,
+  id_told,
+  open_call,
+  open_step,
+  opened_to,
+  kind_for,
+  submit_call,
+  submit_step,
+  submitted_to,
   run_of,
 };
-ghost use Rattle.job_run.specs.Words.{ranView};
+ghost use Rattle.job_run.specs.Words.{ran_view};
 ghost use Rattle.store.specs.Words.{Tended};
 
 use crate::controller_of::running_store;
@@ -44,7 +44,7 @@ pub struct Ran {
 }
 
 fn slot_given(given: Given) -> u8
-    ensures { result ≡ slotGiven given }
+    ensures { result ≡ slot_given given }
 {
     match given {
         Given::Nothing => NO_SLOT,
@@ -60,7 +60,7 @@ fn slot_given(given: Given) -> u8
 }
 
 fn slot_told(answer: Answered) -> u8
-    ensures { result ≡ slotTold answer }
+    ensures { result ≡ slot_told answer }
 {
     match answer {
         Answered::Done(given) => slot_given(given),
@@ -72,7 +72,7 @@ fn slot_told(answer: Answered) -> u8
 }
 
 fn id_given(given: Given) -> u64
-    ensures { result ≡ idGiven given }
+    ensures { result ≡ id_given given }
 {
     match given {
         Given::Nothing => 0,
@@ -88,7 +88,7 @@ fn id_given(given: Given) -> u64
 }
 
 fn id_told(answer: Answered) -> u64
-    ensures { result ≡ idTold answer }
+    ensures { result ≡ id_told answer }
 {
     match answer {
         Answered::Done(given) => id_given(given),
@@ -100,7 +100,7 @@ fn id_told(answer: Answered) -> u64
 }
 
 fn open_call(e: EndpointRecord) -> Call
-    ensures { result ≡ openCall e }
+    ensures { result ≡ open_call e }
 {
     Call::OpenEndpoint(EndpointFields {
         kind: kind_of(e.kind),
@@ -113,7 +113,7 @@ fn open_call(e: EndpointRecord) -> Call
 fn open_step(mut ran: Ran, k: usize, e: EndpointRecord) -> Ran
     requires k_bound { k < 8 }
     requires tended { Tended ran.store }
-    ensures result_value { ranView result ≡ openStep (ranView ran) k e }
+    ensures result_value { ran_view result ≡ open_step (ran_view ran) k e }
     ensures tended_2 { Tended result.store }
 {
     let before = ran.store;
@@ -129,7 +129,7 @@ fn open_step(mut ran: Ran, k: usize, e: EndpointRecord) -> Ran
 fn open_all(start: Ran, job: Job) -> Ran
     requires opens_bound { job.opens ≤ 8 }
     requires tended { Tended start.store }
-    ensures result_value { ranView result ≡ openedTo job.opens (ranView start) job }
+    ensures result_value { ran_view result ≡ opened_to job.opens (ran_view start) job }
     ensures tended_2 { Tended result.store }
 {
     let mut ran = start;
@@ -145,7 +145,7 @@ fn open_all(start: Ran, job: Job) -> Ran
 // Its record's kind; a record that is not there is refused whatever the kind.
 fn kind_for(job: Job, place: u8) -> EndpointType
     requires { job.opens ≤ 8 }
-    ensures { result ≡ kindFor job place }
+    ensures { result ≡ kind_for job place }
 {
     let k = place as usize;
     let opens = job.opens;
@@ -159,7 +159,7 @@ fn kind_for(job: Job, place: u8) -> EndpointType
 
 fn submit_call(job: Job, slots: [u8; 8], t: RequestRecord) -> Call
     requires { job.opens ≤ 8 }
-    ensures { result ≡ submitCall job slots t }
+    ensures { result ≡ submit_call job slots t }
 {
     let slot = slot_of(slots, t.endpoint);
     let kind = kind_for(job, t.endpoint);
@@ -185,7 +185,7 @@ fn submit_call(job: Job, slots: [u8; 8], t: RequestRecord) -> Call
 fn submit_step(mut ran: Ran, job: Job, k: usize, t: RequestRecord) -> Ran
     requires k_bound { (k < 64) × (job.opens ≤ 8) }
     requires tended { Tended ran.store }
-    ensures result_value { ranView result ≡ submitStep (ranView ran) job k t }
+    ensures result_value { ran_view result ≡ submit_step (ran_view ran) job k t }
     ensures tended_2 { Tended result.store }
 {
     let before = ran.store;
@@ -202,7 +202,7 @@ fn submit_step(mut ran: Ran, job: Job, k: usize, t: RequestRecord) -> Ran
 fn submit_all(start: Ran, job: Job) -> Ran
     requires opens_bound { (job.opens ≤ 8) × (job.submits ≤ 64) }
     requires tended { Tended start.store }
-    ensures result_value { ranView result ≡ submittedTo job.submits (ranView start) job }
+    ensures result_value { ran_view result ≡ submitted_to job.submits (ran_view start) job }
     ensures tended_2 { Tended result.store }
 {
     let mut ran = start;
@@ -217,7 +217,7 @@ fn submit_all(start: Ran, job: Job) -> Ran
 
 pub fn run(job: Job) -> Ran
     requires { (job.opens ≤ 8) × (job.submits ≤ 64) }
-    ensures { ranView result ≡ run_of job }
+    ensures { ran_view result ≡ run_of job }
 {
     let start = Ran {
         store: running_store(),

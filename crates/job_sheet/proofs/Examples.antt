@@ -3,9 +3,9 @@ use mathlib.Core.Path.{◌≡◌, refl}
 use mathlib.Core.Bool.{true, false}
 use mathlib.Core.List.{List, [], ◌∷◌, ◌++◌}
 use Prim.Native.Nat.{ℕ}
-use Rattle.text.specs.Numbers.{littleEndian, number_of}
-use Rattle.job_sheet.specs.Sheets.{SheetJob, bytes_of, endpointBytes, isControl, job_of, joined, requestBytes}
-use Rattle.job_sheet.specs.Reading.{badSheet, endpointAt, endpointFits, every, filled, jobIn, packed, requestAt, requestFits, sheetFits, sheetOf, sizesFit, up_to}
+use Rattle.text.specs.Numbers.{little_endian, number_of}
+use Rattle.job_sheet.specs.Sheets.{SheetJob, bytes_of, endpoint_bytes, is_control, job_of, joined, request_bytes}
+use Rattle.job_sheet.specs.Reading.{bad_sheet, endpoint_at, endpoint_fits, every, filled, job_in, packed, request_at, request_fits, sheet_fits, sheet_of, sizes_fit, up_to}
 
 opened : List ℕ
 opened = 0x01 ∷ 0x00 ∷ 0x00 ∷ 0x00 ∷ 0x00 ∷ 0x00 ∷ 0x40 ∷ 0x00 ∷ []
@@ -23,42 +23,42 @@ example =
     }
 
 written : bytes_of example ≡ opened ++ asked
-unfolding opened asked example littleEndian bytes_of endpointBytes joined requestBytes
+unfolding opened asked example little_endian bytes_of endpoint_bytes joined request_bytes
 written = refl
 
-read : sheetOf (opened ++ asked) ≡ record { good = true; job = packed example }
-unfolding opened asked example number_of isControl endpointAt endpointFits every filled jobIn packed requestAt requestFits sheetFits sheetOf sizesFit up_to
+read : sheet_of (opened ++ asked) ≡ record { good = true; job = packed example }
+unfolding opened asked example number_of is_control endpoint_at endpoint_fits every filled job_in packed request_at request_fits sheet_fits sheet_of sizes_fit up_to
 read = refl
 
-held : job_of (sheetOf (opened ++ asked)).job ≡ example
-unfolding opened asked example number_of isControl endpointAt endpointFits every filled jobIn packed requestAt requestFits sheetFits sheetOf sizesFit up_to
+held : job_of (sheet_of (opened ++ asked)).job ≡ example
+unfolding opened asked example number_of is_control endpoint_at endpoint_fits every filled job_in packed request_at request_fits sheet_fits sheet_of sizes_fit up_to
 held = refl
 
-empty : (sheetOf (0 ∷ 0 ∷ 0 ∷ 0 ∷ [])).good ≡ true
-unfolding number_of every jobIn sheetFits sheetOf sizesFit
+empty : (sheet_of (0 ∷ 0 ∷ 0 ∷ 0 ∷ [])).good ≡ true
+unfolding number_of every job_in sheet_fits sheet_of sizes_fit
 empty = refl
 
 -- nothing, a count alone, a byte too few, a byte too many, kind 4, count 9
-nothing : (sheetOf []).good ≡ false
-unfolding number_of badSheet sheetFits sheetOf sizesFit
+nothing : (sheet_of []).good ≡ false
+unfolding number_of bad_sheet sheet_fits sheet_of sizes_fit
 nothing = refl
 
-short : (sheetOf (0 ∷ 0 ∷ [])).good ≡ false
-unfolding number_of badSheet sheetFits sheetOf sizesFit
+short : (sheet_of (0 ∷ 0 ∷ [])).good ≡ false
+unfolding number_of bad_sheet sheet_fits sheet_of sizes_fit
 short = refl
 
-cut : (sheetOf (opened ++ (0 ∷ []))).good ≡ false
-unfolding opened number_of badSheet sheetFits sheetOf sizesFit
+cut : (sheet_of (opened ++ (0 ∷ []))).good ≡ false
+unfolding opened number_of bad_sheet sheet_fits sheet_of sizes_fit
 cut = refl
 
-long : (sheetOf (opened ++ (asked ++ (0 ∷ [])))).good ≡ false
-unfolding opened asked number_of badSheet sheetFits sheetOf sizesFit
+long : (sheet_of (opened ++ (asked ++ (0 ∷ [])))).good ≡ false
+unfolding opened asked number_of bad_sheet sheet_fits sheet_of sizes_fit
 long = refl
 
-kind-4 : (sheetOf (1 ∷ 0 ∷ 4 ∷ 0 ∷ 0 ∷ 0 ∷ 64 ∷ 0 ∷ 0 ∷ 0 ∷ [])).good ≡ false
-unfolding number_of badSheet endpointFits every sheetFits sheetOf sizesFit
-kind-4 = refl
+kind_4 : (sheet_of (1 ∷ 0 ∷ 4 ∷ 0 ∷ 0 ∷ 0 ∷ 64 ∷ 0 ∷ 0 ∷ 0 ∷ [])).good ≡ false
+unfolding number_of bad_sheet endpoint_fits every sheet_fits sheet_of sizes_fit
+kind_4 = refl
 
-bulk-setup : (sheetOf (1 ∷ 0 ∷ 2 ∷ 0 ∷ 0 ∷ 0 ∷ 64 ∷ 0 ∷ asked)).good ≡ false
-unfolding asked number_of badSheet isControl endpointAt endpointFits every requestAt requestFits sheetFits sheetOf sizesFit up_to
-bulk-setup = refl
+bulk_setup : (sheet_of (1 ∷ 0 ∷ 2 ∷ 0 ∷ 0 ∷ 0 ∷ 64 ∷ 0 ∷ asked)).good ≡ false
+unfolding asked number_of bad_sheet is_control endpoint_at endpoint_fits every request_at request_fits sheet_fits sheet_of sizes_fit up_to
+bulk_setup = refl

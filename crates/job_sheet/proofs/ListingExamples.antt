@@ -2,14 +2,14 @@
 use mathlib.Core.Path.{◌≡◌, refl}
 use mathlib.Core.List.{List, [], ◌∷◌, ◌++◌}
 use Prim.Native.Nat.{ℕ}
-use Rattle.descriptor.specs.Slots.{zeroSlots}
+use Rattle.descriptor.specs.Slots.{zero_slots}
 use Rattle.pool.specs.Chains.{blank}
-use Rattle.text.specs.Text.{decimal, decimalUpTo, hex, linesTo}
+use Rattle.text.specs.Text.{decimal, decimal_up_to, hex, lines_to}
 use Rattle.job_sheet.specs.declared.outcome.Outcome.{Outcome}
 use Rattle.job_sheet.specs.Sheets.{joined}
 use Rattle.job_sheet.specs.Reading.{filled, packed}
-use Rattle.job_sheet.specs.Listing.{descriptorLine, endpointLine, numberField, requestLine, wordField}
-use Rattle.job_sheet.specs.Outcomes.{answeredLines, listingOf, placeLines, slot_of}
+use Rattle.job_sheet.specs.Listing.{descriptor_line, endpoint_line, number_field, request_line, word_field}
+use Rattle.job_sheet.specs.Outcomes.{answered_lines, listing_of, place_lines, slot_of}
 use Rattle.job_sheet.proofs.Examples.{example}
 
 -- slot 0 was opened and has the first three places; the request's id is 1
@@ -23,9 +23,9 @@ ran =
       owner = filled 256 0 (1 ∷ 1 ∷ 1 ∷ []);
       pool =
           filled 257 blank (
-          record { next = 0x00100040; alternate = 0x00100040; token = 0x00080e80; pages = 0x00400000 ∷ 0 ∷ 0 ∷ 0 ∷ 0 ∷ []; upper = zeroSlots }
-          ∷ record { next = 0x00100080; alternate = 0x00100080; token = 0x80120d80; pages = 0x10000fff ∷ 0x10001000 ∷ 0 ∷ 0 ∷ 0 ∷ []; upper = zeroSlots }
-          ∷ record { next = 0x00000001; alternate = 0x00000001; token = 0x80008c80; pages = 0 ∷ 0 ∷ 0 ∷ 0 ∷ 0 ∷ []; upper = zeroSlots } ∷ []
+          record { next = 0x00100040; alternate = 0x00100040; token = 0x00080e80; pages = 0x00400000 ∷ 0 ∷ 0 ∷ 0 ∷ 0 ∷ []; upper = zero_slots }
+          ∷ record { next = 0x00100080; alternate = 0x00100080; token = 0x80120d80; pages = 0x10000fff ∷ 0x10001000 ∷ 0 ∷ 0 ∷ 0 ∷ []; upper = zero_slots }
+          ∷ record { next = 0x00000001; alternate = 0x00000001; token = 0x80008c80; pages = 0 ∷ 0 ∷ 0 ∷ 0 ∷ 0 ∷ []; upper = zero_slots } ∷ []
           );
     }
 
@@ -60,11 +60,11 @@ third =
     48 ∷ 48 ∷ 48 ∷ 48 ∷ 48 ∷ 48 ∷ 32 ∷ 48 ∷ 48 ∷ 48 ∷ 48 ∷ 48 ∷ 48 ∷ 48 ∷ 48 ∷ 32 ∷ 48 ∷ 48 ∷ 48 ∷ 48 ∷ 48 ∷ 48 ∷ 48 ∷ 48 ∷
     32 ∷ 48 ∷ 48 ∷ 48 ∷ 48 ∷ 48 ∷ 48 ∷ 48 ∷ 48 ∷ 32 ∷ 48 ∷ 48 ∷ 48 ∷ 48 ∷ 48 ∷ 48 ∷ 48 ∷ 48 ∷ 10 ∷ []
 
-listed : listingOf (packed example) ran ≡ opened ++ (taken ++ (first ++ (second ++ third)))
-unfolding answeredLines decimal decimalUpTo descriptorLine endpointLine example filled first hex joined linesTo listingOf numberField opened packed placeLines ran requestLine second slot_of taken third wordField
+listed : listing_of (packed example) ran ≡ opened ++ (taken ++ (first ++ (second ++ third)))
+unfolding answered_lines decimal decimal_up_to descriptor_line endpoint_line example filled first hex joined lines_to listing_of number_field opened packed place_lines ran request_line second slot_of taken third word_field
 listed = refl
 
 -- an empty job prints nothing
-none : (r : Outcome) → listingOf (packed (record { endpoints = []; requests = [] })) r ≡ []
-unfolding filled linesTo listingOf packed
+none : (r : Outcome) → listing_of (packed (record { endpoints = []; requests = [] })) r ≡ []
+unfolding filled lines_to listing_of packed
 none r = refl

@@ -10,13 +10,13 @@ use lib.ListN.{get_or, length}
 use Rattle.descriptor.specs.declared.qtd.QueueTransferDescriptor.{QueueTransferDescriptor}
 use Rattle.pool.specs.Chains.{blank}
 use Rattle.common.specs.Rows.{put_at}
-use Rattle.text.specs.Text.{linesTo, only_if}
-use Rattle.text.proofs.LineLaws.{get_d_any, hidden, lines_none, lines-turn, shown}
+use Rattle.text.specs.Text.{lines_to, only_if}
+use Rattle.text.proofs.LineLaws.{get_d_any, hidden, lines_none, lines_turn, shown}
 use Rattle.job_sheet.specs.declared.outcome.Outcome.{Outcome}
 use Rattle.job_sheet.specs.declared.sheet.Job.{Job}
-use Rattle.job_sheet.specs.Sheets.{noRequest}
-use Rattle.job_sheet.specs.Listing.{descriptorLine, requestLine}
-use Rattle.job_sheet.specs.Outcomes.{answeredLines, lines_of, placeLine, placeLines, slot_of}
+use Rattle.job_sheet.specs.Sheets.{no_request}
+use Rattle.job_sheet.specs.Listing.{descriptor_line, request_line}
+use Rattle.job_sheet.specs.Outcomes.{answered_lines, lines_of, place_line, place_lines, slot_of}
 use Rattle.job_sheet.proofs.ListingCases.{then}
 
 -- what a function put, in at most so many bytes
@@ -26,8 +26,8 @@ Within o at a p i most = (p ≡ put_at o at a) × ((i ≡ at + length a) × (i �
 -- what a loop put, before number k
 pub record Lined (lines : ℕ → List ℕ) (each : ℕ) (o : List ℕ) (at : ℕ) (p : List ℕ) (i k : ℕ) : Type 0 where
   pub same : length p ≡ length o
-  pub put : p ≡ put_at o at (linesTo lines k)
-  pub place : i ≡ at + length (linesTo lines k)
+  pub put : p ≡ put_at o at (lines_to lines k)
+  pub place : i ≡ at + length (lines_to lines k)
   pub few : i ≤ at + each * k
 
 -- what the code's reading has for a place that is not there; what a place that is there holds does not hang on it
@@ -35,65 +35,65 @@ abbrev absent : QueueTransferDescriptor
 absent = record { next = 0; alternate = 0; token = 0; pages = []; upper = [] }
 
 module _ (o : List ℕ) (at : ℕ) where
-  pub one-then-other : (a p b q : List ℕ) (i r m n : ℕ) → at ≤ length o → Within o at a p i m → Within p i b q r n → Within o at (a ++ b) q r (m + n)
-  one-then-other a p b q i r m n h f g =
+  pub one_then_other : (a p b q : List ℕ) (i r m n : ℕ) → at ≤ length o → Within o at a p i m → Within p i b q r n → Within o at (a ++ b) q r (m + n)
+  one_then_other a p b q i r m n h f g =
       let e = then o at h a p b q i r (f.0, f.1.0) (g.0, g.1.0) in
       (e.0, (e.1, omega (arith, f.1.1, g.1.1)))
 
-  pub shown-put : (a q : List ℕ) (r most : ℕ) (b : Bool) → b ≡ true → Within o at a q r most → Within o at (only_if b a) q r most
-  shown-put a q r most b t f =
+  pub shown_put : (a q : List ℕ) (r most : ℕ) (b : Bool) → b ≡ true → Within o at a q r most → Within o at (only_if b a) q r most
+  shown_put a q r most b t f =
       let e = shown o at b a q r t f.0 f.1.0 in
       (e.0, (e.1, f.1.1))
 
-  pub hidden-put : (a : List ℕ) (most : ℕ) (b : Bool) → b ≡ false → Within o at (only_if b a) o at most
-  hidden-put a most b t =
+  pub hidden_put : (a : List ℕ) (most : ℕ) (b : Bool) → b ≡ false → Within o at (only_if b a) o at most
+  hidden_put a most b t =
       let e = hidden o at b a t in
       (e.0, (e.1, omega arith))
 
-  pub place-put : (owner : List ℕ) (pool : List QueueTransferDescriptor) (slot k : ℕ) (q : List ℕ) (r most : ℕ) → k < length pool
-      → Within o at (only_if (eqb (get_or owner k 0) (slot + 1)) (descriptorLine k (get_or pool k absent))) q r most
-      → Within o at (placeLine owner pool slot k) q r most
-  place-put owner pool slot k q r most h f = rw (get_d_any pool k blank absent h) f
+  pub place_put : (owner : List ℕ) (pool : List QueueTransferDescriptor) (slot k : ℕ) (q : List ℕ) (r most : ℕ) → k < length pool
+      → Within o at (only_if (eqb (get_or owner k 0) (slot + 1)) (descriptor_line k (get_or pool k absent))) q r most
+      → Within o at (place_line owner pool slot k) q r most
+  place_put owner pool slot k q r most h f = rw (get_d_any pool k blank absent h) f
 
-  pub slot-put : (job : Job) (ran : Outcome) (slot k : ℕ) (q : List ℕ) (r most : ℕ) → slot ≡ slot_of ran.slots (get_or job.requests k noRequest).endpoint
-      → Within o at (answeredLines ran slot k) q r most → Within o at (lines_of job ran k) q r most
-  slot-put job ran slot k q r most e f = rw (← e) f
+  pub slot_put : (job : Job) (ran : Outcome) (slot k : ℕ) (q : List ℕ) (r most : ℕ) → slot ≡ slot_of ran.slots (get_or job.requests k no_request).endpoint
+      → Within o at (answered_lines ran slot k) q r most → Within o at (lines_of job ran k) q r most
+  slot_put job ran slot k q r most e f = rw (← e) f
 
-  pub accepted-put : (ran : Outcome) (slot k : ℕ) (q : List ℕ) (r most : ℕ) → get_or ran.submitted k 0 ≡ 0
-      → Within o at (requestLine k (get_or ran.submitted k 0) (get_or ran.ids k 0) ++ placeLines ran.owner ran.pool slot) q r most
-      → Within o at (answeredLines ran slot k) q r most
-  unfolding answeredLines
-  accepted-put ran slot k q r most e f = rw e (rw e at f)
+  pub accepted_put : (ran : Outcome) (slot k : ℕ) (q : List ℕ) (r most : ℕ) → get_or ran.submitted k 0 ≡ 0
+      → Within o at (request_line k (get_or ran.submitted k 0) (get_or ran.ids k 0) ++ place_lines ran.owner ran.pool slot) q r most
+      → Within o at (answered_lines ran slot k) q r most
+  unfolding answered_lines
+  accepted_put ran slot k q r most e f = rw e (rw e at f)
 
-  pub refused-put : (ran : Outcome) (slot k : ℕ) (q : List ℕ) (r : ℕ) → (get_or ran.submitted k 0 ≡ 0 → ⊥)
-      → Within o at (requestLine k (get_or ran.submitted k 0) 0) q r 65 → Within o at (answeredLines ran slot k) q r 1441
-  unfolding answeredLines
-  refused-put ran slot k q r e f =
+  pub refused_put : (ran : Outcome) (slot k : ℕ) (q : List ℕ) (r : ℕ) → (get_or ran.submitted k 0 ≡ 0 → ⊥)
+      → Within o at (request_line k (get_or ran.submitted k 0) 0) q r 65 → Within o at (answered_lines ran slot k) q r 1441
+  unfolding answered_lines
+  refused_put ran slot k q r e f =
       rw (ne_eqb (get_or ran.submitted k 0) 0 e, append-nil) (f.0, (f.1.0, omega (arith, f.1.1)))
 
   module _ (lines : ℕ → List ℕ) (each : ℕ) where
-    pub lined-none : Lined lines each o at o at 0
-    lined-none =
+    pub lined_none : Lined lines each o at o at 0
+    lined_none =
         let e = lines_none lines o at in
         record { same = refl; put = e.0; place = e.1; few = omega arith }
 
     -- a turn of a loop
-    pub lined-turn : (p q : List ℕ) (i k r : ℕ) → at ≤ length o → Lined lines each o at p i k → length q ≡ length p
+    pub lined_turn : (p q : List ℕ) (i k r : ℕ) → at ≤ length o → Lined lines each o at p i k → length q ≡ length p
         → Within p i (lines k) q r each → Lined lines each o at q r (k + 1)
-    lined-turn p q i k r h l s g =
-        let e = lines-turn lines o p q at i r k h l.put l.place g.0 g.1.0 in
+    lined_turn p q i k r h l s g =
+        let e = lines_turn lines o p q at i r k h l.put l.place g.0 g.1.0 in
         record { same = s ∙ l.same; put = e.0; place = e.1; few = omega (arith, l.few, g.1.1) }
 
-    pub lined-done : (p : List ℕ) (i k n most : ℕ) → k ≤ n → n ≤ k → each * n ≤ most → Lined lines each o at p i k
-        → Within o at (linesTo lines n) p i most
-    lined-done p i k n most a b m l =
+    pub lined_done : (p : List ℕ) (i k n most : ℕ) → k ≤ n → n ≤ k → each * n ≤ most → Lined lines each o at p i k
+        → Within o at (lines_to lines n) p i most
+    lined_done p i k n most a b m l =
         let all : k ≡ n = omega arith in
         rw (← all) (l.put, (l.place, omega (arith, l.few, rw (← all) at m)))
 
-pub slot-there : (slots : List ℕ) (k : ℕ) → k < 8 → get_or slots k 0 ≡ slot_of slots k
+pub slot_there : (slots : List ℕ) (k : ℕ) → k < 8 → get_or slots k 0 ≡ slot_of slots k
 unfolding slot_of
-slot-there slots k h = rw (lt-ltb k 8 h)
+slot_there slots k h = rw (lt-ltb k 8 h)
 
-pub slot-none : (slots : List ℕ) (k : ℕ) → 8 ≤ k → 255 ≡ slot_of slots k
+pub slot_none : (slots : List ℕ) (k : ℕ) → 8 ≤ k → 255 ≡ slot_of slots k
 unfolding slot_of
-slot-none slots k h = rw (le-ltb k 8 h)
+slot_none slots k h = rw (le-ltb k 8 h)

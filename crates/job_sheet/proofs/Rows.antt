@@ -6,17 +6,17 @@ use Prim.Native.Nat.{ℕ, zero, suc, ◌+◌, ◌-◌, ◌<◌}
 use native.Mathlib.Numerals.{add-one}
 use native.Mathlib.Omega.{arith}
 use borrow.Author.Tests.{ltb-false, ltb-true}
-use Rattle.common.proofs.TestLaws.{both-makes, both-tells}
+use Rattle.common.proofs.TestLaws.{both_makes, both_tells}
 use lib.Dec.{ltb}
 use lib.ListN.{get_or-append, get_or, length, length-append, replicate, set, take}
 use lib.Seq.{ext_get_or, get_or_at, set-append_seam, take-append_seam}
 use Rattle.job_sheet.specs.Reading.{every, filled, up_to}
 
 module _ {A : Type 0} where
-  pub up-length : (f : ℕ → A) (n : ℕ) → length (up_to f n) ≡ n
+  pub up_length : (f : ℕ → A) (n : ℕ) → length (up_to f n) ≡ n
   unfolding up_to
-  up-length f zero = refl
-  up-length f (suc n) = length-append (up_to f n) (f n ∷ []) ∙ rw (up-length f n) (add-one n)
+  up_length f zero = refl
+  up_length f (suc n) = length-append (up_to f n) (f n ∷ []) ∙ rw (up_length f n) (add-one n)
 
   pub up_at : (f : ℕ → A) (n i : ℕ) (d : A) → i < n → get_or (up_to f n) i d ≡ f i
   unfolding up_to
@@ -25,17 +25,17 @@ module _ {A : Type 0} where
     where
       go : (b : Bool) → ltb i n ≡ b → (i < n → get_or (up_to f n) i d ≡ f i) → get_or (up_to f n ++ (f n ∷ [])) i d ≡ f i
       go true e rec =
-          let l : i < length (up_to f n) = omega (arith, ltb-true i n e, up-length f n) in
+          let l : i < length (up_to f n) = omega (arith, ltb-true i n e, up_length f n) in
           get_or-append (up_to f n) (f n ∷ []) d i l ∙ rec (ltb-true i n e)
       go false e rec =
           let last : i ≡ n = omega (arith, h, ltb-false i n e) in
-          rw last (get_or_at (up_to f n) (f n) [] d n (up-length f n))
+          rw last (get_or_at (up_to f n) (f n) [] d n (up_length f n))
 
   -- a row that agrees with a list at each place is that list
   pub up_is : (f : ℕ → A) (d : A) (xs : List A) → ((i : ℕ) → i < length xs → f i ≡ get_or xs i d) → up_to f (length xs) ≡ xs
   up_is f d xs h =
-      ext_get_or d (up_to f (length xs)) xs (up-length f (length xs))
-      (λ i l. let h' : i < length xs = omega (arith, l, up-length f (length xs)) in up_at f (length xs) i d h' ∙ h i h')
+      ext_get_or d (up_to f (length xs)) xs (up_length f (length xs))
+      (λ i l. let h' : i < length xs = omega (arith, l, up_length f (length xs)) in up_at f (length xs) i d h' ∙ h i h')
 
   filled_more : (size : ℕ) (none : A) (xs : List A) (x : A) → length xs < size
       → set (filled size none xs) (length xs) x ≡ filled size none (xs ++ (x ∷ []))
@@ -48,31 +48,31 @@ module _ {A : Type 0} where
       → set row i x ≡ filled size none (up_to f (i + 1))
   unfolding up_to
   stored size none f row i x h e q =
-      let l : length (up_to f i) < size = omega (arith, h, up-length f i) in
-      rw (e, q, add-one i) (ap (λ (k : ℕ). set (filled size none (up_to f i)) k (f i)) (sym (up-length f i))
+      let l : length (up_to f i) < size = omega (arith, h, up_length f i) in
+      rw (e, q, add-one i) (ap (λ (k : ℕ). set (filled size none (up_to f i)) k (f i)) (sym (up_length f i))
       ∙ filled_more size none (up_to f i) (f i) l)
 
-  pub filled-taken : (size : ℕ) (none : A) (xs : List A) → take (length xs) (filled size none xs) ≡ xs
+  pub filled_taken : (size : ℕ) (none : A) (xs : List A) → take (length xs) (filled size none xs) ≡ xs
   unfolding filled
-  filled-taken size none xs = take-append_seam xs (replicate (size - length xs) none)
+  filled_taken size none xs = take-append_seam xs (replicate (size - length xs) none)
 
-  pub up-taken : (size : ℕ) (none : A) (f : ℕ → A) (n : ℕ) → take n (filled size none (up_to f n)) ≡ up_to f n
-  up-taken size none f n =
-      ap (λ (k : ℕ). take k (filled size none (up_to f n))) (sym (up-length f n)) ∙ filled-taken size none (up_to f n)
+  pub up_taken : (size : ℕ) (none : A) (f : ℕ → A) (n : ℕ) → take n (filled size none (up_to f n)) ≡ up_to f n
+  up_taken size none f n =
+      ap (λ (k : ℕ). take k (filled size none (up_to f n))) (sym (up_length f n)) ∙ filled_taken size none (up_to f n)
 
 pub joins : (f : ℕ → Bool) (good : Bool) (i : ℕ) (b : Bool) → good ≡ every f i → b ≡ f i → (good && b) ≡ every f (i + 1)
 unfolding every
 joins f good i b e q = rw (e, q, add-one i)
 
-pub every-all : (f : ℕ → Bool) (n : ℕ) → ((i : ℕ) → i < n → f i ≡ true) → every f n ≡ true
+pub every_all : (f : ℕ → Bool) (n : ℕ) → ((i : ℕ) → i < n → f i ≡ true) → every f n ≡ true
 unfolding every
-every-all f zero h = refl
-every-all f (suc n) h = both-makes (every f n) (f n) (every-all f n (λ i l. h i (omega (arith, l)))) (h n (omega arith))
+every_all f zero h = refl
+every_all f (suc n) h = both_makes (every f n) (f n) (every_all f n (λ i l. h i (omega (arith, l)))) (h n (omega arith))
 
-pub every-each : (f : ℕ → Bool) (n i : ℕ) → every f n ≡ true → i < n → f i ≡ true
+pub every_each : (f : ℕ → Bool) (n i : ℕ) → every f n ≡ true → i < n → f i ≡ true
 unfolding every
-every-each f zero i e h = absurd (omega (arith, h))
-every-each f (suc n) i e h = go (ltb i n) refl (both-tells (every f n) (f n) e) (every-each f n i)
+every_each f zero i e h = absurd (omega (arith, h))
+every_each f (suc n) i e h = go (ltb i n) refl (both_tells (every f n) (f n) e) (every_each f n i)
   where
     go : (b : Bool) → ltb i n ≡ b → (every f n ≡ true) × (f n ≡ true) → (every f n ≡ true → i < n → f i ≡ true) → f i ≡ true
     go true q t rec = rec t.0 (ltb-true i n q)

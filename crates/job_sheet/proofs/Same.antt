@@ -3,7 +3,7 @@ use Prim.Native.Nat.{ℕ}
 use mathlib.Core.List.{List}
 use mathlib.Core.Path.{◌≡◌, sym, ◌∙◌}
 use Rattle.job_sheet.specs.declared.sheet.Sheet.{Sheet}
-use Rattle.job_sheet.specs.Reading.{sheetOf}
+use Rattle.job_sheet.specs.Reading.{sheet_of}
 
-pub same-sheet : (bytes : List ℕ) (a b : Sheet) → a ≡ sheetOf bytes → b ≡ sheetOf bytes → a ≡ b
-same-sheet bytes a b e f = e ∙ sym f
+pub same_sheet : (bytes : List ℕ) (a b : Sheet) → a ≡ sheet_of bytes → b ≡ sheet_of bytes → a ≡ b
+same_sheet bytes a b e f = e ∙ sym f

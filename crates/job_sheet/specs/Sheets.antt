@@ -3,20 +3,20 @@ use Rattle.std.specs.Prelude.{ℕ, ◌+◌, ◌≤◌, ◌<◌, ◌^◌, ◌≡�
 use Rattle.job_sheet.specs.declared.record.EndpointRecord.{EndpointRecord}
 use Rattle.job_sheet.specs.declared.record.RequestRecord.{RequestRecord}
 use Rattle.job_sheet.specs.declared.sheet.Job.{Job}
-use Rattle.text.specs.Numbers.{littleEndian}
+use Rattle.text.specs.Numbers.{little_endian}
 
 pub record SheetJob : Type 0 where
   pub endpoints : List EndpointRecord
   pub requests : List RequestRecord
 
 -- kind, address, number, 0, 16-bit packet size
-unfoldable pub endpointBytes : EndpointRecord → List ℕ
-endpointBytes e = e.kind ∷ e.address ∷ e.number ∷ 0 ∷ littleEndian 2 e.packet
+unfoldable pub endpoint_bytes : EndpointRecord → List ℕ
+endpoint_bytes e = e.kind ∷ e.address ∷ e.number ∷ 0 ∷ little_endian 2 e.packet
 
 -- endpoint record, direction, setup bytes 0 to 5, 64-bit address, 32-bit length
-unfoldable pub requestBytes : RequestRecord → List ℕ
-requestBytes r =
-    r.endpoint ∷ r.direction ∷ (littleEndian 6 r.setup ++ (littleEndian 8 r.buffer ++ littleEndian 4 r.length))
+unfoldable pub request_bytes : RequestRecord → List ℕ
+request_bytes r =
+    r.endpoint ∷ r.direction ∷ (little_endian 6 r.setup ++ (little_endian 8 r.buffer ++ little_endian 4 r.length))
 
 unfoldable pub joined : {A : Type 0} → (A → List ℕ) → List A → List ℕ
 joined bytes [] = []
@@ -25,18 +25,18 @@ joined bytes (x ∷ xs) = bytes x ++ joined bytes xs
 -- "two sections, each after a little-endian 16-bit count"
 unfoldable pub bytes_of : SheetJob → List ℕ
 bytes_of j =
-    littleEndian 2 (length j.endpoints)
-    ++ (joined endpointBytes j.endpoints ++ (littleEndian 2 (length j.requests) ++ joined requestBytes j.requests))
+    little_endian 2 (length j.endpoints)
+    ++ (joined endpoint_bytes j.endpoints ++ (little_endian 2 (length j.requests) ++ joined request_bytes j.requests))
 
-abbrev pub noEndpoint : EndpointRecord
-noEndpoint = record { kind = 0; address = 0; number = 0; packet = 0 }
+abbrev pub no_endpoint : EndpointRecord
+no_endpoint = record { kind = 0; address = 0; number = 0; packet = 0 }
 
-abbrev pub noRequest : RequestRecord
-noRequest = record { endpoint = 0; direction = 0; setup = 0; buffer = 0; length = 0 }
+abbrev pub no_request : RequestRecord
+no_request = record { endpoint = 0; direction = 0; setup = 0; buffer = 0; length = 0 }
 
 -- record k is there, and is control
-unfoldable pub isControl : List EndpointRecord → ℕ → Bool
-isControl es k = ltb k (length es) && eqb (get_or es k noEndpoint).kind 0
+unfoldable pub is_control : List EndpointRecord → ℕ → Bool
+is_control es k = ltb k (length es) && eqb (get_or es k no_endpoint).kind 0
 
 pub record GoodEndpoint (e : EndpointRecord) : Type 0 where
   pub kind : e.kind ≤ 3
@@ -50,7 +50,7 @@ pub record GoodRequest (es : List EndpointRecord) (r : RequestRecord) : Type 0 w
   pub setup : r.setup < 2 ^ 48
   pub buffer : r.buffer < 2 ^ 64
   pub length : r.length < 2 ^ 32
-  pub no-setup : isControl es r.endpoint ≡ false → r.setup ≡ 0
+  pub no_setup : is_control es r.endpoint ≡ false → r.setup ≡ 0
 
 unfoldable pub All : {A : Type 0} → (A → Type 0) → List A → Type 0
 All P [] = Unit

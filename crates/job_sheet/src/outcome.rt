@@ -2,14 +2,14 @@
 ghost use Rattle.std.specs.Prelude.{◌≡◌, ◌+◌, ◌*◌, ◌≤◌, ◌<◌, length};
 ghost use Rattle.common.specs.Rows.{put_at};
 ghost use Rattle.text.specs.Text.{only_if};
-ghost use Rattle.job_sheet.specs.Listing.{descriptorLine};
+ghost use Rattle.job_sheet.specs.Listing.{descriptor_line};
 ghost use Rattle.job_sheet.specs.Outcomes.{
-  placeLines,
+  place_lines,
   slot_of,
-  answeredLines,
-  requestLines,
-  endpointLines,
-  listingOf,
+  answered_lines,
+  request_lines,
+  endpoint_lines,
+  listing_of,
 };
 
 use crate::listing::{put_descriptor, put_endpoint, put_request};
@@ -31,8 +31,8 @@ pub struct Outcome {
 // A place's line, if the place is the slot's.
 fn put_place(out: &mut [u8], at: usize, p: u64, shown: bool, d: QueueTransferDescriptor) -> usize
     requires { at + 86 ≤ length out.old }
-    ensures out_after { out.new ≡ put_at out.old at (only_if shown (descriptorLine p d)) }
-    ensures value { result ≡ at + length (only_if shown (descriptorLine p d)) }
+    ensures out_after { out.new ≡ put_at out.old at (only_if shown (descriptor_line p d)) }
+    ensures value { result ≡ at + length (only_if shown (descriptor_line p d)) }
     ensures upper_bound { result ≤ at + 86 }
 {
     if shown {
@@ -51,8 +51,8 @@ fn put_places(
     pool: [QueueTransferDescriptor; 257],
 ) -> usize
     requires { at + 16 * 86 ≤ length out.old }
-    ensures out_after { out.new ≡ put_at out.old at (placeLines owner pool slot) }
-    ensures value { result ≡ at + length (placeLines owner pool slot) }
+    ensures out_after { out.new ≡ put_at out.old at (place_lines owner pool slot) }
+    ensures value { result ≡ at + length (place_lines owner pool slot) }
     ensures upper_bound { result ≤ at + 16 * 86 }
 {
     let mark = slot as u64 + 1;
@@ -78,8 +78,8 @@ pub fn slot_of(slots: [u8; 8], k: u8) -> u8
 // A request's R line, and its D lines if it was accepted.
 fn put_answered(out: &mut [u8], at: usize, slot: u8, k: usize, ran: Outcome) -> usize
     requires { (k < 64) × (at + (65 + 16 * 86) ≤ length out.old) }
-    ensures out_after { out.new ≡ put_at out.old at (answeredLines ran slot k) }
-    ensures value { result ≡ at + length (answeredLines ran slot k) }
+    ensures out_after { out.new ≡ put_at out.old at (answered_lines ran slot k) }
+    ensures value { result ≡ at + length (answered_lines ran slot k) }
     ensures upper_bound { result ≤ at + (65 + 16 * 86) }
 {
     let answer = ran.submitted[k] as u64;
@@ -96,8 +96,8 @@ fn put_answered(out: &mut [u8], at: usize, slot: u8, k: usize, ran: Outcome) -> 
 
 fn put_requests(out: &mut [u8], at: usize, job: Job, ran: Outcome) -> usize
     requires { (job.submits ≤ 64) × (at + 64 * (65 + 16 * 86) ≤ length out.old) }
-    ensures out_after { out.new ≡ put_at out.old at (requestLines job ran job.submits) }
-    ensures value { result ≡ at + length (requestLines job ran job.submits) }
+    ensures out_after { out.new ≡ put_at out.old at (request_lines job ran job.submits) }
+    ensures value { result ≡ at + length (request_lines job ran job.submits) }
     ensures upper_bound { result ≤ at + 64 * (65 + 16 * 86) }
 {
     let slots = ran.slots;
@@ -115,8 +115,8 @@ fn put_requests(out: &mut [u8], at: usize, job: Job, ran: Outcome) -> usize
 
 fn put_endpoints(out: &mut [u8], at: usize, opens: usize, opened: [u8; 8]) -> usize
     requires { (opens ≤ 8) × (at + 8 * 44 ≤ length out.old) }
-    ensures out_after { out.new ≡ put_at out.old at (endpointLines opened opens) }
-    ensures value { result ≡ at + length (endpointLines opened opens) }
+    ensures out_after { out.new ≡ put_at out.old at (endpoint_lines opened opens) }
+    ensures value { result ≡ at + length (endpoint_lines opened opens) }
     ensures upper_bound { result ≤ at + 8 * 44 }
 {
     let mut next = at;
@@ -132,8 +132,8 @@ fn put_endpoints(out: &mut [u8], at: usize, opens: usize, opened: [u8; 8]) -> us
 pub fn put_listing(out: &mut [u8], at: usize, job: Job, ran: Outcome) -> usize
     requires opens_bound { (job.opens ≤ 8) × (job.submits ≤ 64) }
     requires at_in_bounds { at + (8 * 44 + 64 * (65 + 16 * 86)) ≤ length out.old }
-    ensures out_after { out.new ≡ put_at out.old at (listingOf job ran) }
-    ensures value { result ≡ at + length (listingOf job ran) }
+    ensures out_after { out.new ≡ put_at out.old at (listing_of job ran) }
+    ensures value { result ≡ at + length (listing_of job ran) }
     ensures upper_bound { result ≤ at + (8 * 44 + 64 * (65 + 16 * 86)) }
 {
     let opened = ran.opened;

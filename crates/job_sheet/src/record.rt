@@ -1,6 +1,6 @@
 // One record of a sheet.
 ghost use Rattle.std.specs.Prelude.{◌≡◌, ◌+◌, ◌≤◌, length, take};
-ghost use Rattle.job_sheet.specs.Reading.{endpointAt, endpointFits, requestAt, requestFits, isControl};
+ghost use Rattle.job_sheet.specs.Reading.{endpoint_at, endpoint_fits, request_at, request_fits, is_control};
 
 use common::kinds::KIND_MAX;
 use text::number::{number16, number32, number48, number64};
@@ -25,7 +25,7 @@ pub struct RequestRecord {
 
 pub fn endpoint_at(bytes: &[u8], at: usize) -> EndpointRecord
     requires { at + 6 ≤ length bytes.now }
-    ensures { result ≡ endpointAt bytes.now at }
+    ensures { result ≡ endpoint_at bytes.now at }
 {
     let packet = number16(bytes, at + 4);
     EndpointRecord {
@@ -38,7 +38,7 @@ pub fn endpoint_at(bytes: &[u8], at: usize) -> EndpointRecord
 
 pub fn endpoint_fits(bytes: &[u8], at: usize) -> bool
     requires { at + 6 ≤ length bytes.now }
-    ensures { result ≡ endpointFits bytes.now at }
+    ensures { result ≡ endpoint_fits bytes.now at }
 {
     let kind = bytes[at];
     let zero = bytes[at + 3];
@@ -47,7 +47,7 @@ pub fn endpoint_fits(bytes: &[u8], at: usize) -> bool
 
 pub fn request_at(bytes: &[u8], at: usize) -> RequestRecord
     requires { at + 20 ≤ length bytes.now }
-    ensures { result ≡ requestAt bytes.now at }
+    ensures { result ≡ request_at bytes.now at }
 {
     let setup = number48(bytes, at + 2);
     let buffer = number64(bytes, at + 8);
@@ -64,7 +64,7 @@ pub fn request_at(bytes: &[u8], at: usize) -> RequestRecord
 // Whether the record is there, and control.
 pub fn is_control(endpoints: [EndpointRecord; 8], count: usize, k: u8) -> bool
     requires { count ≤ 8 }
-    ensures { result ≡ isControl (take count endpoints) k }
+    ensures { result ≡ is_control (take count endpoints) k }
 {
     let at = k as usize;
     if at < count {
@@ -76,7 +76,7 @@ pub fn is_control(endpoints: [EndpointRecord; 8], count: usize, k: u8) -> bool
 }
 
 pub fn request_fits(control: bool, r: RequestRecord) -> bool
-    ensures { result ≡ requestFits control r }
+    ensures { result ≡ request_fits control r }
 {
     (r.direction <= 1) & (control | (r.setup == 0))
 }

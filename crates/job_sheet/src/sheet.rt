@@ -1,12 +1,12 @@
 // A sheet's bytes read: its job, or that it is bad.
 ghost use Rattle.std.specs.Prelude.{◌≡◌, ◌+◌, ◌*◌, ◌≤◌, length, take};
 ghost use Rattle.job_sheet.specs.Reading.{
-  sizesOf,
-  noSizes,
-  endpointsOf,
-  requestsOf,
-  badSheet,
-  sheetOf,
+  sizes_of,
+  no_sizes,
+  endpoints_of,
+  requests_of,
+  bad_sheet,
+  sheet_of,
 };
 
 use crate::record::{
@@ -66,7 +66,7 @@ const NO_REQUEST: RequestRecord = RequestRecord {
 };
 
 fn bad_sizes() -> Sizes
-    ensures { result ≡ noSizes }
+    ensures { result ≡ no_sizes }
 {
     Sizes {
         good: false,
@@ -76,7 +76,7 @@ fn bad_sizes() -> Sizes
 }
 
 fn read_sizes(bytes: &[u8]) -> Sizes
-    ensures { result ≡ sizesOf bytes.now }
+    ensures { result ≡ sizes_of bytes.now }
 {
     if bytes.len() < 4 {
         return bad_sizes();
@@ -101,7 +101,7 @@ fn read_sizes(bytes: &[u8]) -> Sizes
 
 fn read_endpoints(bytes: &[u8], count: usize) -> Endpoints
     requires { (count ≤ 8) × (2 + 6 * count ≤ length bytes.now) }
-    ensures { result ≡ endpointsOf bytes.now count }
+    ensures { result ≡ endpoints_of bytes.now count }
 {
     let mut records: [EndpointRecord; 8] = [NO_ENDPOINT; 8];
     let mut good = true;
@@ -124,7 +124,7 @@ fn read_requests(
     count: usize,
 ) -> Requests
     requires { (opens ≤ 8) × (count ≤ 64) × (4 + 6 * opens + 20 * count ≤ length bytes.now) }
-    ensures { result ≡ requestsOf bytes.now (take opens endpoints) opens count }
+    ensures { result ≡ requests_of bytes.now (take opens endpoints) opens count }
 {
     let first = 4 + 6 * opens;
     let mut records: [RequestRecord; 64] = [NO_REQUEST; 64];
@@ -142,7 +142,7 @@ fn read_requests(
 }
 
 fn bad_sheet() -> Sheet
-    ensures { result ≡ badSheet }
+    ensures { result ≡ bad_sheet }
 {
     let job = Job {
         opens: 0,
@@ -154,7 +154,7 @@ fn bad_sheet() -> Sheet
 }
 
 pub fn read_sheet(bytes: &[u8]) -> Sheet
-    ensures value { result ≡ sheetOf bytes.now }
+    ensures value { result ≡ sheet_of bytes.now }
     ensures opens_bound { (result.job.opens ≤ 8) × (result.job.submits ≤ 64) }
 {
     let n = read_sizes(bytes);

@@ -2,11 +2,11 @@
 use Rattle.core.specs.Prelude.{ℕ, ◌+◌, ◌*◌, List, slice_index, slice_set}
 
 -- word i of the head at a place
-abbrev pub wordPlace : ℕ → ℕ → ℕ
-wordPlace place i = 17 * place + i
+abbrev pub word_place : ℕ → ℕ → ℕ
+word_place place i = 17 * place + i
 
-abbrev pub headWord : List ℕ → ℕ → ℕ → ℕ
-headWord heads place i = slice_index heads (wordPlace place i)
+abbrev pub head_word : List ℕ → ℕ → ℕ → ℕ
+head_word heads place i = slice_index heads (word_place place i)
 
-abbrev pub withHeadWord : List ℕ → ℕ → ℕ → ℕ → List ℕ
-withHeadWord heads place i word = slice_set heads (wordPlace place i) word
+abbrev pub with_head_word : List ℕ → ℕ → ℕ → ℕ → List ℕ
+with_head_word heads place i word = slice_set heads (word_place place i) word

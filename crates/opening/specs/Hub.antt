@@ -2,5 +2,5 @@
 use Rattle.core.specs.Prelude.{ℕ, replicate}
 use Rattle.opening.specs.declared.hub.EhciRootHub.{EhciRootHub}
 
-unfoldable pub openedHub : ℕ → EhciRootHub
-openedHub ports = record { ports = ports; states = replicate 15 0; port = 0; step = 0 }
+unfoldable pub opened_hub : ℕ → EhciRootHub
+opened_hub ports = record { ports = ports; states = replicate 15 0; port = 0; step = 0 }

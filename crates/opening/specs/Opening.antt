@@ -2,7 +2,7 @@
 use Rattle.core.specs.Prelude.{ℕ, ◌-◌, Bool, not, List, [], ◌∷◌, ◌++◌, length, replicate, ◌==◌}
 use Rattle.descriptor.specs.declared.qtd.QueueTransferDescriptor.{QueueTransferDescriptor}
 use Rattle.descriptor.specs.Descriptors.{terminated}
-use Rattle.descriptor.specs.Heads.{ringHead, words_of}
+use Rattle.descriptor.specs.Heads.{ring_head, words_of}
 use Rattle.pool.specs.Chains.{blank}
 use Rattle.common.specs.declared.answer.Answer.TheVariants.{Done, Refused}
 use Rattle.common.specs.declared.answer.Refusal.{Refusal}
@@ -11,13 +11,13 @@ use Rattle.opening.specs.Plain.{Opening}
 use Rattle.settings.specs.declared.settings.Settings.{Settings}
 use Rattle.state.specs.Plain.{Ehci}
 use Rattle.common.specs.Answers.{Check, first, settle}
-use Rattle.opening.specs.Hub.{openedHub}
-use Rattle.settings.specs.Settings.{settingsGood, poolLength, headsLength, framesLength, setupsLength}
+use Rattle.opening.specs.Hub.{opened_hub}
+use Rattle.settings.specs.Settings.{settings_good, pool_length, heads_length, frames_length, setups_length}
 use Rattle.common.specs.Tests.{every}
 
 -- not running, nothing begun, address 1 next, interrupts off, every descriptor free, every slot closed
-unfoldable pub freshState : Settings → Ehci
-freshState settings =
+unfoldable pub fresh_state : Settings → Ehci
+fresh_state settings =
     record {
       settings = settings;
       running = 0;
@@ -44,25 +44,25 @@ freshState settings =
     }
 
 -- the settings of the state that a refused opening gives: no descriptor, so outside the ranges
-abbrev pub noSettings : Settings
-noSettings =
+abbrev pub no_settings : Settings
+no_settings =
     record { descriptors = 0; endpoints = 0; ports = 0; limit = 0; wait = 0; pool = 0; heads = 0; frames = 0; setups = 0 }
 
 -- the lengths of the rows that are lent
-unfoldable pub rowsFit : Settings → ℕ → ℕ → ℕ → ℕ → Bool
-rowsFit s pool heads frames setups =
+unfoldable pub rows_are_fit : Settings → ℕ → ℕ → ℕ → ℕ → Bool
+rows_are_fit s pool heads frames setups =
     every
-    (pool == poolLength s
-    ∷ (heads == headsLength s)
-    ∷ (frames == framesLength)
-    ∷ (setups == setupsLength s)
+    (pool == pool_length s
+    ∷ (heads == heads_length s)
+    ∷ (frames == frames_length)
+    ∷ (setups == setups_length s)
     ∷ [])
 
-unfoldable pub refusedOpening : Refusal → Opening
-refusedOpening r = record { answer = Refused r; state = freshState noSettings; hub = openedHub 0 }
+unfoldable pub refused_opening : Refusal → Opening
+refused_opening r = record { answer = Refused r; state = fresh_state no_settings; hub = opened_hub 0 }
 
-unfoldable pub acceptedOpening : Settings → Opening
-acceptedOpening s = record { answer = Done; state = freshState s; hub = openedHub s.ports }
+unfoldable pub accepted_opening : Settings → Opening
+accepted_opening s = record { answer = Done; state = fresh_state s; hub = opened_hub s.ports }
 
 -- what is decided by the pool's length: the answer, and the rows of numbers
 pub record Decided : Type 0 where
@@ -75,24 +75,24 @@ abbrev pub decided : Opening → List ℕ → List ℕ → List ℕ → Decided
 decided o heads frames setups = record { opening = o; heads = heads; frames = frames; setups = setups }
 
 -- the ring head, and every other head zero, in so many words
-unfoldable pub openedHeads : ℕ → ℕ → List ℕ
-openedHeads area words = words_of (ringHead area) ++ replicate (words - 17) 0
+unfoldable pub opened_heads : ℕ → ℕ → List ℕ
+opened_heads area words = words_of (ring_head area) ++ replicate (words - 17) 0
 
 -- a fault of the settings, or of a row's length
-abbrev pub openChecks : Settings → ℕ → ℕ → ℕ → ℕ → List Check
-openChecks s pool heads frames setups =
-    (not (settingsGood s), InvalidParameter) ∷ (not (rowsFit s pool heads frames setups), InvalidParameter) ∷ []
+abbrev pub open_checks : Settings → ℕ → ℕ → ℕ → ℕ → List Check
+open_checks s pool heads frames setups =
+    (not (settings_good s), InvalidParameter) ∷ (not (rows_are_fit s pool heads frames setups), InvalidParameter) ∷ []
 
 -- every row of numbers zeroed but the ring head and the frame entries
-unfoldable pub decideOpenOf : Settings → ℕ → List ℕ → List ℕ → List ℕ → Decided
-decideOpenOf s pool heads frames setups =
+unfoldable pub decide_open_of : Settings → ℕ → List ℕ → List ℕ → List ℕ → Decided
+decide_open_of s pool heads frames setups =
     settle
-    (first (openChecks s pool (length heads) (length frames) (length setups)))
-    (λ r. decided (refusedOpening r) heads frames setups)
-    (decided (acceptedOpening s)
-    (openedHeads s.heads (headsLength s))
-    (replicate framesLength 1)
-    (replicate (setupsLength s) 0))
+    (first (open_checks s pool (length heads) (length frames) (length setups)))
+    (λ r. decided (refused_opening r) heads frames setups)
+    (decided (accepted_opening s)
+    (opened_heads s.heads (heads_length s))
+    (replicate frames_length 1)
+    (replicate (setups_length s) 0))
 
 -- what opening leaves
 pub record Opened : Type 0 where
@@ -106,17 +106,17 @@ abbrev pub opened : Opening → List QueueTransferDescriptor → List ℕ → Li
 opened o pool heads frames setups = record { opening = o; pool = pool; heads = heads; frames = frames; setups = setups }
 
 -- D zero records, and at place D the shared inactive descriptor: "next and alternate 1, token 0"
-abbrev pub openedPool : ℕ → List QueueTransferDescriptor
-openedPool descriptors = replicate descriptors blank ++ terminated ∷ []
+abbrev pub opened_pool : ℕ → List QueueTransferDescriptor
+opened_pool descriptors = replicate descriptors blank ++ terminated ∷ []
 
 -- every row zeroed but the shared descriptor, the ring head and the frame entries
-unfoldable pub openOf : Settings → List QueueTransferDescriptor → List ℕ → List ℕ → List ℕ → Opened
-openOf s pool heads frames setups =
+unfoldable pub open_of : Settings → List QueueTransferDescriptor → List ℕ → List ℕ → List ℕ → Opened
+open_of s pool heads frames setups =
     settle
-    (first (openChecks s (length pool) (length heads) (length frames) (length setups)))
-    (λ r. opened (refusedOpening r) pool heads frames setups)
-    (opened (acceptedOpening s)
-    (openedPool s.descriptors)
-    (openedHeads s.heads (headsLength s))
-    (replicate framesLength 1)
-    (replicate (setupsLength s) 0))
+    (first (open_checks s (length pool) (length heads) (length frames) (length setups)))
+    (λ r. opened (refused_opening r) pool heads frames setups)
+    (opened (accepted_opening s)
+    (opened_pool s.descriptors)
+    (opened_heads s.heads (heads_length s))
+    (replicate frames_length 1)
+    (replicate (setups_length s) 0))

@@ -7,19 +7,19 @@ use Rattle.common.specs.declared.answer.Refusal.TheVariants.{InvalidParameter}
 use Rattle.common.specs.Answers.{Check, first, settle}
 use Rattle.descriptor.specs.declared.qtd.QueueTransferDescriptor.{QueueTransferDescriptor}
 use Rattle.settings.specs.declared.settings.Settings.{Settings}
-use Rattle.settings.specs.Settings.{headsLength, framesLength, setupsLength}
+use Rattle.settings.specs.Settings.{heads_length, frames_length, setups_length}
 use Rattle.words.specs.declared.core.Core.{Core}
 use Rattle.words.specs.Good.{Tidy}
-use Rattle.words.specs.Opened.{openedRest, openedRow}
+use Rattle.words.specs.Opened.{opened_rest, opened_row}
 use Rattle.words.specs.View.{state_of}
 use Rattle.opening.specs.declared.hub.EhciRootHub.{EhciRootHub}
 use Rattle.opening.specs.declared.open.Opening.{Opening}
-use Rattle.opening.specs.Hub.{openedHub}
-use Rattle.opening.specs.Opening.{Opened, freshState, noSettings, openChecks, openOf, opened, openedHeads, refusedOpening}
+use Rattle.opening.specs.Hub.{opened_hub}
+use Rattle.opening.specs.Opening.{Opened, fresh_state, no_settings, open_checks, open_of, opened, opened_heads, refused_opening}
 
 -- the row of slots has six words a slot
-unfoldable pub slotsFit : Settings → ℕ → Bool
-slotsFit s words = words == 6 * s.endpoints
+unfoldable pub slots_fit : Settings → ℕ → Bool
+slots_fit s words = words == 6 * s.endpoints
 
 -- ---- what opening leaves
 
@@ -32,8 +32,8 @@ pub record OpenedRows : Type 0 where
   pub frames : List ℕ
   pub setups : List ℕ
 
-abbrev pub openedRows : Opening → List QueueTransferDescriptor → List ℕ → List ℕ → List ℕ → OpenedRows
-openedRows o pool heads frames setups =
+abbrev pub opened_rows : Opening → List QueueTransferDescriptor → List ℕ → List ℕ → List ℕ → OpenedRows
+opened_rows o pool heads frames setups =
     record { answer = o.answer; hub = o.hub; pool = pool; heads = heads; frames = frames; setups = setups }
 
 abbrev pub rows_of : Opened → OpenedRows
@@ -48,29 +48,29 @@ rows_of o =
     }
 
 -- a row of slots of another length is refused as another row's is
-unfoldable pub openWords : Settings → List QueueTransferDescriptor → List ℕ → List ℕ → List ℕ → List ℕ → OpenedRows
-openWords s pool slots heads frames setups =
+unfoldable pub open_words : Settings → List QueueTransferDescriptor → List ℕ → List ℕ → List ℕ → List ℕ → OpenedRows
+open_words s pool slots heads frames setups =
     rows_of
     (settle
-    (first ((not (slotsFit s (length slots)), InvalidParameter) ∷ []))
-    (λ r. opened (refusedOpening r) pool heads frames setups)
-    (openOf s pool heads frames setups))
+    (first ((not (slots_fit s (length slots)), InvalidParameter) ∷ []))
+    (λ r. opened (refused_opening r) pool heads frames setups)
+    (open_of s pool heads frames setups))
 
 -- ---- the core and the row of slots
 
 -- a core that no call accepts
-unfoldable pub blankCore : Core
-blankCore = record { settings = noSettings; rest = openedRest 0 }
+unfoldable pub blank_core : Core
+blank_core = record { settings = no_settings; rest = opened_rest 0 }
 
 -- they stand for the fresh state
 pub record FreshWords (s : Settings) (core : Core) (slots : List ℕ) : Type 0 where
-  pub same-settings : core.settings ≡ s
-  pub fresh : state_of s core.rest slots ≡ freshState s
+  pub same_settings : core.settings ≡ s
+  pub fresh : state_of s core.rest slots ≡ fresh_state s
   pub tidy : Tidy s core.rest slots
 
 -- nothing is opened, and the row is as it was
 pub record BlankWords (core : Core) (old new : List ℕ) : Type 0 where
-  pub blank : core ≡ blankCore
+  pub blank : core ≡ blank_core
   pub kept : new ≡ old
 
 pub record OpensWords (s : Settings) (o : Opening) (old new : List ℕ) : Type 0 where
@@ -79,12 +79,12 @@ pub record OpensWords (s : Settings) (o : Opening) (old new : List ℕ) : Type 0
 
 -- ---- what is decided by the pool's length: the answer, and the rows of numbers
 
-unfoldable pub refusedWords : Refusal → Opening
-refusedWords r = record { answer = Refused r; core = blankCore; hub = openedHub 0 }
+unfoldable pub refused_words : Refusal → Opening
+refused_words r = record { answer = Refused r; core = blank_core; hub = opened_hub 0 }
 
-unfoldable pub acceptedWords : Settings → Opening
-acceptedWords s =
-    record { answer = Done; core = record { settings = s; rest = openedRest s.descriptors }; hub = openedHub s.ports }
+unfoldable pub accepted_words : Settings → Opening
+accepted_words s =
+    record { answer = Done; core = record { settings = s; rest = opened_rest s.descriptors }; hub = opened_hub s.ports }
 
 pub record DecidedWords : Type 0 where
   pub opening : Opening
@@ -93,27 +93,27 @@ pub record DecidedWords : Type 0 where
   pub frames : List ℕ
   pub setups : List ℕ
 
-abbrev pub decidedWords : Opening → List ℕ → List ℕ → List ℕ → List ℕ → DecidedWords
-decidedWords o slots heads frames setups =
+abbrev pub decided_words : Opening → List ℕ → List ℕ → List ℕ → List ℕ → DecidedWords
+decided_words o slots heads frames setups =
     record { opening = o; slots = slots; heads = heads; frames = frames; setups = setups }
 
 -- a fault of the settings, or of a row's length
-abbrev pub wordsChecks : Settings → ℕ → ℕ → ℕ → ℕ → ℕ → List Check
-wordsChecks s pool slots heads frames setups =
-    (not (slotsFit s slots), InvalidParameter) ∷ openChecks s pool heads frames setups
+abbrev pub words_checks : Settings → ℕ → ℕ → ℕ → ℕ → ℕ → List Check
+words_checks s pool slots heads frames setups =
+    (not (slots_fit s slots), InvalidParameter) ∷ open_checks s pool heads frames setups
 
-unfoldable pub decideWords : Settings → ℕ → List ℕ → List ℕ → List ℕ → List ℕ → DecidedWords
-decideWords s pool slots heads frames setups =
+unfoldable pub decide_words : Settings → ℕ → List ℕ → List ℕ → List ℕ → List ℕ → DecidedWords
+decide_words s pool slots heads frames setups =
     settle
-    (first (wordsChecks s pool (length slots) (length heads) (length frames) (length setups)))
-    (λ r. decidedWords (refusedWords r) slots heads frames setups)
-    (decidedWords (acceptedWords s)
-    (openedRow s.endpoints)
-    (openedHeads s.heads (headsLength s))
-    (replicate framesLength 1)
-    (replicate (setupsLength s) 0))
+    (first (words_checks s pool (length slots) (length heads) (length frames) (length setups)))
+    (λ r. decided_words (refused_words r) slots heads frames setups)
+    (decided_words (accepted_words s)
+    (opened_row s.endpoints)
+    (opened_heads s.heads (heads_length s))
+    (replicate frames_length 1)
+    (replicate (setups_length s) 0))
 
 -- how many of so many records are opened: all where opening is accepted, else none
-abbrev pub openCount : Answer → ℕ → ℕ
-openCount Done pool = pool
-openCount (Refused r) pool = 0
+abbrev pub open_count : Answer → ℕ → ℕ
+open_count Done pool = pool
+open_count (Refused r) pool = 0

@@ -1,6 +1,6 @@
 // The root ports' record, which the caller keeps: numbers only.
 ghost use Rattle.core.specs.Prelude.{◌≡◌};
-ghost use Rattle.opening.specs.Hub.{openedHub};
+ghost use Rattle.opening.specs.Hub.{opened_hub};
 
 // A port's state.
 pub const UNINIT: u8 = 0;
@@ -22,7 +22,7 @@ pub struct EhciRootHub {
 impl EhciRootHub {
     // Every port Uninit, no scan begun. With no ports it is outside its ranges.
     pub fn new(ports: u8) -> EhciRootHub
-        ensures { result ≡ openedHub ports }
+        ensures { result ≡ opened_hub ports }
     {
         EhciRootHub {
             ports,

@@ -1,9 +1,9 @@
 // Opening a controller: the core by value, and the row of slots beside the other lent rows.
 ghost use Rattle.core.specs.Prelude.{◌≡◌, ◌^◌, ◌<◌, ◌≤◌, length, ◌==◌};
-ghost use Rattle.opening.specs.Words.{OpensWords, acceptedWords, decideWords, decidedWords, openCount, openWords, openedRows, refusedWords, slotsFit};
-ghost use Rattle.words.specs.Opened.{openedRest};
-ghost use Rattle.settings.specs.Settings.{poolLength};
-ghost use Rattle.opening.specs.Opening.{rowsFit, openedHeads};
+ghost use Rattle.opening.specs.Words.{OpensWords, accepted_words, decide_words, decided_words, open_count, open_words, opened_rows, refused_words, slots_fit};
+ghost use Rattle.words.specs.Opened.{opened_rest};
+ghost use Rattle.settings.specs.Settings.{pool_length};
+ghost use Rattle.opening.specs.Opening.{rows_are_fit, opened_heads};
 
 use crate::heads::put_head;
 use crate::hub::EhciRootHub;
@@ -31,7 +31,7 @@ pub struct Opening {
 
 // D records and the shared one.
 fn pool_fits(s: Settings, pool: u64) -> bool
-    ensures { result ≡ (pool == poolLength s) }
+    ensures { result ≡ (pool == pool_length s) }
 {
     if pool == 0 {
         return false;
@@ -41,7 +41,7 @@ fn pool_fits(s: Settings, pool: u64) -> bool
 
 // Lengths other than those that opening fixes are refused by every call that is lent the rows.
 pub fn rows_fit(s: Settings, pool: u64, heads: u64, frames: u64, setups: u64) -> bool
-    ensures { result ≡ rowsFit s pool heads frames setups }
+    ensures { result ≡ rows_are_fit s pool heads frames setups }
 {
     let endpoints = s.endpoints as u64;
     pool_fits(s, pool)
@@ -54,7 +54,7 @@ pub fn rows_fit(s: Settings, pool: u64, heads: u64, frames: u64, setups: u64) ->
 pub fn open_heads(heads: &mut [u32], area: u64)
     requires area_bound { area < 2 ^ 32 }
     requires in_bounds { 17 ≤ length heads.old }
-    ensures { heads.new ≡ openedHeads area (length heads.old) }
+    ensures { heads.new ≡ opened_heads area (length heads.old) }
 {
     fill_words(heads, 0);
     put_head(heads, 0, QueueHead::async_head(area as u32).words());
@@ -68,7 +68,7 @@ pub fn row_length(count: usize) -> u64
 
 // Not running, interrupts off, every descriptor free.
 fn fresh_rest(descriptors: u64) -> Rest
-    ensures { result ≡ openedRest descriptors }
+    ensures { result ≡ opened_rest descriptors }
 {
     Rest {
         running: 0,
@@ -87,14 +87,14 @@ fn fresh_rest(descriptors: u64) -> Rest
 
 // Any other length is refused by every call that is lent the row.
 pub fn slots_fit(s: Settings, words: usize) -> bool
-    ensures { result ≡ slotsFit s words }
+    ensures { result ≡ slots_fit s words }
 {
     words == RECORD * (s.endpoints as usize)
 }
 
 // A core and a hub record that no call accepts.
 fn refuse(refusal: Refusal) -> Opening
-    ensures { result ≡ refusedWords refusal }
+    ensures { result ≡ refused_words refusal }
 {
     let nothing = Settings {
         descriptors: 0,
@@ -118,7 +118,7 @@ fn refuse(refusal: Refusal) -> Opening
 }
 
 fn accept(settings: Settings) -> Opening
-    ensures { result ≡ acceptedWords settings }
+    ensures { result ≡ accepted_words settings }
 {
     Opening {
         answer: Answer::Done,
@@ -139,8 +139,8 @@ pub fn decide_open(
     frames: &mut [u32],
     setups: &mut [u8],
 ) -> Opening
-    ensures { decidedWords result slots.new heads.new frames.new setups.new
-        ≡ decideWords settings pool slots.old heads.old frames.old setups.old }
+    ensures { decided_words result slots.new heads.new frames.new setups.new
+        ≡ decide_words settings pool slots.old heads.old frames.old setups.old }
 {
     if !slots_fit(settings, slots.len()) {
         return refuse(Refusal::InvalidParameter);
@@ -166,7 +166,7 @@ pub fn decide_open(
 
 // How many of so many records are opened: all or none.
 fn open_count(o: Opening, pool: u64) -> usize
-    ensures { result ≡ openCount o.answer pool }
+    ensures { result ≡ open_count o.answer pool }
 {
     let answer = o.answer;
     match answer {
@@ -183,8 +183,8 @@ pub fn open(
     frames: &mut [u32],
     setups: &mut [u8],
 ) -> Opening
-    ensures setups_after { openedRows result rows.new heads.new frames.new setups.new
-        ≡ openWords settings rows.old slots.old heads.old frames.old setups.old }
+    ensures setups_after { opened_rows result rows.new heads.new frames.new setups.new
+        ≡ open_words settings rows.old slots.old heads.old frames.old setups.old }
     ensures opens_words { OpensWords settings result slots.old slots.new }
 {
     let count = row_length(rows.len());

@@ -18,57 +18,57 @@ use Rattle.pipe.specs.declared.endpoints.UnlinkBoundary.{UnlinkBoundary}
 use Rattle.pipe.specs.declared.endpoints.UnlinkBoundary.TheVariants.{Async, Periodic}
 use Rattle.slot.specs.declared.slot.Slot.{Slot}
 use Rattle.state.specs.Plain.{Ehci}
-use Rattle.pipe.specs.Endpoints.{boundaryNumber, boundaryOf, decoded, directionNumber, directionOf, encoded, endpointAt, flagNumber, flagOf, kindNumber, kind_of, pickBoundary, pipeOf, requestOf, withEndpoint, withToggle}
-use Rattle.slot.specs.Ranges.{slotGood}
-use Rattle.state.specs.Slots.{slot_at, withSlot}
-use Rattle.state.specs.State.{withBell, withOwner}
-use Rattle.pipe.proofs.EndpointCases.{decode-closed, decode-idle, decode-linked, decode-unlinking}
+use Rattle.pipe.specs.Endpoints.{boundary_number, boundary_of, decoded, direction_number, direction_of, encoded, endpoint_at, flag_number, flag_of, kind_number, kind_of, pick_boundary, pipe_of, request_of, with_endpoint, with_toggle}
+use Rattle.slot.specs.Ranges.{slot_good}
+use Rattle.state.specs.Slots.{slot_at, with_slot}
+use Rattle.state.specs.State.{with_bell, with_owner}
+use Rattle.pipe.proofs.EndpointCases.{decode_closed, decode_idle, decode_linked, decode_unlinking}
 use Rattle.state.proofs.RangesLaws.{Ranges}
-use Rattle.slot.proofs.SlotLaws.{Bounded, OpenKind, Phase, SizeGood, slot-makes, slot-tells}
+use Rattle.slot.proofs.SlotLaws.{Bounded, OpenKind, Phase, SizeGood, slot_makes, slot_tells}
 
 -- ---- numbers and what they stand for
 
-pub kind-back : (n : ℕ) → n ≤ 3 → kindNumber (kind_of n) ≡ n
-kind-back n h = by (dec_eq n 0) (dec_eq n 1) (dec_eq n 2)
+pub kind_back : (n : ℕ) → n ≤ 3 → kind_number (kind_of n) ≡ n
+kind_back n h = by (dec_eq n 0) (dec_eq n 1) (dec_eq n 2)
   where
-    by : Dec (n ≡ 0) → Dec (n ≡ 1) → Dec (n ≡ 2) → kindNumber (kind_of n) ≡ n
+    by : Dec (n ≡ 0) → Dec (n ≡ 1) → Dec (n ≡ 2) → kind_number (kind_of n) ≡ n
     by (yes e) one two = rw e
     by (no a) (yes e) two = rw e
     by (no a) (no b) (yes e) = rw e
     by (no a) (no b) (no c) = rw (ne_eqb n 0 a, ne_eqb n 1 b, ne_eqb n 2 c) (omega arith)
 
-pub kind-there : (k : EndpointType) → kind_of (kindNumber k) ≡ k
-kind-there Control = refl
-kind-there Isochronous = refl
-kind-there Bulk = refl
-kind-there Interrupt = refl
+pub kind_there : (k : EndpointType) → kind_of (kind_number k) ≡ k
+kind_there Control = refl
+kind_there Isochronous = refl
+kind_there Bulk = refl
+kind_there Interrupt = refl
 
-pub direction-back : (n : ℕ) → n ≤ 1 → directionNumber (directionOf n) ≡ n
-direction-back n h = by (dec_eq n 0)
+pub direction_back : (n : ℕ) → n ≤ 1 → direction_number (direction_of n) ≡ n
+direction_back n h = by (dec_eq n 0)
   where
-    by : Dec (n ≡ 0) → directionNumber (directionOf n) ≡ n
+    by : Dec (n ≡ 0) → direction_number (direction_of n) ≡ n
     by (yes e) = rw e
     by (no a) = rw (ne_eqb n 0 a) (omega arith)
 
-pub direction-there : (d : Direction) → directionOf (directionNumber d) ≡ d
-direction-there Out = refl
-direction-there In = refl
+pub direction_there : (d : Direction) → direction_of (direction_number d) ≡ d
+direction_there Out = refl
+direction_there In = refl
 
-pub flag-back : (n : ℕ) → n ≤ 1 → flagNumber (flagOf n) ≡ n
-flag-back n h = by (dec_eq n 0)
+pub flag_back : (n : ℕ) → n ≤ 1 → flag_number (flag_of n) ≡ n
+flag_back n h = by (dec_eq n 0)
   where
-    by : Dec (n ≡ 0) → flagNumber (flagOf n) ≡ n
+    by : Dec (n ≡ 0) → flag_number (flag_of n) ≡ n
     by (yes e) = rw e
     by (no a) = rw (ne_eqb n 0 a) (omega arith)
 
-pub flag-there : (b : Bool) → flagOf (flagNumber b) ≡ b
-flag-there true = refl
-flag-there false = refl
+pub flag_there : (b : Bool) → flag_of (flag_number b) ≡ b
+flag_there true = refl
+flag_there false = refl
 
-pub boundary-back : (e : Slot) → boundaryNumber (boundaryOf e) ≡ e.boundary
-boundary-back e = by (dec_eq e.kind 3)
+pub boundary_back : (e : Slot) → boundary_number (boundary_of e) ≡ e.boundary
+boundary_back e = by (dec_eq e.kind 3)
   where
-    by : Dec (e.kind ≡ 3) → boundaryNumber (boundaryOf e) ≡ e.boundary
+    by : Dec (e.kind ≡ 3) → boundary_number (boundary_of e) ≡ e.boundary
     by (yes q) = rw (eq-eqb e.kind 3 q)
     by (no ne) = rw (ne_eqb e.kind 3 ne)
 
@@ -77,7 +77,7 @@ boundary-back e = by (dec_eq e.kind 3)
 module _ (e : Slot) (u : ℕ) where
   again : Phase e u → (e.phase ≡ 0 → e.size ≡ 0) → (e.phase ≡ 0 → e.toggle ≡ 0) → e.toggle ≤ 1 → encoded (decoded e) ≡ e
   again (Phase.closed p k i n) z g f =
-      ap encoded (sym (decode-closed e (λ q. omega arith) (λ q. omega arith) (λ q. omega arith)))
+      ap encoded (sym (decode_closed e (λ q. omega arith) (λ q. omega arith) (λ q. omega arith)))
       ∙ λ j.
       record {
         phase = sym p j;
@@ -85,60 +85,60 @@ module _ (e : Slot) (u : ℕ) where
         size = sym (z p) j;
         toggle = sym (g p) j;
         id = sym i j;
-        request = sym n.request-none j;
-        direction = sym n.direction-none j;
+        request = sym n.request_none j;
+        direction = sym n.direction_none j;
         length = sym n.length_none j;
-        cancel = sym n.cancel-none j;
-        boundary = sym n.boundary-none j;
+        cancel = sym n.cancel_none j;
+        boundary = sym n.boundary_none j;
       }
   again (Phase.idle p o n) z g f =
-      ap encoded (sym (decode-idle e (pipeOf e) p refl))
+      ap encoded (sym (decode_idle e (pipe_of e) p refl))
       ∙ λ j.
       record {
         phase = sym p j;
-        kind = kind-back e.kind o.most j;
+        kind = kind_back e.kind o.most j;
         size = e.size;
-        toggle = flag-back e.toggle f j;
+        toggle = flag_back e.toggle f j;
         id = e.id;
-        request = sym n.request-none j;
-        direction = sym n.direction-none j;
+        request = sym n.request_none j;
+        direction = sym n.direction_none j;
         length = sym n.length_none j;
-        cancel = sym n.cancel-none j;
-        boundary = sym n.boundary-none j;
+        cancel = sym n.cancel_none j;
+        boundary = sym n.boundary_none j;
       }
   again (Phase.linked p o r d c b) z g f =
-      ap encoded (sym (decode-linked e (pipeOf e) (requestOf e) p refl refl))
+      ap encoded (sym (decode_linked e (pipe_of e) (request_of e) p refl refl))
       ∙ λ j.
       record {
         phase = sym p j;
-        kind = kind-back e.kind o.most j;
+        kind = kind_back e.kind o.most j;
         size = e.size;
-        toggle = flag-back e.toggle f j;
+        toggle = flag_back e.toggle f j;
         id = e.id;
         request = e.request;
-        direction = direction-back e.direction d j;
+        direction = direction_back e.direction d j;
         length = e.length;
-        cancel = flag-back e.cancel (omega arith) j;
+        cancel = flag_back e.cancel (omega arith) j;
         boundary = sym b j;
       }
   again (Phase.unlinking p o r d c b) z g f =
-      ap encoded (sym (decode-unlinking e (pipeOf e) (requestOf e) (boundaryOf e) p refl refl refl))
+      ap encoded (sym (decode_unlinking e (pipe_of e) (request_of e) (boundary_of e) p refl refl refl))
       ∙ λ j.
       record {
         phase = sym p j;
-        kind = kind-back e.kind o.most j;
+        kind = kind_back e.kind o.most j;
         size = e.size;
-        toggle = flag-back e.toggle f j;
+        toggle = flag_back e.toggle f j;
         id = e.id;
         request = e.request;
-        direction = direction-back e.direction d j;
+        direction = direction_back e.direction d j;
         length = e.length;
-        cancel = flag-back e.cancel c j;
-        boundary = boundary-back e j;
+        cancel = flag_back e.cancel c j;
+        boundary = boundary_back e j;
       }
 
-  pub encode-decode : (E limit k : ℕ) → slotGood E limit k u e ≡ true → encoded (decoded e) ≡ e
-  encode-decode E limit k g = let t = slot-tells E limit k u e g in again t.by-phase t.size_none t.toggle-none t.toggle-flag
+  pub encode_decode : (E limit k : ℕ) → slot_good E limit k u e ≡ true → encoded (decoded e) ≡ e
+  encode_decode E limit k g = let t = slot_tells E limit k u e g in again t.by_phase t.size_none t.toggle_none t.toggle_flag
 
 -- ---- an endpoint's slot, decoded again
 
@@ -160,62 +160,62 @@ Proper (Idle p) = Unit {0}
 Proper (Linked p r) = Unit {0}
 Proper (Unlinking p r b) = Suits p.kind b
 
-boundary-there : (k : EndpointType) (b : UnlinkBoundary) → Suits k b → pickBoundary (eqb (kindNumber k) 3) (boundaryNumber b) ≡ b
-boundary-there Control (Async n) h = refl
-boundary-there Control (Periodic n) h = absurd h
-boundary-there Isochronous (Async n) h = refl
-boundary-there Isochronous (Periodic n) h = absurd h
-boundary-there Bulk (Async n) h = refl
-boundary-there Bulk (Periodic n) h = absurd h
-boundary-there Interrupt (Async n) h = absurd h
-boundary-there Interrupt (Periodic n) h = refl
+boundary_there : (k : EndpointType) (b : UnlinkBoundary) → Suits k b → pick_boundary (eqb (kind_number k) 3) (boundary_number b) ≡ b
+boundary_there Control (Async n) h = refl
+boundary_there Control (Periodic n) h = absurd h
+boundary_there Isochronous (Async n) h = refl
+boundary_there Isochronous (Periodic n) h = absurd h
+boundary_there Bulk (Async n) h = refl
+boundary_there Bulk (Periodic n) h = absurd h
+boundary_there Interrupt (Async n) h = absurd h
+boundary_there Interrupt (Periodic n) h = refl
 
-pub decode-encode : (x : Endpoint) → Proper x → decoded (encoded x) ≡ x
+pub decode_encode : (x : Endpoint) → Proper x → decoded (encoded x) ≡ x
 unfolding decoded
-decode-encode Closed h = refl
-decode-encode (Idle p) h = rw (kind-there p.kind, flag-there p.toggle)
-decode-encode (Linked p r) h = rw (kind-there p.kind, flag-there p.toggle, direction-there r.direction, flag-there r.cancelled)
-decode-encode (Unlinking p r b) h =
-    rw (boundary-there p.kind b h, kind-there p.kind, flag-there p.toggle, direction-there r.direction, flag-there r.cancelled)
+decode_encode Closed h = refl
+decode_encode (Idle p) h = rw (kind_there p.kind, flag_there p.toggle)
+decode_encode (Linked p r) h = rw (kind_there p.kind, flag_there p.toggle, direction_there r.direction, flag_there r.cancelled)
+decode_encode (Unlinking p r b) h =
+    rw (boundary_there p.kind b h, kind_there p.kind, flag_there p.toggle, direction_there r.direction, flag_there r.cancelled)
 
 -- ---- slots of a state
 
 -- the arrays have a place for each of the 32 slots
 pub record Wide (s : Ehci) : Type 0 where
-  pub phases-wide : length s.phases ≡ 32
-  pub kinds-wide : length s.kinds ≡ 32
-  pub sizes-wide : length s.sizes ≡ 32
-  pub toggles-wide : length s.toggles ≡ 32
-  pub ids-wide : length s.ids ≡ 32
-  pub requests-wide : length s.requests ≡ 32
-  pub directions-wide : length s.directions ≡ 32
-  pub lengths-wide : length s.lengths ≡ 32
-  pub cancels-wide : length s.cancels ≡ 32
-  pub boundaries-wide : length s.boundaries ≡ 32
+  pub phases_wide : length s.phases ≡ 32
+  pub kinds_wide : length s.kinds ≡ 32
+  pub sizes_wide : length s.sizes ≡ 32
+  pub toggles_wide : length s.toggles ≡ 32
+  pub ids_wide : length s.ids ≡ 32
+  pub requests_wide : length s.requests ≡ 32
+  pub directions_wide : length s.directions ≡ 32
+  pub lengths_wide : length s.lengths ≡ 32
+  pub cancels_wide : length s.cancels ≡ 32
+  pub boundaries_wide : length s.boundaries ≡ 32
 
 set_here : (l : List ℕ) (k v : ℕ) → length l ≡ 32 → k < 32 → get_or (set l k v) k 0 ≡ v
 set_here l k v e h = get_or-set_same l k v 0 (omega arith)
 
 module _ (s : Ehci) (k : ℕ) where
-  pub slot_same : (e : Slot) → Wide s → k < 32 → slot_at (withSlot s k e) k ≡ e
-  unfolding slot_at withSlot
+  pub slot_same : (e : Slot) → Wide s → k < 32 → slot_at (with_slot s k e) k ≡ e
+  unfolding slot_at with_slot
   slot_same e w h = λ j.
       record {
-        phase = set_here s.phases k e.phase w.phases-wide h j;
-        kind = set_here s.kinds k e.kind w.kinds-wide h j;
-        size = set_here s.sizes k e.size w.sizes-wide h j;
-        toggle = set_here s.toggles k e.toggle w.toggles-wide h j;
-        id = set_here s.ids k e.id w.ids-wide h j;
-        request = set_here s.requests k e.request w.requests-wide h j;
-        direction = set_here s.directions k e.direction w.directions-wide h j;
-        length = set_here s.lengths k e.length w.lengths-wide h j;
-        cancel = set_here s.cancels k e.cancel w.cancels-wide h j;
-        boundary = set_here s.boundaries k e.boundary w.boundaries-wide h j;
+        phase = set_here s.phases k e.phase w.phases_wide h j;
+        kind = set_here s.kinds k e.kind w.kinds_wide h j;
+        size = set_here s.sizes k e.size w.sizes_wide h j;
+        toggle = set_here s.toggles k e.toggle w.toggles_wide h j;
+        id = set_here s.ids k e.id w.ids_wide h j;
+        request = set_here s.requests k e.request w.requests_wide h j;
+        direction = set_here s.directions k e.direction w.directions_wide h j;
+        length = set_here s.lengths k e.length w.lengths_wide h j;
+        cancel = set_here s.cancels k e.cancel w.cancels_wide h j;
+        boundary = set_here s.boundaries k e.boundary w.boundaries_wide h j;
       }
 
-  pub slot-other : (e : Slot) (j : ℕ) → j ≢ k → slot_at (withSlot s k e) j ≡ slot_at s j
-  unfolding slot_at withSlot
-  slot-other e j ne = λ i.
+  pub slot_other : (e : Slot) (j : ℕ) → j ≢ k → slot_at (with_slot s k e) j ≡ slot_at s j
+  unfolding slot_at with_slot
+  slot_other e j ne = λ i.
       record {
         phase = get_or-set_other s.phases k j e.phase 0 ne i;
         kind = get_or-set_other s.kinds k j e.kind 0 ne i;
@@ -229,46 +229,46 @@ module _ (s : Ehci) (k : ℕ) where
         boundary = get_or-set_other s.boundaries k j e.boundary 0 ne i;
       }
 
-  pub slot-wide : (e : Slot) → Wide s → Wide (withSlot s k e)
-  unfolding withSlot
-  slot-wide e w =
+  pub slot_wide : (e : Slot) → Wide s → Wide (with_slot s k e)
+  unfolding with_slot
+  slot_wide e w =
       record {
-        phases-wide = length-set s.phases k e.phase ∙ w.phases-wide;
-        kinds-wide = length-set s.kinds k e.kind ∙ w.kinds-wide;
-        sizes-wide = length-set s.sizes k e.size ∙ w.sizes-wide;
-        toggles-wide = length-set s.toggles k e.toggle ∙ w.toggles-wide;
-        ids-wide = length-set s.ids k e.id ∙ w.ids-wide;
-        requests-wide = length-set s.requests k e.request ∙ w.requests-wide;
-        directions-wide = length-set s.directions k e.direction ∙ w.directions-wide;
-        lengths-wide = length-set s.lengths k e.length ∙ w.lengths-wide;
-        cancels-wide = length-set s.cancels k e.cancel ∙ w.cancels-wide;
-        boundaries-wide = length-set s.boundaries k e.boundary ∙ w.boundaries-wide;
+        phases_wide = length-set s.phases k e.phase ∙ w.phases_wide;
+        kinds_wide = length-set s.kinds k e.kind ∙ w.kinds_wide;
+        sizes_wide = length-set s.sizes k e.size ∙ w.sizes_wide;
+        toggles_wide = length-set s.toggles k e.toggle ∙ w.toggles_wide;
+        ids_wide = length-set s.ids k e.id ∙ w.ids_wide;
+        requests_wide = length-set s.requests k e.request ∙ w.requests_wide;
+        directions_wide = length-set s.directions k e.direction ∙ w.directions_wide;
+        lengths_wide = length-set s.lengths k e.length ∙ w.lengths_wide;
+        cancels_wide = length-set s.cancels k e.cancel ∙ w.cancels_wide;
+        boundaries_wide = length-set s.boundaries k e.boundary ∙ w.boundaries_wide;
       }
 
-  pub endpoint-same : (x : Endpoint) → Wide s → k < 32 → Proper x → endpointAt (withEndpoint s k x) k ≡ x
-  unfolding endpointAt withEndpoint
-  endpoint-same x w h proper = rw (lt-ltb k 32 h, slot_same (encoded x) w h) (decode-encode x proper)
+  pub endpoint_same : (x : Endpoint) → Wide s → k < 32 → Proper x → endpoint_at (with_endpoint s k x) k ≡ x
+  unfolding endpoint_at with_endpoint
+  endpoint_same x w h proper = rw (lt-ltb k 32 h, slot_same (encoded x) w h) (decode_encode x proper)
 
-  pub endpoint-other : (x : Endpoint) (j : ℕ) → j ≢ k → endpointAt (withEndpoint s k x) j ≡ endpointAt s j
-  unfolding endpointAt withEndpoint
-  endpoint-other x j ne = rw (slot-other (encoded x) j ne)
+  pub endpoint_other : (x : Endpoint) (j : ℕ) → j ≢ k → endpoint_at (with_endpoint s k x) j ≡ endpoint_at s j
+  unfolding endpoint_at with_endpoint
+  endpoint_other x j ne = rw (slot_other (encoded x) j ne)
 
 -- ---- an endpoint of a state in its ranges
 
 -- an open slot is never isochronous, its packet size is in its range, and its next id is at least 1
 pub record OpenPipe (limit : ℕ) (p : Pipe) : Type 0 where
-  pub next-least : 1 ≤ p.next
+  pub next_least : 1 ≤ p.next
   pub never : p.kind ≢ Isochronous
-  pub size : SizeGood limit (kindNumber p.kind) p.size
+  pub size : SizeGood limit (kind_number p.kind) p.size
 
 -- whatever its toggle
-pub toggled-good : (limit : ℕ) (p : Pipe) (toggle : Bool) → OpenPipe limit p → OpenPipe limit (withToggle p toggle)
-toggled-good limit p toggle g = record { next-least = g.next-least; never = g.never; size = g.size }
+pub toggled_good : (limit : ℕ) (p : Pipe) (toggle : Bool) → OpenPipe limit p → OpenPipe limit (with_toggle p toggle)
+toggled_good limit p toggle g = record { next_least = g.next_least; never = g.never; size = g.size }
 
 -- a linked request has an id and is not cancelled
 pub record LinkedGood (limit : ℕ) (p : Pipe) (r : Request) : Type 0 where
   pub pipe : OpenPipe limit p
-  pub request-least : 1 ≤ r.id
+  pub request_least : 1 ≤ r.id
   pub uncancelled : r.cancelled ≡ false
 
 -- advances still to come are at most those unanswered; a FRINDEX is below 16384
@@ -278,7 +278,7 @@ Passable u (Periodic n) = n < 16384
 
 pub record UnlinkingGood (limit u : ℕ) (p : Pipe) (r : Request) (b : UnlinkBoundary) : Type 0 where
   pub pipe : OpenPipe limit p
-  pub request-least : 1 ≤ r.id
+  pub request_least : 1 ≤ r.id
   pub suits : Suits p.kind b
   pub passable : Passable u b
 
@@ -289,50 +289,50 @@ EndpointGood limit u (Linked p r) = LinkedGood limit p r
 EndpointGood limit u (Unlinking p r b) = UnlinkingGood limit u p r b
 
 -- what encodes to a good slot
-open-number : (k : EndpointType) → k ≢ Isochronous → OpenKind (kindNumber k)
-open-number Control ne = record { most = omega arith; never = λ q. omega arith }
-open-number Isochronous ne = absurd (ne refl)
-open-number Bulk ne = record { most = omega arith; never = λ q. omega arith }
-open-number Interrupt ne = record { most = omega arith; never = λ q. omega arith }
+open_number : (k : EndpointType) → k ≢ Isochronous → OpenKind (kind_number k)
+open_number Control ne = record { most = omega arith; never = λ q. omega arith }
+open_number Isochronous ne = absurd (ne refl)
+open_number Bulk ne = record { most = omega arith; never = λ q. omega arith }
+open_number Interrupt ne = record { most = omega arith; never = λ q. omega arith }
 
-direction-most : (d : Direction) → directionNumber d ≤ 1
-direction-most Out = omega arith
-direction-most In = omega arith
+direction_most : (d : Direction) → direction_number d ≤ 1
+direction_most Out = omega arith
+direction_most In = omega arith
 
-flag-most : (b : Bool) → flagNumber b ≤ 1
-flag-most true = omega arith
-flag-most false = omega arith
+flag_most : (b : Bool) → flag_number b ≤ 1
+flag_most true = omega arith
+flag_most false = omega arith
 
-bounded-by : (u : ℕ) (k : EndpointType) (b : UnlinkBoundary) → Suits k b → Passable u b → Bounded (kindNumber k) (boundaryNumber b) u
-bounded-by u Control (Async n) s h = record { frame = λ q. absurd (omega arith); advances = λ q. h }
-bounded-by u Control (Periodic n) s h = absurd s
-bounded-by u Isochronous (Async n) s h = record { frame = λ q. absurd (omega arith); advances = λ q. h }
-bounded-by u Isochronous (Periodic n) s h = absurd s
-bounded-by u Bulk (Async n) s h = record { frame = λ q. absurd (omega arith); advances = λ q. h }
-bounded-by u Bulk (Periodic n) s h = absurd s
-bounded-by u Interrupt (Async n) s h = absurd s
-bounded-by u Interrupt (Periodic n) s h = record { frame = λ q. h; advances = λ q. absurd (q refl) }
+bounded_by : (u : ℕ) (k : EndpointType) (b : UnlinkBoundary) → Suits k b → Passable u b → Bounded (kind_number k) (boundary_number b) u
+bounded_by u Control (Async n) s h = record { frame = λ q. absurd (omega arith); advances = λ q. h }
+bounded_by u Control (Periodic n) s h = absurd s
+bounded_by u Isochronous (Async n) s h = record { frame = λ q. absurd (omega arith); advances = λ q. h }
+bounded_by u Isochronous (Periodic n) s h = absurd s
+bounded_by u Bulk (Async n) s h = record { frame = λ q. absurd (omega arith); advances = λ q. h }
+bounded_by u Bulk (Periodic n) s h = absurd s
+bounded_by u Interrupt (Async n) s h = absurd s
+bounded_by u Interrupt (Periodic n) s h = record { frame = λ q. h; advances = λ q. absurd (q refl) }
 
 module _ (limit u : ℕ) where
-  phase-of : (x : Endpoint) → EndpointGood limit u x → Phase (encoded x) u
-  phase-of Closed g =
+  phase_of : (x : Endpoint) → EndpointGood limit u x → Phase (encoded x) u
+  phase_of Closed g =
       Phase.closed refl refl refl
-      (record { request-none = refl; direction-none = refl; length_none = refl; cancel-none = refl; boundary-none = refl })
-  phase-of (Idle p) g =
-      Phase.idle refl (open-number p.kind g.never)
-      (record { request-none = refl; direction-none = refl; length_none = refl; cancel-none = refl; boundary-none = refl })
-  phase-of (Linked p r) g =
-      Phase.linked refl (open-number p.kind g.pipe.never) g.request-least (direction-most r.direction)
-      (ap flagNumber g.uncancelled) refl
-  phase-of (Unlinking p r b) g =
-      Phase.unlinking refl (open-number p.kind g.pipe.never) g.request-least (direction-most r.direction)
-      (flag-most r.cancelled) (bounded-by u p.kind b g.suits g.passable)
+      (record { request_none = refl; direction_none = refl; length_none = refl; cancel_none = refl; boundary_none = refl })
+  phase_of (Idle p) g =
+      Phase.idle refl (open_number p.kind g.never)
+      (record { request_none = refl; direction_none = refl; length_none = refl; cancel_none = refl; boundary_none = refl })
+  phase_of (Linked p r) g =
+      Phase.linked refl (open_number p.kind g.pipe.never) g.request_least (direction_most r.direction)
+      (ap flag_number g.uncancelled) refl
+  phase_of (Unlinking p r b) g =
+      Phase.unlinking refl (open_number p.kind g.pipe.never) g.request_least (direction_most r.direction)
+      (flag_most r.cancelled) (bounded_by u p.kind b g.suits g.passable)
 
-  id-of : (x : Endpoint) → EndpointGood limit u x → 1 ≤ (encoded x).id
-  id-of Closed g = omega arith
-  id-of (Idle p) g = g.next-least
-  id-of (Linked p r) g = g.pipe.next-least
-  id-of (Unlinking p r b) g = g.pipe.next-least
+  id_of_lem : (x : Endpoint) → EndpointGood limit u x → 1 ≤ (encoded x).id
+  id_of_lem Closed g = omega arith
+  id_of_lem (Idle p) g = g.next_least
+  id_of_lem (Linked p r) g = g.pipe.next_least
+  id_of_lem (Unlinking p r b) g = g.pipe.next_least
 
   none_of : (x : Endpoint) → (encoded x).phase ≡ 0 → (encoded x).size ≡ 0
   none_of Closed z = refl
@@ -346,11 +346,11 @@ module _ (limit u : ℕ) where
   untoggled (Linked p r) z = absurd (omega (arith, z))
   untoggled (Unlinking p r b) z = absurd (omega (arith, z))
 
-  toggle-of : (x : Endpoint) → (encoded x).toggle ≤ 1
-  toggle-of Closed = omega arith
-  toggle-of (Idle p) = flag-most p.toggle
-  toggle-of (Linked p r) = flag-most p.toggle
-  toggle-of (Unlinking p r b) = flag-most p.toggle
+  toggle_of_lem : (x : Endpoint) → (encoded x).toggle ≤ 1
+  toggle_of_lem Closed = omega arith
+  toggle_of_lem (Idle p) = flag_most p.toggle
+  toggle_of_lem (Linked p r) = flag_most p.toggle
+  toggle_of_lem (Unlinking p r b) = flag_most p.toggle
 
   size_of : (x : Endpoint) → EndpointGood limit u x → (encoded x).phase ≢ 0 → SizeGood limit (encoded x).kind (encoded x).size
   size_of Closed g n = absurd (n refl)
@@ -358,157 +358,157 @@ module _ (limit u : ℕ) where
   size_of (Linked p r) g n = g.pipe.size
   size_of (Unlinking p r b) g n = g.pipe.size
 
-  pub endpoint-makes : (E k : ℕ) (x : Endpoint) → EndpointGood limit u x → (E ≤ k → x ≡ Closed) → slotGood E limit k u (encoded x) ≡ true
-  endpoint-makes E k x g c =
-      slot-makes E limit k u (encoded x)
+  pub endpoint_makes : (E k : ℕ) (x : Endpoint) → EndpointGood limit u x → (E ≤ k → x ≡ Closed) → slot_good E limit k u (encoded x) ≡ true
+  endpoint_makes E k x g c =
+      slot_makes E limit k u (encoded x)
       (record {
-        id-least = id-of x g;
-        closed-from = λ h. ap (λ (y : Endpoint). (encoded y).phase) (c h);
+        id_least = id_of_lem x g;
+        closed_from_lem = λ h. ap (λ (y : Endpoint). (encoded y).phase) (c h);
         size_none = none_of x;
-        size-open = size_of x g;
-        toggle-none = untoggled x;
-        toggle-flag = toggle-of x;
-        by-phase = phase-of x g;
+        size_open = size_of x g;
+        toggle_none = untoggled x;
+        toggle_flag = toggle_of_lem x;
+        by_phase = phase_of x g;
       })
 
 -- what a good slot decodes to
 module _ (e : Slot) (o : OpenKind e.kind) where
-  kind-never : kind_of e.kind ≢ Isochronous
-  kind-never q = o.never (sym (kind-back e.kind o.most) ∙ ap kindNumber q)
+  kind_never : kind_of e.kind ≢ Isochronous
+  kind_never q = o.never (sym (kind_back e.kind o.most) ∙ ap kind_number q)
 
-  slot-suits : Suits (kind_of e.kind) (boundaryOf e)
-  slot-suits = by (dec_eq e.kind 0) (dec_eq e.kind 3)
+  slot_suits : Suits (kind_of e.kind) (boundary_of e)
+  slot_suits = by (dec_eq e.kind 0) (dec_eq e.kind 3)
     where
-      by : Dec (e.kind ≡ 0) → Dec (e.kind ≡ 3) → Suits (kind_of e.kind) (boundaryOf e)
+      by : Dec (e.kind ≡ 0) → Dec (e.kind ≡ 3) → Suits (kind_of e.kind) (boundary_of e)
       by (yes q) three = rw q tt
       by (no a) (yes q) = rw q tt
       by (no a) (no b) = let two : e.kind ≡ 2 = omega (arith, o.most, o.never) in rw two tt
 
-  slot-passable : (u : ℕ) → Bounded e.kind e.boundary u → Passable u (boundaryOf e)
-  slot-passable u b = by (dec_eq e.kind 3)
+  slot_passable : (u : ℕ) → Bounded e.kind e.boundary u → Passable u (boundary_of e)
+  slot_passable u b = by (dec_eq e.kind 3)
     where
-      by : Dec (e.kind ≡ 3) → Passable u (boundaryOf e)
+      by : Dec (e.kind ≡ 3) → Passable u (boundary_of e)
       by (yes q) = rw (eq-eqb e.kind 3 q) (b.frame q)
       by (no ne) = rw (ne_eqb e.kind 3 ne) (b.advances ne)
 
 module _ (E limit k u : ℕ) (e : Slot) (sized : e.phase ≢ 0 → SizeGood limit e.kind e.size) where
-  open-pipe : 1 ≤ e.id → e.phase ≢ 0 → OpenKind e.kind → OpenPipe limit (pipeOf e)
-  open-pipe i n o =
-      record { next-least = i; never = kind-never e o; size = rw (kind-back e.kind o.most) (sized n) }
+  open_pipe : 1 ≤ e.id → e.phase ≢ 0 → OpenKind e.kind → OpenPipe limit (pipe_of e)
+  open_pipe i n o =
+      record { next_least = i; never = kind_never e o; size = rw (kind_back e.kind o.most) (sized n) }
 
-  endpoint-by : 1 ≤ e.id → Phase e u → EndpointGood limit u (decoded e)
-  endpoint-by i (Phase.closed p _ _ _) = rw (sym (decode-closed e (λ q. omega arith) (λ q. omega arith) (λ q. omega arith))) tt
-  endpoint-by i (Phase.idle p o _) =
-      rw (sym (decode-idle e (pipeOf e) p refl)) (open-pipe i (λ q. omega (arith, q, p)) o)
-  endpoint-by i (Phase.linked p o r _ c _) =
-      rw (sym (decode-linked e (pipeOf e) (requestOf e) p refl refl))
-      (record { pipe = open-pipe i (λ q. omega (arith, q, p)) o; request-least = r; uncancelled = rw c })
-  endpoint-by i (Phase.unlinking p o r _ _ b) =
-      rw (sym (decode-unlinking e (pipeOf e) (requestOf e) (boundaryOf e) p refl refl refl))
+  endpoint_by : 1 ≤ e.id → Phase e u → EndpointGood limit u (decoded e)
+  endpoint_by i (Phase.closed p _ _ _) = rw (sym (decode_closed e (λ q. omega arith) (λ q. omega arith) (λ q. omega arith))) tt
+  endpoint_by i (Phase.idle p o _) =
+      rw (sym (decode_idle e (pipe_of e) p refl)) (open_pipe i (λ q. omega (arith, q, p)) o)
+  endpoint_by i (Phase.linked p o r _ c _) =
+      rw (sym (decode_linked e (pipe_of e) (request_of e) p refl refl))
+      (record { pipe = open_pipe i (λ q. omega (arith, q, p)) o; request_least = r; uncancelled = rw c })
+  endpoint_by i (Phase.unlinking p o r _ _ b) =
+      rw (sym (decode_unlinking e (pipe_of e) (request_of e) (boundary_of e) p refl refl refl))
       (record {
-        pipe = open-pipe i (λ q. omega (arith, q, p)) o;
-        request-least = r;
-        suits = slot-suits e o;
-        passable = slot-passable e o u b;
+        pipe = open_pipe i (λ q. omega (arith, q, p)) o;
+        request_least = r;
+        suits = slot_suits e o;
+        passable = slot_passable e o u b;
       })
 
-pub endpoint-tells : (E limit k u : ℕ) (e : Slot) → slotGood E limit k u e ≡ true → EndpointGood limit u (decoded e)
-endpoint-tells E limit k u e t =
-    let g = slot-tells E limit k u e t in endpoint-by E limit k u e g.size-open g.id-least g.by-phase
+pub endpoint_tells : (E limit k u : ℕ) (e : Slot) → slot_good E limit k u e ≡ true → EndpointGood limit u (decoded e)
+endpoint_tells E limit k u e t =
+    let g = slot_tells E limit k u e t in endpoint_by E limit k u e g.size_open g.id_least g.by_phase
 
 -- ---- a slot or an endpoint put into a state in its ranges
 
 module _ (s : Ehci) (k : ℕ) (r : Ranges s) (w : Wide s) (h : k < 32) where
-  pub slot-keeps : (e : Slot) → slotGood s.settings.endpoints s.settings.limit k s.unanswered e ≡ true → Ranges (withSlot s k e)
-  unfolding withSlot
-  slot-keeps e t =
+  pub slot_keeps : (e : Slot) → slot_good s.settings.endpoints s.settings.limit k s.unanswered e ≡ true → Ranges (with_slot s k e)
+  unfolding with_slot
+  slot_keeps e t =
       record {
         good = r.good;
-        running-flag = r.running-flag;
-        step-most = r.step-most;
-        waited-below = r.waited-below;
-        address-least = r.address-least;
-        address-most = r.address-most;
-        enabled-flag = r.enabled-flag;
-        pending-only = r.pending-only;
-        masked-only = r.masked-only;
-        doorbell-flag = r.doorbell-flag;
-        noted-most = r.noted-most;
-        unanswered-least = r.unanswered-least;
-        unanswered-most = r.unanswered-most;
+        running_flag = r.running_flag;
+        step_most = r.step_most;
+        waited_below = r.waited_below;
+        address_least = r.address_least;
+        address_most = r.address_most;
+        enabled_flag = r.enabled_flag;
+        pending_only = r.pending_only;
+        masked_only = r.masked_only;
+        doorbell_flag = r.doorbell_flag;
+        noted_most = r.noted_most;
+        unanswered_least = r.unanswered_least;
+        unanswered_most = r.unanswered_most;
         owned = r.owned;
         unowned = r.unowned;
         slots = λ j hj. at j hj (dec_eq j k);
       }
     where
       at : (j : ℕ) → j < 32 → Dec (j ≡ k)
-          → slotGood s.settings.endpoints s.settings.limit j s.unanswered (slot_at (withSlot s k e) j) ≡ true
+          → slot_good s.settings.endpoints s.settings.limit j s.unanswered (slot_at (with_slot s k e) j) ≡ true
       at j hj (yes q) = rw (q, slot_same s k e w h) t
-      at j hj (no ne) = rw (slot-other s k e j ne) (r.slots j hj)
+      at j hj (no ne) = rw (slot_other s k e j ne) (r.slots j hj)
 
-  pub endpoint-keeps : (x : Endpoint) → EndpointGood s.settings.limit s.unanswered x → (s.settings.endpoints ≤ k → x ≡ Closed)
-      → Ranges (withEndpoint s k x)
-  unfolding withEndpoint
-  endpoint-keeps x g c = slot-keeps (encoded x) (endpoint-makes s.settings.limit s.unanswered s.settings.endpoints k x g c)
+  pub endpoint_keeps : (x : Endpoint) → EndpointGood s.settings.limit s.unanswered x → (s.settings.endpoints ≤ k → x ≡ Closed)
+      → Ranges (with_endpoint s k x)
+  unfolding with_endpoint
+  endpoint_keeps x g c = slot_keeps (encoded x) (endpoint_makes s.settings.limit s.unanswered s.settings.endpoints k x g c)
 
 -- ---- a state with another bell, or another row of owners
 
-pub bell-wide : (s : Ehci) (n d u : ℕ) → Wide s → Wide (withBell s n d u)
-unfolding withBell
-bell-wide s n d u w =
+pub bell_wide : (s : Ehci) (n d u : ℕ) → Wide s → Wide (with_bell s n d u)
+unfolding with_bell
+bell_wide s n d u w =
     record {
-      phases-wide = w.phases-wide;
-      kinds-wide = w.kinds-wide;
-      sizes-wide = w.sizes-wide;
-      toggles-wide = w.toggles-wide;
-      ids-wide = w.ids-wide;
-      requests-wide = w.requests-wide;
-      directions-wide = w.directions-wide;
-      lengths-wide = w.lengths-wide;
-      cancels-wide = w.cancels-wide;
-      boundaries-wide = w.boundaries-wide;
+      phases_wide = w.phases_wide;
+      kinds_wide = w.kinds_wide;
+      sizes_wide = w.sizes_wide;
+      toggles_wide = w.toggles_wide;
+      ids_wide = w.ids_wide;
+      requests_wide = w.requests_wide;
+      directions_wide = w.directions_wide;
+      lengths_wide = w.lengths_wide;
+      cancels_wide = w.cancels_wide;
+      boundaries_wide = w.boundaries_wide;
     }
 
 module _ (s : Ehci) (o : List ℕ) where
-  pub owner-wide : Wide s → Wide (withOwner s o)
-  unfolding withOwner
-  owner-wide w =
+  pub owner_wide : Wide s → Wide (with_owner s o)
+  unfolding with_owner
+  owner_wide w =
       record {
-        phases-wide = w.phases-wide;
-        kinds-wide = w.kinds-wide;
-        sizes-wide = w.sizes-wide;
-        toggles-wide = w.toggles-wide;
-        ids-wide = w.ids-wide;
-        requests-wide = w.requests-wide;
-        directions-wide = w.directions-wide;
-        lengths-wide = w.lengths-wide;
-        cancels-wide = w.cancels-wide;
-        boundaries-wide = w.boundaries-wide;
+        phases_wide = w.phases_wide;
+        kinds_wide = w.kinds_wide;
+        sizes_wide = w.sizes_wide;
+        toggles_wide = w.toggles_wide;
+        ids_wide = w.ids_wide;
+        requests_wide = w.requests_wide;
+        directions_wide = w.directions_wide;
+        lengths_wide = w.lengths_wide;
+        cancels_wide = w.cancels_wide;
+        boundaries_wide = w.boundaries_wide;
       }
 
-  pub owner-keeps : Ranges s → ((i : ℕ) → i < s.settings.descriptors → get_or o i 0 ≤ s.settings.endpoints)
-      → ((i : ℕ) → s.settings.descriptors ≤ i → get_or o i 0 ≡ 0) → Ranges (withOwner s o)
-  unfolding withOwner slot_at
-  owner-keeps r below none =
+  pub owner_keeps : Ranges s → ((i : ℕ) → i < s.settings.descriptors → get_or o i 0 ≤ s.settings.endpoints)
+      → ((i : ℕ) → s.settings.descriptors ≤ i → get_or o i 0 ≡ 0) → Ranges (with_owner s o)
+  unfolding with_owner slot_at
+  owner_keeps r below none =
       record {
         good = r.good;
-        running-flag = r.running-flag;
-        step-most = r.step-most;
-        waited-below = r.waited-below;
-        address-least = r.address-least;
-        address-most = r.address-most;
-        enabled-flag = r.enabled-flag;
-        pending-only = r.pending-only;
-        masked-only = r.masked-only;
-        doorbell-flag = r.doorbell-flag;
-        noted-most = r.noted-most;
-        unanswered-least = r.unanswered-least;
-        unanswered-most = r.unanswered-most;
+        running_flag = r.running_flag;
+        step_most = r.step_most;
+        waited_below = r.waited_below;
+        address_least = r.address_least;
+        address_most = r.address_most;
+        enabled_flag = r.enabled_flag;
+        pending_only = r.pending_only;
+        masked_only = r.masked_only;
+        doorbell_flag = r.doorbell_flag;
+        noted_most = r.noted_most;
+        unanswered_least = r.unanswered_least;
+        unanswered_most = r.unanswered_most;
         owned = below;
         unowned = none;
         slots = r.slots;
       }
 
-  pub owner-aside : (i : ℕ) → endpointAt (withOwner s o) i ≡ endpointAt s i
-  unfolding endpointAt withOwner slot_at
-  owner-aside i = refl
+  pub owner_aside : (i : ℕ) → endpoint_at (with_owner s o) i ≡ endpoint_at s i
+  unfolding endpoint_at with_owner slot_at
+  owner_aside i = refl

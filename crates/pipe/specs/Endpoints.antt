@@ -13,103 +13,103 @@ use Rattle.pipe.specs.declared.endpoints.UnlinkBoundary.TheVariants.{Async, Peri
 use Rattle.settings.specs.declared.settings.Settings.{Settings}
 use Rattle.slot.specs.declared.slot.Slot.{Slot}
 use Rattle.state.specs.Plain.{Ehci}
-use Rattle.state.specs.Slots.{slot_at, withSlot}
-use Rattle.token.specs.Chunks.{workingLimit}
+use Rattle.state.specs.Slots.{slot_at, with_slot}
+use Rattle.token.specs.Chunks.{working_limit}
 
 -- ---- numbers: control 0, isochronous 1, bulk 2, interrupt 3; Out 0, In 1
 
 abbrev pub kind_of : ℕ → EndpointType
 kind_of n = cond (n == 0) Control (cond (n == 1) Isochronous (cond (n == 2) Bulk Interrupt))
 
-abbrev pub kindNumber : EndpointType → ℕ
-kindNumber Control = 0
-kindNumber Isochronous = 1
-kindNumber Bulk = 2
-kindNumber Interrupt = 3
+abbrev pub kind_number : EndpointType → ℕ
+kind_number Control = 0
+kind_number Isochronous = 1
+kind_number Bulk = 2
+kind_number Interrupt = 3
 
-abbrev pub pickDirection : Bool → Direction
-pickDirection true = Out
-pickDirection false = In
+abbrev pub pick_direction : Bool → Direction
+pick_direction true = Out
+pick_direction false = In
 
-abbrev pub directionOf : ℕ → Direction
-directionOf n = pickDirection (n == 0)
+abbrev pub direction_of : ℕ → Direction
+direction_of n = pick_direction (n == 0)
 
-abbrev pub directionNumber : Direction → ℕ
-directionNumber Out = 0
-directionNumber In = 1
+abbrev pub direction_number : Direction → ℕ
+direction_number Out = 0
+direction_number In = 1
 
-abbrev pub flagOf : ℕ → Bool
-flagOf n = not (n == 0)
+abbrev pub flag_of : ℕ → Bool
+flag_of n = not (n == 0)
 
-abbrev pub flagNumber : Bool → ℕ
-flagNumber true = 1
-flagNumber false = 0
+abbrev pub flag_number : Bool → ℕ
+flag_number true = 1
+flag_number false = 0
 
 -- ---- from a slot's numbers
 
-abbrev pub pipeOf : Slot → Pipe
-pipeOf e = record { kind = kind_of e.kind; size = e.size; toggle = flagOf e.toggle; next = e.id }
+abbrev pub pipe_of : Slot → Pipe
+pipe_of e = record { kind = kind_of e.kind; size = e.size; toggle = flag_of e.toggle; next = e.id }
 
-abbrev pub withToggle : Pipe → Bool → Pipe
-withToggle p toggle = record { kind = p.kind; size = p.size; toggle = toggle; next = p.next }
+abbrev pub with_toggle : Pipe → Bool → Pipe
+with_toggle p toggle = record { kind = p.kind; size = p.size; toggle = toggle; next = p.next }
 
-abbrev pub requestOf : Slot → Request
-requestOf e = record { id = e.request; direction = directionOf e.direction; length = e.length; cancelled = flagOf e.cancel }
+abbrev pub request_of : Slot → Request
+request_of e = record { id = e.request; direction = direction_of e.direction; length = e.length; cancelled = flag_of e.cancel }
 
-abbrev pub pickBoundary : Bool → ℕ → UnlinkBoundary
-pickBoundary true n = Periodic n
-pickBoundary false n = Async n
+abbrev pub pick_boundary : Bool → ℕ → UnlinkBoundary
+pick_boundary true n = Periodic n
+pick_boundary false n = Async n
 
-abbrev pub boundaryOf : Slot → UnlinkBoundary
-boundaryOf e = pickBoundary (e.kind == 3) e.boundary
+abbrev pub boundary_of : Slot → UnlinkBoundary
+boundary_of e = pick_boundary (e.kind == 3) e.boundary
 
 unfoldable pub decoded : Slot → Endpoint
 decoded e =
-    cond (e.phase == 1) (Idle (pipeOf e))
-    (cond (e.phase == 2) (Linked (pipeOf e) (requestOf e))
-    (cond (e.phase == 3) (Unlinking (pipeOf e) (requestOf e) (boundaryOf e))
+    cond (e.phase == 1) (Idle (pipe_of e))
+    (cond (e.phase == 2) (Linked (pipe_of e) (request_of e))
+    (cond (e.phase == 3) (Unlinking (pipe_of e) (request_of e) (boundary_of e))
     Closed))
 
-unfoldable pub endpointAt : Ehci → ℕ → Endpoint
-endpointAt s k = cond (nat_lt k 32) (decoded (slot_at s k)) Closed
+unfoldable pub endpoint_at : Ehci → ℕ → Endpoint
+endpoint_at s k = cond (nat_lt k 32) (decoded (slot_at s k)) Closed
 
 -- the limit of its chunks; a slot that is closed, or none, is of kind 0
-abbrev pub limitOf : Settings → Pipe → ℕ
-limitOf s p = workingLimit p.kind s.limit p.size
+abbrev pub limit_of : Settings → Pipe → ℕ
+limit_of s p = working_limit p.kind s.limit p.size
 
-abbrev pub limitAt : Ehci → ℕ → ℕ
-limitAt s k = limitOf s.settings (pipeOf (slot_at s k))
+abbrev pub limit_at : Ehci → ℕ → ℕ
+limit_at s k = limit_of s.settings (pipe_of (slot_at s k))
 
 -- ---- and back
 
-abbrev pub boundaryNumber : UnlinkBoundary → ℕ
-boundaryNumber (Async n) = n
-boundaryNumber (Periodic n) = n
+abbrev pub boundary_number : UnlinkBoundary → ℕ
+boundary_number (Async n) = n
+boundary_number (Periodic n) = n
 
-abbrev pub slotWith : ℕ → Pipe → Request → ℕ → Slot
-slotWith phase p r boundary =
+abbrev pub slot_with : ℕ → Pipe → Request → ℕ → Slot
+slot_with phase p r boundary =
     record {
       phase = phase;
-      kind = kindNumber p.kind;
+      kind = kind_number p.kind;
       size = p.size;
-      toggle = flagNumber p.toggle;
+      toggle = flag_number p.toggle;
       id = p.next;
       request = r.id;
-      direction = directionNumber r.direction;
+      direction = direction_number r.direction;
       length = r.length;
-      cancel = flagNumber r.cancelled;
+      cancel = flag_number r.cancelled;
       boundary = boundary;
     }
 
-abbrev pub bareSlot : ℕ → ℕ → ℕ → ℕ → ℕ → Slot
-bareSlot phase kind size toggle id =
+abbrev pub bare_slot : ℕ → ℕ → ℕ → ℕ → ℕ → Slot
+bare_slot phase kind size toggle id =
     record { phase = phase; kind = kind; size = size; toggle = toggle; id = id; request = 0; direction = 0; length = 0; cancel = 0; boundary = 0 }
 
 abbrev pub encoded : Endpoint → Slot
-encoded Closed = bareSlot 0 0 0 0 1
-encoded (Idle p) = bareSlot 1 (kindNumber p.kind) p.size (flagNumber p.toggle) p.next
-encoded (Linked p r) = slotWith 2 p r 0
-encoded (Unlinking p r b) = slotWith 3 p r (boundaryNumber b)
+encoded Closed = bare_slot 0 0 0 0 1
+encoded (Idle p) = bare_slot 1 (kind_number p.kind) p.size (flag_number p.toggle) p.next
+encoded (Linked p r) = slot_with 2 p r 0
+encoded (Unlinking p r b) = slot_with 3 p r (boundary_number b)
 
-unfoldable pub withEndpoint : Ehci → ℕ → Endpoint → Ehci
-withEndpoint s k e = withSlot s k (encoded e)
+unfoldable pub with_endpoint : Ehci → ℕ → Endpoint → Ehci
+with_endpoint s k e = with_slot s k (encoded e)

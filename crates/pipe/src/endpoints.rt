@@ -1,6 +1,6 @@
 // A slot's endpoint: the numbers of a slot taken apart, and put together again.
 ghost use Rattle.core.specs.Prelude.{◌≡◌};
-ghost use Rattle.pipe.specs.Endpoints.{kind_of, kindNumber, directionOf, directionNumber, flagNumber, pipeOf, requestOf, boundaryOf, decoded, boundaryNumber, slotWith, bareSlot, encoded, withToggle};
+ghost use Rattle.pipe.specs.Endpoints.{kind_of, kind_number, direction_of, direction_number, flag_number, pipe_of, request_of, boundary_of, decoded, boundary_number, slot_with, bare_slot, encoded, with_toggle};
 
 use common::kinds::{Direction, EndpointType};
 use slot::slot::Slot;
@@ -49,7 +49,7 @@ pub fn kind_of(number: u8) -> EndpointType
 }
 
 pub fn kind_number(kind: EndpointType) -> u8
-    ensures { result ≡ kindNumber kind }
+    ensures { result ≡ kind_number kind }
 {
     match kind {
         EndpointType::Control => 0,
@@ -60,7 +60,7 @@ pub fn kind_number(kind: EndpointType) -> u8
 }
 
 pub fn direction_of(number: u8) -> Direction
-    ensures { result ≡ directionOf number }
+    ensures { result ≡ direction_of number }
 {
     if number == 0 {
         Direction::Out
@@ -70,7 +70,7 @@ pub fn direction_of(number: u8) -> Direction
 }
 
 fn direction_number(direction: Direction) -> u8
-    ensures { result ≡ directionNumber direction }
+    ensures { result ≡ direction_number direction }
 {
     match direction {
         Direction::Out => 0,
@@ -79,13 +79,13 @@ fn direction_number(direction: Direction) -> u8
 }
 
 fn flag_number(flag: bool) -> u8
-    ensures { result ≡ flagNumber flag }
+    ensures { result ≡ flag_number flag }
 {
     if flag { 1 } else { 0 }
 }
 
 pub fn pipe_of(e: Slot) -> Pipe
-    ensures { result ≡ pipeOf e }
+    ensures { result ≡ pipe_of e }
 {
     Pipe {
         kind: kind_of(e.kind),
@@ -96,7 +96,7 @@ pub fn pipe_of(e: Slot) -> Pipe
 }
 
 pub fn with_toggle(p: Pipe, toggle: bool) -> Pipe
-    ensures { result ≡ withToggle p toggle }
+    ensures { result ≡ with_toggle p toggle }
 {
     let kind = p.kind;
     Pipe {
@@ -108,7 +108,7 @@ pub fn with_toggle(p: Pipe, toggle: bool) -> Pipe
 }
 
 fn request_of(e: Slot) -> Request
-    ensures { result ≡ requestOf e }
+    ensures { result ≡ request_of e }
 {
     Request {
         id: e.request,
@@ -119,7 +119,7 @@ fn request_of(e: Slot) -> Request
 }
 
 fn boundary_of(e: Slot) -> UnlinkBoundary
-    ensures { result ≡ boundaryOf e }
+    ensures { result ≡ boundary_of e }
 {
     if e.kind == 3 {
         UnlinkBoundary::Periodic(e.boundary)
@@ -145,7 +145,7 @@ pub fn decode(e: Slot) -> Endpoint
 }
 
 fn boundary_number(boundary: UnlinkBoundary) -> u16
-    ensures { result ≡ boundaryNumber boundary }
+    ensures { result ≡ boundary_number boundary }
 {
     match boundary {
         UnlinkBoundary::Async(n) => n,
@@ -154,7 +154,7 @@ fn boundary_number(boundary: UnlinkBoundary) -> u16
 }
 
 fn slot_with(phase: u8, p: Pipe, r: Request, boundary: u16) -> Slot
-    ensures { result ≡ slotWith phase p r boundary }
+    ensures { result ≡ slot_with phase p r boundary }
 {
     let kind = p.kind;
     let direction = r.direction;
@@ -173,7 +173,7 @@ fn slot_with(phase: u8, p: Pipe, r: Request, boundary: u16) -> Slot
 }
 
 fn bare_slot(phase: u8, kind: u8, size: u16, toggle: u8, id: u64) -> Slot
-    ensures { result ≡ bareSlot phase kind size toggle id }
+    ensures { result ≡ bare_slot phase kind size toggle id }
 {
     Slot {
         phase,

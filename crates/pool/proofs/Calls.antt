@@ -42,14 +42,14 @@ use denote.Triple.End.{Outs}
 use denote.Triple.Clauses.{Clauses, Ended, closing, ensured, lasts}
 use denote.Triple.Walked.{says}
 use Rattle.descriptor.specs.declared.qtd.QueueTransferDescriptor.{QueueTransferDescriptor as Record}
-use Rattle.pool.proofs.Again.{LentMut, lends-mut, mut_back}
+use Rattle.pool.proofs.Again.{LentMut, lends_mut, mut_back}
 use Rattle.pool.proofs.Element.{R}
 use Rattle.pool.specs.contracts.row.replace as replace
 use Rattle.pool.proofs.row.replace.Symbol.{name as #pool·replace}
 
 -- the slice at (b, o) under the name γ, at a list
-abbrev pub at-list : ℕ → ℕ → GName → List Record → MutBor (List Record)
-at-list b o γ l = record { ref_ptr = (b, o); ghost_name = γ; now = l }
+abbrev pub at_list : ℕ → ℕ → GName → List Record → MutBor (List Record)
+at_list b o γ l = record { ref_ptr = (b, o); ghost_name = γ; now = l }
 
 -- the contract of a function, from its `ended` and its `clauses`
 abbrev pub met : {M : Type 1} {𝓤 : Ura M} (𝓛 : Logic 𝓤) (F : Ended) → Clauses 𝓤 F → Contract 𝓤
@@ -62,13 +62,13 @@ module _ {M : Type 1} {𝓤 : Ura M} (𝓛 : Logic 𝓤) (mem : Memory → SProp
   Replace = triple_of 𝓛 replace.signature (replace.spec 𝓛 mem run)
 
   -- what `replace`'s triple binds outside: the slice lent again for the lifetime ν, under the name δ
-  abbrev to-replace : (b o : ℕ) → List Record → ℕ → GName → ℕ → Record → Val → Replace.Ghost
-  to-replace b o zs ν δ i r v = (((ν ∷ [], tt), (full_share, tt), tt, (at-list b o δ zs, (i, (r, tt))), (slice_val (b, o) (length zs) ∷ [], (vint w64 i ∷ [], (v ∷ [], tt)))), tt)
+  abbrev to_replace : (b o : ℕ) → List Record → ℕ → GName → ℕ → Record → Val → Replace.Ghost
+  to_replace b o zs ν δ i r v = (((ν ∷ [], tt), (full_share, tt), tt, (at_list b o δ zs, (i, (r, tt))), (slice_val (b, o) (length zs) ∷ [], (vint w64 i ∷ [], (v ∷ [], tt)))), tt)
 
-  goes-replace : (b o : ℕ) (zs : List Record) (ν : ℕ) (δ : GName) (i : ℕ) (r : Record) (v : Val) → i < 2 ^ 64 → i < length zs
-      → ent 𝓤 (sep 𝓤 (A.lft (ν ∷ []) full_share) (sep 𝓤 (sem 𝓛 ((MutSlice (named 0) (ν ∷ []) R).own_val (at-list b o δ zs) (slice_val (b, o) (length zs) ∷ []))) (sem 𝓛 (R.own r (v ∷ []))))) (Replace.pre (to-replace b o zs ν δ i r v))
-  goes-replace b o zs ν δ i r v i-fits l =
-      qed 𝓛 (‵ (flft (ν ∷ []) full_share) ∷ ‵ ((MutSlice (named 0) (ν ∷ []) R).own_val (at-list b o δ zs) (slice_val (b, o) (length zs) ∷ [])) ∷ ‵ (R.own r (v ∷ [])) ∷ []) ∵ says ! l $ nothing ! $ move ! (1 ∷ 0 ∷ []) $ join ! $ frame ! $
+  goes_replace : (b o : ℕ) (zs : List Record) (ν : ℕ) (δ : GName) (i : ℕ) (r : Record) (v : Val) → i < 2 ^ 64 → i < length zs
+      → ent 𝓤 (sep 𝓤 (A.lft (ν ∷ []) full_share) (sep 𝓤 (sem 𝓛 ((MutSlice (named 0) (ν ∷ []) R).own_val (at_list b o δ zs) (slice_val (b, o) (length zs) ∷ []))) (sem 𝓛 (R.own r (v ∷ []))))) (Replace.pre (to_replace b o zs ν δ i r v))
+  goes_replace b o zs ν δ i r v i-fits l =
+      qed 𝓛 (‵ (flft (ν ∷ []) full_share) ∷ ‵ ((MutSlice (named 0) (ν ∷ []) R).own_val (at_list b o δ zs) (slice_val (b, o) (length zs) ∷ [])) ∷ ‵ (R.own r (v ∷ [])) ∷ []) ∵ says ! l $ nothing ! $ move ! (1 ∷ 0 ∷ []) $ join ! $ frame ! $
       nothing ! $ move ! (2 ∷ 0 ∷ []) $ fjoin ! $ owned ! usize (Is usize) (uint_Makes 𝓛 w64) i _ (refl, i-fits) $ fjoin ! $ move ! (1 ∷ 0 ∷ []) $ fjoin ! $ done !
 
 module _ {M : Type 1} {𝓤 : Ura M} {𝓛 : Logic 𝓤} {K : Type 0} {Γ : List (Item 𝓤)} {E : Env 𝓤 𝓛.H} {C : Calls 𝓤 𝓛.H} {Λ : Loops 𝓤 𝓛.H} {p : Post 𝓤 𝓛.H} where
@@ -113,21 +113,21 @@ module _ {M : Type 1} {𝓤 : Ura M} {𝓛 : Logic 𝓤} {K : Type 0} {Γ : List
   module _ (mem : Memory → SProp 𝓤) (run : Routine → Fun 𝓤) (fm : FmC 𝓤 H 𝓛.laws C) {d : Place} {xs : List Operand} {rest : Body} {κ : Lft} {q : Share} {γ : GName} (b o n : ℕ) (zs : List Record) (len : length zs ≡ n) (room : Room R n) where
     pub replaces : K → Triple 𝓤 (C #pool·replace) (Replace 𝓛 mem run) → (i : ℕ) (r : Record) (v : Val) → i < 2 ^ 64 → i < n
         → ((j k : Item 𝓤) → Opds K 𝓛 (j ∷ k ∷ Γ) E xs (slice_val (b, o) n ∷ vint w64 i ∷ v ∷ []))
-        → ((w : Val) → T (has_ty ty_unit w) × WT w → Seq K 𝓛 (‵ ((MutSlice (named 0) κ R).own_val (at-list b o γ (set zs i r)) (slice_val (b, o) n ∷ [])) ∷ ‵ (flft κ q) ∷ Γ) (lands C Λ E d w rest p))
-        → Seq K 𝓛 (‵ ((MutSlice (named 0) κ R).own_val (at-list b o γ zs) (slice_val (b, o) n ∷ [])) ∷ ‵ (flft κ q) ∷ ‵ (R.own r (v ∷ [])) ∷ Γ) (runs C Λ E (seq (call #pool·replace xs d) rest) p)
+        → ((w : Val) → T (has_ty ty_unit w) × WT w → Seq K 𝓛 (‵ ((MutSlice (named 0) κ R).own_val (at_list b o γ (set zs i r)) (slice_val (b, o) n ∷ [])) ∷ ‵ (flft κ q) ∷ Γ) (lands C Λ E d w rest p))
+        → Seq K 𝓛 (‵ ((MutSlice (named 0) κ R).own_val (at_list b o γ zs) (slice_val (b, o) n ∷ [])) ∷ ‵ (flft κ q) ∷ ‵ (R.own r (v ∷ [])) ∷ Γ) (runs C Λ E (seq (call #pool·replace xs d) rest) p)
     replaces t known i r v i-fits l os k =
-        rewrite t 0 (λ (m : ℕ). ‵ ((MutSlice (named 0) κ R).own_val (at-list b o γ zs) (slice_val (b, o) m ∷ []))) (sym len) refl $
+        rewrite t 0 (λ (m : ℕ). ‵ ((MutSlice (named 0) κ R).own_val (at_list b o γ zs) (slice_val (b, o) m ∷ []))) (sym len) refl $
         lft_new t tt (λ ν. move t (1 ∷ 2 ∷ []) $
-        use2 𝓛 (later (some (λ (δ : GName). ‵ ((MutSlice (named 0) (ν ∷ []) R).own_val (at-list b o δ zs) (slice_val (b, o) (length zs) ∷ [])) ⊛ ‵ (LentMut R κ q γ b o (ν ∷ []) δ zs)))) (lends-mut R κ q γ b o 𝓛 (named 0) zs (ν ∷ []) (named 0) (subst (Room R) (sym len) room)) $ await t tt $ pick t (λ δ. split t $
+        use2 𝓛 (later (some (λ (δ : GName). ‵ ((MutSlice (named 0) (ν ∷ []) R).own_val (at_list b o δ zs) (slice_val (b, o) (length zs) ∷ [])) ⊛ ‵ (LentMut R κ q γ b o (ν ∷ []) δ zs)))) (lends_mut R κ q γ b o 𝓛 (named 0) zs (ν ∷ []) (named 0) (subst (Room R) (sym len) room)) $ await t tt $ pick t (λ δ. split t $
         -- [the slice lent; what is kept; ν's token; what r owns; Γ]
-        move t (2 ∷ 0 ∷ 3 ∷ []) $ use3 𝓛 (raw ((Replace 𝓛 mem run).pre (to-replace 𝓛 mem run b o zs ν δ i r v))) (goes-replace 𝓛 mem run b o zs ν δ i r v i-fits (subst (λ (m : ℕ). i < m) (sym len) l)) $
-        calls_at t fm (Replace 𝓛 mem run) known (to-replace 𝓛 mem run b o zs ν δ i r v) (subst (λ (m : ℕ). Opds K 𝓛 (raw ((Replace 𝓛 mem run).pre (to-replace 𝓛 mem run b o zs ν δ i r v)) ∷ ‵ (LentMut R κ q γ b o (ν ∷ []) δ zs) ∷ Γ) E xs (slice_val (b, o) m ∷ vint w64 i ∷ v ∷ [])) (sym len) (os (raw ((Replace 𝓛 mem run).pre (to-replace 𝓛 mem run b o zs ν δ i r v))) (‵ (LentMut R κ q γ b o (ν ∷ []) δ zs)))) (λ w.
-        use1 𝓛 (later (some (λ (u : Unit {0}). ((‵ (flft (ν ∷ []) full_share) ⊛ ‵ ftrue) ⊛ ‵ (Nothing.own u (w ∷ []))) ⊛ raw (ensured 𝓛 replace.ended (replace.clauses 𝓛 mem run) (ν ∷ [], tt) (at-list b o δ zs, (i, (r, tt))) tt u)))) (id⊢ 𝓤 _) $ await t tt $ pick t (λ u.
-        split t $ move t (1 ∷ []) $ use1 𝓛 (some (λ (ws : List Record × (Unit {0} × (Unit {0} × Unit {0}))). ‵ (lasts replace.ended (ν ∷ [], tt) (at-list b o δ zs, (i, (r, tt))) ws) ⊛ raw (fact 𝓤 (ws.0 ≡ set zs i r)))) (id⊢ 𝓤 _) $ pick t (λ ws.
+        move t (2 ∷ 0 ∷ 3 ∷ []) $ use3 𝓛 (raw ((Replace 𝓛 mem run).pre (to_replace 𝓛 mem run b o zs ν δ i r v))) (goes_replace 𝓛 mem run b o zs ν δ i r v i-fits (subst (λ (m : ℕ). i < m) (sym len) l)) $
+        calls_at t fm (Replace 𝓛 mem run) known (to_replace 𝓛 mem run b o zs ν δ i r v) (subst (λ (m : ℕ). Opds K 𝓛 (raw ((Replace 𝓛 mem run).pre (to_replace 𝓛 mem run b o zs ν δ i r v)) ∷ ‵ (LentMut R κ q γ b o (ν ∷ []) δ zs) ∷ Γ) E xs (slice_val (b, o) m ∷ vint w64 i ∷ v ∷ [])) (sym len) (os (raw ((Replace 𝓛 mem run).pre (to_replace 𝓛 mem run b o zs ν δ i r v))) (‵ (LentMut R κ q γ b o (ν ∷ []) δ zs)))) (λ w.
+        use1 𝓛 (later (some (λ (u : Unit {0}). ((‵ (flft (ν ∷ []) full_share) ⊛ ‵ ftrue) ⊛ ‵ (Nothing.own u (w ∷ []))) ⊛ raw (ensured 𝓛 replace.ended (replace.clauses 𝓛 mem run) (ν ∷ [], tt) (at_list b o δ zs, (i, (r, tt))) tt u)))) (id⊢ 𝓤 _) $ await t tt $ pick t (λ u.
+        split t $ move t (1 ∷ []) $ use1 𝓛 (some (λ (ws : List Record × (Unit {0} × (Unit {0} × Unit {0}))). ‵ (lasts replace.ended (ν ∷ [], tt) (at_list b o δ zs, (i, (r, tt))) ws) ⊛ raw (fact 𝓤 (ws.0 ≡ set zs i r)))) (id⊢ 𝓤 _) $ pick t (λ ws.
         split t $ move t (1 ∷ []) $ heard t (ws.0 ≡ set zs i r) (λ e. fsplit t $ fsplit t $ move t (1 ∷ []) $ feq_l t (λ same.
         -- [the last list; true; the token and the unit; what is kept; Γ]
         move t (2 ∷ []) $ split t $ move t (1 ∷ []) $ peeks t Nothing (Is Nothing) (shows 𝓛 Nothing) u (w ∷ []) (λ is. drop t $ split t $ lft_end t tt $ move t (0 ∷ 4 ∷ 2 ∷ []) $
-        use3 𝓛 (later (‵ ((MutSlice (named 0) κ R).own_val (at-list b o γ ws.0) (slice_val (b, o) (length zs) ∷ [])) ⊛ ‵ (flft κ q))) (mut_back R κ q γ b o 𝓛 (named 0) zs (ν ∷ []) (named 0) (subst (Room R) (sym len) room) δ ws.0 same) $ await t tt $ split t $
-        rewrite t 0 (λ (l' : List Record). ‵ ((MutSlice (named 0) κ R).own_val (at-list b o γ l') (slice_val (b, o) (length zs) ∷ []))) e refl $
-        rewrite t 0 (λ (m : ℕ). ‵ ((MutSlice (named 0) κ R).own_val (at-list b o γ (set zs i r)) (slice_val (b, o) m ∷ []))) len refl $
+        use3 𝓛 (later (‵ ((MutSlice (named 0) κ R).own_val (at_list b o γ ws.0) (slice_val (b, o) (length zs) ∷ [])) ⊛ ‵ (flft κ q))) (mut_back R κ q γ b o 𝓛 (named 0) zs (ν ∷ []) (named 0) (subst (Room R) (sym len) room) δ ws.0 same) $ await t tt $ split t $
+        rewrite t 0 (λ (l' : List Record). ‵ ((MutSlice (named 0) κ R).own_val (at_list b o γ l') (slice_val (b, o) (length zs) ∷ []))) e refl $
+        rewrite t 0 (λ (m : ℕ). ‵ ((MutSlice (named 0) κ R).own_val (at_list b o γ (set zs i r)) (slice_val (b, o) m ∷ []))) len refl $
         move t (2 ∷ []) $ drop t $ move t (2 ∷ []) $ drop t $ k w ((Nothing-Lawful 𝓛).typed u _ is).0))))))))

@@ -9,81 +9,81 @@ use lib.Dec.{eqb}
 use lib.ListN.{length}
 use Rattle.common.specs.declared.kinds.EndpointType.{EndpointType}
 use Rattle.common.specs.declared.kinds.EndpointType.TheVariants.{Control, Isochronous, Bulk, Interrupt}
-use Rattle.token.specs.EhciQtd.{totalBytes}
+use Rattle.token.specs.EhciQtd.{total_bytes}
 use Rattle.token.specs.Tokens.{only_if}
 use Rattle.pool.specs.declared.chain.View.{View}
-use Rattle.pool.specs.Transfers.{requestedAt}
-use Rattle.pool.specs.Chains.{firstError, isActive, isErring, isRetried, isShort, length_of, numberIf, or_else, retriedOf, seeOf, standingOf, view_of}
+use Rattle.pool.specs.Transfers.{requested_at}
+use Rattle.pool.specs.Chains.{first_error, is_active, is_erring, is_retried, is_short, length_of, number_if, or_else, retried_of, see_of, standing_of, view_of}
 
 pub seen_none : record { stage = 0; failed = 0; moved = 0; retried = 0 } ≡ view_of []
-unfolding view_of standingOf firstError length_of retriedOf
+unfolding view_of standing_of first_error length_of retried_of
 seen_none = refl
 
-pub was-set : (a b : ℕ) → (a ≡ 0 → ⊥) → a ≡ or_else a b
-was-set a b h = rw (ne_eqb a 0 h)
+pub was_set : (a b : ℕ) → (a ≡ 0 → ⊥) → a ≡ or_else a b
+was_set a b h = rw (ne_eqb a 0 h)
 
 module _ (a w : ℕ) (z : a ≡ 0) where
-  pub stage-active : (b : Bool) → b ≡ isActive w → b ≡ true → 2 ≡ or_else a (numberIf (isActive w) 2 (numberIf (isErring w) 1 0))
-  stage-active b e t = rw (eq-eqb a 0 z, sym e ∙ t)
+  pub stage_active : (b : Bool) → b ≡ is_active w → b ≡ true → 2 ≡ or_else a (number_if (is_active w) 2 (number_if (is_erring w) 1 0))
+  stage_active b e t = rw (eq-eqb a 0 z, sym e ∙ t)
 
-  pub stage-erring : (b b' : Bool) → b ≡ isActive w → b ≡ false → b' ≡ isErring w → b' ≡ true
-      → 1 ≡ or_else a (numberIf (isActive w) 2 (numberIf (isErring w) 1 0))
-  stage-erring b b' e t e' t' = rw (eq-eqb a 0 z, sym e ∙ t, sym e' ∙ t')
+  pub stage_erring : (b b' : Bool) → b ≡ is_active w → b ≡ false → b' ≡ is_erring w → b' ≡ true
+      → 1 ≡ or_else a (number_if (is_active w) 2 (number_if (is_erring w) 1 0))
+  stage_erring b b' e t e' t' = rw (eq-eqb a 0 z, sym e ∙ t, sym e' ∙ t')
 
-  pub stage-clean : (b b' : Bool) → b ≡ isActive w → b ≡ false → b' ≡ isErring w → b' ≡ false
-      → 0 ≡ or_else a (numberIf (isActive w) 2 (numberIf (isErring w) 1 0))
-  stage-clean b b' e t e' t' = rw (eq-eqb a 0 z, sym e ∙ t, sym e' ∙ t')
+  pub stage_clean : (b b' : Bool) → b ≡ is_active w → b ≡ false → b' ≡ is_erring w → b' ≡ false
+      → 0 ≡ or_else a (number_if (is_active w) 2 (number_if (is_erring w) 1 0))
+  stage_clean b b' e t e' t' = rw (eq-eqb a 0 z, sym e ∙ t, sym e' ∙ t')
 
-  pub failed-here : (b : Bool) → b ≡ isErring w → b ≡ true → w ≡ or_else a (numberIf (isErring w) w 0)
-  failed-here b e t = rw (eq-eqb a 0 z, sym e ∙ t)
+  pub failed_here : (b : Bool) → b ≡ is_erring w → b ≡ true → w ≡ or_else a (number_if (is_erring w) w 0)
+  failed_here b e t = rw (eq-eqb a 0 z, sym e ∙ t)
 
-  pub failed-not : (b : Bool) → b ≡ isErring w → b ≡ false → 0 ≡ or_else a (numberIf (isErring w) w 0)
-  failed-not b e t = rw (eq-eqb a 0 z, sym e ∙ t)
+  pub failed_not : (b : Bool) → b ≡ is_erring w → b ≡ false → 0 ≡ or_else a (number_if (is_erring w) w 0)
+  failed_not b e t = rw (eq-eqb a 0 z, sym e ∙ t)
 
-module _ (w : ℕ) (b : Bool) (e : b ≡ isRetried w) where
-  pub retried-one : b ≡ true → 1 ≡ numberIf (isRetried w) 1 0
-  retried-one t = rw (sym e ∙ t)
+module _ (w : ℕ) (b : Bool) (e : b ≡ is_retried w) where
+  pub retried_one : b ≡ true → 1 ≡ number_if (is_retried w) 1 0
+  retried_one t = rw (sym e ∙ t)
 
-  pub retried-not : b ≡ false → 0 ≡ numberIf (isRetried w) 1 0
-  retried-not t = rw (sym e ∙ t)
+  pub retried_not : b ≡ false → 0 ≡ number_if (is_retried w) 1 0
+  retried_not t = rw (sym e ∙ t)
 
-pub retried-few : (w : ℕ) → numberIf (isRetried w) 1 0 ≤ 1
-retried-few w = by (isRetried w)
+pub retried_few : (w : ℕ) → number_if (is_retried w) 1 0 ≤ 1
+retried_few w = by (is_retried w)
   where
-    by : (b : Bool) → numberIf b 1 0 ≤ 1
+    by : (b : Bool) → number_if b 1 0 ≤ 1
     by true = omega arith
     by false = omega arith
 
 -- "inactive without error and has bytes left"
-module _ (w : ℕ) (b : Bool) (e : b ≡ isActive w) where
-  pub short-active : b ≡ true → false ≡ isShort w
-  short-active t = rw (sym e ∙ t)
+module _ (w : ℕ) (b : Bool) (e : b ≡ is_active w) where
+  pub short_active : b ≡ true → false ≡ is_short w
+  short_active t = rw (sym e ∙ t)
 
-  module _ (b' : Bool) (t : b ≡ false) (e' : b' ≡ isErring w) where
-    pub short-erring : b' ≡ true → false ≡ isShort w
-    short-erring t' = rw (sym e ∙ t, sym e' ∙ t')
+  module _ (b' : Bool) (t : b ≡ false) (e' : b' ≡ is_erring w) where
+    pub short_erring : b' ≡ true → false ≡ is_short w
+    short_erring t' = rw (sym e ∙ t, sym e' ∙ t')
 
-    pub short-left : (n : ℕ) → b' ≡ false → n ≡ totalBytes w → not (eqb n 0) ≡ isShort w
-    short-left n t' en = rw (sym e ∙ t, sym e' ∙ t', en)
+    pub short_left : (n : ℕ) → b' ≡ false → n ≡ total_bytes w → not (eqb n 0) ≡ is_short w
+    short_left n t' en = rw (sym e ∙ t, sym e' ∙ t', en)
 
-pub requested-lt : (kind : EndpointType) (length limit k : ℕ) → length < 2 ^ 32 → limit ≤ 16384 → requestedAt kind length limit k < 2 ^ 32
-unfolding requestedAt
-requested-lt Control length limit k h h' = go (eqb k 1)
+pub requested_lt : (kind : EndpointType) (length limit k : ℕ) → length < 2 ^ 32 → limit ≤ 16384 → requested_at kind length limit k < 2 ^ 32
+unfolding requested_at
+requested_lt Control length limit k h h' = go (eqb k 1)
   where
     go : (b : Bool) → only_if b length < 2 ^ 32
     go true = h
     go false = omega arith
-requested-lt Isochronous length limit k h h' = omega (arith, h')
-requested-lt Bulk length limit k h h' = omega (arith, h')
-requested-lt Interrupt length limit k h h' = omega (arith, h')
+requested_lt Isochronous length limit k h h' = omega (arith, h')
+requested_lt Bulk length limit k h h' = omega (arith, h')
+requested_lt Interrupt length limit k h h' = omega (arith, h')
 
-pub see-made : (u : View) (asked requested w s f r m : ℕ) → asked ≡ requested → s ≡ or_else u.stage (numberIf (isActive w) 2 (numberIf (isErring w) 1 0))
-    → f ≡ or_else u.failed (numberIf (isErring w) w 0) → r ≡ asked - totalBytes w
-    → m ≡ numberIf (isRetried w) 1 0 → record { stage = s; failed = f; moved = u.moved + r; retried = u.retried + m } ≡ seeOf u requested w
-unfolding view_of standingOf firstError length_of retriedOf
-see-made u asked requested w s f r m ea es ef er em =
-    let sum : u.moved + r ≡ u.moved + ((requested - totalBytes w) + 0) = omega (arith, ea, er) in
-    let count : u.retried + m ≡ u.retried + (numberIf (isRetried w) 1 0 + 0) = omega (arith, em) in
+pub see_made : (u : View) (asked requested w s f r m : ℕ) → asked ≡ requested → s ≡ or_else u.stage (number_if (is_active w) 2 (number_if (is_erring w) 1 0))
+    → f ≡ or_else u.failed (number_if (is_erring w) w 0) → r ≡ asked - total_bytes w
+    → m ≡ number_if (is_retried w) 1 0 → record { stage = s; failed = f; moved = u.moved + r; retried = u.retried + m } ≡ see_of u requested w
+unfolding view_of standing_of first_error length_of retried_of
+see_made u asked requested w s f r m ea es ef er em =
+    let sum : u.moved + r ≡ u.moved + ((requested - total_bytes w) + 0) = omega (arith, ea, er) in
+    let count : u.retried + m ≡ u.retried + (number_if (is_retried w) 1 0 + 0) = omega (arith, em) in
     rw (es, ef, sum, count)
 
 -- the list's end, and the place to come

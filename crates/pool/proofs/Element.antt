@@ -40,9 +40,9 @@ tells = LL.tells D L
 abbrev pub bytes : ℕ
 bytes = 52
 
-pub place-row : (o i : ℕ) → place bytes o i ≡ i * bytes + o
-place-row o i = place_is bytes o i
+pub place_row : (o i : ℕ) → place bytes o i ≡ i * bytes + o
+place_row o i = place_is bytes o i
 
 -- the offset of element i fits a usize: all the elements take at most isize::MAX bytes
-pub offset-fits : (n i : ℕ) → Room R n → i < n → i * bytes < 2 ^ 64
-offset-fits n i room l = omega (arith, l, room.1)
+pub offset_fits : (n i : ℕ) → Room R n → i < n → i * bytes < 2 ^ 64
+offset_fits n i room l = omega (arith, l, room.1)

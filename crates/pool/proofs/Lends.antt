@@ -1,7 +1,7 @@
 -- Calls as steps of a walk: a row behind a `&mut [T]` that is used again is lent for one call, of any function, and comes back. For any T.
 --     shares       it is lent as a `&`, and comes back as it was
 --     lends        it is lent as a `&mut`, and comes back at the list that the call leaves
---     two_facts, three-facts       several `ensures` of a callee, as one fact.        says_two        two `ensures` are shown
+--     two_facts, three_facts       several `ensures` of a callee, as one fact.        says_two        two `ensures` are shown
 -- The row and its token stand at the front, before and after. `n` is the machine's count, which stays while the list changes. What the callee's triple binds (`y`) is given for any lifetime ν and name δ of the row lent. Assumes `Logic`.
 use mathlib.Core.Path.{◌≡◌, refl, sym, ◌∙◌, subst}
 use Prim.Native.Nat.{ℕ}
@@ -29,7 +29,7 @@ use denote.Signature.{type_at}
 use denote.Triple.Entry.{Res, alive}
 use denote.Triple.End.{Outs}
 use denote.Triple.Clauses.{Clauses, Ended, Lasts, at_exit, lasts}
-use Rattle.pool.proofs.Again.{LentMut, lends-mut, mut_back, LentRead, lends-read, read_back}
+use Rattle.pool.proofs.Again.{LentMut, lends_mut, mut_back, LentRead, lends_read, read_back}
 use Rattle.pool.proofs.Calls.{met, asks}
 use Rattle.pool.proofs.Uses.{passes}
 
@@ -41,8 +41,8 @@ module _ {M : Type 1} (𝓤 : Ura M) where
   pub two_facts : (φ ψ : Type 0) → ent 𝓤 (sep 𝓤 (fact 𝓤 φ) (fact 𝓤 ψ)) (fact 𝓤 (φ × ψ))
   two_facts φ ψ = fact_use 𝓤 φ (fst∗ 𝓤 (fact 𝓤 φ) (fact 𝓤 ψ)) (λ x. via 𝓤 (fact 𝓤 ψ) (snd∗ 𝓤 (fact 𝓤 φ) (fact 𝓤 ψ)) (fact_mono 𝓤 ψ (φ × ψ) (λ y. (x, y))))
 
-  pub three-facts : (φ ψ χ : Type 0) → ent 𝓤 (sep 𝓤 (fact 𝓤 φ) (sep 𝓤 (fact 𝓤 ψ) (fact 𝓤 χ))) (fact 𝓤 (φ × (ψ × χ)))
-  three-facts φ ψ χ =
+  pub three_facts : (φ ψ χ : Type 0) → ent 𝓤 (sep 𝓤 (fact 𝓤 φ) (sep 𝓤 (fact 𝓤 ψ) (fact 𝓤 χ))) (fact 𝓤 (φ × (ψ × χ)))
+  three_facts φ ψ χ =
       fact_use 𝓤 φ (fst∗ 𝓤 (fact 𝓤 φ) (sep 𝓤 (fact 𝓤 ψ) (fact 𝓤 χ))) (λ x. via 𝓤 (sep 𝓤 (fact 𝓤 ψ) (fact 𝓤 χ)) (snd∗ 𝓤 (fact 𝓤 φ) (sep 𝓤 (fact 𝓤 ψ) (fact 𝓤 χ)))
       (via 𝓤 (fact 𝓤 (ψ × χ)) (two_facts ψ χ) (fact_mono 𝓤 (ψ × χ) (φ × (ψ × χ)) (λ y. (x, y)))))
 
@@ -71,7 +71,7 @@ module _ {M : Type 1} {𝓤 : Ura M} {𝓛 : Logic 𝓤} {K : Type 0} {Γ : List
       shares t goes back os k =
           rewrite t 0 (λ (m : ℕ). ‵ ((MutSlice (named 0) κ R).own_val (row_at b o γ zs) (slice_val (b, o) m ∷ []))) (sym len) refl $
           lft_new t tt (λ ν. move t (1 ∷ 2 ∷ []) $
-          use2 𝓛 (later (some (λ (δ : GName). ‵ ((ShrSlice (named 0) (ν ∷ []) R).own_val (row_at b o δ zs) (slice_val (b, o) (length zs) ∷ [])) ⊛ ‵ (LentRead R κ q γ b o (ν ∷ []) zs)))) (lends-read R κ q γ b o 𝓛 (named 0) zs (ν ∷ []) (named 0) (subst (Room R) (sym len) room)) $ await t tt $ pick t (λ δ. split t $
+          use2 𝓛 (later (some (λ (δ : GName). ‵ ((ShrSlice (named 0) (ν ∷ []) R).own_val (row_at b o δ zs) (slice_val (b, o) (length zs) ∷ [])) ⊛ ‵ (LentRead R κ q γ b o (ν ∷ []) zs)))) (lends_read R κ q γ b o 𝓛 (named 0) zs (ν ∷ []) (named 0) (subst (Room R) (sym len) room)) $ await t tt $ pick t (λ δ. split t $
           rewrite t 0 (λ (m : ℕ). ‵ ((ShrSlice (named 0) (ν ∷ []) R).own_val (row_at b o δ zs) (slice_val (b, o) m ∷ []))) len refl $
           -- [the row lent; what is kept; ν's token; Γ]
           move t (2 ∷ 0 ∷ []) $ join t $
@@ -93,7 +93,7 @@ module _ {M : Type 1} {𝓤 : Ura M} {𝓛 : Logic 𝓤} {K : Type 0} {Γ : List
       lends t goes back left os k =
           rewrite t 0 (λ (m : ℕ). ‵ ((MutSlice (named 0) κ R).own_val (row_at b o γ zs) (slice_val (b, o) m ∷ []))) (sym len) refl $
           lft_new t tt (λ ν. move t (1 ∷ 2 ∷ []) $
-          use2 𝓛 (later (some (λ (δ : GName). ‵ ((MutSlice (named 0) (ν ∷ []) R).own_val (row_at b o δ zs) (slice_val (b, o) (length zs) ∷ [])) ⊛ ‵ (LentMut R κ q γ b o (ν ∷ []) δ zs)))) (lends-mut R κ q γ b o 𝓛 (named 0) zs (ν ∷ []) (named 0) (subst (Room R) (sym len) room)) $ await t tt $ pick t (λ δ. split t $
+          use2 𝓛 (later (some (λ (δ : GName). ‵ ((MutSlice (named 0) (ν ∷ []) R).own_val (row_at b o δ zs) (slice_val (b, o) (length zs) ∷ [])) ⊛ ‵ (LentMut R κ q γ b o (ν ∷ []) δ zs)))) (lends_mut R κ q γ b o 𝓛 (named 0) zs (ν ∷ []) (named 0) (subst (Room R) (sym len) room)) $ await t tt $ pick t (λ δ. split t $
           rewrite t 0 (λ (m : ℕ). ‵ ((MutSlice (named 0) (ν ∷ []) R).own_val (row_at b o δ zs) (slice_val (b, o) m ∷ []))) len refl $
           -- [the row lent; what is kept; ν's token; Γ]
           move t (2 ∷ 0 ∷ []) $ join t $

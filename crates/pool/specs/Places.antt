@@ -2,26 +2,26 @@
 use Rattle.std.specs.Prelude.{ℕ, zero, suc, ◌+◌, ◌-◌, ◌<◌, Bool, true, false, List, [], ◌∷◌, ◌++◌, eqb, length, replicate, take}
 use Rattle.pool.specs.Plain.{Places}
 
-abbrev pub listIf : Bool → List ℕ → List ℕ → List ℕ
-listIf true a b = a
-listIf false a b = b
+abbrev pub list_if : Bool → List ℕ → List ℕ → List ℕ
+list_if true a b = a
+list_if false a b = b
 
 -- the first n places that hold x, ascending; i is the number of the list's first place
-unfoldable pub placesFrom : ℕ → List ℕ → ℕ → ℕ → List ℕ
-placesFrom i [] x n = []
-placesFrom i (y ∷ ys) x n =
-    listIf (eqb n 0) [] (listIf (eqb y x) (i ∷ placesFrom (suc i) ys x (n - 1)) (placesFrom (suc i) ys x n))
+unfoldable pub places_from : ℕ → List ℕ → ℕ → ℕ → List ℕ
+places_from i [] x n = []
+places_from i (y ∷ ys) x n =
+    list_if (eqb n 0) [] (list_if (eqb y x) (i ∷ places_from (suc i) ys x (n - 1)) (places_from (suc i) ys x n))
 
 -- the lowest n free places become x's
 unfoldable pub mark_of : List ℕ → ℕ → ℕ → List ℕ
 mark_of [] n x = []
 mark_of (y ∷ ys) n x =
-    listIf (eqb n 0) (y ∷ ys) (listIf (eqb y 0) (x ∷ mark_of ys (n - 1) x) (y ∷ mark_of ys n x))
+    list_if (eqb n 0) (y ∷ ys) (list_if (eqb y 0) (x ∷ mark_of ys (n - 1) x) (y ∷ mark_of ys n x))
 
 -- the places that hold x become free
-unfoldable pub clearOf : ℕ → List ℕ → List ℕ
-clearOf x [] = []
-clearOf x (y ∷ ys) = listIf (eqb y x) (0 ∷ clearOf x ys) (y ∷ clearOf x ys)
+unfoldable pub clear_of : ℕ → List ℕ → List ℕ
+clear_of x [] = []
+clear_of x (y ∷ ys) = list_if (eqb y x) (0 ∷ clear_of x ys) (y ∷ clear_of x ys)
 
 -- n places from place i on
 unfoldable pub up_from : ℕ → ℕ → List ℕ

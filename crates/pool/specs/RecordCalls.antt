@@ -8,15 +8,15 @@ use Rattle.pool.specs.declared.record.Found.{Found}
 use Rattle.pool.specs.Chains.{blank}
 
 -- a place at or beyond the row's length is an invalid parameter
-abbrev pub answerIf : Bool → Answer
-answerIf inside = cond inside Done (Refused InvalidParameter)
+abbrev pub answer_if : Bool → Answer
+answer_if inside = cond inside Done (Refused InvalidParameter)
 
-abbrev pub foundIf : Bool → QueueTransferDescriptor → Found
-foundIf inside r = record { answer = answerIf inside; descriptor = cond inside r blank }
+abbrev pub found_if : Bool → QueueTransferDescriptor → Found
+found_if inside r = record { answer = answer_if inside; descriptor = cond inside r blank }
 
 -- the record at a place
 unfoldable pub read_of : List QueueTransferDescriptor → ℕ → Found
-read_of rows place = foundIf (ltb place (length rows)) (get_or rows place blank)
+read_of rows place = found_if (ltb place (length rows)) (get_or rows place blank)
 
 -- what a replacement answers, and the row after it
 pub record Replaced : Type 0 where
@@ -27,7 +27,7 @@ abbrev pub replaced : Answer → List QueueTransferDescriptor → Replaced
 replaced answer rows = record { answer = answer; rows = rows }
 
 -- where it is refused, the row stays
-unfoldable pub replaceOf : List QueueTransferDescriptor → ℕ → QueueTransferDescriptor → Replaced
-replaceOf rows place r =
+unfoldable pub replace_of : List QueueTransferDescriptor → ℕ → QueueTransferDescriptor → Replaced
+replace_of rows place r =
     let inside : Bool = ltb place (length rows) in
-    replaced (answerIf inside) (cond inside (set rows place r) rows)
+    replaced (answer_if inside) (cond inside (set rows place r) rows)

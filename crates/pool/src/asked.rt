@@ -2,9 +2,9 @@
 ghost use Rattle.std.specs.Prelude.{◌≡◌, false, [], ◌+◌, ◌-◌, ◌*◌, ◌≤◌, ◌<◌, ◌^◌, get_or, length};
 ghost use Rattle.std.specs.Int.Bits.{bit_and};
 ghost use Rattle.std.specs.Int.Count.{count_trailing_zeros};
-ghost use Rattle.bitset.specs.Places.{setPlaces};
-ghost use Rattle.pool.specs.Chains.{read_of, seenFrom, view_of};
-ghost use Rattle.pool.specs.Words.{AskWordsGood, WordGood, leftIf, noAskWords, seenNext, sees, wordPlaces};
+ghost use Rattle.bitset.specs.Places.{set_places};
+ghost use Rattle.pool.specs.Chains.{read_of, seen_from, view_of};
+ghost use Rattle.pool.specs.Words.{AskWordsGood, WordGood, left_if, no_ask_words, seen_next, sees, word_places};
 
 use crate::chain::{View, failed_with, is_short, moved_of, nothing_seen, retried_of, stage_with};
 use crate::tokens::token_at;
@@ -37,7 +37,7 @@ pub struct Folded {
 
 // Nothing is asked.
 pub fn no_ask_words() -> AskWords
-    ensures { result ≡ noAskWords }
+    ensures { result ≡ no_ask_words }
 {
     AskWords {
         places: [0; 4],
@@ -61,7 +61,7 @@ fn none_folded() -> Folded
 // One more descriptor of a request is seen, by its token's word.
 fn see_word(seen: Folded, ask: AskWords, word: u32) -> Folded
     requires { (seen.k < 256) × (ask.length < 2 ^ 32) × (ask.limit ≤ 16384) × (seen.view.moved ≤ seen.k * 2 ^ 32) × (seen.view.retried ≤ seen.k) }
-    ensures { result ≡ seenNext seen ask word }
+    ensures { result ≡ seen_next seen ask word }
 {
     let kind = ask.kind;
     let asked = requested(kind, ask.length, ask.limit, seen.k);
@@ -82,7 +82,7 @@ fn see_word(seen: Folded, ask: AskWords, word: u32) -> Folded
 // What is to be seen of word j: nothing once it has ended.
 fn word_at(ask: AskWords, j: usize, seen: Folded) -> u64
     requires { j < 4 }
-    ensures { result ≡ leftIf seen.ended (get_or ask.places j 0) }
+    ensures { result ≡ left_if seen.ended (get_or ask.places j 0) }
 {
     if seen.ended {
         return 0;
@@ -92,7 +92,7 @@ fn word_at(ask: AskWords, j: usize, seen: Folded) -> u64
 
 // What is left of a word after its lowest place.
 fn left_after(seen: Folded, left: u64) -> u64
-    ensures { result ≡ leftIf seen.ended (bit_and left (left - 1)) }
+    ensures { result ≡ left_if seen.ended (bit_and left (left - 1)) }
 {
     if seen.ended {
         return 0;
@@ -116,7 +116,7 @@ pub fn fold_word(
     before: Folded,
 ) -> Folded
     requires { WordGood (length rows.now) ask j before }
-    ensures { sees ask rows.now (wordPlaces ask j) before result }
+    ensures { sees ask rows.now (word_places ask j) before result }
 {
     let mut seen = before;
     let mut left = word_at(ask, j, before);
@@ -133,7 +133,7 @@ pub fn fold_word(
 // One call of `fold_word`, not one for each word: so it is inlined, whatever its size.
 pub fn fold_places(rows: &[QueueTransferDescriptor], ask: AskWords) -> View
     requires { AskWordsGood (length rows.now) ask }
-    ensures { result ≡ view_of (read_of ask.stops (seenFrom ask.kind ask.length ask.limit 0 (setPlaces ask.places) rows.now)) }
+    ensures { result ≡ view_of (read_of ask.stops (seen_from ask.kind ask.length ask.limit 0 (set_places ask.places) rows.now)) }
 {
     let mut seen = none_folded();
     let mut j: usize = 0;

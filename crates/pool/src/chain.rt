@@ -1,7 +1,7 @@
 // What the tokens of a request say, one after another.
 ghost use Rattle.std.specs.Prelude.{◌≡◌, [], ◌-◌, ◌<◌};
-ghost use Rattle.token.specs.EhciQtd.{totalBytes};
-ghost use Rattle.pool.specs.Chains.{blank, isActive, isErring, isRetried, isShort, numberIf, or_else, view_of};
+ghost use Rattle.token.specs.EhciQtd.{total_bytes};
+ghost use Rattle.pool.specs.Chains.{blank, is_active, is_erring, is_retried, is_short, number_if, or_else, view_of};
 
 use descriptor::qtd::QueueTransferDescriptor;
 use token::qtd::QtdToken;
@@ -32,7 +32,7 @@ pub const STANDS_ACTIVE: u8 = 2;
 
 // An active token decides before its errors do.
 pub fn stage_with(stage: u8, token: QtdToken) -> u8
-    ensures { result ≡ or_else stage (numberIf (isActive token.0) 2 (numberIf (isErring token.0) 1 0)) }
+    ensures { result ≡ or_else stage (number_if (is_active token.0) 2 (number_if (is_erring token.0) 1 0)) }
 {
     if stage != 0 {
         return stage;
@@ -47,7 +47,7 @@ pub fn stage_with(stage: u8, token: QtdToken) -> u8
 }
 
 pub fn failed_with(failed: u32, token: QtdToken) -> u32
-    ensures { result ≡ or_else failed (numberIf (isErring token.0) token.0 0) }
+    ensures { result ≡ or_else failed (number_if (is_erring token.0) token.0 0) }
 {
     if failed != 0 {
         return failed;
@@ -60,7 +60,7 @@ pub fn failed_with(failed: u32, token: QtdToken) -> u32
 
 // Whether a packet of its descriptor went through only in a retry, as a number.
 pub fn retried_of(token: QtdToken) -> u16
-    ensures { result ≡ numberIf (isRetried token.0) 1 0 }
+    ensures { result ≡ number_if (is_retried token.0) 1 0 }
 {
     if token.retried() {
         return 1;
@@ -70,7 +70,7 @@ pub fn retried_of(token: QtdToken) -> u16
 
 // Done without error, with bytes left.
 pub fn is_short(token: QtdToken) -> bool
-    ensures { result ≡ isShort token.0 }
+    ensures { result ≡ is_short token.0 }
 {
     if token.active() {
         return false;
@@ -82,7 +82,7 @@ pub fn is_short(token: QtdToken) -> bool
 }
 
 pub fn moved_of(requested: u64, token: QtdToken) -> u64
-    ensures { result ≡ requested - totalBytes token.0 }
+    ensures { result ≡ requested - total_bytes token.0 }
 {
     let left = token.total_bytes() as u64;
     if requested < left {

@@ -1,10 +1,10 @@
 // A transfer's records are laid at the places of a set, in order: a loop for the stages of a control request, and one for chunks.
 ghost use Rattle.std.specs.Prelude.{◌≡◌, true, false, not, ◌-◌, ◌*◌, ◌≤◌, ◌^◌, length};
-ghost use Rattle.bitset.specs.Places.{setPlaces};
+ghost use Rattle.bitset.specs.Places.{set_places};
 ghost use Rattle.bitset.specs.Rest.{is_none, rest_of};
-ghost use Rattle.common.specs.Kinds.{isControl};
-ghost use Rattle.pool.specs.Transfers.{alternateOf, next_of, recordAt};
-ghost use Rattle.pool.specs.Words.{StagesGood, ChunksGood, laid_of, nextGood, noLaying};
+ghost use Rattle.common.specs.Kinds.{is_control};
+ghost use Rattle.pool.specs.Transfers.{alternate_of, next_of, record_at};
+ghost use Rattle.pool.specs.Words.{StagesGood, ChunksGood, laid_of, next_good, no_laying};
 
 use crate::row::replace;
 use crate::transfer::{Transfer, stage_at};
@@ -24,7 +24,7 @@ pub struct Laying {
 }
 
 pub fn no_laying() -> Laying
-    ensures { result ≡ noLaying }
+    ensures { result ≡ no_laying }
 {
     Laying {
         places: [0; 4],
@@ -49,7 +49,7 @@ pub fn more(c: Cursor) -> bool
 
 // At the first place.
 fn first_place(l: Laying) -> Cursor
-    ensures { rest_of result ≡ setPlaces l.places }
+    ensures { rest_of result ≡ set_places l.places }
 {
     let places = l.places;
     cursor_of(places)
@@ -57,7 +57,7 @@ fn first_place(l: Laying) -> Cursor
 
 // Where the chain goes on: at the cursor's place, nowhere at its end.
 fn next_at(base: u64, next: Cursor) -> NextQtd
-    requires { nextGood base (rest_of next) }
+    requires { next_good base (rest_of next) }
     ensures { result ≡ next_of base (rest_of next) }
 {
     if at_end(next) {
@@ -68,8 +68,8 @@ fn next_at(base: u64, next: Cursor) -> NextQtd
 
 // The k-th record of a control request; the places to come are those of a cursor.
 fn stage_record(l: Laying, k: u64, next: Cursor) -> QueueTransferDescriptor
-    requires { (isControl l.transfer.kind ≡ true) × (l.transfer.length ≤ 2 ^ 32 - l.transfer.address) × (8 ≤ 2 ^ 32 - l.transfer.setup) × nextGood l.base (rest_of next) }
-    ensures { result ≡ recordAt l.transfer k (rest_of next) l.base }
+    requires { (is_control l.transfer.kind ≡ true) × (l.transfer.length ≤ 2 ^ 32 - l.transfer.address) × (8 ≤ 2 ^ 32 - l.transfer.setup) × next_good l.base (rest_of next) }
+    ensures { result ≡ record_at l.transfer k (rest_of next) l.base }
 {
     let to = next_at(l.base, next);
     let t = l.transfer;
@@ -79,7 +79,7 @@ fn stage_record(l: Laying, k: u64, next: Cursor) -> QueueTransferDescriptor
 
 // The last descriptor leads nowhere.
 fn alternate_of(t: Transfer, last: bool) -> u32
-    ensures { result ≡ alternateOf t last }
+    ensures { result ≡ alternate_of t last }
 {
     if last {
         return EHCI_LINK_TERMINATE;
@@ -89,8 +89,8 @@ fn alternate_of(t: Transfer, last: bool) -> u32
 
 // The k-th record of a request in chunks.
 fn chunk_record(l: Laying, k: u32, next: Cursor) -> QueueTransferDescriptor
-    requires { (isControl l.transfer.kind ≡ false) × (l.transfer.length ≤ 2 ^ 32 - l.transfer.address) × (k * l.transfer.limit ≤ l.transfer.length) × (l.transfer.limit ≤ 16384) × nextGood l.base (rest_of next) }
-    ensures { result ≡ recordAt l.transfer k (rest_of next) l.base }
+    requires { (is_control l.transfer.kind ≡ false) × (l.transfer.length ≤ 2 ^ 32 - l.transfer.address) × (k * l.transfer.limit ≤ l.transfer.length) × (l.transfer.limit ≤ 16384) × next_good l.base (rest_of next) }
+    ensures { result ≡ record_at l.transfer k (rest_of next) l.base }
 {
     let t = l.transfer;
     let limit = t.limit as u32;

@@ -1,7 +1,7 @@
 // The token of one record is replaced, the other words stay. And the records as opening leaves them.
 ghost use Rattle.std.specs.Prelude.{◌≡◌, ◌+◌, ◌-◌, ◌≤◌, ◌<◌, length};
-ghost use Rattle.pool.specs.Words.{MarkingGood, markedOf, noMarking, openedTo};
-ghost use Rattle.pool.specs.Chains.{freshAt};
+ghost use Rattle.pool.specs.Words.{MarkingGood, marked_of, no_marking, opened_to};
+ghost use Rattle.pool.specs.Chains.{fresh_at};
 ghost use Rattle.pool.specs.Places.{up_from};
 
 use crate::chain::no_record;
@@ -18,7 +18,7 @@ pub struct Marking {
 }
 
 pub fn no_marking() -> Marking
-    ensures { result ≡ noMarking }
+    ensures { result ≡ no_marking }
 {
     Marking {
         marks: false,
@@ -29,7 +29,7 @@ pub fn no_marking() -> Marking
 
 pub fn mark_token(rows: &mut [QueueTransferDescriptor], m: Marking)
     requires { MarkingGood (length rows.old) m }
-    ensures { rows.new ≡ markedOf m rows.old }
+    ensures { rows.new ≡ marked_of m rows.old }
 {
     if !m.marks {
         return;
@@ -40,7 +40,7 @@ pub fn mark_token(rows: &mut [QueueTransferDescriptor], m: Marking)
 // The k-th of so many records: zero words, and the last is the shared one, which is never active.
 fn fresh_record(k: usize, count: usize) -> QueueTransferDescriptor
     requires { k < count }
-    ensures { result ≡ freshAt (up_from (k + 1) (count - (k + 1))) }
+    ensures { result ≡ fresh_at (up_from (k + 1) (count - (k + 1))) }
 {
     if k + 1 == count {
         return QueueTransferDescriptor::terminated();
@@ -51,7 +51,7 @@ fn fresh_record(k: usize, count: usize) -> QueueTransferDescriptor
 // The first records as opening leaves them.
 pub fn open_first(rows: &mut [QueueTransferDescriptor], count: usize)
     requires { count ≤ length rows.old }
-    ensures { rows.new ≡ openedTo count rows.old }
+    ensures { rows.new ≡ opened_to count rows.old }
 {
     let mut k: usize = 0;
     while k < count {

@@ -1,6 +1,6 @@
 // The calls that read or replace one record of the lent row, for any place: one beyond the row is refused.
 ghost use Rattle.std.specs.Prelude.{◌≡◌, true, false};
-ghost use Rattle.pool.specs.RecordCalls.{answerIf, foundIf, read_of, replaceOf, replaced};
+ghost use Rattle.pool.specs.RecordCalls.{answer_if, found_if, read_of, replace_of, replaced};
 ghost use Rattle.pool.specs.Chains.{blank};
 
 use crate::chain::no_record;
@@ -16,19 +16,19 @@ pub struct Found {
 }
 
 fn done() -> Answer
-    ensures { result ≡ answerIf true }
+    ensures { result ≡ answer_if true }
 {
     Answer::Done
 }
 
 fn beyond() -> Answer
-    ensures { result ≡ answerIf false }
+    ensures { result ≡ answer_if false }
 {
     Answer::Refused(Refusal::InvalidParameter)
 }
 
 fn taken(here: QueueTransferDescriptor) -> Found
-    ensures { result ≡ foundIf true here }
+    ensures { result ≡ found_if true here }
 {
     Found {
         answer: Answer::Done,
@@ -37,7 +37,7 @@ fn taken(here: QueueTransferDescriptor) -> Found
 }
 
 fn not_there() -> Found
-    ensures { result ≡ foundIf false blank }
+    ensures { result ≡ found_if false blank }
 {
     Found {
         answer: Answer::Refused(Refusal::InvalidParameter),
@@ -63,7 +63,7 @@ pub fn replace_record(
     place: usize,
     r: QueueTransferDescriptor,
 ) -> Answer
-    ensures { replaced result rows.new ≡ replaceOf rows.old place r }
+    ensures { replaced result rows.new ≡ replace_of rows.old place r }
 {
     let length = rows.len();
     if place < length {

@@ -1,6 +1,6 @@
 // A request's k-th descriptor.
 ghost use Rattle.std.specs.Prelude.{◌≡◌, ◌-◌, ◌≤◌, ◌^◌};
-ghost use Rattle.pool.specs.Transfers.{alternateWord, endsShort, requestedAt, stageAt};
+ghost use Rattle.pool.specs.Transfers.{alternate_word, ends_short, requested_at, stage_of_place};
 
 use common::kinds::{Direction, EndpointType, is_control};
 use descriptor::qtd::{EHCI_LINK_TERMINATE, QueueTransferDescriptor};
@@ -21,7 +21,7 @@ pub struct Transfer {
 
 // Whether a request ends with its first short descriptor.
 pub fn ends_short(kind: EndpointType, direction: Direction) -> bool
-    ensures { result ≡ endsShort kind direction }
+    ensures { result ≡ ends_short kind direction }
 {
     match direction {
         Direction::Out => false,
@@ -31,7 +31,7 @@ pub fn ends_short(kind: EndpointType, direction: Direction) -> bool
 
 // Where a short descriptor leads that is not the last: to the shared one, or nowhere.
 pub fn alternate_word(kind: EndpointType, direction: Direction, shared: u32) -> u32
-    ensures { result ≡ alternateWord kind direction shared }
+    ensures { result ≡ alternate_word kind direction shared }
 {
     if ends_short(kind, direction) {
         return shared;
@@ -41,7 +41,7 @@ pub fn alternate_word(kind: EndpointType, direction: Direction, shared: u32) -> 
 
 // The bytes of the buffer that descriptor k is for.
 pub fn requested(kind: EndpointType, length: u64, limit: u32, k: u32) -> u64
-    ensures { result ≡ requestedAt kind length limit k }
+    ensures { result ≡ requested_at kind length limit k }
 {
     match kind {
         EndpointType::Control => { if k == 1 { length } else { 0 } }
@@ -55,7 +55,7 @@ pub fn requested(kind: EndpointType, length: u64, limit: u32, k: u32) -> u64
 pub fn stage_at(t: Transfer, k: u64) -> QueueTransferDescriptor
     requires length_bound { t.length ≤ 2 ^ 32 - t.address }
     requires bound { 8 ≤ 2 ^ 32 - t.setup }
-    ensures { result ≡ stageAt t k }
+    ensures { result ≡ stage_of_place t k }
 {
     let direction = t.direction;
     let plan = build_control_td_plan(direction, t.length);

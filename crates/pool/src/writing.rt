@@ -1,6 +1,6 @@
 // What a call writes to the pool: a transfer's records at a set of places, or one token.
 ghost use Rattle.std.specs.Prelude.{◌≡◌, length};
-ghost use Rattle.pool.specs.Words.{WritingGood, chunksOf, noWriting, stagesOf, wordsIf, writtenWith};
+ghost use Rattle.pool.specs.Words.{WritingGood, chunks_of, no_writing, stages_of, words_if, written_with};
 
 use crate::laying::{Laying, lay_chunks, lay_stages, no_laying};
 use crate::marking::{Marking, mark_token, no_marking};
@@ -15,7 +15,7 @@ pub struct Writing {
 
 // Nothing is written.
 pub fn no_writing() -> Writing
-    ensures { result ≡ noWriting }
+    ensures { result ≡ no_writing }
 {
     Writing {
         laying: no_laying(),
@@ -24,7 +24,7 @@ pub fn no_writing() -> Writing
 }
 
 fn words_if(wanted: bool, places: [u64; 4]) -> [u64; 4]
-    ensures { result ≡ wordsIf wanted places }
+    ensures { result ≡ words_if wanted places }
 {
     if wanted {
         return places;
@@ -34,7 +34,7 @@ fn words_if(wanted: bool, places: [u64; 4]) -> [u64; 4]
 
 // The places of a control request's records; none where the request is of another kind.
 fn stages_of(w: Writing) -> Laying
-    ensures { result ≡ stagesOf w }
+    ensures { result ≡ stages_of w }
 {
     let l = w.laying;
     let places = l.places;
@@ -49,7 +49,7 @@ fn stages_of(w: Writing) -> Laying
 
 // The places of chunks; none where the request is a control one.
 fn chunks_of(w: Writing) -> Laying
-    ensures { result ≡ chunksOf w }
+    ensures { result ≡ chunks_of w }
 {
     let l = w.laying;
     let places = l.places;
@@ -71,7 +71,7 @@ fn marks_of(w: Writing) -> Marking
 // Stages, chunks, the token: of the first two at most one has a place.
 pub fn write(rows: &mut [QueueTransferDescriptor], w: Writing)
     requires { WritingGood (length rows.old) w }
-    ensures { rows.new ≡ writtenWith w rows.old }
+    ensures { rows.new ≡ written_with w rows.old }
 {
     lay_stages(rows, stages_of(w));
     lay_chunks(rows, chunks_of(w));

@@ -3,28 +3,28 @@ use Rattle.std.specs.Prelude.{ℕ, ◌+◌, Bool, ◌||◌, not, cond, ◌&&◌,
 use Rattle.register.specs.Bits.{bit}
 use Rattle.settings.specs.declared.settings.Settings.{Settings}
 use Rattle.request.specs.declared.judge.TransferRequest.{TransferRequest}
-use Rattle.schedule.specs.Bell.{someRing}
+use Rattle.schedule.specs.Bell.{some_ring}
 use Rattle.ehci.specs.declared.call.Call.{Call}
 use Rattle.ehci.specs.declared.call.Call.TheVariants.{StartBringUp, BringUpStep, AllocateAddress, OpenEndpoint, Close, SetAddress, SetPacketSize, Submit, Writeback, Cancel, Collect, Acknowledge, Drain, Rearm, Enable, Disable, ClearHalt, Look, CollectAlone}
 use Rattle.ehci.specs.declared.reply.Answered.{Answered}
-use Rattle.ehci.specs.Replies.{answeredNumber, answeredValues}
+use Rattle.ehci.specs.Replies.{answered_number, answered_values}
 use Rattle.promises.specs.Runs.{Turn}
-use Rattle.promises.specs.Walks.{frameWalk, isIn, ringWalk}
+use Rattle.promises.specs.Walks.{frame_walk, is_in, ring_walk}
 
 -- ---- rings: "Only a ring .. writes 0x40"
 
 -- a write of USBCMD with the doorbell bit is one (`is_ring` of the doorbell's law)
 abbrev pub rings : Turn → Bool
-rings t = someRing t.wrote
+rings t = some_ring t.wrote
 
 -- ---- heads that leave a schedule
 
 -- slot k's head is met before the call, and not after it
-abbrev pub leavesRing : Settings → ℕ → Turn → Bool
-leavesRing s k t = isIn (k + 1) (ringWalk s t.before) && not (isIn (k + 1) (ringWalk s t.after))
+abbrev pub leaves_ring : Settings → ℕ → Turn → Bool
+leaves_ring s k t = is_in (k + 1) (ring_walk s t.before) && not (is_in (k + 1) (ring_walk s t.after))
 
-abbrev pub leavesFrames : Settings → ℕ → Turn → Bool
-leavesFrames s k t = isIn (k + 1) (frameWalk s t.before 0) && not (isIn (k + 1) (frameWalk s t.after 0))
+abbrev pub leaves_frames : Settings → ℕ → Turn → Bool
+leaves_frames s k t = is_in (k + 1) (frame_walk s t.before 0) && not (is_in (k + 1) (frame_walk s t.after 0))
 
 -- ---- events
 
@@ -42,24 +42,24 @@ pub data Event : Type 0 where
   Collects : ℕ → ℕ → ℕ → Event
 
 -- 0 accepts
-abbrev pub isDone : Answered → Bool
-isDone a = eqb (answeredNumber a) 0
+abbrev pub is_done : Answered → Bool
+is_done a = eqb (answered_number a) 0
 
 -- the first of the values that go with an answer
-abbrev pub firstIn : List ℕ → ℕ
-firstIn [] = 0
-firstIn (v ∷ vs) = v
+abbrev pub first_in : List ℕ → ℕ
+first_in [] = 0
+first_in (v ∷ vs) = v
 
 -- an accepted submit gives its id
-abbrev pub submitsBy : ℕ → TransferRequest → Answered → Event
-submitsBy k t a = cond (isDone a) (Submits k (firstIn (answeredValues a)) t) Other
+abbrev pub submits_by : ℕ → TransferRequest → Answered → Event
+submits_by k t a = cond (is_done a) (Submits k (first_in (answered_values a)) t) Other
 
 -- 0, 10 and 11 collect; 9 and a refusal do not
-abbrev pub isCollected : Answered → Bool
-isCollected a = isDone a || eqb (answeredNumber a) 10 || eqb (answeredNumber a) 11
+abbrev pub is_collected : Answered → Bool
+is_collected a = is_done a || eqb (answered_number a) 10 || eqb (answered_number a) 11
 
 abbrev pub leaving : Settings → ℕ → ℕ → Turn → Event
-leaving s k frame t = cond (leavesRing s k t) (Unlinks k) (cond (leavesFrames s k t) (Parts k frame) Other)
+leaving s k frame t = cond (leaves_ring s k t) (Unlinks k) (cond (leaves_frames s k t) (Parts k frame) Other)
 
 -- one line a call; a call that is refused does nothing
 abbrev pub happens : Settings → Call → Turn → Event
@@ -70,19 +70,19 @@ happens s (OpenEndpoint x) t = Other
 happens s (Close k) t = Other
 happens s (SetAddress k a) t = Other
 happens s (SetPacketSize k size) t = Other
-happens s (Submit k r readings) t = submitsBy k r t.answer
+happens s (Submit k r readings) t = submits_by k r t.answer
 happens s (Writeback place token) t = Other
 happens s (Cancel k id readings) t = leaving s k readings.frame t
 happens s (Collect k id readings) t =
-    cond (isCollected t.answer) (Collects k id readings.frame) (leaving s k readings.frame t)
-happens s (Acknowledge x) t = cond (isDone t.answer && eqb (bit x.status 5) 1) Reads Other
-happens s (Drain w) t = cond (isDone t.answer) Drains Other
+    cond (is_collected t.answer) (Collects k id readings.frame) (leaving s k readings.frame t)
+happens s (Acknowledge x) t = cond (is_done t.answer && eqb (bit x.status 5) 1) Reads Other
+happens s (Drain w) t = cond (is_done t.answer) Drains Other
 happens s Rearm t = Other
 happens s Enable t = Other
 happens s Disable t = Other
 happens s (ClearHalt k) t = Other
 happens s (Look k id command frame) t = leaving s k frame t
-happens s (CollectAlone k id frame overlay) t = cond (isCollected t.answer) (Collects k id frame) Other
+happens s (CollectAlone k id frame overlay) t = cond (is_collected t.answer) (Collects k id frame) Other
 
 abbrev pub event : Settings → Turn → Event
 event s t = happens s t.call t

@@ -5,10 +5,10 @@ use Rattle.controller.specs.declared.lent.Readings.{Readings}
 use Rattle.request.specs.declared.judge.TransferRequest.{TransferRequest}
 use Rattle.ehci.specs.declared.call.Call.{Call}
 use Rattle.ehci.specs.declared.call.Call.TheVariants.{Cancel, Collect}
-use Rattle.promises.specs.Runs.{Always, History, Moment, Promise, turnBy}
+use Rattle.promises.specs.Runs.{Always, History, Moment, Promise, turn_by}
 use Rattle.promises.specs.Events.{Event, Other, Reads, Drains, Submits, Unlinks, Parts, Collects, event}
-use Rattle.promises.specs.Opened.{isBusy, isShut}
-use Rattle.promises.specs.Slots.{Change, ClearsHalt, ClosesSlot, Halted, OpensSlot, ResizesSlot, Running, Same, change, slotIn}
+use Rattle.promises.specs.Opened.{is_busy, is_shut}
+use Rattle.promises.specs.Slots.{Change, ClearsHalt, ClosesSlot, Halted, OpensSlot, ResizesSlot, Running, Same, change, slot_in}
 use Rattle.promises.specs.Uses.{Use, is_of, uses}
 use Rattle.promises.specs.Rooms.{number_at}
 
@@ -26,41 +26,41 @@ start_by k Halted n = n
 start_by k Running n = n
 
 -- an accepted submit takes one, and nothing else does
-abbrev pub takenBy : ℕ → Event → ℕ → ℕ
-takenBy k Other n = n
-takenBy k Reads n = n
-takenBy k Drains n = n
-takenBy k (Submits j id r) n = cond (eqb j k) (following n) n
-takenBy k (Unlinks j) n = n
-takenBy k (Parts j frame) n = n
-takenBy k (Collects j id frame) n = n
+abbrev pub taken_by : ℕ → Event → ℕ → ℕ
+taken_by k Other n = n
+taken_by k Reads n = n
+taken_by k Drains n = n
+taken_by k (Submits j id r) n = cond (eqb j k) (following n) n
+taken_by k (Unlinks j) n = n
+taken_by k (Parts j frame) n = n
+taken_by k (Collects j id frame) n = n
 
 -- the id that slot k's next request is due
-unfoldable pub nextId : Settings → ℕ → History → ℕ
-nextId s k [] = 1
-nextId s k (t ∷ past) = takenBy k (event s t) (start_by k (change t) (nextId s k past))
+unfoldable pub next_id : Settings → ℕ → History → ℕ
+next_id s k [] = 1
+next_id s k (t ∷ past) = taken_by k (event s t) (start_by k (change t) (next_id s k past))
 
 -- after any calls, an accepted submit's id is the one that is due
 abbrev pub IdsInTurn : Promise
 IdsInTurn =
-    Always (λ s h w. (c : Call) (k id : ℕ) (r : TransferRequest) → event s (turnBy w c) ≡ Submits k id r → id ≡ nextId s k h)
+    Always (λ s h w. (c : Call) (k id : ℕ) (r : TransferRequest) → event s (turn_by w c) ≡ Submits k id r → id ≡ next_id s k h)
 
 -- slot k has an uncollected request of that id
-abbrev pub isHeldAs : ℕ → ℕ → List Use → Bool
-isHeldAs k id [] = false
-isHeldAs k id (u ∷ us) = is_of k id u || isHeldAs k id us
+abbrev pub is_held_as : ℕ → ℕ → List Use → Bool
+is_held_as k id [] = false
+is_held_as k id (u ∷ us) = is_of k id u || is_held_as k id us
 
 -- "Cancel: 3 if not open, nothing uncollected, or wrong id": 0 exactly where the slot has an uncollected request of that id, so that an id
 -- of a request that was collected hits no later one
 abbrev pub CancelsById : Promise
 CancelsById =
-    Always (λ s h w. (k id : ℕ) (readings : Readings) → number_at w (Cancel k id readings) ≡ cond (isHeldAs k id (uses s h)) 0 3)
+    Always (λ s h w. (k id : ℕ) (readings : Readings) → number_at w (Cancel k id readings) ≡ cond (is_held_as k id (uses s h)) 0 3)
 
 -- "Collect: 3 if not open; 9 if nothing uncollected; 3 on a wrong id."
 pub record ById (s : Settings) (h : History) (w : Moment) (k id : ℕ) (readings : Readings) : Type 0 where
-  pub not-open : isShut (slotIn k h) ≡ true → number_at w (Collect k id readings) ≡ 3
-  pub nothing : isShut (slotIn k h) ≡ false → isBusy s h k ≡ false → number_at w (Collect k id readings) ≡ 9
-  pub wrong-id : isBusy s h k ≡ true → isHeldAs k id (uses s h) ≡ false → number_at w (Collect k id readings) ≡ 3
+  pub not_open : is_shut (slot_in k h) ≡ true → number_at w (Collect k id readings) ≡ 3
+  pub nothing : is_shut (slot_in k h) ≡ false → is_busy s h k ≡ false → number_at w (Collect k id readings) ≡ 9
+  pub wrong_id_lem : is_busy s h k ≡ true → is_held_as k id (uses s h) ≡ false → number_at w (Collect k id readings) ≡ 3
 
 abbrev pub CollectsById : Promise
 CollectsById = Always (λ s h w. (k id : ℕ) (readings : Readings) → ById s h w k id readings)

@@ -24,86 +24,86 @@ pub record Promises {f : Form} (m : Machine f) : Type 0 where
   -- ---- 1. Every call judges its own input
 
   -- a refusal carries its number, writes no register and changes no lent word; a timeout stops the controller and no more
-  pub refusals-keep : Everywhere RefusalsKeep m
-  pub few-writes : Everywhere FewWrites m
+  pub refusals_keep : Everywhere RefusalsKeep m
+  pub few_writes : Everywhere FewWrites m
   -- what each call asks, and in which order
   pub in_order : Everywhere InOrder m
   -- ---- 2. Words, links and bytes are as EHCI and USB define them
 
   -- the ring's walk and each frame entry's meet exactly the linked heads, newest first, and end where they should
-  pub chains-walked : EveryRun ChainsWalked m
+  pub chains_walked : EveryRun ChainsWalked m
   -- each overlay leads through its request's descriptors, in order, and terminates
-  pub chains-lead : EveryRun ChainsLead m
+  pub chains_lead : EveryRun ChainsLead m
   -- the shared descriptor stands at place D, in no request and on no chain
-  pub shared-stands : EveryRun SharedStands m
+  pub shared_stands : EveryRun SharedStands m
   -- a short packet leads there from all but the last descriptor of a bulk or interrupt In request, and the controller's queue stays; by next it
   -- goes on as the chain does
-  pub short-stops : EveryRun ShortStops m
-  pub full-goes-on : EveryRun FullGoesOn m
+  pub short_stops : EveryRun ShortStops m
+  pub full_goes_on : EveryRun FullGoesOn m
   -- a submit leaves its plan's descriptors with their tokens, the setup packet that was asked for, and its overlay
-  pub submits-planned : EveryRun SubmitsPlanned m
+  pub submits_planned : EveryRun SubmitsPlanned m
   -- the controller reads each open slot's packet size in its head, and no packet but a request's last is short
-  pub heads-sized : EveryRun HeadsSized m
-  pub packets-whole : EveryRun PacketsWhole m
+  pub heads_sized : EveryRun HeadsSized m
+  pub packets_whole : EveryRun PacketsWhole m
   -- a request begins with the toggle that the controller left
-  pub toggles-kept : EveryRun TogglesKept m
-  pub packets-stand : EveryRun PacketsStand m
-  pub tokens-stand : EveryRun TokensStand m
+  pub toggles_kept : EveryRun TogglesKept m
+  pub packets_stand : EveryRun PacketsStand m
+  pub tokens_stand : EveryRun TokensStand m
   -- a collection leaves current 0 and a terminated overlay
-  pub collects-ended : EveryRun CollectsEnded m
+  pub collects_ended : EveryRun CollectsEnded m
   -- every register write of every call, and no other
-  pub writes-exactly : EveryRun WritesExactly m
-  pub status-acknowledged : EveryRun StatusAcknowledged m
-  pub rings-in-turn : EveryRun RingsInTurn m
-  pub quiet-bring-up : EveryRun QuietBringUp m
+  pub writes_exactly : EveryRun WritesExactly m
+  pub status_acknowledged : EveryRun StatusAcknowledged m
+  pub rings_in_turn : EveryRun RingsInTurn m
+  pub quiet_bring_up : EveryRun QuietBringUp m
   -- what an acknowledgment, a drain, a rearm, an enable and a disable answer
-  pub interrupts-answered : EveryRun InterruptsAnswered m
+  pub interrupts_answered : EveryRun InterruptsAnswered m
   -- ---- 3. After any calls from an accepted opening
 
   -- the state is in its ranges
-  pub ranges-kept : EveryRun RangesKept m
-  pub runs-while-held : EveryRun RunsWhileHeld m
+  pub ranges_kept : EveryRun RangesKept m
+  pub runs_while_held : EveryRun RunsWhileHeld m
   -- free descriptors are exactly the pool less what uncollected requests need; a submit lacks room exactly when that number is too small
-  pub room-exact : EveryRun RoomExact m
-  pub submit-verdict : EveryRun SubmitVerdict m
+  pub room_exact : EveryRun RoomExact m
+  pub submit_verdict : EveryRun SubmitVerdict m
   -- each byte of a buffer is addressed once and no other byte is
   pub coverage : EveryRun Coverage m
   -- no descriptor serves a second request before its collection, and of its records only tokens change, by writeback
-  pub exclusive-places : EveryRun ExclusivePlaces m
-  pub submitted-stays : EveryRun SubmittedStays m
+  pub exclusive_places : EveryRun ExclusivePlaces m
+  pub submitted_stays : EveryRun SubmittedStays m
   -- a collection comes only after the answer to a doorbell rung at or after its unlink
-  pub boundary-kept : EveryRun BoundaryKept m
-  pub boundary-numbered : EveryRun BoundaryNumbered m
+  pub boundary_kept : EveryRun BoundaryKept m
+  pub boundary_numbered : EveryRun BoundaryNumbered m
   -- or with FRINDEX 9 or more on
-  pub frames-kept : EveryRun FramesKept m
+  pub frames_kept : EveryRun FramesKept m
   -- and comes where that is so
   pub exact : EveryRun Exact m
-  pub passes-exactly : EveryRun PassesExactly m
+  pub passes_exactly : EveryRun PassesExactly m
   -- one ring is counted at most once
-  pub one-count : EveryRun OneCount m
+  pub one_count : EveryRun OneCount m
   pub waits : EveryRun Waits m
-  pub up-exactly : EveryRun UpExactly m
+  pub up_exactly : EveryRun UpExactly m
   pub uncrowded : EveryRun Uncrowded m
   pub orderly : EveryRun Orderly m
   -- so no submit is given a descriptor that the controller may still read
-  pub never-given : EveryRun NeverGiven m
+  pub never_given : EveryRun NeverGiven m
   -- a collection answers 10, 11 or 0 with the length, from the request and its last tokens; a cancelled request ends in 10
-  pub collects-due : EveryRun CollectsDue m
-  pub cancelled-answered : EveryRun CancelledAnswered m
+  pub collects_due : EveryRun CollectsDue m
+  pub cancelled_answered : EveryRun CancelledAnswered m
   -- the old call is look where no boundary is set, which frees nothing, and collect alone where one is, which unlinks nothing
-  pub looks-apart : EveryRun LooksApart m
+  pub looks_apart : EveryRun LooksApart m
   -- and what a look has seen passed is collected
-  pub look-stays : EveryRun LookStays m
+  pub look_stays : EveryRun LookStays m
   -- no unlink fails
-  pub no-detach-fails : EveryRun NoDetachFails m
+  pub no_detach_fails : EveryRun NoDetachFails m
   -- ids are 1, 2, .. from a slot's opening on
-  pub ids-in-turn : EveryRun IdsInTurn m
+  pub ids_in_turn : EveryRun IdsInTurn m
   -- a cancel and a collect go by the id, so a stale one hits no later request
-  pub cancels-by-id : EveryRun CancelsById m
-  pub collects-by-id : EveryRun CollectsById m
+  pub cancels_by_id : EveryRun CancelsById m
+  pub collects_by_id : EveryRun CollectsById m
   -- ---- what the state's fields say is what the history says
 
-  pub state-says : EveryRun StateSays m
-  pub fields-tied : EveryRun FieldsTied m
-  pub toggles-tied : EveryRun TogglesTied m
-  pub registers-tied : EveryRun RegistersTied m
+  pub state_says : EveryRun StateSays m
+  pub fields_tied : EveryRun FieldsTied m
+  pub toggles_tied : EveryRun TogglesTied m
+  pub registers_tied : EveryRun RegistersTied m

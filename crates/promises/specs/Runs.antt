@@ -6,11 +6,11 @@ use Rattle.descriptor.specs.declared.qtd.QueueTransferDescriptor.{QueueTransferD
 use Rattle.settings.specs.declared.settings.Settings.{Settings}
 use Rattle.state.specs.Plain.{Ehci}
 use Rattle.common.specs.declared.answer.Answer.TheVariants.{Done}
-use Rattle.opening.specs.Opening.{Opened, openOf}
-use Rattle.controller.specs.Lent.{acceptsOf, lengths}
+use Rattle.opening.specs.Opening.{Opened, open_of}
+use Rattle.controller.specs.Lent.{accepts_of, lengths}
 use Rattle.ehci.specs.declared.call.Call.{Call}
 use Rattle.ehci.specs.declared.reply.Answered.{Answered}
-use Rattle.ehci.specs.Door.{Applied, applyOf}
+use Rattle.ehci.specs.Door.{Applied, apply_of}
 
 -- the four lent rows
 pub record Rows : Type 0 where
@@ -38,8 +38,8 @@ pub record Form : Type 1 where
   pub Fresh : Settings → State → Type 0
 
 -- the state itself
-abbrev pub inPlain : Form
-inPlain =
+abbrev pub in_plain : Form
+in_plain =
     record {
       State = Ehci;
       Result = Applied;
@@ -47,7 +47,7 @@ inPlain =
       shows = λ state a. a;
       leaves = λ state a. a.reply.state;
       agrees = λ state a. refl;
-      fits = λ state rows. acceptsOf state (lengths (length rows.pool) (length rows.heads) (length rows.frames) (length rows.setups));
+      fits = λ state rows. accepts_of state (lengths (length rows.pool) (length rows.heads) (length rows.frames) (length rows.setups));
       Typed = λ state. Unit {0};
       Fresh = λ s state. Unit {0};
     }
@@ -59,7 +59,7 @@ pub record WorldIn (f : Form) : Type 0 where
   pub rows : Rows
 
 abbrev pub World : Type 0
-World = WorldIn inPlain
+World = WorldIn in_plain
 
 -- what a world stands for
 abbrev pub viewed : {f : Form} → WorldIn f → World
@@ -69,14 +69,14 @@ viewed {f} w = record { state = f.view w.state; rows = w.rows }
 abbrev pub Machine : Form → Type 0
 Machine f = WorldIn f → Call → f.Result
 
-abbrev pub core : Machine inPlain
-core w c = applyOf w.state w.rows.pool w.rows.heads w.rows.frames w.rows.setups c
+abbrev pub core : Machine in_plain
+core w c = apply_of w.state w.rows.pool w.rows.heads w.rows.frames w.rows.setups c
 
 abbrev pub rows_of : Applied → Rows
 rows_of a = record { pool = a.pool; heads = a.heads; frames = a.frames; setups = a.setups }
 
-abbrev pub leftBy : Applied → World
-leftBy a = record { state = a.reply.state; rows = rows_of a }
+abbrev pub left_by : Applied → World
+left_by a = record { state = a.reply.state; rows = rows_of a }
 
 -- all that a promise sees of a machine in a world: the state that it stands for, the rows, whether they are let in, and what each call would do
 pub record Moment : Type 0 where
@@ -97,12 +97,12 @@ moment {f} m w =
 -- ---- runs
 
 -- the calls, NEWEST FIRST, from a world on
-unfoldable pub worldOf : {f : Form} → Machine f → WorldIn f → List Call → WorldIn f
-worldOf {f} m w [] = w
-worldOf {f} m w (c ∷ cs) =
+unfoldable pub world_of : {f : Form} → Machine f → WorldIn f → List Call → WorldIn f
+world_of {f} m w [] = w
+world_of {f} m w (c ∷ cs) =
     record {
-      state = f.leaves (worldOf m w cs).state (m (worldOf m w cs) c);
-      rows = rows_of ((moment m (worldOf m w cs)).does c);
+      state = f.leaves (world_of m w cs).state (m (world_of m w cs) c);
+      rows = rows_of ((moment m (world_of m w cs)).does c);
     }
 
 -- one call as its caller sees it: its answer, its register writes, and the lent rows before and after. Nothing of the state
@@ -121,12 +121,12 @@ turn_of rows c a =
     record { call = c; answer = a.reply.answer; wrote = list_of a.reply.writes; before = rows; after = rows_of a }
 
 -- one more call
-abbrev pub turnBy : Moment → Call → Turn
-turnBy w c = turn_of w.rows c (w.does c)
+abbrev pub turn_by : Moment → Call → Turn
+turn_by w c = turn_of w.rows c (w.does c)
 
-unfoldable pub historyOf : {f : Form} → Machine f → WorldIn f → List Call → History
-historyOf {f} m w [] = []
-historyOf {f} m w (c ∷ cs) = turnBy (moment m (worldOf m w cs)) c ∷ historyOf m w cs
+unfoldable pub history_of : {f : Form} → Machine f → WorldIn f → List Call → History
+history_of {f} m w [] = []
+history_of {f} m w (c ∷ cs) = turn_by (moment m (world_of m w cs)) c ∷ history_of m w cs
 
 -- after each list of calls, what they were to their caller and what is seen then
 pub record Run : Type 0 where
@@ -134,11 +134,11 @@ pub record Run : Type 0 where
   pub now : List Call → Moment
 
 abbrev pub run_of : {f : Form} → Machine f → WorldIn f → Run
-run_of {f} m w = record { past = historyOf m w; now = λ cs. moment m (worldOf m w cs) }
+run_of {f} m w = record { past = history_of m w; now = λ cs. moment m (world_of m w cs) }
 
 -- what an opening that is accepted leaves
-abbrev pub worldOpened : Opened → World
-worldOpened o =
+abbrev pub world_opened : Opened → World
+world_opened o =
     record {
       state = o.opening.state;
       rows = record { pool = o.pool; heads = o.heads; frames = o.frames; setups = o.setups };
@@ -146,8 +146,8 @@ worldOpened o =
 
 pub record Opening {f : Form} (s : Settings) (w : WorldIn f) : Type 0 where
   pub lent : Rows
-  pub accepted : (openOf s lent.pool lent.heads lent.frames lent.setups).opening.answer ≡ Done
-  pub left : viewed w ≡ worldOpened (openOf s lent.pool lent.heads lent.frames lent.setups)
+  pub accepted : (open_of s lent.pool lent.heads lent.frames lent.setups).opening.answer ≡ Done
+  pub left : viewed w ≡ world_opened (open_of s lent.pool lent.heads lent.frames lent.setups)
   pub fresh : f.Fresh s w.state
 
 -- ---- what is promised of a machine

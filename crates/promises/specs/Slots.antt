@@ -1,15 +1,15 @@
 -- What a caller knows of the slots and of the controller from its calls and their answers.
 use Rattle.std.specs.Prelude.{ℕ, max, Bool, true, false, cond, List, [], ◌∷◌, eqb}
-use Rattle.token.specs.Chunks.{workingLimit}
+use Rattle.token.specs.Chunks.{working_limit}
 use Rattle.common.specs.declared.kinds.EndpointType.{EndpointType}
 use Rattle.settings.specs.declared.settings.Settings.{Settings}
 use Rattle.request.specs.declared.judge.TransferRequest.{TransferRequest}
 use Rattle.ehci.specs.declared.call.Call.{Call}
 use Rattle.ehci.specs.declared.call.Call.TheVariants.{StartBringUp, BringUpStep, AllocateAddress, OpenEndpoint, Close, SetAddress, SetPacketSize, Submit, Writeback, Cancel, Collect, Acknowledge, Drain, Rearm, Enable, Disable, ClearHalt, Look, CollectAlone}
 use Rattle.ehci.specs.declared.reply.Answered.{Answered}
-use Rattle.ehci.specs.Replies.{answeredNumber, answeredValues}
+use Rattle.ehci.specs.Replies.{answered_number, answered_values}
 use Rattle.promises.specs.Runs.{History, Turn}
-use Rattle.promises.specs.Events.{firstIn, isDone}
+use Rattle.promises.specs.Events.{first_in, is_done}
 
 -- ---- what a turn does to them
 
@@ -26,43 +26,43 @@ pub data Change : Type 0 where
   Halted Running : Change
 
 -- an endpoint that is opened is answered with its slot
-abbrev pub opensBy : EndpointType → ℕ → Answered → Change
-opensBy kind packet a = cond (isDone a) (OpensSlot (firstIn (answeredValues a)) kind packet) Same
+abbrev pub opens_by : EndpointType → ℕ → Answered → Change
+opens_by kind packet a = cond (is_done a) (OpensSlot (first_in (answered_values a)) kind packet) Same
 
 -- a step's values are the milliseconds to wait and, before the end, the register to read next
-abbrev pub runsBy : List ℕ → Change
-runsBy [] = Same
-runsBy (wait ∷ []) = Running
-runsBy (wait ∷ register ∷ vs) = Halted
+abbrev pub runs_by : List ℕ → Change
+runs_by [] = Same
+runs_by (wait ∷ []) = Running
+runs_by (wait ∷ register ∷ vs) = Halted
 
 -- "Bring-up (not running till its end)": a step that leaves nothing to read is its end; "7 leaves the controller not running"
-abbrev pub stepsBy : Answered → Change
-stepsBy a = cond (isDone a) (runsBy (answeredValues a)) (cond (eqb (answeredNumber a) 7) Halted Same)
+abbrev pub steps_by : Answered → Change
+steps_by a = cond (is_done a) (runs_by (answered_values a)) (cond (eqb (answered_number a) 7) Halted Same)
 
 -- one line a call; "set packet size takes a byte, raises it to 8"
-abbrev pub changeBy : Call → Answered → Change
-changeBy StartBringUp a = cond (isDone a) Halted Same
-changeBy (BringUpStep v) a = stepsBy a
-changeBy AllocateAddress a = Same
-changeBy (OpenEndpoint x) a = opensBy x.kind x.packet a
-changeBy (Close k) a = cond (isDone a) (ClosesSlot k) Same
-changeBy (SetAddress k address) a = Same
-changeBy (SetPacketSize k size) a = cond (isDone a) (ResizesSlot k (max size 8)) Same
-changeBy (Submit k r readings) a = Same
-changeBy (Writeback place token) a = Same
-changeBy (Cancel k id readings) a = Same
-changeBy (Collect k id readings) a = Same
-changeBy (Acknowledge x) a = Same
-changeBy (Drain v) a = Same
-changeBy Rearm a = Same
-changeBy Enable a = Same
-changeBy Disable a = Same
-changeBy (Look k id command frame) a = Same
-changeBy (CollectAlone k id frame overlay) a = Same
-changeBy (ClearHalt k) a = cond (isDone a) (ClearsHalt k) Same
+abbrev pub change_by : Call → Answered → Change
+change_by StartBringUp a = cond (is_done a) Halted Same
+change_by (BringUpStep v) a = steps_by a
+change_by AllocateAddress a = Same
+change_by (OpenEndpoint x) a = opens_by x.kind x.packet a
+change_by (Close k) a = cond (is_done a) (ClosesSlot k) Same
+change_by (SetAddress k address) a = Same
+change_by (SetPacketSize k size) a = cond (is_done a) (ResizesSlot k (max size 8)) Same
+change_by (Submit k r readings) a = Same
+change_by (Writeback place token) a = Same
+change_by (Cancel k id readings) a = Same
+change_by (Collect k id readings) a = Same
+change_by (Acknowledge x) a = Same
+change_by (Drain v) a = Same
+change_by Rearm a = Same
+change_by Enable a = Same
+change_by Disable a = Same
+change_by (Look k id command frame) a = Same
+change_by (CollectAlone k id frame overlay) a = Same
+change_by (ClearHalt k) a = cond (is_done a) (ClearsHalt k) Same
 
 abbrev pub change : Turn → Change
-change t = changeBy t.call t.answer
+change t = change_by t.call t.answer
 
 -- ---- the slots, and whether the controller runs
 
@@ -75,31 +75,31 @@ abbrev pub resized : SlotKind → ℕ → SlotKind
 resized Shut size = Shut
 resized (Open kind old) size = Open kind size
 
-abbrev pub slotAfter : ℕ → Change → SlotKind → SlotKind
-slotAfter k Same old = old
-slotAfter k (OpensSlot j kind size) old = cond (eqb j k) (Open kind size) old
-slotAfter k (ResizesSlot j size) old = cond (eqb j k) (resized old size) old
-slotAfter k (ClosesSlot j) old = cond (eqb j k) Shut old
-slotAfter k (ClearsHalt j) old = old
-slotAfter k Halted old = old
-slotAfter k Running old = old
+abbrev pub slot_after : ℕ → Change → SlotKind → SlotKind
+slot_after k Same old = old
+slot_after k (OpensSlot j kind size) old = cond (eqb j k) (Open kind size) old
+slot_after k (ResizesSlot j size) old = cond (eqb j k) (resized old size) old
+slot_after k (ClosesSlot j) old = cond (eqb j k) Shut old
+slot_after k (ClearsHalt j) old = old
+slot_after k Halted old = old
+slot_after k Running old = old
 
-unfoldable pub slotIn : ℕ → History → SlotKind
-slotIn k [] = Shut
-slotIn k (t ∷ past) = slotAfter k (change t) (slotIn k past)
+unfoldable pub slot_in : ℕ → History → SlotKind
+slot_in k [] = Shut
+slot_in k (t ∷ past) = slot_after k (change t) (slot_in k past)
 
-abbrev pub runsAfter : Change → Bool → Bool
-runsAfter Same old = old
-runsAfter (OpensSlot k kind size) old = old
-runsAfter (ResizesSlot k size) old = old
-runsAfter (ClosesSlot k) old = old
-runsAfter (ClearsHalt k) old = old
-runsAfter Halted old = false
-runsAfter Running old = true
+abbrev pub runs_after : Change → Bool → Bool
+runs_after Same old = old
+runs_after (OpensSlot k kind size) old = old
+runs_after (ResizesSlot k size) old = old
+runs_after (ClosesSlot k) old = old
+runs_after (ClearsHalt k) old = old
+runs_after Halted old = false
+runs_after Running old = true
 
-unfoldable pub runsIn : History → Bool
-runsIn [] = false
-runsIn (t ∷ past) = runsAfter (change t) (runsIn past)
+unfoldable pub runs_in : History → Bool
+runs_in [] = false
+runs_in (t ∷ past) = runs_after (change t) (runs_in past)
 
 -- ---- the limit of a slot's chunks
 
@@ -108,9 +108,9 @@ size_of Shut = 0
 size_of (Open kind size) = size
 
 -- the packet size of slot k: that of its opening, or of its last accepted set packet size
-abbrev pub sizeIn : ℕ → History → ℕ
-sizeIn k h = size_of (slotIn k h)
+abbrev pub size_in : ℕ → History → ℕ
+size_in k h = size_of (slot_in k h)
 
 -- "the working limit is the largest multiple of the slot's packet size, at submit, that is not above C"
-abbrev pub limitIn : Settings → History → ℕ → TransferRequest → ℕ
-limitIn s h k t = workingLimit t.kind s.limit (sizeIn k h)
+abbrev pub limit_in : Settings → History → ℕ → TransferRequest → ℕ
+limit_in s h k t = working_limit t.kind s.limit (size_in k h)

@@ -4,8 +4,8 @@ use Rattle.std.specs.Prelude.{Bool, List, [], ◌∷◌, ◌++◌}
 use Rattle.common.specs.Answers.{Check}
 use Rattle.common.specs.declared.answer.Refusal.TheVariants.{InvalidParameter, InvalidEndpoint, QueueFull, NotSupported, NoMemory, NotReady}
 
-abbrev pub beforeLack : (shut stopped busy isochronous other outside : Bool) → List Check
-beforeLack shut stopped busy isochronous other outside =
+abbrev pub before_lack : (shut stopped busy isochronous other outside : Bool) → List Check
+before_lack shut stopped busy isochronous other outside =
     (shut, InvalidEndpoint)
     ∷ (stopped, NotReady)
     ∷ (busy, QueueFull)
@@ -14,6 +14,6 @@ beforeLack shut stopped busy isochronous other outside =
     ∷ (outside, InvalidParameter)
     ∷ []
 
-abbrev pub submitOrder : (shut stopped busy isochronous other outside lacks : Bool) → List Check
-submitOrder shut stopped busy isochronous other outside lacks =
-    beforeLack shut stopped busy isochronous other outside ++ (lacks, NoMemory) ∷ []
+abbrev pub submit_order : (shut stopped busy isochronous other outside lacks : Bool) → List Check
+submit_order shut stopped busy isochronous other outside lacks =
+    before_lack shut stopped busy isochronous other outside ++ (lacks, NoMemory) ∷ []

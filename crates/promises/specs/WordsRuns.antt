@@ -1,10 +1,10 @@
 -- A controller whose state is held in words: what its calls do, and that over any calls both forms do and leave the same.
 use Rattle.std.specs.Prelude.{ℕ, ◌+◌, Bool, true, List, [], ◌≢◌, ◌≡◌, refl, length}
-use Rattle.bitset.specs.Places.{Words, setPlaces}
+use Rattle.bitset.specs.Places.{Words, set_places}
 use Rattle.bitset.specs.Words.{Fitting}
 use Rattle.descriptor.specs.declared.qtd.QueueTransferDescriptor.{QueueTransferDescriptor}
 use Rattle.settings.specs.declared.settings.Settings.{Settings}
-use Rattle.state.specs.Ranges.{inRanges}
+use Rattle.state.specs.Ranges.{in_ranges}
 use Rattle.words.specs.declared.core.Core.{Core}
 use Rattle.words.specs.declared.core.Rest.{Rest}
 use Rattle.words.specs.Good.{Good, Tidy}
@@ -14,9 +14,9 @@ use Rattle.opening.specs.Words.{FreshWords}
 use Rattle.ehci.specs.declared.call.Call.{Call}
 use Rattle.ehci.specs.declared.reply.Reply.{Reply}
 use Rattle.ehci.specs.Door.{Applied, applied}
-use Rattle.ehci.specs.WordsDoor.{WordsAfter, acceptsWords, applyWords, replyView}
+use Rattle.ehci.specs.WordsDoor.{WordsAfter, accepts_words, apply_words, reply_view}
 use Rattle.promises.specs.Rooms.{Every, number_at}
-use Rattle.promises.specs.Runs.{Form, History, Machine, Opening, WorldIn, core, historyOf, moment, run_of, viewed, worldOf}
+use Rattle.promises.specs.Runs.{Form, History, Machine, Opening, WorldIn, core, history_of, moment, run_of, viewed, world_of}
 use Rattle.promises.specs.Uses.{needs, uses}
 
 -- ---- worlds
@@ -35,13 +35,13 @@ pub record WordsApplied : Type 0 where
   pub frames : List ℕ
   pub setups : List ℕ
 
-abbrev pub viewApplied : Settings → WordsApplied → Applied
-viewApplied s a = applied (replyView s a.reply a.slots) a.pool a.heads a.frames a.setups
+abbrev pub view_applied : Settings → WordsApplied → Applied
+view_applied s a = applied (reply_view s a.reply a.slots) a.pool a.heads a.frames a.setups
 
 -- what the types of the code say of the words: four free words, and every word has 64 bits
 pub record Typed (r : Rest) (ws : List ℕ) : Type 0 where
   pub four : length r.free ≡ 4
-  pub free-fits : Words r.free
+  pub free_fits : Words r.free
   pub row_fits : Fitting ws
 
 -- what the contract of `open` says of the words that it leaves, and what its types say
@@ -56,17 +56,17 @@ in_words =
       State = Stored;
       Result = WordsApplied;
       view = λ x. view x.core x.slots;
-      shows = λ x a. viewApplied x.core.settings a;
+      shows = λ x a. view_applied x.core.settings a;
       leaves = λ x a. record { core = record { settings = x.core.settings; rest = a.reply.rest }; slots = a.slots };
       agrees = λ x a. refl;
-      fits = λ x rows. acceptsWords x.core x.slots (length rows.pool) (length rows.heads) (length rows.frames) (length rows.setups);
+      fits = λ x rows. accepts_words x.core x.slots (length rows.pool) (length rows.heads) (length rows.frames) (length rows.setups);
       Typed = λ x. Typed x.core.rest x.slots;
       Fresh = OpenedWords;
     }
 
 -- whether the words and the rows of a world are let in
-abbrev pub letIn : WorldIn in_words → Bool
-letIn w = in_words.fits w.state w.rows
+abbrev pub let_in : WorldIn in_words → Bool
+let_in w = in_words.fits w.state w.rows
 
 -- ---- what a call does
 
@@ -74,9 +74,9 @@ letIn w = in_words.fits w.state w.rows
 pub record Does (m : Machine in_words) : Type 0 where
   pub replies : (w : WorldIn in_words) (c : Call) → Typed w.state.core.rest w.state.slots
       → (moment m w).does c
-      ≡ applyWords w.state.core w.state.slots w.rows.pool w.rows.heads w.rows.frames w.rows.setups c
+      ≡ apply_words w.state.core w.state.slots w.rows.pool w.rows.heads w.rows.frames w.rows.setups c
   pub leaves : (w : WorldIn in_words) (c : Call) → Typed w.state.core.rest w.state.slots
-      → WordsAfter (letIn w) w.state.core w.state.slots (m w c).reply.rest (m w c).slots
+      → WordsAfter (let_in w) w.state.core w.state.slots (m w c).reply.rest (m w c).slots
   pub typed : (w : WorldIn in_words) (c : Call) → Typed w.state.core.rest w.state.slots → Typed (m w c).reply.rest (m w c).slots
 
 -- ---- both forms give the same
@@ -94,7 +94,7 @@ SameRuns m = (s : Settings) (w : WorldIn in_words) → Opening s w → SameRun m
 -- length may be lent
 pub record Faithful (w : WorldIn in_words) : Type 0 where
   pub typed : Typed w.state.core.rest w.state.slots
-  pub tidy : inRanges (view w.state.core w.state.slots) ≡ true → Tidy w.state.core.settings w.state.core.rest w.state.slots
+  pub tidy : in_ranges (view w.state.core w.state.slots) ≡ true → Tidy w.state.core.settings w.state.core.rest w.state.slots
 
 abbrev pub SameFrom : Machine in_words → Type 0
 SameFrom m = (w : WorldIn in_words) → Faithful w → SameRun m w
@@ -104,21 +104,21 @@ SameFrom m = (w : WorldIn in_words) → Faithful w → SameRun m w
 -- the words are good; the free words have a bit for each descriptor less those that the uncollected requests need, a request's slot has the
 -- bits of its places, and a slot of no request has none
 pub record GoodWords (s : Settings) (h : History) (x : Stored) : Type 0 where
-  pub settings-stay : x.core.settings ≡ s
+  pub settings_stay : x.core.settings ≡ s
   pub good : Good s x.core.rest x.slots
-  pub free : length (setPlaces x.core.rest.free) + needs s (uses s h) ≡ s.descriptors
-  pub held : Every (λ u. setPlaces (places_at x.slots u.slot) ≡ u.places) (uses s h)
-  pub empty : (k : ℕ) → Every (λ u. u.slot ≡ k → ⊥) (uses s h) → setPlaces (places_at x.slots k) ≡ []
+  pub free : length (set_places x.core.rest.free) + needs s (uses s h) ≡ s.descriptors
+  pub held : Every (λ u. set_places (places_at x.slots u.slot) ≡ u.places) (uses s h)
+  pub empty : (k : ℕ) → Every (λ u. u.slot ≡ k → ⊥) (uses s h) → set_places (places_at x.slots k) ≡ []
 
 abbrev pub WordsKept : Machine in_words → Type 0
 WordsKept m =
-    (s : Settings) (w : WorldIn in_words) → Opening s w → (cs : List Call) → GoodWords s (historyOf m w cs) (worldOf m w cs).state
+    (s : Settings) (w : WorldIn in_words) → Opening s w → (cs : List Call) → GoodWords s (history_of m w cs) (world_of m w cs).state
 
 -- ---- refusals leave the words too
 
 -- not running, and no bring-up begun
-abbrev pub stoppedRest : Rest → Rest
-stoppedRest r =
+abbrev pub stopped_rest : Rest → Rest
+stopped_rest r =
     record {
       running = 0;
       step = 0;
@@ -135,8 +135,8 @@ stoppedRest r =
 
 -- what a call that answered the number n left of the words
 pub record WordsStay (x : Stored) (n : ℕ) (a : WordsApplied) : Type 0 where
-  pub rest-stays : n ≢ 7 → a.reply.rest ≡ x.core.rest
-  pub only-stopped : n ≡ 7 → a.reply.rest ≡ stoppedRest x.core.rest
+  pub rest_stays : n ≢ 7 → a.reply.rest ≡ x.core.rest
+  pub only_stopped : n ≡ 7 → a.reply.rest ≡ stopped_rest x.core.rest
   pub row_stays : a.slots ≡ x.slots
 
 abbrev pub RefusedStay : Machine in_words → Type 0

@@ -8,7 +8,7 @@ use Rattle.settings.specs.declared.settings.Settings.{Settings}
 use Rattle.common.specs.Answers.{passed, refused}
 use Rattle.common.specs.declared.answer.Refusal.TheVariants.{InvalidEndpoint, NotReady, NotSupported, QueueFull, Timeout}
 use Rattle.common.specs.declared.reads.NextRead.TheVariants as N
-use Rattle.request.specs.Submit.{bufferGood, rangesGood}
+use Rattle.request.specs.Submit.{buffer_good, ranges_good}
 use Rattle.request.specs.declared.judge.TransferRequest.{TransferRequest}
 use Rattle.ehci.specs.declared.call.Call.{Call}
 use Rattle.ehci.specs.declared.call.Call.TheVariants.{BringUpStep, Close, OpenEndpoint, StartBringUp, Submit}
@@ -17,8 +17,8 @@ use Rattle.ehci.specs.declared.reply.Answered.TheVariants.{Done, Refused}
 use Rattle.ehci.specs.declared.reply.Given.TheVariants.{Id, Next, Nothing, Slot}
 use Rattle.promises.specs.Runs.{History, Rows, Turn}
 use Rattle.promises.specs.Uses.{uses}
-use Rattle.promises.specs.Opened.{beforeRoom}
-use Rattle.promises.specs.Slots.{runsIn, slotIn}
+use Rattle.promises.specs.Opened.{before_room}
+use Rattle.promises.specs.Slots.{runs_in, slot_in}
 
 module _ (s : Settings) (rows : Rows) where
   abbrev turn : Call → Answered → Turn
@@ -37,38 +37,38 @@ module _ (s : Settings) (rows : Rows) where
   abbrev ended : History
   ended = turn (BringUpStep 0) (Done (Next N.Nothing 100)) ∷ begun
 
-  unopened : beforeRoom s [] 0 (asks Bulk) ≡ refused InvalidEndpoint
-  unfolding slotIn
+  unopened : before_room s [] 0 (asks Bulk) ≡ refused InvalidEndpoint
+  unfolding slot_in
   unopened = refl
 
-  before-end : beforeRoom s begun 0 (asks Bulk) ≡ refused NotReady
-  unfolding slotIn runsIn
-  before-end = refl
+  before_end : before_room s begun 0 (asks Bulk) ≡ refused NotReady
+  unfolding slot_in runs_in
+  before_end = refl
 
-  accepted : beforeRoom s ended 0 (asks Bulk) ≡ passed
-  unfolding slotIn runsIn uses rangesGood bufferGood
+  accepted : before_room s ended 0 (asks Bulk) ≡ passed
+  unfolding slot_in runs_in uses ranges_good buffer_good
   accepted = refl
 
-  other-slot : beforeRoom s ended 1 (asks Bulk) ≡ refused InvalidEndpoint
-  unfolding slotIn
-  other-slot = refl
+  other_slot : before_room s ended 1 (asks Bulk) ≡ refused InvalidEndpoint
+  unfolding slot_in
+  other_slot = refl
 
-  other-kind : beforeRoom s ended 0 (asks Interrupt) ≡ refused InvalidEndpoint
-  unfolding slotIn runsIn uses
-  other-kind = refl
+  other_kind : before_room s ended 0 (asks Interrupt) ≡ refused InvalidEndpoint
+  unfolding slot_in runs_in uses
+  other_kind = refl
 
-  isochronous : beforeRoom s ended 0 (asks Isochronous) ≡ refused NotSupported
-  unfolding slotIn runsIn uses
+  isochronous : before_room s ended 0 (asks Isochronous) ≡ refused NotSupported
+  unfolding slot_in runs_in uses
   isochronous = refl
 
-  busy : beforeRoom s (turn (Submit 0 (asks Bulk) (record { command = 0; frame = 0; overlay = 0 })) (Done (Id 1)) ∷ ended) 0 (asks Bulk) ≡ refused QueueFull
-  unfolding slotIn runsIn uses
+  busy : before_room s (turn (Submit 0 (asks Bulk) (record { command = 0; frame = 0; overlay = 0 })) (Done (Id 1)) ∷ ended) 0 (asks Bulk) ≡ refused QueueFull
+  unfolding slot_in runs_in uses
   busy = refl
 
-  closed : beforeRoom s (turn (Close 0) (Done Nothing) ∷ ended) 0 (asks Bulk) ≡ refused InvalidEndpoint
-  unfolding slotIn
+  closed : before_room s (turn (Close 0) (Done Nothing) ∷ ended) 0 (asks Bulk) ≡ refused InvalidEndpoint
+  unfolding slot_in
   closed = refl
 
-  begun-again : beforeRoom s (turn (BringUpStep 0) (Refused Timeout) ∷ turn StartBringUp (Done (Next (N.Register 0) 0)) ∷ ended) 0 (asks Bulk) ≡ refused NotReady
-  unfolding slotIn runsIn
-  begun-again = refl
+  begun_again : before_room s (turn (BringUpStep 0) (Refused Timeout) ∷ turn StartBringUp (Done (Next (N.Register 0) 0)) ∷ ended) 0 (asks Bulk) ≡ refused NotReady
+  unfolding slot_in runs_in
+  begun_again = refl

@@ -13,32 +13,32 @@ use Rattle.ehci.specs.declared.reply.Answered.TheVariants.{Done, Refused}
 use Rattle.ehci.specs.declared.reply.Given.TheVariants.{Nothing, Slot}
 use Rattle.request.specs.declared.judge.TransferRequest.{TransferRequest}
 use Rattle.promises.specs.Runs.{History, Rows, Turn}
-use Rattle.promises.specs.Packets.{onWire, packetsOf}
-use Rattle.promises.specs.Slots.{limitIn, sizeIn, slotIn}
-use Rattle.promises.proofs.invariants.Reached.{freshWorld}
+use Rattle.promises.specs.Packets.{on_wire, packets_of}
+use Rattle.promises.specs.Slots.{limit_in, size_in, slot_in}
+use Rattle.promises.proofs.invariants.Reached.{fresh_world}
 use Rattle.refutations.proofs.WrongRuns.{sized}
 
 -- ---- packets of 512
 
 -- none is one packet of none; a full one is not followed by another
-few : (packetsOf 512 0 ≡ 0 ∷ []) × (packetsOf 512 1 ≡ 1 ∷ []) × (packetsOf 512 512 ≡ 512 ∷ []) × (packetsOf 512 513 ≡ 512 ∷ 1 ∷ [])
+few : (packets_of 512 0 ≡ 0 ∷ []) × (packets_of 512 1 ≡ 1 ∷ []) × (packets_of 512 512 ≡ 512 ∷ []) × (packets_of 512 513 ≡ 512 ∷ 1 ∷ [])
 few = (refl, refl, refl, refl)
 
 -- the lab: 3,000 bytes are five full packets and one of 440
-lab : packetsOf 512 3000 ≡ 512 ∷ 512 ∷ 512 ∷ 512 ∷ 512 ∷ 440 ∷ []
+lab : packets_of 512 3000 ≡ 512 ∷ 512 ∷ 512 ∷ 512 ∷ 512 ∷ 440 ∷ []
 lab = refl
 
 -- as descriptors of the working limit; and of 1,000 each, as before the order, where each ends in a packet of 488
-after-order : onWire 512 (512 ∷ 512 ∷ 512 ∷ 512 ∷ 512 ∷ 440 ∷ []) ≡ packetsOf 512 3000
-after-order = refl
+after_order : on_wire 512 (512 ∷ 512 ∷ 512 ∷ 512 ∷ 512 ∷ 440 ∷ []) ≡ packets_of 512 3000
+after_order = refl
 
-before-order : onWire 512 (1000 ∷ 1000 ∷ 1000 ∷ []) ≡ 512 ∷ 488 ∷ 512 ∷ 488 ∷ 512 ∷ 488 ∷ []
-before-order = refl
+before_order : on_wire 512 (1000 ∷ 1000 ∷ 1000 ∷ []) ≡ 512 ∷ 488 ∷ 512 ∷ 488 ∷ 512 ∷ 488 ∷ []
+before_order = refl
 
 -- ---- what a history tells
 
 abbrev rows : Rows
-rows = (freshWorld (sized 2 2 1000)).rows
+rows = (fresh_world (sized 2 2 1000)).rows
 
 abbrev turn : Call → Answered → Turn
 turn c a = record { call = c; answer = a; wrote = []; before = rows; after = rows }
@@ -53,19 +53,19 @@ early = turn (SetPacketSize 0 5) (Done Nothing) ∷ opens Bulk 512 ∷ []
 abbrev late : History
 late = opens Interrupt 1000 ∷ turn (Close 0) (Done Nothing) ∷ turn (SetPacketSize 0 64) (Refused QueueFull) ∷ early
 
-sizes : (sizeIn 0 (opens Bulk 512 ∷ []) ≡ 512) × (sizeIn 0 early ≡ 8) × (sizeIn 1 early ≡ 0) × (sizeIn 0 late ≡ 1000)
-unfolding slotIn
+sizes : (size_in 0 (opens Bulk 512 ∷ []) ≡ 512) × (size_in 0 early ≡ 8) × (size_in 1 early ≡ 0) × (size_in 0 late ≡ 1000)
+unfolding slot_in
 sizes = (refl, refl, refl, refl)
 
-refused_none : (sizeIn 0 (turn (SetPacketSize 0 64) (Refused QueueFull) ∷ early) ≡ 8) × (sizeIn 0 (turn (Close 0) (Done Nothing) ∷ early) ≡ 0)
-unfolding slotIn
+refused_none : (size_in 0 (turn (SetPacketSize 0 64) (Refused QueueFull) ∷ early) ≡ 8) × (size_in 0 (turn (Close 0) (Done Nothing) ∷ early) ≡ 0)
+unfolding slot_in
 refused_none = (refl, refl)
 
 abbrev asks : EndpointType → TransferRequest
 asks kind = record { kind = kind; direction = Out; setup = 0; address = 0; length = 3000 }
 
 -- C is 1,000: of 512 one packet, of 8 all of it, of 1000 one; a control request is not cut
-limits : (limitIn (sized 2 2 1000) (opens Bulk 512 ∷ []) 0 (asks Bulk) ≡ 512) × (limitIn (sized 2 2 1000) early 0 (asks Bulk) ≡ 1000)
-    × (limitIn (sized 2 2 1000) late 0 (asks Interrupt) ≡ 1000) × (limitIn (sized 2 2 1000) (opens Control 512 ∷ []) 0 (asks Control) ≡ 1000)
-unfolding slotIn
+limits : (limit_in (sized 2 2 1000) (opens Bulk 512 ∷ []) 0 (asks Bulk) ≡ 512) × (limit_in (sized 2 2 1000) early 0 (asks Bulk) ≡ 1000)
+    × (limit_in (sized 2 2 1000) late 0 (asks Interrupt) ≡ 1000) × (limit_in (sized 2 2 1000) (opens Control 512 ∷ []) 0 (asks Control) ≡ 1000)
+unfolding slot_in
 limits = (refl, refl, refl, refl)

@@ -3,8 +3,8 @@ use Prim.Native.Nat.{ℕ}
 use mathlib.Core.Bool.{true, false}
 use mathlib.Core.List.{[], ◌∷◌}
 use mathlib.Core.Path.{◌≡◌, refl}
-use Rattle.register.specs.Bits.{any_of, onlyBits, with_bits, withoutBits}
-use Rattle.register.specs.Writes.{writeOf}
+use Rattle.register.specs.Bits.{any_of, only_bits, with_bits, without_bits}
+use Rattle.register.specs.Writes.{write_of}
 use Rattle.common.specs.declared.kinds.Direction.TheVariants.{Out}
 use Rattle.common.specs.declared.kinds.EndpointType.TheVariants.{Bulk}
 use Rattle.settings.specs.declared.settings.Settings.{Settings}
@@ -18,8 +18,8 @@ use Rattle.ehci.specs.declared.reply.Answered.TheVariants.{Done, Refused}
 use Rattle.ehci.specs.declared.reply.Event.TheVariants as E
 use Rattle.ehci.specs.declared.reply.Given.TheVariants.{Event, Id, Next, Nothing, Slot, Yes}
 use Rattle.promises.specs.Runs.{History, Rows, Turn}
-use Rattle.promises.specs.Registers.{accessOf, acknowledgeWrites, acknowledged, eventIn, flagIn, maskedIn, pendingIn, readIn, stepWrites, writesFor}
-use Rattle.promises.specs.Ids.{following, nextId}
+use Rattle.promises.specs.Registers.{access_of, acknowledge_writes, acknowledged, event_in, flag_in, masked_in, pending_in, read_in, step_writes, writes_for}
+use Rattle.promises.specs.Ids.{following, next_id}
 
 module _ (s : Settings) (rows : Rows) where
   abbrev turn : Call → Answered → Turn
@@ -33,56 +33,56 @@ module _ (s : Settings) (rows : Rows) where
   abbrev heard : History
   heard = turn (Acknowledge (reading 0x102C)) (Done Yes) ∷ []
 
-  heard-bits : (acknowledged (reading 0x102C) ≡ 0x24) × (pendingIn heard ≡ 0x24) × (maskedIn heard ≡ 0x24) × (eventIn (pendingIn heard) ≡ 1 ∷ 0 ∷ [])
-  unfolding pendingIn maskedIn onlyBits with_bits any_of
-  heard-bits = (refl, refl, refl, refl)
+  heard_bits : (acknowledged (reading 0x102C) ≡ 0x24) × (pending_in heard ≡ 0x24) × (masked_in heard ≡ 0x24) × (event_in (pending_in heard) ≡ 1 ∷ 0 ∷ [])
+  unfolding pending_in masked_in only_bits with_bits any_of
+  heard_bits = (refl, refl, refl, refl)
 
   abbrev drained : History
   drained = turn (Drain 0x80031) (Done (Event E.PortChange)) ∷ heard
 
-  drained-bits : (pendingIn drained ≡ 0x20) × (maskedIn drained ≡ 0x24) × (eventIn (pendingIn drained) ≡ 2 ∷ 1 ∷ [])
-  unfolding pendingIn maskedIn onlyBits with_bits withoutBits any_of
-  drained-bits = (refl, refl, refl)
+  drained_bits : (pending_in drained ≡ 0x20) × (masked_in drained ≡ 0x24) × (event_in (pending_in drained) ≡ 2 ∷ 1 ∷ [])
+  unfolding pending_in masked_in only_bits with_bits without_bits any_of
+  drained_bits = (refl, refl, refl)
 
   abbrev empty : History
   empty = turn (Drain 0x80031) (Done (Event E.TransferActivity)) ∷ drained
 
-  empty-bits : (pendingIn empty ≡ 0) × (eventIn (pendingIn empty) ≡ 0 ∷ 0 ∷ [])
-  unfolding pendingIn onlyBits with_bits withoutBits any_of
-  empty-bits = (refl, refl)
+  empty_bits : (pending_in empty ≡ 0) × (event_in (pending_in empty) ≡ 0 ∷ 0 ∷ [])
+  unfolding pending_in only_bits with_bits without_bits any_of
+  empty_bits = (refl, refl)
 
   -- a refused acknowledgment joins nothing; host system error alone is Stopped
-  refused-bits : pendingIn (turn (Acknowledge (reading 0x24)) (Refused InvalidParameter) ∷ []) ≡ 0
-  unfolding pendingIn
-  refused-bits = refl
+  refused_bits : pending_in (turn (Acknowledge (reading 0x24)) (Refused InvalidParameter) ∷ []) ≡ 0
+  unfolding pending_in
+  refused_bits = refl
 
-  stopped : eventIn 0x10 ≡ 3 ∷ 0 ∷ []
+  stopped : event_in 0x10 ≡ 3 ∷ 0 ∷ []
   unfolding any_of
   stopped = refl
 
   -- ---- what an acknowledgment writes: by the first flag; again, by the second, where they differ; nothing where nothing is read
 
-  writes-once : acknowledgeWrites (reading 0x24) 0x24 ≡ writeOf 4 0x24 ∷ writeOf 8 0x03 ∷ []
-  unfolding onlyBits withoutBits
-  writes-once = refl
+  writes_once : acknowledge_writes (reading 0x24) 0x24 ≡ write_of 4 0x24 ∷ write_of 8 0x03 ∷ []
+  unfolding only_bits without_bits
+  writes_once = refl
 
-  writes_again : acknowledgeWrites (record { status = 0x24; interrupts = 0x27; flag = false; again = true }) 0x24 ≡ writeOf 4 0x24 ∷ writeOf 8 0 ∷ writeOf 8 0x03 ∷ []
-  unfolding onlyBits withoutBits
+  writes_again : acknowledge_writes (record { status = 0x24; interrupts = 0x27; flag = false; again = true }) 0x24 ≡ write_of 4 0x24 ∷ write_of 8 0 ∷ write_of 8 0x03 ∷ []
+  unfolding only_bits without_bits
   writes_again = refl
 
-  writes-off : acknowledgeWrites (record { status = 0x24; interrupts = 0x27; flag = true; again = false }) 0x24 ≡ writeOf 4 0x24 ∷ writeOf 8 0x03 ∷ writeOf 8 0 ∷ []
-  unfolding onlyBits withoutBits
-  writes-off = refl
+  writes_off : acknowledge_writes (record { status = 0x24; interrupts = 0x27; flag = true; again = false }) 0x24 ≡ write_of 4 0x24 ∷ write_of 8 0x03 ∷ write_of 8 0 ∷ []
+  unfolding only_bits without_bits
+  writes_off = refl
 
-  writes-none : acknowledgeWrites (reading 0x1008) 0 ≡ []
-  writes-none = refl
+  writes_none : acknowledge_writes (reading 0x1008) 0 ≡ []
+  writes_none = refl
 
   -- ---- rearm: only where something is masked, and by the flag
 
-  rearms : (writesFor s heard (turn Rearm (Done Nothing)) (accessOf Rearm) ≡ writeOf 8 0 ∷ [])
-      × (writesFor s (turn Enable (Done Nothing) ∷ heard) (turn Rearm (Done Nothing)) (accessOf Rearm) ≡ writeOf 8 0x27 ∷ [])
-      × (writesFor s (turn Rearm (Done Nothing) ∷ heard) (turn Rearm (Done Nothing)) (accessOf Rearm) ≡ [])
-  unfolding maskedIn flagIn onlyBits with_bits
+  rearms : (writes_for s heard (turn Rearm (Done Nothing)) (access_of Rearm) ≡ write_of 8 0 ∷ [])
+      × (writes_for s (turn Enable (Done Nothing) ∷ heard) (turn Rearm (Done Nothing)) (access_of Rearm) ≡ write_of 8 0x27 ∷ [])
+      × (writes_for s (turn Rearm (Done Nothing) ∷ heard) (turn Rearm (Done Nothing)) (access_of Rearm) ≡ [])
+  unfolding masked_in flag_in only_bits with_bits
   rearms = (refl, refl, refl)
 
   -- ---- bring-up by its readings: each of the six, and a reading that is not ready is repeated
@@ -99,16 +99,16 @@ module _ (s : Settings) (rows : Rows) where
   abbrev resetting : History
   resetting = turn (BringUpStep 0x80000) (Done (Next (N.Register 0) 0)) ∷ turn (BringUpStep 0x1000) (Done (Next (N.Register 0) 0)) ∷ waiting
 
-  readings : (readIn begun ≡ 1) × (flagIn begun ≡ false) × (readIn halting ≡ 2) × (readIn waiting ≡ 2) × (readIn resetting ≡ 4)
-      × (readIn (turn (BringUpStep 0) (Refused Timeout) ∷ halting) ≡ 0) × (readIn (turn StartBringUp (Done (Next (N.Register 0) 0)) ∷ resetting) ≡ 1)
-  unfolding readIn flagIn any_of
+  readings : (read_in begun ≡ 1) × (flag_in begun ≡ false) × (read_in halting ≡ 2) × (read_in waiting ≡ 2) × (read_in resetting ≡ 4)
+      × (read_in (turn (BringUpStep 0) (Refused Timeout) ∷ halting) ≡ 0) × (read_in (turn StartBringUp (Done (Next (N.Register 0) 0)) ∷ resetting) ≡ 1)
+  unfolding read_in flag_in any_of
   readings = (refl, refl, refl, refl, refl, refl, refl)
 
   -- USBCMD 0x80071 without 0x31 and without the doorbell; not ready, nothing; the set-up, USBSTS last; USBCMD or 0x31
-  steps : (stepWrites s 1 0x80071 ≡ writeOf 0 0x80000 ∷ []) × (stepWrites s 4 0x80002 ≡ [])
-      × (stepWrites s 4 0x80000 ≡ writeOf 0x10 0 ∷ writeOf 0x14 s.frames ∷ writeOf 0x18 s.heads ∷ writeOf 0x40 1 ∷ writeOf 4 0x3F ∷ [])
-      × (stepWrites s 5 0x80040 ≡ writeOf 0 0x80031 ∷ [])
-  unfolding any_of with_bits withoutBits
+  steps : (step_writes s 1 0x80071 ≡ write_of 0 0x80000 ∷ []) × (step_writes s 4 0x80002 ≡ [])
+      × (step_writes s 4 0x80000 ≡ write_of 0x10 0 ∷ write_of 0x14 s.frames ∷ write_of 0x18 s.heads ∷ write_of 0x40 1 ∷ write_of 4 0x3F ∷ [])
+      × (step_writes s 5 0x80040 ≡ write_of 0 0x80031 ∷ [])
+  unfolding any_of with_bits without_bits
   steps = (refl, refl, refl, refl)
 
   -- ---- ids
@@ -127,10 +127,10 @@ module _ (s : Settings) (rows : Rows) where
       ∷ opened
 
   -- an accepted submit takes one, a refused one none, and another slot has its own; a slot that is opened again starts again
-  ids : (nextId s 0 opened ≡ 1) × (nextId s 0 (submits (Done (Id 1)) ∷ opened) ≡ 2) × (nextId s 0 (submits (Refused NoMemory) ∷ opened) ≡ 1)
-      × (nextId s 1 (submits (Done (Id 1)) ∷ opened) ≡ 1) × (nextId s 0 reopened ≡ 1)
-  unfolding nextId
+  ids : (next_id s 0 opened ≡ 1) × (next_id s 0 (submits (Done (Id 1)) ∷ opened) ≡ 2) × (next_id s 0 (submits (Refused NoMemory) ∷ opened) ≡ 1)
+      × (next_id s 1 (submits (Done (Id 1)) ∷ opened) ≡ 1) × (next_id s 0 reopened ≡ 1)
+  unfolding next_id
   ids = (refl, refl, refl, refl, refl)
 
-  turns-over : (following 18446744073709551614 ≡ 18446744073709551615) × (following 18446744073709551615 ≡ 1)
-  turns-over = (refl, refl)
+  turns_over : (following 18446744073709551614 ≡ 18446744073709551615) × (following 18446744073709551615 ≡ 1)
+  turns_over = (refl, refl)

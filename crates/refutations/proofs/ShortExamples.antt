@@ -11,10 +11,10 @@ use Rattle.common.specs.declared.kinds.Direction.TheVariants.{Out, In}
 use Rattle.common.specs.declared.kinds.EndpointType.{EndpointType}
 use Rattle.common.specs.declared.kinds.EndpointType.TheVariants.{Control, Bulk, Interrupt}
 use Rattle.descriptor.specs.declared.qtd.QueueTransferDescriptor.{QueueTransferDescriptor}
-use Rattle.pool.specs.Transfers.{alternateWord}
-use Rattle.promises.specs.Uses.{Use, mayEndShort}
-use Rattle.promises.specs.Chains.{isFinished}
-use Rattle.promises.specs.Collections.{readTo}
+use Rattle.pool.specs.Transfers.{alternate_word}
+use Rattle.promises.specs.Uses.{Use, may_end_short}
+use Rattle.promises.specs.Chains.{is_finished}
+use Rattle.promises.specs.Collections.{read_to}
 use Rattle.promises.specs.EhciQueue.{Fetched, Queue, pointer, visit, visits}
 
 -- ---- which requests
@@ -32,14 +32,14 @@ asked kind direction places =
 abbrev two : List ℕ
 two = 3 ∷ 5 ∷ []
 
-may-end : mayEndShort (asked Bulk In two) ∷ mayEndShort (asked Interrupt In two) ∷ [] ≡ true ∷ true ∷ []
-may-end = refl
+may_end : may_end_short (asked Bulk In two) ∷ may_end_short (asked Interrupt In two) ∷ [] ≡ true ∷ true ∷ []
+may_end = refl
 
-may-not : mayEndShort (asked Control In two) ∷ mayEndShort (asked Bulk Out two) ∷ mayEndShort (asked Interrupt Out two) ∷ mayEndShort (asked Bulk In (3 ∷ [])) ∷ [] ≡ replicate 4 false
-may-not = refl
+may_not : may_end_short (asked Control In two) ∷ may_end_short (asked Bulk Out two) ∷ may_end_short (asked Interrupt Out two) ∷ may_end_short (asked Bulk In (3 ∷ [])) ∷ [] ≡ replicate 4 false
+may_not = refl
 
 -- the alternate words that a submit writes, but in the last descriptor
-alternates : alternateWord Interrupt In 0x100080 ∷ alternateWord Interrupt Out 0x100080 ∷ alternateWord Bulk In 0x100080 ∷ [] ≡ 0x100080 ∷ 1 ∷ 0x100080 ∷ []
+alternates : alternate_word Interrupt In 0x100080 ∷ alternate_word Interrupt Out 0x100080 ∷ alternate_word Bulk In 0x100080 ∷ [] ≡ 0x100080 ∷ 1 ∷ 0x100080 ∷ []
 alternates = refl
 
 -- ---- how far they are read
@@ -51,27 +51,27 @@ left token = record { next = 1; alternate = 1; token = token; pages = replicate 
 abbrev reply : List QueueTransferDescriptor
 reply = left 0x00000D00 ∷ left 0x34480D00 ∷ left 0x40000D80 ∷ []
 
-stops : readTo true reply ≡ left 0x00000D00 ∷ left 0x34480D00 ∷ []
+stops : read_to true reply ≡ left 0x00000D00 ∷ left 0x34480D00 ∷ []
 stops = refl
 
-reads_all : readTo false reply ≡ reply
+reads_all : read_to false reply ≡ reply
 reads_all = refl
 
-ends : isFinished true reply (0 ∷ 1 ∷ 2 ∷ []) ≡ true
+ends : is_finished true reply (0 ∷ 1 ∷ 2 ∷ []) ≡ true
 ends = refl
 
-waits : isFinished false reply (0 ∷ 1 ∷ 2 ∷ []) ≡ false
+waits : is_finished false reply (0 ∷ 1 ∷ 2 ∷ []) ≡ false
 waits = refl
 
 -- neither an active one nor one in error is short, whatever it has left
-past-active : readTo true (left 0x40000D80 ∷ left 0x34480D00 ∷ left 0x34480D40 ∷ []) ≡ left 0x40000D80 ∷ left 0x34480D00 ∷ []
-past-active = refl
+past_active : read_to true (left 0x40000D80 ∷ left 0x34480D00 ∷ left 0x34480D40 ∷ []) ≡ left 0x40000D80 ∷ left 0x34480D00 ∷ []
+past_active = refl
 
-active-first : isFinished true (left 0x40000D80 ∷ left 0x34480D00 ∷ []) (0 ∷ 1 ∷ []) ≡ false
-active-first = refl
+active_first : is_finished true (left 0x40000D80 ∷ left 0x34480D00 ∷ []) (0 ∷ 1 ∷ []) ≡ false
+active_first = refl
 
-past-error : readTo true (left 0x34480D40 ∷ left 0x00000D00 ∷ []) ≡ left 0x34480D40 ∷ left 0x00000D00 ∷ []
-past-error = refl
+past_error : read_to true (left 0x34480D40 ∷ left 0x00000D00 ∷ []) ≡ left 0x34480D40 ∷ left 0x00000D00 ∷ []
+past_error = refl
 
 -- ---- the queue: a first descriptor at 100000, the second at 100040, the shared one at 100080
 
@@ -87,24 +87,24 @@ memory address = cond (eqb address 0x100040) second shared
 abbrev first : ℕ → ℕ → Queue
 first alternate token = record { current = 0x100000; overlay = record { next = 0x100040; alternate = alternate; token = token } }
 
-short-leads : pointer (first 0x100080 0x34480D00).overlay ≡ 0x100080
-short-leads = refl
+short_leads : pointer (first 0x100080 0x34480D00).overlay ≡ 0x100080
+short_leads = refl
 
-full-leads : pointer (first 0x100080 0x00000D00).overlay ≡ 0x100040
-full-leads = refl
+full_leads : pointer (first 0x100080 0x00000D00).overlay ≡ 0x100040
+full_leads = refl
 
-short-stays : visits memory 3 (first 0x100080 0x34480D00) ≡ first 0x100080 0x34480D00
-short-stays = refl
+short_stays : visits memory 3 (first 0x100080 0x34480D00) ≡ first 0x100080 0x34480D00
+short_stays = refl
 
-full-begins : visit memory (first 0x100080 0x00000D00) ≡ record { current = 0x100040; overlay = second }
-full-begins = refl
+full_begins : visit memory (first 0x100080 0x00000D00) ≡ record { current = 0x100040; overlay = second }
+full_begins = refl
 
 -- as before the order: an alternate that terminates, and the second is begun
-without-it : visit memory (first 1 0x34480D00) ≡ record { current = 0x100040; overlay = second }
-without-it = refl
+without_it : visit memory (first 1 0x34480D00) ≡ record { current = 0x100040; overlay = second }
+without_it = refl
 
-halted-stays : visit memory (first 0x100080 0x34480D40) ≡ first 0x100080 0x34480D40
-halted-stays = refl
+halted_stays : visit memory (first 0x100080 0x34480D40) ≡ first 0x100080 0x34480D40
+halted_stays = refl
 
-active-stays : visit memory (first 0x100080 0x40000D80) ≡ first 0x100080 0x40000D80
-active-stays = refl
+active_stays : visit memory (first 0x100080 0x40000D80) ≡ first 0x100080 0x40000D80
+active_stays = refl

@@ -5,8 +5,8 @@ use mathlib.Core.List.{[], ◌∷◌}
 use Rattle.common.specs.declared.answer.Refusal.TheVariants.{InvalidEndpoint, QueueFull}
 use Rattle.common.specs.declared.kinds.EndpointType.TheVariants.{Bulk, Control, Interrupt}
 use Rattle.descriptor.specs.Descriptors.{terminated}
-use Rattle.descriptor.specs.Heads.{ringHead}
-use Rattle.opening.specs.Opening.{freshState, openedHeads}
+use Rattle.descriptor.specs.Heads.{ring_head}
+use Rattle.opening.specs.Opening.{fresh_state, opened_heads}
 use Rattle.settings.specs.declared.settings.Settings.{Settings}
 use Rattle.ehci.specs.declared.call.Call.{Call}
 use Rattle.ehci.specs.declared.call.Call.TheVariants.{ClearHalt, Close, Collect, OpenEndpoint, SetAddress, SetPacketSize, StartBringUp}
@@ -15,16 +15,16 @@ use Rattle.ehci.specs.declared.reply.Answered.TheVariants.{Cancelled, Done, Fail
 use Rattle.ehci.specs.declared.reply.Given.TheVariants.{Length, Next, Nothing, Slot}
 use Rattle.common.specs.declared.reads.NextRead.TheVariants.{Register}
 use Rattle.promises.specs.Runs.{History, Rows, Turn}
-use Rattle.promises.specs.Toggles.{toggleFor, toggleIn}
-use Rattle.promises.specs.Walks.{frameWalk, ringWalk, walkFrom}
-use Rattle.promises.proofs.invariants.Reached.{freshWorld}
+use Rattle.promises.specs.Toggles.{toggle_for, toggle_in}
+use Rattle.promises.specs.Walks.{frame_walk, ring_walk, walk_from}
+use Rattle.promises.proofs.invariants.Reached.{fresh_world}
 use Rattle.refutations.proofs.WrongRuns.{sized}
 
 abbrev two : Settings
 two = sized 2 2 1000
 
 abbrev rows : Rows
-rows = (freshWorld two).rows
+rows = (fresh_world two).rows
 
 abbrev turn : Call → Answered → Turn
 turn c a = record { call = c; answer = a; wrote = []; before = rows; after = rows }
@@ -40,34 +40,34 @@ abbrev odd : History
 odd = collects 0 0x80000D00 (Done (Length 0 512)) ∷ opens 0 ∷ []
 
 -- 0 at opening, 1 after an odd number, 0 after an even one; of the slot alone
-counted : (toggleIn two 0 (opens 0 ∷ []) ≡ 0) × (toggleIn two 0 odd ≡ 1) × (toggleIn two 1 odd ≡ 0)
-    × (toggleIn two 0 (collects 0 0x7FFFFFFF (Done (Length 0 1024)) ∷ odd) ≡ 0)
-unfolding toggleIn
+counted : (toggle_in two 0 (opens 0 ∷ []) ≡ 0) × (toggle_in two 0 odd ≡ 1) × (toggle_in two 1 odd ≡ 0)
+    × (toggle_in two 0 (collects 0 0x7FFFFFFF (Done (Length 0 1024)) ∷ odd) ≡ 0)
+unfolding toggle_in
 counted = (refl, refl, refl, refl)
 
 -- 10 and 11 keep it too
-passing : (toggleIn two 0 (collects 0 0xFFFFFFFF Cancelled ∷ opens 0 ∷ []) ≡ 1) × (toggleIn two 0 (collects 0 0x80000040 (Failed 0x40) ∷ opens 0 ∷ []) ≡ 1)
-unfolding toggleIn
+passing : (toggle_in two 0 (collects 0 0xFFFFFFFF Cancelled ∷ opens 0 ∷ []) ≡ 1) × (toggle_in two 0 (collects 0 0x80000040 (Failed 0x40) ∷ opens 0 ∷ []) ≡ 1)
+unfolding toggle_in
 passing = (refl, refl)
 
 -- 9 and 3 keep nothing
-waiting : (toggleIn two 0 (collects 0 0x80000D00 Pending ∷ opens 0 ∷ []) ≡ 0) × (toggleIn two 0 (collects 0 0xD00 Pending ∷ odd) ≡ 1)
-    × (toggleIn two 0 (collects 0 0xD00 (Refused InvalidEndpoint) ∷ odd) ≡ 1)
-unfolding toggleIn ringWalk frameWalk walkFrom freshState openedHeads ringHead terminated
+waiting : (toggle_in two 0 (collects 0 0x80000D00 Pending ∷ opens 0 ∷ []) ≡ 0) × (toggle_in two 0 (collects 0 0xD00 Pending ∷ odd) ≡ 1)
+    × (toggle_in two 0 (collects 0 0xD00 (Refused InvalidEndpoint) ∷ odd) ≡ 1)
+unfolding toggle_in ring_walk frame_walk walk_from fresh_state opened_heads ring_head terminated
 waiting = (refl, refl, refl)
 
 -- cleared, closed, opened anew; a clear-halt that is refused leaves it, and so do the other calls on an endpoint
-cleared : (toggleIn two 0 (turn (ClearHalt 0) (Done Nothing) ∷ odd) ≡ 0) × (toggleIn two 0 (turn (ClearHalt 1) (Done Nothing) ∷ odd) ≡ 1)
-    × (toggleIn two 0 (turn (ClearHalt 0) (Refused QueueFull) ∷ odd) ≡ 1) × (toggleIn two 0 (turn (Close 0) (Done Nothing) ∷ odd) ≡ 0)
-    × (toggleIn two 0 (opens 0 ∷ turn (Close 0) (Done Nothing) ∷ odd) ≡ 0)
-unfolding toggleIn
+cleared : (toggle_in two 0 (turn (ClearHalt 0) (Done Nothing) ∷ odd) ≡ 0) × (toggle_in two 0 (turn (ClearHalt 1) (Done Nothing) ∷ odd) ≡ 1)
+    × (toggle_in two 0 (turn (ClearHalt 0) (Refused QueueFull) ∷ odd) ≡ 1) × (toggle_in two 0 (turn (Close 0) (Done Nothing) ∷ odd) ≡ 0)
+    × (toggle_in two 0 (opens 0 ∷ turn (Close 0) (Done Nothing) ∷ odd) ≡ 0)
+unfolding toggle_in
 cleared = (refl, refl, refl, refl, refl)
 
-left : (toggleIn two 0 (turn (SetPacketSize 0 64) (Done Nothing) ∷ odd) ≡ 1) × (toggleIn two 0 (turn (SetAddress 0 5) (Done Nothing) ∷ odd) ≡ 1)
-    × (toggleIn two 0 (turn StartBringUp (Done (Next (Register 4) 0)) ∷ odd) ≡ 1)
-unfolding toggleIn
+left : (toggle_in two 0 (turn (SetPacketSize 0 64) (Done Nothing) ∷ odd) ≡ 1) × (toggle_in two 0 (turn (SetAddress 0 5) (Done Nothing) ∷ odd) ≡ 1)
+    × (toggle_in two 0 (turn StartBringUp (Done (Next (Register 4) 0)) ∷ odd) ≡ 1)
+unfolding toggle_in
 left = (refl, refl, refl)
 
 -- control has none
-used : (toggleFor Bulk 1 ≡ 1) × (toggleFor Interrupt 1 ≡ 1) × (toggleFor Control 1 ≡ 0) × (toggleFor Bulk 0 ≡ 0)
+used : (toggle_for Bulk 1 ≡ 1) × (toggle_for Interrupt 1 ≡ 1) × (toggle_for Control 1 ≡ 0) × (toggle_for Bulk 0 ≡ 0)
 used = (refl, refl, refl, refl)

@@ -4,167 +4,167 @@ use mathlib.Core.Path.{◌≡◌, refl, sym, ap, subst, ◌∙◌}
 use mathlib.Core.Bool.{true, false, false≢true}
 use mathlib.Core.List.{List, [], ◌∷◌}
 use lib.ListN.{take}
-use Rattle.register.specs.Bits.{any_of, onlyBits, with_bits, withoutBits}
-use Rattle.register.specs.Writes.{and_then, noWrites}
+use Rattle.register.specs.Bits.{any_of, only_bits, with_bits, without_bits}
+use Rattle.register.specs.Writes.{and_then, no_writes}
 use Rattle.descriptor.specs.Descriptors.{terminated}
-use Rattle.pool.specs.Chains.{fillOf, filledFrom, noChain}
-use Rattle.pool.specs.Places.{clearOf, list_of, packed}
-use Rattle.state.specs.Ranges.{inRanges, doorbellGood, interruptGood, largest, machineGood, ownerGood, restGood, slotsGood}
-use Rattle.state.specs.Slots.{slot_at, withSlot}
-use Rattle.state.specs.State.{withBell, withBoundaries, withInterrupt, withOwner}
-use Rattle.pipe.specs.Endpoints.{decoded, endpointAt, withEndpoint}
-use Rattle.opening.specs.Opening.{rowsFit}
+use Rattle.pool.specs.Chains.{fill_of, filled_from, no_chain}
+use Rattle.pool.specs.Places.{clear_of, list_of, packed}
+use Rattle.state.specs.Ranges.{in_ranges, doorbell_good, interrupt_good, largest, machine_good, owner_good, rest_good, slots_good}
+use Rattle.state.specs.Slots.{slot_at, with_slot}
+use Rattle.state.specs.State.{with_bell, with_boundaries, with_interrupt, with_owner}
+use Rattle.pipe.specs.Endpoints.{decoded, endpoint_at, with_endpoint}
+use Rattle.opening.specs.Opening.{rows_are_fit}
 use Rattle.common.specs.Rows.{put_at}
-use Rattle.controller.specs.Lent.{acceptsOf}
-use Rattle.schedule.specs.Bell.{advancedOf, fallenFrom, fallenOne, ringOf, ringWord, unlinkedOf}
-use Rattle.schedule.specs.Links.{detachOf, endedOverlay, precedesOne, predecessorOf, searchFrom}
-use Rattle.collection.specs.Unlinks.{boundedOf, unlinkOf, waitingOf}
-use Rattle.collection.specs.Calls.{cancelOf, collectOf, finishOf, freed, unlinkingOf}
-use Rattle.collection.specs.Answers.{outcomeOf}
-use Rattle.interrupt.specs.Interrupts.{acknowledgeOf, acknowledgeWrites, acknowledgedState, countedOf, drainOf, notedAfter, clearedOf}
+use Rattle.controller.specs.Lent.{accepts_of}
+use Rattle.schedule.specs.Bell.{advanced_of, fallen_from, fallen_one, ring_of, ring_word, unlinked_of}
+use Rattle.schedule.specs.Links.{detach_of, ended_overlay, precedes_one, predecessor_of, search_from}
+use Rattle.collection.specs.Unlinks.{bounded_of, unlink_of, waiting_of}
+use Rattle.collection.specs.Calls.{cancel_of, collect_of, finish_of, freed, unlinking_of}
+use Rattle.collection.specs.Answers.{outcome_of}
+use Rattle.interrupt.specs.Interrupts.{acknowledge_of, acknowledge_writes, acknowledged_state, counted_of, drain_of, noted_after, cleared_of}
 use Rattle.ehci.specs.declared.call.Call.{Call}
 use Rattle.ehci.specs.declared.call.Call.TheVariants.{Cancel, Collect, Drain}
 use Rattle.ehci.specs.declared.reply.Answered.TheVariants.{Done, Pending}
 use Rattle.ehci.specs.declared.reply.Given.TheVariants as G
 use Rattle.ehci.specs.declared.reply.Event.TheVariants as E
 use Rattle.ehci.specs.Replies.{replied}
-use Rattle.ehci.specs.Decides.{acknowledgeDecided, asksOf, cancelDecided, collectDecided, decideOf, drainDecided}
-use Rattle.ehci.specs.Door.{Applied, applyOf}
-use Rattle.promises.specs.Runs.{EveryRun, History, Machine, World, inPlain, core, historyOf, run_of, turn_of, worldOf}
+use Rattle.ehci.specs.Decides.{acknowledge_decided, asks_of, cancel_decided, collect_decided, decide_of, drain_decided}
+use Rattle.ehci.specs.Door.{Applied, apply_of}
+use Rattle.promises.specs.Runs.{EveryRun, History, Machine, World, in_plain, core, history_of, run_of, turn_of, world_of}
 use native.Mathlib.Omega.{arith}
-use Rattle.settings.specs.Settings.{apartAreas, areaGood, eachGood, noOverlap, numbersGood, settingsGood}
-use Rattle.slot.specs.Ranges.{boundaryGood, closedGood, idleGood, linkedGood, noRequest, openKind, phaseGood, slotGood, unlinkingGood, sizeGood, sizeKept, toggleKept}
-use Rattle.common.specs.Kinds.{isInterrupt}
-use Rattle.promises.specs.Walks.{ringWalk, walkFrom}
-use Rattle.promises.specs.Events.{isCollected}
-use Rattle.promises.specs.Bells.{asked, bell, collects, counted, kind_at, newestId, none, number, unlinking, unlinksOf}
+use Rattle.settings.specs.Settings.{apart_areas, area_good, each_good, no_overlap, numbers_good, settings_good}
+use Rattle.slot.specs.Ranges.{boundary_good, closed_good, idle_good, linked_good, no_request, open_kind, phase_good, slot_good, unlinking_good, size_good, size_kept, toggle_kept}
+use Rattle.common.specs.Kinds.{is_interrupt}
+use Rattle.promises.specs.Walks.{ring_walk, walk_from}
+use Rattle.promises.specs.Events.{is_collected}
+use Rattle.promises.specs.Bells.{asked, bell, collects, counted, kind_at, newest_id, none, number, unlinking, unlinks_of}
 use Rattle.promises.specs.Boundaries.{Exact, Passes, Waits, turn}
-use Rattle.promises.proofs.invariants.Reached.{freshWorld}
-use Rattle.refutations.proofs.WrongRuns.{acknowledges, linked, one, openedTwo, opening, reading, replies, small, state_of, waits}
-use Rattle.refutations.proofs.WrongUp.{Plainly, isDrain, plain-rises, up-world, upCalls}
-use Rattle.refutations.proofs.WrongCalls.{apartOne, linkedOne, submitted, submitsOne}
-use Rattle.refutations.proofs.WrongBut.{not-passed}
-use Rattle.refutations.proofs.WrongBells.{noteBefore}
-use Rattle.refutations.proofs.Scripts.{Follows, Script, arrives, calls_of, is-told, turnsOf}
+use Rattle.promises.proofs.invariants.Reached.{fresh_world}
+use Rattle.refutations.proofs.WrongRuns.{acknowledges, linked, one, opened_two, opening, reading, replies, small, state_of, waits}
+use Rattle.refutations.proofs.WrongUp.{Plainly, is_drain, plain_rises, up_world, up_calls}
+use Rattle.refutations.proofs.WrongCalls.{apart_one, linked_one, submitted, submits_one}
+use Rattle.refutations.proofs.WrongBut.{not_passed}
+use Rattle.refutations.proofs.WrongBells.{note_before}
+use Rattle.refutations.proofs.Scripts.{Follows, Script, arrives, calls_of, is_told, turns_of}
 
 -- no advance is ever counted
-abbrev pub never : Machine inPlain
-never w c = core (noteBefore (isDrain c) 0 w) c
+abbrev pub never : Machine in_plain
+never w c = core (note_before (is_drain c) 0 w) c
 
-never-plainly : Plainly never
-never-plainly w c d r n = rw d
+never_plainly : Plainly never
+never_plainly w c d r n = rw d
 
-states-good : (inRanges (one 0 0 0 0 0 linked) ≡ true) × (inRanges (one 0 0 0 1 1 (waits 1)) ≡ true) × (inRanges (one 0x20 0x20 0 1 1 (waits 1)) ≡ true) × (inRanges (one 0 0x20 0 1 1 (waits 1)) ≡ true)
-unfolding state_of inRanges restGood machineGood interruptGood doorbellGood ownerGood largest slotsGood slotGood sizeKept toggleKept sizeGood phaseGood closedGood idleGood linkedGood unlinkingGood boundaryGood openKind noRequest settingsGood numbersGood eachGood noOverlap areaGood apartAreas slot_at withoutBits
-states-good = (refl, refl, refl, refl)
+states_good_lem : (in_ranges (one 0 0 0 0 0 linked) ≡ true) × (in_ranges (one 0 0 0 1 1 (waits 1)) ≡ true) × (in_ranges (one 0x20 0x20 0 1 1 (waits 1)) ≡ true) × (in_ranges (one 0 0x20 0 1 1 (waits 1)) ≡ true)
+unfolding state_of in_ranges rest_good machine_good interrupt_good doorbell_good owner_good largest slots_good slot_good size_kept toggle_kept size_good phase_good closed_good idle_good linked_good unlinking_good boundary_good open_kind no_request settings_good numbers_good each_good no_overlap area_good apart_areas slot_at without_bits
+states_good_lem = (refl, refl, refl, refl)
 
 abbrev w : World
-w = freshWorld small
+w = fresh_world small
 
-pub leaves : core (linkedOne (one 0 0 0 0 0 linked)) (Cancel 0 1 (reading 0x80031)) ≡ replies (Done G.Nothing) (and_then noWrites 0 (ringWord 0x80031)) (apartOne (one 0 0 0 1 1 (waits 1)))
-unfolding applyOf decideOf asksOf rowsFit replied fillOf filledFrom noChain packed list_of cancelDecided cancelOf acceptsOf endpointAt decoded slot_at unlinkOf waitingOf boundedOf unlinkedOf ringOf detachOf predecessorOf searchFrom precedesOne withEndpoint withSlot withBell state_of
-leaves = rw states-good.0
+pub leaves : core (linked_one (one 0 0 0 0 0 linked)) (Cancel 0 1 (reading 0x80031)) ≡ replies (Done G.Nothing) (and_then no_writes 0 (ring_word 0x80031)) (apart_one (one 0 0 0 1 1 (waits 1)))
+unfolding apply_of decide_of asks_of rows_are_fit replied fill_of filled_from no_chain packed list_of cancel_decided cancel_of accepts_of endpoint_at decoded slot_at unlink_of waiting_of bounded_of unlinked_of ring_of detach_of predecessor_of search_from precedes_one with_endpoint with_slot with_bell state_of
+leaves = rw states_good_lem.0
 
-pub hears : core (apartOne (one 0 0 0 1 1 (waits 1))) (acknowledges 0x20) ≡ replies (Done G.Yes) (acknowledgeWrites 0x20 0x27 true true) (apartOne (one 0x20 0x20 1 1 1 (waits 1)))
-unfolding applyOf decideOf asksOf rowsFit replied fillOf filledFrom noChain packed list_of acknowledgeDecided acknowledgeOf onlyBits with_bits any_of acknowledgedState notedAfter withInterrupt withBell state_of
-hears = rw states-good.1
+pub hears : core (apart_one (one 0 0 0 1 1 (waits 1))) (acknowledges 0x20) ≡ replies (Done G.Yes) (acknowledge_writes 0x20 0x27 true true) (apart_one (one 0x20 0x20 1 1 1 (waits 1)))
+unfolding apply_of decide_of asks_of rows_are_fit replied fill_of filled_from no_chain packed list_of acknowledge_decided acknowledge_of only_bits with_bits any_of acknowledged_state noted_after with_interrupt with_bell state_of
+hears = rw states_good_lem.1
 
-passes : core (apartOne (one 0x20 0x20 0 1 1 (waits 1))) (Drain 0x80031) ≡ replies (Done (G.Event E.TransferActivity)) noWrites (apartOne (one 0 0x20 0 1 1 (waits 1)))
-unfolding applyOf decideOf asksOf rowsFit replied fillOf filledFrom noChain packed list_of drainDecided drainOf any_of withoutBits countedOf clearedOf withInterrupt withBell withBoundaries advancedOf ringOf fallenFrom fallenOne state_of
-passes = rw states-good.2
+passes : core (apart_one (one 0x20 0x20 0 1 1 (waits 1))) (Drain 0x80031) ≡ replies (Done (G.Event E.TransferActivity)) no_writes (apart_one (one 0 0x20 0 1 1 (waits 1)))
+unfolding apply_of decide_of asks_of rows_are_fit replied fill_of filled_from no_chain packed list_of drain_decided drain_of any_of without_bits counted_of cleared_of with_interrupt with_bell with_boundaries advanced_of ring_of fallen_from fallen_one state_of
+passes = rw states_good_lem.2
 
-waits-on : core (apartOne (one 0 0x20 0 1 1 (waits 1))) (Collect 0 1 (reading 0x80031)) ≡ replies Pending noWrites (apartOne (one 0 0x20 0 1 1 (waits 1)))
-unfolding applyOf decideOf asksOf rowsFit replied fillOf filledFrom noChain packed list_of collectDecided collectOf acceptsOf endpointAt decoded slot_at unlinkingOf finishOf outcomeOf freed clearOf endedOverlay put_at terminated withOwner withEndpoint withSlot state_of
-waits-on = rw states-good.3
+waits_on : core (apart_one (one 0 0x20 0 1 1 (waits 1))) (Collect 0 1 (reading 0x80031)) ≡ replies Pending no_writes (apart_one (one 0 0x20 0 1 1 (waits 1)))
+unfolding apply_of decide_of asks_of rows_are_fit replied fill_of filled_from no_chain packed list_of collect_decided collect_of accepts_of endpoint_at decoded slot_at unlinking_of finish_of outcome_of freed clear_of ended_overlay put_at terminated with_owner with_endpoint with_slot state_of
+waits_on = rw states_good_lem.3
 
-never-counts : never (apartOne (one 0x20 0x20 1 1 1 (waits 1))) (Drain 0x80031) ≡ replies (Done (G.Event E.TransferActivity)) noWrites (apartOne (one 0 0x20 0 1 1 (waits 1)))
-unfolding state_of withBell
-never-counts = passes
+never_counts : never (apart_one (one 0x20 0x20 1 1 1 (waits 1))) (Drain 0x80031) ≡ replies (Done (G.Event E.TransferActivity)) no_writes (apart_one (one 0 0x20 0 1 1 (waits 1)))
+unfolding state_of with_bell
+never_counts = passes
 
 -- one request is unlinked, which rings
-abbrev pub leavesOne : Script
-leavesOne = (Cancel 0 1 (reading 0x80031), replies (Done G.Nothing) (and_then noWrites 0 (ringWord 0x80031)) (apartOne (one 0 0 0 1 1 (waits 1)))) ∷ submitsOne
+abbrev pub leaves_one : Script
+leaves_one = (Cancel 0 1 (reading 0x80031), replies (Done G.Nothing) (and_then no_writes 0 (ring_word 0x80031)) (apart_one (one 0 0 0 1 1 (waits 1)))) ∷ submits_one
 
 -- the answer
-abbrev pub hearsOne : Script
-hearsOne = (acknowledges 0x20, replies (Done G.Yes) (acknowledgeWrites 0x20 0x27 true true) (apartOne (one 0x20 0x20 1 1 1 (waits 1)))) ∷ leavesOne
+abbrev pub hears_one : Script
+hears_one = (acknowledges 0x20, replies (Done G.Yes) (acknowledge_writes 0x20 0x27 true true) (apart_one (one 0x20 0x20 1 1 1 (waits 1)))) ∷ leaves_one
 
-abbrev drainsOne : Script
-drainsOne = (Drain 0x80031, replies (Done (G.Event E.TransferActivity)) noWrites (apartOne (one 0 0x20 0 1 1 (waits 1)))) ∷ hearsOne
+abbrev drains_one : Script
+drains_one = (Drain 0x80031, replies (Done (G.Event E.TransferActivity)) no_writes (apart_one (one 0 0x20 0 1 1 (waits 1)))) ∷ hears_one
 
 abbrev c1 : List Call
-c1 = calls_of upCalls submitsOne
+c1 = calls_of up_calls submits_one
 
 abbrev answered : List Call
-answered = calls_of upCalls drainsOne
+answered = calls_of up_calls drains_one
 
-up : worldOf never w upCalls ≡ openedTwo
-up = up-world never (plain-rises never never-plainly)
+up : world_of never w up_calls ≡ opened_two
+up = up_world never (plain_rises never never_plainly)
 
-follows : Follows never openedTwo drainsOne
-follows = (never-counts, (hears, (leaves, (submitted, tt))))
+follows : Follows never opened_two drains_one
+follows = (never_counts, (hears, (leaves, (submitted, tt))))
 
-w1 : worldOf never w c1 ≡ linkedOne (one 0 0 0 0 0 linked)
-w1 = arrives never w upCalls openedTwo up submitsOne (submitted, tt)
+w1 : world_of never w c1 ≡ linked_one (one 0 0 0 0 0 linked)
+w1 = arrives never w up_calls opened_two up submits_one (submitted, tt)
 
-w4 : worldOf never w answered ≡ apartOne (one 0 0x20 0 1 1 (waits 1))
-w4 = arrives never w upCalls openedTwo up drainsOne follows
+w4 : world_of never w answered ≡ apart_one (one 0 0x20 0 1 1 (waits 1))
+w4 = arrives never w up_calls opened_two up drains_one follows
 
 abbrev told : History
-told = turnsOf openedTwo (historyOf never w upCalls) drainsOne
+told = turns_of opened_two (history_of never w up_calls) drains_one
 
-is-so : historyOf never w answered ≡ told
-is-so = is-told never w upCalls openedTwo up drainsOne follows
+is_so : history_of never w answered ≡ told
+is_so = is_told never w up_calls opened_two up drains_one follows
 
 -- by the history its advance is counted
-by-history : (isInterrupt (kind_at small 0 told) ≡ false) × (unlinking small 0 told ≡ true) × (newestId small 0 told ≡ 1) × (number small 0 told ≡ 1) × (counted small told ≡ 1)
-unfolding kind_at unlinking newestId number counted asked bell historyOf ringWalk walkFrom noWrites and_then ringWord with_bits acknowledgeWrites
-by-history = (refl, refl, refl, refl, refl)
+by_history : (is_interrupt (kind_at small 0 told) ≡ false) × (unlinking small 0 told ≡ true) × (newest_id small 0 told ≡ 1) × (number small 0 told ≡ 1) × (counted small told ≡ 1)
+unfolding kind_at unlinking newest_id number counted asked bell history_of ring_walk walk_from no_writes and_then ring_word with_bits acknowledge_writes
+by_history = (refl, refl, refl, refl, refl)
 
-pub never-exact : EveryRun Exact never → ⊥
-never-exact exact =
-    let h = historyOf never w answered in
-    let kind : isInterrupt (kind_at small 0 h) ≡ false = ap (λ (x : History). isInterrupt (kind_at small 0 x)) is-so ∙ by-history.0 in
-    let off : unlinking small 0 h ≡ true = ap (unlinking small 0) is-so ∙ by-history.1 in
-    let id : 1 ≡ newestId small 0 h = sym (ap (newestId small 0) is-so ∙ by-history.2) in
-    let reached : number small 0 h ≤ counted small h = omega (arith, ap (number small 0) is-so ∙ by-history.3, ap (counted small) is-so ∙ by-history.4) in
+pub never_exact : EveryRun Exact never → ⊥
+never_exact exact =
+    let h = history_of never w answered in
+    let kind : is_interrupt (kind_at small 0 h) ≡ false = ap (λ (x : History). is_interrupt (kind_at small 0 x)) is_so ∙ by_history.0 in
+    let off : unlinking small 0 h ≡ true = ap (unlinking small 0) is_so ∙ by_history.1 in
+    let id : 1 ≡ newest_id small 0 h = sym (ap (newest_id small 0) is_so ∙ by_history.2) in
+    let reached : number small 0 h ≤ counted small h = omega (arith, ap (number small 0) is_so ∙ by_history.3, ap (counted small) is_so ∙ by_history.4) in
     let done = ((exact small w opening answered 0 1 (reading 0x80031)).0 kind).1 (off, id, reached) in
-    let pending : isCollected (never (worldOf never w answered) (Collect 0 1 (reading 0x80031))).reply.answer ≡ false
-    = ap (λ (x : World). isCollected (never x (Collect 0 1 (reading 0x80031))).reply.answer) w4 ∙ ap (λ (a : Applied). isCollected a.reply.answer) waits-on in
+    let pending : is_collected (never (world_of never w answered) (Collect 0 1 (reading 0x80031))).reply.answer ≡ false
+    = ap (λ (x : World). is_collected (never x (Collect 0 1 (reading 0x80031))).reply.answer) w4 ∙ ap (λ (a : Applied). is_collected a.reply.answer) waits_on in
     false≢true (sym pending ∙ done)
 
 -- ---- order 13: n + 1 advances are counted, and its request does not pass
 
-leaves-ring : unlinksOf small 0 (turn_of (linkedOne (one 0 0 0 0 0 linked)).rows (Cancel 0 1 (reading 0x80031)) (replies (Done G.Nothing) (and_then noWrites 0 (ringWord 0x80031)) (apartOne (one 0 0 0 1 1 (waits 1))))) ≡ true
-unfolding ringWalk walkFrom
-leaves-ring = refl
+leaves_ring_lem : unlinks_of small 0 (turn_of (linked_one (one 0 0 0 0 0 linked)).rows (Cancel 0 1 (reading 0x80031)) (replies (Done G.Nothing) (and_then no_writes 0 (ring_word 0x80031)) (apart_one (one 0 0 0 1 1 (waits 1))))) ≡ true
+unfolding ring_walk walk_from
+leaves_ring_lem = refl
 
 abbrev first : History
-first = turnsOf openedTwo (historyOf never w upCalls) submitsOne
+first = turns_of opened_two (history_of never w up_calls) submits_one
 
-none-owed : asked small first ≡ counted small first + 0
-unfolding counted asked historyOf
-none-owed = refl
+none_owed : asked small first ≡ counted small first + 0
+unfolding counted asked history_of
+none_owed = refl
 
-none-counted : counted small first ≡ 0
-unfolding counted historyOf
-none-counted = refl
+none_counted : counted small first ≡ 0
+unfolding counted history_of
+none_counted = refl
 
-begun : historyOf never w c1 ≡ first
-begun = is-told never w upCalls openedTwo up submitsOne (submitted, tt)
+begun : history_of never w c1 ≡ first
+begun = is_told never w up_calls opened_two up submits_one (submitted, tt)
 
-not-collectable : Passes small (run_of never w) answered 0 → ⊥
-unfolding state_of endpointAt decoded slot_at
-not-collectable p = not-passed (apartOne (one 0 0x20 0 1 1 (waits 1))) 0 p.1 p.2 refl (subst (λ (x : World). isCollected (never x (Collect 0 p.1 p.2)).reply.answer ≡ true) w4 p.3)
+not_collectable : Passes small (run_of never w) answered 0 → ⊥
+unfolding state_of endpoint_at decoded slot_at
+not_collectable p = not_passed (apart_one (one 0 0x20 0 1 1 (waits 1))) 0 p.1 p.2 refl (subst (λ (x : World). is_collected (never x (Collect 0 p.1 p.2)).reply.answer ≡ true) w4 p.3)
 
-pub never-waits : EveryRun Waits never → ⊥
-never-waits waits =
+pub never_waits : EveryRun Waits never → ⊥
+never_waits waits =
     let c : Call = Cancel 0 1 (reading 0x80031) in
-    let goes : unlinksOf small 0 (turn small (run_of never w) c1 c) ≡ true
-    = ap (λ (x : World). unlinksOf small 0 (turn_of x.rows c (never x c))) w1
-    ∙ ap (λ (a : Applied). unlinksOf small 0 (turn_of (linkedOne (one 0 0 0 0 0 linked)).rows c a)) leaves ∙ leaves-ring in
-    let owed : asked small (historyOf never w c1) ≡ counted small (historyOf never w c1) + 0 = subst (λ (h : History). asked small h ≡ counted small h + 0) (sym begun) none-owed in
-    let uncollected : none (collects small 0) (take 2 (historyOf never w answered)) = subst (λ (h : History). none (collects small 0) (take 2 h)) (sym is-so) (refl, (refl, tt)) in
-    not-collectable
+    let goes : unlinks_of small 0 (turn small (run_of never w) c1 c) ≡ true
+    = ap (λ (x : World). unlinks_of small 0 (turn_of x.rows c (never x c))) w1
+    ∙ ap (λ (a : Applied). unlinks_of small 0 (turn_of (linked_one (one 0 0 0 0 0 linked)).rows c a)) leaves ∙ leaves_ring_lem in
+    let owed : asked small (history_of never w c1) ≡ counted small (history_of never w c1) + 0 = subst (λ (h : History). asked small h ≡ counted small h + 0) (sym begun) none_owed in
+    let uncollected : none (collects small 0) (take 2 (history_of never w answered)) = subst (λ (h : History). none (collects small 0) (take 2 h)) (sym is_so) (refl, (refl, tt)) in
+    not_collectable
     (((waits small w opening c1 (Drain 0x80031 ∷ acknowledges 0x20 ∷ []) c 0 0 goes owed).1 uncollected).1
-    (omega (arith, ap (counted small) begun ∙ none-counted, ap (counted small) is-so ∙ by-history.4)))
+    (omega (arith, ap (counted small) begun ∙ none_counted, ap (counted small) is_so ∙ by_history.4)))

@@ -7,174 +7,174 @@ use mathlib.Core.Path.{◌≡◌, refl, sym, ap, subst, ◌∙◌}
 use native.Mathlib.Omega.{arith}
 use lib.Dec.{ltb}
 use lib.ListN.{replicate}
-use Rattle.register.specs.Bits.{with_bits, withoutBits}
-use Rattle.register.specs.Writes.{and_then, noWrites, writeOf}
+use Rattle.register.specs.Bits.{with_bits, without_bits}
+use Rattle.register.specs.Writes.{and_then, no_writes, write_of}
 use Rattle.state.specs.Slots.{slot_at}
-use Rattle.state.specs.State.{withBoundaries}
-use Rattle.state.specs.Ranges.{inRanges}
-use Rattle.pipe.specs.Endpoints.{decoded, endpointAt}
-use Rattle.opening.specs.Opening.{rowsFit}
-use Rattle.controller.specs.Lent.{acceptsOf}
-use Rattle.collection.specs.Answers.{outcomeOf}
-use Rattle.collection.specs.Calls.{collectOf, finishOf, unlinkingOf}
-use Rattle.schedule.specs.Bell.{commandWord, ringWord}
+use Rattle.state.specs.State.{with_boundaries}
+use Rattle.state.specs.Ranges.{in_ranges}
+use Rattle.pipe.specs.Endpoints.{decoded, endpoint_at}
+use Rattle.opening.specs.Opening.{rows_are_fit}
+use Rattle.controller.specs.Lent.{accepts_of}
+use Rattle.collection.specs.Answers.{outcome_of}
+use Rattle.collection.specs.Calls.{collect_of, finish_of, unlinking_of}
+use Rattle.schedule.specs.Bell.{command_word, ring_word}
 use Rattle.ehci.specs.declared.call.Call.{Call}
 use Rattle.ehci.specs.declared.call.Call.TheVariants.{Cancel, Collect, Drain}
 use Rattle.ehci.specs.declared.reply.Answered.TheVariants.{Done}
 use Rattle.ehci.specs.declared.reply.Event.TheVariants as E
 use Rattle.ehci.specs.declared.reply.Given.TheVariants as G
 use Rattle.ehci.specs.Replies.{replied}
-use Rattle.ehci.specs.Decides.{asksOf, collectDecided, decideOf}
-use Rattle.ehci.specs.Door.{Applied, applied, applyOf}
-use Rattle.promises.specs.Runs.{EveryRun, History, Machine, World, inPlain, core, historyOf, run_of, worldOf}
-use Rattle.promises.specs.Walks.{ringWalk, walkFrom}
-use Rattle.promises.specs.Events.{isCollected}
-use Rattle.promises.specs.Bells.{asked, bell, counted, isUp, linked as isLinked, unlinking}
+use Rattle.ehci.specs.Decides.{asks_of, collect_decided, decide_of}
+use Rattle.ehci.specs.Door.{Applied, applied, apply_of}
+use Rattle.promises.specs.Runs.{EveryRun, History, Machine, World, in_plain, core, history_of, run_of, world_of}
+use Rattle.promises.specs.Walks.{ring_walk, walk_from}
+use Rattle.promises.specs.Events.{is_collected}
+use Rattle.promises.specs.Bells.{asked, bell, counted, is_up, linked as is_linked, unlinking}
 use Rattle.promises.specs.Boundaries.{OnePasses, Orderly, Passes, UpExactly}
 use Rattle.promises.specs.Registers.{Access}
-use Rattle.promises.proofs.invariants.Reached.{freshWorld}
-use Rattle.refutations.proofs.WrongRuns.{good, linked, one, openedTwo, opening, reading, replies, small, state_of, submits, two, waits}
-use Rattle.refutations.proofs.WrongUp.{up-world, upCalls}
-use Rattle.refutations.proofs.WrongCalls.{apartOne, apartTwo, drained-first, heard-two, linkedOne, submitted, submitted-two, unlinked-first, unlinked-second, hearsTwo, submitsOne}
-use Rattle.refutations.proofs.WrongBut.{but, but-rises, isDrains, isLeaves, isSubmits, not-passed, rewriting}
+use Rattle.promises.proofs.invariants.Reached.{fresh_world}
+use Rattle.refutations.proofs.WrongRuns.{good, linked, one, opened_two, opening, reading, replies, small, state_of, submits, two, waits}
+use Rattle.refutations.proofs.WrongUp.{up_world, up_calls}
+use Rattle.refutations.proofs.WrongCalls.{apart_one, apart_two, drained_first, heard_two, linked_one, submitted, submitted_two, unlinked_first, unlinked_second, hears_two, submits_one}
+use Rattle.refutations.proofs.WrongBut.{but, but_rises, is_drains, is_leaves, is_submits, not_passed, rewriting}
 use Rattle.refutations.proofs.WrongNever.{leaves}
-use Rattle.refutations.proofs.Scripts.{Follows, Script, arrives, calls_of, end_of, is-told, turnsOf}
+use Rattle.refutations.proofs.Scripts.{Follows, Script, arrives, calls_of, end_of, is_told, turns_of}
 
 abbrev w : World
-w = freshWorld small
+w = fresh_world small
 
 -- ---- an unlink does not ring
 
 abbrev hushed : Applied → Applied
-hushed a = rewriting (λ y. writeOf y.offset 0) a
+hushed a = rewriting (λ y. write_of y.offset 0) a
 
-abbrev pub mute : Machine inPlain
-mute = but (λ x a. isLeaves a) (λ x a. hushed a)
+abbrev pub mute : Machine in_plain
+mute = but (λ x a. is_leaves a) (λ x a. hushed a)
 
-mute-up : worldOf mute w upCalls ≡ openedTwo
-mute-up = up-world mute (but-rises (λ (x : World) (a : Access). isLeaves a) (λ (x : World) (a : Applied). hushed a) (λ x. refl) (λ x n. refl) (λ x v. refl))
+mute_up_lem : world_of mute w up_calls ≡ opened_two
+mute_up_lem = up_world mute (but_rises (λ (x : World) (a : Access). is_leaves a) (λ (x : World) (a : Applied). hushed a) (λ x. refl) (λ x n. refl) (λ x v. refl))
 
-mute-leaves : mute (linkedOne (one 0 0 0 0 0 linked)) (Cancel 0 1 (reading 0x80031)) ≡ hushed (replies (Done G.Nothing) (and_then noWrites 0 (ringWord 0x80031)) (apartOne (one 0 0 0 1 1 (waits 1))))
-mute-leaves = ap hushed leaves
+mute_leaves : mute (linked_one (one 0 0 0 0 0 linked)) (Cancel 0 1 (reading 0x80031)) ≡ hushed (replies (Done G.Nothing) (and_then no_writes 0 (ring_word 0x80031)) (apart_one (one 0 0 0 1 1 (waits 1))))
+mute_leaves = ap hushed leaves
 
-abbrev muteRun : Script
-muteRun = (Cancel 0 1 (reading 0x80031), hushed (replies (Done G.Nothing) (and_then noWrites 0 (ringWord 0x80031)) (apartOne (one 0 0 0 1 1 (waits 1))))) ∷ submitsOne
+abbrev mute_run : Script
+mute_run = (Cancel 0 1 (reading 0x80031), hushed (replies (Done G.Nothing) (and_then no_writes 0 (ring_word 0x80031)) (apart_one (one 0 0 0 1 1 (waits 1))))) ∷ submits_one
 
-abbrev muteUp : History
-muteUp = historyOf mute w upCalls
+abbrev mute_up : History
+mute_up = history_of mute w up_calls
 
-abbrev muteTold : History
-muteTold = turnsOf openedTwo muteUp muteRun
+abbrev mute_told : History
+mute_told = turns_of opened_two mute_up mute_run
 
-mute-told : historyOf mute w (calls_of upCalls muteRun) ≡ muteTold
-mute-told = is-told mute w upCalls openedTwo mute-up muteRun (mute-leaves, (submitted, tt))
+mute_told_lem : history_of mute w (calls_of up_calls mute_run) ≡ mute_told
+mute_told_lem = is_told mute w up_calls opened_two mute_up_lem mute_run (mute_leaves, (submitted, tt))
 
 -- the bell is as it was on the way up, and an unlink is unanswered
-still-quiet : bell small muteTold ≡ bell small muteUp
-unfolding bell ringWalk walkFrom and_then noWrites commandWord with_bits withoutBits
-still-quiet = refl
+still_quiet : bell small mute_told ≡ bell small mute_up
+unfolding bell ring_walk walk_from and_then no_writes command_word with_bits without_bits
+still_quiet = refl
 
-one-owed : ltb (counted small muteTold) (asked small muteTold) ≡ true
-unfolding counted asked historyOf ringWalk walkFrom
-one-owed = refl
+one_owed : ltb (counted small mute_told) (asked small mute_told) ≡ true
+unfolding counted asked history_of ring_walk walk_from
+one_owed = refl
 
-none-owed : ltb (counted small muteUp) (asked small muteUp) ≡ false
-unfolding counted asked historyOf
-none-owed = refl
+none_owed : ltb (counted small mute_up) (asked small mute_up) ≡ false
+unfolding counted asked history_of
+none_owed = refl
 
-pub mute-up-exactly : EveryRun UpExactly mute → ⊥
-mute-up-exactly up =
-    let before : isUp (bell small muteUp) ≡ false = (up small w opening upCalls).2 ∙ none-owed in
-    let after : isUp (bell small muteTold) ≡ true = subst (λ (h : History). isUp (bell small h) ≡ ltb (counted small h) (asked small h)) mute-told (up small w opening (calls_of upCalls muteRun)).2 ∙ one-owed in
-    true≢false (sym after ∙ ap isUp still-quiet ∙ before)
+pub mute_up_exactly : EveryRun UpExactly mute → ⊥
+mute_up_exactly up =
+    let before : is_up (bell small mute_up) ≡ false = (up small w opening up_calls).2 ∙ none_owed in
+    let after : is_up (bell small mute_told) ≡ true = subst (λ (h : History). is_up (bell small h) ≡ ltb (counted small h) (asked small h)) mute_told_lem (up small w opening (calls_of up_calls mute_run)).2 ∙ one_owed in
+    true≢false (sym after ∙ ap is_up still_quiet ∙ before)
 
 -- ---- every submit is answered 0
 
-abbrev pub grants : Machine inPlain
-grants = but (λ x a. isSubmits a) (λ x a. replies (Done (G.Id 1)) noWrites x)
+abbrev pub grants : Machine in_plain
+grants = but (λ x a. is_submits a) (λ x a. replies (Done (G.Id 1)) no_writes x)
 
-pub grants-orderly : EveryRun Orderly grants → ⊥
-unfolding historyOf worldOf isLinked
-grants-orderly orderly = true≢false ((orderly small w opening (submits 0 0x500000 ∷ []) (submits 0 0x500000) 0).2 refl).0
+pub grants_orderly : EveryRun Orderly grants → ⊥
+unfolding history_of world_of is_linked
+grants_orderly orderly = true≢false ((orderly small w opening (submits 0 0x500000 ∷ []) (submits 0 0x500000) 0).2 refl).0
 
 -- ---- one count lets every request pass
 
 abbrev loosened : Applied → Applied
 loosened a =
-    applied (record { state = withBoundaries a.reply.state (replicate 32 0); answer = a.reply.answer; writes = a.reply.writes }) a.pool a.heads a.frames a.setups
+    applied (record { state = with_boundaries a.reply.state (replicate 32 0); answer = a.reply.answer; writes = a.reply.writes }) a.pool a.heads a.frames a.setups
 
-abbrev pub lax : Machine inPlain
-lax = but (λ x a. isDrains a) (λ x a. loosened a)
+abbrev pub lax : Machine in_plain
+lax = but (λ x a. is_drains a) (λ x a. loosened a)
 
-lax-up : worldOf lax w upCalls ≡ openedTwo
-lax-up = up-world lax (but-rises (λ (x : World) (a : Access). isDrains a) (λ (x : World) (a : Applied). loosened a) (λ x. refl) (λ x n. refl) (λ x v. refl))
+lax_up : world_of lax w up_calls ≡ opened_two
+lax_up = up_world lax (but_rises (λ (x : World) (a : Access). is_drains a) (λ (x : World) (a : Applied). loosened a) (λ x. refl) (λ x n. refl) (λ x v. refl))
 
 -- both wait for nothing any more
 abbrev loose : World
-loose = apartTwo (two 0x20 0x24 0 1 1 (waits 0) (waits 0))
+loose = apart_two (two 0x20 0x24 0 1 1 (waits 0) (waits 0))
 
-lax-drains : lax (apartTwo (two 0x24 0x24 1 1 2 (waits 1) (waits 2))) (Drain 0x80031) ≡ replies (Done (G.Event E.PortChange)) (and_then noWrites 0 (ringWord 0x80031)) loose
-unfolding withBoundaries state_of
-lax-drains = ap loosened drained-first
+lax_drains : lax (apart_two (two 0x24 0x24 1 1 2 (waits 1) (waits 2))) (Drain 0x80031) ≡ replies (Done (G.Event E.PortChange)) (and_then no_writes 0 (ring_word 0x80031)) loose
+unfolding with_boundaries state_of
+lax_drains = ap loosened drained_first
 
 abbrev loosens : Script
-loosens = (Drain 0x80031, replies (Done (G.Event E.PortChange)) (and_then noWrites 0 (ringWord 0x80031)) loose) ∷ hearsTwo
+loosens = (Drain 0x80031, replies (Done (G.Event E.PortChange)) (and_then no_writes 0 (ring_word 0x80031)) loose) ∷ hears_two
 
-follows : Follows lax openedTwo loosens
-follows = (lax-drains, (heard-two, (unlinked-second, (unlinked-first, (submitted-two, (submitted, tt))))))
+follows : Follows lax opened_two loosens
+follows = (lax_drains, (heard_two, (unlinked_second, (unlinked_first, (submitted_two, (submitted, tt))))))
 
 abbrev c5 : List Call
-c5 = calls_of upCalls hearsTwo
+c5 = calls_of up_calls hears_two
 
 abbrev c6 : List Call
-c6 = calls_of upCalls loosens
+c6 = calls_of up_calls loosens
 
-w5 : worldOf lax w c5 ≡ end_of openedTwo hearsTwo
-w5 = arrives lax w upCalls openedTwo lax-up hearsTwo follows.1
+w5 : world_of lax w c5 ≡ end_of opened_two hears_two
+w5 = arrives lax w up_calls opened_two lax_up hears_two follows.1
 
-w6 : worldOf lax w c6 ≡ loose
-w6 = arrives lax w upCalls openedTwo lax-up loosens follows
+w6 : world_of lax w c6 ≡ loose
+w6 = arrives lax w up_calls opened_two lax_up loosens follows
 
 -- ---- who passes
 
 abbrev turns : History
-turns = turnsOf openedTwo (historyOf lax w upCalls) loosens
+turns = turns_of opened_two (history_of lax w up_calls) loosens
 
-told : historyOf lax w c6 ≡ turns
-told = is-told lax w upCalls openedTwo lax-up loosens follows
+told : history_of lax w c6 ≡ turns
+told = is_told lax w up_calls opened_two lax_up loosens follows
 
 both_out : (unlinking small 0 turns ≡ true) × (unlinking small 1 turns ≡ true)
-unfolding unlinking ringWalk walkFrom
+unfolding unlinking ring_walk walk_from
 both_out = (refl, refl)
 
-loose-good : inRanges (two 0x20 0x24 0 1 1 (waits 0) (waits 0)) ≡ true
-loose-good = good 15
+loose_good : in_ranges (two 0x20 0x24 0 1 1 (waits 0) (waits 0)) ≡ true
+loose_good = good 15
 
-both-collected : (isCollected (core loose (Collect 0 1 (reading 0x80031))).reply.answer ≡ true) × (isCollected (core loose (Collect 1 1 (reading 0x80031))).reply.answer ≡ true)
-unfolding applyOf decideOf asksOf rowsFit replied collectDecided collectOf acceptsOf endpointAt decoded slot_at unlinkingOf finishOf outcomeOf state_of
-both-collected = (rw loose-good, rw loose-good)
+both_collected : (is_collected (core loose (Collect 0 1 (reading 0x80031))).reply.answer ≡ true) × (is_collected (core loose (Collect 1 1 (reading 0x80031))).reply.answer ≡ true)
+unfolding apply_of decide_of asks_of rows_are_fit replied collect_decided collect_of accepts_of endpoint_at decoded slot_at unlinking_of finish_of outcome_of state_of
+both_collected = (rw loose_good, rw loose_good)
 
 not_first : Passes small (run_of lax w) c5 0 → ⊥
-unfolding state_of endpointAt decoded slot_at
-not_first p = not-passed (apartTwo (two 0x24 0x24 1 1 2 (waits 1) (waits 2))) 0 p.1 p.2 refl (subst (λ (x : World). isCollected (lax x (Collect 0 p.1 p.2)).reply.answer ≡ true) w5 p.3)
+unfolding state_of endpoint_at decoded slot_at
+not_first p = not_passed (apart_two (two 0x24 0x24 1 1 2 (waits 1) (waits 2))) 0 p.1 p.2 refl (subst (λ (x : World). is_collected (lax x (Collect 0 p.1 p.2)).reply.answer ≡ true) w5 p.3)
 
-not-second : Passes small (run_of lax w) c5 1 → ⊥
-unfolding state_of endpointAt decoded slot_at
-not-second p = not-passed (apartTwo (two 0x24 0x24 1 1 2 (waits 1) (waits 2))) 1 p.1 p.2 refl (subst (λ (x : World). isCollected (lax x (Collect 1 p.1 p.2)).reply.answer ≡ true) w5 p.3)
+not_second : Passes small (run_of lax w) c5 1 → ⊥
+unfolding state_of endpoint_at decoded slot_at
+not_second p = not_passed (apart_two (two 0x24 0x24 1 1 2 (waits 1) (waits 2))) 1 p.1 p.2 refl (subst (λ (x : World). is_collected (lax x (Collect 1 p.1 p.2)).reply.answer ≡ true) w5 p.3)
 
-pub lax-passes : EveryRun OnePasses lax → ⊥
-lax-passes one =
+pub lax_passes : EveryRun OnePasses lax → ⊥
+lax_passes one =
     let first : Passes small (run_of lax w) c6 0 = (
       ap (unlinking small 0) told ∙ both_out.0,
       1,
       reading 0x80031,
-      ap (λ (x : World). isCollected (lax x (Collect 0 1 (reading 0x80031))).reply.answer) w6 ∙ both-collected.0,
+      ap (λ (x : World). is_collected (lax x (Collect 0 1 (reading 0x80031))).reply.answer) w6 ∙ both_collected.0,
     ) in
     let second : Passes small (run_of lax w) c6 1 = (
       ap (unlinking small 1) told ∙ both_out.1,
       1,
       reading 0x80031,
-      ap (λ (x : World). isCollected (lax x (Collect 1 1 (reading 0x80031))).reply.answer) w6 ∙ both-collected.1,
+      ap (λ (x : World). is_collected (lax x (Collect 1 1 (reading 0x80031))).reply.answer) w6 ∙ both_collected.1,
     ) in
-    let same : ◌≡◌ {A = ℕ} 0 1 = one small w opening c5 [] (Drain 0x80031) 0 1 tt not_first not-second first second in
+    let same : ◌≡◌ {A = ℕ} 0 1 = one small w opening c5 [] (Drain 0x80031) 0 1 tt not_first not_second first second in
     omega (arith, same)

@@ -8,12 +8,12 @@ unfoldable pub with_bits : ℕ → ℕ → ℕ
 with_bits value bits = bit_or value bits
 
 -- "value without bits"
-unfoldable pub withoutBits : ℕ → ℕ → ℕ
-withoutBits value bits = bit_and value (2 ^ 32 - 1 - bits)
+unfoldable pub without_bits : ℕ → ℕ → ℕ
+without_bits value bits = bit_and value (2 ^ 32 - 1 - bits)
 
 -- "value and bits"
-unfoldable pub onlyBits : ℕ → ℕ → ℕ
-onlyBits value bits = bit_and value bits
+unfoldable pub only_bits : ℕ → ℕ → ℕ
+only_bits value bits = bit_and value bits
 
 unfoldable pub any_of : ℕ → ℕ → Bool
 any_of value bits = not (eqb (bit_and value bits) 0)
@@ -26,5 +26,5 @@ bit w i = w / 2 ^ i % 2
 abbrev pub field : ℕ → ℕ → ℕ → ℕ
 field w lo n = w / 2 ^ lo % 2 ^ n
 
-abbrev pub withField : ℕ → ℕ → ℕ → ℕ → ℕ
-withField w lo n v = w - field w lo n * 2 ^ lo + v * 2 ^ lo
+abbrev pub with_field : ℕ → ℕ → ℕ → ℕ → ℕ
+with_field w lo n v = w - field w lo n * 2 ^ lo + v * 2 ^ lo

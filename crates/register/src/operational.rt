@@ -2,11 +2,11 @@
 // PORTSC's bits belong to the port status type.
 ghost use Rattle.std.specs.Prelude.{◌≡◌, ◌≤◌};
 ghost use Rattle.register.specs.EhciRegisters.{
-  offsetTable,
-  portscOf,
-  usbcmdTable,
-  usbstsTable,
-  usbintrTable,
+  offset_table,
+  portsc_of,
+  usbcmd_table,
+  usbsts_table,
+  usbintr_table,
   masks,
 };
 
@@ -63,7 +63,7 @@ pub const USBINTR_ASYNC_ADVANCE: u32 = 1 << 5;
 // The offset of a port's status and control register; ports count from 1.
 pub fn port_offset(port: u8) -> u32
     requires { 1 ≤ port }
-    ensures { result ≡ portscOf port }
+    ensures { result ≡ portsc_of port }
 {
     PORTSC_BASE + (port as u32 - 1) * 4
 }
@@ -71,7 +71,7 @@ pub fn port_offset(port: u8) -> u32
 // The constants above, each held to its row of EHCI's table: a constant that is off is not proved.
 
 pub fn offset_table() -> [u32; 9]
-    ensures { result ≡ offsetTable }
+    ensures { result ≡ offset_table }
 {
     [
         USBCMD,
@@ -87,7 +87,7 @@ pub fn offset_table() -> [u32; 9]
 }
 
 pub fn usbcmd_table() -> [u32; 5]
-    ensures { result ≡ masks usbcmdTable }
+    ensures { result ≡ masks usbcmd_table }
 {
     [
         USBCMD_RUN_STOP,
@@ -99,7 +99,7 @@ pub fn usbcmd_table() -> [u32; 5]
 }
 
 pub fn usbsts_table() -> [u32; 7]
-    ensures { result ≡ masks usbstsTable }
+    ensures { result ≡ masks usbsts_table }
 {
     [
         USBSTS_USBINT,
@@ -113,7 +113,7 @@ pub fn usbsts_table() -> [u32; 7]
 }
 
 pub fn usbintr_table() -> [u32; 4]
-    ensures { result ≡ masks usbintrTable }
+    ensures { result ≡ masks usbintr_table }
 {
     [
         USBINTR_USBINT,

@@ -1,6 +1,6 @@
 // The register writes of one answer: at most 6, in order.
 ghost use Rattle.std.specs.Prelude.{◌≡◌, ◌+◌, ◌<◌};
-ghost use Rattle.register.specs.Writes.{noWrites, and_then};
+ghost use Rattle.register.specs.Writes.{no_writes, and_then};
 
 #[derive(Drop)]
 pub struct Write {
@@ -17,7 +17,7 @@ pub struct Writes {
 impl Writes {
     pub fn none() -> Writes
         ensures count_value { result.count ≡ 0 }
-        ensures value { result ≡ noWrites }
+        ensures value { result ≡ no_writes }
     {
         Writes {
             count: 0,

@@ -4,28 +4,28 @@ use Rattle.common.specs.declared.answer.Answer.{Answer}
 use Rattle.common.specs.declared.answer.Answer.TheVariants as A
 use Rattle.common.specs.declared.reads.NextRead.TheVariants as N
 use Rattle.call_log.specs.Block.{block_of}
-use Rattle.call_log.specs.CallLine.{answeredLine, scanLine}
+use Rattle.call_log.specs.CallLine.{answered_line, scan_line}
 use Rattle.call_log.specs.Records.{entry_of}
 use Rattle.call_log.specs.declared.block.Rows.{Rows}
 use Rattle.call_log.specs.declared.record.Entry.{Entry}
 use Rattle.call_log.specs.declared.record.Entry.TheVariants as E
 use Rattle.ehci.specs.declared.reply.Answered.TheVariants as R
 use Rattle.ehci.specs.declared.reply.Given.TheVariants as G
-use Rattle.opening.specs.Hub.{openedHub}
-use Rattle.register.specs.Writes.{noWrites}
+use Rattle.opening.specs.Hub.{opened_hub}
+use Rattle.register.specs.Writes.{no_writes}
 use Rattle.register.specs.declared.writes.Writes.{Writes}
-use Rattle.root_hub.specs.Calls.{powerOf, start_of, step_of}
+use Rattle.root_hub.specs.Calls.{power_of, start_of, step_of}
 use Rattle.root_hub.specs.declared.calls.PortPower.{PortPower}
 use Rattle.root_hub.specs.declared.calls.Scanned.{Scanned}
 use Rattle.root_hub.specs.declared.ports.PortEvent.TheVariants as P
 use Rattle.text.specs.Text.{decimal}
-use Rattle.store.specs.Stores.{blankStore, callStore, openStore}
+use Rattle.store.specs.Stores.{blank_store, call_store, open_store}
 use Rattle.store.specs.Plain.{Called, OpenedStore}
 use Rattle.replayer.specs.Plain.{Keeper, Turned}
 
 -- rows zero at the start, and no controller opened
-unfoldable pub freshKeeper : Keeper
-freshKeeper = record { store = blankStore; hub = openedHub 0; opened = false }
+unfoldable pub fresh_keeper : Keeper
+fresh_keeper = record { store = blank_store; hub = opened_hub 0; opened = false }
 
 unfoldable pub rows_of : Keeper → Rows
 rows_of k =
@@ -45,85 +45,85 @@ pub record Effect : Type 0 where
   pub writes : Writes
 
 -- a refused opening leaves the earlier controller as it was; an accepted one replaces it
-abbrev pub openedAs : Answer → Keeper → ℕ → ℕ → OpenedStore → Effect
-openedAs A.Done k n number o =
+abbrev pub opened_as : Answer → Keeper → ℕ → ℕ → OpenedStore → Effect
+opened_as A.Done k n number o =
     record {
       keeper = record { store = o.store; hub = o.hub; opened = true };
-      first = answeredLine n number (R.Done G.Nothing);
+      first = answered_line n number (R.Done G.Nothing);
       opening = true;
-      writes = noWrites;
+      writes = no_writes;
     }
-openedAs (A.Refused refusal) k n number o =
-    record { keeper = k; first = answeredLine n number (R.Refused refusal); opening = false; writes = noWrites }
+opened_as (A.Refused refusal) k n number o =
+    record { keeper = k; first = answered_line n number (R.Refused refusal); opening = false; writes = no_writes }
 
-unfoldable pub openEffect : Keeper → ℕ → ℕ → OpenedStore → Effect
-openEffect k n number o = openedAs o.answer k n number o
+unfoldable pub open_effect : Keeper → ℕ → ℕ → OpenedStore → Effect
+open_effect k n number o = opened_as o.answer k n number o
 
 -- a call on the controller
-unfoldable pub callEffect : Keeper → ℕ → ℕ → Called → Effect
-callEffect k n number c =
+unfoldable pub call_effect : Keeper → ℕ → ℕ → Called → Effect
+call_effect k n number c =
     record {
       keeper = record { store = c.store; hub = k.hub; opened = k.opened };
-      first = answeredLine n number c.answer;
+      first = answered_line n number c.answer;
       opening = false;
       writes = c.writes;
     }
 
 -- a scan's start or step
-unfoldable pub scanEffect : Keeper → ℕ → ℕ → Scanned → Effect
-scanEffect k n number s =
+unfoldable pub scan_effect : Keeper → ℕ → ℕ → Scanned → Effect
+scan_effect k n number s =
     record {
       keeper = record { store = k.store; hub = s.hub; opened = k.opened };
-      first = scanLine n number s.reply.answer s.reply.read s.reply.wait s.reply.event;
+      first = scan_line n number s.reply.answer s.reply.read s.reply.wait s.reply.event;
       opening = false;
       writes = s.reply.writes;
     }
 
 -- port power reads nothing next and has no event
-unfoldable pub powerEffect : Keeper → ℕ → ℕ → PortPower → Effect
-powerEffect k n number p =
-    record { keeper = k; first = scanLine n number p.answer N.Nothing p.wait P.Nothing; opening = false; writes = p.writes }
+unfoldable pub power_effect : Keeper → ℕ → ℕ → PortPower → Effect
+power_effect k n number p =
+    record { keeper = k; first = scan_line n number p.answer N.Nothing p.wait P.Nothing; opening = false; writes = p.writes }
 
 -- a bad record does nothing; no block is shown of it
-unfoldable pub noEffect : Keeper → ℕ → ℕ → Effect
-noEffect k n number = record { keeper = k; first = answeredLine n number R.Pending; opening = false; writes = noWrites }
+unfoldable pub no_effect : Keeper → ℕ → ℕ → Effect
+no_effect k n number = record { keeper = k; first = answered_line n number R.Pending; opening = false; writes = no_writes }
 
 -- the record's number, the call's number, the call
-abbrev pub actOf : Keeper → ℕ → ℕ → Entry → Effect
-actOf k n number (E.Open settings) = openEffect k n number (openStore k.store settings)
-actOf k n number (E.Call call) = callEffect k n number (callStore k.store call)
-actOf k n number E.StartScan = scanEffect k n number (start_of k.hub)
-actOf k n number (E.ScanStep reading) = scanEffect k n number (step_of k.hub reading)
-actOf k n number (E.PortPower port reading) = powerEffect k n number (powerOf k.hub port reading)
-actOf k n number E.Bad = noEffect k n number
+abbrev pub act_of : Keeper → ℕ → ℕ → Entry → Effect
+act_of k n number (E.Open settings) = open_effect k n number (open_store k.store settings)
+act_of k n number (E.Call call) = call_effect k n number (call_store k.store call)
+act_of k n number E.StartScan = scan_effect k n number (start_of k.hub)
+act_of k n number (E.ScanStep reading) = scan_effect k n number (step_of k.hub reading)
+act_of k n number (E.PortPower port reading) = power_effect k n number (power_of k.hub port reading)
+act_of k n number E.Bad = no_effect k n number
 
 -- the block: the rows are held against those before the call
-unfoldable pub shownOf : Keeper → Effect → List ℕ
-shownOf k e =
+unfoldable pub shown_of : Keeper → Effect → List ℕ
+shown_of k e =
     block_of e.first e.opening (rows_of k) (rows_of e.keeper) e.keeper.opened e.keeper.store.state e.writes
 
-abbrev pub isBad : Entry → Bool
-isBad (E.Open settings) = false
-isBad (E.Call call) = false
-isBad E.StartScan = false
-isBad (E.ScanStep reading) = false
-isBad (E.PortPower port reading) = false
-isBad E.Bad = true
+abbrev pub is_bad : Entry → Bool
+is_bad (E.Open settings) = false
+is_bad (E.Call call) = false
+is_bad E.StartScan = false
+is_bad (E.ScanStep reading) = false
+is_bad (E.PortPower port reading) = false
+is_bad E.Bad = true
 
 -- "`bad record N` (N from 0)"
-unfoldable pub badLine : ℕ → List ℕ
-badLine n = 98 ∷ 97 ∷ 100 ∷ 32 ∷ 114 ∷ 101 ∷ 99 ∷ 111 ∷ 114 ∷ 100 ∷ 32 ∷ (decimal n ++ (10 ∷ []))
+unfoldable pub bad_line : ℕ → List ℕ
+bad_line n = 98 ∷ 97 ∷ 100 ∷ 32 ∷ 114 ∷ 101 ∷ 99 ∷ 111 ∷ 114 ∷ 100 ∷ 32 ∷ (decimal n ++ (10 ∷ []))
 
 -- what record n did, by its bytes
-unfoldable pub recordEffect : Keeper → ℕ → List ℕ → Effect
-recordEffect k n bytes = actOf k n (get_or bytes 0 0) (entry_of bytes)
+unfoldable pub record_effect : Keeper → ℕ → List ℕ → Effect
+record_effect k n bytes = act_of k n (get_or bytes 0 0) (entry_of bytes)
 
 -- what is said of it: its block, or that it is bad
 unfoldable pub said_of : Keeper → ℕ → List ℕ → List ℕ
-said_of k n bytes = cond (isBad (entry_of bytes)) (badLine n) (shownOf k (recordEffect k n bytes))
+said_of k n bytes = cond (is_bad (entry_of bytes)) (bad_line n) (shown_of k (record_effect k n bytes))
 
 -- and nothing after it
-unfoldable pub turnedOf : Keeper → ℕ → List ℕ → Turned
-turnedOf k n bytes =
-    cond (isBad (entry_of bytes)) (record { keeper = k; end = length (said_of k n bytes); more = false })
-    (record { keeper = (recordEffect k n bytes).keeper; end = length (said_of k n bytes); more = true })
+unfoldable pub turned_of : Keeper → ℕ → List ℕ → Turned
+turned_of k n bytes =
+    cond (is_bad (entry_of bytes)) (record { keeper = k; end = length (said_of k n bytes); more = false })
+    (record { keeper = (record_effect k n bytes).keeper; end = length (said_of k n bytes); more = true })

@@ -1,19 +1,19 @@
 // The controller that a log is replayed on, and what one record does to it.
 ghost use Rattle.std.specs.Prelude.{◌≡◌};
 ghost use Rattle.replayer.specs.Replays.{
-  actOf,
-  callEffect,
-  freshKeeper,
-  noEffect,
-  openEffect,
-  powerEffect,
+  act_of,
+  call_effect,
+  fresh_keeper,
+  no_effect,
+  open_effect,
+  power_effect,
   rows_of,
-  scanEffect,
+  scan_effect,
 };
-ghost use Rattle.replayer.specs.Words.{Kept, effect_of, keeperView};
-ghost use Rattle.root_hub.specs.Calls.{powerOf};
-ghost use Rattle.store.specs.Stores.{callStore, openStore};
-ghost use Rattle.store.specs.Words.{storeView};
+ghost use Rattle.replayer.specs.Words.{Kept, effect_of, keeper_view};
+ghost use Rattle.root_hub.specs.Calls.{power_of};
+ghost use Rattle.store.specs.Stores.{call_store, open_store};
+ghost use Rattle.store.specs.Words.{store_view};
 
 use call_log::block::Rows;
 use call_log::call_line::{call_line, scan_line};
@@ -48,7 +48,7 @@ pub struct Acted {
 }
 
 pub fn fresh_keeper() -> Keeper
-    ensures result_value { keeperView result ≡ freshKeeper }
+    ensures result_value { keeper_view result ≡ fresh_keeper }
     ensures kept { Kept result }
 {
     Keeper {
@@ -59,7 +59,7 @@ pub fn fresh_keeper() -> Keeper
 }
 
 pub fn rows_of(k: Keeper) -> Rows
-    ensures { result ≡ rows_of (keeperView k) }
+    ensures { result ≡ rows_of (keeper_view k) }
 {
     let store = k.store;
     let hub = k.hub;
@@ -80,7 +80,7 @@ pub fn rows_of(k: Keeper) -> Rows
 // A refused opening leaves the earlier controller as it was.
 fn act_open(k: Keeper, n: u64, number: u8, settings: Settings) -> Acted
     requires { Kept k }
-    ensures result_value { effect_of result ≡ openEffect (keeperView k) n number (openStore (storeView k.store) settings) }
+    ensures result_value { effect_of result ≡ open_effect (keeper_view k) n number (open_store (store_view k.store) settings) }
     ensures kept { Kept result.keeper }
 {
     let before = k.store;
@@ -110,7 +110,7 @@ fn act_open(k: Keeper, n: u64, number: u8, settings: Settings) -> Acted
 
 fn act_call(k: Keeper, n: u64, number: u8, call: Call) -> Acted
     requires { Kept k }
-    ensures result_value { effect_of result ≡ callEffect (keeperView k) n number (callStore (storeView k.store) call) }
+    ensures result_value { effect_of result ≡ call_effect (keeper_view k) n number (call_store (store_view k.store) call) }
     ensures kept { Kept result.keeper }
 {
     let before = k.store;
@@ -134,7 +134,7 @@ fn act_call(k: Keeper, n: u64, number: u8, call: Call) -> Acted
 
 fn act_scan(k: Keeper, n: u64, number: u8, scanned: Scanned) -> Acted
     requires { Kept k }
-    ensures result_value { effect_of result ≡ scanEffect (keeperView k) n number scanned }
+    ensures result_value { effect_of result ≡ scan_effect (keeper_view k) n number scanned }
     ensures kept { Kept result.keeper }
 {
     let store = k.store;
@@ -160,7 +160,7 @@ fn act_scan(k: Keeper, n: u64, number: u8, scanned: Scanned) -> Acted
 // Port power reads nothing next and has no event.
 fn act_power(k: Keeper, n: u64, number: u8, port: u8, reading: u32) -> Acted
     requires { Kept k }
-    ensures result_value { effect_of result ≡ powerEffect (keeperView k) n number (powerOf k.hub port reading) }
+    ensures result_value { effect_of result ≡ power_effect (keeper_view k) n number (power_of k.hub port reading) }
     ensures kept { Kept result.keeper }
 {
     let hub = k.hub;
@@ -185,7 +185,7 @@ fn act_power(k: Keeper, n: u64, number: u8, port: u8, reading: u32) -> Acted
 
 fn act_nothing(k: Keeper, n: u64, number: u8) -> Acted
     requires { Kept k }
-    ensures result_value { effect_of result ≡ noEffect (keeperView k) n number }
+    ensures result_value { effect_of result ≡ no_effect (keeper_view k) n number }
     ensures kept { Kept result.keeper }
 {
     Acted {
@@ -199,7 +199,7 @@ fn act_nothing(k: Keeper, n: u64, number: u8) -> Acted
 // A bad record does nothing; the log ends at it.
 pub fn act(k: Keeper, n: u64, number: u8, entry: Entry) -> Acted
     requires { Kept k }
-    ensures result_value { effect_of result ≡ actOf (keeperView k) n number entry }
+    ensures result_value { effect_of result ≡ act_of (keeper_view k) n number entry }
     ensures kept { Kept result.keeper }
 {
     let hub = k.hub;

@@ -2,13 +2,13 @@
 ghost use Rattle.std.specs.Prelude.{◌≡◌, ◌≤◌, get_or, length};
 ghost use Rattle.common.specs.Rows.{put_at};
 ghost use Rattle.replayer.specs.Replays.{
-  badLine,
-  isBad,
+  bad_line,
+  is_bad,
   said_of,
-  shownOf,
-  turnedOf,
+  shown_of,
+  turned_of,
 };
-ghost use Rattle.replayer.specs.Words.{Kept, effect_of, keeperView, turnedView};
+ghost use Rattle.replayer.specs.Words.{Kept, effect_of, keeper_view, turned_view};
 
 use crate::keeper::{Acted, Keeper, act, rows_of};
 use call_log::block::put_block;
@@ -25,7 +25,7 @@ pub struct Turned {
 }
 
 fn is_bad(entry: Entry) -> bool
-    ensures { result ≡ isBad entry }
+    ensures { result ≡ is_bad entry }
 {
     match entry {
         Entry::Open(_) => false,
@@ -39,8 +39,8 @@ fn is_bad(entry: Entry) -> bool
 
 fn put_bad(out: &mut [u8], n: u64) -> usize
     requires { 131072 ≤ length out.old }
-    ensures out_after { out.new ≡ put_at out.old 0 (badLine n) }
-    ensures value { result ≡ length (badLine n) }
+    ensures out_after { out.new ≡ put_at out.old 0 (bad_line n) }
+    ensures value { result ≡ length (bad_line n) }
     ensures upper_bound { result ≤ length out.new }
 {
     put_bytes(out, 0, b"bad record ");
@@ -51,8 +51,8 @@ fn put_bad(out: &mut [u8], n: u64) -> usize
 fn put_shown(out: &mut [u8], k: Keeper, acted: Acted) -> usize
     requires in_bounds { 131072 ≤ length out.old }
     requires kept { Kept acted.keeper }
-    ensures out_after { out.new ≡ put_at out.old 0 (shownOf (keeperView k) (effect_of acted)) }
-    ensures value { result ≡ length (shownOf (keeperView k) (effect_of acted)) }
+    ensures out_after { out.new ≡ put_at out.old 0 (shown_of (keeper_view k) (effect_of acted)) }
+    ensures value { result ≡ length (shown_of (keeper_view k) (effect_of acted)) }
     ensures upper_bound { result ≤ length out.new }
 {
     let line = acted.line;
@@ -87,8 +87,8 @@ fn first_byte(bytes: &[u8]) -> u8
 pub fn turn(out: &mut [u8], k: Keeper, n: u64, bytes: &[u8]) -> Turned
     requires in_bounds { 131072 ≤ length out.old }
     requires kept { Kept k }
-    ensures out_after { out.new ≡ put_at out.old 0 (said_of (keeperView k) n bytes.now) }
-    ensures result_value { turnedView result ≡ turnedOf (keeperView k) n bytes.now }
+    ensures out_after { out.new ≡ put_at out.old 0 (said_of (keeper_view k) n bytes.now) }
+    ensures result_value { turned_view result ≡ turned_of (keeper_view k) n bytes.now }
     ensures end_in_bounds { result.end ≤ length out.new }
     ensures kept_2 { Kept result.keeper }
 {

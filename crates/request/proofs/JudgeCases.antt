@@ -3,73 +3,73 @@ use Rattle.core.specs.Prelude.{◌≡◌, ℕ, ◌+◌, ◌-◌, ◌/◌, ◌%�
 use mathlib.Core.Path.{sym, ◌∙◌}
 use native.Mathlib.Omega.{arith}
 use borrow.Author.Tests.{eq-eqb, lt-leb, lt-ltb, le-ltb, ne_eqb, not-false, not-true}
-use Rattle.common.proofs.TestLaws.{both_true, every-3, same_test}
+use Rattle.common.proofs.TestLaws.{both_true, every_3, same_test}
 use Rattle.state.specs.Slots.{slot_at}
 use Rattle.state.specs.Plain.{Ehci}
-use Rattle.pipe.specs.Endpoints.{directionNumber, kindNumber}
-use Rattle.common.specs.Kinds.{isControl, isIsochronous}
-use Rattle.controller.specs.Readers.{freeCount, isOpen, isUncollected}
+use Rattle.pipe.specs.Endpoints.{direction_number, kind_number}
+use Rattle.common.specs.Kinds.{is_control, is_isochronous}
+use Rattle.controller.specs.Readers.{free_count, is_opened, is_uncollected}
 use Rattle.common.specs.declared.answer.Answer.TheVariants.{Done, Refused}
 use Rattle.common.specs.declared.answer.Refusal.TheVariants.{InvalidParameter, InvalidEndpoint, QueueFull, NotSupported, NoMemory, NotReady}
-use Rattle.request.specs.Submit.{bufferGood, controlGood, judgeOf, needOfRequest, rangesGood}
+use Rattle.request.specs.Submit.{buffer_good, control_good, judge_of, need_of_request, ranges_good}
 use Rattle.request.specs.declared.judge.TransferRequest.{TransferRequest}
 
-pub buffer-empty : (a n : ℕ) → n ≡ 0 → true ≡ bufferGood a n
-unfolding bufferGood
-buffer-empty a n e = rw (eq-eqb n 0 e)
+pub buffer_empty : (a n : ℕ) → n ≡ 0 → true ≡ buffer_good a n
+unfolding buffer_good
+buffer_empty a n e = rw (eq-eqb n 0 e)
 
-pub buffer-large : (a n : ℕ) → (n ≡ 0 → ⊥) → 4294967296 < n → false ≡ bufferGood a n
-unfolding bufferGood
-buffer-large a n z h = rw (ne_eqb n 0 z) (sym (lt-leb (a + n) (2 ^ 32) (omega arith)))
+pub buffer_large : (a n : ℕ) → (n ≡ 0 → ⊥) → 4294967296 < n → false ≡ buffer_good a n
+unfolding buffer_good
+buffer_large a n z h = rw (ne_eqb n 0 z) (sym (lt-leb (a + n) (2 ^ 32) (omega arith)))
 
-pub buffer-is : (a n : ℕ) → (n ≡ 0 → ⊥) → n ≤ 4294967296 → leb a (4294967296 - n) ≡ bufferGood a n
-unfolding bufferGood
-buffer-is a n z h = rw (ne_eqb n 0 z) (same_test a (4294967296 - n) (a + n) (2 ^ 32) (λ p. omega arith) (λ p. omega arith))
+pub buffer_is : (a n : ℕ) → (n ≡ 0 → ⊥) → n ≤ 4294967296 → leb a (4294967296 - n) ≡ buffer_good a n
+unfolding buffer_good
+buffer_is a n z h = rw (ne_eqb n 0 z) (same_test a (4294967296 - n) (a + n) (2 ^ 32) (λ p. omega arith) (λ p. omega arith))
 
-pub control-is : (t : TransferRequest) (b : ℕ) → b ≡ directionNumber t.direction
-    → (leb t.length 16384 && eqb (t.setup / 128 % 2) b && ltb t.setup 281474976710656) ≡ controlGood t
-unfolding controlGood
-control-is t b e = every-3 (leb t.length 16384) (eqb (t.setup / 128 % 2) b) (ltb t.setup 281474976710656) ∙ rw e
+pub control_is : (t : TransferRequest) (b : ℕ) → b ≡ direction_number t.direction
+    → (leb t.length 16384 && eqb (t.setup / 128 % 2) b && ltb t.setup 281474976710656) ≡ control_good t
+unfolding control_good
+control_is t b e = every_3 (leb t.length 16384) (eqb (t.setup / 128 % 2) b) (ltb t.setup 281474976710656) ∙ rw e
 
-module _ (t : TransferRequest) (b k : Bool) (eb : b ≡ bufferGood t.address t.length) (ek : k ≡ isControl t.kind) where
-  pub ranges-control : (c : Bool) → k ≡ true → c ≡ controlGood t → (b && c) ≡ rangesGood t
-  unfolding rangesGood
-  ranges-control c h ec = rw (eb, ec, sym ek ∙ h)
+module _ (t : TransferRequest) (b k : Bool) (eb : b ≡ buffer_good t.address t.length) (ek : k ≡ is_control t.kind) where
+  pub ranges_control : (c : Bool) → k ≡ true → c ≡ control_good t → (b && c) ≡ ranges_good t
+  unfolding ranges_good
+  ranges_control c h ec = rw (eb, ec, sym ek ∙ h)
 
-  pub ranges-other : k ≡ false → b ≡ rangesGood t
-  unfolding rangesGood
-  ranges-other h = eb ∙ sym (rw (sym ek ∙ h) (both_true (bufferGood t.address t.length)))
+  pub ranges_other : k ≡ false → b ≡ ranges_good t
+  unfolding ranges_good
+  ranges_other h = eb ∙ sym (rw (sym ek ∙ h) (both_true (buffer_good t.address t.length)))
 
-module _ (s : Ehci) (slot : ℕ) (t : TransferRequest) (o : Bool) (eo : o ≡ isOpen s slot) where
-  pub judge-closed : not o ≡ true → Refused InvalidEndpoint ≡ judgeOf s slot t
-  unfolding judgeOf
-  judge-closed h = rw (sym eo ∙ not-true o h)
+module _ (s : Ehci) (slot : ℕ) (t : TransferRequest) (o : Bool) (eo : o ≡ is_opened s slot) where
+  pub judge_closed : not o ≡ true → Refused InvalidEndpoint ≡ judge_of s slot t
+  unfolding judge_of
+  judge_closed h = rw (sym eo ∙ not-true o h)
 
   module _ (ho : not o ≡ false) where
-    pub judge-stopped : s.running ≡ 0 → Refused NotReady ≡ judgeOf s slot t
-    unfolding judgeOf
-    judge-stopped h = rw (sym eo ∙ not-false o ho, eq-eqb s.running 0 h)
+    pub judge_stopped : s.running ≡ 0 → Refused NotReady ≡ judge_of s slot t
+    unfolding judge_of
+    judge_stopped h = rw (sym eo ∙ not-false o ho, eq-eqb s.running 0 h)
 
-    module _ (u : Bool) (hr : s.running ≡ 0 → ⊥) (eu : u ≡ isUncollected s slot) where
-      pub judge-full : u ≡ true → Refused QueueFull ≡ judgeOf s slot t
-      unfolding judgeOf
-      judge-full h = rw (sym eo ∙ not-false o ho, ne_eqb s.running 0 hr, sym eu ∙ h)
+    module _ (u : Bool) (hr : s.running ≡ 0 → ⊥) (eu : u ≡ is_uncollected s slot) where
+      pub judge_full : u ≡ true → Refused QueueFull ≡ judge_of s slot t
+      unfolding judge_of
+      judge_full h = rw (sym eo ∙ not-false o ho, ne_eqb s.running 0 hr, sym eu ∙ h)
 
-      module _ (hu : u ≡ false) (i : Bool) (ei : i ≡ isIsochronous t.kind) where
-        pub judge-isochronous : i ≡ true → Refused NotSupported ≡ judgeOf s slot t
-        unfolding judgeOf
-        judge-isochronous h = rw (sym eo ∙ not-false o ho, ne_eqb s.running 0 hr, sym eu ∙ hu, sym ei ∙ h)
+      module _ (hu : u ≡ false) (i : Bool) (ei : i ≡ is_isochronous t.kind) where
+        pub judge_isochronous : i ≡ true → Refused NotSupported ≡ judge_of s slot t
+        unfolding judge_of
+        judge_isochronous h = rw (sym eo ∙ not-false o ho, ne_eqb s.running 0 hr, sym eu ∙ hu, sym ei ∙ h)
 
-        module _ (hi : i ≡ false) (k : ℕ) (ek : k ≡ kindNumber t.kind) where
-          pub judge-kind : (k ≡ (slot_at s slot).kind → ⊥) → Refused InvalidEndpoint ≡ judgeOf s slot t
-          unfolding judgeOf
-          judge-kind h =
+        module _ (hi : i ≡ false) (k : ℕ) (ek : k ≡ kind_number t.kind) where
+          pub judge_kind : (k ≡ (slot_at s slot).kind → ⊥) → Refused InvalidEndpoint ≡ judge_of s slot t
+          unfolding judge_of
+          judge_kind h =
               rw (sym eo ∙ not-false o ho, ne_eqb s.running 0 hr, sym eu ∙ hu, sym ei ∙ hi, sym ek, ne_eqb k (slot_at s slot).kind h)
 
-          module _ (hk : k ≡ (slot_at s slot).kind) (g : Bool) (eg : g ≡ rangesGood t) where
-            pub judge-range : not g ≡ true → Refused InvalidParameter ≡ judgeOf s slot t
-            unfolding judgeOf
-            judge-range h =
+          module _ (hk : k ≡ (slot_at s slot).kind) (g : Bool) (eg : g ≡ ranges_good t) where
+            pub judge_range : not g ≡ true → Refused InvalidParameter ≡ judge_of s slot t
+            unfolding judge_of
+            judge_range h =
                 rw (
                   sym eo ∙ not-false o ho,
                   ne_eqb s.running 0 hr,
@@ -80,10 +80,10 @@ module _ (s : Ehci) (slot : ℕ) (t : TransferRequest) (o : Bool) (eo : o ≡ is
                   sym eg ∙ not-true g h,
                 )
 
-            module _ (hg : not g ≡ false) (f n : ℕ) (ef : f ≡ freeCount s) (en : n ≡ needOfRequest s slot t) where
-              pub judge-room : f < n → Refused NoMemory ≡ judgeOf s slot t
-              unfolding judgeOf
-              judge-room h =
+            module _ (hg : not g ≡ false) (f n : ℕ) (ef : f ≡ free_count s) (en : n ≡ need_of_request s slot t) where
+              pub judge_room : f < n → Refused NoMemory ≡ judge_of s slot t
+              unfolding judge_of
+              judge_room h =
                   rw (
                     sym eo ∙ not-false o ho,
                     ne_eqb s.running 0 hr,
@@ -97,9 +97,9 @@ module _ (s : Ehci) (slot : ℕ) (t : TransferRequest) (o : Bool) (eo : o ≡ is
                     lt-ltb f n h,
                   )
 
-              pub judge-done : n ≤ f → Done ≡ judgeOf s slot t
-              unfolding judgeOf
-              judge-done h =
+              pub judge_done : n ≤ f → Done ≡ judge_of s slot t
+              unfolding judge_of
+              judge_done h =
                   rw (
                     sym eo ∙ not-false o ho,
                     ne_eqb s.running 0 hr,

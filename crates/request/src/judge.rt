@@ -2,8 +2,8 @@
 ghost use Rattle.core.specs.Prelude.{◌≡◌};
 ghost use Rattle.words.specs.Good.{Good};
 ghost use Rattle.words.specs.View.{view};
-ghost use Rattle.request.specs.Submit.{judgeOf, needOfRequest, bufferGood, controlGood, rangesGood};
-ghost use Rattle.pipe.specs.Endpoints.{directionNumber};
+ghost use Rattle.request.specs.Submit.{judge_of, need_of_request, buffer_good, control_good, ranges_good};
+ghost use Rattle.pipe.specs.Endpoints.{direction_number};
 
 use bitset::places::count;
 use common::answer::{Answer, Refusal};
@@ -29,7 +29,7 @@ pub struct TransferRequest {
 }
 
 fn direction_bit(direction: Direction) -> u64
-    ensures { result ≡ directionNumber direction }
+    ensures { result ≡ direction_number direction }
 {
     match direction {
         Direction::Out => 0,
@@ -38,7 +38,7 @@ fn direction_bit(direction: Direction) -> u64
 }
 
 fn buffer_good(address: u64, length: u64) -> bool
-    ensures { result ≡ bufferGood address length }
+    ensures { result ≡ buffer_good address length }
 {
     if length == 0 {
         return true;
@@ -50,7 +50,7 @@ fn buffer_good(address: u64, length: u64) -> bool
 }
 
 fn control_good(t: TransferRequest) -> bool
-    ensures { result ≡ controlGood t }
+    ensures { result ≡ control_good t }
 {
     let direction = t.direction;
     let bit = direction_bit(direction);
@@ -58,7 +58,7 @@ fn control_good(t: TransferRequest) -> bool
 }
 
 pub fn ranges_good(t: TransferRequest) -> bool
-    ensures { result ≡ rangesGood t }
+    ensures { result ≡ ranges_good t }
 {
     let kind = t.kind;
     let buffer = buffer_good(t.address, t.length);
@@ -71,8 +71,8 @@ pub fn ranges_good(t: TransferRequest) -> bool
 // `wanted` is what the request needs.
 pub fn judge(core: Core, slots: &[u64], slot: u8, t: TransferRequest, wanted: u64) -> Answer
     requires good { Good core.settings core.rest slots.now }
-    requires wanted_value { wanted ≡ needOfRequest (view core slots.now) slot t }
-    ensures { result ≡ judgeOf (view core slots.now) slot t }
+    requires wanted_value { wanted ≡ need_of_request (view core slots.now) slot t }
+    ensures { result ≡ judge_of (view core slots.now) slot t }
 {
     let kind = t.kind;
     let word = word_at(slots, slot);

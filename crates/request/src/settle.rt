@@ -1,18 +1,18 @@
 // What an accepted request takes, links and writes.
 ghost use Rattle.core.specs.Prelude.{◌≡◌, ◌+◌, ◌*◌, ◌^◌, ◌<◌, ◌≤◌, length};
-ghost use Rattle.bitset.specs.Places.{setPlaces};
+ghost use Rattle.bitset.specs.Places.{set_places};
 ghost use Rattle.common.specs.declared.answer.Answer.TheVariants.{Done};
-ghost use Rattle.descriptor.specs.Heads.{qhLink};
-ghost use Rattle.pipe.specs.Endpoints.{encoded, limitAt};
+ghost use Rattle.descriptor.specs.Heads.{qh_link};
+ghost use Rattle.pipe.specs.Endpoints.{encoded, limit_at};
 ghost use Rattle.pool.specs.Words.{LayingGood};
 ghost use Rattle.schedule.specs.Links.{links};
-ghost use Rattle.settings.specs.Settings.{poolLength, sharedAddress};
-ghost use Rattle.token.specs.Overlay.{overlayToken};
+ghost use Rattle.settings.specs.Settings.{pool_length, shared_address};
+ghost use Rattle.token.specs.Overlay.{overlay_token};
 ghost use Rattle.words.specs.Good.{Good, Tidy};
-ghost use Rattle.words.specs.Record.{SlotFits, idIn, last_at, putPlaces, putSlot, word_at};
+ghost use Rattle.words.specs.Record.{SlotFits, id_in, last_at, put_places, put_slot, word_at};
 ghost use Rattle.words.specs.View.{view};
-ghost use Rattle.request.specs.Submit.{judgeOf, linkedRows, needOfRequest, settledSubmit, submitted, setupsWith};
-ghost use Rattle.request.specs.Words.{acceptedWords, first_of, head_of, layingFor, requestWith, submittedView};
+ghost use Rattle.request.specs.Submit.{judge_of, linked_rows, need_of_request, settled_submit, submitted, setups_with};
+ghost use Rattle.request.specs.Words.{accepted_words, first_of, head_of, laying_for, request_with, submitted_view};
 
 use crate::answers::{Submission, Submitted};
 use crate::judge::TransferRequest;
@@ -51,7 +51,7 @@ pub fn link_head(
 )
     requires slot_in_bounds { 17 * (slot + 1) + 6 < length heads.old }
     requires frames_nonzero { 0 < length frames.old }
-    ensures { links heads.new frames.new ≡ linkedRows heads.old frames.old kind slot link first token }
+    ensures { links heads.new frames.new ≡ linked_rows heads.old frames.old kind slot link first token }
 {
     start_overlay(heads, slot, first, token);
     if is_interrupt(kind) {
@@ -64,7 +64,7 @@ pub fn link_head(
 // A control request has a setup packet.
 pub fn put_setup(setups: &mut [u8], slot: u8, t: TransferRequest)
     requires { 8 * slot + 8 ≤ length setups.old }
-    ensures { setups.new ≡ setupsWith setups.old slot t }
+    ensures { setups.new ≡ setups_with setups.old slot t }
 {
     let kind = t.kind;
     if is_control(kind) {
@@ -84,10 +84,10 @@ fn link_rows(
     places: [u64; 4],
 )
     requires slot_in_bounds { (17 * (slot + 1) + 17 ≤ length heads.old) × (0 < length frames.old) }
-    requires in_bounds { (1 ≤ length (setPlaces places)) × (first_of core.settings places < 2 ^ 32) × (head_of core.settings slot < 2 ^ 32) }
+    requires in_bounds { (1 ≤ length (set_places places)) × (first_of core.settings places < 2 ^ 32) × (head_of core.settings slot < 2 ^ 32) }
     ensures { links heads.new frames.new
-        ≡ linkedRows heads.old frames.old t.kind slot (qhLink (head_of core.settings slot)) (first_of core.settings places)
-        (overlayToken t.kind toggle) }
+        ≡ linked_rows heads.old frames.old t.kind slot (qh_link (head_of core.settings slot)) (first_of core.settings places)
+        (overlay_token t.kind toggle) }
 {
     let kind = t.kind;
     let first = (core.settings.pool + 64 * (place_at(cursor_of(places)) as u64)) as u32;
@@ -106,8 +106,8 @@ fn link_rows(
 // The slot has a linked request with these places.
 fn put_request(slots: &mut [u64], slot: u8, t: TransferRequest, id: u64, places: [u64; 4])
     requires { (6 * slot + 6 ≤ length slots.old) × (t.length < 2 ^ 32) }
-    ensures slots_after { slots.new ≡ putPlaces (putSlot slots.old slot (encoded (requestWith t (word_at slots.old slot) id))) slot places }
-    ensures slot_fits { SlotFits (encoded (requestWith t (word_at slots.old slot) id)) }
+    ensures slots_after { slots.new ≡ put_places (put_slot slots.old slot (encoded (request_with t (word_at slots.old slot) id))) slot places }
+    ensures slot_fits { SlotFits (encoded (request_with t (word_at slots.old slot) id)) }
 {
     let kind = t.kind;
     let direction = t.direction;
@@ -128,8 +128,8 @@ fn put_request(slots: &mut [u64], slot: u8, t: TransferRequest, id: u64, places:
 }
 
 fn laying_for(core: Core, slot: u8, t: TransferRequest, limit: u64, places: [u64; 4]) -> Laying
-    requires { (core.settings.setups ≤ 2 ^ 32) × (sharedAddress core.settings < 2 ^ 32) }
-    ensures { result ≡ layingFor core.settings slot t limit places }
+    requires { (core.settings.setups ≤ 2 ^ 32) × (shared_address core.settings < 2 ^ 32) }
+    ensures { result ≡ laying_for core.settings slot t limit places }
 {
     let kind = t.kind;
     let direction = t.direction;
@@ -154,7 +154,7 @@ fn laying_for(core: Core, slot: u8, t: TransferRequest, limit: u64, places: [u64
 // The id that the slot's request gets.
 fn id_at(slots: &[u64], slot: u8) -> u64
     requires { 6 * slot + 6 ≤ length slots.now }
-    ensures { result ≡ idIn (last_at slots.now slot) }
+    ensures { result ≡ id_in (last_at slots.now slot) }
 {
     id_in(slots[RECORD * (slot as usize) + 1])
 }
@@ -169,8 +169,8 @@ fn accepted(
     id: u64,
     places: [u64; 4],
 ) -> Submitted
-    requires { (core.settings.setups ≤ 2 ^ 32) × (sharedAddress core.settings < 2 ^ 32) }
-    ensures { result ≡ acceptedWords core readings slot t limit id places }
+    requires { (core.settings.setups ≤ 2 ^ 32) × (shared_address core.settings < 2 ^ 32) }
+    ensures { result ≡ accepted_words core readings slot t limit id places }
 {
     let mut rest = core.rest;
     let free = rest.free;
@@ -200,12 +200,12 @@ pub fn settle(
 ) -> Submitted
     requires good { Good core.settings core.rest slots.old }
     requires heads_len { (length heads.old ≡ 17 * (core.settings.endpoints + 1)) × (length frames.old ≡ 1024) × (length setups.old ≡ 8 * core.settings.endpoints) }
-    requires limit_value { (limit ≡ limitAt (view core slots.old) slot) × (wanted ≡ needOfRequest (view core slots.old) slot t) }
-    requires t_value { judgeOf (view core slots.old) slot t ≡ Done }
-    ensures setups_after { submitted (submittedView core.settings result slots.new) heads.new frames.new setups.new
-        ≡ settledSubmit (view core slots.old) heads.old frames.old setups.old readings slot t }
+    requires limit_value { (limit ≡ limit_at (view core slots.old) slot) × (wanted ≡ need_of_request (view core slots.old) slot t) }
+    requires t_value { judge_of (view core slots.old) slot t ≡ Done }
+    ensures setups_after { submitted (submitted_view core.settings result slots.new) heads.new frames.new setups.new
+        ≡ settled_submit (view core slots.old) heads.old frames.old setups.old readings slot t }
     ensures tidy { Tidy core.settings result.rest slots.new }
-    ensures laying_good { LayingGood (poolLength core.settings) result.laying }
+    ensures laying_good { LayingGood (pool_length core.settings) result.laying }
 {
     let free = core.rest.free;
     let places = lowest_places(free, wanted);

@@ -1,12 +1,12 @@
 // Submit: its checks, then what it takes, links and writes. The descriptors that it writes come out as a laying.
 ghost use Rattle.core.specs.Prelude.{◌≡◌, ℕ, ◌+◌, ◌*◌, true, length};
-ghost use Rattle.opening.specs.Opening.{rowsFit};
+ghost use Rattle.opening.specs.Opening.{rows_are_fit};
 ghost use Rattle.pool.specs.Words.{LayingGood};
-ghost use Rattle.settings.specs.Settings.{poolLength};
+ghost use Rattle.settings.specs.Settings.{pool_length};
 ghost use Rattle.words.specs.Good.{Good, Tidy};
 ghost use Rattle.words.specs.View.{view};
-ghost use Rattle.request.specs.Submit.{submitOf, submitted};
-ghost use Rattle.request.specs.Words.{refusedWords, submittedView};
+ghost use Rattle.request.specs.Submit.{submit_of, submitted};
+ghost use Rattle.request.specs.Words.{refused_words, submitted_view};
 
 use crate::answers::{Submission, Submitted};
 use crate::judge::{TransferRequest, judge};
@@ -20,7 +20,7 @@ use token::chunks::need;
 use words::core::{Core, Rest};
 
 fn refuse(rest: Rest, refusal: Refusal) -> Submitted
-    ensures { result ≡ refusedWords rest refusal }
+    ensures { result ≡ refused_words rest refusal }
 {
     Submitted {
         answer: Submission::Refused(refusal),
@@ -42,11 +42,11 @@ pub fn submit(
 ) -> Submitted
     requires good { Good core.settings core.rest slots.old }
     requires heads_len { (length heads.old ≡ 17 * (core.settings.endpoints + 1)) × (length frames.old ≡ 1024) × (length setups.old ≡ 8 * core.settings.endpoints) }
-    ensures by_index { (pool : ℕ) → rowsFit core.settings pool (length heads.old) (length frames.old) (length setups.old) ≡ true
-        → submitted (submittedView core.settings result slots.new) heads.new frames.new setups.new
-        ≡ submitOf (view core slots.old) pool heads.old frames.old setups.old readings slot request }
+    ensures by_index { (pool : ℕ) → rows_are_fit core.settings pool (length heads.old) (length frames.old) (length setups.old) ≡ true
+        → submitted (submitted_view core.settings result slots.new) heads.new frames.new setups.new
+        ≡ submit_of (view core slots.old) pool heads.old frames.old setups.old readings slot request }
     ensures tidy { Tidy core.settings result.rest slots.new }
-    ensures laying_good { LayingGood (poolLength core.settings) result.laying }
+    ensures laying_good { LayingGood (pool_length core.settings) result.laying }
 {
     let kind = request.kind;
     let limit = limit_of(core.settings.limit, pipe_at(slots, slot));

@@ -1,13 +1,13 @@
 // What the controller writes back: one token.
 ghost use Rattle.core.specs.Prelude.{◌≡◌, ℕ, true, List};
-ghost use Rattle.controller.specs.Lent.{acceptsOf};
+ghost use Rattle.controller.specs.Lent.{accepts_of};
 ghost use Rattle.controller.specs.Plain.{Lengths};
 ghost use Rattle.pool.specs.Words.{MarkingGood};
-ghost use Rattle.settings.specs.Settings.{poolLength};
+ghost use Rattle.settings.specs.Settings.{pool_length};
 ghost use Rattle.words.specs.Good.{Good};
 ghost use Rattle.words.specs.View.{view};
-ghost use Rattle.request.specs.Words.{takenPlace, writtenView};
-ghost use Rattle.request.specs.Writeback.{writebackOf};
+ghost use Rattle.request.specs.Words.{taken_place, written_view};
+ghost use Rattle.request.specs.Writeback.{writeback_of};
 
 use crate::answers::WrittenBack;
 use bitset::places::has;
@@ -17,7 +17,7 @@ use words::core::Core;
 
 // Whether an uncollected request has a descriptor: it is one of the pool's and not free.
 fn in_request(core: Core, place: u64) -> bool
-    ensures { result ≡ takenPlace core.settings core.rest place }
+    ensures { result ≡ taken_place core.settings core.rest place }
 {
     if core.settings.descriptors <= place {
         return false;
@@ -28,10 +28,10 @@ fn in_request(core: Core, place: u64) -> bool
 
 // Only that descriptor's token is written.
 pub fn writeback(core: Core, place: u64, token: u32) -> WrittenBack
-    ensures by_index { (ws : List ℕ) → Good core.settings core.rest ws → (lent : Lengths) → acceptsOf (view core ws) lent ≡ true
-        → writtenView core.settings result ws ≡ writebackOf (view core ws) lent place token }
+    ensures by_index { (ws : List ℕ) → Good core.settings core.rest ws → (lent : Lengths) → accepts_of (view core ws) lent ≡ true
+        → written_view core.settings result ws ≡ writeback_of (view core ws) lent place token }
     ensures rest_value { result.rest ≡ core.rest }
-    ensures marking_good { MarkingGood (poolLength core.settings) result.marking }
+    ensures marking_good { MarkingGood (pool_length core.settings) result.marking }
 {
     let rest = core.rest;
     if !in_request(core, place) {

@@ -5,7 +5,7 @@ use Rattle.opening.specs.declared.hub.EhciRootHub.{EhciRootHub}
 use Rattle.root_hub.specs.declared.calls.PortPower.{PortPower}
 use Rattle.root_hub.specs.declared.calls.ScanReply.{ScanReply}
 use Rattle.root_hub.specs.declared.calls.Scanned.{Scanned}
-use Rattle.root_hub.specs.Calls.{powerOf, start_of, step_of}
+use Rattle.root_hub.specs.Calls.{power_of, start_of, step_of}
 
 -- what a call that is lent the record may answer and leave, as `scan_start` and `scan_step` say it
 abbrev Allows : Scanned → ScanReply → EhciRootHub → Type 0
@@ -20,5 +20,5 @@ same_start hub = same_left (start_of hub)
 pub same_step : (hub : EhciRootHub) (v : ℕ) (a b : ScanReply) (g h : EhciRootHub) → Allows (step_of hub v) a g → Allows (step_of hub v) b h → (a ≡ b) × (g ≡ h)
 same_step hub v = same_left (step_of hub v)
 
-pub same_power : (hub : EhciRootHub) (port v : ℕ) (a b : PortPower) → a ≡ powerOf hub port v → b ≡ powerOf hub port v → a ≡ b
+pub same_power : (hub : EhciRootHub) (port v : ℕ) (a b : PortPower) → a ≡ power_of hub port v → b ≡ power_of hub port v → a ≡ b
 same_power hub port v a b e f = e ∙ sym f

@@ -9,12 +9,12 @@ use lib.ListN.{length, replicate}
 use Rattle.opening.specs.declared.hub.EhciRootHub.{EhciRootHub}
 use Rattle.root_hub.specs.declared.calls.Scanned.{Scanned}
 use Rattle.root_hub.specs.declared.ports.PortEvent.TheVariants.{Nothing as NoEvent}
-use Rattle.root_hub.specs.Calls.{powerOf, scannedOf, start_of, step_of, withScan}
-use Rattle.root_hub.specs.Ports.{portEventNumber}
-use Rattle.root_hub.specs.Ranges.{hubGood, placeGood, stateGood, statesGood}
-use Rattle.root_hub.specs.Scan.{placeAfter}
+use Rattle.root_hub.specs.Calls.{power_of, scanned_of, start_of, step_of, with_scan}
+use Rattle.root_hub.specs.Ports.{port_event_number}
+use Rattle.root_hub.specs.Ranges.{hub_good, place_good, state_good, states_good}
+use Rattle.root_hub.specs.Scan.{place_after}
 use Rattle.root_hub.specs.Runs.{Right}
-use Rattle.root_hub.specs.Stories.{Event, Readings, WholeScan, allTaken, allTold, reports}
+use Rattle.root_hub.specs.Stories.{Event, Readings, WholeScan, all_taken, all_told, reports}
 use Rattle.root_hub.specs.Table.{HubMachine, StepsByTable}
 
 -- the port keeps its state and nothing is said
@@ -27,50 +27,50 @@ hushed h s =
 
 -- Connected, of a port that is not the first
 elsewhere : EhciRootHub → Scanned → Bool
-elsewhere h s = eqb (portEventNumber s.reply.event) 1 && not (eqb h.port 1)
+elsewhere h s = eqb (port_event_number s.reply.event) 1 && not (eqb h.port 1)
 
-pub firstPortOnly : HubMachine
-firstPortOnly =
-    record { start = start_of; step = λ h v. cond (elsewhere h (step_of h v)) (hushed h (step_of h v)) (step_of h v); power = powerOf }
+pub first_port_only : HubMachine
+first_port_only =
+    record { start = start_of; step = λ h v. cond (elsewhere h (step_of h v)) (hushed h (step_of h v)) (step_of h v); power = power_of }
 
 -- a scan that has come to its second port, which is Reseted and is read again
 second : EhciRootHub
 second = record { ports = 2; states = 0 ∷ 1 ∷ replicate 13 0; port = 2; step = 5 }
 
-second-right : Right second
-unfolding second hubGood statesGood stateGood placeGood
-second-right = record { good = refl; sized = refl }
+second_right : Right second
+unfolding second hub_good states_good state_good place_good
+second_right = record { good = refl; sized = refl }
 
-nothing_said : portEventNumber (firstPortOnly.step second 5).reply.event ≡ 0
-unfolding firstPortOnly elsewhere hushed second step_of scannedOf withScan placeAfter hubGood statesGood stateGood placeGood
+nothing_said : port_event_number (first_port_only.step second 5).reply.event ≡ 0
+unfolding first_port_only elsewhere hushed second step_of scanned_of with_scan place_after hub_good states_good state_good place_good
 nothing_said = refl
 
-pub first-port-only : StepsByTable firstPortOnly → ⊥
+pub first_port_only_lem : StepsByTable first_port_only → ⊥
 unfolding second
-first-port-only steps =
-    let brings = (steps second 5 second-right (λ z. omega (arith, z))).1.1.1.1.1.1.1.1.1.1.1.0 (refl, refl, refl) in
+first_port_only_lem steps =
+    let brings = (steps second 5 second_right (λ z. omega (arith, z))).1.1.1.1.1.1.1.1.1.1.1.0 (refl, refl, refl) in
     omega (arith, brings.reports.0, nothing_said)
 
 -- two ports as opening makes them, with a device of high speed at each
 fresh : EhciRootHub
 fresh = record { ports = 2; states = replicate 15 0; port = 0; step = 0 }
 
-fresh-right : Right fresh
-unfolding fresh hubGood statesGood stateGood placeGood
-fresh-right = record { good = refl; sized = refl }
+fresh_right : Right fresh
+unfolding fresh hub_good states_good state_good place_good
+fresh_right = record { good = refl; sized = refl }
 
 abbrev plugged : ℕ → Readings
 plugged port = record { status = 5; loss = 5; reset = 5; release = 5; again = 5; owner = 5 }
 
-one-said : length (reports firstPortOnly (firstPortOnly.start fresh).hub (allTaken plugged fresh.states 1 fresh.ports)) ≡ 1
-unfolding firstPortOnly elsewhere hushed fresh start_of step_of scannedOf withScan placeAfter hubGood statesGood stateGood placeGood
-one-said = refl
+one_said : length (reports first_port_only (first_port_only.start fresh).hub (all_taken plugged fresh.states 1 fresh.ports)) ≡ 1
+unfolding first_port_only elsewhere hushed fresh start_of step_of scanned_of with_scan place_after hub_good states_good state_good place_good
+one_said = refl
 
-two_said : allTold plugged fresh.states 1 fresh.ports ≡ (1, 1 ∷ 2 ∷ []) ∷ (1, 2 ∷ 2 ∷ []) ∷ []
+two_said : all_told plugged fresh.states 1 fresh.ports ≡ (1, 1 ∷ 2 ∷ []) ∷ (1, 2 ∷ 2 ∷ []) ∷ []
 unfolding fresh
 two_said = refl
 
-pub second-port-unheard : WholeScan firstPortOnly → ⊥
-second-port-unheard whole =
-    let same = ap (λ (es : List Event). length es) ((whole fresh plugged fresh-right).0 ∙ two_said) in
-    omega (arith, same, one-said)
+pub second_port_unheard : WholeScan first_port_only → ⊥
+second_port_unheard whole =
+    let same = ap (λ (es : List Event). length es) ((whole fresh plugged fresh_right).0 ∙ two_said) in
+    omega (arith, same, one_said)

@@ -1,6 +1,6 @@
 -- 000's traces of a port, as the scan makes them: a connect, a disconnect, a device that is not of high speed.
 use Rattle.std.specs.Prelude.{ℕ, List, [], ◌∷◌, replicate}
-use Rattle.register.specs.Writes.{writeOf, list_of}
+use Rattle.register.specs.Writes.{write_of, list_of}
 use Rattle.register.specs.declared.writes.Write.{Write}
 use Rattle.opening.specs.declared.hub.EhciRootHub.{EhciRootHub}
 use Rattle.common.specs.declared.reads.NextRead.{NextRead}
@@ -29,28 +29,28 @@ seen s =
       states = s.hub.states;
     }
 
-abbrev pub seenBy : EhciRootHub → List ℕ → List Seen
-seenBy h [] = []
-seenBy h (v ∷ vs) = seen (step_of h v) ∷ seenBy (step_of h v).hub vs
+abbrev pub seen_by : EhciRootHub → List ℕ → List Seen
+seen_by h [] = []
+seen_by h (v ∷ vs) = seen (step_of h v) ∷ seen_by (step_of h v).hub vs
 
 -- a record of one port in a state
-abbrev pub onePort : ℕ → EhciRootHub
-onePort state = record { ports = 1; states = state ∷ replicate 14 0; port = 0; step = 0 }
+abbrev pub one_port : ℕ → EhciRootHub
+one_port state = record { ports = 1; states = state ∷ replicate 14 0; port = 0; step = 0 }
 
 abbrev pub row : PortEvent → List Write → ℕ → NextRead → ℕ → Seen
 row event writes wait read state =
     record { event = event; writes = writes; wait = wait; read = read; states = state ∷ replicate 14 0 }
 
 abbrev pub scan : ℕ → List ℕ → List Seen
-scan state vs = seenBy (start_of (onePort state)).hub vs
+scan state vs = seen_by (start_of (one_port state)).hub vs
 
 -- `R R W(v|1100 &!2a) wait50 R W(v&!100) wait20 R`
 abbrev pub connects : List Seen × List Seen
 connects = (
   scan 0 (0x1803 ∷ 0x1803 ∷ 0x1901 ∷ 0x1005 ∷ []),
   row NoEvent [] 0 (Register 0x44) 0
-      ∷ row NoEvent (writeOf 0x44 0x1901 ∷ []) 50 (Register 0x44) 0
-      ∷ row NoEvent (writeOf 0x44 0x1801 ∷ []) 20 (Register 0x44) 1
+      ∷ row NoEvent (write_of 0x44 0x1901 ∷ []) 50 (Register 0x44) 0
+      ∷ row NoEvent (write_of 0x44 0x1801 ∷ []) 20 (Register 0x44) 1
       ∷ row (Connected 1 High) [] 0 NoRead 2
       ∷ [],
 )
@@ -60,16 +60,16 @@ abbrev pub disconnects : List Seen × List Seen
 disconnects = (
   scan 2 (0x1000 ∷ 0x100A ∷ []),
   row NoEvent [] 0 (Register 0x44) 2
-      ∷ row (Disconnected 1) (writeOf 0x44 0x1002 ∷ []) 0 NoRead 0
+      ∷ row (Disconnected 1) (write_of 0x44 0x1002 ∷ []) 0 NoRead 0
       ∷ [],
 )
 
 -- `.. R R W v|2000`
-abbrev pub isSlow : List Seen × List Seen
-isSlow = (
+abbrev pub is_slow : List Seen × List Seen
+is_slow = (
   scan 1 (0x1001 ∷ 0x1401 ∷ 0x1401 ∷ []),
   row NoEvent [] 0 (Register 0x44) 1
       ∷ row NoEvent [] 0 (Register 0x44) 1
-      ∷ row NoEvent (writeOf 0x44 0x3401 ∷ []) 0 NoRead 1
+      ∷ row NoEvent (write_of 0x44 0x3401 ∷ []) 0 NoRead 1
       ∷ [],
 )

@@ -8,33 +8,33 @@ use Rattle.root_hub.specs.declared.ports.Speed.{Speed}
 use Rattle.root_hub.specs.declared.ports.Speed.TheVariants.{Low, Full, High}
 
 -- Uninit 0, Reseted 1, Probed 2
-abbrev pub portState : ℕ → PortState
-portState n = cond (eqb n 0) Uninit (cond (eqb n 1) Reseted Probed)
+abbrev pub port_state : ℕ → PortState
+port_state n = cond (eqb n 0) Uninit (cond (eqb n 1) Reseted Probed)
 
 -- the port that an event is of, 0 where there is none
-abbrev pub eventPort : PortEvent → ℕ
-eventPort Nothing = 0
-eventPort (Connected port speed) = port
-eventPort (Disconnected port) = port
+abbrev pub event_port : PortEvent → ℕ
+event_port Nothing = 0
+event_port (Connected port speed) = port
+event_port (Disconnected port) = port
 
 -- 0 none, 1 Connected, 2 Disconnected
-abbrev pub portEventNumber : PortEvent → ℕ
-portEventNumber Nothing = 0
-portEventNumber (Connected port speed) = 1
-portEventNumber (Disconnected port) = 2
+abbrev pub port_event_number : PortEvent → ℕ
+port_event_number Nothing = 0
+port_event_number (Connected port speed) = 1
+port_event_number (Disconnected port) = 2
 
 -- as a head's endpoint speed counts them (EHCI 3.6)
-abbrev pub speedNumber : Speed → ℕ
-speedNumber Full = 0
-speedNumber Low = 1
-speedNumber High = 2
+abbrev pub speed_number : Speed → ℕ
+speed_number Full = 0
+speed_number Low = 1
+speed_number High = 2
 
 -- the port, and the speed of a device that came
-abbrev pub portEventValues : PortEvent → List ℕ
-portEventValues Nothing = []
-portEventValues (Connected port speed) = port ∷ speedNumber speed ∷ []
-portEventValues (Disconnected port) = port ∷ []
+abbrev pub port_event_values : PortEvent → List ℕ
+port_event_values Nothing = []
+port_event_values (Connected port speed) = port ∷ speed_number speed ∷ []
+port_event_values (Disconnected port) = port ∷ []
 
 -- an event is the one with a number and values
 abbrev pub Reports : PortEvent → ℕ → List ℕ → Type 0
-Reports event number values = (portEventNumber event ≡ number) × (portEventValues event ≡ values)
+Reports event number values = (port_event_number event ≡ number) × (port_event_values event ≡ values)

@@ -4,16 +4,16 @@ use Rattle.common.specs.Tests.{within}
 use Rattle.opening.specs.declared.hub.EhciRootHub.{EhciRootHub}
 use Rattle.root_hub.specs.declared.scan.Awaited.{Awaited}
 use Rattle.root_hub.specs.declared.scan.Awaited.TheVariants.{Status, Gone, Reset, Release, Again, Owner}
-use Rattle.root_hub.specs.Scan.{awaitedOf}
+use Rattle.root_hub.specs.Scan.{awaited_of}
 
 -- a port's state is one of the three; past the last port it is Uninit
-unfoldable pub stateGood : ℕ → ℕ → ℕ → Bool
-stateGood ports k state = cond (ltb k ports) (leb state 2) (eqb state 0)
+unfoldable pub state_good : ℕ → ℕ → ℕ → Bool
+state_good ports k state = cond (ltb k ports) (leb state 2) (eqb state 0)
 
 -- n ports, from place k on
-unfoldable pub statesGood : ℕ → ℕ → EhciRootHub → Bool
-statesGood k zero h = true
-statesGood k (suc n) h = stateGood h.ports k (get_or h.states k 0) && statesGood (suc k) n h
+unfoldable pub states_good : ℕ → ℕ → EhciRootHub → Bool
+states_good k zero h = true
+states_good k (suc n) h = state_good h.ports k (get_or h.states k 0) && states_good (suc k) n h
 
 -- the step that a scan has come to is one of those of its port's state
 abbrev pub fits : Awaited → ℕ → Bool
@@ -25,14 +25,14 @@ fits Again state = eqb state 1
 fits Owner state = eqb state 1
 
 -- the state of the port that a scan has come to
-abbrev pub stateAt : EhciRootHub → ℕ
-stateAt h = get_or h.states (h.port - 1) 0
+abbrev pub state_at : EhciRootHub → ℕ
+state_at h = get_or h.states (h.port - 1) 0
 
 -- no scan is begun, or it is at one of the ports
-unfoldable pub placeGood : EhciRootHub → Bool
-placeGood h =
+unfoldable pub place_good : EhciRootHub → Bool
+place_good h =
     cond (eqb h.port 0) (eqb h.step 0)
-    (leb h.port h.ports && (within h.step 1 6 && fits (awaitedOf h.step) (stateAt h)))
+    (leb h.port h.ports && (within h.step 1 6 && fits (awaited_of h.step) (state_at h)))
 
-unfoldable pub hubGood : EhciRootHub → Bool
-hubGood h = within h.ports 1 15 && (statesGood 0 15 h && placeGood h)
+unfoldable pub hub_good : EhciRootHub → Bool
+hub_good h = within h.ports 1 15 && (states_good 0 15 h && place_good h)

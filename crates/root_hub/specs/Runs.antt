@@ -1,24 +1,24 @@
 -- What any scan does, from its start and over the readings that it is fed, one a step.
 use Rattle.std.specs.Prelude.{ℕ, zero, suc, ◌-◌, ◌*◌, ◌≤◌, ◌<◌, Bool, true, false, List, [], ◌∷◌, ◌++◌, map, ◌⊎◌, ◌≡◌, eqb, get_or, length}
-use Rattle.register.specs.EhciRegisters.{portscOf}
+use Rattle.register.specs.EhciRegisters.{portsc_of}
 use Rattle.register.specs.Writes.{list_of}
 use Rattle.register.specs.declared.writes.Write.{Write}
 use Rattle.common.specs.Answers.{number_of}
-use Rattle.opening.specs.Hub.{openedHub}
+use Rattle.opening.specs.Hub.{opened_hub}
 use Rattle.opening.specs.declared.hub.EhciRootHub.{EhciRootHub}
 use Rattle.common.specs.declared.reads.NextRead.{NextRead}
 use Rattle.common.specs.declared.reads.NextRead.TheVariants.{Nothing as NoRead, Register}
 use Rattle.root_hub.specs.declared.scan.Awaited.{Awaited}
 use Rattle.root_hub.specs.declared.scan.Awaited.TheVariants.{Status, Gone, Release, Again}
 use Rattle.root_hub.specs.declared.calls.Scanned.{Scanned}
-use Rattle.root_hub.specs.Ports.{Reports, eventPort, portEventNumber}
-use Rattle.root_hub.specs.Scan.{awaitedOf, connected, enabled}
-use Rattle.root_hub.specs.Ranges.{stateAt, hubGood}
+use Rattle.root_hub.specs.Ports.{Reports, event_port, port_event_number}
+use Rattle.root_hub.specs.Scan.{awaited_of, connected, enabled}
+use Rattle.root_hub.specs.Ranges.{state_at, hub_good}
 use Rattle.root_hub.specs.Calls.{start_of, step_of}
 
 -- a record in its ranges, of 15 states as its type has them
 pub record Right (h : EhciRootHub) : Type 0 where
-  pub good : hubGood h ≡ true
+  pub good : hub_good h ≡ true
   pub sized : length h.states ≡ 15
 
 -- both calls keep it so
@@ -49,15 +49,15 @@ abbrev pub asked : EhciRootHub → List ℕ → List ℕ
 asked h [] = []
 asked h (v ∷ vs) = read_of (step_of h v).reply.read ++ asked (step_of h v).hub vs
 
-abbrev pub skipIf : Bool → ℕ → List ℕ → List ℕ
-skipIf true p ps = ps
-skipIf false p ps = p ∷ ps
+abbrev pub skip_if : Bool → ℕ → List ℕ → List ℕ
+skip_if true p ps = ps
+skip_if false p ps = p ∷ ps
 
 -- a list with each stretch of equal numbers taken as one
 abbrev pub stretches : List ℕ → List ℕ
 stretches [] = []
 stretches (x ∷ []) = x ∷ []
-stretches (x ∷ y ∷ l) = skipIf (eqb x y) x (stretches (y ∷ l))
+stretches (x ∷ y ∷ l) = skip_if (eqb x y) x (stretches (y ∷ l))
 
 -- n ports, from p on
 abbrev pub up_from : ℕ → ℕ → List ℕ
@@ -68,13 +68,13 @@ up_from p (suc n) = p ∷ up_from (suc p) n
 abbrev pub VisitsAll : Type 0
 VisitsAll =
     (h : EhciRootHub) (vs : List ℕ) → Right h → length vs ≡ 5 * h.ports
-    → stretches (read_of (start_of h).reply.read ++ asked (start_of h).hub vs) ≡ map portscOf (up_from 1 h.ports)
+    → stretches (read_of (start_of h).reply.read ++ asked (start_of h).hub vs) ≡ map portsc_of (up_from 1 h.ports)
 
 -- the ports of which events are reported
 abbrev pub reported : EhciRootHub → List ℕ → List ℕ
 reported h [] = []
 reported h (v ∷ vs) =
-    skipIf (eqb (portEventNumber (step_of h v).reply.event) 0) (eventPort (step_of h v).reply.event) (reported (step_of h v).hub vs)
+    skip_if (eqb (port_event_number (step_of h v).reply.event) 0) (event_port (step_of h v).reply.event) (reported (step_of h v).hub vs)
 
 -- each larger than the one before
 abbrev pub Ascends : ℕ → List ℕ → Type 0
@@ -99,7 +99,7 @@ pub data ByRule (a : Awaited) (port v : ℕ) (old new : ℕ) (r : Scanned) : Typ
 abbrev pub OnlyByRule : Type 0
 OnlyByRule =
     (h : EhciRootHub) (v : ℕ) → Right h → (h.step ≡ 0 → ⊥)
-    → ByRule (awaitedOf h.step) h.port v (stateAt h) (get_or (step_of h v).hub.states (h.port - 1) 0) (step_of h v)
+    → ByRule (awaited_of h.step) h.port v (state_at h) (get_or (step_of h v).hub.states (h.port - 1) 0) (step_of h v)
     × ((k : ℕ) → (k ≡ h.port - 1 → ⊥) → get_or (step_of h v).hub.states k 0 ≡ get_or h.states k 0)
 
 -- a scan comes to a port's loss only by reading a Probed port that is not connected, and to its reset only by reading an
@@ -107,16 +107,16 @@ OnlyByRule =
 abbrev pub OnlyWhenSeen : Type 0
 OnlyWhenSeen =
     (h : EhciRootHub) (v : ℕ) → Right h → (h.step ≡ 0 → ⊥)
-    → ((step_of h v).hub.step ≡ 2 → (awaitedOf h.step ≡ Status) × (stateAt h ≡ 2) × (connected v ≡ false))
-    × ((step_of h v).hub.step ≡ 3 → (awaitedOf h.step ≡ Status) × (stateAt h ≡ 0) × (connected v ≡ true))
+    → ((step_of h v).hub.step ≡ 2 → (awaited_of h.step ≡ Status) × (state_at h ≡ 2) × (connected v ≡ false))
+    × ((step_of h v).hub.step ≡ 3 → (awaited_of h.step ≡ Status) × (state_at h ≡ 0) × (connected v ≡ true))
 
 -- ---- the record as opening makes it: in its ranges where it is accepted, out of them where it is refused
 
 abbrev pub OpenedRight : Type 0
-OpenedRight = (ports : ℕ) → 1 ≤ ports → ports ≤ 15 → Right (openedHub ports)
+OpenedRight = (ports : ℕ) → 1 ≤ ports → ports ≤ 15 → Right (opened_hub ports)
 
 abbrev pub RefusedOut : Type 0
-RefusedOut = hubGood (openedHub 0) ≡ false
+RefusedOut = hub_good (opened_hub 0) ≡ false
 
 -- ---- the registers
 
@@ -125,4 +125,4 @@ abbrev pub OnlyOwn : Type 0
 OnlyOwn =
     (h : EhciRootHub) (v : ℕ)
     → (map (λ (w : Write). w.offset) (list_of (step_of h v).reply.writes) ≡ [])
-    ⊎ (map (λ (w : Write). w.offset) (list_of (step_of h v).reply.writes) ≡ portscOf h.port ∷ [])
+    ⊎ (map (λ (w : Write). w.offset) (list_of (step_of h v).reply.writes) ≡ portsc_of h.port ∷ [])

@@ -1,9 +1,9 @@
 -- Document 01, "Ports and bring-up", as a table: what each reading of a port must bring about, whoever makes the step.
 use Rattle.std.specs.Prelude.{ℕ, ◌+◌, ◌-◌, ◌≤◌, ◌<◌, Bool, true, not, ◌&&◌, List, [], ◌∷◌, map, ◌⊎◌, ◌≡◌, set}
-use Rattle.register.specs.Bits.{with_bits, withoutBits}
-use Rattle.register.specs.EhciRegisters.{portscOf}
-use Rattle.register.specs.Writes.{list_of, writeOf}
-use Rattle.token.specs.EhciPortsc.{currentConnect, portEnabled}
+use Rattle.register.specs.Bits.{with_bits, without_bits}
+use Rattle.register.specs.EhciRegisters.{portsc_of}
+use Rattle.register.specs.Writes.{list_of, write_of}
+use Rattle.token.specs.EhciPortsc.{current_connect, port_enabled}
 use Rattle.token.specs.Ports.{is_set}
 use Rattle.common.specs.Answers.{number_of}
 use Rattle.opening.specs.declared.hub.EhciRootHub.{EhciRootHub}
@@ -11,9 +11,9 @@ use Rattle.common.specs.declared.reads.NextRead.{NextRead}
 use Rattle.common.specs.declared.reads.NextRead.TheVariants.{Nothing as NoRead, Register}
 use Rattle.root_hub.specs.declared.calls.PortPower.{PortPower}
 use Rattle.root_hub.specs.declared.calls.Scanned.{Scanned}
-use Rattle.root_hub.specs.Calls.{powerOf, start_of, step_of}
+use Rattle.root_hub.specs.Calls.{power_of, start_of, step_of}
 use Rattle.root_hub.specs.Ports.{Reports}
-use Rattle.root_hub.specs.Ranges.{hubGood, stateAt}
+use Rattle.root_hub.specs.Ranges.{hub_good, state_at}
 use Rattle.root_hub.specs.Runs.{Right}
 
 -- anything that powers and scans ports, and this port
@@ -22,8 +22,8 @@ pub record HubMachine : Type 0 where
   pub step : EhciRootHub → ℕ → Scanned
   pub power : EhciRootHub → ℕ → ℕ → PortPower
 
-abbrev pub hubCore : HubMachine
-hubCore = record { start = start_of; step = step_of; power = powerOf }
+abbrev pub hub_core : HubMachine
+hub_core = record { start = start_of; step = step_of; power = power_of }
 
 -- ---- the table
 
@@ -69,20 +69,20 @@ again = 5
 abbrev pub owner : ℕ
 owner = 6
 
-abbrev pub nextPort : ℕ
-nextPort = 0
+abbrev pub next_port : ℕ
+next_port = 0
 
 abbrev pub anything : ℕ → Bool
 anything v = true
 
-abbrev pub isConnected : ℕ → Bool
-isConnected v = is_set (currentConnect v)
+abbrev pub is_connected : ℕ → Bool
+is_connected v = is_set (current_connect v)
 
-abbrev pub isEnabled : ℕ → Bool
-isEnabled v = is_set (portEnabled v)
+abbrev pub is_enabled : ℕ → Bool
+is_enabled v = is_set (port_enabled v)
 
-abbrev pub isAbsent : ℕ → Bool
-isAbsent v = not (isConnected v)
+abbrev pub is_absent : ℕ → Bool
+is_absent v = not (is_connected v)
 
 -- nothing is written, said or waited for: the port stays, and one reading follows
 abbrev pub quiet : ℕ → ℕ → (ℕ → Bool) → ℕ → Row
@@ -117,63 +117,63 @@ writing state reading becomes value wait after =
 abbrev pub table : List Row
 table =
     -- "Any other Probed or unconnected port: nothing."
-    quiet uninit status isAbsent nextPort
-    ∷ quiet reseted status isAbsent nextPort
-    ∷ quiet probed status isConnected nextPort
+    quiet uninit status is_absent next_port
+    ∷ quiet reseted status is_absent next_port
+    ∷ quiet probed status is_connected next_port
     -- "Probed, not connected: Uninit, write (v or 2) without 0x28, Disconnected."
-    ∷ quiet probed status isAbsent loss
+    ∷ quiet probed status is_absent loss
     ∷ record {
       state = probed;
       reading = loss;
       given = anything;
       becomes = uninit;
-      written = λ v. withoutBits (with_bits v 2) 0x28 ∷ [];
+      written = λ v. without_bits (with_bits v 2) 0x28 ∷ [];
       wait = 0;
       event = 2;
       values = λ port. port ∷ [];
-      after = nextPort;
+      after = next_port;
     }
     -- "Uninit, connected: write (v or 0x1100) without 0x2A, wait 50 ms; write v without 0x100, wait 20 ms; Reseted."
-    ∷ quiet uninit status isConnected reset
-    ∷ writing uninit reset uninit (λ v. withoutBits (with_bits v 0x1100) 0x2A) 50 release
-    ∷ writing uninit release reseted (λ v. withoutBits v 0x100) 20 again
+    ∷ quiet uninit status is_connected reset
+    ∷ writing uninit reset uninit (λ v. without_bits (with_bits v 0x1100) 0x2A) 50 release
+    ∷ writing uninit release reseted (λ v. without_bits v 0x100) 20 again
     -- "Read again: connected and enabled gives Probed and Connected, High;"
-    ∷ quiet reseted status isConnected again
-    ∷ quiet reseted again isAbsent nextPort
+    ∷ quiet reseted status is_connected again
+    ∷ quiet reseted again is_absent next_port
     ∷ record {
       state = reseted;
       reading = again;
-      given = λ v. isConnected v && isEnabled v;
+      given = λ v. is_connected v && is_enabled v;
       becomes = probed;
       written = λ v. [];
       wait = 0;
       event = 1;
       values = λ port. port ∷ 2 ∷ [];
-      after = nextPort;
+      after = next_port;
     }
     -- "connected and not enabled writes v or 0x2000."
-    ∷ quiet reseted again (λ v. isConnected v && not (isEnabled v)) owner
-    ∷ writing reseted owner reseted (λ v. with_bits v 0x2000) 0 nextPort
+    ∷ quiet reseted again (λ v. is_connected v && not (is_enabled v)) owner
+    ∷ writing reseted owner reseted (λ v. with_bits v 0x2000) 0 next_port
     ∷ []
 
 -- ---- a step by its row
 
 -- "Ports ascend": where a scan is after a reading of a port, and the register that it asks for
 pub data Goes (port ports after : ℕ) (hub : EhciRootHub) (read : NextRead) : Type 0 where
-  stays : (after ≡ 0 → ⊥) → hub.port ≡ port → hub.step ≡ after → read ≡ Register (portscOf port) → Goes port ports after hub read
-  ascends : after ≡ 0 → port < ports → hub.port ≡ port + 1 → hub.step ≡ status → read ≡ Register (portscOf (port + 1)) → Goes port ports after hub read
+  stays : (after ≡ 0 → ⊥) → hub.port ≡ port → hub.step ≡ after → read ≡ Register (portsc_of port) → Goes port ports after hub read
+  ascends : after ≡ 0 → port < ports → hub.port ≡ port + 1 → hub.step ≡ status → read ≡ Register (portsc_of (port + 1)) → Goes port ports after hub read
   ends : after ≡ 0 → ports ≤ port → hub.port ≡ 0 → hub.step ≡ 0 → read ≡ NoRead → Goes port ports after hub read
 
 abbrev pub Matches : EhciRootHub → ℕ → Row → Type 0
-Matches h v r = (stateAt h ≡ r.state) × (h.step ≡ r.reading) × (r.given v ≡ true)
+Matches h v r = (state_at h ≡ r.state) × (h.step ≡ r.reading) × (r.given v ≡ true)
 
 -- everything that a step leaves and answers is as a row says
 pub record Brings (h : EhciRootHub) (v : ℕ) (r : Row) (s : Scanned) : Type 0 where
   pub accepted : number_of s.reply.answer ≡ 0
   pub reports : Reports s.reply.event r.event (r.values h.port)
-  pub writes : list_of s.reply.writes ≡ map (λ (x : ℕ). writeOf (portscOf h.port) x) (r.written v)
+  pub writes : list_of s.reply.writes ≡ map (λ (x : ℕ). write_of (portsc_of h.port) x) (r.written v)
   pub waits : s.reply.wait ≡ r.wait
-  pub same-ports : s.hub.ports ≡ h.ports
+  pub same_ports : s.hub.ports ≡ h.ports
   pub states : s.hub.states ≡ set h.states (h.port - 1) r.becomes
   pub goes : Goes h.port h.ports r.after s.hub s.reply.read
 
@@ -197,7 +197,7 @@ pub record Starts (h : EhciRootHub) (s : Scanned) : Type 0 where
   pub reports : Reports s.reply.event 0 []
   pub writes : list_of s.reply.writes ≡ []
   pub waits : s.reply.wait ≡ 0
-  pub reads : s.reply.read ≡ Register (portscOf 1)
+  pub reads : s.reply.read ≡ Register (portsc_of 1)
   pub left : s.hub ≡ record { ports = h.ports; states = h.states; port = 1; step = status }
 
 abbrev pub StartsAtPortOne : HubMachine → Type 0
@@ -207,11 +207,11 @@ StartsAtPortOne m = (h : EhciRootHub) → Right h → Starts h (m.start h)
 
 pub record Powers (port v : ℕ) (p : PortPower) : Type 0 where
   pub accepted : number_of p.answer ≡ 0
-  pub writes : list_of p.writes ≡ writeOf (portscOf port) (withoutBits (with_bits v 0x1000) 0x2A) ∷ []
+  pub writes : list_of p.writes ≡ write_of (portsc_of port) (without_bits (with_bits v 0x1000) 0x2A) ∷ []
   pub waits : p.wait ≡ 20
 
 abbrev pub PowersPorts : HubMachine → Type 0
 PowersPorts m =
-    (h : EhciRootHub) (port v : ℕ) → hubGood h ≡ true
+    (h : EhciRootHub) (port v : ℕ) → hub_good h ≡ true
     → (1 ≤ port → port ≤ h.ports → Powers port v (m.power h port v))
     × (((port < 1) ⊎ (h.ports < port)) → number_of (m.power h port v).answer ≡ 1)

@@ -1,7 +1,7 @@
 // The calls by value: port power, the start of a scan, a step of it.
 ghost use Rattle.std.specs.Prelude.{◌≡◌};
 ghost use Rattle.common.specs.declared.answer.Refusal.TheVariants.{InvalidParameter};
-ghost use Rattle.root_hub.specs.Calls.{refusedScan, start_of, step_of, refusedPower, powerOf};
+ghost use Rattle.root_hub.specs.Calls.{refused_scan, start_of, step_of, refused_power, power_of};
 
 use crate::ports::PortEvent;
 use crate::ranges::{hub_good, index_of};
@@ -92,7 +92,7 @@ pub fn step(mut hub: EhciRootHub, reading: u32) -> Scanned
 }
 
 fn refuse(hub: EhciRootHub, refusal: Refusal) -> Scanned
-    ensures { result ≡ refusedScan hub refusal }
+    ensures { result ≡ refused_scan hub refusal }
 {
     Scanned {
         hub,
@@ -108,7 +108,7 @@ fn refuse(hub: EhciRootHub, refusal: Refusal) -> Scanned
 
 // 000's `init_ports` for one port, given its register's reading.
 pub fn port_power(hub: EhciRootHub, port: u8, reading: u32) -> PortPower
-    ensures { result ≡ powerOf hub port reading }
+    ensures { result ≡ power_of hub port reading }
 {
     if !hub_good(hub) {
         return no_power();
@@ -129,7 +129,7 @@ pub fn port_power(hub: EhciRootHub, port: u8, reading: u32) -> PortPower
 }
 
 fn no_power() -> PortPower
-    ensures { result ≡ refusedPower InvalidParameter }
+    ensures { result ≡ refused_power InvalidParameter }
 {
     PortPower {
         answer: Answer::Refused(Refusal::InvalidParameter),

@@ -1,6 +1,6 @@
 // A port's state and what a scan reports of it.
 ghost use Rattle.std.specs.Prelude.{◌≡◌};
-ghost use Rattle.root_hub.specs.Ports.{portState, eventPort};
+ghost use Rattle.root_hub.specs.Ports.{port_state, event_port};
 
 use opening::hub::{RESETED, UNINIT};
 
@@ -26,7 +26,7 @@ pub enum PortEvent {
 }
 
 pub fn port_state(number: u8) -> PortState
-    ensures { result ≡ portState number }
+    ensures { result ≡ port_state number }
 {
     match number {
         UNINIT => PortState::Uninit,
@@ -38,7 +38,7 @@ pub fn port_state(number: u8) -> PortState
 impl PortEvent {
     // The port that an event is of, 0 where there is none.
     pub fn port(self) -> u8
-        ensures { result ≡ eventPort self }
+        ensures { result ≡ event_port self }
     {
         match self {
             PortEvent::Nothing => 0,

@@ -1,11 +1,11 @@
 // The ranges of the ports' record, which every call asks first.
 ghost use Rattle.std.specs.Prelude.{◌≡◌, ◌-◌, ◌≤◌};
 ghost use Rattle.root_hub.specs.Ranges.{
-  stateGood,
-  statesGood,
+  state_good,
+  states_good,
   fits,
-  placeGood,
-  hubGood,
+  place_good,
+  hub_good,
 };
 
 use crate::scan::{Awaited, awaited_of};
@@ -20,7 +20,7 @@ pub fn index_of(port: u8) -> usize
 }
 
 fn state_good(ports: u8, k: u64, state: u8) -> bool
-    ensures { result ≡ stateGood ports k state }
+    ensures { result ≡ state_good ports k state }
 {
     if k < ports as u64 {
         state <= PROBED
@@ -30,7 +30,7 @@ fn state_good(ports: u8, k: u64, state: u8) -> bool
 }
 
 fn states_good(hub: EhciRootHub) -> bool
-    ensures { result ≡ statesGood 0 15 hub }
+    ensures { result ≡ states_good 0 15 hub }
 {
     let mut good = true;
     let mut k: usize = 0;
@@ -57,7 +57,7 @@ fn step_fits(awaited: Awaited, state: u8) -> bool
 
 fn place_good(hub: EhciRootHub) -> bool
     requires { hub.ports ≤ 15 }
-    ensures { result ≡ placeGood hub }
+    ensures { result ≡ place_good hub }
 {
     let port = hub.port;
     let step = hub.step;
@@ -73,7 +73,7 @@ fn place_good(hub: EhciRootHub) -> bool
 }
 
 pub fn hub_good(hub: EhciRootHub) -> bool
-    ensures { result ≡ hubGood hub }
+    ensures { result ≡ hub_good hub }
 {
     let ports = hub.ports;
     if (1 <= ports) & (ports <= 15) {

@@ -1,19 +1,19 @@
 // What the reading of one step of a scan does, and where the scan goes.
 ghost use Rattle.std.specs.Prelude.{◌≡◌, ◌≤◌};
-ghost use Rattle.root_hub.specs.Ports.{portState};
+ghost use Rattle.root_hub.specs.Ports.{port_state};
 ghost use Rattle.root_hub.specs.Scan.{
-  awaitedOf,
+  awaited_of,
   onward,
   await,
-  statusTurn,
-  againTurn,
-  goneTurn,
-  resetTurn,
-  releaseTurn,
-  ownerTurn,
+  status_turn,
+  again_turn,
+  gone_turn,
+  reset_turn,
+  release_turn,
+  owner_turn,
   turn_of,
-  placeAfter,
-  portWrites,
+  place_after,
+  port_writes,
 };
 
 use crate::ports::{PortEvent, PortState, Speed, port_state};
@@ -64,7 +64,7 @@ pub struct Place {
 }
 
 pub fn awaited_of(step: u8) -> Awaited
-    ensures { result ≡ awaitedOf step }
+    ensures { result ≡ awaited_of step }
 {
     match step {
         1 => Awaited::Status,
@@ -102,7 +102,7 @@ fn await_step(state: u8, step: u8) -> Turned
 
 // The first reading of a port.
 fn status_turn(state: u8, connected: bool) -> Turned
-    ensures { result ≡ statusTurn (portState state) state connected }
+    ensures { result ≡ status_turn (port_state state) state connected }
 {
     match port_state(state) {
         PortState::Uninit => {
@@ -131,7 +131,7 @@ fn status_turn(state: u8, connected: bool) -> Turned
 
 // The reading after the reset.
 fn again_turn(state: u8, port: u8, connected: bool, enabled: bool) -> Turned
-    ensures { result ≡ againTurn state port connected enabled }
+    ensures { result ≡ again_turn state port connected enabled }
 {
     if !connected {
         return onward(state);
@@ -150,7 +150,7 @@ fn again_turn(state: u8, port: u8, connected: bool, enabled: bool) -> Turned
 
 // A device that was reported is gone.
 fn gone_turn(port: u8, reading: u32) -> Turned
-    ensures { result ≡ goneTurn port reading }
+    ensures { result ≡ gone_turn port reading }
 {
     let value = with_bits(reading, EhciPortStatus::CONNECT_CHANGE);
     Turned {
@@ -164,7 +164,7 @@ fn gone_turn(port: u8, reading: u32) -> Turned
 
 // 000's `reset_port`, its first half.
 fn reset_turn(state: u8, reading: u32) -> Turned
-    ensures { result ≡ resetTurn state reading }
+    ensures { result ≡ reset_turn state reading }
 {
     let value = with_bits(reading, EhciPortStatus::POWER | EhciPortStatus::RESET);
     Turned {
@@ -178,7 +178,7 @@ fn reset_turn(state: u8, reading: u32) -> Turned
 
 // Its second half.
 fn release_turn(reading: u32) -> Turned
-    ensures { result ≡ releaseTurn reading }
+    ensures { result ≡ release_turn reading }
 {
     Turned {
         state: RESETED,
@@ -191,7 +191,7 @@ fn release_turn(reading: u32) -> Turned
 
 // A device that is not of high speed goes to the companion controller.
 fn owner_turn(state: u8, reading: u32) -> Turned
-    ensures { result ≡ ownerTurn state reading }
+    ensures { result ≡ owner_turn state reading }
 {
     Turned {
         state,
@@ -220,7 +220,7 @@ pub fn turn(awaited: Awaited, state: u8, port: u8, reading: u32) -> Turned
 pub fn place_after(port: u8, ports: u8, step: u8) -> Place
     requires le_port { 1 ≤ port }
     requires ports_bound { ports ≤ 15 }
-    ensures { result ≡ placeAfter port ports step }
+    ensures { result ≡ place_after port ports step }
 {
     if step != 0 {
         return Place {
@@ -245,7 +245,7 @@ pub fn place_after(port: u8, ports: u8, step: u8) -> Place
 
 pub fn port_writes(port: u8, change: Change) -> Writes
     requires { 1 ≤ port }
-    ensures { result ≡ portWrites port change }
+    ensures { result ≡ port_writes port change }
 {
     match change {
         Change::Nothing => Writes::none(),

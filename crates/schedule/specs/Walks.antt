@@ -1,12 +1,12 @@
 -- Following the links of a schedule, as EHCI 3.6 reads them.
 use Rattle.core.specs.Prelude.{◌≡◌, ℕ, ◌+◌, ◌*◌, ◌<◌, ◌⊎◌, List, [], ◌∷◌, length, ◌≢◌}
 use Rattle.state.specs.Plain.{Ehci}
-use Rattle.schedule.specs.Links.{slotLink, linkWord}
+use Rattle.schedule.specs.Links.{slot_link, link_word}
 
 -- from a link word on, the links meet the heads of these slots, in order, and then that word
 abbrev pub Chain : Ehci → List ℕ → ℕ → List ℕ → ℕ → Type 0
 Chain s heads word [] end = word ≡ end
-Chain s heads word (k ∷ ks) end = (word ≡ slotLink s k) × Chain s heads (linkWord heads k) ks end
+Chain s heads word (k ∷ ks) end = (word ≡ slot_link s k) × Chain s heads (link_word heads k) ks end
 
 -- slot k is none of these
 abbrev pub Avoids : ℕ → List ℕ → Type 0

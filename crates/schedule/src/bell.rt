@@ -1,6 +1,6 @@
 // The doorbell of the asynchronous schedule: ringing it, counting its answers, and the boundaries of unlinked requests.
 ghost use Rattle.core.specs.Prelude.{◌≡◌, ◌<◌, ◌≤◌};
-ghost use Rattle.schedule.specs.Bell.{commandWord, ringOf, unlinkedOf, advancedOf, frame_of, framesPassed};
+ghost use Rattle.schedule.specs.Bell.{command_word, ring_of, unlinked_of, advanced_of, frame_of, frames_passed};
 
 use register::bits::{with_bits, without_bits};
 use register::operational::{USBCMD, USBCMD_INT_ASYNC_ADVANCE_DOORBELL};
@@ -25,7 +25,7 @@ pub const PERIODIC_UNLINK_SAFE_UFRAMES: u32 = 9;
 
 // A value for USBCMD that is no ring.
 pub fn command_word(value: u32) -> u32
-    ensures { result ≡ commandWord value }
+    ensures { result ≡ command_word value }
 {
     without_bits(value, USBCMD_INT_ASYNC_ADVANCE_DOORBELL)
 }
@@ -33,7 +33,7 @@ pub fn command_word(value: u32) -> u32
 // Rings where the doorbell is down and an unlink is unanswered.
 pub fn ring(bell: Bell, writes: Writes, command: u32) -> Rung
     requires { writes.count < 6 }
-    ensures { result ≡ ringOf bell writes command }
+    ensures { result ≡ ring_of bell writes command }
 {
     if bell.doorbell == 0 {
         if 1 <= bell.unanswered {
@@ -57,7 +57,7 @@ pub fn ring(bell: Bell, writes: Writes, command: u32) -> Rung
 pub fn unlinked(bell: Bell, writes: Writes, command: u32) -> Rung
     requires count_bound { writes.count < 6 }
     requires unanswered_bound { bell.unanswered < 255 }
-    ensures { result ≡ unlinkedOf bell writes command }
+    ensures { result ≡ unlinked_of bell writes command }
 {
     let more = Bell {
         noted: bell.noted,
@@ -71,7 +71,7 @@ pub fn unlinked(bell: Bell, writes: Writes, command: u32) -> Rung
 pub fn advanced(bell: Bell, writes: Writes, command: u32) -> Rung
     requires count_bound { writes.count < 6 }
     requires le_unanswered { 1 ≤ bell.unanswered }
-    ensures { result ≡ advancedOf bell writes command }
+    ensures { result ≡ advanced_of bell writes command }
 {
     let fewer = Bell {
         noted: 0,
@@ -91,7 +91,7 @@ pub fn frame_of(reading: u32) -> u16
 // Whether the boundary of an interrupt request has passed.
 pub fn frames_passed(start: u16, reading: u32) -> bool
     requires { start < 16384 }
-    ensures { result ≡ framesPassed start reading }
+    ensures { result ≡ frames_passed start reading }
 {
     let distance = (reading % 16384 + (16384 - start as u32)) % 16384;
     PERIODIC_UNLINK_SAFE_UFRAMES <= distance

@@ -2,8 +2,8 @@
 ghost use Rattle.core.specs.Prelude.{◌≡◌, ◌+◌, ◌*◌, ◌^◌, ◌<◌, ◌≤◌, length, if◌then◌else◌};
 ghost use Rattle.words.specs.Good.{Good};
 ghost use Rattle.words.specs.View.{view};
-ghost use Rattle.schedule.specs.Links.{detachOf, detached, headAddress, periodic, predecessorOf, searchFrom, same, attachedRing, attachedFrames, links, withLinkWord, startedOverlay, endedOverlay};
-ghost use Rattle.schedule.specs.Words.{precedesWord};
+ghost use Rattle.schedule.specs.Links.{detach_of, detached, head_address, periodic, predecessor_of, search_from, same, attached_ring, attached_frames, links, with_link_word, started_overlay, ended_overlay};
+ghost use Rattle.schedule.specs.Words.{precedes_word};
 
 use common::rows::{fill_words, put_words};
 use descriptor::qtd::EHCI_LINK_TERMINATE;
@@ -22,7 +22,7 @@ pub enum Predecessor {
 // A control or bulk head goes in just after the ring head.
 pub fn attach_ring(heads: &mut [u32], k: u8, link: u32)
     requires { 17 * (k + 1) < length heads.old }
-    ensures { heads.new ≡ attachedRing heads.old k link }
+    ensures { heads.new ≡ attached_ring heads.old k link }
 {
     let at = 17 * (k as usize + 1);
     let first = heads[0];
@@ -34,7 +34,7 @@ pub fn attach_ring(heads: &mut [u32], k: u8, link: u32)
 pub fn attach_frames(heads: &mut [u32], frames: &mut [u32], k: u8, link: u32)
     requires k_in_bounds { 17 * (k + 1) < length heads.old }
     requires frames_nonzero { 0 < length frames.old }
-    ensures { links heads.new frames.new ≡ attachedFrames heads.old frames.old k link }
+    ensures { links heads.new frames.new ≡ attached_frames heads.old frames.old k link }
 {
     let at = 17 * (k as usize + 1);
     let first = frames[0];
@@ -50,7 +50,7 @@ pub fn same(a: bool, b: bool) -> bool
 
 // A link word for slot j, where the row has that head.
 pub fn give_link(heads: &mut [u32], j: u8, word: u32)
-    ensures { heads.new ≡ withLinkWord heads.old j word }
+    ensures { heads.new ≡ with_link_word heads.old j word }
 {
     let at = 17 * (j as usize + 1);
     if at < heads.len() {
@@ -61,7 +61,7 @@ pub fn give_link(heads: &mut [u32], j: u8, word: u32)
 // The overlay of a head whose request starts.
 pub fn start_overlay(heads: &mut [u32], k: u8, first: u32, token: u32)
     requires { 17 * (k + 1) + 6 < length heads.old }
-    ensures { heads.new ≡ startedOverlay heads.old k first token }
+    ensures { heads.new ≡ started_overlay heads.old k first token }
 {
     let at = 17 * (k as usize + 1);
     heads[at + 4] = first;
@@ -72,7 +72,7 @@ pub fn start_overlay(heads: &mut [u32], k: u8, first: u32, token: u32)
 // The current descriptor and the overlay of a head whose request is collected.
 pub fn end_overlay(heads: &mut [u32], k: u8)
     requires { 17 * (k + 1) + 17 ≤ length heads.old }
-    ensures { heads.new ≡ endedOverlay heads.old k }
+    ensures { heads.new ≡ ended_overlay heads.old k }
 {
     let words: [u32; 14] = [0, 1, 1, 0, 0, 0, 0, 0, 0, 0, 0, 0, 0, 0];
     put_words(heads, 17 * (k as usize + 1) + 3, &words);
@@ -87,7 +87,7 @@ pub fn head_address(core: Core, k: u8) -> u32
 }
 
 fn precedes(j: u8, k: u8, mark: u64, framed: bool, word: u32, address: u32) -> bool
-    ensures { result ≡ precedesWord j k mark framed word address }
+    ensures { result ≡ precedes_word j k mark framed word address }
 {
     let together = same(framed, mark / 4 % 4 == 3);
     (j != k) & (mark % 4 == 2) & together & (word / 32 == address / 32)
@@ -105,8 +105,8 @@ fn search(
     requires good { Good core.settings core.rest slots.now }
     requires k_lt_endpoints { (k < core.settings.endpoints) × (length heads.now ≡ 17 * (core.settings.endpoints + 1)) }
     requires framed_value { framed ≡ periodic (view core slots.now) k }
-    requires address_value { address ≡ headAddress (view core slots.now) k }
-    ensures { result ≡ searchFrom (view core slots.now) heads.now k 0 core.settings.endpoints }
+    requires address_value { address ≡ head_address (view core slots.now) k }
+    ensures { result ≡ search_from (view core slots.now) heads.now k 0 core.settings.endpoints }
 {
     let endpoints = core.settings.endpoints;
     let mut j: u8 = 0;
@@ -141,8 +141,8 @@ fn find_predecessor(
     requires good { Good core.settings core.rest slots.now }
     requires k_lt_endpoints { (k < core.settings.endpoints) × (length heads.now ≡ 17 * (core.settings.endpoints + 1)) × (0 < length frames.now) }
     requires framed_value { framed ≡ periodic (view core slots.now) k }
-    requires address_value { address ≡ headAddress (view core slots.now) k }
-    ensures { result ≡ predecessorOf (view core slots.now) heads.now frames.now k }
+    requires address_value { address ≡ head_address (view core slots.now) k }
+    ensures { result ≡ predecessor_of (view core slots.now) heads.now frames.now k }
 {
     let first = first_word(framed, frames[0], heads[0]);
     if first / 32 == address / 32 {
@@ -164,9 +164,9 @@ pub fn detach(
     requires good { Good core.settings core.rest slots.now }
     requires k_lt_endpoints { (k < core.settings.endpoints) × (length heads.old ≡ 17 * (core.settings.endpoints + 1)) × (0 < length frames.old) }
     requires framed_value { framed ≡ periodic (view core slots.now) k }
-    requires address_value { address ≡ headAddress (view core slots.now) k }
+    requires address_value { address ≡ head_address (view core slots.now) k }
     ensures { detached result heads.new frames.new
-        ≡ detachOf (view core slots.now) heads.old frames.old k }
+        ≡ detach_of (view core slots.now) heads.old frames.old k }
 {
     let found = find_predecessor(core, slots, heads, frames, k, framed, address);
     let word = heads[17 * (k as usize + 1)];

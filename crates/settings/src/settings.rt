@@ -1,12 +1,12 @@
 // What a controller is opened with, and the ranges that document 01 asks of it.
 ghost use Rattle.std.specs.Prelude.{◌≡◌, ◌≤◌, ◌^◌};
 ghost use Rattle.settings.specs.Settings.{
-  areaGood,
-  apartAreas,
-  numbersGood,
-  eachGood,
-  noOverlap,
-  settingsGood,
+  area_good,
+  apart_areas,
+  numbers_good,
+  each_good,
+  no_overlap,
+  settings_good,
 };
 
 pub const DESCRIPTORS_MAX: u64 = 256;
@@ -42,20 +42,20 @@ pub struct Settings {
 fn area_good(address: u64, alignment: u64, size: u64) -> bool
     requires le_alignment { 1 ≤ alignment }
     requires size_bound { size ≤ 2 ^ 32 }
-    ensures { result ≡ areaGood address alignment size }
+    ensures { result ≡ area_good address alignment size }
 {
     (address % alignment == 0) & (address <= MEMORY_END - size)
 }
 
 // The one that starts first ends at or before the start of the other.
 fn apart(a: u64, m: u64, b: u64, n: u64) -> bool
-    ensures { result ≡ apartAreas a m b n }
+    ensures { result ≡ apart_areas a m b n }
 {
     if a <= b { m <= b - a } else { n <= a - b }
 }
 
 fn numbers_good(s: Settings) -> bool
-    ensures { result ≡ numbersGood s }
+    ensures { result ≡ numbers_good s }
 {
     ((1 <= s.descriptors) & (s.descriptors <= DESCRIPTORS_MAX))
         & ((1 <= s.endpoints) & (s.endpoints <= ENDPOINTS_MAX))
@@ -66,7 +66,7 @@ fn numbers_good(s: Settings) -> bool
 
 fn each_good(s: Settings) -> bool
     requires { (s.descriptors ≤ 256) × (s.endpoints ≤ 32) }
-    ensures { result ≡ eachGood s }
+    ensures { result ≡ each_good s }
 {
     let endpoints = s.endpoints as u64;
     let pool = area_good(s.pool, 64, 64 * (s.descriptors + 1));
@@ -78,7 +78,7 @@ fn each_good(s: Settings) -> bool
 
 fn no_overlap(s: Settings) -> bool
     requires { (s.descriptors ≤ 256) × (s.endpoints ≤ 32) }
-    ensures { result ≡ noOverlap s }
+    ensures { result ≡ no_overlap s }
 {
     let endpoints = s.endpoints as u64;
     let pool = 64 * (s.descriptors + 1);
@@ -96,7 +96,7 @@ fn no_overlap(s: Settings) -> bool
 impl Settings {
     // Whether a controller may be opened so.
     pub fn good(self) -> bool
-        ensures { result ≡ settingsGood self }
+        ensures { result ≡ settings_good self }
     {
         if numbers_good(self) {
             each_good(self) & no_overlap(self)

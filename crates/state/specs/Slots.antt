@@ -18,8 +18,8 @@ slot_at s k =
       boundary = get_or s.boundaries k 0;
     }
 
-unfoldable pub withSlot : Ehci → ℕ → Slot → Ehci
-withSlot s k e =
+unfoldable pub with_slot : Ehci → ℕ → Slot → Ehci
+with_slot s k e =
     record {
       settings = s.settings;
       running = s.running;

@@ -3,8 +3,8 @@ use Rattle.std.specs.Prelude.{ℕ, List}
 use Rattle.state.specs.Plain.{Ehci}
 
 -- bring-up: running, the step, the reads of its wait; its start also turns the interrupt flag off
-unfoldable pub withBringUp : Ehci → ℕ → ℕ → ℕ → ℕ → Ehci
-withBringUp s running step waited enabled =
+unfoldable pub with_bring_up : Ehci → ℕ → ℕ → ℕ → ℕ → Ehci
+with_bring_up s running step waited enabled =
     record {
       settings = s.settings;
       running = running;
@@ -31,8 +31,8 @@ withBringUp s running step waited enabled =
     }
 
 -- the address that is allotted next
-unfoldable pub withNextAddress : Ehci → ℕ → Ehci
-withNextAddress s address =
+unfoldable pub with_next_address : Ehci → ℕ → Ehci
+with_next_address s address =
     record {
       settings = s.settings;
       running = s.running;
@@ -59,8 +59,8 @@ withNextAddress s address =
     }
 
 -- the interrupt flag, what is pending, what is masked
-unfoldable pub withInterrupt : Ehci → ℕ → ℕ → ℕ → Ehci
-withInterrupt s enabled pending masked =
+unfoldable pub with_interrupt : Ehci → ℕ → ℕ → ℕ → Ehci
+with_interrupt s enabled pending masked =
     record {
       settings = s.settings;
       running = s.running;
@@ -87,8 +87,8 @@ withInterrupt s enabled pending masked =
     }
 
 -- the note, the doorbell, the unlinks that are unanswered
-unfoldable pub withBell : Ehci → ℕ → ℕ → ℕ → Ehci
-withBell s noted doorbell unanswered =
+unfoldable pub with_bell : Ehci → ℕ → ℕ → ℕ → Ehci
+with_bell s noted doorbell unanswered =
     record {
       settings = s.settings;
       running = s.running;
@@ -115,8 +115,8 @@ withBell s noted doorbell unanswered =
     }
 
 -- the boundaries of all slots
-unfoldable pub withBoundaries : Ehci → List ℕ → Ehci
-withBoundaries s boundaries =
+unfoldable pub with_boundaries : Ehci → List ℕ → Ehci
+with_boundaries s boundaries =
     record {
       settings = s.settings;
       running = s.running;
@@ -143,8 +143,8 @@ withBoundaries s boundaries =
     }
 
 -- the owner row
-unfoldable pub withOwner : Ehci → List ℕ → Ehci
-withOwner s owner =
+unfoldable pub with_owner : Ehci → List ℕ → Ehci
+with_owner s owner =
     record {
       settings = s.settings;
       running = s.running;

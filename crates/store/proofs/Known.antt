@@ -25,11 +25,11 @@ fit_at [] f i = lit< tt
 fit_at (w ∷ ws) f zero = f.0
 fit_at (w ∷ ws) f (suc i) = fit_at ws f.1 i
 
-fit-part : (k : ℕ) (ws : List ℕ) → Fitting ws → (i : ℕ) → get_or (take k ws) i 0 < 2 ^ 64
-fit-part zero ws f i = lit< tt
-fit-part (suc k) [] f i = lit< tt
-fit-part (suc k) (w ∷ ws) f zero = f.0
-fit-part (suc k) (w ∷ ws) f (suc i) = fit-part k ws f.1 i
+fit_part : (k : ℕ) (ws : List ℕ) → Fitting ws → (i : ℕ) → get_or (take k ws) i 0 < 2 ^ 64
+fit_part zero ws f i = lit< tt
+fit_part (suc k) [] f i = lit< tt
+fit_part (suc k) (w ∷ ws) f zero = f.0
+fit_part (suc k) (w ∷ ws) f (suc i) = fit_part k ws f.1 i
 
 each_fits : (ws : List ℕ) (us : List Val) → shadow (each ℕ u64.own_val (map (λ (w : ℕ). w) ws) us) → Fitting ws
 each_fits [] us s = tt
@@ -41,11 +41,11 @@ module _ (w : Store) (g : Is T.the_row w (LL.vals T.the_type T'.the_laws w)) whe
   slots_length = sym (length-map w.slots _) ∙ (LL.owed T.the_type T'.the_laws w _ g).1.0.1.0.1
 
   -- of the words that are lent
-  pub slots-fit : (k i : ℕ) → get_or (take k w.slots) i 0 < 2 ^ 64
-  slots-fit k = fit-part k w.slots (each_fits w.slots _ (LL.owed T.the_type T'.the_laws w _ g).1.0.1.1)
+  pub slots_fit_lem : (k i : ℕ) → get_or (take k w.slots) i 0 < 2 ^ 64
+  slots_fit_lem k = fit_part k w.slots (each_fits w.slots _ (LL.owed T.the_type T'.the_laws w _ g).1.0.1.1)
 
-  pub free-fits : Words w.core.rest.free
-  free-fits =
+  pub free_fits : Words w.core.rest.free
+  free_fits =
       let core = (LL.owed T.the_type T'.the_laws w _ g).0 in
       let rest = (LL.owed C.the_type C'.the_laws w.core _ core).1.0 in
       let free = each_fits w.core.rest.free _ (LL.owed R.the_type R'.the_laws w.core.rest _ rest).1.1.1.1.1.1.1.1.1.1.0.1.1 in

@@ -3,8 +3,8 @@
 --     apart_in         the local at the array's machine value, with what the array owns, is its elements
 --     value_out        and back: the elements are the local at some machine value, with what the array owns
 --     lends            the elements are lent as a `&κ mut [T]` under a new name.      comes       once κ is over they are back, at the last list
---     lends_part       the first k elements are lent so; the rest waits in LentPart.  comes-part  once κ is over all are back, the first ones at the last list
---     lit-big          the operand `int_big w n`, which a large literal is, as the count 1024
+--     lends_part       the first k elements are lent so; the rest waits in LentPart.  comes_part  once κ is over all are back, the first ones at the last list
+--     lit_big          the operand `int_big w n`, which a large literal is, as the count 1024
 -- Assumes `Logic`.
 use Rattle.core.specs.Prelude.{◌≡◌, ℕ, ◌≤◌, List, [], ◌∷◌, ◌++◌, length, take, drop as drop-list}
 use mathlib.Core.Path.{refl, sym, ◌∙◌, ap, subst}
@@ -75,11 +75,11 @@ module _ (R : RattleType) (b : ℕ) {M : Type 1} {𝓤 : Ura M} (𝓛 : Logic �
   abbrev Lends : ℕ → Type 1
   Lends n = Room R n → ent 𝓤 (sem 𝓛 (Elems R n b ys)) (H.⇛ (ex 𝓤 (λ (γ : GName). sep 𝓤 (sem 𝓛 ((MutSlice (named 0) κ R).own_val (slice R n b γ ys) (slice_val (b, 0) n ∷ []))) (A.lent κ (Held R n b 0 γ)))))
 
-  lends-all : Lends (length ys)
-  lends-all room = qed 𝓛 (‵ (Elems R (length ys) b ys) ∷ []) ∵ fsplit ! $ drop ! $ use1 𝓛 (‵ (cells (mem R) ys b 0)) (whole_in 𝓛 R ys b 0) $ by ! (lends_slice 𝓛 R (named 0) κ ys b 0 room)
+  lends_all : Lends (length ys)
+  lends_all room = qed 𝓛 (‵ (Elems R (length ys) b ys) ∷ []) ∵ fsplit ! $ drop ! $ use1 𝓛 (‵ (cells (mem R) ys b 0)) (whole_in 𝓛 R ys b 0) $ by ! (lends_slice 𝓛 R (named 0) κ ys b 0 room)
 
   pub lends : (n : ℕ) → length ys ≡ n → Lends n
-  lends n e = subst Lends e lends-all
+  lends n e = subst Lends e lends_all
 
 module _ (R : RattleType) (n b : ℕ) (rs : List R.Denot) (k : ℕ) (κ : Lft) where
   abbrev Rest : ℕ → Fml
@@ -94,8 +94,8 @@ module _ (R : RattleType) (n b : ℕ) (rs : List R.Denot) (k : ℕ) (κ : Lft) w
     abbrev LendsPart : ℕ → Type 1
     LendsPart m = ent 𝓤 (sem 𝓛 (Elems R n b rs)) (H.⇛ (ex 𝓤 (λ (γ : GName). sep 𝓤 (sem 𝓛 ((MutSlice (named 0) κ R).own_val (slice R n b γ (take k rs)) (slice_val (b, 0) m ∷ []))) (sem 𝓛 (LentPart m γ)))))
 
-    lends-take : Room R (length (take k rs)) → LendsPart (length (take k rs))
-    lends-take room =
+    lends_take : Room R (length (take k rs)) → LendsPart (length (take k rs))
+    lends_take room =
         qed 𝓛 (‵ (Elems R n b rs) ∷ []) ∵ updating ! $ fsplit ! $ drop ! $ use1 𝓛 (‵ (cells (mem R) rs b 0)) (whole_in 𝓛 R rs b 0) $
         rewrite ! 0 (λ (ys : List R.Denot). ‵ (cells (mem R) ys b 0)) (sym (take-append-drop k rs)) refl $
         use1 𝓛 (‵ (cells (mem R) (take k rs) b 0) ⊛ ‵ (Rest (length (take k rs)))) (cut_app 𝓛 (mem R) (take k rs) (drop-list k rs) b 0) $ split ! $
@@ -103,11 +103,11 @@ module _ (R : RattleType) (n b : ℕ) (rs : List R.Denot) (k : ℕ) (κ : Lft) w
         at_once ! $ show ! (λ (γ' : GName). sep 𝓤 (sem 𝓛 ((MutSlice (named 0) κ R).own_val (slice R n b γ' (take k rs)) (slice_val (b, 0) (length (take k rs)) ∷ []))) (sem 𝓛 (LentPart (length (take k rs)) γ'))) γ $ frame ! $ fjoin ! $ done !)
 
     pub lends_part : length rs ≡ n → k ≤ n → Room R n → LendsPart k
-    lends_part e l room = subst LendsPart (length-take-le k rs (subst (λ (m : ℕ). k ≤ m) (sym e) l)) (lends-take (Room-take R n k rs e room))
+    lends_part e l room = subst LendsPart (length-take-le k rs (subst (λ (m : ℕ). k ≤ m) (sym e) l)) (lends_take (Room-take R n k rs e room))
 
-    pub comes-part : length rs ≡ n → k ≤ n → (γ : GName) (ws : List R.Denot)
+    pub comes_part : length rs ≡ n → k ≤ n → (γ : GName) (ws : List R.Denot)
         → ent 𝓤 (sep 𝓤 (A.dead κ) (sep 𝓤 (sem 𝓛 (LentPart k γ)) (sem 𝓛 (finally R γ ws)))) (H.⇛ (sem 𝓛 (Elems R n b (ws ++ drop-list k rs))))
-    comes-part e l γ ws =
+    comes_part e l γ ws =
         qed 𝓛 (‵ (fdead κ) ∷ ‵ (LentPart k γ) ∷ ‵ (finally R γ ws) ∷ []) ∵ updating ! $ move ! (1 ∷ []) $ fsplit ! $ move ! (2 ∷ 0 ∷ 3 ∷ []) $
         use3 𝓛 (later (‵ ((Arr (mem R) k).own_at ws b 0))) (slice_back 𝓛 R κ γ ws k b 0) $ await ! tt $ fsplit ! $ feq_l ! (λ lw.
         rewrite ! 1 (λ (m : ℕ). ‵ (Rest m)) (sym lw) refl $
@@ -115,5 +115,5 @@ module _ (R : RattleType) (n b : ℕ) (rs : List R.Denot) (k : ℕ) (κ : Lft) w
         feq_i ! ℕ (length (ws ++ drop-list k rs)) n (same_len k rs ws (lw ∙ sym (length-take-le k rs (subst (λ (m : ℕ). k ≤ m) (sym e) l))) ∙ e) $ fjoin ! $ at_once ! $ done !)
 
 module _ {M : Type 1} {𝓤 : Ura M} {𝓛 : Logic 𝓤} {K : Type 0} {Γ : List (Item 𝓤)} {E : Env 𝓤 𝓛.H} where
-  pub lit-big : K → {w : Width} {n : ℕ} → Fits w n → Opd K 𝓛 Γ E (int_big w n) (vint w n)
-  lit-big t {w} {n} z = record { go = λ Kt h. via 𝓤 (Kt (vint w n)) h (guard_i 𝓤 (Fits w n) (Kt (vint w n)) z) }
+  pub lit_big : K → {w : Width} {n : ℕ} → Fits w n → Opd K 𝓛 Γ E (int_big w n) (vint w n)
+  lit_big t {w} {n} z = record { go = λ Kt h. via 𝓤 (Kt (vint w n)) h (guard_i 𝓤 (Fits w n) (Kt (vint w n)) z) }

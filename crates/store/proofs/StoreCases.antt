@@ -8,48 +8,48 @@ use denote.Struct.Laws as LL
 use Rattle.common.specs.declared.answer.Answer.{Answer}
 use Rattle.common.specs.declared.answer.Answer.TheVariants.{Done, Refused}
 use Rattle.common.specs.declared.answer.Refusal.{Refusal}
-use Rattle.common.proofs.CheckLaws.{answers-apart}
-use Rattle.common.proofs.TestLaws.{false-true}
+use Rattle.common.proofs.CheckLaws.{answers_apart}
+use Rattle.common.proofs.TestLaws.{false_true}
 use Rattle.descriptor.specs.declared.qtd.QueueTransferDescriptor.{QueueTransferDescriptor as Record}
 use Rattle.pool.specs.Chains.{blank}
 use Rattle.settings.specs.declared.settings.Settings.{Settings}
-use Rattle.settings.specs.Settings.{settingsGood}
+use Rattle.settings.specs.Settings.{settings_good}
 use Rattle.state.specs.Plain.{Ehci}
-use Rattle.state.specs.Ranges.{inRanges}
+use Rattle.state.specs.Ranges.{in_ranges}
 use Rattle.words.specs.declared.core.Core.{Core}
 use Rattle.words.specs.Good.{Tidy}
 use Rattle.words.specs.View.{state_of, view}
-use Rattle.words.proofs.OpenedLaws.{view-opened}
+use Rattle.words.proofs.OpenedLaws.{view_opened}
 use Rattle.ehci.specs.declared.call.Call.{Call}
-use Rattle.ehci.specs.Door.{Applied, applyOf}
+use Rattle.ehci.specs.Door.{Applied, apply_of}
 use Rattle.opening.specs.declared.open.Opening.{Opening}
-use Rattle.opening.specs.Opening.{Opened, freshState, noSettings, openOf}
-use Rattle.opening.specs.Words.{DecidedWords, OpensWords, blankCore, decideWords, decidedWords, openWords, refusedWords, rows_of, slotsFit}
+use Rattle.opening.specs.Opening.{Opened, fresh_state, no_settings, open_of}
+use Rattle.opening.specs.Words.{DecidedWords, OpensWords, blank_core, decide_words, decided_words, open_words, refused_words, rows_of, slots_fit}
 use Rattle.opening.specs.Words as opening
-use Rattle.opening.proofs.WordsGood.{blank-out, done-good}
+use Rattle.opening.proofs.WordsGood.{blank_out, done_good}
 use Rattle.store.specs.declared.store.Called.{Called}
 use Rattle.store.specs.declared.store.OpenedRows.{OpenedRows}
 use Rattle.store.specs.declared.store.OpenedStore.{OpenedStore}
 use Rattle.store.specs.declared.store.Store.{Store}
 use Rattle.store.specs.Plain as plain
-use Rattle.store.specs.Stores.{blankStore, bytesLent, callRows, callStore, calledAfter, open_rows, openStore, recordsLent, rowsAfter, storeOpened as plainOpened, wordsLent}
-use Rattle.store.specs.Words.{OpenedIn, Opens, Tended, Tends, calledView, lentSlots, openedView, slotsLent, storeView}
-use Rattle.store.specs.Lends.{LentCall, calledAt, callLent, openLent, rowsLeft, storeAfter, storeOpened, wholeRows}
+use Rattle.store.specs.Stores.{blank_store, bytes_lent, call_rows, call_store, called_after, open_rows, open_store, records_lent, rows_after, store_opened as plainOpened, words_lent}
+use Rattle.store.specs.Words.{OpenedIn, Opens, Tended, Tends, called_view, lent_slots, opened_view, slots_lent, store_view}
+use Rattle.store.specs.Lends.{LentCall, called_at, call_lent, open_lent, rows_left, store_after, store_opened, whole_rows}
 use Rattle.store.specs.contracts.store.Store as T
 use Rattle.store.proofs.store.Store.TheLaws as T'
-use Rattle.store.proofs.Known.{free-fits, slots-fit, slots_length}
-use Rattle.store.proofs.OpenSame.{done-fresh, open-same}
-use Rattle.store.proofs.WordsLaws.{call_same, tended-after, tidy-after}
+use Rattle.store.proofs.Known.{free_fits, slots_fit_lem, slots_length}
+use Rattle.store.proofs.OpenSame.{done_fresh, open_same}
+use Rattle.store.proofs.WordsLaws.{call_same, tended_after, tidy_after}
 
 -- ---- before any opening
 
-pub refused-core : (o : Opening) (w h f u : List ℕ)
-    → decidedWords o w h f u ≡ decideWords noSettings 0 (0 ∷ []) (0 ∷ []) (0 ∷ []) (0 ∷ []) → o.core ≡ blankCore
-unfolding decideWords slotsFit refusedWords
-refused-core o w h f u e = ap (λ (d : DecidedWords). d.opening.core) e
+pub refused_core : (o : Opening) (w h f u : List ℕ)
+    → decided_words o w h f u ≡ decide_words no_settings 0 (0 ∷ []) (0 ∷ []) (0 ∷ []) (0 ∷ []) → o.core ≡ blank_core
+unfolding decide_words slots_fit refused_words
+refused_core o w h f u e = ap (λ (d : DecidedWords). d.opening.core) e
 
-abbrev blankWith : Core → Store
-blankWith c =
+abbrev blank_with : Core → Store
+blank_with c =
     record {
       core = c;
       slots = replicate 192 0;
@@ -59,59 +59,59 @@ blankWith c =
       setups = replicate 256 0;
     }
 
-abbrev blankAt : Ehci → plain.Store
-blankAt e =
+abbrev blank_at : Ehci → plain.Store
+blank_at e =
     record { state = e; pool = replicate 257 blank; heads = replicate 561 0; frames = replicate 1024 0; setups = replicate 256 0 }
 
-blank-view : storeView (blankWith blankCore) ≡ blankStore
-unfolding blankStore blankCore freshState
-blank-view =
-    ap blankAt (view-opened noSettings)
+blank_view : store_view (blank_with blank_core) ≡ blank_store
+unfolding blank_store blank_core fresh_state
+blank_view =
+    ap blank_at (view_opened no_settings)
 
-pub blank-done : (c : Core) → c ≡ blankCore → (storeView (blankWith c) ≡ blankStore) × Tended (blankWith c)
-blank-done c e =
-    subst (λ (x : Core). (storeView (blankWith x) ≡ blankStore) × Tended (blankWith x)) (sym e)
-    (blank-view, record { tidy = λ r. absurd (false-true (sym (blank-out (lentSlots (blankWith blankCore))) ∙ r)) })
+pub blank_done : (c : Core) → c ≡ blank_core → (store_view (blank_with c) ≡ blank_store) × Tended (blank_with c)
+blank_done c e =
+    subst (λ (x : Core). (store_view (blank_with x) ≡ blank_store) × Tended (blank_with x)) (sym e)
+    (blank_view, record { tidy = λ r. absurd (false_true (sym (blank_out (lent_slots (blank_with blank_core))) ∙ r)) })
 
 -- ---- an opening
 
-pub accepted-store : (a : Answer) (w : Store) (o : OpenedRows) (r : Store) → a ≡ Done → r ≡ storeAfter o → r ≡ storeOpened a w o
-accepted-store a w o r ea e = rw (ea, e)
+pub accepted_store : (a : Answer) (w : Store) (o : OpenedRows) (r : Store) → a ≡ Done → r ≡ store_after o → r ≡ store_opened a w o
+accepted_store a w o r ea e = rw (ea, e)
 
 module _ (w : Store) (s : Settings) (d k h u : ℕ) (o : OpenedRows) (after : Store) (known : Is T.the_row w (LL.vals T.the_type T'.the_laws w)) (tended : Tended w)
-    (ed : d ≡ recordsLent s) (ek : k ≡ slotsLent s) (eh : h ≡ wordsLent s) (eu : u ≡ bytesLent s)
-    (rows : rowsLeft o ≡ openLent s w.pool w.slots w.heads w.frames w.setups d k h u)
-    (words : OpensWords s o.opening (take k w.slots) (take k o.slots)) (ea : after ≡ storeOpened o.opening.answer w o) where
+    (ed : d ≡ records_lent s) (ek : k ≡ slots_lent s) (eh : h ≡ words_lent s) (eu : u ≡ bytes_lent s)
+    (rows : rows_left o ≡ open_lent s w.pool w.slots w.heads w.frames w.setups d k h u)
+    (words : OpensWords s o.opening (take k w.slots) (take k o.slots)) (ea : after ≡ store_opened o.opening.answer w o) where
   abbrev came : Opened
-  came = openOf s (take d w.pool) (take h w.heads) w.frames (take u w.setups)
+  came = open_of s (take d w.pool) (take h w.heads) w.frames (take u w.setups)
 
-  lent-long : length (take k w.slots) ≡ min (6 * s.endpoints) 192
-  lent-long = length-take-le k w.slots (omega (arith, slots_length w known, ek)) ∙ ek
+  lent_long : length (take k w.slots) ≡ min (6 * s.endpoints) 192
+  lent_long = length-take-le k w.slots (omega (arith, slots_length w known, ek)) ∙ ek
 
-  same : openWords s (take d w.pool) (take k w.slots) (take h w.heads) w.frames (take u w.setups) ≡ rows_of came
-  same = open-same s (take d w.pool) (take h w.heads) w.frames (take u w.setups) (take k w.slots) lent-long
+  same : open_words s (take d w.pool) (take k w.slots) (take h w.heads) w.frames (take u w.setups) ≡ rows_of came
+  same = open_same s (take d w.pool) (take h w.heads) w.frames (take u w.setups) (take k w.slots) lent_long
 
-  left : rowsLeft o ≡ wholeRows (rows_of came) w.pool w.heads w.setups d h u
-  unfolding openLent
-  left = rows ∙ ap (λ (x : opening.OpenedRows). wholeRows x w.pool w.heads w.setups d h u) same
+  left : rows_left o ≡ whole_rows (rows_of came) w.pool w.heads w.setups d h u
+  unfolding open_lent
+  left = rows ∙ ap (λ (x : opening.OpenedRows). whole_rows x w.pool w.heads w.setups d h u) same
 
   answers : o.opening.answer ≡ came.opening.answer
   answers = ap (λ (x : opening.OpenedRows). x.answer) left
 
   -- what is to be left, by the answer
-  abbrev targetBy : Answer → plain.OpenedStore
-  targetBy a =
+  abbrev target_by : Answer → plain.OpenedStore
+  target_by a =
       record {
-        store = plainOpened a (storeView w) (rowsAfter came w.pool w.heads w.setups d h u);
+        store = plainOpened a (store_view w) (rows_after came w.pool w.heads w.setups d h u);
         hub = came.opening.hub;
         answer = came.opening.answer;
       }
 
   abbrev target : plain.OpenedStore
-  target = targetBy came.opening.answer
+  target = target_by came.opening.answer
 
-  target_is : target ≡ openStore (storeView w) s
-  unfolding openStore open_rows
+  target_is : target ≡ open_store (store_view w) s
+  unfolding open_store open_rows
   target_is = rw (ed, eh, eu)
 
   abbrev shown : opening.OpenedRows → Ehci → plain.OpenedStore
@@ -123,143 +123,143 @@ module _ (w : Store) (s : Settings) (d k h u : ℕ) (o : OpenedRows) (after : St
       }
 
   abbrev unmoved : opening.OpenedRows → plain.OpenedStore
-  unmoved x = record { store = storeView w; hub = x.hub; answer = x.answer }
+  unmoved x = record { store = store_view w; hub = x.hub; answer = x.answer }
 
   abbrev result : OpenedStore
   result = record { store = after; hub = o.opening.hub; answer = o.opening.answer }
 
   module _ (done : o.opening.answer ≡ Done) where
-    is-after : after ≡ storeAfter o
-    is-after = ea ∙ ap (λ (a : Answer). storeOpened a w o) done
+    is_after : after ≡ store_after o
+    is_after = ea ∙ ap (λ (a : Answer). store_opened a w o) done
 
-    settings-are : o.opening.core.settings ≡ s
-    settings-are = (words.accepted done).same-settings
+    settings_are : o.opening.core.settings ≡ s
+    settings_are = (words.accepted done).same_settings
 
-    lent-are : lentSlots (storeAfter o) ≡ take k o.slots
-    lent-are = ap (λ (t : Settings). take (slotsLent t) o.slots) settings-are ∙ ap (λ (m : ℕ). take m o.slots) (sym ek)
+    lent_are : lent_slots (store_after o) ≡ take k o.slots
+    lent_are = ap (λ (t : Settings). take (slots_lent t) o.slots) settings_are ∙ ap (λ (m : ℕ). take m o.slots) (sym ek)
 
-    state-is : (storeView (storeAfter o)).state ≡ came.opening.state
-    state-is =
-        ap (λ (l : List ℕ). view o.opening.core l) lent-are
-        ∙ ap (λ (t : Settings). state_of t o.opening.core.rest (take k o.slots)) settings-are
+    state_is : (store_view (store_after o)).state ≡ came.opening.state
+    state_is =
+        ap (λ (l : List ℕ). view o.opening.core l) lent_are
+        ∙ ap (λ (t : Settings). state_of t o.opening.core.rest (take k o.slots)) settings_are
         ∙ (words.accepted done).fresh
-        ∙ sym (done-fresh s (take d w.pool) (take h w.heads) w.frames (take u w.setups) (sym answers ∙ done))
+        ∙ sym (done_fresh s (take d w.pool) (take h w.heads) w.frames (take u w.setups) (sym answers ∙ done))
 
-    tidy-is : Tidy (storeAfter o).core.settings (storeAfter o).core.rest (lentSlots (storeAfter o))
-    tidy-is =
-        subst (λ (l : List ℕ). Tidy o.opening.core.settings o.opening.core.rest l) (sym lent-are)
-        (subst (λ (t : Settings). Tidy t o.opening.core.rest (take k o.slots)) (sym settings-are) (words.accepted done).tidy)
+    tidy_is : Tidy (store_after o).core.settings (store_after o).core.rest (lent_slots (store_after o))
+    tidy_is =
+        subst (λ (l : List ℕ). Tidy o.opening.core.settings o.opening.core.rest l) (sym lent_are)
+        (subst (λ (t : Settings). Tidy t o.opening.core.rest (take k o.slots)) (sym settings_are) (words.accepted done).tidy)
 
-    good-is : settingsGood o.opening.core.settings ≡ true
-    good-is =
-        ap settingsGood settings-are
-        ∙ done-good s (take d w.pool) (take k w.slots) (take h w.heads) w.frames (take u w.setups)
+    good_is : settings_good o.opening.core.settings ≡ true
+    good_is =
+        ap settings_good settings_are
+        ∙ done_good s (take d w.pool) (take k w.slots) (take h w.heads) w.frames (take u w.setups)
         (ap (λ (x : opening.OpenedRows). x.answer) same ∙ sym answers ∙ done)
 
-    opened_after : OpenedIn (storeAfter o)
-    opened_after = record { settings-good = good-is; tidy = tidy-is }
+    opened_after : OpenedIn (store_after o)
+    opened_after = record { settings_good_lem = good_is; tidy = tidy_is }
 
-    done-target : shown (wholeRows (rows_of came) w.pool w.heads w.setups d h u) came.opening.state ≡ target
-    done-target =
-        ap (λ (a : Answer). targetBy a) (sym done ∙ answers)
+    done_target : shown (whole_rows (rows_of came) w.pool w.heads w.setups d h u) came.opening.state ≡ target
+    done_target =
+        ap (λ (a : Answer). target_by a) (sym done ∙ answers)
 
-    done-view : openedView result ≡ target
-    done-view =
-        ap (λ (x : Store). openedView (record { store = x; hub = o.opening.hub; answer = o.opening.answer })) is-after
-        ∙ ap (shown (rowsLeft o)) state-is
+    done_view : opened_view result ≡ target
+    done_view =
+        ap (λ (x : Store). opened_view (record { store = x; hub = o.opening.hub; answer = o.opening.answer })) is_after
+        ∙ ap (shown (rows_left o)) state_is
         ∙ ap (λ (x : opening.OpenedRows). shown x came.opening.state) left
-        ∙ done-target
+        ∙ done_target
 
-    done-opens : Opens result
-    done-opens =
-        subst (λ (x : Store). Opens (record { store = x; hub = o.opening.hub; answer = o.opening.answer })) (sym is-after)
-        (record { tended = record { tidy = λ r. tidy-is }; opened = λ e. opened_after })
+    done_opens : Opens result
+    done_opens =
+        subst (λ (x : Store). Opens (record { store = x; hub = o.opening.hub; answer = o.opening.answer })) (sym is_after)
+        (record { tended = record { tidy = λ r. tidy_is }; opened = λ e. opened_after })
 
   module _ (r : Refusal) (refused : o.opening.answer ≡ Refused r) where
     is_same : after ≡ w
-    is_same = ea ∙ ap (λ (a : Answer). storeOpened a w o) refused
+    is_same = ea ∙ ap (λ (a : Answer). store_opened a w o) refused
 
-    refused-view : openedView result ≡ target
-    refused-view =
-        ap (λ (x : Store). openedView (record { store = x; hub = o.opening.hub; answer = o.opening.answer })) is_same
+    refused_view : opened_view result ≡ target
+    refused_view =
+        ap (λ (x : Store). opened_view (record { store = x; hub = o.opening.hub; answer = o.opening.answer })) is_same
         ∙ ap unmoved left
-        ∙ ap (λ (a : Answer). targetBy a) (sym refused ∙ answers)
+        ∙ ap (λ (a : Answer). target_by a) (sym refused ∙ answers)
 
-    refused-opens : Opens result
-    refused-opens =
+    refused_opens : Opens result
+    refused_opens =
         subst (λ (x : Store). Opens (record { store = x; hub = o.opening.hub; answer = o.opening.answer })) (sym is_same)
-        (record { tended = tended; opened = λ e. absurd (answers-apart r (sym refused ∙ e)) })
+        (record { tended = tended; opened = λ e. absurd (answers_apart r (sym refused ∙ e)) })
 
-  pub opened_view : openedView result ≡ openStore (storeView w) s
-  opened_view = by o.opening.answer refl
+  pub opened_view_lem : opened_view result ≡ open_store (store_view w) s
+  opened_view_lem = by o.opening.answer refl
     where
-      by : (a : Answer) → o.opening.answer ≡ a → openedView result ≡ openStore (storeView w) s
-      by Done e = done-view e ∙ target_is
-      by (Refused r) e = refused-view r e ∙ target_is
+      by : (a : Answer) → o.opening.answer ≡ a → opened_view result ≡ open_store (store_view w) s
+      by Done e = done_view e ∙ target_is
+      by (Refused r) e = refused_view r e ∙ target_is
 
-  pub opened-opens : Opens result
-  opened-opens = by o.opening.answer refl
+  pub opened_opens : Opens result
+  opened_opens = by o.opening.answer refl
     where
       by : (a : Answer) → o.opening.answer ≡ a → Opens result
-      by Done e = done-opens e
-      by (Refused r) e = refused-opens r e
+      by Done e = done_opens e
+      by (Refused r) e = refused_opens r e
 
 -- ---- a call
 
 module _ (w : Store) (call : Call) (d k h u : ℕ) (r : Called) (known : Is T.the_row w (LL.vals T.the_type T'.the_laws w)) (tended : Tended w)
-    (ed : d ≡ recordsLent w.core.settings) (ek : k ≡ slotsLent w.core.settings) (eh : h ≡ wordsLent w.core.settings) (eu : u ≡ bytesLent w.core.settings)
-    (er : calledAt k r ≡ callLent w.core w.pool w.slots w.heads w.frames w.setups d k h u call)
+    (ed : d ≡ records_lent w.core.settings) (ek : k ≡ slots_lent w.core.settings) (eh : h ≡ words_lent w.core.settings) (eu : u ≡ bytes_lent w.core.settings)
+    (er : called_at k r ≡ call_lent w.core w.pool w.slots w.heads w.frames w.setups d k h u call)
     (lent : LentCall w.core w.pool w.slots w.heads w.frames w.setups d k h u r.store) where
-  lent_again : slotsLent r.store.core.settings ≡ k
-  lent_again = ap slotsLent lent.settings-stay ∙ sym ek
+  lent_again : slots_lent r.store.core.settings ≡ k
+  lent_again = ap slots_lent lent.settings_stay ∙ sym ek
 
-  lent_is : take k w.slots ≡ lentSlots w
+  lent_is : take k w.slots ≡ lent_slots w
   lent_is = ap (λ (m : ℕ). take m w.slots) ek
 
-  tended-here : inRanges (view w.core (take k w.slots)) ≡ true → Tidy w.core.settings w.core.rest (take k w.slots)
-  tended-here =
-      subst (λ (l : List ℕ). inRanges (view w.core l) ≡ true → Tidy w.core.settings w.core.rest l) (sym lent_is) tended.tidy
+  tended_here : in_ranges (view w.core (take k w.slots)) ≡ true → Tidy w.core.settings w.core.rest (take k w.slots)
+  tended_here =
+      subst (λ (l : List ℕ). in_ranges (view w.core l) ≡ true → Tidy w.core.settings w.core.rest l) (sym lent_is) tended.tidy
 
-  settings-of : (storeView w).state.settings ≡ w.core.settings
+  settings_of_lem : (store_view w).state.settings ≡ w.core.settings
   unfolding state_of
-  settings-of = refl
+  settings_of_lem = refl
 
   -- what the settings say is lent, of any settings that are the store's
   rows_at : (t : Settings) → t ≡ w.core.settings
-      → callRows (view w.core (take k w.slots)) w.pool w.heads w.frames w.setups d h u call
-      ≡ callRows (view w.core (lentSlots w)) w.pool w.heads w.frames w.setups (recordsLent t) (wordsLent t) (bytesLent t) call
+      → call_rows (view w.core (take k w.slots)) w.pool w.heads w.frames w.setups d h u call
+      ≡ call_rows (view w.core (lent_slots w)) w.pool w.heads w.frames w.setups (records_lent t) (words_lent t) (bytes_lent t) call
   rows_at t e = rw (e, lent_is, ed, eh, eu)
 
-  pub called-view : calledView r ≡ callStore (storeView w) call
-  unfolding callStore callRows callLent
-  called-view =
-      ap (λ (m : ℕ). calledAt m r) lent_again
+  pub called_view_lem : called_view r ≡ call_store (store_view w) call
+  unfolding call_store call_rows call_lent
+  called_view_lem =
+      ap (λ (m : ℕ). called_at m r) lent_again
       ∙ er
-      ∙ ap (λ (x : Applied). calledAfter x w.pool w.heads w.setups d h u)
-      (call_same w.core (take k w.slots) tended-here (free-fits w known) (slots-fit w known k) (take d w.pool) (take h w.heads) w.frames (take u w.setups) call)
-      ∙ rows_at (storeView w).state.settings settings-of
+      ∙ ap (λ (x : Applied). called_after x w.pool w.heads w.setups d h u)
+      (call_same w.core (take k w.slots) tended_here (free_fits w known) (slots_fit_lem w known k) (take d w.pool) (take h w.heads) w.frames (take u w.setups) call)
+      ∙ rows_at (store_view w).state.settings settings_of_lem
 
   -- of the words then
-  kept : (P : Settings → List ℕ → Type 0) → P w.core.settings (take k r.store.slots) → P r.store.core.settings (lentSlots r.store)
+  kept : (P : Settings → List ℕ → Type 0) → P w.core.settings (take k r.store.slots) → P r.store.core.settings (lent_slots r.store)
   kept P p =
       subst (λ (m : ℕ). P r.store.core.settings (take m r.store.slots)) (sym lent_again)
-      (subst (λ (t : Settings). P t (take k r.store.slots)) (sym lent.settings-stay) p)
+      (subst (λ (t : Settings). P t (take k r.store.slots)) (sym lent.settings_stay) p)
 
-  pub called-tends : Tends w r.store
-  called-tends =
+  pub called_tends : Tends w r.store
+  called_tends =
       record {
         tended = record {
           tidy =
-              kept (λ t l. inRanges (state_of t r.store.core.rest l) ≡ true → Tidy t r.store.core.rest l)
-              (tended-after w.core (take k w.slots) tended-here _ r.store.core.rest (take k r.store.slots) lent.after);
+              kept (λ t l. in_ranges (state_of t r.store.core.rest l) ≡ true → Tidy t r.store.core.rest l)
+              (tended_after w.core (take k w.slots) tended_here _ r.store.core.rest (take k r.store.slots) lent.after);
         };
         opened =
             λ o.
             record {
-              settings-good = ap settingsGood lent.settings-stay ∙ o.settings-good;
+              settings_good_lem = ap settings_good lent.settings_stay ∙ o.settings_good_lem;
               tidy =
                   kept (λ t l. Tidy t r.store.core.rest l)
-                  (tidy-after w.core (take k w.slots) tended-here _ r.store.core.rest (take k r.store.slots) lent.after
+                  (tidy_after w.core (take k w.slots) tended_here _ r.store.core.rest (take k r.store.slots) lent.after
                   (subst (Tidy w.core.settings w.core.rest) (sym lent_is) o.tidy));
             };
       }

@@ -6,26 +6,26 @@ use Rattle.common.specs.declared.answer.Answer.{Answer}
 use Rattle.common.specs.declared.answer.Answer.TheVariants.{Refused}
 use Rattle.common.specs.declared.answer.Refusal.{Refusal}
 use Rattle.settings.specs.declared.settings.Settings.{Settings}
-use Rattle.settings.specs.Settings.{headsLength, poolLength, settingsGood, setupsLength}
-use Rattle.settings.proofs.SettingsLaws.{good-tells}
+use Rattle.settings.specs.Settings.{heads_length, pool_length, settings_good, setups_length}
+use Rattle.settings.proofs.SettingsLaws.{good_tells}
 use Rattle.store.specs.Plain.{OpenedRows, Store}
-use Rattle.store.specs.Stores.{bytesLent, openStore, recordsLent, wordsLent, storeOpened}
+use Rattle.store.specs.Stores.{bytes_lent, open_store, records_lent, words_lent, store_opened}
 
 -- of good settings nothing is clipped: a call is lent rows of the lengths that opening fixed
-module _ (s : Settings) (good : settingsGood s ≡ true) where
-  pub records-lent : recordsLent s ≡ poolLength s
-  records-lent = omega (arith, (good-tells s good).descriptors-most)
+module _ (s : Settings) (good : settings_good s ≡ true) where
+  pub records_lent_lem : records_lent s ≡ pool_length s
+  records_lent_lem = omega (arith, (good_tells s good).descriptors_most)
 
-  pub words-lent : wordsLent s ≡ headsLength s
-  words-lent = omega (arith, (good-tells s good).endpoints-most)
+  pub words_lent_lem : words_lent s ≡ heads_length s
+  words_lent_lem = omega (arith, (good_tells s good).endpoints_most)
 
-  pub bytes-lent : bytesLent s ≡ setupsLength s
-  bytes-lent = omega (arith, (good-tells s good).endpoints-most)
+  pub bytes_lent_lem : bytes_lent s ≡ setups_length s
+  bytes_lent_lem = omega (arith, (good_tells s good).endpoints_most)
 
-refused-store : (a : Answer) (w : Store) (o : OpenedRows) (r : Refusal) → a ≡ Refused r → storeOpened a w o ≡ w
-refused-store a w o r e = rw (e)
+refused_store : (a : Answer) (w : Store) (o : OpenedRows) (r : Refusal) → a ≡ Refused r → store_opened a w o ≡ w
+refused_store a w o r e = rw (e)
 
 -- a refused opening leaves the whole store as it was
-pub refused-opening : (w : Store) (s : Settings) (r : Refusal) → (openStore w s).answer ≡ Refused r → (openStore w s).store ≡ w
-unfolding openStore
-refused-opening w s r e = refused-store _ w _ r e
+pub refused_opening_lem : (w : Store) (s : Settings) (r : Refusal) → (open_store w s).answer ≡ Refused r → (open_store w s).store ≡ w
+unfolding open_store
+refused_opening_lem w s r e = refused_store _ w _ r e

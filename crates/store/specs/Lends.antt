@@ -8,29 +8,29 @@ use Rattle.settings.specs.declared.settings.Settings.{Settings}
 use Rattle.words.specs.declared.core.Core.{Core}
 use Rattle.words.specs.View.{view}
 use Rattle.opening.specs.declared.open.Opening.{Opening}
-use Rattle.opening.specs.Words.{openWords, openedRows}
+use Rattle.opening.specs.Words.{open_words, opened_rows}
 use Rattle.opening.specs.Words as opening
 use Rattle.ehci.specs.declared.call.Call.{Call}
 use Rattle.ehci.specs.declared.reply.Reply.{Reply}
-use Rattle.ehci.specs.WordsDoor.{WordsAfter, acceptsWords, applyWords}
+use Rattle.ehci.specs.WordsDoor.{WordsAfter, accepts_words, apply_words}
 use Rattle.store.specs.declared.store.Store.{Store}
 use Rattle.store.specs.declared.store.Called.{Called}
 use Rattle.store.specs.declared.store.OpenedRows.{OpenedRows}
 use Rattle.store.specs.Plain as plain
-use Rattle.store.specs.Stores.{calledAfter}
+use Rattle.store.specs.Stores.{called_after}
 
 -- ---- an opening
 
-abbrev pub ownedRows : Opening → List QueueTransferDescriptor → List ℕ → List ℕ → List ℕ → List ℕ → OpenedRows
-ownedRows o pool slots heads frames setups =
+abbrev pub owned_rows : Opening → List QueueTransferDescriptor → List ℕ → List ℕ → List ℕ → List ℕ → OpenedRows
+owned_rows o pool slots heads frames setups =
     record { opening = o; pool = pool; slots = slots; heads = heads; frames = frames; setups = setups }
 
 -- all but the words
-abbrev pub rowsLeft : OpenedRows → opening.OpenedRows
-rowsLeft o = openedRows o.opening o.pool o.heads o.frames o.setups
+abbrev pub rows_left : OpenedRows → opening.OpenedRows
+rows_left o = opened_rows o.opening o.pool o.heads o.frames o.setups
 
-abbrev pub wholeRows : opening.OpenedRows → List QueueTransferDescriptor → List ℕ → List ℕ → ℕ → ℕ → ℕ → opening.OpenedRows
-wholeRows o pool heads setups d h u =
+abbrev pub whole_rows : opening.OpenedRows → List QueueTransferDescriptor → List ℕ → List ℕ → ℕ → ℕ → ℕ → opening.OpenedRows
+whole_rows o pool heads setups d h u =
     record {
       answer = o.answer;
       hub = o.hub;
@@ -40,14 +40,14 @@ wholeRows o pool heads setups d h u =
       setups = o.setups ++ drop u setups;
     }
 
-unfoldable pub openLent :
+unfoldable pub open_lent :
     Settings → List QueueTransferDescriptor → List ℕ → List ℕ → List ℕ → List ℕ → ℕ → ℕ → ℕ → ℕ → opening.OpenedRows
-openLent s pool slots heads frames setups d k h u =
-    wholeRows (openWords s (take d pool) (take k slots) (take h heads) frames (take u setups)) pool heads setups d h u
+open_lent s pool slots heads frames setups d k h u =
+    whole_rows (open_words s (take d pool) (take k slots) (take h heads) frames (take u setups)) pool heads setups d h u
 
 -- an opening that is accepted
-abbrev pub storeAfter : OpenedRows → Store
-storeAfter o =
+abbrev pub store_after : OpenedRows → Store
+store_after o =
     record {
       core = o.opening.core;
       slots = o.slots;
@@ -57,14 +57,14 @@ storeAfter o =
       setups = o.setups;
     }
 
-abbrev pub storeOpened : Answer → Store → OpenedRows → Store
-storeOpened Done w o = storeAfter o
-storeOpened (Refused r) w o = w
+abbrev pub store_opened : Answer → Store → OpenedRows → Store
+store_opened Done w o = store_after o
+store_opened (Refused r) w o = w
 
 -- ---- a call
 
-abbrev pub gatheredOf : Core → Reply → List QueueTransferDescriptor → List ℕ → List ℕ → List ℕ → List ℕ → Called
-gatheredOf core r pool slots heads frames setups =
+abbrev pub gathered_of : Core → Reply → List QueueTransferDescriptor → List ℕ → List ℕ → List ℕ → List ℕ → Called
+gathered_of core r pool slots heads frames setups =
     record {
       store = record {
         core = record { settings = core.settings; rest = r.rest };
@@ -79,8 +79,8 @@ gatheredOf core r pool slots heads frames setups =
     }
 
 -- what the first k words of the slots stand for
-abbrev pub calledAt : ℕ → Called → plain.Called
-calledAt k c =
+abbrev pub called_at : ℕ → Called → plain.Called
+called_at k c =
     record {
       store = record {
         state = view c.store.core (take k c.store.slots);
@@ -93,15 +93,15 @@ calledAt k c =
       writes = c.writes;
     }
 
-unfoldable pub callLent :
+unfoldable pub call_lent :
     Core → List QueueTransferDescriptor → List ℕ → List ℕ → List ℕ → List ℕ → ℕ → ℕ → ℕ → ℕ → Call → plain.Called
-callLent core pool slots heads frames setups d k h u call =
-    calledAfter (applyWords core (take k slots) (take d pool) (take h heads) frames (take u setups) call) pool heads setups d h u
+call_lent core pool slots heads frames setups d k h u call =
+    called_after (apply_words core (take k slots) (take d pool) (take h heads) frames (take u setups) call) pool heads setups d h u
 
 -- the core and the words of the slots then
 pub record LentCall (core : Core) (pool : List QueueTransferDescriptor) (slots heads frames setups : List ℕ) (d k h u : ℕ) (w : Store) : Type 0 where
-  pub settings-stay : w.core.settings ≡ core.settings
+  pub settings_stay : w.core.settings ≡ core.settings
   pub after :
       WordsAfter
-      (acceptsWords core (take k slots) (length (take d pool)) (length (take h heads)) (length frames) (length (take u setups)))
+      (accepts_words core (take k slots) (length (take d pool)) (length (take h heads)) (length frames) (length (take u setups)))
       core (take k slots) w.core.rest (take k w.slots)

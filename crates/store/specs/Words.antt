@@ -2,8 +2,8 @@
 use Rattle.core.specs.Prelude.{◌≡◌, ℕ, ◌*◌, min, true, List, take}
 use Rattle.common.specs.declared.answer.Answer.TheVariants.{Done}
 use Rattle.settings.specs.declared.settings.Settings.{Settings}
-use Rattle.settings.specs.Settings.{settingsGood}
-use Rattle.state.specs.Ranges.{inRanges}
+use Rattle.settings.specs.Settings.{settings_good}
+use Rattle.state.specs.Ranges.{in_ranges}
 use Rattle.words.specs.Good.{Tidy}
 use Rattle.words.specs.View.{view}
 use Rattle.store.specs.declared.store.Store.{Store}
@@ -12,40 +12,40 @@ use Rattle.store.specs.declared.store.OpenedStore.{OpenedStore}
 use Rattle.store.specs.Plain as plain
 
 -- how many words of the slots are lent: six a slot, and never more than there are
-abbrev pub slotsLent : Settings → ℕ
-slotsLent s = min (6 * s.endpoints) 192
+abbrev pub slots_lent : Settings → ℕ
+slots_lent s = min (6 * s.endpoints) 192
 
-abbrev pub lentSlots : Store → List ℕ
-lentSlots w = take (slotsLent w.core.settings) w.slots
+abbrev pub lent_slots : Store → List ℕ
+lent_slots w = take (slots_lent w.core.settings) w.slots
 
 -- ---- what the words stand for
 
-abbrev pub storeView : Store → plain.Store
-storeView w =
+abbrev pub store_view : Store → plain.Store
+store_view w =
     record {
-      state = view w.core (lentSlots w);
+      state = view w.core (lent_slots w);
       pool = w.pool;
       heads = w.heads;
       frames = w.frames;
       setups = w.setups;
     }
 
-abbrev pub calledView : Called → plain.Called
-calledView c = record { store = storeView c.store; answer = c.answer; writes = c.writes }
+abbrev pub called_view : Called → plain.Called
+called_view c = record { store = store_view c.store; answer = c.answer; writes = c.writes }
 
-abbrev pub openedView : OpenedStore → plain.OpenedStore
-openedView o = record { store = storeView o.store; hub = o.hub; answer = o.answer }
+abbrev pub opened_view : OpenedStore → plain.OpenedStore
+opened_view o = record { store = store_view o.store; hub = o.hub; answer = o.answer }
 
 -- ---- what is kept of the words
 
 -- a controller was opened in it
 pub record OpenedIn (w : Store) : Type 0 where
-  pub settings-good : settingsGood w.core.settings ≡ true
-  pub tidy : Tidy w.core.settings w.core.rest (lentSlots w)
+  pub settings_good_lem : settings_good w.core.settings ≡ true
+  pub tidy : Tidy w.core.settings w.core.rest (lent_slots w)
 
 -- no call is refused for the words alone
 pub record Tended (w : Store) : Type 0 where
-  pub tidy : inRanges (storeView w).state ≡ true → Tidy w.core.settings w.core.rest (lentSlots w)
+  pub tidy : in_ranges (store_view w).state ≡ true → Tidy w.core.settings w.core.rest (lent_slots w)
 
 -- by a call
 pub record Tends (w w' : Store) : Type 0 where

@@ -1,14 +1,14 @@
 // Whose each place of the pool is, by the words of the slots.
 ghost use Rattle.core.specs.Prelude.{◌≡◌, ◌+◌, ◌<◌, if◌then◌else◌, ◌==◌};
-ghost use Rattle.words.specs.View.{eachFrom, holdsBit, ownerFrom};
-ghost use Rattle.store.specs.Words.{storeView};
+ghost use Rattle.words.specs.View.{each_from, holds_bit, owner_from};
+ghost use Rattle.store.specs.Words.{store_view};
 
 use crate::store::{Store, slots_lent};
 use controller::readers::word_in;
 use words::row::RECORD;
 
 fn holds(slots: &[u64], k: u8, place: u8) -> bool
-    ensures { result ≡ (holdsBit slots.now k place == 1) }
+    ensures { result ≡ (holds_bit slots.now k place == 1) }
 {
     let i = place as u64;
     let j = (i / 64) as usize;
@@ -25,7 +25,7 @@ fn owner_if(held: bool, k: u8, owner: u8) -> u8
 
 // The first slot that has it, plus 1; 0 where none has.
 fn owner_of(slots: &[u64], place: u8) -> u8
-    ensures { result ≡ ownerFrom 0 32 slots.now place }
+    ensures { result ≡ owner_from 0 32 slots.now place }
 {
     let mut owner: u8 = 0;
     let mut k: u8 = 32;
@@ -38,7 +38,7 @@ fn owner_of(slots: &[u64], place: u8) -> u8
 }
 
 fn owner_row(slots: &[u64]) -> [u8; 256]
-    ensures { result ≡ eachFrom (ownerFrom 0 32 slots.now) 0 256 }
+    ensures { result ≡ each_from (owner_from 0 32 slots.now) 0 256 }
 {
     let mut row = [0u8; 256];
     let mut i: usize = 0;
@@ -51,7 +51,7 @@ fn owner_row(slots: &[u64]) -> [u8; 256]
 
 // The owner of each place.
 pub fn owners(store: Store) -> [u8; 256]
-    ensures { result ≡ (storeView store).state.owner }
+    ensures { result ≡ (store_view store).state.owner }
 {
     let core = store.core;
     let settings = core.settings;

@@ -3,34 +3,34 @@
 // call is refused for them.
 ghost use Rattle.core.specs.Prelude.{◌≡◌, ◌≤◌, take};
 ghost use Rattle.store.specs.Stores.{
-  recordsLent,
-  wordsLent,
-  bytesLent,
-  blankStore,
-  openStore,
-  callStore,
+  records_lent,
+  words_lent,
+  bytes_lent,
+  blank_store,
+  open_store,
+  call_store,
 };
 ghost use Rattle.store.specs.Words.{
   Opens,
   Tended,
   Tends,
-  calledView,
-  openedView,
-  slotsLent,
-  storeView,
+  called_view,
+  opened_view,
+  slots_lent,
+  store_view,
 };
 ghost use Rattle.store.specs.Lends.{
   LentCall,
-  calledAt,
-  callLent,
-  gatheredOf,
-  openLent,
-  ownedRows,
-  rowsLeft,
-  storeAfter,
-  storeOpened,
+  called_at,
+  call_lent,
+  gathered_of,
+  open_lent,
+  owned_rows,
+  rows_left,
+  store_after,
+  store_opened,
 };
-ghost use Rattle.opening.specs.Words.{OpensWords, blankCore};
+ghost use Rattle.opening.specs.Words.{OpensWords, blank_core};
 
 use common::answer::Answer;
 use descriptor::qtd::QueueTransferDescriptor;
@@ -82,7 +82,7 @@ struct OpenedRows {
 
 // How many records are lent: the shared one is after the others.
 fn records_lent(s: Settings) -> usize
-    ensures { result ≡ recordsLent s }
+    ensures { result ≡ records_lent s }
 {
     if s.descriptors < 256 {
         s.descriptors as usize + 1
@@ -93,7 +93,7 @@ fn records_lent(s: Settings) -> usize
 
 // How many words of the slots are lent.
 pub fn slots_lent(s: Settings) -> usize
-    ensures { result ≡ slotsLent s }
+    ensures { result ≡ slots_lent s }
 {
     let words = RECORD * (s.endpoints as usize);
     if words < 192 { words } else { 192 }
@@ -101,7 +101,7 @@ pub fn slots_lent(s: Settings) -> usize
 
 // How many words of the heads are lent.
 fn words_lent(s: Settings) -> usize
-    ensures { result ≡ wordsLent s }
+    ensures { result ≡ words_lent s }
 {
     let words = HEAD_WORDS * (s.endpoints as usize + 1);
     if words < 561 { words } else { 561 }
@@ -109,7 +109,7 @@ fn words_lent(s: Settings) -> usize
 
 // How many bytes of the setups are lent.
 fn bytes_lent(s: Settings) -> usize
-    ensures { result ≡ bytesLent s }
+    ensures { result ≡ bytes_lent s }
 {
     let bytes = 8 * (s.endpoints as usize);
     if bytes < 256 { bytes } else { 256 }
@@ -117,7 +117,7 @@ fn bytes_lent(s: Settings) -> usize
 
 // The core that a refused opening gives.
 fn blank_core() -> Core
-    ensures { result ≡ blankCore }
+    ensures { result ≡ blank_core }
 {
     let nothing = Settings {
         descriptors: 0,
@@ -140,7 +140,7 @@ fn blank_core() -> Core
 
 // No call accepts it; it is there to open a controller in.
 pub fn blank_store() -> Store
-    ensures result_value { storeView result ≡ blankStore }
+    ensures result_value { store_view result ≡ blank_store }
     ensures tended { Tended result }
 {
     let blank = QueueTransferDescriptor {
@@ -168,7 +168,7 @@ fn owned_rows(
     frames: [u32; 1024],
     setups: [u8; 256],
 ) -> OpenedRows
-    ensures { result ≡ ownedRows opening pool slots heads frames setups }
+    ensures { result ≡ owned_rows opening pool slots heads frames setups }
 {
     OpenedRows {
         opening,
@@ -194,7 +194,7 @@ fn lend_open(
     u: usize,
 ) -> OpenedRows
     requires { (d ≤ 257) × (k ≤ 192) × (h ≤ 561) × (u ≤ 256) }
-    ensures result_value { rowsLeft result ≡ openLent settings pool slots heads frames setups d k h u }
+    ensures result_value { rows_left result ≡ open_lent settings pool slots heads frames setups d k h u }
     ensures opens_words { OpensWords settings result.opening (take k slots) (take k result.slots) }
 {
     let mut records = pool;
@@ -214,7 +214,7 @@ fn lend_open(
 }
 
 fn store_after(o: OpenedRows) -> Store
-    ensures { result ≡ storeAfter o }
+    ensures { result ≡ store_after o }
 {
     let opening = o.opening;
     let core = opening.core;
@@ -235,7 +235,7 @@ fn store_after(o: OpenedRows) -> Store
 
 // A refused opening leaves the store as it was.
 fn store_opened(answer: Answer, store: Store, o: OpenedRows) -> Store
-    ensures { result ≡ storeOpened answer store o }
+    ensures { result ≡ store_opened answer store o }
 {
     match answer {
         Answer::Done => store_after(o),
@@ -245,7 +245,7 @@ fn store_opened(answer: Answer, store: Store, o: OpenedRows) -> Store
 
 pub fn open_in(store: Store, settings: Settings) -> OpenedStore
     requires { Tended store }
-    ensures result_value { openedView result ≡ openStore (storeView store) settings }
+    ensures result_value { opened_view result ≡ open_store (store_view store) settings }
     ensures opens { Opens result }
 {
     let d = records_lent(settings);
@@ -278,7 +278,7 @@ fn gathered(
     frames: [u32; 1024],
     setups: [u8; 256],
 ) -> Called
-    ensures { result ≡ gatheredOf core reply pool slots heads frames setups }
+    ensures { result ≡ gathered_of core reply pool slots heads frames setups }
 {
     let settings = core.settings;
     let rest = reply.rest;
@@ -313,7 +313,7 @@ fn lend_call(
     call: Call,
 ) -> Called
     requires { (d ≤ 257) × (k ≤ 192) × (h ≤ 561) × (u ≤ 256) }
-    ensures result_value { calledAt k result ≡ callLent core pool slots heads frames setups d k h u call }
+    ensures result_value { called_at k result ≡ call_lent core pool slots heads frames setups d k h u call }
     ensures lent_call { LentCall core pool slots heads frames setups d k h u result.store }
 {
     let mut records = pool;
@@ -335,7 +335,7 @@ fn lend_call(
 
 pub fn call_on(store: Store, call: Call) -> Called
     requires { Tended store }
-    ensures result_value { calledView result ≡ callStore (storeView store) call }
+    ensures result_value { called_view result ≡ call_store (store_view store) call }
     ensures tends { Tends store result.store }
 {
     let core = store.core;

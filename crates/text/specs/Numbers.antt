@@ -2,9 +2,9 @@
 use Rattle.std.specs.Prelude.{ℕ, zero, suc, ◌+◌, ◌*◌, ◌/◌, ◌%◌, List, [], ◌∷◌, drop, take}
 
 -- a number in so many bytes, the lowest first
-unfoldable pub littleEndian : ℕ → ℕ → List ℕ
-littleEndian zero x = []
-littleEndian (suc width) x = x % 256 ∷ littleEndian width (x / 256)
+unfoldable pub little_endian : ℕ → ℕ → List ℕ
+little_endian zero x = []
+little_endian (suc width) x = x % 256 ∷ little_endian width (x / 256)
 
 -- the number of such bytes
 unfoldable pub number_of : List ℕ → ℕ

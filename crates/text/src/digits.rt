@@ -1,7 +1,7 @@
 // Bytes and numbers put over those of a lent row from a place on; each answers the place after.
 ghost use Rattle.std.specs.Prelude.{◌≡◌, [], ◌∷◌, ◌+◌, ◌≤◌, ◌<◌, length};
 ghost use Rattle.common.specs.Rows.{put_at};
-ghost use Rattle.text.specs.Text.{decimal, decimalUpTo, hex, hexDigit};
+ghost use Rattle.text.specs.Text.{decimal, decimal_up_to, hex, hex_digit};
 
 // As many digits as any u64 has.
 pub const DECIMAL_MAX: usize = 20;
@@ -25,8 +25,8 @@ fn decimal_digit(n: u64) -> u8
 // The digits before the last are those of a tenth.
 fn put_digits(out: &mut [u8], at: usize, n: u64, most: usize) -> usize
     requires { at + most ≤ length out.old }
-    ensures out_after { out.new ≡ put_at out.old at (decimalUpTo most n) }
-    ensures value { result ≡ at + length (decimalUpTo most n) }
+    ensures out_after { out.new ≡ put_at out.old at (decimal_up_to most n) }
+    ensures value { result ≡ at + length (decimal_up_to most n) }
 {
     if most == 0 {
         return at;
@@ -48,7 +48,7 @@ pub fn put_decimal(out: &mut [u8], at: usize, n: u64) -> usize
 
 fn hex_digit(n: u32) -> u8
     requires { n < 16 }
-    ensures { result ≡ hexDigit n }
+    ensures { result ≡ hex_digit n }
 {
     if n < 10 { 48 + n as u8 } else { 87 + n as u8 }
 }

@@ -9,46 +9,46 @@ use borrow.Author.Tests.{leb-false, leb-true}
 use lib.Dec.{leb}
 use Rattle.common.specs.declared.kinds.EndpointType.{EndpointType}
 use Rattle.common.specs.declared.kinds.EndpointType.TheVariants.{Control, Isochronous, Bulk, Interrupt}
-use Rattle.token.specs.Chunks.{workingLimit}
+use Rattle.token.specs.Chunks.{working_limit}
 
 -- ---- `whole_packets`, `working_limit`
 
-pub none-whole : (limit size : ℕ) → size ≡ 0 → 0 ≡ limit - limit % size
-none-whole limit size z = rw (z, mod-zero limit) (omega arith)
+pub none_whole : (limit size : ℕ) → size ≡ 0 → 0 ≡ limit - limit % size
+none_whole limit size z = rw (z, mod-zero limit) (omega arith)
 
-pub rest-within : (limit size : ℕ) → limit % size ≤ limit
-rest-within limit size = mod-le limit size
+pub rest_within : (limit size : ℕ) → limit % size ≤ limit
+rest_within limit size = mod-le limit size
 
-pub limit-control : (k : EndpointType) (limit size : ℕ) → k ≡ Control → limit ≡ workingLimit k limit size
-limit-control k limit size e = rw e
+pub limit_control : (k : EndpointType) (limit size : ℕ) → k ≡ Control → limit ≡ working_limit k limit size
+limit_control k limit size e = rw e
 
-pub limit-isochronous : (k : EndpointType) (limit size n : ℕ) → k ≡ Isochronous → n ≡ limit - limit % size → n ≡ workingLimit k limit size
-limit-isochronous k limit size n e f = f ∙ rw e
+pub limit_isochronous : (k : EndpointType) (limit size n : ℕ) → k ≡ Isochronous → n ≡ limit - limit % size → n ≡ working_limit k limit size
+limit_isochronous k limit size n e f = f ∙ rw e
 
-pub limit-bulk : (k : EndpointType) (limit size n : ℕ) → k ≡ Bulk → n ≡ limit - limit % size → n ≡ workingLimit k limit size
-limit-bulk k limit size n e f = f ∙ rw e
+pub limit_bulk : (k : EndpointType) (limit size n : ℕ) → k ≡ Bulk → n ≡ limit - limit % size → n ≡ working_limit k limit size
+limit_bulk k limit size n e f = f ∙ rw e
 
-pub limit-interrupt : (k : EndpointType) (limit size n : ℕ) → k ≡ Interrupt → n ≡ limit - limit % size → n ≡ workingLimit k limit size
-limit-interrupt k limit size n e f = f ∙ rw e
+pub limit_interrupt : (k : EndpointType) (limit size n : ℕ) → k ≡ Interrupt → n ≡ limit - limit % size → n ≡ working_limit k limit size
+limit_interrupt k limit size n e f = f ∙ rw e
 
 -- ---- what it is
 
-pub working-most : (k : EndpointType) (limit size : ℕ) → workingLimit k limit size ≤ limit
-working-most Control limit size = omega arith
-working-most Isochronous limit size = omega arith
-working-most Bulk limit size = omega arith
-working-most Interrupt limit size = omega arith
+pub working_most : (k : EndpointType) (limit size : ℕ) → working_limit k limit size ≤ limit
+working_most Control limit size = omega arith
+working_most Isochronous limit size = omega arith
+working_most Bulk limit size = omega arith
+working_most Interrupt limit size = omega arith
 
 module _ (limit size : ℕ) where
   -- as many packets as the limit has room for
   whole : limit - limit % size ≡ limit / size * size
   whole = omega (arith, div-add-mod' limit size)
 
-  pub working-multiple : (k : EndpointType) → k ≢ Control → workingLimit k limit size ≡ limit / size * size
-  working-multiple Control n = absurd (n refl)
-  working-multiple Isochronous n = whole
-  working-multiple Bulk n = whole
-  working-multiple Interrupt n = whole
+  pub working_multiple : (k : EndpointType) → k ≢ Control → working_limit k limit size ≡ limit / size * size
+  working_multiple Control n = absurd (n refl)
+  working_multiple Isochronous n = whole
+  working_multiple Bulk n = whole
+  working_multiple Interrupt n = whole
 
   module _ (least : 1 ≤ size) where
     -- no multiple that is not above the limit is larger
@@ -62,9 +62,9 @@ module _ (limit size : ℕ) where
             go true t = leb-true n (limit / size) t
             go false t = absurd (omega (arith, (div-lt_iff_lt-mul least).0 (leb-false n (limit / size) t), g))
 
-    pub working-largest : (k : EndpointType) → k ≢ Control → (m : ℕ) → m * size ≤ limit → m * size ≤ workingLimit k limit size
-    working-largest k n m h = rw (working-multiple k n) (largest m h)
+    pub working_largest : (k : EndpointType) → k ≢ Control → (m : ℕ) → m * size ≤ limit → m * size ≤ working_limit k limit size
+    working_largest k n m h = rw (working_multiple k n) (largest m h)
 
     -- a packet fits it where one fits the limit
-    pub working-fits : (k : EndpointType) → k ≢ Control → size ≤ limit → size ≤ workingLimit k limit size
-    working-fits k n h = omega (arith, working-largest k n 1 (omega (arith, h)))
+    pub working_fits : (k : EndpointType) → k ≢ Control → size ≤ limit → size ≤ working_limit k limit size
+    working_fits k n h = omega (arith, working_largest k n 1 (omega (arith, h)))

@@ -2,12 +2,12 @@
 use mathlib.Core.Path.{◌≡◌, refl}
 use mathlib.Core.Bool.{true, false}
 use Rattle.common.specs.declared.kinds.EndpointType.TheVariants.{Bulk, Control, Interrupt}
-use Rattle.token.specs.Overlay.{keptToggle, overlayToken}
+use Rattle.token.specs.Overlay.{kept_toggle, overlay_token}
 
 -- bit 31, whatever the others are
-kept : (keptToggle 0x80000D00 ≡ true) × (keptToggle 0xFFFFFFFF ≡ true) × (keptToggle 0x7FFFFFFF ≡ false) × (keptToggle 0 ≡ false)
+kept : (kept_toggle 0x80000D00 ≡ true) × (kept_toggle 0xFFFFFFFF ≡ true) × (kept_toggle 0x7FFFFFFF ≡ false) × (kept_toggle 0 ≡ false)
 kept = (refl, refl, refl, refl)
 
-written : (overlayToken Bulk true ≡ 0x80000000) × (overlayToken Interrupt true ≡ 0x80000000) × (overlayToken Bulk false ≡ 0) × (overlayToken Control true ≡ 0)
-unfolding overlayToken
+written : (overlay_token Bulk true ≡ 0x80000000) × (overlay_token Interrupt true ≡ 0x80000000) × (overlay_token Bulk false ≡ 0) × (overlay_token Control true ≡ 0)
+unfolding overlay_token
 written = (refl, refl, refl, refl)

@@ -8,32 +8,32 @@ use Rattle.token.specs.declared.qtd.QtdPid.TheVariants.{Out as OutPid, In as InP
 use Rattle.token.specs.declared.qtd.QtdToken.{QtdToken}
 use Rattle.common.specs.declared.kinds.Direction.{Direction}
 use Rattle.common.specs.declared.kinds.Direction.TheVariants.{Out, In}
-use Rattle.token.specs.Tokens.{tokenOf}
+use Rattle.token.specs.Tokens.{token_of}
 
-abbrev pub pidFor : Direction → QtdPid
-pidFor Out = OutPid
-pidFor In = InPid
+abbrev pub pid_for : Direction → QtdPid
+pid_for Out = OutPid
+pid_for In = InPid
 
 -- data if length > 0
-abbrev pub dataTd : Direction → ℕ → Bool → DataTd
-dataTd direction length true = Absent
-dataTd direction length false = Present (tokenOf (pidFor direction) length false true)
+abbrev pub data_td : Direction → ℕ → Bool → DataTd
+data_td direction length true = Absent
+data_td direction length false = Present (token_of (pid_for direction) length false true)
 
 -- Out after In data, otherwise In
-abbrev pub statusPid : Direction → Bool → QtdPid
-statusPid Out empty = InPid
-statusPid In true = InPid
-statusPid In false = OutPid
+abbrev pub status_pid : Direction → Bool → QtdPid
+status_pid Out empty = InPid
+status_pid In true = InPid
+status_pid In false = OutPid
 
 -- setup (8 bytes, toggle 0); data if length > 0 (toggle 1); status (0 bytes, toggle 1, interrupt)
-unfoldable pub controlPlan : Direction → ℕ → ControlTdPlan
-controlPlan direction length =
+unfoldable pub control_plan : Direction → ℕ → ControlTdPlan
+control_plan direction length =
     record {
-      setup = tokenOf Setup 8 false false;
-      «data» = dataTd direction length (eqb length 0);
-      status = tokenOf (statusPid direction (eqb length 0)) 0 true true;
+      setup = token_of Setup 8 false false;
+      «data» = data_td direction length (eqb length 0);
+      status = token_of (status_pid direction (eqb length 0)) 0 true true;
     }
 
 -- a chunk of a bulk or interrupt request: toggle 0; only the last interrupts
-abbrev pub chunkToken : Direction → ℕ → Bool → QtdToken
-chunkToken direction bytes last = tokenOf (pidFor direction) bytes last false
+abbrev pub chunk_token : Direction → ℕ → Bool → QtdToken
+chunk_token direction bytes last = token_of (pid_for direction) bytes last false

@@ -1,6 +1,6 @@
 // The chunks of a bulk or interrupt request, and the number of descriptors that a request needs.
 ghost use Rattle.std.specs.Prelude.{◌≡◌, ◌-◌, ◌%◌, ◌≤◌};
-ghost use Rattle.token.specs.Chunks.{chunkAt, chunkCount, need_of, workingLimit};
+ghost use Rattle.token.specs.Chunks.{chunk_at, chunk_count, need_of, working_limit};
 
 use crate::qtd::least;
 use common::kinds::EndpointType;
@@ -17,7 +17,7 @@ fn whole_packets(limit: u64, size: u64) -> u64
 
 // The limit of an endpoint's chunks: no packet but a request's last is short. A control request has no chunks.
 pub fn working_limit(kind: EndpointType, limit: u64, size: u64) -> u64
-    ensures { result ≡ workingLimit kind limit size }
+    ensures { result ≡ working_limit kind limit size }
 {
     match kind {
         EndpointType::Control => limit,
@@ -29,7 +29,7 @@ pub fn working_limit(kind: EndpointType, limit: u64, size: u64) -> u64
 
 pub fn chunk_count(length: u64, limit: u64) -> u64
     requires { 1 ≤ limit }
-    ensures { result ≡ chunkCount length limit }
+    ensures { result ≡ chunk_count length limit }
 {
     if length == 0 {
         return 1;
@@ -52,7 +52,7 @@ pub fn need(kind: EndpointType, length: u64, limit: u64) -> u64
 
 // Chunk k's length, k from 0; 0 from the count on, and at limit 0. Two numbers of 32 bits have a product of 64.
 pub fn chunk_length(k: u32, length: u64, limit: u32) -> u64
-    ensures { result ≡ chunkAt k length limit }
+    ensures { result ≡ chunk_at k length limit }
 {
     let start = (k as u64) * (limit as u64);
     if start < length {

@@ -1,6 +1,6 @@
 // The tokens of a request: the three stages of a control request, and the token of a chunk.
 ghost use Rattle.std.specs.Prelude.{◌≡◌, eqb};
-ghost use Rattle.token.specs.Plans.{pidFor, statusPid, controlPlan, chunkToken};
+ghost use Rattle.token.specs.Plans.{pid_for, status_pid, control_plan, chunk_token};
 
 use crate::qtd::{QtdPid, QtdToken};
 use common::kinds::Direction;
@@ -20,7 +20,7 @@ pub struct ControlTdPlan {
 }
 
 pub fn pid_for(direction: Direction) -> QtdPid
-    ensures { result ≡ pidFor direction }
+    ensures { result ≡ pid_for direction }
 {
     match direction {
         Direction::Out => QtdPid::Out,
@@ -30,7 +30,7 @@ pub fn pid_for(direction: Direction) -> QtdPid
 
 // Out after In data, otherwise In.
 fn status_pid(direction: Direction, length: u64) -> QtdPid
-    ensures { result ≡ statusPid direction (eqb length 0) }
+    ensures { result ≡ status_pid direction (eqb length 0) }
 {
     if length == 0 {
         return QtdPid::In;
@@ -42,7 +42,7 @@ fn status_pid(direction: Direction, length: u64) -> QtdPid
 }
 
 pub fn build_control_td_plan(direction: Direction, length: u64) -> ControlTdPlan
-    ensures { result ≡ controlPlan direction length }
+    ensures { result ≡ control_plan direction length }
 {
     let setup = QtdToken::started(QtdPid::Setup, 8, false, false);
     let status = QtdToken::started(status_pid(direction, length), 0, true, true);
@@ -63,7 +63,7 @@ pub fn build_control_td_plan(direction: Direction, length: u64) -> ControlTdPlan
 
 // The token of one chunk of a bulk or interrupt request.
 pub fn chunk_token(direction: Direction, bytes: u64, last: bool) -> QtdToken
-    ensures { result ≡ chunkToken direction bytes last }
+    ensures { result ≡ chunk_token direction bytes last }
 {
     QtdToken::started(pid_for(direction), bytes, last, false)
 }

@@ -1,7 +1,7 @@
 // A port's status (EHCI 2.3.9): 000's `EhciPortStatus`.
 ghost use Rattle.std.specs.Prelude.{◌≡◌, not, eqb};
-ghost use Rattle.token.specs.EhciPortsc.{portscTable, masks, currentConnect, portEnabled};
-ghost use Rattle.token.specs.Ports.{is_set, highSpeedReady};
+ghost use Rattle.token.specs.EhciPortsc.{portsc_table, masks, current_connect, port_enabled};
+ghost use Rattle.token.specs.Ports.{is_set, high_speed_ready};
 
 use register::bits::any_of;
 
@@ -39,19 +39,19 @@ impl EhciPortStatus {
     }
 
     pub fn connected(self) -> bool
-        ensures { result ≡ is_set (currentConnect self.0) }
+        ensures { result ≡ is_set (current_connect self.0) }
     {
         any_of(self.0, Self::CURRENT_CONNECT)
     }
 
     pub fn enabled(self) -> bool
-        ensures { result ≡ is_set (portEnabled self.0) }
+        ensures { result ≡ is_set (port_enabled self.0) }
     {
         any_of(self.0, Self::PORT_ENABLED)
     }
 
     pub fn is_high_speed_device_ready(self) -> bool
-        ensures { result ≡ highSpeedReady self.0 }
+        ensures { result ≡ high_speed_ready self.0 }
     {
         if self.connected() {
             self.enabled()
@@ -62,7 +62,7 @@ impl EhciPortStatus {
 
     // The bits above, each held to its row of EHCI's table.
     pub fn table() -> [u32; 8]
-        ensures { result ≡ masks portscTable }
+        ensures { result ≡ masks portsc_table }
     {
         [
             Self::CURRENT_CONNECT,

@@ -1,8 +1,8 @@
 // A transfer descriptor's token (EHCI 3.5.3): 000's `QtdPid` and `QtdToken`.
 ghost use Rattle.std.specs.Prelude.{◌≡◌, min, not, eqb};
-ghost use Rattle.register.specs.Bits.{withField};
-ghost use Rattle.token.specs.EhciQtd.{totalBytes, active, halted, transactionError};
-ghost use Rattle.token.specs.Tokens.{pidOf, only_if, newToken, tokenOf, withFlag};
+ghost use Rattle.register.specs.Bits.{with_field};
+ghost use Rattle.token.specs.EhciQtd.{total_bytes, active, halted, transaction_error};
+ghost use Rattle.token.specs.Tokens.{pid_of, only_if, new_token, token_of, with_flag};
 
 use register::bits::{any_of, with_bits, without_bits};
 
@@ -15,7 +15,7 @@ pub enum QtdPid {
 
 impl QtdPid {
     pub fn token_bits(self) -> u32
-        ensures { result ≡ pidOf self }
+        ensures { result ≡ pid_of self }
     {
         match self {
             QtdPid::Out => 0,
@@ -54,7 +54,7 @@ impl QtdToken {
 
     // A count above the field's largest is written as that.
     pub fn new(pid: QtdPid, bytes: u64) -> QtdToken
-        ensures { result.0 ≡ newToken pid bytes }
+        ensures { result.0 ≡ new_token pid bytes }
     {
         let total = least(bytes, Self::TOTAL_BYTES_MAX) as u32;
         QtdToken((pid.token_bits() << Self::PID_SHIFT) | (total << Self::TOTAL_BYTES_SHIFT))
@@ -67,7 +67,7 @@ impl QtdToken {
     }
 
     pub fn with_error_counter(self, count: u8) -> QtdToken
-        ensures { result.0 ≡ withField self.0 10 2 (min count 3) }
+        ensures { result.0 ≡ with_field self.0 10 2 (min count 3) }
     {
         let kept = without_bits(self.0, Self::ERROR_COUNTER_MASK);
         let held = least(count as u64, 3) as u32;
@@ -75,25 +75,25 @@ impl QtdToken {
     }
 
     pub fn with_active(self, set: bool) -> QtdToken
-        ensures { result.0 ≡ withField self.0 7 1 (only_if set 1) }
+        ensures { result.0 ≡ with_field self.0 7 1 (only_if set 1) }
     {
         QtdToken(with_flag(self.0, Self::ACTIVE, set))
     }
 
     pub fn with_interrupt_on_complete(self, set: bool) -> QtdToken
-        ensures { result.0 ≡ withField self.0 15 1 (only_if set 1) }
+        ensures { result.0 ≡ with_field self.0 15 1 (only_if set 1) }
     {
         QtdToken(with_flag(self.0, Self::INTERRUPT_ON_COMPLETE, set))
     }
 
     pub fn with_data_toggle(self, set: bool) -> QtdToken
-        ensures { result.0 ≡ withField self.0 31 1 (only_if set 1) }
+        ensures { result.0 ≡ with_field self.0 31 1 (only_if set 1) }
     {
         QtdToken(with_flag(self.0, Self::DATA_TOGGLE, set))
     }
 
     pub fn total_bytes(self) -> u32
-        ensures { result ≡ totalBytes self.0 }
+        ensures { result ≡ total_bytes self.0 }
     {
         (self.0 & Self::TOTAL_BYTES_MASK) >> Self::TOTAL_BYTES_SHIFT
     }
@@ -112,14 +112,14 @@ impl QtdToken {
     }
 
     pub fn retried(self) -> bool
-        ensures { result ≡ not (eqb (transactionError self.0) 0) }
+        ensures { result ≡ not (eqb (transaction_error self.0) 0) }
     {
         any_of(self.0, Self::TRANSACTION_ERROR)
     }
 
     // An active token with three tries, as every descriptor of a request starts.
     pub fn started(pid: QtdPid, bytes: u64, interrupt: bool, toggle: bool) -> QtdToken
-        ensures { result ≡ tokenOf pid bytes interrupt toggle }
+        ensures { result ≡ token_of pid bytes interrupt toggle }
     {
         QtdToken::new(pid, bytes)
             .with_error_counter(3)
@@ -131,7 +131,7 @@ impl QtdToken {
 
 // The bits of a mask all set, or all clear.
 fn with_flag(word: u32, mask: u32, set: bool) -> u32
-    ensures { result ≡ withFlag word mask set }
+    ensures { result ≡ with_flag word mask set }
 {
     if set {
         with_bits(word, mask)

@@ -5,14 +5,14 @@ use native.Mathlib.Decide.{ℕ_discrete as dec_eq}
 use native.Mathlib.Omega.{arith}
 use borrow.Author.Tests.{eqb-false, eqb-true, le-leb, le-ltb, lt-leb, lt-ltb, ltb-false, ltb-true}
 use lib.Bits.{bit_and, bit_or}
-use Rattle.bitset.specs.Places.{all_below, noneIn}
-use Rattle.bitset.proofs.BitLaws.{or-test}
-use Rattle.common.proofs.TestLaws.{both-assoc, every-6}
+use Rattle.bitset.specs.Places.{all_below, none_in}
+use Rattle.bitset.proofs.BitLaws.{or_test}
+use Rattle.common.proofs.TestLaws.{both_assoc, every_6}
 use Rattle.word_ranges.specs.declared.seen.Seen.{Seen}
-use Rattle.word_ranges.specs.Seen.{allMet, heldGood, idleId, seeOf}
+use Rattle.word_ranges.specs.Seen.{all_met, held_good, idle_id, see_of}
 
 -- the code's test of a last id, where there is no request
-id_same : (phase last : ℕ) → phase < 2 → leb last (phase * (2 ^ 64 - 2)) ≡ idleId phase last
+id_same : (phase last : ℕ) → phase < 2 → leb last (phase * (2 ^ 64 - 2)) ≡ idle_id phase last
 id_same phase last h = by (dec_eq phase 0)
   where
     none : (t : Bool) → eqb last 0 ≡ t → leb last 0 ≡ t
@@ -23,19 +23,19 @@ id_same phase last h = by (dec_eq phase 0)
     some true e = le-leb last (2 ^ 64 - 2) (omega (arith, ltb-true last (2 ^ 64 - 1) e))
     some false e = lt-leb last (2 ^ 64 - 2) (omega (arith, ltb-false last (2 ^ 64 - 1) e))
 
-    by : Dec (phase ≡ 0) → leb last (phase * (2 ^ 64 - 2)) ≡ idleId phase last
+    by : Dec (phase ≡ 0) → leb last (phase * (2 ^ 64 - 2)) ≡ idle_id phase last
     by (yes q) = rw q (none (eqb last 0) refl)
     by (no ne) = let one : phase ≡ 1 = omega arith in rw one (some (ltb last (2 ^ 64 - 1)) refl)
 
-pub largest-fits : (phase : ℕ) → phase < 2 → phase * (2 ^ 64 - 2) < 2 ^ 64
-largest-fits phase h = by (dec_eq phase 0)
+pub largest_fits : (phase : ℕ) → phase < 2 → phase * (2 ^ 64 - 2) < 2 ^ 64
+largest_fits phase h = by (dec_eq phase 0)
   where
     by : Dec (phase ≡ 0) → phase * (2 ^ 64 - 2) < 2 ^ 64
     by (yes q) = rw q (omega arith)
     by (no ne) = let one : phase ≡ 1 = omega arith in rw one (omega arith)
 
 module _ (s : Seen) (g : Bool) (word last w x y z : ℕ) where
-  pub slot-empty : word % 4 < 2
+  pub slot_empty : word % 4 < 2
       → ◌≡◌ {A = Seen}
       (record {
         good =
@@ -47,19 +47,19 @@ module _ (s : Seen) (g : Bool) (word last w x y z : ℕ) where
         c = s.c;
         d = s.d;
       })
-      (seeOf s g word last (w ∷ x ∷ y ∷ z ∷ []))
-  unfolding seeOf heldGood noneIn
-  slot-empty h =
+      (see_of s g word last (w ∷ x ∷ y ∷ z ∷ []))
+  unfolding see_of held_good none_in
+  slot_empty h =
       rw (
         lt-ltb (word % 4) 2 h,
         id_same (word % 4) last h,
-        or-test (bit_or (bit_or w x) y) z,
-        or-test (bit_or w x) y,
-        or-test w x,
-        both-assoc s.good g (eqb w 0 && eqb x 0 && eqb y 0 && eqb z 0 && idleId (word % 4) last),
+        or_test (bit_or (bit_or w x) y) z,
+        or_test (bit_or w x) y,
+        or_test w x,
+        both_assoc s.good g (eqb w 0 && eqb x 0 && eqb y 0 && eqb z 0 && idle_id (word % 4) last),
       )
 
-  pub slot-busy : 2 ≤ word % 4
+  pub slot_busy : 2 ≤ word % 4
       → ◌≡◌ {A = Seen}
       (record {
         good = s.good && g && not (eqb last 0);
@@ -69,14 +69,14 @@ module _ (s : Seen) (g : Bool) (word last w x y z : ℕ) where
         c = bit_or s.c y;
         d = bit_or s.d z;
       })
-      (seeOf s g word last (w ∷ x ∷ y ∷ z ∷ []))
-  unfolding seeOf heldGood
-  slot-busy h = rw (le-ltb (word % 4) 2 h, both-assoc s.good g (not (eqb last 0)))
+      (see_of s g word last (w ∷ x ∷ y ∷ z ∷ []))
+  unfolding see_of held_good
+  slot_busy h = rw (le-ltb (word % 4) 2 h, both_assoc s.good g (not (eqb last 0)))
 
 pub met_all : (s : Seen) (D : ℕ) (all : List ℕ) → all ≡ all_below D
     → (s.good && eqb s.twice 0 && eqb s.a (get_or all 0 0) && eqb s.b (get_or all 1 0) && eqb s.c (get_or all 2 0) && eqb s.d (get_or all 3 0))
-    ≡ allMet s D
-unfolding allMet
+    ≡ all_met s D
+unfolding all_met
 met_all s D all e =
-    every-6 s.good (eqb s.twice 0) (eqb s.a (get_or all 0 0)) (eqb s.b (get_or all 1 0)) (eqb s.c (get_or all 2 0)) (eqb s.d (get_or all 3 0))
+    every_6 s.good (eqb s.twice 0) (eqb s.a (get_or all 0 0)) (eqb s.b (get_or all 1 0)) (eqb s.c (get_or all 2 0)) (eqb s.d (get_or all 3 0))
     ∙ rw e

@@ -2,29 +2,29 @@
 use Rattle.core.specs.Prelude.{ℕ, ◌*◌, Bool, ◌&&◌, List, [], ◌∷◌, length, ◌==◌}
 use Rattle.common.specs.Tests.{every}
 use Rattle.settings.specs.declared.settings.Settings.{Settings}
-use Rattle.settings.specs.Settings.{settingsGood}
+use Rattle.settings.specs.Settings.{settings_good}
 use Rattle.state.specs.Plain.{Ehci}
-use Rattle.state.specs.Ranges.{machineGood, interruptGood, doorbellGood}
+use Rattle.state.specs.Ranges.{machine_good, interrupt_good, doorbell_good}
 use Rattle.words.specs.declared.core.Rest.{Rest}
 use Rattle.words.specs.View.{state_of}
-use Rattle.word_ranges.specs.Seen.{allMet, freeMet, seenFrom}
+use Rattle.word_ranges.specs.Seen.{all_met, free_met, seen_from}
 
 -- the core's state, with no slot
-abbrev pub bareState : Settings → Rest → Ehci
-bareState s r = state_of s r []
+abbrev pub bare_state : Settings → Rest → Ehci
+bare_state s r = state_of s r []
 
-unfoldable pub scalarsGood : Settings → Rest → Bool
-scalarsGood s r =
+unfoldable pub scalars_good : Settings → Rest → Bool
+scalars_good s r =
     every
-    (machineGood (bareState s r) ∷ interruptGood (bareState s r) ∷ doorbellGood (bareState s r) ∷ [])
+    (machine_good (bare_state s r) ∷ interrupt_good (bare_state s r) ∷ doorbell_good (bare_state s r) ∷ [])
 
-unfoldable pub coreGood : Settings → Rest → Bool
-coreGood s r = settingsGood s && scalarsGood s r
+unfoldable pub core_good : Settings → Rest → Bool
+core_good s r = settings_good s && scalars_good s r
 
-unfoldable pub slotsGood : List ℕ → ℕ → ℕ → ℕ → ℕ → List ℕ → Bool
-slotsGood ws E D limit unanswered free = allMet (seenFrom ws limit unanswered 0 E (freeMet free)) D
+unfoldable pub slots_good : List ℕ → ℕ → ℕ → ℕ → ℕ → List ℕ → Bool
+slots_good ws E D limit unanswered free = all_met (seen_from ws limit unanswered 0 E (free_met free)) D
 
-unfoldable pub wordsGood : Settings → Rest → List ℕ → Bool
-wordsGood s r ws =
-    coreGood s r
-    && (length ws == 6 * s.endpoints && slotsGood ws s.endpoints s.descriptors s.limit r.unanswered r.free)
+unfoldable pub words_good : Settings → Rest → List ℕ → Bool
+words_good s r ws =
+    core_good s r
+    && (length ws == 6 * s.endpoints && slots_good ws s.endpoints s.descriptors s.limit r.unanswered r.free)

@@ -1,7 +1,7 @@
 // A slot's first word is at most a bound, by its lowest four bits: the phase and the kind. 0 where there is no such slot. Its packet size has
 // a range of its own.
 ghost use Rattle.core.specs.Prelude.{◌≡◌};
-ghost use Rattle.word_ranges.specs.Bounds.{bounds_of, sizesOf};
+ghost use Rattle.word_ranges.specs.Bounds.{bounds_of, sizes_of};
 
 use token::qtd::least;
 use words::record::BOUNDARY;
@@ -42,7 +42,7 @@ pub fn bounds_for(unanswered: u8) -> [u64; 16]
 
 // How many packet sizes a slot may have, from 1 on, by the same four bits: of bulk and interrupt up to the limit; where it is closed, any.
 pub fn sizes_for(limit: u64) -> [u16; 16]
-    ensures { result ≡ sizesOf limit }
+    ensures { result ≡ sizes_of limit }
 {
     let most = least(limit, PACKET_MAX as u64) as u16;
     [

@@ -1,6 +1,6 @@
 // The judge of core and slots: one pass over the slots, with no early exit.
 ghost use Rattle.core.specs.Prelude.{◌≡◌, ◌*◌, length};
-ghost use Rattle.word_ranges.specs.Judge.{slotsGood, wordsGood};
+ghost use Rattle.word_ranges.specs.Judge.{slots_good, words_good};
 
 use crate::bounds::{LAST, bounds_for, sizes_for};
 use crate::scalars::core_good;
@@ -17,7 +17,7 @@ fn slots_good(
     free: [u64; 4],
 ) -> bool
     requires { length slots.now ≡ 6 * endpoints }
-    ensures { result ≡ slotsGood slots.now endpoints descriptors limit unanswered free }
+    ensures { result ≡ slots_good slots.now endpoints descriptors limit unanswered free }
 {
     let bounds = bounds_for(unanswered);
     let sizes = sizes_for(limit);
@@ -46,7 +46,7 @@ fn slots_good(
 
 // What a call that is lent core and slots asks.
 pub fn words_good(c: Core, slots: &[u64]) -> bool
-    ensures { result ≡ wordsGood c.settings c.rest slots.now }
+    ensures { result ≡ words_good c.settings c.rest slots.now }
 {
     if !core_good(c) {
         return false;

@@ -1,13 +1,13 @@
 // The ranges of the core: its settings, and every field of the rest but the free places.
 ghost use Rattle.core.specs.Prelude.{◌≡◌};
-ghost use Rattle.state.specs.Ranges.{machineGood, interruptGood, doorbellGood};
-ghost use Rattle.word_ranges.specs.Judge.{bareState, scalarsGood, coreGood};
+ghost use Rattle.state.specs.Ranges.{machine_good, interrupt_good, doorbell_good};
+ghost use Rattle.word_ranges.specs.Judge.{bare_state, scalars_good, core_good};
 
 use register::bits::without_bits;
 use words::core::Core;
 
 fn machine_good(c: Core) -> bool
-    ensures { result ≡ machineGood (bareState c.settings c.rest) }
+    ensures { result ≡ machine_good (bare_state c.settings c.rest) }
 {
     (c.rest.running <= 1)
         & (c.rest.step <= 6)
@@ -16,7 +16,7 @@ fn machine_good(c: Core) -> bool
 }
 
 fn interrupt_good(c: Core) -> bool
-    ensures { result ≡ interruptGood (bareState c.settings c.rest) }
+    ensures { result ≡ interrupt_good (bare_state c.settings c.rest) }
 {
     let pending = without_bits(c.rest.pending, 0x37);
     let masked = without_bits(c.rest.masked, 0x27);
@@ -24,7 +24,7 @@ fn interrupt_good(c: Core) -> bool
 }
 
 fn doorbell_good(c: Core) -> bool
-    ensures { result ≡ doorbellGood (bareState c.settings c.rest) }
+    ensures { result ≡ doorbell_good (bare_state c.settings c.rest) }
 {
     (c.rest.doorbell <= 1)
         & (c.rest.noted <= c.rest.doorbell)
@@ -32,7 +32,7 @@ fn doorbell_good(c: Core) -> bool
 }
 
 pub fn scalars_good(c: Core) -> bool
-    ensures { result ≡ scalarsGood c.settings c.rest }
+    ensures { result ≡ scalars_good c.settings c.rest }
 {
     let machine = machine_good(c);
     let interrupt = interrupt_good(c);
@@ -42,7 +42,7 @@ pub fn scalars_good(c: Core) -> bool
 
 // What a call that is lent the core alone asks.
 pub fn core_good(c: Core) -> bool
-    ensures { result ≡ coreGood c.settings c.rest }
+    ensures { result ≡ core_good c.settings c.rest }
 {
     if !c.settings.good() {
         return false;

@@ -1,6 +1,6 @@
 // What the slots that were looked at come to.
 ghost use Rattle.core.specs.Prelude.{◌≡◌, [], ◌∷◌};
-ghost use Rattle.word_ranges.specs.Seen.{freeMet, seeOf, allMet};
+ghost use Rattle.word_ranges.specs.Seen.{free_met, see_of, all_met};
 
 use bitset::places::all_below;
 
@@ -19,7 +19,7 @@ pub struct Seen {
 const IDLE_LAST: u64 = 0xFFFF_FFFF_FFFF_FFFE;
 
 pub fn free_met(free: [u64; 4]) -> Seen
-    ensures { result ≡ freeMet free }
+    ensures { result ≡ free_met free }
 {
     Seen {
         good: true,
@@ -42,7 +42,7 @@ pub fn see_slot(
     y: u64,
     z: u64,
 ) -> Seen
-    ensures { result ≡ seeOf s bounded word last (w ∷ x ∷ y ∷ z ∷ []) }
+    ensures { result ≡ see_of s bounded word last (w ∷ x ∷ y ∷ z ∷ []) }
 {
     let mut r = s;
     let good = s.good & bounded;
@@ -64,7 +64,7 @@ pub fn see_slot(
 
 // Every slot good, no place met twice, each place below `descriptors` met.
 pub fn all_met(s: Seen, descriptors: u64) -> bool
-    ensures { result ≡ allMet s descriptors }
+    ensures { result ≡ all_met s descriptors }
 {
     let all = all_below(descriptors);
     s.good & (s.twice == 0) & (s.a == all[0]) & (s.b == all[1]) & (s.c == all[2]) & (s.d == all[3])

@@ -10,27 +10,27 @@ use lib.Dec.{eqb}
 use lib.ListN.{get_or, length, take}
 use lib.Seq.{take_all}
 use Rattle.bitset.specs.Words.{bit}
-use Rattle.bitset.specs.Places.{Words, lowestOf, setPlaces}
+use Rattle.bitset.specs.Places.{Words, lowest_of, set_places}
 use Rattle.bitset.proofs.LowestLaws.{lowest_set}
-use Rattle.bitset.proofs.OrderLaws.{set-few}
-use Rattle.pool.specs.Places.{count_of, placesFrom}
+use Rattle.bitset.proofs.OrderLaws.{set_few}
+use Rattle.pool.specs.Places.{count_of, places_from}
 use Rattle.settings.specs.declared.settings.Settings.{Settings}
 use Rattle.words.specs.declared.core.Rest.{Rest}
 use Rattle.words.specs.Good.{Tidy}
 use Rattle.words.specs.Record.{part_at, places_at}
-use Rattle.words.specs.View.{eachFrom, holdsBit, ownerFrom}
+use Rattle.words.specs.View.{each_from, holds_bit, owner_from}
 use Rattle.words.proofs.EachLaws.{each_take}
-use Rattle.words.proofs.PickLaws.{count-picked, picked, picked-below, picked_same, placeBit, search-picked, set-picked}
-use Rattle.words.proofs.OwnerLaws.{free-owner, held-owner, outside-free, outside-held, owner-held, owner-unowned, ownersOf}
+use Rattle.words.proofs.PickLaws.{count_picked, picked, picked_below, picked_same, place_bit, search_picked, set_picked}
+use Rattle.words.proofs.OwnerLaws.{free_owner, held_owner, outside_free, outside_held, owner_held, owner_unowned, owners_of}
 
 -- the owners of the pool's places
-pub own-part : (s : Settings) (ws : List ℕ) → s.descriptors ≤ 256 → take s.descriptors (ownersOf ws) ≡ eachFrom (ownerFrom 0 32 ws) 0 s.descriptors
-own-part s ws few = each_take (ownerFrom 0 32 ws) 0 256 s.descriptors few
+pub own_part : (s : Settings) (ws : List ℕ) → s.descriptors ≤ 256 → take s.descriptors (owners_of ws) ≡ each_from (owner_from 0 32 ws) 0 s.descriptors
+own_part s ws few = each_take (owner_from 0 32 ws) 0 256 s.descriptors few
 
 -- bit i of a slot's places
-pub slot-place : (ws : List ℕ) (k i : ℕ) → i < 256 → placeBit (places_at ws k) i ≡ holdsBit ws k i
-unfolding holdsBit bit
-slot-place ws k i h = go (i / 64) refl
+pub slot_place : (ws : List ℕ) (k i : ℕ) → i < 256 → place_bit (places_at ws k) i ≡ holds_bit ws k i
+unfolding holds_bit bit
+slot_place ws k i h = go (i / 64) refl
   where
     go : (j : ℕ) → i / 64 ≡ j → get_or (places_at ws k) j 0 / 2 ^ (i % 64) % 2 ≡ part_at ws k j / 2 ^ (i % 64) % 2
     go zero e = refl
@@ -40,51 +40,51 @@ slot-place ws k i h = go (i / 64) refl
     go (suc (suc (suc (suc j)))) e = absurd (omega (arith, e))
 
 module _ (s : Settings) (r : Rest) (ws : List ℕ) (t : Tidy s r ws) (few : s.descriptors ≤ 256) (slots : s.endpoints ≤ 32) where
-  free-test : (i : ℕ) → i < s.descriptors → eqb (ownerFrom 0 32 ws i) 0 ≡ eqb (placeBit r.free i) 1
-  free-test i h = go (eqb (ownerFrom 0 32 ws i) 0) refl
+  free_test : (i : ℕ) → i < s.descriptors → eqb (owner_from 0 32 ws i) 0 ≡ eqb (place_bit r.free i) 1
+  free_test i h = go (eqb (owner_from 0 32 ws i) 0) refl
     where
-      go : (b : Bool) → eqb (ownerFrom 0 32 ws i) 0 ≡ b → b ≡ eqb (placeBit r.free i) 1
+      go : (b : Bool) → eqb (owner_from 0 32 ws i) 0 ≡ b → b ≡ eqb (place_bit r.free i) 1
       go true e =
-          sym (eq-eqb (placeBit r.free i) 1 (owner-unowned s r ws t i (omega arith) slots h (eqb-true (ownerFrom 0 32 ws i) 0 e)))
+          sym (eq-eqb (place_bit r.free i) 1 (owner_unowned s r ws t i (omega arith) slots h (eqb-true (owner_from 0 32 ws i) 0 e)))
       go false e =
-          sym (ne_eqb (placeBit r.free i) 1 (λ q. eqb-false (ownerFrom 0 32 ws i) 0 e (free-owner s r ws t i (omega arith) slots q)))
+          sym (ne_eqb (place_bit r.free i) 1 (λ q. eqb-false (owner_from 0 32 ws i) 0 e (free_owner s r ws t i (omega arith) slots q)))
 
-  pub free-picked : picked (λ j. eqb (ownerFrom 0 32 ws j) 0) 0 s.descriptors ≡ setPlaces r.free
-  free-picked =
-      picked_same (λ j. eqb (ownerFrom 0 32 ws j) 0) (λ j. eqb (placeBit r.free j) 1) 0 s.descriptors (λ j a b. free-test j (omega (arith, b)))
-      ∙ sym (picked-below (λ j. eqb (placeBit r.free j) 1) s.descriptors 256 few
-      (λ j a b. ne_eqb (placeBit r.free j) 1 (λ q. omega (arith, q, outside-free s r ws t j b a))))
-      ∙ sym (set-picked r.free)
+  pub free_picked : picked (λ j. eqb (owner_from 0 32 ws j) 0) 0 s.descriptors ≡ set_places r.free
+  free_picked =
+      picked_same (λ j. eqb (owner_from 0 32 ws j) 0) (λ j. eqb (place_bit r.free j) 1) 0 s.descriptors (λ j a b. free_test j (omega (arith, b)))
+      ∙ sym (picked_below (λ j. eqb (place_bit r.free j) 1) s.descriptors 256 few
+      (λ j a b. ne_eqb (place_bit r.free j) 1 (λ q. omega (arith, q, outside_free s r ws t j b a))))
+      ∙ sym (set_picked r.free)
 
-  pub free-places : (n : ℕ) → placesFrom 0 (take s.descriptors (ownersOf ws)) 0 n ≡ take n (setPlaces r.free)
-  free-places n =
-      rw (own-part s ws few) (search-picked (ownerFrom 0 32 ws) 0 s.descriptors 0 n ∙ ap (take n) free-picked)
+  pub free_places : (n : ℕ) → places_from 0 (take s.descriptors (owners_of ws)) 0 n ≡ take n (set_places r.free)
+  free_places n =
+      rw (own_part s ws few) (search_picked (owner_from 0 32 ws) 0 s.descriptors 0 n ∙ ap (take n) free_picked)
 
   -- those that a request of n descriptors takes
-  pub taken_places : Words r.free → (n : ℕ) → placesFrom 0 (take s.descriptors (ownersOf ws)) 0 n ≡ setPlaces (lowestOf r.free n)
-  taken_places fit n = free-places n ∙ sym (lowest_set r.free n fit)
+  pub taken_places : Words r.free → (n : ℕ) → places_from 0 (take s.descriptors (owners_of ws)) 0 n ≡ set_places (lowest_of r.free n)
+  taken_places fit n = free_places n ∙ sym (lowest_set r.free n fit)
 
-  pub free-number : count_of 0 (take s.descriptors (ownersOf ws)) ≡ length (setPlaces r.free)
-  free-number = rw (own-part s ws few) (count-picked (ownerFrom 0 32 ws) 0 s.descriptors 0 ∙ ap length free-picked)
+  pub free_number : count_of 0 (take s.descriptors (owners_of ws)) ≡ length (set_places r.free)
+  free_number = rw (own_part s ws few) (count_picked (owner_from 0 32 ws) 0 s.descriptors 0 ∙ ap length free_picked)
 
   module _ (k : ℕ) where
-    own-test : (i : ℕ) → i < s.descriptors → eqb (ownerFrom 0 32 ws i) (k + 1) ≡ eqb (placeBit (places_at ws k) i) 1
-    own-test i h = rw (add-one k, slot-place ws k i (omega arith)) (go (eqb (ownerFrom 0 32 ws i) (suc k)) refl)
+    own_test : (i : ℕ) → i < s.descriptors → eqb (owner_from 0 32 ws i) (k + 1) ≡ eqb (place_bit (places_at ws k) i) 1
+    own_test i h = rw (add-one k, slot_place ws k i (omega arith)) (go (eqb (owner_from 0 32 ws i) (suc k)) refl)
       where
-        go : (b : Bool) → eqb (ownerFrom 0 32 ws i) (suc k) ≡ b → b ≡ eqb (holdsBit ws k i) 1
-        go true e = sym (eq-eqb (holdsBit ws k i) 1 (owner-held s r ws t i (omega arith) slots k (eqb-true (ownerFrom 0 32 ws i) (suc k) e)).1)
+        go : (b : Bool) → eqb (owner_from 0 32 ws i) (suc k) ≡ b → b ≡ eqb (holds_bit ws k i) 1
+        go true e = sym (eq-eqb (holds_bit ws k i) 1 (owner_held s r ws t i (omega arith) slots k (eqb-true (owner_from 0 32 ws i) (suc k) e)).1)
         go false e =
-            sym (ne_eqb (holdsBit ws k i) 1 (λ q. eqb-false (ownerFrom 0 32 ws i) (suc k) e (held-owner s r ws t i (omega arith) slots k q)))
+            sym (ne_eqb (holds_bit ws k i) 1 (λ q. eqb-false (owner_from 0 32 ws i) (suc k) e (held_owner s r ws t i (omega arith) slots k q)))
 
-    own-picked : picked (λ j. eqb (ownerFrom 0 32 ws j) (k + 1)) 0 s.descriptors ≡ setPlaces (places_at ws k)
-    own-picked =
-        picked_same (λ j. eqb (ownerFrom 0 32 ws j) (k + 1)) (λ j. eqb (placeBit (places_at ws k) j) 1) 0 s.descriptors (λ j a b. own-test j (omega (arith, b)))
-        ∙ sym (picked-below (λ j. eqb (placeBit (places_at ws k) j) 1) s.descriptors 256 few
-        (λ j a b. ne_eqb (placeBit (places_at ws k) j) 1 (λ q. omega (arith, q, slot-place ws k j b, outside-held s r ws t j b a k))))
-        ∙ sym (set-picked (places_at ws k))
+    own_picked : picked (λ j. eqb (owner_from 0 32 ws j) (k + 1)) 0 s.descriptors ≡ set_places (places_at ws k)
+    own_picked =
+        picked_same (λ j. eqb (owner_from 0 32 ws j) (k + 1)) (λ j. eqb (place_bit (places_at ws k) j) 1) 0 s.descriptors (λ j a b. own_test j (omega (arith, b)))
+        ∙ sym (picked_below (λ j. eqb (place_bit (places_at ws k) j) 1) s.descriptors 256 few
+        (λ j a b. ne_eqb (place_bit (places_at ws k) j) 1 (λ q. omega (arith, q, slot_place ws k j b, outside_held s r ws t j b a k))))
+        ∙ sym (set_picked (places_at ws k))
 
-    pub own-places : placesFrom 0 (take s.descriptors (ownersOf ws)) (k + 1) 256 ≡ setPlaces (places_at ws k)
-    own-places =
-        rw (own-part s ws few)
-        (search-picked (ownerFrom 0 32 ws) 0 s.descriptors (k + 1) 256 ∙ ap (take 256) own-picked
-        ∙ take_all 256 (setPlaces (places_at ws k)) (set-few (places_at ws k)))
+    pub own_places : places_from 0 (take s.descriptors (owners_of ws)) (k + 1) 256 ≡ set_places (places_at ws k)
+    own_places =
+        rw (own_part s ws few)
+        (search_picked (owner_from 0 32 ws) 0 s.descriptors (k + 1) 256 ∙ ap (take 256) own_picked
+        ∙ take_all 256 (set_places (places_at ws k)) (set_few (places_at ws k)))

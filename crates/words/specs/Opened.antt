@@ -3,12 +3,12 @@ use Rattle.std.specs.Prelude.{ℕ, ◌*◌, List, replicate}
 use Rattle.bitset.specs.Places.{all_below}
 use Rattle.words.specs.declared.core.Rest.{Rest}
 
-abbrev pub openedRow : ℕ → List ℕ
-openedRow endpoints = replicate (6 * endpoints) 0
+abbrev pub opened_row : ℕ → List ℕ
+opened_row endpoints = replicate (6 * endpoints) 0
 
 -- not running, nothing begun, address 1 next, interrupts off
-unfoldable pub openedRest : ℕ → Rest
-openedRest descriptors =
+unfoldable pub opened_rest : ℕ → Rest
+opened_rest descriptors =
     record {
       running = 0;
       step = 0;

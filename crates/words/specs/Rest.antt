@@ -3,8 +3,8 @@ use Rattle.std.specs.Prelude.{ℕ, List}
 use Rattle.words.specs.declared.core.Rest.{Rest}
 
 -- bring-up: running, the step, the reads of its wait; its start also turns the interrupt flag off
-abbrev pub restWithBringUp : Rest → ℕ → ℕ → ℕ → ℕ → Rest
-restWithBringUp r running step waited enabled =
+abbrev pub rest_with_bring_up : Rest → ℕ → ℕ → ℕ → ℕ → Rest
+rest_with_bring_up r running step waited enabled =
     record {
       running = running;
       step = step;
@@ -20,8 +20,8 @@ restWithBringUp r running step waited enabled =
     }
 
 -- the address that is allotted next
-abbrev pub restWithNextAddress : Rest → ℕ → Rest
-restWithNextAddress r address =
+abbrev pub rest_with_next_address : Rest → ℕ → Rest
+rest_with_next_address r address =
     record {
       running = r.running;
       step = r.step;
@@ -37,8 +37,8 @@ restWithNextAddress r address =
     }
 
 -- the interrupt flag, what is pending, what is masked
-abbrev pub restWithInterrupt : Rest → ℕ → ℕ → ℕ → Rest
-restWithInterrupt r enabled pending masked =
+abbrev pub rest_with_interrupt : Rest → ℕ → ℕ → ℕ → Rest
+rest_with_interrupt r enabled pending masked =
     record {
       running = r.running;
       step = r.step;
@@ -54,8 +54,8 @@ restWithInterrupt r enabled pending masked =
     }
 
 -- the note, the doorbell, the unlinks that are unanswered
-abbrev pub restWithBell : Rest → ℕ → ℕ → ℕ → Rest
-restWithBell r noted doorbell unanswered =
+abbrev pub rest_with_bell : Rest → ℕ → ℕ → ℕ → Rest
+rest_with_bell r noted doorbell unanswered =
     record {
       running = r.running;
       step = r.step;
@@ -71,8 +71,8 @@ restWithBell r noted doorbell unanswered =
     }
 
 -- the free places, which the state does not have: they are those that no slot has
-abbrev pub restWithFree : Rest → List ℕ → Rest
-restWithFree r free =
+abbrev pub rest_with_free : Rest → List ℕ → Rest
+rest_with_free r free =
     record {
       running = r.running;
       step = r.step;

@@ -1,12 +1,12 @@
 // An advance is counted: each unlinking control or bulk request has one less to wait for.
 ghost use Rattle.std.specs.Prelude.{◌≡◌, ◌*◌, length};
-ghost use Rattle.words.specs.Record.{fallenWord, fallTo};
+ghost use Rattle.words.specs.Record.{fallen_word, fall_to};
 
 use crate::record::BOUNDARY;
 use crate::row::RECORD;
 
 fn fallen_word(word: u64) -> u64
-    ensures { result ≡ fallenWord word }
+    ensures { result ≡ fallen_word word }
 {
     let phase = word % 4;
     let kind = word / 4 % 4;
@@ -22,7 +22,7 @@ fn fallen_word(word: u64) -> u64
 
 pub fn fall(slots: &mut [u64], endpoints: u8)
     requires { length slots.old ≡ 6 * endpoints }
-    ensures { slots.new ≡ fallTo slots.old endpoints }
+    ensures { slots.new ≡ fall_to slots.old endpoints }
 {
     let end = endpoints as usize;
     let mut k: usize = 0;

@@ -1,6 +1,6 @@
 // One slot of the row: its first two words, taken apart and put together.
 ghost use Rattle.std.specs.Prelude.{◌≡◌, ◌<◌};
-ghost use Rattle.words.specs.Record.{SlotFits, idIn, last_of, requestIn, slotIn, word_of};
+ghost use Rattle.words.specs.Record.{SlotFits, id_in, last_of, request_in, slot_in, word_of};
 
 use slot::slot::Slot;
 
@@ -12,19 +12,19 @@ const LAST_ID: u64 = 0xFFFF_FFFF_FFFF_FFFF;
 
 // The id of the slot's next request.
 pub fn id_in(last: u64) -> u64
-    ensures { result ≡ idIn last }
+    ensures { result ≡ id_in last }
 {
     if last == LAST_ID { 1 } else { last + 1 }
 }
 
 fn request_in(phase: u64, last: u64) -> u64
-    ensures { result ≡ requestIn phase last }
+    ensures { result ≡ request_in phase last }
 {
     if 2 <= phase { last } else { 0 }
 }
 
 pub fn slot_in(word: u64, last: u64) -> Slot
-    ensures { result ≡ slotIn word last }
+    ensures { result ≡ slot_in word last }
 {
     let phase = word % 4;
     Slot {

@@ -1,6 +1,6 @@
 // The lent row of slots: six words a slot.
 ghost use Rattle.std.specs.Prelude.{◌≡◌, ◌+◌, ◌*◌, ◌≤◌, ◌<◌, length, replicate};
-ghost use Rattle.words.specs.Record.{SlotFits, places_at, putPlaces, putSlot, sizeIn, slotIn, toggleIn, word_at, last_at};
+ghost use Rattle.words.specs.Record.{SlotFits, places_at, put_places, put_slot, size_in, slot_in, toggle_in, word_at, last_at};
 
 use crate::record::{last_of, slot_in, word_of};
 use slot::slot::Slot;
@@ -16,13 +16,13 @@ pub fn word_at(slots: &[u64], k: u8) -> u64
 }
 
 pub fn size_at(slots: &[u64], k: u8) -> u16
-    ensures { result ≡ sizeIn (word_at slots.now k) }
+    ensures { result ≡ size_in (word_at slots.now k) }
 {
     (word_at(slots, k) / 16 % 2048) as u16
 }
 
 pub fn toggle_at(slots: &[u64], k: u8) -> u8
-    ensures { result ≡ toggleIn (word_at slots.now k) }
+    ensures { result ≡ toggle_in (word_at slots.now k) }
 {
     (word_at(slots, k) / 0x8000 % 2) as u8
 }
@@ -36,7 +36,7 @@ fn last_at(slots: &[u64], k: u8) -> u64
 
 // A slot beyond the row is closed.
 pub fn slot_at(slots: &[u64], k: u8) -> Slot
-    ensures { result ≡ slotIn (word_at slots.now k) (last_at slots.now k) }
+    ensures { result ≡ slot_in (word_at slots.now k) (last_at slots.now k) }
 {
     slot_in(word_at(slots, k), last_at(slots, k))
 }
@@ -45,7 +45,7 @@ pub fn slot_at(slots: &[u64], k: u8) -> Slot
 pub fn put_slot(slots: &mut [u64], k: u8, e: Slot)
     requires k_in_bounds { 6 * k + 6 ≤ length slots.old }
     requires slot_fits { SlotFits e }
-    ensures { slots.new ≡ putSlot slots.old k e }
+    ensures { slots.new ≡ put_slot slots.old k e }
 {
     let at = RECORD * (k as usize);
     slots[at] = word_of(e);
@@ -63,7 +63,7 @@ pub fn places_at(slots: &[u64], k: u8) -> [u64; 4]
 
 pub fn put_places(slots: &mut [u64], k: u8, w: [u64; 4])
     requires { 6 * k + 6 ≤ length slots.old }
-    ensures { slots.new ≡ putPlaces slots.old k w }
+    ensures { slots.new ≡ put_places slots.old k w }
 {
     let at = RECORD * (k as usize) + 2;
     slots[at] = w[0];

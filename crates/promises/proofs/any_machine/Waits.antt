@@ -6,26 +6,26 @@ use mathlib.Core.Path.{◌≡◌, refl, sym, ap, ◌∙◌}
 use native.Mathlib.Omega.{arith}
 use lib.ListN.{length, take}
 use Rattle.settings.specs.declared.settings.Settings.{Settings}
-use Rattle.pipe.specs.Endpoints.{flagNumber}
+use Rattle.pipe.specs.Endpoints.{flag_number}
 use Rattle.ehci.specs.declared.call.Call.{Call}
-use Rattle.promises.specs.Runs.{Form, History, Machine, Turn, WorldIn, historyOf, run_of}
+use Rattle.promises.specs.Runs.{Form, History, Machine, Turn, WorldIn, history_of, run_of}
 use Rattle.promises.specs.Events.{event}
-use Rattle.promises.specs.Bells.{asked, bell, collects, counted, isAnswered, linked, none, number, parts_of, renews, submits, unlinking, unlinksOf}
+use Rattle.promises.specs.Bells.{asked, bell, collects, counted, is_answered, linked, none, number, parts_of, renews, submits, unlinking, unlinks_of}
 use Rattle.promises.specs.Boundaries.{Orderly, PassesExactly, UpExactly, Waits, past, turn}
-use Rattle.promises.proofs.any_machine.Once.{none-counted}
-use Rattle.promises.proofs.any_machine.Pictures.{an-unlink}
+use Rattle.promises.proofs.any_machine.Once.{none_counted}
+use Rattle.promises.proofs.any_machine.Pictures.{an_unlink}
 
 module _ {f : Form} (m : Machine f) (s : Settings) (w : WorldIn f) (exact : PassesExactly s (run_of m w)) (up : UpExactly s (run_of m w)) (orderly : Orderly s (run_of m w)) where
   abbrev hist : List Call → History
   hist = past s (run_of m w)
 
-  module _ (cs : List Call) (c : Call) (k : ℕ) (mine : unlinksOf s k (turn s (run_of m w) cs c) ≡ true) where
+  module _ (cs : List Call) (c : Call) (k : ℕ) (mine : unlinks_of s k (turn s (run_of m w) cs c) ≡ true) where
     -- it goes on unlinking, under the number that it got, until it is collected
     goes_on : (ds : List Call) → none (collects s k) (take (length ds) (hist (ds ++ c ∷ cs)))
         → (unlinking s k (hist (ds ++ c ∷ cs)) ≡ true) × (number s k (hist (ds ++ c ∷ cs)) ≡ asked s (hist cs) + 1) × (linked s k (hist (ds ++ c ∷ cs)) ≡ false)
-    unfolding historyOf unlinking number linked
-    goes_on [] q = (rw mine, rw mine, rw ((an-unlink k (event s (turn s (run_of m w) cs c)) mine).3, mine))
-    goes_on (d ∷ ds) q = go (unlinksOf s k t) refl (submits s k t) refl (goes_on ds q.1)
+    unfolding history_of unlinking number linked
+    goes_on [] q = (rw mine, rw mine, rw ((an_unlink k (event s (turn s (run_of m w) cs c)) mine).3, mine))
+    goes_on (d ∷ ds) q = go (unlinks_of s k t) refl (submits s k t) refl (goes_on ds q.1)
       where
         h : History
         h = hist (ds ++ c ∷ cs)
@@ -37,20 +37,20 @@ module _ {f : Form} (m : Machine f) (s : Settings) (w : WorldIn f) (exact : Pass
         off true e = refl
         off false e = e
 
-        go : (a : Bool) → unlinksOf s k t ≡ a → (b : Bool) → submits s k t ≡ b
+        go : (a : Bool) → unlinks_of s k t ≡ a → (b : Bool) → submits s k t ≡ b
             → (unlinking s k h ≡ true) × (number s k h ≡ asked s (hist cs) + 1) × (linked s k h ≡ false)
-            → (cond (unlinksOf s k t) true (cond (renews s k t) false (unlinking s k h)) ≡ true)
-            × (cond (unlinksOf s k t) (asked s h + 1) (number s k h) ≡ asked s (hist cs) + 1)
-            × (cond (submits s k t) true (cond (unlinksOf s k t || parts_of s k t) false (linked s k h)) ≡ false)
+            → (cond (unlinks_of s k t) true (cond (renews s k t) false (unlinking s k h)) ≡ true)
+            × (cond (unlinks_of s k t) (asked s h + 1) (number s k h) ≡ asked s (hist cs) + 1)
+            × (cond (submits s k t) true (cond (unlinks_of s k t || parts_of s k t) false (linked s k h)) ≡ false)
         go true ea b eb rec = absurd (false≢true (sym rec.2 ∙ ((orderly (ds ++ c ∷ cs) d k).0 ea).0))
         go false ea true eb rec = absurd (true≢false (sym rec.0 ∙ ((orderly (ds ++ c ∷ cs) d k).2 eb).1))
         go false ea false eb rec = (rw (ea, eb, q.0) rec.0, rw ea rec.1, rw (eb, ea) (off (parts_of s k t) rec.2))
 
     few : asked s (hist cs) + 1 ≤ counted s (hist cs) + 32
-    unfolding historyOf asked counted
+    unfolding history_of asked counted
     few =
-        let e = an-unlink k (event s (turn s (run_of m w) cs c)) mine in
-        omega (arith, (up (c ∷ cs)).1, ap flagNumber e.0, none-counted (event s (turn s (run_of m w) cs c)) e.0 (isAnswered (bell s (hist cs))))
+        let e = an_unlink k (event s (turn s (run_of m w) cs c)) mine in
+        omega (arith, (up (c ∷ cs)).1, ap flag_number e.0, none_counted (event s (turn s (run_of m w) cs c)) e.0 (is_answered (bell s (hist cs))))
 
   pub waits : Waits s (run_of m w)
   waits cs ds c k n mine owed = (

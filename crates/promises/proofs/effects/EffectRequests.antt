@@ -7,61 +7,61 @@ use mathlib.Core.Path.{◌≡◌, refl, ap}
 use borrow.Author.Tests.{eq-eqb, not-false}
 use lib.Dec.{eqb}
 use lib.ListN.{length}
-use Rattle.register.specs.Writes.{noWrites}
+use Rattle.register.specs.Writes.{no_writes}
 use Rattle.pool.specs.declared.chain.View.{View}
 use Rattle.settings.specs.declared.settings.Settings.{Settings}
 use Rattle.state.specs.Plain.{Ehci}
 use Rattle.common.specs.Answers.{first, passed}
 use Rattle.common.specs.declared.answer.Refusal.{Refusal}
 use Rattle.common.specs.declared.answer.Refusal.TheVariants.{InvalidParameter}
-use Rattle.common.proofs.CheckLaws.{let-pass, settled-by}
-use Rattle.pipe.specs.Endpoints.{endpointAt}
+use Rattle.common.proofs.CheckLaws.{let_pass, settled_by}
+use Rattle.pipe.specs.Endpoints.{endpoint_at}
 use Rattle.pipe.specs.declared.endpoints.Endpoint.TheVariants.{Linked}
 use Rattle.pipe.specs.declared.endpoints.Pipe.{Pipe}
 use Rattle.pipe.specs.declared.endpoints.Request.{Request}
-use Rattle.controller.specs.Lent.{acceptsOf, lengths}
+use Rattle.controller.specs.Lent.{accepts_of, lengths}
 use Rattle.controller.specs.declared.lent.Readings.{Readings}
-use Rattle.request.specs.Submit.{Outcome, acceptedWith, answer_of, judgeOf, refusedSubmit, settledSubmit, submitChecks, submitOf}
-use Rattle.request.specs.Writeback.{inRequest, refusedWriteback, writebackChecks, writebackOf}
+use Rattle.request.specs.Submit.{Outcome, accepted_with, answer_of, judge_of, refused_submit, settled_submit, submit_checks, submit_of}
+use Rattle.request.specs.Writeback.{in_request, refused_writeback, writeback_checks, writeback_of}
 use Rattle.request.specs.Plain.{WrittenBack}
 use Rattle.request.specs.declared.judge.TransferRequest.{TransferRequest}
-use Rattle.request.proofs.JudgeLaws.{judge-tells}
-use Rattle.collection.specs.Answers.{outcomeOf}
-use Rattle.collection.specs.Calls.{Ended, Gathered, finishOf, marked, pendingLeft}
-use Rattle.collection.specs.Unlinks.{Left, waitingOf, isMissing}
-use Rattle.collection.proofs.Splits.{cancel-split, collect-split, unlink-split}
-use Rattle.collection.proofs.ApartSplits.{alone-split, look-split}
+use Rattle.request.proofs.JudgeLaws.{judge_tells}
+use Rattle.collection.specs.Answers.{outcome_of}
+use Rattle.collection.specs.Calls.{Ended, Gathered, finish_of, marked, pending_left}
+use Rattle.collection.specs.Unlinks.{Left, waiting_of, is_missing}
+use Rattle.collection.proofs.Splits.{cancel_split, collect_split, unlink_split}
+use Rattle.collection.proofs.ApartSplits.{alone_split, look_split}
 use Rattle.ehci.specs.declared.call.Call.{Call}
 use Rattle.ehci.specs.declared.call.Call.TheVariants.{Cancel, Collect, CollectAlone, Look, Submit, Writeback}
 use Rattle.ehci.specs.declared.reply.Answered.TheVariants.{Refused}
-use Rattle.ehci.specs.Decides.{aloneCame, aloneDecided, aloneReadings, cancelCame, cancelDecided, collectCame, collectDecided, lookDecided, lookReadings, submitCame, submitDecided, withFrames, withSetups, writebackDecided, writtenReply, came}
-use Rattle.ehci.specs.Door.{carriedOut}
-use Rattle.ehci.specs.Replies.{collectedAnswer, replied}
+use Rattle.ehci.specs.Decides.{alone_came, alone_decided, alone_readings, cancel_came, cancel_decided, collect_came, collect_decided, look_decided, look_readings, submit_came, submit_decided, with_frames, with_setups, writeback_decided, written_reply, came}
+use Rattle.ehci.specs.Door.{carried_out}
+use Rattle.ehci.specs.Replies.{collected_answer, replied}
 use Rattle.promises.specs.Runs.{Rows, World, core}
-use Rattle.promises.specs.Events.{Collects, Event, Other, Parts, Unlinks, isCollected}
-use Rattle.promises.specs.Walks.{frameWalk, isIn, ringWalk}
+use Rattle.promises.specs.Events.{Collects, Event, Other, Parts, Unlinks, is_collected}
+use Rattle.promises.specs.Walks.{frame_walk, is_in, ring_walk}
 use Rattle.promises.proofs.effects.RefusalNumbers.{uncollected, undone}
-use Rattle.promises.proofs.effects.Effects.{Effect, accepts, collects, marks, unlinks, writes-back, Unlinked}
-use Rattle.promises.proofs.effects.EffectDoor.{leaves, refused-still, rows-kept, seen, sidesOf, stays-in, still-of, through, carried}
-use Rattle.schedule.specs.Links.{detachOf}
-use Rattle.token.specs.Overlay.{keptToggle}
+use Rattle.promises.proofs.effects.Effects.{Effect, accepts, collects, marks, unlinks, writes_back, Unlinked}
+use Rattle.promises.proofs.effects.EffectDoor.{leaves, refused_still, rows_kept, seen, sides_of, stays_in, still_of, through, carried}
+use Rattle.schedule.specs.Links.{detach_of}
+use Rattle.token.specs.Overlay.{kept_toggle}
 
 -- no head leaves where the words of heads and frames stay
-pub none-leaves : (s : Settings) (k frame : ℕ) (old new : Rows) → new.heads ≡ old.heads → new.frames ≡ old.frames
-    → cond (isIn (k + 1) (ringWalk s old) && not (isIn (k + 1) (ringWalk s new))) (Unlinks k)
-    (cond (isIn (k + 1) (frameWalk s old 0) && not (isIn (k + 1) (frameWalk s new 0))) (Parts k frame) Other)
+pub none_leaves : (s : Settings) (k frame : ℕ) (old new : Rows) → new.heads ≡ old.heads → new.frames ≡ old.frames
+    → cond (is_in (k + 1) (ring_walk s old) && not (is_in (k + 1) (ring_walk s new))) (Unlinks k)
+    (cond (is_in (k + 1) (frame_walk s old 0) && not (is_in (k + 1) (frame_walk s new 0))) (Parts k frame) Other)
     ≡ Other
-unfolding ringWalk frameWalk
-none-leaves s k frame old new eh ef =
-    rw (eh, ef, stays-in (isIn (k + 1) (ringWalk s old)), stays-in (isIn (k + 1) (frameWalk s old 0)))
+unfolding ring_walk frame_walk
+none_leaves s k frame old new eh ef =
+    rw (eh, ef, stays_in (is_in (k + 1) (ring_walk s old)), stays_in (is_in (k + 1) (frame_walk s old 0)))
 
 -- what a passing collect answers is a collection
-pub outcome-collected : (b : Bool) (v : View) → isCollected (collectedAnswer (outcomeOf b v)) ≡ true
-unfolding outcomeOf
-outcome-collected true v = refl
-outcome-collected false v = by (eqb v.failed 0) refl
+pub outcome_collected : (b : Bool) (v : View) → is_collected (collected_answer (outcome_of b v)) ≡ true
+unfolding outcome_of
+outcome_collected true v = refl
+outcome_collected false v = by (eqb v.failed 0) refl
   where
-    by : (t : Bool) → eqb v.failed 0 ≡ t → isCollected (collectedAnswer (outcomeOf false v)) ≡ true
+    by : (t : Bool) → eqb v.failed 0 ≡ t → is_collected (collected_answer (outcome_of false v)) ≡ true
     by true e = rw e
     by false e = rw e
 
@@ -83,62 +83,62 @@ module _ (w : World) where
 
   -- a row of another length, or a state outside its ranges
   abbrev unfit : Bool
-  unfit = not (acceptsOf s (lengths n (length hs) (length fs) (length us)))
+  unfit = not (accepts_of s (lengths n (length hs) (length fs) (length us)))
 
-  pub submit-effect : (k : ℕ) (t : TransferRequest) (rd : Readings) → Effect w (Submit k t rd) (core w (Submit k t rd))
-  unfolding submitDecided submitOf settledSubmit acceptedWith refusedSubmit replied judgeOf
-  submit-effect k t rd =
-      through Effect w (Submit k t rd) (refused-still w (Submit k t rd) InvalidParameter refl refl)
-      (settled-by
-      (first ((unfit, InvalidParameter) ∷ submitChecks s k t)) _ _
-      (λ (o : Outcome). Effect w (Submit k t rd) (carriedOut (submitCame o) w.rows.pool))
-      (λ r e. refused-still w (Submit k t rd) r (rw (undone r)) refl)
+  pub submit_effect : (k : ℕ) (t : TransferRequest) (rd : Readings) → Effect w (Submit k t rd) (core w (Submit k t rd))
+  unfolding submit_decided submit_of settled_submit accepted_with refused_submit replied judge_of
+  submit_effect k t rd =
+      through Effect w (Submit k t rd) (refused_still w (Submit k t rd) InvalidParameter refl refl)
+      (settled_by
+      (first ((unfit, InvalidParameter) ∷ submit_checks s k t)) _ _
+      (λ (o : Outcome). Effect w (Submit k t rd) (carried_out (submit_came o) w.rows.pool))
+      (λ r e. refused_still w (Submit k t rd) r (rw (undone r)) refl)
       (λ e. accepts
       (record {
         k = k;
         t = t;
         readings = rd;
-        judged = judge-tells s k t (ap answer_of (let-pass unfit InvalidParameter (first (submitChecks s k t)) e).1);
-        state-is = refl;
+        judged = judge_tells s k t (ap answer_of (let_pass unfit InvalidParameter (first (submit_checks s k t)) e).1);
+        state_is = refl;
         rows_are = refl;
         writes_are = refl;
         submits = refl;
         same = refl;
       })))
 
-  pub writeback-effect : (place token : ℕ) → Effect w (Writeback place token) (core w (Writeback place token))
-  unfolding writebackDecided writebackOf refusedWriteback replied
-  writeback-effect place token =
-      through Effect w (Writeback place token) (refused-still w (Writeback place token) InvalidParameter refl refl)
-      (settled-by (first (writebackChecks s (lengths n (length hs) (length fs) (length us)) place)) _ _
-      (λ (x : WrittenBack). Effect w (Writeback place token) (carried w (writtenReply x)))
-      (λ r e. refused-still w (Writeback place token) r refl refl)
-      (λ e. writes-back
+  pub writeback_effect : (place token : ℕ) → Effect w (Writeback place token) (core w (Writeback place token))
+  unfolding writeback_decided writeback_of refused_writeback replied
+  writeback_effect place token =
+      through Effect w (Writeback place token) (refused_still w (Writeback place token) InvalidParameter refl refl)
+      (settled_by (first (writeback_checks s (lengths n (length hs) (length fs) (length us)) place)) _ _
+      (λ (x : WrittenBack). Effect w (Writeback place token) (carried w (written_reply x)))
+      (λ r e. refused_still w (Writeback place token) r refl refl)
+      (λ e. writes_back
       (record {
         place = place;
         token = token;
-        in-request = not-false (inRequest s place) (let-pass (not (inRequest s place)) InvalidParameter passed (let-pass unfit InvalidParameter (first ((not (inRequest s place), InvalidParameter) ∷ [])) e).1).0;
-        state-is = refl;
+        in_request_lem = not-false (in_request s place) (let_pass (not (in_request s place)) InvalidParameter passed (let_pass unfit InvalidParameter (first ((not (in_request s place), InvalidParameter) ∷ [])) e).1).0;
+        state_is = refl;
         rows_are = refl;
         silent = refl;
         nothing = refl;
-        call-is = refl;
+        call_is = refl;
         accepted = refl;
         same = refl;
       })))
 
   module _ (k id : ℕ) (rd : Readings) where
     abbrev Cancels : Left → Type 0
-    Cancels l = Effect w (Cancel k id rd) (carriedOut (withSetups (cancelCame l) us) w.rows.pool)
+    Cancels l = Effect w (Cancel k id rd) (carried_out (with_setups (cancel_came l) us) w.rows.pool)
 
-    cancel-refused : (x : Refusal) → Effect w (Cancel k id rd) (leaves w (Cancel k id rd) s (Refused x) noWrites)
-    cancel-refused x = refused-still w (Cancel k id rd) x (none-leaves s.settings k rd.frame _ _ refl refl) refl
+    cancel_refused : (x : Refusal) → Effect w (Cancel k id rd) (leaves w (Cancel k id rd) s (Refused x) no_writes)
+    cancel_refused x = refused_still w (Cancel k id rd) x (none_leaves s.settings k rd.frame _ _ refl refl) refl
 
     -- where the head is found
-    unfoldable pub cancel-unlinked : (p : Pipe) (r : Request) → endpointAt s k ≡ Linked p r → s.unanswered < 32 → isMissing (detachOf s hs fs k).predecessor ≡ false
-        → Unlinked w (Cancel k id rd) (carriedOut (withSetups (cancelCame (record { came = waitingOf s rd k p (marked r); rows = (detachOf s hs fs k).rows })) us) w.rows.pool)
-    unfolding waitingOf replied
-    cancel-unlinked p r e below found =
+    unfoldable pub cancel_unlinked : (p : Pipe) (r : Request) → endpoint_at s k ≡ Linked p r → s.unanswered < 32 → is_missing (detach_of s hs fs k).predecessor ≡ false
+        → Unlinked w (Cancel k id rd) (carried_out (with_setups (cancel_came (record { came = waiting_of s rd k p (marked r); rows = (detach_of s hs fs k).rows })) us) w.rows.pool)
+    unfolding waiting_of replied
+    cancel_unlinked p r e below found =
         record {
           k = k;
           p = p;
@@ -146,23 +146,23 @@ module _ (w : World) where
           asked = marked r;
           readings = rd;
           linked = e;
-          same-request = inr refl;
+          same_request = inr refl;
           cancels = inr (rw (eq-eqb k k refl));
           uncrowded = below;
           found = found;
-          state-is = refl;
-          rows_are = rows-kept w (Cancel k id rd) _ _ us;
+          state_is = refl;
+          rows_are = rows_kept w (Cancel k id rd) _ _ us;
           writes_are = refl;
           leaves = refl;
           same = refl;
         }
 
-    pub cancel-effect : Effect w (Cancel k id rd) (core w (Cancel k id rd))
-    unfolding cancelDecided replied
-    cancel-effect =
-        through Effect w (Cancel k id rd) (cancel-refused InvalidParameter)
-        (cancel-split s n hs fs (length us) rd k id Cancels cancel-refused
-        (λ p r ok e below same. unlink-split s hs fs rd k p (marked r) Cancels (cancel-refused _) (λ found. unlinks (cancel-unlinked p r e below found)))
+    pub cancel_effect : Effect w (Cancel k id rd) (core w (Cancel k id rd))
+    unfolding cancel_decided replied
+    cancel_effect =
+        through Effect w (Cancel k id rd) (cancel_refused InvalidParameter)
+        (cancel_split s n hs fs (length us) rd k id Cancels cancel_refused
+        (λ p r ok e below same. unlink_split s hs fs rd k p (marked r) Cancels (cancel_refused _) (λ found. unlinks (cancel_unlinked p r e below found)))
         (λ p r u ok e same. marks
         (record {
           k = k;
@@ -171,25 +171,25 @@ module _ (w : World) where
           u = u;
           unlinking = e;
           cancels = rw (eq-eqb k k refl);
-          state-is = refl;
-          rows_are = rows-kept w (Cancel k id rd) hs fs us;
+          state_is = refl;
+          rows_are = rows_kept w (Cancel k id rd) hs fs us;
           silent = refl;
-          nothing = none-leaves s.settings k rd.frame _ _ refl refl;
+          nothing = none_leaves s.settings k rd.frame _ _ refl refl;
           same = refl;
         })))
 
     abbrev Collecting : Gathered → Type 0
-    Collecting g = Effect w (Collect k id rd) (carriedOut (withSetups (collectCame g) us) w.rows.pool)
+    Collecting g = Effect w (Collect k id rd) (carried_out (with_setups (collect_came g) us) w.rows.pool)
 
-    collect-refused : (x : Refusal) → Effect w (Collect k id rd) (leaves w (Collect k id rd) s (Refused x) noWrites)
-    collect-refused x =
-        refused-still w (Collect k id rd) x (rw (uncollected x) (none-leaves s.settings k rd.frame _ _ refl refl)) refl
+    collect_refused : (x : Refusal) → Effect w (Collect k id rd) (leaves w (Collect k id rd) s (Refused x) no_writes)
+    collect_refused x =
+        refused_still w (Collect k id rd) x (rw (uncollected x) (none_leaves s.settings k rd.frame _ _ refl refl)) refl
 
     -- where the head is found
-    unfoldable pub collect-unlinked : (p : Pipe) (r : Request) → endpointAt s k ≡ Linked p r → s.unanswered < 32 → isMissing (detachOf s hs fs k).predecessor ≡ false
-        → Unlinked w (Collect k id rd) (carriedOut (withSetups (collectCame (pendingLeft (record { came = waitingOf s rd k p r; rows = (detachOf s hs fs k).rows }))) us) w.rows.pool)
-    unfolding waitingOf replied
-    collect-unlinked p r e below found =
+    unfoldable pub collect_unlinked : (p : Pipe) (r : Request) → endpoint_at s k ≡ Linked p r → s.unanswered < 32 → is_missing (detach_of s hs fs k).predecessor ≡ false
+        → Unlinked w (Collect k id rd) (carried_out (with_setups (collect_came (pending_left (record { came = waiting_of s rd k p r; rows = (detach_of s hs fs k).rows }))) us) w.rows.pool)
+    unfolding waiting_of replied
+    collect_unlinked p r e below found =
         record {
           k = k;
           p = p;
@@ -197,27 +197,27 @@ module _ (w : World) where
           asked = r;
           readings = rd;
           linked = e;
-          same-request = inl refl;
+          same_request = inl refl;
           cancels = inl refl;
           uncrowded = below;
           found = found;
-          state-is = refl;
-          rows_are = rows-kept w (Collect k id rd) _ _ us;
+          state_is = refl;
+          rows_are = rows_kept w (Collect k id rd) _ _ us;
           writes_are = refl;
           leaves = refl;
           same = refl;
         }
 
-    collected-as : (b : Bool) (j : ℕ) (e : Event) → b ≡ true → j ≡ id → cond b (Collects k id rd.frame) e ≡ Collects k j rd.frame
-    collected-as b j e q i = rw (q, i)
+    collected_as : (b : Bool) (j : ℕ) (e : Event) → b ≡ true → j ≡ id → cond b (Collects k id rd.frame) e ≡ Collects k j rd.frame
+    collected_as b j e q i = rw (q, i)
 
-    pub collect-effect : Effect w (Collect k id rd) (core w (Collect k id rd))
-    unfolding collectDecided finishOf replied noWrites
-    collect-effect =
-        through Effect w (Collect k id rd) (collect-refused InvalidParameter)
-        (collect-split s n hs fs (length us) rd k id (seen w (Collect k id rd)) Collecting collect-refused
-        (still-of w (Collect k id rd) _ _ _ (sidesOf s) refl refl (none-leaves s.settings k rd.frame _ _ refl refl) (λ g. g) refl (λ i. i) refl)
-        (λ p r ok e below same done. unlink-split s hs fs rd k p r (λ (l : Left). Collecting (pendingLeft l)) (collect-refused _) (λ found. unlinks (collect-unlinked p r e below found)))
+    pub collect_effect : Effect w (Collect k id rd) (core w (Collect k id rd))
+    unfolding collect_decided finish_of replied no_writes
+    collect_effect =
+        through Effect w (Collect k id rd) (collect_refused InvalidParameter)
+        (collect_split s n hs fs (length us) rd k id (seen w (Collect k id rd)) Collecting collect_refused
+        (still_of w (Collect k id rd) _ _ _ (sides_of s) refl refl (none_leaves s.settings k rd.frame _ _ refl refl) (λ g. g) refl (λ i. i) refl)
+        (λ p r ok e below same done. unlink_split s hs fs rd k p r (λ (l : Left). Collecting (pending_left l)) (collect_refused _) (λ found. unlinks (collect_unlinked p r e below found)))
         (λ p r u ok e same through-it. collects
         (record {
           k = k;
@@ -225,15 +225,15 @@ module _ (w : World) where
           r = r;
           u = u;
           frame = rd.frame;
-          toggle = keptToggle rd.overlay;
+          toggle = kept_toggle rd.overlay;
           view = seen w (Collect k id rd);
           unlinking = e;
           passed = through-it;
-          state-is = refl;
+          state_is = refl;
           kept = refl;
-          rows_are = rows-kept w (Collect k id rd) _ fs us;
+          rows_are = rows_kept w (Collect k id rd) _ fs us;
           silent = refl;
-          collects = collected-as _ r.id _ (outcome-collected r.cancelled (seen w (Collect k id rd))) same;
+          collects = collected_as _ r.id _ (outcome_collected r.cancelled (seen w (Collect k id rd))) same;
           same = refl;
         })))
 
@@ -244,41 +244,41 @@ module _ (w : World) where
     look = Look k id command frame
 
     abbrev Looking : Gathered → Type 0
-    Looking g = Effect w look (carriedOut (withSetups (collectCame g) us) w.rows.pool)
+    Looking g = Effect w look (carried_out (with_setups (collect_came g) us) w.rows.pool)
 
-    look-refused : (x : Refusal) → Effect w look (leaves w look s (Refused x) noWrites)
-    look-refused x = refused-still w look x (none-leaves s.settings k frame _ _ refl refl) refl
+    look_refused : (x : Refusal) → Effect w look (leaves w look s (Refused x) no_writes)
+    look_refused x = refused_still w look x (none_leaves s.settings k frame _ _ refl refl) refl
 
-    unfoldable pub look-unlinked : (p : Pipe) (r : Request) → endpointAt s k ≡ Linked p r → s.unanswered < 32 → isMissing (detachOf s hs fs k).predecessor ≡ false
-        → Unlinked w look (carriedOut (withSetups (collectCame (pendingLeft (record { came = waitingOf s (lookReadings command frame) k p r; rows = (detachOf s hs fs k).rows }))) us) w.rows.pool)
-    unfolding waitingOf replied
-    look-unlinked p r e below found =
+    unfoldable pub look_unlinked : (p : Pipe) (r : Request) → endpoint_at s k ≡ Linked p r → s.unanswered < 32 → is_missing (detach_of s hs fs k).predecessor ≡ false
+        → Unlinked w look (carried_out (with_setups (collect_came (pending_left (record { came = waiting_of s (look_readings command frame) k p r; rows = (detach_of s hs fs k).rows }))) us) w.rows.pool)
+    unfolding waiting_of replied
+    look_unlinked p r e below found =
         record {
           k = k;
           p = p;
           r = r;
           asked = r;
-          readings = lookReadings command frame;
+          readings = look_readings command frame;
           linked = e;
-          same-request = inl refl;
+          same_request = inl refl;
           cancels = inl refl;
           uncrowded = below;
           found = found;
-          state-is = refl;
-          rows_are = rows-kept w look _ _ us;
+          state_is = refl;
+          rows_are = rows_kept w look _ _ us;
           writes_are = refl;
           leaves = refl;
           same = refl;
         }
 
-    pub look-effect : Effect w look (core w look)
-    unfolding lookDecided replied noWrites
-    look-effect =
-        through Effect w look (look-refused InvalidParameter)
-        (look-split s n hs (lookReadings command frame) (seen w look) k id fs (length us) Looking look-refused
-        (still-of w look _ _ _ (sidesOf s) refl refl (none-leaves s.settings k frame _ _ refl refl) (λ g. g) refl (λ i. i) refl)
-        (still-of w look _ _ _ (sidesOf s) refl refl (none-leaves s.settings k frame _ _ refl refl) (λ g. g) refl (λ i. i) refl)
-        (λ p r e below done. unlink-split s hs fs (lookReadings command frame) k p r (λ (l : Left). Looking (pendingLeft l)) (look-refused _) (λ found. unlinks (look-unlinked p r e below found))))
+    pub look_effect : Effect w look (core w look)
+    unfolding look_decided replied no_writes
+    look_effect =
+        through Effect w look (look_refused InvalidParameter)
+        (look_split s n hs (look_readings command frame) (seen w look) k id fs (length us) Looking look_refused
+        (still_of w look _ _ _ (sides_of s) refl refl (none_leaves s.settings k frame _ _ refl refl) (λ g. g) refl (λ i. i) refl)
+        (still_of w look _ _ _ (sides_of s) refl refl (none_leaves s.settings k frame _ _ refl refl) (λ g. g) refl (λ i. i) refl)
+        (λ p r e below done. unlink_split s hs fs (look_readings command frame) k p r (λ (l : Left). Looking (pending_left l)) (look_refused _) (λ found. unlinks (look_unlinked p r e below found))))
 
   -- ---- collect alone
 
@@ -287,18 +287,18 @@ module _ (w : World) where
     alone = CollectAlone k id frame overlay
 
     abbrev Ending : Ended → Type 0
-    Ending e = Effect w alone (carriedOut (withFrames (aloneCame e) fs us) w.rows.pool)
+    Ending e = Effect w alone (carried_out (with_frames (alone_came e) fs us) w.rows.pool)
 
-    alone-as : (b : Bool) (j : ℕ) → b ≡ true → j ≡ id → cond b (Collects k id frame) Other ≡ Collects k j frame
-    alone-as b j q i = rw (q, i)
+    alone_as : (b : Bool) (j : ℕ) → b ≡ true → j ≡ id → cond b (Collects k id frame) Other ≡ Collects k j frame
+    alone_as b j q i = rw (q, i)
 
-    pub alone-effect : Effect w alone (core w alone)
-    unfolding aloneDecided finishOf replied noWrites
-    alone-effect =
-        through Effect w alone (refused-still w alone InvalidParameter refl refl)
-        (alone-split s n hs (aloneReadings frame overlay) (seen w alone) k id (length fs) (length us) Ending
-        (λ x. refused-still w alone x (rw (uncollected x)) refl)
-        (still-of w alone _ _ _ (sidesOf s) refl refl refl (λ g. g) refl (λ i. i) refl)
+    pub alone_effect : Effect w alone (core w alone)
+    unfolding alone_decided finish_of replied no_writes
+    alone_effect =
+        through Effect w alone (refused_still w alone InvalidParameter refl refl)
+        (alone_split s n hs (alone_readings frame overlay) (seen w alone) k id (length fs) (length us) Ending
+        (λ x. refused_still w alone x (rw (uncollected x)) refl)
+        (still_of w alone _ _ _ (sides_of s) refl refl refl (λ g. g) refl (λ i. i) refl)
         (λ p r u e same through-it. collects
         (record {
           k = k;
@@ -306,14 +306,14 @@ module _ (w : World) where
           r = r;
           u = u;
           frame = frame;
-          toggle = keptToggle overlay;
+          toggle = kept_toggle overlay;
           view = seen w alone;
           unlinking = e;
           passed = through-it;
-          state-is = refl;
+          state_is = refl;
           kept = refl;
-          rows_are = rows-kept w alone _ fs us;
+          rows_are = rows_kept w alone _ fs us;
           silent = refl;
-          collects = alone-as _ r.id (outcome-collected r.cancelled (seen w alone)) same;
+          collects = alone_as _ r.id (outcome_collected r.cancelled (seen w alone)) same;
           same = refl;
         })))

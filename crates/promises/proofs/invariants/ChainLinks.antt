@@ -8,47 +8,47 @@ use native.Mathlib.Omega.{arith}
 use lib.ListN.{get_or, length}
 use lib.Seq.{get_or-set_other}
 use Rattle.settings.specs.declared.settings.Settings.{Settings}
-use Rattle.common.proofs.TestLaws.{false-true}
+use Rattle.common.proofs.TestLaws.{false_true}
 use Rattle.state.specs.Plain.{Ehci}
 use Rattle.common.specs.declared.kinds.EndpointType.{EndpointType}
-use Rattle.pipe.specs.Endpoints.{endpointAt}
-use Rattle.common.specs.Kinds.{isInterrupt}
+use Rattle.pipe.specs.Endpoints.{endpoint_at}
+use Rattle.common.specs.Kinds.{is_interrupt}
 use Rattle.pipe.specs.declared.endpoints.Endpoint.{Endpoint}
 use Rattle.pipe.specs.declared.endpoints.Endpoint.TheVariants.{Closed, Idle, Linked, Unlinking}
-use Rattle.controller.specs.Readers.{holdsRequest}
-use Rattle.schedule.proofs.OverlayLaws.{started-length, started-word}
-use Rattle.schedule.specs.Links.{Links, attachedFrames, attachedRing, linkWord, links, ringLink, slotLink, startedOverlay}
+use Rattle.controller.specs.Readers.{holds_request}
+use Rattle.schedule.proofs.OverlayLaws.{started_length, started_word}
+use Rattle.schedule.specs.Links.{Links, attached_frames, attached_ring, link_word, links, ring_link, slot_link, started_overlay}
 use Rattle.schedule.specs.Walks.{Avoids, Chain}
-use Rattle.schedule.proofs.WalkLaws.{attach-first, frames-first}
-use Rattle.request.specs.Submit.{linkedRows}
-use Rattle.request.proofs.SubmitLaws.{submit-words}
+use Rattle.schedule.proofs.WalkLaws.{attach_first, frames_first}
+use Rattle.request.specs.Submit.{linked_rows}
+use Rattle.request.proofs.SubmitLaws.{submit_words}
 use Rattle.promises.specs.Runs.{Rows}
-use Rattle.promises.specs.Walks.{isIn}
-use Rattle.promises.proofs.effects.Effects.{withLinks}
-use Rattle.promises.proofs.invariants.ChainLists.{out-avoids}
-use Rattle.promises.proofs.invariants.ChainInv.{Schedule, Schedules, chain-stays, linkedIn, schedule-grows, schedule-stays}
+use Rattle.promises.specs.Walks.{is_in}
+use Rattle.promises.proofs.effects.Effects.{with_links}
+use Rattle.promises.proofs.invariants.ChainLists.{out_avoids}
+use Rattle.promises.proofs.invariants.ChainInv.{Schedule, Schedules, chain_stays, linked_in, schedule_grows, schedule_stays}
 
-pub bare-unlinked : (b : Bool) (x : Endpoint) → holdsRequest x ≡ false → linkedIn b x ≡ false
-bare-unlinked b Closed e = refl
-bare-unlinked b (Idle p) e = refl
-bare-unlinked b (Linked p r) e = absurd (false-true (sym e))
-bare-unlinked b (Unlinking p r u) e = refl
+pub bare_unlinked : (b : Bool) (x : Endpoint) → holds_request x ≡ false → linked_in b x ≡ false
+bare_unlinked b Closed e = refl
+bare_unlinked b (Idle p) e = refl
+bare_unlinked b (Linked p r) e = absurd (false_true (sym e))
+bare_unlinked b (Unlinking p r u) e = refl
 
 -- ---- the overlay is written before the head is linked: no link changes
 
 module _ (h : List ℕ) (k first token : ℕ) where
-  overlay-ring : ringLink (startedOverlay h k first token) ≡ ringLink h
-  overlay-ring = started-word h k first token 0 (λ e. omega arith) (λ e. omega arith) (λ e. omega arith)
+  overlay_ring : ring_link (started_overlay h k first token) ≡ ring_link h
+  overlay_ring = started_word h k first token 0 (λ e. omega arith) (λ e. omega arith) (λ e. omega arith)
 
-  overlay-link : (i : ℕ) → linkWord (startedOverlay h k first token) i ≡ linkWord h i
-  overlay-link i = started-word h k first token (17 * (i + 1)) (λ e. omega arith) (λ e. omega arith) (λ e. omega arith)
+  overlay_link : (i : ℕ) → link_word (started_overlay h k first token) i ≡ link_word h i
+  overlay_link i = started_word h k first token (17 * (i + 1)) (λ e. omega arith) (λ e. omega arith) (λ e. omega arith)
 
 -- ---- linking
 
 module _ (s t : Ehci) (rows : Rows) (ks js : List ℕ) (x : Schedules s rows ks js) (k first token : ℕ) (room : 17 * (k + 1) + 17 ≤ length rows.heads)
     (full : length rows.frames ≡ 1024) (e : t.settings ≡ s.settings)
-    (others : (b : Bool) (i : ℕ) → (i ≡ k → ⊥) → linkedIn b (endpointAt t i) ≡ linkedIn b (endpointAt s i))
-    (bare : (b : Bool) → linkedIn b (endpointAt s k) ≡ false) where
+    (others : (b : Bool) (i : ℕ) → (i ≡ k → ⊥) → linked_in b (endpoint_at t i) ≡ linked_in b (endpoint_at s i))
+    (bare : (b : Bool) → linked_in b (endpoint_at s k) ≡ false) where
   abbrev h : List ℕ
   h = rows.heads
 
@@ -56,98 +56,98 @@ module _ (s t : Ehci) (rows : Rows) (ks js : List ℕ) (x : Schedules s rows ks 
   f = rows.frames
 
   abbrev started : List ℕ
-  started = startedOverlay h k first token
+  started = started_overlay h k first token
 
   abbrev linked : EndpointType → Links
-  linked kind = linkedRows h f kind k (slotLink s k) first token
+  linked kind = linked_rows h f kind k (slot_link s k) first token
 
   -- the head of a linked slot is another
-  another : (b : Bool) (i : ℕ) → linkedIn b (endpointAt s i) ≡ true → i ≡ k → ⊥
-  another b i m q = false-true (sym (ap (λ (n : ℕ). linkedIn b (endpointAt s n)) q ∙ bare b) ∙ m)
+  another : (b : Bool) (i : ℕ) → linked_in b (endpoint_at s i) ≡ true → i ≡ k → ⊥
+  another b i m q = false_true (sym (ap (λ (n : ℕ). linked_in b (endpoint_at s n)) q ∙ bare b) ∙ m)
 
-  linked-word : (kind : EndpointType) (b : Bool) (i : ℕ) → linkedIn b (endpointAt s i) ≡ true → linkWord (linked kind).heads i ≡ linkWord h i
-  linked-word kind b i m =
+  linked_word : (kind : EndpointType) (b : Bool) (i : ℕ) → linked_in b (endpoint_at s i) ≡ true → link_word (linked kind).heads i ≡ link_word h i
+  linked_word kind b i m =
       let ne = another b i m in
-      submit-words h f k (slotLink s k) first token (17 * (i + 1)) (λ q. omega arith) (λ q. ne (omega arith)) (λ q. omega arith) (λ q. omega arith) (λ q. omega arith) kind
+      submit_words h f k (slot_link s k) first token (17 * (i + 1)) (λ q. omega arith) (λ q. ne (omega arith)) (λ q. omega arith) (λ q. omega arith) (λ q. omega arith) kind
 
   -- the other schedule stays
-  who : (b : Bool) → linkedIn b (endpointAt t k) ≡ false → (i : ℕ) → linkedIn b (endpointAt t i) ≡ linkedIn b (endpointAt s i)
+  who : (b : Bool) → linked_in b (endpoint_at t k) ≡ false → (i : ℕ) → linked_in b (endpoint_at t i) ≡ linked_in b (endpoint_at s i)
   who b new i = by (dec_eq i k)
     where
-      by : Dec (i ≡ k) → linkedIn b (endpointAt t i) ≡ linkedIn b (endpointAt s i)
+      by : Dec (i ≡ k) → linked_in b (endpoint_at t i) ≡ linked_in b (endpoint_at s i)
       by (yes q) = rw q (new ∙ sym (bare b))
       by (no ne) = others b i ne
 
-  ring-chain : Chain s started (ringLink started) ks (s.settings.heads + 2)
-  ring-chain = rw (overlay-ring h k first token) (chain-stays s s h started (ringLink h) (s.settings.heads + 2) ks refl (λ i m. overlay-link h k first token i) x.ring.chain)
+  ring_chain : Chain s started (ring_link started) ks (s.settings.heads + 2)
+  ring_chain = rw (overlay_ring h k first token) (chain_stays s s h started (ring_link h) (s.settings.heads + 2) ks refl (λ i m. overlay_link h k first token i) x.ring.chain)
 
-  frame-chain : Chain s started (get_or f 0 0) js 1
-  frame-chain = chain-stays s s h started (get_or f 0 0) 1 js refl (λ i m. overlay-link h k first token i) x.periodic.chain
+  frame_chain : Chain s started (get_or f 0 0) js 1
+  frame_chain = chain_stays s s h started (get_or f 0 0) 1 js refl (λ i m. overlay_link h k first token i) x.periodic.chain
 
-  avoided : (b : Bool) (ls : List ℕ) → ((i : ℕ) → isIn i ls ≡ linkedIn b (endpointAt s i)) → Avoids k ls
-  avoided b ls m = out-avoids k ls (m k ∙ bare b)
+  avoided : (b : Bool) (ls : List ℕ) → ((i : ℕ) → is_in i ls ≡ linked_in b (endpoint_at s i)) → Avoids k ls
+  avoided b ls m = out_avoids k ls (m k ∙ bare b)
 
-  head-room : 17 * (k + 1) < length started
-  head-room = omega (arith, room, started-length h k first token)
+  head_room : 17 * (k + 1) < length started
+  head_room = omega (arith, room, started_length h k first token)
 
   -- into the ring
-  module _ (kind : EndpointType) (q : isInterrupt kind ≡ false) where
-    ring-rows : linked kind ≡ links (attachedRing started k (slotLink s k)) f
-    unfolding linkedRows
-    ring-rows = rw q
+  module _ (kind : EndpointType) (q : is_interrupt kind ≡ false) where
+    ring_rows : linked kind ≡ links (attached_ring started k (slot_link s k)) f
+    unfolding linked_rows
+    ring_rows = rw q
 
-    ring-grown : Chain s (linked kind).heads (ringLink (linked kind).heads) (k ∷ ks) (s.settings.heads + 2)
-    ring-grown =
-        rw ring-rows
-        (attach-first s started k (s.settings.heads + 2) ks head-room (avoided false ks x.ring.members) ring-chain)
+    ring_grown : Chain s (linked kind).heads (ring_link (linked kind).heads) (k ∷ ks) (s.settings.heads + 2)
+    ring_grown =
+        rw ring_rows
+        (attach_first s started k (s.settings.heads + 2) ks head_room (avoided false ks x.ring.members) ring_chain)
 
-    pub links-ring : linkedIn false (endpointAt t k) ≡ true → linkedIn true (endpointAt t k) ≡ false
-        → Schedules t (withLinks rows (linked kind).heads (linked kind).frames) (k ∷ ks) js
-    links-ring now off =
+    pub links_ring : linked_in false (endpoint_at t k) ≡ true → linked_in true (endpoint_at t k) ≡ false
+        → Schedules t (with_links rows (linked kind).heads (linked kind).frames) (k ∷ ks) js
+    links_ring now off =
         let l = (linked kind).heads in
-        let same : (linked kind).frames ≡ f = ap (λ (z : Links). z.frames) ring-rows in
+        let same : (linked kind).frames ≡ f = ap (λ (z : Links). z.frames) ring_rows in
         record {
           ring =
-              subst (λ (n : ℕ). Schedule false t l (ringLink l) (k ∷ ks) n) (ap (λ (z : Settings). z.heads + 2) (sym e))
-              (schedule-grows false s t e h l (ringLink l) (s.settings.heads + 2) ks k (others false) (bare false) now
-              (chain-stays s t l l (ringLink l) (s.settings.heads + 2) (k ∷ ks) e (λ i m. refl) ring-grown) (ringLink h) x.ring);
-          periodic = rw same (schedule-stays true s t e h l (get_or f 0 0) 1 js (who true off) (linked-word kind true) x.periodic);
+              subst (λ (n : ℕ). Schedule false t l (ring_link l) (k ∷ ks) n) (ap (λ (z : Settings). z.heads + 2) (sym e))
+              (schedule_grows false s t e h l (ring_link l) (s.settings.heads + 2) ks k (others false) (bare false) now
+              (chain_stays s t l l (ring_link l) (s.settings.heads + 2) (k ∷ ks) e (λ i m. refl) ring_grown) (ring_link h) x.ring);
+          periodic = rw same (schedule_stays true s t e h l (get_or f 0 0) 1 js (who true off) (linked_word kind true) x.periodic);
           even = rw same x.even;
         }
 
   -- into the frame list
-  module _ (kind : EndpointType) (q : isInterrupt kind ≡ true) where
-    frame-rows : linked kind ≡ attachedFrames started f k (slotLink s k)
-    unfolding linkedRows
-    frame-rows = rw q
+  module _ (kind : EndpointType) (q : is_interrupt kind ≡ true) where
+    frame_rows : linked kind ≡ attached_frames started f k (slot_link s k)
+    unfolding linked_rows
+    frame_rows = rw q
 
-    frames-grown : ((i : ℕ) → i < length f → get_or (attachedFrames started f k (slotLink s k)).frames i 0 ≡ slotLink s k)
-        × Chain s (attachedFrames started f k (slotLink s k)).heads (slotLink s k) (k ∷ js) 1
-    frames-grown = frames-first s started f k 1 js head-room (avoided true js x.periodic.members) frame-chain
+    frames_grown : ((i : ℕ) → i < length f → get_or (attached_frames started f k (slot_link s k)).frames i 0 ≡ slot_link s k)
+        × Chain s (attached_frames started f k (slot_link s k)).heads (slot_link s k) (k ∷ js) 1
+    frames_grown = frames_first s started f k 1 js head_room (avoided true js x.periodic.members) frame_chain
 
-    every-entry : (i : ℕ) → i < 1024 → get_or (linked kind).frames i 0 ≡ slotLink s k
-    every-entry i low = rw frame-rows (frames-grown.0 i (omega (arith, full)))
+    every_entry : (i : ℕ) → i < 1024 → get_or (linked kind).frames i 0 ≡ slot_link s k
+    every_entry i low = rw frame_rows (frames_grown.0 i (omega (arith, full)))
 
-    frame-grown : Chain s (linked kind).heads (slotLink s k) (k ∷ js) 1
-    frame-grown = rw frame-rows frames-grown.1
+    frame_grown : Chain s (linked kind).heads (slot_link s k) (k ∷ js) 1
+    frame_grown = rw frame_rows frames_grown.1
 
-    ring-same : ringLink (linked kind).heads ≡ ringLink h
-    unfolding attachedFrames
-    ring-same = rw frame-rows (get_or-set_other started (17 * (k + 1)) 0 (get_or f 0 0) 0 (λ z. omega arith) ∙ overlay-ring h k first token)
+    ring_same : ring_link (linked kind).heads ≡ ring_link h
+    unfolding attached_frames
+    ring_same = rw frame_rows (get_or-set_other started (17 * (k + 1)) 0 (get_or f 0 0) 0 (λ z. omega arith) ∙ overlay_ring h k first token)
 
-    pub links-frames : linkedIn true (endpointAt t k) ≡ true → linkedIn false (endpointAt t k) ≡ false
-        → Schedules t (withLinks rows (linked kind).heads (linked kind).frames) ks (k ∷ js)
-    links-frames now off =
+    pub links_frames : linked_in true (endpoint_at t k) ≡ true → linked_in false (endpoint_at t k) ≡ false
+        → Schedules t (with_links rows (linked kind).heads (linked kind).frames) ks (k ∷ js)
+    links_frames now off =
         let l = (linked kind).heads in
-        let all = every-entry in
+        let all = every_entry in
         record {
           ring =
-              rw ring-same
-              (subst (λ (n : ℕ). Schedule false t l (ringLink h) ks n) (ap (λ (z : Settings). z.heads + 2) (sym e))
-              (schedule-stays false s t e h l (ringLink h) (s.settings.heads + 2) ks (who false off) (linked-word kind false) x.ring));
+              rw ring_same
+              (subst (λ (n : ℕ). Schedule false t l (ring_link h) ks n) (ap (λ (z : Settings). z.heads + 2) (sym e))
+              (schedule_stays false s t e h l (ring_link h) (s.settings.heads + 2) ks (who false off) (linked_word kind false) x.ring));
           periodic =
               rw (all 0 (omega arith))
-              (schedule-grows true s t e h l (slotLink s k) 1 js k (others true) (bare true) now
-              (chain-stays s t l l (slotLink s k) 1 (k ∷ js) e (λ i m. refl) frame-grown) (get_or f 0 0) x.periodic);
+              (schedule_grows true s t e h l (slot_link s k) 1 js k (others true) (bare true) now
+              (chain_stays s t l l (slot_link s k) 1 (k ∷ js) e (λ i m. refl) frame_grown) (get_or f 0 0) x.periodic);
           even = λ i low. all i low ∙ sym (all 0 (omega arith));
         }

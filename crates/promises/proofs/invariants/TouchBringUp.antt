@@ -8,18 +8,18 @@ use native.Mathlib.Omega.{arith}
 use borrow.Author.Tests.{eqb-false}
 use lib.Dec.{eqb, ltb}
 use Rattle.register.specs.Bits.{any_of}
-use Rattle.register.specs.Writes.{and_then, list_of, noWrites}
+use Rattle.register.specs.Writes.{and_then, list_of, no_writes}
 use Rattle.settings.specs.declared.settings.Settings.{Settings}
-use Rattle.state.specs.Ranges.{inRanges}
-use Rattle.state.specs.State.{withBringUp}
+use Rattle.state.specs.Ranges.{in_ranges}
+use Rattle.state.specs.State.{with_bring_up}
 use Rattle.state.specs.Plain.{Ehci}
 use Rattle.state.proofs.RangesLaws.{Ranges}
 use Rattle.common.specs.Answers.{first, passed}
 use Rattle.common.specs.declared.answer.Refusal.{Refusal}
 use Rattle.common.specs.declared.answer.Refusal.TheVariants.{InvalidParameter, QueueFull}
-use Rattle.common.proofs.CheckLaws.{let-pass, settled-by}
-use Rattle.schedule.specs.Bell.{commandWord}
-use Rattle.bring_up.specs.BringUp.{againOf, anyUncollected, movedOn, onwardOf, ready, registerOf, setUp, stageOf, stageWrites, start_of, step_of}
+use Rattle.common.proofs.CheckLaws.{let_pass, settled_by}
+use Rattle.schedule.specs.Bell.{command_word}
+use Rattle.bring_up.specs.BringUp.{again_of, any_uncollected, moved_on, onward_of, ready, register_of, set_up, stage_of, stage_writes, start_of, step_of}
 use Rattle.bring_up.specs.Plain.{BroughtUp}
 use Rattle.common.specs.declared.answer.Answer.TheVariants as A
 use Rattle.common.specs.declared.reads.NextRead.TheVariants as N
@@ -27,57 +27,57 @@ use Rattle.bring_up.specs.declared.stage.Stage.{Stage}
 use Rattle.ehci.specs.declared.call.Call.{Call}
 use Rattle.ehci.specs.declared.call.Call.TheVariants.{StartBringUp, BringUpStep, AllocateAddress, OpenEndpoint, Close, SetAddress, SetPacketSize, Submit, Writeback, Cancel, Collect, Acknowledge, Drain, Rearm, Enable, Disable, ClearHalt, Look, CollectAlone}
 use Rattle.ehci.specs.declared.reply.Answered.TheVariants.{Refused}
-use Rattle.ehci.specs.Replies.{broughtReply, replied}
+use Rattle.ehci.specs.Replies.{brought_reply, replied}
 use Rattle.promises.specs.Runs.{World, core}
 use Rattle.promises.specs.Registers as R
-use Rattle.promises.specs.Registers.{isReady, stepWrites}
+use Rattle.promises.specs.Registers.{is_ready, step_writes}
 use Rattle.promises.proofs.effects.EffectDoor.{leaves, through, carried}
 use Rattle.promises.proofs.effects.RefusalNumbers.{undone}
 use Rattle.bring_up.specs.declared.stage.Stage.TheVariants.{Stop, Halting, Reset, Resetting, Run, Starting}
-use Rattle.promises.proofs.effects.EffectMachine.{step-refuses}
-use Rattle.promises.proofs.invariants.TouchCalls.{address-touches, allot-touches, alone-touches, cancel-touches, clear-touches, close-touches, collect-touches, look-touches, open-touches, size-touches, submit-touches, writeback-touches}
-use Rattle.promises.proofs.invariants.TouchInterrupts.{acknowledge-touches, disable-touches, drain-touches, enable-touches, rearm-touches}
-use Rattle.promises.proofs.invariants.Touches.{Touches, refused-touches}
+use Rattle.promises.proofs.effects.EffectMachine.{step_refuses}
+use Rattle.promises.proofs.invariants.TouchCalls.{address_touches, allot_touches, alone_touches, cancel_touches, clear_touches, close_touches, collect_touches, look_touches, open_touches, size_touches, submit_touches, writeback_touches}
+use Rattle.promises.proofs.invariants.TouchInterrupts.{acknowledge_touches, disable_touches, drain_touches, enable_touches, rearm_touches}
+use Rattle.promises.proofs.invariants.Touches.{Touches, refused_touches}
 
 -- a reading of bring-up, by its number
 record Staged (z : Settings) (n v : ℕ) (stage : Stage) : Type 0 where
-  next : (movedOn stage).step ≡ cond (eqb n 6) 0 (n + 1)
-  is-ready : ready stage v ≡ isReady n v
-  writes : isReady n v ≡ true → list_of (stageWrites stage v z.frames z.heads) ≡ stepWrites z n v
-  none : isReady n v ≡ false → stepWrites z n v ≡ []
+  next : (moved_on stage).step ≡ cond (eqb n 6) 0 (n + 1)
+  is_ready_lem : ready stage v ≡ is_ready n v
+  writes : is_ready n v ≡ true → list_of (stage_writes stage v z.frames z.heads) ≡ step_writes z n v
+  none : is_ready n v ≡ false → step_writes z n v ≡ []
 
 module _ (z : Settings) (v : ℕ) where
-  resetting : (b : Bool) → any_of v 2 ≡ b → not b ≡ true → list_of (stageWrites Resetting v z.frames z.heads) ≡ cond b [] (R.setUp z)
-  unfolding setUp and_then noWrites
+  resetting : (b : Bool) → any_of v 2 ≡ b → not b ≡ true → list_of (stage_writes Resetting v z.frames z.heads) ≡ cond b [] (R.set_up z)
+  unfolding set_up and_then no_writes
   resetting true e q = absurd (false≢true q)
   resetting false e q = refl
 
-  unready : (b : Bool) → not b ≡ false → cond b [] (R.setUp z) ≡ []
+  unready : (b : Bool) → not b ≡ false → cond b [] (R.set_up z) ≡ []
   unready true q = refl
   unready false q = absurd (true≢false q)
 
   one : Staged z 1 v Stop
-  unfolding and_then noWrites commandWord
-  one = record { next = refl; is-ready = refl; writes = λ e. refl; none = λ e. absurd (true≢false e) }
+  unfolding and_then no_writes command_word
+  one = record { next = refl; is_ready_lem = refl; writes = λ e. refl; none = λ e. absurd (true≢false e) }
 
   two : Staged z 2 v Halting
-  unfolding noWrites
-  two = record { next = refl; is-ready = refl; writes = λ e. refl; none = λ e. refl }
+  unfolding no_writes
+  two = record { next = refl; is_ready_lem = refl; writes = λ e. refl; none = λ e. refl }
 
   three : Staged z 3 v Reset
-  unfolding and_then noWrites commandWord
-  three = record { next = refl; is-ready = refl; writes = λ e. refl; none = λ e. absurd (true≢false e) }
+  unfolding and_then no_writes command_word
+  three = record { next = refl; is_ready_lem = refl; writes = λ e. refl; none = λ e. absurd (true≢false e) }
 
   four : Staged z 4 v Resetting
-  four = record { next = refl; is-ready = refl; writes = resetting (any_of v 2) refl; none = unready (any_of v 2) }
+  four = record { next = refl; is_ready_lem = refl; writes = resetting (any_of v 2) refl; none = unready (any_of v 2) }
 
   five : Staged z 5 v Run
-  unfolding and_then noWrites commandWord
-  five = record { next = refl; is-ready = refl; writes = λ e. refl; none = λ e. absurd (true≢false e) }
+  unfolding and_then no_writes command_word
+  five = record { next = refl; is_ready_lem = refl; writes = λ e. refl; none = λ e. absurd (true≢false e) }
 
   six : Staged z 6 v Starting
-  unfolding noWrites
-  six = record { next = refl; is-ready = refl; writes = λ e. refl; none = λ e. refl }
+  unfolding no_writes
+  six = record { next = refl; is_ready_lem = refl; writes = λ e. refl; none = λ e. refl }
 
   least : (n : ℕ) → (n ≡ 0 → ⊥) → 1 ≤ n
   least n ne = omega arith
@@ -88,13 +88,13 @@ module _ (z : Settings) (v : ℕ) where
   beyond : (n : ℕ) → n ≤ 6 → 7 ≤ n → ⊥
   beyond n l h = omega arith
 
-  staged : (n : ℕ) → (n ≡ 0 → ⊥) → n ≤ 6 → Staged z n v (stageOf n)
+  staged : (n : ℕ) → (n ≡ 0 → ⊥) → n ≤ 6 → Staged z n v (stage_of n)
   staged n begun most = by (dec_eq n 1) (dec_eq n 2) (dec_eq n 3) (dec_eq n 4) (dec_eq n 5) (dec_eq n 6)
     where
-      at : (k : ℕ) → n ≡ k → Staged z k v (stageOf k) → Staged z n v (stageOf n)
-      at k e x = subst (λ (i : ℕ). Staged z i v (stageOf i)) (sym e) x
+      at : (k : ℕ) → n ≡ k → Staged z k v (stage_of k) → Staged z n v (stage_of n)
+      at k e x = subst (λ (i : ℕ). Staged z i v (stage_of i)) (sym e) x
 
-      by : Dec (n ≡ 1) → Dec (n ≡ 2) → Dec (n ≡ 3) → Dec (n ≡ 4) → Dec (n ≡ 5) → Dec (n ≡ 6) → Staged z n v (stageOf n)
+      by : Dec (n ≡ 1) → Dec (n ≡ 2) → Dec (n ≡ 3) → Dec (n ≡ 4) → Dec (n ≡ 5) → Dec (n ≡ 6) → Staged z n v (stage_of n)
       by (yes e) b c d f g = at 1 e one
       by (no a) (yes e) c d f g = at 2 e two
       by (no a) (no b) (yes e) d f g = at 3 e three
@@ -108,67 +108,67 @@ module _ (w : World) where
   abbrev s : Ehci
   s = w.state
 
-  pub start-touches : Touches w StartBringUp (core w StartBringUp)
-  unfolding start_of broughtReply replied withBringUp and_then noWrites
-  start-touches =
-      through Touches w StartBringUp (refused-touches w StartBringUp InvalidParameter refl refl)
-      (settled-by (first ((not (inRanges s), InvalidParameter) ∷ (anyUncollected 0 32 s, QueueFull) ∷ [])) _
-      (record { answer = A.Done; state = withBringUp s 0 1 0 0; writes = and_then noWrites 8 0; read = N.Register 0; wait = 0 })
-      (λ (b : BroughtUp). Touches w StartBringUp (carried w (broughtReply b)))
-      (λ r e. refused-touches w StartBringUp r (rw (undone r)) (rw (undone r)))
+  pub start_touches : Touches w StartBringUp (core w StartBringUp)
+  unfolding start_of brought_reply replied with_bring_up and_then no_writes
+  start_touches =
+      through Touches w StartBringUp (refused_touches w StartBringUp InvalidParameter refl refl)
+      (settled_by (first ((not (in_ranges s), InvalidParameter) ∷ (any_uncollected 0 32 s, QueueFull) ∷ [])) _
+      (record { answer = A.Done; state = with_bring_up s 0 1 0 0; writes = and_then no_writes 8 0; read = N.Register 0; wait = 0 })
+      (λ (b : BroughtUp). Touches w StartBringUp (carried w (brought_reply b)))
+      (λ r e. refused_touches w StartBringUp r (rw (undone r)) (rw (undone r)))
       (λ e. record { pending = refl; masked = refl; enabled = λ b q. refl; step = refl; wrote = refl }))
 
   module _ (v : ℕ) where
     abbrev Stepped : BroughtUp → Type 0
-    Stepped b = Touches w (BringUpStep v) (carried w (broughtReply b))
+    Stepped b = Touches w (BringUpStep v) (carried w (brought_reply b))
 
-    again-touches : (register : ℕ) → isReady s.step v ≡ false → stepWrites s.settings s.step v ≡ [] → Stepped (againOf s register)
-    unfolding againOf broughtReply replied withBringUp noWrites
-    again-touches register wait none = by (ltb (s.waited + 1) s.settings.wait) refl
+    again_touches : (register : ℕ) → is_ready s.step v ≡ false → step_writes s.settings s.step v ≡ [] → Stepped (again_of s register)
+    unfolding again_of brought_reply replied with_bring_up no_writes
+    again_touches register wait none = by (ltb (s.waited + 1) s.settings.wait) refl
       where
-        by : (b : Bool) → ltb (s.waited + 1) s.settings.wait ≡ b → Stepped (againOf s register)
+        by : (b : Bool) → ltb (s.waited + 1) s.settings.wait ≡ b → Stepped (again_of s register)
         by true e = rw e (record { pending = refl; masked = refl; enabled = λ b q. q; step = sym (rw wait); wrote = sym none })
         by false e = rw e (record { pending = refl; masked = refl; enabled = λ b q. q; step = refl; wrote = refl })
 
-    onward-touches : (stage : Stage) → Staged s.settings s.step v stage → isReady s.step v ≡ true → Stepped (onwardOf s stage v)
-    unfolding onwardOf broughtReply replied withBringUp
-    onward-touches stage x go =
+    onward_touches : (stage : Stage) → Staged s.settings s.step v stage → is_ready s.step v ≡ true → Stepped (onward_of s stage v)
+    unfolding onward_of brought_reply replied with_bring_up
+    onward_touches stage x go =
         record { pending = refl; masked = refl; enabled = λ b q. q; step = x.next ∙ sym (rw go); wrote = x.writes go }
 
-    stage-touches : (stage : Stage) (b : Bool) → Staged s.settings s.step v stage → isReady s.step v ≡ b → Stepped (cond b (onwardOf s stage v) (againOf s (registerOf stage)))
-    stage-touches stage true x e = onward-touches stage x e
-    stage-touches stage false x e = again-touches (registerOf stage) e (x.none e)
+    stage_touches : (stage : Stage) (b : Bool) → Staged s.settings s.step v stage → is_ready s.step v ≡ b → Stepped (cond b (onward_of s stage v) (again_of s (register_of stage)))
+    stage_touches stage true x e = onward_touches stage x e
+    stage_touches stage false x e = again_touches (register_of stage) e (x.none e)
 
-    pub step-touches : Ranges s → Touches w (BringUpStep v) (core w (BringUpStep v))
-    unfolding step_of broughtReply replied noWrites
-    step-touches ranges =
-        through Touches w (BringUpStep v) (refused-touches w (BringUpStep v) InvalidParameter refl refl)
-        (settled-by (first ((not (inRanges s), InvalidParameter) ∷ (eqb s.step 0, InvalidParameter) ∷ [])) _ _ Stepped
-        (λ r e. subst (λ (x : Refusal). Touches w (BringUpStep v) (leaves w (BringUpStep v) s (Refused x) noWrites)) (step-refuses (not (inRanges s)) (eqb s.step 0) r e)
-        (refused-touches w (BringUpStep v) InvalidParameter refl refl))
+    pub step_touches : Ranges s → Touches w (BringUpStep v) (core w (BringUpStep v))
+    unfolding step_of brought_reply replied no_writes
+    step_touches ranges =
+        through Touches w (BringUpStep v) (refused_touches w (BringUpStep v) InvalidParameter refl refl)
+        (settled_by (first ((not (in_ranges s), InvalidParameter) ∷ (eqb s.step 0, InvalidParameter) ∷ [])) _ _ Stepped
+        (λ r e. subst (λ (x : Refusal). Touches w (BringUpStep v) (leaves w (BringUpStep v) s (Refused x) no_writes)) (step_refuses (not (in_ranges s)) (eqb s.step 0) r e)
+        (refused_touches w (BringUpStep v) InvalidParameter refl refl))
         (λ e.
-        let begun = eqb-false s.step 0 (let-pass (eqb s.step 0) InvalidParameter passed
-        (let-pass (not (inRanges s)) InvalidParameter (first ((eqb s.step 0, InvalidParameter) ∷ [])) e).1).0 in
-        let x = staged s.settings v s.step begun ranges.step-most in
-        stage-touches (stageOf s.step) (ready (stageOf s.step) v) x (sym x.is-ready)))
+        let begun = eqb-false s.step 0 (let_pass (eqb s.step 0) InvalidParameter passed
+        (let_pass (not (in_ranges s)) InvalidParameter (first ((eqb s.step 0, InvalidParameter) ∷ [])) e).1).0 in
+        let x = staged s.settings v s.step begun ranges.step_most in
+        stage_touches (stage_of s.step) (ready (stage_of s.step) v) x (sym x.is_ready_lem)))
 
   pub touches : Ranges s → (c : Call) → Touches w c (core w c)
-  touches ranges StartBringUp = start-touches
-  touches ranges (BringUpStep v) = step-touches v ranges
-  touches ranges AllocateAddress = allot-touches w
-  touches ranges (OpenEndpoint x) = open-touches w x
-  touches ranges (Close k) = close-touches w k
-  touches ranges (SetAddress k a) = address-touches w k a
-  touches ranges (SetPacketSize k size) = size-touches w k size
-  touches ranges (Submit k t readings) = submit-touches w k t readings
-  touches ranges (Writeback place token) = writeback-touches w place token
-  touches ranges (Cancel k id readings) = cancel-touches w k id readings
-  touches ranges (Collect k id readings) = collect-touches w k id readings
-  touches ranges (Acknowledge x) = acknowledge-touches w x
-  touches ranges (Drain v) = drain-touches w v
-  touches ranges Rearm = rearm-touches w
-  touches ranges Enable = enable-touches w
-  touches ranges Disable = disable-touches w
-  touches ranges (ClearHalt k) = clear-touches w k
-  touches ranges (Look k id command frame) = look-touches w k id command frame
-  touches ranges (CollectAlone k id frame overlay) = alone-touches w k id frame overlay
+  touches ranges StartBringUp = start_touches
+  touches ranges (BringUpStep v) = step_touches v ranges
+  touches ranges AllocateAddress = allot_touches w
+  touches ranges (OpenEndpoint x) = open_touches w x
+  touches ranges (Close k) = close_touches w k
+  touches ranges (SetAddress k a) = address_touches w k a
+  touches ranges (SetPacketSize k size) = size_touches w k size
+  touches ranges (Submit k t readings) = submit_touches w k t readings
+  touches ranges (Writeback place token) = writeback_touches w place token
+  touches ranges (Cancel k id readings) = cancel_touches w k id readings
+  touches ranges (Collect k id readings) = collect_touches w k id readings
+  touches ranges (Acknowledge x) = acknowledge_touches w x
+  touches ranges (Drain v) = drain_touches w v
+  touches ranges Rearm = rearm_touches w
+  touches ranges Enable = enable_touches w
+  touches ranges Disable = disable_touches w
+  touches ranges (ClearHalt k) = clear_touches w k
+  touches ranges (Look k id command frame) = look_touches w k id command frame
+  touches ranges (CollectAlone k id frame overlay) = alone_touches w k id frame overlay

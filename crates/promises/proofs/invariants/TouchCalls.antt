@@ -5,48 +5,48 @@ use mathlib.Core.List.{List, [], ◌∷◌}
 use mathlib.Core.Path.{◌≡◌, refl, sym, ap, subst}
 use lib.Dec.{ltb}
 use lib.ListN.{length}
-use Rattle.register.specs.Writes.{and_then, noWrites}
-use Rattle.state.specs.Ranges.{inRanges}
-use Rattle.state.specs.Slots.{withSlot}
-use Rattle.state.specs.State.{withBell, withNextAddress, withOwner}
+use Rattle.register.specs.Writes.{and_then, no_writes}
+use Rattle.state.specs.Ranges.{in_ranges}
+use Rattle.state.specs.Slots.{with_slot}
+use Rattle.state.specs.State.{with_bell, with_next_address, with_owner}
 use Rattle.state.specs.Plain.{Ehci}
 use Rattle.common.specs.Answers.{first}
 use Rattle.common.specs.declared.answer.Refusal.{Refusal}
 use Rattle.common.specs.declared.answer.Refusal.TheVariants.{InvalidParameter, SlotLimitReached}
-use Rattle.common.proofs.CheckLaws.{settled-by}
-use Rattle.pipe.specs.Endpoints.{withEndpoint}
+use Rattle.common.proofs.CheckLaws.{settled_by}
+use Rattle.pipe.specs.Endpoints.{with_endpoint}
 use Rattle.pipe.specs.declared.endpoints.Pipe.{Pipe}
 use Rattle.pipe.specs.declared.endpoints.Request.{Request}
-use Rattle.controller.specs.Address.{allotOf}
-use Rattle.controller.specs.Lent.{acceptsOf, lengths}
+use Rattle.controller.specs.Address.{allot_of}
+use Rattle.controller.specs.Lent.{accepts_of, lengths}
 use Rattle.controller.specs.Plain.{Allotment}
 use Rattle.controller.specs.declared.lent.Readings.{Readings}
-use Rattle.schedule.specs.Bell.{bellOf, commandWord}
+use Rattle.schedule.specs.Bell.{bell_of, command_word}
 use Rattle.schedule.specs.Links.{same}
-use Rattle.endpoint.specs.Calls.{ChangeLeft, closeOf, setAddressOf, setPacketSizeOf}
-use Rattle.endpoint.proofs.ChangeLaws.{change-by}
+use Rattle.endpoint.specs.Calls.{ChangeLeft, close_of, set_address_of, set_packet_size_of}
+use Rattle.endpoint.proofs.ChangeLaws.{change_by_lem}
 use Rattle.endpoint.proofs.OpenLaws.{open_by}
-use Rattle.request.specs.Submit.{Outcome, acceptedWith, refusedSubmit, settledSubmit, stateWith, submitChecks, submitOf}
-use Rattle.request.specs.Writeback.{refusedWriteback, writebackChecks, writebackOf}
+use Rattle.request.specs.Submit.{Outcome, accepted_with, refused_submit, settled_submit, state_with, submit_checks, submit_of}
+use Rattle.request.specs.Writeback.{refused_writeback, writeback_checks, writeback_of}
 use Rattle.request.specs.Plain.{WrittenBack}
 use Rattle.request.specs.declared.judge.TransferRequest.{TransferRequest}
-use Rattle.collection.specs.Calls.{Gathered, finishOf, marked, pendingLeft, Ended}
-use Rattle.collection.specs.Unlinks.{Left, unlinkOf, waitingOf}
-use Rattle.collection.proofs.ApartSplits.{alone-split, look-split}
-use Rattle.collection.proofs.Splits.{cancel-split, collect-split, unlink-split}
+use Rattle.collection.specs.Calls.{Gathered, finish_of, marked, pending_left, Ended}
+use Rattle.collection.specs.Unlinks.{Left, unlink_of, waiting_of}
+use Rattle.collection.proofs.ApartSplits.{alone_split, look_split}
+use Rattle.collection.proofs.Splits.{cancel_split, collect_split, unlink_split}
 use Rattle.ehci.specs.declared.call.Call.{Call}
 use Rattle.ehci.specs.declared.call.Call.TheVariants.{AllocateAddress, OpenEndpoint, Close, SetAddress, SetPacketSize, Submit, Writeback, Cancel, Collect, ClearHalt, Look, CollectAlone}
 use Rattle.ehci.specs.declared.call.EndpointFields.{EndpointFields}
 use Rattle.ehci.specs.declared.reply.Answered.TheVariants.{Refused}
-use Rattle.ehci.specs.Decides.{addressDecided, allotDecided, allotReply, cancelCame, cancelDecided, changeCame, clearDecided, closeDecided, collectCame, collectDecided, openCame, openDecided, packetDecided, submitCame, submitDecided, withFrames, withSetups, writebackDecided, writtenReply, aloneCame, aloneDecided, aloneReadings, lookDecided, lookReadings}
-use Rattle.ehci.specs.Door.{carriedOut}
-use Rattle.ehci.specs.Replies.{changedReply, replied}
+use Rattle.ehci.specs.Decides.{address_decided, allot_decided, allot_reply, cancel_came, cancel_decided, change_came, clear_decided, close_decided, collect_came, collect_decided, open_came, open_decided, packet_decided, submit_came, submit_decided, with_frames, with_setups, writeback_decided, written_reply, alone_came, alone_decided, alone_readings, look_decided, look_readings}
+use Rattle.ehci.specs.Door.{carried_out}
+use Rattle.ehci.specs.Replies.{changed_reply, replied}
 use Rattle.promises.specs.Runs.{World, core}
-use Rattle.promises.specs.Registers.{None, accessOf}
+use Rattle.promises.specs.Registers.{None, access_of}
 use Rattle.promises.proofs.effects.EffectDoor.{leaves, seen, through, carried}
 use Rattle.promises.proofs.effects.RefusalNumbers.{undone}
-use Rattle.promises.proofs.invariants.Touches.{Plain, Touches, bounded-shape, level, level-touches, plain-leaves, plain-none, plain-submits, refused-touches, writesBy}
-use Rattle.endpoint.proofs.ClearLaws.{clear-by}
+use Rattle.promises.proofs.invariants.Touches.{Plain, Touches, bounded_shape, level, level_touches, plain_leaves, plain_none, plain_submits, refused_touches, writes_by}
+use Rattle.endpoint.proofs.ClearLaws.{clear_by}
 use Rattle.endpoint.specs.Plain.{Change}
 
 module _ (w : World) where
@@ -67,125 +67,125 @@ module _ (w : World) where
 
   -- ---- endpoints and requests
 
-  none-refused : (c : Call) → accessOf c ≡ None → (r : Refusal) → Touches w c (leaves w c s (Refused r) noWrites)
-  unfolding noWrites
-  none-refused c e r = level-touches w c _ (subst Plain (sym e) plain-none) (level s) (sym (ap (writesBy w _) e))
+  none_refused : (c : Call) → access_of c ≡ None → (r : Refusal) → Touches w c (leaves w c s (Refused r) no_writes)
+  unfolding no_writes
+  none_refused c e r = level_touches w c _ (subst Plain (sym e) plain_none) (level s) (sym (ap (writes_by w _) e))
 
-  pub open-touches : (x : EndpointFields) → Touches w (OpenEndpoint x) (core w (OpenEndpoint x))
-  unfolding openDecided replied noWrites withEndpoint withSlot
-  open-touches x =
-      through Touches w (OpenEndpoint x) (none-refused (OpenEndpoint x) refl InvalidParameter)
+  pub open_touches : (x : EndpointFields) → Touches w (OpenEndpoint x) (core w (OpenEndpoint x))
+  unfolding open_decided replied no_writes with_endpoint with_slot
+  open_touches x =
+      through Touches w (OpenEndpoint x) (none_refused (OpenEndpoint x) refl InvalidParameter)
       (open_by s n hs (length fs) (length us) x.kind x.address x.number x.packet
-      (λ o. Touches w (OpenEndpoint x) (carriedOut (withFrames (openCame o) fs us) w.rows.pool))
-      (none-refused (OpenEndpoint x) refl)
-      (λ k from. level-touches w (OpenEndpoint x) _ plain-none (record { pending = refl; masked = refl; enabled = refl; step = refl }) refl))
+      (λ o. Touches w (OpenEndpoint x) (carried_out (with_frames (open_came o) fs us) w.rows.pool))
+      (none_refused (OpenEndpoint x) refl)
+      (λ k from. level_touches w (OpenEndpoint x) _ plain_none (record { pending = refl; masked = refl; enabled = refl; step = refl }) refl))
 
   abbrev Changed : Call → ChangeLeft → Type 0
-  Changed c o = Touches w c (carriedOut (withFrames (changeCame o) fs us) w.rows.pool)
+  Changed c o = Touches w c (carried_out (with_frames (change_came o) fs us) w.rows.pool)
 
-  pub close-touches : (k : ℕ) → Touches w (Close k) (core w (Close k))
-  unfolding closeDecided closeOf changedReply replied noWrites withEndpoint withSlot
-  close-touches k =
-      through Touches w (Close k) (none-refused (Close k) refl InvalidParameter)
-      (change-by s n hs (length fs) (length us) k true _ _ (Changed (Close k)) (none-refused (Close k) refl)
-      (λ from g. level-touches w (Close k) _ plain-none (record { pending = refl; masked = refl; enabled = refl; step = refl }) refl))
+  pub close_touches : (k : ℕ) → Touches w (Close k) (core w (Close k))
+  unfolding close_decided close_of changed_reply replied no_writes with_endpoint with_slot
+  close_touches k =
+      through Touches w (Close k) (none_refused (Close k) refl InvalidParameter)
+      (change_by_lem s n hs (length fs) (length us) k true _ _ (Changed (Close k)) (none_refused (Close k) refl)
+      (λ from g. level_touches w (Close k) _ plain_none (record { pending = refl; masked = refl; enabled = refl; step = refl }) refl))
 
-  pub address-touches : (k a : ℕ) → Touches w (SetAddress k a) (core w (SetAddress k a))
-  unfolding addressDecided setAddressOf changedReply replied noWrites
-  address-touches k a =
-      through Touches w (SetAddress k a) (none-refused (SetAddress k a) refl InvalidParameter)
-      (change-by s n hs (length fs) (length us) k _ _ _ (Changed (SetAddress k a)) (none-refused (SetAddress k a) refl)
-      (λ from g. level-touches w (SetAddress k a) _ plain-none (level s) refl))
+  pub address_touches : (k a : ℕ) → Touches w (SetAddress k a) (core w (SetAddress k a))
+  unfolding address_decided set_address_of changed_reply replied no_writes
+  address_touches k a =
+      through Touches w (SetAddress k a) (none_refused (SetAddress k a) refl InvalidParameter)
+      (change_by_lem s n hs (length fs) (length us) k _ _ _ (Changed (SetAddress k a)) (none_refused (SetAddress k a) refl)
+      (λ from g. level_touches w (SetAddress k a) _ plain_none (level s) refl))
 
-  pub size-touches : (k size : ℕ) → Touches w (SetPacketSize k size) (core w (SetPacketSize k size))
-  unfolding packetDecided setPacketSizeOf changedReply replied noWrites withEndpoint withSlot
-  size-touches k size =
-      through Touches w (SetPacketSize k size) (none-refused (SetPacketSize k size) refl InvalidParameter)
-      (change-by s n hs (length fs) (length us) k _ _ _ (Changed (SetPacketSize k size)) (none-refused (SetPacketSize k size) refl)
-      (λ from g. level-touches w (SetPacketSize k size) _ plain-none (record { pending = refl; masked = refl; enabled = refl; step = refl }) refl))
+  pub size_touches : (k size : ℕ) → Touches w (SetPacketSize k size) (core w (SetPacketSize k size))
+  unfolding packet_decided set_packet_size_of changed_reply replied no_writes with_endpoint with_slot
+  size_touches k size =
+      through Touches w (SetPacketSize k size) (none_refused (SetPacketSize k size) refl InvalidParameter)
+      (change_by_lem s n hs (length fs) (length us) k _ _ _ (Changed (SetPacketSize k size)) (none_refused (SetPacketSize k size) refl)
+      (λ from g. level_touches w (SetPacketSize k size) _ plain_none (record { pending = refl; masked = refl; enabled = refl; step = refl }) refl))
 
-  pub clear-touches : (k : ℕ) → Touches w (ClearHalt k) (core w (ClearHalt k))
-  unfolding clearDecided changedReply replied noWrites withEndpoint withSlot
-  clear-touches k =
-      through Touches w (ClearHalt k) (none-refused (ClearHalt k) refl InvalidParameter)
-      (clear-by s k (λ (o : Change). Touches w (ClearHalt k) (carried w (changedReply o))) (none-refused (ClearHalt k) refl)
-      (λ from. level-touches w (ClearHalt k) _ plain-none (record { pending = refl; masked = refl; enabled = refl; step = refl }) refl))
+  pub clear_touches : (k : ℕ) → Touches w (ClearHalt k) (core w (ClearHalt k))
+  unfolding clear_decided changed_reply replied no_writes with_endpoint with_slot
+  clear_touches k =
+      through Touches w (ClearHalt k) (none_refused (ClearHalt k) refl InvalidParameter)
+      (clear_by s k (λ (o : Change). Touches w (ClearHalt k) (carried w (changed_reply o))) (none_refused (ClearHalt k) refl)
+      (λ from. level_touches w (ClearHalt k) _ plain_none (record { pending = refl; masked = refl; enabled = refl; step = refl }) refl))
 
-  pub allot-touches : Touches w AllocateAddress (core w AllocateAddress)
-  unfolding allotOf allotDecided replied withNextAddress noWrites
-  allot-touches =
-      through Touches w AllocateAddress (none-refused AllocateAddress refl InvalidParameter)
-      (settled-by (first ((not (inRanges s), InvalidParameter) ∷ (ltb 127 s.address, SlotLimitReached) ∷ [])) _ _
-      (λ (x : Allotment). Touches w AllocateAddress (carried w (allotReply x)))
-      (λ r e. none-refused AllocateAddress refl r)
-      (λ e. level-touches w AllocateAddress _ plain-none (record { pending = refl; masked = refl; enabled = refl; step = refl }) refl))
+  pub allot_touches : Touches w AllocateAddress (core w AllocateAddress)
+  unfolding allot_of allot_decided replied with_next_address no_writes
+  allot_touches =
+      through Touches w AllocateAddress (none_refused AllocateAddress refl InvalidParameter)
+      (settled_by (first ((not (in_ranges s), InvalidParameter) ∷ (ltb 127 s.address, SlotLimitReached) ∷ [])) _ _
+      (λ (x : Allotment). Touches w AllocateAddress (carried w (allot_reply x)))
+      (λ r e. none_refused AllocateAddress refl r)
+      (λ e. level_touches w AllocateAddress _ plain_none (record { pending = refl; masked = refl; enabled = refl; step = refl }) refl))
 
-  pub writeback-touches : (place token : ℕ) → Touches w (Writeback place token) (core w (Writeback place token))
-  unfolding writebackDecided writebackOf refusedWriteback replied noWrites
-  writeback-touches place token =
-      through Touches w (Writeback place token) (none-refused (Writeback place token) refl InvalidParameter)
-      (settled-by (first (writebackChecks s (lengths n (length hs) (length fs) (length us)) place)) _ _
-      (λ (x : WrittenBack). Touches w (Writeback place token) (carried w (writtenReply x)))
-      (λ r e. none-refused (Writeback place token) refl r)
-      (λ e. level-touches w (Writeback place token) _ plain-none (level s) refl))
+  pub writeback_touches : (place token : ℕ) → Touches w (Writeback place token) (core w (Writeback place token))
+  unfolding writeback_decided writeback_of refused_writeback replied no_writes
+  writeback_touches place token =
+      through Touches w (Writeback place token) (none_refused (Writeback place token) refl InvalidParameter)
+      (settled_by (first (writeback_checks s (lengths n (length hs) (length fs) (length us)) place)) _ _
+      (λ (x : WrittenBack). Touches w (Writeback place token) (carried w (written_reply x)))
+      (λ r e. none_refused (Writeback place token) refl r)
+      (λ e. level_touches w (Writeback place token) _ plain_none (level s) refl))
 
-  pub submit-touches : (k : ℕ) (t : TransferRequest) (rd : Readings) → Touches w (Submit k t rd) (core w (Submit k t rd))
-  unfolding submitDecided submitOf settledSubmit acceptedWith refusedSubmit replied noWrites and_then commandWord stateWith withEndpoint withSlot withOwner
-  submit-touches k t rd =
-      through Touches w (Submit k t rd) (refused-touches w (Submit k t rd) InvalidParameter refl refl)
-      (settled-by
-      (first ((not (acceptsOf s (lengths n (length hs) (length fs) (length us))), InvalidParameter) ∷ submitChecks s k t)) _ _
-      (λ (o : Outcome). Touches w (Submit k t rd) (carriedOut (submitCame o) w.rows.pool))
-      (λ r e. refused-touches w (Submit k t rd) r refl (rw (undone r)))
-      (λ e. level-touches w (Submit k t rd) _ (plain-submits rd.command) (record { pending = refl; masked = refl; enabled = refl; step = refl }) refl))
+  pub submit_touches : (k : ℕ) (t : TransferRequest) (rd : Readings) → Touches w (Submit k t rd) (core w (Submit k t rd))
+  unfolding submit_decided submit_of settled_submit accepted_with refused_submit replied no_writes and_then command_word state_with with_endpoint with_slot with_owner
+  submit_touches k t rd =
+      through Touches w (Submit k t rd) (refused_touches w (Submit k t rd) InvalidParameter refl refl)
+      (settled_by
+      (first ((not (accepts_of s (lengths n (length hs) (length fs) (length us))), InvalidParameter) ∷ submit_checks s k t)) _ _
+      (λ (o : Outcome). Touches w (Submit k t rd) (carried_out (submit_came o) w.rows.pool))
+      (λ r e. refused_touches w (Submit k t rd) r refl (rw (undone r)))
+      (λ e. level_touches w (Submit k t rd) _ (plain_submits rd.command) (record { pending = refl; masked = refl; enabled = refl; step = refl }) refl))
 
   -- ---- cancel and collect
 
   module _ (k id : ℕ) (rd : Readings) where
     abbrev Cancels : Left → Type 0
-    Cancels l = Touches w (Cancel k id rd) (carriedOut (withSetups (cancelCame l) us) w.rows.pool)
+    Cancels l = Touches w (Cancel k id rd) (carried_out (with_setups (cancel_came l) us) w.rows.pool)
 
-    cancel-refused : (x : Refusal) → Touches w (Cancel k id rd) (leaves w (Cancel k id rd) s (Refused x) noWrites)
-    unfolding noWrites
-    cancel-refused x = level-touches w (Cancel k id rd) _ (plain-leaves rd.command) (level s) refl
+    cancel_refused : (x : Refusal) → Touches w (Cancel k id rd) (leaves w (Cancel k id rd) s (Refused x) no_writes)
+    unfolding no_writes
+    cancel_refused x = level_touches w (Cancel k id rd) _ (plain_leaves rd.command) (level s) refl
 
-    cancel-unlinks : (p : Pipe) (r : Request) → Cancels (unlinkOf s hs fs rd k p r)
-    unfolding waitingOf replied withEndpoint withSlot withBell
-    cancel-unlinks p r =
-        unlink-split s hs fs rd k p r Cancels (cancel-refused _)
-        (λ found. level-touches w (Cancel k id rd) _ (plain-leaves rd.command) (record { pending = refl; masked = refl; enabled = refl; step = refl })
-        (bounded-shape p.kind (bellOf s) rd))
+    cancel_unlinks : (p : Pipe) (r : Request) → Cancels (unlink_of s hs fs rd k p r)
+    unfolding waiting_of replied with_endpoint with_slot with_bell
+    cancel_unlinks p r =
+        unlink_split s hs fs rd k p r Cancels (cancel_refused _)
+        (λ found. level_touches w (Cancel k id rd) _ (plain_leaves rd.command) (record { pending = refl; masked = refl; enabled = refl; step = refl })
+        (bounded_shape p.kind (bell_of s) rd))
 
-    pub cancel-touches : Touches w (Cancel k id rd) (core w (Cancel k id rd))
-    unfolding cancelDecided replied noWrites withEndpoint withSlot
-    cancel-touches =
-        through Touches w (Cancel k id rd) (cancel-refused InvalidParameter)
-        (cancel-split s n hs fs (length us) rd k id Cancels cancel-refused
-        (λ p r ok e below same. cancel-unlinks p (marked r))
-        (λ p r u ok e same. level-touches w (Cancel k id rd) _ (plain-leaves rd.command) (record { pending = refl; masked = refl; enabled = refl; step = refl }) refl))
+    pub cancel_touches : Touches w (Cancel k id rd) (core w (Cancel k id rd))
+    unfolding cancel_decided replied no_writes with_endpoint with_slot
+    cancel_touches =
+        through Touches w (Cancel k id rd) (cancel_refused InvalidParameter)
+        (cancel_split s n hs fs (length us) rd k id Cancels cancel_refused
+        (λ p r ok e below same. cancel_unlinks p (marked r))
+        (λ p r u ok e same. level_touches w (Cancel k id rd) _ (plain_leaves rd.command) (record { pending = refl; masked = refl; enabled = refl; step = refl }) refl))
 
     abbrev Collecting : Gathered → Type 0
-    Collecting g = Touches w (Collect k id rd) (carriedOut (withSetups (collectCame g) us) w.rows.pool)
+    Collecting g = Touches w (Collect k id rd) (carried_out (with_setups (collect_came g) us) w.rows.pool)
 
-    collect-refused : (x : Refusal) → Touches w (Collect k id rd) (leaves w (Collect k id rd) s (Refused x) noWrites)
-    unfolding noWrites
-    collect-refused x = level-touches w (Collect k id rd) _ (plain-leaves rd.command) (level s) refl
+    collect_refused : (x : Refusal) → Touches w (Collect k id rd) (leaves w (Collect k id rd) s (Refused x) no_writes)
+    unfolding no_writes
+    collect_refused x = level_touches w (Collect k id rd) _ (plain_leaves rd.command) (level s) refl
 
-    collect-unlinks : (p : Pipe) (r : Request) → Collecting (pendingLeft (unlinkOf s hs fs rd k p r))
-    unfolding waitingOf replied withEndpoint withSlot withBell
-    collect-unlinks p r =
-        unlink-split s hs fs rd k p r (λ (l : Left). Collecting (pendingLeft l)) (collect-refused _)
-        (λ found. level-touches w (Collect k id rd) _ (plain-leaves rd.command) (record { pending = refl; masked = refl; enabled = refl; step = refl })
-        (bounded-shape p.kind (bellOf s) rd))
+    collect_unlinks : (p : Pipe) (r : Request) → Collecting (pending_left (unlink_of s hs fs rd k p r))
+    unfolding waiting_of replied with_endpoint with_slot with_bell
+    collect_unlinks p r =
+        unlink_split s hs fs rd k p r (λ (l : Left). Collecting (pending_left l)) (collect_refused _)
+        (λ found. level_touches w (Collect k id rd) _ (plain_leaves rd.command) (record { pending = refl; masked = refl; enabled = refl; step = refl })
+        (bounded_shape p.kind (bell_of s) rd))
 
-    pub collect-touches : Touches w (Collect k id rd) (core w (Collect k id rd))
-    unfolding collectDecided finishOf replied noWrites withEndpoint withSlot withOwner
-    collect-touches =
-        through Touches w (Collect k id rd) (collect-refused InvalidParameter)
-        (collect-split s n hs fs (length us) rd k id (seen w (Collect k id rd)) Collecting collect-refused
-        (level-touches w (Collect k id rd) _ (plain-leaves rd.command) (level s) refl)
-        (λ p r ok e below same done. collect-unlinks p r)
-        (λ p r u ok e same through-it. level-touches w (Collect k id rd) _ (plain-leaves rd.command) (record { pending = refl; masked = refl; enabled = refl; step = refl }) refl))
+    pub collect_touches : Touches w (Collect k id rd) (core w (Collect k id rd))
+    unfolding collect_decided finish_of replied no_writes with_endpoint with_slot with_owner
+    collect_touches =
+        through Touches w (Collect k id rd) (collect_refused InvalidParameter)
+        (collect_split s n hs fs (length us) rd k id (seen w (Collect k id rd)) Collecting collect_refused
+        (level_touches w (Collect k id rd) _ (plain_leaves rd.command) (level s) refl)
+        (λ p r ok e below same done. collect_unlinks p r)
+        (λ p r u ok e same through-it. level_touches w (Collect k id rd) _ (plain_leaves rd.command) (record { pending = refl; masked = refl; enabled = refl; step = refl }) refl))
 
   -- ---- look and collect alone
 
@@ -194,33 +194,33 @@ module _ (w : World) where
     look = Look k id command frame
 
     abbrev Looking : Gathered → Type 0
-    Looking g = Touches w look (carriedOut (withSetups (collectCame g) us) w.rows.pool)
+    Looking g = Touches w look (carried_out (with_setups (collect_came g) us) w.rows.pool)
 
-    look-refused : (x : Refusal) → Touches w look (leaves w look s (Refused x) noWrites)
-    unfolding noWrites
-    look-refused x = level-touches w look _ (plain-leaves command) (level s) refl
+    look_refused : (x : Refusal) → Touches w look (leaves w look s (Refused x) no_writes)
+    unfolding no_writes
+    look_refused x = level_touches w look _ (plain_leaves command) (level s) refl
 
-    look-unlinks : (p : Pipe) (r : Request) → Looking (pendingLeft (unlinkOf s hs fs (lookReadings command frame) k p r))
-    unfolding waitingOf replied withEndpoint withSlot withBell
-    look-unlinks p r =
-        unlink-split s hs fs (lookReadings command frame) k p r (λ (l : Left). Looking (pendingLeft l)) (look-refused _)
-        (λ found. level-touches w look _ (plain-leaves command) (record { pending = refl; masked = refl; enabled = refl; step = refl })
-        (bounded-shape p.kind (bellOf s) (lookReadings command frame)))
+    look_unlinks : (p : Pipe) (r : Request) → Looking (pending_left (unlink_of s hs fs (look_readings command frame) k p r))
+    unfolding waiting_of replied with_endpoint with_slot with_bell
+    look_unlinks p r =
+        unlink_split s hs fs (look_readings command frame) k p r (λ (l : Left). Looking (pending_left l)) (look_refused _)
+        (λ found. level_touches w look _ (plain_leaves command) (record { pending = refl; masked = refl; enabled = refl; step = refl })
+        (bounded_shape p.kind (bell_of s) (look_readings command frame)))
 
-    pub look-touches : Touches w look (core w look)
-    unfolding lookDecided replied noWrites
-    look-touches =
-        through Touches w look (look-refused InvalidParameter)
-        (look-split s n hs (lookReadings command frame) (seen w look) k id fs (length us) Looking look-refused
-        (level-touches w look _ (plain-leaves command) (level s) refl) (level-touches w look _ (plain-leaves command) (level s) refl)
-        (λ p r e below done. look-unlinks p r))
+    pub look_touches : Touches w look (core w look)
+    unfolding look_decided replied no_writes
+    look_touches =
+        through Touches w look (look_refused InvalidParameter)
+        (look_split s n hs (look_readings command frame) (seen w look) k id fs (length us) Looking look_refused
+        (level_touches w look _ (plain_leaves command) (level s) refl) (level_touches w look _ (plain_leaves command) (level s) refl)
+        (λ p r e below done. look_unlinks p r))
 
-  pub alone-touches : (k id frame overlay : ℕ) → Touches w (CollectAlone k id frame overlay) (core w (CollectAlone k id frame overlay))
-  unfolding aloneDecided finishOf replied noWrites withEndpoint withSlot withOwner
-  alone-touches k id frame overlay =
+  pub alone_touches : (k id frame overlay : ℕ) → Touches w (CollectAlone k id frame overlay) (core w (CollectAlone k id frame overlay))
+  unfolding alone_decided finish_of replied no_writes with_endpoint with_slot with_owner
+  alone_touches k id frame overlay =
       let c = CollectAlone k id frame overlay in
-      through Touches w c (none-refused c refl InvalidParameter)
-      (alone-split s n hs (aloneReadings frame overlay) (seen w c) k id (length fs) (length us)
-      (λ (e : Ended). Touches w c (carriedOut (withFrames (aloneCame e) fs us) w.rows.pool)) (none-refused c refl)
-      (level-touches w c _ plain-none (level s) refl)
-      (λ p r u e same through-it. level-touches w c _ plain-none (record { pending = refl; masked = refl; enabled = refl; step = refl }) refl))
+      through Touches w c (none_refused c refl InvalidParameter)
+      (alone_split s n hs (alone_readings frame overlay) (seen w c) k id (length fs) (length us)
+      (λ (e : Ended). Touches w c (carried_out (with_frames (alone_came e) fs us) w.rows.pool)) (none_refused c refl)
+      (level_touches w c _ plain_none (level s) refl)
+      (λ p r u e same through-it. level_touches w c _ plain_none (record { pending = refl; masked = refl; enabled = refl; step = refl }) refl))

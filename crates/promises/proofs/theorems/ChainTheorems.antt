@@ -4,5 +4,5 @@ use Rattle.promises.specs.Chains.{NoDetachFails}
 use Rattle.promises.proofs.theorems.ChainUses.{detaches}
 use Rattle.promises.proofs.theorems.BoundaryCancels.{roomy}
 
-pub no-detach : EveryRun NoDetachFails core
-no-detach = detaches roomy
+pub no_detach : EveryRun NoDetachFails core
+no_detach = detaches roomy

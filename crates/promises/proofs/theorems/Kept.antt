@@ -5,7 +5,7 @@ use Rattle.promises.specs.Runs.{core}
 use Rattle.promises.specs.Promises.{Promises}
 use Rattle.promises.proofs.theorems.Order as Order
 use Rattle.promises.proofs.theorems.ChainRuns as Chains
-use Rattle.promises.proofs.theorems.ChainTheorems.{no-detach}
+use Rattle.promises.proofs.theorems.ChainTheorems.{no_detach}
 use Rattle.promises.proofs.theorems.RoomPromises as Rooms
 use Rattle.promises.proofs.theorems.RangeTheorems as Ranges
 use Rattle.promises.proofs.theorems.SubmissionLaws as Submissions
@@ -25,54 +25,54 @@ use Rattle.promises.proofs.theorems.CancelTheorems as ById
 pub kept : Promises core
 kept =
     record {
-      refusals-keep = λ w t c n. numbers_keep w.state w.rows.pool w.rows.heads w.rows.frames w.rows.setups c n;
-      few-writes = λ w t c. Writes.few-writes w.state w.rows.pool w.rows.heads w.rows.frames w.rows.setups c;
+      refusals_keep = λ w t c n. numbers_keep w.state w.rows.pool w.rows.heads w.rows.frames w.rows.setups c n;
+      few_writes = λ w t c. Writes.few_writes w.state w.rows.pool w.rows.heads w.rows.frames w.rows.setups c;
       in_order = Order.in_order;
-      chains-walked = Chains.chains-walked;
-      chains-lead = Rooms.chains-lead;
-      shared-stands = Shorts.shared-stands;
-      short-stops = Shorts.short-stops;
-      full-goes-on = Shorts.full-goes-on;
-      submits-planned = Submissions.submits-planned;
-      heads-sized = Rooms.heads-sized;
-      packets-whole = WholeLaws.packets-whole;
-      toggles-kept = Toggles.toggles-kept;
-      packets-stand = Packets.packets-stand;
-      tokens-stand = Tokens.tokens-stand;
-      collects-ended = Submissions.collects-ended;
-      writes-exactly = Registers.writes-exactly;
-      status-acknowledged = Registers.status-acknowledged;
-      rings-in-turn = Registers.rings-in-turn;
-      quiet-bring-up = Registers.quiet-bring-up;
-      interrupts-answered = Registers.interrupts-answered;
-      ranges-kept = Ranges.ranges-kept;
-      runs-while-held = Ranges.runs-while-held;
-      room-exact = Rooms.room-exact;
-      submit-verdict = Rooms.submit-verdict;
-      coverage = Rooms.buffers-covered;
-      exclusive-places = Rooms.exclusive-places;
-      submitted-stays = Submissions.submitted-stays;
-      boundary-kept = Boundaries.boundary-kept;
-      boundary-numbered = Boundaries.boundary-numbered;
-      frames-kept = Boundaries.frames-counted;
+      chains_walked = Chains.chains_walked;
+      chains_lead = Rooms.chains_lead;
+      shared_stands = Shorts.shared_stands;
+      short_stops = Shorts.short_stops;
+      full_goes_on = Shorts.full_goes_on;
+      submits_planned = Submissions.submits_planned;
+      heads_sized = Rooms.heads_sized;
+      packets_whole = WholeLaws.packets_whole;
+      toggles_kept = Toggles.toggles_kept;
+      packets_stand = Packets.packets_stand;
+      tokens_stand = Tokens.tokens_stand;
+      collects_ended = Submissions.collects_ended;
+      writes_exactly = Registers.writes_exactly;
+      status_acknowledged = Registers.status_acknowledged;
+      rings_in_turn = Registers.rings_in_turn;
+      quiet_bring_up = Registers.quiet_bring_up;
+      interrupts_answered = Registers.interrupts_answered;
+      ranges_kept = Ranges.ranges_kept;
+      runs_while_held = Ranges.runs_while_held;
+      room_exact = Rooms.room_exact;
+      submit_verdict = Rooms.submit_verdict;
+      coverage = Rooms.buffers_covered;
+      exclusive_places = Rooms.exclusive_places;
+      submitted_stays = Submissions.submitted_stays;
+      boundary_kept = Boundaries.boundary_kept;
+      boundary_numbered = Boundaries.boundary_numbered;
+      frames_kept = Boundaries.frames_counted;
       exact = Boundaries.exact;
-      passes-exactly = Boundaries.by-number-alone;
-      one-count = Boundaries.one-count-a-ring;
-      waits = Boundaries.order-13;
-      up-exactly = Boundaries.up-exactly;
+      passes_exactly = Boundaries.by_number_alone;
+      one_count = Boundaries.one_count_a_ring;
+      waits = Boundaries.order_13;
+      up_exactly = Boundaries.up_exactly;
       uncrowded = Cancels.uncrowded;
       orderly = Boundaries.orderly;
-      never-given = Faults.never-given;
-      collects-due = Collections.collects-due;
-      cancelled-answered = Cancels.cancelled-answered;
-      looks-apart = Boundaries.looks-apart;
-      look-stays = Boundaries.look-stays;
-      no-detach-fails = no-detach;
-      ids-in-turn = Ids.ids-in-turn;
-      cancels-by-id = ById.cancels-by-id;
-      collects-by-id = ById.collects-by-id;
-      state-says = Cancels.state-says;
-      fields-tied = Rooms.fields-tied;
-      toggles-tied = Toggles.toggles-tied;
-      registers-tied = Registers.registers-tied;
+      never_given = Faults.never_given;
+      collects_due = Collections.collects_due;
+      cancelled_answered = Cancels.cancelled_answered;
+      looks_apart = Boundaries.looks_apart;
+      look_stays = Boundaries.look_stays;
+      no_detach_fails = no_detach;
+      ids_in_turn = Ids.ids_in_turn;
+      cancels_by_id = ById.cancels_by_id;
+      collects_by_id = ById.collects_by_id;
+      state_says = Cancels.state_says;
+      fields_tied = Rooms.fields_tied;
+      toggles_tied = Toggles.toggles_tied;
+      registers_tied = Registers.registers_tied;
     }

@@ -6,12 +6,12 @@ use mathlib.Core.Path.{◌≡◌, refl, sym, ap, ◌∙◌}
 use borrow.Author.Tests.{not-false}
 use lib.Dec.{eqb, ltb}
 use lib.ListN.{length}
-use Rattle.register.specs.Bits.{any_of, onlyBits}
+use Rattle.register.specs.Bits.{any_of, only_bits}
 use Rattle.pool.specs.declared.chain.View.{View}
-use Rattle.common.proofs.TestLaws.{false-true}
-use Rattle.state.specs.Ranges.{inRanges}
+use Rattle.common.proofs.TestLaws.{false_true}
+use Rattle.state.specs.Ranges.{in_ranges}
 use Rattle.state.specs.Plain.{Ehci}
-use Rattle.pipe.specs.Endpoints.{endpointAt}
+use Rattle.pipe.specs.Endpoints.{endpoint_at}
 use Rattle.pipe.specs.declared.endpoints.Endpoint.{Endpoint}
 use Rattle.pipe.specs.declared.endpoints.Pipe.{Pipe}
 use Rattle.pipe.specs.declared.endpoints.Request.{Request}
@@ -19,76 +19,76 @@ use Rattle.pipe.specs.declared.endpoints.Endpoint.TheVariants.{Closed, Idle, Lin
 use Rattle.common.specs.Answers.{Check, Verdict, first, or_else, passed, refused, settle}
 use Rattle.common.specs.declared.answer.Refusal.{Refusal}
 use Rattle.common.specs.declared.answer.Refusal.TheVariants.{InvalidParameter, SlotLimitReached, InvalidEndpoint, QueueFull, NotSupported, NoMemory, Timeout, NotReady}
-use Rattle.common.proofs.CheckLaws.{let-pass, settled-by, verdicts-apart}
-use Rattle.opening.specs.Opening.{rowsFit}
-use Rattle.controller.specs.Address.{allotOf}
-use Rattle.controller.specs.Lent.{acceptsOf, lengths}
+use Rattle.common.proofs.CheckLaws.{let_pass, settled_by, verdicts_apart}
+use Rattle.opening.specs.Opening.{rows_are_fit}
+use Rattle.controller.specs.Address.{allot_of}
+use Rattle.controller.specs.Lent.{accepts_of, lengths}
 use Rattle.controller.specs.Plain.{Lengths}
-use Rattle.controller.specs.Readers.{hasEndpoint, holdsRequest, isOpen, isUncollected}
-use Rattle.schedule.specs.Links.{endedOverlay}
+use Rattle.controller.specs.Readers.{has_endpoint, holds_request, is_opened, is_uncollected}
+use Rattle.schedule.specs.Links.{ended_overlay}
 use Rattle.controller.specs.declared.lent.Readings.{Readings}
-use Rattle.endpoint.specs.Calls.{clearChecks, clearHaltOf, closeOf, openChecks, openEndpointOf, setAddressOf, setPacketSizeOf, slotChecks}
-use Rattle.request.specs.Submit.{acceptedWith, refusedSubmit, settledSubmit, submitOf}
-use Rattle.request.specs.Writeback.{refusedWriteback, writebackOf}
+use Rattle.endpoint.specs.Calls.{clear_checks, clear_halt_of, close_of, open_checks, open_endpoint_of, set_address_of, set_packet_size_of, slot_checks}
+use Rattle.request.specs.Submit.{accepted_with, refused_submit, settled_submit, submit_of}
+use Rattle.request.specs.Writeback.{refused_writeback, writeback_of}
 use Rattle.request.specs.declared.judge.TransferRequest.{TransferRequest}
-use Rattle.collection.specs.Calls.{cancelAt, cancelChecks, cancelOf, collectAt, collectChecks, collectOf, crowded, endIf, ended, finishOf, gathered, keeping, linkedOf, marked, pendingLeft, unlinkingOf, withFrames}
-use Rattle.collection.specs.Answers.{outcomeOf, passedCollect, pendingCollect}
-use Rattle.collection.specs.Apart.{aloneAt, aloneChecks, aloneOf, lookAt, look_of}
-use Rattle.collection.specs.Unlinks.{passedBoundary, unlinkOf, waitingOf}
-use Rattle.bring_up.specs.BringUp.{againOf, anyUncollected, onwardOf, ready, registerOf, stageOf, start_of, step_of}
+use Rattle.collection.specs.Calls.{cancel_at, cancel_checks, cancel_of, collect_at, collect_checks, collect_of, crowded, end_if, ended, finish_of, gathered, keeping, linked_of, marked, pending_left, unlinking_of, with_frames}
+use Rattle.collection.specs.Answers.{outcome_of, passed_collect, pending_collect}
+use Rattle.collection.specs.Apart.{alone_at, alone_checks, alone_of, look_at, look_of}
+use Rattle.collection.specs.Unlinks.{passed_boundary, unlink_of, waiting_of}
+use Rattle.bring_up.specs.BringUp.{again_of, any_uncollected, onward_of, ready, register_of, stage_of, start_of, step_of}
 use Rattle.bring_up.specs.declared.stage.Stage.{Stage}
 use Rattle.interrupt.specs.Plain.{Settled}
-use Rattle.interrupt.specs.Interrupts.{acknowledgeOf, countedOf, disableOf, drainIf, drainOf, enableOf, heardIf, rearmIf, rearmOf, settledOr, clearedOf}
+use Rattle.interrupt.specs.Interrupts.{acknowledge_of, counted_of, disable_of, drain_if, drain_of, enable_of, heard_if, rearm_if, rearm_of, settled_or, cleared_of}
 use Rattle.ehci.specs.declared.call.Call.{Call}
 use Rattle.ehci.specs.declared.call.Call.TheVariants.{StartBringUp, BringUpStep, AllocateAddress, OpenEndpoint, Close, SetAddress, SetPacketSize, Submit, Writeback, Cancel, Collect, Acknowledge, Drain, Rearm, Enable, Disable, ClearHalt, Look, CollectAlone}
 use Rattle.ehci.specs.declared.call.EndpointFields.{EndpointFields}
 use Rattle.ehci.specs.declared.call.InterruptReadings.{InterruptReadings}
 use Rattle.ehci.specs.declared.reply.Answered.{Answered}
 use Rattle.ehci.specs.declared.reply.Answered.TheVariants.{Done, Pending, Cancelled, Failed, Refused}
-use Rattle.ehci.specs.Decides.{acknowledgeDecided, acknowledgeReply, addressDecided, allotDecided, allotReply, call_of, cancelCame, cancelDecided, changeCame, clearDecided, closeDecided, collectCame, collectDecided, decideOf, drainDecided, drainReply, openCame, openDecided, packetDecided, submitCame, submitDecided, writebackDecided, writtenReply, aloneCame, aloneDecided, aloneReadings, lookDecided, lookReadings}
-use Rattle.ehci.specs.Door.{applyOf}
-use Rattle.ehci.specs.Replies.{answeredNumber, broughtReply, changedReply, collectedAnswer, refusedReply, replied, settledReply, simply}
+use Rattle.ehci.specs.Decides.{acknowledge_decided, acknowledge_reply, address_decided, allot_decided, allot_reply, call_of, cancel_came, cancel_decided, change_came, clear_decided, close_decided, collect_came, collect_decided, decide_of, drain_decided, drain_reply, open_came, open_decided, packet_decided, submit_came, submit_decided, writeback_decided, written_reply, alone_came, alone_decided, alone_readings, look_decided, look_readings}
+use Rattle.ehci.specs.Door.{apply_of}
+use Rattle.ehci.specs.Replies.{answered_number, brought_reply, changed_reply, collected_answer, refused_reply, replied, settled_reply, simply}
 use Rattle.promises.specs.Runs.{Everywhere, World, core, moment}
-use Rattle.promises.specs.Opened.{verdictNumber}
-use Rattle.promises.specs.Checks.{InOrder, checksOf, finished, furtherChecks, late, lost, lostAt, refusalIn}
+use Rattle.promises.specs.Opened.{verdict_number}
+use Rattle.promises.specs.Checks.{InOrder, checks_of, finished, further_checks, late, lost, lost_at, refusal_in}
 use Rattle.promises.proofs.effects.EffectDoor.{seen}
 
 -- what an answer says of the checks, and that its number says it
-abbrev verdictIn : Answered → Verdict
-verdictIn (Done given) = passed
-verdictIn Pending = passed
-verdictIn Cancelled = passed
-verdictIn (Failed token) = passed
-verdictIn (Refused r) = refused r
+abbrev verdict_in : Answered → Verdict
+verdict_in (Done given) = passed
+verdict_in Pending = passed
+verdict_in Cancelled = passed
+verdict_in (Failed token) = passed
+verdict_in (Refused r) = refused r
 
-number-says : (a : Answered) → refusalIn (answeredNumber a) ≡ verdictNumber (verdictIn a)
-number-says (Done given) = refl
-number-says Pending = refl
-number-says Cancelled = refl
-number-says (Failed token) = refl
-number-says (Refused InvalidParameter) = refl
-number-says (Refused SlotLimitReached) = refl
-number-says (Refused InvalidEndpoint) = refl
-number-says (Refused QueueFull) = refl
-number-says (Refused NotSupported) = refl
-number-says (Refused NoMemory) = refl
-number-says (Refused Timeout) = refl
-number-says (Refused NotReady) = refl
+number_says : (a : Answered) → refusal_in (answered_number a) ≡ verdict_number (verdict_in a)
+number_says (Done given) = refl
+number_says Pending = refl
+number_says Cancelled = refl
+number_says (Failed token) = refl
+number_says (Refused InvalidParameter) = refl
+number_says (Refused SlotLimitReached) = refl
+number_says (Refused InvalidEndpoint) = refl
+number_says (Refused QueueFull) = refl
+number_says (Refused NotSupported) = refl
+number_says (Refused NoMemory) = refl
+number_says (Refused Timeout) = refl
+number_says (Refused NotReady) = refl
 
 -- checks, then settle: the answer is the first that holds, and none where what is new says none
-settle-says : {A : Type 0} (says : A → Verdict) (v : Verdict) (old : Refusal → A) (new : A) → ((r : Refusal) → says (old r) ≡ refused r) → says new ≡ passed
+settle_says : {A : Type 0} (says : A → Verdict) (v : Verdict) (old : Refusal → A) (new : A) → ((r : Refusal) → says (old r) ≡ refused r) → says new ≡ passed
     → says (settle v old new) ≡ v
-settle-says says v old new no_old is-new = settled-by v old new (λ x. says x ≡ v) (λ r e. no_old r ∙ sym e) (λ e. is-new ∙ sym e)
+settle_says says v old new no_old is-new = settled_by v old new (λ x. says x ≡ v) (λ r e. no_old r ∙ sym e) (λ e. is-new ∙ sym e)
 
 -- and where what is new is asked more
 pub first_goes : (cs ds : List Check) → first cs ≡ passed → first (cs ++ ds) ≡ first ds
 first_goes [] ds e = refl
 first_goes (c ∷ cs) ds e =
-    let p = let-pass c.0 c.1 (first cs) e in
+    let p = let_pass c.0 c.1 (first cs) e in
     rw p.0 (first_goes cs ds p.1)
 
 first_stops : (cs ds : List Check) (r : Refusal) → first cs ≡ refused r → first (cs ++ ds) ≡ refused r
-first_stops [] ds r e = absurd (verdicts-apart r (sym e))
+first_stops [] ds r e = absurd (verdicts_apart r (sym e))
 first_stops (c ∷ cs) ds r e = by c.0 refl e (λ q. first_stops cs ds r q)
   where
     by : (b : Bool) → c.0 ≡ b → or_else c.0 c.1 (first cs) ≡ refused r → (first cs ≡ refused r → first (cs ++ ds) ≡ refused r)
@@ -96,9 +96,9 @@ first_stops (c ∷ cs) ds r e = by c.0 refl e (λ q. first_stops cs ds r q)
     by true q f rest = rw q (rw q at f)
     by false q f rest = rw q (rest (rw q at f))
 
-settle-then : {A : Type 0} (says : A → Verdict) (cs ds : List Check) (old : Refusal → A) (new : A) → ((r : Refusal) → says (old r) ≡ refused r)
+settle_then : {A : Type 0} (says : A → Verdict) (cs ds : List Check) (old : Refusal → A) (new : A) → ((r : Refusal) → says (old r) ≡ refused r)
     → (first cs ≡ passed → says new ≡ first ds) → says (settle (first cs) old new) ≡ first (cs ++ ds)
-settle-then says cs ds old new no_old is-new = by (first cs) refl
+settle_then says cs ds old new no_old is-new = by (first cs) refl
   where
     by : (v : Verdict) → first cs ≡ v → says (settle (first cs) old new) ≡ first (cs ++ ds)
     by passed e = rw e (is-new e ∙ sym (first_goes cs ds e))
@@ -109,316 +109,316 @@ module _ (w : World) where
   s = w.state
 
   abbrev fit : Bool
-  fit = rowsFit s.settings (length w.rows.pool) (length w.rows.heads) (length w.rows.frames) (length w.rows.setups)
+  fit = rows_are_fit s.settings (length w.rows.pool) (length w.rows.heads) (length w.rows.frames) (length w.rows.setups)
 
   abbrev says : Call → Verdict
-  says c = verdictIn (call_of s (length w.rows.pool) w.rows.heads w.rows.frames w.rows.setups (seen w c) c).decided.reply.answer
+  says c = verdict_in (call_of s (length w.rows.pool) w.rows.heads w.rows.frames w.rows.setups (seen w c) c).decided.reply.answer
 
   -- the rows are asked first, then the ranges
-  by-ranges : (c : Call) → says c ≡ first ((not (inRanges s), InvalidParameter) ∷ furtherChecks (moment core w) c) → verdictIn (core w c).reply.answer ≡ first (checksOf (moment core w) c)
-  unfolding applyOf decideOf refusedReply replied acceptsOf
-  by-ranges c h = by (furtherChecks (moment core w) c) h fit refl
+  by_ranges : (c : Call) → says c ≡ first ((not (in_ranges s), InvalidParameter) ∷ further_checks (moment core w) c) → verdict_in (core w c).reply.answer ≡ first (checks_of (moment core w) c)
+  unfolding apply_of decide_of refused_reply replied accepts_of
+  by_ranges c h = by (further_checks (moment core w) c) h fit refl
     where
-      by : (ds : List Check) → says c ≡ first ((not (inRanges s), InvalidParameter) ∷ ds)
-          → (b : Bool) → fit ≡ b → verdictIn (core w c).reply.answer ≡ first ((not (moment core w).fits, InvalidParameter) ∷ ds)
+      by : (ds : List Check) → says c ≡ first ((not (in_ranges s), InvalidParameter) ∷ ds)
+          → (b : Bool) → fit ≡ b → verdict_in (core w c).reply.answer ≡ first ((not (moment core w).fits, InvalidParameter) ∷ ds)
       by ds q true e = rw e q
       by ds q false e = rw e
 
-  by-fit : (c : Call) → says c ≡ first (checksOf (moment core w) c) → verdictIn (core w c).reply.answer ≡ first (checksOf (moment core w) c)
-  unfolding applyOf decideOf refusedReply replied acceptsOf
-  by-fit c h = by fit refl h
+  by_fit : (c : Call) → says c ≡ first (checks_of (moment core w) c) → verdict_in (core w c).reply.answer ≡ first (checks_of (moment core w) c)
+  unfolding apply_of decide_of refused_reply replied accepts_of
+  by_fit c h = by fit refl h
     where
-      by : (b : Bool) → fit ≡ b → says c ≡ first (checksOf (moment core w) c) → verdictIn (core w c).reply.answer ≡ first (checksOf (moment core w) c)
+      by : (b : Bool) → fit ≡ b → says c ≡ first (checks_of (moment core w) c) → verdict_in (core w c).reply.answer ≡ first (checks_of (moment core w) c)
       by true e q = rw e (rw e at q)
       by false e q = rw e
 
-  start-order : verdictIn (core w StartBringUp).reply.answer ≡ first (checksOf (moment core w) StartBringUp)
-  unfolding start_of broughtReply replied
-  start-order =
-      by-ranges StartBringUp
-      (settle-says (λ b. verdictIn (broughtReply b).reply.answer) (first ((not (inRanges s), InvalidParameter) ∷ (anyUncollected 0 32 s, QueueFull) ∷ [])) _ _
+  start_order : verdict_in (core w StartBringUp).reply.answer ≡ first (checks_of (moment core w) StartBringUp)
+  unfolding start_of brought_reply replied
+  start_order =
+      by_ranges StartBringUp
+      (settle_says (λ b. verdict_in (brought_reply b).reply.answer) (first ((not (in_ranges s), InvalidParameter) ∷ (any_uncollected 0 32 s, QueueFull) ∷ [])) _ _
       (λ r. refl) refl)
 
-  again-says : (register : ℕ) → verdictIn (broughtReply (againOf s register)).reply.answer ≡ first ((not (ltb (s.waited + 1) s.settings.wait), Timeout) ∷ [])
-  unfolding againOf broughtReply replied
-  again-says register = by (ltb (s.waited + 1) s.settings.wait) refl
+  again_says : (register : ℕ) → verdict_in (brought_reply (again_of s register)).reply.answer ≡ first ((not (ltb (s.waited + 1) s.settings.wait), Timeout) ∷ [])
+  unfolding again_of brought_reply replied
+  again_says register = by (ltb (s.waited + 1) s.settings.wait) refl
     where
       by : (b : Bool) → ltb (s.waited + 1) s.settings.wait ≡ b
-          → verdictIn (broughtReply (againOf s register)).reply.answer ≡ first ((not (ltb (s.waited + 1) s.settings.wait), Timeout) ∷ [])
+          → verdict_in (brought_reply (again_of s register)).reply.answer ≡ first ((not (ltb (s.waited + 1) s.settings.wait), Timeout) ∷ [])
       by true e = rw e
       by false e = rw e
 
-  stage-says : (stage : Stage) (v : ℕ) (b : Bool)
-      → verdictIn (broughtReply (cond b (onwardOf s stage v) (againOf s (registerOf stage)))).reply.answer
+  stage_says : (stage : Stage) (v : ℕ) (b : Bool)
+      → verdict_in (brought_reply (cond b (onward_of s stage v) (again_of s (register_of stage)))).reply.answer
       ≡ first (((not b && not (ltb (s.waited + 1) s.settings.wait)), Timeout) ∷ [])
-  unfolding onwardOf broughtReply replied
-  stage-says stage v true = refl
-  stage-says stage v false = again-says (registerOf stage)
+  unfolding onward_of brought_reply replied
+  stage_says stage v true = refl
+  stage_says stage v false = again_says (register_of stage)
 
-  step-order : (v : ℕ) → verdictIn (core w (BringUpStep v)).reply.answer ≡ first (checksOf (moment core w) (BringUpStep v))
-  unfolding step_of broughtReply replied
-  step-order v =
-      by-ranges (BringUpStep v)
-      (settle-then (λ b. verdictIn (broughtReply b).reply.answer) ((not (inRanges s), InvalidParameter) ∷ (eqb s.step 0, InvalidParameter) ∷ [])
-      ((late s v, Timeout) ∷ []) _ _ (λ r. refl) (λ e. stage-says (stageOf s.step) v (ready (stageOf s.step) v)))
+  step_order : (v : ℕ) → verdict_in (core w (BringUpStep v)).reply.answer ≡ first (checks_of (moment core w) (BringUpStep v))
+  unfolding step_of brought_reply replied
+  step_order v =
+      by_ranges (BringUpStep v)
+      (settle_then (λ b. verdict_in (brought_reply b).reply.answer) ((not (in_ranges s), InvalidParameter) ∷ (eqb s.step 0, InvalidParameter) ∷ [])
+      ((late s v, Timeout) ∷ []) _ _ (λ r. refl) (λ e. stage_says (stage_of s.step) v (ready (stage_of s.step) v)))
 
-  allot-order : verdictIn (core w AllocateAddress).reply.answer ≡ first (checksOf (moment core w) AllocateAddress)
-  unfolding allotOf allotDecided replied
-  allot-order =
-      by-ranges AllocateAddress
-      (settle-says (λ b. verdictIn (allotReply b).reply.answer) (first ((not (inRanges s), InvalidParameter) ∷ (ltb 127 s.address, SlotLimitReached) ∷ [])) _ _
+  allot_order : verdict_in (core w AllocateAddress).reply.answer ≡ first (checks_of (moment core w) AllocateAddress)
+  unfolding allot_of allot_decided replied
+  allot_order =
+      by_ranges AllocateAddress
+      (settle_says (λ b. verdict_in (allot_reply b).reply.answer) (first ((not (in_ranges s), InvalidParameter) ∷ (ltb 127 s.address, SlotLimitReached) ∷ [])) _ _
       (λ r. refl) refl)
 
-  open_order : (x : EndpointFields) → verdictIn (core w (OpenEndpoint x)).reply.answer ≡ first (checksOf (moment core w) (OpenEndpoint x))
-  unfolding openDecided openEndpointOf openChecks replied
+  open_order : (x : EndpointFields) → verdict_in (core w (OpenEndpoint x)).reply.answer ≡ first (checks_of (moment core w) (OpenEndpoint x))
+  unfolding open_decided open_endpoint_of open_checks replied
   open_order x =
-      by-fit (OpenEndpoint x)
-      (settle-says (λ o. verdictIn (openCame o).decided.reply.answer) (first (checksOf (moment core w) (OpenEndpoint x))) _ _ (λ r. refl) refl)
+      by_fit (OpenEndpoint x)
+      (settle_says (λ o. verdict_in (open_came o).decided.reply.answer) (first (checks_of (moment core w) (OpenEndpoint x))) _ _ (λ r. refl) refl)
 
-  close-order : (k : ℕ) → verdictIn (core w (Close k)).reply.answer ≡ first (checksOf (moment core w) (Close k))
-  unfolding closeDecided closeOf slotChecks changedReply replied
-  close-order k =
-      by-fit (Close k) (settle-says (λ o. verdictIn (changeCame o).decided.reply.answer) (first (checksOf (moment core w) (Close k))) _ _ (λ r. refl) refl)
+  close_order : (k : ℕ) → verdict_in (core w (Close k)).reply.answer ≡ first (checks_of (moment core w) (Close k))
+  unfolding close_decided close_of slot_checks changed_reply replied
+  close_order k =
+      by_fit (Close k) (settle_says (λ o. verdict_in (change_came o).decided.reply.answer) (first (checks_of (moment core w) (Close k))) _ _ (λ r. refl) refl)
 
-  address-order : (k a : ℕ) → verdictIn (core w (SetAddress k a)).reply.answer ≡ first (checksOf (moment core w) (SetAddress k a))
-  unfolding addressDecided setAddressOf slotChecks changedReply replied
-  address-order k a =
-      by-fit (SetAddress k a)
-      (settle-says (λ o. verdictIn (changeCame o).decided.reply.answer) (first (checksOf (moment core w) (SetAddress k a))) _ _ (λ r. refl) refl)
+  address_order : (k a : ℕ) → verdict_in (core w (SetAddress k a)).reply.answer ≡ first (checks_of (moment core w) (SetAddress k a))
+  unfolding address_decided set_address_of slot_checks changed_reply replied
+  address_order k a =
+      by_fit (SetAddress k a)
+      (settle_says (λ o. verdict_in (change_came o).decided.reply.answer) (first (checks_of (moment core w) (SetAddress k a))) _ _ (λ r. refl) refl)
 
-  size-order : (k size : ℕ) → verdictIn (core w (SetPacketSize k size)).reply.answer ≡ first (checksOf (moment core w) (SetPacketSize k size))
-  unfolding packetDecided setPacketSizeOf slotChecks changedReply replied
-  size-order k size =
-      by-fit (SetPacketSize k size)
-      (settle-says (λ o. verdictIn (changeCame o).decided.reply.answer) (first (checksOf (moment core w) (SetPacketSize k size))) _ _ (λ r. refl) refl)
+  size_order : (k size : ℕ) → verdict_in (core w (SetPacketSize k size)).reply.answer ≡ first (checks_of (moment core w) (SetPacketSize k size))
+  unfolding packet_decided set_packet_size_of slot_checks changed_reply replied
+  size_order k size =
+      by_fit (SetPacketSize k size)
+      (settle_says (λ o. verdict_in (change_came o).decided.reply.answer) (first (checks_of (moment core w) (SetPacketSize k size))) _ _ (λ r. refl) refl)
 
-  submit-order : (k : ℕ) (t : TransferRequest) (rd : Readings) → verdictIn (core w (Submit k t rd)).reply.answer ≡ first (checksOf (moment core w) (Submit k t rd))
-  unfolding submitDecided submitOf settledSubmit acceptedWith refusedSubmit
-  submit-order k t rd =
-      by-fit (Submit k t rd)
-      (settle-says (λ o. verdictIn (submitCame o).decided.reply.answer) (first (checksOf (moment core w) (Submit k t rd))) _ _ (λ r. refl) refl)
+  submit_order_lem : (k : ℕ) (t : TransferRequest) (rd : Readings) → verdict_in (core w (Submit k t rd)).reply.answer ≡ first (checks_of (moment core w) (Submit k t rd))
+  unfolding submit_decided submit_of settled_submit accepted_with refused_submit
+  submit_order_lem k t rd =
+      by_fit (Submit k t rd)
+      (settle_says (λ o. verdict_in (submit_came o).decided.reply.answer) (first (checks_of (moment core w) (Submit k t rd))) _ _ (λ r. refl) refl)
 
-  writeback-order : (place token : ℕ) → verdictIn (core w (Writeback place token)).reply.answer ≡ first (checksOf (moment core w) (Writeback place token))
-  unfolding writebackDecided writebackOf refusedWriteback
-  writeback-order place token =
-      by-fit (Writeback place token)
-      (settle-says (λ o. verdictIn (writtenReply o).reply.answer) (first (checksOf (moment core w) (Writeback place token))) _ _ (λ r. refl) refl)
+  writeback_order : (place token : ℕ) → verdict_in (core w (Writeback place token)).reply.answer ≡ first (checks_of (moment core w) (Writeback place token))
+  unfolding writeback_decided writeback_of refused_writeback
+  writeback_order place token =
+      by_fit (Writeback place token)
+      (settle_says (λ o. verdict_in (written_reply o).reply.answer) (first (checks_of (moment core w) (Writeback place token))) _ _ (λ r. refl) refl)
 
   -- a head that is asked to leave its schedule
-  unlink-says : (rd : Readings) (k : ℕ) (p : Pipe) (r : Request)
-      → verdictIn (cancelCame (unlinkOf s w.rows.heads w.rows.frames rd k p r)).decided.reply.answer ≡ first ((lost (moment core w) k, InvalidEndpoint) ∷ [])
-  unfolding unlinkOf waitingOf replied
-  unlink-says rd k p r =
-      settle-says (λ l. verdictIn (cancelCame l).decided.reply.answer) (first ((lost (moment core w) k, InvalidEndpoint) ∷ [])) _ _ (λ r. refl) refl
+  unlink_says : (rd : Readings) (k : ℕ) (p : Pipe) (r : Request)
+      → verdict_in (cancel_came (unlink_of s w.rows.heads w.rows.frames rd k p r)).decided.reply.answer ≡ first ((lost (moment core w) k, InvalidEndpoint) ∷ [])
+  unfolding unlink_of waiting_of replied
+  unlink_says rd k p r =
+      settle_says (λ l. verdict_in (cancel_came l).decided.reply.answer) (first ((lost (moment core w) k, InvalidEndpoint) ∷ [])) _ _ (λ r. refl) refl
 
-  cancel-says : (k : ℕ) (rd : Readings) (x : Endpoint) → holdsRequest x ≡ true
-      → verdictIn (cancelCame (cancelAt x s w.rows.heads w.rows.frames rd k)).decided.reply.answer ≡ first ((lostAt x (lost (moment core w) k), InvalidEndpoint) ∷ [])
+  cancel_says : (k : ℕ) (rd : Readings) (x : Endpoint) → holds_request x ≡ true
+      → verdict_in (cancel_came (cancel_at x s w.rows.heads w.rows.frames rd k)).decided.reply.answer ≡ first ((lost_at x (lost (moment core w) k), InvalidEndpoint) ∷ [])
   unfolding replied
-  cancel-says k rd Closed h = absurd (false-true h)
-  cancel-says k rd (Idle p) h = absurd (false-true h)
-  cancel-says k rd (Linked p r) h = unlink-says rd k p (marked r)
-  cancel-says k rd (Unlinking p r b) h = refl
+  cancel_says k rd Closed h = absurd (false_true h)
+  cancel_says k rd (Idle p) h = absurd (false_true h)
+  cancel_says k rd (Linked p r) h = unlink_says rd k p (marked r)
+  cancel_says k rd (Unlinking p r b) h = refl
 
-  cancel-order : (k id : ℕ) (rd : Readings) → verdictIn (core w (Cancel k id rd)).reply.answer ≡ first (checksOf (moment core w) (Cancel k id rd))
-  unfolding cancelDecided cancelOf replied
-  cancel-order k id rd =
-      by-fit (Cancel k id rd)
-      (settle-then (λ l. verdictIn (cancelCame l).decided.reply.answer) (cancelChecks s lent k id) ((lostAt (endpointAt s k) (lost (moment core w) k), InvalidEndpoint) ∷ []) _ _
-      (λ r. refl) (λ e. cancel-says k rd (endpointAt s k) (not-false (isUncollected s k) (held e))))
+  cancel_order : (k id : ℕ) (rd : Readings) → verdict_in (core w (Cancel k id rd)).reply.answer ≡ first (checks_of (moment core w) (Cancel k id rd))
+  unfolding cancel_decided cancel_of replied
+  cancel_order k id rd =
+      by_fit (Cancel k id rd)
+      (settle_then (λ l. verdict_in (cancel_came l).decided.reply.answer) (cancel_checks s lent k id) ((lost_at (endpoint_at s k) (lost (moment core w) k), InvalidEndpoint) ∷ []) _ _
+      (λ r. refl) (λ e. cancel_says k rd (endpoint_at s k) (not-false (is_uncollected s k) (held e))))
     where
       lent : Lengths
       lent = lengths (length w.rows.pool) (length w.rows.heads) (length w.rows.frames) (length w.rows.setups)
 
-      held : first (cancelChecks s lent k id) ≡ passed → not (isUncollected s k) ≡ false
+      held : first (cancel_checks s lent k id) ≡ passed → not (is_uncollected s k) ≡ false
       held e =
-          let a = let-pass (not (acceptsOf s lent)) InvalidParameter _ e in
-          let b = let-pass (crowded s k) InvalidParameter _ a.1 in
-          let c = let-pass (not (isOpen s k)) InvalidEndpoint _ b.1 in
-          (let-pass (not (isUncollected s k)) InvalidEndpoint _ c.1).0
+          let a = let_pass (not (accepts_of s lent)) InvalidParameter _ e in
+          let b = let_pass (crowded s k) InvalidParameter _ a.1 in
+          let c = let_pass (not (is_opened s k)) InvalidEndpoint _ b.1 in
+          (let_pass (not (is_uncollected s k)) InvalidEndpoint _ c.1).0
 
   -- what a passing collect answers is no refusal
-  outcome-says : (b : Bool) (v : View) → verdictIn (collectedAnswer (outcomeOf b v)) ≡ passed
-  unfolding outcomeOf
-  outcome-says true v = refl
-  outcome-says false v = by (eqb v.failed 0) refl
+  outcome_says : (b : Bool) (v : View) → verdict_in (collected_answer (outcome_of b v)) ≡ passed
+  unfolding outcome_of
+  outcome_says true v = refl
+  outcome_says false v = by (eqb v.failed 0) refl
     where
-      by : (t : Bool) → eqb v.failed 0 ≡ t → verdictIn (collectedAnswer (outcomeOf false v)) ≡ passed
+      by : (t : Bool) → eqb v.failed 0 ≡ t → verdict_in (collected_answer (outcome_of false v)) ≡ passed
       by true e = rw e
       by false e = rw e
 
-  pending-says : (rd : Readings) (k : ℕ) (p : Pipe) (r : Request)
-      → verdictIn (collectCame (pendingLeft (unlinkOf s w.rows.heads w.rows.frames rd k p r))).decided.reply.answer ≡ first ((lost (moment core w) k, InvalidEndpoint) ∷ [])
-  unfolding unlinkOf waitingOf replied
-  pending-says rd k p r =
-      settle-says (λ l. verdictIn (collectCame (pendingLeft l)).decided.reply.answer) (first ((lost (moment core w) k, InvalidEndpoint) ∷ [])) _ _ (λ r. refl) refl
+  pending_says : (rd : Readings) (k : ℕ) (p : Pipe) (r : Request)
+      → verdict_in (collect_came (pending_left (unlink_of s w.rows.heads w.rows.frames rd k p r))).decided.reply.answer ≡ first ((lost (moment core w) k, InvalidEndpoint) ∷ [])
+  unfolding unlink_of waiting_of replied
+  pending_says rd k p r =
+      settle_says (λ l. verdict_in (collect_came (pending_left l)).decided.reply.answer) (first ((lost (moment core w) k, InvalidEndpoint) ∷ [])) _ _ (λ r. refl) refl
 
-  linked-says : (rd : Readings) (k : ℕ) (p : Pipe) (r : Request) (b : Bool)
-      → verdictIn (collectCame (cond b (gathered (pendingCollect s) w.rows.heads w.rows.frames)
-      (pendingLeft (unlinkOf s w.rows.heads w.rows.frames rd k p r)))).decided.reply.answer
+  linked_says : (rd : Readings) (k : ℕ) (p : Pipe) (r : Request) (b : Bool)
+      → verdict_in (collect_came (cond b (gathered (pending_collect s) w.rows.heads w.rows.frames)
+      (pending_left (unlink_of s w.rows.heads w.rows.frames rd k p r)))).decided.reply.answer
       ≡ first (((not b && lost (moment core w) k), InvalidEndpoint) ∷ [])
   unfolding replied
-  linked-says rd k p r true = refl
-  linked-says rd k p r false = pending-says rd k p r
+  linked_says rd k p r true = refl
+  linked_says rd k p r false = pending_says rd k p r
 
-  unlinking-says : (v : View) (k : ℕ) (p : Pipe) (r : Request) (b : Bool)
-      → verdictIn (collectCame (withFrames (endIf b (ended (finishOf s v k p r) (endedOverlay w.rows.heads k)) (ended (pendingCollect s) w.rows.heads)) w.rows.frames)
+  unlinking_says : (v : View) (k : ℕ) (p : Pipe) (r : Request) (b : Bool)
+      → verdict_in (collect_came (with_frames (end_if b (ended (finish_of s v k p r) (ended_overlay w.rows.heads k)) (ended (pending_collect s) w.rows.heads)) w.rows.frames)
       ).decided.reply.answer ≡ passed
-  unfolding finishOf replied
-  unlinking-says v k p r true = outcome-says r.cancelled v
-  unlinking-says v k p r false = refl
+  unfolding finish_of replied
+  unlinking_says v k p r true = outcome_says r.cancelled v
+  unlinking_says v k p r false = refl
 
-  collect-says : (k : ℕ) (rd : Readings) (v : View) (x : Endpoint) → hasEndpoint x ≡ true
-      → verdictIn (collectCame (collectAt x s w.rows.heads w.rows.frames rd v k)).decided.reply.answer
-      ≡ first ((lostAt x (not (eqb v.stage 2) && lost (moment core w) k), InvalidEndpoint) ∷ [])
-  unfolding replied linkedOf unlinkingOf
-  collect-says k rd v Closed h = absurd (false-true h)
-  collect-says k rd v (Idle p) h = refl
-  collect-says k rd v (Linked p r) h = linked-says rd k p r (eqb v.stage 2)
-  collect-says k rd v (Unlinking p r b) h = unlinking-says v k (keeping rd p) r (passedBoundary b rd.frame)
+  collect_says : (k : ℕ) (rd : Readings) (v : View) (x : Endpoint) → has_endpoint x ≡ true
+      → verdict_in (collect_came (collect_at x s w.rows.heads w.rows.frames rd v k)).decided.reply.answer
+      ≡ first ((lost_at x (not (eqb v.stage 2) && lost (moment core w) k), InvalidEndpoint) ∷ [])
+  unfolding replied linked_of unlinking_of
+  collect_says k rd v Closed h = absurd (false_true h)
+  collect_says k rd v (Idle p) h = refl
+  collect_says k rd v (Linked p r) h = linked_says rd k p r (eqb v.stage 2)
+  collect_says k rd v (Unlinking p r b) h = unlinking_says v k (keeping rd p) r (passed_boundary b rd.frame)
 
-  collect-order : (k id : ℕ) (rd : Readings) → verdictIn (core w (Collect k id rd)).reply.answer ≡ first (checksOf (moment core w) (Collect k id rd))
-  unfolding collectDecided collectOf replied
-  collect-order k id rd =
-      by-fit (Collect k id rd)
-      (settle-then (λ g. verdictIn (collectCame g).decided.reply.answer) (collectChecks s lent k id)
-      ((lostAt (endpointAt s k) (finished (moment core w) (Collect k id rd) && lost (moment core w) k), InvalidEndpoint) ∷ []) _ _
-      (λ r. refl) (λ e. collect-says k rd (seen w (Collect k id rd)) (endpointAt s k) (not-false (isOpen s k) (opened e))))
+  collect_order : (k id : ℕ) (rd : Readings) → verdict_in (core w (Collect k id rd)).reply.answer ≡ first (checks_of (moment core w) (Collect k id rd))
+  unfolding collect_decided collect_of replied
+  collect_order k id rd =
+      by_fit (Collect k id rd)
+      (settle_then (λ g. verdict_in (collect_came g).decided.reply.answer) (collect_checks s lent k id)
+      ((lost_at (endpoint_at s k) (finished (moment core w) (Collect k id rd) && lost (moment core w) k), InvalidEndpoint) ∷ []) _ _
+      (λ r. refl) (λ e. collect_says k rd (seen w (Collect k id rd)) (endpoint_at s k) (not-false (is_opened s k) (opened e))))
     where
       lent : Lengths
       lent = lengths (length w.rows.pool) (length w.rows.heads) (length w.rows.frames) (length w.rows.setups)
 
-      opened : first (collectChecks s lent k id) ≡ passed → not (isOpen s k) ≡ false
+      opened : first (collect_checks s lent k id) ≡ passed → not (is_opened s k) ≡ false
       opened e =
-          let a = let-pass (not (acceptsOf s lent)) InvalidParameter _ e in
-          let b = let-pass (crowded s k) InvalidParameter _ a.1 in
-          (let-pass (not (isOpen s k)) InvalidEndpoint _ b.1).0
+          let a = let_pass (not (accepts_of s lent)) InvalidParameter _ e in
+          let b = let_pass (crowded s k) InvalidParameter _ a.1 in
+          (let_pass (not (is_opened s k)) InvalidEndpoint _ b.1).0
 
   -- ---- look and collect alone
 
-  looked-says : (b : Bool) → verdictIn (collectedAnswer (cond b (passedCollect s) (pendingCollect s)).answer) ≡ passed
-  looked-says true = refl
-  looked-says false = refl
+  looked_says : (b : Bool) → verdict_in (collected_answer (cond b (passed_collect s) (pending_collect s)).answer) ≡ passed
+  looked_says true = refl
+  looked_says false = refl
 
-  look-says : (k : ℕ) (rd : Readings) (v : View) (x : Endpoint) → hasEndpoint x ≡ true
-      → verdictIn (collectCame (lookAt x s w.rows.heads w.rows.frames rd v k)).decided.reply.answer
-      ≡ first ((lostAt x (not (eqb v.stage 2) && lost (moment core w) k), InvalidEndpoint) ∷ [])
-  unfolding replied linkedOf
-  look-says k rd v Closed h = absurd (false-true h)
-  look-says k rd v (Idle p) h = refl
-  look-says k rd v (Linked p r) h = linked-says rd k p r (eqb v.stage 2)
-  look-says k rd v (Unlinking p r b) h = looked-says (passedBoundary b rd.frame)
+  look_says : (k : ℕ) (rd : Readings) (v : View) (x : Endpoint) → has_endpoint x ≡ true
+      → verdict_in (collect_came (look_at x s w.rows.heads w.rows.frames rd v k)).decided.reply.answer
+      ≡ first ((lost_at x (not (eqb v.stage 2) && lost (moment core w) k), InvalidEndpoint) ∷ [])
+  unfolding replied linked_of
+  look_says k rd v Closed h = absurd (false_true h)
+  look_says k rd v (Idle p) h = refl
+  look_says k rd v (Linked p r) h = linked_says rd k p r (eqb v.stage 2)
+  look_says k rd v (Unlinking p r b) h = looked_says (passed_boundary b rd.frame)
 
-  alone-says : (k : ℕ) (rd : Readings) (v : View) (x : Endpoint) → hasEndpoint x ≡ true
-      → verdictIn (aloneCame (aloneAt x s w.rows.heads rd v k)).decided.reply.answer ≡ passed
-  unfolding replied unlinkingOf
-  alone-says k rd v Closed h = absurd (false-true h)
-  alone-says k rd v (Idle p) h = refl
-  alone-says k rd v (Linked p r) h = refl
-  alone-says k rd v (Unlinking p r b) h = unlinking-says v k (keeping rd p) r (passedBoundary b rd.frame)
+  alone_says : (k : ℕ) (rd : Readings) (v : View) (x : Endpoint) → has_endpoint x ≡ true
+      → verdict_in (alone_came (alone_at x s w.rows.heads rd v k)).decided.reply.answer ≡ passed
+  unfolding replied unlinking_of
+  alone_says k rd v Closed h = absurd (false_true h)
+  alone_says k rd v (Idle p) h = refl
+  alone_says k rd v (Linked p r) h = refl
+  alone_says k rd v (Unlinking p r b) h = unlinking_says v k (keeping rd p) r (passed_boundary b rd.frame)
 
   abbrev lent : Lengths
   lent = lengths (length w.rows.pool) (length w.rows.heads) (length w.rows.frames) (length w.rows.setups)
 
-  look-order : (k id command frame : ℕ) → verdictIn (core w (Look k id command frame)).reply.answer ≡ first (checksOf (moment core w) (Look k id command frame))
-  unfolding lookDecided look_of replied
-  look-order k id command frame =
+  look_order : (k id command frame : ℕ) → verdict_in (core w (Look k id command frame)).reply.answer ≡ first (checks_of (moment core w) (Look k id command frame))
+  unfolding look_decided look_of replied
+  look_order k id command frame =
       let c = Look k id command frame in
-      by-fit c
-      (settle-then (λ g. verdictIn (collectCame g).decided.reply.answer) (collectChecks s lent k id)
-      ((lostAt (endpointAt s k) (finished (moment core w) c && lost (moment core w) k), InvalidEndpoint) ∷ []) _ _
-      (λ r. refl) (λ e. look-says k (lookReadings command frame) (seen w c) (endpointAt s k) (not-false (isOpen s k) (opened e))))
+      by_fit c
+      (settle_then (λ g. verdict_in (collect_came g).decided.reply.answer) (collect_checks s lent k id)
+      ((lost_at (endpoint_at s k) (finished (moment core w) c && lost (moment core w) k), InvalidEndpoint) ∷ []) _ _
+      (λ r. refl) (λ e. look_says k (look_readings command frame) (seen w c) (endpoint_at s k) (not-false (is_opened s k) (opened e))))
     where
-      opened : first (collectChecks s lent k id) ≡ passed → not (isOpen s k) ≡ false
+      opened : first (collect_checks s lent k id) ≡ passed → not (is_opened s k) ≡ false
       opened e =
-          let a = let-pass (not (acceptsOf s lent)) InvalidParameter _ e in
-          let b = let-pass (crowded s k) InvalidParameter _ a.1 in
-          (let-pass (not (isOpen s k)) InvalidEndpoint _ b.1).0
+          let a = let_pass (not (accepts_of s lent)) InvalidParameter _ e in
+          let b = let_pass (crowded s k) InvalidParameter _ a.1 in
+          (let_pass (not (is_opened s k)) InvalidEndpoint _ b.1).0
 
-  alone-order : (k id frame overlay : ℕ)
-      → verdictIn (core w (CollectAlone k id frame overlay)).reply.answer ≡ first (checksOf (moment core w) (CollectAlone k id frame overlay))
-  unfolding aloneDecided aloneOf replied
-  alone-order k id frame overlay =
+  alone_order : (k id frame overlay : ℕ)
+      → verdict_in (core w (CollectAlone k id frame overlay)).reply.answer ≡ first (checks_of (moment core w) (CollectAlone k id frame overlay))
+  unfolding alone_decided alone_of replied
+  alone_order k id frame overlay =
       let c = CollectAlone k id frame overlay in
-      by-fit c
-      (settle-then (λ x. verdictIn (aloneCame x).decided.reply.answer) (aloneChecks s lent k id) [] _ _
-      (λ r. refl) (λ e. alone-says k (aloneReadings frame overlay) (seen w c) (endpointAt s k) (not-false (isOpen s k) (opened e))))
+      by_fit c
+      (settle_then (λ x. verdict_in (alone_came x).decided.reply.answer) (alone_checks s lent k id) [] _ _
+      (λ r. refl) (λ e. alone_says k (alone_readings frame overlay) (seen w c) (endpoint_at s k) (not-false (is_opened s k) (opened e))))
     where
-      opened : first (aloneChecks s lent k id) ≡ passed → not (isOpen s k) ≡ false
+      opened : first (alone_checks s lent k id) ≡ passed → not (is_opened s k) ≡ false
       opened e =
-          let a = let-pass (not (acceptsOf s lent)) InvalidParameter _ e in
-          (let-pass (not (isOpen s k)) InvalidEndpoint _ a.1).0
+          let a = let_pass (not (accepts_of s lent)) InvalidParameter _ e in
+          (let_pass (not (is_opened s k)) InvalidEndpoint _ a.1).0
 
-  acknowledge-order : (x : InterruptReadings) → verdictIn (core w (Acknowledge x)).reply.answer ≡ first (checksOf (moment core w) (Acknowledge x))
-  unfolding acknowledgeDecided acknowledgeOf replied
-  acknowledge-order x =
-      by-ranges (Acknowledge x)
-      (settle-says (λ a. verdictIn (acknowledgeReply a).reply.answer) (first ((not (inRanges s), InvalidParameter) ∷ [])) _ _ (λ r. refl)
-      (heard (eqb (onlyBits x.status 0x37) 0)))
+  acknowledge_order : (x : InterruptReadings) → verdict_in (core w (Acknowledge x)).reply.answer ≡ first (checks_of (moment core w) (Acknowledge x))
+  unfolding acknowledge_decided acknowledge_of replied
+  acknowledge_order x =
+      by_ranges (Acknowledge x)
+      (settle_says (λ a. verdict_in (acknowledge_reply a).reply.answer) (first ((not (in_ranges s), InvalidParameter) ∷ [])) _ _ (λ r. refl)
+      (heard (eqb (only_bits x.status 0x37) 0)))
     where
-      heard : (b : Bool) → verdictIn (acknowledgeReply (heardIf b s (onlyBits x.status 0x37) x.interrupts x.flag x.again)).reply.answer ≡ passed
+      heard : (b : Bool) → verdict_in (acknowledge_reply (heard_if b s (only_bits x.status 0x37) x.interrupts x.flag x.again)).reply.answer ≡ passed
       heard true = refl
       heard false = refl
 
-  drain-order : (command : ℕ) → verdictIn (core w (Drain command)).reply.answer ≡ first (checksOf (moment core w) (Drain command))
-  unfolding drainDecided drainOf replied clearedOf
-  drain-order command =
-      by-ranges (Drain command)
-      (settle-says (λ d. verdictIn (drainReply d).reply.answer) (first ((not (inRanges s), InvalidParameter) ∷ [])) _ _ (λ r. refl)
+  drain_order : (command : ℕ) → verdict_in (core w (Drain command)).reply.answer ≡ first (checks_of (moment core w) (Drain command))
+  unfolding drain_decided drain_of replied cleared_of
+  drain_order command =
+      by_ranges (Drain command)
+      (settle_says (λ d. verdict_in (drain_reply d).reply.answer) (first ((not (in_ranges s), InvalidParameter) ∷ [])) _ _ (λ r. refl)
       (drained (eqb s.pending 0) (any_of s.pending 4) refl (any_of s.pending 0x23) refl))
     where
       drained : (z a : Bool) → any_of s.pending 4 ≡ a → (b : Bool) → any_of s.pending 0x23 ≡ b
-          → verdictIn (drainReply (drainIf z s (countedOf s command) (clearedOf s.pending))).reply.answer ≡ passed
+          → verdict_in (drain_reply (drain_if z s (counted_of s command) (cleared_of s.pending))).reply.answer ≡ passed
       drained true a p b q = refl
       drained false true p b q = rw p
       drained false false p true q = rw (p, q)
       drained false false p false q = rw (p, q)
 
-  settled_says : (b : Bool) (new : Settled) → verdictIn (simply new.answer) ≡ passed
-      → verdictIn (settledReply (settledOr b s new)).reply.answer ≡ first ((b, InvalidParameter) ∷ [])
-  unfolding settledReply replied
+  settled_says : (b : Bool) (new : Settled) → verdict_in (simply new.answer) ≡ passed
+      → verdict_in (settled_reply (settled_or b s new)).reply.answer ≡ first ((b, InvalidParameter) ∷ [])
+  unfolding settled_reply replied
   settled_says true new e = refl
   settled_says false new e = e
 
-  rearm-says : (b : Bool) → verdictIn (simply (rearmIf b s).answer) ≡ passed
-  rearm-says true = refl
-  rearm-says false = refl
+  rearm_says : (b : Bool) → verdict_in (simply (rearm_if b s).answer) ≡ passed
+  rearm_says true = refl
+  rearm_says false = refl
 
-  rearm-order : verdictIn (core w Rearm).reply.answer ≡ first (checksOf (moment core w) Rearm)
-  unfolding rearmOf
-  rearm-order = by-ranges Rearm (settled_says (not (inRanges s)) _ (rearm-says (eqb s.masked 0)))
+  rearm_order : verdict_in (core w Rearm).reply.answer ≡ first (checks_of (moment core w) Rearm)
+  unfolding rearm_of
+  rearm_order = by_ranges Rearm (settled_says (not (in_ranges s)) _ (rearm_says (eqb s.masked 0)))
 
-  enable-order : verdictIn (core w Enable).reply.answer ≡ first (checksOf (moment core w) Enable)
-  unfolding enableOf
-  enable-order = by-ranges Enable (settled_says (not (inRanges s)) _ refl)
+  enable_order : verdict_in (core w Enable).reply.answer ≡ first (checks_of (moment core w) Enable)
+  unfolding enable_of
+  enable_order = by_ranges Enable (settled_says (not (in_ranges s)) _ refl)
 
-  disable-order : verdictIn (core w Disable).reply.answer ≡ first (checksOf (moment core w) Disable)
-  unfolding disableOf
-  disable-order = by-ranges Disable (settled_says (not (inRanges s)) _ refl)
+  disable_order : verdict_in (core w Disable).reply.answer ≡ first (checks_of (moment core w) Disable)
+  unfolding disable_of
+  disable_order = by_ranges Disable (settled_says (not (in_ranges s)) _ refl)
 
-  clear-order : (k : ℕ) → verdictIn (core w (ClearHalt k)).reply.answer ≡ first (checksOf (moment core w) (ClearHalt k))
-  unfolding clearDecided clearHaltOf changedReply replied
-  clear-order k = by-ranges (ClearHalt k) (settle-says (λ o. verdictIn (changedReply o).reply.answer) (first (clearChecks s k)) _ _ (λ r. refl) refl)
+  clear_order : (k : ℕ) → verdict_in (core w (ClearHalt k)).reply.answer ≡ first (checks_of (moment core w) (ClearHalt k))
+  unfolding clear_decided clear_halt_of changed_reply replied
+  clear_order k = by_ranges (ClearHalt k) (settle_says (λ o. verdict_in (changed_reply o).reply.answer) (first (clear_checks s k)) _ _ (λ r. refl) refl)
 
-in-turn : (w : World) (c : Call) → verdictIn (core w c).reply.answer ≡ first (checksOf (moment core w) c)
-in-turn w StartBringUp = start-order w
-in-turn w (BringUpStep v) = step-order w v
-in-turn w AllocateAddress = allot-order w
-in-turn w (OpenEndpoint x) = open_order w x
-in-turn w (Close k) = close-order w k
-in-turn w (SetAddress k a) = address-order w k a
-in-turn w (SetPacketSize k size) = size-order w k size
-in-turn w (Submit k t readings) = submit-order w k t readings
-in-turn w (Writeback place token) = writeback-order w place token
-in-turn w (Cancel k id readings) = cancel-order w k id readings
-in-turn w (Collect k id readings) = collect-order w k id readings
-in-turn w (Acknowledge x) = acknowledge-order w x
-in-turn w (Drain command) = drain-order w command
-in-turn w Rearm = rearm-order w
-in-turn w Enable = enable-order w
-in-turn w Disable = disable-order w
-in-turn w (ClearHalt k) = clear-order w k
-in-turn w (Look k id command frame) = look-order w k id command frame
-in-turn w (CollectAlone k id frame overlay) = alone-order w k id frame overlay
+in_turn : (w : World) (c : Call) → verdict_in (core w c).reply.answer ≡ first (checks_of (moment core w) c)
+in_turn w StartBringUp = start_order w
+in_turn w (BringUpStep v) = step_order w v
+in_turn w AllocateAddress = allot_order w
+in_turn w (OpenEndpoint x) = open_order w x
+in_turn w (Close k) = close_order w k
+in_turn w (SetAddress k a) = address_order w k a
+in_turn w (SetPacketSize k size) = size_order w k size
+in_turn w (Submit k t readings) = submit_order_lem w k t readings
+in_turn w (Writeback place token) = writeback_order w place token
+in_turn w (Cancel k id readings) = cancel_order w k id readings
+in_turn w (Collect k id readings) = collect_order w k id readings
+in_turn w (Acknowledge x) = acknowledge_order w x
+in_turn w (Drain command) = drain_order w command
+in_turn w Rearm = rearm_order w
+in_turn w Enable = enable_order w
+in_turn w Disable = disable_order w
+in_turn w (ClearHalt k) = clear_order w k
+in_turn w (Look k id command frame) = look_order w k id command frame
+in_turn w (CollectAlone k id frame overlay) = alone_order w k id frame overlay
 
 pub in_order : Everywhere InOrder core
-in_order w t c = number-says (core w c).reply.answer ∙ ap verdictNumber (in-turn w c)
+in_order w t c = number_says (core w c).reply.answer ∙ ap verdict_number (in_turn w c)

@@ -9,51 +9,51 @@ use lib.ListN.{get_or, length}
 use Rattle.bitset.specs.Words.{Fitting}
 use Rattle.common.specs.Answers.{first, or_else}
 use Rattle.common.specs.declared.answer.Refusal.TheVariants.{InvalidParameter, SlotLimitReached, InvalidEndpoint, QueueFull, NotSupported, NoMemory, Timeout, NotReady}
-use Rattle.common.proofs.TestLaws.{both_first, both-makes, both-second, both-tells, false-true}
-use Rattle.state.specs.Ranges.{inRanges}
+use Rattle.common.proofs.TestLaws.{both_first, both_makes, both_second, both_tells, false_true}
+use Rattle.state.specs.Ranges.{in_ranges}
 use Rattle.state.specs.Plain.{Ehci}
 use Rattle.words.specs.Good.{Good, Tidy}
 use Rattle.words.specs.View.{state_of, view}
-use Rattle.word_ranges.specs.Judge.{wordsGood}
+use Rattle.word_ranges.specs.Judge.{words_good}
 use Rattle.word_ranges.proofs.JudgeLaws.{accepted, judged}
-use Rattle.opening.specs.Opening.{rowsFit}
-use Rattle.controller.specs.Lent.{acceptsOf, lengths}
+use Rattle.opening.specs.Opening.{rows_are_fit}
+use Rattle.controller.specs.Lent.{accepts_of, lengths}
 use Rattle.ehci.specs.declared.call.Call.{Call}
 use Rattle.ehci.specs.declared.reply.Answered.{Answered}
 use Rattle.ehci.specs.declared.reply.Answered.TheVariants.{Done, Pending, Cancelled, Failed, Refused}
-use Rattle.ehci.specs.Refusals.{refusedWorld}
-use Rattle.ehci.specs.Replies.{answeredNumber, refusedReply, replied}
-use Rattle.ehci.specs.WordsDoor.{acceptsWords, applyWords}
+use Rattle.ehci.specs.Refusals.{refused_world}
+use Rattle.ehci.specs.Replies.{answered_number, refused_reply, replied}
+use Rattle.ehci.specs.WordsDoor.{accepts_words, apply_words}
 use Rattle.ehci.proofs.Refusals.{refusals}
-use Rattle.promises.specs.Checks.{furtherChecks, refusalIn}
-use Rattle.promises.specs.Opened.{verdictNumber}
-use Rattle.promises.specs.Runs.{Machine, Moment, Rows, World, WorldIn, core, moment, viewed, worldOf}
-use Rattle.promises.specs.WordsRuns.{Does, Faithful, Typed, in_words, letIn}
+use Rattle.promises.specs.Checks.{further_checks, refusal_in}
+use Rattle.promises.specs.Opened.{verdict_number}
+use Rattle.promises.specs.Runs.{Machine, Moment, Rows, World, WorldIn, core, moment, viewed, world_of}
+use Rattle.promises.specs.WordsRuns.{Does, Faithful, Typed, in_words, let_in}
 use Rattle.promises.proofs.theorems.Order.{in_order}
 
 -- ---- the plain form's door
 
 -- it refuses first
-is-invalid : (x : Answered) → refusalIn (answeredNumber x) ≡ 1 → x ≡ Refused InvalidParameter
-is-invalid (Done given) e = absurd (omega (arith, e))
-is-invalid Pending e = absurd (omega (arith, e))
-is-invalid Cancelled e = absurd (omega (arith, e))
-is-invalid (Failed token) e = absurd (omega (arith, e))
-is-invalid (Refused InvalidParameter) e = refl
-is-invalid (Refused SlotLimitReached) e = absurd (omega (arith, e))
-is-invalid (Refused InvalidEndpoint) e = absurd (omega (arith, e))
-is-invalid (Refused QueueFull) e = absurd (omega (arith, e))
-is-invalid (Refused NotSupported) e = absurd (omega (arith, e))
-is-invalid (Refused NoMemory) e = absurd (omega (arith, e))
-is-invalid (Refused Timeout) e = absurd (omega (arith, e))
-is-invalid (Refused NotReady) e = absurd (omega (arith, e))
+is_invalid : (x : Answered) → refusal_in (answered_number x) ≡ 1 → x ≡ Refused InvalidParameter
+is_invalid (Done given) e = absurd (omega (arith, e))
+is_invalid Pending e = absurd (omega (arith, e))
+is_invalid Cancelled e = absurd (omega (arith, e))
+is_invalid (Failed token) e = absurd (omega (arith, e))
+is_invalid (Refused InvalidParameter) e = refl
+is_invalid (Refused SlotLimitReached) e = absurd (omega (arith, e))
+is_invalid (Refused InvalidEndpoint) e = absurd (omega (arith, e))
+is_invalid (Refused QueueFull) e = absurd (omega (arith, e))
+is_invalid (Refused NotSupported) e = absurd (omega (arith, e))
+is_invalid (Refused NoMemory) e = absurd (omega (arith, e))
+is_invalid (Refused Timeout) e = absurd (omega (arith, e))
+is_invalid (Refused NotReady) e = absurd (omega (arith, e))
 
-unfit-refused : (w : World) (c : Call) → (moment core w).fits ≡ false
-    → core w c ≡ refusedWorld w.state w.rows.pool w.rows.heads w.rows.frames w.rows.setups InvalidParameter
-unfit-refused w c e =
+unfit_refused : (w : World) (c : Call) → (moment core w).fits ≡ false
+    → core w c ≡ refused_world w.state w.rows.pool w.rows.heads w.rows.frames w.rows.setups InvalidParameter
+unfit_refused w c e =
     refusals w.state w.rows.pool w.rows.heads w.rows.frames w.rows.setups c InvalidParameter
-    (is-invalid (core w c).reply.answer
-    (in_order w tt c ∙ ap (λ (b : Bool). verdictNumber (or_else (not b) InvalidParameter (first (furtherChecks (moment core w) c)))) e))
+    (is_invalid (core w c).reply.answer
+    (in_order w tt c ∙ ap (λ (b : Bool). verdict_number (or_else (not b) InvalidParameter (first (further_checks (moment core w) c)))) e))
 
 -- ---- and that over words
 
@@ -63,83 +63,83 @@ fit_at (w ∷ ws) f zero = f.0
 fit_at (w ∷ ws) f (suc i) = fit_at ws f.1 i
 
 module _ (w : WorldIn in_words) where
-  abbrev rowsHere : Bool
-  rowsHere =
-      rowsFit w.state.core.settings (length w.rows.pool) (length w.rows.heads) (length w.rows.frames) (length w.rows.setups)
+  abbrev rows_here : Bool
+  rows_here =
+      rows_are_fit w.state.core.settings (length w.rows.pool) (length w.rows.heads) (length w.rows.frames) (length w.rows.setups)
 
   abbrev pub admits : Bool
   admits =
-      acceptsOf (view w.state.core w.state.slots)
+      accepts_of (view w.state.core w.state.slots)
       (lengths (length w.rows.pool) (length w.rows.heads) (length w.rows.frames) (length w.rows.setups))
 
   -- words that are let in are good
-  pub let-in-good : letIn w ≡ true → Good w.state.core.settings w.state.core.rest w.state.slots
-  unfolding acceptsWords
-  let-in-good e =
-      judged w.state.core.settings w.state.core.rest w.state.slots (both-second rowsHere (wordsGood w.state.core.settings w.state.core.rest w.state.slots) e)
+  pub let_in_good : let_in w ≡ true → Good w.state.core.settings w.state.core.rest w.state.slots
+  unfolding accepts_words
+  let_in_good e =
+      judged w.state.core.settings w.state.core.rest w.state.slots (both_second rows_here (words_good w.state.core.settings w.state.core.rest w.state.slots) e)
 
   -- and so is the state that they stand for
-  in-admits : letIn w ≡ true → admits ≡ true
-  unfolding acceptsWords acceptsOf state_of
-  in-admits e =
-      both-makes rowsHere (inRanges (view w.state.core w.state.slots))
-      (both_first rowsHere (wordsGood w.state.core.settings w.state.core.rest w.state.slots) e) (let-in-good e).ranges
+  in_admits : let_in w ≡ true → admits ≡ true
+  unfolding accepts_words accepts_of state_of
+  in_admits e =
+      both_makes rows_here (in_ranges (view w.state.core w.state.slots))
+      (both_first rows_here (words_good w.state.core.settings w.state.core.rest w.state.slots) e) (let_in_good e).ranges
 
-  admitted : admits ≡ true → (rowsHere ≡ true) × (inRanges (view w.state.core w.state.slots) ≡ true)
-  unfolding acceptsOf state_of
-  admitted e = both-tells rowsHere (inRanges (view w.state.core w.state.slots)) e
+  admitted : admits ≡ true → (rows_here ≡ true) × (in_ranges (view w.state.core w.state.slots) ≡ true)
+  unfolding accepts_of state_of
+  admitted e = both_tells rows_here (in_ranges (view w.state.core w.state.slots)) e
 
   module _ (faithful : Faithful w) where
-    pub admits-good : admits ≡ true → Good w.state.core.settings w.state.core.rest w.state.slots
-    admits-good e = let here = admitted e in record { tidy = faithful.tidy here.1; ranges = here.1 }
+    pub admits_good : admits ≡ true → Good w.state.core.settings w.state.core.rest w.state.slots
+    admits_good e = let here = admitted e in record { tidy = faithful.tidy here.1; ranges = here.1 }
 
-    pub admits-in : admits ≡ true → letIn w ≡ true
-    unfolding acceptsWords
-    admits-in e =
-        both-makes rowsHere (wordsGood w.state.core.settings w.state.core.rest w.state.slots) (admitted e).0
-        (accepted w.state.core.settings w.state.core.rest w.state.slots faithful.typed.free-fits (fit_at w.state.slots faithful.typed.row_fits) (admits-good e))
+    pub admits_in : admits ≡ true → let_in w ≡ true
+    unfolding accepts_words
+    admits_in e =
+        both_makes rows_here (words_good w.state.core.settings w.state.core.rest w.state.slots) (admitted e).0
+        (accepted w.state.core.settings w.state.core.rest w.state.slots faithful.typed.free_fits (fit_at w.state.slots faithful.typed.row_fits) (admits_good e))
 
     -- both doors let in the same
-    fits-same : letIn w ≡ admits
-    fits-same = by admits refl (letIn w) refl
+    fits_same : let_in w ≡ admits
+    fits_same = by admits refl (let_in w) refl
       where
-        by : (a : Bool) → admits ≡ a → (b : Bool) → letIn w ≡ b → letIn w ≡ admits
-        by true q b e = admits-in q ∙ sym q
-        by false q true e = absurd (false-true (sym q ∙ in-admits e))
+        by : (a : Bool) → admits ≡ a → (b : Bool) → let_in w ≡ b → let_in w ≡ admits
+        by true q b e = admits_in q ∙ sym q
+        by false q true e = absurd (false_true (sym q ∙ in_admits e))
         by false q false e = e ∙ sym q
 
     pub call_same : (c : Call)
-        → applyWords w.state.core w.state.slots w.rows.pool w.rows.heads w.rows.frames w.rows.setups c ≡ core (viewed w) c
-    unfolding applyWords refusedReply replied
-    call_same c = by (letIn w) refl
+        → apply_words w.state.core w.state.slots w.rows.pool w.rows.heads w.rows.frames w.rows.setups c ≡ core (viewed w) c
+    unfolding apply_words refused_reply replied
+    call_same c = by (let_in w) refl
       where
-        by : (b : Bool) → letIn w ≡ b
-            → applyWords w.state.core w.state.slots w.rows.pool w.rows.heads w.rows.frames w.rows.setups c ≡ core (viewed w) c
+        by : (b : Bool) → let_in w ≡ b
+            → apply_words w.state.core w.state.slots w.rows.pool w.rows.heads w.rows.frames w.rows.setups c ≡ core (viewed w) c
         by true e = rw e
-        by false e = rw e (sym (unfit-refused (viewed w) c (sym fits-same ∙ e)))
+        by false e = rw e (sym (unfit_refused (viewed w) c (sym fits_same ∙ e)))
 
 -- ---- of a machine that does it
 
 module _ (m : Machine in_words) (does : Does m) (w : WorldIn in_words) (faithful : Faithful w) where
   -- the words show what the state that they stand for does
-  pub same-moment : moment m w ≡ moment core (viewed w)
-  same-moment i =
+  pub same_moment : moment m w ≡ moment core (viewed w)
+  same_moment i =
       record {
         view = view w.state.core w.state.slots;
         rows = w.rows;
-        fits = fits-same w faithful i;
+        fits = fits_same w faithful i;
         does = λ c. (does.replies w c faithful.typed ∙ call_same w faithful c) i;
       }
 
-  pub next-faithful : (c : Call) → Faithful (worldOf m w (c ∷ []))
-  unfolding worldOf
-  next-faithful c = record { typed = does.typed w c faithful.typed; tidy = by (letIn w) refl }
+  pub next_faithful : (c : Call) → Faithful (world_of m w (c ∷ []))
+  unfolding world_of
+  next_faithful c = record { typed = does.typed w c faithful.typed; tidy = by (let_in w) refl }
     where
-      by : (b : Bool) → letIn w ≡ b → inRanges (state_of w.state.core.settings (m w c).reply.rest (m w c).slots) ≡ true
+      by : (b : Bool) → let_in w ≡ b → in_ranges (state_of w.state.core.settings (m w c).reply.rest (m w c).slots) ≡ true
           → Tidy w.state.core.settings (m w c).reply.rest (m w c).slots
       by true e r = (does.leaves w c faithful.typed).tidy e
       by false e r =
-          let rest = (does.leaves w c faithful.typed).rest-stays e in
+          let rest = (does.leaves w c faithful.typed).rest_stays e in
           let row = (does.leaves w c faithful.typed).row_stays e in
           rw (rest, row) (faithful.tidy (rw (rest, row) at r))
 
@@ -152,23 +152,23 @@ refusing state rows =
       view = state;
       rows = rows;
       fits = false;
-      does = λ c. refusedWorld state rows.pool rows.heads rows.frames rows.setups InvalidParameter;
+      does = λ c. refused_world state rows.pool rows.heads rows.frames rows.setups InvalidParameter;
     }
 
 module _ (m : Machine in_words) (does : Does m) (w : WorldIn in_words) (typed : Typed w.state.core.rest w.state.slots) where
-  pub let-in-faithful : letIn w ≡ true → Faithful w
-  let-in-faithful e = record { typed = typed; tidy = λ r. (let-in-good w e).tidy }
+  pub let_in_faithful : let_in w ≡ true → Faithful w
+  let_in_faithful e = record { typed = typed; tidy = λ r. (let_in_good w e).tidy }
 
-  pub refused-call : letIn w ≡ false → (c : Call)
+  pub refused_call : let_in w ≡ false → (c : Call)
       → (moment m w).does c ≡ (refusing (view w.state.core w.state.slots) w.rows).does c
-  unfolding applyWords refusedReply replied
-  refused-call e c = does.replies w c typed ∙ rw e
+  unfolding apply_words refused_reply replied
+  refused_call e c = does.replies w c typed ∙ rw e
 
-  pub refused-moment : letIn w ≡ false → moment m w ≡ refusing (view w.state.core w.state.slots) w.rows
-  refused-moment e i =
+  pub refused_moment : let_in w ≡ false → moment m w ≡ refusing (view w.state.core w.state.slots) w.rows
+  refused_moment e i =
       record {
         view = view w.state.core w.state.slots;
         rows = w.rows;
         fits = e i;
-        does = λ c. refused-call e c i;
+        does = λ c. refused_call e c i;
       }

@@ -6,50 +6,50 @@ use mathlib.Core.List.{List, []}
 use mathlib.Core.Path.{◌≡◌, refl, sym, ap, subst, ◌∙◌}
 use native.Mathlib.Omega.{arith}
 use lib.ListN.{get_or, set}
-use Rattle.bitset.specs.Judge.{sumBit}
+use Rattle.bitset.specs.Judge.{sum_bit}
 use Rattle.bitset.specs.Places.{all_below}
-use Rattle.bitset.specs.Words.{bit, onesBelow}
-use Rattle.register.specs.Writes.{noWrites}
-use Rattle.settings.specs.Settings.{apartAreas, areaGood, eachGood, noOverlap, numbersGood, settingsGood}
+use Rattle.bitset.specs.Words.{bit, ones_below}
+use Rattle.register.specs.Writes.{no_writes}
+use Rattle.settings.specs.Settings.{apart_areas, area_good, each_good, no_overlap, numbers_good, settings_good}
 use Rattle.settings.specs.declared.settings.Settings.{Settings}
-use Rattle.words.specs.Good.{column, noPlaces}
-use Rattle.words.specs.Opened.{openedRest, openedRow}
-use Rattle.words.specs.Record.{phaseIn, places_at, word_at}
-use Rattle.words.specs.View.{holdsBit, state_of}
-use Rattle.words.proofs.GoodLaws.{good-settings}
-use Rattle.words.proofs.OwnerLaws.{held-owner}
+use Rattle.words.specs.Good.{column, no_places}
+use Rattle.words.specs.Opened.{opened_rest, opened_row}
+use Rattle.words.specs.Record.{phase_in, places_at, word_at}
+use Rattle.words.specs.View.{holds_bit, state_of}
+use Rattle.words.proofs.GoodLaws.{good_settings}
+use Rattle.words.proofs.OwnerLaws.{held_owner}
 use Rattle.ehci.specs.declared.call.Call.{Call}
 use Rattle.ehci.specs.declared.call.Call.TheVariants.{AllocateAddress}
 use Rattle.ehci.specs.declared.reply.Answered.TheVariants.{Pending}
 use Rattle.promises.specs.Ranges.{RangesKept}
-use Rattle.promises.specs.Runs.{Machine, Opening, World, WorldIn, core, moment, viewed, worldOf}
-use Rattle.promises.specs.WordsRuns.{Does, Typed, in_words, letIn}
-use Rattle.promises.proofs.invariants.Reached.{freshRows}
-use Rattle.promises.proofs.theorems.WordsCalls.{let-in-good}
-use Rattle.promises.proofs.theorems.WordsOpened.{freshWords, opens-words}
-use Rattle.promises.proofs.theorems.WordsRuns.{carried, opening-viewed}
-use Rattle.promises.proofs.theorems.RangeTheorems.{ranges-kept}
+use Rattle.promises.specs.Runs.{Machine, Opening, World, WorldIn, core, moment, viewed, world_of}
+use Rattle.promises.specs.WordsRuns.{Does, Typed, in_words, let_in}
+use Rattle.promises.proofs.invariants.Reached.{fresh_rows}
+use Rattle.promises.proofs.theorems.WordsCalls.{let_in_good}
+use Rattle.promises.proofs.theorems.WordsOpened.{fresh_words, opens_words}
+use Rattle.promises.proofs.theorems.WordsRuns.{carried, opening_viewed}
+use Rattle.promises.proofs.theorems.RangeTheorems.{ranges_kept}
 
 -- ---- what a machine that does it never leaves
 
-module _ (m : Machine in_words) (does : Does m) (w : WorldIn in_words) (c : Call) (typed : Typed w.state.core.rest w.state.slots) (let-in : letIn w ≡ true) where
+module _ (m : Machine in_words) (does : Does m) (w : WorldIn in_words) (c : Call) (typed : Typed w.state.core.rest w.state.slots) (let_in_lem : let_in w ≡ true) where
   -- the state that the words stand for has one owner a place, so it says nothing of a second slot: the tidy words do
-  pub never-twice : (i k l : ℕ) → i < 256 → k < l → holdsBit (m w c).slots k i ≡ 1 → holdsBit (m w c).slots l i ≡ 1 → ⊥
-  never-twice i k l h less p q =
-      let few = (good-settings w.state.core.settings w.state.core.rest w.state.slots (let-in-good w let-in)).endpoints-most in
-      let tidy = (does.leaves w c typed).tidy let-in in
-      let owner : (j : ℕ) → holdsBit (m w c).slots j i ≡ 1 → _ ≡ suc j = held-owner w.state.core.settings (m w c).reply.rest (m w c).slots tidy i h few in
+  pub never_twice : (i k l : ℕ) → i < 256 → k < l → holds_bit (m w c).slots k i ≡ 1 → holds_bit (m w c).slots l i ≡ 1 → ⊥
+  never_twice i k l h less p q =
+      let few = (good_settings w.state.core.settings w.state.core.rest w.state.slots (let_in_good w let_in_lem)).endpoints_most in
+      let tidy = (does.leaves w c typed).tidy let_in_lem in
+      let owner : (j : ℕ) → holds_bit (m w c).slots j i ≡ 1 → _ ≡ suc j = held_owner w.state.core.settings (m w c).reply.rest (m w c).slots tidy i h few in
       omega (arith, sym (owner k p) ∙ owner l q, less)
 
-  pub never-left : (k : ℕ) → k < w.state.core.settings.endpoints → phaseIn (word_at (m w c).slots k) < 2 → places_at (m w c).slots k ≡ noPlaces
-  never-left k h = (((does.leaves w c typed).tidy let-in).held k h).empty
+  pub never_left : (k : ℕ) → k < w.state.core.settings.endpoints → phase_in (word_at (m w c).slots k) < 2 → places_at (m w c).slots k ≡ no_places
+  never_left k h = (((does.leaves w c typed).tidy let_in_lem).held k h).empty
 
 -- ---- a machine that leaves a place in a closed slot
 
 abbrev careless : Machine in_words
 careless w c =
     record {
-      reply = record { rest = w.state.core.rest; answer = Pending; writes = noWrites };
+      reply = record { rest = w.state.core.rest; answer = Pending; writes = no_writes };
       slots = set w.state.slots 2 1;
       pool = w.rows.pool;
       heads = w.rows.heads;
@@ -72,18 +72,18 @@ pair =
       setups = 0x400000;
     }
 
-pair-good : settingsGood pair ≡ true
-unfolding settingsGood numbersGood eachGood noOverlap areaGood apartAreas
-pair-good = refl
+pair_good : settings_good pair ≡ true
+unfolding settings_good numbers_good each_good no_overlap area_good apart_areas
+pair_good = refl
 
-opening : Opening pair (freshWords pair)
-opening = opens-words pair pair-good
+opening : Opening pair (fresh_words pair)
+opening = opens_words pair pair_good
 
-pub careless-refuted : Does careless → ⊥
-unfolding worldOf
-careless-refuted does =
-    let let-in : letIn (freshWords pair) ≡ true = (carried RangesKept ranges-kept careless does pair (freshWords pair) opening []).let-in in
-    let none = never-left careless does (freshWords pair) AllocateAddress opening.fresh.typed let-in 0 (omega arith) (omega arith) in
+pub careless_refuted : Does careless → ⊥
+unfolding world_of
+careless_refuted does =
+    let let_in_lem : let_in (fresh_words pair) ≡ true = (carried RangesKept ranges_kept careless does pair (fresh_words pair) opening []).let_in_lem in
+    let none = never_left careless does (fresh_words pair) AllocateAddress opening.fresh.typed let_in_lem 0 (omega arith) (omega arith) in
     let z : ◌≡◌ {A = ℕ} 1 0 = ap (λ (x : List ℕ). get_or x 0 0) none in
     omega (arith, z)
 
@@ -93,26 +93,26 @@ careless-refuted does =
 abbrev pub astray : WorldIn in_words
 astray =
     record {
-      state = record { core = record { settings = pair; rest = openedRest 0 }; slots = openedRow pair.endpoints };
-      rows = freshRows pair;
+      state = record { core = record { settings = pair; rest = opened_rest 0 }; slots = opened_row pair.endpoints };
+      rows = fresh_rows pair;
     }
 
-astray-stands : viewed astray ≡ viewed (freshWords pair)
-unfolding state_of openedRest
-astray-stands = refl
+astray_stands : viewed astray ≡ viewed (fresh_words pair)
+unfolding state_of opened_rest
+astray_stands = refl
 
-pub astray-fits : (moment core (viewed astray)).fits ≡ true
-unfolding worldOf
-astray-fits =
-    subst (λ (x : World). (moment core x).fits ≡ true) (sym astray-stands)
-    (ranges-kept pair (viewed (freshWords pair)) (opening-viewed pair (freshWords pair) opening) []).let-in
+pub astray_fits : (moment core (viewed astray)).fits ≡ true
+unfolding world_of
+astray_fits =
+    subst (λ (x : World). (moment core x).fits ≡ true) (sym astray_stands)
+    (ranges_kept pair (viewed (fresh_words pair)) (opening_viewed pair (fresh_words pair) opening) []).let_in_lem
 
-pub astray-refused : letIn astray ≡ false
-unfolding openedRest all_below onesBelow bit sumBit column
-astray-refused = by (letIn astray) refl
+pub astray_refused : let_in astray ≡ false
+unfolding opened_rest all_below ones_below bit sum_bit column
+astray_refused = by (let_in astray) refl
   where
-    by : (b : Bool) → letIn astray ≡ b → letIn astray ≡ false
+    by : (b : Bool) → let_in astray ≡ b → let_in astray ≡ false
     by true e =
-        let nowhere : ◌≡◌ {A = ℕ} 0 1 = (let-in-good astray e).tidy.shared-out 0 0 (omega arith) (omega arith) in
+        let nowhere : ◌≡◌ {A = ℕ} 0 1 = (let_in_good astray e).tidy.shared_out 0 0 (omega arith) (omega arith) in
         absurd (omega (arith, nowhere))
     by false e = e

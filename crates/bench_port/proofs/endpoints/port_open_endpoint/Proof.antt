@@ -3,7 +3,7 @@ use Rattle.bench_port.proofs.RowCalls.{opened}
 use Rattle.core.specs.Prelude.{ℕ}
 use Rattle.common.specs.declared.kinds.EndpointType.{EndpointType}
 use Rattle.words.specs.View.{view}
-use Rattle.endpoint.specs.Calls.{openEndpointOf}
+use Rattle.endpoint.specs.Calls.{open_endpoint_of}
 use borrow.Author.Rules.{rules}
 use Rattle.bench_port.proofs.endpoints.port_open_endpoint.Statement.{statement}
 use Rattle.bench_port.proofs.endpoints.port_open_endpoint.Tie as tie
@@ -27,7 +27,7 @@ returns : tie.Need-returns
 returns c =
     let a = c.before.before.before.before.before.before.before.before.before.before.before.args in
     opened _ _ _ _ _ _ _ _
-    (λ (kind : EndpointType) (pool frames setups : ℕ). openEndpointOf (view a.core a.slots.now) pool a.heads.now frames setups kind a.address a.number a.packet)
+    (λ (kind : EndpointType) (pool frames setups : ℕ). open_endpoint_of (view a.core a.slots.now) pool a.heads.now frames setups kind a.address a.number a.packet)
     _ c.before.before.before.before.before.before.kind-of.ensures c.before.before.before.before.before.open-endpoint.ensures c.pack-opened.ensures
 
 pub port-open-endpoint-spec : {M : Type 1} → statement M

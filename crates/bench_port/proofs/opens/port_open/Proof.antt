@@ -42,12 +42,12 @@ use Rattle.settings.proofs.settings.Settings.TheLaws as Se'
 use Rattle.opening.specs.declared.open.Opening.{Opening}
 use Rattle.opening.specs.contracts.open.Opening as Op
 use Rattle.opening.proofs.open.Opening.TheLaws as Op'
-use Rattle.opening.specs.Words.{OpensWords, openWords, openedRows}
+use Rattle.opening.specs.Words.{OpensWords, open_words, opened_rows}
 use Rattle.bench_port.specs.declared.opens.PortOpened.{PortOpened}
-use Rattle.bench_port.specs.Opens.{OpensPort, besideOpened, packOpening, seenOpening}
+use Rattle.bench_port.specs.Opens.{OpensPort, beside_opened, pack_opening, seen_opening}
 use Rattle.bench_port.specs.contracts.opens.PortOpened as Po
 use Rattle.bench_port.proofs.opens.PortOpened.TheLaws as Po'
-use Rattle.bench_port.proofs.OpensLaws.{opens-port, seen-opened}
+use Rattle.bench_port.proofs.OpensLaws.{opens_port, seen_opened_lem}
 use Rattle.opening.specs.contracts.open.open as opener
 use Rattle.opening.proofs.open.open.Symbol as opener-def
 use Rattle.opening.proofs.open.open.Symbol.{name as #opener}
@@ -103,10 +103,10 @@ module _ {M : Type 1} {𝓤 : Ura M} (𝓛 : Logic 𝓤) (mem : Memory → SProp
   tokens = ‵ (flft κ₀ q₀) ⊛ ‵ (flft κ₁ q₁) ⊛ ‵ (flft κ₂ q₂) ⊛ ‵ (flft κ₃ q₃) ⊛ ‵ (flft κ₄ q₄) ⊛ ‵ ftrue
 
   -- what the five rows own, and the numbers behind them
-  abbrev owned-all : Fml
-  owned-all = fsep ((MutSlice (named 0) κ₀ R).own_val (row_at br or γr rs) (vr ∷ [])) (fsep ((MutSlice (named 1) κ₁ u64).own_val (row_at bs os γs ss) (vs ∷ [])) (fsep ((MutSlice (named 2) κ₂ u32).own_val (row_at bh oh γh hs) (vh ∷ [])) (fsep ((MutSlice (named 3) κ₃ u32).own_val (row_at bf of γf fs) (vf ∷ [])) (fsep ((MutSlice (named 4) κ₄ u8).own_val (row_at bu ou γu us) (vu ∷ [])) (ftrue)))))
+  abbrev owned_all : Fml
+  owned_all = fsep ((MutSlice (named 0) κ₀ R).own_val (row_at br or γr rs) (vr ∷ [])) (fsep ((MutSlice (named 1) κ₁ u64).own_val (row_at bs os γs ss) (vs ∷ [])) (fsep ((MutSlice (named 2) κ₂ u32).own_val (row_at bh oh γh hs) (vh ∷ [])) (fsep ((MutSlice (named 3) κ₃ u32).own_val (row_at bf of γf fs) (vf ∷ [])) (fsep ((MutSlice (named 4) κ₄ u8).own_val (row_at bu ou γu us) (vu ∷ [])) (ftrue)))))
 
-  exits : (r : PortOpened) (v : Val) (wr : List Record) (ws wh wf wu : List ℕ) → length wr ≡ length rs → length ws ≡ length ss → length wh ≡ length hs → length wf ≡ length fs → length wu ≡ length us → Is Po.the_row r (v ∷ []) → besideOpened r wr wh wf wu ≡ seenOpening (openWords st rs ss hs fs us) → OpensPort st r ss ws
+  exits : (r : PortOpened) (v : Val) (wr : List Record) (ws wh wf wu : List ℕ) → length wr ≡ length rs → length ws ≡ length ss → length wh ≡ length hs → length wf ≡ length fs → length wu ≡ length us → Is Po.the_row r (v ∷ []) → beside_opened r wr wh wf wu ≡ seen_opening (open_words st rs ss hs fs us) → OpensPort st r ss ws
       → ent 𝓤 (⋆ 𝓛 (‵ (finally R γr wr) ∷ ‵ (finally u64 γs ws) ∷ ‵ (finally u32 γh wh) ∷ ‵ (finally u32 γf wf) ∷ ‵ (finally u8 γu wu) ∷ tokens ∷ [])) (Post v)
   exits r v wr ws wh wf wu er es eh ef eu is e₁ e₂ =
       qed 𝓛 (‵ (finally R γr wr) ∷ ‵ (finally u64 γs ws) ∷ ‵ (finally u32 γh wh) ∷ ‵ (finally u32 γf wf) ∷ ‵ (finally u8 γu wu) ∷ tokens ∷ []) ∵
@@ -124,16 +124,16 @@ module _ {M : Type 1} {𝓤 : Ura M} (𝓛 : Logic 𝓤) (mem : Memory → SProp
   abbrev to-opener : (met 𝓛 opener.ended (opener.clauses 𝓛 mem run)).Ghost
   to-opener = (((κ₀, (κ₁, (κ₂, (κ₃, (κ₄, tt))))), (q₀, (q₁, (q₂, (q₃, (q₄, tt))))), tt, (st, (row_at br or γr rs, (row_at bs os γs ss, (row_at bh oh γh hs, (row_at bf of γf fs, (row_at bu ou γu us, tt)))))), (kv ∷ [], (vr ∷ [], (vs ∷ [], (vh ∷ [], (vf ∷ [], (vu ∷ [], tt))))))), tt)
 
-  goes-opener : ent 𝓤 (⋆ 𝓛 (‵ owned-all ∷ tokens ∷ [])) ((met 𝓛 opener.ended (opener.clauses 𝓛 mem run)).pre to-opener)
+  goes-opener : ent 𝓤 (⋆ 𝓛 (‵ owned_all ∷ tokens ∷ [])) ((met 𝓛 opener.ended (opener.clauses 𝓛 mem run)).pre to-opener)
   goes-opener =
-      qed 𝓛 (‵ owned-all ∷ tokens ∷ []) ∵ fsplit ! $ move ! (1 ∷ []) $ fsplit ! $ move ! (1 ∷ []) $ fsplit ! $ move ! (1 ∷ []) $ fsplit ! $ move ! (1 ∷ []) $ fsplit ! $ move ! (1 ∷ []) $ drop ! $
+      qed 𝓛 (‵ owned_all ∷ tokens ∷ []) ∵ fsplit ! $ move ! (1 ∷ []) $ fsplit ! $ move ! (1 ∷ []) $ fsplit ! $ move ! (1 ∷ []) $ fsplit ! $ move ! (1 ∷ []) $ fsplit ! $ move ! (1 ∷ []) $ drop ! $
       -- [setups; frames; heads; slots; the records; the tokens]
       nothing ! $ move ! (1 ∷ 0 ∷ []) $ fjoin ! $ move ! (1 ∷ 0 ∷ []) $ fjoin ! $ move ! (1 ∷ 0 ∷ []) $ fjoin ! $ move ! (1 ∷ 0 ∷ []) $ fjoin ! $ move ! (1 ∷ 0 ∷ []) $ fjoin ! $
       owned ! Se.the_row (Is Se.the_row) (LL.makes Se.the_type Se'.the_plain 𝓛) st (kv ∷ []) is-st $ fjoin ! $ move ! (1 ∷ 0 ∷ []) $ join ! $ frame ! $ done !
 
   -- what is learned of `open`
   abbrev told : Opening → Lasts opener.ended (κ₀, (κ₁, (κ₂, (κ₃, (κ₄, tt))))) to-opener.0.3 → Type 0
-  told x ws = (openedRows x ws.1.0 ws.1.1.1.0 ws.1.1.1.1.0 ws.1.1.1.1.1.0 ≡ openWords st rs ss hs fs us) × (OpensWords st x ss ws.1.1.0)
+  told x ws = (opened_rows x ws.1.0 ws.1.1.1.0 ws.1.1.1.1.0 ws.1.1.1.1.1.0 ≡ open_words st rs ss hs fs us) × (OpensWords st x ss ws.1.1.0)
 
   module _ (𝓣 : Tables 𝓤 H) (known-opener : Triple 𝓤 (𝓣.C #opener) (met 𝓛 opener.ended (opener.clauses 𝓛 mem run))) (known-pack : Triple 𝓤 (𝓣.C #pack) (met 𝓛 pack.ended (pack.clauses 𝓛 mem run))) where
     walk : ent 𝓤 (on_entry 𝓛 f.signature (κ₀, (κ₁, (κ₂, (κ₃, (κ₄, tt))))) (q₀, (q₁, (q₂, (q₃, (q₄, tt))))) a₀ at) (WpFn 𝓤 H 𝓣.C 𝓣.Λ code.function (kv ∷ vr ∷ vs ∷ vh ∷ vf ∷ vu ∷ []) Post)
@@ -149,18 +149,18 @@ module _ {M : Type 1} {𝓤 : Ura M} (𝓛 : Logic 𝓤) (mem : Memory → SProp
         assigns ! (addr ! (from ! (fld ! refl (hop ! (look_in ! 26 (sub ! 0 refl (whole !))) (stop !))))) (from ! (stop !)) (init ! 8 refl (tt, tt)) $ assigns ! (agg ! (and_then ! (load ! (from ! (stop !)) (look ! 8 refl)) (and_then ! (load ! (from ! (fld ! refl (stop !))) (look_in ! 26 (sub ! 1 refl (whole !)))) (no_more !)))) (from ! (stop !)) (init ! 6 refl (tt, (tt, (record { fits = roomf.0 }, tt)))) $
         assigns ! (addr ! (from ! (fld ! refl (hop ! (look_in ! 24 (sub ! 0 refl (whole !))) (stop !))))) (from ! (stop !)) (init ! 4 refl (tt, tt)) $ assigns ! (agg ! (and_then ! (load ! (from ! (stop !)) (look ! 4 refl)) (and_then ! (load ! (from ! (fld ! refl (stop !))) (look_in ! 24 (sub ! 1 refl (whole !)))) (no_more !)))) (from ! (stop !)) (init ! 2 refl (tt, (tt, (record { fits = roomu.0 }, tt)))) $
         join ! $
-        passes (fm_of 𝓤 H 𝓛.laws 𝓣) opener.ended (opener.clauses 𝓛 mem run) known-opener to-opener told (λ x ws. two_facts 𝓤 (openedRows x ws.1.0 ws.1.1.1.0 ws.1.1.1.1.0 ws.1.1.1.1.1.0 ≡ openWords st rs ss hs fs us) (OpensWords st x ss ws.1.1.0)) ! (‵ owned-all ⊛ tokens) goes-opener
+        passes (fm_of 𝓤 H 𝓛.laws 𝓣) opener.ended (opener.clauses 𝓛 mem run) known-opener to-opener told (λ x ws. two_facts 𝓤 (opened_rows x ws.1.0 ws.1.1.1.0 ws.1.1.1.1.0 ws.1.1.1.1.1.0 ≡ open_words st rs ss hs fs us) (OpensWords st x ss ws.1.1.0)) ! (‵ owned_all ⊛ tokens) goes-opener
         (λ j. and_then ! (load ! (from ! (stop !)) (look ! 33 {τ = Se'.mir} {v = kv} refl)) (and_then ! (load ! (from ! (stop !)) (look ! 17 refl)) (and_then ! (load ! (from ! (stop !)) (look ! 13 refl)) (and_then ! (load ! (from ! (stop !)) (look ! 9 refl)) (and_then ! (load ! (from ! (stop !)) (look ! 5 refl)) (and_then ! (load ! (from ! (stop !)) (look ! 1 refl)) (no_more !))))))) (λ x xv ws e is_x.
         -- [what is said of the rows' last lists; the five tokens; …]
         fsplit ! $ drop ! $ fsplit ! $ fsplit ! $ move ! (1 ∷ []) $ feq_l ! (λ er. move ! (1 ∷ []) $ fsplit ! $ fsplit ! $ move ! (1 ∷ []) $ feq_l ! (λ es. move ! (1 ∷ []) $ fsplit ! $ fsplit ! $ move ! (1 ∷ []) $ feq_l ! (λ eh. move ! (1 ∷ []) $ fsplit ! $ fsplit ! $ move ! (1 ∷ []) $ feq_l ! (λ ef. move ! (1 ∷ []) $ fsplit ! $ fsplit ! $ move ! (1 ∷ []) $ feq_l ! (λ eu. move ! (1 ∷ []) $ drop ! $
         -- [setups' last list; frames'; heads'; slots'; the records'; the five tokens; …]
         move ! (4 ∷ 3 ∷ 2 ∷ 1 ∷ 0 ∷ []) $
         land ! (from ! (stop !)) (init ! 26 {τ = Op'.mir} {v = xv} refl ((LL.lawful Op.the_type Op'.the_laws 𝓛).typed x _ is_x).0) $
-        gives (fm_of 𝓤 H 𝓛.laws 𝓣) pack.ended (pack.clauses 𝓛 mem run) known-pack (to-pack x xv) (λ z. z ≡ packOpening x) (λ z e. id⊢ 𝓤 _) ! (goes-pack x xv is_x) (λ j. and_then ! (load ! (from ! (stop !)) (look ! 27 {τ = Op'.mir} {v = xv} refl)) (no_more !)) (λ z zv e-pack is-z.
+        gives (fm_of 𝓤 H 𝓛.laws 𝓣) pack.ended (pack.clauses 𝓛 mem run) known-pack (to-pack x xv) (λ z. z ≡ pack_opening x) (λ z e. id⊢ 𝓤 _) ! (goes-pack x xv is_x) (λ j. and_then ! (load ! (from ! (stop !)) (look ! 27 {τ = Op'.mir} {v = xv} refl)) (no_more !)) (λ z zv e-pack is-z.
         drop ! $ land ! (from ! (stop !)) (init ! 40 {τ = Po'.mir} {v = zv} refl ((LL.lawful Po.the_type Po'.the_laws 𝓛).typed z _ is-z).0) $
         returns ! (look ! 40 {τ = Po'.mir} {v = zv} refl) $ forget ! 6 refl $ forget ! 8 refl $ forget ! 10 refl $ forget ! 12 refl $ forget ! 14 refl $ forget ! 16 refl $ forget ! 18 refl $ forget ! 20 refl $ forget ! 22 refl $ forget ! 24 refl $ forget ! 26 refl $ forget ! 28 refl $ forget ! 30 refl $ forget ! 32 refl $ forget ! 34 refl $ forget ! 36 refl $ forget ! 38 refl $ forget ! 40 refl $
         move ! (40 ∷ 41 ∷ []) $ free1 ! $ move ! (38 ∷ 39 ∷ []) $ free1 ! $ move ! (36 ∷ 37 ∷ []) $ free1 ! $ move ! (34 ∷ 35 ∷ []) $ free1 ! $ move ! (32 ∷ 33 ∷ []) $ free1 ! $ move ! (30 ∷ 31 ∷ []) $ free1 ! $ move ! (28 ∷ 29 ∷ []) $ free1 ! $ move ! (26 ∷ 27 ∷ []) $ free1 ! $ move ! (24 ∷ 25 ∷ []) $ free1 ! $ move ! (22 ∷ 23 ∷ []) $ free1 ! $ move ! (20 ∷ 21 ∷ []) $ free1 ! $ move ! (18 ∷ 19 ∷ []) $ free1 ! $ move ! (16 ∷ 17 ∷ []) $ free1 ! $ move ! (14 ∷ 15 ∷ []) $ free1 ! $ move ! (12 ∷ 13 ∷ []) $ free1 ! $ move ! (10 ∷ 11 ∷ []) $ free1 ! $ move ! (8 ∷ 9 ∷ []) $ free1 ! $ move ! (6 ∷ 7 ∷ []) $ free1 ! $ free0 ! $
-        by ! (exits z zv ws.1.0 ws.1.1.0 ws.1.1.1.0 ws.1.1.1.1.0 ws.1.1.1.1.1.0 er es eh ef eu is-z (seen-opened st ss x z e-pack rs hs fs us ws.1.0 ws.1.1.1.0 ws.1.1.1.1.0 ws.1.1.1.1.1.0 e.0) (opens-port st ss x z e-pack ws.1.1.0 e.1)))))))))))))))))))))))))))
+        by ! (exits z zv ws.1.0 ws.1.1.0 ws.1.1.1.0 ws.1.1.1.1.0 ws.1.1.1.1.1.0 er es eh ef eu is-z (seen_opened_lem st ss x z e-pack rs hs fs us ws.1.0 ws.1.1.1.0 ws.1.1.1.1.0 ws.1.1.1.1.1.0 e.0) (opens_port st ss x z e-pack ws.1.1.0 e.1)))))))))))))))))))))))))))
 
 module _ {M : Type 1} {𝓤 : Ura M} (𝓛 : Logic 𝓤) (mem : Memory → SProp 𝓤) (run : Routine → Fun 𝓤) (𝓣 : Tables 𝓤 𝓛.H) (known-opener : Triple 𝓤 (𝓣.C #opener) (met 𝓛 opener.ended (opener.clauses 𝓛 mem run))) (known-pack : Triple 𝓤 (𝓣.C #pack) (met 𝓛 pack.ended (pack.clauses 𝓛 mem run))) where
   open 𝓛 use {H}

@@ -1,8 +1,8 @@
 -- `bitset::cursor::cursor_of` meets its contract.
 use borrow.Author.Rules.{rules}
 use mathlib.Core.Path.{◌∙◌}
-use Rattle.bitset.specs.Rest.{cursorOf}
-use Rattle.bitset.proofs.CursorLaws.{coming-all}
+use Rattle.bitset.specs.Rest.{cursor_of}
+use Rattle.bitset.proofs.CursorLaws.{coming_all}
 use Rattle.bitset.proofs.cursor.cursor_of.Statement.{statement}
 use Rattle.bitset.proofs.cursor.cursor_of.Tie as tie
 
@@ -22,8 +22,8 @@ settled-requires : tie.Need-settled-requires
 settled-requires c κs = search rules
 
 returns : tie.Need-returns
-unfolding cursorOf
-returns c = (c.settled.ensures.0, c.settled.ensures.1 ∙ coming-all c.before.args.t1)
+unfolding cursor_of
+returns c = (c.settled.ensures.0, c.settled.ensures.1 ∙ coming_all c.before.args.t1)
 
 pub cursor-of-spec : {M : Type 1} → statement M
 cursor-of-spec =

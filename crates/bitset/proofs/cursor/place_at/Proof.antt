@@ -2,7 +2,7 @@
 use borrow.Author.Rules.{rules}
 use native.Mathlib.Omega.{arith}
 use lib.Count.{trailing_le}
-use Rattle.bitset.specs.Rest.{placeAt}
+use Rattle.bitset.specs.Rest.{place_at}
 use Rattle.bitset.proofs.cursor.place_at.Statement.{statement}
 use Rattle.bitset.proofs.cursor.place_at.Tie as tie
 
@@ -16,7 +16,7 @@ add-result : tie.Need-overflow-add-result
 add-result c = omega (arith, c.lowest.ensures, trailing_le 64 c.before.before.args.c.word)
 
 returns : tie.Need-returns
-unfolding placeAt
+unfolding place_at
 returns c =
     (rw c.lowest.ensures, omega (arith, c.lowest.ensures, trailing_le 64 c.before.before.args.c.word))
 

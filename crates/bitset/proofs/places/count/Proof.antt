@@ -1,8 +1,8 @@
 -- `bitset::places::count` meets its contract.
 use borrow.Author.Rules.{rules}
 use native.Mathlib.Omega.{arith}
-use Rattle.bitset.specs.Places.{setPlaces}
-use Rattle.bitset.proofs.PartLaws.{four-length}
+use Rattle.bitset.specs.Places.{set_places}
+use Rattle.bitset.proofs.PartLaws.{four_length}
 use Rattle.bitset.proofs.places.count.Statement.{statement}
 use Rattle.bitset.proofs.places.count.Tie as tie
 
@@ -40,9 +40,9 @@ add-result-3 : tie.Need-overflow-add-result-3
 add-result-3 c = omega arith
 
 returns : tie.Need-returns
-unfolding setPlaces
+unfolding set_places
 returns c = (
-  four-length _ _ _ _ 0
+  four_length _ _ _ _ 0
       c.before.before.before.number.ensures.2 c.before.before.number2.ensures.2 c.before.number3.ensures.2 c.number4.ensures.2 _ _ _ _
       c.before.before.before.number.ensures.0 c.before.before.number2.ensures.0 c.before.number3.ensures.0 c.number4.ensures.0,
   record {

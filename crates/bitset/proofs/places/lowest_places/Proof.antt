@@ -1,7 +1,7 @@
 -- `bitset::places::lowest_places` meets its contract.
 use borrow.Author.Rules.{rules}
 use Rattle.bitset.specs.Places.{Words}
-use Rattle.bitset.proofs.PartLaws.{lowest-parts}
+use Rattle.bitset.proofs.PartLaws.{lowest_parts}
 use Rattle.bitset.proofs.places.lowest_places.Statement.{statement}
 use Rattle.bitset.proofs.places.lowest_places.Tie as tie
 
@@ -38,7 +38,7 @@ returns c =
       third = c.before.take-part3.ensures.1;
       fourth = c.take-part4.ensures.1;
     } in (
-      lowest-parts _ _ f _ _ _ _
+      lowest_parts _ _ f _ _ _ _
           c.before.before.before.take_part.ensures.0 c.before.before.take-part2.ensures.0 c.before.take-part3.ensures.0 c.take-part4.ensures.0,
       f,
     )

@@ -3,7 +3,7 @@ use borrow.Author.Rules.{rules}
 use Prim.Native.Nat.{◌-◌}
 use mathlib.Core.Path.{◌≡◌}
 use native.Mathlib.Omega.{arith}
-use Rattle.bitset.specs.Words.{onesBelow}
+use Rattle.bitset.specs.Words.{ones_below}
 use Rattle.bitset.proofs.places.ones_from.Statement.{statement}
 use Rattle.bitset.proofs.places.ones_from.Tie as tie
 
@@ -14,7 +14,7 @@ ones-below-requires : tie.Need-ones-below-requires
 ones-below-requires c κs = search rules
 
 returns : tie.Need-returns
-unfolding onesBelow
+unfolding ones_below
 returns c = let z : c.before.args.n - c.before.args.from ≡ 0 = omega arith in rw z
 
 returns-2 : tie.Need-returns-2

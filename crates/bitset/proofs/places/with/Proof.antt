@@ -1,7 +1,7 @@
 -- `bitset::places::with` meets its contract.
 use borrow.Author.Rules.{rules}
 use mathlib.Core.Path.{refl}
-use Rattle.bitset.specs.Places.{withOf}
+use Rattle.bitset.specs.Places.{with_of}
 use Rattle.bitset.proofs.places.with.Statement.{statement}
 use Rattle.bitset.proofs.places.with.Tie as tie
 
@@ -30,7 +30,7 @@ array-read-t31 : tie.Need-array-read-t31
 array-read-t31 c = search rules
 
 returns : tie.Need-returns
-unfolding withOf
+unfolding with_of
 returns c = refl
 
 pub with-spec : {M : Type 1} → statement M

@@ -1,6 +1,6 @@
 -- `bitset::places::without` meets its contract.
 use borrow.Author.Rules.{rules}
-use Rattle.bitset.specs.Places.{withoutOf}
+use Rattle.bitset.specs.Places.{without_of}
 use Rattle.bitset.proofs.places.without.Statement.{statement}
 use Rattle.bitset.proofs.places.without.Tie as tie
 
@@ -41,7 +41,7 @@ cleared-requires-4 : tie.Need-cleared-requires-4
 cleared-requires-4 c κs = search rules
 
 returns : tie.Need-returns
-unfolding withoutOf
+unfolding without_of
 returns c = cc
 
 pub without-spec : {M : Type 1} → statement M

@@ -1,7 +1,7 @@
 -- `bitset::word::cleared` meets its contract.
 use mathlib.Core.Path.{refl}
 use lib.Bits.{and_le_l}
-use Rattle.bitset.specs.Words.{clearedOf}
+use Rattle.bitset.specs.Words.{cleared_of}
 use Rattle.bitset.proofs.word.cleared.Statement.{statement}
 use Rattle.bitset.proofs.word.cleared.Tie as tie
 
@@ -9,7 +9,7 @@ sub-result : tie.Need-overflow-sub-result
 sub-result c = and_le_l c.args.w c.args.x
 
 returns : tie.Need-returns
-unfolding clearedOf
+unfolding cleared_of
 returns c = refl
 
 pub cleared-spec : {M : Type 1} → statement M

@@ -3,20 +3,20 @@ use Prim.Native.Nat.{◌≤◌, ◌-◌}
 use mathlib.Core.Path.{◌≡◌, sym, ap, ◌∙◌}
 use native.Mathlib.Omega.{arith}
 use borrow.Author.Rules.{rules}
-use Rattle.bitset.specs.Words.{dropBits}
-use Rattle.bitset.proofs.PlaceLaws.{drop-none}
-use Rattle.bitset.proofs.PartLaws.{drop-turn}
+use Rattle.bitset.specs.Words.{drop_bits}
+use Rattle.bitset.proofs.PlaceLaws.{drop_none}
+use Rattle.bitset.proofs.PartLaws.{drop_turn}
 use Rattle.bitset.proofs.word.drop_low.Statement.{statement}
 use Rattle.bitset.proofs.word.drop_low.Tie as tie
 
 abbrev invariant-loop : tie.invariant-loop
-invariant-loop x n rest₀ done₀ rest done = (done ≤ n) × (rest ≡ dropBits 64 x done)
+invariant-loop x n rest₀ done₀ rest done = (done ≤ n) × (rest ≡ drop_bits 64 x done)
 
 abbrev decreases-loop : tie.decreases-loop
 decreases-loop x n rest₀ done₀ rest done = n - done
 
 loop-holds : tie.Need-loop-init invariant-loop decreases-loop
-loop-holds c = (omega arith, sym (drop-none 64 c.args.x c.ranges.x.fits))
+loop-holds c = (omega arith, sym (drop_none 64 c.args.x c.ranges.x.fits))
 
 drop-lowest-requires : tie.Need-drop-lowest-requires invariant-loop decreases-loop
 drop-lowest-requires c κs = search rules
@@ -29,12 +29,12 @@ loop-less c = search rules
 
 loop-again : tie.Need-loop-preserved invariant-loop decreases-loop
 loop-again c =
-    (omega arith, drop-turn _ _ _ _ c.before.before.before.ranges.x.fits c.before.before.before.requires c.before.loop-test.true c.before.before.loop.invariant.1 _ c.drop-lowest.ensures)
+    (omega arith, drop_turn _ _ _ _ c.before.before.before.ranges.x.fits c.before.before.before.requires c.before.loop-test.true c.before.before.loop.invariant.1 _ c.drop-lowest.ensures)
 
 returns : tie.Need-returns invariant-loop decreases-loop
 returns c =
     let done : c.before.loop.done ≡ c.before.before.args.n = omega arith in
-    c.before.loop.invariant.1 ∙ ap (dropBits 64 c.before.before.args.x) done
+    c.before.loop.invariant.1 ∙ ap (drop_bits 64 c.before.before.args.x) done
 
 pub drop-low-spec : {M : Type 1} → statement M
 drop-low-spec =

@@ -3,19 +3,19 @@ use Rattle.core.specs.Prelude.{◌≡◌, ◌-◌, ◌≤◌, ◌||◌}
 use mathlib.Core.Path.{◌∙◌}
 use native.Mathlib.Omega.{arith}
 use borrow.Author.Rules.{rules}
-use Rattle.bring_up.specs.Words.{anyHeld}
-use Rattle.bring_up.proofs.BusyView.{held-begun, held-turn, held-done}
+use Rattle.bring_up.specs.Words.{any_held}
+use Rattle.bring_up.proofs.BusyView.{held_begun, held_turn, held_done}
 use Rattle.bring_up.proofs.busy.any_uncollected.Statement.{statement}
 use Rattle.bring_up.proofs.busy.any_uncollected.Tie as tie
 
 abbrev invariant-loop : tie.invariant-loop
-invariant-loop slots endpoints end busy₀ k₀ busy k = (k ≤ end) × ((busy || anyHeld k (end - k) slots) ≡ anyHeld 0 end slots)
+invariant-loop slots endpoints end busy₀ k₀ busy k = (k ≤ end) × ((busy || any_held k (end - k) slots) ≡ any_held 0 end slots)
 
 abbrev decreases-loop : tie.decreases-loop
 decreases-loop slots endpoints end busy₀ k₀ busy k = end - k
 
 loop-holds : tie.Need-loop-init invariant-loop decreases-loop
-loop-holds c = (omega arith, held-begun _ _)
+loop-holds c = (omega arith, held_begun _ _)
 
 mul-phase : tie.Need-overflow-mul-phase invariant-loop decreases-loop
 mul-phase c = search rules
@@ -34,10 +34,10 @@ loop-less c = search rules
 
 loop-again : tie.Need-loop-preserved invariant-loop decreases-loop
 loop-again c =
-    let l = c.before.before.loop in (omega arith, held-turn _ _ l.k l.busy (omega arith) ∙ l.invariant.1)
+    let l = c.before.before.loop in (omega arith, held_turn _ _ l.k l.busy (omega arith) ∙ l.invariant.1)
 
 returns : tie.Need-returns invariant-loop decreases-loop
-returns c = held-done _ _ _ _ _ c.loop-test.false c.before.loop.invariant.1
+returns c = held_done _ _ _ _ _ c.loop-test.false c.before.loop.invariant.1
 
 pub any-uncollected-spec : {M : Type 1} → statement M
 any-uncollected-spec =

@@ -1,5 +1,5 @@
 -- `bring_up::calls::start` meets its contract.
-use Rattle.bring_up.proofs.WordsCases.{refused-free, starts-busy, starts-done}
+use Rattle.bring_up.proofs.WordsCases.{refused_free, starts_busy, starts_done}
 use borrow.Author.Rules.{rules}
 use Rattle.bring_up.proofs.calls.start.Statement.{statement}
 use Rattle.bring_up.proofs.calls.start.Tie as tie
@@ -11,7 +11,7 @@ refuse-requires : tie.Need-refuse-requires
 refuse-requires c κs = search rules
 
 returns : tie.Need-returns
-returns c = search (starts-busy, refused-free)
+returns c = search (starts_busy, refused_free)
 
 none-requires : tie.Need-none-requires
 none-requires c κs = search rules
@@ -20,7 +20,7 @@ and-then-requires : tie.Need-and-then-requires
 and-then-requires c κs = search rules
 
 returns-2 : tie.Need-returns-2
-returns-2 c = search starts-done
+returns-2 c = search starts_done
 
 pub start_spec : {M : Type 1} → statement M
 start_spec =

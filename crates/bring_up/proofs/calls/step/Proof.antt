@@ -1,5 +1,5 @@
 -- `bring_up::calls::step` meets its contract.
-use Rattle.bring_up.proofs.WordsCases.{refused-free, steps-again, steps-none, steps-onward}
+use Rattle.bring_up.proofs.WordsCases.{refused_free, steps_again, steps_none, steps_onward}
 use borrow.Author.Rules.{rules}
 use Rattle.bring_up.proofs.calls.step.Statement.{statement}
 use Rattle.bring_up.proofs.calls.step.Tie as tie
@@ -8,7 +8,7 @@ refuse-requires : tie.Need-refuse-requires
 refuse-requires c κs = search rules
 
 returns : tie.Need-returns
-returns c = search (steps-none, refused-free)
+returns c = search (steps_none, refused_free)
 
 stage-of-requires : tie.Need-stage-of-requires
 stage-of-requires c κs = search rules
@@ -23,7 +23,7 @@ moved-on-requires : tie.Need-moved-on-requires
 moved-on-requires c κs = search rules
 
 returns-2 : tie.Need-returns-2
-returns-2 c = search steps-onward
+returns-2 c = search steps_onward
 
 register-of-requires : tie.Need-register-of-requires
 register-of-requires c κs = search rules
@@ -32,7 +32,7 @@ wait-again-requires : tie.Need-wait-again-requires
 wait-again-requires c κs = search rules
 
 returns-3 : tie.Need-returns-3
-returns-3 c = search steps-again
+returns-3 c = search steps_again
 
 pub step_spec : {M : Type 1} → statement M
 step_spec =

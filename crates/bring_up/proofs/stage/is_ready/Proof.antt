@@ -1,5 +1,5 @@
 -- `bring_up::stage::is_ready` meets its contract.
-use Rattle.bring_up.proofs.Cases.{ready-halting, ready-resetting, ready-starting}
+use Rattle.bring_up.proofs.Cases.{ready_halting, ready_resetting, ready_starting}
 use borrow.Author.Rules.{rules}
 use Rattle.bring_up.proofs.stage.is_ready.Statement.{statement}
 use Rattle.bring_up.proofs.stage.is_ready.Tie as tie
@@ -35,19 +35,19 @@ returns : tie.Need-returns
 returns c = search rules
 
 returns-2 : tie.Need-returns-2
-returns-2 c = search ready-halting
+returns-2 c = search ready_halting
 
 returns-3 : tie.Need-returns-3
 returns-3 c = search rules
 
 returns-4 : tie.Need-returns-4
-returns-4 c = search ready-resetting
+returns-4 c = search ready_resetting
 
 returns-5 : tie.Need-returns-5
 returns-5 c = search rules
 
 returns-6 : tie.Need-returns-6
-returns-6 c = search ready-starting
+returns-6 c = search ready_starting
 
 pub is-ready-spec : {M : Type 1} → statement M
 is-ready-spec =

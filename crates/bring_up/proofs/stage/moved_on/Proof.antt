@@ -1,5 +1,5 @@
 -- `bring_up::stage::moved_on` meets its contract.
-use Rattle.bring_up.proofs.Cases.{on-stop, on-halting, on-reset, on-resetting, on-run, on-starting}
+use Rattle.bring_up.proofs.Cases.{on_stop, on_halting, on_reset, on_resetting, on_run, on_starting}
 use borrow.Author.Rules.{rules}
 use Rattle.bring_up.proofs.stage.moved_on.Statement.{statement}
 use Rattle.bring_up.proofs.stage.moved_on.Tie as tie
@@ -38,22 +38,22 @@ enum-told-6 : tie.Need-enum-told-6
 enum-told-6 c = search rules
 
 returns : tie.Need-returns
-returns c = search on-stop
+returns c = search on_stop
 
 returns-2 : tie.Need-returns-2
-returns-2 c = search on-halting
+returns-2 c = search on_halting
 
 returns-3 : tie.Need-returns-3
-returns-3 c = search on-reset
+returns-3 c = search on_reset
 
 returns-4 : tie.Need-returns-4
-returns-4 c = search on-resetting
+returns-4 c = search on_resetting
 
 returns-5 : tie.Need-returns-5
-returns-5 c = search on-run
+returns-5 c = search on_run
 
 returns-6 : tie.Need-returns-6
-returns-6 c = search on-starting
+returns-6 c = search on_starting
 
 pub moved-on-spec : {M : Type 1} → statement M
 moved-on-spec =

@@ -1,5 +1,5 @@
 -- `bring_up::stage::set_up` meets its contract.
-use Rattle.bring_up.proofs.Cases.{set-up-is}
+use Rattle.bring_up.proofs.Cases.{set_up_is}
 use borrow.Author.Rules.{rules}
 use Rattle.bring_up.proofs.stage.set_up.Statement.{statement}
 use Rattle.bring_up.proofs.stage.set_up.Tie as tie
@@ -29,7 +29,7 @@ and-then-requires-5 : tie.Need-and-then-requires-5
 and-then-requires-5 c κs = search rules
 
 returns : tie.Need-returns
-returns c = search set-up-is
+returns c = search set_up_is
 
 pub set-up-spec : {M : Type 1} → statement M
 set-up-spec =

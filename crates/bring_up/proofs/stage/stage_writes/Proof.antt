@@ -1,5 +1,5 @@
 -- `bring_up::stage::stage_writes` meets its contract.
-use Rattle.bring_up.proofs.Cases.{writes-stop, writes-reset, writes-resetting, writes-run}
+use Rattle.bring_up.proofs.Cases.{writes_stop, writes_reset, writes_resetting, writes_run}
 use borrow.Author.Rules.{rules}
 use Rattle.bring_up.proofs.stage.stage_writes.Statement.{statement}
 use Rattle.bring_up.proofs.stage.stage_writes.Tie as tie
@@ -50,19 +50,19 @@ none-requires-2 : tie.Need-none-requires-2
 none-requires-2 c κs = search rules
 
 returns : tie.Need-returns
-returns c = search writes-stop
+returns c = search writes_stop
 
 returns-2 : tie.Need-returns-2
 returns-2 c = search rules
 
 returns-3 : tie.Need-returns-3
-returns-3 c = search writes-reset
+returns-3 c = search writes_reset
 
 returns-4 : tie.Need-returns-4
-returns-4 c = search writes-resetting
+returns-4 c = search writes_resetting
 
 returns-5 : tie.Need-returns-5
-returns-5 c = search writes-run
+returns-5 c = search writes_run
 
 returns-6 : tie.Need-returns-6
 returns-6 c = search rules

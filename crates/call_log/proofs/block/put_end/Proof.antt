@@ -1,7 +1,7 @@
 -- `call_log::block::put_end` meets its contract.
 use native.Mathlib.Omega.{arith}
 use Rattle.core.specs.Prelude.{[], ◌∷◌}
-use Rattle.call_log.proofs.LineCases.{byte-then}
+use Rattle.call_log.proofs.LineCases.{byte_then}
 use borrow.Author.Rules.{rules}
 use Rattle.call_log.proofs.block.put_end.Statement.{statement}
 use Rattle.call_log.proofs.block.put_end.Tie as tie
@@ -20,7 +20,7 @@ returns c =
     let a = c.before.before.before.before.before.before.before.before.before.args in
     let p = c.before.before.before.before.before.before.put in
     let q = c.before.before.put2 in
-    byte-then a.out.now p.new.0 q.new.0 (10 ∷ []) a.at p.result q.result 46 (omega arith) p.ensures.0 p.ensures.1
+    byte_then a.out.now p.new.0 q.new.0 (10 ∷ []) a.at p.result q.result 46 (omega arith) p.ensures.0 p.ensures.1
     q.ensures.0 q.ensures.1
 
 pub put-end-spec : {M : Type 1} → statement M

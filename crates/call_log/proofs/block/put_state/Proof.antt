@@ -1,7 +1,7 @@
 -- `call_log::block::put_state` meets its contract.
-use Rattle.call_log.specs.Lines.{shownLine}
-use Rattle.call_log.specs.Words.{shownIn}
-use Rattle.call_log.proofs.ChangeCases.{line-shown}
+use Rattle.call_log.specs.Lines.{shown_line}
+use Rattle.call_log.specs.Words.{shown_in}
+use Rattle.call_log.proofs.ChangeCases.{line_shown}
 use Rattle.text.proofs.LineLaws.{hidden}
 use borrow.Author.Rules.{rules}
 use Rattle.call_log.proofs.block.put_state.Statement.{statement}
@@ -21,13 +21,13 @@ returns c =
     let a = c.before.before.before.before.before.before.before.args in
     let h = c.before.before.before.before.state-line in
     let p = c.before.before.put-line in
-    line-shown a.out.now a.at a.opened (shownLine (shownIn a.core)) p.new.0 p.result h.result c.before.before.before.before.before.if1.true h.ensures p.ensures.0
+    line_shown a.out.now a.at a.opened (shown_line (shown_in a.core)) p.new.0 p.result h.result c.before.before.before.before.before.if1.true h.ensures p.ensures.0
     p.ensures.1
 
 returns-2 : tie.Need-returns-2
 returns-2 c =
     let a = c.before.before.args in
-    hidden a.out.now a.at a.opened (shownLine (shownIn a.core)) c.if1.false
+    hidden a.out.now a.at a.opened (shown_line (shown_in a.core)) c.if1.false
 
 pub put-state-spec : {M : Type 1} → statement M
 put-state-spec =

@@ -1,8 +1,8 @@
 -- `call_log::call_line::bare_line` meets its contract.
 use native.Mathlib.Omega.{arith}
 use mathlib.Core.Path.{refl}
-use Rattle.call_log.specs.CallLine.{callLine}
-use Rattle.call_log.specs.Lines.{saidLine, line_of}
+use Rattle.call_log.specs.CallLine.{call_line}
+use Rattle.call_log.specs.Lines.{said_line, line_of}
 use borrow.Author.Rules.{rules}
 use Rattle.call_log.proofs.call_line.bare_line.Statement.{statement}
 use Rattle.call_log.proofs.call_line.bare_line.Tie as tie
@@ -11,7 +11,7 @@ line-of-three-requires : tie.Need-line-of-three-requires
 line-of-three-requires c κs = search rules
 
 returns : tie.Need-returns
-unfolding saidLine line_of callLine
+unfolding said_line line_of call_line
 returns c = c.line-of-three.ensures
 
 pub bare-line-spec : {M : Type 1} → statement M

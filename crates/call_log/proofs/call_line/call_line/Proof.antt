@@ -1,8 +1,8 @@
 -- `call_log::call_line::call_line` meets its contract.
 use native.Mathlib.Omega.{arith}
 use mathlib.Core.Path.{refl}
-use Rattle.call_log.specs.CallLine.{callLine, stepLine}
-use Rattle.call_log.specs.Lines.{saidLine, line_of}
+use Rattle.call_log.specs.CallLine.{call_line, step_line}
+use Rattle.call_log.specs.Lines.{said_line, line_of}
 use borrow.Author.Rules.{rules}
 use Rattle.call_log.proofs.call_line.call_line.Statement.{statement}
 use Rattle.call_log.proofs.call_line.call_line.Tie as tie
@@ -50,7 +50,7 @@ returns-3 : tie.Need-returns-3
 returns-3 c = rw c.before.enum-told2.given.1 c.bare-line2.ensures
 
 returns-4 : tie.Need-returns-4
-unfolding saidLine line_of callLine stepLine
+unfolding said_line line_of call_line step_line
 returns-4 c = rw c.before.before.answered2.given.1 c.line-with.ensures
 
 returns-5 : tie.Need-returns-5

@@ -1,8 +1,8 @@
 -- `call_log::call_line::given_line` meets its contract.
-use Rattle.call_log.proofs.CallLineCases.{step-said}
+use Rattle.call_log.proofs.CallLineCases.{step_said}
 use mathlib.Core.Path.{◌∙◌}
-use Rattle.call_log.specs.CallLine.{callLine, stepLine}
-use Rattle.call_log.specs.Lines.{saidLine, line_of}
+use Rattle.call_log.specs.CallLine.{call_line, step_line}
+use Rattle.call_log.specs.Lines.{said_line, line_of}
 use borrow.Author.Rules.{rules}
 use Rattle.call_log.proofs.call_line.given_line.Statement.{statement}
 use Rattle.call_log.proofs.call_line.given_line.Tie as tie
@@ -80,42 +80,42 @@ step-line-requires : tie.Need-step-line-requires
 step-line-requires c κs = search rules
 
 returns : tie.Need-returns
-unfolding saidLine line_of callLine stepLine
+unfolding said_line line_of call_line step_line
 returns c = rw c.before.enum_told.given.1 c.bare-line.ensures
 
 returns-2 : tie.Need-returns-2
-unfolding saidLine line_of callLine stepLine
+unfolding said_line line_of call_line step_line
 returns-2 c = rw c.before.before.given.given.1 c.line-with.ensures
 
 returns-3 : tie.Need-returns-3
-unfolding saidLine line_of callLine stepLine
+unfolding said_line line_of call_line step_line
 returns-3 c = rw c.before.before.given2.given.1 c.line-with2.ensures
 
 returns-4 : tie.Need-returns-4
-unfolding saidLine line_of callLine stepLine
+unfolding said_line line_of call_line step_line
 returns-4 c = rw c.before.before.given3.given.1 c.line-with3.ensures
 
 returns-5 : tie.Need-returns-5
-unfolding saidLine line_of callLine stepLine
+unfolding said_line line_of call_line step_line
 returns-5 c = rw c.before.before.given4.given.1 c.line-with-two.ensures
 
 returns-6 : tie.Need-returns-6
-unfolding saidLine line_of callLine stepLine
+unfolding said_line line_of call_line step_line
 returns-6 c = rw c.before.enum-told2.given.1 c.line-with4.ensures
 
 returns-7 : tie.Need-returns-7
-unfolding saidLine line_of callLine stepLine
+unfolding said_line line_of call_line step_line
 returns-7 c = rw c.before.enum-told3.given.1 c.line-with5.ensures
 
 returns-8 : tie.Need-returns-8
-unfolding saidLine line_of callLine stepLine
+unfolding said_line line_of call_line step_line
 returns-8 c = rw (c.before.before.before.before.given5.given.1, ← c.before.before.event-number.ensures, ← c.before.event-value.ensures) c.line-with-two2.ensures
 
 returns-9 : tie.Need-returns-9
-unfolding stepLine
+unfolding step_line
 returns-9 c =
     let s = c.step_line in
-    rw c.before.before.before.given6.given.1 (s.ensures ∙ step-said _ _ _ 0 0 c.before.before.before.given6.given.0.0 _ c.before.register-part.ensures)
+    rw c.before.before.before.given6.given.1 (s.ensures ∙ step_said _ _ _ 0 0 c.before.before.before.given6.given.0.0 _ c.before.register-part.ensures)
 
 pub given-line-spec : {M : Type 1} → statement M
 given-line-spec =

@@ -1,6 +1,6 @@
 -- `call_log::call_line::line_with` meets its contract.
 use mathlib.Core.Path.{refl}
-use Rattle.call_log.specs.Lines.{lineBytes, partsBytes, saidLine}
+use Rattle.call_log.specs.Lines.{line_bytes, parts_bytes, said_line}
 use borrow.Author.Rules.{rules}
 use Rattle.call_log.proofs.call_line.line_with.Statement.{statement}
 use Rattle.call_log.proofs.call_line.line_with.Tie as tie
@@ -18,7 +18,7 @@ array-set-from-cells-4 : tie.Need-array-set-from-cells-4
 array-set-from-cells-4 c = search rules
 
 returns : tie.Need-returns
-unfolding lineBytes partsBytes saidLine
+unfolding line_bytes parts_bytes said_line
 returns c = refl
 
 pub line-with-spec : {M : Type 1} → statement M

@@ -1,7 +1,7 @@
 -- `call_log::call_line::line_with_two` meets its contract.
 use mathlib.Core.Path.{refl}
-use Rattle.call_log.specs.CallLine.{callLine}
-use Rattle.call_log.specs.Lines.{lineBytes, partsBytes, line_of}
+use Rattle.call_log.specs.CallLine.{call_line}
+use Rattle.call_log.specs.Lines.{line_bytes, parts_bytes, line_of}
 use borrow.Author.Rules.{rules}
 use Rattle.call_log.proofs.call_line.line_with_two.Statement.{statement}
 use Rattle.call_log.proofs.call_line.line_with_two.Tie as tie
@@ -22,7 +22,7 @@ array-set-from-cells-5 : tie.Need-array-set-from-cells-5
 array-set-from-cells-5 c = search rules
 
 returns : tie.Need-returns
-unfolding lineBytes partsBytes line_of callLine
+unfolding line_bytes parts_bytes line_of call_line
 returns c = refl
 
 pub line-with-two-spec : {M : Type 1} → statement M

@@ -1,5 +1,5 @@
 -- `call_log::call_line::scan_line` meets its contract.
-use Rattle.call_log.proofs.CallLineCases.{step-said}
+use Rattle.call_log.proofs.CallLineCases.{step_said}
 use mathlib.Core.Path.{◌∙◌}
 use borrow.Author.Rules.{rules}
 use Rattle.call_log.proofs.call_line.scan_line.Statement.{statement}
@@ -33,7 +33,7 @@ returns : tie.Need-returns
 returns c =
     let s = c.step_line in
     rw (c.before.before.before.before.enum_told.given.1, ← c.before.before.port-event-number.ensures, ← c.before.port.ensures)
-    (s.ensures ∙ step-said _ _ _ _ _ _ _ c.before.before.before.register-part.ensures)
+    (s.ensures ∙ step_said _ _ _ _ _ _ _ c.before.before.before.register-part.ensures)
 
 returns-2 : tie.Need-returns-2
 returns-2 c = rw (c.before.before.before.answer.given.1, ← c.before.number.ensures) c.bare-line.ensures

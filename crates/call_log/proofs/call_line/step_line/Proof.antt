@@ -1,6 +1,6 @@
 -- `call_log::call_line::step_line` meets its contract.
 use mathlib.Core.Path.{refl}
-use Rattle.call_log.specs.Lines.{lineBytes, partsBytes, saidLine}
+use Rattle.call_log.specs.Lines.{line_bytes, parts_bytes, said_line}
 use borrow.Author.Rules.{rules}
 use Rattle.call_log.proofs.call_line.step_line.Statement.{statement}
 use Rattle.call_log.proofs.call_line.step_line.Tie as tie
@@ -27,7 +27,7 @@ array-set-from-cells-7 : tie.Need-array-set-from-cells-7
 array-set-from-cells-7 c = search rules
 
 returns : tie.Need-returns
-unfolding lineBytes partsBytes saidLine
+unfolding line_bytes parts_bytes said_line
 returns c = refl
 
 pub step-line-spec : {M : Type 1} → statement M

@@ -1,6 +1,6 @@
 -- `call_log::fields::decode` meets its contract.
 use mathlib.Core.Path.{refl}
-use Rattle.call_log.proofs.FieldsLaws.{fields-ext}
+use Rattle.call_log.proofs.FieldsLaws.{fields_ext}
 use Rattle.call_log.specs.Fields.{fields_of}
 use borrow.Author.Rules.{rules}
 use Rattle.call_log.proofs.fields.decode.Statement.{statement}
@@ -54,7 +54,7 @@ number64-requires-7 c κs = search rules
 returns : tie.Need-returns
 unfolding fields_of
 returns c =
-    fields-ext (fields_of c.before.before.before.before.before.before.before.before.before.before.before.before.before.before.before.before.args.bytes.now) _ _ _ _ _ _ _ _ _ _ _ _ _ _ _ refl refl refl refl refl refl refl refl c.before.before.before.before.before.before.number64.ensures
+    fields_ext (fields_of c.before.before.before.before.before.before.before.before.before.before.before.before.before.before.before.before.args.bytes.now) _ _ _ _ _ _ _ _ _ _ _ _ _ _ _ refl refl refl refl refl refl refl refl c.before.before.before.before.before.before.number64.ensures
     c.before.before.before.before.before.number642.ensures c.before.before.before.before.number643.ensures c.before.before.before.number644.ensures c.before.before.number645.ensures c.before.number646.ensures
     c.number647.ensures
 

@@ -1,6 +1,6 @@
 -- `call_log::frames::goes_on` meets its contract.
 use borrow.Author.Tests.{le-ltb, lt-ltb}
-use Rattle.call_log.specs.Changes.{goesOn}
+use Rattle.call_log.specs.Changes.{goes_further}
 use borrow.Author.Rules.{rules}
 use Rattle.call_log.proofs.frames.goes_on.Statement.{statement}
 use Rattle.call_log.proofs.frames.goes_on.Tie as tie
@@ -54,11 +54,11 @@ shared-slice-read-result-6 : tie.Need-shared-slice-read-result-6
 shared-slice-read-result-6 c = search rules
 
 returns : tie.Need-returns
-unfolding goesOn
+unfolding goes_further
 returns c = rw (lt-ltb _ _ c.before.before.before.before.before.before.if1.true)
 
 returns-2 : tie.Need-returns-2
-unfolding goesOn
+unfolding goes_further
 returns-2 c = rw (le-ltb _ _ c.if1.false)
 
 pub goes-on-spec : {M : Type 1} → statement M

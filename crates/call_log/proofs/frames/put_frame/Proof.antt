@@ -1,6 +1,6 @@
 -- `call_log::frames::put_frame` meets its contract.
-use Rattle.call_log.specs.Lines.{frameLine}
-use Rattle.call_log.proofs.ChangeCases.{line-shown}
+use Rattle.call_log.specs.Lines.{frame_line}
+use Rattle.call_log.proofs.ChangeCases.{line_shown}
 use Rattle.text.proofs.LineLaws.{hidden}
 use borrow.Author.Rules.{rules}
 use Rattle.call_log.proofs.frames.put_frame.Statement.{statement}
@@ -20,13 +20,13 @@ returns c =
     let a = c.before.before.before.before.before.before.before.args in
     let h = c.before.before.before.before.frame-line in
     let p = c.before.before.put-line in
-    line-shown a.out.now a.at a.ends (frameLine a.first a.i a.value) p.new.0 p.result h.result
+    line_shown a.out.now a.at a.ends (frame_line a.first a.i a.value) p.new.0 p.result h.result
     c.before.before.before.before.before.if1.true h.ensures p.ensures.0 p.ensures.1
 
 returns-2 : tie.Need-returns-2
 returns-2 c =
     let a = c.before.before.args in
-    hidden a.out.now a.at a.ends (frameLine a.first a.i a.value) c.if1.false
+    hidden a.out.now a.at a.ends (frame_line a.first a.i a.value) c.if1.false
 
 pub put-frame-spec : {M : Type 1} → statement M
 put-frame-spec =

@@ -1,7 +1,7 @@
 -- `call_log::line::put_line` meets its contract.
 use native.Mathlib.Omega.{arith}
-use Rattle.call_log.proofs.Known.{cells-length}
-use Rattle.call_log.proofs.LineCases.{line-put, parts-most}
+use Rattle.call_log.proofs.Known.{cells_length}
+use Rattle.call_log.proofs.LineCases.{line_put, parts_most}
 use borrow.Author.Rules.{rules}
 use Rattle.call_log.proofs.line.put_line.Statement.{statement}
 use Rattle.call_log.proofs.line.put_line.Tie as tie
@@ -21,7 +21,7 @@ put-requires-2 c κs =
     let p = c.before.before.before.before.before.before.before.before.put in
     let q = c.before.before.before.put-parts in
     let n = c.before.before.before.before.least in
-    omega (arith, parts-most n.result a.line.cells 14 (omega (arith, n.ensures)), q.ensures.1, q.auto.0, p.auto.0, p.ensures.1)
+    omega (arith, parts_most n.result a.line.cells 14 (omega (arith, n.ensures)), q.ensures.1, q.auto.0, p.auto.0, p.ensures.1)
 
 same_length : tie.Need-same-length
 same_length c = search rules
@@ -32,8 +32,8 @@ returns c =
     let p = c.before.before.before.before.before.before.before.before.before.before.before.put in
     let q = c.before.before.before.before.before.before.put-parts in
     let s = c.before.before.put2 in
-    line-put a.out.now p.new.0 q.new.0 s.new.0 a.at p.result q.result s.result c.before.before.before.before.before.before.before.least.result a.line
-    (cells-length a.line c.before.before.before.before.before.before.before.before.before.before.before.before.before.before.before.well-formed.1.1.0) c.before.before.before.before.before.before.before.least.ensures (omega arith)
+    line_put a.out.now p.new.0 q.new.0 s.new.0 a.at p.result q.result s.result c.before.before.before.before.before.before.before.least.result a.line
+    (cells_length a.line c.before.before.before.before.before.before.before.before.before.before.before.before.before.before.before.well-formed.1.1.0) c.before.before.before.before.before.before.before.least.ensures (omega arith)
     p.ensures.0 p.ensures.1 q.ensures.0 q.ensures.1 s.ensures.0 s.ensures.1
 
 pub put-line-spec : {M : Type 1} → statement M

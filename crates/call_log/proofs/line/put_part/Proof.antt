@@ -1,5 +1,5 @@
 -- `call_log::line::put_part` meets its contract.
-use Rattle.call_log.proofs.LineCases.{part-byte, part-joined, part-put, part-word}
+use Rattle.call_log.proofs.LineCases.{part_byte, part_joined, part_put, part_word}
 use borrow.Author.Rules.{rules}
 use Rattle.call_log.proofs.line.put_part.Statement.{statement}
 use Rattle.call_log.proofs.line.put_part.Tie as tie
@@ -41,7 +41,7 @@ returns : tie.Need-returns
 returns c =
     let a = c.before.before.before.before.before.before.before.before.args in
     let p = c.before.before.put-spaced-decimal in
-    part-put a.out.now p.new.0 a.at p.result a.part _ c.before.before.before.before.before.part.given.1 p.ensures.0 p.ensures.1
+    part_put a.out.now p.new.0 a.at p.result a.part _ c.before.before.before.before.before.part.given.1 p.ensures.0 p.ensures.1
 
 same-length-2 : tie.Need-same-length-2
 same-length-2 c = search rules
@@ -50,7 +50,7 @@ returns-2 : tie.Need-returns-2
 returns-2 c =
     let a = c.before.before.before.before.before.before.before.before.args in
     let p = c.before.before.put-spaced-hex in
-    part-word a.out.now p.new.0 a.at p.result a.part _ c.before.before.before.before.before.part2.given.1 p.ensures.0 p.ensures.1
+    part_word a.out.now p.new.0 a.at p.result a.part _ c.before.before.before.before.before.part2.given.1 p.ensures.0 p.ensures.1
 
 same-length-3 : tie.Need-same-length-3
 same-length-3 c = search rules
@@ -59,7 +59,7 @@ returns-3 : tie.Need-returns-3
 returns-3 c =
     let a = c.before.before.before.before.before.before.before.before.args in
     let p = c.before.before.put-spaced-hex2 in
-    part-byte a.out.now p.new.0 a.at p.result a.part _ c.before.before.before.before.before.part3.given.1 p.ensures.0 p.ensures.1
+    part_byte a.out.now p.new.0 a.at p.result a.part _ c.before.before.before.before.before.part3.given.1 p.ensures.0 p.ensures.1
 
 same-length-4 : tie.Need-same-length-4
 same-length-4 c = search rules
@@ -68,7 +68,7 @@ returns-4 : tie.Need-returns-4
 returns-4 c =
     let a = c.before.before.before.before.before.before.before.before.args in
     let p = c.before.before.put-hex in
-    part-joined a.out.now p.new.0 a.at p.result a.part _ c.before.before.before.before.before.part4.given.1 p.ensures.0 p.ensures.1
+    part_joined a.out.now p.new.0 a.at p.result a.part _ c.before.before.before.before.before.part4.given.1 p.ensures.0 p.ensures.1
 
 same-length-5 : tie.Need-same-length-5
 same-length-5 c = search rules
@@ -77,7 +77,7 @@ returns-5 : tie.Need-returns-5
 returns-5 c =
     let a = c.before.before.before.before.before.before.before.args in
     let p = c.before.before.put-dash in
-    part-put a.out.now p.new.0 a.at p.result a.part _ c.before.before.before.before.enum_told.given.1 p.ensures.0 p.ensures.1
+    part_put a.out.now p.new.0 a.at p.result a.part _ c.before.before.before.before.enum_told.given.1 p.ensures.0 p.ensures.1
 
 pub put-part-spec : {M : Type 1} → statement M
 put-part-spec =

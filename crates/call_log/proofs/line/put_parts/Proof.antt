@@ -1,7 +1,7 @@
 -- `call_log::line::put_parts` meets its contract.
 use Rattle.common.specs.Rows.{put_at}
-use Rattle.call_log.specs.Lines.{partsBytes}
-use Rattle.call_log.proofs.LineCases.{parts-most, parts_none, parts-turn}
+use Rattle.call_log.specs.Lines.{parts_bytes}
+use Rattle.call_log.proofs.LineCases.{parts_most, parts_none, parts_turn}
 use Rattle.core.specs.Prelude.{◌≡◌, ◌+◌, ◌-◌, ◌*◌, ◌≤◌, length, take}
 use mathlib.Core.Path.{refl, ◌∙◌}
 use native.Mathlib.Omega.{arith}
@@ -11,8 +11,8 @@ use Rattle.call_log.proofs.line.put_parts.Tie as tie
 
 abbrev invariant-loop : tie.invariant-loop
 invariant-loop out₀ at count cells place₀ i₀ out place i =
-    (i ≤ count) × (length out ≡ length out₀) × (place ≤ at + 21 * i) × (out ≡ put_at out₀ at (partsBytes (take i cells)))
-    × (place ≡ at + length (partsBytes (take i cells)))
+    (i ≤ count) × (length out ≡ length out₀) × (place ≤ at + 21 * i) × (out ≡ put_at out₀ at (parts_bytes (take i cells)))
+    × (place ≡ at + length (parts_bytes (take i cells)))
 
 abbrev decreases-loop : tie.decreases-loop
 decreases-loop out₀ at count cells place₀ i₀ out place i = count - i
@@ -42,10 +42,10 @@ loop-again : tie.Need-loop-preserved invariant-loop decreases-loop
 loop-again c =
     let a = c.before.before.before.before.before.before.before.before.args in
     let l = c.before.before.before.before.before.before.loop in
-    let p = c.before.before.put-part in
+    let p = c.before.before.put_part_lem in
     let whole : length a.t3 ≡ 14 = c.before.before.before.before.before.before.before.before.well-formed.1.1.0.1.0.1 in
-    let turned = parts-turn a.out.now l.out p.new.0 a.at l.place p.result l.i a.t3 _ (omega arith) (omega arith) l.invariant.3 l.invariant.4 p.ensures.0 p.ensures.1 in
-    (omega arith, p.auto.0 ∙ l.invariant.1, omega (arith, turned.1, parts-most (l.i + 1) a.t3 (l.i + 1) (omega arith)), turned.0, turned.1)
+    let turned = parts_turn a.out.now l.out p.new.0 a.at l.place p.result l.i a.t3 _ (omega arith) (omega arith) l.invariant.3 l.invariant.4 p.ensures.0 p.ensures.1 in
+    (omega arith, p.auto.0 ∙ l.invariant.1, omega (arith, turned.1, parts_most (l.i + 1) a.t3 (l.i + 1) (omega arith)), turned.0, turned.1)
 
 same_length : tie.Need-same-length invariant-loop decreases-loop
 same_length c = c.before.loop.invariant.1

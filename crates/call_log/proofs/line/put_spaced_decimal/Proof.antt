@@ -1,7 +1,7 @@
 -- `call_log::line::put_spaced_decimal` meets its contract.
 use native.Mathlib.Omega.{arith}
 use Rattle.text.specs.Text.{decimal}
-use Rattle.call_log.proofs.LineCases.{byte-then}
+use Rattle.call_log.proofs.LineCases.{byte_then}
 use borrow.Author.Rules.{rules}
 use Rattle.call_log.proofs.line.put_spaced_decimal.Statement.{statement}
 use Rattle.call_log.proofs.line.put_spaced_decimal.Tie as tie
@@ -20,7 +20,7 @@ returns c =
     let a = c.before.before.before.before.before.before.before.before.before.args in
     let p = c.before.before.before.before.before.before.put in
     let q = c.before.before.put-decimal in
-    byte-then a.out.now p.new.0 q.new.0 (decimal a.n) a.at p.result q.result 32 (omega arith) p.ensures.0 p.ensures.1
+    byte_then a.out.now p.new.0 q.new.0 (decimal a.n) a.at p.result q.result 32 (omega arith) p.ensures.0 p.ensures.1
     q.ensures.0 q.ensures.1
 
 pub put-spaced-decimal-spec : {M : Type 1} → statement M

@@ -1,6 +1,6 @@
 -- `call_log::line::put_spaced_hex` meets its contract.
 use native.Mathlib.Omega.{arith}
-use Rattle.call_log.proofs.LineCases.{hex-then}
+use Rattle.call_log.proofs.LineCases.{hex_then}
 use borrow.Author.Rules.{rules}
 use Rattle.call_log.proofs.line.put_spaced_hex.Statement.{statement}
 use Rattle.call_log.proofs.line.put_spaced_hex.Tie as tie
@@ -19,7 +19,7 @@ returns c =
     let a = c.before.before.before.before.before.before.before.before.before.args in
     let p = c.before.before.before.before.before.before.put in
     let q = c.before.before.put-hex in
-    hex-then a.out.now p.new.0 q.new.0 a.at p.result q.result 32 a.n a.digits (omega arith) p.ensures.0 p.ensures.1
+    hex_then a.out.now p.new.0 q.new.0 a.at p.result q.result 32 a.n a.digits (omega arith) p.ensures.0 p.ensures.1
     q.ensures.0 q.ensures.1
 
 pub put-spaced-hex-spec : {M : Type 1} → statement M

@@ -1,7 +1,7 @@
 -- `call_log::lines::frame_line` meets its contract.
 use native.Mathlib.Omega.{arith}
 use mathlib.Core.Path.{refl}
-use Rattle.call_log.specs.Lines.{saidLine, line_of, frameLine}
+use Rattle.call_log.specs.Lines.{said_line, line_of, frame_line}
 use borrow.Author.Rules.{rules}
 use Rattle.call_log.proofs.lines.frame_line.Statement.{statement}
 use Rattle.call_log.proofs.lines.frame_line.Tie as tie
@@ -10,7 +10,7 @@ line-of-three-requires : tie.Need-line-of-three-requires
 line-of-three-requires c κs = search rules
 
 returns : tie.Need-returns
-unfolding saidLine line_of frameLine
+unfolding said_line line_of frame_line
 returns c = c.line-of-three.ensures
 
 pub frame-line-spec : {M : Type 1} → statement M

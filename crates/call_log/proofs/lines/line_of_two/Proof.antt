@@ -1,6 +1,6 @@
 -- `call_log::lines::line_of_two` meets its contract.
 use mathlib.Core.Path.{refl}
-use Rattle.call_log.specs.Lines.{lineBytes, partsBytes, saidLine}
+use Rattle.call_log.specs.Lines.{line_bytes, parts_bytes, said_line}
 use borrow.Author.Rules.{rules}
 use Rattle.call_log.proofs.lines.line_of_two.Statement.{statement}
 use Rattle.call_log.proofs.lines.line_of_two.Tie as tie
@@ -12,7 +12,7 @@ array-set-from-cells-2 : tie.Need-array-set-from-cells-2
 array-set-from-cells-2 c = search rules
 
 returns : tie.Need-returns
-unfolding lineBytes partsBytes saidLine
+unfolding line_bytes parts_bytes said_line
 returns c = refl
 
 pub line-of-two-spec : {M : Type 1} → statement M

@@ -1,7 +1,7 @@
 -- `call_log::lines::port_line` meets its contract.
 use native.Mathlib.Omega.{arith}
 use mathlib.Core.Path.{refl}
-use Rattle.call_log.specs.Lines.{saidLine, line_of, portLine}
+use Rattle.call_log.specs.Lines.{said_line, line_of, port_line}
 use borrow.Author.Rules.{rules}
 use Rattle.call_log.proofs.lines.port_line.Statement.{statement}
 use Rattle.call_log.proofs.lines.port_line.Tie as tie
@@ -10,7 +10,7 @@ line-of-two-requires : tie.Need-line-of-two-requires
 line-of-two-requires c κs = search rules
 
 returns : tie.Need-returns
-unfolding saidLine line_of portLine
+unfolding said_line line_of port_line
 returns c = c.line-of-two.ensures
 
 pub port-line-spec : {M : Type 1} → statement M

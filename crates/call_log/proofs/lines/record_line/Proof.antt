@@ -1,6 +1,6 @@
 -- `call_log::lines::record_line` meets its contract.
 use mathlib.Core.Path.{refl}
-use Rattle.call_log.specs.Lines.{lineBytes, partsBytes, line_of, recordLine}
+use Rattle.call_log.specs.Lines.{line_bytes, parts_bytes, line_of, record_line}
 use borrow.Author.Rules.{rules}
 use Rattle.call_log.proofs.lines.record_line.Statement.{statement}
 use Rattle.call_log.proofs.lines.record_line.Tie as tie
@@ -78,7 +78,7 @@ array-set-from-cells-14 : tie.Need-array-set-from-cells-14
 array-set-from-cells-14 c = search rules
 
 returns : tie.Need-returns
-unfolding lineBytes partsBytes line_of recordLine
+unfolding line_bytes parts_bytes line_of record_line
 returns c = refl
 
 pub record-line-spec : {M : Type 1} → statement M

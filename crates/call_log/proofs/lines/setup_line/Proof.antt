@@ -1,6 +1,6 @@
 -- `call_log::lines::setup_line` meets its contract.
 use mathlib.Core.Path.{refl}
-use Rattle.call_log.specs.Lines.{lineBytes, line_of, partsBytes, setupLine}
+use Rattle.call_log.specs.Lines.{line_bytes, line_of, parts_bytes, setup_line}
 use Rattle.text.specs.Text.{hex}
 use borrow.Author.Rules.{rules}
 use Rattle.call_log.proofs.lines.setup_line.Statement.{statement}
@@ -34,7 +34,7 @@ array-set-from-cells-9 : tie.Need-array-set-from-cells-9
 array-set-from-cells-9 c = search rules
 
 returns : tie.Need-returns
-unfolding lineBytes partsBytes line_of setupLine hex
+unfolding line_bytes parts_bytes line_of setup_line hex
 returns c = refl
 
 pub setup-line-spec : {M : Type 1} → statement M

@@ -1,7 +1,7 @@
 -- `call_log::lines::shown` meets its contract.
 use native.Mathlib.Omega.{arith}
 use mathlib.Core.Path.{refl, ap, ◌∙◌}
-use Rattle.call_log.specs.Words.{shownIn}
+use Rattle.call_log.specs.Words.{shown_in}
 use borrow.Author.Rules.{rules}
 use Rattle.call_log.proofs.lines.shown.Statement.{statement}
 use Rattle.call_log.proofs.lines.shown.Tie as tie
@@ -10,7 +10,7 @@ free-count-requires : tie.Need-free-count-requires
 free-count-requires c κs = search rules
 
 returns : tie.Need-returns
-unfolding shownIn
+unfolding shown_in
 returns c = rw c.free-count.ensures
 
 pub shown-spec : {M : Type 1} → statement M

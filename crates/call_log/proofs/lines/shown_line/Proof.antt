@@ -1,6 +1,6 @@
 -- `call_log::lines::shown_line` meets its contract.
 use mathlib.Core.Path.{refl, ap, ◌∙◌}
-use Rattle.call_log.specs.Lines.{lineBytes, partsBytes, line_of, shownLine}
+use Rattle.call_log.specs.Lines.{line_bytes, parts_bytes, line_of, shown_line}
 use borrow.Author.Rules.{rules}
 use Rattle.call_log.proofs.lines.shown_line.Statement.{statement}
 use Rattle.call_log.proofs.lines.shown_line.Tie as tie
@@ -51,7 +51,7 @@ array-set-from-cells-9 : tie.Need-array-set-from-cells-9
 array-set-from-cells-9 c = search rules
 
 returns : tie.Need-returns
-unfolding lineBytes partsBytes line_of shownLine
+unfolding line_bytes parts_bytes line_of shown_line
 returns c = refl
 
 pub shown-line-spec : {M : Type 1} → statement M

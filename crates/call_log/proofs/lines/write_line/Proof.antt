@@ -1,7 +1,7 @@
 -- `call_log::lines::write_line` meets its contract.
 use native.Mathlib.Omega.{arith}
 use mathlib.Core.Path.{refl}
-use Rattle.call_log.specs.Lines.{saidLine, line_of, writeLine}
+use Rattle.call_log.specs.Lines.{said_line, line_of, write_line}
 use borrow.Author.Rules.{rules}
 use Rattle.call_log.proofs.lines.write_line.Statement.{statement}
 use Rattle.call_log.proofs.lines.write_line.Tie as tie
@@ -10,7 +10,7 @@ line-of-two-requires : tie.Need-line-of-two-requires
 line-of-two-requires c κs = search rules
 
 returns : tie.Need-returns
-unfolding saidLine line_of writeLine
+unfolding said_line line_of write_line
 returns c = c.line-of-two.ensures
 
 pub write-line-spec : {M : Type 1} → statement M

@@ -1,5 +1,5 @@
 -- `call_log::record::bring_up_step` meets its contract.
-use Rattle.call_log.specs.Records.{bringUpStep}
+use Rattle.call_log.specs.Records.{bring_up_step}
 use borrow.Author.Rules.{rules}
 use Rattle.call_log.proofs.record.bring_up_step.Statement.{statement}
 use Rattle.call_log.proofs.record.bring_up_step.Tie as tie
@@ -14,7 +14,7 @@ guard-requires : tie.Need-guard-requires
 guard-requires c κs = search rules
 
 returns : tie.Need-returns
-unfolding bringUpStep
+unfolding bring_up_step
 returns c = rw (← c.before.before.before.spare.ensures, ← c.before.low_word.ensures) c.guard.ensures
 
 pub bring-up-step-spec : {M : Type 1} → statement M

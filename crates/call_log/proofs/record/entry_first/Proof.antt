@@ -1,6 +1,6 @@
 -- `call_log::record::entry_first` meets its contract.
-use Rattle.call_log.specs.Records.{judgedAs}
-use Rattle.call_log.proofs.RecordCases.{judged-at, judged-none}
+use Rattle.call_log.specs.Records.{judged_as}
+use Rattle.call_log.proofs.RecordCases.{judged_at, judged_none}
 use borrow.Author.Rules.{rules}
 use Rattle.call_log.proofs.record.entry_first.Statement.{statement}
 use Rattle.call_log.proofs.record.entry_first.Tie as tie
@@ -30,41 +30,41 @@ set-packet-size-requires : tie.Need-set-packet-size-requires
 set-packet-size-requires c κs = search rules
 
 returns : tie.Need-returns
-unfolding judgedAs
-returns c = judged-at _ 1 _ _ c.before.match.keys1 c.«open».ensures
+unfolding judged_as
+returns c = judged_at _ 1 _ _ c.before.match.keys1 c.«open».ensures
 
 returns-2 : tie.Need-returns-2
-unfolding judgedAs
-returns-2 c = judged-at _ 2 _ _ c.before.match.keys2 c.plain_entry.ensures
+unfolding judged_as
+returns-2 c = judged_at _ 2 _ _ c.before.match.keys2 c.plain_entry.ensures
 
 returns-3 : tie.Need-returns-3
-unfolding judgedAs
-returns-3 c = judged-at _ 3 _ _ c.before.match.keys3 c.bring-up-step.ensures
+unfolding judged_as
+returns-3 c = judged_at _ 3 _ _ c.before.match.keys3 c.bring-up-step.ensures
 
 returns-4 : tie.Need-returns-4
-unfolding judgedAs
-returns-4 c = judged-at _ 4 _ _ c.before.match.keys4 c.plain-entry2.ensures
+unfolding judged_as
+returns-4 c = judged_at _ 4 _ _ c.before.match.keys4 c.plain-entry2.ensures
 
 returns-5 : tie.Need-returns-5
-unfolding judgedAs
-returns-5 c = judged-at _ 5 _ _ c.before.match.keys5 c.open-endpoint.ensures
+unfolding judged_as
+returns-5 c = judged_at _ 5 _ _ c.before.match.keys5 c.open-endpoint.ensures
 
 returns-6 : tie.Need-returns-6
-unfolding judgedAs
-returns-6 c = judged-at _ 6 _ _ c.before.match.keys6 c.close-slot.ensures
+unfolding judged_as
+returns-6 c = judged_at _ 6 _ _ c.before.match.keys6 c.close-slot.ensures
 
 returns-7 : tie.Need-returns-7
-unfolding judgedAs
-returns-7 c = judged-at _ 7 _ _ c.before.match.keys7 c.set-address.ensures
+unfolding judged_as
+returns-7 c = judged_at _ 7 _ _ c.before.match.keys7 c.set-address.ensures
 
 returns-8 : tie.Need-returns-8
-unfolding judgedAs
-returns-8 c = judged-at _ 8 _ _ c.before.match.keys8 c.set-packet-size.ensures
+unfolding judged_as
+returns-8 c = judged_at _ 8 _ _ c.before.match.keys8 c.set-packet-size.ensures
 
 returns-9 : tie.Need-returns-9
 returns-9 c =
     let r = c.match.rest in
-    judged-none c.before.args.f.number c.before.args.f c.before.requires r.0.0.0.0.0.0.0.1 r.0.0.0.0.0.0.1 r.0.0.0.0.0.1 r.0.0.0.0.1 r.0.0.0.1 r.0.0.1 r.0.1 r.1
+    judged_none c.before.args.f.number c.before.args.f c.before.requires r.0.0.0.0.0.0.0.1 r.0.0.0.0.0.0.1 r.0.0.0.0.0.1 r.0.0.0.0.1 r.0.0.0.1 r.0.0.1 r.0.1 r.1
 
 pub entry-first-spec : {M : Type 1} → statement M
 entry-first-spec =

@@ -1,8 +1,8 @@
 -- `call_log::record::entry_second` meets its contract.
 use Rattle.core.specs.Prelude.{◌≡◌}
 use native.Mathlib.Omega.{arith}
-use Rattle.call_log.specs.Records.{judgedAs}
-use Rattle.call_log.proofs.RecordCases.{judged-at}
+use Rattle.call_log.specs.Records.{judged_as}
+use Rattle.call_log.proofs.RecordCases.{judged_at}
 use borrow.Author.Rules.{rules}
 use Rattle.call_log.proofs.record.entry_second.Statement.{statement}
 use Rattle.call_log.proofs.record.entry_second.Tie as tie
@@ -26,31 +26,31 @@ drain-events-requires : tie.Need-drain-events-requires
 drain-events-requires c κs = search rules
 
 returns : tie.Need-returns
-unfolding judgedAs
-returns c = judged-at _ 9 _ _ c.before.match.keys1 c.submit-request.ensures
+unfolding judged_as
+returns c = judged_at _ 9 _ _ c.before.match.keys1 c.submit-request.ensures
 
 returns-2 : tie.Need-returns-2
-unfolding judgedAs
-returns-2 c = judged-at _ 10 _ _ c.before.match.keys2 c.write-back.ensures
+unfolding judged_as
+returns-2 c = judged_at _ 10 _ _ c.before.match.keys2 c.write-back.ensures
 
 returns-3 : tie.Need-returns-3
-unfolding judgedAs
-returns-3 c = judged-at _ 11 _ _ c.before.match.keys3 c.cancel-request.ensures
+unfolding judged_as
+returns-3 c = judged_at _ 11 _ _ c.before.match.keys3 c.cancel-request.ensures
 
 returns-4 : tie.Need-returns-4
-unfolding judgedAs
-returns-4 c = judged-at _ 12 _ _ c.before.match.keys4 c.collect-request.ensures
+unfolding judged_as
+returns-4 c = judged_at _ 12 _ _ c.before.match.keys4 c.collect-request.ensures
 
 returns-5 : tie.Need-returns-5
-unfolding judgedAs
-returns-5 c = judged-at _ 13 _ _ c.before.match.keys5 c.acknowledge-interrupt.ensures
+unfolding judged_as
+returns-5 c = judged_at _ 13 _ _ c.before.match.keys5 c.acknowledge-interrupt.ensures
 
 returns-6 : tie.Need-returns-6
-unfolding judgedAs
+unfolding judged_as
 returns-6 c =
     let r = c.before.match.rest in
     let last : c.before.before.args.f.number ≡ 14 = omega (arith, c.before.before.requires, r.0.0.0.0.1, r.0.0.0.1, r.0.0.1, r.0.1, r.1) in
-    judged-at _ 14 _ _ last c.drain-events.ensures
+    judged_at _ 14 _ _ last c.drain-events.ensures
 
 pub entry-second-spec : {M : Type 1} → statement M
 entry-second-spec =

@@ -1,7 +1,7 @@
 -- `call_log::record::entry_third` meets its contract.
 use native.Mathlib.Omega.{arith}
-use Rattle.call_log.specs.Records.{judgedAs}
-use Rattle.call_log.proofs.RecordCases.{judged-at, judged-rest}
+use Rattle.call_log.specs.Records.{judged_as}
+use Rattle.call_log.proofs.RecordCases.{judged_at, judged_rest}
 use borrow.Author.Rules.{rules}
 use Rattle.call_log.proofs.record.entry_third.Statement.{statement}
 use Rattle.call_log.proofs.record.entry_third.Tie as tie
@@ -28,37 +28,37 @@ clear-halt-requires : tie.Need-clear-halt-requires
 clear-halt-requires c κs = search rules
 
 returns : tie.Need-returns
-unfolding judgedAs
-returns c = judged-at _ 15 _ _ c.before.match.keys1 c.plain_entry.ensures
+unfolding judged_as
+returns c = judged_at _ 15 _ _ c.before.match.keys1 c.plain_entry.ensures
 
 returns-2 : tie.Need-returns-2
-unfolding judgedAs
-returns-2 c = judged-at _ 16 _ _ c.before.match.keys2 c.plain-entry2.ensures
+unfolding judged_as
+returns-2 c = judged_at _ 16 _ _ c.before.match.keys2 c.plain-entry2.ensures
 
 returns-3 : tie.Need-returns-3
-unfolding judgedAs
-returns-3 c = judged-at _ 17 _ _ c.before.match.keys3 c.plain-entry3.ensures
+unfolding judged_as
+returns-3 c = judged_at _ 17 _ _ c.before.match.keys3 c.plain-entry3.ensures
 
 returns-4 : tie.Need-returns-4
-unfolding judgedAs
-returns-4 c = judged-at _ 18 _ _ c.before.match.keys4 c.plain-entry4.ensures
+unfolding judged_as
+returns-4 c = judged_at _ 18 _ _ c.before.match.keys4 c.plain-entry4.ensures
 
 returns-5 : tie.Need-returns-5
-unfolding judgedAs
-returns-5 c = judged-at _ 19 _ _ c.before.match.keys5 c.Scan-step.ensures
+unfolding judged_as
+returns-5 c = judged_at _ 19 _ _ c.before.match.keys5 c.Scan-step.ensures
 
 returns-6 : tie.Need-returns-6
-unfolding judgedAs
-returns-6 c = judged-at _ 20 _ _ c.before.match.keys6 c.port-power.ensures
+unfolding judged_as
+returns-6 c = judged_at _ 20 _ _ c.before.match.keys6 c.port-power.ensures
 
 returns-7 : tie.Need-returns-7
-unfolding judgedAs
-returns-7 c = judged-at _ 21 _ _ c.before.match.keys7 c.clear-halt.ensures
+unfolding judged_as
+returns-7 c = judged_at _ 21 _ _ c.before.match.keys7 c.clear-halt.ensures
 
 returns-8 : tie.Need-returns-8
 returns-8 c =
     let r = c.match.rest in
-    judged-rest c.before.args.f.number c.before.args.f c.before.requires r.0.0.0.0.0.0.1 r.0.0.0.0.0.1 r.0.0.0.0.1 r.0.0.0.1 r.0.0.1 r.0.1 r.1
+    judged_rest c.before.args.f.number c.before.args.f c.before.requires r.0.0.0.0.0.0.1 r.0.0.0.0.0.1 r.0.0.0.0.1 r.0.0.0.1 r.0.0.1 r.0.1 r.1
 
 pub entry-third-spec : {M : Type 1} → statement M
 entry-third-spec =

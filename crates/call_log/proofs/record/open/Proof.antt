@@ -1,5 +1,5 @@
 -- `call_log::record::open` meets its contract.
-use Rattle.call_log.specs.Records.{openEntry}
+use Rattle.call_log.specs.Records.{open_entry}
 use borrow.Author.Rules.{rules}
 use Rattle.call_log.proofs.record.open.Statement.{statement}
 use Rattle.call_log.proofs.record.open.Tie as tie
@@ -11,7 +11,7 @@ guard-requires : tie.Need-guard-requires
 guard-requires c κs = search rules
 
 returns : tie.Need-returns
-unfolding openEntry
+unfolding open_entry
 returns c = rw (← c.before.spare.ensures) c.guard.ensures
 
 pub open_spec : {M : Type 1} → statement M

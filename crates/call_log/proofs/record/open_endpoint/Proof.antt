@@ -1,5 +1,5 @@
 -- `call_log::record::open_endpoint` meets its contract.
-use Rattle.call_log.specs.Records.{openEndpoint}
+use Rattle.call_log.specs.Records.{open_endpoint}
 use borrow.Author.Rules.{rules}
 use Rattle.call_log.proofs.record.open_endpoint.Statement.{statement}
 use Rattle.call_log.proofs.record.open_endpoint.Tie as tie
@@ -17,7 +17,7 @@ guard-requires : tie.Need-guard-requires
 guard-requires c κs = search rules
 
 returns : tie.Need-returns
-unfolding openEndpoint
+unfolding open_endpoint
 returns c = rw (← c.before.before.before.spare.ensures, ← c.before.before.before.before.low-size.ensures, ← c.before.before.before.before.before.kind-of.ensures) c.guard.ensures
 
 pub open-endpoint-spec : {M : Type 1} → statement M

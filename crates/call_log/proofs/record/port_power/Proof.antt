@@ -1,5 +1,5 @@
 -- `call_log::record::port_power` meets its contract.
-use Rattle.call_log.specs.Records.{portPower}
+use Rattle.call_log.specs.Records.{port_power}
 use borrow.Author.Rules.{rules}
 use Rattle.call_log.proofs.record.port_power.Statement.{statement}
 use Rattle.call_log.proofs.record.port_power.Tie as tie
@@ -14,7 +14,7 @@ guard-requires : tie.Need-guard-requires
 guard-requires c κs = search rules
 
 returns : tie.Need-returns
-unfolding portPower
+unfolding port_power
 returns c = rw (← c.before.before.before.spare.ensures, ← c.before.low_word.ensures) c.guard.ensures
 
 pub port-power-spec : {M : Type 1} → statement M

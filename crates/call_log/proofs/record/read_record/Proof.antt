@@ -1,12 +1,12 @@
 -- `call_log::record::read_record` meets its contract.
 use native.Mathlib.Omega.{arith}
-use Rattle.call_log.proofs.RecordCases.{entry-cut, entry_whole}
+use Rattle.call_log.proofs.RecordCases.{entry_cut, entry_whole}
 use borrow.Author.Rules.{rules}
 use Rattle.call_log.proofs.record.read_record.Statement.{statement}
 use Rattle.call_log.proofs.record.read_record.Tie as tie
 
 returns : tie.Need-returns
-returns c = entry-cut _ c.if1.true
+returns c = entry_cut _ c.if1.true
 
 decode-requires : tie.Need-decode-requires
 decode-requires c κs = search rules

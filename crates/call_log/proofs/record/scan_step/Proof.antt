@@ -1,5 +1,5 @@
 -- `call_log::record::scan_step` meets its contract.
-use Rattle.call_log.specs.Records.{scanStep}
+use Rattle.call_log.specs.Records.{scan_step}
 use borrow.Author.Rules.{rules}
 use Rattle.call_log.proofs.record.scan_step.Statement.{statement}
 use Rattle.call_log.proofs.record.scan_step.Tie as tie
@@ -14,7 +14,7 @@ guard-requires : tie.Need-guard-requires
 guard-requires c κs = search rules
 
 returns : tie.Need-returns
-unfolding scanStep
+unfolding scan_step
 returns c = rw (← c.before.before.before.spare.ensures, ← c.before.low_word.ensures) c.guard.ensures
 
 pub scan-step-spec : {M : Type 1} → statement M

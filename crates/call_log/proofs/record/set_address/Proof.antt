@@ -1,5 +1,5 @@
 -- `call_log::record::set_address` meets its contract.
-use Rattle.call_log.specs.Records.{setAddress}
+use Rattle.call_log.specs.Records.{set_address}
 use borrow.Author.Rules.{rules}
 use Rattle.call_log.proofs.record.set_address.Statement.{statement}
 use Rattle.call_log.proofs.record.set_address.Tie as tie
@@ -11,7 +11,7 @@ guard-requires : tie.Need-guard-requires
 guard-requires c κs = search rules
 
 returns : tie.Need-returns
-unfolding setAddress
+unfolding set_address
 returns c = rw (← c.before.spare.ensures) c.guard.ensures
 
 pub set-address-spec : {M : Type 1} → statement M

@@ -1,5 +1,5 @@
 -- `call_log::record::set_packet_size` meets its contract.
-use Rattle.call_log.specs.Records.{setPacketSize}
+use Rattle.call_log.specs.Records.{set_packet_size}
 use borrow.Author.Rules.{rules}
 use Rattle.call_log.proofs.record.set_packet_size.Statement.{statement}
 use Rattle.call_log.proofs.record.set_packet_size.Tie as tie
@@ -11,7 +11,7 @@ guard-requires : tie.Need-guard-requires
 guard-requires c κs = search rules
 
 returns : tie.Need-returns
-unfolding setPacketSize
+unfolding set_packet_size
 returns c = rw (← c.before.spare.ensures) c.guard.ensures
 
 pub set-packet-size-spec : {M : Type 1} → statement M

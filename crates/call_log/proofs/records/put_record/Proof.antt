@@ -1,7 +1,7 @@
 -- `call_log::records::put_record` meets its contract.
 use mathlib.Core.Path.{sym, ◌∙◌}
-use Rattle.call_log.specs.Changes.{recordChange, sameRecord}
-use Rattle.call_log.specs.Lines.{recordLine}
+use Rattle.call_log.specs.Changes.{record_change, same_record}
+use Rattle.call_log.specs.Lines.{record_line}
 use Rattle.call_log.proofs.ChangeCases.{shows, stays}
 use borrow.Author.Rules.{rules}
 use Rattle.call_log.proofs.records.put_record.Statement.{statement}
@@ -11,10 +11,10 @@ same-record-requires : tie.Need-same-record-requires
 same-record-requires c κs = search rules
 
 returns : tie.Need-returns
-unfolding recordChange
+unfolding record_change
 returns c =
     let a = c.before.before.before.args in
-    stays a.out.now a.at (sameRecord a.before a.after) (recordLine a.place a.after) (sym c.before.same-record.ensures ∙ c.if1.true)
+    stays a.out.now a.at (same_record a.before a.after) (record_line a.place a.after) (sym c.before.same-record.ensures ∙ c.if1.true)
 
 record-line-requires : tie.Need-record-line-requires
 record-line-requires c κs = search rules
@@ -26,12 +26,12 @@ same_length : tie.Need-same-length
 same_length c = search rules
 
 returns-2 : tie.Need-returns-2
-unfolding recordChange
+unfolding record_change
 returns-2 c =
     let a = c.before.before.before.before.before.before.before.before.args in
     let h = c.before.before.before.before.record-line in
     let q = c.before.before.put-line in
-    shows a.out.now a.at (sameRecord a.before a.after) (recordLine a.place a.after) q.new.0 q.result h.result
+    shows a.out.now a.at (same_record a.before a.after) (record_line a.place a.after) q.new.0 q.result h.result
     (sym c.before.before.before.before.before.before.same-record.ensures ∙ c.before.before.before.before.before.if1.false) h.ensures q.ensures.0 q.ensures.1
 
 pub put-record-spec : {M : Type 1} → statement M

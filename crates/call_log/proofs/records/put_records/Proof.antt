@@ -1,24 +1,24 @@
 -- `call_log::records::put_records` meets its contract.
 use Rattle.common.specs.Rows.{put_at}
-use Rattle.text.specs.Text.{linesTo}
-use Rattle.text.proofs.LineLaws.{lines-most, lines_none, lines-turn}
+use Rattle.text.specs.Text.{lines_to}
+use Rattle.text.proofs.LineLaws.{lines_most, lines_none, lines_turn}
 use Rattle.core.specs.Prelude.{◌≡◌, ℕ, ◌+◌, ◌-◌, ◌*◌, ◌≤◌, List, length, get_or}
 use mathlib.Core.Path.{refl, ap, ◌∙◌}
 use native.Mathlib.Omega.{arith}
 use borrow.Author.Rules.{rules}
 use Rattle.descriptor.specs.declared.qtd.QueueTransferDescriptor.{QueueTransferDescriptor}
 use Rattle.pool.specs.Chains.{blank}
-use Rattle.call_log.specs.Changes.{recordChange}
-use Rattle.call_log.proofs.ChangeCases.{record-any, record-most}
+use Rattle.call_log.specs.Changes.{record_change}
+use Rattle.call_log.proofs.ChangeCases.{record_any, record_most}
 use Rattle.call_log.proofs.records.put_records.Statement.{statement}
 use Rattle.call_log.proofs.records.put_records.Tie as tie
 
 abbrev said_of : List QueueTransferDescriptor → List QueueTransferDescriptor → ℕ → List ℕ
-said_of before after i = recordChange i (get_or before i blank) (get_or after i blank)
+said_of before after i = record_change i (get_or before i blank) (get_or after i blank)
 
 abbrev invariant-loop : tie.invariant-loop
 invariant-loop out₀ at before after place₀ i₀ out place i =
-    (i ≤ 257) × (length out ≡ length out₀) × (out ≡ put_at out₀ at (linesTo (said_of before after) i)) × (place ≡ at + length (linesTo (said_of before after) i))
+    (i ≤ 257) × (length out ≡ length out₀) × (out ≡ put_at out₀ at (lines_to (said_of before after) i)) × (place ≡ at + length (lines_to (said_of before after) i))
 
 abbrev decreases-loop : tie.decreases-loop
 decreases-loop out₀ at before after place₀ i₀ out place i = 257 - i
@@ -42,7 +42,7 @@ array-copy-out-new : tie.Need-array-copy-out-new invariant-loop decreases-loop
 array-copy-out-new c = omega arith
 
 put-record-requires : tie.Need-put-record-requires invariant-loop decreases-loop
-put-record-requires c κs = omega (arith, lines-most (said_of c.before.before.before.before.before.before.args.t3 c.before.before.before.before.before.before.args.t4) 140 (λ i. record-most i _ _) c.before.before.before.before.loop.i, c.before.before.before.before.loop.invariant.1, c.before.before.before.before.loop.invariant.3, c.before.before.before.before.before.before.requires)
+put-record-requires c κs = omega (arith, lines_most (said_of c.before.before.before.before.before.before.args.t3 c.before.before.before.before.before.before.args.t4) 140 (λ i. record_most i _ _) c.before.before.before.before.loop.i, c.before.before.before.before.loop.invariant.1, c.before.before.before.before.loop.invariant.3, c.before.before.before.before.before.before.requires)
 
 add-i : tie.Need-overflow-add-i invariant-loop decreases-loop
 add-i c = search rules
@@ -57,8 +57,8 @@ loop-again c =
     let p = c.before.before.put_record in
     let some : length a.t3 ≡ 257 = c.before.before.before.before.before.before.before.before.before.well-formed.1.1.0.1.0.1 in
     let more : length a.t4 ≡ 257 = c.before.before.before.before.before.before.before.before.before.well-formed.1.1.1.0.1.0.1 in
-    let said = record-any a.t3 a.t4 l.i _ _ (omega arith) (omega arith) in
-    let turned = lines-turn (said_of a.t3 a.t4) a.out.now l.out p.new.0 a.at l.place p.result l.i (omega (arith, c.before.before.before.before.before.before.before.before.before.requires))
+    let said = record_any a.t3 a.t4 l.i _ _ (omega arith) (omega arith) in
+    let turned = lines_turn (said_of a.t3 a.t4) a.out.now l.out p.new.0 a.at l.place p.result l.i (omega (arith, c.before.before.before.before.before.before.before.before.before.requires))
     l.invariant.2 l.invariant.3 (p.ensures.0 ∙ ap (put_at l.out l.place) said) (p.ensures.1 ∙ ap (λ (x : List ℕ). l.place + length x) said) in
     (omega arith, p.auto.0 ∙ l.invariant.1, turned.0, turned.1)
 

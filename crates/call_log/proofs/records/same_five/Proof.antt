@@ -1,6 +1,6 @@
 -- `call_log::records::same_five` meets its contract.
 use mathlib.Core.Path.{refl}
-use Rattle.call_log.specs.Changes.{sameFive}
+use Rattle.call_log.specs.Changes.{same_five}
 use borrow.Author.Rules.{rules}
 use Rattle.call_log.proofs.records.same_five.Statement.{statement}
 use Rattle.call_log.proofs.records.same_five.Tie as tie
@@ -36,7 +36,7 @@ array-read-result-10 : tie.Need-array-read-result-10
 array-read-result-10 c = search rules
 
 returns : tie.Need-returns
-unfolding sameFive
+unfolding same_five
 returns c = refl
 
 pub same-five-spec : {M : Type 1} → statement M

@@ -1,22 +1,22 @@
 -- `call_log::rows::put_heads` meets its contract.
 use Rattle.common.specs.Rows.{put_at}
-use Rattle.text.specs.Text.{linesTo}
-use Rattle.text.proofs.LineLaws.{lines-most, lines_none, lines-turn}
+use Rattle.text.specs.Text.{lines_to}
+use Rattle.text.proofs.LineLaws.{lines_most, lines_none, lines_turn}
 use Rattle.core.specs.Prelude.{◌≡◌, ℕ, ◌+◌, ◌-◌, ◌*◌, ◌≤◌, List, length, get_or}
 use mathlib.Core.Path.{refl, ◌∙◌}
 use native.Mathlib.Omega.{arith}
 use borrow.Author.Rules.{rules}
-use Rattle.call_log.specs.Changes.{headChange}
-use Rattle.call_log.proofs.ChangeCases.{head-most}
+use Rattle.call_log.specs.Changes.{head_change}
+use Rattle.call_log.proofs.ChangeCases.{head_most}
 use Rattle.call_log.proofs.rows.put_heads.Statement.{statement}
 use Rattle.call_log.proofs.rows.put_heads.Tie as tie
 
 abbrev said_of : List ℕ → List ℕ → ℕ → List ℕ
-said_of before after i = headChange i (get_or before i 0) (get_or after i 0)
+said_of before after i = head_change i (get_or before i 0) (get_or after i 0)
 
 abbrev invariant-loop : tie.invariant-loop
 invariant-loop out₀ at before after place₀ i₀ out place i =
-    (i ≤ length after) × (length out ≡ length out₀) × (out ≡ put_at out₀ at (linesTo (said_of before after) i)) × (place ≡ at + length (linesTo (said_of before after) i))
+    (i ≤ length after) × (length out ≡ length out₀) × (out ≡ put_at out₀ at (lines_to (said_of before after) i)) × (place ≡ at + length (lines_to (said_of before after) i))
 
 abbrev decreases-loop : tie.decreases-loop
 decreases-loop out₀ at before after place₀ i₀ out place i = length after - i
@@ -40,7 +40,7 @@ shared-slice-read-put-head-2 : tie.Need-shared-slice-read-put-head-2 invariant-l
 shared-slice-read-put-head-2 c = omega arith
 
 put-head-requires : tie.Need-put-head-requires invariant-loop decreases-loop
-put-head-requires c κs = omega (arith, lines-most (said_of c.before.before.before.before.before.before.before.before.args.before.now c.before.before.before.before.before.before.before.before.args.after.now) 53 (λ i. head-most i _ _) c.before.before.before.before.loop.i, c.before.before.before.before.loop.invariant.1, c.before.before.before.before.loop.invariant.3, c.before.before.before.before.before.before.before.before.requires)
+put-head-requires c κs = omega (arith, lines_most (said_of c.before.before.before.before.before.before.before.before.args.before.now c.before.before.before.before.before.before.before.before.args.after.now) 53 (λ i. head_most i _ _) c.before.before.before.before.loop.i, c.before.before.before.before.loop.invariant.1, c.before.before.before.before.loop.invariant.3, c.before.before.before.before.before.before.before.before.requires)
 
 add-i : tie.Need-overflow-add-i invariant-loop decreases-loop
 add-i c = search rules
@@ -53,7 +53,7 @@ loop-again c =
     let a = c.before.before.before.before.before.before.before.before.before.before.before.args in
     let l = c.before.before.before.before.before.before.before.loop in
     let p = c.before.before.put-head in
-    let turned = lines-turn (said_of c.before.before.before.before.before.before.before.before.before.before.before.args.before.now c.before.before.before.before.before.before.before.before.before.before.before.args.after.now) a.out.now l.out p.new.0 a.at l.place p.result l.i (omega (arith, c.before.before.before.before.before.before.before.before.before.before.before.requires)) l.invariant.2 l.invariant.3
+    let turned = lines_turn (said_of c.before.before.before.before.before.before.before.before.before.before.before.args.before.now c.before.before.before.before.before.before.before.before.before.before.before.args.after.now) a.out.now l.out p.new.0 a.at l.place p.result l.i (omega (arith, c.before.before.before.before.before.before.before.before.before.before.before.requires)) l.invariant.2 l.invariant.3
     p.ensures.0 p.ensures.1 in
     (omega arith, p.auto.0 ∙ l.invariant.1, turned.0, turned.1)
 

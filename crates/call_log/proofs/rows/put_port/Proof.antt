@@ -1,8 +1,8 @@
 -- `call_log::rows::put_port` meets its contract.
 use Rattle.core.specs.Prelude.{◌+◌, not, ◌||◌, eqb}
-use Rattle.call_log.specs.Changes.{portChange}
-use Rattle.call_log.specs.Lines.{portLine}
-use Rattle.call_log.proofs.ChangeCases.{line-shown}
+use Rattle.call_log.specs.Changes.{port_change}
+use Rattle.call_log.specs.Lines.{port_line}
+use Rattle.call_log.proofs.ChangeCases.{line_shown}
 use Rattle.text.proofs.LineLaws.{hidden}
 use borrow.Author.Rules.{rules}
 use Rattle.call_log.proofs.rows.put_port.Statement.{statement}
@@ -24,19 +24,19 @@ same_length : tie.Need-same-length
 same_length c = search rules
 
 returns : tie.Need-returns
-unfolding portChange
+unfolding port_change
 returns c =
     let a = c.before.before.before.before.before.before.before.args in
     let h = c.before.before.before.before.port-line in
     let p = c.before.before.put-line in
-    line-shown a.out.now a.at (a.opening || not (eqb a.before a.after)) (portLine (a.i + 1) a.after) p.new.0 p.result h.result
+    line_shown a.out.now a.at (a.opening || not (eqb a.before a.after)) (port_line (a.i + 1) a.after) p.new.0 p.result h.result
     c.before.before.before.before.before.if1.true h.ensures p.ensures.0 p.ensures.1
 
 returns-2 : tie.Need-returns-2
-unfolding portChange
+unfolding port_change
 returns-2 c =
     let a = c.before.before.args in
-    hidden a.out.now a.at (a.opening || not (eqb a.before a.after)) (portLine (a.i + 1) a.after) c.if1.false
+    hidden a.out.now a.at (a.opening || not (eqb a.before a.after)) (port_line (a.i + 1) a.after) c.if1.false
 
 pub put-port-spec : {M : Type 1} → statement M
 put-port-spec =

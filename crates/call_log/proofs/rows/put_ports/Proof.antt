@@ -4,20 +4,20 @@ use mathlib.Core.Path.{refl, ◌∙◌}
 use native.Mathlib.Omega.{arith}
 use borrow.Author.Rules.{rules}
 use Rattle.common.specs.Rows.{put_at}
-use Rattle.text.specs.Text.{linesTo}
-use Rattle.text.proofs.LineLaws.{lines-most, lines_none, lines-turn}
-use Rattle.call_log.specs.Changes.{portChange}
-use Rattle.call_log.proofs.ChangeCases.{port-most}
+use Rattle.text.specs.Text.{lines_to}
+use Rattle.text.proofs.LineLaws.{lines_most, lines_none, lines_turn}
+use Rattle.call_log.specs.Changes.{port_change}
+use Rattle.call_log.proofs.ChangeCases.{port_most}
 use Rattle.call_log.proofs.rows.put_ports.Statement.{statement}
 use Rattle.call_log.proofs.rows.put_ports.Tie as tie
 
 abbrev said_of : Bool → List ℕ → List ℕ → ℕ → List ℕ
-said_of opening before after i = portChange opening i (get_or before i 0) (get_or after i 0)
+said_of opening before after i = port_change opening i (get_or before i 0) (get_or after i 0)
 
 abbrev invariant-loop : tie.invariant-loop
 invariant-loop out₀ at opening ports before after count place₀ i₀ out place i =
-    (i ≤ count) × (length out ≡ length out₀) × (out ≡ put_at out₀ at (linesTo (said_of opening before after) i))
-    × (place ≡ at + length (linesTo (said_of opening before after) i))
+    (i ≤ count) × (length out ≡ length out₀) × (out ≡ put_at out₀ at (lines_to (said_of opening before after) i))
+    × (place ≡ at + length (lines_to (said_of opening before after) i))
 
 abbrev decreases-loop : tie.decreases-loop
 decreases-loop out₀ at opening ports before after count place₀ i₀ out place i = count - i
@@ -45,7 +45,7 @@ put-port-requires c κs =
       omega (
         arith,
         c.before.before.before.before.before.least.ensures,
-        lines-most (said_of a.opening a.before.now a.after.now) 44 (λ i. port-most _ i _ _) l.i,
+        lines_most (said_of a.opening a.before.now a.after.now) 44 (λ i. port_most _ i _ _) l.i,
         l.invariant.1,
         l.invariant.3,
         c.before.before.before.before.before.before.before.before.before.requires,
@@ -63,7 +63,7 @@ loop-again c =
     let a = c.before.before.before.before.before.before.before.before.before.before.before.before.args in
     let l = c.before.before.before.before.before.before.before.loop in
     let p = c.before.before.put-port in
-    let turned = lines-turn (said_of a.opening a.before.now a.after.now) a.out.now l.out p.new.0 a.at l.place p.result l.i
+    let turned = lines_turn (said_of a.opening a.before.now a.after.now) a.out.now l.out p.new.0 a.at l.place p.result l.i
     (omega (arith, c.before.before.before.before.before.before.before.before.before.before.before.before.requires)) l.invariant.2 l.invariant.3 p.ensures.0 p.ensures.1 in
     (omega arith, p.auto.0 ∙ l.invariant.1, turned.0, turned.1)
 

@@ -1,8 +1,8 @@
 -- `call_log::setups::put_setup` meets its contract.
 use Rattle.core.specs.Prelude.{◌+◌, ◌*◌, [], ◌∷◌, get_or}
 use mathlib.Core.Path.{sym, ◌∙◌}
-use Rattle.call_log.specs.Changes.{sameEight, setupChange}
-use Rattle.call_log.specs.Lines.{setupLine}
+use Rattle.call_log.specs.Changes.{same_eight, setup_change}
+use Rattle.call_log.specs.Lines.{setup_line}
 use Rattle.call_log.proofs.ChangeCases.{shows, stays}
 use borrow.Author.Rules.{rules}
 use Rattle.call_log.proofs.setups.put_setup.Statement.{statement}
@@ -15,13 +15,13 @@ same-eight-requires : tie.Need-same-eight-requires
 same-eight-requires c κs = search rules
 
 returns : tie.Need-returns
-unfolding setupChange
+unfolding setup_change
 returns c =
     let a = c.before.before.before.before.before.args in
     let l = a.after.now in
     let p = 8 * a.slot in
-    stays a.out.now a.at (sameEight a.before.now l p)
-    (setupLine a.slot (get_or l p 0 ∷ get_or l (p + 1) 0 ∷ get_or l (p + 2) 0 ∷ get_or l (p + 3) 0 ∷ get_or l (p + 4) 0 ∷ get_or l (p + 5) 0 ∷ get_or l (p + 6) 0 ∷ get_or l (p + 7) 0 ∷ []))
+    stays a.out.now a.at (same_eight a.before.now l p)
+    (setup_line a.slot (get_or l p 0 ∷ get_or l (p + 1) 0 ∷ get_or l (p + 2) 0 ∷ get_or l (p + 3) 0 ∷ get_or l (p + 4) 0 ∷ get_or l (p + 5) 0 ∷ get_or l (p + 6) 0 ∷ get_or l (p + 7) 0 ∷ []))
     (sym c.before.same-eight.ensures ∙ c.if1.true)
 
 shared-slice-read-setup-line : tie.Need-shared-slice-read-setup-line
@@ -79,15 +79,15 @@ same_length : tie.Need-same-length
 same_length c = search rules
 
 returns-2 : tie.Need-returns-2
-unfolding setupChange
+unfolding setup_change
 returns-2 c =
     let a = c.before.before.before.before.before.before.before.before.before.before.before.before.before.before.before.before.before.before.args in
     let l = a.after.now in
     let p = 8 * a.slot in
     let h = c.before.before.before.before.setup-line in
     let q = c.before.before.put-line in
-    shows a.out.now a.at (sameEight a.before.now l p)
-    (setupLine a.slot (get_or l p 0 ∷ get_or l (p + 1) 0 ∷ get_or l (p + 2) 0 ∷ get_or l (p + 3) 0 ∷ get_or l (p + 4) 0 ∷ get_or l (p + 5) 0 ∷ get_or l (p + 6) 0 ∷ get_or l (p + 7) 0 ∷ []))
+    shows a.out.now a.at (same_eight a.before.now l p)
+    (setup_line a.slot (get_or l p 0 ∷ get_or l (p + 1) 0 ∷ get_or l (p + 2) 0 ∷ get_or l (p + 3) 0 ∷ get_or l (p + 4) 0 ∷ get_or l (p + 5) 0 ∷ get_or l (p + 6) 0 ∷ get_or l (p + 7) 0 ∷ []))
     q.new.0 q.result h.result (sym c.before.before.before.before.before.before.before.before.before.before.before.before.before.before.same-eight.ensures ∙ c.before.before.before.before.before.before.before.before.before.before.before.before.before.if1.false) h.ensures q.ensures.0 q.ensures.1
 
 pub put-setup-spec : {M : Type 1} → statement M

@@ -1,22 +1,22 @@
 -- `call_log::setups::put_setups` meets its contract.
 use Rattle.common.specs.Rows.{put_at}
-use Rattle.text.specs.Text.{linesTo}
-use Rattle.text.proofs.LineLaws.{lines-most, lines_none, lines-turn}
+use Rattle.text.specs.Text.{lines_to}
+use Rattle.text.proofs.LineLaws.{lines_most, lines_none, lines_turn}
 use Rattle.core.specs.Prelude.{◌≡◌, ℕ, ◌+◌, ◌-◌, ◌*◌, ◌≤◌, List, length, get_or}
 use mathlib.Core.Path.{refl, ◌∙◌}
 use native.Mathlib.Omega.{arith}
 use borrow.Author.Rules.{rules}
-use Rattle.call_log.specs.Changes.{setupChange}
-use Rattle.call_log.proofs.ChangeCases.{setup-most}
+use Rattle.call_log.specs.Changes.{setup_change}
+use Rattle.call_log.proofs.ChangeCases.{setup_most}
 use Rattle.call_log.proofs.setups.put_setups.Statement.{statement}
 use Rattle.call_log.proofs.setups.put_setups.Tie as tie
 
 abbrev said_of : List ℕ → List ℕ → ℕ → List ℕ
-said_of before after = setupChange before after
+said_of before after = setup_change before after
 
 abbrev invariant-loop : tie.invariant-loop
 invariant-loop out₀ at slots before after place₀ i₀ out place i =
-    (i ≤ slots) × (length out ≡ length out₀) × (out ≡ put_at out₀ at (linesTo (said_of before after) i)) × (place ≡ at + length (linesTo (said_of before after) i))
+    (i ≤ slots) × (length out ≡ length out₀) × (out ≡ put_at out₀ at (lines_to (said_of before after) i)) × (place ≡ at + length (lines_to (said_of before after) i))
 
 abbrev decreases-loop : tie.decreases-loop
 decreases-loop out₀ at slots before after place₀ i₀ out place i = slots - i
@@ -32,7 +32,7 @@ put-setup-requires c κs =
     let a = c.before.before.before.before.before.before.args in (
       omega (
         arith,
-        lines-most (said_of a.before.now a.after.now) 40 (setup-most a.before.now a.after.now) c.before.before.loop.i,
+        lines_most (said_of a.before.now a.after.now) 40 (setup_most a.before.now a.after.now) c.before.before.loop.i,
         c.before.before.loop.invariant.1,
         c.before.before.loop.invariant.3,
         c.before.before.before.before.before.before.requires,
@@ -51,7 +51,7 @@ loop-again c =
     let a = c.before.before.before.before.before.before.before.before.before.args in
     let l = c.before.before.before.before.before.loop in
     let p = c.before.before.put-setup in
-    let turned = lines-turn (said_of c.before.before.before.before.before.before.before.before.before.args.before.now c.before.before.before.before.before.before.before.before.before.args.after.now) a.out.now l.out p.new.0 a.at l.place p.result l.i (omega (arith, c.before.before.before.before.before.before.before.before.before.requires)) l.invariant.2 l.invariant.3
+    let turned = lines_turn (said_of c.before.before.before.before.before.before.before.before.before.args.before.now c.before.before.before.before.before.before.before.before.before.args.after.now) a.out.now l.out p.new.0 a.at l.place p.result l.i (omega (arith, c.before.before.before.before.before.before.before.before.before.requires)) l.invariant.2 l.invariant.3
     p.ensures.0 p.ensures.1 in
     (omega arith, p.auto.0 ∙ l.invariant.1, turned.0, turned.1)
 

@@ -5,22 +5,22 @@ use native.Mathlib.Omega.{arith}
 use borrow.Author.Rules.{rules}
 use lib.ListN.{length-take}
 use Rattle.common.specs.Rows.{put_at}
-use Rattle.register.specs.Writes.{list_of, writeOf}
+use Rattle.register.specs.Writes.{list_of, write_of}
 use Rattle.register.specs.declared.writes.Write.{Write}
-use Rattle.text.specs.Text.{linesTo}
-use Rattle.text.proofs.LineLaws.{lines-most, lines_none, lines-turn}
-use Rattle.call_log.specs.Lines.{writeLine}
-use Rattle.call_log.proofs.ChangeCases.{write-any, write-most}
-use Rattle.call_log.proofs.Known.{writes-length}
+use Rattle.text.specs.Text.{lines_to}
+use Rattle.text.proofs.LineLaws.{lines_most, lines_none, lines_turn}
+use Rattle.call_log.specs.Lines.{write_line}
+use Rattle.call_log.proofs.ChangeCases.{write_any, write_most}
+use Rattle.call_log.proofs.Known.{writes_length}
 use Rattle.call_log.proofs.writes.put_writes.Statement.{statement}
 use Rattle.call_log.proofs.writes.put_writes.Tie as tie
 
 abbrev said_of : List Write → ℕ → List ℕ
-said_of list i = writeLine (get_or list i (writeOf 0 0)).offset (get_or list i (writeOf 0 0)).value
+said_of list i = write_line (get_or list i (write_of 0 0)).offset (get_or list i (write_of 0 0)).value
 
 abbrev invariant-loop : tie.invariant-loop
 invariant-loop out₀ at list count place₀ i₀ out place i =
-    (i ≤ count) × (length out ≡ length out₀) × (out ≡ put_at out₀ at (linesTo (said_of list) i)) × (place ≡ at + length (linesTo (said_of list) i))
+    (i ≤ count) × (length out ≡ length out₀) × (out ≡ put_at out₀ at (lines_to (said_of list) i)) × (place ≡ at + length (lines_to (said_of list) i))
 
 abbrev decreases-loop : tie.decreases-loop
 decreases-loop out₀ at list count place₀ i₀ out place i = count - i
@@ -46,7 +46,7 @@ array-copy-out-write c = omega (arith, c.before.before.least.ensures)
 put-write-requires : tie.Need-put-write-requires invariant-loop decreases-loop
 put-write-requires c κs =
     let l = c.before.before.before.loop in
-    omega (arith, lines-most (said_of c.before.before.before.before.before.before.before.before.args.writes.writes) 14 (λ i. write-most _ _) l.i, c.before.before.before.before.least.ensures, l.invariant.1, l.invariant.3, c.before.before.before.before.before.before.before.before.requires)
+    omega (arith, lines_most (said_of c.before.before.before.before.before.before.before.before.args.writes.writes) 14 (λ i. write_most _ _) l.i, c.before.before.before.before.least.ensures, l.invariant.1, l.invariant.3, c.before.before.before.before.before.before.before.before.requires)
 
 add-i : tie.Need-overflow-add-i invariant-loop decreases-loop
 add-i c = omega (arith, c.before.before.before.before.before.before.before.least.ensures)
@@ -60,9 +60,9 @@ loop-again c =
     let l = c.before.before.before.before.before.before.loop in
     let p = c.before.before.put-write in
     let list = a.writes.writes in
-    let six : length list ≡ 6 = writes-length a.writes c.before.before.before.before.before.before.before.before.before.before.before.well-formed.1.1.0 in
-    let said = write-any list l.i _ (omega (arith, c.before.before.before.before.before.before.before.least.ensures)) in
-    let turned = lines-turn (said_of list) a.out.now l.out p.new.0 a.at l.place p.result l.i (omega (arith, c.before.before.before.before.before.before.before.before.before.before.before.requires))
+    let six : length list ≡ 6 = writes_length a.writes c.before.before.before.before.before.before.before.before.before.before.before.well-formed.1.1.0 in
+    let said = write_any list l.i _ (omega (arith, c.before.before.before.before.before.before.before.least.ensures)) in
+    let turned = lines_turn (said_of list) a.out.now l.out p.new.0 a.at l.place p.result l.i (omega (arith, c.before.before.before.before.before.before.before.before.before.before.before.requires))
     l.invariant.2 l.invariant.3 (p.ensures.0 ∙ ap (put_at l.out l.place) said) (p.ensures.1 ∙ ap (λ (x : List ℕ). l.place + length x) said) in
     (omega arith, p.auto.0 ∙ l.invariant.1, turned.0, turned.1)
 
@@ -73,7 +73,7 @@ returns : tie.Need-returns invariant-loop decreases-loop
 returns c =
     let l = c.before.loop in
     let w = c.before.before.before.before.before.before.args.writes in
-    let six = writes-length w c.before.before.before.before.before.before.well-formed.1.1.0 in
+    let six = writes_length w c.before.before.before.before.before.before.well-formed.1.1.0 in
     let all : l.i ≡ length (list_of w) = omega (arith, c.before.before.least.ensures, length-take w.count w.writes, six) in
     (l.invariant.2 ∙ rw all, l.invariant.3 ∙ rw all)
 

@@ -1,6 +1,6 @@
 -- `collection::apart::collect_alone` meets its contract.
-use Rattle.collection.proofs.WordsApart.{alone-closed, alone-ends, alone-idle, alone-other, alone_waits, alone-wrong}
-use Rattle.collection.proofs.WordsCases.{tidy-pending, tidy-refused-collect}
+use Rattle.collection.proofs.WordsApart.{alone_closed, alone_ends, alone_idle, alone_other, alone_waits, alone_wrong}
+use Rattle.collection.proofs.WordsCases.{tidy_pending, tidy_refused_collect}
 use Rattle.collection.proofs.WordsSlots.{read_is}
 use borrow.Author.Rules.{rules}
 use Rattle.collection.proofs.apart.collect_alone.Statement.{statement}
@@ -31,7 +31,7 @@ same_length : tie.Need-same-length
 same_length c = search rules
 
 returns : tie.Need-returns
-returns c = (λ pool frames setups fit. search alone-wrong, search tidy-refused-collect)
+returns c = (λ pool frames setups fit. search alone_wrong, search tidy_refused_collect)
 
 still-pending-requires-2 : tie.Need-still-pending-requires-2
 still-pending-requires-2 c κs = search rules
@@ -46,7 +46,7 @@ same-length-2 : tie.Need-same-length-2
 same-length-2 c = search rules
 
 returns-2 : tie.Need-returns-2
-returns-2 c = (λ pool frames setups fit. search alone-other, search tidy-refused-collect)
+returns-2 c = (λ pool frames setups fit. search alone_other, search tidy_refused_collect)
 
 collect-unlinking-requires : tie.Need-collect-unlinking-requires
 collect-unlinking-requires c κs = (search rules, (search read_is, search rules))
@@ -55,19 +55,19 @@ same-length-3 : tie.Need-same-length-3
 same-length-3 c = search rules
 
 returns-3 : tie.Need-returns-3
-returns-3 c = (λ pool frames setups fit. search alone-closed, search tidy-refused-collect)
+returns-3 c = (λ pool frames setups fit. search alone_closed, search tidy_refused_collect)
 
 same-length-4 : tie.Need-same-length-4
 same-length-4 c = search rules
 
 returns-4 : tie.Need-returns-4
-returns-4 c = (λ pool frames setups fit. search alone-idle, search tidy-pending)
+returns-4 c = (λ pool frames setups fit. search alone_idle, search tidy_pending)
 
 same-length-5 : tie.Need-same-length-5
 same-length-5 c = search rules
 
 returns-5 : tie.Need-returns-5
-returns-5 c = (λ pool frames setups fit. search alone_waits, search tidy-pending)
+returns-5 c = (λ pool frames setups fit. search alone_waits, search tidy_pending)
 
 same-length-6 : tie.Need-same-length-6
 same-length-6 c = search rules
@@ -79,7 +79,7 @@ returns-6 : tie.Need-returns-6
 returns-6 c =
     let b = c.before.before.before.before.before.before.before.before.before.before.before.before.before.before.before in (
       λ pool frames setups fit.
-          alone-ends b.args.core.settings b.args.core.rest b.args.slots.now b.requires.0 b.args.heads.now pool frames setups fit
+          alone_ends b.args.core.settings b.args.core.rest b.args.slots.now b.requires.0 b.args.heads.now pool frames setups fit
           b.args.readings b.args.slot b.args.id _ c.before.before.before.before.before.before.before.before.before.before.before.endpoint-at.ensures b.args.seen _ _ _ _ _ _
           c.before.before.before.before.before.before.before.before.before.p.given.1 c.before.before.before.before.collect-unlinking.ensures.0 c.before.before.before.before.before.before.before.if2.false,
       search rules,

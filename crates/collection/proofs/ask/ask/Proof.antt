@@ -1,6 +1,6 @@
 -- `collection::ask::ask` meets its contract.
-use Rattle.collection.proofs.WordsAsk.{ask-limit, asks-closed, asks-idle, asks-linked, asks-unlinking, linked-asks-good, none-asked-good, unlinking-asks-good}
-use Rattle.collection.proofs.WordsSlots.{read-linked-room, read-unlinking-room}
+use Rattle.collection.proofs.WordsAsk.{ask_limit, asks_closed, asks_idle, asks_linked, asks_unlinking, linked_asks_good, none_asked_good, unlinking_asks_good}
+use Rattle.collection.proofs.WordsSlots.{read_linked_room, read_unlinking_room}
 use borrow.Author.Rules.{rules}
 use Rattle.collection.proofs.ask.ask.Statement.{statement}
 use Rattle.collection.proofs.ask.ask.Tie as tie
@@ -24,25 +24,25 @@ enum-known-p : tie.Need-enum-known-p
 enum-known-p c = search rules
 
 ask-for-requires : tie.Need-ask-for-requires
-ask-for-requires c κs = (search read-linked-room, search ask-limit)
+ask-for-requires c κs = (search read_linked_room, search ask_limit)
 
 enum-known-p-2 : tie.Need-enum-known-p-2
 enum-known-p-2 c = search rules
 
 ask-for-requires-2 : tie.Need-ask-for-requires-2
-ask-for-requires-2 c κs = (search read-unlinking-room, search ask-limit)
+ask-for-requires-2 c κs = (search read_unlinking_room, search ask_limit)
 
 returns : tie.Need-returns
-returns c = (search asks-closed, search none-asked-good)
+returns c = (search asks_closed, search none_asked_good)
 
 returns-2 : tie.Need-returns-2
-returns-2 c = (search asks-idle, search none-asked-good)
+returns-2 c = (search asks_idle, search none_asked_good)
 
 returns-3 : tie.Need-returns-3
-returns-3 c = (search asks-linked, search linked-asks-good)
+returns-3 c = (search asks_linked, search linked_asks_good)
 
 returns-4 : tie.Need-returns-4
-returns-4 c = (search asks-unlinking, search unlinking-asks-good)
+returns-4 c = (search asks_unlinking, search unlinking_asks_good)
 
 pub ask-spec : {M : Type 1} → statement M
 ask-spec =

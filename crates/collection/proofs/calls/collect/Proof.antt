@@ -1,6 +1,6 @@
 -- `collection::calls::collect` meets its contract.
-use Rattle.collection.proofs.WordsCalls.{collects-closed, collects-crowded, collects-ends, collects-idle, collects-looks, collects-other, collects-wrong}
-use Rattle.collection.proofs.WordsCases.{tidy-pending, tidy-refused-collect}
+use Rattle.collection.proofs.WordsCalls.{collects_closed, collects_crowded, collects_ends, collects_idle, collects_looks, collects_other, collects_wrong}
+use Rattle.collection.proofs.WordsCases.{tidy_pending, tidy_refused_collect}
 use Rattle.collection.proofs.WordsSlots.{read_is}
 use borrow.Author.Rules.{rules}
 use Rattle.collection.proofs.calls.collect.Statement.{statement}
@@ -31,7 +31,7 @@ same_length : tie.Need-same-length
 same_length c = search rules
 
 returns : tie.Need-returns
-returns c = (λ pool setups fit. search collects-crowded, search tidy-refused-collect)
+returns c = (λ pool setups fit. search collects_crowded, search tidy_refused_collect)
 
 refuse-collect-requires-3 : tie.Need-refuse-collect-requires-3
 refuse-collect-requires-3 c κs = search rules
@@ -40,7 +40,7 @@ same-length-2 : tie.Need-same-length-2
 same-length-2 c = search rules
 
 returns-2 : tie.Need-returns-2
-returns-2 c = (λ pool setups fit. search collects-wrong, search tidy-refused-collect)
+returns-2 c = (λ pool setups fit. search collects_wrong, search tidy_refused_collect)
 
 collect-linked-requires : tie.Need-collect-linked-requires
 collect-linked-requires c κs = (search rules, ((search read_is, search rules), (search rules, search rules)))
@@ -55,7 +55,7 @@ same-length-3 : tie.Need-same-length-3
 same-length-3 c = search rules
 
 returns-3 : tie.Need-returns-3
-returns-3 c = (λ pool setups fit. search collects-other, search tidy-refused-collect)
+returns-3 c = (λ pool setups fit. search collects_other, search tidy_refused_collect)
 
 collect-unlinking-requires : tie.Need-collect-unlinking-requires
 collect-unlinking-requires c κs = (search rules, (search read_is, search rules))
@@ -64,13 +64,13 @@ same-length-4 : tie.Need-same-length-4
 same-length-4 c = search rules
 
 returns-4 : tie.Need-returns-4
-returns-4 c = (λ pool setups fit. search collects-closed, search tidy-refused-collect)
+returns-4 c = (λ pool setups fit. search collects_closed, search tidy_refused_collect)
 
 same-length-5 : tie.Need-same-length-5
 same-length-5 c = search rules
 
 returns-5 : tie.Need-returns-5
-returns-5 c = (λ pool setups fit. search collects-idle, search tidy-pending)
+returns-5 c = (λ pool setups fit. search collects_idle, search tidy_pending)
 
 same-length-6 : tie.Need-same-length-6
 same-length-6 c = search rules
@@ -85,7 +85,7 @@ returns-6 : tie.Need-returns-6
 returns-6 c =
     let b = c.before.before.before.before.before.before.before.before.before.before.before.before.before.before.before.before.before.before.before.before in (
       λ pool setups fit.
-          collects-looks b.args.core.settings b.args.core.rest b.args.slots.now b.requires.0 b.args.heads.now b.args.frames.now pool setups fit
+          collects_looks b.args.core.settings b.args.core.rest b.args.slots.now b.requires.0 b.args.heads.now b.args.frames.now pool setups fit
           b.args.readings b.args.slot b.args.id _ c.before.before.before.before.before.before.before.before.before.before.before.before.before.before.before.endpoint-at.ensures b.args.seen _ _ _ _ _ _
           c.before.before.before.before.before.before.before.before.before.before.before.before.before.p.given.1 c.before.before.before.before.before.before.collect-linked.ensures.0
           c.before.before.before.before.before.before.before.before.before.before.before.if1.false c.before.before.before.before.before.before.before.before.before.before.if2.false,
@@ -102,7 +102,7 @@ returns-7 : tie.Need-returns-7
 returns-7 c =
     let b = c.before.before.before.before.before.before.before.before.before.before.before.before.before.before.before.before in (
       λ pool setups fit.
-          collects-ends b.args.core.settings b.args.core.rest b.args.slots.now b.requires.0 b.args.heads.now b.args.frames.now pool setups fit
+          collects_ends b.args.core.settings b.args.core.rest b.args.slots.now b.requires.0 b.args.heads.now b.args.frames.now pool setups fit
           b.args.readings b.args.slot b.args.id _ c.before.before.before.before.before.before.before.before.before.before.before.endpoint-at.ensures b.args.seen _ _ _ _ _ _
           c.before.before.before.before.before.before.before.before.before.p2.given.1 c.before.before.before.before.collect-unlinking.ensures.0
           c.before.before.before.before.before.before.before.if3.false,

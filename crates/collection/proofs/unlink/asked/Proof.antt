@@ -1,5 +1,5 @@
 -- `collection::unlink::asked` meets its contract.
-use Rattle.collection.proofs.UnlinkCases.{asks-one}
+use Rattle.collection.proofs.UnlinkCases.{asks_one}
 use borrow.Author.Rules.{rules}
 use Rattle.collection.proofs.unlink.asked.Statement.{statement}
 use Rattle.collection.proofs.unlink.asked.Tie as tie
@@ -17,7 +17,7 @@ unlinked-requires : tie.Need-unlinked-requires
 unlinked-requires c κs = search rules
 
 returns : tie.Need-returns
-returns c = search asks-one
+returns c = search asks_one
 
 pub asked-spec : {M : Type 1} → statement M
 asked-spec =

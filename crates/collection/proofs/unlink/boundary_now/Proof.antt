@@ -1,5 +1,5 @@
 -- `collection::unlink::boundary_now` meets its contract.
-use Rattle.collection.proofs.UnlinkCases.{bound-bulk, bound-control, bound-interrupt, bound-isochronous}
+use Rattle.collection.proofs.UnlinkCases.{bound_bulk, bound_control, bound_interrupt, bound_isochronous}
 use borrow.Author.Rules.{rules}
 use Rattle.collection.proofs.unlink.boundary_now.Statement.{statement}
 use Rattle.collection.proofs.unlink.boundary_now.Tie as tie
@@ -32,16 +32,16 @@ none-requires : tie.Need-none-requires
 none-requires c κs = search rules
 
 returns : tie.Need-returns
-returns c = search bound-control
+returns c = search bound_control
 
 returns-2 : tie.Need-returns-2
-returns-2 c = search bound-isochronous
+returns-2 c = search bound_isochronous
 
 returns-3 : tie.Need-returns-3
-returns-3 c = search bound-bulk
+returns-3 c = search bound_bulk
 
 returns-4 : tie.Need-returns-4
-returns-4 c = search bound-interrupt
+returns-4 c = search bound_interrupt
 
 pub boundary-now-spec : {M : Type 1} → statement M
 boundary-now-spec =

@@ -1,5 +1,5 @@
 -- `common::rows::copy_bytes` meets its contract.
-use Rattle.common.proofs.RowsCases.{copy-turn, copy_done}
+use Rattle.common.proofs.RowsCases.{copy_turn, copy_done}
 use lib.ListN.{length, length-set, take, drop}
 use native.Mathlib.Omega.{arith}
 use mathlib.Core.List.{◌++◌}
@@ -33,7 +33,7 @@ loop-less c = search rules
 loop-again : tie.Need-loop-preserved invariant-loop decreases-loop
 loop-again c =
     let l = c.before.before.loop in
-    (simp length-set l.invariant.0, omega arith, copy-turn _ _ _ _ (omega arith) c.before.before.before.requires l.invariant.2)
+    (simp length-set l.invariant.0, omega arith, copy_turn _ _ _ _ (omega arith) c.before.before.before.requires l.invariant.2)
 
 same_length : tie.Need-same-length invariant-loop decreases-loop
 same_length c = omega (arith, c.before.before.requires)

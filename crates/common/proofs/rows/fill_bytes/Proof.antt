@@ -1,5 +1,5 @@
 -- `common::rows::fill_bytes` meets its contract.
-use Rattle.common.proofs.RowsCases.{fill-turn, fill_done}
+use Rattle.common.proofs.RowsCases.{fill_turn, fill_done}
 use lib.ListN.{length, length-set, drop, replicate}
 use native.Mathlib.Omega.{arith}
 use mathlib.Core.List.{◌++◌}
@@ -30,7 +30,7 @@ loop-less c = search rules
 loop-again : tie.Need-loop-preserved invariant-loop decreases-loop
 loop-again c =
     let l = c.before.loop in
-    (simp length-set l.invariant.0, omega arith, fill-turn _ _ _ _ (omega arith) l.invariant.2)
+    (simp length-set l.invariant.0, omega arith, fill_turn _ _ _ _ (omega arith) l.invariant.2)
 
 same_length : tie.Need-same-length invariant-loop decreases-loop
 same_length c = c.before.loop.invariant.0

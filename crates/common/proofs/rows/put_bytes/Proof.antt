@@ -1,5 +1,5 @@
 -- `common::rows::put_bytes` meets its contract.
-use Rattle.common.proofs.RowsCases.{put-done}
+use Rattle.common.proofs.RowsCases.{put_done}
 use borrow.Author.Rules.{rules}
 use Rattle.common.proofs.rows.put_bytes.Statement.{statement}
 use Rattle.common.proofs.rows.put_bytes.Tie as tie
@@ -25,7 +25,7 @@ same_length c = search rules
 returns : tie.Need-returns
 returns c =
     let a = c.before.before.before.before.before.before.args in
-    put-done a.row.now _ a.bytes.now a.at c.before.before.copy-bytes.ensures
+    put_done a.row.now _ a.bytes.now a.at c.before.before.copy-bytes.ensures
 
 pub put-bytes-spec : {M : Type 1} → statement M
 put-bytes-spec =

@@ -1,5 +1,5 @@
 -- `common::rows::put_words` meets its contract.
-use Rattle.common.proofs.RowsCases.{put-done}
+use Rattle.common.proofs.RowsCases.{put_done}
 use borrow.Author.Rules.{rules}
 use Rattle.common.proofs.rows.put_words.Statement.{statement}
 use Rattle.common.proofs.rows.put_words.Tie as tie
@@ -28,7 +28,7 @@ same_length c = search rules
 returns : tie.Need-returns
 returns c =
     let a = c.before.before.before.before.before.before.args in
-    put-done a.row.now _ a.words.now a.at c.before.before.copy-words.ensures
+    put_done a.row.now _ a.words.now a.at c.before.before.copy-words.ensures
 
 pub put-words-spec : {M : Type 1} → statement M
 put-words-spec =

@@ -1,5 +1,5 @@
 -- `controller::readers::has_place` meets its contract.
-use Rattle.controller.proofs.WordsCases.{place-said}
+use Rattle.controller.proofs.WordsCases.{place_said}
 use borrow.Author.Rules.{rules}
 use Rattle.controller.proofs.readers.has_place.Statement.{statement}
 use Rattle.controller.proofs.readers.has_place.Tie as tie
@@ -11,7 +11,7 @@ has-requires : tie.Need-has-requires
 has-requires c κs = search rules
 
 returns : tie.Need-returns
-returns c = search place-said
+returns c = search place_said
 
 pub has-place-spec : {M : Type 1} → statement M
 has-place-spec = tie.close (tie.spec request-places-requires has-requires returns)

@@ -1,5 +1,5 @@
 -- `descriptor::head::set_device_address` meets its contract.
-use Rattle.descriptor.proofs.HeadCases.{address-put}
+use Rattle.descriptor.proofs.HeadCases.{address_put}
 use borrow.Author.Rules.{rules}
 use Rattle.descriptor.proofs.head.set_device_address.Statement.{statement}
 use Rattle.descriptor.proofs.head.set_device_address.Tie as tie
@@ -14,7 +14,7 @@ with-bits-requires : tie.Need-with-bits-requires
 with-bits-requires c κs = search rules
 
 returns : tie.Need-returns
-returns c = search (rules, address-put)
+returns c = search (rules, address_put)
 
 pub set-device-address-spec : {M : Type 1} → statement M
 set-device-address-spec =

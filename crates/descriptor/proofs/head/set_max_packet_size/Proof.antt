@@ -1,5 +1,5 @@
 -- `descriptor::head::set_max_packet_size` meets its contract.
-use Rattle.descriptor.proofs.HeadCases.{packet-put}
+use Rattle.descriptor.proofs.HeadCases.{packet_put}
 use borrow.Author.Rules.{rules}
 use Rattle.descriptor.proofs.head.set_max_packet_size.Statement.{statement}
 use Rattle.descriptor.proofs.head.set_max_packet_size.Tie as tie
@@ -17,7 +17,7 @@ with-bits-requires : tie.Need-with-bits-requires
 with-bits-requires c κs = search rules
 
 returns : tie.Need-returns
-returns c = search (rules, packet-put)
+returns c = search (rules, packet_put)
 
 pub set-max-packet-size-spec : {M : Type 1} → statement M
 set-max-packet-size-spec =

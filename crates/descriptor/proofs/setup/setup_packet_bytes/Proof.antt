@@ -1,5 +1,5 @@
 -- `descriptor::setup::setup_packet_bytes` meets its contract.
-use Rattle.descriptor.proofs.HeadCases.{packet-bytes}
+use Rattle.descriptor.proofs.HeadCases.{packet_bytes}
 use borrow.Author.Rules.{rules}
 use Rattle.descriptor.proofs.setup.setup_packet_bytes.Statement.{statement}
 use Rattle.descriptor.proofs.setup.setup_packet_bytes.Tie as tie
@@ -29,7 +29,7 @@ cast-t24 : tie.Need-overflow-cast-t24
 cast-t24 c = search rules
 
 returns : tie.Need-returns
-returns c = packet-bytes c.args.setup c.args.length
+returns c = packet_bytes c.args.setup c.args.length
 
 pub setup-packet-bytes-spec : {M : Type 1} → statement M
 setup-packet-bytes-spec =

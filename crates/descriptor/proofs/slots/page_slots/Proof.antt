@@ -1,11 +1,11 @@
 -- `descriptor::slots::page_slots` meets its contract.
-use Rattle.descriptor.proofs.QtdCases.{empty-slots, filled-slots}
+use Rattle.descriptor.proofs.QtdCases.{empty_slots, filled_slots_lem}
 use borrow.Author.Rules.{rules}
 use Rattle.descriptor.proofs.slots.page_slots.Statement.{statement}
 use Rattle.descriptor.proofs.slots.page_slots.Tie as tie
 
 returns : tie.Need-returns
-returns c = search empty-slots
+returns c = search empty_slots
 
 sub-first : tie.Need-overflow-sub-first
 sub-first c = search rules
@@ -50,7 +50,7 @@ page-below-requires-4 : tie.Need-page-below-requires-4
 page-below-requires-4 c κs = search rules
 
 returns-2 : tie.Need-returns-2
-returns-2 c = search filled-slots
+returns-2 c = search filled_slots_lem
 
 pub page-slots-spec : {M : Type 1} → statement M
 page-slots-spec =

@@ -1,6 +1,6 @@
 -- `direct_calls::bringing_up::start_bring_up` meets its contract.
 use borrow.Author.Rules.{rules}
-use Rattle.direct_calls.proofs.SlotsCases.{slots-good, slots_kept, slots-refuses}
+use Rattle.direct_calls.proofs.SlotsCases.{slots_good_lem, slots_kept, slots_refuses}
 use Rattle.direct_calls.proofs.bringing_up.start_bring_up.Statement.{statement}
 use Rattle.direct_calls.proofs.bringing_up.start_bring_up.Tie as tie
 
@@ -11,10 +11,10 @@ refuse-requires : tie.Need-refuse-requires
 refuse-requires c κs = search rules
 
 returns : tie.Need-returns
-returns c = search slots-refuses
+returns c = search slots_refuses
 
 start-requires : tie.Need-start-requires
-start-requires c κs = search slots-good
+start-requires c κs = search slots_good_lem
 
 returns-2 : tie.Need-returns-2
 returns-2 c = search slots_kept

@@ -1,7 +1,7 @@
 -- `direct_calls::endpoints::set_packet_size` meets its contract.
 use borrow.Author.Rules.{rules}
-use Rattle.direct_calls.proofs.HeadsCases.{heads-decides, heads-refuses}
-use Rattle.direct_calls.proofs.TakesCases.{heads-good, heads-length}
+use Rattle.direct_calls.proofs.HeadsCases.{heads_decides, heads_refuses}
+use Rattle.direct_calls.proofs.TakesCases.{heads_good, heads_length_lem}
 use Rattle.direct_calls.proofs.endpoints.set_packet_size.Statement.{statement}
 use Rattle.direct_calls.proofs.endpoints.set_packet_size.Tie as tie
 
@@ -18,10 +18,10 @@ same-length-2 : tie.Need-same-length-2
 same-length-2 c = search rules
 
 returns : tie.Need-returns
-returns c = search heads-refuses
+returns c = search heads_refuses
 
 set-packet-size-requires : tie.Need-set-packet-size-requires
-set-packet-size-requires c κs = search (heads-good, heads-length)
+set-packet-size-requires c κs = search (heads_good, heads_length_lem)
 
 same-length-3 : tie.Need-same-length-3
 same-length-3 c = search rules
@@ -30,7 +30,7 @@ same-length-4 : tie.Need-same-length-4
 same-length-4 c = search rules
 
 returns-2 : tie.Need-returns-2
-returns-2 c = search heads-decides
+returns-2 c = search heads_decides
 
 pub set-packet-size-spec : {M : Type 1} → statement M
 set-packet-size-spec = tie.close (tie.spec takes-heads-requires refuse-requires same_length same-length-2 returns set-packet-size-requires same-length-3 same-length-4 returns-2)

@@ -1,8 +1,8 @@
 -- `direct_calls::requests::cancel` meets its contract.
 use borrow.Author.Rules.{rules}
 use Rattle.core.specs.Prelude.{length}
-use Rattle.direct_calls.proofs.FramesCases.{frames-decides, frames-refuses}
-use Rattle.direct_calls.proofs.TakesCases.{frames-taken}
+use Rattle.direct_calls.proofs.FramesCases.{frames_decides, frames_refuses}
+use Rattle.direct_calls.proofs.TakesCases.{frames_taken}
 use Rattle.direct_calls.proofs.requests.cancel.Statement.{statement}
 use Rattle.direct_calls.proofs.requests.cancel.Tie as tie
 
@@ -22,13 +22,13 @@ same-length-3 : tie.Need-same-length-3
 same-length-3 c = search rules
 
 returns : tie.Need-returns
-returns c = search frames-refuses
+returns c = search frames_refuses
 
 cancel-requires : tie.Need-cancel-requires
 cancel-requires c κs =
     let b = c.before.before.before in
     let s = b.before.before.before.before.before.before.before.before.args in
-    frames-taken s.core s.slots.now (length s.heads.now) (length s.frames.now) _ b.before.takes-frames.ensures b.if1.false
+    frames_taken s.core s.slots.now (length s.heads.now) (length s.frames.now) _ b.before.takes-frames.ensures b.if1.false
 
 same-length-4 : tie.Need-same-length-4
 same-length-4 c = search rules
@@ -40,7 +40,7 @@ same-length-6 : tie.Need-same-length-6
 same-length-6 c = search rules
 
 returns-2 : tie.Need-returns-2
-returns-2 c = search frames-decides
+returns-2 c = search frames_decides
 
 pub cancel-spec : {M : Type 1} → statement M
 cancel-spec = tie.close (tie.spec takes-frames-requires refuse-cancel-requires same_length same-length-2 same-length-3 returns cancel-requires same-length-4 same-length-5 same-length-6 returns-2)

@@ -1,12 +1,12 @@
 -- `ehci::decide::decide` meets its contract.
 use mathlib.Core.Path.{ap}
 use Rattle.words.specs.declared.core.Rest.{Rest}
-use Rattle.words.proofs.TidyLaws.{tidy-rest}
-use Rattle.controller.proofs.WordsLent.{accepts-viewed}
-use Rattle.ehci.specs.Decides.{addressDecided, clearDecided, closeDecided, packetDecided}
-use Rattle.ehci.proofs.Cases.{heads-call, links-call, no_rows}
-use Rattle.ehci.proofs.WordsCalls.{frames-below, frames-fit, heads-below, heads-fit, keeps-call, rows_fit, setups-fit, tidies-call, waited-fits, words-good, words-refuse, writes-call}
-use Rattle.ehci.proofs.WordsCases.{brought-view, changed-view, keeps-words, settled-view, slot-view, tidies-words}
+use Rattle.words.proofs.TidyLaws.{tidy_rest}
+use Rattle.controller.proofs.WordsLent.{accepts_viewed}
+use Rattle.ehci.specs.Decides.{address_decided, clear_decided, close_decided, packet_decided}
+use Rattle.ehci.proofs.Cases.{heads_call, links_call, no_rows}
+use Rattle.ehci.proofs.WordsCalls.{frames_below, frames_fit, heads_below, heads_fit, keeps_call, rows_fit, setups_fit, tidies_call, waited_fits, words_good_lem, words_refuse, writes_call}
+use Rattle.ehci.proofs.WordsCases.{brought_view_lem, changed_view_lem, keeps_words, settled_view_lem, slot_view, tidies_words}
 use borrow.Author.Rules.{rules}
 use Rattle.ehci.proofs.decide.decide.Statement.{statement}
 use Rattle.ehci.proofs.decide.decide.Tie as tie
@@ -17,7 +17,7 @@ refused-requires c κs = search rules
 returns : tie.Need-returns
 returns c =
     let a = c.before.before.before.before.before.before.args in
-    words-refuse a.core a.slots.now a.good a.records a.heads.now a.frames.now a.setups.now a.seen a.call c.before.if1.true _ c.refused.ensures
+    words_refuse a.core a.slots.now a.good a.records a.heads.now a.frames.now a.setups.now a.seen a.call c.before.if1.true _ c.refused.ensures
 
 enum_told : tie.Need-enum-told
 enum_told c = search rules
@@ -26,7 +26,7 @@ start-requires : tie.Need-start-requires
 start-requires c κs =
     let pre = c.before.before.before.before.before.before.before.before.requires in
     let on = c.before.before.before.if1.false in
-    words-good _ _ _ _ _ _ _ pre on
+    words_good_lem _ _ _ _ _ _ _ pre on
 
 of-brought-up-requires : tie.Need-of-brought-up-requires
 of-brought-up-requires c κs = search rules
@@ -38,7 +38,7 @@ step-requires : tie.Need-step-requires
 step-requires c κs =
     let pre = c.before.before.before.before.before.before.before.before.requires in
     let on = c.before.before.before.if1.false in
-    (waited-fits _ _ _ _ _ _ _ pre on, (frames-below _ _ _ _ _ _ _ pre on, heads-below _ _ _ _ _ _ _ pre on))
+    (waited_fits _ _ _ _ _ _ _ pre on, (frames_below _ _ _ _ _ _ _ pre on, heads_below _ _ _ _ _ _ _ pre on))
 
 of-brought-up-requires-2 : tie.Need-of-brought-up-requires-2
 of-brought-up-requires-2 c κs = search rules
@@ -56,7 +56,7 @@ on-open-requires : tie.Need-on-open-requires
 on-open-requires c κs =
     let pre = c.before.before.before.before.before.before.before.before.before.before.requires in
     let on = c.before.before.before.before.before.if1.false in
-    (words-good _ _ _ _ _ _ _ pre on, heads-fit _ _ _ _ _ _ _ pre on)
+    (words_good_lem _ _ _ _ _ _ _ pre on, heads_fit _ _ _ _ _ _ _ pre on)
 
 enum-known-call-3 : tie.Need-enum-known-call-3
 enum-known-call-3 c = search rules
@@ -65,7 +65,7 @@ close-requires : tie.Need-close-requires
 close-requires c κs =
     let pre = c.before.before.before.before.before.before.before.before.before.before.requires in
     let on = c.before.before.before.before.before.if1.false in
-    (words-good _ _ _ _ _ _ _ pre on, heads-fit _ _ _ _ _ _ _ pre on)
+    (words_good_lem _ _ _ _ _ _ _ pre on, heads_fit _ _ _ _ _ _ _ pre on)
 
 of-change-requires : tie.Need-of-change-requires
 of-change-requires c κs = search rules
@@ -77,7 +77,7 @@ set-address-requires : tie.Need-set-address-requires
 set-address-requires c κs =
     let pre = c.before.before.before.before.before.before.before.before.before.before.requires in
     let on = c.before.before.before.before.before.if1.false in
-    (words-good _ _ _ _ _ _ _ pre on, heads-fit _ _ _ _ _ _ _ pre on)
+    (words_good_lem _ _ _ _ _ _ _ pre on, heads_fit _ _ _ _ _ _ _ pre on)
 
 of-change-requires-2 : tie.Need-of-change-requires-2
 of-change-requires-2 c κs = search rules
@@ -89,7 +89,7 @@ set-packet-size-requires : tie.Need-set-packet-size-requires
 set-packet-size-requires c κs =
     let pre = c.before.before.before.before.before.before.before.before.before.before.requires in
     let on = c.before.before.before.before.before.if1.false in
-    (words-good _ _ _ _ _ _ _ pre on, heads-fit _ _ _ _ _ _ _ pre on)
+    (words_good_lem _ _ _ _ _ _ _ pre on, heads_fit _ _ _ _ _ _ _ pre on)
 
 of-change-requires-3 : tie.Need-of-change-requires-3
 of-change-requires-3 c κs = search rules
@@ -101,7 +101,7 @@ on-submit-requires : tie.Need-on-submit-requires
 on-submit-requires c κs =
     let pre = c.before.before.before.before.before.before.before.before.before.before.before.before.requires in
     let on = c.before.before.before.before.before.before.before.if1.false in
-    (words-good _ _ _ _ _ _ _ pre on, (heads-fit _ _ _ _ _ _ _ pre on, frames-fit _ _ _ _ _ _ _ pre on, setups-fit _ _ _ _ _ _ _ pre on))
+    (words_good_lem _ _ _ _ _ _ _ pre on, (heads_fit _ _ _ _ _ _ _ pre on, frames_fit _ _ _ _ _ _ _ pre on, setups_fit _ _ _ _ _ _ _ pre on))
 
 enum-known-call-7 : tie.Need-enum-known-call-7
 enum-known-call-7 c = search rules
@@ -116,7 +116,7 @@ on-cancel-requires : tie.Need-on-cancel-requires
 on-cancel-requires c κs =
     let pre = c.before.before.before.before.before.before.before.before.before.before.before.requires in
     let on = c.before.before.before.before.before.before.if1.false in
-    (words-good _ _ _ _ _ _ _ pre on, (heads-fit _ _ _ _ _ _ _ pre on, frames-fit _ _ _ _ _ _ _ pre on))
+    (words_good_lem _ _ _ _ _ _ _ pre on, (heads_fit _ _ _ _ _ _ _ pre on, frames_fit _ _ _ _ _ _ _ pre on))
 
 enum-known-call-9 : tie.Need-enum-known-call-9
 enum-known-call-9 c = search rules
@@ -125,7 +125,7 @@ on-collect-requires : tie.Need-on-collect-requires
 on-collect-requires c κs =
     let pre = c.before.before.before.before.before.before.before.before.before.before.before.requires in
     let on = c.before.before.before.before.before.before.if1.false in
-    (words-good _ _ _ _ _ _ _ pre on, (heads-fit _ _ _ _ _ _ _ pre on, frames-fit _ _ _ _ _ _ _ pre on))
+    (words_good_lem _ _ _ _ _ _ _ pre on, (heads_fit _ _ _ _ _ _ _ pre on, frames_fit _ _ _ _ _ _ _ pre on))
 
 enum-known-call-10 : tie.Need-enum-known-call-10
 enum-known-call-10 c = search rules
@@ -140,7 +140,7 @@ on-drain-requires : tie.Need-on-drain-requires
 on-drain-requires c κs =
     let pre = c.before.before.before.before.before.before.before.before.before.requires in
     let on = c.before.before.before.before.if1.false in
-    words-good _ _ _ _ _ _ _ pre on
+    words_good_lem _ _ _ _ _ _ _ pre on
 
 enum-told-3 : tie.Need-enum-told-3
 enum-told-3 c = search rules
@@ -176,7 +176,7 @@ clear-halt-requires : tie.Need-clear-halt-requires
 clear-halt-requires c κs =
     let pre = c.before.before.before.before.before.before.before.before.before.requires in
     let on = c.before.before.before.before.if1.false in
-    words-good _ _ _ _ _ _ _ pre on
+    words_good_lem _ _ _ _ _ _ _ pre on
 
 of-change-requires-4 : tie.Need-of-change-requires-4
 of-change-requires-4 c κs = search rules
@@ -188,7 +188,7 @@ on-look-requires : tie.Need-on-look-requires
 on-look-requires c κs =
     let pre = c.before.before.before.before.before.before.before.before.before.before.before.requires in
     let on = c.before.before.before.before.before.before.if1.false in
-    (words-good _ _ _ _ _ _ _ pre on, (heads-fit _ _ _ _ _ _ _ pre on, frames-fit _ _ _ _ _ _ _ pre on))
+    (words_good_lem _ _ _ _ _ _ _ pre on, (heads_fit _ _ _ _ _ _ _ pre on, frames_fit _ _ _ _ _ _ _ pre on))
 
 enum-known-call-14 : tie.Need-enum-known-call-14
 enum-known-call-14 c = search rules
@@ -197,7 +197,7 @@ on-collect-alone-requires : tie.Need-on-collect-alone-requires
 on-collect-alone-requires c κs =
     let pre = c.before.before.before.before.before.before.before.before.before.before.requires in
     let on = c.before.before.before.before.before.if1.false in
-    (words-good _ _ _ _ _ _ _ pre on, heads-fit _ _ _ _ _ _ _ pre on)
+    (words_good_lem _ _ _ _ _ _ _ pre on, heads_fit _ _ _ _ _ _ _ pre on)
 
 same_length : tie.Need-same-length
 same_length c = search rules
@@ -210,7 +210,7 @@ returns-2 c =
     let is = c.before.before.before.enum_told.given.1 in
     let says = c.before.start.ensures in
     let left = c.of-brought-up.ensures in
-    keeps-call a.core a.slots.now a.good a.records a.heads.now a.frames.now a.setups.now a.seen a.call on begun.requires _ is _ _ _ _ (no_rows _ _ _ _ _ (brought-view a.core _ _ _ _ left says.0)) (keeps-words a.core _ _ _ _ left says.1)
+    keeps_call a.core a.slots.now a.good a.records a.heads.now a.frames.now a.setups.now a.seen a.call on begun.requires _ is _ _ _ _ (no_rows _ _ _ _ _ (brought_view_lem a.core _ _ _ _ left says.0)) (keeps_words a.core _ _ _ _ left says.1)
 
 returns-3 : tie.Need-returns-3
 returns-3 c =
@@ -220,8 +220,8 @@ returns-3 c =
     let is = c.before.before.before.call.given.1 in
     let says = c.before.step.ensures in
     let left = c.of-brought-up2.ensures in
-    let good = words-good _ _ _ _ _ _ _ begun.requires on in
-    keeps-call a.core a.slots.now a.good a.records a.heads.now a.frames.now a.setups.now a.seen a.call on begun.requires _ is _ _ _ _ (no_rows _ _ _ _ _ (brought-view a.core _ _ _ _ left (says.0 a.slots.now good.ranges))) (keeps-words a.core _ _ _ _ left says.1)
+    let good = words_good_lem _ _ _ _ _ _ _ begun.requires on in
+    keeps_call a.core a.slots.now a.good a.records a.heads.now a.frames.now a.setups.now a.seen a.call on begun.requires _ is _ _ _ _ (no_rows _ _ _ _ _ (brought_view_lem a.core _ _ _ _ left (says.0 a.slots.now good.ranges))) (keeps_words a.core _ _ _ _ left says.1)
 
 returns-4 : tie.Need-returns-4
 returns-4 c =
@@ -230,8 +230,8 @@ returns-4 c =
     let on = c.before.before.before.if1.false in
     let is = c.before.enum-told2.given.1 in
     let says = c.on-allocate.ensures in
-    let good = words-good _ _ _ _ _ _ _ begun.requires on in
-    keeps-call a.core a.slots.now a.good a.records a.heads.now a.frames.now a.setups.now a.seen a.call on begun.requires _ is _ _ _ _ (no_rows _ _ _ _ _ (says.0 a.slots.now good.ranges)) says.1
+    let good = words_good_lem _ _ _ _ _ _ _ begun.requires on in
+    keeps_call a.core a.slots.now a.good a.records a.heads.now a.frames.now a.setups.now a.seen a.call on begun.requires _ is _ _ _ _ (no_rows _ _ _ _ _ (says.0 a.slots.now good.ranges)) says.1
 
 same-length-2 : tie.Need-same-length-2
 same-length-2 c = search rules
@@ -247,7 +247,7 @@ returns-5 c =
     let is = c.before.before.before.before.before.before.before.before.call2.given.1 in
     let says = c.before.before.before.before.on-open.ensures in
     let rows = rows_fit _ _ _ _ _ _ _ begun.requires on in
-    tidies-call a.core a.slots.now a.good a.records a.heads.now a.frames.now a.setups.now a.seen a.call on begun.requires _ is _ _ _ _ _ (heads-call _ _ _ _ _ (says.0 a.records _ _ rows)) says.1
+    tidies_call a.core a.slots.now a.good a.records a.heads.now a.frames.now a.setups.now a.seen a.call on begun.requires _ is _ _ _ _ _ (heads_call _ _ _ _ _ (says.0 a.records _ _ rows)) says.1
 
 same-length-4 : tie.Need-same-length-4
 same-length-4 c = search rules
@@ -256,7 +256,7 @@ same-length-5 : tie.Need-same-length-5
 same-length-5 c = search rules
 
 returns-6 : tie.Need-returns-6
-unfolding closeDecided
+unfolding close_decided
 returns-6 c =
     let begun = c.before.before.before.before.before.before.before.before.before.before.before.before.before.before.before.before in
     let a = begun.args in
@@ -265,7 +265,7 @@ returns-6 c =
     let says = c.before.before.before.before.before.close.ensures in
     let left = c.of-change.ensures in
     let rows = rows_fit _ _ _ _ _ _ _ begun.requires on in
-    tidies-call a.core a.slots.now a.good a.records a.heads.now a.frames.now a.setups.now a.seen a.call on begun.requires _ is _ _ _ _ _ (heads-call _ _ _ _ _ (changed-view a.core _ _ _ _ _ left (says.0 a.records _ _ rows))) (tidies-words a.core _ _ _ _ left _ says.1)
+    tidies_call a.core a.slots.now a.good a.records a.heads.now a.frames.now a.setups.now a.seen a.call on begun.requires _ is _ _ _ _ _ (heads_call _ _ _ _ _ (changed_view_lem a.core _ _ _ _ _ left (says.0 a.records _ _ rows))) (tidies_words a.core _ _ _ _ left _ says.1)
 
 same-length-6 : tie.Need-same-length-6
 same-length-6 c = search rules
@@ -274,7 +274,7 @@ same-length-7 : tie.Need-same-length-7
 same-length-7 c = search rules
 
 returns-7 : tie.Need-returns-7
-unfolding addressDecided
+unfolding address_decided
 returns-7 c =
     let begun = c.before.before.before.before.before.before.before.before.before.before.before.before.before.before in
     let a = begun.args in
@@ -283,7 +283,7 @@ returns-7 c =
     let says = c.before.before.before.set-address.ensures in
     let left = c.of-change2.ensures in
     let rows = rows_fit _ _ _ _ _ _ _ begun.requires on in
-    keeps-call a.core a.slots.now a.good a.records a.heads.now a.frames.now a.setups.now a.seen a.call on begun.requires _ is _ _ _ _ (heads-call _ _ _ _ _ (changed-view a.core _ _ _ _ _ left (says.0 a.records _ _ rows))) (keeps-words a.core _ _ _ _ left says.1)
+    keeps_call a.core a.slots.now a.good a.records a.heads.now a.frames.now a.setups.now a.seen a.call on begun.requires _ is _ _ _ _ (heads_call _ _ _ _ _ (changed_view_lem a.core _ _ _ _ _ left (says.0 a.records _ _ rows))) (keeps_words a.core _ _ _ _ left says.1)
 
 same-length-8 : tie.Need-same-length-8
 same-length-8 c = search rules
@@ -292,7 +292,7 @@ same-length-9 : tie.Need-same-length-9
 same-length-9 c = search rules
 
 returns-8 : tie.Need-returns-8
-unfolding packetDecided
+unfolding packet_decided
 returns-8 c =
     let begun = c.before.before.before.before.before.before.before.before.before.before.before.before.before.before.before.before in
     let a = begun.args in
@@ -301,7 +301,7 @@ returns-8 c =
     let says = c.before.before.before.before.before.set-packet-size.ensures in
     let left = c.of-change3.ensures in
     let rows = rows_fit _ _ _ _ _ _ _ begun.requires on in
-    tidies-call a.core a.slots.now a.good a.records a.heads.now a.frames.now a.setups.now a.seen a.call on begun.requires _ is _ _ _ _ _ (heads-call _ _ _ _ _ (changed-view a.core _ _ _ _ _ left (says.0 a.records _ _ rows))) (tidies-words a.core _ _ _ _ left _ says.1)
+    tidies_call a.core a.slots.now a.good a.records a.heads.now a.frames.now a.setups.now a.seen a.call on begun.requires _ is _ _ _ _ _ (heads_call _ _ _ _ _ (changed_view_lem a.core _ _ _ _ _ left (says.0 a.records _ _ rows))) (tidies_words a.core _ _ _ _ left _ says.1)
 
 same-length-10 : tie.Need-same-length-10
 same-length-10 c = search rules
@@ -323,7 +323,7 @@ returns-9 c =
     let is = c.before.before.before.before.before.before.before.before.before.before.before.before.before.before.call6.given.1 in
     let says = c.before.before.before.before.before.before.before.before.on-submit.ensures in
     let rows = rows_fit _ _ _ _ _ _ _ begun.requires on in
-    writes-call a.core a.slots.now a.good a.records a.heads.now a.frames.now a.setups.now a.seen a.call on begun.requires _ is _ _ _ _ _ (says.0 a.records rows) says.1.0 says.1.1
+    writes_call a.core a.slots.now a.good a.records a.heads.now a.frames.now a.setups.now a.seen a.call on begun.requires _ is _ _ _ _ _ (says.0 a.records rows) says.1.0 says.1.1
 
 returns-10 : tie.Need-returns-10
 returns-10 c =
@@ -332,9 +332,9 @@ returns-10 c =
     let on = c.before.before.before.before.if1.false in
     let is = c.before.before.call7.given.1 in
     let says = c.on-writeback.ensures in
-    let good = words-good _ _ _ _ _ _ _ begun.requires on in
+    let good = words_good_lem _ _ _ _ _ _ _ begun.requires on in
     let rows = rows_fit _ _ _ _ _ _ _ begun.requires on in
-    writes-call a.core a.slots.now a.good a.records a.heads.now a.frames.now a.setups.now a.seen a.call on begun.requires _ is _ _ _ _ _ (no_rows _ _ _ _ _ (says.0 a.slots.now good _ (accepts-viewed _ _ _ good a.records _ _ _ rows))) (tidy-rest _ _ _ _ (ap (λ (x : Rest). x.free) says.1.0) good.tidy) says.1.1
+    writes_call a.core a.slots.now a.good a.records a.heads.now a.frames.now a.setups.now a.seen a.call on begun.requires _ is _ _ _ _ _ (no_rows _ _ _ _ _ (says.0 a.slots.now good _ (accepts_viewed _ _ _ good a.records _ _ _ rows))) (tidy_rest _ _ _ _ (ap (λ (x : Rest). x.free) says.1.0) good.tidy) says.1.1
 
 same-length-14 : tie.Need-same-length-14
 same-length-14 c = search rules
@@ -353,7 +353,7 @@ returns-11 c =
     let is = c.before.before.before.before.before.before.before.before.before.before.before.call8.given.1 in
     let says = c.before.before.before.before.before.before.on-cancel.ensures in
     let rows = rows_fit _ _ _ _ _ _ _ begun.requires on in
-    tidies-call a.core a.slots.now a.good a.records a.heads.now a.frames.now a.setups.now a.seen a.call on begun.requires _ is _ _ _ _ _ (links-call _ _ _ _ _ (says.0 a.records _ rows)) says.1
+    tidies_call a.core a.slots.now a.good a.records a.heads.now a.frames.now a.setups.now a.seen a.call on begun.requires _ is _ _ _ _ _ (links_call _ _ _ _ _ (says.0 a.records _ rows)) says.1
 
 same-length-17 : tie.Need-same-length-17
 same-length-17 c = search rules
@@ -372,7 +372,7 @@ returns-12 c =
     let is = c.before.before.before.before.before.before.before.before.before.before.before.call9.given.1 in
     let says = c.before.before.before.before.before.before.on-collect.ensures in
     let rows = rows_fit _ _ _ _ _ _ _ begun.requires on in
-    tidies-call a.core a.slots.now a.good a.records a.heads.now a.frames.now a.setups.now a.seen a.call on begun.requires _ is _ _ _ _ _ (links-call _ _ _ _ _ (says.0 a.records _ rows)) says.1
+    tidies_call a.core a.slots.now a.good a.records a.heads.now a.frames.now a.setups.now a.seen a.call on begun.requires _ is _ _ _ _ _ (links_call _ _ _ _ _ (says.0 a.records _ rows)) says.1
 
 returns-13 : tie.Need-returns-13
 returns-13 c =
@@ -381,8 +381,8 @@ returns-13 c =
     let on = c.before.before.before.before.if1.false in
     let is = c.before.before.call10.given.1 in
     let says = c.on-acknowledge.ensures in
-    let good = words-good _ _ _ _ _ _ _ begun.requires on in
-    keeps-call a.core a.slots.now a.good a.records a.heads.now a.frames.now a.setups.now a.seen a.call on begun.requires _ is _ _ _ _ (no_rows _ _ _ _ _ (says.0 a.slots.now good.ranges)) says.1
+    let good = words_good_lem _ _ _ _ _ _ _ begun.requires on in
+    keeps_call a.core a.slots.now a.good a.records a.heads.now a.frames.now a.setups.now a.seen a.call on begun.requires _ is _ _ _ _ (no_rows _ _ _ _ _ (says.0 a.slots.now good.ranges)) says.1
 
 same-length-20 : tie.Need-same-length-20
 same-length-20 c = search rules
@@ -394,7 +394,7 @@ returns-14 c =
     let on = c.before.before.before.before.before.before.before.if1.false in
     let is = c.before.before.before.before.before.call11.given.1 in
     let says = c.before.before.on-drain.ensures in
-    tidies-call a.core a.slots.now a.good a.records a.heads.now a.frames.now a.setups.now a.seen a.call on begun.requires _ is _ _ _ _ _ (no_rows _ _ _ _ _ says.0) says.1
+    tidies_call a.core a.slots.now a.good a.records a.heads.now a.frames.now a.setups.now a.seen a.call on begun.requires _ is _ _ _ _ _ (no_rows _ _ _ _ _ says.0) says.1
 
 returns-15 : tie.Need-returns-15
 returns-15 c =
@@ -404,8 +404,8 @@ returns-15 c =
     let is = c.before.before.enum-told3.given.1 in
     let says = c.before.rearm.ensures in
     let left = c.of-settled.ensures in
-    let good = words-good _ _ _ _ _ _ _ begun.requires on in
-    keeps-call a.core a.slots.now a.good a.records a.heads.now a.frames.now a.setups.now a.seen a.call on begun.requires _ is _ _ _ _ (no_rows _ _ _ _ _ (settled-view a.core _ _ _ _ left (says.0 a.slots.now good.ranges))) (keeps-words a.core _ _ _ _ left says.1)
+    let good = words_good_lem _ _ _ _ _ _ _ begun.requires on in
+    keeps_call a.core a.slots.now a.good a.records a.heads.now a.frames.now a.setups.now a.seen a.call on begun.requires _ is _ _ _ _ (no_rows _ _ _ _ _ (settled_view_lem a.core _ _ _ _ left (says.0 a.slots.now good.ranges))) (keeps_words a.core _ _ _ _ left says.1)
 
 returns-16 : tie.Need-returns-16
 returns-16 c =
@@ -415,8 +415,8 @@ returns-16 c =
     let is = c.before.before.enum-told4.given.1 in
     let says = c.before.enable.ensures in
     let left = c.of-settled2.ensures in
-    let good = words-good _ _ _ _ _ _ _ begun.requires on in
-    keeps-call a.core a.slots.now a.good a.records a.heads.now a.frames.now a.setups.now a.seen a.call on begun.requires _ is _ _ _ _ (no_rows _ _ _ _ _ (settled-view a.core _ _ _ _ left (says.0 a.slots.now good.ranges))) (keeps-words a.core _ _ _ _ left says.1)
+    let good = words_good_lem _ _ _ _ _ _ _ begun.requires on in
+    keeps_call a.core a.slots.now a.good a.records a.heads.now a.frames.now a.setups.now a.seen a.call on begun.requires _ is _ _ _ _ (no_rows _ _ _ _ _ (settled_view_lem a.core _ _ _ _ left (says.0 a.slots.now good.ranges))) (keeps_words a.core _ _ _ _ left says.1)
 
 returns-17 : tie.Need-returns-17
 returns-17 c =
@@ -426,14 +426,14 @@ returns-17 c =
     let is = c.before.before.enum-told5.given.1 in
     let says = c.before.disable.ensures in
     let left = c.of-settled3.ensures in
-    let good = words-good _ _ _ _ _ _ _ begun.requires on in
-    keeps-call a.core a.slots.now a.good a.records a.heads.now a.frames.now a.setups.now a.seen a.call on begun.requires _ is _ _ _ _ (no_rows _ _ _ _ _ (settled-view a.core _ _ _ _ left (says.0 a.slots.now good.ranges))) (keeps-words a.core _ _ _ _ left says.1)
+    let good = words_good_lem _ _ _ _ _ _ _ begun.requires on in
+    keeps_call a.core a.slots.now a.good a.records a.heads.now a.frames.now a.setups.now a.seen a.call on begun.requires _ is _ _ _ _ (no_rows _ _ _ _ _ (settled_view_lem a.core _ _ _ _ left (says.0 a.slots.now good.ranges))) (keeps_words a.core _ _ _ _ left says.1)
 
 same-length-21 : tie.Need-same-length-21
 same-length-21 c = search rules
 
 returns-18 : tie.Need-returns-18
-unfolding clearDecided
+unfolding clear_decided
 returns-18 c =
     let begun = c.before.before.before.before.before.before.before.before.before.before.before.before.before in
     let a = begun.args in
@@ -441,7 +441,7 @@ returns-18 c =
     let is = c.before.before.before.before.before.before.call12.given.1 in
     let says = c.before.before.before.clear-halt.ensures in
     let left = c.of-change4.ensures in
-    tidies-call a.core a.slots.now a.good a.records a.heads.now a.frames.now a.setups.now a.seen a.call on begun.requires _ is _ _ _ _ _ (no_rows _ _ _ _ _ (slot-view a.core _ _ _ _ left says.0)) (tidies-words a.core _ _ _ _ left _ says.1)
+    tidies_call a.core a.slots.now a.good a.records a.heads.now a.frames.now a.setups.now a.seen a.call on begun.requires _ is _ _ _ _ _ (no_rows _ _ _ _ _ (slot_view a.core _ _ _ _ left says.0)) (tidies_words a.core _ _ _ _ left _ says.1)
 
 same-length-22 : tie.Need-same-length-22
 same-length-22 c = search rules
@@ -460,7 +460,7 @@ returns-19 c =
     let is = c.before.before.before.before.before.before.before.before.before.before.before.call13.given.1 in
     let says = c.before.before.before.before.before.before.on-look.ensures in
     let rows = rows_fit _ _ _ _ _ _ _ begun.requires on in
-    tidies-call a.core a.slots.now a.good a.records a.heads.now a.frames.now a.setups.now a.seen a.call on begun.requires _ is _ _ _ _ _ (links-call _ _ _ _ _ (says.0 a.records _ rows)) says.1
+    tidies_call a.core a.slots.now a.good a.records a.heads.now a.frames.now a.setups.now a.seen a.call on begun.requires _ is _ _ _ _ _ (links_call _ _ _ _ _ (says.0 a.records _ rows)) says.1
 
 same-length-25 : tie.Need-same-length-25
 same-length-25 c = search rules
@@ -476,7 +476,7 @@ returns-20 c =
     let is = c.before.before.before.before.before.before.before.before.call14.given.1 in
     let says = c.before.before.before.before.on-collect-alone.ensures in
     let rows = rows_fit _ _ _ _ _ _ _ begun.requires on in
-    tidies-call a.core a.slots.now a.good a.records a.heads.now a.frames.now a.setups.now a.seen a.call on begun.requires _ is _ _ _ _ _ (heads-call _ _ _ _ _ (says.0 a.records _ _ rows)) says.1
+    tidies_call a.core a.slots.now a.good a.records a.heads.now a.frames.now a.setups.now a.seen a.call on begun.requires _ is _ _ _ _ _ (heads_call _ _ _ _ _ (says.0 a.records _ _ rows)) says.1
 
 pub decide-spec : {M : Type 1} → statement M
 decide-spec =

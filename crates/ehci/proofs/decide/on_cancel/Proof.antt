@@ -1,6 +1,6 @@
 -- `ehci::decide::on_cancel` meets its contract.
 use mathlib.Core.Path.{refl}
-use Rattle.ehci.proofs.WordsCases.{cancel-words, leave-words}
+use Rattle.ehci.proofs.WordsCases.{cancel_words, leave_words}
 use borrow.Author.Rules.{rules}
 use Rattle.ehci.proofs.decide.on_cancel.Statement.{statement}
 use Rattle.ehci.proofs.decide.on_cancel.Tie as tie
@@ -24,7 +24,7 @@ same-length-3 : tie.Need-same-length-3
 same-length-3 c = search rules
 
 returns : tie.Need-returns
-returns c = cancel-words _ _ _ _ _ _ _ _ _ _ _ _ (leave-words _ _ _ _ _ _ c.leave.ensures c.before.simple.ensures refl) c.before.before.before.before.before.before.before.before.before.before.cancel.ensures.0 c.before.before.before.before.before.before.before.before.before.before.cancel.ensures.1
+returns c = cancel_words _ _ _ _ _ _ _ _ _ _ _ _ (leave_words _ _ _ _ _ _ c.leave.ensures c.before.simple.ensures refl) c.before.before.before.before.before.before.before.before.before.before.cancel.ensures.0 c.before.before.before.before.before.before.before.before.before.before.cancel.ensures.1
 
 pub on-cancel-spec : {M : Type 1} → statement M
 on-cancel-spec = tie.close (tie.spec cancel-requires simple-requires leave-requires same_length same-length-2 same-length-3 returns)

@@ -1,6 +1,6 @@
 -- `ehci::decide::on_look` meets its contract.
 use mathlib.Core.Path.{refl}
-use Rattle.ehci.proofs.WordsCases.{leave-words, look-words}
+use Rattle.ehci.proofs.WordsCases.{leave_words, look_words}
 use borrow.Author.Rules.{rules}
 use Rattle.ehci.proofs.decide.on_look.Statement.{statement}
 use Rattle.ehci.proofs.decide.on_look.Tie as tie
@@ -24,7 +24,7 @@ same-length-3 : tie.Need-same-length-3
 same-length-3 c = search rules
 
 returns : tie.Need-returns
-returns c = look-words _ _ _ _ _ _ _ _ _ _ _ _ _ _ (leave-words _ _ _ _ _ _ c.leave.ensures c.before.collected-answer.ensures refl) c.before.before.before.before.before.before.before.before.before.before.look.ensures.0 c.before.before.before.before.before.before.before.before.before.before.look.ensures.1
+returns c = look_words _ _ _ _ _ _ _ _ _ _ _ _ _ _ (leave_words _ _ _ _ _ _ c.leave.ensures c.before.collected-answer.ensures refl) c.before.before.before.before.before.before.before.before.before.before.look.ensures.0 c.before.before.before.before.before.before.before.before.before.before.look.ensures.1
 
 pub on-look-spec : {M : Type 1} → statement M
 on-look-spec = tie.close (tie.spec look-requires collected-answer-requires leave-requires same_length same-length-2 same-length-3 returns)

@@ -1,5 +1,5 @@
 -- `ehci::decide::on_submit` meets its contract.
-use Rattle.ehci.proofs.WordsCases.{submit-words}
+use Rattle.ehci.proofs.WordsCases.{submit_words}
 use borrow.Author.Rules.{rules}
 use Rattle.ehci.proofs.decide.on_submit.Statement.{statement}
 use Rattle.ehci.proofs.decide.on_submit.Tie as tie
@@ -26,7 +26,7 @@ same-length-4 : tie.Need-same-length-4
 same-length-4 c = search rules
 
 returns : tie.Need-returns
-returns c = submit-words _ _ _ _ _ _ _ _ _ _ _ _ _ _ _ c.before.submitted-answer.ensures c.laid.ensures c.before.before.before.before.before.before.before.before.before.before.before.before.before.submit.ensures.0 c.before.before.before.before.before.before.before.before.before.before.before.before.before.submit.ensures.1.0 c.before.before.before.before.before.before.before.before.before.before.before.before.before.submit.ensures.1.1
+returns c = submit_words _ _ _ _ _ _ _ _ _ _ _ _ _ _ _ c.before.submitted-answer.ensures c.laid.ensures c.before.before.before.before.before.before.before.before.before.before.before.before.before.submit.ensures.0 c.before.before.before.before.before.before.before.before.before.before.before.before.before.submit.ensures.1.0 c.before.before.before.before.before.before.before.before.before.before.before.before.before.submit.ensures.1.1
 
 pub on-submit-spec : {M : Type 1} → statement M
 on-submit-spec = tie.close (tie.spec submit-requires submitted-answer-requires laid-requires same_length same-length-2 same-length-3 same-length-4 returns)

@@ -35,18 +35,18 @@ use denote.Triple.Statement.{Triple}
 use denote.Triple.Table.{entered, cited}
 use denote.Triple.Walked.{says, Stays, gave_slice, stay_none, walk_of, Goes-gave_slice, Goes-none, Walks, ends_at, walked, walk_Meets}
 use Rattle.descriptor.specs.declared.qtd.QueueTransferDescriptor.{QueueTransferDescriptor as Record}
-use Rattle.bitset.specs.Places.{setPlaces}
-use Rattle.pool.specs.Chains.{read_of, seenFrom, view_of}
-use Rattle.pool.specs.Words.{AskWordsGood, WritingGood, writtenWith}
+use Rattle.bitset.specs.Places.{set_places}
+use Rattle.pool.specs.Chains.{read_of, seen_from, view_of}
+use Rattle.pool.specs.Words.{AskWordsGood, WritingGood, written_with}
 use Rattle.ehci.specs.Decides.{came}
 use Rattle.ehci.specs.Door.{applied}
-use Rattle.ehci.specs.WordsDecides.{LooksGood, Writable, decideWords, decidedView}
-use Rattle.ehci.specs.WordsDoor.{Judged, WordsAfter, acceptsWords, applyWords, replyView}
+use Rattle.ehci.specs.WordsDecides.{LooksGood, Writable, decide_words, decided_view}
+use Rattle.ehci.specs.WordsDoor.{Judged, WordsAfter, accepts_words, apply_words, reply_view}
 use Rattle.pool.proofs.Element.{R}
 use Rattle.pool.proofs.Calls.{met, gives}
 use Rattle.pool.proofs.Uses.{passes}
-use Rattle.pool.proofs.Lends.{row_at, shares, three-facts, says_two}
-use Rattle.ehci.proofs.DoorLaws.{may-decide, may_write, together, tidied}
+use Rattle.pool.proofs.Lends.{row_at, shares, three_facts, says_two}
+use Rattle.ehci.proofs.DoorLaws.{may_decide, may_write, together, tidied}
 use Rattle.words.specs.declared.core.Core.{Core}
 use Rattle.words.specs.contracts.core.Core as Co
 use Rattle.words.proofs.core.Core.TheLaws as Co'
@@ -156,7 +156,7 @@ module _ {M : Type 1} {𝓤 : Ura M} (𝓛 : Logic 𝓤) (mem : Memory → SProp
   abbrev owned-four : Fml
   owned-four = fsep ((MutSlice (named 1) κ₁ u64).own_val (row_at bs os γs ss) (vs ∷ [])) (fsep ((MutSlice (named 2) κ₂ u32).own_val (row_at bh oh γh hs) (vh ∷ [])) (fsep ((MutSlice (named 3) κ₃ u32).own_val (row_at bf of γf fs) (vf ∷ [])) (fsep ((MutSlice (named 4) κ₄ u8).own_val (row_at bu ou γu us) (vu ∷ [])) (fsep ((Cl.the_row).own_val cl (cv ∷ [])) ftrue))))
 
-  exits : (r : Reply) (v : Val) (wr : List Record) (ws wh wf wu : List ℕ) → length wr ≡ n → length ws ≡ length ss → length wh ≡ length hs → length wf ≡ length fs → length wu ≡ length us → Is Re.the_row r (v ∷ []) → applied (replyView core.settings r ws) wr wh wf wu ≡ applyWords core ss rs hs fs us cl → WordsAfter (acceptsWords core ss n (length hs) (length fs) (length us)) core ss r.rest ws
+  exits : (r : Reply) (v : Val) (wr : List Record) (ws wh wf wu : List ℕ) → length wr ≡ n → length ws ≡ length ss → length wh ≡ length hs → length wf ≡ length fs → length wu ≡ length us → Is Re.the_row r (v ∷ []) → applied (reply_view core.settings r ws) wr wh wf wu ≡ apply_words core ss rs hs fs us cl → WordsAfter (accepts_words core ss n (length hs) (length fs) (length us)) core ss r.rest ws
       → ent 𝓤 (⋆ 𝓛 (‵ (finally R γ wr) ∷ ‵ (flft κ₀ q₀) ∷ ‵ (finally u64 γs ws) ∷ ‵ (finally u32 γh wh) ∷ ‵ (finally u32 γf wf) ∷ ‵ (finally u8 γu wu) ∷ four ∷ [])) (Post v)
   exits r v wr ws wh wf wu er es eh ef eu is e₁ e₂ =
       qed 𝓛 (‵ (finally R γ wr) ∷ ‵ (flft κ₀ q₀) ∷ ‵ (finally u64 γs ws) ∷ ‵ (finally u32 γh wh) ∷ ‵ (finally u32 γf wf) ∷ ‵ (finally u8 γu wu) ∷ four ∷ []) ∵
@@ -204,7 +204,7 @@ module _ {M : Type 1} {𝓤 : Ura M} (𝓛 : Logic 𝓤) (mem : Memory → SProp
       nothing ! $ owned ! Cl.the_row (Is Cl.the_row) (EL.makes Cl.the_type Cl'.the_plain 𝓛) cl (cv ∷ []) is-cl $ fjoin ! $ owned ! Vw.the_row (Is Vw.the_row) (LL.makes Vw.the_type Vw'.the_plain 𝓛) v (vv ∷ []) is-v $ fjoin ! $ owned ! bool (Is bool) (bool_Makes 𝓛) g (gv ∷ []) is-g $ fjoin ! $ move ! (1 ∷ 0 ∷ []) $ fjoin ! $ move ! (1 ∷ 0 ∷ []) $ fjoin ! $ move ! (1 ∷ 0 ∷ []) $ fjoin ! $ move ! (1 ∷ 0 ∷ []) $ fjoin ! $ owned ! usize (Is usize) (uint_Makes 𝓛 w64) n _ (refl, room.0) $ fjoin ! $ owned ! Co.the_row (Is Co.the_row) (LL.makes Co.the_type Co'.the_plain 𝓛) core (kv ∷ []) is-core $ fjoin ! $ move ! (1 ∷ 0 ∷ []) $ frame ! $ done !
 
   abbrev told-decide : (g : Bool) (gv : Val) (v : View) (vv : Val) → Decided → Lasts decide.ended (κ₁, (κ₂, (κ₃, (κ₄, tt)))) (to-decide g gv v vv).0.3 → Type 0
-  told-decide g gv v vv d ws = ((came (decidedView core.settings d ws.1.1.0) ws.1.1.1.0 ws.1.1.1.1.0 ws.1.1.1.1.1.0 ≡ decideWords core ss g n hs fs us v cl) × ((WordsAfter g core ss d.reply.rest ws.1.1.0) × (Writable n d.writing)))
+  told-decide g gv v vv d ws = ((came (decided_view core.settings d ws.1.1.0) ws.1.1.1.0 ws.1.1.1.1.0 ws.1.1.1.1.1.0 ≡ decide_words core ss g n hs fs us v cl) × ((WordsAfter g core ss d.reply.rest ws.1.1.0) × (Writable n d.writing)))
 
   abbrev to-writing-of : Decided → Val → (met 𝓛 writing-of.ended (writing-of.clauses 𝓛 mem run)).Ghost
   to-writing-of x v = ((tt, tt, tt, (x, tt), (v ∷ [], tt)), tt)
@@ -221,7 +221,7 @@ module _ {M : Type 1} {𝓤 : Ura M} (𝓛 : Logic 𝓤) (mem : Memory → SProp
       nothing ! $ move ! (2 ∷ 0 ∷ []) $ join ! $ frame ! $ done !
 
   abbrev told-write : (x : Writing) (v : Val) → Unit {0} → Lasts write.ended (κ₀, tt) (to_write x v).0.3 → Type 0
-  told-write x v u ws = ws.0 ≡ writtenWith x rs
+  told-write x v u ws = ws.0 ≡ written_with x rs
 
   abbrev to-reply-of : Decided → Val → (met 𝓛 reply-of.ended (reply-of.clauses 𝓛 mem run)).Ghost
   to-reply-of x v = ((tt, tt, tt, (x, tt), (v ∷ [], tt)), tt)
@@ -247,7 +247,7 @@ module _ {M : Type 1} {𝓤 : Ura M} (𝓛 : Logic 𝓤) (mem : Memory → SProp
         -- [the pool; its token; the slots; their token; …]
         assigns ! (addr ! (from ! (fld ! refl (hop ! (look_in ! 66 (sub ! 0 refl (whole !))) (stop !))))) (from ! (stop !)) (init ! 36 refl (tt, tt)) $ assigns ! (agg ! (and_then ! (load ! (from ! (stop !)) (looks ! 36 refl)) (and_then ! (load ! (from ! (fld ! refl (stop !))) (look_in ! 66 (sub ! 1 refl (whole !)))) (no_more !)))) (from ! (stop !)) (init ! 34 refl (tt, (tt, (record { fits = room.0 }, tt)))) $
         gives (fm_of 𝓤 H 𝓛.laws 𝓣) ask-of.ended (ask-of.clauses 𝓛 mem run) known-ask-of (to-ask-of l lv) (λ r. r ≡ l.ask) (λ r e. id⊢ 𝓤 _) ! (goes-ask-of l lv is-l) (λ j. and_then ! (load ! (from ! (stop !)) (looks ! 55 {τ = Lk'.mir} {v = lv} refl)) (no_more !)) (λ a av ea is-a. drop ! $ land ! (from ! (stop !)) (init ! 32 {τ = Q'.mir} {v = av} refl ((LL.lawful Q.the_type Q'.the_laws 𝓛).typed a _ is-a).0) $
-        shares (fm_of 𝓤 H 𝓛.laws 𝓣) fold.ended (fold.clauses 𝓛 mem run) known-fold R b o n rs refl room (to-fold a av) (λ ν δ u. u ≡ view_of (read_of a.stops (seenFrom a.kind a.length a.limit 0 (setPlaces a.places) rs))) (λ ν δ r e. id⊢ 𝓤 _) ! (goes-fold a av is-a (subst (λ (z : Ask). AskWordsGood n z) (sym ea) e₁.ask-good)) (λ ν δ. fst∗ 𝓤 (A.lft (ν ∷ []) full_share) (emp 𝓤))
+        shares (fm_of 𝓤 H 𝓛.laws 𝓣) fold.ended (fold.clauses 𝓛 mem run) known-fold R b o n rs refl room (to-fold a av) (λ ν δ u. u ≡ view_of (read_of a.stops (seen_from a.kind a.length a.limit 0 (set_places a.places) rs))) (λ ν δ r e. id⊢ 𝓤 _) ! (goes-fold a av is-a (subst (λ (z : Ask). AskWordsGood n z) (sym ea) e₁.ask_good)) (λ ν δ. fst∗ 𝓤 (A.lft (ν ∷ []) full_share) (emp 𝓤))
         (λ ν δ j k. and_then ! (load ! (from ! (stop !)) (looks ! 34 refl)) (and_then ! (load ! (from ! (stop !)) (looks ! 32 {τ = Q'.mir} {v = av} refl)) (no_more !))) (λ ν₂ δ₂ v vv e₂ is-v. land ! (from ! (stop !)) (init ! 52 {τ = Vw'.mir} {v = vv} refl ((LL.lawful Vw.the_type Vw'.the_laws 𝓛).typed v _ is-v).0) $ forget ! 44 refl $
         assigns ! (of_opd ! (load ! (from ! (fld ! refl (stop !))) (look_in ! 66 (sub ! 1 refl (whole !))))) (from ! (stop !)) (init ! 44 refl (tt, record { fits = room.0 })) $
         assigns ! (addr ! (from ! (fld ! refl (hop ! (look_in ! 64 (sub ! 0 refl (whole !))) (stop !))))) (from ! (stop !)) (init ! 30 refl (tt, tt)) $ assigns ! (agg ! (and_then ! (load ! (from ! (stop !)) (looks ! 30 refl)) (and_then ! (load ! (from ! (fld ! refl (stop !))) (look_in ! 64 (sub ! 1 refl (whole !)))) (no_more !)))) (from ! (stop !)) (init ! 28 refl (tt, (tt, (record { fits = rooms.0 }, tt)))) $
@@ -257,7 +257,7 @@ module _ {M : Type 1} {𝓤 : Ura M} (𝓛 : Logic 𝓤) (mem : Memory → SProp
         gives (fm_of 𝓤 H 𝓛.laws 𝓣) Good-of.ended (Good-of.clauses 𝓛 mem run) known-good-of (to-good-of l lv) (λ r. r ≡ l.good) (λ r e. id⊢ 𝓤 _) ! (goes-good-of l lv is-l) (λ j. and_then ! (load ! (from ! (stop !)) (looks ! 55 {τ = Lk'.mir} {v = lv} refl)) (no_more !)) (λ g gv eg is-g. drop ! $ land ! (from ! (stop !)) (init ! 14 {τ = ty_bool} {v = gv} refl ((bool_Lawful 𝓛).typed g _ is-g).0) $
         move ! (2 ∷ 5 ∷ []) $ fjoin ! $ move ! (3 ∷ 4 ∷ []) $ join ! $ move ! (1 ∷ 0 ∷ []) $ join ! $
         -- [what the four rows of numbers and the call own, and the four tokens; the pool; its token; …]
-        passes (fm_of 𝓤 H 𝓛.laws 𝓣) decide.ended (decide.clauses 𝓛 mem run) known-decide (to-decide g gv v vv) (told-decide g gv v vv) (λ d ws. three-facts 𝓤 (came (decidedView core.settings d ws.1.1.0) ws.1.1.1.0 ws.1.1.1.1.0 ws.1.1.1.1.1.0 ≡ decideWords core ss g n hs fs us v cl) (WordsAfter g core ss d.reply.rest ws.1.1.0) (Writable n d.writing)) ! (‵ owned-four ⊛ four) (goes-decide g gv v vv is-g is-v (subst (λ (g : Bool). (g ≡ true → Judged core ss n (length hs) (length fs) (length us))) (sym eg) (may-decide core ss rs hs fs us cl l e₁)))
+        passes (fm_of 𝓤 H 𝓛.laws 𝓣) decide.ended (decide.clauses 𝓛 mem run) known-decide (to-decide g gv v vv) (told-decide g gv v vv) (λ d ws. three_facts 𝓤 (came (decided_view core.settings d ws.1.1.0) ws.1.1.1.0 ws.1.1.1.1.0 ws.1.1.1.1.1.0 ≡ decide_words core ss g n hs fs us v cl) (WordsAfter g core ss d.reply.rest ws.1.1.0) (Writable n d.writing)) ! (‵ owned-four ⊛ four) (goes-decide g gv v vv is-g is-v (subst (λ (g : Bool). (g ≡ true → Judged core ss n (length hs) (length fs) (length us))) (sym eg) (may_decide core ss rs hs fs us cl l e₁)))
         (λ j. and_then ! (load ! (from ! (stop !)) (looks ! 65 {τ = Co'.mir} {v = kv} refl)) (and_then ! (load ! (from ! (stop !)) (looks ! 41 refl)) (and_then ! (load ! (from ! (stop !)) (looks ! 25 refl)) (and_then ! (load ! (from ! (stop !)) (looks ! 21 refl)) (and_then ! (load ! (from ! (stop !)) (looks ! 17 refl)) (and_then ! (load ! (from ! (stop !)) (looks ! 13 refl)) (and_then ! (load ! (from ! (stop !)) (looks ! 11 {τ = ty_bool} {v = gv} refl)) (and_then ! (load ! (from ! (stop !)) (looks ! 49 {τ = Vw'.mir} {v = vv} refl)) (and_then ! (load ! (from ! (stop !)) (looks ! 53 {τ = Cl'.mir} {v = cv} refl)) (no_more !)))))))))) (λ d dv ws e₃ is-d.
         fsplit ! $ drop ! $ fsplit ! $ drop ! $ fsplit ! $ fsplit ! $ move ! (1 ∷ []) $ feq_l ! (λ same_s. move ! (1 ∷ []) $ fsplit ! $ fsplit ! $ move ! (1 ∷ []) $ feq_l ! (λ same-h. move ! (1 ∷ []) $ fsplit ! $ fsplit ! $ move ! (1 ∷ []) $ feq_l ! (λ same-f. move ! (1 ∷ []) $ fsplit ! $ fsplit ! $ move ! (1 ∷ []) $ feq_l ! (λ same-u. move ! (1 ∷ []) $ drop ! $
         move ! (5 ∷ 6 ∷ []) $ land ! (from ! (stop !)) (init ! 51 {τ = Dc'.mir} {v = dv} refl ((LL.lawful Dc.the_type Dc'.the_laws 𝓛).typed d _ is-d).0) $

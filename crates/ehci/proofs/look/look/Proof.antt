@@ -1,5 +1,5 @@
 -- `ehci::look::look` meets its contract.
-use Rattle.ehci.proofs.LookLaws.{looks, may-ask}
+use Rattle.ehci.proofs.LookLaws.{looks, may_ask}
 use borrow.Author.Rules.{rules}
 use Rattle.ehci.proofs.look.look.Statement.{statement}
 use Rattle.ehci.proofs.look.look.Tie as tie
@@ -8,7 +8,7 @@ accepts-requires : tie.Need-accepts-requires
 accepts-requires c κs = search rules
 
 asks-requires : tie.Need-asks-requires
-asks-requires c κs = may-ask _ _ _ _ _ _ _ c.accepts.ensures
+asks-requires c κs = may_ask _ _ _ _ _ _ _ c.accepts.ensures
 
 returns : tie.Need-returns
 returns c = looks _ _ _ _ _ _ _ c.before.accepts.ensures _ _ c.asks.ensures

@@ -1,6 +1,6 @@
 -- `ehci::reply::collected_answer` meets its contract.
 use mathlib.Core.Path.{ap, sym}
-use Rattle.ehci.specs.Replies.{collectedAnswer}
+use Rattle.ehci.specs.Replies.{collected_answer}
 use borrow.Author.Rules.{rules}
 use Rattle.ehci.proofs.reply.collected_answer.Statement.{statement}
 use Rattle.ehci.proofs.reply.collected_answer.Tie as tie
@@ -24,22 +24,22 @@ enum-known-answer-3 : tie.Need-enum-known-answer-3
 enum-known-answer-3 c = search rules
 
 returns : tie.Need-returns
-returns c = ap collectedAnswer (sym c.before.answer.given.1)
+returns c = ap collected_answer (sym c.before.answer.given.1)
 
 returns-2 : tie.Need-returns-2
-returns-2 c = ap collectedAnswer (sym c.enum_told.given.1)
+returns-2 c = ap collected_answer (sym c.enum_told.given.1)
 
 returns-3 : tie.Need-returns-3
-returns-3 c = ap collectedAnswer (sym c.enum-told2.given.1)
+returns-3 c = ap collected_answer (sym c.enum-told2.given.1)
 
 returns-4 : tie.Need-returns-4
-returns-4 c = ap collectedAnswer (sym c.enum-told3.given.1)
+returns-4 c = ap collected_answer (sym c.enum-told3.given.1)
 
 returns-5 : tie.Need-returns-5
-returns-5 c = ap collectedAnswer (sym c.before.answer2.given.1)
+returns-5 c = ap collected_answer (sym c.before.answer2.given.1)
 
 returns-6 : tie.Need-returns-6
-returns-6 c = ap collectedAnswer (sym c.before.answer3.given.1)
+returns-6 c = ap collected_answer (sym c.before.answer3.given.1)
 
 pub collected-answer-spec : {M : Type 1} → statement M
 collected-answer-spec =

@@ -1,5 +1,5 @@
 -- `ehci::reply::marked` meets its contract.
-use Rattle.ehci.specs.WordsDecides.{markedOnly}
+use Rattle.ehci.specs.WordsDecides.{marked_only}
 use borrow.Author.Rules.{rules}
 use Rattle.ehci.proofs.reply.marked.Statement.{statement}
 use Rattle.ehci.proofs.reply.marked.Tie as tie
@@ -8,7 +8,7 @@ no-laying-requires : tie.Need-no-laying-requires
 no-laying-requires c κs = search rules
 
 returns : tie.Need-returns
-unfolding markedOnly
+unfolding marked_only
 returns c = cc
 
 pub marked-spec : {M : Type 1} → statement M

@@ -1,6 +1,6 @@
 -- `ehci::reply::opened_answer` meets its contract.
 use mathlib.Core.Path.{ap, sym}
-use Rattle.ehci.specs.Replies.{openedAnswer}
+use Rattle.ehci.specs.Replies.{opened_answer}
 use borrow.Author.Rules.{rules}
 use Rattle.ehci.proofs.reply.opened_answer.Statement.{statement}
 use Rattle.ehci.proofs.reply.opened_answer.Tie as tie
@@ -12,10 +12,10 @@ enum-known-answer-2 : tie.Need-enum-known-answer-2
 enum-known-answer-2 c = search rules
 
 returns : tie.Need-returns
-returns c = ap openedAnswer (sym c.before.answer.given.1)
+returns c = ap opened_answer (sym c.before.answer.given.1)
 
 returns-2 : tie.Need-returns-2
-returns-2 c = ap openedAnswer (sym c.before.answer2.given.1)
+returns-2 c = ap opened_answer (sym c.before.answer2.given.1)
 
 pub opened-answer-spec : {M : Type 1} → statement M
 opened-answer-spec = tie.close (tie.spec enum-known-answer enum-known-answer-2 returns returns-2)

@@ -1,7 +1,7 @@
 -- `endpoint::calls::clear_halt` meets its contract.
 use Rattle.core.specs.Prelude.{◌+◌, ◌*◌}
 use native.Mathlib.Omega.{arith}
-use Rattle.endpoint.proofs.WordsClear.{clearing-done, clearing-fits, clearing-refused, clearing-room, clearing-tidy}
+use Rattle.endpoint.proofs.WordsClear.{clearing_done, clearing_fits, clearing_refused, clearing_room, clearing_tidy}
 use borrow.Author.Rules.{rules}
 use Rattle.endpoint.proofs.calls.clear_halt.Statement.{statement}
 use Rattle.endpoint.proofs.calls.clear_halt.Tie as tie
@@ -21,9 +21,9 @@ with-toggle-requires c κs = search rules
 put-endpoint-requires : tie.Need-put-endpoint-requires
 put-endpoint-requires c κs =
     let b = c.before.before.before.before.before.before.before.before.before.before in (
-      clearing-room b.args.core.settings b.args.core.rest b.args.slots.now b.requires b.args.slot _
+      clearing_room b.args.core.settings b.args.core.rest b.args.slots.now b.requires b.args.slot _
           c.before.before.before.before.before.before.check-slot.ensures c.before.before.before.before.enum_told.given.1,
-      clearing-fits b.args.slots.now b.args.slot _ _ c.before.before.pipe-at.ensures c.with-toggle.ensures
+      clearing_fits b.args.slots.now b.args.slot _ _ c.before.before.pipe-at.ensures c.with-toggle.ensures
           (omega (arith, c.before.before.before.before.before.before.before.before.before.slice-known.given (6 * b.args.slot + 1))),
     )
 
@@ -37,10 +37,10 @@ returns : tie.Need-returns
 returns c =
     let b = c.before.before.before.before.before.before.before.before.before.before.before.before.before in
     let below = c.before.before.before.before.before.before.before.before.before.before.before.before.slice-known.given (6 * b.args.slot + 1) in (
-      clearing-done b.args.core.settings b.args.core.rest b.args.slots.now b.requires b.args.slot _
+      clearing_done b.args.core.settings b.args.core.rest b.args.slots.now b.requires b.args.slot _
           c.before.before.before.before.before.before.before.before.before.check-slot.ensures c.before.before.before.before.before.before.before.enum_told.given.1 _ _ c.before.before.before.before.before.pipe-at.ensures c.before.before.before.with-toggle.ensures
           (omega (arith, below)) _ c.before.before.put-endpoint.ensures,
-      clearing-tidy b.args.core.settings b.args.core.rest b.args.slots.now b.requires b.args.slot _
+      clearing_tidy b.args.core.settings b.args.core.rest b.args.slots.now b.requires b.args.slot _
           c.before.before.before.before.before.before.before.before.before.check-slot.ensures c.before.before.before.before.before.before.before.enum_told.given.1 _ _ c.before.before.before.before.before.pipe-at.ensures c.before.before.before.with-toggle.ensures
           (omega (arith, below)) _ c.before.before.put-endpoint.ensures,
     )
@@ -51,7 +51,7 @@ same-length-2 c = search rules
 returns-2 : tie.Need-returns-2
 returns-2 c =
     let b = c.before.before.before.before.before.before.before in (
-      clearing-refused b.args.core.settings b.args.core.rest b.args.slots.now b.requires b.args.slot _
+      clearing_refused b.args.core.settings b.args.core.rest b.args.slots.now b.requires b.args.slot _
           c.before.before.before.check-slot.ensures _ c.before.refusal.given.1,
       b.requires.tidy,
     )

@@ -1,5 +1,5 @@
 -- `endpoint::calls::set_address` meets its contract.
-use Rattle.endpoint.proofs.WordsChange.{addressing-done, addressing-refused, words-word}
+use Rattle.endpoint.proofs.WordsChange.{addressing_done, addressing_refused, words_word}
 use borrow.Author.Rules.{rules}
 use Rattle.endpoint.proofs.calls.set_address.Statement.{statement}
 use Rattle.endpoint.proofs.calls.set_address.Tie as tie
@@ -23,7 +23,7 @@ mul-set-device-address : tie.Need-overflow-mul-set-device-address
 mul-set-device-address c = search rules
 
 slice-read-set-device-address : tie.Need-slice-read-set-device-address
-slice-read-set-device-address c = search words-word
+slice-read-set-device-address c = search words_word
 
 set-device-address-requires : tie.Need-set-device-address-requires
 set-device-address-requires c κs = search rules
@@ -32,7 +32,7 @@ mul-heads : tie.Need-overflow-mul-heads
 mul-heads c = search rules
 
 slice-write-heads : tie.Need-slice-write-heads
-slice-write-heads c = search words-word
+slice-write-heads c = search words_word
 
 enum-known-refusal : tie.Need-enum-known-refusal
 enum-known-refusal c = search rules
@@ -41,10 +41,10 @@ same_length : tie.Need-same-length
 same_length c = search rules
 
 returns : tie.Need-returns
-returns c = search addressing-done
+returns c = search addressing_done
 
 returns-2 : tie.Need-returns-2
-returns-2 c = search addressing-refused
+returns-2 c = search addressing_refused
 
 pub set-address-spec : {M : Type 1} → statement M
 set-address-spec =

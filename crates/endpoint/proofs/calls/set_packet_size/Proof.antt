@@ -1,7 +1,7 @@
 -- `endpoint::calls::set_packet_size` meets its contract.
 use Rattle.core.specs.Prelude.{◌+◌, ◌*◌}
 use native.Mathlib.Omega.{arith}
-use Rattle.endpoint.proofs.WordsChange.{sizing-done, sizing-fits, sizing-refused, sizing-tidy, words-slot-room, words-word}
+use Rattle.endpoint.proofs.WordsChange.{sizing_done, sizing_fits, sizing_refused, sizing_tidy, words_slot_room, words_word}
 use borrow.Author.Rules.{rules}
 use Rattle.endpoint.proofs.calls.set_packet_size.Statement.{statement}
 use Rattle.endpoint.proofs.calls.set_packet_size.Tie as tie
@@ -34,7 +34,7 @@ mul-set-max-packet-size : tie.Need-overflow-mul-set-max-packet-size
 mul-set-max-packet-size c = search rules
 
 slice-read-set-max-packet-size : tie.Need-slice-read-set-max-packet-size
-slice-read-set-max-packet-size c = search words-word
+slice-read-set-max-packet-size c = search words_word
 
 set-max-packet-size-requires : tie.Need-set-max-packet-size-requires
 set-max-packet-size-requires c κs = search rules
@@ -43,15 +43,15 @@ mul-heads : tie.Need-overflow-mul-heads
 mul-heads c = search rules
 
 slice-write-heads : tie.Need-slice-write-heads
-slice-write-heads c = search words-word
+slice-write-heads c = search words_word
 
 put-endpoint-requires : tie.Need-put-endpoint-requires
 put-endpoint-requires c κs =
     let b = c.before.before.before.before.before.before.before.before.before.before.before.before.before.before in
     let m = c.before.before.before.before.before in
     let told = c.before.before.before.enum_told.given.1 in (
-      words-slot-room b.args.core.settings b.args.core.rest b.args.slots.now b.requires.0 b.args.heads.now b.requires.1 b.args.slot _ _ m.check-slot.ensures told,
-      sizing-fits b.args.slots.now b.args.slot b.args.size _ _ m.before.before.before.before.pipe-at.ensures
+      words_slot_room b.args.core.settings b.args.core.rest b.args.slots.now b.requires.0 b.args.heads.now b.requires.1 b.args.slot _ _ m.check-slot.ensures told,
+      sizing_fits b.args.slots.now b.args.slot b.args.size _ _ m.before.before.before.before.pipe-at.ensures
           m.before.before.before.resize.ensures (omega arith)
           (omega (arith, c.before.before.before.before.before.before.before.before.before.before.before.before.before.slice-known.given (6 * b.args.slot + 1))),
     )
@@ -71,11 +71,11 @@ returns c =
     let m = c.before.before.before.before.before.before.before.before in
     let told = c.before.before.before.before.before.before.enum_told.given.1 in
     let below = c.before.before.before.before.before.before.before.before.before.before.before.before.before.before.before.before.slice-known.given (6 * b.args.slot + 1) in (
-      sizing-done b.args.core.settings b.args.core.rest b.args.slots.now b.requires.0 b.args.heads.now b.requires.1 b.args.slot _
+      sizing_done b.args.core.settings b.args.core.rest b.args.slots.now b.requires.0 b.args.heads.now b.requires.1 b.args.slot _
           b.args.size _ _ m.before.before.before.before.pipe-at.ensures m.before.before.before.resize.ensures _
           m.before.pipe-good.ensures m.check-slot.ensures told
           (omega arith) (omega (arith, below)) _ c.before.before.put-endpoint.ensures _ c.before.before.before.before.set-max-packet-size.ensures,
-      sizing-tidy b.args.core.settings b.args.core.rest b.args.slots.now b.requires.0 b.args.heads.now b.requires.1 b.args.slot _
+      sizing_tidy b.args.core.settings b.args.core.rest b.args.slots.now b.requires.0 b.args.heads.now b.requires.1 b.args.slot _
           b.args.size _ _ m.before.before.before.before.pipe-at.ensures m.before.before.before.resize.ensures _
           m.before.pipe-good.ensures m.check-slot.ensures told
           (omega arith) (omega (arith, below)) _ c.before.before.put-endpoint.ensures,
@@ -88,7 +88,7 @@ returns-2 : tie.Need-returns-2
 returns-2 c =
     let b = c.before.before.before.before.before.before.before.before.before.before.before.before in
     let m = c.before.before.before in (
-      sizing-refused b.args.core.settings b.args.core.rest b.args.slots.now b.requires.0 b.args.heads.now b.requires.1 b.args.slot _
+      sizing_refused b.args.core.settings b.args.core.rest b.args.slots.now b.requires.0 b.args.heads.now b.requires.1 b.args.slot _
           b.args.size _ _ m.before.before.before.before.pipe-at.ensures m.before.before.before.resize.ensures _
           m.before.pipe-good.ensures m.check-slot.ensures _
           c.before.refusal.given.1,

@@ -1,7 +1,7 @@
 -- `endpoint::lowest::lowest_closed` meets its contract.
 use Rattle.core.specs.Prelude.{◌-◌, ◌≤◌}
 use native.Mathlib.Omega.{arith}
-use Rattle.endpoint.proofs.WordsCases.{Sought, good-most, lowest-is, seek-ends, seek_finds, seek-goes-on, seek-starts, word-inside}
+use Rattle.endpoint.proofs.WordsCases.{Sought, good_most, lowest_is, seek_ends, seek_finds, seek_goes_on, seek_starts, word_inside}
 use borrow.Author.Rules.{rules}
 use Rattle.endpoint.proofs.lowest.lowest_closed.Statement.{statement}
 use Rattle.endpoint.proofs.lowest.lowest_closed.Tie as tie
@@ -13,7 +13,7 @@ abbrev decreases-loop : tie.decreases-loop
 decreases-loop slots endpoints k₀ k = endpoints - k
 
 loop-holds : tie.Need-loop-init invariant-loop decreases-loop
-loop-holds c = (omega arith, seek-starts c.args.slots.now c.args.core.settings.endpoints)
+loop-holds c = (omega arith, seek_starts c.args.slots.now c.args.core.settings.endpoints)
 
 cast-word : tie.Need-overflow-cast-word invariant-loop decreases-loop
 cast-word c = search rules
@@ -25,14 +25,14 @@ mul-word-2 : tie.Need-overflow-mul-word-2 invariant-loop decreases-loop
 mul-word-2 c = search rules
 
 shared-slice-read-word : tie.Need-shared-slice-read-word invariant-loop decreases-loop
-shared-slice-read-word c = search word-inside
+shared-slice-read-word c = search word_inside
 
 returns : tie.Need-returns invariant-loop decreases-loop
 returns c =
     let b = c.before.before.before.before in
     let l = c.before.before.before.loop in
-    lowest-is b.args.core.settings b.args.core.rest b.args.slots.now l.k
-    (seek_finds b.args.slots.now b.args.core.settings.endpoints l.k (omega arith) (good-most _ _ _ b.requires) c.if1.true l.invariant.1)
+    lowest_is b.args.core.settings b.args.core.rest b.args.slots.now l.k
+    (seek_finds b.args.slots.now b.args.core.settings.endpoints l.k (omega arith) (good_most _ _ _ b.requires) c.if1.true l.invariant.1)
 
 add-k : tie.Need-overflow-add-k invariant-loop decreases-loop
 add-k c = search rules
@@ -45,15 +45,15 @@ loop-again c =
     let b = c.before.before.before.before in
     let l = c.before.before.before.loop in (
       omega arith,
-      seek-goes-on b.args.slots.now b.args.core.settings.endpoints l.k (omega arith) (good-most _ _ _ b.requires) c.if1.false l.invariant.1,
+      seek_goes_on b.args.slots.now b.args.core.settings.endpoints l.k (omega arith) (good_most _ _ _ b.requires) c.if1.false l.invariant.1,
     )
 
 returns-2 : tie.Need-returns-2 invariant-loop decreases-loop
 returns-2 c =
     let b = c.before.before in
     let l = c.before.loop in
-    lowest-is b.args.core.settings b.args.core.rest b.args.slots.now l.k
-    (seek-ends b.args.slots.now b.args.core.settings.endpoints l.k (omega arith) l.invariant.1)
+    lowest_is b.args.core.settings b.args.core.rest b.args.slots.now l.k
+    (seek_ends b.args.slots.now b.args.core.settings.endpoints l.k (omega arith) l.invariant.1)
 
 pub lowest-closed-spec : {M : Type 1} → statement M
 lowest-closed-spec =

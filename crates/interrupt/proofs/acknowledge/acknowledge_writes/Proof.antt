@@ -1,5 +1,5 @@
 -- `interrupt::acknowledge::acknowledge_writes` meets its contract.
-use Rattle.interrupt.proofs.Cases.{writes-once, writes_again}
+use Rattle.interrupt.proofs.Cases.{writes_once, writes_again}
 use borrow.Author.Rules.{rules}
 use Rattle.interrupt.proofs.acknowledge.acknowledge_writes.Statement.{statement}
 use Rattle.interrupt.proofs.acknowledge.acknowledge_writes.Tie as tie
@@ -21,7 +21,7 @@ same-requires c κs = search rules
 
 returns : tie.Need-returns
 returns c =
-    writes-once _ _ _ _ _ _ _ _ c.before.before.before.before.before.none.ensures.1 c.before.before.before.before.and_then.ensures.1 c.before.before.before.mask_word.ensures c.before.before.and-then2.ensures.1 _ c.before.same.ensures c.if1.true
+    writes_once _ _ _ _ _ _ _ _ c.before.before.before.before.before.none.ensures.1 c.before.before.before.before.and_then.ensures.1 c.before.before.before.mask_word.ensures c.before.before.and-then2.ensures.1 _ c.before.same.ensures c.if1.true
 
 mask-word-requires-2 : tie.Need-mask-word-requires-2
 mask-word-requires-2 c κs = search rules

@@ -1,5 +1,5 @@
 -- `interrupt::calls::acknowledge` meets its contract.
-use Rattle.interrupt.proofs.WordsCases.{acknowledged-no, acknowledged-yes}
+use Rattle.interrupt.proofs.WordsCases.{acknowledged_no, acknowledged_yes}
 use borrow.Author.Rules.{rules}
 use Rattle.interrupt.proofs.calls.acknowledge.Statement.{statement}
 use Rattle.interrupt.proofs.calls.acknowledge.Tie as tie
@@ -11,7 +11,7 @@ none-requires : tie.Need-none-requires
 none-requires c κs = search rules
 
 returns : tie.Need-returns
-returns c = search acknowledged-no
+returns c = search acknowledged_no
 
 noted-after-requires : tie.Need-noted-after-requires
 noted-after-requires c κs = search rules
@@ -29,7 +29,7 @@ acknowledge-writes-requires : tie.Need-acknowledge-writes-requires
 acknowledge-writes-requires c κs = search rules
 
 returns-2 : tie.Need-returns-2
-returns-2 c = search acknowledged-yes
+returns-2 c = search acknowledged_yes
 
 pub acknowledge-spec : {M : Type 1} → statement M
 acknowledge-spec =

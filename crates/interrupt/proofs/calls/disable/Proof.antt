@@ -1,5 +1,5 @@
 -- `interrupt::calls::disable` meets its contract.
-use Rattle.interrupt.proofs.WordsCases.{disabled-done}
+use Rattle.interrupt.proofs.WordsCases.{disabled_done}
 use borrow.Author.Rules.{rules}
 use Rattle.interrupt.proofs.calls.disable.Statement.{statement}
 use Rattle.interrupt.proofs.calls.disable.Tie as tie
@@ -11,7 +11,7 @@ and-then-requires : tie.Need-and-then-requires
 and-then-requires c κs = search rules
 
 returns : tie.Need-returns
-returns c = search disabled-done
+returns c = search disabled_done
 
 pub disable-spec : {M : Type 1} → statement M
 disable-spec = tie.close (tie.spec none-requires and-then-requires returns)

@@ -1,6 +1,6 @@
 -- `interrupt::calls::drain` meets its contract.
-use Rattle.words.proofs.TidyLaws.{tidy-rest}
-use Rattle.interrupt.proofs.WordsCases.{drained-nothing, drained-some}
+use Rattle.words.proofs.TidyLaws.{tidy_rest}
+use Rattle.interrupt.proofs.WordsCases.{drained_nothing, drained_some}
 use borrow.Author.Rules.{rules}
 use Rattle.interrupt.proofs.calls.drain.Statement.{statement}
 use Rattle.interrupt.proofs.calls.drain.Tie as tie
@@ -9,7 +9,7 @@ none-requires : tie.Need-none-requires
 none-requires c κs = search rules
 
 returns : tie.Need-returns
-returns c = search drained-nothing
+returns c = search drained_nothing
 
 count-noted-requires : tie.Need-count-noted-requires
 count-noted-requires c κs = search rules
@@ -21,7 +21,7 @@ same_length : tie.Need-same-length
 same_length c = search rules
 
 returns-2 : tie.Need-returns-2
-returns-2 c = search (drained-some, tidy-rest)
+returns-2 c = search (drained_some, tidy_rest)
 
 pub drain-spec : {M : Type 1} → statement M
 drain-spec =

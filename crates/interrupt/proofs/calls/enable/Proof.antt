@@ -1,5 +1,5 @@
 -- `interrupt::calls::enable` meets its contract.
-use Rattle.interrupt.proofs.WordsCases.{enabled-done}
+use Rattle.interrupt.proofs.WordsCases.{enabled_done}
 use borrow.Author.Rules.{rules}
 use Rattle.interrupt.proofs.calls.enable.Statement.{statement}
 use Rattle.interrupt.proofs.calls.enable.Tie as tie
@@ -11,7 +11,7 @@ and-then-requires : tie.Need-and-then-requires
 and-then-requires c κs = search rules
 
 returns : tie.Need-returns
-returns c = search enabled-done
+returns c = search enabled_done
 
 pub enable-spec : {M : Type 1} → statement M
 enable-spec = tie.close (tie.spec none-requires and-then-requires returns)

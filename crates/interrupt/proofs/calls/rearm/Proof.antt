@@ -1,5 +1,5 @@
 -- `interrupt::calls::rearm` meets its contract.
-use Rattle.interrupt.proofs.WordsCases.{rearmed-none, rearmed-some}
+use Rattle.interrupt.proofs.WordsCases.{rearmed_none, rearmed_some}
 use borrow.Author.Rules.{rules}
 use Rattle.interrupt.proofs.calls.rearm.Statement.{statement}
 use Rattle.interrupt.proofs.calls.rearm.Tie as tie
@@ -8,7 +8,7 @@ none-requires : tie.Need-none-requires
 none-requires c κs = search rules
 
 returns : tie.Need-returns
-returns c = search rearmed-none
+returns c = search rearmed_none
 
 enabled-word-requires : tie.Need-enabled-word-requires
 enabled-word-requires c κs = search rules
@@ -20,7 +20,7 @@ and-then-requires : tie.Need-and-then-requires
 and-then-requires c κs = search rules
 
 returns-2 : tie.Need-returns-2
-returns-2 c = search rearmed-some
+returns-2 c = search rearmed_some
 
 pub rearm-spec : {M : Type 1} → statement M
 rearm-spec =

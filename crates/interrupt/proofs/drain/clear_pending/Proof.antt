@@ -1,5 +1,5 @@
 -- `interrupt::drain::clear_pending` meets its contract.
-use Rattle.interrupt.proofs.Cases.{take-port, take-activity, take_rest}
+use Rattle.interrupt.proofs.Cases.{take_port, take_activity, take_rest}
 use borrow.Author.Rules.{rules}
 use Rattle.interrupt.proofs.drain.clear_pending.Statement.{statement}
 use Rattle.interrupt.proofs.drain.clear_pending.Tie as tie
@@ -11,7 +11,7 @@ without-bits-requires : tie.Need-without-bits-requires
 without-bits-requires c κs = search rules
 
 returns : tie.Need-returns
-returns c = search take-port
+returns c = search take_port
 
 any-of-requires-2 : tie.Need-any-of-requires-2
 any-of-requires-2 c κs = search rules
@@ -20,7 +20,7 @@ without-bits-requires-2 : tie.Need-without-bits-requires-2
 without-bits-requires-2 c κs = search rules
 
 returns-2 : tie.Need-returns-2
-returns-2 c = search take-activity
+returns-2 c = search take_activity
 
 returns-3 : tie.Need-returns-3
 returns-3 c = search take_rest

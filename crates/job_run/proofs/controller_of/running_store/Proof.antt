@@ -1,5 +1,5 @@
 -- `job_run::controller_of::running_store` meets its contract.
-use Rattle.job_run.proofs.Cases.{running-is}
+use Rattle.job_run.proofs.Cases.{running_is}
 use borrow.Author.Rules.{rules}
 use Rattle.job_run.proofs.controller_of.running_store.Statement.{statement}
 use Rattle.job_run.proofs.controller_of.running_store.Tie as tie
@@ -35,7 +35,7 @@ after-call-requires-7 : tie.Need-after-call-requires-7
 after-call-requires-7 c κs = search rules
 
 returns : tie.Need-returns
-returns c = (running-is _ _ _ _ _ _ _ _ _ _ c.before.before.before.before.before.before.before.before.before.before.blank-store.ensures.0 c.before.before.before.before.before.before.before.before.before.sheet-settings.ensures c.before.before.before.before.before.before.before.before.open_in.ensures.0 c.before.before.before.before.before.before.after_call.ensures.0 c.before.before.before.before.before.after-call2.ensures.0 c.before.before.before.before.after-call3.ensures.0 c.before.before.before.after-call4.ensures.0 c.before.before.after-call5.ensures.0 c.before.after-call6.ensures.0 c.after-call7.ensures.0, c.after-call7.ensures.1)
+returns c = (running_is _ _ _ _ _ _ _ _ _ _ c.before.before.before.before.before.before.before.before.before.before.blank-store.ensures.0 c.before.before.before.before.before.before.before.before.before.sheet-settings.ensures c.before.before.before.before.before.before.before.before.open_in.ensures.0 c.before.before.before.before.before.before.after_call.ensures.0 c.before.before.before.before.before.after-call2.ensures.0 c.before.before.before.before.after-call3.ensures.0 c.before.before.before.after-call4.ensures.0 c.before.before.after-call5.ensures.0 c.before.after-call6.ensures.0 c.after-call7.ensures.0, c.after-call7.ensures.1)
 
 pub running-store-spec : {M : Type 1} → statement M
 running-store-spec =

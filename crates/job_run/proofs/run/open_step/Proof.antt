@@ -1,5 +1,5 @@
 -- `job_run::run::open_step` meets its contract.
-use Rattle.job_run.proofs.Cases.{open-step-is}
+use Rattle.job_run.proofs.Cases.{open_step_is}
 use borrow.Author.Rules.{rules}
 use Rattle.job_run.proofs.run.open_step.Statement.{statement}
 use Rattle.job_run.proofs.run.open_step.Tie as tie
@@ -23,7 +23,7 @@ element-write-ran-2 : tie.Need-element-write-ran-2
 element-write-ran-2 c = search rules
 
 returns : tie.Need-returns
-returns c = open-step-is _ _ _ _ _ c.before.before.before.call-on.ensures c.before.number.ensures _ _ c.before.before.before.before.open-call.ensures c.slot-told.ensures
+returns c = open_step_is _ _ _ _ _ c.before.before.before.call-on.ensures c.before.number.ensures _ _ c.before.before.before.before.open-call.ensures c.slot-told.ensures
 
 pub open-step-spec : {M : Type 1} → statement M
 open-step-spec =

@@ -1,5 +1,5 @@
 -- `job_run::run::submit_call` meets its contract.
-use Rattle.job_run.proofs.Cases.{submit-call-is}
+use Rattle.job_run.proofs.Cases.{submit_call_is}
 use borrow.Author.Rules.{rules}
 use Rattle.job_run.proofs.run.submit_call.Statement.{statement}
 use Rattle.job_run.proofs.run.submit_call.Tie as tie
@@ -17,7 +17,7 @@ cast-t8 : tie.Need-overflow-cast-t8
 cast-t8 c = search rules
 
 returns : tie.Need-returns
-returns c = search submit-call-is
+returns c = search submit_call_is
 
 pub submit-call-spec : {M : Type 1} → statement M
 submit-call-spec =

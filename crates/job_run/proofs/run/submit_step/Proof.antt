@@ -1,5 +1,5 @@
 -- `job_run::run::submit_step` meets its contract.
-use Rattle.job_run.proofs.Cases.{submit-step-is}
+use Rattle.job_run.proofs.Cases.{submit_step_is}
 use borrow.Author.Rules.{rules}
 use Rattle.job_run.proofs.run.submit_step.Statement.{statement}
 use Rattle.job_run.proofs.run.submit_step.Tie as tie
@@ -26,7 +26,7 @@ element-write-ran-2 : tie.Need-element-write-ran-2
 element-write-ran-2 c = search rules
 
 returns : tie.Need-returns
-returns c = submit-step-is _ _ _ _ _ c.before.before.before.call-on.ensures c.before.number.ensures _ _ _ c.before.before.before.before.submit-call.ensures c.id-told.ensures
+returns c = submit_step_is _ _ _ _ _ c.before.before.before.call-on.ensures c.before.number.ensures _ _ _ c.before.before.before.before.submit-call.ensures c.id-told.ensures
 
 pub submit-step-spec : {M : Type 1} → statement M
 submit-step-spec =

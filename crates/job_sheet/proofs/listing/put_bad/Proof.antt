@@ -1,6 +1,6 @@
 -- `job_sheet::listing::put_bad` meets its contract.
 use mathlib.Core.Path.{refl}
-use Rattle.job_sheet.specs.Listing.{badLine}
+use Rattle.job_sheet.specs.Listing.{bad_line}
 use borrow.Author.Rules.{rules}
 use Rattle.job_sheet.proofs.listing.put_bad.Statement.{statement}
 use Rattle.job_sheet.proofs.listing.put_bad.Tie as tie
@@ -18,7 +18,7 @@ same_length : tie.Need-same-length
 same_length c = search rules
 
 returns : tie.Need-returns
-unfolding badLine
+unfolding bad_line
 returns c = (c.before.before.put-bytes.ensures, refl)
 
 pub put-bad-spec : {M : Type 1} → statement M

@@ -2,7 +2,7 @@
 use mathlib.Core.Path.{◌≡◌, ◌∙◌}
 use native.Mathlib.Omega.{arith}
 use lib.ListN.{length}
-use Rattle.job_sheet.proofs.ListingCases.{descriptor-put, word_end, words-end}
+use Rattle.job_sheet.proofs.ListingCases.{descriptor_put, word_end, words_end}
 use borrow.Author.Rules.{rules}
 use Rattle.job_sheet.proofs.listing.put_descriptor.Statement.{statement}
 use Rattle.job_sheet.proofs.listing.put_descriptor.Tie as tie
@@ -57,8 +57,8 @@ returns c =
     let n = c.before.before.before.before.before.before.before.before.before.before.before.before.before.before.before.before.before.before.before.put-number.ensures in
     let p = c.before.before.before.before.before.before.before.before.before.before.before.before.before.before.before.before.before.before.before.before.before.before.before.put.ensures in
     let q = c.before.before.put2.ensures in
-    let e = descriptor-put a.out.now a.at (omega (arith, s.requires)) _ _ _ _ _ _ _ _ _ _ _ _ a.place a.d p (n.0, n.1.0)
-    (v.0, v.1 ∙ word_end _ _) (w.0, w.1 ∙ word_end _ _) (z.0, z.1 ∙ words-end _ _) q in
+    let e = descriptor_put a.out.now a.at (omega (arith, s.requires)) _ _ _ _ _ _ _ _ _ _ _ _ a.place a.d p (n.0, n.1.0)
+    (v.0, v.1 ∙ word_end _ _) (w.0, w.1 ∙ word_end _ _) (z.0, z.1 ∙ words_end _ _) q in
     (e.0, (e.1, omega (arith, five, z.1, w.1, v.1, n.1.1, p.1, q.1)))
 
 pub put-descriptor-spec : {M : Type 1} → statement M

@@ -1,6 +1,6 @@
 -- `job_sheet::listing::put_endpoint` meets its contract.
 use native.Mathlib.Omega.{arith}
-use Rattle.job_sheet.proofs.ListingCases.{endpoint-put}
+use Rattle.job_sheet.proofs.ListingCases.{endpoint_put}
 use borrow.Author.Rules.{rules}
 use Rattle.job_sheet.proofs.listing.put_endpoint.Statement.{statement}
 use Rattle.job_sheet.proofs.listing.put_endpoint.Tie as tie
@@ -25,7 +25,7 @@ returns c =
     let a = c.before.before.before.before.before.before.before.before.before.before.before.before.before.before.before.before.before.args in
     let f = c.before.before.before.before.before.before.before.before.before.before.put-number.ensures in
     let g = c.before.before.before.before.before.before.put-number2.ensures in
-    let e = endpoint-put a.out.now a.at (omega arith) _ _ _ _ _ _ _ _ a.k a.answer c.before.before.before.before.before.before.before.before.before.before.before.before.before.before.put.ensures (f.0, f.1.0) (g.0, g.1.0) c.before.before.put2.ensures in
+    let e = endpoint_put a.out.now a.at (omega arith) _ _ _ _ _ _ _ _ a.k a.answer c.before.before.before.before.before.before.before.before.before.before.before.before.before.before.put.ensures (f.0, f.1.0) (g.0, g.1.0) c.before.before.put2.ensures in
     (e.0, (e.1, omega (arith, f.1.1, g.1.1, c.before.before.before.before.before.before.before.before.before.before.before.before.before.before.put.ensures.1, c.before.before.put2.ensures.1)))
 
 pub put-endpoint-spec : {M : Type 1} → statement M

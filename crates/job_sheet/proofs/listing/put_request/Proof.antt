@@ -1,6 +1,6 @@
 -- `job_sheet::listing::put_request` meets its contract.
 use native.Mathlib.Omega.{arith}
-use Rattle.job_sheet.proofs.ListingCases.{request-put}
+use Rattle.job_sheet.proofs.ListingCases.{request_put}
 use borrow.Author.Rules.{rules}
 use Rattle.job_sheet.proofs.listing.put_request.Statement.{statement}
 use Rattle.job_sheet.proofs.listing.put_request.Tie as tie
@@ -29,7 +29,7 @@ returns c =
     let f = c.before.before.before.before.before.before.before.before.before.before.before.before.before.before.put-number.ensures in
     let g = c.before.before.before.before.before.before.before.before.before.before.put-number2.ensures in
     let d = c.before.before.before.before.before.before.put-number3.ensures in
-    let e = request-put a.out.now a.at (omega arith) _ _ _ _ _ _ _ _ _ _ a.k a.answer a.id c.before.before.before.before.before.before.before.before.before.before.before.before.before.before.before.before.before.before.put.ensures (f.0, f.1.0) (g.0, g.1.0) (d.0, d.1.0) c.before.before.put2.ensures in
+    let e = request_put a.out.now a.at (omega arith) _ _ _ _ _ _ _ _ _ _ a.k a.answer a.id c.before.before.before.before.before.before.before.before.before.before.before.before.before.before.before.before.before.before.put.ensures (f.0, f.1.0) (g.0, g.1.0) (d.0, d.1.0) c.before.before.put2.ensures in
     (e.0, (e.1, omega (arith, f.1.1, g.1.1, d.1.1, c.before.before.before.before.before.before.before.before.before.before.before.before.before.before.before.before.before.before.put.ensures.1, c.before.before.put2.ensures.1)))
 
 pub put-request-spec : {M : Type 1} → statement M

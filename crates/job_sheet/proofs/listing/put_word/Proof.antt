@@ -1,6 +1,6 @@
 -- `job_sheet::listing::put_word` meets its contract.
 use native.Mathlib.Omega.{arith}
-use Rattle.job_sheet.proofs.ListingCases.{word-put}
+use Rattle.job_sheet.proofs.ListingCases.{word_put}
 use borrow.Author.Rules.{rules}
 use Rattle.job_sheet.proofs.listing.put_word.Statement.{statement}
 use Rattle.job_sheet.proofs.listing.put_word.Tie as tie
@@ -18,7 +18,7 @@ returns : tie.Need-returns
 returns c =
     let a = c.before.before.before.before.before.before.before.before.before.args in
     let e = c.before.before.put-hex.ensures in
-    word-put a.out.now a.at (omega arith) _ _ _ _ a.word c.before.before.before.before.before.before.put.ensures e.0 e.1
+    word_put a.out.now a.at (omega arith) _ _ _ _ a.word c.before.before.before.before.before.before.put.ensures e.0 e.1
 
 pub put-word-spec : {M : Type 1} → statement M
 put-word-spec = tie.close (tie.spec put-requires put-hex-requires same_length returns)

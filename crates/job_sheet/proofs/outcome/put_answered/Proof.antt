@@ -1,6 +1,6 @@
 -- `job_sheet::outcome::put_answered` meets its contract.
 use native.Mathlib.Omega.{arith}
-use Rattle.job_sheet.proofs.OutcomeCases.{accepted-put, one-then-other, refused-put}
+use Rattle.job_sheet.proofs.OutcomeCases.{accepted_put, one_then_other, refused_put}
 use borrow.Author.Rules.{rules}
 use Rattle.job_sheet.proofs.outcome.put_answered.Statement.{statement}
 use Rattle.job_sheet.proofs.outcome.put_answered.Tie as tie
@@ -34,8 +34,8 @@ returns c =
     let a = c.before.before.before.before.before.before.before.before.before.before.before.before.before.before.args in
     let p = c.before.before.put-places.ensures in
     let q = c.before.before.before.before.before.before.put-request.ensures in
-    accepted-put a.out.now a.at a.t5 a.slot a.k _ _ 1441 c.before.before.before.before.before.before.before.before.before.before.before.if1.true
-    (one-then-other a.out.now a.at _ _ _ _ _ _ 65 1376 (omega arith) q p)
+    accepted_put a.out.now a.at a.t5 a.slot a.k _ _ 1441 c.before.before.before.before.before.before.before.before.before.before.before.if1.true
+    (one_then_other a.out.now a.at _ _ _ _ _ _ 65 1376 (omega arith) q p)
 
 same-length-2 : tie.Need-same-length-2
 same-length-2 c = search rules
@@ -43,7 +43,7 @@ same-length-2 c = search rules
 returns-2 : tie.Need-returns-2
 returns-2 c =
     let a = c.before.before.before.before.before.before.before.args in
-    refused-put a.out.now a.at a.t5 a.slot a.k _ _ c.before.before.before.before.if1.false c.before.before.put-request2.ensures
+    refused_put a.out.now a.at a.t5 a.slot a.k _ _ c.before.before.before.before.if1.false c.before.before.put-request2.ensures
 
 pub put-answered-spec : {M : Type 1} → statement M
 put-answered-spec =

@@ -2,19 +2,19 @@
 use native.Mathlib.Omega.{arith}
 use Prim.Native.Nat.{◌-◌, ◌≤◌}
 use borrow.Author.Rules.{rules}
-use Rattle.job_sheet.specs.Outcomes.{openedLine}
-use Rattle.job_sheet.proofs.OutcomeCases.{Lined, lined-done, lined-none, lined-turn}
+use Rattle.job_sheet.specs.Outcomes.{opened_line}
+use Rattle.job_sheet.proofs.OutcomeCases.{Lined, lined_done, lined_none, lined_turn}
 use Rattle.job_sheet.proofs.outcome.put_endpoints.Statement.{statement}
 use Rattle.job_sheet.proofs.outcome.put_endpoints.Tie as tie
 
 abbrev invariant-loop : tie.invariant-loop
-invariant-loop out₀ at opens opened next₀ k₀ out next k = (k ≤ opens) × Lined (openedLine opened) 44 out₀ at out next k
+invariant-loop out₀ at opens opened next₀ k₀ out next k = (k ≤ opens) × Lined (opened_line opened) 44 out₀ at out next k
 
 abbrev decreases-loop : tie.decreases-loop
 decreases-loop out₀ at opens opened next₀ k₀ out next k = opens - k
 
 loop-holds : tie.Need-loop-init invariant-loop decreases-loop
-loop-holds c = (omega arith, lined-none _ _ _ 44)
+loop-holds c = (omega arith, lined_none _ _ _ 44)
 
 array-read-put-endpoint : tie.Need-array-read-put-endpoint invariant-loop decreases-loop
 array-read-put-endpoint c = omega arith
@@ -35,7 +35,7 @@ loop-again : tie.Need-loop-preserved invariant-loop decreases-loop
 loop-again c =
     let l = c.before.before.before.before.before.loop in
     let e = c.before.before.put-endpoint in
-    (omega arith, lined-turn _ _ _ 44 l.out _ l.next l.k _ (omega arith) l.invariant.1 e.auto.0 e.ensures)
+    (omega arith, lined_turn _ _ _ 44 l.out _ l.next l.k _ (omega arith) l.invariant.1 e.auto.0 e.ensures)
 
 same_length : tie.Need-same-length invariant-loop decreases-loop
 same_length c = c.before.loop.invariant.1.same
@@ -43,7 +43,7 @@ same_length c = c.before.loop.invariant.1.same
 returns : tie.Need-returns invariant-loop decreases-loop
 returns c =
     let l = c.before.loop in
-    lined-done _ _ _ 44 _ _ l.k _ _ l.invariant.0 c.loop-test.false (omega arith) l.invariant.1
+    lined_done _ _ _ 44 _ _ l.k _ _ l.invariant.0 c.loop-test.false (omega arith) l.invariant.1
 
 pub put-endpoints-spec : {M : Type 1} → statement M
 put-endpoints-spec =

@@ -4,13 +4,13 @@ use Prim.Native.Nat.{◌-◌, ◌≤◌}
 use mathlib.Core.Path.{◌≡◌}
 use lib.ListN.{length}
 use borrow.Author.Rules.{rules}
-use Rattle.job_sheet.specs.Outcomes.{placeLine, placeLines}
-use Rattle.job_sheet.proofs.OutcomeCases.{Lined, lined-done, lined-none, lined-turn, place-put}
+use Rattle.job_sheet.specs.Outcomes.{place_line, place_lines}
+use Rattle.job_sheet.proofs.OutcomeCases.{Lined, lined_done, lined_none, lined_turn, place_put}
 use Rattle.job_sheet.proofs.outcome.put_places.Statement.{statement}
 use Rattle.job_sheet.proofs.outcome.put_places.Tie as tie
 
 abbrev invariant-loop : tie.invariant-loop
-invariant-loop out₀ at slot owner pool mark next₀ p₀ out next p = (p ≤ 16) × Lined (placeLine owner pool slot) 86 out₀ at out next p
+invariant-loop out₀ at slot owner pool mark next₀ p₀ out next p = (p ≤ 16) × Lined (place_line owner pool slot) 86 out₀ at out next p
 
 abbrev decreases-loop : tie.decreases-loop
 decreases-loop out₀ at slot owner pool mark next₀ p₀ out next p = 16 - p
@@ -19,7 +19,7 @@ add-mark : tie.Need-overflow-add-mark invariant-loop decreases-loop
 add-mark c = search rules
 
 loop-holds : tie.Need-loop-init invariant-loop decreases-loop
-loop-holds c = (omega arith, lined-none _ _ _ 86)
+loop-holds c = (omega arith, lined_none _ _ _ 86)
 
 array-read-shown : tie.Need-array-read-shown invariant-loop decreases-loop
 array-read-shown c = omega arith
@@ -48,17 +48,17 @@ loop-again c =
     let e = c.before.before.put-place in
     let a = c.before.before.before.before.before.before.before.before.args in
     let whole : length a.t5 ≡ 257 = search rules in
-    let d = place-put l.out l.next a.t4 a.t5 a.slot l.p _ _ 86 (omega (arith, whole)) e.ensures in
-    (omega arith, lined-turn _ _ _ 86 l.out _ l.next l.p _ (omega arith) l.invariant.1 e.auto.0 d)
+    let d = place_put l.out l.next a.t4 a.t5 a.slot l.p _ _ 86 (omega (arith, whole)) e.ensures in
+    (omega arith, lined_turn _ _ _ 86 l.out _ l.next l.p _ (omega arith) l.invariant.1 e.auto.0 d)
 
 same_length : tie.Need-same-length invariant-loop decreases-loop
 same_length c = c.before.loop.invariant.1.same
 
 returns : tie.Need-returns invariant-loop decreases-loop
-unfolding placeLines
+unfolding place_lines
 returns c =
     let l = c.before.loop in
-    lined-done _ _ _ 86 _ _ l.p 16 _ l.invariant.0 c.loop-test.false (omega arith) l.invariant.1
+    lined_done _ _ _ 86 _ _ l.p 16 _ l.invariant.0 c.loop-test.false (omega arith) l.invariant.1
 
 pub put-places-spec : {M : Type 1} → statement M
 put-places-spec =

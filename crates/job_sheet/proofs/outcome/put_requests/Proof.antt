@@ -3,7 +3,7 @@ use native.Mathlib.Omega.{arith}
 use Prim.Native.Nat.{◌-◌, ◌≤◌}
 use borrow.Author.Rules.{rules}
 use Rattle.job_sheet.specs.Outcomes.{lines_of}
-use Rattle.job_sheet.proofs.OutcomeCases.{Lined, lined-done, lined-none, lined-turn, slot-put}
+use Rattle.job_sheet.proofs.OutcomeCases.{Lined, lined_done, lined_none, lined_turn, slot_put}
 use Rattle.job_sheet.proofs.outcome.put_requests.Statement.{statement}
 use Rattle.job_sheet.proofs.outcome.put_requests.Tie as tie
 
@@ -14,7 +14,7 @@ abbrev decreases-loop : tie.decreases-loop
 decreases-loop out₀ at job ran slots requests next₀ k₀ out next k = job.submits - k
 
 loop-holds : tie.Need-loop-init invariant-loop decreases-loop
-loop-holds c = (omega arith, lined-none _ _ _ 1441)
+loop-holds c = (omega arith, lined_none _ _ _ 1441)
 
 mul-r : tie.Need-overflow-mul-r invariant-loop decreases-loop
 mul-r c = omega arith
@@ -39,8 +39,8 @@ loop-again c =
     let a = c.before.before.before.before.before.before.before.before.before.before.before.before.args in
     let l = c.before.before.before.before.before.before.before.before.loop in
     let e = c.before.before.put-answered in
-    let d = slot-put l.out l.next a.job a.ran _ l.k _ _ 1441 c.before.before.before.before.slot_of.ensures e.ensures in
-    (omega arith, lined-turn _ _ _ 1441 l.out _ l.next l.k _ (omega arith) l.invariant.1 e.auto.0 d)
+    let d = slot_put l.out l.next a.job a.ran _ l.k _ _ 1441 c.before.before.before.before.slot_of.ensures e.ensures in
+    (omega arith, lined_turn _ _ _ 1441 l.out _ l.next l.k _ (omega arith) l.invariant.1 e.auto.0 d)
 
 same_length : tie.Need-same-length invariant-loop decreases-loop
 same_length c = c.before.before.loop.invariant.1.same
@@ -48,7 +48,7 @@ same_length c = c.before.before.loop.invariant.1.same
 returns : tie.Need-returns invariant-loop decreases-loop
 returns c =
     let l = c.before.before.loop in
-    lined-done _ _ _ 1441 _ _ l.k _ _ l.invariant.0 c.if1.false (omega arith) l.invariant.1
+    lined_done _ _ _ 1441 _ _ l.k _ _ l.invariant.0 c.if1.false (omega arith) l.invariant.1
 
 pub put-requests-spec : {M : Type 1} → statement M
 put-requests-spec =

@@ -1,5 +1,5 @@
 -- `job_sheet::record::endpoint_at` meets its contract.
-use Rattle.job_sheet.proofs.ReadCases.{endpoint-is}
+use Rattle.job_sheet.proofs.ReadCases.{endpoint_is}
 use borrow.Author.Rules.{rules}
 use Rattle.job_sheet.proofs.record.endpoint_at.Statement.{statement}
 use Rattle.job_sheet.proofs.record.endpoint_at.Tie as tie
@@ -26,7 +26,7 @@ shared-slice-read-t11 : tie.Need-shared-slice-read-t11
 shared-slice-read-t11 c = search rules
 
 returns : tie.Need-returns
-returns c = endpoint-is _ _ _ c.before.before.before.number16.ensures
+returns c = endpoint_is _ _ _ c.before.before.before.number16.ensures
 
 pub endpoint-at-spec : {M : Type 1} → statement M
 endpoint-at-spec =

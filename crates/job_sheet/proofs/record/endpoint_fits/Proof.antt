@@ -1,6 +1,6 @@
 -- `job_sheet::record::endpoint_fits` meets its contract.
 use mathlib.Core.Path.{refl}
-use Rattle.job_sheet.specs.Reading.{endpointFits}
+use Rattle.job_sheet.specs.Reading.{endpoint_fits}
 use borrow.Author.Rules.{rules}
 use Rattle.job_sheet.proofs.record.endpoint_fits.Statement.{statement}
 use Rattle.job_sheet.proofs.record.endpoint_fits.Tie as tie
@@ -15,7 +15,7 @@ shared-slice-read-zero : tie.Need-shared-slice-read-zero
 shared-slice-read-zero c = search rules
 
 returns : tie.Need-returns
-unfolding endpointFits
+unfolding endpoint_fits
 returns c = refl
 
 pub endpoint-fits-spec : {M : Type 1} → statement M

@@ -1,5 +1,5 @@
 -- `job_sheet::record::request_at` meets its contract.
-use Rattle.job_sheet.proofs.ReadCases.{request-is}
+use Rattle.job_sheet.proofs.ReadCases.{request_is}
 use borrow.Author.Rules.{rules}
 use Rattle.job_sheet.proofs.record.request_at.Statement.{statement}
 use Rattle.job_sheet.proofs.record.request_at.Tie as tie
@@ -32,7 +32,7 @@ shared-slice-read-t10 : tie.Need-shared-slice-read-t10
 shared-slice-read-t10 c = search rules
 
 returns : tie.Need-returns
-returns c = search request-is
+returns c = search request_is
 
 pub request-at-spec : {M : Type 1} → statement M
 request-at-spec =

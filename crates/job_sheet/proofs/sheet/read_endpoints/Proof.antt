@@ -2,14 +2,14 @@
 use native.Mathlib.Omega.{arith}
 use mathlib.Core.Path.{◌≡◌, refl}
 use Prim.Native.Nat.{◌-◌, ◌≤◌}
-use Rattle.job_sheet.specs.Reading.{endpointsFit, endpointsIn, every, filled, noEndpoint, up_to}
+use Rattle.job_sheet.specs.Reading.{endpoints_fit, endpoints_in, every, filled, no_endpoint, up_to}
 use Rattle.job_sheet.proofs.Rows.{joins, stored}
-use Rattle.job_sheet.proofs.ReadCases.{endpoints-done}
+use Rattle.job_sheet.proofs.ReadCases.{endpoints_done}
 use Rattle.job_sheet.proofs.sheet.read_endpoints.Statement.{statement}
 use Rattle.job_sheet.proofs.sheet.read_endpoints.Tie as tie
 
 abbrev invariant-loop : tie.invariant-loop
-invariant-loop bytes count records₀ good₀ i₀ records good i = (i ≤ count) × (records ≡ filled 8 noEndpoint (endpointsIn bytes i)) × (good ≡ endpointsFit bytes i)
+invariant-loop bytes count records₀ good₀ i₀ records good i = (i ≤ count) × (records ≡ filled 8 no_endpoint (endpoints_in bytes i)) × (good ≡ endpoints_fit bytes i)
 
 abbrev decreases-loop : tie.decreases-loop
 decreases-loop bytes count records₀ good₀ i₀ records good i = count - i
@@ -45,12 +45,12 @@ loop-less c = omega arith
 loop-again : tie.Need-loop-preserved invariant-loop decreases-loop
 loop-again c =
     let l = c.before.before.before.loop in
-    (omega arith, stored 8 noEndpoint _ l.records l.i _ (omega arith) l.invariant.1 c.endpoint-at.ensures, joins _ l.good l.i _ l.invariant.2 c.before.endpoint-fits.ensures)
+    (omega arith, stored 8 no_endpoint _ l.records l.i _ (omega arith) l.invariant.1 c.endpoint-at.ensures, joins _ l.good l.i _ l.invariant.2 c.before.endpoint-fits.ensures)
 
 returns : tie.Need-returns invariant-loop decreases-loop
 returns c =
     let l = c.before.loop in
-    endpoints-done _ _ l.i _ _ l.invariant.0 c.loop-test.false l.invariant.1 l.invariant.2
+    endpoints_done _ _ l.i _ _ l.invariant.0 c.loop-test.false l.invariant.1 l.invariant.2
 
 pub read-endpoints-spec : {M : Type 1} → statement M
 read-endpoints-spec =

@@ -4,14 +4,14 @@ use mathlib.Core.Path.{◌≡◌, refl}
 use Prim.Native.Nat.{◌-◌, ◌≤◌}
 use borrow.Author.Rules.{rules}
 use lib.ListN.{take}
-use Rattle.job_sheet.specs.Reading.{every, filled, noRequest, requestsFit, requestsIn, up_to}
+use Rattle.job_sheet.specs.Reading.{every, filled, no_request, requests_fit, requests_in, up_to}
 use Rattle.job_sheet.proofs.Rows.{joins, stored}
-use Rattle.job_sheet.proofs.ReadCases.{request-tested, requests-done}
+use Rattle.job_sheet.proofs.ReadCases.{request_tested, requests_done}
 use Rattle.job_sheet.proofs.sheet.read_requests.Statement.{statement}
 use Rattle.job_sheet.proofs.sheet.read_requests.Tie as tie
 
 abbrev invariant-loop : tie.invariant-loop
-invariant-loop bytes endpoints opens count first records₀ good₀ i₀ records good i = (i ≤ count) × (records ≡ filled 64 noRequest (requestsIn bytes opens i)) × (good ≡ requestsFit bytes (take opens endpoints) opens i)
+invariant-loop bytes endpoints opens count first records₀ good₀ i₀ records good i = (i ≤ count) × (records ≡ filled 64 no_request (requests_in bytes opens i)) × (good ≡ requests_fit bytes (take opens endpoints) opens i)
 
 abbrev decreases-loop : tie.decreases-loop
 decreases-loop bytes endpoints opens count first records₀ good₀ i₀ records good i = count - i
@@ -58,14 +58,14 @@ loop-again c =
     let l = c.before.before.before.before.loop in
     let r = c.before.before.request-at in (
       omega arith,
-      stored 64 noRequest _ l.records l.i _ (omega arith) l.invariant.1 r.ensures,
-      joins _ l.good l.i _ l.invariant.2 (request-tested _ _ _ r.result _ _ r.ensures c.before.is_control.ensures c.request-fits.ensures),
+      stored 64 no_request _ l.records l.i _ (omega arith) l.invariant.1 r.ensures,
+      joins _ l.good l.i _ l.invariant.2 (request_tested _ _ _ r.result _ _ r.ensures c.before.is_control.ensures c.request_fits_lem.ensures),
     )
 
 returns : tie.Need-returns invariant-loop decreases-loop
 returns c =
     let l = c.before.loop in
-    requests-done _ _ _ _ l.i _ _ l.invariant.0 c.loop-test.false l.invariant.1 l.invariant.2
+    requests_done _ _ _ _ l.i _ _ l.invariant.0 c.loop-test.false l.invariant.1 l.invariant.2
 
 pub read-requests-spec : {M : Type 1} → statement M
 read-requests-spec =

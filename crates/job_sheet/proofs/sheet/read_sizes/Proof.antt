@@ -1,7 +1,7 @@
 -- `job_sheet::sheet::read_sizes` meets its contract.
 use mathlib.Core.Path.{◌∙◌}
 use native.Mathlib.Omega.{arith}
-use Rattle.job_sheet.proofs.ReadCases.{sizes-bad, sizes-good, sizes-short}
+use Rattle.job_sheet.proofs.ReadCases.{sizes_bad, sizes_good, sizes_short}
 use borrow.Author.Rules.{rules}
 use Rattle.job_sheet.proofs.sheet.read_sizes.Statement.{statement}
 use Rattle.job_sheet.proofs.sheet.read_sizes.Tie as tie
@@ -10,7 +10,7 @@ bad-sizes-requires : tie.Need-bad-sizes-requires
 bad-sizes-requires c κs = search rules
 
 returns : tie.Need-returns
-returns c = c.bad-sizes.ensures ∙ sizes-short _ (omega arith)
+returns c = c.bad-sizes.ensures ∙ sizes_short _ (omega arith)
 
 number16-requires : tie.Need-number16-requires
 number16-requires c κs = search rules
@@ -31,7 +31,7 @@ bad-sizes-requires-2 : tie.Need-bad-sizes-requires-2
 bad-sizes-requires-2 c κs = search rules
 
 returns-2 : tie.Need-returns-2
-returns-2 c = c.bad-sizes2.ensures ∙ sizes-short _ (omega arith)
+returns-2 c = c.bad-sizes2.ensures ∙ sizes_short _ (omega arith)
 
 number16-requires-2 : tie.Need-number16-requires-2
 number16-requires-2 c κs = search rules
@@ -52,10 +52,10 @@ bad-sizes-requires-3 : tie.Need-bad-sizes-requires-3
 bad-sizes-requires-3 c κs = search rules
 
 returns-3 : tie.Need-returns-3
-returns-3 c = sizes-good _ _ _ c.before.before.before.number16.ensures c.before.number162.ensures c.if3.true
+returns-3 c = sizes_good _ _ _ c.before.before.before.number16.ensures c.before.number162.ensures c.if3.true
 
 returns-4 : tie.Need-returns-4
-returns-4 c = c.bad-sizes3.ensures ∙ sizes-bad _ _ _ c.before.before.before.before.number16.ensures c.before.before.number162.ensures c.before.if3.false
+returns-4 c = c.bad-sizes3.ensures ∙ sizes_bad _ _ _ c.before.before.before.before.number16.ensures c.before.before.number162.ensures c.before.if3.false
 
 pub read-sizes-spec : {M : Type 1} → statement M
 read-sizes-spec =

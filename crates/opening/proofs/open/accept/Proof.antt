@@ -1,5 +1,5 @@
 -- `opening::open::accept` meets its contract.
-use Rattle.opening.specs.Words.{acceptedWords}
+use Rattle.opening.specs.Words.{accepted_words}
 use borrow.Author.Rules.{rules}
 use Rattle.opening.proofs.open.accept.Statement.{statement}
 use Rattle.opening.proofs.open.accept.Tie as tie
@@ -11,7 +11,7 @@ new-requires : tie.Need-new-requires
 new-requires c κs = search rules
 
 returns : tie.Need-returns
-unfolding acceptedWords
+unfolding accepted_words
 returns c = rw (c.before.fresh-rest.ensures, c.new.ensures)
 
 pub accept-spec : {M : Type 1} → statement M

@@ -1,5 +1,5 @@
 -- `opening::open::open_heads` meets its contract.
-use Rattle.opening.proofs.OpenCases.{heads-opened}
+use Rattle.opening.proofs.OpenCases.{heads_opened}
 use borrow.Author.Rules.{rules}
 use Rattle.opening.proofs.open.open_heads.Statement.{statement}
 use Rattle.opening.proofs.open.open_heads.Tie as tie
@@ -23,7 +23,7 @@ same_length : tie.Need-same-length
 same_length c = search rules
 
 returns : tie.Need-returns
-returns c = search heads-opened
+returns c = search heads_opened
 
 pub open-heads-spec : {M : Type 1} → statement M
 open-heads-spec =

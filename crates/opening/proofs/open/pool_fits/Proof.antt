@@ -1,11 +1,11 @@
 -- `opening::open::pool_fits` meets its contract.
-use Rattle.opening.proofs.OpenCases.{none-fits, one_less}
+use Rattle.opening.proofs.OpenCases.{none_fits, one_less}
 use borrow.Author.Rules.{rules}
 use Rattle.opening.proofs.open.pool_fits.Statement.{statement}
 use Rattle.opening.proofs.open.pool_fits.Tie as tie
 
 returns : tie.Need-returns
-returns c = search none-fits
+returns c = search none_fits
 
 sub-result : tie.Need-overflow-sub-result
 sub-result c = search rules

@@ -1,5 +1,5 @@
 -- `opening::open::refuse` meets its contract.
-use Rattle.opening.specs.Words.{blankCore, refusedWords}
+use Rattle.opening.specs.Words.{blank_core, refused_words}
 use borrow.Author.Rules.{rules}
 use Rattle.opening.proofs.open.refuse.Statement.{statement}
 use Rattle.opening.proofs.open.refuse.Tie as tie
@@ -11,7 +11,7 @@ new-requires : tie.Need-new-requires
 new-requires c κs = search rules
 
 returns : tie.Need-returns
-unfolding refusedWords blankCore
+unfolding refused_words blank_core
 returns c = rw (c.before.fresh-rest.ensures, c.new.ensures)
 
 pub refuse-spec : {M : Type 1} → statement M

@@ -20,7 +20,7 @@ mul-result-2 : tie.Need-overflow-mul-result-2
 mul-result-2 c = search rules
 
 returns : tie.Need-returns
-returns c = fit_is _ _ _ _ _ _ c.pool-fits.ensures
+returns c = fit_is _ _ _ _ _ _ c.pool_fits_lem.ensures
 
 pub rows-fit-spec : {M : Type 1} → statement M
 rows-fit-spec = tie.close (tie.spec cast-endpoints pool-fits-requires add-result mul-result mul-result-2 returns)

@@ -1,6 +1,6 @@
 -- `opening::open::slots_fit` meets its contract.
 use mathlib.Core.Path.{refl}
-use Rattle.opening.specs.Words.{slotsFit}
+use Rattle.opening.specs.Words.{slots_fit}
 use borrow.Author.Rules.{rules}
 use Rattle.opening.proofs.open.slots_fit.Statement.{statement}
 use Rattle.opening.proofs.open.slots_fit.Tie as tie
@@ -12,7 +12,7 @@ mul-result : tie.Need-overflow-mul-result
 mul-result c = search rules
 
 returns : tie.Need-returns
-unfolding slotsFit
+unfolding slots_fit
 returns c = refl
 
 pub slots-fit-spec : {M : Type 1} → statement M

@@ -1,5 +1,5 @@
 -- `pipe::endpoints::encode` meets its contract.
-use Rattle.pipe.proofs.EndpointCases.{encode-closed, encode-idle, encode-linked, encode-unlinking}
+use Rattle.pipe.proofs.EndpointCases.{encode_closed, encode_idle, encode_linked, encode_unlinking}
 use borrow.Author.Rules.{rules}
 use Rattle.pipe.proofs.endpoints.encode.Statement.{statement}
 use Rattle.pipe.proofs.endpoints.encode.Tie as tie
@@ -38,16 +38,16 @@ slot-with-requires-2 : tie.Need-slot-with-requires-2
 slot-with-requires-2 c κs = search rules
 
 returns : tie.Need-returns
-returns c = search encode-closed
+returns c = search encode_closed
 
 returns-2 : tie.Need-returns-2
-returns-2 c = search encode-idle
+returns-2 c = search encode_idle
 
 returns-3 : tie.Need-returns-3
-returns-3 c = search encode-linked
+returns-3 c = search encode_linked
 
 returns-4 : tie.Need-returns-4
-returns-4 c = search encode-unlinking
+returns-4 c = search encode_unlinking
 
 pub encode-spec : {M : Type 1} → statement M
 encode-spec =

@@ -10,7 +10,7 @@ pipe-of-requires : tie.Need-pipe-of-requires
 pipe-of-requires c κs = search rules
 
 returns : tie.Need-returns
-returns c = rw (c.pipe-of.ensures, c.before.slot-at.ensures)
+returns c = rw (c.pipe-of.ensures, c.before.slot_at_lem.ensures)
 
 pub pipe-at-spec : {M : Type 1} → statement M
 pipe-at-spec = tie.close (tie.spec slot-at-requires pipe-of-requires returns)

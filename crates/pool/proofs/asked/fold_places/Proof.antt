@@ -44,11 +44,11 @@ use denote.Triple.Table.{entered, cited}
 use denote.Triple.Walked.{says, needs, Stays, stay_none, stay_none_slice, walk_of, Goes-none, Goes-none_slice, Walks, ends_at, walked, walk_Meets}
 use Rattle.descriptor.specs.declared.qtd.QueueTransferDescriptor.{QueueTransferDescriptor as Record}
 use Rattle.pool.proofs.Element.{R}
-use Rattle.bitset.specs.Places.{setPlaces}
-use Rattle.pool.specs.Chains.{read_of, seenFrom, view_of}
-use Rattle.pool.specs.Words.{AskWordsGood, WordGood, sees, wordPlaces}
-use Rattle.pool.proofs.Calls.{at-list, met, tests, gives, looks}
-use Rattle.pool.proofs.FoldTurns.{SeenTo, to_end, to-good, to-next, to_start}
+use Rattle.bitset.specs.Places.{set_places}
+use Rattle.pool.specs.Chains.{read_of, seen_from, view_of}
+use Rattle.pool.specs.Words.{AskWordsGood, WordGood, sees, word_places}
+use Rattle.pool.proofs.Calls.{at_list, met, tests, gives, looks}
+use Rattle.pool.proofs.FoldTurns.{SeenTo, to_end, to_good, to_next, to_start}
 use Rattle.pool.specs.declared.asked.AskWords.{AskWords}
 use Rattle.pool.specs.contracts.asked.AskWords as Q
 use Rattle.pool.proofs.asked.AskWords.TheLaws as Q'
@@ -89,7 +89,7 @@ module _ {M : Type 1} {𝓤 : Ura M} (𝓛 : Logic 𝓤) (mem : Memory → SProp
   n = length ys
 
   abbrev x : Bor (List Record)
-  x = at-list b o γ ys
+  x = at_list b o γ ys
 
   abbrev Arg : Type 0
   Arg = Bor (List Record) × (AskWords × Unit {0})
@@ -109,7 +109,7 @@ module _ {M : Type 1} {𝓤 : Ura M} (𝓛 : Logic 𝓤) (mem : Memory → SProp
   abbrev Post : Val → SProp 𝓤
   Post = (walk_of 𝓛 f.ended stayed (f.clauses 𝓛 mem run)).post (((κ, tt), (q, tt), tt, a, at), tt)
 
-  exits : (u : View) (v : Val) → Is Vw.the_row u (v ∷ []) → u ≡ view_of (read_of ask.stops (seenFrom ask.kind ask.length ask.limit 0 (setPlaces ask.places) ys)) → ent 𝓤 (sep 𝓤 (sem 𝓛 ((ShrSlice (named 0) κ R).own_val x (s ∷ []))) (A.lft κ q)) (Post v)
+  exits : (u : View) (v : Val) → Is Vw.the_row u (v ∷ []) → u ≡ view_of (read_of ask.stops (seen_from ask.kind ask.length ask.limit 0 (set_places ask.places) ys)) → ent 𝓤 (sep 𝓤 (sem 𝓛 ((ShrSlice (named 0) κ R).own_val x (s ∷ []))) (A.lft κ q)) (Post v)
   exits u v is e =
       qed 𝓛 (‵ ((ShrSlice (named 0) κ R).own_val x (s ∷ [])) ∷ ‵ (flft κ q) ∷ []) ∵
       suffices ! _ (ends_at 𝓛 f.ended stayed (f.clauses 𝓛 mem run) (((κ, tt), (q, tt), tt, a, at), tt) v u (tt, (tt, tt)) (tt, (tt, tt))) $ says ! e $
@@ -131,7 +131,7 @@ module _ {M : Type 1} {𝓤 : Ura M} (𝓛 : Logic 𝓤) (mem : Memory → SProp
   goes-fold-word : (j : ℕ) (u : Folded) (uv : Val) → Is Fo.the_row u (uv ∷ []) → WordGood n ask j u → ent 𝓤 (sep 𝓤 (A.lft κ q) (sem 𝓛 ((ShrSlice (named 0) κ R).own_val x (s ∷ [])))) ((met 𝓛 fold_word.ended (fold_word.clauses 𝓛 mem run)).pre (to-fold-word j u uv))
   goes-fold-word j u uv is g =
       qed 𝓛 (‵ (flft κ q) ∷ ‵ ((ShrSlice (named 0) κ R).own_val x (s ∷ [])) ∷ []) ∵ says ! g $ nothing ! $ move ! (1 ∷ 0 ∷ []) $ join ! $ frame ! $
-      nothing ! $ owned ! Fo.the_row (Is Fo.the_row) (LL.makes Fo.the_type Fo'.the_plain 𝓛) u (uv ∷ []) is $ fjoin ! $ owned ! usize (Is usize) (uint_Makes 𝓛 w64) j (vint w64 j ∷ []) (refl, index-fits j g.one-of-four) $ fjoin ! $ owned ! Q.the_row (Is Q.the_row) (LL.makes Q.the_type Q'.the_plain 𝓛) ask (qv ∷ []) is_ask $ fjoin ! $ move ! (1 ∷ 0 ∷ []) $ fjoin ! $ done !
+      nothing ! $ owned ! Fo.the_row (Is Fo.the_row) (LL.makes Fo.the_type Fo'.the_plain 𝓛) u (uv ∷ []) is $ fjoin ! $ owned ! usize (Is usize) (uint_Makes 𝓛 w64) j (vint w64 j ∷ []) (refl, index-fits j g.one_of_four) $ fjoin ! $ owned ! Q.the_row (Is Q.the_row) (LL.makes Q.the_type Q'.the_plain 𝓛) ask (qv ∷ []) is_ask $ fjoin ! $ move ! (1 ∷ 0 ∷ []) $ fjoin ! $ done !
 
   next_fits : (j : ℕ) → j < 4 → j + 1 < 2 ^ 64
   next_fits j h = omega (arith, h)
@@ -167,12 +167,12 @@ module _ {M : Type 1} {𝓤 : Ura M} (𝓛 : Logic 𝓤) (mem : Memory → SProp
         assigns ! (bin ! (load ! (from ! (stop !)) (look ! 4 refl)) (lit ! tt) tt) (from ! (stop !)) (init ! 2 refl (tt, tt)) $
         tests ! (load ! (from ! (stop !)) (look ! 2 refl))
         (λ less. let l = ltb→lt t.0 4 less in
-        looks (fm_of 𝓤 H 𝓛.laws 𝓣) fold_word.ended (fold_word.clauses 𝓛 mem run) known-fold-word (to-fold-word t.0 t.1 t.2) (λ r. sees ask ys (wordPlaces ask t.0) t.1 r) (λ r e. id⊢ 𝓤 _) ! x (s ∷ []) (goes-fold-word t.0 t.1 t.2 t.3.1.0 (to-good n ask ys good t.0 t.1 t.3.1.1 l)) (fst∗ 𝓤 (A.lft κ q) (emp 𝓤))
+        looks (fm_of 𝓤 H 𝓛.laws 𝓣) fold_word.ended (fold_word.clauses 𝓛 mem run) known-fold-word (to-fold-word t.0 t.1 t.2) (λ r. sees ask ys (word_places ask t.0) t.1 r) (λ r e. id⊢ 𝓤 _) ! x (s ∷ []) (goes-fold-word t.0 t.1 t.2 t.3.1.0 (to_good n ask ys good t.0 t.1 t.3.1.1 l)) (fst∗ 𝓤 (A.lft κ q) (emp 𝓤))
         (λ j k. and_then ! (load ! (from ! (stop !)) (look ! 10 refl)) (and_then ! (load ! (from ! (stop !)) (look ! 8 refl)) (and_then ! (load ! (from ! (stop !)) (look ! 4 refl)) (and_then ! (load ! (from ! (stop !)) (look ! 6 refl)) (no_more !))))) (λ v vv f is-v.
         move ! (2 ∷ []) $ drop-item ! $ land ! (from ! (stop !)) (store ! 6 refl ((LL.lawful Fo.the_type Fo'.the_laws 𝓛).typed v _ is-v).0) $
         assigns_last ! (bin ! (load ! (from ! (stop !)) (look ! 4 refl)) (lit ! tt) (record { fits = next_fits t.0 l })) (from ! (stop !)) (store ! 4 refl (tt, record { fits = next_fits t.0 l })) $
         forget ! 2 refl $
-        again ! Nearer At t (t.0 + 1, v, vv, (next_fits t.0 l, (is-v, to-next n ask ys good t.0 t.1 t.3.1.1 l v f))) (add-one-dec 4 t.0 l)))
+        again ! Nearer At t (t.0 + 1, v, vv, (next_fits t.0 l, (is-v, to_next n ask ys good t.0 t.1 t.3.1.1 l v f))) (add-one-dec 4 t.0 l)))
         (λ over. exec ! 𝓣.C 𝓣.Λ En mir'.t-4 (at_ret En Post) $ rewrite ! 6 (λ (z : Val). ‵ (fat full_share Fo'.mir l₃ 0 z)) (ap only (LL.tells Fo.the_type Fo'.the_laws t.1 _ t.3.1.0)) refl $
         assigns ! (of_opd ! (load ! (from ! (fld ! refl (stop !))) (look_in ! 6 (sub ! 0 refl (whole !))))) (from ! (stop !)) (init ! 12 refl ((LL.lawful Vw.the_type Vw'.the_laws 𝓛).typed t.1.view _ (LL.owed Fo.the_type Fo'.the_laws t.1 _ t.3.1.0).0).0) $ returns ! (look ! 12 refl) $ forget ! 2 refl $ forget ! 4 refl $ forget ! 6 refl $ forget ! 8 refl $ forget ! 10 refl $ forget ! 12 refl $
         move ! (12 ∷ 13 ∷ []) $ free1 ! $ move ! (10 ∷ 11 ∷ []) $ free1 ! $ move ! (8 ∷ 9 ∷ []) $ free1 ! $ move ! (6 ∷ 7 ∷ []) $ free1 ! $ move ! (4 ∷ 5 ∷ []) $ free1 ! $ move ! (2 ∷ 3 ∷ []) $ free1 ! $ free0 ! $

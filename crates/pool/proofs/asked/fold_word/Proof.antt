@@ -42,9 +42,9 @@ use Rattle.pool.proofs.Element.{R}
 use lib.Bits.{bit_and}
 use lib.Count.{count_trailing_zeros}
 use Rattle.pool.specs.Chains.{blank}
-use Rattle.pool.specs.Words.{WordGood, leftIf, seenNext, sees, wordPlaces}
-use Rattle.pool.proofs.Calls.{at-list, met, tests, gives, looks}
-use Rattle.pool.proofs.FoldTurns.{Seeing, left-fewer, left_of, none_left, seeing-below, seeing-done, seeing-in, seeing-more, seeing-start, some_left}
+use Rattle.pool.specs.Words.{WordGood, left_if, seen_next, sees, word_places}
+use Rattle.pool.proofs.Calls.{at_list, met, tests, gives, looks}
+use Rattle.pool.proofs.FoldTurns.{Seeing, left_fewer, left_of, none_left, seeing_below, seeing_done, seeing_in, seeing_more, seeing_start, some_left}
 use Rattle.pool.specs.declared.asked.AskWords.{AskWords}
 use Rattle.pool.specs.contracts.asked.AskWords as Q
 use Rattle.pool.proofs.asked.AskWords.TheLaws as Q'
@@ -97,7 +97,7 @@ module _ {M : Type 1} {𝓤 : Ura M} (𝓛 : Logic 𝓤) (mem : Memory → SProp
   n = length ys
 
   abbrev x : Bor (List Record)
-  x = at-list b o γ ys
+  x = at_list b o γ ys
 
   abbrev Arg : Type 0
   Arg = Bor (List Record) × (AskWords × (ℕ × (Folded × Unit {0})))
@@ -120,7 +120,7 @@ module _ {M : Type 1} {𝓤 : Ura M} (𝓛 : Logic 𝓤) (mem : Memory → SProp
   abbrev Post : Val → SProp 𝓤
   Post = (walk_of 𝓛 f.ended stayed (f.clauses 𝓛 mem run)).post (((κ, tt), (q, tt), tt, a, at), tt)
 
-  exits : (u : Folded) (v : Val) → Is Fo.the_row u (v ∷ []) → sees ask ys (wordPlaces ask j) before u → ent 𝓤 (sep 𝓤 (sem 𝓛 ((ShrSlice (named 0) κ R).own_val x (s ∷ []))) (A.lft κ q)) (Post v)
+  exits : (u : Folded) (v : Val) → Is Fo.the_row u (v ∷ []) → sees ask ys (word_places ask j) before u → ent 𝓤 (sep 𝓤 (sem 𝓛 ((ShrSlice (named 0) κ R).own_val x (s ∷ []))) (A.lft κ q)) (Post v)
   exits u v is e =
       qed 𝓛 (‵ ((ShrSlice (named 0) κ R).own_val x (s ∷ [])) ∷ ‵ (flft κ q) ∷ []) ∵
       suffices ! _ (ends_at 𝓛 f.ended stayed (f.clauses 𝓛 mem run) (((κ, tt), (q, tt), tt, a, at), tt) v u (tt, (tt, (tt, (tt, tt)))) (tt, (tt, (tt, (tt, tt))))) $ says ! e $
@@ -190,21 +190,21 @@ module _ {M : Type 1} {𝓤 : Ura M} (𝓛 : Logic 𝓤) (mem : Memory → SProp
         assigns ! (bin ! (load ! (from ! (stop !)) (look ! 10 refl)) (lit ! tt) tt) (from ! (stop !)) (init ! 2 refl (tt, tt)) $
         tests ! (load ! (from ! (stop !)) (look ! 2 refl))
         (λ held. let some = some_left t.0 held in
-        gives (fm_of 𝓤 H 𝓛.laws 𝓣) lowest-place.ended (lowest-place.clauses 𝓛 mem run) known-lowest-place (to-lowest-place j t.0) (λ r. r ≡ 64 * j + count_trailing_zeros 64 t.0) (λ r e. id⊢ 𝓤 _) ! (goes-lowest-place j t.0 j-fits t.3.0 good.one-of-four) (λ j. and_then ! (load ! (from ! (stop !)) (look ! 17 refl)) (and_then ! (load ! (from ! (stop !)) (look ! 11 refl)) (no_more !))) (λ p pv ep is-p.
+        gives (fm_of 𝓤 H 𝓛.laws 𝓣) lowest-place.ended (lowest-place.clauses 𝓛 mem run) known-lowest-place (to-lowest-place j t.0) (λ r. r ≡ 64 * j + count_trailing_zeros 64 t.0) (λ r e. id⊢ 𝓤 _) ! (goes-lowest-place j t.0 j-fits t.3.0 good.one_of_four) (λ j. and_then ! (load ! (from ! (stop !)) (look ! 17 refl)) (and_then ! (load ! (from ! (stop !)) (look ! 11 refl)) (no_more !))) (λ p pv ep is-p.
         drop-item ! $ land ! (from ! (stop !)) (init ! 8 refl ((uint_Lawful 𝓛 w64).typed p _ is-p).0) $ rewrite ! 8 (λ (z : Val). ‵ (fat full_share word l₇ 0 z)) (ap only (uint_Tells w64 p _ is-p)) refl $
-        looks (fm_of 𝓤 H 𝓛.laws 𝓣) token-at.ended (token-at.clauses 𝓛 mem run) known-token-at (to-token-at p) (λ r. r ≡ (get_or ys p blank).token) (λ r e. id⊢ 𝓤 _) ! x (s ∷ []) (goes-token-at p is-p.1 (seeing-in n ask ys j before good t.0 t.1 t.3.1.1 t.3.0 some p ep)) (fst∗ 𝓤 (A.lft κ q) (emp 𝓤))
+        looks (fm_of 𝓤 H 𝓛.laws 𝓣) token-at.ended (token-at.clauses 𝓛 mem run) known-token-at (to-token-at p) (λ r. r ≡ (get_or ys p blank).token) (λ r e. id⊢ 𝓤 _) ! x (s ∷ []) (goes-token-at p is-p.1 (seeing_in n ask ys j before good t.0 t.1 t.3.1.1 t.3.0 some p ep)) (fst∗ 𝓤 (A.lft κ q) (emp 𝓤))
         (λ j k. and_then ! (load ! (from ! (stop !)) (look ! 20 refl)) (and_then ! (load ! (from ! (stop !)) (look ! 8 refl)) (no_more !))) (λ w wv ew is-w.
         move ! (2 ∷ []) $ drop-item ! $ land ! (from ! (stop !)) (init ! 6 refl ((uint_Lawful 𝓛 w32).typed w _ is-w).0) $ rewrite ! 6 (λ (z : Val). ‵ (fat full_share narrow l₈ 0 z)) (ap only (uint_Tells w32 w _ is-w)) refl $
-        gives (fm_of 𝓤 H 𝓛.laws 𝓣) see-word.ended (see-word.clauses 𝓛 mem run) known-see-word (to-see-word t.1 t.2 ask qv w) (λ r. r ≡ seenNext t.1 ask w) (λ r e. id⊢ 𝓤 _) ! (goes-see-word t.1 t.2 ask qv w t.3.1.0 is_ask is-w.1 (seeing-below n ask ys j before good t.0 t.1 t.3.1.1 t.3.0 some, good.short, good.limited, t.3.1.1.in_bounds.0, t.3.1.1.in_bounds.1)) (λ j. and_then ! (load ! (from ! (stop !)) (look ! 13 refl)) (and_then ! (load ! (from ! (stop !)) (look ! 19 refl)) (and_then ! (load ! (from ! (stop !)) (look ! 7 refl)) (no_more !)))) (λ u uv eu is-u.
+        gives (fm_of 𝓤 H 𝓛.laws 𝓣) see-word.ended (see-word.clauses 𝓛 mem run) known-see-word (to-see-word t.1 t.2 ask qv w) (λ r. r ≡ seen_next t.1 ask w) (λ r e. id⊢ 𝓤 _) ! (goes-see-word t.1 t.2 ask qv w t.3.1.0 is_ask is-w.1 (seeing_below n ask ys j before good t.0 t.1 t.3.1.1 t.3.0 some, good.short, good.limited, t.3.1.1.in_bounds.0, t.3.1.1.in_bounds.1)) (λ j. and_then ! (load ! (from ! (stop !)) (look ! 13 refl)) (and_then ! (load ! (from ! (stop !)) (look ! 19 refl)) (and_then ! (load ! (from ! (stop !)) (look ! 7 refl)) (no_more !)))) (λ u uv eu is-u.
         drop-item ! $ land ! (from ! (stop !)) (store ! 12 refl ((LL.lawful Fo.the_type Fo'.the_laws 𝓛).typed u _ is-u).0) $
-        gives (fm_of 𝓤 H 𝓛.laws 𝓣) left_After.ended (left_After.clauses 𝓛 mem run) known-left-after (to-left-after u uv t.0) (λ r. r ≡ leftIf u.ended (bit_and t.0 (t.0 - 1))) (λ r e. id⊢ 𝓤 _) ! (goes-left-after u uv t.0 is-u t.3.0) (λ j. and_then ! (load ! (from ! (stop !)) (look ! 13 refl)) (and_then ! (load ! (from ! (stop !)) (look ! 11 refl)) (no_more !))) (λ r rv er is-r.
+        gives (fm_of 𝓤 H 𝓛.laws 𝓣) left_After.ended (left_After.clauses 𝓛 mem run) known-left-after (to-left-after u uv t.0) (λ r. r ≡ left_if u.ended (bit_and t.0 (t.0 - 1))) (λ r e. id⊢ 𝓤 _) ! (goes-left-after u uv t.0 is-u t.3.0) (λ j. and_then ! (load ! (from ! (stop !)) (look ! 13 refl)) (and_then ! (load ! (from ! (stop !)) (look ! 11 refl)) (no_more !))) (λ r rv er is-r.
         drop-item ! $ land ! (from ! (stop !)) (init ! 4 refl ((uint_Lawful 𝓛 w64).typed r _ is-r).0) $ rewrite ! 4 (λ (z : Val). ‵ (fat full_share word l₉ 0 z)) (ap only (uint_Tells w64 r _ is-r)) refl $
         assigns_last ! (of_opd ! (load ! (from ! (stop !)) (look ! 4 refl))) (from ! (stop !)) (store ! 10 refl (tt, record { fits = is-r.1 })) $
         forget ! 2 refl $ forget ! 4 refl $ forget ! 6 refl $ forget ! 8 refl $
-        again ! Nearer At t (r, u, uv, (is-r.1, (is-u, seeing-more n ask ys j before good t.0 t.1 t.3.1.1 t.3.0 some p r w u ep ew eu er))) (left-fewer n ask ys j before good t.0 t.1 t.3.1.1 t.3.0 some p r w u ep ew eu er))))))
+        again ! Nearer At t (r, u, uv, (is-r.1, (is-u, seeing_more n ask ys j before good t.0 t.1 t.3.1.1 t.3.0 some p r w u ep ew eu er))) (left_fewer n ask ys j before good t.0 t.1 t.3.1.1 t.3.0 some p r w u ep ew eu er))))))
         (λ over. exec ! 𝓣.C 𝓣.Λ En mir'.t-4 (at_ret En Post) $ assigns ! (of_opd ! (load ! (from ! (stop !)) (look ! 12 refl))) (from ! (stop !)) (init ! 22 refl ((LL.lawful Fo.the_type Fo'.the_laws 𝓛).typed t.1 _ t.3.1.0).0) $ returns ! (look ! 22 refl) $ forget ! 2 refl $ forget ! 10 refl $ forget ! 12 refl $ forget ! 14 refl $ forget ! 16 refl $ forget ! 18 refl $ forget ! 20 refl $ forget ! 22 refl $
         move ! (22 ∷ 23 ∷ []) $ free1 ! $ move ! (20 ∷ 21 ∷ []) $ free1 ! $ move ! (18 ∷ 19 ∷ []) $ free1 ! $ move ! (16 ∷ 17 ∷ []) $ free1 ! $ move ! (14 ∷ 15 ∷ []) $ free1 ! $ move ! (12 ∷ 13 ∷ []) $ free1 ! $ move ! (10 ∷ 11 ∷ []) $ free1 ! $ move ! (8 ∷ 9 ∷ []) $ free1 ! $ move ! (6 ∷ 7 ∷ []) $ free1 ! $ move ! (4 ∷ 5 ∷ []) $ free1 ! $ move ! (2 ∷ 3 ∷ []) $ free1 ! $ free0 ! $
-        by ! (exits t.1 t.2 t.3.1.0 (seeing-done n ask ys j before good t.0 t.1 t.3.1.1 (none_left t.0 over))))
+        by ! (exits t.1 t.2 t.3.1.0 (seeing_done n ask ys j before good t.0 t.1 t.3.1.1 (none_left t.0 over))))
 
     enters-loop : (t : State) → Sq 𝓛 (At t) (runs 𝓣.C 𝓣.Λ En mir'.t-3 (at_ret En Post))
     enters-loop t = first ! $ blocks ! $ loops ! 𝓣 Nearer Nearer-wf At turns t
@@ -216,10 +216,10 @@ module _ {M : Type 1} {𝓤 : Ura M} (𝓛 : Logic 𝓤) (mem : Memory → SProp
         alloc1 ! (λ l₀. alloc1 ! (λ l₁. alloc1 ! (λ l₂. alloc1 ! (λ l₃. alloc1 ! (λ l₄. alloc1 ! (λ l₅. alloc1 ! (λ l₆. alloc1 ! (λ l₇. alloc1 ! (λ l₈. alloc1 ! (λ l₉. alloc1 ! (λ l₁₀. alloc0 ! $ params1 ! $
         pass1 ! (init ! 18 refl (tt, (tt, (record { fits = room.0 }, tt)))) $ pass1 ! (init ! 16 refl ((LL.lawful Q.the_type Q'.the_laws 𝓛).typed ask _ is_ask).0) $ pass1 ! (init ! 14 refl (tt, record { fits = j-fits })) $ pass1 ! (init ! 12 refl ((LL.lawful Fo.the_type Fo'.the_laws 𝓛).typed before _ is-before).0) $ pass0 ! $
         assigns ! (of_opd ! (load ! (from ! (stop !)) (look ! 12 refl))) (from ! (stop !)) (init ! 10 refl ((LL.lawful Fo.the_type Fo'.the_laws 𝓛).typed before _ is-before).0) $
-        gives (fm_of 𝓤 H 𝓛.laws 𝓣) word_at.ended (word_at.clauses 𝓛 mem run) known-word-at (to-word-at ask qv j before fv) (λ r. r ≡ leftIf before.ended (get_or ask.places j 0)) (λ r e. id⊢ 𝓤 _) ! (goes-word-at ask qv j before fv is_ask j-fits is-before good.one-of-four) (λ j. and_then ! (load ! (from ! (stop !)) (look ! 17 refl)) (and_then ! (load ! (from ! (stop !)) (look ! 15 refl)) (and_then ! (load ! (from ! (stop !)) (look ! 13 refl)) (no_more !)))) (λ r rv er is-r.
+        gives (fm_of 𝓤 H 𝓛.laws 𝓣) word_at.ended (word_at.clauses 𝓛 mem run) known-word-at (to-word-at ask qv j before fv) (λ r. r ≡ left_if before.ended (get_or ask.places j 0)) (λ r e. id⊢ 𝓤 _) ! (goes-word-at ask qv j before fv is_ask j-fits is-before good.one_of_four) (λ j. and_then ! (load ! (from ! (stop !)) (look ! 17 refl)) (and_then ! (load ! (from ! (stop !)) (look ! 15 refl)) (and_then ! (load ! (from ! (stop !)) (look ! 13 refl)) (no_more !)))) (λ r rv er is-r.
         drop-item ! $ land ! (from ! (stop !)) (init ! 8 refl ((uint_Lawful 𝓛 w64).typed r _ is-r).0) $ rewrite ! 8 (λ (z : Val). ‵ (fat full_share word l₆ 0 z)) (ap only (uint_Tells w64 r _ is-r)) refl $
         move ! (23 ∷ []) $ fsplit ! $ move ! (24 ∷ []) $ split ! $
-        keep ! (2 ∷ 0 ∷ 4 ∷ 5 ∷ 6 ∷ 7 ∷ 8 ∷ 9 ∷ 10 ∷ 11 ∷ 12 ∷ 13 ∷ 14 ∷ 15 ∷ 16 ∷ 17 ∷ 18 ∷ 19 ∷ 20 ∷ 21 ∷ 22 ∷ 23 ∷ 24 ∷ 25 ∷ []) $ enters-loop 𝓣 known-word-at known-lowest-place known-token-at known-see-word known-left-after l₀ l₁ l₂ l₃ l₄ l₅ l₆ l₇ l₈ l₉ l₁₀ (r, before, fv, (is-r.1, (is-before, seeing-start n ask ys j before good r er)))))))))))))))
+        keep ! (2 ∷ 0 ∷ 4 ∷ 5 ∷ 6 ∷ 7 ∷ 8 ∷ 9 ∷ 10 ∷ 11 ∷ 12 ∷ 13 ∷ 14 ∷ 15 ∷ 16 ∷ 17 ∷ 18 ∷ 19 ∷ 20 ∷ 21 ∷ 22 ∷ 23 ∷ 24 ∷ 25 ∷ []) $ enters-loop 𝓣 known-word-at known-lowest-place known-token-at known-see-word known-left-after l₀ l₁ l₂ l₃ l₄ l₅ l₆ l₇ l₈ l₉ l₁₀ (r, before, fv, (is-r.1, (is-before, seeing_start n ask ys j before good r er)))))))))))))))
 
 module _ {M : Type 1} {𝓤 : Ura M} (𝓛 : Logic 𝓤) (mem : Memory → SProp 𝓤) (run : Routine → Fun 𝓤) (𝓣 : Tables 𝓤 𝓛.H) (known-word-at : Triple 𝓤 (𝓣.C #word-at) (met 𝓛 word_at.ended (word_at.clauses 𝓛 mem run))) (known-lowest-place : Triple 𝓤 (𝓣.C #lowest-place) (met 𝓛 lowest-place.ended (lowest-place.clauses 𝓛 mem run))) (known-token-at : Triple 𝓤 (𝓣.C #token-at) (met 𝓛 token-at.ended (token-at.clauses 𝓛 mem run))) (known-see-word : Triple 𝓤 (𝓣.C #see-word) (met 𝓛 see-word.ended (see-word.clauses 𝓛 mem run))) (known-left-after : Triple 𝓤 (𝓣.C #left-after) (met 𝓛 left_After.ended (left_After.clauses 𝓛 mem run))) where
   open 𝓛 use {H}

@@ -1,5 +1,5 @@
 -- `pool::asked::lowest_place` meets its contract.
-use Rattle.pool.proofs.WordCases.{place-fits}
+use Rattle.pool.proofs.WordCases.{place_fits}
 use borrow.Author.Rules.{rules}
 use Rattle.pool.proofs.asked.lowest_place.Statement.{statement}
 use Rattle.pool.proofs.asked.lowest_place.Tie as tie
@@ -11,7 +11,7 @@ lowest-requires : tie.Need-lowest-requires
 lowest-requires c κs = search rules
 
 add-result : tie.Need-overflow-add-result
-add-result c = search place-fits
+add-result c = search place_fits
 
 returns : tie.Need-returns
 returns c = search rules

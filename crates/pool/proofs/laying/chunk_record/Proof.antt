@@ -1,5 +1,5 @@
 -- `pool::laying::chunk_record` meets its contract.
-use Rattle.pool.proofs.WordCases.{chunk-laid}
+use Rattle.pool.proofs.WordCases.{chunk_laid}
 use borrow.Author.Rules.{rules}
 use Rattle.pool.proofs.laying.chunk_record.Statement.{statement}
 use Rattle.pool.proofs.laying.chunk_record.Tie as tie
@@ -38,7 +38,7 @@ page-slots-requires : tie.Need-page-slots-requires
 page-slots-requires c κs = search rules
 
 returns : tie.Need-returns
-returns c = search chunk-laid
+returns c = search chunk_laid
 
 pub chunk-record-spec : {M : Type 1} → statement M
 chunk-record-spec = tie.close (tie.spec cast-limit cast-start mul-start chunk-length-requires next-at-requires at-end-requires chunk-token-requires word-requires alternate-of-requires add-page-slots page-slots-requires returns)

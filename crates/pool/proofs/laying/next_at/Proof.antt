@@ -1,5 +1,5 @@
 -- `pool::laying::next_at` meets its contract.
-use Rattle.pool.proofs.WordCases.{next-none, next-some, next-below, next_fits}
+use Rattle.pool.proofs.WordCases.{next_none, next_some, next_below, next_fits}
 use borrow.Author.Rules.{rules}
 use Rattle.pool.proofs.laying.next_at.Statement.{statement}
 use Rattle.pool.proofs.laying.next_at.Tie as tie
@@ -8,7 +8,7 @@ at-end-requires : tie.Need-at-end-requires
 at-end-requires c κs = search rules
 
 returns : tie.Need-returns
-returns c = search next-none
+returns c = search next_none
 
 place-at-requires : tie.Need-place-at-requires
 place-at-requires c κs = search rules
@@ -20,10 +20,10 @@ add-t7 : tie.Need-overflow-add-t7
 add-t7 c = search (rules, next_fits)
 
 cast-t8 : tie.Need-overflow-cast-t8
-cast-t8 c = search (rules, next-below)
+cast-t8 c = search (rules, next_below)
 
 returns-2 : tie.Need-returns-2
-returns-2 c = search next-some
+returns-2 c = search next_some
 
 pub next-at-spec : {M : Type 1} → statement M
 next-at-spec =

@@ -1,11 +1,11 @@
 -- `pool::laying::no_laying` meets its contract.
-use Rattle.pool.specs.Words.{noLaying}
+use Rattle.pool.specs.Words.{no_laying}
 use borrow.Author.Rules.{rules}
 use Rattle.pool.proofs.laying.no_laying.Statement.{statement}
 use Rattle.pool.proofs.laying.no_laying.Tie as tie
 
 returns : tie.Need-returns
-unfolding noLaying
+unfolding no_laying
 returns c = search rules
 
 pub no-laying-spec : {M : Type 1} → statement M

@@ -1,5 +1,5 @@
 -- `pool::laying::stage_record` meets its contract.
-use Rattle.pool.proofs.WordCases.{stage-made}
+use Rattle.pool.proofs.WordCases.{stage_made}
 use borrow.Author.Rules.{rules}
 use Rattle.pool.proofs.laying.stage_record.Statement.{statement}
 use Rattle.pool.proofs.laying.stage_record.Tie as tie
@@ -14,7 +14,7 @@ set-next-requires : tie.Need-set-next-requires
 set-next-requires c κs = search rules
 
 returns : tie.Need-returns
-returns c = search stage-made
+returns c = search stage_made
 
 pub stage-record-spec : {M : Type 1} → statement M
 stage-record-spec =

@@ -38,11 +38,11 @@ use denote.Triple.Statement.{Triple}
 use denote.Triple.Table.{entered, cited}
 use denote.Triple.Walked.{says, needs, Stays, stay_slice, stay_none, walk_of, Goes-slice, Goes-none, Walks, ends_at, walked, walk_Meets}
 use Rattle.descriptor.specs.declared.qtd.QueueTransferDescriptor.{QueueTransferDescriptor as Record}
-use Rattle.pool.specs.Chains.{blank, withToken}
-use Rattle.pool.specs.Words.{MarkingGood, markedOf}
+use Rattle.pool.specs.Chains.{blank, with_token}
+use Rattle.pool.specs.Words.{MarkingGood, marked_of}
 use Rattle.pool.specs.declared.marking.Marking.{Marking}
 use Rattle.pool.proofs.Element.{R}
-use Rattle.pool.proofs.Calls.{at-list, met}
+use Rattle.pool.proofs.Calls.{at_list, met}
 use Rattle.pool.proofs.Lends.{row_at, lends}
 use Rattle.pool.proofs.WordTurns.{goes_on, stops}
 use Rattle.pool.specs.contracts.marking.Marking as Mk
@@ -74,7 +74,7 @@ module _ {M : Type 1} {𝓤 : Ura M} (𝓛 : Logic 𝓤) (mem : Memory → SProp
   n = length ys
 
   abbrev x : List Record → MutBor (List Record)
-  x zs = at-list b o γ zs
+  x zs = at_list b o γ zs
 
   abbrev Arg : Type 0
   Arg = MutBor (List Record) × (Marking × Unit {0})
@@ -96,12 +96,12 @@ module _ {M : Type 1} {𝓤 : Ura M} (𝓛 : Logic 𝓤) (mem : Memory → SProp
 
   -- the row with the token at the place
   abbrev written : List Record
-  written = set ys m.place (withToken (get_or ys m.place blank) m.token)
+  written = set ys m.place (with_token (get_or ys m.place blank) m.token)
 
-  is-marked : (y : Bool) → m.marks ≡ y → cond y written ys ≡ markedOf m ys
+  is-marked : (y : Bool) → m.marks ≡ y → cond y written ys ≡ marked_of m ys
   is-marked y e = ap (λ (z : Bool). cond z written ys) (sym e)
 
-  exits : (zs : List Record) → length zs ≡ n → zs ≡ markedOf m ys → ent 𝓤 (sep 𝓤 (sem 𝓛 ((MutSlice (named 0) κ R).own_val (x zs) (s ∷ []))) (A.lft κ q)) (Post vunit)
+  exits : (zs : List Record) → length zs ≡ n → zs ≡ marked_of m ys → ent 𝓤 (sep 𝓤 (sem 𝓛 ((MutSlice (named 0) κ R).own_val (x zs) (s ∷ []))) (A.lft κ q)) (Post vunit)
   exits zs len e =
       qed 𝓛 (‵ ((MutSlice (named 0) κ R).own_val (x zs) (s ∷ [])) ∷ ‵ (flft κ q) ∷ []) ∵
       suffices ! _ (ends_at 𝓛 f.ended stayed (f.clauses 𝓛 mem run) (((κ, tt), (q, tt), tt, a, at), tt) vunit tt (zs, (tt, tt)) (len, (tt, tt))) $ says ! e $
@@ -111,8 +111,8 @@ module _ {M : Type 1} {𝓤 : Ura M} (𝓛 : Logic 𝓤) (mem : Memory → SProp
   abbrev to-set-token : ℕ → GName → (met 𝓛 set-token.ended (set-token.clauses 𝓛 mem run)).Ghost
   to-set-token ν δ = (((ν ∷ [], tt), (full_share, tt), tt, (row_at b o δ ys, (m.place, (m.token, tt))), (s ∷ [], (vint w64 m.place ∷ [], (vint w32 m.token ∷ [], tt)))), tt)
 
-  place-fits : m.place < 2 ^ 64
-  place-fits = (LL.owed Mk.the_type Mk'.the_laws m _ is_m).1.0.1
+  place_fits : m.place < 2 ^ 64
+  place_fits = (LL.owed Mk.the_type Mk'.the_laws m _ is_m).1.0.1
 
   token-fits : m.token < 2 ^ 32
   token-fits = (LL.owed Mk.the_type Mk'.the_laws m _ is_m).1.1.0.1
@@ -120,7 +120,7 @@ module _ {M : Type 1} {𝓤 : Ura M} (𝓛 : Logic 𝓤) (mem : Memory → SProp
   goes-set-token : m.place < n → (ν : ℕ) (δ : GName) → ent 𝓤 (sep 𝓤 (A.lft (ν ∷ []) full_share) (sem 𝓛 ((MutSlice (named 0) (ν ∷ []) R).own_val (row_at b o δ ys) (s ∷ [])))) ((met 𝓛 set-token.ended (set-token.clauses 𝓛 mem run)).pre (to-set-token ν δ))
   goes-set-token l ν δ =
       qed 𝓛 (‵ (flft (ν ∷ []) full_share) ∷ ‵ ((MutSlice (named 0) (ν ∷ []) R).own_val (row_at b o δ ys) (s ∷ [])) ∷ []) ∵ says ! l $ nothing ! $ move ! (1 ∷ 0 ∷ []) $ join ! $ frame ! $
-      nothing ! $ owned ! u32 (Is u32) (uint_Makes 𝓛 w32) m.token (vint w32 m.token ∷ []) (refl, token-fits) $ fjoin ! $ owned ! usize (Is usize) (uint_Makes 𝓛 w64) m.place (vint w64 m.place ∷ []) (refl, place-fits) $ fjoin ! $ move ! (1 ∷ 0 ∷ []) $ fjoin ! $ done !
+      nothing ! $ owned ! u32 (Is u32) (uint_Makes 𝓛 w32) m.token (vint w32 m.token ∷ []) (refl, token-fits) $ fjoin ! $ owned ! usize (Is usize) (uint_Makes 𝓛 w64) m.place (vint w64 m.place ∷ []) (refl, place_fits) $ fjoin ! $ move ! (1 ∷ 0 ∷ []) $ fjoin ! $ done !
 
   left-set-token : (ν : ℕ) (δ : GName) (ws : Lasts set-token.ended (ν ∷ [], tt) (to-set-token ν δ).0.3) → ent 𝓤 (sem 𝓛 (lasts set-token.ended (ν ∷ [], tt) (to-set-token ν δ).0.3 ws)) (sem 𝓛 (fsep (finally R δ ws.0) (feq ℕ (length ws.0) (length ys))))
   left-set-token ν δ ws = qed 𝓛 (‵ (lasts set-token.ended (ν ∷ [], tt) (to-set-token ν δ).0.3 ws) ∷ []) ∵ fsplit ! $ move ! (1 ∷ []) $ drop-item ! $ done !
@@ -140,7 +140,7 @@ module _ {M : Type 1} {𝓤 : Ura M} (𝓛 : Logic 𝓤) (mem : Memory → SProp
           ∷ ‵ (froom Mk'.mir l₂ 0) ∷ ‵ (fdies Mk'.mir l₂) ∷ ‵ (froom slice l₁ 0) ∷ ‵ (fdies slice l₁) ∷ ‵ (froom ty_unit l₀ 0) ∷ ‵ (fdies ty_unit l₀) ∷ []
 
       -- every local is freed: both returns come here
-      ends : (zs : List Record) → length zs ≡ n → zs ≡ markedOf m ys → Sq 𝓛 (Bare zs) (frees En (prop (Post vunit)))
+      ends : (zs : List Record) → length zs ≡ n → zs ≡ marked_of m ys → Sq 𝓛 (Bare zs) (frees En (prop (Post vunit)))
       ends zs len e =
           move ! (14 ∷ 15 ∷ []) $ free1 ! $ move ! (12 ∷ 13 ∷ []) $ free1 ! $ move ! (10 ∷ 11 ∷ []) $ free1 ! $ move ! (8 ∷ 9 ∷ []) $ free1 ! $ move ! (6 ∷ 7 ∷ []) $ free1 ! $ move ! (4 ∷ 5 ∷ []) $ free1 ! $ move ! (2 ∷ 3 ∷ []) $ free1 ! $ free0 ! $
           by ! (exits zs len e)

@@ -1,11 +1,11 @@
 -- `pool::marking::no_marking` meets its contract.
-use Rattle.pool.specs.Words.{noMarking}
+use Rattle.pool.specs.Words.{no_marking}
 use borrow.Author.Rules.{rules}
 use Rattle.pool.proofs.marking.no_marking.Statement.{statement}
 use Rattle.pool.proofs.marking.no_marking.Tie as tie
 
 returns : tie.Need-returns
-unfolding noMarking
+unfolding no_marking
 returns c = search rules
 
 pub no-marking-spec : {M : Type 1} → statement M

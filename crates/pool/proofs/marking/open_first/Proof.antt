@@ -47,10 +47,10 @@ use Rattle.descriptor.proofs.qtd.QueueTransferDescriptor.TheLaws as T'
 use Rattle.pool.proofs.Element.{R, D, L}
 use Rattle.pool.specs.Plain as Deeds
 use Rattle.pool.specs.Places.{up_from}
-use Rattle.pool.specs.Chains.{filledFrom, freshAt}
-use Rattle.pool.specs.Words.{openedTo}
-use Rattle.pool.proofs.Calls.{at-list, met, tests, gives, replaces}
-use Rattle.pool.proofs.WordTurns.{open-end, open-on, open-start}
+use Rattle.pool.specs.Chains.{filled_from, fresh_at}
+use Rattle.pool.specs.Words.{opened_to}
+use Rattle.pool.proofs.Calls.{at_list, met, tests, gives, replaces}
+use Rattle.pool.proofs.WordTurns.{open_end, open_on_lem, open_start}
 use Rattle.pool.specs.contracts.marking.fresh_record as fresh-record
 use Rattle.pool.proofs.marking.fresh_record.Symbol as fresh-record-def
 use Rattle.pool.proofs.marking.fresh_record.Symbol.{name as #fresh-record}
@@ -85,7 +85,7 @@ module _ {M : Type 1} {𝓤 : Ura M} (𝓛 : Logic 𝓤) (mem : Memory → SProp
   n = length ys
 
   abbrev x : List Record → MutBor (List Record)
-  x zs = at-list b o γ zs
+  x zs = at_list b o γ zs
 
   abbrev Arg : Type 0
   Arg = MutBor (List Record) × (ℕ × Unit {0})
@@ -106,7 +106,7 @@ module _ {M : Type 1} {𝓤 : Ura M} (𝓛 : Logic 𝓤) (mem : Memory → SProp
   Post = (walk_of 𝓛 f.ended stayed (f.clauses 𝓛 mem run)).post (((κ, tt), (q, tt), tt, a, at), tt)
 
   abbrev all : List Record
-  all = openedTo count ys
+  all = opened_to count ys
 
   exits : (zs : List Record) → length zs ≡ n → zs ≡ all → ent 𝓤 (sep 𝓤 (sem 𝓛 ((MutSlice (named 0) κ R).own_val (x zs) (s ∷ []))) (A.lft κ q)) (Post vunit)
   exits zs len e =
@@ -123,7 +123,7 @@ module _ {M : Type 1} {𝓤 : Ura M} (𝓛 : Logic 𝓤) (mem : Memory → SProp
 
   -- what a turn begins with: k records are opened, the row is zs, and what is left to open makes the whole
   abbrev Facts : ℕ → List Record → Type 0
-  Facts k zs = (k < 2 ^ 64) × ((length zs ≡ n) × (filledFrom Deeds.Open 0 k (up_from k (count - k)) zs ≡ all))
+  Facts k zs = (k < 2 ^ 64) × ((length zs ≡ n) × (filled_from Deeds.Open 0 k (up_from k (count - k)) zs ≡ all))
 
   abbrev State : Type 0
   State = (k : ℕ) × (zs : List Record) × Facts k zs
@@ -152,16 +152,16 @@ module _ {M : Type 1} {𝓤 : Ura M} (𝓛 : Logic 𝓤) (mem : Memory → SProp
         assigns ! (bin ! (load ! (from ! (stop !)) (look ! 12 refl)) (load ! (from ! (stop !)) (look ! 14 refl)) tt) (from ! (stop !)) (init ! 8 refl (tt, tt)) $
         tests ! (load ! (from ! (stop !)) (look ! 8 refl))
         (λ less. let l = ltb→lt t.0 count less in let next_fits = lt_of_le_of_lt (add-one-le l) fits in
-        gives (fm_of 𝓤 H 𝓛.laws 𝓣) fresh-record.ended (fresh-record.clauses 𝓛 mem run) known-fresh-record (to-fresh-record t.0) (λ r. r ≡ freshAt (up_from (t.0 + 1) (count - (t.0 + 1)))) (λ r e. id⊢ 𝓤 _) ! (goes-fresh-record t.0 t.2.0 l) (λ j. and_then ! (load ! (from ! (stop !)) (look ! 13 refl)) (and_then ! (load ! (from ! (stop !)) (look ! 15 refl)) (no_more !))) (λ w wv ew is-w.
+        gives (fm_of 𝓤 H 𝓛.laws 𝓣) fresh-record.ended (fresh-record.clauses 𝓛 mem run) known-fresh-record (to-fresh-record t.0) (λ r. r ≡ fresh_at (up_from (t.0 + 1) (count - (t.0 + 1)))) (λ r e. id⊢ 𝓤 _) ! (goes-fresh-record t.0 t.2.0 l) (λ j. and_then ! (load ! (from ! (stop !)) (look ! 13 refl)) (and_then ! (load ! (from ! (stop !)) (look ! 15 refl)) (no_more !))) (λ w wv ew is-w.
         move ! (1 ∷ 2 ∷ []) $ land ! (from ! (stop !)) (init ! 11 refl ((LL.lawful D L 𝓛).typed w _ is-w).0) $
         assigns ! (addr ! (from ! (fld ! refl (hop ! (look_in ! 17 (sub ! 0 refl (whole !))) (stop !))))) (from ! (stop !)) (init ! 5 refl (tt, tt)) $ assigns ! (agg ! (and_then ! (load ! (from ! (stop !)) (look ! 5 refl)) (and_then ! (load ! (from ! (fld ! refl (stop !))) (look_in ! 17 (sub ! 1 refl (whole !)))) (no_more !)))) (from ! (stop !)) (init ! 3 refl (tt, (tt, (record { fits = room.0 }, tt)))) $
         replaces mem run (fm_of 𝓤 H 𝓛.laws 𝓣) b o n t.1 t.2.1.0 room ! known-replace t.0 w wv t.2.0 (lt_of_lt_of_le l good) (λ j k. and_then ! (load ! (from ! (stop !)) (look ! 2 refl)) (and_then ! (load ! (from ! (stop !)) (look ! 12 refl)) (and_then ! (load ! (from ! (stop !)) (look ! 10 refl)) (no_more !)))) (λ u wt. land ! (from ! (stop !)) (init ! 6 refl wt) $
         assigns_last ! (bin ! (load ! (from ! (stop !)) (look ! 12 refl)) (lit ! tt) (record { fits = next_fits })) (from ! (stop !)) (store ! 12 refl (tt, record { fits = next_fits })) $
         forget ! 2 refl $ forget ! 4 refl $ forget ! 6 refl $ forget ! 8 refl $ forget ! 10 refl $
-        again ! Nearer At t (t.0 + 1, set t.1 t.0 w, (next_fits, (length-set t.1 t.0 w ∙ t.2.1.0, open-on count t.0 t.1 all w l ew t.2.1.1))) (add-one-dec count t.0 l))))
+        again ! Nearer At t (t.0 + 1, set t.1 t.0 w, (next_fits, (length-set t.1 t.0 w ∙ t.2.1.0, open_on_lem count t.0 t.1 all w l ew t.2.1.1))) (add-one-dec count t.0 l))))
         (λ over. exec ! 𝓣.C 𝓣.Λ En mir'.t-3 (at_ret En Post) $ assigns ! (of_opd ! (unit_lit !)) (from ! (stop !)) (init ! 18 refl (tt, tt)) $ returns ! (look ! 18 refl) $ forget ! 8 refl $ forget ! 12 refl $ forget ! 14 refl $ forget ! 16 refl $ forget ! 18 refl $
         move ! (18 ∷ 19 ∷ []) $ free1 ! $ move ! (16 ∷ 17 ∷ []) $ free1 ! $ move ! (14 ∷ 15 ∷ []) $ free1 ! $ move ! (12 ∷ 13 ∷ []) $ free1 ! $ move ! (10 ∷ 11 ∷ []) $ free1 ! $ move ! (8 ∷ 9 ∷ []) $ free1 ! $ move ! (6 ∷ 7 ∷ []) $ free1 ! $ move ! (4 ∷ 5 ∷ []) $ free1 ! $ move ! (2 ∷ 3 ∷ []) $ free1 ! $ free0 ! $
-        by ! (exits t.1 t.2.1.0 (open-end count t.0 t.1 all (nltb→le t.0 count over) t.2.1.1)))
+        by ! (exits t.1 t.2.1.0 (open_end count t.0 t.1 all (nltb→le t.0 count over) t.2.1.1)))
 
     enters-loop : (t : State) → Sq 𝓛 (At t) (runs 𝓣.C 𝓣.Λ En mir'.t-2 (at_ret En Post))
     enters-loop t = first ! $ blocks ! $ loops ! 𝓣 Nearer Nearer-wf At turns t
@@ -174,7 +174,7 @@ module _ {M : Type 1} {𝓤 : Ura M} (𝓛 : Logic 𝓤) (mem : Memory → SProp
         pass1 ! (init ! 14 refl (tt, (tt, (record { fits = room.0 }, tt)))) $ pass1 ! (init ! 12 refl (tt, record { fits = fits })) $ pass0 ! $
         assigns ! (of_opd ! (lit ! tt)) (from ! (stop !)) (init ! 10 refl (tt, record { fits = omega arith })) $
         move ! (19 ∷ []) $ fsplit ! $ move ! (20 ∷ []) $ split ! $
-        keep ! (2 ∷ 0 ∷ 4 ∷ 5 ∷ 6 ∷ 7 ∷ 8 ∷ 9 ∷ 10 ∷ 11 ∷ 12 ∷ 13 ∷ 14 ∷ 15 ∷ 16 ∷ 17 ∷ 18 ∷ 19 ∷ 20 ∷ 21 ∷ []) $ enters-loop 𝓣 known-fresh-record known-replace l₀ l₁ l₂ l₃ l₄ l₅ l₆ l₇ l₈ (0, ys, (omega arith, (refl, open-start count ys))))))))))))
+        keep ! (2 ∷ 0 ∷ 4 ∷ 5 ∷ 6 ∷ 7 ∷ 8 ∷ 9 ∷ 10 ∷ 11 ∷ 12 ∷ 13 ∷ 14 ∷ 15 ∷ 16 ∷ 17 ∷ 18 ∷ 19 ∷ 20 ∷ 21 ∷ []) $ enters-loop 𝓣 known-fresh-record known-replace l₀ l₁ l₂ l₃ l₄ l₅ l₆ l₇ l₈ (0, ys, (omega arith, (refl, open_start count ys))))))))))))
 
 module _ {M : Type 1} {𝓤 : Ura M} (𝓛 : Logic 𝓤) (mem : Memory → SProp 𝓤) (run : Routine → Fun 𝓤) (𝓣 : Tables 𝓤 𝓛.H) (known-fresh-record : Triple 𝓤 (𝓣.C #fresh-record) (met 𝓛 fresh-record.ended (fresh-record.clauses 𝓛 mem run))) (known-replace : Triple 𝓤 (𝓣.C #replace) (met 𝓛 replace.ended (replace.clauses 𝓛 mem run))) where
   open 𝓛 use {H}

@@ -41,12 +41,12 @@ use Rattle.descriptor.specs.declared.qtd.QueueTransferDescriptor.{QueueTransferD
 use Rattle.descriptor.proofs.qtd.QueueTransferDescriptor.TheLaws as T'
 use Rattle.pool.specs.declared.record.Found.{Found}
 use Rattle.pool.specs.Chains.{blank}
-use Rattle.pool.specs.RecordCalls.{foundIf, read_of}
+use Rattle.pool.specs.RecordCalls.{found_if, read_of}
 use Rattle.pool.specs.contracts.record.Found as F
 use Rattle.pool.proofs.record.Found.TheLaws as F'
-use Rattle.pool.proofs.RecordCases.{read-inside, read-beyond}
+use Rattle.pool.proofs.RecordCases.{read_inside, read_beyond}
 use Rattle.pool.proofs.Element.{R, D, L}
-use Rattle.pool.proofs.Calls.{at-list, met, gives, looks}
+use Rattle.pool.proofs.Calls.{at_list, met, gives, looks}
 use Rattle.pool.specs.contracts.row.record_at as record-at
 use Rattle.pool.proofs.row.record_at.Symbol as record-at-def
 use Rattle.pool.proofs.row.record_at.Symbol.{name as #record-at}
@@ -82,7 +82,7 @@ module _ {M : Type 1} {𝓤 : Ura M} (𝓛 : Logic 𝓤) (mem : Memory → SProp
   n = length ys
 
   abbrev x : Bor (List Record)
-  x = at-list b o γ ys
+  x = at_list b o γ ys
 
   abbrev Arg : Type 0
   Arg = Bor (List Record) × (ℕ × Unit {0})
@@ -145,9 +145,9 @@ module _ {M : Type 1} {𝓤 : Ura M} (𝓛 : Logic 𝓤) (mem : Memory → SProp
 
       refuses : T (not (ltb i n)) → Sq 𝓛 Bare (runs 𝓣.C 𝓣.Λ En mir'.t-4 (at_ret En Post))
       refuses over =
-          gives (fm_of 𝓤 H 𝓛.laws 𝓣) not_there.ended (not_there.clauses 𝓛 mem run) known-n ((tt, tt, tt, tt, tt), tt) (λ u. u ≡ foundIf false blank) (λ r e. id⊢ 𝓤 _) ! goes-not-there (λ j. no_more !) (λ u v e is.
+          gives (fm_of 𝓤 H 𝓛.laws 𝓣) not_there.ended (not_there.clauses 𝓛 mem run) known-n ((tt, tt, tt, tt, tt), tt) (λ u. u ≡ found_if false blank) (λ r e. id⊢ 𝓤 _) ! goes-not-there (λ j. no_more !) (λ u v e is.
           drop-item ! $ land ! (from ! (stop !)) (init ! 12 refl ((LL.lawful F.the_type F'.the_laws 𝓛).typed u _ is).0) $
-          returns ! (look ! 12 refl) $ forget ! 12 refl $ ends u v is (read-beyond ys i over u e))
+          returns ! (look ! 12 refl) $ forget ! 12 refl $ ends u v is (read_beyond ys i over u e))
 
       decides : Sq 𝓛 At (runs 𝓣.C 𝓣.Λ En mir'.t-1 (at_ret En Post))
       decides =
@@ -158,11 +158,11 @@ module _ {M : Type 1} {𝓤 : Ura M} (𝓛 : Logic 𝓤) (mem : Memory → SProp
           looks (fm_of 𝓤 H 𝓛.laws 𝓣) record-at.ended (record-at.clauses 𝓛 mem run) known-r to-record (λ r. r ≡ get_or ys i blank) (λ r e. id⊢ 𝓤 _) ! x (s ∷ []) (goes-record (ltb→lt i n less)) (fst∗ 𝓤 (A.lft κ q) (emp 𝓤))
           (λ j k. and_then ! (load ! (from ! (stop !)) (look ! 10 refl)) (and_then ! (load ! (from ! (stop !)) (look ! 8 refl)) (no_more !))) (λ r w e is.
           move ! (2 ∷ []) $ drop-item ! $ land ! (from ! (stop !)) (init ! 4 refl ((LL.lawful D L 𝓛).typed r _ is).0) $
-          gives (fm_of 𝓤 H 𝓛.laws 𝓣) taken.ended (taken.clauses 𝓛 mem run) known-t (to-taken r w) (λ u. u ≡ foundIf true r) (λ r e. id⊢ 𝓤 _) ! (goes-taken r w is)
+          gives (fm_of 𝓤 H 𝓛.laws 𝓣) taken.ended (taken.clauses 𝓛 mem run) known-t (to-taken r w) (λ u. u ≡ found_if true r) (λ r e. id⊢ 𝓤 _) ! (goes-taken r w is)
           (λ j. and_then ! (load ! (from ! (stop !)) (look ! 5 refl)) (no_more !)) (λ u v e' is'.
           drop-item ! $ land ! (from ! (stop !)) (init ! 12 refl ((LL.lawful F.the_type F'.the_laws 𝓛).typed u _ is').0) $
           returns_within ! Post refl (look ! 12 refl) $ forget ! 2 refl $ forget ! 4 refl $ forget ! 6 refl $ forget ! 8 refl $ forget ! 10 refl $ forget ! 12 refl $
-          ends u v is' (read-inside ys i less r u e e'))))
+          ends u v is' (read_inside ys i less r u e e'))))
           (λ over. skips ! $ exec ! 𝓣.C 𝓣.Λ En mir'.t-4 (at_ret En Post) $ forget ! 2 refl $ forget ! 6 refl $ forget ! 8 refl $ forget ! 10 refl $ refuses over)
 
     walk : ent 𝓤 (on_entry 𝓛 f.signature (κ, tt) (q, tt) a at) (WpFn 𝓤 H 𝓣.C 𝓣.Λ code.function (s ∷ vint w64 i ∷ []) Post)

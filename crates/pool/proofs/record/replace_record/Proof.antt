@@ -41,12 +41,12 @@ use denote.Triple.Walked.{says, Stays, stay_slice, stay_none, walk_of, Goes-slic
 use Rattle.descriptor.specs.declared.qtd.QueueTransferDescriptor.{QueueTransferDescriptor as Record}
 use Rattle.descriptor.proofs.qtd.QueueTransferDescriptor.TheLaws as T'
 use Rattle.common.specs.declared.answer.Answer.{Answer}
-use Rattle.pool.specs.RecordCalls.{answerIf, replaceOf, replaced}
+use Rattle.pool.specs.RecordCalls.{answer_if, replace_of, replaced}
 use Rattle.common.specs.contracts.answer.Answer as F
 use Rattle.common.proofs.answer.Answer.TheLaws as F'
-use Rattle.pool.proofs.RecordCases.{replace-inside, replace-beyond}
+use Rattle.pool.proofs.RecordCases.{replace_inside, replace_beyond}
 use Rattle.pool.proofs.Element.{R, D, L, mach, vals, tells}
-use Rattle.pool.proofs.Calls.{at-list, met, Replace, gives, replaces}
+use Rattle.pool.proofs.Calls.{at_list, met, Replace, gives, replaces}
 use Rattle.pool.specs.contracts.row.replace as replace
 use Rattle.pool.proofs.row.replace.Symbol as replace-def
 use Rattle.pool.proofs.row.replace.Symbol.{name as #replace}
@@ -85,7 +85,7 @@ module _ {M : Type 1} {𝓤 : Ura M} (𝓛 : Logic 𝓤) (mem : Memory → SProp
   n = length ys
 
   abbrev x : List Record → MutBor (List Record)
-  x l = at-list b o γ l
+  x l = at_list b o γ l
 
   abbrev Arg : Type 0
   Arg = MutBor (List Record) × (ℕ × (Record × Unit {0}))
@@ -102,7 +102,7 @@ module _ {M : Type 1} {𝓤 : Ura M} (𝓛 : Logic 𝓤) (mem : Memory → SProp
   abbrev Post : Val → SProp 𝓤
   Post = (walk_of 𝓛 f.ended stayed (f.clauses 𝓛 mem run)).post (((κ, tt), (q, tt), tt, a, at), tt)
 
-  exits : (zs : List Record) → length zs ≡ n → (u : Answer) (v : Val) → Is F.the_row u (v ∷ []) → replaced u zs ≡ replaceOf ys i r
+  exits : (zs : List Record) → length zs ≡ n → (u : Answer) (v : Val) → Is F.the_row u (v ∷ []) → replaced u zs ≡ replace_of ys i r
       → ent 𝓤 (sep 𝓤 (sem 𝓛 ((MutSlice (named 0) κ R).own_val (x zs) (s ∷ []))) (A.lft κ q)) (Post v)
   exits zs len u v is e =
       qed 𝓛 (‵ ((MutSlice (named 0) κ R).own_val (x zs) (s ∷ [])) ∷ ‵ (flft κ q) ∷ []) ∵
@@ -131,16 +131,16 @@ module _ {M : Type 1} {𝓤 : Ura M} (𝓛 : Logic 𝓤) (mem : Memory → SProp
           ∷ ‵ (froom T'.mir l₃ 0) ∷ ‵ (fdies T'.mir l₃) ∷ ‵ (froom word l₂ 0) ∷ ‵ (fdies word l₂) ∷ ‵ (froom slice l₁ 0) ∷ ‵ (fdies slice l₁) ∷ ‵ (froom F'.mir l₀ 0) ∷ ‵ (fdies F'.mir l₀) ∷ []
 
       -- every local is freed: both returns come here
-      ends : (zs : List Record) → length zs ≡ n → (u : Answer) (v : Val) → Is F.the_row u (v ∷ []) → replaced u zs ≡ replaceOf ys i r → Sq 𝓛 (Bare zs) (frees En (prop (Post v)))
+      ends : (zs : List Record) → length zs ≡ n → (u : Answer) (v : Val) → Is F.the_row u (v ∷ []) → replaced u zs ≡ replace_of ys i r → Sq 𝓛 (Bare zs) (frees En (prop (Post v)))
       ends zs len u v is e =
           move ! (18 ∷ 19 ∷ []) $ free1 ! $ move ! (16 ∷ 17 ∷ []) $ free1 ! $ move ! (14 ∷ 15 ∷ []) $ free1 ! $ move ! (12 ∷ 13 ∷ []) $ free1 ! $ move ! (10 ∷ 11 ∷ []) $ free1 ! $ move ! (8 ∷ 9 ∷ []) $ free1 ! $ move ! (6 ∷ 7 ∷ []) $ free1 ! $ move ! (4 ∷ 5 ∷ []) $ free1 ! $ move ! (2 ∷ 3 ∷ []) $ free1 ! $ free0 ! $
           by ! (exits zs len u v is e)
 
       refuses : T (not (ltb i n)) → Sq 𝓛 (Bare ys) (runs 𝓣.C 𝓣.Λ En mir'.t-4 (at_ret En Post))
       refuses over =
-          gives (fm_of 𝓤 H 𝓛.laws 𝓣) beyond.ended (beyond.clauses 𝓛 mem run) known-b ((tt, tt, tt, tt, tt), tt) (λ u. u ≡ answerIf false) (λ r e. id⊢ 𝓤 _) ! goes-beyond (λ j. no_more !) (λ u v e is.
+          gives (fm_of 𝓤 H 𝓛.laws 𝓣) beyond.ended (beyond.clauses 𝓛 mem run) known-b ((tt, tt, tt, tt, tt), tt) (λ u. u ≡ answer_if false) (λ r e. id⊢ 𝓤 _) ! goes-beyond (λ j. no_more !) (λ u v e is.
           drop-item ! $ land ! (from ! (stop !)) (init ! 18 refl ((EL.lawful F.the_type F'.the_laws 𝓛 tt).typed u _ is).0) $
-          returns ! (look ! 18 refl) $ forget ! 18 refl $ ends ys refl u v is (replace-beyond ys i r u over e))
+          returns ! (look ! 18 refl) $ forget ! 18 refl $ ends ys refl u v is (replace_beyond ys i r u over e))
 
       decides : Sq 𝓛 At (runs 𝓣.C 𝓣.Λ En mir'.t-1 (at_ret En Post))
       decides =
@@ -153,10 +153,10 @@ module _ {M : Type 1} {𝓤 : Ura M} (𝓛 : Logic 𝓤) (mem : Memory → SProp
           owned ! R (Is R) (LL.makes D T'.the_plain 𝓛) r (mach r ∷ []) is-r $ move ! (1 ∷ 2 ∷ []) $
           replaces mem run (fm_of 𝓤 H 𝓛.laws 𝓣) b o n ys refl room ! known-s i r (mach r) i-fits (ltb→lt i n less) (λ j k. and_then ! (load ! (from ! (stop !)) (look ! 2 refl)) (and_then ! (load ! (from ! (stop !)) (look ! 14 refl)) (and_then ! (load ! (from ! (stop !)) (look ! 12 refl)) (no_more !)))) (λ w wt.
           land ! (from ! (stop !)) (init ! 6 refl wt) $
-          gives (fm_of 𝓤 H 𝓛.laws 𝓣) done'.ended (done'.clauses 𝓛 mem run) known-d ((tt, tt, tt, tt, tt), tt) (λ u. u ≡ answerIf true) (λ r e. id⊢ 𝓤 _) ! goes-done (λ j. no_more !) (λ u v e is.
+          gives (fm_of 𝓤 H 𝓛.laws 𝓣) done'.ended (done'.clauses 𝓛 mem run) known-d ((tt, tt, tt, tt, tt), tt) (λ u. u ≡ answer_if true) (λ r e. id⊢ 𝓤 _) ! goes-done (λ j. no_more !) (λ u v e is.
           drop-item ! $ land ! (from ! (stop !)) (init ! 18 refl ((EL.lawful F.the_type F'.the_laws 𝓛 tt).typed u _ is).0) $
           returns_within ! Post refl (look ! 18 refl) $ forget ! 2 refl $ forget ! 4 refl $ forget ! 6 refl $ forget ! 8 refl $ forget ! 10 refl $ forget ! 12 refl $ forget ! 14 refl $ forget ! 16 refl $ forget ! 18 refl $
-          ends (set ys i r) (length-set ys i r) u v is (replace-inside ys i r u less e))))
+          ends (set ys i r) (length-set ys i r) u v is (replace_inside ys i r u less e))))
           (λ over. skips ! $ exec ! 𝓣.C 𝓣.Λ En mir'.t-4 (at_ret En Post) $ forget ! 8 refl $ forget ! 10 refl $ forget ! 12 refl $ forget ! 14 refl $ forget ! 16 refl $ refuses over)
 
     walk : ent 𝓤 (on_entry 𝓛 f.signature (κ, tt) (q, tt) a at) (WpFn 𝓤 H 𝓣.C 𝓣.Λ code.function (s ∷ vint w64 i ∷ mach r ∷ []) Post)

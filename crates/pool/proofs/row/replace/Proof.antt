@@ -40,7 +40,7 @@ use denote.Triple.Walked.{says, needs, Stays, stay_slice, stay_none, walk_of, Go
 use Rattle.pool.specs.Chains.{blank}
 use Rattle.descriptor.specs.declared.qtd.QueueTransferDescriptor.{QueueTransferDescriptor as Record}
 use Rattle.descriptor.proofs.qtd.QueueTransferDescriptor.TheLaws as T'
-use Rattle.pool.proofs.Element.{R, D, L, mach, vals, tells, place-row, offset-fits}
+use Rattle.pool.proofs.Element.{R, D, L, mach, vals, tells, place_row, offset_fits}
 use Rattle.pool.specs.contracts.row.replace.Key.{name as #pool·replace}
 use Rattle.pool.specs.contracts.row.replace as f
 use Rattle.pool.proofs.row.replace.Statement as stated
@@ -90,9 +90,9 @@ module _ {M : Type 1} {𝓤 : Ura M} (𝓛 : Logic 𝓤) (mem : Memory → SProp
         alloc1 ! (λ l₀. alloc1 ! (λ l₁. alloc1 ! (λ l₂. alloc1 ! (λ l₃. alloc1 ! (λ l₄. alloc1 ! (λ l₅. alloc0 ! $ params1 ! $
         pass1 ! (init ! 8 refl (tt, (tt, (record { fits = room.0 }, tt)))) $ pass1 ! (init ! 6 refl (tt, record { fits = gi })) $ pass1 ! (init ! 4 refl ((LL.lawful D L 𝓛).typed r (mach r ∷ []) gr).0) $ pass0 ! $
         -- [_5; …; _4; …; _3; …; _2; …; _1; …; _0; …; the token; what rows, place and r own]
-        assigns ! (bin ! (load ! (from ! (stop !)) (look ! 6 refl)) (lit ! tt) (record { fits = offset-fits (length ys) i room l })) (from ! (stop !)) (init ! 2 refl (tt, record { fits = offset-fits (length ys) i room l })) $
+        assigns ! (bin ! (load ! (from ! (stop !)) (look ! 6 refl)) (lit ! tt) (record { fits = offset_fits (length ys) i room l })) (from ! (stop !)) (init ! 2 refl (tt, record { fits = offset_fits (length ys) i room l })) $
         assigns ! (bin ! (load ! (from ! (fld ! refl (stop !))) (look_in ! 8 (sub ! 0 refl (whole !)))) (load ! (from ! (stop !)) (look ! 2 refl)) tt) (from ! (stop !)) (init ! 0 refl (tt, tt)) $
-        rewrite ! 0 (λ (p : ℕ). ‵ (fat full_share ty_ptr l₅ 0 (vptr b p))) (sym (place-row o i)) refl $
+        rewrite ! 0 (λ (p : ℕ). ‵ (fat full_share ty_ptr l₅ 0 (vptr b p))) (sym (place_row o i)) refl $
         move ! (13 ∷ []) $ fsplit ! $ fsplit ! $ move ! (1 ∷ []) $ fsplit ! $ move ! (16 ∷ []) $ split ! $ move ! (2 ∷ 3 ∷ 0 ∷ []) $
         opens_slice ! tt R ys b o $ elem_out ! R (Is R) (shows 𝓛 R) vals tells full_share ys i blank b o l (λ g.
         -- [rows[place]; what it owns; the others; the open borrow; obs; auth; true; rows's fact; place's and r's; _5; …; _4; …; _3; …; _2; …; _1; …; _0; …]

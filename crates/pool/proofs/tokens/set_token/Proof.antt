@@ -37,10 +37,10 @@ use denote.Triple.Entry.{Vals, on_entry}
 use denote.Triple.Spec.{Meets, triple_of}
 use denote.Triple.Table.{entered}
 use denote.Triple.Walked.{says, needs, Stays, stay_slice, stay_none, walk_of, Goes-slice, Goes-none, Walks, ends_at, walked, walk_Meets}
-use Rattle.pool.specs.Chains.{blank, withToken}
+use Rattle.pool.specs.Chains.{blank, with_token}
 use Rattle.descriptor.specs.declared.qtd.QueueTransferDescriptor.{QueueTransferDescriptor as Record}
 use Rattle.descriptor.proofs.qtd.QueueTransferDescriptor.TheLaws as T'
-use Rattle.pool.proofs.Element.{R, D, L, mach, vals, tells, place-row, offset-fits}
+use Rattle.pool.proofs.Element.{R, D, L, mach, vals, tells, place_row, offset_fits}
 use Rattle.pool.specs.contracts.tokens.set_token.Key.{name as #pool·set-token}
 use Rattle.pool.specs.contracts.tokens.set_token as f
 use Rattle.pool.proofs.tokens.set_token.Statement as stated
@@ -76,7 +76,7 @@ module _ {M : Type 1} {𝓤 : Ura M} (𝓛 : Logic 𝓤) (mem : Memory → SProp
   old = get_or ys i blank
 
   abbrev r : Record
-  r = withToken old k
+  r = with_token old k
 
   abbrev zs : List Record
   zs = set ys i r
@@ -100,9 +100,9 @@ module _ {M : Type 1} {𝓤 : Ura M} (𝓛 : Logic 𝓤) (mem : Memory → SProp
         alloc1 ! (λ l₀. alloc1 ! (λ l₁. alloc1 ! (λ l₂. alloc1 ! (λ l₃. alloc1 ! (λ l₄. alloc1 ! (λ l₅. alloc0 ! $ params1 ! $
         pass1 ! (init ! 8 refl (tt, (tt, (record { fits = room.0 }, tt)))) $ pass1 ! (init ! 6 refl (tt, record { fits = gi })) $ pass1 ! (init ! 4 refl (tt, record { fits = gk })) $ pass0 ! $
         -- [_5; …; _4; …; _3; …; _2; …; _1; …; _0; …; the token; what rows, place and token own]
-        assigns ! (bin ! (load ! (from ! (stop !)) (look ! 6 refl)) (lit ! tt) (record { fits = offset-fits (length ys) i room l })) (from ! (stop !)) (init ! 2 refl (tt, record { fits = offset-fits (length ys) i room l })) $
+        assigns ! (bin ! (load ! (from ! (stop !)) (look ! 6 refl)) (lit ! tt) (record { fits = offset_fits (length ys) i room l })) (from ! (stop !)) (init ! 2 refl (tt, record { fits = offset_fits (length ys) i room l })) $
         assigns ! (bin ! (load ! (from ! (fld ! refl (stop !))) (look_in ! 8 (sub ! 0 refl (whole !)))) (load ! (from ! (stop !)) (look ! 2 refl)) tt) (from ! (stop !)) (init ! 0 refl (tt, tt)) $
-        rewrite ! 0 (λ (p : ℕ). ‵ (fat full_share ty_ptr l₅ 0 (vptr b p))) (sym (place-row o i)) refl $
+        rewrite ! 0 (λ (p : ℕ). ‵ (fat full_share ty_ptr l₅ 0 (vptr b p))) (sym (place_row o i)) refl $
         move ! (13 ∷ []) $ fsplit ! $ fsplit ! $ move ! (1 ∷ []) $ fsplit ! $ move ! (16 ∷ []) $ split ! $ move ! (2 ∷ 3 ∷ 0 ∷ []) $
         opens_slice ! tt R ys b o $ elem_out ! R (Is R) (shows 𝓛 R) vals tells full_share ys i blank b o l (λ g.
         -- [rows[place]; what it owns; the others; the open borrow; obs; auth; true; rows's fact; place's and token's; _5; …; _4; …; _3; …; _2; …; _1; …; _0; …]

@@ -38,7 +38,7 @@ use denote.Triple.Walked.{says, needs, Stays, stay_none_slice, stay_none, walk_o
 use Rattle.pool.specs.Chains.{blank}
 use Rattle.descriptor.specs.declared.qtd.QueueTransferDescriptor.{QueueTransferDescriptor as Record}
 use Rattle.descriptor.proofs.qtd.QueueTransferDescriptor.TheLaws as T'
-use Rattle.pool.proofs.Element.{R, D, L, mach, vals, tells, place-row, offset-fits}
+use Rattle.pool.proofs.Element.{R, D, L, mach, vals, tells, place_row, offset_fits}
 use Rattle.pool.specs.contracts.tokens.token_at.Key.{name as #pool·token-at}
 use Rattle.pool.specs.contracts.tokens.token_at as f
 use Rattle.pool.proofs.tokens.token_at.Statement as stated
@@ -89,9 +89,9 @@ module _ {M : Type 1} {𝓤 : Ura M} (𝓛 : Logic 𝓤) (mem : Memory → SProp
         alloc1 ! (λ l₀. alloc1 ! (λ l₁. alloc1 ! (λ l₂. alloc1 ! (λ l₃. alloc1 ! (λ l₄. alloc0 ! $ params1 ! $
         pass1 ! (init ! 6 refl (tt, (tt, (record { fits = room.0 }, tt)))) $ pass1 ! (init ! 4 refl (tt, record { fits = gi })) $ pass0 ! $
         -- [_4; …; _3; …; _2; …; _1; …; _0; …; the token; what rows and place own]
-        assigns ! (bin ! (load ! (from ! (stop !)) (look ! 4 refl)) (lit ! tt) (record { fits = offset-fits (length ys) i room l })) (from ! (stop !)) (init ! 2 refl (tt, record { fits = offset-fits (length ys) i room l })) $
+        assigns ! (bin ! (load ! (from ! (stop !)) (look ! 4 refl)) (lit ! tt) (record { fits = offset_fits (length ys) i room l })) (from ! (stop !)) (init ! 2 refl (tt, record { fits = offset_fits (length ys) i room l })) $
         assigns ! (bin ! (load ! (from ! (fld ! refl (stop !))) (look_in ! 6 (sub ! 0 refl (whole !)))) (load ! (from ! (stop !)) (look ! 2 refl)) tt) (from ! (stop !)) (init ! 0 refl (tt, tt)) $
-        rewrite ! 0 (λ (p : ℕ). ‵ (fat full_share ty_ptr l₄ 0 (vptr b p))) (sym (place-row o i)) refl $
+        rewrite ! 0 (λ (p : ℕ). ‵ (fat full_share ty_ptr l₄ 0 (vptr b p))) (sym (place_row o i)) refl $
         move ! (11 ∷ []) $ fsplit ! $ fsplit ! $ move ! (1 ∷ []) $ fsplit ! $ move ! (14 ∷ []) $ split ! $ move ! (3 ∷ 0 ∷ []) $
         looks_slice ! tt R (Is R) (shows 𝓛 R) vals tells (LL.copy D T'.the_copy 𝓛) ys b o (λ q'. elem_out ! R (Is R) (shows 𝓛 R) vals tells q' ys i blank b o l (λ g.
         -- [rows[place]; what it owns; the others; what shuts; the fractured borrow; true; res; rows's fact; place's; _4; …; _3; …; _2; …; _1; …; _0; …]

@@ -1,5 +1,5 @@
 -- `pool::transfer::requested` meets its contract.
-use Rattle.pool.proofs.TransferCases.{asked-data, asked-none, asked-isochronous, asked-bulk, asked-interrupt}
+use Rattle.pool.proofs.TransferCases.{asked_data, asked_none, asked_isochronous, asked_bulk, asked_interrupt}
 use borrow.Author.Rules.{rules}
 use Rattle.pool.proofs.transfer.requested.Statement.{statement}
 use Rattle.pool.proofs.transfer.requested.Tie as tie
@@ -26,19 +26,19 @@ chunk-length-requires-3 : tie.Need-chunk-length-requires-3
 chunk-length-requires-3 c κs = search rules
 
 returns : tie.Need-returns
-returns c = search asked-data
+returns c = search asked_data
 
 returns-2 : tie.Need-returns-2
-returns-2 c = search asked-none
+returns-2 c = search asked_none
 
 returns-3 : tie.Need-returns-3
-returns-3 c = search asked-isochronous
+returns-3 c = search asked_isochronous
 
 returns-4 : tie.Need-returns-4
-returns-4 c = search asked-bulk
+returns-4 c = search asked_bulk
 
 returns-5 : tie.Need-returns-5
-returns-5 c = search asked-interrupt
+returns-5 c = search asked_interrupt
 
 pub requested-spec : {M : Type 1} → statement M
 requested-spec =

@@ -1,5 +1,5 @@
 -- `pool::transfer::stage_at` meets its contract.
-use Rattle.pool.proofs.TransferCases.{stage-setup, stage-bare, stage-data, stage-status}
+use Rattle.pool.proofs.TransferCases.{stage_setup, stage_bare, stage_data, stage_status}
 use borrow.Author.Rules.{rules}
 use Rattle.pool.proofs.transfer.stage_at.Statement.{statement}
 use Rattle.pool.proofs.transfer.stage_at.Tie as tie
@@ -11,7 +11,7 @@ new-requires : tie.Need-new-requires
 new-requires c κs = search rules
 
 returns : tie.Need-returns
-returns c = search stage-setup
+returns c = search stage_setup
 
 enum_told : tie.Need-enum-told
 enum_told c = search rules
@@ -29,13 +29,13 @@ new-requires-4 : tie.Need-new-requires-4
 new-requires-4 c κs = search rules
 
 returns-2 : tie.Need-returns-2
-returns-2 c = search stage-bare
+returns-2 c = search stage_bare
 
 returns-3 : tie.Need-returns-3
-returns-3 c = search stage-data
+returns-3 c = search stage_data
 
 returns-4 : tie.Need-returns-4
-returns-4 c = search stage-status
+returns-4 c = search stage_status
 
 pub stage-at-spec : {M : Type 1} → statement M
 stage-at-spec =

@@ -1,5 +1,5 @@
 -- `pool::writing::no_writing` meets its contract.
-use Rattle.pool.specs.Words.{noWriting}
+use Rattle.pool.specs.Words.{no_writing}
 use borrow.Author.Rules.{rules}
 use Rattle.pool.proofs.writing.no_writing.Statement.{statement}
 use Rattle.pool.proofs.writing.no_writing.Tie as tie
@@ -11,7 +11,7 @@ no-marking-requires : tie.Need-no-marking-requires
 no-marking-requires c κs = search rules
 
 returns : tie.Need-returns
-unfolding noWriting
+unfolding no_writing
 returns c = rw (c.before.no-laying.ensures, c.no-marking.ensures)
 
 pub no-writing-spec : {M : Type 1} → statement M

@@ -36,11 +36,11 @@ use denote.Triple.Table.{entered, cited}
 use denote.Triple.Walked.{says, needs, Stays, gave_slice, stay_none, walk_of, Goes-gave_slice, Goes-none, Walks, ends_at, walked, walk_Meets}
 use Rattle.descriptor.specs.declared.qtd.QueueTransferDescriptor.{QueueTransferDescriptor as Record}
 use Rattle.pool.proofs.Element.{R}
-use Rattle.pool.specs.Words.{ChunksGood, MarkingGood, StagesGood, WritingGood, chunksOf, laid_of, markedOf, stagesOf, writtenWith}
+use Rattle.pool.specs.Words.{ChunksGood, MarkingGood, StagesGood, WritingGood, chunks_of, laid_of, marked_of, stages_of, written_with}
 use Rattle.pool.proofs.Calls.{met, gives}
 use Rattle.pool.proofs.Uses.{passes}
 use Rattle.pool.proofs.Lends.{row_at, lends}
-use Rattle.pool.proofs.WordLaws.{chunks-good, parts-written, stages-good}
+use Rattle.pool.proofs.WordLaws.{chunks_good, parts_written, stages_good}
 use Rattle.pool.specs.declared.writing.Writing.{Writing}
 use Rattle.pool.specs.contracts.writing.Writing as Wr
 use Rattle.pool.proofs.writing.Writing.TheLaws as Wr'
@@ -87,9 +87,9 @@ fits : {X : Type 0} (P : ℕ → X → Type 0) (n m : ℕ) (x y : X) → P n y �
 fits P n m x y good e len = subst (λ k. P k x) (sym len) (subst (λ z. P n z) (sym e) good)
 
 -- the three parts, together, are what the definition says
-together : (w : Writing) (rs : List Record) (s c : Laying) (m : Marking) (ws wc wm : List Record) → s ≡ stagesOf w → c ≡ chunksOf w → m ≡ w.marking → ws ≡ laid_of s rs → wc ≡ laid_of c ws → wm ≡ markedOf m wc → wm ≡ writtenWith w rs
+together : (w : Writing) (rs : List Record) (s c : Laying) (m : Marking) (ws wc wm : List Record) → s ≡ stages_of w → c ≡ chunks_of w → m ≡ w.marking → ws ≡ laid_of s rs → wc ≡ laid_of c ws → wm ≡ marked_of m wc → wm ≡ written_with w rs
 together w rs s c m ws wc wm es ec em e₁ e₂ e₃ =
-    e₃ ∙ ap (λ (x : Marking). markedOf x wc) em ∙ ap (markedOf w.marking) (e₂ ∙ ap (λ (x : Laying). laid_of x ws) ec ∙ ap (laid_of (chunksOf w)) (e₁ ∙ ap (λ (x : Laying). laid_of x rs) es)) ∙ parts-written w rs
+    e₃ ∙ ap (λ (x : Marking). marked_of x wc) em ∙ ap (marked_of w.marking) (e₂ ∙ ap (λ (x : Laying). laid_of x ws) ec ∙ ap (laid_of (chunks_of w)) (e₁ ∙ ap (λ (x : Laying). laid_of x rs) es)) ∙ parts_written w rs
 
 module _ {M : Type 1} {𝓤 : Ura M} (𝓛 : Logic 𝓤) (mem : Memory → SProp 𝓤) (run : Routine → Fun 𝓤) (κ : Lft) (q : Share) (b o : ℕ) (γ : GName) (rs : List Record) (w : Writing) (wv : Val) (room : Room R (length rs)) (is-w : Is Wr.the_row w (wv ∷ [])) where
   open 𝓛 use {H, A}
@@ -112,7 +112,7 @@ module _ {M : Type 1} {𝓤 : Ura M} (𝓛 : Logic 𝓤) (mem : Memory → SProp
   abbrev Post : Val → SProp 𝓤
   Post = (walk_of 𝓛 f.ended stayed (f.clauses 𝓛 mem run)).post (((κ, tt), (q, tt), tt, a, at), tt)
 
-  exits : (wr : List Record) → length wr ≡ n → wr ≡ writtenWith w rs → ent 𝓤 (⋆ 𝓛 (‵ (finally R γ wr) ∷ ‵ (flft κ q) ∷ [])) (Post vunit)
+  exits : (wr : List Record) → length wr ≡ n → wr ≡ written_with w rs → ent 𝓤 (⋆ 𝓛 (‵ (finally R γ wr) ∷ ‵ (flft κ q) ∷ [])) (Post vunit)
   exits wr er e =
       qed 𝓛 (‵ (finally R γ wr) ∷ ‵ (flft κ q) ∷ []) ∵
       suffices ! _ (ends_at 𝓛 f.ended stayed (f.clauses 𝓛 mem run) (((κ, tt), (q, tt), tt, a, at), tt) vunit tt (wr, (tt, tt)) (er, (tt, tt))) $ says ! e $
@@ -168,7 +168,7 @@ module _ {M : Type 1} {𝓤 : Ura M} (𝓛 : Logic 𝓤) (mem : Memory → SProp
       nothing ! $ move ! (2 ∷ 0 ∷ []) $ join ! $ frame ! $ done !
 
   abbrev told-mark-token : (zs : List Record) (x : Marking) (v : Val) → Unit {0} → Lasts mark-token.ended (κ, tt) (to-mark-token zs x v).0.3 → Type 0
-  told-mark-token zs x v u ws = ws.0 ≡ markedOf x zs
+  told-mark-token zs x v u ws = ws.0 ≡ marked_of x zs
 
   module _ (𝓣 : Tables 𝓤 H) (known-stages-of : Triple 𝓤 (𝓣.C #stages-of) (met 𝓛 stages-of.ended (stages-of.clauses 𝓛 mem run))) (known-lay-stages : Triple 𝓤 (𝓣.C #lay-stages) (met 𝓛 lay-stages.ended (lay-stages.clauses 𝓛 mem run))) (known-chunks-of : Triple 𝓤 (𝓣.C #chunks-of) (met 𝓛 chunks_of.ended (chunks_of.clauses 𝓛 mem run))) (known-lay-chunks : Triple 𝓤 (𝓣.C #lay-chunks) (met 𝓛 lay-chunks.ended (lay-chunks.clauses 𝓛 mem run))) (known-marks-of : Triple 𝓤 (𝓣.C #marks-of) (met 𝓛 marks-of.ended (marks-of.clauses 𝓛 mem run))) (known-mark-token : Triple 𝓤 (𝓣.C #mark-token) (met 𝓛 mark-token.ended (mark-token.clauses 𝓛 mem run))) where
     walk : WritingGood n w → ent 𝓤 (on_entry 𝓛 f.signature (κ, tt) (q, tt) a at) (WpFn 𝓤 H 𝓣.C 𝓣.Λ code.function (sr ∷ wv ∷ []) Post)
@@ -178,12 +178,12 @@ module _ {M : Type 1} {𝓤 : Ura M} (𝓛 : Logic 𝓤) (mem : Memory → SProp
         pass1 ! (init ! 20 refl (tt, (tt, (record { fits = room.0 }, tt)))) $ pass1 ! (init ! 18 {τ = Wr'.mir} {v = wv} refl ((LL.lawful Wr.the_type Wr'.the_laws 𝓛).typed w _ is-w).0) $ pass0 ! $
         move ! (25 ∷ []) $ fsplit ! $ move ! (26 ∷ []) $ split ! $ move ! (2 ∷ 0 ∷ []) $
         assigns ! (addr ! (from ! (fld ! refl (hop ! (look_in ! 24 (sub ! 0 refl (whole !))) (stop !))))) (from ! (stop !)) (init ! 18 refl (tt, tt)) $ assigns ! (agg ! (and_then ! (load ! (from ! (stop !)) (look ! 18 refl)) (and_then ! (load ! (from ! (fld ! refl (stop !))) (look_in ! 24 (sub ! 1 refl (whole !)))) (no_more !)))) (from ! (stop !)) (init ! 16 refl (tt, (tt, (record { fits = room.0 }, tt)))) $
-        gives (fm_of 𝓤 H 𝓛.laws 𝓣) stages-of.ended (stages-of.clauses 𝓛 mem run) known-stages-of (to-stages-of w wv) (λ r. r ≡ stagesOf w) (λ r e. id⊢ 𝓤 _) ! (goes-stages-of w wv is-w) (λ j. and_then ! (load ! (from ! (stop !)) (look ! 23 {τ = Wr'.mir} {v = wv} refl)) (no_more !)) (λ s sv es is-s. drop-item ! $ land ! (from ! (stop !)) (init ! 14 {τ = Ly'.mir} {v = sv} refl ((LL.lawful Ly.the_type Ly'.the_laws 𝓛).typed s _ is-s).0) $
-        lends (fm_of 𝓤 H 𝓛.laws 𝓣) lay-stages.ended (lay-stages.clauses 𝓛 mem run) known-lay-stages R b o n rs refl room (to-lay-stages rs s sv) (λ ν δ r ws. ws.0 ≡ laid_of s rs) (λ ν δ r ws. id⊢ 𝓤 _) (λ ν δ ws. ws.0) ! (goes-lay-stages rs s sv is-s (fits StagesGood n (length rs) s (stagesOf w) (stages-good n w good) es refl)) (λ ν δ. fst∗ 𝓤 (A.lft (ν ∷ []) full_share) (emp 𝓤)) (left-lay-stages rs s sv)
+        gives (fm_of 𝓤 H 𝓛.laws 𝓣) stages-of.ended (stages-of.clauses 𝓛 mem run) known-stages-of (to-stages-of w wv) (λ r. r ≡ stages_of w) (λ r e. id⊢ 𝓤 _) ! (goes-stages-of w wv is-w) (λ j. and_then ! (load ! (from ! (stop !)) (look ! 23 {τ = Wr'.mir} {v = wv} refl)) (no_more !)) (λ s sv es is-s. drop-item ! $ land ! (from ! (stop !)) (init ! 14 {τ = Ly'.mir} {v = sv} refl ((LL.lawful Ly.the_type Ly'.the_laws 𝓛).typed s _ is-s).0) $
+        lends (fm_of 𝓤 H 𝓛.laws 𝓣) lay-stages.ended (lay-stages.clauses 𝓛 mem run) known-lay-stages R b o n rs refl room (to-lay-stages rs s sv) (λ ν δ r ws. ws.0 ≡ laid_of s rs) (λ ν δ r ws. id⊢ 𝓤 _) (λ ν δ ws. ws.0) ! (goes-lay-stages rs s sv is-s (fits StagesGood n (length rs) s (stages_of w) (stages_good n w good) es refl)) (λ ν δ. fst∗ 𝓤 (A.lft (ν ∷ []) full_share) (emp 𝓤)) (left-lay-stages rs s sv)
         (λ νs δs j k. and_then ! (load ! (from ! (stop !)) (look ! 16 refl)) (and_then ! (load ! (from ! (stop !)) (look ! 14 {τ = Ly'.mir} {v = sv} refl)) (no_more !))) (λ νs δs us uvs wss len-s at-s isus. land ! (from ! (stop !)) (init ! 20 refl ((Nothing-Lawful 𝓛).typed us _ isus).0) $
         assigns ! (addr ! (from ! (fld ! refl (hop ! (look_in ! 24 (sub ! 0 refl (whole !))) (stop !))))) (from ! (stop !)) (init ! 12 refl (tt, tt)) $ assigns ! (agg ! (and_then ! (load ! (from ! (stop !)) (look ! 12 refl)) (and_then ! (load ! (from ! (fld ! refl (stop !))) (look_in ! 24 (sub ! 1 refl (whole !)))) (no_more !)))) (from ! (stop !)) (init ! 10 refl (tt, (tt, (record { fits = room.0 }, tt)))) $ forget ! 14 refl $
-        gives (fm_of 𝓤 H 𝓛.laws 𝓣) chunks_of.ended (chunks_of.clauses 𝓛 mem run) known-chunks-of (to-chunks-of w wv) (λ r. r ≡ chunksOf w) (λ r e. id⊢ 𝓤 _) ! (goes-chunks-of w wv is-w) (λ j. and_then ! (load ! (from ! (stop !)) (look ! 23 {τ = Wr'.mir} {v = wv} refl)) (no_more !)) (λ c cv ec is_c. drop-item ! $ land ! (from ! (stop !)) (init ! 14 {τ = Ly'.mir} {v = cv} refl ((LL.lawful Ly.the_type Ly'.the_laws 𝓛).typed c _ is_c).0) $ forget ! 20 refl $
-        lends (fm_of 𝓤 H 𝓛.laws 𝓣) lay-chunks.ended (lay-chunks.clauses 𝓛 mem run) known-lay-chunks R b o n wss.0 len-s room (to-lay-chunks wss.0 c cv) (λ ν δ r ws. ws.0 ≡ laid_of c wss.0) (λ ν δ r ws. id⊢ 𝓤 _) (λ ν δ ws. ws.0) ! (goes-lay-chunks wss.0 c cv is_c (fits ChunksGood n (length wss.0) c (chunksOf w) (chunks-good n w good) ec len-s)) (λ ν δ. fst∗ 𝓤 (A.lft (ν ∷ []) full_share) (emp 𝓤)) (left-lay-chunks wss.0 c cv)
+        gives (fm_of 𝓤 H 𝓛.laws 𝓣) chunks_of.ended (chunks_of.clauses 𝓛 mem run) known-chunks-of (to-chunks-of w wv) (λ r. r ≡ chunks_of w) (λ r e. id⊢ 𝓤 _) ! (goes-chunks-of w wv is-w) (λ j. and_then ! (load ! (from ! (stop !)) (look ! 23 {τ = Wr'.mir} {v = wv} refl)) (no_more !)) (λ c cv ec is_c. drop-item ! $ land ! (from ! (stop !)) (init ! 14 {τ = Ly'.mir} {v = cv} refl ((LL.lawful Ly.the_type Ly'.the_laws 𝓛).typed c _ is_c).0) $ forget ! 20 refl $
+        lends (fm_of 𝓤 H 𝓛.laws 𝓣) lay-chunks.ended (lay-chunks.clauses 𝓛 mem run) known-lay-chunks R b o n wss.0 len-s room (to-lay-chunks wss.0 c cv) (λ ν δ r ws. ws.0 ≡ laid_of c wss.0) (λ ν δ r ws. id⊢ 𝓤 _) (λ ν δ ws. ws.0) ! (goes-lay-chunks wss.0 c cv is_c (fits ChunksGood n (length wss.0) c (chunks_of w) (chunks_good n w good) ec len-s)) (λ ν δ. fst∗ 𝓤 (A.lft (ν ∷ []) full_share) (emp 𝓤)) (left-lay-chunks wss.0 c cv)
         (λ νc δc j k. and_then ! (load ! (from ! (stop !)) (look ! 10 refl)) (and_then ! (load ! (from ! (stop !)) (look ! 14 {τ = Ly'.mir} {v = cv} refl)) (no_more !))) (λ νc δc uc uvc wsc len-c at_c isuc. land ! (from ! (stop !)) (init ! 20 refl ((Nothing-Lawful 𝓛).typed uc _ isuc).0) $
         assigns ! (addr ! (from ! (fld ! refl (hop ! (look_in ! 24 (sub ! 0 refl (whole !))) (stop !))))) (from ! (stop !)) (init ! 8 refl (tt, tt)) $ assigns ! (agg ! (and_then ! (load ! (from ! (stop !)) (look ! 8 refl)) (and_then ! (load ! (from ! (fld ! refl (stop !))) (look_in ! 24 (sub ! 1 refl (whole !)))) (no_more !)))) (from ! (stop !)) (init ! 6 refl (tt, (tt, (record { fits = room.0 }, tt)))) $
         gives (fm_of 𝓤 H 𝓛.laws 𝓣) marks-of.ended (marks-of.clauses 𝓛 mem run) known-marks-of (to-marks-of w wv) (λ r. r ≡ w.marking) (λ r e. id⊢ 𝓤 _) ! (goes-marks-of w wv is-w) (λ j. and_then ! (load ! (from ! (stop !)) (look ! 23 {τ = Wr'.mir} {v = wv} refl)) (no_more !)) (λ m mv em is_m. drop-item ! $ land ! (from ! (stop !)) (init ! 4 {τ = Mk'.mir} {v = mv} refl ((LL.lawful Mk.the_type Mk'.the_laws 𝓛).typed m _ is_m).0) $ forget ! 20 refl $

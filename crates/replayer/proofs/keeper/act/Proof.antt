@@ -1,5 +1,5 @@
 -- `replayer::keeper::act` meets its contract.
-use Rattle.replayer.proofs.ActCases.{act-as, scanned-as}
+use Rattle.replayer.proofs.ActCases.{act_as, scanned_as}
 use mathlib.Core.Path.{refl}
 use borrow.Author.Rules.{rules}
 use Rattle.replayer.proofs.keeper.act.Statement.{statement}
@@ -48,22 +48,22 @@ act-nothing-requires : tie.Need-act-nothing-requires
 act-nothing-requires c κs = search rules
 
 returns : tie.Need-returns
-returns c = act-as _ _ _ _ _ _ c.before.before.entry.given.1 c.act-open.ensures
+returns c = act_as _ _ _ _ _ _ c.before.before.entry.given.1 c.act-open.ensures
 
 returns-2 : tie.Need-returns-2
-returns-2 c = act-as _ _ _ _ _ _ c.before.before.entry2.given.1 c.act-call.ensures
+returns-2 c = act_as _ _ _ _ _ _ c.before.before.entry2.given.1 c.act-call.ensures
 
 returns-3 : tie.Need-returns-3
-returns-3 c = scanned-as _ _ _ _ _ _ _ _ c.before.before.enum_told.given.1 refl c.before.start.ensures c.act-scan.ensures
+returns-3 c = scanned_as _ _ _ _ _ _ _ _ c.before.before.enum_told.given.1 refl c.before.start.ensures c.act-scan.ensures
 
 returns-4 : tie.Need-returns-4
-returns-4 c = scanned-as _ _ _ _ _ _ _ _ c.before.before.before.entry3.given.1 refl c.before.step.ensures c.act-scan2.ensures
+returns-4 c = scanned_as _ _ _ _ _ _ _ _ c.before.before.before.entry3.given.1 refl c.before.step.ensures c.act-scan2.ensures
 
 returns-5 : tie.Need-returns-5
-returns-5 c = act-as _ _ _ _ _ _ c.before.before.entry4.given.1 c.act-power.ensures
+returns-5 c = act_as _ _ _ _ _ _ c.before.before.entry4.given.1 c.act-power.ensures
 
 returns-6 : tie.Need-returns-6
-returns-6 c = act-as _ _ _ _ _ _ c.before.enum-told2.given.1 c.act-nothing.ensures
+returns-6 c = act_as _ _ _ _ _ _ c.before.enum-told2.given.1 c.act-nothing.ensures
 
 pub act-spec : {M : Type 1} → statement M
 act-spec =

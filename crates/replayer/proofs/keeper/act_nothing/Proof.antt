@@ -1,5 +1,5 @@
 -- `replayer::keeper::act_nothing` meets its contract.
-use Rattle.replayer.proofs.ActCases.{nothing-done}
+use Rattle.replayer.proofs.ActCases.{nothing_done}
 use borrow.Author.Rules.{rules}
 use Rattle.replayer.proofs.keeper.act_nothing.Statement.{statement}
 use Rattle.replayer.proofs.keeper.act_nothing.Tie as tie
@@ -11,7 +11,7 @@ none-requires : tie.Need-none-requires
 none-requires c κs = search rules
 
 returns : tie.Need-returns
-returns c = nothing-done _ c.before.before.requires _ _ _ _ c.before.call_line.ensures c.none.ensures.1
+returns c = nothing_done _ c.before.before.requires _ _ _ _ c.before.call_line.ensures c.none.ensures.1
 
 pub act-nothing-spec : {M : Type 1} → statement M
 act-nothing-spec = tie.close (tie.spec call-line-requires none-requires returns)

@@ -1,5 +1,5 @@
 -- `replayer::keeper::act_open` meets its contract.
-use Rattle.replayer.proofs.ActCases.{open_done, open-refused}
+use Rattle.replayer.proofs.ActCases.{open_done, open_refused}
 use borrow.Author.Rules.{rules}
 use Rattle.replayer.proofs.keeper.act_open.Statement.{statement}
 use Rattle.replayer.proofs.keeper.act_open.Tie as tie
@@ -29,7 +29,7 @@ returns : tie.Need-returns
 returns c = open_done _ c.before.before.before.before.before.before.before.before.requires _ _ _ _ _ _ c.before.before.before.before.before.before.open_in.ensures c.none.ensures.1 c.before.before.enum_told.given.1 c.before.call_line.ensures
 
 returns-2 : tie.Need-returns-2
-returns-2 c = open-refused _ c.before.before.before.before.before.before.before.before.before.requires _ _ _ _ _ _ c.before.before.before.before.before.before.before.open_in.ensures c.none2.ensures.1 _ c.before.before.before.answer.given.1 c.before.call-line2.ensures
+returns-2 c = open_refused _ c.before.before.before.before.before.before.before.before.before.requires _ _ _ _ _ _ c.before.before.before.before.before.before.before.open_in.ensures c.none2.ensures.1 _ c.before.before.before.answer.given.1 c.before.call-line2.ensures
 
 pub act-open-spec : {M : Type 1} → statement M
 act-open-spec =

@@ -1,11 +1,11 @@
 -- `replayer::turn::first_byte` meets its contract.
-use Rattle.replayer.proofs.TurnCases.{none-there}
+use Rattle.replayer.proofs.TurnCases.{none_there}
 use borrow.Author.Rules.{rules}
 use Rattle.replayer.proofs.turn.first_byte.Statement.{statement}
 use Rattle.replayer.proofs.turn.first_byte.Tie as tie
 
 returns : tie.Need-returns
-returns c = none-there c.before.args.bytes.now c.if1.true
+returns c = none_there c.before.args.bytes.now c.if1.true
 
 shared-slice-read-result : tie.Need-shared-slice-read-result
 shared-slice-read-result c = search rules

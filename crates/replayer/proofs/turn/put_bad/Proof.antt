@@ -1,7 +1,7 @@
 -- `replayer::turn::put_bad` meets its contract.
-use Rattle.replayer.proofs.TurnCases.{bad-put}
+use Rattle.replayer.proofs.TurnCases.{bad_put}
 use native.Mathlib.Omega.{arith}
-use Rattle.text.proofs.TextLaws.{decimal-length}
+use Rattle.text.proofs.TextLaws.{decimal_length}
 use borrow.Author.Rules.{rules}
 use Rattle.replayer.proofs.turn.put_bad.Statement.{statement}
 use Rattle.replayer.proofs.turn.put_bad.Tie as tie
@@ -16,13 +16,13 @@ put-decimal-requires : tie.Need-put-decimal-requires
 put-decimal-requires c κs = search rules
 
 put-requires : tie.Need-put-requires
-put-requires c κs = omega (arith, c.before.before.before.before.before.before.before.before.before.before.before.requires, c.before.before.before.put-decimal.ensures.1, decimal-length c.before.before.before.before.before.before.before.before.before.before.before.args.n, c.before.before.before.put-decimal.auto.0, c.before.before.before.before.before.before.before.put-bytes.auto.0)
+put-requires c κs = omega (arith, c.before.before.before.before.before.before.before.before.before.before.before.requires, c.before.before.before.put-decimal.ensures.1, decimal_length c.before.before.before.before.before.before.before.before.before.before.before.args.n, c.before.before.before.put-decimal.auto.0, c.before.before.before.before.before.before.before.put-bytes.auto.0)
 
 same_length : tie.Need-same-length
 same_length c = search rules
 
 returns : tie.Need-returns
-returns c = bad-put _ _ _ _ _ _ _ (omega (arith, c.before.before.before.before.before.before.before.before.before.before.before.before.before.before.requires, c.before.before.put.auto.0, c.before.before.before.before.before.before.put-decimal.auto.0, c.before.before.before.before.before.before.before.before.before.before.put-bytes.auto.0)) c.before.before.before.before.before.before.before.before.before.before.put-bytes.ensures c.before.before.before.before.before.before.put-decimal.ensures.0 c.before.before.before.before.before.before.put-decimal.ensures.1 c.before.before.put.ensures.0 c.before.before.put.ensures.1
+returns c = bad_put _ _ _ _ _ _ _ (omega (arith, c.before.before.before.before.before.before.before.before.before.before.before.before.before.before.requires, c.before.before.put.auto.0, c.before.before.before.before.before.before.put-decimal.auto.0, c.before.before.before.before.before.before.before.before.before.before.put-bytes.auto.0)) c.before.before.before.before.before.before.before.before.before.before.put-bytes.ensures c.before.before.before.before.before.before.put-decimal.ensures.0 c.before.before.before.before.before.before.put-decimal.ensures.1 c.before.before.put.ensures.0 c.before.before.put.ensures.1
 
 pub put-bad-spec : {M : Type 1} → statement M
 put-bad-spec =

@@ -1,5 +1,5 @@
 -- `request::settle::accepted` meets its contract.
-use Rattle.request.proofs.WordsCases.{accepted-words}
+use Rattle.request.proofs.WordsCases.{accepted_words_lem}
 use borrow.Author.Rules.{rules}
 use Rattle.request.proofs.settle.accepted.Statement.{statement}
 use Rattle.request.proofs.settle.accepted.Tie as tie
@@ -23,7 +23,7 @@ laying-for-requires : tie.Need-laying-for-requires
 laying-for-requires c κs = search rules
 
 returns : tie.Need-returns
-returns c = search accepted-words
+returns c = search accepted_words_lem
 
 pub accepted-spec : {M : Type 1} → statement M
 accepted-spec =

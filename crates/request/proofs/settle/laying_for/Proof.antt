@@ -1,5 +1,5 @@
 -- `request::settle::laying_for` meets its contract.
-use Rattle.request.proofs.WordsCases.{laid-for}
+use Rattle.request.proofs.WordsCases.{laid_for}
 use borrow.Author.Rules.{rules}
 use Rattle.request.proofs.settle.laying_for.Statement.{statement}
 use Rattle.request.proofs.settle.laying_for.Tie as tie
@@ -23,7 +23,7 @@ alternate-word-requires : tie.Need-alternate-word-requires
 alternate-word-requires c κs = search rules
 
 returns : tie.Need-returns
-returns c = search laid-for
+returns c = search laid_for
 
 pub laying-for-spec : {M : Type 1} → statement M
 laying-for-spec = tie.close (tie.spec mul-setup add-setup mul-shared add-shared cast-shared alternate-word-requires returns)

@@ -1,5 +1,5 @@
 -- `request::settle::link_head` meets its contract.
-use Rattle.request.proofs.SettleCases.{rows-frames, rows-ring}
+use Rattle.request.proofs.SettleCases.{rows_frames, rows_ring}
 use borrow.Author.Rules.{rules}
 use Rattle.request.proofs.settle.link_head.Statement.{statement}
 use Rattle.request.proofs.settle.link_head.Tie as tie
@@ -23,13 +23,13 @@ same-length-2 : tie.Need-same-length-2
 same-length-2 c = search rules
 
 returns : tie.Need-returns
-returns c = search rows-frames
+returns c = search rows_frames
 
 same-length-3 : tie.Need-same-length-3
 same-length-3 c = search rules
 
 returns-2 : tie.Need-returns-2
-returns-2 c = search rows-ring
+returns-2 c = search rows_ring
 
 pub link-head-spec : {M : Type 1} → statement M
 link-head-spec =

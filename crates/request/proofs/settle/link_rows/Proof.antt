@@ -1,5 +1,5 @@
 -- `request::settle::link_rows` meets its contract.
-use Rattle.request.proofs.WordsLink.{address-fits, rows-linked}
+use Rattle.request.proofs.WordsLink.{address_fits, rows_linked}
 use borrow.Author.Rules.{rules}
 use Rattle.request.proofs.settle.link_rows.Statement.{statement}
 use Rattle.request.proofs.settle.link_rows.Tie as tie
@@ -17,7 +17,7 @@ add-first : tie.Need-overflow-add-first
 add-first c = search rules
 
 cast-first : tie.Need-overflow-cast-first
-cast-first c = search address-fits
+cast-first c = search address_fits
 
 head-address-requires : tie.Need-head-address-requires
 head-address-requires c κs = search rules
@@ -38,7 +38,7 @@ same-length-2 : tie.Need-same-length-2
 same-length-2 c = search rules
 
 returns : tie.Need-returns
-returns c = search rows-linked
+returns c = search rows_linked
 
 pub link-rows-spec : {M : Type 1} → statement M
 link-rows-spec =

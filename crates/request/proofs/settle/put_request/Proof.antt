@@ -1,5 +1,5 @@
 -- `request::settle::put_request` meets its contract.
-use Rattle.request.proofs.WordsLink.{own-request-fits, request-fits, request-put}
+use Rattle.request.proofs.WordsLink.{own_request_fits, request_fits_lem, request_put}
 use borrow.Author.Rules.{rules}
 use Rattle.request.proofs.settle.put_request.Statement.{statement}
 use Rattle.request.proofs.settle.put_request.Tie as tie
@@ -17,7 +17,7 @@ cast-t18 : tie.Need-overflow-cast-t18
 cast-t18 c = search rules
 
 put-endpoint-requires : tie.Need-put-endpoint-requires
-put-endpoint-requires c κs = (search rules, search (request-fits, rules))
+put-endpoint-requires c κs = (search rules, search (request_fits_lem, rules))
 
 put-places-requires : tie.Need-put-places-requires
 put-places-requires c κs = search rules
@@ -26,7 +26,7 @@ same_length : tie.Need-same-length
 same_length c = search rules
 
 returns : tie.Need-returns
-returns c = (search request-put, search (own-request-fits, rules))
+returns c = (search request_put, search (own_request_fits, rules))
 
 pub put-request-spec : {M : Type 1} → statement M
 put-request-spec =

@@ -1,5 +1,5 @@
 -- `request::settle::put_setup` meets its contract.
-use Rattle.request.proofs.SettleCases.{setup-put, setup-kept}
+use Rattle.request.proofs.SettleCases.{setup_put, setup_kept}
 use borrow.Author.Rules.{rules}
 use Rattle.request.proofs.settle.put_setup.Statement.{statement}
 use Rattle.request.proofs.settle.put_setup.Tie as tie
@@ -23,10 +23,10 @@ same_length : tie.Need-same-length
 same_length c = search rules
 
 returns : tie.Need-returns
-returns c = search setup-put
+returns c = search setup_put
 
 returns-2 : tie.Need-returns-2
-returns-2 c = search setup-kept
+returns-2 c = search setup_kept
 
 pub put-setup-spec : {M : Type 1} → statement M
 put-setup-spec =

@@ -1,6 +1,6 @@
 -- `request::settle::settle` meets its contract.
-use Rattle.request.proofs.WordsCases.{areas-below, rows-ready, settled, setup-room}
-use Rattle.request.proofs.WordsSettle.{short-length, slot-room}
+use Rattle.request.proofs.WordsCases.{areas_below, rows_ready, settled, setup_room}
+use Rattle.request.proofs.WordsSettle.{short_length, slot_room}
 use borrow.Author.Rules.{rules}
 use Rattle.request.proofs.settle.settle.Statement.{statement}
 use Rattle.request.proofs.settle.settle.Tie as tie
@@ -14,28 +14,28 @@ toggle-at-requires c κs = search rules
 link-rows-requires : tie.Need-link-rows-requires
 link-rows-requires c κs =
     let b = c.before.before.before.before.before.before.before.before.before.before in
-    rows-ready b.args.core b.args.slots.now b.args.slot b.args.t _ _ _ b.requires.0 b.requires.1.1.1 b.requires.1.1.0.0 b.requires.1.1.0.1 c.before.before.before.before.lowest-places.ensures.1 c.before.before.before.before.lowest-places.ensures.0
+    rows_ready b.args.core b.args.slots.now b.args.slot b.args.t _ _ _ b.requires.0 b.requires.1.1.1 b.requires.1.1.0.0 b.requires.1.1.0.1 c.before.before.before.before.lowest-places.ensures.1 c.before.before.before.before.lowest-places.ensures.0
     b.args.heads.now b.args.frames.now b.requires.1.0.0 b.requires.1.0.1
 
 put-setup-requires : tie.Need-put-setup-requires
 put-setup-requires c κs =
     let b = c.before.before.before.before.before.before.before.before.before.before.before.before.before.before.before.before in
-    setup-room b.args.core.settings b.args.core.rest b.args.slots.now b.args.slot b.args.t b.requires.0 b.requires.1.1.1 b.args.setups.now b.requires.1.0.2
+    setup_room b.args.core.settings b.args.core.rest b.args.slots.now b.args.slot b.args.t b.requires.0 b.requires.1.1.1 b.args.setups.now b.requires.1.0.2
 
 id-at-requires : tie.Need-id-at-requires
 id-at-requires c κs =
     let b = c.before.before.before.before.before.before.before.before.before.before.before.before.before.before.before.before.before.before.before.before in
-    slot-room b.args.core.settings b.args.core.rest b.args.slots.now b.args.slot b.args.t b.requires.0 b.requires.1.1.1
+    slot_room b.args.core.settings b.args.core.rest b.args.slots.now b.args.slot b.args.t b.requires.0 b.requires.1.1.1
 
 put-request-requires : tie.Need-put-request-requires
 put-request-requires c κs =
     let b = c.before.before.before.before.before.before.before.before.before.before.before.before.before.before.before.before.before.before.before.before.before.before in
-    (slot-room b.args.core.settings b.args.core.rest b.args.slots.now b.args.slot b.args.t b.requires.0 b.requires.1.1.1, short-length b.args.core.settings b.args.core.rest b.args.slots.now b.args.slot b.args.t b.requires.0 b.requires.1.1.1)
+    (slot_room b.args.core.settings b.args.core.rest b.args.slots.now b.args.slot b.args.t b.requires.0 b.requires.1.1.1, short_length b.args.core.settings b.args.core.rest b.args.slots.now b.args.slot b.args.t b.requires.0 b.requires.1.1.1)
 
 accepted-requires : tie.Need-accepted-requires
 accepted-requires c κs =
     let b = c.before.before.before.before.before.before.before.before.before.before.before.before.before.before.before.before.before.before.before.before.before.before.before.before.before in
-    areas-below b.args.core.settings b.args.core.rest b.args.slots.now b.args.slot b.args.t b.requires.0 b.requires.1.1.1
+    areas_below b.args.core.settings b.args.core.rest b.args.slots.now b.args.slot b.args.t b.requires.0 b.requires.1.1.1
 
 same_length : tie.Need-same-length
 same_length c = search rules

@@ -1,5 +1,5 @@
 -- `request::submit::refuse` meets its contract.
-use Rattle.request.specs.Words.{refusedWords}
+use Rattle.request.specs.Words.{refused_words}
 use borrow.Author.Rules.{rules}
 use Rattle.request.proofs.submit.refuse.Statement.{statement}
 use Rattle.request.proofs.submit.refuse.Tie as tie
@@ -11,7 +11,7 @@ no-laying-requires : tie.Need-no-laying-requires
 no-laying-requires c κs = search rules
 
 returns : tie.Need-returns
-unfolding refusedWords
+unfolding refused_words
 returns c = cc
 
 pub refuse-spec : {M : Type 1} → statement M

@@ -1,6 +1,6 @@
 -- `request::submit::submit` meets its contract.
 use mathlib.Core.Path.{sym, ◌∙◌}
-use Rattle.request.proofs.WordsSubmit.{limit-good, limit-viewed, need-viewed, refused-laying, refused-tidy, submit-refuses, submit-settles}
+use Rattle.request.proofs.WordsSubmit.{limit_good, limit_viewed, need_viewed, refused_laying, refused_tidy, submit_refuses, submit_settles}
 use borrow.Author.Rules.{rules}
 use Rattle.request.proofs.submit.submit.Statement.{statement}
 use Rattle.request.proofs.submit.submit.Tie as tie
@@ -14,12 +14,12 @@ limit-of-requires c κs = search rules
 need-requires : tie.Need-need-requires
 need-requires c κs =
     let b = c.before.before.before.before.before.before.before in
-    limit-good b.args.core.settings b.args.core.rest b.args.slots.now b.args.slot _ _ b.requires.0 c.before.pipe-at.ensures c.limit-of.ensures
+    limit_good b.args.core.settings b.args.core.rest b.args.slots.now b.args.slot _ _ b.requires.0 c.before.pipe-at.ensures c.limit-of.ensures
 
 judge-requires : tie.Need-judge-requires
 judge-requires c κs =
     let b = c.before.before.before.before.before.before.before.before.before in
-    (b.requires.0, need-viewed b.args.core.settings b.args.core.rest b.args.slots.now b.args.slot _ _ b.requires.0 c.before.before.before.pipe-at.ensures c.before.before.limit-of.ensures b.args.request _ c.before.need.ensures)
+    (b.requires.0, need_viewed b.args.core.settings b.args.core.rest b.args.slots.now b.args.slot _ _ b.requires.0 c.before.before.before.pipe-at.ensures c.before.before.limit-of.ensures b.args.request _ c.before.need.ensures)
 
 enum-known-refusal : tie.Need-enum-known-refusal
 enum-known-refusal c = search rules
@@ -33,7 +33,7 @@ enum_told c = search rules
 settle-requires : tie.Need-settle-requires
 settle-requires c κs =
     let b = c.before.before.before.before.before.before.before.before.before.before.before.before.before.before.before.before in
-    (b.requires.0, (b.requires.1, ((limit-viewed b.args.core.settings b.args.core.rest b.args.slots.now b.args.slot _ _ b.requires.0 c.before.before.before.before.before.before.before.before.before.before.pipe-at.ensures c.before.before.before.before.before.before.before.before.before.limit-of.ensures, need-viewed b.args.core.settings b.args.core.rest b.args.slots.now b.args.slot _ _ b.requires.0 c.before.before.before.before.before.before.before.before.before.before.pipe-at.ensures c.before.before.before.before.before.before.before.before.before.limit-of.ensures b.args.request _ c.before.before.before.before.before.before.before.before.need.ensures), sym c.before.before.before.before.before.before.judge.ensures ∙ c.before.before.before.before.enum_told.given.1)))
+    (b.requires.0, (b.requires.1, ((limit_viewed b.args.core.settings b.args.core.rest b.args.slots.now b.args.slot _ _ b.requires.0 c.before.before.before.before.before.before.before.before.before.before.pipe-at.ensures c.before.before.before.before.before.before.before.before.before.limit-of.ensures, need_viewed b.args.core.settings b.args.core.rest b.args.slots.now b.args.slot _ _ b.requires.0 c.before.before.before.before.before.before.before.before.before.before.pipe-at.ensures c.before.before.before.before.before.before.before.before.before.limit-of.ensures b.args.request _ c.before.before.before.before.before.before.before.before.need.ensures), sym c.before.before.before.before.before.before.judge.ensures ∙ c.before.before.before.before.enum_told.given.1)))
 
 same_length : tie.Need-same-length
 same_length c = search rules
@@ -41,8 +41,8 @@ same_length c = search rules
 returns : tie.Need-returns
 returns c =
     let b = c.before.before.before.before.before.before.before.before.before.before.before.before.before.before in (
-      submit-refuses b.args.core.settings b.args.core.rest b.args.slots.now b.args.heads.now b.args.frames.now b.args.setups.now b.args.readings b.args.slot b.args.request _ b.requires.0 c.before.before.before.before.judge.ensures _ _ c.before.before.refusal.given.1 c.refuse.ensures,
-      (refused-tidy b.args.core.settings b.args.core.rest b.args.slots.now _ _ b.requires.0 c.refuse.ensures, refused-laying _ _ _ _ c.refuse.ensures),
+      submit_refuses b.args.core.settings b.args.core.rest b.args.slots.now b.args.heads.now b.args.frames.now b.args.setups.now b.args.readings b.args.slot b.args.request _ b.requires.0 c.before.before.before.before.judge.ensures _ _ c.before.before.refusal.given.1 c.refuse.ensures,
+      (refused_tidy b.args.core.settings b.args.core.rest b.args.slots.now _ _ b.requires.0 c.refuse.ensures, refused_laying _ _ _ _ c.refuse.ensures),
     )
 
 same-length-2 : tie.Need-same-length-2
@@ -60,7 +60,7 @@ same-length-5 c = search rules
 returns-2 : tie.Need-returns-2
 returns-2 c =
     let b = c.before.before.before.before.before.before.before.before.before.before.before.before.before.before.before.before.before.before.before.before.before.before.before.before.before in (
-      submit-settles b.args.core.settings b.args.core.rest b.args.slots.now b.args.heads.now b.args.frames.now b.args.setups.now b.args.readings b.args.slot b.args.request _ b.requires.0 c.before.before.before.before.before.before.before.before.before.before.before.before.before.before.before.judge.ensures _ _ _ _ _ c.before.before.before.before.before.before.before.before.before.before.before.before.before.enum_told.given.1 c.before.before.before.before.before.before.before.before.settle.ensures.0,
+      submit_settles b.args.core.settings b.args.core.rest b.args.slots.now b.args.heads.now b.args.frames.now b.args.setups.now b.args.readings b.args.slot b.args.request _ b.requires.0 c.before.before.before.before.before.before.before.before.before.before.before.before.before.before.before.judge.ensures _ _ _ _ _ c.before.before.before.before.before.before.before.before.before.before.before.before.before.enum_told.given.1 c.before.before.before.before.before.before.before.before.settle.ensures.0,
       c.before.before.before.before.before.before.before.before.settle.ensures.1,
     )
 

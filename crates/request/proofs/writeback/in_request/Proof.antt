@@ -1,11 +1,11 @@
 -- `request::writeback::in_request` meets its contract.
-use Rattle.request.proofs.WordsWriteback.{taken-beyond, taken_free}
+use Rattle.request.proofs.WordsWriteback.{taken_beyond, taken_free}
 use borrow.Author.Rules.{rules}
 use Rattle.request.proofs.writeback.in_request.Statement.{statement}
 use Rattle.request.proofs.writeback.in_request.Tie as tie
 
 returns : tie.Need-returns
-returns c = search taken-beyond
+returns c = search taken_beyond
 
 has-requires : tie.Need-has-requires
 has-requires c κs = search rules

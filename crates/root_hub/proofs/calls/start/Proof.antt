@@ -1,6 +1,6 @@
 -- `root_hub::calls::start` meets its contract.
-use Rattle.root_hub.specs.Calls.{withScan}
-use Rattle.root_hub.proofs.Cases.{start-bad, start-done}
+use Rattle.root_hub.specs.Calls.{with_scan}
+use Rattle.root_hub.proofs.Cases.{start_bad, start_done}
 use borrow.Author.Rules.{rules}
 use Rattle.root_hub.proofs.calls.start.Statement.{statement}
 use Rattle.root_hub.proofs.calls.start.Tie as tie
@@ -12,7 +12,7 @@ refuse-requires : tie.Need-refuse-requires
 refuse-requires c κs = search rules
 
 returns : tie.Need-returns
-returns c = search start-bad
+returns c = search start_bad
 
 none-requires : tie.Need-none-requires
 none-requires c κs = search rules
@@ -21,8 +21,8 @@ port-offset-requires : tie.Need-port-offset-requires
 port-offset-requires c κs = search rules
 
 returns-2 : tie.Need-returns-2
-unfolding withScan
-returns-2 c = search start-done
+unfolding with_scan
+returns-2 c = search start_done
 
 pub start_spec : {M : Type 1} → statement M
 start_spec =

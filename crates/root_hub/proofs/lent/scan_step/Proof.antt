@@ -83,11 +83,11 @@ module _ {M : Type 1} {𝓤 : Ura M} (𝓛 : Logic 𝓤) (at_mem : Memory → SP
   gave : (r : Scanned) → ent 𝓤 (ensured 𝓛 g.ended (g.clauses 𝓛 at_mem run) tt (h, (n, tt)) tt r) (fact 𝓤 (r ≡ step_of h n))
   gave r = ex_e 𝓤 _ (λ ws. snd∗ 𝓤 (sem 𝓛 (lasts g.ended tt (h, (n, tt)) ws)) (fact 𝓤 (r ≡ step_of h n)))
 
-  abbrev to-g : (G 𝓛 at_mem run).Ghost
-  to-g = ((tt, tt, tt, (h, (n, tt)), (hubs h, (vint w32 n ∷ [], tt))), tt)
+  abbrev to_g : (G 𝓛 at_mem run).Ghost
+  to_g = ((tt, tt, tt, (h, (n, tt)), (hubs h, (vint w32 n ∷ [], tt))), tt)
 
-  goes-g : ent 𝓤 (sem 𝓛 ((T.the_row).own_val h (hubs h))) ((G 𝓛 at_mem run).pre to-g)
-  goes-g = qed 𝓛 (‵ ((T.the_row).own_val h (hubs h)) ∷ []) ∵ nothing ! $ owned ! u32 (Is u32) (uint_Makes 𝓛 w32) n _ (refl, n-fits) $ fjoin ! $ move ! (1 ∷ 0 ∷ []) $ fjoin ! $ nothing ! $ join ! $ frame ! $ done !
+  goes_g : ent 𝓤 (sem 𝓛 ((T.the_row).own_val h (hubs h))) ((G 𝓛 at_mem run).pre to_g)
+  goes_g = qed 𝓛 (‵ ((T.the_row).own_val h (hubs h)) ∷ []) ∵ nothing ! $ owned ! u32 (Is u32) (uint_Makes 𝓛 w32) n _ (refl, n-fits) $ fjoin ! $ move ! (1 ∷ 0 ∷ []) $ fjoin ! $ nothing ! $ join ! $ frame ! $ done !
 
   abbrev Post : Val → SProp 𝓤
   Post = (walk_of 𝓛 f.ended stayed (f.clauses 𝓛 at_mem run)).post (((κ, tt), (q, tt), tt, x, at), tt)
@@ -111,8 +111,8 @@ module _ {M : Type 1} {𝓤 : Ura M} (𝓛 : Logic 𝓤) (at_mem : Memory → SP
         move ! (1 ∷ []) $ peeks ! T.the_row (Is T.the_row) (shows 𝓛 T.the_row) h (hubs h) (λ was.
         -- [what the record owns; its cell; the open borrow; obs; auth; _4 at 5; …; _3 at 7; …; _2 at 9; …; _1 at 11; …; room for _0 at 13; …]
         assigns ! (of_opd ! (load ! (from ! (hop ! (look ! 11 refl) (stop !))) (look_raw ! 1 refl))) (from ! (stop !)) (init ! 7 refl ((LL.lawful T.the_type T'.the_laws 𝓛).typed h _ was).0) $
-        use1 𝓛 (raw ((G 𝓛 at_mem run).pre to-g)) goes-g $
-        calls_at ! fm (G 𝓛 at_mem run) known to-g (and_then ! (load ! (from ! (stop !)) (look ! 7 refl)) (and_then ! (load ! (from ! (stop !)) (look ! 9 refl)) (no_more !))) (λ v.
+        use1 𝓛 (raw ((G 𝓛 at_mem run).pre to_g)) goes_g $
+        calls_at ! fm (G 𝓛 at_mem run) known to_g (and_then ! (load ! (from ! (stop !)) (look ! 7 refl)) (and_then ! (load ! (from ! (stop !)) (look ! 9 refl)) (no_more !))) (λ v.
         use1 𝓛 (later (some (λ (r : Scanned). (‵ ftrue ⊛ ‵ ((S.the_row).own_val r (v ∷ []))) ⊛ raw (ensured 𝓛 g.ended (g.clauses 𝓛 at_mem run) tt (h, (n, tt)) tt r)))) (id⊢ 𝓤 _) $ await ! tt $ pick ! (λ r.
         split ! $ move ! (1 ∷ []) $ use1 𝓛 (raw (fact 𝓤 (r ≡ step_of h n))) (gave r) $ heard ! (r ≡ step_of h n) (λ e. split ! $ drop ! $
         peeks ! S.the_row (Is S.the_row) (shows 𝓛 S.the_row) r (v ∷ []) (λ is.

@@ -1,14 +1,14 @@
 -- `root_hub::ranges::place_good` meets its contract.
-use Rattle.root_hub.proofs.Cases.{place-idle, place-beyond, place-begun}
+use Rattle.root_hub.proofs.Cases.{place_idle, place_beyond, place_begun}
 use borrow.Author.Rules.{rules}
 use Rattle.root_hub.proofs.ranges.place_good.Statement.{statement}
 use Rattle.root_hub.proofs.ranges.place_good.Tie as tie
 
 returns : tie.Need-returns
-returns c = search place-idle
+returns c = search place_idle
 
 returns-2 : tie.Need-returns-2
-returns-2 c = search place-beyond
+returns-2 c = search place_beyond
 
 index-of-requires : tie.Need-index-of-requires
 index-of-requires c κs = search rules
@@ -23,7 +23,7 @@ step-fits-requires : tie.Need-step-fits-requires
 step-fits-requires c κs = search rules
 
 returns-3 : tie.Need-returns-3
-returns-3 c = search place-begun
+returns-3 c = search place_begun
 
 pub place-good-spec : {M : Type 1} → statement M
 place-good-spec =

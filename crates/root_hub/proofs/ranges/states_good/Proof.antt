@@ -1,7 +1,7 @@
 -- `root_hub::ranges::states_good` meets its contract.
 use mathlib.Core.Bool.{◌&&◌}
-use Rattle.root_hub.proofs.Cases.{ports-turn, ports-done}
-use Rattle.root_hub.specs.Ranges.{statesGood}
+use Rattle.root_hub.proofs.Cases.{ports_turn, ports_done}
+use Rattle.root_hub.specs.Ranges.{states_good}
 use native.Mathlib.Omega.{arith}
 use mathlib.Core.Path.{◌≡◌, refl, ◌∙◌}
 use Prim.Native.Nat.{◌≤◌, ◌-◌}
@@ -10,7 +10,7 @@ use Rattle.root_hub.proofs.ranges.states_good.Statement.{statement}
 use Rattle.root_hub.proofs.ranges.states_good.Tie as tie
 
 abbrev invariant-loop : tie.invariant-loop
-invariant-loop hub good₀ k₀ good k = (k ≤ 15) × ((good && statesGood k (15 - k) hub) ≡ statesGood 0 15 hub)
+invariant-loop hub good₀ k₀ good k = (k ≤ 15) × ((good && states_good k (15 - k) hub) ≡ states_good 0 15 hub)
 
 abbrev decreases-loop : tie.decreases-loop
 decreases-loop hub good₀ k₀ good k = 15 - k
@@ -33,10 +33,10 @@ loop-less c = search rules
 loop-again : tie.Need-loop-preserved invariant-loop decreases-loop
 loop-again c =
     let l = c.before.before.before.loop in
-    (omega arith, ports-turn _ l.k l.good _ (omega arith) c.state-good.ensures ∙ l.invariant.1)
+    (omega arith, ports_turn _ l.k l.good _ (omega arith) c.state-good.ensures ∙ l.invariant.1)
 
 returns : tie.Need-returns invariant-loop decreases-loop
-returns c = ports-done _ _ _ _ c.loop-test.false c.before.loop.invariant.1
+returns c = ports_done _ _ _ _ c.loop-test.false c.before.loop.invariant.1
 
 pub states-good-spec : {M : Type 1} → statement M
 states-good-spec =

@@ -1,5 +1,5 @@
 -- `root_hub::ranges::step_fits` meets its contract.
-use Rattle.root_hub.proofs.Cases.{fits-is}
+use Rattle.root_hub.proofs.Cases.{fits_is}
 use Rattle.root_hub.specs.declared.scan.Awaited.TheVariants.{Gone, Reset, Release, Again, Owner}
 use borrow.Author.Rules.{rules}
 use Rattle.root_hub.proofs.ranges.step_fits.Statement.{statement}
@@ -27,19 +27,19 @@ returns : tie.Need-returns
 returns c = search rules
 
 returns-2 : tie.Need-returns-2
-returns-2 c = search (fits-is Gone)
+returns-2 c = search (fits_is Gone)
 
 returns-3 : tie.Need-returns-3
-returns-3 c = search (fits-is Reset)
+returns-3 c = search (fits_is Reset)
 
 returns-4 : tie.Need-returns-4
-returns-4 c = search (fits-is Release)
+returns-4 c = search (fits_is Release)
 
 returns-5 : tie.Need-returns-5
-returns-5 c = search (fits-is Again)
+returns-5 c = search (fits_is Again)
 
 returns-6 : tie.Need-returns-6
-returns-6 c = search (fits-is Owner)
+returns-6 c = search (fits_is Owner)
 
 pub step-fits-spec : {M : Type 1} → statement M
 step-fits-spec =

@@ -1,5 +1,5 @@
 -- `root_hub::scan::gone_turn` meets its contract.
-use Rattle.root_hub.proofs.Cases.{gone-is}
+use Rattle.root_hub.proofs.Cases.{gone_is}
 use borrow.Author.Rules.{rules}
 use Rattle.root_hub.proofs.scan.gone_turn.Statement.{statement}
 use Rattle.root_hub.proofs.scan.gone_turn.Tie as tie
@@ -11,7 +11,7 @@ without-bits-requires : tie.Need-without-bits-requires
 without-bits-requires c κs = search rules
 
 returns : tie.Need-returns
-returns c = search gone-is
+returns c = search gone_is
 
 pub gone-turn-spec : {M : Type 1} → statement M
 gone-turn-spec = tie.close (tie.spec with-bits-requires without-bits-requires returns)

@@ -1,5 +1,5 @@
 -- `root_hub::scan::place_after` meets its contract.
-use Rattle.root_hub.proofs.Cases.{place-on, place-next, place_end}
+use Rattle.root_hub.proofs.Cases.{place_on, place_next, place_end}
 use borrow.Author.Rules.{rules}
 use Rattle.root_hub.proofs.scan.place_after.Statement.{statement}
 use Rattle.root_hub.proofs.scan.place_after.Tie as tie
@@ -8,7 +8,7 @@ port-offset-requires : tie.Need-port-offset-requires
 port-offset-requires c κs = search rules
 
 returns : tie.Need-returns
-returns c = search place-on
+returns c = search place_on
 
 add-t7 : tie.Need-overflow-add-t7
 add-t7 c = search rules
@@ -20,7 +20,7 @@ port-offset-requires-2 : tie.Need-port-offset-requires-2
 port-offset-requires-2 c κs = search rules
 
 returns-2 : tie.Need-returns-2
-returns-2 c = search place-next
+returns-2 c = search place_next
 
 returns-3 : tie.Need-returns-3
 returns-3 c = search place_end

@@ -1,5 +1,5 @@
 -- `root_hub::scan::port_writes` meets its contract.
-use Rattle.root_hub.proofs.Cases.{writes-none, writes-value}
+use Rattle.root_hub.proofs.Cases.{writes_none, writes_value}
 use borrow.Author.Rules.{rules}
 use Rattle.root_hub.proofs.scan.port_writes.Statement.{statement}
 use Rattle.root_hub.proofs.scan.port_writes.Tie as tie
@@ -23,10 +23,10 @@ and-then-requires : tie.Need-and-then-requires
 and-then-requires c κs = search rules
 
 returns : tie.Need-returns
-returns c = search writes-none
+returns c = search writes_none
 
 returns-2 : tie.Need-returns-2
-returns-2 c = search writes-value
+returns-2 c = search writes_value
 
 pub port-writes-spec : {M : Type 1} → statement M
 port-writes-spec =

@@ -1,5 +1,5 @@
 -- `root_hub::scan::reset_turn` meets its contract.
-use Rattle.root_hub.proofs.Cases.{reset-is}
+use Rattle.root_hub.proofs.Cases.{reset_is}
 use borrow.Author.Rules.{rules}
 use Rattle.root_hub.proofs.scan.reset_turn.Statement.{statement}
 use Rattle.root_hub.proofs.scan.reset_turn.Tie as tie
@@ -11,7 +11,7 @@ without-bits-requires : tie.Need-without-bits-requires
 without-bits-requires c κs = search rules
 
 returns : tie.Need-returns
-returns c = search reset-is
+returns c = search reset_is
 
 pub reset-turn-spec : {M : Type 1} → statement M
 reset-turn-spec = tie.close (tie.spec with-bits-requires without-bits-requires returns)

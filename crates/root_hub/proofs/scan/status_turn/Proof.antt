@@ -1,5 +1,5 @@
 -- `root_hub::scan::status_turn` meets its contract.
-use Rattle.root_hub.proofs.Cases.{status-is}
+use Rattle.root_hub.proofs.Cases.{status_is}
 use mathlib.Core.Bool.{true, false}
 use Rattle.root_hub.specs.declared.ports.PortState.TheVariants.{Uninit, Reseted, Probed}
 use borrow.Author.Rules.{rules}
@@ -37,22 +37,22 @@ await-step-requires-3 : tie.Need-await-step-requires-3
 await-step-requires-3 c κs = search rules
 
 returns : tie.Need-returns
-returns c = search (status-is Uninit true)
+returns c = search (status_is Uninit true)
 
 returns-2 : tie.Need-returns-2
-returns-2 c = search (status-is Uninit false)
+returns-2 c = search (status_is Uninit false)
 
 returns-3 : tie.Need-returns-3
-returns-3 c = search (status-is Reseted true)
+returns-3 c = search (status_is Reseted true)
 
 returns-4 : tie.Need-returns-4
-returns-4 c = search (status-is Reseted false)
+returns-4 c = search (status_is Reseted false)
 
 returns-5 : tie.Need-returns-5
-returns-5 c = search (status-is Probed true)
+returns-5 c = search (status_is Probed true)
 
 returns-6 : tie.Need-returns-6
-returns-6 c = search (status-is Probed false)
+returns-6 c = search (status_is Probed false)
 
 pub status-turn-spec : {M : Type 1} → statement M
 status-turn-spec =

@@ -1,5 +1,5 @@
 -- `root_hub::scan::turn` meets its contract.
-use Rattle.root_hub.proofs.Cases.{turn-again, turn_is, turn-status}
+use Rattle.root_hub.proofs.Cases.{turn_again, turn_is, turn_status}
 use Rattle.root_hub.specs.declared.scan.Awaited.TheVariants.{Gone, Reset, Release, Owner}
 use borrow.Author.Rules.{rules}
 use Rattle.root_hub.proofs.scan.turn.Statement.{statement}
@@ -54,7 +54,7 @@ owner-turn-requires : tie.Need-owner-turn-requires
 owner-turn-requires c κs = search rules
 
 returns : tie.Need-returns
-returns c = search turn-status
+returns c = search turn_status
 
 returns-2 : tie.Need-returns-2
 returns-2 c = search (turn_is Gone)
@@ -66,7 +66,7 @@ returns-4 : tie.Need-returns-4
 returns-4 c = search (turn_is Release)
 
 returns-5 : tie.Need-returns-5
-returns-5 c = search turn-again
+returns-5 c = search turn_again
 
 returns-6 : tie.Need-returns-6
 returns-6 c = search (turn_is Owner)

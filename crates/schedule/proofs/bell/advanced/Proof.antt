@@ -1,5 +1,5 @@
 -- `schedule::bell::advanced` meets its contract.
-use Rattle.schedule.specs.Bell.{advancedOf}
+use Rattle.schedule.specs.Bell.{advanced_of}
 use borrow.Author.Rules.{rules}
 use Rattle.schedule.proofs.bell.advanced.Statement.{statement}
 use Rattle.schedule.proofs.bell.advanced.Tie as tie
@@ -11,7 +11,7 @@ ring-requires : tie.Need-ring-requires
 ring-requires c κs = search rules
 
 returns : tie.Need-returns
-unfolding advancedOf
+unfolding advanced_of
 returns c = c.ring.ensures
 
 pub advanced-spec : {M : Type 1} → statement M

@@ -1,5 +1,5 @@
 -- `schedule::bell::ring` meets its contract.
-use Rattle.schedule.proofs.BellCases.{rings, rings-none, rings-up}
+use Rattle.schedule.proofs.BellCases.{rings, rings_none, rings_up}
 use borrow.Author.Rules.{rules}
 use Rattle.schedule.proofs.bell.ring.Statement.{statement}
 use Rattle.schedule.proofs.bell.ring.Tie as tie
@@ -14,10 +14,10 @@ returns : tie.Need-returns
 returns c = search rings
 
 returns-2 : tie.Need-returns-2
-returns-2 c = search rings-none
+returns-2 c = search rings_none
 
 returns-3 : tie.Need-returns-3
-returns-3 c = search rings-up
+returns-3 c = search rings_up
 
 pub ring-spec : {M : Type 1} → statement M
 ring-spec = tie.close (tie.spec with-bits-requires and-then-requires returns returns-2 returns-3)

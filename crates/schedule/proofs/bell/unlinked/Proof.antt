@@ -1,5 +1,5 @@
 -- `schedule::bell::unlinked` meets its contract.
-use Rattle.schedule.specs.Bell.{unlinkedOf}
+use Rattle.schedule.specs.Bell.{unlinked_of}
 use borrow.Author.Rules.{rules}
 use Rattle.schedule.proofs.bell.unlinked.Statement.{statement}
 use Rattle.schedule.proofs.bell.unlinked.Tie as tie
@@ -11,7 +11,7 @@ ring-requires : tie.Need-ring-requires
 ring-requires c κs = search rules
 
 returns : tie.Need-returns
-unfolding unlinkedOf
+unfolding unlinked_of
 returns c = c.ring.ensures
 
 pub unlinked-spec : {M : Type 1} → statement M

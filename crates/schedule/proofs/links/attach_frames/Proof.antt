@@ -1,5 +1,5 @@
 -- `schedule::links::attach_frames` meets its contract.
-use Rattle.schedule.proofs.LinkCases.{frames-attached}
+use Rattle.schedule.proofs.LinkCases.{frames_attached}
 use borrow.Author.Rules.{rules}
 use Rattle.schedule.proofs.links.attach_frames.Statement.{statement}
 use Rattle.schedule.proofs.links.attach_frames.Tie as tie
@@ -29,7 +29,7 @@ same-length-2 : tie.Need-same-length-2
 same-length-2 c = search rules
 
 returns : tie.Need-returns
-returns c = frames-attached c.before.before.before.before.before.before.before.args.heads.now c.before.before.before.before.before.before.before.args.frames.now _ c.before.before.before.before.before.before.before.args.k c.before.before.before.before.before.before.before.args.link c.before.before.fill-words.ensures
+returns c = frames_attached c.before.before.before.before.before.before.before.args.heads.now c.before.before.before.before.before.before.before.args.frames.now _ c.before.before.before.before.before.before.before.args.k c.before.before.before.before.before.before.before.args.link c.before.before.fill-words.ensures
 
 pub attach-frames-spec : {M : Type 1} → statement M
 attach-frames-spec =

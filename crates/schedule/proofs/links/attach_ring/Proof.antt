@@ -1,5 +1,5 @@
 -- `schedule::links::attach_ring` meets its contract.
-use Rattle.schedule.specs.Links.{attachedRing}
+use Rattle.schedule.specs.Links.{attached_ring}
 use native.Mathlib.Omega.{arith}
 use lib.ListN.{length-set}
 use mathlib.Core.Path.{refl}
@@ -29,7 +29,7 @@ same_length : tie.Need-same-length
 same_length c = search rules
 
 returns : tie.Need-returns
-unfolding attachedRing
+unfolding attached_ring
 returns c = refl
 
 pub attach-ring-spec : {M : Type 1} → statement M

@@ -1,7 +1,7 @@
 -- `schedule::links::detach` meets its contract.
 use Rattle.words.specs.View.{view}
-use Rattle.schedule.proofs.LinkCases.{detach-head, detach-none}
-use Rattle.schedule.proofs.WordsCases.{detach-framed, detach-ringed}
+use Rattle.schedule.proofs.LinkCases.{detach_head, detach_none}
+use Rattle.schedule.proofs.WordsCases.{detach_framed, detach_ringed}
 use borrow.Author.Rules.{rules}
 use Rattle.schedule.proofs.links.detach.Statement.{statement}
 use Rattle.schedule.proofs.links.detach.Tie as tie
@@ -48,7 +48,7 @@ same-length-2 c = search rules
 returns : tie.Need-returns
 returns c =
     let b = c.before.before.before.before.before.before.before.before.before.before.before.before.before.before in
-    detach-framed (view b.args.core b.args.slots.now) b.args.heads.now b.args.frames.now b.args.k b.args.framed
+    detach_framed (view b.args.core b.args.slots.now) b.args.heads.now b.args.frames.now b.args.k b.args.framed
     b.requires.1.1.0 _ c.before.before.before.before.before.before.before.before.find-predecessor.ensures c.before.before.before.before.before.enum_told.given.1 c.before.before.before.before.if1.true _ c.before.before.fill-words.ensures
 
 same-length-3 : tie.Need-same-length-3
@@ -60,7 +60,7 @@ same-length-4 c = search rules
 returns-2 : tie.Need-returns-2
 returns-2 c =
     let b = c.before.before.before.before.before.before.before.before.before.before in
-    detach-ringed (view b.args.core b.args.slots.now) b.args.heads.now b.args.frames.now b.args.k b.args.framed
+    detach_ringed (view b.args.core b.args.slots.now) b.args.heads.now b.args.frames.now b.args.k b.args.framed
     b.requires.1.1.0 _ c.before.before.before.before.find-predecessor.ensures c.before.enum_told.given.1 c.if1.false
 
 same-length-5 : tie.Need-same-length-5
@@ -72,7 +72,7 @@ same-length-6 c = search rules
 returns-3 : tie.Need-returns-3
 returns-3 c =
     let b = c.before.before.before.before.before.before.before.before.before.before.before.before.before.before in
-    detach-head (view b.args.core b.args.slots.now) b.args.heads.now b.args.frames.now b.args.k _
+    detach_head (view b.args.core b.args.slots.now) b.args.heads.now b.args.frames.now b.args.k _
     c.before.before.before.before.before.before.before.before.find-predecessor.ensures _ c.before.before.before.before.before.found.given.1 _ c.before.before.give-link.ensures
 
 same-length-7 : tie.Need-same-length-7
@@ -84,7 +84,7 @@ same-length-8 c = search rules
 returns-4 : tie.Need-returns-4
 returns-4 c =
     let b = c.before.before.before.before.before.before.before.before.before in
-    detach-none (view b.args.core b.args.slots.now) b.args.heads.now b.args.frames.now b.args.k _
+    detach_none (view b.args.core b.args.slots.now) b.args.heads.now b.args.frames.now b.args.k _
     c.before.before.before.find-predecessor.ensures c.enum-told2.given.1
 
 pub detach_spec : {M : Type 1} → statement M

@@ -1,5 +1,5 @@
 -- `schedule::links::end_overlay` meets its contract.
-use Rattle.schedule.specs.Links.{endedOverlay}
+use Rattle.schedule.specs.Links.{ended_overlay}
 use borrow.Author.Rules.{rules}
 use Rattle.schedule.proofs.links.end_overlay.Statement.{statement}
 use Rattle.schedule.proofs.links.end_overlay.Tie as tie
@@ -23,7 +23,7 @@ same_length : tie.Need-same-length
 same_length c = search rules
 
 returns : tie.Need-returns
-unfolding endedOverlay
+unfolding ended_overlay
 returns c = c.before.before.put-words.ensures
 
 pub end-overlay-spec : {M : Type 1} → statement M

@@ -1,6 +1,6 @@
 -- `schedule::links::find_predecessor` meets its contract.
 use Rattle.words.specs.View.{view}
-use Rattle.schedule.proofs.WordsCases.{first-given, search-viewed}
+use Rattle.schedule.proofs.WordsCases.{first_given, search_viewed}
 use borrow.Author.Rules.{rules}
 use Rattle.schedule.proofs.links.find_predecessor.Statement.{statement}
 use Rattle.schedule.proofs.links.find_predecessor.Tie as tie
@@ -17,7 +17,7 @@ first-word-requires c κs = search rules
 returns : tie.Need-returns
 returns c =
     let b = c.before.before.before.before.before.before.before in
-    first-given (view b.args.core b.args.slots.now) b.args.heads.now b.args.frames.now b.args.k b.args.framed
+    first_given (view b.args.core b.args.slots.now) b.args.heads.now b.args.frames.now b.args.k b.args.framed
     b.requires.1.1.0 _ _ c.before.first_word.ensures b.requires.1.1.1 c.if1.true
 
 search-requires : tie.Need-search-requires
@@ -28,7 +28,7 @@ search-requires c κs =
 returns-2 : tie.Need-returns-2
 returns-2 c =
     let b = c.before.before.before.before.before.before.before.before in
-    search-viewed b.args.core.settings b.args.core.rest b.args.slots.now b.args.heads.now b.args.frames.now
+    search_viewed b.args.core.settings b.args.core.rest b.args.slots.now b.args.heads.now b.args.frames.now
     b.args.k b.args.framed _ _ b.requires.1.1.0 c.before.before.first_word.ensures b.requires.1.1.1 c.before.if1.false _
     c.search.ensures
 

@@ -1,5 +1,5 @@
 -- `schedule::links::give_link` meets its contract.
-use Rattle.schedule.proofs.LinkCases.{no-such-word}
+use Rattle.schedule.proofs.LinkCases.{no_such_word}
 use borrow.Author.Rules.{rules}
 use Rattle.schedule.proofs.links.give_link.Statement.{statement}
 use Rattle.schedule.proofs.links.give_link.Tie as tie
@@ -23,7 +23,7 @@ returns : tie.Need-returns
 returns c = search rules
 
 returns-2 : tie.Need-returns-2
-returns-2 c = no-such-word c.before.args.heads.now c.before.args.j c.before.args.word c.if1.false
+returns-2 c = no_such_word c.before.args.heads.now c.before.args.j c.before.args.word c.if1.false
 
 pub give-link-spec : {M : Type 1} → statement M
 give-link-spec =

@@ -1,7 +1,7 @@
 -- `schedule::links::search` meets its contract.
 use Rattle.core.specs.Prelude.{◌-◌, ◌≤◌}
 use native.Mathlib.Omega.{arith}
-use Rattle.schedule.proofs.WordsCases.{Searched, good-most, search-ends, search-finds, search-goes-on, search-starts, word-inside}
+use Rattle.schedule.proofs.WordsCases.{Searched, good_most, search_ends, search_finds, search_goes_on, search_starts, word_inside}
 use borrow.Author.Rules.{rules}
 use Rattle.schedule.proofs.links.search.Statement.{statement}
 use Rattle.schedule.proofs.links.search.Tie as tie
@@ -13,7 +13,7 @@ abbrev decreases-loop : tie.decreases-loop
 decreases-loop slots heads k framed address endpoints j₀ j = endpoints - j
 
 loop-holds : tie.Need-loop-init invariant-loop decreases-loop
-loop-holds c = (omega arith, search-starts _ _ _ _ _ _)
+loop-holds c = (omega arith, search_starts _ _ _ _ _ _)
 
 cast-other : tie.Need-overflow-cast-other invariant-loop decreases-loop
 cast-other c = search rules
@@ -37,7 +37,7 @@ mul-mark-2 : tie.Need-overflow-mul-mark-2 invariant-loop decreases-loop
 mul-mark-2 c = search rules
 
 shared-slice-read-mark : tie.Need-shared-slice-read-mark invariant-loop decreases-loop
-shared-slice-read-mark c = search word-inside
+shared-slice-read-mark c = search word_inside
 
 precedes-requires : tie.Need-precedes-requires invariant-loop decreases-loop
 precedes-requires c κs = search rules
@@ -46,8 +46,8 @@ returns : tie.Need-returns invariant-loop decreases-loop
 returns c =
     let b = c.before.before.before.before.before.before.before.before in
     let l = c.before.before.before.before.before.loop in
-    search-finds b.args.slots.now b.args.heads.now b.args.k b.args.framed b.args.address
-    b.args.core.settings.endpoints l.j _ (omega arith) (good-most _ _ _ b.requires.0) c.before.precedes.ensures
+    search_finds b.args.slots.now b.args.heads.now b.args.k b.args.framed b.args.address
+    b.args.core.settings.endpoints l.j _ (omega arith) (good_most _ _ _ b.requires.0) c.before.precedes.ensures
     c.if1.true l.invariant.1 b.args.core.settings b.args.core.rest b.requires.1.1.0 b.requires.1.1.1
 
 add-j : tie.Need-overflow-add-j invariant-loop decreases-loop
@@ -61,8 +61,8 @@ loop-again c =
     let b = c.before.before.before.before.before.before.before.before in
     let l = c.before.before.before.before.before.loop in (
       omega arith,
-      search-goes-on b.args.slots.now b.args.heads.now b.args.k b.args.framed b.args.address
-          b.args.core.settings.endpoints l.j _ (omega arith) (good-most _ _ _ b.requires.0) c.before.precedes.ensures
+      search_goes_on b.args.slots.now b.args.heads.now b.args.k b.args.framed b.args.address
+          b.args.core.settings.endpoints l.j _ (omega arith) (good_most _ _ _ b.requires.0) c.before.precedes.ensures
           c.if1.false l.invariant.1,
     )
 
@@ -70,7 +70,7 @@ returns-2 : tie.Need-returns-2 invariant-loop decreases-loop
 returns-2 c =
     let b = c.before.before.before.before in
     let l = c.before.loop in
-    search-ends b.args.slots.now b.args.heads.now b.args.k b.args.framed b.args.address
+    search_ends b.args.slots.now b.args.heads.now b.args.k b.args.framed b.args.address
     b.args.core.settings.endpoints l.j (omega arith) l.invariant.1 b.args.core.settings b.args.core.rest
     b.requires.1.1.0 b.requires.1.1.1
 

@@ -1,5 +1,5 @@
 -- `schedule::links::start_overlay` meets its contract.
-use Rattle.schedule.specs.Links.{startedOverlay}
+use Rattle.schedule.specs.Links.{started_overlay}
 use native.Mathlib.Omega.{arith}
 use lib.ListN.{length-set}
 use mathlib.Core.Path.{refl}
@@ -44,7 +44,7 @@ same_length : tie.Need-same-length
 same_length c = search rules
 
 returns : tie.Need-returns
-unfolding startedOverlay
+unfolding started_overlay
 returns c = refl
 
 pub start-overlay-spec : {M : Type 1} → statement M

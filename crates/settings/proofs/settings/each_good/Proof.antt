@@ -1,5 +1,5 @@
 -- `settings::settings::each_good` meets its contract.
-use Rattle.settings.proofs.SettingsCases.{each-is}
+use Rattle.settings.proofs.SettingsCases.{each_is}
 use borrow.Author.Rules.{rules}
 use Rattle.settings.proofs.settings.each_good.Statement.{statement}
 use Rattle.settings.proofs.settings.each_good.Tie as tie
@@ -36,7 +36,7 @@ area-good-requires-4 : tie.Need-area-good-requires-4
 area-good-requires-4 c κs = search rules
 
 returns : tie.Need-returns
-returns c = each-is _ _ _ _ _ c.before.before.before.area-good.ensures c.before.before.area-good2.ensures c.before.area-good3.ensures c.area-good4.ensures
+returns c = each_is _ _ _ _ _ c.before.before.before.area-good.ensures c.before.before.area-good2.ensures c.before.area-good3.ensures c.area-good4.ensures
 
 pub each-good-spec : {M : Type 1} → statement M
 each-good-spec =

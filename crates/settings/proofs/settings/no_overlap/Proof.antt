@@ -1,5 +1,5 @@
 -- `settings::settings::no_overlap` meets its contract.
-use Rattle.settings.proofs.SettingsCases.{overlap-is}
+use Rattle.settings.proofs.SettingsCases.{overlap_is}
 use borrow.Author.Rules.{rules}
 use Rattle.settings.proofs.settings.no_overlap.Statement.{statement}
 use Rattle.settings.proofs.settings.no_overlap.Tie as tie
@@ -42,7 +42,7 @@ apart-requires-6 : tie.Need-apart-requires-6
 apart-requires-6 c κs = search rules
 
 returns : tie.Need-returns
-returns c = overlap-is _ _ _ _ _ _ _ c.before.before.before.before.before.apart.ensures c.before.before.before.before.apart2.ensures c.before.before.before.apart3.ensures c.before.before.apart4.ensures c.before.apart5.ensures c.apart6.ensures
+returns c = overlap_is _ _ _ _ _ _ _ c.before.before.before.before.before.apart.ensures c.before.before.before.before.apart2.ensures c.before.before.before.apart3.ensures c.before.before.apart4.ensures c.before.apart5.ensures c.apart6.ensures
 
 pub no-overlap-spec : {M : Type 1} → statement M
 no-overlap-spec =

@@ -40,7 +40,7 @@ use Rattle.pool.proofs.Element.{R, D, L, vals, tells}
 use Rattle.pool.proofs.Calls.{met, gives}
 use Rattle.pool.proofs.Uses.{passes}
 use Rattle.pool.proofs.Lends.{row_at}
-use Rattle.store.proofs.Owner.{Elems, τ, apart_in, value_out, LentPart, lends_part, comes-part}
+use Rattle.store.proofs.Owner.{Elems, τ, apart_in, value_out, LentPart, lends_part, comes_part}
 use Rattle.state_checks.proofs.Says.{says_none}
 use Rattle.words.specs.declared.core.Core.{Core}
 use Rattle.words.specs.contracts.core.Core as Co
@@ -93,11 +93,11 @@ module _ {M : Type 1} {𝓤 : Ura M} (𝓛 : Logic 𝓤) (mem : Memory → SProp
     abbrev lent-five : Fml
     lent-five = fsep ((MutSlice (named 0) (νr ∷ []) R).own_val (row_at br 0 γr rs') (slice_val (br, 0) kr ∷ [])) (fsep ((MutSlice (named 0) (νs ∷ []) u64).own_val (row_at bs 0 γs ss') (slice_val (bs, 0) ks ∷ [])) (fsep ((MutSlice (named 0) (νh ∷ []) u32).own_val (row_at bh 0 γh hs') (slice_val (bh, 0) kh ∷ [])) (fsep ((MutSlice (named 0) (νf ∷ []) u32).own_val (row_at bf 0 γf fs') (slice_val (bf, 0) kf ∷ [])) (fsep ((MutSlice (named 0) (νu ∷ []) u8).own_val (row_at bu 0 γu us') (slice_val (bu, 0) ku ∷ [])) (ftrue)))))
 
-    abbrev to-apply : (met 𝓛 apply.ended (apply.clauses 𝓛 mem run)).Ghost
-    to-apply = (((νr ∷ [], (νs ∷ [], (νh ∷ [], (νf ∷ [], (νu ∷ [], tt))))), (full_share, (full_share, (full_share, (full_share, (full_share, tt))))), tt, (core, (row_at br 0 γr rs', (row_at bs 0 γs ss', (row_at bh 0 γh hs', (row_at bf 0 γf fs', (row_at bu 0 γu us', (cl, tt))))))), (cov ∷ [], (slice_val (br, 0) kr ∷ [], (slice_val (bs, 0) ks ∷ [], (slice_val (bh, 0) kh ∷ [], (slice_val (bf, 0) kf ∷ [], (slice_val (bu, 0) ku ∷ [], (clv ∷ [], tt)))))))), tt)
+    abbrev to_apply : (met 𝓛 apply.ended (apply.clauses 𝓛 mem run)).Ghost
+    to_apply = (((νr ∷ [], (νs ∷ [], (νh ∷ [], (νf ∷ [], (νu ∷ [], tt))))), (full_share, (full_share, (full_share, (full_share, (full_share, tt))))), tt, (core, (row_at br 0 γr rs', (row_at bs 0 γs ss', (row_at bh 0 γh hs', (row_at bf 0 γf fs', (row_at bu 0 γu us', (cl, tt))))))), (cov ∷ [], (slice_val (br, 0) kr ∷ [], (slice_val (bs, 0) ks ∷ [], (slice_val (bh, 0) kh ∷ [], (slice_val (bf, 0) kf ∷ [], (slice_val (bu, 0) ku ∷ [], (clv ∷ [], tt)))))))), tt)
 
-    goes-apply : ent 𝓤 (⋆ 𝓛 (‵ lent-five ∷ tokens νr νs νh νf νu ∷ [])) ((met 𝓛 apply.ended (apply.clauses 𝓛 mem run)).pre to-apply)
-    goes-apply =
+    goes_apply : ent 𝓤 (⋆ 𝓛 (‵ lent-five ∷ tokens νr νs νh νf νu ∷ [])) ((met 𝓛 apply.ended (apply.clauses 𝓛 mem run)).pre to_apply)
+    goes_apply =
         qed 𝓛 (‵ lent-five ∷ tokens νr νs νh νf νu ∷ []) ∵ fsplit ! $ move ! (1 ∷ []) $ fsplit ! $ move ! (1 ∷ []) $ fsplit ! $ move ! (1 ∷ []) $ fsplit ! $ move ! (1 ∷ []) $ fsplit ! $ move ! (1 ∷ []) $
         -- [true; the rows, last first; the tokens]
         owned ! Cl.the_row (Is Cl.the_row) (EL.makes Cl.the_type Cl'.the_plain 𝓛) cl (clv ∷ []) is-cl $ fjoin ! $ move ! (1 ∷ 0 ∷ []) $ fjoin ! $ move ! (1 ∷ 0 ∷ []) $ fjoin ! $ move ! (1 ∷ 0 ∷ []) $ fjoin ! $ move ! (1 ∷ 0 ∷ []) $ fjoin ! $ move ! (1 ∷ 0 ∷ []) $ fjoin ! $
@@ -135,15 +135,15 @@ module _ {M : Type 1} {𝓤 : Ura M} (𝓛 : Logic 𝓤) (mem : Memory → SProp
         owned ! (Array u32 1025) (Is (Array u32 1025)) (Array-Makes 𝓛 u32 (uint_Makes 𝓛 w32) 1025) fs (vf ∷ []) isf $ move ! (44 ∷ 0 ∷ []) $ use2 𝓛 (‵ (Elems u32 1025 l₁₆ fs)) (apart_in u32 1025 l₁₆ 𝓛 fs tt vf) $ lft_new ! tt (λ νf. move ! (1 ∷ []) $ use1 𝓛 (later (some (λ (γ : GName). ‵ ((MutSlice (named 0) (νf ∷ []) u32).own_val (row_at l₁₆ 0 γ (take kf fs)) (slice_val (l₁₆, 0) kf ∷ [])) ⊛ ‵ (LentPart u32 1025 l₁₆ fs kf (νf ∷ []) kf γ)))) (lends_part u32 1025 l₁₆ fs kf (νf ∷ []) 𝓛 isf.1.0.1 bound.3 (lit< tt, lit< tt)) $ await ! tt $ pick ! (λ γf. split ! $
         owned ! (Array u8 257) (Is (Array u8 257)) (Array-Makes 𝓛 u8 (uint_Makes 𝓛 w8) 257) us (vu ∷ []) isu $ move ! (45 ∷ 0 ∷ []) $ use2 𝓛 (‵ (Elems u8 257 l₁₇ us)) (apart_in u8 257 l₁₇ 𝓛 us tt vu) $ lft_new ! tt (λ νu. move ! (1 ∷ []) $ use1 𝓛 (later (some (λ (γ : GName). ‵ ((MutSlice (named 0) (νu ∷ []) u8).own_val (row_at l₁₇ 0 γ (take ku us)) (slice_val (l₁₇, 0) ku ∷ [])) ⊛ ‵ (LentPart u8 257 l₁₇ us ku (νu ∷ []) ku γ)))) (lends_part u8 257 l₁₇ us ku (νu ∷ []) 𝓛 isu.1.0.1 bound.4 (lit< tt, lit< tt)) $ await ! tt $ pick ! (λ γu. split ! $
         nothing ! $ move ! (3 ∷ 0 ∷ []) $ join ! $ move ! (5 ∷ 0 ∷ []) $ join ! $ move ! (7 ∷ 0 ∷ []) $ join ! $ move ! (9 ∷ 0 ∷ []) $ join ! $ move ! (11 ∷ 0 ∷ []) $ join ! $ nothing ! $ move ! (2 ∷ 0 ∷ []) $ fjoin ! $ move ! (3 ∷ 0 ∷ []) $ fjoin ! $ move ! (4 ∷ 0 ∷ []) $ fjoin ! $ move ! (5 ∷ 0 ∷ []) $ fjoin ! $ move ! (6 ∷ 0 ∷ []) $ fjoin ! $ move ! (0 ∷ 1 ∷ []) $ join ! $
-        passes (fm_of 𝓤 H 𝓛.laws 𝓣) apply.ended (apply.clauses 𝓛 mem run) known-apply (to-apply l₁₃ l₁₄ l₁₅ l₁₆ l₁₇ νr νs νh νf νu γr γs γh γf γu (take kr rs) (take ks ss) (take kh hs) (take kf fs) (take ku us)) (λ r ws. Unit {0}) (λ r ws. fact_i 𝓤 (Unit {0}) _ tt) ! (‵ (lent-five l₁₃ l₁₄ l₁₅ l₁₆ l₁₇ νr νs νh νf νu γr γs γh γf γu (take kr rs) (take ks ss) (take kh hs) (take kf fs) (take ku us)) ⊛ tokens νr νs νh νf νu) (goes-apply l₁₃ l₁₄ l₁₅ l₁₆ l₁₇ νr νs νh νf νu γr γs γh γf γu (take kr rs) (take ks ss) (take kh hs) (take kf fs) (take ku us))
+        passes (fm_of 𝓤 H 𝓛.laws 𝓣) apply.ended (apply.clauses 𝓛 mem run) known-apply (to_apply l₁₃ l₁₄ l₁₅ l₁₆ l₁₇ νr νs νh νf νu γr γs γh γf γu (take kr rs) (take ks ss) (take kh hs) (take kf fs) (take ku us)) (λ r ws. Unit {0}) (λ r ws. fact_i 𝓤 (Unit {0}) _ tt) ! (‵ (lent-five l₁₃ l₁₄ l₁₅ l₁₆ l₁₇ νr νs νh νf νu γr γs γh γf γu (take kr rs) (take ks ss) (take kh hs) (take kf fs) (take ku us)) ⊛ tokens νr νs νh νf νu) (goes_apply l₁₃ l₁₄ l₁₅ l₁₆ l₁₇ νr νs νh νf νu γr γs γh γf γu (take kr rs) (take ks ss) (take kh hs) (take kf fs) (take ku us))
         (λ j. and_then ! (load ! (from ! (stop !)) (look ! 65 {τ = Co'.mir} {v = cov} refl)) (and_then ! (load ! (from ! (stop !)) (look ! 32 refl)) (and_then ! (load ! (from ! (stop !)) (look ! 28 refl)) (and_then ! (load ! (from ! (stop !)) (look ! 24 refl)) (and_then ! (load ! (from ! (stop !)) (look ! 20 refl)) (and_then ! (load ! (from ! (stop !)) (look ! 16 refl)) (and_then ! (load ! (from ! (stop !)) (look ! 43 {τ = Cl'.mir} {v = clv} refl)) (no_more !)))))))) (λ o ov ws e iso.
         fsplit ! $ drop ! $ fsplit ! $ fsplit ! $ move ! (1 ∷ []) $ feq_l ! (λ same-r. move ! (1 ∷ []) $ fsplit ! $ fsplit ! $ move ! (1 ∷ []) $ feq_l ! (λ same_s. move ! (1 ∷ []) $ fsplit ! $ fsplit ! $ move ! (1 ∷ []) $ feq_l ! (λ same-h. move ! (1 ∷ []) $ fsplit ! $ fsplit ! $ move ! (1 ∷ []) $ feq_l ! (λ same-f. move ! (1 ∷ []) $ fsplit ! $ fsplit ! $ move ! (1 ∷ []) $ feq_l ! (λ same-u. move ! (1 ∷ []) $ drop ! $
         land ! (from ! (stop !)) (init ! 41 {τ = Rp'.mir} {v = ov} refl ((LL.lawful Rp.the_type Rp'.the_laws 𝓛).typed o _ iso).0) $ move ! (5 ∷ []) $ use1 𝓛 (tokens νr νs νh νf νu) (id⊢ 𝓤 _) $ split ! $ move ! (1 ∷ []) $ split ! $ move ! (1 ∷ []) $ split ! $ move ! (1 ∷ []) $ split ! $ move ! (1 ∷ []) $ split ! $ move ! (1 ∷ []) $ drop ! $
-        move ! (4 ∷ []) $ lft_end ! tt $ move ! (0 ∷ 14 ∷ 9 ∷ []) $ use3 𝓛 (later (‵ (Elems R 258 l₁₃ (ws.1.0 ++ drop-list kr rs)))) (comes-part R 258 l₁₃ rs kr (νr ∷ []) 𝓛 isr.1.0.1 bound.0 γr ws.1.0) $ await ! tt $ use1 𝓛 (some (λ (v : Val). ‵ (fat full_share (τ R 258 l₁₃) l₁₃ 0 v) ⊛ ‵ ((Array R 258).own_val (ws.1.0 ++ drop-list kr rs) (v ∷ [])))) (value_out R 258 l₁₃ 𝓛 (ws.1.0 ++ drop-list kr rs)) $ pick ! (λ nr. split ! $ move ! (1 ∷ []) $ facts ! (Array R 258) (Is (Array R 258)) (shows 𝓛 (Array R 258)) (ws.1.0 ++ drop-list kr rs) (nr ∷ []) (λ nowr.
-        move ! (4 ∷ []) $ lft_end ! tt $ move ! (0 ∷ 12 ∷ 8 ∷ []) $ use3 𝓛 (later (‵ (Elems u64 193 l₁₄ (ws.1.1.0 ++ drop-list ks ss)))) (comes-part u64 193 l₁₄ ss ks (νs ∷ []) 𝓛 iss.1.0.1 bound.1 γs ws.1.1.0) $ await ! tt $ use1 𝓛 (some (λ (v : Val). ‵ (fat full_share (τ u64 193 l₁₄) l₁₄ 0 v) ⊛ ‵ ((Array u64 193).own_val (ws.1.1.0 ++ drop-list ks ss) (v ∷ [])))) (value_out u64 193 l₁₄ 𝓛 (ws.1.1.0 ++ drop-list ks ss)) $ pick ! (λ ns. split ! $ move ! (1 ∷ []) $ facts ! (Array u64 193) (Is (Array u64 193)) (shows 𝓛 (Array u64 193)) (ws.1.1.0 ++ drop-list ks ss) (ns ∷ []) (λ nows.
-        move ! (4 ∷ []) $ lft_end ! tt $ move ! (0 ∷ 10 ∷ 7 ∷ []) $ use3 𝓛 (later (‵ (Elems u32 562 l₁₅ (ws.1.1.1.0 ++ drop-list kh hs)))) (comes-part u32 562 l₁₅ hs kh (νh ∷ []) 𝓛 ish.1.0.1 bound.2 γh ws.1.1.1.0) $ await ! tt $ use1 𝓛 (some (λ (v : Val). ‵ (fat full_share (τ u32 562 l₁₅) l₁₅ 0 v) ⊛ ‵ ((Array u32 562).own_val (ws.1.1.1.0 ++ drop-list kh hs) (v ∷ [])))) (value_out u32 562 l₁₅ 𝓛 (ws.1.1.1.0 ++ drop-list kh hs)) $ pick ! (λ nh. split ! $ move ! (1 ∷ []) $ facts ! (Array u32 562) (Is (Array u32 562)) (shows 𝓛 (Array u32 562)) (ws.1.1.1.0 ++ drop-list kh hs) (nh ∷ []) (λ nowh.
-        move ! (4 ∷ []) $ lft_end ! tt $ move ! (0 ∷ 8 ∷ 6 ∷ []) $ use3 𝓛 (later (‵ (Elems u32 1025 l₁₆ (ws.1.1.1.1.0 ++ drop-list kf fs)))) (comes-part u32 1025 l₁₆ fs kf (νf ∷ []) 𝓛 isf.1.0.1 bound.3 γf ws.1.1.1.1.0) $ await ! tt $ use1 𝓛 (some (λ (v : Val). ‵ (fat full_share (τ u32 1025 l₁₆) l₁₆ 0 v) ⊛ ‵ ((Array u32 1025).own_val (ws.1.1.1.1.0 ++ drop-list kf fs) (v ∷ [])))) (value_out u32 1025 l₁₆ 𝓛 (ws.1.1.1.1.0 ++ drop-list kf fs)) $ pick ! (λ nf. split ! $ move ! (1 ∷ []) $ facts ! (Array u32 1025) (Is (Array u32 1025)) (shows 𝓛 (Array u32 1025)) (ws.1.1.1.1.0 ++ drop-list kf fs) (nf ∷ []) (λ nowf.
-        move ! (4 ∷ []) $ lft_end ! tt $ move ! (0 ∷ 6 ∷ 5 ∷ []) $ use3 𝓛 (later (‵ (Elems u8 257 l₁₇ (ws.1.1.1.1.1.0 ++ drop-list ku us)))) (comes-part u8 257 l₁₇ us ku (νu ∷ []) 𝓛 isu.1.0.1 bound.4 γu ws.1.1.1.1.1.0) $ await ! tt $ use1 𝓛 (some (λ (v : Val). ‵ (fat full_share (τ u8 257 l₁₇) l₁₇ 0 v) ⊛ ‵ ((Array u8 257).own_val (ws.1.1.1.1.1.0 ++ drop-list ku us) (v ∷ [])))) (value_out u8 257 l₁₇ 𝓛 (ws.1.1.1.1.1.0 ++ drop-list ku us)) $ pick ! (λ nu. split ! $ move ! (1 ∷ []) $ facts ! (Array u8 257) (Is (Array u8 257)) (shows 𝓛 (Array u8 257)) (ws.1.1.1.1.1.0 ++ drop-list ku us) (nu ∷ []) (λ nowu.
+        move ! (4 ∷ []) $ lft_end ! tt $ move ! (0 ∷ 14 ∷ 9 ∷ []) $ use3 𝓛 (later (‵ (Elems R 258 l₁₃ (ws.1.0 ++ drop-list kr rs)))) (comes_part R 258 l₁₃ rs kr (νr ∷ []) 𝓛 isr.1.0.1 bound.0 γr ws.1.0) $ await ! tt $ use1 𝓛 (some (λ (v : Val). ‵ (fat full_share (τ R 258 l₁₃) l₁₃ 0 v) ⊛ ‵ ((Array R 258).own_val (ws.1.0 ++ drop-list kr rs) (v ∷ [])))) (value_out R 258 l₁₃ 𝓛 (ws.1.0 ++ drop-list kr rs)) $ pick ! (λ nr. split ! $ move ! (1 ∷ []) $ facts ! (Array R 258) (Is (Array R 258)) (shows 𝓛 (Array R 258)) (ws.1.0 ++ drop-list kr rs) (nr ∷ []) (λ nowr.
+        move ! (4 ∷ []) $ lft_end ! tt $ move ! (0 ∷ 12 ∷ 8 ∷ []) $ use3 𝓛 (later (‵ (Elems u64 193 l₁₄ (ws.1.1.0 ++ drop-list ks ss)))) (comes_part u64 193 l₁₄ ss ks (νs ∷ []) 𝓛 iss.1.0.1 bound.1 γs ws.1.1.0) $ await ! tt $ use1 𝓛 (some (λ (v : Val). ‵ (fat full_share (τ u64 193 l₁₄) l₁₄ 0 v) ⊛ ‵ ((Array u64 193).own_val (ws.1.1.0 ++ drop-list ks ss) (v ∷ [])))) (value_out u64 193 l₁₄ 𝓛 (ws.1.1.0 ++ drop-list ks ss)) $ pick ! (λ ns. split ! $ move ! (1 ∷ []) $ facts ! (Array u64 193) (Is (Array u64 193)) (shows 𝓛 (Array u64 193)) (ws.1.1.0 ++ drop-list ks ss) (ns ∷ []) (λ nows.
+        move ! (4 ∷ []) $ lft_end ! tt $ move ! (0 ∷ 10 ∷ 7 ∷ []) $ use3 𝓛 (later (‵ (Elems u32 562 l₁₅ (ws.1.1.1.0 ++ drop-list kh hs)))) (comes_part u32 562 l₁₅ hs kh (νh ∷ []) 𝓛 ish.1.0.1 bound.2 γh ws.1.1.1.0) $ await ! tt $ use1 𝓛 (some (λ (v : Val). ‵ (fat full_share (τ u32 562 l₁₅) l₁₅ 0 v) ⊛ ‵ ((Array u32 562).own_val (ws.1.1.1.0 ++ drop-list kh hs) (v ∷ [])))) (value_out u32 562 l₁₅ 𝓛 (ws.1.1.1.0 ++ drop-list kh hs)) $ pick ! (λ nh. split ! $ move ! (1 ∷ []) $ facts ! (Array u32 562) (Is (Array u32 562)) (shows 𝓛 (Array u32 562)) (ws.1.1.1.0 ++ drop-list kh hs) (nh ∷ []) (λ nowh.
+        move ! (4 ∷ []) $ lft_end ! tt $ move ! (0 ∷ 8 ∷ 6 ∷ []) $ use3 𝓛 (later (‵ (Elems u32 1025 l₁₆ (ws.1.1.1.1.0 ++ drop-list kf fs)))) (comes_part u32 1025 l₁₆ fs kf (νf ∷ []) 𝓛 isf.1.0.1 bound.3 γf ws.1.1.1.1.0) $ await ! tt $ use1 𝓛 (some (λ (v : Val). ‵ (fat full_share (τ u32 1025 l₁₆) l₁₆ 0 v) ⊛ ‵ ((Array u32 1025).own_val (ws.1.1.1.1.0 ++ drop-list kf fs) (v ∷ [])))) (value_out u32 1025 l₁₆ 𝓛 (ws.1.1.1.1.0 ++ drop-list kf fs)) $ pick ! (λ nf. split ! $ move ! (1 ∷ []) $ facts ! (Array u32 1025) (Is (Array u32 1025)) (shows 𝓛 (Array u32 1025)) (ws.1.1.1.1.0 ++ drop-list kf fs) (nf ∷ []) (λ nowf.
+        move ! (4 ∷ []) $ lft_end ! tt $ move ! (0 ∷ 6 ∷ 5 ∷ []) $ use3 𝓛 (later (‵ (Elems u8 257 l₁₇ (ws.1.1.1.1.1.0 ++ drop-list ku us)))) (comes_part u8 257 l₁₇ us ku (νu ∷ []) 𝓛 isu.1.0.1 bound.4 γu ws.1.1.1.1.1.0) $ await ! tt $ use1 𝓛 (some (λ (v : Val). ‵ (fat full_share (τ u8 257 l₁₇) l₁₇ 0 v) ⊛ ‵ ((Array u8 257).own_val (ws.1.1.1.1.1.0 ++ drop-list ku us) (v ∷ [])))) (value_out u8 257 l₁₇ 𝓛 (ws.1.1.1.1.1.0 ++ drop-list ku us)) $ pick ! (λ nu. split ! $ move ! (1 ∷ []) $ facts ! (Array u8 257) (Is (Array u8 257)) (shows 𝓛 (Array u8 257)) (ws.1.1.1.1.1.0 ++ drop-list ku us) (nu ∷ []) (λ nowu.
         assigns ! (of_opd ! (load ! (from ! (stop !)) (look ! 4 refl))) (from ! (stop !)) (init ! 13 refl ((Array-Lawful 𝓛 R (LL.lawful D L 𝓛) 258).typed (ws.1.0 ++ drop-list kr rs) _ nowr).0) $
         assigns ! (of_opd ! (load ! (from ! (stop !)) (look ! 3 refl))) (from ! (stop !)) (init ! 11 refl ((Array-Lawful 𝓛 u64 (uint_Lawful 𝓛 w64) 193).typed (ws.1.1.0 ++ drop-list ks ss) _ nows).0) $
         assigns ! (of_opd ! (load ! (from ! (stop !)) (look ! 2 refl))) (from ! (stop !)) (init ! 9 refl ((Array-Lawful 𝓛 u32 (uint_Lawful 𝓛 w32) 562).typed (ws.1.1.1.0 ++ drop-list kh hs) _ nowh).0) $

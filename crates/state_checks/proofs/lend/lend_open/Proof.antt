@@ -39,7 +39,7 @@ use Rattle.pool.proofs.Element.{R, D, L, vals, tells}
 use Rattle.pool.proofs.Calls.{met, gives}
 use Rattle.pool.proofs.Uses.{passes}
 use Rattle.pool.proofs.Lends.{row_at}
-use Rattle.store.proofs.Owner.{Elems, τ, apart_in, value_out, LentPart, lends_part, comes-part}
+use Rattle.store.proofs.Owner.{Elems, τ, apart_in, value_out, LentPart, lends_part, comes_part}
 use Rattle.state_checks.proofs.Says.{says_none}
 use Rattle.settings.specs.declared.settings.Settings.{Settings}
 use Rattle.settings.specs.contracts.settings.Settings as S
@@ -135,11 +135,11 @@ module _ {M : Type 1} {𝓤 : Ura M} (𝓛 : Logic 𝓤) (mem : Memory → SProp
         (λ j. and_then ! (load ! (from ! (stop !)) (look ! 63 {τ = S'.mir} {v = stv} refl)) (and_then ! (load ! (from ! (stop !)) (look ! 32 refl)) (and_then ! (load ! (from ! (stop !)) (look ! 28 refl)) (and_then ! (load ! (from ! (stop !)) (look ! 24 refl)) (and_then ! (load ! (from ! (stop !)) (look ! 20 refl)) (and_then ! (load ! (from ! (stop !)) (look ! 16 refl)) (no_more !))))))) (λ o ov ws e iso.
         fsplit ! $ drop ! $ fsplit ! $ fsplit ! $ move ! (1 ∷ []) $ feq_l ! (λ same-r. move ! (1 ∷ []) $ fsplit ! $ fsplit ! $ move ! (1 ∷ []) $ feq_l ! (λ same_s. move ! (1 ∷ []) $ fsplit ! $ fsplit ! $ move ! (1 ∷ []) $ feq_l ! (λ same-h. move ! (1 ∷ []) $ fsplit ! $ fsplit ! $ move ! (1 ∷ []) $ feq_l ! (λ same-f. move ! (1 ∷ []) $ fsplit ! $ fsplit ! $ move ! (1 ∷ []) $ feq_l ! (λ same-u. move ! (1 ∷ []) $ drop ! $
         land ! (from ! (stop !)) (init ! 41 {τ = Rp'.mir} {v = ov} refl ((LL.lawful Rp.the_type Rp'.the_laws 𝓛).typed o _ iso).0) $ move ! (5 ∷ []) $ use1 𝓛 (tokens νr νs νh νf νu) (id⊢ 𝓤 _) $ split ! $ move ! (1 ∷ []) $ split ! $ move ! (1 ∷ []) $ split ! $ move ! (1 ∷ []) $ split ! $ move ! (1 ∷ []) $ split ! $ move ! (1 ∷ []) $ drop ! $
-        move ! (4 ∷ []) $ lft_end ! tt $ move ! (0 ∷ 14 ∷ 9 ∷ []) $ use3 𝓛 (later (‵ (Elems R 258 l₁₂ (ws.1.0 ++ drop-list kr rs)))) (comes-part R 258 l₁₂ rs kr (νr ∷ []) 𝓛 isr.1.0.1 bound.0 γr ws.1.0) $ await ! tt $ use1 𝓛 (some (λ (v : Val). ‵ (fat full_share (τ R 258 l₁₂) l₁₂ 0 v) ⊛ ‵ ((Array R 258).own_val (ws.1.0 ++ drop-list kr rs) (v ∷ [])))) (value_out R 258 l₁₂ 𝓛 (ws.1.0 ++ drop-list kr rs)) $ pick ! (λ nr. split ! $ move ! (1 ∷ []) $ facts ! (Array R 258) (Is (Array R 258)) (shows 𝓛 (Array R 258)) (ws.1.0 ++ drop-list kr rs) (nr ∷ []) (λ nowr.
-        move ! (4 ∷ []) $ lft_end ! tt $ move ! (0 ∷ 12 ∷ 8 ∷ []) $ use3 𝓛 (later (‵ (Elems u64 193 l₁₃ (ws.1.1.0 ++ drop-list ks ss)))) (comes-part u64 193 l₁₃ ss ks (νs ∷ []) 𝓛 iss.1.0.1 bound.1 γs ws.1.1.0) $ await ! tt $ use1 𝓛 (some (λ (v : Val). ‵ (fat full_share (τ u64 193 l₁₃) l₁₃ 0 v) ⊛ ‵ ((Array u64 193).own_val (ws.1.1.0 ++ drop-list ks ss) (v ∷ [])))) (value_out u64 193 l₁₃ 𝓛 (ws.1.1.0 ++ drop-list ks ss)) $ pick ! (λ ns. split ! $ move ! (1 ∷ []) $ facts ! (Array u64 193) (Is (Array u64 193)) (shows 𝓛 (Array u64 193)) (ws.1.1.0 ++ drop-list ks ss) (ns ∷ []) (λ nows.
-        move ! (4 ∷ []) $ lft_end ! tt $ move ! (0 ∷ 10 ∷ 7 ∷ []) $ use3 𝓛 (later (‵ (Elems u32 562 l₁₄ (ws.1.1.1.0 ++ drop-list kh hs)))) (comes-part u32 562 l₁₄ hs kh (νh ∷ []) 𝓛 ish.1.0.1 bound.2 γh ws.1.1.1.0) $ await ! tt $ use1 𝓛 (some (λ (v : Val). ‵ (fat full_share (τ u32 562 l₁₄) l₁₄ 0 v) ⊛ ‵ ((Array u32 562).own_val (ws.1.1.1.0 ++ drop-list kh hs) (v ∷ [])))) (value_out u32 562 l₁₄ 𝓛 (ws.1.1.1.0 ++ drop-list kh hs)) $ pick ! (λ nh. split ! $ move ! (1 ∷ []) $ facts ! (Array u32 562) (Is (Array u32 562)) (shows 𝓛 (Array u32 562)) (ws.1.1.1.0 ++ drop-list kh hs) (nh ∷ []) (λ nowh.
-        move ! (4 ∷ []) $ lft_end ! tt $ move ! (0 ∷ 8 ∷ 6 ∷ []) $ use3 𝓛 (later (‵ (Elems u32 1025 l₁₅ (ws.1.1.1.1.0 ++ drop-list kf fs)))) (comes-part u32 1025 l₁₅ fs kf (νf ∷ []) 𝓛 isf.1.0.1 bound.3 γf ws.1.1.1.1.0) $ await ! tt $ use1 𝓛 (some (λ (v : Val). ‵ (fat full_share (τ u32 1025 l₁₅) l₁₅ 0 v) ⊛ ‵ ((Array u32 1025).own_val (ws.1.1.1.1.0 ++ drop-list kf fs) (v ∷ [])))) (value_out u32 1025 l₁₅ 𝓛 (ws.1.1.1.1.0 ++ drop-list kf fs)) $ pick ! (λ nf. split ! $ move ! (1 ∷ []) $ facts ! (Array u32 1025) (Is (Array u32 1025)) (shows 𝓛 (Array u32 1025)) (ws.1.1.1.1.0 ++ drop-list kf fs) (nf ∷ []) (λ nowf.
-        move ! (4 ∷ []) $ lft_end ! tt $ move ! (0 ∷ 6 ∷ 5 ∷ []) $ use3 𝓛 (later (‵ (Elems u8 257 l₁₆ (ws.1.1.1.1.1.0 ++ drop-list ku us)))) (comes-part u8 257 l₁₆ us ku (νu ∷ []) 𝓛 isu.1.0.1 bound.4 γu ws.1.1.1.1.1.0) $ await ! tt $ use1 𝓛 (some (λ (v : Val). ‵ (fat full_share (τ u8 257 l₁₆) l₁₆ 0 v) ⊛ ‵ ((Array u8 257).own_val (ws.1.1.1.1.1.0 ++ drop-list ku us) (v ∷ [])))) (value_out u8 257 l₁₆ 𝓛 (ws.1.1.1.1.1.0 ++ drop-list ku us)) $ pick ! (λ nu. split ! $ move ! (1 ∷ []) $ facts ! (Array u8 257) (Is (Array u8 257)) (shows 𝓛 (Array u8 257)) (ws.1.1.1.1.1.0 ++ drop-list ku us) (nu ∷ []) (λ nowu.
+        move ! (4 ∷ []) $ lft_end ! tt $ move ! (0 ∷ 14 ∷ 9 ∷ []) $ use3 𝓛 (later (‵ (Elems R 258 l₁₂ (ws.1.0 ++ drop-list kr rs)))) (comes_part R 258 l₁₂ rs kr (νr ∷ []) 𝓛 isr.1.0.1 bound.0 γr ws.1.0) $ await ! tt $ use1 𝓛 (some (λ (v : Val). ‵ (fat full_share (τ R 258 l₁₂) l₁₂ 0 v) ⊛ ‵ ((Array R 258).own_val (ws.1.0 ++ drop-list kr rs) (v ∷ [])))) (value_out R 258 l₁₂ 𝓛 (ws.1.0 ++ drop-list kr rs)) $ pick ! (λ nr. split ! $ move ! (1 ∷ []) $ facts ! (Array R 258) (Is (Array R 258)) (shows 𝓛 (Array R 258)) (ws.1.0 ++ drop-list kr rs) (nr ∷ []) (λ nowr.
+        move ! (4 ∷ []) $ lft_end ! tt $ move ! (0 ∷ 12 ∷ 8 ∷ []) $ use3 𝓛 (later (‵ (Elems u64 193 l₁₃ (ws.1.1.0 ++ drop-list ks ss)))) (comes_part u64 193 l₁₃ ss ks (νs ∷ []) 𝓛 iss.1.0.1 bound.1 γs ws.1.1.0) $ await ! tt $ use1 𝓛 (some (λ (v : Val). ‵ (fat full_share (τ u64 193 l₁₃) l₁₃ 0 v) ⊛ ‵ ((Array u64 193).own_val (ws.1.1.0 ++ drop-list ks ss) (v ∷ [])))) (value_out u64 193 l₁₃ 𝓛 (ws.1.1.0 ++ drop-list ks ss)) $ pick ! (λ ns. split ! $ move ! (1 ∷ []) $ facts ! (Array u64 193) (Is (Array u64 193)) (shows 𝓛 (Array u64 193)) (ws.1.1.0 ++ drop-list ks ss) (ns ∷ []) (λ nows.
+        move ! (4 ∷ []) $ lft_end ! tt $ move ! (0 ∷ 10 ∷ 7 ∷ []) $ use3 𝓛 (later (‵ (Elems u32 562 l₁₄ (ws.1.1.1.0 ++ drop-list kh hs)))) (comes_part u32 562 l₁₄ hs kh (νh ∷ []) 𝓛 ish.1.0.1 bound.2 γh ws.1.1.1.0) $ await ! tt $ use1 𝓛 (some (λ (v : Val). ‵ (fat full_share (τ u32 562 l₁₄) l₁₄ 0 v) ⊛ ‵ ((Array u32 562).own_val (ws.1.1.1.0 ++ drop-list kh hs) (v ∷ [])))) (value_out u32 562 l₁₄ 𝓛 (ws.1.1.1.0 ++ drop-list kh hs)) $ pick ! (λ nh. split ! $ move ! (1 ∷ []) $ facts ! (Array u32 562) (Is (Array u32 562)) (shows 𝓛 (Array u32 562)) (ws.1.1.1.0 ++ drop-list kh hs) (nh ∷ []) (λ nowh.
+        move ! (4 ∷ []) $ lft_end ! tt $ move ! (0 ∷ 8 ∷ 6 ∷ []) $ use3 𝓛 (later (‵ (Elems u32 1025 l₁₅ (ws.1.1.1.1.0 ++ drop-list kf fs)))) (comes_part u32 1025 l₁₅ fs kf (νf ∷ []) 𝓛 isf.1.0.1 bound.3 γf ws.1.1.1.1.0) $ await ! tt $ use1 𝓛 (some (λ (v : Val). ‵ (fat full_share (τ u32 1025 l₁₅) l₁₅ 0 v) ⊛ ‵ ((Array u32 1025).own_val (ws.1.1.1.1.0 ++ drop-list kf fs) (v ∷ [])))) (value_out u32 1025 l₁₅ 𝓛 (ws.1.1.1.1.0 ++ drop-list kf fs)) $ pick ! (λ nf. split ! $ move ! (1 ∷ []) $ facts ! (Array u32 1025) (Is (Array u32 1025)) (shows 𝓛 (Array u32 1025)) (ws.1.1.1.1.0 ++ drop-list kf fs) (nf ∷ []) (λ nowf.
+        move ! (4 ∷ []) $ lft_end ! tt $ move ! (0 ∷ 6 ∷ 5 ∷ []) $ use3 𝓛 (later (‵ (Elems u8 257 l₁₆ (ws.1.1.1.1.1.0 ++ drop-list ku us)))) (comes_part u8 257 l₁₆ us ku (νu ∷ []) 𝓛 isu.1.0.1 bound.4 γu ws.1.1.1.1.1.0) $ await ! tt $ use1 𝓛 (some (λ (v : Val). ‵ (fat full_share (τ u8 257 l₁₆) l₁₆ 0 v) ⊛ ‵ ((Array u8 257).own_val (ws.1.1.1.1.1.0 ++ drop-list ku us) (v ∷ [])))) (value_out u8 257 l₁₆ 𝓛 (ws.1.1.1.1.1.0 ++ drop-list ku us)) $ pick ! (λ nu. split ! $ move ! (1 ∷ []) $ facts ! (Array u8 257) (Is (Array u8 257)) (shows 𝓛 (Array u8 257)) (ws.1.1.1.1.1.0 ++ drop-list ku us) (nu ∷ []) (λ nowu.
         assigns ! (of_opd ! (load ! (from ! (stop !)) (look ! 4 refl))) (from ! (stop !)) (init ! 13 refl ((Array-Lawful 𝓛 R (LL.lawful D L 𝓛) 258).typed (ws.1.0 ++ drop-list kr rs) _ nowr).0) $
         assigns ! (of_opd ! (load ! (from ! (stop !)) (look ! 3 refl))) (from ! (stop !)) (init ! 11 refl ((Array-Lawful 𝓛 u64 (uint_Lawful 𝓛 w64) 193).typed (ws.1.1.0 ++ drop-list ks ss) _ nows).0) $
         assigns ! (of_opd ! (load ! (from ! (stop !)) (look ! 2 refl))) (from ! (stop !)) (init ! 9 refl ((Array-Lawful 𝓛 u32 (uint_Lawful 𝓛 w32) 562).typed (ws.1.1.1.0 ++ drop-list kh hs) _ nowh).0) $

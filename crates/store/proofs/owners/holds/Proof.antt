@@ -1,6 +1,6 @@
 -- `store::owners::holds` meets its contract.
 use borrow.Author.Rules.{rules}
-use Rattle.words.specs.View.{holdsBit}
+use Rattle.words.specs.View.{holds_bit}
 use Rattle.store.proofs.owners.holds.Statement.{statement}
 use Rattle.store.proofs.owners.holds.Tie as tie
 
@@ -20,7 +20,7 @@ shr-result : tie.Need-overflow-shr-result
 shr-result c = search rules
 
 returns : tie.Need-returns
-unfolding holdsBit
+unfolding holds_bit
 returns c = rw c.word_in.ensures
 
 pub holds-spec : {M : Type 1} → statement M

@@ -3,19 +3,19 @@ use Rattle.core.specs.Prelude.{◌≡◌, ◌-◌, ◌≤◌}
 use mathlib.Core.Path.{refl}
 use native.Mathlib.Omega.{arith}
 use borrow.Author.Rules.{rules}
-use Rattle.words.specs.View.{ownerFrom}
-use Rattle.store.proofs.OwnersLaws.{owner-done, owner-turn}
+use Rattle.words.specs.View.{owner_from}
+use Rattle.store.proofs.OwnersLaws.{owner_done, owner_turn_lem}
 use Rattle.store.proofs.owners.owner_of.Statement.{statement}
 use Rattle.store.proofs.owners.owner_of.Tie as tie
 
 abbrev invariant-loop : tie.invariant-loop
-invariant-loop slots place owner₀ k₀ owner k = (k ≤ 32) × (owner ≡ ownerFrom k (32 - k) slots place)
+invariant-loop slots place owner₀ k₀ owner k = (k ≤ 32) × (owner ≡ owner_from k (32 - k) slots place)
 
 abbrev decreases-loop : tie.decreases-loop
 decreases-loop slots place owner₀ k₀ owner k = k
 
 loop-holds : tie.Need-loop-init invariant-loop decreases-loop
-unfolding ownerFrom
+unfolding owner_from
 loop-holds c = (omega arith, refl)
 
 sub-k : tie.Need-overflow-sub-k invariant-loop decreases-loop
@@ -31,10 +31,10 @@ loop-less : tie.Need-loop-smaller invariant-loop decreases-loop
 loop-less c = omega arith
 
 loop-again : tie.Need-loop-preserved invariant-loop decreases-loop
-loop-again c = (omega arith, search owner-turn)
+loop-again c = (omega arith, search owner_turn_lem)
 
 returns : tie.Need-returns invariant-loop decreases-loop
-returns c = search owner-done
+returns c = search owner_done
 
 pub owner-of-spec : {M : Type 1} → statement M
 owner-of-spec =

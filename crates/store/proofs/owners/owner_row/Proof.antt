@@ -4,7 +4,7 @@ use mathlib.Core.Path.{refl}
 use native.Mathlib.Omega.{arith}
 use lib.ListN.{length-replicate}
 use borrow.Author.Rules.{rules}
-use Rattle.store.proofs.OwnersLaws.{RowTo, row_done, row-turn}
+use Rattle.store.proofs.OwnersLaws.{RowTo, row_done, row_turn}
 use Rattle.store.proofs.owners.owner_row.Statement.{statement}
 use Rattle.store.proofs.owners.owner_row.Tie as tie
 
@@ -33,7 +33,7 @@ loop-less : tie.Need-loop-smaller invariant-loop decreases-loop
 loop-less c = omega arith
 
 loop-again : tie.Need-loop-preserved invariant-loop decreases-loop
-loop-again c = (omega arith, search row-turn)
+loop-again c = (omega arith, search row_turn)
 
 returns : tie.Need-returns invariant-loop decreases-loop
 returns c = search row_done

@@ -5,7 +5,7 @@ use Rattle.store.proofs.store.blank_core.Tie as tie
 use Rattle.store.proofs.store.blank_core.Reads as reads
 use Rattle.store.proofs.store.blank_core.Lts as lts
 use Rattle.opening.proofs.open.decide_open.Reads as decide-open-reads
-use Rattle.store.proofs.StoreCases.{refused-core}
+use Rattle.store.proofs.StoreCases.{refused_core}
 
 -- src/store.rt:140:9
 slice-aggregate-decide-open : tie.Need-slice-aggregate-decide-open
@@ -29,7 +29,7 @@ decide-open-requires c κs = search rules
 
 -- src/store.rt:119:1
 returns : tie.Need-returns
-returns c = search refused-core
+returns c = search refused_core
 
 pub blank-core-spec : {M : Type 1} → statement M
 blank-core-spec =

@@ -9,7 +9,7 @@ use Rattle.store.proofs.store.lend_call.Reads as lend-call-reads
 use Rattle.store.proofs.store.records_lent.Reads as records-lent-reads
 use Rattle.store.proofs.store.slots_lent.Reads as slots-lent-reads
 use Rattle.store.proofs.store.words_lent.Reads as words-lent-reads
-use Rattle.store.proofs.StoreCases.{called-tends, called-view}
+use Rattle.store.proofs.StoreCases.{called_tends, called_view_lem}
 
 records-lent-requires : tie.Need-records-lent-requires
 records-lent-requires c κs = search rules
@@ -27,7 +27,7 @@ lend-call-requires : tie.Need-lend-call-requires
 lend-call-requires c κs = search rules
 
 returns : tie.Need-returns
-returns c = (search called-view, search called-tends)
+returns c = (search called_view_lem, search called_tends)
 
 pub call-on-spec : {M : Type 1} → statement M
 call-on-spec = tie.close (tie.spec records-lent-requires slots-lent-requires words-lent-requires bytes-lent-requires lend-call-requires returns)

@@ -42,11 +42,11 @@ use Rattle.pool.proofs.Element.{R, D, L, vals, tells}
 use Rattle.pool.proofs.Calls.{met, gives}
 use Rattle.pool.proofs.Uses.{passes}
 use Rattle.pool.proofs.Lends.{row_at, two_facts, says_two}
-use Rattle.store.proofs.Owner.{Elems, τ, apart_in, value_out, lends, comes, LentPart, lends_part, comes-part, lit-big}
+use Rattle.store.proofs.Owner.{Elems, τ, apart_in, value_out, lends, comes, LentPart, lends_part, comes_part, lit_big}
 use Rattle.ehci.specs.Door.{applied}
-use Rattle.ehci.specs.WordsDoor.{WordsAfter, acceptsWords, applyWords, replyView}
-use Rattle.store.specs.Lends.{LentCall, calledAt, callLent, gatheredOf}
-use Rattle.store.proofs.LendLaws.{called-rows, called-words}
+use Rattle.ehci.specs.WordsDoor.{WordsAfter, accepts_words, apply_words, reply_view}
+use Rattle.store.specs.Lends.{LentCall, called_at, call_lent, gathered_of}
+use Rattle.store.proofs.LendLaws.{called_rows, called_words}
 use Rattle.words.specs.declared.core.Core.{Core}
 use Rattle.words.specs.contracts.core.Core as Co
 use Rattle.words.proofs.core.Core.TheLaws as Co'
@@ -85,7 +85,7 @@ module _ {M : Type 1} {𝓤 : Ura M} (𝓛 : Logic 𝓤) (mem : Memory → SProp
   abbrev Post : Val → SProp 𝓤
   Post = (walk_of 𝓛 f.ended stayed (f.clauses 𝓛 mem run)).post ((tt, tt, tt, (core, (rs, (ss, (hs, (fs, (us, (kr, (ks, (kh, (ku, (cl, tt))))))))))), at), tt)
 
-  exits : (r : Called) (v : Val) → Is Re.the_row r (v ∷ []) → calledAt ks r ≡ callLent core rs ss hs fs us kr ks kh ku cl → LentCall core rs ss hs fs us kr ks kh ku r.store → ent 𝓤 (sem 𝓛 ftrue) (Post v)
+  exits : (r : Called) (v : Val) → Is Re.the_row r (v ∷ []) → called_at ks r ≡ call_lent core rs ss hs fs us kr ks kh ku cl → LentCall core rs ss hs fs us kr ks kh ku r.store → ent 𝓤 (sem 𝓛 ftrue) (Post v)
   exits r v is e₁ e₂ =
       qed 𝓛 (‵ ftrue ∷ []) ∵ suffices ! _ (ends_at 𝓛 f.ended stayed (f.clauses 𝓛 mem run) ((tt, tt, tt, (core, (rs, (ss, (hs, (fs, (us, (kr, (ks, (kh, (ku, (cl, tt))))))))))), at), tt) v r (tt, (tt, (tt, (tt, (tt, (tt, (tt, (tt, (tt, (tt, (tt, tt))))))))))) (tt, (tt, (tt, (tt, (tt, (tt, (tt, (tt, (tt, (tt, (tt, tt)))))))))))) $ says_two ! e₁ e₂ $
       owned ! Cl.the_row (Is Cl.the_row) (EL.makes Cl.the_type Cl'.the_plain 𝓛) cl (clv ∷ []) is-cl $ fjoin ! $ owned ! usize (Is usize) (uint_Makes 𝓛 w64) ku _ (refl, fits-u) $ fjoin ! $ owned ! usize (Is usize) (uint_Makes 𝓛 w64) kh _ (refl, fits-h) $ fjoin ! $ owned ! usize (Is usize) (uint_Makes 𝓛 w64) ks _ (refl, fits-s) $ fjoin ! $ owned ! usize (Is usize) (uint_Makes 𝓛 w64) kr _ (refl, fits-r) $ fjoin ! $ owned ! (Array u8 256) (Is (Array u8 256)) (Array-Makes 𝓛 u8 (uint_Makes 𝓛 w8) 256) us (vu ∷ []) isu $ fjoin ! $ owned ! (Array u32 1024) (Is (Array u32 1024)) (Array-Makes 𝓛 u32 (uint_Makes 𝓛 w32) 1024) fs (vf ∷ []) isf $ fjoin ! $ owned ! (Array u32 561) (Is (Array u32 561)) (Array-Makes 𝓛 u32 (uint_Makes 𝓛 w32) 561) hs (vh ∷ []) ish $ fjoin ! $ owned ! (Array u64 192) (Is (Array u64 192)) (Array-Makes 𝓛 u64 (uint_Makes 𝓛 w64) 192) ss (vs ∷ []) iss $ fjoin ! $ owned ! (Array R 257) (Is (Array R 257)) (Array-Makes 𝓛 R (LL.makes D T'.the_plain 𝓛) 257) rs (vr ∷ []) isr $ fjoin ! $ owned ! Co.the_row (Is Co.the_row) (LL.makes Co.the_type Co'.the_plain 𝓛) core (cov ∷ []) is-core $ fjoin ! $ owned ! Re.the_row (Is Re.the_row) (LL.makes Re.the_type Re'.the_plain 𝓛) r (v ∷ []) is $ nothing ! $ move ! (0 ∷ 2 ∷ 1 ∷ []) $ done !
@@ -98,19 +98,19 @@ module _ {M : Type 1} {𝓤 : Ura M} (𝓛 : Logic 𝓤) (mem : Memory → SProp
     abbrev lent-five : Fml
     lent-five = fsep ((MutSlice (named 0) (νr ∷ []) R).own_val (row_at br 0 γr rs') (slice_val (br, 0) kr ∷ [])) (fsep ((MutSlice (named 0) (νs ∷ []) u64).own_val (row_at bs 0 γs ss') (slice_val (bs, 0) ks ∷ [])) (fsep ((MutSlice (named 0) (νh ∷ []) u32).own_val (row_at bh 0 γh hs') (slice_val (bh, 0) kh ∷ [])) (fsep ((MutSlice (named 0) (νf ∷ []) u32).own_val (row_at bf 0 γf fs') (slice_val (bf, 0) 1024 ∷ [])) (fsep ((MutSlice (named 0) (νu ∷ []) u8).own_val (row_at bu 0 γu us') (slice_val (bu, 0) ku ∷ [])) (ftrue)))))
 
-    abbrev to-apply : (met 𝓛 apply.ended (apply.clauses 𝓛 mem run)).Ghost
-    to-apply = (((νr ∷ [], (νs ∷ [], (νh ∷ [], (νf ∷ [], (νu ∷ [], tt))))), (full_share, (full_share, (full_share, (full_share, (full_share, tt))))), tt, (core, (row_at br 0 γr rs', (row_at bs 0 γs ss', (row_at bh 0 γh hs', (row_at bf 0 γf fs', (row_at bu 0 γu us', (cl, tt))))))), (cov ∷ [], (slice_val (br, 0) kr ∷ [], (slice_val (bs, 0) ks ∷ [], (slice_val (bh, 0) kh ∷ [], (slice_val (bf, 0) 1024 ∷ [], (slice_val (bu, 0) ku ∷ [], (clv ∷ [], tt)))))))), tt)
+    abbrev to_apply : (met 𝓛 apply.ended (apply.clauses 𝓛 mem run)).Ghost
+    to_apply = (((νr ∷ [], (νs ∷ [], (νh ∷ [], (νf ∷ [], (νu ∷ [], tt))))), (full_share, (full_share, (full_share, (full_share, (full_share, tt))))), tt, (core, (row_at br 0 γr rs', (row_at bs 0 γs ss', (row_at bh 0 γh hs', (row_at bf 0 γf fs', (row_at bu 0 γu us', (cl, tt))))))), (cov ∷ [], (slice_val (br, 0) kr ∷ [], (slice_val (bs, 0) ks ∷ [], (slice_val (bh, 0) kh ∷ [], (slice_val (bf, 0) 1024 ∷ [], (slice_val (bu, 0) ku ∷ [], (clv ∷ [], tt)))))))), tt)
 
-    goes-apply : ent 𝓤 (⋆ 𝓛 (‵ lent-five ∷ tokens νr νs νh νf νu ∷ [])) ((met 𝓛 apply.ended (apply.clauses 𝓛 mem run)).pre to-apply)
-    goes-apply =
+    goes_apply : ent 𝓤 (⋆ 𝓛 (‵ lent-five ∷ tokens νr νs νh νf νu ∷ [])) ((met 𝓛 apply.ended (apply.clauses 𝓛 mem run)).pre to_apply)
+    goes_apply =
         qed 𝓛 (‵ lent-five ∷ tokens νr νs νh νf νu ∷ []) ∵ fsplit ! $ move ! (1 ∷ []) $ fsplit ! $ move ! (1 ∷ []) $ fsplit ! $ move ! (1 ∷ []) $ fsplit ! $ move ! (1 ∷ []) $ fsplit ! $ move ! (1 ∷ []) $
         -- [true; the rows, last first; the tokens]
         owned ! Cl.the_row (Is Cl.the_row) (EL.makes Cl.the_type Cl'.the_plain 𝓛) cl (clv ∷ []) is-cl $ fjoin ! $ move ! (1 ∷ 0 ∷ []) $ fjoin ! $ move ! (1 ∷ 0 ∷ []) $ fjoin ! $ move ! (1 ∷ 0 ∷ []) $ fjoin ! $ move ! (1 ∷ 0 ∷ []) $ fjoin ! $ move ! (1 ∷ 0 ∷ []) $ fjoin ! $
         owned ! Co.the_row (Is Co.the_row) (LL.makes Co.the_type Co'.the_plain 𝓛) core (cov ∷ []) is-core $ fjoin ! $ move ! (1 ∷ 0 ∷ []) $ join ! $ frame ! $ done !
 
     -- what is learned of `apply`
-    abbrev told-apply : Reply → Lasts apply.ended (νr ∷ [], (νs ∷ [], (νh ∷ [], (νf ∷ [], (νu ∷ [], tt))))) to-apply.0.3 → Type 0
-    told-apply r ws = (applied (replyView core.settings r ws.1.1.0) ws.1.0 ws.1.1.1.0 ws.1.1.1.1.0 ws.1.1.1.1.1.0 ≡ applyWords core ss' rs' hs' fs' us' cl) × (WordsAfter (acceptsWords core ss' (length rs') (length hs') (length fs') (length us')) core ss' r.rest ws.1.1.0)
+    abbrev told_apply : Reply → Lasts apply.ended (νr ∷ [], (νs ∷ [], (νh ∷ [], (νf ∷ [], (νu ∷ [], tt))))) to_apply.0.3 → Type 0
+    told_apply r ws = (applied (reply_view core.settings r ws.1.1.0) ws.1.0 ws.1.1.1.0 ws.1.1.1.1.0 ws.1.1.1.1.1.0 ≡ apply_words core ss' rs' hs' fs' us' cl) × (WordsAfter (accepts_words core ss' (length rs') (length hs') (length fs') (length us')) core ss' r.rest ws.1.1.0)
 
   -- the rows that came back, as values
   module _ (o : Reply) (ov : Val) (rs' : List Record) (ss' : List ℕ) (hs' : List ℕ) (fs' : List ℕ) (us' : List ℕ) (nr ns nh nf nu : Val) where
@@ -136,7 +136,7 @@ module _ {M : Type 1} {𝓤 : Ura M} (𝓛 : Logic 𝓤) (mem : Memory → SProp
         assigns ! (addr ! (from ! (stop !))) (from ! (stop !)) (init ! 28 refl (tt, tt)) $ assigns ! (agg ! (and_then ! (load ! (from ! (stop !)) (look ! 28 refl)) (and_then ! (load ! (from ! (stop !)) (look ! 50 refl)) (no_more !)))) (from ! (stop !)) (init ! 26 refl (tt, (tt, (record { fits = fits-r }, tt)))) $
         assigns ! (addr ! (from ! (stop !))) (from ! (stop !)) (init ! 24 refl (tt, tt)) $ assigns ! (agg ! (and_then ! (load ! (from ! (stop !)) (look ! 24 refl)) (and_then ! (load ! (from ! (stop !)) (look ! 48 refl)) (no_more !)))) (from ! (stop !)) (init ! 22 refl (tt, (tt, (record { fits = fits-s }, tt)))) $
         assigns ! (addr ! (from ! (stop !))) (from ! (stop !)) (init ! 20 refl (tt, tt)) $ assigns ! (agg ! (and_then ! (load ! (from ! (stop !)) (look ! 20 refl)) (and_then ! (load ! (from ! (stop !)) (look ! 46 refl)) (no_more !)))) (from ! (stop !)) (init ! 18 refl (tt, (tt, (record { fits = fits-h }, tt)))) $
-        assigns ! (addr ! (from ! (stop !))) (from ! (stop !)) (init ! 16 refl (tt, tt)) $ assigns ! (agg ! (and_then ! (load ! (from ! (stop !)) (look ! 16 refl)) (and_then ! (lit-big ! (record { fits = lit< tt })) (no_more !)))) (from ! (stop !)) (init ! 14 refl (tt, (tt, (record { fits = lit< tt }, tt)))) $
+        assigns ! (addr ! (from ! (stop !))) (from ! (stop !)) (init ! 16 refl (tt, tt)) $ assigns ! (agg ! (and_then ! (load ! (from ! (stop !)) (look ! 16 refl)) (and_then ! (lit_big ! (record { fits = lit< tt })) (no_more !)))) (from ! (stop !)) (init ! 14 refl (tt, (tt, (record { fits = lit< tt }, tt)))) $
         assigns ! (addr ! (from ! (stop !))) (from ! (stop !)) (init ! 12 refl (tt, tt)) $ assigns ! (agg ! (and_then ! (load ! (from ! (stop !)) (look ! 12 refl)) (and_then ! (load ! (from ! (stop !)) (look ! 44 refl)) (no_more !)))) (from ! (stop !)) (init ! 10 refl (tt, (tt, (record { fits = fits-u }, tt)))) $
         owned ! (Array R 257) (Is (Array R 257)) (Array-Makes 𝓛 R (LL.makes D T'.the_plain 𝓛) 257) rs (vr ∷ []) isr $ move ! (41 ∷ 0 ∷ []) $ use2 𝓛 (‵ (Elems R 257 l₁₂ rs)) (apart_in R 257 l₁₂ 𝓛 rs tt vr) $ lft_new ! tt (λ νr. move ! (1 ∷ []) $ use1 𝓛 (later (some (λ (γ : GName). ‵ ((MutSlice (named 0) (νr ∷ []) R).own_val (row_at l₁₂ 0 γ (take kr rs)) (slice_val (l₁₂, 0) kr ∷ [])) ⊛ ‵ (LentPart R 257 l₁₂ rs kr (νr ∷ []) kr γ)))) (lends_part R 257 l₁₂ rs kr (νr ∷ []) 𝓛 isr.1.0.1 bound.0 (lit< tt, lit< tt)) $ await ! tt $ pick ! (λ γr. split ! $
         owned ! (Array u64 192) (Is (Array u64 192)) (Array-Makes 𝓛 u64 (uint_Makes 𝓛 w64) 192) ss (vs ∷ []) iss $ move ! (42 ∷ 0 ∷ []) $ use2 𝓛 (‵ (Elems u64 192 l₁₃ ss)) (apart_in u64 192 l₁₃ 𝓛 ss tt vs) $ lft_new ! tt (λ νs. move ! (1 ∷ []) $ use1 𝓛 (later (some (λ (γ : GName). ‵ ((MutSlice (named 0) (νs ∷ []) u64).own_val (row_at l₁₃ 0 γ (take ks ss)) (slice_val (l₁₃, 0) ks ∷ [])) ⊛ ‵ (LentPart u64 192 l₁₃ ss ks (νs ∷ []) ks γ)))) (lends_part u64 192 l₁₃ ss ks (νs ∷ []) 𝓛 iss.1.0.1 bound.1 (lit< tt, lit< tt)) $ await ! tt $ pick ! (λ γs. split ! $
@@ -144,25 +144,25 @@ module _ {M : Type 1} {𝓤 : Ura M} (𝓛 : Logic 𝓤) (mem : Memory → SProp
         owned ! (Array u32 1024) (Is (Array u32 1024)) (Array-Makes 𝓛 u32 (uint_Makes 𝓛 w32) 1024) fs (vf ∷ []) isf $ move ! (44 ∷ 0 ∷ []) $ use2 𝓛 (‵ (Elems u32 1024 l₁₅ fs)) (apart_in u32 1024 l₁₅ 𝓛 fs tt vf) $ lft_new ! tt (λ νf. move ! (1 ∷ []) $ use1 𝓛 (later (some (λ (γ : GName). ‵ ((MutSlice (named 0) (νf ∷ []) u32).own_val (row_at l₁₅ 0 γ fs) (slice_val (l₁₅, 0) 1024 ∷ [])) ⊛ ‵ (flent (νf ∷ []) (Held u32 1024 l₁₅ 0 γ))))) (lends u32 l₁₅ 𝓛 fs (νf ∷ []) 1024 isf.1.0.1 (lit< tt, lit< tt)) $ await ! tt $ pick ! (λ γf. split ! $
         owned ! (Array u8 256) (Is (Array u8 256)) (Array-Makes 𝓛 u8 (uint_Makes 𝓛 w8) 256) us (vu ∷ []) isu $ move ! (45 ∷ 0 ∷ []) $ use2 𝓛 (‵ (Elems u8 256 l₁₆ us)) (apart_in u8 256 l₁₆ 𝓛 us tt vu) $ lft_new ! tt (λ νu. move ! (1 ∷ []) $ use1 𝓛 (later (some (λ (γ : GName). ‵ ((MutSlice (named 0) (νu ∷ []) u8).own_val (row_at l₁₆ 0 γ (take ku us)) (slice_val (l₁₆, 0) ku ∷ [])) ⊛ ‵ (LentPart u8 256 l₁₆ us ku (νu ∷ []) ku γ)))) (lends_part u8 256 l₁₆ us ku (νu ∷ []) 𝓛 isu.1.0.1 bound.3 (lit< tt, lit< tt)) $ await ! tt $ pick ! (λ γu. split ! $
         nothing ! $ move ! (3 ∷ 0 ∷ []) $ join ! $ move ! (5 ∷ 0 ∷ []) $ join ! $ move ! (7 ∷ 0 ∷ []) $ join ! $ move ! (9 ∷ 0 ∷ []) $ join ! $ move ! (11 ∷ 0 ∷ []) $ join ! $ nothing ! $ move ! (2 ∷ 0 ∷ []) $ fjoin ! $ move ! (3 ∷ 0 ∷ []) $ fjoin ! $ move ! (4 ∷ 0 ∷ []) $ fjoin ! $ move ! (5 ∷ 0 ∷ []) $ fjoin ! $ move ! (6 ∷ 0 ∷ []) $ fjoin ! $ move ! (0 ∷ 1 ∷ []) $ join ! $
-        passes (fm_of 𝓤 H 𝓛.laws 𝓣) apply.ended (apply.clauses 𝓛 mem run) known-apply (to-apply l₁₂ l₁₃ l₁₄ l₁₅ l₁₆ νr νs νh νf νu γr γs γh γf γu (take kr rs) (take ks ss) (take kh hs) fs (take ku us)) (told-apply l₁₂ l₁₃ l₁₄ l₁₅ l₁₆ νr νs νh νf νu γr γs γh γf γu (take kr rs) (take ks ss) (take kh hs) fs (take ku us)) (λ r ws. two_facts 𝓤 (applied (replyView core.settings r ws.1.1.0) ws.1.0 ws.1.1.1.0 ws.1.1.1.1.0 ws.1.1.1.1.1.0 ≡ applyWords core (take ks ss) (take kr rs) (take kh hs) fs (take ku us) cl) (WordsAfter (acceptsWords core (take ks ss) (length (take kr rs)) (length (take kh hs)) (length fs) (length (take ku us))) core (take ks ss) r.rest ws.1.1.0)) ! (‵ (lent-five l₁₂ l₁₃ l₁₄ l₁₅ l₁₆ νr νs νh νf νu γr γs γh γf γu (take kr rs) (take ks ss) (take kh hs) fs (take ku us)) ⊛ tokens νr νs νh νf νu) (goes-apply l₁₂ l₁₃ l₁₄ l₁₅ l₁₆ νr νs νh νf νu γr γs γh γf γu (take kr rs) (take ks ss) (take kh hs) fs (take ku us))
+        passes (fm_of 𝓤 H 𝓛.laws 𝓣) apply.ended (apply.clauses 𝓛 mem run) known-apply (to_apply l₁₂ l₁₃ l₁₄ l₁₅ l₁₆ νr νs νh νf νu γr γs γh γf γu (take kr rs) (take ks ss) (take kh hs) fs (take ku us)) (told_apply l₁₂ l₁₃ l₁₄ l₁₅ l₁₆ νr νs νh νf νu γr γs γh γf γu (take kr rs) (take ks ss) (take kh hs) fs (take ku us)) (λ r ws. two_facts 𝓤 (applied (reply_view core.settings r ws.1.1.0) ws.1.0 ws.1.1.1.0 ws.1.1.1.1.0 ws.1.1.1.1.1.0 ≡ apply_words core (take ks ss) (take kr rs) (take kh hs) fs (take ku us) cl) (WordsAfter (accepts_words core (take ks ss) (length (take kr rs)) (length (take kh hs)) (length fs) (length (take ku us))) core (take ks ss) r.rest ws.1.1.0)) ! (‵ (lent-five l₁₂ l₁₃ l₁₄ l₁₅ l₁₆ νr νs νh νf νu γr γs γh γf γu (take kr rs) (take ks ss) (take kh hs) fs (take ku us)) ⊛ tokens νr νs νh νf νu) (goes_apply l₁₂ l₁₃ l₁₄ l₁₅ l₁₆ νr νs νh νf νu γr γs γh γf γu (take kr rs) (take ks ss) (take kh hs) fs (take ku us))
         (λ j. and_then ! (load ! (from ! (stop !)) (look ! 63 {τ = Co'.mir} {v = cov} refl)) (and_then ! (load ! (from ! (stop !)) (look ! 32 refl)) (and_then ! (load ! (from ! (stop !)) (look ! 28 refl)) (and_then ! (load ! (from ! (stop !)) (look ! 24 refl)) (and_then ! (load ! (from ! (stop !)) (look ! 20 refl)) (and_then ! (load ! (from ! (stop !)) (look ! 16 refl)) (and_then ! (load ! (from ! (stop !)) (look ! 43 {τ = Cl'.mir} {v = clv} refl)) (no_more !)))))))) (λ o ov ws e iso.
         fsplit ! $ drop ! $ fsplit ! $ fsplit ! $ move ! (1 ∷ []) $ feq_l ! (λ same-r. move ! (1 ∷ []) $ fsplit ! $ fsplit ! $ move ! (1 ∷ []) $ feq_l ! (λ same_s. move ! (1 ∷ []) $ fsplit ! $ fsplit ! $ move ! (1 ∷ []) $ feq_l ! (λ same-h. move ! (1 ∷ []) $ fsplit ! $ fsplit ! $ move ! (1 ∷ []) $ feq_l ! (λ same-f. move ! (1 ∷ []) $ fsplit ! $ fsplit ! $ move ! (1 ∷ []) $ feq_l ! (λ same-u. move ! (1 ∷ []) $ drop ! $
         land ! (from ! (stop !)) (init ! 41 {τ = Rp'.mir} {v = ov} refl ((LL.lawful Rp.the_type Rp'.the_laws 𝓛).typed o _ iso).0) $ move ! (5 ∷ []) $ use1 𝓛 (tokens νr νs νh νf νu) (id⊢ 𝓤 _) $ split ! $ move ! (1 ∷ []) $ split ! $ move ! (1 ∷ []) $ split ! $ move ! (1 ∷ []) $ split ! $ move ! (1 ∷ []) $ split ! $ move ! (1 ∷ []) $ drop ! $
-        move ! (4 ∷ []) $ lft_end ! tt $ move ! (0 ∷ 14 ∷ 9 ∷ []) $ use3 𝓛 (later (‵ (Elems R 257 l₁₂ (ws.1.0 ++ drop-list kr rs)))) (comes-part R 257 l₁₂ rs kr (νr ∷ []) 𝓛 isr.1.0.1 bound.0 γr ws.1.0) $ await ! tt $ use1 𝓛 (some (λ (v : Val). ‵ (fat full_share (τ R 257 l₁₂) l₁₂ 0 v) ⊛ ‵ ((Array R 257).own_val (ws.1.0 ++ drop-list kr rs) (v ∷ [])))) (value_out R 257 l₁₂ 𝓛 (ws.1.0 ++ drop-list kr rs)) $ pick ! (λ nr. split ! $ move ! (1 ∷ []) $ facts ! (Array R 257) (Is (Array R 257)) (shows 𝓛 (Array R 257)) (ws.1.0 ++ drop-list kr rs) (nr ∷ []) (λ nowr.
-        move ! (4 ∷ []) $ lft_end ! tt $ move ! (0 ∷ 12 ∷ 8 ∷ []) $ use3 𝓛 (later (‵ (Elems u64 192 l₁₃ (ws.1.1.0 ++ drop-list ks ss)))) (comes-part u64 192 l₁₃ ss ks (νs ∷ []) 𝓛 iss.1.0.1 bound.1 γs ws.1.1.0) $ await ! tt $ use1 𝓛 (some (λ (v : Val). ‵ (fat full_share (τ u64 192 l₁₃) l₁₃ 0 v) ⊛ ‵ ((Array u64 192).own_val (ws.1.1.0 ++ drop-list ks ss) (v ∷ [])))) (value_out u64 192 l₁₃ 𝓛 (ws.1.1.0 ++ drop-list ks ss)) $ pick ! (λ ns. split ! $ move ! (1 ∷ []) $ facts ! (Array u64 192) (Is (Array u64 192)) (shows 𝓛 (Array u64 192)) (ws.1.1.0 ++ drop-list ks ss) (ns ∷ []) (λ nows.
-        move ! (4 ∷ []) $ lft_end ! tt $ move ! (0 ∷ 10 ∷ 7 ∷ []) $ use3 𝓛 (later (‵ (Elems u32 561 l₁₄ (ws.1.1.1.0 ++ drop-list kh hs)))) (comes-part u32 561 l₁₄ hs kh (νh ∷ []) 𝓛 ish.1.0.1 bound.2 γh ws.1.1.1.0) $ await ! tt $ use1 𝓛 (some (λ (v : Val). ‵ (fat full_share (τ u32 561 l₁₄) l₁₄ 0 v) ⊛ ‵ ((Array u32 561).own_val (ws.1.1.1.0 ++ drop-list kh hs) (v ∷ [])))) (value_out u32 561 l₁₄ 𝓛 (ws.1.1.1.0 ++ drop-list kh hs)) $ pick ! (λ nh. split ! $ move ! (1 ∷ []) $ facts ! (Array u32 561) (Is (Array u32 561)) (shows 𝓛 (Array u32 561)) (ws.1.1.1.0 ++ drop-list kh hs) (nh ∷ []) (λ nowh.
+        move ! (4 ∷ []) $ lft_end ! tt $ move ! (0 ∷ 14 ∷ 9 ∷ []) $ use3 𝓛 (later (‵ (Elems R 257 l₁₂ (ws.1.0 ++ drop-list kr rs)))) (comes_part R 257 l₁₂ rs kr (νr ∷ []) 𝓛 isr.1.0.1 bound.0 γr ws.1.0) $ await ! tt $ use1 𝓛 (some (λ (v : Val). ‵ (fat full_share (τ R 257 l₁₂) l₁₂ 0 v) ⊛ ‵ ((Array R 257).own_val (ws.1.0 ++ drop-list kr rs) (v ∷ [])))) (value_out R 257 l₁₂ 𝓛 (ws.1.0 ++ drop-list kr rs)) $ pick ! (λ nr. split ! $ move ! (1 ∷ []) $ facts ! (Array R 257) (Is (Array R 257)) (shows 𝓛 (Array R 257)) (ws.1.0 ++ drop-list kr rs) (nr ∷ []) (λ nowr.
+        move ! (4 ∷ []) $ lft_end ! tt $ move ! (0 ∷ 12 ∷ 8 ∷ []) $ use3 𝓛 (later (‵ (Elems u64 192 l₁₃ (ws.1.1.0 ++ drop-list ks ss)))) (comes_part u64 192 l₁₃ ss ks (νs ∷ []) 𝓛 iss.1.0.1 bound.1 γs ws.1.1.0) $ await ! tt $ use1 𝓛 (some (λ (v : Val). ‵ (fat full_share (τ u64 192 l₁₃) l₁₃ 0 v) ⊛ ‵ ((Array u64 192).own_val (ws.1.1.0 ++ drop-list ks ss) (v ∷ [])))) (value_out u64 192 l₁₃ 𝓛 (ws.1.1.0 ++ drop-list ks ss)) $ pick ! (λ ns. split ! $ move ! (1 ∷ []) $ facts ! (Array u64 192) (Is (Array u64 192)) (shows 𝓛 (Array u64 192)) (ws.1.1.0 ++ drop-list ks ss) (ns ∷ []) (λ nows.
+        move ! (4 ∷ []) $ lft_end ! tt $ move ! (0 ∷ 10 ∷ 7 ∷ []) $ use3 𝓛 (later (‵ (Elems u32 561 l₁₄ (ws.1.1.1.0 ++ drop-list kh hs)))) (comes_part u32 561 l₁₄ hs kh (νh ∷ []) 𝓛 ish.1.0.1 bound.2 γh ws.1.1.1.0) $ await ! tt $ use1 𝓛 (some (λ (v : Val). ‵ (fat full_share (τ u32 561 l₁₄) l₁₄ 0 v) ⊛ ‵ ((Array u32 561).own_val (ws.1.1.1.0 ++ drop-list kh hs) (v ∷ [])))) (value_out u32 561 l₁₄ 𝓛 (ws.1.1.1.0 ++ drop-list kh hs)) $ pick ! (λ nh. split ! $ move ! (1 ∷ []) $ facts ! (Array u32 561) (Is (Array u32 561)) (shows 𝓛 (Array u32 561)) (ws.1.1.1.0 ++ drop-list kh hs) (nh ∷ []) (λ nowh.
         move ! (4 ∷ []) $ lft_end ! tt $ move ! (0 ∷ 8 ∷ 6 ∷ []) $ use3 𝓛 (later (‵ (Elems u32 1024 l₁₅ ws.1.1.1.1.0))) (comes u32 1024 l₁₅ 𝓛 ws.1.1.1.1.0 (νf ∷ []) γf) $ await ! tt $ use1 𝓛 (some (λ (v : Val). ‵ (fat full_share (τ u32 1024 l₁₅) l₁₅ 0 v) ⊛ ‵ ((Array u32 1024).own_val ws.1.1.1.1.0 (v ∷ [])))) (value_out u32 1024 l₁₅ 𝓛 ws.1.1.1.1.0) $ pick ! (λ nf. split ! $ move ! (1 ∷ []) $ facts ! (Array u32 1024) (Is (Array u32 1024)) (shows 𝓛 (Array u32 1024)) ws.1.1.1.1.0 (nf ∷ []) (λ nowf.
-        move ! (4 ∷ []) $ lft_end ! tt $ move ! (0 ∷ 6 ∷ 5 ∷ []) $ use3 𝓛 (later (‵ (Elems u8 256 l₁₆ (ws.1.1.1.1.1.0 ++ drop-list ku us)))) (comes-part u8 256 l₁₆ us ku (νu ∷ []) 𝓛 isu.1.0.1 bound.3 γu ws.1.1.1.1.1.0) $ await ! tt $ use1 𝓛 (some (λ (v : Val). ‵ (fat full_share (τ u8 256 l₁₆) l₁₆ 0 v) ⊛ ‵ ((Array u8 256).own_val (ws.1.1.1.1.1.0 ++ drop-list ku us) (v ∷ [])))) (value_out u8 256 l₁₆ 𝓛 (ws.1.1.1.1.1.0 ++ drop-list ku us)) $ pick ! (λ nu. split ! $ move ! (1 ∷ []) $ facts ! (Array u8 256) (Is (Array u8 256)) (shows 𝓛 (Array u8 256)) (ws.1.1.1.1.1.0 ++ drop-list ku us) (nu ∷ []) (λ nowu.
+        move ! (4 ∷ []) $ lft_end ! tt $ move ! (0 ∷ 6 ∷ 5 ∷ []) $ use3 𝓛 (later (‵ (Elems u8 256 l₁₆ (ws.1.1.1.1.1.0 ++ drop-list ku us)))) (comes_part u8 256 l₁₆ us ku (νu ∷ []) 𝓛 isu.1.0.1 bound.3 γu ws.1.1.1.1.1.0) $ await ! tt $ use1 𝓛 (some (λ (v : Val). ‵ (fat full_share (τ u8 256 l₁₆) l₁₆ 0 v) ⊛ ‵ ((Array u8 256).own_val (ws.1.1.1.1.1.0 ++ drop-list ku us) (v ∷ [])))) (value_out u8 256 l₁₆ 𝓛 (ws.1.1.1.1.1.0 ++ drop-list ku us)) $ pick ! (λ nu. split ! $ move ! (1 ∷ []) $ facts ! (Array u8 256) (Is (Array u8 256)) (shows 𝓛 (Array u8 256)) (ws.1.1.1.1.1.0 ++ drop-list ku us) (nu ∷ []) (λ nowu.
         assigns ! (of_opd ! (load ! (from ! (stop !)) (look ! 4 refl))) (from ! (stop !)) (init ! 13 refl ((Array-Lawful 𝓛 R (LL.lawful D L 𝓛) 257).typed (ws.1.0 ++ drop-list kr rs) _ nowr).0) $
         assigns ! (of_opd ! (load ! (from ! (stop !)) (look ! 3 refl))) (from ! (stop !)) (init ! 11 refl ((Array-Lawful 𝓛 u64 (uint_Lawful 𝓛 w64) 192).typed (ws.1.1.0 ++ drop-list ks ss) _ nows).0) $
         assigns ! (of_opd ! (load ! (from ! (stop !)) (look ! 2 refl))) (from ! (stop !)) (init ! 9 refl ((Array-Lawful 𝓛 u32 (uint_Lawful 𝓛 w32) 561).typed (ws.1.1.1.0 ++ drop-list kh hs) _ nowh).0) $
         assigns ! (of_opd ! (load ! (from ! (stop !)) (look ! 1 refl))) (from ! (stop !)) (init ! 7 refl ((Array-Lawful 𝓛 u32 (uint_Lawful 𝓛 w32) 1024).typed ws.1.1.1.1.0 _ nowf).0) $
         assigns ! (of_opd ! (load ! (from ! (stop !)) (look ! 0 refl))) (from ! (stop !)) (init ! 5 refl ((Array-Lawful 𝓛 u8 (uint_Lawful 𝓛 w8) 256).typed (ws.1.1.1.1.1.0 ++ drop-list ku us) _ nowu).0) $
-        gives (fm_of 𝓤 H 𝓛.laws 𝓣) gathered.ended (gathered.clauses 𝓛 mem run) known-gathered (to-gathered o ov (ws.1.0 ++ drop-list kr rs) (ws.1.1.0 ++ drop-list ks ss) (ws.1.1.1.0 ++ drop-list kh hs) ws.1.1.1.1.0 (ws.1.1.1.1.1.0 ++ drop-list ku us) nr ns nh nf nu) (λ r. r ≡ gatheredOf core o (ws.1.0 ++ drop-list kr rs) (ws.1.1.0 ++ drop-list ks ss) (ws.1.1.1.0 ++ drop-list kh hs) ws.1.1.1.1.0 (ws.1.1.1.1.1.0 ++ drop-list ku us)) (λ r e'. id⊢ 𝓤 _) ! (goes-gathered o ov (ws.1.0 ++ drop-list kr rs) (ws.1.1.0 ++ drop-list ks ss) (ws.1.1.1.0 ++ drop-list kh hs) ws.1.1.1.1.0 (ws.1.1.1.1.1.0 ++ drop-list ku us) nr ns nh nf nu iso nowr nows nowh nowf nowu)
+        gives (fm_of 𝓤 H 𝓛.laws 𝓣) gathered.ended (gathered.clauses 𝓛 mem run) known-gathered (to-gathered o ov (ws.1.0 ++ drop-list kr rs) (ws.1.1.0 ++ drop-list ks ss) (ws.1.1.1.0 ++ drop-list kh hs) ws.1.1.1.1.0 (ws.1.1.1.1.1.0 ++ drop-list ku us) nr ns nh nf nu) (λ r. r ≡ gathered_of core o (ws.1.0 ++ drop-list kr rs) (ws.1.1.0 ++ drop-list ks ss) (ws.1.1.1.0 ++ drop-list kh hs) ws.1.1.1.1.0 (ws.1.1.1.1.1.0 ++ drop-list ku us)) (λ r e'. id⊢ 𝓤 _) ! (goes-gathered o ov (ws.1.0 ++ drop-list kr rs) (ws.1.1.0 ++ drop-list ks ss) (ws.1.1.1.0 ++ drop-list kh hs) ws.1.1.1.1.0 (ws.1.1.1.1.1.0 ++ drop-list ku us) nr ns nh nf nu iso nowr nows nowh nowf nowu)
         (λ j. and_then ! (load ! (from ! (stop !)) (look ! 63 {τ = Co'.mir} {v = cov} refl)) (and_then ! (load ! (from ! (stop !)) (look ! 36 {τ = Rp'.mir} {v = ov} refl)) (and_then ! (load ! (from ! (stop !)) (look ! 14 refl)) (and_then ! (load ! (from ! (stop !)) (look ! 12 refl)) (and_then ! (load ! (from ! (stop !)) (look ! 10 refl)) (and_then ! (load ! (from ! (stop !)) (look ! 8 refl)) (and_then ! (load ! (from ! (stop !)) (look ! 6 refl)) (no_more !)))))))) (λ r v er is.
         drop ! $ land ! (from ! (stop !)) (init ! 64 {τ = Re'.mir} {v = v} refl ((LL.lawful Re.the_type Re'.the_laws 𝓛).typed r _ is).0) $ returns ! (look ! 64 {τ = Re'.mir} {v = v} refl) $ forget ! 64 refl $ forget ! 62 refl $ forget ! 60 refl $ forget ! 58 refl $ forget ! 56 refl $ forget ! 54 refl $ forget ! 52 refl $ forget ! 50 refl $ forget ! 48 refl $ forget ! 46 refl $ forget ! 44 refl $ forget ! 42 refl $ forget ! 4 refl $ forget ! 3 refl $ forget ! 2 refl $ forget ! 1 refl $ forget ! 0 refl $ forget ! 35 refl $ forget ! 33 refl $ forget ! 31 refl $ forget ! 29 refl $ forget ! 27 refl $ forget ! 25 refl $ forget ! 23 refl $ forget ! 21 refl $ forget ! 19 refl $ forget ! 17 refl $ forget ! 15 refl $ forget ! 13 refl $ forget ! 11 refl $ forget ! 9 refl $ forget ! 7 refl $ forget ! 5 refl $
         move ! (64 ∷ 65 ∷ []) $ free1 ! $ move ! (62 ∷ 63 ∷ []) $ free1 ! $ move ! (60 ∷ 61 ∷ []) $ free1 ! $ move ! (58 ∷ 59 ∷ []) $ free1 ! $ move ! (56 ∷ 57 ∷ []) $ free1 ! $ move ! (54 ∷ 55 ∷ []) $ free1 ! $ move ! (52 ∷ 53 ∷ []) $ free1 ! $ move ! (50 ∷ 51 ∷ []) $ free1 ! $ move ! (48 ∷ 49 ∷ []) $ free1 ! $ move ! (46 ∷ 47 ∷ []) $ free1 ! $ move ! (44 ∷ 45 ∷ []) $ free1 ! $ move ! (42 ∷ 43 ∷ []) $ free1 ! $ move ! (4 ∷ 41 ∷ []) $ free1 ! $ move ! (3 ∷ 39 ∷ []) $ free1 ! $ move ! (2 ∷ 37 ∷ []) $ free1 ! $ move ! (1 ∷ 35 ∷ []) $ free1 ! $ move ! (0 ∷ 33 ∷ []) $ free1 ! $ move ! (30 ∷ 31 ∷ []) $ free1 ! $ move ! (28 ∷ 29 ∷ []) $ free1 ! $ move ! (26 ∷ 27 ∷ []) $ free1 ! $ move ! (24 ∷ 25 ∷ []) $ free1 ! $ move ! (22 ∷ 23 ∷ []) $ free1 ! $ move ! (20 ∷ 21 ∷ []) $ free1 ! $ move ! (18 ∷ 19 ∷ []) $ free1 ! $ move ! (16 ∷ 17 ∷ []) $ free1 ! $ move ! (14 ∷ 15 ∷ []) $ free1 ! $ move ! (12 ∷ 13 ∷ []) $ free1 ! $ move ! (10 ∷ 11 ∷ []) $ free1 ! $ move ! (8 ∷ 9 ∷ []) $ free1 ! $ move ! (6 ∷ 7 ∷ []) $ free1 ! $ move ! (4 ∷ 5 ∷ []) $ free1 ! $ move ! (2 ∷ 3 ∷ []) $ free1 ! $ move ! (0 ∷ 1 ∷ []) $ free1 ! $ free0 ! $
-        keep ! (0 ∷ []) $ by ! (exits r v is (called-rows core rs ss hs fs us kr ks kh ku cl o ws.1.0 ws.1.1.0 ws.1.1.1.0 ws.1.1.1.1.0 ws.1.1.1.1.1.0 r iss.1.0.1 bound same_s e.0 e.1 er) (called-words core rs ss hs fs us kr ks kh ku cl o ws.1.0 ws.1.1.0 ws.1.1.1.0 ws.1.1.1.1.0 ws.1.1.1.1.1.0 r iss.1.0.1 bound same_s e.0 e.1 er))))))))))))))))))))))))))))))))))))))))))))))))))))))))))))))
+        keep ! (0 ∷ []) $ by ! (exits r v is (called_rows core rs ss hs fs us kr ks kh ku cl o ws.1.0 ws.1.1.0 ws.1.1.1.0 ws.1.1.1.1.0 ws.1.1.1.1.1.0 r iss.1.0.1 bound same_s e.0 e.1 er) (called_words core rs ss hs fs us kr ks kh ku cl o ws.1.0 ws.1.1.0 ws.1.1.1.0 ws.1.1.1.1.0 ws.1.1.1.1.1.0 r iss.1.0.1 bound same_s e.0 e.1 er))))))))))))))))))))))))))))))))))))))))))))))))))))))))))))))
 
 module _ {M : Type 1} {𝓤 : Ura M} (𝓛 : Logic 𝓤) (mem : Memory → SProp 𝓤) (run : Routine → Fun 𝓤) (𝓣 : Tables 𝓤 𝓛.H) (known-apply : Triple 𝓤 (𝓣.C #apply) (met 𝓛 apply.ended (apply.clauses 𝓛 mem run))) (known-gathered : Triple 𝓤 (𝓣.C #gathered) (met 𝓛 gathered.ended (gathered.clauses 𝓛 mem run))) where
   open 𝓛 use {H}

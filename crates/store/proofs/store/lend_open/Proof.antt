@@ -41,10 +41,10 @@ use Rattle.pool.proofs.Element.{R, D, L, vals, tells}
 use Rattle.pool.proofs.Calls.{met, gives}
 use Rattle.pool.proofs.Uses.{passes}
 use Rattle.pool.proofs.Lends.{row_at, two_facts, says_two}
-use Rattle.store.proofs.Owner.{Elems, τ, apart_in, value_out, lends, comes, LentPart, lends_part, comes-part, lit-big}
-use Rattle.opening.specs.Words.{OpensWords, openWords, openedRows}
-use Rattle.store.specs.Lends.{openLent, ownedRows, rowsLeft}
-use Rattle.store.proofs.LendLaws.{opened_rows, opened-words}
+use Rattle.store.proofs.Owner.{Elems, τ, apart_in, value_out, lends, comes, LentPart, lends_part, comes_part, lit_big}
+use Rattle.opening.specs.Words.{OpensWords, open_words, opened_rows}
+use Rattle.store.specs.Lends.{open_lent, owned_rows, rows_left}
+use Rattle.store.proofs.LendLaws.{opened_rows_lem, opened_words}
 use Rattle.settings.specs.declared.settings.Settings.{Settings}
 use Rattle.settings.specs.contracts.settings.Settings as S
 use Rattle.settings.proofs.settings.Settings.TheLaws as S'
@@ -58,7 +58,7 @@ use Rattle.opening.specs.contracts.open.open as opens
 use Rattle.opening.proofs.open.open.Symbol as opens-def
 use Rattle.opening.proofs.open.open.Symbol.{name as #opens}
 use Rattle.opening.proofs.open.open.Met as opens-thm
-use Rattle.store.specs.contracts.store.owned_rows as owned-rows
+use Rattle.store.specs.contracts.store.owned_rows as owned_rows_lem
 use Rattle.store.proofs.store.owned_rows.Symbol as owned-rows-def
 use Rattle.store.proofs.store.owned_rows.Symbol.{name as #owned-rows}
 use Rattle.store.proofs.store.owned_rows.Met as owned-rows-thm
@@ -80,7 +80,7 @@ module _ {M : Type 1} {𝓤 : Ura M} (𝓛 : Logic 𝓤) (mem : Memory → SProp
   abbrev Post : Val → SProp 𝓤
   Post = (walk_of 𝓛 f.ended stayed (f.clauses 𝓛 mem run)).post ((tt, tt, tt, (st, (rs, (ss, (hs, (fs, (us, (kr, (ks, (kh, (ku, tt)))))))))), at), tt)
 
-  exits : (r : OpenedRows) (v : Val) → Is Re.the_row r (v ∷ []) → rowsLeft r ≡ openLent st rs ss hs fs us kr ks kh ku → OpensWords st r.opening (take ks ss) (take ks r.slots) → ent 𝓤 (sem 𝓛 ftrue) (Post v)
+  exits : (r : OpenedRows) (v : Val) → Is Re.the_row r (v ∷ []) → rows_left r ≡ open_lent st rs ss hs fs us kr ks kh ku → OpensWords st r.opening (take ks ss) (take ks r.slots) → ent 𝓤 (sem 𝓛 ftrue) (Post v)
   exits r v is e₁ e₂ =
       qed 𝓛 (‵ ftrue ∷ []) ∵ suffices ! _ (ends_at 𝓛 f.ended stayed (f.clauses 𝓛 mem run) ((tt, tt, tt, (st, (rs, (ss, (hs, (fs, (us, (kr, (ks, (kh, (ku, tt)))))))))), at), tt) v r (tt, (tt, (tt, (tt, (tt, (tt, (tt, (tt, (tt, (tt, tt)))))))))) (tt, (tt, (tt, (tt, (tt, (tt, (tt, (tt, (tt, (tt, tt))))))))))) $ says_two ! e₁ e₂ $
       owned ! usize (Is usize) (uint_Makes 𝓛 w64) ku _ (refl, fits-u) $ fjoin ! $ owned ! usize (Is usize) (uint_Makes 𝓛 w64) kh _ (refl, fits-h) $ fjoin ! $ owned ! usize (Is usize) (uint_Makes 𝓛 w64) ks _ (refl, fits-s) $ fjoin ! $ owned ! usize (Is usize) (uint_Makes 𝓛 w64) kr _ (refl, fits-r) $ fjoin ! $ owned ! (Array u8 256) (Is (Array u8 256)) (Array-Makes 𝓛 u8 (uint_Makes 𝓛 w8) 256) us (vu ∷ []) isu $ fjoin ! $ owned ! (Array u32 1024) (Is (Array u32 1024)) (Array-Makes 𝓛 u32 (uint_Makes 𝓛 w32) 1024) fs (vf ∷ []) isf $ fjoin ! $ owned ! (Array u32 561) (Is (Array u32 561)) (Array-Makes 𝓛 u32 (uint_Makes 𝓛 w32) 561) hs (vh ∷ []) ish $ fjoin ! $ owned ! (Array u64 192) (Is (Array u64 192)) (Array-Makes 𝓛 u64 (uint_Makes 𝓛 w64) 192) ss (vs ∷ []) iss $ fjoin ! $ owned ! (Array R 257) (Is (Array R 257)) (Array-Makes 𝓛 R (LL.makes D T'.the_plain 𝓛) 257) rs (vr ∷ []) isr $ fjoin ! $ owned ! S.the_row (Is S.the_row) (LL.makes S.the_type S'.the_plain 𝓛) st (stv ∷ []) is-st $ fjoin ! $ owned ! Re.the_row (Is Re.the_row) (LL.makes Re.the_type Re'.the_plain 𝓛) r (v ∷ []) is $ nothing ! $ move ! (0 ∷ 2 ∷ 1 ∷ []) $ done !
@@ -104,20 +104,20 @@ module _ {M : Type 1} {𝓤 : Ura M} (𝓛 : Logic 𝓤) (mem : Memory → SProp
         owned ! S.the_row (Is S.the_row) (LL.makes S.the_type S'.the_plain 𝓛) st (stv ∷ []) is-st $ fjoin ! $ move ! (1 ∷ 0 ∷ []) $ join ! $ frame ! $ done !
 
     -- what is learned of `open`
-    abbrev told-opens : Opening → Lasts opens.ended (νr ∷ [], (νs ∷ [], (νh ∷ [], (νf ∷ [], (νu ∷ [], tt))))) to-opens.0.3 → Type 0
-    told-opens r ws = (openedRows r ws.1.0 ws.1.1.1.0 ws.1.1.1.1.0 ws.1.1.1.1.1.0 ≡ openWords st rs' ss' hs' fs' us') × (OpensWords st r ss' ws.1.1.0)
+    abbrev told_opens : Opening → Lasts opens.ended (νr ∷ [], (νs ∷ [], (νh ∷ [], (νf ∷ [], (νu ∷ [], tt))))) to-opens.0.3 → Type 0
+    told_opens r ws = (opened_rows r ws.1.0 ws.1.1.1.0 ws.1.1.1.1.0 ws.1.1.1.1.1.0 ≡ open_words st rs' ss' hs' fs' us') × (OpensWords st r ss' ws.1.1.0)
 
   -- the rows that came back, as values
   module _ (o : Opening) (ov : Val) (rs' : List Record) (ss' : List ℕ) (hs' : List ℕ) (fs' : List ℕ) (us' : List ℕ) (nr ns nh nf nu : Val) where
-    abbrev to-owned-rows : (met 𝓛 owned-rows.ended (owned-rows.clauses 𝓛 mem run)).Ghost
+    abbrev to-owned-rows : (met 𝓛 owned_rows_lem.ended (owned_rows_lem.clauses 𝓛 mem run)).Ghost
     to-owned-rows = ((tt, tt, tt, (o, (rs', (ss', (hs', (fs', (us', tt)))))), (ov ∷ [], (nr ∷ [], (ns ∷ [], (nh ∷ [], (nf ∷ [], (nu ∷ [], tt))))))), tt)
 
-    goes-owned-rows : Is Rp.the_row o (ov ∷ []) → Is (Array R 257) rs' (nr ∷ []) → Is (Array u64 192) ss' (ns ∷ []) → Is (Array u32 561) hs' (nh ∷ []) → Is (Array u32 1024) fs' (nf ∷ []) → Is (Array u8 256) us' (nu ∷ []) → ent 𝓤 (sem 𝓛 ftrue) ((met 𝓛 owned-rows.ended (owned-rows.clauses 𝓛 mem run)).pre to-owned-rows)
+    goes-owned-rows : Is Rp.the_row o (ov ∷ []) → Is (Array R 257) rs' (nr ∷ []) → Is (Array u64 192) ss' (ns ∷ []) → Is (Array u32 561) hs' (nh ∷ []) → Is (Array u32 1024) fs' (nf ∷ []) → Is (Array u8 256) us' (nu ∷ []) → ent 𝓤 (sem 𝓛 ftrue) ((met 𝓛 owned_rows_lem.ended (owned_rows_lem.clauses 𝓛 mem run)).pre to-owned-rows)
     goes-owned-rows iso nowr nows nowh nowf nowu =
         qed 𝓛 (‵ ftrue ∷ []) ∵ owned ! (Array u8 256) (Is (Array u8 256)) (Array-Makes 𝓛 u8 (uint_Makes 𝓛 w8) 256) us' (nu ∷ []) nowu $ fjoin ! $ owned ! (Array u32 1024) (Is (Array u32 1024)) (Array-Makes 𝓛 u32 (uint_Makes 𝓛 w32) 1024) fs' (nf ∷ []) nowf $ fjoin ! $ owned ! (Array u32 561) (Is (Array u32 561)) (Array-Makes 𝓛 u32 (uint_Makes 𝓛 w32) 561) hs' (nh ∷ []) nowh $ fjoin ! $ owned ! (Array u64 192) (Is (Array u64 192)) (Array-Makes 𝓛 u64 (uint_Makes 𝓛 w64) 192) ss' (ns ∷ []) nows $ fjoin ! $ owned ! (Array R 257) (Is (Array R 257)) (Array-Makes 𝓛 R (LL.makes D T'.the_plain 𝓛) 257) rs' (nr ∷ []) nowr $ fjoin ! $
         owned ! Rp.the_row (Is Rp.the_row) (LL.makes Rp.the_type Rp'.the_plain 𝓛) o (ov ∷ []) iso $ fjoin ! $ nothing ! $ join ! $ frame ! $ done !
 
-  module _ (𝓣 : Tables 𝓤 H) (known-opens : Triple 𝓤 (𝓣.C #opens) (met 𝓛 opens.ended (opens.clauses 𝓛 mem run))) (known-owned-rows : Triple 𝓤 (𝓣.C #owned-rows) (met 𝓛 owned-rows.ended (owned-rows.clauses 𝓛 mem run))) where
+  module _ (𝓣 : Tables 𝓤 H) (known-opens : Triple 𝓤 (𝓣.C #opens) (met 𝓛 opens.ended (opens.clauses 𝓛 mem run))) (known-owned-rows : Triple 𝓤 (𝓣.C #owned-rows) (met 𝓛 owned_rows_lem.ended (owned_rows_lem.clauses 𝓛 mem run))) where
     walk : (kr ≤ 257) × (ks ≤ 192) × (kh ≤ 561) × (ku ≤ 256) → ent 𝓤 (on_entry 𝓛 f.signature tt tt (st, (rs, (ss, (hs, (fs, (us, (kr, (ks, (kh, (ku, tt)))))))))) at) (WpFn 𝓤 H 𝓣.C 𝓣.Λ code.function (stv ∷ vr ∷ vs ∷ vh ∷ vf ∷ vu ∷ vint w64 kr ∷ vint w64 ks ∷ vint w64 kh ∷ vint w64 ku ∷ []) Post)
     walk bound =
         qed 𝓛 (‵ ftrue ∷ ‵ (owns (S.the_row ∷ Array R 257 ∷ Array u64 192 ∷ Array u32 561 ∷ Array u32 1024 ∷ Array u8 256 ∷ usize ∷ usize ∷ usize ∷ usize ∷ []) (st, (rs, (ss, (hs, (fs, (us, (kr, (ks, (kh, (ku, tt)))))))))) at) ∷ []) ∵ enter ! 𝓣.C 𝓣.Λ code.function (stv ∷ vr ∷ vs ∷ vh ∷ vf ∷ vu ∷ vint w64 kr ∷ vint w64 ks ∷ vint w64 kh ∷ vint w64 ku ∷ []) _ $
@@ -131,7 +131,7 @@ module _ {M : Type 1} {𝓤 : Ura M} (𝓛 : Logic 𝓤) (mem : Memory → SProp
         assigns ! (addr ! (from ! (stop !))) (from ! (stop !)) (init ! 28 refl (tt, tt)) $ assigns ! (agg ! (and_then ! (load ! (from ! (stop !)) (look ! 28 refl)) (and_then ! (load ! (from ! (stop !)) (look ! 48 refl)) (no_more !)))) (from ! (stop !)) (init ! 26 refl (tt, (tt, (record { fits = fits-r }, tt)))) $
         assigns ! (addr ! (from ! (stop !))) (from ! (stop !)) (init ! 24 refl (tt, tt)) $ assigns ! (agg ! (and_then ! (load ! (from ! (stop !)) (look ! 24 refl)) (and_then ! (load ! (from ! (stop !)) (look ! 46 refl)) (no_more !)))) (from ! (stop !)) (init ! 22 refl (tt, (tt, (record { fits = fits-s }, tt)))) $
         assigns ! (addr ! (from ! (stop !))) (from ! (stop !)) (init ! 20 refl (tt, tt)) $ assigns ! (agg ! (and_then ! (load ! (from ! (stop !)) (look ! 20 refl)) (and_then ! (load ! (from ! (stop !)) (look ! 44 refl)) (no_more !)))) (from ! (stop !)) (init ! 18 refl (tt, (tt, (record { fits = fits-h }, tt)))) $
-        assigns ! (addr ! (from ! (stop !))) (from ! (stop !)) (init ! 16 refl (tt, tt)) $ assigns ! (agg ! (and_then ! (load ! (from ! (stop !)) (look ! 16 refl)) (and_then ! (lit-big ! (record { fits = lit< tt })) (no_more !)))) (from ! (stop !)) (init ! 14 refl (tt, (tt, (record { fits = lit< tt }, tt)))) $
+        assigns ! (addr ! (from ! (stop !))) (from ! (stop !)) (init ! 16 refl (tt, tt)) $ assigns ! (agg ! (and_then ! (load ! (from ! (stop !)) (look ! 16 refl)) (and_then ! (lit_big ! (record { fits = lit< tt })) (no_more !)))) (from ! (stop !)) (init ! 14 refl (tt, (tt, (record { fits = lit< tt }, tt)))) $
         assigns ! (addr ! (from ! (stop !))) (from ! (stop !)) (init ! 12 refl (tt, tt)) $ assigns ! (agg ! (and_then ! (load ! (from ! (stop !)) (look ! 12 refl)) (and_then ! (load ! (from ! (stop !)) (look ! 42 refl)) (no_more !)))) (from ! (stop !)) (init ! 10 refl (tt, (tt, (record { fits = fits-u }, tt)))) $
         owned ! (Array R 257) (Is (Array R 257)) (Array-Makes 𝓛 R (LL.makes D T'.the_plain 𝓛) 257) rs (vr ∷ []) isr $ move ! (41 ∷ 0 ∷ []) $ use2 𝓛 (‵ (Elems R 257 l₁₁ rs)) (apart_in R 257 l₁₁ 𝓛 rs tt vr) $ lft_new ! tt (λ νr. move ! (1 ∷ []) $ use1 𝓛 (later (some (λ (γ : GName). ‵ ((MutSlice (named 0) (νr ∷ []) R).own_val (row_at l₁₁ 0 γ (take kr rs)) (slice_val (l₁₁, 0) kr ∷ [])) ⊛ ‵ (LentPart R 257 l₁₁ rs kr (νr ∷ []) kr γ)))) (lends_part R 257 l₁₁ rs kr (νr ∷ []) 𝓛 isr.1.0.1 bound.0 (lit< tt, lit< tt)) $ await ! tt $ pick ! (λ γr. split ! $
         owned ! (Array u64 192) (Is (Array u64 192)) (Array-Makes 𝓛 u64 (uint_Makes 𝓛 w64) 192) ss (vs ∷ []) iss $ move ! (42 ∷ 0 ∷ []) $ use2 𝓛 (‵ (Elems u64 192 l₁₂ ss)) (apart_in u64 192 l₁₂ 𝓛 ss tt vs) $ lft_new ! tt (λ νs. move ! (1 ∷ []) $ use1 𝓛 (later (some (λ (γ : GName). ‵ ((MutSlice (named 0) (νs ∷ []) u64).own_val (row_at l₁₂ 0 γ (take ks ss)) (slice_val (l₁₂, 0) ks ∷ [])) ⊛ ‵ (LentPart u64 192 l₁₂ ss ks (νs ∷ []) ks γ)))) (lends_part u64 192 l₁₂ ss ks (νs ∷ []) 𝓛 iss.1.0.1 bound.1 (lit< tt, lit< tt)) $ await ! tt $ pick ! (λ γs. split ! $
@@ -139,27 +139,27 @@ module _ {M : Type 1} {𝓤 : Ura M} (𝓛 : Logic 𝓤) (mem : Memory → SProp
         owned ! (Array u32 1024) (Is (Array u32 1024)) (Array-Makes 𝓛 u32 (uint_Makes 𝓛 w32) 1024) fs (vf ∷ []) isf $ move ! (44 ∷ 0 ∷ []) $ use2 𝓛 (‵ (Elems u32 1024 l₁₄ fs)) (apart_in u32 1024 l₁₄ 𝓛 fs tt vf) $ lft_new ! tt (λ νf. move ! (1 ∷ []) $ use1 𝓛 (later (some (λ (γ : GName). ‵ ((MutSlice (named 0) (νf ∷ []) u32).own_val (row_at l₁₄ 0 γ fs) (slice_val (l₁₄, 0) 1024 ∷ [])) ⊛ ‵ (flent (νf ∷ []) (Held u32 1024 l₁₄ 0 γ))))) (lends u32 l₁₄ 𝓛 fs (νf ∷ []) 1024 isf.1.0.1 (lit< tt, lit< tt)) $ await ! tt $ pick ! (λ γf. split ! $
         owned ! (Array u8 256) (Is (Array u8 256)) (Array-Makes 𝓛 u8 (uint_Makes 𝓛 w8) 256) us (vu ∷ []) isu $ move ! (45 ∷ 0 ∷ []) $ use2 𝓛 (‵ (Elems u8 256 l₁₅ us)) (apart_in u8 256 l₁₅ 𝓛 us tt vu) $ lft_new ! tt (λ νu. move ! (1 ∷ []) $ use1 𝓛 (later (some (λ (γ : GName). ‵ ((MutSlice (named 0) (νu ∷ []) u8).own_val (row_at l₁₅ 0 γ (take ku us)) (slice_val (l₁₅, 0) ku ∷ [])) ⊛ ‵ (LentPart u8 256 l₁₅ us ku (νu ∷ []) ku γ)))) (lends_part u8 256 l₁₅ us ku (νu ∷ []) 𝓛 isu.1.0.1 bound.3 (lit< tt, lit< tt)) $ await ! tt $ pick ! (λ γu. split ! $
         nothing ! $ move ! (3 ∷ 0 ∷ []) $ join ! $ move ! (5 ∷ 0 ∷ []) $ join ! $ move ! (7 ∷ 0 ∷ []) $ join ! $ move ! (9 ∷ 0 ∷ []) $ join ! $ move ! (11 ∷ 0 ∷ []) $ join ! $ nothing ! $ move ! (2 ∷ 0 ∷ []) $ fjoin ! $ move ! (3 ∷ 0 ∷ []) $ fjoin ! $ move ! (4 ∷ 0 ∷ []) $ fjoin ! $ move ! (5 ∷ 0 ∷ []) $ fjoin ! $ move ! (6 ∷ 0 ∷ []) $ fjoin ! $ move ! (0 ∷ 1 ∷ []) $ join ! $
-        passes (fm_of 𝓤 H 𝓛.laws 𝓣) opens.ended (opens.clauses 𝓛 mem run) known-opens (to-opens l₁₁ l₁₂ l₁₃ l₁₄ l₁₅ νr νs νh νf νu γr γs γh γf γu (take kr rs) (take ks ss) (take kh hs) fs (take ku us)) (told-opens l₁₁ l₁₂ l₁₃ l₁₄ l₁₅ νr νs νh νf νu γr γs γh γf γu (take kr rs) (take ks ss) (take kh hs) fs (take ku us)) (λ r ws. two_facts 𝓤 (openedRows r ws.1.0 ws.1.1.1.0 ws.1.1.1.1.0 ws.1.1.1.1.1.0 ≡ openWords st (take kr rs) (take ks ss) (take kh hs) fs (take ku us)) (OpensWords st r (take ks ss) ws.1.1.0)) ! (‵ (lent-five l₁₁ l₁₂ l₁₃ l₁₄ l₁₅ νr νs νh νf νu γr γs γh γf γu (take kr rs) (take ks ss) (take kh hs) fs (take ku us)) ⊛ tokens νr νs νh νf νu) (goes-opens l₁₁ l₁₂ l₁₃ l₁₄ l₁₅ νr νs νh νf νu γr γs γh γf γu (take kr rs) (take ks ss) (take kh hs) fs (take ku us))
+        passes (fm_of 𝓤 H 𝓛.laws 𝓣) opens.ended (opens.clauses 𝓛 mem run) known-opens (to-opens l₁₁ l₁₂ l₁₃ l₁₄ l₁₅ νr νs νh νf νu γr γs γh γf γu (take kr rs) (take ks ss) (take kh hs) fs (take ku us)) (told_opens l₁₁ l₁₂ l₁₃ l₁₄ l₁₅ νr νs νh νf νu γr γs γh γf γu (take kr rs) (take ks ss) (take kh hs) fs (take ku us)) (λ r ws. two_facts 𝓤 (opened_rows r ws.1.0 ws.1.1.1.0 ws.1.1.1.1.0 ws.1.1.1.1.1.0 ≡ open_words st (take kr rs) (take ks ss) (take kh hs) fs (take ku us)) (OpensWords st r (take ks ss) ws.1.1.0)) ! (‵ (lent-five l₁₁ l₁₂ l₁₃ l₁₄ l₁₅ νr νs νh νf νu γr γs γh γf γu (take kr rs) (take ks ss) (take kh hs) fs (take ku us)) ⊛ tokens νr νs νh νf νu) (goes-opens l₁₁ l₁₂ l₁₃ l₁₄ l₁₅ νr νs νh νf νu γr γs γh γf γu (take kr rs) (take ks ss) (take kh hs) fs (take ku us))
         (λ j. and_then ! (load ! (from ! (stop !)) (look ! 61 {τ = S'.mir} {v = stv} refl)) (and_then ! (load ! (from ! (stop !)) (look ! 32 refl)) (and_then ! (load ! (from ! (stop !)) (look ! 28 refl)) (and_then ! (load ! (from ! (stop !)) (look ! 24 refl)) (and_then ! (load ! (from ! (stop !)) (look ! 20 refl)) (and_then ! (load ! (from ! (stop !)) (look ! 16 refl)) (no_more !))))))) (λ o ov ws e iso.
         fsplit ! $ drop ! $ fsplit ! $ fsplit ! $ move ! (1 ∷ []) $ feq_l ! (λ same-r. move ! (1 ∷ []) $ fsplit ! $ fsplit ! $ move ! (1 ∷ []) $ feq_l ! (λ same_s. move ! (1 ∷ []) $ fsplit ! $ fsplit ! $ move ! (1 ∷ []) $ feq_l ! (λ same-h. move ! (1 ∷ []) $ fsplit ! $ fsplit ! $ move ! (1 ∷ []) $ feq_l ! (λ same-f. move ! (1 ∷ []) $ fsplit ! $ fsplit ! $ move ! (1 ∷ []) $ feq_l ! (λ same-u. move ! (1 ∷ []) $ drop ! $
         land ! (from ! (stop !)) (init ! 41 {τ = Rp'.mir} {v = ov} refl ((LL.lawful Rp.the_type Rp'.the_laws 𝓛).typed o _ iso).0) $ move ! (5 ∷ []) $ use1 𝓛 (tokens νr νs νh νf νu) (id⊢ 𝓤 _) $ split ! $ move ! (1 ∷ []) $ split ! $ move ! (1 ∷ []) $ split ! $ move ! (1 ∷ []) $ split ! $ move ! (1 ∷ []) $ split ! $ move ! (1 ∷ []) $ drop ! $
-        move ! (4 ∷ []) $ lft_end ! tt $ move ! (0 ∷ 14 ∷ 9 ∷ []) $ use3 𝓛 (later (‵ (Elems R 257 l₁₁ (ws.1.0 ++ drop-list kr rs)))) (comes-part R 257 l₁₁ rs kr (νr ∷ []) 𝓛 isr.1.0.1 bound.0 γr ws.1.0) $ await ! tt $ use1 𝓛 (some (λ (v : Val). ‵ (fat full_share (τ R 257 l₁₁) l₁₁ 0 v) ⊛ ‵ ((Array R 257).own_val (ws.1.0 ++ drop-list kr rs) (v ∷ [])))) (value_out R 257 l₁₁ 𝓛 (ws.1.0 ++ drop-list kr rs)) $ pick ! (λ nr. split ! $ move ! (1 ∷ []) $ facts ! (Array R 257) (Is (Array R 257)) (shows 𝓛 (Array R 257)) (ws.1.0 ++ drop-list kr rs) (nr ∷ []) (λ nowr.
-        move ! (4 ∷ []) $ lft_end ! tt $ move ! (0 ∷ 12 ∷ 8 ∷ []) $ use3 𝓛 (later (‵ (Elems u64 192 l₁₂ (ws.1.1.0 ++ drop-list ks ss)))) (comes-part u64 192 l₁₂ ss ks (νs ∷ []) 𝓛 iss.1.0.1 bound.1 γs ws.1.1.0) $ await ! tt $ use1 𝓛 (some (λ (v : Val). ‵ (fat full_share (τ u64 192 l₁₂) l₁₂ 0 v) ⊛ ‵ ((Array u64 192).own_val (ws.1.1.0 ++ drop-list ks ss) (v ∷ [])))) (value_out u64 192 l₁₂ 𝓛 (ws.1.1.0 ++ drop-list ks ss)) $ pick ! (λ ns. split ! $ move ! (1 ∷ []) $ facts ! (Array u64 192) (Is (Array u64 192)) (shows 𝓛 (Array u64 192)) (ws.1.1.0 ++ drop-list ks ss) (ns ∷ []) (λ nows.
-        move ! (4 ∷ []) $ lft_end ! tt $ move ! (0 ∷ 10 ∷ 7 ∷ []) $ use3 𝓛 (later (‵ (Elems u32 561 l₁₃ (ws.1.1.1.0 ++ drop-list kh hs)))) (comes-part u32 561 l₁₃ hs kh (νh ∷ []) 𝓛 ish.1.0.1 bound.2 γh ws.1.1.1.0) $ await ! tt $ use1 𝓛 (some (λ (v : Val). ‵ (fat full_share (τ u32 561 l₁₃) l₁₃ 0 v) ⊛ ‵ ((Array u32 561).own_val (ws.1.1.1.0 ++ drop-list kh hs) (v ∷ [])))) (value_out u32 561 l₁₃ 𝓛 (ws.1.1.1.0 ++ drop-list kh hs)) $ pick ! (λ nh. split ! $ move ! (1 ∷ []) $ facts ! (Array u32 561) (Is (Array u32 561)) (shows 𝓛 (Array u32 561)) (ws.1.1.1.0 ++ drop-list kh hs) (nh ∷ []) (λ nowh.
+        move ! (4 ∷ []) $ lft_end ! tt $ move ! (0 ∷ 14 ∷ 9 ∷ []) $ use3 𝓛 (later (‵ (Elems R 257 l₁₁ (ws.1.0 ++ drop-list kr rs)))) (comes_part R 257 l₁₁ rs kr (νr ∷ []) 𝓛 isr.1.0.1 bound.0 γr ws.1.0) $ await ! tt $ use1 𝓛 (some (λ (v : Val). ‵ (fat full_share (τ R 257 l₁₁) l₁₁ 0 v) ⊛ ‵ ((Array R 257).own_val (ws.1.0 ++ drop-list kr rs) (v ∷ [])))) (value_out R 257 l₁₁ 𝓛 (ws.1.0 ++ drop-list kr rs)) $ pick ! (λ nr. split ! $ move ! (1 ∷ []) $ facts ! (Array R 257) (Is (Array R 257)) (shows 𝓛 (Array R 257)) (ws.1.0 ++ drop-list kr rs) (nr ∷ []) (λ nowr.
+        move ! (4 ∷ []) $ lft_end ! tt $ move ! (0 ∷ 12 ∷ 8 ∷ []) $ use3 𝓛 (later (‵ (Elems u64 192 l₁₂ (ws.1.1.0 ++ drop-list ks ss)))) (comes_part u64 192 l₁₂ ss ks (νs ∷ []) 𝓛 iss.1.0.1 bound.1 γs ws.1.1.0) $ await ! tt $ use1 𝓛 (some (λ (v : Val). ‵ (fat full_share (τ u64 192 l₁₂) l₁₂ 0 v) ⊛ ‵ ((Array u64 192).own_val (ws.1.1.0 ++ drop-list ks ss) (v ∷ [])))) (value_out u64 192 l₁₂ 𝓛 (ws.1.1.0 ++ drop-list ks ss)) $ pick ! (λ ns. split ! $ move ! (1 ∷ []) $ facts ! (Array u64 192) (Is (Array u64 192)) (shows 𝓛 (Array u64 192)) (ws.1.1.0 ++ drop-list ks ss) (ns ∷ []) (λ nows.
+        move ! (4 ∷ []) $ lft_end ! tt $ move ! (0 ∷ 10 ∷ 7 ∷ []) $ use3 𝓛 (later (‵ (Elems u32 561 l₁₃ (ws.1.1.1.0 ++ drop-list kh hs)))) (comes_part u32 561 l₁₃ hs kh (νh ∷ []) 𝓛 ish.1.0.1 bound.2 γh ws.1.1.1.0) $ await ! tt $ use1 𝓛 (some (λ (v : Val). ‵ (fat full_share (τ u32 561 l₁₃) l₁₃ 0 v) ⊛ ‵ ((Array u32 561).own_val (ws.1.1.1.0 ++ drop-list kh hs) (v ∷ [])))) (value_out u32 561 l₁₃ 𝓛 (ws.1.1.1.0 ++ drop-list kh hs)) $ pick ! (λ nh. split ! $ move ! (1 ∷ []) $ facts ! (Array u32 561) (Is (Array u32 561)) (shows 𝓛 (Array u32 561)) (ws.1.1.1.0 ++ drop-list kh hs) (nh ∷ []) (λ nowh.
         move ! (4 ∷ []) $ lft_end ! tt $ move ! (0 ∷ 8 ∷ 6 ∷ []) $ use3 𝓛 (later (‵ (Elems u32 1024 l₁₄ ws.1.1.1.1.0))) (comes u32 1024 l₁₄ 𝓛 ws.1.1.1.1.0 (νf ∷ []) γf) $ await ! tt $ use1 𝓛 (some (λ (v : Val). ‵ (fat full_share (τ u32 1024 l₁₄) l₁₄ 0 v) ⊛ ‵ ((Array u32 1024).own_val ws.1.1.1.1.0 (v ∷ [])))) (value_out u32 1024 l₁₄ 𝓛 ws.1.1.1.1.0) $ pick ! (λ nf. split ! $ move ! (1 ∷ []) $ facts ! (Array u32 1024) (Is (Array u32 1024)) (shows 𝓛 (Array u32 1024)) ws.1.1.1.1.0 (nf ∷ []) (λ nowf.
-        move ! (4 ∷ []) $ lft_end ! tt $ move ! (0 ∷ 6 ∷ 5 ∷ []) $ use3 𝓛 (later (‵ (Elems u8 256 l₁₅ (ws.1.1.1.1.1.0 ++ drop-list ku us)))) (comes-part u8 256 l₁₅ us ku (νu ∷ []) 𝓛 isu.1.0.1 bound.3 γu ws.1.1.1.1.1.0) $ await ! tt $ use1 𝓛 (some (λ (v : Val). ‵ (fat full_share (τ u8 256 l₁₅) l₁₅ 0 v) ⊛ ‵ ((Array u8 256).own_val (ws.1.1.1.1.1.0 ++ drop-list ku us) (v ∷ [])))) (value_out u8 256 l₁₅ 𝓛 (ws.1.1.1.1.1.0 ++ drop-list ku us)) $ pick ! (λ nu. split ! $ move ! (1 ∷ []) $ facts ! (Array u8 256) (Is (Array u8 256)) (shows 𝓛 (Array u8 256)) (ws.1.1.1.1.1.0 ++ drop-list ku us) (nu ∷ []) (λ nowu.
+        move ! (4 ∷ []) $ lft_end ! tt $ move ! (0 ∷ 6 ∷ 5 ∷ []) $ use3 𝓛 (later (‵ (Elems u8 256 l₁₅ (ws.1.1.1.1.1.0 ++ drop-list ku us)))) (comes_part u8 256 l₁₅ us ku (νu ∷ []) 𝓛 isu.1.0.1 bound.3 γu ws.1.1.1.1.1.0) $ await ! tt $ use1 𝓛 (some (λ (v : Val). ‵ (fat full_share (τ u8 256 l₁₅) l₁₅ 0 v) ⊛ ‵ ((Array u8 256).own_val (ws.1.1.1.1.1.0 ++ drop-list ku us) (v ∷ [])))) (value_out u8 256 l₁₅ 𝓛 (ws.1.1.1.1.1.0 ++ drop-list ku us)) $ pick ! (λ nu. split ! $ move ! (1 ∷ []) $ facts ! (Array u8 256) (Is (Array u8 256)) (shows 𝓛 (Array u8 256)) (ws.1.1.1.1.1.0 ++ drop-list ku us) (nu ∷ []) (λ nowu.
         assigns ! (of_opd ! (load ! (from ! (stop !)) (look ! 4 refl))) (from ! (stop !)) (init ! 13 refl ((Array-Lawful 𝓛 R (LL.lawful D L 𝓛) 257).typed (ws.1.0 ++ drop-list kr rs) _ nowr).0) $
         assigns ! (of_opd ! (load ! (from ! (stop !)) (look ! 3 refl))) (from ! (stop !)) (init ! 11 refl ((Array-Lawful 𝓛 u64 (uint_Lawful 𝓛 w64) 192).typed (ws.1.1.0 ++ drop-list ks ss) _ nows).0) $
         assigns ! (of_opd ! (load ! (from ! (stop !)) (look ! 2 refl))) (from ! (stop !)) (init ! 9 refl ((Array-Lawful 𝓛 u32 (uint_Lawful 𝓛 w32) 561).typed (ws.1.1.1.0 ++ drop-list kh hs) _ nowh).0) $
         assigns ! (of_opd ! (load ! (from ! (stop !)) (look ! 1 refl))) (from ! (stop !)) (init ! 7 refl ((Array-Lawful 𝓛 u32 (uint_Lawful 𝓛 w32) 1024).typed ws.1.1.1.1.0 _ nowf).0) $
         assigns ! (of_opd ! (load ! (from ! (stop !)) (look ! 0 refl))) (from ! (stop !)) (init ! 5 refl ((Array-Lawful 𝓛 u8 (uint_Lawful 𝓛 w8) 256).typed (ws.1.1.1.1.1.0 ++ drop-list ku us) _ nowu).0) $
-        gives (fm_of 𝓤 H 𝓛.laws 𝓣) owned-rows.ended (owned-rows.clauses 𝓛 mem run) known-owned-rows (to-owned-rows o ov (ws.1.0 ++ drop-list kr rs) (ws.1.1.0 ++ drop-list ks ss) (ws.1.1.1.0 ++ drop-list kh hs) ws.1.1.1.1.0 (ws.1.1.1.1.1.0 ++ drop-list ku us) nr ns nh nf nu) (λ r. r ≡ ownedRows o (ws.1.0 ++ drop-list kr rs) (ws.1.1.0 ++ drop-list ks ss) (ws.1.1.1.0 ++ drop-list kh hs) ws.1.1.1.1.0 (ws.1.1.1.1.1.0 ++ drop-list ku us)) (λ r e'. id⊢ 𝓤 _) ! (goes-owned-rows o ov (ws.1.0 ++ drop-list kr rs) (ws.1.1.0 ++ drop-list ks ss) (ws.1.1.1.0 ++ drop-list kh hs) ws.1.1.1.1.0 (ws.1.1.1.1.1.0 ++ drop-list ku us) nr ns nh nf nu iso nowr nows nowh nowf nowu)
+        gives (fm_of 𝓤 H 𝓛.laws 𝓣) owned_rows_lem.ended (owned_rows_lem.clauses 𝓛 mem run) known-owned-rows (to-owned-rows o ov (ws.1.0 ++ drop-list kr rs) (ws.1.1.0 ++ drop-list ks ss) (ws.1.1.1.0 ++ drop-list kh hs) ws.1.1.1.1.0 (ws.1.1.1.1.1.0 ++ drop-list ku us) nr ns nh nf nu) (λ r. r ≡ owned_rows o (ws.1.0 ++ drop-list kr rs) (ws.1.1.0 ++ drop-list ks ss) (ws.1.1.1.0 ++ drop-list kh hs) ws.1.1.1.1.0 (ws.1.1.1.1.1.0 ++ drop-list ku us)) (λ r e'. id⊢ 𝓤 _) ! (goes-owned-rows o ov (ws.1.0 ++ drop-list kr rs) (ws.1.1.0 ++ drop-list ks ss) (ws.1.1.1.0 ++ drop-list kh hs) ws.1.1.1.1.0 (ws.1.1.1.1.1.0 ++ drop-list ku us) nr ns nh nf nu iso nowr nows nowh nowf nowu)
         (λ j. and_then ! (load ! (from ! (stop !)) (look ! 36 {τ = Rp'.mir} {v = ov} refl)) (and_then ! (load ! (from ! (stop !)) (look ! 14 refl)) (and_then ! (load ! (from ! (stop !)) (look ! 12 refl)) (and_then ! (load ! (from ! (stop !)) (look ! 10 refl)) (and_then ! (load ! (from ! (stop !)) (look ! 8 refl)) (and_then ! (load ! (from ! (stop !)) (look ! 6 refl)) (no_more !))))))) (λ r v er is.
         drop ! $ land ! (from ! (stop !)) (init ! 62 {τ = Re'.mir} {v = v} refl ((LL.lawful Re.the_type Re'.the_laws 𝓛).typed r _ is).0) $ returns ! (look ! 62 {τ = Re'.mir} {v = v} refl) $ forget ! 62 refl $ forget ! 60 refl $ forget ! 58 refl $ forget ! 56 refl $ forget ! 54 refl $ forget ! 52 refl $ forget ! 50 refl $ forget ! 48 refl $ forget ! 46 refl $ forget ! 44 refl $ forget ! 42 refl $ forget ! 4 refl $ forget ! 3 refl $ forget ! 2 refl $ forget ! 1 refl $ forget ! 0 refl $ forget ! 35 refl $ forget ! 33 refl $ forget ! 31 refl $ forget ! 29 refl $ forget ! 27 refl $ forget ! 25 refl $ forget ! 23 refl $ forget ! 21 refl $ forget ! 19 refl $ forget ! 17 refl $ forget ! 15 refl $ forget ! 13 refl $ forget ! 11 refl $ forget ! 9 refl $ forget ! 7 refl $ forget ! 5 refl $
         move ! (62 ∷ 63 ∷ []) $ free1 ! $ move ! (60 ∷ 61 ∷ []) $ free1 ! $ move ! (58 ∷ 59 ∷ []) $ free1 ! $ move ! (56 ∷ 57 ∷ []) $ free1 ! $ move ! (54 ∷ 55 ∷ []) $ free1 ! $ move ! (52 ∷ 53 ∷ []) $ free1 ! $ move ! (50 ∷ 51 ∷ []) $ free1 ! $ move ! (48 ∷ 49 ∷ []) $ free1 ! $ move ! (46 ∷ 47 ∷ []) $ free1 ! $ move ! (44 ∷ 45 ∷ []) $ free1 ! $ move ! (42 ∷ 43 ∷ []) $ free1 ! $ move ! (4 ∷ 41 ∷ []) $ free1 ! $ move ! (3 ∷ 39 ∷ []) $ free1 ! $ move ! (2 ∷ 37 ∷ []) $ free1 ! $ move ! (1 ∷ 35 ∷ []) $ free1 ! $ move ! (0 ∷ 33 ∷ []) $ free1 ! $ move ! (30 ∷ 31 ∷ []) $ free1 ! $ move ! (28 ∷ 29 ∷ []) $ free1 ! $ move ! (26 ∷ 27 ∷ []) $ free1 ! $ move ! (24 ∷ 25 ∷ []) $ free1 ! $ move ! (22 ∷ 23 ∷ []) $ free1 ! $ move ! (20 ∷ 21 ∷ []) $ free1 ! $ move ! (18 ∷ 19 ∷ []) $ free1 ! $ move ! (16 ∷ 17 ∷ []) $ free1 ! $ move ! (14 ∷ 15 ∷ []) $ free1 ! $ move ! (12 ∷ 13 ∷ []) $ free1 ! $ move ! (10 ∷ 11 ∷ []) $ free1 ! $ move ! (8 ∷ 9 ∷ []) $ free1 ! $ move ! (6 ∷ 7 ∷ []) $ free1 ! $ move ! (4 ∷ 5 ∷ []) $ free1 ! $ move ! (2 ∷ 3 ∷ []) $ free1 ! $ move ! (0 ∷ 1 ∷ []) $ free1 ! $ free0 ! $
-        keep ! (0 ∷ []) $ by ! (exits r v is (opened_rows st rs ss hs fs us kr ks kh ku o ws.1.0 ws.1.1.0 ws.1.1.1.0 ws.1.1.1.1.0 ws.1.1.1.1.1.0 r iss.1.0.1 bound same_s e.0 e.1 er) (opened-words st rs ss hs fs us kr ks kh ku o ws.1.0 ws.1.1.0 ws.1.1.1.0 ws.1.1.1.1.0 ws.1.1.1.1.1.0 r iss.1.0.1 bound same_s e.0 e.1 er)))))))))))))))))))))))))))))))))))))))))))))))))))))))))))))
+        keep ! (0 ∷ []) $ by ! (exits r v is (opened_rows_lem st rs ss hs fs us kr ks kh ku o ws.1.0 ws.1.1.0 ws.1.1.1.0 ws.1.1.1.1.0 ws.1.1.1.1.1.0 r iss.1.0.1 bound same_s e.0 e.1 er) (opened_words st rs ss hs fs us kr ks kh ku o ws.1.0 ws.1.1.0 ws.1.1.1.0 ws.1.1.1.1.0 ws.1.1.1.1.1.0 r iss.1.0.1 bound same_s e.0 e.1 er)))))))))))))))))))))))))))))))))))))))))))))))))))))))))))))
 
-module _ {M : Type 1} {𝓤 : Ura M} (𝓛 : Logic 𝓤) (mem : Memory → SProp 𝓤) (run : Routine → Fun 𝓤) (𝓣 : Tables 𝓤 𝓛.H) (known-opens : Triple 𝓤 (𝓣.C #opens) (met 𝓛 opens.ended (opens.clauses 𝓛 mem run))) (known-owned-rows : Triple 𝓤 (𝓣.C #owned-rows) (met 𝓛 owned-rows.ended (owned-rows.clauses 𝓛 mem run))) where
+module _ {M : Type 1} {𝓤 : Ura M} (𝓛 : Logic 𝓤) (mem : Memory → SProp 𝓤) (run : Routine → Fun 𝓤) (𝓣 : Tables 𝓤 𝓛.H) (known-opens : Triple 𝓤 (𝓣.C #opens) (met 𝓛 opens.ended (opens.clauses 𝓛 mem run))) (known-owned-rows : Triple 𝓤 (𝓣.C #owned-rows) (met 𝓛 owned_rows_lem.ended (owned_rows_lem.clauses 𝓛 mem run))) where
   open 𝓛 use {H}
 
   lend-open-walks : Walks 𝓛 f.ended stayed (WpFn 𝓤 H 𝓣.C 𝓣.Λ code.function) (f.clauses 𝓛 mem run)
@@ -181,4 +181,4 @@ lend-open-spec 𝓤 𝓛 𝓜 𝓡 =
     (tables 𝓤 𝓛.H 𝓜 𝓡 code.env).C (tables 𝓤 𝓛.H 𝓜 𝓡 code.env).Λ #lend-open code.function (code.unfolded 𝓤 𝓛.H 𝓜 𝓡)
     (lend-open-meets 𝓛 𝓜.mem 𝓡.run (tables_of 𝓤 𝓛.H 𝓜 (tables 𝓤 𝓛.H 𝓜 𝓡 code.env))
     (cited 𝓤 𝓛.H (triple_of 𝓛 opens.signature (opens.spec 𝓛 𝓜.mem 𝓡.run)) 𝓜 𝓡 code.env #opens opens-def.routine code.calls-opening::open::open (opens-thm.met 𝓤 𝓛 𝓜 𝓡))
-    (cited 𝓤 𝓛.H (triple_of 𝓛 owned-rows.signature (owned-rows.spec 𝓛 𝓜.mem 𝓡.run)) 𝓜 𝓡 code.env #owned-rows owned-rows-def.routine code.calls-store::store::owned-rows (owned-rows-thm.met 𝓤 𝓛 𝓜 𝓡)))
+    (cited 𝓤 𝓛.H (triple_of 𝓛 owned_rows_lem.signature (owned_rows_lem.spec 𝓛 𝓜.mem 𝓡.run)) 𝓜 𝓡 code.env #owned-rows owned-rows-def.routine code.calls-store::store::owned-rows (owned-rows-thm.met 𝓤 𝓛 𝓜 𝓡)))

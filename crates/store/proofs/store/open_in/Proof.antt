@@ -10,7 +10,7 @@ use Rattle.store.proofs.store.records_lent.Reads as records-lent-reads
 use Rattle.store.proofs.store.slots_lent.Reads as slots-lent-reads
 use Rattle.store.proofs.store.store_opened.Reads as store-opened-reads
 use Rattle.store.proofs.store.words_lent.Reads as words-lent-reads
-use Rattle.store.proofs.StoreCases.{opened-opens, opened_view}
+use Rattle.store.proofs.StoreCases.{opened_opens, opened_view_lem}
 
 records-lent-requires : tie.Need-records-lent-requires
 records-lent-requires c κs = search rules
@@ -35,11 +35,11 @@ returns c =
     let a = c.before.before.before.before.before.before.before.before.before.before.before.before.before in
     let rows = c.before.before.before.lend-open in
     let view =
-    opened_view a.args.store a.args.settings _ _ _ _ _ _ a.well-formed.0 a.requires c.before.before.before.before.before.before.before.before.before.before.before.before.records-lent.ensures c.before.before.before.before.before.before.before.before.before.before.before.slots_lent.ensures
-    c.before.before.before.before.before.before.before.before.before.before.words-lent.ensures c.before.before.before.before.before.before.before.before.before.bytes-lent.ensures rows.ensures.0 rows.ensures.1 c.store-opened.ensures in
+    opened_view_lem a.args.store a.args.settings _ _ _ _ _ _ a.well-formed.0 a.requires c.before.before.before.before.before.before.before.before.before.before.before.before.records_lent_lem.ensures c.before.before.before.before.before.before.before.before.before.before.before.slots_lent.ensures
+    c.before.before.before.before.before.before.before.before.before.before.words_lent_lem.ensures c.before.before.before.before.before.before.before.before.before.bytes_lent_lem.ensures rows.ensures.0 rows.ensures.1 c.store-opened.ensures in
     let opens =
-    opened-opens a.args.store a.args.settings _ _ _ _ _ _ a.well-formed.0 a.requires c.before.before.before.before.before.before.before.before.before.before.before.before.records-lent.ensures c.before.before.before.before.before.before.before.before.before.before.before.slots_lent.ensures
-    c.before.before.before.before.before.before.before.before.before.before.words-lent.ensures c.before.before.before.before.before.before.before.before.before.bytes-lent.ensures rows.ensures.0 rows.ensures.1 c.store-opened.ensures in
+    opened_opens a.args.store a.args.settings _ _ _ _ _ _ a.well-formed.0 a.requires c.before.before.before.before.before.before.before.before.before.before.before.before.records_lent_lem.ensures c.before.before.before.before.before.before.before.before.before.before.before.slots_lent.ensures
+    c.before.before.before.before.before.before.before.before.before.before.words_lent_lem.ensures c.before.before.before.before.before.before.before.before.before.bytes_lent_lem.ensures rows.ensures.0 rows.ensures.1 c.store-opened.ensures in
     (view, opens)
 
 pub open-in-spec : {M : Type 1} → statement M

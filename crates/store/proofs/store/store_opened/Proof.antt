@@ -5,7 +5,7 @@ use Rattle.store.proofs.store.store_opened.Tie as tie
 use Rattle.store.proofs.store.store_opened.Reads as reads
 use Rattle.store.proofs.store.store_opened.Lts as lts
 use Rattle.store.proofs.store.store_after.Reads as store-after-reads
-use Rattle.store.proofs.StoreCases.{accepted-store}
+use Rattle.store.proofs.StoreCases.{accepted_store}
 
 -- src/store.rt:181:25
 enum_told : tie.Need-enum-told
@@ -21,7 +21,7 @@ enum-told-2 c = search rules
 
 -- src/store.rt:177:1
 returns : tie.Need-returns
-returns c = search accepted-store
+returns c = search accepted_store
 
 -- src/store.rt:177:1
 returns-2 : tie.Need-returns-2

@@ -1,8 +1,8 @@
 -- `text::digits::put_digits` meets its contract.
 use mathlib.Core.Path.{◌∙◌}
 use borrow.Author.Rules.{rules}
-use Rattle.text.proofs.DigitCases.{digits-none, digits_low, digits_more}
-use Rattle.text.proofs.TextLaws.{decimal-most}
+use Rattle.text.proofs.DigitCases.{digits_none, digits_low, digits_more}
+use Rattle.text.proofs.TextLaws.{decimal_most}
 use native.Mathlib.Omega.{arith}
 use Prim.Native.Nat.{ℕ, ◌-◌, ◌/◌, ◌<◌}
 use borrow.Fn.Kinds.{In}
@@ -30,7 +30,7 @@ abbrev claims : ℕ → put-digits-lts.Claims
 claims t = (decimal-digit-reads.Asked, decimal-digit-reads.Learnt, put_reads.Asked, put_reads.Learnt, put-digits-below t, put-digits.Post)
 
 put-digits-returns : (t : ℕ) → put-digits-lts.Need-returns (claims t) (put-digits-at t) put-digits.Post
-put-digits-returns t c = let a = c.before.before.args in digits-none a.out.now a.at a.most a.n c.if1.true
+put-digits-returns t c = let a = c.before.before.args in digits_none a.out.now a.at a.most a.n c.if1.true
 
 put-digits-decimal-digit-requires : (t : ℕ) → put-digits-lts.Need-decimal-digit-requires (claims t) (put-digits-at t) put-digits.Post
 put-digits-decimal-digit-requires t c κs = search rules
@@ -61,7 +61,7 @@ put-digits-decimal-digit-requires-2 t c κs = omega arith
 put-digits-put-requires-2 : (t : ℕ) → put-digits-lts.Need-put-requires-2 (claims t) (put-digits-at t) put-digits.Post
 put-digits-put-requires-2 t c κs =
     let a = c.before.before.before.before.before.before.before.before.before.args in
-    omega (arith, decimal-most (a.most - 1) (a.n / 10), c.before.before.before.before.put-digits.ensures.1, c.before.before.before.before.put-digits.auto.0, c.before.before.before.before.before.before.before.before.before.requires.1, c.before.before.before.before.before.before.before.if1.false)
+    omega (arith, decimal_most (a.most - 1) (a.n / 10), c.before.before.before.before.put-digits.ensures.1, c.before.before.before.before.put-digits.auto.0, c.before.before.before.before.before.before.before.before.before.requires.1, c.before.before.before.before.before.before.before.if1.false)
 
 put-digits-same-length-2 : (t : ℕ) → put-digits-lts.Need-same-length-2 (claims t) (put-digits-at t) put-digits.Post
 put-digits-same-length-2 t c = c.before.before.put2.auto.0 ∙ c.before.before.before.before.before.before.before.put-digits.auto.0

@@ -1,6 +1,6 @@
 -- `text::digits::put_hex` meets its contract.
 use mathlib.Core.Path.{◌∙◌}
-use Rattle.text.proofs.DigitCases.{hex-put-none, hex-put-more}
+use Rattle.text.proofs.DigitCases.{hex_put_none, hex_put_more}
 use native.Mathlib.Omega.{arith}
 use Prim.Native.Nat.{ℕ, ◌<◌}
 use borrow.Fn.Kinds.{In}
@@ -26,7 +26,7 @@ abbrev claims : ℕ → put-hex-lts.Claims
 claims t = (put-hex-below t, put-hex.Post, hex-digit-reads.Asked, hex-digit-reads.Learnt, put_reads.Asked, put_reads.Learnt)
 
 put-hex-returns : (t : ℕ) → put-hex-lts.Need-returns (claims t) (put-hex-at t) put-hex.Post
-put-hex-returns t c = let a = c.before.before.args in hex-put-none a.out.now a.at a.digits a.n c.if1.true
+put-hex-returns t c = let a = c.before.before.args in hex_put_none a.out.now a.at a.digits a.n c.if1.true
 
 put-hex-sub-put-hex : (t : ℕ) → put-hex-lts.Need-overflow-sub-put-hex (claims t) (put-hex-at t) put-hex.Post
 put-hex-sub-put-hex t c = omega (arith, c.before.if1.false)
@@ -49,7 +49,7 @@ put-hex-returns-2 t c =
     let p = c.before.before.before.before.before.before.before.put-hex in
     let d = c.before.before.before.hex-digit in
     let q = c.before.before.put in
-    hex-put-more a.out.now p.new.0 q.new.0 a.at a.digits a.n p.result d.result q.result c.before.before.before.before.before.before.before.before.before.before.before.requires.1
+    hex_put_more a.out.now p.new.0 q.new.0 a.at a.digits a.n p.result d.result q.result c.before.before.before.before.before.before.before.before.before.before.before.requires.1
     c.before.before.before.before.before.before.before.before.before.if1.false p.ensures.0 p.ensures.1 d.ensures q.ensures.0 q.ensures.1
 
 pub +put-hex-spec : {M : Type 1} → statement M

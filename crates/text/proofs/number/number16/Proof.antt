@@ -2,7 +2,7 @@
 use mathlib.Core.Path.{refl}
 use Prim.Native.Nat.{◌+◌}
 use native.Mathlib.Omega.{arith}
-use Rattle.text.proofs.NumberLaws.{number-both, number-one}
+use Rattle.text.proofs.NumberLaws.{number_both, number_one}
 use borrow.Author.Rules.{rules}
 use Rattle.text.proofs.number.number16.Statement.{statement}
 use Rattle.text.proofs.number.number16.Tie as tie
@@ -31,7 +31,7 @@ add-result c = let a = c.before.before.args in omega (arith, c.shared-slice-know
 returns : tie.Need-returns
 returns c =
     let a = c.before.before.args in
-    number-both _ a.at 1 1 256 _ _ (omega arith) refl (number-one _ a.at (omega arith)) (number-one _ (a.at + 1) (omega arith))
+    number_both _ a.at 1 1 256 _ _ (omega arith) refl (number_one _ a.at (omega arith)) (number_one _ (a.at + 1) (omega arith))
 
 pub number16-spec : {M : Type 1} → statement M
 number16-spec =

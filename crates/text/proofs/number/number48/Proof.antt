@@ -1,7 +1,7 @@
 -- `text::number::number48` meets its contract.
 use mathlib.Core.Path.{refl}
 use native.Mathlib.Omega.{arith}
-use Rattle.text.proofs.NumberLaws.{number-both}
+use Rattle.text.proofs.NumberLaws.{number_both}
 use borrow.Author.Rules.{rules}
 use Rattle.text.proofs.number.number48.Statement.{statement}
 use Rattle.text.proofs.number.number48.Tie as tie
@@ -28,7 +28,7 @@ add-result : tie.Need-overflow-add-result
 add-result c = search rules
 
 returns : tie.Need-returns
-returns c = number-both _ c.before.before.before.args.at 4 2 4294967296 _ _ (omega arith) refl c.before.number32.ensures c.number16.ensures
+returns c = number_both _ c.before.before.before.args.at 4 2 4294967296 _ _ (omega arith) refl c.before.number32.ensures c.number16.ensures
 
 pub number48-spec : {M : Type 1} → statement M
 number48-spec =

@@ -1,7 +1,7 @@
 -- `text::number::number64` meets its contract.
 use mathlib.Core.Path.{refl}
 use native.Mathlib.Omega.{arith}
-use Rattle.text.proofs.NumberLaws.{number-both}
+use Rattle.text.proofs.NumberLaws.{number_both}
 use borrow.Author.Rules.{rules}
 use Rattle.text.proofs.number.number64.Statement.{statement}
 use Rattle.text.proofs.number.number64.Tie as tie
@@ -28,7 +28,7 @@ add-result : tie.Need-overflow-add-result
 add-result c = search rules
 
 returns : tie.Need-returns
-returns c = number-both _ c.before.before.before.args.at 4 4 4294967296 _ _ (omega arith) refl c.before.number32.ensures c.number322.ensures
+returns c = number_both _ c.before.before.before.args.at 4 4 4294967296 _ _ (omega arith) refl c.before.number32.ensures c.number322.ensures
 
 pub number64-spec : {M : Type 1} → statement M
 number64-spec =

@@ -1,5 +1,5 @@
 -- `token::chunks::need` meets its contract.
-use Rattle.token.proofs.ChunkLaws.{need-two, need-three, need-isochronous, need-bulk, need-interrupt}
+use Rattle.token.proofs.ChunkLaws.{need_two, need_three, need_isochronous, need_bulk, need_interrupt}
 use borrow.Author.Rules.{rules}
 use Rattle.token.proofs.chunks.need.Statement.{statement}
 use Rattle.token.proofs.chunks.need.Tie as tie
@@ -26,19 +26,19 @@ chunk-count-requires-3 : tie.Need-chunk-count-requires-3
 chunk-count-requires-3 c κs = search rules
 
 returns : tie.Need-returns
-returns c = search need-two
+returns c = search need_two
 
 returns-2 : tie.Need-returns-2
-returns-2 c = search need-three
+returns-2 c = search need_three
 
 returns-3 : tie.Need-returns-3
-returns-3 c = search need-isochronous
+returns-3 c = search need_isochronous
 
 returns-4 : tie.Need-returns-4
-returns-4 c = search need-bulk
+returns-4 c = search need_bulk
 
 returns-5 : tie.Need-returns-5
-returns-5 c = search need-interrupt
+returns-5 c = search need_interrupt
 
 pub need-spec : {M : Type 1} → statement M
 need-spec =

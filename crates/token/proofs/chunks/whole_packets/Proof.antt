@@ -1,17 +1,17 @@
 -- `token::chunks::whole_packets` meets its contract.
-use Rattle.token.proofs.LimitLaws.{none-whole, rest-within}
+use Rattle.token.proofs.LimitLaws.{none_whole, rest_within}
 use borrow.Author.Rules.{rules}
 use Rattle.token.proofs.chunks.whole_packets.Statement.{statement}
 use Rattle.token.proofs.chunks.whole_packets.Tie as tie
 
 returns : tie.Need-returns
-returns c = search none-whole
+returns c = search none_whole
 
 rem-result : tie.Need-nonzero-rem-result
 rem-result c = search rules
 
 sub-result : tie.Need-overflow-sub-result
-sub-result c = search rest-within
+sub-result c = search rest_within
 
 returns-2 : tie.Need-returns-2
 returns-2 c = search rules

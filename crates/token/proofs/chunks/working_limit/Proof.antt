@@ -1,5 +1,5 @@
 -- `token::chunks::working_limit` meets its contract.
-use Rattle.token.proofs.LimitLaws.{limit-control, limit-isochronous, limit-bulk, limit-interrupt}
+use Rattle.token.proofs.LimitLaws.{limit_control, limit_isochronous, limit_bulk, limit_interrupt}
 use borrow.Author.Rules.{rules}
 use Rattle.token.proofs.chunks.working_limit.Statement.{statement}
 use Rattle.token.proofs.chunks.working_limit.Tie as tie
@@ -26,16 +26,16 @@ whole-packets-requires-3 : tie.Need-whole-packets-requires-3
 whole-packets-requires-3 c κs = search rules
 
 returns : tie.Need-returns
-returns c = search limit-control
+returns c = search limit_control
 
 returns-2 : tie.Need-returns-2
-returns-2 c = search limit-isochronous
+returns-2 c = search limit_isochronous
 
 returns-3 : tie.Need-returns-3
-returns-3 c = search limit-bulk
+returns-3 c = search limit_bulk
 
 returns-4 : tie.Need-returns-4
-returns-4 c = search limit-interrupt
+returns-4 c = search limit_interrupt
 
 pub working-limit-spec : {M : Type 1} → statement M
 working-limit-spec =

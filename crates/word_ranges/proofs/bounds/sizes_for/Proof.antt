@@ -1,6 +1,6 @@
 -- `word_ranges::bounds::sizes_for` meets its contract.
 use borrow.Author.Rules.{rules}
-use Rattle.word_ranges.specs.Bounds.{sizesOf}
+use Rattle.word_ranges.specs.Bounds.{sizes_of}
 use Rattle.word_ranges.proofs.bounds.sizes_for.Statement.{statement}
 use Rattle.word_ranges.proofs.bounds.sizes_for.Tie as tie
 
@@ -14,7 +14,7 @@ cast-most : tie.Need-overflow-cast-most
 cast-most c = search rules
 
 returns : tie.Need-returns
-unfolding sizesOf
+unfolding sizes_of
 returns c = rw c.least.ensures
 
 pub sizes-for-spec : {M : Type 1} → statement M

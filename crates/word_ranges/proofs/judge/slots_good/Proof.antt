@@ -2,15 +2,15 @@
 use Rattle.core.specs.Prelude.{◌≡◌, ◌-◌, ◌*◌, ◌/◌, ◌≤◌}
 use native.Mathlib.Omega.{arith}
 use borrow.Author.Rules.{rules}
-use Rattle.word_ranges.specs.Seen.{seenFrom}
-use Rattle.word_ranges.proofs.JudgeCases.{seen_done, seen_start, seen-turn}
+use Rattle.word_ranges.specs.Seen.{seen_from}
+use Rattle.word_ranges.proofs.JudgeCases.{seen_done, seen_start, seen_turn}
 use Rattle.word_ranges.proofs.judge.slots_good.Statement.{statement}
 use Rattle.word_ranges.proofs.judge.slots_good.Tie as tie
 
 abbrev invariant-loop : tie.invariant-loop
 invariant-loop slots endpoints descriptors limit unanswered bounds sizes s₀ end at₀ s at =
     (at ≡ 6 * (at / 6)) × (at ≤ 6 * endpoints)
-    × (seenFrom slots limit unanswered (at / 6) (endpoints - at / 6) s ≡ seenFrom slots limit unanswered 0 endpoints s₀)
+    × (seen_from slots limit unanswered (at / 6) (endpoints - at / 6) s ≡ seen_from slots limit unanswered 0 endpoints s₀)
 
 abbrev decreases-loop : tie.decreases-loop
 decreases-loop slots endpoints descriptors limit unanswered bounds sizes s₀ end at₀ s at = 6 * endpoints - at
@@ -113,7 +113,7 @@ loop-again c =
     let l = c.before.before.before.before.before.before.before.before.loop in (
       omega arith,
       omega arith,
-      seen-turn _ _ _ _ _ _ l.at l.s _ _ l.invariant.0 (omega arith) c.before.before.before.before.before.before.before.before.before.before.before.bounds-for.ensures
+      seen_turn _ _ _ _ _ _ l.at l.s _ _ l.invariant.0 (omega arith) c.before.before.before.before.before.before.before.before.before.before.before.bounds-for.ensures
           c.before.before.before.before.before.before.before.before.before.before.sizes-for.ensures c.see-slot.ensures l.invariant.2,
     )
 

@@ -1,6 +1,6 @@
 -- `word_ranges::scalars::scalars_good` meets its contract.
 use borrow.Author.Rules.{rules}
-use Rattle.word_ranges.proofs.ScalarCases.{core-scalars}
+use Rattle.word_ranges.proofs.ScalarCases.{core_scalars}
 use Rattle.word_ranges.proofs.scalars.scalars_good.Statement.{statement}
 use Rattle.word_ranges.proofs.scalars.scalars_good.Tie as tie
 
@@ -14,7 +14,7 @@ doorbell-good-requires : tie.Need-doorbell-good-requires
 doorbell-good-requires c κs = search rules
 
 returns : tie.Need-returns
-returns c = search core-scalars
+returns c = search core_scalars
 
 pub scalars-good-spec : {M : Type 1} → statement M
 scalars-good-spec =

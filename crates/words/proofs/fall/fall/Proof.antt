@@ -4,19 +4,19 @@ use mathlib.Core.Path.{◌≡◌, refl, ap, ◌∙◌}
 use native.Mathlib.Omega.{arith}
 use borrow.Author.Rules.{rules}
 use lib.ListN.{length, length-set}
-use Rattle.words.specs.Record.{fallTo}
-use Rattle.words.proofs.FallLaws.{fall-turn}
+use Rattle.words.specs.Record.{fall_to}
+use Rattle.words.proofs.FallLaws.{fall_turn}
 use Rattle.words.proofs.fall.fall.Statement.{statement}
 use Rattle.words.proofs.fall.fall.Tie as tie
 
 abbrev invariant-loop : tie.invariant-loop
-invariant-loop slots₀ endpoints end k₀ slots k = (length slots ≡ length slots₀) × (k ≤ end) × (slots ≡ fallTo slots₀ k)
+invariant-loop slots₀ endpoints end k₀ slots k = (length slots ≡ length slots₀) × (k ≤ end) × (slots ≡ fall_to slots₀ k)
 
 abbrev decreases-loop : tie.decreases-loop
 decreases-loop slots₀ endpoints end k₀ slots k = end - k
 
 loop-holds : tie.Need-loop-init invariant-loop decreases-loop
-unfolding fallTo
+unfolding fall_to
 loop-holds c = (refl, omega arith, refl)
 
 mul_at : tie.Need-overflow-mul-at invariant-loop decreases-loop
@@ -46,7 +46,7 @@ loop-less c = search rules
 loop-again : tie.Need-loop-preserved invariant-loop decreases-loop
 loop-again c =
     let l = c.before.before.before.loop in
-    (simp length-set l.invariant.0, omega arith, fall-turn _ _ _ _ l.invariant.2 c.fallen-word.ensures)
+    (simp length-set l.invariant.0, omega arith, fall_turn _ _ _ _ l.invariant.2 c.fallen-word.ensures)
 
 same_length : tie.Need-same-length invariant-loop decreases-loop
 same_length c = c.before.loop.invariant.0
@@ -54,7 +54,7 @@ same_length c = c.before.loop.invariant.0
 returns : tie.Need-returns invariant-loop decreases-loop
 returns c =
     let done : c.before.loop.k ≡ c.before.before.before.args.endpoints = omega arith in
-    c.before.loop.invariant.2 ∙ ap (fallTo c.before.before.before.args.slots.now) done
+    c.before.loop.invariant.2 ∙ ap (fall_to c.before.before.before.args.slots.now) done
 
 pub fall-spec : {M : Type 1} → statement M
 fall-spec =

@@ -1,5 +1,5 @@
 -- `words::record::slot_in` meets its contract.
-use Rattle.words.proofs.RecordCases.{slot-parts}
+use Rattle.words.proofs.RecordCases.{slot_parts}
 use borrow.Author.Rules.{rules}
 use Rattle.words.proofs.record.slot_in.Statement.{statement}
 use Rattle.words.proofs.record.slot_in.Tie as tie
@@ -35,7 +35,7 @@ cast-t26 : tie.Need-overflow-cast-t26
 cast-t26 c = search rules
 
 returns : tie.Need-returns
-returns c = search slot-parts
+returns c = search slot_parts
 
 pub slot-in-spec : {M : Type 1} → statement M
 slot-in-spec =

@@ -1,7 +1,7 @@
 -- `words::row::last_at` meets its contract.
 use native.Mathlib.Omega.{arith}
 use mathlib.Core.Path.{sym}
-use Rattle.words.proofs.RowLaws.{last-beyond}
+use Rattle.words.proofs.RowLaws.{last_beyond}
 use borrow.Author.Rules.{rules}
 use Rattle.words.proofs.row.last_at.Statement.{statement}
 use Rattle.words.proofs.row.last_at.Tie as tie
@@ -24,7 +24,7 @@ returns c = search rules
 returns-2 : tie.Need-returns-2
 returns-2 c =
     let a = c.before.args in
-    sym (last-beyond a.slots.now a.k (omega arith))
+    sym (last_beyond a.slots.now a.k (omega arith))
 
 pub last-at-spec : {M : Type 1} → statement M
 last-at-spec =

@@ -1,5 +1,5 @@
 -- `words::row::places_at` meets its contract.
-use Rattle.words.proofs.RowLaws.{parts-read}
+use Rattle.words.proofs.RowLaws.{parts_read}
 use borrow.Author.Rules.{rules}
 use Rattle.words.proofs.row.places_at.Statement.{statement}
 use Rattle.words.proofs.row.places_at.Tie as tie
@@ -46,7 +46,7 @@ shared-slice-read-t18 c = search rules
 returns : tie.Need-returns
 returns c =
     let a = c.before.before.before.before.args in
-    parts-read a.slots.now a.k
+    parts_read a.slots.now a.k
 
 pub places-at-spec : {M : Type 1} → statement M
 places-at-spec =

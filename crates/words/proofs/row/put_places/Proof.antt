@@ -1,7 +1,7 @@
 -- `words::row::put_places` meets its contract.
 use native.Mathlib.Omega.{arith}
 use lib.ListN.{length-set}
-use Rattle.words.proofs.RowLaws.{parts-written}
+use Rattle.words.proofs.RowLaws.{parts_written}
 use borrow.Author.Rules.{rules}
 use Rattle.words.proofs.row.put_places.Statement.{statement}
 use Rattle.words.proofs.row.put_places.Tie as tie
@@ -61,7 +61,7 @@ same_length : tie.Need-same-length
 same_length c = search rules
 
 returns : tie.Need-returns
-returns c = parts-written _ _ _
+returns c = parts_written _ _ _
 
 pub put-places-spec : {M : Type 1} → statement M
 put-places-spec =

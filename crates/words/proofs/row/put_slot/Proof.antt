@@ -1,7 +1,7 @@
 -- `words::row::put_slot` meets its contract.
 use native.Mathlib.Omega.{arith}
 use lib.ListN.{length-set}
-use Rattle.words.specs.Record.{putSlot}
+use Rattle.words.specs.Record.{put_slot}
 use borrow.Author.Rules.{rules}
 use Rattle.words.proofs.row.put_slot.Statement.{statement}
 use Rattle.words.proofs.row.put_slot.Tie as tie
@@ -34,7 +34,7 @@ same_length : tie.Need-same-length
 same_length c = search rules
 
 returns : tie.Need-returns
-unfolding putSlot
+unfolding put_slot
 returns c = rw (c.last_of.ensures, c.before.word_of.ensures)
 
 pub put-slot-spec : {M : Type 1} → statement M

@@ -13,7 +13,7 @@ slot-in-requires : tie.Need-slot-in-requires
 slot-in-requires c κs = search rules
 
 returns : tie.Need-returns
-returns c = rw (c.slot-in.ensures, c.before.before.word_at.ensures, c.before.last-at.ensures)
+returns c = rw (c.slot_in_lem.ensures, c.before.before.word_at.ensures, c.before.last-at.ensures)
 
 pub slot-at-spec : {M : Type 1} → statement M
 slot-at-spec = tie.close (tie.spec word-at-requires last-at-requires slot-in-requires returns)

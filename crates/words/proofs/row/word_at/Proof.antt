@@ -1,7 +1,7 @@
 -- `words::row::word_at` meets its contract.
 use native.Mathlib.Omega.{arith}
 use mathlib.Core.Path.{sym}
-use Rattle.words.proofs.RowLaws.{word-beyond}
+use Rattle.words.proofs.RowLaws.{word_beyond}
 use borrow.Author.Rules.{rules}
 use Rattle.words.proofs.row.word_at.Statement.{statement}
 use Rattle.words.proofs.row.word_at.Tie as tie
@@ -21,7 +21,7 @@ returns c = search rules
 returns-2 : tie.Need-returns-2
 returns-2 c =
     let a = c.before.args in
-    sym (word-beyond a.slots.now a.k (omega arith))
+    sym (word_beyond a.slots.now a.k (omega arith))
 
 pub word-at-spec : {M : Type 1} → statement M
 word-at-spec = tie.close (tie.spec mul_at mul-result shared-slice-read-result returns returns-2)

@@ -1,5 +1,5 @@
 -- `descriptor::head::QueueHead::words` meets its contract.
-use Rattle.descriptor.proofs.HeadCases.{head-words}
+use Rattle.descriptor.proofs.HeadCases.{head_words}
 use borrow.Author.Rules.{rules}
 use Rattle.descriptor.proofs.head.QueueHead.words.Statement.{statement}
 use Rattle.descriptor.proofs.head.QueueHead.words.Tie as tie
@@ -35,7 +35,7 @@ array-read-t34 : tie.Need-array-read-t34
 array-read-t34 c = search rules
 
 returns : tie.Need-returns
-returns c = head-words c.before.before.before.args.self (search rules) (search rules)
+returns c = head_words c.before.before.before.args.self (search rules) (search rules)
 
 pub words-spec : {M : Type 1} → statement M
 words-spec =

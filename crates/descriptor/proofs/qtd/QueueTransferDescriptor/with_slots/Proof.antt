@@ -1,11 +1,11 @@
 -- `descriptor::qtd::QueueTransferDescriptor::with_slots` meets its contract.
 use mathlib.Core.Path.{refl}
-use Rattle.descriptor.specs.Descriptors.{qtdWith}
+use Rattle.descriptor.specs.Descriptors.{qtd_with}
 use Rattle.descriptor.proofs.qtd.QueueTransferDescriptor.with_slots.Statement.{statement}
 use Rattle.descriptor.proofs.qtd.QueueTransferDescriptor.with_slots.Tie as tie
 
 returns : tie.Need-returns
-unfolding qtdWith
+unfolding qtd_with
 returns c = refl
 
 pub with_slots_spec : {M : Type 1} → statement M

@@ -1,11 +1,11 @@
 -- `opening::hub::EhciRootHub::new` meets its contract.
-use Rattle.opening.specs.Hub.{openedHub}
+use Rattle.opening.specs.Hub.{opened_hub}
 use mathlib.Core.Path.{refl}
 use Rattle.opening.proofs.hub.EhciRootHub.new.Statement.{statement}
 use Rattle.opening.proofs.hub.EhciRootHub.new.Tie as tie
 
 returns : tie.Need-returns
-unfolding openedHub
+unfolding opened_hub
 returns c = refl
 
 pub new_spec : {M : Type 1} → statement M

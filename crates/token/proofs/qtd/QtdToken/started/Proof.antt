@@ -1,5 +1,5 @@
 -- `token::qtd::QtdToken::started` meets its contract.
-use Rattle.token.proofs.TokenLaws.{started-case}
+use Rattle.token.proofs.TokenLaws.{started_case}
 use borrow.Author.Rules.{rules}
 use Rattle.token.proofs.qtd.QtdToken.started.Statement.{statement}
 use Rattle.token.proofs.qtd.QtdToken.started.Tie as tie
@@ -20,7 +20,7 @@ with-data-toggle-requires : tie.Need-with-data-toggle-requires
 with-data-toggle-requires c κs = search rules
 
 returns : tie.Need-returns
-returns c = search started-case
+returns c = search started_case
 
 pub started-spec : {M : Type 1} → statement M
 started-spec =

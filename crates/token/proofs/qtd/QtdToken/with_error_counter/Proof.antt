@@ -1,5 +1,5 @@
 -- `token::qtd::QtdToken::with_error_counter` meets its contract.
-use Rattle.token.proofs.TokenLaws.{counter-case}
+use Rattle.token.proofs.TokenLaws.{counter_case}
 use borrow.Author.Rules.{rules}
 use Rattle.token.proofs.qtd.QtdToken.with_error_counter.Statement.{statement}
 use Rattle.token.proofs.qtd.QtdToken.with_error_counter.Tie as tie
@@ -17,7 +17,7 @@ with-bits-requires : tie.Need-with-bits-requires
 with-bits-requires c κs = search rules
 
 returns : tie.Need-returns
-returns c = search (rules, counter-case)
+returns c = search (rules, counter_case)
 
 pub with-error-counter-spec : {M : Type 1} → statement M
 with-error-counter-spec =
