@@ -1,4 +1,6 @@
 // The border that bench/ measures over: opening and the seventeen calls, each exported for C over plain numbers.
+#![tactic(auto)]
+
 pub mod bringing_up;
 pub mod endpoints;
 pub mod interrupts;

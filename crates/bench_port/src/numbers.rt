@@ -13,7 +13,7 @@ pub const NO_REGISTER: u64 = 0x1_0000_0000;
 // `value` is what goes with the number, 0 where nothing does; `other` is what goes with it besides. Of bring-up they are the register to read
 // next and the wait before it, of a complete collect the length and how many descriptors were retried.
 #[repr(C)]
-#[derive(Drop)]
+#[derive(Clone, Copy)]
 pub struct Replied {
     pub rest: Rest,
     pub number: u8,

@@ -10,7 +10,7 @@ use settings::settings::Settings;
 use words::core::Core;
 
 #[repr(C)]
-#[derive(Drop)]
+#[derive(Clone, Copy)]
 pub struct PortOpened {
     pub core: Core,
     pub hub: EhciRootHub,

@@ -6,7 +6,7 @@ use controller::readers::request_places;
 
 // Bit i of word j is place 64 j + i.
 #[repr(C)]
-#[derive(Drop)]
+#[derive(Clone, Copy)]
 pub struct PortPlaces {
     pub words: [u64; 4],
 }

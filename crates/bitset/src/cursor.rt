@@ -6,7 +6,7 @@ ghost use Rattle.bitset.specs.Rest.{rest_of, coming_of, next_of, settled_of, cur
 use crate::word::{drop_lowest, lowest};
 
 // The word that is looked at, the place of its lowest bit, and the words after it. A byte holds every base, so no sum wraps.
-#[derive(Drop)]
+#[derive(Clone, Copy)]
 pub struct Cursor {
     pub base: u8,
     pub word: u64,

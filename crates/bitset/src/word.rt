@@ -5,7 +5,7 @@ ghost use Rattle.std.specs.Int.Count.{ones, count_trailing_zeros};
 ghost use Rattle.bitset.specs.Words.{drop_bits, part_of, ones_below, cleared_of};
 
 // Bits that were taken from a word, and how many are still wanted.
-#[derive(Drop)]
+#[derive(Clone, Copy)]
 pub struct Part {
     pub taken: u64,
     pub left: u64,

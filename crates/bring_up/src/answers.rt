@@ -5,7 +5,7 @@ use register::writes::Writes;
 use words::core::Rest;
 
 // Its writes, then the milliseconds to wait, then the register to read.
-#[derive(Drop)]
+#[derive(Clone, Copy)]
 pub struct BroughtUp {
     pub answer: Answer,
     pub rest: Rest,

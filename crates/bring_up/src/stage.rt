@@ -36,7 +36,7 @@ pub const STATUS: u32 = USBSTS_USBINT
 pub const SETTLE_MS: u32 = 100;
 
 // What the reading of a step is for.
-#[derive(Drop)]
+#[derive(Clone, Copy)]
 pub enum Stage {
     Stop,
     Halting,
@@ -47,7 +47,7 @@ pub enum Stage {
 }
 
 // What a ready reading leads to.
-#[derive(Drop)]
+#[derive(Clone, Copy)]
 pub struct Moved {
     pub running: u8,
     pub step: u8,

@@ -21,7 +21,7 @@ use text::digits::put;
 use words::core::Core;
 
 // The rows and the ports' states, before a call or after it.
-#[derive(Drop)]
+#[derive(Clone, Copy)]
 pub struct Rows {
     pub pool: [QueueTransferDescriptor; 257],
     pub heads: [u32; 561],

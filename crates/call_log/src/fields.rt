@@ -6,7 +6,7 @@ use text::number::number64;
 
 pub const RECORD: usize = 64;
 
-#[derive(Drop)]
+#[derive(Clone, Copy)]
 pub struct Fields {
     pub number: u8,
     pub b1: u8,

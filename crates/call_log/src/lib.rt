@@ -1,4 +1,6 @@
 // A log of calls: a record of 64 bytes is a call, and what it did is a block of lines.
+#![tactic(auto)]
+
 pub mod block;
 pub mod call_line;
 pub mod fields;

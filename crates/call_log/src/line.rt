@@ -9,7 +9,7 @@ use text::digits::{put, put_decimal, put_hex};
 pub const PARTS: usize = 14;
 
 // Each after a space but `Joined`, which goes on with the bytes before it.
-#[derive(Drop)]
+#[derive(Clone, Copy)]
 pub enum Part {
     Decimal(u64),
     Word(u32),
@@ -18,12 +18,12 @@ pub enum Part {
     Dash,
 }
 
-#[derive(Drop)]
+#[derive(Clone, Copy)]
 pub struct Cell {
     pub part: Part,
 }
 
-#[derive(Drop)]
+#[derive(Clone, Copy)]
 pub struct Line {
     pub letter: u8,
     pub count: usize,

@@ -178,7 +178,7 @@ pub fn setup_line(slot: u64, b0: u8, b1: u8, b2: u8, b3: u8, b4: u8, b5: u8, b6:
 }
 
 // What the log shows of a controller.
-#[derive(Drop)]
+#[derive(Clone, Copy)]
 pub struct Seen {
     pub running: u8,
     pub flag: u8,

@@ -37,7 +37,7 @@ const SIZE_END: u64 = 0x1_0000;
 
 const SETUP_END: u64 = 0x1_0000_0000_0000;
 
-#[derive(Drop)]
+#[derive(Clone, Copy)]
 pub enum Entry {
     Open(Settings),
     Call(Call),

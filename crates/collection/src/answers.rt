@@ -8,14 +8,14 @@ use register::writes::Writes;
 use words::core::Rest;
 
 // What a cancel leaves, and an unlink.
-#[derive(Drop)]
+#[derive(Clone, Copy)]
 pub struct Cancellation {
     pub answer: Answer,
     pub rest: Rest,
     pub writes: Writes,
 }
 
-#[derive(Drop)]
+#[derive(Clone, Copy)]
 pub struct Collection {
     pub answer: Collected,
     pub rest: Rest,

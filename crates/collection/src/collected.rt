@@ -5,7 +5,7 @@ ghost use Rattle.collection.specs.Answers.{collected_number, pending_of, outcome
 use common::answer::{Answer, Refusal};
 use pool::chain::View;
 
-#[derive(Drop)]
+#[derive(Clone, Copy)]
 pub enum Collected {
     // How many descriptors went through only in a retry, and how many bytes were moved: the short field first takes no room of its own.
     Complete(u16, u64),

@@ -1,4 +1,6 @@
 // Cancelling a request, looking at it, and collecting it.
+#![tactic(auto)]
+
 pub mod answers;
 pub mod apart;
 pub mod ask;

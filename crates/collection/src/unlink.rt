@@ -23,7 +23,7 @@ use schedule::links::{Predecessor, detach, head_address};
 use words::core::Core;
 
 // The boundary of a request that is unlinked, and the doorbell then.
-#[derive(Drop)]
+#[derive(Clone, Copy)]
 pub struct Bounded {
     pub boundary: UnlinkBoundary,
     pub rung: Rung,

@@ -5,7 +5,7 @@ ghost use Rattle.common.specs.Kinds.{is_control, is_isochronous, is_interrupt};
 // The last of the kinds, numbered from 0 in this order.
 pub const KIND_MAX: u8 = 3;
 
-#[derive(Drop)]
+#[derive(Clone, Copy)]
 pub enum EndpointType {
     Control,
     Isochronous,
@@ -13,7 +13,7 @@ pub enum EndpointType {
     Interrupt,
 }
 
-#[derive(Drop)]
+#[derive(Clone, Copy)]
 pub enum Direction {
     Out,
     In,

@@ -1,5 +1,5 @@
 // The register that a step machine wants read for its next step.
-#[derive(Drop)]
+#[derive(Clone, Copy)]
 pub enum NextRead {
     // It has come to its end, or none is begun.
     Nothing,

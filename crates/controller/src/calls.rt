@@ -8,13 +8,13 @@ ghost use Rattle.controller.specs.Words.{allotted_view};
 use common::answer::Refusal;
 use words::core::{Core, Rest};
 
-#[derive(Drop)]
+#[derive(Clone, Copy)]
 pub enum Allotted {
     Address(u8),
     Refused(Refusal),
 }
 
-#[derive(Drop)]
+#[derive(Clone, Copy)]
 pub struct Allotment {
     pub answer: Allotted,
     pub rest: Rest,

@@ -2,7 +2,7 @@
 
 // USBCMD, FRINDEX and the token in the overlay of the slot's head, as they were read for the call. A call looks at those that it needs; only a
 // collect needs the last.
-#[derive(Drop)]
+#[derive(Clone, Copy)]
 pub struct Readings {
     pub command: u32,
     pub frame: u32,

@@ -38,7 +38,7 @@ const PACKET_SIZE_MASK: u32 = 0x7ff << 16;
 const MULTIPLIER: u32 = 1 << 30;
 
 #[repr(C)]
-#[derive(Drop)]
+#[derive(Clone, Copy)]
 pub struct QueueHead {
     pub link: u32,
     pub characteristics: u32,

@@ -9,7 +9,7 @@ use token::qtd::QtdToken;
 pub const EHCI_LINK_TERMINATE: u32 = 1;
 
 #[repr(C)]
-#[derive(Drop)]
+#[derive(Clone, Copy)]
 pub struct QueueTransferDescriptor {
     pub next: u32,
     pub alternate: u32,
@@ -19,7 +19,7 @@ pub struct QueueTransferDescriptor {
 }
 
 // Where a chain goes on.
-#[derive(Drop)]
+#[derive(Clone, Copy)]
 pub enum NextQtd {
     Terminate,
     At(u32),

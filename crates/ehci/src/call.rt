@@ -4,7 +4,7 @@ use controller::lent::Readings;
 use request::judge::TransferRequest;
 
 // The parameters of a new endpoint.
-#[derive(Drop)]
+#[derive(Clone, Copy)]
 pub struct EndpointFields {
     pub kind: EndpointType,
     pub address: u8,
@@ -13,7 +13,7 @@ pub struct EndpointFields {
 }
 
 // USBSTS and USBINTR as read, and the interrupt flag as read before and after the first write of USBINTR.
-#[derive(Drop)]
+#[derive(Clone, Copy)]
 pub struct InterruptReadings {
     pub status: u32,
     pub interrupts: u32,
@@ -22,7 +22,7 @@ pub struct InterruptReadings {
 }
 
 // A slot is the first number of a call that has one, an id its second.
-#[derive(Drop)]
+#[derive(Clone, Copy)]
 pub enum Call {
     StartBringUp,
     BringUpStep(u32),

@@ -11,14 +11,14 @@ use pool::asked::{AskWords, no_ask_words};
 use word_ranges::judge::words_good;
 use words::core::Core;
 
-#[derive(Drop)]
+#[derive(Clone, Copy)]
 pub struct Looked {
     pub good: bool,
     pub ask: AskWords,
 }
 
 // The lengths of the rows that are lent besides the slots.
-#[derive(Drop)]
+#[derive(Clone, Copy)]
 pub struct Lent {
     pub pool: usize,
     pub heads: usize,

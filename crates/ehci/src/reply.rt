@@ -18,7 +18,7 @@ use request::answers::Submission;
 use words::core::Rest;
 
 // What a drain came to.
-#[derive(Drop)]
+#[derive(Clone, Copy)]
 pub enum Event {
     Nothing,
     PortChange,
@@ -27,7 +27,7 @@ pub enum Event {
 }
 
 // What goes with the number 0.
-#[derive(Drop)]
+#[derive(Clone, Copy)]
 pub enum Given {
     Nothing,
     Slot(u8),
@@ -44,7 +44,7 @@ pub enum Given {
     Next(NextRead, u32),
 }
 
-#[derive(Drop)]
+#[derive(Clone, Copy)]
 pub enum Answered {
     Done(Given),
     Pending,
@@ -67,7 +67,7 @@ impl Answered {
     }
 }
 
-#[derive(Drop)]
+#[derive(Clone, Copy)]
 pub struct Reply {
     pub rest: Rest,
     pub answer: Answered,
@@ -75,7 +75,7 @@ pub struct Reply {
 }
 
 // What is decided before the pool is written: the reply, and what to write.
-#[derive(Drop)]
+#[derive(Clone, Copy)]
 pub struct Decided {
     pub reply: Reply,
     pub writing: Writing,

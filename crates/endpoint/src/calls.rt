@@ -20,20 +20,20 @@ use pipe::endpoints::{Endpoint, Pipe, with_toggle};
 use pipe::slots::{pipe_at, put_endpoint};
 use words::core::{Core, Rest};
 
-#[derive(Drop)]
+#[derive(Clone, Copy)]
 pub enum Opened {
     Slot(u8),
     Refused(Refusal),
 }
 
-#[derive(Drop)]
+#[derive(Clone, Copy)]
 pub struct EndpointOpening {
     pub answer: Opened,
     pub rest: Rest,
 }
 
 // What close, set address, set packet size and clear-halt leave.
-#[derive(Drop)]
+#[derive(Clone, Copy)]
 pub struct Change {
     pub answer: Answer,
     pub rest: Rest,

@@ -3,14 +3,14 @@ use common::answer::{Answer, Refusal};
 use register::writes::Writes;
 use words::core::Rest;
 
-#[derive(Drop)]
+#[derive(Clone, Copy)]
 pub enum Acknowledged {
     No,
     Yes,
     Refused(Refusal),
 }
 
-#[derive(Drop)]
+#[derive(Clone, Copy)]
 pub enum Drained {
     Nothing,
     PortChange,
@@ -19,14 +19,14 @@ pub enum Drained {
     Refused(Refusal),
 }
 
-#[derive(Drop)]
+#[derive(Clone, Copy)]
 pub struct Acknowledgement {
     pub answer: Acknowledged,
     pub rest: Rest,
     pub writes: Writes,
 }
 
-#[derive(Drop)]
+#[derive(Clone, Copy)]
 pub struct Drainage {
     pub answer: Drained,
     pub rest: Rest,
@@ -34,7 +34,7 @@ pub struct Drainage {
 }
 
 // What rearm, enable and disable leave.
-#[derive(Drop)]
+#[derive(Clone, Copy)]
 pub struct Settled {
     pub answer: Answer,
     pub rest: Rest,

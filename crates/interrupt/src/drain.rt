@@ -18,13 +18,13 @@ use words::fall::fall;
 pub const ACTIVITY: u32 = USBSTS_USBINT | USBSTS_USBERRINT | USBSTS_INTERRUPT_ASYNC_ADVANCE;
 
 // What a drain takes of what is pending, and what it leaves.
-#[derive(Drop)]
+#[derive(Clone, Copy)]
 pub struct Cleared {
     pub event: Drained,
     pub left: u32,
 }
 
-#[derive(Drop)]
+#[derive(Clone, Copy)]
 pub struct Counted {
     pub rest: Rest,
     pub writes: Writes,

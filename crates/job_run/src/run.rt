@@ -34,7 +34,7 @@ use store::store::{Store, call_on};
 pub const NO_SLOT: u8 = 255;
 
 // For each record the answer and the slot, NO_SLOT where none was opened; for each request the answer and the id.
-#[derive(Drop)]
+#[derive(Clone, Copy)]
 pub struct Ran {
     pub store: Store,
     pub opened: [u8; 8],

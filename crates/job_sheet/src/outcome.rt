@@ -18,7 +18,7 @@ use descriptor::qtd::QueueTransferDescriptor;
 
 // For each endpoint record the answer and its slot (255 where none was opened), for each request the answer and id, and
 // the pool at the end with each place's owner (slot + 1).
-#[derive(Drop)]
+#[derive(Clone, Copy)]
 pub struct Outcome {
     pub opened: [u8; 8],
     pub slots: [u8; 8],

@@ -5,7 +5,7 @@ ghost use Rattle.job_sheet.specs.Reading.{endpoint_at, endpoint_fits, request_at
 use common::kinds::KIND_MAX;
 use text::number::{number16, number32, number48, number64};
 
-#[derive(Drop)]
+#[derive(Clone, Copy)]
 pub struct EndpointRecord {
     pub kind: u8,
     pub address: u8,
@@ -14,7 +14,7 @@ pub struct EndpointRecord {
 }
 
 // The six setup bytes are one number, byte 0 lowest.
-#[derive(Drop)]
+#[derive(Clone, Copy)]
 pub struct RequestRecord {
     pub endpoint: u8,
     pub direction: u8,

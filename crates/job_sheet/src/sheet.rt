@@ -15,7 +15,7 @@ use crate::record::{
 use text::number::number16;
 
 // The first so many records of each kind; the others are 0.
-#[derive(Drop)]
+#[derive(Clone, Copy)]
 pub struct Job {
     pub opens: usize,
     pub endpoints: [EndpointRecord; 8],
@@ -24,27 +24,27 @@ pub struct Job {
 }
 
 // A bad sheet has the empty job.
-#[derive(Drop)]
+#[derive(Clone, Copy)]
 pub struct Sheet {
     pub good: bool,
     pub job: Job,
 }
 
 // The two counts, and whether they are within their limits and the sheet is as long as they say.
-#[derive(Drop)]
+#[derive(Clone, Copy)]
 pub struct Sizes {
     pub good: bool,
     pub endpoints: usize,
     pub requests: usize,
 }
 
-#[derive(Drop)]
+#[derive(Clone, Copy)]
 pub struct Endpoints {
     pub good: bool,
     pub records: [EndpointRecord; 8],
 }
 
-#[derive(Drop)]
+#[derive(Clone, Copy)]
 pub struct Requests {
     pub good: bool,
     pub records: [RequestRecord; 64],

@@ -1,6 +1,7 @@
 // Records of five numbers from standard input: a function of register, token or descriptor, and what it is given. Its
 // results to standard output, a line for each record. `tools/leaf_values.py` makes the records, and what is to be printed
 // from document 01.
+#![tactic(auto)]
 
 mod heads;
 mod out;

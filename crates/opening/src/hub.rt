@@ -10,7 +10,7 @@ pub const RESETED: u8 = 1;
 pub const PROBED: u8 = 2;
 
 #[repr(C)]
-#[derive(Drop)]
+#[derive(Clone, Copy)]
 pub struct EhciRootHub {
     pub ports: u8,
     pub states: [u8; 15],

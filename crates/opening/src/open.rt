@@ -22,7 +22,7 @@ pub const FRAMES: u64 = 1024;
 // The words of a head.
 const HEAD: u64 = 17;
 
-#[derive(Drop)]
+#[derive(Clone, Copy)]
 pub struct Opening {
     pub answer: Answer,
     pub core: Core,

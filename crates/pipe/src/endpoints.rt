@@ -6,14 +6,14 @@ use common::kinds::{Direction, EndpointType};
 use slot::slot::Slot;
 
 // When an unlinking request may be collected: after so many advances, or 9 micro-frames after a FRINDEX.
-#[derive(Drop)]
+#[derive(Clone, Copy)]
 pub enum UnlinkBoundary {
     Async(u16),
     Periodic(u16),
 }
 
 // The endpoint's kind, its packet size, the data toggle of its next packet, and the id of its next request.
-#[derive(Drop)]
+#[derive(Clone, Copy)]
 pub struct Pipe {
     pub kind: EndpointType,
     pub size: u16,
@@ -21,7 +21,7 @@ pub struct Pipe {
     pub next: u64,
 }
 
-#[derive(Drop)]
+#[derive(Clone, Copy)]
 pub struct Request {
     pub id: u64,
     pub direction: Direction,
@@ -29,7 +29,7 @@ pub struct Request {
     pub cancelled: bool,
 }
 
-#[derive(Drop)]
+#[derive(Clone, Copy)]
 pub enum Endpoint {
     Closed,
     Idle(Pipe),

@@ -18,7 +18,7 @@ use token::qtd::QtdToken;
 const WORDS: usize = 4;
 
 // `stops`: its records are seen up to the first short one, and no further.
-#[derive(Drop)]
+#[derive(Clone, Copy)]
 pub struct AskWords {
     pub places: [u64; 4],
     pub kind: EndpointType,
@@ -28,7 +28,7 @@ pub struct AskWords {
 }
 
 // What is seen so far, of how many records, and whether that was all.
-#[derive(Drop)]
+#[derive(Clone, Copy)]
 pub struct Folded {
     pub view: View,
     pub k: u32,

@@ -6,7 +6,7 @@ ghost use Rattle.pool.specs.Chains.{blank, is_active, is_erring, is_retried, is_
 use descriptor::qtd::QueueTransferDescriptor;
 use token::qtd::QtdToken;
 
-#[derive(Drop)]
+#[derive(Clone, Copy)]
 pub struct View {
     pub stage: u8,
     pub retried: u16,

@@ -16,7 +16,7 @@ use token::chunks::chunk_length;
 use token::plan::chunk_token;
 
 // `base` is the address of the pool's area.
-#[derive(Drop)]
+#[derive(Clone, Copy)]
 pub struct Laying {
     pub places: [u64; 4],
     pub base: u64,

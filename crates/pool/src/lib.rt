@@ -1,4 +1,6 @@
 // The pool's descriptor records: what a request's say, and what is written to them.
+#![tactic(auto)]
+
 pub mod asked;
 pub mod chain;
 pub mod laying;

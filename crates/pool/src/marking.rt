@@ -10,7 +10,7 @@ use crate::tokens::set_token;
 use descriptor::qtd::QueueTransferDescriptor;
 
 // The place and the token count only where it marks.
-#[derive(Drop)]
+#[derive(Clone, Copy)]
 pub struct Marking {
     pub marks: bool,
     pub place: usize,

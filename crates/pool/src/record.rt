@@ -9,7 +9,7 @@ use common::answer::{Answer, Refusal};
 use descriptor::qtd::QueueTransferDescriptor;
 
 // What a reading of one record gives: thirteen zero words where it is refused.
-#[derive(Drop)]
+#[derive(Clone, Copy)]
 pub struct Found {
     pub answer: Answer,
     pub descriptor: QueueTransferDescriptor,

@@ -8,7 +8,7 @@ use token::chunks::chunk_length;
 use token::plan::{DataTd, build_control_td_plan};
 
 // `setup` is the address of the slot's setup packet, `alternate` the alternate word of all but the last descriptor.
-#[derive(Drop)]
+#[derive(Clone, Copy)]
 pub struct Transfer {
     pub kind: EndpointType,
     pub direction: Direction,

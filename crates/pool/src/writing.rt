@@ -7,7 +7,7 @@ use crate::marking::{Marking, mark_token, no_marking};
 use common::kinds::is_control;
 use descriptor::qtd::QueueTransferDescriptor;
 
-#[derive(Drop)]
+#[derive(Clone, Copy)]
 pub struct Writing {
     pub laying: Laying,
     pub marking: Marking,

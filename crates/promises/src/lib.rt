@@ -1,1 +1,2 @@
 // The promises over any calls: specs/ has the statements, proofs/ the theorems. There is no code.
+#![tactic(auto)]

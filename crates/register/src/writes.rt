@@ -2,13 +2,13 @@
 ghost use Rattle.std.specs.Prelude.{◌≡◌, ◌+◌, ◌<◌};
 ghost use Rattle.register.specs.Writes.{no_writes, and_then};
 
-#[derive(Drop)]
+#[derive(Clone, Copy)]
 pub struct Write {
     pub offset: u32,
     pub value: u32,
 }
 
-#[derive(Drop)]
+#[derive(Clone, Copy)]
 pub struct Writes {
     pub count: u32,
     pub writes: [Write; 6],

@@ -1,6 +1,8 @@
 // Many logs from standard input, each begun by a byte above 64; each of its records stands after a byte that says how long
 // it is. A line `=` for each log to standard output, then what is said of its records up to the first bad one.
 // `tools/log_cases.py` makes the logs, and what is to be printed from document 01.
+#![tactic(auto)]
+
 ghost use Rattle.std.specs.Prelude.{◌≤◌};
 ghost use Rattle.replayer.specs.Words.{Kept};
 
@@ -13,7 +15,7 @@ const STDIN: i32 = 0;
 const STDOUT: i32 = 1;
 
 // A log so far: the number of its next record, whether it goes on, and whether anything comes after it.
-#[derive(Drop)]
+#[derive(Clone, Copy)]
 struct Log {
     keeper: Keeper,
     number: u64,

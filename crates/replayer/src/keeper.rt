@@ -31,7 +31,7 @@ use settings::settings::Settings;
 use store::store::{Store, blank_store, call_on, open_in};
 
 // Before a first accepted opening every call answers 1.
-#[derive(Drop)]
+#[derive(Clone, Copy)]
 pub struct Keeper {
     pub store: Store,
     pub hub: EhciRootHub,
@@ -39,7 +39,7 @@ pub struct Keeper {
 }
 
 // What is kept after a record, the first line of its block, and its writes.
-#[derive(Drop)]
+#[derive(Clone, Copy)]
 pub struct Acted {
     pub keeper: Keeper,
     pub line: Line,

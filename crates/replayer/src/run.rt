@@ -9,7 +9,7 @@ const STDIN: i32 = 0;
 
 const STDOUT: i32 = 1;
 
-#[derive(Drop)]
+#[derive(Clone, Copy)]
 struct After {
     keeper: Keeper,
     more: bool,

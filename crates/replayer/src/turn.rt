@@ -17,7 +17,7 @@ use common::rows::put_bytes;
 use text::digits::{put, put_decimal};
 
 // What is kept, where what is said ends, and whether the log goes on.
-#[derive(Drop)]
+#[derive(Clone, Copy)]
 pub struct Turned {
     pub keeper: Keeper,
     pub end: usize,

@@ -5,13 +5,13 @@ use pool::marking::Marking;
 use register::writes::Writes;
 use words::core::Rest;
 
-#[derive(Drop)]
+#[derive(Clone, Copy)]
 pub enum Submission {
     Accepted(u64),
     Refused(Refusal),
 }
 
-#[derive(Drop)]
+#[derive(Clone, Copy)]
 pub struct Submitted {
     pub answer: Submission,
     pub rest: Rest,
@@ -19,7 +19,7 @@ pub struct Submitted {
     pub laying: Laying,
 }
 
-#[derive(Drop)]
+#[derive(Clone, Copy)]
 pub struct WrittenBack {
     pub answer: Answer,
     pub rest: Rest,

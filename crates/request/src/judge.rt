@@ -19,7 +19,7 @@ pub const CONTROL_MAX: u64 = 16384;
 pub const SETUP_END: u64 = 0x1_0000_0000_0000;
 
 // A buffer is an address and a length; bytes 0 to 5 of a setup packet are one number, byte 0 lowest.
-#[derive(Drop)]
+#[derive(Clone, Copy)]
 pub struct TransferRequest {
     pub kind: EndpointType,
     pub direction: Direction,

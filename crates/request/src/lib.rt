@@ -1,4 +1,6 @@
 // A request on an endpoint: submitting it, and what the controller writes back.
+#![tactic(auto)]
+
 pub mod answers;
 pub mod judge;
 pub mod settle;

@@ -15,7 +15,7 @@ use register::writes::Writes;
 use token::port::EhciPortStatus;
 
 // What a caller is told: the writes, then the milliseconds to wait, then the register to read.
-#[derive(Drop)]
+#[derive(Clone, Copy)]
 pub struct ScanReply {
     pub answer: Answer,
     pub event: PortEvent,
@@ -24,13 +24,13 @@ pub struct ScanReply {
     pub wait: u32,
 }
 
-#[derive(Drop)]
+#[derive(Clone, Copy)]
 pub struct Scanned {
     pub hub: EhciRootHub,
     pub reply: ScanReply,
 }
 
-#[derive(Drop)]
+#[derive(Clone, Copy)]
 pub struct PortPower {
     pub answer: Answer,
     pub writes: Writes,

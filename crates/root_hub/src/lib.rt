@@ -1,4 +1,6 @@
 // The root hub: port power and the scan of the ports, over the caller's record of them.
+#![tactic(auto)]
+
 pub mod calls;
 pub mod lent;
 pub mod ports;

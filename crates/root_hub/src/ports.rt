@@ -4,21 +4,21 @@ ghost use Rattle.root_hub.specs.Ports.{port_state, event_port};
 
 use opening::hub::{RESETED, UNINIT};
 
-#[derive(Drop)]
+#[derive(Clone, Copy)]
 pub enum PortState {
     Uninit,
     Reseted,
     Probed,
 }
 
-#[derive(Drop)]
+#[derive(Clone, Copy)]
 pub enum Speed {
     Low,
     Full,
     High,
 }
 
-#[derive(Drop)]
+#[derive(Clone, Copy)]
 pub enum PortEvent {
     Nothing,
     Connected(u8, Speed),

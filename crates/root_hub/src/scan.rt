@@ -29,7 +29,7 @@ pub const RESET_MS: u32 = 50;
 pub const RECOVERY_MS: u32 = 20;
 
 // What the reading of a step is: the port's status, or the value that a write alters.
-#[derive(Drop)]
+#[derive(Clone, Copy)]
 pub enum Awaited {
     Status,
     Gone,
@@ -40,14 +40,14 @@ pub enum Awaited {
 }
 
 // What is written to the port's register.
-#[derive(Drop)]
+#[derive(Clone, Copy)]
 pub enum Change {
     Nothing,
     Value(u32),
 }
 
 // What a reading does to its port: the state that it leaves, and the step that is next there, 0 where it is done with.
-#[derive(Drop)]
+#[derive(Clone, Copy)]
 pub struct Turned {
     pub state: u8,
     pub step: u8,
@@ -56,7 +56,7 @@ pub struct Turned {
     pub wait: u32,
 }
 
-#[derive(Drop)]
+#[derive(Clone, Copy)]
 pub struct Place {
     pub port: u8,
     pub step: u8,

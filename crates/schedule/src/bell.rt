@@ -7,14 +7,14 @@ use register::operational::{USBCMD, USBCMD_INT_ASYNC_ADVANCE_DOORBELL};
 use register::writes::Writes;
 
 // An advance noted since the ring, whether the doorbell is up, how many unlinks are unanswered.
-#[derive(Drop)]
+#[derive(Clone, Copy)]
 pub struct Bell {
     pub noted: u8,
     pub doorbell: u8,
     pub unanswered: u8,
 }
 
-#[derive(Drop)]
+#[derive(Clone, Copy)]
 pub struct Rung {
     pub bell: Bell,
     pub writes: Writes,

@@ -11,7 +11,7 @@ use words::core::Core;
 use words::row::RECORD;
 
 // Who gives way to a head that is unlinked.
-#[derive(Drop)]
+#[derive(Clone, Copy)]
 pub enum Predecessor {
     // The ring head, or the frame entries.
     First,

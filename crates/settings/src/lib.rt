@@ -1,2 +1,4 @@
 // What a controller is opened with.
+#![tactic(auto)]
+
 pub mod settings;

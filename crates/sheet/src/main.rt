@@ -1,4 +1,6 @@
 // Reads a job sheet from standard input and prints its listing.
+#![tactic(auto)]
+
 use job_run::print::print_read;
 
 const STDIN: i32 = 0;

@@ -1,6 +1,8 @@
 // Many sheets from standard input, each after its length in two bytes, the lower first. What is printed of each to standard
 // output, and after it a line with a single `.`. `tools/sheet_cases.py` makes the sheets, and what is to be printed from
 // document 01.
+#![tactic(auto)]
+
 ghost use Rattle.std.specs.Prelude.{◌≤◌};
 
 use job_run::print::print_sheet;

@@ -1,5 +1,5 @@
 // One slot of the state, in numbers.
-#[derive(Drop)]
+#[derive(Clone, Copy)]
 pub struct Slot {
     pub phase: u8,
     pub kind: u8,

@@ -20,7 +20,7 @@ use settings::settings::Settings;
 use words::core::Core;
 
 // `trial` is the last record that told of a trial, until a call comes.
-#[derive(Drop)]
+#[derive(Clone, Copy)]
 pub struct Kept {
     pub core: Core,
     pub hub: EhciRootHub,
@@ -30,7 +30,7 @@ pub struct Kept {
 }
 
 // What is kept after a call, its line, and its writes.
-#[derive(Drop)]
+#[derive(Clone, Copy)]
 pub struct Acted {
     pub kept: Kept,
     pub line: Line,

@@ -9,7 +9,7 @@ use opening::open::{Opening, open};
 use settings::settings::Settings;
 use words::core::Core;
 
-#[derive(Drop)]
+#[derive(Clone, Copy)]
 pub struct Rows {
     pub pool: [QueueTransferDescriptor; 258],
     pub slots: [u64; 193],
@@ -19,7 +19,7 @@ pub struct Rows {
 }
 
 // How many of each are lent.
-#[derive(Drop)]
+#[derive(Clone, Copy)]
 pub struct Lent {
     pub pool: u64,
     pub slots: u64,
@@ -28,13 +28,13 @@ pub struct Lent {
     pub setups: u64,
 }
 
-#[derive(Drop)]
+#[derive(Clone, Copy)]
 pub struct OpenedRows {
     pub opening: Opening,
     pub rows: Rows,
 }
 
-#[derive(Drop)]
+#[derive(Clone, Copy)]
 pub struct CalledRows {
     pub reply: Reply,
     pub rows: Rows,

@@ -2,6 +2,7 @@
 // change that no call makes: to a number of the core, a word of a row, the lengths lent, the root hub's record. After a trial
 // the next call is tried on states of which one bit is wrong. `tools/state_values.py` makes the records, and what is to be
 // printed from document 01.
+#![tactic(auto)]
 
 mod change;
 mod kept;
@@ -20,7 +21,7 @@ use turns::left::after_turn;
 
 const STDIN: i32 = 0;
 
-#[derive(Drop)]
+#[derive(Clone, Copy)]
 struct Turned {
     kept: Kept,
     more: bool,

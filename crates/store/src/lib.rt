@@ -1,3 +1,5 @@
 // The owner of a controller's state and rows, by value, for programs.
+#![tactic(auto)]
+
 pub mod owners;
 pub mod store;

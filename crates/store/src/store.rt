@@ -45,7 +45,7 @@ use settings::settings::Settings;
 use words::core::Core;
 use words::row::RECORD;
 
-#[derive(Drop)]
+#[derive(Clone, Copy)]
 pub struct Store {
     pub core: Core,
     pub slots: [u64; 192],
@@ -55,14 +55,14 @@ pub struct Store {
     pub setups: [u8; 256],
 }
 
-#[derive(Drop)]
+#[derive(Clone, Copy)]
 pub struct Called {
     pub store: Store,
     pub answer: Answered,
     pub writes: Writes,
 }
 
-#[derive(Drop)]
+#[derive(Clone, Copy)]
 pub struct OpenedStore {
     pub store: Store,
     pub hub: EhciRootHub,
@@ -70,7 +70,7 @@ pub struct OpenedStore {
 }
 
 // What opening decides, and the rows then.
-#[derive(Drop)]
+#[derive(Clone, Copy)]
 struct OpenedRows {
     opening: Opening,
     pool: [QueueTransferDescriptor; 257],

@@ -6,13 +6,13 @@ use crate::qtd::{QtdPid, QtdToken};
 use common::kinds::Direction;
 
 // The data stage, which a control request may lack.
-#[derive(Drop)]
+#[derive(Clone, Copy)]
 pub enum DataTd {
     Absent,
     Present(QtdToken),
 }
 
-#[derive(Drop)]
+#[derive(Clone, Copy)]
 pub struct ControlTdPlan {
     pub setup: QtdToken,
     pub data: DataTd,

@@ -6,7 +6,7 @@ ghost use Rattle.token.specs.Ports.{is_set, high_speed_ready};
 use register::bits::any_of;
 
 #[repr(C)]
-#[derive(Drop)]
+#[derive(Clone, Copy)]
 pub struct EhciPortStatus(pub u32);
 
 impl EhciPortStatus {

@@ -6,7 +6,7 @@ ghost use Rattle.token.specs.Tokens.{pid_of, only_if, new_token, token_of, with_
 
 use register::bits::{any_of, with_bits, without_bits};
 
-#[derive(Drop)]
+#[derive(Clone, Copy)]
 pub enum QtdPid {
     Out,
     In,
@@ -26,7 +26,7 @@ impl QtdPid {
 }
 
 #[repr(C)]
-#[derive(Drop)]
+#[derive(Clone, Copy)]
 pub struct QtdToken(pub u32);
 
 impl QtdToken {

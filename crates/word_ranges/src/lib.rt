@@ -1,4 +1,6 @@
 // The judge of the state in words: what a call asks first, once.
+#![tactic(auto)]
+
 pub mod bounds;
 pub mod judge;
 pub mod scalars;

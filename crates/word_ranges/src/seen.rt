@@ -5,7 +5,7 @@ ghost use Rattle.word_ranges.specs.Seen.{free_met, see_of, all_met};
 use bitset::places::all_below;
 
 // Whether each is good, the places that were met twice, and the places met, the free ones among them.
-#[derive(Drop)]
+#[derive(Clone, Copy)]
 pub struct Seen {
     pub good: bool,
     pub twice: u64,

@@ -2,7 +2,7 @@
 use settings::settings::Settings;
 
 #[repr(C)]
-#[derive(Drop)]
+#[derive(Clone, Copy)]
 pub struct Rest {
     pub running: u8,
     // Bring-up: the step that a reading is awaited for, 0 where none is begun.
@@ -24,7 +24,7 @@ pub struct Rest {
 }
 
 #[repr(C)]
-#[derive(Drop)]
+#[derive(Clone, Copy)]
 pub struct Core {
     pub settings: Settings,
     pub rest: Rest,

@@ -1,4 +1,6 @@
 // The state in words: the core by value, and the lent row of slots.
+#![tactic(auto)]
+
 pub mod core;
 pub mod fall;
 pub mod record;
