@@ -1,0 +1,14 @@
+use Prim.Native.Nat.{◌≤◌, ◌-◌}
+use mathlib.Core.Path.{◌≡◌, sym, ap, ◌∙◌}
+use native.Mathlib.Omega.{arith}
+use borrow.Author.Rules.{rules}
+use Rattle.bitset.specs.Words.{drop_bits}
+use Rattle.bitset.proofs.PlaceLaws.{drop_none}
+use Rattle.bitset.proofs.PartLaws.{drop_turn}
+use Rattle.bitset.proofs.word.drop_low.Given as goal
+
+abbrev pub invariant-loop-done : goal.invariant-loop-done
+invariant-loop-done l = (l.done ≤ l.n) × (l.rest ≡ drop_bits 64 l.x l.done)
+
+abbrev pub decreases-loop-done : goal.decreases-loop-done
+decreases-loop-done l = l.n - l.done

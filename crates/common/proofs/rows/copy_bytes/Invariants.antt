@@ -1,0 +1,14 @@
+use Rattle.common.proofs.RowsCases.{copy_turn, copy_done}
+use lib.ListN.{length, length-set, take, drop}
+use native.Mathlib.Omega.{arith}
+use mathlib.Core.List.{◌++◌}
+use mathlib.Core.Path.{◌≡◌, refl}
+use Prim.Native.Nat.{◌≤◌, ◌-◌}
+use borrow.Author.Rules.{rules}
+use Rattle.common.proofs.rows.copy_bytes.Given as goal
+
+abbrev pub invariant-loop-i : goal.invariant-loop-i
+invariant-loop-i l = (length l.row ≡ length l.bytes) × (l.i ≤ length l.bytes) × (l.row ≡ take l.i l.bytes ++ drop l.i l.initial.row)
+
+abbrev pub decreases-loop-i : goal.decreases-loop-i
+decreases-loop-i l = length l.bytes - l.i

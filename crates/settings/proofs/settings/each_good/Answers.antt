@@ -1,0 +1,7 @@
+use Rattle.settings.proofs.SettingsCases.{each_is}
+use borrow.Author.Rules.{rules}
+use Rattle.settings.proofs.settings.area_good.Reads as area-good-reads
+use Rattle.settings.proofs.settings.each_good.Goals as goal
+
+pub returns : goal.returns
+returns c = each_is _ _ _ _ _ c.area_good-pool.ensures c.area_good-heads.ensures c.area_good-frames.ensures c.area_good-setups.ensures

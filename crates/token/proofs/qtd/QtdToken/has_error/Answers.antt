@@ -1,0 +1,7 @@
+use Rattle.register.proofs.FieldLaws.{any_field}
+use mathlib.Core.Path.{◌∙◌}
+use borrow.Author.Rules.{rules}
+use Rattle.token.proofs.qtd.QtdToken.has_error.Goals as goal
+
+pub returns : goal.returns
+returns c = c.any_of.ensures ∙ any_field c.args.self.0 6 1

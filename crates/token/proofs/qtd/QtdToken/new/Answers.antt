@@ -1,0 +1,6 @@
+use Rattle.token.proofs.TokenLaws.{new_case}
+use borrow.Author.Rules.{rules}
+use Rattle.token.proofs.qtd.QtdToken.new.Goals as goal
+
+pub returns : goal.returns
+returns c = search new_case

@@ -1,0 +1,6 @@
+use Rattle.token.proofs.TokenLaws.{started_case}
+use borrow.Author.Rules.{rules}
+use Rattle.token.proofs.qtd.QtdToken.started.Goals as goal
+
+pub returns : goal.returns
+returns c = search started_case
