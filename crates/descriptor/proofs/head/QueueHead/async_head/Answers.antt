@@ -1,0 +1,6 @@
+use Rattle.descriptor.proofs.HeadCases.{ring}
+use borrow.Author.Rules.{rules}
+use Rattle.descriptor.proofs.head.QueueHead.async_head.Goals as goal
+
+pub returns : goal.returns
+returns c = search ring

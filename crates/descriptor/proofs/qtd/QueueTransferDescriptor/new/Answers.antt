@@ -1,0 +1,6 @@
+use borrow.Author.Rules.{rules}
+use Rattle.descriptor.proofs.QtdCases.{new_is}
+use Rattle.descriptor.proofs.qtd.QueueTransferDescriptor.new.Goals as goal
+
+pub returns : goal.returns
+returns c = search new_is

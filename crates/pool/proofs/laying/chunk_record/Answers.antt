@@ -1,0 +1,6 @@
+use Rattle.pool.proofs.WordCases.{chunk_laid}
+use borrow.Author.Rules.{rules}
+use Rattle.pool.proofs.laying.chunk_record.Goals as goal
+
+pub returns : goal.returns
+returns c = search chunk_laid

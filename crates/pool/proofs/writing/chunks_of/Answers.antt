@@ -1,0 +1,6 @@
+use Rattle.pool.proofs.WordCases.{chunks_made}
+use borrow.Author.Rules.{rules}
+use Rattle.pool.proofs.writing.chunks_of.Goals as goal
+
+pub returns : goal.returns
+returns c = search chunks_made
