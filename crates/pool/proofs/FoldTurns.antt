@@ -187,20 +187,9 @@ split_in : (n : ℕ) (xs ys : List ℕ) → Within n (xs ++ ys) → Within n xs 
 split_in n [] ys w = (tt, w)
 split_in n (x ∷ xs) ys w = let rest : Within n xs × Within n ys = split_in n xs ys w.1 in ((w.0, rest.0), rest.1)
 
-module _ (n : ℕ) (a : AskWords) (ys : List QueueTransferDescriptor) (good : AskWordsGood n a) where
+module _ (n : ℕ) (a : AskWords) (ys : List QueueTransferDescriptor) where
   abbrev W : ℕ → List ℕ
   W j = word_places a j
-
-  parts : Within n (W 0) × (Within n (W 1) × (Within n (W 2) × Within n (W 3)))
-  unfolding set_places
-  parts =
-      let a₀ : Within n (W 0) × Within n (W 1 ++ (W 2 ++ W 3)) = split_in n (W 0) (W 1 ++ (W 2 ++ W 3)) good.within in
-      let a₁ : Within n (W 1) × Within n (W 2 ++ W 3) = split_in n (W 1) (W 2 ++ W 3) a₀.1 in
-      let a₂ : Within n (W 2) × Within n (W 3) = split_in n (W 2) (W 3) a₁.1 in
-      (a₀.0, (a₁.0, (a₂.0, a₂.1)))
-
-  word_good_lem : (j : ℕ) (s : Folded) → Within n (W j) → j < 4 → s.k ≤ 64 * j → (s.view.moved ≤ s.k * 2 ^ 32) × (s.view.retried ≤ s.k) → WordGood n a j s
-  word_good_lem j s w h k m = record { within = w; short = good.short; limited = good.limited; one_of_four = h; so_far = k; in_bounds = m }
 
   -- the places of n words, from word j on
   unfoldable pub words_from : ℕ → ℕ → List ℕ
@@ -220,42 +209,6 @@ module _ (n : ℕ) (a : AskWords) (ys : List QueueTransferDescriptor) (good : As
     pub in_bounds : (u.view.moved ≤ u.k * 2 ^ 32) × (u.view.retried ≤ u.k)
     pub whole_is : at u (words_from j (4 - j)) ≡ whole
 
-  pub to_start : (u : Folded) → u ≡ record { view = view_of []; k = 0; ended = false } → SeenTo 0 u
-  unfolding set_places words_from
-  to_start u e =
-      let none : u.k ≡ 0 = ap (λ (z : Folded). z.k) e in
-      record {
-        most = omega arith;
-        few = omega (arith, none);
-        in_bounds = subst (λ (k : ℕ). (u.view.moved ≤ k * 2 ^ 32) × (u.view.retried ≤ k)) (sym none) (none_bounded u.view (ap (λ (z : Folded). z.view) e));
-        whole_is = ap (λ (z : Folded). at z (words_from 0 4)) e
-            ∙ seen_start (view_of (read_of a.stops (seen_from a.kind a.length a.limit 0 (words_from 0 4) ys))) (view_of []) refl
-            ∙ ap (λ (l : List ℕ). view_of (read_of a.stops (seen_from a.kind a.length a.limit 0 (W 0 ++ (W 1 ++ (W 2 ++ l))) ys))) (append-nil (W 3));
-      }
-
-  one_within : (j : ℕ) → j < 4 → Within n (W j)
-  one_within zero h = parts.0
-  one_within (suc zero) h = parts.1.0
-  one_within (suc (suc zero)) h = parts.1.1.0
-  one_within (suc (suc (suc zero))) h = parts.1.1.1
-  one_within (suc (suc (suc (suc j)))) h = absurd (omega (arith, h))
-
-  module _ (j : ℕ) (u : Folded) (so_far : SeenTo j u) (h : j < 4) where
-    pub to_good : WordGood n a j u
-    to_good = word_good_lem j u (one_within j h) h so_far.few so_far.in_bounds
-
-    pub to_next : (v : Folded) → Sees a ys (W j) u v → SeenTo (j + 1) v
-    unfolding words_from
-    to_next v f =
-        let left : 4 - j ≡ suc (4 - (j + 1)) = omega (arith, h) in
-        let on : words_from (j + 1) (4 - (j + 1)) ≡ words_from (suc j) (4 - (j + 1)) = ap (λ (i : ℕ). words_from i (4 - (j + 1))) (add-one j) in
-        record {
-          most = omega (arith, h);
-          few = omega (arith, f.so_many, so_far.few, word_few (64 * j) 64 (get_or a.places j 0));
-          in_bounds = f.in_bounds;
-          whole_is = ap (at v) on ∙ f.whole (words_from (suc j) (4 - (j + 1))) ∙ ap (λ (m : ℕ). at u (words_from j m)) (sym left) ∙ so_far.whole_is;
-        }
-
   pub to_end : (j : ℕ) (u : Folded) → SeenTo j u → 4 ≤ j → u.view ≡ whole
   unfolding words_from seen_from
   to_end j u so_far h =
@@ -264,3 +217,51 @@ module _ (n : ℕ) (a : AskWords) (ys : List QueueTransferDescriptor) (good : As
       ∙ ap (λ (l : List Seen). joined u.view (view_of l)) (none_read u.ended a.stops)
       ∙ ap (λ (m : ℕ). at u (words_from j m)) none
       ∙ so_far.whole_is
+
+  module _ (good : AskWordsGood n a) where
+    parts : Within n (W 0) × (Within n (W 1) × (Within n (W 2) × Within n (W 3)))
+    unfolding set_places
+    parts =
+        let a₀ : Within n (W 0) × Within n (W 1 ++ (W 2 ++ W 3)) = split_in n (W 0) (W 1 ++ (W 2 ++ W 3)) good.within in
+        let a₁ : Within n (W 1) × Within n (W 2 ++ W 3) = split_in n (W 1) (W 2 ++ W 3) a₀.1 in
+        let a₂ : Within n (W 2) × Within n (W 3) = split_in n (W 2) (W 3) a₁.1 in
+        (a₀.0, (a₁.0, (a₂.0, a₂.1)))
+
+    word_good_lem : (j : ℕ) (s : Folded) → Within n (W j) → j < 4 → s.k ≤ 64 * j → (s.view.moved ≤ s.k * 2 ^ 32) × (s.view.retried ≤ s.k) → WordGood n a j s
+    word_good_lem j s w h k m = record { within = w; short = good.short; limited = good.limited; one_of_four = h; so_far = k; in_bounds = m }
+
+    pub to_start : (u : Folded) → u ≡ record { view = view_of []; k = 0; ended = false } → SeenTo 0 u
+    unfolding set_places words_from
+    to_start u e =
+        let none : u.k ≡ 0 = ap (λ (z : Folded). z.k) e in
+        record {
+          most = omega arith;
+          few = omega (arith, none);
+          in_bounds = subst (λ (k : ℕ). (u.view.moved ≤ k * 2 ^ 32) × (u.view.retried ≤ k)) (sym none) (none_bounded u.view (ap (λ (z : Folded). z.view) e));
+          whole_is = ap (λ (z : Folded). at z (words_from 0 4)) e
+              ∙ seen_start (view_of (read_of a.stops (seen_from a.kind a.length a.limit 0 (words_from 0 4) ys))) (view_of []) refl
+              ∙ ap (λ (l : List ℕ). view_of (read_of a.stops (seen_from a.kind a.length a.limit 0 (W 0 ++ (W 1 ++ (W 2 ++ l))) ys))) (append-nil (W 3));
+        }
+
+    one_within : (j : ℕ) → j < 4 → Within n (W j)
+    one_within zero h = parts.0
+    one_within (suc zero) h = parts.1.0
+    one_within (suc (suc zero)) h = parts.1.1.0
+    one_within (suc (suc (suc zero))) h = parts.1.1.1
+    one_within (suc (suc (suc (suc j)))) h = absurd (omega (arith, h))
+
+    module _ (j : ℕ) (u : Folded) (so_far : SeenTo j u) (h : j < 4) where
+      pub to_good : WordGood n a j u
+      to_good = word_good_lem j u (one_within j h) h so_far.few so_far.in_bounds
+
+      pub to_next : (v : Folded) → Sees a ys (W j) u v → SeenTo (j + 1) v
+      unfolding words_from
+      to_next v f =
+          let left : 4 - j ≡ suc (4 - (j + 1)) = omega (arith, h) in
+          let on : words_from (j + 1) (4 - (j + 1)) ≡ words_from (suc j) (4 - (j + 1)) = ap (λ (i : ℕ). words_from i (4 - (j + 1))) (add-one j) in
+          record {
+            most = omega (arith, h);
+            few = omega (arith, f.so_many, so_far.few, word_few (64 * j) 64 (get_or a.places j 0));
+            in_bounds = f.in_bounds;
+            whole_is = ap (at v) on ∙ f.whole (words_from (suc j) (4 - (j + 1))) ∙ ap (λ (m : ℕ). at u (words_from j m)) (sym left) ∙ so_far.whole_is;
+          }

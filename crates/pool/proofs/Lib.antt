@@ -14,7 +14,3 @@ pub mod FoldTurns
 pub mod WordLaws
 pub mod WordExamples
 pub mod Element
-pub mod Again
-pub mod Calls
-pub mod Uses
-pub mod Lends

@@ -58,3 +58,23 @@ module _ (rows : List QueueTransferDescriptor) (place : ℕ) where
   pub replace_refused : (r : QueueTransferDescriptor) → length rows ≤ place → (number_of (replace_of rows place r).answer ≡ 1) × ((replace_of rows place r).rows ≡ rows)
   unfolding replace_of
   replace_refused r h = rw (le-ltb place (length rows) h) (refl, refl)
+
+-- ---- the same, by the order of place and length
+
+module _ (rows : List QueueTransferDescriptor) (place : ℕ) where
+  pub read_inside_lem : place < length rows → (r : QueueTransferDescriptor) (u : Found) → r ≡ get_or rows place blank → u ≡ found_if true r → u ≡ read_of rows place
+  unfolding read_of
+  read_inside_lem h r u e e' = rw (lt-ltb place (length rows) h) (e' ∙ ap (λ (d : QueueTransferDescriptor). found_if true d) e)
+
+  pub read_beyond_lem : length rows ≤ place → (u : Found) → u ≡ found_if false blank → u ≡ read_of rows place
+  unfolding read_of
+  read_beyond_lem h u e = rw (le-ltb place (length rows) h) e
+
+  module _ (r : QueueTransferDescriptor) (u : Answer) where
+    pub replace_inside_lem : place < length rows → u ≡ answer_if true → replaced u (set rows place r) ≡ replace_of rows place r
+    unfolding replace_of
+    replace_inside_lem h e = rw (lt-ltb place (length rows) h) (ap (λ (v : Answer). replaced v (set rows place r)) e)
+
+    pub replace_beyond_lem : length rows ≤ place → u ≡ answer_if false → replaced u rows ≡ replace_of rows place r
+    unfolding replace_of
+    replace_beyond_lem h e = rw (le-ltb place (length rows) h) (ap (λ (v : Answer). replaced v rows) e)

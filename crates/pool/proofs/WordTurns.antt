@@ -166,3 +166,13 @@ unfolding opened_to
 open_start count ys =
     let whole : count - 0 ≡ count = omega arith in
     ap (λ (j : ℕ). filled_from Deeds.Open 0 0 (up_from 0 j) ys) whole
+
+-- ---- the loop's test, as an equation
+
+pub more_on : (r b : Bool) → r ≡ not b → r ≡ true → b ≡ false
+more_on r true e t = let z : false ≡ true = sym e ∙ t in cc
+more_on r false e t = refl
+
+pub more_stops : (r b : Bool) → r ≡ not b → r ≡ false → b ≡ true
+more_stops r true e t = refl
+more_stops r false e t = let z : true ≡ false = sym e ∙ t in cc
