@@ -1,0 +1,6 @@
+use Rattle.words.proofs.RecordCases.{slot_parts}
+use borrow.Author.Rules.{rules}
+use Rattle.words.proofs.record.slot_in.Goals as goal
+
+pub returns : goal.returns
+returns c = search slot_parts
