@@ -5,7 +5,7 @@ usage: tools/port/respell.py [--make]        at the top, once, after /opt/rattle
 
 A name in camel case (`wrongAt`), or of plain words joined by dashes (`rows-same`), that a file of specs/ or of lemmas declares
 gets underscores in every .antt, .rt and .edit file. Names of src/, of the libraries and of what Rattle makes stay. A lemma that would
-get the name of a definition, a function or a word in a file where both stand gets `_lem` after it.
+get the name of a definition, a function or a word in a file where both stand gets `_lem` after it. `Rattle.core`, which no crate here lists, becomes `Rattle.std`.
 The names are in names.tsv beside this file; --make writes that file from the tree, and changes nothing else.
 """
 import collections
@@ -116,9 +116,7 @@ def main():
     keep_field = set(new) - fields
     count = 0
     for p, t in texts.items():
-        names = used[p] & set(new)
-        if not names:
-            continue
+        was, t = t, t.replace("Rattle.core.", "Rattle.std.")
         modules = {"tie", "goal"}
         aliases = {m[3] for m in USE.finditer(t) if m[3] and not MADE.search(m[1]) and "-" not in m[3]}
         made = {m[3] for m in USE.finditer(t) if m[3] and MADE.search(m[1])}
@@ -137,7 +135,7 @@ def main():
                     return w
             return s
         out = TOKEN.sub(turn, t)
-        if out != t:
+        if out != was:
             with open(p, "w", encoding="utf-8") as f:
                 f.write(out)
             count += 1

@@ -1,5 +1,5 @@
 -- The numbers of each call that is lent the core alone meet the call's shape.
-use Rattle.core.specs.Prelude.{◌≡◌}
+use Rattle.std.specs.Prelude.{◌≡◌}
 use mathlib.Core.Path.{subst, sym}
 use Rattle.common.specs.declared.answer.Refusal.TheVariants.{InvalidParameter}
 use Rattle.register.specs.Writes.{no_writes}

@@ -1,5 +1,5 @@
 -- A reply packed into numbers is what the door's call leaves, seen through the numbers.
-use Rattle.core.specs.Prelude.{◌≡◌, ℕ, Bool, List}
+use Rattle.std.specs.Prelude.{◌≡◌, ℕ, Bool, List}
 use mathlib.Core.Path.{ap, subst, sym, ◌∙◌}
 use Rattle.descriptor.specs.declared.qtd.QueueTransferDescriptor.{QueueTransferDescriptor as Record}
 use Rattle.words.specs.declared.core.Core.{Core}

@@ -1,5 +1,5 @@
 -- What is packed of a call's result is left in the call's shape, seen through the numbers: a law a shape.
-use Rattle.core.specs.Prelude.{ℕ, List}
+use Rattle.std.specs.Prelude.{ℕ, List}
 use mathlib.Core.Path.{ap}
 use Rattle.state.specs.Plain.{Ehci}
 use Rattle.words.specs.declared.core.Core.{Core}

@@ -1,5 +1,5 @@
 -- An opening packed into numbers is what opening leaves: 0 where it was accepted, else not.
-use Rattle.core.specs.Prelude.{◌≡◌, ℕ, ◌≢◌, List}
+use Rattle.std.specs.Prelude.{◌≡◌, ℕ, ◌≢◌, List}
 use mathlib.Core.Path.{refl, ap, subst, sym, ◌∙◌}
 use native.Mathlib.Omega.{arith}
 use Rattle.common.specs.Answers.{number_of}

@@ -1,5 +1,5 @@
 -- An answer packed into numbers is that of its parts.
-use Rattle.core.specs.Prelude.{◌≡◌, ℕ, List}
+use Rattle.std.specs.Prelude.{◌≡◌, ℕ, List}
 use mathlib.Core.Path.{ap, ◌∙◌}
 use Rattle.register.specs.declared.writes.Writes.{Writes}
 use Rattle.words.specs.declared.core.Rest.{Rest}

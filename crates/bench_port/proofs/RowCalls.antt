@@ -1,5 +1,5 @@
 -- The numbers of each call that is lent rows meet the call's shape.
-use Rattle.core.specs.Prelude.{◌≡◌, ℕ, List}
+use Rattle.std.specs.Prelude.{◌≡◌, ℕ, List}
 use mathlib.Core.Path.{subst, sym}
 use Rattle.common.specs.declared.answer.Refusal.TheVariants.{InvalidParameter}
 use Rattle.common.specs.declared.kinds.EndpointType.{EndpointType}

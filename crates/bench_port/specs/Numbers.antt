@@ -1,5 +1,5 @@
 -- An answer and its register writes in numbers.
-use Rattle.core.specs.Prelude.{ℕ, List, [], ◌∷◌, slice_index_or}
+use Rattle.std.specs.Prelude.{ℕ, List, [], ◌∷◌, slice_index_or}
 use Rattle.common.specs.declared.answer.Refusal.TheVariants.{InvalidParameter}
 use Rattle.common.specs.declared.reads.NextRead.{NextRead}
 use Rattle.common.specs.declared.reads.NextRead.TheVariants as N

@@ -1,5 +1,5 @@
 -- What C sees of opening: the number of its answer, the root hub's record and the rows; and the core with the row of slots.
-use Rattle.core.specs.Prelude.{◌≡◌, ℕ, ◌≢◌, List}
+use Rattle.std.specs.Prelude.{◌≡◌, ℕ, ◌≢◌, List}
 use Rattle.common.specs.Answers.{number_of}
 use Rattle.descriptor.specs.declared.qtd.QueueTransferDescriptor.{QueueTransferDescriptor}
 use Rattle.settings.specs.declared.settings.Settings.{Settings}

@@ -1,5 +1,5 @@
 // Bringing the controller up.
-ghost use Rattle.core.specs.Prelude.{◌≡◌};
+ghost use Rattle.std.specs.Prelude.{◌≡◌};
 ghost use Rattle.bring_up.specs.BringUp.{start_of, step_of};
 ghost use Rattle.direct_calls.specs.Shapes.{CoreCall, SlotsCall};
 ghost use Rattle.ehci.specs.Replies.{brought_answer};

@@ -1,5 +1,5 @@
 // The calls on endpoints.
-ghost use Rattle.core.specs.Prelude.{◌≡◌};
+ghost use Rattle.std.specs.Prelude.{◌≡◌};
 ghost use Rattle.register.specs.Writes.{no_writes};
 ghost use Rattle.words.specs.View.{view};
 ghost use Rattle.pipe.specs.Endpoints.{kind_of};

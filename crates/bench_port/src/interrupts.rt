@@ -1,5 +1,5 @@
 // The calls on interrupts.
-ghost use Rattle.core.specs.Prelude.{◌≡◌};
+ghost use Rattle.std.specs.Prelude.{◌≡◌};
 ghost use Rattle.pipe.specs.Endpoints.{flag_of};
 ghost use Rattle.interrupt.specs.Interrupts.{acknowledge_of, disable_of, drain_of, enable_of, rearm_of};
 ghost use Rattle.direct_calls.specs.Shapes.{CoreCall, SlotsCall};

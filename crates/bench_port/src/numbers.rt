@@ -1,5 +1,5 @@
 // What an exported call answers, in numbers.
-ghost use Rattle.core.specs.Prelude.{◌≡◌};
+ghost use Rattle.std.specs.Prelude.{◌≡◌};
 ghost use Rattle.bench_port.specs.Numbers.{register_number, given_number, value_of, given_other, other_of, offsets_of, values_of, pack_of};
 
 use common::reads::NextRead;

@@ -1,5 +1,5 @@
 // Opening. The core, which the caller keeps, and the root hub's record come back by value.
-ghost use Rattle.core.specs.Prelude.{◌≡◌};
+ghost use Rattle.std.specs.Prelude.{◌≡◌};
 ghost use Rattle.opening.specs.Words.{open_words};
 ghost use Rattle.bench_port.specs.Opens.{OpensPort, beside_opened, pack_opening, seen_opening};
 

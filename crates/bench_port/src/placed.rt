@@ -1,5 +1,5 @@
 // Which descriptors a slot's request has.
-ghost use Rattle.core.specs.Prelude.{◌≡◌};
+ghost use Rattle.std.specs.Prelude.{◌≡◌};
 ghost use Rattle.bench_port.specs.Border.{seen_places};
 
 use controller::readers::request_places;

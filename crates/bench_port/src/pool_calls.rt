@@ -1,5 +1,5 @@
 // The three calls that are lent the pool's records: through the one door.
-ghost use Rattle.core.specs.Prelude.{◌≡◌, length as size};
+ghost use Rattle.std.specs.Prelude.{◌≡◌, length as size};
 ghost use Rattle.ehci.specs.WordsDoor.{WordsAfter, accepts_words, apply_words};
 ghost use Rattle.ehci.specs.declared.call.Call.TheVariants.{Writeback};
 ghost use Rattle.bench_port.specs.Border.{beside_rows, collect_of, seen_applied, seen_in, submit_of};

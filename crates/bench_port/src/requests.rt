@@ -1,5 +1,5 @@
 // Cancel: the call on requests that is lent no records.
-ghost use Rattle.core.specs.Prelude.{◌≡◌};
+ghost use Rattle.std.specs.Prelude.{◌≡◌};
 ghost use Rattle.words.specs.View.{view};
 ghost use Rattle.collection.specs.Calls.{cancel_of};
 ghost use Rattle.direct_calls.specs.Shapes.{FramesCall};

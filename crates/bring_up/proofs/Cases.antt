@@ -1,5 +1,5 @@
 -- The returns of the bring-up calls, and the loop over the slots.
-use Rattle.core.specs.Prelude.{◌≡◌, ℕ, suc, ◌+◌, ◌-◌, ◌<◌, ◌≤◌, Bool, true, false, not, ◌||◌, eqb, get_or}
+use Rattle.std.specs.Prelude.{◌≡◌, ℕ, suc, ◌+◌, ◌-◌, ◌<◌, ◌≤◌, Bool, true, false, not, ◌||◌, eqb, get_or}
 use mathlib.Core.Path.{refl, sym, ◌∙◌}
 use native.Mathlib.Decide.{ℕ_discrete as dec_eq}
 use native.Mathlib.Numerals.{add-one}

@@ -1,5 +1,5 @@
 -- The returns of the bring-up calls over words: each is the case of the calls' definitions at the state that the words stand for.
-use Rattle.core.specs.Prelude.{◌≡◌, ℕ, ◌+◌, ◌<◌, ◌≤◌, Bool, true, false, List}
+use Rattle.std.specs.Prelude.{◌≡◌, ℕ, ◌+◌, ◌<◌, ◌≤◌, Bool, true, false, List}
 use mathlib.Core.Path.{refl, sym, ap, ◌∙◌}
 use Rattle.register.specs.Writes.{no_writes, and_then}
 use Rattle.register.specs.declared.writes.Writes.{Writes}

@@ -1,5 +1,5 @@
 -- Document 01, "Ports and bring-up": bringing the controller up, one register reading a step.
-use Rattle.core.specs.Prelude.{ℕ, zero, suc, ◌+◌, Bool, true, false, cond, not, ◌||◌, [], ◌∷◌, ◌==◌, nat_lt}
+use Rattle.std.specs.Prelude.{ℕ, zero, suc, ◌+◌, Bool, true, false, cond, not, ◌||◌, [], ◌∷◌, ◌==◌, nat_lt}
 use Rattle.register.specs.Bits.{with_bits, without_bits, any_of}
 use Rattle.register.specs.Writes.{no_writes, and_then}
 use Rattle.register.specs.declared.writes.Writes.{Writes}

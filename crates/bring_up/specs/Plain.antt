@@ -1,5 +1,5 @@
 -- What a start or a step of bring-up answers and leaves of the plain state.
-use Rattle.core.specs.Prelude.{ℕ}
+use Rattle.std.specs.Prelude.{ℕ}
 use Rattle.common.specs.declared.answer.Answer.{Answer}
 use Rattle.common.specs.declared.reads.NextRead.{NextRead}
 use Rattle.register.specs.declared.writes.Writes.{Writes}

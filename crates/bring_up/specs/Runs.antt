@@ -1,5 +1,5 @@
 -- What any bring-up does, from its start and over the readings that it is fed, one a step.
-use Rattle.core.specs.Prelude.{◌≡◌, ℕ, ◌+◌, ◌*◌, true, false, ◌⊎◌, List, [], ◌∷◌, map, length, ◌≢◌}
+use Rattle.std.specs.Prelude.{◌≡◌, ℕ, ◌+◌, ◌*◌, true, false, ◌⊎◌, List, [], ◌∷◌, map, length, ◌≢◌}
 use Rattle.register.specs.Bits.{with_bits, without_bits, any_of}
 use Rattle.register.specs.Writes.{write_of, list_of}
 use Rattle.register.specs.declared.writes.Write.{Write}

@@ -1,5 +1,5 @@
 -- What the calls over words leave, as the state that the words stand for.
-use Rattle.core.specs.Prelude.{ℕ, zero, suc, Bool, false, ◌||◌, List, nat_le}
+use Rattle.std.specs.Prelude.{ℕ, zero, suc, Bool, false, ◌||◌, List, nat_le}
 use Rattle.register.specs.Writes.{no_writes}
 use Rattle.settings.specs.declared.settings.Settings.{Settings}
 use Rattle.common.specs.declared.answer.Answer.TheVariants.{Refused}

@@ -1,5 +1,5 @@
 // Whether any slot has an uncollected request.
-ghost use Rattle.core.specs.Prelude.{◌≡◌, ◌*◌, length};
+ghost use Rattle.std.specs.Prelude.{◌≡◌, ◌*◌, length};
 ghost use Rattle.bring_up.specs.Words.{any_held};
 
 use words::row::RECORD;

@@ -1,5 +1,5 @@
 // Start and step, on a state in its ranges. A step looks at the core alone.
-ghost use Rattle.core.specs.Prelude.{◌≡◌, ℕ, ◌<◌, true, List};
+ghost use Rattle.std.specs.Prelude.{◌≡◌, ℕ, ◌<◌, true, List};
 ghost use Rattle.state.specs.Ranges.{in_ranges};
 ghost use Rattle.bring_up.specs.BringUp.{again_of, start_of, step_of};
 ghost use Rattle.bring_up.specs.Words.{brought_view, refused_words};

@@ -1,5 +1,5 @@
 // The stages of bring-up: for each what its reading must show, what it writes, and what is read next.
-ghost use Rattle.core.specs.Prelude.{◌≡◌, ◌<◌};
+ghost use Rattle.std.specs.Prelude.{◌≡◌, ◌<◌};
 ghost use Rattle.bring_up.specs.BringUp.{
   stage_of,
   register_of,

@@ -1,5 +1,5 @@
 -- A whole block fits in 131,072 bytes, with room for a line besides.
-use Rattle.core.specs.Prelude.{◌≡◌, ℕ, ◌+◌, ◌*◌, ◌≤◌, min, Bool, not, List, [], ◌∷◌, ◌++◌, length, get_or, take}
+use Rattle.std.specs.Prelude.{◌≡◌, ℕ, ◌+◌, ◌*◌, ◌≤◌, min, Bool, not, List, [], ◌∷◌, ◌++◌, length, get_or, take}
 use mathlib.Core.List.{append_assoc}
 use native.Mathlib.Omega.{arith}
 use lib.ListN.{length-append, length-take}

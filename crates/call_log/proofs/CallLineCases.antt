@@ -1,5 +1,5 @@
 -- The line of a step: its register as a part.
-use Rattle.core.specs.Prelude.{◌≡◌, ℕ, [], ◌∷◌}
+use Rattle.std.specs.Prelude.{◌≡◌, ℕ, [], ◌∷◌}
 use mathlib.Core.Path.{refl}
 use Rattle.common.specs.declared.reads.NextRead.{NextRead}
 use Rattle.common.specs.declared.reads.NextRead.TheVariants as N

@@ -1,5 +1,5 @@
 -- A list of writes has six places, and a line fourteen.
-use Rattle.core.specs.Prelude.{◌≡◌, ℕ, length}
+use Rattle.std.specs.Prelude.{◌≡◌, ℕ, length}
 use mathlib.Core.Path.{sym, ◌∙◌}
 use lib.ListN.{length-map}
 use denote.Laws.{Is}

@@ -1,5 +1,5 @@
 -- The returns of the functions that put a line.
-use Rattle.core.specs.Prelude.{◌≡◌, ℕ, zero, suc, ◌+◌, ◌*◌, ◌<◌, ◌≤◌, min, Bool, true, false, leb, List, [], ◌∷◌, ◌++◌, length, get_or, take}
+use Rattle.std.specs.Prelude.{◌≡◌, ℕ, zero, suc, ◌+◌, ◌*◌, ◌<◌, ◌≤◌, min, Bool, true, false, leb, List, [], ◌∷◌, ◌++◌, length, get_or, take}
 use borrow.Author.Tests.{leb-false, leb-true}
 use lib.Seq.{take_all}
 use mathlib.Core.Path.{refl, sym, ap, ◌∙◌}

@@ -1,5 +1,5 @@
 -- What is known of the rows by their type: how many words each has.
-use Rattle.core.specs.Prelude.{◌≡◌, length}
+use Rattle.std.specs.Prelude.{◌≡◌, length}
 use mathlib.Core.Path.{sym, ◌∙◌}
 use lib.ListN.{length-map}
 use denote.Laws.{Is}

@@ -1,5 +1,5 @@
 -- What a block shows of a state in words is what it shows of the state that they stand for.
-use Rattle.core.specs.Prelude.{◌≡◌, ℕ, Bool, true, false, List}
+use Rattle.std.specs.Prelude.{◌≡◌, ℕ, Bool, true, false, List}
 use mathlib.Core.Path.{refl, sym, ap, ◌∙◌}
 use Rattle.controller.proofs.WordsLaws.{free_viewed}
 use Rattle.register.specs.declared.writes.Writes.{Writes}

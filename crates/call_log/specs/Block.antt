@@ -1,5 +1,5 @@
 -- A block: what a call did, as lines.
-use Rattle.core.specs.Prelude.{ℕ, Bool, List, [], ◌∷◌, ◌++◌}
+use Rattle.std.specs.Prelude.{ℕ, Bool, List, [], ◌∷◌, ◌++◌}
 use Rattle.register.specs.declared.writes.Writes.{Writes}
 use Rattle.state.specs.Plain.{Ehci}
 use Rattle.text.specs.Text.{only_if}

@@ -1,5 +1,5 @@
 -- The first line of a block: C, the record's number, the call's number, the answer, and its values.
-use Rattle.core.specs.Prelude.{ℕ, List, [], ◌∷◌}
+use Rattle.std.specs.Prelude.{ℕ, List, [], ◌∷◌}
 use Rattle.common.specs.Answers.{refusal_number}
 use Rattle.common.specs.declared.answer.Answer.{Answer}
 use Rattle.common.specs.declared.answer.Answer.TheVariants as A

@@ -1,5 +1,5 @@
 -- A record: 64 bytes, byte 0 the call's number, bytes 1 to 7 small parameters, then seven 64-bit little-endian numbers.
-use Rattle.core.specs.Prelude.{ℕ, Bool, ◌&&◌, ◌||◌, List, [], ◌∷◌, ◌++◌, ◌==◌, nat_le, slice_index}
+use Rattle.std.specs.Prelude.{ℕ, Bool, ◌&&◌, ◌||◌, List, [], ◌∷◌, ◌++◌, ◌==◌, nat_le, slice_index}
 use Rattle.text.specs.Numbers.{little_endian, number_at}
 use Rattle.call_log.specs.declared.fields.Fields.{Fields}
 

@@ -1,5 +1,5 @@
 -- The lines of a block.
-use Rattle.core.specs.Prelude.{ℕ, List, [], ◌∷◌, ◌++◌, take, slice_index}
+use Rattle.std.specs.Prelude.{ℕ, List, [], ◌∷◌, ◌++◌, take, slice_index}
 use Rattle.controller.specs.Readers.{free_count}
 use Rattle.descriptor.specs.declared.qtd.QueueTransferDescriptor.{QueueTransferDescriptor}
 use Rattle.state.specs.Plain.{Ehci}

@@ -1,5 +1,5 @@
 -- What a block shows of a state in words: the numbers of the core, and of the free places how many there are.
-use Rattle.core.specs.Prelude.{◌≡◌, ℕ, Bool, true, List, [], ◌∷◌, ◌++◌, length}
+use Rattle.std.specs.Prelude.{◌≡◌, ℕ, Bool, true, List, [], ◌∷◌, ◌++◌, length}
 use Rattle.bitset.specs.Places.{set_places}
 use Rattle.register.specs.declared.writes.Writes.{Writes}
 use Rattle.settings.specs.Settings.{settings_good}

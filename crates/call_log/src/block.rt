@@ -1,5 +1,5 @@
 // A block: what a call did, as lines.
-ghost use Rattle.core.specs.Prelude.{◌≡◌, ℕ, ◌+◌, ◌≤◌, true, List, [], ◌∷◌, length};
+ghost use Rattle.std.specs.Prelude.{◌≡◌, ℕ, ◌+◌, ◌≤◌, true, List, [], ◌∷◌, length};
 ghost use Rattle.common.specs.Rows.{put_at};
 ghost use Rattle.call_log.specs.Block.{block_of, rows_lines};
 ghost use Rattle.call_log.specs.Words.{Shows, rest_shown, shown_in};

@@ -1,5 +1,5 @@
 // The first line of a block: the record's number, the call's, its answer, and what the answer gives.
-ghost use Rattle.core.specs.Prelude.{◌≡◌, [], ◌∷◌};
+ghost use Rattle.std.specs.Prelude.{◌≡◌, [], ◌∷◌};
 ghost use Rattle.text.specs.Text.{decimal};
 ghost use Rattle.ehci.specs.Replies.{event_value};
 ghost use Rattle.root_hub.specs.Ports.{port_event_number};

@@ -1,5 +1,5 @@
 // The numbers of a record: the call's, seven small parameters, and seven of 64 bits, the lowest byte first.
-ghost use Rattle.core.specs.Prelude.{◌≡◌, ◌&&◌, length};
+ghost use Rattle.std.specs.Prelude.{◌≡◌, ◌&&◌, length};
 ghost use Rattle.call_log.specs.Fields.{bytes_spare, fields_of, numbers_spare};
 
 use text::number::number64;

@@ -1,5 +1,5 @@
 // The runs of frame entries that changed to one value.
-ghost use Rattle.core.specs.Prelude.{◌≡◌, ◌+◌, ◌*◌, ◌<◌, ◌≤◌, Bool, length, if◌then◌else◌};
+ghost use Rattle.std.specs.Prelude.{◌≡◌, ◌+◌, ◌*◌, ◌<◌, ◌≤◌, Bool, length, if◌then◌else◌};
 ghost use Rattle.common.specs.Rows.{put_at};
 ghost use Rattle.text.specs.Text.{only_if};
 ghost use Rattle.call_log.specs.Changes.{frame_lines, goes_further, run_ends};

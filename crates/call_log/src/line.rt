@@ -1,5 +1,5 @@
 // A line: a letter, parts, and the line's end.
-ghost use Rattle.core.specs.Prelude.{◌≡◌, ◌+◌, ◌*◌, ◌≤◌, min, [], ◌∷◌, length, take};
+ghost use Rattle.std.specs.Prelude.{◌≡◌, ◌+◌, ◌*◌, ◌≤◌, min, [], ◌∷◌, length, take};
 ghost use Rattle.common.specs.Rows.{put_at};
 ghost use Rattle.text.specs.Text.{hex};
 ghost use Rattle.call_log.specs.Lines.{line_bytes, part_bytes, parts_bytes};

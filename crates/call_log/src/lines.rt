@@ -1,5 +1,5 @@
 // The lines of a block but the first: rows, ports, the controller, register writes.
-ghost use Rattle.core.specs.Prelude.{◌≡◌, [], ◌∷◌, ◌++◌};
+ghost use Rattle.std.specs.Prelude.{◌≡◌, [], ◌∷◌, ◌++◌};
 ghost use Rattle.call_log.specs.Lines.{
   frame_line,
   head_line,

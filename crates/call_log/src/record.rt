@@ -1,5 +1,5 @@
 // A record of a log: the call that it says.
-ghost use Rattle.core.specs.Prelude.{◌≡◌, ◌%◌, ◌^◌, ◌<◌, ◌≤◌};
+ghost use Rattle.std.specs.Prelude.{◌≡◌, ◌%◌, ◌^◌, ◌<◌, ◌≤◌};
 ghost use Rattle.call_log.specs.Records.{
   guarded,
   plain,

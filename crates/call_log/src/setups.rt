@@ -1,5 +1,5 @@
 // The setup packets that changed.
-ghost use Rattle.core.specs.Prelude.{◌≡◌, ◌+◌, ◌*◌, ◌≤◌, length};
+ghost use Rattle.std.specs.Prelude.{◌≡◌, ◌+◌, ◌*◌, ◌≤◌, length};
 ghost use Rattle.common.specs.Rows.{put_at};
 ghost use Rattle.call_log.specs.Changes.{same_eight, setup_change, setup_lines};
 

@@ -1,5 +1,5 @@
 // The register writes of a call, in order.
-ghost use Rattle.core.specs.Prelude.{◌≡◌, ◌+◌, ◌*◌, ◌≤◌, length};
+ghost use Rattle.std.specs.Prelude.{◌≡◌, ◌+◌, ◌*◌, ◌≤◌, length};
 ghost use Rattle.common.specs.Rows.{put_at};
 ghost use Rattle.call_log.specs.Changes.{write_lines};
 ghost use Rattle.call_log.specs.Lines.{write_line};

@@ -1,5 +1,5 @@
 -- The returns of the answers.
-use Rattle.core.specs.Prelude.{◌≡◌, Bool, true, false}
+use Rattle.std.specs.Prelude.{◌≡◌, Bool, true, false}
 use borrow.Author.Tests.{eq-eqb, ne_eqb}
 use Rattle.pool.specs.declared.chain.View.{View}
 use Rattle.common.specs.declared.answer.Answer.{Answer}

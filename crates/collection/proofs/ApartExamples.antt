@@ -1,6 +1,6 @@
 -- Look and collect alone, run. A row is the answer, its value, the writes, the ring head's link, the slot's overlay next; then the slot's phase, mark
 -- and boundary, unanswered, and the owner of place 0.
-use Rattle.core.specs.Prelude.{◌≡◌, true, [], ◌∷◌, length}
+use Rattle.std.specs.Prelude.{◌≡◌, true, [], ◌∷◌, length}
 use mathlib.Core.Path.{refl}
 use Rattle.register.specs.Bits.{without_bits}
 use Rattle.register.specs.Writes.{and_then, no_writes}

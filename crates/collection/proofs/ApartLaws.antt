@@ -1,5 +1,5 @@
 -- The old call is look where no boundary is set, and collect alone where one is.
-use Rattle.core.specs.Prelude.{◌≡◌, ℕ, Bool, true, false, eqb, List, length}
+use Rattle.std.specs.Prelude.{◌≡◌, ℕ, Bool, true, false, eqb, List, length}
 use mathlib.Core.Bool.{true≢false}
 use mathlib.Core.Path.{refl, ◌∙◌}
 use Rattle.pool.specs.declared.chain.View.{View}

@@ -1,5 +1,5 @@
 -- The definitions, run.
-use Rattle.core.specs.Prelude.{◌≡◌, true, false, [], ◌∷◌, map, length}
+use Rattle.std.specs.Prelude.{◌≡◌, true, false, [], ◌∷◌, map, length}
 use mathlib.Core.Path.{refl}
 use Rattle.register.specs.Bits.{without_bits}
 use Rattle.register.specs.Writes.{and_then, no_writes}

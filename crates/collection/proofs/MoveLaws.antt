@@ -1,5 +1,5 @@
 -- How cancel and collect move the doorbell, the widths of the arrays, and what a collect's answer says of the tokens.
-use Rattle.core.specs.Prelude.{◌≡◌, ℕ, ◌+◌, ◌⊎◌, List, length}
+use Rattle.std.specs.Prelude.{◌≡◌, ℕ, ◌+◌, ◌⊎◌, List, length}
 use mathlib.Core.Path.{refl, ap}
 use mathlib.Core.Logic.{inl, inr}
 use native.Mathlib.Omega.{arith}

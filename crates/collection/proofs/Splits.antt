@@ -1,5 +1,5 @@
 -- What holds of each thing that a call may leave holds of what it leaves.
-use Rattle.core.specs.Prelude.{◌≡◌, ℕ, ◌<◌, Bool, true, false, eqb, leb, List, length}
+use Rattle.std.specs.Prelude.{◌≡◌, ℕ, ◌<◌, Bool, true, false, eqb, leb, List, length}
 use mathlib.Core.Path.{refl}
 use borrow.Author.Tests.{eqb-false, eqb-true, leb-false}
 use Rattle.pool.specs.declared.chain.View.{View}

@@ -1,5 +1,5 @@
 -- The returns of unlinking.
-use Rattle.core.specs.Prelude.{◌≡◌, ℕ, ◌+◌, ◌<◌, Bool, true, false, eqb, List}
+use Rattle.std.specs.Prelude.{◌≡◌, ℕ, ◌+◌, ◌<◌, Bool, true, false, eqb, List}
 use mathlib.Core.Path.{refl, sym, ap, ◌∙◌}
 use Rattle.common.proofs.TestLaws.{false_true}
 use Rattle.common.specs.Kinds.{is_interrupt}

@@ -1,5 +1,5 @@
 -- The returns of cancel and collect over words, where the rows fit.
-use Rattle.core.specs.Prelude.{◌≡◌, ℕ, ◌<◌, ◌≤◌, true, List, length}
+use Rattle.std.specs.Prelude.{◌≡◌, ℕ, ◌<◌, ◌≤◌, true, List, length}
 use mathlib.Core.Path.{refl, sym}
 use Rattle.common.specs.declared.answer.Refusal.TheVariants.{InvalidEndpoint, InvalidParameter}
 use Rattle.settings.specs.declared.settings.Settings.{Settings}

@@ -1,5 +1,5 @@
 -- The returns of the functions over words that answer, unlink, mark and finish: each is the case of the definition at the state that the words stand for.
-use Rattle.core.specs.Prelude.{◌≡◌, ℕ, ◌+◌, ◌^◌, ◌<◌, Bool, true, false, not, List}
+use Rattle.std.specs.Prelude.{◌≡◌, ℕ, ◌+◌, ◌^◌, ◌<◌, Bool, true, false, not, List}
 use mathlib.Core.Path.{refl, sym, ap, subst, ◌∙◌}
 use native.Mathlib.Omega.{arith}
 use Rattle.register.specs.Writes.{no_writes}

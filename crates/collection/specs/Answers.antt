@@ -1,5 +1,5 @@
 -- Document 01, "Numbers a call answers": what cancel, collect and look answer.
-use Rattle.core.specs.Prelude.{ℕ, Bool, cond, ◌==◌}
+use Rattle.std.specs.Prelude.{ℕ, Bool, cond, ◌==◌}
 use Rattle.register.specs.Writes.{no_writes}
 use Rattle.pool.specs.declared.chain.View.{View}
 use Rattle.state.specs.Plain.{Ehci}

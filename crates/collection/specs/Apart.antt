@@ -1,5 +1,5 @@
 -- Document 02, order 10: looking apart from collecting.
-use Rattle.core.specs.Prelude.{ℕ, cond, not, List, [], ◌∷◌, length}
+use Rattle.std.specs.Prelude.{ℕ, cond, not, List, [], ◌∷◌, length}
 use Rattle.pool.specs.declared.chain.View.{View}
 use Rattle.state.specs.Plain.{Ehci}
 use Rattle.common.specs.Answers.{Check, first, settle}

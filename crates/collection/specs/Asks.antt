@@ -1,5 +1,5 @@
 -- Which records a collect looks at: those of the slot's request, in the order of their places, and whether it stops at a short one.
-use Rattle.core.specs.Prelude.{ℕ, ◌+◌, Bool, true, false, [], ◌∷◌, take, ◌==◌, nat_le, nat_lt}
+use Rattle.std.specs.Prelude.{ℕ, ◌+◌, Bool, true, false, [], ◌∷◌, take, ◌==◌, nat_le, nat_lt}
 use Rattle.pool.specs.Chains.{no_ask}
 use Rattle.pool.specs.Places.{packed, places_from}
 use Rattle.pool.specs.Plain.{Ask}

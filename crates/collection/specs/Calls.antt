@@ -1,5 +1,5 @@
 -- Document 01, "Unlinking and collecting": cancel and collect.
-use Rattle.core.specs.Prelude.{ℕ, ◌+◌, Bool, true, false, cond, not, List, [], ◌∷◌, ◌++◌, length, take, drop, ◌==◌, nat_le}
+use Rattle.std.specs.Prelude.{ℕ, ◌+◌, Bool, true, false, cond, not, List, [], ◌∷◌, ◌++◌, length, take, drop, ◌==◌, nat_le}
 use Rattle.register.specs.Writes.{no_writes}
 use Rattle.pool.specs.Places.{clear_of}
 use Rattle.pool.specs.declared.chain.View.{View}

@@ -1,5 +1,5 @@
 -- Cancel and collect on one controller: the states that proofs/Examples.antt runs the definitions on.
-use Rattle.core.specs.Prelude.{ℕ, ◌*◌, List, [], ◌∷◌, ◌++◌, replicate, slice_index}
+use Rattle.std.specs.Prelude.{ℕ, ◌*◌, List, [], ◌∷◌, ◌++◌, replicate, slice_index}
 use Rattle.descriptor.specs.declared.qtd.QueueTransferDescriptor.{QueueTransferDescriptor}
 use Rattle.pool.specs.Chains.{Seen, blank, read_of, seen_from, view_of, with_token}
 use Rattle.pool.specs.Places.{list_of}

@@ -1,5 +1,5 @@
 -- What cancel and collect over words leave, as the state that the words stand for.
-use Rattle.core.specs.Prelude.{◌≡◌, ℕ, cond, List}
+use Rattle.std.specs.Prelude.{◌≡◌, ℕ, cond, List}
 use Rattle.register.specs.Writes.{no_writes}
 use Rattle.bitset.specs.Places.{set_places}
 use Rattle.common.specs.declared.answer.Answer.TheVariants.{Refused as RefusedCall}

@@ -1,5 +1,5 @@
 // What cancel, collect and look leave.
-ghost use Rattle.core.specs.Prelude.{◌≡◌};
+ghost use Rattle.std.specs.Prelude.{◌≡◌};
 ghost use Rattle.collection.specs.Words.{refused_cancel_words, refused_collect_words, passed_words, pending_words};
 
 use crate::collected::Collected;

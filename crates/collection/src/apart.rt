@@ -1,5 +1,5 @@
 // Looking apart from collecting: a look frees nothing, and collect alone unlinks nothing.
-ghost use Rattle.core.specs.Prelude.{◌≡◌, ℕ, ◌+◌, ◌*◌, true, length};
+ghost use Rattle.std.specs.Prelude.{◌≡◌, ℕ, ◌+◌, ◌*◌, true, length};
 ghost use Rattle.opening.specs.Opening.{rows_are_fit};
 ghost use Rattle.words.specs.Good.{Good, Tidy};
 ghost use Rattle.words.specs.View.{view};

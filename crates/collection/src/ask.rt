@@ -1,5 +1,5 @@
 // Which records a collect looks at.
-ghost use Rattle.core.specs.Prelude.{◌≡◌, ◌+◌, ◌*◌, ◌≤◌, length};
+ghost use Rattle.std.specs.Prelude.{◌≡◌, ◌+◌, ◌*◌, ◌≤◌, length};
 ghost use Rattle.words.specs.Good.{Good};
 ghost use Rattle.words.specs.View.{view};
 ghost use Rattle.pool.specs.Words.{AskWordsGood};

@@ -1,5 +1,5 @@
 // Cancel and collect, on words in their ranges. The lengths of the rows that are not lent are those that opening fixed.
-ghost use Rattle.core.specs.Prelude.{◌≡◌, ℕ, ◌+◌, ◌*◌, true, length};
+ghost use Rattle.std.specs.Prelude.{◌≡◌, ℕ, ◌+◌, ◌*◌, true, length};
 ghost use Rattle.opening.specs.Opening.{rows_are_fit};
 ghost use Rattle.words.specs.Good.{Good, Tidy};
 ghost use Rattle.words.specs.View.{view};

@@ -1,5 +1,5 @@
 // What cancel, collect and look answer.
-ghost use Rattle.core.specs.Prelude.{◌≡◌};
+ghost use Rattle.std.specs.Prelude.{◌≡◌};
 ghost use Rattle.collection.specs.Answers.{collected_number, pending_of, outcome_of};
 
 use common::answer::{Answer, Refusal};

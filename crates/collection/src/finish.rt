@@ -1,5 +1,5 @@
 // What a collect does with a request, by whether its boundary is set.
-ghost use Rattle.core.specs.Prelude.{◌≡◌, ◌+◌, ◌*◌, ◌<◌, length};
+ghost use Rattle.std.specs.Prelude.{◌≡◌, ◌+◌, ◌*◌, ◌<◌, length};
 ghost use Rattle.pipe.specs.Endpoints.{endpoint_at, with_toggle};
 ghost use Rattle.token.specs.Overlay.{kept_toggle};
 ghost use Rattle.pipe.specs.declared.endpoints.Endpoint.TheVariants.{Linked, Unlinking};

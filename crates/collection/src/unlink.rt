@@ -1,5 +1,5 @@
 // Unlinking a request: its head out of the schedule, the boundary that it waits for, and the mark of a cancelled one.
-ghost use Rattle.core.specs.Prelude.{◌≡◌, ◌+◌, ◌*◌, ◌<◌, length};
+ghost use Rattle.std.specs.Prelude.{◌≡◌, ◌+◌, ◌*◌, ◌<◌, length};
 ghost use Rattle.pipe.specs.Endpoints.{endpoint_at};
 ghost use Rattle.pipe.specs.declared.endpoints.Endpoint.TheVariants.{Unlinking};
 ghost use Rattle.common.specs.Kinds.{is_interrupt};

@@ -1,5 +1,5 @@
 -- The free descriptors of a state and the free places of the pool are the same.
-use Rattle.core.specs.Prelude.{◌≡◌, ℕ, zero, suc, ◌+◌, ◌≤◌, min, Bool, true, false, eqb, List, [], ◌∷◌, length, take, replicate}
+use Rattle.std.specs.Prelude.{◌≡◌, ℕ, zero, suc, ◌+◌, ◌≤◌, min, Bool, true, false, eqb, List, [], ◌∷◌, length, take, replicate}
 use mathlib.Core.Path.{refl, ap, ◌∙◌}
 use native.Mathlib.Omega.{arith}
 use Rattle.pool.specs.Places.{bit_of, count_of, places_from}

@@ -1,5 +1,5 @@
 -- What a call that is accepted may count on.
-use Rattle.core.specs.Prelude.{◌≡◌, Bool, true, ◌&&◌}
+use Rattle.std.specs.Prelude.{◌≡◌, Bool, true, ◌&&◌}
 use Rattle.common.proofs.TestLaws.{both_tells}
 use Rattle.state.specs.Plain.{Ehci}
 use Rattle.state.specs.Ranges.{in_ranges}

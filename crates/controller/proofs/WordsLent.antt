@@ -1,5 +1,5 @@
 -- A good state in words is accepted with every row that has the length that opening fixed.
-use Rattle.core.specs.Prelude.{◌≡◌, ℕ, ◌+◌, ◌*◌, true, List}
+use Rattle.std.specs.Prelude.{◌≡◌, ℕ, ◌+◌, ◌*◌, true, List}
 use mathlib.Core.Path.{refl, sym}
 use Rattle.settings.specs.declared.settings.Settings.{Settings}
 use Rattle.settings.specs.Settings.{pool_length}

@@ -1,5 +1,5 @@
 -- Document 01: "Addresses are allotted 1 to 127 in turn"; after 127, 2.
-use Rattle.core.specs.Prelude.{ℕ, ◌+◌, not, [], ◌∷◌, nat_lt}
+use Rattle.std.specs.Prelude.{ℕ, ◌+◌, not, [], ◌∷◌, nat_lt}
 use Rattle.common.specs.declared.answer.Refusal.TheVariants.{InvalidParameter, SlotLimitReached}
 use Rattle.controller.specs.Plain.{Allotment}
 use Rattle.controller.specs.declared.calls.Allotted.{Allotted}

@@ -1,5 +1,5 @@
 -- Document 01, the order of checks: "First: a lent row of a length other than opening fixed, or a state outside its ranges".
-use Rattle.core.specs.Prelude.{ℕ, Bool, ◌&&◌}
+use Rattle.std.specs.Prelude.{ℕ, Bool, ◌&&◌}
 use Rattle.state.specs.Plain.{Ehci}
 use Rattle.state.specs.Ranges.{in_ranges}
 use Rattle.controller.specs.Plain.{Lengths}

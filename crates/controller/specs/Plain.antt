@@ -1,5 +1,5 @@
 -- The lengths that a call is lent, and what an allotment leaves of the plain state.
-use Rattle.core.specs.Prelude.{ℕ}
+use Rattle.std.specs.Prelude.{ℕ}
 use Rattle.state.specs.Plain.{Ehci}
 use Rattle.controller.specs.declared.calls.Allotted.{Allotted}
 

@@ -1,5 +1,5 @@
 -- What a caller may ask of a state: its free descriptors, whether a slot has an uncollected request, whose a place is.
-use Rattle.core.specs.Prelude.{ℕ, ◌+◌, Bool, true, false, List, [], ◌∷◌, take, ◌==◌, slice_index}
+use Rattle.std.specs.Prelude.{ℕ, ◌+◌, Bool, true, false, List, [], ◌∷◌, take, ◌==◌, slice_index}
 use Rattle.pipe.specs.declared.endpoints.Endpoint.{Endpoint}
 use Rattle.pipe.specs.declared.endpoints.Endpoint.TheVariants.{Closed, Idle, Linked, Unlinking}
 use Rattle.state.specs.Plain.{Ehci}

@@ -1,5 +1,5 @@
 -- What an allotment over words leaves, as the state that the words stand for; and what a slot's first word says.
-use Rattle.core.specs.Prelude.{ℕ, Bool, not, List, ◌==◌, nat_le}
+use Rattle.std.specs.Prelude.{ℕ, Bool, not, List, ◌==◌, nat_le}
 use Rattle.words.specs.Record.{phase_in, word_at}
 use Rattle.settings.specs.declared.settings.Settings.{Settings}
 use Rattle.words.specs.View.{state_of}

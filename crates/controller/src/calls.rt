@@ -1,5 +1,5 @@
 // The next device address, of a core in its ranges.
-ghost use Rattle.core.specs.Prelude.{◌≡◌, ℕ, true, List};
+ghost use Rattle.std.specs.Prelude.{◌≡◌, ℕ, true, List};
 ghost use Rattle.state.specs.Ranges.{in_ranges};
 ghost use Rattle.words.specs.View.{view};
 ghost use Rattle.controller.specs.Address.{allot_of};

@@ -1,5 +1,5 @@
 // What a caller may ask of the words. Nothing changes. A slot that the row does not have is closed, with no request.
-ghost use Rattle.core.specs.Prelude.{◌≡◌, ◌+◌, ◌*◌, length, slice_index};
+ghost use Rattle.std.specs.Prelude.{◌≡◌, ◌+◌, ◌*◌, length, slice_index};
 ghost use Rattle.bitset.specs.Places.{set_places, has_place as inPlaces};
 ghost use Rattle.pipe.specs.Endpoints.{flag_of};
 ghost use Rattle.words.specs.Record.{places_at};

@@ -1,5 +1,5 @@
 -- The returns of a call that is lent core, slots, heads and frames.
-use Rattle.core.specs.Prelude.{◌≡◌, ℕ, Bool, true, false, not, List, length}
+use Rattle.std.specs.Prelude.{◌≡◌, ℕ, Bool, true, false, not, List, length}
 use mathlib.Core.Path.{sym, ◌∙◌}
 use borrow.Author.Tests.{not-false, not-true}
 use Rattle.common.proofs.TestLaws.{false_true}

@@ -1,5 +1,5 @@
 -- The returns of a call that is lent core and slots; and that what it takes is good.
-use Rattle.core.specs.Prelude.{◌≡◌, ℕ, Bool, true, false, not, List}
+use Rattle.std.specs.Prelude.{◌≡◌, ℕ, Bool, true, false, not, List}
 use mathlib.Core.Path.{refl, sym, ◌∙◌}
 use borrow.Author.Tests.{not-false, not-true}
 use Rattle.common.proofs.TestLaws.{false_true}

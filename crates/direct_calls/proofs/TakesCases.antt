@@ -1,5 +1,5 @@
 -- The returns of the judges of rows besides the slots; and what they tell.
-use Rattle.core.specs.Prelude.{◌≡◌, ℕ, ◌+◌, ◌*◌, Bool, true, false, not, eqb, ◌≢◌, List}
+use Rattle.std.specs.Prelude.{◌≡◌, ℕ, ◌+◌, ◌*◌, Bool, true, false, not, eqb, ◌≢◌, List}
 use mathlib.Core.Path.{sym, ◌∙◌}
 use borrow.Author.Tests.{eq-eqb, eqb-true, ne_eqb, not-false}
 use Rattle.common.proofs.TestLaws.{both_tells}

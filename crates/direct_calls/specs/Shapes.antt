@@ -1,6 +1,6 @@
 -- What a call that is made directly leaves, by what it is lent. It judges that once: where it is not in its ranges the call refuses with 1 and all
 -- stays as it was, else it leaves what the call's definition says of the state that the words stand for.
-use Rattle.core.specs.Prelude.{◌≡◌, ℕ, ◌+◌, ◌*◌, Bool, true, false, ◌&&◌, List, length, ◌==◌}
+use Rattle.std.specs.Prelude.{◌≡◌, ℕ, ◌+◌, ◌*◌, Bool, true, false, ◌&&◌, List, length, ◌==◌}
 use Rattle.opening.specs.Opening.{rows_are_fit}
 use Rattle.state.specs.Plain.{Ehci}
 use Rattle.state.specs.Ranges.{in_ranges}

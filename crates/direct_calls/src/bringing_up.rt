@@ -1,5 +1,5 @@
 // Bringing the controller up. A step is lent the core alone.
-ghost use Rattle.core.specs.Prelude.{◌≡◌};
+ghost use Rattle.std.specs.Prelude.{◌≡◌};
 ghost use Rattle.common.specs.declared.answer.Refusal.TheVariants.{InvalidParameter};
 ghost use Rattle.bring_up.specs.BringUp.{start_of, step_of};
 ghost use Rattle.bring_up.specs.Words.{brought_view, refused_words};

@@ -1,5 +1,5 @@
 // The calls on endpoints. The next address is of the core alone, clear-halt is lent the slots, each of the others the slots and the heads.
-ghost use Rattle.core.specs.Prelude.{◌≡◌};
+ghost use Rattle.std.specs.Prelude.{◌≡◌};
 ghost use Rattle.controller.specs.Address.{allot_of};
 ghost use Rattle.controller.specs.Words.{allotted_view};
 ghost use Rattle.endpoint.specs.Calls.{change_left, clear_halt_of, close_of, open_endpoint_of, open_left, set_address_of, set_packet_size_of};

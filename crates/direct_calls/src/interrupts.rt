@@ -1,5 +1,5 @@
 // The calls on interrupts. All but a drain are lent the core alone.
-ghost use Rattle.core.specs.Prelude.{◌≡◌};
+ghost use Rattle.std.specs.Prelude.{◌≡◌};
 ghost use Rattle.interrupt.specs.Interrupts.{acknowledge_of, disable_of, drain_of, enable_of, rearm_of};
 ghost use Rattle.interrupt.specs.Words.{acknowledged_view, drained_view, settled_view};
 ghost use Rattle.direct_calls.specs.Refusals.{refused_acknowledgement, refused_drainage, refused_settled};

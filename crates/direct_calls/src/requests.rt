@@ -1,5 +1,5 @@
 // Cancel: the one call on requests that is lent no pool records.
-ghost use Rattle.core.specs.Prelude.{◌≡◌};
+ghost use Rattle.std.specs.Prelude.{◌≡◌};
 ghost use Rattle.common.specs.declared.answer.Refusal.TheVariants.{InvalidParameter};
 ghost use Rattle.words.specs.View.{view};
 ghost use Rattle.collection.specs.Calls.{cancel_of};

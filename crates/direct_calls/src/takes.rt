@@ -1,5 +1,5 @@
 // What a call that is lent heads, or heads and frames, asks first: their lengths, and the ranges of core and slots.
-ghost use Rattle.core.specs.Prelude.{◌≡◌, length};
+ghost use Rattle.std.specs.Prelude.{◌≡◌, length};
 ghost use Rattle.direct_calls.specs.Shapes.{takes_frames, takes_heads};
 
 use opening::heads::HEAD_WORDS;

@@ -1,5 +1,5 @@
 -- How many register writes the calls' own definitions make: at most six each.
-use Rattle.core.specs.Prelude.{ℕ, ◌≤◌, Bool, true, false, cond, eqb}
+use Rattle.std.specs.Prelude.{ℕ, ◌≤◌, Bool, true, false, cond, eqb}
 use native.Mathlib.Omega.{arith}
 use Rattle.register.specs.Writes.{and_then, no_writes}
 use Rattle.common.specs.declared.kinds.EndpointType.{EndpointType}

@@ -1,5 +1,5 @@
 -- What the walk of `apply` cites of the definitions: the calls that it makes, together, are what `applyWords` says, and what is decided may be written.
-use Rattle.core.specs.Prelude.{◌≡◌, ℕ, Bool, true, false, List, length}
+use Rattle.std.specs.Prelude.{◌≡◌, ℕ, Bool, true, false, List, length}
 use mathlib.Core.Path.{refl, sym, ◌∙◌, ap, subst}
 use Rattle.bitset.specs.Places.{set_places}
 use Rattle.common.proofs.TestLaws.{both_tells}

@@ -1,5 +1,5 @@
 -- What any call decides is fair: a refusal leaves all as before (7 not running), and there are at most six writes.
-use Rattle.core.specs.Prelude.{◌≡◌, ℕ, ◌+◌, ◌≤◌, Bool, true, false, cond, not, ◌&&◌, eqb, ltb, leb, List, [], ◌∷◌, length}
+use Rattle.std.specs.Prelude.{◌≡◌, ℕ, ◌+◌, ◌≤◌, Bool, true, false, cond, not, ◌&&◌, eqb, ltb, leb, List, [], ◌∷◌, length}
 use mathlib.Core.Path.{refl, sym, ap, subst, ◌∙◌}
 use borrow.Author.Tests.{not-true}
 use Rattle.register.specs.Bits.{any_of, only_bits, without_bits}

@@ -1,5 +1,5 @@
 -- What `look` finds: whether the words are accepted, and what is asked of the pool.
-use Rattle.core.specs.Prelude.{◌≡◌, ℕ, Bool, true, false, not, ◌&&◌, List}
+use Rattle.std.specs.Prelude.{◌≡◌, ℕ, Bool, true, false, not, ◌&&◌, List}
 use mathlib.Core.Path.{refl, sym, ap, subst, ◌∙◌}
 use Rattle.common.proofs.TestLaws.{false_true}
 use Rattle.pool.specs.Chains.{no_ask}

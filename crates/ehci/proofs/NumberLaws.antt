@@ -1,5 +1,5 @@
 -- The number of any call's answer is the one that its own crate gives.
-use Rattle.core.specs.Prelude.{◌≡◌, ℕ}
+use Rattle.std.specs.Prelude.{◌≡◌, ℕ}
 use mathlib.Core.Path.{refl}
 use Rattle.common.specs.Answers.{number_of}
 use Rattle.common.specs.declared.answer.Answer.{Answer}

@@ -1,5 +1,5 @@
 -- Whatever the state, the rows and the call: a refusal leaves all as before, and 7 all but that nothing runs.
-use Rattle.core.specs.Prelude.{◌≡◌, ℕ, ◌≢◌, List, length}
+use Rattle.std.specs.Prelude.{◌≡◌, ℕ, ◌≢◌, List, length}
 use mathlib.Core.Path.{refl, sym, ap, ◌∙◌}
 use native.Mathlib.Omega.{arith}
 use Rattle.register.specs.Writes.{no_writes}

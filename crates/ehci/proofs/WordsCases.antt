@@ -1,5 +1,5 @@
 -- Cases of what is decided over words, from what the callees say: each is the case of the plain state, at the state that the words stand for.
-use Rattle.core.specs.Prelude.{◌≡◌, ℕ, true, List, length}
+use Rattle.std.specs.Prelude.{◌≡◌, ℕ, true, List, length}
 use mathlib.Core.Path.{sym, ap, subst, ◌∙◌}
 use Rattle.register.specs.Writes.{no_writes}
 use Rattle.register.specs.declared.writes.Writes.{Writes}

@@ -2,7 +2,7 @@
 use Rattle.ehci.specs.Door.{apply_of}
 use Rattle.ehci.specs.Refusals.{FewWrites}
 use Rattle.ehci.proofs.Fair.{decided_fair}
-use Rattle.core.specs.Prelude.{length}
+use Rattle.std.specs.Prelude.{length}
 
 pub few_writes : FewWrites
 unfolding apply_of

@@ -1,5 +1,5 @@
 -- What each call decides, over the rows of numbers and what the pool's records say: the crates' own definitions, as one kind of reply.
-use Rattle.core.specs.Prelude.{ℕ, Bool, true, false, List, length}
+use Rattle.std.specs.Prelude.{ℕ, Bool, true, false, List, length}
 use Rattle.register.specs.Writes.{no_writes}
 use Rattle.pool.specs.Chains.{no_ask}
 use Rattle.pool.specs.Plain.{Ask}

@@ -1,5 +1,5 @@
 -- One call on a world: the state and the four rows. What the pool's records say comes in, the chain that is decided is written to them.
-use Rattle.core.specs.Prelude.{ℕ, List, length}
+use Rattle.std.specs.Prelude.{ℕ, List, length}
 use Rattle.descriptor.specs.declared.qtd.QueueTransferDescriptor.{QueueTransferDescriptor}
 use Rattle.pool.specs.Chains.{fill_of, read_of, seen_from, view_of}
 use Rattle.pool.specs.Places.{list_of}

@@ -1,6 +1,6 @@
 -- Document 01, "Numbers a call answers": "0, 9, 10 and 11 are results; the rest are refusals and leave all as before, but 7 leaves the controller not running, registers as written."
 -- And of any answer: "its register writes, at most 6".
-use Rattle.core.specs.Prelude.{◌≡◌, ℕ, ◌≤◌, ◌≢◌, List}
+use Rattle.std.specs.Prelude.{◌≡◌, ℕ, ◌≤◌, ◌≢◌, List}
 use Rattle.register.specs.Writes.{no_writes}
 use Rattle.descriptor.specs.declared.qtd.QueueTransferDescriptor.{QueueTransferDescriptor}
 use Rattle.state.specs.State.{with_bring_up}

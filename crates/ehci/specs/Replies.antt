@@ -1,5 +1,5 @@
 -- Document 01, "Numbers a call answers", for any call: the number, what goes with it, and what a call's own result says.
-use Rattle.core.specs.Prelude.{ℕ, List, [], ◌∷◌}
+use Rattle.std.specs.Prelude.{ℕ, List, [], ◌∷◌}
 use Rattle.register.specs.Writes.{no_writes}
 use Rattle.register.specs.declared.writes.Writes.{Writes}
 use Rattle.pool.specs.Chains.{no_chain}

@@ -1,5 +1,5 @@
 -- Over words a call is that of the state that they stand for, but for the refusals by range: outside the rows' lengths or the words' ranges 1, and all as it was.
-use Rattle.core.specs.Prelude.{◌≡◌, ℕ, true, false, List, length}
+use Rattle.std.specs.Prelude.{◌≡◌, ℕ, true, false, List, length}
 use Rattle.common.specs.declared.answer.Refusal.TheVariants.{InvalidParameter}
 use Rattle.descriptor.specs.declared.qtd.QueueTransferDescriptor.{QueueTransferDescriptor}
 use Rattle.words.specs.declared.core.Core.{Core}

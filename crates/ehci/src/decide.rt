@@ -1,5 +1,5 @@
 // What a call decides on a state in words. It never sees the pool's records: what they say comes in, what is written to them goes out.
-ghost use Rattle.core.specs.Prelude.{◌≡◌, ℕ, ◌+◌, ◌*◌, true, List, length};
+ghost use Rattle.std.specs.Prelude.{◌≡◌, ℕ, ◌+◌, ◌*◌, true, List, length};
 ghost use Rattle.state.specs.Ranges.{in_ranges};
 ghost use Rattle.opening.specs.Opening.{rows_are_fit};
 ghost use Rattle.controller.specs.Lent.{accepts_of};

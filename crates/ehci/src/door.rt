@@ -1,5 +1,5 @@
 // The one door: any call, over the core by value and the five lent rows.
-ghost use Rattle.core.specs.Prelude.{◌≡◌, length};
+ghost use Rattle.std.specs.Prelude.{◌≡◌, length};
 ghost use Rattle.ehci.specs.Door.{applied};
 ghost use Rattle.ehci.specs.WordsDoor.{WordsAfter, accepts_words, apply_words, reply_view};
 

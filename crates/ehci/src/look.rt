@@ -1,5 +1,5 @@
 // What every call asks first, once: the rows' lengths and the state's ranges; and which records it looks at.
-ghost use Rattle.core.specs.Prelude.{◌≡◌, true};
+ghost use Rattle.std.specs.Prelude.{◌≡◌, true};
 ghost use Rattle.words.specs.Good.{Good};
 ghost use Rattle.ehci.specs.WordsDecides.{AsksGood, LooksGood};
 ghost use Rattle.ehci.specs.WordsDoor.{accepts_words};

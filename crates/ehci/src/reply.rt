@@ -1,5 +1,5 @@
 // What any call answers and leaves, and what is then written to the pool.
-ghost use Rattle.core.specs.Prelude.{◌≡◌};
+ghost use Rattle.std.specs.Prelude.{◌≡◌};
 ghost use Rattle.ehci.specs.WordsDecides.{replied_words, refused_reply_words, changed_words, settled_words, brought_words, laid_only, marked_only};
 ghost use Rattle.ehci.specs.Replies.{answered_number, event_number, simply, opened_answer, allotted_answer, submitted_answer, collected_answer, acknowledged_answer, drained_answer, brought_answer};
 

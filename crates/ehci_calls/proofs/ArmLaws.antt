@@ -1,5 +1,5 @@
 -- A call that is made directly is an arm of `apply`, by what it is lent: from its shape, how its result reads as a reply, and the door's arm.
-use Rattle.core.specs.Prelude.{◌≡◌, ℕ, Bool, true, false, List, length}
+use Rattle.std.specs.Prelude.{◌≡◌, ℕ, Bool, true, false, List, length}
 use mathlib.Core.Path.{refl, sym, ap, ◌∙◌}
 use Rattle.common.specs.declared.answer.Refusal.TheVariants.{InvalidParameter}
 use Rattle.common.proofs.TestLaws.{both_tells}

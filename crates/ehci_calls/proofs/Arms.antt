@@ -1,5 +1,5 @@
 -- Each of the fourteen calls that are made directly is its arm of `apply`, for any result that meets its contract.
-use Rattle.core.specs.Prelude.{ℕ, List}
+use Rattle.std.specs.Prelude.{ℕ, List}
 use mathlib.Core.Path.{refl}
 use Rattle.common.specs.declared.answer.Refusal.TheVariants.{InvalidParameter}
 use Rattle.words.specs.declared.core.Core.{Core}

@@ -1,6 +1,6 @@
 -- Plain data that is passed by value, as a law over any of it takes it: a row that says nothing at exit, with its laws.
 -- Its row is that of the type itself where the type is a number or a declared struct of plain data.
-use Rattle.core.specs.Prelude.{◌≡◌, List, [], ◌∷◌}
+use Rattle.std.specs.Prelude.{◌≡◌, List, [], ◌∷◌}
 use seplogic.Ra.Ura.{Ura}
 use mir.Syntax.{Ty, Width, Written, ty_int}
 use mir.Val.{Val, vint}

@@ -1,5 +1,5 @@
 -- The world of the example is as it says: by computing.
-use Rattle.core.specs.Prelude.{◌≡◌, true, false}
+use Rattle.std.specs.Prelude.{◌≡◌, true, false}
 use mathlib.Core.Path.{refl}
 use Rattle.register.specs.Bits.{only_bits, without_bits}
 use Rattle.bitset.specs.Places.{all_below, none_in}

@@ -1,6 +1,6 @@
 -- One law for every named call with three parameters of its own: it makes its `Call` by a covered function, lends the five rows on to `apply` and returns what that answers.
 -- At any plain data, any maker #g and any F that the maker is said to compute: a walk of the MIR, with the rows given up to `apply`. Assumes nothing.
-use Rattle.core.specs.Prelude.{◌≡◌, ℕ, List, [], ◌∷◌, length}
+use Rattle.std.specs.Prelude.{◌≡◌, ℕ, List, [], ◌∷◌, length}
 use mathlib.Core.Path.{refl, subst}
 use seplogic.Ra.Ura.{Ura}
 use mir.Syntax.{Fn, Name, named, erased, mut, ty_int, ty_ref, w8, w32, w64, local, value_local, place, deref, field, copy, addr_of, aggregate, assign, call, seq, return}

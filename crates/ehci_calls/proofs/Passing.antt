@@ -1,5 +1,5 @@
 -- What a named call hands on to `apply`, whatever parameters it has of its own: the core, its `Call` and the five rows, which it gives up. Assumes nothing.
-use Rattle.core.specs.Prelude.{◌≡◌, ℕ, List, [], ◌∷◌, length}
+use Rattle.std.specs.Prelude.{◌≡◌, ℕ, List, [], ◌∷◌, length}
 use seplogic.Ra.Ura.{Ura}
 use mir.Syntax.{named}
 use mir.Val.{Val}

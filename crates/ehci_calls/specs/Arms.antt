@@ -1,6 +1,6 @@
 -- The fourteen calls that are made directly, held to the door: each leaves what `apply` leaves of its `Call`, where `apply` accepts the words and
 -- where the call refuses what it is lent. Between the two `apply` refuses what the call is not lent, and so does not judge.
-use Rattle.core.specs.Prelude.{◌≡◌, ℕ, Bool, true, false, List, length}
+use Rattle.std.specs.Prelude.{◌≡◌, ℕ, Bool, true, false, List, length}
 use Rattle.common.specs.declared.answer.Refusal.TheVariants.{InvalidParameter}
 use Rattle.register.specs.Writes.{no_writes}
 use Rattle.descriptor.specs.declared.qtd.QueueTransferDescriptor.{QueueTransferDescriptor}

@@ -1,5 +1,5 @@
 // The calls on requests that are lent the pool's records, by name.
-ghost use Rattle.core.specs.Prelude.{◌≡◌, length};
+ghost use Rattle.std.specs.Prelude.{◌≡◌, length};
 ghost use Rattle.ehci.specs.Door.{applied};
 ghost use Rattle.ehci.specs.WordsDoor.{WordsAfter, accepts_words, apply_words, reply_view};
 ghost use Rattle.ehci.specs.declared.call.Call.TheVariants.{Submit, Writeback, Collect};

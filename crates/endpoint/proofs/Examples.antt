@@ -1,5 +1,5 @@
 -- The definitions, run on a controller with two slots: whole outcomes, and the refusals in 01's order.
-use Rattle.core.specs.Prelude.{◌≡◌, ℕ, true, List}
+use Rattle.std.specs.Prelude.{◌≡◌, ℕ, true, List}
 use mathlib.Core.Path.{refl}
 use Rattle.register.specs.Bits.{without_bits}
 use Rattle.common.specs.declared.kinds.EndpointType.{EndpointType}

@@ -1,5 +1,5 @@
 -- Slots of a state that is accepted: the head of an open one is in the row.
-use Rattle.core.specs.Prelude.{◌≡◌, ℕ, ◌+◌, ◌*◌, ◌<◌, ◌≤◌, true, List, length}
+use Rattle.std.specs.Prelude.{◌≡◌, ℕ, ◌+◌, ◌*◌, ◌<◌, ◌≤◌, true, List, length}
 use native.Mathlib.Omega.{arith}
 use Rattle.state.specs.Plain.{Ehci}
 use Rattle.controller.specs.Lent.{accepts_of, lengths}

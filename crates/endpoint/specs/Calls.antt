@@ -1,5 +1,5 @@
 -- Document 01: open endpoint, close, set address, set packet size; 02 order 6: clear-halt.
-use Rattle.core.specs.Prelude.{ℕ, ◌+◌, ◌*◌, max, Bool, true, false, not, List, [], ◌∷◌, length, replicate, nat_le}
+use Rattle.std.specs.Prelude.{ℕ, ◌+◌, ◌*◌, max, Bool, true, false, not, List, [], ◌∷◌, length, replicate, nat_le}
 use Rattle.common.specs.declared.kinds.EndpointType.{EndpointType}
 use Rattle.descriptor.specs.Heads.{endpoint_head, words_of, with_address, with_packet_size}
 use Rattle.common.specs.Tests.{every}

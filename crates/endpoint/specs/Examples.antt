@@ -1,5 +1,5 @@
 -- A controller with two slots, on which the definitions are run.
-use Rattle.core.specs.Prelude.{ℕ, true, List, ◌∷◌, ◌++◌, replicate}
+use Rattle.std.specs.Prelude.{ℕ, true, List, ◌∷◌, ◌++◌, replicate}
 use Rattle.settings.specs.declared.settings.Settings.{Settings}
 use Rattle.common.specs.declared.kinds.EndpointType.TheVariants.{Bulk}
 use Rattle.state.specs.Plain.{Ehci}

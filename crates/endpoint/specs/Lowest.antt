@@ -1,5 +1,5 @@
 -- Document 01: "the lowest closed slot is used".
-use Rattle.core.specs.Prelude.{ℕ, zero, suc, cond, List, ◌==◌, slice_index}
+use Rattle.std.specs.Prelude.{ℕ, zero, suc, cond, List, ◌==◌, slice_index}
 
 -- the first of n slots, from slot k on, whose phase is 0; the one after them where none is
 unfoldable pub closed_from : List ℕ → ℕ → ℕ → ℕ

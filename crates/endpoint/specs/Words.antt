@@ -1,5 +1,5 @@
 -- What the calls over words leave, as the state that the words stand for; and their checks after the first, which the door asks.
-use Rattle.core.specs.Prelude.{ℕ, Bool, not, List, [], ◌∷◌, nat_le}
+use Rattle.std.specs.Prelude.{ℕ, Bool, not, List, [], ◌∷◌, nat_le}
 use Rattle.common.specs.Answers.{first, settle}
 use Rattle.common.specs.Kinds.{is_isochronous}
 use Rattle.common.specs.declared.answer.Answer.{Answer}

@@ -1,6 +1,6 @@
 // Open endpoint, close, set address, set packet size, clear-halt, on words in their ranges. Clear-halt is lent the slots, each of the others
 // the slots and the heads; the lengths of the rows that it is not lent are those that opening fixed.
-ghost use Rattle.core.specs.Prelude.{◌≡◌, ℕ, ◌+◌, ◌*◌, max, true, length};
+ghost use Rattle.std.specs.Prelude.{◌≡◌, ℕ, ◌+◌, ◌*◌, max, true, length};
 ghost use Rattle.opening.specs.Opening.{rows_are_fit};
 ghost use Rattle.words.specs.Good.{Good, Tidy};
 ghost use Rattle.words.specs.View.{view};

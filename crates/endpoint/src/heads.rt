@@ -1,5 +1,5 @@
 // The head of a slot.
-ghost use Rattle.core.specs.Prelude.{◌≡◌, ◌+◌, ◌*◌, ◌≤◌, length};
+ghost use Rattle.std.specs.Prelude.{◌≡◌, ◌+◌, ◌*◌, ◌≤◌, length};
 ghost use Rattle.descriptor.specs.Heads.{endpoint_head, words_of};
 ghost use Rattle.endpoint.specs.Calls.{with_head};
 

@@ -1,5 +1,5 @@
 // The slot that a new endpoint gets.
-ghost use Rattle.core.specs.Prelude.{◌≡◌};
+ghost use Rattle.std.specs.Prelude.{◌≡◌};
 ghost use Rattle.words.specs.Good.{Good};
 ghost use Rattle.words.specs.View.{view};
 ghost use Rattle.endpoint.specs.Calls.{lowest_slot};

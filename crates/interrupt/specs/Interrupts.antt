@@ -1,5 +1,5 @@
 -- Document 01, "Interrupts": acknowledge, drain, rearm, enable, disable.
-use Rattle.core.specs.Prelude.{ℕ, Bool, true, false, cond, not, ◌&&◌, [], ◌∷◌, ◌==◌}
+use Rattle.std.specs.Prelude.{ℕ, Bool, true, false, cond, not, ◌&&◌, [], ◌∷◌, ◌==◌}
 use Rattle.register.specs.Bits.{with_bits, without_bits, only_bits, any_of}
 use Rattle.register.specs.Writes.{no_writes, and_then}
 use Rattle.register.specs.declared.writes.Writes.{Writes}

@@ -1,5 +1,5 @@
 -- What the calls over words leave, as the state that the words stand for.
-use Rattle.core.specs.Prelude.{ℕ, List}
+use Rattle.std.specs.Prelude.{ℕ, List}
 use Rattle.settings.specs.declared.settings.Settings.{Settings}
 use Rattle.words.specs.View.{state_of}
 use Rattle.interrupt.specs.Plain.{Acknowledgement}

@@ -1,5 +1,5 @@
 // What an acknowledgment writes and notes.
-ghost use Rattle.core.specs.Prelude.{◌≡◌};
+ghost use Rattle.std.specs.Prelude.{◌≡◌};
 ghost use Rattle.interrupt.specs.Interrupts.{mask_word, acknowledge_writes};
 
 use register::bits::{only_bits, without_bits};

@@ -1,5 +1,5 @@
 // Acknowledge, drain, rearm, enable, disable, on a state in its ranges. All but a drain look at the core alone.
-ghost use Rattle.core.specs.Prelude.{◌≡◌, ℕ, true, not, ◌&&◌, List, ◌==◌};
+ghost use Rattle.std.specs.Prelude.{◌≡◌, ℕ, true, not, ◌&&◌, List, ◌==◌};
 ghost use Rattle.register.specs.Bits.{any_of};
 ghost use Rattle.token.specs.Tokens.{only_if};
 ghost use Rattle.state.specs.Ranges.{in_ranges};

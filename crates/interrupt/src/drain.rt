@@ -1,5 +1,5 @@
 // What a drain counts, and what it takes.
-ghost use Rattle.core.specs.Prelude.{◌≡◌};
+ghost use Rattle.std.specs.Prelude.{◌≡◌};
 ghost use Rattle.interrupt.specs.Interrupts.{counted_of, cleared_of};
 ghost use Rattle.interrupt.specs.Words.{counted_view};
 ghost use Rattle.words.specs.Good.{Good, Tidy};

@@ -1,5 +1,5 @@
 -- Opening and the pool: where it is accepted every record but the shared one is thirteen zero words, where it is refused every record is as it was.
-use Rattle.core.specs.Prelude.{◌≡◌, ℕ, Bool, true, false, List, length, replicate}
+use Rattle.std.specs.Prelude.{◌≡◌, ℕ, Bool, true, false, List, length, replicate}
 use Rattle.descriptor.specs.declared.qtd.QueueTransferDescriptor.{QueueTransferDescriptor as Record}
 use Rattle.settings.specs.declared.settings.Settings.{Settings}
 use Rattle.settings.specs.Settings.{frames_length, heads_length, settings_good, setups_length}

@@ -1,5 +1,5 @@
 -- The returns of opening in words.
-use Rattle.core.specs.Prelude.{◌≡◌, ℕ, ◌*◌, Bool, true, false, not, List, length, replicate}
+use Rattle.std.specs.Prelude.{◌≡◌, ℕ, ◌*◌, Bool, true, false, not, List, length, replicate}
 use mathlib.Core.Path.{sym, ◌∙◌}
 use borrow.Author.Tests.{eqb-true, not-false, not-true}
 use Rattle.common.specs.declared.answer.Refusal.TheVariants.{InvalidParameter}

@@ -1,5 +1,5 @@
 -- What opening in words gives: an accepted one's core and row of slots are good, a refused one's core is outside its ranges.
-use Rattle.core.specs.Prelude.{◌≡◌, ℕ, Bool, true, false, List, length}
+use Rattle.std.specs.Prelude.{◌≡◌, ℕ, Bool, true, false, List, length}
 use mathlib.Core.Path.{refl, sym, ap, subst, ◌∙◌}
 use Rattle.common.specs.declared.answer.Answer.TheVariants.{Done, Refused}
 use Rattle.common.specs.declared.answer.Refusal.TheVariants.{InvalidParameter}

@@ -1,6 +1,6 @@
 -- Opening in words: where it is accepted every record but the shared one is thirteen zero words, and the core and the row of slots stand for the fresh state;
 -- where it is refused every row is as it was.
-use Rattle.core.specs.Prelude.{◌≡◌, ℕ, ◌+◌, ◌≤◌, Bool, true, false, List, length, replicate}
+use Rattle.std.specs.Prelude.{◌≡◌, ℕ, ◌+◌, ◌≤◌, Bool, true, false, List, length, replicate}
 use mathlib.Core.Path.{refl, sym, ap, subst, ◌∙◌}
 use native.Mathlib.Omega.{arith}
 use Rattle.common.specs.declared.answer.Answer.{Answer}

@@ -1,5 +1,5 @@
 -- "any two results allowed are proved the same", of opening in words: the answer, the core, the hub's record and the five rows.
-use Rattle.core.specs.Prelude.{◌≡◌, ℕ, ◌≤◌, List}
+use Rattle.std.specs.Prelude.{◌≡◌, ℕ, ◌≤◌, List}
 use mathlib.Core.Path.{refl, sym, ap, ◌∙◌}
 use Rattle.common.specs.declared.answer.Answer.{Answer}
 use Rattle.common.specs.declared.answer.Answer.TheVariants.{Done, Refused}

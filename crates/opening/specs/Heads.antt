@@ -1,5 +1,5 @@
 -- The lent row of heads: a head has 17 words; place 0 is the ring head's, slot k's is place k + 1.
-use Rattle.core.specs.Prelude.{ℕ, ◌+◌, ◌*◌, List, slice_index, slice_set}
+use Rattle.std.specs.Prelude.{ℕ, ◌+◌, ◌*◌, List, slice_index, slice_set}
 
 -- word i of the head at a place
 abbrev pub word_place : ℕ → ℕ → ℕ

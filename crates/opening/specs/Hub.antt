@@ -1,5 +1,5 @@
 -- The root ports' record as opening makes it: every port Uninit, no scan begun.
-use Rattle.core.specs.Prelude.{ℕ, replicate}
+use Rattle.std.specs.Prelude.{ℕ, replicate}
 use Rattle.opening.specs.declared.hub.EhciRootHub.{EhciRootHub}
 
 unfoldable pub opened_hub : ℕ → EhciRootHub

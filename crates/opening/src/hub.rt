@@ -1,5 +1,5 @@
 // The root ports' record, which the caller keeps: numbers only.
-ghost use Rattle.core.specs.Prelude.{◌≡◌};
+ghost use Rattle.std.specs.Prelude.{◌≡◌};
 ghost use Rattle.opening.specs.Hub.{opened_hub};
 
 // A port's state.

@@ -1,5 +1,5 @@
 // Opening a controller: the core by value, and the row of slots beside the other lent rows.
-ghost use Rattle.core.specs.Prelude.{◌≡◌, ◌^◌, ◌<◌, ◌≤◌, length, ◌==◌};
+ghost use Rattle.std.specs.Prelude.{◌≡◌, ◌^◌, ◌<◌, ◌≤◌, length, ◌==◌};
 ghost use Rattle.opening.specs.Words.{OpensWords, accepted_words, decide_words, decided_words, open_count, open_words, opened_rows, refused_words, slots_fit};
 ghost use Rattle.words.specs.Opened.{opened_rest};
 ghost use Rattle.settings.specs.Settings.{pool_length};

@@ -1,5 +1,5 @@
 -- What the types of a pipe and of a request say of their numbers.
-use Rattle.core.specs.Prelude.{◌^◌, ◌<◌, List}
+use Rattle.std.specs.Prelude.{◌^◌, ◌<◌, List}
 use mir.Val.{Val}
 use denote.Laws.{Is}
 use denote.Struct.Laws as LL

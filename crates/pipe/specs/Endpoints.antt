@@ -1,5 +1,5 @@
 -- A slot's endpoint: closed, idle, with a linked request, or with one that is unlinking.
-use Rattle.core.specs.Prelude.{ℕ, Bool, true, false, cond, not, ◌==◌, nat_lt}
+use Rattle.std.specs.Prelude.{ℕ, Bool, true, false, cond, not, ◌==◌, nat_lt}
 use Rattle.common.specs.declared.kinds.Direction.{Direction}
 use Rattle.common.specs.declared.kinds.Direction.TheVariants.{Out, In}
 use Rattle.common.specs.declared.kinds.EndpointType.{EndpointType}

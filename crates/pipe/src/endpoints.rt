@@ -1,5 +1,5 @@
 // A slot's endpoint: the numbers of a slot taken apart, and put together again.
-ghost use Rattle.core.specs.Prelude.{◌≡◌};
+ghost use Rattle.std.specs.Prelude.{◌≡◌};
 ghost use Rattle.pipe.specs.Endpoints.{kind_of, kind_number, direction_of, direction_number, flag_number, pipe_of, request_of, boundary_of, decoded, boundary_number, slot_with, bare_slot, encoded, with_toggle};
 
 use common::kinds::{Direction, EndpointType};

@@ -1,5 +1,5 @@
 // A slot's endpoint, read from the lent row of words and put there.
-ghost use Rattle.core.specs.Prelude.{◌≡◌, ◌+◌, ◌*◌, ◌≤◌, length};
+ghost use Rattle.std.specs.Prelude.{◌≡◌, ◌+◌, ◌*◌, ◌≤◌, length};
 ghost use Rattle.words.specs.Good.{Good};
 ghost use Rattle.token.specs.Chunks.{working_limit};
 ghost use Rattle.words.specs.Record.{SlotFits, last_at, put_slot, slot_in, word_at};

@@ -1,5 +1,5 @@
 -- The returns of submit.
-use Rattle.core.specs.Prelude.{◌≡◌, ℕ, Bool, false, not, List, length}
+use Rattle.std.specs.Prelude.{◌≡◌, ℕ, Bool, false, not, List, length}
 use mathlib.Core.Path.{refl, sym, ap, ◌∙◌}
 use borrow.Author.Tests.{not-false}
 use Rattle.state.specs.Plain.{Ehci}

@@ -1,5 +1,5 @@
 -- The returns of submit over words: what it refuses, what it settles.
-use Rattle.core.specs.Prelude.{◌≡◌, ℕ, ◌≤◌, true, List, length}
+use Rattle.std.specs.Prelude.{◌≡◌, ℕ, ◌≤◌, true, List, length}
 use mathlib.Core.Path.{refl, sym, ◌∙◌}
 use native.Mathlib.Omega.{arith}
 use Rattle.common.specs.declared.answer.Answer.{Answer}

@@ -1,5 +1,5 @@
 -- What submit and writeback answer and leave of the plain state, and the chain that they write.
-use Rattle.core.specs.Prelude.{ℕ, List}
+use Rattle.std.specs.Prelude.{ℕ, List}
 use Rattle.common.specs.declared.answer.Answer.{Answer}
 use Rattle.register.specs.declared.writes.Writes.{Writes}
 use Rattle.pool.specs.Plain.{Chain, Places}

@@ -1,5 +1,5 @@
 -- What submit and writeback over words leave, as the state that the words stand for and the chain that is then written.
-use Rattle.core.specs.Prelude.{ℕ, ◌+◌, ◌*◌, Bool, false, cond, not, ◌&&◌, List, [], ◌∷◌, nat_lt, slice_index}
+use Rattle.std.specs.Prelude.{ℕ, ◌+◌, ◌*◌, Bool, false, cond, not, ◌&&◌, List, [], ◌∷◌, nat_lt, slice_index}
 use Rattle.bitset.specs.Places.{has_place, set_places, without_of}
 use Rattle.common.specs.declared.answer.Refusal.{Refusal}
 use Rattle.controller.specs.declared.lent.Readings.{Readings}

@@ -1,5 +1,5 @@
 -- Document 01: "Writeback (place, token): 1 unless an uncollected request has that descriptor; only its token changes."
-use Rattle.core.specs.Prelude.{ℕ, ◌-◌, Bool, not, ◌&&◌, List, [], ◌∷◌, nat_le, nat_lt, slice_index}
+use Rattle.std.specs.Prelude.{ℕ, ◌-◌, Bool, not, ◌&&◌, List, [], ◌∷◌, nat_le, nat_lt, slice_index}
 use Rattle.pool.specs.Chains.{no_chain}
 use Rattle.pool.specs.Places.{packed}
 use Rattle.pool.specs.Plain.{Chain}

@@ -1,5 +1,5 @@
 // Whether a request is accepted: the checks of document 01, in its order.
-ghost use Rattle.core.specs.Prelude.{◌≡◌};
+ghost use Rattle.std.specs.Prelude.{◌≡◌};
 ghost use Rattle.words.specs.Good.{Good};
 ghost use Rattle.words.specs.View.{view};
 ghost use Rattle.request.specs.Submit.{judge_of, need_of_request, buffer_good, control_good, ranges_good};

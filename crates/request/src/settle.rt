@@ -1,5 +1,5 @@
 // What an accepted request takes, links and writes.
-ghost use Rattle.core.specs.Prelude.{◌≡◌, ◌+◌, ◌*◌, ◌^◌, ◌<◌, ◌≤◌, length};
+ghost use Rattle.std.specs.Prelude.{◌≡◌, ◌+◌, ◌*◌, ◌^◌, ◌<◌, ◌≤◌, length};
 ghost use Rattle.bitset.specs.Places.{set_places};
 ghost use Rattle.common.specs.declared.answer.Answer.TheVariants.{Done};
 ghost use Rattle.descriptor.specs.Heads.{qh_link};

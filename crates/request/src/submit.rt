@@ -1,5 +1,5 @@
 // Submit: its checks, then what it takes, links and writes. The descriptors that it writes come out as a laying.
-ghost use Rattle.core.specs.Prelude.{◌≡◌, ℕ, ◌+◌, ◌*◌, true, length};
+ghost use Rattle.std.specs.Prelude.{◌≡◌, ℕ, ◌+◌, ◌*◌, true, length};
 ghost use Rattle.opening.specs.Opening.{rows_are_fit};
 ghost use Rattle.pool.specs.Words.{LayingGood};
 ghost use Rattle.settings.specs.Settings.{pool_length};

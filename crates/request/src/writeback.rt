@@ -1,5 +1,5 @@
 // What the controller writes back: one token.
-ghost use Rattle.core.specs.Prelude.{◌≡◌, ℕ, true, List};
+ghost use Rattle.std.specs.Prelude.{◌≡◌, ℕ, true, List};
 ghost use Rattle.controller.specs.Lent.{accepts_of};
 ghost use Rattle.controller.specs.Plain.{Lengths};
 ghost use Rattle.pool.specs.Words.{MarkingGood};

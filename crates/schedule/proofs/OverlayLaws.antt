@@ -1,5 +1,5 @@
 -- What a submit's overlay leaves: three words of the slot's head are written, and the row keeps its length.
-use Rattle.core.specs.Prelude.{◌≡◌, ℕ, ◌+◌, ◌*◌, ◌≢◌, List, length, get_or}
+use Rattle.std.specs.Prelude.{◌≡◌, ℕ, ◌+◌, ◌*◌, ◌≢◌, List, length, get_or}
 use mathlib.Core.Path.{◌∙◌}
 use lib.ListN.{length-set}
 use lib.Seq.{get_or-set_other}

@@ -1,5 +1,5 @@
 -- Document 01, "Unlinking and collecting": the doorbell, the advances, and the boundaries.
-use Rattle.core.specs.Prelude.{ℕ, zero, suc, ◌+◌, ◌-◌, ◌%◌, Bool, true, false, not, ◌&&◌, ◌||◌, List, [], ◌∷◌, ◌==◌, nat_le, slice_index}
+use Rattle.std.specs.Prelude.{ℕ, zero, suc, ◌+◌, ◌-◌, ◌%◌, Bool, true, false, not, ◌&&◌, ◌||◌, List, [], ◌∷◌, ◌==◌, nat_le, slice_index}
 use Rattle.register.specs.Bits.{bit, with_bits, without_bits}
 use Rattle.register.specs.Writes.{and_then}
 use Rattle.register.specs.declared.writes.Write.{Write}

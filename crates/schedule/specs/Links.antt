@@ -1,5 +1,5 @@
 -- Document 01, "Descriptors, heads, links" and "Unlinking and collecting": the links of the ring and of the frame list.
-use Rattle.core.specs.Prelude.{ℕ, zero, suc, ◌+◌, ◌*◌, ◌/◌, Bool, true, false, cond, not, List, [], ◌∷◌, length, replicate, ◌==◌, slice_index, slice_set}
+use Rattle.std.specs.Prelude.{ℕ, zero, suc, ◌+◌, ◌*◌, ◌/◌, Bool, true, false, cond, not, List, [], ◌∷◌, length, replicate, ◌==◌, slice_index, slice_set}
 use Rattle.descriptor.specs.Heads.{qh_link}
 use Rattle.opening.specs.Heads.{with_head_word}
 use Rattle.common.specs.Rows.{put_at}

@@ -1,5 +1,5 @@
 -- Following the links of a schedule, as EHCI 3.6 reads them.
-use Rattle.core.specs.Prelude.{◌≡◌, ℕ, ◌+◌, ◌*◌, ◌<◌, ◌⊎◌, List, [], ◌∷◌, length, ◌≢◌}
+use Rattle.std.specs.Prelude.{◌≡◌, ℕ, ◌+◌, ◌*◌, ◌<◌, ◌⊎◌, List, [], ◌∷◌, length, ◌≢◌}
 use Rattle.state.specs.Plain.{Ehci}
 use Rattle.schedule.specs.Links.{slot_link, link_word}
 

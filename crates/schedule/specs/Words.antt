@@ -1,5 +1,5 @@
 -- A head that precedes another, by the first word of its slot.
-use Rattle.core.specs.Prelude.{ℕ, Bool, not, [], ◌∷◌, ◌==◌}
+use Rattle.std.specs.Prelude.{ℕ, Bool, not, [], ◌∷◌, ◌==◌}
 use Rattle.common.specs.Tests.{every}
 use Rattle.words.specs.Record.{kind_in, phase_in}
 use Rattle.schedule.specs.Links.{leads_to, same}

@@ -1,5 +1,5 @@
 // The doorbell of the asynchronous schedule: ringing it, counting its answers, and the boundaries of unlinked requests.
-ghost use Rattle.core.specs.Prelude.{◌≡◌, ◌<◌, ◌≤◌};
+ghost use Rattle.std.specs.Prelude.{◌≡◌, ◌<◌, ◌≤◌};
 ghost use Rattle.schedule.specs.Bell.{command_word, ring_of, unlinked_of, advanced_of, frame_of, frames_passed};
 
 use register::bits::{with_bits, without_bits};

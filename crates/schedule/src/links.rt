@@ -1,5 +1,5 @@
 // The links of the ring and of the frame list: attaching a head, unlinking it, and its overlay.
-ghost use Rattle.core.specs.Prelude.{◌≡◌, ◌+◌, ◌*◌, ◌^◌, ◌<◌, ◌≤◌, length, if◌then◌else◌};
+ghost use Rattle.std.specs.Prelude.{◌≡◌, ◌+◌, ◌*◌, ◌^◌, ◌<◌, ◌≤◌, length, if◌then◌else◌};
 ghost use Rattle.words.specs.Good.{Good};
 ghost use Rattle.words.specs.View.{view};
 ghost use Rattle.schedule.specs.Links.{detach_of, detached, head_address, periodic, predecessor_of, search_from, same, attached_ring, attached_frames, links, with_link_word, started_overlay, ended_overlay};

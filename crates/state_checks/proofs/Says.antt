@@ -1,5 +1,5 @@
 -- A walk's end where a function ensures nothing: of a goal P ∗ ⊤ₛ, P is left. Assumes nothing.
-use Rattle.core.specs.Prelude.{List}
+use Rattle.std.specs.Prelude.{List}
 use seplogic.Ra.Ura.{Ura}
 use base.Logic.{SProp, sep, emp, via, emp∗, comm∗}
 use types.Logic.{Logic}

@@ -1,5 +1,5 @@
 // The rows by value, each one longer than any opening lends it, of which the first places are lent.
-ghost use Rattle.core.specs.Prelude.{◌≤◌};
+ghost use Rattle.std.specs.Prelude.{◌≤◌};
 
 use descriptor::qtd::QueueTransferDescriptor;
 use ehci::call::Call;

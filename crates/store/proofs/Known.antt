@@ -1,5 +1,5 @@
 -- What is known of a store by its type: how long the row of slots is, and that every word of it and every free word has 64 bits.
-use Rattle.core.specs.Prelude.{◌≡◌, ℕ, zero, suc, ◌^◌, ◌<◌, List, [], ◌∷◌, map, length, get_or, take}
+use Rattle.std.specs.Prelude.{◌≡◌, ℕ, zero, suc, ◌^◌, ◌<◌, List, [], ◌∷◌, map, length, get_or, take}
 use mathlib.Core.Path.{sym, ◌∙◌}
 use lib.Dec.{lit<}
 use lib.ListN.{length-map}

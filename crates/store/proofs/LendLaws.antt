@@ -1,5 +1,5 @@
 -- Where parts of the rows are lent: what came back, each before the rest of its row, is what the contract of the owner says.
-use Rattle.core.specs.Prelude.{◌≡◌, ℕ, ◌≤◌, List, ◌++◌, length, take, drop}
+use Rattle.std.specs.Prelude.{◌≡◌, ℕ, ◌≤◌, List, ◌++◌, length, take, drop}
 use mathlib.Core.Path.{refl, sym, ap, subst, ◌∙◌}
 use lib.Seq.{take-append_seam}
 use lib.Seq.{length-take-le}

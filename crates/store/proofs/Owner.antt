@@ -6,7 +6,7 @@
 --     lends_part       the first k elements are lent so; the rest waits in LentPart.  comes_part  once κ is over all are back, the first ones at the last list
 --     lit_big          the operand `int_big w n`, which a large literal is, as the count 1024
 -- Assumes `Logic`.
-use Rattle.core.specs.Prelude.{◌≡◌, ℕ, ◌≤◌, List, [], ◌∷◌, ◌++◌, length, take, drop as drop-list}
+use Rattle.std.specs.Prelude.{◌≡◌, ℕ, ◌≤◌, List, [], ◌∷◌, ◌++◌, length, take, drop as drop-list}
 use mathlib.Core.Path.{refl, sym, ◌∙◌, ap, subst}
 use lib.ListN.{take-append-drop}
 use seplogic.Ra.Ura.{Ura}

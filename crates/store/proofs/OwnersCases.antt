@@ -1,5 +1,5 @@
 -- The owners of a store's places, by the words that are lent.
-use Rattle.core.specs.Prelude.{◌≡◌, ℕ, ◌≤◌, List, length, take}
+use Rattle.std.specs.Prelude.{◌≡◌, ℕ, ◌≤◌, List, length, take}
 use mathlib.Core.Path.{sym, ap, ◌∙◌}
 use native.Mathlib.Omega.{arith}
 use denote.Laws.{Is}

@@ -1,5 +1,5 @@
 -- The returns of the functions of a store.
-use Rattle.core.specs.Prelude.{◌≡◌, ℕ, ◌*◌, min, true, List, [], ◌∷◌, ◌++◌, length, take, replicate}
+use Rattle.std.specs.Prelude.{◌≡◌, ℕ, ◌*◌, min, true, List, [], ◌∷◌, ◌++◌, length, take, replicate}
 use mathlib.Core.Path.{refl, sym, ap, subst, ◌∙◌}
 use native.Mathlib.Omega.{arith}
 use lib.Seq.{length-take-le}

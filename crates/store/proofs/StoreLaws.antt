@@ -1,5 +1,5 @@
 -- What is promised of a store.
-use Rattle.core.specs.Prelude.{◌≡◌, ℕ, min, true}
+use Rattle.std.specs.Prelude.{◌≡◌, ℕ, min, true}
 use mathlib.Core.Path.{refl, sym, ap, ◌∙◌}
 use native.Mathlib.Omega.{arith}
 use Rattle.common.specs.declared.answer.Answer.{Answer}

@@ -1,5 +1,5 @@
 -- A call on a tended store does what it does on the plain state that the words stand for: neither refuses what the other lets in.
-use Rattle.core.specs.Prelude.{◌≡◌, ℕ, ◌^◌, ◌<◌, Bool, true, false, ◌&&◌, List, length, get_or}
+use Rattle.std.specs.Prelude.{◌≡◌, ℕ, ◌^◌, ◌<◌, Bool, true, false, ◌&&◌, List, length, get_or}
 use mathlib.Core.Path.{refl, sym, ap, subst, ◌∙◌}
 use Rattle.bitset.specs.Places.{Words}
 use Rattle.common.proofs.TestLaws.{both_makes, false_true}

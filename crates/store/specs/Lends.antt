@@ -1,6 +1,6 @@
 -- What is left where the first d records, k words of the slots, h words of the heads, all the entries and the first u bytes are lent: the lent
 -- parts as the call or the opening leaves them, and after each the rest of its row.
-use Rattle.core.specs.Prelude.{◌≡◌, ℕ, List, ◌++◌, length, take, drop}
+use Rattle.std.specs.Prelude.{◌≡◌, ℕ, List, ◌++◌, length, take, drop}
 use Rattle.common.specs.declared.answer.Answer.{Answer}
 use Rattle.common.specs.declared.answer.Answer.TheVariants.{Done, Refused}
 use Rattle.descriptor.specs.declared.qtd.QueueTransferDescriptor.{QueueTransferDescriptor}

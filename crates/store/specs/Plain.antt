@@ -1,5 +1,5 @@
 -- A store whose state is plain, and what an opening or a call leaves of it. The words of the code's store stand for its state.
-use Rattle.core.specs.Prelude.{ℕ, List}
+use Rattle.std.specs.Prelude.{ℕ, List}
 use Rattle.common.specs.declared.answer.Answer.{Answer}
 use Rattle.descriptor.specs.declared.qtd.QueueTransferDescriptor.{QueueTransferDescriptor}
 use Rattle.ehci.specs.declared.reply.Answered.{Answered}

@@ -1,5 +1,5 @@
 -- A store: the state and the four rows, by value. Of each row the first places are lent, and the rest stays as it was.
-use Rattle.core.specs.Prelude.{ℕ, min, List, ◌++◌, take, drop, replicate}
+use Rattle.std.specs.Prelude.{ℕ, min, List, ◌++◌, take, drop, replicate}
 use Rattle.descriptor.specs.declared.qtd.QueueTransferDescriptor.{QueueTransferDescriptor}
 use Rattle.pool.specs.Chains.{blank}
 use Rattle.common.specs.declared.answer.Answer.{Answer}

@@ -1,5 +1,5 @@
 -- The store of the code: its words stand for the state of a plain store. Of the row of slots the first places are lent too.
-use Rattle.core.specs.Prelude.{◌≡◌, ℕ, ◌*◌, min, true, List, take}
+use Rattle.std.specs.Prelude.{◌≡◌, ℕ, ◌*◌, min, true, List, take}
 use Rattle.common.specs.declared.answer.Answer.TheVariants.{Done}
 use Rattle.settings.specs.declared.settings.Settings.{Settings}
 use Rattle.settings.specs.Settings.{settings_good}

@@ -1,5 +1,5 @@
 // Whose each place of the pool is, by the words of the slots.
-ghost use Rattle.core.specs.Prelude.{◌≡◌, ◌+◌, ◌<◌, if◌then◌else◌, ◌==◌};
+ghost use Rattle.std.specs.Prelude.{◌≡◌, ◌+◌, ◌<◌, if◌then◌else◌, ◌==◌};
 ghost use Rattle.words.specs.View.{each_from, holds_bit, owner_from};
 ghost use Rattle.store.specs.Words.{store_view};
 

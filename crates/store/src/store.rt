@@ -1,7 +1,7 @@
 // A store: a controller's core, and the five rows that every call is lent. Of each row the first places are lent, as many as
 // the settings say; the rest stays as it was. Where the state that the words stand for is in its ranges they are tidy, so no
 // call is refused for them.
-ghost use Rattle.core.specs.Prelude.{◌≡◌, ◌≤◌, take};
+ghost use Rattle.std.specs.Prelude.{◌≡◌, ◌≤◌, take};
 ghost use Rattle.store.specs.Stores.{
   records_lent,
   words_lent,

@@ -1,5 +1,5 @@
 -- The core's judge is the ranges' part on the settings and the scalars, whatever the slots are.
-use Rattle.core.specs.Prelude.{◌≡◌, ℕ, Bool, true, ◌&&◌, List, [], ◌∷◌}
+use Rattle.std.specs.Prelude.{◌≡◌, ℕ, Bool, true, ◌&&◌, List, [], ◌∷◌}
 use mathlib.Core.Path.{refl, sym, ◌∙◌}
 use Rattle.common.specs.Tests.{every}
 use Rattle.common.proofs.TestLaws.{both_tells}

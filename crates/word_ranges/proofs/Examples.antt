@@ -1,6 +1,6 @@
 -- Words judged, worked out by hand from the table: phase + 4 kind + 16 size + 2^15 toggle + 2^16 direction + 2^17 length +
 -- 2^49 cancelled + 2^50 boundary.
-use Rattle.core.specs.Prelude.{◌≡◌, ℕ, ◌+◌, ◌-◌, ◌*◌, ◌^◌, true, false, List, [], ◌∷◌}
+use Rattle.std.specs.Prelude.{◌≡◌, ℕ, ◌+◌, ◌-◌, ◌*◌, ◌^◌, true, false, List, [], ◌∷◌}
 use mathlib.Core.Path.{refl}
 use Rattle.bitset.specs.Places.{all_below, none_in}
 use Rattle.bitset.specs.Words.{ones_below}

@@ -1,5 +1,5 @@
 -- Where the places are shared out over a row of E slots, an owner is at most E, and from place D on there is none.
-use Rattle.core.specs.Prelude.{◌≡◌, ℕ, zero, suc, ◌+◌, ◌*◌, ◌/◌, ◌%◌, ◌^◌, ◌<◌, ◌≤◌, Bool, true, false, cond, eqb, ltb, List, get_or}
+use Rattle.std.specs.Prelude.{◌≡◌, ℕ, zero, suc, ◌+◌, ◌*◌, ◌/◌, ◌%◌, ◌^◌, ◌<◌, ◌≤◌, Bool, true, false, cond, eqb, ltb, List, get_or}
 use mathlib.Core.Path.{refl, ◌∙◌}
 use native.Mathlib.Decide.{ℕ_discrete as dec_eq}
 use native.Mathlib.Nat.{zero-div}

@@ -1,5 +1,5 @@
 -- The returns of the functions that judge the core: those of the state's ranges, at the state that the core stands for.
-use Rattle.core.specs.Prelude.{◌≡◌, ℕ, Bool, true, false, not, ◌&&◌, eqb, ltb, leb}
+use Rattle.std.specs.Prelude.{◌≡◌, ℕ, Bool, true, false, not, ◌&&◌, eqb, ltb, leb}
 use mathlib.Core.Path.{sym, ◌∙◌}
 use borrow.Author.Tests.{not-false, not-true}
 use Rattle.common.specs.Tests.{within}

@@ -1,6 +1,6 @@
 -- The range rule of a slot's first word: at most a bound, which its lowest four bits say (two of the phase, two of the kind), and with a packet
 -- size in its range where it is open.
-use Rattle.core.specs.Prelude.{ℕ, ◌+◌, ◌-◌, ◌*◌, ◌%◌, ◌^◌, min, Bool, ◌&&◌, ◌||◌, List, [], ◌∷◌, ◌==◌, nat_le, slice_index}
+use Rattle.std.specs.Prelude.{ℕ, ◌+◌, ◌-◌, ◌*◌, ◌%◌, ◌^◌, min, Bool, ◌&&◌, ◌||◌, List, [], ◌∷◌, ◌==◌, nat_le, slice_index}
 use Rattle.slot.specs.Ranges.{size_good}
 use Rattle.words.specs.Record.{kind_in, phase_in, size_in}
 

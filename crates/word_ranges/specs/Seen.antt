@@ -1,5 +1,5 @@
 -- What a slot may keep besides its first word; and what the slots that were looked at come to, as the judge goes over them.
-use Rattle.core.specs.Prelude.{ℕ, zero, suc, ◌-◌, ◌^◌, Bool, true, cond, not, ◌&&◌, List, [], ◌∷◌, ◌==◌, bit_and, bit_or, nat_lt, slice_index}
+use Rattle.std.specs.Prelude.{ℕ, zero, suc, ◌-◌, ◌^◌, Bool, true, cond, not, ◌&&◌, List, [], ◌∷◌, ◌==◌, bit_and, bit_or, nat_lt, slice_index}
 use Rattle.bitset.specs.Places.{all_below, none_in}
 use Rattle.common.specs.Tests.{every}
 use Rattle.words.specs.Record.{last_at, phase_in, places_at, word_at}

@@ -1,6 +1,6 @@
 // A slot's first word is at most a bound, by its lowest four bits: the phase and the kind. 0 where there is no such slot. Its packet size has
 // a range of its own.
-ghost use Rattle.core.specs.Prelude.{◌≡◌};
+ghost use Rattle.std.specs.Prelude.{◌≡◌};
 ghost use Rattle.word_ranges.specs.Bounds.{bounds_of, sizes_of};
 
 use token::qtd::least;

@@ -1,5 +1,5 @@
 // The judge of core and slots: one pass over the slots, with no early exit.
-ghost use Rattle.core.specs.Prelude.{◌≡◌, ◌*◌, length};
+ghost use Rattle.std.specs.Prelude.{◌≡◌, ◌*◌, length};
 ghost use Rattle.word_ranges.specs.Judge.{slots_good, words_good};
 
 use crate::bounds::{LAST, bounds_for, sizes_for};

@@ -1,5 +1,5 @@
 // The ranges of the core: its settings, and every field of the rest but the free places.
-ghost use Rattle.core.specs.Prelude.{◌≡◌};
+ghost use Rattle.std.specs.Prelude.{◌≡◌};
 ghost use Rattle.state.specs.Ranges.{machine_good, interrupt_good, doorbell_good};
 ghost use Rattle.word_ranges.specs.Judge.{bare_state, scalars_good, core_good};
 

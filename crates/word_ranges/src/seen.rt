@@ -1,5 +1,5 @@
 // What the slots that were looked at come to.
-ghost use Rattle.core.specs.Prelude.{◌≡◌, [], ◌∷◌};
+ghost use Rattle.std.specs.Prelude.{◌≡◌, [], ◌∷◌};
 ghost use Rattle.word_ranges.specs.Seen.{free_met, see_of, all_met};
 
 use bitset::places::all_below;

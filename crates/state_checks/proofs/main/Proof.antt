@@ -1,5 +1,5 @@
 -- `state_checks::main` meets its contract.
-use Rattle.core.specs.Prelude.{◌≤◌}
+use Rattle.std.specs.Prelude.{◌≤◌}
 use native.Mathlib.Omega.{arith}
 use Rattle.state_checks.proofs.main.Statement.{statement}
 use Rattle.state_checks.proofs.main.Tie as tie

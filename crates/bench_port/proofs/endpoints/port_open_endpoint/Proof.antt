@@ -1,6 +1,6 @@
 -- `bench_port::endpoints::port_open_endpoint` meets its contract.
 use Rattle.bench_port.proofs.RowCalls.{opened}
-use Rattle.core.specs.Prelude.{ℕ}
+use Rattle.std.specs.Prelude.{ℕ}
 use Rattle.common.specs.declared.kinds.EndpointType.{EndpointType}
 use Rattle.words.specs.View.{view}
 use Rattle.endpoint.specs.Calls.{open_endpoint_of}

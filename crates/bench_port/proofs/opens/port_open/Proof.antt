@@ -1,5 +1,5 @@
 -- `bench_port::opens::port_open` meets its contract: a walk of its MIR: the five lent rows are given up to `open`, and what that answers is packed. Assumes nothing.
-use Rattle.core.specs.Prelude.{◌≡◌, ℕ, List, [], ◌∷◌, length}
+use Rattle.std.specs.Prelude.{◌≡◌, ℕ, List, [], ◌∷◌, length}
 use mathlib.Core.Path.{refl}
 use seplogic.Ra.Ura.{Ura}
 use mir.Syntax.{named}

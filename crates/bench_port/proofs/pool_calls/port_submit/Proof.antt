@@ -1,5 +1,5 @@
 -- `bench_port::pool_calls::port_submit` meets its contract: a walk of its MIR: its `Call` is made, the five lent rows are given up to `apply`, and what that answers is packed. Assumes nothing.
-use Rattle.core.specs.Prelude.{◌≡◌, ℕ, List, [], ◌∷◌, length}
+use Rattle.std.specs.Prelude.{◌≡◌, ℕ, List, [], ◌∷◌, length}
 use mathlib.Core.Path.{refl}
 use seplogic.Ra.Ura.{Ura}
 use mir.Syntax.{named, ty_int, w8, w32, w64}

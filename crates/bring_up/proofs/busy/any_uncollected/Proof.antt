@@ -1,5 +1,5 @@
 -- `bring_up::busy::any_uncollected` meets its contract.
-use Rattle.core.specs.Prelude.{◌≡◌, ◌-◌, ◌≤◌, ◌||◌}
+use Rattle.std.specs.Prelude.{◌≡◌, ◌-◌, ◌≤◌, ◌||◌}
 use mathlib.Core.Path.{◌∙◌}
 use native.Mathlib.Omega.{arith}
 use borrow.Author.Rules.{rules}

@@ -1,7 +1,7 @@
 -- `call_log::block::put_block` meets its contract.
 use mathlib.Core.Path.{ap, ◌∙◌}
 use native.Mathlib.Omega.{arith}
-use Rattle.core.specs.Prelude.{length}
+use Rattle.std.specs.Prelude.{length}
 use Rattle.common.specs.Rows.{put_at}
 use Rattle.call_log.specs.Lines.{line_bytes}
 use Rattle.call_log.specs.Words.{shown_in}

@@ -1,6 +1,6 @@
 -- `call_log::block::put_end` meets its contract.
 use native.Mathlib.Omega.{arith}
-use Rattle.core.specs.Prelude.{[], ◌∷◌}
+use Rattle.std.specs.Prelude.{[], ◌∷◌}
 use Rattle.call_log.proofs.LineCases.{byte_then}
 use borrow.Author.Rules.{rules}
 use Rattle.call_log.proofs.block.put_end.Statement.{statement}

@@ -1,6 +1,6 @@
 -- `call_log::line::put_dash` meets its contract.
 use native.Mathlib.Omega.{arith}
-use Rattle.core.specs.Prelude.{[], ◌∷◌}
+use Rattle.std.specs.Prelude.{[], ◌∷◌}
 use Rattle.call_log.proofs.LineCases.{byte_then}
 use borrow.Author.Rules.{rules}
 use Rattle.call_log.proofs.line.put_dash.Statement.{statement}

@@ -2,7 +2,7 @@
 use Rattle.common.specs.Rows.{put_at}
 use Rattle.call_log.specs.Lines.{parts_bytes}
 use Rattle.call_log.proofs.LineCases.{parts_most, parts_none, parts_turn}
-use Rattle.core.specs.Prelude.{◌≡◌, ◌+◌, ◌-◌, ◌*◌, ◌≤◌, length, take}
+use Rattle.std.specs.Prelude.{◌≡◌, ◌+◌, ◌-◌, ◌*◌, ◌≤◌, length, take}
 use mathlib.Core.Path.{refl, ◌∙◌}
 use native.Mathlib.Omega.{arith}
 use borrow.Author.Rules.{rules}

@@ -1,5 +1,5 @@
 -- `call_log::record::entry_second` meets its contract.
-use Rattle.core.specs.Prelude.{◌≡◌}
+use Rattle.std.specs.Prelude.{◌≡◌}
 use native.Mathlib.Omega.{arith}
 use Rattle.call_log.specs.Records.{judged_as}
 use Rattle.call_log.proofs.RecordCases.{judged_at}

@@ -1,5 +1,5 @@
 -- `call_log::rows::put_head` meets its contract.
-use Rattle.core.specs.Prelude.{◌/◌, ◌%◌, eqb}
+use Rattle.std.specs.Prelude.{◌/◌, ◌%◌, eqb}
 use borrow.Author.Tests.{eq-eqb, ne_eqb}
 use Rattle.call_log.specs.Changes.{head_change}
 use Rattle.call_log.specs.Lines.{head_line}

@@ -1,5 +1,5 @@
 -- `call_log::rows::put_port` meets its contract.
-use Rattle.core.specs.Prelude.{◌+◌, not, ◌||◌, eqb}
+use Rattle.std.specs.Prelude.{◌+◌, not, ◌||◌, eqb}
 use Rattle.call_log.specs.Changes.{port_change}
 use Rattle.call_log.specs.Lines.{port_line}
 use Rattle.call_log.proofs.ChangeCases.{line_shown}

@@ -1,5 +1,5 @@
 -- `call_log::setups::put_setup` meets its contract.
-use Rattle.core.specs.Prelude.{◌+◌, ◌*◌, [], ◌∷◌, get_or}
+use Rattle.std.specs.Prelude.{◌+◌, ◌*◌, [], ◌∷◌, get_or}
 use mathlib.Core.Path.{sym, ◌∙◌}
 use Rattle.call_log.specs.Changes.{same_eight, setup_change}
 use Rattle.call_log.specs.Lines.{setup_line}

@@ -2,7 +2,7 @@
 use Rattle.common.specs.Rows.{put_at}
 use Rattle.text.specs.Text.{lines_to}
 use Rattle.text.proofs.LineLaws.{lines_most, lines_none, lines_turn}
-use Rattle.core.specs.Prelude.{◌≡◌, ℕ, ◌+◌, ◌-◌, ◌*◌, ◌≤◌, List, length, get_or}
+use Rattle.std.specs.Prelude.{◌≡◌, ℕ, ◌+◌, ◌-◌, ◌*◌, ◌≤◌, List, length, get_or}
 use mathlib.Core.Path.{refl, ◌∙◌}
 use native.Mathlib.Omega.{arith}
 use borrow.Author.Rules.{rules}

@@ -1,6 +1,6 @@
 -- `direct_calls::requests::cancel` meets its contract.
 use borrow.Author.Rules.{rules}
-use Rattle.core.specs.Prelude.{length}
+use Rattle.std.specs.Prelude.{length}
 use Rattle.direct_calls.proofs.FramesCases.{frames_decides, frames_refuses}
 use Rattle.direct_calls.proofs.TakesCases.{frames_taken}
 use Rattle.direct_calls.proofs.requests.cancel.Statement.{statement}

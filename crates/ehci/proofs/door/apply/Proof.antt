@@ -1,5 +1,5 @@
 -- `ehci::door::apply` meets its contract: a walk of its MIR: look, fold, decide, write. The slots are lent to `look` and the pool to `fold`; then the rows of numbers are given up to `decide`, and the pool to `write`. Assumes nothing.
-use Rattle.core.specs.Prelude.{◌≡◌, ℕ, Bool, true, List, [], ◌∷◌, length}
+use Rattle.std.specs.Prelude.{◌≡◌, ℕ, Bool, true, List, [], ◌∷◌, length}
 use mathlib.Core.Path.{refl, sym, subst}
 use seplogic.Ra.Ura.{Ura}
 use seplogic.Ra.TreeShare.{full_share}

@@ -1,5 +1,5 @@
 -- `endpoint::calls::clear_halt` meets its contract.
-use Rattle.core.specs.Prelude.{◌+◌, ◌*◌}
+use Rattle.std.specs.Prelude.{◌+◌, ◌*◌}
 use native.Mathlib.Omega.{arith}
 use Rattle.endpoint.proofs.WordsClear.{clearing_done, clearing_fits, clearing_refused, clearing_room, clearing_tidy}
 use borrow.Author.Rules.{rules}

@@ -1,5 +1,5 @@
 -- `endpoint::calls::set_packet_size` meets its contract.
-use Rattle.core.specs.Prelude.{◌+◌, ◌*◌}
+use Rattle.std.specs.Prelude.{◌+◌, ◌*◌}
 use native.Mathlib.Omega.{arith}
 use Rattle.endpoint.proofs.WordsChange.{sizing_done, sizing_fits, sizing_refused, sizing_tidy, words_slot_room, words_word}
 use borrow.Author.Rules.{rules}

@@ -1,5 +1,5 @@
 -- `endpoint::lowest::lowest_closed` meets its contract.
-use Rattle.core.specs.Prelude.{◌-◌, ◌≤◌}
+use Rattle.std.specs.Prelude.{◌-◌, ◌≤◌}
 use native.Mathlib.Omega.{arith}
 use Rattle.endpoint.proofs.WordsCases.{Sought, good_most, lowest_is, seek_ends, seek_finds, seek_goes_on, seek_starts, word_inside}
 use borrow.Author.Rules.{rules}

@@ -1,5 +1,5 @@
 -- `opening::open::open` meets its contract: a walk of its MIR over the five lent rows. Each is given up: the pool to `open_first`, the four rows of numbers to `decide_open`. Assumes nothing.
-use Rattle.core.specs.Prelude.{◌≡◌, ℕ, ◌≤◌, List, [], ◌∷◌, length}
+use Rattle.std.specs.Prelude.{◌≡◌, ℕ, ◌≤◌, List, [], ◌∷◌, length}
 use mathlib.Core.Path.{refl, ◌∙◌, ap}
 use seplogic.Ra.Ura.{Ura}
 use seplogic.Ra.TreeShare.{full_share}

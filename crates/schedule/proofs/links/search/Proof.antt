@@ -1,5 +1,5 @@
 -- `schedule::links::search` meets its contract.
-use Rattle.core.specs.Prelude.{◌-◌, ◌≤◌}
+use Rattle.std.specs.Prelude.{◌-◌, ◌≤◌}
 use native.Mathlib.Omega.{arith}
 use Rattle.schedule.proofs.WordsCases.{Searched, good_most, search_ends, search_finds, search_goes_on, search_starts, word_inside}
 use borrow.Author.Rules.{rules}

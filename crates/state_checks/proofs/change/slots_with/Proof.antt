@@ -1,5 +1,5 @@
 -- `state_checks::change::slots_with` is safe and ends: the measure is the number of words that are left. Assumes nothing.
-use Rattle.core.specs.Prelude.{◌-◌}
+use Rattle.std.specs.Prelude.{◌-◌}
 use native.Mathlib.Omega.{arith}
 use borrow.Author.Rules.{rules}
 use Rattle.state_checks.proofs.change.slots_with.Statement.{statement}

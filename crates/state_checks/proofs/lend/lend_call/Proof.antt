@@ -1,6 +1,6 @@
 -- `state_checks::lend::lend_call` is safe: a walk of its MIR. Parts of five local arrays are lent to `apply`; all come back, and are read as values. Assumes nothing.
 use mathlib.Core.Path.{refl}
-use Rattle.core.specs.Prelude.{ℕ, ◌^◌, ◌<◌, ◌≤◌, List, [], ◌∷◌, ◌++◌, take, drop as drop-list}
+use Rattle.std.specs.Prelude.{ℕ, ◌^◌, ◌<◌, ◌≤◌, List, [], ◌∷◌, ◌++◌, take, drop as drop-list}
 use lib.Dec.{lit<}
 use seplogic.Ra.Ura.{Ura}
 use seplogic.Ra.TreeShare.{full_share}

@@ -1,5 +1,5 @@
 -- `state_checks::sums::bytes` is safe and ends: the measure is the number of bytes that are left. Assumes nothing.
-use Rattle.core.specs.Prelude.{◌-◌}
+use Rattle.std.specs.Prelude.{◌-◌}
 use borrow.Author.Rules.{rules}
 use Rattle.state_checks.proofs.sums.bytes.Statement.{statement}
 use Rattle.state_checks.proofs.sums.bytes.Tie as tie

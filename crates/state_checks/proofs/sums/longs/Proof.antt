@@ -1,5 +1,5 @@
 -- `state_checks::sums::longs` is safe and ends: the measure is the number of words that are left. Assumes nothing.
-use Rattle.core.specs.Prelude.{◌-◌}
+use Rattle.std.specs.Prelude.{◌-◌}
 use borrow.Author.Rules.{rules}
 use Rattle.state_checks.proofs.sums.longs.Statement.{statement}
 use Rattle.state_checks.proofs.sums.longs.Tie as tie

@@ -1,5 +1,5 @@
 -- `state_checks::sums::pool_sum` is safe and ends: the measure is the number of records that are left. Assumes nothing.
-use Rattle.core.specs.Prelude.{◌-◌}
+use Rattle.std.specs.Prelude.{◌-◌}
 use borrow.Author.Rules.{rules}
 use Rattle.state_checks.proofs.sums.pool_sum.Statement.{statement}
 use Rattle.state_checks.proofs.sums.pool_sum.Tie as tie

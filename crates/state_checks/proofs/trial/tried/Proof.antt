@@ -1,5 +1,5 @@
 -- `state_checks::trial::tried` is safe and ends: the measure is the number of bits that are left. Assumes nothing.
-use Rattle.core.specs.Prelude.{◌-◌}
+use Rattle.std.specs.Prelude.{◌-◌}
 use native.Mathlib.Omega.{arith}
 use Rattle.state_checks.proofs.trial.tried.Statement.{statement}
 use Rattle.state_checks.proofs.trial.tried.Tie as tie

@@ -1,5 +1,5 @@
 -- `store::store::lend_call` meets its contract: a walk of its MIR. Parts of four local arrays, and one whole, are lent to `apply`; all come back, and are read as values. Assumes nothing.
-use Rattle.core.specs.Prelude.{◌≡◌, ℕ, ◌^◌, ◌<◌, ◌≤◌, List, [], ◌∷◌, ◌++◌, length, take, drop as drop-list}
+use Rattle.std.specs.Prelude.{◌≡◌, ℕ, ◌^◌, ◌<◌, ◌≤◌, List, [], ◌∷◌, ◌++◌, length, take, drop as drop-list}
 use mathlib.Core.Path.{refl}
 use lib.Dec.{lit<}
 use seplogic.Ra.Ura.{Ura}

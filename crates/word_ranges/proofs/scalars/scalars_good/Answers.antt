@@ -1,0 +1,6 @@
+use borrow.Author.Rules.{rules}
+use Rattle.word_ranges.proofs.ScalarCases.{core_scalars}
+use Rattle.word_ranges.proofs.scalars.scalars_good.Goals as goal
+
+pub returns : goal.returns
+returns c = search core_scalars
