@@ -52,7 +52,7 @@ no_settings =
 unfoldable pub rows_are_fit : Settings → ℕ → ℕ → ℕ → ℕ → Bool
 rows_are_fit s pool heads frames setups =
     every
-    (pool == pool_length s
+    ((pool == pool_length s)
     ∷ (heads == heads_length s)
     ∷ (frames == frames_length)
     ∷ (setups == setups_length s)

@@ -1,0 +1,7 @@
+use Rattle.words.specs.Opened.{opened_rest}
+use borrow.Author.Rules.{rules}
+use Rattle.opening.proofs.open.fresh_rest.Goals as goal
+
+pub returns : goal.returns
+unfolding opened_rest
+returns c = rw c.all_below.ensures
