@@ -139,7 +139,7 @@ fn given_line(n: u64, call: u8, given: Given) -> Line
         Given::Slot(slot) => line_with(n, call, 0, Part::Decimal(slot as u64)),
         Given::Address(address) => line_with(n, call, 0, Part::Decimal(address as u64)),
         Given::Id(id) => line_with(n, call, 0, Part::Decimal(id)),
-        Given::Length(retried, length) => line_with_two(n, call, length, retried as u64),
+        Given::Length(length, retried) => line_with_two(n, call, length, retried as u64),
         Given::No => line_with(n, call, 0, Part::Decimal(0)),
         Given::Yes => line_with(n, call, 0, Part::Decimal(1)),
         Given::Event(event) => line_with_two(n, call, event_number(event), event_value(event)),

@@ -17,7 +17,7 @@ module _ (b : Bool) (v : View) where
   unfolding outcome_of
   outcome_failed e n = rw (e, ne_eqb v.failed 0 n)
 
-  pub outcome_complete : b ≡ false → v.failed ≡ 0 → Complete v.retried v.moved ≡ outcome_of b v
+  pub outcome_complete : b ≡ false → v.failed ≡ 0 → Complete (record { length = v.moved; retried = v.retried }) ≡ outcome_of b v
   unfolding outcome_of
   outcome_complete e z = rw (e, eq-eqb v.failed 0 z)
 

@@ -27,7 +27,7 @@ use Rattle.schedule.specs.Bell.{bell_of, must_ring, ring_of, ring_word, rung_if,
 use Rattle.schedule.specs.Links.{ended_overlay}
 use Rattle.schedule.specs.declared.bell.Bell.{Bell}
 use Rattle.collection.specs.declared.collected.Collected.{Collected}
-use Rattle.collection.specs.declared.collected.Collected.TheVariants.{Complete, Passed, Pending, Cancelled, Failed, Refused}
+use Rattle.collection.specs.declared.collected.Collected.TheVariants.{Complete, Pending, Cancelled, Failed, Refused}
 use Rattle.collection.specs.Answers.{outcome_of, pending_collect, refused_cancel, refused_collect}
 use Rattle.collection.specs.Unlinks.{Left, bounded_of, left, unlink_of, waiting_of}
 use Rattle.collection.specs.Calls.{Gathered, cancel_of, collect_of, finish_of, gathered, marked, pending_left}
@@ -41,8 +41,7 @@ is_done Done = true
 is_done (RefusedCall r) = false
 
 abbrev is_result : Collected → Bool
-is_result (Complete retried n) = true
-is_result Passed = true
+is_result (Complete c) = true
 is_result Pending = true
 is_result Cancelled = true
 is_result (Failed t) = true

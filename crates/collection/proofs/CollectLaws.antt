@@ -23,7 +23,8 @@ use Rattle.pipe.proofs.EndpointLaws.{Wide, endpoint_same, owner_wide}
 use Rattle.common.proofs.RowLaws.{put_before, put_behind, put_inside, put_length}
 use Rattle.schedule.specs.Links.{ended_overlay, ended_words}
 use Rattle.collection.specs.declared.collected.Collected.{Collected}
-use Rattle.collection.specs.declared.collected.Collected.TheVariants.{Complete, Passed, Pending, Cancelled, Failed, Refused}
+use Rattle.collection.specs.declared.collected.Collected.TheVariants.{Complete, Pending, Cancelled, Failed, Refused}
+use Rattle.collection.specs.declared.collected.Completion.{Completion}
 use Rattle.collection.specs.Answers.{collected_number, outcome_of, pending_collect}
 use Rattle.collection.specs.Unlinks.{passed_boundary}
 use Rattle.collection.specs.Calls.{Gathered, collect_of, finish_of, freed, gathered, keeping}
@@ -95,35 +96,28 @@ module _ (s : Ehci) (v : View) (k : ℕ) (p : Pipe) (r : Request) where
 -- ---- what the answer says of the tokens
 
 abbrev length_in : Collected → ℕ
-length_in (Complete retried n) = n
-length_in Passed = 0
+length_in (Complete c) = c.length
 length_in Pending = 0
 length_in Cancelled = 0
 length_in (Failed t) = 0
 length_in (Refused r) = 0
 
 abbrev retried_in : Collected → ℕ
-retried_in (Complete retried n) = retried
-retried_in Passed = 0
+retried_in (Complete c) = c.retried
 retried_in Pending = 0
 retried_in Cancelled = 0
 retried_in (Failed t) = 0
 retried_in (Refused r) = 0
 
 abbrev token_in : Collected → ℕ
-token_in (Complete retried n) = 0
-token_in Passed = 0
+token_in (Complete c) = 0
 token_in Pending = 0
 token_in Cancelled = 0
 token_in (Failed t) = t
 token_in (Refused r) = 0
 
--- complete: the length is the sum over the tokens, the count that of those that say so, and of nothing else
-abbrev pub Says : List Seen → ℕ → ℕ → Collected → Type 0
-Says seen retried n x = x ≡ Complete retried n → (n ≡ length_of seen) × (retried ≡ retried_of seen)
-
 module _ (cancelled : Bool) (seen : List Seen) where
-  outcome_split : (P : Collected → Type 0) → P Cancelled → P (Failed (first_error seen)) → P (Complete (retried_of seen) (length_of seen))
+  outcome_split : (P : Collected → Type 0) → P Cancelled → P (Failed (first_error seen)) → P (Complete (record { length = length_of seen; retried = retried_of seen }))
       → P (outcome_of cancelled (view_of seen))
   unfolding outcome_of view_of
   outcome_split P c f d = by cancelled refl (eqb (first_error seen) 0) refl
@@ -133,9 +127,15 @@ module _ (cancelled : Bool) (seen : List Seen) where
       by false e true q = rw (e, q) d
       by false e false q = rw (e, q) f
 
-  pub complete_says : (retried n : ℕ) → Says seen retried n (outcome_of cancelled (view_of seen))
-  complete_says retried n = outcome_split (Says seen retried n) (λ e. absurd (omega (arith, ap collected_number e)))
-      (λ e. absurd (omega (arith, ap collected_number e))) (λ e. (sym (ap length_in e), sym (ap retried_in e)))
+  -- complete: the length is the sum over the tokens, and of nothing else
+  pub complete-length : (c : Completion) → outcome_of cancelled (view_of seen) ≡ Complete c → c.length ≡ length_of seen
+  complete-length c = outcome_split (λ (x : Collected). x ≡ Complete c → c.length ≡ length_of seen) (λ e. absurd (omega (arith, ap collected_number e)))
+      (λ e. absurd (omega (arith, ap collected_number e))) (λ e. sym (ap length_in e))
+
+  -- and the count that of the tokens that say so
+  pub complete-retried : (c : Completion) → outcome_of cancelled (view_of seen) ≡ Complete c → c.retried ≡ retried_of seen
+  complete-retried c = outcome_split (λ (x : Collected). x ≡ Complete c → c.retried ≡ retried_of seen) (λ e. absurd (omega (arith, ap collected_number e)))
+      (λ e. absurd (omega (arith, ap collected_number e))) (λ e. sym (ap retried_in e))
 
   -- failed: the token is the first erring one
   pub failed_token : (t : ℕ) → outcome_of cancelled (view_of seen) ≡ Failed t → t ≡ first_error seen

@@ -25,23 +25,23 @@ use Rattle.collection.specs.Examples.{cancel_row, cancelled, collect_row, collec
 
 -- ---- the states are in their ranges, but the last
 
-pub linked_fits : accepts_of (one_request 2 2 0 0 0) (lengths 5 (length ring_of_one) (length no_frames) 16) ≡ true
+linked_fits : accepts_of (one_request 2 2 0 0 0) (lengths 5 (length ring_of_one) (length no_frames) 16) ≡ true
 unfolding accepts_of rows_are_fit in_ranges rest_good machine_good interrupt_good doorbell_good owner_good largest slots_good slot_good phase_good closed_good idle_good no_request linked_good unlinking_good boundary_good open_kind size_good size_kept toggle_kept settings_good numbers_good each_good no_overlap area_good apart_areas slot_at without_bits
 linked_fits = refl
 
-pub crowded_fits : accepts_of (one_request 2 2 0 0 32) (lengths 5 (length ring_of_one) (length no_frames) 16) ≡ true
+crowded_fits : accepts_of (one_request 2 2 0 0 32) (lengths 5 (length ring_of_one) (length no_frames) 16) ≡ true
 unfolding accepts_of rows_are_fit in_ranges rest_good machine_good interrupt_good doorbell_good owner_good largest slots_good slot_good phase_good closed_good idle_good no_request linked_good unlinking_good boundary_good open_kind size_good size_kept toggle_kept settings_good numbers_good each_good no_overlap area_good apart_areas slot_at without_bits
 crowded_fits = refl
 
-pub waiting_fits : accepts_of (one_request 3 2 0 1 1) (lengths 5 (length ring_of_one) (length no_frames) 16) ≡ true
+waiting_fits : accepts_of (one_request 3 2 0 1 1) (lengths 5 (length ring_of_one) (length no_frames) 16) ≡ true
 unfolding accepts_of rows_are_fit in_ranges rest_good machine_good interrupt_good doorbell_good owner_good largest slots_good slot_good phase_good closed_good idle_good no_request linked_good unlinking_good boundary_good open_kind size_good size_kept toggle_kept settings_good numbers_good each_good no_overlap area_good apart_areas slot_at without_bits
 waiting_fits = refl
 
-pub passed_fits : accepts_of (one_request 3 2 0 0 0) (lengths 5 (length ring_of_one) (length no_frames) 16) ≡ true
+passed_fits : accepts_of (one_request 3 2 0 0 0) (lengths 5 (length ring_of_one) (length no_frames) 16) ≡ true
 unfolding accepts_of rows_are_fit in_ranges rest_good machine_good interrupt_good doorbell_good owner_good largest slots_good slot_good phase_good closed_good idle_good no_request linked_good unlinking_good boundary_good open_kind size_good size_kept toggle_kept settings_good numbers_good each_good no_overlap area_good apart_areas slot_at without_bits
 passed_fits = refl
 
-pub marked_fits : accepts_of (one_request 3 2 1 0 0) (lengths 5 (length ring_of_one) (length no_frames) 16) ≡ true
+marked_fits : accepts_of (one_request 3 2 1 0 0) (lengths 5 (length ring_of_one) (length no_frames) 16) ≡ true
 unfolding accepts_of rows_are_fit in_ranges rest_good machine_good interrupt_good doorbell_good owner_good largest slots_good slot_good phase_good closed_good idle_good no_request linked_good unlinking_good boundary_good open_kind size_good size_kept toggle_kept settings_good numbers_good each_good no_overlap area_good apart_areas slot_at without_bits
 marked_fits = refl
 

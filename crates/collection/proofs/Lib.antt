@@ -10,11 +10,7 @@ pub mod CollectLaws
 pub mod CallLaws
 pub mod MoveLaws
 pub mod Examples
-pub mod ApartExamples
 pub mod WordsSlots
 pub mod WordsAsk
 pub mod WordsCases
 pub mod WordsCalls
-pub mod ApartLaws
-pub mod ApartSplits
-pub mod WordsApart

@@ -23,10 +23,11 @@ use Rattle.pipe.proofs.EndpointLaws.{Wide, bell_wide, owner_wide, slot_wide}
 use Rattle.schedule.specs.Bell.{bell_of, unlinked_of}
 use Rattle.schedule.specs.declared.bell.Bell.{Bell}
 use Rattle.collection.specs.declared.collected.Collected.{Collected}
-use Rattle.collection.specs.declared.collected.Collected.TheVariants.{Complete, Passed, Pending, Cancelled, Failed, Refused}
+use Rattle.collection.specs.declared.collected.Collected.TheVariants.{Complete, Pending, Cancelled, Failed, Refused}
+use Rattle.collection.specs.declared.collected.Completion.{Completion}
 use Rattle.collection.specs.Unlinks.{Left, bounded_of, unlink_of, waiting_of}
 use Rattle.collection.specs.Calls.{Gathered, cancel_of, collect_of, finish_of, keeping, marked, pending_left}
-use Rattle.collection.proofs.CollectLaws.{Says, complete_says, failed_token}
+use Rattle.collection.proofs.CollectLaws.{complete-length, complete-retried, failed_token}
 use Rattle.collection.proofs.FreedLaws.{freed_length}
 use Rattle.collection.proofs.Splits.{cancel_split, collect_split, unlink_split}
 
@@ -73,21 +74,20 @@ pendings P s h f rd k p r waits old =
     unlink_split s h f rd k p r (λ (l : Left). P (pending_left l).came.answer) (old InvalidEndpoint) (λ e. waits)
 
 abbrev kind_in : Collected → ℕ
-kind_in (Complete retried n) = 1
-kind_in Passed = 5
+kind_in (Complete c) = 1
 kind_in Pending = 2
 kind_in Cancelled = 3
 kind_in (Failed t) = 4
 kind_in (Refused x) = 0
 
-refused_complete : (x : Refusal) (retried n : ℕ) → Refused x ≡ Complete retried n → ⊥
-refused_complete x retried n e = omega (arith, ap kind_in e)
+refused_complete : (x : Refusal) (c : Completion) → Refused x ≡ Complete c → ⊥
+refused_complete x c e = omega (arith, ap kind_in e)
 
 refused_failed : (x : Refusal) (t : ℕ) → Refused x ≡ Failed t → ⊥
 refused_failed x t e = omega (arith, ap kind_in e)
 
-pending_complete : (retried n : ℕ) → Pending ≡ Complete retried n → ⊥
-pending_complete retried n e = omega (arith, ap kind_in e)
+pending_complete : (c : Completion) → Pending ≡ Complete c → ⊥
+pending_complete c e = omega (arith, ap kind_in e)
 
 pending_failed : (t : ℕ) → Pending ≡ Failed t → ⊥
 pending_failed t e = omega (arith, ap kind_in e)
@@ -129,15 +129,25 @@ module _ (s : Ehci) (pool : ℕ) (h f : List ℕ) (setups : ℕ) (rd : Readings)
       collect_split s pool h f setups rd k id v (λ (g : Gathered). Wide g.came.state) (λ x. w) w
       (λ p r ok e u i n. unlink_wide p r w) (λ p r u ok e i t. finish_wide s v k (keeping rd p) r w)
 
-  -- complete: the length is the sum over the descriptors that were seen, the count that of those that were retried
-  pub collect_complete : (seen : List Seen) (retried n : ℕ) → Says seen retried n (collect_of s pool h f setups rd (view_of seen) k id).came.answer
+  -- complete: the length is the sum over the descriptors that were seen
+  pub collect-length : (seen : List Seen) (c : Completion) → (collect_of s pool h f setups rd (view_of seen) k id).came.answer ≡ Complete c → c.length ≡ length_of seen
   unfolding finish_of
-  collect_complete seen retried n =
-      collect_split s pool h f setups rd k id (view_of seen) (λ (g : Gathered). Says seen retried n g.came.answer)
-      (λ x e. absurd (refused_complete x retried n e)) (λ e. absurd (pending_complete retried n e))
-      (λ p r ok e u i m. pendings (Says seen retried n) s h f rd k p r (λ q. absurd (pending_complete retried n q))
-      (λ x q. absurd (refused_complete x retried n q)))
-      (λ p r u ok e i t. complete_says r.cancelled seen retried n)
+  collect-length seen c =
+      collect_split s pool h f setups rd k id (view_of seen) (λ (g : Gathered). g.came.answer ≡ Complete c → c.length ≡ length_of seen)
+      (λ x e. absurd (refused_complete x c e)) (λ e. absurd (pending_complete c e))
+      (λ p r ok e u i n. pendings (λ (a : Collected). a ≡ Complete c → c.length ≡ length_of seen) s h f rd k p r (λ q. absurd (pending_complete c q))
+      (λ x q. absurd (refused_complete x c q)))
+      (λ p r u ok e i t. complete-length r.cancelled seen c)
+
+  -- and the count that of those that were retried
+  pub collect-retried : (seen : List Seen) (c : Completion) → (collect_of s pool h f setups rd (view_of seen) k id).came.answer ≡ Complete c → c.retried ≡ retried_of seen
+  unfolding finish_of
+  collect-retried seen c =
+      collect_split s pool h f setups rd k id (view_of seen) (λ (g : Gathered). g.came.answer ≡ Complete c → c.retried ≡ retried_of seen)
+      (λ x e. absurd (refused_complete x c e)) (λ e. absurd (pending_complete c e))
+      (λ p r ok e u i n. pendings (λ (a : Collected). a ≡ Complete c → c.retried ≡ retried_of seen) s h f rd k p r (λ q. absurd (pending_complete c q))
+      (λ x q. absurd (refused_complete x c q)))
+      (λ p r u ok e i t. complete-retried r.cancelled seen c)
 
   -- failed: the token is the first erring one that was seen
   pub collect_token : (seen : List Seen) (t : ℕ) → (collect_of s pool h f setups rd (view_of seen) k id).came.answer ≡ Failed t → t ≡ first_error seen

@@ -33,7 +33,7 @@ use Rattle.controller.specs.declared.lent.Readings.{Readings}
 use Rattle.schedule.specs.Links.{detach_of, ended_overlay, links}
 use Rattle.collection.specs.Plain.{Cancellation}
 use Rattle.collection.specs.declared.collected.Collected.{Collected}
-use Rattle.collection.specs.declared.collected.Collected.TheVariants.{Passed, Pending, Refused}
+use Rattle.collection.specs.declared.collected.Collected.TheVariants.{Pending, Refused}
 use Rattle.collection.specs.Plain.{Collection}
 use Rattle.collection.specs.declared.answers.Cancellation.{Cancellation as CancellationWords}
 use Rattle.collection.specs.declared.answers.Collection.{Collection as CollectionWords}
@@ -41,7 +41,7 @@ use Rattle.collection.specs.declared.unlink.Bounded.{Bounded}
 use Rattle.collection.specs.Answers.{outcome_of, pending_collect, pending_of, refused_cancel, refused_collect}
 use Rattle.collection.specs.Calls.{ended, finish_of, freed, gathered, linked_of, marked, marked_of, unlinking_of}
 use Rattle.collection.specs.Unlinks.{bounded_of, is_missing, left, passed_boundary, unlink_of, waiting_of}
-use Rattle.collection.specs.Words.{OwnRequest, cancelled_view, collected_view, passed_words, pending_words, refused_cancel_words, refused_collect_words}
+use Rattle.collection.specs.Words.{OwnRequest, cancelled_view, collected_view, pending_words, refused_cancel_words, refused_collect_words}
 use Rattle.collection.proofs.CallCases.{finishes, linked_unlinks, linked_waits, marks, unlinking_ends, unlinking_waits}
 use Rattle.collection.proofs.UnlinkCases.{unlink_missing, unlink_waits, waits}
 use Rattle.collection.proofs.WordsSlots.{finish_fits, mark_fits, own_fits, slot_low, slot_room, unlinking_within}
@@ -60,9 +60,6 @@ module _ (r : Rest) (w : Writes) (ew : w ≡ no_writes) where
 
   pub collect_pending_words : ◌≡◌ {A = CollectionWords} (record { answer = Pending; rest = r; writes = w }) (pending_words r)
   collect_pending_words = rw ew
-
-  pub look_passed_words : ◌≡◌ {A = CollectionWords} (record { answer = Passed; rest = r; writes = w }) (passed_words r)
-  look_passed_words = rw ew
 
 -- where nothing changes
 module _ (s : Settings) (r : Rest) (ws : List ℕ) where

@@ -1,4 +1,4 @@
--- Document 01, "Numbers a call answers": what cancel, collect and look answer.
+-- Document 01, "Numbers a call answers": what cancel and collect answer.
 use Rattle.std.specs.Prelude.{ℕ, Bool, cond, ◌==◌}
 use Rattle.register.specs.Writes.{no_writes}
 use Rattle.pool.specs.declared.chain.View.{View}
@@ -9,12 +9,11 @@ use Rattle.common.specs.declared.answer.Answer.TheVariants.{Done, Refused as Ref
 use Rattle.common.specs.declared.answer.Refusal.{Refusal}
 use Rattle.collection.specs.Plain.{Cancellation}
 use Rattle.collection.specs.declared.collected.Collected.{Collected}
-use Rattle.collection.specs.declared.collected.Collected.TheVariants.{Complete, Passed, Pending, Cancelled, Failed, Refused}
+use Rattle.collection.specs.declared.collected.Collected.TheVariants.{Complete, Pending, Cancelled, Failed, Refused}
 use Rattle.collection.specs.Plain.{Collection}
 
 abbrev pub collected_number : Collected → ℕ
-collected_number (Complete retried length) = 0
-collected_number Passed = 0
+collected_number (Complete c) = 0
 collected_number Pending = 9
 collected_number Cancelled = 10
 collected_number (Failed token) = 11
@@ -22,8 +21,7 @@ collected_number (Refused r) = refusal_number r
 
 -- "collected complete, with its length"; "gives the raw token"
 abbrev pub collected_value : Collected → ℕ
-collected_value (Complete retried length) = length
-collected_value Passed = 0
+collected_value (Complete c) = c.length
 collected_value Pending = 0
 collected_value Cancelled = 0
 collected_value (Failed token) = token
@@ -39,7 +37,7 @@ pending_of (RefusedCall r) = Refused r
 unfoldable pub outcome_of : Bool → View → Collected
 outcome_of cancelled view =
     cond cancelled Cancelled
-    (cond (view.failed == 0) (Complete view.retried view.moved) (Failed view.failed))
+    (cond (view.failed == 0) (Complete (record { length = view.moved; retried = view.retried })) (Failed view.failed))
 
 -- a refusal, and a request that waits: the state as it was, no write
 abbrev pub refused_cancel : Ehci → Refusal → Cancellation
@@ -47,10 +45,6 @@ refused_cancel s r = record { answer = RefusedCall r; state = s; writes = no_wri
 
 abbrev pub refused_collect : Ehci → Refusal → Collection
 refused_collect s r = record { answer = Refused r; state = s; writes = no_writes }
-
--- 02 order 10: a look that finds the boundary passed
-abbrev pub passed_collect : Ehci → Collection
-passed_collect s = record { answer = Passed; state = s; writes = no_writes }
 
 abbrev pub pending_collect : Ehci → Collection
 pending_collect s = record { answer = Pending; state = s; writes = no_writes }

@@ -12,8 +12,7 @@ use Rattle.controller.specs.declared.lent.Readings.{Readings}
 use Rattle.collection.specs.Answers.{collected_number, collected_value}
 use Rattle.collection.specs.Asks.{ask_of}
 use Rattle.collection.specs.Unlinks.{Left}
-use Rattle.collection.specs.Calls.{Gathered, cancel_of, collect_of, with_frames}
-use Rattle.collection.specs.Apart.{alone_of, look_of}
+use Rattle.collection.specs.Calls.{Gathered, cancel_of, collect_of}
 
 abbrev pub few_settings : ℕ → Settings
 few_settings limit =
@@ -87,12 +86,6 @@ cancelled s slot id = cancel_of s 5 ring_of_one no_frames 16 (readings 0) slot i
 
 abbrev pub collected : Ehci → ℕ → View → ℕ → ℕ → Gathered
 collected s frame view slot id = collect_of s 5 ring_of_one no_frames 16 (readings frame) view slot id
-
-abbrev pub looked : Ehci → ℕ → View → ℕ → ℕ → Gathered
-looked s frame view slot id = look_of s 5 ring_of_one no_frames 16 (readings frame) view slot id
-
-abbrev pub alone : Ehci → ℕ → View → ℕ → ℕ → Gathered
-alone s frame view slot id = with_frames (alone_of s 5 ring_of_one 1024 16 (readings frame) view slot id) no_frames
 
 -- ---- what its two descriptors say, inactive and without error, with so many bytes left in each
 

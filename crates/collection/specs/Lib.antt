@@ -3,6 +3,5 @@ pub mod Answers
 pub mod Unlinks
 pub mod Asks
 pub mod Calls
-pub mod Apart
 pub mod Examples
 pub mod Words

@@ -1,5 +1,5 @@
 -- What cancel and collect over words leave, as the state that the words stand for.
-use Rattle.std.specs.Prelude.{◌≡◌, ℕ, cond, List}
+use Rattle.std.specs.Prelude.{◌≡◌, ℕ, List}
 use Rattle.register.specs.Writes.{no_writes}
 use Rattle.bitset.specs.Places.{set_places}
 use Rattle.common.specs.declared.answer.Answer.TheVariants.{Refused as RefusedCall}
@@ -14,13 +14,11 @@ use Rattle.pipe.specs.Endpoints.{endpoint_at, limit_of}
 use Rattle.pipe.specs.declared.endpoints.Endpoint.TheVariants.{Linked}
 use Rattle.pipe.specs.declared.endpoints.Pipe.{Pipe}
 use Rattle.pipe.specs.declared.endpoints.Request.{Request}
-use Rattle.pipe.specs.declared.endpoints.UnlinkBoundary.{UnlinkBoundary}
 use Rattle.words.specs.declared.core.Rest.{Rest}
 use Rattle.words.specs.Record.{places_at}
 use Rattle.words.specs.View.{state_of}
 use Rattle.collection.specs.Plain.{Cancellation}
-use Rattle.collection.specs.Unlinks.{passed_boundary}
-use Rattle.collection.specs.declared.collected.Collected.TheVariants.{Passed, Pending, Refused}
+use Rattle.collection.specs.declared.collected.Collected.TheVariants.{Pending, Refused}
 use Rattle.collection.specs.Plain.{Collection}
 use Rattle.collection.specs.declared.answers.Cancellation.{Cancellation as CancellationWords}
 use Rattle.collection.specs.declared.answers.Collection.{Collection as CollectionWords}
@@ -54,12 +52,6 @@ refused_collect_words rest r = record { answer = Refused r; rest = rest; writes 
 
 abbrev pub pending_words : Rest → CollectionWords
 pending_words rest = record { answer = Pending; rest = rest; writes = no_writes }
-
-abbrev pub passed_words : Rest → CollectionWords
-passed_words rest = record { answer = Passed; rest = rest; writes = no_writes }
-
-abbrev pub looked_words : Rest → ℕ → UnlinkBoundary → CollectionWords
-looked_words rest frame b = cond (passed_boundary b frame) (passed_words rest) (pending_words rest)
 
 -- slot k's linked request, but for its mark
 pub record OwnRequest (s : Ehci) (k : ℕ) (p : Pipe) (r : Request) : Type 0 where

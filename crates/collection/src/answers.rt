@@ -1,6 +1,6 @@
-// What cancel, collect and look leave.
+// What cancel and collect leave.
 ghost use Rattle.std.specs.Prelude.{◌≡◌};
-ghost use Rattle.collection.specs.Words.{refused_cancel_words, refused_collect_words, passed_words, pending_words};
+ghost use Rattle.collection.specs.Words.{refused_cancel_words, refused_collect_words, pending_words};
 
 use crate::collected::Collected;
 use common::answer::{Answer, Refusal};
@@ -37,16 +37,6 @@ pub fn refuse_collect(rest: Rest, refusal: Refusal) -> Collection
 {
     Collection {
         answer: Collected::Refused(refusal),
-        rest,
-        writes: Writes::none(),
-    }
-}
-
-pub fn show_passed(rest: Rest) -> Collection
-    ensures { result ≡ passed_words rest }
-{
-    Collection {
-        answer: Collected::Passed,
         rest,
         writes: Writes::none(),
     }

@@ -1,16 +1,20 @@
-// What cancel, collect and look answer.
+// What cancel and collect answer.
 ghost use Rattle.std.specs.Prelude.{◌≡◌};
 ghost use Rattle.collection.specs.Answers.{collected_number, pending_of, outcome_of};
 
 use common::answer::{Answer, Refusal};
 use pool::chain::View;
 
+// What a request that is complete gives: how many bytes were moved, and how many of its descriptors went through only in a retry.
+#[derive(Clone, Copy)]
+pub struct Completion {
+    pub length: u64,
+    pub retried: u16,
+}
+
 #[derive(Clone, Copy)]
 pub enum Collected {
-    // How many descriptors went through only in a retry, and how many bytes were moved: the short field first takes no room of its own.
-    Complete(u16, u64),
-    // A look: the boundary has passed, and nothing is freed.
-    Passed,
+    Complete(Completion),
     Pending,
     Cancelled,
     Failed(u32),
@@ -22,8 +26,7 @@ impl Collected {
         ensures { result ≡ collected_number self }
     {
         match self {
-            Collected::Complete(_, _) => 0,
-            Collected::Passed => 0,
+            Collected::Complete(_) => 0,
             Collected::Pending => 9,
             Collected::Cancelled => 10,
             Collected::Failed(_) => 11,
@@ -53,5 +56,8 @@ pub fn outcome_of(cancelled: bool, view: View) -> Collected
     if failed != 0 {
         return Collected::Failed(failed);
     }
-    Collected::Complete(view.retried, view.moved)
+    Collected::Complete(Completion {
+        length: view.moved,
+        retried: view.retried,
+    })
 }

@@ -1,8 +1,7 @@
-// Cancelling a request, looking at it, and collecting it.
+// Cancelling a request, and collecting it.
 #![tactic(auto)]
 
 pub mod answers;
-pub mod apart;
 pub mod ask;
 pub mod calls;
 pub mod collected;

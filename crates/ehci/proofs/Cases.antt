@@ -11,14 +11,14 @@ use Rattle.endpoint.specs.Plain.{EndpointOpening}
 use Rattle.request.specs.Submit.{Outcome as SubmitOutcome, submitted}
 use Rattle.request.specs.Plain.{Submitted}
 use Rattle.request.specs.Plain.{WrittenBack}
-use Rattle.collection.specs.Calls.{Ended, Gathered, ended, gathered}
+use Rattle.collection.specs.Calls.{Gathered, gathered}
 use Rattle.collection.specs.Unlinks.{Left, left}
 use Rattle.collection.specs.Plain.{Cancellation}
 use Rattle.collection.specs.Plain.{Collection}
 use Rattle.ehci.specs.declared.reply.Answered.{Answered}
 use Rattle.ehci.specs.Plain.{Decided}
 use Rattle.ehci.specs.Replies.{brought_answer, changed_reply, collected_answer, opened_answer, replied, simply, submitted_answer}
-use Rattle.ehci.specs.Decides.{HeadsOutcome, LinksOutcome, alone_came, came, cancel_came, change_came, collect_came, heads_came, links_came, open_came, submit_came, with_frames, with_setups, written_reply}
+use Rattle.ehci.specs.Decides.{HeadsOutcome, LinksOutcome, came, cancel_came, change_came, collect_came, heads_came, links_came, open_came, submit_came, with_frames, with_setups, written_reply}
 
 pub brought_is : (a k : Answer) (read : NextRead) (wait : ℕ) → a ≡ k → brought_answer k read wait ≡ brought_answer a read wait
 brought_is a k read wait e = ap (λ (x : Answer). brought_answer x read wait) (sym e)
@@ -39,10 +39,6 @@ cancel_came_lem d c h f y e g = ap (λ (x : Decided). links_came x h f) e ∙ ap
 pub collect_came_lem : (d : Decided) (c : Collection) (h f : List ℕ) (y : Gathered) → d ≡ replied c.state (collected_answer c.answer) c.writes
     → gathered c h f ≡ y → links_came d h f ≡ collect_came y
 collect_came_lem d c h f y e g = ap (λ (x : Decided). links_came x h f) e ∙ ap collect_came g
-
-pub alone_came_lem : (d : Decided) (c : Collection) (h : List ℕ) (y : Ended) → d ≡ replied c.state (collected_answer c.answer) c.writes
-    → ended c h ≡ y → heads_came d h ≡ alone_came y
-alone_came_lem d c h y e f = ap (λ (x : Decided). heads_came x h) e ∙ ap alone_came f
 
 pub submit_came_lem : (x : Submitted) (a : Answered) (h f u : List ℕ) (y : SubmitOutcome) → a ≡ submitted_answer x.answer → submitted x h f u ≡ y
     → came (record { reply = record { state = x.state; answer = a; writes = x.writes }; chain = x.chain }) h f u ≡ submit_came y

@@ -29,10 +29,9 @@ use Rattle.request.specs.Submit.{accepted_with, refused_submit, settled_submit, 
 use Rattle.request.specs.Writeback.{refused_writeback, writeback_checks, writeback_of}
 use Rattle.request.specs.Plain.{WrittenBack}
 use Rattle.request.specs.declared.judge.TransferRequest.{TransferRequest}
-use Rattle.collection.specs.Answers.{outcome_of, passed_collect, pending_collect}
-use Rattle.collection.specs.Apart.{alone_at, alone_checks, alone_of, look_at, look_of}
+use Rattle.collection.specs.Answers.{outcome_of, pending_collect}
 use Rattle.collection.specs.declared.collected.Collected.TheVariants.{Complete, Failed as FailedCollect}
-use Rattle.collection.specs.Calls.{Ended, Gathered, cancel_at, cancel_checks, cancel_of, collect_at, collect_checks, collect_of, end_if, ended, finish_of, gathered, keeping, linked_of, marked, pending_left, unlinking_of, with_frames as gatheredFrames}
+use Rattle.collection.specs.Calls.{Gathered, cancel_at, cancel_checks, cancel_of, collect_at, collect_checks, collect_of, end_if, ended, finish_of, gathered, keeping, linked_of, marked, pending_left, unlinking_of, with_frames as gatheredFrames}
 use Rattle.collection.specs.Unlinks.{Left, is_missing, passed_boundary, unlink_of, waiting_of}
 use Rattle.interrupt.specs.Interrupts.{acknowledge_of, disable_of, drain_if, drain_of, enable_of, heard_if, rearm_if, rearm_of, settled_or, cleared_of, counted_of}
 use Rattle.interrupt.specs.declared.drain.Cleared.{Cleared}
@@ -44,13 +43,13 @@ use Rattle.bring_up.specs.BringUp.{again_of, any_uncollected, onward_of, ready, 
 use Rattle.bring_up.specs.Plain.{BroughtUp}
 use Rattle.bring_up.specs.declared.stage.Stage.{Stage}
 use Rattle.ehci.specs.declared.call.Call.{Call}
-use Rattle.ehci.specs.declared.call.Call.TheVariants.{StartBringUp, BringUpStep, AllocateAddress, OpenEndpoint, Close, SetAddress, SetPacketSize, Submit, Writeback, Cancel, Collect, Acknowledge, Drain, Rearm, Enable, Disable, ClearHalt, Look, CollectAlone}
+use Rattle.ehci.specs.declared.call.Call.TheVariants.{StartBringUp, BringUpStep, AllocateAddress, OpenEndpoint, Close, SetAddress, SetPacketSize, Submit, Writeback, Cancel, Collect, Acknowledge, Drain, Rearm, Enable, Disable, ClearHalt}
 use Rattle.ehci.specs.declared.call.EndpointFields.{EndpointFields}
 use Rattle.ehci.specs.declared.call.InterruptReadings.{InterruptReadings}
 use Rattle.ehci.specs.declared.reply.Answered.{Answered}
 use Rattle.ehci.specs.declared.reply.Answered.TheVariants.{Done, Pending, Cancelled, Failed, Refused}
 use Rattle.ehci.specs.Replies.{brought_reply, changed_reply, collected_answer, drained_answer, refused_reply, replied, settled_reply}
-use Rattle.ehci.specs.Decides.{Outcome, acknowledge_decided, acknowledge_reply, address_decided, allot_decided, allot_reply, alone_came, alone_decided, alone_readings, call_of, came, cancel_came, cancel_decided, change_came, clear_decided, close_decided, collect_came, collect_decided, decide_of, drain_decided, drain_reply, fitting, look_decided, look_readings, open_came, open_decided, packet_decided, submit_came, submit_decided, with_frames, with_setups, writeback_decided, written_reply}
+use Rattle.ehci.specs.Decides.{Outcome, acknowledge_decided, acknowledge_reply, address_decided, allot_decided, allot_reply, call_of, came, cancel_came, cancel_decided, change_came, clear_decided, close_decided, collect_came, collect_decided, decide_of, drain_decided, drain_reply, fitting, open_came, open_decided, packet_decided, submit_came, submit_decided, with_frames, with_setups, writeback_decided, written_reply}
 use Rattle.ehci.specs.Refusals.{left_by}
 use Rattle.ehci.proofs.Counts.{acknowledged_few, bounded_few, counted_few, none_few, one_few, stage_few}
 use Rattle.endpoint.specs.Plain.{Change}
@@ -252,7 +251,7 @@ module _ (s : Ehci) (hs fs us : List ℕ) where
     outcome_given true v = refl
     outcome_given false v = by (eqb v.failed 0)
       where
-        by : (b : Bool) → is_refused (collected_answer (cond b (Complete v.retried v.moved) (FailedCollect v.failed))) ≡ false
+        by : (b : Bool) → is_refused (collected_answer (cond b (Complete (record { length = v.moved; retried = v.retried })) (FailedCollect v.failed))) ≡ false
         by true = refl
         by false = refl
 
@@ -277,36 +276,6 @@ module _ (s : Ehci) (hs fs us : List ℕ) where
     collect_fair v =
         settle_fair (λ (g : Gathered). with_setups (collect_came g) us) (collect_checks s (lengths n (length hs) (length fs) (length us)) k id) _ _ refl
         (λ x. refl) (collect_at_lem v (endpoint_at s k))
-
-    look_at_lem : (v : View) (x : Endpoint) → Fair (with_setups (collect_came (look_at x s hs fs readings v k)) us)
-    unfolding refused_reply replied
-    look_at_lem v Closed = refused_fair InvalidEndpoint refl
-    look_at_lem v (Idle p) = result_fair _ refl none_few
-    look_at_lem v (Linked p r) = linked_fair v.stage p r
-    look_at_lem v (Unlinking p r u) = by (passed_boundary u readings.frame)
-      where
-        by : (b : Bool) → Fair (with_setups (collect_came (gathered (cond b (passed_collect s) (pending_collect s)) hs fs)) us)
-        by true = result_fair _ refl none_few
-        by false = result_fair _ refl none_few
-
-    alone_at_lem : (v : View) (x : Endpoint) → Fair (with_frames (alone_came (alone_at x s hs readings v k)) fs us)
-    unfolding refused_reply replied
-    alone_at_lem v Closed = refused_fair InvalidEndpoint refl
-    alone_at_lem v (Idle p) = result_fair _ refl none_few
-    alone_at_lem v (Linked p r) = result_fair _ refl none_few
-    alone_at_lem v (Unlinking p r u) = unlinking_fair v (keeping readings p) r u
-
-  look_fair : (n command frame : ℕ) (v : View) (k id : ℕ) → Fair (with_setups (look_decided s n hs fs (length us) command frame v k id) us)
-  unfolding look_decided look_of refused_reply replied
-  look_fair n command frame v k id =
-      settle_fair (λ (g : Gathered). with_setups (collect_came g) us) (collect_checks s (lengths n (length hs) (length fs) (length us)) k id) _ _ refl
-      (λ x. refl) (look_at_lem n (look_readings command frame) k id v (endpoint_at s k))
-
-  alone_fair : (n frame overlay : ℕ) (v : View) (k id : ℕ) → Fair (with_frames (alone_decided s n hs (length fs) (length us) frame overlay v k id) fs us)
-  unfolding alone_decided alone_of refused_reply replied
-  alone_fair n frame overlay v k id =
-      settle_fair (λ (e : Ended). with_frames (alone_came e) fs us) (alone_checks s (lengths n (length hs) (length fs) (length us)) k id) _ _ refl
-      (λ x. refl) (alone_at_lem n (alone_readings frame overlay) k id v (endpoint_at s k))
 
   -- ---- interrupts
 
@@ -382,8 +351,6 @@ module _ (s : Ehci) (hs fs us : List ℕ) where
   call_fair n v Enable = enable_fair
   call_fair n v Disable = disable_fair
   call_fair n v (ClearHalt k) = clear_fair k
-  call_fair n v (Look k id command frame) = look_fair n command frame v k id
-  call_fair n v (CollectAlone k id frame overlay) = alone_fair n frame overlay v k id
 
   pub decided_fair : (n : ℕ) (v : View) (call : Call) → Fair (decide_of s n hs fs us v call)
   unfolding decide_of

@@ -13,9 +13,11 @@ use Rattle.words.specs.declared.core.Core.{Core}
 use Rattle.words.specs.Good.{Good}
 use Rattle.words.specs.View.{view}
 use Rattle.word_ranges.specs.Judge.{words_good}
+use Rattle.controller.specs.declared.lent.Readings.{Readings}
 use Rattle.collection.specs.Asks.{ask_of}
 use Rattle.collection.specs.Words.{ask_view}
 use Rattle.ehci.specs.declared.call.Call.{Call}
+use Rattle.ehci.specs.declared.call.Call.TheVariants.{Collect}
 use Rattle.ehci.specs.Decides.{asks_of}
 use Rattle.ehci.specs.WordsDecides.{AsksGood, LooksGood}
 use Rattle.ehci.specs.WordsDoor.{accepts_words}
@@ -47,11 +49,12 @@ module _ (c : Core) (ws : List ℕ) (good : Bool) (call : Call) (a : AskWords) w
         none_asked = λ no. e;
       }
 
-  pub asks_slot : (k : ℕ) (asker : Call) → call ≡ asker → asks_of (view c ws) (pool_length c.settings) asker ≡ ask_of (view c ws) (pool_length c.settings) k
-      → not good ≡ false → ask_view a ≡ ask_of (view c ws) (pool_length c.settings) k → AskWordsGood (pool_length c.settings) a → AsksGood c ws good call a
-  asks_slot k asker is asks h e g =
+  pub asks_slot : (k id : ℕ) (readings : Readings) → call ≡ Collect k id readings → not good ≡ false → ask_view a ≡ ask_of (view c ws) (pool_length c.settings) k
+      → AskWordsGood (pool_length c.settings) a → AsksGood c ws good call a
+  unfolding asks_of
+  asks_slot k id readings is h e g =
       record {
-        ask_is = λ yes. e ∙ sym asks ∙ ap (asks_of (view c ws) (pool_length c.settings)) (sym is);
+        ask_is = λ yes. e ∙ ap (asks_of (view c ws) (pool_length c.settings)) (sym is);
         ask_good = g;
         none_asked = λ no. absurd (false_true (sym no ∙ not-false good h));
       }

@@ -45,8 +45,7 @@ submitted_number (S.Accepted id) = refl
 submitted_number (S.Refused r) = refl
 
 pub collected_number_lem : (c : Collected) → answered_number (collected_answer c) ≡ collected_number c
-collected_number_lem (C.Complete retried n) = refl
-collected_number_lem C.Passed = refl
+collected_number_lem (C.Complete done) = refl
 collected_number_lem C.Pending = refl
 collected_number_lem C.Cancelled = refl
 collected_number_lem (C.Failed token) = refl

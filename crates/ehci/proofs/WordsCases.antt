@@ -32,8 +32,7 @@ use Rattle.request.specs.Writeback.{writeback_of}
 use Rattle.request.specs.declared.answers.Submitted.{Submitted}
 use Rattle.request.specs.declared.answers.WrittenBack.{WrittenBack}
 use Rattle.request.specs.declared.judge.TransferRequest.{TransferRequest}
-use Rattle.collection.specs.Apart.{alone_of, look_of}
-use Rattle.collection.specs.Calls.{cancel_of, collect_of, ended, gathered}
+use Rattle.collection.specs.Calls.{cancel_of, collect_of, gathered}
 use Rattle.collection.specs.Unlinks.{left}
 use Rattle.collection.specs.Words.{cancelled_view, collected_view}
 use Rattle.collection.specs.declared.answers.Cancellation.{Cancellation}
@@ -53,9 +52,9 @@ use Rattle.ehci.specs.declared.reply.Answered.{Answered}
 use Rattle.ehci.specs.Plain.{Decided as DecidedPlain}
 use Rattle.ehci.specs.declared.reply.Decided.{Decided}
 use Rattle.ehci.specs.Replies.{acknowledged_answer, allotted_answer, brought_reply, changed_reply, collected_answer, drained_answer, opened_answer, replied, settled_reply, simply, submitted_answer}
-use Rattle.ehci.specs.Decides.{acknowledge_decided, acknowledge_reply, allot_decided, allot_reply, alone_decided, alone_readings, came, cancel_decided, change_came, collect_decided, drain_decided, drain_reply, heads_came, links_came, look_decided, look_readings, open_decided, submit_decided, writeback_decided}
+use Rattle.ehci.specs.Decides.{acknowledge_decided, acknowledge_reply, allot_decided, allot_reply, came, cancel_decided, change_came, collect_decided, drain_decided, drain_reply, heads_came, links_came, open_decided, submit_decided, writeback_decided}
 use Rattle.ehci.specs.WordsDecides.{Keeps, Tidies, Writable, brought_words, chain_in, changed_words, decided_view, laid_only, marked_only, replied_words, settled_words}
-use Rattle.ehci.proofs.Cases.{alone_came_lem, cancel_came_lem, change_came_lem, collect_came_lem, open_came_lem, submit_came_lem, written_came}
+use Rattle.ehci.proofs.Cases.{cancel_came_lem, change_came_lem, collect_came_lem, open_came_lem, submit_came_lem, written_came}
 use Rattle.ehci.proofs.WordsChains.{laid_chain, laid_writable, marked_chain, marked_writable, no_writing_chain}
 
 -- a reply by its parts
@@ -134,18 +133,6 @@ module _ (c : Core) (ws ws' : List ℕ) where
     tidies_words c d _ _ _ e ws' t,
   )
 
-  pub alone_words : (h h' : List ℕ) (frame overlay : ℕ) (v : View) (k id : ℕ) (x : Collection) (d : Decided) → d ≡ replied_words x.rest (collected_answer x.answer) x.writes
-      → ((pool frames setups : ℕ) → rows_are_fit c.settings pool (length h) frames setups ≡ true
-      → ended (collected_view c.settings x ws') h' ≡ alone_of (view c ws) pool h frames setups (alone_readings frame overlay) v k id)
-      → Tidy c.settings x.rest ws'
-      → ((pool frames setups : ℕ) → rows_are_fit c.settings pool (length h) frames setups ≡ true
-      → heads_came (decided_view c.settings d ws') h' ≡ alone_decided (view c ws) pool h frames setups frame overlay v k id) × Tidies c d ws'
-  unfolding alone_decided
-  alone_words h h' frame overlay v k id x d e f t = (
-    (λ pool frames setups q. alone_came_lem (decided_view c.settings d ws') (collected_view c.settings x ws') h' _ (left_view c.settings d _ _ _ ws' e) (f pool frames setups q)),
-    tidies_words c d _ _ _ e ws' t,
-  )
-
   module _ (h f h' f' : List ℕ) where
     pub cancel_words : (y : Readings) (k id : ℕ) (x : Cancellation) (d : Decided) → d ≡ replied_words x.rest (simply x.answer) x.writes
         → ((pool setups : ℕ) → rows_are_fit c.settings pool (length h) (length f) setups ≡ true
@@ -167,18 +154,6 @@ module _ (c : Core) (ws ws' : List ℕ) where
         → links_came (decided_view c.settings d ws') h' f' ≡ collect_decided (view c ws) pool h f setups y v k id) × Tidies c d ws'
     unfolding collect_decided
     collect_words y v k id x d e g t = (
-      (λ pool setups q. collect_came_lem (decided_view c.settings d ws') (collected_view c.settings x ws') h' f' _ (left_view c.settings d _ _ _ ws' e) (g pool setups q)),
-      tidies_words c d _ _ _ e ws' t,
-    )
-
-    pub look_words : (command frame : ℕ) (v : View) (k id : ℕ) (x : Collection) (d : Decided) → d ≡ replied_words x.rest (collected_answer x.answer) x.writes
-        → ((pool setups : ℕ) → rows_are_fit c.settings pool (length h) (length f) setups ≡ true
-        → gathered (collected_view c.settings x ws') h' f' ≡ look_of (view c ws) pool h f setups (look_readings command frame) v k id)
-        → Tidy c.settings x.rest ws'
-        → ((pool setups : ℕ) → rows_are_fit c.settings pool (length h) (length f) setups ≡ true
-        → links_came (decided_view c.settings d ws') h' f' ≡ look_decided (view c ws) pool h f setups command frame v k id) × Tidies c d ws'
-    unfolding look_decided
-    look_words command frame v k id x d e g t = (
       (λ pool setups q. collect_came_lem (decided_view c.settings d ws') (collected_view c.settings x ws') h' f' _ (left_view c.settings d _ _ _ ws' e) (g pool setups q)),
       tidies_words c d _ _ _ e ws' t,
     )

@@ -18,15 +18,14 @@ use Rattle.request.specs.declared.judge.TransferRequest.{TransferRequest}
 use Rattle.request.specs.Submit.{Outcome as SubmitOutcome, submit_of}
 use Rattle.request.specs.Writeback.{writeback_of}
 use Rattle.collection.specs.Asks.{ask_of}
-use Rattle.collection.specs.Apart.{alone_of, look_of}
-use Rattle.collection.specs.Calls.{Ended, Gathered, cancel_of, collect_of}
+use Rattle.collection.specs.Calls.{Gathered, cancel_of, collect_of}
 use Rattle.collection.specs.Unlinks.{Left}
 use Rattle.interrupt.specs.Plain.{Acknowledgement}
 use Rattle.interrupt.specs.Plain.{Drainage}
 use Rattle.interrupt.specs.Interrupts.{acknowledge_of, disable_of, drain_of, enable_of, rearm_of}
 use Rattle.bring_up.specs.BringUp.{start_of, step_of}
 use Rattle.ehci.specs.declared.call.Call.{Call}
-use Rattle.ehci.specs.declared.call.Call.TheVariants.{StartBringUp, BringUpStep, AllocateAddress, OpenEndpoint, Close, SetAddress, SetPacketSize, Submit, Writeback, Cancel, Collect, Acknowledge, Drain, Rearm, Enable, Disable, ClearHalt, Look, CollectAlone}
+use Rattle.ehci.specs.declared.call.Call.TheVariants.{StartBringUp, BringUpStep, AllocateAddress, OpenEndpoint, Close, SetAddress, SetPacketSize, Submit, Writeback, Cancel, Collect, Acknowledge, Drain, Rearm, Enable, Disable, ClearHalt}
 use Rattle.ehci.specs.declared.call.EndpointFields.{EndpointFields}
 use Rattle.ehci.specs.declared.call.InterruptReadings.{InterruptReadings}
 use Rattle.ehci.specs.Plain.{Decided}
@@ -128,24 +127,6 @@ unfoldable pub collect_decided : Ehci → ℕ → List ℕ → List ℕ → ℕ 
 collect_decided s pool heads frames setups readings view k id =
     collect_came (collect_of s pool heads frames setups readings view k id)
 
--- 02 order 10: a look has no use for the overlay's token, collect alone none for USBCMD
-abbrev pub look_readings : ℕ → ℕ → Readings
-look_readings command frame = record { command = command; frame = frame; overlay = 0 }
-
-abbrev pub alone_readings : ℕ → ℕ → Readings
-alone_readings frame overlay = record { command = 0; frame = frame; overlay = overlay }
-
-unfoldable pub look_decided : Ehci → ℕ → List ℕ → List ℕ → ℕ → ℕ → ℕ → View → ℕ → ℕ → LinksOutcome
-look_decided s pool heads frames setups command frame view k id =
-    collect_came (look_of s pool heads frames setups (look_readings command frame) view k id)
-
-abbrev pub alone_came : Ended → HeadsOutcome
-alone_came e = heads_came (replied e.came.state (collected_answer e.came.answer) e.came.writes) e.heads
-
-unfoldable pub alone_decided : Ehci → ℕ → List ℕ → ℕ → ℕ → ℕ → ℕ → View → ℕ → ℕ → HeadsOutcome
-alone_decided s pool heads frames setups frame overlay view k id =
-    alone_came (alone_of s pool heads frames setups (alone_readings frame overlay) view k id)
-
 abbrev pub acknowledge_reply : Acknowledgement → Decided
 acknowledge_reply a = replied a.state (acknowledged_answer a.answer) a.writes
 
@@ -184,8 +165,6 @@ call_of s n hs fs us v Rearm = came (settled_reply (rearm_of s)) hs fs us
 call_of s n hs fs us v Enable = came (settled_reply (enable_of s)) hs fs us
 call_of s n hs fs us v Disable = came (settled_reply (disable_of s)) hs fs us
 call_of s n hs fs us v (ClearHalt k) = came (clear_decided s k) hs fs us
-call_of s n hs fs us v (Look k id command frame) = with_setups (look_decided s n hs fs (length us) command frame v k id) us
-call_of s n hs fs us v (CollectAlone k id frame overlay) = with_frames (alone_decided s n hs (length fs) (length us) frame overlay v k id) fs us
 
 abbrev pub fitting : Bool → Outcome → Outcome → Outcome
 fitting true a b = a
@@ -217,5 +196,3 @@ asks_of s n Rearm = no_ask
 asks_of s n Enable = no_ask
 asks_of s n Disable = no_ask
 asks_of s n (ClearHalt k) = no_ask
-asks_of s n (Look k id command frame) = ask_of s n k
-asks_of s n (CollectAlone k id frame overlay) = ask_of s n k

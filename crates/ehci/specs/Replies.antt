@@ -65,8 +65,7 @@ given_values G.Nothing = []
 given_values (G.Slot k) = k ∷ []
 given_values (G.Address a) = a ∷ []
 given_values (G.Id id) = id ∷ []
-given_values (G.Length retried n) = n ∷ retried ∷ []
-given_values G.Passed = 0 ∷ []
+given_values (G.Length n retried) = n ∷ retried ∷ []
 given_values G.No = 0 ∷ []
 given_values G.Yes = 1 ∷ []
 given_values (G.Event e) = event_number e ∷ event_value e ∷ []
@@ -108,8 +107,7 @@ submitted_answer (S.Accepted id) = Done (G.Id id)
 submitted_answer (S.Refused r) = Refused r
 
 abbrev pub collected_answer : Collected → Answered
-collected_answer (C.Complete retried n) = Done (G.Length retried n)
-collected_answer C.Passed = Done G.Passed
+collected_answer (C.Complete done) = Done (G.Length done.length done.retried)
 collected_answer C.Pending = Pending
 collected_answer C.Cancelled = Cancelled
 collected_answer (C.Failed token) = Failed token

@@ -41,8 +41,4 @@ pub enum Call {
     Enable,
     Disable,
     ClearHalt(u8),
-    // With USBCMD and FRINDEX.
-    Look(u8, u64, u32, u32),
-    // With FRINDEX and the token of the head's overlay.
-    CollectAlone(u8, u64, u32, u32),
 }

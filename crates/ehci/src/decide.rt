@@ -7,7 +7,7 @@ ghost use Rattle.controller.specs.Plain.{Lengths};
 ghost use Rattle.settings.specs.Settings.{pool_length};
 ghost use Rattle.words.specs.Good.{Good, Tidy};
 ghost use Rattle.words.specs.View.{view};
-ghost use Rattle.ehci.specs.Decides.{acknowledge_decided, allot_decided, alone_decided, came, cancel_decided, collect_decided, drain_decided, heads_came, links_came, look_decided, open_decided, submit_decided, writeback_decided};
+ghost use Rattle.ehci.specs.Decides.{acknowledge_decided, allot_decided, came, cancel_decided, collect_decided, drain_decided, heads_came, links_came, open_decided, submit_decided, writeback_decided};
 ghost use Rattle.ehci.specs.WordsDecides.{Keeps, Tidies, Writable, decide_words, decided_view};
 ghost use Rattle.ehci.specs.WordsDoor.{Judged, WordsAfter};
 
@@ -18,7 +18,6 @@ use crate::reply::{
     submitted_answer,
 };
 use bring_up::calls::{start, step};
-use collection::apart::{collect_alone, look};
 use collection::calls::{cancel, collect};
 use common::answer::Refusal;
 use controller::calls::allocate_address;
@@ -165,65 +164,6 @@ fn on_collect(
     leave(rest, collected_answer(answer), writes)
 }
 
-fn on_look(
-    core: Core,
-    slots: &mut [u64],
-    heads: &mut [u32],
-    frames: &mut [u32],
-    command: u32,
-    frame: u32,
-    seen: View,
-    slot: u8,
-    id: u64,
-) -> Decided
-    requires good { Good core.settings core.rest slots.old }
-    requires heads_len { (length heads.old ≡ 17 * (core.settings.endpoints + 1)) × (length frames.old ≡ 1024) }
-    ensures by_index { (pool setups : ℕ) → rows_are_fit core.settings pool (length heads.old) (length frames.old) setups ≡ true
-        → links_came (decided_view core.settings result slots.new) heads.new frames.new
-        ≡ look_decided (view core slots.old) pool heads.old frames.old setups command frame seen slot id }
-    ensures tidies { Tidies core result slots.new }
-{
-    let readings = Readings {
-        command,
-        frame,
-        overlay: 0,
-    };
-    let x = look(core, slots, heads, frames, readings, seen, slot, id);
-    let answer = x.answer;
-    let rest = x.rest;
-    let writes = x.writes;
-    leave(rest, collected_answer(answer), writes)
-}
-
-fn on_collect_alone(
-    core: Core,
-    slots: &mut [u64],
-    heads: &mut [u32],
-    frame: u32,
-    overlay: u32,
-    seen: View,
-    slot: u8,
-    id: u64,
-) -> Decided
-    requires good { Good core.settings core.rest slots.old }
-    requires heads_len { length heads.old ≡ 17 * (core.settings.endpoints + 1) }
-    ensures by_index { (pool frames setups : ℕ) → rows_are_fit core.settings pool (length heads.old) frames setups ≡ true
-        → heads_came (decided_view core.settings result slots.new) heads.new
-        ≡ alone_decided (view core slots.old) pool heads.old frames setups frame overlay seen slot id }
-    ensures tidies { Tidies core result slots.new }
-{
-    let readings = Readings {
-        command: 0,
-        frame,
-        overlay,
-    };
-    let x = collect_alone(core, slots, heads, readings, seen, slot, id);
-    let answer = x.answer;
-    let rest = x.rest;
-    let writes = x.writes;
-    leave(rest, collected_answer(answer), writes)
-}
-
 fn on_acknowledge(core: Core, readings: InterruptReadings) -> Decided
     ensures by_index { (ws : List ℕ) → in_ranges (view core ws) ≡ true → decided_view core.settings result ws ≡ acknowledge_decided (view core ws) readings }
     ensures keeps { Keeps core result }
@@ -302,11 +242,5 @@ pub fn decide(
         Call::Enable => of_settled(enable(core)),
         Call::Disable => of_settled(disable(core)),
         Call::ClearHalt(slot) => of_change(clear_halt(core, slots, slot)),
-        Call::Look(slot, id, command, frame) => on_look(
-            core, slots, heads, frames, command, frame, seen, slot, id,
-        ),
-        Call::CollectAlone(slot, id, frame, overlay) => on_collect_alone(
-            core, slots, heads, frame, overlay, seen, slot, id,
-        ),
     }
 }

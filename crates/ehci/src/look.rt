@@ -66,8 +66,6 @@ fn asks(core: Core, slots: &[u64], good: bool, call: Call) -> AskWords
         Call::Enable => no_ask_words(),
         Call::Disable => no_ask_words(),
         Call::ClearHalt(_) => no_ask_words(),
-        Call::Look(slot, _, _, _) => ask(core, slots, slot),
-        Call::CollectAlone(slot, _, _, _) => ask(core, slots, slot),
     }
 }
 

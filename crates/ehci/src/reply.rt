@@ -33,10 +33,8 @@ pub enum Given {
     Slot(u8),
     Address(u8),
     Id(u64),
-    // How many descriptors were retried, and the bytes that were moved.
-    Length(u16, u64),
-    // A length of 0, of a look: the boundary has passed.
-    Passed,
+    // The bytes that were moved, and how many descriptors were retried.
+    Length(u64, u16),
     No,
     Yes,
     Event(Event),
@@ -133,8 +131,7 @@ pub fn collected_answer(answer: Collected) -> Answered
     ensures { result ≡ collected_answer answer }
 {
     match answer {
-        Collected::Complete(retried, length) => Answered::Done(Given::Length(retried, length)),
-        Collected::Passed => Answered::Done(Given::Passed),
+        Collected::Complete(done) => Answered::Done(Given::Length(done.length, done.retried)),
         Collected::Pending => Answered::Pending,
         Collected::Cancelled => Answered::Cancelled,
         Collected::Failed(token) => Answered::Failed(token),

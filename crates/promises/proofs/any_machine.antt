@@ -9,5 +9,4 @@ pub mod Waits
 pub mod WireLaws
 pub mod Numbers
 pub mod BoundaryExact
-pub mod Looks
 pub mod RegisterLaws

@@ -12,7 +12,6 @@ pub mod ChainCancels
 pub mod ChainCollects
 pub mod ChainUses
 pub mod BoundaryCalls
-pub mod LookLaws
 pub mod BoundaryCore
 pub mod BoundaryCancels
 pub mod ChainTheorems

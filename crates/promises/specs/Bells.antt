@@ -5,7 +5,7 @@ use Rattle.common.specs.declared.kinds.EndpointType.{EndpointType}
 use Rattle.common.specs.declared.kinds.EndpointType.TheVariants.{Control}
 use Rattle.pipe.specs.Endpoints.{flag_number}
 use Rattle.ehci.specs.declared.call.Call.{Call}
-use Rattle.ehci.specs.declared.call.Call.TheVariants.{StartBringUp, BringUpStep, AllocateAddress, OpenEndpoint, Close, SetAddress, SetPacketSize, Submit, Writeback, Cancel, Collect, Acknowledge, Drain, Rearm, Enable, Disable, ClearHalt, Look, CollectAlone}
+use Rattle.ehci.specs.declared.call.Call.TheVariants.{StartBringUp, BringUpStep, AllocateAddress, OpenEndpoint, Close, SetAddress, SetPacketSize, Submit, Writeback, Cancel, Collect, Acknowledge, Drain, Rearm, Enable, Disable, ClearHalt}
 use Rattle.ehci.specs.declared.reply.Answered.{Answered as Answer}
 use Rattle.promises.specs.Runs.{History, Turn}
 use Rattle.promises.specs.Events.{Event, Other, Reads, Drains, Submits, Unlinks, Parts, Collects, event, is_done, rings}
@@ -239,8 +239,6 @@ cancels_by k Rearm a = false
 cancels_by k Enable a = false
 cancels_by k Disable a = false
 cancels_by k (ClearHalt j) a = false
-cancels_by k (Look j id command frame) a = false
-cancels_by k (CollectAlone j id frame overlay) a = false
 
 unfoldable pub cancelled : Settings → ℕ → History → Bool
 cancelled s k [] = false

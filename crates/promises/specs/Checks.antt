@@ -17,7 +17,7 @@ use Rattle.collection.specs.Calls.{crowded, wrong_id}
 use Rattle.collection.specs.Unlinks.{is_missing}
 use Rattle.bring_up.specs.BringUp.{any_uncollected, ready, stage_of}
 use Rattle.ehci.specs.declared.call.Call.{Call}
-use Rattle.ehci.specs.declared.call.Call.TheVariants.{StartBringUp, BringUpStep, AllocateAddress, OpenEndpoint, Close, SetAddress, SetPacketSize, Submit, Writeback, Cancel, Collect, Acknowledge, Drain, Rearm, Enable, Disable, ClearHalt, Look, CollectAlone}
+use Rattle.ehci.specs.declared.call.Call.TheVariants.{StartBringUp, BringUpStep, AllocateAddress, OpenEndpoint, Close, SetAddress, SetPacketSize, Submit, Writeback, Cancel, Collect, Acknowledge, Drain, Rearm, Enable, Disable, ClearHalt}
 use Rattle.ehci.specs.Decides.{asks_of}
 use Rattle.ehci.specs.Door.{seen_by}
 use Rattle.ehci.specs.Replies.{answered_number}
@@ -96,15 +96,6 @@ further_checks w Enable = []
 further_checks w Disable = []
 -- 02 order 6: "clear-halt answers 3, then 4"
 further_checks w (ClearHalt k) = (not (is_opened w.view k), InvalidEndpoint) ∷ (is_uncollected w.view k, QueueFull) ∷ []
--- 02 order 10: "both use 01's order for collect"; collect alone unlinks nothing, so of what no run meets nothing is in its way
-further_checks w (Look k id command frame) =
-    (crowded w.view k, InvalidParameter)
-    ∷ (not (is_opened w.view k), InvalidEndpoint)
-    ∷ (wrong_id w.view k id, InvalidEndpoint)
-    ∷ (lost_at (endpoint_at w.view k) (finished w (Look k id command frame) && lost w k), InvalidEndpoint)
-    ∷ []
-further_checks w (CollectAlone k id frame overlay) =
-    (not (is_opened w.view k), InvalidEndpoint) ∷ (wrong_id w.view k id, InvalidEndpoint) ∷ []
 
 -- "First: a lent row of a length other than opening fixed, or a state outside its ranges, 1."
 abbrev pub checks_of : Moment → Call → List Check

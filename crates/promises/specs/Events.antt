@@ -5,7 +5,7 @@ use Rattle.settings.specs.declared.settings.Settings.{Settings}
 use Rattle.request.specs.declared.judge.TransferRequest.{TransferRequest}
 use Rattle.schedule.specs.Bell.{some_ring}
 use Rattle.ehci.specs.declared.call.Call.{Call}
-use Rattle.ehci.specs.declared.call.Call.TheVariants.{StartBringUp, BringUpStep, AllocateAddress, OpenEndpoint, Close, SetAddress, SetPacketSize, Submit, Writeback, Cancel, Collect, Acknowledge, Drain, Rearm, Enable, Disable, ClearHalt, Look, CollectAlone}
+use Rattle.ehci.specs.declared.call.Call.TheVariants.{StartBringUp, BringUpStep, AllocateAddress, OpenEndpoint, Close, SetAddress, SetPacketSize, Submit, Writeback, Cancel, Collect, Acknowledge, Drain, Rearm, Enable, Disable, ClearHalt}
 use Rattle.ehci.specs.declared.reply.Answered.{Answered}
 use Rattle.ehci.specs.Replies.{answered_number, answered_values}
 use Rattle.promises.specs.Runs.{Turn}
@@ -81,8 +81,6 @@ happens s Rearm t = Other
 happens s Enable t = Other
 happens s Disable t = Other
 happens s (ClearHalt k) t = Other
-happens s (Look k id command frame) t = leaving s k frame t
-happens s (CollectAlone k id frame overlay) t = cond (is_collected t.answer) (Collects k id frame) Other
 
 abbrev pub event : Settings → Turn → Event
 event s t = happens s t.call t

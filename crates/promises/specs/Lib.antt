@@ -24,5 +24,4 @@ pub mod Registers
 pub mod Ids
 pub mod Refusals
 pub mod WordsRuns
-pub mod Looks
 pub mod Promises

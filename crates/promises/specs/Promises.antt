@@ -17,7 +17,6 @@ use Rattle.promises.specs.Coverage.{Coverage}
 use Rattle.promises.specs.Boundaries.{BoundaryKept, BoundaryNumbered, CancelledAnswered, Exact, FramesKept, OneCount, Orderly, PassesExactly, StateSays, Uncrowded, UpExactly, Waits}
 use Rattle.promises.specs.Faults.{NeverGiven}
 use Rattle.promises.specs.Collections.{CollectsDue}
-use Rattle.promises.specs.Looks.{LookStays, LooksApart}
 use Rattle.promises.specs.Ids.{CancelsById, CollectsById, IdsInTurn}
 
 pub record Promises {f : Form} (m : Machine f) : Type 0 where
@@ -90,10 +89,6 @@ pub record Promises {f : Form} (m : Machine f) : Type 0 where
   -- a collection answers 10, 11 or 0 with the length, from the request and its last tokens; a cancelled request ends in 10
   pub collects_due : EveryRun CollectsDue m
   pub cancelled_answered : EveryRun CancelledAnswered m
-  -- the old call is look where no boundary is set, which frees nothing, and collect alone where one is, which unlinks nothing
-  pub looks_apart : EveryRun LooksApart m
-  -- and what a look has seen passed is collected
-  pub look_stays : EveryRun LookStays m
   -- no unlink fails
   pub no_detach_fails : EveryRun NoDetachFails m
   -- ids are 1, 2, .. from a slot's opening on

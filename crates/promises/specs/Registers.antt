@@ -8,7 +8,7 @@ use Rattle.settings.specs.declared.settings.Settings.{Settings}
 use Rattle.pipe.specs.Endpoints.{flag_number}
 use Rattle.schedule.specs.Bell.{is_ring}
 use Rattle.ehci.specs.declared.call.Call.{Call}
-use Rattle.ehci.specs.declared.call.Call.TheVariants.{StartBringUp, BringUpStep, AllocateAddress, OpenEndpoint, Close, SetAddress, SetPacketSize, Submit, Writeback, Cancel, Collect, Acknowledge, Drain, Rearm, Enable, Disable, ClearHalt, Look, CollectAlone}
+use Rattle.ehci.specs.declared.call.Call.TheVariants.{StartBringUp, BringUpStep, AllocateAddress, OpenEndpoint, Close, SetAddress, SetPacketSize, Submit, Writeback, Cancel, Collect, Acknowledge, Drain, Rearm, Enable, Disable, ClearHalt}
 use Rattle.ehci.specs.declared.call.InterruptReadings.{InterruptReadings}
 use Rattle.ehci.specs.declared.reply.Answered.{Answered}
 use Rattle.ehci.specs.Replies.{answered_number, answered_values}
@@ -25,7 +25,7 @@ pub data Access : Type 0 where
   -- bring-up: its start; a step, with the reading
   Starts : Access
   Steps : ℕ → Access
-  -- a submit; a cancel, a collect or a look: with USBCMD
+  -- a submit; a cancel or a collect: with USBCMD
   Submits Leaves : ℕ → Access
   Acknowledges : InterruptReadings → Access
   -- a drain, with USBCMD
@@ -50,9 +50,6 @@ access_of Rearm = Rearms
 access_of Enable = Enables
 access_of Disable = Disables
 access_of (ClearHalt k) = None
-access_of (Look k id command frame) = Leaves command
--- "never unlinks", so it has no register to write
-access_of (CollectAlone k id frame overlay) = None
 
 abbrev pub access : Turn → Access
 access t = access_of t.call

@@ -11,7 +11,7 @@ use Rattle.pipe.specs.declared.endpoints.Endpoint.TheVariants.{Closed, Idle, Lin
 use Rattle.controller.specs.declared.lent.Readings.{Readings}
 use Rattle.request.specs.declared.judge.TransferRequest.{TransferRequest}
 use Rattle.ehci.specs.declared.call.Call.{Call}
-use Rattle.ehci.specs.declared.call.Call.TheVariants.{StartBringUp, BringUpStep, AllocateAddress, OpenEndpoint, Close, SetAddress, SetPacketSize, Submit, Writeback, Cancel, Collect, Acknowledge, Drain, Rearm, Enable, Disable, ClearHalt, Look, CollectAlone}
+use Rattle.ehci.specs.declared.call.Call.TheVariants.{StartBringUp, BringUpStep, AllocateAddress, OpenEndpoint, Close, SetAddress, SetPacketSize, Submit, Writeback, Cancel, Collect, Acknowledge, Drain, Rearm, Enable, Disable, ClearHalt}
 use Rattle.promises.specs.Runs.{Always, History, Promise, Turn, rows_of}
 use Rattle.promises.specs.Events.{Collects, Drains, Event, Other, Parts, Reads, Submits, Unlinks, event}
 use Rattle.promises.specs.Rooms.{number_at}
@@ -39,8 +39,6 @@ overlay_given Rearm = 0
 overlay_given Enable = 0
 overlay_given Disable = 0
 overlay_given (ClearHalt k) = 0
-overlay_given (Look k id command frame) = 0
-overlay_given (CollectAlone k id frame overlay) = overlay
 
 pub data Flip : Type 0 where
   Keeps : Flip

@@ -37,11 +37,11 @@ collects k overlay a = turn (Collect k 1 (record { command = 0; frame = 0; overl
 
 -- newest first; one packet was read, so that DATA1 is next (USB 8.6)
 abbrev odd : History
-odd = collects 0 0x80000D00 (Done (Length 0 512)) ∷ opens 0 ∷ []
+odd = collects 0 0x80000D00 (Done (Length 512 0)) ∷ opens 0 ∷ []
 
 -- 0 at opening, 1 after an odd number, 0 after an even one; of the slot alone
 counted : (toggle_in two 0 (opens 0 ∷ []) ≡ 0) × (toggle_in two 0 odd ≡ 1) × (toggle_in two 1 odd ≡ 0)
-    × (toggle_in two 0 (collects 0 0x7FFFFFFF (Done (Length 0 1024)) ∷ odd) ≡ 0)
+    × (toggle_in two 0 (collects 0 0x7FFFFFFF (Done (Length 1024 0)) ∷ odd) ≡ 0)
 unfolding toggle_in
 counted = (refl, refl, refl, refl)
 

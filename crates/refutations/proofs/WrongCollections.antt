@@ -127,7 +127,7 @@ unfolding apply_of decide_of asks_of rows_are_fit replied fill_of filled_from no
 counts = rw states_good_lem.2
 
 -- what `core` answers in the end
-pub length_500 : (core (apart_now (one 0 0x20 0 0 0 (leaves 0))) looks).reply.answer ≡ Done (G.Length 1 500)
+pub length_500 : (core (apart_now (one 0 0x20 0 0 0 (leaves 0))) looks).reply.answer ≡ Done (G.Length 500 1)
 unfolding apply_of decide_of asks_of ask_of askable request_ask places_from seen_from read_of view_of stageSeen first_error length_of retried_of requested_at rows_are_fit replied fill_of filled_from no_chain packed list_of collect_decided collect_of accepts_of endpoint_at decoded slot_at unlinking_of finish_of outcome_of freed clear_of ended_overlay put_at terminated with_owner with_endpoint with_slot state_of
 length_500 = rw states_good_lem.3
 
@@ -252,7 +252,7 @@ strict_due due =
 
 -- 0 with the length, and no retry
 abbrev none_for : Answered → Answered
-none_for (Done given) = Done (G.Length 0 500)
+none_for (Done given) = Done (G.Length 500 0)
 none_for Pending = Pending
 none_for Cancelled = Cancelled
 none_for (Failed token) = Failed token
@@ -263,7 +263,7 @@ uncounting = answers none_for
 
 pub uncounting_due : EveryRun CollectsDue uncounting → ⊥
 uncounting_due due =
-    let none : (uncounting (apart_now (one 0 0x20 0 0 0 (leaves 0))) looks).reply.answer ≡ Done (G.Length 0 500) = ap none_for length_500 in
+    let none : (uncounting (apart_now (one 0 0x20 0 0 0 (leaves 0))) looks).reply.answer ≡ Done (G.Length 500 0) = ap none_for length_500 in
     let some = (due_here uncounting (λ v c e. rw e) (ap (answering none_for) unlinks) due (ap (λ (a : Answered). is_collected a) none)).1 in
     let wrong : ◌≡◌ {A = ℕ} 0 1 = ap (λ (l : List ℕ). get_or l 1 0) (sym (ap answered_values none) ∙ some) in
     omega (arith, wrong)
@@ -286,7 +286,7 @@ misread_unlinks : misread (linked_now (one 0 0 0 0 0 linked)) looks ≡ unlinked
 unfolding decide_of asks_of ask_of askable request_ask places_from seen_from read_of view_of stageSeen first_error length_of retried_of requested_at rows_are_fit replied fill_of filled_from no_chain packed list_of collect_decided collect_of linked_of accepts_of endpoint_at decoded slot_at unlink_of waiting_of bounded_of unlinked_of ring_of detach_of predecessor_of search_from precedes_one with_endpoint with_slot with_bell state_of
 misread_unlinks = rw states_good_lem.0
 
-misread_none : (misread (apart_now (one 0 0x20 0 0 0 (leaves 0))) looks).reply.answer ≡ Done (G.Length 1 0)
+misread_none : (misread (apart_now (one 0 0x20 0 0 0 (leaves 0))) looks).reply.answer ≡ Done (G.Length 0 1)
 unfolding decide_of asks_of ask_of askable request_ask places_from seen_from read_of view_of stageSeen first_error length_of retried_of requested_at rows_are_fit replied fill_of filled_from no_chain packed list_of collect_decided collect_of accepts_of endpoint_at decoded slot_at unlinking_of finish_of outcome_of freed clear_of ended_overlay put_at terminated with_owner with_endpoint with_slot state_of
 misread_none = rw states_good_lem.3
 

@@ -78,7 +78,7 @@ given old token = token
 
 -- collected with so many bytes
 abbrev complete : Answered
-complete = Done (Length 0 512)
+complete = Done (Length 512 0)
 
 -- ---- calls
 

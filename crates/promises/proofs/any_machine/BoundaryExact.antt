@@ -14,7 +14,7 @@ use Rattle.promises.specs.Bells.{is_submits_of, is_unlinks_of, kind_after, kind_
 use Rattle.promises.specs.Boundaries.{CancelledAnswered, CancelledCollects, Exact, FramesKept, Orderly, PassesExactly, past, turn}
 
 -- a turn that does not submit to k leaves the kind of its request
-pub kind_stays : (k : ℕ) (x : Event) (old : EndpointType) → is_submits_of k x ≡ false → kind_after k x old ≡ old
+kind_stays : (k : ℕ) (x : Event) (old : EndpointType) → is_submits_of k x ≡ false → kind_after k x old ≡ old
 kind_stays k Other old e = refl
 kind_stays k Reads old e = refl
 kind_stays k Drains old e = refl

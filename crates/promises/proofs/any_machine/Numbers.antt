@@ -2,7 +2,6 @@
 use Prim.Native.Nat.{ℕ, ◌≤◌, ◌<◌}
 use mathlib.Core.Bool.{Bool, true, false, cond, true≢false, false≢true, ◌&&◌}
 use mathlib.Core.List.{List, [], ◌∷◌, ◌++◌, append_assoc}
-use mathlib.Core.Logic.{◌⊎◌, inl, inr}
 use mathlib.Core.Path.{◌≡◌, refl, sym, ap, subst, ◌∙◌}
 use native.Mathlib.Omega.{arith}
 use borrow.Author.Tests.{eqb-true, leb-true, leb-false}
@@ -14,15 +13,13 @@ use Rattle.request.specs.declared.judge.TransferRequest.{TransferRequest}
 use Rattle.common.specs.Kinds.{is_interrupt}
 use Rattle.controller.specs.declared.lent.Readings.{Readings}
 use Rattle.ehci.specs.declared.call.Call.{Call}
-use Rattle.ehci.specs.declared.call.Call.TheVariants.{StartBringUp, BringUpStep, AllocateAddress, OpenEndpoint, Close, SetAddress, SetPacketSize, Submit, Writeback, Cancel, Collect, Acknowledge, Drain, Rearm, Enable, Disable, ClearHalt, Look, CollectAlone}
+use Rattle.ehci.specs.declared.call.Call.TheVariants.{StartBringUp, BringUpStep, AllocateAddress, OpenEndpoint, Close, SetAddress, SetPacketSize, Submit, Writeback, Cancel, Collect, Acknowledge, Drain, Rearm, Enable, Disable, ClearHalt}
 use Rattle.ehci.specs.declared.reply.Answered.{Answered}
-use Rattle.ehci.specs.Door.{Applied}
-use Rattle.ehci.specs.Replies.{answered_number, answered_values}
+use Rattle.ehci.specs.Replies.{answered_values}
 use Rattle.promises.specs.Runs.{Form, History, Machine, Turn, WorldIn, history_of, run_of}
 use Rattle.promises.specs.Events.{Event, Other, Reads, Drains, Submits, Unlinks, Parts, Collects, first_in, happens, is_collected, is_done, leaving, leaves_frames, leaves_ring, submits_by}
-use Rattle.promises.specs.Bells.{Boundary, collects, is_collects_of, kind_at, linked, newest_id, none, reads, unlinks_of}
+use Rattle.promises.specs.Bells.{Boundary, collects, is_collects_of, kind_at, none, reads, unlinks_of}
 use Rattle.promises.specs.Boundaries.{At, BoundaryKept, BoundaryNumbered, RungAndAnswered, answer_to, past, turn}
-use Rattle.promises.specs.Looks.{ApartNow, LooksApart}
 
 -- ---- lists
 head_or : Turn → History → Turn
@@ -82,17 +79,14 @@ if_none p false x y o e = e
 no_collection : (k j : ℕ) (r : TransferRequest) (a : Answered) → is_collects_of k (submits_by j r a) ≡ false
 no_collection k j r a = if_none (is_collects_of k) (is_done a) (Submits j (first_in (answered_values a)) r) Other refl refl
 
--- a turn that collects k is a collect of k, by either call, that is answered 0, 10 or 11
+-- a turn that collects k is a collect of k that is answered 0, 10 or 11
 module _ (s : Settings) (k : ℕ) (t : Turn) where
-  pub left_only : (j frame : ℕ) → is_collects_of k (leaving s j frame t) ≡ false
+  left_only : (j frame : ℕ) → is_collects_of k (leaving s j frame t) ≡ false
   left_only j frame =
       if_none (is_collects_of k) (leaves_ring s j t) (Unlinks j) (cond (leaves_frames s j t) (Parts j frame) Other) refl
       (if_none (is_collects_of k) (leaves_frames s j t) (Parts j frame) Other refl refl)
 
-  abbrev Collector : Call → Type 0
-  Collector c = (id : ℕ) × (rd : Readings) × ((c ≡ Collect k id rd) ⊎ (c ≡ CollectAlone k id rd.frame rd.overlay)) × (is_collected t.answer ≡ true)
-
-  is_collection : (c : Call) → is_collects_of k (happens s c t) ≡ true → Collector c
+  is_collection : (c : Call) → is_collects_of k (happens s c t) ≡ true → (id : ℕ) × (readings : Readings) × (c ≡ Collect k id readings) × (is_collected t.answer ≡ true)
   is_collection StartBringUp e = absurd (false≢true e)
   is_collection (BringUpStep x) e = absurd (false≢true e)
   is_collection AllocateAddress e = absurd (false≢true e)
@@ -105,17 +99,13 @@ module _ (s : Settings) (k : ℕ) (t : Turn) where
   is_collection (Cancel j id readings) e = absurd (false≢true (sym (left_only j readings.frame) ∙ e))
   is_collection (Collect j id readings) e =
       let x = if_event (is_collects_of k) (is_collected t.answer) (Collects j id readings.frame) (leaving s j readings.frame t) (left_only j readings.frame) e in
-      (id, readings, inl (ap (λ (i : ℕ). Collect i id readings) (eqb-true j k x.1)), x.0)
+      (id, readings, ap (λ (i : ℕ). Collect i id readings) (eqb-true j k x.1), x.0)
   is_collection (Acknowledge x) e = absurd (false≢true (sym (if_none (is_collects_of k) (is_done t.answer && eqb (bit x.status 5) 1) Reads Other refl refl) ∙ e))
   is_collection (Drain x) e = absurd (false≢true (sym (if_none (is_collects_of k) (is_done t.answer) Drains Other refl refl) ∙ e))
   is_collection Rearm e = absurd (false≢true e)
   is_collection Enable e = absurd (false≢true e)
   is_collection Disable e = absurd (false≢true e)
   is_collection (ClearHalt j) e = absurd (false≢true e)
-  is_collection (Look j id command frame) e = absurd (false≢true (sym (left_only j frame) ∙ e))
-  is_collection (CollectAlone j id frame overlay) e =
-      let x = if_event (is_collects_of k) (is_collected t.answer) (Collects j id frame) Other refl e in
-      (id, record { command = 0; frame = frame; overlay = overlay }, inr (ap (λ (i : ℕ). CollectAlone i id frame overlay) (eqb-true j k x.1)), x.0)
 
 -- ---- the picture, by numbers
 module _ (s : Settings) (k : ℕ) (newer older : History) (collection : Turn) (b : Boundary s k older) where
@@ -173,36 +163,13 @@ module _ (s : Settings) (k : ℕ) (newer older : History) (collection : Turn) (b
           (subst (λ (y : History). At y u unlink) b.picture (in_past u unlink a l))
           (omega (arith, leb-false u (length b.before) e))))
 
--- what collect alone collects, the old call would
-pub as_old : {f : Form} (m : Machine f) (s : Settings) (w : WorldIn f) → LooksApart s (run_of m w) → (cs : List Call) (k id : ℕ) (rd : Readings)
-    → is_collected (answer_to s (run_of m w) cs (CollectAlone k id rd.frame rd.overlay)) ≡ true → is_collected (answer_to s (run_of m w) cs (Collect k id rd)) ≡ true
-as_old m s w apart cs k id rd e = by (linked s k (past s (run_of m w) cs)) refl
-  where
-    now : ApartNow s (past s (run_of m w) cs) ((run_of m w).now cs) k id rd.command rd.frame rd.overlay
-    now = apart cs k id rd.command rd.frame rd.overlay
-
-    nine : (b : Bool) (a : Answered) → answered_number a ≡ cond b 9 3 → is_collected a ≡ false
-    nine true a q = rw q
-    nine false a q = rw q
-
-    by : (b : Bool) → linked s k (past s (run_of m w) cs) ≡ b → is_collected (answer_to s (run_of m w) cs (Collect k id rd)) ≡ true
-    by true q = absurd (true≢false (sym e ∙ nine (eqb id (newest_id s k (past s (run_of m w) cs))) _ (now.answers_nine q)))
-    by false q = ap (λ (a : Applied). is_collected a.reply.answer) (now.collects_so q) ∙ e
-
-by_either : {f : Form} (m : Machine f) (s : Settings) (w : WorldIn f) → LooksApart s (run_of m w) → (cs : List Call) (k id : ℕ) (rd : Readings) (c : Call)
-    → (c ≡ Collect k id rd) ⊎ (c ≡ CollectAlone k id rd.frame rd.overlay) → is_collected (answer_to s (run_of m w) cs c) ≡ true
-    → is_collected (answer_to s (run_of m w) cs (Collect k id rd)) ≡ true
-by_either m s w apart cs k id rd c (inl e) done = subst (λ (x : Call). is_collected (answer_to s (run_of m w) cs x) ≡ true) e done
-by_either m s w apart cs k id rd c (inr e) done = as_old m s w apart cs k id rd (subst (λ (x : Call). is_collected (answer_to s (run_of m w) cs x) ≡ true) e done)
-
 -- of any machine
-pub by_numbers : {f : Form} (m : Machine f) (s : Settings) (w : WorldIn f) → LooksApart s (run_of m w) → BoundaryKept s (run_of m w)
-    → BoundaryNumbered s (run_of m w)
-by_numbers m s w apart kept cs k c u collection unlink at col kind at-u un l =
+pub by_numbers : {f : Form} (m : Machine f) (s : Settings) (w : WorldIn f) → BoundaryKept s (run_of m w) → BoundaryNumbered s (run_of m w)
+by_numbers m s w kept cs k c u collection unlink at col kind at-u un l =
     let r = run_of_lem m s w at.0 cs collection at.1 at.2 in
     let is = is_collection s k (turn s (run_of m w) r.1 r.0) r.0 (sym (ap (collects s k) r.2) ∙ col) in
     let done : is_collected (answer_to s (run_of m w) r.1 (Collect k is.0 is.1)) ≡ true
-    = by_either m s w apart r.1 k is.0 is.1 r.0 is.2 is.3 in
+    = subst (λ (x : Call). is_collected (answer_to s (run_of m w) r.1 x) ≡ true) is.2 is.3 in
     let b : Boundary s k at.1 =
     subst (Boundary s k) (sym r.3)
     (kept r.1 k is.0 is.1 done (subst (λ (x : History). is_interrupt (kind_at s k x) ≡ false) r.3 kind)).1 in

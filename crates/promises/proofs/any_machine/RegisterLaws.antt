@@ -13,11 +13,11 @@ use Rattle.pipe.specs.Endpoints.{flag_number}
 use Rattle.schedule.specs.Bell.{command_word, ring_word}
 use Rattle.schedule.proofs.BellLaws.{command_clear, ring_set}
 use Rattle.ehci.specs.declared.call.Call.{Call}
-use Rattle.ehci.specs.declared.call.Call.TheVariants.{StartBringUp, BringUpStep, AllocateAddress, OpenEndpoint, Close, SetAddress, SetPacketSize, Submit, Writeback, Cancel, Collect, Acknowledge, Drain, Rearm, Enable, Disable, ClearHalt, Look, CollectAlone}
+use Rattle.ehci.specs.declared.call.Call.TheVariants.{StartBringUp, BringUpStep, AllocateAddress, OpenEndpoint, Close, SetAddress, SetPacketSize, Submit, Writeback, Cancel, Collect, Acknowledge, Drain, Rearm, Enable, Disable, ClearHalt}
 use Rattle.ehci.specs.declared.call.InterruptReadings.{InterruptReadings}
 use Rattle.ehci.specs.Replies.{answered_values}
 use Rattle.promises.specs.Runs.{EveryRun, Form, History, Machine, Moment, Turn, history_of, moment, turn_by, world_of}
-use Rattle.promises.specs.Events.{Event, Other, Reads, Drains, Submits, Unlinks, Parts, Collects, event, first_in, is_collected, is_done, rings}
+use Rattle.promises.specs.Events.{Event, Other, Reads, Drains, Submits, Unlinks, Parts, Collects, event, first_in, is_done, rings}
 use Rattle.promises.specs.Bells.{Answered, Bell, Quiet, Rung, asked, bell, counted, is_answered, is_drains, is_unlinks}
 use Rattle.promises.specs.Boundaries.{UpExactly}
 use Rattle.promises.specs.Registers.{Access, RingsInTurn, StatusAcknowledged, WritesExactly, access_of, acknowledge_writes, acknowledged, differ, flag_in, is_accepted, is_left, masked_by, masked_in, plainly, read_in, ring, ring_count, ringing, rings_by, set_up, status_for, step_writes, usbintr, values_at, writes_for}
@@ -187,11 +187,6 @@ module _ (s : Settings) (h : History) (w : Moment) where
   count_by Enable = no_ring (is_accepted (turn_by w Enable)) (usbintr 0x27) refl
   count_by Disable = no_ring (is_accepted (turn_by w Disable)) (usbintr 0) refl
   count_by (ClearHalt k) = refl
-  count_by (Look k id command frame) = ring_one (rings_by s h (turn_by w (Look k id command frame))) command
-  count_by (CollectAlone k id frame overlay) =
-      let c = CollectAlone k id frame overlay in
-      let e = pick_none (is_collected (w.does c).reply.answer) (Collects k id frame) Other refl refl refl refl in
-      sym (ap flag_number (quiet c e.0 e.1))
 
 pub ring_once : {f : Form} (m : Machine f) → EveryRun WritesExactly m → EveryRun UpExactly m → EveryRun RingsInTurn m
 unfolding history_of world_of bell

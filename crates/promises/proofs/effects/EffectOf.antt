@@ -1,12 +1,12 @@
 -- Every call on every world has one of the effects.
 use Rattle.ehci.specs.declared.call.Call.{Call}
-use Rattle.ehci.specs.declared.call.Call.TheVariants.{StartBringUp, BringUpStep, AllocateAddress, OpenEndpoint, Close, SetAddress, SetPacketSize, Submit, Writeback, Cancel, Collect, Acknowledge, Drain, Rearm, Enable, Disable, ClearHalt, Look, CollectAlone}
+use Rattle.ehci.specs.declared.call.Call.TheVariants.{StartBringUp, BringUpStep, AllocateAddress, OpenEndpoint, Close, SetAddress, SetPacketSize, Submit, Writeback, Cancel, Collect, Acknowledge, Drain, Rearm, Enable, Disable, ClearHalt}
 use Rattle.promises.specs.Runs.{World, core}
 use Rattle.promises.proofs.effects.Effects.{Effect}
 use Rattle.promises.proofs.effects.EffectMachine.{allot_effect, start_effect, step_effect}
 use Rattle.promises.proofs.effects.EffectInterrupts.{acknowledge_effect, disable_effect, drain_effect, enable_effect, rearm_effect}
 use Rattle.promises.proofs.effects.EffectEndpoints.{address_effect, clear_effect, close_effect, open_effect_lem, size_effect}
-use Rattle.promises.proofs.effects.EffectRequests.{alone_effect, cancel_effect, collect_effect, look_effect, submit_effect, writeback_effect}
+use Rattle.promises.proofs.effects.EffectRequests.{cancel_effect, collect_effect, submit_effect, writeback_effect}
 
 pub effect : (w : World) (c : Call) → Effect w c (core w c)
 effect w StartBringUp = start_effect w
@@ -26,5 +26,3 @@ effect w Rearm = rearm_effect w
 effect w Enable = enable_effect w
 effect w Disable = disable_effect w
 effect w (ClearHalt k) = clear_effect w k
-effect w (Look k id command frame) = look_effect w k id command frame
-effect w (CollectAlone k id frame overlay) = alone_effect w k id frame overlay

@@ -1,4 +1,4 @@
--- Submit, writeback, cancel, collect, look, collect alone.
+-- Submit, writeback, cancel, collect.
 use Prim.Native.Nat.{ℕ, ◌+◌, ◌<◌}
 use mathlib.Core.Bool.{Bool, true, false, not, cond, ◌&&◌}
 use mathlib.Core.List.{List, [], ◌∷◌}
@@ -27,14 +27,12 @@ use Rattle.request.specs.Plain.{WrittenBack}
 use Rattle.request.specs.declared.judge.TransferRequest.{TransferRequest}
 use Rattle.request.proofs.JudgeLaws.{judge_tells}
 use Rattle.collection.specs.Answers.{outcome_of}
-use Rattle.collection.specs.Calls.{Ended, Gathered, finish_of, marked, pending_left}
+use Rattle.collection.specs.Calls.{Gathered, finish_of, marked, pending_left}
 use Rattle.collection.specs.Unlinks.{Left, waiting_of, is_missing}
 use Rattle.collection.proofs.Splits.{cancel_split, collect_split, unlink_split}
-use Rattle.collection.proofs.ApartSplits.{alone_split, look_split}
-use Rattle.ehci.specs.declared.call.Call.{Call}
-use Rattle.ehci.specs.declared.call.Call.TheVariants.{Cancel, Collect, CollectAlone, Look, Submit, Writeback}
+use Rattle.ehci.specs.declared.call.Call.TheVariants.{Cancel, Collect, Submit, Writeback}
 use Rattle.ehci.specs.declared.reply.Answered.TheVariants.{Refused}
-use Rattle.ehci.specs.Decides.{alone_came, alone_decided, alone_readings, cancel_came, cancel_decided, collect_came, collect_decided, look_decided, look_readings, submit_came, submit_decided, with_frames, with_setups, writeback_decided, written_reply, came}
+use Rattle.ehci.specs.Decides.{cancel_came, cancel_decided, collect_came, collect_decided, submit_came, submit_decided, with_setups, writeback_decided, written_reply, came}
 use Rattle.ehci.specs.Door.{carried_out}
 use Rattle.ehci.specs.Replies.{collected_answer, replied}
 use Rattle.promises.specs.Runs.{Rows, World, core}
@@ -234,86 +232,5 @@ module _ (w : World) where
           rows_are = rows_kept w (Collect k id rd) _ fs us;
           silent = refl;
           collects = collected_as _ r.id _ (outcome_collected r.cancelled (seen w (Collect k id rd))) same;
-          same = refl;
-        })))
-
-  -- ---- a look
-
-  module _ (k id command frame : ℕ) where
-    abbrev look : Call
-    look = Look k id command frame
-
-    abbrev Looking : Gathered → Type 0
-    Looking g = Effect w look (carried_out (with_setups (collect_came g) us) w.rows.pool)
-
-    look_refused : (x : Refusal) → Effect w look (leaves w look s (Refused x) no_writes)
-    look_refused x = refused_still w look x (none_leaves s.settings k frame _ _ refl refl) refl
-
-    unfoldable pub look_unlinked : (p : Pipe) (r : Request) → endpoint_at s k ≡ Linked p r → s.unanswered < 32 → is_missing (detach_of s hs fs k).predecessor ≡ false
-        → Unlinked w look (carried_out (with_setups (collect_came (pending_left (record { came = waiting_of s (look_readings command frame) k p r; rows = (detach_of s hs fs k).rows }))) us) w.rows.pool)
-    unfolding waiting_of replied
-    look_unlinked p r e below found =
-        record {
-          k = k;
-          p = p;
-          r = r;
-          asked = r;
-          readings = look_readings command frame;
-          linked = e;
-          same_request = inl refl;
-          cancels = inl refl;
-          uncrowded = below;
-          found = found;
-          state_is = refl;
-          rows_are = rows_kept w look _ _ us;
-          writes_are = refl;
-          leaves = refl;
-          same = refl;
-        }
-
-    pub look_effect : Effect w look (core w look)
-    unfolding look_decided replied no_writes
-    look_effect =
-        through Effect w look (look_refused InvalidParameter)
-        (look_split s n hs (look_readings command frame) (seen w look) k id fs (length us) Looking look_refused
-        (still_of w look _ _ _ (sides_of s) refl refl (none_leaves s.settings k frame _ _ refl refl) (λ g. g) refl (λ i. i) refl)
-        (still_of w look _ _ _ (sides_of s) refl refl (none_leaves s.settings k frame _ _ refl refl) (λ g. g) refl (λ i. i) refl)
-        (λ p r e below done. unlink_split s hs fs (look_readings command frame) k p r (λ (l : Left). Looking (pending_left l)) (look_refused _) (λ found. unlinks (look_unlinked p r e below found))))
-
-  -- ---- collect alone
-
-  module _ (k id frame overlay : ℕ) where
-    abbrev alone : Call
-    alone = CollectAlone k id frame overlay
-
-    abbrev Ending : Ended → Type 0
-    Ending e = Effect w alone (carried_out (with_frames (alone_came e) fs us) w.rows.pool)
-
-    alone_as : (b : Bool) (j : ℕ) → b ≡ true → j ≡ id → cond b (Collects k id frame) Other ≡ Collects k j frame
-    alone_as b j q i = rw (q, i)
-
-    pub alone_effect : Effect w alone (core w alone)
-    unfolding alone_decided finish_of replied no_writes
-    alone_effect =
-        through Effect w alone (refused_still w alone InvalidParameter refl refl)
-        (alone_split s n hs (alone_readings frame overlay) (seen w alone) k id (length fs) (length us) Ending
-        (λ x. refused_still w alone x (rw (uncollected x)) refl)
-        (still_of w alone _ _ _ (sides_of s) refl refl refl (λ g. g) refl (λ i. i) refl)
-        (λ p r u e same through-it. collects
-        (record {
-          k = k;
-          p = p;
-          r = r;
-          u = u;
-          frame = frame;
-          toggle = kept_toggle overlay;
-          view = seen w alone;
-          unlinking = e;
-          passed = through-it;
-          state_is = refl;
-          kept = refl;
-          rows_are = rows_kept w alone _ fs us;
-          silent = refl;
-          collects = alone_as _ r.id (outcome_collected r.cancelled (seen w alone)) same;
           same = refl;
         })))

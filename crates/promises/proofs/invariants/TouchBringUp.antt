@@ -25,7 +25,7 @@ use Rattle.common.specs.declared.answer.Answer.TheVariants as A
 use Rattle.common.specs.declared.reads.NextRead.TheVariants as N
 use Rattle.bring_up.specs.declared.stage.Stage.{Stage}
 use Rattle.ehci.specs.declared.call.Call.{Call}
-use Rattle.ehci.specs.declared.call.Call.TheVariants.{StartBringUp, BringUpStep, AllocateAddress, OpenEndpoint, Close, SetAddress, SetPacketSize, Submit, Writeback, Cancel, Collect, Acknowledge, Drain, Rearm, Enable, Disable, ClearHalt, Look, CollectAlone}
+use Rattle.ehci.specs.declared.call.Call.TheVariants.{StartBringUp, BringUpStep, AllocateAddress, OpenEndpoint, Close, SetAddress, SetPacketSize, Submit, Writeback, Cancel, Collect, Acknowledge, Drain, Rearm, Enable, Disable, ClearHalt}
 use Rattle.ehci.specs.declared.reply.Answered.TheVariants.{Refused}
 use Rattle.ehci.specs.Replies.{brought_reply, replied}
 use Rattle.promises.specs.Runs.{World, core}
@@ -35,7 +35,7 @@ use Rattle.promises.proofs.effects.EffectDoor.{leaves, through, carried}
 use Rattle.promises.proofs.effects.RefusalNumbers.{undone}
 use Rattle.bring_up.specs.declared.stage.Stage.TheVariants.{Stop, Halting, Reset, Resetting, Run, Starting}
 use Rattle.promises.proofs.effects.EffectMachine.{step_refuses}
-use Rattle.promises.proofs.invariants.TouchCalls.{address_touches, allot_touches, alone_touches, cancel_touches, clear_touches, close_touches, collect_touches, look_touches, open_touches, size_touches, submit_touches, writeback_touches}
+use Rattle.promises.proofs.invariants.TouchCalls.{address_touches, allot_touches, cancel_touches, clear_touches, close_touches, collect_touches, open_touches, size_touches, submit_touches, writeback_touches}
 use Rattle.promises.proofs.invariants.TouchInterrupts.{acknowledge_touches, disable_touches, drain_touches, enable_touches, rearm_touches}
 use Rattle.promises.proofs.invariants.Touches.{Touches, refused_touches}
 
@@ -170,5 +170,3 @@ module _ (w : World) where
   touches ranges Enable = enable_touches w
   touches ranges Disable = disable_touches w
   touches ranges (ClearHalt k) = clear_touches w k
-  touches ranges (Look k id command frame) = look_touches w k id command frame
-  touches ranges (CollectAlone k id frame overlay) = alone_touches w k id frame overlay

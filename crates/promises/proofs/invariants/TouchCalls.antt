@@ -30,15 +30,14 @@ use Rattle.request.specs.Submit.{Outcome, accepted_with, refused_submit, settled
 use Rattle.request.specs.Writeback.{refused_writeback, writeback_checks, writeback_of}
 use Rattle.request.specs.Plain.{WrittenBack}
 use Rattle.request.specs.declared.judge.TransferRequest.{TransferRequest}
-use Rattle.collection.specs.Calls.{Gathered, finish_of, marked, pending_left, Ended}
+use Rattle.collection.specs.Calls.{Gathered, finish_of, marked, pending_left}
 use Rattle.collection.specs.Unlinks.{Left, unlink_of, waiting_of}
-use Rattle.collection.proofs.ApartSplits.{alone_split, look_split}
 use Rattle.collection.proofs.Splits.{cancel_split, collect_split, unlink_split}
 use Rattle.ehci.specs.declared.call.Call.{Call}
-use Rattle.ehci.specs.declared.call.Call.TheVariants.{AllocateAddress, OpenEndpoint, Close, SetAddress, SetPacketSize, Submit, Writeback, Cancel, Collect, ClearHalt, Look, CollectAlone}
+use Rattle.ehci.specs.declared.call.Call.TheVariants.{AllocateAddress, OpenEndpoint, Close, SetAddress, SetPacketSize, Submit, Writeback, Cancel, Collect, ClearHalt}
 use Rattle.ehci.specs.declared.call.EndpointFields.{EndpointFields}
 use Rattle.ehci.specs.declared.reply.Answered.TheVariants.{Refused}
-use Rattle.ehci.specs.Decides.{address_decided, allot_decided, allot_reply, cancel_came, cancel_decided, change_came, clear_decided, close_decided, collect_came, collect_decided, open_came, open_decided, packet_decided, submit_came, submit_decided, with_frames, with_setups, writeback_decided, written_reply, alone_came, alone_decided, alone_readings, look_decided, look_readings}
+use Rattle.ehci.specs.Decides.{address_decided, allot_decided, allot_reply, cancel_came, cancel_decided, change_came, clear_decided, close_decided, collect_came, collect_decided, open_came, open_decided, packet_decided, submit_came, submit_decided, with_frames, with_setups, writeback_decided, written_reply}
 use Rattle.ehci.specs.Door.{carried_out}
 use Rattle.ehci.specs.Replies.{changed_reply, replied}
 use Rattle.promises.specs.Runs.{World, core}
@@ -186,41 +185,3 @@ module _ (w : World) where
         (level_touches w (Collect k id rd) _ (plain_leaves rd.command) (level s) refl)
         (λ p r ok e below same done. collect_unlinks p r)
         (λ p r u ok e same through-it. level_touches w (Collect k id rd) _ (plain_leaves rd.command) (record { pending = refl; masked = refl; enabled = refl; step = refl }) refl))
-
-  -- ---- look and collect alone
-
-  module _ (k id command frame : ℕ) where
-    abbrev look : Call
-    look = Look k id command frame
-
-    abbrev Looking : Gathered → Type 0
-    Looking g = Touches w look (carried_out (with_setups (collect_came g) us) w.rows.pool)
-
-    look_refused : (x : Refusal) → Touches w look (leaves w look s (Refused x) no_writes)
-    unfolding no_writes
-    look_refused x = level_touches w look _ (plain_leaves command) (level s) refl
-
-    look_unlinks : (p : Pipe) (r : Request) → Looking (pending_left (unlink_of s hs fs (look_readings command frame) k p r))
-    unfolding waiting_of replied with_endpoint with_slot with_bell
-    look_unlinks p r =
-        unlink_split s hs fs (look_readings command frame) k p r (λ (l : Left). Looking (pending_left l)) (look_refused _)
-        (λ found. level_touches w look _ (plain_leaves command) (record { pending = refl; masked = refl; enabled = refl; step = refl })
-        (bounded_shape p.kind (bell_of s) (look_readings command frame)))
-
-    pub look_touches : Touches w look (core w look)
-    unfolding look_decided replied no_writes
-    look_touches =
-        through Touches w look (look_refused InvalidParameter)
-        (look_split s n hs (look_readings command frame) (seen w look) k id fs (length us) Looking look_refused
-        (level_touches w look _ (plain_leaves command) (level s) refl) (level_touches w look _ (plain_leaves command) (level s) refl)
-        (λ p r e below done. look_unlinks p r))
-
-  pub alone_touches : (k id frame overlay : ℕ) → Touches w (CollectAlone k id frame overlay) (core w (CollectAlone k id frame overlay))
-  unfolding alone_decided finish_of replied no_writes with_endpoint with_slot with_owner
-  alone_touches k id frame overlay =
-      let c = CollectAlone k id frame overlay in
-      through Touches w c (none_refused c refl InvalidParameter)
-      (alone_split s n hs (alone_readings frame overlay) (seen w c) k id (length fs) (length us)
-      (λ (e : Ended). Touches w c (carried_out (with_frames (alone_came e) fs us) w.rows.pool)) (none_refused c refl)
-      (level_touches w c _ plain_none (level s) refl)
-      (λ p r u e same through-it. level_touches w c _ plain_none (record { pending = refl; masked = refl; enabled = refl; step = refl }) refl))

@@ -25,7 +25,7 @@ use Rattle.collection.specs.Calls.{marked}
 use Rattle.collection.specs.Unlinks.{Left, unlink_of, waiting_of}
 use Rattle.collection.proofs.Splits.{cancel_split, unlink_split}
 use Rattle.ehci.specs.declared.call.Call.{Call}
-use Rattle.ehci.specs.declared.call.Call.TheVariants.{StartBringUp, BringUpStep, AllocateAddress, OpenEndpoint, Close, SetAddress, SetPacketSize, Submit, Writeback, Cancel, Collect, Acknowledge, Drain, Rearm, Enable, Disable, ClearHalt, Look, CollectAlone}
+use Rattle.ehci.specs.declared.call.Call.TheVariants.{StartBringUp, BringUpStep, AllocateAddress, OpenEndpoint, Close, SetAddress, SetPacketSize, Submit, Writeback, Cancel, Collect, Acknowledge, Drain, Rearm, Enable, Disable, ClearHalt}
 use Rattle.ehci.specs.Decides.{cancel_came, cancel_decided, with_setups}
 use Rattle.ehci.specs.Door.{Applied, carried_out}
 use Rattle.ehci.specs.Replies.{answered_number, collected_answer, replied}
@@ -143,8 +143,6 @@ module _ (s : Settings) (w : World) (c : Call) (h : History) (sound : Sound s w)
       go Enable q e = absurd (false≢true e)
       go Disable q e = absurd (false≢true e)
       go (ClearHalt j) q e = absurd (false≢true e)
-      go (Look j id command frame) q e = absurd (false≢true e)
-      go (CollectAlone j id frame overlay) q e = absurd (false≢true e)
 
   -- it stays marked
   stays_marked : Summary s w c a h → (k : ℕ) → renews s k t ≡ false → is_marked (endpoint_at w.state k) ≡ true → is_marked (endpoint_at a.reply.state k) ≡ true

@@ -21,7 +21,7 @@ use Rattle.controller.specs.declared.lent.Readings.{Readings}
 use Rattle.schedule.specs.Bell.{distance}
 use Rattle.collection.specs.Unlinks.{passed_boundary}
 use Rattle.ehci.specs.declared.call.Call.{Call}
-use Rattle.ehci.specs.declared.call.Call.TheVariants.{Collect, Look}
+use Rattle.ehci.specs.declared.call.Call.TheVariants.{Collect}
 use Rattle.promises.specs.Runs.{EveryRun, History, Opening, Turn, World, core, history_of, turn_of, world_of}
 use Rattle.promises.specs.Events.{event, is_collected}
 use Rattle.promises.specs.Bells.{asked, bell, counted, is_parts_of, is_submits_of, is_unlinks_of, is_up, kind_at, linked, newest_id, number, parted, parting, unlinking}
@@ -43,9 +43,6 @@ use Rattle.promises.proofs.theorems.BoundaryCalls.{Found, collect_found, collect
 use Rattle.promises.proofs.any_machine.BoundaryExact.{frames_kept, passes_exactly}
 use Rattle.promises.proofs.any_machine.Boundary.{boundary}
 use Rattle.promises.proofs.any_machine.Numbers.{by_numbers}
-use Rattle.promises.proofs.any_machine.Looks as Looks
-use Rattle.promises.proofs.theorems.LookLaws.{apart_now_lem}
-use Rattle.promises.specs.Looks.{LookStays, LooksApart}
 use Rattle.promises.proofs.any_machine.Once.{answered_only, one_count, one_passes}
 use Rattle.promises.proofs.any_machine.Waits.{waits}
 
@@ -218,19 +215,8 @@ by_number_alone s w o = passes_exactly core s w (orderly s w o) (exact s w o)
 pub boundary_kept : EveryRun BoundaryKept core
 boundary_kept s w o = boundary core s w (exact s w o) (up_exactly s w o)
 
-pub looks_apart : EveryRun LooksApart core
-looks_apart s w o cs k id command frame overlay =
-    let b = bells_reached s w o cs in
-    let at = chained s w o cs in
-    let now = world_of core w cs in
-    apart_now_lem s (history_of core w cs) now b.0 b.1 k id command frame overlay
-    (λ a x. unlink_event s (history_of core w cs) now (Look k id command frame) a at.0 at.1 x)
-
-pub look_stays : EveryRun LookStays core
-look_stays s w o = Looks.look_stays core s w (orderly s w o) (looks_apart s w o) (exact s w o)
-
 pub boundary_numbered : EveryRun BoundaryNumbered core
-boundary_numbered s w o = by_numbers core s w (looks_apart s w o) (boundary_kept s w o)
+boundary_numbered s w o = by_numbers core s w (boundary_kept s w o)
 
 pub frames_counted : EveryRun FramesKept core
 frames_counted s w o = frames_kept core s w (exact s w o)

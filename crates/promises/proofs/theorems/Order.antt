@@ -32,20 +32,19 @@ use Rattle.request.specs.Submit.{accepted_with, refused_submit, settled_submit, 
 use Rattle.request.specs.Writeback.{refused_writeback, writeback_of}
 use Rattle.request.specs.declared.judge.TransferRequest.{TransferRequest}
 use Rattle.collection.specs.Calls.{cancel_at, cancel_checks, cancel_of, collect_at, collect_checks, collect_of, crowded, end_if, ended, finish_of, gathered, keeping, linked_of, marked, pending_left, unlinking_of, with_frames}
-use Rattle.collection.specs.Answers.{outcome_of, passed_collect, pending_collect}
-use Rattle.collection.specs.Apart.{alone_at, alone_checks, alone_of, look_at, look_of}
+use Rattle.collection.specs.Answers.{outcome_of, pending_collect}
 use Rattle.collection.specs.Unlinks.{passed_boundary, unlink_of, waiting_of}
 use Rattle.bring_up.specs.BringUp.{again_of, any_uncollected, onward_of, ready, register_of, stage_of, start_of, step_of}
 use Rattle.bring_up.specs.declared.stage.Stage.{Stage}
 use Rattle.interrupt.specs.Plain.{Settled}
 use Rattle.interrupt.specs.Interrupts.{acknowledge_of, counted_of, disable_of, drain_if, drain_of, enable_of, heard_if, rearm_if, rearm_of, settled_or, cleared_of}
 use Rattle.ehci.specs.declared.call.Call.{Call}
-use Rattle.ehci.specs.declared.call.Call.TheVariants.{StartBringUp, BringUpStep, AllocateAddress, OpenEndpoint, Close, SetAddress, SetPacketSize, Submit, Writeback, Cancel, Collect, Acknowledge, Drain, Rearm, Enable, Disable, ClearHalt, Look, CollectAlone}
+use Rattle.ehci.specs.declared.call.Call.TheVariants.{StartBringUp, BringUpStep, AllocateAddress, OpenEndpoint, Close, SetAddress, SetPacketSize, Submit, Writeback, Cancel, Collect, Acknowledge, Drain, Rearm, Enable, Disable, ClearHalt}
 use Rattle.ehci.specs.declared.call.EndpointFields.{EndpointFields}
 use Rattle.ehci.specs.declared.call.InterruptReadings.{InterruptReadings}
 use Rattle.ehci.specs.declared.reply.Answered.{Answered}
 use Rattle.ehci.specs.declared.reply.Answered.TheVariants.{Done, Pending, Cancelled, Failed, Refused}
-use Rattle.ehci.specs.Decides.{acknowledge_decided, acknowledge_reply, address_decided, allot_decided, allot_reply, call_of, cancel_came, cancel_decided, change_came, clear_decided, close_decided, collect_came, collect_decided, decide_of, drain_decided, drain_reply, open_came, open_decided, packet_decided, submit_came, submit_decided, writeback_decided, written_reply, alone_came, alone_decided, alone_readings, look_decided, look_readings}
+use Rattle.ehci.specs.Decides.{acknowledge_decided, acknowledge_reply, address_decided, allot_decided, allot_reply, call_of, cancel_came, cancel_decided, change_came, clear_decided, close_decided, collect_came, collect_decided, decide_of, drain_decided, drain_reply, open_came, open_decided, packet_decided, submit_came, submit_decided, writeback_decided, written_reply}
 use Rattle.ehci.specs.Door.{apply_of}
 use Rattle.ehci.specs.Replies.{answered_number, brought_reply, changed_reply, collected_answer, refused_reply, replied, settled_reply, simply}
 use Rattle.promises.specs.Runs.{Everywhere, World, core, moment}
@@ -293,61 +292,6 @@ module _ (w : World) where
           let b = let_pass (crowded s k) InvalidParameter _ a.1 in
           (let_pass (not (is_opened s k)) InvalidEndpoint _ b.1).0
 
-  -- ---- look and collect alone
-
-  looked_says : (b : Bool) → verdict_in (collected_answer (cond b (passed_collect s) (pending_collect s)).answer) ≡ passed
-  looked_says true = refl
-  looked_says false = refl
-
-  look_says : (k : ℕ) (rd : Readings) (v : View) (x : Endpoint) → has_endpoint x ≡ true
-      → verdict_in (collect_came (look_at x s w.rows.heads w.rows.frames rd v k)).decided.reply.answer
-      ≡ first ((lost_at x (not (eqb v.stage 2) && lost (moment core w) k), InvalidEndpoint) ∷ [])
-  unfolding replied linked_of
-  look_says k rd v Closed h = absurd (false_true h)
-  look_says k rd v (Idle p) h = refl
-  look_says k rd v (Linked p r) h = linked_says rd k p r (eqb v.stage 2)
-  look_says k rd v (Unlinking p r b) h = looked_says (passed_boundary b rd.frame)
-
-  alone_says : (k : ℕ) (rd : Readings) (v : View) (x : Endpoint) → has_endpoint x ≡ true
-      → verdict_in (alone_came (alone_at x s w.rows.heads rd v k)).decided.reply.answer ≡ passed
-  unfolding replied unlinking_of
-  alone_says k rd v Closed h = absurd (false_true h)
-  alone_says k rd v (Idle p) h = refl
-  alone_says k rd v (Linked p r) h = refl
-  alone_says k rd v (Unlinking p r b) h = unlinking_says v k (keeping rd p) r (passed_boundary b rd.frame)
-
-  abbrev lent : Lengths
-  lent = lengths (length w.rows.pool) (length w.rows.heads) (length w.rows.frames) (length w.rows.setups)
-
-  look_order : (k id command frame : ℕ) → verdict_in (core w (Look k id command frame)).reply.answer ≡ first (checks_of (moment core w) (Look k id command frame))
-  unfolding look_decided look_of replied
-  look_order k id command frame =
-      let c = Look k id command frame in
-      by_fit c
-      (settle_then (λ g. verdict_in (collect_came g).decided.reply.answer) (collect_checks s lent k id)
-      ((lost_at (endpoint_at s k) (finished (moment core w) c && lost (moment core w) k), InvalidEndpoint) ∷ []) _ _
-      (λ r. refl) (λ e. look_says k (look_readings command frame) (seen w c) (endpoint_at s k) (not-false (is_opened s k) (opened e))))
-    where
-      opened : first (collect_checks s lent k id) ≡ passed → not (is_opened s k) ≡ false
-      opened e =
-          let a = let_pass (not (accepts_of s lent)) InvalidParameter _ e in
-          let b = let_pass (crowded s k) InvalidParameter _ a.1 in
-          (let_pass (not (is_opened s k)) InvalidEndpoint _ b.1).0
-
-  alone_order : (k id frame overlay : ℕ)
-      → verdict_in (core w (CollectAlone k id frame overlay)).reply.answer ≡ first (checks_of (moment core w) (CollectAlone k id frame overlay))
-  unfolding alone_decided alone_of replied
-  alone_order k id frame overlay =
-      let c = CollectAlone k id frame overlay in
-      by_fit c
-      (settle_then (λ x. verdict_in (alone_came x).decided.reply.answer) (alone_checks s lent k id) [] _ _
-      (λ r. refl) (λ e. alone_says k (alone_readings frame overlay) (seen w c) (endpoint_at s k) (not-false (is_opened s k) (opened e))))
-    where
-      opened : first (alone_checks s lent k id) ≡ passed → not (is_opened s k) ≡ false
-      opened e =
-          let a = let_pass (not (accepts_of s lent)) InvalidParameter _ e in
-          (let_pass (not (is_opened s k)) InvalidEndpoint _ a.1).0
-
   acknowledge_order : (x : InterruptReadings) → verdict_in (core w (Acknowledge x)).reply.answer ≡ first (checks_of (moment core w) (Acknowledge x))
   unfolding acknowledge_decided acknowledge_of replied
   acknowledge_order x =
@@ -417,8 +361,6 @@ in_turn w Rearm = rearm_order w
 in_turn w Enable = enable_order w
 in_turn w Disable = disable_order w
 in_turn w (ClearHalt k) = clear_order w k
-in_turn w (Look k id command frame) = look_order w k id command frame
-in_turn w (CollectAlone k id frame overlay) = alone_order w k id frame overlay
 
 pub in_order : Everywhere InOrder core
 in_order w t c = number_says (core w c).reply.answer ∙ ap verdict_number (in_turn w c)

@@ -15,7 +15,7 @@ use Rattle.pool.proofs.Each.{each_at}
 use Rattle.settings.specs.declared.settings.Settings.{Settings}
 use Rattle.request.specs.Submit.{id_at}
 use Rattle.ehci.specs.declared.call.Call.{Call}
-use Rattle.ehci.specs.declared.call.Call.TheVariants.{StartBringUp, BringUpStep, AllocateAddress, OpenEndpoint, Close, SetAddress, SetPacketSize, Submit, Writeback, Cancel, Collect, Acknowledge, Drain, Rearm, Enable, Disable, ClearHalt, Look, CollectAlone}
+use Rattle.ehci.specs.declared.call.Call.TheVariants.{StartBringUp, BringUpStep, AllocateAddress, OpenEndpoint, Close, SetAddress, SetPacketSize, Submit, Writeback, Cancel, Collect, Acknowledge, Drain, Rearm, Enable, Disable, ClearHalt}
 use Rattle.ehci.specs.Door.{Applied}
 use Rattle.ehci.specs.Replies.{answered_number}
 use Rattle.promises.specs.Runs.{EveryRun, History, Rows, Turn, World, core, history_of, left_by, moment, rows_of, turn_of, world_of}
@@ -74,8 +74,6 @@ back_at Rearm = []
 back_at Enable = []
 back_at Disable = []
 back_at (ClearHalt k) = []
-back_at (Look k id command frame) = []
-back_at (CollectAlone k id frame overlay) = []
 
 module _ (p : ℕ) (t : Turn) where
   abbrev Wrote : Type 0
@@ -110,8 +108,6 @@ module _ (p : ℕ) (t : Turn) where
       go Enable q = other Enable q refl
       go Disable q = other Disable q refl
       go (ClearHalt k) q = other (ClearHalt k) q refl
-      go (Look k id command frame) q = other (Look k id command frame) q refl
-      go (CollectAlone k id frame overlay) q = other (CollectAlone k id frame overlay) q refl
 
 -- ---- one more call
 

@@ -181,24 +181,6 @@ clear-halt-requires c κs =
 of-change-requires-4 : tie.Need-of-change-requires-4
 of-change-requires-4 c κs = search rules
 
-enum-known-call-13 : tie.Need-enum-known-call-13
-enum-known-call-13 c = search rules
-
-on-look-requires : tie.Need-on-look-requires
-on-look-requires c κs =
-    let pre = c.before.before.before.before.before.before.before.before.before.before.before.requires in
-    let on = c.before.before.before.before.before.before.if1.false in
-    (words_good_lem _ _ _ _ _ _ _ pre on, (heads_fit _ _ _ _ _ _ _ pre on, frames_fit _ _ _ _ _ _ _ pre on))
-
-enum-known-call-14 : tie.Need-enum-known-call-14
-enum-known-call-14 c = search rules
-
-on-collect-alone-requires : tie.Need-on-collect-alone-requires
-on-collect-alone-requires c κs =
-    let pre = c.before.before.before.before.before.before.before.before.before.before.requires in
-    let on = c.before.before.before.before.before.if1.false in
-    (words_good_lem _ _ _ _ _ _ _ pre on, heads_fit _ _ _ _ _ _ _ pre on)
-
 same_length : tie.Need-same-length
 same_length c = search rules
 
@@ -443,41 +425,6 @@ returns-18 c =
     let left = c.of-change4.ensures in
     tidies_call a.core a.slots.now a.good a.records a.heads.now a.frames.now a.setups.now a.seen a.call on begun.requires _ is _ _ _ _ _ (no_rows _ _ _ _ _ (slot_view a.core _ _ _ _ left says.0)) (tidies_words a.core _ _ _ _ left _ says.1)
 
-same-length-22 : tie.Need-same-length-22
-same-length-22 c = search rules
-
-same-length-23 : tie.Need-same-length-23
-same-length-23 c = search rules
-
-same-length-24 : tie.Need-same-length-24
-same-length-24 c = search rules
-
-returns-19 : tie.Need-returns-19
-returns-19 c =
-    let begun = c.before.before.before.before.before.before.before.before.before.before.before.before.before.before.before.before.before.before in
-    let a = begun.args in
-    let on = c.before.before.before.before.before.before.before.before.before.before.before.before.before.if1.false in
-    let is = c.before.before.before.before.before.before.before.before.before.before.before.call13.given.1 in
-    let says = c.before.before.before.before.before.before.on-look.ensures in
-    let rows = rows_fit _ _ _ _ _ _ _ begun.requires on in
-    tidies_call a.core a.slots.now a.good a.records a.heads.now a.frames.now a.setups.now a.seen a.call on begun.requires _ is _ _ _ _ _ (links_call _ _ _ _ _ (says.0 a.records _ rows)) says.1
-
-same-length-25 : tie.Need-same-length-25
-same-length-25 c = search rules
-
-same-length-26 : tie.Need-same-length-26
-same-length-26 c = search rules
-
-returns-20 : tie.Need-returns-20
-returns-20 c =
-    let begun = c.before.before.before.before.before.before.before.before.before.before.before.before.before.before.before in
-    let a = begun.args in
-    let on = c.before.before.before.before.before.before.before.before.before.before.if1.false in
-    let is = c.before.before.before.before.before.before.before.before.call14.given.1 in
-    let says = c.before.before.before.before.on-collect-alone.ensures in
-    let rows = rows_fit _ _ _ _ _ _ _ begun.requires on in
-    tidies_call a.core a.slots.now a.good a.records a.heads.now a.frames.now a.setups.now a.seen a.call on begun.requires _ is _ _ _ _ _ (heads_call _ _ _ _ _ (says.0 a.records _ _ rows)) says.1
-
 pub decide-spec : {M : Type 1} → statement M
 decide-spec =
     tie.close
@@ -527,10 +474,6 @@ decide-spec =
     enum-known-call-12
     clear-halt-requires
     of-change-requires-4
-    enum-known-call-13
-    on-look-requires
-    enum-known-call-14
-    on-collect-alone-requires
     same_length
     returns-2
     returns-3
@@ -568,11 +511,4 @@ decide-spec =
     returns-16
     returns-17
     same-length-21
-    returns-18
-    same-length-22
-    same-length-23
-    same-length-24
-    returns-19
-    same-length-25
-    same-length-26
-    returns-20)
+    returns-18)

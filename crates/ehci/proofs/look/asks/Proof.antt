@@ -115,18 +115,6 @@ enum-told-16 c = search rules
 no-ask-words-requires-17 : tie.Need-no-ask-words-requires-17
 no-ask-words-requires-17 c κs = search rules
 
-enum-known-call-2 : tie.Need-enum-known-call-2
-enum-known-call-2 c = search rules
-
-ask-requires-2 : tie.Need-ask-requires-2
-ask-requires-2 c κs = search good_on
-
-enum-known-call-3 : tie.Need-enum-known-call-3
-enum-known-call-3 c = search rules
-
-ask-requires-3 : tie.Need-ask-requires-3
-ask-requires-3 c κs = search good_on
-
 returns-2 : tie.Need-returns-2
 unfolding asks_of
 returns-2 c = asks_none _ _ _ _ _ _ c.before.enum_told.given.1 refl c.no-ask-words2.ensures
@@ -168,8 +156,7 @@ unfolding asks_of
 returns-11 c = asks_none _ _ _ _ _ _ c.before.enum-told10.given.1 refl c.no-ask-words11.ensures
 
 returns-12 : tie.Need-returns-12
-unfolding asks_of
-returns-12 c = asks_slot _ _ _ _ _ _ _ c.before.before.call.given.1 refl c.before.before.before.before.if1.false c.ask.ensures.0 c.ask.ensures.1
+returns-12 c = asks_slot _ _ _ _ _ _ _ _ c.before.before.call.given.1 c.before.before.before.before.if1.false c.ask.ensures.0 c.ask.ensures.1
 
 returns-13 : tie.Need-returns-13
 unfolding asks_of
@@ -195,13 +182,5 @@ returns-18 : tie.Need-returns-18
 unfolding asks_of
 returns-18 c = asks_none _ _ _ _ _ _ c.before.enum-told16.given.1 refl c.no-ask-words17.ensures
 
-returns-19 : tie.Need-returns-19
-unfolding asks_of
-returns-19 c = asks_slot _ _ _ _ _ _ _ c.before.before.call2.given.1 refl c.before.before.before.before.if1.false c.ask2.ensures.0 c.ask2.ensures.1
-
-returns-20 : tie.Need-returns-20
-unfolding asks_of
-returns-20 c = asks_slot _ _ _ _ _ _ _ c.before.before.call3.given.1 refl c.before.before.before.before.if1.false c.ask3.ensures.0 c.ask3.ensures.1
-
 pub asks-spec : {M : Type 1} → statement M
-asks-spec = tie.close (tie.spec no-ask-words-requires returns enum_told no-ask-words-requires-2 enum-told-2 no-ask-words-requires-3 enum-told-3 no-ask-words-requires-4 enum-told-4 no-ask-words-requires-5 enum-told-5 no-ask-words-requires-6 enum-told-6 no-ask-words-requires-7 enum-told-7 no-ask-words-requires-8 enum-told-8 no-ask-words-requires-9 enum-told-9 no-ask-words-requires-10 enum-told-10 no-ask-words-requires-11 enum-known-call ask-requires enum-told-11 no-ask-words-requires-12 enum-told-12 no-ask-words-requires-13 enum-told-13 no-ask-words-requires-14 enum-told-14 no-ask-words-requires-15 enum-told-15 no-ask-words-requires-16 enum-told-16 no-ask-words-requires-17 enum-known-call-2 ask-requires-2 enum-known-call-3 ask-requires-3 returns-2 returns-3 returns-4 returns-5 returns-6 returns-7 returns-8 returns-9 returns-10 returns-11 returns-12 returns-13 returns-14 returns-15 returns-16 returns-17 returns-18 returns-19 returns-20)
+asks-spec = tie.close (tie.spec no-ask-words-requires returns enum_told no-ask-words-requires-2 enum-told-2 no-ask-words-requires-3 enum-told-3 no-ask-words-requires-4 enum-told-4 no-ask-words-requires-5 enum-told-5 no-ask-words-requires-6 enum-told-6 no-ask-words-requires-7 enum-told-7 no-ask-words-requires-8 enum-told-8 no-ask-words-requires-9 enum-told-9 no-ask-words-requires-10 enum-told-10 no-ask-words-requires-11 enum-known-call ask-requires enum-told-11 no-ask-words-requires-12 enum-told-12 no-ask-words-requires-13 enum-told-13 no-ask-words-requires-14 enum-told-14 no-ask-words-requires-15 enum-told-15 no-ask-words-requires-16 enum-told-16 no-ask-words-requires-17 returns-2 returns-3 returns-4 returns-5 returns-6 returns-7 returns-8 returns-9 returns-10 returns-11 returns-12 returns-13 returns-14 returns-15 returns-16 returns-17 returns-18)

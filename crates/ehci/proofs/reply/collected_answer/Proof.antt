@@ -14,9 +14,6 @@ enum_told c = search rules
 enum-told-2 : tie.Need-enum-told-2
 enum-told-2 c = search rules
 
-enum-told-3 : tie.Need-enum-told-3
-enum-told-3 c = search rules
-
 enum-known-answer-2 : tie.Need-enum-known-answer-2
 enum-known-answer-2 c = search rules
 
@@ -33,13 +30,10 @@ returns-3 : tie.Need-returns-3
 returns-3 c = ap collected_answer (sym c.enum-told2.given.1)
 
 returns-4 : tie.Need-returns-4
-returns-4 c = ap collected_answer (sym c.enum-told3.given.1)
+returns-4 c = ap collected_answer (sym c.before.answer2.given.1)
 
 returns-5 : tie.Need-returns-5
-returns-5 c = ap collected_answer (sym c.before.answer2.given.1)
-
-returns-6 : tie.Need-returns-6
-returns-6 c = ap collected_answer (sym c.before.answer3.given.1)
+returns-5 c = ap collected_answer (sym c.before.answer3.given.1)
 
 pub collected-answer-spec : {M : Type 1} → statement M
 collected-answer-spec =
@@ -48,12 +42,10 @@ collected-answer-spec =
     enum-known-answer
     enum_told
     enum-told-2
-    enum-told-3
     enum-known-answer-2
     enum-known-answer-3
     returns
     returns-2
     returns-3
     returns-4
-    returns-5
-    returns-6)
+    returns-5)
