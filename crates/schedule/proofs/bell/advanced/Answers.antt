@@ -1,0 +1,7 @@
+use Rattle.schedule.specs.Bell.{advanced_of}
+use borrow.Author.Rules.{rules}
+use Rattle.schedule.proofs.bell.advanced.Goals as goal
+
+pub returns : goal.returns
+unfolding advanced_of
+returns c = c.ring.ensures

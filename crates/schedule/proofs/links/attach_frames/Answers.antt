@@ -1,0 +1,6 @@
+use Rattle.schedule.proofs.LinkCases.{frames_attached}
+use borrow.Author.Rules.{rules}
+use Rattle.schedule.proofs.links.attach_frames.Goals as goal
+
+pub returns : goal.returns
+returns c = frames_attached c.args.heads.now c.args.frames.now _ c.args.k c.args.link c.fill_words.ensures

@@ -1,0 +1,13 @@
+use Rattle.schedule.specs.Links.{attached_ring}
+use native.Mathlib.Omega.{arith}
+use lib.ListN.{length-set}
+use mathlib.Core.Path.{refl}
+use borrow.Author.Rules.{rules}
+use Rattle.schedule.proofs.links.attach_ring.Goals as goal
+
+pub bounds-heads-0-2 : goal.bounds-heads-0-2
+bounds-heads-0-2 c = simp length-set (omega arith)
+
+pub returns : goal.returns
+unfolding attached_ring
+returns c = refl

@@ -1,0 +1,7 @@
+use Rattle.schedule.specs.Links.{ended_overlay}
+use borrow.Author.Rules.{rules}
+use Rattle.schedule.proofs.links.end_overlay.Goals as goal
+
+pub returns : goal.returns
+unfolding ended_overlay
+returns c = c.put_words.ensures

@@ -1,0 +1,6 @@
+use Rattle.schedule.proofs.WordsCases.{precedes_word_is}
+use borrow.Author.Rules.{rules}
+use Rattle.schedule.proofs.links.precedes.Goals as goal
+
+pub returns : goal.returns
+returns c = precedes_word_is _ _ _ _ _ _ _ c.same-together.ensures
