@@ -1,0 +1,13 @@
+use Rattle.std.specs.Prelude.{◌≡◌, ◌-◌, ◌≤◌, ◌||◌}
+use mathlib.Core.Path.{◌∙◌}
+use native.Mathlib.Omega.{arith}
+use borrow.Author.Rules.{rules}
+use Rattle.bring_up.specs.Words.{any_held}
+use Rattle.bring_up.proofs.BusyView.{held_begun, held_turn, held_done}
+use Rattle.bring_up.proofs.busy.any_uncollected.Given as goal
+
+abbrev pub invariant-loop-k : goal.invariant-loop-k
+invariant-loop-k l = (l.k ≤ l.end) × ((l.busy || any_held l.k (l.end - l.k) l.slots) ≡ any_held 0 l.end l.slots)
+
+abbrev pub decreases-loop-k : goal.decreases-loop-k
+decreases-loop-k l = l.end - l.k

@@ -1,0 +1,21 @@
+use Rattle.pipe.proofs.WordsFits.{closed_fits}
+use Rattle.endpoint.proofs.WordsChange.{closing_done, closing_refused, closing_tidy, words_head, words_slot_room}
+use borrow.Author.Rules.{rules}
+use Rattle.endpoint.proofs.calls.close.Goals as goal
+
+pub put_head-requires : goal.put_head-requires
+put_head-requires c =
+    words_head c.args.core.settings c.args.core.rest c.args.slots.now c.requires.good c.args.heads.now c.requires.heads_len
+    c.args.slot _ _ c.check_slot.ensures c.in-Done.is
+
+pub put_endpoint-requires : goal.put_endpoint-requires
+put_endpoint-requires c = search (words_slot_room, closed_fits)
+
+pub returns-in-Done : goal.returns-in-Done
+returns-in-Done c = search (closing_done, closing_tidy)
+
+pub returns-in-Refused-clause-by_index : goal.returns-in-Refused-clause-by_index
+returns-in-Refused-clause-by_index c = search closing_refused
+
+pub returns-in-Refused-clause-tidy : goal.returns-in-Refused-clause-tidy
+returns-in-Refused-clause-tidy c = search closing_refused

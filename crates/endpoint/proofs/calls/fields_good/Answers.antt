@@ -1,0 +1,6 @@
+use Rattle.endpoint.proofs.Cases.{fields_is}
+use borrow.Author.Rules.{rules}
+use Rattle.endpoint.proofs.calls.fields_good.Goals as goal
+
+pub returns : goal.returns
+returns c = search fields_is

@@ -1,0 +1,7 @@
+use Rattle.request.specs.Words.{refused_words}
+use borrow.Author.Rules.{rules}
+use Rattle.request.proofs.submit.refuse.Goals as goal
+
+pub returns : goal.returns
+unfolding refused_words
+returns c = cc
