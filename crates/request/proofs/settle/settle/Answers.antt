@@ -3,10 +3,15 @@ use Rattle.request.proofs.WordsSettle.{short_length, slot_room}
 use borrow.Author.Rules.{rules}
 use Rattle.request.proofs.settle.settle.Goals as goal
 
-pub link_rows-requires : goal.link_rows-requires
-link_rows-requires c =
+pub link_rows-requires-clause-slot_in_bounds : goal.link_rows-requires-clause-slot_in_bounds
+link_rows-requires-clause-slot_in_bounds c = (
     rows_ready c.args.core c.args.slots.now c.args.slot c.args.t _ _ _ c.requires.good c.requires.t_value c.requires.limit_value.0 c.requires.limit_value.1 c.lowest_places-places.ensures.1 c.lowest_places-places.ensures.0
-    c.args.heads.now c.args.frames.now c.requires.heads_len.0 c.requires.heads_len.1
+    c.args.heads.now c.args.frames.now c.requires.heads_len.0 c.requires.heads_len.1).0
+
+pub link_rows-requires-clause-in_bounds : goal.link_rows-requires-clause-in_bounds
+link_rows-requires-clause-in_bounds c = (
+    rows_ready c.args.core c.args.slots.now c.args.slot c.args.t _ _ _ c.requires.good c.requires.t_value c.requires.limit_value.0 c.requires.limit_value.1 c.lowest_places-places.ensures.1 c.lowest_places-places.ensures.0
+    c.args.heads.now c.args.frames.now c.requires.heads_len.0 c.requires.heads_len.1).1
 
 pub put_setup-requires : goal.put_setup-requires
 put_setup-requires c =
@@ -24,12 +29,23 @@ pub accepted-requires : goal.accepted-requires
 accepted-requires c =
     areas_below c.args.core.settings c.args.core.rest c.args.slots.now c.args.slot c.args.t c.requires.good c.requires.t_value
 
-pub shape_of-heads : goal.shape_of-heads
-shape_of-heads c = c.link_rows.auto.1.0
-
-pub returns : goal.returns
-returns c =
+pub returns-clause-setups_after : goal.returns-clause-setups_after
+returns-clause-setups_after c = (
     let p = c.lowest_places-places in
     settled c.args.core c.args.slots.now c.args.slot c.args.t _ _ _ c.requires.good c.requires.t_value c.requires.limit_value.0 c.requires.limit_value.1 p.ensures.1 p.ensures.0
     c.args.readings _ _ c.accepted.ensures _ c.id_at-id.ensures c.put_request.ensures.slot_fits c.put_request.ensures.slots_after
-    c.args.heads.now c.args.frames.now c.args.setups.now _ _ _ _ c.toggle_at.ensures c.link_rows.ensures c.put_setup.ensures
+    c.args.heads.now c.args.frames.now c.args.setups.now _ _ _ _ c.toggle_at.ensures c.link_rows.ensures c.put_setup.ensures).0
+
+pub returns-clause-tidy : goal.returns-clause-tidy
+returns-clause-tidy c = (
+    let p = c.lowest_places-places in
+    settled c.args.core c.args.slots.now c.args.slot c.args.t _ _ _ c.requires.good c.requires.t_value c.requires.limit_value.0 c.requires.limit_value.1 p.ensures.1 p.ensures.0
+    c.args.readings _ _ c.accepted.ensures _ c.id_at-id.ensures c.put_request.ensures.slot_fits c.put_request.ensures.slots_after
+    c.args.heads.now c.args.frames.now c.args.setups.now _ _ _ _ c.toggle_at.ensures c.link_rows.ensures c.put_setup.ensures).1.0
+
+pub returns-clause-laying_good : goal.returns-clause-laying_good
+returns-clause-laying_good c = (
+    let p = c.lowest_places-places in
+    settled c.args.core c.args.slots.now c.args.slot c.args.t _ _ _ c.requires.good c.requires.t_value c.requires.limit_value.0 c.requires.limit_value.1 p.ensures.1 p.ensures.0
+    c.args.readings _ _ c.accepted.ensures _ c.id_at-id.ensures c.put_request.ensures.slot_fits c.put_request.ensures.slots_after
+    c.args.heads.now c.args.frames.now c.args.setups.now _ _ _ _ c.toggle_at.ensures c.link_rows.ensures c.put_setup.ensures).1.1

@@ -1,0 +1,5 @@
+use borrow.Author.Rules.{rules}
+use Rattle.root_hub.proofs.calls.no_power.Goals as goal
+
+pub returns : goal.returns
+returns c = rw c.none.ensures.value

@@ -1,0 +1,18 @@
+use mathlib.Core.Bool.{◌&&◌}
+use Rattle.root_hub.proofs.Cases.{ports_turn, ports_done}
+use Rattle.root_hub.specs.Ranges.{states_good}
+use native.Mathlib.Omega.{arith}
+use mathlib.Core.Path.{◌≡◌, refl, ◌∙◌}
+use Prim.Native.Nat.{◌≤◌, ◌-◌}
+use borrow.Author.Rules.{rules}
+use Rattle.root_hub.proofs.ranges.states_good.Goals as goal
+
+pub loop-k-init : goal.loop-k-init
+loop-k-init c = (omega arith, refl)
+
+pub loop-k-preserved : goal.loop-k-preserved
+loop-k-preserved c = let l = c.loop-k in
+    (omega arith, ports_turn _ l.k l.good _ (omega arith) c.state_good-good.ensures ∙ l.invariant.1)
+
+pub returns : goal.returns
+returns c = ports_done _ _ _ _ c.loop-k-test.false c.loop-k.invariant.1

@@ -1,0 +1,14 @@
+use mathlib.Core.Bool.{◌&&◌}
+use Rattle.root_hub.proofs.Cases.{ports_turn, ports_done}
+use Rattle.root_hub.specs.Ranges.{states_good}
+use native.Mathlib.Omega.{arith}
+use mathlib.Core.Path.{◌≡◌, refl, ◌∙◌}
+use Prim.Native.Nat.{◌≤◌, ◌-◌}
+use borrow.Author.Rules.{rules}
+use Rattle.root_hub.proofs.ranges.states_good.Given as goal
+
+abbrev pub invariant-loop-k : goal.invariant-loop-k
+invariant-loop-k l = (l.k ≤ 15) × ((l.good && states_good l.k (15 - l.k) l.hub) ≡ states_good 0 15 l.hub)
+
+abbrev pub decreases-loop-k : goal.decreases-loop-k
+decreases-loop-k l = 15 - l.k

@@ -1,0 +1,6 @@
+use Rattle.root_hub.proofs.Cases.{gone_is}
+use borrow.Author.Rules.{rules}
+use Rattle.root_hub.proofs.scan.gone_turn.Goals as goal
+
+pub returns : goal.returns
+returns c = search gone_is
