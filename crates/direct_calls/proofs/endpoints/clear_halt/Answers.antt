@@ -1,0 +1,12 @@
+use borrow.Author.Rules.{rules}
+use Rattle.direct_calls.proofs.SlotsCases.{slots_decides, slots_good_lem, slots_refuses}
+use Rattle.direct_calls.proofs.endpoints.clear_halt.Goals as goal
+
+pub returns-then-not-words_good : goal.returns-then-not-words_good
+returns-then-not-words_good c = search slots_refuses
+
+pub clear_halt-requires : goal.clear_halt-requires
+clear_halt-requires c = search slots_good_lem
+
+pub returns : goal.returns
+returns c = search slots_decides

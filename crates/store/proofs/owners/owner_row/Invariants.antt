@@ -1,0 +1,13 @@
+use Rattle.std.specs.Prelude.{◌-◌, ◌≤◌}
+use mathlib.Core.Path.{refl}
+use native.Mathlib.Omega.{arith}
+use lib.ListN.{length-replicate}
+use borrow.Author.Rules.{rules}
+use Rattle.store.proofs.OwnersLaws.{RowTo, row_done, row_turn}
+use Rattle.store.proofs.owners.owner_row.Given as goal
+
+abbrev pub invariant-loop-i : goal.invariant-loop-i
+invariant-loop-i l = (l.i ≤ 256) × RowTo l.slots l.i l.row
+
+abbrev pub decreases-loop-i : goal.decreases-loop-i
+decreases-loop-i l = 256 - l.i
