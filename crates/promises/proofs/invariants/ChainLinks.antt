@@ -98,7 +98,7 @@ module _ (s t : Ehci) (rows : Rows) (ks js : List ℕ) (x : Schedules s rows ks 
 
     ring_grown : Chain s (linked kind).heads (ring_link (linked kind).heads) (k ∷ ks) (s.settings.heads + 2)
     ring_grown =
-        rw ring_rows
+        subst (λ (z : Links). Chain s z.heads (ring_link z.heads) (k ∷ ks) (s.settings.heads + 2)) (sym ring_rows)
         (attach_first s started k (s.settings.heads + 2) ks head_room (avoided false ks x.ring.members) ring_chain)
 
     pub links_ring : linked_in false (endpoint_at t k) ≡ true → linked_in true (endpoint_at t k) ≡ false
@@ -129,7 +129,7 @@ module _ (s t : Ehci) (rows : Rows) (ks js : List ℕ) (x : Schedules s rows ks 
     every_entry i low = rw frame_rows (frames_grown.0 i (omega (arith, full)))
 
     frame_grown : Chain s (linked kind).heads (slot_link s k) (k ∷ js) 1
-    frame_grown = rw frame_rows frames_grown.1
+    frame_grown = subst (λ (z : Links). Chain s z.heads (slot_link s k) (k ∷ js) 1) (sym frame_rows) frames_grown.1
 
     ring_same : ring_link (linked kind).heads ≡ ring_link h
     unfolding attached_frames

@@ -68,7 +68,7 @@ module _ (w : World) where
 
   none_refused : (c : Call) → access_of c ≡ None → (r : Refusal) → Touches w c (leaves w c s (Refused r) no_writes)
   unfolding no_writes
-  none_refused c e r = level_touches w c _ (subst Plain (sym e) plain_none) (level s) (sym (ap (writes_by w _) e))
+  none_refused c e r = level_touches w c _ (subst Plain (sym e) plain_none) (level s) (sym (ap (writes_by w (leaves w c s (Refused r) no_writes)) e))
 
   pub open_touches : (x : EndpointFields) → Touches w (OpenEndpoint x) (core w (OpenEndpoint x))
   unfolding open_decided replied no_writes with_endpoint with_slot
