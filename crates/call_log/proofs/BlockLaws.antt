@@ -1,5 +1,5 @@
 -- A whole block fits in 131,072 bytes, with room for a line besides.
-use Rattle.std.specs.Prelude.{◌≡◌, ℕ, ◌+◌, ◌*◌, ◌≤◌, min, Bool, not, List, [], ◌∷◌, ◌++◌, length, get_or, take}
+use Rattle.std.specs.Prelude.{◌≡◌, ℕ, ◌+◌, ◌≤◌, min, Bool, List, [], ◌∷◌, ◌++◌, length, get_or}
 use mathlib.Core.List.{append_assoc}
 use native.Mathlib.Omega.{arith}
 use lib.ListN.{length-append, length-take}
@@ -13,7 +13,7 @@ use Rattle.text.proofs.Puts.{put_then}
 use Rattle.text.proofs.TextLaws.{decimal_length, hex_length}
 use Rattle.call_log.specs.Block.{rows_lines}
 use Rattle.call_log.specs.Changes.{frame_change, frame_lines, head_change, head_lines, port_change, port_lines, record_change, record_lines, setup_change, setup_lines, write_at, write_lines}
-use Rattle.call_log.specs.Lines.{line_bytes, line_of, parts_bytes, shown_line, write_line}
+use Rattle.call_log.specs.Lines.{line_bytes, line_of, shown_line, write_line}
 use Rattle.call_log.specs.Words.{block_shown, rest_shown}
 use Rattle.call_log.specs.declared.block.Rows.{Rows}
 use Rattle.call_log.specs.declared.line.Line.{Line}

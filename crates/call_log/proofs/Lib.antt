@@ -4,8 +4,6 @@ pub mod RecordLaws
 pub mod LineCases
 pub mod CallLineCases
 pub mod ChangeCases
-pub mod Known
 pub mod BlockLaws
-pub mod RowsKnown
 pub mod WordsLaws
 pub mod Same

@@ -8,7 +8,7 @@ use native.Mathlib.Numerals.{add-one}
 use native.Mathlib.Omega.{arith}
 use lib.ListN.{length-append, length-take}
 use Rattle.common.specs.Rows.{put_at}
-use Rattle.text.specs.Text.{decimal, hex}
+use Rattle.text.specs.Text.{hex}
 use Rattle.text.proofs.Puts.{put_none, put_then}
 use Rattle.text.proofs.TextLaws.{decimal_length, hex_length}
 use Rattle.call_log.specs.Lines.{line_bytes, part_bytes, parts_bytes}

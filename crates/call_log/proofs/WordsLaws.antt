@@ -1,6 +1,6 @@
 -- What a block shows of a state in words is what it shows of the state that they stand for.
 use Rattle.std.specs.Prelude.{◌≡◌, ℕ, Bool, true, false, List}
-use mathlib.Core.Path.{refl, sym, ap, ◌∙◌}
+use mathlib.Core.Path.{refl, ap}
 use Rattle.controller.proofs.WordsLaws.{free_viewed}
 use Rattle.register.specs.declared.writes.Writes.{Writes}
 use Rattle.settings.proofs.SettingsLaws.{good_tells}

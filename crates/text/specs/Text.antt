@@ -1,5 +1,5 @@
 -- Numbers as text, in the bytes of ASCII, and lines one after the other.
-use Rattle.std.specs.Prelude.{ℕ, zero, suc, ◌+◌, ◌*◌, ◌/◌, ◌%◌, ◌-◌, Bool, true, false, cond, List, [], ◌∷◌, ◌++◌, ltb}
+use Rattle.std.specs.Prelude.{ℕ, zero, suc, ◌+◌, ◌*◌, ◌/◌, ◌%◌, ◌-◌, Bool, cond, List, [], ◌∷◌, ◌++◌, ltb}
 
 -- the digits of n, at most so many: those of a tenth and then the last, "0" for 0
 unfoldable pub decimal_up_to : ℕ → ℕ → List ℕ

@@ -1,6 +1,5 @@
 use mathlib.Core.Path.{refl}
 use Rattle.text.proofs.Puts.{put_one}
-use borrow.Author.Rules.{rules}
 use Rattle.text.proofs.digits.put.Goals as goal
 
 pub returns-clause-out_after : goal.returns-clause-out_after

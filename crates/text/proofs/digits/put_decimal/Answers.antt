@@ -1,5 +1,4 @@
 use Rattle.text.specs.Text.{decimal}
-use borrow.Author.Rules.{rules}
 use Rattle.text.proofs.digits.put_decimal.Goals as goal
 
 pub returns : goal.returns

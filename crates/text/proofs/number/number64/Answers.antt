@@ -1,7 +1,6 @@
 use mathlib.Core.Path.{refl}
 use native.Mathlib.Omega.{arith}
 use Rattle.text.proofs.NumberLaws.{number_both}
-use borrow.Author.Rules.{rules}
 use Rattle.text.proofs.number.number64.Goals as goal
 
 pub returns : goal.returns

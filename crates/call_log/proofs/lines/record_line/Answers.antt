@@ -1,0 +1,7 @@
+use mathlib.Core.Path.{refl}
+use Rattle.call_log.specs.Lines.{line_bytes, parts_bytes, line_of, record_line}
+use Rattle.call_log.proofs.lines.record_line.Goals as goal
+
+pub returns : goal.returns
+unfolding line_bytes parts_bytes line_of record_line
+returns c = refl
