@@ -1,7 +1,6 @@
 -- The words of a head, and the links, read field by field as EHCI 3.5 and 3.6 read them.
-use Prim.Native.Nat.{ℕ, ◌+◌, ◌-◌, ◌*◌, ◌/◌, ◌%◌, ◌^◌, ◌≤◌, ◌<◌, max}
-use mathlib.Core.Path.{◌≡◌, refl, ◌∙◌}
-use native.Mathlib.Nat.{mod-lt}
+use Prim.Native.Nat.{ℕ, ◌+◌, ◌*◌, ◌/◌, ◌%◌, ◌^◌, ◌≤◌, ◌<◌, max}
+use mathlib.Core.Path.{◌≡◌, refl}
 use native.Mathlib.Omega.{arith}
 use Rattle.register.proofs.FieldLaws.{field_with, field_below, field_above}
 use Rattle.common.specs.declared.kinds.EndpointType.{EndpointType}
@@ -10,7 +9,7 @@ use Rattle.descriptor.specs.declared.qtd.NextQtd.TheVariants.{Terminate, At}
 use Rattle.descriptor.specs.Descriptors.{word_of_next}
 use Rattle.descriptor.specs.EhciQtd.{terminate, qtd_address}
 use Rattle.descriptor.specs.EhciQueueHead.{link_terminate, link_type, link_address, device_address, inactivate_on_next, endpoint_number, endpoint_speed, toggle_control, head_of_list, maximum_packet_length, control_endpoint, nak_reload, start_mask, completion_mask, hub_address, port_number, multiplier}
-use Rattle.descriptor.specs.Heads.{qh_link, control_bit, interrupt_bit, characteristics_of, capabilities_of, with_address, with_packet_size}
+use Rattle.descriptor.specs.Heads.{qh_link, interrupt_bit, characteristics_of, capabilities_of, with_address, with_packet_size}
 
 -- ---- characteristics
 

@@ -1,10 +1,9 @@
 -- The returns of the functions on page slots and descriptors.
-use Prim.Native.Nat.{ℕ, ◌+◌, ◌-◌, ◌*◌, ◌%◌, ◌≤◌, ◌<◌}
-use mathlib.Core.Path.{◌≡◌, refl, ap, ◌∙◌}
+use Prim.Native.Nat.{ℕ, ◌+◌, ◌-◌, ◌%◌, ◌≤◌, ◌<◌}
+use mathlib.Core.Path.{◌≡◌, ap, ◌∙◌}
 use mathlib.Core.List.{List, [], ◌∷◌}
 use borrow.Author.Tests.{eq-eqb, ne_eqb, lt-ltb, le-ltb}
 use lib.Dec.{ltb}
-use lib.ListN.{replicate}
 use Rattle.descriptor.specs.declared.qtd.NextQtd.{NextQtd}
 use Rattle.descriptor.specs.declared.qtd.NextQtd.TheVariants.{At}
 use Rattle.token.specs.declared.qtd.QtdToken.{QtdToken}

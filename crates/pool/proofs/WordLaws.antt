@@ -12,7 +12,6 @@ use Rattle.common.proofs.TestLaws.{false_true}
 use Rattle.descriptor.specs.declared.qtd.QueueTransferDescriptor.{QueueTransferDescriptor as Record}
 use Rattle.pool.specs.Plain as Deeds
 use Rattle.pool.specs.declared.laying.Laying.{Laying}
-use Rattle.pool.specs.declared.transfer.Transfer.{Transfer}
 use Rattle.pool.specs.declared.writing.Writing.{Writing}
 use Rattle.pool.specs.Places.{packed}
 use Rattle.pool.specs.Chains.{blank, fill_of, filled_from, transfer_good, with_token}

@@ -1,5 +1,5 @@
 -- What is asked of the pool and written to it, the places as the words of a set.
-use Rattle.std.specs.Prelude.{ℕ, ◌+◌, ◌-◌, ◌*◌, ◌≤◌, ◌<◌, ◌^◌, ◌≡◌, Bool, true, false, cond, not, ◌&&◌, List, [], ◌∷◌, ◌++◌, get_or, length, replicate, set}
+use Rattle.std.specs.Prelude.{ℕ, ◌+◌, ◌*◌, ◌≤◌, ◌<◌, ◌^◌, ◌≡◌, Bool, true, false, cond, not, ◌&&◌, List, [], ◌∷◌, ◌++◌, get_or, length, replicate, set}
 use Rattle.bitset.specs.Places.{Within, set_places}
 use Rattle.bitset.specs.Words.{places_of}
 use Rattle.common.specs.declared.kinds.Direction.TheVariants as Directions

@@ -2,13 +2,11 @@
 use Prim.Native.Nat.{ℕ, suc, ◌+◌, ◌-◌, ◌<◌}
 use mathlib.Core.Path.{◌≡◌, refl, sym, ◌∙◌}
 use mathlib.Core.List.{List, [], ◌∷◌, ◌++◌, append_assoc}
-use native.Mathlib.Numerals.{add-one}
 use native.Mathlib.Omega.{arith}
 use lib.ListN.{length, length-append, replicate, set}
 use lib.Seq.{set-append_seam, take-append_seam}
 use Rattle.register.specs.Writes.{write_of, packed, list_of, no_writes, and_then}
 use Rattle.register.specs.declared.writes.Write.{Write}
-use Rattle.register.specs.declared.writes.Writes.{Writes}
 
 pub list_packed : (ws : List Write) → list_of (packed ws) ≡ ws
 list_packed ws = take-append_seam ws (replicate (6 - length ws) (write_of 0 0))

@@ -1,9 +1,9 @@
 -- The working limit: the largest multiple of the packet size that is not above the limit, and at least one packet where one fits.
-use Prim.Native.Nat.{ℕ, ◌-◌, ◌*◌, ◌/◌, ◌%◌, ◌≤◌, ◌<◌}
+use Prim.Native.Nat.{ℕ, ◌-◌, ◌*◌, ◌/◌, ◌%◌, ◌≤◌}
 use mathlib.Core.Path.{◌≡◌, refl, ◌∙◌}
 use mathlib.Core.Bool.{Bool, true, false}
 use mathlib.Core.Logic.{◌≢◌}
-use native.Mathlib.Nat.{div-add-mod', mod-le, mod-lt, mod-zero, mul-le-mul_right, div-lt_iff_lt-mul}
+use native.Mathlib.Nat.{div-add-mod', mod-le, mod-zero, mul-le-mul_right, div-lt_iff_lt-mul}
 use native.Mathlib.Omega.{arith}
 use borrow.Author.Tests.{leb-false, leb-true}
 use lib.Dec.{leb}

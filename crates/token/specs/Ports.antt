@@ -1,5 +1,5 @@
 -- A port's status as document 01 reads it: connected, enabled, and both: a high-speed device that is ready.
-use Rattle.std.specs.Prelude.{ℕ, Bool, true, false, not, ◌&&◌, eqb}
+use Rattle.std.specs.Prelude.{ℕ, Bool, not, ◌&&◌, eqb}
 use Rattle.token.specs.EhciPortsc.{current_connect, port_enabled}
 
 abbrev pub is_set : ℕ → Bool

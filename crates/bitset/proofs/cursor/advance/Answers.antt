@@ -1,4 +1,3 @@
-use borrow.Author.Rules.{rules}
 use Rattle.bitset.proofs.CursorLaws.{stays, step_here, step_on}
 use Rattle.bitset.proofs.cursor.advance.Goals as goal
 

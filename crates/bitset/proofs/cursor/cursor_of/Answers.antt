@@ -1,4 +1,3 @@
-use borrow.Author.Rules.{rules}
 use mathlib.Core.Path.{◌∙◌}
 use Rattle.bitset.specs.Rest.{cursor_of}
 use Rattle.bitset.proofs.CursorLaws.{coming_all}

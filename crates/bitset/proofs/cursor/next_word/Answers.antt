@@ -1,4 +1,3 @@
-use borrow.Author.Rules.{rules}
 use mathlib.Core.Path.{refl}
 use Rattle.bitset.specs.Rest.{next_of}
 use Rattle.bitset.proofs.cursor.next_word.Goals as goal

@@ -1,5 +1,4 @@
-use Prim.Native.Nat.{◌-◌}
-use mathlib.Core.Path.{◌≡◌, refl, sym, ap, ◌∙◌}
+use mathlib.Core.Path.{refl, sym, ap, ◌∙◌}
 use native.Mathlib.Omega.{arith}
 use Rattle.bitset.specs.declared.cursor.Cursor.{Cursor}
 use Rattle.bitset.specs.Rest.{coming_of, next_of, settled_of}

@@ -1,9 +1,6 @@
 use Prim.Native.Nat.{◌-◌}
-use mathlib.Core.Path.{◌≡◌, refl, sym, ap, ◌∙◌}
-use native.Mathlib.Omega.{arith}
-use Rattle.bitset.specs.declared.cursor.Cursor.{Cursor}
-use Rattle.bitset.specs.Rest.{coming_of, next_of, settled_of}
-use Rattle.bitset.proofs.CursorLaws.{coming_none, coming_next, coming_here, settled_none, settled_next, settled_here}
+use mathlib.Core.Path.{◌≡◌}
+use Rattle.bitset.specs.Rest.{coming_of, settled_of}
 use Rattle.bitset.proofs.cursor.settled.Given as goal
 
 abbrev pub invariant-loop-at : goal.invariant-loop-at

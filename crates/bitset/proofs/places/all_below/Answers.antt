@@ -1,4 +1,3 @@
-use borrow.Author.Rules.{rules}
 use Rattle.bitset.specs.Places.{all_below}
 use Rattle.bitset.proofs.places.all_below.Goals as goal
 

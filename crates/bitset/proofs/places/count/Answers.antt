@@ -1,4 +1,3 @@
-use borrow.Author.Rules.{rules}
 use native.Mathlib.Omega.{arith}
 use Rattle.bitset.specs.Places.{set_places}
 use Rattle.bitset.proofs.PartLaws.{four_length}

@@ -1,4 +1,3 @@
-use borrow.Author.Rules.{rules}
 use Rattle.bitset.specs.Places.{Words}
 use Rattle.bitset.proofs.PartLaws.{lowest_parts}
 use Rattle.bitset.proofs.places.lowest_places.Goals as goal

@@ -1,4 +1,3 @@
-use borrow.Author.Rules.{rules}
 use mathlib.Core.Path.{refl}
 use Rattle.bitset.specs.Places.{with_of}
 use Rattle.bitset.proofs.places.with.Goals as goal

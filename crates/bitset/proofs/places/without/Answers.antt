@@ -1,4 +1,3 @@
-use borrow.Author.Rules.{rules}
 use Rattle.bitset.specs.Places.{without_of}
 use Rattle.bitset.proofs.places.without.Goals as goal
 

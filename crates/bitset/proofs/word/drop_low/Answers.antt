@@ -1,7 +1,5 @@
-use Prim.Native.Nat.{◌≤◌, ◌-◌}
 use mathlib.Core.Path.{◌≡◌, sym, ap, ◌∙◌}
 use native.Mathlib.Omega.{arith}
-use borrow.Author.Rules.{rules}
 use Rattle.bitset.specs.Words.{drop_bits}
 use Rattle.bitset.proofs.PlaceLaws.{drop_none}
 use Rattle.bitset.proofs.PartLaws.{drop_turn}

@@ -1,10 +1,6 @@
 use Prim.Native.Nat.{◌≤◌, ◌-◌}
-use mathlib.Core.Path.{◌≡◌, sym, ap, ◌∙◌}
-use native.Mathlib.Omega.{arith}
-use borrow.Author.Rules.{rules}
+use mathlib.Core.Path.{◌≡◌}
 use Rattle.bitset.specs.Words.{drop_bits}
-use Rattle.bitset.proofs.PlaceLaws.{drop_none}
-use Rattle.bitset.proofs.PartLaws.{drop_turn}
 use Rattle.bitset.proofs.word.drop_low.Given as goal
 
 abbrev pub invariant-loop-done : goal.invariant-loop-done

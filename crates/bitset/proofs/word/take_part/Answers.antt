@@ -1,4 +1,3 @@
-use borrow.Author.Rules.{rules}
 use native.Mathlib.Omega.{arith}
 use Rattle.bitset.proofs.PlaceLaws.{drop_le}
 use Rattle.bitset.proofs.PartLaws.{part_all, part_some}

@@ -1,10 +1,7 @@
 use Rattle.common.proofs.RowsCases.{copy_turn, copy_done}
-use lib.ListN.{length, length-set, take, drop}
+use lib.ListN.{length-set}
 use native.Mathlib.Omega.{arith}
-use mathlib.Core.List.{◌++◌}
-use mathlib.Core.Path.{◌≡◌, refl}
-use Prim.Native.Nat.{◌≤◌, ◌-◌}
-use borrow.Author.Rules.{rules}
+use mathlib.Core.Path.{refl}
 use Rattle.common.proofs.rows.copy_bytes.Goals as goal
 
 pub loop-i-init : goal.loop-i-init

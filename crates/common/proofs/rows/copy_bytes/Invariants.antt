@@ -1,10 +1,7 @@
-use Rattle.common.proofs.RowsCases.{copy_turn, copy_done}
-use lib.ListN.{length, length-set, take, drop}
-use native.Mathlib.Omega.{arith}
+use lib.ListN.{length, take, drop}
 use mathlib.Core.List.{◌++◌}
-use mathlib.Core.Path.{◌≡◌, refl}
+use mathlib.Core.Path.{◌≡◌}
 use Prim.Native.Nat.{◌≤◌, ◌-◌}
-use borrow.Author.Rules.{rules}
 use Rattle.common.proofs.rows.copy_bytes.Given as goal
 
 abbrev pub invariant-loop-i : goal.invariant-loop-i

@@ -1,5 +1,4 @@
 use Rattle.common.proofs.RowsCases.{put_done}
-use borrow.Author.Rules.{rules}
 use Rattle.common.proofs.rows.put_bytes.Goals as goal
 
 pub returns : goal.returns

@@ -1,5 +1,4 @@
 use Rattle.descriptor.proofs.HeadCases.{packet_bytes}
-use borrow.Author.Rules.{rules}
 use Rattle.descriptor.proofs.setup.setup_packet_bytes.Goals as goal
 
 pub returns : goal.returns

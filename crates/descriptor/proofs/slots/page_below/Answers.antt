@@ -1,5 +1,4 @@
 use Rattle.descriptor.proofs.QtdCases.{below, beyond}
-use borrow.Author.Rules.{rules}
 use Rattle.descriptor.proofs.slots.page_below.Goals as goal
 
 pub returns-then-page-end : goal.returns-then-page-end

@@ -1,5 +1,4 @@
 use Rattle.descriptor.proofs.QtdCases.{empty_slots, filled_slots_lem}
-use borrow.Author.Rules.{rules}
 use Rattle.descriptor.proofs.slots.page_slots.Goals as goal
 
 pub returns-then-length-eq0 : goal.returns-then-length-eq0

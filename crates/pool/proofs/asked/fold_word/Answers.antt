@@ -1,4 +1,4 @@
-use Rattle.std.proofs.Common.{◌≡◌, ◌<◌, ◌≤◌, ◌^◌, arith, length}
+use Rattle.std.proofs.Common.{◌≤◌, arith, length}
 use Rattle.pool.proofs.FoldTurns.{left_fewer, seeing_below, seeing_done, seeing_in, seeing_more, seeing_start}
 use Rattle.pool.proofs.asked.fold_word.Goals as goal
 

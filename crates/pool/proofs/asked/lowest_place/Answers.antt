@@ -1,5 +1,4 @@
 use Rattle.pool.proofs.WordCases.{place_fits}
-use borrow.Author.Rules.{rules}
 use Rattle.pool.proofs.asked.lowest_place.Goals as goal
 
 pub overflow_add-result : goal.overflow_add-result

@@ -1,5 +1,4 @@
 use Rattle.pool.proofs.WordCases.{none_made}
-use borrow.Author.Rules.{rules}
 use Rattle.pool.proofs.asked.none_folded.Goals as goal
 
 pub returns : goal.returns

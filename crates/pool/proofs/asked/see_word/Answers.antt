@@ -1,5 +1,4 @@
 use Rattle.pool.proofs.WordCases.{word_count_fits, word_sum_fits, word_seen}
-use borrow.Author.Rules.{rules}
 use Rattle.pool.proofs.asked.see_word.Goals as goal
 
 pub overflow_add-view : goal.overflow_add-view

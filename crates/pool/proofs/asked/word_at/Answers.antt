@@ -1,5 +1,4 @@
 use Rattle.pool.proofs.WordCases.{left_open}
-use borrow.Author.Rules.{rules}
 use Rattle.pool.proofs.asked.word_at.Goals as goal
 
 pub returns : goal.returns

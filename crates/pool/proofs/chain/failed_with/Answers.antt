@@ -1,5 +1,4 @@
 use Rattle.pool.proofs.ChainCases.{was_set, failed_here, failed_not}
-use borrow.Author.Rules.{rules}
 use Rattle.pool.proofs.chain.failed_with.Goals as goal
 
 pub returns-then-failed-ne0 : goal.returns-then-failed-ne0

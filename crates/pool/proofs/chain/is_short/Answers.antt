@@ -1,5 +1,4 @@
 use Rattle.pool.proofs.ChainCases.{short_active, short_erring, short_left}
-use borrow.Author.Rules.{rules}
 use Rattle.pool.proofs.chain.is_short.Goals as goal
 
 pub returns-then-active : goal.returns-then-active

@@ -1,5 +1,4 @@
 use Rattle.pool.proofs.ChainCases.{retried_not, retried_one}
-use borrow.Author.Rules.{rules}
 use Rattle.pool.proofs.chain.retried_of.Goals as goal
 
 pub returns-then-retried : goal.returns-then-retried

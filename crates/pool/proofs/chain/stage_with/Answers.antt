@@ -1,5 +1,4 @@
 use Rattle.pool.proofs.ChainCases.{was_set, stage_active, stage_erring, stage_clean}
-use borrow.Author.Rules.{rules}
 use Rattle.pool.proofs.chain.stage_with.Goals as goal
 
 pub returns-then-stage-ne0 : goal.returns-then-stage-ne0

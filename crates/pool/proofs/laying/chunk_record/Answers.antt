@@ -1,5 +1,4 @@
 use Rattle.pool.proofs.WordCases.{chunk_laid}
-use borrow.Author.Rules.{rules}
 use Rattle.pool.proofs.laying.chunk_record.Goals as goal
 
 pub returns : goal.returns

@@ -1,7 +1,7 @@
-use Rattle.std.proofs.Common.{◌≡◌, ◌<◌, ◌+◌, false, arith, length, refl, ◌∙◌}
+use Rattle.std.proofs.Common.{◌<◌, arith, length, refl, ◌∙◌}
 use lib.ListN.{length-set}
-use Rattle.bitset.specs.Places.{Within, set_places}
-use Rattle.bitset.specs.Rest.{is_none, rest_of}
+use Rattle.bitset.specs.Places.{set_places}
+use Rattle.bitset.specs.Rest.{rest_of}
 use Rattle.pool.specs.Plain as Deeds
 use Rattle.pool.proofs.WordTurns.{counted, fewer, filled_end, filled_on, here_in, more_on, more_stops, none_yet, rest_in, set_few, stage_turn}
 use Rattle.pool.proofs.laying.lay_stages.Goals as goal

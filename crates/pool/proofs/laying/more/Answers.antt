@@ -1,4 +1,3 @@
-use borrow.Author.Rules.{rules}
 use Rattle.pool.proofs.laying.more.Goals as goal
 
 pub returns : goal.returns

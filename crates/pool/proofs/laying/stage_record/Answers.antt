@@ -1,5 +1,4 @@
 use Rattle.pool.proofs.WordCases.{stage_made}
-use borrow.Author.Rules.{rules}
 use Rattle.pool.proofs.laying.stage_record.Goals as goal
 
 pub returns : goal.returns

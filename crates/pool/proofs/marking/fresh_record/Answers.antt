@@ -1,5 +1,4 @@
 use Rattle.pool.proofs.ChainLaws.{fresh_shared, fresh_blank}
-use borrow.Author.Rules.{rules}
 use Rattle.pool.proofs.marking.fresh_record.Goals as goal
 
 pub returns-then-k-count : goal.returns-then-k-count

@@ -1,11 +1,5 @@
-use Rattle.std.proofs.Common.{◌≡◌, refl, ◌∙◌, ap, subst, length}
-use Prim.Native.Nat.{ℕ, ◌+◌, ◌-◌}
-use mathlib.Core.List.{List}
-use lib.ListN.{set, length-set}
-use Rattle.descriptor.specs.declared.qtd.QueueTransferDescriptor.{QueueTransferDescriptor}
-use Rattle.pool.specs.Plain as Deeds
-use Rattle.pool.specs.Chains.{filled_from}
-use Rattle.pool.specs.Places.{up_from}
+use Rattle.std.proofs.Common.{refl, ◌∙◌}
+use lib.ListN.{length-set}
 use Rattle.pool.proofs.WordTurns.{open_start, open_on_lem, open_end}
 use Rattle.pool.proofs.marking.open_first.Goals as goal
 

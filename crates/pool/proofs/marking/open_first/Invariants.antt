@@ -1,4 +1,4 @@
-use Rattle.std.proofs.Common.{◌≡◌, ◌-◌, ◌≤◌, length}
+use Rattle.std.proofs.Common.{◌≡◌, ◌-◌, length}
 use Rattle.pool.specs.Plain as Deeds
 use Rattle.pool.specs.Chains.{filled_from}
 use Rattle.pool.specs.Places.{up_from}

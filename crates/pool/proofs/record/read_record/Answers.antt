@@ -1,6 +1,3 @@
-use Rattle.std.proofs.Common.{◌≡◌}
-use Rattle.pool.specs.Chains.{blank}
-use Rattle.pool.specs.RecordCalls.{found_if, read_of}
 use Rattle.pool.proofs.RecordCases.{read_inside_lem, read_beyond_lem}
 use Rattle.pool.proofs.record.read_record.Goals as goal
 

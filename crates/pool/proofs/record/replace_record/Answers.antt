@@ -1,4 +1,4 @@
-use Rattle.std.proofs.Common.{◌≡◌, ap, ◌∙◌}
+use Rattle.std.proofs.Common.{ap, ◌∙◌}
 use Rattle.pool.specs.RecordCalls.{replaced}
 use Rattle.pool.proofs.RecordCases.{replace_inside_lem, replace_beyond_lem}
 use Rattle.pool.proofs.record.replace_record.Goals as goal

@@ -1,5 +1,4 @@
 use Rattle.pool.proofs.TransferCases.{alternate_shared, alternate_none}
-use borrow.Author.Rules.{rules}
 use Rattle.pool.proofs.transfer.alternate_word.Goals as goal
 
 pub returns-then-ends_short : goal.returns-then-ends_short

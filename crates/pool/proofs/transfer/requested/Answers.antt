@@ -1,5 +1,4 @@
 use Rattle.pool.proofs.TransferCases.{asked_data, asked_none, asked_isochronous, asked_bulk, asked_interrupt}
-use borrow.Author.Rules.{rules}
 use Rattle.pool.proofs.transfer.requested.Goals as goal
 
 pub returns-then-k-eq1 : goal.returns-then-k-eq1

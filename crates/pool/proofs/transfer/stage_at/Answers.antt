@@ -1,5 +1,4 @@
 use Rattle.pool.proofs.TransferCases.{stage_setup, stage_bare, stage_data, stage_status}
-use borrow.Author.Rules.{rules}
 use Rattle.pool.proofs.transfer.stage_at.Goals as goal
 
 pub returns-then-k-eq0 : goal.returns-then-k-eq0

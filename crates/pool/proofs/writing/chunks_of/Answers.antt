@@ -1,5 +1,4 @@
 use Rattle.pool.proofs.WordCases.{chunks_made}
-use borrow.Author.Rules.{rules}
 use Rattle.pool.proofs.writing.chunks_of.Goals as goal
 
 pub returns : goal.returns

@@ -1,5 +1,4 @@
 use Rattle.pool.specs.Words.{no_writing}
-use borrow.Author.Rules.{rules}
 use Rattle.pool.proofs.writing.no_writing.Goals as goal
 
 pub returns : goal.returns

@@ -1,5 +1,4 @@
 use Rattle.pool.proofs.WordCases.{stages_made}
-use borrow.Author.Rules.{rules}
 use Rattle.pool.proofs.writing.stages_of.Goals as goal
 
 pub returns : goal.returns

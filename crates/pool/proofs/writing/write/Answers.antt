@@ -4,7 +4,7 @@ use Rattle.descriptor.specs.declared.qtd.QueueTransferDescriptor.{QueueTransferD
 use Rattle.pool.specs.declared.laying.Laying.{Laying}
 use Rattle.pool.specs.declared.marking.Marking.{Marking}
 use Rattle.pool.specs.declared.writing.Writing.{Writing}
-use Rattle.pool.specs.Words.{ChunksGood, MarkingGood, StagesGood, chunks_of, laid_of, marked_of, stages_of, written_with}
+use Rattle.pool.specs.Words.{ChunksGood, chunks_of, laid_of, marked_of, stages_of, written_with}
 use Rattle.pool.proofs.WordLaws.{chunks_good, parts_written, stages_good}
 use Rattle.pool.proofs.writing.write.Goals as goal
 

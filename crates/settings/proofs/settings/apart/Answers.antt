@@ -1,5 +1,4 @@
 use Rattle.settings.proofs.SettingsCases.{apart_first_lem, apart_second}
-use borrow.Author.Rules.{rules}
 use Rattle.settings.proofs.settings.apart.Goals as goal
 
 pub returns-then-a-b : goal.returns-then-a-b

@@ -1,6 +1,4 @@
 use Rattle.settings.proofs.SettingsCases.{each_is}
-use borrow.Author.Rules.{rules}
-use Rattle.settings.proofs.settings.area_good.Reads as area-good-reads
 use Rattle.settings.proofs.settings.each_good.Goals as goal
 
 pub returns : goal.returns

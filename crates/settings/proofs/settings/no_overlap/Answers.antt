@@ -1,6 +1,4 @@
 use Rattle.settings.proofs.SettingsCases.{overlap_is}
-use borrow.Author.Rules.{rules}
-use Rattle.settings.proofs.settings.apart.Reads as apart-reads
 use Rattle.settings.proofs.settings.no_overlap.Goals as goal
 
 pub returns : goal.returns

@@ -2,7 +2,6 @@ use native.Mathlib.Omega.{arith}
 use native.Mathlib.Nat.{div-le_self}
 use Prim.Native.Nat.{◌-◌}
 use Rattle.token.proofs.ChunkLaws.{count_empty_case, count_data_case}
-use borrow.Author.Rules.{rules}
 use Rattle.token.proofs.chunks.chunk_count.Goals as goal
 
 pub returns-then-length-eq0 : goal.returns-then-length-eq0

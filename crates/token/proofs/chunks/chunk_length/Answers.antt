@@ -1,5 +1,4 @@
 use Rattle.token.proofs.ChunkLaws.{start_fits}
-use borrow.Author.Rules.{rules}
 use Rattle.token.proofs.chunks.chunk_length.Goals as goal
 
 pub overflow_mul-start : goal.overflow_mul-start

@@ -1,5 +1,4 @@
 use Rattle.token.proofs.ChunkLaws.{need_two, need_three, need_isochronous, need_bulk, need_interrupt}
-use borrow.Author.Rules.{rules}
 use Rattle.token.proofs.chunks.need.Goals as goal
 
 pub returns-then-length-eq0 : goal.returns-then-length-eq0

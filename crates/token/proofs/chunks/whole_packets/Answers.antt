@@ -1,5 +1,4 @@
 use Rattle.token.proofs.LimitLaws.{none_whole, rest_within}
-use borrow.Author.Rules.{rules}
 use Rattle.token.proofs.chunks.whole_packets.Goals as goal
 
 pub returns-then-size-eq0 : goal.returns-then-size-eq0

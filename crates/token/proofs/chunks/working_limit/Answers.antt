@@ -1,5 +1,4 @@
 use Rattle.token.proofs.LimitLaws.{limit_control, limit_isochronous, limit_bulk, limit_interrupt}
-use borrow.Author.Rules.{rules}
 use Rattle.token.proofs.chunks.working_limit.Goals as goal
 
 pub returns-in-Control : goal.returns-in-Control

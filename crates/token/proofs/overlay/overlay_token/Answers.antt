@@ -1,5 +1,4 @@
 use Rattle.token.proofs.OverlayLaws.{overlay_clear, overlay_none, overlay_set}
-use borrow.Author.Rules.{rules}
 use Rattle.token.proofs.overlay.overlay_token.Goals as goal
 
 pub returns-then-is_control : goal.returns-then-is_control

@@ -1,5 +1,4 @@
 use Rattle.token.proofs.PlanCases.{plan_empty, plan_data}
-use borrow.Author.Rules.{rules}
 use Rattle.token.proofs.plan.build_control_td_plan.Goals as goal
 
 pub returns-then-length-eq0 : goal.returns-then-length-eq0

@@ -1,4 +1,3 @@
-use borrow.Author.Rules.{rules}
 use Rattle.token.proofs.plan.chunk_token.Goals as goal
 
 pub returns : goal.returns

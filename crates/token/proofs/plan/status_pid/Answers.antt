@@ -1,5 +1,4 @@
 use Rattle.token.proofs.PlanCases.{status_empty, status_in_lem}
-use borrow.Author.Rules.{rules}
 use Rattle.token.proofs.plan.status_pid.Goals as goal
 
 pub returns-then-length-eq0 : goal.returns-then-length-eq0

@@ -1,5 +1,4 @@
 use Rattle.descriptor.proofs.HeadCases.{ring}
-use borrow.Author.Rules.{rules}
 use Rattle.descriptor.proofs.head.QueueHead.async_head.Goals as goal
 
 pub returns : goal.returns

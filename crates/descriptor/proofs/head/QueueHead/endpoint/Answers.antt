@@ -1,5 +1,4 @@
 use Rattle.descriptor.proofs.HeadCases.{opened}
-use borrow.Author.Rules.{rules}
 use Rattle.descriptor.proofs.head.QueueHead.endpoint.Goals as goal
 
 pub returns : goal.returns

@@ -1,5 +1,4 @@
 use Rattle.descriptor.proofs.QtdCases.{next_at_lem}
-use borrow.Author.Rules.{rules}
 use Rattle.descriptor.proofs.qtd.NextQtd.word.Goals as goal
 
 pub returns-in-At : goal.returns-in-At

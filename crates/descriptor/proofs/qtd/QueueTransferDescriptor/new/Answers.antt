@@ -1,4 +1,3 @@
-use borrow.Author.Rules.{rules}
 use Rattle.descriptor.proofs.QtdCases.{new_is}
 use Rattle.descriptor.proofs.qtd.QueueTransferDescriptor.new.Goals as goal
 

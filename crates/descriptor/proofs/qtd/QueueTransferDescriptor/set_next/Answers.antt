@@ -1,5 +1,4 @@
 use Rattle.descriptor.specs.Descriptors.{with_next}
-use borrow.Author.Rules.{rules}
 use Rattle.descriptor.proofs.qtd.QueueTransferDescriptor.set_next.Goals as goal
 
 pub returns : goal.returns

@@ -1,8 +1,4 @@
 use Rattle.settings.proofs.SettingsCases.{numbers_tell, good_numbers, good_not}
-use borrow.Author.Rules.{rules}
-use Rattle.settings.proofs.settings.each_good.Reads as each-good-reads
-use Rattle.settings.proofs.settings.no_overlap.Reads as no-overlap-reads
-use Rattle.settings.proofs.settings.numbers_good.Reads as numbers-good-reads
 use Rattle.settings.proofs.settings.Settings.good.Goals as goal
 
 pub each_good-requires : goal.each_good-requires

@@ -1,5 +1,4 @@
 use Rattle.token.proofs.PortCases.{ready, not_connected}
-use borrow.Author.Rules.{rules}
 use Rattle.token.proofs.port.EhciPortStatus.is_high_speed_device_ready.Goals as goal
 
 pub returns-then-connected : goal.returns-then-connected

@@ -1,6 +1,5 @@
 use Rattle.register.proofs.FieldLaws.{any_field}
 use mathlib.Core.Path.{◌∙◌}
-use borrow.Author.Rules.{rules}
 use Rattle.token.proofs.qtd.QtdToken.has_error.Goals as goal
 
 pub returns : goal.returns

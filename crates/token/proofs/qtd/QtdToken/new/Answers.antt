@@ -1,5 +1,4 @@
 use Rattle.token.proofs.TokenLaws.{new_case}
-use borrow.Author.Rules.{rules}
 use Rattle.token.proofs.qtd.QtdToken.new.Goals as goal
 
 pub returns : goal.returns

@@ -1,5 +1,4 @@
 use Rattle.token.proofs.TokenLaws.{started_case}
-use borrow.Author.Rules.{rules}
 use Rattle.token.proofs.qtd.QtdToken.started.Goals as goal
 
 pub returns : goal.returns
