@@ -31,14 +31,14 @@ fit_part (suc k) [] f i = lit< tt
 fit_part (suc k) (w ∷ ws) f zero = f.0
 fit_part (suc k) (w ∷ ws) f (suc i) = fit_part k ws f.1 i
 
-each_fits : (ws : List ℕ) (us : List Val) → shadow (each ℕ u64.own_val (map (λ (w : ℕ). w) ws) us) → Fitting ws
+each_fits : (ws : List ℕ) (us : List Val) → shadow (each ℕ u64.own_val ws us) → Fitting ws
 each_fits [] us s = tt
 each_fits (w ∷ ws) [] s = absurd s
 each_fits (w ∷ ws) (u ∷ us) s = (s.0.1, each_fits ws us s.1)
 
 module _ (w : Store) (g : Is T.the_row w (LL.vals T.the_type T'.the_laws w)) where
   pub slots_length : length w.slots ≡ 192
-  slots_length = sym (length-map w.slots _) ∙ (LL.owed T.the_type T'.the_laws w _ g).1.0.1.0.1
+  slots_length = (LL.owed T.the_type T'.the_laws w _ g).1.0.1.0.1
 
   -- of the words that are lent
   pub slots_fit_lem : (k i : ℕ) → get_or (take k w.slots) i 0 < 2 ^ 64

@@ -1,4 +1,3 @@
-pub mod Owner
 pub mod OwnersLaws
 pub mod OwnersCases
 pub mod LendLaws

@@ -15,7 +15,7 @@ returns c =
     let rows = c.lend_open-o in
     let view =
     opened_view_lem c.args.store c.args.settings _ _ _ _ _ _ c.well_formed.0 c.requires c.records_lent-d.ensures c.slots_lent-k.ensures
-    c.words_lent-h.ensures c.bytes_lent-u.ensures rows.ensures.0 rows.ensures.1 c.store_opened-after.ensures in
+    c.words_lent-h.ensures c.bytes_lent-u.ensures rows.ensures.result_value rows.ensures.opens_words c.store_opened-after.ensures in
     let opens =
     opened_opens c.args.store c.args.settings _ _ _ _ _ _ c.well_formed.0 c.requires c.records_lent-d.ensures c.slots_lent-k.ensures
-    c.words_lent-h.ensures c.bytes_lent-u.ensures rows.ensures.0 rows.ensures.1 c.store_opened-after.ensures in record { result_value = view; opens = opens }
+    c.words_lent-h.ensures c.bytes_lent-u.ensures rows.ensures.result_value rows.ensures.opens_words c.store_opened-after.ensures in record { result_value = view; opens = opens }
