@@ -1,7 +1,3 @@
-pub mod Data
-pub mod Passing
-pub mod Named2
-pub mod Named3
 pub mod ArmLaws
 pub mod Arms
 pub mod UnjudgedLaws

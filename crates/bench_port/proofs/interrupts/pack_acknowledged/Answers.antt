@@ -1,0 +1,5 @@
+use Rattle.bench_port.proofs.Packs.{answered}
+use Rattle.bench_port.proofs.interrupts.pack_acknowledged.Goals as goal
+
+pub returns : goal.returns
+returns c = answered _ _ _ _ _ c.acknowledged_answer.ensures c.pack.ensures
