@@ -1,15 +1,14 @@
 -- The limit of a slot's chunks: at least 1 and at most C in a state in its ranges, and the same in the words.
-use Rattle.std.specs.Prelude.{◌≡◌, ℕ, ◌/◌, ◌%◌, ◌<◌, ◌≤◌, Bool, true, false, ltb, ◌≢◌, List, length, get_or}
+use Rattle.std.specs.Prelude.{◌≡◌, ℕ, ◌<◌, ◌≤◌, Bool, true, false, ltb, ◌≢◌, List, get_or}
 use mathlib.Core.Path.{refl, sym, ap, ◌∙◌}
 use native.Mathlib.Decide.{ℕ_discrete as dec_eq}
 use native.Mathlib.Omega.{arith}
 use borrow.Author.Tests.{ltb-true, ltb-false}
 use lib.ListN.{get_or-eq_default}
-use Rattle.common.specs.declared.kinds.EndpointType.{EndpointType}
 use Rattle.common.specs.declared.kinds.EndpointType.TheVariants.{Control}
 use Rattle.settings.specs.declared.settings.Settings.{Settings}
 use Rattle.slot.specs.declared.slot.Slot.{Slot}
-use Rattle.slot.proofs.SlotLaws.{Phase, SizeGood, SlotGood, slot_tells}
+use Rattle.slot.proofs.SlotLaws.{Phase, SlotGood, slot_tells}
 use Rattle.state.specs.Plain.{Ehci}
 use Rattle.state.specs.Slots.{slot_at}
 use Rattle.state.proofs.RangesLaws.{Ranges}

@@ -1,5 +1,5 @@
 -- The table of sizes: the size less 1, where 0 goes round to the last of eleven bits, is below its entry exactly where the size is right.
-use Rattle.std.specs.Prelude.{◌≡◌, ℕ, ◌+◌, ◌/◌, ◌%◌, ◌<◌, min, Bool, true, false, ltb, ◌≢◌, get_or}
+use Rattle.std.specs.Prelude.{◌≡◌, ℕ, ◌+◌, ◌%◌, ◌<◌, min, Bool, true, false, ltb, ◌≢◌, get_or}
 use mathlib.Core.Path.{refl, sym}
 use native.Mathlib.Omega.{arith}
 use borrow.Author.Tests.{eq-eqb, lt-ltb, ltb-true, ne_eqb}

@@ -1,5 +1,4 @@
 use Rattle.controller.proofs.WordsCases.{address_next, address_none}
-use borrow.Author.Rules.{rules}
 use Rattle.controller.proofs.calls.allocate_address.Goals as goal
 
 pub returns-then-address-gt127-clause-by_index : goal.returns-then-address-gt127-clause-by_index

@@ -1,5 +1,4 @@
 use Rattle.controller.proofs.WordsCases.{place_said}
-use borrow.Author.Rules.{rules}
 use Rattle.controller.proofs.readers.has_place.Goals as goal
 
 pub returns : goal.returns

@@ -1,5 +1,4 @@
 use Rattle.controller.proofs.WordsCases.{held_said}
-use borrow.Author.Rules.{rules}
 use Rattle.controller.proofs.readers.uncollected.Goals as goal
 
 pub returns : goal.returns

@@ -1,7 +1,6 @@
 use native.Mathlib.Omega.{arith}
 use mathlib.Core.Path.{sym}
 use lib.ListN.{get_or-eq_default}
-use borrow.Author.Rules.{rules}
 use Rattle.controller.proofs.readers.word_in.Goals as goal
 
 pub returns-else-at-slots : goal.returns-else-at-slots

@@ -1,5 +1,4 @@
 use Rattle.opening.specs.Words.{accepted_words}
-use borrow.Author.Rules.{rules}
 use Rattle.opening.proofs.open.accept.Goals as goal
 
 pub returns : goal.returns

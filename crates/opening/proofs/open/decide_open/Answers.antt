@@ -3,7 +3,6 @@ use mathlib.Core.Bool.{not}
 use native.Mathlib.Omega.{arith}
 use Rattle.opening.proofs.OpenCases.{fit_lengths, heads_below}
 use Rattle.opening.proofs.WordsCases.{words_short, words_bad, words_rows, words_done}
-use borrow.Author.Rules.{rules}
 use Rattle.opening.proofs.open.decide_open.Goals as goal
 
 pub returns-then-not-slots_fit : goal.returns-then-not-slots_fit

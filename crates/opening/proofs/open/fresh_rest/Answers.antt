@@ -1,5 +1,4 @@
 use Rattle.words.specs.Opened.{opened_rest}
-use borrow.Author.Rules.{rules}
 use Rattle.opening.proofs.open.fresh_rest.Goals as goal
 
 pub returns : goal.returns

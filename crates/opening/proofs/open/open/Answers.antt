@@ -1,5 +1,4 @@
-use Rattle.std.proofs.Common.{◌≡◌, ◌≤◌, ap, ◌∙◌}
-use mathlib.Core.List.{List}
+use Rattle.std.proofs.Common.{ap, ◌∙◌}
 use Prim.Native.Nat.{ℕ}
 use Rattle.opening.specs.Words.{decide_words, open_count}
 use Rattle.opening.proofs.WordsLaws.{may_open, opens, together}

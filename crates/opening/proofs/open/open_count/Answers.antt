@@ -1,5 +1,4 @@
 use Rattle.opening.proofs.OpenCases.{count_done, count_refused}
-use borrow.Author.Rules.{rules}
 use Rattle.opening.proofs.open.open_count.Goals as goal
 
 pub returns-in-Done : goal.returns-in-Done

@@ -1,5 +1,4 @@
 use Rattle.opening.proofs.OpenCases.{heads_opened}
-use borrow.Author.Rules.{rules}
 use Rattle.opening.proofs.open.open_heads.Goals as goal
 
 pub returns : goal.returns

@@ -1,5 +1,4 @@
 use Rattle.opening.proofs.OpenCases.{none_fits, one_less}
-use borrow.Author.Rules.{rules}
 use Rattle.opening.proofs.open.pool_fits.Goals as goal
 
 pub returns-then-pool-eq0 : goal.returns-then-pool-eq0

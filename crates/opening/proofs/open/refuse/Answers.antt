@@ -1,5 +1,4 @@
 use Rattle.opening.specs.Words.{blank_core, refused_words}
-use borrow.Author.Rules.{rules}
 use Rattle.opening.proofs.open.refuse.Goals as goal
 
 pub returns : goal.returns

@@ -1,5 +1,4 @@
 use Rattle.opening.proofs.OpenCases.{fit_is}
-use borrow.Author.Rules.{rules}
 use Rattle.opening.proofs.open.rows_fit.Goals as goal
 
 pub returns : goal.returns

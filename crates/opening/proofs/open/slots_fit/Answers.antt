@@ -1,6 +1,5 @@
 use mathlib.Core.Path.{refl}
 use Rattle.opening.specs.Words.{slots_fit}
-use borrow.Author.Rules.{rules}
 use Rattle.opening.proofs.open.slots_fit.Goals as goal
 
 pub returns : goal.returns

@@ -1,5 +1,4 @@
 use Rattle.pipe.proofs.EndpointCases.{decode_idle, decode_linked, decode_unlinking, decode_closed}
-use borrow.Author.Rules.{rules}
 use Rattle.pipe.proofs.endpoints.decode.Goals as goal
 
 pub returns-then-phase-eq1 : goal.returns-then-phase-eq1

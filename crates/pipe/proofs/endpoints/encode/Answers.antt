@@ -1,5 +1,4 @@
 use Rattle.pipe.proofs.EndpointCases.{encode_closed, encode_idle, encode_linked, encode_unlinking}
-use borrow.Author.Rules.{rules}
 use Rattle.pipe.proofs.endpoints.encode.Goals as goal
 
 pub returns-in-Closed : goal.returns-in-Closed

@@ -1,5 +1,4 @@
 use Rattle.pipe.proofs.WordsLaws.{endpoint_of_lem}
-use borrow.Author.Rules.{rules}
 use Rattle.pipe.proofs.slots.endpoint_at.Goals as goal
 
 pub returns : goal.returns

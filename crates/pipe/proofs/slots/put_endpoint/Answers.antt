@@ -1,5 +1,4 @@
 use Rattle.pipe.proofs.WordsLaws.{encoded_fits, put_encoded}
-use borrow.Author.Rules.{rules}
 use Rattle.pipe.proofs.slots.put_endpoint.Goals as goal
 
 pub put_slot-requires : goal.put_slot-requires

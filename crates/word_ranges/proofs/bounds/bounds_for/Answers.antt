@@ -1,4 +1,3 @@
-use borrow.Author.Rules.{rules}
 use mathlib.Core.Path.{refl}
 use Rattle.word_ranges.specs.Bounds.{bounds_of}
 use Rattle.word_ranges.proofs.bounds.bounds_for.Goals as goal

@@ -1,4 +1,3 @@
-use borrow.Author.Rules.{rules}
 use Rattle.word_ranges.specs.Bounds.{sizes_of}
 use Rattle.word_ranges.proofs.bounds.sizes_for.Goals as goal
 

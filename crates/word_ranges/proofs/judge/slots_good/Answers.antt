@@ -1,7 +1,4 @@
-use Rattle.std.specs.Prelude.{◌≡◌, ◌-◌, ◌*◌, ◌/◌, ◌≤◌}
 use native.Mathlib.Omega.{arith}
-use borrow.Author.Rules.{rules}
-use Rattle.word_ranges.specs.Seen.{seen_from}
 use Rattle.word_ranges.proofs.JudgeCases.{seen_done, seen_start, seen_turn}
 use Rattle.word_ranges.proofs.judge.slots_good.Goals as goal
 

@@ -1,4 +1,3 @@
-use borrow.Author.Rules.{rules}
 use Rattle.word_ranges.proofs.JudgeCases.{words_core, words_length, words_slots}
 use Rattle.word_ranges.proofs.judge.words_good.Goals as goal
 

@@ -1,4 +1,3 @@
-use borrow.Author.Rules.{rules}
 use Rattle.word_ranges.proofs.ScalarCases.{core_not, core_rest}
 use Rattle.word_ranges.proofs.scalars.core_good.Goals as goal
 

@@ -1,4 +1,3 @@
-use borrow.Author.Rules.{rules}
 use Rattle.word_ranges.proofs.ScalarCases.{core_interrupt}
 use Rattle.word_ranges.proofs.scalars.interrupt_good.Goals as goal
 

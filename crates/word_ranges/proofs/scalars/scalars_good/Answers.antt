@@ -1,4 +1,3 @@
-use borrow.Author.Rules.{rules}
 use Rattle.word_ranges.proofs.ScalarCases.{core_scalars}
 use Rattle.word_ranges.proofs.scalars.scalars_good.Goals as goal
 

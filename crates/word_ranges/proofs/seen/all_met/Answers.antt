@@ -1,4 +1,3 @@
-use borrow.Author.Rules.{rules}
 use Rattle.word_ranges.proofs.SeenCases.{met_all}
 use Rattle.word_ranges.proofs.seen.all_met.Goals as goal
 

@@ -1,8 +1,6 @@
-use Prim.Native.Nat.{◌≤◌, ◌-◌}
 use mathlib.Core.Path.{◌≡◌, refl, ap, ◌∙◌}
 use native.Mathlib.Omega.{arith}
-use borrow.Author.Rules.{rules}
-use lib.ListN.{length, length-set}
+use lib.ListN.{length-set}
 use Rattle.words.specs.Record.{fall_to}
 use Rattle.words.proofs.FallLaws.{fall_turn}
 use Rattle.words.proofs.fall.fall.Goals as goal

@@ -1,10 +1,7 @@
 use Prim.Native.Nat.{◌≤◌, ◌-◌}
-use mathlib.Core.Path.{◌≡◌, refl, ap, ◌∙◌}
-use native.Mathlib.Omega.{arith}
-use borrow.Author.Rules.{rules}
-use lib.ListN.{length, length-set}
+use mathlib.Core.Path.{◌≡◌}
+use lib.ListN.{length}
 use Rattle.words.specs.Record.{fall_to}
-use Rattle.words.proofs.FallLaws.{fall_turn}
 use Rattle.words.proofs.fall.fall.Given as goal
 
 abbrev pub invariant-loop-k : goal.invariant-loop-k

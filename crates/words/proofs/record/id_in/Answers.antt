@@ -1,5 +1,4 @@
 use Rattle.words.proofs.RecordCases.{id_follows, id_wraps}
-use borrow.Author.Rules.{rules}
 use Rattle.words.proofs.record.id_in.Goals as goal
 
 pub returns-then-last-eq-LAST_ID : goal.returns-then-last-eq-LAST_ID

@@ -1,5 +1,4 @@
 use Rattle.words.proofs.RecordCases.{last_before, last_own}
-use borrow.Author.Rules.{rules}
 use Rattle.words.proofs.record.last_of.Goals as goal
 
 pub returns-then-e-ge2 : goal.returns-then-e-ge2

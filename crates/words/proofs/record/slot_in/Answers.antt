@@ -1,5 +1,4 @@
 use Rattle.words.proofs.RecordCases.{slot_parts}
-use borrow.Author.Rules.{rules}
 use Rattle.words.proofs.record.slot_in.Goals as goal
 
 pub returns : goal.returns

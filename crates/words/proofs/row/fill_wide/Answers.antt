@@ -1,10 +1,7 @@
 use Rattle.common.proofs.RowsCases.{fill_turn, fill_done}
-use lib.ListN.{length, length-set, drop, replicate}
+use lib.ListN.{length-set}
 use native.Mathlib.Omega.{arith}
-use mathlib.Core.List.{◌++◌}
-use mathlib.Core.Path.{◌≡◌, refl}
-use Prim.Native.Nat.{◌≤◌, ◌-◌}
-use borrow.Author.Rules.{rules}
+use mathlib.Core.Path.{refl}
 use Rattle.words.proofs.row.fill_wide.Goals as goal
 
 pub loop-i-init : goal.loop-i-init

@@ -1,10 +1,7 @@
-use Rattle.common.proofs.RowsCases.{fill_turn, fill_done}
-use lib.ListN.{length, length-set, drop, replicate}
-use native.Mathlib.Omega.{arith}
+use lib.ListN.{length, drop, replicate}
 use mathlib.Core.List.{◌++◌}
-use mathlib.Core.Path.{◌≡◌, refl}
+use mathlib.Core.Path.{◌≡◌}
 use Prim.Native.Nat.{◌≤◌, ◌-◌}
-use borrow.Author.Rules.{rules}
 use Rattle.words.proofs.row.fill_wide.Given as goal
 
 abbrev pub invariant-loop-i : goal.invariant-loop-i

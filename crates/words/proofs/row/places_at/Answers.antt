@@ -1,5 +1,4 @@
 use Rattle.words.proofs.RowLaws.{parts_read}
-use borrow.Author.Rules.{rules}
 use Rattle.words.proofs.row.places_at.Goals as goal
 
 pub returns : goal.returns

@@ -1,7 +1,6 @@
 use native.Mathlib.Omega.{arith}
 use lib.ListN.{length-set}
 use Rattle.words.proofs.RowLaws.{parts_written}
-use borrow.Author.Rules.{rules}
 use Rattle.words.proofs.row.put_places.Goals as goal
 
 pub bounds-slots-at-2 : goal.bounds-slots-at-2

@@ -1,7 +1,6 @@
 use native.Mathlib.Omega.{arith}
 use lib.ListN.{length-set}
 use Rattle.words.specs.Record.{put_slot}
-use borrow.Author.Rules.{rules}
 use Rattle.words.proofs.row.put_slot.Goals as goal
 
 pub bounds-slots-at-2 : goal.bounds-slots-at-2

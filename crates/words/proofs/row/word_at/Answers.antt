@@ -1,7 +1,6 @@
 use native.Mathlib.Omega.{arith}
 use mathlib.Core.Path.{sym}
 use Rattle.words.proofs.RowLaws.{word_beyond}
-use borrow.Author.Rules.{rules}
 use Rattle.words.proofs.row.word_at.Goals as goal
 
 pub returns-else-at-slots : goal.returns-else-at-slots
