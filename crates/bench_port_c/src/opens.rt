@@ -1,0 +1,24 @@
+// Opening. The core, which the caller keeps, and the root hub's record come back by value.
+ghost use Rattle.std.specs.Prelude.{◌≡◌};
+ghost use Rattle.opening.specs.Words.{open_words};
+ghost use Rattle.bench_port.specs.Opens.{OpensPort, beside_opened, seen_opening};
+
+use bench_port::opens::PortOpened;
+use descriptor::qtd::QueueTransferDescriptor;
+use settings::settings::Settings;
+
+#[unsafe(no_mangle)]
+pub extern "C" fn port_open(
+    settings: Settings,
+    rows: &mut [QueueTransferDescriptor],
+    slots: &mut [u64],
+    heads: &mut [u32],
+    frames: &mut [u32],
+    setups: &mut [u8],
+) -> PortOpened
+    ensures setups_after { beside_opened result rows.new heads.new frames.new setups.new
+        ≡ seen_opening (open_words settings rows.old slots.old heads.old frames.old setups.old) }
+    ensures opens_port { OpensPort settings result slots.old slots.new }
+{
+    bench_port::opens::port_open(settings, rows, slots, heads, frames, setups)
+}

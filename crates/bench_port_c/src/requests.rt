@@ -1,0 +1,28 @@
+// Cancel: the call on requests that is lent no records.
+ghost use Rattle.words.specs.View.{view};
+ghost use Rattle.collection.specs.Calls.{cancel_of};
+ghost use Rattle.direct_calls.specs.Shapes.{FramesCall};
+ghost use Rattle.bench_port.specs.Numbers.{refused_numbers};
+ghost use Rattle.bench_port.specs.Border.{beside_links, readings_of, seen_cancelled, seen_in};
+
+use bench_port::numbers::Replied;
+use words::core::Core;
+
+#[unsafe(no_mangle)]
+pub extern "C" fn port_cancel(
+    core: Core,
+    slots: &mut [u64],
+    heads: &mut [u32],
+    frames: &mut [u32],
+    slot: u8,
+    id: u64,
+    command: u32,
+    frame: u32,
+) -> Replied
+    ensures { FramesCall core slots.old slots.new heads.old heads.new
+        frames.old frames.new result (refused_numbers core.rest) result.rest
+        (beside_links (seen_in core.settings result slots.new) heads.new frames.new)
+        (λ pool setups. seen_cancelled (cancel_of (view core slots.old) pool heads.old frames.old setups (readings_of command frame 0) slot id)) }
+{
+    bench_port::requests::port_cancel(core, slots, heads, frames, slot, id, command, frame)
+}
