@@ -6,7 +6,6 @@ use lib.Seq.{length-take-le}
 use Rattle.descriptor.specs.declared.qtd.QueueTransferDescriptor.{QueueTransferDescriptor as Record}
 use Rattle.settings.specs.declared.settings.Settings.{Settings}
 use Rattle.words.specs.declared.core.Core.{Core}
-use Rattle.words.specs.View.{view}
 use Rattle.opening.specs.declared.open.Opening.{Opening}
 use Rattle.opening.specs.Words.{OpensWords, open_words, opened_rows}
 use Rattle.opening.specs.Words as opening
@@ -16,7 +15,6 @@ use Rattle.ehci.specs.Door.{Applied, applied}
 use Rattle.ehci.specs.WordsDoor.{WordsAfter, accepts_words, apply_words, reply_view}
 use Rattle.store.specs.declared.store.Called.{Called}
 use Rattle.store.specs.declared.store.OpenedRows.{OpenedRows}
-use Rattle.store.specs.Plain as plain
 use Rattle.store.specs.Stores.{called_after}
 use Rattle.store.specs.Lends.{LentCall, called_at, call_lent, gathered_of, open_lent, owned_rows, rows_left, whole_rows}
 

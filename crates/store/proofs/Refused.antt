@@ -1,6 +1,5 @@
 -- A call on a state outside its ranges, or that is lent rows of other lengths, answers 1 and leaves all as it was.
 use Rattle.std.specs.Prelude.{◌≡◌, ℕ, Bool, true, false, List, length}
-use mathlib.Core.Path.{refl}
 use Rattle.common.specs.declared.answer.Refusal.TheVariants.{InvalidParameter}
 use Rattle.descriptor.specs.declared.qtd.QueueTransferDescriptor.{QueueTransferDescriptor as Record}
 use Rattle.pool.specs.declared.chain.View.{View}

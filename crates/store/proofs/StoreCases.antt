@@ -1,16 +1,13 @@
 -- The returns of the functions of a store.
-use Rattle.std.specs.Prelude.{◌≡◌, ℕ, ◌*◌, min, true, List, [], ◌∷◌, ◌++◌, length, take, replicate}
+use Rattle.std.specs.Prelude.{◌≡◌, ℕ, ◌*◌, min, true, List, [], ◌∷◌, length, take, replicate}
 use mathlib.Core.Path.{refl, sym, ap, subst, ◌∙◌}
 use native.Mathlib.Omega.{arith}
 use lib.Seq.{length-take-le}
-use denote.Laws.{Is}
-use denote.Struct.Laws as LL
 use Rattle.common.specs.declared.answer.Answer.{Answer}
 use Rattle.common.specs.declared.answer.Answer.TheVariants.{Done, Refused}
 use Rattle.common.specs.declared.answer.Refusal.{Refusal}
 use Rattle.common.proofs.CheckLaws.{answers_apart}
 use Rattle.common.proofs.TestLaws.{false_true}
-use Rattle.descriptor.specs.declared.qtd.QueueTransferDescriptor.{QueueTransferDescriptor as Record}
 use Rattle.pool.specs.Chains.{blank}
 use Rattle.settings.specs.declared.settings.Settings.{Settings}
 use Rattle.settings.specs.Settings.{settings_good}
@@ -21,7 +18,7 @@ use Rattle.words.specs.Good.{Tidy}
 use Rattle.words.specs.View.{state_of, view}
 use Rattle.words.proofs.OpenedLaws.{view_opened}
 use Rattle.ehci.specs.declared.call.Call.{Call}
-use Rattle.ehci.specs.Door.{Applied, apply_of}
+use Rattle.ehci.specs.Door.{Applied}
 use Rattle.opening.specs.declared.open.Opening.{Opening}
 use Rattle.opening.specs.Opening.{Opened, fresh_state, no_settings, open_of}
 use Rattle.opening.specs.Words.{DecidedWords, OpensWords, blank_core, decide_words, decided_words, open_words, refused_words, rows_of, slots_fit}
@@ -35,9 +32,7 @@ use Rattle.store.specs.Plain as plain
 use Rattle.store.specs.Stores.{blank_store, bytes_lent, call_rows, call_store, called_after, open_rows, open_store, records_lent, rows_after, store_opened as plainOpened, words_lent}
 use Rattle.store.specs.Words.{OpenedIn, Opens, Tended, Tends, called_view, lent_slots, opened_view, slots_lent, store_view}
 use Rattle.store.specs.Lends.{LentCall, called_at, call_lent, open_lent, rows_left, store_after, store_opened, whole_rows}
-use Rattle.store.specs.contracts.store.Store as T
-use Rattle.store.proofs.store.Store.TheLaws as T'
-use Rattle.store.proofs.Known.{free_fits, slots_fit_lem, slots_length}
+use Rattle.store.proofs.Known.{Known, free_fits, slots_fit_lem}
 use Rattle.store.proofs.OpenSame.{done_fresh, open_same}
 use Rattle.store.proofs.WordsLaws.{call_same, tended_after, tidy_after}
 
@@ -78,7 +73,7 @@ blank_done c e =
 pub accepted_store : (a : Answer) (w : Store) (o : OpenedRows) (r : Store) → a ≡ Done → r ≡ store_after o → r ≡ store_opened a w o
 accepted_store a w o r ea e = rw (ea, e)
 
-module _ (w : Store) (s : Settings) (d k h u : ℕ) (o : OpenedRows) (after : Store) (known : Is T.the_row w (LL.vals T.the_type T'.the_laws w)) (tended : Tended w)
+module _ (w : Store) (s : Settings) (d k h u : ℕ) (o : OpenedRows) (after : Store) (long : length w.slots ≡ 192) (tended : Tended w)
     (ed : d ≡ records_lent s) (ek : k ≡ slots_lent s) (eh : h ≡ words_lent s) (eu : u ≡ bytes_lent s)
     (rows : rows_left o ≡ open_lent s w.pool w.slots w.heads w.frames w.setups d k h u)
     (words : OpensWords s o.opening (take k w.slots) (take k o.slots)) (ea : after ≡ store_opened o.opening.answer w o) where
@@ -86,7 +81,7 @@ module _ (w : Store) (s : Settings) (d k h u : ℕ) (o : OpenedRows) (after : St
   came = open_of s (take d w.pool) (take h w.heads) w.frames (take u w.setups)
 
   lent_long : length (take k w.slots) ≡ min (6 * s.endpoints) 192
-  lent_long = length-take-le k w.slots (omega (arith, slots_length w known, ek)) ∙ ek
+  lent_long = length-take-le k w.slots (omega (arith, long, ek)) ∙ ek
 
   same : open_words s (take d w.pool) (take k w.slots) (take h w.heads) w.frames (take u w.setups) ≡ rows_of came
   same = open_same s (take d w.pool) (take h w.heads) w.frames (take u w.setups) (take k w.slots) lent_long
@@ -206,7 +201,7 @@ module _ (w : Store) (s : Settings) (d k h u : ℕ) (o : OpenedRows) (after : St
 
 -- ---- a call
 
-module _ (w : Store) (call : Call) (d k h u : ℕ) (r : Called) (known : Is T.the_row w (LL.vals T.the_type T'.the_laws w)) (tended : Tended w)
+module _ (w : Store) (call : Call) (d k h u : ℕ) (r : Called) (known : Known w) (tended : Tended w)
     (ed : d ≡ records_lent w.core.settings) (ek : k ≡ slots_lent w.core.settings) (eh : h ≡ words_lent w.core.settings) (eu : u ≡ bytes_lent w.core.settings)
     (er : called_at k r ≡ call_lent w.core w.pool w.slots w.heads w.frames w.setups d k h u call)
     (lent : LentCall w.core w.pool w.slots w.heads w.frames w.setups d k h u r.store) where

@@ -1,6 +1,5 @@
 -- What is promised of a store.
-use Rattle.std.specs.Prelude.{◌≡◌, ℕ, min, true}
-use mathlib.Core.Path.{refl, sym, ap, ◌∙◌}
+use Rattle.std.specs.Prelude.{◌≡◌, true}
 use native.Mathlib.Omega.{arith}
 use Rattle.common.specs.declared.answer.Answer.{Answer}
 use Rattle.common.specs.declared.answer.Answer.TheVariants.{Refused}

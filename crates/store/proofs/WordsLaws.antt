@@ -1,13 +1,13 @@
 -- A call on a tended store does what it does on the plain state that the words stand for: neither refuses what the other lets in.
-use Rattle.std.specs.Prelude.{◌≡◌, ℕ, ◌^◌, ◌<◌, Bool, true, false, ◌&&◌, List, length, get_or}
-use mathlib.Core.Path.{refl, sym, ap, subst, ◌∙◌}
+use Rattle.std.specs.Prelude.{◌≡◌, ℕ, ◌^◌, ◌<◌, Bool, true, false, List, length, get_or}
+use mathlib.Core.Path.{refl, sym, ◌∙◌}
 use Rattle.bitset.specs.Places.{Words}
 use Rattle.common.proofs.TestLaws.{both_makes, false_true}
 use Rattle.descriptor.specs.declared.qtd.QueueTransferDescriptor.{QueueTransferDescriptor as Record}
 use Rattle.state.specs.Ranges.{in_ranges}
 use Rattle.words.specs.declared.core.Core.{Core}
 use Rattle.words.specs.declared.core.Rest.{Rest}
-use Rattle.words.specs.Good.{Good, Tidy}
+use Rattle.words.specs.Good.{Tidy}
 use Rattle.words.specs.View.{state_of, view}
 use Rattle.word_ranges.specs.Judge.{words_good}
 use Rattle.word_ranges.proofs.JudgeLaws.{accepted}

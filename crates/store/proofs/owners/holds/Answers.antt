@@ -1,4 +1,3 @@
-use borrow.Author.Rules.{rules}
 use Rattle.words.specs.View.{holds_bit}
 use Rattle.store.proofs.owners.holds.Goals as goal
 

@@ -1,9 +1,5 @@
 use Rattle.std.specs.Prelude.{◌≡◌, ◌-◌, ◌≤◌}
-use mathlib.Core.Path.{refl}
-use native.Mathlib.Omega.{arith}
-use borrow.Author.Rules.{rules}
 use Rattle.words.specs.View.{owner_from}
-use Rattle.store.proofs.OwnersLaws.{owner_done, owner_turn_lem}
 use Rattle.store.proofs.owners.owner_of.Given as goal
 
 abbrev pub invariant-loop-k : goal.invariant-loop-k

@@ -1,9 +1,5 @@
 use Rattle.std.specs.Prelude.{◌-◌, ◌≤◌}
-use mathlib.Core.Path.{refl}
-use native.Mathlib.Omega.{arith}
-use lib.ListN.{length-replicate}
-use borrow.Author.Rules.{rules}
-use Rattle.store.proofs.OwnersLaws.{RowTo, row_done, row_turn}
+use Rattle.store.proofs.OwnersLaws.{RowTo}
 use Rattle.store.proofs.owners.owner_row.Given as goal
 
 abbrev pub invariant-loop-i : goal.invariant-loop-i
