@@ -4,7 +4,7 @@ use mathlib.Core.Path.{subst, sym}
 use Rattle.common.specs.declared.answer.Refusal.TheVariants.{InvalidParameter}
 use Rattle.register.specs.Writes.{no_writes}
 use Rattle.state.specs.Plain.{Ehci}
-use Rattle.words.specs.declared.core.Core.{Core}
+use Rattle.words.specs.declared.cores.Core.{Core}
 use Rattle.controller.specs.Plain.{Allotment as Allotted}
 use Rattle.controller.specs.declared.calls.Allotment.{Allotment}
 use Rattle.controller.specs.Words.{allotted_view}

@@ -2,7 +2,7 @@
 use Rattle.std.specs.Prelude.{◌≡◌, ℕ, Bool, List}
 use mathlib.Core.Path.{ap, subst, sym, ◌∙◌}
 use Rattle.descriptor.specs.declared.qtd.QueueTransferDescriptor.{QueueTransferDescriptor as Record}
-use Rattle.words.specs.declared.core.Core.{Core}
+use Rattle.words.specs.declared.cores.Core.{Core}
 use Rattle.ehci.specs.declared.call.Call.{Call}
 use Rattle.ehci.specs.declared.reply.Reply.{Reply}
 use Rattle.ehci.specs.Door.{applied}

@@ -2,8 +2,8 @@
 use Rattle.std.specs.Prelude.{ℕ, List}
 use mathlib.Core.Path.{ap}
 use Rattle.state.specs.Plain.{Ehci}
-use Rattle.words.specs.declared.core.Core.{Core}
-use Rattle.words.specs.declared.core.Rest.{Rest}
+use Rattle.words.specs.declared.cores.Core.{Core}
+use Rattle.words.specs.declared.cores.Rest.{Rest}
 use Rattle.direct_calls.specs.Shapes.{CoreCall, FramesCall, HeadsCall, SlotsCall}
 use Rattle.bench_port.specs.declared.numbers.Replied.{Replied}
 

@@ -2,7 +2,7 @@
 use Rattle.std.specs.Prelude.{◌≡◌, ℕ, List}
 use mathlib.Core.Path.{ap, ◌∙◌}
 use Rattle.register.specs.declared.writes.Writes.{Writes}
-use Rattle.words.specs.declared.core.Rest.{Rest}
+use Rattle.words.specs.declared.cores.Rest.{Rest}
 use Rattle.ehci.specs.declared.reply.Answered.{Answered}
 use Rattle.ehci.specs.Replies.{answered_number}
 use Rattle.bench_port.specs.declared.numbers.Replied.{Replied}

@@ -5,7 +5,7 @@ use Rattle.common.specs.declared.answer.Refusal.TheVariants.{InvalidParameter}
 use Rattle.common.specs.declared.kinds.EndpointType.{EndpointType}
 use Rattle.register.specs.Writes.{no_writes}
 use Rattle.state.specs.Plain.{Ehci}
-use Rattle.words.specs.declared.core.Core.{Core}
+use Rattle.words.specs.declared.cores.Core.{Core}
 use Rattle.endpoint.specs.Calls.{ChangeLeft, OpenLeft, change_left, open_left}
 use Rattle.endpoint.specs.Plain.{Change as Changed}
 use Rattle.endpoint.specs.declared.calls.Change.{Change}

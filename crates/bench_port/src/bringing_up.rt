@@ -10,7 +10,7 @@ use crate::numbers::{Replied, pack};
 use bring_up::answers::BroughtUp;
 use direct_calls::bringing_up::{bring_up_step, start_bring_up};
 use ehci::reply::brought_answer;
-use words::core::Core;
+use words::cores::Core;
 
 fn pack_brought(x: BroughtUp) -> Replied
     ensures { result ≡ pack_of x.rest (brought_answer x.answer x.read x.wait) x.writes }

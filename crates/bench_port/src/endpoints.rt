@@ -19,7 +19,7 @@ use ehci::reply::{allotted_answer, opened_answer, simple};
 use endpoint::calls::{Change, EndpointOpening};
 use pipe::endpoints::kind_of;
 use register::writes::Writes;
-use words::core::Core;
+use words::cores::Core;
 
 fn pack_allotted(x: Allotment) -> Replied
     ensures { result ≡ pack_of x.rest (allotted_answer x.answer) no_writes }

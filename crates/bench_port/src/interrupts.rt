@@ -11,7 +11,7 @@ use crate::numbers::{Replied, pack};
 use direct_calls::interrupts::{acknowledge, disable, drain, enable, rearm};
 use ehci::reply::{acknowledged_answer, drained_answer, simple};
 use interrupt::answers::{Acknowledgement, Drainage, Settled};
-use words::core::Core;
+use words::cores::Core;
 
 fn pack_acknowledged(x: Acknowledgement) -> Replied
     ensures { result ≡ pack_of x.rest (acknowledged_answer x.answer) x.writes }

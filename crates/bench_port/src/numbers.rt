@@ -5,7 +5,7 @@ ghost use Rattle.bench_port.specs.Numbers.{register_number, given_number, value_
 use common::reads::NextRead;
 use ehci::reply::{Answered, Given, Reply, event_number};
 use register::writes::{Write, Writes};
-use words::core::Rest;
+use words::cores::Rest;
 
 // Beyond every register's offset.
 pub const NO_REGISTER: u64 = 0x1_0000_0000;

@@ -7,7 +7,7 @@ use descriptor::qtd::QueueTransferDescriptor;
 use opening::hub::EhciRootHub;
 use opening::open::{Opening, open};
 use settings::settings::Settings;
-use words::core::Core;
+use words::cores::Core;
 
 #[repr(C)]
 #[derive(Clone, Copy)]

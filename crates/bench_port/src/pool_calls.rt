@@ -11,7 +11,7 @@ use ehci::call::Call;
 use ehci::door::apply;
 use pipe::endpoints::{direction_of, kind_of};
 use request::judge::TransferRequest;
-use words::core::Core;
+use words::cores::Core;
 
 fn submit_call(
     slot: u8,

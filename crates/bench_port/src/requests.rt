@@ -12,7 +12,7 @@ use collection::answers::Cancellation;
 use controller::lent::Readings;
 use direct_calls::requests::cancel;
 use ehci::reply::simple;
-use words::core::Core;
+use words::cores::Core;
 
 fn pack_cancelled(x: Cancellation) -> Replied
     ensures { result ≡ pack_of x.rest (simply x.answer) x.writes }

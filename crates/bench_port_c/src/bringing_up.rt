@@ -5,7 +5,7 @@ ghost use Rattle.bench_port.specs.Numbers.{refused_numbers};
 ghost use Rattle.bench_port.specs.Border.{seen_brought, seen_in};
 
 use bench_port::numbers::Replied;
-use words::core::Core;
+use words::cores::Core;
 
 #[unsafe(no_mangle)]
 pub extern "C" fn port_start_bring_up(core: Core, slots: &[u64]) -> Replied

@@ -8,7 +8,7 @@ ghost use Rattle.bench_port.specs.Numbers.{refused_numbers};
 ghost use Rattle.bench_port.specs.Border.{beside_heads, seen_allotted, seen_change, seen_changed, seen_in, seen_opened};
 
 use bench_port::numbers::Replied;
-use words::core::Core;
+use words::cores::Core;
 
 #[unsafe(no_mangle)]
 pub extern "C" fn port_allocate_address(core: Core) -> Replied

@@ -6,7 +6,7 @@ ghost use Rattle.bench_port.specs.Numbers.{refused_numbers};
 ghost use Rattle.bench_port.specs.Border.{seen_acknowledged, seen_drained, seen_in, seen_settled};
 
 use bench_port::numbers::Replied;
-use words::core::Core;
+use words::cores::Core;
 
 // A flag is any number but 0.
 #[unsafe(no_mangle)]

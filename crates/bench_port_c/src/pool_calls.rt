@@ -6,7 +6,7 @@ ghost use Rattle.bench_port.specs.Border.{beside_rows, collect_of, seen_applied,
 
 use bench_port::numbers::Replied;
 use descriptor::qtd::QueueTransferDescriptor;
-use words::core::Core;
+use words::cores::Core;
 
 #[unsafe(no_mangle)]
 pub extern "C" fn port_submit(

@@ -6,7 +6,7 @@ ghost use Rattle.bench_port.specs.Numbers.{refused_numbers};
 ghost use Rattle.bench_port.specs.Border.{beside_links, readings_of, seen_cancelled, seen_in};
 
 use bench_port::numbers::Replied;
-use words::core::Core;
+use words::cores::Core;
 
 #[unsafe(no_mangle)]
 pub extern "C" fn port_cancel(

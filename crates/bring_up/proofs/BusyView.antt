@@ -6,7 +6,7 @@ use native.Mathlib.Omega.{arith}
 use Rattle.common.proofs.TestLaws.{either_assoc}
 use Rattle.settings.specs.declared.settings.Settings.{Settings}
 use Rattle.controller.specs.Readers.{is_uncollected}
-use Rattle.words.specs.declared.core.Rest.{Rest}
+use Rattle.words.specs.declared.cores.Rest.{Rest}
 use Rattle.words.specs.Good.{Good}
 use Rattle.words.specs.Record.{phase_in, word_at}
 use Rattle.words.specs.View.{state_of}

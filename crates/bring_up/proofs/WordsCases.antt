@@ -9,8 +9,8 @@ use Rattle.common.specs.declared.answer.Refusal.TheVariants.{InvalidParameter, Q
 use Rattle.common.specs.declared.reads.NextRead.TheVariants.{Register}
 use Rattle.state.specs.Ranges.{in_ranges}
 use Rattle.state.specs.State.{with_bring_up}
-use Rattle.words.specs.declared.core.Core.{Core}
-use Rattle.words.specs.declared.core.Rest.{Rest}
+use Rattle.words.specs.declared.cores.Core.{Core}
+use Rattle.words.specs.declared.cores.Rest.{Rest}
 use Rattle.words.specs.Good.{Good}
 use Rattle.words.specs.Rest.{rest_with_bring_up}
 use Rattle.words.specs.View.{state_of, view}

@@ -5,7 +5,7 @@ use Rattle.settings.specs.declared.settings.Settings.{Settings}
 use Rattle.common.specs.declared.answer.Answer.TheVariants.{Refused}
 use Rattle.common.specs.declared.answer.Refusal.{Refusal}
 use Rattle.common.specs.declared.reads.NextRead.TheVariants.{Nothing}
-use Rattle.words.specs.declared.core.Rest.{Rest}
+use Rattle.words.specs.declared.cores.Rest.{Rest}
 use Rattle.words.specs.Record.{phase_in, word_at}
 use Rattle.words.specs.View.{state_of}
 use Rattle.bring_up.specs.Plain.{BroughtUp}

@@ -2,7 +2,7 @@
 use common::answer::Answer;
 use common::reads::NextRead;
 use register::writes::Writes;
-use words::core::Rest;
+use words::cores::Rest;
 
 // Its writes, then the milliseconds to wait, then the register to read.
 #[derive(Clone, Copy)]

@@ -13,7 +13,7 @@ use common::answer::{Answer, Refusal};
 use common::reads::NextRead;
 use register::operational::{USBCMD, USBINTR};
 use register::writes::Writes;
-use words::core::{Core, Rest};
+use words::cores::{Core, Rest};
 
 pub fn refuse(rest: Rest, refusal: Refusal) -> BroughtUp
     ensures { result ≡ refused_words rest refusal }

@@ -4,7 +4,7 @@ use mathlib.Core.Path.{refl, ap}
 use Rattle.controller.proofs.WordsLaws.{free_viewed}
 use Rattle.register.specs.declared.writes.Writes.{Writes}
 use Rattle.settings.proofs.SettingsLaws.{good_tells}
-use Rattle.words.specs.declared.core.Core.{Core}
+use Rattle.words.specs.declared.cores.Core.{Core}
 use Rattle.words.specs.View.{state_of, view}
 use Rattle.call_log.specs.declared.block.Rows.{Rows}
 use Rattle.call_log.specs.declared.lines.Seen.{Seen}

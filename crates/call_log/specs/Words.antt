@@ -4,7 +4,7 @@ use Rattle.bitset.specs.Places.{set_places}
 use Rattle.register.specs.declared.writes.Writes.{Writes}
 use Rattle.settings.specs.Settings.{settings_good}
 use Rattle.text.specs.Text.{only_if}
-use Rattle.words.specs.declared.core.Core.{Core}
+use Rattle.words.specs.declared.cores.Core.{Core}
 use Rattle.words.specs.Good.{Tidy}
 use Rattle.call_log.specs.declared.block.Rows.{Rows}
 use Rattle.call_log.specs.declared.lines.Seen.{Seen}

@@ -18,7 +18,7 @@ use crate::writes::put_writes;
 use descriptor::qtd::QueueTransferDescriptor;
 use register::writes::Writes;
 use text::digits::put;
-use words::core::Core;
+use words::cores::Core;
 
 // The rows and the ports' states, before a call or after it.
 #[derive(Clone, Copy)]

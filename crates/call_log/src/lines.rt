@@ -16,7 +16,7 @@ ghost use Rattle.call_log.specs.Words.{shown_in};
 use crate::line::{Cell, Line, Part};
 use controller::readers::free_count;
 use descriptor::qtd::QueueTransferDescriptor;
-use words::core::Core;
+use words::cores::Core;
 
 pub fn line_of_two(letter: u8, a: Part, b: Part) -> Line
     ensures { line_bytes result ≡ said_line letter (a ∷ b ∷ []) }

@@ -16,7 +16,7 @@ use Rattle.pool.specs.declared.asked.AskWords.{AskWords}
 use Rattle.pool.proofs.Each.{each_map}
 use Rattle.pool.proofs.PlaceLaws.{places_within}
 use Rattle.pool.proofs.WordLaws.{no_ask_words_good, no_places_lem}
-use Rattle.words.specs.declared.core.Rest.{Rest}
+use Rattle.words.specs.declared.cores.Rest.{Rest}
 use Rattle.words.specs.Good.{Good}
 use Rattle.words.specs.Record.{places_at}
 use Rattle.words.specs.View.{state_of}

@@ -4,7 +4,7 @@ use mathlib.Core.Path.{refl, sym}
 use Rattle.common.specs.declared.answer.Refusal.TheVariants.{InvalidEndpoint, InvalidParameter}
 use Rattle.settings.specs.declared.settings.Settings.{Settings}
 use Rattle.pool.specs.declared.chain.View.{View}
-use Rattle.words.specs.declared.core.Rest.{Rest}
+use Rattle.words.specs.declared.cores.Rest.{Rest}
 use Rattle.words.specs.Good.{Good}
 use Rattle.words.specs.View.{state_of}
 use Rattle.pipe.specs.Endpoints.{endpoint_at}

@@ -12,7 +12,7 @@ use Rattle.settings.specs.declared.settings.Settings.{Settings}
 use Rattle.state.specs.Plain.{Ehci}
 use Rattle.state.specs.State.{with_owner}
 use Rattle.pool.specs.declared.chain.View.{View}
-use Rattle.words.specs.declared.core.Rest.{Rest}
+use Rattle.words.specs.declared.cores.Rest.{Rest}
 use Rattle.words.specs.Good.{Good, Tidy, no_places}
 use Rattle.words.specs.Record.{SlotFits, places_at, put_places, put_slot}
 use Rattle.words.specs.Rest.{rest_with_bell, rest_with_free}

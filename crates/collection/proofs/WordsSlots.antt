@@ -9,7 +9,7 @@ use Rattle.settings.specs.declared.settings.Settings.{Settings}
 use Rattle.state.specs.Plain.{Ehci}
 use Rattle.slot.specs.Ids.{after_id}
 use Rattle.slot.specs.declared.slot.Slot.{Slot}
-use Rattle.words.specs.declared.core.Rest.{Rest}
+use Rattle.words.specs.declared.cores.Rest.{Rest}
 use Rattle.words.specs.Good.{Good}
 use Rattle.words.specs.Record.{SlotFits, put_slot}
 use Rattle.words.specs.View.{state_of}

@@ -14,7 +14,7 @@ use Rattle.pipe.specs.Endpoints.{endpoint_at, limit_of}
 use Rattle.pipe.specs.declared.endpoints.Endpoint.TheVariants.{Linked}
 use Rattle.pipe.specs.declared.endpoints.Pipe.{Pipe}
 use Rattle.pipe.specs.declared.endpoints.Request.{Request}
-use Rattle.words.specs.declared.core.Rest.{Rest}
+use Rattle.words.specs.declared.cores.Rest.{Rest}
 use Rattle.words.specs.Record.{places_at}
 use Rattle.words.specs.View.{state_of}
 use Rattle.collection.specs.Plain.{Cancellation}

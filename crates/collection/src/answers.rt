@@ -5,7 +5,7 @@ ghost use Rattle.collection.specs.Words.{refused_cancel_words, refused_collect_w
 use crate::collected::Collected;
 use common::answer::{Answer, Refusal};
 use register::writes::Writes;
-use words::core::Rest;
+use words::cores::Rest;
 
 // What a cancel leaves, and an unlink.
 #[derive(Clone, Copy)]

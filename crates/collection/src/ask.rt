@@ -11,7 +11,7 @@ use pipe::endpoints::{Endpoint, Pipe, Request};
 use pipe::slots::{endpoint_at, limit_of};
 use pool::asked::{AskWords, no_ask_words};
 use pool::transfer::ends_short;
-use words::core::Core;
+use words::cores::Core;
 use words::row::places_at;
 
 fn ask_for(core: Core, slots: &[u64], slot: u8, p: Pipe, r: Request) -> AskWords

@@ -15,7 +15,7 @@ use controller::lent::Readings;
 use pipe::endpoints::Endpoint;
 use pipe::slots::endpoint_at;
 use pool::chain::View;
-use words::core::Core;
+use words::cores::Core;
 
 // As many unlinks as there are slots: none can be that of a slot that is still linked.
 pub const UNLINKS: u8 = 32;

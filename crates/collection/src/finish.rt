@@ -20,7 +20,7 @@ use pool::chain::{STANDS_ACTIVE, View};
 use register::writes::Writes;
 use schedule::links::end_overlay;
 use token::overlay::kept_toggle;
-use words::core::Core;
+use words::cores::Core;
 use words::row::{places_at, put_places};
 
 // The slot is idle again with the toggle that the controller left, its descriptors are free.

@@ -20,7 +20,7 @@ use pipe::slots::put_endpoint;
 use register::writes::Writes;
 use schedule::bell::{Bell, Rung, frame_of, frames_passed, unlinked};
 use schedule::links::{Predecessor, detach, head_address};
-use words::core::Core;
+use words::cores::Core;
 
 // The boundary of a request that is unlinked, and the doorbell then.
 #[derive(Clone, Copy)]

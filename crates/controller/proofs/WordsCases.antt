@@ -8,7 +8,7 @@ use Rattle.bitset.specs.Places.{has_place as inPlaces}
 use Rattle.settings.specs.declared.settings.Settings.{Settings}
 use Rattle.state.specs.Ranges.{in_ranges}
 use Rattle.state.specs.State.{with_next_address}
-use Rattle.words.specs.declared.core.Rest.{Rest}
+use Rattle.words.specs.declared.cores.Rest.{Rest}
 use Rattle.words.specs.Good.{Good}
 use Rattle.words.specs.Record.{last_at, phase_in, places_at, slot_in, word_at}
 use Rattle.words.specs.Rest.{rest_with_next_address}

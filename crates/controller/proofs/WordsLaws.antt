@@ -4,7 +4,7 @@ use mathlib.Core.Path.{refl, sym, ◌∙◌}
 use borrow.Author.Tests.{eq-eqb, eqb-false, eqb-true, le-ltb, ltb-false, ltb-true, ne_eqb}
 use Rattle.bitset.specs.Places.{has_place as inPlaces, set_places}
 use Rattle.settings.specs.declared.settings.Settings.{Settings}
-use Rattle.words.specs.declared.core.Rest.{Rest}
+use Rattle.words.specs.declared.cores.Rest.{Rest}
 use Rattle.words.specs.Good.{Good, Tidy}
 use Rattle.words.specs.Record.{places_at}
 use Rattle.words.specs.View.{holds_bit, state_of}

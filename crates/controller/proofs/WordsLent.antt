@@ -5,7 +5,7 @@ use Rattle.settings.specs.declared.settings.Settings.{Settings}
 use Rattle.settings.specs.Settings.{pool_length}
 use Rattle.opening.specs.Opening.{rows_are_fit}
 use Rattle.opening.proofs.OpenLaws.{rows_make}
-use Rattle.words.specs.declared.core.Rest.{Rest}
+use Rattle.words.specs.declared.cores.Rest.{Rest}
 use Rattle.words.specs.Good.{Good}
 use Rattle.words.specs.View.{state_of}
 use Rattle.controller.specs.Lent.{accepts_of, lengths}

@@ -6,7 +6,7 @@ ghost use Rattle.controller.specs.Address.{allot_of};
 ghost use Rattle.controller.specs.Words.{allotted_view};
 
 use common::answer::Refusal;
-use words::core::{Core, Rest};
+use words::cores::{Core, Rest};
 
 #[derive(Clone, Copy)]
 pub enum Allotted {

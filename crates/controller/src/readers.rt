@@ -6,7 +6,7 @@ ghost use Rattle.words.specs.Record.{places_at};
 ghost use Rattle.controller.specs.Words.{held_at, open_at};
 
 use bitset::places::{count, has};
-use words::core::Core;
+use words::cores::Core;
 use words::row::{RECORD, word_at};
 
 // The number of free descriptors.

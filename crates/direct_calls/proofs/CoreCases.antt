@@ -8,8 +8,8 @@ use Rattle.settings.specs.Settings.{settings_good}
 use Rattle.settings.proofs.SettingsLaws.{good_tells}
 use Rattle.state.specs.Plain.{Ehci}
 use Rattle.state.specs.Ranges.{in_ranges, machine_good}
-use Rattle.words.specs.declared.core.Core.{Core}
-use Rattle.words.specs.declared.core.Rest.{Rest}
+use Rattle.words.specs.declared.cores.Core.{Core}
+use Rattle.words.specs.declared.cores.Rest.{Rest}
 use Rattle.words.specs.View.{state_of, view}
 use Rattle.word_ranges.specs.Judge.{bare_state, core_good, scalars_good}
 use Rattle.word_ranges.proofs.CoreLaws.{ranges_core}

@@ -4,8 +4,8 @@ use mathlib.Core.Path.{refl, sym, ◌∙◌}
 use borrow.Author.Tests.{not-false, not-true}
 use Rattle.common.proofs.TestLaws.{false_true}
 use Rattle.state.specs.Plain.{Ehci}
-use Rattle.words.specs.declared.core.Core.{Core}
-use Rattle.words.specs.declared.core.Rest.{Rest}
+use Rattle.words.specs.declared.cores.Core.{Core}
+use Rattle.words.specs.declared.cores.Rest.{Rest}
 use Rattle.words.specs.Good.{Good, Tidy}
 use Rattle.words.specs.View.{view}
 use Rattle.words.proofs.TidyLaws.{tidy_rest}

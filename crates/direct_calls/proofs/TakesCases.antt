@@ -3,7 +3,7 @@ use Rattle.std.specs.Prelude.{◌≡◌, ℕ, ◌+◌, ◌*◌, Bool, true, fals
 use mathlib.Core.Path.{sym, ◌∙◌}
 use borrow.Author.Tests.{eq-eqb, eqb-true, ne_eqb, not-false}
 use Rattle.common.proofs.TestLaws.{both_tells}
-use Rattle.words.specs.declared.core.Core.{Core}
+use Rattle.words.specs.declared.cores.Core.{Core}
 use Rattle.words.specs.Good.{Good}
 use Rattle.word_ranges.specs.Judge.{words_good}
 use Rattle.word_ranges.proofs.JudgeLaws.{judged}

@@ -2,7 +2,7 @@
 use Rattle.common.specs.declared.answer.Answer.TheVariants.{Refused as RefusedCall}
 use Rattle.common.specs.declared.answer.Refusal.TheVariants.{InvalidParameter}
 use Rattle.register.specs.Writes.{no_writes}
-use Rattle.words.specs.declared.core.Rest.{Rest}
+use Rattle.words.specs.declared.cores.Rest.{Rest}
 use Rattle.controller.specs.declared.calls.Allotted.TheVariants.{Refused as RefusedAllotted}
 use Rattle.controller.specs.declared.calls.Allotment.{Allotment}
 use Rattle.endpoint.specs.declared.calls.Opened.TheVariants.{Refused as RefusedOpened}

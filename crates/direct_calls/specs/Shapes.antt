@@ -4,8 +4,8 @@ use Rattle.std.specs.Prelude.{◌≡◌, ℕ, ◌+◌, ◌*◌, Bool, true, fals
 use Rattle.opening.specs.Opening.{rows_are_fit}
 use Rattle.state.specs.Plain.{Ehci}
 use Rattle.state.specs.Ranges.{in_ranges}
-use Rattle.words.specs.declared.core.Core.{Core}
-use Rattle.words.specs.declared.core.Rest.{Rest}
+use Rattle.words.specs.declared.cores.Core.{Core}
+use Rattle.words.specs.declared.cores.Rest.{Rest}
 use Rattle.words.specs.Good.{Tidy}
 use Rattle.words.specs.View.{view}
 use Rattle.word_ranges.specs.Judge.{core_good, words_good}

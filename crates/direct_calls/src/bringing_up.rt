@@ -10,7 +10,7 @@ use bring_up::calls::refuse;
 use common::answer::Refusal;
 use word_ranges::judge::words_good;
 use word_ranges::scalars::core_good;
-use words::core::Core;
+use words::cores::Core;
 
 pub fn start_bring_up(core: Core, slots: &[u64]) -> BroughtUp
     ensures { SlotsCall core slots.now slots.now result (refused_words core.rest InvalidParameter) result.rest

@@ -15,7 +15,7 @@ use controller::calls::{Allotment, Allotted};
 use endpoint::calls::{Change, EndpointOpening, Opened};
 use word_ranges::judge::words_good;
 use word_ranges::scalars::core_good;
-use words::core::{Core, Rest};
+use words::cores::{Core, Rest};
 
 pub fn allocate_address(core: Core) -> Allotment
     ensures { CoreCall core result (refused_allotment core.rest) result.rest (allotted_view core.settings result) allot_of }

@@ -10,7 +10,7 @@ use interrupt::answers::{Acknowledged, Acknowledgement, Drainage, Drained, Settl
 use register::writes::Writes;
 use word_ranges::judge::words_good;
 use word_ranges::scalars::core_good;
-use words::core::{Core, Rest};
+use words::cores::{Core, Rest};
 
 // What rearm, enable and disable leave of a core that is not in its ranges.
 fn refuse(rest: Rest) -> Settled

@@ -11,7 +11,7 @@ use crate::takes::takes_frames;
 use collection::answers::{Cancellation, refuse_cancel};
 use common::answer::Refusal;
 use controller::lent::Readings;
-use words::core::Core;
+use words::cores::Core;
 
 pub fn cancel(
     core: Core,

@@ -5,7 +5,7 @@ ghost use Rattle.direct_calls.specs.Shapes.{takes_frames, takes_heads};
 use opening::heads::HEAD_WORDS;
 use opening::open::FRAMES;
 use word_ranges::judge::words_good;
-use words::core::Core;
+use words::cores::Core;
 
 pub fn takes_heads(core: Core, slots: &[u64], heads: &[u32]) -> bool
     ensures { result ≡ takes_heads core slots.now (length heads.now) }

@@ -12,7 +12,7 @@ use Rattle.pool.specs.declared.chain.View.{View}
 use Rattle.pool.specs.declared.writing.Writing.{Writing}
 use Rattle.pool.proofs.ChainLaws.{fill_no_chain}
 use Rattle.opening.specs.Opening.{rows_are_fit}
-use Rattle.words.specs.declared.core.Core.{Core}
+use Rattle.words.specs.declared.cores.Core.{Core}
 use Rattle.words.specs.View.{view}
 use Rattle.word_ranges.specs.Judge.{words_good}
 use Rattle.word_ranges.proofs.JudgeLaws.{judged}

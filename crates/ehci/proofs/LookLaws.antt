@@ -9,7 +9,7 @@ use Rattle.pool.proofs.WordLaws.{no_ask_words_good}
 use Rattle.settings.specs.Settings.{pool_length}
 use Rattle.opening.specs.Opening.{rows_are_fit}
 use Rattle.opening.proofs.OpenLaws.{rows_tell}
-use Rattle.words.specs.declared.core.Core.{Core}
+use Rattle.words.specs.declared.cores.Core.{Core}
 use Rattle.words.specs.Good.{Good}
 use Rattle.words.specs.View.{view}
 use Rattle.word_ranges.specs.Judge.{words_good}

@@ -9,7 +9,7 @@ use Rattle.common.proofs.TestLaws.{false_true}
 use Rattle.settings.specs.Settings.{pool_length}
 use Rattle.opening.specs.Opening.{rows_are_fit}
 use Rattle.opening.proofs.OpenLaws.{rows_tell}
-use Rattle.words.specs.declared.core.Core.{Core}
+use Rattle.words.specs.declared.cores.Core.{Core}
 use Rattle.words.specs.Good.{Good, Tidy}
 use Rattle.words.specs.View.{state_of, view}
 use Rattle.words.proofs.GoodLaws.{good_numbers, good_settings}

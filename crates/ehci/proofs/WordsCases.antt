@@ -11,8 +11,8 @@ use Rattle.settings.specs.declared.settings.Settings.{Settings}
 use Rattle.settings.specs.Settings.{pool_length}
 use Rattle.state.specs.Ranges.{in_ranges}
 use Rattle.opening.specs.Opening.{rows_are_fit}
-use Rattle.words.specs.declared.core.Core.{Core}
-use Rattle.words.specs.declared.core.Rest.{Rest}
+use Rattle.words.specs.declared.cores.Core.{Core}
+use Rattle.words.specs.declared.cores.Rest.{Rest}
 use Rattle.words.specs.Good.{Good, Tidy}
 use Rattle.words.specs.View.{state_of, view}
 use Rattle.controller.specs.Address.{allot_of}

@@ -14,8 +14,8 @@ use Rattle.pool.specs.declared.marking.Marking.{Marking}
 use Rattle.pool.specs.declared.writing.Writing.{Writing}
 use Rattle.settings.specs.declared.settings.Settings.{Settings}
 use Rattle.settings.specs.Settings.{pool_length}
-use Rattle.words.specs.declared.core.Core.{Core}
-use Rattle.words.specs.declared.core.Rest.{Rest}
+use Rattle.words.specs.declared.cores.Core.{Core}
+use Rattle.words.specs.declared.cores.Rest.{Rest}
 use Rattle.words.specs.Good.{Tidy}
 use Rattle.words.specs.View.{view}
 use Rattle.bring_up.specs.declared.answers.BroughtUp.{BroughtUp}

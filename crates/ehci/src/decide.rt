@@ -29,7 +29,7 @@ use register::writes::Writes;
 use request::judge::TransferRequest;
 use request::submit::submit;
 use request::writeback::writeback;
-use words::core::Core;
+use words::cores::Core;
 
 fn on_allocate(core: Core) -> Decided
     ensures by_index { (ws : List ℕ) → in_ranges (view core ws) ≡ true → decided_view core.settings result ws ≡ allot_decided (view core ws) }

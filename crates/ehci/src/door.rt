@@ -10,7 +10,7 @@ use crate::reply::{Decided, Reply};
 use descriptor::qtd::QueueTransferDescriptor;
 use pool::asked::{AskWords, fold_places};
 use pool::writing::{Writing, write};
-use words::core::Core;
+use words::cores::Core;
 
 fn ask_of(looked: Looked) -> AskWords
     ensures { result ≡ looked.ask }

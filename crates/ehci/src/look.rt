@@ -9,7 +9,7 @@ use collection::ask::ask;
 use opening::open::rows_fit;
 use pool::asked::{AskWords, no_ask_words};
 use word_ranges::judge::words_good;
-use words::core::Core;
+use words::cores::Core;
 
 #[derive(Clone, Copy)]
 pub struct Looked {

@@ -15,7 +15,7 @@ use pool::marking::{Marking, no_marking};
 use pool::writing::{Writing, no_writing};
 use register::writes::Writes;
 use request::answers::Submission;
-use words::core::Rest;
+use words::cores::Rest;
 
 // What a drain came to.
 #[derive(Clone, Copy)]

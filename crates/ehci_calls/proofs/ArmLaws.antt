@@ -10,8 +10,8 @@ use Rattle.state.specs.Plain.{Ehci}
 use Rattle.state.specs.Ranges.{in_ranges}
 use Rattle.opening.specs.Opening.{rows_are_fit}
 use Rattle.opening.proofs.OpenLaws.{rows_tell}
-use Rattle.words.specs.declared.core.Core.{Core}
-use Rattle.words.specs.declared.core.Rest.{Rest}
+use Rattle.words.specs.declared.cores.Core.{Core}
+use Rattle.words.specs.declared.cores.Rest.{Rest}
 use Rattle.words.specs.View.{state_of, view}
 use Rattle.word_ranges.specs.Judge.{words_good}
 use Rattle.word_ranges.proofs.CoreLaws.{ranges_core}

@@ -2,7 +2,7 @@
 use Rattle.std.specs.Prelude.{ℕ, List}
 use mathlib.Core.Path.{refl}
 use Rattle.common.specs.declared.answer.Refusal.TheVariants.{InvalidParameter}
-use Rattle.words.specs.declared.core.Core.{Core}
+use Rattle.words.specs.declared.cores.Core.{Core}
 use Rattle.words.specs.View.{view}
 use Rattle.controller.specs.Address.{allot_of}
 use Rattle.controller.specs.Words.{allotted_view}

@@ -11,8 +11,8 @@ use Rattle.state.specs.Plain.{Ehci}
 use Rattle.state.specs.Ranges.{in_ranges, owner_good}
 use Rattle.state.specs.Slots.{slot_at}
 use Rattle.state.proofs.RangesLaws.{slot_right, slots_make}
-use Rattle.words.specs.declared.core.Core.{Core}
-use Rattle.words.specs.declared.core.Rest.{Rest}
+use Rattle.words.specs.declared.cores.Core.{Core}
+use Rattle.words.specs.declared.cores.Rest.{Rest}
 use Rattle.words.specs.Opened.{opened_rest, opened_row}
 use Rattle.words.specs.Record.{slot_in}
 use Rattle.words.specs.View.{state_of, view}

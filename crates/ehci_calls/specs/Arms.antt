@@ -5,7 +5,7 @@ use Rattle.common.specs.declared.answer.Refusal.TheVariants.{InvalidParameter}
 use Rattle.register.specs.Writes.{no_writes}
 use Rattle.descriptor.specs.declared.qtd.QueueTransferDescriptor.{QueueTransferDescriptor}
 use Rattle.state.specs.Plain.{Ehci}
-use Rattle.words.specs.declared.core.Core.{Core}
+use Rattle.words.specs.declared.cores.Core.{Core}
 use Rattle.words.specs.Opened.{opened_row}
 use Rattle.words.specs.View.{view}
 use Rattle.controller.specs.declared.calls.Allotment.{Allotment}

@@ -10,7 +10,7 @@ use ehci::call::Call;
 use ehci::door::apply;
 use ehci::reply::Reply;
 use request::judge::TransferRequest;
-use words::core::Core;
+use words::cores::Core;
 
 fn as_submit(slot: u8, request: TransferRequest, readings: Readings) -> Call
     ensures { result ≡ Submit slot request readings }

@@ -10,7 +10,7 @@ use Rattle.common.specs.declared.answer.Refusal.TheVariants.{InvalidParameter, S
 use Rattle.common.specs.Kinds.{is_isochronous}
 use Rattle.settings.specs.declared.settings.Settings.{Settings}
 use Rattle.state.specs.Plain.{Ehci}
-use Rattle.words.specs.declared.core.Rest.{Rest}
+use Rattle.words.specs.declared.cores.Rest.{Rest}
 use Rattle.words.specs.Good.{Good}
 use Rattle.words.specs.Record.{phase_in, word_at}
 use Rattle.words.specs.View.{each_from, state_of}

@@ -16,7 +16,7 @@ use Rattle.slot.specs.Ranges.{size_good}
 use Rattle.slot.specs.declared.slot.Slot.{Slot}
 use Rattle.state.specs.Plain.{Ehci}
 use Rattle.state.specs.Slots.{slot_at}
-use Rattle.words.specs.declared.core.Rest.{Rest}
+use Rattle.words.specs.declared.cores.Rest.{Rest}
 use Rattle.words.specs.Good.{Good, Tidy, no_places}
 use Rattle.words.specs.Record.{SlotFits, id_in, kind_in, last_at, phase_in, places_at, put_slot, slot_in, word_at}
 use Rattle.words.specs.View.{each_from, state_of}

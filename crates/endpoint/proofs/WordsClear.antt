@@ -13,7 +13,7 @@ use Rattle.slot.specs.declared.slot.Slot.{Slot}
 use Rattle.state.specs.Plain.{Ehci}
 use Rattle.state.specs.Ranges.{in_ranges}
 use Rattle.state.specs.Slots.{slot_at}
-use Rattle.words.specs.declared.core.Rest.{Rest}
+use Rattle.words.specs.declared.cores.Rest.{Rest}
 use Rattle.words.specs.Good.{Good, Tidy}
 use Rattle.words.specs.Record.{SlotFits, id_in, last_at, put_slot, size_in, slot_in, word_at}
 use Rattle.words.specs.View.{state_of}

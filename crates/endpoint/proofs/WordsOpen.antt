@@ -9,7 +9,7 @@ use Rattle.opening.specs.Opening.{rows_are_fit}
 use Rattle.settings.specs.declared.settings.Settings.{Settings}
 use Rattle.settings.specs.Settings.{pool_length}
 use Rattle.state.specs.Plain.{Ehci}
-use Rattle.words.specs.declared.core.Rest.{Rest}
+use Rattle.words.specs.declared.cores.Rest.{Rest}
 use Rattle.words.specs.Good.{Good, Tidy, no_places}
 use Rattle.words.specs.Record.{SlotFits, places_at, put_slot}
 use Rattle.words.specs.View.{state_of}

@@ -18,7 +18,7 @@ use descriptor::head::{raised, set_device_address, set_max_packet_size};
 use opening::heads::{CHARACTERISTICS, HEAD_WORDS, put_head};
 use pipe::endpoints::{Endpoint, Pipe, with_toggle};
 use pipe::slots::{pipe_at, put_endpoint};
-use words::core::{Core, Rest};
+use words::cores::{Core, Rest};
 
 #[derive(Clone, Copy)]
 pub enum Opened {

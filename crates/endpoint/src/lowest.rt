@@ -4,7 +4,7 @@ ghost use Rattle.words.specs.Good.{Good};
 ghost use Rattle.words.specs.View.{view};
 ghost use Rattle.endpoint.specs.Calls.{lowest_slot};
 
-use words::core::Core;
+use words::cores::Core;
 use words::row::RECORD;
 
 // The lowest closed slot; the number of slots where none is.

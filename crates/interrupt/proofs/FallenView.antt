@@ -4,7 +4,7 @@ use mathlib.Core.Path.{refl, sym, ◌∙◌}
 use native.Mathlib.Omega.{arith}
 use Rattle.schedule.specs.Bell.{fall_if, fallen_from, fallen_one}
 use Rattle.settings.specs.declared.settings.Settings.{Settings}
-use Rattle.words.specs.declared.core.Rest.{Rest}
+use Rattle.words.specs.declared.cores.Rest.{Rest}
 use Rattle.words.specs.Record.{boundary_in, fallen_word, kind_in, phase_in, word_at}
 use Rattle.words.specs.View.{each_from, state_of}
 use Rattle.words.proofs.FallenLaws.{boundaries_fallen}

@@ -13,8 +13,8 @@ use Rattle.state.specs.State.{with_bell, with_boundaries, with_interrupt}
 use Rattle.state.specs.Plain.{Ehci}
 use Rattle.schedule.specs.Bell.{advanced_of, fallen_from}
 use Rattle.schedule.specs.declared.bell.Rung.{Rung}
-use Rattle.words.specs.declared.core.Core.{Core}
-use Rattle.words.specs.declared.core.Rest.{Rest}
+use Rattle.words.specs.declared.cores.Core.{Core}
+use Rattle.words.specs.declared.cores.Rest.{Rest}
 use Rattle.words.specs.Good.{Good, Tidy}
 use Rattle.words.specs.Record.{fall_to}
 use Rattle.words.specs.Rest.{rest_with_bell, rest_with_interrupt}

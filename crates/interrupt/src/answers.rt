@@ -1,7 +1,7 @@
 // What the interrupt calls answer and leave.
 use common::answer::{Answer, Refusal};
 use register::writes::Writes;
-use words::core::Rest;
+use words::cores::Rest;
 
 #[derive(Clone, Copy)]
 pub enum Acknowledged {

@@ -15,7 +15,7 @@ use common::answer::Answer;
 use register::bits::{any_of, only_bits, with_bits};
 use register::operational::{USBINTR, USBSTS_INTERRUPT_ASYNC_ADVANCE};
 use register::writes::Writes;
-use words::core::Core;
+use words::cores::Core;
 
 // An advance is noted only while the doorbell is up.
 fn noted_after(doorbell: u8, noted: u8, p: u32) -> u8

@@ -12,7 +12,7 @@ use register::operational::{
 };
 use register::writes::Writes;
 use schedule::bell::{Bell, advanced};
-use words::core::{Core, Rest};
+use words::cores::{Core, Rest};
 use words::fall::fall;
 
 pub const ACTIVITY: u32 = USBSTS_USBINT | USBSTS_USBERRINT | USBSTS_INTERRUPT_ASYNC_ADVANCE;

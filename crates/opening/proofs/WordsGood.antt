@@ -8,7 +8,7 @@ use Rattle.descriptor.specs.declared.qtd.QueueTransferDescriptor.{QueueTransferD
 use Rattle.settings.specs.declared.settings.Settings.{Settings}
 use Rattle.settings.specs.Settings.{numbers_good, settings_good}
 use Rattle.state.specs.Ranges.{in_ranges}
-use Rattle.words.specs.declared.core.Core.{Core}
+use Rattle.words.specs.declared.cores.Core.{Core}
 use Rattle.words.specs.Good.{Good}
 use Rattle.words.specs.View.{state_of, view}
 use Rattle.opening.specs.declared.open.Opening.{Opening}

@@ -6,7 +6,7 @@ use Rattle.common.specs.declared.answer.Answer.TheVariants.{Done, Refused}
 use Rattle.descriptor.specs.declared.qtd.QueueTransferDescriptor.{QueueTransferDescriptor as Record}
 use Rattle.settings.specs.declared.settings.Settings.{Settings}
 use Rattle.settings.proofs.SettingsLaws.{good_tells}
-use Rattle.words.specs.declared.core.Core.{Core}
+use Rattle.words.specs.declared.cores.Core.{Core}
 use Rattle.words.proofs.OneLaws.{Typed, view_one}
 use Rattle.opening.specs.declared.open.Opening.{Opening}
 use Rattle.opening.specs.Words.{BlankWords, FreshWords, OpenedRows, OpensWords, open_words, opened_rows}

@@ -8,7 +8,7 @@ use Rattle.common.specs.Answers.{Check, first, settle}
 use Rattle.descriptor.specs.declared.qtd.QueueTransferDescriptor.{QueueTransferDescriptor}
 use Rattle.settings.specs.declared.settings.Settings.{Settings}
 use Rattle.settings.specs.Settings.{heads_length, frames_length, setups_length}
-use Rattle.words.specs.declared.core.Core.{Core}
+use Rattle.words.specs.declared.cores.Core.{Core}
 use Rattle.words.specs.Good.{Tidy}
 use Rattle.words.specs.Opened.{opened_rest, opened_row}
 use Rattle.words.specs.View.{state_of}

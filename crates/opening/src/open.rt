@@ -14,7 +14,7 @@ use descriptor::head::QueueHead;
 use descriptor::qtd::{EHCI_LINK_TERMINATE, QueueTransferDescriptor};
 use pool::marking::open_first;
 use settings::settings::Settings;
-use words::core::{Core, Rest};
+use words::cores::{Core, Rest};
 use words::row::{RECORD, fill_wide};
 
 pub const FRAMES: u64 = 1024;

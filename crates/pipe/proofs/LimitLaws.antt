@@ -14,7 +14,7 @@ use Rattle.state.specs.Slots.{slot_at}
 use Rattle.state.proofs.RangesLaws.{Ranges}
 use Rattle.token.specs.Chunks.{working_limit}
 use Rattle.token.proofs.LimitLaws.{working_fits, working_most}
-use Rattle.words.specs.declared.core.Rest.{Rest}
+use Rattle.words.specs.declared.cores.Rest.{Rest}
 use Rattle.words.specs.Good.{Good}
 use Rattle.words.specs.Record.{kind_in, last_at, slot_in, word_at}
 use Rattle.words.specs.View.{each_from, state_of}

@@ -7,7 +7,7 @@ use Rattle.settings.specs.declared.settings.Settings.{Settings}
 use Rattle.slot.specs.Ids.{after_id}
 use Rattle.slot.specs.declared.slot.Slot.{Slot}
 use Rattle.slot.proofs.SlotLaws.{Phase}
-use Rattle.words.specs.declared.core.Rest.{Rest}
+use Rattle.words.specs.declared.cores.Rest.{Rest}
 use Rattle.words.specs.Good.{Good, no_places}
 use Rattle.words.specs.Record.{boundary_in, id_in, kind_in, last_at, length_in, phase_in, places_at, size_in, slot_in, toggle_in, word_at}
 use Rattle.words.specs.View.{state_of}

@@ -8,7 +8,7 @@ ghost use Rattle.pipe.specs.Endpoints.{encoded, endpoint_at, pipe_of};
 
 use crate::endpoints::{Endpoint, Pipe, decode, encode, pipe_of};
 use token::chunks::working_limit;
-use words::core::Core;
+use words::cores::Core;
 use words::row::{put_slot, slot_at};
 
 // A slot number beyond the row is that of a closed slot.

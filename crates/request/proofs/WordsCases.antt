@@ -19,8 +19,8 @@ use Rattle.schedule.specs.Links.{links, slot_link}
 use Rattle.settings.specs.declared.settings.Settings.{Settings}
 use Rattle.settings.specs.Settings.{pool_length, shared_address}
 use Rattle.state.specs.Plain.{Ehci}
-use Rattle.words.specs.declared.core.Core.{Core}
-use Rattle.words.specs.declared.core.Rest.{Rest}
+use Rattle.words.specs.declared.cores.Core.{Core}
+use Rattle.words.specs.declared.cores.Rest.{Rest}
 use Rattle.words.specs.Good.{Good, Tidy}
 use Rattle.words.specs.Record.{SlotFits, id_in, last_at, put_places, put_slot, size_in, toggle_in, word_at}
 use Rattle.words.specs.Rest.{rest_with_free}

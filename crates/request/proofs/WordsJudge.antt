@@ -14,7 +14,7 @@ use Rattle.pipe.specs.Endpoints.{kind_number}
 use Rattle.pipe.proofs.WordsTells.{open_within}
 use Rattle.settings.specs.declared.settings.Settings.{Settings}
 use Rattle.state.specs.Slots.{slot_at}
-use Rattle.words.specs.declared.core.Rest.{Rest}
+use Rattle.words.specs.declared.cores.Rest.{Rest}
 use Rattle.words.specs.Good.{Good}
 use Rattle.words.specs.Record.{kind_in, phase_in, slot_in, word_at}
 use Rattle.words.specs.View.{state_of}

@@ -29,7 +29,7 @@ use Rattle.state.specs.Slots.{slot_at, with_slot}
 use Rattle.state.specs.State.{with_owner}
 use Rattle.token.specs.Chunks.{if_empty, need_of}
 use Rattle.token.proofs.ChunkLaws.{count_pos}
-use Rattle.words.specs.declared.core.Rest.{Rest}
+use Rattle.words.specs.declared.cores.Rest.{Rest}
 use Rattle.words.specs.Good.{Good, Tidy, no_places}
 use Rattle.words.specs.Record.{SlotFits, id_in, last_at, phase_in, places_at, put_places, put_slot, size_in, slot_in, toggle_in, word_at}
 use Rattle.words.specs.Rest.{rest_with_free}

@@ -12,7 +12,7 @@ use Rattle.opening.specs.Opening.{rows_are_fit}
 use Rattle.pool.specs.Words.{LayingGood, no_laying}
 use Rattle.pool.proofs.WordLaws.{no_laying_good, no_places_lem}
 use Rattle.settings.specs.declared.settings.Settings.{Settings}
-use Rattle.words.specs.declared.core.Rest.{Rest}
+use Rattle.words.specs.declared.cores.Rest.{Rest}
 use Rattle.words.specs.Good.{Good, Tidy}
 use Rattle.words.specs.View.{state_of}
 use Rattle.token.specs.Chunks.{need_of, working_limit}

@@ -16,7 +16,7 @@ use Rattle.pool.specs.declared.marking.Marking.{Marking}
 use Rattle.pool.proofs.WordLaws.{no_marking_good}
 use Rattle.settings.specs.declared.settings.Settings.{Settings}
 use Rattle.settings.specs.Settings.{pool_length}
-use Rattle.words.specs.declared.core.Rest.{Rest}
+use Rattle.words.specs.declared.cores.Rest.{Rest}
 use Rattle.words.specs.Good.{Good}
 use Rattle.words.specs.Record.{phase_in, word_at}
 use Rattle.words.specs.View.{state_of}

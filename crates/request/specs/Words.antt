@@ -20,8 +20,8 @@ use Rattle.settings.specs.Settings.{shared_address}
 use Rattle.slot.specs.Ids.{after_id}
 use Rattle.words.specs.View.{state_of}
 use Rattle.words.specs.Rest.{rest_with_free}
-use Rattle.words.specs.declared.core.Core.{Core}
-use Rattle.words.specs.declared.core.Rest.{Rest}
+use Rattle.words.specs.declared.cores.Core.{Core}
+use Rattle.words.specs.declared.cores.Rest.{Rest}
 use Rattle.request.specs.Submit.{writes_with}
 use Rattle.request.specs.declared.answers.Submission.TheVariants.{Accepted, Refused}
 use Rattle.request.specs.Plain.{Submitted}

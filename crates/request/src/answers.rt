@@ -3,7 +3,7 @@ use common::answer::{Answer, Refusal};
 use pool::laying::Laying;
 use pool::marking::Marking;
 use register::writes::Writes;
-use words::core::Rest;
+use words::cores::Rest;
 
 #[derive(Clone, Copy)]
 pub enum Submission {

@@ -10,7 +10,7 @@ use common::answer::{Answer, Refusal};
 use common::kinds::{Direction, EndpointType, is_control, is_isochronous};
 use pipe::endpoints::kind_number;
 use settings::settings::MEMORY_END;
-use words::core::Core;
+use words::cores::Core;
 use words::row::word_at;
 
 pub const CONTROL_MAX: u64 = 16384;

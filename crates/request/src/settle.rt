@@ -33,7 +33,7 @@ use register::writes::Writes;
 use schedule::bell::command_word;
 use schedule::links::{attach_frames, attach_ring, head_address, start_overlay};
 use token::overlay::overlay_token;
-use words::core::Core;
+use words::cores::Core;
 use words::record::id_in;
 use words::row::{RECORD, put_places, size_at, toggle_at};
 

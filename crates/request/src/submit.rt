@@ -17,7 +17,7 @@ use pipe::slots::{limit_of, pipe_at};
 use pool::laying::no_laying;
 use register::writes::Writes;
 use token::chunks::need;
-use words::core::{Core, Rest};
+use words::cores::{Core, Rest};
 
 fn refuse(rest: Rest, refusal: Refusal) -> Submitted
     ensures { result ≡ refused_words rest refusal }

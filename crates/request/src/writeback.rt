@@ -13,7 +13,7 @@ use crate::answers::WrittenBack;
 use bitset::places::has;
 use common::answer::{Answer, Refusal};
 use pool::marking::{Marking, no_marking};
-use words::core::Core;
+use words::cores::Core;
 
 // Whether an uncollected request has a descriptor: it is one of the pool's and not free.
 fn in_request(core: Core, place: u64) -> bool

@@ -7,7 +7,7 @@ ghost use Rattle.schedule.specs.Words.{precedes_word};
 
 use common::rows::{fill_words, put_words};
 use descriptor::qtd::EHCI_LINK_TERMINATE;
-use words::core::Core;
+use words::cores::Core;
 use words::row::RECORD;
 
 // Who gives way to a head that is unlinked.

@@ -6,7 +6,7 @@ use call_log::fields::Fields;
 use descriptor::qtd::QueueTransferDescriptor;
 use opening::hub::EhciRootHub;
 use settings::settings::Settings;
-use words::core::{Core, Rest};
+use words::cores::{Core, Rest};
 
 // The first number of a change: a log's records have lower ones.
 pub const CHANGES: u8 = 64;

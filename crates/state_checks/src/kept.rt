@@ -17,7 +17,7 @@ use request::judge::TransferRequest;
 use root_hub::calls::Scanned;
 use root_hub::ports::PortEvent;
 use settings::settings::Settings;
-use words::core::Core;
+use words::cores::Core;
 
 // `trial` is the last record that told of a trial, until a call comes.
 #[derive(Clone, Copy)]

@@ -7,7 +7,7 @@ use ehci::door::apply;
 use ehci::reply::Reply;
 use opening::open::{Opening, open};
 use settings::settings::Settings;
-use words::core::Core;
+use words::cores::Core;
 
 #[derive(Clone, Copy)]
 pub struct Rows {

@@ -2,7 +2,7 @@
 use descriptor::qtd::QueueTransferDescriptor;
 use opening::hub::EhciRootHub;
 use settings::settings::Settings;
-use words::core::{Core, Rest};
+use words::cores::{Core, Rest};
 
 fn mix(sum: u32, value: u32) -> u32 {
     ((sum as u64 * 16777619 + value as u64) % 0x1_0000_0000) as u32

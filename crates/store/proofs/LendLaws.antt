@@ -5,7 +5,7 @@ use lib.Seq.{take-append_seam}
 use lib.Seq.{length-take-le}
 use Rattle.descriptor.specs.declared.qtd.QueueTransferDescriptor.{QueueTransferDescriptor as Record}
 use Rattle.settings.specs.declared.settings.Settings.{Settings}
-use Rattle.words.specs.declared.core.Core.{Core}
+use Rattle.words.specs.declared.cores.Core.{Core}
 use Rattle.opening.specs.declared.open.Opening.{Opening}
 use Rattle.opening.specs.Words.{OpensWords, open_words, opened_rows}
 use Rattle.opening.specs.Words as opening

@@ -13,7 +13,7 @@ use Rattle.settings.specs.declared.settings.Settings.{Settings}
 use Rattle.settings.specs.Settings.{settings_good}
 use Rattle.state.specs.Plain.{Ehci}
 use Rattle.state.specs.Ranges.{in_ranges}
-use Rattle.words.specs.declared.core.Core.{Core}
+use Rattle.words.specs.declared.cores.Core.{Core}
 use Rattle.words.specs.Good.{Tidy}
 use Rattle.words.specs.View.{state_of, view}
 use Rattle.words.proofs.OpenedLaws.{view_opened}

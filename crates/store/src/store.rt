@@ -42,7 +42,7 @@ use opening::hub::EhciRootHub;
 use opening::open::{Opening, decide_open, open};
 use register::writes::Writes;
 use settings::settings::Settings;
-use words::core::Core;
+use words::cores::Core;
 use words::row::RECORD;
 
 #[derive(Clone, Copy)]

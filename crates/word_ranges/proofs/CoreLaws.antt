@@ -7,7 +7,7 @@ use Rattle.settings.specs.declared.settings.Settings.{Settings}
 use Rattle.settings.specs.Settings.{settings_good}
 use Rattle.state.specs.Plain.{Ehci}
 use Rattle.state.specs.Ranges.{doorbell_good, in_ranges, interrupt_good, machine_good, owner_good, rest_good, slots_good}
-use Rattle.words.specs.declared.core.Rest.{Rest}
+use Rattle.words.specs.declared.cores.Rest.{Rest}
 use Rattle.words.specs.View.{state_of}
 use Rattle.word_ranges.specs.Judge.{core_good, scalars_good}
 

@@ -4,7 +4,7 @@ use mathlib.Core.Path.{sym, ap, ◌∙◌}
 use native.Mathlib.Omega.{arith}
 use borrow.Author.Tests.{eq-eqb, ne_eqb, not-false, not-true}
 use Rattle.settings.specs.declared.settings.Settings.{Settings}
-use Rattle.words.specs.declared.core.Rest.{Rest}
+use Rattle.words.specs.declared.cores.Rest.{Rest}
 use Rattle.word_ranges.specs.declared.seen.Seen.{Seen}
 use Rattle.word_ranges.specs.Bounds.{bounds_of, sizes_of, word_good}
 use Rattle.word_ranges.proofs.SizeLaws.{size_told}

@@ -16,7 +16,7 @@ use Rattle.slot.proofs.SlotLaws.{Phase, slot_makes}
 use Rattle.state.specs.Ranges.{slots_good}
 use Rattle.state.specs.Slots.{slot_at}
 use Rattle.state.proofs.RangesLaws.{ranges_tell, slot_right, slots_make, slots_tell}
-use Rattle.words.specs.declared.core.Rest.{Rest}
+use Rattle.words.specs.declared.cores.Rest.{Rest}
 use Rattle.words.specs.Good.{Good, Held, Tidy, column}
 use Rattle.words.specs.Record.{last_at, part_at, phase_in, slot_in, word_at}
 use Rattle.words.specs.View.{state_of}

@@ -13,7 +13,7 @@ use Rattle.bitset.proofs.SetLaws.{all_bit}
 use Rattle.settings.specs.declared.settings.Settings.{Settings}
 use Rattle.state.specs.Ranges.{owner_good}
 use Rattle.state.proofs.RangesLaws.{owner_makes}
-use Rattle.words.specs.declared.core.Rest.{Rest}
+use Rattle.words.specs.declared.cores.Rest.{Rest}
 use Rattle.words.specs.Good.{Tidy, column}
 use Rattle.words.specs.Record.{part_at}
 use Rattle.words.specs.View.{holds_bit, owner_from, state_of}

@@ -9,7 +9,7 @@ use Rattle.settings.specs.declared.settings.Settings.{Settings}
 use Rattle.settings.specs.Settings.{settings_good}
 use Rattle.state.specs.Ranges.{doorbell_good, interrupt_good, machine_good}
 use Rattle.state.proofs.RangesCases.{doorbell_is, interrupt_is, machine_is}
-use Rattle.words.specs.declared.core.Rest.{Rest}
+use Rattle.words.specs.declared.cores.Rest.{Rest}
 use Rattle.words.specs.View.{state_of}
 use Rattle.word_ranges.specs.Judge.{bare_state, core_good, scalars_good}
 

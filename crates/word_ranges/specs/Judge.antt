@@ -5,7 +5,7 @@ use Rattle.settings.specs.declared.settings.Settings.{Settings}
 use Rattle.settings.specs.Settings.{settings_good}
 use Rattle.state.specs.Plain.{Ehci}
 use Rattle.state.specs.Ranges.{machine_good, interrupt_good, doorbell_good}
-use Rattle.words.specs.declared.core.Rest.{Rest}
+use Rattle.words.specs.declared.cores.Rest.{Rest}
 use Rattle.words.specs.View.{state_of}
 use Rattle.word_ranges.specs.Seen.{all_met, free_met, seen_from}
 

@@ -5,7 +5,7 @@ ghost use Rattle.word_ranges.specs.Judge.{slots_good, words_good};
 use crate::bounds::{LAST, bounds_for, sizes_for};
 use crate::scalars::core_good;
 use crate::seen::{all_met, free_met, see_slot};
-use words::core::Core;
+use words::cores::Core;
 use words::row::RECORD;
 
 fn slots_good(

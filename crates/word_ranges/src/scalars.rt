@@ -4,7 +4,7 @@ ghost use Rattle.state.specs.Ranges.{machine_good, interrupt_good, doorbell_good
 ghost use Rattle.word_ranges.specs.Judge.{bare_state, scalars_good, core_good};
 
 use register::bits::without_bits;
-use words::core::Core;
+use words::cores::Core;
 
 fn machine_good(c: Core) -> bool
     ensures { result ≡ machine_good (bare_state c.settings c.rest) }

@@ -7,7 +7,7 @@ use lib.Dec.{eqb}
 use lib.ListN.{length}
 use Rattle.settings.specs.declared.settings.Settings.{Settings}
 use Rattle.state.specs.State.{with_bell, with_boundaries}
-use Rattle.words.specs.declared.core.Rest.{Rest}
+use Rattle.words.specs.declared.cores.Rest.{Rest}
 use Rattle.words.specs.Record.{boundary_in, cancel_in, direction_in, fall_to, fallen_word, id_in, kind_in, last_at, length_in, phase_in, request_in, size_in, toggle_in, word_at}
 use Rattle.words.specs.Rest.{rest_with_bell}
 use Rattle.words.specs.View.{each_from, state_of}

@@ -14,7 +14,7 @@ use Rattle.slot.specs.Ranges.{slot_good}
 use Rattle.slot.proofs.SlotLaws.{SlotGood, slot_tells}
 use Rattle.state.specs.Slots.{slot_at}
 use Rattle.state.proofs.RangesLaws.{Ranges, ranges_tell}
-use Rattle.words.specs.declared.core.Rest.{Rest}
+use Rattle.words.specs.declared.cores.Rest.{Rest}
 use Rattle.words.specs.Good.{Good}
 use Rattle.words.specs.Record.{boundary_in, last_at, slot_in, word_at}
 use Rattle.words.specs.View.{state_of}

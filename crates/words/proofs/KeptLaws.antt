@@ -14,7 +14,7 @@ use Rattle.bitset.proofs.LowestLaws.{lowest_split}
 use Rattle.bitset.proofs.SetLaws.{with_bit}
 use Rattle.settings.specs.declared.settings.Settings.{Settings}
 use Rattle.slot.specs.declared.slot.Slot.{Slot}
-use Rattle.words.specs.declared.core.Rest.{Rest}
+use Rattle.words.specs.declared.cores.Rest.{Rest}
 use Rattle.words.specs.Good.{Held, Tidy, no_places}
 use Rattle.words.specs.Record.{SlotFits, last_at, last_of, part_at, phase_in, places_at, put_places, put_slot, word_at, word_of}
 use Rattle.words.proofs.SumLaws.{slot_sum, sum_changed, sum_has}

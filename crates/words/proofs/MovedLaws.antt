@@ -17,7 +17,7 @@ use Rattle.bitset.proofs.LowestLaws.{lowest_bit, lowest_set}
 use Rattle.pool.specs.Places.{clear_of, mark_of}
 use Rattle.settings.specs.declared.settings.Settings.{Settings}
 use Rattle.slot.specs.declared.slot.Slot.{Slot}
-use Rattle.words.specs.declared.core.Rest.{Rest}
+use Rattle.words.specs.declared.cores.Rest.{Rest}
 use Rattle.words.specs.Good.{Tidy, no_places}
 use Rattle.words.specs.Record.{last_at, part_at, places_at, put_places, put_slot, word_at}
 use Rattle.words.specs.View.{each_from, holds_bit, owner_from}

@@ -13,7 +13,7 @@ use Rattle.bitset.specs.Places.{Words}
 use Rattle.bitset.proofs.BitLaws.{bit_le, same_word}
 use Rattle.settings.specs.declared.settings.Settings.{Settings}
 use Rattle.state.specs.Plain.{Ehci}
-use Rattle.words.specs.declared.core.Rest.{Rest}
+use Rattle.words.specs.declared.cores.Rest.{Rest}
 use Rattle.words.specs.Good.{Held, Tidy}
 use Rattle.words.specs.Record.{boundary_in, cancel_in, direction_in, id_in, kind_in, last_at, last_of, length_in, part_at, phase_in, request_in, size_in, slot_in, toggle_in, word_at, word_of}
 use Rattle.words.specs.View.{holds_bit, owner_from, state_of}

@@ -10,7 +10,7 @@ use Rattle.bitset.proofs.BitLaws.{zero_bit}
 use Rattle.settings.specs.declared.settings.Settings.{Settings}
 use Rattle.state.specs.Plain.{Ehci}
 use Rattle.slot.specs.Ids.{after_id}
-use Rattle.words.specs.declared.core.Rest.{Rest}
+use Rattle.words.specs.declared.cores.Rest.{Rest}
 use Rattle.words.specs.Good.{Held, Tidy}
 use Rattle.words.specs.Opened.{opened_rest, opened_row}
 use Rattle.words.specs.Record.{boundary_in, cancel_in, direction_in, id_in, kind_in, last_at, length_in, phase_in, request_in, size_in, toggle_in, word_at}

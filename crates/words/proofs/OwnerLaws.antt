@@ -13,7 +13,7 @@ use Rattle.bitset.specs.Words.{bit, one_if}
 use Rattle.bitset.proofs.BitLaws.{zero_bit}
 use Rattle.bitset.proofs.SetLaws.{all_bit}
 use Rattle.settings.specs.declared.settings.Settings.{Settings}
-use Rattle.words.specs.declared.core.Rest.{Rest}
+use Rattle.words.specs.declared.cores.Rest.{Rest}
 use Rattle.words.specs.Good.{Tidy}
 use Rattle.words.specs.Record.{part_at}
 use Rattle.words.specs.View.{each_from, holds_bit, owner_from}

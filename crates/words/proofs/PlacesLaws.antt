@@ -15,7 +15,7 @@ use Rattle.bitset.proofs.LowestLaws.{lowest_set}
 use Rattle.bitset.proofs.OrderLaws.{set_few}
 use Rattle.pool.specs.Places.{count_of, places_from}
 use Rattle.settings.specs.declared.settings.Settings.{Settings}
-use Rattle.words.specs.declared.core.Rest.{Rest}
+use Rattle.words.specs.declared.cores.Rest.{Rest}
 use Rattle.words.specs.Good.{Tidy}
 use Rattle.words.specs.Record.{part_at, places_at}
 use Rattle.words.specs.View.{each_from, holds_bit, owner_from}

@@ -8,7 +8,7 @@ use Rattle.settings.specs.declared.settings.Settings.{Settings}
 use Rattle.slot.specs.declared.slot.Slot.{Slot}
 use Rattle.state.specs.Slots.{with_slot}
 use Rattle.state.specs.State.{with_owner}
-use Rattle.words.specs.declared.core.Rest.{Rest}
+use Rattle.words.specs.declared.cores.Rest.{Rest}
 use Rattle.words.specs.Record.{SlotFits, boundary_in, cancel_in, direction_in, id_in, kind_in, last_at, length_in, part_at, phase_in, put_places, put_slot, request_in, size_in, toggle_in, word_at, word_of}
 use Rattle.words.specs.View.{each_from, holds_bit, owner_from, state_of}
 use Rattle.words.proofs.Each.{each_same, each_set}

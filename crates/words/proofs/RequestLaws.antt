@@ -9,7 +9,7 @@ use lib.Dec.{leb, ltb}
 use lib.ListN.{get_or}
 use Rattle.bitset.specs.Places.{has_place}
 use Rattle.settings.specs.declared.settings.Settings.{Settings}
-use Rattle.words.specs.declared.core.Rest.{Rest}
+use Rattle.words.specs.declared.cores.Rest.{Rest}
 use Rattle.words.specs.Good.{Tidy}
 use Rattle.words.specs.Record.{phase_in, word_at}
 use Rattle.words.specs.View.{holds_bit}

@@ -4,7 +4,7 @@ use mathlib.Core.Path.{◌≡◌, refl}
 use mathlib.Core.List.{List}
 use Rattle.settings.specs.declared.settings.Settings.{Settings}
 use Rattle.state.specs.State.{with_bell, with_bring_up, with_interrupt, with_next_address}
-use Rattle.words.specs.declared.core.Rest.{Rest}
+use Rattle.words.specs.declared.cores.Rest.{Rest}
 use Rattle.words.specs.Rest.{rest_with_bell, rest_with_bring_up, rest_with_free, rest_with_interrupt, rest_with_next_address}
 use Rattle.words.specs.View.{state_of}
 

@@ -11,7 +11,7 @@ use Rattle.slot.specs.declared.slot.Slot.{Slot}
 use Rattle.state.specs.Plain.{Ehci}
 use Rattle.state.specs.Slots.{with_slot}
 use Rattle.state.specs.State.{with_owner}
-use Rattle.words.specs.declared.core.Rest.{Rest}
+use Rattle.words.specs.declared.cores.Rest.{Rest}
 use Rattle.words.specs.Good.{Tidy, no_places}
 use Rattle.words.specs.Record.{SlotFits, places_at, put_places, put_slot}
 use Rattle.words.specs.Rest.{rest_with_free}

@@ -8,7 +8,7 @@ use native.Mathlib.Omega.{arith}
 use lib.ListN.{length}
 use Rattle.settings.specs.declared.settings.Settings.{Settings}
 use Rattle.slot.specs.declared.slot.Slot.{Slot}
-use Rattle.words.specs.declared.core.Rest.{Rest}
+use Rattle.words.specs.declared.cores.Rest.{Rest}
 use Rattle.words.specs.Good.{Held, Tidy, column, no_places}
 use Rattle.words.specs.Record.{SlotFits, fall_to, last_at, part_at, phase_in, places_at, put_slot, word_at}
 use Rattle.words.proofs.FallLaws.{fall_last, fall_length, fall_part, fall_word, fallen_phase}

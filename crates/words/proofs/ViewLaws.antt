@@ -5,7 +5,7 @@ use mathlib.Core.List.{List}
 use lib.ListN.{get_or, length}
 use Rattle.settings.specs.declared.settings.Settings.{Settings}
 use Rattle.state.specs.Slots.{slot_at}
-use Rattle.words.specs.declared.core.Rest.{Rest}
+use Rattle.words.specs.declared.cores.Rest.{Rest}
 use Rattle.words.specs.Record.{boundary_in, cancel_in, direction_in, id_in, kind_in, last_at, length_in, phase_in, request_in, size_in, slot_in, toggle_in, word_at}
 use Rattle.words.specs.View.{owner_from, state_of}
 use Rattle.words.proofs.Each.{each_here, each_length}

@@ -5,7 +5,7 @@ use Rattle.bitset.specs.Words.{bit}
 use Rattle.bitset.specs.Places.{all_below}
 use Rattle.settings.specs.declared.settings.Settings.{Settings}
 use Rattle.state.specs.Ranges.{in_ranges}
-use Rattle.words.specs.declared.core.Rest.{Rest}
+use Rattle.words.specs.declared.cores.Rest.{Rest}
 use Rattle.words.specs.Record.{last_at, part_at, phase_in, places_at, word_at}
 use Rattle.words.specs.View.{state_of}
 

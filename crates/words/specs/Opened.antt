@@ -1,7 +1,7 @@
 -- What an opening gives: no word of the row is set, and every place of the pool is free.
 use Rattle.std.specs.Prelude.{ℕ, ◌*◌, List, replicate}
 use Rattle.bitset.specs.Places.{all_below}
-use Rattle.words.specs.declared.core.Rest.{Rest}
+use Rattle.words.specs.declared.cores.Rest.{Rest}
 
 abbrev pub opened_row : ℕ → List ℕ
 opened_row endpoints = replicate (6 * endpoints) 0

@@ -1,6 +1,6 @@
 -- A rest with some of its fields replaced: one definition for each set that changes together.
 use Rattle.std.specs.Prelude.{ℕ, List}
-use Rattle.words.specs.declared.core.Rest.{Rest}
+use Rattle.words.specs.declared.cores.Rest.{Rest}
 
 -- bring-up: running, the step, the reads of its wait; its start also turns the interrupt flag off
 abbrev pub rest_with_bring_up : Rest → ℕ → ℕ → ℕ → ℕ → Rest

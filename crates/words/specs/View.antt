@@ -2,8 +2,8 @@
 use Rattle.std.specs.Prelude.{ℕ, zero, suc, ◌/◌, ◌%◌, ◌^◌, cond, List, [], ◌∷◌, eqb}
 use Rattle.settings.specs.declared.settings.Settings.{Settings}
 use Rattle.state.specs.Plain.{Ehci}
-use Rattle.words.specs.declared.core.Core.{Core}
-use Rattle.words.specs.declared.core.Rest.{Rest}
+use Rattle.words.specs.declared.cores.Core.{Core}
+use Rattle.words.specs.declared.cores.Rest.{Rest}
 use Rattle.words.specs.Record.{boundary_in, cancel_in, direction_in, id_in, kind_in, last_at, length_in, part_at, phase_in, request_in, size_in, toggle_in, word_at}
 
 -- bit i of slot k's places: 1 where place i is one of them

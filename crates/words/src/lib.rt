@@ -1,7 +1,7 @@
 // The state in words: the core by value, and the lent row of slots.
 #![tactic(auto)]
 
-pub mod core;
+pub mod cores;
 pub mod fall;
 pub mod record;
 pub mod row;

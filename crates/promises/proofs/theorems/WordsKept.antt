@@ -6,7 +6,7 @@ use lib.ListN.{length}
 use Rattle.bitset.specs.Places.{set_places}
 use Rattle.settings.specs.declared.settings.Settings.{Settings}
 use Rattle.settings.proofs.SettingsLaws as settings
-use Rattle.words.specs.declared.core.Rest.{Rest}
+use Rattle.words.specs.declared.cores.Rest.{Rest}
 use Rattle.words.specs.Good.{Good}
 use Rattle.words.specs.Record.{places_at}
 use Rattle.words.specs.View.{state_of}

@@ -1,5 +1,5 @@
 use mathlib.Core.Path.{ap}
-use Rattle.words.specs.declared.core.Rest.{Rest}
+use Rattle.words.specs.declared.cores.Rest.{Rest}
 use Rattle.words.proofs.TidyLaws.{tidy_rest}
 use Rattle.controller.proofs.WordsLent.{accepts_viewed}
 use Rattle.ehci.specs.Decides.{address_decided, clear_decided, close_decided, packet_decided}

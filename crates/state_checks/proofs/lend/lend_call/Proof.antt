@@ -42,9 +42,9 @@ use Rattle.pool.proofs.Uses.{passes}
 use Rattle.pool.proofs.Lends.{row_at}
 use Rattle.store.proofs.Owner.{Elems, τ, apart_in, value_out, LentPart, lends_part, comes_part}
 use Rattle.state_checks.proofs.Says.{says_none}
-use Rattle.words.specs.declared.core.Core.{Core}
-use Rattle.words.specs.contracts.core.Core as Co
-use Rattle.words.proofs.core.Core.TheLaws as Co'
+use Rattle.words.specs.declared.cores.Core.{Core}
+use Rattle.words.specs.contracts.cores.Core as Co
+use Rattle.words.proofs.cores.Core.TheLaws as Co'
 use Rattle.ehci.specs.declared.call.Call.{Call}
 use Rattle.ehci.specs.contracts.call.Call as Cl
 use Rattle.ehci.proofs.call.Call.TheLaws as Cl'
