@@ -1,9 +1,0 @@
--- A walk's end where a function ensures nothing: of a goal P ∗ ⊤ₛ, P is left. Assumes nothing.
-use Rattle.std.specs.Prelude.{List}
-use seplogic.Ra.Ura.{Ura}
-use base.Logic.{SProp, sep, emp, via, emp∗, comm∗}
-use types.Logic.{Logic}
-use types.Kit.{Item, Step, step, prop}
-
-pub says_none : {M : Type 1} {𝓤 : Ura M} {𝓛 : Logic 𝓤} {K : Type 0} {Γ : List (Item 𝓤)} → K → {P : SProp 𝓤} → Step K 𝓛 Γ (prop P) Γ (prop (sep 𝓤 P (emp 𝓤)))
-says_none {𝓤 = 𝓤} t {P} = step (λ s. record { prf = via 𝓤 P s.prf (via 𝓤 (sep 𝓤 (emp 𝓤) P) (emp∗ 𝓤 P) (comm∗ 𝓤 (emp 𝓤) P)) })
