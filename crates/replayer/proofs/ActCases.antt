@@ -1,8 +1,7 @@
 -- The returns of what a record does.
 use Prim.Native.Nat.{ℕ}
-use mathlib.Core.Bool.{Bool, true, false}
-use mathlib.Core.Path.{◌≡◌, refl, sym, ap, ◌∙◌}
-use mathlib.Core.List.{List}
+use mathlib.Core.Bool.{true, false}
+use mathlib.Core.Path.{◌≡◌, sym, ap, ◌∙◌}
 use Rattle.common.specs.declared.answer.Answer.TheVariants as A
 use Rattle.common.specs.declared.answer.Refusal.{Refusal}
 use Rattle.common.specs.declared.reads.NextRead.TheVariants as N
@@ -11,7 +10,6 @@ use Rattle.call_log.specs.CallLine.{answered_line, scan_line}
 use Rattle.call_log.specs.Lines.{line_bytes}
 use Rattle.call_log.specs.declared.line.Line.{Line}
 use Rattle.call_log.specs.declared.record.Entry.{Entry}
-use Rattle.call_log.specs.declared.record.Entry.TheVariants as E
 use Rattle.ehci.specs.declared.call.Call.{Call}
 use Rattle.ehci.specs.declared.reply.Answered.TheVariants as R
 use Rattle.ehci.specs.declared.reply.Given.TheVariants as G
@@ -19,7 +17,7 @@ use Rattle.opening.specs.Hub.{opened_hub}
 use Rattle.opening.specs.declared.hub.EhciRootHub.{EhciRootHub}
 use Rattle.register.specs.Writes.{no_writes}
 use Rattle.register.specs.declared.writes.Writes.{Writes}
-use Rattle.root_hub.specs.Calls.{power_of, start_of, step_of}
+use Rattle.root_hub.specs.Calls.{power_of}
 use Rattle.root_hub.specs.declared.calls.PortPower.{PortPower}
 use Rattle.root_hub.specs.declared.calls.Scanned.{Scanned}
 use Rattle.root_hub.specs.declared.ports.PortEvent.TheVariants as P
@@ -31,7 +29,7 @@ use Rattle.store.specs.declared.store.Called.{Called}
 use Rattle.store.specs.declared.store.OpenedStore.{OpenedStore}
 use Rattle.store.specs.declared.store.Store.{Store}
 use Rattle.replayer.specs.Plain as plain-keeper
-use Rattle.replayer.specs.Replays.{Effect, act_of, call_effect, fresh_keeper, no_effect, open_effect, power_effect, scan_effect}
+use Rattle.replayer.specs.Replays.{act_of, call_effect, fresh_keeper, no_effect, open_effect, power_effect, scan_effect}
 use Rattle.replayer.specs.Words.{Kept, effect_of, keeper_view}
 use Rattle.replayer.specs.declared.keeper.Acted.{Acted}
 use Rattle.replayer.specs.declared.keeper.Keeper.{Keeper}

@@ -4,7 +4,7 @@ use mathlib.Core.Bool.{Bool, true, false}
 use mathlib.Core.Path.{◌≡◌, refl, sym, ap, ◌∙◌}
 use mathlib.Core.List.{List, [], ◌∷◌, ◌++◌}
 use native.Mathlib.Omega.{arith}
-use lib.ListN.{get_or, length, length-append}
+use lib.ListN.{get_or, length}
 use Rattle.call_log.specs.Block.{block_of}
 use Rattle.call_log.specs.Lines.{line_bytes}
 use Rattle.call_log.specs.Records.{entry_of}
