@@ -50,7 +50,7 @@ module _ (s : Settings) (r : Rest) (ws : List ℕ) where
   pub held_view : Good s r ws → any_held 0 s.endpoints ws ≡ any_uncollected 0 32 (state_of s r ws)
   held_view good =
       held_row 0 s.endpoints 32 (good_settings s r ws good).endpoints_most (omega arith)
-      (omega (arith, good.tidy.row_length_lem))
+      (omega (arith, good.tidy.has_row_length))
 
 -- ---- the loop
 

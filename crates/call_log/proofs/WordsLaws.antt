@@ -30,7 +30,7 @@ module _ (c : Core) (ws : List ℕ) where
   pub shown_viewed : Shows c ws → shown_in c ≡ shown_of (view c ws)
   unfolding shown_in shown_of state_of
   shown_viewed s =
-      let g = good_tells c.settings s.settings_good_lem in
+      let g = good_tells c.settings s.settings_are_good in
       ap with_free (free_viewed c.settings c.rest ws s.tidy g.descriptors_most g.endpoints_most)
 
   pub block_viewed : (first : List ℕ) (opening : Bool) (b a : Rows) (opened : Bool) (w : Writes) → (opened ≡ true → Shows c ws)

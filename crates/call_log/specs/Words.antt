@@ -28,7 +28,7 @@ shown_in c =
 
 -- of these words it is what is shown of the state that they stand for
 pub record Shows (core : Core) (ws : List ℕ) : Type 0 where
-  pub settings_good_lem : settings_good core.settings ≡ true
+  pub settings_are_good : settings_good core.settings ≡ true
   pub tidy : Tidy core.settings core.rest ws
 
 -- ---- the lines, by what is shown

@@ -99,7 +99,7 @@ module _ (c : Core) (ws : List ℕ) (cmd : ℕ) where
     counted_one vs good e =
         ap (λ (l : List ℕ). counted (state_of c.settings (rest_with_bell c.rest r.bell.noted r.bell.doorbell r.bell.unanswered) l)) e
         ∙ ap counted
-        (view_fallen ws c.settings.endpoints good.tidy.row_length_lem c.settings c.rest r.bell.noted r.bell.doorbell r.bell.unanswered)
+        (view_fallen ws c.settings.endpoints good.tidy.has_row_length c.settings c.rest r.bell.noted r.bell.doorbell r.bell.unanswered)
         ∙ counted_state _ (fallen_view c.settings c.rest ws)
       where
         counted : Ehci → Counted

@@ -47,7 +47,7 @@ closed_fits =
       id_least = omega arith;
       id_fits = omega arith;
       own_id = λ h. absurd (omega (arith, h));
-      no_request_lem = λ h. refl;
+      has_no_request = λ h. refl;
     }
 
 pub idle_fits : (p : Pipe) → p.size < 2048 → 1 ≤ p.next → p.next < 2 ^ 64 → SlotFits (encoded (Idle p))
@@ -64,7 +64,7 @@ idle_fits p sized least most =
       id_least = least;
       id_fits = most;
       own_id = λ h. absurd (omega (arith, h));
-      no_request_lem = λ h. refl;
+      has_no_request = λ h. refl;
     }
 
 -- ---- with one: the next id is the one after its own
@@ -87,7 +87,7 @@ module _ (p : Pipe) (q : Request) (sized : p.size < 2048) (own : p.next ≡ afte
         id_least = next_least;
         id_fits = most;
         own_id = λ h. own;
-        no_request_lem = λ h. absurd (omega (arith, h));
+        has_no_request = λ h. absurd (omega (arith, h));
       }
 
   pub linked_fits : SlotFits (encoded (Linked p q))

@@ -206,8 +206,8 @@ module _ (k count : ℕ) (r : Record) where
   fresh_blank e h z = e ∙ sym (fresh_zero (k + 1) (count - (k + 1)) (omega (arith, h, z)))
 
 -- so many zero records, and one more
-pub row_length_lem : (n : ℕ) (d : Record) → length (replicate n blank ++ d ∷ []) ≡ n + 1
-row_length_lem n d = length-append (replicate n blank) (d ∷ []) ∙ ap (λ (m : ℕ). m + 1) (length-replicate n blank)
+pub has_row_length : (n : ℕ) (d : Record) → length (replicate n blank ++ d ∷ []) ≡ n + 1
+has_row_length n d = length-append (replicate n blank) (d ∷ []) ∙ ap (λ (m : ℕ). m + 1) (length-replicate n blank)
 
 pub row_zero : (n i : ℕ) (d : Record) → i < n → get_or (replicate n blank ++ d ∷ []) i blank ≡ blank
 row_zero zero i d h = absurd (omega (arith, h))
@@ -224,7 +224,7 @@ pub fill_open : (n : ℕ) (rs : List Record) → length rs ≡ n + 1
 fill_open n rs e =
     let now : List Record = filled_from Deeds.Open 0 0 (up_from 0 (n + 1)) rs in
     let long : length now ≡ n + 1 = filled_length Deeds.Open 0 0 (up_from 0 (n + 1)) rs ∙ e in
-    ext_get_or blank now (replicate n blank ++ terminated ∷ []) (long ∙ sym (row_length_lem n terminated))
+    ext_get_or blank now (replicate n blank ++ terminated ∷ []) (long ∙ sym (has_row_length n terminated))
     (λ i h. here i (subst (λ (m : ℕ). i < m) long h))
   where
     here : (i : ℕ) → i < n + 1 → get_or (filled_from Deeds.Open 0 0 (up_from 0 (n + 1)) rs) i blank ≡ get_or (replicate n blank ++ terminated ∷ []) i blank

@@ -46,9 +46,9 @@ is_finished short pool (p ∷ ps) =
 pub record Detaches (s : Settings) (h : History) (w : Moment) (u : Use) : Type 0 where
   pub cancels : (readings : Readings) → number_at w (Cancel u.slot u.id readings) ≡ 0
   pub waits : (readings : Readings) → is_linked s h u.slot ≡ true → number_at w (Collect u.slot u.id readings) ≡ 9
-  pub leaves_ring_lem : (readings : Readings) → is_in u.slot (ring_slots s h) ≡ true
+  pub left_the_ring : (readings : Readings) → is_in u.slot (ring_slots s h) ≡ true
       → event s (turn_by w (Cancel u.slot u.id readings)) ≡ Unlinks u.slot
-  pub leaves_frames_lem : (readings : Readings) → is_in u.slot (frame_slots s h) ≡ true
+  pub left_the_frames : (readings : Readings) → is_in u.slot (frame_slots s h) ≡ true
       → event s (turn_by w (Cancel u.slot u.id readings)) ≡ Parts u.slot readings.frame
   pub ends_ring : (readings : Readings) → is_in u.slot (ring_slots s h) ≡ true
       → event s (turn_by w (Collect u.slot u.id readings)) ≡ cond (is_finished (may_end_short u) w.rows.pool u.places) (Unlinks u.slot) Other

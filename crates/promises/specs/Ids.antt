@@ -60,7 +60,7 @@ CancelsById =
 pub record ById (s : Settings) (h : History) (w : Moment) (k id : ℕ) (readings : Readings) : Type 0 where
   pub not_open : is_shut (slot_in k h) ≡ true → number_at w (Collect k id readings) ≡ 3
   pub nothing : is_shut (slot_in k h) ≡ false → is_busy s h k ≡ false → number_at w (Collect k id readings) ≡ 9
-  pub wrong_id_lem : is_busy s h k ≡ true → is_held_as k id (uses s h) ≡ false → number_at w (Collect k id readings) ≡ 3
+  pub wrong_id_refused : is_busy s h k ≡ true → is_held_as k id (uses s h) ≡ false → number_at w (Collect k id readings) ≡ 3
 
 abbrev pub CollectsById : Promise
 CollectsById = Always (λ s h w. (k id : ℕ) (readings : Readings) → ById s h w k id readings)

@@ -10,7 +10,7 @@ use Rattle.promises.specs.Uses.{uses}
 pub record InRanges (s : Settings) (h : History) (w : Moment) : Type 0 where
   pub settings_stay : w.view.settings ≡ s
   pub accepted : accepts_of w.view (lengths (length w.rows.pool) (length w.rows.heads) (length w.rows.frames) (length w.rows.setups)) ≡ true
-  pub let_in_lem : w.fits ≡ true
+  pub is_let_in : w.fits ≡ true
 
 abbrev pub RangesKept : Promise
 RangesKept = Always InRanges

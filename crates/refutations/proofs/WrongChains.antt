@@ -182,5 +182,5 @@ once_wrong h =
 pub keeps_wrong : EveryRun NoDetachFails keeps → ⊥
 unfolding ring_walk frame_walk walk_from world_of history_of ring_slots uses attached_ring opened_heads ring_head terminated
 keeps_wrong h =
-    let e = (h three (fresh_world three) opening two).0.leaves_ring_lem reading refl in
+    let e = (h three (fresh_world three) opening two).0.left_the_ring reading refl in
     false_true (ap is_unlinks e)

@@ -135,9 +135,9 @@ never_exact exact =
 
 -- ---- order 13: n + 1 advances are counted, and its request does not pass
 
-leaves_ring_lem : unlinks_of small 0 (turn_of (linked_one (one 0 0 0 0 0 linked)).rows (Cancel 0 1 (reading 0x80031)) (replies (Done G.Nothing) (and_then no_writes 0 (ring_word 0x80031)) (apart_one (one 0 0 0 1 1 (waits 1))))) ≡ true
+left_the_ring : unlinks_of small 0 (turn_of (linked_one (one 0 0 0 0 0 linked)).rows (Cancel 0 1 (reading 0x80031)) (replies (Done G.Nothing) (and_then no_writes 0 (ring_word 0x80031)) (apart_one (one 0 0 0 1 1 (waits 1))))) ≡ true
 unfolding ring_walk walk_from
-leaves_ring_lem = refl
+left_the_ring = refl
 
 abbrev first : History
 first = turns_of opened_two (history_of never w up_calls) submits_one
@@ -162,7 +162,7 @@ never_waits waits =
     let c : Call = Cancel 0 1 (reading 0x80031) in
     let goes : unlinks_of small 0 (turn small (run_of never w) c1 c) ≡ true
     = ap (λ (x : World). unlinks_of small 0 (turn_of x.rows c (never x c))) w1
-    ∙ ap (λ (a : Applied). unlinks_of small 0 (turn_of (linked_one (one 0 0 0 0 0 linked)).rows c a)) leaves ∙ leaves_ring_lem in
+    ∙ ap (λ (a : Applied). unlinks_of small 0 (turn_of (linked_one (one 0 0 0 0 0 linked)).rows c a)) leaves ∙ left_the_ring in
     let owed : asked small (history_of never w c1) ≡ counted small (history_of never w c1) + 0 = subst (λ (h : History). asked small h ≡ counted small h + 0) (sym begun) none_owed in
     let uncollected : none (collects small 0) (take 2 (history_of never w answered)) = subst (λ (h : History). none (collects small 0) (take 2 h)) (sym is_so) (refl, (refl, tt)) in
     not_collectable

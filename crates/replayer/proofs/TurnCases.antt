@@ -51,7 +51,7 @@ pub shown_put : (k : Keeper) (a : Acted) (b f : Rows) (o p : List ℕ) (r : ℕ)
 unfolding shown_of
 shown_put k a b f o p r kept e g s =
     let ws = lent_slots a.keeper.store in
-    let shows : a.keeper.opened ≡ true → Shows a.keeper.store.core ws = λ q. record { settings_good_lem = (kept.opened q).settings_good_lem; tidy = (kept.opened q).tidy } in
+    let shows : a.keeper.opened ≡ true → Shows a.keeper.store.core ws = λ q. record { settings_are_good = (kept.opened q).settings_are_good; tidy = (kept.opened q).tidy } in
     rw (← e, ← g) (s.0 ws shows, (s.1.0 ws shows, s.1.1))
 
 module _ (k : Keeper) (kept : Kept k) (n : ℕ) (bytes : List ℕ) (entry : Entry) (b : Bool) (o p : List ℕ) (r : ℕ) (read : entry ≡ entry_of bytes) (tells : b ≡ is_bad entry) where

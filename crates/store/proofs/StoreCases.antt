@@ -152,7 +152,7 @@ module _ (w : Store) (s : Settings) (d k h u : ℕ) (o : OpenedRows) (after : St
         (ap (λ (x : opening.OpenedRows). x.answer) same ∙ sym answers ∙ done)
 
     opened_after : OpenedIn (store_after o)
-    opened_after = record { settings_good_lem = good_is; tidy = tidy_is }
+    opened_after = record { settings_are_good = good_is; tidy = tidy_is }
 
     done_target : shown (whole_rows (rows_of came) w.pool w.heads w.setups d h u) came.opening.state ≡ target
     done_target =
@@ -251,7 +251,7 @@ module _ (w : Store) (call : Call) (d k h u : ℕ) (r : Called) (known : Known w
         opened =
             λ o.
             record {
-              settings_good_lem = ap settings_good lent.settings_stay ∙ o.settings_good_lem;
+              settings_are_good = ap settings_good lent.settings_stay ∙ o.settings_are_good;
               tidy =
                   kept (λ t l. Tidy t r.store.core.rest l)
                   (tidy_after w.core (take k w.slots) tended_here _ r.store.core.rest (take k r.store.slots) lent.after

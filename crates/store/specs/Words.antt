@@ -40,7 +40,7 @@ opened_view o = record { store = store_view o.store; hub = o.hub; answer = o.ans
 
 -- a controller was opened in it
 pub record OpenedIn (w : Store) : Type 0 where
-  pub settings_good_lem : settings_good w.core.settings ≡ true
+  pub settings_are_good : settings_good w.core.settings ≡ true
   pub tidy : Tidy w.core.settings w.core.rest (lent_slots w)
 
 -- no call is refused for the words alone

@@ -35,17 +35,17 @@ module _ (phase last a b c d : ℕ) where
   abbrev words : List ℕ
   words = a ∷ b ∷ c ∷ d ∷ []
 
-  no_request_lem : phase < 2 → held_good phase last words ≡ true → (none_in words ≡ true) × (idle_id phase last ≡ true)
+  has_no_request : phase < 2 → held_good phase last words ≡ true → (none_in words ≡ true) × (idle_id phase last ≡ true)
   unfolding held_good
-  no_request_lem h e = both_tells (none_in words) (idle_id phase last) (rw (lt-ltb phase 2 h) at e)
+  has_no_request h e = both_tells (none_in words) (idle_id phase last) (rw (lt-ltb phase 2 h) at e)
 
   pub held_tells : held_good phase last words ≡ true → Kept phase last words
   unfolding held_good
   held_tells e =
       record {
-        closed = λ p. eqb-true last 0 (rw p at (no_request_lem (omega arith) e).1);
-        idle = λ p q. omega (arith, ltb-true last (2 ^ 64 - 1) (rw p at (no_request_lem (omega arith) e).1));
-        empty = λ h. none_tells a b c d (no_request_lem h e).0;
+        closed = λ p. eqb-true last 0 (rw p at (has_no_request (omega arith) e).1);
+        idle = λ p q. omega (arith, ltb-true last (2 ^ 64 - 1) (rw p at (has_no_request (omega arith) e).1));
+        empty = λ h. none_tells a b c d (has_no_request h e).0;
         own = λ h. omega (arith, eqb-false last 0 (not-true _ (rw (le-ltb phase 2 h) at e)));
       }
 

@@ -83,7 +83,7 @@ module _ (s : Settings) (r : Rest) (ws : List ℕ) where
     shared j i (Four.is_3 q) = rw q (judged_sum (get_or r.free 3 0) _ (column ws 3 0 s.endpoints) p.fourth.none_twice p.fourth.all_met_lem i)
 
     tidy_from : Tidy s r ws
-    tidy_from = record { row_length_lem = fits; held = held_at; shared_out = λ j i h h'. shared j i (four j h) }
+    tidy_from = record { has_row_length = fits; held = held_at; shared_out = λ j i h h'. shared j i (four j h) }
 
     slot_at_lem : (k : ℕ) → slot_good s.endpoints s.limit k r.unanswered (slot_in (word_at ws k) (last_at ws k)) ≡ true
     slot_at_lem k = by (ltb k s.endpoints) refl
@@ -169,6 +169,6 @@ module _ (s : Settings) (r : Rest) (ws : List ℕ) where
     accepted =
         rw (
           ranges_core s r ws good.ranges,
-          eq-eqb (length ws) (6 * s.endpoints) good.tidy.row_length_lem,
+          eq-eqb (length ws) (6 * s.endpoints) good.tidy.has_row_length,
         )
         (pass_makes ws s.limit r.unanswered s.descriptors s.endpoints 0 (free_met r.free) passed)

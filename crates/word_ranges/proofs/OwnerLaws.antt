@@ -61,7 +61,7 @@ module _ (s : Settings) (r : Rest) (ws : List ℕ) (tidy : Tidy s r ws) where
   hold_beyond : (i k : ℕ) → s.endpoints ≤ k → holds_bit ws k i ≡ 0
   unfolding holds_bit
   hold_beyond i k h =
-      rw (part_beyond ws k (i / 64) (omega (arith, tidy.row_length_lem)), zero-div (2 ^ (i % 64)))
+      rw (part_beyond ws k (i / 64) (omega (arith, tidy.has_row_length)), zero-div (2 ^ (i % 64)))
 
   -- from place D on no slot has a place
   hold_none : (i : ℕ) → s.descriptors ≤ i → i < 256 → (k : ℕ) → k < s.endpoints → holds_bit ws k i ≡ 0

@@ -67,7 +67,7 @@ module _ (s : Settings) (r : Rest) (ws : List ℕ) (good : Good s r ws) where
   -- ---- the row
 
   pub good_length : length ws ≡ 6 * s.endpoints
-  good_length = good.tidy.row_length_lem
+  good_length = good.tidy.has_row_length
 
   pub good_room : (k : ℕ) → k < s.endpoints → 6 * k + 6 ≤ length ws
   good_room k h = omega (arith, good_length)

@@ -72,7 +72,7 @@ module _ (s : Settings) (r r' : Rest) (ws ws' : List ℕ) (t : Tidy s r ws) (k :
       → Tidy s r' ws'
   tidy_moved h bits =
       record {
-        row_length_lem = m.length_same ∙ t.row_length_lem;
+        has_row_length = m.length_same ∙ t.has_row_length;
         held = λ l b. go l b (eqb l k) refl;
         shared_out = λ j i a b. sym (total j i a b) ∙ t.shared_out j i a b;
       }
@@ -95,7 +95,7 @@ module _ (s : Settings) (r r' : Rest) (ws ws' : List ℕ) (t : Tidy s r ws) (k :
 
 module _ (s : Settings) (r : Rest) (ws : List ℕ) (t : Tidy s r ws) (k : ℕ) (e : Slot) (below : k < s.endpoints) (fits : SlotFits e) where
   room : 6 * k + 6 ≤ length ws
-  room = omega (arith, t.row_length_lem)
+  room = omega (arith, t.has_row_length)
 
   module _ (x : List ℕ) where
     word_here : word_at (put_places (put_slot ws k e) k x) k ≡ word_of e

@@ -139,7 +139,7 @@ module _ (s : Settings) (slots : s.endpoints ≤ 32) (r r' : Rest) (ws ws' : Lis
               rw (q, p) at (free_equal (64 * j + i) (omega (arith, b))))
 
       rows_equal : ws ≡ ws'
-      rows_equal = ext_get_or 0 ws ws' (t.row_length_lem ∙ sym t'.row_length_lem) (λ m h. go m (omega (arith, h, t.row_length_lem)) (m % 6) refl)
+      rows_equal = ext_get_or 0 ws ws' (t.has_row_length ∙ sym t'.has_row_length) (λ m h. go m (omega (arith, h, t.has_row_length)) (m % 6) refl)
         where
           at : (m q : ℕ) → m ≡ q → get_or ws q 0 ≡ get_or ws' q 0 → get_or ws m 0 ≡ get_or ws' m 0
           at m q z g = rw z g

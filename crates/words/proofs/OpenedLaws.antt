@@ -35,7 +35,7 @@ module _ (ws : List ℕ) (zeros : (i : ℕ) → get_or ws i 0 ≡ 0) where
   zeros_tidy : (s : Settings) (r : Rest) → length ws ≡ 6 * s.endpoints → r.free ≡ all_below s.descriptors → Tidy s r ws
   zeros_tidy s r l e =
       record {
-        row_length_lem = l;
+        has_row_length = l;
         held = λ k h. zeros_held k;
         shared_out = λ j i a b.
             rw e (omega (arith, sum_none ws j i 0 s.endpoints (λ k c d. ap (λ (w : ℕ). bit w i) (zeros (6 * k + (2 + j))) ∙ zero_bit i)));

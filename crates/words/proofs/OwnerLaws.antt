@@ -56,8 +56,8 @@ module _ (s : Settings) (r : Rest) (ws : List ℕ) (t : Tidy s r ws) (i : ℕ) (
       most = omega (arith, place_sum, one_le (ltb i s.descriptors))
 
       go : (a : Bool) → leb s.endpoints k ≡ a → (b : Bool) → leb s.endpoints l ≡ b → (c : Bool) → ltb l k ≡ c → holds_bit ws l i ≡ 0
-      go true p b q c o = absurd (omega (arith, e, beyond_holds ws s.endpoints k i t.row_length_lem (leb-true s.endpoints k p)))
-      go false p true q c o = beyond_holds ws s.endpoints l i t.row_length_lem (leb-true s.endpoints l q)
+      go true p b q c o = absurd (omega (arith, e, beyond_holds ws s.endpoints k i t.has_row_length (leb-true s.endpoints k p)))
+      go false p true q c o = beyond_holds ws s.endpoints l i t.has_row_length (leb-true s.endpoints l q)
       go false p false q true o =
           omega (
             arith,
@@ -82,7 +82,7 @@ module _ (s : Settings) (r : Rest) (ws : List ℕ) (t : Tidy s r ws) (i : ℕ) (
   free_held e l = go (leb s.endpoints l) refl
     where
       go : (b : Bool) → leb s.endpoints l ≡ b → holds_bit ws l i ≡ 0
-      go true q = beyond_holds ws s.endpoints l i t.row_length_lem (leb-true s.endpoints l q)
+      go true q = beyond_holds ws s.endpoints l i t.has_row_length (leb-true s.endpoints l q)
       go false q =
           omega (
             arith,
@@ -104,7 +104,7 @@ module _ (s : Settings) (r : Rest) (ws : List ℕ) (t : Tidy s r ws) (i : ℕ) (
       none = rw (le-ltb i s.descriptors h) at place_sum
 
       go : (b : Bool) → leb s.endpoints l ≡ b → holds_bit ws l i ≡ 0
-      go true q = beyond_holds ws s.endpoints l i t.row_length_lem (leb-true s.endpoints l q)
+      go true q = beyond_holds ws s.endpoints l i t.has_row_length (leb-true s.endpoints l q)
       go false q =
           omega (
             arith,
@@ -119,7 +119,7 @@ module _ (s : Settings) (r : Rest) (ws : List ℕ) (t : Tidy s r ws) (i : ℕ) (
     held_owner k e = go (leb 32 k) refl
       where
         go : (b : Bool) → leb 32 k ≡ b → owner_from 0 32 ws i ≡ suc k
-        go true q = absurd (omega (arith, e, beyond_holds ws s.endpoints k i t.row_length_lem (omega (arith, leb-true 32 k q))))
+        go true q = absurd (omega (arith, e, beyond_holds ws s.endpoints k i t.has_row_length (omega (arith, leb-true 32 k q))))
         go false q = owner_one ws i k 0 32 (omega arith) (omega (arith, leb-false 32 k q)) e (holds_alone k e)
 
     -- an owner is one of the slots, and holds it
@@ -127,7 +127,7 @@ module _ (s : Settings) (r : Rest) (ws : List ℕ) (t : Tidy s r ws) (i : ℕ) (
     owner_held k e = go (leb s.endpoints k) refl (owner_holds ws i k 0 32 e)
       where
         go : (b : Bool) → leb s.endpoints k ≡ b → (0 ≤ k) × (k < 0 + 32) × (holds_bit ws k i ≡ 1) → (k < s.endpoints) × (holds_bit ws k i ≡ 1)
-        go true q h = absurd (omega (arith, h.2, beyond_holds ws s.endpoints k i t.row_length_lem (leb-true s.endpoints k q)))
+        go true q h = absurd (omega (arith, h.2, beyond_holds ws s.endpoints k i t.has_row_length (leb-true s.endpoints k q)))
         go false q h = (leb-false s.endpoints k q, h.2)
 
     -- none: no slot holds it
@@ -135,7 +135,7 @@ module _ (s : Settings) (r : Rest) (ws : List ℕ) (t : Tidy s r ws) (i : ℕ) (
     unowned_held e l = go (leb 32 l) refl
       where
         go : (b : Bool) → leb 32 l ≡ b → holds_bit ws l i ≡ 0
-        go true q = beyond_holds ws s.endpoints l i t.row_length_lem (omega (arith, leb-true 32 l q))
+        go true q = beyond_holds ws s.endpoints l i t.has_row_length (omega (arith, leb-true 32 l q))
         go false q = owner_free ws i 0 32 e l (omega arith) (omega (arith, leb-false 32 l q))
 
     pub unheld_owner : ((l : ℕ) → holds_bit ws l i ≡ 0) → owner_from 0 32 ws i ≡ 0

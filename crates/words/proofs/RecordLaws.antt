@@ -71,7 +71,7 @@ module _ (e : Slot) (fits : SlotFits e) where
           sym (request_own e.phase (last_of e) h) ∙ sym (last_own e h)
       go false t =
           let h : e.phase < 2 = leb-false 2 e.phase t in
-          sym (request_none e.phase (last_of e) h) ∙ sym (fits.no_request_lem h)
+          sym (request_none e.phase (last_of e) h) ∙ sym (fits.has_no_request h)
 
   pub slot_back : slot_in (word_of e) (last_of e) ≡ e
   unfolding slot_in

@@ -29,7 +29,7 @@ slot_owner v k e o = refl
 module _ (s : Settings) (r : Rest) (ws : List ℕ) (t : Tidy s r ws) (few : s.descriptors ≤ 256) (slots : s.endpoints ≤ 32)
     (k : ℕ) (e : Slot) (below : k < s.endpoints) (fits : SlotFits e) where
   room : 6 * k + 6 ≤ length ws
-  room = omega (arith, t.row_length_lem)
+  room = omega (arith, t.has_row_length)
 
   put_both : (free x : List ℕ)
       → state_of s (rest_with_free r free) (put_places (put_slot ws k e) k x)

@@ -41,7 +41,7 @@ module _ (vs ws : List ℕ) (same : (k j : ℕ) → j < 4 → part_at vs k j ≡
       → Tidy s r ws → Tidy s r vs
   tidy_same s r n h t =
       record {
-        row_length_lem = n ∙ t.row_length_lem;
+        has_row_length = n ∙ t.has_row_length;
         held = h;
         shared_out = λ j i hj hi. rw (column_same j 0 s.endpoints hj) (t.shared_out j i hj hi);
       }
@@ -51,7 +51,7 @@ module _ (vs ws : List ℕ) (same : (k j : ℕ) → j < 4 → part_at vs k j ≡
 pub tidy_rest : (s : Settings) (r q : Rest) (ws : List ℕ) → q.free ≡ r.free → Tidy s r ws → Tidy s q ws
 tidy_rest s r q ws e t =
     record {
-      row_length_lem = t.row_length_lem;
+      has_row_length = t.has_row_length;
       held = t.held;
       shared_out = λ j i hj hi. rw e (t.shared_out j i hj hi);
     }
@@ -62,7 +62,7 @@ pub tidy_fallen : (s : Settings) (r : Rest) (ws : List ℕ) → Tidy s r ws → 
 tidy_fallen s r ws t =
     tidy_same (fall_to ws E) ws (fall_part ws E) s r (fall_length ws E)
     (λ k h.
-    held_same (fall_to ws E) ws (fall_part ws E) k (ap (λ w. phase_in w) (fall_word ws E k t.row_length_lem) ∙ fallen_phase (word_at ws k))
+    held_same (fall_to ws E) ws (fall_part ws E) k (ap (λ w. phase_in w) (fall_word ws E k t.has_row_length) ∙ fallen_phase (word_at ws k))
     (fall_last ws E k) (t.held k h))
     t
   where

@@ -26,7 +26,7 @@ pub record Held (ws : List ℕ) (k : ℕ) : Type 0 where
 
 -- the row has six words a slot, and each of the pool's places is in exactly one slot or free
 pub record Tidy (s : Settings) (r : Rest) (ws : List ℕ) : Type 0 where
-  pub row_length_lem : length ws ≡ 6 * s.endpoints
+  pub has_row_length : length ws ≡ 6 * s.endpoints
   pub held : (k : ℕ) → k < s.endpoints → Held ws k
   pub shared_out : (j i : ℕ) → j < 4 → i < 64
       → bit (get_or r.free j 0) i + sum_bit i (column ws j 0 s.endpoints) ≡ bit (get_or (all_below s.descriptors) j 0) i

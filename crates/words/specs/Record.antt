@@ -84,7 +84,7 @@ pub record SlotFits (e : Slot) : Type 0 where
   pub id_least : 1 ≤ e.id
   pub id_fits : e.id < 2 ^ 64
   pub own_id : 2 ≤ e.phase → e.id ≡ after_id e.request
-  pub no_request_lem : e.phase < 2 → e.request ≡ 0
+  pub has_no_request : e.phase < 2 → e.request ≡ 0
 
 unfoldable pub word_of : Slot → ℕ
 word_of e =

@@ -6,7 +6,7 @@ use mathlib.Core.Path.{◌≡◌, refl, sym, ap, subst, ◌∙◌}
 use native.Mathlib.Omega.{arith}
 use lib.ListN.{length, length-replicate, replicate}
 use Rattle.descriptor.specs.Descriptors.{terminated}
-use Rattle.pool.proofs.ChainLaws.{row_last, row_length_lem}
+use Rattle.pool.proofs.ChainLaws.{row_last, has_row_length}
 use Rattle.settings.specs.Settings.{frames_length, heads_length, settings_good, setups_length}
 use Rattle.settings.specs.declared.settings.Settings.{Settings}
 use Rattle.settings.proofs.SettingsLaws.{good_tells}
@@ -76,7 +76,7 @@ fresh_sound s e =
         boundaries_wide = length-replicate {A = ℕ} 32 0;
       };
       owners = length-replicate {A = ℕ} 256 0;
-      pool_fits_lem = row_length_lem s.descriptors terminated;
+      pool_fits_lem = has_row_length s.descriptors terminated;
       shared_stands = row_last s.descriptors terminated;
       heads_fit = ap (λ (x : List ℕ). length x) (heads_words s g) ∙ omega (arith, length-replicate {A = ℕ} (heads_length s - 6) 0, g.endpoints_least);
       frames_fit = length-replicate {A = ℕ} 1024 1;

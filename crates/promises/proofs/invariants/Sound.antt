@@ -88,9 +88,9 @@ module _ (s : Settings) (w : World) (g : Sound s w) where
       rows_make w.state.settings _ _ _ _
       (record { pool_fits_lem = of_state.pool_fits_lem; heads_fit = of_state.heads_fit; frames_fit = of_state.frames_fit; setups_fit = of_state.setups_fit })
 
-  pub let_in_lem : accepts_of w.state (lengths (length w.rows.pool) (length w.rows.heads) (length w.rows.frames) (length w.rows.setups)) ≡ true
+  pub is_let_in : accepts_of w.state (lengths (length w.rows.pool) (length w.rows.heads) (length w.rows.frames) (length w.rows.setups)) ≡ true
   unfolding accepts_of
-  let_in_lem = both_makes _ (in_ranges w.state) rows_fit (ranges_make w.state g.ranges)
+  is_let_in = both_makes _ (in_ranges w.state) rows_fit (ranges_make w.state g.ranges)
 
   -- ---- rows
 

@@ -26,7 +26,7 @@ use Rattle.promises.specs.Events.{is_collected}
 use Rattle.promises.proofs.effects.EffectDoor.{seen, through}
 use Rattle.promises.proofs.effects.EffectRequests.{outcome_collected}
 use Rattle.promises.proofs.effects.RefusalNumbers.{uncollected}
-use Rattle.promises.proofs.invariants.Sound.{Sound, let_in_lem, rows_fit}
+use Rattle.promises.proofs.invariants.Sound.{Sound, is_let_in, rows_fit}
 
 -- what a collect that collects found
 pub record Found (w : World) (k id : ℕ) (readings : Readings) (a : Answered) : Type 0 where
@@ -66,4 +66,4 @@ module _ (w : World) (k id : ℕ) (rd : Readings) where
     pub collect_makes : (p : Pipe) (r : Request) (u : UnlinkBoundary) → endpoint_at s k ≡ Unlinking p r u → r.id ≡ id → passed_boundary u rd.frame ≡ true
         → is_collected (core w (Collect k id rd)).reply.answer ≡ true
     unfolding apply_of decide_of collect_decided collect_of unlinking_of finish_of replied
-    collect_makes p r u e same passed = rw (rows_fit z w sound, let_in_lem z w sound, e, eq-eqb r.id id same, passed) (outcome_collected r.cancelled (seen w (Collect k id rd)))
+    collect_makes p r u e same passed = rw (rows_fit z w sound, is_let_in z w sound, e, eq-eqb r.id id same, passed) (outcome_collected r.cancelled (seen w (Collect k id rd)))

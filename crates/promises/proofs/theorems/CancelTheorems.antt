@@ -31,7 +31,7 @@ use Rattle.promises.specs.Uses.{Use, is_of, uses}
 use Rattle.promises.specs.Rooms.{Every, number_at}
 use Rattle.promises.specs.Chains.{Detaches}
 use Rattle.promises.specs.Ids.{ById, CancelsById, CollectsById, is_held_as}
-use Rattle.promises.proofs.invariants.Sound.{Sound, let_in_lem}
+use Rattle.promises.proofs.invariants.Sound.{Sound, is_let_in}
 use Rattle.promises.proofs.invariants.UseInv.{Avoids, Held, Nobody, Tenant, Waits, every_map, tenant_at, tenant_of, tenants_apart}
 use Rattle.promises.proofs.theorems.BoundaryCalls.{collect_found}
 use Rattle.promises.proofs.theorems.BoundaryCancels.{roomy}
@@ -106,11 +106,11 @@ refusal_is n e = by (leb 9 n) e
 module _ (s : Settings) (h : History) (w : World) (sound : Sound s w) (g : Held s h w) (k id : ℕ) (rd : Readings) (few : (p : Pipe) (r : Request) → endpoint_at w.state k ≡ Linked p r → w.state.unanswered < 32)
     (none : is_held_as k id (uses s h) ≡ false) where
   refuses : (x : Endpoint) → endpoint_at w.state k ≡ x → first (checks_of (moment core w) (Cancel k id rd)) ≡ refused InvalidEndpoint
-  refuses Closed e = rw (let_in_lem s w sound, e)
-  refuses (Idle p) e = rw (let_in_lem s w sound, e)
+  refuses Closed e = rw (is_let_in s w sound, e)
+  refuses (Idle p) e = rw (is_let_in s w sound, e)
   refuses (Linked p r) e =
-      rw (let_in_lem s w sound, e, lt-leb 32 w.state.unanswered (few p r e), ne_eqb r.id id (another s h w k id g none p r _ e refl))
-  refuses (Unlinking p r b) e = rw (let_in_lem s w sound, e, ne_eqb r.id id (another s h w k id g none p r _ e refl))
+      rw (is_let_in s w sound, e, lt-leb 32 w.state.unanswered (few p r e), ne_eqb r.id id (another s h w k id g none p r _ e refl))
+  refuses (Unlinking p r b) e = rw (is_let_in s w sound, e, ne_eqb r.id id (another s h w k id g none p r _ e refl))
 
   none_three : number_at (moment core w) (Cancel k id rd) ≡ 3
   none_three = refusal_is _ (in_order w tt (Cancel k id rd) ∙ ap verdict_number (refuses (endpoint_at w.state k) refl))
@@ -161,7 +161,7 @@ module _ (s : Settings) (h : History) (w : World) (sound : Sound s w) (g : Held 
   three e = refusal_is _ (in_order w tt (Collect k id rd) ∙ ap verdict_number e)
 
   at_shut : (x : Endpoint) → endpoint_at w.state k ≡ x → is_shut (kind_in x) ≡ true → number_at (moment core w) (Collect k id rd) ≡ 3
-  at_shut Closed e o = three (rw (let_in_lem s w sound, e))
+  at_shut Closed e o = three (rw (is_let_in s w sound, e))
   at_shut (Idle p) e o = absurd (false≢true o)
   at_shut (Linked p r) e o = absurd (false≢true o)
   at_shut (Unlinking p r b) e o = absurd (false≢true o)
@@ -174,7 +174,7 @@ module _ (s : Settings) (h : History) (w : World) (sound : Sound s w) (g : Held 
   at_bare : (x : Endpoint) → endpoint_at w.state k ≡ x → is_shut (kind_in x) ≡ false → holds_request x ≡ false → number_at (moment core w) (Collect k id rd) ≡ 9
   at_bare Closed e o u = absurd (true≢false o)
   at_bare (Idle p) e o u =
-      let free : first (checks_of (moment core w) (Collect k id rd)) ≡ passed = rw (let_in_lem s w sound, e) in
+      let free : first (checks_of (moment core w) (Collect k id rd)) ≡ passed = rw (is_let_in s w sound, e) in
       waits_nine answers (in_order w tt (Collect k id rd) ∙ ap verdict_number free) (idle_none p e (is_collected answers) refl)
   at_bare (Linked p r) e o u = absurd (true≢false u)
   at_bare (Unlinking p r b) e o u = absurd (true≢false u)
@@ -183,8 +183,8 @@ module _ (s : Settings) (h : History) (w : World) (sound : Sound s w) (g : Held 
   at_wrong none Closed e u = absurd (false≢true u)
   at_wrong none (Idle p) e u = absurd (false≢true u)
   at_wrong none (Linked p r) e u =
-      three (rw (let_in_lem s w sound, e, lt-leb 32 w.state.unanswered (few p r e), ne_eqb r.id id (another s h w k id g none p r _ e refl)))
-  at_wrong none (Unlinking p r b) e u = three (rw (let_in_lem s w sound, e, ne_eqb r.id id (another s h w k id g none p r _ e refl)))
+      three (rw (is_let_in s w sound, e, lt-leb 32 w.state.unanswered (few p r e), ne_eqb r.id id (another s h w k id g none p r _ e refl)))
+  at_wrong none (Unlinking p r b) e u = three (rw (is_let_in s w sound, e, ne_eqb r.id id (another s h w k id g none p r _ e refl)))
 
   by_id : ById s h (moment core w) k id rd
   by_id =
@@ -192,7 +192,7 @@ module _ (s : Settings) (h : History) (w : World) (sound : Sound s w) (g : Held 
       record {
         not_open = λ o. at_shut x refl (sym (shut_is x refl) ∙ o);
         nothing = λ o u. at_bare x refl (sym (shut_is x refl) ∙ o) (sym (busy_is x refl) ∙ u);
-        wrong_id_lem = λ u none. at_wrong none x refl (sym (busy_is x refl) ∙ u);
+        wrong_id_refused = λ u none. at_wrong none x refl (sym (busy_is x refl) ∙ u);
       }
 
 pub collects_by_id : EveryRun CollectsById core

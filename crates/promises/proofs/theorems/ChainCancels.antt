@@ -27,7 +27,7 @@ use Rattle.promises.specs.Runs.{History, Opening, World, core, history_of, turn_
 use Rattle.promises.specs.Events.{Parts, Unlinks, event}
 use Rattle.promises.specs.Uses.{frame_slots, ring_slots}
 use Rattle.promises.proofs.effects.EffectRequests.{cancel_unlinked}
-use Rattle.promises.proofs.invariants.Sound.{Sound, let_in_lem, rows_fit}
+use Rattle.promises.proofs.invariants.Sound.{Sound, is_let_in, rows_fit}
 use Rattle.promises.proofs.invariants.ChainInv.{Chained, heads_long, linked_in}
 use Rattle.promises.proofs.invariants.ChainDetach.{Met, at_first, at_later, frames_met, ring_met}
 use Rattle.promises.proofs.invariants.ChainEvents.{unlink_event}
@@ -59,7 +59,7 @@ module _ (s : Settings) (h : History) (w : World) (sound : Sound s w) (x : Chain
 
     cancel_comes : core w (Cancel k r.id rd) ≡ carried_out (with_setups (cancel_came unlinked) w.rows.setups) w.rows.pool
     unfolding apply_of decide_of cancel_decided cancel_of unlink_of
-    cancel_comes = rw (rows_fit s w sound, let_in_lem s w sound, e, lt-leb 32 w.state.unanswered roomy, eq-eqb r.id r.id refl, no_detach_fails p r e)
+    cancel_comes = rw (rows_fit s w sound, is_let_in s w sound, e, lt-leb 32 w.state.unanswered roomy, eq-eqb r.id r.id refl, no_detach_fails p r e)
 
     cancel_done : (core w (Cancel k r.id rd)).reply.answer ≡ Done Nothing
     unfolding replied waiting_of
@@ -79,7 +79,7 @@ module _ (s : Settings) (h : History) (w : World) (sound : Sound s w) (x : Chain
     mark_comes : core w (Cancel k r.id rd)
         ≡ carried_out (with_setups (cancel_came (leftWith (marked_of w.state k p r u) w.rows.heads w.rows.frames)) w.rows.setups) w.rows.pool
     unfolding apply_of decide_of cancel_decided cancel_of
-    mark_comes = rw (rows_fit s w sound, let_in_lem s w sound, e, eq-eqb r.id r.id refl)
+    mark_comes = rw (rows_fit s w sound, is_let_in s w sound, e, eq-eqb r.id r.id refl)
 
     pub mark_done : (core w (Cancel k r.id rd)).reply.answer ≡ Done Nothing
     unfolding replied

@@ -28,7 +28,7 @@ use Rattle.ehci.specs.Replies.{replied}
 use Rattle.promises.specs.Runs.{History, World, core, turn_of}
 use Rattle.promises.specs.Events.{Other, Parts, Unlinks, event}
 use Rattle.promises.specs.Chains.{is_finished}
-use Rattle.promises.proofs.invariants.Sound.{Sound, slot_low, let_in_lem, rows_fit}
+use Rattle.promises.proofs.invariants.Sound.{Sound, slot_low, is_let_in, rows_fit}
 use Rattle.promises.proofs.invariants.ChainInv.{Chained}
 use Rattle.promises.proofs.invariants.ChainEvents.{unlink_event}
 use lib.Dec.{eqb}
@@ -99,7 +99,7 @@ module _ (s : Settings) (h : History) (w : World) (sound : Sound s w) (x : Chain
   unfinished_is : view.stage ≡ 2 → gathers ≡ gathered (pending_collect w.state) w.rows.heads w.rows.frames
   unfinished_is q =
       collect_active w.state (length w.rows.pool) w.rows.heads w.rows.frames (length w.rows.setups) rd view k p r
-      (let_in_lem s w sound) e roomy q
+      (is_let_in s w sound) e roomy q
 
   abbrev unlinked : Gathered
   unlinked =
@@ -112,7 +112,7 @@ module _ (s : Settings) (h : History) (w : World) (sound : Sound s w) (x : Chain
   unfolding unlink_of waiting_of
   finished_is n =
       collect_unlinks w.state (length w.rows.pool) w.rows.heads w.rows.frames (length w.rows.setups) rd view k p r
-      (let_in_lem s w sound) e roomy n
+      (is_let_in s w sound) e roomy n
       ∙ rw (no_detach_fails s h w sound x k p r e)
 
   comes_as : (g : Gathered) → gathers ≡ g → core w call ≡ carried_out (with_setups (collect_came g) w.rows.setups) w.rows.pool

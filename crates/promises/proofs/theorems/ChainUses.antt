@@ -78,8 +78,8 @@ module _ (s : Settings) (h : History) (w : World) (sound : Sound s w) (x : Chain
       made =
           record {
             cancels = λ rd. ap answered_number (cancel_unlinks s h w sound x k rd p r e room).0;
-            leaves_ring_lem = λ rd m. (cancel_unlinks s h w sound x k rd p r e room).1 ∙ rw (kind false (sym (x.ring.members k) ∙ m));
-            leaves_frames_lem = λ rd m. (cancel_unlinks s h w sound x k rd p r e room).1 ∙ rw (kind true (sym (x.periodic.members k) ∙ m));
+            left_the_ring = λ rd m. (cancel_unlinks s h w sound x k rd p r e room).1 ∙ rw (kind false (sym (x.ring.members k) ∙ m));
+            left_the_frames = λ rd m. (cancel_unlinks s h w sound x k rd p r e room).1 ∙ rw (kind true (sym (x.periodic.members k) ∙ m));
             waits = λ rd m. ap answered_number (collect_waits s h w sound x k rd p r e room);
             ends_ring = λ rd m. ended rd ∙ rw (kind false (sym (x.ring.members k) ∙ m));
             ends_frames = λ rd m. ended rd ∙ rw (kind true (sym (x.periodic.members k) ∙ m));
@@ -109,8 +109,8 @@ module _ (s : Settings) (h : History) (w : World) (sound : Sound s w) (x : Chain
       made =
           record {
             cancels = λ rd. ap answered_number (mark_done s h w sound x k rd p r b e);
-            leaves_ring_lem = λ rd m. absurd (not_ring m);
-            leaves_frames_lem = λ rd m. absurd (not_frames m);
+            left_the_ring = λ rd m. absurd (not_ring m);
+            left_the_frames = λ rd m. absurd (not_frames m);
             waits = λ rd m. absurd (neither (is_in k (ring_slots s h)) refl m);
             ends_ring = λ rd m. absurd (not_ring m);
             ends_frames = λ rd m. absurd (not_frames m);

@@ -20,11 +20,11 @@ use Rattle.promises.proofs.effects.Effects.{Idles}
 use Rattle.promises.proofs.invariants.IdleInv.{idles_keeps, idles_opens}
 use Rattle.promises.proofs.invariants.Reached.{opening_is, reached}
 use Rattle.promises.proofs.theorems.RoomPromises.{held}
-use Rattle.promises.proofs.invariants.Sound.{Sound, let_in_lem}
+use Rattle.promises.proofs.invariants.Sound.{Sound, is_let_in}
 use Rattle.promises.proofs.invariants.UseInv.{HeldIn, Nobody, Waits, tenant_of, tenants_apart}
 
 pub sound_ranges : (s : Settings) (h : History) (w : World) → Sound s w → InRanges s h (moment core w)
-sound_ranges s h w g = record { settings_stay = g.settings_are; accepted = let_in_lem s w g; let_in_lem = let_in_lem s w g }
+sound_ranges s h w g = record { settings_stay = g.settings_are; accepted = is_let_in s w g; is_let_in = is_let_in s w g }
 
 -- what runs, and while it does
 abbrev pub Runs : Settings → History → World → Type 0

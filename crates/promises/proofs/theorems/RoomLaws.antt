@@ -24,7 +24,7 @@ use Rattle.promises.specs.Rooms.{Fits, Lacks, Room, number_at}
 use Rattle.promises.proofs.invariants.OpenedInv.{Told}
 use Rattle.promises.proofs.invariants.OpenedVerdict.{asks_told, free_is}
 use Rattle.promises.proofs.theorems.Order.{first_goes}
-use Rattle.promises.proofs.invariants.Sound.{Sound, let_in_lem, rows_fit}
+use Rattle.promises.proofs.invariants.Sound.{Sound, is_let_in, rows_fit}
 use Rattle.promises.proofs.invariants.UseInv.{Held}
 use Rattle.promises.proofs.effects.RefusalNumbers.{refusal_some}
 
@@ -33,7 +33,7 @@ use Rattle.promises.proofs.effects.RefusalNumbers.{refusal_some}
 submit_number_lem : (w : World) (k : ℕ) (t : TransferRequest) (readings : Readings) → Sound w.state.settings w
     → number_at (moment core w) (Submit k t readings) ≡ verdict_number (first (submit_checks w.state k t))
 unfolding apply_of decide_of submit_decided submit_of settled_submit accepted_with refused_submit
-submit_number_lem w k t readings sound = rw (rows_fit _ w sound, let_in_lem _ w sound) (by (first (submit_checks w.state k t)))
+submit_number_lem w k t readings sound = rw (rows_fit _ w sound, is_let_in _ w sound) (by (first (submit_checks w.state k t)))
   where
     by : (v : Verdict)
         → answered_number (submitted_answer (settle v (λ r. submitted (refused_submit w.state r) w.rows.heads w.rows.frames w.rows.setups)

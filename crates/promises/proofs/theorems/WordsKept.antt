@@ -65,7 +65,7 @@ pub words_kept : (m : Machine in_words) → Does m → WordsKept m
 words_kept m does s w o cs =
     let now = world_of m w cs in
     let are : now.state.core.settings ≡ s = settings_stay m does w (opening_faithful s w o) cs ∙ o.fresh.words.same_settings in
-    let good = let_in_good now (carried RangesKept ranges_kept m does s w o cs).let_in_lem in
+    let good = let_in_good now (carried RangesKept ranges_kept m does s w o cs).is_let_in in
     let held =
     carried (Always (λ s h x. Held s h (record { state = x.view; rows = x.rows }))) (λ s w o cs. (Rooms.held s w o cs).1) m does s w o cs in
     in_words_lem (history_of m w cs) now good (subst (λ (z : Settings). Held z (history_of m w cs) (viewed now)) (sym are) held) s are

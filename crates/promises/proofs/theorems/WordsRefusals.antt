@@ -32,7 +32,7 @@ unfolding state_of with_bring_up
 view_stopped s r ws = refl
 
 tidy_stopped : (s : Settings) (r : Rest) (ws : List ℕ) → Tidy s r ws → Tidy s (stopped_rest r) ws
-tidy_stopped s r ws t = record { row_length_lem = t.row_length_lem; held = t.held; shared_out = t.shared_out }
+tidy_stopped s r ws t = record { has_row_length = t.has_row_length; held = t.held; shared_out = t.shared_out }
 
 typed_stopped : (r : Rest) (ws : List ℕ) → Typed r ws → Typed (stopped_rest r) ws
 typed_stopped r ws t = record { four = t.four; free_fits = t.free_fits; row_fits = t.row_fits }

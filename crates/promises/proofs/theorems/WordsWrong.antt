@@ -32,17 +32,17 @@ use Rattle.promises.proofs.theorems.RangeTheorems.{ranges_kept}
 
 -- ---- what a machine that does it never leaves
 
-module _ (m : Machine in_words) (does : Does m) (w : WorldIn in_words) (c : Call) (typed : Typed w.state.core.rest w.state.slots) (let_in_lem : let_in w ≡ true) where
+module _ (m : Machine in_words) (does : Does m) (w : WorldIn in_words) (c : Call) (typed : Typed w.state.core.rest w.state.slots) (is_let_in : let_in w ≡ true) where
   -- the state that the words stand for has one owner a place, so it says nothing of a second slot: the tidy words do
   pub never_twice : (i k l : ℕ) → i < 256 → k < l → holds_bit (m w c).slots k i ≡ 1 → holds_bit (m w c).slots l i ≡ 1 → ⊥
   never_twice i k l h less p q =
-      let few = (good_settings w.state.core.settings w.state.core.rest w.state.slots (let_in_good w let_in_lem)).endpoints_most in
-      let tidy = (does.leaves w c typed).tidy let_in_lem in
+      let few = (good_settings w.state.core.settings w.state.core.rest w.state.slots (let_in_good w is_let_in)).endpoints_most in
+      let tidy = (does.leaves w c typed).tidy is_let_in in
       let owner : (j : ℕ) → holds_bit (m w c).slots j i ≡ 1 → _ ≡ suc j = held_owner w.state.core.settings (m w c).reply.rest (m w c).slots tidy i h few in
       omega (arith, sym (owner k p) ∙ owner l q, less)
 
   pub never_left : (k : ℕ) → k < w.state.core.settings.endpoints → phase_in (word_at (m w c).slots k) < 2 → places_at (m w c).slots k ≡ no_places
-  never_left k h = (((does.leaves w c typed).tidy let_in_lem).held k h).empty
+  never_left k h = (((does.leaves w c typed).tidy is_let_in).held k h).empty
 
 -- ---- a machine that leaves a place in a closed slot
 
@@ -82,8 +82,8 @@ opening = opens_words pair pair_good
 pub careless_refuted : Does careless → ⊥
 unfolding world_of
 careless_refuted does =
-    let let_in_lem : let_in (fresh_words pair) ≡ true = (carried RangesKept ranges_kept careless does pair (fresh_words pair) opening []).let_in_lem in
-    let none = never_left careless does (fresh_words pair) AllocateAddress opening.fresh.typed let_in_lem 0 (omega arith) (omega arith) in
+    let is_let_in : let_in (fresh_words pair) ≡ true = (carried RangesKept ranges_kept careless does pair (fresh_words pair) opening []).is_let_in in
+    let none = never_left careless does (fresh_words pair) AllocateAddress opening.fresh.typed is_let_in 0 (omega arith) (omega arith) in
     let z : ◌≡◌ {A = ℕ} 1 0 = ap (λ (x : List ℕ). get_or x 0 0) none in
     omega (arith, z)
 
@@ -105,7 +105,7 @@ pub astray_fits : (moment core (viewed astray)).fits ≡ true
 unfolding world_of
 astray_fits =
     subst (λ (x : World). (moment core x).fits ≡ true) (sym astray_stands)
-    (ranges_kept pair (viewed (fresh_words pair)) (opening_viewed pair (fresh_words pair) opening) []).let_in_lem
+    (ranges_kept pair (viewed (fresh_words pair)) (opening_viewed pair (fresh_words pair) opening) []).is_let_in
 
 pub astray_refused : let_in astray ≡ false
 unfolding opened_rest all_below ones_below bit sum_bit column
