@@ -1,6 +1,6 @@
 -- The returns of a call that is lent core and slots; and that what it takes is good.
 use Rattle.std.specs.Prelude.{◌≡◌, ℕ, Bool, true, false, not, List}
-use mathlib.Core.Path.{refl, sym, ◌∙◌}
+use mathlib.Core.Path.{sym, ◌∙◌}
 use borrow.Author.Tests.{not-false, not-true}
 use Rattle.common.proofs.TestLaws.{false_true}
 use Rattle.state.specs.Plain.{Ehci}

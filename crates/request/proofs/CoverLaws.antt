@@ -1,5 +1,5 @@
 -- Coverage: each byte of a request's buffer is that of exactly one data descriptor and offset, and no other byte is.
-use Rattle.std.specs.Prelude.{◌≡◌, ℕ, ◌+◌, ◌-◌, ◌*◌, ◌/◌, ◌%◌, ◌^◌, ◌<◌, ◌≤◌, Bool, true, false, ltb}
+use Rattle.std.specs.Prelude.{◌≡◌, ℕ, ◌+◌, ◌*◌, ◌/◌, ◌%◌, ◌^◌, ◌<◌, ◌≤◌, Bool, true, false, ltb}
 use mathlib.Core.Path.{refl, sym, ap, ◌∙◌}
 use native.Mathlib.Nat.{div-add-mod', mod-lt, mul-le-mul_right, suc-mul}
 use native.Mathlib.Omega.{arith}

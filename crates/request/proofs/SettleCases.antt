@@ -1,5 +1,5 @@
 -- The returns of the functions that settle an accepted request.
-use Rattle.std.specs.Prelude.{◌≡◌, ℕ, ◌-◌, ◌*◌, Bool, true, false, List, [], ◌∷◌, length, get_or}
+use Rattle.std.specs.Prelude.{◌≡◌, ℕ, ◌*◌, Bool, true, false, List, [], ◌∷◌, get_or}
 use mathlib.Core.Path.{refl, sym, ap, ◌∙◌}
 use Rattle.common.specs.declared.kinds.EndpointType.{EndpointType}
 use Rattle.descriptor.specs.Setups.{setup_packet}

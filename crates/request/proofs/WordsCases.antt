@@ -22,7 +22,7 @@ use Rattle.state.specs.Plain.{Ehci}
 use Rattle.words.specs.declared.cores.Core.{Core}
 use Rattle.words.specs.declared.cores.Rest.{Rest}
 use Rattle.words.specs.Good.{Good, Tidy}
-use Rattle.words.specs.Record.{SlotFits, id_in, last_at, put_places, put_slot, size_in, toggle_in, word_at}
+use Rattle.words.specs.Record.{SlotFits, id_in, last_at, put_places, put_slot, toggle_in, word_at}
 use Rattle.words.specs.Rest.{rest_with_free}
 use Rattle.words.specs.View.{state_of, view}
 use Rattle.request.specs.Submit.{accepted_with, chain_for, first_in, id_at, judge_of, linked_rows, need_of_request, settled_submit, setups_with, state_with, submitted, taken_for, toggle_at, writes_with}

@@ -1,5 +1,5 @@
 -- The returns and the loop of the doorbell's functions.
-use Rattle.std.specs.Prelude.{◌≡◌, ℕ, ◌-◌, ◌<◌, ◌≤◌}
+use Rattle.std.specs.Prelude.{◌≡◌, ℕ, ◌<◌, ◌≤◌}
 use borrow.Author.Tests.{eq-eqb, ne_eqb, le-leb, lt-leb}
 use Rattle.register.specs.Bits.{with_bits}
 use Rattle.register.specs.Writes.{and_then}

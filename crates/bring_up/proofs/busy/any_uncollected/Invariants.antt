@@ -1,9 +1,5 @@
 use Rattle.std.specs.Prelude.{◌≡◌, ◌-◌, ◌≤◌, ◌||◌}
-use mathlib.Core.Path.{◌∙◌}
-use native.Mathlib.Omega.{arith}
-use borrow.Author.Rules.{rules}
 use Rattle.bring_up.specs.Words.{any_held}
-use Rattle.bring_up.proofs.BusyView.{held_begun, held_turn, held_done}
 use Rattle.bring_up.proofs.busy.any_uncollected.Given as goal
 
 abbrev pub invariant-loop-k : goal.invariant-loop-k

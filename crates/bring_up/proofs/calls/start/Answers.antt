@@ -1,5 +1,4 @@
 use Rattle.bring_up.proofs.WordsCases.{refused_free, starts_busy, starts_done}
-use borrow.Author.Rules.{rules}
 use Rattle.bring_up.proofs.calls.start.Goals as goal
 
 pub returns-then-any_uncollected : goal.returns-then-any_uncollected

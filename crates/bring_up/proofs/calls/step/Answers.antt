@@ -1,5 +1,4 @@
 use Rattle.bring_up.proofs.WordsCases.{refused_free, steps_again, steps_none, steps_onward}
-use borrow.Author.Rules.{rules}
 use Rattle.bring_up.proofs.calls.step.Goals as goal
 
 pub returns-then-at-eq0 : goal.returns-then-at-eq0

@@ -1,5 +1,4 @@
 use Rattle.bring_up.proofs.WordsCases.{refused_free, waits_late, waits_more}
-use borrow.Author.Rules.{rules}
 use Rattle.bring_up.proofs.calls.wait_again.Goals as goal
 
 pub returns-then-waited-core-clause-by_index : goal.returns-then-waited-core-clause-by_index

@@ -1,4 +1,3 @@
-use borrow.Author.Rules.{rules}
 use Rattle.bring_up.proofs.stage.command.Goals as goal
 
 pub returns : goal.returns

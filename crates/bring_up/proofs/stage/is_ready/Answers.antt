@@ -1,5 +1,4 @@
 use Rattle.bring_up.proofs.Cases.{ready_halting, ready_resetting, ready_starting}
-use borrow.Author.Rules.{rules}
 use Rattle.bring_up.proofs.stage.is_ready.Goals as goal
 
 pub returns-in-Halting : goal.returns-in-Halting

@@ -1,5 +1,4 @@
 use Rattle.bring_up.proofs.Cases.{on_stop, on_halting, on_reset, on_resetting, on_run, on_starting}
-use borrow.Author.Rules.{rules}
 use Rattle.bring_up.proofs.stage.moved_on.Goals as goal
 
 pub returns-in-Stop : goal.returns-in-Stop

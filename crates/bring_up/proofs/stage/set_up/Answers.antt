@@ -1,5 +1,4 @@
 use Rattle.bring_up.proofs.Cases.{set_up_is}
-use borrow.Author.Rules.{rules}
 use Rattle.bring_up.proofs.stage.set_up.Goals as goal
 
 pub returns : goal.returns

@@ -1,5 +1,4 @@
 use Rattle.bring_up.proofs.Cases.{writes_stop, writes_reset, writes_resetting, writes_run}
-use borrow.Author.Rules.{rules}
 use Rattle.bring_up.proofs.stage.stage_writes.Goals as goal
 
 pub returns-in-Stop : goal.returns-in-Stop

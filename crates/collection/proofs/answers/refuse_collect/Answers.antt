@@ -1,5 +1,4 @@
 use Rattle.collection.proofs.WordsCases.{collect_refused_words}
-use borrow.Author.Rules.{rules}
 use Rattle.collection.proofs.answers.refuse_collect.Goals as goal
 
 pub returns : goal.returns

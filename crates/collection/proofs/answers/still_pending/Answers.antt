@@ -1,5 +1,4 @@
 use Rattle.collection.proofs.WordsCases.{collect_pending_words}
-use borrow.Author.Rules.{rules}
 use Rattle.collection.proofs.answers.still_pending.Goals as goal
 
 pub returns : goal.returns

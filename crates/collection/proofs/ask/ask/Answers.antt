@@ -1,6 +1,5 @@
 use Rattle.collection.proofs.WordsAsk.{ask_limit, asks_closed, asks_idle, asks_linked, asks_unlinking, linked_asks_good, none_asked_good, unlinking_asks_good}
 use Rattle.collection.proofs.WordsSlots.{read_linked_room, read_unlinking_room}
-use borrow.Author.Rules.{rules}
 use Rattle.collection.proofs.ask.ask.Goals as goal
 
 pub ask_for-requires : goal.ask_for-requires

@@ -1,5 +1,4 @@
 use Rattle.collection.proofs.AnswerCases.{pending_refused}
-use borrow.Author.Rules.{rules}
 use Rattle.collection.proofs.collected.pending_of.Goals as goal
 
 pub returns-in-Refused : goal.returns-in-Refused

@@ -1,6 +1,5 @@
 use Rattle.collection.proofs.WordsCases.{tidy_pending, unlinking_ends_words, unlinking_waits_words}
 use Rattle.collection.proofs.WordsSlots.{unlinking_frame, unlinking_head}
-use borrow.Author.Rules.{rules}
 use Rattle.collection.proofs.finish.collect_unlinking.Goals as goal
 
 pub passed-requires : goal.passed-requires

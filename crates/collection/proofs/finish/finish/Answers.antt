@@ -1,7 +1,6 @@
 use Rattle.pipe.proofs.WordsKnown.{pipe_next_below}
 use Rattle.collection.proofs.WordsCases.{finishes_words, tidy_finished}
 use Rattle.collection.proofs.WordsSlots.{finish_fits, unlinking_room, unlinking_room_after}
-use borrow.Author.Rules.{rules}
 use Rattle.collection.proofs.finish.finish.Goals as goal
 
 pub places_at-requires : goal.places_at-requires

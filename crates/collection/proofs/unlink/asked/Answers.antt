@@ -1,5 +1,4 @@
 use Rattle.collection.proofs.UnlinkCases.{asks_one}
-use borrow.Author.Rules.{rules}
 use Rattle.collection.proofs.unlink.asked.Goals as goal
 
 pub returns : goal.returns

@@ -1,5 +1,4 @@
 use Rattle.collection.proofs.UnlinkCases.{bound_bulk, bound_control, bound_interrupt, bound_isochronous}
-use borrow.Author.Rules.{rules}
 use Rattle.collection.proofs.unlink.boundary_now.Goals as goal
 
 pub returns-in-Control : goal.returns-in-Control

@@ -1,5 +1,4 @@
 use Rattle.collection.proofs.UnlinkCases.{frame_below_lem, passed_async, passed_periodic}
-use borrow.Author.Rules.{rules}
 use Rattle.collection.proofs.unlink.passed.Goals as goal
 
 pub frames_passed-requires : goal.frames_passed-requires

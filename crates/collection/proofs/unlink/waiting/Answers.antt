@@ -1,7 +1,6 @@
 use Rattle.pipe.proofs.WordsKnown.{pipe_next_below}
 use Rattle.collection.proofs.WordsCases.{tidy_waited, waited}
 use Rattle.collection.proofs.WordsSlots.{own_fits, slot_room}
-use borrow.Author.Rules.{rules}
 use Rattle.collection.proofs.unlink.waiting.Goals as goal
 
 pub put_endpoint-requires-clause-k_in_bounds : goal.put_endpoint-requires-clause-k_in_bounds

@@ -1,4 +1,3 @@
-use borrow.Author.Rules.{rules}
 use Rattle.direct_calls.proofs.CoreCases.{core_decides, core_refuses, frames_fit, heads_fit, waited_fits}
 use Rattle.direct_calls.proofs.bringing_up.bring_up_step.Goals as goal
 

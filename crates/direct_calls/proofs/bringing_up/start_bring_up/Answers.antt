@@ -1,4 +1,3 @@
-use borrow.Author.Rules.{rules}
 use Rattle.direct_calls.proofs.SlotsCases.{slots_good_lem, slots_kept, slots_refuses}
 use Rattle.direct_calls.proofs.bringing_up.start_bring_up.Goals as goal
 

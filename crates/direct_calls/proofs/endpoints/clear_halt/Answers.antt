@@ -1,4 +1,3 @@
-use borrow.Author.Rules.{rules}
 use Rattle.direct_calls.proofs.SlotsCases.{slots_decides, slots_good_lem, slots_refuses}
 use Rattle.direct_calls.proofs.endpoints.clear_halt.Goals as goal
 

@@ -1,4 +1,3 @@
-use borrow.Author.Rules.{rules}
 use Rattle.direct_calls.proofs.HeadsCases.{heads_decides, heads_refuses}
 use Rattle.direct_calls.proofs.TakesCases.{heads_good, heads_length_lem}
 use Rattle.direct_calls.proofs.endpoints.close.Goals as goal

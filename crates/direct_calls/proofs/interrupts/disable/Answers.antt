@@ -1,4 +1,3 @@
-use borrow.Author.Rules.{rules}
 use Rattle.direct_calls.proofs.CoreCases.{core_decides, core_refuses}
 use Rattle.direct_calls.proofs.interrupts.disable.Goals as goal
 

@@ -1,4 +1,3 @@
-use borrow.Author.Rules.{rules}
 use Rattle.direct_calls.proofs.interrupts.refuse.Goals as goal
 
 pub returns : goal.returns

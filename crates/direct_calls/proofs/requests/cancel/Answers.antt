@@ -1,4 +1,3 @@
-use borrow.Author.Rules.{rules}
 use Rattle.std.specs.Prelude.{length}
 use Rattle.direct_calls.proofs.FramesCases.{frames_decides, frames_refuses}
 use Rattle.direct_calls.proofs.TakesCases.{frames_taken}

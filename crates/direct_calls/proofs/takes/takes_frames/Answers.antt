@@ -1,4 +1,3 @@
-use borrow.Author.Rules.{rules}
 use Rattle.direct_calls.proofs.TakesCases.{frames_asked, frames_else}
 use Rattle.direct_calls.proofs.takes.takes_frames.Goals as goal
 

@@ -1,4 +1,3 @@
-use borrow.Author.Rules.{rules}
 use Rattle.direct_calls.proofs.TakesCases.{heads_asked, heads_else}
 use Rattle.direct_calls.proofs.takes.takes_heads.Goals as goal
 

@@ -1,5 +1,4 @@
 use Rattle.endpoint.proofs.WordsCases.{words_busy, words_passed, words_shut, words_value}
-use borrow.Author.Rules.{rules}
 use Rattle.endpoint.proofs.calls.check_slot.Goals as goal
 
 pub returns-then-not-is_open : goal.returns-then-not-is_open

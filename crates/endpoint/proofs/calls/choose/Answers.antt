@@ -1,5 +1,4 @@
 use Rattle.endpoint.proofs.WordsCases.{words_fields, words_kind, words_none, words_slot}
-use borrow.Author.Rules.{rules}
 use Rattle.endpoint.proofs.calls.choose.Goals as goal
 
 pub returns-then-is_isochronous : goal.returns-then-is_isochronous

@@ -1,7 +1,6 @@
 use Rattle.std.specs.Prelude.{◌+◌, ◌*◌}
 use native.Mathlib.Omega.{arith}
 use Rattle.endpoint.proofs.WordsClear.{clearing_done, clearing_fits, clearing_refused, clearing_room, clearing_tidy}
-use borrow.Author.Rules.{rules}
 use Rattle.endpoint.proofs.calls.clear_halt.Goals as goal
 
 pub put_endpoint-requires-clause-k_in_bounds : goal.put_endpoint-requires-clause-k_in_bounds

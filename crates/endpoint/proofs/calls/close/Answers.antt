@@ -1,6 +1,5 @@
 use Rattle.pipe.proofs.WordsFits.{closed_fits}
 use Rattle.endpoint.proofs.WordsChange.{closing_done, closing_refused, closing_tidy, words_head, words_slot_room}
-use borrow.Author.Rules.{rules}
 use Rattle.endpoint.proofs.calls.close.Goals as goal
 
 pub put_head-requires-clause-place_bound : goal.put_head-requires-clause-place_bound

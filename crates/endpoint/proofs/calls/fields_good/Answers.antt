@@ -1,5 +1,4 @@
 use Rattle.endpoint.proofs.Cases.{fields_is}
-use borrow.Author.Rules.{rules}
 use Rattle.endpoint.proofs.calls.fields_good.Goals as goal
 
 pub returns : goal.returns

@@ -1,5 +1,4 @@
 use Rattle.endpoint.proofs.Cases.{size_given}
-use borrow.Author.Rules.{rules}
 use Rattle.endpoint.proofs.calls.resize.Goals as goal
 
 pub returns : goal.returns

@@ -1,5 +1,4 @@
 use Rattle.endpoint.proofs.WordsChange.{addressing_done, addressing_refused, words_word}
-use borrow.Author.Rules.{rules}
 use Rattle.endpoint.proofs.calls.set_address.Goals as goal
 
 pub bounds-heads-at : goal.bounds-heads-at

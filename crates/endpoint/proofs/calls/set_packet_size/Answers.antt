@@ -1,7 +1,6 @@
 use Rattle.std.specs.Prelude.{◌+◌, ◌*◌}
 use native.Mathlib.Omega.{arith}
 use Rattle.endpoint.proofs.WordsChange.{sizing_done, sizing_fits, sizing_refused, sizing_tidy, words_slot_room, words_word}
-use borrow.Author.Rules.{rules}
 use Rattle.endpoint.proofs.calls.set_packet_size.Goals as goal
 
 pub bounds-heads-at : goal.bounds-heads-at

@@ -1,5 +1,4 @@
 use Rattle.interrupt.proofs.Cases.{writes_once, writes_again}
-use borrow.Author.Rules.{rules}
 use Rattle.interrupt.proofs.acknowledge.acknowledge_writes.Goals as goal
 
 pub returns-then-same : goal.returns-then-same

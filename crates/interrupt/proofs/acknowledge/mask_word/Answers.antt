@@ -1,5 +1,4 @@
 use Rattle.interrupt.proofs.Cases.{mask_on, mask_off}
-use borrow.Author.Rules.{rules}
 use Rattle.interrupt.proofs.acknowledge.mask_word.Goals as goal
 
 pub returns-then-flag : goal.returns-then-flag

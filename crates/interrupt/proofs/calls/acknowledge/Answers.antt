@@ -1,5 +1,4 @@
 use Rattle.interrupt.proofs.WordsCases.{acknowledged_no, acknowledged_yes}
-use borrow.Author.Rules.{rules}
 use Rattle.interrupt.proofs.calls.acknowledge.Goals as goal
 
 pub returns-then-p-eq0-clause-by_index : goal.returns-then-p-eq0-clause-by_index

@@ -1,5 +1,4 @@
 use Rattle.interrupt.proofs.WordsCases.{disabled_done}
-use borrow.Author.Rules.{rules}
 use Rattle.interrupt.proofs.calls.disable.Goals as goal
 
 pub returns-clause-by_index : goal.returns-clause-by_index

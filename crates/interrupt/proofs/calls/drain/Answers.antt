@@ -1,6 +1,5 @@
 use Rattle.words.proofs.TidyLaws.{tidy_rest}
 use Rattle.interrupt.proofs.WordsCases.{drained_nothing, drained_some}
-use borrow.Author.Rules.{rules}
 use Rattle.interrupt.proofs.calls.drain.Goals as goal
 
 pub returns-then-pending-eq0-clause-slots_after : goal.returns-then-pending-eq0-clause-slots_after

@@ -1,5 +1,4 @@
 use Rattle.interrupt.proofs.WordsCases.{enabled_done}
-use borrow.Author.Rules.{rules}
 use Rattle.interrupt.proofs.calls.enable.Goals as goal
 
 pub returns-clause-by_index : goal.returns-clause-by_index

@@ -1,5 +1,4 @@
 use Rattle.interrupt.proofs.WordsCases.{note_up, note_down, note_none}
-use borrow.Author.Rules.{rules}
 use Rattle.interrupt.proofs.calls.noted_after.Goals as goal
 
 pub returns-then-doorbell-eq1 : goal.returns-then-doorbell-eq1

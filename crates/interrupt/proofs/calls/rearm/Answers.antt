@@ -1,5 +1,4 @@
 use Rattle.interrupt.proofs.WordsCases.{rearmed_none, rearmed_some}
-use borrow.Author.Rules.{rules}
 use Rattle.interrupt.proofs.calls.rearm.Goals as goal
 
 pub returns-then-rest-eq0-clause-by_index : goal.returns-then-rest-eq0-clause-by_index

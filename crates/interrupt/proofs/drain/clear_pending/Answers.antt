@@ -1,5 +1,4 @@
 use Rattle.interrupt.proofs.Cases.{take_port, take_activity, take_rest}
-use borrow.Author.Rules.{rules}
 use Rattle.interrupt.proofs.drain.clear_pending.Goals as goal
 
 pub returns-then-any_of : goal.returns-then-any_of

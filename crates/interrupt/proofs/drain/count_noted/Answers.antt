@@ -1,5 +1,4 @@
 use Rattle.interrupt.proofs.WordsCases.{counted_none, bell_answers, counted_one, tidy_counted}
-use borrow.Author.Rules.{rules}
 use Rattle.interrupt.proofs.drain.count_noted.Goals as goal
 
 pub returns-then-rest-eq0-clause-slots_after : goal.returns-then-rest-eq0-clause-slots_after

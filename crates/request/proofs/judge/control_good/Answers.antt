@@ -1,5 +1,4 @@
 use Rattle.request.proofs.JudgeCases.{control_is}
-use borrow.Author.Rules.{rules}
 use Rattle.request.proofs.judge.control_good.Goals as goal
 
 pub returns : goal.returns

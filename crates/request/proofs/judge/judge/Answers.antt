@@ -1,5 +1,4 @@
 use Rattle.request.proofs.WordsJudge.{words_closed, words_done, words_full, words_isochronous, words_kind, words_range, words_room, words_stopped}
-use borrow.Author.Rules.{rules}
 use Rattle.request.proofs.judge.judge.Goals as goal
 
 pub returns-then-phase-eq0 : goal.returns-then-phase-eq0

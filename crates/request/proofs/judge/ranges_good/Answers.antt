@@ -1,5 +1,4 @@
 use Rattle.request.proofs.JudgeCases.{ranges_control, ranges_other}
-use borrow.Author.Rules.{rules}
 use Rattle.request.proofs.judge.ranges_good.Goals as goal
 
 pub returns-then-is_control : goal.returns-then-is_control

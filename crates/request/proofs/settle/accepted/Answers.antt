@@ -1,5 +1,4 @@
 use Rattle.request.proofs.WordsCases.{accepted_words_lem}
-use borrow.Author.Rules.{rules}
 use Rattle.request.proofs.settle.accepted.Goals as goal
 
 pub returns : goal.returns

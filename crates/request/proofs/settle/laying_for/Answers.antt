@@ -1,5 +1,4 @@
 use Rattle.request.proofs.WordsCases.{laid_for}
-use borrow.Author.Rules.{rules}
 use Rattle.request.proofs.settle.laying_for.Goals as goal
 
 pub returns : goal.returns

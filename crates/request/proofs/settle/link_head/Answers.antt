@@ -1,5 +1,4 @@
 use Rattle.request.proofs.SettleCases.{rows_frames, rows_ring}
-use borrow.Author.Rules.{rules}
 use Rattle.request.proofs.settle.link_head.Goals as goal
 
 pub returns-then-is_interrupt : goal.returns-then-is_interrupt

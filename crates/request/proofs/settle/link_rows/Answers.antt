@@ -1,5 +1,4 @@
 use Rattle.request.proofs.WordsLink.{address_fits, rows_linked}
-use borrow.Author.Rules.{rules}
 use Rattle.request.proofs.settle.link_rows.Goals as goal
 
 pub overflow_cast-first : goal.overflow_cast-first

@@ -1,5 +1,4 @@
 use Rattle.request.proofs.SettleCases.{setup_put, setup_kept}
-use borrow.Author.Rules.{rules}
 use Rattle.request.proofs.settle.put_setup.Goals as goal
 
 pub returns-then-is_control : goal.returns-then-is_control

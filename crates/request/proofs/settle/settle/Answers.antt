@@ -1,6 +1,5 @@
 use Rattle.request.proofs.WordsCases.{areas_below, rows_ready, settled, setup_room}
 use Rattle.request.proofs.WordsSettle.{short_length, slot_room}
-use borrow.Author.Rules.{rules}
 use Rattle.request.proofs.settle.settle.Goals as goal
 
 pub link_rows-requires-clause-slot_in_bounds : goal.link_rows-requires-clause-slot_in_bounds

@@ -1,5 +1,4 @@
 use Rattle.request.specs.Words.{refused_words}
-use borrow.Author.Rules.{rules}
 use Rattle.request.proofs.submit.refuse.Goals as goal
 
 pub returns : goal.returns

@@ -1,6 +1,5 @@
 use mathlib.Core.Path.{sym, ◌∙◌}
 use Rattle.request.proofs.WordsSubmit.{limit_good, limit_viewed, need_viewed, refused_laying, refused_tidy, submit_refuses, submit_settles}
-use borrow.Author.Rules.{rules}
 use Rattle.request.proofs.submit.submit.Goals as goal
 
 pub need-wanted-requires : goal.need-wanted-requires

@@ -1,5 +1,4 @@
 use Rattle.request.proofs.WordsWriteback.{taken_beyond, taken_free}
-use borrow.Author.Rules.{rules}
 use Rattle.request.proofs.writeback.in_request.Goals as goal
 
 pub returns-then-core-place : goal.returns-then-core-place

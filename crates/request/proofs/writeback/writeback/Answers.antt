@@ -1,6 +1,5 @@
 use mathlib.Core.Path.{refl}
 use Rattle.request.proofs.WordsWriteback.{back_refused, back_written, mark_good_lem, no_mark_good}
-use borrow.Author.Rules.{rules}
 use Rattle.request.proofs.writeback.writeback.Goals as goal
 
 pub returns-then-not-in_request-clause-by_index : goal.returns-then-not-in_request-clause-by_index

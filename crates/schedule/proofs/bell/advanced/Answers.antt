@@ -1,5 +1,4 @@
 use Rattle.schedule.specs.Bell.{advanced_of}
-use borrow.Author.Rules.{rules}
 use Rattle.schedule.proofs.bell.advanced.Goals as goal
 
 pub returns : goal.returns

@@ -1,5 +1,4 @@
 use Rattle.schedule.specs.Bell.{command_word}
-use borrow.Author.Rules.{rules}
 use Rattle.schedule.proofs.bell.command_word.Goals as goal
 
 pub returns : goal.returns

@@ -1,5 +1,4 @@
 use Rattle.schedule.proofs.BellCases.{rings, rings_none, rings_up}
-use borrow.Author.Rules.{rules}
 use Rattle.schedule.proofs.bell.ring.Goals as goal
 
 pub returns-then-bell-ge1 : goal.returns-then-bell-ge1

@@ -1,5 +1,4 @@
 use Rattle.schedule.specs.Bell.{unlinked_of}
-use borrow.Author.Rules.{rules}
 use Rattle.schedule.proofs.bell.unlinked.Goals as goal
 
 pub returns : goal.returns

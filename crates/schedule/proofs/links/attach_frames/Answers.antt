@@ -1,5 +1,4 @@
 use Rattle.schedule.proofs.LinkCases.{frames_attached}
-use borrow.Author.Rules.{rules}
 use Rattle.schedule.proofs.links.attach_frames.Goals as goal
 
 pub returns : goal.returns

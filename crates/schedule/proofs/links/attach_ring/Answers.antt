@@ -2,7 +2,6 @@ use Rattle.schedule.specs.Links.{attached_ring}
 use native.Mathlib.Omega.{arith}
 use lib.ListN.{length-set}
 use mathlib.Core.Path.{refl}
-use borrow.Author.Rules.{rules}
 use Rattle.schedule.proofs.links.attach_ring.Goals as goal
 
 pub bounds-heads-0-2 : goal.bounds-heads-0-2

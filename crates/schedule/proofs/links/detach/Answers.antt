@@ -1,7 +1,6 @@
 use Rattle.words.specs.View.{view}
 use Rattle.schedule.proofs.LinkCases.{detach_head, detach_none}
 use Rattle.schedule.proofs.WordsCases.{detach_framed, detach_ringed}
-use borrow.Author.Rules.{rules}
 use Rattle.schedule.proofs.links.detach.Goals as goal
 
 pub returns-then-framed : goal.returns-then-framed

@@ -1,5 +1,4 @@
 use Rattle.schedule.specs.Links.{ended_overlay}
-use borrow.Author.Rules.{rules}
 use Rattle.schedule.proofs.links.end_overlay.Goals as goal
 
 pub returns : goal.returns

@@ -1,6 +1,5 @@
 use Rattle.words.specs.View.{view}
 use Rattle.schedule.proofs.WordsCases.{first_given, search_viewed}
-use borrow.Author.Rules.{rules}
 use Rattle.schedule.proofs.links.find_predecessor.Goals as goal
 
 pub returns-then-first-address : goal.returns-then-first-address

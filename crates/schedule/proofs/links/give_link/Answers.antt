@@ -1,5 +1,4 @@
 use Rattle.schedule.proofs.LinkCases.{no_such_word}
-use borrow.Author.Rules.{rules}
 use Rattle.schedule.proofs.links.give_link.Goals as goal
 
 pub returns-else-at-heads : goal.returns-else-at-heads

@@ -1,5 +1,4 @@
 use Rattle.schedule.proofs.WordsCases.{precedes_word_is}
-use borrow.Author.Rules.{rules}
 use Rattle.schedule.proofs.links.precedes.Goals as goal
 
 pub returns : goal.returns

@@ -1,7 +1,5 @@
-use Rattle.std.specs.Prelude.{◌-◌, ◌≤◌}
 use native.Mathlib.Omega.{arith}
-use Rattle.schedule.proofs.WordsCases.{Searched, good_most, search_ends, search_finds, search_goes_on, search_starts, word_inside}
-use borrow.Author.Rules.{rules}
+use Rattle.schedule.proofs.WordsCases.{good_most, search_ends, search_finds, search_goes_on, search_starts, word_inside}
 use Rattle.schedule.proofs.links.search.Goals as goal
 
 pub loop-j-init : goal.loop-j-init

@@ -1,7 +1,5 @@
 use Rattle.std.specs.Prelude.{◌-◌, ◌≤◌}
-use native.Mathlib.Omega.{arith}
-use Rattle.schedule.proofs.WordsCases.{Searched, good_most, search_ends, search_finds, search_goes_on, search_starts, word_inside}
-use borrow.Author.Rules.{rules}
+use Rattle.schedule.proofs.WordsCases.{Searched}
 use Rattle.schedule.proofs.links.search.Given as goal
 
 abbrev pub invariant-loop-j : goal.invariant-loop-j

@@ -2,7 +2,6 @@ use Rattle.schedule.specs.Links.{started_overlay}
 use native.Mathlib.Omega.{arith}
 use lib.ListN.{length-set}
 use mathlib.Core.Path.{refl}
-use borrow.Author.Rules.{rules}
 use Rattle.schedule.proofs.links.start_overlay.Goals as goal
 
 pub bounds-heads-at-2 : goal.bounds-heads-at-2
