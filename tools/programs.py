@@ -53,15 +53,15 @@ def programs():
 
 
 def found(name):
-    """Where target/bin/NAME is, or the program at a path."""
-    path = name if os.sep in name else os.path.join(TOP, "target", "bin", name)
+    """Where crates/NAME/out/NAME is, or the program at a path."""
+    path = name if os.sep in name else os.path.join(TOP, "crates", name, "out", name)
     if os.access(path, os.X_OK) and os.path.isfile(path):
         return path
     if os.sep in name:
         stop(f"{name} is not there, or cannot be run")
     if name not in programs():
         stop(f"there is no program {name}; there are: {', '.join(programs())}")
-    stop(f"target/bin/{name} is not there: `rt check {name}` makes it")
+    stop(f"crates/{name}/out/{name} is not there: `rt run` in crates/{name} makes it")
 
 
 def words(name):

@@ -1,10 +1,13 @@
 """Words in code font that are no names of the repository, each with its reason."""
 
+# the page that lays names and texts of an older Rattle beside today's: it is not held to the repository
+PORT = "docs/PORT.md"
+
 # paths that are not the repository's
 FILES = {
     "src/backend/kmod/ehci/mod.rs": "the file of 000",
     "../shared/docs/src": "where the published Rust is looked for",
-    "target/": "what rt makes",
+    "target/": "what bench/run makes",
     "specs/": "a folder of every crate",
     "proofs/": "a folder of every crate",
     "src/": "a folder of every crate",
