@@ -12,6 +12,8 @@ FILES = {
     "proofs/": "a folder of every crate",
     "src/": "a folder of every crate",
     "must-fail/": "a folder of every crate",
+    "Invariants.antt": "a file of a function's own proof",
+    "Answers.antt": "a file of a function's own proof",
 }
 
 NAMES_OF_000 = """fetch_add LINE_STATUS_K_STATE LINE_STATUS_MASK interrupt_on_complete error_counter PID_MASK PID_IN
