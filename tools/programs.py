@@ -1,5 +1,5 @@
-"""How a program of the port is run on this machine. The kit compiles for x86-64; on another processor a program runs by the
-emulator that the kit has beside its compiler, or by `qemu-x86_64` on the path. EMULATE=1 takes that way on x86-64 too."""
+"""How a program of the port is run on this machine. The kit compiles for x86-64; on another processor a program runs by
+`qemu-x86_64`, beside the kit's compiler or else on the path. EMULATE=1 takes that way on x86-64 too."""
 import os, platform, shutil, sys
 
 TOP = os.path.dirname(os.path.dirname(os.path.abspath(__file__)))
@@ -18,10 +18,10 @@ def emulates():
 
 
 def toolchain():
-    """The kit's compiler, loader and emulator for this machine: a folder found from where `rt` lies, or None."""
+    """The kit's compiler, linker, loader and C library: a folder found from where `rt` lies, or None."""
     rt = shutil.which("rt")
-    home = os.environ.get("RATTLE_HOME") or (rt and os.path.dirname(os.path.dirname(os.path.realpath(rt))))
-    folder = home and os.path.join(home, "on", platform.machine(), "toolchain")
+    home = rt and os.path.dirname(os.path.dirname(os.path.realpath(rt)))
+    folder = home and os.path.join(home, "toolchain")
     return folder if folder and os.path.isdir(folder) else None
 
 
@@ -53,15 +53,15 @@ def programs():
 
 
 def found(name):
-    """Where target/bin/NAME is, or the program at a path."""
-    path = name if os.sep in name else os.path.join(TOP, "target", "bin", name)
+    """Where crates/NAME/out/NAME is, or the program at a path."""
+    path = name if os.sep in name else os.path.join(TOP, "crates", name, "out", name)
     if os.access(path, os.X_OK) and os.path.isfile(path):
         return path
     if os.sep in name:
         stop(f"{name} is not there, or cannot be run")
     if name not in programs():
         stop(f"there is no program {name}; there are: {', '.join(programs())}")
-    stop(f"target/bin/{name} is not there: `rt check {name}` makes it")
+    stop(f"crates/{name}/out/{name} is not there: `rt run` in crates/{name} makes it")
 
 
 def words(name):

@@ -1,14 +1,19 @@
 """Words in code font that are no names of the repository, each with its reason."""
 
+# the page that lays names and texts of an older Rattle beside today's: it is not held to the repository
+PORT = "docs/PORT.md"
+
 # paths that are not the repository's
 FILES = {
     "src/backend/kmod/ehci/mod.rs": "the file of 000",
     "../shared/docs/src": "where the published Rust is looked for",
-    "target/": "what rt makes",
+    "target/": "what bench/run makes",
     "specs/": "a folder of every crate",
     "proofs/": "a folder of every crate",
     "src/": "a folder of every crate",
     "must-fail/": "a folder of every crate",
+    "Invariants.antt": "a file of a function's own proof",
+    "Answers.antt": "a file of a function's own proof",
 }
 
 NAMES_OF_000 = """fetch_add LINE_STATUS_K_STATE LINE_STATUS_MASK interrupt_on_complete error_counter PID_MASK PID_IN

@@ -1,8 +1,9 @@
 """Every name and file that a document cites: does it exist, and is the name in the file it is cited with?"""
 import fnmatch, glob, os, re
 
-from .allowed import FILES, WORDS
+from .allowed import FILES, PORT, WORDS
 from .edits import read
+from .names import OF_FUNCTION
 
 KINDS = "antt|rt|py|md|txt|rs|log|sheet|listing|svg|toml"
 PATH = re.compile(rf"(?<![\w./*+-])((?:[\w.+*-]+/)*[\w+*-][\w.+*-]*\.(?:{KINDS}))(?![\w/])")
@@ -21,7 +22,7 @@ BASES = {"docs/READING.md": "crates/promises", "oracle/README.md": "oracle"}
 def documents(top):
     found = glob.glob(os.path.join(top, "docs", "*.md"))
     found += [os.path.join(top, name) for name in ("README.md", "oracle/README.md")]
-    return sorted(os.path.relpath(path, top) for path in found if os.path.exists(path))
+    return sorted({os.path.relpath(path, top) for path in found if os.path.exists(path)} - {PORT})
 
 
 def lines_of(top, doc):
@@ -58,7 +59,7 @@ def resolve(index, doc, token, crate=None):
 
 
 def is_allowed_file(token):
-    return token in FILES or token.startswith("target/") or any(part.isupper() for part in token.split("/"))
+    return token in FILES or token.startswith("target/") or "/out/" in token or any(part.isupper() for part in token.split("/"))
 
 
 def missing_files(index, doc, number, line):
@@ -122,7 +123,7 @@ def elsewhere(index, doc, number, line):
 
 def where(index, name):
     found = sorted(path for path in index.of_name.get(name, ()) if path.endswith((".antt", ".rt")))
-    found = [path for path in found if "/Proof.antt" not in path]
+    found = [path for path in found if not OF_FUNCTION.search(path)]
     return f" (it is in {', '.join(found[:3])})" if found else ""
 
 
@@ -162,7 +163,7 @@ def moved(index, crate, token):
 def home(index, crate, names, like):
     """The one file of a crate, of the same kind, that declares all these names."""
     found = index.under(f"crates/{crate}", "*" + os.path.splitext(like)[1])
-    found = [path for path in found if not path.endswith("/Proof.antt")]
+    found = [path for path in found if not OF_FUNCTION.search(path)]
     found = [path for path in found if all(name in index.of_file[path] for name in names)]
     return found[0] if names and len(found) == 1 else None
 

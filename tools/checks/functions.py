@@ -7,8 +7,9 @@ from .edits import read
 from .promises import PAGE, cells, is_table, order
 
 HEAD = re.compile(r"^( *)pub (?:extern \"C\" )?fn (\w+)", re.M)
-# the whole result: the result itself, its one field, or a record of it with every lent row at the exit
-WHOLE = r"^\(?{r}(?: \.0)? ≡|^\(?[a-zA-Z]+ {r} \(now "
+CLAUSE = re.compile(r"\bensures(?: \w+)? \{")
+# the whole result: the result itself, its one field, or a record of it with every lent row as the call leaves it
+WHOLE = re.compile(r"^\(?result(?:\.0)? ≡|^\(?[a-z_]+ result \w+\.new\b")
 
 
 def contract(text, start):
@@ -23,14 +24,20 @@ def contract(text, start):
     return "\n".join(lines)
 
 
+def clauses(head):
+    """What stands between the braces of each `ensures`, in one line."""
+    for hit in CLAUSE.finditer(head):
+        end, depth = hit.end(), 1
+        while depth and end < len(head):
+            depth += {"{": 1, "}": -1}.get(head[end], 0)
+            end += 1
+        yield " ".join(head[hit.end() : end - 1].split())
+
+
 def fixes(head):
-    """Whether some clause says what the whole result is; a function that gives nothing has its rows at the exit."""
-    clauses = [" ".join(clause.split()) for clause in re.findall(r"ensures \{(.*?)⌝ \}", head, re.S)]
-    for clause in clauses:
-        hit = re.match(r"λ (\w+)\. ⌜ (.*)", clause)
-        if hit and re.search(WHOLE.format(r=re.escape(hit[1])), hit[2]):
-            return True
-        if hit and "->" not in head and re.search(r" \.exit\).* ≡", hit[2]):
+    """Whether some clause says what the whole result is; a function that gives nothing has its rows as it leaves them."""
+    for clause in clauses(head):
+        if WHOLE.search(clause) or ("->" not in head and re.search(r"\.new\b.* ≡", clause)):
             return True
     return False
 
@@ -47,7 +54,7 @@ def found(top):
             text, module = read(path), os.path.basename(path)[:-3]
             for hit in HEAD.finditer(text):
                 head, name = contract(text, hit.start()), f"{module}::{hit[2]}"
-                if re.search(r"\brequires \{", head):
+                if re.search(r"\brequires(?: \w+)? \{", head):
                     asking.setdefault(crate, []).append(name)
                 if not fixes(head):
                     loose.setdefault(crate, []).append(name)

@@ -17,12 +17,14 @@ MEMBER = re.compile(r"^\s+(?:pub\s+)?(\w+)\s*(?::|\(|\{|,)", re.M)
 # C has no word before a function, and the oracle's Rust also speaks 000's names: there every word of the code counts.
 EVERY_WORD = re.compile(r"[A-Za-z_]\w*")
 OTHERS = (".rs", ".c", ".h")
+# what is written of the proof of one function: its own folder has it
+OF_FUNCTION = re.compile(r"/proofs/.+/(?:Invariants|Answers|Proof)\.antt$")
 
 
 def tracked(top):
     """The files of the repository, without what is built."""
     for folder, folders, files in os.walk(top):
-        folders[:] = sorted(f for f in folders if f not in (".git", "target", "__pycache__"))
+        folders[:] = sorted(f for f in folders if f not in (".git", "target", "out", "__pycache__"))
         for name in sorted(files):
             yield os.path.relpath(os.path.join(folder, name), top)
 
@@ -64,7 +66,7 @@ class Index:
             for name in names:
                 self.of_name.setdefault(name, set()).add(path)
         self.crates = {path.split("/")[1] for path in self.files if path.startswith("crates/")}
-        self.modules = {os.path.basename(path).split(".")[0] for path in self.of_file if not path.endswith("/Proof.antt")}
+        self.modules = {os.path.basename(path).split(".")[0] for path in self.of_file if not OF_FUNCTION.search(path)}
         self.last = {os.path.basename(folder) for folder in self.folders if "/proofs" not in folder}
         self.edits = {name for _, name, _ in every(top)}
 

@@ -35,7 +35,7 @@ def rows(top):
 def order(top):
     """The crates in the order of crates.txt."""
     with open(os.path.join(top, "crates.txt"), encoding="utf-8") as opened:
-        return [line.split(":")[0] for line in opened if ":" in line]
+        return [line.split(":")[0].split()[0] for line in opened if ":" in line and not line.startswith("#")]
 
 
 def columns(top):
