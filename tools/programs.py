@@ -61,7 +61,7 @@ def found(name):
         stop(f"{name} is not there, or cannot be run")
     if name not in programs():
         stop(f"there is no program {name}; there are: {', '.join(programs())}")
-    stop(f"crates/{name}/out/{name} is not there: `rt run` in crates/{name} makes it")
+    stop(f"crates/{name}/out/{name} is not there: `rt run < /dev/null` in crates/{name} makes it")
 
 
 def words(name):
