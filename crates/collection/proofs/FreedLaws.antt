@@ -66,7 +66,7 @@ freed_length (y ∷ ys) (suc D) x = rw (first_freed y ys D x) (by (eqb y x) (fre
     by true q = ap suc q
     by false q = ap suc q
 
--- among the first D places they are those that `clearOf` clears
+-- among the first D places they are those that `clear_of` clears
 pub freed_front : (o : List ℕ) (D x : ℕ) → take D (freed o D x) ≡ clear_of x (take D o)
 unfolding clear_of
 freed_front o zero x = refl

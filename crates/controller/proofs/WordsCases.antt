@@ -4,7 +4,7 @@ use mathlib.Core.Path.{refl, sym}
 use native.Mathlib.Decide.{ℕ_discrete as dec_eq}
 use native.Mathlib.Omega.{arith}
 use Rattle.common.specs.declared.answer.Refusal.TheVariants.{SlotLimitReached}
-use Rattle.bitset.specs.Places.{has_place as inPlaces}
+use Rattle.bitset.specs.Places.{has_place as in_places}
 use Rattle.settings.specs.declared.settings.Settings.{Settings}
 use Rattle.state.specs.Ranges.{in_ranges}
 use Rattle.state.specs.State.{with_next_address}
@@ -86,5 +86,5 @@ module _ (ws : List ℕ) (k : ℕ) where
   pub held_said : (w : ℕ) → w ≡ word_at ws k → leb 2 (phase_in w) ≡ held_at ws k
   held_said w e = rw e
 
-  pub place_said : (p : ℕ) (x : List ℕ) (t : Bool) → x ≡ places_at ws k → t ≡ inPlaces x p → t ≡ inPlaces (places_at ws k) p
+  pub place_said : (p : ℕ) (x : List ℕ) (t : Bool) → x ≡ places_at ws k → t ≡ in_places x p → t ≡ in_places (places_at ws k) p
   place_said p x t ex et = rw (sym ex) et

@@ -2,7 +2,7 @@
 use Rattle.std.specs.Prelude.{◌≡◌, ℕ, ◌+◌, ◌<◌, ◌≤◌, Bool, true, false, eqb, ltb, List, length, get_or, take}
 use mathlib.Core.Path.{refl, sym, ◌∙◌}
 use borrow.Author.Tests.{eq-eqb, eqb-false, eqb-true, le-ltb, ltb-false, ltb-true, ne_eqb}
-use Rattle.bitset.specs.Places.{has_place as inPlaces, set_places}
+use Rattle.bitset.specs.Places.{has_place as in_places, set_places}
 use Rattle.settings.specs.declared.settings.Settings.{Settings}
 use Rattle.words.specs.declared.cores.Rest.{Rest}
 use Rattle.words.specs.Good.{Good, Tidy}
@@ -46,20 +46,20 @@ module _ (s : Settings) (r : Rest) (ws : List ℕ) (good : Good s r ws) (k p : �
     bit_owner false e =
         sym (ne_eqb (get_or (state_of s r ws).owner p 0) (k + 1) (λ q. eqb-false (holds_bit ws k p) 1 e (owner_slot q).1))
 
-    within_viewed : inPlaces (places_at ws k) p ≡ has_place (state_of s r ws) k p
+    within_viewed : in_places (places_at ws k) p ≡ has_place (state_of s r ws) k p
     within_viewed =
         has_bit (places_at ws k) p below ∙ rw (slot_place ws k p below) (bit_owner (eqb (holds_bit ws k p) 1) refl)
 
   none_beyond : 256 ≤ p → has_place (state_of s r ws) k p ≡ false
   none_beyond h = sym (place_beyond (state_of s r ws) k p h (owner_length s r ws))
 
-  no_place_lem : 256 ≤ p → inPlaces (places_at ws k) p ≡ false
-  unfolding inPlaces
+  no_place_lem : 256 ≤ p → in_places (places_at ws k) p ≡ false
+  unfolding in_places
   no_place_lem h = rw (le-ltb p 256 h)
 
-  pub place_viewed : inPlaces (places_at ws k) p ≡ has_place (state_of s r ws) k p
+  pub place_viewed : in_places (places_at ws k) p ≡ has_place (state_of s r ws) k p
   place_viewed = go (ltb p 256) refl
     where
-      go : (b : Bool) → ltb p 256 ≡ b → inPlaces (places_at ws k) p ≡ has_place (state_of s r ws) k p
+      go : (b : Bool) → ltb p 256 ≡ b → in_places (places_at ws k) p ≡ has_place (state_of s r ws) k p
       go true t = within_viewed (ltb-true p 256 t)
       go false t = no_place_lem (ltb-false p 256 t) ∙ sym (none_beyond (ltb-false p 256 t))

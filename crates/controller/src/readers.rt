@@ -1,6 +1,6 @@
 // What a caller may ask of the words. Nothing changes. A slot that the row does not have is closed, with no request.
 ghost use Rattle.std.specs.Prelude.{◌≡◌, ◌+◌, ◌*◌, length, slice_index};
-ghost use Rattle.bitset.specs.Places.{set_places, has_place as inPlaces};
+ghost use Rattle.bitset.specs.Places.{set_places, has_place as in_places};
 ghost use Rattle.pipe.specs.Endpoints.{flag_of};
 ghost use Rattle.words.specs.Record.{places_at};
 ghost use Rattle.controller.specs.Words.{held_at, open_at};
@@ -52,7 +52,7 @@ pub fn request_places(slots: &[u64], slot: u8) -> [u64; 4]
 
 // Whether a place is one of those of a slot's request.
 pub fn has_place(slots: &[u64], slot: u8, place: u64) -> bool
-    ensures { result ≡ inPlaces (places_at slots.now slot) place }
+    ensures { result ≡ in_places (places_at slots.now slot) place }
 {
     has(request_places(slots, slot), place)
 }

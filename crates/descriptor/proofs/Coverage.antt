@@ -65,7 +65,7 @@ module _ (A L j : ℕ) (fits : A + L ≤ 2 ^ 32) (hj : j < L) where
 
 -- no slot beyond the last page is filled
 pub beyond_last : (A L i : ℕ) → 1 ≤ L → 1 ≤ i → (A % 4096 + (L - 1)) / 4096 < i → get_or (page_slots A L) i 0 ≡ 0
-beyond_last A L i hL hi h = rw (slots_are A L hL) (out i hi h)
+beyond_last A L i h_l hi h = rw (slots_are A L h_l) (out i hi h)
   where
     past : (k : ℕ) → (A % 4096 + (L - 1)) / 4096 < k → A + L ≤ A - A % 4096 + 4096 * k
     past k hk = omega arith
@@ -88,7 +88,7 @@ elsewhere A j o at h e f = omega arith
 -- where the buffer goes on to a sixth page they do not: its last byte is not where the controller looks
 pub slots_lack : (A L : ℕ) → 4096 ≤ A → 20480 < A % 4096 + L
     → byte_address (page_slots A L) zero_slots (L - 1) ≡ A + (L - 1) → ⊥
-slots_lack A L hA h e =
+slots_lack A L h_a h e =
     let o : ℕ = A % 4096 + (L - 1) in
     let k : ℕ = o / 4096 in
     let far : 5 ≤ k = omega arith in
@@ -96,4 +96,4 @@ slots_lack A L hA h e =
     let lost : byte_address (filled_slots A L) zero_slots (L - 1) ≡ 0 * 2 ^ 32 + page 0 + o % 4096 =
     at_slot (filled_slots A L) zero_slots k 0 0 (L - 1) o begins refl (get_or-eq_default (filled_slots A L) 0 far)
     (get_or-eq_default zero_slots 0 far) in
-    elsewhere A (L - 1) o _ hA lost (rw (slots_are A L (omega arith)) at e)
+    elsewhere A (L - 1) o _ h_a lost (rw (slots_are A L (omega arith)) at e)

@@ -13,7 +13,7 @@ bm_request_type bytes = byte bytes 0
 
 -- of it, bit 7: 1 is device to host
 abbrev pub transfer_direction : ℕ → ℕ
-transfer_direction requestType = requestType / 2 ^ 7 % 2
+transfer_direction request_type = request_type / 2 ^ 7 % 2
 
 abbrev pub b_request : List ℕ → ℕ
 b_request bytes = byte bytes 1

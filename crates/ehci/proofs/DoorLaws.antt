@@ -1,4 +1,4 @@
--- What the walk of `apply` cites of the definitions: the calls that it makes, together, are what `applyWords` says, and what is decided may be written.
+-- What the walk of `apply` cites of the definitions: the calls that it makes, together, are what `apply_words` says, and what is decided may be written.
 use Rattle.std.specs.Prelude.{◌≡◌, ℕ, Bool, true, false, List, length}
 use mathlib.Core.Path.{refl, sym, ◌∙◌, ap, subst}
 use Rattle.bitset.specs.Places.{set_places}

@@ -31,7 +31,7 @@ use Rattle.request.specs.Plain.{WrittenBack}
 use Rattle.request.specs.declared.judge.TransferRequest.{TransferRequest}
 use Rattle.collection.specs.Answers.{outcome_of, pending_collect}
 use Rattle.collection.specs.declared.collected.Collected.TheVariants.{Complete, Failed as FailedCollect}
-use Rattle.collection.specs.Calls.{Gathered, cancel_at, cancel_checks, cancel_of, collect_at, collect_checks, collect_of, end_if, ended, finish_of, gathered, keeping, linked_of, marked, pending_left, unlinking_of, with_frames as gatheredFrames}
+use Rattle.collection.specs.Calls.{Gathered, cancel_at, cancel_checks, cancel_of, collect_at, collect_checks, collect_of, end_if, ended, finish_of, gathered, keeping, linked_of, marked, pending_left, unlinking_of, with_frames as gathered_frames}
 use Rattle.collection.specs.Unlinks.{Left, is_missing, passed_boundary, unlink_of, waiting_of}
 use Rattle.interrupt.specs.Interrupts.{acknowledge_of, disable_of, drain_if, drain_of, enable_of, heard_if, rearm_if, rearm_of, settled_or, cleared_of, counted_of}
 use Rattle.interrupt.specs.declared.drain.Cleared.{Cleared}
@@ -256,11 +256,11 @@ module _ (s : Ehci) (hs fs us : List ℕ) where
         by false = refl
 
     unlinking_fair : (v : View) (p : Pipe) (r : Request) (u : UnlinkBoundary)
-        → Fair (with_setups (collect_came (gatheredFrames (unlinking_of s hs readings.frame v k p r u) fs)) us)
+        → Fair (with_setups (collect_came (gathered_frames (unlinking_of s hs readings.frame v k p r u) fs)) us)
     unfolding unlinking_of finish_of replied
     unlinking_fair v p r u = by (passed_boundary u readings.frame)
       where
-        by : (b : Bool) → Fair (with_setups (collect_came (gatheredFrames (end_if b (ended (finish_of s v k p r) (ended_overlay hs k)) (ended (pending_collect s) hs)) fs)) us)
+        by : (b : Bool) → Fair (with_setups (collect_came (gathered_frames (end_if b (ended (finish_of s v k p r) (ended_overlay hs k)) (ended (pending_collect s) hs)) fs)) us)
         by true = result_fair _ (outcome_given r.cancelled v) none_few
         by false = result_fair _ refl none_few
 

@@ -21,7 +21,7 @@ use Rattle.ehci.specs.Replies.{acknowledged_answer, allotted_answer, drained_ans
 use Rattle.ehci.specs.WordsDecides.{replied_words}
 use Rattle.ehci.specs.WordsDoor.{accepts_words, apply_words, reply_view}
 
--- ---- what a call returns, as the door's reply; that of the others is `changedWords`, `settledWords`, `broughtWords`
+-- ---- what a call returns, as the door's reply; that of the others is `changed_words`, `settled_words`, `brought_words`
 
 abbrev pub allotted_reply : Allotment → Reply
 allotted_reply x = (replied_words x.rest (allotted_answer x.answer) no_writes).reply

@@ -33,7 +33,7 @@ use Rattle.schedule.specs.Bell.{advanced_of, fallen_from, fallen_one, ring_of, r
 use Rattle.schedule.specs.Links.{attached_ring, detach_of, precedes_one, predecessor_of, search_from, started_overlay}
 use Rattle.endpoint.specs.Lowest.{closed_from}
 use Rattle.endpoint.specs.Calls.{fields_good, open_checks, open_endpoint_of}
-use Rattle.request.specs.Submit.{accepted_with, buffer_good, linked_rows, ranges_good, refused_submit, settled_submit, setups_with, state_with, submit_of, taken_for, taken_of as takenPlaces}
+use Rattle.request.specs.Submit.{accepted_with, buffer_good, linked_rows, ranges_good, refused_submit, settled_submit, setups_with, state_with, submit_of, taken_for, taken_of as taken_places}
 use Rattle.slot.specs.Ids.{after_id}
 use Rattle.collection.specs.Unlinks.{bounded_of, unlink_of, waiting_of}
 use Rattle.collection.specs.Calls.{cancel_of, collect_of, finish_of, unlinking_of}
@@ -252,16 +252,16 @@ unfolding after apply_of decide_of asks_of rows_are_fit replied fill_of filled_f
 opens_two = rw one_open_good
 
 links_one : after opened_two (submit_out 0 0x500000 512) ≡ linked_one
-unfolding after apply_of decide_of asks_of rows_are_fit replied fill_of filled_from no_chain packed list_of submit_decided submit_of accepts_of endpoint_at decoded slot_at ranges_good buffer_good free_count count_zero need_of chunk_count settled_submit accepted_with taken_for takenPlaces places_from mark_of state_with after_id with_owner with_endpoint with_slot linked_rows started_overlay overlay_token attached_ring setups_with record_at bare_at chunk_qtd new_qtd token_of page_slots with_next with_rows state_of
+unfolding after apply_of decide_of asks_of rows_are_fit replied fill_of filled_from no_chain packed list_of submit_decided submit_of accepts_of endpoint_at decoded slot_at ranges_good buffer_good free_count count_zero need_of chunk_count settled_submit accepted_with taken_for taken_places places_from mark_of state_with after_id with_owner with_endpoint with_slot linked_rows started_overlay overlay_token attached_ring setups_with record_at bare_at chunk_qtd new_qtd token_of page_slots with_next with_rows state_of
 links_one = rw two_open_good
 
 -- the second read begins with DATA1
 links_odd : get_or (after (with_rows one_odd (blank ∷ blank ∷ []) (heads_of 0x200002 (head_of 1 0xF2002105 1) (head_of 1 0xF2002205 1))) (submit_out 0 0x500000 512)).heads 23 0 ≡ 0x80000000
-unfolding after apply_of decide_of asks_of rows_are_fit replied fill_of filled_from no_chain packed list_of submit_decided submit_of accepts_of endpoint_at decoded slot_at ranges_good buffer_good free_count count_zero need_of chunk_count settled_submit accepted_with taken_for takenPlaces places_from mark_of state_with after_id with_owner with_endpoint with_slot linked_rows started_overlay overlay_token attached_ring setups_with record_at bare_at chunk_qtd new_qtd token_of page_slots with_next with_rows state_of
+unfolding after apply_of decide_of asks_of rows_are_fit replied fill_of filled_from no_chain packed list_of submit_decided submit_of accepts_of endpoint_at decoded slot_at ranges_good buffer_good free_count count_zero need_of chunk_count settled_submit accepted_with taken_for taken_places places_from mark_of state_with after_id with_owner with_endpoint with_slot linked_rows started_overlay overlay_token attached_ring setups_with record_at bare_at chunk_qtd new_qtd token_of page_slots with_next with_rows state_of
 links_odd = rw one_odd_good
 
 links_two : after linked_one (submit_out 1 0x501000 512) ≡ linked_two
-unfolding after apply_of decide_of asks_of rows_are_fit replied fill_of filled_from no_chain packed list_of submit_decided submit_of accepts_of endpoint_at decoded slot_at ranges_good buffer_good free_count count_zero need_of chunk_count settled_submit accepted_with taken_for takenPlaces places_from mark_of state_with after_id with_owner with_endpoint with_slot linked_rows started_overlay overlay_token attached_ring setups_with record_at bare_at chunk_qtd new_qtd token_of page_slots with_next with_rows state_of
+unfolding after apply_of decide_of asks_of rows_are_fit replied fill_of filled_from no_chain packed list_of submit_decided submit_of accepts_of endpoint_at decoded slot_at ranges_good buffer_good free_count count_zero need_of chunk_count settled_submit accepted_with taken_for taken_places places_from mark_of state_with after_id with_owner with_endpoint with_slot linked_rows started_overlay overlay_token attached_ring setups_with record_at bare_at chunk_qtd new_qtd token_of page_slots with_next with_rows state_of
 links_two = rw one_linked_good
 
 unlinks_one : after linked_two (Cancel 0 1 (reading 0x80031)) ≡ unlinked_one

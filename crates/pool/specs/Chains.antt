@@ -1,4 +1,4 @@
--- What a request's descriptors say (`view_of`), and what is written to the pool (`fillOf`).
+-- What a request's descriptors say (`view_of`), and what is written to the pool (`fill_of`).
 use Rattle.std.specs.Prelude.{ℕ, suc, ◌+◌, ◌-◌, ◌*◌, ◌/◌, ◌≤◌, ◌^◌, Bool, true, false, cond, not, ◌&&◌, List, [], ◌∷◌, map, eqb, get_or, set}
 use Rattle.common.specs.declared.kinds.EndpointType.{EndpointType}
 use Rattle.common.specs.declared.kinds.EndpointType.TheVariants.{Control, Isochronous, Bulk, Interrupt}

@@ -1,6 +1,6 @@
 -- What is promised: one record, a field for each promise, in the order of the demands. `kept` (proofs/theorems/Kept.antt) says that this port keeps
 -- them all. Each name leads down to its statement; a statement is about any machine, whatever its form of state, so the same words
--- are kept by this port in both of its forms (`kept-in-words`, proofs/theorems/WordsPromises.antt) and refuted of machines with a fault.
+-- are kept by this port in both of its forms (`kept_in_words`, proofs/theorems/WordsPromises.antt) and refuted of machines with a fault.
 use Rattle.promises.specs.Runs.{EveryRun, Everywhere, Form, Machine}
 use Rattle.promises.specs.Refusals.{FewWrites, RefusalsKeep}
 use Rattle.promises.specs.Checks.{InOrder}

@@ -25,7 +25,7 @@ use Rattle.controller.specs.Lent.{accepts_of}
 use Rattle.controller.specs.Readers.{count_zero, free_count}
 use Rattle.schedule.specs.Bell.{advanced_of, fallen_from, fallen_one, ring_of, ring_word, unlinked_of}
 use Rattle.schedule.specs.Links.{attached_ring, detach_of, ended_overlay, precedes_one, predecessor_of, search_from, started_overlay}
-use Rattle.request.specs.Submit.{accepted_with, buffer_good, linked_rows, ranges_good, settled_submit, setups_with, state_with, submit_of, taken_for, writes_with, taken_of as takenPlaces}
+use Rattle.request.specs.Submit.{accepted_with, buffer_good, linked_rows, ranges_good, settled_submit, setups_with, state_with, submit_of, taken_for, writes_with, taken_of as taken_places}
 use Rattle.slot.specs.Ids.{after_id}
 use Rattle.collection.specs.Unlinks.{bounded_of, unlink_of, waiting_of}
 use Rattle.collection.specs.Calls.{cancel_of, collect_of, finish_of, freed, unlinking_of}
@@ -60,7 +60,7 @@ opened_two_good : in_ranges (used no_bell (0 ∷ 0 ∷ []) (idle 1) (idle 1)) �
 opened_two_good = good 1
 
 pub submitted : core opened_two (submits 0 0x500000) ≡ replies (Done (G.Id 1)) (writes_with (reading 0x80031)) (linked_one (one 0 0 0 0 0 linked))
-unfolding apply_of decide_of asks_of rows_are_fit replied fill_of filled_from no_chain packed list_of submit_decided submit_of accepts_of endpoint_at decoded slot_at ranges_good buffer_good free_count count_zero need_of chunk_count settled_submit accepted_with taken_for takenPlaces places_from mark_of state_with after_id with_owner with_endpoint with_slot linked_rows started_overlay overlay_token attached_ring setups_with record_at bare_at chunk_qtd new_qtd token_of page_slots with_next state_of
+unfolding apply_of decide_of asks_of rows_are_fit replied fill_of filled_from no_chain packed list_of submit_decided submit_of accepts_of endpoint_at decoded slot_at ranges_good buffer_good free_count count_zero need_of chunk_count settled_submit accepted_with taken_for taken_places places_from mark_of state_with after_id with_owner with_endpoint with_slot linked_rows started_overlay overlay_token attached_ring setups_with record_at bare_at chunk_qtd new_qtd token_of page_slots with_next state_of
 submitted = rw opened_two_good
 
 linked_good_lem : in_ranges (one 0 0 0 0 0 linked) ≡ true
@@ -109,7 +109,7 @@ again_one =
     (chunk 0x502000 ∷ blank ∷ []) (heads_of 0x200082 (head_of 0x200002 0xF2002105 0x100000) (head_of 1 0xF2002205 1))
 
 pub submitted_again : core free_one (submits 0 0x502000) ≡ replies (Done (G.Id 2)) (writes_with (reading 0x80031)) again_one
-unfolding apply_of decide_of asks_of rows_are_fit replied fill_of filled_from no_chain packed list_of submit_decided submit_of accepts_of endpoint_at decoded slot_at ranges_good buffer_good free_count count_zero need_of chunk_count settled_submit accepted_with taken_for takenPlaces places_from mark_of state_with after_id with_owner with_endpoint with_slot linked_rows started_overlay overlay_token attached_ring setups_with record_at bare_at chunk_qtd new_qtd token_of page_slots with_next state_of
+unfolding apply_of decide_of asks_of rows_are_fit replied fill_of filled_from no_chain packed list_of submit_decided submit_of accepts_of endpoint_at decoded slot_at ranges_good buffer_good free_count count_zero need_of chunk_count settled_submit accepted_with taken_for taken_places places_from mark_of state_with after_id with_owner with_endpoint with_slot linked_rows started_overlay overlay_token attached_ring setups_with record_at bare_at chunk_qtd new_qtd token_of page_slots with_next state_of
 submitted_again = rw free_good
 
 -- ---- two requests, and what comes of them
@@ -128,7 +128,7 @@ abbrev pub apart_two : Ehci → World
 apart_two s = pair_world s (heads_of 0x200002 (head_of 0x200002 0xF2002105 0x100000) (head_of 0x200002 0xF2002205 0x100040))
 
 pub submitted_two : core (linked_one (one 0 0 0 0 0 linked)) (submits 1 0x501000) ≡ replies (Done (G.Id 1)) (writes_with (reading 0x80031)) linked_two
-unfolding apply_of decide_of asks_of rows_are_fit replied fill_of filled_from no_chain packed list_of submit_decided submit_of accepts_of endpoint_at decoded slot_at ranges_good buffer_good free_count count_zero need_of chunk_count settled_submit accepted_with taken_for takenPlaces places_from mark_of state_with after_id with_owner with_endpoint with_slot linked_rows started_overlay overlay_token attached_ring setups_with record_at bare_at chunk_qtd new_qtd token_of page_slots with_next state_of
+unfolding apply_of decide_of asks_of rows_are_fit replied fill_of filled_from no_chain packed list_of submit_decided submit_of accepts_of endpoint_at decoded slot_at ranges_good buffer_good free_count count_zero need_of chunk_count settled_submit accepted_with taken_for taken_places places_from mark_of state_with after_id with_owner with_endpoint with_slot linked_rows started_overlay overlay_token attached_ring setups_with record_at bare_at chunk_qtd new_qtd token_of page_slots with_next state_of
 submitted_two = rw linked_good_lem
 
 one_apart_good : in_ranges (one 0 0 0 1 1 (waits 1)) ≡ true
@@ -136,7 +136,7 @@ one_apart_good = good 14
 
 -- a second request beside one that is out of the ring
 pub submitted_beside : core (apart_one (one 0 0 0 1 1 (waits 1))) (submits 1 0x501000) ≡ replies (Done (G.Id 1)) (writes_with (reading 0x80031)) apart_first
-unfolding apply_of decide_of asks_of rows_are_fit replied fill_of filled_from no_chain packed list_of submit_decided submit_of accepts_of endpoint_at decoded slot_at ranges_good buffer_good free_count count_zero need_of chunk_count settled_submit accepted_with taken_for takenPlaces places_from mark_of state_with after_id with_owner with_endpoint with_slot linked_rows started_overlay overlay_token attached_ring setups_with record_at bare_at chunk_qtd new_qtd token_of page_slots with_next state_of
+unfolding apply_of decide_of asks_of rows_are_fit replied fill_of filled_from no_chain packed list_of submit_decided submit_of accepts_of endpoint_at decoded slot_at ranges_good buffer_good free_count count_zero need_of chunk_count settled_submit accepted_with taken_for taken_places places_from mark_of state_with after_id with_owner with_endpoint with_slot linked_rows started_overlay overlay_token attached_ring setups_with record_at bare_at chunk_qtd new_qtd token_of page_slots with_next state_of
 submitted_beside = rw one_apart_good
 
 two_linked_good : in_ranges (two 0 0 0 0 0 linked linked) ≡ true
@@ -201,7 +201,7 @@ again_second =
     (chunk 0x500000 ∷ chunk 0x502000 ∷ []) (heads_of 0x200102 (head_of 0x200002 0xF2002105 0x100000) (head_of 0x200002 0xF2002205 0x100040))
 
 pub submitted_second : core free_second (submits 1 0x502000) ≡ replies (Done (G.Id 2)) (writes_with (reading 0x80031)) again_second
-unfolding apply_of decide_of asks_of rows_are_fit replied fill_of filled_from no_chain packed list_of submit_decided submit_of accepts_of endpoint_at decoded slot_at ranges_good buffer_good free_count count_zero need_of chunk_count settled_submit accepted_with taken_for takenPlaces places_from mark_of state_with after_id with_owner with_endpoint with_slot linked_rows started_overlay overlay_token attached_ring setups_with record_at bare_at chunk_qtd new_qtd token_of page_slots with_next state_of
+unfolding apply_of decide_of asks_of rows_are_fit replied fill_of filled_from no_chain packed list_of submit_decided submit_of accepts_of endpoint_at decoded slot_at ranges_good buffer_good free_count count_zero need_of chunk_count settled_submit accepted_with taken_for taken_places places_from mark_of state_with after_id with_owner with_endpoint with_slot linked_rows started_overlay overlay_token attached_ring setups_with record_at bare_at chunk_qtd new_qtd token_of page_slots with_next state_of
 submitted_second = rw second_free_good
 
 -- ---- runs

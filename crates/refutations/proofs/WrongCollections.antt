@@ -12,7 +12,7 @@ use Rattle.register.specs.Writes.{and_then, no_writes}
 use Rattle.common.specs.declared.kinds.EndpointType.TheVariants.{Control}
 use Rattle.descriptor.specs.Descriptors.{terminated}
 use Rattle.descriptor.specs.declared.qtd.QueueTransferDescriptor.{QueueTransferDescriptor}
-use Rattle.pool.specs.Chains.{blank, fill_of, filled_from, first_error, length_of, no_chain, read_of, retried_of, seen_from, standing_of as stageSeen, view_of, with_token}
+use Rattle.pool.specs.Chains.{blank, fill_of, filled_from, first_error, length_of, no_chain, read_of, retried_of, seen_from, standing_of as stage_seen, view_of, with_token}
 use Rattle.pool.specs.Places.{clear_of, list_of, packed, places_from}
 use Rattle.pool.specs.Transfers.{requested_at}
 use Rattle.pool.specs.Plain.{Ask}
@@ -115,7 +115,7 @@ abbrev pub unlinked : Applied
 unlinked = replies Pending (and_then no_writes 0 (ring_word 0x80031)) (apart_now (one 0 0 0 1 1 (leaves 1)))
 
 pub unlinks : core (linked_now (one 0 0 0 0 0 linked)) looks ≡ unlinked
-unfolding apply_of decide_of asks_of ask_of askable request_ask places_from seen_from read_of view_of stageSeen first_error length_of retried_of requested_at rows_are_fit replied fill_of filled_from no_chain packed list_of collect_decided collect_of linked_of accepts_of endpoint_at decoded slot_at unlink_of waiting_of bounded_of unlinked_of ring_of detach_of predecessor_of search_from precedes_one with_endpoint with_slot with_bell state_of
+unfolding apply_of decide_of asks_of ask_of askable request_ask places_from seen_from read_of view_of stage_seen first_error length_of retried_of requested_at rows_are_fit replied fill_of filled_from no_chain packed list_of collect_decided collect_of linked_of accepts_of endpoint_at decoded slot_at unlink_of waiting_of bounded_of unlinked_of ring_of detach_of predecessor_of search_from precedes_one with_endpoint with_slot with_bell state_of
 unlinks = rw states_good_lem.0
 
 hears : core (apart_now (one 0 0 0 1 1 (leaves 1))) (acknowledges 0x20) ≡ replies (Done G.Yes) (acknowledge_writes 0x20 0x27 true true) (apart_now (one 0x20 0x20 1 1 1 (leaves 1)))
@@ -128,7 +128,7 @@ counts = rw states_good_lem.2
 
 -- what `core` answers in the end
 pub length_500 : (core (apart_now (one 0 0x20 0 0 0 (leaves 0))) looks).reply.answer ≡ Done (G.Length 500 1)
-unfolding apply_of decide_of asks_of ask_of askable request_ask places_from seen_from read_of view_of stageSeen first_error length_of retried_of requested_at rows_are_fit replied fill_of filled_from no_chain packed list_of collect_decided collect_of accepts_of endpoint_at decoded slot_at unlinking_of finish_of outcome_of freed clear_of ended_overlay put_at terminated with_owner with_endpoint with_slot state_of
+unfolding apply_of decide_of asks_of ask_of askable request_ask places_from seen_from read_of view_of stage_seen first_error length_of retried_of requested_at rows_are_fit replied fill_of filled_from no_chain packed list_of collect_decided collect_of accepts_of endpoint_at decoded slot_at unlinking_of finish_of outcome_of freed clear_of ended_overlay put_at terminated with_owner with_endpoint with_slot state_of
 length_500 = rw states_good_lem.3
 
 -- ---- a machine that does so, but for its collects
@@ -283,11 +283,11 @@ abbrev pub asks_control : Machine in_plain
 asks_control v c = cond (eqb (rank c) 2) (misread v c) (core v c)
 
 misread_unlinks : misread (linked_now (one 0 0 0 0 0 linked)) looks ≡ unlinked
-unfolding decide_of asks_of ask_of askable request_ask places_from seen_from read_of view_of stageSeen first_error length_of retried_of requested_at rows_are_fit replied fill_of filled_from no_chain packed list_of collect_decided collect_of linked_of accepts_of endpoint_at decoded slot_at unlink_of waiting_of bounded_of unlinked_of ring_of detach_of predecessor_of search_from precedes_one with_endpoint with_slot with_bell state_of
+unfolding decide_of asks_of ask_of askable request_ask places_from seen_from read_of view_of stage_seen first_error length_of retried_of requested_at rows_are_fit replied fill_of filled_from no_chain packed list_of collect_decided collect_of linked_of accepts_of endpoint_at decoded slot_at unlink_of waiting_of bounded_of unlinked_of ring_of detach_of predecessor_of search_from precedes_one with_endpoint with_slot with_bell state_of
 misread_unlinks = rw states_good_lem.0
 
 misread_none : (misread (apart_now (one 0 0x20 0 0 0 (leaves 0))) looks).reply.answer ≡ Done (G.Length 0 1)
-unfolding decide_of asks_of ask_of askable request_ask places_from seen_from read_of view_of stageSeen first_error length_of retried_of requested_at rows_are_fit replied fill_of filled_from no_chain packed list_of collect_decided collect_of accepts_of endpoint_at decoded slot_at unlinking_of finish_of outcome_of freed clear_of ended_overlay put_at terminated with_owner with_endpoint with_slot state_of
+unfolding decide_of asks_of ask_of askable request_ask places_from seen_from read_of view_of stage_seen first_error length_of retried_of requested_at rows_are_fit replied fill_of filled_from no_chain packed list_of collect_decided collect_of accepts_of endpoint_at decoded slot_at unlinking_of finish_of outcome_of freed clear_of ended_overlay put_at terminated with_owner with_endpoint with_slot state_of
 misread_none = rw states_good_lem.3
 
 pub asks_control_due : EveryRun CollectsDue asks_control → ⊥

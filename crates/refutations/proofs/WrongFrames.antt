@@ -36,7 +36,7 @@ use Rattle.controller.specs.declared.lent.Readings.{Readings}
 use Rattle.schedule.specs.Links.{attached_frames, detach_of, ended_overlay, precedes_one, predecessor_of, search_from, started_overlay}
 use Rattle.endpoint.specs.Lowest.{closed_from}
 use Rattle.endpoint.specs.Calls.{fields_good, open_checks, open_endpoint_of}
-use Rattle.request.specs.Submit.{accepted_with, buffer_good, linked_rows, ranges_good, settled_submit, setups_with, state_with, submit_of, taken_for, writes_with, taken_of as takenPlaces}
+use Rattle.request.specs.Submit.{accepted_with, buffer_good, linked_rows, ranges_good, settled_submit, setups_with, state_with, submit_of, taken_for, writes_with, taken_of as taken_places}
 use Rattle.slot.specs.Ids.{after_id}
 use Rattle.request.specs.declared.judge.TransferRequest.{TransferRequest}
 use Rattle.collection.specs.Unlinks.{bounded_of, unlink_of, waiting_of}
@@ -139,7 +139,7 @@ unfolding apply_of decide_of asks_of rows_are_fit replied fill_of filled_from no
 opens = rw (rising_good 1 0 refl refl)
 
 links : core opened (submits 0x500000) ≡ replies (Done (G.Id 1)) (writes_with (reading 0x80031)) linked
-unfolding apply_of decide_of asks_of rows_are_fit replied fill_of filled_from no_chain packed list_of submit_decided submit_of accepts_of endpoint_at decoded slot_at ranges_good buffer_good free_count count_zero need_of chunk_count settled_submit accepted_with taken_for takenPlaces places_from mark_of state_with after_id with_owner with_endpoint with_slot linked_rows started_overlay overlay_token attached_frames setups_with record_at bare_at chunk_qtd new_qtd token_of page_slots with_next state_of
+unfolding apply_of decide_of asks_of rows_are_fit replied fill_of filled_from no_chain packed list_of submit_decided submit_of accepts_of endpoint_at decoded slot_at ranges_good buffer_good free_count count_zero need_of chunk_count settled_submit accepted_with taken_for taken_places places_from mark_of state_with after_id with_owner with_endpoint with_slot linked_rows started_overlay overlay_token attached_frames setups_with record_at bare_at chunk_qtd new_qtd token_of page_slots with_next state_of
 links = rw states_good_lem.0
 
 unlinks : core linked (Cancel 0 1 (reading 0x80031)) ≡ replies (Done G.Nothing) no_writes parts
@@ -151,7 +151,7 @@ unfolding apply_of decide_of asks_of rows_are_fit replied fill_of filled_from no
 collects = rw states_good_lem.2
 
 links_again : core free (submits 0x502000) ≡ replies (Done (G.Id 2)) (writes_with (reading 0x80031)) again
-unfolding apply_of decide_of asks_of rows_are_fit replied fill_of filled_from no_chain packed list_of submit_decided submit_of accepts_of endpoint_at decoded slot_at ranges_good buffer_good free_count count_zero need_of chunk_count settled_submit accepted_with taken_for takenPlaces places_from mark_of state_with after_id with_owner with_endpoint with_slot linked_rows started_overlay overlay_token attached_frames setups_with record_at bare_at chunk_qtd new_qtd token_of page_slots with_next state_of
+unfolding apply_of decide_of asks_of rows_are_fit replied fill_of filled_from no_chain packed list_of submit_decided submit_of accepts_of endpoint_at decoded slot_at ranges_good buffer_good free_count count_zero need_of chunk_count settled_submit accepted_with taken_for taken_places places_from mark_of state_with after_id with_owner with_endpoint with_slot linked_rows started_overlay overlay_token attached_frames setups_with record_at bare_at chunk_qtd new_qtd token_of page_slots with_next state_of
 links_again = rw states_good_lem.3
 
 -- ---- the run: its collect reads the FRINDEX that its unlink read

@@ -29,7 +29,7 @@ use Rattle.controller.specs.Lent.{accepts_of}
 use Rattle.controller.specs.Readers.{count_zero, free_count}
 use Rattle.schedule.specs.Bell.{advanced_of, fallen_from, fallen_one, ring_of, ring_word, unlinked_of}
 use Rattle.schedule.specs.Links.{attached_ring, detach_of, ended_overlay, precedes_one, predecessor_of, search_from, started_overlay}
-use Rattle.request.specs.Submit.{accepted_with, buffer_good, linked_rows, ranges_good, settled_submit, setups_with, state_with, submit_of, taken_for, writes_with, taken_of as takenPlaces}
+use Rattle.request.specs.Submit.{accepted_with, buffer_good, linked_rows, ranges_good, settled_submit, setups_with, state_with, submit_of, taken_for, writes_with, taken_of as taken_places}
 use Rattle.slot.specs.Ids.{after_id}
 use Rattle.collection.specs.Unlinks.{bounded_of, unlink_of, waiting_of}
 use Rattle.collection.specs.Calls.{cancel_of, collect_of, finish_of, freed, unlinking_of}
@@ -175,7 +175,7 @@ module _ (n : ℕ) (g : Goods n) where
   ends_n = rw (g.counted_good, g.same)
 
   submits_n : core (free_n n) again ≡ replies (Done (G.Id (n + 1))) (writes_with (reading 0x80031)) (linked_n (n + 1))
-  unfolding apply_of decide_of asks_of rows_are_fit replied fill_of filled_from no_chain packed list_of submit_decided submit_of accepts_of endpoint_at decoded slot_at ranges_good buffer_good free_count count_zero need_of chunk_count settled_submit accepted_with taken_for takenPlaces places_from mark_of state_with after_id with_owner with_endpoint with_slot linked_rows started_overlay overlay_token attached_ring setups_with record_at bare_at chunk_qtd new_qtd token_of page_slots with_next state_of
+  unfolding apply_of decide_of asks_of rows_are_fit replied fill_of filled_from no_chain packed list_of submit_decided submit_of accepts_of endpoint_at decoded slot_at ranges_good buffer_good free_count count_zero need_of chunk_count settled_submit accepted_with taken_for taken_places places_from mark_of state_with after_id with_owner with_endpoint with_slot linked_rows started_overlay overlay_token attached_ring setups_with record_at bare_at chunk_qtd new_qtd token_of page_slots with_next state_of
   submits_n = rw (g.free_good, g.more)
 
   -- and the next request is accepted

@@ -17,7 +17,7 @@ use Rattle.common.specs.declared.kinds.EndpointType.TheVariants.{Bulk}
 use Rattle.descriptor.specs.Descriptors.{new_qtd, terminated, with_next}
 use Rattle.descriptor.specs.Slots.{page_slots}
 use Rattle.descriptor.specs.declared.qtd.QueueTransferDescriptor.{QueueTransferDescriptor}
-use Rattle.pool.specs.Chains.{fill_of, filled_from, first_error, length_of, no_chain, read_of, seen_from, standing_of as stageSeen, view_of}
+use Rattle.pool.specs.Chains.{fill_of, filled_from, first_error, length_of, no_chain, read_of, seen_from, standing_of as stage_seen, view_of}
 use Rattle.pool.specs.Places.{list_of, mark_of, packed, places_from}
 use Rattle.pool.specs.Transfers.{bare_at, chunk_qtd, record_at, requested_at}
 use Rattle.pool.specs.Plain.{Ask}
@@ -36,7 +36,7 @@ use Rattle.controller.specs.Lent.{accepts_of}
 use Rattle.controller.specs.Readers.{count_zero, free_count}
 use Rattle.schedule.specs.Bell.{ring_of, ring_word, unlinked_of}
 use Rattle.schedule.specs.Links.{attached_ring, detach_of, precedes_one, predecessor_of, search_from, started_overlay}
-use Rattle.request.specs.Submit.{accepted_with, buffer_good, linked_rows, ranges_good, settled_submit, setups_with, state_with, submit_of, taken_for, taken_of as takenPlaces, writes_with}
+use Rattle.request.specs.Submit.{accepted_with, buffer_good, linked_rows, ranges_good, settled_submit, setups_with, state_with, submit_of, taken_for, taken_of as taken_places, writes_with}
 use Rattle.request.specs.Writeback.{in_request, writeback_of}
 use Rattle.request.specs.declared.judge.TransferRequest.{TransferRequest}
 use Rattle.collection.specs.Asks.{ask_of, askable, request_ask}
@@ -100,7 +100,7 @@ unfolding state_of in_ranges rest_good machine_good interrupt_good doorbell_good
 linked_good_lem = refl
 
 submitted : core opened_two submits ≡ replies (Done (G.Id 1)) (writes_with (reading 0x80031)) (linked_with 0x40000D80)
-unfolding apply_of decide_of asks_of rows_are_fit replied fill_of filled_from no_chain packed list_of submit_decided submit_of accepts_of endpoint_at decoded slot_at ranges_good buffer_good free_count count_zero need_of chunk_count settled_submit accepted_with taken_for takenPlaces places_from mark_of state_with after_id with_owner with_endpoint with_slot linked_rows started_overlay overlay_token attached_ring setups_with record_at bare_at chunk_qtd new_qtd token_of page_slots with_next state_of
+unfolding apply_of decide_of asks_of rows_are_fit replied fill_of filled_from no_chain packed list_of submit_decided submit_of accepts_of endpoint_at decoded slot_at ranges_good buffer_good free_count count_zero need_of chunk_count settled_submit accepted_with taken_for taken_places places_from mark_of state_with after_id with_owner with_endpoint with_slot linked_rows started_overlay overlay_token attached_ring setups_with record_at bare_at chunk_qtd new_qtd token_of page_slots with_next state_of
 submitted = rw opened_good
 
 written : core (linked_with 0x40000D80) (Writeback 0 short) ≡ replies (Done G.Nothing) no_writes (linked_with short)
@@ -123,12 +123,12 @@ reads_on v c = cond (eqb (rank c) 2) (reading_on v c) (core v c)
 
 -- it waits for the second descriptor
 waits_on : reads_on (linked_with short) looks ≡ replies Pending no_writes (linked_with short)
-unfolding decide_of asks_of ask_of askable request_ask places_from seen_from read_of view_of stageSeen first_error length_of requested_at rows_are_fit replied fill_of filled_from no_chain packed list_of collect_decided collect_of linked_of accepts_of endpoint_at decoded slot_at state_of
+unfolding decide_of asks_of ask_of askable request_ask places_from seen_from read_of view_of stage_seen first_error length_of requested_at rows_are_fit replied fill_of filled_from no_chain packed list_of collect_decided collect_of linked_of accepts_of endpoint_at decoded slot_at state_of
 waits_on = rw linked_good_lem
 
 -- and `core` unlinks
 unlinks : (core (linked_with short) looks).reply.writes ≡ and_then no_writes 0 (ring_word 0x80031)
-unfolding apply_of decide_of asks_of ask_of askable request_ask places_from seen_from read_of view_of stageSeen first_error length_of requested_at rows_are_fit replied fill_of filled_from no_chain packed list_of collect_decided collect_of linked_of accepts_of endpoint_at decoded slot_at unlink_of waiting_of bounded_of unlinked_of ring_of detach_of predecessor_of search_from precedes_one with_endpoint with_slot with_bell state_of
+unfolding apply_of decide_of asks_of ask_of askable request_ask places_from seen_from read_of view_of stage_seen first_error length_of requested_at rows_are_fit replied fill_of filled_from no_chain packed list_of collect_decided collect_of linked_of accepts_of endpoint_at decoded slot_at unlink_of waiting_of bounded_of unlinked_of ring_of detach_of predecessor_of search_from precedes_one with_endpoint with_slot with_bell state_of
 unlinks = rw linked_good_lem
 
 -- ---- refuted

@@ -1,4 +1,4 @@
--- What `with_bits` and `withoutBits` do, bit by bit: the bits named move, and no other.
+-- What `with_bits` and `without_bits` do, bit by bit: the bits named move, and no other.
 use Prim.Native.Nat.{ℕ, zero, suc, ◌+◌, ◌-◌, ◌*◌, ◌/◌, ◌%◌, ◌^◌, ◌<◌, min, max}
 use mathlib.Core.Path.{◌≡◌, sym, ap, ◌∙◌}
 use mathlib.Core.Bool.{false, not}

@@ -5,7 +5,7 @@ use mathlib.Core.List.{[], ◌∷◌}
 use mathlib.Core.Path.{◌≡◌, refl, sym, ap, ◌∙◌}
 use lib.Dec.{eqb}
 use Rattle.common.specs.Tests.{within}
-use Rattle.common.specs.Answers.{Verdict, first, refused, settle}
+use Rattle.common.specs.Answers.{Verdict, first, settle}
 use Rattle.common.specs.declared.answer.Answer.{Answer}
 use Rattle.common.specs.declared.answer.Answer.TheVariants.{Done, Refused}
 use Rattle.common.specs.declared.answer.Refusal.{Refusal}

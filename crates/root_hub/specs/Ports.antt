@@ -1,5 +1,5 @@
 -- A port's state and what a scan reports of it.
-use Rattle.std.specs.Prelude.{ℕ, Bool, true, false, cond, List, [], ◌∷◌, ◌≡◌, eqb}
+use Rattle.std.specs.Prelude.{ℕ, cond, List, [], ◌∷◌, ◌≡◌, eqb}
 use Rattle.root_hub.specs.declared.ports.PortState.{PortState}
 use Rattle.root_hub.specs.declared.ports.PortState.TheVariants.{Uninit, Reseted, Probed}
 use Rattle.root_hub.specs.declared.ports.PortEvent.{PortEvent}

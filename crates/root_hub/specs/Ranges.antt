@@ -1,5 +1,5 @@
 -- The ranges of the ports' record: what every call asks first.
-use Rattle.std.specs.Prelude.{ℕ, zero, suc, ◌-◌, Bool, true, false, ◌&&◌, cond, eqb, leb, ltb, get_or}
+use Rattle.std.specs.Prelude.{ℕ, zero, suc, ◌-◌, Bool, true, ◌&&◌, cond, eqb, leb, ltb, get_or}
 use Rattle.common.specs.Tests.{within}
 use Rattle.opening.specs.declared.hub.EhciRootHub.{EhciRootHub}
 use Rattle.root_hub.specs.declared.scan.Awaited.{Awaited}

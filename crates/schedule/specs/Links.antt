@@ -60,9 +60,9 @@ periodic s k = slice_index s.kinds k == 3
 
 -- a linked head of the same schedule, another one, whose link leads to an address
 unfoldable pub precedes_one : ℕ → ℕ → ℕ → ℕ → ℕ → ℕ → ℕ → Bool
-precedes_one j k phase kind ownKind word address =
+precedes_one j k phase kind own_kind word address =
     every
-    (not (j == k) ∷ (phase == 2) ∷ same (ownKind == 3) (kind == 3) ∷ leads_to word address ∷ [])
+    (not (j == k) ∷ (phase == 2) ∷ same (own_kind == 3) (kind == 3) ∷ leads_to word address ∷ [])
 
 abbrev pub precedes : Ehci → List ℕ → ℕ → ℕ → Bool
 precedes s heads k j =

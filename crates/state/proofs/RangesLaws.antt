@@ -1,4 +1,4 @@
--- What a state in its ranges is, in plain facts, both ways: what `inRanges` tells, and what makes it true.
+-- What a state in its ranges is, in plain facts, both ways: what `in_ranges` tells, and what makes it true.
 use Prim.Native.Nat.{ℕ, zero, suc, ◌+◌, ◌-◌, ◌≤◌, ◌<◌}
 use mathlib.Core.Path.{◌≡◌, refl}
 use mathlib.Core.Bool.{Bool, true}

@@ -29,7 +29,7 @@ use Rattle.store.specs.declared.store.OpenedRows.{OpenedRows}
 use Rattle.store.specs.declared.store.OpenedStore.{OpenedStore}
 use Rattle.store.specs.declared.store.Store.{Store}
 use Rattle.store.specs.Plain as plain
-use Rattle.store.specs.Stores.{blank_store, bytes_lent, call_rows, call_store, called_after, open_rows, open_store, records_lent, rows_after, store_opened as plainOpened, words_lent}
+use Rattle.store.specs.Stores.{blank_store, bytes_lent, call_rows, call_store, called_after, open_rows, open_store, records_lent, rows_after, store_opened as plain_opened, words_lent}
 use Rattle.store.specs.Words.{OpenedIn, Opens, Tended, Tends, called_view, lent_slots, opened_view, slots_lent, store_view}
 use Rattle.store.specs.Lends.{LentCall, called_at, call_lent, open_lent, rows_left, store_after, store_opened, whole_rows}
 use Rattle.store.proofs.Known.{Known, free_fits, slots_fit_lem}
@@ -97,7 +97,7 @@ module _ (w : Store) (s : Settings) (d k h u : ℕ) (o : OpenedRows) (after : St
   abbrev target_by : Answer → plain.OpenedStore
   target_by a =
       record {
-        store = plainOpened a (store_view w) (rows_after came w.pool w.heads w.setups d h u);
+        store = plain_opened a (store_view w) (rows_after came w.pool w.heads w.setups d h u);
         hub = came.opening.hub;
         answer = came.opening.answer;
       }

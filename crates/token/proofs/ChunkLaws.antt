@@ -18,7 +18,7 @@ count_empty L C e = rw (eq-eqb L 0 e)
 
 pub count_data : (L C : ℕ) → 1 ≤ C → (L ≡ 0 → ⊥) → chunk_count L C ≡ (L - 1) / C + 1
 unfolding chunk_count
-count_data L C hC ne = rw (ne_eqb L 0 ne, up) (add-mul-div_right (L - 1) 1 hC)
+count_data L C h_c ne = rw (ne_eqb L 0 ne, up) (add-mul-div_right (L - 1) 1 h_c)
   where
     up : L + (C - 1) ≡ (L - 1) + 1 * C
     up = omega arith
@@ -26,7 +26,7 @@ count_data L C hC ne = rw (ne_eqb L 0 ne, up) (add-mul-div_right (L - 1) 1 hC)
 add_one_mul : (k C : ℕ) → (k + 1) * C ≡ k * C + C
 add_one_mul k C = rw add-one (suc-mul k C)
 
-module _ (L C : ℕ) (hC : 1 ≤ C) where
+module _ (L C : ℕ) (h_c : 1 ≤ C) where
   -- length / limit, rounded up: no chunk too few, and none too many
   pub covers : L ≤ chunk_count L C * C
   covers = by (dec_eq L 0)
@@ -34,14 +34,14 @@ module _ (L C : ℕ) (hC : 1 ≤ C) where
       by : Dec (L ≡ 0) → L ≤ chunk_count L C * C
       by (yes e) = omega arith
       by (no ne) =
-          omega (arith, ap (λ (x : ℕ). x * C) (count_data L C hC ne), add_one_mul ((L - 1) / C) C, div-add-mod' (L - 1) C, mod-lt (L - 1) hC)
+          omega (arith, ap (λ (x : ℕ). x * C) (count_data L C h_c ne), add_one_mul ((L - 1) / C) C, div-add-mod' (L - 1) C, mod-lt (L - 1) h_c)
 
   pub count_pos : 1 ≤ chunk_count L C
   count_pos = by (dec_eq L 0)
     where
       by : Dec (L ≡ 0) → 1 ≤ chunk_count L C
       by (yes e) = omega (arith, count_empty L C e)
-      by (no ne) = omega (arith, count_data L C hC ne)
+      by (no ne) = omega (arith, count_data L C h_c ne)
 
   -- a chunk that has one after it starts where at least a limit is left, and a bit more
   pub before_last : (k : ℕ) → k + 1 < chunk_count L C → (k + 1) * C < L
@@ -51,7 +51,7 @@ module _ (L C : ℕ) (hC : 1 ≤ C) where
       by (yes e) = absurd (omega (arith, count_empty L C e))
       by (no ne) =
           let q : ℕ = (L - 1) / C in
-          let below : (k + 1) * C ≤ q * C = mul-le-mul_right C (omega (arith, count_data L C hC ne)) in
+          let below : (k + 1) * C ≤ q * C = mul-le-mul_right C (omega (arith, count_data L C h_c ne)) in
           omega (arith, div-add-mod' (L - 1) C)
 
   -- each but the last is the limit
@@ -62,7 +62,7 @@ module _ (L C : ℕ) (hC : 1 ≤ C) where
   pub chunk_last : 1 ≤ L → 1 ≤ chunk_at (chunk_count L C - 1) L C
   chunk_last h =
       let ne : L ≡ 0 → ⊥ = λ e. omega arith in
-      let e : chunk_count L C - 1 ≡ (L - 1) / C = omega (arith, count_data L C hC ne) in
+      let e : chunk_count L C - 1 ≡ (L - 1) / C = omega (arith, count_data L C h_c ne) in
       rw e (omega (arith, div-add-mod' (L - 1) C))
 
   -- from the count on there is nothing
@@ -83,7 +83,7 @@ below_is (suc n) L C = omega (arith, below_is n L C, suc-mul n C)
 
 -- the chunks of a request add up to its length
 pub chunks_sum : (L C : ℕ) → 1 ≤ C → bytes_below (chunk_count L C) L C ≡ L
-chunks_sum L C hC = omega (arith, below_is (chunk_count L C) L C, covers L C hC)
+chunks_sum L C h_c = omega (arith, below_is (chunk_count L C) L C, covers L C h_c)
 
 -- ---- the functions' returns
 

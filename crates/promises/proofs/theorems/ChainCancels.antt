@@ -15,7 +15,7 @@ use Rattle.pipe.specs.declared.endpoints.UnlinkBoundary.{UnlinkBoundary}
 use Rattle.controller.specs.declared.lent.Readings.{Readings}
 use Rattle.schedule.specs.Links.{detach_of, same}
 use Rattle.collection.specs.Calls.{cancel_of, marked, marked_of}
-use Rattle.collection.specs.Unlinks.{Left, is_missing, left as leftWith, unlink_of, waiting_of}
+use Rattle.collection.specs.Unlinks.{Left, is_missing, left as left_with, unlink_of, waiting_of}
 use Rattle.ehci.specs.declared.call.Call.{Call}
 use Rattle.ehci.specs.declared.call.Call.TheVariants.{Cancel}
 use Rattle.ehci.specs.declared.reply.Answered.TheVariants.{Done}
@@ -77,7 +77,7 @@ module _ (s : Settings) (h : History) (w : World) (sound : Sound s w) (x : Chain
   -- a cancel of a request that is unlinking marks it
   module _ (rd : Readings) (p : Pipe) (r : Request) (u : UnlinkBoundary) (e : endpoint_at w.state k ≡ Unlinking p r u) where
     mark_comes : core w (Cancel k r.id rd)
-        ≡ carried_out (with_setups (cancel_came (leftWith (marked_of w.state k p r u) w.rows.heads w.rows.frames)) w.rows.setups) w.rows.pool
+        ≡ carried_out (with_setups (cancel_came (left_with (marked_of w.state k p r u) w.rows.heads w.rows.frames)) w.rows.setups) w.rows.pool
     unfolding apply_of decide_of cancel_decided cancel_of
     mark_comes = rw (rows_fit s w sound, is_let_in s w sound, e, eq-eqb r.id r.id refl)
 

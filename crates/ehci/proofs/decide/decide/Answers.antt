@@ -6,7 +6,6 @@ use Rattle.ehci.specs.Decides.{address_decided, clear_decided, close_decided, pa
 use Rattle.ehci.proofs.Cases.{heads_call, links_call, no_rows}
 use Rattle.ehci.proofs.WordsCalls.{frames_below, frames_fit, heads_below, heads_fit, keeps_call, rows_fit, setups_fit, tidies_call, waited_fits, words_good_lem, words_refuse, writes_call}
 use Rattle.ehci.proofs.WordsCases.{brought_view_lem, changed_view_lem, keeps_words, settled_view_lem, slot_view, tidies_words}
-use borrow.Author.Rules.{rules}
 use mathlib.Core.Bool.{not}
 use Rattle.ehci.proofs.decide.decide.Goals as goal
 

@@ -1,5 +1,4 @@
 use Rattle.ehci.proofs.WordsCases.{allot_words, leave_words}
-use borrow.Author.Rules.{rules}
 use Rattle.ehci.proofs.decide.on_allocate.Goals as goal
 
 clauses : {A B : Type 0} → A × B → record { by_index : A; keeps : B }

@@ -1,6 +1,5 @@
 use mathlib.Core.Path.{refl}
 use Rattle.ehci.proofs.WordsCases.{cancel_words, leave_words}
-use borrow.Author.Rules.{rules}
 use Rattle.ehci.proofs.decide.on_cancel.Goals as goal
 
 clauses : {A B : Type 0} → A × B → record { by_index : A; tidies : B }

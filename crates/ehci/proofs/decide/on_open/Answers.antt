@@ -1,5 +1,4 @@
 use Rattle.ehci.proofs.WordsCases.{leave_words, open_words_lem}
-use borrow.Author.Rules.{rules}
 use Rattle.ehci.proofs.decide.on_open.Goals as goal
 
 clauses : {A B : Type 0} → A × B → record { by_index : A; tidies : B }

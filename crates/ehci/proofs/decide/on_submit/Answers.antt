@@ -1,5 +1,4 @@
 use Rattle.ehci.proofs.WordsCases.{submit_words}
-use borrow.Author.Rules.{rules}
 use Rattle.ehci.proofs.decide.on_submit.Goals as goal
 
 clauses : {A B C : Type 0} → A × (B × C) → record { by_index : A; tidy : B; writable : C }

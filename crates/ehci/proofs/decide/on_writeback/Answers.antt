@@ -1,5 +1,4 @@
 use Rattle.ehci.proofs.WordsCases.{written_words}
-use borrow.Author.Rules.{rules}
 use Rattle.ehci.proofs.decide.on_writeback.Goals as goal
 
 clauses : {A B C : Type 0} → A × (B × C) → record { by_index : A; rest_value : B; writable : C }

@@ -1,4 +1,4 @@
-use Rattle.std.proofs.Common.{◌≡◌, ◌∙◌, sym}
+use Rattle.std.proofs.Common.{◌∙◌, sym}
 use Rattle.ehci.proofs.DoorLaws.{may_decide, together, tidied}
 use Rattle.ehci.proofs.door.apply.Goals as goal
 

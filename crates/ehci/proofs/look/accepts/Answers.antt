@@ -1,5 +1,4 @@
 use Rattle.ehci.proofs.LookLaws.{accepts_are}
-use borrow.Author.Rules.{rules}
 use Rattle.ehci.proofs.look.accepts.Goals as goal
 
 pub returns : goal.returns

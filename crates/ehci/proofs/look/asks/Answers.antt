@@ -2,7 +2,6 @@ use mathlib.Core.Path.{refl}
 use Rattle.ehci.specs.Decides.{asks_of}
 use Rattle.ehci.proofs.LookLaws.{asks_none, asks_refused, asks_slot}
 use Rattle.ehci.proofs.WordsCalls.{good_on}
-use borrow.Author.Rules.{rules}
 use mathlib.Core.Path.{ap}
 use mathlib.Core.Bool.{not}
 use Rattle.ehci.proofs.look.asks.Goals as goal

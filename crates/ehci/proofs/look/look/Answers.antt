@@ -1,5 +1,4 @@
 use Rattle.ehci.proofs.LookLaws.{looks, may_ask}
-use borrow.Author.Rules.{rules}
 use Rattle.ehci.proofs.look.look.Goals as goal
 
 pub asks-ask-requires : goal.asks-ask-requires

@@ -1,6 +1,5 @@
 use mathlib.Core.Path.{ap, sym}
 use Rattle.ehci.specs.Replies.{acknowledged_answer}
-use borrow.Author.Rules.{rules}
 use Rattle.ehci.proofs.reply.acknowledged_answer.Goals as goal
 
 pub returns-in-No : goal.returns-in-No

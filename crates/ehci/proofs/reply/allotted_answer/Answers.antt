@@ -1,6 +1,5 @@
 use mathlib.Core.Path.{ap, sym}
 use Rattle.ehci.specs.Replies.{allotted_answer}
-use borrow.Author.Rules.{rules}
 use Rattle.ehci.proofs.reply.allotted_answer.Goals as goal
 
 pub returns-in-Address : goal.returns-in-Address

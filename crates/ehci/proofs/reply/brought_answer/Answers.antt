@@ -1,5 +1,4 @@
 use Rattle.ehci.proofs.Cases.{brought_is}
-use borrow.Author.Rules.{rules}
 use Rattle.ehci.proofs.reply.brought_answer.Goals as goal
 
 pub returns-in-Done : goal.returns-in-Done

@@ -1,6 +1,5 @@
 use mathlib.Core.Path.{ap, sym}
 use Rattle.ehci.specs.Replies.{collected_answer}
-use borrow.Author.Rules.{rules}
 use Rattle.ehci.proofs.reply.collected_answer.Goals as goal
 
 pub returns-in-Complete : goal.returns-in-Complete

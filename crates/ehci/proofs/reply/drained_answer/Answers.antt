@@ -1,6 +1,5 @@
 use mathlib.Core.Path.{ap, sym}
 use Rattle.ehci.specs.Replies.{drained_answer}
-use borrow.Author.Rules.{rules}
 use Rattle.ehci.proofs.reply.drained_answer.Goals as goal
 
 pub returns-in-Nothing : goal.returns-in-Nothing

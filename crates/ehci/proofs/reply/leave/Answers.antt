@@ -1,4 +1,3 @@
-use borrow.Author.Rules.{rules}
 use Rattle.ehci.proofs.reply.leave.Goals as goal
 
 pub returns : goal.returns

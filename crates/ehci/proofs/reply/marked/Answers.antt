@@ -1,5 +1,4 @@
 use Rattle.ehci.specs.WordsDecides.{marked_only}
-use borrow.Author.Rules.{rules}
 use Rattle.ehci.proofs.reply.marked.Goals as goal
 
 pub returns : goal.returns

@@ -1,6 +1,5 @@
 use mathlib.Core.Path.{ap, sym}
 use Rattle.ehci.specs.Replies.{opened_answer}
-use borrow.Author.Rules.{rules}
 use Rattle.ehci.proofs.reply.opened_answer.Goals as goal
 
 pub returns-in-Slot : goal.returns-in-Slot

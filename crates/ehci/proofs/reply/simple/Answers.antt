@@ -1,6 +1,5 @@
 use mathlib.Core.Path.{ap, sym}
 use Rattle.ehci.specs.Replies.{simply}
-use borrow.Author.Rules.{rules}
 use Rattle.ehci.proofs.reply.simple.Goals as goal
 
 pub returns-in-Done : goal.returns-in-Done

@@ -1,6 +1,5 @@
 use mathlib.Core.Path.{ap, sym}
 use Rattle.ehci.specs.Replies.{submitted_answer}
-use borrow.Author.Rules.{rules}
 use Rattle.ehci.proofs.reply.submitted_answer.Goals as goal
 
 pub returns-in-Accepted : goal.returns-in-Accepted

@@ -1,4 +1,3 @@
-use borrow.Author.Rules.{rules}
 use Rattle.root_hub.proofs.calls.no_power.Goals as goal
 
 pub returns : goal.returns

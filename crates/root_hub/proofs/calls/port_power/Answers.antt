@@ -1,5 +1,4 @@
 use Rattle.root_hub.proofs.Cases.{power_bad, power_none, power_done, power_port}
-use borrow.Author.Rules.{rules}
 use Rattle.root_hub.proofs.calls.port_power.Goals as goal
 
 pub returns-then-not-hub_good : goal.returns-then-not-hub_good

@@ -1,6 +1,5 @@
 use Rattle.root_hub.specs.Calls.{with_scan}
 use Rattle.root_hub.proofs.Cases.{start_bad, start_done}
-use borrow.Author.Rules.{rules}
 use Rattle.root_hub.proofs.calls.start.Goals as goal
 
 pub returns-then-not-hub_good : goal.returns-then-not-hub_good

@@ -1,5 +1,4 @@
 use Rattle.root_hub.proofs.Cases.{hub_is, hub_not, ports_most}
-use borrow.Author.Rules.{rules}
 use Rattle.root_hub.proofs.ranges.hub_good.Goals as goal
 
 pub place_good-requires : goal.place_good-requires

@@ -1,5 +1,4 @@
 use Rattle.root_hub.proofs.Cases.{place_idle, place_beyond, place_begun}
-use borrow.Author.Rules.{rules}
 use Rattle.root_hub.proofs.ranges.place_good.Goals as goal
 
 pub returns-then-port-eq0 : goal.returns-then-port-eq0

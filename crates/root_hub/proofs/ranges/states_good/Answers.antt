@@ -1,10 +1,6 @@
-use mathlib.Core.Bool.{◌&&◌}
 use Rattle.root_hub.proofs.Cases.{ports_turn, ports_done}
-use Rattle.root_hub.specs.Ranges.{states_good}
 use native.Mathlib.Omega.{arith}
-use mathlib.Core.Path.{◌≡◌, refl, ◌∙◌}
-use Prim.Native.Nat.{◌≤◌, ◌-◌}
-use borrow.Author.Rules.{rules}
+use mathlib.Core.Path.{refl, ◌∙◌}
 use Rattle.root_hub.proofs.ranges.states_good.Goals as goal
 
 pub loop-k-init : goal.loop-k-init

@@ -1,10 +1,7 @@
 use mathlib.Core.Bool.{◌&&◌}
-use Rattle.root_hub.proofs.Cases.{ports_turn, ports_done}
 use Rattle.root_hub.specs.Ranges.{states_good}
-use native.Mathlib.Omega.{arith}
-use mathlib.Core.Path.{◌≡◌, refl, ◌∙◌}
+use mathlib.Core.Path.{◌≡◌}
 use Prim.Native.Nat.{◌≤◌, ◌-◌}
-use borrow.Author.Rules.{rules}
 use Rattle.root_hub.proofs.ranges.states_good.Given as goal
 
 abbrev pub invariant-loop-k : goal.invariant-loop-k

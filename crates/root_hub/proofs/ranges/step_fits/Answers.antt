@@ -1,6 +1,5 @@
 use Rattle.root_hub.proofs.Cases.{fits_is}
 use Rattle.root_hub.specs.declared.scan.Awaited.TheVariants.{Gone, Reset, Release, Again, Owner}
-use borrow.Author.Rules.{rules}
 use Rattle.root_hub.proofs.ranges.step_fits.Goals as goal
 
 pub returns-in-Gone : goal.returns-in-Gone

@@ -1,5 +1,4 @@
 use Rattle.root_hub.proofs.Cases.{again_lost, again_slow, again_high}
-use borrow.Author.Rules.{rules}
 use Rattle.root_hub.proofs.scan.again_turn.Goals as goal
 
 pub returns-then-not-connected : goal.returns-then-not-connected

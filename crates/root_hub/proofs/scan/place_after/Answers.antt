@@ -1,5 +1,4 @@
 use Rattle.root_hub.proofs.Cases.{place_on, place_next, place_end}
-use borrow.Author.Rules.{rules}
 use Rattle.root_hub.proofs.scan.place_after.Goals as goal
 
 pub returns-then-step-ne0 : goal.returns-then-step-ne0

@@ -1,5 +1,4 @@
 use Rattle.root_hub.proofs.Cases.{writes_none, writes_value}
-use borrow.Author.Rules.{rules}
 use Rattle.root_hub.proofs.scan.port_writes.Goals as goal
 
 pub returns-in-Nothing : goal.returns-in-Nothing

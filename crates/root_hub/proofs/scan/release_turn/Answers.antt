@@ -1,5 +1,4 @@
 use Rattle.root_hub.proofs.Cases.{release_is}
-use borrow.Author.Rules.{rules}
 use Rattle.root_hub.proofs.scan.release_turn.Goals as goal
 
 pub returns : goal.returns

@@ -1,5 +1,4 @@
 use Rattle.root_hub.proofs.Cases.{reset_is}
-use borrow.Author.Rules.{rules}
 use Rattle.root_hub.proofs.scan.reset_turn.Goals as goal
 
 pub returns : goal.returns

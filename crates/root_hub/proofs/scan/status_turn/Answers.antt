@@ -1,7 +1,6 @@
 use Rattle.root_hub.proofs.Cases.{status_is}
 use mathlib.Core.Bool.{true, false}
 use Rattle.root_hub.specs.declared.ports.PortState.TheVariants.{Uninit, Reseted, Probed}
-use borrow.Author.Rules.{rules}
 use Rattle.root_hub.proofs.scan.status_turn.Goals as goal
 
 pub returns-then-connected : goal.returns-then-connected

@@ -1,6 +1,5 @@
 use Rattle.root_hub.proofs.Cases.{turn_again, turn_is, turn_status}
 use Rattle.root_hub.specs.declared.scan.Awaited.TheVariants.{Gone, Reset, Release, Owner}
-use borrow.Author.Rules.{rules}
 use Rattle.root_hub.proofs.scan.turn.Goals as goal
 
 pub returns-in-Status : goal.returns-in-Status
