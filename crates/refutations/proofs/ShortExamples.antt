@@ -1,7 +1,7 @@
 -- Replies shorter than asked for, worked out by hand: which requests, how far they are read, and EHCI's queue.
 -- Tokens of a descriptor for 16384 bytes: 40000D80 as submitted, 34480D00 when 3000 have come, 00000D00 when all have, 34480D40 halted after 3000.
 use Prim.Native.Nat.{ℕ}
-use mathlib.Core.Bool.{Bool, true, false, cond}
+use mathlib.Core.Bool.{true, false, cond}
 use mathlib.Core.List.{List, [], ◌∷◌}
 use mathlib.Core.Path.{◌≡◌, refl}
 use lib.Dec.{eqb}

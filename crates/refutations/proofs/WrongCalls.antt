@@ -3,7 +3,6 @@ use Prim.Native.Nat.{ℕ}
 use mathlib.Core.Path.{◌≡◌}
 use mathlib.Core.Bool.{true}
 use mathlib.Core.List.{List, [], ◌∷◌}
-use lib.ListN.{length}
 use Rattle.register.specs.Bits.{any_of, only_bits, with_bits, without_bits}
 use Rattle.register.specs.Writes.{and_then, no_writes}
 use Rattle.token.specs.Overlay.{overlay_token}

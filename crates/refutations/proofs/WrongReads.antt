@@ -7,14 +7,14 @@ use mathlib.Core.List.{List, [], ◌∷◌}
 use native.Mathlib.Omega.{arith}
 use lib.Dec.{eqb}
 use lib.ListN.{length, replicate}
-use Rattle.register.specs.Bits.{with_bits, without_bits}
+use Rattle.register.specs.Bits.{without_bits}
 use Rattle.register.specs.Writes.{and_then, no_writes}
 use Rattle.token.specs.Overlay.{overlay_token}
 use Rattle.token.specs.Chunks.{chunk_count, need_of}
 use Rattle.token.specs.Tokens.{token_of}
 use Rattle.common.specs.declared.kinds.Direction.TheVariants.{In}
 use Rattle.common.specs.declared.kinds.EndpointType.TheVariants.{Bulk}
-use Rattle.descriptor.specs.Descriptors.{new_qtd, terminated, with_next}
+use Rattle.descriptor.specs.Descriptors.{new_qtd, with_next}
 use Rattle.descriptor.specs.Slots.{page_slots}
 use Rattle.descriptor.specs.declared.qtd.QueueTransferDescriptor.{QueueTransferDescriptor}
 use Rattle.pool.specs.Chains.{fill_of, filled_from, first_error, length_of, no_chain, read_of, seen_from, standing_of as stage_seen, view_of}
@@ -31,7 +31,6 @@ use Rattle.state.specs.State.{with_bell, with_owner}
 use Rattle.state.specs.Plain.{Ehci}
 use Rattle.pipe.specs.Endpoints.{decoded, endpoint_at, with_endpoint}
 use Rattle.opening.specs.Opening.{rows_are_fit}
-use Rattle.common.specs.Rows.{put_at}
 use Rattle.controller.specs.Lent.{accepts_of}
 use Rattle.controller.specs.Readers.{count_zero, free_count}
 use Rattle.schedule.specs.Bell.{ring_of, ring_word, unlinked_of}

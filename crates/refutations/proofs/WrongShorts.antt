@@ -1,12 +1,11 @@
 -- Machines without order 1, or with a fault in it: of alternate words that terminate, as before the order; a shared descriptor that is active; one
 -- that is lent out; and a collect that reads on past a short descriptor. The first three take descriptors and write their chain, with no checks.
-use Prim.Native.Nat.{ℕ, suc, ◌+◌}
-use mathlib.Core.Path.{◌≡◌, refl, sym, ap, ◌∙◌}
-use mathlib.Core.Bool.{true, false, cond}
-use mathlib.Core.List.{List, [], ◌∷◌, ◌++◌, map}
+use Prim.Native.Nat.{ℕ, ◌+◌}
+use mathlib.Core.Path.{◌≡◌, refl, ap}
+use mathlib.Core.Bool.{true}
+use mathlib.Core.List.{List, [], ◌∷◌, map}
 use native.Mathlib.Omega.{arith}
-use lib.Dec.{eqb}
-use lib.ListN.{length, replicate, set}
+use lib.ListN.{set}
 use Rattle.register.specs.Writes.{no_writes}
 use Rattle.token.specs.Chunks.{chunk_count, need_of}
 use Rattle.token.specs.Tokens.{token_of}
@@ -22,7 +21,6 @@ use Rattle.pool.specs.Transfers.{bare_at, chunk_qtd, record_at}
 use Rattle.settings.specs.Settings.{apart_areas, area_good, each_good, no_overlap, numbers_good, settings_good}
 use Rattle.settings.specs.declared.settings.Settings.{Settings}
 use Rattle.opening.specs.Opening.{fresh_state, opened_heads}
-use Rattle.controller.specs.declared.lent.Readings.{Readings}
 use Rattle.schedule.specs.Links.{started_overlay}
 use Rattle.request.specs.Submit.{chain_for, first_in, need_of_request, taken_of}
 use Rattle.request.specs.declared.judge.TransferRequest.{TransferRequest}
@@ -35,7 +33,7 @@ use Rattle.ehci.specs.Door.{Applied, applied}
 use Rattle.promises.specs.Runs.{EveryRun, Machine, Opening, Rows, World, in_plain, history_of, rows_of, world_of}
 use Rattle.promises.specs.Uses.{Use, uses}
 use Rattle.promises.specs.Walks.{Ends, Lead, On, chain_walk, next_leads, walk_from}
-use Rattle.promises.specs.EhciQueue.{Fetched, Queue, pointer, visit}
+use Rattle.promises.specs.EhciQueue.{Queue, pointer, visit}
 use Rattle.promises.specs.Shorts.{SharedStands, ShortStops, ShortToken, done_with, memory_of}
 use Rattle.promises.proofs.invariants.Reached.{fresh_world, opens_fresh}
 use Rattle.refutations.proofs.WrongRuns.{sized}

@@ -10,7 +10,7 @@ use Rattle.descriptor.specs.EhciQtd.{qtd_address, terminate}
 use Rattle.descriptor.specs.EhciQueueHead.{link_address, link_terminate, link_type}
 use Rattle.settings.specs.declared.settings.Settings.{Settings}
 use Rattle.settings.specs.Settings.{pool_length}
-use Rattle.promises.specs.Walks.{AtRingHead, End, Ends, Lead, Nowhere, On, Terminated, TooLong, link_leads, next_leads, on_if, place_at}
+use Rattle.promises.specs.Walks.{AtRingHead, End, Ends, Lead, Nowhere, On, Terminated, TooLong, link_leads, next_leads, place_at}
 use Rattle.promises.proofs.any_machine.Walking.{own_place}
 
 -- ---- leads by numbers

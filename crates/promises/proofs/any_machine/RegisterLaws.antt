@@ -17,7 +17,7 @@ use Rattle.ehci.specs.declared.call.Call.TheVariants.{StartBringUp, BringUpStep,
 use Rattle.ehci.specs.declared.call.InterruptReadings.{InterruptReadings}
 use Rattle.ehci.specs.Replies.{answered_values}
 use Rattle.promises.specs.Runs.{EveryRun, Form, History, Machine, Moment, Turn, history_of, moment, turn_by, world_of}
-use Rattle.promises.specs.Events.{Event, Other, Reads, Drains, Submits, Unlinks, Parts, Collects, event, first_in, is_done, rings}
+use Rattle.promises.specs.Events.{Event, Other, Reads, Drains, Submits, Unlinks, Parts, Collects, event, first_in, is_done}
 use Rattle.promises.specs.Bells.{Answered, Bell, Quiet, Rung, asked, bell, counted, is_answered, is_drains, is_unlinks}
 use Rattle.promises.specs.Boundaries.{UpExactly}
 use Rattle.promises.specs.Registers.{Access, RingsInTurn, StatusAcknowledged, WritesExactly, access_of, acknowledge_writes, acknowledged, differ, flag_in, is_accepted, is_left, masked_by, masked_in, plainly, read_in, ring, ring_count, ringing, rings_by, set_up, status_for, step_writes, usbintr, values_at, writes_for}

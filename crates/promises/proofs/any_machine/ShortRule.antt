@@ -1,6 +1,6 @@
 -- Which requests may end short: those of more than one descriptor; of one the rule is the same either way.
-use Prim.Native.Nat.{ℕ, ◌≤◌}
-use mathlib.Core.Path.{◌≡◌, refl, ap, sym, ◌∙◌}
+use Prim.Native.Nat.{◌≤◌}
+use mathlib.Core.Path.{◌≡◌, refl}
 use mathlib.Core.Bool.{Bool, true, false, not, ◌&&◌}
 use borrow.Author.Tests.{ltb-false}
 use lib.Dec.{ltb}
@@ -8,7 +8,6 @@ use lib.ListN.{length}
 use Rattle.common.specs.Kinds.{is_control}
 use Rattle.common.specs.declared.kinds.Direction.{Direction}
 use Rattle.common.specs.declared.kinds.Direction.TheVariants.{Out, In}
-use Rattle.common.specs.declared.kinds.EndpointType.{EndpointType}
 use Rattle.pool.specs.Transfers.{ends_short}
 use Rattle.promises.specs.Uses.{Use, comes_in, may_end_short}
 

@@ -15,7 +15,7 @@ use Rattle.pool.specs.Places.{Each, Within}
 use Rattle.pool.specs.Transfers.{address_of}
 use Rattle.settings.specs.declared.settings.Settings.{Settings}
 use Rattle.settings.specs.Settings.{pool_length}
-use Rattle.promises.specs.Walks.{End, Ends, Lead, On, Terminated, Walk, ended, meets, next_leads, onward, place_at, walk_from}
+use Rattle.promises.specs.Walks.{End, Ends, Lead, On, Terminated, ended, meets, next_leads, onward, place_at, walk_from}
 
 -- ---- one word
 

@@ -32,7 +32,7 @@ use Rattle.collection.specs.Unlinks.{Left, waiting_of, is_missing}
 use Rattle.collection.proofs.Splits.{cancel_split, collect_split, unlink_split}
 use Rattle.ehci.specs.declared.call.Call.TheVariants.{Cancel, Collect, Submit, Writeback}
 use Rattle.ehci.specs.declared.reply.Answered.TheVariants.{Refused}
-use Rattle.ehci.specs.Decides.{cancel_came, cancel_decided, collect_came, collect_decided, submit_came, submit_decided, with_setups, writeback_decided, written_reply, came}
+use Rattle.ehci.specs.Decides.{cancel_came, cancel_decided, collect_came, collect_decided, submit_came, submit_decided, with_setups, writeback_decided, written_reply}
 use Rattle.ehci.specs.Door.{carried_out}
 use Rattle.ehci.specs.Replies.{collected_answer, replied}
 use Rattle.promises.specs.Runs.{Rows, World, core}

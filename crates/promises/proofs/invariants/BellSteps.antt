@@ -34,7 +34,7 @@ use Rattle.ehci.specs.declared.call.Call.{Call}
 use Rattle.ehci.specs.Door.{Applied}
 use Rattle.promises.specs.Runs.{History, Turn, World, turn_of}
 use Rattle.promises.specs.Events.{Event, Other, Reads, Drains, Submits, Collects, event, rings}
-use Rattle.promises.specs.Bells.{Answered, Bell, Quiet, Rung, bell, drains, is_answered, is_drains, is_reads, is_unlinks, is_up, linked, unlinking}
+use Rattle.promises.specs.Bells.{Answered, Bell, Quiet, Rung, bell, is_answered, is_drains, is_reads, is_unlinks, is_up, linked}
 use Rattle.promises.proofs.effects.Effects.{Still, Hears, Joins, Passes, Counts, Opens, Closes, Resizes, Rewrites, Accepts, WritesBack, Marks, Collected, besides, Clears}
 use Rattle.promises.proofs.effects.EffectEndpoints.{idle_is}
 use Rattle.promises.proofs.invariants.Sound.{Sound}

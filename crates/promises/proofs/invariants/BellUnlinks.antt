@@ -1,5 +1,5 @@
 -- The doorbell's invariant lasts where a request is unlinked; so it lasts through every effect, and holds in every world of a run.
-use Prim.Native.Nat.{ℕ, suc, ◌+◌, ◌-◌, ◌<◌}
+use Prim.Native.Nat.{ℕ, suc, ◌+◌, ◌<◌}
 use mathlib.Core.Bool.{Bool, true, false, cond, true≢false, false≢true}
 use mathlib.Core.List.{◌∷◌}
 use mathlib.Core.Logic.{◌⊎◌, inl, inr}
@@ -30,7 +30,7 @@ use Rattle.ehci.specs.declared.call.Call.{Call}
 use Rattle.ehci.specs.Door.{Applied}
 use Rattle.promises.specs.Runs.{History, Turn, World, turn_of}
 use Rattle.promises.specs.Events.{Unlinks, Parts, event, rings}
-use Rattle.promises.specs.Bells.{bell, is_drains, is_reads, is_unlinks}
+use Rattle.promises.specs.Bells.{is_drains, is_reads, is_unlinks}
 use Rattle.promises.proofs.effects.Effects.{Effect, Unlinked}
 use Rattle.promises.proofs.invariants.Sound.{Sound}
 use Rattle.promises.proofs.invariants.BellWaiting.{waits_for}

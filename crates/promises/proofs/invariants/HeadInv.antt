@@ -1,6 +1,6 @@
 -- The packet size that the controller reads in an open slot's head is the one that the history tells.
 use Prim.Native.Nat.{ℕ, ◌+◌, ◌*◌, ◌≤◌, ◌<◌}
-use mathlib.Core.Bool.{true, false, cond}
+use mathlib.Core.Bool.{cond}
 use mathlib.Core.List.{List, [], ◌∷◌}
 use mathlib.Core.Logic.{◌≢◌}
 use mathlib.Core.Path.{◌≡◌, refl, sym, ap, subst, subst₂, ◌∙◌}
@@ -24,7 +24,7 @@ use Rattle.ehci.specs.declared.call.Call.{Call}
 use Rattle.ehci.specs.Door.{Applied}
 use Rattle.promises.specs.Runs.{History, Opening, Rows, Turn, World, left_by, rows_of, turn_of}
 use Rattle.promises.specs.Packets.{Sized}
-use Rattle.promises.specs.Slots.{Change, ClosesSlot, Halted, Open, OpensSlot, ResizesSlot, Running, Same, Shut, SlotKind, change, resized, size_of, slot_after, slot_in, ClearsHalt}
+use Rattle.promises.specs.Slots.{Change, ClosesSlot, Halted, Open, OpensSlot, ResizesSlot, Running, Same, Shut, SlotKind, change, resized, slot_after, slot_in, ClearsHalt}
 use Rattle.promises.specs.Submissions.{word_at}
 use Rattle.promises.proofs.effects.Effects.{Effect, Switches, accepts, closes, collects, counts, hears, joins, marks, opens, passes, resizes, rewrites, still, unlinks, writes_back, clears}
 use Rattle.promises.proofs.invariants.Sound.{Sound, head_within, of_state}

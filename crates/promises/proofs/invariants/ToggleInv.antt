@@ -9,7 +9,6 @@ use Rattle.token.specs.Overlay.{kept_toggle}
 use Rattle.token.specs.Tokens.{only_if}
 use Rattle.token.proofs.OverlayLaws.{kept_flag}
 use Rattle.settings.specs.declared.settings.Settings.{Settings}
-use Rattle.state.specs.Slots.{slot_at}
 use Rattle.state.specs.Plain.{Ehci}
 use Rattle.pipe.specs.Endpoints.{decoded, encoded, flag_number}
 use Rattle.pipe.specs.declared.endpoints.Endpoint.{Endpoint}
@@ -22,7 +21,7 @@ use Rattle.ehci.specs.Door.{Applied}
 use Rattle.promises.specs.Runs.{History, Opening, Turn, World, left_by, turn_of}
 use Rattle.promises.specs.Events.{Collects, Drains, Event, Other, Reads, Submits, event, leaving}
 use Rattle.promises.specs.Slots.{Change, ClearsHalt, ClosesSlot, Halted, OpensSlot, ResizesSlot, Running, Same, change}
-use Rattle.promises.specs.Toggles.{flip_by, overlay_given, starts_at, toggle_after, toggle_in, toggle_now, toggle_of}
+use Rattle.promises.specs.Toggles.{flip_by, overlay_given, toggle_after, toggle_in, toggle_now, toggle_of}
 use Rattle.promises.proofs.effects.Effects.{Effect, Still, Switches, accepts, clears, closes, collects, counts, hears, joins, leaving_by, marks, opens, passes, resizes, rewrites, still, unlinks, writes_back}
 use Rattle.promises.proofs.effects.SlotViews.{view_kept, view_open}
 use Rattle.promises.proofs.invariants.BellFacts.{fresh_closed}

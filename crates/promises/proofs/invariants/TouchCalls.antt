@@ -22,7 +22,6 @@ use Rattle.controller.specs.Lent.{accepts_of, lengths}
 use Rattle.controller.specs.Plain.{Allotment}
 use Rattle.controller.specs.declared.lent.Readings.{Readings}
 use Rattle.schedule.specs.Bell.{bell_of, command_word}
-use Rattle.schedule.specs.Links.{same}
 use Rattle.endpoint.specs.Calls.{ChangeLeft, close_of, set_address_of, set_packet_size_of}
 use Rattle.endpoint.proofs.ChangeLaws.{change_by_lem}
 use Rattle.endpoint.proofs.OpenLaws.{open_by}

@@ -17,7 +17,6 @@ use Rattle.schedule.specs.Bell.{must_ring, ring_of, ring_word, rung_if, unlinked
 use Rattle.schedule.specs.declared.bell.Bell.{Bell}
 use Rattle.schedule.proofs.BellLaws.{ring_set}
 use Rattle.collection.specs.Unlinks.{bounded_of}
-use Rattle.interrupt.specs.Interrupts.{acknowledge_writes}
 use Rattle.ehci.specs.declared.call.Call.{Call}
 use Rattle.ehci.specs.declared.reply.Answered.{Answered}
 use Rattle.ehci.specs.declared.reply.Answered.TheVariants.{Refused}

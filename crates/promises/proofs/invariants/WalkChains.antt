@@ -14,7 +14,7 @@ use Rattle.settings.specs.declared.settings.Settings.{Settings}
 use Rattle.state.specs.Plain.{Ehci}
 use Rattle.schedule.specs.Links.{slot_link}
 use Rattle.schedule.specs.Walks.{Chain}
-use Rattle.promises.specs.Walks.{AtRingHead, End, Ends, Lead, On, Terminated, Walk, ended, is_in, link_leads, link_walk, meets, place_at, walk_from}
+use Rattle.promises.specs.Walks.{AtRingHead, End, Ends, On, Terminated, Walk, is_in, link_leads, link_walk, meets, place_at, walk_from}
 use Rattle.promises.specs.Chains.{head_places}
 use Rattle.promises.proofs.any_machine.Walking.{comes_to, goes_on, own_place}
 use Rattle.promises.proofs.invariants.ChainLists.{in_later, in_same}

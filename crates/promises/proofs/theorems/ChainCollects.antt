@@ -16,7 +16,7 @@ use Rattle.pipe.specs.declared.endpoints.Endpoint.TheVariants.{Linked}
 use Rattle.pipe.specs.declared.endpoints.Pipe.{Pipe}
 use Rattle.pipe.specs.declared.endpoints.Request.{Request}
 use Rattle.controller.specs.declared.lent.Readings.{Readings}
-use Rattle.schedule.specs.Links.{detach_of, same}
+use Rattle.schedule.specs.Links.{detach_of}
 use Rattle.collection.specs.Calls.{collect_of, Gathered, gathered}
 use Rattle.collection.specs.Unlinks.{unlink_of, waiting_of}
 use Rattle.collection.proofs.CallLaws.{collect_active, collect_unlinks}

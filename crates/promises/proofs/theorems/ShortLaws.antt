@@ -1,5 +1,5 @@
 -- The shared descriptor stands, a short packet leads to it and no further, and a full one goes on as the chain does.
-use Prim.Native.Nat.{ℕ, zero, suc, ◌+◌, ◌-◌, ◌*◌, ◌/◌, ◌%◌, ◌≤◌, ◌<◌, ◌^◌}
+use Prim.Native.Nat.{ℕ, zero, suc, ◌+◌, ◌-◌, ◌/◌, ◌≤◌, ◌<◌}
 use mathlib.Core.Path.{◌≡◌, refl, sym, ap, subst, ◌∙◌}
 use mathlib.Core.Bool.{Bool, true, false, cond, not, ◌&&◌}
 use mathlib.Core.List.{List, [], ◌∷◌}
@@ -8,7 +8,7 @@ use native.Mathlib.Omega.{arith}
 use borrow.Author.Tests.{eq-eqb, ltb-false, ltb-true, ne_eqb}
 use lib.Dec.{eqb, ltb}
 use lib.ListN.{drop, get_or, length, length-take, take}
-use Rattle.token.specs.EhciQtd.{active, halted, total_bytes}
+use Rattle.token.specs.EhciQtd.{active, total_bytes}
 use Rattle.token.specs.Plans.{control_plan}
 use Rattle.token.specs.declared.plan.DataTd.{DataTd}
 use Rattle.token.specs.declared.plan.DataTd.TheVariants.{Absent, Present}
@@ -31,18 +31,18 @@ use Rattle.pool.specs.declared.transfer.Transfer.{Transfer}
 use Rattle.pool.proofs.Each.{each_at, each_map}
 use Rattle.pool.proofs.PlaceLaws.{places_within}
 use Rattle.settings.specs.declared.settings.Settings.{Settings}
-use Rattle.settings.specs.Settings.{pool_length, shared_address}
+use Rattle.settings.specs.Settings.{shared_address}
 use Rattle.settings.proofs.SettingsLaws.{Good as SettingsGood}
-use Rattle.promises.specs.Runs.{EveryRun, History, World, core, history_of, moment, world_of}
+use Rattle.promises.specs.Runs.{EveryRun, History, World, core, history_of, world_of}
 use Rattle.promises.specs.Uses.{Use, comes_in, may_end_short, uses}
 use Rattle.promises.specs.Walks.{Ends, On, Terminated, Walk, chain_walk, next_leads}
-use Rattle.promises.specs.Rooms.{Every, places_in_use, transfer_for, untold}
+use Rattle.promises.specs.Rooms.{places_in_use, transfer_for}
 use Rattle.promises.specs.EhciQueue.{Fetched, Queue, begun_at, pointer, visit, visits}
-use Rattle.promises.specs.Shorts.{FullGoesOn, Shared, SharedStands, ShortStops, ShortToken, StopsAt, done_with, following, memory_of, place_in}
+use Rattle.promises.specs.Shorts.{FullGoesOn, SharedStands, ShortStops, ShortToken, StopsAt, done_with, following, memory_of, place_in}
 use Rattle.promises.proofs.any_machine.Leads.{next_on, next_stops}
 use Rattle.promises.proofs.effects.EffectOf.{effect}
 use Rattle.promises.proofs.invariants.Sound.{Sound}
-use Rattle.promises.proofs.invariants.UseInv.{Held, Kept, every_map, tenant_at}
+use Rattle.promises.proofs.invariants.UseInv.{Kept, every_map, tenant_at}
 use Rattle.promises.proofs.theorems.ExclusiveLaws.{exclusive_holds}
 use Rattle.promises.proofs.theorems.RoomPromises.{held}
 
