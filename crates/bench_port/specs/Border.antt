@@ -1,5 +1,5 @@
 -- What C sees of a call: the state that the words then stand for, the numbers of its answer, and the rows that it was lent.
-use Rattle.std.specs.Prelude.{ℕ, List}
+use Rattle.std.specs.Prelude.{ℕ, List, Result}
 use Rattle.descriptor.specs.declared.qtd.QueueTransferDescriptor.{QueueTransferDescriptor}
 use Rattle.register.specs.Writes.{no_writes}
 use Rattle.register.specs.declared.writes.Writes.{Writes}
@@ -20,12 +20,13 @@ use Rattle.interrupt.specs.Plain.{Settled}
 use Rattle.bring_up.specs.Plain.{BroughtUp}
 use Rattle.ehci.specs.declared.call.Call.{Call}
 use Rattle.ehci.specs.declared.call.Call.TheVariants.{Submit, Collect}
-use Rattle.ehci.specs.declared.reply.Answered.{Answered}
 use Rattle.ehci.specs.Door.{Applied}
 use Rattle.ehci.specs.Replies.{acknowledged_answer, allotted_answer, brought_answer, drained_answer, opened_answer, simply}
 use Rattle.bench_port.specs.declared.numbers.Replied.{Replied}
 use Rattle.bench_port.specs.declared.placed.PortPlaces.{PortPlaces}
 use Rattle.bench_port.specs.Numbers.{Numbers, numbers_in, numbers_of}
+use Rattle.ehci.specs.declared.reply.Answered.{Answered}
+use Rattle.common.specs.declared.answer.Refusal.{Refusal}
 
 -- ---- the calls that are lent the pool
 
@@ -52,7 +53,7 @@ pub record Seen : Type 0 where
 abbrev pub seen_in : Settings → Replied → List ℕ → Seen
 seen_in s r ws = record { state = state_of s r.rest ws; numbers = numbers_in r }
 
-abbrev pub seen_of : Ehci → Answered → Writes → Seen
+abbrev pub seen_of : Ehci → Result Answered Refusal → Writes → Seen
 seen_of s answer writes = record { state = s; numbers = numbers_of answer writes }
 
 pub record SeenHeads : Type 0 where

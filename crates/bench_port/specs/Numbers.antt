@@ -1,23 +1,22 @@
 -- An answer and its register writes in numbers.
-use Rattle.std.specs.Prelude.{ℕ, List, [], ◌∷◌, slice_index_or}
+use Rattle.std.specs.Prelude.{ℕ, List, [], ◌∷◌, slice_index_or, Err, None, Ok, Option, Result, Some}
 use Rattle.common.specs.declared.answer.Refusal.TheVariants.{InvalidParameter}
-use Rattle.common.specs.declared.reads.NextRead.{NextRead}
-use Rattle.common.specs.declared.reads.NextRead.TheVariants as N
 use Rattle.register.specs.Writes.{no_writes, write_of}
 use Rattle.register.specs.declared.writes.Write.{Write}
 use Rattle.register.specs.declared.writes.Writes.{Writes}
 use Rattle.words.specs.declared.cores.Rest.{Rest}
-use Rattle.ehci.specs.declared.reply.Answered.{Answered}
-use Rattle.ehci.specs.declared.reply.Answered.TheVariants.{Done, Pending, Cancelled, Failed, Refused}
+use Rattle.ehci.specs.declared.reply.Answered.TheVariants.{Done, Pending, Cancelled, Failed}
 use Rattle.ehci.specs.declared.reply.Given.{Given}
 use Rattle.ehci.specs.declared.reply.Given.TheVariants as G
 use Rattle.ehci.specs.Replies.{answered_number, event_number}
 use Rattle.bench_port.specs.declared.numbers.Replied.{Replied}
+use Rattle.ehci.specs.declared.reply.Answered.{Answered}
+use Rattle.common.specs.declared.answer.Refusal.{Refusal}
 
 -- no register's offset is as large as that of none
-abbrev pub register_number : NextRead → ℕ
-register_number N.Nothing = 0x1_0000_0000
-register_number (N.Register offset) = offset
+abbrev pub register_number : Option ℕ → ℕ
+register_number None = 0x1_0000_0000
+register_number (Some offset) = offset
 
 abbrev pub given_number : Given → ℕ
 given_number G.Nothing = 0
@@ -31,12 +30,12 @@ given_number (G.Event e) = event_number e
 given_number (G.Next read wait) = register_number read
 
 -- what goes with the number of an answer
-abbrev pub value_of : Answered → ℕ
-value_of (Done given) = given_number given
-value_of Pending = 0
-value_of Cancelled = 0
-value_of (Failed token) = token
-value_of (Refused r) = 0
+abbrev pub value_of : Result Answered Refusal → ℕ
+value_of (Ok (Done given)) = given_number given
+value_of (Ok Pending) = 0
+value_of (Ok Cancelled) = 0
+value_of (Ok (Failed token)) = token
+value_of (Err r) = 0
 
 -- and besides: the milliseconds before a register is read, the descriptors that were retried
 abbrev pub given_other : Given → ℕ
@@ -50,12 +49,12 @@ given_other G.Yes = 0
 given_other (G.Event e) = 0
 given_other (G.Next read wait) = wait
 
-abbrev pub other_of : Answered → ℕ
-other_of (Done given) = given_other given
-other_of Pending = 0
-other_of Cancelled = 0
-other_of (Failed token) = 0
-other_of (Refused r) = 0
+abbrev pub other_of : Result Answered Refusal → ℕ
+other_of (Ok (Done given)) = given_other given
+other_of (Ok Pending) = 0
+other_of (Ok Cancelled) = 0
+other_of (Ok (Failed token)) = 0
+other_of (Err r) = 0
 
 abbrev pub write_at : List Write → ℕ → Write
 write_at w i = slice_index_or w i (write_of 0 0)
@@ -80,7 +79,7 @@ pub record Numbers : Type 0 where
   pub offsets : List ℕ
   pub values : List ℕ
 
-abbrev pub numbers_of : Answered → Writes → Numbers
+abbrev pub numbers_of : Result Answered Refusal → Writes → Numbers
 numbers_of answer writes =
     record {
       number = answered_number answer;
@@ -102,7 +101,7 @@ numbers_in r =
       values = r.values;
     }
 
-unfoldable pub pack_of : Rest → Answered → Writes → Replied
+unfoldable pub pack_of : Rest → Result Answered Refusal → Writes → Replied
 pack_of rest answer writes =
     record {
       rest = rest;
@@ -116,4 +115,4 @@ pack_of rest answer writes =
 
 -- 1, the rest as it was, no write
 abbrev pub refused_numbers : Rest → Replied
-refused_numbers rest = pack_of rest (Refused InvalidParameter) no_writes
+refused_numbers rest = pack_of rest (Err InvalidParameter) no_writes

@@ -11,17 +11,14 @@ ghost use Rattle.bench_port.specs.Numbers.{pack_of, refused_numbers};
 ghost use Rattle.bench_port.specs.Border.{beside_heads, seen_allotted, seen_change, seen_changed, seen_in, seen_opened};
 
 use crate::numbers::{Replied, pack};
-use controller::calls::Allotment;
-use direct_calls::endpoints::{
-    allocate_address, clear_halt, close, open_endpoint, set_address, set_packet_size,
-};
+use direct_calls::endpoints::{allocate_address, clear_halt, close, open_endpoint, set_address, set_packet_size};
 use ehci::reply::{allotted_answer, opened_answer, simple};
-use endpoint::calls::{Change, EndpointOpening};
 use pipe::endpoints::kind_of;
 use register::writes::Writes;
 use words::cores::Core;
+use controller::left::Left;
 
-fn pack_allotted(x: Allotment) -> Replied
+fn pack_allotted(x: Left<u8>) -> Replied
     ensures { result ≡ pack_of x.rest (allotted_answer x.answer) no_writes }
 {
     let answer = x.answer;
@@ -29,7 +26,7 @@ fn pack_allotted(x: Allotment) -> Replied
     pack(rest, allotted_answer(answer), Writes::none())
 }
 
-fn pack_opened(x: EndpointOpening) -> Replied
+fn pack_opened(x: Left<u8>) -> Replied
     ensures { result ≡ pack_of x.rest (opened_answer x.answer) no_writes }
 {
     let answer = x.answer;
@@ -37,7 +34,7 @@ fn pack_opened(x: EndpointOpening) -> Replied
     pack(rest, opened_answer(answer), Writes::none())
 }
 
-fn pack_change(x: Change) -> Replied
+fn pack_change(x: Left<()>) -> Replied
     ensures { result ≡ pack_of x.rest (simply x.answer) no_writes }
 {
     let answer = x.answer;

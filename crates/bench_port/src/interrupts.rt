@@ -10,10 +10,11 @@ ghost use Rattle.bench_port.specs.Border.{seen_acknowledged, seen_drained, seen_
 use crate::numbers::{Replied, pack};
 use direct_calls::interrupts::{acknowledge, disable, drain, enable, rearm};
 use ehci::reply::{acknowledged_answer, drained_answer, simple};
-use interrupt::answers::{Acknowledgement, Drainage, Settled};
 use words::cores::Core;
+use controller::left::Settled;
+use interrupt::answers::Event;
 
-fn pack_acknowledged(x: Acknowledgement) -> Replied
+fn pack_acknowledged(x: Settled<bool>) -> Replied
     ensures { result ≡ pack_of x.rest (acknowledged_answer x.answer) x.writes }
 {
     let answer = x.answer;
@@ -22,7 +23,7 @@ fn pack_acknowledged(x: Acknowledgement) -> Replied
     pack(rest, acknowledged_answer(answer), writes)
 }
 
-fn pack_drained(x: Drainage) -> Replied
+fn pack_drained(x: Settled<Event>) -> Replied
     ensures { result ≡ pack_of x.rest (drained_answer x.answer) x.writes }
 {
     let answer = x.answer;
@@ -31,7 +32,7 @@ fn pack_drained(x: Drainage) -> Replied
     pack(rest, drained_answer(answer), writes)
 }
 
-fn pack_settled(x: Settled) -> Replied
+fn pack_settled(x: Settled<()>) -> Replied
     ensures { result ≡ pack_of x.rest (simply x.answer) x.writes }
 {
     let answer = x.answer;

@@ -2,10 +2,11 @@
 ghost use Rattle.std.specs.Prelude.{◌≡◌};
 ghost use Rattle.bench_port.specs.Numbers.{register_number, given_number, value_of, given_other, other_of, offsets_of, values_of, pack_of};
 
-use common::reads::NextRead;
-use ehci::reply::{Answered, Given, Reply, event_number};
+use ehci::reply::{Answered, Given, Reply, answered_number, event_number};
 use register::writes::{Write, Writes};
 use words::cores::Rest;
+use common::answer::Refusal;
+use interrupt::answers::Event;
 
 // Beyond every register's offset.
 pub const NO_REGISTER: u64 = 0x1_0000_0000;
@@ -24,12 +25,12 @@ pub struct Replied {
     pub values: [u32; 6],
 }
 
-fn register_number(read: NextRead) -> u64
+fn register_number(read: Option<u32>) -> u64
     ensures { result ≡ register_number read }
 {
     match read {
-        NextRead::Nothing => NO_REGISTER,
-        NextRead::Register(offset) => offset as u64,
+        None => NO_REGISTER,
+        Some(offset) => offset as u64,
     }
 }
 
@@ -49,15 +50,15 @@ fn given_number(given: Given) -> u64
     }
 }
 
-fn value_of(answer: Answered) -> u64
+fn value_of(answer: Result<Answered, Refusal>) -> u64
     ensures { result ≡ value_of answer }
 {
     match answer {
-        Answered::Done(given) => given_number(given),
-        Answered::Pending => 0,
-        Answered::Cancelled => 0,
-        Answered::Failed(token) => token as u64,
-        Answered::Refused(_) => 0,
+        Ok(Answered::Done(given)) => given_number(given),
+        Ok(Answered::Pending) => 0,
+        Ok(Answered::Cancelled) => 0,
+        Ok(Answered::Failed(token)) => token as u64,
+        Err(_) => 0,
     }
 }
 
@@ -77,15 +78,15 @@ fn given_other(given: Given) -> u64
     }
 }
 
-fn other_of(answer: Answered) -> u64
+fn other_of(answer: Result<Answered, Refusal>) -> u64
     ensures { result ≡ other_of answer }
 {
     match answer {
-        Answered::Done(given) => given_other(given),
-        Answered::Pending => 0,
-        Answered::Cancelled => 0,
-        Answered::Failed(_) => 0,
-        Answered::Refused(_) => 0,
+        Ok(Answered::Done(given)) => given_other(given),
+        Ok(Answered::Pending) => 0,
+        Ok(Answered::Cancelled) => 0,
+        Ok(Answered::Failed(_)) => 0,
+        Err(_) => 0,
     }
 }
 
@@ -110,13 +111,13 @@ fn values_of(w: [Write; 6]) -> [u32; 6]
     ]
 }
 
-pub fn pack(rest: Rest, answer: Answered, writes: Writes) -> Replied
+pub fn pack(rest: Rest, answer: Result<Answered, Refusal>, writes: Writes) -> Replied
     ensures { result ≡ pack_of rest answer writes }
 {
     let list = writes.writes;
     Replied {
         rest,
-        number: answer.number(),
+        number: answered_number(answer),
         count: writes.count,
         value: value_of(answer),
         other: other_of(answer),

@@ -4,6 +4,7 @@ ghost use Rattle.opening.specs.Words.{open_words};
 ghost use Rattle.bench_port.specs.Opens.{OpensPort, beside_opened, pack_opening, seen_opening};
 
 use descriptor::qtd::QueueTransferDescriptor;
+use common::answer::number_of;
 use opening::hub::EhciRootHub;
 use opening::open::{Opening, open};
 use settings::settings::Settings;
@@ -26,7 +27,7 @@ fn pack_opening(opening: Opening) -> PortOpened
     PortOpened {
         core,
         hub,
-        number: answer.number(),
+        number: number_of(answer),
     }
 }
 

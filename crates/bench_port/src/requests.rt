@@ -8,13 +8,13 @@ ghost use Rattle.bench_port.specs.Numbers.{pack_of, refused_numbers};
 ghost use Rattle.bench_port.specs.Border.{beside_links, readings_of, seen_cancelled, seen_in};
 
 use crate::numbers::{Replied, pack};
-use collection::answers::Cancellation;
 use controller::lent::Readings;
 use direct_calls::requests::cancel;
 use ehci::reply::simple;
 use words::cores::Core;
+use controller::left::Settled;
 
-fn pack_cancelled(x: Cancellation) -> Replied
+fn pack_cancelled(x: Settled<()>) -> Replied
     ensures { result ≡ pack_of x.rest (simply x.answer) x.writes }
 {
     let answer = x.answer;

@@ -1,5 +1,5 @@
 -- The returns of the bring-up calls, and the loop over the slots.
-use Rattle.std.specs.Prelude.{◌≡◌, ℕ, suc, ◌+◌, ◌-◌, ◌<◌, ◌≤◌, Bool, true, false, not, ◌||◌, eqb, get_or}
+use Rattle.std.specs.Prelude.{◌≡◌, ℕ, suc, ◌+◌, ◌-◌, ◌<◌, ◌≤◌, Bool, true, false, not, ◌||◌, eqb, get_or, None, Ok, Some}
 use mathlib.Core.Path.{refl, sym, ◌∙◌}
 use native.Mathlib.Decide.{ℕ_discrete as dec_eq}
 use native.Mathlib.Numerals.{add-one}
@@ -14,11 +14,9 @@ use Rattle.state.specs.Plain.{Ehci}
 use Rattle.state.specs.Ranges.{in_ranges}
 use Rattle.state.specs.Slots.{slot_at}
 use Rattle.state.specs.State.{with_bring_up}
-use Rattle.common.specs.declared.answer.Answer.TheVariants.{Done}
 use Rattle.common.specs.declared.answer.Refusal.TheVariants.{InvalidParameter, QueueFull, Timeout}
 use Rattle.pipe.specs.Endpoints.{decoded, endpoint_at}
 use Rattle.controller.specs.Readers.{holds_request, is_uncollected}
-use Rattle.common.specs.declared.reads.NextRead.TheVariants.{Nothing, Register}
 use Rattle.bring_up.specs.declared.stage.Stage.{Stage}
 use Rattle.bring_up.specs.declared.stage.Stage.TheVariants.{Stop, Halting, Reset, Resetting, Run, Starting}
 use Rattle.bring_up.specs.declared.stage.Moved.{Moved}
@@ -116,7 +114,7 @@ module _ (stage : Stage) (m : Moved) where
   pub on_run : stage ≡ Run → m ≡ on_to 6 4 → m ≡ moved_on stage
   on_run e em = em ∙ rw e
 
-pub on_starting : (stage : Stage) → stage ≡ Starting → record { running = 1; step = 0; read = Nothing; wait = 100 } ≡ moved_on stage
+pub on_starting : (stage : Stage) → stage ≡ Starting → record { running = 1; step = 0; read = None; wait = 100 } ≡ moved_on stage
 on_starting stage e = rw e
 
 pub set_up_is : (f h : ℕ) (w₀ w₁ w₂ w₃ w₄ w₅ : Writes) → w₀ ≡ no_writes → w₁ ≡ and_then w₀ 16 0 → w₂ ≡ and_then w₁ 20 f
@@ -130,10 +128,10 @@ module _ (s : Ehci) (reg : ℕ) where
   pub again_more : (w : Writes) → s.waited + 1 < s.settings.wait → w ≡ no_writes
       → ◌≡◌ {A = BroughtUp}
       (record {
-        answer = Done;
+        answer = Ok tt;
         state = with_bring_up s 0 s.step (s.waited + 1) s.enabled;
         writes = w;
-        read = Register reg;
+        read = Some reg;
         wait = 0;
       })
       (again_of s reg)
@@ -157,7 +155,7 @@ module _ (s : Ehci) (b : Bool) (eb : b ≡ in_ranges s) where
 
   pub start_done : (u : Bool) (w w' : Writes) → not b ≡ false → u ≡ any_uncollected 0 32 s → u ≡ false → w ≡ no_writes → w' ≡ and_then w 8 0
       → ◌≡◌ {A = BroughtUp}
-      (record { answer = Done; state = with_bring_up s 0 1 0 0; writes = w'; read = Register 0; wait = 0 }) (start_of s)
+      (record { answer = Ok tt; state = with_bring_up s 0 1 0 0; writes = w'; read = Some 0; wait = 0 }) (start_of s)
   unfolding start_of
   start_done u w w' t eu h ew e = rw (e, ew, sym eb ∙ not-false b t, sym eu ∙ h)
 
@@ -173,7 +171,7 @@ module _ (s : Ehci) (b : Bool) (eb : b ≡ in_ranges s) where
     pub step_onward : (w : Writes) (m : Moved) → g ≡ true → w ≡ stage_writes stage v s.settings.frames s.settings.heads → m ≡ moved_on stage
         → ◌≡◌ {A = BroughtUp}
         (record {
-          answer = Done;
+          answer = Ok tt;
           state = with_bring_up s m.running m.step 0 s.enabled;
           writes = w;
           read = m.read;

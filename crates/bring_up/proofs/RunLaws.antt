@@ -1,5 +1,5 @@
 -- Any bring-up: six ready readings, its end in time, the registers it writes, the ranges.
-use Rattle.std.specs.Prelude.{◌≡◌, ℕ, ◌+◌, ◌-◌, ◌*◌, ◌<◌, ◌≤◌, Bool, true, false, not, ltb, ◌⊎◌, List, [], ◌∷◌, length}
+use Rattle.std.specs.Prelude.{◌≡◌, ℕ, ◌+◌, ◌-◌, ◌*◌, ◌<◌, ◌≤◌, Bool, true, false, not, ltb, ◌⊎◌, List, [], ◌∷◌, length, Ok, Some}
 use mathlib.Core.Logic.{inl, inr}
 use mathlib.Core.Path.{refl, sym, ap, ◌∙◌}
 use native.Mathlib.Decide.{ℕ_discrete as dec_eq}
@@ -13,9 +13,7 @@ use Rattle.state.specs.Ranges.{in_ranges}
 use Rattle.state.specs.Slots.{slot_at}
 use Rattle.state.specs.State.{with_bring_up}
 use Rattle.state.proofs.RangesLaws.{Ranges, ranges_make, ranges_tell}
-use Rattle.common.specs.declared.answer.Answer.TheVariants.{Done}
 use Rattle.common.specs.declared.answer.Refusal.TheVariants.{InvalidParameter, QueueFull, Timeout}
-use Rattle.common.specs.declared.reads.NextRead.TheVariants.{Register}
 use Rattle.bring_up.specs.declared.stage.Stage.{Stage}
 use Rattle.bring_up.specs.declared.stage.Stage.TheVariants.{Stop, Halting, Reset, Resetting, Run, Starting}
 use Rattle.bring_up.specs.Plain.{BroughtUp}
@@ -27,7 +25,7 @@ use Rattle.bring_up.proofs.Cases.{start_bad, start_busy, start_done, step_bad, s
 
 module _ (s : Ehci) (e : in_ranges s ≡ true) where
   start_is : any_uncollected 0 32 s ≡ false
-      → start_of s ≡ record { answer = Done; state = with_bring_up s 0 1 0 0; writes = and_then no_writes 8 0; read = Register 0; wait = 0 }
+      → start_of s ≡ record { answer = Ok tt; state = with_bring_up s 0 1 0 0; writes = and_then no_writes 8 0; read = Some 0; wait = 0 }
   start_is u = sym (start_done s true (sym e) false _ _ refl (sym u) refl refl refl)
 
   start_full : any_uncollected 0 32 s ≡ true → start_of s ≡ refused_bring_up s QueueFull
@@ -127,7 +125,7 @@ unfolding onward_of at with_bring_up and_then no_writes set_up
 six_readings s v₁ v₂ v₃ v₄ v₅ v₆ e u r₂ r₄ r₆ =
     let r = ranges_tell s e in
     ap (λ (x : BroughtUp). seen x ∷ seen_by x.state (v₁ ∷ v₂ ∷ v₃ ∷ v₄ ∷ v₅ ∷ v₆ ∷ [])) (start_is s e u)
-    ∙ ap (λ (l : List Seen). row (write_of 8 0 ∷ []) 0 (Register 0) 0 ∷ l)
+    ∙ ap (λ (l : List Seen). row (write_of 8 0 ∷ []) 0 (Some 0) 0 ∷ l)
     (follows (at s 1) v₁ (v₂ ∷ v₃ ∷ v₄ ∷ v₅ ∷ v₆ ∷ []) _ _ _ (at_stop s r v₁) refl
     (follows (at s 2) v₂ (v₃ ∷ v₄ ∷ v₅ ∷ v₆ ∷ []) _ _ _ (at_halting s r v₂ r₂) refl
     (follows (at s 3) v₃ (v₄ ∷ v₅ ∷ v₆ ∷ []) _ _ _ (at_reset s r v₃) refl
@@ -182,7 +180,7 @@ module _ (s : Ehci) (r : Ranges s) (v : ℕ) where
   unfolding again_of with_bring_up left_of
   again_goes st q h less true t =
       rw t
-      (inr ((refl, refl, h, ap (λ (x : Stage). Register (register_of x)) (sym q)), (bring_keeps s 0 s.step (s.waited + 1) s.enabled (omega arith) r.step_most (ltb-true (s.waited + 1) s.settings.wait t) r.enabled_flag r, rw q less)))
+      (inr ((refl, refl, h, ap (λ (x : Stage). Some (register_of x)) (sym q)), (bring_keeps s 0 s.step (s.waited + 1) s.enabled (omega arith) r.step_most (ltb-true (s.waited + 1) s.settings.wait t) r.enabled_flag r, rw q less)))
   again_goes st q h less false t = rw t (inl (refl, refl, inr (refl, refl)))
 
   -- a stage that waits comes nearer with each read
@@ -232,10 +230,10 @@ module _ (s : Ehci) (r : Ranges s) (v : ℕ) (z : s.step ≡ 0 → ⊥) (t : rea
   more_is : s.waited + 1 < s.settings.wait
       → step_of s v
       ≡ record {
-        answer = Done;
+        answer = Ok tt;
         state = with_bring_up s 0 s.step (s.waited + 1) s.enabled;
         writes = no_writes;
-        read = Register (register_of (stage_of s.step));
+        read = Some (register_of (stage_of s.step));
         wait = 0;
       }
   more_is h =

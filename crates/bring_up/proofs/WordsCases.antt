@@ -1,12 +1,10 @@
 -- The returns of the bring-up calls over words: each is the case of the calls' definitions at the state that the words stand for.
-use Rattle.std.specs.Prelude.{◌≡◌, ℕ, ◌+◌, ◌<◌, ◌≤◌, Bool, true, false, List}
+use Rattle.std.specs.Prelude.{◌≡◌, ℕ, ◌+◌, ◌<◌, ◌≤◌, Bool, true, false, List, Ok, Some}
 use mathlib.Core.Path.{refl, sym, ap, ◌∙◌}
 use Rattle.register.specs.Writes.{no_writes, and_then}
 use Rattle.register.specs.declared.writes.Writes.{Writes}
-use Rattle.common.specs.declared.answer.Answer.TheVariants.{Done}
 use Rattle.common.specs.declared.answer.Refusal.{Refusal}
 use Rattle.common.specs.declared.answer.Refusal.TheVariants.{InvalidParameter, QueueFull, Timeout}
-use Rattle.common.specs.declared.reads.NextRead.TheVariants.{Register}
 use Rattle.state.specs.Ranges.{in_ranges}
 use Rattle.state.specs.State.{with_bring_up}
 use Rattle.words.specs.declared.cores.Core.{Core}
@@ -33,10 +31,10 @@ module _ (c : Core) (ws : List ℕ) (reg : ℕ) where
   pub waits_more : (w : Writes) → c.rest.waited + 1 < c.settings.wait → w ≡ no_writes
       → ◌≡◌ {A = BroughtUp}
       (record {
-        answer = Done;
+        answer = Ok tt;
         state = state_of c.settings (rest_with_bring_up c.rest 0 c.rest.step (c.rest.waited + 1) c.rest.enabled) ws;
         writes = w;
-        read = Register reg;
+        read = Some reg;
         wait = 0;
       })
       (again_of (view c ws) reg)
@@ -62,10 +60,10 @@ module _ (c : Core) (ws : List ℕ) (good : Good c.settings c.rest ws) (u : Bool
   pub starts_done : (w w' : Writes) → u ≡ false → w ≡ no_writes → w' ≡ and_then w 8 0
       → ◌≡◌ {A = BroughtUp}
       (record {
-        answer = Done;
+        answer = Ok tt;
         state = state_of c.settings (rest_with_bring_up c.rest 0 1 0 0) ws;
         writes = w';
-        read = Register 0;
+        read = Some 0;
         wait = 0;
       })
       (start_of (view c ws))
@@ -87,7 +85,7 @@ module _ (c : Core) (ws : List ℕ) (good : in_ranges (view c ws) ≡ true) (v :
         → w ≡ stage_writes stage v c.settings.frames c.settings.heads → m ≡ moved_on stage
         → ◌≡◌ {A = BroughtUp}
         (record {
-          answer = Done;
+          answer = Ok tt;
           state = state_of c.settings (rest_with_bring_up c.rest m.running m.step 0 c.rest.enabled) ws;
           writes = w;
           read = m.read;

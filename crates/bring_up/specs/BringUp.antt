@@ -1,5 +1,5 @@
 -- Document 01, "Ports and bring-up": bringing the controller up, one register reading a step.
-use Rattle.std.specs.Prelude.{ℕ, zero, suc, ◌+◌, Bool, true, false, cond, not, ◌||◌, [], ◌∷◌, ◌==◌, nat_lt}
+use Rattle.std.specs.Prelude.{ℕ, zero, suc, ◌+◌, Bool, true, false, cond, not, ◌||◌, [], ◌∷◌, ◌==◌, nat_lt, Err, None, Ok, Some}
 use Rattle.register.specs.Bits.{with_bits, without_bits, any_of}
 use Rattle.register.specs.Writes.{no_writes, and_then}
 use Rattle.register.specs.declared.writes.Writes.{Writes}
@@ -8,11 +8,9 @@ use Rattle.state.specs.Ranges.{in_ranges}
 use Rattle.state.specs.State.{with_bring_up}
 use Rattle.common.specs.Answers.{first, settle}
 use Rattle.controller.specs.Readers.{is_uncollected}
-use Rattle.common.specs.declared.answer.Answer.TheVariants.{Done, Refused}
 use Rattle.common.specs.declared.answer.Refusal.{Refusal}
 use Rattle.common.specs.declared.answer.Refusal.TheVariants.{InvalidParameter, QueueFull, Timeout}
 use Rattle.schedule.specs.Bell.{command_word}
-use Rattle.common.specs.declared.reads.NextRead.TheVariants.{Nothing, Register}
 use Rattle.bring_up.specs.declared.stage.Stage.{Stage}
 use Rattle.bring_up.specs.declared.stage.Stage.TheVariants.{Stop, Halting, Reset, Resetting, Run, Starting}
 use Rattle.bring_up.specs.declared.stage.Moved.{Moved}
@@ -76,7 +74,7 @@ stage_writes Run v frames heads = command (with_bits v 0x31)
 stage_writes Starting v frames heads = no_writes
 
 abbrev pub on_to : ℕ → ℕ → Moved
-on_to step register = record { running = 0; step = step; read = Register register; wait = 0 }
+on_to step register = record { running = 0; step = step; read = Some register; wait = 0 }
 
 -- the stages follow one another; "not running till its end", "100 ms"
 abbrev pub moved_on : Stage → Moved
@@ -85,12 +83,12 @@ moved_on Halting = on_to 3 0
 moved_on Reset = on_to 4 0
 moved_on Resetting = on_to 5 0
 moved_on Run = on_to 6 4
-moved_on Starting = record { running = 1; step = 0; read = Nothing; wait = 100 }
+moved_on Starting = record { running = 1; step = 0; read = None; wait = 100 }
 
 -- ---- the calls
 
 abbrev pub refused_bring_up : Ehci → Refusal → BroughtUp
-refused_bring_up s r = record { answer = Refused r; state = s; writes = no_writes; read = Nothing; wait = 0 }
+refused_bring_up s r = record { answer = Err r; state = s; writes = no_writes; read = None; wait = 0 }
 
 -- "first disable, in the start call"
 unfoldable pub start_of : Ehci → BroughtUp
@@ -98,10 +96,10 @@ start_of s =
     settle (first ((not (in_ranges s), InvalidParameter) ∷ (any_uncollected 0 32 s, QueueFull) ∷ []))
     (refused_bring_up s)
     (record {
-      answer = Done;
+      answer = Ok tt;
       state = with_bring_up s 0 1 0 0;
       writes = and_then no_writes 8 0;
-      read = Register 0;
+      read = Some 0;
       wait = 0;
     })
 
@@ -109,7 +107,7 @@ start_of s =
 unfoldable pub onward_of : Ehci → Stage → ℕ → BroughtUp
 onward_of s stage v =
     record {
-      answer = Done;
+      answer = Ok tt;
       state = with_bring_up s (moved_on stage).running (moved_on stage).step 0 s.enabled;
       writes = stage_writes stage v s.settings.frames s.settings.heads;
       read = (moved_on stage).read;
@@ -121,10 +119,10 @@ unfoldable pub again_of : Ehci → ℕ → BroughtUp
 again_of s register =
     cond (nat_lt (s.waited + 1) s.settings.wait)
     (record {
-      answer = Done;
+      answer = Ok tt;
       state = with_bring_up s 0 s.step (s.waited + 1) s.enabled;
       writes = no_writes;
-      read = Register register;
+      read = Some register;
       wait = 0;
     })
     (refused_bring_up (with_bring_up s 0 0 0 s.enabled) Timeout)

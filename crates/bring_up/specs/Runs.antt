@@ -1,5 +1,5 @@
 -- What any bring-up does, from its start and over the readings that it is fed, one a step.
-use Rattle.std.specs.Prelude.{◌≡◌, ℕ, ◌+◌, ◌*◌, true, false, ◌⊎◌, List, [], ◌∷◌, map, length, ◌≢◌}
+use Rattle.std.specs.Prelude.{◌≡◌, ℕ, ◌+◌, ◌*◌, true, false, ◌⊎◌, List, [], ◌∷◌, map, length, ◌≢◌, None, Option, Some}
 use Rattle.register.specs.Bits.{with_bits, without_bits, any_of}
 use Rattle.register.specs.Writes.{write_of, list_of}
 use Rattle.register.specs.declared.writes.Write.{Write}
@@ -10,8 +10,6 @@ use Rattle.state.specs.State.{with_bring_up}
 use Rattle.common.specs.Answers.{number_of}
 use Rattle.common.specs.declared.answer.Refusal.TheVariants.{Timeout}
 use Rattle.schedule.specs.Bell.{command_word}
-use Rattle.common.specs.declared.reads.NextRead.{NextRead}
-use Rattle.common.specs.declared.reads.NextRead.TheVariants.{Nothing, Register}
 use Rattle.bring_up.specs.declared.stage.Stage.{Stage}
 use Rattle.bring_up.specs.declared.stage.Stage.TheVariants.{Stop, Halting, Reset, Resetting, Run, Starting}
 use Rattle.bring_up.specs.Plain.{BroughtUp}
@@ -23,7 +21,7 @@ pub record Seen : Type 0 where
   pub number : ℕ
   pub writes : List Write
   pub wait : ℕ
-  pub read : NextRead
+  pub read : Option ℕ
   pub running : ℕ
 
 abbrev pub seen : BroughtUp → Seen
@@ -41,7 +39,7 @@ abbrev pub seen_by : Ehci → List ℕ → List Seen
 seen_by s [] = []
 seen_by s (v ∷ vs) = seen (step_of s v) ∷ seen_by (step_of s v).state vs
 
-abbrev pub row : List Write → ℕ → NextRead → ℕ → Seen
+abbrev pub row : List Write → ℕ → Option ℕ → ℕ → Seen
 row writes wait read running = record { number = 0; writes = writes; wait = wait; read = read; running = running }
 
 -- fed ready readings it ends running with the sixth, and each answer is 01's
@@ -50,10 +48,10 @@ SixReadings =
     (s : Ehci) (v₁ v₂ v₃ v₄ v₅ v₆ : ℕ) → in_ranges s ≡ true → any_uncollected 0 32 s ≡ false
     → any_of v₂ 0x1000 ≡ true → any_of v₄ 2 ≡ false → any_of v₆ 0x1000 ≡ false
     → seen (start_of s) ∷ seen_by (start_of s).state (v₁ ∷ v₂ ∷ v₃ ∷ v₄ ∷ v₅ ∷ v₆ ∷ [])
-    ≡ row (write_of 8 0 ∷ []) 0 (Register 0) 0
-    ∷ row (write_of 0 (command_word (without_bits v₁ 0x31)) ∷ []) 0 (Register 4) 0
-    ∷ row [] 0 (Register 0) 0
-    ∷ row (write_of 0 (command_word (with_bits v₃ 2)) ∷ []) 0 (Register 0) 0
+    ≡ row (write_of 8 0 ∷ []) 0 (Some 0) 0
+    ∷ row (write_of 0 (command_word (without_bits v₁ 0x31)) ∷ []) 0 (Some 4) 0
+    ∷ row [] 0 (Some 0) 0
+    ∷ row (write_of 0 (command_word (with_bits v₃ 2)) ∷ []) 0 (Some 0) 0
     ∷ row
     (write_of 0x10 0
     ∷ write_of 0x14 s.settings.frames
@@ -61,9 +59,9 @@ SixReadings =
     ∷ write_of 0x40 1
     ∷ write_of 4 0x3F
     ∷ [])
-    0 (Register 0) 0
-    ∷ row (write_of 0 (command_word (with_bits v₅ 0x31)) ∷ []) 0 (Register 4) 0
-    ∷ row [] 100 Nothing 1
+    0 (Some 0) 0
+    ∷ row (write_of 0 (command_word (with_bits v₅ 0x31)) ∷ []) 0 (Some 4) 0
+    ∷ row [] 100 None 1
     ∷ []
 
 -- ---- the end
@@ -71,7 +69,7 @@ SixReadings =
 -- nothing to read next: in 0, running, or in 7, not running
 abbrev pub Ended : BroughtUp → Type 0
 Ended r =
-    (r.read ≡ Nothing)
+    (r.read ≡ None)
     × (r.state.step ≡ 0)
     × (((number_of r.answer ≡ 0) × (r.state.running ≡ 1)) ⊎ ((number_of r.answer ≡ 7) × (r.state.running ≡ 0)))
 
@@ -81,7 +79,7 @@ GoesOn r =
     (number_of r.answer ≡ 0)
     × (r.state.running ≡ 0)
     × (r.state.step ≢ 0)
-    × (r.read ≡ Register (register_of (stage_of r.state.step)))
+    × (r.read ≡ Some (register_of (stage_of r.state.step)))
 
 -- it goes on up to one of the readings, and ends with that
 abbrev pub EndsBy : Ehci → List ℕ → Type 0

@@ -1,15 +1,14 @@
 // What a start or a step of bring-up answers and leaves.
-use common::answer::Answer;
-use common::reads::NextRead;
 use register::writes::Writes;
 use words::cores::Rest;
+use common::answer::Refusal;
 
 // Its writes, then the milliseconds to wait, then the register to read.
 #[derive(Clone, Copy)]
 pub struct BroughtUp {
-    pub answer: Answer,
+    pub answer: Result<(), Refusal>,
     pub rest: Rest,
     pub writes: Writes,
-    pub read: NextRead,
+    pub read: Option<u32>,
     pub wait: u32,
 }

@@ -9,8 +9,7 @@ ghost use Rattle.words.specs.View.{view};
 use crate::answers::BroughtUp;
 use crate::busy::any_uncollected;
 use crate::stage::{is_ready, moved_on, register_of, stage_of, stage_writes};
-use common::answer::{Answer, Refusal};
-use common::reads::NextRead;
+use common::answer::Refusal;
 use register::operational::{USBCMD, USBINTR};
 use register::writes::Writes;
 use words::cores::{Core, Rest};
@@ -19,10 +18,10 @@ pub fn refuse(rest: Rest, refusal: Refusal) -> BroughtUp
     ensures { result ≡ refused_words rest refusal }
 {
     BroughtUp {
-        answer: Answer::Refused(refusal),
+        answer: Err(refusal),
         rest,
         writes: Writes::none(),
-        read: NextRead::Nothing,
+        read: None,
         wait: 0,
     }
 }
@@ -39,10 +38,10 @@ fn wait_again(core: Core, register: u32) -> BroughtUp
     if waited < core.settings.wait {
         rest.waited = waited;
         return BroughtUp {
-            answer: Answer::Done,
+            answer: Ok(()),
             rest,
             writes: Writes::none(),
-            read: NextRead::Register(register),
+            read: Some(register),
             wait: 0,
         };
     }
@@ -66,10 +65,10 @@ pub fn start(core: Core, slots: &[u64]) -> BroughtUp
     rest.waited = 0;
     rest.enabled = 0;
     BroughtUp {
-        answer: Answer::Done,
+        answer: Ok(()),
         rest,
         writes: Writes::none().and_then(USBINTR, 0),
-        read: NextRead::Register(USBCMD),
+        read: Some(USBCMD),
         wait: 0,
     }
 }
@@ -95,7 +94,7 @@ pub fn step(core: Core, reading: u32) -> BroughtUp
         rest.step = moved.step;
         rest.waited = 0;
         return BroughtUp {
-            answer: Answer::Done,
+            answer: Ok(()),
             rest,
             writes,
             read,

@@ -11,14 +11,8 @@ ghost use Rattle.bring_up.specs.BringUp.{
   moved_on,
 };
 
-use common::reads::NextRead;
 use register::bits::{any_of, with_bits, without_bits};
-use register::operational::{
-    ASYNCLISTADDR, CONFIGFLAG, CTRLDSSEGMENT, PERIODICLISTBASE, USBCMD, USBCMD_ASYNC_ENABLE,
-    USBCMD_HCRESET, USBCMD_PERIODIC_ENABLE, USBCMD_RUN_STOP, USBSTS, USBSTS_FRAME_LIST_ROLLOVER,
-    USBSTS_HALTED, USBSTS_HOST_SYSTEM_ERROR, USBSTS_INTERRUPT_ASYNC_ADVANCE, USBSTS_PORT_CHANGE,
-    USBSTS_USBERRINT, USBSTS_USBINT,
-};
+use register::operational::{ASYNCLISTADDR, CONFIGFLAG, CTRLDSSEGMENT, PERIODICLISTBASE, USBCMD, USBCMD_ASYNC_ENABLE, USBCMD_HCRESET, USBCMD_PERIODIC_ENABLE, USBCMD_RUN_STOP, USBSTS, USBSTS_FRAME_LIST_ROLLOVER, USBSTS_HALTED, USBSTS_HOST_SYSTEM_ERROR, USBSTS_INTERRUPT_ASYNC_ADVANCE, USBSTS_PORT_CHANGE, USBSTS_USBERRINT, USBSTS_USBINT};
 use register::writes::Writes;
 use schedule::bell::command_word;
 
@@ -51,7 +45,7 @@ pub enum Stage {
 pub struct Moved {
     pub running: u8,
     pub step: u8,
-    pub read: NextRead,
+    pub read: Option<u32>,
     pub wait: u32,
 }
 
@@ -135,7 +129,7 @@ fn on_to(step: u8, register: u32) -> Moved
     Moved {
         running: 0,
         step,
-        read: NextRead::Register(register),
+        read: Some(register),
         wait: 0,
     }
 }
@@ -152,7 +146,7 @@ pub fn moved_on(stage: Stage) -> Moved
         Stage::Starting => Moved {
             running: 1,
             step: 0,
-            read: NextRead::Nothing,
+            read: None,
             wait: SETTLE_MS,
         },
     }

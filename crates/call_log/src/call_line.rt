@@ -15,10 +15,10 @@ ghost use Rattle.call_log.specs.Lines.{line_bytes, said_line};
 
 use crate::line::{Cell, Line, Part};
 use crate::lines::line_of_three;
-use common::answer::Answer;
-use common::reads::NextRead;
-use ehci::reply::{Answered, Event, Given, event_number};
-use root_hub::ports::PortEvent;
+use ehci::reply::{Answered, Given, event_number};
+use root_hub::ports::{PortEvent, event_port};
+use common::answer::Refusal;
+use interrupt::answers::Event;
 
 // An answer that gives nothing.
 fn bare_line(n: u64, call: u8, answer: u8) -> Line
@@ -91,12 +91,12 @@ fn line_with_two(n: u64, call: u8, first: u64, second: u64) -> Line
     }
 }
 
-fn register_part(read: NextRead) -> Part
+fn register_part(read: Option<u32>) -> Part
     ensures { result ≡ register_part read }
 {
     match read {
-        NextRead::Nothing => Part::Dash,
-        NextRead::Register(offset) => Part::Byte(offset),
+        None => Part::Dash,
+        Some(offset) => Part::Byte(offset),
     }
 }
 
@@ -147,25 +147,25 @@ fn given_line(n: u64, call: u8, given: Given) -> Line
     }
 }
 
-pub fn call_line(n: u64, call: u8, answered: Answered) -> Line
+pub fn call_line(n: u64, call: u8, answered: Result<Answered, Refusal>) -> Line
     ensures { line_bytes result ≡ answered_line n call answered }
 {
     match answered {
-        Answered::Done(given) => given_line(n, call, given),
-        Answered::Pending => bare_line(n, call, 9),
-        Answered::Cancelled => bare_line(n, call, 10),
-        Answered::Failed(token) => line_with(n, call, 11, Part::Word(token)),
-        Answered::Refused(refusal) => bare_line(n, call, refusal.number()),
+        Ok(Answered::Done(given)) => given_line(n, call, given),
+        Ok(Answered::Pending) => bare_line(n, call, 9),
+        Ok(Answered::Cancelled) => bare_line(n, call, 10),
+        Ok(Answered::Failed(token)) => line_with(n, call, 11, Part::Word(token)),
+        Err(refusal) => bare_line(n, call, refusal.number()),
     }
 }
 
-fn port_event_number(event: PortEvent) -> u8
+fn port_event_number(event: Option<PortEvent>) -> u8
     ensures { result ≡ port_event_number event }
 {
     match event {
-        PortEvent::Nothing => 0,
-        PortEvent::Connected(_, _) => 1,
-        PortEvent::Disconnected(_) => 2,
+        None => 0,
+        Some(PortEvent::Connected(_, _)) => 1,
+        Some(PortEvent::Disconnected(_)) => 2,
     }
 }
 
@@ -173,22 +173,22 @@ fn port_event_number(event: PortEvent) -> u8
 pub fn scan_line(
     n: u64,
     call: u8,
-    answer: Answer,
-    read: NextRead,
+    answer: Result<(), Refusal>,
+    read: Option<u32>,
     wait: u32,
-    event: PortEvent,
+    event: Option<PortEvent>,
 ) -> Line
     ensures { line_bytes result ≡ scan_line n call answer read wait event }
 {
     match answer {
-        Answer::Done => step_line(
+        Ok(()) => step_line(
             n,
             call,
             register_part(read),
             wait,
             port_event_number(event),
-            event.port(),
+            event_port(event),
         ),
-        Answer::Refused(refusal) => bare_line(n, call, refusal.number()),
+        Err(refusal) => bare_line(n, call, refusal.number()),
     }
 }

@@ -1,5 +1,5 @@
 -- The returns of cancel and collect.
-use Rattle.std.specs.Prelude.{◌≡◌, ℕ, ◌+◌, ◌<◌, ◌≤◌, Bool, true, false, not, List, length}
+use Rattle.std.specs.Prelude.{◌≡◌, ℕ, ◌+◌, ◌<◌, ◌≤◌, Bool, true, false, not, List, length, Ok, Result}
 use mathlib.Core.Path.{sym, ap, ◌∙◌}
 use borrow.Author.Tests.{eq-eqb, le-leb, lt-leb, ne_eqb, not-false, not-true}
 use Rattle.register.specs.Writes.{no_writes}
@@ -9,7 +9,6 @@ use Rattle.state.specs.Plain.{Ehci}
 use Rattle.state.specs.State.{with_owner}
 use Rattle.pipe.specs.Endpoints.{endpoint_at, with_endpoint}
 use Rattle.controller.specs.Lent.{accepts_of, lengths}
-use Rattle.common.specs.declared.answer.Answer.TheVariants.{Done}
 use Rattle.common.specs.declared.answer.Refusal.TheVariants.{InvalidEndpoint, InvalidParameter}
 use Rattle.pipe.specs.declared.endpoints.Endpoint.{Endpoint}
 use Rattle.pipe.specs.declared.endpoints.Endpoint.TheVariants.{Closed, Idle, Linked, Unlinking}
@@ -19,17 +18,18 @@ use Rattle.pipe.specs.declared.endpoints.UnlinkBoundary.{UnlinkBoundary}
 use Rattle.controller.specs.declared.lent.Readings.{Readings}
 use Rattle.schedule.specs.Links.{ended_overlay}
 use Rattle.collection.specs.Plain.{Cancellation}
-use Rattle.collection.specs.declared.collected.Collected.{Collected}
 use Rattle.collection.specs.Plain.{Collection}
 use Rattle.collection.specs.Answers.{outcome_of, pending_collect, pending_of, refused_cancel, refused_collect}
 use Rattle.collection.specs.Unlinks.{left, passed_boundary, unlink_of}
 use Rattle.collection.specs.Calls.{Ended, cancel_of, collect_of, ended, finish_of, freed, gathered, keeping, linked_of, marked, marked_of, unlinking_of}
+use Rattle.collection.specs.declared.collected.Collected.{Collected}
+use Rattle.common.specs.declared.answer.Refusal.{Refusal}
 
 -- ---- cancel
 
 pub marks : (s st : Ehci) (k : ℕ) (p : Pipe) (r q : Request) (u : UnlinkBoundary) (w : Writes) → q ≡ marked r
     → st ≡ with_endpoint s k (Unlinking p q u) → w ≡ no_writes
-    → ◌≡◌ {A = Cancellation} (record { answer = Done; state = st; writes = w }) (marked_of s k p r u)
+    → ◌≡◌ {A = Cancellation} (record { answer = Ok tt; state = st; writes = w }) (marked_of s k p r u)
 marks s st k p r q u w eq es ew = rw (es, eq, ew)
 
 module _ (s : Ehci) (pool : ℕ) (h f : List ℕ) (setups : ℕ) (rd : Readings) (k id : ℕ) (b : Bool)
@@ -71,7 +71,7 @@ module _ (s : Ehci) (pool : ℕ) (h f : List ℕ) (setups : ℕ) (rd : Readings)
 
 -- ---- the parts of collect
 
-pub finishes : (s st : Ehci) (v : View) (k : ℕ) (p : Pipe) (r : Request) (o : List ℕ) (a : Collected) (w : Writes)
+pub finishes : (s st : Ehci) (v : View) (k : ℕ) (p : Pipe) (r : Request) (o : List ℕ) (a : (Result Collected Refusal)) (w : Writes)
     → o ≡ freed s.owner s.settings.descriptors (k + 1) → a ≡ outcome_of r.cancelled v
     → st ≡ with_endpoint (with_owner s o) k (Idle p) → w ≡ no_writes
     → ◌≡◌ {A = Collection} (record { answer = a; state = st; writes = w }) (finish_of s v k p r)
@@ -83,7 +83,7 @@ module _ (s : Ehci) (h f : List ℕ) (rd : Readings) (stage k : ℕ) (p : Pipe) 
   unfolding linked_of
   linked_waits c ec e = rw (ec, e)
 
-  pub linked_unlinks : (l : Cancellation) (a : Collected) (h' f' : List ℕ) → left l h' f' ≡ unlink_of s h f rd k p r → a ≡ pending_of l.answer
+  pub linked_unlinks : (l : Cancellation) (a : (Result Collected Refusal)) (h' f' : List ℕ) → left l h' f' ≡ unlink_of s h f rd k p r → a ≡ pending_of l.answer
       → (stage ≡ 2 → ⊥)
       → gathered (record { answer = a; state = l.state; writes = l.writes }) h' f' ≡ linked_of s h f rd stage k p r
   unfolding linked_of

@@ -1,5 +1,5 @@
 -- A refusal changes nothing; the rows of a collect; the writes of both calls; collect while the request is linked.
-use Rattle.std.specs.Prelude.{◌≡◌, ℕ, ◌+◌, ◌*◌, ◌<◌, ◌≤◌, Bool, true, false, eqb, ◌≢◌, ◌⊎◌, List, length}
+use Rattle.std.specs.Prelude.{◌≡◌, ℕ, ◌+◌, ◌*◌, ◌<◌, ◌≤◌, Bool, true, false, eqb, ◌≢◌, ◌⊎◌, List, length, Err, Ok, Result, ⊤}
 use mathlib.Core.Path.{refl, sym, ap, ◌∙◌}
 use mathlib.Core.Logic.{inl, inr}
 use native.Mathlib.Omega.{arith}
@@ -14,8 +14,6 @@ use Rattle.pipe.specs.Endpoints.{endpoint_at}
 use Rattle.controller.specs.Lent.{accepts_of, lengths}
 use Rattle.controller.specs.Readers.{has_endpoint}
 use Rattle.opening.specs.Heads.{head_word}
-use Rattle.common.specs.declared.answer.Answer.{Answer}
-use Rattle.common.specs.declared.answer.Answer.TheVariants.{Done, Refused as RefusedCall}
 use Rattle.common.specs.declared.answer.Refusal.{Refusal}
 use Rattle.pipe.specs.declared.endpoints.Endpoint.TheVariants.{Linked}
 use Rattle.pipe.specs.declared.endpoints.Pipe.{Pipe}
@@ -26,8 +24,7 @@ use Rattle.controller.proofs.ReaderLaws.{open_within}
 use Rattle.schedule.specs.Bell.{bell_of, must_ring, ring_of, ring_word, rung_if, unlinked_of}
 use Rattle.schedule.specs.Links.{ended_overlay}
 use Rattle.schedule.specs.declared.bell.Bell.{Bell}
-use Rattle.collection.specs.declared.collected.Collected.{Collected}
-use Rattle.collection.specs.declared.collected.Collected.TheVariants.{Complete, Pending, Cancelled, Failed, Refused}
+use Rattle.collection.specs.declared.collected.Collected.TheVariants.{Complete, Pending, Cancelled, Failed}
 use Rattle.collection.specs.Answers.{outcome_of, pending_collect, refused_cancel, refused_collect}
 use Rattle.collection.specs.Unlinks.{Left, bounded_of, left, unlink_of, waiting_of}
 use Rattle.collection.specs.Calls.{Gathered, cancel_of, collect_of, finish_of, gathered, marked, pending_left}
@@ -35,17 +32,18 @@ use Rattle.collection.proofs.CallCases.{collect_looks, linked_unlinks, linked_wa
 use Rattle.collection.proofs.CollectLaws.{ended_length, ended_others}
 use Rattle.collection.proofs.Splits.{cancel_split, collect_split, unlink_split}
 use Rattle.collection.proofs.StayLaws.{unlink_rows}
+use Rattle.collection.specs.declared.collected.Collected.{Collected}
 
-abbrev is_done : Answer → Bool
-is_done Done = true
-is_done (RefusedCall r) = false
+abbrev is_done : Result ⊤ Refusal → Bool
+is_done (Ok tt) = true
+is_done (Err r) = false
 
-abbrev is_result : Collected → Bool
-is_result (Complete c) = true
-is_result Pending = true
-is_result Cancelled = true
-is_result (Failed t) = true
-is_result (Refused r) = false
+abbrev is_result : Result Collected Refusal → Bool
+is_result (Ok (Complete c)) = true
+is_result (Ok Pending) = true
+is_result (Ok Cancelled) = true
+is_result (Ok (Failed t)) = true
+is_result (Err r) = false
 
 outcome_result : (b : Bool) (v : View) → is_result (outcome_of b v) ≡ true
 unfolding outcome_of
@@ -95,29 +93,29 @@ module _ (s : Ehci) (pool : ℕ) (h f : List ℕ) (setups : ℕ) (rd : Readings)
   -- ---- refusals
 
   abbrev KeepsLeft : Refusal → Left → Type 0
-  KeepsLeft x l = l.came.answer ≡ RefusedCall x → l ≡ left (refused_cancel s x) h f
+  KeepsLeft x l = l.came.answer ≡ Err x → l ≡ left (refused_cancel s x) h f
 
   abbrev KeepsGathered : Refusal → Gathered → Type 0
-  KeepsGathered x g = g.came.answer ≡ Refused x → g ≡ gathered (refused_collect s x) h f
+  KeepsGathered x g = g.came.answer ≡ Err x → g ≡ gathered (refused_collect s x) h f
 
-  pub cancel_refusal_keeps : (x : Refusal) → (cancel_of s pool h f setups rd k id).came.answer ≡ RefusedCall x
+  pub cancel_refusal_keeps : (x : Refusal) → (cancel_of s pool h f setups rd k id).came.answer ≡ Err x
       → cancel_of s pool h f setups rd k id ≡ left (refused_cancel s x) h f
   cancel_refusal_keeps x =
-      cancel_split s pool h f setups rd k id (KeepsLeft x) (λ y e. ap (λ (a : Answer). left (record { answer = a; state = s; writes = no_writes }) h f) e)
+      cancel_split s pool h f setups rd k id (KeepsLeft x) (λ y e. ap (λ (a : (Result ⊤ Refusal)). left (record { answer = a; state = s; writes = no_writes }) h f) e)
       (λ p r ok e u i.
-      unlink_split s h f rd k p (marked r) (KeepsLeft x) (λ q. ap (λ (a : Answer). left (record { answer = a; state = s; writes = no_writes }) h f) q)
+      unlink_split s h f rd k p (marked r) (KeepsLeft x) (λ q. ap (λ (a : (Result ⊤ Refusal)). left (record { answer = a; state = s; writes = no_writes }) h f) q)
       (λ found q. absurd (false_true (sym (ap is_done q) ∙ waiting_done s rd k p (marked r)))))
       (λ p r u ok e i q. absurd (false_true (sym (ap is_done q))))
 
-  pub collect_refusal_keeps : (v : View) (x : Refusal) → (collect_of s pool h f setups rd v k id).came.answer ≡ Refused x
+  pub collect_refusal_keeps : (v : View) (x : Refusal) → (collect_of s pool h f setups rd v k id).came.answer ≡ Err x
       → collect_of s pool h f setups rd v k id ≡ gathered (refused_collect s x) h f
   unfolding finish_of waiting_of
   collect_refusal_keeps v x =
-      collect_split s pool h f setups rd k id v (KeepsGathered x) (λ y e. ap (λ (a : Collected). gathered (record { answer = a; state = s; writes = no_writes }) h f) e)
+      collect_split s pool h f setups rd k id v (KeepsGathered x) (λ y e. ap (λ (a : (Result Collected Refusal)). gathered (record { answer = a; state = s; writes = no_writes }) h f) e)
       (λ e. absurd (false_true (sym (ap is_result e))))
       (λ p r ok e u i n.
       unlink_split s h f rd k p r (λ (l : Left). KeepsGathered x (pending_left l))
-      (λ q. ap (λ (a : Collected). gathered (record { answer = a; state = s; writes = no_writes }) h f) q)
+      (λ q. ap (λ (a : (Result Collected Refusal)). gathered (record { answer = a; state = s; writes = no_writes }) h f) q)
       (λ found q. absurd (false_true (sym (ap is_result q)))))
       (λ p r u ok e i t q. absurd (false_true (sym (ap is_result q) ∙ outcome_result r.cancelled v)))
 

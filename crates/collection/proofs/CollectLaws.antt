@@ -1,5 +1,5 @@
 -- What a collect that passes leaves, what a collect that waits leaves, and what the answers say.
-use Rattle.std.specs.Prelude.{◌≡◌, ℕ, ◌+◌, ◌-◌, ◌*◌, ◌<◌, ◌≤◌, Bool, true, false, eqb, ◌≢◌, List, [], length, get_or, take}
+use Rattle.std.specs.Prelude.{◌≡◌, ℕ, ◌+◌, ◌-◌, ◌*◌, ◌<◌, ◌≤◌, Bool, true, false, eqb, ◌≢◌, List, [], length, get_or, take, Err, Ok, Result}
 use mathlib.Core.Path.{refl, sym, ap, ◌∙◌}
 use native.Mathlib.Decide.{ℕ_discrete as dec_eq}
 use native.Mathlib.Omega.{arith}
@@ -22,14 +22,15 @@ use Rattle.controller.specs.declared.lent.Readings.{Readings}
 use Rattle.pipe.proofs.EndpointLaws.{Wide, endpoint_same, owner_wide}
 use Rattle.common.proofs.RowLaws.{put_before, put_behind, put_inside, put_length}
 use Rattle.schedule.specs.Links.{ended_overlay, ended_words}
-use Rattle.collection.specs.declared.collected.Collected.{Collected}
-use Rattle.collection.specs.declared.collected.Collected.TheVariants.{Complete, Pending, Cancelled, Failed, Refused}
+use Rattle.collection.specs.declared.collected.Collected.TheVariants.{Complete, Pending, Cancelled, Failed}
 use Rattle.collection.specs.declared.collected.Completion.{Completion}
 use Rattle.collection.specs.Answers.{collected_number, outcome_of, pending_collect}
 use Rattle.collection.specs.Unlinks.{passed_boundary}
 use Rattle.collection.specs.Calls.{Gathered, collect_of, finish_of, freed, gathered, keeping}
 use Rattle.collection.proofs.CallCases.{collect_ends, unlinking_ends, unlinking_waits}
 use Rattle.collection.proofs.FreedLaws.{freed_front}
+use Rattle.collection.specs.declared.collected.Collected.{Collected}
+use Rattle.common.specs.declared.answer.Refusal.{Refusal}
 
 -- ---- the head of a collected request
 
@@ -95,29 +96,29 @@ module _ (s : Ehci) (v : View) (k : ℕ) (p : Pipe) (r : Request) where
 
 -- ---- what the answer says of the tokens
 
-abbrev length_in : Collected → ℕ
-length_in (Complete c) = c.length
-length_in Pending = 0
-length_in Cancelled = 0
-length_in (Failed t) = 0
-length_in (Refused r) = 0
+abbrev length_in : Result Collected Refusal → ℕ
+length_in (Ok (Complete c)) = c.length
+length_in (Ok Pending) = 0
+length_in (Ok Cancelled) = 0
+length_in (Ok (Failed t)) = 0
+length_in (Err r) = 0
 
-abbrev retried_in : Collected → ℕ
-retried_in (Complete c) = c.retried
-retried_in Pending = 0
-retried_in Cancelled = 0
-retried_in (Failed t) = 0
-retried_in (Refused r) = 0
+abbrev retried_in : Result Collected Refusal → ℕ
+retried_in (Ok (Complete c)) = c.retried
+retried_in (Ok Pending) = 0
+retried_in (Ok Cancelled) = 0
+retried_in (Ok (Failed t)) = 0
+retried_in (Err r) = 0
 
-abbrev token_in : Collected → ℕ
-token_in (Complete c) = 0
-token_in Pending = 0
-token_in Cancelled = 0
-token_in (Failed t) = t
-token_in (Refused r) = 0
+abbrev token_in : Result Collected Refusal → ℕ
+token_in (Ok (Complete c)) = 0
+token_in (Ok Pending) = 0
+token_in (Ok Cancelled) = 0
+token_in (Ok (Failed t)) = t
+token_in (Err r) = 0
 
 module _ (cancelled : Bool) (seen : List Seen) where
-  outcome_split : (P : Collected → Type 0) → P Cancelled → P (Failed (first_error seen)) → P (Complete (record { length = length_of seen; retried = retried_of seen }))
+  outcome_split : (P : Result Collected Refusal → Type 0) → P (Ok Cancelled) → P (Ok (Failed (first_error seen))) → P (Ok (Complete (record { length = length_of seen; retried = retried_of seen })))
       → P (outcome_of cancelled (view_of seen))
   unfolding outcome_of view_of
   outcome_split P c f d = by cancelled refl (eqb (first_error seen) 0) refl
@@ -128,26 +129,26 @@ module _ (cancelled : Bool) (seen : List Seen) where
       by false e false q = rw (e, q) f
 
   -- complete: the length is the sum over the tokens, and of nothing else
-  pub complete-length : (c : Completion) → outcome_of cancelled (view_of seen) ≡ Complete c → c.length ≡ length_of seen
-  complete-length c = outcome_split (λ (x : Collected). x ≡ Complete c → c.length ≡ length_of seen) (λ e. absurd (omega (arith, ap collected_number e)))
+  pub complete-length : (c : Completion) → outcome_of cancelled (view_of seen) ≡ Ok (Complete c) → c.length ≡ length_of seen
+  complete-length c = outcome_split (λ (x : (Result Collected Refusal)). x ≡ Ok (Complete c) → c.length ≡ length_of seen) (λ e. absurd (omega (arith, ap collected_number e)))
       (λ e. absurd (omega (arith, ap collected_number e))) (λ e. sym (ap length_in e))
 
   -- and the count that of the tokens that say so
-  pub complete-retried : (c : Completion) → outcome_of cancelled (view_of seen) ≡ Complete c → c.retried ≡ retried_of seen
-  complete-retried c = outcome_split (λ (x : Collected). x ≡ Complete c → c.retried ≡ retried_of seen) (λ e. absurd (omega (arith, ap collected_number e)))
+  pub complete-retried : (c : Completion) → outcome_of cancelled (view_of seen) ≡ Ok (Complete c) → c.retried ≡ retried_of seen
+  complete-retried c = outcome_split (λ (x : (Result Collected Refusal)). x ≡ Ok (Complete c) → c.retried ≡ retried_of seen) (λ e. absurd (omega (arith, ap collected_number e)))
       (λ e. absurd (omega (arith, ap collected_number e))) (λ e. sym (ap retried_in e))
 
   -- failed: the token is the first erring one
-  pub failed_token : (t : ℕ) → outcome_of cancelled (view_of seen) ≡ Failed t → t ≡ first_error seen
-  failed_token t = outcome_split (λ (x : Collected). x ≡ Failed t → t ≡ first_error seen) (λ e. absurd (omega (arith, ap collected_number e)))
+  pub failed_token : (t : ℕ) → outcome_of cancelled (view_of seen) ≡ Ok (Failed t) → t ≡ first_error seen
+  failed_token t = outcome_split (λ (x : (Result Collected Refusal)). x ≡ Ok (Failed t) → t ≡ first_error seen) (λ e. absurd (omega (arith, ap collected_number e)))
       (λ e. sym (ap token_in e)) (λ e. absurd (omega (arith, ap collected_number e)))
 
 -- no outcome is Pending, and none a refusal
-pub outcome_decides : (b : Bool) (v : View) → outcome_of b v ≢ Pending
+pub outcome_decides : (b : Bool) (v : View) → outcome_of b v ≢ (Ok Pending)
 unfolding outcome_of
 outcome_decides b v = by b refl (eqb v.failed 0) refl
   where
-    by : (c : Bool) → b ≡ c → (z : Bool) → eqb v.failed 0 ≡ z → outcome_of b v ≢ Pending
+    by : (c : Bool) → b ≡ c → (z : Bool) → eqb v.failed 0 ≡ z → outcome_of b v ≢ (Ok Pending)
     by true e z q = rw e (λ h. omega (arith, ap collected_number h))
     by false e true q = rw (e, q) (λ h. omega (arith, ap collected_number h))
     by false e false q = rw (e, q) (λ h. omega (arith, ap collected_number h))
@@ -170,7 +171,7 @@ module _ (s : Ehci) (pool : ℕ) (h f : List ℕ) (setups : ℕ) (rd : Readings)
       (unlinking_waits s h rd.frame v k (keeping rd p) r u false (sym t) (pending_collect s) refl refl) refl)
 
   -- so a collect of an unlinking request that answers Pending changes nothing
-  pub pending_changes_nothing : (collect_of s pool h f setups rd v k r.id).came.answer ≡ Pending
+  pub pending_changes_nothing : (collect_of s pool h f setups rd v k r.id).came.answer ≡ (Ok Pending)
       → collect_of s pool h f setups rd v k r.id ≡ gathered (pending_collect s) h f
   unfolding finish_of
   pending_changes_nothing a = by (passed_boundary u rd.frame) refl

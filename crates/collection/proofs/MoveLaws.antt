@@ -1,5 +1,5 @@
 -- How cancel and collect move the doorbell, the widths of the arrays, and what a collect's answer says of the tokens.
-use Rattle.std.specs.Prelude.{◌≡◌, ℕ, ◌+◌, ◌⊎◌, List, length}
+use Rattle.std.specs.Prelude.{◌≡◌, ℕ, ◌+◌, ◌⊎◌, List, length, Err, Ok, Result}
 use mathlib.Core.Path.{refl, ap}
 use mathlib.Core.Logic.{inl, inr}
 use native.Mathlib.Omega.{arith}
@@ -22,14 +22,14 @@ use Rattle.controller.specs.declared.lent.Readings.{Readings}
 use Rattle.pipe.proofs.EndpointLaws.{Wide, bell_wide, owner_wide, slot_wide}
 use Rattle.schedule.specs.Bell.{bell_of, unlinked_of}
 use Rattle.schedule.specs.declared.bell.Bell.{Bell}
-use Rattle.collection.specs.declared.collected.Collected.{Collected}
-use Rattle.collection.specs.declared.collected.Collected.TheVariants.{Complete, Pending, Cancelled, Failed, Refused}
+use Rattle.collection.specs.declared.collected.Collected.TheVariants.{Complete, Pending, Cancelled, Failed}
 use Rattle.collection.specs.declared.collected.Completion.{Completion}
 use Rattle.collection.specs.Unlinks.{Left, bounded_of, unlink_of, waiting_of}
 use Rattle.collection.specs.Calls.{Gathered, cancel_of, collect_of, finish_of, keeping, marked, pending_left}
 use Rattle.collection.proofs.CollectLaws.{complete-length, complete-retried, failed_token}
 use Rattle.collection.proofs.FreedLaws.{freed_length}
 use Rattle.collection.proofs.Splits.{cancel_split, collect_split, unlink_split}
+use Rattle.collection.specs.declared.collected.Collected.{Collected}
 
 -- ---- the doorbell: it stays and nothing is written, or there is one more unlink
 
@@ -67,29 +67,29 @@ finish_wide s v k p r w = endpoint_wide _ k _ (owner_wide s _ w)
 -- ---- the calls
 
 -- the answer of a collect that unlinks
-pendings : (P : Collected → Type 0) (s : Ehci) (h f : List ℕ) (rd : Readings) (k : ℕ) (p : Pipe) (r : Request) → P Pending → ((x : Refusal) → P (Refused x))
+pendings : (P : Result Collected Refusal → Type 0) (s : Ehci) (h f : List ℕ) (rd : Readings) (k : ℕ) (p : Pipe) (r : Request) → P (Ok Pending) → ((x : Refusal) → P (Err x))
     → P (pending_left (unlink_of s h f rd k p r)).came.answer
 unfolding waiting_of
 pendings P s h f rd k p r waits old =
     unlink_split s h f rd k p r (λ (l : Left). P (pending_left l).came.answer) (old InvalidEndpoint) (λ e. waits)
 
-abbrev kind_in : Collected → ℕ
-kind_in (Complete c) = 1
-kind_in Pending = 2
-kind_in Cancelled = 3
-kind_in (Failed t) = 4
-kind_in (Refused x) = 0
+abbrev kind_in : Result Collected Refusal → ℕ
+kind_in (Ok (Complete c)) = 1
+kind_in (Ok Pending) = 2
+kind_in (Ok Cancelled) = 3
+kind_in (Ok (Failed t)) = 4
+kind_in (Err x) = 0
 
-refused_complete : (x : Refusal) (c : Completion) → Refused x ≡ Complete c → ⊥
+refused_complete : (x : Refusal) (c : Completion) → Err x ≡ Ok (Complete c) → ⊥
 refused_complete x c e = omega (arith, ap kind_in e)
 
-refused_failed : (x : Refusal) (t : ℕ) → Refused x ≡ Failed t → ⊥
+refused_failed : (x : Refusal) (t : ℕ) → Err x ≡ Ok (Failed t) → ⊥
 refused_failed x t e = omega (arith, ap kind_in e)
 
-pending_complete : (c : Completion) → Pending ≡ Complete c → ⊥
+pending_complete : (c : Completion) → (Ok Pending) ≡ Ok (Complete c) → ⊥
 pending_complete c e = omega (arith, ap kind_in e)
 
-pending_failed : (t : ℕ) → Pending ≡ Failed t → ⊥
+pending_failed : (t : ℕ) → (Ok Pending) ≡ Ok (Failed t) → ⊥
 pending_failed t e = omega (arith, ap kind_in e)
 
 module _ (s : Ehci) (pool : ℕ) (h f : List ℕ) (setups : ℕ) (rd : Readings) (k id : ℕ) where
@@ -130,32 +130,32 @@ module _ (s : Ehci) (pool : ℕ) (h f : List ℕ) (setups : ℕ) (rd : Readings)
       (λ p r ok e u i n. unlink_wide p r w) (λ p r u ok e i t. finish_wide s v k (keeping rd p) r w)
 
   -- complete: the length is the sum over the descriptors that were seen
-  pub collect-length : (seen : List Seen) (c : Completion) → (collect_of s pool h f setups rd (view_of seen) k id).came.answer ≡ Complete c → c.length ≡ length_of seen
+  pub collect-length : (seen : List Seen) (c : Completion) → (collect_of s pool h f setups rd (view_of seen) k id).came.answer ≡ Ok (Complete c) → c.length ≡ length_of seen
   unfolding finish_of
   collect-length seen c =
-      collect_split s pool h f setups rd k id (view_of seen) (λ (g : Gathered). g.came.answer ≡ Complete c → c.length ≡ length_of seen)
+      collect_split s pool h f setups rd k id (view_of seen) (λ (g : Gathered). g.came.answer ≡ Ok (Complete c) → c.length ≡ length_of seen)
       (λ x e. absurd (refused_complete x c e)) (λ e. absurd (pending_complete c e))
-      (λ p r ok e u i n. pendings (λ (a : Collected). a ≡ Complete c → c.length ≡ length_of seen) s h f rd k p r (λ q. absurd (pending_complete c q))
+      (λ p r ok e u i n. pendings (λ (a : (Result Collected Refusal)). a ≡ Ok (Complete c) → c.length ≡ length_of seen) s h f rd k p r (λ q. absurd (pending_complete c q))
       (λ x q. absurd (refused_complete x c q)))
       (λ p r u ok e i t. complete-length r.cancelled seen c)
 
   -- and the count that of those that were retried
-  pub collect-retried : (seen : List Seen) (c : Completion) → (collect_of s pool h f setups rd (view_of seen) k id).came.answer ≡ Complete c → c.retried ≡ retried_of seen
+  pub collect-retried : (seen : List Seen) (c : Completion) → (collect_of s pool h f setups rd (view_of seen) k id).came.answer ≡ Ok (Complete c) → c.retried ≡ retried_of seen
   unfolding finish_of
   collect-retried seen c =
-      collect_split s pool h f setups rd k id (view_of seen) (λ (g : Gathered). g.came.answer ≡ Complete c → c.retried ≡ retried_of seen)
+      collect_split s pool h f setups rd k id (view_of seen) (λ (g : Gathered). g.came.answer ≡ Ok (Complete c) → c.retried ≡ retried_of seen)
       (λ x e. absurd (refused_complete x c e)) (λ e. absurd (pending_complete c e))
-      (λ p r ok e u i n. pendings (λ (a : Collected). a ≡ Complete c → c.retried ≡ retried_of seen) s h f rd k p r (λ q. absurd (pending_complete c q))
+      (λ p r ok e u i n. pendings (λ (a : (Result Collected Refusal)). a ≡ Ok (Complete c) → c.retried ≡ retried_of seen) s h f rd k p r (λ q. absurd (pending_complete c q))
       (λ x q. absurd (refused_complete x c q)))
       (λ p r u ok e i t. complete-retried r.cancelled seen c)
 
   -- failed: the token is the first erring one that was seen
-  pub collect_token : (seen : List Seen) (t : ℕ) → (collect_of s pool h f setups rd (view_of seen) k id).came.answer ≡ Failed t → t ≡ first_error seen
+  pub collect_token : (seen : List Seen) (t : ℕ) → (collect_of s pool h f setups rd (view_of seen) k id).came.answer ≡ Ok (Failed t) → t ≡ first_error seen
   unfolding finish_of
   collect_token seen t =
-      collect_split s pool h f setups rd k id (view_of seen) (λ (g : Gathered). g.came.answer ≡ Failed t → t ≡ first_error seen)
+      collect_split s pool h f setups rd k id (view_of seen) (λ (g : Gathered). g.came.answer ≡ Ok (Failed t) → t ≡ first_error seen)
       (λ x e. absurd (refused_failed x t e)) (λ e. absurd (pending_failed t e))
-      (λ p r ok e u i n. pendings (λ (a : Collected). a ≡ Failed t → t ≡ first_error seen) s h f rd k p r (λ q. absurd (pending_failed t q))
+      (λ p r ok e u i n. pendings (λ (a : (Result Collected Refusal)). a ≡ Ok (Failed t) → t ≡ first_error seen) s h f rd k p r (λ q. absurd (pending_failed t q))
       (λ x q. absurd (refused_failed x t q)))
       (λ p r u ok e i b. failed_token r.cancelled seen t)
 

@@ -1,5 +1,5 @@
 -- The returns of unlinking.
-use Rattle.std.specs.Prelude.{◌≡◌, ℕ, ◌+◌, ◌<◌, Bool, true, false, eqb, List}
+use Rattle.std.specs.Prelude.{◌≡◌, ℕ, ◌+◌, ◌<◌, Bool, true, false, eqb, List, Ok}
 use mathlib.Core.Path.{refl, sym, ap, ◌∙◌}
 use Rattle.common.proofs.TestLaws.{false_true}
 use Rattle.common.specs.Kinds.{is_interrupt}
@@ -10,7 +10,6 @@ use Rattle.common.specs.declared.kinds.EndpointType.TheVariants.{Control, Isochr
 use Rattle.state.specs.Plain.{Ehci}
 use Rattle.state.specs.State.{with_bell}
 use Rattle.pipe.specs.Endpoints.{with_endpoint}
-use Rattle.common.specs.declared.answer.Answer.TheVariants.{Done}
 use Rattle.common.specs.declared.answer.Refusal.TheVariants.{InvalidEndpoint}
 use Rattle.pipe.specs.declared.endpoints.Endpoint.TheVariants.{Unlinking}
 use Rattle.pipe.specs.declared.endpoints.Pipe.{Pipe}
@@ -55,7 +54,7 @@ module _ (b : Bell) (k : EndpointType) (rd : Readings) where
 
 pub waits : (s st : Ehci) (rd : Readings) (k : ℕ) (p : Pipe) (r : Request) (u : Bounded) → u ≡ bounded_of (bell_of s) p.kind rd
     → st ≡ with_endpoint (with_bell s u.rung.bell.noted u.rung.bell.doorbell u.rung.bell.unanswered) k (Unlinking p r u.boundary)
-    → ◌≡◌ {A = Cancellation} (record { answer = Done; state = st; writes = u.rung.writes }) (waiting_of s rd k p r)
+    → ◌≡◌ {A = Cancellation} (record { answer = Ok tt; state = st; writes = u.rung.writes }) (waiting_of s rd k p r)
 unfolding waiting_of
 waits s st rd k p r u eu es = rw (es, eu)
 

@@ -1,5 +1,5 @@
 -- The returns of cancel and collect over words, where the rows fit.
-use Rattle.std.specs.Prelude.{◌≡◌, ℕ, ◌<◌, ◌≤◌, true, List, length}
+use Rattle.std.specs.Prelude.{◌≡◌, ℕ, ◌<◌, ◌≤◌, true, List, length, ⊤}
 use mathlib.Core.Path.{refl, sym}
 use Rattle.common.specs.declared.answer.Refusal.TheVariants.{InvalidEndpoint, InvalidParameter}
 use Rattle.settings.specs.declared.settings.Settings.{Settings}
@@ -17,13 +17,13 @@ use Rattle.opening.specs.Opening.{rows_are_fit}
 use Rattle.controller.specs.Lent.{accepts_of, lengths}
 use Rattle.controller.specs.declared.lent.Readings.{Readings}
 use Rattle.controller.proofs.LentLaws.{accepts_is}
-use Rattle.collection.specs.declared.answers.Cancellation.{Cancellation as CancellationWords}
-use Rattle.collection.specs.declared.answers.Collection.{Collection as CollectionWords}
 use Rattle.collection.specs.Calls.{cancel_of, collect_of, ended, gathered, keeping, linked_of, marked, marked_of, unlinking_of}
 use Rattle.collection.specs.Unlinks.{left, unlink_of}
 use Rattle.collection.specs.Words.{cancelled_view, collected_view, pending_words, refused_cancel_words, refused_collect_words}
 use Rattle.collection.proofs.CallCases.{cancel_closed, cancel_crowded, cancel_idle, cancel_marks, cancel_other, cancel_unlinks, cancel_wrong, collect_closed, collect_crowded, collect_ends, collect_idle, collect_looks, collect_other, collect_wrong}
 use Rattle.collection.proofs.WordsCases.{pending_view, refused_cancel_view, refused_collect_view}
+use Rattle.controller.specs.declared.left.Settled.{Settled as SettledWords}
+use Rattle.collection.specs.declared.collected.Collected.{Collected}
 
 module _ (s : Settings) (r : Rest) (ws : List ℕ) (good : Good s r ws) (h f : List ℕ) (pool setups : ℕ)
     (fit : rows_are_fit s pool (length h) (length f) setups ≡ true) where
@@ -34,7 +34,7 @@ module _ (s : Settings) (r : Rest) (ws : List ℕ) (good : Good s r ws) (h f : L
   module _ (rd : Readings) (k id : ℕ) (x : Endpoint) (ex : x ≡ endpoint_at (state_of s r ws) k) where
     -- ---- cancel
 
-    module _ (c : CancellationWords) where
+    module _ (c : (SettledWords ⊤)) where
       pub cancels_closed : x ≡ Closed → c ≡ refused_cancel_words r InvalidEndpoint
           → left (cancelled_view s c ws) h f ≡ cancel_of (state_of s r ws) pool h f setups rd k id
       cancels_closed e ec =
@@ -82,7 +82,7 @@ module _ (s : Settings) (r : Rest) (ws : List ℕ) (good : Good s r ws) (h f : L
 
     -- ---- collect
 
-    module _ (v : View) (c : CollectionWords) where
+    module _ (v : View) (c : (SettledWords Collected)) where
       pub collects_closed : x ≡ Closed → c ≡ refused_collect_words r InvalidEndpoint
           → gathered (collected_view s c ws) h f ≡ collect_of (state_of s r ws) pool h f setups rd v k id
       collects_closed e ec =

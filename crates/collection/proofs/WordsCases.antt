@@ -1,11 +1,10 @@
 -- The returns of the functions over words that answer, unlink, mark and finish: each is the case of the definition at the state that the words stand for.
-use Rattle.std.specs.Prelude.{◌≡◌, ℕ, ◌+◌, ◌^◌, ◌<◌, Bool, true, false, not, List}
+use Rattle.std.specs.Prelude.{◌≡◌, ℕ, ◌+◌, ◌^◌, ◌<◌, Bool, true, false, not, List, Err, Ok, Result, ⊤}
 use mathlib.Core.Path.{refl, sym, ap, subst, ◌∙◌}
 use native.Mathlib.Omega.{arith}
 use Rattle.register.specs.Writes.{no_writes}
 use Rattle.register.specs.declared.writes.Writes.{Writes}
 use Rattle.bitset.specs.Places.{with_of}
-use Rattle.common.specs.declared.answer.Answer.TheVariants.{Done, Refused as RefusedCall}
 use Rattle.common.specs.declared.answer.Refusal.{Refusal}
 use Rattle.common.specs.declared.answer.Refusal.TheVariants.{InvalidEndpoint}
 use Rattle.settings.specs.declared.settings.Settings.{Settings}
@@ -32,11 +31,8 @@ use Rattle.pipe.proofs.WordsLaws.{tidy_endpoint_put, view_endpoint_put}
 use Rattle.controller.specs.declared.lent.Readings.{Readings}
 use Rattle.schedule.specs.Links.{detach_of, ended_overlay, links}
 use Rattle.collection.specs.Plain.{Cancellation}
-use Rattle.collection.specs.declared.collected.Collected.{Collected}
-use Rattle.collection.specs.declared.collected.Collected.TheVariants.{Pending, Refused}
+use Rattle.collection.specs.declared.collected.Collected.TheVariants.{Pending}
 use Rattle.collection.specs.Plain.{Collection}
-use Rattle.collection.specs.declared.answers.Cancellation.{Cancellation as CancellationWords}
-use Rattle.collection.specs.declared.answers.Collection.{Collection as CollectionWords}
 use Rattle.collection.specs.declared.unlink.Bounded.{Bounded}
 use Rattle.collection.specs.Answers.{outcome_of, pending_collect, pending_of, refused_cancel, refused_collect}
 use Rattle.collection.specs.Calls.{ended, finish_of, freed, gathered, linked_of, marked, marked_of, unlinking_of}
@@ -46,43 +42,45 @@ use Rattle.collection.proofs.CallCases.{finishes, linked_unlinks, linked_waits, 
 use Rattle.collection.proofs.UnlinkCases.{unlink_missing, unlink_waits, waits}
 use Rattle.collection.proofs.WordsSlots.{finish_fits, mark_fits, own_fits, slot_low, slot_room, unlinking_within}
 use Rattle.token.specs.Overlay.{kept_toggle}
+use Rattle.controller.specs.declared.left.Settled.{Settled as SettledWords}
+use Rattle.collection.specs.declared.collected.Collected.{Collected}
 
 -- ---- the answers
 
 module _ (r : Rest) (w : Writes) (ew : w ≡ no_writes) where
   pub cancel_refused_words : (x : Refusal)
-      → ◌≡◌ {A = CancellationWords} (record { answer = RefusedCall x; rest = r; writes = w }) (refused_cancel_words r x)
+      → ◌≡◌ {A = (SettledWords ⊤)} (record { answer = Err x; rest = r; writes = w }) (refused_cancel_words r x)
   cancel_refused_words x = rw ew
 
   pub collect_refused_words : (x : Refusal)
-      → ◌≡◌ {A = CollectionWords} (record { answer = Refused x; rest = r; writes = w }) (refused_collect_words r x)
+      → ◌≡◌ {A = (SettledWords Collected)} (record { answer = Err x; rest = r; writes = w }) (refused_collect_words r x)
   collect_refused_words x = rw ew
 
-  pub collect_pending_words : ◌≡◌ {A = CollectionWords} (record { answer = Pending; rest = r; writes = w }) (pending_words r)
+  pub collect_pending_words : ◌≡◌ {A = (SettledWords Collected)} (record { answer = Ok Pending; rest = r; writes = w }) (pending_words r)
   collect_pending_words = rw ew
 
 -- where nothing changes
 module _ (s : Settings) (r : Rest) (ws : List ℕ) where
-  pub refused_cancel_view : (c : CancellationWords) (x : Refusal) → c ≡ refused_cancel_words r x
+  pub refused_cancel_view : (c : (SettledWords ⊤)) (x : Refusal) → c ≡ refused_cancel_words r x
       → cancelled_view s c ws ≡ refused_cancel (state_of s r ws) x
-  refused_cancel_view c x e = ap (λ (y : CancellationWords). cancelled_view s y ws) e
+  refused_cancel_view c x e = ap (λ (y : (SettledWords ⊤)). cancelled_view s y ws) e
 
-  pub refused_collect_view : (c : CollectionWords) (x : Refusal) → c ≡ refused_collect_words r x
+  pub refused_collect_view : (c : (SettledWords Collected)) (x : Refusal) → c ≡ refused_collect_words r x
       → collected_view s c ws ≡ refused_collect (state_of s r ws) x
-  refused_collect_view c x e = ap (λ (y : CollectionWords). collected_view s y ws) e
+  refused_collect_view c x e = ap (λ (y : (SettledWords Collected)). collected_view s y ws) e
 
-  pub pending_view : (c : CollectionWords) → c ≡ pending_words r → collected_view s c ws ≡ pending_collect (state_of s r ws)
-  pending_view c e = ap (λ (y : CollectionWords). collected_view s y ws) e
+  pub pending_view : (c : (SettledWords Collected)) → c ≡ pending_words r → collected_view s c ws ≡ pending_collect (state_of s r ws)
+  pending_view c e = ap (λ (y : (SettledWords Collected)). collected_view s y ws) e
 
   module _ (good : Good s r ws) where
-    pub tidy_refused_cancel : (c : CancellationWords) (x : Refusal) → c ≡ refused_cancel_words r x → Tidy s c.rest ws
-    tidy_refused_cancel c x e = subst (λ (y : CancellationWords). Tidy s y.rest ws) (sym e) good.tidy
+    pub tidy_refused_cancel : (c : (SettledWords ⊤)) (x : Refusal) → c ≡ refused_cancel_words r x → Tidy s c.rest ws
+    tidy_refused_cancel c x e = subst (λ (y : (SettledWords ⊤)). Tidy s y.rest ws) (sym e) good.tidy
 
-    pub tidy_refused_collect : (c : CollectionWords) (x : Refusal) → c ≡ refused_collect_words r x → Tidy s c.rest ws
-    tidy_refused_collect c x e = subst (λ (y : CollectionWords). Tidy s y.rest ws) (sym e) good.tidy
+    pub tidy_refused_collect : (c : (SettledWords Collected)) (x : Refusal) → c ≡ refused_collect_words r x → Tidy s c.rest ws
+    tidy_refused_collect c x e = subst (λ (y : (SettledWords Collected)). Tidy s y.rest ws) (sym e) good.tidy
 
-    pub tidy_pending : (c : CollectionWords) → c ≡ pending_words r → Tidy s c.rest ws
-    tidy_pending c e = subst (λ (y : CollectionWords). Tidy s y.rest ws) (sym e) good.tidy
+    pub tidy_pending : (c : (SettledWords Collected)) → c ≡ pending_words r → Tidy s c.rest ws
+    tidy_pending c e = subst (λ (y : (SettledWords Collected)). Tidy s y.rest ws) (sym e) good.tidy
 
 -- ---- a slot is written
 
@@ -119,7 +117,7 @@ module _ (s : Settings) (r : Rest) (ws ws' : List ℕ) (good : Good s r ws) (k :
     bounded_view = eu
 
     pub waited : ◌≡◌ {A = Cancellation}
-        (record { answer = Done; state = state_of s waited_rest ws'; writes = u.rung.writes })
+        (record { answer = Ok tt; state = state_of s waited_rest ws'; writes = u.rung.writes })
         (waiting_of (state_of s r ws) rd k p q)
     waited =
         waits (state_of s r ws) (state_of s waited_rest ws') rd k p q u bounded_view
@@ -142,7 +140,7 @@ module _ (s : Settings) (r : Rest) (ws : List ℕ) (good : Good s r ws) (k : ℕ
     marked_fits = mark_fits s r ws good k p q b e most m em
 
     pub marks_words : (w : Writes) → w ≡ no_writes
-        → ◌≡◌ {A = Cancellation} (record { answer = Done; state = state_of s r ws'; writes = w }) (marked_of (state_of s r ws) k p q b)
+        → ◌≡◌ {A = Cancellation} (record { answer = Ok tt; state = state_of s r ws'; writes = w }) (marked_of (state_of s r ws) k p q b)
     marks_words w wn =
         marks (state_of s r ws) (state_of s r ws') k p q m b w em (put_view s r ws ws' good k here (Unlinking p m b) marked_fits ew r) wn
 
@@ -172,7 +170,7 @@ module _ (s : Settings) (r : Rest) (ws : List ℕ) (good : Good s r ws) (k : ℕ
         ∙ view_freed s r ws good.tidy (good_settings s r ws good).descriptors_most (good_settings s r ws good).endpoints_most k
         (encoded (Idle kept)) here idle_fit free
 
-    pub finishes_words : (free : List ℕ) (v : View) (a : Collected) (w : Writes) → a ≡ outcome_of q.cancelled v → w ≡ no_writes
+    pub finishes_words : (free : List ℕ) (v : View) (a : (Result Collected Refusal)) (w : Writes) → a ≡ outcome_of q.cancelled v → w ≡ no_writes
         → ◌≡◌ {A = Collection} (record { answer = a; state = state_of s (rest_with_free r free) ws'; writes = w }) (finish_of (state_of s r ws) v k kept q)
     finishes_words free v a w ea wn =
         finishes (state_of s r ws) (state_of s (rest_with_free r free) ws') v k kept q
@@ -188,39 +186,39 @@ module _ (s : Settings) (r : Rest) (ws : List ℕ) (good : Good s r ws) (k : ℕ
 
 module _ (s : Settings) (r : Rest) (ws h f : List ℕ) (rd : Readings) (k : ℕ) (p : Pipe) (q : Request) where
   module _ (m : Bool) (h' f' : List ℕ) (em : m ≡ is_missing (detach_of (state_of s r ws) h f k).predecessor) (er : links h' f' ≡ (detach_of (state_of s r ws) h f k).rows) where
-    pub unlinks_waits : (ws' : List ℕ) (c : CancellationWords) → m ≡ false → cancelled_view s c ws' ≡ waiting_of (state_of s r ws) rd k p q
+    pub unlinks_waits : (ws' : List ℕ) (c : (SettledWords ⊤)) → m ≡ false → cancelled_view s c ws' ≡ waiting_of (state_of s r ws) rd k p q
         → left (cancelled_view s c ws') h' f' ≡ unlink_of (state_of s r ws) h f rd k p q
     unlinks_waits ws' c t ec = unlink_waits (state_of s r ws) h f rd k p q m h' f' em er (cancelled_view s c ws') t ec
 
-    pub unlinks_none : (c : CancellationWords) → m ≡ true → c ≡ refused_cancel_words r InvalidEndpoint
+    pub unlinks_none : (c : (SettledWords ⊤)) → m ≡ true → c ≡ refused_cancel_words r InvalidEndpoint
         → left (cancelled_view s c ws) h' f' ≡ unlink_of (state_of s r ws) h f rd k p q
     unlinks_none c t ec =
         unlink_missing (state_of s r ws) h f rd k p q m h' f' em er (cancelled_view s c ws) t (refused_cancel_view s r ws c InvalidEndpoint ec)
 
     -- ---- `collect_linked`
 
-    pub linked_lost_words : (stage : ℕ) (c : CollectionWords) → (stage ≡ 2 → ⊥) → m ≡ true → c ≡ refused_collect_words r InvalidEndpoint
+    pub linked_lost_words : (stage : ℕ) (c : (SettledWords Collected)) → (stage ≡ 2 → ⊥) → m ≡ true → c ≡ refused_collect_words r InvalidEndpoint
         → gathered (collected_view s c ws) h' f' ≡ linked_of (state_of s r ws) h f rd stage k p q
     linked_lost_words stage c n t ec =
         rw ec
-        (linked_unlinks (state_of s r ws) h f rd stage k p q (cancelled_view s (refused_cancel_words r InvalidEndpoint) ws) (Refused InvalidEndpoint) h' f'
+        (linked_unlinks (state_of s r ws) h f rd stage k p q (cancelled_view s (refused_cancel_words r InvalidEndpoint) ws) (Err InvalidEndpoint) h' f'
         (unlinks_none (refused_cancel_words r InvalidEndpoint) t refl) refl n)
 
-    pub linked_unlinks_words : (stage : ℕ) (l : CancellationWords) (ws' : List ℕ) (a : Collected) → (stage ≡ 2 → ⊥) → m ≡ false
+    pub linked_unlinks_words : (stage : ℕ) (l : (SettledWords ⊤)) (ws' : List ℕ) (a : (Result Collected Refusal)) → (stage ≡ 2 → ⊥) → m ≡ false
         → cancelled_view s l ws' ≡ waiting_of (state_of s r ws) rd k p q → a ≡ pending_of l.answer
         → gathered (record { answer = a; state = state_of s l.rest ws'; writes = l.writes }) h' f'
         ≡ linked_of (state_of s r ws) h f rd stage k p q
     linked_unlinks_words stage l ws' a n t ec ea =
         linked_unlinks (state_of s r ws) h f rd stage k p q (cancelled_view s l ws') a h' f' (unlinks_waits ws' l t ec) ea n
 
-  pub linked_waits_words : (stage : ℕ) (c : CollectionWords) → c ≡ pending_words r → stage ≡ 2
+  pub linked_waits_words : (stage : ℕ) (c : (SettledWords Collected)) → c ≡ pending_words r → stage ≡ 2
       → gathered (collected_view s c ws) h f ≡ linked_of (state_of s r ws) h f rd stage k p q
   linked_waits_words stage c ec e = linked_waits (state_of s r ws) h f rd stage k p q (collected_view s c ws) (pending_view s r ws c ec) e
 
 -- ---- `collect_unlinking`
 
 module _ (s : Settings) (r : Rest) (ws h : List ℕ) (frame : ℕ) (v : View) (k : ℕ) (p : Pipe) (q : Request) (u : UnlinkBoundary) (b : Bool)
-    (eb : b ≡ passed_boundary u frame) (c : CollectionWords) where
+    (eb : b ≡ passed_boundary u frame) (c : (SettledWords Collected)) where
   pub unlinking_waits_words : c ≡ pending_words r → not b ≡ true
       → ended (collected_view s c ws) h ≡ unlinking_of (state_of s r ws) h frame v k p q u
   unlinking_waits_words ec t =

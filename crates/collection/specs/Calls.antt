@@ -1,5 +1,5 @@
 -- Document 01, "Unlinking and collecting": cancel and collect.
-use Rattle.std.specs.Prelude.{ℕ, ◌+◌, Bool, true, false, cond, not, List, [], ◌∷◌, ◌++◌, length, take, drop, ◌==◌, nat_le}
+use Rattle.std.specs.Prelude.{ℕ, ◌+◌, Bool, true, false, cond, not, List, [], ◌∷◌, ◌++◌, length, take, drop, ◌==◌, nat_le, Ok}
 use Rattle.register.specs.Writes.{no_writes}
 use Rattle.pool.specs.Places.{clear_of}
 use Rattle.pool.specs.declared.chain.View.{View}
@@ -9,7 +9,6 @@ use Rattle.common.specs.Answers.{Check, first, settle}
 use Rattle.pipe.specs.Endpoints.{endpoint_at, with_endpoint, with_toggle}
 use Rattle.controller.specs.Lent.{accepts_of, lengths}
 use Rattle.controller.specs.Readers.{is_opened, is_uncollected}
-use Rattle.common.specs.declared.answer.Answer.TheVariants.{Done}
 use Rattle.common.specs.declared.answer.Refusal.TheVariants.{InvalidEndpoint, InvalidParameter}
 use Rattle.pipe.specs.declared.endpoints.Endpoint.{Endpoint}
 use Rattle.pipe.specs.declared.endpoints.Endpoint.TheVariants.{Closed, Idle, Linked, Unlinking}
@@ -62,7 +61,7 @@ marked r = record { id = r.id; direction = r.direction; length = r.length; cance
 
 abbrev pub marked_of : Ehci → ℕ → Pipe → Request → UnlinkBoundary → Cancellation
 marked_of s slot p r b =
-    record { answer = Done; state = with_endpoint s slot (Unlinking p (marked r) b); writes = no_writes }
+    record { answer = Ok tt; state = with_endpoint s slot (Unlinking p (marked r) b); writes = no_writes }
 
 -- "Cancel marks and unlinks unless already unlinking."
 abbrev pub cancel_at : Endpoint → Ehci → List ℕ → List ℕ → Readings → ℕ → Left

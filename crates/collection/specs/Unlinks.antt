@@ -1,5 +1,5 @@
 -- Document 01, "Unlinking and collecting": a request's unlink, and its boundary.
-use Rattle.std.specs.Prelude.{ℕ, ◌+◌, ◌<◌, Bool, true, false, List, [], ◌∷◌, ◌==◌}
+use Rattle.std.specs.Prelude.{ℕ, ◌+◌, ◌<◌, Bool, true, false, List, [], ◌∷◌, ◌==◌, Ok}
 use Rattle.register.specs.Writes.{no_writes}
 use Rattle.common.specs.declared.kinds.EndpointType.{EndpointType}
 use Rattle.common.specs.declared.kinds.EndpointType.TheVariants.{Control, Isochronous, Bulk, Interrupt}
@@ -7,7 +7,6 @@ use Rattle.state.specs.Plain.{Ehci}
 use Rattle.state.specs.State.{with_bell}
 use Rattle.common.specs.Answers.{first, settle}
 use Rattle.pipe.specs.Endpoints.{with_endpoint}
-use Rattle.common.specs.declared.answer.Answer.TheVariants.{Done}
 use Rattle.common.specs.declared.answer.Refusal.TheVariants.{InvalidEndpoint}
 use Rattle.pipe.specs.declared.endpoints.Endpoint.TheVariants.{Unlinking}
 use Rattle.pipe.specs.declared.endpoints.Pipe.{Pipe}
@@ -49,7 +48,7 @@ bounded_of b Interrupt readings =
 abbrev pub waiting_for : Ehci → ℕ → Pipe → Request → Bounded → Cancellation
 waiting_for s k p r until =
     record {
-      answer = Done;
+      answer = Ok tt;
       state = with_endpoint
           (with_bell s until.rung.bell.noted until.rung.bell.doorbell until.rung.bell.unanswered)
           k

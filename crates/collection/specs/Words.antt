@@ -1,8 +1,7 @@
 -- What cancel and collect over words leave, as the state that the words stand for.
-use Rattle.std.specs.Prelude.{◌≡◌, ℕ, List}
+use Rattle.std.specs.Prelude.{◌≡◌, ℕ, List, Err, Ok, ⊤}
 use Rattle.register.specs.Writes.{no_writes}
 use Rattle.bitset.specs.Places.{set_places}
-use Rattle.common.specs.declared.answer.Answer.TheVariants.{Refused as RefusedCall}
 use Rattle.common.specs.declared.answer.Refusal.{Refusal}
 use Rattle.settings.specs.declared.settings.Settings.{Settings}
 use Rattle.state.specs.Plain.{Ehci}
@@ -18,15 +17,15 @@ use Rattle.words.specs.declared.cores.Rest.{Rest}
 use Rattle.words.specs.Record.{places_at}
 use Rattle.words.specs.View.{state_of}
 use Rattle.collection.specs.Plain.{Cancellation}
-use Rattle.collection.specs.declared.collected.Collected.TheVariants.{Pending, Refused}
+use Rattle.collection.specs.declared.collected.Collected.TheVariants.{Pending}
 use Rattle.collection.specs.Plain.{Collection}
-use Rattle.collection.specs.declared.answers.Cancellation.{Cancellation as CancellationWords}
-use Rattle.collection.specs.declared.answers.Collection.{Collection as CollectionWords}
+use Rattle.controller.specs.declared.left.Settled.{Settled as SettledWords}
+use Rattle.collection.specs.declared.collected.Collected.{Collected}
 
-abbrev pub cancelled_view : Settings → CancellationWords → List ℕ → Cancellation
+abbrev pub cancelled_view : Settings → SettledWords ⊤ → List ℕ → Cancellation
 cancelled_view s r ws = record { answer = r.answer; state = state_of s r.rest ws; writes = r.writes }
 
-abbrev pub collected_view : Settings → CollectionWords → List ℕ → Collection
+abbrev pub collected_view : Settings → SettledWords Collected → List ℕ → Collection
 collected_view s r ws = record { answer = r.answer; state = state_of s r.rest ws; writes = r.writes }
 
 abbrev pub ask_view : AskWords → Ask
@@ -44,14 +43,14 @@ request_ask_words s ws slot p r =
       stops = ends_short p.kind r.direction;
     }
 
-abbrev pub refused_cancel_words : Rest → Refusal → CancellationWords
-refused_cancel_words rest r = record { answer = RefusedCall r; rest = rest; writes = no_writes }
+abbrev pub refused_cancel_words : Rest → Refusal → SettledWords ⊤
+refused_cancel_words rest r = record { answer = Err r; rest = rest; writes = no_writes }
 
-abbrev pub refused_collect_words : Rest → Refusal → CollectionWords
-refused_collect_words rest r = record { answer = Refused r; rest = rest; writes = no_writes }
+abbrev pub refused_collect_words : Rest → Refusal → SettledWords Collected
+refused_collect_words rest r = record { answer = Err r; rest = rest; writes = no_writes }
 
-abbrev pub pending_words : Rest → CollectionWords
-pending_words rest = record { answer = Pending; rest = rest; writes = no_writes }
+abbrev pub pending_words : Rest → SettledWords Collected
+pending_words rest = record { answer = Ok Pending; rest = rest; writes = no_writes }
 
 -- slot k's linked request, but for its mark
 pub record OwnRequest (s : Ehci) (k : ℕ) (p : Pipe) (r : Request) : Type 0 where

@@ -3,50 +3,36 @@ ghost use Rattle.std.specs.Prelude.{◌≡◌};
 ghost use Rattle.collection.specs.Words.{refused_cancel_words, refused_collect_words, pending_words};
 
 use crate::collected::Collected;
-use common::answer::{Answer, Refusal};
+use common::answer::Refusal;
 use register::writes::Writes;
 use words::cores::Rest;
+use controller::left::Settled;
 
-// What a cancel leaves, and an unlink.
-#[derive(Clone, Copy)]
-pub struct Cancellation {
-    pub answer: Answer,
-    pub rest: Rest,
-    pub writes: Writes,
-}
-
-#[derive(Clone, Copy)]
-pub struct Collection {
-    pub answer: Collected,
-    pub rest: Rest,
-    pub writes: Writes,
-}
-
-pub fn refuse_cancel(rest: Rest, refusal: Refusal) -> Cancellation
+pub fn refuse_cancel(rest: Rest, refusal: Refusal) -> Settled<()>
     ensures { result ≡ refused_cancel_words rest refusal }
 {
-    Cancellation {
-        answer: Answer::Refused(refusal),
+    Settled {
+        answer: Err(refusal),
         rest,
         writes: Writes::none(),
     }
 }
 
-pub fn refuse_collect(rest: Rest, refusal: Refusal) -> Collection
+pub fn refuse_collect(rest: Rest, refusal: Refusal) -> Settled<Collected>
     ensures { result ≡ refused_collect_words rest refusal }
 {
-    Collection {
-        answer: Collected::Refused(refusal),
+    Settled {
+        answer: Err(refusal),
         rest,
         writes: Writes::none(),
     }
 }
 
-pub fn still_pending(rest: Rest) -> Collection
+pub fn still_pending(rest: Rest) -> Settled<Collected>
     ensures { result ≡ pending_words rest }
 {
-    Collection {
-        answer: Collected::Pending,
+    Settled {
+        answer: Ok(Collected::Pending),
         rest,
         writes: Writes::none(),
     }

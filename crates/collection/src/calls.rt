@@ -7,7 +7,7 @@ ghost use Rattle.collection.specs.Calls.{cancel_of, collect_of, gathered};
 ghost use Rattle.collection.specs.Unlinks.{left};
 ghost use Rattle.collection.specs.Words.{cancelled_view, collected_view};
 
-use crate::answers::{Cancellation, Collection, refuse_cancel, refuse_collect, still_pending};
+use crate::answers::{refuse_cancel, refuse_collect, still_pending};
 use crate::finish::{collect_linked, collect_unlinking};
 use crate::unlink::{mark, marked, unlink};
 use common::answer::Refusal;
@@ -16,6 +16,8 @@ use pipe::endpoints::Endpoint;
 use pipe::slots::endpoint_at;
 use pool::chain::View;
 use words::cores::Core;
+use controller::left::Settled;
+use crate::collected::Collected;
 
 // As many unlinks as there are slots: none can be that of a slot that is still linked.
 pub const UNLINKS: u8 = 32;
@@ -28,7 +30,7 @@ pub fn cancel(
     readings: Readings,
     slot: u8,
     id: u64,
-) -> Cancellation
+) -> Settled<()>
     requires good { Good core.settings core.rest slots.old }
     requires heads_len { (length heads.old ≡ 17 * (core.settings.endpoints + 1)) × (length frames.old ≡ 1024) }
     ensures by_index { (pool setups : ℕ) → rows_are_fit core.settings pool (length heads.old) (length frames.old) setups ≡ true
@@ -70,7 +72,7 @@ pub fn collect(
     seen: View,
     slot: u8,
     id: u64,
-) -> Collection
+) -> Settled<Collected>
     requires good { Good core.settings core.rest slots.old }
     requires heads_len { (length heads.old ≡ 17 * (core.settings.endpoints + 1)) × (length frames.old ≡ 1024) }
     ensures by_index { (pool setups : ℕ) → rows_are_fit core.settings pool (length heads.old) (length frames.old) setups ≡ true

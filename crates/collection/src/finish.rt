@@ -8,7 +8,7 @@ ghost use Rattle.words.specs.View.{view};
 ghost use Rattle.collection.specs.Calls.{ended, finish_of, gathered, keeping, linked_of, unlinking_of};
 ghost use Rattle.collection.specs.Words.{collected_view};
 
-use crate::answers::{Collection, refuse_collect, still_pending};
+use crate::answers::{refuse_collect, still_pending};
 use crate::collected::{outcome_of, pending_of};
 use crate::unlink::{is_lost, passed, waiting};
 use bitset::places::with;
@@ -22,6 +22,8 @@ use schedule::links::end_overlay;
 use token::overlay::kept_toggle;
 use words::cores::Core;
 use words::row::{places_at, put_places};
+use controller::left::Settled;
+use crate::collected::Collected;
 
 // The slot is idle again with the toggle that the controller left, its descriptors are free.
 fn finish(
@@ -33,7 +35,7 @@ fn finish(
     r: Request,
     b: UnlinkBoundary,
     overlay: u32,
-) -> Collection
+) -> Settled<Collected>
     requires good { Good core.settings core.rest slots.old }
     requires k_value { endpoint_at (view core slots.old) k ≡ Unlinking p r b }
     ensures slots_after { collected_view core.settings result slots.new ≡ finish_of (view core slots.old) seen k (with_toggle p (kept_toggle overlay)) r }
@@ -46,7 +48,7 @@ fn finish(
     let kept = with_toggle(p, kept_toggle(overlay));
     put_endpoint(slots, k, Endpoint::Idle(kept));
     put_places(slots, k, [0; 4]);
-    Collection {
+    Settled {
         answer: outcome_of(r.cancelled, seen),
         rest,
         writes: Writes::none(),
@@ -65,7 +67,7 @@ pub fn collect_linked(
     k: u8,
     p: Pipe,
     r: Request,
-) -> Collection
+) -> Settled<Collected>
     requires good { Good core.settings core.rest slots.old }
     requires k_value { (endpoint_at (view core slots.old) k ≡ Linked p r) × (core.rest.unanswered < 32) }
     requires heads_len { (length heads.old ≡ 17 * (core.settings.endpoints + 1)) × (0 < length frames.old) }
@@ -84,7 +86,7 @@ pub fn collect_linked(
     let answer = left.answer;
     let rest = left.rest;
     let writes = left.writes;
-    Collection {
+    Settled {
         answer: pending_of(answer),
         rest,
         writes,
@@ -102,7 +104,7 @@ pub fn collect_unlinking(
     p: Pipe,
     r: Request,
     boundary: UnlinkBoundary,
-) -> Collection
+) -> Settled<Collected>
     requires good { Good core.settings core.rest slots.old }
     requires k_value { endpoint_at (view core slots.old) k ≡ Unlinking p r boundary }
     requires heads_len { length heads.old ≡ 17 * (core.settings.endpoints + 1) }

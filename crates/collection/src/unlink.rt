@@ -11,8 +11,8 @@ ghost use Rattle.collection.specs.Unlinks.{is_missing, left, unlink_of, waiting_
 ghost use Rattle.collection.specs.Words.{OwnRequest, cancelled_view};
 ghost use Rattle.pipe.specs.declared.endpoints.UnlinkBoundary.TheVariants.{Async};
 
-use crate::answers::{Cancellation, refuse_cancel};
-use common::answer::{Answer, Refusal};
+use crate::answers::refuse_cancel;
+use common::answer::Refusal;
 use common::kinds::{EndpointType, is_interrupt};
 use controller::lent::Readings;
 use pipe::endpoints::{Endpoint, Pipe, Request, UnlinkBoundary};
@@ -21,6 +21,7 @@ use register::writes::Writes;
 use schedule::bell::{Bell, Rung, frame_of, frames_passed, unlinked};
 use schedule::links::{Predecessor, detach, head_address};
 use words::cores::Core;
+use controller::left::Settled;
 
 // The boundary of a request that is unlinked, and the doorbell then.
 #[derive(Clone, Copy)]
@@ -97,7 +98,7 @@ pub fn waiting(
     k: u8,
     p: Pipe,
     r: Request,
-) -> Cancellation
+) -> Settled<()>
     requires good { Good core.settings core.rest slots.old }
     requires k_lt_endpoints { (k < core.settings.endpoints) × (core.rest.unanswered < 32) }
     requires own_request { OwnRequest (view core slots.old) k p r }
@@ -118,8 +119,8 @@ pub fn waiting(
     rest.unanswered = until.rung.bell.unanswered;
     let writes = until.rung.writes;
     put_endpoint(slots, k, Endpoint::Unlinking(p, r, boundary));
-    Cancellation {
-        answer: Answer::Done,
+    Settled {
+        answer: Ok(()),
         rest,
         writes,
     }
@@ -159,7 +160,7 @@ pub fn unlink(
     k: u8,
     p: Pipe,
     r: Request,
-) -> Cancellation
+) -> Settled<()>
     requires good { Good core.settings core.rest slots.old }
     requires k_lt_endpoints { (k < core.settings.endpoints) × (core.rest.unanswered < 32) }
     requires own_request { OwnRequest (view core slots.old) k p r }
@@ -183,7 +184,7 @@ pub fn mark(
     p: Pipe,
     r: Request,
     b: UnlinkBoundary,
-) -> Cancellation
+) -> Settled<()>
     requires good { Good core.settings core.rest slots.old }
     requires k_value { endpoint_at (view core slots.old) k ≡ Unlinking p r b }
     ensures slots_after { cancelled_view core.settings result slots.new ≡ marked_of (view core slots.old) k p r b }
@@ -191,8 +192,8 @@ pub fn mark(
 {
     let rest = core.rest;
     put_endpoint(slots, k, Endpoint::Unlinking(p, marked(r), b));
-    Cancellation {
-        answer: Answer::Done,
+    Settled {
+        answer: Ok(()),
         rest,
         writes: Writes::none(),
     }

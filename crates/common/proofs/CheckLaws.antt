@@ -1,11 +1,10 @@
 -- Checks, then settle: what the first check that holds does, and what it means that none did.
+use Rattle.std.specs.Prelude.{Err, Ok, Result, ⊤}
 use Prim.Native.Nat.{ℕ}
 use mathlib.Core.Path.{◌≡◌, refl, ap}
 use mathlib.Core.Bool.{Bool, true, false}
 use native.Mathlib.Omega.{arith}
 use Rattle.common.specs.Answers.{Verdict, passed, refused, or_else, settle}
-use Rattle.common.specs.declared.answer.Answer.{Answer}
-use Rattle.common.specs.declared.answer.Answer.TheVariants.{Done, Refused}
 use Rattle.common.specs.declared.answer.Refusal.{Refusal}
 
 abbrev verdict_number : Verdict → ℕ
@@ -15,11 +14,11 @@ verdict_number (refused r) = 0
 pub verdicts_apart : (r : Refusal) → refused r ≡ passed → ⊥
 verdicts_apart r e = let z : ◌≡◌ {A = ℕ} 0 1 = ap verdict_number e in omega arith
 
-abbrev pub verdict_of : Answer → Verdict
-verdict_of Done = passed
-verdict_of (Refused r) = refused r
+abbrev pub verdict_of : Result ⊤ Refusal → Verdict
+verdict_of (Ok tt) = passed
+verdict_of (Err r) = refused r
 
-pub answers_apart : (r : Refusal) → Refused r ≡ Done → ⊥
+pub answers_apart : (r : Refusal) → ◌≡◌ {A = Result ⊤ Refusal} (Err r) (Ok tt) → ⊥
 answers_apart r e = verdicts_apart r (ap verdict_of e)
 
 -- a check that let the call pass said false

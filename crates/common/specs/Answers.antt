@@ -1,7 +1,5 @@
 -- Document 01, "Numbers a call answers", and the order of checks: the first check that holds answers.
-use Rattle.std.specs.Prelude.{ℕ, Bool, true, false, List, [], ◌∷◌}
-use Rattle.common.specs.declared.answer.Answer.{Answer}
-use Rattle.common.specs.declared.answer.Answer.TheVariants.{Done, Refused}
+use Rattle.std.specs.Prelude.{ℕ, Bool, true, false, List, [], ◌∷◌, Err, Ok, Result, ⊤}
 use Rattle.common.specs.declared.answer.Refusal.{Refusal}
 use Rattle.common.specs.declared.answer.Refusal.TheVariants.{InvalidParameter, SlotLimitReached, InvalidEndpoint, QueueFull, NotSupported, NoMemory, Timeout, NotReady}
 
@@ -15,9 +13,9 @@ refusal_number NoMemory = 6
 refusal_number Timeout = 7
 refusal_number NotReady = 8
 
-abbrev pub number_of : Answer → ℕ
-number_of Done = 0
-number_of (Refused r) = refusal_number r
+abbrev pub number_of : Result ⊤ Refusal → ℕ
+number_of (Ok tt) = 0
+number_of (Err r) = refusal_number r
 
 -- ---- checks, then settle
 

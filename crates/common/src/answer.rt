@@ -31,20 +31,12 @@ impl Refusal {
     }
 }
 
-// The answer of a call that gives no value.
-#[derive(Clone, Copy)]
-pub enum Answer {
-    Done,
-    Refused(Refusal),
-}
-
-impl Answer {
-    pub fn number(self) -> u8
-        ensures { result ≡ number_of self }
-    {
-        match self {
-            Answer::Done => 0,
-            Answer::Refused(refusal) => refusal.number(),
-        }
+// The number of an answer that gives no value.
+pub fn number_of(answer: Result<(), Refusal>) -> u8
+    ensures { result ≡ number_of answer }
+{
+    match answer {
+        Ok(()) => 0,
+        Err(refusal) => refusal.number(),
     }
 }

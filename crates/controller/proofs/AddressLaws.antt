@@ -1,10 +1,9 @@
 -- Allotting an address: 1 to 127 in turn, then refusal 2; the state stays in its ranges, and a refusal leaves it as it was.
-use Rattle.std.specs.Prelude.{◌≡◌, ℕ, ◌+◌, ◌<◌, ◌≤◌, Bool, true, false, ltb}
+use Rattle.std.specs.Prelude.{◌≡◌, ℕ, ◌+◌, ◌<◌, ◌≤◌, Bool, true, false, ltb, Err, Ok}
 use mathlib.Core.Path.{refl, sym}
 use native.Mathlib.Omega.{arith}
 use borrow.Author.Tests.{ltb-false, ltb-true}
 use Rattle.common.specs.declared.answer.Refusal.TheVariants.{InvalidParameter, SlotLimitReached}
-use Rattle.controller.specs.declared.calls.Allotted.TheVariants.{Address, Refused}
 use Rattle.state.specs.Plain.{Ehci}
 use Rattle.controller.specs.Address.{allot_of}
 use Rattle.state.specs.Ranges.{in_ranges}
@@ -15,13 +14,13 @@ use Rattle.state.proofs.RangesLaws.{Ranges, ranges_make, ranges_tell}
 
 module _ (s : Ehci) where
   pub allot_in_turn : in_ranges s ≡ true → s.address ≤ 127
-      → allot_of s ≡ record { answer = Address s.address; state = with_next_address s (s.address + 1) }
+      → allot_of s ≡ record { answer = Ok s.address; state = with_next_address s (s.address + 1) }
   allot_in_turn e h = sym (allot_done s true (sym e) refl h)
 
-  pub allot_after : in_ranges s ≡ true → 127 < s.address → allot_of s ≡ record { answer = Refused SlotLimitReached; state = s }
+  pub allot_after : in_ranges s ≡ true → 127 < s.address → allot_of s ≡ record { answer = Err SlotLimitReached; state = s }
   allot_after e h = sym (allot_none s true (sym e) refl h)
 
-  pub allot_out : in_ranges s ≡ false → allot_of s ≡ record { answer = Refused InvalidParameter; state = s }
+  pub allot_out : in_ranges s ≡ false → allot_of s ≡ record { answer = Err InvalidParameter; state = s }
   allot_out e = sym (allot_bad s false (sym e) refl)
 
   -- another next address, within 1 and 128

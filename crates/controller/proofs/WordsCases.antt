@@ -1,5 +1,5 @@
 -- The returns of an allotment over words, and what the readers of a slot say of the state that the words stand for.
-use Rattle.std.specs.Prelude.{◌≡◌, ℕ, ◌+◌, ◌<◌, ◌≤◌, Bool, true, not, eqb, leb, List}
+use Rattle.std.specs.Prelude.{◌≡◌, ℕ, ◌+◌, ◌<◌, ◌≤◌, Bool, true, not, eqb, leb, List, Err, Ok}
 use mathlib.Core.Path.{refl, sym}
 use native.Mathlib.Decide.{ℕ_discrete as dec_eq}
 use native.Mathlib.Omega.{arith}
@@ -16,7 +16,6 @@ use Rattle.words.specs.View.{state_of}
 use Rattle.pipe.specs.Endpoints.{decoded}
 use Rattle.pipe.proofs.WordsLaws.{good_endpoint, word_closed, word_idle, word_linked, word_unlinking}
 use Rattle.controller.specs.Plain.{Allotment}
-use Rattle.controller.specs.declared.calls.Allotted.TheVariants.{Address, Refused}
 use Rattle.controller.specs.Address.{allot_of}
 use Rattle.controller.specs.Words.{held_at, open_at}
 use Rattle.controller.specs.Readers.{has_endpoint, holds_request, is_opened, is_uncollected}
@@ -26,13 +25,13 @@ use Rattle.controller.proofs.AddressCases.{allot_done, allot_none}
 
 module _ (s : Settings) (r : Rest) where
   pub address_none : 127 < r.address → (ws : List ℕ) → in_ranges (state_of s r ws) ≡ true
-      → ◌≡◌ {A = Allotment} (record { answer = Refused SlotLimitReached; state = state_of s r ws }) (allot_of (state_of s r ws))
+      → ◌≡◌ {A = Allotment} (record { answer = Err SlotLimitReached; state = state_of s r ws }) (allot_of (state_of s r ws))
   unfolding state_of
   address_none h ws e = allot_none (state_of s r ws) true (sym e) refl h
 
   pub address_next : r.address ≤ 127 → (ws : List ℕ) → in_ranges (state_of s r ws) ≡ true
       → ◌≡◌ {A = Allotment}
-      (record { answer = Address r.address; state = state_of s (rest_with_next_address r (r.address + 1)) ws })
+      (record { answer = Ok r.address; state = state_of s (rest_with_next_address r (r.address + 1)) ws })
       (allot_of (state_of s r ws))
   unfolding state_of with_next_address
   address_next h ws e = allot_done (state_of s r ws) true (sym e) refl h

@@ -1,7 +1,7 @@
 -- The lengths that a call is lent, and what an allotment leaves of the plain state.
-use Rattle.std.specs.Prelude.{ℕ}
+use Rattle.std.specs.Prelude.{ℕ, Result}
 use Rattle.state.specs.Plain.{Ehci}
-use Rattle.controller.specs.declared.calls.Allotted.{Allotted}
+use Rattle.common.specs.declared.answer.Refusal.{Refusal}
 
 -- the lengths of the four rows
 pub record Lengths : Type 0 where
@@ -11,5 +11,5 @@ pub record Lengths : Type 0 where
   pub setups : ℕ
 
 pub record Allotment : Type 0 where
-  pub answer : Allotted
+  pub answer : Result ℕ Refusal
   pub state : Ehci

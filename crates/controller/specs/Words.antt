@@ -4,9 +4,9 @@ use Rattle.words.specs.Record.{phase_in, word_at}
 use Rattle.settings.specs.declared.settings.Settings.{Settings}
 use Rattle.words.specs.View.{state_of}
 use Rattle.controller.specs.Plain.{Allotment}
-use Rattle.controller.specs.declared.calls.Allotment.{Allotment as AllotmentWords}
+use Rattle.controller.specs.declared.left.Left.{Left as LeftWords}
 
-abbrev pub allotted_view : Settings → AllotmentWords → List ℕ → Allotment
+abbrev pub allotted_view : Settings → LeftWords ℕ → List ℕ → Allotment
 allotted_view s r ws = record { answer = r.answer; state = state_of s r.rest ws }
 
 -- the slot has an endpoint; it has an uncollected request

@@ -2,5 +2,6 @@
 #![tactic(auto)]
 
 pub mod calls;
+pub mod left;
 pub mod lent;
 pub mod readers;

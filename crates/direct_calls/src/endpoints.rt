@@ -9,21 +9,20 @@ ghost use Rattle.direct_calls.specs.Refusals.{refused_allotment, refused_change,
 ghost use Rattle.direct_calls.specs.Shapes.{CoreCall, HeadsCall, SlotsCall};
 
 use crate::takes::takes_heads;
-use common::answer::{Answer, Refusal};
+use common::answer::Refusal;
 use common::kinds::EndpointType;
-use controller::calls::{Allotment, Allotted};
-use endpoint::calls::{Change, EndpointOpening, Opened};
 use word_ranges::judge::words_good;
 use word_ranges::scalars::core_good;
 use words::cores::{Core, Rest};
+use controller::left::Left;
 
-pub fn allocate_address(core: Core) -> Allotment
+pub fn allocate_address(core: Core) -> Left<u8>
     ensures { CoreCall core result (refused_allotment core.rest) result.rest (allotted_view core.settings result) allot_of }
 {
     if !core_good(core) {
         let rest = core.rest;
-        return Allotment {
-            answer: Allotted::Refused(Refusal::InvalidParameter),
+        return Left {
+            answer: Err(Refusal::InvalidParameter),
             rest,
         };
     }
@@ -38,7 +37,7 @@ pub fn open_endpoint(
     address: u8,
     number: u8,
     packet: u16,
-) -> EndpointOpening
+) -> Left<u8>
     ensures { HeadsCall core slots.old slots.new heads.old heads.new
         result (refused_endpoint core.rest) result.rest
         (open_left (opened_view core.settings result slots.new) heads.new)
@@ -46,8 +45,8 @@ pub fn open_endpoint(
 {
     if !takes_heads(core, slots, heads) {
         let rest = core.rest;
-        return EndpointOpening {
-            answer: Opened::Refused(Refusal::InvalidParameter),
+        return Left {
+            answer: Err(Refusal::InvalidParameter),
             rest,
         };
     }
@@ -55,16 +54,16 @@ pub fn open_endpoint(
 }
 
 // What close, set address, set packet size and clear-halt leave of what is not in its ranges.
-fn refuse(rest: Rest) -> Change
+fn refuse(rest: Rest) -> Left<()>
     ensures { result ≡ refused_change rest }
 {
-    Change {
-        answer: Answer::Refused(Refusal::InvalidParameter),
+    Left {
+        answer: Err(Refusal::InvalidParameter),
         rest,
     }
 }
 
-pub fn close(core: Core, slots: &mut [u64], heads: &mut [u32], slot: u8) -> Change
+pub fn close(core: Core, slots: &mut [u64], heads: &mut [u32], slot: u8) -> Left<()>
     ensures { HeadsCall core slots.old slots.new heads.old heads.new
         result (refused_change core.rest) result.rest
         (change_left (changed_view core.settings result slots.new) heads.new)
@@ -76,7 +75,7 @@ pub fn close(core: Core, slots: &mut [u64], heads: &mut [u32], slot: u8) -> Chan
     endpoint::calls::close(core, slots, heads, slot)
 }
 
-pub fn set_address(core: Core, slots: &[u64], heads: &mut [u32], slot: u8, address: u8) -> Change
+pub fn set_address(core: Core, slots: &[u64], heads: &mut [u32], slot: u8, address: u8) -> Left<()>
     ensures { HeadsCall core slots.now slots.now heads.old heads.new
         result (refused_change core.rest) result.rest
         (change_left (changed_view core.settings result slots.now) heads.new)
@@ -95,7 +94,7 @@ pub fn set_packet_size(
     heads: &mut [u32],
     slot: u8,
     size: u8,
-) -> Change
+) -> Left<()>
     ensures { HeadsCall core slots.old slots.new heads.old heads.new
         result (refused_change core.rest) result.rest
         (change_left (changed_view core.settings result slots.new) heads.new)
@@ -108,7 +107,7 @@ pub fn set_packet_size(
 }
 
 // Judges the slots alone, as it is lent no heads.
-pub fn clear_halt(core: Core, slots: &mut [u64], slot: u8) -> Change
+pub fn clear_halt(core: Core, slots: &mut [u64], slot: u8) -> Left<()>
     ensures { SlotsCall core slots.old slots.new result (refused_change core.rest) result.rest
         (changed_view core.settings result slots.new) (λ s. clear_halt_of s slot) }
 {

@@ -5,29 +5,30 @@ ghost use Rattle.interrupt.specs.Words.{acknowledged_view, drained_view, settled
 ghost use Rattle.direct_calls.specs.Refusals.{refused_acknowledgement, refused_drainage, refused_settled};
 ghost use Rattle.direct_calls.specs.Shapes.{CoreCall, SlotsCall};
 
-use common::answer::{Answer, Refusal};
-use interrupt::answers::{Acknowledged, Acknowledgement, Drainage, Drained, Settled};
+use common::answer::Refusal;
 use register::writes::Writes;
 use word_ranges::judge::words_good;
 use word_ranges::scalars::core_good;
 use words::cores::{Core, Rest};
+use controller::left::Settled;
+use interrupt::answers::Event;
 
 // What rearm, enable and disable leave of a core that is not in its ranges.
-fn refuse(rest: Rest) -> Settled
+fn refuse(rest: Rest) -> Settled<()>
     ensures { result ≡ refused_settled rest }
 {
     Settled {
-        answer: Answer::Refused(Refusal::InvalidParameter),
+        answer: Err(Refusal::InvalidParameter),
         rest,
         writes: Writes::none(),
     }
 }
 
-fn refuse_acknowledge(rest: Rest) -> Acknowledgement
+fn refuse_acknowledge(rest: Rest) -> Settled<bool>
     ensures { result ≡ refused_acknowledgement rest }
 {
-    Acknowledgement {
-        answer: Acknowledged::Refused(Refusal::InvalidParameter),
+    Settled {
+        answer: Err(Refusal::InvalidParameter),
         rest,
         writes: Writes::none(),
     }
@@ -39,7 +40,7 @@ pub fn acknowledge(
     interrupts: u32,
     flag: bool,
     again: bool,
-) -> Acknowledgement
+) -> Settled<bool>
     ensures { CoreCall core result (refused_acknowledgement core.rest) result.rest
         (acknowledged_view core.settings result) (λ s. acknowledge_of s status interrupts flag again) }
 {
@@ -49,18 +50,18 @@ pub fn acknowledge(
     interrupt::calls::acknowledge(core, status, interrupts, flag, again)
 }
 
-fn refuse_drain(rest: Rest) -> Drainage
+fn refuse_drain(rest: Rest) -> Settled<Event>
     ensures { result ≡ refused_drainage rest }
 {
-    Drainage {
-        answer: Drained::Refused(Refusal::InvalidParameter),
+    Settled {
+        answer: Err(Refusal::InvalidParameter),
         rest,
         writes: Writes::none(),
     }
 }
 
 // Given USBCMD as read, for the ring that a counted advance may make.
-pub fn drain(core: Core, slots: &mut [u64], command: u32) -> Drainage
+pub fn drain(core: Core, slots: &mut [u64], command: u32) -> Settled<Event>
     ensures { SlotsCall core slots.old slots.new result (refused_drainage core.rest) result.rest
         (drained_view core.settings result slots.new) (λ s. drain_of s command) }
 {
@@ -70,7 +71,7 @@ pub fn drain(core: Core, slots: &mut [u64], command: u32) -> Drainage
     interrupt::calls::drain(core, slots, command)
 }
 
-pub fn rearm(core: Core) -> Settled
+pub fn rearm(core: Core) -> Settled<()>
     ensures { CoreCall core result (refused_settled core.rest) result.rest (settled_view core.settings result) rearm_of }
 {
     if !core_good(core) {
@@ -79,7 +80,7 @@ pub fn rearm(core: Core) -> Settled
     interrupt::calls::rearm(core)
 }
 
-pub fn enable(core: Core) -> Settled
+pub fn enable(core: Core) -> Settled<()>
     ensures { CoreCall core result (refused_settled core.rest) result.rest (settled_view core.settings result) enable_of }
 {
     if !core_good(core) {
@@ -88,7 +89,7 @@ pub fn enable(core: Core) -> Settled
     interrupt::calls::enable(core)
 }
 
-pub fn disable(core: Core) -> Settled
+pub fn disable(core: Core) -> Settled<()>
     ensures { CoreCall core result (refused_settled core.rest) result.rest (settled_view core.settings result) disable_of }
 {
     if !core_good(core) {

@@ -8,10 +8,11 @@ ghost use Rattle.collection.specs.Words.{cancelled_view, refused_cancel_words};
 ghost use Rattle.direct_calls.specs.Shapes.{FramesCall};
 
 use crate::takes::takes_frames;
-use collection::answers::{Cancellation, refuse_cancel};
+use collection::answers::refuse_cancel;
 use common::answer::Refusal;
 use controller::lent::Readings;
 use words::cores::Core;
+use controller::left::Settled;
 
 pub fn cancel(
     core: Core,
@@ -21,7 +22,7 @@ pub fn cancel(
     slot: u8,
     id: u64,
     readings: Readings,
-) -> Cancellation
+) -> Settled<()>
     ensures { FramesCall core slots.old slots.new heads.old heads.new
         frames.old frames.new result (refused_cancel_words core.rest InvalidParameter) result.rest
         (left (cancelled_view core.settings result slots.new) heads.new frames.new)

@@ -1,10 +1,8 @@
 -- Cases of what is decided, from what the callees say.
-use Rattle.std.specs.Prelude.{◌≡◌, ℕ, List}
+use Rattle.std.specs.Prelude.{◌≡◌, ℕ, List, Option, Result, ⊤}
 use mathlib.Core.Path.{sym, ap, ◌∙◌}
 use Rattle.register.specs.Writes.{no_writes}
 use Rattle.register.specs.declared.writes.Writes.{Writes}
-use Rattle.common.specs.declared.answer.Answer.{Answer}
-use Rattle.common.specs.declared.reads.NextRead.{NextRead}
 use Rattle.endpoint.specs.Calls.{ChangeLeft, OpenLeft, change_left, open_left}
 use Rattle.endpoint.specs.Plain.{Change}
 use Rattle.endpoint.specs.Plain.{EndpointOpening}
@@ -15,13 +13,14 @@ use Rattle.collection.specs.Calls.{Gathered, gathered}
 use Rattle.collection.specs.Unlinks.{Left, left}
 use Rattle.collection.specs.Plain.{Cancellation}
 use Rattle.collection.specs.Plain.{Collection}
-use Rattle.ehci.specs.declared.reply.Answered.{Answered}
 use Rattle.ehci.specs.Plain.{Decided}
 use Rattle.ehci.specs.Replies.{brought_answer, changed_reply, collected_answer, opened_answer, replied, simply, submitted_answer}
 use Rattle.ehci.specs.Decides.{HeadsOutcome, LinksOutcome, came, cancel_came, change_came, collect_came, heads_came, links_came, open_came, submit_came, with_frames, with_setups, written_reply}
+use Rattle.ehci.specs.declared.reply.Answered.{Answered}
+use Rattle.common.specs.declared.answer.Refusal.{Refusal}
 
-pub brought_is : (a k : Answer) (read : NextRead) (wait : ℕ) → a ≡ k → brought_answer k read wait ≡ brought_answer a read wait
-brought_is a k read wait e = ap (λ (x : Answer). brought_answer x read wait) (sym e)
+pub brought_is : (a k : (Result ⊤ Refusal)) (read : (Option ℕ)) (wait : ℕ) → a ≡ k → brought_answer k read wait ≡ brought_answer a read wait
+brought_is a k read wait e = ap (λ (x : (Result ⊤ Refusal)). brought_answer x read wait) (sym e)
 
 -- ---- a call of another crate, as a reply
 
@@ -40,16 +39,16 @@ pub collect_came_lem : (d : Decided) (c : Collection) (h f : List ℕ) (y : Gath
     → gathered c h f ≡ y → links_came d h f ≡ collect_came y
 collect_came_lem d c h f y e g = ap (λ (x : Decided). links_came x h f) e ∙ ap collect_came g
 
-pub submit_came_lem : (x : Submitted) (a : Answered) (h f u : List ℕ) (y : SubmitOutcome) → a ≡ submitted_answer x.answer → submitted x h f u ≡ y
+pub submit_came_lem : (x : Submitted) (a : (Result Answered Refusal)) (h f u : List ℕ) (y : SubmitOutcome) → a ≡ submitted_answer x.answer → submitted x h f u ≡ y
     → came (record { reply = record { state = x.state; answer = a; writes = x.writes }; chain = x.chain }) h f u ≡ submit_came y
 submit_came_lem x a h f u y e g =
-    ap (λ (b : Answered). came (record { reply = record { state = x.state; answer = b; writes = x.writes }; chain = x.chain }) h f u) e
+    ap (λ (b : (Result Answered Refusal)). came (record { reply = record { state = x.state; answer = b; writes = x.writes }; chain = x.chain }) h f u) e
     ∙ ap submit_came g
 
-pub written_came : (x : WrittenBack) (a : Answered) (w : Writes) (y : WrittenBack) → a ≡ simply x.answer → w ≡ no_writes → x ≡ y
+pub written_came : (x : WrittenBack) (a : (Result Answered Refusal)) (w : Writes) (y : WrittenBack) → a ≡ simply x.answer → w ≡ no_writes → x ≡ y
     → ◌≡◌ {A = Decided} (record { reply = record { state = x.state; answer = a; writes = w }; chain = x.chain }) (written_reply y)
 written_came x a w y e f g =
-    ap (λ (b : Answered). record { reply = record { state = x.state; answer = b; writes = w }; chain = x.chain }) e
+    ap (λ (b : (Result Answered Refusal)). record { reply = record { state = x.state; answer = b; writes = w }; chain = x.chain }) e
     ∙ ap (λ (v : Writes). record { reply = record { state = x.state; answer = simply x.answer; writes = v }; chain = x.chain }) f ∙ ap written_reply g
 
 -- ---- any call

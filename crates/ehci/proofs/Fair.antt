@@ -1,5 +1,5 @@
 -- What any call decides is fair: a refusal leaves all as before (7 not running), and there are at most six writes.
-use Rattle.std.specs.Prelude.{◌≡◌, ℕ, ◌+◌, ◌≤◌, Bool, true, false, cond, not, ◌&&◌, eqb, ltb, leb, List, [], ◌∷◌, length}
+use Rattle.std.specs.Prelude.{◌≡◌, ℕ, ◌+◌, ◌≤◌, Bool, true, false, cond, not, ◌&&◌, eqb, ltb, leb, List, [], ◌∷◌, length, Err, Ok, Result}
 use mathlib.Core.Path.{refl, sym, ap, subst, ◌∙◌}
 use borrow.Author.Tests.{not-true}
 use Rattle.register.specs.Bits.{any_of, only_bits, without_bits}
@@ -37,7 +37,7 @@ use Rattle.interrupt.specs.Interrupts.{acknowledge_of, disable_of, drain_if, dra
 use Rattle.interrupt.specs.declared.drain.Cleared.{Cleared}
 use Rattle.interrupt.specs.Plain.{Acknowledgement}
 use Rattle.interrupt.specs.Plain.{Drainage}
-use Rattle.interrupt.specs.declared.answers.Drained.TheVariants.{PortChange, TransferActivity, Stopped}
+use Rattle.interrupt.specs.declared.answers.Event.TheVariants.{PortChange, TransferActivity, Stopped}
 use Rattle.interrupt.specs.Plain.{Settled}
 use Rattle.bring_up.specs.BringUp.{again_of, any_uncollected, onward_of, ready, register_of, stage_of, start_of, step_of}
 use Rattle.bring_up.specs.Plain.{BroughtUp}
@@ -46,13 +46,13 @@ use Rattle.ehci.specs.declared.call.Call.{Call}
 use Rattle.ehci.specs.declared.call.Call.TheVariants.{StartBringUp, BringUpStep, AllocateAddress, OpenEndpoint, Close, SetAddress, SetPacketSize, Submit, Writeback, Cancel, Collect, Acknowledge, Drain, Rearm, Enable, Disable, ClearHalt}
 use Rattle.ehci.specs.declared.call.EndpointFields.{EndpointFields}
 use Rattle.ehci.specs.declared.call.InterruptReadings.{InterruptReadings}
-use Rattle.ehci.specs.declared.reply.Answered.{Answered}
-use Rattle.ehci.specs.declared.reply.Answered.TheVariants.{Done, Pending, Cancelled, Failed, Refused}
+use Rattle.ehci.specs.declared.reply.Answered.TheVariants.{Done, Pending, Cancelled, Failed}
 use Rattle.ehci.specs.Replies.{brought_reply, changed_reply, collected_answer, drained_answer, refused_reply, replied, settled_reply}
 use Rattle.ehci.specs.Decides.{Outcome, acknowledge_decided, acknowledge_reply, address_decided, allot_decided, allot_reply, call_of, came, cancel_came, cancel_decided, change_came, clear_decided, close_decided, collect_came, collect_decided, decide_of, drain_decided, drain_reply, fitting, open_came, open_decided, packet_decided, submit_came, submit_decided, with_frames, with_setups, writeback_decided, written_reply}
 use Rattle.ehci.specs.Refusals.{left_by}
 use Rattle.ehci.proofs.Counts.{acknowledged_few, bounded_few, counted_few, none_few, one_few, stage_few}
 use Rattle.endpoint.specs.Plain.{Change}
+use Rattle.ehci.specs.declared.reply.Answered.{Answered}
 
 -- ---- checks that never answer 7
 
@@ -86,19 +86,19 @@ first_timely (c ∷ cs) t r e =
 
 -- ---- an answer's refusal
 
-abbrev pub is_refused : Answered → Bool
-is_refused (Done given) = false
-is_refused Pending = false
-is_refused Cancelled = false
-is_refused (Failed token) = false
-is_refused (Refused r) = true
+abbrev pub is_refused : Result Answered Refusal → Bool
+is_refused (Ok (Done given)) = false
+is_refused (Ok Pending) = false
+is_refused (Ok Cancelled) = false
+is_refused (Ok (Failed token)) = false
+is_refused (Err r) = true
 
-abbrev pub refusal_in : Answered → Refusal
-refusal_in (Done given) = InvalidParameter
-refusal_in Pending = InvalidParameter
-refusal_in Cancelled = InvalidParameter
-refusal_in (Failed token) = InvalidParameter
-refusal_in (Refused r) = r
+abbrev pub refusal_in : Result Answered Refusal → Refusal
+refusal_in (Ok (Done given)) = InvalidParameter
+refusal_in (Ok Pending) = InvalidParameter
+refusal_in (Ok Cancelled) = InvalidParameter
+refusal_in (Ok (Failed token)) = InvalidParameter
+refusal_in (Err r) = r
 
 left_same : (s : Ehci) (r : Refusal) → is_timeout r ≡ false → left_by r s ≡ s
 left_same s InvalidParameter n = refl
@@ -113,7 +113,7 @@ left_same s NotReady n = refl
 module _ (s : Ehci) (hs fs us : List ℕ) where
   pub record Fair (o : Outcome) : Type 0 where
     pub few : o.decided.reply.writes.count ≤ 6
-    pub keeps : (r : Refusal) → o.decided.reply.answer ≡ Refused r → o ≡ came (refused_reply (left_by r s) r) hs fs us
+    pub keeps : (r : Refusal) → o.decided.reply.answer ≡ Err r → o ≡ came (refused_reply (left_by r s) r) hs fs us
 
   refusal_fair : (x : Refusal) → Fair (came (refused_reply (left_by x s) x) hs fs us)
   unfolding refused_reply replied
@@ -251,7 +251,7 @@ module _ (s : Ehci) (hs fs us : List ℕ) where
     outcome_given true v = refl
     outcome_given false v = by (eqb v.failed 0)
       where
-        by : (b : Bool) → is_refused (collected_answer (cond b (Complete (record { length = v.moved; retried = v.retried })) (FailedCollect v.failed))) ≡ false
+        by : (b : Bool) → is_refused (collected_answer (cond b (Ok (Complete (record { length = v.moved; retried = v.retried }))) (Ok (FailedCollect v.failed)))) ≡ false
         by true = refl
         by false = refl
 
@@ -294,8 +294,8 @@ module _ (s : Ehci) (hs fs us : List ℕ) where
   event_given pending = by (any_of pending 4) (any_of pending 0x23)
     where
       by : (a b : Bool)
-          → is_refused (drained_answer (cond {A = Cleared} a (record { event = PortChange; left = without_bits pending 4 })
-          (cond b (record { event = TransferActivity; left = without_bits pending 0x23 }) (record { event = Stopped; left = 0 }))).event) ≡ false
+          → is_refused (drained_answer (cond {A = Cleared} a (record { event = Ok PortChange; left = without_bits pending 4 })
+          (cond b (record { event = Ok TransferActivity; left = without_bits pending 0x23 }) (record { event = Ok Stopped; left = 0 }))).event) ≡ false
       by true b = refl
       by false true = refl
       by false false = refl

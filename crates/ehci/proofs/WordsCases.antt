@@ -1,5 +1,5 @@
 -- Cases of what is decided over words, from what the callees say: each is the case of the plain state, at the state that the words stand for.
-use Rattle.std.specs.Prelude.{◌≡◌, ℕ, true, List, length}
+use Rattle.std.specs.Prelude.{◌≡◌, ℕ, true, List, length, Bool, Result, ⊤}
 use mathlib.Core.Path.{sym, ap, subst, ◌∙◌}
 use Rattle.register.specs.Writes.{no_writes}
 use Rattle.register.specs.declared.writes.Writes.{Writes}
@@ -18,14 +18,11 @@ use Rattle.words.specs.View.{state_of, view}
 use Rattle.controller.specs.Address.{allot_of}
 use Rattle.controller.specs.Lent.{accepts_of}
 use Rattle.controller.specs.Words.{allotted_view}
-use Rattle.controller.specs.declared.calls.Allotment.{Allotment}
 use Rattle.controller.specs.Plain.{Lengths}
 use Rattle.controller.specs.declared.lent.Readings.{Readings}
 use Rattle.endpoint.specs.Calls.{ChangeLeft, change_left, open_endpoint_of, open_left}
 use Rattle.endpoint.specs.Plain.{Change as ChangePlain}
 use Rattle.endpoint.specs.Words.{changed_view, opened_view}
-use Rattle.endpoint.specs.declared.calls.Change.{Change}
-use Rattle.endpoint.specs.declared.calls.EndpointOpening.{EndpointOpening}
 use Rattle.request.specs.Submit.{submit_of, submitted}
 use Rattle.request.specs.Words.{submitted_view, written_view}
 use Rattle.request.specs.Writeback.{writeback_of}
@@ -35,20 +32,14 @@ use Rattle.request.specs.declared.judge.TransferRequest.{TransferRequest}
 use Rattle.collection.specs.Calls.{cancel_of, collect_of, gathered}
 use Rattle.collection.specs.Unlinks.{left}
 use Rattle.collection.specs.Words.{cancelled_view, collected_view}
-use Rattle.collection.specs.declared.answers.Cancellation.{Cancellation}
-use Rattle.collection.specs.declared.answers.Collection.{Collection}
 use Rattle.interrupt.specs.Interrupts.{acknowledge_of, drain_of}
 use Rattle.interrupt.specs.Words.{acknowledged_view, drained_view, settled_view}
 use Rattle.interrupt.specs.Plain.{Settled as SettledPlain}
-use Rattle.interrupt.specs.declared.answers.Acknowledgement.{Acknowledgement}
-use Rattle.interrupt.specs.declared.answers.Drainage.{Drainage}
-use Rattle.interrupt.specs.declared.answers.Settled.{Settled}
 use Rattle.bring_up.specs.Words.{brought_view}
 use Rattle.bring_up.specs.Plain.{BroughtUp as BroughtPlain}
 use Rattle.bring_up.specs.declared.answers.BroughtUp.{BroughtUp}
 use Rattle.ehci.specs.declared.call.EndpointFields.{EndpointFields}
 use Rattle.ehci.specs.declared.call.InterruptReadings.{InterruptReadings}
-use Rattle.ehci.specs.declared.reply.Answered.{Answered}
 use Rattle.ehci.specs.Plain.{Decided as DecidedPlain}
 use Rattle.ehci.specs.declared.reply.Decided.{Decided}
 use Rattle.ehci.specs.Replies.{acknowledged_answer, allotted_answer, brought_reply, changed_reply, collected_answer, drained_answer, opened_answer, replied, settled_reply, simply, submitted_answer}
@@ -56,21 +47,27 @@ use Rattle.ehci.specs.Decides.{acknowledge_decided, acknowledge_reply, allot_dec
 use Rattle.ehci.specs.WordsDecides.{Keeps, Tidies, Writable, brought_words, chain_in, changed_words, decided_view, laid_only, marked_only, replied_words, settled_words}
 use Rattle.ehci.proofs.Cases.{cancel_came_lem, change_came_lem, collect_came_lem, open_came_lem, submit_came_lem, written_came}
 use Rattle.ehci.proofs.WordsChains.{laid_chain, laid_writable, marked_chain, marked_writable, no_writing_chain}
+use Rattle.controller.specs.declared.left.Left.{Left}
+use Rattle.controller.specs.declared.left.Settled.{Settled}
+use Rattle.ehci.specs.declared.reply.Answered.{Answered}
+use Rattle.collection.specs.declared.collected.Collected.{Collected}
+use Rattle.interrupt.specs.declared.answers.Event.{Event}
+use Rattle.common.specs.declared.answer.Refusal.{Refusal}
 
 -- a reply by its parts
-pub leave_words : (d : Decided) (rest : Rest) (a b : Answered) (v w : Writes) → d ≡ replied_words rest a v → a ≡ b → v ≡ w → d ≡ replied_words rest b w
-leave_words d rest a b v w e ea ew = e ∙ ap (λ (x : Answered). replied_words rest x v) ea ∙ ap (λ (x : Writes). replied_words rest b x) ew
+pub leave_words : (d : Decided) (rest : Rest) (a b : (Result Answered Refusal)) (v w : Writes) → d ≡ replied_words rest a v → a ≡ b → v ≡ w → d ≡ replied_words rest b w
+leave_words d rest a b v w e ea ew = e ∙ ap (λ (x : (Result Answered Refusal)). replied_words rest x v) ea ∙ ap (λ (x : Writes). replied_words rest b x) ew
 
-abbrev with_chain : Settings → Rest → Answered → Writes → List ℕ → Chain → DecidedPlain
+abbrev with_chain : Settings → Rest → Result Answered Refusal → Writes → List ℕ → Chain → DecidedPlain
 with_chain s rest a w ws c = record { reply = record { state = state_of s rest ws; answer = a; writes = w }; chain = c }
 
 -- a reply that writes nothing, as the state that the words stand for
-pub left_view : (s : Settings) (d : Decided) (rest : Rest) (a : Answered) (w : Writes) (ws : List ℕ) → d ≡ replied_words rest a w
+pub left_view : (s : Settings) (d : Decided) (rest : Rest) (a : (Result Answered Refusal)) (w : Writes) (ws : List ℕ) → d ≡ replied_words rest a w
     → decided_view s d ws ≡ replied (state_of s rest ws) a w
 unfolding replied
 left_view s d rest a w ws e = ap (λ (x : Decided). decided_view s x ws) e ∙ ap (with_chain s rest a w ws) (no_writing_chain s)
 
-module _ (c : Core) (d : Decided) (rest : Rest) (a : Answered) (w : Writes) (e : d ≡ replied_words rest a w) where
+module _ (c : Core) (d : Decided) (rest : Rest) (a : (Result Answered Refusal)) (w : Writes) (e : d ≡ replied_words rest a w) where
   pub keeps_words : rest.free ≡ c.rest.free → Keeps c d
   keeps_words f = record { free_stays = ap (λ (x : Decided). x.reply.rest.free) e ∙ f; none_written = ap (λ (x : Decided). x.writing) e }
 
@@ -83,14 +80,14 @@ module _ (c : Core) (d : Decided) (rest : Rest) (a : Answered) (w : Writes) (e :
 
 -- ---- the arms that look at the core alone
 
-pub allot_words : (c : Core) (x : Allotment) (d : Decided) → d ≡ replied_words x.rest (allotted_answer x.answer) no_writes
+pub allot_words : (c : Core) (x : (Left ℕ)) (d : Decided) → d ≡ replied_words x.rest (allotted_answer x.answer) no_writes
     → ((ws : List ℕ) → in_ranges (view c ws) ≡ true → allotted_view c.settings x ws ≡ allot_of (view c ws)) → x.rest.free ≡ c.rest.free
     → ((ws : List ℕ) → in_ranges (view c ws) ≡ true → decided_view c.settings d ws ≡ allot_decided (view c ws)) × Keeps c d
 unfolding allot_decided
 allot_words c x d e f k =
     ((λ ws h. left_view c.settings d _ _ _ ws e ∙ ap allot_reply (f ws h)), keeps_words c d _ _ _ e k)
 
-pub acknowledge_words : (c : Core) (y : InterruptReadings) (x : Acknowledgement) (d : Decided) → d ≡ replied_words x.rest (acknowledged_answer x.answer) x.writes
+pub acknowledge_words : (c : Core) (y : InterruptReadings) (x : (Settled Bool)) (d : Decided) → d ≡ replied_words x.rest (acknowledged_answer x.answer) x.writes
     → ((ws : List ℕ) → in_ranges (view c ws) ≡ true → acknowledged_view c.settings x ws ≡ acknowledge_of (view c ws) y.status y.interrupts y.flag y.again)
     → x.rest.free ≡ c.rest.free
     → ((ws : List ℕ) → in_ranges (view c ws) ≡ true → decided_view c.settings d ws ≡ acknowledge_decided (view c ws) y) × Keeps c d
@@ -98,7 +95,7 @@ unfolding acknowledge_decided
 acknowledge_words c y x d e f k =
     ((λ ws h. left_view c.settings d _ _ _ ws e ∙ ap acknowledge_reply (f ws h)), keeps_words c d _ _ _ e k)
 
-pub written_words : (c : Core) (place token : ℕ) (x : WrittenBack) (a : Answered) (w : Writes) (wr : Writing) → a ≡ simply x.answer → w ≡ no_writes → wr ≡ marked_only x.marking
+pub written_words : (c : Core) (place token : ℕ) (x : WrittenBack) (a : (Result Answered Refusal)) (w : Writes) (wr : Writing) → a ≡ simply x.answer → w ≡ no_writes → wr ≡ marked_only x.marking
     → ((ws : List ℕ) → Good c.settings c.rest ws → (lent : Lengths) → accepts_of (view c ws) lent ≡ true → written_view c.settings x ws ≡ writeback_of (view c ws) lent place token)
     → x.rest ≡ c.rest → MarkingGood (pool_length c.settings) x.marking
     → ((ws : List ℕ) → Good c.settings c.rest ws → (lent : Lengths) → accepts_of (view c ws) lent ≡ true
@@ -115,13 +112,13 @@ written_words c place token x a w wr ea ew er f k g = (
 -- ---- the arms that are lent the slots
 
 module _ (c : Core) (ws ws' : List ℕ) where
-  pub drain_words : (command : ℕ) (x : Drainage) (d : Decided) → d ≡ replied_words x.rest (drained_answer x.answer) x.writes
+  pub drain_words : (command : ℕ) (x : (Settled Event)) (d : Decided) → d ≡ replied_words x.rest (drained_answer x.answer) x.writes
       → drained_view c.settings x ws' ≡ drain_of (view c ws) command → Tidy c.settings x.rest ws'
       → (decided_view c.settings d ws' ≡ drain_decided (view c ws) command) × Tidies c d ws'
   unfolding drain_decided
   drain_words command x d e f t = (left_view c.settings d _ _ _ ws' e ∙ ap drain_reply f, tidies_words c d _ _ _ e ws' t)
 
-  pub open_words_lem : (h h' : List ℕ) (y : EndpointFields) (x : EndpointOpening) (d : Decided) → d ≡ replied_words x.rest (opened_answer x.answer) no_writes
+  pub open_words_lem : (h h' : List ℕ) (y : EndpointFields) (x : (Left ℕ)) (d : Decided) → d ≡ replied_words x.rest (opened_answer x.answer) no_writes
       → ((pool frames setups : ℕ) → rows_are_fit c.settings pool (length h) frames setups ≡ true
       → open_left (opened_view c.settings x ws') h' ≡ open_endpoint_of (view c ws) pool h frames setups y.kind y.address y.number y.packet)
       → Tidy c.settings x.rest ws'
@@ -134,7 +131,7 @@ module _ (c : Core) (ws ws' : List ℕ) where
   )
 
   module _ (h f h' f' : List ℕ) where
-    pub cancel_words : (y : Readings) (k id : ℕ) (x : Cancellation) (d : Decided) → d ≡ replied_words x.rest (simply x.answer) x.writes
+    pub cancel_words : (y : Readings) (k id : ℕ) (x : (Settled ⊤)) (d : Decided) → d ≡ replied_words x.rest (simply x.answer) x.writes
         → ((pool setups : ℕ) → rows_are_fit c.settings pool (length h) (length f) setups ≡ true
         → left (cancelled_view c.settings x ws') h' f' ≡ cancel_of (view c ws) pool h f setups y k id)
         → Tidy c.settings x.rest ws'
@@ -146,7 +143,7 @@ module _ (c : Core) (ws ws' : List ℕ) where
       tidies_words c d _ _ _ e ws' t,
     )
 
-    pub collect_words : (y : Readings) (v : View) (k id : ℕ) (x : Collection) (d : Decided) → d ≡ replied_words x.rest (collected_answer x.answer) x.writes
+    pub collect_words : (y : Readings) (v : View) (k id : ℕ) (x : (Settled Collected)) (d : Decided) → d ≡ replied_words x.rest (collected_answer x.answer) x.writes
         → ((pool setups : ℕ) → rows_are_fit c.settings pool (length h) (length f) setups ≡ true
         → gathered (collected_view c.settings x ws') h' f' ≡ collect_of (view c ws) pool h f setups y v k id)
         → Tidy c.settings x.rest ws'
@@ -158,7 +155,7 @@ module _ (c : Core) (ws ws' : List ℕ) where
       tidies_words c d _ _ _ e ws' t,
     )
 
-    pub submit_words : (u u' : List ℕ) (y : Readings) (k : ℕ) (t : TransferRequest) (x : Submitted) (a : Answered) (wr : Writing) → a ≡ submitted_answer x.answer → wr ≡ laid_only x.laying
+    pub submit_words : (u u' : List ℕ) (y : Readings) (k : ℕ) (t : TransferRequest) (x : Submitted) (a : (Result Answered Refusal)) (wr : Writing) → a ≡ submitted_answer x.answer → wr ≡ laid_only x.laying
         → ((pool : ℕ) → rows_are_fit c.settings pool (length h) (length f) (length u) ≡ true
         → submitted (submitted_view c.settings x ws') h' f' u' ≡ submit_of (view c ws) pool h f u y k t)
         → Tidy c.settings x.rest ws' → LayingGood (pool_length c.settings) x.laying
@@ -181,15 +178,15 @@ module _ (c : Core) (d : Decided) (ws : List ℕ) where
   unfolding brought_reply
   brought_view_lem b y e f = left_view c.settings d _ _ _ ws e ∙ ap brought_reply f
 
-  pub settled_view_lem : (x : Settled) (y : SettledPlain) → d ≡ settled_words x → settled_view c.settings x ws ≡ y → decided_view c.settings d ws ≡ settled_reply y
+  pub settled_view_lem : (x : (Settled ⊤)) (y : SettledPlain) → d ≡ settled_words x → settled_view c.settings x ws ≡ y → decided_view c.settings d ws ≡ settled_reply y
   unfolding settled_reply
   settled_view_lem x y e f = left_view c.settings d _ _ _ ws e ∙ ap settled_reply f
 
-  pub slot_view : (x : Change) (y : ChangePlain) → d ≡ changed_words x → changed_view c.settings x ws ≡ y → decided_view c.settings d ws ≡ changed_reply y
+  pub slot_view : (x : (Left ⊤)) (y : ChangePlain) → d ≡ changed_words x → changed_view c.settings x ws ≡ y → decided_view c.settings d ws ≡ changed_reply y
   unfolding changed_reply
   slot_view x y e f = left_view c.settings d _ _ _ ws e ∙ ap changed_reply f
 
-  pub changed_view_lem : (h : List ℕ) (x : Change) (y : ChangeLeft) → d ≡ changed_words x → change_left (changed_view c.settings x ws) h ≡ y
+  pub changed_view_lem : (h : List ℕ) (x : (Left ⊤)) (y : ChangeLeft) → d ≡ changed_words x → change_left (changed_view c.settings x ws) h ≡ y
       → heads_came (decided_view c.settings d ws) h ≡ change_came y
   unfolding changed_reply
   changed_view_lem h x y e f = change_came_lem (decided_view c.settings d ws) (changed_view c.settings x ws) h y (left_view c.settings d _ _ _ ws e) f

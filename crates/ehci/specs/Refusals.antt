@@ -1,6 +1,6 @@
 -- Document 01, "Numbers a call answers": "0, 9, 10 and 11 are results; the rest are refusals and leave all as before, but 7 leaves the controller not running, registers as written."
 -- And of any answer: "its register writes, at most 6".
-use Rattle.std.specs.Prelude.{◌≡◌, ℕ, ◌≤◌, ◌≢◌, List}
+use Rattle.std.specs.Prelude.{◌≡◌, ℕ, ◌≤◌, ◌≢◌, List, Err}
 use Rattle.register.specs.Writes.{no_writes}
 use Rattle.descriptor.specs.declared.qtd.QueueTransferDescriptor.{QueueTransferDescriptor}
 use Rattle.state.specs.State.{with_bring_up}
@@ -8,7 +8,6 @@ use Rattle.state.specs.Plain.{Ehci}
 use Rattle.common.specs.declared.answer.Refusal.{Refusal}
 use Rattle.common.specs.declared.answer.Refusal.TheVariants.{InvalidParameter, SlotLimitReached, InvalidEndpoint, QueueFull, NotSupported, NoMemory, Timeout, NotReady}
 use Rattle.ehci.specs.declared.call.Call.{Call}
-use Rattle.ehci.specs.declared.reply.Answered.TheVariants.{Refused}
 use Rattle.ehci.specs.Replies.{answered_number}
 use Rattle.ehci.specs.Door.{Applied, applied, apply_of}
 
@@ -29,13 +28,13 @@ left_by NotReady s = s
 -- all that a refused call leaves: no write, and every row as it was
 abbrev pub refused_world : Ehci → List QueueTransferDescriptor → List ℕ → List ℕ → List ℕ → Refusal → Applied
 refused_world s pool heads frames setups r =
-    applied (record { state = left_by r s; answer = Refused r; writes = no_writes }) pool heads frames setups
+    applied (record { state = left_by r s; answer = Err r; writes = no_writes }) pool heads frames setups
 
 -- a refusal fixes everything, whatever the state, the rows and the call
 abbrev pub RefusalsKeep : Type 0
 RefusalsKeep =
     (s : Ehci) (pool : List QueueTransferDescriptor) (heads frames setups : List ℕ) (call : Call) (r : Refusal)
-    → (apply_of s pool heads frames setups call).reply.answer ≡ Refused r
+    → (apply_of s pool heads frames setups call).reply.answer ≡ Err r
     → apply_of s pool heads frames setups call ≡ refused_world s pool heads frames setups r
 
 -- ---- the same by 01's numbers

@@ -1,5 +1,5 @@
 -- What a call looks at and decides on a state in words.
-use Rattle.std.specs.Prelude.{◌≡◌, ℕ, Bool, true, false, cond, List, [], ◌∷◌}
+use Rattle.std.specs.Prelude.{◌≡◌, ℕ, Bool, true, false, cond, List, [], ◌∷◌, Err, Result, ⊤}
 use Rattle.bitset.specs.Places.{set_places}
 use Rattle.register.specs.Writes.{no_writes}
 use Rattle.register.specs.declared.writes.Writes.{Writes}
@@ -19,19 +19,18 @@ use Rattle.words.specs.declared.cores.Rest.{Rest}
 use Rattle.words.specs.Good.{Tidy}
 use Rattle.words.specs.View.{view}
 use Rattle.bring_up.specs.declared.answers.BroughtUp.{BroughtUp}
-use Rattle.endpoint.specs.declared.calls.Change.{Change}
-use Rattle.interrupt.specs.declared.answers.Settled.{Settled}
 use Rattle.request.specs.Words.{laying_chain, marking_chain}
 use Rattle.collection.specs.Words.{ask_view}
 use Rattle.ehci.specs.declared.call.Call.{Call}
-use Rattle.ehci.specs.declared.reply.Answered.{Answered}
-use Rattle.ehci.specs.declared.reply.Answered.TheVariants.{Refused}
 use Rattle.ehci.specs.Plain.{Decided}
 use Rattle.ehci.specs.declared.look.Looked.{Looked}
 use Rattle.ehci.specs.declared.reply.Decided.{Decided as DecidedWords}
 use Rattle.ehci.specs.Decides.{Outcome, asks_of, came, decide_of}
 use Rattle.ehci.specs.WordsDoor.{accepts_words, reply_view}
 use Rattle.ehci.specs.Replies.{brought_answer, refused_reply, simply}
+use Rattle.controller.specs.declared.left.Left.{Left}
+use Rattle.controller.specs.declared.left.Settled.{Settled}
+use Rattle.ehci.specs.declared.reply.Answered.{Answered}
 
 -- ---- what is left, as the state that the words stand for
 
@@ -71,17 +70,17 @@ pub record Tidies (c : Core) (d : DecidedWords) (ws : List ℕ) : Type 0 where
 
 -- ---- replies over words
 
-abbrev pub replied_words : Rest → Answered → Writes → DecidedWords
+abbrev pub replied_words : Rest → Result Answered Refusal → Writes → DecidedWords
 replied_words rest answer writes =
     record { reply = record { rest = rest; answer = answer; writes = writes }; writing = no_writing }
 
 abbrev pub refused_reply_words : Rest → Refusal → DecidedWords
-refused_reply_words rest r = replied_words rest (Refused r) no_writes
+refused_reply_words rest r = replied_words rest (Err r) no_writes
 
-abbrev pub changed_words : Change → DecidedWords
+abbrev pub changed_words : Left ⊤ → DecidedWords
 changed_words c = replied_words c.rest (simply c.answer) no_writes
 
-abbrev pub settled_words : Settled → DecidedWords
+abbrev pub settled_words : Settled ⊤ → DecidedWords
 settled_words x = replied_words x.rest (simply x.answer) x.writes
 
 abbrev pub brought_words : BroughtUp → DecidedWords

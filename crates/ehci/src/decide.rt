@@ -12,11 +12,7 @@ ghost use Rattle.ehci.specs.WordsDecides.{Keeps, Tidies, Writable, decide_words,
 ghost use Rattle.ehci.specs.WordsDoor.{Judged, WordsAfter};
 
 use crate::call::{Call, EndpointFields, InterruptReadings};
-use crate::reply::{
-    Decided, Reply, acknowledged_answer, allotted_answer, collected_answer, drained_answer, laid,
-    leave, marked, of_brought_up, of_change, of_settled, opened_answer, refused, simple,
-    submitted_answer,
-};
+use crate::reply::{Decided, Reply, acknowledged_answer, allotted_answer, collected_answer, drained_answer, laid, leave, marked, of_brought_up, of_change, of_settled, opened_answer, refused, simple, submitted_answer};
 use bring_up::calls::{start, step};
 use collection::calls::{cancel, collect};
 use common::answer::Refusal;

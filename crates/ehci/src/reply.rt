@@ -5,26 +5,14 @@ ghost use Rattle.ehci.specs.Replies.{answered_number, event_number, simply, open
 
 use bring_up::answers::BroughtUp;
 use collection::collected::Collected;
-use common::answer::{Answer, Refusal};
-use common::reads::NextRead;
-use controller::calls::Allotted;
-use endpoint::calls::{Change, Opened};
-use interrupt::answers::{Acknowledged, Drained, Settled};
+use common::answer::Refusal;
 use pool::laying::{Laying, no_laying};
 use pool::marking::{Marking, no_marking};
 use pool::writing::{Writing, no_writing};
 use register::writes::Writes;
-use request::answers::Submission;
 use words::cores::Rest;
-
-// What a drain came to.
-#[derive(Clone, Copy)]
-pub enum Event {
-    Nothing,
-    PortChange,
-    TransferActivity,
-    Stopped,
-}
+use controller::left::{Left, Settled};
+use interrupt::answers::Event;
 
 // What goes with the number 0.
 #[derive(Clone, Copy)]
@@ -39,7 +27,7 @@ pub enum Given {
     Yes,
     Event(Event),
     // The register to read next, after so many milliseconds.
-    Next(NextRead, u32),
+    Next(Option<u32>, u32),
 }
 
 #[derive(Clone, Copy)]
@@ -48,27 +36,25 @@ pub enum Answered {
     Pending,
     Cancelled,
     Failed(u32),
-    Refused(Refusal),
 }
 
-impl Answered {
-    pub fn number(self) -> u8
-        ensures { result ≡ answered_number self }
-    {
-        match self {
-            Answered::Done(_) => 0,
-            Answered::Pending => 9,
-            Answered::Cancelled => 10,
-            Answered::Failed(_) => 11,
-            Answered::Refused(refusal) => refusal.number(),
-        }
+// The number of an answer, by document 01's table.
+pub fn answered_number(answer: Result<Answered, Refusal>) -> u8
+    ensures { result ≡ answered_number answer }
+{
+    match answer {
+        Ok(Answered::Done(_)) => 0,
+        Ok(Answered::Pending) => 9,
+        Ok(Answered::Cancelled) => 10,
+        Ok(Answered::Failed(_)) => 11,
+        Err(refusal) => refusal.number(),
     }
 }
 
 #[derive(Clone, Copy)]
 pub struct Reply {
     pub rest: Rest,
-    pub answer: Answered,
+    pub answer: Result<Answered, Refusal>,
     pub writes: Writes,
 }
 
@@ -91,82 +77,82 @@ pub fn event_number(event: Event) -> u64
     }
 }
 
-pub fn simple(answer: Answer) -> Answered
+pub fn simple(answer: Result<(), Refusal>) -> Result<Answered, Refusal>
     ensures { result ≡ simply answer }
 {
     match answer {
-        Answer::Done => Answered::Done(Given::Nothing),
-        Answer::Refused(refusal) => Answered::Refused(refusal),
+        Ok(()) => Ok(Answered::Done(Given::Nothing)),
+        Err(refusal) => Err(refusal),
     }
 }
 
-pub fn opened_answer(answer: Opened) -> Answered
+pub fn opened_answer(answer: Result<u8, Refusal>) -> Result<Answered, Refusal>
     ensures { result ≡ opened_answer answer }
 {
     match answer {
-        Opened::Slot(slot) => Answered::Done(Given::Slot(slot)),
-        Opened::Refused(refusal) => Answered::Refused(refusal),
+        Ok(slot) => Ok(Answered::Done(Given::Slot(slot))),
+        Err(refusal) => Err(refusal),
     }
 }
 
-pub fn allotted_answer(answer: Allotted) -> Answered
+pub fn allotted_answer(answer: Result<u8, Refusal>) -> Result<Answered, Refusal>
     ensures { result ≡ allotted_answer answer }
 {
     match answer {
-        Allotted::Address(address) => Answered::Done(Given::Address(address)),
-        Allotted::Refused(refusal) => Answered::Refused(refusal),
+        Ok(address) => Ok(Answered::Done(Given::Address(address))),
+        Err(refusal) => Err(refusal),
     }
 }
 
-pub fn submitted_answer(answer: Submission) -> Answered
+pub fn submitted_answer(answer: Result<u64, Refusal>) -> Result<Answered, Refusal>
     ensures { result ≡ submitted_answer answer }
 {
     match answer {
-        Submission::Accepted(id) => Answered::Done(Given::Id(id)),
-        Submission::Refused(refusal) => Answered::Refused(refusal),
+        Ok(id) => Ok(Answered::Done(Given::Id(id))),
+        Err(refusal) => Err(refusal),
     }
 }
 
-pub fn collected_answer(answer: Collected) -> Answered
+pub fn collected_answer(answer: Result<Collected, Refusal>) -> Result<Answered, Refusal>
     ensures { result ≡ collected_answer answer }
 {
     match answer {
-        Collected::Complete(done) => Answered::Done(Given::Length(done.length, done.retried)),
-        Collected::Pending => Answered::Pending,
-        Collected::Cancelled => Answered::Cancelled,
-        Collected::Failed(token) => Answered::Failed(token),
-        Collected::Refused(refusal) => Answered::Refused(refusal),
+        Ok(Collected::Complete(done)) => Ok(Answered::Done(Given::Length(done.length, done.retried))),
+        Ok(Collected::Pending) => Ok(Answered::Pending),
+        Ok(Collected::Cancelled) => Ok(Answered::Cancelled),
+        Ok(Collected::Failed(token)) => Ok(Answered::Failed(token)),
+        Err(refusal) => Err(refusal),
     }
 }
 
-pub fn acknowledged_answer(answer: Acknowledged) -> Answered
+pub fn acknowledged_answer(answer: Result<bool, Refusal>) -> Result<Answered, Refusal>
     ensures { result ≡ acknowledged_answer answer }
 {
     match answer {
-        Acknowledged::No => Answered::Done(Given::No),
-        Acknowledged::Yes => Answered::Done(Given::Yes),
-        Acknowledged::Refused(refusal) => Answered::Refused(refusal),
+        Ok(false) => Ok(Answered::Done(Given::No)),
+        Ok(true) => Ok(Answered::Done(Given::Yes)),
+        Err(refusal) => Err(refusal),
     }
 }
 
-pub fn drained_answer(answer: Drained) -> Answered
+pub fn drained_answer(answer: Result<Event, Refusal>) -> Result<Answered, Refusal>
     ensures { result ≡ drained_answer answer }
 {
     match answer {
-        Drained::Nothing => Answered::Done(Given::Event(Event::Nothing)),
-        Drained::PortChange => Answered::Done(Given::Event(Event::PortChange)),
-        Drained::TransferActivity => Answered::Done(Given::Event(Event::TransferActivity)),
-        Drained::Stopped => Answered::Done(Given::Event(Event::Stopped)),
-        Drained::Refused(refusal) => Answered::Refused(refusal),
+        Ok(Event::Nothing) => Ok(Answered::Done(Given::Event(Event::Nothing))),
+        Ok(Event::PortChange) => Ok(Answered::Done(Given::Event(Event::PortChange))),
+        Ok(Event::TransferActivity) => Ok(Answered::Done(Given::Event(Event::TransferActivity))),
+        Ok(Event::Stopped) => Ok(Answered::Done(Given::Event(Event::Stopped))),
+        Err(refusal) => Err(refusal),
     }
 }
 
-pub fn brought_answer(answer: Answer, read: NextRead, wait: u32) -> Answered
+pub fn brought_answer(answer: Result<(), Refusal>, read: Option<u32>, wait: u32) -> Result<Answered, Refusal>
     ensures { result ≡ brought_answer answer read wait }
 {
     match answer {
-        Answer::Done => Answered::Done(Given::Next(read, wait)),
-        Answer::Refused(refusal) => Answered::Refused(refusal),
+        Ok(()) => Ok(Answered::Done(Given::Next(read, wait))),
+        Err(refusal) => Err(refusal),
     }
 }
 
@@ -191,7 +177,7 @@ pub fn marked(marking: Marking) -> Writing
 }
 
 // Nothing of the pool is written.
-pub fn leave(rest: Rest, answer: Answered, writes: Writes) -> Decided
+pub fn leave(rest: Rest, answer: Result<Answered, Refusal>, writes: Writes) -> Decided
     ensures { result ≡ replied_words rest answer writes }
 {
     Decided {
@@ -207,10 +193,10 @@ pub fn leave(rest: Rest, answer: Answered, writes: Writes) -> Decided
 pub fn refused(rest: Rest, refusal: Refusal) -> Decided
     ensures { result ≡ refused_reply_words rest refusal }
 {
-    leave(rest, Answered::Refused(refusal), Writes::none())
+    leave(rest, Err(refusal), Writes::none())
 }
 
-pub fn of_change(c: Change) -> Decided
+pub fn of_change(c: Left<()>) -> Decided
     ensures { result ≡ changed_words c }
 {
     let answer = c.answer;
@@ -218,7 +204,7 @@ pub fn of_change(c: Change) -> Decided
     leave(rest, simple(answer), Writes::none())
 }
 
-pub fn of_settled(x: Settled) -> Decided
+pub fn of_settled(x: Settled<()>) -> Decided
     ensures { result ≡ settled_words x }
 {
     let answer = x.answer;

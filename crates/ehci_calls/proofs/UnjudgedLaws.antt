@@ -1,5 +1,5 @@
 -- What a call that is lent the core alone leaves unjudged: a core in its ranges with every slot closed is in its ranges, so the call decides.
-use Rattle.std.specs.Prelude.{◌≡◌, ℕ, ◌+◌, ◌*◌, ◌<◌, Bool, true, false, eqb, List, length}
+use Rattle.std.specs.Prelude.{◌≡◌, ℕ, ◌+◌, ◌*◌, ◌<◌, Bool, true, false, eqb, List, length, Ok}
 use mathlib.Core.Path.{refl, ap, ◌∙◌}
 use native.Mathlib.Omega.{arith}
 use Rattle.descriptor.specs.declared.qtd.QueueTransferDescriptor.{QueueTransferDescriptor as Record}
@@ -22,14 +22,13 @@ use Rattle.word_ranges.proofs.CoreLaws.{core_ranges}
 use Rattle.word_ranges.proofs.OwnerLaws.{owners_good}
 use Rattle.interrupt.specs.Interrupts.{acknowledge_of}
 use Rattle.interrupt.specs.Words.{acknowledged_view}
-use Rattle.interrupt.specs.declared.answers.Acknowledged.TheVariants.{Yes}
 use Rattle.interrupt.specs.Plain.{Acknowledgement as AcknowledgementPlain}
-use Rattle.interrupt.specs.declared.answers.Acknowledgement.{Acknowledgement}
 use Rattle.direct_calls.specs.Refusals.{refused_acknowledgement}
 use Rattle.direct_calls.specs.Shapes.{CoreCall, takes_core}
 use Rattle.ehci.specs.declared.call.Call.{Call}
 use Rattle.ehci.specs.WordsDoor.{accepts_words, apply_words}
 use Rattle.ehci_calls.specs.Arms.{Unjudged}
+use Rattle.controller.specs.declared.left.Settled.{Settled}
 
 -- ---- a core in its ranges, with every slot closed, is in its ranges
 
@@ -81,9 +80,9 @@ module _ (c : Core) where
         record { door_refuses = rw no; call_decides = does.decided row (closed_ranges e) }
 
   -- an interrupt is acknowledged, whatever the rows are
-  pub acknowledge_unjudged : takes_core c ≡ true → (r : Acknowledgement) (status interrupts : ℕ) (flag again : Bool)
+  pub acknowledge_unjudged : takes_core c ≡ true → (r : (Settled Bool)) (status interrupts : ℕ) (flag again : Bool)
       → CoreCall c r (refused_acknowledgement c.rest) r.rest (acknowledged_view c.settings r) (λ s. acknowledge_of s status interrupts flag again)
-      → eqb (only_bits status 0x37) 0 ≡ false → r.answer ≡ Yes
+      → eqb (only_bits status 0x37) 0 ≡ false → r.answer ≡ (Ok true)
   unfolding acknowledge_of
   acknowledge_unjudged e r status interrupts flag again does some =
       ap (λ (x : AcknowledgementPlain). x.answer) (does.decided row (closed_ranges e)) ∙ rw (closed_ranges e, some)

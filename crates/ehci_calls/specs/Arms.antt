@@ -1,6 +1,6 @@
 -- The fourteen calls that are made directly, held to the door: each leaves what `apply` leaves of its `Call`, where `apply` accepts the words and
 -- where the call refuses what it is lent. Between the two `apply` refuses what the call is not lent, and so does not judge.
-use Rattle.std.specs.Prelude.{◌≡◌, ℕ, Bool, true, false, List, length}
+use Rattle.std.specs.Prelude.{◌≡◌, ℕ, Bool, true, false, List, length, ⊤}
 use Rattle.common.specs.declared.answer.Refusal.TheVariants.{InvalidParameter}
 use Rattle.register.specs.Writes.{no_writes}
 use Rattle.descriptor.specs.declared.qtd.QueueTransferDescriptor.{QueueTransferDescriptor}
@@ -8,11 +8,6 @@ use Rattle.state.specs.Plain.{Ehci}
 use Rattle.words.specs.declared.cores.Core.{Core}
 use Rattle.words.specs.Opened.{opened_row}
 use Rattle.words.specs.View.{view}
-use Rattle.controller.specs.declared.calls.Allotment.{Allotment}
-use Rattle.endpoint.specs.declared.calls.EndpointOpening.{EndpointOpening}
-use Rattle.collection.specs.declared.answers.Cancellation.{Cancellation}
-use Rattle.interrupt.specs.declared.answers.Acknowledgement.{Acknowledgement}
-use Rattle.interrupt.specs.declared.answers.Drainage.{Drainage}
 use Rattle.direct_calls.specs.Shapes.{takes_core, takes_frames, takes_heads, takes_slots}
 use Rattle.ehci.specs.declared.call.Call.{Call}
 use Rattle.ehci.specs.declared.reply.Reply.{Reply}
@@ -20,22 +15,25 @@ use Rattle.ehci.specs.Door.{applied}
 use Rattle.ehci.specs.Replies.{acknowledged_answer, allotted_answer, drained_answer, opened_answer, refused_reply, simply}
 use Rattle.ehci.specs.WordsDecides.{replied_words}
 use Rattle.ehci.specs.WordsDoor.{accepts_words, apply_words, reply_view}
+use Rattle.controller.specs.declared.left.Left.{Left}
+use Rattle.controller.specs.declared.left.Settled.{Settled}
+use Rattle.interrupt.specs.declared.answers.Event.{Event}
 
 -- ---- what a call returns, as the door's reply; that of the others is `changed_words`, `settled_words`, `brought_words`
 
-abbrev pub allotted_reply : Allotment → Reply
+abbrev pub allotted_reply : Left ℕ → Reply
 allotted_reply x = (replied_words x.rest (allotted_answer x.answer) no_writes).reply
 
-abbrev pub opened_reply : EndpointOpening → Reply
+abbrev pub opened_reply : Left ℕ → Reply
 opened_reply x = (replied_words x.rest (opened_answer x.answer) no_writes).reply
 
-abbrev pub cancelled_reply : Cancellation → Reply
+abbrev pub cancelled_reply : Settled ⊤ → Reply
 cancelled_reply x = (replied_words x.rest (simply x.answer) x.writes).reply
 
-abbrev pub acknowledged_reply : Acknowledgement → Reply
+abbrev pub acknowledged_reply : Settled Bool → Reply
 acknowledged_reply x = (replied_words x.rest (acknowledged_answer x.answer) x.writes).reply
 
-abbrev pub drained_reply : Drainage → Reply
+abbrev pub drained_reply : Settled Event → Reply
 drained_reply x = (replied_words x.rest (drained_answer x.answer) x.writes).reply
 
 -- ---- a call is an arm of `apply`

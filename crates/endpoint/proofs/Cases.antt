@@ -1,5 +1,5 @@
 -- The returns of the calls on endpoints, and what they may count on.
-use Rattle.std.specs.Prelude.{◌≡◌, ℕ, ◌+◌, ◌*◌, ◌<◌, ◌≤◌, max, Bool, true, false, not, ◌&&◌, ◌||◌, eqb, leb, List, length, replicate}
+use Rattle.std.specs.Prelude.{◌≡◌, ℕ, ◌+◌, ◌*◌, ◌<◌, ◌≤◌, max, Bool, true, false, not, ◌&&◌, ◌||◌, eqb, leb, List, length, replicate, Err, Ok, Result, ⊤}
 use mathlib.Core.Path.{refl, sym, ap, ◌∙◌}
 use borrow.Author.Tests.{leb-false, leb-true, not-false}
 use Rattle.common.specs.declared.kinds.EndpointType.{EndpointType}
@@ -7,8 +7,6 @@ use Rattle.common.specs.declared.kinds.EndpointType.TheVariants.{Control, Isochr
 use Rattle.descriptor.specs.Heads.{endpoint_head, with_address, with_packet_size, words_of}
 use Rattle.common.proofs.TestLaws.{every_3, both_tells}
 use Rattle.state.specs.Plain.{Ehci}
-use Rattle.common.specs.declared.answer.Answer.{Answer}
-use Rattle.common.specs.declared.answer.Answer.TheVariants.{Done, Refused as RefusedCall}
 use Rattle.common.specs.declared.answer.Refusal.{Refusal}
 use Rattle.common.specs.declared.answer.Refusal.TheVariants.{InvalidParameter, SlotLimitReached, InvalidEndpoint, QueueFull, NotSupported}
 use Rattle.pipe.specs.declared.endpoints.Endpoint.TheVariants.{Closed, Idle}
@@ -23,28 +21,26 @@ use Rattle.controller.specs.Lent.{accepts_of, lengths}
 use Rattle.controller.specs.Readers.{is_opened, is_uncollected}
 use Rattle.opening.specs.Heads.{head_word, with_head_word}
 use Rattle.common.proofs.CheckLaws.{let_pass, verdict_of}
-use Rattle.endpoint.specs.declared.calls.Opened.{Opened}
-use Rattle.endpoint.specs.declared.calls.Opened.TheVariants.{Slot, Refused}
 use Rattle.endpoint.specs.Calls.{change_left, change_of, chosen_of, close_of, fields_good, slot_verdict, lowest_slot, new_endpoint, open_checks, open_endpoint_of, open_left, raised_good, set_address_of, set_packet_size_of, slot_checks, with_head, with_size}
 use Rattle.endpoint.proofs.SlotLaws.{below_room, open_room}
 
 -- ---- verdicts
 
-verdict_there : (v : Verdict) → verdict_of (settle v RefusedCall Done) ≡ v
+verdict_there : (v : Verdict) → verdict_of (settle v Err (Ok tt)) ≡ v
 verdict_there Verdict.passed = refl
 verdict_there (Verdict.refused r) = refl
 
-abbrev pub open_verdict : Opened → Verdict
-open_verdict (Slot k) = Verdict.passed
-open_verdict (Refused r) = Verdict.refused r
+abbrev pub open_verdict : Result ℕ Refusal → Verdict
+open_verdict (Ok k) = Verdict.passed
+open_verdict (Err r) = Verdict.refused r
 
-open_there : (v : Verdict) (k : ℕ) → open_verdict (settle v Refused (Slot k)) ≡ v
+open_there : (v : Verdict) (k : ℕ) → open_verdict (settle v Err (Ok k)) ≡ v
 open_there Verdict.passed k = refl
 open_there (Verdict.refused r) k = refl
 
-abbrev pub slot_of : Opened → ℕ
-slot_of (Slot k) = k
-slot_of (Refused r) = 0
+abbrev pub slot_of : Result ℕ Refusal → ℕ
+slot_of (Ok k) = k
+slot_of (Err r) = 0
 
 -- ---- open endpoint: what is asked
 
@@ -80,17 +76,17 @@ module _ (limit : ℕ) (kind : EndpointType) (a n p : ℕ) where
 -- ---- open endpoint: what is done
 
 module _ (s : Ehci) (pool : ℕ) (h : List ℕ) (f u : ℕ) (kind : EndpointType) (a n p : ℕ) (good : Bool)
-    (eg : good ≡ fields_good s.settings.limit kind a n p) (o : Opened) (eo : o ≡ chosen_of s (lengths pool (length h) f u) kind good) where
+    (eg : good ≡ fields_good s.settings.limit kind a n p) (o : (Result ℕ Refusal)) (eo : o ≡ chosen_of s (lengths pool (length h) f u) kind good) where
   chosen : open_verdict o ≡ first (open_checks s (lengths pool (length h) f u) kind good)
   unfolding chosen_of
   chosen = ap open_verdict eo ∙ open_there (first (open_checks s (lengths pool (length h) f u) kind good)) (lowest_slot s)
 
-  pub open_refused : (r : Refusal) → o ≡ Refused r
-      → open_left (record { answer = Refused r; state = s }) h ≡ open_endpoint_of s pool h f u kind a n p
+  pub open_refused : (r : Refusal) → o ≡ Err r
+      → open_left (record { answer = Err r; state = s }) h ≡ open_endpoint_of s pool h f u kind a n p
   unfolding open_endpoint_of
   open_refused r e = rw (← eg, sym chosen ∙ ap open_verdict e)
 
-  module _ (k : ℕ) (e : o ≡ Slot k) where
+  module _ (k : ℕ) (e : o ≡ Ok k) where
     went : first (open_checks s (lengths pool (length h) f u) kind good) ≡ Verdict.passed
     went = sym chosen ∙ ap open_verdict e
 
@@ -120,7 +116,7 @@ module _ (s : Ehci) (pool : ℕ) (h : List ℕ) (f u : ℕ) (kind : EndpointType
 
     pub open_done : (s' : Ehci) (h' : List ℕ) → s' ≡ with_endpoint s k (new_endpoint kind p)
         → h' ≡ with_head h k (words_of (endpoint_head kind a n p))
-        → open_left (record { answer = Slot k; state = s' }) h' ≡ open_endpoint_of s pool h f u kind a n p
+        → open_left (record { answer = Ok k; state = s' }) h' ≡ open_endpoint_of s pool h f u kind a n p
     unfolding open_endpoint_of
     open_done s' h' es eh = rw (es, eh, ← eg, went, slot_is)
 
@@ -128,22 +124,22 @@ module _ (s : Ehci) (pool : ℕ) (h : List ℕ) (f u : ℕ) (kind : EndpointType
 
 -- ---- close, set address, set packet size: what is done
 
-module _ (s : Ehci) (pool : ℕ) (h : List ℕ) (f u k : ℕ) (good : Bool) (a : Answer)
+module _ (s : Ehci) (pool : ℕ) (h : List ℕ) (f u k : ℕ) (good : Bool) (a : (Result ⊤ Refusal))
     (ea : a ≡ slot_verdict s (lengths pool (length h) f u) k good) where
   judged : verdict_of a ≡ first (slot_checks s (lengths pool (length h) f u) k good)
   unfolding slot_verdict
   judged = ap verdict_of ea ∙ verdict_there (first (slot_checks s (lengths pool (length h) f u) k good))
 
-  pub change_refused : (r : Refusal) (s' : Ehci) (h' : List ℕ) → a ≡ RefusedCall r
-      → change_left (record { answer = RefusedCall r; state = s }) h ≡ change_of s pool h f u k good s' h'
+  pub change_refused : (r : Refusal) (s' : Ehci) (h' : List ℕ) → a ≡ Err r
+      → change_left (record { answer = Err r; state = s }) h ≡ change_of s pool h f u k good s' h'
   change_refused r s' h' e = rw (sym judged ∙ ap verdict_of e)
 
-  pub change_done : (s' : Ehci) (h' : List ℕ) → a ≡ Done
-      → change_left (record { answer = Done; state = s' }) h' ≡ change_of s pool h f u k good s' h'
+  pub change_done : (s' : Ehci) (h' : List ℕ) → a ≡ (Ok tt)
+      → change_left (record { answer = Ok tt; state = s' }) h' ≡ change_of s pool h f u k good s' h'
   change_done s' h' e = rw (sym judged ∙ ap verdict_of e)
 
   -- every check let it pass
-  pub change_passed : a ≡ Done
+  pub change_passed : a ≡ (Ok tt)
       → (accepts_of s (lengths pool (length h) f u) ≡ true) × (is_opened s k ≡ true) × (is_uncollected s k ≡ false) × (good ≡ true)
   unfolding slot_checks
   change_passed e =
@@ -157,43 +153,43 @@ module _ (s : Ehci) (pool : ℕ) (h : List ℕ) (f u k : ℕ) (good : Bool) (a :
         not-false good g.0,
       )
 
-  pub change_room : a ≡ Done → (k < 32) × (k + 1 ≤ 32) × (17 * (k + 1) + 17 ≤ length h)
+  pub change_room : a ≡ (Ok tt) → (k < 32) × (k + 1 ≤ 32) × (17 * (k + 1) + 17 ≤ length h)
   change_room e = open_room s pool h f u k (change_passed e).0 (change_passed e).1
 
-module _ (s : Ehci) (pool : ℕ) (h : List ℕ) (f u k : ℕ) (a : Answer) where
-  pub close_refused : (r : Refusal) → a ≡ slot_verdict s (lengths pool (length h) f u) k true → a ≡ RefusedCall r
-      → change_left (record { answer = RefusedCall r; state = s }) h ≡ close_of s pool h f u k
+module _ (s : Ehci) (pool : ℕ) (h : List ℕ) (f u k : ℕ) (a : (Result ⊤ Refusal)) where
+  pub close_refused : (r : Refusal) → a ≡ slot_verdict s (lengths pool (length h) f u) k true → a ≡ Err r
+      → change_left (record { answer = Err r; state = s }) h ≡ close_of s pool h f u k
   unfolding close_of
   close_refused r ea e = change_refused s pool h f u k true a ea r _ _ e
 
-  pub close_done : a ≡ slot_verdict s (lengths pool (length h) f u) k true → a ≡ Done → (s' : Ehci) (h' : List ℕ)
+  pub close_done : a ≡ slot_verdict s (lengths pool (length h) f u) k true → a ≡ (Ok tt) → (s' : Ehci) (h' : List ℕ)
       → s' ≡ with_endpoint s k Closed → h' ≡ with_head h k (replicate 17 0)
-      → change_left (record { answer = Done; state = s' }) h' ≡ close_of s pool h f u k
+      → change_left (record { answer = Ok tt; state = s' }) h' ≡ close_of s pool h f u k
   unfolding close_of
   close_done ea e s' h' es eh =
       rw (es, eh) (change_done s pool h f u k true a ea (with_endpoint s k Closed) (with_head h k (replicate 17 0)) e)
 
   module _ (x : ℕ) where
-    pub address_refused : (r : Refusal) → a ≡ slot_verdict s (lengths pool (length h) f u) k (leb x 127) → a ≡ RefusedCall r
-        → change_left (record { answer = RefusedCall r; state = s }) h ≡ set_address_of s pool h f u k x
+    pub address_refused : (r : Refusal) → a ≡ slot_verdict s (lengths pool (length h) f u) k (leb x 127) → a ≡ Err r
+        → change_left (record { answer = Err r; state = s }) h ≡ set_address_of s pool h f u k x
     unfolding set_address_of
     address_refused r ea e = change_refused s pool h f u k (leb x 127) a ea r _ _ e
 
-    pub address_done : a ≡ slot_verdict s (lengths pool (length h) f u) k (leb x 127) → a ≡ Done → (w : ℕ)
+    pub address_done : a ≡ slot_verdict s (lengths pool (length h) f u) k (leb x 127) → a ≡ (Ok tt) → (w : ℕ)
         → w ≡ with_address (head_word h (k + 1) 1) x
-        → change_left (record { answer = Done; state = s }) (with_head_word h (k + 1) 1 w) ≡ set_address_of s pool h f u k x
+        → change_left (record { answer = Ok tt; state = s }) (with_head_word h (k + 1) 1 w) ≡ set_address_of s pool h f u k x
     unfolding set_address_of
     address_done ea e w ew =
         rw ew (change_done s pool h f u k (leb x 127) a ea s (with_head_word h (k + 1) 1 (with_address (head_word h (k + 1) 1) x)) e)
 
-    pub size_refused : (r : Refusal) → a ≡ slot_verdict s (lengths pool (length h) f u) k (raised_good s k x) → a ≡ RefusedCall r
-        → change_left (record { answer = RefusedCall r; state = s }) h ≡ set_packet_size_of s pool h f u k x
+    pub size_refused : (r : Refusal) → a ≡ slot_verdict s (lengths pool (length h) f u) k (raised_good s k x) → a ≡ Err r
+        → change_left (record { answer = Err r; state = s }) h ≡ set_packet_size_of s pool h f u k x
     unfolding set_packet_size_of
     size_refused r ea e = change_refused s pool h f u k (raised_good s k x) a ea r _ _ e
 
-    pub size_done : a ≡ slot_verdict s (lengths pool (length h) f u) k (raised_good s k x) → a ≡ Done → (s' : Ehci) (w : ℕ)
+    pub size_done : a ≡ slot_verdict s (lengths pool (length h) f u) k (raised_good s k x) → a ≡ (Ok tt) → (s' : Ehci) (w : ℕ)
         → s' ≡ with_endpoint s k (Idle (with_size (pipe_of (slot_at s k)) (max x 8))) → w ≡ with_packet_size (head_word h (k + 1) 1) x
-        → change_left (record { answer = Done; state = s' }) (with_head_word h (k + 1) 1 w) ≡ set_packet_size_of s pool h f u k x
+        → change_left (record { answer = Ok tt; state = s' }) (with_head_word h (k + 1) 1 w) ≡ set_packet_size_of s pool h f u k x
     unfolding set_packet_size_of
     size_done ea e s' w es ew =
         rw (es, ew)

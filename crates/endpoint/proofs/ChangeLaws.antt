@@ -1,5 +1,5 @@
 -- Close, set address and set packet size: what an answer tells of the state before and of what is left.
-use Rattle.std.specs.Prelude.{◌≡◌, ℕ, ◌+◌, ◌*◌, ◌%◌, ◌<◌, ◌≤◌, max, Bool, true, false, leb, ◌≢◌, List, length, replicate}
+use Rattle.std.specs.Prelude.{◌≡◌, ℕ, ◌+◌, ◌*◌, ◌%◌, ◌<◌, ◌≤◌, max, Bool, true, false, leb, ◌≢◌, List, length, replicate, Err, Ok, Result, ⊤}
 use mathlib.Core.Path.{refl, sym, ap, subst, ◌∙◌}
 use native.Mathlib.Omega.{arith}
 use borrow.Author.Tests.{leb-true}
@@ -15,8 +15,6 @@ use Rattle.state.specs.Plain.{Ehci}
 use Rattle.state.specs.Slots.{slot_at}
 use Rattle.state.specs.Ranges.{in_ranges}
 use Rattle.state.proofs.RangesLaws.{ranges_make, ranges_tell}
-use Rattle.common.specs.declared.answer.Answer.{Answer}
-use Rattle.common.specs.declared.answer.Answer.TheVariants.{Done, Refused}
 use Rattle.common.specs.declared.answer.Refusal.{Refusal}
 use Rattle.pipe.specs.declared.endpoints.Endpoint.{Endpoint}
 use Rattle.pipe.specs.declared.endpoints.Endpoint.TheVariants.{Closed, Idle}
@@ -46,31 +44,31 @@ module _ (s : Ehci) (pool : ℕ) (h : List ℕ) (f u k : ℕ) where
 
   module _ (good : Bool) (s' : Ehci) (h' : List ℕ) where
     -- a call refuses and leaves all as it was, or does what it is for
-    pub change_by_lem : (P : ChangeLeft → Type 0) → ((r : Refusal) → P (change_left (record { answer = Refused r; state = s }) h))
-        → (Changes → good ≡ true → P (change_left (record { answer = Done; state = s' }) h'))
+    pub change_by_lem : (P : ChangeLeft → Type 0) → ((r : Refusal) → P (change_left (record { answer = Err r; state = s }) h))
+        → (Changes → good ≡ true → P (change_left (record { answer = Ok tt; state = s' }) h'))
         → P (change_of s pool h f u k good s' h')
     change_by_lem P denied done = by (slot_verdict s (lengths pool (length h) f u) k good) refl
       where
-        by : (a : Answer) → a ≡ slot_verdict s (lengths pool (length h) f u) k good → P (change_of s pool h f u k good s' h')
-        by Done e =
-            let t = change_passed s pool h f u k good Done e refl in
+        by : (a : (Result ⊤ Refusal)) → a ≡ slot_verdict s (lengths pool (length h) f u) k good → P (change_of s pool h f u k good s' h')
+        by (Ok tt) e =
+            let t = change_passed s pool h f u k good (Ok tt) e refl in
             let r = (accepts_tells s (lengths pool (length h) f u) t.0).ranges in
-            subst P (change_done s pool h f u k good Done e s' h' refl)
+            subst P (change_done s pool h f u k good (Ok tt) e s' h' refl)
             (done (record { accepted = t.0; is_open = t.1; is_idle_lem = t.2; below = open_within s k r t.1 }) t.3)
-        by (Refused r) e = subst P (change_refused s pool h f u k good (Refused r) e r s' h' refl) (denied r)
+        by (Err r) e = subst P (change_refused s pool h f u k good (Err r) e r s' h' refl) (denied r)
 
-    pub change_denied : (r : Refusal) → (change_of s pool h f u k good s' h').change.answer ≡ Refused r
+    pub change_denied : (r : Refusal) → (change_of s pool h f u k good s' h').change.answer ≡ Err r
         → ((change_of s pool h f u k good s' h').change.state ≡ s) × ((change_of s pool h f u k good s' h').heads ≡ h)
     change_denied =
-        change_by_lem (λ c. (r : Refusal) → c.change.answer ≡ Refused r → (c.change.state ≡ s) × (c.heads ≡ h))
+        change_by_lem (λ c. (r : Refusal) → c.change.answer ≡ Err r → (c.change.state ≡ s) × (c.heads ≡ h))
         (λ _ _ _. (refl, refl))
         (λ _ _ r e. absurd (answers_apart r (sym e)))
 
     -- what holds of what it is for holds where it answers 0
-    pub change_tells : (P : ChangeLeft → Type 0) → (Changes → good ≡ true → P (change_left (record { answer = Done; state = s' }) h'))
-        → (change_of s pool h f u k good s' h').change.answer ≡ Done → P (change_of s pool h f u k good s' h')
+    pub change_tells : (P : ChangeLeft → Type 0) → (Changes → good ≡ true → P (change_left (record { answer = Ok tt; state = s' }) h'))
+        → (change_of s pool h f u k good s' h').change.answer ≡ (Ok tt) → P (change_of s pool h f u k good s' h')
     change_tells P done =
-        change_by_lem (λ c. c.change.answer ≡ Done → P c)
+        change_by_lem (λ c. c.change.answer ≡ (Ok tt) → P c)
         (λ r e. absurd (answers_apart r e))
         (λ from g e. done from g)
 
@@ -86,7 +84,7 @@ module _ (s : Ehci) (pool : ℕ) (h : List ℕ) (f u k : ℕ) where
     pub only : Only (17 * (k + 1)) 17 h c.heads
 
   slot_closed : Changes
-      → SlotClosed (change_left (record { answer = Done; state = with_endpoint s k Closed }) (with_head h k (replicate 17 0)))
+      → SlotClosed (change_left (record { answer = Ok tt; state = with_endpoint s k Closed }) (with_head h k (replicate 17 0)))
   slot_closed from =
       let room = (open_room s pool h f u k from.accepted from.is_open).2 in
       record {
@@ -96,11 +94,11 @@ module _ (s : Ehci) (pool : ℕ) (h : List ℕ) (f u k : ℕ) where
         only = put_only h (17 * (k + 1)) (replicate 17 0) room;
       }
 
-  pub close_tells : (close_of s pool h f u k).change.answer ≡ Done → SlotClosed (close_of s pool h f u k)
+  pub close_tells : (close_of s pool h f u k).change.answer ≡ (Ok tt) → SlotClosed (close_of s pool h f u k)
   unfolding close_of
   close_tells e = change_tells true (with_endpoint s k Closed) (with_head h k (replicate 17 0)) SlotClosed (λ from _. slot_closed from) e
 
-  pub close_denied : (r : Refusal) → (close_of s pool h f u k).change.answer ≡ Refused r
+  pub close_denied : (r : Refusal) → (close_of s pool h f u k).change.answer ≡ Err r
       → ((close_of s pool h f u k).change.state ≡ s) × ((close_of s pool h f u k).heads ≡ h)
   unfolding close_of
   close_denied r e = change_denied true (with_endpoint s k Closed) (with_head h k (replicate 17 0)) r e
@@ -120,7 +118,7 @@ module _ (s : Ehci) (pool : ℕ) (h : List ℕ) (f u k : ℕ) where
       let room = (open_room s pool h f u k from.accepted from.is_open).0 in
       ranges_make (with_endpoint s k Closed) (endpoint_keeps s k (ranges_tell s e) w room Closed tt (λ le. refl)))
 
-  pub closed_endpoint : Wide s → (close_of s pool h f u k).change.answer ≡ Done
+  pub closed_endpoint : Wide s → (close_of s pool h f u k).change.answer ≡ (Ok tt)
       → endpoint_at (close_of s pool h f u k).change.state k ≡ Closed
   closed_endpoint w e =
       let t = close_tells e in
@@ -141,7 +139,7 @@ module _ (s : Ehci) (pool : ℕ) (h : List ℕ) (f u k : ℕ) where
     pub word : head_word c.heads (k + 1) 1 ≡ w
     pub only : Only (17 * (k + 1) + 1) 1 h c.heads
 
-  word_set : (w : ℕ) (s' : Ehci) → Changes → WordSet w (change_left (record { answer = Done; state = s' }) (with_head_word h (k + 1) 1 w))
+  word_set : (w : ℕ) (s' : Ehci) → Changes → WordSet w (change_left (record { answer = Ok tt; state = s' }) (with_head_word h (k + 1) 1 w))
   word_set w s' from =
       record {
         from = from;
@@ -156,7 +154,7 @@ module _ (s : Ehci) (pool : ℕ) (h : List ℕ) (f u k : ℕ) where
       (λ r. only_all (17 * (k + 1) + 1) 1 h) (λ from _. (word_set w s' from).only)
 
   module _ (a : ℕ) where
-    pub address_tells : (set_address_of s pool h f u k a).change.answer ≡ Done
+    pub address_tells : (set_address_of s pool h f u k a).change.answer ≡ (Ok tt)
         → (a ≤ 127) × WordSet (with_address (head_word h (k + 1) 1) a) (set_address_of s pool h f u k a)
     unfolding set_address_of
     address_tells e =
@@ -164,7 +162,7 @@ module _ (s : Ehci) (pool : ℕ) (h : List ℕ) (f u k : ℕ) where
         change_tells (leb a 127) s (with_head_word h (k + 1) 1 w) (λ c. (a ≤ 127) × WordSet w c)
         (λ from g. (leb-true a 127 g, word_set w s from)) e
 
-    pub address_denied : (r : Refusal) → (set_address_of s pool h f u k a).change.answer ≡ Refused r
+    pub address_denied : (r : Refusal) → (set_address_of s pool h f u k a).change.answer ≡ Err r
         → (set_address_of s pool h f u k a).heads ≡ h
     unfolding set_address_of
     address_denied r e = (change_denied (leb a 127) s (with_head_word h (k + 1) 1 (with_address (head_word h (k + 1) 1) a)) r e).1
@@ -237,13 +235,13 @@ module _ (s : Ehci) (pool : ℕ) (h : List ℕ) (f u k : ℕ) where
       pub good : OpenPipe s.settings.limit resized
       pub state_is : c.change.state ≡ sized
 
-    pub size_tells : (set_packet_size_of s pool h f u k x).change.answer ≡ Done → SizeSet (set_packet_size_of s pool h f u k x)
+    pub size_tells : (set_packet_size_of s pool h f u k x).change.answer ≡ (Ok tt) → SizeSet (set_packet_size_of s pool h f u k x)
     unfolding set_packet_size_of
     size_tells e =
         change_tells (raised_good s k x) sized (with_head_word h (k + 1) 1 word) SizeSet
         (λ from g. record { written = word_set word sized from; good = resized_good from x g; state_is = refl }) e
 
-    pub size_denied : (r : Refusal) → (set_packet_size_of s pool h f u k x).change.answer ≡ Refused r
+    pub size_denied : (r : Refusal) → (set_packet_size_of s pool h f u k x).change.answer ≡ Err r
         → ((set_packet_size_of s pool h f u k x).change.state ≡ s) × ((set_packet_size_of s pool h f u k x).heads ≡ h)
     unfolding set_packet_size_of
     size_denied r e = change_denied (raised_good s k x) sized (with_head_word h (k + 1) 1 word) r e
@@ -261,7 +259,7 @@ module _ (s : Ehci) (pool : ℕ) (h : List ℕ) (f u k : ℕ) where
         (endpoint_keeps s k (ranges_tell s e) w (room from) (Idle resized) (resized_good from x g)
         (λ le. let lt = from.below in absurd (omega arith))))
 
-    pub sized_endpoint : Wide s → (set_packet_size_of s pool h f u k x).change.answer ≡ Done
+    pub sized_endpoint : Wide s → (set_packet_size_of s pool h f u k x).change.answer ≡ (Ok tt)
         → endpoint_at (set_packet_size_of s pool h f u k x).change.state k ≡ Idle resized
     sized_endpoint w e =
         let t = size_tells e in rw t.state_is (endpoint_same s k (Idle resized) w (room t.written.from) tt)
@@ -280,7 +278,7 @@ module _ (s : Ehci) (pool : ℕ) (h : List ℕ) (f u k : ℕ) where
   was = head_word h (k + 1) 1
 
   -- the address that was asked, and every other field as before
-  pub address_fields : (a : ℕ) → (set_address_of s pool h f u k a).change.answer ≡ Done
+  pub address_fields : (a : ℕ) → (set_address_of s pool h f u k a).change.answer ≡ (Ok tt)
       → Characteristics (head_word (set_address_of s pool h f u k a).heads (k + 1) 1) a (inactivate_on_next was)
       (endpoint_number was) (endpoint_speed was) (toggle_control was) (head_of_list was) (maximum_packet_length was)
       (control_endpoint was) (nak_reload was)
@@ -296,7 +294,7 @@ module _ (s : Ehci) (pool : ℕ) (h : List ℕ) (f u k : ℕ) where
       (address_reads was a))
 
   -- the size raised to 8, and every other field as before
-  pub size_fields : (x : ℕ) → x < 256 → (set_packet_size_of s pool h f u k x).change.answer ≡ Done
+  pub size_fields : (x : ℕ) → x < 256 → (set_packet_size_of s pool h f u k x).change.answer ≡ (Ok tt)
       → Characteristics (head_word (set_packet_size_of s pool h f u k x).heads (k + 1) 1) (device_address was) (inactivate_on_next was)
       (endpoint_number was) (endpoint_speed was) (toggle_control was) (head_of_list was) (max x 8) (control_endpoint was)
       (nak_reload was)

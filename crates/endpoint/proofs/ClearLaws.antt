@@ -1,10 +1,9 @@
 -- Clear-halt: what an answer tells of the state before and of what is left.
-use Rattle.std.specs.Prelude.{◌≡◌, ℕ, ◌<◌, true, false, not}
+use Rattle.std.specs.Prelude.{◌≡◌, ℕ, ◌<◌, true, false, not, Err, Ok}
 use mathlib.Core.Path.{refl, sym, ap, ◌∙◌}
 use native.Mathlib.Omega.{arith}
 use borrow.Author.Tests.{not-false}
 use Rattle.common.specs.Answers.{Verdict, first}
-use Rattle.common.specs.declared.answer.Answer.TheVariants.{Done, Refused}
 use Rattle.common.specs.declared.answer.Refusal.{Refusal}
 use Rattle.common.specs.declared.answer.Refusal.TheVariants.{InvalidEndpoint, InvalidParameter, QueueFull}
 use Rattle.common.proofs.CheckLaws.{let_pass, settled_by}
@@ -38,8 +37,8 @@ module _ (s : Ehci) (k : ℕ) where
       record { ranged = not-false (in_ranges s) r.0; is_open = not-false (is_opened s k) o.0; is_idle_lem = c.0 }
 
   -- it either refuses and leaves the state as it was, or clears the toggle
-  pub clear_by : (P : Change → Type 0) → ((r : Refusal) → P (record { answer = Refused r; state = s }))
-      → (Clears → P (record { answer = Done; state = with_endpoint s k (Idle (with_toggle (pipe_of (slot_at s k)) false)) })) → P (clear_halt_of s k)
+  pub clear_by : (P : Change → Type 0) → ((r : Refusal) → P (record { answer = Err r; state = s }))
+      → (Clears → P (record { answer = Ok tt; state = with_endpoint s k (Idle (with_toggle (pipe_of (slot_at s k)) false)) })) → P (clear_halt_of s k)
   unfolding clear_halt_of
   clear_by P denied done = settled_by (first (clear_checks s k)) _ _ P (λ r e. denied r) (λ e. done (clears e))
 

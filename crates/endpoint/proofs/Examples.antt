@@ -1,5 +1,5 @@
 -- The definitions, run on a controller with two slots: whole outcomes, and the refusals in 01's order.
-use Rattle.std.specs.Prelude.{◌≡◌, ℕ, true, List}
+use Rattle.std.specs.Prelude.{◌≡◌, ℕ, true, List, Ok}
 use mathlib.Core.Path.{refl}
 use Rattle.register.specs.Bits.{without_bits}
 use Rattle.common.specs.declared.kinds.EndpointType.{EndpointType}
@@ -11,14 +11,12 @@ use Rattle.slot.specs.Ranges.{slot_good, size_kept, toggle_kept, size_good, phas
 use Rattle.state.specs.Plain.{Ehci}
 use Rattle.state.specs.Ranges.{in_ranges, rest_good, machine_good, interrupt_good, doorbell_good, owner_good, largest, slots_good}
 use Rattle.state.specs.Slots.{slot_at, with_slot}
-use Rattle.common.specs.declared.answer.Answer.TheVariants.{Done}
 use Rattle.common.specs.Answers.{number_of}
 use Rattle.controller.specs.Plain.{Lengths}
 use Rattle.pipe.specs.Endpoints.{decoded, endpoint_at, with_endpoint}
 use Rattle.controller.specs.Lent.{accepts_of}
 use Rattle.opening.specs.Opening.{fresh_state, rows_are_fit}
 use Rattle.common.specs.Rows.{put_at}
-use Rattle.endpoint.specs.declared.calls.Opened.TheVariants.{Slot}
 use Rattle.endpoint.specs.Lowest.{closed_from}
 use Rattle.endpoint.specs.Calls.{change_left, ChangeLeft, clear_halt_of, close_of, fields_good, open_checks, opened_number, open_endpoint_of, open_left, OpenLeft, set_address_of, set_packet_size_of, slot_checks}
 use Rattle.endpoint.specs.Examples.{blank, both_open, bulk_head, closed_at, heads_of, interrupt_head, none_open, one_busy, one_odd, one_open, opened, tight_busy, tight_head, tight_open, two_slots, two_with}
@@ -69,12 +67,12 @@ abbrev open_on : Ehci → List ℕ → EndpointType → ℕ → ℕ → ℕ → 
 open_on s heads kind address number packet = open_endpoint_of s 17 heads 1024 16 kind address number packet
 
 -- slot 0 and its 17 words; 01's F2002105
-pub opens_first : open_on none_open (heads_of blank blank) Bulk 5 1 512 ≡ open_left (record { answer = Slot 0; state = one_open }) (heads_of bulk_head blank)
+pub opens_first : open_on none_open (heads_of blank blank) Bulk 5 1 512 ≡ open_left (record { answer = Ok 0; state = one_open }) (heads_of bulk_head blank)
 unfolding two_with open_endpoint_of open_checks fields_good size_good closed_from with_endpoint with_slot endpoint_head terminated put_at
 opens_first = rw none_accepted
 
 pub opens_second : open_on one_open (heads_of bulk_head blank) Interrupt 127 15 1024
-    ≡ open_left (record { answer = Slot 1; state = both_open }) (heads_of bulk_head interrupt_head)
+    ≡ open_left (record { answer = Ok 1; state = both_open }) (heads_of bulk_head interrupt_head)
 unfolding two_with open_endpoint_of open_checks fields_good size_good closed_from with_endpoint with_slot endpoint_head terminated put_at
 opens_second = rw one_accepted
 
@@ -108,7 +106,7 @@ opens_large = rw one_accepted
 
 -- at C 1000 a bulk endpoint has at most packets of 1000; at C 8 a control endpoint may have those of 1024
 pub opens_limit : open_on (closed_at 1000) (heads_of blank blank) Bulk 5 1 1000
-    ≡ open_left (record { answer = Slot 0; state = two_with 1000 1 0 2 0 1000 0 0 }) (heads_of (opened 0xF3E82105 0x40000000) blank)
+    ≡ open_left (record { answer = Ok 0; state = two_with 1000 1 0 2 0 1000 0 0 }) (heads_of (opened 0xF3E82105 0x40000000) blank)
 unfolding two_with open_endpoint_of open_checks fields_good size_good closed_from with_endpoint with_slot endpoint_head terminated put_at
 opens_limit = rw closed_accepted_1000
 
@@ -121,13 +119,13 @@ unfolding two_with open_endpoint_of open_checks fields_good size_good
 opens_interrupt_above_limit = rw closed_accepted_1000
 
 pub opens_control : open_on (closed_at 8) (heads_of blank blank) Control 5 0 1024
-    ≡ open_left (record { answer = Slot 0; state = two_with 8 1 0 0 0 1024 0 0 }) (heads_of (opened 0xF4006005 0x40000000) blank)
+    ≡ open_left (record { answer = Ok 0; state = two_with 8 1 0 0 0 1024 0 0 }) (heads_of (opened 0xF4006005 0x40000000) blank)
 unfolding two_with open_endpoint_of open_checks fields_good size_good closed_from with_endpoint with_slot endpoint_head terminated put_at
 opens_control = rw closed_accepted_8
 
 -- ---- close, set address, set packet size
 
-pub closes_first : close_of one_open 17 (heads_of bulk_head blank) 1024 16 0 ≡ change_left (record { answer = Done; state = none_open }) (heads_of blank blank)
+pub closes_first : close_of one_open 17 (heads_of bulk_head blank) 1024 16 0 ≡ change_left (record { answer = Ok tt; state = none_open }) (heads_of blank blank)
 unfolding two_with close_of slot_checks endpoint_at decoded slot_at with_endpoint with_slot put_at
 closes_first = rw one_accepted
 
@@ -152,7 +150,7 @@ unfolding two_with close_of slot_checks endpoint_at decoded slot_at
 closes_busy = rw busy_accepted
 
 pub sets_address : set_address_of one_open 17 (heads_of bulk_head blank) 1024 16 0 7
-    ≡ change_left (record { answer = Done; state = one_open }) (heads_of (opened 0xF2002107 0x40000000) blank)
+    ≡ change_left (record { answer = Ok tt; state = one_open }) (heads_of (opened 0xF2002107 0x40000000) blank)
 unfolding two_with set_address_of slot_checks endpoint_at decoded slot_at
 sets_address = rw one_accepted
 
@@ -171,7 +169,7 @@ address_busy = rw busy_accepted
 
 -- 4 is raised to 8, in the head and in the slot
 pub sets_size : set_packet_size_of one_open 17 (heads_of bulk_head blank) 1024 16 0 4
-    ≡ change_left (record { answer = Done; state = two_with 16384 1 0 2 0 8 0 0 }) (heads_of (opened 0xF0082105 0x40000000) blank)
+    ≡ change_left (record { answer = Ok tt; state = two_with 16384 1 0 2 0 8 0 0 }) (heads_of (opened 0xF0082105 0x40000000) blank)
 unfolding two_with set_packet_size_of slot_checks endpoint_at decoded slot_at size_good with_endpoint with_slot
 sets_size = rw one_accepted
 
@@ -215,11 +213,11 @@ tight_good : in_ranges tight_open ≡ true
 unfolding two_with in_ranges rest_good machine_good interrupt_good doorbell_good owner_good largest slots_good slot_good size_kept toggle_kept size_good phase_good closed_good idle_good linked_good no_request open_kind settings_good numbers_good each_good no_overlap area_good apart_areas slot_at without_bits
 tight_good = refl
 
-pub clears_odd : clear_halt_of one_odd 0 ≡ record { answer = Done; state = one_open }
+pub clears_odd : clear_halt_of one_odd 0 ≡ record { answer = Ok tt; state = one_open }
 unfolding two_with clear_halt_of endpoint_at decoded slot_at with_endpoint with_slot
 clears_odd = rw odd_good
 
-pub closes_odd : close_of one_odd 17 (heads_of bulk_head blank) 1024 16 0 ≡ change_left (record { answer = Done; state = none_open }) (heads_of blank blank)
+pub closes_odd : close_of one_odd 17 (heads_of bulk_head blank) 1024 16 0 ≡ change_left (record { answer = Ok tt; state = none_open }) (heads_of blank blank)
 unfolding two_with close_of slot_checks endpoint_at decoded slot_at with_endpoint with_slot put_at
 closes_odd = rw odd_accepted
 

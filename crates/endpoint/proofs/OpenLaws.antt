@@ -1,5 +1,5 @@
 -- Open endpoint: what an answer tells of the state before and of what is left.
-use Rattle.std.specs.Prelude.{◌≡◌, ℕ, ◌+◌, ◌*◌, ◌<◌, ◌≤◌, Bool, true, false, ltb, leb, ◌≢◌, List, length, get_or}
+use Rattle.std.specs.Prelude.{◌≡◌, ℕ, ◌+◌, ◌*◌, ◌<◌, ◌≤◌, Bool, true, false, ltb, leb, ◌≢◌, List, length, get_or, Err, Ok, Result}
 use mathlib.Core.Path.{refl, sym, ap, subst, ◌∙◌}
 use native.Mathlib.Omega.{arith}
 use borrow.Author.Tests.{le-leb, leb-false, leb-true, lt-leb, ltb-false, ltb-true}
@@ -23,8 +23,6 @@ use Rattle.pipe.proofs.EndpointLaws.{endpoint_keeps, endpoint_other, endpoint_sa
 use Rattle.common.proofs.KindLaws.{not_isochronous}
 use Rattle.common.proofs.CheckLaws.{verdicts_apart}
 use Rattle.controller.proofs.LentLaws.{accepts_tells}
-use Rattle.endpoint.specs.declared.calls.Opened.{Opened}
-use Rattle.endpoint.specs.declared.calls.Opened.TheVariants.{Slot, Refused}
 use Rattle.endpoint.specs.Calls.{chosen_of, fields_good, lowest_slot, new_endpoint, open_checks, open_endpoint_of, open_left, OpenLeft, with_head}
 use Rattle.endpoint.proofs.Cases.{fields_tell, open_done, open_passed, open_refused, open_verdict, slot_is, slot_of}
 use Rattle.endpoint.proofs.LowestLaws.{lower_open, lowest_closed_lem}
@@ -54,10 +52,10 @@ module _ (s : Ehci) (pool : ℕ) (h : List ℕ) (f u : ℕ) (kind : EndpointType
     pub was_closed : endpoint_at s k ≡ Closed
     pub lower : (j : ℕ) → j < k → is_opened s j ≡ true
 
-  opens : (k : ℕ) → Slot k ≡ chosen_of s (lengths pool (length h) f u) kind asked → Opens k
+  opens : (k : ℕ) → Ok k ≡ chosen_of s (lengths pool (length h) f u) kind asked → Opens k
   opens k e =
-      let t = open_passed s pool h f u kind a n p asked refl (Slot k) e k refl in
-      let is = slot_is s pool h f u kind a n p asked refl (Slot k) e k refl in
+      let t = open_passed s pool h f u kind a n p asked refl (Ok k) e k refl in
+      let is = slot_is s pool h f u kind a n p asked refl (Ok k) e k refl in
       let r = (accepts_tells s (lengths pool (length h) f u) t.0).ranges in
       record {
         accepted = t.0;
@@ -69,18 +67,18 @@ module _ (s : Ehci) (pool : ℕ) (h : List ℕ) (f u : ℕ) (kind : EndpointType
       }
 
   -- the call either refuses and leaves all as it was, or opens the lowest closed slot
-  pub open_by : (P : OpenLeft → Type 0) → ((r : Refusal) → P (open_left (record { answer = Refused r; state = s }) h))
+  pub open_by : (P : OpenLeft → Type 0) → ((r : Refusal) → P (open_left (record { answer = Err r; state = s }) h))
       → ((k : ℕ) → Opens k
-      → P (open_left (record { answer = Slot k; state = with_endpoint s k (new_endpoint kind p) })
+      → P (open_left (record { answer = Ok k; state = with_endpoint s k (new_endpoint kind p) })
       (with_head h k (words_of (endpoint_head kind a n p)))))
       → P (open_endpoint_of s pool h f u kind a n p)
   open_by P denied done = by (chosen_of s (lengths pool (length h) f u) kind asked) refl
     where
-      by : (o : Opened) → o ≡ chosen_of s (lengths pool (length h) f u) kind asked
+      by : (o : (Result ℕ Refusal)) → o ≡ chosen_of s (lengths pool (length h) f u) kind asked
           → P (open_endpoint_of s pool h f u kind a n p)
-      by (Slot k) e =
-          subst P (open_done s pool h f u kind a n p asked refl (Slot k) e k refl _ _ refl refl) (done k (opens k e))
-      by (Refused r) e = subst P (open_refused s pool h f u kind a n p asked refl (Refused r) e r refl) (denied r)
+      by (Ok k) e =
+          subst P (open_done s pool h f u kind a n p asked refl (Ok k) e k refl _ _ refl refl) (done k (opens k e))
+      by (Err r) e = subst P (open_refused s pool h f u kind a n p asked refl (Err r) e r refl) (denied r)
 
   -- ---- a slot is opened
 
@@ -93,7 +91,7 @@ module _ (s : Ehci) (pool : ℕ) (h : List ℕ) (f u : ℕ) (kind : EndpointType
 
   slot_opened : (k : ℕ) → Opens k
       → SlotOpened k
-      (open_left (record { answer = Slot k; state = with_endpoint s k (new_endpoint kind p) })
+      (open_left (record { answer = Ok k; state = with_endpoint s k (new_endpoint kind p) })
       (with_head h k (words_of (endpoint_head kind a n p))))
   unfolding endpoint_head terminated
   slot_opened k from =
@@ -107,21 +105,21 @@ module _ (s : Ehci) (pool : ℕ) (h : List ℕ) (f u : ℕ) (kind : EndpointType
         only = put_only h (17 * (k + 1)) ws room;
       }
 
-  pub open_tells : (k : ℕ) → (open_endpoint_of s pool h f u kind a n p).opening.answer ≡ Slot k
+  pub open_tells : (k : ℕ) → (open_endpoint_of s pool h f u kind a n p).opening.answer ≡ Ok k
       → SlotOpened k (open_endpoint_of s pool h f u kind a n p)
   open_tells =
-      open_by (λ o. (k : ℕ) → o.opening.answer ≡ Slot k → SlotOpened k o)
+      open_by (λ o. (k : ℕ) → o.opening.answer ≡ Ok k → SlotOpened k o)
       (λ r k e. absurd (verdicts_apart r (ap open_verdict e)))
       (λ j from k e. subst
       (λ (i : ℕ). SlotOpened i
-      (open_left (record { answer = Slot j; state = with_endpoint s j (new_endpoint kind p) })
+      (open_left (record { answer = Ok j; state = with_endpoint s j (new_endpoint kind p) })
       (with_head h j (words_of (endpoint_head kind a n p))))) (ap slot_of e) (slot_opened j from))
 
   -- a refusal leaves all as it was
-  pub open_denied : (r : Refusal) → (open_endpoint_of s pool h f u kind a n p).opening.answer ≡ Refused r
+  pub open_denied : (r : Refusal) → (open_endpoint_of s pool h f u kind a n p).opening.answer ≡ Err r
       → ((open_endpoint_of s pool h f u kind a n p).opening.state ≡ s) × ((open_endpoint_of s pool h f u kind a n p).heads ≡ h)
   open_denied =
-      open_by (λ o. (r : Refusal) → o.opening.answer ≡ Refused r → (o.opening.state ≡ s) × (o.heads ≡ h))
+      open_by (λ o. (r : Refusal) → o.opening.answer ≡ Err r → (o.opening.state ≡ s) × (o.heads ≡ h))
       (λ _ _ _. (refl, refl))
       (λ k from r e. absurd (verdicts_apart r (sym (ap open_verdict e))))
 
@@ -131,7 +129,7 @@ module _ (s : Ehci) (pool : ℕ) (h : List ℕ) (f u : ℕ) (kind : EndpointType
   -- ---- the slots and the ranges
 
   module _ (w : Wide s) where
-    pub opened_endpoint : (k : ℕ) → (open_endpoint_of s pool h f u kind a n p).opening.answer ≡ Slot k
+    pub opened_endpoint : (k : ℕ) → (open_endpoint_of s pool h f u kind a n p).opening.answer ≡ Ok k
         → endpoint_at (open_endpoint_of s pool h f u kind a n p).opening.state k ≡ new_endpoint kind p
     opened_endpoint k e =
         let t = open_tells k e in
@@ -148,7 +146,7 @@ module _ (s : Ehci) (pool : ℕ) (h : List ℕ) (f u : ℕ) (kind : EndpointType
         (record { next_least = omega arith; never = from.never; size = from.fields.packet })
         (λ le. let lt = from.below in absurd (omega arith))))
 
-  pub open_others : (k j : ℕ) → (open_endpoint_of s pool h f u kind a n p).opening.answer ≡ Slot k → j ≢ k
+  pub open_others : (k j : ℕ) → (open_endpoint_of s pool h f u kind a n p).opening.answer ≡ Ok k → j ≢ k
       → endpoint_at (open_endpoint_of s pool h f u kind a n p).opening.state j ≡ endpoint_at s j
   open_others k j e ne = rw (open_tells k e).state_is (endpoint_other s k (new_endpoint kind p) j ne)
 
@@ -156,7 +154,7 @@ module _ (s : Ehci) (pool : ℕ) (h : List ℕ) (f u : ℕ) (kind : EndpointType
 
   module _ (e : accepts_of s (lengths pool (length h) f u) ≡ true) (i : is_isochronous kind ≡ false) (g : asked ≡ true) where
     pub open_accepts : (j : ℕ) → j < s.settings.endpoints → is_opened s j ≡ false
-        → (open_endpoint_of s pool h f u kind a n p).opening.answer ≡ Slot (lowest_slot s)
+        → (open_endpoint_of s pool h f u kind a n p).opening.answer ≡ Ok (lowest_slot s)
     unfolding open_endpoint_of open_checks
     open_accepts j lt shut = rw (e, i, g, lt-leb s.settings.endpoints (lowest_slot s) (by (ltb j (lowest_slot s)) refl))
       where
@@ -169,7 +167,7 @@ module _ (s : Ehci) (pool : ℕ) (h : List ℕ) (f u : ℕ) (kind : EndpointType
         by false q = omega (arith, ltb-false j (lowest_slot s) q)
 
     pub open_full : ((j : ℕ) → j < s.settings.endpoints → is_opened s j ≡ true)
-        → (open_endpoint_of s pool h f u kind a n p).opening.answer ≡ Refused SlotLimitReached
+        → (open_endpoint_of s pool h f u kind a n p).opening.answer ≡ Err SlotLimitReached
     unfolding open_endpoint_of open_checks
     open_full all = rw (e, i, g, le-leb s.settings.endpoints (lowest_slot s) (by (leb s.settings.endpoints (lowest_slot s)) refl))
       where

@@ -1,11 +1,10 @@
 -- The loop and the returns of what the calls on endpoints over words ask.
-use Rattle.std.specs.Prelude.{◌≡◌, ℕ, ◌+◌, ◌-◌, ◌*◌, ◌<◌, ◌≤◌, Bool, true, false, not, List, length}
+use Rattle.std.specs.Prelude.{◌≡◌, ℕ, ◌+◌, ◌-◌, ◌*◌, ◌<◌, ◌≤◌, Bool, true, false, not, List, length, Err, Ok}
 use mathlib.Core.Path.{sym, ◌∙◌}
 use native.Mathlib.Nat.{sub-zero}
 use native.Mathlib.Omega.{arith}
 use borrow.Author.Tests.{le-leb, lt-leb, not-false, not-true}
 use Rattle.common.specs.declared.kinds.EndpointType.{EndpointType}
-use Rattle.common.specs.declared.answer.Answer.TheVariants.{Done, Refused as RefusedCall}
 use Rattle.common.specs.declared.answer.Refusal.TheVariants.{InvalidParameter, SlotLimitReached, InvalidEndpoint, QueueFull, NotSupported}
 use Rattle.common.specs.Kinds.{is_isochronous}
 use Rattle.settings.specs.declared.settings.Settings.{Settings}
@@ -19,7 +18,6 @@ use Rattle.words.proofs.GoodLaws.{good_length, good_settings}
 use Rattle.controller.specs.Readers.{is_opened, is_uncollected}
 use Rattle.controller.specs.Words.{held_at, open_at}
 use Rattle.controller.proofs.WordsCases.{held_viewed, open_viewed}
-use Rattle.endpoint.specs.declared.calls.Opened.TheVariants.{Slot, Refused}
 use Rattle.endpoint.specs.Calls.{lowest_slot}
 use Rattle.endpoint.specs.Lowest.{closed_from}
 use Rattle.endpoint.specs.Words.{chosen_words, verdict_words}
@@ -64,31 +62,31 @@ module _ (s : Settings) (r : Rest) (ws : List ℕ) where
 -- ---- `choose`
 
 module _ (s : Ehci) (kind : EndpointType) (good : Bool) (i : Bool) (ei : i ≡ is_isochronous kind) where
-  pub words_kind : i ≡ true → Refused NotSupported ≡ chosen_words s kind good
+  pub words_kind : i ≡ true → Err NotSupported ≡ chosen_words s kind good
   unfolding chosen_words
   words_kind t = rw (sym ei ∙ t)
 
-  pub words_fields : i ≡ false → not good ≡ true → Refused InvalidParameter ≡ chosen_words s kind good
+  pub words_fields : i ≡ false → not good ≡ true → Err InvalidParameter ≡ chosen_words s kind good
   unfolding chosen_words
   words_fields t t₁ = rw (sym ei ∙ t, t₁)
 
   module _ (k : ℕ) (ek : k ≡ lowest_slot s) where
-    pub none_below : i ≡ false → not good ≡ false → s.settings.endpoints ≤ k → Refused SlotLimitReached ≡ chosen_words s kind good
+    pub none_below : i ≡ false → not good ≡ false → s.settings.endpoints ≤ k → Err SlotLimitReached ≡ chosen_words s kind good
     unfolding chosen_words
     none_below t t₁ h = rw (sym ei ∙ t, t₁, sym ek, le-leb s.settings.endpoints k h)
 
-    pub one_below : i ≡ false → not good ≡ false → k < s.settings.endpoints → Slot k ≡ chosen_words s kind good
+    pub one_below : i ≡ false → not good ≡ false → k < s.settings.endpoints → Ok k ≡ chosen_words s kind good
     unfolding chosen_words
     one_below t t₁ h = rw (sym ei ∙ t, t₁, sym ek, lt-leb s.settings.endpoints k h)
 
 module _ (s : Settings) (r : Rest) (ws : List ℕ) (kind : EndpointType) (good : Bool) (i : Bool) (k : ℕ) where
   pub words_none : i ≡ is_isochronous kind → k ≡ lowest_slot (state_of s r ws) → i ≡ false → not good ≡ false → s.endpoints ≤ k
-      → Refused SlotLimitReached ≡ chosen_words (state_of s r ws) kind good
+      → Err SlotLimitReached ≡ chosen_words (state_of s r ws) kind good
   unfolding state_of
   words_none ei ek t t₁ h = none_below (state_of s r ws) kind good i ei k ek t t₁ h
 
   pub words_slot : i ≡ is_isochronous kind → k ≡ lowest_slot (state_of s r ws) → i ≡ false → not good ≡ false → k < s.endpoints
-      → Slot k ≡ chosen_words (state_of s r ws) kind good
+      → Ok k ≡ chosen_words (state_of s r ws) kind good
   unfolding state_of
   words_slot ei ek t t₁ h = one_below (state_of s r ws) kind good i ei k ek t t₁ h
 
@@ -101,7 +99,7 @@ module _ (s : Settings) (r : Rest) (ws : List ℕ) (words : Good s r ws) (k : �
   is_open : {b : Bool} → o ≡ b → is_opened told k ≡ b
   is_open t = sym (eo ∙ open_viewed s r ws words k) ∙ t
 
-  pub words_shut : not o ≡ true → RefusedCall InvalidEndpoint ≡ verdict_words told k good
+  pub words_shut : not o ≡ true → Err InvalidEndpoint ≡ verdict_words told k good
   unfolding verdict_words
   words_shut t = rw (is_open (not-true o t))
 
@@ -109,14 +107,14 @@ module _ (s : Settings) (r : Rest) (ws : List ℕ) (words : Good s r ws) (k : �
     is_held : {b : Bool} → u ≡ b → is_uncollected told k ≡ b
     is_held t = sym (eu ∙ held_viewed s r ws words k) ∙ t
 
-    pub words_busy : not o ≡ false → u ≡ true → RefusedCall QueueFull ≡ verdict_words told k good
+    pub words_busy : not o ≡ false → u ≡ true → Err QueueFull ≡ verdict_words told k good
     unfolding verdict_words
     words_busy t t₁ = rw (is_open (not-false o t), is_held t₁)
 
-    pub words_value : not o ≡ false → u ≡ false → not good ≡ true → RefusedCall InvalidParameter ≡ verdict_words told k good
+    pub words_value : not o ≡ false → u ≡ false → not good ≡ true → Err InvalidParameter ≡ verdict_words told k good
     unfolding verdict_words
     words_value t t₁ t₂ = rw (is_open (not-false o t), is_held t₁, t₂)
 
-    pub words_passed : not o ≡ false → u ≡ false → not good ≡ false → Done ≡ verdict_words told k good
+    pub words_passed : not o ≡ false → u ≡ false → not good ≡ false → (Ok tt) ≡ verdict_words told k good
     unfolding verdict_words
     words_passed t t₁ t₂ = rw (is_open (not-false o t), is_held t₁, t₂)

@@ -1,11 +1,9 @@
 -- Close, set address and set packet size over words: what it is that they are let pass, and what is left.
-use Rattle.std.specs.Prelude.{◌≡◌, ℕ, ◌+◌, ◌*◌, ◌^◌, ◌<◌, ◌≤◌, max, Bool, true, false, eqb, ltb, leb, List, length, get_or, replicate}
+use Rattle.std.specs.Prelude.{◌≡◌, ℕ, ◌+◌, ◌*◌, ◌^◌, ◌<◌, ◌≤◌, max, Bool, true, false, eqb, ltb, leb, List, length, get_or, replicate, Err, Ok, Result, ⊤}
 use mathlib.Core.Path.{refl, sym, ap, subst, ◌∙◌}
 use native.Mathlib.Omega.{arith}
 use borrow.Author.Tests.{eqb-false, leb-false, ltb-true, ltb-false, not-true}
 use lib.ListN.{get_or-eq_default}
-use Rattle.common.specs.declared.answer.Answer.{Answer}
-use Rattle.common.specs.declared.answer.Answer.TheVariants.{Done, Refused}
 use Rattle.common.specs.declared.answer.Refusal.{Refusal}
 use Rattle.descriptor.specs.Heads.{with_address, with_packet_size}
 use Rattle.opening.specs.Heads.{head_word, with_head_word}
@@ -90,13 +88,13 @@ module _ (ws : List ℕ) (k x : ℕ) (old p : Pipe) (eo : old ≡ pipe_of (slot_
       (omega (arith, next_is, id_below (last_at ws k) below))
 
 module _ (s : Settings) (r : Rest) (ws : List ℕ) (good : Good s r ws) (h : List ℕ) (fit : length h ≡ 17 * (s.endpoints + 1))
-    (k : ℕ) (a : Answer) where
+    (k : ℕ) (a : (Result ⊤ Refusal)) where
   verdict_lent : (g : Bool) → a ≡ verdict_words (state_of s r ws) k g → (pool f u : ℕ) → rows_are_fit s pool (length h) f u ≡ true
       → a ≡ slot_verdict (state_of s r ws) (lengths pool (length h) f u) k g
   verdict_lent g ea pool f u t =
       ea ∙ verdict_accepted (state_of s r ws) pool (length h) f u k g (accepts_viewed s r ws good pool (length h) f u t)
 
-  module _ (g : Bool) (ea : a ≡ verdict_words (state_of s r ws) k g) (e : a ≡ Done) where
+  module _ (g : Bool) (ea : a ≡ verdict_words (state_of s r ws) k g) (e : a ≡ (Ok tt)) where
     -- the lengths that opening fixed
     verdict_fixed : a ≡ slot_verdict (state_of s r ws) (lengths (pool_length s) (length h) 1024 (8 * s.endpoints)) k g
     verdict_fixed = verdict_lent g ea (pool_length s) 1024 (8 * s.endpoints) (rows_fixed s (length h) fit)
@@ -134,13 +132,13 @@ module _ (s : Settings) (r : Rest) (ws : List ℕ) (good : Good s r ws) (h : Lis
   -- ---- close
 
   module _ (ea : a ≡ verdict_words (state_of s r ws) k true) where
-    pub closing_refused : (q : Refusal) → a ≡ Refused q → (pool f u : ℕ) → rows_are_fit s pool (length h) f u ≡ true
-        → change_left (record { answer = Refused q; state = state_of s r ws }) h ≡ close_of (state_of s r ws) pool h f u k
+    pub closing_refused : (q : Refusal) → a ≡ Err q → (pool f u : ℕ) → rows_are_fit s pool (length h) f u ≡ true
+        → change_left (record { answer = Err q; state = state_of s r ws }) h ≡ close_of (state_of s r ws) pool h f u k
     closing_refused q e pool f u t = close_refused (state_of s r ws) pool h f u k a q (verdict_lent true ea pool f u t) e
 
-    module _ (e : a ≡ Done) (ws' : List ℕ) (ew : ws' ≡ put_slot ws k (encoded Closed)) where
+    module _ (e : a ≡ (Ok tt)) (ws' : List ℕ) (ew : ws' ≡ put_slot ws k (encoded Closed)) where
       pub closing_done : (h' : List ℕ) → h' ≡ with_head h k (replicate 17 0) → (pool f u : ℕ) → rows_are_fit s pool (length h) f u ≡ true
-          → change_left (record { answer = Done; state = state_of s r ws' }) h' ≡ close_of (state_of s r ws) pool h f u k
+          → change_left (record { answer = Ok tt; state = state_of s r ws' }) h' ≡ close_of (state_of s r ws) pool h f u k
       closing_done h' eh pool f u t =
           close_done (state_of s r ws) pool h f u k a (verdict_lent true ea pool f u t) e (state_of s r ws') h'
           (ap (λ (l : List ℕ). state_of s r l) ew
@@ -155,14 +153,14 @@ module _ (s : Settings) (r : Rest) (ws : List ℕ) (good : Good s r ws) (h : Lis
   -- ---- set address
 
   module _ (x : ℕ) (ea : a ≡ verdict_words (state_of s r ws) k (leb x 127)) where
-    pub addressing_refused : (q : Refusal) → a ≡ Refused q → (pool f u : ℕ) → rows_are_fit s pool (length h) f u ≡ true
-        → change_left (record { answer = Refused q; state = state_of s r ws }) h ≡ set_address_of (state_of s r ws) pool h f u k x
+    pub addressing_refused : (q : Refusal) → a ≡ Err q → (pool f u : ℕ) → rows_are_fit s pool (length h) f u ≡ true
+        → change_left (record { answer = Err q; state = state_of s r ws }) h ≡ set_address_of (state_of s r ws) pool h f u k x
     addressing_refused q e pool f u t =
         address_refused (state_of s r ws) pool h f u k a x q (verdict_lent (leb x 127) ea pool f u t) e
 
-    pub addressing_done : a ≡ Done → (w : ℕ) → w ≡ with_address (head_word h (k + 1) 1) x → (pool f u : ℕ)
+    pub addressing_done : a ≡ (Ok tt) → (w : ℕ) → w ≡ with_address (head_word h (k + 1) 1) x → (pool f u : ℕ)
         → rows_are_fit s pool (length h) f u ≡ true
-        → change_left (record { answer = Done; state = state_of s r ws }) (with_head_word h (k + 1) 1 w)
+        → change_left (record { answer = Ok tt; state = state_of s r ws }) (with_head_word h (k + 1) 1 w)
         ≡ set_address_of (state_of s r ws) pool h f u k x
     addressing_done e w ew pool f u t =
         address_done (state_of s r ws) pool h f u k a x (verdict_lent (leb x 127) ea pool f u t) e w ew
@@ -179,12 +177,12 @@ module _ (s : Settings) (r : Rest) (ws : List ℕ) (good : Good s r ws) (h : Lis
     asked : a ≡ verdict_words (state_of s r ws) k (raised_good (state_of s r ws) k x)
     asked = ea ∙ ap (λ (b : Bool). verdict_words (state_of s r ws) k b) judged
 
-    pub sizing_refused : (q : Refusal) → a ≡ Refused q → (pool f u : ℕ) → rows_are_fit s pool (length h) f u ≡ true
-        → change_left (record { answer = Refused q; state = state_of s r ws }) h ≡ set_packet_size_of (state_of s r ws) pool h f u k x
+    pub sizing_refused : (q : Refusal) → a ≡ Err q → (pool f u : ℕ) → rows_are_fit s pool (length h) f u ≡ true
+        → change_left (record { answer = Err q; state = state_of s r ws }) h ≡ set_packet_size_of (state_of s r ws) pool h f u k x
     sizing_refused q e pool f u t =
         size_refused (state_of s r ws) pool h f u k a x q (verdict_lent (raised_good (state_of s r ws) k x) asked pool f u t) e
 
-    module _ (e : a ≡ Done) (small : x < 256) (below : last_at ws k < 2 ^ 64) where
+    module _ (e : a ≡ (Ok tt)) (small : x < 256) (below : last_at ws k < 2 ^ 64) where
       fits : SlotFits (encoded (Idle p))
       fits = sizing_fits ws k x old p eo ep small below
 
@@ -196,7 +194,7 @@ module _ (s : Settings) (r : Rest) (ws : List ℕ) (good : Good s r ws) (h : Lis
       module _ (ws' : List ℕ) (ew : ws' ≡ put_slot ws k (encoded (Idle p))) where
         pub sizing_done : (w : ℕ) → w ≡ with_packet_size (head_word h (k + 1) 1) x → (pool f u : ℕ)
             → rows_are_fit s pool (length h) f u ≡ true
-            → change_left (record { answer = Done; state = state_of s r ws' }) (with_head_word h (k + 1) 1 w)
+            → change_left (record { answer = Ok tt; state = state_of s r ws' }) (with_head_word h (k + 1) 1 w)
             ≡ set_packet_size_of (state_of s r ws) pool h f u k x
         sizing_done w eh pool f u t =
             size_done (state_of s r ws) pool h f u k a x (verdict_lent (raised_good (state_of s r ws) k x) asked pool f u t) e

@@ -1,11 +1,9 @@
 -- Clear-halt over words: what it is that it is let pass, and what is left.
-use Rattle.std.specs.Prelude.{◌≡◌, ℕ, ◌+◌, ◌*◌, ◌^◌, ◌<◌, ◌≤◌, Bool, true, false, List, length, replicate}
+use Rattle.std.specs.Prelude.{◌≡◌, ℕ, ◌+◌, ◌*◌, ◌^◌, ◌<◌, ◌≤◌, Bool, true, false, List, length, replicate, Err, Ok, Result, ⊤}
 use mathlib.Core.Path.{refl, sym, ap, subst, ◌∙◌}
 use native.Mathlib.Omega.{arith}
 use lib.ListN.{length-replicate}
 use Rattle.common.specs.Answers.{first}
-use Rattle.common.specs.declared.answer.Answer.{Answer}
-use Rattle.common.specs.declared.answer.Answer.TheVariants.{Done, Refused}
 use Rattle.common.specs.declared.answer.Refusal.{Refusal}
 use Rattle.common.proofs.CheckLaws.{verdict_of}
 use Rattle.settings.specs.declared.settings.Settings.{Settings}
@@ -59,14 +57,14 @@ module _ (ws : List ℕ) (k : ℕ) (old p : Pipe) (eo : old ≡ pipe_of (slot_in
       idle_fits p (omega (arith, size_is)) (omega (arith, next_is, id_one (last_at ws k)))
       (omega (arith, next_is, id_below (last_at ws k) below))
 
-module _ (s : Settings) (r : Rest) (ws : List ℕ) (good : Good s r ws) (k : ℕ) (a : Answer) (ea : a ≡ verdict_words (state_of s r ws) k true) where
+module _ (s : Settings) (r : Rest) (ws : List ℕ) (good : Good s r ws) (k : ℕ) (a : (Result ⊤ Refusal)) (ea : a ≡ verdict_words (state_of s r ws) k true) where
   abbrev st : Ehci
   st = state_of s r ws
 
   asked : verdict_of a ≡ first (clear_checks st k)
   asked = ap verdict_of ea ∙ verdict_clear st k good.ranges
 
-  pub clearing_refused : (q : Refusal) → a ≡ Refused q → ◌≡◌ {A = Change} (record { answer = Refused q; state = st }) (clear_halt_of st k)
+  pub clearing_refused : (q : Refusal) → a ≡ Err q → ◌≡◌ {A = Change} (record { answer = Err q; state = st }) (clear_halt_of st k)
   unfolding clear_halt_of
   clearing_refused q e = rw (sym asked ∙ ap verdict_of e)
 
@@ -77,7 +75,7 @@ module _ (s : Settings) (r : Rest) (ws : List ℕ) (good : Good s r ws) (k : ℕ
   fit : length heads ≡ 17 * (s.endpoints + 1)
   fit = length-replicate {A = ℕ} (17 * (s.endpoints + 1)) 0
 
-  module _ (e : a ≡ Done) where
+  module _ (e : a ≡ (Ok tt)) where
     pub clearing_room : 6 * k + 6 ≤ length ws
     clearing_room = words_slot_room s r ws good heads fit k a true ea e
 
@@ -96,7 +94,7 @@ module _ (s : Settings) (r : Rest) (ws : List ℕ) (good : Good s r ws) (k : ℕ
           ∙ view_endpoint_put ws k (Idle p) low clearing_room (clearing_fits ws k old p eo ep below) s r
           ∙ ap (λ (y : Endpoint). with_endpoint st k y) pipe_state
 
-      pub clearing_done : ◌≡◌ {A = Change} (record { answer = Done; state = state_of s r ws' }) (clear_halt_of st k)
+      pub clearing_done : ◌≡◌ {A = Change} (record { answer = Ok tt; state = state_of s r ws' }) (clear_halt_of st k)
       unfolding clear_halt_of
       clearing_done = rw (put_state_lem, sym asked ∙ ap verdict_of e)
 

@@ -1,5 +1,5 @@
 -- Open endpoint over words: what it is that the slot is chosen, and what is left.
-use Rattle.std.specs.Prelude.{◌≡◌, ℕ, ◌+◌, ◌*◌, ◌^◌, ◌<◌, ◌≤◌, Bool, true, false, List, length}
+use Rattle.std.specs.Prelude.{◌≡◌, ℕ, ◌+◌, ◌*◌, ◌^◌, ◌<◌, ◌≤◌, Bool, true, false, List, length, Err, Ok, Result}
 use mathlib.Core.Path.{sym, ap, subst, ◌∙◌}
 use native.Mathlib.Omega.{arith}
 use Rattle.common.specs.declared.answer.Refusal.{Refusal}
@@ -21,8 +21,6 @@ use Rattle.pipe.proofs.WordsLaws.{tidy_endpoint_put, view_endpoint_put}
 use Rattle.pipe.proofs.WordsTells.{closed_at_lem}
 use Rattle.controller.specs.Lent.{accepts_of, lengths}
 use Rattle.controller.proofs.WordsLent.{accepts_viewed, rows_fixed}
-use Rattle.endpoint.specs.declared.calls.Opened.{Opened}
-use Rattle.endpoint.specs.declared.calls.Opened.TheVariants.{Slot, Refused}
 use Rattle.endpoint.specs.Calls.{chosen_of, fields_good, lowest_slot, new_endpoint, open_checks, open_endpoint_of, open_left, with_head}
 use Rattle.endpoint.specs.Words.{chosen_words}
 use Rattle.endpoint.proofs.Cases.{open_done, open_fields, open_passed, open_refused, open_room_for, slot_is}
@@ -35,7 +33,7 @@ unfolding chosen_words chosen_of open_checks
 chosen_accepted s pool h f u kind good e = rw e
 
 module _ (s : Settings) (r : Rest) (ws : List ℕ) (good : Good s r ws) (h : List ℕ) (fit : length h ≡ 17 * (s.endpoints + 1))
-    (kind : EndpointType) (a n p : ℕ) (g : Bool) (eg : g ≡ fields_good s.limit kind a n p) (o : Opened) (eo : o ≡ chosen_words (state_of s r ws) kind g) where
+    (kind : EndpointType) (a n p : ℕ) (g : Bool) (eg : g ≡ fields_good s.limit kind a n p) (o : (Result ℕ Refusal)) (eo : o ≡ chosen_words (state_of s r ws) kind g) where
   chosen_lent : (pool f u : ℕ) → rows_are_fit s pool (length h) f u ≡ true
       → o ≡ chosen_of (state_of s r ws) (lengths pool (length h) f u) kind g
   chosen_lent pool f u e = eo ∙ chosen_accepted (state_of s r ws) pool (length h) f u kind g (accepts_viewed s r ws good pool (length h) f u e)
@@ -48,11 +46,11 @@ module _ (s : Settings) (r : Rest) (ws : List ℕ) (good : Good s r ws) (h : Lis
   chosen_fixed : o ≡ chosen_of (state_of s r ws) (lengths (pool_length s) (length h) 1024 (8 * s.endpoints)) kind g
   chosen_fixed = chosen_lent (pool_length s) 1024 (8 * s.endpoints) (rows_fixed s (length h) fit)
 
-  pub opened_refused : (q : Refusal) → o ≡ Refused q → (pool f u : ℕ) → rows_are_fit s pool (length h) f u ≡ true
-      → open_left (record { answer = Refused q; state = state_of s r ws }) h ≡ open_endpoint_of (state_of s r ws) pool h f u kind a n p
+  pub opened_refused : (q : Refusal) → o ≡ Err q → (pool f u : ℕ) → rows_are_fit s pool (length h) f u ≡ true
+      → open_left (record { answer = Err q; state = state_of s r ws }) h ≡ open_endpoint_of (state_of s r ws) pool h f u kind a n p
   opened_refused q e pool f u t = open_refused (state_of s r ws) pool h f u kind a n p g asked o (chosen_lent pool f u t) q e
 
-  module _ (k : ℕ) (e : o ≡ Slot k) where
+  module _ (k : ℕ) (e : o ≡ Ok k) where
     pub opened_room : (k < 32) × (k + 1 ≤ 32) × (17 * (k + 1) + 17 ≤ length h)
     opened_room =
         open_room_for (state_of s r ws) (pool_length s) h 1024 (8 * s.endpoints) kind a n p g asked o chosen_fixed k e
@@ -98,7 +96,7 @@ module _ (s : Settings) (r : Rest) (ws : List ℕ) (good : Good s r ws) (h : Lis
     module _ (ws' : List ℕ) (ew : ws' ≡ put_slot ws k (encoded (new_endpoint kind p))) where
       pub opened_done : (h' : List ℕ) → h' ≡ with_head h k (words_of (endpoint_head kind a n p)) → (pool f u : ℕ)
           → rows_are_fit s pool (length h) f u ≡ true
-          → open_left (record { answer = Slot k; state = state_of s r ws' }) h' ≡ open_endpoint_of (state_of s r ws) pool h f u kind a n p
+          → open_left (record { answer = Ok k; state = state_of s r ws' }) h' ≡ open_endpoint_of (state_of s r ws) pool h f u kind a n p
       opened_done h' eh pool f u t =
           open_done (state_of s r ws) pool h f u kind a n p g asked o (chosen_lent pool f u t) k e (state_of s r ws') h'
           (ap (λ (l : List ℕ). state_of s r l) ew

@@ -1,11 +1,9 @@
 -- Document 01: open endpoint, close, set address, set packet size; 02 order 6: clear-halt.
-use Rattle.std.specs.Prelude.{ℕ, ◌+◌, ◌*◌, max, Bool, true, false, not, List, [], ◌∷◌, length, replicate, nat_le}
+use Rattle.std.specs.Prelude.{ℕ, ◌+◌, ◌*◌, max, Bool, true, false, not, List, [], ◌∷◌, length, replicate, nat_le, Err, Ok, Result, ⊤}
 use Rattle.common.specs.declared.kinds.EndpointType.{EndpointType}
 use Rattle.descriptor.specs.Heads.{endpoint_head, words_of, with_address, with_packet_size}
 use Rattle.common.specs.Tests.{every}
 use Rattle.state.specs.Plain.{Ehci}
-use Rattle.common.specs.declared.answer.Answer.{Answer}
-use Rattle.common.specs.declared.answer.Answer.TheVariants.{Done, Refused as RefusedCall}
 use Rattle.common.specs.declared.answer.Refusal.TheVariants.{InvalidParameter, SlotLimitReached, InvalidEndpoint, QueueFull, NotSupported}
 use Rattle.pipe.specs.declared.endpoints.Endpoint.{Endpoint}
 use Rattle.pipe.specs.declared.endpoints.Endpoint.TheVariants.{Closed, Idle}
@@ -22,10 +20,9 @@ use Rattle.opening.specs.Heads.{head_word, with_head_word}
 use Rattle.common.specs.Rows.{put_at}
 use Rattle.endpoint.specs.Plain.{Change}
 use Rattle.endpoint.specs.Plain.{EndpointOpening}
-use Rattle.endpoint.specs.declared.calls.Opened.{Opened}
-use Rattle.endpoint.specs.declared.calls.Opened.TheVariants.{Slot, Refused}
 use Rattle.endpoint.specs.Lowest.{lowest_closed}
 use Rattle.state.specs.Ranges.{in_ranges}
+use Rattle.common.specs.declared.answer.Refusal.{Refusal}
 
 -- slot k's head is at place k + 1
 abbrev pub with_head : List ℕ → ℕ → List ℕ → List ℕ
@@ -33,9 +30,9 @@ with_head heads k words = put_at heads (17 * (k + 1)) words
 
 -- ---- open endpoint
 
-abbrev pub opened_number : Opened → ℕ
-opened_number (Slot k) = 0
-opened_number (Refused r) = refusal_number r
+abbrev pub opened_number : Result ℕ Refusal → ℕ
+opened_number (Ok k) = 0
+opened_number (Err r) = refusal_number r
 
 -- what it leaves: its result and the heads
 pub record OpenLeft : Type 0 where
@@ -62,8 +59,8 @@ open_checks s lent kind good =
     ∷ (nat_le s.settings.endpoints (lowest_slot s), SlotLimitReached)
     ∷ []
 
-unfoldable pub chosen_of : Ehci → Lengths → EndpointType → Bool → Opened
-chosen_of s lent kind good = settle (first (open_checks s lent kind good)) Refused (Slot (lowest_slot s))
+unfoldable pub chosen_of : Ehci → Lengths → EndpointType → Bool → Result ℕ Refusal
+chosen_of s lent kind good = settle (first (open_checks s lent kind good)) Err (Ok (lowest_slot s))
 
 -- "Ids per slot start at 1 when it opens"; 02 order 6: "a toggle bit, 0 at opening"
 abbrev pub new_endpoint : EndpointType → ℕ → Endpoint
@@ -72,8 +69,8 @@ new_endpoint kind packet = Idle (record { kind = kind; size = packet; toggle = f
 unfoldable pub open_endpoint_of : Ehci → ℕ → List ℕ → ℕ → ℕ → EndpointType → ℕ → ℕ → ℕ → OpenLeft
 open_endpoint_of s pool heads frames setups kind address number packet =
     settle (first (open_checks s (lengths pool (length heads) frames setups) kind (fields_good s.settings.limit kind address number packet)))
-    (λ r. open_left (record { answer = Refused r; state = s }) heads)
-    (open_left (record { answer = Slot (lowest_slot s); state = with_endpoint s (lowest_slot s) (new_endpoint kind packet) })
+    (λ r. open_left (record { answer = Err r; state = s }) heads)
+    (open_left (record { answer = Ok (lowest_slot s); state = with_endpoint s (lowest_slot s) (new_endpoint kind packet) })
     (with_head heads (lowest_slot s) (words_of (endpoint_head kind address number packet))))
 
 -- ---- close, set address, set packet size
@@ -94,15 +91,15 @@ slot_checks s lent k good =
     ∷ (not good, InvalidParameter)
     ∷ []
 
-unfoldable pub slot_verdict : Ehci → Lengths → ℕ → Bool → Answer
-slot_verdict s lent k good = settle (first (slot_checks s lent k good)) RefusedCall Done
+unfoldable pub slot_verdict : Ehci → Lengths → ℕ → Bool → Result ⊤ Refusal
+slot_verdict s lent k good = settle (first (slot_checks s lent k good)) Err (Ok tt)
 
 -- a call on slot k that leaves a state and heads where it is not refused
 abbrev pub change_of : Ehci → ℕ → List ℕ → ℕ → ℕ → ℕ → Bool → Ehci → List ℕ → ChangeLeft
 change_of s pool heads frames setups k good s' heads' =
     settle (first (slot_checks s (lengths pool (length heads) frames setups) k good))
-    (λ r. change_left (record { answer = RefusedCall r; state = s }) heads)
-    (change_left (record { answer = Done; state = s' }) heads')
+    (λ r. change_left (record { answer = Err r; state = s }) heads)
+    (change_left (record { answer = Ok tt; state = s' }) heads')
 
 -- "Close zeroes the head"
 unfoldable pub close_of : Ehci → ℕ → List ℕ → ℕ → ℕ → ℕ → ChangeLeft
@@ -138,5 +135,5 @@ clear_checks s k = (not (in_ranges s), InvalidParameter) ∷ (not (is_opened s k
 unfoldable pub clear_halt_of : Ehci → ℕ → Change
 clear_halt_of s k =
     settle (first (clear_checks s k))
-    (λ r. record { answer = RefusedCall r; state = s })
-    (record { answer = Done; state = with_endpoint s k (Idle (with_toggle (pipe_of (slot_at s k)) false)) })
+    (λ r. record { answer = Err r; state = s })
+    (record { answer = Ok tt; state = with_endpoint s k (Idle (with_toggle (pipe_of (slot_at s k)) false)) })

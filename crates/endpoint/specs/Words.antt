@@ -1,9 +1,7 @@
 -- What the calls over words leave, as the state that the words stand for; and their checks after the first, which the door asks.
-use Rattle.std.specs.Prelude.{ℕ, Bool, not, List, [], ◌∷◌, nat_le}
+use Rattle.std.specs.Prelude.{ℕ, Bool, not, List, [], ◌∷◌, nat_le, Err, Ok, Result, ⊤}
 use Rattle.common.specs.Answers.{first, settle}
 use Rattle.common.specs.Kinds.{is_isochronous}
-use Rattle.common.specs.declared.answer.Answer.{Answer}
-use Rattle.common.specs.declared.answer.Answer.TheVariants.{Done, Refused as RefusedCall}
 use Rattle.common.specs.declared.answer.Refusal.TheVariants.{InvalidParameter, SlotLimitReached, InvalidEndpoint, QueueFull, NotSupported}
 use Rattle.common.specs.declared.kinds.EndpointType.{EndpointType}
 use Rattle.settings.specs.declared.settings.Settings.{Settings}
@@ -13,18 +11,16 @@ use Rattle.words.specs.View.{state_of}
 use Rattle.endpoint.specs.Calls.{lowest_slot}
 use Rattle.endpoint.specs.Plain.{Change}
 use Rattle.endpoint.specs.Plain.{EndpointOpening}
-use Rattle.endpoint.specs.declared.calls.Opened.{Opened}
-use Rattle.endpoint.specs.declared.calls.Opened.TheVariants.{Slot, Refused}
-use Rattle.endpoint.specs.declared.calls.Change.{Change as ChangeWords}
-use Rattle.endpoint.specs.declared.calls.EndpointOpening.{EndpointOpening as OpeningWords}
+use Rattle.controller.specs.declared.left.Left.{Left as LeftWords}
+use Rattle.common.specs.declared.answer.Refusal.{Refusal}
 
-abbrev pub opened_view : Settings → OpeningWords → List ℕ → EndpointOpening
+abbrev pub opened_view : Settings → LeftWords ℕ → List ℕ → EndpointOpening
 opened_view s r ws = record { answer = r.answer; state = state_of s r.rest ws }
 
-abbrev pub changed_view : Settings → ChangeWords → List ℕ → Change
+abbrev pub changed_view : Settings → LeftWords ⊤ → List ℕ → Change
 changed_view s r ws = record { answer = r.answer; state = state_of s r.rest ws }
 
-unfoldable pub chosen_words : Ehci → EndpointType → Bool → Opened
+unfoldable pub chosen_words : Ehci → EndpointType → Bool → Result ℕ Refusal
 chosen_words s kind good =
     settle
     (first
@@ -32,12 +28,12 @@ chosen_words s kind good =
     ∷ (not good, InvalidParameter)
     ∷ (nat_le s.settings.endpoints (lowest_slot s), SlotLimitReached)
     ∷ []))
-    Refused
-    (Slot (lowest_slot s))
+    Err
+    (Ok (lowest_slot s))
 
-unfoldable pub verdict_words : Ehci → ℕ → Bool → Answer
+unfoldable pub verdict_words : Ehci → ℕ → Bool → Result ⊤ Refusal
 verdict_words s k good =
     settle
     (first ((not (is_opened s k), InvalidEndpoint) ∷ (is_uncollected s k, QueueFull) ∷ (not good, InvalidParameter) ∷ []))
-    RefusedCall
-    Done
+    Err
+    (Ok tt)

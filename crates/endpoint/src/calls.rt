@@ -11,33 +11,14 @@ ghost use Rattle.endpoint.specs.Words.{changed_view, chosen_words, opened_view, 
 
 use crate::heads::write_head;
 use crate::lowest::lowest_closed;
-use common::answer::{Answer, Refusal};
+use common::answer::Refusal;
 use common::kinds::{EndpointType, is_control, is_isochronous};
 use controller::readers::{is_open, uncollected};
 use descriptor::head::{raised, set_device_address, set_max_packet_size};
 use opening::heads::{CHARACTERISTICS, HEAD_WORDS, put_head};
 use pipe::endpoints::{Endpoint, Pipe, with_toggle};
 use pipe::slots::{pipe_at, put_endpoint};
-use words::cores::{Core, Rest};
-
-#[derive(Clone, Copy)]
-pub enum Opened {
-    Slot(u8),
-    Refused(Refusal),
-}
-
-#[derive(Clone, Copy)]
-pub struct EndpointOpening {
-    pub answer: Opened,
-    pub rest: Rest,
-}
-
-// What close, set address, set packet size and clear-halt leave.
-#[derive(Clone, Copy)]
-pub struct Change {
-    pub answer: Answer,
-    pub rest: Rest,
-}
+use words::cores::Core;
 
 // A packet size; of a bulk or interrupt endpoint one packet at least fits the limit.
 fn size_good(limit: u64, kind: EndpointType, size: u16) -> bool
@@ -55,21 +36,21 @@ pub fn fields_good(limit: u64, kind: EndpointType, address: u8, number: u8, pack
 }
 
 // The slot of a new endpoint, or why there is none.
-fn choose(core: Core, slots: &[u64], kind: EndpointType, good: bool) -> Opened
+fn choose(core: Core, slots: &[u64], kind: EndpointType, good: bool) -> Result<u8, Refusal>
     requires { Good core.settings core.rest slots.now }
     ensures { result ≡ chosen_words (view core slots.now) kind good }
 {
     if is_isochronous(kind) {
-        return Opened::Refused(Refusal::NotSupported);
+        return Err(Refusal::NotSupported);
     }
     if !good {
-        return Opened::Refused(Refusal::InvalidParameter);
+        return Err(Refusal::InvalidParameter);
     }
     let slot = lowest_closed(core, slots);
     if core.settings.endpoints <= slot {
-        return Opened::Refused(Refusal::SlotLimitReached);
+        return Err(Refusal::SlotLimitReached);
     }
-    Opened::Slot(slot)
+    Ok(slot)
 }
 
 pub fn open_endpoint(
@@ -80,7 +61,7 @@ pub fn open_endpoint(
     address: u8,
     number: u8,
     packet: u16,
-) -> EndpointOpening
+) -> Left<u8>
     requires good { Good core.settings core.rest slots.old }
     requires heads_len { length heads.old ≡ 17 * (core.settings.endpoints + 1) }
     ensures by_index { (pool frames setups : ℕ) → rows_are_fit core.settings pool (length heads.old) frames setups ≡ true
@@ -91,7 +72,7 @@ pub fn open_endpoint(
     let rest = core.rest;
     let good = fields_good(core.settings.limit, kind, address, number, packet);
     match choose(core, slots, kind, good) {
-        Opened::Slot(slot) => {
+        Ok(slot) => {
             write_head(heads, slot, kind, address, number, packet);
             let pipe = Pipe {
                 kind,
@@ -100,13 +81,13 @@ pub fn open_endpoint(
                 next: 1,
             };
             put_endpoint(slots, slot, Endpoint::Idle(pipe));
-            EndpointOpening {
-                answer: Opened::Slot(slot),
+            Left {
+                answer: Ok(slot),
                 rest,
             }
         }
-        Opened::Refused(refusal) => EndpointOpening {
-            answer: Opened::Refused(refusal),
+        Err(refusal) => Left {
+            answer: Err(refusal),
             rest,
         },
     }
@@ -133,23 +114,23 @@ fn pipe_good(limit: u64, p: Pipe) -> bool
 }
 
 // What close, set address, set packet size and clear-halt ask, in 01's order; `good` where the value is in its range.
-fn check_slot(core: Core, slots: &[u64], slot: u8, good: bool) -> Answer
+fn check_slot(core: Core, slots: &[u64], slot: u8, good: bool) -> Result<(), Refusal>
     requires { Good core.settings core.rest slots.now }
     ensures { result ≡ verdict_words (view core slots.now) slot good }
 {
     if !is_open(slots, slot) {
-        return Answer::Refused(Refusal::InvalidEndpoint);
+        return Err(Refusal::InvalidEndpoint);
     }
     if uncollected(slots, slot) {
-        return Answer::Refused(Refusal::QueueFull);
+        return Err(Refusal::QueueFull);
     }
     if !good {
-        return Answer::Refused(Refusal::InvalidParameter);
+        return Err(Refusal::InvalidParameter);
     }
-    Answer::Done
+    Ok(())
 }
 
-pub fn close(core: Core, slots: &mut [u64], heads: &mut [u32], slot: u8) -> Change
+pub fn close(core: Core, slots: &mut [u64], heads: &mut [u32], slot: u8) -> Left<()>
     requires good { Good core.settings core.rest slots.old }
     requires heads_len { length heads.old ≡ 17 * (core.settings.endpoints + 1) }
     ensures by_index { (pool frames setups : ℕ) → rows_are_fit core.settings pool (length heads.old) frames setups ≡ true
@@ -159,22 +140,22 @@ pub fn close(core: Core, slots: &mut [u64], heads: &mut [u32], slot: u8) -> Chan
 {
     let rest = core.rest;
     match check_slot(core, slots, slot, true) {
-        Answer::Done => {
+        Ok(()) => {
             put_head(heads, slot as usize + 1, [0; 17]);
             put_endpoint(slots, slot, Endpoint::Closed);
-            Change {
-                answer: Answer::Done,
+            Left {
+                answer: Ok(()),
                 rest,
             }
         }
-        Answer::Refused(refusal) => Change {
-            answer: Answer::Refused(refusal),
+        Err(refusal) => Left {
+            answer: Err(refusal),
             rest,
         },
     }
 }
 
-pub fn set_address(core: Core, slots: &[u64], heads: &mut [u32], slot: u8, address: u8) -> Change
+pub fn set_address(core: Core, slots: &[u64], heads: &mut [u32], slot: u8, address: u8) -> Left<()>
     requires good { Good core.settings core.rest slots.now }
     requires heads_len { length heads.old ≡ 17 * (core.settings.endpoints + 1) }
     ensures by_index { (pool frames setups : ℕ) → rows_are_fit core.settings pool (length heads.old) frames setups ≡ true
@@ -184,16 +165,16 @@ pub fn set_address(core: Core, slots: &[u64], heads: &mut [u32], slot: u8, addre
 {
     let rest = core.rest;
     match check_slot(core, slots, slot, address <= 127) {
-        Answer::Done => {
+        Ok(()) => {
             let at = HEAD_WORDS * (slot as usize + 1) + CHARACTERISTICS;
             heads[at] = set_device_address(heads[at], address);
-            Change {
-                answer: Answer::Done,
+            Left {
+                answer: Ok(()),
                 rest,
             }
         }
-        Answer::Refused(refusal) => Change {
-            answer: Answer::Refused(refusal),
+        Err(refusal) => Left {
+            answer: Err(refusal),
             rest,
         },
     }
@@ -206,7 +187,7 @@ pub fn set_packet_size(
     heads: &mut [u32],
     slot: u8,
     size: u8,
-) -> Change
+) -> Left<()>
     requires good { Good core.settings core.rest slots.old }
     requires heads_len { length heads.old ≡ 17 * (core.settings.endpoints + 1) }
     ensures by_index { (pool frames setups : ℕ) → rows_are_fit core.settings pool (length heads.old) frames setups ≡ true
@@ -218,40 +199,40 @@ pub fn set_packet_size(
     let old = pipe_at(slots, slot);
     let pipe = resize(old, size);
     match check_slot(core, slots, slot, pipe_good(core.settings.limit, pipe)) {
-        Answer::Done => {
+        Ok(()) => {
             let at = HEAD_WORDS * (slot as usize + 1) + CHARACTERISTICS;
             heads[at] = set_max_packet_size(heads[at], size);
             put_endpoint(slots, slot, Endpoint::Idle(pipe));
-            Change {
-                answer: Answer::Done,
+            Left {
+                answer: Ok(()),
                 rest,
             }
         }
-        Answer::Refused(refusal) => Change {
-            answer: Answer::Refused(refusal),
+        Err(refusal) => Left {
+            answer: Err(refusal),
             rest,
         },
     }
 }
 
 // The toggle of the next packet is 0, as the device has it after its halt is cleared.
-pub fn clear_halt(core: Core, slots: &mut [u64], slot: u8) -> Change
+pub fn clear_halt(core: Core, slots: &mut [u64], slot: u8) -> Left<()>
     requires { Good core.settings core.rest slots.old }
     ensures slots_after { changed_view core.settings result slots.new ≡ clear_halt_of (view core slots.old) slot }
     ensures tidy { Tidy core.settings result.rest slots.new }
 {
     let rest = core.rest;
     match check_slot(core, slots, slot, true) {
-        Answer::Done => {
+        Ok(()) => {
             let old = pipe_at(slots, slot);
             put_endpoint(slots, slot, Endpoint::Idle(with_toggle(old, false)));
-            Change {
-                answer: Answer::Done,
+            Left {
+                answer: Ok(()),
                 rest,
             }
         }
-        Answer::Refused(refusal) => Change {
-            answer: Answer::Refused(refusal),
+        Err(refusal) => Left {
+            answer: Err(refusal),
             rest,
         },
     }

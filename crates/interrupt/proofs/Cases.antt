@@ -1,5 +1,5 @@
 -- The returns of the interrupt calls.
-use Rattle.std.specs.Prelude.{◌≡◌, ℕ, ◌≤◌, Bool, true, false, not, eqb, leb, List}
+use Rattle.std.specs.Prelude.{◌≡◌, ℕ, ◌≤◌, Bool, true, false, not, eqb, leb, List, Ok}
 use mathlib.Core.Path.{sym, ◌∙◌}
 use native.Mathlib.Omega.{arith}
 use borrow.Author.Tests.{eq-eqb, ne_eqb, leb-true, not-false}
@@ -10,15 +10,13 @@ use Rattle.token.specs.Tokens.{only_if}
 use Rattle.state.specs.Ranges.{in_ranges, rest_good, machine_good, interrupt_good, doorbell_good}
 use Rattle.settings.specs.Settings.{settings_good}
 use Rattle.state.specs.State.{with_interrupt, with_bell, with_boundaries}
-use Rattle.common.specs.declared.answer.Answer.TheVariants.{Done}
 use Rattle.state.specs.Plain.{Ehci}
 use Rattle.common.proofs.TestLaws.{both_first, both_second, within_least}
 use Rattle.schedule.specs.Bell.{advanced_of, bell_of, fallen_from}
 use Rattle.schedule.specs.Links.{same}
 use Rattle.schedule.specs.declared.bell.Rung.{Rung}
-use Rattle.interrupt.specs.declared.answers.Acknowledged.TheVariants.{No, Yes}
 use Rattle.interrupt.specs.Plain.{Acknowledgement}
-use Rattle.interrupt.specs.declared.answers.Drained.TheVariants.{Nothing, PortChange, TransferActivity, Stopped}
+use Rattle.interrupt.specs.declared.answers.Event.TheVariants.{Nothing, PortChange, TransferActivity, Stopped}
 use Rattle.interrupt.specs.Plain.{Drainage}
 use Rattle.interrupt.specs.Plain.{Settled}
 use Rattle.interrupt.specs.Plain.{Counted}
@@ -46,14 +44,14 @@ module _ (p i : ℕ) (f g : Bool) (w₀ w₁ w₂ : Writes) (m : ℕ) (e₀ : w�
 
 module _ (s : Ehci) (st i : ℕ) (f g : Bool) (b : Bool) (eb : b ≡ in_ranges s) (w : Writes) where
   pub ack_no : not b ≡ false → w ≡ no_writes → (p : ℕ) → p ≡ only_bits st 55 → p ≡ 0
-      → ◌≡◌ {A = Acknowledgement} (record { answer = No; state = s; writes = w }) (acknowledge_of s st i f g)
+      → ◌≡◌ {A = Acknowledgement} (record { answer = Ok false; state = s; writes = w }) (acknowledge_of s st i f g)
   unfolding acknowledge_of
   ack_no t ew p ep z = rw (ew, sym eb ∙ not-false b t, sym ep ∙ z)
 
   pub ack_yes : not b ≡ false → (p n pend o mask : ℕ) → p ≡ only_bits st 55 → (p ≡ 0 → ⊥) → n ≡ noted_after s p
       → pend ≡ with_bits s.pending p → o ≡ only_bits p 39 → mask ≡ with_bits s.masked o → w ≡ acknowledge_writes p i f g
       → ◌≡◌ {A = Acknowledgement}
-      (record { answer = Yes; state = with_bell (with_interrupt s s.enabled pend mask) n s.doorbell s.unanswered; writes = w })
+      (record { answer = Ok true; state = with_bell (with_interrupt s s.enabled pend mask) n s.doorbell s.unanswered; writes = w })
       (acknowledge_of s st i f g)
   unfolding acknowledge_of acknowledged_state
   ack_yes t p n pend o mask ep z en ed eo em ew =
@@ -106,14 +104,14 @@ module _ (n : ℕ) (a : Bool) (ea : a ≡ any_of n 4) where
 
 module _ (s : Ehci) (cmd : ℕ) (b : Bool) (eb : b ≡ in_ranges s) where
   pub drain_nothing : (w : Writes) → not b ≡ false → s.pending ≡ 0 → w ≡ no_writes
-      → ◌≡◌ {A = Drainage} (record { answer = Nothing; state = s; writes = w }) (drain_of s cmd)
+      → ◌≡◌ {A = Drainage} (record { answer = Ok Nothing; state = s; writes = w }) (drain_of s cmd)
   unfolding drain_of
   drain_nothing w t z ew = rw (ew, sym eb ∙ not-false b t, eq-eqb s.pending 0 z)
 
   pub drain_some : (c : Counted) (k : Cleared) → not b ≡ false → (s.pending ≡ 0 → ⊥) → c ≡ counted_of s cmd → k ≡ cleared_of s.pending
       → ◌≡◌ {A = Drainage}
       (record {
-        answer = k.event;
+        answer = Ok k.event;
         state = with_interrupt c.state c.state.enabled k.left c.state.masked;
         writes = c.writes;
       })
@@ -130,21 +128,21 @@ pub word_off : (n : ℕ) → n ≡ 0 → 0 ≡ only_if (not (eqb n 0)) 39
 word_off n h = rw (eq-eqb n 0 h)
 
 module _ (s : Ehci) (b : Bool) (eb : b ≡ in_ranges s) (w w' : Writes) (ew : w ≡ no_writes) where
-  pub rearm_none : not b ≡ false → s.masked ≡ 0 → ◌≡◌ {A = Settled} (record { answer = Done; state = s; writes = w }) (rearm_of s)
+  pub rearm_none : not b ≡ false → s.masked ≡ 0 → ◌≡◌ {A = Settled} (record { answer = Ok tt; state = s; writes = w }) (rearm_of s)
   unfolding rearm_of
   rearm_none t z = rw (ew, sym eb ∙ not-false b t, eq-eqb s.masked 0 z)
 
   pub rearm_some : not b ≡ false → (s.masked ≡ 0 → ⊥) → (v : ℕ) → v ≡ only_if (not (eqb s.enabled 0)) 39 → w' ≡ and_then w 8 v
-      → ◌≡◌ {A = Settled} (record { answer = Done; state = with_interrupt s s.enabled s.pending 0; writes = w' }) (rearm_of s)
+      → ◌≡◌ {A = Settled} (record { answer = Ok tt; state = with_interrupt s s.enabled s.pending 0; writes = w' }) (rearm_of s)
   unfolding rearm_of
   rearm_some t z v ev e = rw (e, ew, ev, sym eb ∙ not-false b t, ne_eqb s.masked 0 z)
 
   pub enable_done : not b ≡ false → w' ≡ and_then w 8 39
-      → ◌≡◌ {A = Settled} (record { answer = Done; state = with_interrupt s 1 s.pending s.masked; writes = w' }) (enable_of s)
+      → ◌≡◌ {A = Settled} (record { answer = Ok tt; state = with_interrupt s 1 s.pending s.masked; writes = w' }) (enable_of s)
   unfolding enable_of
   enable_done t e = rw (e, ew, sym eb ∙ not-false b t)
 
   pub disable_done : not b ≡ false → w' ≡ and_then w 8 0
-      → ◌≡◌ {A = Settled} (record { answer = Done; state = with_interrupt s 0 s.pending s.masked; writes = w' }) (disable_of s)
+      → ◌≡◌ {A = Settled} (record { answer = Ok tt; state = with_interrupt s 0 s.pending s.masked; writes = w' }) (disable_of s)
   unfolding disable_of
   disable_done t e = rw (e, ew, sym eb ∙ not-false b t)

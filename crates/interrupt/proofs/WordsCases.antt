@@ -1,12 +1,11 @@
 -- The returns of the interrupt calls over words: each is the case of the calls' definitions at the state that the words stand for.
-use Rattle.std.specs.Prelude.{◌≡◌, ℕ, ◌≤◌, Bool, true, false, not, ◌&&◌, eqb, List}
+use Rattle.std.specs.Prelude.{◌≡◌, ℕ, ◌≤◌, Bool, true, false, not, ◌&&◌, eqb, List, Ok}
 use mathlib.Core.Path.{refl, sym, ap, ◌∙◌}
 use borrow.Author.Tests.{eq-eqb, ne_eqb}
 use Rattle.register.specs.Bits.{with_bits, only_bits, any_of}
 use Rattle.register.specs.Writes.{no_writes, and_then}
 use Rattle.register.specs.declared.writes.Writes.{Writes}
 use Rattle.token.specs.Tokens.{only_if}
-use Rattle.common.specs.declared.answer.Answer.TheVariants.{Done}
 use Rattle.settings.specs.declared.settings.Settings.{Settings}
 use Rattle.state.specs.Ranges.{in_ranges}
 use Rattle.state.specs.State.{with_bell, with_boundaries, with_interrupt}
@@ -21,9 +20,8 @@ use Rattle.words.specs.Rest.{rest_with_bell, rest_with_interrupt}
 use Rattle.words.specs.View.{state_of, view}
 use Rattle.words.proofs.FallenLaws.{view_fallen}
 use Rattle.words.proofs.TidyLaws.{tidy_fallen, tidy_rest}
-use Rattle.interrupt.specs.declared.answers.Acknowledged.TheVariants.{No, Yes}
 use Rattle.interrupt.specs.Plain.{Acknowledgement}
-use Rattle.interrupt.specs.declared.answers.Drained.TheVariants.{Nothing}
+use Rattle.interrupt.specs.declared.answers.Event.TheVariants.{Nothing}
 use Rattle.interrupt.specs.Plain.{Drainage}
 use Rattle.interrupt.specs.Plain.{Settled}
 use Rattle.interrupt.specs.Plain.{Counted}
@@ -48,7 +46,7 @@ module _ (doorbell noted p : ℕ) (a : Bool) (ea : a ≡ any_of p 32) where
 
 module _ (c : Core) (ws : List ℕ) (good : in_ranges (view c ws) ≡ true) (st i : ℕ) (f g : Bool) (w : Writes) where
   pub acknowledged_no : w ≡ no_writes → (p : ℕ) → p ≡ only_bits st 55 → p ≡ 0
-      → ◌≡◌ {A = Acknowledgement} (record { answer = No; state = view c ws; writes = w }) (acknowledge_of (view c ws) st i f g)
+      → ◌≡◌ {A = Acknowledgement} (record { answer = Ok false; state = view c ws; writes = w }) (acknowledge_of (view c ws) st i f g)
   acknowledged_no ew p ep z = ack_no (view c ws) st i f g true (sym good) w refl ew p ep z
 
   pub acknowledged_yes : (p n pend o mask : ℕ) → p ≡ only_bits st 55 → (p ≡ 0 → ⊥)
@@ -56,7 +54,7 @@ module _ (c : Core) (ws : List ℕ) (good : in_ranges (view c ws) ≡ true) (st 
       → pend ≡ with_bits c.rest.pending p → o ≡ only_bits p 39 → mask ≡ with_bits c.rest.masked o → w ≡ acknowledge_writes p i f g
       → ◌≡◌ {A = Acknowledgement}
       (record {
-        answer = Yes;
+        answer = Ok true;
         state = state_of c.settings
             (rest_with_bell (rest_with_interrupt c.rest c.rest.enabled pend mask) n c.rest.doorbell c.rest.unanswered) ws;
         writes = w;
@@ -111,7 +109,7 @@ tidy_counted s r q ws vs good e f = rw e (tidy_rest s r q (fall_to ws s.endpoint
 
 module _ (c : Core) (ws : List ℕ) (good : Good c.settings c.rest ws) (cmd : ℕ) where
   pub drained_nothing : (w : Writes) → c.rest.pending ≡ 0 → w ≡ no_writes
-      → ◌≡◌ {A = Drainage} (record { answer = Nothing; state = view c ws; writes = w }) (drain_of (view c ws) cmd)
+      → ◌≡◌ {A = Drainage} (record { answer = Ok Nothing; state = view c ws; writes = w }) (drain_of (view c ws) cmd)
   unfolding state_of
   drained_nothing w z ew = drain_nothing (view c ws) cmd true (sym good.ranges) w refl z ew
 
@@ -119,7 +117,7 @@ module _ (c : Core) (ws : List ℕ) (good : Good c.settings c.rest ws) (cmd : �
       → counted_view c.settings r vs ≡ counted_of (view c ws) cmd → k ≡ cleared_of c.rest.pending
       → ◌≡◌ {A = Drainage}
       (record {
-        answer = k.event;
+        answer = Ok k.event;
         state = state_of c.settings (rest_with_interrupt r.rest r.rest.enabled k.left r.rest.masked) vs;
         writes = r.writes;
       })
@@ -131,14 +129,14 @@ module _ (c : Core) (ws : List ℕ) (good : Good c.settings c.rest ws) (cmd : �
 -- ---- rearm, enable, disable
 
 module _ (c : Core) (ws : List ℕ) (good : in_ranges (view c ws) ≡ true) (w w' : Writes) (ew : w ≡ no_writes) where
-  pub rearmed_none : c.rest.masked ≡ 0 → ◌≡◌ {A = Settled} (record { answer = Done; state = view c ws; writes = w }) (rearm_of (view c ws))
+  pub rearmed_none : c.rest.masked ≡ 0 → ◌≡◌ {A = Settled} (record { answer = Ok tt; state = view c ws; writes = w }) (rearm_of (view c ws))
   unfolding state_of
   rearmed_none z = rearm_none (view c ws) true (sym good) w w' ew refl z
 
   pub rearmed_some : (c.rest.masked ≡ 0 → ⊥) → (v : ℕ) → v ≡ only_if (not (eqb c.rest.enabled 0)) 39 → w' ≡ and_then w 8 v
       → ◌≡◌ {A = Settled}
       (record {
-        answer = Done;
+        answer = Ok tt;
         state = state_of c.settings (rest_with_interrupt c.rest c.rest.enabled c.rest.pending 0) ws;
         writes = w';
       })
@@ -149,7 +147,7 @@ module _ (c : Core) (ws : List ℕ) (good : in_ranges (view c ws) ≡ true) (w w
   pub enabled_done : w' ≡ and_then w 8 39
       → ◌≡◌ {A = Settled}
       (record {
-        answer = Done;
+        answer = Ok tt;
         state = state_of c.settings (rest_with_interrupt c.rest 1 c.rest.pending c.rest.masked) ws;
         writes = w';
       })
@@ -160,7 +158,7 @@ module _ (c : Core) (ws : List ℕ) (good : in_ranges (view c ws) ≡ true) (w w
   pub disabled_done : w' ≡ and_then w 8 0
       → ◌≡◌ {A = Settled}
       (record {
-        answer = Done;
+        answer = Ok tt;
         state = state_of c.settings (rest_with_interrupt c.rest 0 c.rest.pending c.rest.masked) ws;
         writes = w';
       })

@@ -1,5 +1,5 @@
 -- Document 01, "Interrupts": acknowledge, drain, rearm, enable, disable.
-use Rattle.std.specs.Prelude.{ℕ, Bool, true, false, cond, not, ◌&&◌, [], ◌∷◌, ◌==◌}
+use Rattle.std.specs.Prelude.{ℕ, Bool, true, false, cond, not, ◌&&◌, [], ◌∷◌, ◌==◌, Err, Ok, Result}
 use Rattle.register.specs.Bits.{with_bits, without_bits, only_bits, any_of}
 use Rattle.register.specs.Writes.{no_writes, and_then}
 use Rattle.register.specs.declared.writes.Writes.{Writes}
@@ -7,43 +7,41 @@ use Rattle.token.specs.Tokens.{only_if}
 use Rattle.common.specs.Answers.{refusal_number, first, settle}
 use Rattle.state.specs.Ranges.{in_ranges}
 use Rattle.state.specs.State.{with_interrupt, with_bell, with_boundaries}
-use Rattle.common.specs.declared.answer.Answer.TheVariants.{Done, Refused as RefusedCall}
 use Rattle.common.specs.declared.answer.Refusal.TheVariants.{InvalidParameter}
 use Rattle.state.specs.Plain.{Ehci}
 use Rattle.schedule.specs.Bell.{advanced_of, bell_of, fallen_from}
 use Rattle.schedule.specs.Links.{same}
 use Rattle.schedule.specs.declared.bell.Rung.{Rung}
-use Rattle.interrupt.specs.declared.answers.Acknowledged.{Acknowledged}
-use Rattle.interrupt.specs.declared.answers.Acknowledged.TheVariants.{No, Yes, Refused as RefusedAck}
 use Rattle.interrupt.specs.Plain.{Acknowledgement}
-use Rattle.interrupt.specs.declared.answers.Drained.{Drained}
-use Rattle.interrupt.specs.declared.answers.Drained.TheVariants.{Nothing, PortChange, TransferActivity, Stopped, Refused as RefusedDrain}
+use Rattle.interrupt.specs.declared.answers.Event.TheVariants.{Nothing, PortChange, TransferActivity, Stopped}
 use Rattle.interrupt.specs.Plain.{Drainage}
 use Rattle.interrupt.specs.Plain.{Settled}
 use Rattle.interrupt.specs.Plain.{Counted}
 use Rattle.interrupt.specs.declared.drain.Cleared.{Cleared}
+use Rattle.interrupt.specs.declared.answers.Event.{Event}
+use Rattle.common.specs.declared.answer.Refusal.{Refusal}
 
 -- ---- numbers and values of the answers
 
-abbrev pub acknowledged_number : Acknowledged → ℕ
-acknowledged_number No = 0
-acknowledged_number Yes = 0
-acknowledged_number (RefusedAck r) = refusal_number r
+abbrev pub acknowledged_number : Result Bool Refusal → ℕ
+acknowledged_number (Ok false) = 0
+acknowledged_number (Ok true) = 0
+acknowledged_number (Err r) = refusal_number r
 
-abbrev pub drained_number : Drained → ℕ
-drained_number Nothing = 0
-drained_number PortChange = 0
-drained_number TransferActivity = 0
-drained_number Stopped = 0
-drained_number (RefusedDrain r) = refusal_number r
+abbrev pub drained_number : Result Event Refusal → ℕ
+drained_number (Ok Nothing) = 0
+drained_number (Ok PortChange) = 0
+drained_number (Ok TransferActivity) = 0
+drained_number (Ok Stopped) = 0
+drained_number (Err r) = refusal_number r
 
 -- PortChange says port 0, TransferActivity a count of 1
-abbrev pub drained_value : Drained → ℕ
-drained_value Nothing = 0
-drained_value PortChange = 0
-drained_value TransferActivity = 1
-drained_value Stopped = 0
-drained_value (RefusedDrain r) = 0
+abbrev pub drained_value : Result Event Refusal → ℕ
+drained_value (Ok Nothing) = 0
+drained_value (Ok PortChange) = 0
+drained_value (Ok TransferActivity) = 1
+drained_value (Ok Stopped) = 0
+drained_value (Err r) = 0
 
 -- ---- acknowledge
 
@@ -74,14 +72,14 @@ acknowledged_state s p =
 
 -- p = USBSTS and 0x37; "0 does nothing and answers no, else yes"
 abbrev pub heard_if : Bool → Ehci → ℕ → ℕ → Bool → Bool → Acknowledgement
-heard_if true s p interrupts flag again = record { answer = No; state = s; writes = no_writes }
+heard_if true s p interrupts flag again = record { answer = Ok false; state = s; writes = no_writes }
 heard_if false s p interrupts flag again =
-    record { answer = Yes; state = acknowledged_state s p; writes = acknowledge_writes p interrupts flag again }
+    record { answer = Ok true; state = acknowledged_state s p; writes = acknowledge_writes p interrupts flag again }
 
 unfoldable pub acknowledge_of : Ehci → ℕ → ℕ → Bool → Bool → Acknowledgement
 acknowledge_of s status interrupts flag again =
     settle (first ((not (in_ranges s), InvalidParameter) ∷ []))
-    (λ r. record { answer = RefusedAck r; state = s; writes = no_writes })
+    (λ r. record { answer = Err r; state = s; writes = no_writes })
     (heard_if (only_bits status 0x37 == 0) s (only_bits status 0x37) interrupts flag again)
 
 -- ---- drain
@@ -111,10 +109,10 @@ cleared_of pending =
     (record { event = Stopped; left = 0 }))
 
 abbrev pub drain_if : Bool → Ehci → Counted → Cleared → Drainage
-drain_if true s c t = record { answer = Nothing; state = s; writes = no_writes }
+drain_if true s c t = record { answer = Ok Nothing; state = s; writes = no_writes }
 drain_if false s c t =
     record {
-      answer = t.event;
+      answer = Ok t.event;
       state = with_interrupt c.state c.state.enabled t.left c.state.masked;
       writes = c.writes;
     }
@@ -123,23 +121,23 @@ drain_if false s c t =
 unfoldable pub drain_of : Ehci → ℕ → Drainage
 drain_of s command =
     settle (first ((not (in_ranges s), InvalidParameter) ∷ []))
-    (λ r. record { answer = RefusedDrain r; state = s; writes = no_writes })
+    (λ r. record { answer = Err r; state = s; writes = no_writes })
     (drain_if (s.pending == 0) s (counted_of s command) (cleared_of s.pending))
 
 -- ---- rearm, enable, disable
 
 abbrev pub refused_settled : Ehci → Settled
-refused_settled s = record { answer = RefusedCall InvalidParameter; state = s; writes = no_writes }
+refused_settled s = record { answer = Err InvalidParameter; state = s; writes = no_writes }
 
 abbrev pub settled_or : Bool → Ehci → Settled → Settled
 settled_or true s new = refused_settled s
 settled_or false s new = new
 
 abbrev pub rearm_if : Bool → Ehci → Settled
-rearm_if true s = record { answer = Done; state = s; writes = no_writes }
+rearm_if true s = record { answer = Ok tt; state = s; writes = no_writes }
 rearm_if false s =
     record {
-      answer = Done;
+      answer = Ok tt;
       state = with_interrupt s s.enabled s.pending 0;
       writes = and_then no_writes 8 (only_if (not (s.enabled == 0)) 0x27);
     }
@@ -152,9 +150,9 @@ rearm_of s = settled_or (not (in_ranges s)) s (rearm_if (s.masked == 0) s)
 unfoldable pub enable_of : Ehci → Settled
 enable_of s =
     settled_or (not (in_ranges s)) s
-    (record { answer = Done; state = with_interrupt s 1 s.pending s.masked; writes = and_then no_writes 8 0x27 })
+    (record { answer = Ok tt; state = with_interrupt s 1 s.pending s.masked; writes = and_then no_writes 8 0x27 })
 
 unfoldable pub disable_of : Ehci → Settled
 disable_of s =
     settled_or (not (in_ranges s)) s
-    (record { answer = Done; state = with_interrupt s 0 s.pending s.masked; writes = and_then no_writes 8 0 })
+    (record { answer = Ok tt; state = with_interrupt s 0 s.pending s.masked; writes = and_then no_writes 8 0 })

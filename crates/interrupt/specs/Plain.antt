@@ -1,12 +1,12 @@
 -- What the interrupt calls answer and leave of the plain state.
-use Rattle.common.specs.declared.answer.Answer.{Answer}
+use Rattle.std.specs.Prelude.{Bool, Result, ⊤}
 use Rattle.register.specs.declared.writes.Writes.{Writes}
 use Rattle.state.specs.Plain.{Ehci}
-use Rattle.interrupt.specs.declared.answers.Acknowledged.{Acknowledged}
-use Rattle.interrupt.specs.declared.answers.Drained.{Drained}
+use Rattle.interrupt.specs.declared.answers.Event.{Event}
+use Rattle.common.specs.declared.answer.Refusal.{Refusal}
 
 pub record Acknowledgement : Type 0 where
-  pub answer : Acknowledged
+  pub answer : Result Bool Refusal
   pub state : Ehci
   pub writes : Writes
 
@@ -16,12 +16,12 @@ pub record Counted : Type 0 where
   pub writes : Writes
 
 pub record Drainage : Type 0 where
-  pub answer : Drained
+  pub answer : Result Event Refusal
   pub state : Ehci
   pub writes : Writes
 
 -- what rearm, enable and disable leave
 pub record Settled : Type 0 where
-  pub answer : Answer
+  pub answer : Result ⊤ Refusal
   pub state : Ehci
   pub writes : Writes

@@ -9,13 +9,13 @@ ghost use Rattle.words.specs.Good.{Good, Tidy};
 ghost use Rattle.words.specs.View.{view};
 
 use crate::acknowledge::{MASKABLE, PENDING, acknowledge_writes};
-use crate::answers::{Acknowledged, Acknowledgement, Drainage, Drained, Settled};
 use crate::drain::{clear_pending, count_noted};
-use common::answer::Answer;
 use register::bits::{any_of, only_bits, with_bits};
 use register::operational::{USBINTR, USBSTS_INTERRUPT_ASYNC_ADVANCE};
 use register::writes::Writes;
 use words::cores::Core;
+use controller::left::Settled;
+use crate::answers::Event;
 
 // An advance is noted only while the doorbell is up.
 fn noted_after(doorbell: u8, noted: u8, p: u32) -> u8
@@ -35,7 +35,7 @@ pub fn acknowledge(
     interrupts: u32,
     flag: bool,
     again: bool,
-) -> Acknowledgement
+) -> Settled<bool>
     ensures by_index { (ws : List ℕ) → in_ranges (view core ws) ≡ true
         → acknowledged_view core.settings result ws ≡ acknowledge_of (view core ws) status interrupts flag again }
     ensures free_value { result.rest.free ≡ core.rest.free }
@@ -43,8 +43,8 @@ pub fn acknowledge(
     let mut rest = core.rest;
     let p = only_bits(status, PENDING);
     if p == 0 {
-        return Acknowledgement {
-            answer: Acknowledged::No,
+        return Settled {
+            answer: Ok(false),
             rest,
             writes: Writes::none(),
         };
@@ -53,15 +53,15 @@ pub fn acknowledge(
     rest.pending = with_bits(rest.pending, p);
     rest.masked = with_bits(rest.masked, only_bits(p, MASKABLE));
     rest.noted = noted;
-    Acknowledgement {
-        answer: Acknowledged::Yes,
+    Settled {
+        answer: Ok(true),
         rest,
         writes: acknowledge_writes(p, interrupts, flag, again),
     }
 }
 
 // Given USBCMD as read, for the ring that a counted advance may make.
-pub fn drain(core: Core, slots: &mut [u64], command: u32) -> Drainage
+pub fn drain(core: Core, slots: &mut [u64], command: u32) -> Settled<Event>
     requires { Good core.settings core.rest slots.old }
     ensures slots_after { drained_view core.settings result slots.new ≡ drain_of (view core slots.old) command }
     ensures tidy { Tidy core.settings result.rest slots.new }
@@ -69,8 +69,8 @@ pub fn drain(core: Core, slots: &mut [u64], command: u32) -> Drainage
     let pending = core.rest.pending;
     if pending == 0 {
         let rest = core.rest;
-        return Drainage {
-            answer: Drained::Nothing,
+        return Settled {
+            answer: Ok(Event::Nothing),
             rest,
             writes: Writes::none(),
         };
@@ -79,9 +79,9 @@ pub fn drain(core: Core, slots: &mut [u64], command: u32) -> Drainage
     let cleared = clear_pending(pending);
     let mut rest = counted.rest;
     rest.pending = cleared.left;
-    let answer = cleared.event;
+    let answer = Ok(cleared.event);
     let writes = counted.writes;
-    Drainage {
+    Settled {
         answer,
         rest,
         writes,
@@ -94,14 +94,14 @@ fn enabled_word(enabled: u8) -> u32
     if enabled != 0 { MASKABLE } else { 0 }
 }
 
-pub fn rearm(core: Core) -> Settled
+pub fn rearm(core: Core) -> Settled<()>
     ensures by_index { (ws : List ℕ) → in_ranges (view core ws) ≡ true → settled_view core.settings result ws ≡ rearm_of (view core ws) }
     ensures free_value { result.rest.free ≡ core.rest.free }
 {
     let mut rest = core.rest;
     if rest.masked == 0 {
         return Settled {
-            answer: Answer::Done,
+            answer: Ok(()),
             rest,
             writes: Writes::none(),
         };
@@ -109,33 +109,33 @@ pub fn rearm(core: Core) -> Settled
     rest.masked = 0;
     let word = enabled_word(rest.enabled);
     Settled {
-        answer: Answer::Done,
+        answer: Ok(()),
         rest,
         writes: Writes::none().and_then(USBINTR, word),
     }
 }
 
-pub fn enable(core: Core) -> Settled
+pub fn enable(core: Core) -> Settled<()>
     ensures by_index { (ws : List ℕ) → in_ranges (view core ws) ≡ true → settled_view core.settings result ws ≡ enable_of (view core ws) }
     ensures free_value { result.rest.free ≡ core.rest.free }
 {
     let mut rest = core.rest;
     rest.enabled = 1;
     Settled {
-        answer: Answer::Done,
+        answer: Ok(()),
         rest,
         writes: Writes::none().and_then(USBINTR, MASKABLE),
     }
 }
 
-pub fn disable(core: Core) -> Settled
+pub fn disable(core: Core) -> Settled<()>
     ensures by_index { (ws : List ℕ) → in_ranges (view core ws) ≡ true → settled_view core.settings result ws ≡ disable_of (view core ws) }
     ensures free_value { result.rest.free ≡ core.rest.free }
 {
     let mut rest = core.rest;
     rest.enabled = 0;
     Settled {
-        answer: Answer::Done,
+        answer: Ok(()),
         rest,
         writes: Writes::none().and_then(USBINTR, 0),
     }

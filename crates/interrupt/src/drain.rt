@@ -5,22 +5,20 @@ ghost use Rattle.interrupt.specs.Words.{counted_view};
 ghost use Rattle.words.specs.Good.{Good, Tidy};
 ghost use Rattle.words.specs.View.{view};
 
-use crate::answers::Drained;
 use register::bits::{any_of, without_bits};
-use register::operational::{
-    USBSTS_INTERRUPT_ASYNC_ADVANCE, USBSTS_PORT_CHANGE, USBSTS_USBERRINT, USBSTS_USBINT,
-};
+use register::operational::{USBSTS_INTERRUPT_ASYNC_ADVANCE, USBSTS_PORT_CHANGE, USBSTS_USBERRINT, USBSTS_USBINT};
 use register::writes::Writes;
 use schedule::bell::{Bell, advanced};
 use words::cores::{Core, Rest};
 use words::fall::fall;
+use crate::answers::Event;
 
 pub const ACTIVITY: u32 = USBSTS_USBINT | USBSTS_USBERRINT | USBSTS_INTERRUPT_ASYNC_ADVANCE;
 
 // What a drain takes of what is pending, and what it leaves.
 #[derive(Clone, Copy)]
 pub struct Cleared {
-    pub event: Drained,
+    pub event: Event,
     pub left: u32,
 }
 
@@ -36,18 +34,18 @@ pub fn clear_pending(pending: u32) -> Cleared
 {
     if any_of(pending, USBSTS_PORT_CHANGE) {
         return Cleared {
-            event: Drained::PortChange,
+            event: Event::PortChange,
             left: without_bits(pending, USBSTS_PORT_CHANGE),
         };
     }
     if any_of(pending, ACTIVITY) {
         return Cleared {
-            event: Drained::TransferActivity,
+            event: Event::TransferActivity,
             left: without_bits(pending, ACTIVITY),
         };
     }
     Cleared {
-        event: Drained::Stopped,
+        event: Event::Stopped,
         left: 0,
     }
 }

@@ -1,13 +1,12 @@
 -- Document 01, "Examples": a sheet's job on a running controller "with D 16, E 8, C 16384, areas 100000, 200000, 300000, 400000".
-use Rattle.std.specs.Prelude.{cond, ℕ, zero, suc, List, [], ◌∷◌, ltb, get_or, replicate, set}
+use Rattle.std.specs.Prelude.{cond, ℕ, zero, suc, List, [], ◌∷◌, ltb, get_or, replicate, set, Err, Ok, Result}
 use Rattle.common.specs.declared.kinds.EndpointType.{EndpointType}
 use Rattle.common.specs.declared.kinds.EndpointType.TheVariants.{Control}
 use Rattle.settings.specs.declared.settings.Settings.{Settings}
 use Rattle.pipe.specs.Endpoints.{direction_of, kind_of}
 use Rattle.ehci.specs.declared.call.Call.{Call}
 use Rattle.ehci.specs.declared.call.Call.TheVariants.{StartBringUp, BringUpStep, OpenEndpoint, Submit}
-use Rattle.ehci.specs.declared.reply.Answered.{Answered}
-use Rattle.ehci.specs.declared.reply.Answered.TheVariants.{Done, Pending, Cancelled, Failed, Refused}
+use Rattle.ehci.specs.declared.reply.Answered.TheVariants.{Done, Pending, Cancelled, Failed}
 use Rattle.ehci.specs.declared.reply.Given.{Given}
 use Rattle.ehci.specs.declared.reply.Given.TheVariants as G
 use Rattle.ehci.specs.Replies.{answered_number}
@@ -19,6 +18,8 @@ use Rattle.job_sheet.specs.declared.sheet.Job.{Job}
 use Rattle.job_sheet.specs.Outcomes.{slot_of}
 use Rattle.job_sheet.specs.Sheets.{job_of, no_endpoint, no_request}
 use Rattle.job_run.specs.Plain.{Ran}
+use Rattle.ehci.specs.declared.reply.Answered.{Answered}
+use Rattle.common.specs.declared.answer.Refusal.{Refusal}
 
 -- ---- the controller
 
@@ -72,12 +73,12 @@ slot_given (G.Event e) = 255
 slot_given (G.Next read wait) = 255
 
 -- 255, which is no slot, for a record that was not opened
-abbrev pub slot_told : Answered → ℕ
-slot_told (Done given) = slot_given given
-slot_told Pending = 255
-slot_told Cancelled = 255
-slot_told (Failed token) = 255
-slot_told (Refused r) = 255
+abbrev pub slot_told : Result Answered Refusal → ℕ
+slot_told (Ok (Done given)) = slot_given given
+slot_told (Ok Pending) = 255
+slot_told (Ok Cancelled) = 255
+slot_told (Ok (Failed token)) = 255
+slot_told (Err r) = 255
 
 abbrev pub id_given : Given → ℕ
 id_given G.Nothing = 0
@@ -91,12 +92,12 @@ id_given (G.Event e) = 0
 id_given (G.Next read wait) = 0
 
 -- "id (0 if refused)"
-abbrev pub id_told : Answered → ℕ
-id_told (Done given) = id_given given
-id_told Pending = 0
-id_told Cancelled = 0
-id_told (Failed token) = 0
-id_told (Refused r) = 0
+abbrev pub id_told : Result Answered Refusal → ℕ
+id_told (Ok (Done given)) = id_given given
+id_told (Ok Pending) = 0
+id_told (Ok Cancelled) = 0
+id_told (Ok (Failed token)) = 0
+id_told (Err r) = 0
 
 -- ---- the endpoint records are opened, in order
 

@@ -21,7 +21,7 @@ use crate::controller_of::running_store;
 use common::kinds::EndpointType;
 use controller::lent::Readings;
 use ehci::call::{Call, EndpointFields};
-use ehci::reply::{Answered, Given};
+use ehci::reply::{Answered, Given, answered_number};
 use job_sheet::job::{endpoint_of, request_of};
 use job_sheet::outcome::slot_of;
 use job_sheet::record::{EndpointRecord, RequestRecord};
@@ -29,6 +29,8 @@ use job_sheet::sheet::Job;
 use pipe::endpoints::{direction_of, kind_of};
 use request::judge::TransferRequest;
 use store::store::{Store, call_on};
+use common::answer::Refusal;
+use interrupt::answers::Event;
 
 // No slot has this number.
 pub const NO_SLOT: u8 = 255;
@@ -59,15 +61,15 @@ fn slot_given(given: Given) -> u8
     }
 }
 
-fn slot_told(answer: Answered) -> u8
+fn slot_told(answer: Result<Answered, Refusal>) -> u8
     ensures { result ≡ slot_told answer }
 {
     match answer {
-        Answered::Done(given) => slot_given(given),
-        Answered::Pending => NO_SLOT,
-        Answered::Cancelled => NO_SLOT,
-        Answered::Failed(_) => NO_SLOT,
-        Answered::Refused(_) => NO_SLOT,
+        Ok(Answered::Done(given)) => slot_given(given),
+        Ok(Answered::Pending) => NO_SLOT,
+        Ok(Answered::Cancelled) => NO_SLOT,
+        Ok(Answered::Failed(_)) => NO_SLOT,
+        Err(_) => NO_SLOT,
     }
 }
 
@@ -87,15 +89,15 @@ fn id_given(given: Given) -> u64
     }
 }
 
-fn id_told(answer: Answered) -> u64
+fn id_told(answer: Result<Answered, Refusal>) -> u64
     ensures { result ≡ id_told answer }
 {
     match answer {
-        Answered::Done(given) => id_given(given),
-        Answered::Pending => 0,
-        Answered::Cancelled => 0,
-        Answered::Failed(_) => 0,
-        Answered::Refused(_) => 0,
+        Ok(Answered::Done(given)) => id_given(given),
+        Ok(Answered::Pending) => 0,
+        Ok(Answered::Cancelled) => 0,
+        Ok(Answered::Failed(_)) => 0,
+        Err(_) => 0,
     }
 }
 
@@ -121,7 +123,7 @@ fn open_step(mut ran: Ran, k: usize, e: EndpointRecord) -> Ran
     let answer = called.answer;
     let after = called.store;
     ran.store = after;
-    ran.opened[k] = answer.number();
+    ran.opened[k] = answered_number(answer);
     ran.slots[k] = slot_told(answer);
     ran
 }
@@ -194,7 +196,7 @@ fn submit_step(mut ran: Ran, job: Job, k: usize, t: RequestRecord) -> Ran
     let answer = called.answer;
     let after = called.store;
     ran.store = after;
-    ran.submitted[k] = answer.number();
+    ran.submitted[k] = answered_number(answer);
     ran.ids[k] = id_told(answer);
     ran
 }

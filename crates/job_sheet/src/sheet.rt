@@ -9,9 +9,7 @@ ghost use Rattle.job_sheet.specs.Reading.{
   sheet_of,
 };
 
-use crate::record::{
-    EndpointRecord, RequestRecord, endpoint_at, endpoint_fits, is_control, request_at, request_fits,
-};
+use crate::record::{EndpointRecord, RequestRecord, endpoint_at, endpoint_fits, is_control, request_at, request_fits};
 use text::number::number16;
 
 // The first so many records of each kind; the others are 0.

@@ -1,5 +1,5 @@
 -- The returns of opening.
-use Rattle.std.specs.Prelude.{◌≡◌, ℕ, zero, suc, ◌+◌, ◌-◌, ◌%◌, ◌^◌, ◌<◌, ◌≤◌, Bool, true, false, not, ◌&&◌, eqb, List, ◌++◌, length, drop, replicate}
+use Rattle.std.specs.Prelude.{◌≡◌, ℕ, zero, suc, ◌+◌, ◌-◌, ◌%◌, ◌^◌, ◌<◌, ◌≤◌, Bool, true, false, not, ◌&&◌, eqb, List, ◌++◌, length, drop, replicate, Err, Ok, Result, ⊤}
 use mathlib.Core.Path.{sym, ap, ◌∙◌}
 use native.Mathlib.Decide.{ℕ_discrete as dec_eq}
 use native.Mathlib.Omega.{arith}
@@ -11,8 +11,6 @@ use Rattle.descriptor.specs.declared.head.QueueHead.{QueueHead}
 use Rattle.settings.specs.declared.settings.Settings.{Settings}
 use Rattle.opening.specs.Opening.{rows_are_fit, opened_heads}
 use Rattle.opening.specs.Words.{open_count}
-use Rattle.common.specs.declared.answer.Answer.{Answer}
-use Rattle.common.specs.declared.answer.Answer.TheVariants.{Done, Refused}
 use Rattle.common.specs.declared.answer.Refusal.{Refusal}
 use Rattle.common.specs.Rows.{put_at}
 use Rattle.settings.specs.Settings.{settings_good, numbers_good, each_good, area_good, pool_size, heads_size, heads_length, setups_length, pool_length, frames_length}
@@ -24,10 +22,10 @@ unfolding rows_are_fit
 fit_is s p h f u fits e = rw e (every_4 (eqb p (pool_length s)) (eqb h (heads_length s)) (eqb f frames_length) (eqb u (setups_length s)))
 
 -- how many records are opened
-pub count_done : (a : Answer) (pool : ℕ) → a ≡ Done → pool ≡ open_count a pool
+pub count_done : (a : (Result ⊤ Refusal)) (pool : ℕ) → a ≡ (Ok tt) → pool ≡ open_count a pool
 count_done a pool e = rw e
 
-pub count_refused : (a : Answer) (pool : ℕ) (r : Refusal) → a ≡ Refused r → 0 ≡ open_count a pool
+pub count_refused : (a : (Result ⊤ Refusal)) (pool : ℕ) (r : Refusal) → a ≡ Err r → 0 ≡ open_count a pool
 count_refused a pool r e = rw e
 
 -- D records and the shared one

@@ -1,6 +1,6 @@
 -- Opening: an accepted one gives a state in its ranges with every descriptor free, and rows of which each word is stated; a
 -- refused one leaves every row as it was and gives a state that is outside its ranges.
-use Rattle.std.specs.Prelude.{◌≡◌, ℕ, ◌+◌, ◌-◌, ◌*◌, ◌%◌, ◌^◌, ◌<◌, Bool, true, false, ◌&&◌, eqb, List, ◌∷◌, length, replicate}
+use Rattle.std.specs.Prelude.{◌≡◌, ℕ, ◌+◌, ◌-◌, ◌*◌, ◌%◌, ◌^◌, ◌<◌, Bool, true, false, ◌&&◌, eqb, List, ◌∷◌, length, replicate, Err, Ok}
 use mathlib.Core.Path.{refl, ◌∙◌}
 use native.Mathlib.Omega.{arith}
 use borrow.Author.Tests.{eq-eqb, eqb-true}
@@ -8,7 +8,6 @@ use lib.ListN.{get_or-replicate, replicate-append-replicate}
 use Rattle.register.specs.Bits.{without_bits}
 use Rattle.descriptor.specs.Descriptors.{terminated}
 use Rattle.descriptor.specs.Heads.{ring_head}
-use Rattle.common.specs.declared.answer.Answer.TheVariants.{Done, Refused}
 use Rattle.common.specs.declared.answer.Refusal.TheVariants.{InvalidParameter}
 use Rattle.settings.specs.declared.settings.Settings.{Settings}
 use Rattle.pipe.specs.Endpoints.{bare_slot}
@@ -123,7 +122,7 @@ heads_words s g =
 -- ---- the call
 
 pub record Accepted (s : Settings) (heads frames setups : List ℕ) (o : Decided) : Type 0 where
-  pub answer_done : o.opening.answer ≡ Done
+  pub answer_done : o.opening.answer ≡ (Ok tt)
   pub state_fresh : o.opening.state ≡ fresh_state s
   pub hub_opened : o.opening.hub ≡ opened_hub s.ports
   pub heads_are : o.heads ≡ (s.heads + 2) ∷ 0x00408000 ∷ 2 ^ 30 ∷ 0 ∷ 1 ∷ 1 ∷ replicate (length heads - 6) 0
@@ -131,7 +130,7 @@ pub record Accepted (s : Settings) (heads frames setups : List ℕ) (o : Decided
   pub setups_are : o.setups ≡ replicate (length setups) 0
 
 pub record Denied (heads frames setups : List ℕ) (o : Decided) : Type 0 where
-  pub answer_refused : o.opening.answer ≡ Refused InvalidParameter
+  pub answer_refused : o.opening.answer ≡ Err InvalidParameter
   pub state_none : o.opening.state ≡ fresh_state no_settings
   pub hub_none : o.opening.hub ≡ opened_hub 0
   pub heads_kept : o.heads ≡ heads

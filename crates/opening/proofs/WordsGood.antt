@@ -1,7 +1,6 @@
 -- What opening in words gives: an accepted one's core and row of slots are good, a refused one's core is outside its ranges.
-use Rattle.std.specs.Prelude.{◌≡◌, ℕ, Bool, true, false, List, length}
+use Rattle.std.specs.Prelude.{◌≡◌, ℕ, Bool, true, false, List, length, Err, Ok}
 use mathlib.Core.Path.{refl, sym, ap, subst, ◌∙◌}
-use Rattle.common.specs.declared.answer.Answer.TheVariants.{Done, Refused}
 use Rattle.common.specs.declared.answer.Refusal.TheVariants.{InvalidParameter}
 use Rattle.common.proofs.CheckLaws.{answers_apart}
 use Rattle.descriptor.specs.declared.qtd.QueueTransferDescriptor.{QueueTransferDescriptor as Record}
@@ -30,12 +29,12 @@ fresh_good s core slots g f =
     (record { tidy = f.tidy; ranges = ap in_ranges f.fresh ∙ fresh_in_ranges s g })
 
 module _ (s : Settings) (rs : List Record) (ss hs fs us : List ℕ) where
-  denied_answer : (rows_of (opened (refused_opening InvalidParameter) rs hs fs us)).answer ≡ Refused InvalidParameter
+  denied_answer : (rows_of (opened (refused_opening InvalidParameter) rs hs fs us)).answer ≡ Err InvalidParameter
   unfolding refused_opening
   denied_answer = refl
 
   -- only good settings are accepted
-  pub done_good : (open_words s rs ss hs fs us).answer ≡ Done → settings_good s ≡ true
+  pub done_good : (open_words s rs ss hs fs us).answer ≡ (Ok tt) → settings_good s ≡ true
   unfolding open_words
   done_good e = go (settings_good s) refl (slots_fit s (length ss)) refl
     where
@@ -49,6 +48,6 @@ module _ (s : Settings) (rs : List Record) (ss hs fs us : List ℕ) where
 
   -- the core and the row of slots of an accepted opening are good
   pub opened_good : (o : Opening) (wr : List Record) (ws wh wf wu : List ℕ) → opened_rows o wr wh wf wu ≡ open_words s rs ss hs fs us
-      → OpensWords s o ss ws → o.answer ≡ Done → Good o.core.settings o.core.rest ws
+      → OpensWords s o ss ws → o.answer ≡ (Ok tt) → Good o.core.settings o.core.rest ws
   opened_good o wr ws wh wf wu e w d =
       fresh_good s o.core ws (done_good (sym (ap (λ (x : OpenedRows). x.answer) e) ∙ d)) (w.accepted d)

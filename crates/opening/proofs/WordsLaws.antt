@@ -1,10 +1,8 @@
 -- Opening in words: where it is accepted every record but the shared one is thirteen zero words, and the core and the row of slots stand for the fresh state;
 -- where it is refused every row is as it was.
-use Rattle.std.specs.Prelude.{◌≡◌, ℕ, ◌+◌, ◌≤◌, Bool, true, false, List, length, replicate}
+use Rattle.std.specs.Prelude.{◌≡◌, ℕ, ◌+◌, ◌≤◌, Bool, true, false, List, length, replicate, Err, Ok, Result, ⊤}
 use mathlib.Core.Path.{refl, sym, ap, subst, ◌∙◌}
 use native.Mathlib.Omega.{arith}
-use Rattle.common.specs.declared.answer.Answer.{Answer}
-use Rattle.common.specs.declared.answer.Answer.TheVariants.{Done, Refused}
 use Rattle.common.specs.declared.answer.Refusal.TheVariants.{InvalidParameter}
 use Rattle.common.proofs.CheckLaws.{answers_apart}
 use Rattle.descriptor.specs.declared.qtd.QueueTransferDescriptor.{QueueTransferDescriptor as Record}
@@ -23,6 +21,7 @@ use Rattle.opening.specs.Opening.{accepted_opening, fresh_state, opened, opened_
 use Rattle.opening.specs.Words.{DecidedWords, FreshWords, OpensWords, accepted_words, blank_core, decide_words, decided_words, open_count, open_words, opened_rows, refused_words, rows_of, slots_fit}
 use Rattle.opening.proofs.OpenLaws.{rows_tell}
 use Rattle.opening.proofs.OpenPool.{accepts, refuses_rows, refuses_settings}
+use Rattle.common.specs.declared.answer.Refusal.{Refusal}
 
 -- ---- the records that are opened
 
@@ -87,7 +86,7 @@ module _ (s : Settings) (rs : List Record) (ss hs fs us : List ℕ) (o : Opening
       go true ea true eb false ec = denied_way (rw (ea, eb, ec)) (rw ea (ap rows_of (refuses_rows s rs hs fs us eb ec)))
       go true ea true eb true ec = granted_way ec (rw (ea, eb, ec)) (rw ea (ap rows_of (accepts s rs hs fs us eb ec)))
 
-  refused_answer : o ≡ refused_words InvalidParameter → o.answer ≡ Refused InvalidParameter
+  refused_answer : o ≡ refused_words InvalidParameter → o.answer ≡ Err InvalidParameter
   unfolding refused_words
   refused_answer d = ap (λ (x : Opening). x.answer) d
 
@@ -95,16 +94,16 @@ module _ (s : Settings) (rs : List Record) (ss hs fs us : List ℕ) (o : Opening
   unfolding refused_words
   refused_core d = ap (λ (x : Opening). x.core) d
 
-  accepted_answer : o ≡ accepted_words s → o.answer ≡ Done
+  accepted_answer : o ≡ accepted_words s → o.answer ≡ (Ok tt)
   unfolding accepted_words
   accepted_answer d = ap (λ (x : Opening). x.answer) d
 
   module _ (n : ℕ) (en : n ≡ open_count o.answer (length rs)) where
     count_denied : o ≡ refused_words InvalidParameter → n ≡ 0
-    count_denied d = en ∙ ap (λ (x : Answer). open_count x (length rs)) (refused_answer d)
+    count_denied d = en ∙ ap (λ (x : (Result ⊤ Refusal)). open_count x (length rs)) (refused_answer d)
 
     count_granted : o ≡ accepted_words s → n ≡ length rs
-    count_granted d = en ∙ ap (λ (x : Answer). open_count x (length rs)) (accepted_answer d)
+    count_granted d = en ∙ ap (λ (x : (Result ⊤ Refusal)). open_count x (length rs)) (accepted_answer d)
 
     -- so many records may be opened
     pub may_open : n ≤ length rs

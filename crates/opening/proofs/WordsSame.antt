@@ -1,8 +1,6 @@
 -- "any two results allowed are proved the same", of opening in words: the answer, the core, the hub's record and the five rows.
-use Rattle.std.specs.Prelude.{◌≡◌, ℕ, ◌≤◌, List}
+use Rattle.std.specs.Prelude.{◌≡◌, ℕ, ◌≤◌, List, Err, Ok, Result, ⊤}
 use mathlib.Core.Path.{refl, sym, ap, ◌∙◌}
-use Rattle.common.specs.declared.answer.Answer.{Answer}
-use Rattle.common.specs.declared.answer.Answer.TheVariants.{Done, Refused}
 use Rattle.descriptor.specs.declared.qtd.QueueTransferDescriptor.{QueueTransferDescriptor as Record}
 use Rattle.settings.specs.declared.settings.Settings.{Settings}
 use Rattle.settings.proofs.SettingsLaws.{good_tells}
@@ -11,6 +9,7 @@ use Rattle.words.proofs.OneLaws.{Typed, view_one}
 use Rattle.opening.specs.declared.open.Opening.{Opening}
 use Rattle.opening.specs.Words.{BlankWords, FreshWords, OpenedRows, OpensWords, open_words, opened_rows}
 use Rattle.opening.proofs.WordsGood.{done_good}
+use Rattle.common.specs.declared.answer.Refusal.{Refusal}
 
 core_same : (c d : Core) → c.settings ≡ d.settings → c.rest ≡ d.rest → c ≡ d
 core_same c d p q = whole
@@ -44,11 +43,11 @@ module _ (s : Settings) (rs : List Record) (ss hs fs us : List ℕ) (a b : Openi
   words_same : (a.core ≡ b.core) × (va ≡ vb)
   words_same = go a.answer (sym (ap (λ (o : OpenedRows). o.answer) same_rows)) refl
     where
-      go : (x : Answer) → b.answer ≡ x → a.answer ≡ x → (a.core ≡ b.core) × (va ≡ vb)
-      go Done p q =
+      go : (x : (Result ⊤ Refusal)) → b.answer ≡ x → a.answer ≡ x → (a.core ≡ b.core) × (va ≡ vb)
+      go (Ok tt) p q =
           fresh_same s a.core b.core va vb (good_tells s (done_good s rs ss hs fs us (sym (ap (λ (o : OpenedRows). o.answer) ea) ∙ q))).endpoints_most
           (wa.accepted q) (wb.accepted p) ta tb
-      go (Refused r) p q = blank_same a.core b.core ss va vb (wa.refused r q) (wb.refused r p)
+      go (Err r) p q = blank_same a.core b.core ss va vb (wa.refused r q) (wb.refused r p)
 
   pub same_words : (a ≡ b) × (va ≡ vb)
   same_words =

@@ -1,10 +1,9 @@
 -- Document 01, "Opening a controller".
-use Rattle.std.specs.Prelude.{ℕ, ◌-◌, Bool, not, List, [], ◌∷◌, ◌++◌, length, replicate, ◌==◌}
+use Rattle.std.specs.Prelude.{ℕ, ◌-◌, Bool, not, List, [], ◌∷◌, ◌++◌, length, replicate, ◌==◌, Err, Ok}
 use Rattle.descriptor.specs.declared.qtd.QueueTransferDescriptor.{QueueTransferDescriptor}
 use Rattle.descriptor.specs.Descriptors.{terminated}
 use Rattle.descriptor.specs.Heads.{ring_head, words_of}
 use Rattle.pool.specs.Chains.{blank}
-use Rattle.common.specs.declared.answer.Answer.TheVariants.{Done, Refused}
 use Rattle.common.specs.declared.answer.Refusal.{Refusal}
 use Rattle.common.specs.declared.answer.Refusal.TheVariants.{InvalidParameter}
 use Rattle.opening.specs.Plain.{Opening}
@@ -59,10 +58,10 @@ rows_are_fit s pool heads frames setups =
     ∷ [])
 
 unfoldable pub refused_opening : Refusal → Opening
-refused_opening r = record { answer = Refused r; state = fresh_state no_settings; hub = opened_hub 0 }
+refused_opening r = record { answer = Err r; state = fresh_state no_settings; hub = opened_hub 0 }
 
 unfoldable pub accepted_opening : Settings → Opening
-accepted_opening s = record { answer = Done; state = fresh_state s; hub = opened_hub s.ports }
+accepted_opening s = record { answer = Ok tt; state = fresh_state s; hub = opened_hub s.ports }
 
 -- what is decided by the pool's length: the answer, and the rows of numbers
 pub record Decided : Type 0 where

@@ -1,7 +1,5 @@
 -- Opening a controller whose state is in words: the row of slots is lent beside the others, six words a slot.
-use Rattle.std.specs.Prelude.{◌≡◌, ℕ, ◌*◌, Bool, not, List, [], ◌∷◌, length, replicate, ◌==◌}
-use Rattle.common.specs.declared.answer.Answer.{Answer}
-use Rattle.common.specs.declared.answer.Answer.TheVariants.{Done, Refused}
+use Rattle.std.specs.Prelude.{◌≡◌, ℕ, ◌*◌, Bool, not, List, [], ◌∷◌, length, replicate, ◌==◌, Err, Ok, Result, ⊤}
 use Rattle.common.specs.declared.answer.Refusal.{Refusal}
 use Rattle.common.specs.declared.answer.Refusal.TheVariants.{InvalidParameter}
 use Rattle.common.specs.Answers.{Check, first, settle}
@@ -25,7 +23,7 @@ slots_fit s words = words == 6 * s.endpoints
 
 -- all but the state: the answer, the root ports' record, and the rows
 pub record OpenedRows : Type 0 where
-  pub answer : Answer
+  pub answer : Result ⊤ Refusal
   pub hub : EhciRootHub
   pub pool : List QueueTransferDescriptor
   pub heads : List ℕ
@@ -74,17 +72,17 @@ pub record BlankWords (core : Core) (old new : List ℕ) : Type 0 where
   pub kept : new ≡ old
 
 pub record OpensWords (s : Settings) (o : Opening) (old new : List ℕ) : Type 0 where
-  pub accepted : o.answer ≡ Done → FreshWords s o.core new
-  pub refused : (r : Refusal) → o.answer ≡ Refused r → BlankWords o.core old new
+  pub accepted : o.answer ≡ (Ok tt) → FreshWords s o.core new
+  pub refused : (r : Refusal) → o.answer ≡ Err r → BlankWords o.core old new
 
 -- ---- what is decided by the pool's length: the answer, and the rows of numbers
 
 unfoldable pub refused_words : Refusal → Opening
-refused_words r = record { answer = Refused r; core = blank_core; hub = opened_hub 0 }
+refused_words r = record { answer = Err r; core = blank_core; hub = opened_hub 0 }
 
 unfoldable pub accepted_words : Settings → Opening
 accepted_words s =
-    record { answer = Done; core = record { settings = s; rest = opened_rest s.descriptors }; hub = opened_hub s.ports }
+    record { answer = Ok tt; core = record { settings = s; rest = opened_rest s.descriptors }; hub = opened_hub s.ports }
 
 pub record DecidedWords : Type 0 where
   pub opening : Opening
@@ -114,6 +112,6 @@ decide_words s pool slots heads frames setups =
     (replicate (setups_length s) 0))
 
 -- how many of so many records are opened: all where opening is accepted, else none
-abbrev pub open_count : Answer → ℕ → ℕ
-open_count Done pool = pool
-open_count (Refused r) pool = 0
+abbrev pub open_count : Result ⊤ Refusal → ℕ → ℕ
+open_count (Ok tt) pool = pool
+open_count (Err r) pool = 0

@@ -8,7 +8,7 @@ ghost use Rattle.opening.specs.Opening.{rows_are_fit, opened_heads};
 use crate::heads::put_head;
 use crate::hub::EhciRootHub;
 use bitset::places::all_below;
-use common::answer::{Answer, Refusal};
+use common::answer::Refusal;
 use common::rows::{fill_bytes, fill_words};
 use descriptor::head::QueueHead;
 use descriptor::qtd::{EHCI_LINK_TERMINATE, QueueTransferDescriptor};
@@ -24,7 +24,7 @@ const HEAD: u64 = 17;
 
 #[derive(Clone, Copy)]
 pub struct Opening {
-    pub answer: Answer,
+    pub answer: Result<(), Refusal>,
     pub core: Core,
     pub hub: EhciRootHub,
 }
@@ -108,7 +108,7 @@ fn refuse(refusal: Refusal) -> Opening
         setups: 0,
     };
     Opening {
-        answer: Answer::Refused(refusal),
+        answer: Err(refusal),
         core: Core {
             settings: nothing,
             rest: fresh_rest(0),
@@ -121,7 +121,7 @@ fn accept(settings: Settings) -> Opening
     ensures { result ≡ accepted_words settings }
 {
     Opening {
-        answer: Answer::Done,
+        answer: Ok(()),
         core: Core {
             settings,
             rest: fresh_rest(settings.descriptors),
@@ -170,8 +170,8 @@ fn open_count(o: Opening, pool: u64) -> usize
 {
     let answer = o.answer;
     match answer {
-        Answer::Done => pool as usize,
-        Answer::Refused(_) => 0,
+        Ok(()) => pool as usize,
+        Err(_) => 0,
     }
 }
 

@@ -1,4 +1,5 @@
 -- What the calls on one record answer for a place inside the row, and for one beyond it.
+use Rattle.std.specs.Prelude.{Result, ⊤}
 use Prim.Native.Nat.{ℕ, ◌≤◌, ◌<◌}
 use mathlib.Core.Path.{◌≡◌, refl, ap, ◌∙◌}
 use mathlib.Core.Bool.{Bool, true, false, not}
@@ -6,12 +7,12 @@ use mathlib.Core.List.{List}
 use borrow.Author.Tests.{le-ltb, lt-ltb}
 use lib.Dec.{T, ltb, ltb→lt, nltb→le}
 use lib.ListN.{length, get_or, set}
-use Rattle.common.specs.declared.answer.Answer.{Answer}
 use Rattle.common.specs.Answers.{number_of}
 use Rattle.descriptor.specs.declared.qtd.QueueTransferDescriptor.{QueueTransferDescriptor}
 use Rattle.pool.specs.declared.record.Found.{Found}
 use Rattle.pool.specs.Chains.{blank}
 use Rattle.pool.specs.RecordCalls.{answer_if, found_if, read_of, replace_of, replaced}
+use Rattle.common.specs.declared.answer.Refusal.{Refusal}
 
 module _ (rows : List QueueTransferDescriptor) (place : ℕ) where
   abbrev inside : Bool
@@ -31,14 +32,14 @@ module _ (rows : List QueueTransferDescriptor) (place : ℕ) where
   unfolding read_of
   read_beyond h u e = rw (is_beyond h) e
 
-  module _ (r : QueueTransferDescriptor) (u : Answer) where
+  module _ (r : QueueTransferDescriptor) (u : (Result ⊤ Refusal)) where
     pub replace_inside : T inside → u ≡ answer_if true → replaced u (set rows place r) ≡ replace_of rows place r
     unfolding replace_of
-    replace_inside h e = rw (is_inside h) (ap (λ (v : Answer). replaced v (set rows place r)) e)
+    replace_inside h e = rw (is_inside h) (ap (λ (v : (Result ⊤ Refusal)). replaced v (set rows place r)) e)
 
     pub replace_beyond : T (not inside) → u ≡ answer_if false → replaced u rows ≡ replace_of rows place r
     unfolding replace_of
-    replace_beyond h e = rw (is_beyond h) (ap (λ (v : Answer). replaced v rows) e)
+    replace_beyond h e = rw (is_beyond h) (ap (λ (v : (Result ⊤ Refusal)). replaced v rows) e)
 
 -- ---- what the definitions say, by 01's numbers
 
@@ -70,11 +71,11 @@ module _ (rows : List QueueTransferDescriptor) (place : ℕ) where
   unfolding read_of
   read_beyond_lem h u e = rw (le-ltb place (length rows) h) e
 
-  module _ (r : QueueTransferDescriptor) (u : Answer) where
+  module _ (r : QueueTransferDescriptor) (u : (Result ⊤ Refusal)) where
     pub replace_inside_lem : place < length rows → u ≡ answer_if true → replaced u (set rows place r) ≡ replace_of rows place r
     unfolding replace_of
-    replace_inside_lem h e = rw (lt-ltb place (length rows) h) (ap (λ (v : Answer). replaced v (set rows place r)) e)
+    replace_inside_lem h e = rw (lt-ltb place (length rows) h) (ap (λ (v : (Result ⊤ Refusal)). replaced v (set rows place r)) e)
 
     pub replace_beyond_lem : length rows ≤ place → u ≡ answer_if false → replaced u rows ≡ replace_of rows place r
     unfolding replace_of
-    replace_beyond_lem h e = rw (le-ltb place (length rows) h) (ap (λ (v : Answer). replaced v rows) e)
+    replace_beyond_lem h e = rw (le-ltb place (length rows) h) (ap (λ (v : (Result ⊤ Refusal)). replaced v rows) e)

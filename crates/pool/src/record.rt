@@ -5,33 +5,33 @@ ghost use Rattle.pool.specs.Chains.{blank};
 
 use crate::chain::no_record;
 use crate::row::{record_at, replace};
-use common::answer::{Answer, Refusal};
+use common::answer::Refusal;
 use descriptor::qtd::QueueTransferDescriptor;
 
 // What a reading of one record gives: thirteen zero words where it is refused.
 #[derive(Clone, Copy)]
 pub struct Found {
-    pub answer: Answer,
+    pub answer: Result<(), Refusal>,
     pub descriptor: QueueTransferDescriptor,
 }
 
-fn done() -> Answer
+fn done() -> Result<(), Refusal>
     ensures { result ≡ answer_if true }
 {
-    Answer::Done
+    Ok(())
 }
 
-fn beyond() -> Answer
+fn beyond() -> Result<(), Refusal>
     ensures { result ≡ answer_if false }
 {
-    Answer::Refused(Refusal::InvalidParameter)
+    Err(Refusal::InvalidParameter)
 }
 
 fn taken(here: QueueTransferDescriptor) -> Found
     ensures { result ≡ found_if true here }
 {
     Found {
-        answer: Answer::Done,
+        answer: Ok(()),
         descriptor: here,
     }
 }
@@ -40,7 +40,7 @@ fn not_there() -> Found
     ensures { result ≡ found_if false blank }
 {
     Found {
-        answer: Answer::Refused(Refusal::InvalidParameter),
+        answer: Err(Refusal::InvalidParameter),
         descriptor: no_record(),
     }
 }
@@ -62,7 +62,7 @@ pub fn replace_record(
     rows: &mut [QueueTransferDescriptor],
     place: usize,
     r: QueueTransferDescriptor,
-) -> Answer
+) -> Result<(), Refusal>
     ensures { replaced result rows.new ≡ replace_of rows.old place r }
 {
     let length = rows.len();

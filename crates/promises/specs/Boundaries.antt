@@ -1,16 +1,17 @@
 -- The doorbell and the boundaries: what is promised of a run of calls from an accepted opening.
-use Rattle.std.specs.Prelude.{ℕ, ◌+◌, ◌-◌, ◌%◌, ◌≤◌, ◌<◌, true, false, List, ◌∷◌, ◌++◌, ◌↔◌, ◌≡◌, ltb, length, take}
+use Rattle.std.specs.Prelude.{ℕ, ◌+◌, ◌-◌, ◌%◌, ◌≤◌, ◌<◌, true, false, List, ◌∷◌, ◌++◌, ◌↔◌, ◌≡◌, ltb, length, take, Result}
 use Rattle.settings.specs.declared.settings.Settings.{Settings}
 use Rattle.pipe.specs.Endpoints.{flag_number}
 use Rattle.common.specs.Kinds.{is_interrupt}
 use Rattle.controller.specs.declared.lent.Readings.{Readings}
 use Rattle.ehci.specs.declared.call.Call.{Call}
 use Rattle.ehci.specs.declared.call.Call.TheVariants.{Collect}
-use Rattle.ehci.specs.declared.reply.Answered.{Answered}
 use Rattle.ehci.specs.Replies.{answered_number}
 use Rattle.promises.specs.Runs.{History, Run, Turn, turn_by}
 use Rattle.promises.specs.Events.{is_collected, rings}
 use Rattle.promises.specs.Bells.{Boundary, asked, bell, cancelled, collects, counted, is_answered, is_up, kind_at, linked, newest_id, none, number, parted, parting, parts_of, reads, some_turn, submits, unlinking, unlinks_of}
+use Rattle.ehci.specs.declared.reply.Answered.{Answered}
+use Rattle.common.specs.declared.answer.Refusal.{Refusal}
 
 -- ---- by numbers: t is turn number n of h, so n turns are older
 
@@ -44,7 +45,7 @@ module _ (s : Settings) (run : Run) where
   abbrev pub turn : List Call → Call → Turn
   turn cs c = turn_by (run.now cs) c
 
-  abbrev pub answer_to : List Call → Call → Answered
+  abbrev pub answer_to : List Call → Call → Result Answered Refusal
   answer_to cs c = ((run.now cs).does c).reply.answer
 
   -- the collect of k's request of that id collects it: 0, 10 or 11

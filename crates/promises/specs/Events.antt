@@ -1,15 +1,16 @@
 -- What happens in a turn, from the call, its answer's number and values, its register writes and the lent rows.
-use Rattle.std.specs.Prelude.{ℕ, ◌+◌, Bool, ◌||◌, not, cond, ◌&&◌, List, [], ◌∷◌, eqb}
+use Rattle.std.specs.Prelude.{ℕ, ◌+◌, Bool, ◌||◌, not, cond, ◌&&◌, List, [], ◌∷◌, eqb, Result}
 use Rattle.register.specs.Bits.{bit}
 use Rattle.settings.specs.declared.settings.Settings.{Settings}
 use Rattle.request.specs.declared.judge.TransferRequest.{TransferRequest}
 use Rattle.schedule.specs.Bell.{some_ring}
 use Rattle.ehci.specs.declared.call.Call.{Call}
 use Rattle.ehci.specs.declared.call.Call.TheVariants.{StartBringUp, BringUpStep, AllocateAddress, OpenEndpoint, Close, SetAddress, SetPacketSize, Submit, Writeback, Cancel, Collect, Acknowledge, Drain, Rearm, Enable, Disable, ClearHalt}
-use Rattle.ehci.specs.declared.reply.Answered.{Answered}
 use Rattle.ehci.specs.Replies.{answered_number, answered_values}
 use Rattle.promises.specs.Runs.{Turn}
 use Rattle.promises.specs.Walks.{frame_walk, is_in, ring_walk}
+use Rattle.ehci.specs.declared.reply.Answered.{Answered}
+use Rattle.common.specs.declared.answer.Refusal.{Refusal}
 
 -- ---- rings: "Only a ring .. writes 0x40"
 
@@ -42,7 +43,7 @@ pub data Event : Type 0 where
   Collects : ℕ → ℕ → ℕ → Event
 
 -- 0 accepts
-abbrev pub is_done : Answered → Bool
+abbrev pub is_done : Result Answered Refusal → Bool
 is_done a = eqb (answered_number a) 0
 
 -- the first of the values that go with an answer
@@ -51,11 +52,11 @@ first_in [] = 0
 first_in (v ∷ vs) = v
 
 -- an accepted submit gives its id
-abbrev pub submits_by : ℕ → TransferRequest → Answered → Event
+abbrev pub submits_by : ℕ → TransferRequest → Result Answered Refusal → Event
 submits_by k t a = cond (is_done a) (Submits k (first_in (answered_values a)) t) Other
 
 -- 0, 10 and 11 collect; 9 and a refusal do not
-abbrev pub is_collected : Answered → Bool
+abbrev pub is_collected : Result Answered Refusal → Bool
 is_collected a = is_done a || eqb (answered_number a) 10 || eqb (answered_number a) 11
 
 abbrev pub leaving : Settings → ℕ → ℕ → Turn → Event

@@ -1,6 +1,6 @@
 -- The controller's registers, over any calls: every write of every call, from the history; what is acknowledged, pending and drained; and
 -- which turns ring. Promises; at the end, the law that ties the state to them.
-use Rattle.std.specs.Prelude.{ℕ, ◌+◌, ◌<◌, Bool, true, false, ◌&&◌, not, cond, List, [], ◌∷◌, ◌≡◌, eqb, ltb}
+use Rattle.std.specs.Prelude.{ℕ, ◌+◌, ◌<◌, Bool, true, false, ◌&&◌, not, cond, List, [], ◌∷◌, ◌≡◌, eqb, ltb, Result, None}
 use Rattle.register.specs.Bits.{any_of, only_bits, with_bits, without_bits}
 use Rattle.register.specs.Writes.{write_of}
 use Rattle.register.specs.declared.writes.Write.{Write}
@@ -10,12 +10,13 @@ use Rattle.schedule.specs.Bell.{is_ring}
 use Rattle.ehci.specs.declared.call.Call.{Call}
 use Rattle.ehci.specs.declared.call.Call.TheVariants.{StartBringUp, BringUpStep, AllocateAddress, OpenEndpoint, Close, SetAddress, SetPacketSize, Submit, Writeback, Cancel, Collect, Acknowledge, Drain, Rearm, Enable, Disable, ClearHalt}
 use Rattle.ehci.specs.declared.call.InterruptReadings.{InterruptReadings}
-use Rattle.ehci.specs.declared.reply.Answered.{Answered}
 use Rattle.ehci.specs.Replies.{answered_number, answered_values}
 use Rattle.promises.specs.Runs.{Always, History, Moment, Promise, Turn, turn_by}
 use Rattle.promises.specs.Events as E
 use Rattle.promises.specs.Events.{event, is_done, rings}
 use Rattle.promises.specs.Bells.{Bell, Quiet, asked, bell, counted, is_answered, is_up}
+use Rattle.ehci.specs.declared.reply.Answered.{Answered}
+use Rattle.common.specs.declared.answer.Refusal.{Refusal}
 
 -- ---- what a call asks of the registers, with what it has read of them: one line a call
 
@@ -125,7 +126,7 @@ abbrev pub is_ready : ℕ → ℕ → Bool
 is_ready n v = cond (eqb n 2) (any_of v 0x1000) (cond (eqb n 4) (not (any_of v 2)) (cond (eqb n 6) (not (any_of v 0x1000)) true))
 
 -- a step that is accepted goes on where the reading is ready, and is repeated where it is not; 7 ends it
-abbrev pub read_after : Access → Answered → ℕ → ℕ
+abbrev pub read_after : Access → Result Answered Refusal → ℕ → ℕ
 read_after None a n = n
 read_after Starts a n = cond (is_done a) 1 n
 read_after (Steps v) a n =

@@ -1,16 +1,16 @@
 -- Any calls from an accepted opening, in whatever form the state is held: worlds, machines, runs, and what is seen of them.
-use Rattle.std.specs.Prelude.{ℕ, Bool, List, [], ◌∷◌, ◌≡◌, refl, length}
+use Rattle.std.specs.Prelude.{ℕ, Bool, List, [], ◌∷◌, ◌≡◌, refl, length, Ok, Result}
 use Rattle.register.specs.Writes.{list_of}
 use Rattle.register.specs.declared.writes.Write.{Write}
 use Rattle.descriptor.specs.declared.qtd.QueueTransferDescriptor.{QueueTransferDescriptor}
 use Rattle.settings.specs.declared.settings.Settings.{Settings}
 use Rattle.state.specs.Plain.{Ehci}
-use Rattle.common.specs.declared.answer.Answer.TheVariants.{Done}
 use Rattle.opening.specs.Opening.{Opened, open_of}
 use Rattle.controller.specs.Lent.{accepts_of, lengths}
 use Rattle.ehci.specs.declared.call.Call.{Call}
-use Rattle.ehci.specs.declared.reply.Answered.{Answered}
 use Rattle.ehci.specs.Door.{Applied, apply_of}
+use Rattle.ehci.specs.declared.reply.Answered.{Answered}
+use Rattle.common.specs.declared.answer.Refusal.{Refusal}
 
 -- the four lent rows
 pub record Rows : Type 0 where
@@ -108,7 +108,7 @@ world_of {f} m w (c ∷ cs) =
 -- one call as its caller sees it: its answer, its register writes, and the lent rows before and after. Nothing of the state
 pub record Turn : Type 0 where
   pub call : Call
-  pub answer : Answered
+  pub answer : Result Answered Refusal
   pub wrote : List Write
   pub before : Rows
   pub after : Rows
@@ -146,7 +146,7 @@ world_opened o =
 
 pub record Opening {f : Form} (s : Settings) (w : WorldIn f) : Type 0 where
   pub lent : Rows
-  pub accepted : (open_of s lent.pool lent.heads lent.frames lent.setups).opening.answer ≡ Done
+  pub accepted : (open_of s lent.pool lent.heads lent.frames lent.setups).opening.answer ≡ (Ok tt)
   pub left : viewed w ≡ world_opened (open_of s lent.pool lent.heads lent.frames lent.setups)
   pub fresh : f.Fresh s w.state
 

@@ -1,15 +1,16 @@
 -- What a caller knows of the slots and of the controller from its calls and their answers.
-use Rattle.std.specs.Prelude.{ℕ, max, Bool, true, false, cond, List, [], ◌∷◌, eqb}
+use Rattle.std.specs.Prelude.{ℕ, max, Bool, true, false, cond, List, [], ◌∷◌, eqb, Result}
 use Rattle.token.specs.Chunks.{working_limit}
 use Rattle.common.specs.declared.kinds.EndpointType.{EndpointType}
 use Rattle.settings.specs.declared.settings.Settings.{Settings}
 use Rattle.request.specs.declared.judge.TransferRequest.{TransferRequest}
 use Rattle.ehci.specs.declared.call.Call.{Call}
 use Rattle.ehci.specs.declared.call.Call.TheVariants.{StartBringUp, BringUpStep, AllocateAddress, OpenEndpoint, Close, SetAddress, SetPacketSize, Submit, Writeback, Cancel, Collect, Acknowledge, Drain, Rearm, Enable, Disable, ClearHalt}
-use Rattle.ehci.specs.declared.reply.Answered.{Answered}
 use Rattle.ehci.specs.Replies.{answered_number, answered_values}
 use Rattle.promises.specs.Runs.{History, Turn}
 use Rattle.promises.specs.Events.{first_in, is_done}
+use Rattle.ehci.specs.declared.reply.Answered.{Answered}
+use Rattle.common.specs.declared.answer.Refusal.{Refusal}
 
 -- ---- what a turn does to them
 
@@ -26,7 +27,7 @@ pub data Change : Type 0 where
   Halted Running : Change
 
 -- an endpoint that is opened is answered with its slot
-abbrev pub opens_by : EndpointType → ℕ → Answered → Change
+abbrev pub opens_by : EndpointType → ℕ → Result Answered Refusal → Change
 opens_by kind packet a = cond (is_done a) (OpensSlot (first_in (answered_values a)) kind packet) Same
 
 -- a step's values are the milliseconds to wait and, before the end, the register to read next
@@ -36,11 +37,11 @@ runs_by (wait ∷ []) = Running
 runs_by (wait ∷ register ∷ vs) = Halted
 
 -- "Bring-up (not running till its end)": a step that leaves nothing to read is its end; "7 leaves the controller not running"
-abbrev pub steps_by : Answered → Change
+abbrev pub steps_by : Result Answered Refusal → Change
 steps_by a = cond (is_done a) (runs_by (answered_values a)) (cond (eqb (answered_number a) 7) Halted Same)
 
 -- one line a call; "set packet size takes a byte, raises it to 8"
-abbrev pub change_by : Call → Answered → Change
+abbrev pub change_by : Call → Result Answered Refusal → Change
 change_by StartBringUp a = cond (is_done a) Halted Same
 change_by (BringUpStep v) a = steps_by a
 change_by AllocateAddress a = Same

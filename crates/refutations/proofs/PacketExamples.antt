@@ -1,4 +1,5 @@
 -- Packets worked out by hand: those of so many bytes, those of a request's descriptors, and the sizes that a history tells.
+use Rattle.std.specs.Prelude.{Err, Ok, Result}
 use Prim.Native.Nat.{ℕ}
 use mathlib.Core.Path.{◌≡◌, refl}
 use mathlib.Core.List.{[], ◌∷◌}
@@ -8,8 +9,7 @@ use Rattle.common.specs.declared.kinds.EndpointType.TheVariants.{Bulk, Control, 
 use Rattle.common.specs.declared.kinds.EndpointType.{EndpointType}
 use Rattle.ehci.specs.declared.call.Call.{Call}
 use Rattle.ehci.specs.declared.call.Call.TheVariants.{Close, OpenEndpoint, SetPacketSize}
-use Rattle.ehci.specs.declared.reply.Answered.{Answered}
-use Rattle.ehci.specs.declared.reply.Answered.TheVariants.{Done, Refused}
+use Rattle.ehci.specs.declared.reply.Answered.TheVariants.{Done}
 use Rattle.ehci.specs.declared.reply.Given.TheVariants.{Nothing, Slot}
 use Rattle.request.specs.declared.judge.TransferRequest.{TransferRequest}
 use Rattle.promises.specs.Runs.{History, Rows, Turn}
@@ -17,6 +17,8 @@ use Rattle.promises.specs.Packets.{on_wire, packets_of}
 use Rattle.promises.specs.Slots.{limit_in, size_in, slot_in}
 use Rattle.promises.proofs.invariants.Reached.{fresh_world}
 use Rattle.refutations.proofs.WrongRuns.{sized}
+use Rattle.ehci.specs.declared.reply.Answered.{Answered}
+use Rattle.common.specs.declared.answer.Refusal.{Refusal}
 
 -- ---- packets of 512
 
@@ -40,24 +42,24 @@ before_order = refl
 abbrev rows : Rows
 rows = (fresh_world (sized 2 2 1000)).rows
 
-abbrev turn : Call → Answered → Turn
+abbrev turn : Call → Result Answered Refusal → Turn
 turn c a = record { call = c; answer = a; wrote = []; before = rows; after = rows }
 
 abbrev opens : EndpointType → ℕ → Turn
-opens kind packet = turn (OpenEndpoint (record { kind = kind; address = 1; number = 1; packet = packet })) (Done (Slot 0))
+opens kind packet = turn (OpenEndpoint (record { kind = kind; address = 1; number = 1; packet = packet })) (Ok (Done (Slot 0)))
 
 -- newest first: opened with 512; set to 5, which is raised; a set that is refused; closed; opened again with 1000
 abbrev early : History
-early = turn (SetPacketSize 0 5) (Done Nothing) ∷ opens Bulk 512 ∷ []
+early = turn (SetPacketSize 0 5) (Ok (Done Nothing)) ∷ opens Bulk 512 ∷ []
 
 abbrev late : History
-late = opens Interrupt 1000 ∷ turn (Close 0) (Done Nothing) ∷ turn (SetPacketSize 0 64) (Refused QueueFull) ∷ early
+late = opens Interrupt 1000 ∷ turn (Close 0) (Ok (Done Nothing)) ∷ turn (SetPacketSize 0 64) (Err QueueFull) ∷ early
 
 sizes : (size_in 0 (opens Bulk 512 ∷ []) ≡ 512) × (size_in 0 early ≡ 8) × (size_in 1 early ≡ 0) × (size_in 0 late ≡ 1000)
 unfolding slot_in
 sizes = (refl, refl, refl, refl)
 
-refused_none : (size_in 0 (turn (SetPacketSize 0 64) (Refused QueueFull) ∷ early) ≡ 8) × (size_in 0 (turn (Close 0) (Done Nothing) ∷ early) ≡ 0)
+refused_none : (size_in 0 (turn (SetPacketSize 0 64) (Err QueueFull) ∷ early) ≡ 8) × (size_in 0 (turn (Close 0) (Ok (Done Nothing)) ∷ early) ≡ 0)
 unfolding slot_in
 refused_none = (refl, refl)
 

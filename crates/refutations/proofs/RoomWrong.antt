@@ -1,5 +1,6 @@
 -- Wrong machines, of which room, submit's verdict, exclusive places and coverage are refuted. Each takes descriptors for a request and writes its chain, with
 -- no checks and no schedule, in a controller with two descriptors; `plain` does it right, and on the same calls its uses are as they should be.
+use Rattle.std.specs.Prelude.{Ok, Result}
 use Prim.Native.Nat.{ℕ, ◌+◌, ◌-◌}
 use mathlib.Core.Path.{◌≡◌, refl, ap}
 use mathlib.Core.List.{List, [], ◌∷◌}
@@ -27,7 +28,6 @@ use Rattle.request.specs.declared.judge.TransferRequest.{TransferRequest}
 use Rattle.request.specs.Plain.{Taken}
 use Rattle.ehci.specs.declared.call.Call.{Call}
 use Rattle.ehci.specs.declared.call.Call.TheVariants.{StartBringUp, BringUpStep, AllocateAddress, OpenEndpoint, Close, SetAddress, SetPacketSize, Submit, Writeback, Cancel, Collect, Acknowledge, Drain, Rearm, Enable, Disable, ClearHalt}
-use Rattle.ehci.specs.declared.reply.Answered.{Answered}
 use Rattle.ehci.specs.declared.reply.Answered.TheVariants.{Done, Pending}
 use Rattle.ehci.specs.declared.reply.Given.TheVariants.{Id, Nothing, Slot}
 use Rattle.ehci.specs.Door.{Applied, applied}
@@ -41,47 +41,49 @@ use Rattle.promises.specs.Coverage.{Coverage, addressed, data_of, records_met}
 use Rattle.promises.proofs.invariants.Reached.{fresh_world}
 use Rattle.refutations.proofs.WrongRuns.{opening, small}
 use Rattle.state.specs.Slots.{slot_at}
+use Rattle.ehci.specs.declared.reply.Answered.{Answered}
+use Rattle.common.specs.declared.answer.Refusal.{Refusal}
 
 -- ---- machines that take descriptors
 
-abbrev stays : World → Answered → Ehci → Applied
+abbrev stays : World → Result Answered Refusal → Ehci → Applied
 stays w a s =
     applied (record { state = s; answer = a; writes = no_writes }) w.rows.pool w.rows.heads w.rows.frames w.rows.setups
 
 -- the request is written to the places that are taken, and slot k's overlay leads to them
 abbrev written : World → ℕ → TransferRequest → Taken → Applied
 written w k t taken =
-    applied (record { state = with_owner w.state taken.owner; answer = Done (Id 1); writes = no_writes })
+    applied (record { state = with_owner w.state taken.owner; answer = Ok (Done (Id 1)); writes = no_writes })
     (fill_of (chain_for w.state k t taken) w.rows.pool) (started_overlay w.rows.heads k (first_in w.state taken) 0) w.rows.frames w.rows.setups
 
 -- what it answers to an opening of an endpoint of that number, how it submits, and what a writeback leaves
 pub record Ways : Type 0 where
-  pub opens : ℕ → Answered
+  pub opens : ℕ → Result Answered Refusal
   pub submit : World → ℕ → TransferRequest → Applied
   pub writeback : Ehci → ℕ → Ehci
 
 abbrev machine : Ways → Machine in_plain
-machine x w StartBringUp = stays w Pending w.state
-machine x w (BringUpStep v) = stays w Pending w.state
-machine x w AllocateAddress = stays w Pending w.state
+machine x w StartBringUp = stays w (Ok Pending) w.state
+machine x w (BringUpStep v) = stays w (Ok Pending) w.state
+machine x w AllocateAddress = stays w (Ok Pending) w.state
 machine x w (OpenEndpoint f) = stays w (x.opens f.number) w.state
-machine x w (Close k) = stays w Pending w.state
-machine x w (SetAddress k a) = stays w Pending w.state
-machine x w (SetPacketSize k size) = stays w Pending w.state
+machine x w (Close k) = stays w (Ok Pending) w.state
+machine x w (SetAddress k a) = stays w (Ok Pending) w.state
+machine x w (SetPacketSize k size) = stays w (Ok Pending) w.state
 machine x w (Submit k t readings) = x.submit w k t
-machine x w (Writeback place token) = stays w (Done Nothing) (x.writeback w.state place)
-machine x w (Cancel k id readings) = stays w Pending w.state
-machine x w (Collect k id readings) = stays w Pending w.state
-machine x w (Acknowledge r) = stays w Pending w.state
-machine x w (Drain v) = stays w Pending w.state
-machine x w Rearm = stays w Pending w.state
-machine x w Enable = stays w Pending w.state
-machine x w Disable = stays w Pending w.state
-machine x w (ClearHalt k) = stays w Pending w.state
+machine x w (Writeback place token) = stays w (Ok (Done Nothing)) (x.writeback w.state place)
+machine x w (Cancel k id readings) = stays w (Ok Pending) w.state
+machine x w (Collect k id readings) = stays w (Ok Pending) w.state
+machine x w (Acknowledge r) = stays w (Ok Pending) w.state
+machine x w (Drain v) = stays w (Ok Pending) w.state
+machine x w Rearm = stays w (Ok Pending) w.state
+machine x w Enable = stays w (Ok Pending) w.state
+machine x w Disable = stays w (Ok Pending) w.state
+machine x w (ClearHalt k) = stays w (Ok Pending) w.state
 
 -- endpoint n gets slot n
-abbrev numbered : ℕ → Answered
-numbered n = Done (Slot n)
+abbrev numbered : ℕ → Result Answered Refusal
+numbered n = Ok (Done (Slot n))
 
 abbrev takes_free : World → ℕ → TransferRequest → Applied
 takes_free w k t = written w k t (taken_of w.state.owner 2 (need_of_request w.state k t) k)
@@ -106,7 +108,7 @@ short = machine (record { opens = numbered; submit = λ w k t. takes_free w k (c
 
 -- slot 0 is open, and gets its request before bring-up
 abbrev eager : Machine in_plain
-eager = machine (record { opens = λ n. Done (Slot 0); submit = takes_free; writeback = λ s place. s })
+eager = machine (record { opens = λ n. Ok (Done (Slot 0)); submit = takes_free; writeback = λ s place. s })
 
 -- ---- two slots are opened; one byte each to them, and a writeback between
 

@@ -1,4 +1,5 @@
 -- Machines that are `core` but for one kind of call: what they do on the way up; and when a collect does not collect.
+use Rattle.std.specs.Prelude.{Result}
 use Prim.Native.Nat.{ℕ}
 use mathlib.Core.Bool.{Bool, true, false, cond, true≢false}
 use mathlib.Core.List.{map}
@@ -10,7 +11,6 @@ use Rattle.pipe.specs.declared.endpoints.Endpoint.TheVariants.{Closed, Idle, Lin
 use Rattle.controller.specs.declared.lent.Readings.{Readings}
 use Rattle.collection.specs.Unlinks.{passed_boundary}
 use Rattle.ehci.specs.declared.call.Call.TheVariants.{Collect}
-use Rattle.ehci.specs.declared.reply.Answered.{Answered}
 use Rattle.ehci.specs.Door.{Applied, applied}
 use Rattle.promises.specs.Runs.{Machine, World, in_plain, core}
 use Rattle.promises.specs.Events.{is_collected}
@@ -18,6 +18,8 @@ use Rattle.promises.specs.Registers.{Access, None, Starts, Steps, access_of}
 use Rattle.promises.proofs.theorems.BoundaryCalls.{collect_found}
 use Rattle.refutations.proofs.WrongUp.{Rises, order}
 use lib.Dec.{eqb}
+use Rattle.ehci.specs.declared.reply.Answered.{Answered}
+use Rattle.common.specs.declared.answer.Refusal.{Refusal}
 
 abbrev pub is_starts : Access → Bool
 is_starts a = eqb (order a) 1
@@ -55,7 +57,7 @@ rewriting f a =
     a.pool a.heads a.frames a.setups
 
 -- another answer
-abbrev pub answering : Answered → Applied → Applied
+abbrev pub answering : Result Answered Refusal → Applied → Applied
 answering x a =
     applied (record { state = a.reply.state; answer = x; writes = a.reply.writes }) a.pool a.heads a.frames a.setups
 

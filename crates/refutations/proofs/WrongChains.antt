@@ -1,5 +1,6 @@
 -- Wrong machines, of which the statements on chains are refuted. Each does nothing but link and unlink, in a controller with
 -- three slots; `plain` does it right, and on the same calls its walks are those that are told.
+use Rattle.std.specs.Prelude.{Ok, Result}
 use Prim.Native.Nat.{ℕ, ◌+◌, ◌-◌, ◌*◌, ◌/◌}
 use mathlib.Core.Path.{◌≡◌, refl, ap}
 use mathlib.Core.Bool.{Bool, true, false, cond}
@@ -22,7 +23,6 @@ use Rattle.controller.specs.declared.lent.Readings.{Readings}
 use Rattle.schedule.specs.Links.{attached_ring, link_word, ring_link, with_link_word, with_ring_link}
 use Rattle.ehci.specs.declared.call.Call.{Call}
 use Rattle.ehci.specs.declared.call.Call.TheVariants.{StartBringUp, BringUpStep, AllocateAddress, OpenEndpoint, Close, SetAddress, SetPacketSize, Submit, Writeback, Cancel, Collect, Acknowledge, Drain, Rearm, Enable, Disable, ClearHalt}
-use Rattle.ehci.specs.declared.reply.Answered.{Answered}
 use Rattle.ehci.specs.declared.reply.Answered.TheVariants.{Done, Pending}
 use Rattle.ehci.specs.declared.reply.Given.TheVariants.{Id, Nothing}
 use Rattle.ehci.specs.Door.{Applied, applied}
@@ -34,6 +34,8 @@ use Rattle.promises.specs.Bells.{is_unlinks}
 use Rattle.promises.specs.Chains.{ChainsWalked, NoDetachFails, head_places}
 use Rattle.promises.proofs.invariants.Reached.{fresh_world, opens_fresh}
 use Rattle.refutations.proofs.WrongRuns.{sized}
+use Rattle.ehci.specs.declared.reply.Answered.{Answered}
+use Rattle.common.specs.declared.answer.Refusal.{Refusal}
 
 -- three slots
 abbrev pub three : Settings
@@ -47,7 +49,7 @@ pub record Ways : Type 0 where
   pub frames : List ℕ → ℕ → List ℕ
   pub leave : List ℕ → ℕ → List ℕ
 
-abbrev left : World → Answered → List ℕ → List ℕ → Applied
+abbrev left : World → Result Answered Refusal → List ℕ → List ℕ → Applied
 left w a heads frames =
     applied (record { state = w.state; answer = a; writes = no_writes }) w.rows.pool heads frames w.rows.setups
 
@@ -56,11 +58,11 @@ link_of k = qh_link (0x200000 + 128 * (k + 1))
 
 abbrev joined : Bool → Ways → World → ℕ → Applied
 joined true x w k =
-    left w (Done (Id 1)) (with_link_word w.rows.heads k (get_or w.rows.frames 0 0)) (x.frames w.rows.frames (link_of k))
-joined false x w k = left w (Done (Id 1)) (x.ring w.rows.heads k (link_of k)) w.rows.frames
+    left w (Ok (Done (Id 1))) (with_link_word w.rows.heads k (get_or w.rows.frames 0 0)) (x.frames w.rows.frames (link_of k))
+joined false x w k = left w (Ok (Done (Id 1))) (x.ring w.rows.heads k (link_of k)) w.rows.frames
 
 abbrev idle : World → Applied
-idle w = left w Pending w.rows.heads w.rows.frames
+idle w = left w (Ok Pending) w.rows.heads w.rows.frames
 
 abbrev linking : Ways → Machine in_plain
 linking x w StartBringUp = idle w
@@ -72,7 +74,7 @@ linking x w (SetAddress k a) = idle w
 linking x w (SetPacketSize k size) = idle w
 linking x w (Submit k r readings) = joined (is_interrupt r.kind) x w k
 linking x w (Writeback place token) = idle w
-linking x w (Cancel k id readings) = left w (Done Nothing) (x.leave w.rows.heads k) w.rows.frames
+linking x w (Cancel k id readings) = left w (Ok (Done Nothing)) (x.leave w.rows.heads k) w.rows.frames
 linking x w (Collect k id readings) = idle w
 linking x w (Acknowledge v) = idle w
 linking x w (Drain v) = idle w

@@ -1,5 +1,6 @@
 -- Machines that answer a collection wrongly: 10 to every one; 11 to one with a retried packet, as before order 7; no count of these; a length
 -- drawn as if each request were a control request. What is due is refuted of each.
+use Rattle.std.specs.Prelude.{Err, Ok, Result}
 use Prim.Native.Nat.{ℕ}
 use mathlib.Core.Path.{◌≡◌, refl, sym, ap, ◌∙◌}
 use mathlib.Core.Bool.{true, false, cond}
@@ -37,10 +38,9 @@ use Rattle.collection.specs.Unlinks.{bounded_of, unlink_of, waiting_of}
 use Rattle.interrupt.specs.Interrupts.{acknowledge_of, acknowledge_writes, acknowledged_state, counted_of, drain_of, noted_after, cleared_of}
 use Rattle.ehci.specs.declared.call.Call.{Call}
 use Rattle.ehci.specs.declared.call.Call.TheVariants.{StartBringUp, BringUpStep, AllocateAddress, OpenEndpoint, Close, SetAddress, SetPacketSize, Submit, Writeback, Cancel, Collect, Acknowledge, Drain, Rearm, Enable, Disable, ClearHalt}
-use Rattle.ehci.specs.declared.reply.Answered.{Answered}
-use Rattle.ehci.specs.declared.reply.Answered.TheVariants.{Done, Pending, Cancelled, Failed, Refused}
+use Rattle.ehci.specs.declared.reply.Answered.TheVariants.{Done, Pending, Cancelled, Failed}
 use Rattle.ehci.specs.declared.reply.Given.TheVariants as G
-use Rattle.ehci.specs.declared.reply.Event.TheVariants as E
+use Rattle.interrupt.specs.declared.answers.Event.TheVariants as E
 use Rattle.ehci.specs.Replies.{answered_number, answered_values, replied}
 use Rattle.ehci.specs.Decides.{acknowledge_decided, asks_of, collect_decided, decide_of, drain_decided, writeback_decided}
 use Rattle.ehci.specs.Door.{Applied, applied, apply_of, carried_out, seen_by}
@@ -55,6 +55,8 @@ use Rattle.refutations.proofs.WrongRuns.{acknowledges, asked, chunk, head_of, he
 use Rattle.refutations.proofs.WrongUp.{Rises, up_world, up_calls, up_size}
 use Rattle.refutations.proofs.WrongCalls.{linked_one, submitted, submits_one}
 use Rattle.refutations.proofs.Scripts.{Follows, Script, arrives, calls_of, is_told, turns_of}
+use Rattle.ehci.specs.declared.reply.Answered.{Answered}
+use Rattle.common.specs.declared.answer.Refusal.{Refusal}
 
 -- ---- machines that differ from `core` in one kind of call
 
@@ -107,27 +109,27 @@ states_good_lem : (in_ranges (one 0 0 0 0 0 linked) ≡ true) × (in_ranges (one
 unfolding state_of in_ranges rest_good machine_good interrupt_good doorbell_good owner_good largest slots_good slot_good size_kept toggle_kept size_good phase_good closed_good idle_good linked_good unlinking_good boundary_good open_kind no_request settings_good numbers_good each_good no_overlap area_good apart_areas slot_at without_bits
 states_good_lem = (refl, refl, refl, refl)
 
-pub written : core (linked_one (one 0 0 0 0 0 linked)) (Writeback 0 0x000C8C08) ≡ replies (Done G.Nothing) no_writes (linked_now (one 0 0 0 0 0 linked))
+pub written : core (linked_one (one 0 0 0 0 0 linked)) (Writeback 0 0x000C8C08) ≡ replies (Ok (Done G.Nothing)) no_writes (linked_now (one 0 0 0 0 0 linked))
 unfolding apply_of decide_of asks_of rows_are_fit replied fill_of filled_from no_chain packed list_of writeback_decided writeback_of accepts_of in_request endpoint_at decoded slot_at state_of
 written = rw states_good_lem.0
 
 abbrev pub unlinked : Applied
-unlinked = replies Pending (and_then no_writes 0 (ring_word 0x80031)) (apart_now (one 0 0 0 1 1 (leaves 1)))
+unlinked = replies (Ok Pending) (and_then no_writes 0 (ring_word 0x80031)) (apart_now (one 0 0 0 1 1 (leaves 1)))
 
 pub unlinks : core (linked_now (one 0 0 0 0 0 linked)) looks ≡ unlinked
 unfolding apply_of decide_of asks_of ask_of askable request_ask places_from seen_from read_of view_of stage_seen first_error length_of retried_of requested_at rows_are_fit replied fill_of filled_from no_chain packed list_of collect_decided collect_of linked_of accepts_of endpoint_at decoded slot_at unlink_of waiting_of bounded_of unlinked_of ring_of detach_of predecessor_of search_from precedes_one with_endpoint with_slot with_bell state_of
 unlinks = rw states_good_lem.0
 
-hears : core (apart_now (one 0 0 0 1 1 (leaves 1))) (acknowledges 0x20) ≡ replies (Done G.Yes) (acknowledge_writes 0x20 0x27 true true) (apart_now (one 0x20 0x20 1 1 1 (leaves 1)))
+hears : core (apart_now (one 0 0 0 1 1 (leaves 1))) (acknowledges 0x20) ≡ replies (Ok (Done G.Yes)) (acknowledge_writes 0x20 0x27 true true) (apart_now (one 0x20 0x20 1 1 1 (leaves 1)))
 unfolding apply_of decide_of asks_of rows_are_fit replied fill_of filled_from no_chain packed list_of acknowledge_decided acknowledge_of only_bits with_bits any_of acknowledged_state noted_after with_interrupt with_bell state_of
 hears = rw states_good_lem.1
 
-counts : core (apart_now (one 0x20 0x20 1 1 1 (leaves 1))) (Drain 0x80031) ≡ replies (Done (G.Event E.TransferActivity)) no_writes (apart_now (one 0 0x20 0 0 0 (leaves 0)))
+counts : core (apart_now (one 0x20 0x20 1 1 1 (leaves 1))) (Drain 0x80031) ≡ replies (Ok (Done (G.Event E.TransferActivity))) no_writes (apart_now (one 0 0x20 0 0 0 (leaves 0)))
 unfolding apply_of decide_of asks_of rows_are_fit replied fill_of filled_from no_chain packed list_of drain_decided drain_of any_of without_bits counted_of cleared_of with_interrupt with_bell with_boundaries advanced_of ring_of fallen_from fallen_one state_of
 counts = rw states_good_lem.2
 
 -- what `core` answers in the end
-pub length_500 : (core (apart_now (one 0 0x20 0 0 0 (leaves 0))) looks).reply.answer ≡ Done (G.Length 500 1)
+pub length_500 : (core (apart_now (one 0 0x20 0 0 0 (leaves 0))) looks).reply.answer ≡ Ok (Done (G.Length 500 1))
 unfolding apply_of decide_of asks_of ask_of askable request_ask places_from seen_from read_of view_of stage_seen first_error length_of retried_of requested_at rows_are_fit replied fill_of filled_from no_chain packed list_of collect_decided collect_of accepts_of endpoint_at decoded slot_at unlinking_of finish_of outcome_of freed clear_of ended_overlay put_at terminated with_owner with_endpoint with_slot state_of
 length_500 = rw states_good_lem.3
 
@@ -136,10 +138,10 @@ length_500 = rw states_good_lem.3
 -- one request; its token written back, inactive, retried, 12 bytes left; a collect that unlinks; the answer; a drain
 abbrev moves : Script
 moves =
-    (Drain 0x80031, replies (Done (G.Event E.TransferActivity)) no_writes (apart_now (one 0 0x20 0 0 0 (leaves 0))))
-    ∷ (acknowledges 0x20, replies (Done G.Yes) (acknowledge_writes 0x20 0x27 true true) (apart_now (one 0x20 0x20 1 1 1 (leaves 1))))
+    (Drain 0x80031, replies (Ok (Done (G.Event E.TransferActivity))) no_writes (apart_now (one 0 0x20 0 0 0 (leaves 0))))
+    ∷ (acknowledges 0x20, replies (Ok (Done G.Yes)) (acknowledge_writes 0x20 0x27 true true) (apart_now (one 0x20 0x20 1 1 1 (leaves 1))))
     ∷ (looks, unlinked)
-    ∷ (Writeback 0 0x000C8C08, replies (Done G.Nothing) no_writes (linked_now (one 0 0 0 0 0 linked)))
+    ∷ (Writeback 0 0x000C8C08, replies (Ok (Done G.Nothing)) no_writes (linked_now (one 0 0 0 0 0 linked)))
     ∷ submits_one
 
 abbrev pub c5 : List Call
@@ -198,7 +200,7 @@ module _ (m : Machine in_plain) (plain : (v : World) (c : Call) → eqb (rank c)
       use_is : x.uncollected ≡ first
       use_is = ap (λ (l : List Use). get_or l 0 first) (sym x.only ∙ ap (λ (h : History). those 0 1 (uses small h)) is_so ∙ ap (those 0 1) uses_are)
 
-      at : {A : Type 0} (f : Answered → A) (g : Due → A) → f (m end looks).reply.answer ≡ g (due_to small (history_of m w c5) end.rows x.uncollected)
+      at : {A : Type 0} (f : Result Answered Refusal → A) (g : Due → A) → f (m end looks).reply.answer ≡ g (due_to small (history_of m w c5) end.rows x.uncollected)
           → f (m (apart_now (one 0 0x20 0 0 0 (leaves 0))) looks).reply.answer ≡ g (record { number = 0; values = 500 ∷ 1 ∷ [] })
       at f g q =
           sym (ap (λ (v : World). f (m v looks).reply.answer) w5) ∙ q
@@ -209,62 +211,62 @@ module _ (m : Machine in_plain) (plain : (v : World) (c : Call) → eqb (rank c)
 
 -- ---- another answer to every collection
 
-abbrev answering : (Answered → Answered) → Applied → Applied
+abbrev answering : ((Result Answered Refusal) → (Result Answered Refusal)) → Applied → Applied
 answering f a =
     applied (record { state = a.reply.state; answer = f a.reply.answer; writes = a.reply.writes }) a.pool a.heads a.frames a.setups
 
-abbrev answers : (Answered → Answered) → Machine in_plain
+abbrev answers : ((Result Answered Refusal) → (Result Answered Refusal)) → Machine in_plain
 answers f v c = cond (eqb (rank c) 2) (answering f (core v c)) (core v c)
 
 -- 10
-abbrev ten_for : Answered → Answered
-ten_for (Done given) = Cancelled
-ten_for Pending = Pending
-ten_for Cancelled = Cancelled
-ten_for (Failed token) = Cancelled
-ten_for (Refused r) = Refused r
+abbrev ten_for : Result Answered Refusal → Result Answered Refusal
+ten_for (Ok (Done given)) = Ok Cancelled
+ten_for (Ok Pending) = Ok Pending
+ten_for (Ok Cancelled) = Ok Cancelled
+ten_for (Ok (Failed token)) = Ok Cancelled
+ten_for (Err r) = Err r
 
 abbrev pub tens : Machine in_plain
 tens = answers ten_for
 
 pub tens_due : EveryRun CollectsDue tens → ⊥
 tens_due due =
-    let ten : (tens (apart_now (one 0 0x20 0 0 0 (leaves 0))) looks).reply.answer ≡ Cancelled = ap ten_for length_500 in
-    let zero = (due_here tens (λ v c e. rw e) (ap (answering ten_for) unlinks) due (ap (λ (a : Answered). is_collected a) ten)).0 in
+    let ten : (tens (apart_now (one 0 0x20 0 0 0 (leaves 0))) looks).reply.answer ≡ (Ok Cancelled) = ap ten_for length_500 in
+    let zero = (due_here tens (λ v c e. rw e) (ap (answering ten_for) unlinks) due (ap (λ (a : (Result Answered Refusal)). is_collected a) ten)).0 in
     omega (arith, sym (ap answered_number ten) ∙ zero)
 
 -- 11 with the retried token
-abbrev fail_for : Answered → Answered
-fail_for (Done given) = Failed 0x000C8C08
-fail_for Pending = Pending
-fail_for Cancelled = Cancelled
-fail_for (Failed token) = Failed token
-fail_for (Refused r) = Refused r
+abbrev fail_for : Result Answered Refusal → Result Answered Refusal
+fail_for (Ok (Done given)) = Ok (Failed 0x000C8C08)
+fail_for (Ok Pending) = Ok Pending
+fail_for (Ok Cancelled) = Ok Cancelled
+fail_for (Ok (Failed token)) = Ok (Failed token)
+fail_for (Err r) = Err r
 
 abbrev pub strict : Machine in_plain
 strict = answers fail_for
 
 pub strict_due : EveryRun CollectsDue strict → ⊥
 strict_due due =
-    let fails : (strict (apart_now (one 0 0x20 0 0 0 (leaves 0))) looks).reply.answer ≡ Failed 0x000C8C08 = ap fail_for length_500 in
-    let zero = (due_here strict (λ v c e. rw e) (ap (answering fail_for) unlinks) due (ap (λ (a : Answered). is_collected a) fails)).0 in
+    let fails : (strict (apart_now (one 0 0x20 0 0 0 (leaves 0))) looks).reply.answer ≡ Ok (Failed 0x000C8C08) = ap fail_for length_500 in
+    let zero = (due_here strict (λ v c e. rw e) (ap (answering fail_for) unlinks) due (ap (λ (a : (Result Answered Refusal)). is_collected a) fails)).0 in
     omega (arith, sym (ap answered_number fails) ∙ zero)
 
 -- 0 with the length, and no retry
-abbrev none_for : Answered → Answered
-none_for (Done given) = Done (G.Length 500 0)
-none_for Pending = Pending
-none_for Cancelled = Cancelled
-none_for (Failed token) = Failed token
-none_for (Refused r) = Refused r
+abbrev none_for : Result Answered Refusal → Result Answered Refusal
+none_for (Ok (Done given)) = Ok (Done (G.Length 500 0))
+none_for (Ok Pending) = Ok Pending
+none_for (Ok Cancelled) = Ok Cancelled
+none_for (Ok (Failed token)) = Ok (Failed token)
+none_for (Err r) = Err r
 
 abbrev pub uncounting : Machine in_plain
 uncounting = answers none_for
 
 pub uncounting_due : EveryRun CollectsDue uncounting → ⊥
 uncounting_due due =
-    let none : (uncounting (apart_now (one 0 0x20 0 0 0 (leaves 0))) looks).reply.answer ≡ Done (G.Length 500 0) = ap none_for length_500 in
-    let some = (due_here uncounting (λ v c e. rw e) (ap (answering none_for) unlinks) due (ap (λ (a : Answered). is_collected a) none)).1 in
+    let none : (uncounting (apart_now (one 0 0x20 0 0 0 (leaves 0))) looks).reply.answer ≡ Ok (Done (G.Length 500 0)) = ap none_for length_500 in
+    let some = (due_here uncounting (λ v c e. rw e) (ap (answering none_for) unlinks) due (ap (λ (a : (Result Answered Refusal)). is_collected a) none)).1 in
     let wrong : ◌≡◌ {A = ℕ} 0 1 = ap (λ (l : List ℕ). get_or l 1 0) (sym (ap answered_values none) ∙ some) in
     omega (arith, wrong)
 
@@ -286,13 +288,13 @@ misread_unlinks : misread (linked_now (one 0 0 0 0 0 linked)) looks ≡ unlinked
 unfolding decide_of asks_of ask_of askable request_ask places_from seen_from read_of view_of stage_seen first_error length_of retried_of requested_at rows_are_fit replied fill_of filled_from no_chain packed list_of collect_decided collect_of linked_of accepts_of endpoint_at decoded slot_at unlink_of waiting_of bounded_of unlinked_of ring_of detach_of predecessor_of search_from precedes_one with_endpoint with_slot with_bell state_of
 misread_unlinks = rw states_good_lem.0
 
-misread_none : (misread (apart_now (one 0 0x20 0 0 0 (leaves 0))) looks).reply.answer ≡ Done (G.Length 0 1)
+misread_none : (misread (apart_now (one 0 0x20 0 0 0 (leaves 0))) looks).reply.answer ≡ Ok (Done (G.Length 0 1))
 unfolding decide_of asks_of ask_of askable request_ask places_from seen_from read_of view_of stage_seen first_error length_of retried_of requested_at rows_are_fit replied fill_of filled_from no_chain packed list_of collect_decided collect_of accepts_of endpoint_at decoded slot_at unlinking_of finish_of outcome_of freed clear_of ended_overlay put_at terminated with_owner with_endpoint with_slot state_of
 misread_none = rw states_good_lem.3
 
 pub asks_control_due : EveryRun CollectsDue asks_control → ⊥
 asks_control_due due =
-    let some = (due_here asks_control (λ v c e. rw e) misread_unlinks due (ap (λ (a : Answered). is_collected a) misread_none)).1 in
+    let some = (due_here asks_control (λ v c e. rw e) misread_unlinks due (ap (λ (a : (Result Answered Refusal)). is_collected a) misread_none)).1 in
     let none : ◌≡◌ {A = ℕ} 0 500 = ap (λ (l : List ℕ). get_or l 0 0) (sym (ap answered_values misread_none) ∙ some) in
     omega (arith, none)
 

@@ -1,4 +1,5 @@
 -- An advance that was read before the ring is counted after it: of `early` and `any` the boundary is not kept, and a place is given too soon.
+use Rattle.std.specs.Prelude.{Ok}
 use Prim.Native.Nat.{ℕ}
 use mathlib.Core.Path.{◌≡◌, refl, sym, ap, ◌∙◌}
 use mathlib.Core.Bool.{true, false, true≢false}
@@ -14,7 +15,7 @@ use Rattle.ehci.specs.declared.call.Call.{Call}
 use Rattle.ehci.specs.declared.call.Call.TheVariants.{Cancel, Collect, Drain}
 use Rattle.ehci.specs.declared.reply.Answered.TheVariants.{Done, Cancelled}
 use Rattle.ehci.specs.declared.reply.Given.TheVariants as G
-use Rattle.ehci.specs.declared.reply.Event.TheVariants as E
+use Rattle.interrupt.specs.declared.answers.Event.TheVariants as E
 use Rattle.ehci.specs.Door.{Applied}
 use Rattle.promises.specs.Runs.{EveryRun, History, Machine, World, in_plain, history_of, rows_of, turn_of, world_of}
 use Rattle.promises.specs.Walks.{chain_walk, is_in, ring_walk, walk_from}
@@ -31,34 +32,34 @@ use Rattle.refutations.proofs.Scripts.{Follows, Script, arrives, calls_of, is_to
 
 -- what a machine does that counts the stale advance: n is its note before the drain
 module _ (m : Machine in_plain) (plainly : Plainly m) (n : ℕ)
-    (hears : m (linked_one (one 0 0 0 0 0 linked)) (acknowledges 0x20) ≡ replies (Done G.Yes) (acknowledge_writes 0x20 0x27 true true) (linked_one (one 0x20 0x20 n 0 0 linked)))
-    (leaves : m (linked_one (one 0x20 0x20 n 0 0 linked)) (Cancel 0 1 (reading 0x80031)) ≡ replies (Done G.Nothing) (and_then no_writes 0 (ring_word 0x80031)) (apart_one (one 0x20 0x20 n 1 1 (waits 1))))
-    (counts : m (apart_one (one 0x20 0x20 n 1 1 (waits 1))) (Drain 0x80031) ≡ replies (Done (G.Event E.TransferActivity)) no_writes (apart_one (one 0 0x20 0 0 0 (waits 0)))) where
+    (hears : m (linked_one (one 0 0 0 0 0 linked)) (acknowledges 0x20) ≡ replies (Ok (Done G.Yes)) (acknowledge_writes 0x20 0x27 true true) (linked_one (one 0x20 0x20 n 0 0 linked)))
+    (leaves : m (linked_one (one 0x20 0x20 n 0 0 linked)) (Cancel 0 1 (reading 0x80031)) ≡ replies (Ok (Done G.Nothing)) (and_then no_writes 0 (ring_word 0x80031)) (apart_one (one 0x20 0x20 n 1 1 (waits 1))))
+    (counts : m (apart_one (one 0x20 0x20 n 1 1 (waits 1))) (Drain 0x80031) ≡ replies (Ok (Done (G.Event E.TransferActivity))) no_writes (apart_one (one 0 0x20 0 0 0 (waits 0)))) where
   abbrev w : World
   w = fresh_world small
 
-  submits_one_lem : m opened_two (submits 0 0x500000) ≡ replies (Done (G.Id 1)) (writes_with (reading 0x80031)) (linked_one (one 0 0 0 0 0 linked))
+  submits_one_lem : m opened_two (submits 0 0x500000) ≡ replies (Ok (Done (G.Id 1))) (writes_with (reading 0x80031)) (linked_one (one 0 0 0 0 0 linked))
   unfolding state_of
   submits_one_lem = plainly opened_two (submits 0 0x500000) refl refl refl ∙ submitted
 
-  collects_one : m (apart_one (one 0 0x20 0 0 0 (waits 0))) (Collect 0 1 (reading 0x80031)) ≡ replies Cancelled no_writes free_one
+  collects_one : m (apart_one (one 0 0x20 0 0 0 (waits 0))) (Collect 0 1 (reading 0x80031)) ≡ replies (Ok Cancelled) no_writes free_one
   unfolding state_of
   collects_one = plainly (apart_one (one 0 0x20 0 0 0 (waits 0))) (Collect 0 1 (reading 0x80031)) refl refl refl ∙ collected
 
-  submits_again : m free_one (submits 0 0x502000) ≡ replies (Done (G.Id 2)) (writes_with (reading 0x80031)) again_one
+  submits_again : m free_one (submits 0 0x502000) ≡ replies (Ok (Done (G.Id 2))) (writes_with (reading 0x80031)) again_one
   unfolding state_of
   submits_again = plainly free_one (submits 0 0x502000) refl refl refl ∙ submitted_again
 
   -- one request; the advance bit is read; only then it is unlinked, which rings; a drain
   abbrev counted : Script
   counted =
-      (Drain 0x80031, replies (Done (G.Event E.TransferActivity)) no_writes (apart_one (one 0 0x20 0 0 0 (waits 0))))
-      ∷ (Cancel 0 1 (reading 0x80031), replies (Done G.Nothing) (and_then no_writes 0 (ring_word 0x80031)) (apart_one (one 0x20 0x20 n 1 1 (waits 1))))
-      ∷ (acknowledges 0x20, replies (Done G.Yes) (acknowledge_writes 0x20 0x27 true true) (linked_one (one 0x20 0x20 n 0 0 linked)))
+      (Drain 0x80031, replies (Ok (Done (G.Event E.TransferActivity))) no_writes (apart_one (one 0 0x20 0 0 0 (waits 0))))
+      ∷ (Cancel 0 1 (reading 0x80031), replies (Ok (Done G.Nothing)) (and_then no_writes 0 (ring_word 0x80031)) (apart_one (one 0x20 0x20 n 1 1 (waits 1))))
+      ∷ (acknowledges 0x20, replies (Ok (Done G.Yes)) (acknowledge_writes 0x20 0x27 true true) (linked_one (one 0x20 0x20 n 0 0 linked)))
       ∷ submits_one
 
   abbrev freed : Script
-  freed = (Collect 0 1 (reading 0x80031), replies Cancelled no_writes free_one) ∷ counted
+  freed = (Collect 0 1 (reading 0x80031), replies (Ok Cancelled) no_writes free_one) ∷ counted
 
   follows : Follows m opened_two freed
   follows = (collects_one, (counts, (leaves, (hears, (submits_one_lem, tt)))))
@@ -123,15 +124,15 @@ module _ (m : Machine in_plain) (plainly : Plainly m) (n : ℕ)
 
 -- ---- the two machines
 
-early_hears : early (linked_one (one 0 0 0 0 0 linked)) (acknowledges 0x20) ≡ replies (Done G.Yes) (acknowledge_writes 0x20 0x27 true true) (linked_one (one 0x20 0x20 1 0 0 linked))
+early_hears : early (linked_one (one 0 0 0 0 0 linked)) (acknowledges 0x20) ≡ replies (Ok (Done G.Yes)) (acknowledge_writes 0x20 0x27 true true) (linked_one (one 0x20 0x20 1 0 0 linked))
 unfolding state_of with_bell
 early_hears = ap (note_after true) heard
 
-early_leaves : early (linked_one (one 0x20 0x20 1 0 0 linked)) (Cancel 0 1 (reading 0x80031)) ≡ replies (Done G.Nothing) (and_then no_writes 0 (ring_word 0x80031)) (apart_one (one 0x20 0x20 1 1 1 (waits 1)))
+early_leaves : early (linked_one (one 0x20 0x20 1 0 0 linked)) (Cancel 0 1 (reading 0x80031)) ≡ replies (Ok (Done G.Nothing)) (and_then no_writes 0 (ring_word 0x80031)) (apart_one (one 0x20 0x20 1 1 1 (waits 1)))
 unfolding state_of with_bell
 early_leaves = ap (note_after true) unlinked
 
-early_counts : early (apart_one (one 0x20 0x20 1 1 1 (waits 1))) (Drain 0x80031) ≡ replies (Done (G.Event E.TransferActivity)) no_writes (apart_one (one 0 0x20 0 0 0 (waits 0)))
+early_counts : early (apart_one (one 0x20 0x20 1 1 1 (waits 1))) (Drain 0x80031) ≡ replies (Ok (Done (G.Event E.TransferActivity))) no_writes (apart_one (one 0 0x20 0 0 0 (waits 0)))
 unfolding state_of with_bell
 early_counts = drained
 
@@ -141,13 +142,13 @@ early_boundary = not_kept early early_plainly 1 early_hears early_leaves early_c
 pub early_gives : EveryRun NeverGiven early → ⊥
 early_gives = not_held_back early early_plainly 1 early_hears early_leaves early_counts
 
-any_hears : any (linked_one (one 0 0 0 0 0 linked)) (acknowledges 0x20) ≡ replies (Done G.Yes) (acknowledge_writes 0x20 0x27 true true) (linked_one (one 0x20 0x20 0 0 0 linked))
+any_hears : any (linked_one (one 0 0 0 0 0 linked)) (acknowledges 0x20) ≡ replies (Ok (Done G.Yes)) (acknowledge_writes 0x20 0x27 true true) (linked_one (one 0x20 0x20 0 0 0 linked))
 any_hears = heard
 
-any_leaves : any (linked_one (one 0x20 0x20 0 0 0 linked)) (Cancel 0 1 (reading 0x80031)) ≡ replies (Done G.Nothing) (and_then no_writes 0 (ring_word 0x80031)) (apart_one (one 0x20 0x20 0 1 1 (waits 1)))
+any_leaves : any (linked_one (one 0x20 0x20 0 0 0 linked)) (Cancel 0 1 (reading 0x80031)) ≡ replies (Ok (Done G.Nothing)) (and_then no_writes 0 (ring_word 0x80031)) (apart_one (one 0x20 0x20 0 1 1 (waits 1)))
 any_leaves = unlinked
 
-any_counts : any (apart_one (one 0x20 0x20 0 1 1 (waits 1))) (Drain 0x80031) ≡ replies (Done (G.Event E.TransferActivity)) no_writes (apart_one (one 0 0x20 0 0 0 (waits 0)))
+any_counts : any (apart_one (one 0x20 0x20 0 1 1 (waits 1))) (Drain 0x80031) ≡ replies (Ok (Done (G.Event E.TransferActivity))) no_writes (apart_one (one 0 0x20 0 0 0 (waits 0)))
 unfolding state_of with_bell any_of
 any_counts = drained
 

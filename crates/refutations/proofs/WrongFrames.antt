@@ -1,4 +1,5 @@
 -- A collect that takes FRINDEX to be 9 on: of this machine the frames are not kept, and a place is given too soon.
+use Rattle.std.specs.Prelude.{Ok, false}
 use Prim.Native.Nat.{ℕ, ◌+◌}
 use mathlib.Core.Path.{◌≡◌, refl, sym, ap, ◌∙◌}
 use mathlib.Core.Bool.{true, true≢false}
@@ -138,19 +139,19 @@ opens : left_by (core (fresh (rising 1 0)) open_interrupt) ≡ opened
 unfolding apply_of decide_of asks_of rows_are_fit replied fill_of filled_from no_chain packed list_of open_decided open_endpoint_of open_checks accepts_of fields_good size_good closed_from with_endpoint with_slot endpoint_head terminated put_at state_of
 opens = rw (rising_good 1 0 refl refl)
 
-links : core opened (submits 0x500000) ≡ replies (Done (G.Id 1)) (writes_with (reading 0x80031)) linked
+links : core opened (submits 0x500000) ≡ replies (Ok (Done (G.Id 1))) (writes_with (reading 0x80031)) linked
 unfolding apply_of decide_of asks_of rows_are_fit replied fill_of filled_from no_chain packed list_of submit_decided submit_of accepts_of endpoint_at decoded slot_at ranges_good buffer_good free_count count_zero need_of chunk_count settled_submit accepted_with taken_for taken_places places_from mark_of state_with after_id with_owner with_endpoint with_slot linked_rows started_overlay overlay_token attached_frames setups_with record_at bare_at chunk_qtd new_qtd token_of page_slots with_next state_of
 links = rw states_good_lem.0
 
-unlinks : core linked (Cancel 0 1 (reading 0x80031)) ≡ replies (Done G.Nothing) no_writes parts
+unlinks : core linked (Cancel 0 1 (reading 0x80031)) ≡ replies (Ok (Done G.Nothing)) no_writes parts
 unfolding apply_of decide_of asks_of rows_are_fit replied fill_of filled_from no_chain packed list_of cancel_decided cancel_of accepts_of endpoint_at decoded slot_at unlink_of waiting_of bounded_of detach_of predecessor_of search_from precedes_one with_endpoint with_slot with_bell state_of
 unlinks = rw states_good_lem.1
 
-collects : core parts (Collect 0 1 (later (reading 0x80031))) ≡ replies Cancelled no_writes free
+collects : core parts (Collect 0 1 (later (reading 0x80031))) ≡ replies (Ok Cancelled) no_writes free
 unfolding apply_of decide_of asks_of rows_are_fit replied fill_of filled_from no_chain packed list_of collect_decided collect_of accepts_of endpoint_at decoded slot_at unlinking_of finish_of outcome_of freed clear_of ended_overlay put_at terminated with_owner with_endpoint with_slot state_of
 collects = rw states_good_lem.2
 
-links_again : core free (submits 0x502000) ≡ replies (Done (G.Id 2)) (writes_with (reading 0x80031)) again
+links_again : core free (submits 0x502000) ≡ replies (Ok (Done (G.Id 2))) (writes_with (reading 0x80031)) again
 unfolding apply_of decide_of asks_of rows_are_fit replied fill_of filled_from no_chain packed list_of submit_decided submit_of accepts_of endpoint_at decoded slot_at ranges_good buffer_good free_count count_zero need_of chunk_count settled_submit accepted_with taken_for taken_places places_from mark_of state_with after_id with_owner with_endpoint with_slot linked_rows started_overlay overlay_token attached_frames setups_with record_at bare_at chunk_qtd new_qtd token_of page_slots with_next state_of
 links_again = rw states_good_lem.3
 
@@ -164,12 +165,12 @@ up = open_interrupt ∷ run_calls
 
 abbrev parting : Script
 parting =
-    (Cancel 0 1 (reading 0x80031), replies (Done G.Nothing) no_writes parts)
-    ∷ (submits 0x500000, replies (Done (G.Id 1)) (writes_with (reading 0x80031)) linked)
+    (Cancel 0 1 (reading 0x80031), replies (Ok (Done G.Nothing)) no_writes parts)
+    ∷ (submits 0x500000, replies (Ok (Done (G.Id 1))) (writes_with (reading 0x80031)) linked)
     ∷ []
 
 abbrev gone : Script
-gone = (Collect 0 1 (reading 0x80031), replies Cancelled no_writes free) ∷ parting
+gone = (Collect 0 1 (reading 0x80031), replies (Ok Cancelled) no_writes free) ∷ parting
 
 abbrev shortly : List Call
 shortly = calls_of up parting

@@ -1,4 +1,5 @@
 -- A machine that gives the ids 1, 2, 3 again and again: the fourth request of a slot is not given 4. And one that cancels by any id.
+use Rattle.std.specs.Prelude.{Ok}
 use Prim.Native.Nat.{ℕ, ◌+◌, ◌-◌, ◌%◌, ◌^◌}
 use mathlib.Core.Bool.{true, false, cond}
 use mathlib.Core.List.{List, [], ◌∷◌}
@@ -39,7 +40,7 @@ use Rattle.ehci.specs.declared.call.Call.{Call}
 use Rattle.ehci.specs.declared.call.Call.TheVariants.{Cancel, Collect, Drain}
 use Rattle.ehci.specs.declared.reply.Answered.TheVariants.{Done, Cancelled}
 use Rattle.ehci.specs.declared.reply.Given.TheVariants as G
-use Rattle.ehci.specs.declared.reply.Event.TheVariants as E
+use Rattle.interrupt.specs.declared.answers.Event.TheVariants as E
 use Rattle.ehci.specs.Replies.{answered_values, replied}
 use Rattle.ehci.specs.Decides.{acknowledge_decided, asks_of, cancel_decided, collect_decided, decide_of, drain_decided, submit_decided}
 use Rattle.ehci.specs.Door.{Applied, apply_of}
@@ -60,7 +61,7 @@ use Rattle.refutations.proofs.Scripts.{Follows, Script, arrives, is_told}
 
 -- after 3 comes 1
 abbrev in_threes : Applied → Applied
-in_threes a = cond (is_done a.reply.answer) (answering (Done (G.Id ((first_in (answered_values a.reply.answer) - 1) % 3 + 1))) a) a
+in_threes a = cond (is_done a.reply.answer) (answering (Ok (Done (G.Id ((first_in (answered_values a.reply.answer) - 1) % 3 + 1)))) a) a
 
 abbrev pub thrice : Machine in_plain
 thrice = but (λ x a. is_submits a) (λ x a. in_threes a)
@@ -93,7 +94,7 @@ abbrev c1 : List Call
 c1 = submits 0 0x500000 ∷ up_calls
 
 abbrev given_one : Applied
-given_one = replies (Done (G.Id 1)) (writes_with (reading 0x80031)) (linked_one (one 0 0 0 0 0 linked))
+given_one = replies (Ok (Done (G.Id 1))) (writes_with (reading 0x80031)) (linked_one (one 0 0 0 0 0 linked))
 
 submits_one_lem : thrice opened_two (submits 0 0x500000) ≡ given_one
 submits_one_lem = ap in_threes submitted
@@ -103,9 +104,9 @@ c2 = again ∷ round 1 c1
 
 abbrev second : Script
 second =
-    (again, in_threes (replies (Done (G.Id 2)) (writes_with (reading 0x80031)) again_one))
-    ∷ (collects 1, replies Cancelled no_writes free_one)
-    ∷ (Drain 0x80031, replies (Done (G.Event E.TransferActivity)) no_writes (apart_one (one 0 0x20 0 0 0 (waits 0))))
+    (again, in_threes (replies (Ok (Done (G.Id 2))) (writes_with (reading 0x80031)) again_one))
+    ∷ (collects 1, replies (Ok Cancelled) no_writes free_one)
+    ∷ (Drain 0x80031, replies (Ok (Done (G.Event E.TransferActivity))) no_writes (apart_one (one 0 0x20 0 0 0 (waits 0))))
     ∷ hears_one
 
 second_so : Follows thrice opened_two second
@@ -147,16 +148,16 @@ record Goods (n : ℕ) : Type 0 where
 
 module _ (n : ℕ) (g : Goods n) where
   abbrev left : Applied
-  left = replies (Done G.Nothing) (and_then no_writes 0 (ring_word 0x80031)) (apart_n (held n 0 0 1 1 3 1 1))
+  left = replies (Ok (Done G.Nothing)) (and_then no_writes 0 (ring_word 0x80031)) (apart_n (held n 0 0 1 1 3 1 1))
 
   abbrev answered : Applied
-  answered = replies (Done G.Yes) (acknowledge_writes 0x20 0x27 true true) (apart_n (held n 0x20 1 1 1 3 1 1))
+  answered = replies (Ok (Done G.Yes)) (acknowledge_writes 0x20 0x27 true true) (apart_n (held n 0x20 1 1 1 3 1 1))
 
   abbrev counted : Applied
-  counted = replies (Done (G.Event E.TransferActivity)) no_writes (apart_n (held n 0 0 0 0 3 1 0))
+  counted = replies (Ok (Done (G.Event E.TransferActivity))) no_writes (apart_n (held n 0 0 0 0 3 1 0))
 
   abbrev ended : Applied
-  ended = replies Cancelled no_writes (free_n n)
+  ended = replies (Ok Cancelled) no_writes (free_n n)
 
   leaves_n : core (linked_n n) (cancels n) ≡ left
   unfolding apply_of decide_of asks_of rows_are_fit replied fill_of filled_from no_chain packed list_of cancel_decided cancel_of accepts_of endpoint_at decoded slot_at unlink_of waiting_of bounded_of unlinked_of ring_of detach_of predecessor_of search_from precedes_one with_endpoint with_slot with_bell state_of
@@ -174,19 +175,19 @@ module _ (n : ℕ) (g : Goods n) where
   unfolding apply_of decide_of asks_of rows_are_fit replied fill_of filled_from no_chain packed list_of collect_decided collect_of accepts_of endpoint_at decoded slot_at unlinking_of finish_of outcome_of freed clear_of ended_overlay put_at terminated with_owner with_endpoint with_slot state_of
   ends_n = rw (g.counted_good, g.same)
 
-  submits_n : core (free_n n) again ≡ replies (Done (G.Id (n + 1))) (writes_with (reading 0x80031)) (linked_n (n + 1))
+  submits_n : core (free_n n) again ≡ replies (Ok (Done (G.Id (n + 1)))) (writes_with (reading 0x80031)) (linked_n (n + 1))
   unfolding apply_of decide_of asks_of rows_are_fit replied fill_of filled_from no_chain packed list_of submit_decided submit_of accepts_of endpoint_at decoded slot_at ranges_good buffer_good free_count count_zero need_of chunk_count settled_submit accepted_with taken_for taken_places places_from mark_of state_with after_id with_owner with_endpoint with_slot linked_rows started_overlay overlay_token attached_ring setups_with record_at bare_at chunk_qtd new_qtd token_of page_slots with_next state_of
   submits_n = rw (g.free_good, g.more)
 
   -- and the next request is accepted
-  next_given : thrice (free_n n) again ≡ in_threes (replies (Done (G.Id (n + 1))) (writes_with (reading 0x80031)) (linked_n (n + 1)))
+  next_given : thrice (free_n n) again ≡ in_threes (replies (Ok (Done (G.Id (n + 1)))) (writes_with (reading 0x80031)) (linked_n (n + 1)))
   next_given = ap in_threes submits_n
 
   abbrev ends : Script
   ends = (collects n, ended) ∷ (Drain 0x80031, counted) ∷ (acknowledges 0x20, answered) ∷ (cancels n, left) ∷ []
 
   abbrev goes_further : Script
-  goes_further = (again, in_threes (replies (Done (G.Id (n + 1))) (writes_with (reading 0x80031)) (linked_n (n + 1)))) ∷ ends
+  goes_further = (again, in_threes (replies (Ok (Done (G.Id (n + 1)))) (writes_with (reading 0x80031)) (linked_n (n + 1)))) ∷ ends
 
   goes_so : Follows thrice (linked_n n) goes_further
   goes_so = (next_given, (ends_n, (drains_n, (hears_n, (leaves_n, tt)))))
@@ -244,7 +245,7 @@ thrice_ids ids =
 -- ---- every cancel and collect is answered 0
 
 abbrev pub obliging : Machine in_plain
-obliging = but (λ x a. is_leaves a) (λ x a. answering (Done G.Nothing) a)
+obliging = but (λ x a. is_leaves a) (λ x a. answering (Ok (Done G.Nothing)) a)
 
 pub obliging_cancels : EveryRun CancelsById obliging → ⊥
 unfolding history_of world_of uses

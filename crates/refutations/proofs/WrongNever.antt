@@ -1,4 +1,5 @@
 -- A machine that never counts an advance: what 01 lets pass does not pass, so the exact rule is refuted.
+use Rattle.std.specs.Prelude.{Ok}
 use Prim.Native.Nat.{◌+◌, ◌≤◌}
 use mathlib.Core.Path.{◌≡◌, refl, sym, ap, subst, ◌∙◌}
 use mathlib.Core.Bool.{true, false, false≢true}
@@ -26,7 +27,7 @@ use Rattle.ehci.specs.declared.call.Call.{Call}
 use Rattle.ehci.specs.declared.call.Call.TheVariants.{Cancel, Collect, Drain}
 use Rattle.ehci.specs.declared.reply.Answered.TheVariants.{Done, Pending}
 use Rattle.ehci.specs.declared.reply.Given.TheVariants as G
-use Rattle.ehci.specs.declared.reply.Event.TheVariants as E
+use Rattle.interrupt.specs.declared.answers.Event.TheVariants as E
 use Rattle.ehci.specs.Replies.{replied}
 use Rattle.ehci.specs.Decides.{acknowledge_decided, asks_of, cancel_decided, collect_decided, decide_of, drain_decided}
 use Rattle.ehci.specs.Door.{Applied, apply_of}
@@ -61,36 +62,36 @@ states_good_lem = (refl, refl, refl, refl)
 abbrev w : World
 w = fresh_world small
 
-pub leaves : core (linked_one (one 0 0 0 0 0 linked)) (Cancel 0 1 (reading 0x80031)) ≡ replies (Done G.Nothing) (and_then no_writes 0 (ring_word 0x80031)) (apart_one (one 0 0 0 1 1 (waits 1)))
+pub leaves : core (linked_one (one 0 0 0 0 0 linked)) (Cancel 0 1 (reading 0x80031)) ≡ replies (Ok (Done G.Nothing)) (and_then no_writes 0 (ring_word 0x80031)) (apart_one (one 0 0 0 1 1 (waits 1)))
 unfolding apply_of decide_of asks_of rows_are_fit replied fill_of filled_from no_chain packed list_of cancel_decided cancel_of accepts_of endpoint_at decoded slot_at unlink_of waiting_of bounded_of unlinked_of ring_of detach_of predecessor_of search_from precedes_one with_endpoint with_slot with_bell state_of
 leaves = rw states_good_lem.0
 
-pub hears : core (apart_one (one 0 0 0 1 1 (waits 1))) (acknowledges 0x20) ≡ replies (Done G.Yes) (acknowledge_writes 0x20 0x27 true true) (apart_one (one 0x20 0x20 1 1 1 (waits 1)))
+pub hears : core (apart_one (one 0 0 0 1 1 (waits 1))) (acknowledges 0x20) ≡ replies (Ok (Done G.Yes)) (acknowledge_writes 0x20 0x27 true true) (apart_one (one 0x20 0x20 1 1 1 (waits 1)))
 unfolding apply_of decide_of asks_of rows_are_fit replied fill_of filled_from no_chain packed list_of acknowledge_decided acknowledge_of only_bits with_bits any_of acknowledged_state noted_after with_interrupt with_bell state_of
 hears = rw states_good_lem.1
 
-passes : core (apart_one (one 0x20 0x20 0 1 1 (waits 1))) (Drain 0x80031) ≡ replies (Done (G.Event E.TransferActivity)) no_writes (apart_one (one 0 0x20 0 1 1 (waits 1)))
+passes : core (apart_one (one 0x20 0x20 0 1 1 (waits 1))) (Drain 0x80031) ≡ replies (Ok (Done (G.Event E.TransferActivity))) no_writes (apart_one (one 0 0x20 0 1 1 (waits 1)))
 unfolding apply_of decide_of asks_of rows_are_fit replied fill_of filled_from no_chain packed list_of drain_decided drain_of any_of without_bits counted_of cleared_of with_interrupt with_bell with_boundaries advanced_of ring_of fallen_from fallen_one state_of
 passes = rw states_good_lem.2
 
-waits_on : core (apart_one (one 0 0x20 0 1 1 (waits 1))) (Collect 0 1 (reading 0x80031)) ≡ replies Pending no_writes (apart_one (one 0 0x20 0 1 1 (waits 1)))
+waits_on : core (apart_one (one 0 0x20 0 1 1 (waits 1))) (Collect 0 1 (reading 0x80031)) ≡ replies (Ok Pending) no_writes (apart_one (one 0 0x20 0 1 1 (waits 1)))
 unfolding apply_of decide_of asks_of rows_are_fit replied fill_of filled_from no_chain packed list_of collect_decided collect_of accepts_of endpoint_at decoded slot_at unlinking_of finish_of outcome_of freed clear_of ended_overlay put_at terminated with_owner with_endpoint with_slot state_of
 waits_on = rw states_good_lem.3
 
-never_counts : never (apart_one (one 0x20 0x20 1 1 1 (waits 1))) (Drain 0x80031) ≡ replies (Done (G.Event E.TransferActivity)) no_writes (apart_one (one 0 0x20 0 1 1 (waits 1)))
+never_counts : never (apart_one (one 0x20 0x20 1 1 1 (waits 1))) (Drain 0x80031) ≡ replies (Ok (Done (G.Event E.TransferActivity))) no_writes (apart_one (one 0 0x20 0 1 1 (waits 1)))
 unfolding state_of with_bell
 never_counts = passes
 
 -- one request is unlinked, which rings
 abbrev pub leaves_one : Script
-leaves_one = (Cancel 0 1 (reading 0x80031), replies (Done G.Nothing) (and_then no_writes 0 (ring_word 0x80031)) (apart_one (one 0 0 0 1 1 (waits 1)))) ∷ submits_one
+leaves_one = (Cancel 0 1 (reading 0x80031), replies (Ok (Done G.Nothing)) (and_then no_writes 0 (ring_word 0x80031)) (apart_one (one 0 0 0 1 1 (waits 1)))) ∷ submits_one
 
 -- the answer
 abbrev pub hears_one : Script
-hears_one = (acknowledges 0x20, replies (Done G.Yes) (acknowledge_writes 0x20 0x27 true true) (apart_one (one 0x20 0x20 1 1 1 (waits 1)))) ∷ leaves_one
+hears_one = (acknowledges 0x20, replies (Ok (Done G.Yes)) (acknowledge_writes 0x20 0x27 true true) (apart_one (one 0x20 0x20 1 1 1 (waits 1)))) ∷ leaves_one
 
 abbrev drains_one : Script
-drains_one = (Drain 0x80031, replies (Done (G.Event E.TransferActivity)) no_writes (apart_one (one 0 0x20 0 1 1 (waits 1)))) ∷ hears_one
+drains_one = (Drain 0x80031, replies (Ok (Done (G.Event E.TransferActivity))) no_writes (apart_one (one 0 0x20 0 1 1 (waits 1)))) ∷ hears_one
 
 abbrev c1 : List Call
 c1 = calls_of up_calls submits_one
@@ -135,7 +136,7 @@ never_exact exact =
 
 -- ---- order 13: n + 1 advances are counted, and its request does not pass
 
-left_the_ring : unlinks_of small 0 (turn_of (linked_one (one 0 0 0 0 0 linked)).rows (Cancel 0 1 (reading 0x80031)) (replies (Done G.Nothing) (and_then no_writes 0 (ring_word 0x80031)) (apart_one (one 0 0 0 1 1 (waits 1))))) ≡ true
+left_the_ring : unlinks_of small 0 (turn_of (linked_one (one 0 0 0 0 0 linked)).rows (Cancel 0 1 (reading 0x80031)) (replies (Ok (Done G.Nothing)) (and_then no_writes 0 (ring_word 0x80031)) (apart_one (one 0 0 0 1 1 (waits 1))))) ≡ true
 unfolding ring_walk walk_from
 left_the_ring = refl
 

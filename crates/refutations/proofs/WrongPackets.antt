@@ -1,5 +1,6 @@
 -- Machines whose descriptors end inside a packet: chunks of C, as before the order; of one packet, where more fit; of one packet too many. And one
 -- whose head keeps the size that the slot was opened with.
+use Rattle.std.specs.Prelude.{Ok, Result}
 use Prim.Native.Nat.{ℕ}
 use mathlib.Core.Path.{◌≡◌, refl, ap}
 use mathlib.Core.Logic.{◌≢◌}
@@ -31,7 +32,6 @@ use Rattle.schedule.specs.Links.{started_overlay}
 use Rattle.ehci.specs.Door.{Applied, applied}
 use Rattle.ehci.specs.declared.call.Call.{Call}
 use Rattle.ehci.specs.declared.call.Call.TheVariants.{StartBringUp, BringUpStep, AllocateAddress, OpenEndpoint, Close, SetAddress, SetPacketSize, Submit, Writeback, Cancel, Collect, Acknowledge, Drain, Rearm, Enable, Disable, ClearHalt}
-use Rattle.ehci.specs.declared.reply.Answered.{Answered}
 use Rattle.ehci.specs.declared.reply.Answered.TheVariants.{Done, Pending}
 use Rattle.ehci.specs.declared.reply.Given.TheVariants.{Id, Nothing, Slot}
 use Rattle.promises.specs.Runs.{EveryRun, Machine, World, history_of, in_plain, rows_of, world_of}
@@ -45,6 +45,8 @@ use Rattle.descriptor.specs.EhciQueueHead.{maximum_packet_length}
 use Rattle.endpoint.specs.Calls.{with_head}
 use Rattle.common.specs.Rows.{put_at}
 use Rattle.ehci.specs.declared.call.EndpointFields.{EndpointFields}
+use Rattle.ehci.specs.declared.reply.Answered.{Answered}
+use Rattle.common.specs.declared.answer.Refusal.{Refusal}
 
 -- ---- a controller of four descriptors and one slot, by its limit
 
@@ -57,7 +59,7 @@ four_good = (refl, refl)
 
 -- ---- machines that open slot 0 and cut a request into chunks of so many bytes, with no checks; a set packet size is done and writes nothing
 
-abbrev stays : World → Answered → Applied
+abbrev stays : World → Result Answered Refusal → Applied
 stays w a = applied (record { state = w.state; answer = a; writes = no_writes }) w.rows.pool w.rows.heads w.rows.frames w.rows.setups
 
 abbrev chain_of : ℕ → World → TransferRequest → Taken → Chain
@@ -70,32 +72,32 @@ chain_of cut w t taken =
 
 abbrev written : ℕ → World → ℕ → TransferRequest → Taken → Applied
 written cut w k t taken =
-    applied (record { state = w.state; answer = Done (Id 1); writes = no_writes }) (fill_of (chain_of cut w t taken) w.rows.pool)
+    applied (record { state = w.state; answer = Ok (Done (Id 1)); writes = no_writes }) (fill_of (chain_of cut w t taken) w.rows.pool)
     (started_overlay w.rows.heads k (first_in w.state taken) 0) w.rows.frames w.rows.setups
 
 abbrev opened : World → EndpointFields → Applied
 opened w x =
-    applied (record { state = w.state; answer = Done (Slot 0); writes = no_writes }) w.rows.pool
+    applied (record { state = w.state; answer = Ok (Done (Slot 0)); writes = no_writes }) w.rows.pool
     (with_head w.rows.heads 0 (words_of (endpoint_head x.kind x.address x.number x.packet))) w.rows.frames w.rows.setups
 
 abbrev cuts : ℕ → Machine in_plain
-cuts cut w StartBringUp = stays w Pending
-cuts cut w (BringUpStep v) = stays w Pending
-cuts cut w AllocateAddress = stays w Pending
+cuts cut w StartBringUp = stays w (Ok Pending)
+cuts cut w (BringUpStep v) = stays w (Ok Pending)
+cuts cut w AllocateAddress = stays w (Ok Pending)
 cuts cut w (OpenEndpoint x) = opened w x
-cuts cut w (Close k) = stays w Pending
-cuts cut w (SetAddress k a) = stays w Pending
-cuts cut w (SetPacketSize k size) = stays w (Done Nothing)
+cuts cut w (Close k) = stays w (Ok Pending)
+cuts cut w (SetAddress k a) = stays w (Ok Pending)
+cuts cut w (SetPacketSize k size) = stays w (Ok (Done Nothing))
 cuts cut w (Submit k t readings) = written cut w k t (taken_of w.state.owner 4 (need_of t.kind t.length cut) k)
-cuts cut w (Writeback place token) = stays w Pending
-cuts cut w (Cancel k id readings) = stays w Pending
-cuts cut w (Collect k id readings) = stays w Pending
-cuts cut w (Acknowledge r) = stays w Pending
-cuts cut w (Drain v) = stays w Pending
-cuts cut w Rearm = stays w Pending
-cuts cut w Enable = stays w Pending
-cuts cut w Disable = stays w Pending
-cuts cut w (ClearHalt k) = stays w Pending
+cuts cut w (Writeback place token) = stays w (Ok Pending)
+cuts cut w (Cancel k id readings) = stays w (Ok Pending)
+cuts cut w (Collect k id readings) = stays w (Ok Pending)
+cuts cut w (Acknowledge r) = stays w (Ok Pending)
+cuts cut w (Drain v) = stays w (Ok Pending)
+cuts cut w Rearm = stays w (Ok Pending)
+cuts cut w Enable = stays w (Ok Pending)
+cuts cut w Disable = stays w (Ok Pending)
+cuts cut w (ClearHalt k) = stays w (Ok Pending)
 
 -- ---- bulk with packets of 512, and a request
 

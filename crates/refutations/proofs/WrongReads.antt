@@ -1,5 +1,6 @@
 -- A machine that reads on past a short descriptor, as before order 1: the request of 16385 bytes of which 3,000 came stays linked for ever. That no
 -- unlink fails is refuted of it: the request is finished, and its head does not leave.
+use Rattle.std.specs.Prelude.{Ok}
 use Prim.Native.Nat.{ℕ}
 use mathlib.Core.Path.{◌≡◌, refl, sym, ap, subst, ◌∙◌}
 use mathlib.Core.Bool.{true, false, cond}
@@ -98,11 +99,11 @@ linked_good_lem : in_ranges linked_state ≡ true
 unfolding state_of in_ranges rest_good machine_good interrupt_good doorbell_good owner_good largest slots_good slot_good size_kept toggle_kept size_good phase_good closed_good idle_good linked_good unlinking_good boundary_good open_kind no_request settings_good numbers_good each_good no_overlap area_good apart_areas slot_at without_bits
 linked_good_lem = refl
 
-submitted : core opened_two submits ≡ replies (Done (G.Id 1)) (writes_with (reading 0x80031)) (linked_with 0x40000D80)
+submitted : core opened_two submits ≡ replies (Ok (Done (G.Id 1))) (writes_with (reading 0x80031)) (linked_with 0x40000D80)
 unfolding apply_of decide_of asks_of rows_are_fit replied fill_of filled_from no_chain packed list_of submit_decided submit_of accepts_of endpoint_at decoded slot_at ranges_good buffer_good free_count count_zero need_of chunk_count settled_submit accepted_with taken_for taken_places places_from mark_of state_with after_id with_owner with_endpoint with_slot linked_rows started_overlay overlay_token attached_ring setups_with record_at bare_at chunk_qtd new_qtd token_of page_slots with_next state_of
 submitted = rw opened_good
 
-written : core (linked_with 0x40000D80) (Writeback 0 short) ≡ replies (Done G.Nothing) no_writes (linked_with short)
+written : core (linked_with 0x40000D80) (Writeback 0 short) ≡ replies (Ok (Done G.Nothing)) no_writes (linked_with short)
 unfolding apply_of decide_of asks_of rows_are_fit replied fill_of filled_from no_chain packed list_of writeback_decided writeback_of accepts_of in_request endpoint_at decoded slot_at state_of
 written = rw linked_good_lem
 
@@ -121,7 +122,7 @@ abbrev reads_on : Machine in_plain
 reads_on v c = cond (eqb (rank c) 2) (reading_on v c) (core v c)
 
 -- it waits for the second descriptor
-waits_on : reads_on (linked_with short) looks ≡ replies Pending no_writes (linked_with short)
+waits_on : reads_on (linked_with short) looks ≡ replies (Ok Pending) no_writes (linked_with short)
 unfolding decide_of asks_of ask_of askable request_ask places_from seen_from read_of view_of stage_seen first_error length_of requested_at rows_are_fit replied fill_of filled_from no_chain packed list_of collect_decided collect_of linked_of accepts_of endpoint_at decoded slot_at state_of
 waits_on = rw linked_good_lem
 
@@ -137,8 +138,8 @@ w = fresh_world small
 
 abbrev moves : Script
 moves =
-    (Writeback 0 short, replies (Done G.Nothing) no_writes (linked_with short))
-    ∷ (submits, replies (Done (G.Id 1)) (writes_with (reading 0x80031)) (linked_with 0x40000D80))
+    (Writeback 0 short, replies (Ok (Done G.Nothing)) no_writes (linked_with short))
+    ∷ (submits, replies (Ok (Done (G.Id 1))) (writes_with (reading 0x80031)) (linked_with 0x40000D80))
     ∷ []
 
 abbrev calls : List Call
@@ -174,7 +175,7 @@ event_number (Parts k frame) = 5
 event_number (Collects k id frame) = 6
 
 -- what it does is nothing
-nothing : event small (turn_of (linked_with short).rows looks (replies Pending no_writes (linked_with short))) ≡ Other
+nothing : event small (turn_of (linked_with short).rows looks (replies (Ok Pending) no_writes (linked_with short))) ≡ Other
 unfolding ring_walk frame_walk walk_from state_of
 nothing = refl
 

@@ -1,5 +1,6 @@
 -- Machines that acknowledge something else than they read, forget it, ring in a submit, or begin bring-up with a ring out: the statements of
 -- registers refuted.
+use Rattle.std.specs.Prelude.{Ok, Some, false}
 use Prim.Native.Nat.{ℕ}
 use mathlib.Core.Bool.{true, ◌&&◌, cond, true≢false}
 use mathlib.Core.List.{List, [], ◌∷◌}
@@ -18,11 +19,10 @@ use Rattle.schedule.specs.Bell.{command_word, ring_word}
 use Rattle.request.specs.Submit.{writes_with}
 use Rattle.interrupt.specs.Interrupts.{acknowledge_of, acknowledge_writes, acknowledged_state, drain_of, noted_after}
 use Rattle.opening.specs.Opening.{fresh_state, rows_are_fit}
-use Rattle.common.specs.declared.reads.NextRead.TheVariants as N
 use Rattle.ehci.specs.declared.call.Call.{Call}
 use Rattle.ehci.specs.declared.call.Call.TheVariants.{Drain, StartBringUp}
 use Rattle.ehci.specs.declared.reply.Answered.TheVariants.{Done}
-use Rattle.ehci.specs.declared.reply.Event.TheVariants as E
+use Rattle.interrupt.specs.declared.answers.Event.TheVariants as E
 use Rattle.ehci.specs.declared.reply.Given.TheVariants as G
 use Rattle.ehci.specs.Replies.{answered_values, replied}
 use Rattle.ehci.specs.Decides.{acknowledge_decided, asks_of, decide_of, drain_decided}
@@ -60,13 +60,13 @@ abbrev pub deafening : Machine in_plain
 deafening = acknowledges_as 0x3F
 
 fresh_heard : core (fresh (rising 0 0)) (acknowledges 0x20)
-    ≡ replies (Done G.Yes) (acknowledge_writes 0x20 0x27 true true) (fresh (state_of 0 0 (bell_of 0x20 0x20 0 0 0) (0 ∷ 0 ∷ []) closed closed))
+    ≡ replies (Ok (Done G.Yes)) (acknowledge_writes 0x20 0x27 true true) (fresh (state_of 0 0 (bell_of 0x20 0x20 0 0 0) (0 ∷ 0 ∷ []) closed closed))
 unfolding apply_of decide_of asks_of rows_are_fit replied fill_of filled_from no_chain packed list_of acknowledge_decided acknowledge_of only_bits with_bits any_of acknowledged_state noted_after with_interrupt with_bell state_of
 fresh_heard = rw (rising_good 0 0 refl refl)
 
 module _ (v : ℕ) (other : v ≡ 0x20 → ⊥) where
   abbrev answer : Applied
-  answer = replies (Done G.Yes) (acknowledge_writes 0x20 0x27 true true) (fresh (state_of 0 0 (bell_of 0x20 0x20 0 0 0) (0 ∷ 0 ∷ []) closed closed))
+  answer = replies (Ok (Done G.Yes)) (acknowledge_writes 0x20 0x27 true true) (fresh (state_of 0 0 (bell_of 0x20 0x20 0 0 0) (0 ∷ 0 ∷ []) closed closed))
 
   -- the first call of all
   did : turn_by (moment (acknowledges_as v) w) (acknowledges 0x20) ≡ turn_of (fresh (rising 0 0)).rows (acknowledges 0x20) (rewriting (status_as v) answer)
@@ -108,9 +108,9 @@ deafening_writes = not_exact 0x3F (λ e. omega arith)
 -- ---- what is acknowledged does not become pending
 
 abbrev pub forgetful : Machine in_plain
-forgetful = but (λ x a. is_acknowledges a) (λ x a. replies (Done G.Yes) a.reply.writes x)
+forgetful = but (λ x a. is_acknowledges a) (λ x a. replies (Ok (Done G.Yes)) a.reply.writes x)
 
-fresh_drains : core (fresh (rising 0 0)) (Drain 0x80031) ≡ replies (Done (G.Event E.Nothing)) no_writes (fresh (rising 0 0))
+fresh_drains : core (fresh (rising 0 0)) (Drain 0x80031) ≡ replies (Ok (Done (G.Event E.Nothing))) no_writes (fresh (rising 0 0))
 unfolding apply_of decide_of asks_of rows_are_fit replied fill_of filled_from no_chain packed list_of drain_decided drain_of state_of
 fresh_drains = rw (rising_good 0 0 refl refl)
 
@@ -143,18 +143,18 @@ c2 = calls_of up_calls leaves_one
 insistent_up : world_of insistent w up_calls ≡ opened_two
 insistent_up = up_world insistent (but_rises (λ (x : World) (a : Access). is_submits a && eqb x.state.doorbell 1) (λ (x : World) (a : Applied). rewriting rung a) (λ x. refl) (λ x n. refl) (λ x v. refl))
 
-insistent_submits : insistent opened_two (submits 0 0x500000) ≡ replies (Done (G.Id 1)) (writes_with (reading 0x80031)) (linked_one (one 0 0 0 0 0 linked))
+insistent_submits : insistent opened_two (submits 0 0x500000) ≡ replies (Ok (Done (G.Id 1))) (writes_with (reading 0x80031)) (linked_one (one 0 0 0 0 0 linked))
 unfolding state_of
 insistent_submits = submitted
 
 insistent_two : world_of insistent w c2 ≡ apart_one (one 0 0 0 1 1 (waits 1))
 insistent_two = arrives insistent w up_calls opened_two insistent_up leaves_one (leaves, (insistent_submits, tt))
 
-rings_beside : insistent (apart_one (one 0 0 0 1 1 (waits 1))) (submits 1 0x501000) ≡ rewriting rung (replies (Done (G.Id 1)) (writes_with (reading 0x80031)) apart_first)
+rings_beside : insistent (apart_one (one 0 0 0 1 1 (waits 1))) (submits 1 0x501000) ≡ rewriting rung (replies (Ok (Done (G.Id 1))) (writes_with (reading 0x80031)) apart_first)
 unfolding state_of
 rings_beside = ap (rewriting rung) submitted_beside
 
-one_ring : ring_count (turn_of (apart_one (one 0 0 0 1 1 (waits 1))).rows (submits 1 0x501000) (rewriting rung (replies (Done (G.Id 1)) (writes_with (reading 0x80031)) apart_first))).wrote ≡ 1
+one_ring : ring_count (turn_of (apart_one (one 0 0 0 1 1 (waits 1))).rows (submits 1 0x501000) (rewriting rung (replies (Ok (Done (G.Id 1))) (writes_with (reading 0x80031)) apart_first))).wrote ≡ 1
 unfolding and_then no_writes command_word with_bits without_bits
 one_ring = refl
 
@@ -183,7 +183,7 @@ insistent_writes exact =
 -- ---- bring-up is begun while a ring is out
 
 abbrev begins : World → Applied → Applied
-begins x a = replies (Done (G.Next (N.Register 0) 0)) no_writes x
+begins x a = replies (Ok (Done (G.Next (Some 0) 0))) no_writes x
 
 abbrev pub brazen : Machine in_plain
 brazen = but (λ x a. is_starts a && eqb x.state.noted 1) begins
@@ -191,12 +191,12 @@ brazen = but (λ x a. is_starts a && eqb x.state.noted 1) begins
 brazen_up : world_of brazen w up_calls ≡ opened_two
 brazen_up = up_world brazen (but_rises (λ (x : World) (a : Access). is_starts a && eqb x.state.noted 1) begins (λ x. refl) (λ x n. rw n) (λ x v. refl))
 
-brazen_starts : brazen (apart_one (one 0x20 0x20 1 1 1 (waits 1))) StartBringUp ≡ replies (Done (G.Next (N.Register 0) 0)) no_writes (apart_one (one 0x20 0x20 1 1 1 (waits 1)))
+brazen_starts : brazen (apart_one (one 0x20 0x20 1 1 1 (waits 1))) StartBringUp ≡ replies (Ok (Done (G.Next (Some 0) 0))) no_writes (apart_one (one 0x20 0x20 1 1 1 (waits 1)))
 unfolding state_of
 brazen_starts = refl
 
 abbrev restarts : Script
-restarts = (StartBringUp, replies (Done (G.Next (N.Register 0) 0)) no_writes (apart_one (one 0x20 0x20 1 1 1 (waits 1)))) ∷ hears_one
+restarts = (StartBringUp, replies (Ok (Done (G.Next (Some 0) 0))) no_writes (apart_one (one 0x20 0x20 1 1 1 (waits 1)))) ∷ hears_one
 
 brazen_told : history_of brazen w (calls_of up_calls restarts) ≡ turns_of opened_two (history_of brazen w up_calls) restarts
 brazen_told = is_told brazen w up_calls opened_two brazen_up restarts (brazen_starts, (hears, (leaves, (submitted, tt))))

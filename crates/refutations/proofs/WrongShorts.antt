@@ -1,5 +1,6 @@
 -- Machines without order 1, or with a fault in it: of alternate words that terminate, as before the order; a shared descriptor that is active; one
 -- that is lent out; and a collect that reads on past a short descriptor. The first three take descriptors and write their chain, with no checks.
+use Rattle.std.specs.Prelude.{Ok}
 use Prim.Native.Nat.{ℕ, ◌+◌}
 use mathlib.Core.Path.{◌≡◌, refl, ap}
 use mathlib.Core.Bool.{true}
@@ -62,11 +63,11 @@ call = Submit 0 asks (record { command = 0; frame = 0; overlay = 0 })
 
 abbrev written : (List QueueTransferDescriptor → List QueueTransferDescriptor) → World → ℕ → TransferRequest → Taken → Applied
 written f w k t taken =
-    applied (record { state = w.state; answer = Done (Id 1); writes = no_writes }) (f (fill_of (chain_for w.state k t taken) w.rows.pool))
+    applied (record { state = w.state; answer = Ok (Done (Id 1)); writes = no_writes }) (f (fill_of (chain_for w.state k t taken) w.rows.pool))
     (started_overlay w.rows.heads k (first_in w.state taken) 0) w.rows.frames w.rows.setups
 
 abbrev stays : World → Applied
-stays w = applied (record { state = w.state; answer = Pending; writes = no_writes }) w.rows.pool w.rows.heads w.rows.frames w.rows.setups
+stays w = applied (record { state = w.state; answer = Ok Pending; writes = no_writes }) w.rows.pool w.rows.heads w.rows.frames w.rows.setups
 
 -- `more` places are taken beside what is needed, of that many
 abbrev machine : ℕ → ℕ → (List QueueTransferDescriptor → List QueueTransferDescriptor) → Machine in_plain

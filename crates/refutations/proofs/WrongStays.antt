@@ -1,4 +1,5 @@
 -- Machines made from `core` that lose what a writeback writes, or that leave a collected request's overlay as it was.
+use Rattle.std.specs.Prelude.{Ok, Result}
 use Prim.Native.Nat.{ℕ, ◌<◌}
 use mathlib.Core.Path.{◌≡◌, refl, sym, ap, subst, ◌∙◌}
 use mathlib.Core.Bool.{Bool, true, false, false≢true, cond}
@@ -12,7 +13,6 @@ use Rattle.descriptor.specs.declared.qtd.QueueTransferDescriptor.{QueueTransferD
 use Rattle.pool.specs.Chains.{blank}
 use Rattle.ehci.specs.declared.call.Call.{Call}
 use Rattle.ehci.specs.declared.call.Call.TheVariants.{Writeback}
-use Rattle.ehci.specs.declared.reply.Answered.{Answered}
 use Rattle.ehci.specs.declared.reply.Answered.TheVariants.{Done}
 use Rattle.ehci.specs.declared.reply.Given.TheVariants as G
 use Rattle.ehci.specs.Replies.{answered_number}
@@ -31,6 +31,8 @@ use Rattle.refutations.proofs.WrongUp.{up_world, up_calls, up_size}
 use Rattle.refutations.proofs.WrongCalls.{linked_one, submitted, submits_one}
 use Rattle.refutations.proofs.WrongCollections.{apart_now, c5, leaves, length_500, linked_now, looks, rank, rises_up, unlinks, w5, written}
 use Rattle.refutations.proofs.Scripts.{Follows, Script, arrives, calls_of, is_told, turns_of}
+use Rattle.ehci.specs.declared.reply.Answered.{Answered}
+use Rattle.common.specs.declared.answer.Refusal.{Refusal}
 
 abbrev w : World
 w = fresh_world small
@@ -75,12 +77,12 @@ drops_stays p =
 
 -- so the record has not the token that was last written back
 abbrev writes : Script
-writes = (back, replies (Done G.Nothing) no_writes (linked_one (one 0 0 0 0 0 linked))) ∷ submits_one
+writes = (back, replies (Ok (Done G.Nothing)) no_writes (linked_one (one 0 0 0 0 0 linked))) ∷ submits_one
 
 abbrev told : History
 told = turns_of opened_two (history_of drops w up_calls) writes
 
-back_so : drops (linked_one (one 0 0 0 0 0 linked)) back ≡ replies (Done G.Nothing) no_writes (linked_one (one 0 0 0 0 0 linked))
+back_so : drops (linked_one (one 0 0 0 0 0 linked)) back ≡ replies (Ok (Done G.Nothing)) no_writes (linked_one (one 0 0 0 0 0 linked))
 back_so = ap (unwritten (linked_one (one 0 0 0 0 0 linked))) written
 
 is_so : history_of drops w (back ∷ cs) ≡ told
@@ -147,7 +149,7 @@ leads_ended : EveryRun CollectsEnded leads → ⊥
 leads_ended p =
     let collects : is_collected (leads (world_of leads w c5) looks).reply.answer ≡ true
     = ap (λ (v : World). is_collected (leads v looks).reply.answer) leads_end
-    ∙ ap (λ (a : Answered). is_collected a) (leads_answer ∙ length_500) in
+    ∙ ap (λ (a : (Result Answered Refusal)). is_collected a) (leads_answer ∙ length_500) in
     let one-there : word_at (rows_of (leads (world_of leads w c5) looks)) 0 4 ≡ 1 = p small w opening c5 0 1 (reading 0x80031) collects 1 (omega arith) in
     let old : word_at (rows_of (leads (world_of leads w c5) looks)) 0 4 ≡ 0x100000 = ap (λ (v : World). word_at (rows_of (leads v looks)) 0 4) leads_end ∙ leads_word in
     omega (arith, sym old ∙ one-there)

@@ -1,5 +1,6 @@
 -- Machines that leave a request wrongly: a setup packet whose length field is 0, descriptors without the toggle or without the interrupt bit; that lose
 -- packets. Some take descriptors and write their chain, with no checks and no schedule; `plain` does it right, and leaves on the same call what it should.
+use Rattle.std.specs.Prelude.{Ok}
 use Prim.Native.Nat.{ℕ, ◌-◌, ◌*◌, ◌/◌, ◌%◌, ◌^◌}
 use mathlib.Core.Path.{◌≡◌, refl, sym, ap, ◌∙◌}
 use mathlib.Core.Bool.{true, cond}
@@ -72,11 +73,11 @@ retoken f rs = map (λ d. with_token d (f d.token)) rs
 
 abbrev written : Ways → World → ℕ → TransferRequest → Taken → Applied
 written x w k t taken =
-    applied (record { state = w.state; answer = Done (Id 1); writes = no_writes }) (retoken x.token (fill_of (chain_for w.state k t taken) w.rows.pool))
+    applied (record { state = w.state; answer = Ok (Done (Id 1)); writes = no_writes }) (retoken x.token (fill_of (chain_for w.state k t taken) w.rows.pool))
     (started_overlay w.rows.heads k (first_in w.state taken) 0) w.rows.frames (setups_with w.rows.setups k (x.packet t))
 
 abbrev leaves : World → List ℕ → Applied
-leaves w setups = applied (record { state = w.state; answer = Pending; writes = no_writes }) w.rows.pool w.rows.heads w.rows.frames setups
+leaves w setups = applied (record { state = w.state; answer = Ok Pending; writes = no_writes }) w.rows.pool w.rows.heads w.rows.frames setups
 
 abbrev stays : World → Applied
 stays w = leaves w w.rows.setups
@@ -185,10 +186,10 @@ quietly a = applied a.reply (retoken quieted a.pool) a.heads a.frames a.setups
 abbrev quiet : Machine in_plain
 quiet v c = cond (eqb (rank c) 1) (quietly (core v c)) (core v c)
 
-submits_quietly : quiet opened_two (submits 0 0x500000) ≡ quietly (replies (Done (Id 1)) (writes_with (reading 0x80031)) (linked_one (one 0 0 0 0 0 linked)))
+submits_quietly : quiet opened_two (submits 0 0x500000) ≡ quietly (replies (Ok (Done (Id 1))) (writes_with (reading 0x80031)) (linked_one (one 0 0 0 0 0 linked)))
 submits_quietly = ap quietly submitted
 
-no_interrupt : map (λ (f : Fields). f.interrupt) (map fields_of (records_met small (rows_of (quietly (replies (Done (Id 1)) (writes_with (reading 0x80031)) (linked_one (one 0 0 0 0 0 linked))))) 0)) ≡ 0 ∷ []
+no_interrupt : map (λ (f : Fields). f.interrupt) (map fields_of (records_met small (rows_of (quietly (replies (Ok (Done (Id 1))) (writes_with (reading 0x80031)) (linked_one (one 0 0 0 0 0 linked))))) 0)) ≡ 0 ∷ []
 unfolding chain_walk walk_from state_of
 no_interrupt = refl
 

@@ -1,5 +1,6 @@
 -- Machines that begin a request with a wrong toggle: with 0, as before the order; with that of a collect that did not pass; of the time before a
 -- clear-halt or an opening; of a slot's other requests; for control. The overlay's token in the head is their memory.
+use Rattle.std.specs.Prelude.{Ok, Result}
 use Prim.Native.Nat.{ℕ, max}
 use mathlib.Core.Path.{◌≡◌, refl}
 use mathlib.Core.Bool.{true}
@@ -24,7 +25,6 @@ use Rattle.schedule.specs.Links.{started_overlay}
 use Rattle.ehci.specs.Door.{Applied, applied}
 use Rattle.ehci.specs.declared.call.Call.{Call}
 use Rattle.ehci.specs.declared.call.Call.TheVariants.{StartBringUp, BringUpStep, AllocateAddress, OpenEndpoint, Close, SetAddress, SetPacketSize, Submit, Writeback, Cancel, Collect, Acknowledge, Drain, Rearm, Enable, Disable, ClearHalt}
-use Rattle.ehci.specs.declared.reply.Answered.{Answered}
 use Rattle.ehci.specs.declared.reply.Answered.TheVariants.{Cancelled, Done, Pending}
 use Rattle.ehci.specs.declared.reply.Given.TheVariants.{Id, Length, Nothing, Slot}
 use Rattle.promises.specs.Runs.{EveryRun, Machine, World, history_of, in_plain, rows_of, world_of}
@@ -33,6 +33,8 @@ use Rattle.promises.specs.Walks.{frame_walk, ring_walk, walk_from}
 use Rattle.promises.specs.Toggles.{TogglesKept, TogglesTied, toggle_in}
 use Rattle.promises.proofs.invariants.Reached.{fresh_world, opens_fresh}
 use Rattle.refutations.proofs.WrongRuns.{sized}
+use Rattle.ehci.specs.declared.reply.Answered.{Answered}
+use Rattle.common.specs.declared.answer.Refusal.{Refusal}
 
 abbrev two : Settings
 two = sized 2 2 1000
@@ -43,32 +45,32 @@ two_good = refl
 
 -- ---- machines: what they answer to a collect, whose head they then write, and what of the old token and of the one given
 
-abbrev stays : World → Answered → Applied
+abbrev stays : World → Result Answered Refusal → Applied
 stays w a = applied (record { state = w.state; answer = a; writes = no_writes }) w.rows.pool w.rows.heads w.rows.frames w.rows.setups
 
-abbrev keeps : World → Answered → ℕ → ℕ → Applied
+abbrev keeps : World → Result Answered Refusal → ℕ → ℕ → Applied
 keeps w a k token =
     applied (record { state = w.state; answer = a; writes = no_writes }) w.rows.pool (started_overlay w.rows.heads k 1 token) w.rows.frames
     w.rows.setups
 
-abbrev flips : Answered → (ℕ → ℕ) → (ℕ → ℕ → ℕ) → Machine in_plain
-flips a whose word w StartBringUp = stays w Pending
-flips a whose word w (BringUpStep v) = stays w Pending
-flips a whose word w AllocateAddress = stays w Pending
-flips a whose word w (OpenEndpoint x) = stays w (Done (Slot 0))
-flips a whose word w (Close k) = stays w (Done Nothing)
-flips a whose word w (SetAddress k address) = stays w Pending
-flips a whose word w (SetPacketSize k size) = stays w Pending
-flips a whose word w (Submit k t readings) = stays w (Done (Id 1))
-flips a whose word w (Writeback place token) = stays w Pending
-flips a whose word w (Cancel k id readings) = stays w Pending
+abbrev flips : Result Answered Refusal → (ℕ → ℕ) → (ℕ → ℕ → ℕ) → Machine in_plain
+flips a whose word w StartBringUp = stays w (Ok Pending)
+flips a whose word w (BringUpStep v) = stays w (Ok Pending)
+flips a whose word w AllocateAddress = stays w (Ok Pending)
+flips a whose word w (OpenEndpoint x) = stays w (Ok (Done (Slot 0)))
+flips a whose word w (Close k) = stays w (Ok (Done Nothing))
+flips a whose word w (SetAddress k address) = stays w (Ok Pending)
+flips a whose word w (SetPacketSize k size) = stays w (Ok Pending)
+flips a whose word w (Submit k t readings) = stays w (Ok (Done (Id 1)))
+flips a whose word w (Writeback place token) = stays w (Ok Pending)
+flips a whose word w (Cancel k id readings) = stays w (Ok Pending)
 flips a whose word w (Collect k id readings) = keeps w a (whose k) (word (word_at w.rows k 6) readings.overlay)
-flips a whose word w (Acknowledge x) = stays w Pending
-flips a whose word w (Drain v) = stays w Pending
-flips a whose word w Rearm = stays w Pending
-flips a whose word w Enable = stays w Pending
-flips a whose word w Disable = stays w Pending
-flips a whose word w (ClearHalt k) = stays w (Done Nothing)
+flips a whose word w (Acknowledge x) = stays w (Ok Pending)
+flips a whose word w (Drain v) = stays w (Ok Pending)
+flips a whose word w Rearm = stays w (Ok Pending)
+flips a whose word w Enable = stays w (Ok Pending)
+flips a whose word w Disable = stays w (Ok Pending)
+flips a whose word w (ClearHalt k) = stays w (Ok (Done Nothing))
 
 abbrev own : ℕ → ℕ
 own k = k
@@ -77,8 +79,8 @@ abbrev given : ℕ → ℕ → ℕ
 given old token = token
 
 -- collected with so many bytes
-abbrev complete : Answered
-complete = Done (Length 512 0)
+abbrev complete : Result Answered Refusal
+complete = Ok (Done (Length 512 0))
 
 -- ---- calls
 
@@ -117,14 +119,14 @@ base_toggles p =
     omega (arith, wrong)
 
 -- with that of a collect that answered 9
-pub early_toggles : EveryRun TogglesKept (flips Pending own given) → ⊥
+pub early_toggles : EveryRun TogglesKept (flips (Ok Pending) own given) → ⊥
 unfolding history_of world_of toggle_in ring_walk frame_walk walk_from put_at started_overlay fresh_state opened_heads ring_head terminated
 early_toggles p =
     let wrong : ◌≡◌ {A = ℕ} 1 0 = p two (fresh_world two) (opens_fresh two two_good) (odd ∷ opens ∷ []) 0 (asks Bulk) reads refl in
     omega (arith, wrong)
 
 -- not that of a collect that answered 10
-pub cancelled_toggles : EveryRun TogglesKept (flips Cancelled own (λ old token. old)) → ⊥
+pub cancelled_toggles : EveryRun TogglesKept (flips (Ok Cancelled) own (λ old token. old)) → ⊥
 unfolding history_of world_of toggle_in put_at started_overlay fresh_state opened_heads ring_head terminated
 cancelled_toggles p =
     let wrong : ◌≡◌ {A = ℕ} 0 1 = p two (fresh_world two) (opens_fresh two two_good) (odd ∷ opens ∷ []) 0 (asks Bulk) reads refl in

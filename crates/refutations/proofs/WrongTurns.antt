@@ -1,5 +1,6 @@
 -- Machines that do not ring for an unlink, that accept a second request, or that let two requests pass for one count: what is said of unlinks, events
 -- and rings refuted.
+use Rattle.std.specs.Prelude.{Ok}
 use Prim.Native.Nat.{ℕ}
 use mathlib.Core.Bool.{true, false, true≢false}
 use mathlib.Core.List.{List, [], ◌∷◌}
@@ -21,7 +22,7 @@ use Rattle.schedule.specs.Bell.{command_word, ring_word}
 use Rattle.ehci.specs.declared.call.Call.{Call}
 use Rattle.ehci.specs.declared.call.Call.TheVariants.{Cancel, Collect, Drain}
 use Rattle.ehci.specs.declared.reply.Answered.TheVariants.{Done}
-use Rattle.ehci.specs.declared.reply.Event.TheVariants as E
+use Rattle.interrupt.specs.declared.answers.Event.TheVariants as E
 use Rattle.ehci.specs.declared.reply.Given.TheVariants as G
 use Rattle.ehci.specs.Replies.{replied}
 use Rattle.ehci.specs.Decides.{asks_of, collect_decided, decide_of}
@@ -54,11 +55,11 @@ mute = but (λ x a. is_leaves a) (λ x a. hushed a)
 mute_up_lem : world_of mute w up_calls ≡ opened_two
 mute_up_lem = up_world mute (but_rises (λ (x : World) (a : Access). is_leaves a) (λ (x : World) (a : Applied). hushed a) (λ x. refl) (λ x n. refl) (λ x v. refl))
 
-mute_leaves : mute (linked_one (one 0 0 0 0 0 linked)) (Cancel 0 1 (reading 0x80031)) ≡ hushed (replies (Done G.Nothing) (and_then no_writes 0 (ring_word 0x80031)) (apart_one (one 0 0 0 1 1 (waits 1))))
+mute_leaves : mute (linked_one (one 0 0 0 0 0 linked)) (Cancel 0 1 (reading 0x80031)) ≡ hushed (replies (Ok (Done G.Nothing)) (and_then no_writes 0 (ring_word 0x80031)) (apart_one (one 0 0 0 1 1 (waits 1))))
 mute_leaves = ap hushed leaves
 
 abbrev mute_run : Script
-mute_run = (Cancel 0 1 (reading 0x80031), hushed (replies (Done G.Nothing) (and_then no_writes 0 (ring_word 0x80031)) (apart_one (one 0 0 0 1 1 (waits 1))))) ∷ submits_one
+mute_run = (Cancel 0 1 (reading 0x80031), hushed (replies (Ok (Done G.Nothing)) (and_then no_writes 0 (ring_word 0x80031)) (apart_one (one 0 0 0 1 1 (waits 1))))) ∷ submits_one
 
 abbrev mute_up : History
 mute_up = history_of mute w up_calls
@@ -91,7 +92,7 @@ mute_up_exactly up =
 -- ---- every submit is answered 0
 
 abbrev pub grants : Machine in_plain
-grants = but (λ x a. is_submits a) (λ x a. replies (Done (G.Id 1)) no_writes x)
+grants = but (λ x a. is_submits a) (λ x a. replies (Ok (Done (G.Id 1))) no_writes x)
 
 pub grants_orderly : EveryRun Orderly grants → ⊥
 unfolding history_of world_of is_linked
@@ -113,12 +114,12 @@ lax_up = up_world lax (but_rises (λ (x : World) (a : Access). is_drains a) (λ 
 abbrev loose : World
 loose = apart_two (two 0x20 0x24 0 1 1 (waits 0) (waits 0))
 
-lax_drains : lax (apart_two (two 0x24 0x24 1 1 2 (waits 1) (waits 2))) (Drain 0x80031) ≡ replies (Done (G.Event E.PortChange)) (and_then no_writes 0 (ring_word 0x80031)) loose
+lax_drains : lax (apart_two (two 0x24 0x24 1 1 2 (waits 1) (waits 2))) (Drain 0x80031) ≡ replies (Ok (Done (G.Event E.PortChange))) (and_then no_writes 0 (ring_word 0x80031)) loose
 unfolding with_boundaries state_of
 lax_drains = ap loosened drained_first
 
 abbrev loosens : Script
-loosens = (Drain 0x80031, replies (Done (G.Event E.PortChange)) (and_then no_writes 0 (ring_word 0x80031)) loose) ∷ hears_two
+loosens = (Drain 0x80031, replies (Ok (Done (G.Event E.PortChange))) (and_then no_writes 0 (ring_word 0x80031)) loose) ∷ hears_two
 
 follows : Follows lax opened_two loosens
 follows = (lax_drains, (heard_two, (unlinked_second, (unlinked_first, (submitted_two, (submitted, tt))))))

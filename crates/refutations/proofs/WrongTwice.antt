@@ -1,4 +1,5 @@
 -- A note that stays where a port change shares the drain is counted again: of `twice` the boundary is not kept, and a place is given too soon.
+use Rattle.std.specs.Prelude.{Ok}
 use mathlib.Core.Path.{◌≡◌, refl, sym, ap, subst, ◌∙◌}
 use mathlib.Core.Bool.{true, false, true≢false, false≢true}
 use mathlib.Core.List.{[], ◌∷◌}
@@ -14,7 +15,7 @@ use Rattle.ehci.specs.declared.call.Call.{Call}
 use Rattle.ehci.specs.declared.call.Call.TheVariants.{Collect, Drain}
 use Rattle.ehci.specs.declared.reply.Answered.TheVariants.{Done, Cancelled}
 use Rattle.ehci.specs.declared.reply.Given.TheVariants as G
-use Rattle.ehci.specs.declared.reply.Event.TheVariants as E
+use Rattle.interrupt.specs.declared.answers.Event.TheVariants as E
 use Rattle.ehci.specs.Door.{Applied}
 use Rattle.promises.specs.Runs.{EveryRun, History, World, history_of, rows_of, run_of, turn_of, world_of}
 use Rattle.promises.specs.Walks.{chain_walk, is_in, ring_walk, walk_from}
@@ -41,16 +42,16 @@ past xs = history_of twice w (calls_of up_calls xs)
 
 -- the drain rings for the second request; then a second drain, and its collect
 abbrev rung : Applied
-rung = replies (Done (G.Event E.PortChange)) (and_then no_writes 0 (ring_word 0x80031)) (apart_two (two 0x20 0x24 1 1 1 (waits 0) (waits 1)))
+rung = replies (Ok (Done (G.Event E.PortChange))) (and_then no_writes 0 (ring_word 0x80031)) (apart_two (two 0x20 0x24 1 1 1 (waits 0) (waits 1)))
 
 abbrev s6 : Script
 s6 = (Drain 0x80031, rung) ∷ hears_two
 
 abbrev shared : Script
-shared = (Drain 0x80031, replies (Done (G.Event E.TransferActivity)) no_writes (apart_two (two 0 0x24 0 0 0 (waits 0) (waits 0)))) ∷ s6
+shared = (Drain 0x80031, replies (Ok (Done (G.Event E.TransferActivity))) no_writes (apart_two (two 0 0x24 0 0 0 (waits 0) (waits 0)))) ∷ s6
 
 abbrev after : Script
-after = (Collect 1 1 (reading 0x80031), replies Cancelled no_writes free_second) ∷ shared
+after = (Collect 1 1 (reading 0x80031), replies (Ok Cancelled) no_writes free_second) ∷ shared
 
 -- the note stays
 drains_first : twice (apart_two (two 0x24 0x24 1 1 2 (waits 1) (waits 2))) (Drain 0x80031) ≡ rung
@@ -58,7 +59,7 @@ unfolding state_of with_bell any_of
 drains_first = ap (note_after true) drained_first
 
 drains_second : twice (apart_two (two 0x20 0x24 1 1 1 (waits 0) (waits 1))) (Drain 0x80031)
-    ≡ replies (Done (G.Event E.TransferActivity)) no_writes (apart_two (two 0 0x24 0 0 0 (waits 0) (waits 0)))
+    ≡ replies (Ok (Done (G.Event E.TransferActivity))) no_writes (apart_two (two 0 0x24 0 0 0 (waits 0) (waits 0)))
 unfolding state_of with_bell any_of
 drains_second = drained_second
 

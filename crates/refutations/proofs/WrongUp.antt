@@ -1,4 +1,5 @@
 -- The way up of a wrong machine, which does there as `core` does.
+use Rattle.std.specs.Prelude.{Ok, Result}
 use Prim.Native.Nat.{ℕ}
 use mathlib.Core.Path.{◌≡◌, refl, ap, ◌∙◌}
 use mathlib.Core.Bool.{Bool, true, false}
@@ -15,9 +16,10 @@ use Rattle.promises.proofs.invariants.Reached.{fresh_world}
 use Rattle.refutations.proofs.WrongRuns.{fresh, open_bulk, opened_one, opened_two, opens, opens_one, opens_two, rising, small, starts, state_of, steps, answers_one, answers_two}
 use Rattle.promises.specs.Slots.{change_by, size_in, size_of, slot_after, slot_in}
 use Rattle.ehci.specs.Door.{Applied}
-use Rattle.ehci.specs.declared.reply.Answered.{Answered}
 use Rattle.ehci.specs.declared.reply.Given.TheVariants as G
 use Rattle.ehci.specs.declared.reply.Answered.TheVariants.{Done}
+use Rattle.ehci.specs.declared.reply.Answered.{Answered}
+use Rattle.common.specs.declared.answer.Refusal.{Refusal}
 
 -- what a call asks of the registers, by number
 abbrev pub order : Access → ℕ
@@ -119,9 +121,9 @@ module _ (m : Machine in_plain) (same : Rises m) where
   up_size =
       let run = run_world in
       let o1 = next m run_calls (open_bulk 5 1) (fresh (rising 1 0)) opened_one run (same.opens (fresh (rising 1 0)) _ refl) opens_one in
-      let one : (m (world_of m (fresh_world small) run_calls) (open_bulk 5 1)).reply.answer ≡ Done (G.Slot 0)
+      let one : (m (world_of m (fresh_world small) run_calls) (open_bulk 5 1)).reply.answer ≡ Ok (Done (G.Slot 0))
       = ap (λ (v : World). (m v (open_bulk 5 1)).reply.answer) run ∙ ap (λ (a : Applied). a.reply.answer) (same.opens (fresh (rising 1 0)) _ refl) ∙ answers_one in
-      let two : (m (world_of m (fresh_world small) (open_bulk 5 1 ∷ run_calls)) (open_bulk 5 2)).reply.answer ≡ Done (G.Slot 1)
+      let two : (m (world_of m (fresh_world small) (open_bulk 5 1 ∷ run_calls)) (open_bulk 5 2)).reply.answer ≡ Ok (Done (G.Slot 1))
       = ap (λ (v : World). (m v (open_bulk 5 2)).reply.answer) o1 ∙ ap (λ (a : Applied). a.reply.answer) (same.opens opened_one _ refl) ∙ answers_two in
-      ap (λ (a : Answered). size_of (slot_after 0 (change_by (open_bulk 5 2) a) (slot_in 0 (history_of m (fresh_world small) (open_bulk 5 1 ∷ run_calls))))) two
-      ∙ ap (λ (a : Answered). size_of (slot_after 0 (change_by (open_bulk 5 1) a) (slot_in 0 (history_of m (fresh_world small) run_calls)))) one
+      ap (λ (a : (Result Answered Refusal)). size_of (slot_after 0 (change_by (open_bulk 5 2) a) (slot_in 0 (history_of m (fresh_world small) (open_bulk 5 1 ∷ run_calls))))) two
+      ∙ ap (λ (a : (Result Answered Refusal)). size_of (slot_after 0 (change_by (open_bulk 5 1) a) (slot_in 0 (history_of m (fresh_world small) run_calls)))) one

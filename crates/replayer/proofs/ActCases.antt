@@ -1,10 +1,9 @@
 -- The returns of what a record does.
+use Rattle.std.specs.Prelude.{Err, None, Ok}
 use Prim.Native.Nat.{ℕ}
 use mathlib.Core.Bool.{true, false}
 use mathlib.Core.Path.{◌≡◌, sym, ap, ◌∙◌}
-use Rattle.common.specs.declared.answer.Answer.TheVariants as A
 use Rattle.common.specs.declared.answer.Refusal.{Refusal}
-use Rattle.common.specs.declared.reads.NextRead.TheVariants as N
 use Rattle.common.proofs.TestLaws.{false_true}
 use Rattle.call_log.specs.CallLine.{answered_line, scan_line}
 use Rattle.call_log.specs.Lines.{line_bytes}
@@ -51,26 +50,26 @@ module _ (k : Keeper) (kept : Kept k) (n number : ℕ) (line : Line) (w : Writes
     abbrev replaced : Acted
     replaced = record { keeper = record { store = o.store; hub = o.hub; opened = true }; line = line; opening = true; writes = w }
 
-    done_view : o.answer ≡ A.Done → line_bytes line ≡ answered_line n number (R.Done G.Nothing)
+    done_view : o.answer ≡ (Ok tt) → line_bytes line ≡ answered_line n number (Ok (R.Done G.Nothing))
         → effect_of replaced ≡ open_effect (keeper_view k) n number (opened_view o)
     unfolding open_effect
     done_view a l = rw (a, l, none)
 
-    pub open_done : o.answer ≡ A.Done → line_bytes line ≡ answered_line n number (R.Done G.Nothing)
+    pub open_done : o.answer ≡ (Ok tt) → line_bytes line ≡ answered_line n number (Ok (R.Done G.Nothing))
         → (effect_of replaced ≡ open_effect (keeper_view k) n number (open_store (store_view k.store) s)) × Kept replaced.keeper
     open_done a l =
         (done_view a l ∙ ap (open_effect (keeper_view k) n number) opened.0, record { tended = opened.1.tended; opened = λ _. opened.1.opened a })
 
-    refused_view : (refusal : Refusal) → o.answer ≡ A.Refused refusal → line_bytes line ≡ answered_line n number (R.Refused refusal)
+    refused_view : (refusal : Refusal) → o.answer ≡ Err refusal → line_bytes line ≡ answered_line n number (Err refusal)
         → effect_of stays ≡ open_effect (keeper_view k) n number (opened_view o)
     unfolding open_effect
     refused_view refusal a l = rw (a, l, none)
 
-    pub open_refused : (refusal : Refusal) → o.answer ≡ A.Refused refusal → line_bytes line ≡ answered_line n number (R.Refused refusal)
+    pub open_refused : (refusal : Refusal) → o.answer ≡ Err refusal → line_bytes line ≡ answered_line n number (Err refusal)
         → (effect_of stays ≡ open_effect (keeper_view k) n number (open_store (store_view k.store) s)) × Kept k
     open_refused refusal a l = (refused_view refusal a l ∙ ap (open_effect (keeper_view k) n number) opened.0, kept)
 
-  pub nothing_done : line_bytes line ≡ answered_line n number R.Pending → w ≡ no_writes
+  pub nothing_done : line_bytes line ≡ answered_line n number (Ok R.Pending) → w ≡ no_writes
       → (effect_of stays ≡ no_effect (keeper_view k) n number) × Kept k
   unfolding no_effect
   nothing_done l none = (rw (l, none), kept)
@@ -99,7 +98,7 @@ module _ (k : Keeper) (kept : Kept k) (n number : ℕ) (line : Line) where
   scan_done s l = (rw l, record { tended = kept.tended; opened = kept.opened })
 
   pub power_done : (port reading : ℕ) (p : PortPower) → p ≡ power_of k.hub port reading
-      → line_bytes line ≡ scan_line n number p.answer N.Nothing p.wait P.Nothing
+      → line_bytes line ≡ scan_line n number p.answer None p.wait None
       → (effect_of (record { keeper = k; line = line; opening = false; writes = p.writes }) ≡ power_effect (keeper_view k) n number (power_of k.hub port reading))
       × Kept k
   unfolding power_effect

@@ -1,8 +1,5 @@
 -- A log replayed: what one record does to the controller that is kept, and the block that is shown of it.
-use Rattle.std.specs.Prelude.{ℕ, Bool, true, false, cond, List, [], ◌∷◌, ◌++◌, get_or, length}
-use Rattle.common.specs.declared.answer.Answer.{Answer}
-use Rattle.common.specs.declared.answer.Answer.TheVariants as A
-use Rattle.common.specs.declared.reads.NextRead.TheVariants as N
+use Rattle.std.specs.Prelude.{ℕ, Bool, true, false, cond, List, [], ◌∷◌, ◌++◌, get_or, length, Err, None, Ok, Result, ⊤}
 use Rattle.call_log.specs.Block.{block_of}
 use Rattle.call_log.specs.CallLine.{answered_line, scan_line}
 use Rattle.call_log.specs.Records.{entry_of}
@@ -22,6 +19,7 @@ use Rattle.text.specs.Text.{decimal}
 use Rattle.store.specs.Stores.{blank_store, call_store, open_store}
 use Rattle.store.specs.Plain.{Called, OpenedStore}
 use Rattle.replayer.specs.Plain.{Keeper, Turned}
+use Rattle.common.specs.declared.answer.Refusal.{Refusal}
 
 -- rows zero at the start, and no controller opened
 unfoldable pub fresh_keeper : Keeper
@@ -45,16 +43,16 @@ pub record Effect : Type 0 where
   pub writes : Writes
 
 -- a refused opening leaves the earlier controller as it was; an accepted one replaces it
-abbrev pub opened_as : Answer → Keeper → ℕ → ℕ → OpenedStore → Effect
-opened_as A.Done k n number o =
+abbrev pub opened_as : Result ⊤ Refusal → Keeper → ℕ → ℕ → OpenedStore → Effect
+opened_as (Ok tt) k n number o =
     record {
       keeper = record { store = o.store; hub = o.hub; opened = true };
-      first = answered_line n number (R.Done G.Nothing);
+      first = answered_line n number (Ok (R.Done G.Nothing));
       opening = true;
       writes = no_writes;
     }
-opened_as (A.Refused refusal) k n number o =
-    record { keeper = k; first = answered_line n number (R.Refused refusal); opening = false; writes = no_writes }
+opened_as (Err refusal) k n number o =
+    record { keeper = k; first = answered_line n number (Err refusal); opening = false; writes = no_writes }
 
 unfoldable pub open_effect : Keeper → ℕ → ℕ → OpenedStore → Effect
 open_effect k n number o = opened_as o.answer k n number o
@@ -82,11 +80,11 @@ scan_effect k n number s =
 -- port power reads nothing next and has no event
 unfoldable pub power_effect : Keeper → ℕ → ℕ → PortPower → Effect
 power_effect k n number p =
-    record { keeper = k; first = scan_line n number p.answer N.Nothing p.wait P.Nothing; opening = false; writes = p.writes }
+    record { keeper = k; first = scan_line n number p.answer None p.wait None; opening = false; writes = p.writes }
 
 -- a bad record does nothing; no block is shown of it
 unfoldable pub no_effect : Keeper → ℕ → ℕ → Effect
-no_effect k n number = record { keeper = k; first = answered_line n number R.Pending; opening = false; writes = no_writes }
+no_effect k n number = record { keeper = k; first = answered_line n number (Ok R.Pending); opening = false; writes = no_writes }
 
 -- the record's number, the call's number, the call
 abbrev pub act_of : Keeper → ℕ → ℕ → Entry → Effect

@@ -19,8 +19,6 @@ use call_log::block::Rows;
 use call_log::call_line::{call_line, scan_line};
 use call_log::line::Line;
 use call_log::record::Entry;
-use common::answer::Answer;
-use common::reads::NextRead;
 use ehci::call::Call;
 use ehci::reply::{Answered, Given};
 use opening::hub::EhciRootHub;
@@ -89,19 +87,19 @@ fn act_open(k: Keeper, n: u64, number: u8, settings: Settings) -> Acted
     let store = opened.store;
     let hub = opened.hub;
     match answer {
-        Answer::Done => Acted {
+        Ok(()) => Acted {
             keeper: Keeper {
                 store,
                 hub,
                 opened: true,
             },
-            line: call_line(n, number, Answered::Done(Given::Nothing)),
+            line: call_line(n, number, Ok(Answered::Done(Given::Nothing))),
             opening: true,
             writes: Writes::none(),
         },
-        Answer::Refused(refusal) => Acted {
+        Err(refusal) => Acted {
             keeper: k,
-            line: call_line(n, number, Answered::Refused(refusal)),
+            line: call_line(n, number, Err(refusal)),
             opening: false,
             writes: Writes::none(),
         },
@@ -171,9 +169,9 @@ fn act_power(k: Keeper, n: u64, number: u8, port: u8, reading: u32) -> Acted
         n,
         number,
         answer,
-        NextRead::Nothing,
+        None,
         powered.wait,
-        PortEvent::Nothing,
+        None,
     );
     Acted {
         keeper: k,
@@ -190,7 +188,7 @@ fn act_nothing(k: Keeper, n: u64, number: u8) -> Acted
 {
     Acted {
         keeper: k,
-        line: call_line(n, number, Answered::Pending),
+        line: call_line(n, number, Ok(Answered::Pending)),
         opening: false,
         writes: Writes::none(),
     }

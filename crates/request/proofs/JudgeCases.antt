@@ -1,5 +1,5 @@
 -- The returns of the functions that judge a request.
-use Rattle.std.specs.Prelude.{◌≡◌, ℕ, ◌+◌, ◌-◌, ◌/◌, ◌%◌, ◌^◌, ◌<◌, ◌≤◌, Bool, true, false, not, ◌&&◌, eqb, ltb, leb}
+use Rattle.std.specs.Prelude.{◌≡◌, ℕ, ◌+◌, ◌-◌, ◌/◌, ◌%◌, ◌^◌, ◌<◌, ◌≤◌, Bool, true, false, not, ◌&&◌, eqb, ltb, leb, Err, Ok}
 use mathlib.Core.Path.{sym, ◌∙◌}
 use native.Mathlib.Omega.{arith}
 use borrow.Author.Tests.{eq-eqb, lt-leb, lt-ltb, le-ltb, ne_eqb, not-false, not-true}
@@ -9,7 +9,6 @@ use Rattle.state.specs.Plain.{Ehci}
 use Rattle.pipe.specs.Endpoints.{direction_number, kind_number}
 use Rattle.common.specs.Kinds.{is_control, is_isochronous}
 use Rattle.controller.specs.Readers.{free_count, is_opened, is_uncollected}
-use Rattle.common.specs.declared.answer.Answer.TheVariants.{Done, Refused}
 use Rattle.common.specs.declared.answer.Refusal.TheVariants.{InvalidParameter, InvalidEndpoint, QueueFull, NotSupported, NoMemory, NotReady}
 use Rattle.request.specs.Submit.{buffer_good, control_good, judge_of, need_of_request, ranges_good}
 use Rattle.request.specs.declared.judge.TransferRequest.{TransferRequest}
@@ -41,33 +40,33 @@ module _ (t : TransferRequest) (b k : Bool) (eb : b ≡ buffer_good t.address t.
   ranges_other h = eb ∙ sym (rw (sym ek ∙ h) (both_true (buffer_good t.address t.length)))
 
 module _ (s : Ehci) (slot : ℕ) (t : TransferRequest) (o : Bool) (eo : o ≡ is_opened s slot) where
-  pub judge_closed : not o ≡ true → Refused InvalidEndpoint ≡ judge_of s slot t
+  pub judge_closed : not o ≡ true → Err InvalidEndpoint ≡ judge_of s slot t
   unfolding judge_of
   judge_closed h = rw (sym eo ∙ not-true o h)
 
   module _ (ho : not o ≡ false) where
-    pub judge_stopped : s.running ≡ 0 → Refused NotReady ≡ judge_of s slot t
+    pub judge_stopped : s.running ≡ 0 → Err NotReady ≡ judge_of s slot t
     unfolding judge_of
     judge_stopped h = rw (sym eo ∙ not-false o ho, eq-eqb s.running 0 h)
 
     module _ (u : Bool) (hr : s.running ≡ 0 → ⊥) (eu : u ≡ is_uncollected s slot) where
-      pub judge_full : u ≡ true → Refused QueueFull ≡ judge_of s slot t
+      pub judge_full : u ≡ true → Err QueueFull ≡ judge_of s slot t
       unfolding judge_of
       judge_full h = rw (sym eo ∙ not-false o ho, ne_eqb s.running 0 hr, sym eu ∙ h)
 
       module _ (hu : u ≡ false) (i : Bool) (ei : i ≡ is_isochronous t.kind) where
-        pub judge_isochronous : i ≡ true → Refused NotSupported ≡ judge_of s slot t
+        pub judge_isochronous : i ≡ true → Err NotSupported ≡ judge_of s slot t
         unfolding judge_of
         judge_isochronous h = rw (sym eo ∙ not-false o ho, ne_eqb s.running 0 hr, sym eu ∙ hu, sym ei ∙ h)
 
         module _ (hi : i ≡ false) (k : ℕ) (ek : k ≡ kind_number t.kind) where
-          pub judge_kind : (k ≡ (slot_at s slot).kind → ⊥) → Refused InvalidEndpoint ≡ judge_of s slot t
+          pub judge_kind : (k ≡ (slot_at s slot).kind → ⊥) → Err InvalidEndpoint ≡ judge_of s slot t
           unfolding judge_of
           judge_kind h =
               rw (sym eo ∙ not-false o ho, ne_eqb s.running 0 hr, sym eu ∙ hu, sym ei ∙ hi, sym ek, ne_eqb k (slot_at s slot).kind h)
 
           module _ (hk : k ≡ (slot_at s slot).kind) (g : Bool) (eg : g ≡ ranges_good t) where
-            pub judge_range : not g ≡ true → Refused InvalidParameter ≡ judge_of s slot t
+            pub judge_range : not g ≡ true → Err InvalidParameter ≡ judge_of s slot t
             unfolding judge_of
             judge_range h =
                 rw (
@@ -81,7 +80,7 @@ module _ (s : Ehci) (slot : ℕ) (t : TransferRequest) (o : Bool) (eo : o ≡ is
                 )
 
             module _ (hg : not g ≡ false) (f n : ℕ) (ef : f ≡ free_count s) (en : n ≡ need_of_request s slot t) where
-              pub judge_room : f < n → Refused NoMemory ≡ judge_of s slot t
+              pub judge_room : f < n → Err NoMemory ≡ judge_of s slot t
               unfolding judge_of
               judge_room h =
                   rw (
@@ -97,7 +96,7 @@ module _ (s : Ehci) (slot : ℕ) (t : TransferRequest) (o : Bool) (eo : o ≡ is
                     lt-ltb f n h,
                   )
 
-              pub judge_done : n ≤ f → Done ≡ judge_of s slot t
+              pub judge_done : n ≤ f → (Ok tt) ≡ judge_of s slot t
               unfolding judge_of
               judge_done h =
                   rw (

@@ -1,5 +1,5 @@
 -- What an accepted request is: each check that it passed, as a plain fact, and what follows for the rows.
-use Rattle.std.specs.Prelude.{◌≡◌, ℕ, ◌+◌, ◌^◌, ◌<◌, ◌≤◌, Bool, true, false, not, eqb, ltb, leb, List, [], ◌∷◌, length, take}
+use Rattle.std.specs.Prelude.{◌≡◌, ℕ, ◌+◌, ◌^◌, ◌<◌, ◌≤◌, Bool, true, false, not, eqb, ltb, leb, List, [], ◌∷◌, length, take, Ok}
 use mathlib.Core.Path.{refl}
 use native.Mathlib.Nat.{mul-le-mul_right}
 use native.Mathlib.Omega.{arith}
@@ -19,12 +19,11 @@ use Rattle.pipe.proofs.LimitLaws.{limit_least, limit_most}
 use Rattle.common.specs.Kinds.{is_isochronous}
 use Rattle.controller.proofs.ReaderLaws.{open_below}
 use Rattle.controller.specs.Readers.{count_zero, free_count, is_opened, is_uncollected}
-use Rattle.common.specs.declared.answer.Answer.TheVariants.{Done}
 use Rattle.common.proofs.CheckLaws.{answers_apart, let_pass}
 use Rattle.request.specs.Submit.{answer_of, buffer_good, control_good, judge_of, need_of_request, ranges_good, submit_checks}
 use Rattle.request.specs.declared.judge.TransferRequest.{TransferRequest}
 
-passed_all : (v : Verdict) → answer_of v ≡ Done → v ≡ passed
+passed_all : (v : Verdict) → answer_of v ≡ (Ok tt) → v ≡ passed
 passed_all passed e = refl
 passed_all (refused r) e = absurd (answers_apart r e)
 
@@ -37,7 +36,7 @@ pub record Judged (s : Ehci) (slot : ℕ) (t : TransferRequest) : Type 0 where
   pub in_range : ranges_good t ≡ true
   pub room : need_of_request s slot t ≤ free_count s
 
-pub judge_tells : (s : Ehci) (slot : ℕ) (t : TransferRequest) → judge_of s slot t ≡ Done → Judged s slot t
+pub judge_tells : (s : Ehci) (slot : ℕ) (t : TransferRequest) → judge_of s slot t ≡ (Ok tt) → Judged s slot t
 unfolding judge_of
 judge_tells s slot t e =
     let a = let_pass (not (is_opened s slot)) _ _ (passed_all (first (submit_checks s slot t)) e) in

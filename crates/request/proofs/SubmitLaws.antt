@@ -1,5 +1,5 @@
 -- What an accepted submit leaves: room is exact, its chain may be written and leads over its places, what stays.
-use Rattle.std.specs.Prelude.{◌≡◌, ℕ, zero, suc, ◌+◌, ◌-◌, ◌*◌, ◌%◌, ◌^◌, ◌<◌, ◌≤◌, Bool, true, false, cond, eqb, ltb, ◌≢◌, List, [], ◌∷◌, ◌++◌, map, length, get_or, take, drop, set}
+use Rattle.std.specs.Prelude.{◌≡◌, ℕ, zero, suc, ◌+◌, ◌-◌, ◌*◌, ◌%◌, ◌^◌, ◌<◌, ◌≤◌, Bool, true, false, cond, eqb, ltb, ◌≢◌, List, [], ◌∷◌, ◌++◌, map, length, get_or, take, drop, set, Err}
 use mathlib.Core.Path.{refl, sym, ap, subst, ◌∙◌}
 use native.Mathlib.Omega.{arith}
 use borrow.Author.Tests.{eqb-true, leb-true, ltb-true, ltb-false}
@@ -24,7 +24,6 @@ use Rattle.state.specs.Slots.{slot_at}
 use Rattle.state.specs.State.{with_owner}
 use Rattle.state.specs.Plain.{Ehci}
 use Rattle.state.proofs.RangesLaws.{Ranges}
-use Rattle.common.specs.declared.answer.Answer.TheVariants.{Refused}
 use Rattle.common.specs.declared.answer.Refusal.TheVariants.{NoMemory}
 use Rattle.pipe.specs.Endpoints.{endpoint_at, kind_number}
 use Rattle.common.specs.Kinds.{is_interrupt, is_isochronous}
@@ -48,12 +47,12 @@ use Rattle.request.proofs.SettleCases.{packed_first}
 
 module _ (s : Ehci) (k : ℕ) (t : TransferRequest) (o : is_opened s k ≡ true) (runs : s.running ≡ 0 → ⊥) (bare : is_uncollected s k ≡ false)
     (supported : is_isochronous t.kind ≡ false) (same : kind_number t.kind ≡ (slot_at s k).kind) (good : ranges_good t ≡ true) where
-  pub room_lacks : free_count s < need_of_request s k t → judge_of s k t ≡ Refused NoMemory
+  pub room_lacks : free_count s < need_of_request s k t → judge_of s k t ≡ Err NoMemory
   room_lacks h =
       sym (judge_room s k t true (sym o) refl false runs (sym bare) refl false (sym supported) refl (kind_number t.kind) refl same true (sym good) refl
       (free_count s) (need_of_request s k t) refl refl h)
 
-  pub room_told : judge_of s k t ≡ Refused NoMemory → free_count s < need_of_request s k t
+  pub room_told : judge_of s k t ≡ Err NoMemory → free_count s < need_of_request s k t
   room_told e = by (ltb (free_count s) (need_of_request s k t)) refl
     where
       by : (b : Bool) → ltb (free_count s) (need_of_request s k t) ≡ b → free_count s < need_of_request s k t

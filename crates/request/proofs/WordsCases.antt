@@ -1,9 +1,8 @@
 -- The returns of an accepted submit over words, and what it calls may count on.
-use Rattle.std.specs.Prelude.{◌≡◌, ℕ, ◌+◌, ◌*◌, ◌^◌, ◌<◌, ◌≤◌, List, length}
+use Rattle.std.specs.Prelude.{◌≡◌, ℕ, ◌+◌, ◌*◌, ◌^◌, ◌<◌, ◌≤◌, List, length, Ok}
 use mathlib.Core.Path.{refl, ap, ◌∙◌}
 use native.Mathlib.Omega.{arith}
 use Rattle.bitset.specs.Places.{Words, lowest_of, set_places, without_of}
-use Rattle.common.specs.declared.answer.Answer.TheVariants.{Done}
 use Rattle.controller.specs.declared.lent.Readings.{Readings}
 use Rattle.descriptor.specs.Heads.{qh_link}
 use Rattle.pipe.specs.Endpoints.{encoded, flag_of, limit_at}
@@ -27,7 +26,6 @@ use Rattle.words.specs.Rest.{rest_with_free}
 use Rattle.words.specs.View.{state_of, view}
 use Rattle.request.specs.Submit.{accepted_with, chain_for, first_in, id_at, judge_of, linked_rows, need_of_request, settled_submit, setups_with, state_with, submitted, taken_for, toggle_at, writes_with}
 use Rattle.request.specs.Words.{accepted_words, first_of, head_of, laying_chain, laying_for, request_with, submitted_view}
-use Rattle.request.specs.declared.answers.Submission.TheVariants.{Accepted}
 use Rattle.request.specs.Plain.{Submitted}
 use Rattle.request.specs.declared.answers.Submitted.{Submitted as SubmittedWords}
 use Rattle.request.specs.declared.judge.TransferRequest.{TransferRequest}
@@ -53,18 +51,18 @@ laid_for s k t l places alternate e = rw e
 pub accepted_words_lem : (c : Core) (d : Readings) (k m id w w' : ℕ) (t : TransferRequest) (places free : List ℕ) (none out : Writes) (l : Laying)
     → free ≡ without_of c.rest.free places → w ≡ with_bits d.command 0x31 → w' ≡ command_word w → none ≡ no_writes → out ≡ and_then none 0 w'
     → l ≡ laying_for c.settings k t m places
-    → ◌≡◌ {A = SubmittedWords} (record { answer = Accepted id; rest = rest_with_free c.rest free; writes = out; laying = l }) (accepted_words c d k t m id places)
+    → ◌≡◌ {A = SubmittedWords} (record { answer = Ok id; rest = rest_with_free c.rest free; writes = out; laying = l }) (accepted_words c d k t m id places)
 unfolding accepted_words
 accepted_words_lem c d k m id w w' t places free none out l ef e₁ e₂ e₃ e₄ el = rw (ef, el, e₄, e₃, e₂, e₁)
 
 accepted_made : (s : Ehci) (r : Readings) (k id : ℕ) (t : TransferRequest) (g : Taken) (s' : Ehci) (w : Writes) (c : Chain)
     → id ≡ id_at s k → s' ≡ state_with s g.owner k t → w ≡ writes_with r → c ≡ chain_for s k t g
-    → ◌≡◌ {A = Submitted} (record { answer = Accepted id; state = s'; writes = w; chain = c }) (accepted_with s r k t g)
+    → ◌≡◌ {A = Submitted} (record { answer = Ok id; state = s'; writes = w; chain = c }) (accepted_with s r k t g)
 unfolding accepted_with
 accepted_made s r k id t g s' w c ei es ew ec = rw (ei, es, ew, ec)
 
 -- what it calls may count on
-module _ (s : Settings) (r : Rest) (ws : List ℕ) (k : ℕ) (t : TransferRequest) (good : Good s r ws) (done : judge_of (state_of s r ws) k t ≡ Done) where
+module _ (s : Settings) (r : Rest) (ws : List ℕ) (k : ℕ) (t : TransferRequest) (good : Good s r ws) (done : judge_of (state_of s r ws) k t ≡ (Ok tt)) where
   head_room : (h : List ℕ) → length h ≡ 17 * (s.endpoints + 1) → 17 * (k + 1) + 17 ≤ length h
   head_room h e = omega (arith, e, slot_within s r ws k t good done)
 
@@ -81,7 +79,7 @@ module _ (s : Settings) (r : Rest) (ws : List ℕ) (k : ℕ) (t : TransferReques
   areas_below = (setups_below, omega (arith, (kept_settings s r ws k t good done).pool_ends))
 
 module _ (c : Core) (ws : List ℕ) (k : ℕ) (t : TransferRequest) (l n : ℕ) (places : List ℕ) (good : Good c.settings c.rest ws)
-    (done : judge_of (view c ws) k t ≡ Done) (el : l ≡ limit_at (view c ws) k) (en : n ≡ need_of_request (view c ws) k t) (fit : Words c.rest.free) (ep : places ≡ lowest_of c.rest.free n) where
+    (done : judge_of (view c ws) k t ≡ (Ok tt)) (el : l ≡ limit_at (view c ws) k) (en : n ≡ need_of_request (view c ws) k t) (fit : Words c.rest.free) (ep : places ≡ lowest_of c.rest.free n) where
   abbrev s : Settings
   s = c.settings
 

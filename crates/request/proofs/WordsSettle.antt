@@ -1,12 +1,11 @@
 -- What an accepted request takes over words: the lowest free places, as many as it needs, for a slot that has none.
-use Rattle.std.specs.Prelude.{◌≡◌, ℕ, ◌+◌, ◌*◌, ◌^◌, ◌<◌, ◌≤◌, Bool, true, false, eqb, List, [], ◌∷◌, ◌++◌, length, get_or, take, drop}
+use Rattle.std.specs.Prelude.{◌≡◌, ℕ, ◌+◌, ◌*◌, ◌^◌, ◌<◌, ◌≤◌, Bool, true, false, eqb, List, [], ◌∷◌, ◌++◌, length, get_or, take, drop, Ok}
 use mathlib.Core.Path.{refl, sym, ap, subst, ◌∙◌}
 use native.Mathlib.Omega.{arith}
 use borrow.Author.Tests.{leb-false}
 use lib.Seq.{length-take-le}
 use Rattle.bitset.specs.Places.{Within, Words, lowest_of, set_places, without_of}
 use Rattle.bitset.proofs.LowestLaws.{lowest_count}
-use Rattle.common.specs.declared.answer.Answer.TheVariants.{Done}
 use Rattle.common.specs.declared.kinds.EndpointType.{EndpointType}
 use Rattle.common.specs.declared.kinds.EndpointType.TheVariants.{Control, Isochronous, Bulk, Interrupt}
 use Rattle.controller.proofs.ReaderLaws.{open_within}
@@ -80,7 +79,7 @@ first_within : (n : ℕ) (ps : List ℕ) → Within n ps → 1 ≤ length ps →
 first_within n [] w h = absurd (omega arith)
 first_within n (p ∷ ps) w h = w.0
 
-module _ (s : Settings) (r : Rest) (ws : List ℕ) (k : ℕ) (t : TransferRequest) (good : Good s r ws) (done : judge_of (state_of s r ws) k t ≡ Done) where
+module _ (s : Settings) (r : Rest) (ws : List ℕ) (k : ℕ) (t : TransferRequest) (good : Good s r ws) (done : judge_of (state_of s r ws) k t ≡ (Ok tt)) where
   pub judged : Judged (state_of s r ws) k t
   judged = judge_tells (state_of s r ws) k t done
 

@@ -1,9 +1,7 @@
 -- The returns of submit over words: what it refuses, what it settles.
-use Rattle.std.specs.Prelude.{◌≡◌, ℕ, ◌≤◌, true, List, length}
+use Rattle.std.specs.Prelude.{◌≡◌, ℕ, ◌≤◌, true, List, length, Err, Ok, Result, ⊤}
 use mathlib.Core.Path.{refl, sym, ◌∙◌}
 use native.Mathlib.Omega.{arith}
-use Rattle.common.specs.declared.answer.Answer.{Answer}
-use Rattle.common.specs.declared.answer.Answer.TheVariants.{Done, Refused}
 use Rattle.common.specs.declared.answer.Refusal.{Refusal}
 use Rattle.controller.specs.Lent.{accepts_of, lengths}
 use Rattle.controller.specs.declared.lent.Readings.{Readings}
@@ -47,7 +45,7 @@ refused_viewed : (s : Settings) (r : Rest) (ws : List ℕ) (q : Refusal) (x : Su
 unfolding refused_words refused_submit no_laying
 refused_viewed s r ws q x e = rw (e, no_places_lem)
 
-module _ (s : Settings) (r : Rest) (ws : List ℕ) (h f u : List ℕ) (d : Readings) (k : ℕ) (t : TransferRequest) (v : Answer) (good : Good s r ws)
+module _ (s : Settings) (r : Rest) (ws : List ℕ) (h f u : List ℕ) (d : Readings) (k : ℕ) (t : TransferRequest) (v : (Result ⊤ Refusal)) (good : Good s r ws)
     (ev : v ≡ judge_of (state_of s r ws) k t) where
   accepts_rows : (pool : ℕ) → rows_are_fit s pool (length h) (length f) (length u) ≡ true
       → true ≡ accepts_of (state_of s r ws) (lengths pool (length h) (length f) (length u))
@@ -55,13 +53,13 @@ module _ (s : Settings) (r : Rest) (ws : List ℕ) (h f u : List ℕ) (d : Readi
   accepts_rows pool e =
       accepts_is (state_of s r ws) (lengths pool (length h) (length f) (length u)) true true (sym e) (sym good.ranges)
 
-  pub submit_refuses : (q : Refusal) (x : SubmittedWords) → v ≡ Refused q → x ≡ refused_words r q
+  pub submit_refuses : (q : Refusal) (x : SubmittedWords) → v ≡ Err q → x ≡ refused_words r q
       → (pool : ℕ) → rows_are_fit s pool (length h) (length f) (length u) ≡ true
       → submitted (submitted_view s x ws) h f u ≡ submit_of (state_of s r ws) pool h f u d k t
   submit_refuses q x eq ex pool e =
       submit_refused (state_of s r ws) pool h f u d k t true (accepts_rows pool e) refl v ev q eq (submitted_view s x ws) (refused_viewed s r ws q x ex)
 
-  pub submit_settles : (x : SubmittedWords) (ws' h' f' u' : List ℕ) → v ≡ Done
+  pub submit_settles : (x : SubmittedWords) (ws' h' f' u' : List ℕ) → v ≡ (Ok tt)
       → submitted (submitted_view s x ws') h' f' u' ≡ settled_submit (state_of s r ws) h f u d k t
       → (pool : ℕ) → rows_are_fit s pool (length h) (length f) (length u) ≡ true
       → submitted (submitted_view s x ws') h' f' u' ≡ submit_of (state_of s r ws) pool h f u d k t

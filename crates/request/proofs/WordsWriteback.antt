@@ -1,10 +1,9 @@
 -- The returns of writeback over words: a place of the pool is in a request exactly where it is not free.
-use Rattle.std.specs.Prelude.{◌≡◌, ℕ, ◌-◌, ◌<◌, ◌≤◌, Bool, true, false, not, ◌&&◌, ltb, leb, List}
+use Rattle.std.specs.Prelude.{◌≡◌, ℕ, ◌-◌, ◌<◌, ◌≤◌, Bool, true, false, not, ◌&&◌, ltb, leb, List, Err, Ok}
 use mathlib.Core.Path.{refl, sym, ◌∙◌}
 use native.Mathlib.Omega.{arith}
 use borrow.Author.Tests.{le-leb, le-ltb, leb-true, lt-ltb, ltb-true, not-false}
 use Rattle.bitset.specs.Places.{has_place}
-use Rattle.common.specs.declared.answer.Answer.TheVariants.{Done, Refused}
 use Rattle.common.specs.declared.answer.Refusal.TheVariants.{InvalidParameter}
 use Rattle.common.proofs.TestLaws.{both_tells}
 use Rattle.controller.specs.Lent.{accepts_of}
@@ -72,15 +71,15 @@ module _ (s : Settings) (r : Rest) (p : ℕ) where
 module _ (s : Settings) (r : Rest) (p token : ℕ) (i : Bool) (ei : i ≡ taken_place s r p) where
   pub back_refused : not i ≡ true → (m : Marking) → m ≡ no_marking
       → (ws : List ℕ) → Good s r ws → (lent : Lengths) → accepts_of (state_of s r ws) lent ≡ true
-      → written_view s (record { answer = Refused InvalidParameter; rest = r; marking = m }) ws ≡ writeback_of (state_of s r ws) lent p token
+      → written_view s (record { answer = Err InvalidParameter; rest = r; marking = m }) ws ≡ writeback_of (state_of s r ws) lent p token
   unfolding refused_writeback no_marking
   back_refused h m em ws good lent a =
       back_none (state_of s r ws) lent p token true (sym a) refl i (ei ∙ place_viewed s r p ws good) h
-      (written_view s (record { answer = Refused InvalidParameter; rest = r; marking = m }) ws) (rw em)
+      (written_view s (record { answer = Err InvalidParameter; rest = r; marking = m }) ws) (rw em)
 
   pub back_written : not i ≡ false
       → (ws : List ℕ) → Good s r ws → (lent : Lengths) → accepts_of (state_of s r ws) lent ≡ true
-      → written_view s (record { answer = Done; rest = r; marking = record { marks = true; place = p; token = token } }) ws ≡ writeback_of (state_of s r ws) lent p token
+      → written_view s (record { answer = Ok tt; rest = r; marking = record { marks = true; place = p; token = token } }) ws ≡ writeback_of (state_of s r ws) lent p token
   unfolding state_of
   back_written h ws good lent a =
       back_done (state_of s r ws) lent p token true (sym a) refl i (ei ∙ place_viewed s r p ws good) h

@@ -1,11 +1,10 @@
 -- The returns of writeback.
-use Rattle.std.specs.Prelude.{◌≡◌, ℕ, Bool, true, false, not}
+use Rattle.std.specs.Prelude.{◌≡◌, ℕ, Bool, true, false, not, Ok}
 use mathlib.Core.Path.{sym, ◌∙◌}
 use borrow.Author.Tests.{not-false, not-true}
 use Rattle.pool.specs.Plain.{Chain}
 use Rattle.state.specs.Plain.{Ehci}
 use Rattle.controller.specs.Lent.{accepts_of}
-use Rattle.common.specs.declared.answer.Answer.TheVariants.{Done}
 use Rattle.common.specs.declared.answer.Refusal.TheVariants.{InvalidParameter}
 use Rattle.controller.specs.Plain.{Lengths}
 use Rattle.request.specs.Writeback.{in_request, refused_writeback, token_chain, writeback_of}
@@ -18,6 +17,6 @@ module _ (s : Ehci) (lent : Lengths) (place token : ℕ) (a : Bool) (ea : a ≡ 
     back_none h r er = er ∙ rw (sym ea ∙ not-false a ha, sym ei ∙ not-true i h)
 
     pub back_done : not i ≡ false → (c : Chain) → c ≡ token_chain s place token
-        → record { answer = Done; state = s; chain = c } ≡ writeback_of s lent place token
+        → record { answer = Ok tt; state = s; chain = c } ≡ writeback_of s lent place token
     unfolding writeback_of
     back_done h c ec = rw (sym ea ∙ not-false a ha, sym ei ∙ not-false i h, ec)

@@ -1,10 +1,9 @@
 -- What submit and writeback answer and leave of the plain state, and the chain that they write.
-use Rattle.std.specs.Prelude.{ℕ, List}
-use Rattle.common.specs.declared.answer.Answer.{Answer}
+use Rattle.std.specs.Prelude.{ℕ, List, Result, ⊤}
 use Rattle.register.specs.declared.writes.Writes.{Writes}
 use Rattle.pool.specs.Plain.{Chain, Places}
 use Rattle.state.specs.Plain.{Ehci}
-use Rattle.request.specs.declared.answers.Submission.{Submission}
+use Rattle.common.specs.declared.answer.Refusal.{Refusal}
 
 -- the places that a request takes, and the owners then
 pub record Taken : Type 0 where
@@ -12,12 +11,12 @@ pub record Taken : Type 0 where
   pub owner : List ℕ
 
 pub record Submitted : Type 0 where
-  pub answer : Submission
+  pub answer : Result ℕ Refusal
   pub state : Ehci
   pub writes : Writes
   pub chain : Chain
 
 pub record WrittenBack : Type 0 where
-  pub answer : Answer
+  pub answer : Result ⊤ Refusal
   pub state : Ehci
   pub chain : Chain

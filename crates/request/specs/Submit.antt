@@ -1,5 +1,5 @@
 -- Document 01: submit. Its checks in their order, then what it takes, links and writes.
-use Rattle.std.specs.Prelude.{ℕ, ◌+◌, ◌*◌, ◌/◌, ◌%◌, ◌^◌, ◌<◌, ◌≤◌, Bool, true, false, not, ◌&&◌, ◌||◌, List, [], ◌∷◌, ◌++◌, length, take, drop, ◌==◌, nat_le, nat_lt, slice_index}
+use Rattle.std.specs.Prelude.{ℕ, ◌+◌, ◌*◌, ◌/◌, ◌%◌, ◌^◌, ◌<◌, ◌≤◌, Bool, true, false, not, ◌&&◌, ◌||◌, List, [], ◌∷◌, ◌++◌, length, take, drop, ◌==◌, nat_le, nat_lt, slice_index, Err, Ok, Result, ⊤}
 use Rattle.register.specs.Bits.{with_bits}
 use Rattle.register.specs.Writes.{no_writes, and_then}
 use Rattle.register.specs.declared.writes.Writes.{Writes}
@@ -24,8 +24,6 @@ use Rattle.common.specs.Kinds.{is_control, is_interrupt, is_isochronous}
 use Rattle.controller.specs.Lent.{accepts_of, lengths}
 use Rattle.controller.specs.Readers.{free_count, is_opened, is_uncollected}
 use Rattle.common.specs.Rows.{put_at}
-use Rattle.common.specs.declared.answer.Answer.{Answer}
-use Rattle.common.specs.declared.answer.Answer.TheVariants.{Done, Refused as RefusedCall}
 use Rattle.common.specs.declared.answer.Refusal.{Refusal}
 use Rattle.common.specs.declared.answer.Refusal.TheVariants.{InvalidParameter, InvalidEndpoint, QueueFull, NotSupported, NoMemory, NotReady}
 use Rattle.pipe.specs.declared.endpoints.Endpoint.{Endpoint}
@@ -33,16 +31,14 @@ use Rattle.pipe.specs.declared.endpoints.Endpoint.TheVariants.{Linked}
 use Rattle.controller.specs.declared.lent.Readings.{Readings}
 use Rattle.schedule.specs.Bell.{command_word}
 use Rattle.schedule.specs.Links.{Links, attached_frames, attached_ring, head_address, links, slot_link, started_overlay}
-use Rattle.request.specs.declared.answers.Submission.{Submission}
-use Rattle.request.specs.declared.answers.Submission.TheVariants.{Accepted, Refused}
 use Rattle.request.specs.Plain.{Submitted}
 use Rattle.request.specs.declared.judge.TransferRequest.{TransferRequest}
 use Rattle.request.specs.Plain.{Taken}
 use Rattle.token.specs.Overlay.{overlay_token}
 
-abbrev pub submission_number : Submission → ℕ
-submission_number (Accepted id) = 0
-submission_number (Refused r) = refusal_number r
+abbrev pub submission_number : Result ℕ Refusal → ℕ
+submission_number (Ok id) = 0
+submission_number (Err r) = refusal_number r
 
 -- ---- the checks
 
@@ -83,11 +79,11 @@ submit_checks s slot t =
     ∷ (nat_lt (free_count s) (need_of_request s slot t), NoMemory)
     ∷ []
 
-abbrev pub answer_of : Verdict → Answer
-answer_of passed = Done
-answer_of (refused r) = RefusedCall r
+abbrev pub answer_of : Verdict → Result ⊤ Refusal
+answer_of passed = Ok tt
+answer_of (refused r) = Err r
 
-unfoldable pub judge_of : Ehci → ℕ → TransferRequest → Answer
+unfoldable pub judge_of : Ehci → ℕ → TransferRequest → Result ⊤ Refusal
 judge_of s slot t = answer_of (first (submit_checks s slot t))
 
 -- ---- what an accepted request takes
@@ -180,12 +176,12 @@ abbrev pub rows_after : Submitted → Links → List ℕ → Outcome
 rows_after r l setups = submitted r l.heads l.frames setups
 
 unfoldable pub refused_submit : Ehci → Refusal → Submitted
-refused_submit s r = record { answer = Refused r; state = s; writes = no_writes; chain = no_chain }
+refused_submit s r = record { answer = Err r; state = s; writes = no_writes; chain = no_chain }
 
 unfoldable pub accepted_with : Ehci → Readings → ℕ → TransferRequest → Taken → Submitted
 accepted_with s readings slot t taken =
     record {
-      answer = Accepted (id_at s slot);
+      answer = Ok (id_at s slot);
       state = state_with s taken.owner slot t;
       writes = writes_with readings;
       chain = chain_for s slot t taken;

@@ -1,5 +1,5 @@
 -- What submit and writeback over words leave, as the state that the words stand for and the chain that is then written.
-use Rattle.std.specs.Prelude.{ℕ, ◌+◌, ◌*◌, Bool, false, cond, not, ◌&&◌, List, [], ◌∷◌, nat_lt, slice_index}
+use Rattle.std.specs.Prelude.{ℕ, ◌+◌, ◌*◌, Bool, false, cond, not, ◌&&◌, List, [], ◌∷◌, nat_lt, slice_index, Err, Ok}
 use Rattle.bitset.specs.Places.{has_place, set_places, without_of}
 use Rattle.common.specs.declared.answer.Refusal.{Refusal}
 use Rattle.controller.specs.declared.lent.Readings.{Readings}
@@ -23,7 +23,6 @@ use Rattle.words.specs.Rest.{rest_with_free}
 use Rattle.words.specs.declared.cores.Core.{Core}
 use Rattle.words.specs.declared.cores.Rest.{Rest}
 use Rattle.request.specs.Submit.{writes_with}
-use Rattle.request.specs.declared.answers.Submission.TheVariants.{Accepted, Refused}
 use Rattle.request.specs.Plain.{Submitted}
 use Rattle.request.specs.Plain.{WrittenBack}
 use Rattle.request.specs.declared.answers.Submitted.{Submitted as SubmittedWords}
@@ -58,7 +57,7 @@ written_view s r ws =
 -- ---- submit
 
 unfoldable pub refused_words : Rest → Refusal → SubmittedWords
-refused_words rest r = record { answer = Refused r; rest = rest; writes = no_writes; laying = no_laying }
+refused_words rest r = record { answer = Err r; rest = rest; writes = no_writes; laying = no_laying }
 
 -- a request of this id, and of its slot's word the packet size and the toggle
 abbrev pub request_with : TransferRequest → ℕ → ℕ → Endpoint
@@ -95,7 +94,7 @@ laying_for s slot t limit places =
 unfoldable pub accepted_words : Core → Readings → ℕ → TransferRequest → ℕ → ℕ → List ℕ → SubmittedWords
 accepted_words c readings slot t limit id places =
     record {
-      answer = Accepted id;
+      answer = Ok id;
       rest = rest_with_free c.rest (without_of c.rest.free places);
       writes = writes_with readings;
       laying = laying_for c.settings slot t limit places;

@@ -1,5 +1,5 @@
 -- Document 01: "Writeback (place, token): 1 unless an uncollected request has that descriptor; only its token changes."
-use Rattle.std.specs.Prelude.{ℕ, ◌-◌, Bool, not, ◌&&◌, List, [], ◌∷◌, nat_le, nat_lt, slice_index}
+use Rattle.std.specs.Prelude.{ℕ, ◌-◌, Bool, not, ◌&&◌, List, [], ◌∷◌, nat_le, nat_lt, slice_index, Err, Ok}
 use Rattle.pool.specs.Chains.{no_chain}
 use Rattle.pool.specs.Places.{packed}
 use Rattle.pool.specs.Plain.{Chain}
@@ -8,7 +8,6 @@ use Rattle.state.specs.Plain.{Ehci}
 use Rattle.common.specs.Answers.{Check, first, settle}
 use Rattle.controller.specs.Lent.{accepts_of}
 use Rattle.controller.specs.Readers.{is_uncollected}
-use Rattle.common.specs.declared.answer.Answer.TheVariants.{Done, Refused}
 use Rattle.common.specs.declared.answer.Refusal.{Refusal}
 use Rattle.common.specs.declared.answer.Refusal.TheVariants.{InvalidParameter}
 use Rattle.controller.specs.Plain.{Lengths}
@@ -26,7 +25,7 @@ abbrev pub token_chain : Ehci → ℕ → ℕ → Chain
 token_chain s place token = record { places = packed (place ∷ []); base = s.settings.pool; deed = Token token }
 
 unfoldable pub refused_writeback : Ehci → Refusal → WrittenBack
-refused_writeback s r = record { answer = Refused r; state = s; chain = no_chain }
+refused_writeback s r = record { answer = Err r; state = s; chain = no_chain }
 
 abbrev pub writeback_checks : Ehci → Lengths → ℕ → List Check
 writeback_checks s lent place =
@@ -37,4 +36,4 @@ writeback_of s lent place token =
     settle
     (first (writeback_checks s lent place))
     (refused_writeback s)
-    (record { answer = Done; state = s; chain = token_chain s place token })
+    (record { answer = Ok tt; state = s; chain = token_chain s place token })

@@ -1,19 +1,13 @@
 // What submit and writeback answer and leave, and what is then written to the pool.
-use common::answer::{Answer, Refusal};
+use common::answer::Refusal;
 use pool::laying::Laying;
 use pool::marking::Marking;
 use register::writes::Writes;
 use words::cores::Rest;
 
 #[derive(Clone, Copy)]
-pub enum Submission {
-    Accepted(u64),
-    Refused(Refusal),
-}
-
-#[derive(Clone, Copy)]
 pub struct Submitted {
-    pub answer: Submission,
+    pub answer: Result<u64, Refusal>,
     pub rest: Rest,
     pub writes: Writes,
     pub laying: Laying,
@@ -21,7 +15,7 @@ pub struct Submitted {
 
 #[derive(Clone, Copy)]
 pub struct WrittenBack {
-    pub answer: Answer,
+    pub answer: Result<(), Refusal>,
     pub rest: Rest,
     pub marking: Marking,
 }

@@ -6,7 +6,7 @@ ghost use Rattle.request.specs.Submit.{judge_of, need_of_request, buffer_good, c
 ghost use Rattle.pipe.specs.Endpoints.{direction_number};
 
 use bitset::places::count;
-use common::answer::{Answer, Refusal};
+use common::answer::Refusal;
 use common::kinds::{Direction, EndpointType, is_control, is_isochronous};
 use pipe::endpoints::kind_number;
 use settings::settings::MEMORY_END;
@@ -69,7 +69,7 @@ pub fn ranges_good(t: TransferRequest) -> bool
 }
 
 // `wanted` is what the request needs.
-pub fn judge(core: Core, slots: &[u64], slot: u8, t: TransferRequest, wanted: u64) -> Answer
+pub fn judge(core: Core, slots: &[u64], slot: u8, t: TransferRequest, wanted: u64) -> Result<(), Refusal>
     requires good { Good core.settings core.rest slots.now }
     requires wanted_value { wanted ≡ need_of_request (view core slots.now) slot t }
     ensures { result ≡ judge_of (view core slots.now) slot t }
@@ -78,27 +78,27 @@ pub fn judge(core: Core, slots: &[u64], slot: u8, t: TransferRequest, wanted: u6
     let word = word_at(slots, slot);
     let phase = word % 4;
     if phase == 0 {
-        return Answer::Refused(Refusal::InvalidEndpoint);
+        return Err(Refusal::InvalidEndpoint);
     }
     let running = core.rest.running;
     if running == 0 {
-        return Answer::Refused(Refusal::NotReady);
+        return Err(Refusal::NotReady);
     }
     if 2 <= phase {
-        return Answer::Refused(Refusal::QueueFull);
+        return Err(Refusal::QueueFull);
     }
     if is_isochronous(kind) {
-        return Answer::Refused(Refusal::NotSupported);
+        return Err(Refusal::NotSupported);
     }
     if kind_number(kind) as u64 != word / 4 % 4 {
-        return Answer::Refused(Refusal::InvalidEndpoint);
+        return Err(Refusal::InvalidEndpoint);
     }
     if !ranges_good(t) {
-        return Answer::Refused(Refusal::InvalidParameter);
+        return Err(Refusal::InvalidParameter);
     }
     let free = core.rest.free;
     if count(free) < wanted {
-        return Answer::Refused(Refusal::NoMemory);
+        return Err(Refusal::NoMemory);
     }
-    Answer::Done
+    Ok(())
 }

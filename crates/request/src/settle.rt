@@ -1,7 +1,6 @@
 // What an accepted request takes, links and writes.
-ghost use Rattle.std.specs.Prelude.{◌≡◌, ◌+◌, ◌*◌, ◌^◌, ◌<◌, ◌≤◌, length};
+ghost use Rattle.std.specs.Prelude.{◌≡◌, ◌+◌, ◌*◌, ◌^◌, ◌<◌, ◌≤◌, length, Ok, false};
 ghost use Rattle.bitset.specs.Places.{set_places};
-ghost use Rattle.common.specs.declared.answer.Answer.TheVariants.{Done};
 ghost use Rattle.descriptor.specs.Heads.{qh_link};
 ghost use Rattle.pipe.specs.Endpoints.{encoded, limit_at};
 ghost use Rattle.pool.specs.Words.{LayingGood};
@@ -14,7 +13,7 @@ ghost use Rattle.words.specs.View.{view};
 ghost use Rattle.request.specs.Submit.{judge_of, linked_rows, need_of_request, settled_submit, submitted, setups_with};
 ghost use Rattle.request.specs.Words.{accepted_words, first_of, head_of, laying_for, request_with, submitted_view};
 
-use crate::answers::{Submission, Submitted};
+use crate::answers::Submitted;
 use crate::judge::TransferRequest;
 use bitset::cursor::{cursor_of, place_at};
 use bitset::places::{lowest_places, without};
@@ -178,7 +177,7 @@ fn accepted(
     rest.free = left;
     let word = command_word(with_bits(readings.command, USBCMD_SCHEDULES));
     Submitted {
-        answer: Submission::Accepted(id),
+        answer: Ok(id),
         rest,
         writes: Writes::none().and_then(USBCMD, word),
         laying: laying_for(core, slot, t, limit, places),
@@ -201,7 +200,7 @@ pub fn settle(
     requires good { Good core.settings core.rest slots.old }
     requires heads_len { (length heads.old ≡ 17 * (core.settings.endpoints + 1)) × (length frames.old ≡ 1024) × (length setups.old ≡ 8 * core.settings.endpoints) }
     requires limit_value { (limit ≡ limit_at (view core slots.old) slot) × (wanted ≡ need_of_request (view core slots.old) slot t) }
-    requires t_value { judge_of (view core slots.old) slot t ≡ Done }
+    requires t_value { judge_of (view core slots.old) slot t ≡ (Ok tt) }
     ensures setups_after { submitted (submitted_view core.settings result slots.new) heads.new frames.new setups.new
         ≡ settled_submit (view core slots.old) heads.old frames.old setups.old readings slot t }
     ensures tidy { Tidy core.settings result.rest slots.new }

@@ -8,10 +8,10 @@ ghost use Rattle.words.specs.View.{view};
 ghost use Rattle.request.specs.Submit.{submit_of, submitted};
 ghost use Rattle.request.specs.Words.{refused_words, submitted_view};
 
-use crate::answers::{Submission, Submitted};
+use crate::answers::Submitted;
 use crate::judge::{TransferRequest, judge};
 use crate::settle::settle;
-use common::answer::{Answer, Refusal};
+use common::answer::Refusal;
 use controller::lent::Readings;
 use pipe::slots::{limit_of, pipe_at};
 use pool::laying::no_laying;
@@ -23,7 +23,7 @@ fn refuse(rest: Rest, refusal: Refusal) -> Submitted
     ensures { result ≡ refused_words rest refusal }
 {
     Submitted {
-        answer: Submission::Refused(refusal),
+        answer: Err(refusal),
         rest,
         writes: Writes::none(),
         laying: no_laying(),
@@ -52,8 +52,8 @@ pub fn submit(
     let limit = limit_of(core.settings.limit, pipe_at(slots, slot));
     let wanted = need(kind, request.length, limit);
     match judge(core, slots, slot, request, wanted) {
-        Answer::Refused(refusal) => refuse(core.rest, refusal),
-        Answer::Done => settle(
+        Err(refusal) => refuse(core.rest, refusal),
+        Ok(()) => settle(
             core, slots, heads, frames, setups, readings, slot, request, limit, wanted,
         ),
     }

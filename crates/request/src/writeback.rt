@@ -11,7 +11,7 @@ ghost use Rattle.request.specs.Writeback.{writeback_of};
 
 use crate::answers::WrittenBack;
 use bitset::places::has;
-use common::answer::{Answer, Refusal};
+use common::answer::Refusal;
 use pool::marking::{Marking, no_marking};
 use words::cores::Core;
 
@@ -36,13 +36,13 @@ pub fn writeback(core: Core, place: u64, token: u32) -> WrittenBack
     let rest = core.rest;
     if !in_request(core, place) {
         return WrittenBack {
-            answer: Answer::Refused(Refusal::InvalidParameter),
+            answer: Err(Refusal::InvalidParameter),
             rest,
             marking: no_marking(),
         };
     }
     WrittenBack {
-        answer: Answer::Done,
+        answer: Ok(()),
         rest,
         marking: Marking {
             marks: true,

@@ -1,4 +1,5 @@
 -- The returns of the root hub's functions, and the loop over the ports.
+use Rattle.std.specs.Prelude.{None, Ok, Option, Some}
 use Prim.Native.Nat.{ℕ, suc, ◌+◌, ◌-◌, ◌≤◌, ◌<◌}
 use mathlib.Core.Path.{◌≡◌, refl, sym, ◌∙◌}
 use mathlib.Core.Bool.{Bool, true, false, not, ◌&&◌}
@@ -16,18 +17,14 @@ use Rattle.token.specs.Ports.{is_set}
 use Rattle.token.specs.declared.port.EhciPortStatus.{EhciPortStatus}
 use Rattle.common.specs.Tests.{within}
 use Rattle.common.proofs.TestLaws.{both_assoc, both_true, both_first, both_second, within_least, within_most}
-use Rattle.common.specs.declared.answer.Answer.TheVariants.{Done}
 use Rattle.common.specs.declared.answer.Refusal.TheVariants.{InvalidParameter}
 use Rattle.opening.specs.declared.hub.EhciRootHub.{EhciRootHub}
-use Rattle.common.specs.declared.reads.NextRead.TheVariants.{Nothing as NoRead, Register}
-use Rattle.root_hub.specs.declared.ports.PortEvent.TheVariants.{Nothing as NoEvent, Connected, Disconnected}
+use Rattle.root_hub.specs.declared.ports.PortEvent.TheVariants.{Connected, Disconnected}
 use Rattle.root_hub.specs.declared.ports.PortState.{PortState}
 use Rattle.root_hub.specs.declared.ports.PortState.TheVariants.{Probed}
 use Rattle.root_hub.specs.declared.ports.Speed.TheVariants.{High}
 use Rattle.root_hub.specs.declared.scan.Awaited.{Awaited}
 use Rattle.root_hub.specs.declared.scan.Awaited.TheVariants.{Status, Again, Owner}
-use Rattle.root_hub.specs.declared.scan.Change.{Change}
-use Rattle.root_hub.specs.declared.scan.Change.TheVariants.{Nothing as NoChange, Value}
 use Rattle.root_hub.specs.declared.scan.Place.{Place}
 use Rattle.root_hub.specs.declared.scan.Turned.{Turned}
 use Rattle.root_hub.specs.declared.calls.Scanned.{Scanned}
@@ -65,23 +62,23 @@ module _ (n p : ℕ) (c e : Bool) (t : Turned) where
   again_slow h g et = et ∙ rw (not-false c h, not-true e g)
 
 pub again_high : (n p : ℕ) (c e : Bool) → not c ≡ false → not e ≡ false
-    → ◌≡◌ {A = Turned} (record { state = 2; step = 0; change = NoChange; event = Connected p High; wait = 0 }) (again_turn n p c e)
+    → ◌≡◌ {A = Turned} (record { state = 2; step = 0; change = None; event = Some (Connected p High); wait = 0 }) (again_turn n p c e)
 again_high n p c e h g = rw (not-false c h, not-false e g)
 
 pub gone_is : (p v a b : ℕ) → a ≡ with_bits v 2 → b ≡ without_bits a 40
-    → ◌≡◌ {A = Turned} (record { state = 0; step = 0; change = Value b; event = Disconnected p; wait = 0 }) (gone_turn p v)
+    → ◌≡◌ {A = Turned} (record { state = 0; step = 0; change = Some b; event = Some (Disconnected p); wait = 0 }) (gone_turn p v)
 gone_is p v a b ea eb = rw (eb, ea)
 
 pub reset_is : (n v a b : ℕ) → a ≡ with_bits v 4352 → b ≡ without_bits a 42
-    → ◌≡◌ {A = Turned} (record { state = n; step = 4; change = Value b; event = NoEvent; wait = 50 }) (reset_turn n v)
+    → ◌≡◌ {A = Turned} (record { state = n; step = 4; change = Some b; event = None; wait = 50 }) (reset_turn n v)
 reset_is n v a b ea eb = rw (eb, ea)
 
 pub release_is : (v b : ℕ) → b ≡ without_bits v 256
-    → ◌≡◌ {A = Turned} (record { state = 1; step = 5; change = Value b; event = NoEvent; wait = 20 }) (release_turn v)
+    → ◌≡◌ {A = Turned} (record { state = 1; step = 5; change = Some b; event = None; wait = 20 }) (release_turn v)
 release_is v b eb = rw eb
 
 pub owner_is : (n v b : ℕ) → b ≡ with_bits v 8192
-    → ◌≡◌ {A = Turned} (record { state = n; step = 0; change = Value b; event = NoEvent; wait = 0 }) (owner_turn n v)
+    → ◌≡◌ {A = Turned} (record { state = n; step = 0; change = Some b; event = None; wait = 0 }) (owner_turn n v)
 owner_is n v b eb = rw eb
 
 module _ (a : Awaited) (n p v : ℕ) (t : Turned) where
@@ -100,23 +97,23 @@ turn_is b a n p v t e et = et ∙ rw e
 
 module _ (p n k : ℕ) where
   pub place_on : (o : ℕ) → o ≡ portsc_of p → (k ≡ 0 → ⊥)
-      → ◌≡◌ {A = Place} (record { port = p; step = k; read = Register o }) (place_after p n k)
+      → ◌≡◌ {A = Place} (record { port = p; step = k; read = Some o }) (place_after p n k)
   unfolding place_after
   place_on o eo h = rw (eo, ne_eqb k 0 h)
 
   pub place_next : (o : ℕ) → o ≡ portsc_of (p + 1) → k ≡ 0 → p < n
-      → ◌≡◌ {A = Place} (record { port = p + 1; step = 1; read = Register o }) (place_after p n k)
+      → ◌≡◌ {A = Place} (record { port = p + 1; step = 1; read = Some o }) (place_after p n k)
   unfolding place_after
   place_next o eo h l = rw (eo, eq-eqb k 0 h, lt-ltb p n l)
 
-  pub place_end : k ≡ 0 → n ≤ p → ◌≡◌ {A = Place} (record { port = 0; step = 0; read = NoRead }) (place_after p n k)
+  pub place_end : k ≡ 0 → n ≤ p → ◌≡◌ {A = Place} (record { port = 0; step = 0; read = None }) (place_after p n k)
   unfolding place_after
   place_end h l = rw (eq-eqb k 0 h, le-ltb p n l)
 
-pub writes_none : (p : ℕ) (c : Change) (w : Writes) → c ≡ NoChange → w ≡ no_writes → w ≡ port_writes p c
+pub writes_none : (p : ℕ) (c : (Option ℕ)) (w : Writes) → c ≡ None → w ≡ no_writes → w ≡ port_writes p c
 writes_none p c w e ew = ew ∙ rw e
 
-pub writes_value : (p v o : ℕ) (c : Change) (w w' : Writes) → c ≡ Value v → w ≡ no_writes → o ≡ portsc_of p → w' ≡ and_then w o v → w' ≡ port_writes p c
+pub writes_value : (p v o : ℕ) (c : (Option ℕ)) (w w' : Writes) → c ≡ Some v → w ≡ no_writes → o ≡ portsc_of p → w' ≡ and_then w o v → w' ≡ port_writes p c
 writes_value p v o c w w' e ew eo e' = e' ∙ rw (ew, eo, e)
 
 -- ---- the ranges
@@ -228,7 +225,7 @@ module _ (h : EhciRootHub) (b : Bool) (eb : b ≡ hub_good h) where
       → ◌≡◌ {A = Scanned}
       (record {
         hub = with_scan h h.states 1 1;
-        reply = record { answer = Done; event = NoEvent; writes = w; read = Register o; wait = 0 };
+        reply = record { answer = Ok tt; event = None; writes = w; read = Some o; wait = 0 };
       })
       (start_of h)
   unfolding start_of
@@ -248,7 +245,7 @@ module _ (h : EhciRootHub) (b : Bool) (eb : b ≡ hub_good h) where
       → ◌≡◌ {A = Scanned}
       (record {
         hub = with_scan h (set h.states i t.state) p.port p.step;
-        reply = record { answer = Done; event = t.event; writes = w; read = p.read; wait = t.wait };
+        reply = record { answer = Ok tt; event = t.event; writes = w; read = p.read; wait = t.wait };
       })
       (step_of h v)
   unfolding step_of scanned_of
@@ -266,7 +263,7 @@ module _ (h : EhciRootHub) (b : Bool) (eb : b ≡ hub_good h) where
 
   pub power_done : (p v x y o : ℕ) (w w' : Writes) → not b ≡ false → not (within p 1 h.ports) ≡ false
       → x ≡ with_bits v 4096 → y ≡ without_bits x 42 → o ≡ portsc_of p → w ≡ no_writes → w' ≡ and_then w o y
-      → ◌≡◌ {A = PortPower} (record { answer = Done; writes = w'; wait = 20 }) (power_of h p v)
+      → ◌≡◌ {A = PortPower} (record { answer = Ok tt; writes = w'; wait = 20 }) (power_of h p v)
   unfolding power_of
   power_done p v x y o w w' t n ex ey eo ew ew' =
       rw (ew', ew, eo, ey, ex, sym eb ∙ not-false b t, not-false (within p 1 h.ports) n)

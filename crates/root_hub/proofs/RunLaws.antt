@@ -1,4 +1,5 @@
 -- Any scan: the ranges, the end in time, the ports in order, one event each, a state's changes, the registers.
+use Rattle.std.specs.Prelude.{None, Ok, Option, Some}
 use Prim.Native.Nat.{ℕ, zero, suc, ◌+◌, ◌-◌, ◌*◌, ◌≤◌, ◌<◌}
 use mathlib.Core.Bool.{Bool, true, false, cond}
 use mathlib.Core.List.{List, [], ◌∷◌, map}
@@ -18,17 +19,12 @@ use Rattle.common.specs.Tests.{within}
 use Rattle.common.proofs.TestLaws.{both_first, both_second, within_least, both_tells, within_makes}
 use Rattle.state.proofs.Arrays.{zeros_at}
 use Rattle.common.specs.Answers.{number_of}
-use Rattle.common.specs.declared.answer.Answer.TheVariants.{Done}
 use Rattle.common.specs.declared.answer.Refusal.TheVariants.{InvalidParameter}
 use Rattle.opening.specs.Hub.{opened_hub}
 use Rattle.opening.specs.declared.hub.EhciRootHub.{EhciRootHub}
-use Rattle.common.specs.declared.reads.NextRead.TheVariants.{Nothing as NoRead, Register}
-use Rattle.root_hub.specs.declared.ports.PortEvent.{PortEvent}
-use Rattle.root_hub.specs.declared.ports.PortEvent.TheVariants.{Nothing as NoEvent, Connected, Disconnected}
+use Rattle.root_hub.specs.declared.ports.PortEvent.TheVariants.{Connected, Disconnected}
 use Rattle.root_hub.specs.declared.scan.Awaited.{Awaited}
 use Rattle.root_hub.specs.declared.scan.Awaited.TheVariants.{Status, Gone, Reset, Release, Again, Owner}
-use Rattle.root_hub.specs.declared.scan.Change.{Change}
-use Rattle.root_hub.specs.declared.scan.Change.TheVariants.{Nothing as NoChange, Value}
 use Rattle.root_hub.specs.declared.scan.Place.{Place}
 use Rattle.root_hub.specs.declared.scan.Turned.{Turned}
 use Rattle.root_hub.specs.declared.calls.Scanned.{Scanned}
@@ -38,11 +34,12 @@ use Rattle.root_hub.specs.Ranges.{state_good, states_good, fits, state_at, place
 use Rattle.root_hub.specs.Calls.{with_scan, refused_scan, start_of, scanned_of, turn_at, step_of}
 use Rattle.root_hub.specs.Runs.{Right, StaysRight, EndsBy, EndsInTime, read_of, asked, stretches, up_from, VisitsAll, reported, Ascends, OneEventEach, ByRule, stays, reseted, probed, gone, OnlyByRule, OnlyWhenSeen, OpenedRight, RefusedOut, OnlyOwn}
 use Rattle.root_hub.proofs.Cases.{start_done, step_bad, step_none, step_done, good_most, port_some, port_most, step_fits, place_on, place_next, place_end}
+use Rattle.root_hub.specs.declared.ports.PortEvent.{PortEvent}
 
 -- ---- the calls by their cases
 
 module _ (h : EhciRootHub) (e : hub_good h ≡ true) where
-  pub start_is : start_of h ≡ record { hub = with_scan h h.states 1 1; reply = record { answer = Done; event = NoEvent; writes = no_writes; read = Register (portsc_of 1); wait = 0 } }
+  pub start_is : start_of h ≡ record { hub = with_scan h h.states 1 1; reply = record { answer = Ok tt; event = None; writes = no_writes; read = Some (portsc_of 1); wait = 0 } }
   start_is = sym (start_done h true (sym e) _ _ refl refl refl)
 
   pub step_idle : (v : ℕ) → h.step ≡ 0 → step_of h v ≡ refused_scan h InvalidParameter
@@ -81,7 +78,7 @@ by_state P a b c (suc (suc (suc n))) h = absurd (omega arith)
 
 module _ (p v : ℕ) where
   -- the port is done with, and nothing is reported
-  done : (a : Awaited) (st : ℕ) (c : Change) (w : ℕ) → st ≤ 2 → Turns a st p v (record { state = st; step = 0; change = c; event = NoEvent; wait = w })
+  done : (a : Awaited) (st : ℕ) (c : (Option ℕ)) (w : ℕ) → st ≤ 2 → Turns a st p v (record { state = st; step = 0; change = c; event = None; wait = w })
   done a st c w h =
       record {
         state_most = h;
@@ -97,12 +94,12 @@ module _ (p v : ℕ) where
       by_state (λ s. Turns Status s p v (status_turn (port_state s) s true))
       (record { state_most = omega arith; step_most = omega arith; fitting = λ n. refl; nearer = λ n. omega arith; eventful = inl refl })
       (record { state_most = omega arith; step_most = omega arith; fitting = λ n. refl; nearer = λ n. omega arith; eventful = inl refl })
-      (done Status 2 NoChange 0 (omega arith))
+      (done Status 2 None 0 (omega arith))
       st h
   status_turns false st h =
       by_state (λ s. Turns Status s p v (status_turn (port_state s) s false))
-      (done Status 0 NoChange 0 (omega arith))
-      (done Status 1 NoChange 0 (omega arith))
+      (done Status 0 None 0 (omega arith))
+      (done Status 1 None 0 (omega arith))
       (record { state_most = omega arith; step_most = omega arith; fitting = λ n. refl; nearer = λ n. omega arith; eventful = inl refl })
       st h
 
@@ -124,7 +121,7 @@ module _ (p v : ℕ) where
         nearer = λ n. omega arith;
         eventful = inl refl;
       }
-  again_turns false d st h q = done Again st NoChange 0 h
+  again_turns false d st h q = done Again st None 0 h
 
   turn_turns : (a : Awaited) (st : ℕ) → st ≤ 2 → fits a st ≡ true → Turns a st p v (turn_of a st p v)
   unfolding rank
@@ -254,9 +251,9 @@ Tells h r = (port_event_number r.reply.event ≡ 0) ⊎ (event_port r.reply.even
 
 data Moves (h : EhciRootHub) (r : Scanned) : Type 0 where
   on : r.hub.port ≡ h.port → (r.hub.step ≡ 0 → ⊥)
-      → rank (awaited_of r.hub.step) < rank (awaited_of h.step) → port_event_number r.reply.event ≡ 0 → r.reply.read ≡ Register (portsc_of h.port) → Moves h r
-  next : r.hub.port ≡ h.port + 1 → r.hub.step ≡ 1 → h.port < h.ports → Tells h r → r.reply.read ≡ Register (portsc_of (h.port + 1)) → Moves h r
-  over : r.hub.step ≡ 0 → r.reply.read ≡ NoRead → h.ports ≤ h.port → Tells h r → Moves h r
+      → rank (awaited_of r.hub.step) < rank (awaited_of h.step) → port_event_number r.reply.event ≡ 0 → r.reply.read ≡ Some (portsc_of h.port) → Moves h r
+  next : r.hub.port ≡ h.port + 1 → r.hub.step ≡ 1 → h.port < h.ports → Tells h r → r.reply.read ≡ Some (portsc_of (h.port + 1)) → Moves h r
+  over : r.hub.step ≡ 0 → r.reply.read ≡ None → h.ports ≤ h.port → Tells h r → Moves h r
 
 pub record After (h : EhciRootHub) (r : Scanned) : Type 0 where
   pub right : Right r.hub
@@ -308,7 +305,7 @@ module _ (h : EhciRootHub) (b : Begun h) (v : ℕ) (t : Turned) (k : Turns (awai
   unfolding at with_scan place_good
   end_right = refl
 
-  after_on : (t.step ≡ 0 → ⊥) → After h (scanned_of h t (record { port = h.port; step = t.step; read = Register (portsc_of h.port) }))
+  after_on : (t.step ≡ 0 → ⊥) → After h (scanned_of h t (record { port = h.port; step = t.step; read = Some (portsc_of h.port) }))
   unfolding scanned_of at with_scan
   after_on n =
       record {
@@ -318,7 +315,7 @@ module _ (h : EhciRootHub) (b : Begun h) (v : ℕ) (t : Turned) (k : Turns (awai
         moves = on refl n (k.nearer n) (⊎_elim (λ w. w) (λ w. absurd (n w.1)) k.eventful) refl;
       }
 
-  after_next : h.port < h.ports → After h (scanned_of h t (record { port = h.port + 1; step = 1; read = Register (portsc_of (h.port + 1)) }))
+  after_next : h.port < h.ports → After h (scanned_of h t (record { port = h.port + 1; step = 1; read = Some (portsc_of (h.port + 1)) }))
   unfolding scanned_of at with_scan
   after_next l =
       record {
@@ -328,7 +325,7 @@ module _ (h : EhciRootHub) (b : Begun h) (v : ℕ) (t : Turned) (k : Turns (awai
         moves = next refl refl l (⊎_elim inl (λ w. inr w.0) k.eventful) refl;
       }
 
-  after_end : h.ports ≤ h.port → After h (scanned_of h t (record { port = 0; step = 0; read = NoRead }))
+  after_end : h.ports ≤ h.port → After h (scanned_of h t (record { port = 0; step = 0; read = None }))
   unfolding scanned_of at with_scan
   after_end l =
       record {
@@ -449,7 +446,7 @@ ends_in_time h vs r l =
 record Idles (h : EhciRootHub) (r : Scanned) : Type 0 where
   kept : r.hub ≡ h
   untold : port_event_number r.reply.event ≡ 0
-  unread : r.reply.read ≡ NoRead
+  unread : r.reply.read ≡ None
 
 idle_stays : (h : EhciRootHub) (v : ℕ) → h.step ≡ 0 → Idles h (step_of h v)
 idle_stays h v z = by (hub_good h) refl
@@ -535,10 +532,10 @@ visits_all h vs r l =
 -- ---- one event each
 
 -- where nothing is told no port is
-none_of : (e : PortEvent) → port_event_number e ≡ 0 → 0 < event_port e → ⊥
-none_of NoEvent z l = omega arith
-none_of (Connected port speed) z l = omega (arith, z)
-none_of (Disconnected port) z l = omega (arith, z)
+none_of : (e : (Option PortEvent)) → port_event_number e ≡ 0 → 0 < event_port e → ⊥
+none_of None z l = omega arith
+none_of (Some (Connected port speed)) z l = omega (arith, z)
+none_of (Some (Disconnected port)) z l = omega (arith, z)
 
 ascends : (h : EhciRootHub) (vs : List ℕ) (q : ℕ) → Begun h → q < h.port → Ascends q (reported h vs)
 ascends h [] q b l = tt
@@ -566,7 +563,7 @@ one_event_each h vs r = rw (started_is h r) (ascends (started h) vs 0 (started_b
 -- ---- a port's state
 
 -- an event that is known, by its number and values
-says : (r : Scanned) (e : PortEvent) → r.reply.event ≡ e → Reports r.reply.event (port_event_number e) (port_event_values e)
+says : (r : Scanned) (e : (Option PortEvent)) → r.reply.event ≡ e → Reports r.reply.event (port_event_number e) (port_event_values e)
 says r e q = (ap port_event_number q, ap port_event_values q)
 
 again_rule : (c d : Bool) (p v st : ℕ) (r : Scanned) → connected v ≡ c → enabled v ≡ d → st ≡ 1
@@ -575,15 +572,15 @@ again_rule true true p v st r ec ed q e = probed refl q refl ec ed (says r _ e)
 again_rule true false p v st r ec ed q e = stays refl (says r _ e)
 again_rule false d p v st r ec ed q e = stays refl (says r _ e)
 
-status_event : (c : Bool) (st p v : ℕ) → st ≤ 2 → ((status_turn (port_state st) st c).state ≡ st) × ((status_turn (port_state st) st c).event ≡ NoEvent)
+status_event : (c : Bool) (st p v : ℕ) → st ≤ 2 → ((status_turn (port_state st) st c).state ≡ st) × ((status_turn (port_state st) st c).event ≡ None)
 status_event true st p v h =
-    by_state (λ s. ((status_turn (port_state s) s true).state ≡ s) × ((status_turn (port_state s) s true).event ≡ NoEvent)) (refl, refl) (refl, refl) (refl, refl) st h
+    by_state (λ s. ((status_turn (port_state s) s true).state ≡ s) × ((status_turn (port_state s) s true).event ≡ None)) (refl, refl) (refl, refl) (refl, refl) st h
 status_event false st p v h =
-    by_state (λ s. ((status_turn (port_state s) s false).state ≡ s) × ((status_turn (port_state s) s false).event ≡ NoEvent)) (refl, refl) (refl, refl) (refl, refl) st h
+    by_state (λ s. ((status_turn (port_state s) s false).state ≡ s) × ((status_turn (port_state s) s false).event ≡ None)) (refl, refl) (refl, refl) (refl, refl) st h
 
 turn_rule : (a : Awaited) (p v st : ℕ) (r : Scanned) → st ≤ 2 → fits a st ≡ true → r.reply.event ≡ (turn_of a st p v).event
     → ByRule a p v st (turn_of a st p v).state r
-turn_rule Status p v st r h f e = stays (status_event (connected v) st p v h).0 (says r NoEvent (e ∙ (status_event (connected v) st p v h).1))
+turn_rule Status p v st r h f e = stays (status_event (connected v) st p v h).0 (says r None (e ∙ (status_event (connected v) st p v h).1))
 turn_rule Gone p v st r h f e = gone refl (eqb-true st 2 f) refl (says r _ e)
 turn_rule Reset p v st r h f e = stays refl (says r _ e)
 turn_rule Release p v st r h f e = reseted refl (eqb-true st 0 f) refl (says r _ e)
@@ -698,12 +695,12 @@ refused_out = refl
 
 -- ---- the registers
 
-own_writes : (port : ℕ) (c : Change)
+own_writes : (port : ℕ) (c : (Option ℕ))
     → (map (λ (w : Write). w.offset) (list_of (port_writes port c)) ≡ [])
     ⊎ (map (λ (w : Write). w.offset) (list_of (port_writes port c)) ≡ portsc_of port ∷ [])
 unfolding no_writes and_then
-own_writes port NoChange = inl refl
-own_writes port (Value v) = inr refl
+own_writes port None = inl refl
+own_writes port (Some v) = inr refl
 
 silent : map (λ (w : Write). w.offset) (list_of no_writes) ≡ []
 unfolding no_writes

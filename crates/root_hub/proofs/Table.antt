@@ -1,4 +1,5 @@
 -- Every step of a scan is what 01's table says of its reading; the start and port power are as stated.
+use Rattle.std.specs.Prelude.{None, Ok, Option}
 use Prim.Native.Nat.{ℕ, zero, suc, ◌-◌, ◌≤◌, ◌<◌}
 use mathlib.Core.Bool.{Bool, true, false, not, ◌&&◌}
 use mathlib.Core.List.{List, [], ◌∷◌, map}
@@ -15,16 +16,11 @@ use Rattle.register.specs.Writes.{list_of, write_of, no_writes, and_then}
 use Rattle.common.specs.Tests.{within}
 use Rattle.common.proofs.TestLaws.{false_true, within_least, within_most, within_makes}
 use Rattle.common.specs.Answers.{number_of}
-use Rattle.common.specs.declared.answer.Answer.TheVariants.{Done}
 use Rattle.opening.specs.declared.hub.EhciRootHub.{EhciRootHub}
-use Rattle.common.specs.declared.reads.NextRead.TheVariants.{Register}
 use Rattle.root_hub.specs.declared.calls.PortPower.{PortPower}
 use Rattle.root_hub.specs.declared.calls.Scanned.{Scanned}
-use Rattle.root_hub.specs.declared.ports.PortEvent.TheVariants.{Nothing as NoEvent}
 use Rattle.root_hub.specs.declared.scan.Awaited.{Awaited}
 use Rattle.root_hub.specs.declared.scan.Awaited.TheVariants.{Status, Gone, Reset, Release, Again, Owner}
-use Rattle.root_hub.specs.declared.scan.Change.{Change}
-use Rattle.root_hub.specs.declared.scan.Change.TheVariants.{Nothing as NoChange, Value}
 use Rattle.root_hub.specs.declared.scan.Place.{Place}
 use Rattle.root_hub.specs.declared.scan.Turned.{Turned}
 use Rattle.root_hub.specs.Ports.{Reports, port_state}
@@ -37,14 +33,14 @@ use Rattle.root_hub.proofs.RunLaws.{Begun, by_state, here_most, start_is, step_i
 
 -- ---- what a turn is to a row
 
-abbrev pub values_of : Change → List ℕ
-values_of NoChange = []
-values_of (Value x) = x ∷ []
+abbrev pub values_of : Option ℕ → List ℕ
+values_of None = []
+values_of (Some x) = x ∷ []
 
-pub writes_of : (port : ℕ) (c : Change) → list_of (port_writes port c) ≡ map (λ (x : ℕ). write_of (portsc_of port) x) (values_of c)
+pub writes_of : (port : ℕ) (c : (Option ℕ)) → list_of (port_writes port c) ≡ map (λ (x : ℕ). write_of (portsc_of port) x) (values_of c)
 unfolding no_writes and_then
-writes_of port NoChange = refl
-writes_of port (Value x) = refl
+writes_of port None = refl
+writes_of port (Some x) = refl
 
 record Fills (port v : ℕ) (r : Row) (t : Turned) : Type 0 where
   state_is : t.state ≡ r.becomes
@@ -219,7 +215,7 @@ silent : list_of no_writes ≡ []
 unfolding no_writes
 silent = refl
 
-begins : (h : EhciRootHub) → Starts h (record { hub = with_scan h h.states 1 1; reply = record { answer = Done; event = NoEvent; writes = no_writes; read = Register (portsc_of 1); wait = 0 } })
+begins : (h : EhciRootHub) → Starts h (record { hub = with_scan h h.states 1 1; reply = record { answer = Ok tt; event = None; writes = no_writes; read = Some (portsc_of 1); wait = 0 } })
 unfolding with_scan
 begins h = record { accepted = refl; reports = (refl, refl); writes = silent; waits = refl; reads = refl; left = refl }
 
@@ -227,7 +223,7 @@ pub starts_at_port_one : StartsAtPortOne hub_core
 starts_at_port_one h r = subst (λ (s : Scanned). Starts h s) (sym (start_is h r.good)) (begins h)
 
 -- what is written for a port that is there
-powers : (port v : ℕ) → Powers port v (record { answer = Done; writes = and_then no_writes (portsc_of port) (without_bits (with_bits v 0x1000) 0x2A); wait = 20 })
+powers : (port v : ℕ) → Powers port v (record { answer = Ok tt; writes = and_then no_writes (portsc_of port) (without_bits (with_bits v 0x1000) 0x2A); wait = 20 })
 unfolding no_writes and_then
 powers port v = record { accepted = refl; writes = refl; waits = refl }
 

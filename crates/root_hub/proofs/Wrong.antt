@@ -1,4 +1,5 @@
 -- A scan that reports a device on port 1 only breaks 01's table, and a whole scan of two fresh ports shows it.
+use Rattle.std.specs.Prelude.{None}
 use Prim.Native.Nat.{ℕ}
 use mathlib.Core.Bool.{Bool, cond, not, ◌&&◌}
 use mathlib.Core.List.{List, [], ◌∷◌}
@@ -8,7 +9,6 @@ use lib.Dec.{eqb}
 use lib.ListN.{length, replicate}
 use Rattle.opening.specs.declared.hub.EhciRootHub.{EhciRootHub}
 use Rattle.root_hub.specs.declared.calls.Scanned.{Scanned}
-use Rattle.root_hub.specs.declared.ports.PortEvent.TheVariants.{Nothing as NoEvent}
 use Rattle.root_hub.specs.Calls.{power_of, scanned_of, start_of, step_of, with_scan}
 use Rattle.root_hub.specs.Ports.{port_event_number}
 use Rattle.root_hub.specs.Ranges.{hub_good, place_good, state_good, states_good}
@@ -22,7 +22,7 @@ hushed : EhciRootHub → Scanned → Scanned
 hushed h s =
     record {
       hub = record { ports = h.ports; states = h.states; port = s.hub.port; step = s.hub.step };
-      reply = record { answer = s.reply.answer; event = NoEvent; writes = s.reply.writes; read = s.reply.read; wait = s.reply.wait };
+      reply = record { answer = s.reply.answer; event = None; writes = s.reply.writes; read = s.reply.read; wait = s.reply.wait };
     }
 
 -- Connected, of a port that is not the first

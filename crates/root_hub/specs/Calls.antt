@@ -1,16 +1,13 @@
 -- Document 01, "Ports and bring-up": the calls on the ports' record.
-use Rattle.std.specs.Prelude.{ℕ, ◌-◌, not, List, [], ◌∷◌, eqb, set}
+use Rattle.std.specs.Prelude.{ℕ, ◌-◌, not, List, [], ◌∷◌, eqb, set, Err, None, Ok, Some}
 use Rattle.register.specs.Bits.{with_bits, without_bits}
 use Rattle.register.specs.EhciRegisters.{portsc_of}
 use Rattle.register.specs.Writes.{no_writes, and_then}
 use Rattle.common.specs.Tests.{within}
 use Rattle.common.specs.Answers.{first, settle}
-use Rattle.common.specs.declared.answer.Answer.TheVariants.{Done, Refused}
 use Rattle.common.specs.declared.answer.Refusal.{Refusal}
 use Rattle.common.specs.declared.answer.Refusal.TheVariants.{InvalidParameter}
 use Rattle.opening.specs.declared.hub.EhciRootHub.{EhciRootHub}
-use Rattle.common.specs.declared.reads.NextRead.TheVariants.{Nothing as NoRead, Register}
-use Rattle.root_hub.specs.declared.ports.PortEvent.TheVariants.{Nothing as NoEvent}
 use Rattle.root_hub.specs.declared.scan.Place.{Place}
 use Rattle.root_hub.specs.declared.scan.Turned.{Turned}
 use Rattle.root_hub.specs.declared.calls.Scanned.{Scanned}
@@ -26,7 +23,7 @@ abbrev pub refused_scan : EhciRootHub → Refusal → Scanned
 refused_scan h r =
     record {
       hub = h;
-      reply = record { answer = Refused r; event = NoEvent; writes = no_writes; read = NoRead; wait = 0 };
+      reply = record { answer = Err r; event = None; writes = no_writes; read = None; wait = 0 };
     }
 
 -- "Scan and bring-up each begin by a start call, which starts one already begun over"
@@ -35,7 +32,7 @@ start_of h =
     settle (first ((not (hub_good h), InvalidParameter) ∷ [])) (refused_scan h)
     (record {
       hub = with_scan h h.states 1 1;
-      reply = record { answer = Done; event = NoEvent; writes = no_writes; read = Register (portsc_of 1); wait = 0 };
+      reply = record { answer = Ok tt; event = None; writes = no_writes; read = Some (portsc_of 1); wait = 0 };
     })
 
 -- what a reading does to the port, and where the scan goes
@@ -43,7 +40,7 @@ unfoldable pub scanned_of : EhciRootHub → Turned → Place → Scanned
 scanned_of h t p =
     record {
       hub = with_scan h (set h.states (h.port - 1) t.state) p.port p.step;
-      reply = record { answer = Done; event = t.event; writes = port_writes h.port t.change; read = p.read; wait = t.wait };
+      reply = record { answer = Ok tt; event = t.event; writes = port_writes h.port t.change; read = p.read; wait = t.wait };
     }
 
 abbrev pub turn_at : EhciRootHub → ℕ → Turned
@@ -58,7 +55,7 @@ step_of h v =
 -- ---- port power
 
 abbrev pub refused_power : Refusal → PortPower
-refused_power r = record { answer = Refused r; writes = no_writes; wait = 0 }
+refused_power r = record { answer = Err r; writes = no_writes; wait = 0 }
 
 -- 000's `init_ports` for one port: (v or 0x1000) without 0x2A, 20 ms
 unfoldable pub power_of : EhciRootHub → ℕ → ℕ → PortPower
@@ -67,7 +64,7 @@ power_of h port v =
     (first ((not (hub_good h), InvalidParameter) ∷ (not (within port 1 h.ports), InvalidParameter) ∷ []))
     refused_power
     (record {
-      answer = Done;
+      answer = Ok tt;
       writes = and_then no_writes (portsc_of port) (without_bits (with_bits v 0x1000) 0x2A);
       wait = 20;
     })

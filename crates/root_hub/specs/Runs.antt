@@ -1,13 +1,11 @@
 -- What any scan does, from its start and over the readings that it is fed, one a step.
-use Rattle.std.specs.Prelude.{ℕ, zero, suc, ◌-◌, ◌*◌, ◌≤◌, ◌<◌, Bool, true, false, List, [], ◌∷◌, ◌++◌, map, ◌⊎◌, ◌≡◌, eqb, get_or, length}
+use Rattle.std.specs.Prelude.{ℕ, zero, suc, ◌-◌, ◌*◌, ◌≤◌, ◌<◌, Bool, true, false, List, [], ◌∷◌, ◌++◌, map, ◌⊎◌, ◌≡◌, eqb, get_or, length, None, Option, Some}
 use Rattle.register.specs.EhciRegisters.{portsc_of}
 use Rattle.register.specs.Writes.{list_of}
 use Rattle.register.specs.declared.writes.Write.{Write}
 use Rattle.common.specs.Answers.{number_of}
 use Rattle.opening.specs.Hub.{opened_hub}
 use Rattle.opening.specs.declared.hub.EhciRootHub.{EhciRootHub}
-use Rattle.common.specs.declared.reads.NextRead.{NextRead}
-use Rattle.common.specs.declared.reads.NextRead.TheVariants.{Nothing as NoRead, Register}
 use Rattle.root_hub.specs.declared.scan.Awaited.{Awaited}
 use Rattle.root_hub.specs.declared.scan.Awaited.TheVariants.{Status, Gone, Release, Again}
 use Rattle.root_hub.specs.declared.calls.Scanned.{Scanned}
@@ -32,7 +30,7 @@ abbrev pub EndsBy : EhciRootHub → List ℕ → Type 0
 EndsBy h [] = ⊥
 EndsBy h (v ∷ vs) =
     (number_of (step_of h v).reply.answer ≡ 0)
-    × ((((step_of h v).reply.read ≡ NoRead) × ((step_of h v).hub.step ≡ 0)) ⊎ EndsBy (step_of h v).hub vs)
+    × ((((step_of h v).reply.read ≡ None) × ((step_of h v).hub.step ≡ 0)) ⊎ EndsBy (step_of h v).hub vs)
 
 -- whatever the readings are, it ends after at most five for each port
 abbrev pub EndsInTime : Type 0
@@ -40,9 +38,9 @@ EndsInTime = (h : EhciRootHub) (vs : List ℕ) → Right h → length vs ≡ 5 *
 
 -- ---- the ports, by the registers that the answers ask for
 
-abbrev pub read_of : NextRead → List ℕ
-read_of NoRead = []
-read_of (Register offset) = offset ∷ []
+abbrev pub read_of : Option ℕ → List ℕ
+read_of None = []
+read_of (Some offset) = offset ∷ []
 
 -- those of the steps that readings make
 abbrev pub asked : EhciRootHub → List ℕ → List ℕ

@@ -1,20 +1,17 @@
 -- Document 01, "Ports and bring-up": what the reading of one step of a scan does.
-use Rattle.std.specs.Prelude.{ℕ, ◌+◌, Bool, true, false, cond, eqb, ltb}
+use Rattle.std.specs.Prelude.{ℕ, ◌+◌, Bool, true, false, cond, eqb, ltb, None, Option, Some}
 use Rattle.register.specs.Bits.{with_bits, without_bits}
 use Rattle.register.specs.EhciRegisters.{portsc_of}
 use Rattle.register.specs.Writes.{no_writes, and_then}
 use Rattle.register.specs.declared.writes.Writes.{Writes}
 use Rattle.token.specs.EhciPortsc.{current_connect, port_enabled}
 use Rattle.token.specs.Ports.{is_set}
-use Rattle.common.specs.declared.reads.NextRead.TheVariants.{Nothing as NoRead, Register}
-use Rattle.root_hub.specs.declared.ports.PortEvent.TheVariants.{Nothing as NoEvent, Connected, Disconnected}
+use Rattle.root_hub.specs.declared.ports.PortEvent.TheVariants.{Connected, Disconnected}
 use Rattle.root_hub.specs.declared.ports.PortState.{PortState}
 use Rattle.root_hub.specs.declared.ports.PortState.TheVariants.{Uninit, Reseted, Probed}
 use Rattle.root_hub.specs.declared.ports.Speed.TheVariants.{High}
 use Rattle.root_hub.specs.declared.scan.Awaited.{Awaited}
 use Rattle.root_hub.specs.declared.scan.Awaited.TheVariants.{Status, Gone, Reset, Release, Again, Owner}
-use Rattle.root_hub.specs.declared.scan.Change.{Change}
-use Rattle.root_hub.specs.declared.scan.Change.TheVariants.{Nothing as NoChange, Value}
 use Rattle.root_hub.specs.declared.scan.Place.{Place}
 use Rattle.root_hub.specs.declared.scan.Turned.{Turned}
 use Rattle.root_hub.specs.Ports.{port_state}
@@ -34,11 +31,11 @@ awaited_of n =
 
 -- nothing, and the port is done with
 abbrev pub onward : ℕ → Turned
-onward state = record { state = state; step = 0; change = NoChange; event = NoEvent; wait = 0 }
+onward state = record { state = state; step = 0; change = None; event = None; wait = 0 }
 
 -- nothing yet
 abbrev pub await : ℕ → ℕ → Turned
-await state step = record { state = state; step = step; change = NoChange; event = NoEvent; wait = 0 }
+await state step = record { state = state; step = step; change = None; event = None; wait = 0 }
 
 -- "Probed, not connected: .."; "Uninit, connected: .."; Reseted and connected is read again;
 -- "Any other Probed or unconnected port: nothing."
@@ -56,8 +53,8 @@ gone_turn port v =
     record {
       state = 0;
       step = 0;
-      change = Value (without_bits (with_bits v 2) 0x28);
-      event = Disconnected port;
+      change = Some (without_bits (with_bits v 2) 0x28);
+      event = Some (Disconnected port);
       wait = 0;
     }
 
@@ -67,26 +64,26 @@ reset_turn state v =
     record {
       state = state;
       step = 4;
-      change = Value (without_bits (with_bits v 0x1100) 0x2A);
-      event = NoEvent;
+      change = Some (without_bits (with_bits v 0x1100) 0x2A);
+      event = None;
       wait = 50;
     }
 
 -- "write v without 0x100, wait 20 ms; Reseted"
 abbrev pub release_turn : ℕ → Turned
 release_turn v =
-    record { state = 1; step = 5; change = Value (without_bits v 0x100); event = NoEvent; wait = 20 }
+    record { state = 1; step = 5; change = Some (without_bits v 0x100); event = None; wait = 20 }
 
 -- "connected and enabled gives Probed and Connected, High; connected and not enabled writes v or 0x2000"
 abbrev pub again_turn : ℕ → ℕ → Bool → Bool → Turned
 again_turn state port true true =
-    record { state = 2; step = 0; change = NoChange; event = Connected port High; wait = 0 }
+    record { state = 2; step = 0; change = None; event = Some (Connected port High); wait = 0 }
 again_turn state port true false = await state 6
 again_turn state port false enabled = onward state
 
 abbrev pub owner_turn : ℕ → ℕ → Turned
 owner_turn state v =
-    record { state = state; step = 0; change = Value (with_bits v 0x2000); event = NoEvent; wait = 0 }
+    record { state = state; step = 0; change = Some (with_bits v 0x2000); event = None; wait = 0 }
 
 abbrev pub connected : ℕ → Bool
 connected v = is_set (current_connect v)
@@ -105,16 +102,16 @@ turn_of Owner state port v = owner_turn state v
 -- ---- where the scan goes: on at the port, to the next ("Ports ascend"), or to its end
 
 abbrev pub at : ℕ → ℕ → Place
-at port step = record { port = port; step = step; read = Register (portsc_of port) }
+at port step = record { port = port; step = step; read = Some (portsc_of port) }
 
 abbrev pub no_place : Place
-no_place = record { port = 0; step = 0; read = NoRead }
+no_place = record { port = 0; step = 0; read = None }
 
 unfoldable pub place_after : ℕ → ℕ → ℕ → Place
 place_after port ports step =
     cond (eqb step 0) (cond (ltb port ports) (at (port + 1) 1) no_place) (at port step)
 
 -- the port's own register, or none
-abbrev pub port_writes : ℕ → Change → Writes
-port_writes port NoChange = no_writes
-port_writes port (Value v) = and_then no_writes (portsc_of port) v
+abbrev pub port_writes : ℕ → Option ℕ → Writes
+port_writes port None = no_writes
+port_writes port (Some v) = and_then no_writes (portsc_of port) v

@@ -1,14 +1,14 @@
 -- A whole scan: the readings that each port takes of its register, what it reports and writes, and the state it is left in.
-use Rattle.std.specs.Prelude.{ℕ, zero, suc, ◌+◌, ◌-◌, ◌<◌, Bool, cond, not, ◌&&◌, List, [], ◌∷◌, ◌++◌, map, ◌≡◌, eqb, get_or}
+use Rattle.std.specs.Prelude.{ℕ, zero, suc, ◌+◌, ◌-◌, ◌<◌, Bool, cond, not, ◌&&◌, List, [], ◌∷◌, ◌++◌, map, ◌≡◌, eqb, get_or, Option}
 use Rattle.register.specs.Bits.{with_bits, without_bits}
 use Rattle.register.specs.EhciRegisters.{portsc_of}
 use Rattle.register.specs.Writes.{list_of, write_of}
 use Rattle.register.specs.declared.writes.Write.{Write}
 use Rattle.opening.specs.declared.hub.EhciRootHub.{EhciRootHub}
-use Rattle.root_hub.specs.declared.ports.PortEvent.{PortEvent}
 use Rattle.root_hub.specs.Ports.{port_event_number, port_event_values}
 use Rattle.root_hub.specs.Runs.{Right}
 use Rattle.root_hub.specs.Table.{HubMachine, is_connected, is_enabled}
+use Rattle.root_hub.specs.declared.ports.PortEvent.{PortEvent}
 
 -- what a port's register has at each reading that a scan can make of it
 pub record Readings : Type 0 where
@@ -88,7 +88,7 @@ all_wrote rs states p (suc n) = wrote_to p (get_or states (p - 1) 0) (rs p) ++ a
 
 -- ---- a run of steps: what it reports, what it writes, and the record that it leaves
 
-abbrev pub event_of : PortEvent → List Event
+abbrev pub event_of : Option PortEvent → List Event
 event_of e = cond (eqb (port_event_number e) 0) [] ((port_event_number e, port_event_values e) ∷ [])
 
 abbrev pub reports : HubMachine → EhciRootHub → List ℕ → List Event

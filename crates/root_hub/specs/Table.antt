@@ -1,5 +1,5 @@
 -- Document 01, "Ports and bring-up", as a table: what each reading of a port must bring about, whoever makes the step.
-use Rattle.std.specs.Prelude.{ℕ, ◌+◌, ◌-◌, ◌≤◌, ◌<◌, Bool, true, not, ◌&&◌, List, [], ◌∷◌, map, ◌⊎◌, ◌≡◌, set}
+use Rattle.std.specs.Prelude.{ℕ, ◌+◌, ◌-◌, ◌≤◌, ◌<◌, Bool, true, not, ◌&&◌, List, [], ◌∷◌, map, ◌⊎◌, ◌≡◌, set, None, Option, Some}
 use Rattle.register.specs.Bits.{with_bits, without_bits}
 use Rattle.register.specs.EhciRegisters.{portsc_of}
 use Rattle.register.specs.Writes.{list_of, write_of}
@@ -7,8 +7,6 @@ use Rattle.token.specs.EhciPortsc.{current_connect, port_enabled}
 use Rattle.token.specs.Ports.{is_set}
 use Rattle.common.specs.Answers.{number_of}
 use Rattle.opening.specs.declared.hub.EhciRootHub.{EhciRootHub}
-use Rattle.common.specs.declared.reads.NextRead.{NextRead}
-use Rattle.common.specs.declared.reads.NextRead.TheVariants.{Nothing as NoRead, Register}
 use Rattle.root_hub.specs.declared.calls.PortPower.{PortPower}
 use Rattle.root_hub.specs.declared.calls.Scanned.{Scanned}
 use Rattle.root_hub.specs.Calls.{power_of, start_of, step_of}
@@ -159,10 +157,10 @@ table =
 -- ---- a step by its row
 
 -- "Ports ascend": where a scan is after a reading of a port, and the register that it asks for
-pub data Goes (port ports after : ℕ) (hub : EhciRootHub) (read : NextRead) : Type 0 where
-  stays : (after ≡ 0 → ⊥) → hub.port ≡ port → hub.step ≡ after → read ≡ Register (portsc_of port) → Goes port ports after hub read
-  ascends : after ≡ 0 → port < ports → hub.port ≡ port + 1 → hub.step ≡ status → read ≡ Register (portsc_of (port + 1)) → Goes port ports after hub read
-  ends : after ≡ 0 → ports ≤ port → hub.port ≡ 0 → hub.step ≡ 0 → read ≡ NoRead → Goes port ports after hub read
+pub data Goes (port ports after : ℕ) (hub : EhciRootHub) (read : (Option ℕ)) : Type 0 where
+  stays : (after ≡ 0 → ⊥) → hub.port ≡ port → hub.step ≡ after → read ≡ Some (portsc_of port) → Goes port ports after hub read
+  ascends : after ≡ 0 → port < ports → hub.port ≡ port + 1 → hub.step ≡ status → read ≡ Some (portsc_of (port + 1)) → Goes port ports after hub read
+  ends : after ≡ 0 → ports ≤ port → hub.port ≡ 0 → hub.step ≡ 0 → read ≡ None → Goes port ports after hub read
 
 abbrev pub Matches : EhciRootHub → ℕ → Row → Type 0
 Matches h v r = (state_at h ≡ r.state) × (h.step ≡ r.reading) × (r.given v ≡ true)
@@ -197,7 +195,7 @@ pub record Starts (h : EhciRootHub) (s : Scanned) : Type 0 where
   pub reports : Reports s.reply.event 0 []
   pub writes : list_of s.reply.writes ≡ []
   pub waits : s.reply.wait ≡ 0
-  pub reads : s.reply.read ≡ Register (portsc_of 1)
+  pub reads : s.reply.read ≡ Some (portsc_of 1)
   pub left : s.hub ≡ record { ports = h.ports; states = h.states; port = 1; step = status }
 
 abbrev pub StartsAtPortOne : HubMachine → Type 0

@@ -6,8 +6,7 @@ ghost use Rattle.root_hub.specs.Calls.{refused_scan, start_of, step_of, refused_
 use crate::ports::PortEvent;
 use crate::ranges::{hub_good, index_of};
 use crate::scan::{RECOVERY_MS, awaited_of, place_after, port_writes, turn};
-use common::answer::{Answer, Refusal};
-use common::reads::NextRead;
+use common::answer::Refusal;
 use opening::hub::EhciRootHub;
 use register::bits::{with_bits, without_bits};
 use register::operational::port_offset;
@@ -17,10 +16,10 @@ use token::port::EhciPortStatus;
 // What a caller is told: the writes, then the milliseconds to wait, then the register to read.
 #[derive(Clone, Copy)]
 pub struct ScanReply {
-    pub answer: Answer,
-    pub event: PortEvent,
+    pub answer: Result<(), Refusal>,
+    pub event: Option<PortEvent>,
     pub writes: Writes,
-    pub read: NextRead,
+    pub read: Option<u32>,
     pub wait: u32,
 }
 
@@ -32,7 +31,7 @@ pub struct Scanned {
 
 #[derive(Clone, Copy)]
 pub struct PortPower {
-    pub answer: Answer,
+    pub answer: Result<(), Refusal>,
     pub writes: Writes,
     pub wait: u32,
 }
@@ -49,10 +48,10 @@ pub fn start(mut hub: EhciRootHub) -> Scanned
     Scanned {
         hub,
         reply: ScanReply {
-            answer: Answer::Done,
-            event: PortEvent::Nothing,
+            answer: Ok(()),
+            event: None,
             writes: Writes::none(),
-            read: NextRead::Register(port_offset(1)),
+            read: Some(port_offset(1)),
             wait: 0,
         },
     }
@@ -82,7 +81,7 @@ pub fn step(mut hub: EhciRootHub, reading: u32) -> Scanned
     Scanned {
         hub,
         reply: ScanReply {
-            answer: Answer::Done,
+            answer: Ok(()),
             event,
             writes: port_writes(port, change),
             read,
@@ -97,10 +96,10 @@ fn refuse(hub: EhciRootHub, refusal: Refusal) -> Scanned
     Scanned {
         hub,
         reply: ScanReply {
-            answer: Answer::Refused(refusal),
-            event: PortEvent::Nothing,
+            answer: Err(refusal),
+            event: None,
             writes: Writes::none(),
-            read: NextRead::Nothing,
+            read: None,
             wait: 0,
         },
     }
@@ -119,7 +118,7 @@ pub fn port_power(hub: EhciRootHub, port: u8, reading: u32) -> PortPower
     }
     let value = with_bits(reading, EhciPortStatus::POWER);
     PortPower {
-        answer: Answer::Done,
+        answer: Ok(()),
         writes: Writes::none().and_then(
             port_offset(port),
             without_bits(value, EhciPortStatus::CHANGES),
@@ -132,7 +131,7 @@ fn no_power() -> PortPower
     ensures { result ≡ refused_power InvalidParameter }
 {
     PortPower {
-        answer: Answer::Refused(Refusal::InvalidParameter),
+        answer: Err(Refusal::InvalidParameter),
         writes: Writes::none(),
         wait: 0,
     }

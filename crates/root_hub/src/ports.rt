@@ -20,7 +20,6 @@ pub enum Speed {
 
 #[derive(Clone, Copy)]
 pub enum PortEvent {
-    Nothing,
     Connected(u8, Speed),
     Disconnected(u8),
 }
@@ -35,15 +34,13 @@ pub fn port_state(number: u8) -> PortState
     }
 }
 
-impl PortEvent {
-    // The port that an event is of, 0 where there is none.
-    pub fn port(self) -> u8
-        ensures { result ≡ event_port self }
-    {
-        match self {
-            PortEvent::Nothing => 0,
-            PortEvent::Connected(port, _) => port,
-            PortEvent::Disconnected(port) => port,
-        }
+// The port that an event is of, 0 where there is none.
+pub fn event_port(event: Option<PortEvent>) -> u8
+    ensures { result ≡ event_port event }
+{
+    match event {
+        None => 0,
+        Some(PortEvent::Connected(port, _)) => port,
+        Some(PortEvent::Disconnected(port)) => port,
     }
 }

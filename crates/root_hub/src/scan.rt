@@ -17,7 +17,6 @@ ghost use Rattle.root_hub.specs.Scan.{
 };
 
 use crate::ports::{PortEvent, PortState, Speed, port_state};
-use common::reads::NextRead;
 use opening::hub::{PROBED, RESETED, UNINIT};
 use register::bits::{with_bits, without_bits};
 use register::operational::port_offset;
@@ -39,20 +38,13 @@ pub enum Awaited {
     Owner,
 }
 
-// What is written to the port's register.
-#[derive(Clone, Copy)]
-pub enum Change {
-    Nothing,
-    Value(u32),
-}
-
 // What a reading does to its port: the state that it leaves, and the step that is next there, 0 where it is done with.
 #[derive(Clone, Copy)]
 pub struct Turned {
     pub state: u8,
     pub step: u8,
-    pub change: Change,
-    pub event: PortEvent,
+    pub change: Option<u32>,
+    pub event: Option<PortEvent>,
     pub wait: u32,
 }
 
@@ -60,7 +52,7 @@ pub struct Turned {
 pub struct Place {
     pub port: u8,
     pub step: u8,
-    pub read: NextRead,
+    pub read: Option<u32>,
 }
 
 pub fn awaited_of(step: u8) -> Awaited
@@ -82,8 +74,8 @@ fn onward(state: u8) -> Turned
     Turned {
         state,
         step: 0,
-        change: Change::Nothing,
-        event: PortEvent::Nothing,
+        change: None,
+        event: None,
         wait: 0,
     }
 }
@@ -94,8 +86,8 @@ fn await_step(state: u8, step: u8) -> Turned
     Turned {
         state,
         step,
-        change: Change::Nothing,
-        event: PortEvent::Nothing,
+        change: None,
+        event: None,
         wait: 0,
     }
 }
@@ -142,8 +134,8 @@ fn again_turn(state: u8, port: u8, connected: bool, enabled: bool) -> Turned
     Turned {
         state: PROBED,
         step: 0,
-        change: Change::Nothing,
-        event: PortEvent::Connected(port, Speed::High),
+        change: None,
+        event: Some(PortEvent::Connected(port, Speed::High)),
         wait: 0,
     }
 }
@@ -156,8 +148,8 @@ fn gone_turn(port: u8, reading: u32) -> Turned
     Turned {
         state: UNINIT,
         step: 0,
-        change: Change::Value(without_bits(value, EhciPortStatus::OTHER_CHANGES)),
-        event: PortEvent::Disconnected(port),
+        change: Some(without_bits(value, EhciPortStatus::OTHER_CHANGES)),
+        event: Some(PortEvent::Disconnected(port)),
         wait: 0,
     }
 }
@@ -170,8 +162,8 @@ fn reset_turn(state: u8, reading: u32) -> Turned
     Turned {
         state,
         step: 4,
-        change: Change::Value(without_bits(value, EhciPortStatus::CHANGES)),
-        event: PortEvent::Nothing,
+        change: Some(without_bits(value, EhciPortStatus::CHANGES)),
+        event: None,
         wait: RESET_MS,
     }
 }
@@ -183,8 +175,8 @@ fn release_turn(reading: u32) -> Turned
     Turned {
         state: RESETED,
         step: 5,
-        change: Change::Value(without_bits(reading, EhciPortStatus::RESET)),
-        event: PortEvent::Nothing,
+        change: Some(without_bits(reading, EhciPortStatus::RESET)),
+        event: None,
         wait: RECOVERY_MS,
     }
 }
@@ -196,8 +188,8 @@ fn owner_turn(state: u8, reading: u32) -> Turned
     Turned {
         state,
         step: 0,
-        change: Change::Value(with_bits(reading, EhciPortStatus::OWNER)),
-        event: PortEvent::Nothing,
+        change: Some(with_bits(reading, EhciPortStatus::OWNER)),
+        event: None,
         wait: 0,
     }
 }
@@ -226,29 +218,29 @@ pub fn place_after(port: u8, ports: u8, step: u8) -> Place
         return Place {
             port,
             step,
-            read: NextRead::Register(port_offset(port)),
+            read: Some(port_offset(port)),
         };
     }
     if port < ports {
         return Place {
             port: port + 1,
             step: 1,
-            read: NextRead::Register(port_offset(port + 1)),
+            read: Some(port_offset(port + 1)),
         };
     }
     Place {
         port: 0,
         step: 0,
-        read: NextRead::Nothing,
+        read: None,
     }
 }
 
-pub fn port_writes(port: u8, change: Change) -> Writes
+pub fn port_writes(port: u8, change: Option<u32>) -> Writes
     requires { 1 ≤ port }
     ensures { result ≡ port_writes port change }
 {
     match change {
-        Change::Nothing => Writes::none(),
-        Change::Value(value) => Writes::none().and_then(port_offset(port), value),
+        None => Writes::none(),
+        Some(value) => Writes::none().and_then(port_offset(port), value),
     }
 }

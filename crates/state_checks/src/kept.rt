@@ -4,8 +4,6 @@ use call_log::call_line::{call_line, scan_line};
 use call_log::fields::Fields;
 use call_log::line::Line;
 use call_log::record::Entry;
-use common::answer::Answer;
-use common::reads::NextRead;
 use controller::lent::Readings;
 use descriptor::qtd::QueueTransferDescriptor;
 use ehci::call::Call;
@@ -18,6 +16,7 @@ use root_hub::calls::Scanned;
 use root_hub::ports::PortEvent;
 use settings::settings::Settings;
 use words::cores::Core;
+use common::answer::Refusal;
 
 // `trial` is the last record that told of a trial, until a call comes.
 #[derive(Clone, Copy)]
@@ -108,10 +107,10 @@ pub fn blank() -> Kept {
     }
 }
 
-fn answered(answer: Answer) -> Answered {
+fn answered(answer: Result<(), Refusal>) -> Result<Answered, Refusal> {
     match answer {
-        Answer::Done => Answered::Done(Given::Nothing),
-        Answer::Refused(refusal) => Answered::Refused(refusal),
+        Ok(()) => Ok(Answered::Done(Given::Nothing)),
+        Err(refusal) => Err(refusal),
     }
 }
 
@@ -200,9 +199,9 @@ fn act_power(k: Kept, n: u64, port: u8, reading: u32) -> Acted {
             n,
             20,
             answer,
-            NextRead::Nothing,
+            None,
             powered.wait,
-            PortEvent::Nothing,
+            None,
         ),
         writes,
     }

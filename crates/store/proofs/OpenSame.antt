@@ -1,9 +1,8 @@
 -- Opening in words, where the first words of a whole row of slots are lent, is opening: settings with more slots than the row are refused by both.
-use Rattle.std.specs.Prelude.{◌≡◌, ℕ, ◌*◌, min, Bool, true, false, List, length}
+use Rattle.std.specs.Prelude.{◌≡◌, ℕ, ◌*◌, min, Bool, true, false, List, length, Ok}
 use mathlib.Core.Path.{refl, sym, ap, ◌∙◌}
 use native.Mathlib.Omega.{arith}
 use borrow.Author.Tests.{eqb-false}
-use Rattle.common.specs.declared.answer.Answer.TheVariants.{Done}
 use Rattle.common.specs.declared.answer.Refusal.TheVariants.{InvalidParameter}
 use Rattle.common.proofs.CheckLaws.{answers_apart}
 use Rattle.descriptor.specs.declared.qtd.QueueTransferDescriptor.{QueueTransferDescriptor as Record}
@@ -34,7 +33,7 @@ module _ (s : Settings) (rs : List Record) (hs fs us : List ℕ) where
         by false e = rw e (sym (ap rows_of (refuses_settings s rs hs fs us (too_many e))))
 
   -- an accepted opening's state is the fresh one
-  pub done_fresh : (open_of s rs hs fs us).opening.answer ≡ Done → (open_of s rs hs fs us).opening.state ≡ fresh_state s
+  pub done_fresh : (open_of s rs hs fs us).opening.answer ≡ (Ok tt) → (open_of s rs hs fs us).opening.state ≡ fresh_state s
   unfolding refused_opening accepted_opening
   done_fresh d = by (settings_good s) refl (rows_are_fit s (length rs) (length hs) (length fs) (length us)) refl
     where

@@ -1,5 +1,5 @@
 -- A call on a state outside its ranges, or that is lent rows of other lengths, answers 1 and leaves all as it was.
-use Rattle.std.specs.Prelude.{◌≡◌, ℕ, Bool, true, false, List, length}
+use Rattle.std.specs.Prelude.{◌≡◌, ℕ, Bool, true, false, List, length, Err}
 use Rattle.common.specs.declared.answer.Refusal.TheVariants.{InvalidParameter}
 use Rattle.descriptor.specs.declared.qtd.QueueTransferDescriptor.{QueueTransferDescriptor as Record}
 use Rattle.pool.specs.declared.chain.View.{View}
@@ -16,7 +16,6 @@ use Rattle.bring_up.specs.BringUp.{start_of, step_of}
 use Rattle.interrupt.specs.Interrupts.{acknowledge_of, disable_of, drain_of, enable_of, rearm_of}
 use Rattle.ehci.specs.declared.call.Call.{Call}
 use Rattle.ehci.specs.declared.call.Call.TheVariants.{StartBringUp, BringUpStep, AllocateAddress, OpenEndpoint, Close, SetAddress, SetPacketSize, Submit, Writeback, Cancel, Collect, Acknowledge, Drain, Rearm, Enable, Disable, ClearHalt}
-use Rattle.ehci.specs.declared.reply.Answered.TheVariants.{Refused}
 use Rattle.ehci.specs.Decides.{acknowledge_decided, address_decided, allot_decided, call_of, cancel_decided, clear_decided, close_decided, collect_decided, decide_of, drain_decided, open_decided, packet_decided, submit_decided, writeback_decided}
 use Rattle.ehci.specs.Door.{apply_of}
 use Rattle.ehci.specs.Refusals.{refused_world}
@@ -29,7 +28,7 @@ module _ (s : Ehci) (pool : List Record) (heads frames setups : List ℕ) where
 
   module _ (v : View) (fit : fits ≡ true) (out : in_ranges s ≡ false) where
     -- whatever the call, the ranges are asked first
-    call_refused : (c : Call) → (call_of s (length pool) heads frames setups v c).decided.reply.answer ≡ Refused InvalidParameter
+    call_refused : (c : Call) → (call_of s (length pool) heads frames setups v c).decided.reply.answer ≡ Err InvalidParameter
     unfolding start_of step_of brought_reply allot_of allot_decided open_decided open_endpoint_of open_checks close_decided close_of slot_checks address_decided set_address_of packet_decided set_packet_size_of clear_decided clear_halt_of changed_reply submit_decided submit_of settled_submit refused_submit writeback_decided writeback_of refused_writeback cancel_decided cancel_of collect_decided collect_of acknowledge_decided acknowledge_of drain_decided drain_of settled_reply rearm_of enable_of disable_of replied accepts_of
     call_refused StartBringUp = rw out
     call_refused (BringUpStep w) = rw out

@@ -1,10 +1,8 @@
 -- The returns of the functions of a store.
-use Rattle.std.specs.Prelude.{◌≡◌, ℕ, ◌*◌, min, true, List, [], ◌∷◌, length, take, replicate}
+use Rattle.std.specs.Prelude.{◌≡◌, ℕ, ◌*◌, min, true, List, [], ◌∷◌, length, take, replicate, Err, Ok, Result, ⊤}
 use mathlib.Core.Path.{refl, sym, ap, subst, ◌∙◌}
 use native.Mathlib.Omega.{arith}
 use lib.Seq.{length-take-le}
-use Rattle.common.specs.declared.answer.Answer.{Answer}
-use Rattle.common.specs.declared.answer.Answer.TheVariants.{Done, Refused}
 use Rattle.common.specs.declared.answer.Refusal.{Refusal}
 use Rattle.common.proofs.CheckLaws.{answers_apart}
 use Rattle.common.proofs.TestLaws.{false_true}
@@ -70,7 +68,7 @@ blank_done c e =
 
 -- ---- an opening
 
-pub accepted_store : (a : Answer) (w : Store) (o : OpenedRows) (r : Store) → a ≡ Done → r ≡ store_after o → r ≡ store_opened a w o
+pub accepted_store : (a : (Result ⊤ Refusal)) (w : Store) (o : OpenedRows) (r : Store) → a ≡ (Ok tt) → r ≡ store_after o → r ≡ store_opened a w o
 accepted_store a w o r ea e = rw (ea, e)
 
 module _ (w : Store) (s : Settings) (d k h u : ℕ) (o : OpenedRows) (after : Store) (long : length w.slots ≡ 192) (tended : Tended w)
@@ -94,7 +92,7 @@ module _ (w : Store) (s : Settings) (d k h u : ℕ) (o : OpenedRows) (after : St
   answers = ap (λ (x : opening.OpenedRows). x.answer) left
 
   -- what is to be left, by the answer
-  abbrev target_by : Answer → plain.OpenedStore
+  abbrev target_by : Result ⊤ Refusal → plain.OpenedStore
   target_by a =
       record {
         store = plain_opened a (store_view w) (rows_after came w.pool w.heads w.setups d h u);
@@ -123,9 +121,9 @@ module _ (w : Store) (s : Settings) (d k h u : ℕ) (o : OpenedRows) (after : St
   abbrev result : OpenedStore
   result = record { store = after; hub = o.opening.hub; answer = o.opening.answer }
 
-  module _ (done : o.opening.answer ≡ Done) where
+  module _ (done : o.opening.answer ≡ (Ok tt)) where
     is_after : after ≡ store_after o
-    is_after = ea ∙ ap (λ (a : Answer). store_opened a w o) done
+    is_after = ea ∙ ap (λ (a : (Result ⊤ Refusal)). store_opened a w o) done
 
     settings_are : o.opening.core.settings ≡ s
     settings_are = (words.accepted done).same_settings
@@ -156,7 +154,7 @@ module _ (w : Store) (s : Settings) (d k h u : ℕ) (o : OpenedRows) (after : St
 
     done_target : shown (whole_rows (rows_of came) w.pool w.heads w.setups d h u) came.opening.state ≡ target
     done_target =
-        ap (λ (a : Answer). target_by a) (sym done ∙ answers)
+        ap (λ (a : (Result ⊤ Refusal)). target_by a) (sym done ∙ answers)
 
     done_view : opened_view result ≡ target
     done_view =
@@ -170,15 +168,15 @@ module _ (w : Store) (s : Settings) (d k h u : ℕ) (o : OpenedRows) (after : St
         subst (λ (x : Store). Opens (record { store = x; hub = o.opening.hub; answer = o.opening.answer })) (sym is_after)
         (record { tended = record { tidy = λ r. tidy_is }; opened = λ e. opened_after })
 
-  module _ (r : Refusal) (refused : o.opening.answer ≡ Refused r) where
+  module _ (r : Refusal) (refused : o.opening.answer ≡ Err r) where
     is_same : after ≡ w
-    is_same = ea ∙ ap (λ (a : Answer). store_opened a w o) refused
+    is_same = ea ∙ ap (λ (a : (Result ⊤ Refusal)). store_opened a w o) refused
 
     refused_view : opened_view result ≡ target
     refused_view =
         ap (λ (x : Store). opened_view (record { store = x; hub = o.opening.hub; answer = o.opening.answer })) is_same
         ∙ ap unmoved left
-        ∙ ap (λ (a : Answer). target_by a) (sym refused ∙ answers)
+        ∙ ap (λ (a : (Result ⊤ Refusal)). target_by a) (sym refused ∙ answers)
 
     refused_opens : Opens result
     refused_opens =
@@ -188,16 +186,16 @@ module _ (w : Store) (s : Settings) (d k h u : ℕ) (o : OpenedRows) (after : St
   pub opened_view_lem : opened_view result ≡ open_store (store_view w) s
   opened_view_lem = by o.opening.answer refl
     where
-      by : (a : Answer) → o.opening.answer ≡ a → opened_view result ≡ open_store (store_view w) s
-      by Done e = done_view e ∙ target_is
-      by (Refused r) e = refused_view r e ∙ target_is
+      by : (a : (Result ⊤ Refusal)) → o.opening.answer ≡ a → opened_view result ≡ open_store (store_view w) s
+      by (Ok tt) e = done_view e ∙ target_is
+      by (Err r) e = refused_view r e ∙ target_is
 
   pub opened_opens : Opens result
   opened_opens = by o.opening.answer refl
     where
-      by : (a : Answer) → o.opening.answer ≡ a → Opens result
-      by Done e = done_opens e
-      by (Refused r) e = refused_opens r e
+      by : (a : (Result ⊤ Refusal)) → o.opening.answer ≡ a → Opens result
+      by (Ok tt) e = done_opens e
+      by (Err r) e = refused_opens r e
 
 -- ---- a call
 

@@ -1,8 +1,6 @@
 -- What is promised of a store.
-use Rattle.std.specs.Prelude.{◌≡◌, true}
+use Rattle.std.specs.Prelude.{◌≡◌, true, Err, Result, ⊤}
 use native.Mathlib.Omega.{arith}
-use Rattle.common.specs.declared.answer.Answer.{Answer}
-use Rattle.common.specs.declared.answer.Answer.TheVariants.{Refused}
 use Rattle.common.specs.declared.answer.Refusal.{Refusal}
 use Rattle.settings.specs.declared.settings.Settings.{Settings}
 use Rattle.settings.specs.Settings.{heads_length, pool_length, settings_good, setups_length}
@@ -21,10 +19,10 @@ module _ (s : Settings) (good : settings_good s ≡ true) where
   pub bytes_lent_lem : bytes_lent s ≡ setups_length s
   bytes_lent_lem = omega (arith, (good_tells s good).endpoints_most)
 
-refused_store : (a : Answer) (w : Store) (o : OpenedRows) (r : Refusal) → a ≡ Refused r → store_opened a w o ≡ w
+refused_store : (a : (Result ⊤ Refusal)) (w : Store) (o : OpenedRows) (r : Refusal) → a ≡ Err r → store_opened a w o ≡ w
 refused_store a w o r e = rw (e)
 
 -- a refused opening leaves the whole store as it was
-pub refused_opening_lem : (w : Store) (s : Settings) (r : Refusal) → (open_store w s).answer ≡ Refused r → (open_store w s).store ≡ w
+pub refused_opening_lem : (w : Store) (s : Settings) (r : Refusal) → (open_store w s).answer ≡ Err r → (open_store w s).store ≡ w
 unfolding open_store
 refused_opening_lem w s r e = refused_store _ w _ r e

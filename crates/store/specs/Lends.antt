@@ -1,8 +1,6 @@
 -- What is left where the first d records, k words of the slots, h words of the heads, all the entries and the first u bytes are lent: the lent
 -- parts as the call or the opening leaves them, and after each the rest of its row.
-use Rattle.std.specs.Prelude.{◌≡◌, ℕ, List, ◌++◌, length, take, drop}
-use Rattle.common.specs.declared.answer.Answer.{Answer}
-use Rattle.common.specs.declared.answer.Answer.TheVariants.{Done, Refused}
+use Rattle.std.specs.Prelude.{◌≡◌, ℕ, List, ◌++◌, length, take, drop, Err, Ok, Result, ⊤}
 use Rattle.descriptor.specs.declared.qtd.QueueTransferDescriptor.{QueueTransferDescriptor}
 use Rattle.settings.specs.declared.settings.Settings.{Settings}
 use Rattle.words.specs.declared.cores.Core.{Core}
@@ -18,6 +16,7 @@ use Rattle.store.specs.declared.store.Called.{Called}
 use Rattle.store.specs.declared.store.OpenedRows.{OpenedRows}
 use Rattle.store.specs.Plain as plain
 use Rattle.store.specs.Stores.{called_after}
+use Rattle.common.specs.declared.answer.Refusal.{Refusal}
 
 -- ---- an opening
 
@@ -57,9 +56,9 @@ store_after o =
       setups = o.setups;
     }
 
-abbrev pub store_opened : Answer → Store → OpenedRows → Store
-store_opened Done w o = store_after o
-store_opened (Refused r) w o = w
+abbrev pub store_opened : Result ⊤ Refusal → Store → OpenedRows → Store
+store_opened (Ok tt) w o = store_after o
+store_opened (Err r) w o = w
 
 -- ---- a call
 

@@ -1,12 +1,12 @@
 -- A store whose state is plain, and what an opening or a call leaves of it. The words of the code's store stand for its state.
-use Rattle.std.specs.Prelude.{ℕ, List}
-use Rattle.common.specs.declared.answer.Answer.{Answer}
+use Rattle.std.specs.Prelude.{ℕ, List, Result, ⊤}
 use Rattle.descriptor.specs.declared.qtd.QueueTransferDescriptor.{QueueTransferDescriptor}
-use Rattle.ehci.specs.declared.reply.Answered.{Answered}
 use Rattle.opening.specs.declared.hub.EhciRootHub.{EhciRootHub}
 use Rattle.opening.specs.Plain.{Opening}
 use Rattle.register.specs.declared.writes.Writes.{Writes}
 use Rattle.state.specs.Plain.{Ehci}
+use Rattle.ehci.specs.declared.reply.Answered.{Answered}
+use Rattle.common.specs.declared.answer.Refusal.{Refusal}
 
 pub record Store : Type 0 where
   pub state : Ehci
@@ -17,13 +17,13 @@ pub record Store : Type 0 where
 
 pub record Called : Type 0 where
   pub store : Store
-  pub answer : Answered
+  pub answer : Result Answered Refusal
   pub writes : Writes
 
 pub record OpenedStore : Type 0 where
   pub store : Store
   pub hub : EhciRootHub
-  pub answer : Answer
+  pub answer : Result ⊤ Refusal
 
 -- what opening decides, and the rows then
 pub record OpenedRows : Type 0 where

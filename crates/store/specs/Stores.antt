@@ -1,9 +1,7 @@
 -- A store: the state and the four rows, by value. Of each row the first places are lent, and the rest stays as it was.
-use Rattle.std.specs.Prelude.{ℕ, min, List, ◌++◌, take, drop, replicate}
+use Rattle.std.specs.Prelude.{ℕ, min, List, ◌++◌, take, drop, replicate, Err, Ok, Result, ⊤}
 use Rattle.descriptor.specs.declared.qtd.QueueTransferDescriptor.{QueueTransferDescriptor}
 use Rattle.pool.specs.Chains.{blank}
-use Rattle.common.specs.declared.answer.Answer.{Answer}
-use Rattle.common.specs.declared.answer.Answer.TheVariants.{Done, Refused}
 use Rattle.settings.specs.declared.settings.Settings.{Settings}
 use Rattle.settings.specs.Settings.{pool_length, heads_length, setups_length}
 use Rattle.state.specs.Plain.{Ehci}
@@ -13,6 +11,7 @@ use Rattle.ehci.specs.Door.{Applied, apply_of}
 use Rattle.opening.specs.Plain.{Opening}
 use Rattle.opening.specs.Opening.{Opened, fresh_state, no_settings, open_of}
 use Rattle.store.specs.Plain.{Called, OpenedRows, OpenedStore, Store}
+use Rattle.common.specs.declared.answer.Refusal.{Refusal}
 
 -- how much of each row is lent: what the settings say, and never more than there is. The frame list is lent whole
 abbrev pub records_lent : Settings → ℕ
@@ -66,9 +65,9 @@ store_after o =
     }
 
 -- a refused opening leaves the store as it was
-abbrev pub store_opened : Answer → Store → OpenedRows → Store
-store_opened Done w o = store_after o
-store_opened (Refused r) w o = w
+abbrev pub store_opened : Result ⊤ Refusal → Store → OpenedRows → Store
+store_opened (Ok tt) w o = store_after o
+store_opened (Err r) w o = w
 
 abbrev pub opened_store : Store → OpenedRows → OpenedStore
 opened_store w o =

@@ -1,6 +1,5 @@
 -- The store of the code: its words stand for the state of a plain store. Of the row of slots the first places are lent too.
-use Rattle.std.specs.Prelude.{◌≡◌, ℕ, ◌*◌, min, true, List, take}
-use Rattle.common.specs.declared.answer.Answer.TheVariants.{Done}
+use Rattle.std.specs.Prelude.{◌≡◌, ℕ, ◌*◌, min, true, List, take, Ok}
 use Rattle.settings.specs.declared.settings.Settings.{Settings}
 use Rattle.settings.specs.Settings.{settings_good}
 use Rattle.state.specs.Ranges.{in_ranges}
@@ -55,4 +54,4 @@ pub record Tends (w w' : Store) : Type 0 where
 -- by an opening
 pub record Opens (o : OpenedStore) : Type 0 where
   pub tended : Tended o.store
-  pub opened : o.answer ≡ Done → OpenedIn o.store
+  pub opened : o.answer ≡ (Ok tt) → OpenedIn o.store

@@ -32,7 +32,6 @@ ghost use Rattle.store.specs.Lends.{
 };
 ghost use Rattle.opening.specs.Words.{OpensWords, blank_core};
 
-use common::answer::Answer;
 use descriptor::qtd::QueueTransferDescriptor;
 use ehci::call::Call;
 use ehci::door::apply;
@@ -44,6 +43,7 @@ use register::writes::Writes;
 use settings::settings::Settings;
 use words::cores::Core;
 use words::row::RECORD;
+use common::answer::Refusal;
 
 #[derive(Clone, Copy)]
 pub struct Store {
@@ -58,7 +58,7 @@ pub struct Store {
 #[derive(Clone, Copy)]
 pub struct Called {
     pub store: Store,
-    pub answer: Answered,
+    pub answer: Result<Answered, Refusal>,
     pub writes: Writes,
 }
 
@@ -66,7 +66,7 @@ pub struct Called {
 pub struct OpenedStore {
     pub store: Store,
     pub hub: EhciRootHub,
-    pub answer: Answer,
+    pub answer: Result<(), Refusal>,
 }
 
 // What opening decides, and the rows then.
@@ -234,12 +234,12 @@ fn store_after(o: OpenedRows) -> Store
 }
 
 // A refused opening leaves the store as it was.
-fn store_opened(answer: Answer, store: Store, o: OpenedRows) -> Store
+fn store_opened(answer: Result<(), Refusal>, store: Store, o: OpenedRows) -> Store
     ensures { result ≡ store_opened answer store o }
 {
     match answer {
-        Answer::Done => store_after(o),
-        Answer::Refused(_) => store,
+        Ok(()) => store_after(o),
+        Err(_) => store,
     }
 }
 

@@ -1,4 +1,5 @@
 -- The boundary by numbers, from its picture.
+use Rattle.std.specs.Prelude.{Result}
 use Prim.Native.Nat.{ℕ, ◌≤◌, ◌<◌}
 use mathlib.Core.Bool.{Bool, true, false, cond, true≢false, false≢true, ◌&&◌}
 use mathlib.Core.List.{List, [], ◌∷◌, ◌++◌, append_assoc}
@@ -14,12 +15,13 @@ use Rattle.common.specs.Kinds.{is_interrupt}
 use Rattle.controller.specs.declared.lent.Readings.{Readings}
 use Rattle.ehci.specs.declared.call.Call.{Call}
 use Rattle.ehci.specs.declared.call.Call.TheVariants.{StartBringUp, BringUpStep, AllocateAddress, OpenEndpoint, Close, SetAddress, SetPacketSize, Submit, Writeback, Cancel, Collect, Acknowledge, Drain, Rearm, Enable, Disable, ClearHalt}
-use Rattle.ehci.specs.declared.reply.Answered.{Answered}
 use Rattle.ehci.specs.Replies.{answered_values}
 use Rattle.promises.specs.Runs.{Form, History, Machine, Turn, WorldIn, history_of, run_of}
 use Rattle.promises.specs.Events.{Event, Other, Reads, Drains, Submits, Unlinks, Parts, Collects, first_in, happens, is_collected, is_done, leaving, leaves_frames, leaves_ring, submits_by}
 use Rattle.promises.specs.Bells.{Boundary, collects, is_collects_of, kind_at, none, reads, unlinks_of}
 use Rattle.promises.specs.Boundaries.{At, BoundaryKept, BoundaryNumbered, RungAndAnswered, answer_to, past, turn}
+use Rattle.ehci.specs.declared.reply.Answered.{Answered}
+use Rattle.common.specs.declared.answer.Refusal.{Refusal}
 
 -- ---- lists
 head_or : Turn → History → Turn
@@ -76,7 +78,7 @@ pub if_none : (p : Event → Bool) (b : Bool) (x y : Event) → p x ≡ false �
 if_none p true x y o e = o
 if_none p false x y o e = e
 
-no_collection : (k j : ℕ) (r : TransferRequest) (a : Answered) → is_collects_of k (submits_by j r a) ≡ false
+no_collection : (k j : ℕ) (r : TransferRequest) (a : (Result Answered Refusal)) → is_collects_of k (submits_by j r a) ≡ false
 no_collection k j r a = if_none (is_collects_of k) (is_done a) (Submits j (first_in (answered_values a)) r) Other refl refl
 
 -- a turn that collects k is a collect of k that is answered 0, 10 or 11

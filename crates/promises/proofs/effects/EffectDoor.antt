@@ -1,4 +1,5 @@
 -- The door: a call that finds the rows as opening fixed them does what its crate says, and any other is refused.
+use Rattle.std.specs.Prelude.{Err, Result}
 use Prim.Native.Nat.{ℕ}
 use mathlib.Core.Bool.{Bool, true, false, not, ◌&&◌}
 use mathlib.Core.List.{List}
@@ -17,8 +18,6 @@ use Rattle.common.specs.declared.answer.Refusal.TheVariants.{InvalidParameter}
 use Rattle.pipe.specs.Endpoints.{endpoint_at}
 use Rattle.opening.specs.Opening.{rows_are_fit}
 use Rattle.ehci.specs.declared.call.Call.{Call}
-use Rattle.ehci.specs.declared.reply.Answered.{Answered}
-use Rattle.ehci.specs.declared.reply.Answered.TheVariants.{Refused}
 use Rattle.ehci.specs.Plain.{Decided}
 use Rattle.ehci.specs.Decides.{asks_of, call_of, decide_of, came}
 use Rattle.ehci.specs.Door.{Applied, applied, apply_of, carried_out, seen_by}
@@ -30,6 +29,7 @@ use Rattle.promises.specs.Slots.{change}
 use Rattle.promises.proofs.effects.Effects.{Effect, Idles, Sides, Switches, besides, still}
 use Rattle.interrupt.specs.Interrupts.{settled_or}
 use Rattle.interrupt.specs.Plain.{Settled}
+use Rattle.ehci.specs.declared.reply.Answered.{Answered}
 
 abbrev pub sides_with : Ehci → ℕ → ℕ → ℕ → Sides
 sides_with s enabled pending masked =
@@ -64,12 +64,12 @@ module _ (w : World) (c : Call) where
   rows_kept hs fs us =
       ap (λ pool. record { pool = pool; heads = hs; frames = fs; setups = us }) (fill_no_chain w.rows.pool)
 
-  abbrev pub leaves : Ehci → Answered → Writes → Applied
+  abbrev pub leaves : Ehci → Result Answered Refusal → Writes → Applied
   leaves s r ws =
       applied (record { state = s; answer = r; writes = ws }) (fill_of no_chain w.rows.pool) w.rows.heads w.rows.frames
       w.rows.setups
 
-  pub still_of : (s : Ehci) (r : Answered) (ws : Writes) (x : Sides) → s ≡ besides w.state x → some_ring (list_of ws) ≡ false
+  pub still_of : (s : Ehci) (r : (Result Answered Refusal)) (ws : Writes) (x : Sides) → s ≡ besides w.state x → some_ring (list_of ws) ≡ false
       → event w.state.settings (turn_of w.rows c (leaves s r ws)) ≡ Other → (Ranges w.state → Ranges s)
       → x.pending ≡ w.state.pending → (Idles w.state → Idles s)
       → Switches (change (turn_of w.rows c (leaves s r ws))) w.state.running x.running → Effect w c (leaves s r ws)
@@ -89,12 +89,12 @@ module _ (w : World) (c : Call) where
 
   -- a refusal
   pub refused_still : (r : Refusal)
-      → event w.state.settings (turn_of w.rows c (leaves w.state (Refused r) no_writes)) ≡ Other
-      → Switches (change (turn_of w.rows c (leaves w.state (Refused r) no_writes))) w.state.running w.state.running
-      → Effect w c (leaves w.state (Refused r) no_writes)
+      → event w.state.settings (turn_of w.rows c (leaves w.state (Err r) no_writes)) ≡ Other
+      → Switches (change (turn_of w.rows c (leaves w.state (Err r) no_writes))) w.state.running w.state.running
+      → Effect w c (leaves w.state (Err r) no_writes)
   unfolding no_writes
   refused_still r nothing switches =
-      still_of w.state (Refused r) no_writes (sides_of w.state) refl refl nothing (λ g. g) refl (λ i. i) switches
+      still_of w.state (Err r) no_writes (sides_of w.state) refl refl nothing (λ g. g) refl (λ i. i) switches
 
   abbrev pub seen : View
   seen = seen_by (asks_of w.state (length w.rows.pool) c) w.rows.pool
@@ -104,7 +104,7 @@ abbrev pub carried : World → Decided → Applied
 carried w d = carried_out (came d w.rows.heads w.rows.frames w.rows.setups) w.rows.pool
 
 -- what holds of a refusal at the door, and of what the call's crate says, holds of the call
-pub through : (R : World → Call → Applied → Type 0) (w : World) (c : Call) → R w c (leaves w c w.state (Refused InvalidParameter) no_writes)
+pub through : (R : World → Call → Applied → Type 0) (w : World) (c : Call) → R w c (leaves w c w.state (Err InvalidParameter) no_writes)
     → R w c (carried_out (call_of w.state (length w.rows.pool) w.rows.heads w.rows.frames w.rows.setups (seen w c) c) w.rows.pool)
     → R w c (core w c)
 unfolding apply_of decide_of refused_reply replied
@@ -117,7 +117,7 @@ through R w c denied done = by (rows_are_fit w.state.settings (length w.rows.poo
     by false e = rw e denied
 
 -- so for a call that settles one flag, unless the state is outside its ranges
-pub settles : (R : World → Call → Applied → Type 0) (w : World) (c : Call) (b : Bool) (new : Settled) → R w c (leaves w c w.state (Refused InvalidParameter) no_writes)
+pub settles : (R : World → Call → Applied → Type 0) (w : World) (c : Call) (b : Bool) (new : Settled) → R w c (leaves w c w.state (Err InvalidParameter) no_writes)
     → R w c (carried w (settled_reply new))
     → R w c (carried w (settled_reply (settled_or b w.state new)))
 unfolding settled_reply replied

@@ -1,4 +1,5 @@
 -- Acknowledge, drain, rearm, enable, disable.
+use Rattle.std.specs.Prelude.{Ok}
 use Prim.Native.Nat.{ℕ, ◌≤◌, min}
 use mathlib.Core.Bool.{Bool, true, false, not, cond, ◌&&◌}
 use mathlib.Core.List.{[], ◌∷◌}
@@ -18,7 +19,6 @@ use Rattle.state.specs.State.{with_bell, with_boundaries, with_interrupt}
 use Rattle.state.specs.Plain.{Ehci}
 use Rattle.state.proofs.RangesLaws.{Ranges}
 use Rattle.common.specs.Answers.{first}
-use Rattle.common.specs.declared.answer.Answer.TheVariants.{Done}
 use Rattle.common.specs.declared.answer.Refusal.TheVariants.{InvalidParameter}
 use Rattle.schedule.specs.Links.{same}
 use Rattle.interrupt.specs.Interrupts.{acknowledge_of, acknowledge_writes, acknowledged_state, count_if, counted_of, disable_of, drain_if, drain_of, enable_of, heard_if, note_if, noted_after, rearm_if, rearm_of, cleared_of}
@@ -240,7 +240,7 @@ module _ (w : World) where
   unfolding enable_of settled_reply replied with_interrupt and_then no_writes
   enable_effect =
       through Effect w Enable (refused_still w Enable InvalidParameter refl refl)
-      (settles Effect w Enable (not (in_ranges t)) (record { answer = Done; state = with_interrupt t 1 t.pending t.masked; writes = and_then no_writes 8 0x27 })
+      (settles Effect w Enable (not (in_ranges t)) (record { answer = Ok tt; state = with_interrupt t 1 t.pending t.masked; writes = and_then no_writes 8 0x27 })
       (refused_still w Enable InvalidParameter refl refl)
       (still_of w Enable _ _ _ (flagged 1 t.masked) refl refl refl
       (λ r. interrupt_keeps t 1 t.pending t.masked (omega arith) r.pending_only r.masked_only r) refl (idles_on t _ refl refl) refl))
@@ -249,7 +249,7 @@ module _ (w : World) where
   unfolding disable_of settled_reply replied with_interrupt and_then no_writes
   disable_effect =
       through Effect w Disable (refused_still w Disable InvalidParameter refl refl)
-      (settles Effect w Disable (not (in_ranges t)) (record { answer = Done; state = with_interrupt t 0 t.pending t.masked; writes = and_then no_writes 8 0 })
+      (settles Effect w Disable (not (in_ranges t)) (record { answer = Ok tt; state = with_interrupt t 0 t.pending t.masked; writes = and_then no_writes 8 0 })
       (refused_still w Disable InvalidParameter refl refl)
       (still_of w Disable _ _ _ (flagged 0 t.masked) refl refl refl
       (λ r. interrupt_keeps t 0 t.pending t.masked (omega arith) r.pending_only r.masked_only r) refl (idles_on t _ refl refl) refl))

@@ -1,4 +1,5 @@
 -- Bring-up and the allotment of addresses: they touch neither slots, owners nor doorbell.
+use Rattle.std.specs.Prelude.{Err, Ok}
 use Prim.Native.Nat.{ℕ, zero, suc, ◌+◌, ◌≤◌, ◌<◌}
 use mathlib.Core.Bool.{Bool, true, false, not, ◌||◌, cond}
 use mathlib.Core.List.{[], ◌∷◌}
@@ -17,7 +18,6 @@ use Rattle.state.specs.State.{with_bring_up, with_next_address}
 use Rattle.state.proofs.RangesLaws.{Ranges, ranges_make, ranges_tell}
 use Rattle.common.specs.Answers.{Verdict, first, passed, refused}
 use Rattle.common.proofs.CheckLaws.{let_pass, settled_by}
-use Rattle.common.specs.declared.answer.Answer.TheVariants as A
 use Rattle.common.specs.declared.answer.Refusal.{Refusal}
 use Rattle.common.specs.declared.answer.Refusal.TheVariants.{InvalidParameter, QueueFull, SlotLimitReached}
 use Rattle.pipe.specs.Endpoints.{endpoint_at}
@@ -35,7 +35,6 @@ use Rattle.bring_up.specs.declared.stage.Stage.TheVariants.{Stop, Halting, Reset
 use Rattle.bring_up.proofs.RunLaws.{stays_in_ranges}
 use Rattle.ehci.specs.declared.call.Call.TheVariants.{AllocateAddress, BringUpStep, StartBringUp}
 use Rattle.ehci.specs.Decides.{allot_decided, allot_reply}
-use Rattle.ehci.specs.declared.reply.Answered.TheVariants.{Refused}
 use Rattle.ehci.specs.Replies.{brought_answer, brought_reply, replied}
 use Rattle.promises.specs.Runs.{World, core}
 use Rattle.promises.specs.Slots.{steps_by}
@@ -111,7 +110,7 @@ moved_stops Run h = refl
 moved_stops Starting h = absurd (h refl)
 
 -- the last step of bring-up leaves nothing to read, and only it leaves the controller running
-moved_switches : (stage : Stage) (before : ℕ) → Switches (steps_by (brought_answer A.Done (moved_on stage).read (moved_on stage).wait)) before (moved_on stage).running
+moved_switches : (stage : Stage) (before : ℕ) → Switches (steps_by (brought_answer (Ok tt) (moved_on stage).read (moved_on stage).wait)) before (moved_on stage).running
 moved_switches Stop before = refl
 moved_switches Halting before = refl
 moved_switches Reset before = refl
@@ -180,7 +179,7 @@ module _ (w : World) where
   step_effect v =
       through Effect w (BringUpStep v) (refused_still w (BringUpStep v) InvalidParameter refl refl)
       (settled_by (first ((not (in_ranges s), InvalidParameter) ∷ (eqb s.step 0, InvalidParameter) ∷ [])) _ _ (Stepped v)
-      (λ r e keeps. subst (λ (x : Refusal). Effect w (BringUpStep v) (leaves w (BringUpStep v) s (Refused x) no_writes)) (step_refuses (not (in_ranges s)) (eqb s.step 0) r e)
+      (λ r e keeps. subst (λ (x : Refusal). Effect w (BringUpStep v) (leaves w (BringUpStep v) s (Err x) no_writes)) (step_refuses (not (in_ranges s)) (eqb s.step 0) r e)
       (refused_still w (BringUpStep v) InvalidParameter refl refl))
       (λ e. stage_effect v (stage_of s.step) (ready (stage_of s.step) v)
       (eqb-false s.step 0 (let_pass (eqb s.step 0) InvalidParameter passed

@@ -1,4 +1,5 @@
 -- Submit, writeback, cancel, collect.
+use Rattle.std.specs.Prelude.{Err}
 use Prim.Native.Nat.{ℕ, ◌+◌, ◌<◌}
 use mathlib.Core.Bool.{Bool, true, false, not, cond, ◌&&◌}
 use mathlib.Core.List.{List, [], ◌∷◌}
@@ -31,7 +32,6 @@ use Rattle.collection.specs.Calls.{Gathered, finish_of, marked, pending_left}
 use Rattle.collection.specs.Unlinks.{Left, waiting_of, is_missing}
 use Rattle.collection.proofs.Splits.{cancel_split, collect_split, unlink_split}
 use Rattle.ehci.specs.declared.call.Call.TheVariants.{Cancel, Collect, Submit, Writeback}
-use Rattle.ehci.specs.declared.reply.Answered.TheVariants.{Refused}
 use Rattle.ehci.specs.Decides.{cancel_came, cancel_decided, collect_came, collect_decided, submit_came, submit_decided, with_setups, writeback_decided, written_reply}
 use Rattle.ehci.specs.Door.{carried_out}
 use Rattle.ehci.specs.Replies.{collected_answer, replied}
@@ -129,7 +129,7 @@ module _ (w : World) where
     abbrev Cancels : Left → Type 0
     Cancels l = Effect w (Cancel k id rd) (carried_out (with_setups (cancel_came l) us) w.rows.pool)
 
-    cancel_refused : (x : Refusal) → Effect w (Cancel k id rd) (leaves w (Cancel k id rd) s (Refused x) no_writes)
+    cancel_refused : (x : Refusal) → Effect w (Cancel k id rd) (leaves w (Cancel k id rd) s (Err x) no_writes)
     cancel_refused x = refused_still w (Cancel k id rd) x (none_leaves s.settings k rd.frame _ _ refl refl) refl
 
     -- where the head is found
@@ -179,7 +179,7 @@ module _ (w : World) where
     abbrev Collecting : Gathered → Type 0
     Collecting g = Effect w (Collect k id rd) (carried_out (with_setups (collect_came g) us) w.rows.pool)
 
-    collect_refused : (x : Refusal) → Effect w (Collect k id rd) (leaves w (Collect k id rd) s (Refused x) no_writes)
+    collect_refused : (x : Refusal) → Effect w (Collect k id rd) (leaves w (Collect k id rd) s (Err x) no_writes)
     collect_refused x =
         refused_still w (Collect k id rd) x (rw (uncollected x) (none_leaves s.settings k rd.frame _ _ refl refl)) refl
 

@@ -1,4 +1,5 @@
 -- What a call can do to a world: fifteen kinds, whatever the call. Every invariant goes by these and not by the calls.
+use Rattle.std.specs.Prelude.{Ok}
 use Prim.Native.Nat.{ℕ, ◌+◌, ◌<◌}
 use mathlib.Core.Bool.{true, false, Bool, cond}
 use mathlib.Core.List.{List}
@@ -276,7 +277,7 @@ module _ (w : World) (c : Call) (a : Applied) where
     pub nothing : event old.settings (turn_of w.rows c a) ≡ Other
     -- only this call writes a token
     pub call_is : c ≡ Writeback place token
-    pub accepted : a.reply.answer ≡ Done Nothing
+    pub accepted : a.reply.answer ≡ Ok (Done Nothing)
     pub same : change (turn_of w.rows c a) ≡ Same
 
   -- a cancel of a request that is unlinking

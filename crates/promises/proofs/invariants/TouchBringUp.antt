@@ -1,4 +1,5 @@
 -- Bring-up's start and its steps; and every call.
+use Rattle.std.specs.Prelude.{Err, Ok, Some}
 use Prim.Native.Nat.{ℕ, ◌+◌, ◌≤◌}
 use mathlib.Core.Bool.{Bool, true, false, not, cond, true≢false, false≢true}
 use mathlib.Core.List.{[], ◌∷◌}
@@ -21,12 +22,9 @@ use Rattle.common.proofs.CheckLaws.{let_pass, settled_by}
 use Rattle.schedule.specs.Bell.{command_word}
 use Rattle.bring_up.specs.BringUp.{again_of, any_uncollected, moved_on, onward_of, ready, register_of, set_up, stage_of, stage_writes, start_of, step_of}
 use Rattle.bring_up.specs.Plain.{BroughtUp}
-use Rattle.common.specs.declared.answer.Answer.TheVariants as A
-use Rattle.common.specs.declared.reads.NextRead.TheVariants as N
 use Rattle.bring_up.specs.declared.stage.Stage.{Stage}
 use Rattle.ehci.specs.declared.call.Call.{Call}
 use Rattle.ehci.specs.declared.call.Call.TheVariants.{StartBringUp, BringUpStep, AllocateAddress, OpenEndpoint, Close, SetAddress, SetPacketSize, Submit, Writeback, Cancel, Collect, Acknowledge, Drain, Rearm, Enable, Disable, ClearHalt}
-use Rattle.ehci.specs.declared.reply.Answered.TheVariants.{Refused}
 use Rattle.ehci.specs.Replies.{brought_reply, replied}
 use Rattle.promises.specs.Runs.{World, core}
 use Rattle.promises.specs.Registers as R
@@ -113,7 +111,7 @@ module _ (w : World) where
   start_touches =
       through Touches w StartBringUp (refused_touches w StartBringUp InvalidParameter refl refl)
       (settled_by (first ((not (in_ranges s), InvalidParameter) ∷ (any_uncollected 0 32 s, QueueFull) ∷ [])) _
-      (record { answer = A.Done; state = with_bring_up s 0 1 0 0; writes = and_then no_writes 8 0; read = N.Register 0; wait = 0 })
+      (record { answer = Ok tt; state = with_bring_up s 0 1 0 0; writes = and_then no_writes 8 0; read = Some 0; wait = 0 })
       (λ (b : BroughtUp). Touches w StartBringUp (carried w (brought_reply b)))
       (λ r e. refused_touches w StartBringUp r (rw (undone r)) (rw (undone r)))
       (λ e. record { pending = refl; masked = refl; enabled = λ b q. refl; step = refl; wrote = refl }))
@@ -144,7 +142,7 @@ module _ (w : World) where
     step_touches ranges =
         through Touches w (BringUpStep v) (refused_touches w (BringUpStep v) InvalidParameter refl refl)
         (settled_by (first ((not (in_ranges s), InvalidParameter) ∷ (eqb s.step 0, InvalidParameter) ∷ [])) _ _ Stepped
-        (λ r e. subst (λ (x : Refusal). Touches w (BringUpStep v) (leaves w (BringUpStep v) s (Refused x) no_writes)) (step_refuses (not (in_ranges s)) (eqb s.step 0) r e)
+        (λ r e. subst (λ (x : Refusal). Touches w (BringUpStep v) (leaves w (BringUpStep v) s (Err x) no_writes)) (step_refuses (not (in_ranges s)) (eqb s.step 0) r e)
         (refused_touches w (BringUpStep v) InvalidParameter refl refl))
         (λ e.
         let begun = eqb-false s.step 0 (let_pass (eqb s.step 0) InvalidParameter passed

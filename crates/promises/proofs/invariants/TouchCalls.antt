@@ -1,4 +1,5 @@
 -- The calls that touch no interrupt register: endpoints, addresses, requests.
+use Rattle.std.specs.Prelude.{Err}
 use Prim.Native.Nat.{ℕ}
 use mathlib.Core.Bool.{true, not}
 use mathlib.Core.List.{List, [], ◌∷◌}
@@ -35,7 +36,6 @@ use Rattle.collection.proofs.Splits.{cancel_split, collect_split, unlink_split}
 use Rattle.ehci.specs.declared.call.Call.{Call}
 use Rattle.ehci.specs.declared.call.Call.TheVariants.{AllocateAddress, OpenEndpoint, Close, SetAddress, SetPacketSize, Submit, Writeback, Cancel, Collect, ClearHalt}
 use Rattle.ehci.specs.declared.call.EndpointFields.{EndpointFields}
-use Rattle.ehci.specs.declared.reply.Answered.TheVariants.{Refused}
 use Rattle.ehci.specs.Decides.{address_decided, allot_decided, allot_reply, cancel_came, cancel_decided, change_came, clear_decided, close_decided, collect_came, collect_decided, open_came, open_decided, packet_decided, submit_came, submit_decided, with_frames, with_setups, writeback_decided, written_reply}
 use Rattle.ehci.specs.Door.{carried_out}
 use Rattle.ehci.specs.Replies.{changed_reply, replied}
@@ -65,9 +65,9 @@ module _ (w : World) where
 
   -- ---- endpoints and requests
 
-  none_refused : (c : Call) → access_of c ≡ None → (r : Refusal) → Touches w c (leaves w c s (Refused r) no_writes)
+  none_refused : (c : Call) → access_of c ≡ None → (r : Refusal) → Touches w c (leaves w c s (Err r) no_writes)
   unfolding no_writes
-  none_refused c e r = level_touches w c _ (subst Plain (sym e) plain_none) (level s) (sym (ap (writes_by w (leaves w c s (Refused r) no_writes)) e))
+  none_refused c e r = level_touches w c _ (subst Plain (sym e) plain_none) (level s) (sym (ap (writes_by w (leaves w c s (Err r) no_writes)) e))
 
   pub open_touches : (x : EndpointFields) → Touches w (OpenEndpoint x) (core w (OpenEndpoint x))
   unfolding open_decided replied no_writes with_endpoint with_slot
@@ -143,7 +143,7 @@ module _ (w : World) where
     abbrev Cancels : Left → Type 0
     Cancels l = Touches w (Cancel k id rd) (carried_out (with_setups (cancel_came l) us) w.rows.pool)
 
-    cancel_refused : (x : Refusal) → Touches w (Cancel k id rd) (leaves w (Cancel k id rd) s (Refused x) no_writes)
+    cancel_refused : (x : Refusal) → Touches w (Cancel k id rd) (leaves w (Cancel k id rd) s (Err x) no_writes)
     unfolding no_writes
     cancel_refused x = level_touches w (Cancel k id rd) _ (plain_leaves rd.command) (level s) refl
 
@@ -165,7 +165,7 @@ module _ (w : World) where
     abbrev Collecting : Gathered → Type 0
     Collecting g = Touches w (Collect k id rd) (carried_out (with_setups (collect_came g) us) w.rows.pool)
 
-    collect_refused : (x : Refusal) → Touches w (Collect k id rd) (leaves w (Collect k id rd) s (Refused x) no_writes)
+    collect_refused : (x : Refusal) → Touches w (Collect k id rd) (leaves w (Collect k id rd) s (Err x) no_writes)
     unfolding no_writes
     collect_refused x = level_touches w (Collect k id rd) _ (plain_leaves rd.command) (level s) refl
 

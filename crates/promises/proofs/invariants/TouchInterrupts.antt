@@ -1,4 +1,5 @@
 -- Acknowledge, drain, rearm, enable, disable.
+use Rattle.std.specs.Prelude.{Ok}
 use Prim.Native.Nat.{ℕ, ◌-◌}
 use mathlib.Core.Bool.{Bool, true, false, not, cond}
 use mathlib.Core.List.{[], ◌∷◌}
@@ -11,7 +12,6 @@ use Rattle.register.specs.Writes.{and_then, list_of, no_writes}
 use Rattle.state.specs.Ranges.{in_ranges}
 use Rattle.state.specs.State.{with_bell, with_boundaries, with_interrupt}
 use Rattle.state.specs.Plain.{Ehci}
-use Rattle.common.specs.declared.answer.Answer.TheVariants as A
 use Rattle.common.specs.Answers.{first}
 use Rattle.common.specs.declared.answer.Refusal.TheVariants.{InvalidParameter}
 use Rattle.common.proofs.CheckLaws.{settled_by}
@@ -162,12 +162,12 @@ module _ (w : World) where
   unfolding enable_of settled_reply replied with_interrupt and_then no_writes
   enable_touches =
       through Touches w Enable (refused_touches w Enable InvalidParameter refl refl)
-      (settles Touches w Enable (not (in_ranges s)) (record { answer = A.Done; state = with_interrupt s 1 s.pending s.masked; writes = and_then no_writes 8 0x27 }) (refused_touches w Enable InvalidParameter refl refl)
+      (settles Touches w Enable (not (in_ranges s)) (record { answer = Ok tt; state = with_interrupt s 1 s.pending s.masked; writes = and_then no_writes 8 0x27 }) (refused_touches w Enable InvalidParameter refl refl)
       (record { pending = refl; masked = refl; enabled = λ b q. refl; step = refl; wrote = refl }))
 
   pub disable_touches : Touches w Disable (core w Disable)
   unfolding disable_of settled_reply replied with_interrupt and_then no_writes
   disable_touches =
       through Touches w Disable (refused_touches w Disable InvalidParameter refl refl)
-      (settles Touches w Disable (not (in_ranges s)) (record { answer = A.Done; state = with_interrupt s 0 s.pending s.masked; writes = and_then no_writes 8 0 }) (refused_touches w Disable InvalidParameter refl refl)
+      (settles Touches w Disable (not (in_ranges s)) (record { answer = Ok tt; state = with_interrupt s 0 s.pending s.masked; writes = and_then no_writes 8 0 }) (refused_touches w Disable InvalidParameter refl refl)
       (record { pending = refl; masked = refl; enabled = λ b q. refl; step = refl; wrote = refl }))

@@ -1,4 +1,5 @@
 -- What a call does to what is pending, masked and enabled and to bring-up's step, and what it writes, by the state that it finds.
+use Rattle.std.specs.Prelude.{Err, Result}
 use Prim.Native.Nat.{ℕ, ◌+◌}
 use mathlib.Core.Bool.{Bool, true, false, ◌&&◌, not, cond}
 use mathlib.Core.List.{List, []}
@@ -18,8 +19,6 @@ use Rattle.schedule.specs.declared.bell.Bell.{Bell}
 use Rattle.schedule.proofs.BellLaws.{ring_set}
 use Rattle.collection.specs.Unlinks.{bounded_of}
 use Rattle.ehci.specs.declared.call.Call.{Call}
-use Rattle.ehci.specs.declared.reply.Answered.{Answered}
-use Rattle.ehci.specs.declared.reply.Answered.TheVariants.{Refused}
 use Rattle.ehci.specs.Door.{Applied}
 use Rattle.promises.specs.Runs.{World}
 use Rattle.promises.specs.Events.{is_done}
@@ -27,6 +26,7 @@ use Rattle.promises.specs.Registers as R
 use Rattle.promises.specs.Registers.{Access, None, Starts, Steps, Submits, Leaves, Acknowledges, Drains, Rearms, Enables, Disables, access_of, acknowledged, flag_after, masked_after, pending_after, plainly, read_after, ring, step_writes, usbintr}
 use Rattle.promises.proofs.effects.EffectDoor.{leaves}
 use Rattle.promises.proofs.effects.RefusalNumbers.{undone}
+use Rattle.ehci.specs.declared.reply.Answered.{Answered}
 
 -- what a call writes, by the state that it finds and by whether it rings
 abbrev pub writes_by : World → Applied → Access → List Write
@@ -65,7 +65,7 @@ pub record Plain (x : Access) : Type 0 where
   pub pending : (p : ℕ) → pending_after x p ≡ p
   pub masked : (q : ℕ) → masked_after x q ≡ q
   pub flag : (b : Bool) → flag_after x b ≡ b
-  pub read : (a : Answered) (n : ℕ) → read_after x a n ≡ n
+  pub read : (a : (Result Answered Refusal)) (n : ℕ) → read_after x a n ≡ n
 
 pub plain_none : Plain None
 plain_none = record { pending = λ p. refl; masked = λ q. refl; flag = λ b. refl; read = λ a n. refl }
@@ -106,8 +106,8 @@ bounded_shape Bulk b rd = rung_shape (must_ring (record { noted = b.noted; doorb
 bounded_shape Interrupt b rd = refl
 
 module _ (w : World) (c : Call) where
-  pub refused_touches : (r : Refusal) → read_after (access_of c) (Refused r) w.state.step ≡ w.state.step
-      → writes_by w (leaves w c w.state (Refused r) no_writes) (access_of c) ≡ [] → Touches w c (leaves w c w.state (Refused r) no_writes)
+  pub refused_touches : (r : Refusal) → read_after (access_of c) (Err r) w.state.step ≡ w.state.step
+      → writes_by w (leaves w c w.state (Err r) no_writes) (access_of c) ≡ [] → Touches w c (leaves w c w.state (Err r) no_writes)
   unfolding no_writes
   refused_touches r read none =
       record {

@@ -1,4 +1,5 @@
 -- What a collect and a cancel answer, by the endpoint that they find.
+use Rattle.std.specs.Prelude.{Result}
 use Prim.Native.Nat.{ℕ}
 use mathlib.Core.Bool.{true, false≢true}
 use mathlib.Core.Path.{◌≡◌, refl, sym, ◌∙◌}
@@ -17,7 +18,6 @@ use Rattle.collection.specs.Calls.{Gathered, collect_of, finish_of, pending_left
 use Rattle.collection.specs.Unlinks.{Left, passed_boundary, unlink_of, waiting_of}
 use Rattle.collection.proofs.Splits.{collect_split, unlink_split}
 use Rattle.ehci.specs.declared.call.Call.TheVariants.{Collect}
-use Rattle.ehci.specs.declared.reply.Answered.{Answered}
 use Rattle.ehci.specs.Decides.{collect_came, collect_decided, decide_of, with_setups}
 use Rattle.ehci.specs.Door.{Applied, apply_of, carried_out}
 use Rattle.ehci.specs.Replies.{collected_answer, replied}
@@ -27,9 +27,11 @@ use Rattle.promises.proofs.effects.EffectDoor.{seen, through}
 use Rattle.promises.proofs.effects.EffectRequests.{outcome_collected}
 use Rattle.promises.proofs.effects.RefusalNumbers.{uncollected}
 use Rattle.promises.proofs.invariants.Sound.{Sound, is_let_in, rows_fit}
+use Rattle.ehci.specs.declared.reply.Answered.{Answered}
+use Rattle.common.specs.declared.answer.Refusal.{Refusal}
 
 -- what a collect that collects found
-pub record Found (w : World) (k id : ℕ) (readings : Readings) (a : Answered) : Type 0 where
+pub record Found (w : World) (k id : ℕ) (readings : Readings) (a : (Result Answered Refusal)) : Type 0 where
   pub p : Pipe
   pub r : Request
   pub u : UnlinkBoundary

@@ -1,5 +1,6 @@
 -- Cancel and collect of this port go by the id: a cancel answers 0 exactly where an uncollected request of the slot has it, and 3 elsewhere;
 -- a collect answers 3 where the slot is not open or its request has another, and 9 where it has none.
+use Rattle.std.specs.Prelude.{Err, Ok, Result}
 use Prim.Native.Nat.{ℕ, ◌<◌}
 use mathlib.Core.Bool.{Bool, true, false, ◌||◌, cond, true≢false, false≢true, ◌&&◌}
 use mathlib.Core.List.{List, [], ◌∷◌}
@@ -19,8 +20,7 @@ use Rattle.pipe.specs.declared.endpoints.Request.{Request}
 use Rattle.controller.specs.Readers.{holds_request}
 use Rattle.controller.specs.declared.lent.Readings.{Readings}
 use Rattle.ehci.specs.declared.call.Call.TheVariants.{Cancel, Collect}
-use Rattle.ehci.specs.declared.reply.Answered.{Answered}
-use Rattle.ehci.specs.declared.reply.Answered.TheVariants.{Done, Pending, Cancelled, Failed, Refused}
+use Rattle.ehci.specs.declared.reply.Answered.TheVariants.{Done, Pending, Cancelled, Failed}
 use Rattle.ehci.specs.Replies.{answered_number}
 use Rattle.promises.specs.Runs.{EveryRun, History, World, core, history_of, moment, world_of}
 use Rattle.promises.specs.Checks.{checks_of, refusal_in}
@@ -39,6 +39,7 @@ use Rattle.promises.proofs.theorems.ChainTheorems.{no_detach}
 use Rattle.promises.proofs.theorems.Order.{in_order}
 use Rattle.promises.proofs.theorems.RoomPromises.{fields_tied, held}
 use Rattle.promises.proofs.effects.RefusalNumbers.{refusal_some, refusal_within}
+use Rattle.ehci.specs.declared.reply.Answered.{Answered}
 
 -- ---- a request of that id
 
@@ -134,12 +135,12 @@ no_result : (r : Refusal) → refusal_in (refusal_number r) ≡ 0 → ⊥
 no_result r e = refusal_some r (rw (lt-leb 9 (refusal_number r) (omega (arith, (refusal_within r).1))) at e)
 
 -- a result that collects nothing is 9
-waits_nine : (a : Answered) → refusal_in (answered_number a) ≡ 0 → is_collected a ≡ false → answered_number a ≡ 9
-waits_nine (Done given) e c = absurd (true≢false c)
-waits_nine Pending e c = refl
-waits_nine Cancelled e c = absurd (true≢false c)
-waits_nine (Failed token) e c = absurd (true≢false c)
-waits_nine (Refused r) e c = absurd (no_result r e)
+waits_nine : (a : (Result Answered Refusal)) → refusal_in (answered_number a) ≡ 0 → is_collected a ≡ false → answered_number a ≡ 9
+waits_nine (Ok (Done given)) e c = absurd (true≢false c)
+waits_nine (Ok Pending) e c = refl
+waits_nine (Ok Cancelled) e c = absurd (true≢false c)
+waits_nine (Ok (Failed token)) e c = absurd (true≢false c)
+waits_nine (Err r) e c = absurd (no_result r e)
 
 abbrev is_idle : Endpoint → Bool
 is_idle Closed = false
@@ -148,7 +149,7 @@ is_idle (Linked p r) = false
 is_idle (Unlinking p r b) = false
 
 module _ (s : Settings) (h : History) (w : World) (sound : Sound s w) (g : Held s h w) (tied : Tied s h (moment core w)) (k id : ℕ) (rd : Readings) (few : (p : Pipe) (r : Request) → endpoint_at w.state k ≡ Linked p r → w.state.unanswered < 32) where
-  abbrev answers : Answered
+  abbrev answers : Result Answered Refusal
   answers = (core w (Collect k id rd)).reply.answer
 
   shut_is : (x : Endpoint) → endpoint_at w.state k ≡ x → is_shut (slot_in k h) ≡ is_shut (kind_in x)

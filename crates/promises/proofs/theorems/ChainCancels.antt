@@ -1,4 +1,5 @@
 -- No detach fails: a linked head is found, and a cancel of its request unlinks it.
+use Rattle.std.specs.Prelude.{Ok}
 use Prim.Native.Nat.{ℕ, ◌<◌}
 use mathlib.Core.Path.{◌≡◌, refl, ap, ◌∙◌}
 use mathlib.Core.Bool.{Bool, true, false, cond}
@@ -61,11 +62,11 @@ module _ (s : Settings) (h : History) (w : World) (sound : Sound s w) (x : Chain
     unfolding apply_of decide_of cancel_decided cancel_of unlink_of
     cancel_comes = rw (rows_fit s w sound, is_let_in s w sound, e, lt-leb 32 w.state.unanswered roomy, eq-eqb r.id r.id refl, no_detach_fails p r e)
 
-    cancel_done : (core w (Cancel k r.id rd)).reply.answer ≡ Done Nothing
+    cancel_done : (core w (Cancel k r.id rd)).reply.answer ≡ Ok (Done Nothing)
     unfolding replied waiting_of
     cancel_done = ap (λ (z : Applied). z.reply.answer) cancel_comes
 
-    pub cancel_unlinks : ((core w (Cancel k r.id rd)).reply.answer ≡ Done Nothing)
+    pub cancel_unlinks : ((core w (Cancel k r.id rd)).reply.answer ≡ Ok (Done Nothing))
         × (event s (turn_of w.rows (Cancel k r.id rd) (core w (Cancel k r.id rd))) ≡ cond (is_interrupt p.kind) (Parts k rd.frame) (Unlinks k))
     unfolding cancel_unlinked
     cancel_unlinks = (
@@ -81,7 +82,7 @@ module _ (s : Settings) (h : History) (w : World) (sound : Sound s w) (x : Chain
     unfolding apply_of decide_of cancel_decided cancel_of
     mark_comes = rw (rows_fit s w sound, is_let_in s w sound, e, eq-eqb r.id r.id refl)
 
-    pub mark_done : (core w (Cancel k r.id rd)).reply.answer ≡ Done Nothing
+    pub mark_done : (core w (Cancel k r.id rd)).reply.answer ≡ Ok (Done Nothing)
     unfolding replied
     mark_done = ap (λ (z : Applied). z.reply.answer) mark_comes
 

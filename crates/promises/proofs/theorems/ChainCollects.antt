@@ -1,4 +1,5 @@
 -- A collect of a linked request answers 9, and unlinks it if it is finished.
+use Rattle.std.specs.Prelude.{Ok}
 use Prim.Native.Nat.{ℕ, suc, ◌+◌, ◌≤◌, ◌<◌}
 use mathlib.Core.Path.{◌≡◌, refl, sym, ap, ◌∙◌}
 use mathlib.Core.Bool.{Bool, true, false, not, cond, ◌&&◌, ◌||◌}
@@ -104,7 +105,7 @@ module _ (s : Settings) (h : History) (w : World) (sound : Sound s w) (x : Chain
   abbrev unlinked : Gathered
   unlinked =
       record {
-        came = record { answer = C.Pending; state = (waiting_of w.state rd k p r).state; writes = (waiting_of w.state rd k p r).writes };
+        came = record { answer = Ok C.Pending; state = (waiting_of w.state rd k p r).state; writes = (waiting_of w.state rd k p r).writes };
         rows = (detach_of w.state w.rows.heads w.rows.frames k).rows;
       }
 
@@ -130,11 +131,11 @@ module _ (s : Settings) (h : History) (w : World) (sound : Sound s w) (x : Chain
       ap (λ (z : Applied). event s (turn_of w.rows call z)) (comes_as unlinked (finished_is n))
       ∙ unlink_event s h w call _ sound x (collect_unlinked w k r.id rd p r e roomy (no_detach_fails s h w sound x k p r e))
 
-  pub collect_waits : (core w call).reply.answer ≡ Pending
+  pub collect_waits : (core w call).reply.answer ≡ (Ok Pending)
   unfolding replied
   collect_waits = by (dec_eq view.stage 2)
     where
-      by : Dec (view.stage ≡ 2) → (core w call).reply.answer ≡ Pending
+      by : Dec (view.stage ≡ 2) → (core w call).reply.answer ≡ (Ok Pending)
       by (yes q) =
           ap (λ (z : Applied). z.reply.answer) (comes_as (gathered (pending_collect w.state) w.rows.heads w.rows.frames) (unfinished_is q))
       by (no n) = ap (λ (z : Applied). z.reply.answer) (comes_as unlinked (finished_is n))

@@ -1,4 +1,5 @@
 -- Every accepted submit leaves descriptors that address the call's own buffer.
+use Rattle.std.specs.Prelude.{Result}
 use Prim.Native.Nat.{ℕ, suc, ◌+◌, ◌≤◌, ◌<◌}
 use mathlib.Core.Path.{◌≡◌, refl, sym, ap, ap₂, subst, ◌∙◌}
 use mathlib.Core.Bool.{true}
@@ -24,7 +25,6 @@ use Rattle.ehci.specs.declared.call.Call.TheVariants.{Submit}
 use Rattle.ehci.specs.Door.{Applied}
 use Rattle.promises.specs.Runs.{History, Machine, Rows, Turn, World, in_plain, moment, rows_of, turn_of}
 use Rattle.promises.specs.Coverage.{Covered, addressed, data_of, records_met}
-use Rattle.ehci.specs.declared.reply.Answered.{Answered}
 use Rattle.ehci.specs.Replies.{answered_number, answered_values}
 use Rattle.promises.specs.Events.{Collects, Drains, Event, Other, Parts, Reads, Submits, Unlinks, event, first_in, leaving, submits_by}
 use Rattle.promises.proofs.theorems.CoverBytes.{all_covered, records_from}
@@ -33,6 +33,8 @@ use Rattle.promises.proofs.invariants.Sound.{Sound}
 use Rattle.promises.proofs.invariants.UseAccepts.{accepted_world, submitted_record, walked}
 use Rattle.pipe.proofs.LimitLaws.{limit_least, limit_most}
 use Rattle.controller.proofs.ReaderLaws.{open_below}
+use Rattle.ehci.specs.declared.reply.Answered.{Answered}
+use Rattle.common.specs.declared.answer.Refusal.{Refusal}
 
 -- ---- of an accepted request
 
@@ -135,7 +137,7 @@ module _ (w : World) (c : Call) (a : Applied) (k id : ℕ) (t : TransferRequest)
   accepted_by P f (collects x) = absurd (not_so (Collects x.k x.r.id x.frame) x.collects refl)
 
 -- 0 accepts
-pub zero_accepts : (k : ℕ) (t : TransferRequest) (a : Answered) → answered_number a ≡ 0 → (id : ℕ) × (submits_by k t a ≡ Submits k id t)
+pub zero_accepts : (k : ℕ) (t : TransferRequest) (a : (Result Answered Refusal)) → answered_number a ≡ 0 → (id : ℕ) × (submits_by k t a ≡ Submits k id t)
 zero_accepts k t a e = (first_in (answered_values a), rw (eq-eqb (answered_number a) 0 e))
 
 pub covered_holds : (m : Machine in_plain) → ((w : World) (c : Call) → Effect w c (m w c)) → (s : Settings) (h : History) (w : World) → Sound s w → Covered s h (moment m w)

@@ -1,4 +1,5 @@
 -- Every call asks what 01 lists, in 01's order.
+use Rattle.std.specs.Prelude.{Err, Ok, Result}
 use Prim.Native.Nat.{ℕ, ◌+◌}
 use mathlib.Core.Bool.{Bool, true, false, not, ◌&&◌, cond}
 use mathlib.Core.List.{List, [], ◌∷◌, ◌++◌}
@@ -42,8 +43,7 @@ use Rattle.ehci.specs.declared.call.Call.{Call}
 use Rattle.ehci.specs.declared.call.Call.TheVariants.{StartBringUp, BringUpStep, AllocateAddress, OpenEndpoint, Close, SetAddress, SetPacketSize, Submit, Writeback, Cancel, Collect, Acknowledge, Drain, Rearm, Enable, Disable, ClearHalt}
 use Rattle.ehci.specs.declared.call.EndpointFields.{EndpointFields}
 use Rattle.ehci.specs.declared.call.InterruptReadings.{InterruptReadings}
-use Rattle.ehci.specs.declared.reply.Answered.{Answered}
-use Rattle.ehci.specs.declared.reply.Answered.TheVariants.{Done, Pending, Cancelled, Failed, Refused}
+use Rattle.ehci.specs.declared.reply.Answered.TheVariants.{Done, Pending, Cancelled, Failed}
 use Rattle.ehci.specs.Decides.{acknowledge_decided, acknowledge_reply, address_decided, allot_decided, allot_reply, call_of, cancel_came, cancel_decided, change_came, clear_decided, close_decided, collect_came, collect_decided, decide_of, drain_decided, drain_reply, open_came, open_decided, packet_decided, submit_came, submit_decided, writeback_decided, written_reply}
 use Rattle.ehci.specs.Door.{apply_of}
 use Rattle.ehci.specs.Replies.{answered_number, brought_reply, changed_reply, collected_answer, refused_reply, replied, settled_reply, simply}
@@ -51,28 +51,29 @@ use Rattle.promises.specs.Runs.{Everywhere, World, core, moment}
 use Rattle.promises.specs.Opened.{verdict_number}
 use Rattle.promises.specs.Checks.{InOrder, checks_of, finished, further_checks, late, lost, lost_at, refusal_in}
 use Rattle.promises.proofs.effects.EffectDoor.{seen}
+use Rattle.ehci.specs.declared.reply.Answered.{Answered}
 
 -- what an answer says of the checks, and that its number says it
-abbrev verdict_in : Answered → Verdict
-verdict_in (Done given) = passed
-verdict_in Pending = passed
-verdict_in Cancelled = passed
-verdict_in (Failed token) = passed
-verdict_in (Refused r) = refused r
+abbrev verdict_in : Result Answered Refusal → Verdict
+verdict_in (Ok (Done given)) = passed
+verdict_in (Ok Pending) = passed
+verdict_in (Ok Cancelled) = passed
+verdict_in (Ok (Failed token)) = passed
+verdict_in (Err r) = refused r
 
-number_says : (a : Answered) → refusal_in (answered_number a) ≡ verdict_number (verdict_in a)
-number_says (Done given) = refl
-number_says Pending = refl
-number_says Cancelled = refl
-number_says (Failed token) = refl
-number_says (Refused InvalidParameter) = refl
-number_says (Refused SlotLimitReached) = refl
-number_says (Refused InvalidEndpoint) = refl
-number_says (Refused QueueFull) = refl
-number_says (Refused NotSupported) = refl
-number_says (Refused NoMemory) = refl
-number_says (Refused Timeout) = refl
-number_says (Refused NotReady) = refl
+number_says : (a : (Result Answered Refusal)) → refusal_in (answered_number a) ≡ verdict_number (verdict_in a)
+number_says (Ok (Done given)) = refl
+number_says (Ok Pending) = refl
+number_says (Ok Cancelled) = refl
+number_says (Ok (Failed token)) = refl
+number_says (Err InvalidParameter) = refl
+number_says (Err SlotLimitReached) = refl
+number_says (Err InvalidEndpoint) = refl
+number_says (Err QueueFull) = refl
+number_says (Err NotSupported) = refl
+number_says (Err NoMemory) = refl
+number_says (Err Timeout) = refl
+number_says (Err NotReady) = refl
 
 -- checks, then settle: the answer is the first that holds, and none where what is new says none
 settle_says : {A : Type 0} (says : A → Verdict) (v : Verdict) (old : Refusal → A) (new : A) → ((r : Refusal) → says (old r) ≡ refused r) → says new ≡ passed

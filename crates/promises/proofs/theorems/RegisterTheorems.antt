@@ -1,4 +1,5 @@
 -- Every register write of this port, from the history; what is pending, masked and enabled; and which turns ring.
+use Rattle.std.specs.Prelude.{Result}
 use Prim.Native.Nat.{ℕ, zero, suc, ◌+◌, ◌-◌}
 use mathlib.Core.Bool.{Bool, true, false, ◌&&◌, not, cond, true≢false}
 use mathlib.Core.List.{List, [], ◌∷◌}
@@ -20,7 +21,6 @@ use Rattle.interrupt.specs.Interrupts.{acknowledge_of, counted_of, disable_of, d
 use Rattle.ehci.specs.declared.call.Call.{Call}
 use Rattle.ehci.specs.declared.call.Call.TheVariants.{Acknowledge, Drain, Rearm, Enable, Disable}
 use Rattle.ehci.specs.declared.call.InterruptReadings.{InterruptReadings}
-use Rattle.ehci.specs.declared.reply.Answered.{Answered}
 use Rattle.ehci.specs.Decides.{acknowledge_decided, acknowledge_reply, call_of, decide_of, drain_decided, drain_reply}
 use Rattle.ehci.specs.Door.{apply_of}
 use Rattle.ehci.specs.Replies.{answered_number, answered_values, replied, settled_reply}
@@ -41,6 +41,8 @@ use Rattle.promises.proofs.invariants.TouchBringUp.{touches}
 use Rattle.promises.proofs.any_machine.RegisterLaws.{none_rings, ring_once, status_written}
 use Rattle.promises.proofs.theorems.BoundaryCore.{bells_reached, named, up_exactly}
 use Rattle.promises.proofs.theorems.RangeTheorems.{runs}
+use Rattle.ehci.specs.declared.reply.Answered.{Answered}
+use Rattle.common.specs.declared.answer.Refusal.{Refusal}
 
 -- ---- what the state has is what the history says
 
@@ -177,7 +179,7 @@ quiet_bring_up s w o cs begun =
 
 module _ (s : Settings) (w : World) (sound : Sound s w) where
   -- no call is refused at the door, nor for the ranges
-  inside : (c : Call) (P : Answered → Type 0)
+  inside : (c : Call) (P : Result Answered Refusal → Type 0)
       → P (call_of w.state (length w.rows.pool) w.rows.heads w.rows.frames w.rows.setups (seen w c) c).decided.reply.answer
       → P (core w c).reply.answer
   unfolding apply_of decide_of
@@ -186,7 +188,7 @@ module _ (s : Settings) (w : World) (sound : Sound s w) where
   good : in_ranges w.state ≡ true
   good = ranges_make w.state sound.ranges
 
-  abbrev Says : List ℕ → Answered → Type 0
+  abbrev Says : List ℕ → Result Answered Refusal → Type 0
   Says vs a = (answered_number a ≡ 0) × (answered_values a ≡ vs)
 
   acknowledge_says : (x : InterruptReadings) → Says (flag_number (not (eqb (acknowledged x) 0)) ∷ []) (core w (Acknowledge x)).reply.answer

@@ -1,4 +1,5 @@
 -- One call over words does what it does over the plain state: the door lets in and refuses the same.
+use Rattle.std.specs.Prelude.{Err, Ok, Result}
 use Prim.Native.Nat.{ℕ, zero, suc, ◌^◌, ◌<◌}
 use mathlib.Core.Bool.{Bool, true, false, not}
 use mathlib.Core.List.{List, [], ◌∷◌}
@@ -19,8 +20,7 @@ use Rattle.word_ranges.proofs.JudgeLaws.{accepted, judged}
 use Rattle.opening.specs.Opening.{rows_are_fit}
 use Rattle.controller.specs.Lent.{accepts_of, lengths}
 use Rattle.ehci.specs.declared.call.Call.{Call}
-use Rattle.ehci.specs.declared.reply.Answered.{Answered}
-use Rattle.ehci.specs.declared.reply.Answered.TheVariants.{Done, Pending, Cancelled, Failed, Refused}
+use Rattle.ehci.specs.declared.reply.Answered.TheVariants.{Done, Pending, Cancelled, Failed}
 use Rattle.ehci.specs.Refusals.{refused_world}
 use Rattle.ehci.specs.Replies.{answered_number, refused_reply, replied}
 use Rattle.ehci.specs.WordsDoor.{accepts_words, apply_words}
@@ -30,23 +30,25 @@ use Rattle.promises.specs.Opened.{verdict_number}
 use Rattle.promises.specs.Runs.{Machine, Moment, Rows, World, WorldIn, core, moment, viewed, world_of}
 use Rattle.promises.specs.WordsRuns.{Does, Faithful, Typed, in_words, let_in}
 use Rattle.promises.proofs.theorems.Order.{in_order}
+use Rattle.ehci.specs.declared.reply.Answered.{Answered}
+use Rattle.common.specs.declared.answer.Refusal.{Refusal}
 
 -- ---- the plain form's door
 
 -- it refuses first
-is_invalid : (x : Answered) → refusal_in (answered_number x) ≡ 1 → x ≡ Refused InvalidParameter
-is_invalid (Done given) e = absurd (omega (arith, e))
-is_invalid Pending e = absurd (omega (arith, e))
-is_invalid Cancelled e = absurd (omega (arith, e))
-is_invalid (Failed token) e = absurd (omega (arith, e))
-is_invalid (Refused InvalidParameter) e = refl
-is_invalid (Refused SlotLimitReached) e = absurd (omega (arith, e))
-is_invalid (Refused InvalidEndpoint) e = absurd (omega (arith, e))
-is_invalid (Refused QueueFull) e = absurd (omega (arith, e))
-is_invalid (Refused NotSupported) e = absurd (omega (arith, e))
-is_invalid (Refused NoMemory) e = absurd (omega (arith, e))
-is_invalid (Refused Timeout) e = absurd (omega (arith, e))
-is_invalid (Refused NotReady) e = absurd (omega (arith, e))
+is_invalid : (x : (Result Answered Refusal)) → refusal_in (answered_number x) ≡ 1 → x ≡ Err InvalidParameter
+is_invalid (Ok (Done given)) e = absurd (omega (arith, e))
+is_invalid (Ok Pending) e = absurd (omega (arith, e))
+is_invalid (Ok Cancelled) e = absurd (omega (arith, e))
+is_invalid (Ok (Failed token)) e = absurd (omega (arith, e))
+is_invalid (Err InvalidParameter) e = refl
+is_invalid (Err SlotLimitReached) e = absurd (omega (arith, e))
+is_invalid (Err InvalidEndpoint) e = absurd (omega (arith, e))
+is_invalid (Err QueueFull) e = absurd (omega (arith, e))
+is_invalid (Err NotSupported) e = absurd (omega (arith, e))
+is_invalid (Err NoMemory) e = absurd (omega (arith, e))
+is_invalid (Err Timeout) e = absurd (omega (arith, e))
+is_invalid (Err NotReady) e = absurd (omega (arith, e))
 
 unfit_refused : (w : World) (c : Call) → (moment core w).fits ≡ false
     → core w c ≡ refused_world w.state w.rows.pool w.rows.heads w.rows.frames w.rows.setups InvalidParameter

@@ -1,5 +1,6 @@
 -- Machines over words that do not do what the contract says: one place in two slots, places of a slot that has no request. And words that are
 -- refused though the state that they stand for is in its ranges.
+use Rattle.std.specs.Prelude.{Ok}
 use Prim.Native.Nat.{ℕ, suc, ◌<◌}
 use mathlib.Core.Bool.{Bool, true, false}
 use mathlib.Core.List.{List, []}
@@ -49,7 +50,7 @@ module _ (m : Machine in_words) (does : Does m) (w : WorldIn in_words) (c : Call
 abbrev careless : Machine in_words
 careless w c =
     record {
-      reply = record { rest = w.state.core.rest; answer = Pending; writes = no_writes };
+      reply = record { rest = w.state.core.rest; answer = Ok Pending; writes = no_writes };
       slots = set w.state.slots 2 1;
       pool = w.rows.pool;
       heads = w.rows.heads;
