@@ -3,3 +3,4 @@ pub mod TestLaws
 pub mod KindLaws
 pub mod RowsCases
 pub mod RowLaws
+pub mod ResultLaws

@@ -6,6 +6,7 @@ ghost use Rattle.controller.specs.Address.{allot_of};
 ghost use Rattle.controller.specs.Words.{allotted_view};
 
 use common::answer::Refusal;
+use crate::left::Left;
 use words::cores::Core;
 
 pub fn allocate_address(core: Core) -> Left<u8>

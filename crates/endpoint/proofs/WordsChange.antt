@@ -132,9 +132,11 @@ module _ (s : Settings) (r : Rest) (ws : List ℕ) (good : Good s r ws) (h : Lis
   -- ---- close
 
   module _ (ea : a ≡ verdict_words (state_of s r ws) k true) where
-    pub closing_refused : (q : Refusal) → a ≡ Err q → (pool f u : ℕ) → rows_are_fit s pool (length h) f u ≡ true
-        → change_left (record { answer = Err q; state = state_of s r ws }) h ≡ close_of (state_of s r ws) pool h f u k
-    closing_refused q e pool f u t = close_refused (state_of s r ws) pool h f u k a q (verdict_lent true ea pool f u t) e
+    pub closing_refused : (q : Refusal) → a ≡ Err q → (b : Result ⊤ Refusal) → b ≡ Err q → (pool f u : ℕ) → rows_are_fit s pool (length h) f u ≡ true
+        → change_left (record { answer = b; state = state_of s r ws }) h ≡ close_of (state_of s r ws) pool h f u k
+    closing_refused q e b eb pool f u t =
+        ap (λ (z : Result ⊤ Refusal). change_left (record { answer = z; state = state_of s r ws }) h) eb
+        ∙ close_refused (state_of s r ws) pool h f u k a q (verdict_lent true ea pool f u t) e
 
     module _ (e : a ≡ (Ok tt)) (ws' : List ℕ) (ew : ws' ≡ put_slot ws k (encoded Closed)) where
       pub closing_done : (h' : List ℕ) → h' ≡ with_head h k (replicate 17 0) → (pool f u : ℕ) → rows_are_fit s pool (length h) f u ≡ true
@@ -153,10 +155,11 @@ module _ (s : Settings) (r : Rest) (ws : List ℕ) (good : Good s r ws) (h : Lis
   -- ---- set address
 
   module _ (x : ℕ) (ea : a ≡ verdict_words (state_of s r ws) k (leb x 127)) where
-    pub addressing_refused : (q : Refusal) → a ≡ Err q → (pool f u : ℕ) → rows_are_fit s pool (length h) f u ≡ true
-        → change_left (record { answer = Err q; state = state_of s r ws }) h ≡ set_address_of (state_of s r ws) pool h f u k x
-    addressing_refused q e pool f u t =
-        address_refused (state_of s r ws) pool h f u k a x q (verdict_lent (leb x 127) ea pool f u t) e
+    pub addressing_refused : (q : Refusal) → a ≡ Err q → (b : Result ⊤ Refusal) → b ≡ Err q → (pool f u : ℕ) → rows_are_fit s pool (length h) f u ≡ true
+        → change_left (record { answer = b; state = state_of s r ws }) h ≡ set_address_of (state_of s r ws) pool h f u k x
+    addressing_refused q e b eb pool f u t =
+        ap (λ (z : Result ⊤ Refusal). change_left (record { answer = z; state = state_of s r ws }) h) eb
+        ∙ address_refused (state_of s r ws) pool h f u k a x q (verdict_lent (leb x 127) ea pool f u t) e
 
     pub addressing_done : a ≡ (Ok tt) → (w : ℕ) → w ≡ with_address (head_word h (k + 1) 1) x → (pool f u : ℕ)
         → rows_are_fit s pool (length h) f u ≡ true
@@ -177,10 +180,11 @@ module _ (s : Settings) (r : Rest) (ws : List ℕ) (good : Good s r ws) (h : Lis
     asked : a ≡ verdict_words (state_of s r ws) k (raised_good (state_of s r ws) k x)
     asked = ea ∙ ap (λ (b : Bool). verdict_words (state_of s r ws) k b) judged
 
-    pub sizing_refused : (q : Refusal) → a ≡ Err q → (pool f u : ℕ) → rows_are_fit s pool (length h) f u ≡ true
-        → change_left (record { answer = Err q; state = state_of s r ws }) h ≡ set_packet_size_of (state_of s r ws) pool h f u k x
-    sizing_refused q e pool f u t =
-        size_refused (state_of s r ws) pool h f u k a x q (verdict_lent (raised_good (state_of s r ws) k x) asked pool f u t) e
+    pub sizing_refused : (q : Refusal) → a ≡ Err q → (b : Result ⊤ Refusal) → b ≡ Err q → (pool f u : ℕ) → rows_are_fit s pool (length h) f u ≡ true
+        → change_left (record { answer = b; state = state_of s r ws }) h ≡ set_packet_size_of (state_of s r ws) pool h f u k x
+    sizing_refused q e b eb pool f u t =
+        ap (λ (z : Result ⊤ Refusal). change_left (record { answer = z; state = state_of s r ws }) h) eb
+        ∙ size_refused (state_of s r ws) pool h f u k a x q (verdict_lent (raised_good (state_of s r ws) k x) asked pool f u t) e
 
     module _ (e : a ≡ (Ok tt)) (small : x < 256) (below : last_at ws k < 2 ^ 64) where
       fits : SlotFits (encoded (Idle p))

@@ -64,9 +64,12 @@ module _ (s : Settings) (r : Rest) (ws : List ℕ) (good : Good s r ws) (k : ℕ
   asked : verdict_of a ≡ first (clear_checks st k)
   asked = ap verdict_of ea ∙ verdict_clear st k good.ranges
 
-  pub clearing_refused : (q : Refusal) → a ≡ Err q → ◌≡◌ {A = Change} (record { answer = Err q; state = st }) (clear_halt_of st k)
+  clear_refused : (q : Refusal) → a ≡ Err q → ◌≡◌ {A = Change} (record { answer = Err q; state = st }) (clear_halt_of st k)
   unfolding clear_halt_of
-  clearing_refused q e = rw (sym asked ∙ ap verdict_of e)
+  clear_refused q e = rw (sym asked ∙ ap verdict_of e)
+
+  pub clearing_refused : (q : Refusal) → a ≡ Err q → (b : Result ⊤ Refusal) → b ≡ Err q → ◌≡◌ {A = Change} (record { answer = b; state = st }) (clear_halt_of st k)
+  clearing_refused q e b eb = subst (λ (z : Result ⊤ Refusal). ◌≡◌ {A = Change} (record { answer = z; state = st }) (clear_halt_of st k)) (sym eb) (clear_refused q e)
 
   -- the heads are not lent: any that fit
   abbrev heads : List ℕ

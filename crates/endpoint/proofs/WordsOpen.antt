@@ -46,9 +46,11 @@ module _ (s : Settings) (r : Rest) (ws : List ℕ) (good : Good s r ws) (h : Lis
   chosen_fixed : o ≡ chosen_of (state_of s r ws) (lengths (pool_length s) (length h) 1024 (8 * s.endpoints)) kind g
   chosen_fixed = chosen_lent (pool_length s) 1024 (8 * s.endpoints) (rows_fixed s (length h) fit)
 
-  pub opened_refused : (q : Refusal) → o ≡ Err q → (pool f u : ℕ) → rows_are_fit s pool (length h) f u ≡ true
-      → open_left (record { answer = Err q; state = state_of s r ws }) h ≡ open_endpoint_of (state_of s r ws) pool h f u kind a n p
-  opened_refused q e pool f u t = open_refused (state_of s r ws) pool h f u kind a n p g asked o (chosen_lent pool f u t) q e
+  pub opened_refused : (q : Refusal) → o ≡ Err q → (b : Result ℕ Refusal) → b ≡ Err q → (pool f u : ℕ) → rows_are_fit s pool (length h) f u ≡ true
+      → open_left (record { answer = b; state = state_of s r ws }) h ≡ open_endpoint_of (state_of s r ws) pool h f u kind a n p
+  opened_refused q e b eb pool f u t =
+      ap (λ (z : Result ℕ Refusal). open_left (record { answer = z; state = state_of s r ws }) h) eb
+      ∙ open_refused (state_of s r ws) pool h f u kind a n p g asked o (chosen_lent pool f u t) q e
 
   module _ (k : ℕ) (e : o ≡ Ok k) where
     pub opened_room : (k < 32) × (k + 1 ≤ 32) × (17 * (k + 1) + 17 ≤ length h)

@@ -4,14 +4,14 @@ use Rattle.common.specs.Answers.{first, settle}
 use Rattle.common.specs.Kinds.{is_isochronous}
 use Rattle.common.specs.declared.answer.Refusal.TheVariants.{InvalidParameter, SlotLimitReached, InvalidEndpoint, QueueFull, NotSupported}
 use Rattle.common.specs.declared.kinds.EndpointType.{EndpointType}
-use Rattle.settings.specs.declared.settings.Settings.{Settings}
 use Rattle.state.specs.Plain.{Ehci}
 use Rattle.controller.specs.Readers.{is_opened, is_uncollected}
 use Rattle.words.specs.View.{state_of}
+use Rattle.controller.specs.declared.left.Left.{Left as LeftWords}
+use Rattle.settings.specs.declared.settings.Settings.{Settings}
 use Rattle.endpoint.specs.Calls.{lowest_slot}
 use Rattle.endpoint.specs.Plain.{Change}
 use Rattle.endpoint.specs.Plain.{EndpointOpening}
-use Rattle.controller.specs.declared.left.Left.{Left as LeftWords}
 use Rattle.common.specs.declared.answer.Refusal.{Refusal}
 
 abbrev pub opened_view : Settings → LeftWords ℕ → List ℕ → EndpointOpening

@@ -4,6 +4,7 @@ ghost use Rattle.std.specs.Prelude.{◌≡◌, ℕ, ◌+◌, ◌*◌, max, true,
 ghost use Rattle.opening.specs.Opening.{rows_are_fit};
 ghost use Rattle.words.specs.Good.{Good, Tidy};
 ghost use Rattle.words.specs.View.{view};
+ghost use Rattle.controller.specs.Words.{leaving};
 ghost use Rattle.endpoint.specs.Calls.{change_left, clear_halt_of, close_of, open_endpoint_of, open_left, set_address_of, set_packet_size_of, fields_good, with_size};
 ghost use Rattle.pipe.specs.Endpoints.{kind_number};
 ghost use Rattle.slot.specs.Ranges.{size_good};
@@ -61,36 +62,25 @@ pub fn open_endpoint(
     address: u8,
     number: u8,
     packet: u16,
-) -> Left<u8>
+) -> Result<u8, Refusal>
     requires good { Good core.settings core.rest slots.old }
     requires heads_len { length heads.old ≡ 17 * (core.settings.endpoints + 1) }
     ensures by_index { (pool frames setups : ℕ) → rows_are_fit core.settings pool (length heads.old) frames setups ≡ true
-        → open_left (opened_view core.settings result slots.new) heads.new
+        → open_left (opened_view core.settings (leaving core result) slots.new) heads.new
         ≡ open_endpoint_of (view core slots.old) pool heads.old frames setups kind address number packet }
-    ensures tidy { Tidy core.settings result.rest slots.new }
+    ensures tidy { Tidy core.settings core.rest slots.new }
 {
-    let rest = core.rest;
     let good = fields_good(core.settings.limit, kind, address, number, packet);
-    match choose(core, slots, kind, good) {
-        Ok(slot) => {
-            write_head(heads, slot, kind, address, number, packet);
-            let pipe = Pipe {
-                kind,
-                size: packet,
-                toggle: false,
-                next: 1,
-            };
-            put_endpoint(slots, slot, Endpoint::Idle(pipe));
-            Left {
-                answer: Ok(slot),
-                rest,
-            }
-        }
-        Err(refusal) => Left {
-            answer: Err(refusal),
-            rest,
-        },
-    }
+    let slot = choose(core, slots, kind, good)?;
+    write_head(heads, slot, kind, address, number, packet);
+    let pipe = Pipe {
+        kind,
+        size: packet,
+        toggle: false,
+        next: 1,
+    };
+    put_endpoint(slots, slot, Endpoint::Idle(pipe));
+    Ok(slot)
 }
 
 // The endpoint with another packet size.
@@ -130,54 +120,37 @@ fn check_slot(core: Core, slots: &[u64], slot: u8, good: bool) -> Result<(), Ref
     Ok(())
 }
 
-pub fn close(core: Core, slots: &mut [u64], heads: &mut [u32], slot: u8) -> Left<()>
+pub fn close(core: Core, slots: &mut [u64], heads: &mut [u32], slot: u8) -> Result<(), Refusal>
     requires good { Good core.settings core.rest slots.old }
     requires heads_len { length heads.old ≡ 17 * (core.settings.endpoints + 1) }
     ensures by_index { (pool frames setups : ℕ) → rows_are_fit core.settings pool (length heads.old) frames setups ≡ true
-        → change_left (changed_view core.settings result slots.new) heads.new
+        → change_left (changed_view core.settings (leaving core result) slots.new) heads.new
         ≡ close_of (view core slots.old) pool heads.old frames setups slot }
-    ensures tidy { Tidy core.settings result.rest slots.new }
+    ensures tidy { Tidy core.settings core.rest slots.new }
 {
-    let rest = core.rest;
-    match check_slot(core, slots, slot, true) {
-        Ok(()) => {
-            put_head(heads, slot as usize + 1, [0; 17]);
-            put_endpoint(slots, slot, Endpoint::Closed);
-            Left {
-                answer: Ok(()),
-                rest,
-            }
-        }
-        Err(refusal) => Left {
-            answer: Err(refusal),
-            rest,
-        },
-    }
+    check_slot(core, slots, slot, true)?;
+    put_head(heads, slot as usize + 1, [0; 17]);
+    put_endpoint(slots, slot, Endpoint::Closed);
+    Ok(())
 }
 
-pub fn set_address(core: Core, slots: &[u64], heads: &mut [u32], slot: u8, address: u8) -> Left<()>
+pub fn set_address(
+    core: Core,
+    slots: &[u64],
+    heads: &mut [u32],
+    slot: u8,
+    address: u8,
+) -> Result<(), Refusal>
     requires good { Good core.settings core.rest slots.now }
     requires heads_len { length heads.old ≡ 17 * (core.settings.endpoints + 1) }
-    ensures by_index { (pool frames setups : ℕ) → rows_are_fit core.settings pool (length heads.old) frames setups ≡ true
-        → change_left (changed_view core.settings result slots.now) heads.new
+    ensures { (pool frames setups : ℕ) → rows_are_fit core.settings pool (length heads.old) frames setups ≡ true
+        → change_left (changed_view core.settings (leaving core result) slots.now) heads.new
         ≡ set_address_of (view core slots.now) pool heads.old frames setups slot address }
-    ensures free_value { result.rest.free ≡ core.rest.free }
 {
-    let rest = core.rest;
-    match check_slot(core, slots, slot, address <= 127) {
-        Ok(()) => {
-            let at = HEAD_WORDS * (slot as usize + 1) + CHARACTERISTICS;
-            heads[at] = set_device_address(heads[at], address);
-            Left {
-                answer: Ok(()),
-                rest,
-            }
-        }
-        Err(refusal) => Left {
-            answer: Err(refusal),
-            rest,
-        },
-    }
+    check_slot(core, slots, slot, address <= 127)?;
+    let at = HEAD_WORDS * (slot as usize + 1) + CHARACTERISTICS;
+    heads[at] = set_device_address(heads[at], address);
+    Ok(())
 }
 
 // A byte, which is raised to 8: the head and the slot have it from then on.
@@ -187,53 +160,30 @@ pub fn set_packet_size(
     heads: &mut [u32],
     slot: u8,
     size: u8,
-) -> Left<()>
+) -> Result<(), Refusal>
     requires good { Good core.settings core.rest slots.old }
     requires heads_len { length heads.old ≡ 17 * (core.settings.endpoints + 1) }
     ensures by_index { (pool frames setups : ℕ) → rows_are_fit core.settings pool (length heads.old) frames setups ≡ true
-        → change_left (changed_view core.settings result slots.new) heads.new
+        → change_left (changed_view core.settings (leaving core result) slots.new) heads.new
         ≡ set_packet_size_of (view core slots.old) pool heads.old frames setups slot size }
-    ensures tidy { Tidy core.settings result.rest slots.new }
+    ensures tidy { Tidy core.settings core.rest slots.new }
 {
-    let rest = core.rest;
-    let old = pipe_at(slots, slot);
-    let pipe = resize(old, size);
-    match check_slot(core, slots, slot, pipe_good(core.settings.limit, pipe)) {
-        Ok(()) => {
-            let at = HEAD_WORDS * (slot as usize + 1) + CHARACTERISTICS;
-            heads[at] = set_max_packet_size(heads[at], size);
-            put_endpoint(slots, slot, Endpoint::Idle(pipe));
-            Left {
-                answer: Ok(()),
-                rest,
-            }
-        }
-        Err(refusal) => Left {
-            answer: Err(refusal),
-            rest,
-        },
-    }
+    let pipe = resize(pipe_at(slots, slot), size);
+    check_slot(core, slots, slot, pipe_good(core.settings.limit, pipe))?;
+    let at = HEAD_WORDS * (slot as usize + 1) + CHARACTERISTICS;
+    heads[at] = set_max_packet_size(heads[at], size);
+    put_endpoint(slots, slot, Endpoint::Idle(pipe));
+    Ok(())
 }
 
 // The toggle of the next packet is 0, as the device has it after its halt is cleared.
-pub fn clear_halt(core: Core, slots: &mut [u64], slot: u8) -> Left<()>
+pub fn clear_halt(core: Core, slots: &mut [u64], slot: u8) -> Result<(), Refusal>
     requires { Good core.settings core.rest slots.old }
-    ensures slots_after { changed_view core.settings result slots.new ≡ clear_halt_of (view core slots.old) slot }
-    ensures tidy { Tidy core.settings result.rest slots.new }
+    ensures slots_after { changed_view core.settings (leaving core result) slots.new ≡ clear_halt_of (view core slots.old) slot }
+    ensures tidy { Tidy core.settings core.rest slots.new }
 {
-    let rest = core.rest;
-    match check_slot(core, slots, slot, true) {
-        Ok(()) => {
-            let old = pipe_at(slots, slot);
-            put_endpoint(slots, slot, Endpoint::Idle(with_toggle(old, false)));
-            Left {
-                answer: Ok(()),
-                rest,
-            }
-        }
-        Err(refusal) => Left {
-            answer: Err(refusal),
-            rest,
-        },
-    }
+    check_slot(core, slots, slot, true)?;
+    let old = pipe_at(slots, slot);
+    put_endpoint(slots, slot, Endpoint::Idle(with_toggle(old, false)));
+    Ok(())
 }

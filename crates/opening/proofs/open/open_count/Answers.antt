@@ -1,8 +1,8 @@
 use Rattle.opening.proofs.OpenCases.{count_done, count_refused}
 use Rattle.opening.proofs.open.open_count.Goals as goal
 
-pub returns-in-Done : goal.returns-in-Done
-returns-in-Done c = search count_done
+pub returns-in-Ok : goal.returns-in-Ok
+returns-in-Ok c = search count_done
 
-pub returns-in-Refused : goal.returns-in-Refused
-returns-in-Refused c = search count_refused
+pub returns-in-Err : goal.returns-in-Err
+returns-in-Err c = search count_refused
