@@ -86,10 +86,10 @@ refused_complete x c e = omega (arith, ap kind_in e)
 refused_failed : (x : Refusal) (t : ℕ) → Err x ≡ Ok (Failed t) → ⊥
 refused_failed x t e = omega (arith, ap kind_in e)
 
-pending_complete : (c : Completion) → (Ok Pending) ≡ Ok (Complete c) → ⊥
+pending_complete : (c : Completion) → ◌≡◌ {A = Result Collected Refusal} (Ok Pending) (Ok (Complete c)) → ⊥
 pending_complete c e = omega (arith, ap kind_in e)
 
-pending_failed : (t : ℕ) → (Ok Pending) ≡ Ok (Failed t) → ⊥
+pending_failed : (t : ℕ) → ◌≡◌ {A = Result Collected Refusal} (Ok Pending) (Ok (Failed t)) → ⊥
 pending_failed t e = omega (arith, ap kind_in e)
 
 module _ (s : Ehci) (pool : ℕ) (h f : List ℕ) (setups : ℕ) (rd : Readings) (k id : ℕ) where

@@ -1,39 +1,26 @@
-// What cancel and collect leave.
+// What cancel and collect leave where they change nothing.
 ghost use Rattle.std.specs.Prelude.{◌≡◌};
 ghost use Rattle.collection.specs.Words.{refused_cancel_words, refused_collect_words, pending_words};
 
 use crate::collected::Collected;
 use common::answer::Refusal;
-use register::writes::Writes;
+use controller::left::{Settled, unwritten};
 use words::cores::Rest;
-use controller::left::Settled;
 
 pub fn refuse_cancel(rest: Rest, refusal: Refusal) -> Settled<()>
     ensures { result ≡ refused_cancel_words rest refusal }
 {
-    Settled {
-        answer: Err(refusal),
-        rest,
-        writes: Writes::none(),
-    }
+    unwritten(rest, Err(refusal))
 }
 
 pub fn refuse_collect(rest: Rest, refusal: Refusal) -> Settled<Collected>
     ensures { result ≡ refused_collect_words rest refusal }
 {
-    Settled {
-        answer: Err(refusal),
-        rest,
-        writes: Writes::none(),
-    }
+    unwritten(rest, Err(refusal))
 }
 
 pub fn still_pending(rest: Rest) -> Settled<Collected>
     ensures { result ≡ pending_words rest }
 {
-    Settled {
-        answer: Ok(Collected::Pending),
-        rest,
-        writes: Writes::none(),
-    }
+    unwritten(rest, Ok(Collected::Pending))
 }

@@ -22,22 +22,22 @@ pub settle-requires-clause-limit_value : goal.settle-requires-clause-limit_value
 settle-requires-clause-limit_value c = (limit_viewed c.args.core.settings c.args.core.rest c.args.slots.now c.args.slot _ _ c.requires.good c.pipe_at.ensures c.limit_of-limit.ensures, need_viewed c.args.core.settings c.args.core.rest c.args.slots.now c.args.slot _ _ c.requires.good c.pipe_at.ensures c.limit_of-limit.ensures c.args.request _ c.need-wanted.ensures)
 
 pub settle-requires-clause-t_value : goal.settle-requires-clause-t_value
-settle-requires-clause-t_value c = sym c.judge.ensures ∙ c.in-Done.is
+settle-requires-clause-t_value c = sym c.judge.ensures ∙ c.in-Ok.is
 
-pub returns-in-Refused-clause-by_index : goal.returns-in-Refused-clause-by_index
-returns-in-Refused-clause-by_index c = submit_refuses c.args.core.settings c.args.core.rest c.args.slots.now c.args.heads.now c.args.frames.now c.args.setups.now c.args.readings c.args.slot c.args.request _ c.requires.good c.judge.ensures _ _ c.in-Refused.is c.refuse.ensures
+pub returns-in-Err-clause-by_index : goal.returns-in-Err-clause-by_index
+returns-in-Err-clause-by_index c = submit_refuses c.args.core.settings c.args.core.rest c.args.slots.now c.args.heads.now c.args.frames.now c.args.setups.now c.args.readings c.args.slot c.args.request _ c.requires.good c.judge.ensures _ _ c.in-Err.is c.refuse.ensures
 
-pub returns-in-Refused-clause-tidy : goal.returns-in-Refused-clause-tidy
-returns-in-Refused-clause-tidy c = refused_tidy c.args.core.settings c.args.core.rest c.args.slots.now _ _ c.requires.good c.refuse.ensures
+pub returns-in-Err-clause-tidy : goal.returns-in-Err-clause-tidy
+returns-in-Err-clause-tidy c = refused_tidy c.args.core.settings c.args.core.rest c.args.slots.now _ _ c.requires.good c.refuse.ensures
 
-pub returns-in-Refused-clause-laying_good : goal.returns-in-Refused-clause-laying_good
-returns-in-Refused-clause-laying_good c = refused_laying _ _ _ _ c.refuse.ensures
+pub returns-in-Err-clause-laying_good : goal.returns-in-Err-clause-laying_good
+returns-in-Err-clause-laying_good c = refused_laying _ _ _ _ c.refuse.ensures
 
-pub returns-in-Done-clause-by_index : goal.returns-in-Done-clause-by_index
-returns-in-Done-clause-by_index c = submit_settles c.args.core.settings c.args.core.rest c.args.slots.now c.args.heads.now c.args.frames.now c.args.setups.now c.args.readings c.args.slot c.args.request _ c.requires.good c.judge.ensures _ _ _ _ _ c.in-Done.is c.settle.ensures.setups_after
+pub returns-in-Ok-clause-by_index : goal.returns-in-Ok-clause-by_index
+returns-in-Ok-clause-by_index c = submit_settles c.args.core.settings c.args.core.rest c.args.slots.now c.args.heads.now c.args.frames.now c.args.setups.now c.args.readings c.args.slot c.args.request _ c.requires.good c.judge.ensures _ _ _ _ _ c.in-Ok.is c.settle.ensures.setups_after
 
-pub returns-in-Done-clause-tidy : goal.returns-in-Done-clause-tidy
-returns-in-Done-clause-tidy c = c.settle.ensures.tidy
+pub returns-in-Ok-clause-tidy : goal.returns-in-Ok-clause-tidy
+returns-in-Ok-clause-tidy c = c.settle.ensures.tidy
 
-pub returns-in-Done-clause-laying_good : goal.returns-in-Done-clause-laying_good
-returns-in-Done-clause-laying_good c = c.settle.ensures.laying_good
+pub returns-in-Ok-clause-laying_good : goal.returns-in-Ok-clause-laying_good
+returns-in-Ok-clause-laying_good c = c.settle.ensures.laying_good
