@@ -1,5 +1,5 @@
 -- Every step of a scan is what 01's table says of its reading; the start and port power are as stated.
-use Rattle.std.specs.Prelude.{None, Ok, Option}
+use Rattle.std.specs.Prelude.{None, Ok, Option, Some}
 use Prim.Native.Nat.{ℕ, zero, suc, ◌-◌, ◌≤◌, ◌<◌}
 use mathlib.Core.Bool.{Bool, true, false, not, ◌&&◌}
 use mathlib.Core.List.{List, [], ◌∷◌, map}
@@ -27,7 +27,7 @@ use Rattle.root_hub.specs.Ports.{Reports, port_state}
 use Rattle.root_hub.specs.Scan.{again_turn, awaited_of, place_after, port_writes, status_turn, turn_of}
 use Rattle.root_hub.specs.Ranges.{fits, state_at}
 use Rattle.root_hub.specs.Calls.{power_of, scanned_of, step_of, turn_at, with_scan}
-use Rattle.root_hub.specs.Table.{Brings, Every, Goes, stays, ascends, ends, Matches, Powers, PowersPorts, Row, Some, Starts, StartsAtPortOne, StepsByTable, hub_core, is_absent, is_connected, is_enabled, table}
+use Rattle.root_hub.specs.Table.{Brings, Every, Goes, stays, ascends, ends, Matches, Powers, PowersPorts, Row, SomeRow, Starts, StartsAtPortOne, StepsByTable, hub_core, is_absent, is_connected, is_enabled, table}
 use Rattle.root_hub.proofs.Cases.{place_end, place_next, place_on, power_done, power_none, step_fits, step_within}
 use Rattle.root_hub.proofs.RunLaws.{Begun, by_state, here_most, start_is, step_is}
 
@@ -166,20 +166,20 @@ every_row h b v = (
 At : ℕ → ℕ → ℕ → Row → Type 0
 At st k v r = (st ≡ r.state) × (k ≡ r.reading) × (r.given v ≡ true)
 
-some_status : (v st : ℕ) (c : Bool) → is_connected v ≡ c → st ≤ 2 → Some (At st 1 v) table
+some_status : (v st : ℕ) (c : Bool) → is_connected v ≡ c → st ≤ 2 → SomeRow (At st 1 v) table
 unfolding At
 some_status v st true e l =
-    by_state (λ s. Some (At s 1 v) table)
+    by_state (λ s. SomeRow (At s 1 v) table)
     (inr (inr (inr (inr (inr (inl (refl, refl, e)))))))
     (inr (inr (inr (inr (inr (inr (inr (inr (inl (refl, refl, e))))))))))
     (inr (inr (inl (refl, refl, e)))) st l
 some_status v st false e l =
-    by_state (λ s. Some (At s 1 v) table)
+    by_state (λ s. SomeRow (At s 1 v) table)
     (inl (refl, refl, ap not e))
     (inr (inl (refl, refl, ap not e)))
     (inr (inr (inr (inl (refl, refl, ap not e))))) st l
 
-some_again : (v st : ℕ) (c d : Bool) → is_connected v ≡ c → is_enabled v ≡ d → st ≡ 1 → Some (At st 5 v) table
+some_again : (v st : ℕ) (c d : Bool) → is_connected v ≡ c → is_enabled v ≡ d → st ≡ 1 → SomeRow (At st 5 v) table
 unfolding At
 some_again v st true true e g q =
     inr (inr (inr (inr (inr (inr (inr (inr (inr (inr (inl (q, refl, ap (λ (x : Bool). x && is_enabled v) e ∙ g)))))))))))
@@ -188,7 +188,7 @@ some_again v st true false e g q =
 some_again v st false d e g q =
     inr (inr (inr (inr (inr (inr (inr (inr (inr (inl (q, refl, ap not e))))))))))
 
-some_at : (v st k : ℕ) → st ≤ 2 → 1 ≤ k → k ≤ 6 → fits (awaited_of k) st ≡ true → Some (At st k v) table
+some_at : (v st k : ℕ) → st ≤ 2 → 1 ≤ k → k ≤ 6 → fits (awaited_of k) st ≡ true → SomeRow (At st k v) table
 unfolding At
 some_at v st zero l a b f = absurd (omega arith)
 some_at v st (suc zero) l a b f = some_status v st (is_connected v) refl l

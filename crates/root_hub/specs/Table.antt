@@ -175,9 +175,9 @@ pub record Brings (h : EhciRootHub) (v : ℕ) (r : Row) (s : Scanned) : Type 0 w
   pub states : s.hub.states ≡ set h.states (h.port - 1) r.becomes
   pub goes : Goes h.port h.ports r.after s.hub s.reply.read
 
-abbrev pub Some : (Row → Type 0) → List Row → Type 0
-Some P [] = ⊥
-Some P (r ∷ rs) = P r ⊎ Some P rs
+abbrev pub SomeRow : (Row → Type 0) → List Row → Type 0
+SomeRow P [] = ⊥
+SomeRow P (r ∷ rs) = P r ⊎ SomeRow P rs
 
 abbrev pub Every : (Row → Type 0) → List Row → Type 0
 Every P [] = Unit {0}
@@ -187,7 +187,7 @@ Every P (r ∷ rs) = P r × Every P rs
 abbrev pub StepsByTable : HubMachine → Type 0
 StepsByTable m =
     (h : EhciRootHub) (v : ℕ) → Right h → (h.step ≡ 0 → ⊥)
-    → Some (Matches h v) table × Every (λ (r : Row). Matches h v r → Brings h v r (m.step h v)) table
+    → SomeRow (Matches h v) table × Every (λ (r : Row). Matches h v r → Brings h v r (m.step h v)) table
 
 -- a start begins at the status of port 1 and changes nothing else
 pub record Starts (h : EhciRootHub) (s : Scanned) : Type 0 where
