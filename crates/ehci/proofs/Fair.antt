@@ -289,13 +289,13 @@ module _ (s : Ehci) (hs fs us : List ℕ) where
       by true = result_fair _ refl none_few
       by false = result_fair _ refl (acknowledged_few (only_bits x.status 0x37) x.interrupts x.flag x.again)
 
-  event_given : (pending : ℕ) → is_refused (drained_answer (cleared_of pending).event) ≡ false
+  event_given : (pending : ℕ) → is_refused (drained_answer (Ok (cleared_of pending).event)) ≡ false
   unfolding cleared_of
   event_given pending = by (any_of pending 4) (any_of pending 0x23)
     where
       by : (a b : Bool)
-          → is_refused (drained_answer (cond {A = Cleared} a (record { event = Ok PortChange; left = without_bits pending 4 })
-          (cond b (record { event = Ok TransferActivity; left = without_bits pending 0x23 }) (record { event = Ok Stopped; left = 0 }))).event) ≡ false
+          → is_refused (drained_answer (Ok (cond {A = Cleared} a (record { event = PortChange; left = without_bits pending 4 })
+          (cond b (record { event = TransferActivity; left = without_bits pending 0x23 }) (record { event = Stopped; left = 0 }))).event)) ≡ false
       by true b = refl
       by false true = refl
       by false false = refl

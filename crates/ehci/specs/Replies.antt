@@ -8,13 +8,12 @@ use Rattle.common.specs.Answers.{refusal_number}
 use Rattle.common.specs.declared.answer.Refusal.{Refusal}
 use Rattle.endpoint.specs.Plain.{Change}
 use Rattle.collection.specs.declared.collected.Collected.TheVariants as C
-use Rattle.interrupt.specs.declared.answers.Event.TheVariants as D
+use Rattle.interrupt.specs.declared.answers.Event.TheVariants as E
 use Rattle.interrupt.specs.Plain.{Settled}
 use Rattle.bring_up.specs.Plain.{BroughtUp}
 use Rattle.ehci.specs.declared.reply.Answered.TheVariants.{Done, Pending, Cancelled, Failed}
 use Rattle.ehci.specs.Plain.{Decided}
 use Rattle.interrupt.specs.declared.answers.Event.{Event}
-use Rattle.interrupt.specs.declared.answers.Event.TheVariants as E
 use Rattle.ehci.specs.declared.reply.Given.{Given}
 use Rattle.ehci.specs.declared.reply.Given.TheVariants as G
 use Rattle.collection.specs.declared.collected.Collected.{Collected}
@@ -106,10 +105,10 @@ acknowledged_answer (Ok true) = Ok (Done G.Yes)
 acknowledged_answer (Err r) = Err r
 
 abbrev pub drained_answer : Result Event Refusal → Result Answered Refusal
-drained_answer (Ok D.Nothing) = Ok (Done (G.Event E.Nothing))
-drained_answer (Ok D.PortChange) = Ok (Done (G.Event E.PortChange))
-drained_answer (Ok D.TransferActivity) = Ok (Done (G.Event E.TransferActivity))
-drained_answer (Ok D.Stopped) = Ok (Done (G.Event E.Stopped))
+drained_answer (Ok E.Nothing) = Ok (Done (G.Event E.Nothing))
+drained_answer (Ok E.PortChange) = Ok (Done (G.Event E.PortChange))
+drained_answer (Ok E.TransferActivity) = Ok (Done (G.Event E.TransferActivity))
+drained_answer (Ok E.Stopped) = Ok (Done (G.Event E.Stopped))
 drained_answer (Err r) = Err r
 
 unfoldable pub settled_reply : Settled → Decided

@@ -12,7 +12,11 @@ ghost use Rattle.ehci.specs.WordsDecides.{Keeps, Tidies, Writable, decide_words,
 ghost use Rattle.ehci.specs.WordsDoor.{Judged, WordsAfter};
 
 use crate::call::{Call, EndpointFields, InterruptReadings};
-use crate::reply::{Decided, Reply, acknowledged_answer, allotted_answer, collected_answer, drained_answer, laid, leave, marked, of_brought_up, of_change, of_settled, opened_answer, refused, simple, submitted_answer};
+use crate::reply::{
+    Decided, Reply, acknowledged_answer, allotted_answer, collected_answer, drained_answer, laid,
+    leave, marked, of_brought_up, of_change, of_settled, opened_answer, refused, simple,
+    submitted_answer,
+};
 use bring_up::calls::{start, step};
 use collection::calls::{cancel, collect};
 use common::answer::Refusal;
@@ -45,19 +49,16 @@ fn on_open(core: Core, slots: &mut [u64], heads: &mut [u32], fields: EndpointFie
         ≡ open_decided (view core slots.old) pool heads.old frames setups fields }
     ensures tidies { Tidies core result slots.new }
 {
-    let kind = fields.kind;
-    let o = open_endpoint(
+    let answer = open_endpoint(
         core,
         slots,
         heads,
-        kind,
+        fields.kind,
         fields.address,
         fields.number,
         fields.packet,
     );
-    let answer = o.answer;
-    let rest = o.rest;
-    leave(rest, opened_answer(answer), Writes::none())
+    leave(core.rest, opened_answer(answer), Writes::none())
 }
 
 fn on_submit(
@@ -215,13 +216,15 @@ pub fn decide(
         Call::BringUpStep(reading) => of_brought_up(step(core, reading)),
         Call::AllocateAddress => on_allocate(core),
         Call::OpenEndpoint(fields) => on_open(core, slots, heads, fields),
-        Call::Close(slot) => of_change(close(core, slots, heads, slot)),
-        Call::SetAddress(slot, address) => of_change(set_address(
-            core, slots, heads, slot, address,
-        )),
-        Call::SetPacketSize(slot, size) => of_change(set_packet_size(
-            core, slots, heads, slot, size,
-        )),
+        Call::Close(slot) => of_change(core.rest, close(core, slots, heads, slot)),
+        Call::SetAddress(slot, address) => of_change(
+            core.rest,
+            set_address(core, slots, heads, slot, address),
+        ),
+        Call::SetPacketSize(slot, size) => of_change(
+            core.rest,
+            set_packet_size(core, slots, heads, slot, size),
+        ),
         Call::Submit(slot, request, readings) => on_submit(
             core, slots, heads, frames, setups, readings, slot, request,
         ),
@@ -237,6 +240,6 @@ pub fn decide(
         Call::Rearm => of_settled(rearm(core)),
         Call::Enable => of_settled(enable(core)),
         Call::Disable => of_settled(disable(core)),
-        Call::ClearHalt(slot) => of_change(clear_halt(core, slots, slot)),
+        Call::ClearHalt(slot) => of_change(core.rest, clear_halt(core, slots, slot)),
     }
 }

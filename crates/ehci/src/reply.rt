@@ -6,13 +6,13 @@ ghost use Rattle.ehci.specs.Replies.{answered_number, event_number, simply, open
 use bring_up::answers::BroughtUp;
 use collection::collected::Collected;
 use common::answer::Refusal;
+use controller::left::Settled;
+use interrupt::answers::Event;
 use pool::laying::{Laying, no_laying};
 use pool::marking::{Marking, no_marking};
 use pool::writing::{Writing, no_writing};
 use register::writes::Writes;
 use words::cores::Rest;
-use controller::left::{Left, Settled};
-use interrupt::answers::Event;
 
 // What goes with the number 0.
 #[derive(Clone, Copy)]
@@ -80,80 +80,58 @@ pub fn event_number(event: Event) -> u64
 pub fn simple(answer: Result<(), Refusal>) -> Result<Answered, Refusal>
     ensures { result ≡ simply answer }
 {
-    match answer {
-        Ok(()) => Ok(Answered::Done(Given::Nothing)),
-        Err(refusal) => Err(refusal),
-    }
+    answer.map(|()| Answered::Done(Given::Nothing))
 }
 
 pub fn opened_answer(answer: Result<u8, Refusal>) -> Result<Answered, Refusal>
     ensures { result ≡ opened_answer answer }
 {
-    match answer {
-        Ok(slot) => Ok(Answered::Done(Given::Slot(slot))),
-        Err(refusal) => Err(refusal),
-    }
+    answer.map(|slot| Answered::Done(Given::Slot(slot)))
 }
 
 pub fn allotted_answer(answer: Result<u8, Refusal>) -> Result<Answered, Refusal>
     ensures { result ≡ allotted_answer answer }
 {
-    match answer {
-        Ok(address) => Ok(Answered::Done(Given::Address(address))),
-        Err(refusal) => Err(refusal),
-    }
+    answer.map(|address| Answered::Done(Given::Address(address)))
 }
 
 pub fn submitted_answer(answer: Result<u64, Refusal>) -> Result<Answered, Refusal>
     ensures { result ≡ submitted_answer answer }
 {
-    match answer {
-        Ok(id) => Ok(Answered::Done(Given::Id(id))),
-        Err(refusal) => Err(refusal),
-    }
+    answer.map(|id| Answered::Done(Given::Id(id)))
 }
 
 pub fn collected_answer(answer: Result<Collected, Refusal>) -> Result<Answered, Refusal>
     ensures { result ≡ collected_answer answer }
 {
-    match answer {
-        Ok(Collected::Complete(done)) => Ok(Answered::Done(Given::Length(done.length, done.retried))),
-        Ok(Collected::Pending) => Ok(Answered::Pending),
-        Ok(Collected::Cancelled) => Ok(Answered::Cancelled),
-        Ok(Collected::Failed(token)) => Ok(Answered::Failed(token)),
-        Err(refusal) => Err(refusal),
-    }
+    answer.map(|collected| match collected {
+        Collected::Complete(done) => Answered::Done(Given::Length(done.length, done.retried)),
+        Collected::Pending => Answered::Pending,
+        Collected::Cancelled => Answered::Cancelled,
+        Collected::Failed(token) => Answered::Failed(token),
+    })
 }
 
 pub fn acknowledged_answer(answer: Result<bool, Refusal>) -> Result<Answered, Refusal>
     ensures { result ≡ acknowledged_answer answer }
 {
-    match answer {
-        Ok(false) => Ok(Answered::Done(Given::No)),
-        Ok(true) => Ok(Answered::Done(Given::Yes)),
-        Err(refusal) => Err(refusal),
-    }
+    answer.map(|own| Answered::Done(if own { Given::Yes } else { Given::No }))
 }
 
 pub fn drained_answer(answer: Result<Event, Refusal>) -> Result<Answered, Refusal>
     ensures { result ≡ drained_answer answer }
 {
-    match answer {
-        Ok(Event::Nothing) => Ok(Answered::Done(Given::Event(Event::Nothing))),
-        Ok(Event::PortChange) => Ok(Answered::Done(Given::Event(Event::PortChange))),
-        Ok(Event::TransferActivity) => Ok(Answered::Done(Given::Event(Event::TransferActivity))),
-        Ok(Event::Stopped) => Ok(Answered::Done(Given::Event(Event::Stopped))),
-        Err(refusal) => Err(refusal),
-    }
+    answer.map(|event| Answered::Done(Given::Event(event)))
 }
 
-pub fn brought_answer(answer: Result<(), Refusal>, read: Option<u32>, wait: u32) -> Result<Answered, Refusal>
+pub fn brought_answer(
+    answer: Result<(), Refusal>,
+    read: Option<u32>,
+    wait: u32,
+) -> Result<Answered, Refusal>
     ensures { result ≡ brought_answer answer read wait }
 {
-    match answer {
-        Ok(()) => Ok(Answered::Done(Given::Next(read, wait))),
-        Err(refusal) => Err(refusal),
-    }
+    answer.map(|()| Answered::Done(Given::Next(read, wait)))
 }
 
 // A transfer's records are written, and no token.
@@ -196,11 +174,10 @@ pub fn refused(rest: Rest, refusal: Refusal) -> Decided
     leave(rest, Err(refusal), Writes::none())
 }
 
-pub fn of_change(c: Left<()>) -> Decided
-    ensures { result ≡ changed_words c }
+// The rest of the core stays.
+pub fn of_change(rest: Rest, answer: Result<(), Refusal>) -> Decided
+    ensures { result ≡ changed_words (record { answer = answer; rest = rest }) }
 {
-    let answer = c.answer;
-    let rest = c.rest;
     leave(rest, simple(answer), Writes::none())
 }
 

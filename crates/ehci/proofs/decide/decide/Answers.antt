@@ -1,4 +1,4 @@
-use mathlib.Core.Path.{ap}
+use mathlib.Core.Path.{ap, refl}
 use Rattle.words.specs.declared.cores.Rest.{Rest}
 use Rattle.words.proofs.TidyLaws.{tidy_rest}
 use Rattle.controller.proofs.WordsLent.{accepts_viewed}
@@ -99,7 +99,7 @@ returns-in-SetAddress c = clauses (
     let on = (ap not c.if-not-good.false) in
     let is = c.in-SetAddress.is in
     let rows = rows_fit _ _ _ _ _ _ _ c.requires on in
-    keeps_call a.core a.slots.now a.good a.records a.heads.now a.frames.now a.setups.now a.seen a.call on c.requires _ is _ _ _ _ (heads_call _ _ _ _ _ (changed_view_lem a.core _ _ _ _ _ c.of_change-in-SetAddress.ensures (c.set_address.ensures.by_index a.records _ _ rows))) (keeps_words a.core _ _ _ _ c.of_change-in-SetAddress.ensures c.set_address.ensures.free_value))
+    keeps_call a.core a.slots.now a.good a.records a.heads.now a.frames.now a.setups.now a.seen a.call on c.requires _ is _ _ _ _ (heads_call _ _ _ _ _ (changed_view_lem a.core _ _ _ _ _ c.of_change-in-SetAddress.ensures (c.set_address.ensures a.records _ _ rows))) (keeps_words a.core _ _ _ _ c.of_change-in-SetAddress.ensures refl))
 
 pub returns-in-SetPacketSize : goal.returns-in-SetPacketSize
 unfolding packet_decided

@@ -1,4 +1,0 @@
-use Rattle.ehci.proofs.reply.of_change.Goals as goal
-
-pub returns : goal.returns
-returns c = cc
