@@ -1,5 +1,6 @@
 // The calls on endpoints. The next address is of the core alone, clear-halt is lent the slots, each of the others the slots and the heads.
-ghost use Rattle.std.specs.Prelude.{◌≡◌};
+ghost use Rattle.std.specs.Prelude.{◌≡◌, Err};
+ghost use Rattle.common.specs.declared.answer.Refusal.TheVariants.{InvalidParameter};
 ghost use Rattle.controller.specs.Address.{allot_of};
 ghost use Rattle.controller.specs.Words.{allotted_view};
 ghost use Rattle.endpoint.specs.Calls.{change_left, clear_halt_of, close_of, open_endpoint_of, open_left, set_address_of, set_packet_size_of};
@@ -11,20 +12,26 @@ ghost use Rattle.direct_calls.specs.Shapes.{CoreCall, HeadsCall, SlotsCall};
 use crate::takes::takes_heads;
 use common::answer::Refusal;
 use common::kinds::EndpointType;
+use controller::left::Left;
 use word_ranges::judge::words_good;
 use word_ranges::scalars::core_good;
 use words::cores::{Core, Rest};
-use controller::left::Left;
+
+// What a call leaves of a core, or of rows, that are not in their ranges.
+fn refuse<T>(rest: Rest) -> Left<T>
+    ensures { result ≡ record { answer = Err InvalidParameter; rest = rest } }
+{
+    Left {
+        answer: Err(Refusal::InvalidParameter),
+        rest,
+    }
+}
 
 pub fn allocate_address(core: Core) -> Left<u8>
     ensures { CoreCall core result (refused_allotment core.rest) result.rest (allotted_view core.settings result) allot_of }
 {
     if !core_good(core) {
-        let rest = core.rest;
-        return Left {
-            answer: Err(Refusal::InvalidParameter),
-            rest,
-        };
+        return refuse(core.rest);
     }
     controller::calls::allocate_address(core)
 }
@@ -44,22 +51,11 @@ pub fn open_endpoint(
         (λ pool frames setups. open_endpoint_of (view core slots.old) pool heads.old frames setups kind address number packet) }
 {
     if !takes_heads(core, slots, heads) {
-        let rest = core.rest;
-        return Left {
-            answer: Err(Refusal::InvalidParameter),
-            rest,
-        };
+        return refuse(core.rest);
     }
-    endpoint::calls::open_endpoint(core, slots, heads, kind, address, number, packet)
-}
-
-// What close, set address, set packet size and clear-halt leave of what is not in its ranges.
-fn refuse(rest: Rest) -> Left<()>
-    ensures { result ≡ refused_change rest }
-{
     Left {
-        answer: Err(Refusal::InvalidParameter),
-        rest,
+        answer: endpoint::calls::open_endpoint(core, slots, heads, kind, address, number, packet),
+        rest: core.rest,
     }
 }
 
@@ -72,7 +68,10 @@ pub fn close(core: Core, slots: &mut [u64], heads: &mut [u32], slot: u8) -> Left
     if !takes_heads(core, slots, heads) {
         return refuse(core.rest);
     }
-    endpoint::calls::close(core, slots, heads, slot)
+    Left {
+        answer: endpoint::calls::close(core, slots, heads, slot),
+        rest: core.rest,
+    }
 }
 
 pub fn set_address(core: Core, slots: &[u64], heads: &mut [u32], slot: u8, address: u8) -> Left<()>
@@ -84,7 +83,10 @@ pub fn set_address(core: Core, slots: &[u64], heads: &mut [u32], slot: u8, addre
     if !takes_heads(core, slots, heads) {
         return refuse(core.rest);
     }
-    endpoint::calls::set_address(core, slots, heads, slot, address)
+    Left {
+        answer: endpoint::calls::set_address(core, slots, heads, slot, address),
+        rest: core.rest,
+    }
 }
 
 // A byte, which is raised to 8.
@@ -103,7 +105,10 @@ pub fn set_packet_size(
     if !takes_heads(core, slots, heads) {
         return refuse(core.rest);
     }
-    endpoint::calls::set_packet_size(core, slots, heads, slot, size)
+    Left {
+        answer: endpoint::calls::set_packet_size(core, slots, heads, slot, size),
+        rest: core.rest,
+    }
 }
 
 // Judges the slots alone, as it is lent no heads.
@@ -114,5 +119,8 @@ pub fn clear_halt(core: Core, slots: &mut [u64], slot: u8) -> Left<()>
     if !words_good(core, slots) {
         return refuse(core.rest);
     }
-    endpoint::calls::clear_halt(core, slots, slot)
+    Left {
+        answer: endpoint::calls::clear_halt(core, slots, slot),
+        rest: core.rest,
+    }
 }
