@@ -23,7 +23,7 @@ use Rattle.bench_port.specs.declared.numbers.Replied.{Replied}
 use Rattle.bench_port.specs.Numbers.{pack_of, refused_numbers}
 use Rattle.bench_port.specs.Border.{Seen, SeenHeads, SeenLinks, beside_heads, beside_links, seen_brought, seen_cancelled, seen_change, seen_changed, seen_drained, seen_in, seen_opened}
 use Rattle.bench_port.proofs.Mapped.{frames_mapped, heads_mapped, slots_mapped}
-use Rattle.controller.specs.declared.left.Left.{Left}
+use Rattle.controller.specs.declared.left.Left.{Left as LeftWords}
 use Rattle.controller.specs.declared.left.Settled.{Settled}
 use Rattle.interrupt.specs.declared.answers.Event.{Event}
 
@@ -49,13 +49,13 @@ module _ (c : Core) (ws ws' : List ℕ) where
       (slots_mapped (λ (y : BroughtUp). pack_of y.rest (brought_answer y.answer y.read y.wait) y.writes) seen_brought
       c x (refused_words c.rest InvalidParameter) x.rest ws ws' (brought_view c.settings x ws') decides k)
 
-  pub cleared : (x : (Left ⊤)) (decides : Ehci → Changed) (r : Replied)
+  pub cleared : (x : LeftWords ⊤) (decides : Ehci → Changed) (r : Replied)
       → SlotsCall c ws ws' x (refused_change c.rest) x.rest (changed_view c.settings x ws') decides
       → r ≡ pack_of x.rest (simply x.answer) no_writes → InSlots r (λ s. seen_change (decides s))
   unfolding pack_of
   cleared x decides r k e =
       subst (λ (y : Replied). InSlots y (λ s. seen_change (decides s))) (sym e)
-      (slots_mapped (λ (y : (Left ⊤)). pack_of y.rest (simply y.answer) no_writes) seen_change
+      (slots_mapped (λ (y : LeftWords ⊤). pack_of y.rest (simply y.answer) no_writes) seen_change
       c x (refused_change c.rest) x.rest ws ws' (changed_view c.settings x ws') decides k)
 
   module _ (heads heads' : List ℕ) where
@@ -64,23 +64,23 @@ module _ (c : Core) (ws ws' : List ℕ) where
         HeadsCall c ws ws' heads heads' r (refused_numbers c.rest) r.rest (beside_heads (seen_in c.settings r ws') heads') decides
 
     -- `kind` is what the number of a kind says
-    pub opened : (x : (Left ℕ)) (kind known : EndpointType) (decides : EndpointType → ℕ → ℕ → ℕ → OpenLeft) (r : Replied) → kind ≡ known
+    pub opened : (x : LeftWords ℕ) (kind known : EndpointType) (decides : EndpointType → ℕ → ℕ → ℕ → OpenLeft) (r : Replied) → kind ≡ known
         → HeadsCall c ws ws' heads heads' x (refused_endpoint c.rest) x.rest (open_left (opened_view c.settings x ws') heads') (decides kind)
         → r ≡ pack_of x.rest (opened_answer x.answer) no_writes → InHeads r (λ pool frames setups. seen_opened (decides known pool frames setups))
     unfolding pack_of
     opened x kind known decides r same k e =
         subst (λ (y : EndpointType). InHeads r (λ pool frames setups. seen_opened (decides y pool frames setups))) same
         (subst (λ (y : Replied). InHeads y (λ pool frames setups. seen_opened (decides kind pool frames setups))) (sym e)
-        (heads_mapped (λ (y : (Left ℕ)). pack_of y.rest (opened_answer y.answer) no_writes) seen_opened
+        (heads_mapped (λ (y : LeftWords ℕ). pack_of y.rest (opened_answer y.answer) no_writes) seen_opened
         c x (refused_endpoint c.rest) x.rest ws ws' heads heads' (open_left (opened_view c.settings x ws') heads') (decides kind) k))
 
-    pub changed : (x : (Left ⊤)) (decides : ℕ → ℕ → ℕ → ChangeLeft) (r : Replied)
+    pub changed : (x : LeftWords ⊤) (decides : ℕ → ℕ → ℕ → ChangeLeft) (r : Replied)
         → HeadsCall c ws ws' heads heads' x (refused_change c.rest) x.rest (change_left (changed_view c.settings x ws') heads') decides
         → r ≡ pack_of x.rest (simply x.answer) no_writes → InHeads r (λ pool frames setups. seen_changed (decides pool frames setups))
     unfolding pack_of
     changed x decides r k e =
         subst (λ (y : Replied). InHeads y (λ pool frames setups. seen_changed (decides pool frames setups))) (sym e)
-        (heads_mapped (λ (y : (Left ⊤)). pack_of y.rest (simply y.answer) no_writes) seen_changed
+        (heads_mapped (λ (y : LeftWords ⊤). pack_of y.rest (simply y.answer) no_writes) seen_changed
         c x (refused_change c.rest) x.rest ws ws' heads heads' (change_left (changed_view c.settings x ws') heads') decides k)
 
     module _ (frames frames' : List ℕ) where

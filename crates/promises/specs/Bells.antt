@@ -8,7 +8,7 @@ use Rattle.ehci.specs.declared.call.Call.{Call}
 use Rattle.ehci.specs.declared.call.Call.TheVariants.{StartBringUp, BringUpStep, AllocateAddress, OpenEndpoint, Close, SetAddress, SetPacketSize, Submit, Writeback, Cancel, Collect, Acknowledge, Drain, Rearm, Enable, Disable, ClearHalt}
 use Rattle.promises.specs.Runs.{History, Turn}
 use Rattle.promises.specs.Events.{Event, Other, Reads, Drains, Submits, Unlinks, Parts, Collects, event, is_done, rings}
-use Rattle.ehci.specs.declared.reply.Answered.{Answered}
+use Rattle.ehci.specs.declared.reply.Answered.{Answered as Answer}
 use Rattle.common.specs.declared.answer.Refusal.{Refusal}
 
 -- ---- what a turn does
@@ -222,7 +222,7 @@ parted s k [] = 0
 parted s k (t ∷ past) = parted_at k (event s t) (parted s k past)
 
 -- a cancel of it was accepted
-abbrev pub cancels_by : ℕ → Call → Result Answered Refusal → Bool
+abbrev pub cancels_by : ℕ → Call → Result Answer Refusal → Bool
 cancels_by k StartBringUp a = false
 cancels_by k (BringUpStep w) a = false
 cancels_by k AllocateAddress a = false

@@ -1,6 +1,6 @@
 -- The controller's registers, over any calls: every write of every call, from the history; what is acknowledged, pending and drained; and
 -- which turns ring. Promises; at the end, the law that ties the state to them.
-use Rattle.std.specs.Prelude.{ℕ, ◌+◌, ◌<◌, Bool, true, false, ◌&&◌, not, cond, List, [], ◌∷◌, ◌≡◌, eqb, ltb, Result, None}
+use Rattle.std.specs.Prelude.{ℕ, ◌+◌, ◌<◌, Bool, true, false, ◌&&◌, not, cond, List, [], ◌∷◌, ◌≡◌, eqb, ltb, Result}
 use Rattle.register.specs.Bits.{any_of, only_bits, with_bits, without_bits}
 use Rattle.register.specs.Writes.{write_of}
 use Rattle.register.specs.declared.writes.Write.{Write}

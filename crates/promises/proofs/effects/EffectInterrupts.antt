@@ -135,11 +135,11 @@ module _ (w : World) (x : InterruptReadings) where
 -- ---- drain
 
 -- what is taken is an event, and no refusal
-pub taken_done : (q : ℕ) → is_done (drained_answer (cleared_of q).event) ≡ true
+pub taken_done : (q : ℕ) → is_done (drained_answer (Ok (cleared_of q).event)) ≡ true
 unfolding cleared_of
 taken_done q = by (any_of q 4) refl (any_of q 0x23) refl
   where
-    by : (a : Bool) → any_of q 4 ≡ a → (b : Bool) → any_of q 0x23 ≡ b → is_done (drained_answer (cleared_of q).event) ≡ true
+    by : (a : Bool) → any_of q 4 ≡ a → (b : Bool) → any_of q 0x23 ≡ b → is_done (drained_answer (Ok (cleared_of q).event)) ≡ true
     by true p b r = rw p
     by false p true r = rw (p, r)
     by false p false r = rw (p, r)
