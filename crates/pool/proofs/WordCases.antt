@@ -17,8 +17,7 @@ use Rattle.token.specs.declared.qtd.QtdToken.{QtdToken}
 use Rattle.token.specs.Chunks.{chunk_at}
 use Rattle.token.specs.EhciQtd.{total_bytes}
 use Rattle.token.specs.Plans.{chunk_token}
-use Rattle.descriptor.specs.declared.qtd.NextQtd.{NextQtd}
-use Rattle.descriptor.specs.declared.qtd.NextQtd.TheVariants.{Terminate, At}
+use Rattle.std.specs.Prelude.{Option, Some, None}
 use Rattle.descriptor.specs.declared.qtd.QueueTransferDescriptor.{QueueTransferDescriptor}
 use Rattle.descriptor.specs.Descriptors.{new_qtd, word_of_next, with_next}
 use Rattle.descriptor.specs.Slots.{page_slots, zero_slots}
@@ -95,13 +94,13 @@ chunk_bare Isochronous t k last e = refl
 chunk_bare Bulk t k last e = refl
 chunk_bare Interrupt t k last e = refl
 
-pub stage_made : (t : Transfer) (k base : ℕ) (rest : List ℕ) (to : NextQtd) (bare r : QueueTransferDescriptor) → is_control t.kind ≡ true
+pub stage_made : (t : Transfer) (k base : ℕ) (rest : List ℕ) (to : Option ℕ) (bare r : QueueTransferDescriptor) → is_control t.kind ≡ true
     → to ≡ next_of base rest → bare ≡ stage_of_place t k → r ≡ with_next bare to → r ≡ record_at t k rest base
 unfolding record_at bare_at
 stage_made t k base rest to bare r c en eb er =
     er ∙ ap (λ (d : QueueTransferDescriptor). with_next d to) (eb ∙ control_bare t.kind t k (is_last rest) c) ∙ ap (with_next (bare_for t.kind t k (is_last rest))) en
 
-pub chunk_laid : (t : Transfer) (k base : ℕ) (rest : List ℕ) (to : NextQtd) (next other bytes : ℕ) (last : Bool) (token : QtdToken) (pages : List ℕ) → is_control t.kind ≡ false
+pub chunk_laid : (t : Transfer) (k base : ℕ) (rest : List ℕ) (to : Option ℕ) (next other bytes : ℕ) (last : Bool) (token : QtdToken) (pages : List ℕ) → is_control t.kind ≡ false
     → to ≡ next_of base rest → next ≡ word_of_next to → bytes ≡ chunk_at k t.length t.limit → last ≡ is_none rest → token ≡ chunk_token t.direction bytes last
     → other ≡ alternate_of t last → pages ≡ page_slots (t.address + k * t.limit) bytes
     → record { next = next; alternate = other; token = token.0; pages = pages; upper = zero_slots } ≡ record_at t k rest base

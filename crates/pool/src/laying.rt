@@ -10,7 +10,7 @@ use crate::row::replace;
 use crate::transfer::{Transfer, stage_at};
 use bitset::cursor::{Cursor, advance, at_end, cursor_of, place_at};
 use common::kinds::{Direction, EndpointType};
-use descriptor::qtd::{EHCI_LINK_TERMINATE, NextQtd, QueueTransferDescriptor};
+use descriptor::qtd::{EHCI_LINK_TERMINATE, QueueTransferDescriptor, next_word};
 use descriptor::slots::page_slots;
 use token::chunks::chunk_length;
 use token::plan::chunk_token;
@@ -56,14 +56,14 @@ fn first_place(l: Laying) -> Cursor
 }
 
 // Where the chain goes on: at the cursor's place, nowhere at its end.
-fn next_at(base: u64, next: Cursor) -> NextQtd
+fn next_at(base: u64, next: Cursor) -> Option<u32>
     requires { next_good base (rest_of next) }
     ensures { result ≡ next_of base (rest_of next) }
 {
     if at_end(next) {
-        return NextQtd::Terminate;
+        return None;
     }
-    NextQtd::At((base + 64 * (place_at(next) as u64)) as u32)
+    Some((base + 64 * (place_at(next) as u64)) as u32)
 }
 
 // The k-th record of a control request; the places to come are those of a cursor.
@@ -101,7 +101,7 @@ fn chunk_record(l: Laying, k: u32, next: Cursor) -> QueueTransferDescriptor
     let last = at_end(next);
     let token = chunk_token(direction, bytes, last);
     QueueTransferDescriptor {
-        next: to.word(),
+        next: next_word(to),
         alternate: alternate_of(t, last),
         token: token.0,
         pages: page_slots(t.address + start, bytes),
