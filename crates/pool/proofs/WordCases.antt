@@ -61,11 +61,11 @@ left_open b x r e er = rw (e, er)
 -- ---- where the chain goes on
 
 module _ (base : ℕ) (c : Cursor) (b : Bool) (e : b ≡ is_none (rest_of c)) where
-  pub next_none : b ≡ true → Terminate ≡ next_of base (rest_of c)
+  pub next_none : b ≡ true → ◌≡◌ {A = Option ℕ} None (next_of base (rest_of c))
   next_none t = rw (rest_end c (sym e ∙ t))
 
   module _ (p : ℕ) (f : b ≡ false) (ep : p ≡ place_at c) where
-    pub next_some : At (base + 64 * p) ≡ next_of base (rest_of c)
+    pub next_some : ◌≡◌ {A = Option ℕ} (Some (base + 64 * p)) (next_of base (rest_of c))
     next_some = rw (rest_step c (sym e ∙ f), ep)
 
     pub next_below : next_good base (rest_of c) → base + 64 * p < 2 ^ 32
