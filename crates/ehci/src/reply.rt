@@ -11,7 +11,7 @@ use controller::calls::Allotted;
 use endpoint::calls::{Change, Opened};
 use interrupt::answers::{Acknowledged, Drained, Settled};
 use pool::laying::{Laying, no_laying};
-use pool::marking::{Marking, no_marking};
+use pool::marking::Mark;
 use pool::writing::{Writing, no_writing};
 use register::writes::Writes;
 use request::answers::Submission;
@@ -176,12 +176,12 @@ pub fn laid(laying: Laying) -> Writing
 {
     Writing {
         laying,
-        marking: no_marking(),
+        marking: None,
     }
 }
 
 // A token is written, and no transfer's records.
-pub fn marked(marking: Marking) -> Writing
+pub fn marked(marking: Option<Mark>) -> Writing
     ensures { result ≡ marked_only marking }
 {
     Writing {

@@ -1,21 +1,22 @@
 -- What a writing leaves: no place, nothing written; a transfer's or a token's places, what the chain of these places leaves. And what shows that it may be handed to the pool.
 use Prim.Native.Nat.{ℕ}
 use mathlib.Core.Path.{◌≡◌, refl, sym, ap, subst, ◌∙◌}
-use mathlib.Core.Bool.{Bool, true, false, cond, not}
+use mathlib.Core.Bool.{Bool, true, false, not}
 use mathlib.Core.List.{List, [], ◌∷◌}
 use native.Mathlib.Omega.{arith}
-use lib.ListN.{get_or, length, set}
+use lib.ListN.{length}
 use Rattle.bitset.specs.Places.{Within, set_places}
 use Rattle.bitset.proofs.PlaceLaws.{places_zero}
 use Rattle.common.specs.Kinds.{is_control}
-use Rattle.common.proofs.TestLaws.{false_true}
 use Rattle.descriptor.specs.declared.qtd.QueueTransferDescriptor.{QueueTransferDescriptor as Record}
 use Rattle.pool.specs.Plain as Deeds
 use Rattle.pool.specs.declared.laying.Laying.{Laying}
 use Rattle.pool.specs.declared.writing.Writing.{Writing}
 use Rattle.pool.specs.Places.{packed}
-use Rattle.pool.specs.Chains.{blank, fill_of, filled_from, transfer_good, with_token}
-use Rattle.pool.specs.Words.{AskWordsGood, ChunksGood, LayingGood, MarkingGood, StagesGood, WritingGood, chunks_of, laid_of, laying_if, marked_of, no_ask_words, no_laying, no_marking, no_words, no_writing, stages_of, where_places, words_if, written_with}
+use Rattle.std.specs.Prelude.{Option, Some, None}
+use Rattle.pool.specs.declared.marking.Mark.{Mark}
+use Rattle.pool.specs.Chains.{fill_of, filled_from, transfer_good}
+use Rattle.pool.specs.Words.{AskWordsGood, ChunksGood, LayingGood, MarkingGood, StagesGood, WritingGood, chunks_of, laid_of, laying_if, marked_of, no_ask_words, no_laying, no_words, no_writing, stages_of, where_places, words_if, written_with}
 use Rattle.pool.proofs.PlaceLaws.{list_packed}
 
 pub no_places_lem : set_places no_words ≡ []
@@ -90,9 +91,8 @@ unfolding no_laying
 no_laying_good n =
     record { within = no_place_within n; transfer = no_place_asks (λ ps. transfer_good no_laying.transfer 0 n (length ps)) }
 
-pub no_marking_good : (n : ℕ) → MarkingGood n no_marking
-unfolding no_marking
-no_marking_good n = record { within = λ e. absurd (false_true e) }
+pub no_marking_good : (n : ℕ) → MarkingGood n None
+no_marking_good n = record { within = tt }
 
 pub no_writing_good : (n : ℕ) → WritingGood n no_writing
 unfolding no_writing
@@ -105,18 +105,18 @@ no_ask_words_good n = record { within = no_place_within n; short = omega arith; 
 -- ---- what is written
 
 -- where nothing is marked, what is laid is all
-none_marked : (w : Writing) (rs : List Record) → w.marking.marks ≡ false → written_with w rs ≡ laid_of w.laying rs
+none_marked : (w : Writing) (rs : List Record) → w.marking ≡ None → written_with w rs ≡ laid_of w.laying rs
 unfolding written_with
 none_marked w rs em = rw em
 
 -- no place, nothing written
-pub no_places_written : (w : Writing) (rs : List Record) → set_places w.laying.places ≡ [] → w.marking.marks ≡ false → written_with w rs ≡ rs
+pub no_places_written : (w : Writing) (rs : List Record) → set_places w.laying.places ≡ [] → w.marking ≡ None → written_with w rs ≡ rs
 unfolding filled_from
 no_places_written w rs el em =
     none_marked w rs em ∙ ap (λ (ps : List ℕ). filled_from (Deeds.Transfer w.laying.transfer) w.laying.base 0 ps rs) el
 
 -- a transfer alone is what its chain leaves
-pub laid_is_packed : (w : Writing) (ps : List ℕ) (rs : List Record) → w.marking.marks ≡ false → set_places w.laying.places ≡ ps
+pub laid_is_packed : (w : Writing) (ps : List ℕ) (rs : List Record) → w.marking ≡ None → set_places w.laying.places ≡ ps
     → written_with w rs ≡ fill_of (record { places = packed ps; base = w.laying.base; deed = Deeds.Transfer w.laying.transfer }) rs
 unfolding fill_of
 laid_is_packed w ps rs em ep =
@@ -124,10 +124,10 @@ laid_is_packed w ps rs em ep =
     ∙ ap (λ (qs : List ℕ). filled_from (Deeds.Transfer w.laying.transfer) w.laying.base 0 qs rs) (ep ∙ sym (list_packed ps))
 
 -- a token alone is what the chain of its place leaves
-pub marked_is_packed : (w : Writing) (base : ℕ) (rs : List Record) → set_places w.laying.places ≡ [] → w.marking.marks ≡ true
-    → written_with w rs ≡ fill_of (record { places = packed (w.marking.place ∷ []); base = base; deed = Deeds.Token w.marking.token }) rs
+pub marked_is_packed : (w : Writing) (base : ℕ) (m : Mark) (rs : List Record) → set_places w.laying.places ≡ [] → w.marking ≡ Some m
+    → written_with w rs ≡ fill_of (record { places = packed (m.place ∷ []); base = base; deed = Deeds.Token m.token }) rs
 unfolding written_with fill_of filled_from
-marked_is_packed w base rs el em =
+marked_is_packed w base m rs el em =
     ap (λ (ps : List ℕ). marked_of w.marking (filled_from (Deeds.Transfer w.laying.transfer) w.laying.base 0 ps rs)) el
-    ∙ ap (λ (b : Bool). cond b (set rs w.marking.place (with_token (get_or rs w.marking.place blank) w.marking.token)) rs) em
-    ∙ ap (λ (ps : List ℕ). filled_from (Deeds.Token w.marking.token) base 0 ps rs) (sym (list_packed (w.marking.place ∷ [])))
+    ∙ ap (λ (x : Option Mark). marked_of x rs) em
+    ∙ ap (λ (ps : List ℕ). filled_from (Deeds.Token m.token) base 0 ps rs) (sym (list_packed (m.place ∷ [])))

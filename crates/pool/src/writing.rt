@@ -3,14 +3,14 @@ ghost use Rattle.std.specs.Prelude.{◌≡◌, length};
 ghost use Rattle.pool.specs.Words.{WritingGood, chunks_of, no_writing, stages_of, words_if, written_with};
 
 use crate::laying::{Laying, lay_chunks, lay_stages, no_laying};
-use crate::marking::{Marking, mark_token, no_marking};
+use crate::marking::{Mark, mark_token};
 use common::kinds::is_control;
 use descriptor::qtd::QueueTransferDescriptor;
 
 #[derive(Clone, Copy)]
 pub struct Writing {
     pub laying: Laying,
-    pub marking: Marking,
+    pub marking: Option<Mark>,
 }
 
 // Nothing is written.
@@ -19,7 +19,7 @@ pub fn no_writing() -> Writing
 {
     Writing {
         laying: no_laying(),
-        marking: no_marking(),
+        marking: None,
     }
 }
 
@@ -62,12 +62,6 @@ fn chunks_of(w: Writing) -> Laying
     }
 }
 
-fn marks_of(w: Writing) -> Marking
-    ensures { result ≡ w.marking }
-{
-    w.marking
-}
-
 // Stages, chunks, the token: of the first two at most one has a place.
 pub fn write(rows: &mut [QueueTransferDescriptor], w: Writing)
     requires { WritingGood (length rows.old) w }
@@ -75,5 +69,5 @@ pub fn write(rows: &mut [QueueTransferDescriptor], w: Writing)
 {
     lay_stages(rows, stages_of(w));
     lay_chunks(rows, chunks_of(w));
-    mark_token(rows, marks_of(w));
+    mark_token(rows, w.marking);
 }
