@@ -1,7 +1,7 @@
 -- The returns of the functions that see a record by its word, and that make a record with the places to come in a cursor.
 use Prim.Native.Nat.{ℕ, ◌+◌, ◌-◌, ◌*◌, ◌≤◌, ◌<◌, ◌^◌}
 use mathlib.Core.Path.{◌≡◌, refl, sym, ap, subst, ◌∙◌}
-use mathlib.Core.Bool.{Bool, true, false, not, ◌&&◌}
+use mathlib.Core.Bool.{Bool, true, false, ◌&&◌}
 use mathlib.Core.List.{List, [], ◌∷◌}
 use native.Mathlib.Omega.{arith}
 use lib.Count.{count_trailing_zeros, trailing_le}
@@ -24,12 +24,10 @@ use Rattle.descriptor.specs.Slots.{page_slots, zero_slots}
 use Rattle.pool.specs.declared.asked.AskWords.{AskWords}
 use Rattle.pool.specs.declared.asked.Folded.{Folded}
 use Rattle.pool.specs.declared.chain.View.{View}
-use Rattle.pool.specs.declared.laying.Laying.{Laying}
 use Rattle.pool.specs.declared.transfer.Transfer.{Transfer}
-use Rattle.pool.specs.declared.writing.Writing.{Writing}
 use Rattle.pool.specs.Transfers.{address_of, alternate_of, bare_at, bare_for, chunk_qtd, is_last, next_of, record_at, requested_at, stage_of_place, with_alternate}
 use Rattle.pool.specs.Chains.{is_active, is_erring, is_retried, is_short, number_if, or_else, see_of, view_of}
-use Rattle.pool.specs.Words.{chunks_of, laying_if, left_if, next_good, seen_next, stages_of, words_if}
+use Rattle.pool.specs.Words.{left_if, next_good, seen_next}
 use Rattle.pool.proofs.ChainCases.{requested_lt, retried_few, see_made}
 
 -- ---- what is seen
@@ -114,17 +112,3 @@ chunk_laid t k base rest to next other bytes last token pages c en ew eb el et e
     (et ∙ ap (chunk_token t.direction bytes) is-last)
     ∙ ap (λ (m : ℕ). with_next (with_alternate (new_qtd (chunk_token t.direction m (is_last rest)) (t.address + k * t.limit) m) (alternate_of t (is_last rest))) (next_of base rest)) eb
     ∙ ap (λ (d : QueueTransferDescriptor). with_next d (next_of base rest)) (chunk_bare t.kind t k (is_last rest) c)
-
--- ---- the parts of a writing
-
-words_are : (l : Laying) (b : Bool) (places : List ℕ) → places ≡ words_if b l.places → record { places = places; base = l.base; transfer = l.transfer } ≡ laying_if b l
-words_are l b places e = ap (λ (ps : List ℕ). record { places = ps; base = l.base; transfer = l.transfer }) e
-
-module _ (w : Writing) (b : Bool) (places : List ℕ) (e : b ≡ is_control w.laying.transfer.kind) where
-  pub stages_made : places ≡ words_if b w.laying.places → record { places = places; base = w.laying.base; transfer = w.laying.transfer } ≡ stages_of w
-  unfolding stages_of
-  stages_made h = words_are w.laying b places h ∙ ap (λ (y : Bool). laying_if y w.laying) e
-
-  pub chunks_made : places ≡ words_if (not b) w.laying.places → record { places = places; base = w.laying.base; transfer = w.laying.transfer } ≡ chunks_of w
-  unfolding chunks_of
-  chunks_made h = words_are w.laying (not b) places h ∙ ap (λ (y : Bool). laying_if (not y) w.laying) e

@@ -1,5 +1,5 @@
 -- What is asked of the pool and written to it, the places as the words of a set.
-use Rattle.std.specs.Prelude.{ℕ, ◌+◌, ◌*◌, ◌≤◌, ◌<◌, ◌^◌, ◌≡◌, Bool, true, false, cond, not, ◌&&◌, List, [], ◌∷◌, ◌++◌, get_or, length, replicate, set, IfSome, Option, Some, None}
+use Rattle.std.specs.Prelude.{ℕ, ◌+◌, ◌-◌, ◌*◌, ◌≤◌, ◌<◌, ◌^◌, ◌≡◌, Bool, false, cond, ◌&&◌, List, [], ◌∷◌, ◌++◌, get_or, length, replicate, set, IfSome, Option, Some, None}
 use Rattle.bitset.specs.Places.{Within, set_places}
 use Rattle.bitset.specs.Words.{places_of}
 use Rattle.common.specs.declared.kinds.Direction.TheVariants as Directions
@@ -107,14 +107,13 @@ pub record LayingGood (n : ℕ) (l : Laying) : Type 0 where
   pub within : Within n (set_places l.places)
   pub transfer : where_places (set_places l.places) (transfer_good l.transfer l.base n (length (set_places l.places)))
 
--- besides, the transfer is of one kind
-pub record StagesGood (n : ℕ) (l : Laying) : Type 0 where
-  pub laying : LayingGood n l
-  pub kind : where_places (set_places l.places) (is_control l.transfer.kind ≡ true)
-
-pub record ChunksGood (n : ℕ) (l : Laying) : Type 0 where
-  pub laying : LayingGood n l
-  pub kind : where_places (set_places l.places) (is_control l.transfer.kind ≡ false)
+-- what the record at one of the places asks: the k-th, where these places are to come
+pub record TurnGood (l : Laying) (k : ℕ) (rest : List ℕ) : Type 0 where
+  pub buffer : l.transfer.length ≤ 2 ^ 32 - l.transfer.address
+  pub setup : 8 ≤ 2 ^ 32 - l.transfer.setup
+  pub starts : is_control l.transfer.kind ≡ false → k * l.transfer.limit ≤ l.transfer.length
+  pub limited : l.transfer.limit ≤ 16384
+  pub next : next_good l.base rest
 
 pub record MarkingGood (n : ℕ) (m : Option Mark) : Type 0 where
   pub within : IfSome m (λ x. x.place < n)
@@ -122,22 +121,6 @@ pub record MarkingGood (n : ℕ) (m : Option Mark) : Type 0 where
 pub record WritingGood (n : ℕ) (w : Writing) : Type 0 where
   pub laying : LayingGood n w.laying
   pub marking : MarkingGood n w.marking
-
--- ---- parts
-
-abbrev pub words_if : Bool → List ℕ → List ℕ
-words_if true w = w
-words_if false w = no_words
-
--- the laying of a writing where its transfer is of this kind; else no place
-abbrev pub laying_if : Bool → Laying → Laying
-laying_if b l = record { places = words_if b l.places; base = l.base; transfer = l.transfer }
-
-unfoldable pub stages_of : Writing → Laying
-stages_of w = laying_if (is_control w.laying.transfer.kind) w.laying
-
-unfoldable pub chunks_of : Writing → Laying
-chunks_of w = laying_if (not (is_control w.laying.transfer.kind)) w.laying
 
 -- nothing is written
 abbrev pub no_transfer : Transfer
