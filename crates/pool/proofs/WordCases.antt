@@ -26,7 +26,8 @@ use Rattle.pool.specs.declared.asked.Folded.{Folded}
 use Rattle.pool.specs.declared.chain.View.{View}
 use Rattle.pool.specs.declared.transfer.Transfer.{Transfer}
 use Rattle.pool.specs.Transfers.{address_of, alternate_of, bare_at, bare_for, chunk_qtd, is_last, next_of, record_at, requested_at, stage_of_place, with_alternate}
-use Rattle.pool.specs.Chains.{is_active, is_erring, is_retried, is_short, number_if, or_else, see_of, view_of}
+use Rattle.pool.specs.Chains.{is_erring, is_retried, is_short, number_if, or_else, see_of, stage_else, stage_of, view_of}
+use Rattle.pool.specs.declared.chain.Standing.{Standing}
 use Rattle.pool.specs.Words.{left_if, next_good, seen_next}
 use Rattle.pool.proofs.ChainCases.{requested_lt, retried_few, see_made}
 
@@ -39,12 +40,12 @@ word_sum_fits kind length limit k moved asked left r ea er hk hl h hm = omega (a
 pub word_count_fits : (k count r w : ℕ) → r ≡ number_if (is_retried w) 1 0 → k < 256 → count ≤ k → Fits w16 (count + r)
 word_count_fits k count r w e hk h = omega (arith, e, hk, h, retried_few w)
 
-pub word_seen : (s : Folded) (a : AskWords) (w asked stage failed r m : ℕ) (short : Bool) → asked ≡ requested_at a.kind a.length a.limit s.k
-    → stage ≡ or_else s.view.stage (number_if (is_active w) 2 (number_if (is_erring w) 1 0)) → failed ≡ or_else s.view.failed (number_if (is_erring w) w 0)
+pub word_seen : (s : Folded) (a : AskWords) (stage : Standing) (w asked failed r m : ℕ) (short : Bool) → asked ≡ requested_at a.kind a.length a.limit s.k
+    → stage ≡ stage_else s.view.stage (stage_of w) → failed ≡ or_else s.view.failed (number_if (is_erring w) w 0)
     → r ≡ asked - total_bytes w → m ≡ number_if (is_retried w) 1 0 → short ≡ is_short w
     → record { view = record { stage = stage; failed = failed; moved = s.view.moved + r; retried = s.view.retried + m }; k = s.k + 1; ended = a.stops && short } ≡ seen_next s a w
-word_seen s a w asked stage failed r m short ea es ef er em eh =
-    ap (λ (v : View). record { view = v; k = s.k + 1; ended = a.stops && short }) (see_made s.view asked (requested_at a.kind a.length a.limit s.k) w stage failed r m ea es ef er em)
+word_seen s a stage w asked failed r m short ea es ef er em eh =
+    ap (λ (v : View). record { view = v; k = s.k + 1; ended = a.stops && short }) (see_made s.view stage asked (requested_at a.kind a.length a.limit s.k) w failed r m ea es ef er em)
     ∙ ap (λ (b : Bool). record { view = see_of s.view (requested_at a.kind a.length a.limit s.k) w; k = s.k + 1; ended = a.stops && b }) eh
 
 pub none_made : (v : View) → v ≡ view_of [] → ◌≡◌ {A = Folded} (record { view = v; k = 0; ended = false }) (record { view = view_of []; k = 0; ended = false })

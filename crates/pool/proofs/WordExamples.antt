@@ -13,6 +13,7 @@ use Rattle.descriptor.specs.Slots.{page_slots, zero_slots}
 use Rattle.pool.specs.declared.laying.Laying.{Laying}
 use Rattle.pool.specs.Places.{up_from}
 use Rattle.pool.specs.Transfers.{bare_at, chunk_qtd, record_at, requested_at}
+use Rattle.pool.specs.declared.chain.Standing.TheVariants.{Inactive}
 use Rattle.pool.specs.Chains.{blank, filled_from, first_error, length_of, retried_of, seen_from, standing_of, view_of}
 use Rattle.std.specs.Prelude.{Some, None}
 use Rattle.pool.specs.Words.{opened_to, no_laying, written_with}
@@ -44,7 +45,7 @@ marked = refl
 
 -- both chunks are done, the second one left its byte
 seen : view_of (seen_from Bulk 16385 16384 0 (set_places (5 ∷ 0 ∷ 0 ∷ 0 ∷ [])) (record { next = 0; alternate = 0; token = 3328; pages = zero_slots; upper = zero_slots } ∷ blank ∷ record { next = 0; alternate = 0; token = 68864; pages = zero_slots; upper = zero_slots } ∷ []))
-    ≡ record { stage = 0; failed = 0; moved = 16384; retried = 0 }
+    ≡ record { stage = Inactive; failed = 0; moved = 16384; retried = 0 }
 unfolding set_places places_of seen_from view_of standing_of first_error length_of retried_of requested_at
 seen = refl
 
