@@ -4,7 +4,7 @@ use mathlib.Core.Path.{refl}
 use borrow.Author.Tests.{eqb-false, eqb-true, leb-false}
 use Rattle.pool.specs.declared.chain.Standing.TheVariants.{Active}
 use Rattle.pool.specs.declared.chain.View.{View}
-use Rattle.pool.specs.Chains.{waits}
+use Rattle.pool.specs.Chains.{stands_active}
 use Rattle.pool.proofs.StandingLaws.{waits_other}
 use Rattle.state.specs.Plain.{Ehci}
 use Rattle.pipe.specs.Endpoints.{endpoint_at}
@@ -75,7 +75,7 @@ module _ (s : Ehci) (pool : ℕ) (h f : List ℕ) (setups : ℕ) (rd : Readings)
   collect_split v P old waits unlinks ends = by (accepts_of s (lengths pool (length h) (length f) setups)) refl
     where
       at_linked : (p : Pipe) (r : Request) → Fits → endpoint_at s k ≡ Linked p r → (b : Bool) → leb 32 s.unanswered ≡ b
-          → (c : Bool) → eqb r.id id ≡ c → (d : Bool) → waits v.stage ≡ d → P (collect_of s pool h f setups rd v k id)
+          → (c : Bool) → eqb r.id id ≡ c → (d : Bool) → stands_active v.stage ≡ d → P (collect_of s pool h f setups rd v k id)
       at_linked p r ok e true u c i d g = rw (ok, e, u) (old InvalidParameter)
       at_linked p r ok e false u false i d g = rw (ok, e, u, i) (old InvalidEndpoint)
       at_linked p r ok e false u true i true g = rw (ok, e, u, i, g) waits
@@ -91,7 +91,7 @@ module _ (s : Ehci) (pool : ℕ) (h f : List ℕ) (setups : ℕ) (rd : Readings)
       at : Fits → (x : Endpoint) → endpoint_at s k ≡ x → P (collect_of s pool h f setups rd v k id)
       at ok Closed e = rw (ok, e) (old InvalidEndpoint)
       at ok (Idle p) e = rw (ok, e) waits
-      at ok (Linked p r) e = at_linked p r ok e (leb 32 s.unanswered) refl (eqb r.id id) refl (waits v.stage) refl
+      at ok (Linked p r) e = at_linked p r ok e (leb 32 s.unanswered) refl (eqb r.id id) refl (stands_active v.stage) refl
       at ok (Unlinking p r u) e = at_unlinking p r u ok e (eqb r.id id) refl (passed_boundary u rd.frame) refl
 
       by : (b : Bool) → accepts_of s (lengths pool (length h) (length f) setups) ≡ b → P (collect_of s pool h f setups rd v k id)

@@ -4,7 +4,7 @@ use Rattle.register.specs.Writes.{no_writes}
 use Rattle.pool.specs.Places.{clear_of}
 use Rattle.pool.specs.declared.chain.Standing.{Standing}
 use Rattle.pool.specs.declared.chain.View.{View}
-use Rattle.pool.specs.Chains.{waits}
+use Rattle.pool.specs.Chains.{stands_active}
 use Rattle.state.specs.Plain.{Ehci}
 use Rattle.state.specs.State.{with_owner}
 use Rattle.common.specs.Answers.{Check, first, settle}
@@ -101,7 +101,7 @@ pending_left l =
 -- "if, in order, every descriptor is inactive, or an error comes before any active one, unlink; Pending"
 unfoldable pub linked_of : Ehci → List ℕ → List ℕ → Readings → Standing → ℕ → Pipe → Request → Gathered
 linked_of s heads frames readings stage k p r =
-    cond (waits stage) (gathered (pending_collect s) heads frames)
+    cond (stands_active stage) (gathered (pending_collect s) heads frames)
     (pending_left (unlink_of s heads frames readings k p r))
 
 -- boundary set

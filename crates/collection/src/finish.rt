@@ -73,7 +73,7 @@ pub fn collect_linked(
         ≡ linked_of (view core slots.old) heads.old frames.old readings stage k p r }
     ensures tidy { Tidy core.settings result.rest slots.new }
 {
-    if stage == Standing::Active {
+    if stage.stands_active() {
         return still_pending(core.rest);
     }
     let kind = p.kind;

@@ -6,7 +6,7 @@ use Rattle.register.specs.Bits.{any_of, only_bits, without_bits}
 use Rattle.common.proofs.TestLaws.{false_true, both_tells}
 use Rattle.pool.specs.declared.chain.Standing.{Standing}
 use Rattle.pool.specs.declared.chain.View.{View}
-use Rattle.pool.specs.Chains.{waits}
+use Rattle.pool.specs.Chains.{stands_active}
 use Rattle.state.specs.Ranges.{in_ranges}
 use Rattle.state.specs.Plain.{Ehci}
 use Rattle.common.specs.Answers.{Check, Verdict, first, or_else, passed, refused, settle}
@@ -242,7 +242,7 @@ module _ (s : Ehci) (hs fs us : List ℕ) where
 
     linked_fair : (stage : Standing) (p : Pipe) (r : Request) → Fair (with_setups (collect_came (linked_of s hs fs readings stage k p r)) us)
     unfolding linked_of replied
-    linked_fair stage p r = by (waits stage)
+    linked_fair stage p r = by (stands_active stage)
       where
         by : (b : Bool) → Fair (with_setups (collect_came (cond b (gathered (pending_collect s) hs fs) (pending_left (unlink_of s hs fs readings k p r)))) us)
         by true = result_fair _ refl none_few

@@ -114,10 +114,10 @@ abbrev pub stage_of : ℕ → Standing
 stage_of w = cond (is_active w) Active (cond (is_erring w) Erring Inactive)
 
 -- an active descriptor comes first
-abbrev pub waits : Standing → Bool
-waits Inactive = false
-waits Erring = false
-waits Active = true
+abbrev pub stands_active : Standing → Bool
+stands_active Inactive = false
+stands_active Erring = false
+stands_active Active = true
 
 -- the first erring token, 0 where none is
 unfoldable pub first_error : List Seen → ℕ

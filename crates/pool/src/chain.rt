@@ -1,7 +1,7 @@
 // What the tokens of a request say, one after another.
 ghost use Rattle.std.specs.Prelude.{◌≡◌, [], ◌-◌, ◌<◌};
 ghost use Rattle.token.specs.EhciQtd.{total_bytes};
-ghost use Rattle.pool.specs.Chains.{blank, is_active, is_erring, is_retried, is_short, number_if, or_else, stage_else, stage_of, view_of};
+ghost use Rattle.pool.specs.Chains.{blank, is_active, is_erring, is_retried, is_short, number_if, or_else, stage_else, stage_of, view_of, stands_active};
 
 use descriptor::qtd::QueueTransferDescriptor;
 use token::qtd::QtdToken;
@@ -12,6 +12,14 @@ pub enum Standing {
     Inactive,
     Erring,
     Active,
+}
+
+impl Standing {
+    pub fn stands_active(self) -> bool
+        ensures { result ≡ stands_active self }
+    {
+        matches!(self, Standing::Active)
+    }
 }
 
 // `failed` is the first erring token, which is never 0; 0 where none is.

@@ -36,7 +36,7 @@ use Rattle.promises.proofs.invariants.ChainEvents.{unlink_event}
 use lib.Dec.{eqb}
 use Rattle.common.specs.declared.kinds.EndpointType.{EndpointType}
 use Rattle.descriptor.specs.declared.qtd.QueueTransferDescriptor.{QueueTransferDescriptor}
-use Rattle.pool.specs.Chains.{Seen, blank, is_active, is_erring, is_short, read_of, seen_from, standing_of, view_of, waits}
+use Rattle.pool.specs.Chains.{Seen, blank, is_active, is_erring, is_short, read_of, seen_from, standing_of, view_of, stands_active}
 use Rattle.pool.specs.Transfers.{ends_short}
 use Rattle.ehci.specs.declared.call.Call.{Call}
 use Rattle.collection.specs.declared.collected.Collected.TheVariants as C
@@ -50,7 +50,7 @@ use Rattle.promises.proofs.effects.EffectRequests.{none_leaves, collect_unlinked
 -- ---- finished, as its descriptors say
 
 finished_stage : (kind : EndpointType) (n limit i : ℕ) (short : Bool) (ps : List ℕ) (pool : List QueueTransferDescriptor)
-    → waits (standing_of (read_of short (seen_from kind n limit i ps pool))) ≡ not (is_finished short pool ps)
+    → stands_active (standing_of (read_of short (seen_from kind n limit i ps pool))) ≡ not (is_finished short pool ps)
 unfolding seen_from standing_of read_of
 finished_stage kind n limit i short [] pool = refl
 finished_stage kind n limit i short (p ∷ ps) pool =
@@ -59,8 +59,8 @@ finished_stage kind n limit i short (p ∷ ps) pool =
     more : List Seen
     more = read_of short (seen_from kind n limit (suc i) ps pool)
 
-    by : (a e b : Bool) → waits (standing_of more) ≡ not (is_finished short pool ps)
-        → waits (cond a Active (cond e Erring (standing_of (cond b [] more)))) ≡ not (cond a false (cond (e || b) true (is_finished short pool ps)))
+    by : (a e b : Bool) → stands_active (standing_of more) ≡ not (is_finished short pool ps)
+        → stands_active (cond a Active (cond e Erring (standing_of (cond b [] more)))) ≡ not (cond a false (cond (e || b) true (is_finished short pool ps)))
     by true e b rest = refl
     by false true b rest = refl
     by false false true rest = refl
@@ -134,9 +134,9 @@ module _ (s : Settings) (h : History) (w : World) (sound : Sound s w) (x : Chain
 
   pub collect_waits : (core w call).reply.answer ≡ Pending
   unfolding replied
-  collect_waits = by (waits view.stage) refl
+  collect_waits = by (stands_active view.stage) refl
     where
-      by : (b : Bool) → waits view.stage ≡ b → (core w call).reply.answer ≡ Pending
+      by : (b : Bool) → stands_active view.stage ≡ b → (core w call).reply.answer ≡ Pending
       by true q =
           ap (λ (z : Applied). z.reply.answer) (comes_as (gathered (pending_collect w.state) w.rows.heads w.rows.frames) (unfinished_is (waits_active view.stage q)))
       by false q = ap (λ (z : Applied). z.reply.answer) (comes_as unlinked (finished_is (waits_other view.stage q)))
@@ -159,7 +159,7 @@ module _ (s : Settings) (h : History) (w : World) (sound : Sound s w) (x : Chain
     abbrev ends : Bool
     ends = is_finished (ends_short p.kind r.direction) w.rows.pool places
 
-    stage_is : waits view.stage ≡ not ends
+    stage_is : stands_active view.stage ≡ not ends
     unfolding asks_of ask_of request_ask view_of
     stage_is =
         rw (asks, e, list_packed (places_from 0 (take w.state.settings.descriptors w.state.owner) (k + 1) 256), ← own)
