@@ -8,7 +8,7 @@ use crate::word::{cleared, number, ones_below, take_part};
 fn ones_from(n: u64, from: u64) -> u64
     ensures { result ≡ ones_below (n - from) }
 {
-    if n <= from { 0 } else { ones_below(n - from) }
+    ones_below(n.saturating_sub(from))
 }
 
 // The places below n.

@@ -37,10 +37,8 @@ fn drop_low(x: u64, n: u64) -> u64
     ensures { result ≡ drop_bits 64 x n }
 {
     let mut rest = x;
-    let mut done: u64 = 0;
-    while done < n {
+    for _ in 0..n {
         rest = drop_lowest(rest);
-        done += 1;
     }
     rest
 }

@@ -4,7 +4,10 @@ use mathlib.Core.Path.{sym, ap, ◌∙◌}
 use borrow.Author.Tests.{eq-eqb, le-leb, lt-leb, ne_eqb, not-false, not-true}
 use Rattle.register.specs.Writes.{no_writes}
 use Rattle.register.specs.declared.writes.Writes.{Writes}
+use Rattle.pool.specs.declared.chain.Standing.{Standing}
+use Rattle.pool.specs.declared.chain.Standing.TheVariants.{Active}
 use Rattle.pool.specs.declared.chain.View.{View}
+use Rattle.pool.proofs.StandingLaws.{waits_not}
 use Rattle.state.specs.Plain.{Ehci}
 use Rattle.state.specs.State.{with_owner}
 use Rattle.pipe.specs.Endpoints.{endpoint_at, with_endpoint}
@@ -78,16 +81,16 @@ pub finishes : (s st : Ehci) (v : View) (k : ℕ) (p : Pipe) (r : Request) (o : 
 unfolding finish_of
 finishes s st v k p r o a w eo ea es ew = rw (es, ea, ew, eo)
 
-module _ (s : Ehci) (h f : List ℕ) (rd : Readings) (stage k : ℕ) (p : Pipe) (r : Request) where
-  pub linked_waits : (c : Collection) → c ≡ pending_collect s → stage ≡ 2 → gathered c h f ≡ linked_of s h f rd stage k p r
+module _ (s : Ehci) (h f : List ℕ) (rd : Readings) (stage : Standing) (k : ℕ) (p : Pipe) (r : Request) where
+  pub linked_waits : (c : Collection) → c ≡ pending_collect s → stage ≡ Active → gathered c h f ≡ linked_of s h f rd stage k p r
   unfolding linked_of
   linked_waits c ec e = rw (ec, e)
 
-  pub linked_unlinks : (l : Cancellation) (a : (Result Collected Refusal)) (h' f' : List ℕ) → left l h' f' ≡ unlink_of s h f rd k p r → a ≡ pending_of l.answer
-      → (stage ≡ 2 → ⊥)
+  pub linked_unlinks : (l : Cancellation) (a : Result Collected Refusal) (h' f' : List ℕ) → left l h' f' ≡ unlink_of s h f rd k p r → a ≡ pending_of l.answer
+      → (stage ≡ Active → ⊥)
       → gathered (record { answer = a; state = l.state; writes = l.writes }) h' f' ≡ linked_of s h f rd stage k p r
   unfolding linked_of
-  linked_unlinks l a h' f' e ea n = rw (ea, ← e, ne_eqb stage 2 n)
+  linked_unlinks l a h' f' e ea n = rw (ea, ← e, waits_not stage n)
 
 module _ (s : Ehci) (h : List ℕ) (frame : ℕ) (v : View) (k : ℕ) (p : Pipe) (r : Request) (u : UnlinkBoundary) (b : Bool)
     (eb : b ≡ passed_boundary u frame) (c : Collection) where

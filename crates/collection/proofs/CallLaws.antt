@@ -7,6 +7,7 @@ use Rattle.register.specs.Writes.{and_then, no_writes}
 use Rattle.register.specs.declared.writes.Writes.{Writes}
 use Rattle.common.specs.declared.kinds.EndpointType.{EndpointType}
 use Rattle.common.specs.declared.kinds.EndpointType.TheVariants.{Control, Isochronous, Bulk, Interrupt}
+use Rattle.pool.specs.declared.chain.Standing.TheVariants.{Active}
 use Rattle.pool.specs.declared.chain.View.{View}
 use Rattle.common.proofs.TestLaws.{false_true}
 use Rattle.state.specs.Plain.{Ehci}
@@ -177,13 +178,13 @@ module _ (s : Ehci) (pool : ℕ) (h f : List ℕ) (setups : ℕ) (rd : Readings)
 module _ (s : Ehci) (pool : ℕ) (h f : List ℕ) (setups : ℕ) (rd : Readings) (v : View) (k : ℕ) (p : Pipe) (r : Request)
     (ok : accepts_of s (lengths pool (length h) (length f) setups) ≡ true) (e : endpoint_at s k ≡ Linked p r) (few : s.unanswered < 32) where
   -- an active descriptor comes first: Pending, and nothing changes
-  pub collect_active : v.stage ≡ 2 → collect_of s pool h f setups rd v k r.id ≡ gathered (pending_collect s) h f
+  pub collect_active : v.stage ≡ Active → collect_of s pool h f setups rd v k r.id ≡ gathered (pending_collect s) h f
   collect_active t =
       sym (collect_looks s pool h f setups rd v k r.id true (sym ok) (pending_collect s) refl (endpoint_at s k) refl p r h f e
       (linked_waits s h f rd v.stage k p r (pending_collect s) refl t) few refl)
 
   -- every descriptor is inactive, or an error comes before any active one: an unlink, and Pending where it is made
-  pub collect_unlinks : v.stage ≢ 2 → collect_of s pool h f setups rd v k r.id ≡ pending_left (unlink_of s h f rd k p r)
+  pub collect_unlinks : v.stage ≢ Active → collect_of s pool h f setups rd v k r.id ≡ pending_left (unlink_of s h f rd k p r)
   collect_unlinks n =
       let l = unlink_of s h f rd k p r in
       let g = pending_left l in

@@ -2,7 +2,10 @@
 use Rattle.std.specs.Prelude.{◌≡◌, ℕ, ◌<◌, Bool, true, false, eqb, leb, List, length}
 use mathlib.Core.Path.{refl}
 use borrow.Author.Tests.{eqb-false, eqb-true, leb-false}
+use Rattle.pool.specs.declared.chain.Standing.TheVariants.{Active}
 use Rattle.pool.specs.declared.chain.View.{View}
+use Rattle.pool.specs.Chains.{stands_active}
+use Rattle.pool.proofs.StandingLaws.{waits_other}
 use Rattle.state.specs.Plain.{Ehci}
 use Rattle.pipe.specs.Endpoints.{endpoint_at}
 use Rattle.controller.specs.Lent.{accepts_of, lengths}
@@ -63,7 +66,7 @@ module _ (s : Ehci) (pool : ℕ) (h f : List ℕ) (setups : ℕ) (rd : Readings)
       by false bad = rw bad (old InvalidParameter)
 
   pub collect_split : (v : View) (P : Gathered → Type 0) → ((x : Refusal) → P (gathered (refused_collect s x) h f)) → P (gathered (pending_collect s) h f)
-      → ((p : Pipe) (r : Request) → Fits → endpoint_at s k ≡ Linked p r → s.unanswered < 32 → r.id ≡ id → (v.stage ≡ 2 → ⊥)
+      → ((p : Pipe) (r : Request) → Fits → endpoint_at s k ≡ Linked p r → s.unanswered < 32 → r.id ≡ id → (v.stage ≡ Active → ⊥)
       → P (pending_left (unlink_of s h f rd k p r)))
       → ((p : Pipe) (r : Request) (u : UnlinkBoundary) → Fits → endpoint_at s k ≡ Unlinking p r u → r.id ≡ id → passed_boundary u rd.frame ≡ true
       → P (gathered (finish_of s v k (keeping rd p) r) (ended_overlay h k) f))
@@ -72,12 +75,12 @@ module _ (s : Ehci) (pool : ℕ) (h f : List ℕ) (setups : ℕ) (rd : Readings)
   collect_split v P old waits unlinks ends = by (accepts_of s (lengths pool (length h) (length f) setups)) refl
     where
       at_linked : (p : Pipe) (r : Request) → Fits → endpoint_at s k ≡ Linked p r → (b : Bool) → leb 32 s.unanswered ≡ b
-          → (c : Bool) → eqb r.id id ≡ c → (d : Bool) → eqb v.stage 2 ≡ d → P (collect_of s pool h f setups rd v k id)
+          → (c : Bool) → eqb r.id id ≡ c → (d : Bool) → stands_active v.stage ≡ d → P (collect_of s pool h f setups rd v k id)
       at_linked p r ok e true u c i d g = rw (ok, e, u) (old InvalidParameter)
       at_linked p r ok e false u false i d g = rw (ok, e, u, i) (old InvalidEndpoint)
       at_linked p r ok e false u true i true g = rw (ok, e, u, i, g) waits
       at_linked p r ok e false u true i false g =
-          rw (ok, e, u, i, g) (unlinks p r ok e (leb-false 32 s.unanswered u) (eqb-true r.id id i) (eqb-false v.stage 2 g))
+          rw (ok, e, u, i, g) (unlinks p r ok e (leb-false 32 s.unanswered u) (eqb-true r.id id i) (waits_other v.stage g))
 
       at_unlinking : (p : Pipe) (r : Request) (u : UnlinkBoundary) → Fits → endpoint_at s k ≡ Unlinking p r u
           → (c : Bool) → eqb r.id id ≡ c → (d : Bool) → passed_boundary u rd.frame ≡ d → P (collect_of s pool h f setups rd v k id)
@@ -88,7 +91,7 @@ module _ (s : Ehci) (pool : ℕ) (h f : List ℕ) (setups : ℕ) (rd : Readings)
       at : Fits → (x : Endpoint) → endpoint_at s k ≡ x → P (collect_of s pool h f setups rd v k id)
       at ok Closed e = rw (ok, e) (old InvalidEndpoint)
       at ok (Idle p) e = rw (ok, e) waits
-      at ok (Linked p r) e = at_linked p r ok e (leb 32 s.unanswered) refl (eqb r.id id) refl (eqb v.stage 2) refl
+      at ok (Linked p r) e = at_linked p r ok e (leb 32 s.unanswered) refl (eqb r.id id) refl (stands_active v.stage) refl
       at ok (Unlinking p r u) e = at_unlinking p r u ok e (eqb r.id id) refl (passed_boundary u rd.frame) refl
 
       by : (b : Bool) → accepts_of s (lengths pool (length h) (length f) setups) ≡ b → P (collect_of s pool h f setups rd v k id)

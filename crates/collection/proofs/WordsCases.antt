@@ -10,6 +10,9 @@ use Rattle.common.specs.declared.answer.Refusal.TheVariants.{InvalidEndpoint}
 use Rattle.settings.specs.declared.settings.Settings.{Settings}
 use Rattle.state.specs.Plain.{Ehci}
 use Rattle.state.specs.State.{with_owner}
+use Rattle.pool.specs.declared.chain.Standing.{Standing}
+use Rattle.pool.specs.Chains.{stands_active}
+use Rattle.pool.proofs.StandingLaws.{waits_active, waits_other}
 use Rattle.pool.specs.declared.chain.View.{View}
 use Rattle.words.specs.declared.cores.Rest.{Rest}
 use Rattle.words.specs.Good.{Good, Tidy, no_places}
@@ -197,23 +200,23 @@ module _ (s : Settings) (r : Rest) (ws h f : List ℕ) (rd : Readings) (k : ℕ)
 
     -- ---- `collect_linked`
 
-    pub linked_lost_words : (stage : ℕ) (c : (SettledWords Collected)) → (stage ≡ 2 → ⊥) → m ≡ true → c ≡ refused_collect_words r InvalidEndpoint
+    pub linked_lost_words : (stage : Standing) (y : Bool) (c : SettledWords Collected) → y ≡ stands_active stage → y ≡ false → m ≡ true → c ≡ refused_collect_words r InvalidEndpoint
         → gathered (collected_view s c ws) h' f' ≡ linked_of (state_of s r ws) h f rd stage k p q
-    linked_lost_words stage c n t ec =
+    linked_lost_words stage y c ey n t ec =
         rw ec
         (linked_unlinks (state_of s r ws) h f rd stage k p q (cancelled_view s (refused_cancel_words r InvalidEndpoint) ws) (Err InvalidEndpoint) h' f'
-        (unlinks_none (refused_cancel_words r InvalidEndpoint) t refl) refl n)
+        (unlinks_none (refused_cancel_words r InvalidEndpoint) t refl) refl (waits_other stage (sym ey ∙ n)))
 
-    pub linked_unlinks_words : (stage : ℕ) (l : (SettledWords ⊤)) (ws' : List ℕ) (a : (Result Collected Refusal)) → (stage ≡ 2 → ⊥) → m ≡ false
+    pub linked_unlinks_words : (stage : Standing) (y : Bool) (l : SettledWords ⊤) (ws' : List ℕ) (a : Result Collected Refusal) → y ≡ stands_active stage → y ≡ false → m ≡ false
         → cancelled_view s l ws' ≡ waiting_of (state_of s r ws) rd k p q → a ≡ pending_of l.answer
         → gathered (record { answer = a; state = state_of s l.rest ws'; writes = l.writes }) h' f'
         ≡ linked_of (state_of s r ws) h f rd stage k p q
-    linked_unlinks_words stage l ws' a n t ec ea =
-        linked_unlinks (state_of s r ws) h f rd stage k p q (cancelled_view s l ws') a h' f' (unlinks_waits ws' l t ec) ea n
+    linked_unlinks_words stage y l ws' a ey n t ec ea =
+        linked_unlinks (state_of s r ws) h f rd stage k p q (cancelled_view s l ws') a h' f' (unlinks_waits ws' l t ec) ea (waits_other stage (sym ey ∙ n))
 
-  pub linked_waits_words : (stage : ℕ) (c : (SettledWords Collected)) → c ≡ pending_words r → stage ≡ 2
+  pub linked_waits_words : (stage : Standing) (y : Bool) (c : SettledWords Collected) → c ≡ pending_words r → y ≡ stands_active stage → y ≡ true
       → gathered (collected_view s c ws) h f ≡ linked_of (state_of s r ws) h f rd stage k p q
-  linked_waits_words stage c ec e = linked_waits (state_of s r ws) h f rd stage k p q (collected_view s c ws) (pending_view s r ws c ec) e
+  linked_waits_words stage y c ec ey e = linked_waits (state_of s r ws) h f rd stage k p q (collected_view s c ws) (pending_view s r ws c ec) (waits_active stage (sym ey ∙ e))
 
 -- ---- `collect_unlinking`
 

@@ -2,7 +2,9 @@
 use Rattle.std.specs.Prelude.{ℕ, ◌+◌, Bool, true, false, cond, not, List, [], ◌∷◌, ◌++◌, length, take, drop, ◌==◌, nat_le, Ok}
 use Rattle.register.specs.Writes.{no_writes}
 use Rattle.pool.specs.Places.{clear_of}
+use Rattle.pool.specs.declared.chain.Standing.{Standing}
 use Rattle.pool.specs.declared.chain.View.{View}
+use Rattle.pool.specs.Chains.{stands_active}
 use Rattle.state.specs.Plain.{Ehci}
 use Rattle.state.specs.State.{with_owner}
 use Rattle.common.specs.Answers.{Check, first, settle}
@@ -96,9 +98,9 @@ pending_left l =
     }
 
 -- "if, in order, every descriptor is inactive, or an error comes before any active one, unlink; Pending"
-unfoldable pub linked_of : Ehci → List ℕ → List ℕ → Readings → ℕ → ℕ → Pipe → Request → Gathered
+unfoldable pub linked_of : Ehci → List ℕ → List ℕ → Readings → Standing → ℕ → Pipe → Request → Gathered
 linked_of s heads frames readings stage k p r =
-    cond (stage == 2) (gathered (pending_collect s) heads frames)
+    cond (stands_active stage) (gathered (pending_collect s) heads frames)
     (pending_left (unlink_of s heads frames readings k p r))
 
 -- boundary set

@@ -4,6 +4,7 @@ use Rattle.descriptor.specs.declared.qtd.QueueTransferDescriptor.{QueueTransferD
 use Rattle.pool.specs.Chains.{Seen, blank, read_of, seen_from, view_of, with_token}
 use Rattle.pool.specs.Places.{list_of}
 use Rattle.pool.specs.Plain.{Ask}
+use Rattle.pool.specs.declared.chain.Standing.{Standing}
 use Rattle.pool.specs.declared.chain.View.{View}
 use Rattle.settings.specs.declared.settings.Settings.{Settings}
 use Rattle.state.specs.Plain.{Ehci}
@@ -78,7 +79,7 @@ reading frame overlay = record { command = 0x31; frame = frame; overlay = overla
 abbrev pub readings : ℕ → Readings
 readings frame = reading frame 0
 
-abbrev pub seen : ℕ → ℕ → ℕ → View
+abbrev pub seen : Standing → ℕ → ℕ → View
 seen stage failed moved = record { stage = stage; failed = failed; moved = moved; retried = 0 }
 
 abbrev pub cancelled : Ehci → ℕ → ℕ → Left

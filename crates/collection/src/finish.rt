@@ -16,7 +16,7 @@ use common::answer::Refusal;
 use controller::lent::Readings;
 use pipe::endpoints::{Endpoint, Pipe, Request, UnlinkBoundary, with_toggle};
 use pipe::slots::put_endpoint;
-use pool::chain::{STANDS_ACTIVE, View};
+use pool::chain::{Standing, View};
 use register::writes::Writes;
 use schedule::links::end_overlay;
 use token::overlay::kept_toggle;
@@ -63,7 +63,7 @@ pub fn collect_linked(
     heads: &mut [u32],
     frames: &mut [u32],
     readings: Readings,
-    stage: u8,
+    stage: Standing,
     k: u8,
     p: Pipe,
     r: Request,
@@ -75,7 +75,7 @@ pub fn collect_linked(
         ≡ linked_of (view core slots.old) heads.old frames.old readings stage k p r }
     ensures tidy { Tidy core.settings result.rest slots.new }
 {
-    if stage == STANDS_ACTIVE {
+    if stage.stands_active() {
         return still_pending(core.rest);
     }
     let kind = p.kind;

@@ -5,7 +5,7 @@ ghost use Rattle.common.specs.Kinds.{is_control, is_isochronous, is_interrupt};
 // The last of the kinds, numbered from 0 in this order.
 pub const KIND_MAX: u8 = 3;
 
-#[derive(Clone, Copy)]
+#[derive(Clone, Copy, PartialEq, Eq)]
 pub enum EndpointType {
     Control,
     Isochronous,
@@ -13,7 +13,7 @@ pub enum EndpointType {
     Interrupt,
 }
 
-#[derive(Clone, Copy)]
+#[derive(Clone, Copy, PartialEq, Eq)]
 pub enum Direction {
     Out,
     In,
@@ -22,32 +22,17 @@ pub enum Direction {
 pub fn is_control(kind: EndpointType) -> bool
     ensures { result ≡ is_control kind }
 {
-    match kind {
-        EndpointType::Control => true,
-        EndpointType::Isochronous => false,
-        EndpointType::Bulk => false,
-        EndpointType::Interrupt => false,
-    }
+    matches!(kind, EndpointType::Control)
 }
 
 pub fn is_isochronous(kind: EndpointType) -> bool
     ensures { result ≡ is_isochronous kind }
 {
-    match kind {
-        EndpointType::Control => false,
-        EndpointType::Isochronous => true,
-        EndpointType::Bulk => false,
-        EndpointType::Interrupt => false,
-    }
+    matches!(kind, EndpointType::Isochronous)
 }
 
 pub fn is_interrupt(kind: EndpointType) -> bool
     ensures { result ≡ is_interrupt kind }
 {
-    match kind {
-        EndpointType::Control => false,
-        EndpointType::Isochronous => false,
-        EndpointType::Bulk => false,
-        EndpointType::Interrupt => true,
-    }
+    matches!(kind, EndpointType::Interrupt)
 }

@@ -7,7 +7,10 @@ use native.Mathlib.Omega.{arith}
 use lib.ListN.{get_or, length}
 use Rattle.register.specs.Bits.{with_bits, without_bits}
 use Rattle.register.proofs.FieldLaws.{replace_field}
+use Rattle.common.specs.Kinds.{is_control, is_interrupt}
 use Rattle.common.specs.declared.kinds.EndpointType.{EndpointType}
+use Rattle.common.specs.declared.kinds.EndpointType.TheVariants.{Control, Isochronous, Bulk, Interrupt}
+use Rattle.token.specs.Tokens.{only_if}
 use Rattle.descriptor.specs.declared.head.QueueHead.{QueueHead}
 use Rattle.descriptor.specs.declared.qtd.QueueTransferDescriptor.{QueueTransferDescriptor}
 use Rattle.descriptor.specs.Descriptors.{terminated}
@@ -34,6 +37,18 @@ opened k a n p t i o et ei eo = λ j. record { link = 1; characteristics = sum j
   where
     sum : a + n * 256 + p * 65536 + 8192 + 4026531840 + t ≡ a + n * 256 + 8192 + p * 65536 + 15 * 2 ^ 28 + control_bit k
     sum = rw et (omega arith)
+
+pub control_only : (k : EndpointType) → only_if (is_control k) 16384 ≡ control_bit k
+control_only Control = refl
+control_only Isochronous = refl
+control_only Bulk = refl
+control_only Interrupt = refl
+
+pub interrupt_only : (k : EndpointType) → only_if (is_interrupt k) 1 ≡ interrupt_bit k
+interrupt_only Control = refl
+interrupt_only Isochronous = refl
+interrupt_only Bulk = refl
+interrupt_only Interrupt = refl
 
 five : (l rest : List ℕ) → length l ≡ 5
     → get_or l 0 0 ∷ get_or l 1 0 ∷ get_or l 2 0 ∷ get_or l 3 0 ∷ get_or l 4 0 ∷ rest ≡ l ++ rest

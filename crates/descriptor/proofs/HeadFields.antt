@@ -5,7 +5,7 @@ use native.Mathlib.Omega.{arith}
 use Rattle.register.proofs.FieldLaws.{field_with, field_below, field_above}
 use Rattle.common.specs.declared.kinds.EndpointType.{EndpointType}
 use Rattle.common.specs.declared.kinds.EndpointType.TheVariants.{Control, Isochronous, Bulk, Interrupt}
-use Rattle.descriptor.specs.declared.qtd.NextQtd.TheVariants.{Terminate, At}
+use Rattle.std.specs.Prelude.{Some, None}
 use Rattle.descriptor.specs.Descriptors.{word_of_next}
 use Rattle.descriptor.specs.EhciQtd.{terminate, qtd_address}
 use Rattle.descriptor.specs.EhciQueueHead.{link_terminate, link_type, link_address, device_address, inactivate_on_next, endpoint_number, endpoint_speed, toggle_control, head_of_list, maximum_packet_length, control_endpoint, nak_reload, start_mask, completion_mask, hub_address, port_number, multiplier}
@@ -144,11 +144,11 @@ link_reads a h e =
       address_is = omega arith;
     }
 
-pub next_reads : (a : ℕ) → a < 2 ^ 32 → a % 32 ≡ 0 → (terminate (word_of_next (At a)) ≡ 0) × (qtd_address (word_of_next (At a)) ≡ a)
+pub next_reads : (a : ℕ) → a < 2 ^ 32 → a % 32 ≡ 0 → (terminate (word_of_next (Some a)) ≡ 0) × (qtd_address (word_of_next (Some a)) ≡ a)
 next_reads a h e = omega arith
 
-pub next_is : (a : ℕ) → a % 32 ≡ 0 → word_of_next (At a) ≡ a
+pub next_is : (a : ℕ) → a % 32 ≡ 0 → word_of_next (Some a) ≡ a
 next_is a e = omega arith
 
-pub end_reads : terminate (word_of_next Terminate) ≡ 1
+pub end_reads : terminate (word_of_next None) ≡ 1
 end_reads = refl

@@ -4,8 +4,7 @@ use mathlib.Core.Path.{◌≡◌, ap, ◌∙◌}
 use mathlib.Core.List.{List, [], ◌∷◌}
 use borrow.Author.Tests.{eq-eqb, ne_eqb, lt-ltb, le-ltb}
 use lib.Dec.{ltb}
-use Rattle.descriptor.specs.declared.qtd.NextQtd.{NextQtd}
-use Rattle.descriptor.specs.declared.qtd.NextQtd.TheVariants.{At}
+use Rattle.std.specs.Prelude.{Option, Some}
 use Rattle.token.specs.declared.qtd.QtdToken.{QtdToken}
 use Rattle.descriptor.specs.declared.qtd.QueueTransferDescriptor.{QueueTransferDescriptor}
 use Rattle.descriptor.specs.Descriptors.{new_qtd, word_of_next, qtd_with}
@@ -34,5 +33,5 @@ pub new_is : (t : QtdToken) (A L : ℕ) (pages : List ℕ) (d : QueueTransferDes
 unfolding new_qtd qtd_with
 new_is t A L pages d e q = q ∙ ap (λ (x : List ℕ). qtd_with t x) e
 
-pub next_at_lem : (n : NextQtd) (a : ℕ) → n ≡ At a → a - a % 32 ≡ word_of_next n
+pub next_at_lem : (n : Option ℕ) (a : ℕ) → n ≡ Some a → a - a % 32 ≡ word_of_next n
 next_at_lem n a e = rw e

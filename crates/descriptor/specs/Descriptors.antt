@@ -1,8 +1,6 @@
 -- Document 01, "Descriptors, heads, links": a descriptor's thirteen words.
-use Rattle.std.specs.Prelude.{ℕ, ◌-◌, ◌%◌, List}
+use Rattle.std.specs.Prelude.{ℕ, ◌-◌, ◌%◌, List, Option, Some, None}
 use Rattle.token.specs.declared.qtd.QtdToken.{QtdToken}
-use Rattle.descriptor.specs.declared.qtd.NextQtd.{NextQtd}
-use Rattle.descriptor.specs.declared.qtd.NextQtd.TheVariants.{Terminate, At}
 use Rattle.descriptor.specs.declared.qtd.QueueTransferDescriptor.{QueueTransferDescriptor}
 use Rattle.descriptor.specs.Slots.{page_slots, zero_slots}
 
@@ -20,10 +18,10 @@ unfoldable pub qtd_with : QtdToken → List ℕ → QueueTransferDescriptor
 qtd_with token pages = record { next = 1; alternate = 1; token = token.0; pages = pages; upper = zero_slots }
 
 -- the following descriptor's address, 1 at the end
-abbrev pub word_of_next : NextQtd → ℕ
-word_of_next Terminate = 1
-word_of_next (At address) = address - address % 32
+abbrev pub word_of_next : Option ℕ → ℕ
+word_of_next None = 1
+word_of_next (Some address) = address - address % 32
 
-unfoldable pub with_next : QueueTransferDescriptor → NextQtd → QueueTransferDescriptor
+unfoldable pub with_next : QueueTransferDescriptor → Option ℕ → QueueTransferDescriptor
 with_next d next =
     record { next = word_of_next next; alternate = d.alternate; token = d.token; pages = d.pages; upper = d.upper }

@@ -1,9 +1,8 @@
 // A queue head (EHCI 3.6): 000's `QueueHead`, and the changes of its characteristics.
-ghost use Rattle.std.specs.Prelude.{◌≡◌, ◌≤◌, max};
+ghost use Rattle.std.specs.Prelude.{◌≡◌, ◌≤◌};
+ghost use Rattle.token.specs.Tokens.{only_if};
 ghost use Rattle.descriptor.specs.Heads.{
   qh_link,
-  control_bit,
-  interrupt_bit,
   characteristics_of,
   capabilities_of,
   endpoint_head,
@@ -14,7 +13,7 @@ ghost use Rattle.descriptor.specs.Heads.{
 };
 
 use crate::qtd::{EHCI_LINK_TERMINATE, QueueTransferDescriptor};
-use common::kinds::EndpointType;
+use common::kinds::{EndpointType, is_control, is_interrupt};
 use register::bits::{with_bits, without_bits};
 
 // The type of a link that leads to a queue head.
@@ -37,8 +36,11 @@ const PACKET_SIZE_MASK: u32 = 0x7ff << 16;
 
 const MULTIPLIER: u32 = 1 << 30;
 
+// The first microframe of a frame.
+const START_MASK: u32 = 1 << 0;
+
 #[repr(C)]
-#[derive(Clone, Copy)]
+#[derive(Clone, Copy, PartialEq, Eq)]
 pub struct QueueHead {
     pub link: u32,
     pub characteristics: u32,
@@ -54,28 +56,11 @@ pub fn ehci_qh_link(address: u32) -> u32
     address - address % 32 + EHCI_QH_LINK_TYPE_QH
 }
 
-fn control_bit(kind: EndpointType) -> u32
-    ensures value { result ≡ control_bit kind }
-    ensures upper_bound { result ≤ 16384 }
+fn bit_if(set: bool, bit: u32) -> u32
+    ensures value { result ≡ only_if set bit }
+    ensures upper_bound { result ≤ bit }
 {
-    match kind {
-        EndpointType::Control => TOGGLE_CONTROL,
-        EndpointType::Isochronous => 0,
-        EndpointType::Bulk => 0,
-        EndpointType::Interrupt => 0,
-    }
-}
-
-fn interrupt_bit(kind: EndpointType) -> u32
-    ensures value { result ≡ interrupt_bit kind }
-    ensures upper_bound { result ≤ 1 }
-{
-    match kind {
-        EndpointType::Control => 0,
-        EndpointType::Isochronous => 0,
-        EndpointType::Bulk => 0,
-        EndpointType::Interrupt => 1,
-    }
+    if set { bit } else { 0 }
 }
 
 impl QueueHead {
@@ -102,8 +87,8 @@ impl QueueHead {
         let fields = (address as u32) + (number as u32) * 0x100 + (packet as u32) * 0x1_0000;
         QueueHead {
             link: EHCI_LINK_TERMINATE,
-            characteristics: fields + SPEED + NAK_RELOAD + control_bit(kind),
-            capabilities: MULTIPLIER + interrupt_bit(kind),
+            characteristics: fields + SPEED + NAK_RELOAD + bit_if(is_control(kind), TOGGLE_CONTROL),
+            capabilities: MULTIPLIER + bit_if(is_interrupt(kind), START_MASK),
             current: 0,
             overlay: QueueTransferDescriptor::terminated(),
         }
@@ -151,12 +136,5 @@ pub fn set_max_packet_size(characteristics: u32, size: u8) -> u32
     ensures { result ≡ with_packet_size characteristics size }
 {
     let others = without_bits(characteristics, PACKET_SIZE_MASK);
-    with_bits(others, (raised(size) as u32) << PACKET_SIZE_SHIFT)
-}
-
-// The packet size that is set for a byte.
-pub fn raised(size: u8) -> u16
-    ensures { result ≡ max size 8 }
-{
-    if size < 8 { 8 } else { size as u16 }
+    with_bits(others, (size.max(8) as u32) << PACKET_SIZE_SHIFT)
 }

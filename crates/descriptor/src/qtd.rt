@@ -9,7 +9,7 @@ use token::qtd::QtdToken;
 pub const EHCI_LINK_TERMINATE: u32 = 1;
 
 #[repr(C)]
-#[derive(Clone, Copy)]
+#[derive(Clone, Copy, PartialEq, Eq)]
 pub struct QueueTransferDescriptor {
     pub next: u32,
     pub alternate: u32,
@@ -18,21 +18,13 @@ pub struct QueueTransferDescriptor {
     pub upper: [u32; 5],
 }
 
-// Where a chain goes on.
-#[derive(Clone, Copy)]
-pub enum NextQtd {
-    Terminate,
-    At(u32),
-}
-
-impl NextQtd {
-    pub fn word(self) -> u32
-        ensures { result ≡ word_of_next self }
-    {
-        match self {
-            NextQtd::Terminate => EHCI_LINK_TERMINATE,
-            NextQtd::At(address) => address - address % 32,
-        }
+// The next pointer to the descriptor at an address; where the chain ends it leads nowhere.
+pub fn next_word(next: Option<u32>) -> u32
+    ensures { result ≡ word_of_next next }
+{
+    match next {
+        None => EHCI_LINK_TERMINATE,
+        Some(address) => address - address % 32,
     }
 }
 
@@ -69,10 +61,10 @@ impl QueueTransferDescriptor {
         }
     }
 
-    pub fn set_next(mut self, next: NextQtd) -> QueueTransferDescriptor
+    pub fn set_next(mut self, next: Option<u32>) -> QueueTransferDescriptor
         ensures { result ≡ with_next self next }
     {
-        self.next = next.word();
+        self.next = next_word(next);
         self
     }
 }

@@ -4,7 +4,9 @@ use mathlib.Core.Path.{refl, sym, ap, subst, ◌∙◌}
 use borrow.Author.Tests.{not-true}
 use Rattle.register.specs.Bits.{any_of, only_bits, without_bits}
 use Rattle.common.proofs.TestLaws.{false_true, both_tells}
+use Rattle.pool.specs.declared.chain.Standing.{Standing}
 use Rattle.pool.specs.declared.chain.View.{View}
+use Rattle.pool.specs.Chains.{stands_active}
 use Rattle.state.specs.Ranges.{in_ranges}
 use Rattle.state.specs.Plain.{Ehci}
 use Rattle.common.specs.Answers.{Check, Verdict, first, or_else, passed, refused, settle}
@@ -238,9 +240,9 @@ module _ (s : Ehci) (hs fs us : List ℕ) where
         settle_fair (λ (l : Left). with_setups (collect_came (pending_left l)) us) ((is_missing (detach_of s hs fs k).predecessor, InvalidEndpoint) ∷ []) _ _ refl
         (λ x. refl) (result_fair _ refl (bounded_few (bell_of s) p.kind readings))
 
-    linked_fair : (stage : ℕ) (p : Pipe) (r : Request) → Fair (with_setups (collect_came (linked_of s hs fs readings stage k p r)) us)
+    linked_fair : (stage : Standing) (p : Pipe) (r : Request) → Fair (with_setups (collect_came (linked_of s hs fs readings stage k p r)) us)
     unfolding linked_of replied
-    linked_fair stage p r = by (eqb stage 2)
+    linked_fair stage p r = by (stands_active stage)
       where
         by : (b : Bool) → Fair (with_setups (collect_came (cond b (gathered (pending_collect s) hs fs) (pending_left (unlink_of s hs fs readings k p r)))) us)
         by true = result_fair _ refl none_few

@@ -1,16 +1,16 @@
 -- What a call looks at and decides on a state in words.
-use Rattle.std.specs.Prelude.{◌≡◌, ℕ, Bool, true, false, cond, List, [], ◌∷◌, Err, Result, ⊤}
+use Rattle.std.specs.Prelude.{◌≡◌, ℕ, Bool, true, false, cond, Option, None, List, [], ◌∷◌, Err, Result, ⊤}
 use Rattle.bitset.specs.Places.{set_places}
 use Rattle.register.specs.Writes.{no_writes}
 use Rattle.register.specs.declared.writes.Writes.{Writes}
 use Rattle.common.specs.declared.answer.Refusal.{Refusal}
 use Rattle.common.specs.declared.answer.Refusal.TheVariants.{InvalidParameter}
-use Rattle.pool.specs.Words.{AskWordsGood, WritingGood, no_ask_words, no_laying, no_marking, no_writing, where_places}
+use Rattle.pool.specs.Words.{AskWordsGood, WritingGood, no_ask_words, no_laying, no_writing, where_places}
 use Rattle.pool.specs.declared.asked.AskWords.{AskWords}
 use Rattle.pool.specs.Plain.{Chain}
 use Rattle.pool.specs.declared.chain.View.{View}
 use Rattle.pool.specs.declared.laying.Laying.{Laying}
-use Rattle.pool.specs.declared.marking.Marking.{Marking}
+use Rattle.pool.specs.declared.marking.Mark.{Mark}
 use Rattle.pool.specs.declared.writing.Writing.{Writing}
 use Rattle.settings.specs.declared.settings.Settings.{Settings}
 use Rattle.settings.specs.Settings.{pool_length}
@@ -48,12 +48,12 @@ decided_view s d ws = record { reply = reply_view s d.reply ws; chain = chain_in
 -- what is written may be handed to the pool, and no token where a transfer is laid
 pub record Writable (n : ℕ) (w : Writing) : Type 0 where
   pub good : WritingGood n w
-  pub one : where_places (set_places w.laying.places) (w.marking.marks ≡ false)
+  pub one : where_places (set_places w.laying.places) (w.marking ≡ None)
 
 unfoldable pub laid_only : Laying → Writing
-laid_only l = record { laying = l; marking = no_marking }
+laid_only l = record { laying = l; marking = None }
 
-unfoldable pub marked_only : Marking → Writing
+unfoldable pub marked_only : Option Mark → Writing
 marked_only m = record { laying = no_laying; marking = m }
 
 -- ---- what an arm leaves

@@ -9,7 +9,7 @@ use common::answer::Refusal;
 use controller::left::Settled;
 use interrupt::answers::Event;
 use pool::laying::{Laying, no_laying};
-use pool::marking::{Marking, no_marking};
+use pool::marking::Mark;
 use pool::writing::{Writing, no_writing};
 use register::writes::Writes;
 use words::cores::Rest;
@@ -140,12 +140,12 @@ pub fn laid(laying: Laying) -> Writing
 {
     Writing {
         laying,
-        marking: no_marking(),
+        marking: None,
     }
 }
 
 // A token is written, and no transfer's records.
-pub fn marked(marking: Marking) -> Writing
+pub fn marked(marking: Option<Mark>) -> Writing
     ensures { result ≡ marked_only marking }
 {
     Writing {

@@ -15,7 +15,7 @@ use crate::lowest::lowest_closed;
 use common::answer::Refusal;
 use common::kinds::{EndpointType, is_control, is_isochronous};
 use controller::readers::{is_open, uncollected};
-use descriptor::head::{raised, set_device_address, set_max_packet_size};
+use descriptor::head::{set_device_address, set_max_packet_size};
 use opening::heads::{CHARACTERISTICS, HEAD_WORDS, put_head};
 use pipe::endpoints::{Endpoint, Pipe, with_toggle};
 use pipe::slots::{pipe_at, put_endpoint};
@@ -90,7 +90,7 @@ fn resize(p: Pipe, size: u8) -> Pipe
     let kind = p.kind;
     Pipe {
         kind,
-        size: raised(size),
+        size: size.max(8) as u16,
         toggle: p.toggle,
         next: p.next,
     }

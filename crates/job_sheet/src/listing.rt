@@ -4,7 +4,7 @@ ghost use Rattle.common.specs.Rows.{put_at};
 ghost use Rattle.job_sheet.specs.Sheets.{joined};
 ghost use Rattle.job_sheet.specs.Listing.{number_field, word_field, bad_line, endpoint_line, request_line, descriptor_line};
 
-use common::rows::put_bytes;
+use common::rows::put_at;
 use descriptor::qtd::QueueTransferDescriptor;
 use text::digits::{put, put_decimal, put_hex};
 
@@ -87,6 +87,6 @@ pub fn put_bad(out: &mut [u8], at: usize) -> usize
     ensures out_after { out.new ≡ put_at out.old at bad_line }
     ensures value { result ≡ at + 10 }
 {
-    put_bytes(out, at, b"bad sheet\n");
+    put_at(out, at, b"bad sheet\n");
     at + 10
 }

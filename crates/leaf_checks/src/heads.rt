@@ -4,7 +4,7 @@ use crate::tokens::kind;
 use common::kinds::EndpointType;
 use descriptor::head;
 use descriptor::head::QueueHead;
-use descriptor::qtd::{NextQtd, QueueTransferDescriptor};
+use descriptor::qtd::{QueueTransferDescriptor, next_word};
 use descriptor::setup::setup_packet_bytes;
 use register::operational;
 use register::writes::{Write, Writes};
@@ -31,7 +31,7 @@ fn descriptor(token: QtdToken, address: u64, length: u64, next: u32) {
     } else if address <= TOP {
         if length <= TOP - address {
             let d = QueueTransferDescriptor::new(token, address, length);
-            thirteen(d.set_next(NextQtd::At(next)));
+            thirteen(d.set_next(Some(next)));
         }
     }
 }
@@ -55,8 +55,8 @@ fn ring(address: u32) {
     let row = QueueHead::async_head(address).words();
     words(&row);
     word(head::ehci_qh_link(address));
-    word(NextQtd::At(address).word());
-    word(NextQtd::Terminate.word());
+    word(next_word(Some(address)));
+    word(next_word(None));
 }
 
 // The order of a head's words: here each word is its own place.

@@ -2,7 +2,6 @@
 use crate::out::{flag, low_byte, low_word, put, word};
 use common::kinds::{Direction, EndpointType};
 use register::bits;
-use token::plan::DataTd;
 use token::port::EhciPortStatus;
 use token::qtd::{QtdPid, QtdToken};
 use token::{chunks, plan};
@@ -63,9 +62,8 @@ fn control(direction: Direction, length: u64) {
     let plan = plan::build_control_td_plan(direction, length);
     let stage = plan.data;
     word(plan.setup.raw());
-    match stage {
-        DataTd::Absent => {}
-        DataTd::Present(token) => word(token.raw()),
+    if let Some(token) = stage {
+        word(token.raw());
     }
     word(plan.status.raw());
 }

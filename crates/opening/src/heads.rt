@@ -2,7 +2,7 @@
 ghost use Rattle.std.specs.Prelude.{◌≡◌, ◌+◌, ◌*◌, ◌≤◌, length};
 ghost use Rattle.common.specs.Rows.{put_at};
 
-use common::rows::put_words;
+use common::rows::put_at;
 
 pub const HEAD_WORDS: usize = 17;
 
@@ -15,5 +15,5 @@ pub fn put_head(heads: &mut [u32], place: usize, words: [u32; 17])
     requires place_in_bounds { 17 * place + 17 ≤ length heads.old }
     ensures { heads.new ≡ put_at heads.old (17 * place) words }
 {
-    put_words(heads, HEAD_WORDS * place, &words);
+    put_at(heads, HEAD_WORDS * place, &words);
 }

@@ -9,13 +9,13 @@ use crate::heads::put_head;
 use crate::hub::EhciRootHub;
 use bitset::places::all_below;
 use common::answer::Refusal;
-use common::rows::{fill_bytes, fill_words};
+use common::rows::fill;
 use descriptor::head::QueueHead;
 use descriptor::qtd::{EHCI_LINK_TERMINATE, QueueTransferDescriptor};
 use pool::marking::open_first;
 use settings::settings::Settings;
 use words::cores::{Core, Rest};
-use words::row::{RECORD, fill_wide};
+use words::row::RECORD;
 
 pub const FRAMES: u64 = 1024;
 
@@ -56,7 +56,7 @@ pub fn open_heads(heads: &mut [u32], area: u64)
     requires in_bounds { 17 ≤ length heads.old }
     ensures { heads.new ≡ opened_heads area (length heads.old) }
 {
-    fill_words(heads, 0);
+    fill(heads, 0);
     put_head(heads, 0, QueueHead::async_head(area as u32).words());
 }
 
@@ -157,10 +157,10 @@ pub fn decide_open(
     ) {
         return refuse(Refusal::InvalidParameter);
     }
-    fill_wide(slots, 0);
+    fill(slots, 0);
     open_heads(heads, settings.heads);
-    fill_words(frames, EHCI_LINK_TERMINATE);
-    fill_bytes(setups, 0);
+    fill(frames, EHCI_LINK_TERMINATE);
+    fill(setups, 0);
     accept(settings)
 }
 

@@ -11,29 +11,39 @@ use Rattle.common.specs.declared.kinds.EndpointType.{EndpointType}
 use Rattle.common.specs.declared.kinds.EndpointType.TheVariants.{Control, Isochronous, Bulk, Interrupt}
 use Rattle.token.specs.EhciQtd.{total_bytes}
 use Rattle.token.specs.Tokens.{only_if}
+use Rattle.pool.specs.declared.chain.Standing.{Standing}
+use Rattle.pool.specs.declared.chain.Standing.TheVariants.{Inactive, Erring, Active}
 use Rattle.pool.specs.declared.chain.View.{View}
 use Rattle.pool.specs.Transfers.{requested_at}
-use Rattle.pool.specs.Chains.{first_error, is_active, is_erring, is_retried, is_short, length_of, number_if, or_else, retried_of, see_of, standing_of, view_of}
+use Rattle.pool.specs.Chains.{first_error, is_active, is_erring, is_retried, is_short, length_of, number_if, or_else, retried_of, see_of, stage_else, stage_of, standing_of, view_of}
 
-pub seen_none : record { stage = 0; failed = 0; moved = 0; retried = 0 } ≡ view_of []
+pub seen_none : record { stage = Inactive; failed = 0; moved = 0; retried = 0 } ≡ view_of []
 unfolding view_of standing_of first_error length_of retried_of
 seen_none = refl
 
 pub was_set : (a b : ℕ) → (a ≡ 0 → ⊥) → a ≡ or_else a b
 was_set a b h = rw (ne_eqb a 0 h)
 
+pub stage_kept : (a b : Standing) → (a ≡ Inactive → ⊥) → a ≡ stage_else a b
+stage_kept Inactive b h = absurd (h refl)
+stage_kept Erring b h = refl
+stage_kept Active b h = refl
+
+pub stage_first : (a b s : Standing) → a ≡ Inactive → s ≡ b → s ≡ stage_else a b
+stage_first a b s z e = rw z e
+
+module _ (w : ℕ) (b : Bool) (e : b ≡ is_active w) where
+  pub stage_active : b ≡ true → Active ≡ stage_of w
+  stage_active t = rw (sym e ∙ t)
+
+  module _ (b' : Bool) (e' : b' ≡ is_erring w) (f : b ≡ false) where
+    pub stage_erring : b' ≡ true → Erring ≡ stage_of w
+    stage_erring t = rw (sym e ∙ f, sym e' ∙ t)
+
+    pub stage_clean : b' ≡ false → Inactive ≡ stage_of w
+    stage_clean t = rw (sym e ∙ f, sym e' ∙ t)
+
 module _ (a w : ℕ) (z : a ≡ 0) where
-  pub stage_active : (b : Bool) → b ≡ is_active w → b ≡ true → 2 ≡ or_else a (number_if (is_active w) 2 (number_if (is_erring w) 1 0))
-  stage_active b e t = rw (eq-eqb a 0 z, sym e ∙ t)
-
-  pub stage_erring : (b b' : Bool) → b ≡ is_active w → b ≡ false → b' ≡ is_erring w → b' ≡ true
-      → 1 ≡ or_else a (number_if (is_active w) 2 (number_if (is_erring w) 1 0))
-  stage_erring b b' e t e' t' = rw (eq-eqb a 0 z, sym e ∙ t, sym e' ∙ t')
-
-  pub stage_clean : (b b' : Bool) → b ≡ is_active w → b ≡ false → b' ≡ is_erring w → b' ≡ false
-      → 0 ≡ or_else a (number_if (is_active w) 2 (number_if (is_erring w) 1 0))
-  stage_clean b b' e t e' t' = rw (eq-eqb a 0 z, sym e ∙ t, sym e' ∙ t')
-
   pub failed_here : (b : Bool) → b ≡ is_erring w → b ≡ true → w ≡ or_else a (number_if (is_erring w) w 0)
   failed_here b e t = rw (eq-eqb a 0 z, sym e ∙ t)
 
@@ -77,11 +87,11 @@ requested_lt Isochronous length limit k h h' = omega (arith, h')
 requested_lt Bulk length limit k h h' = omega (arith, h')
 requested_lt Interrupt length limit k h h' = omega (arith, h')
 
-pub see_made : (u : View) (asked requested w s f r m : ℕ) → asked ≡ requested → s ≡ or_else u.stage (number_if (is_active w) 2 (number_if (is_erring w) 1 0))
+pub see_made : (u : View) (s : Standing) (asked requested w f r m : ℕ) → asked ≡ requested → s ≡ stage_else u.stage (stage_of w)
     → f ≡ or_else u.failed (number_if (is_erring w) w 0) → r ≡ asked - total_bytes w
     → m ≡ number_if (is_retried w) 1 0 → record { stage = s; failed = f; moved = u.moved + r; retried = u.retried + m } ≡ see_of u requested w
 unfolding view_of standing_of first_error length_of retried_of
-see_made u asked requested w s f r m ea es ef er em =
+see_made u s asked requested w f r m ea es ef er em =
     let sum : u.moved + r ≡ u.moved + ((requested - total_bytes w) + 0) = omega (arith, ea, er) in
     let count : u.retried + m ≡ u.retried + (number_if (is_retried w) 1 0 + 0) = omega (arith, em) in
     rw (es, ef, sum, count)

@@ -16,6 +16,7 @@ use Rattle.pool.specs.declared.transfer.Transfer.{Transfer}
 use Rattle.pool.specs.EhciChain.{follow}
 use Rattle.pool.specs.Places.{clear_of, mark_of, places_from}
 use Rattle.pool.specs.Transfers.{alternate_word, bare_at, chunk_qtd, record_at, stage_of_place}
+use Rattle.pool.specs.declared.chain.Standing.TheVariants.{Inactive, Erring, Active}
 use Rattle.pool.specs.Chains.{Seen, blank, filled_from, first_error, length_of, met_from, read_of, retried_of, standing_of, view_of}
 
 -- In, 18 bytes at 10000FFF; pool at 100000, setup packets at 400000
@@ -81,16 +82,16 @@ unfolding clear_of
 freed = refl
 
 -- a short second chunk, of 16384 and 100 bytes: 60 are left
-short : view_of (record { requested = 16384; token = 3328 } ∷ record { requested = 100; token = 3968256 } ∷ []) ≡ record { stage = 0; failed = 0; moved = 16424; retried = 0 }
+short : view_of (record { requested = 16384; token = 3328 } ∷ record { requested = 100; token = 3968256 } ∷ []) ≡ record { stage = Inactive; failed = 0; moved = 16424; retried = 0 }
 unfolding view_of standing_of first_error length_of retried_of
 short = refl
 
 -- halted before an active one; an active one that errs
-halted : view_of (record { requested = 100; token = 2624832 } ∷ record { requested = 100; token = 6589824 } ∷ []) ≡ record { stage = 1; failed = 2624832; moved = 60; retried = 0 }
+halted : view_of (record { requested = 100; token = 2624832 } ∷ record { requested = 100; token = 6589824 } ∷ []) ≡ record { stage = Erring; failed = 2624832; moved = 60; retried = 0 }
 unfolding view_of standing_of first_error length_of retried_of
 halted = refl
 
-active_first : standing_of (record { requested = 100; token = 6557120 } ∷ []) ≡ 2
+active_first : standing_of (record { requested = 100; token = 6557120 } ∷ []) ≡ Active
 unfolding standing_of
 active_first = refl
 
@@ -104,24 +105,24 @@ asked_and_short =
     ∷ record { requested = 16384; token = 0x40008D80 }
     ∷ []
 
-three_thousand : view_of (read_of true asked_and_short) ≡ record { stage = 0; failed = 0; moved = 3000; retried = 0 }
+three_thousand : view_of (read_of true asked_and_short) ≡ record { stage = Inactive; failed = 0; moved = 3000; retried = 0 }
 unfolding read_of view_of standing_of first_error length_of retried_of
 three_thousand = refl
 
 -- without the order it waits for the second
-waits_on : view_of (read_of false asked_and_short) ≡ record { stage = 2; failed = 0; moved = 3000; retried = 0 }
+waits_on : view_of (read_of false asked_and_short) ≡ record { stage = Active; failed = 0; moved = 3000; retried = 0 }
 unfolding read_of view_of standing_of first_error length_of retried_of
 waits_on = refl
 
 -- an active one before the short one: not finished, but read up to the short one; the error after it is not read
 active_then_short : view_of (read_of true (record { requested = 100; token = 6557056 } ∷ record { requested = 100; token = 2624768 } ∷ record { requested = 100; token = 64 } ∷ []))
-    ≡ record { stage = 2; failed = 0; moved = 60; retried = 0 }
+    ≡ record { stage = Active; failed = 0; moved = 60; retried = 0 }
 unfolding read_of view_of standing_of first_error length_of retried_of
 active_then_short = refl
 
 -- an error is no short one: what follows it is read
 halted_then_short : view_of (read_of true (record { requested = 100; token = 2624832 } ∷ record { requested = 100; token = 655360 } ∷ record { requested = 100; token = 64 } ∷ []))
-    ≡ record { stage = 1; failed = 2624832; moved = 150; retried = 0 }
+    ≡ record { stage = Erring; failed = 2624832; moved = 150; retried = 0 }
 unfolding read_of view_of standing_of first_error length_of retried_of
 halted_then_short = refl
 
@@ -129,22 +130,22 @@ halted_then_short = refl
 
 -- a packet of the second was retried and went through: complete, one retried
 retried_once : view_of (record { requested = 512; token = 0xD00 } ∷ record { requested = 512; token = 0xD08 } ∷ record { requested = 512; token = 0x8D00 } ∷ [])
-    ≡ record { stage = 0; failed = 0; moved = 1536; retried = 1 }
+    ≡ record { stage = Inactive; failed = 0; moved = 1536; retried = 1 }
 unfolding view_of standing_of first_error length_of retried_of
 retried_once = refl
 
 -- bits 4 and 5 are no error and not counted; an active one with bit 3 is counted
-babble_alone : view_of (record { requested = 512; token = 0xD30 } ∷ record { requested = 512; token = 0x2008D88 } ∷ []) ≡ record { stage = 2; failed = 0; moved = 512; retried = 1 }
+babble_alone : view_of (record { requested = 512; token = 0xD30 } ∷ record { requested = 512; token = 0x2008D88 } ∷ []) ≡ record { stage = Active; failed = 0; moved = 512; retried = 1 }
 unfolding view_of standing_of first_error length_of retried_of
 babble_alone = refl
 
 -- halted after three tries is an error
-halted_retried : view_of (record { requested = 512; token = 0x2000D48 } ∷ []) ≡ record { stage = 1; failed = 0x2000D48; moved = 0; retried = 1 }
+halted_retried : view_of (record { requested = 512; token = 0x2000D48 } ∷ []) ≡ record { stage = Erring; failed = 0x2000D48; moved = 0; retried = 1 }
 unfolding view_of standing_of first_error length_of retried_of
 halted_retried = refl
 
 -- short, with a retry: it ends the request, and the one after it is not counted
 short_retried : view_of (read_of true (record { requested = 512; token = 0x640D08 } ∷ record { requested = 512; token = 0x2008D08 } ∷ []))
-    ≡ record { stage = 0; failed = 0; moved = 412; retried = 1 }
+    ≡ record { stage = Inactive; failed = 0; moved = 412; retried = 1 }
 unfolding read_of view_of standing_of first_error length_of retried_of
 short_retried = refl

@@ -3,6 +3,7 @@ pub mod Walk
 pub mod PlaceLaws
 pub mod TransferCases
 pub mod ChainCases
+pub mod StandingLaws
 pub mod Turns
 pub mod Examples
 pub mod ChainLaws

@@ -1,30 +1,31 @@
 -- A turn of the loops over the pool: what was done so far and what is left make the whole.
 use Prim.Native.Nat.{ℕ, ◌+◌, ◌-◌, ◌*◌, ◌≤◌, ◌<◌, ◌^◌}
 use mathlib.Core.Path.{◌≡◌, refl, sym, ap, ◌∙◌}
-use mathlib.Core.Bool.{Bool, true, false}
+use mathlib.Core.Bool.{Bool, true, false, cond}
 use mathlib.Core.List.{List, [], ◌∷◌}
 use native.Mathlib.Omega.{arith}
 use borrow.Author.Tests.{eqb-true}
 use lib.Dec.{eqb}
 use Rattle.common.specs.declared.kinds.EndpointType.{EndpointType}
 use Rattle.token.specs.EhciQtd.{total_bytes}
+use Rattle.pool.specs.declared.chain.Standing.{Standing}
+use Rattle.pool.specs.declared.chain.Standing.TheVariants.{Inactive, Erring, Active}
 use Rattle.pool.specs.declared.chain.View.{View}
 use Rattle.pool.specs.Transfers.{requested_at}
-use Rattle.pool.specs.Chains.{Seen, first_error, is_active, is_erring, is_retried, joined, length_of, number_if, or_else, retried_of, see_of, standing_of, view_of}
+use Rattle.pool.specs.Chains.{Seen, first_error, is_active, is_erring, is_retried, joined, length_of, number_if, or_else, retried_of, see_of, stage_else, standing_of, view_of}
 use Rattle.pool.proofs.ChainCases.{requested_lt, retried_few}
 
 -- ---- the fill
 
 -- ---- the fold
 
-stage_step_lem : (a z : ℕ) (A B : Bool) → or_else (or_else a (number_if A 2 (number_if B 1 0))) z ≡ or_else a (number_if A 2 (number_if B 1 z))
-stage_step_lem a z A B = go (eqb a 0) refl A B
-  where
-    go : (b : Bool) → eqb a 0 ≡ b → (A B : Bool) → or_else (or_else a (number_if A 2 (number_if B 1 0))) z ≡ or_else a (number_if A 2 (number_if B 1 z))
-    go true e true B = rw e
-    go true e false true = rw e
-    go true e false false = rw e
-    go false e A B = rw (e, e)
+stage_step_lem : (a z : Standing) (A B : Bool)
+    → stage_else (stage_else a (cond A Active (cond B Erring Inactive))) z ≡ stage_else a (cond A Active (cond B Erring z))
+stage_step_lem Inactive z true B = refl
+stage_step_lem Inactive z false true = refl
+stage_step_lem Inactive z false false = refl
+stage_step_lem Erring z A B = refl
+stage_step_lem Active z A B = refl
 
 failed_step : (a z w : ℕ) (B : Bool) → (B ≡ true → eqb w 0 ≡ false) → or_else (or_else a (number_if B w 0)) z ≡ or_else a (number_if B w z)
 failed_step a z w B = go (eqb a 0) refl B
@@ -61,14 +62,19 @@ or_none a = go (eqb a 0) refl
     go true e = rw e (eqb-true a 0 e)
     go false e = rw e
 
+stage_none : (a : Standing) → a ≡ stage_else a Inactive
+stage_none Inactive = refl
+stage_none Erring = refl
+stage_none Active = refl
+
 add_none : (a : ℕ) → a ≡ a + 0
 add_none a = omega arith
 
 pub join_none : (u : View) → u ≡ joined u (view_of [])
 unfolding view_of standing_of first_error length_of retried_of
-join_none u = λ i. record { stage = or_none u.stage i; failed = or_none u.failed i; moved = add_none u.moved i; retried = add_none u.retried i }
+join_none u = λ i. record { stage = stage_none u.stage i; failed = or_none u.failed i; moved = add_none u.moved i; retried = add_none u.retried i }
 
-none_join : (v : View) → joined (record { stage = 0; failed = 0; moved = 0; retried = 0 }) v ≡ v
+none_join : (v : View) → joined (record { stage = Inactive; failed = 0; moved = 0; retried = 0 }) v ≡ v
 none_join v = λ i. record { stage = v.stage; failed = v.failed; moved = none_add v.moved i; retried = none_add v.retried i }
   where
     none_add : (a : ℕ) → 0 + a ≡ a

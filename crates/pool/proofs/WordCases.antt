@@ -1,7 +1,7 @@
 -- The returns of the functions that see a record by its word, and that make a record with the places to come in a cursor.
 use Prim.Native.Nat.{ℕ, ◌+◌, ◌-◌, ◌*◌, ◌≤◌, ◌<◌, ◌^◌}
 use mathlib.Core.Path.{◌≡◌, refl, sym, ap, subst, ◌∙◌}
-use mathlib.Core.Bool.{Bool, true, false, not, ◌&&◌}
+use mathlib.Core.Bool.{Bool, true, false, ◌&&◌}
 use mathlib.Core.List.{List, [], ◌∷◌}
 use native.Mathlib.Omega.{arith}
 use lib.Count.{count_trailing_zeros, trailing_le}
@@ -17,20 +17,18 @@ use Rattle.token.specs.declared.qtd.QtdToken.{QtdToken}
 use Rattle.token.specs.Chunks.{chunk_at}
 use Rattle.token.specs.EhciQtd.{total_bytes}
 use Rattle.token.specs.Plans.{chunk_token}
-use Rattle.descriptor.specs.declared.qtd.NextQtd.{NextQtd}
-use Rattle.descriptor.specs.declared.qtd.NextQtd.TheVariants.{Terminate, At}
+use Rattle.std.specs.Prelude.{Option, Some, None}
 use Rattle.descriptor.specs.declared.qtd.QueueTransferDescriptor.{QueueTransferDescriptor}
 use Rattle.descriptor.specs.Descriptors.{new_qtd, word_of_next, with_next}
 use Rattle.descriptor.specs.Slots.{page_slots, zero_slots}
 use Rattle.pool.specs.declared.asked.AskWords.{AskWords}
 use Rattle.pool.specs.declared.asked.Folded.{Folded}
 use Rattle.pool.specs.declared.chain.View.{View}
-use Rattle.pool.specs.declared.laying.Laying.{Laying}
 use Rattle.pool.specs.declared.transfer.Transfer.{Transfer}
-use Rattle.pool.specs.declared.writing.Writing.{Writing}
 use Rattle.pool.specs.Transfers.{address_of, alternate_of, bare_at, bare_for, chunk_qtd, is_last, next_of, record_at, requested_at, stage_of_place, with_alternate}
-use Rattle.pool.specs.Chains.{is_active, is_erring, is_retried, is_short, number_if, or_else, see_of, view_of}
-use Rattle.pool.specs.Words.{chunks_of, laying_if, left_if, next_good, seen_next, stages_of, words_if}
+use Rattle.pool.specs.Chains.{is_erring, is_retried, is_short, number_if, or_else, see_of, stage_else, stage_of, view_of}
+use Rattle.pool.specs.declared.chain.Standing.{Standing}
+use Rattle.pool.specs.Words.{left_if, next_good, seen_next}
 use Rattle.pool.proofs.ChainCases.{requested_lt, retried_few, see_made}
 
 -- ---- what is seen
@@ -42,12 +40,12 @@ word_sum_fits kind length limit k moved asked left r ea er hk hl h hm = omega (a
 pub word_count_fits : (k count r w : ℕ) → r ≡ number_if (is_retried w) 1 0 → k < 256 → count ≤ k → Fits w16 (count + r)
 word_count_fits k count r w e hk h = omega (arith, e, hk, h, retried_few w)
 
-pub word_seen : (s : Folded) (a : AskWords) (w asked stage failed r m : ℕ) (short : Bool) → asked ≡ requested_at a.kind a.length a.limit s.k
-    → stage ≡ or_else s.view.stage (number_if (is_active w) 2 (number_if (is_erring w) 1 0)) → failed ≡ or_else s.view.failed (number_if (is_erring w) w 0)
+pub word_seen : (s : Folded) (a : AskWords) (stage : Standing) (w asked failed r m : ℕ) (short : Bool) → asked ≡ requested_at a.kind a.length a.limit s.k
+    → stage ≡ stage_else s.view.stage (stage_of w) → failed ≡ or_else s.view.failed (number_if (is_erring w) w 0)
     → r ≡ asked - total_bytes w → m ≡ number_if (is_retried w) 1 0 → short ≡ is_short w
     → record { view = record { stage = stage; failed = failed; moved = s.view.moved + r; retried = s.view.retried + m }; k = s.k + 1; ended = a.stops && short } ≡ seen_next s a w
-word_seen s a w asked stage failed r m short ea es ef er em eh =
-    ap (λ (v : View). record { view = v; k = s.k + 1; ended = a.stops && short }) (see_made s.view asked (requested_at a.kind a.length a.limit s.k) w stage failed r m ea es ef er em)
+word_seen s a stage w asked failed r m short ea es ef er em eh =
+    ap (λ (v : View). record { view = v; k = s.k + 1; ended = a.stops && short }) (see_made s.view stage asked (requested_at a.kind a.length a.limit s.k) w failed r m ea es ef er em)
     ∙ ap (λ (b : Bool). record { view = see_of s.view (requested_at a.kind a.length a.limit s.k) w; k = s.k + 1; ended = a.stops && b }) eh
 
 pub none_made : (v : View) → v ≡ view_of [] → ◌≡◌ {A = Folded} (record { view = v; k = 0; ended = false }) (record { view = view_of []; k = 0; ended = false })
@@ -62,11 +60,11 @@ left_open b x r e er = rw (e, er)
 -- ---- where the chain goes on
 
 module _ (base : ℕ) (c : Cursor) (b : Bool) (e : b ≡ is_none (rest_of c)) where
-  pub next_none : b ≡ true → Terminate ≡ next_of base (rest_of c)
+  pub next_none : b ≡ true → ◌≡◌ {A = Option ℕ} None (next_of base (rest_of c))
   next_none t = rw (rest_end c (sym e ∙ t))
 
   module _ (p : ℕ) (f : b ≡ false) (ep : p ≡ place_at c) where
-    pub next_some : At (base + 64 * p) ≡ next_of base (rest_of c)
+    pub next_some : ◌≡◌ {A = Option ℕ} (Some (base + 64 * p)) (next_of base (rest_of c))
     next_some = rw (rest_step c (sym e ∙ f), ep)
 
     pub next_below : next_good base (rest_of c) → base + 64 * p < 2 ^ 32
@@ -95,13 +93,13 @@ chunk_bare Isochronous t k last e = refl
 chunk_bare Bulk t k last e = refl
 chunk_bare Interrupt t k last e = refl
 
-pub stage_made : (t : Transfer) (k base : ℕ) (rest : List ℕ) (to : NextQtd) (bare r : QueueTransferDescriptor) → is_control t.kind ≡ true
+pub stage_made : (t : Transfer) (k base : ℕ) (rest : List ℕ) (to : Option ℕ) (bare r : QueueTransferDescriptor) → is_control t.kind ≡ true
     → to ≡ next_of base rest → bare ≡ stage_of_place t k → r ≡ with_next bare to → r ≡ record_at t k rest base
 unfolding record_at bare_at
 stage_made t k base rest to bare r c en eb er =
     er ∙ ap (λ (d : QueueTransferDescriptor). with_next d to) (eb ∙ control_bare t.kind t k (is_last rest) c) ∙ ap (with_next (bare_for t.kind t k (is_last rest))) en
 
-pub chunk_laid : (t : Transfer) (k base : ℕ) (rest : List ℕ) (to : NextQtd) (next other bytes : ℕ) (last : Bool) (token : QtdToken) (pages : List ℕ) → is_control t.kind ≡ false
+pub chunk_laid : (t : Transfer) (k base : ℕ) (rest : List ℕ) (to : Option ℕ) (next other bytes : ℕ) (last : Bool) (token : QtdToken) (pages : List ℕ) → is_control t.kind ≡ false
     → to ≡ next_of base rest → next ≡ word_of_next to → bytes ≡ chunk_at k t.length t.limit → last ≡ is_none rest → token ≡ chunk_token t.direction bytes last
     → other ≡ alternate_of t last → pages ≡ page_slots (t.address + k * t.limit) bytes
     → record { next = next; alternate = other; token = token.0; pages = pages; upper = zero_slots } ≡ record_at t k rest base
@@ -115,17 +113,3 @@ chunk_laid t k base rest to next other bytes last token pages c en ew eb el et e
     (et ∙ ap (chunk_token t.direction bytes) is-last)
     ∙ ap (λ (m : ℕ). with_next (with_alternate (new_qtd (chunk_token t.direction m (is_last rest)) (t.address + k * t.limit) m) (alternate_of t (is_last rest))) (next_of base rest)) eb
     ∙ ap (λ (d : QueueTransferDescriptor). with_next d (next_of base rest)) (chunk_bare t.kind t k (is_last rest) c)
-
--- ---- the parts of a writing
-
-words_are : (l : Laying) (b : Bool) (places : List ℕ) → places ≡ words_if b l.places → record { places = places; base = l.base; transfer = l.transfer } ≡ laying_if b l
-words_are l b places e = ap (λ (ps : List ℕ). record { places = ps; base = l.base; transfer = l.transfer }) e
-
-module _ (w : Writing) (b : Bool) (places : List ℕ) (e : b ≡ is_control w.laying.transfer.kind) where
-  pub stages_made : places ≡ words_if b w.laying.places → record { places = places; base = w.laying.base; transfer = w.laying.transfer } ≡ stages_of w
-  unfolding stages_of
-  stages_made h = words_are w.laying b places h ∙ ap (λ (y : Bool). laying_if y w.laying) e
-
-  pub chunks_made : places ≡ words_if (not b) w.laying.places → record { places = places; base = w.laying.base; transfer = w.laying.transfer } ≡ chunks_of w
-  unfolding chunks_of
-  chunks_made h = words_are w.laying (not b) places h ∙ ap (λ (y : Bool). laying_if (not y) w.laying) e

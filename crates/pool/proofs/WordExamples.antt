@@ -1,6 +1,5 @@
 -- The definitions run: a request in chunks at the places of a set, a token at one place, and what their tokens say.
 use mathlib.Core.Path.{◌≡◌, refl}
-use mathlib.Core.Bool.{true}
 use mathlib.Core.List.{List, [], ◌∷◌}
 use lib.ListN.{get_or, replicate}
 use Rattle.bitset.specs.Places.{set_places}
@@ -14,8 +13,10 @@ use Rattle.descriptor.specs.Slots.{page_slots, zero_slots}
 use Rattle.pool.specs.declared.laying.Laying.{Laying}
 use Rattle.pool.specs.Places.{up_from}
 use Rattle.pool.specs.Transfers.{bare_at, chunk_qtd, record_at, requested_at}
+use Rattle.pool.specs.declared.chain.Standing.TheVariants.{Inactive}
 use Rattle.pool.specs.Chains.{blank, filled_from, first_error, length_of, retried_of, seen_from, standing_of, view_of}
-use Rattle.pool.specs.Words.{opened_to, no_laying, no_marking, written_with}
+use Rattle.std.specs.Prelude.{Some, None}
+use Rattle.pool.specs.Words.{opened_to, no_laying, written_with}
 
 -- bulk In, 16385 bytes in chunks of 16384, at places 0 and 2
 abbrev two_chunks : Laying
@@ -33,18 +34,18 @@ laid_records =
     ∷ record { next = 1; alternate = 1; token = 101760; pages = 268451840 ∷ 0 ∷ 0 ∷ 0 ∷ 0 ∷ []; upper = zero_slots }
     ∷ []
 
-laid : written_with (record { laying = two_chunks; marking = no_marking }) (replicate 3 blank) ≡ laid_records
-unfolding written_with no_marking set_places places_of filled_from record_at bare_at chunk_qtd token_of new_qtd with_next page_slots
+laid : written_with (record { laying = two_chunks; marking = None }) (replicate 3 blank) ≡ laid_records
+unfolding written_with set_places places_of filled_from record_at bare_at chunk_qtd token_of new_qtd with_next page_slots
 laid = refl
 
 -- the token at place 65, and no other
-marked : get_or (written_with (record { laying = no_laying; marking = record { marks = true; place = 65; token = 9 } }) (replicate 66 blank)) 65 blank ≡ record { next = 0; alternate = 0; token = 9; pages = zero_slots; upper = zero_slots }
+marked : get_or (written_with (record { laying = no_laying; marking = Some (record { place = 65; token = 9 }) }) (replicate 66 blank)) 65 blank ≡ record { next = 0; alternate = 0; token = 9; pages = zero_slots; upper = zero_slots }
 unfolding written_with no_laying set_places places_of filled_from
 marked = refl
 
 -- both chunks are done, the second one left its byte
 seen : view_of (seen_from Bulk 16385 16384 0 (set_places (5 ∷ 0 ∷ 0 ∷ 0 ∷ [])) (record { next = 0; alternate = 0; token = 3328; pages = zero_slots; upper = zero_slots } ∷ blank ∷ record { next = 0; alternate = 0; token = 68864; pages = zero_slots; upper = zero_slots } ∷ []))
-    ≡ record { stage = 0; failed = 0; moved = 16384; retried = 0 }
+    ≡ record { stage = Inactive; failed = 0; moved = 16384; retried = 0 }
 unfolding set_places places_of seen_from view_of standing_of first_error length_of retried_of requested_at
 seen = refl
 

@@ -23,7 +23,7 @@ use Rattle.pool.specs.declared.laying.Laying.{Laying}
 use Rattle.pool.specs.declared.transfer.Transfer.{Transfer}
 use Rattle.pool.specs.Places.{up_from}
 use Rattle.pool.specs.Chains.{blank, filled_from, fresh_at, starts_good, transfer_good, written_of}
-use Rattle.pool.specs.Words.{ChunksGood, LayingGood, StagesGood, opened_to, next_good, where_places}
+use Rattle.pool.specs.Words.{LayingGood, TurnGood, opened_to, next_good, where_places}
 
 -- ---- how many places there are
 
@@ -129,18 +129,16 @@ module _ (n : ℕ) (l : Laying) (k : ℕ) (rest : List ℕ) (h : k < length (set
   good_of : LayingGood n l → transfer_good l.transfer l.base n (length ps)
   good_of g = where_some ps (transfer_good l.transfer l.base n (length ps)) some_places g.transfer
 
-  pub stage_turn : StagesGood n l
-      → (is_control l.transfer.kind ≡ true) × (l.transfer.length ≤ 2 ^ 32 - l.transfer.address) × (8 ≤ 2 ^ 32 - l.transfer.setup) × next_good l.base rest
-  stage_turn g =
-      let t : transfer_good l.transfer l.base n (length ps) = good_of g.laying in
-      (where_some ps (is_control l.transfer.kind ≡ true) some_places g.kind, t.1, t.2, next_in_lem l.base n rest t.0 w)
-
-  pub chunk_turn : ChunksGood n l
-      → (is_control l.transfer.kind ≡ false) × (l.transfer.length ≤ 2 ^ 32 - l.transfer.address) × (k * l.transfer.limit ≤ l.transfer.length) × (l.transfer.limit ≤ 16384) × next_good l.base rest
-  chunk_turn g =
-      let t : transfer_good l.transfer l.base n (length ps) = good_of g.laying in
-      let c : is_control l.transfer.kind ≡ false = where_some ps (is_control l.transfer.kind ≡ false) some_places g.kind in
-      (c, t.1, chunk_start l.transfer.kind l.transfer (length ps) k c h t.3, t.4, next_in_lem l.base n rest t.0 w)
+  pub turn_good : LayingGood n l → TurnGood l k rest
+  turn_good g =
+      let t : transfer_good l.transfer l.base n (length ps) = good_of g in
+      record {
+        buffer = t.1;
+        setup = t.2;
+        starts = λ c. chunk_start l.transfer.kind l.transfer (length ps) k c h t.3;
+        limited = t.4;
+        next = next_in_lem l.base n rest t.0 w;
+      }
 
 -- ---- the first records as opening leaves them
 

@@ -10,6 +10,8 @@ use Rattle.pool.specs.Plain.{Ask}
 use Rattle.pool.specs.Plain.{Chain}
 use Rattle.pool.specs.Plain.{Deed}
 use Rattle.pool.specs.Plain as Deeds
+use Rattle.pool.specs.declared.chain.Standing.{Standing}
+use Rattle.pool.specs.declared.chain.Standing.TheVariants.{Inactive, Erring, Active}
 use Rattle.pool.specs.declared.chain.View.{View}
 use Rattle.pool.specs.declared.transfer.Transfer.{Transfer}
 use Rattle.pool.specs.EhciChain.{follow}
@@ -103,10 +105,19 @@ unfoldable pub read_of : Bool → List Seen → List Seen
 read_of stops [] = []
 read_of stops (s ∷ ss) = s ∷ cond (stops && is_short s.token) [] (read_of stops ss)
 
--- 0: every descriptor is inactive, none erring; 1: an error comes before any active one; 2: an active one comes first
-unfoldable pub standing_of : List Seen → ℕ
-standing_of [] = 0
-standing_of (s ∷ ss) = number_if (is_active s.token) 2 (number_if (is_erring s.token) 1 (standing_of ss))
+-- every descriptor is inactive, none erring; an error comes before any active one; an active one comes first
+unfoldable pub standing_of : List Seen → Standing
+standing_of [] = Inactive
+standing_of (s ∷ ss) = cond (is_active s.token) Active (cond (is_erring s.token) Erring (standing_of ss))
+
+abbrev pub stage_of : ℕ → Standing
+stage_of w = cond (is_active w) Active (cond (is_erring w) Erring Inactive)
+
+-- an active descriptor comes first
+abbrev pub stands_active : Standing → Bool
+stands_active Inactive = false
+stands_active Erring = false
+stands_active Active = true
 
 -- the first erring token, 0 where none is
 unfoldable pub first_error : List Seen → ℕ
@@ -129,11 +140,16 @@ view_of ss = record { stage = standing_of ss; failed = first_error ss; moved = l
 abbrev pub or_else : ℕ → ℕ → ℕ
 or_else a b = number_if (eqb a 0) b a
 
+abbrev pub stage_else : Standing → Standing → Standing
+stage_else Inactive b = b
+stage_else Erring b = Erring
+stage_else Active b = Active
+
 -- what is seen first, then more
 abbrev pub joined : View → View → View
 joined u v =
     record {
-      stage = or_else u.stage v.stage;
+      stage = stage_else u.stage v.stage;
       failed = or_else u.failed v.failed;
       moved = u.moved + v.moved;
       retried = u.retried + v.retried;

@@ -1,7 +1,5 @@
 -- Document 01, "Tokens and plans", "Descriptors, heads, links", and order 1 of 02: a request's k-th descriptor.
-use Rattle.std.specs.Prelude.{ℕ, ◌+◌, ◌*◌, Bool, true, false, cond, not, List, [], ◌∷◌, eqb}
-use Rattle.token.specs.declared.plan.DataTd.{DataTd}
-use Rattle.token.specs.declared.plan.DataTd.TheVariants.{Absent, Present}
+use Rattle.std.specs.Prelude.{ℕ, ◌+◌, ◌*◌, Bool, true, false, cond, not, List, [], ◌∷◌, eqb, Option, Some, None}
 use Rattle.token.specs.declared.qtd.QtdToken.{QtdToken}
 use Rattle.common.specs.Kinds.{is_control}
 use Rattle.common.specs.declared.kinds.Direction.{Direction}
@@ -11,8 +9,6 @@ use Rattle.common.specs.declared.kinds.EndpointType.TheVariants.{Control, Isochr
 use Rattle.token.specs.Chunks.{chunk_at}
 use Rattle.token.specs.Plans.{control_plan, chunk_token}
 use Rattle.token.specs.Tokens.{only_if}
-use Rattle.descriptor.specs.declared.qtd.NextQtd.{NextQtd}
-use Rattle.descriptor.specs.declared.qtd.NextQtd.TheVariants.{Terminate, At}
 use Rattle.descriptor.specs.declared.qtd.QueueTransferDescriptor.{QueueTransferDescriptor}
 use Rattle.descriptor.specs.Descriptors.{new_qtd, with_next}
 use Rattle.pool.specs.declared.transfer.Transfer.{Transfer}
@@ -29,9 +25,9 @@ qtd_if true a b = a
 qtd_if false a b = b
 
 -- after the setup: data if there is any, then status
-abbrev pub later_stage : DataTd → QtdToken → ℕ → ℕ → ℕ → QueueTransferDescriptor
-later_stage Absent status address length k = new_qtd status 0 0
-later_stage (Present token) status address length k = qtd_if (eqb k 1) (new_qtd token address length) (new_qtd status 0 0)
+abbrev pub later_stage : Option QtdToken → QtdToken → ℕ → ℕ → ℕ → QueueTransferDescriptor
+later_stage None status address length k = new_qtd status 0 0
+later_stage (Some token) status address length k = qtd_if (eqb k 1) (new_qtd token address length) (new_qtd status 0 0)
 
 -- the setup stage's buffer is the setup packet
 unfoldable pub stage_of_place : Transfer → ℕ → QueueTransferDescriptor
@@ -91,9 +87,9 @@ abbrev pub address_of : ℕ → ℕ → ℕ
 address_of base place = base + 64 * place
 
 -- where the chain goes on, with these places to come
-abbrev pub next_of : ℕ → List ℕ → NextQtd
-next_of base [] = Terminate
-next_of base (q ∷ qs) = At (address_of base q)
+abbrev pub next_of : ℕ → List ℕ → Option ℕ
+next_of base [] = None
+next_of base (q ∷ qs) = Some (address_of base q)
 
 -- the k-th descriptor, with these places to come
 unfoldable pub record_at : Transfer → ℕ → List ℕ → ℕ → QueueTransferDescriptor

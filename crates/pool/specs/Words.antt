@@ -1,5 +1,5 @@
 -- What is asked of the pool and written to it, the places as the words of a set.
-use Rattle.std.specs.Prelude.{ℕ, ◌+◌, ◌*◌, ◌≤◌, ◌<◌, ◌^◌, ◌≡◌, Bool, true, false, cond, not, ◌&&◌, List, [], ◌∷◌, ◌++◌, get_or, length, replicate, set}
+use Rattle.std.specs.Prelude.{ℕ, ◌+◌, ◌-◌, ◌*◌, ◌≤◌, ◌<◌, ◌^◌, ◌≡◌, Bool, false, cond, ◌&&◌, List, [], ◌∷◌, ◌++◌, get_or, length, replicate, set, IfSome, Option, Some, None}
 use Rattle.bitset.specs.Places.{Within, set_places}
 use Rattle.bitset.specs.Words.{places_of}
 use Rattle.common.specs.declared.kinds.Direction.TheVariants as Directions
@@ -10,7 +10,7 @@ use Rattle.pool.specs.declared.asked.AskWords.{AskWords}
 use Rattle.pool.specs.declared.asked.Folded.{Folded}
 use Rattle.pool.specs.Plain as Deeds
 use Rattle.pool.specs.declared.laying.Laying.{Laying}
-use Rattle.pool.specs.declared.marking.Marking.{Marking}
+use Rattle.pool.specs.declared.marking.Mark.{Mark}
 use Rattle.pool.specs.declared.transfer.Transfer.{Transfer}
 use Rattle.pool.specs.declared.writing.Writing.{Writing}
 use Rattle.pool.specs.Places.{up_from}
@@ -88,9 +88,10 @@ next_good base (q ∷ qs) = address_of base q < 2 ^ 32
 abbrev pub laid_of : Laying → List QueueTransferDescriptor → List QueueTransferDescriptor
 laid_of l rs = filled_from (Deeds.Transfer l.transfer) l.base 0 (set_places l.places) rs
 
--- the token alone at one place, where it marks
-abbrev pub marked_of : Marking → List QueueTransferDescriptor → List QueueTransferDescriptor
-marked_of m rs = cond m.marks (set rs m.place (with_token (get_or rs m.place blank) m.token)) rs
+-- the token alone at one place, where one is marked
+abbrev pub marked_of : Option Mark → List QueueTransferDescriptor → List QueueTransferDescriptor
+marked_of None rs = rs
+marked_of (Some m) rs = set rs m.place (with_token (get_or rs m.place blank) m.token)
 
 -- a transfer's records are laid, then the token is marked
 unfoldable pub written_with : Writing → List QueueTransferDescriptor → List QueueTransferDescriptor
@@ -106,37 +107,20 @@ pub record LayingGood (n : ℕ) (l : Laying) : Type 0 where
   pub within : Within n (set_places l.places)
   pub transfer : where_places (set_places l.places) (transfer_good l.transfer l.base n (length (set_places l.places)))
 
--- besides, the transfer is of one kind
-pub record StagesGood (n : ℕ) (l : Laying) : Type 0 where
-  pub laying : LayingGood n l
-  pub kind : where_places (set_places l.places) (is_control l.transfer.kind ≡ true)
+-- what the record at one of the places asks: the k-th, where these places are to come
+pub record TurnGood (l : Laying) (k : ℕ) (rest : List ℕ) : Type 0 where
+  pub buffer : l.transfer.length ≤ 2 ^ 32 - l.transfer.address
+  pub setup : 8 ≤ 2 ^ 32 - l.transfer.setup
+  pub starts : is_control l.transfer.kind ≡ false → k * l.transfer.limit ≤ l.transfer.length
+  pub limited : l.transfer.limit ≤ 16384
+  pub next : next_good l.base rest
 
-pub record ChunksGood (n : ℕ) (l : Laying) : Type 0 where
-  pub laying : LayingGood n l
-  pub kind : where_places (set_places l.places) (is_control l.transfer.kind ≡ false)
-
-pub record MarkingGood (n : ℕ) (m : Marking) : Type 0 where
-  pub within : m.marks ≡ true → m.place < n
+pub record MarkingGood (n : ℕ) (m : Option Mark) : Type 0 where
+  pub within : IfSome m (λ x. x.place < n)
 
 pub record WritingGood (n : ℕ) (w : Writing) : Type 0 where
   pub laying : LayingGood n w.laying
   pub marking : MarkingGood n w.marking
-
--- ---- parts
-
-abbrev pub words_if : Bool → List ℕ → List ℕ
-words_if true w = w
-words_if false w = no_words
-
--- the laying of a writing where its transfer is of this kind; else no place
-abbrev pub laying_if : Bool → Laying → Laying
-laying_if b l = record { places = words_if b l.places; base = l.base; transfer = l.transfer }
-
-unfoldable pub stages_of : Writing → Laying
-stages_of w = laying_if (is_control w.laying.transfer.kind) w.laying
-
-unfoldable pub chunks_of : Writing → Laying
-chunks_of w = laying_if (not (is_control w.laying.transfer.kind)) w.laying
 
 -- nothing is written
 abbrev pub no_transfer : Transfer
@@ -146,8 +130,5 @@ no_transfer =
 unfoldable pub no_laying : Laying
 no_laying = record { places = no_words; base = 0; transfer = no_transfer }
 
-unfoldable pub no_marking : Marking
-no_marking = record { marks = false; place = 0; token = 0 }
-
 unfoldable pub no_writing : Writing
-no_writing = record { laying = no_laying; marking = no_marking }
+no_writing = record { laying = no_laying; marking = None }

@@ -136,10 +136,8 @@ pub fn fold_places(rows: &[QueueTransferDescriptor], ask: AskWords) -> View
     ensures { result ≡ view_of (read_of ask.stops (seen_from ask.kind ask.length ask.limit 0 (set_places ask.places) rows.now)) }
 {
     let mut seen = none_folded();
-    let mut j: usize = 0;
-    while j < WORDS {
+    for j in 0..WORDS {
         seen = fold_word(rows, ask, j, seen);
-        j += 1;
     }
     seen.view
 }

@@ -1,14 +1,31 @@
 // What the tokens of a request say, one after another.
 ghost use Rattle.std.specs.Prelude.{◌≡◌, [], ◌-◌, ◌<◌};
 ghost use Rattle.token.specs.EhciQtd.{total_bytes};
-ghost use Rattle.pool.specs.Chains.{blank, is_active, is_erring, is_retried, is_short, number_if, or_else, view_of};
+ghost use Rattle.pool.specs.Chains.{blank, is_active, is_erring, is_retried, is_short, number_if, or_else, stage_else, stage_of, view_of, stands_active};
 
 use descriptor::qtd::QueueTransferDescriptor;
 use token::qtd::QtdToken;
 
-#[derive(Clone, Copy)]
+// Where a request's descriptors stand: none is active or erring, an error comes before any active one, an active one comes first.
+#[derive(Clone, Copy, PartialEq, Eq)]
+pub enum Standing {
+    Inactive,
+    Erring,
+    Active,
+}
+
+impl Standing {
+    pub fn stands_active(self) -> bool
+        ensures { result ≡ stands_active self }
+    {
+        matches!(self, Standing::Active)
+    }
+}
+
+// `failed` is the first erring token, which is never 0; 0 where none is.
+#[derive(Clone, Copy, PartialEq, Eq)]
 pub struct View {
-    pub stage: u8,
+    pub stage: Standing,
     pub retried: u16,
     pub failed: u32,
     pub moved: u64,
@@ -18,32 +35,33 @@ pub fn nothing_seen() -> View
     ensures { result ≡ view_of [] }
 {
     View {
-        stage: 0,
+        stage: Standing::Inactive,
         retried: 0,
         failed: 0,
         moved: 0,
     }
 }
 
-// Where a request's descriptors stand: an error comes before any active one; an active one comes first.
-pub const STANDS_FAILED: u8 = 1;
-
-pub const STANDS_ACTIVE: u8 = 2;
-
 // An active token decides before its errors do.
-pub fn stage_with(stage: u8, token: QtdToken) -> u8
-    ensures { result ≡ or_else stage (number_if (is_active token.0) 2 (number_if (is_erring token.0) 1 0)) }
+fn stage_of(token: QtdToken) -> Standing
+    ensures { result ≡ stage_of token.0 }
 {
-    if stage != 0 {
-        return stage;
-    }
     if token.active() {
-        return STANDS_ACTIVE;
+        return Standing::Active;
     }
     if token.has_error() {
-        return STANDS_FAILED;
+        return Standing::Erring;
     }
-    0
+    Standing::Inactive
+}
+
+pub fn stage_with(stage: Standing, token: QtdToken) -> Standing
+    ensures { result ≡ stage_else stage (stage_of token.0) }
+{
+    match stage {
+        Standing::Inactive => stage_of(token),
+        _ => stage,
+    }
 }
 
 pub fn failed_with(failed: u32, token: QtdToken) -> u32
@@ -84,11 +102,7 @@ pub fn is_short(token: QtdToken) -> bool
 pub fn moved_of(requested: u64, token: QtdToken) -> u64
     ensures { result ≡ requested - total_bytes token.0 }
 {
-    let left = token.total_bytes() as u64;
-    if requested < left {
-        return 0;
-    }
-    requested - left
+    requested.saturating_sub(token.total_bytes() as u64)
 }
 
 pub fn no_record() -> QueueTransferDescriptor

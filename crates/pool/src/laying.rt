@@ -1,16 +1,16 @@
-// A transfer's records are laid at the places of a set, in order: a loop for the stages of a control request, and one for chunks.
+// A transfer's records are laid at the places of a set, in order: the stages of a control request, or chunks.
 ghost use Rattle.std.specs.Prelude.{◌≡◌, true, false, not, ◌-◌, ◌*◌, ◌≤◌, ◌^◌, length};
 ghost use Rattle.bitset.specs.Places.{set_places};
 ghost use Rattle.bitset.specs.Rest.{is_none, rest_of};
 ghost use Rattle.common.specs.Kinds.{is_control};
 ghost use Rattle.pool.specs.Transfers.{alternate_of, next_of, record_at};
-ghost use Rattle.pool.specs.Words.{StagesGood, ChunksGood, laid_of, next_good, no_laying};
+ghost use Rattle.pool.specs.Words.{LayingGood, TurnGood, laid_of, next_good, no_laying};
 
 use crate::row::replace;
 use crate::transfer::{Transfer, stage_at};
 use bitset::cursor::{Cursor, advance, at_end, cursor_of, place_at};
-use common::kinds::{Direction, EndpointType};
-use descriptor::qtd::{EHCI_LINK_TERMINATE, NextQtd, QueueTransferDescriptor};
+use common::kinds::{Direction, EndpointType, is_control};
+use descriptor::qtd::{EHCI_LINK_TERMINATE, QueueTransferDescriptor, next_word};
 use descriptor::slots::page_slots;
 use token::chunks::chunk_length;
 use token::plan::chunk_token;
@@ -56,24 +56,25 @@ fn first_place(l: Laying) -> Cursor
 }
 
 // Where the chain goes on: at the cursor's place, nowhere at its end.
-fn next_at(base: u64, next: Cursor) -> NextQtd
+fn next_at(base: u64, next: Cursor) -> Option<u32>
     requires { next_good base (rest_of next) }
     ensures { result ≡ next_of base (rest_of next) }
 {
     if at_end(next) {
-        return NextQtd::Terminate;
+        return None;
     }
-    NextQtd::At((base + 64 * (place_at(next) as u64)) as u32)
+    Some((base + 64 * (place_at(next) as u64)) as u32)
 }
 
 // The k-th record of a control request; the places to come are those of a cursor.
-fn stage_record(l: Laying, k: u64, next: Cursor) -> QueueTransferDescriptor
-    requires { (is_control l.transfer.kind ≡ true) × (l.transfer.length ≤ 2 ^ 32 - l.transfer.address) × (8 ≤ 2 ^ 32 - l.transfer.setup) × next_good l.base (rest_of next) }
+fn stage_record(l: Laying, k: u32, next: Cursor) -> QueueTransferDescriptor
+    requires kind { is_control l.transfer.kind ≡ true }
+    requires turn { TurnGood l k (rest_of next) }
     ensures { result ≡ record_at l.transfer k (rest_of next) l.base }
 {
     let to = next_at(l.base, next);
     let t = l.transfer;
-    let bare = stage_at(t, k);
+    let bare = stage_at(t, k as u64);
     bare.set_next(to)
 }
 
@@ -89,7 +90,9 @@ fn alternate_of(t: Transfer, last: bool) -> u32
 
 // The k-th record of a request in chunks.
 fn chunk_record(l: Laying, k: u32, next: Cursor) -> QueueTransferDescriptor
-    requires { (is_control l.transfer.kind ≡ false) × (l.transfer.length ≤ 2 ^ 32 - l.transfer.address) × (k * l.transfer.limit ≤ l.transfer.length) × (l.transfer.limit ≤ 16384) × next_good l.base (rest_of next) }
+    requires kind { is_control l.transfer.kind ≡ false }
+    requires turn { TurnGood l k (rest_of next) }
+    requires starts { k * l.transfer.limit ≤ l.transfer.length }
     ensures { result ≡ record_at l.transfer k (rest_of next) l.base }
 {
     let t = l.transfer;
@@ -101,7 +104,7 @@ fn chunk_record(l: Laying, k: u32, next: Cursor) -> QueueTransferDescriptor
     let last = at_end(next);
     let token = chunk_token(direction, bytes, last);
     QueueTransferDescriptor {
-        next: to.word(),
+        next: next_word(to),
         alternate: alternate_of(t, last),
         token: token.0,
         pages: page_slots(t.address + start, bytes),
@@ -109,23 +112,22 @@ fn chunk_record(l: Laying, k: u32, next: Cursor) -> QueueTransferDescriptor
     }
 }
 
-pub fn lay_stages(rows: &mut [QueueTransferDescriptor], l: Laying)
-    requires { StagesGood (length rows.old) l }
-    ensures { rows.new ≡ laid_of l rows.old }
+// `CONTROL` says whether the request is a control one, so that no turn of the loop asks for its kind.
+fn next_record<const CONTROL: bool>(l: Laying, k: u32, next: Cursor) -> QueueTransferDescriptor
+    requires kind { is_control l.transfer.kind ≡ CONTROL }
+    requires turn { TurnGood l k (rest_of next) }
+    ensures { result ≡ record_at l.transfer k (rest_of next) l.base }
 {
-    let mut at = first_place(l);
-    let mut k: u64 = 0;
-    while more(at) {
-        let place = place_at(at);
-        at = advance(at);
-        let r = stage_record(l, k, at);
-        replace(rows, place, r);
-        k += 1;
+    if CONTROL {
+        stage_record(l, k, next)
+    } else {
+        chunk_record(l, k, next)
     }
 }
 
-pub fn lay_chunks(rows: &mut [QueueTransferDescriptor], l: Laying)
-    requires { ChunksGood (length rows.old) l }
+fn lay_kind<const CONTROL: bool>(rows: &mut [QueueTransferDescriptor], l: Laying)
+    requires laying { LayingGood (length rows.old) l }
+    requires kind { is_control l.transfer.kind ≡ CONTROL }
     ensures { rows.new ≡ laid_of l rows.old }
 {
     let mut at = first_place(l);
@@ -133,8 +135,19 @@ pub fn lay_chunks(rows: &mut [QueueTransferDescriptor], l: Laying)
     while more(at) {
         let place = place_at(at);
         at = advance(at);
-        let r = chunk_record(l, k, at);
+        let r = next_record::<CONTROL>(l, k, at);
         replace(rows, place, r);
         k += 1;
+    }
+}
+
+pub fn lay(rows: &mut [QueueTransferDescriptor], l: Laying)
+    requires { LayingGood (length rows.old) l }
+    ensures { rows.new ≡ laid_of l rows.old }
+{
+    if is_control(l.transfer.kind) {
+        lay_kind::<true>(rows, l);
+    } else {
+        lay_kind::<false>(rows, l);
     }
 }

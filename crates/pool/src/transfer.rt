@@ -5,7 +5,7 @@ ghost use Rattle.pool.specs.Transfers.{alternate_word, ends_short, requested_at,
 use common::kinds::{Direction, EndpointType, is_control};
 use descriptor::qtd::{EHCI_LINK_TERMINATE, QueueTransferDescriptor};
 use token::chunks::chunk_length;
-use token::plan::{DataTd, build_control_td_plan};
+use token::plan::build_control_td_plan;
 
 // `setup` is the address of the slot's setup packet, `alternate` the alternate word of all but the last descriptor.
 #[derive(Clone, Copy)]
@@ -45,9 +45,7 @@ pub fn requested(kind: EndpointType, length: u64, limit: u32, k: u32) -> u64
 {
     match kind {
         EndpointType::Control => { if k == 1 { length } else { 0 } }
-        EndpointType::Isochronous => chunk_length(k, length, limit),
-        EndpointType::Bulk => chunk_length(k, length, limit),
-        EndpointType::Interrupt => chunk_length(k, length, limit),
+        _ => chunk_length(k, length, limit),
     }
 }
 
@@ -65,8 +63,8 @@ pub fn stage_at(t: Transfer, k: u64) -> QueueTransferDescriptor
     let data = plan.data;
     let status = plan.status;
     match data {
-        DataTd::Absent => QueueTransferDescriptor::new(status, 0, 0),
-        DataTd::Present(token) => {
+        None => QueueTransferDescriptor::new(status, 0, 0),
+        Some(token) => {
             if k == 1 {
                 QueueTransferDescriptor::new(token, t.address, t.length)
             } else {

@@ -1,16 +1,15 @@
 // What a call writes to the pool: a transfer's records at a set of places, or one token.
 ghost use Rattle.std.specs.Prelude.{◌≡◌, length};
-ghost use Rattle.pool.specs.Words.{WritingGood, chunks_of, no_writing, stages_of, words_if, written_with};
+ghost use Rattle.pool.specs.Words.{WritingGood, no_writing, written_with};
 
-use crate::laying::{Laying, lay_chunks, lay_stages, no_laying};
-use crate::marking::{Marking, mark_token, no_marking};
-use common::kinds::is_control;
+use crate::laying::{Laying, lay, no_laying};
+use crate::marking::{Mark, mark_token};
 use descriptor::qtd::QueueTransferDescriptor;
 
 #[derive(Clone, Copy)]
 pub struct Writing {
     pub laying: Laying,
-    pub marking: Marking,
+    pub marking: Option<Mark>,
 }
 
 // Nothing is written.
@@ -19,61 +18,15 @@ pub fn no_writing() -> Writing
 {
     Writing {
         laying: no_laying(),
-        marking: no_marking(),
+        marking: None,
     }
 }
 
-fn words_if(wanted: bool, places: [u64; 4]) -> [u64; 4]
-    ensures { result ≡ words_if wanted places }
-{
-    if wanted {
-        return places;
-    }
-    [0; 4]
-}
-
-// The places of a control request's records; none where the request is of another kind.
-fn stages_of(w: Writing) -> Laying
-    ensures { result ≡ stages_of w }
-{
-    let l = w.laying;
-    let places = l.places;
-    let transfer = l.transfer;
-    let kind = transfer.kind;
-    Laying {
-        places: words_if(is_control(kind), places),
-        base: l.base,
-        transfer,
-    }
-}
-
-// The places of chunks; none where the request is a control one.
-fn chunks_of(w: Writing) -> Laying
-    ensures { result ≡ chunks_of w }
-{
-    let l = w.laying;
-    let places = l.places;
-    let transfer = l.transfer;
-    let kind = transfer.kind;
-    Laying {
-        places: words_if(!is_control(kind), places),
-        base: l.base,
-        transfer,
-    }
-}
-
-fn marks_of(w: Writing) -> Marking
-    ensures { result ≡ w.marking }
-{
-    w.marking
-}
-
-// Stages, chunks, the token: of the first two at most one has a place.
+// A transfer's records, then the token.
 pub fn write(rows: &mut [QueueTransferDescriptor], w: Writing)
     requires { WritingGood (length rows.old) w }
     ensures { rows.new ≡ written_with w rows.old }
 {
-    lay_stages(rows, stages_of(w));
-    lay_chunks(rows, chunks_of(w));
-    mark_token(rows, marks_of(w));
+    lay(rows, w.laying);
+    mark_token(rows, w.marking);
 }

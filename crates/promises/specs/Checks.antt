@@ -1,4 +1,5 @@
 -- Document 01, "Order of checks", call by call: what is asked, in its order, and what each answers. The first that holds answers.
+use Rattle.pool.specs.Chains.{stands_active}
 use Rattle.std.specs.Prelude.{ℕ, ◌+◌, Bool, false, not, cond, ◌&&◌, List, [], ◌∷◌, ◌≡◌, eqb, leb, ltb, length}
 use Rattle.state.specs.Slots.{slot_at}
 use Rattle.state.specs.Plain.{Ehci}
@@ -41,7 +42,7 @@ lost_at (Unlinking p r u) b = false
 
 -- a collect unlinks where no descriptor is active before an error
 abbrev pub finished : Moment → Call → Bool
-finished w c = not (eqb (seen_by (asks_of w.view (length w.rows.pool) c) w.rows.pool).stage 2)
+finished w c = not (stands_active (seen_by (asks_of w.view (length w.rows.pool) c) w.rows.pool).stage)
 
 abbrev pub further_checks : Moment → Call → List Check
 -- "Starting bring-up: 4."

@@ -13,7 +13,7 @@ ghost use Rattle.replayer.specs.Words.{Kept, effect_of, keeper_view, turned_view
 use crate::keeper::{Acted, Keeper, act, rows_of};
 use call_log::block::put_block;
 use call_log::record::{Entry, read_record};
-use common::rows::put_bytes;
+use common::rows::put_at;
 use text::digits::{put, put_decimal};
 
 // What is kept, where what is said ends, and whether the log goes on.
@@ -43,7 +43,7 @@ fn put_bad(out: &mut [u8], n: u64) -> usize
     ensures value { result ≡ length (bad_line n) }
     ensures upper_bound { result ≤ length out.new }
 {
-    put_bytes(out, 0, b"bad record ");
+    put_at(out, 0, b"bad record ");
     let next = put_decimal(out, 11, n);
     put(out, next, b'\n')
 }

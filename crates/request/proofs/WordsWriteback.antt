@@ -10,8 +10,9 @@ use Rattle.controller.specs.Lent.{accepts_of}
 use Rattle.controller.specs.Readers.{is_uncollected}
 use Rattle.controller.specs.Plain.{Lengths}
 use Rattle.controller.proofs.WordsCases.{held_word}
-use Rattle.pool.specs.Words.{MarkingGood, no_marking}
-use Rattle.pool.specs.declared.marking.Marking.{Marking}
+use Rattle.pool.specs.Words.{MarkingGood}
+use Rattle.std.specs.Prelude.{Option, Some, None}
+use Rattle.pool.specs.declared.marking.Mark.{Mark}
 use Rattle.pool.proofs.WordLaws.{no_marking_good}
 use Rattle.settings.specs.declared.settings.Settings.{Settings}
 use Rattle.settings.specs.Settings.{pool_length}
@@ -69,25 +70,24 @@ module _ (s : Settings) (r : Rest) (p : ℕ) where
 -- ---- `writeback`
 
 module _ (s : Settings) (r : Rest) (p token : ℕ) (i : Bool) (ei : i ≡ taken_place s r p) where
-  pub back_refused : not i ≡ true → (m : Marking) → m ≡ no_marking
-      → (ws : List ℕ) → Good s r ws → (lent : Lengths) → accepts_of (state_of s r ws) lent ≡ true
-      → written_view s (record { answer = Err InvalidParameter; rest = r; marking = m }) ws ≡ writeback_of (state_of s r ws) lent p token
-  unfolding refused_writeback no_marking
-  back_refused h m em ws good lent a =
+  pub back_refused : not i ≡ true → (ws : List ℕ) → Good s r ws → (lent : Lengths) → accepts_of (state_of s r ws) lent ≡ true
+      → written_view s (record { answer = Err InvalidParameter; rest = r; marking = None }) ws ≡ writeback_of (state_of s r ws) lent p token
+  unfolding refused_writeback
+  back_refused h ws good lent a =
       back_none (state_of s r ws) lent p token true (sym a) refl i (ei ∙ place_viewed s r p ws good) h
-      (written_view s (record { answer = Err InvalidParameter; rest = r; marking = m }) ws) (rw em)
+      (written_view s (record { answer = Err InvalidParameter; rest = r; marking = None }) ws) refl
 
   pub back_written : not i ≡ false
       → (ws : List ℕ) → Good s r ws → (lent : Lengths) → accepts_of (state_of s r ws) lent ≡ true
-      → written_view s (record { answer = Ok tt; rest = r; marking = record { marks = true; place = p; token = token } }) ws ≡ writeback_of (state_of s r ws) lent p token
+      → written_view s (record { answer = Ok tt; rest = r; marking = Some (record { place = p; token = token }) }) ws ≡ writeback_of (state_of s r ws) lent p token
   unfolding state_of
   back_written h ws good lent a =
       back_done (state_of s r ws) lent p token true (sym a) refl i (ei ∙ place_viewed s r p ws good) h
-      (marking_chain s.pool (record { marks = true; place = p; token = token })) refl
+      (marking_chain s.pool (Some (record { place = p; token = token }))) refl
 
   -- what is then written is a place of the pool
-  pub mark_good_lem : not i ≡ false → MarkingGood (pool_length s) (record { marks = true; place = p; token = token })
-  mark_good_lem h = record { within = λ _. let below : p < s.descriptors = taken_below s r p i ei (not-false i h) in omega (arith, below) }
+  pub mark_good_lem : not i ≡ false → MarkingGood (pool_length s) (Some (record { place = p; token = token }))
+  mark_good_lem h = record { within = let below : p < s.descriptors = taken_below s r p i ei (not-false i h) in omega (arith, below) }
 
-pub no_mark_good : (n : ℕ) (m : Marking) → m ≡ no_marking → MarkingGood n m
-no_mark_good n m e = rw e (no_marking_good n)
+pub no_mark_good : (n : ℕ) → MarkingGood n None
+no_mark_good n = no_marking_good n

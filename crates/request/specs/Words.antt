@@ -1,5 +1,5 @@
 -- What submit and writeback over words leave, as the state that the words stand for and the chain that is then written.
-use Rattle.std.specs.Prelude.{ℕ, ◌+◌, ◌*◌, Bool, false, cond, not, ◌&&◌, List, [], ◌∷◌, nat_lt, slice_index, Err, Ok}
+use Rattle.std.specs.Prelude.{ℕ, ◌+◌, ◌*◌, Bool, false, cond, not, ◌&&◌, List, [], ◌∷◌, nat_lt, slice_index, Option, Some, None, Err, Ok}
 use Rattle.bitset.specs.Places.{has_place, set_places, without_of}
 use Rattle.common.specs.declared.answer.Refusal.{Refusal}
 use Rattle.controller.specs.declared.lent.Readings.{Readings}
@@ -13,7 +13,7 @@ use Rattle.pool.specs.Plain.{Chain}
 use Rattle.pool.specs.Plain.{Deed}
 use Rattle.pool.specs.Plain as Deeds
 use Rattle.pool.specs.declared.laying.Laying.{Laying}
-use Rattle.pool.specs.declared.marking.Marking.{Marking}
+use Rattle.pool.specs.declared.marking.Mark.{Mark}
 use Rattle.register.specs.Writes.{no_writes}
 use Rattle.settings.specs.declared.settings.Settings.{Settings}
 use Rattle.settings.specs.Settings.{shared_address}
@@ -41,10 +41,10 @@ chain_at (p ∷ ps) base deed = record { places = packed (p ∷ ps); base = base
 abbrev pub laying_chain : Laying → Chain
 laying_chain l = chain_at (set_places l.places) l.base (Deeds.Transfer l.transfer)
 
--- the token at its place, where it marks; base is the address of the pool's area
-abbrev pub marking_chain : ℕ → Marking → Chain
-marking_chain base m =
-    cond m.marks (record { places = packed (m.place ∷ []); base = base; deed = Deeds.Token m.token }) no_chain
+-- the token at its place, where one is marked; base is the address of the pool's area
+abbrev pub marking_chain : ℕ → Option Mark → Chain
+marking_chain base None = no_chain
+marking_chain base (Some m) = record { places = packed (m.place ∷ []); base = base; deed = Deeds.Token m.token }
 
 abbrev pub submitted_view : Settings → SubmittedWords → List ℕ → Submitted
 submitted_view s r ws =

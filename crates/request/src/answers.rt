@@ -1,7 +1,7 @@
 // What submit and writeback answer and leave, and what is then written to the pool.
 use common::answer::Refusal;
 use pool::laying::Laying;
-use pool::marking::Marking;
+use pool::marking::Mark;
 use register::writes::Writes;
 use words::cores::Rest;
 
@@ -17,5 +17,5 @@ pub struct Submitted {
 pub struct WrittenBack {
     pub answer: Result<(), Refusal>,
     pub rest: Rest,
-    pub marking: Marking,
+    pub marking: Option<Mark>,
 }

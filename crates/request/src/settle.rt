@@ -18,7 +18,7 @@ use crate::judge::TransferRequest;
 use bitset::cursor::{cursor_of, place_at};
 use bitset::places::{lowest_places, without};
 use common::kinds::{EndpointType, is_control, is_interrupt};
-use common::rows::put_bytes;
+use common::rows::put_at;
 use controller::lent::Readings;
 use descriptor::head::ehci_qh_link;
 use descriptor::setup::setup_packet_bytes;
@@ -68,7 +68,7 @@ pub fn put_setup(setups: &mut [u8], slot: u8, t: TransferRequest)
     let kind = t.kind;
     if is_control(kind) {
         let packet = setup_packet_bytes(t.setup, t.length);
-        put_bytes(setups, 8 * (slot as usize), &packet);
+        put_at(setups, 8 * (slot as usize), &packet);
     }
 }
 

@@ -12,7 +12,7 @@ ghost use Rattle.request.specs.Writeback.{writeback_of};
 use crate::answers::WrittenBack;
 use bitset::places::has;
 use common::answer::Refusal;
-use pool::marking::{Marking, no_marking};
+use pool::marking::Mark;
 use words::cores::Core;
 
 // Whether an uncollected request has a descriptor: it is one of the pool's and not free.
@@ -38,16 +38,15 @@ pub fn writeback(core: Core, place: u64, token: u32) -> WrittenBack
         return WrittenBack {
             answer: Err(Refusal::InvalidParameter),
             rest,
-            marking: no_marking(),
+            marking: None,
         };
     }
     WrittenBack {
         answer: Ok(()),
         rest,
-        marking: Marking {
-            marks: true,
+        marking: Some(Mark {
             place: place as usize,
             token,
-        },
+        }),
     }
 }

@@ -5,7 +5,7 @@ ghost use Rattle.words.specs.View.{view};
 ghost use Rattle.schedule.specs.Links.{detach_of, detached, head_address, periodic, predecessor_of, search_from, same, attached_ring, attached_frames, links, with_link_word, started_overlay, ended_overlay};
 ghost use Rattle.schedule.specs.Words.{precedes_word};
 
-use common::rows::{fill_words, put_words};
+use common::rows::{fill, put_at};
 use descriptor::qtd::EHCI_LINK_TERMINATE;
 use words::cores::Core;
 use words::row::RECORD;
@@ -39,7 +39,7 @@ pub fn attach_frames(heads: &mut [u32], frames: &mut [u32], k: u8, link: u32)
     let at = 17 * (k as usize + 1);
     let first = frames[0];
     heads[at] = first;
-    fill_words(frames, link);
+    fill(frames, link);
 }
 
 pub fn same(a: bool, b: bool) -> bool
@@ -75,7 +75,7 @@ pub fn end_overlay(heads: &mut [u32], k: u8)
     ensures { heads.new ≡ ended_overlay heads.old k }
 {
     let words: [u32; 14] = [0, 1, 1, 0, 0, 0, 0, 0, 0, 0, 0, 0, 0, 0];
-    put_words(heads, 17 * (k as usize + 1) + 3, &words);
+    put_at(heads, 17 * (k as usize + 1) + 3, &words);
 }
 
 // The address of a slot's head.
@@ -173,7 +173,7 @@ pub fn detach(
     match found {
         Predecessor::First => {
             if framed {
-                fill_words(frames, word);
+                fill(frames, word);
             } else {
                 heads[0] = word;
             }

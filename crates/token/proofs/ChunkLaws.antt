@@ -1,6 +1,6 @@
 -- The chunks of a request: how many they are, that each but the last is the limit, and that they add up to the length.
 use Prim.Native.Nat.{ℕ, zero, suc, ◌+◌, ◌-◌, ◌*◌, ◌/◌, ◌^◌, ◌≤◌, ◌<◌, min}
-use mathlib.Core.Path.{◌≡◌, sym, ap, ◌∙◌}
+use mathlib.Core.Path.{◌≡◌, refl, sym, ap}
 use native.Mathlib.Decide.{ℕ_discrete as dec_eq}
 use native.Mathlib.Nat.{add-mul-div_right, div-add-mod', le_of_lt, mod-lt, mul-le-mul_right, suc-mul}
 use native.Mathlib.Numerals.{add-one}
@@ -101,17 +101,12 @@ pub need_three : (k : EndpointType) (L C : ℕ) → k ≡ Control → (L ≡ 0 �
 unfolding need_of
 need_three k L C e z = rw (e, ne_eqb L 0 z)
 
-pub need_isochronous : (k : EndpointType) (L C n : ℕ) → k ≡ Isochronous → n ≡ chunk_count L C → n ≡ need_of k L C
+pub need_chunks : (k : EndpointType) (L C n : ℕ) → (k ≡ Control → ⊥) → n ≡ chunk_count L C → n ≡ need_of k L C
 unfolding need_of
-need_isochronous k L C n e f = f ∙ rw e
-
-pub need_bulk : (k : EndpointType) (L C n : ℕ) → k ≡ Bulk → n ≡ chunk_count L C → n ≡ need_of k L C
-unfolding need_of
-need_bulk k L C n e f = f ∙ rw e
-
-pub need_interrupt : (k : EndpointType) (L C n : ℕ) → k ≡ Interrupt → n ≡ chunk_count L C → n ≡ need_of k L C
-unfolding need_of
-need_interrupt k L C n e f = f ∙ rw e
+need_chunks Control L C n e f = absurd (e refl)
+need_chunks Isochronous L C n e f = f
+need_chunks Bulk L C n e f = f
+need_chunks Interrupt L C n e f = f
 
 pub start_fits : (k C : ℕ) → k < 2 ^ 32 → C < 2 ^ 32 → Fits w64 (k * C)
 start_fits k C h h' = omega (arith, mul-le-mul_right C (le_of_lt h), h')

@@ -1,6 +1,6 @@
 -- The working limit: the largest multiple of the packet size that is not above the limit, and at least one packet where one fits.
 use Prim.Native.Nat.{ℕ, ◌-◌, ◌*◌, ◌/◌, ◌%◌, ◌≤◌}
-use mathlib.Core.Path.{◌≡◌, refl, ◌∙◌}
+use mathlib.Core.Path.{◌≡◌, refl}
 use mathlib.Core.Bool.{Bool, true, false}
 use mathlib.Core.Logic.{◌≢◌}
 use native.Mathlib.Nat.{div-add-mod', mod-le, mod-zero, mul-le-mul_right, div-lt_iff_lt-mul}
@@ -22,14 +22,11 @@ rest_within limit size = mod-le limit size
 pub limit_control : (k : EndpointType) (limit size : ℕ) → k ≡ Control → limit ≡ working_limit k limit size
 limit_control k limit size e = rw e
 
-pub limit_isochronous : (k : EndpointType) (limit size n : ℕ) → k ≡ Isochronous → n ≡ limit - limit % size → n ≡ working_limit k limit size
-limit_isochronous k limit size n e f = f ∙ rw e
-
-pub limit_bulk : (k : EndpointType) (limit size n : ℕ) → k ≡ Bulk → n ≡ limit - limit % size → n ≡ working_limit k limit size
-limit_bulk k limit size n e f = f ∙ rw e
-
-pub limit_interrupt : (k : EndpointType) (limit size n : ℕ) → k ≡ Interrupt → n ≡ limit - limit % size → n ≡ working_limit k limit size
-limit_interrupt k limit size n e f = f ∙ rw e
+pub limit_chunks : (k : EndpointType) (limit size n : ℕ) → (k ≡ Control → ⊥) → n ≡ limit - limit % size → n ≡ working_limit k limit size
+limit_chunks Control limit size n e f = absurd (e refl)
+limit_chunks Isochronous limit size n e f = f
+limit_chunks Bulk limit size n e f = f
+limit_chunks Interrupt limit size n e f = f
 
 -- ---- what it is
 

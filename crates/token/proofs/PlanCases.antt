@@ -5,7 +5,7 @@ use mathlib.Core.Bool.{true, false}
 use borrow.Author.Tests.{eq-eqb, ne_eqb}
 use lib.Dec.{eqb}
 use Rattle.token.specs.declared.plan.ControlTdPlan.{ControlTdPlan}
-use Rattle.token.specs.declared.plan.DataTd.TheVariants.{Absent, Present}
+use Rattle.std.specs.Prelude.{Some, None}
 use Rattle.token.specs.declared.qtd.QtdPid.{QtdPid}
 use Rattle.token.specs.declared.qtd.QtdPid.TheVariants.{Out as OutPid, In as InPid, Setup}
 use Rattle.token.specs.declared.qtd.QtdToken.{QtdToken}
@@ -23,11 +23,11 @@ status_in_lem d n e f = rw (e, ne_eqb n 0 f)
 
 module _ (d : Direction) (n : ℕ) (setup status : QtdToken) (pid : QtdPid)
     (es : setup ≡ token_of Setup 8 false false) (ep : pid ≡ status_pid d (eqb n 0)) (et : status ≡ token_of pid 0 true true) where
-  pub plan_empty : n ≡ 0 → ◌≡◌ {A = ControlTdPlan} (record { setup = setup; «data» = Absent; status = status }) (control_plan d n)
+  pub plan_empty : n ≡ 0 → ◌≡◌ {A = ControlTdPlan} (record { setup = setup; «data» = None; status = status }) (control_plan d n)
   unfolding control_plan
   plan_empty e = rw (es, et, ep, eq-eqb n 0 e)
 
   pub plan_data : (n ≡ 0 → ⊥) → (way : QtdPid) (token : QtdToken) → way ≡ pid_for d → token ≡ token_of way n false true
-      → ◌≡◌ {A = ControlTdPlan} (record { setup = setup; «data» = Present token; status = status }) (control_plan d n)
+      → ◌≡◌ {A = ControlTdPlan} (record { setup = setup; «data» = Some token; status = status }) (control_plan d n)
   unfolding control_plan
   plan_data e way token ew ed = rw (es, et, ep, ed, ew, ne_eqb n 0 e)

@@ -1,8 +1,6 @@
 -- Document 01, "Tokens and plans": what a control request is made of, and the token of a chunk.
-use Rattle.std.specs.Prelude.{ℕ, Bool, true, false, eqb}
+use Rattle.std.specs.Prelude.{ℕ, Bool, true, false, eqb, Option, Some, None}
 use Rattle.token.specs.declared.plan.ControlTdPlan.{ControlTdPlan}
-use Rattle.token.specs.declared.plan.DataTd.{DataTd}
-use Rattle.token.specs.declared.plan.DataTd.TheVariants.{Absent, Present}
 use Rattle.token.specs.declared.qtd.QtdPid.{QtdPid}
 use Rattle.token.specs.declared.qtd.QtdPid.TheVariants.{Out as OutPid, In as InPid, Setup}
 use Rattle.token.specs.declared.qtd.QtdToken.{QtdToken}
@@ -15,9 +13,9 @@ pid_for Out = OutPid
 pid_for In = InPid
 
 -- data if length > 0
-abbrev pub data_td : Direction → ℕ → Bool → DataTd
-data_td direction length true = Absent
-data_td direction length false = Present (token_of (pid_for direction) length false true)
+abbrev pub data_td : Direction → ℕ → Bool → Option QtdToken
+data_td direction length true = None
+data_td direction length false = Some (token_of (pid_for direction) length false true)
 
 -- Out after In data, otherwise In
 abbrev pub status_pid : Direction → Bool → QtdPid

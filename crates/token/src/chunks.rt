@@ -2,7 +2,6 @@
 ghost use Rattle.std.specs.Prelude.{◌≡◌, ◌-◌, ◌%◌, ◌≤◌};
 ghost use Rattle.token.specs.Chunks.{chunk_at, chunk_count, need_of, working_limit};
 
-use crate::qtd::least;
 use common::kinds::EndpointType;
 
 // As many bytes as whole packets of this size have; none at size 0.
@@ -21,9 +20,7 @@ pub fn working_limit(kind: EndpointType, limit: u64, size: u64) -> u64
 {
     match kind {
         EndpointType::Control => limit,
-        EndpointType::Isochronous => whole_packets(limit, size),
-        EndpointType::Bulk => whole_packets(limit, size),
-        EndpointType::Interrupt => whole_packets(limit, size),
+        _ => whole_packets(limit, size),
     }
 }
 
@@ -44,9 +41,7 @@ pub fn need(kind: EndpointType, length: u64, limit: u64) -> u64
 {
     match kind {
         EndpointType::Control => { if length == 0 { 2 } else { 3 } }
-        EndpointType::Isochronous => chunk_count(length, limit),
-        EndpointType::Bulk => chunk_count(length, limit),
-        EndpointType::Interrupt => chunk_count(length, limit),
+        _ => chunk_count(length, limit),
     }
 }
 
@@ -56,7 +51,7 @@ pub fn chunk_length(k: u32, length: u64, limit: u32) -> u64
 {
     let start = (k as u64) * (limit as u64);
     if start < length {
-        return least(limit as u64, length - start);
+        return (limit as u64).min(length - start);
     }
     0
 }

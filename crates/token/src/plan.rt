@@ -5,17 +5,11 @@ ghost use Rattle.token.specs.Plans.{pid_for, status_pid, control_plan, chunk_tok
 use crate::qtd::{QtdPid, QtdToken};
 use common::kinds::Direction;
 
-// The data stage, which a control request may lack.
-#[derive(Clone, Copy)]
-pub enum DataTd {
-    Absent,
-    Present(QtdToken),
-}
-
-#[derive(Clone, Copy)]
+// A control request may lack the data stage.
+#[derive(Clone, Copy, PartialEq, Eq)]
 pub struct ControlTdPlan {
     pub setup: QtdToken,
-    pub data: DataTd,
+    pub data: Option<QtdToken>,
     pub status: QtdToken,
 }
 
@@ -49,14 +43,14 @@ pub fn build_control_td_plan(direction: Direction, length: u64) -> ControlTdPlan
     if length == 0 {
         return ControlTdPlan {
             setup,
-            data: DataTd::Absent,
+            data: None,
             status,
         };
     }
     let data = QtdToken::started(pid_for(direction), length, false, true);
     ControlTdPlan {
         setup,
-        data: DataTd::Present(data),
+        data: Some(data),
         status,
     }
 }

@@ -6,27 +6,23 @@ ghost use Rattle.token.specs.Tokens.{pid_of, only_if, new_token, token_of, with_
 
 use register::bits::{any_of, with_bits, without_bits};
 
-#[derive(Clone, Copy)]
+#[derive(Clone, Copy, PartialEq, Eq)]
 pub enum QtdPid {
-    Out,
-    In,
-    Setup,
+    Out = 0,
+    In = 1,
+    Setup = 2,
 }
 
 impl QtdPid {
     pub fn token_bits(self) -> u32
         ensures { result ≡ pid_of self }
     {
-        match self {
-            QtdPid::Out => 0,
-            QtdPid::In => 1,
-            QtdPid::Setup => 2,
-        }
+        self as u32
     }
 }
 
 #[repr(C)]
-#[derive(Clone, Copy)]
+#[derive(Clone, Copy, PartialEq, Eq)]
 pub struct QtdToken(pub u32);
 
 impl QtdToken {
@@ -56,7 +52,7 @@ impl QtdToken {
     pub fn new(pid: QtdPid, bytes: u64) -> QtdToken
         ensures { result.0 ≡ new_token pid bytes }
     {
-        let total = least(bytes, Self::TOTAL_BYTES_MAX) as u32;
+        let total = bytes.min(Self::TOTAL_BYTES_MAX) as u32;
         QtdToken((pid.token_bits() << Self::PID_SHIFT) | (total << Self::TOTAL_BYTES_SHIFT))
     }
 
@@ -70,7 +66,7 @@ impl QtdToken {
         ensures { result.0 ≡ with_field self.0 10 2 (min count 3) }
     {
         let kept = without_bits(self.0, Self::ERROR_COUNTER_MASK);
-        let held = least(count as u64, 3) as u32;
+        let held = count.min(3) as u32;
         QtdToken(with_bits(kept, held << Self::ERROR_COUNTER_SHIFT))
     }
 
@@ -138,10 +134,4 @@ fn with_flag(word: u32, mask: u32, set: bool) -> u32
     } else {
         without_bits(word, mask)
     }
-}
-
-pub fn least(a: u64, b: u64) -> u64
-    ensures { result ≡ min a b }
-{
-    if a < b { a } else { b }
 }

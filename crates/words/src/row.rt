@@ -1,5 +1,5 @@
 // The lent row of slots: six words a slot.
-ghost use Rattle.std.specs.Prelude.{◌≡◌, ◌+◌, ◌*◌, ◌≤◌, ◌<◌, length, replicate};
+ghost use Rattle.std.specs.Prelude.{◌≡◌, ◌+◌, ◌*◌, ◌≤◌, ◌<◌, length};
 ghost use Rattle.words.specs.Record.{SlotFits, places_at, put_places, put_slot, size_in, slot_in, toggle_in, word_at, last_at};
 
 use crate::record::{last_of, slot_in, word_of};
@@ -70,15 +70,4 @@ pub fn put_places(slots: &mut [u64], k: u8, w: [u64; 4])
     slots[at + 1] = w[1];
     slots[at + 2] = w[2];
     slots[at + 3] = w[3];
-}
-
-// Every word of a row.
-pub fn fill_wide(row: &mut [u64], word: u64)
-    ensures { row.new ≡ replicate (length row.old) word }
-{
-    let mut i = 0;
-    while i < row.len() {
-        row[i] = word;
-        i += 1;
-    }
 }

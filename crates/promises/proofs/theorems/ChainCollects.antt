@@ -8,7 +8,9 @@ use native.Mathlib.Decide.{ℕ_discrete as dec_eq}
 use native.Mathlib.Omega.{arith}
 use borrow.Author.Tests.{eq-eqb, eqb-false, eqb-true, le-leb, lt-ltb}
 use lib.ListN.{get_or, length, take}
+use Rattle.pool.specs.declared.chain.Standing.TheVariants.{Active, Erring}
 use Rattle.pool.specs.declared.chain.View.{View}
+use Rattle.pool.proofs.StandingLaws.{waits_active, waits_other}
 use Rattle.settings.specs.declared.settings.Settings.{Settings}
 use Rattle.settings.specs.Settings.{pool_length}
 use Rattle.pipe.specs.Endpoints.{endpoint_at, limit_of}
@@ -35,7 +37,7 @@ use Rattle.promises.proofs.invariants.ChainEvents.{unlink_event}
 use lib.Dec.{eqb}
 use Rattle.common.specs.declared.kinds.EndpointType.{EndpointType}
 use Rattle.descriptor.specs.declared.qtd.QueueTransferDescriptor.{QueueTransferDescriptor}
-use Rattle.pool.specs.Chains.{Seen, blank, is_active, is_erring, is_short, number_if, read_of, seen_from, standing_of, view_of}
+use Rattle.pool.specs.Chains.{Seen, blank, is_active, is_erring, is_short, read_of, seen_from, standing_of, view_of, stands_active}
 use Rattle.pool.specs.Transfers.{ends_short}
 use Rattle.ehci.specs.declared.call.Call.{Call}
 use Rattle.collection.specs.declared.collected.Collected.TheVariants as C
@@ -49,7 +51,7 @@ use Rattle.promises.proofs.effects.EffectRequests.{none_leaves, collect_unlinked
 -- ---- finished, as its descriptors say
 
 finished_stage : (kind : EndpointType) (n limit i : ℕ) (short : Bool) (ps : List ℕ) (pool : List QueueTransferDescriptor)
-    → eqb (standing_of (read_of short (seen_from kind n limit i ps pool))) 2 ≡ not (is_finished short pool ps)
+    → stands_active (standing_of (read_of short (seen_from kind n limit i ps pool))) ≡ not (is_finished short pool ps)
 unfolding seen_from standing_of read_of
 finished_stage kind n limit i short [] pool = refl
 finished_stage kind n limit i short (p ∷ ps) pool =
@@ -58,8 +60,8 @@ finished_stage kind n limit i short (p ∷ ps) pool =
     more : List Seen
     more = read_of short (seen_from kind n limit (suc i) ps pool)
 
-    by : (a e b : Bool) → eqb (standing_of more) 2 ≡ not (is_finished short pool ps)
-        → eqb (number_if a 2 (number_if e 1 (standing_of (cond b [] more)))) 2 ≡ not (cond a false (cond (e || b) true (is_finished short pool ps)))
+    by : (a e b : Bool) → stands_active (standing_of more) ≡ not (is_finished short pool ps)
+        → stands_active (cond a Active (cond e Erring (standing_of (cond b [] more)))) ≡ not (cond a false (cond (e || b) true (is_finished short pool ps)))
     by true e b rest = refl
     by false true b rest = refl
     by false false true rest = refl
@@ -97,7 +99,7 @@ module _ (s : Settings) (h : History) (w : World) (sound : Sound s w) (x : Chain
   collect_comes = rw (rows_fit s w sound)
 
   -- not finished: 9, and nothing changes
-  unfinished_is : view.stage ≡ 2 → gathers ≡ gathered (pending_collect w.state) w.rows.heads w.rows.frames
+  unfinished_is : view.stage ≡ Active → gathers ≡ gathered (pending_collect w.state) w.rows.heads w.rows.frames
   unfinished_is q =
       collect_active w.state (length w.rows.pool) w.rows.heads w.rows.frames (length w.rows.setups) rd view k p r
       (is_let_in s w sound) e roomy q
@@ -109,7 +111,7 @@ module _ (s : Settings) (h : History) (w : World) (sound : Sound s w) (x : Chain
         rows = (detach_of w.state w.rows.heads w.rows.frames k).rows;
       }
 
-  finished_is : (view.stage ≡ 2 → ⊥) → gathers ≡ unlinked
+  finished_is : (view.stage ≡ Active → ⊥) → gathers ≡ unlinked
   unfolding unlink_of waiting_of
   finished_is n =
       collect_unlinks w.state (length w.rows.pool) w.rows.heads w.rows.frames (length w.rows.setups) rd view k p r
@@ -119,13 +121,13 @@ module _ (s : Settings) (h : History) (w : World) (sound : Sound s w) (x : Chain
   comes_as : (g : Gathered) → gathers ≡ g → core w call ≡ carried_out (with_setups (collect_came g) w.rows.setups) w.rows.pool
   comes_as g q = collect_comes ∙ ap (λ (z : Gathered). carried_out (with_setups (collect_came z) w.rows.setups) w.rows.pool) q
 
-  unfinished_event : view.stage ≡ 2 → event s (turn_of w.rows call (core w call)) ≡ Other
+  unfinished_event : view.stage ≡ Active → event s (turn_of w.rows call (core w call)) ≡ Other
   unfolding replied
   unfinished_event q =
       ap (λ (z : Applied). event s (turn_of w.rows call z)) (comes_as (gathered (pending_collect w.state) w.rows.heads w.rows.frames) (unfinished_is q))
       ∙ none_leaves s k rd.frame w.rows _ refl refl
 
-  finished_event : (view.stage ≡ 2 → ⊥) → event s (turn_of w.rows call (core w call)) ≡ cond (is_interrupt p.kind) (Parts k rd.frame) (Unlinks k)
+  finished_event : (view.stage ≡ Active → ⊥) → event s (turn_of w.rows call (core w call)) ≡ cond (is_interrupt p.kind) (Parts k rd.frame) (Unlinks k)
   unfolding collect_unlinked
   finished_event n =
       ap (λ (z : Applied). event s (turn_of w.rows call z)) (comes_as unlinked (finished_is n))
@@ -133,12 +135,12 @@ module _ (s : Settings) (h : History) (w : World) (sound : Sound s w) (x : Chain
 
   pub collect_waits : (core w call).reply.answer ≡ (Ok Pending)
   unfolding replied
-  collect_waits = by (dec_eq view.stage 2)
+  collect_waits = by (stands_active view.stage) refl
     where
-      by : Dec (view.stage ≡ 2) → (core w call).reply.answer ≡ (Ok Pending)
-      by (yes q) =
-          ap (λ (z : Applied). z.reply.answer) (comes_as (gathered (pending_collect w.state) w.rows.heads w.rows.frames) (unfinished_is q))
-      by (no n) = ap (λ (z : Applied). z.reply.answer) (comes_as unlinked (finished_is n))
+      by : (b : Bool) → stands_active view.stage ≡ b → (core w call).reply.answer ≡ (Ok Pending)
+      by true q =
+          ap (λ (z : Applied). z.reply.answer) (comes_as (gathered (pending_collect w.state) w.rows.heads w.rows.frames) (unfinished_is (waits_active view.stage q)))
+      by false q = ap (λ (z : Applied). z.reply.answer) (comes_as unlinked (finished_is (waits_other view.stage q)))
 
   -- what it looks at is what its places say
   asks : askable w.state.settings (length w.rows.pool) k ≡ true
@@ -158,7 +160,7 @@ module _ (s : Settings) (h : History) (w : World) (sound : Sound s w) (x : Chain
     abbrev ends : Bool
     ends = is_finished (ends_short p.kind r.direction) w.rows.pool places
 
-    stage_is : eqb view.stage 2 ≡ not ends
+    stage_is : stands_active view.stage ≡ not ends
     unfolding asks_of ask_of request_ask view_of
     stage_is =
         rw (asks, e, list_packed (places_from 0 (take w.state.settings.descriptors w.state.owner) (k + 1) 256), ← own)
@@ -169,5 +171,5 @@ module _ (s : Settings) (h : History) (w : World) (sound : Sound s w) (x : Chain
       where
         by : (b : Bool) → ends ≡ b
             → event s (turn_of w.rows call (core w call)) ≡ cond b (cond (is_interrupt p.kind) (Parts k rd.frame) (Unlinks k)) Other
-        by true q = finished_event (eqb-false view.stage 2 (stage_is ∙ ap not q))
-        by false q = unfinished_event (eqb-true view.stage 2 (stage_is ∙ ap not q))
+        by true q = finished_event (waits_other view.stage (stage_is ∙ ap not q))
+        by false q = unfinished_event (waits_active view.stage (stage_is ∙ ap not q))

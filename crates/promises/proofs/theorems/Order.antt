@@ -9,6 +9,7 @@ use lib.Dec.{eqb, ltb}
 use lib.ListN.{length}
 use Rattle.register.specs.Bits.{any_of, only_bits}
 use Rattle.pool.specs.declared.chain.View.{View}
+use Rattle.pool.specs.Chains.{stands_active}
 use Rattle.common.proofs.TestLaws.{false_true}
 use Rattle.state.specs.Ranges.{in_ranges}
 use Rattle.state.specs.Plain.{Ehci}
@@ -269,11 +270,11 @@ module _ (w : World) where
 
   collect_says : (k : ℕ) (rd : Readings) (v : View) (x : Endpoint) → has_endpoint x ≡ true
       → verdict_in (collect_came (collect_at x s w.rows.heads w.rows.frames rd v k)).decided.reply.answer
-      ≡ first ((lost_at x (not (eqb v.stage 2) && lost (moment core w) k), InvalidEndpoint) ∷ [])
+      ≡ first ((lost_at x (not (stands_active v.stage) && lost (moment core w) k), InvalidEndpoint) ∷ [])
   unfolding replied linked_of unlinking_of
   collect_says k rd v Closed h = absurd (false_true h)
   collect_says k rd v (Idle p) h = refl
-  collect_says k rd v (Linked p r) h = linked_says rd k p r (eqb v.stage 2)
+  collect_says k rd v (Linked p r) h = linked_says rd k p r (stands_active v.stage)
   collect_says k rd v (Unlinking p r b) h = unlinking_says v k (keeping rd p) r (passed_boundary b rd.frame)
 
   collect_order : (k id : ℕ) (rd : Readings) → verdict_in (core w (Collect k id rd)).reply.answer ≡ first (checks_of (moment core w) (Collect k id rd))

@@ -10,8 +10,7 @@ use lib.Dec.{eqb, ltb}
 use lib.ListN.{drop, get_or, length, length-take, take}
 use Rattle.token.specs.EhciQtd.{active, total_bytes}
 use Rattle.token.specs.Plans.{control_plan}
-use Rattle.token.specs.declared.plan.DataTd.{DataTd}
-use Rattle.token.specs.declared.plan.DataTd.TheVariants.{Absent, Present}
+use Rattle.std.specs.Prelude.{Option, Some, None}
 use Rattle.token.specs.declared.qtd.QtdToken.{QtdToken}
 use Rattle.common.specs.Kinds.{is_control}
 use Rattle.common.specs.declared.kinds.Direction.{Direction}
@@ -21,7 +20,6 @@ use Rattle.common.specs.declared.kinds.EndpointType.TheVariants.{Control, Isochr
 use Rattle.common.proofs.TestLaws.{both_tells, false_true}
 use Rattle.descriptor.specs.Descriptors.{new_qtd, word_of_next, terminated, with_next}
 use Rattle.descriptor.specs.EhciQtd.{qtd_address, terminate}
-use Rattle.descriptor.specs.declared.qtd.NextQtd.TheVariants.{At, Terminate}
 use Rattle.descriptor.specs.declared.qtd.QueueTransferDescriptor.{QueueTransferDescriptor}
 use Rattle.descriptor.proofs.HeadFields.{next_is as address_word, next_reads}
 use Rattle.pool.specs.Chains.{blank}
@@ -48,10 +46,10 @@ use Rattle.promises.proofs.theorems.RoomPromises.{held}
 
 -- ---- the words of a request's descriptors
 
-later_alternate : (d : DataTd) (status : QtdToken) (address n k : ℕ) → (later_stage d status address n k).alternate ≡ 1
+later_alternate : (d : Option QtdToken) (status : QtdToken) (address n k : ℕ) → (later_stage d status address n k).alternate ≡ 1
 unfolding new_qtd
-later_alternate Absent status address n k = refl
-later_alternate (Present token) status address n k = by (eqb k 1)
+later_alternate None status address n k = refl
+later_alternate (Some token) status address n k = by (eqb k 1)
   where
     by : (b : Bool) → (qtd_if b (new_qtd token address n) (new_qtd status 0 0)).alternate ≡ 1
     by true = refl
@@ -156,7 +154,7 @@ module _ (s : Settings) (h : History) (w : World) (sound : Sound s w) (u : Use)
       not_last : is_last rest ≡ false
       not_last = ap is_last (rest_some (suc j) u.places more)
 
-      shared_word : overlay.alternate ≡ word_of_next (At (shared_address s))
+      shared_word : overlay.alternate ≡ word_of_next (Some (shared_address s))
       shared_word =
           alternate_is ∙ alternate_chunk (transfer_for s u) j s.pool rest u.request.kind refl other
           ∙ ap (alternate_of (transfer_for s u)) not_last ∙ leads_shared ∙ sym (address_word (shared_address s) (omega (arith, good.pool_aligned)))
@@ -249,11 +247,11 @@ module _ (s : Settings) (h : History) (w : World) (sound : Sound s w) (u : Use)
             let at : place_in u (suc j) < s.descriptors = each_at (λ (p : ℕ). p < s.descriptors) u.places (suc j) own_within more in
             let read = next_reads (address_of s.pool (place_in u (suc j))) (omega (arith, at, good.pool_ends)) (omega (arith, good.pool_aligned)) in
             ap (λ (l : List ℕ). next_leads s (word_of_next (next_of s.pool l))) (rest_some (suc j) u.places more)
-            ∙ (next_on s (word_of_next (At (address_of s.pool (place_in u (suc j))))) (place_in u (suc j))).1 (read.0, read.1, omega (arith, at))
+            ∙ (next_on s (word_of_next (Some (address_of s.pool (place_in u (suc j))))) (place_in u (suc j))).1 (read.0, read.1, omega (arith, at))
             ∙ sym (ap (λ (b : Bool). cond b (On (place_in u (suc j))) (Ends Terminated)) e)
         by false e =
             ap (λ (l : List ℕ). next_leads s (word_of_next (next_of s.pool l))) (rest_none (suc j) u.places (ltb-false (suc j) (length u.places) e))
-            ∙ (next_stops s (word_of_next Terminate)).1 refl
+            ∙ (next_stops s (word_of_next None)).1 refl
             ∙ sym (ap (λ (b : Bool). cond b (On (place_in u (suc j))) (Ends Terminated)) e)
 
 -- ---- of a run

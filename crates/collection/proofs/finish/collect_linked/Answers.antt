@@ -3,11 +3,11 @@ use Rattle.collection.proofs.WordsSlots.{linked_within, own_framed, own_same}
 use borrow.Author.Rules.{rules}
 use Rattle.collection.proofs.finish.collect_linked.Goals as goal
 
-pub returns-then-stage-eq-STANDS_ACTIVE-clause-frames_after : goal.returns-then-stage-eq-STANDS_ACTIVE-clause-frames_after
-returns-then-stage-eq-STANDS_ACTIVE-clause-frames_after c = search linked_waits_words
+pub returns-then-stands_active-clause-frames_after : goal.returns-then-stands_active-clause-frames_after
+returns-then-stands_active-clause-frames_after c = search linked_waits_words
 
-pub returns-then-stage-eq-STANDS_ACTIVE-clause-tidy : goal.returns-then-stage-eq-STANDS_ACTIVE-clause-tidy
-returns-then-stage-eq-STANDS_ACTIVE-clause-tidy c = search tidy_pending
+pub returns-then-stands_active-clause-tidy : goal.returns-then-stands_active-clause-tidy
+returns-then-stands_active-clause-tidy c = search tidy_pending
 
 pub is_lost-requires-clause-k_lt_endpoints : goal.is_lost-requires-clause-k_lt_endpoints
 is_lost-requires-clause-k_lt_endpoints c = (search linked_within, search rules, search rules)

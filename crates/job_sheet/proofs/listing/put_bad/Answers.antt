@@ -4,7 +4,7 @@ use Rattle.job_sheet.proofs.listing.put_bad.Goals as goal
 
 pub returns-clause-out_after : goal.returns-clause-out_after
 unfolding bad_line
-returns-clause-out_after c = c.put_bytes.ensures
+returns-clause-out_after c = c.put_at.ensures
 
 pub returns-clause-value : goal.returns-clause-value
 unfolding bad_line

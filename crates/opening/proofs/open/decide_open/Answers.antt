@@ -30,4 +30,4 @@ open_heads-requires c = let a = c.args in
 pub returns : goal.returns
 returns c = words_done _ _ _ _ _ _ _ c.slots_fit.ensures _ c.good.ensures _ c.rows_fit.ensures
     (ap not c.if-not-slots_fit.false) (ap not c.if-not-good.false) (ap not c.if-not-rows_fit.false) _ _ _ _ _
-    c.fill_wide.ensures c.open_heads.ensures c.fill_words.ensures c.fill_bytes.ensures c.accept.ensures
+    c.fill.ensures c.open_heads.ensures c.fill-2.ensures c.fill-3.ensures c.accept.ensures

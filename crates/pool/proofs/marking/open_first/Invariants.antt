@@ -7,6 +7,3 @@ use Rattle.pool.proofs.marking.open_first.Given as goal
 
 abbrev pub invariant-loop-k : goal.invariant-loop-k
 invariant-loop-k l = (length l.rows ≡ length l.initial.rows) × (filled_from Deeds.Open 0 l.k (up_from l.k (l.count - l.k)) l.rows ≡ opened_to l.count l.initial.rows)
-
-abbrev pub decreases-loop-k : goal.decreases-loop-k
-decreases-loop-k l = l.count - l.k

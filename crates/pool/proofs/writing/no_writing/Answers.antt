@@ -3,4 +3,4 @@ use Rattle.pool.proofs.writing.no_writing.Goals as goal
 
 pub returns : goal.returns
 unfolding no_writing
-returns c = rw (c.no_laying.ensures, c.no_marking.ensures)
+returns c = rw c.no_laying.ensures

@@ -7,7 +7,7 @@ clauses : {A B C : Type 0} → A × (B × C) → record { out_after : A; value :
 clauses p = record { out_after = p.0; value = p.1.0; upper_bound = p.1.1 }
 
 pub put-requires : goal.put-requires
-put-requires c = omega (arith, c.requires, c.put_decimal-next.ensures.value, decimal_length c.args.n, c.put_decimal-next.auto.out, c.put_bytes.auto.row)
+put-requires c = omega (arith, c.requires, c.put_decimal-next.ensures.value, decimal_length c.args.n, c.put_decimal-next.auto.out, c.put_at.auto.row)
 
 pub returns : goal.returns
-returns c = clauses (bad_put _ _ _ _ _ _ _ (omega (arith, c.requires, c.put.auto.out, c.put_decimal-next.auto.out, c.put_bytes.auto.row)) c.put_bytes.ensures c.put_decimal-next.ensures.out_after c.put_decimal-next.ensures.value c.put.ensures.out_after c.put.ensures.value)
+returns c = clauses (bad_put _ _ _ _ _ _ _ (omega (arith, c.requires, c.put.auto.out, c.put_decimal-next.auto.out, c.put_at.auto.row)) c.put_at.ensures c.put_decimal-next.ensures.out_after c.put_decimal-next.ensures.value c.put.ensures.out_after c.put.ensures.value)

@@ -6,7 +6,7 @@ use Rattle.schedule.proofs.links.detach.Goals as goal
 pub returns-then-framed : goal.returns-then-framed
 returns-then-framed c =
     detach_framed (view c.args.core c.args.slots.now) c.args.heads.now c.args.frames.now c.args.k c.args.framed
-    c.requires.framed_value _ c.find_predecessor-found.ensures c.in-First.is c.if-framed.true _ c.fill_words.ensures
+    c.requires.framed_value _ c.find_predecessor-found.ensures c.in-First.is c.if-framed.true _ c.fill.ensures
 
 pub returns-else-framed : goal.returns-else-framed
 returns-else-framed c =

@@ -3,4 +3,4 @@ use Rattle.schedule.proofs.links.end_overlay.Goals as goal
 
 pub returns : goal.returns
 unfolding ended_overlay
-returns c = c.put_words.ensures
+returns c = c.put_at.ensures
