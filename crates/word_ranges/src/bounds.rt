@@ -3,7 +3,6 @@
 ghost use Rattle.std.specs.Prelude.{◌≡◌};
 ghost use Rattle.word_ranges.specs.Bounds.{bounds_of, sizes_of};
 
-use token::qtd::least;
 use words::record::BOUNDARY;
 
 const CLOSED: u64 = 0;
@@ -44,7 +43,7 @@ pub fn bounds_for(unanswered: u8) -> [u64; 16]
 pub fn sizes_for(limit: u64) -> [u16; 16]
     ensures { result ≡ sizes_of limit }
 {
-    let most = least(limit, PACKET_MAX as u64) as u16;
+    let most = limit.min(PACKET_MAX as u64) as u16;
     [
         SIZES, PACKET_MAX, PACKET_MAX, PACKET_MAX, SIZES, most, most, most, SIZES, most, most,
         most, SIZES, most, most, most,

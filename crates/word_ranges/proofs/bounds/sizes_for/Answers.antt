@@ -3,4 +3,4 @@ use Rattle.word_ranges.proofs.bounds.sizes_for.Goals as goal
 
 pub returns : goal.returns
 unfolding sizes_of
-returns c = rw c.least-most.ensures
+returns c = rw c.min-most.ensures
