@@ -33,10 +33,8 @@ fn states_good(hub: EhciRootHub) -> bool
     ensures { result ≡ states_good 0 15 hub }
 {
     let mut good = true;
-    let mut k: usize = 0;
-    while k < 15 {
-        good = good & state_good(hub.ports, k as u64, hub.states[k]);
-        k += 1;
+    for k in 0..15 {
+        good &= state_good(hub.ports, k as u64, hub.states[k]);
     }
     good
 }
