@@ -1,3 +1,4 @@
+use mathlib.Core.Path.{◌≡◌, ◌∙◌}
 use native.Mathlib.Omega.{arith}
 use Rattle.endpoint.proofs.WordsCases.{good_most, lowest_is, seek_ends, seek_finds, seek_goes_on, seek_starts, word_inside}
 use Rattle.endpoint.proofs.lowest.lowest_closed.Goals as goal
@@ -22,5 +23,6 @@ loop-k-preserved c =
 pub returns : goal.returns
 returns c =
     let l = c.loop-k in
-    lowest_is c.args.core.settings c.args.core.rest c.args.slots.now l.k
+    let done : c.args.core.settings.endpoints ≡ l.k = omega arith in
+    done ∙ lowest_is c.args.core.settings c.args.core.rest c.args.slots.now l.k
     (seek_ends c.args.slots.now c.args.core.settings.endpoints l.k (omega arith) l.invariant)
