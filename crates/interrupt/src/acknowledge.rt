@@ -9,7 +9,6 @@ use register::operational::{
     USBSTS_USBINT,
 };
 use register::writes::Writes;
-use schedule::links::same;
 
 // What is enabled, and so what is masked.
 pub const MASKABLE: u32 = USBINTR_USBINT
@@ -41,7 +40,7 @@ pub fn acknowledge_writes(p: u32, interrupts: u32, flag: bool, again: bool) -> W
     let writes = Writes::none()
         .and_then(USBSTS, p)
         .and_then(USBINTR, mask_word(p, interrupts, flag));
-    if same(flag, again) {
+    if flag == again {
         return writes;
     }
     writes.and_then(USBINTR, mask_word(p, interrupts, again))

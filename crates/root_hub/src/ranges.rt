@@ -73,9 +73,5 @@ fn place_good(hub: EhciRootHub) -> bool
 pub fn hub_good(hub: EhciRootHub) -> bool
     ensures { result ≡ hub_good hub }
 {
-    let ports = hub.ports;
-    if (1 <= ports) & (ports <= 15) {
-        return states_good(hub) & place_good(hub);
-    }
-    false
+    (1 <= hub.ports) & (hub.ports <= 15) && (states_good(hub) & place_good(hub))
 }
