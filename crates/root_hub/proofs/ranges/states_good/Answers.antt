@@ -8,7 +8,7 @@ loop-k-init c = refl
 
 pub loop-k-preserved : goal.loop-k-preserved
 loop-k-preserved c = let l = c.loop-k in
-    ports_turn _ l.k l.good _ (omega arith) c.state_good.ensures ∙ l.invariant
+    ports_turn _ l.k l.good _ (omega arith) c.state_good-good.ensures ∙ l.invariant
 
 pub returns : goal.returns
 returns c = ports_done _ _ _ _ (omega arith) c.loop-k.invariant
