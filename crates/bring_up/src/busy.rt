@@ -8,13 +8,10 @@ pub fn any_uncollected(slots: &[u64], endpoints: u8) -> bool
     requires { length slots.now ≡ 6 * endpoints }
     ensures { result ≡ any_held 0 endpoints slots.now }
 {
-    let end = endpoints as usize;
     let mut busy = false;
-    let mut k: usize = 0;
-    while k < end {
+    for k in 0..endpoints as usize {
         let phase = slots[RECORD * k] % 4;
-        busy = busy | (2 <= phase);
-        k += 1;
+        busy |= 2 <= phase;
     }
     busy
 }

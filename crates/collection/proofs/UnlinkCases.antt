@@ -34,19 +34,15 @@ pub asks_one : (b : Bell) (cmd : ℕ) (u : UnlinkBoundary) (w : Writes) (r : Run
     → r ≡ unlinked_of b w cmd → ◌≡◌ {A = Bounded} (record { boundary = u; rung = r }) (asked_of b cmd)
 asks_one b cmd u w r eu ew er = rw (er, eu, ew)
 
+pub bound_other : (b : Bell) (k : EndpointType) (rd : Readings) (r : Bounded) → (k ≡ Interrupt → ⊥) → r ≡ asked_of b rd.command
+    → r ≡ bounded_of b k rd
+unfolding bounded_of
+bound_other b Control rd r n er = er
+bound_other b Isochronous rd r n er = er
+bound_other b Bulk rd r n er = er
+bound_other b Interrupt rd r n er = absurd (n refl)
+
 module _ (b : Bell) (k : EndpointType) (rd : Readings) where
-  pub bound_control : (r : Bounded) → k ≡ Control → r ≡ asked_of b rd.command → r ≡ bounded_of b k rd
-  unfolding bounded_of
-  bound_control r e er = er ∙ rw e
-
-  pub bound_isochronous : (r : Bounded) → k ≡ Isochronous → r ≡ asked_of b rd.command → r ≡ bounded_of b k rd
-  unfolding bounded_of
-  bound_isochronous r e er = er ∙ rw e
-
-  pub bound_bulk : (r : Bounded) → k ≡ Bulk → r ≡ asked_of b rd.command → r ≡ bounded_of b k rd
-  unfolding bounded_of
-  bound_bulk r e er = er ∙ rw e
-
   pub bound_interrupt : (f : ℕ) (w : Writes) → k ≡ Interrupt → f ≡ frame_of rd.frame → w ≡ no_writes
       → ◌≡◌ {A = Bounded} (record { boundary = Periodic f; rung = record { bell = b; writes = w } }) (bounded_of b k rd)
   unfolding bounded_of
@@ -61,12 +57,6 @@ waits s st rd k p r u eu es = rw (es, eu)
 -- ---- unlinking
 
 module _ (s : Ehci) (h f : List ℕ) (k : ℕ) (q : Predecessor) (h' f' : List ℕ) (e : detached q h' f' ≡ detach_of s h f k) where
-  pub lost_first : q ≡ First → false ≡ is_missing (detach_of s h f k).predecessor
-  lost_first eq = ap is_missing (sym eq ∙ ap (λ (d : Detached). d.predecessor) e)
-
-  pub lost_head : (j : ℕ) → q ≡ Head j → false ≡ is_missing (detach_of s h f k).predecessor
-  lost_head j eq = ap is_missing (sym eq ∙ ap (λ (d : Detached). d.predecessor) e)
-
   pub lost_missing : q ≡ Missing → true ≡ is_missing (detach_of s h f k).predecessor
   lost_missing eq = ap is_missing (sym eq ∙ ap (λ (d : Detached). d.predecessor) e)
 

@@ -18,15 +18,12 @@ fn ask_for(core: Core, slots: &[u64], slot: u8, p: Pipe, r: Request) -> AskWords
     requires { (6 * slot + 6 ≤ length slots.now) × (core.settings.limit ≤ 16384) }
     ensures { result ≡ request_ask_words core.settings slots.now slot p r }
 {
-    let kind = p.kind;
-    let direction = r.direction;
-    let length = r.length as u64;
     let limit = limit_of(core.settings.limit, p) as u32;
-    let stops = ends_short(kind, direction);
+    let stops = ends_short(p.kind, r.direction);
     AskWords {
         places: places_at(slots, slot),
-        kind,
-        length,
+        kind: p.kind,
+        length: r.length as u64,
         limit,
         stops,
     }

@@ -42,9 +42,7 @@ fn finish(
     ensures tidy { Tidy core.settings result.rest slots.new }
 {
     let mut rest = core.rest;
-    let free = rest.free;
-    let more = with(free, places_at(slots, k));
-    rest.free = more;
+    rest.free = with(rest.free, places_at(slots, k));
     let kept = with_toggle(p, kept_toggle(overlay));
     put_endpoint(slots, k, Endpoint::Idle(kept));
     put_places(slots, k, [0; 4]);
@@ -78,8 +76,7 @@ pub fn collect_linked(
     if stage.stands_active() {
         return still_pending(core.rest);
     }
-    let kind = p.kind;
-    if is_lost(core, slots, heads, frames, k, kind) {
+    if is_lost(core, slots, heads, frames, k, p.kind) {
         return refuse_collect(core.rest, Refusal::InvalidEndpoint);
     }
     let left = waiting(core, slots, readings, k, p, r);

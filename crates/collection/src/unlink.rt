@@ -51,18 +51,14 @@ pub fn boundary_now(bell: Bell, kind: EndpointType, readings: Readings) -> Bound
     ensures { result ≡ bounded_of bell kind readings }
 {
     match kind {
-        EndpointType::Control => asked(bell, readings.command),
-        EndpointType::Isochronous => asked(bell, readings.command),
-        EndpointType::Bulk => asked(bell, readings.command),
-        EndpointType::Interrupt => {
-            Bounded {
-                boundary: UnlinkBoundary::Periodic(frame_of(readings.frame)),
-                rung: Rung {
-                    bell,
-                    writes: Writes::none(),
-                },
-            }
-        }
+        EndpointType::Interrupt => Bounded {
+            boundary: UnlinkBoundary::Periodic(frame_of(readings.frame)),
+            rung: Rung {
+                bell,
+                writes: Writes::none(),
+            },
+        },
+        _ => asked(bell, readings.command),
     }
 }
 
@@ -70,12 +66,9 @@ pub fn boundary_now(bell: Bell, kind: EndpointType, readings: Readings) -> Bound
 pub fn marked(r: Request) -> Request
     ensures { result ≡ marked r }
 {
-    let direction = r.direction;
     Request {
-        id: r.id,
-        direction,
-        length: r.length,
         cancelled: true,
+        ..r
     }
 }
 
@@ -106,13 +99,12 @@ pub fn waiting(
     ensures tidy { Tidy core.settings result.rest slots.new }
 {
     let mut rest = core.rest;
-    let kind = p.kind;
     let bell = Bell {
         noted: rest.noted,
         doorbell: rest.doorbell,
         unanswered: rest.unanswered,
     };
-    let until = boundary_now(bell, kind, readings);
+    let until = boundary_now(bell, p.kind, readings);
     let boundary = until.boundary;
     rest.noted = until.rung.bell.noted;
     rest.doorbell = until.rung.bell.doorbell;
@@ -143,11 +135,8 @@ pub fn is_lost(
         ≡ (detach_of (view core slots.now) heads.old frames.old k).rows }
 {
     let address = head_address(core, k);
-    match detach(core, slots, heads, frames, k, is_interrupt(kind), address) {
-        Predecessor::First => false,
-        Predecessor::Head(_) => false,
-        Predecessor::Missing => true,
-    }
+    let found = detach(core, slots, heads, frames, k, is_interrupt(kind), address);
+    matches!(found, Predecessor::Missing)
 }
 
 // Refused where the head is lost.
@@ -169,8 +158,7 @@ pub fn unlink(
         ≡ unlink_of (view core slots.old) heads.old frames.old readings k p r }
     ensures tidy { Tidy core.settings result.rest slots.new }
 {
-    let kind = p.kind;
-    if is_lost(core, slots, heads, frames, k, kind) {
+    if is_lost(core, slots, heads, frames, k, p.kind) {
         return refuse_cancel(core.rest, Refusal::InvalidEndpoint);
     }
     waiting(core, slots, readings, k, p, r)

@@ -13,8 +13,7 @@ use words::row::{RECORD, word_at};
 pub fn free_count(core: Core) -> u64
     ensures { result ≡ length (set_places core.rest.free) }
 {
-    let free = core.rest.free;
-    count(free)
+    count(core.rest.free)
 }
 
 // Whether a slot has an endpoint.
@@ -35,7 +34,7 @@ pub fn uncollected(slots: &[u64], slot: u8) -> bool
 pub fn word_in(slots: &[u64], at: usize) -> u64
     ensures { result ≡ slice_index slots.now at }
 {
-    if at < slots.len() { slots[at] } else { 0 }
+    slots.get(at).copied().unwrap_or(0)
 }
 
 // The places of a slot's request, a bit each: whose tokens a host writes back.
@@ -43,11 +42,12 @@ pub fn request_places(slots: &[u64], slot: u8) -> [u64; 4]
     ensures { result ≡ places_at slots.now slot }
 {
     let at = RECORD * (slot as usize);
-    let first = word_in(slots, at + 2);
-    let second = word_in(slots, at + 3);
-    let third = word_in(slots, at + 4);
-    let fourth = word_in(slots, at + 5);
-    [first, second, third, fourth]
+    [
+        word_in(slots, at + 2),
+        word_in(slots, at + 3),
+        word_in(slots, at + 4),
+        word_in(slots, at + 5),
+    ]
 }
 
 // Whether a place is one of those of a slot's request.

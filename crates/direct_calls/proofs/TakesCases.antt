@@ -10,7 +10,7 @@ use Rattle.word_ranges.proofs.JudgeLaws.{judged}
 use Rattle.direct_calls.specs.Shapes.{takes_frames, takes_heads}
 
 module _ (c : Core) (ws : List ℕ) (heads : ℕ) where
-  pub heads_else : heads ≢ 17 * (c.settings.endpoints + 1) → false ≡ takes_heads c ws heads
+  pub heads_else : heads ≢ 17 * (c.settings.endpoints + 1) → eqb heads (17 * (c.settings.endpoints + 1)) ≡ takes_heads c ws heads
   unfolding takes_heads
   heads_else ne = rw (ne_eqb heads (17 * (c.settings.endpoints + 1)) ne)
 
@@ -33,7 +33,7 @@ module _ (c : Core) (ws : List ℕ) (heads : ℕ) where
     heads_length_lem = (heads_tell (sym eg ∙ not-false g t)).1
 
   module _ (frames : ℕ) where
-    pub frames_else : frames ≢ 1024 → false ≡ takes_frames c ws heads frames
+    pub frames_else : frames ≢ 1024 → eqb frames 1024 ≡ takes_frames c ws heads frames
     unfolding takes_frames
     frames_else ne = rw (ne_eqb frames 1024 ne)
 

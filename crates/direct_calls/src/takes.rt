@@ -11,17 +11,11 @@ pub fn takes_heads(core: Core, slots: &[u64], heads: &[u32]) -> bool
     ensures { result ≡ takes_heads core slots.now (length heads.now) }
 {
     let endpoints = core.settings.endpoints as usize;
-    if heads.len() != HEAD_WORDS * (endpoints + 1) {
-        return false;
-    }
-    words_good(core, slots)
+    heads.len() == HEAD_WORDS * (endpoints + 1) && words_good(core, slots)
 }
 
 pub fn takes_frames(core: Core, slots: &[u64], heads: &[u32], frames: &[u32]) -> bool
     ensures { result ≡ takes_frames core slots.now (length heads.now) (length frames.now) }
 {
-    if frames.len() as u64 != FRAMES {
-        return false;
-    }
-    takes_heads(core, slots, heads)
+    frames.len() as u64 == FRAMES && takes_heads(core, slots, heads)
 }

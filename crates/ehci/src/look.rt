@@ -49,23 +49,8 @@ fn asks(core: Core, slots: &[u64], good: bool, call: Call) -> AskWords
         return no_ask_words();
     }
     match call {
-        Call::StartBringUp => no_ask_words(),
-        Call::BringUpStep(_) => no_ask_words(),
-        Call::AllocateAddress => no_ask_words(),
-        Call::OpenEndpoint(_) => no_ask_words(),
-        Call::Close(_) => no_ask_words(),
-        Call::SetAddress(_, _) => no_ask_words(),
-        Call::SetPacketSize(_, _) => no_ask_words(),
-        Call::Submit(_, _, _) => no_ask_words(),
-        Call::Writeback(_, _) => no_ask_words(),
-        Call::Cancel(_, _, _) => no_ask_words(),
         Call::Collect(slot, _, _) => ask(core, slots, slot),
-        Call::Acknowledge(_) => no_ask_words(),
-        Call::Drain(_) => no_ask_words(),
-        Call::Rearm => no_ask_words(),
-        Call::Enable => no_ask_words(),
-        Call::Disable => no_ask_words(),
-        Call::ClearHalt(_) => no_ask_words(),
+        _ => no_ask_words(),
     }
 }
 

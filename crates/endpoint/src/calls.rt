@@ -87,20 +87,16 @@ pub fn open_endpoint(
 fn resize(p: Pipe, size: u8) -> Pipe
     ensures { result ≡ with_size p (max size 8) }
 {
-    let kind = p.kind;
     Pipe {
-        kind,
         size: size.max(8) as u16,
-        toggle: p.toggle,
-        next: p.next,
+        ..p
     }
 }
 
 fn pipe_good(limit: u64, p: Pipe) -> bool
     ensures { result ≡ size_good limit (kind_number p.kind) p.size }
 {
-    let kind = p.kind;
-    size_good(limit, kind, p.size)
+    size_good(limit, p.kind, p.size)
 }
 
 // What close, set address, set packet size and clear-halt ask, in 01's order; `good` where the value is in its range.

@@ -13,13 +13,11 @@ pub fn lowest_closed(core: Core, slots: &[u64]) -> u8
     ensures { result ≡ lowest_slot (view core slots.now) }
 {
     let endpoints = core.settings.endpoints;
-    let mut k: u8 = 0;
-    while k < endpoints {
+    for k in 0..endpoints {
         let word = slots[RECORD * (k as usize)];
         if word % 4 == 0 {
             return k;
         }
-        k += 1;
     }
-    k
+    endpoints
 }

@@ -1,5 +1,6 @@
 -- The returns of the interrupt calls.
 use Rattle.std.specs.Prelude.{◌≡◌, ℕ, ◌≤◌, Bool, true, false, not, eqb, leb, List, Ok}
+use mathlib.Core.Bool.{beq}
 use mathlib.Core.Path.{sym, ◌∙◌}
 use native.Mathlib.Omega.{arith}
 use borrow.Author.Tests.{eq-eqb, ne_eqb, leb-true, not-false}
@@ -13,7 +14,7 @@ use Rattle.state.specs.State.{with_interrupt, with_bell, with_boundaries}
 use Rattle.state.specs.Plain.{Ehci}
 use Rattle.common.proofs.TestLaws.{both_first, both_second, within_least}
 use Rattle.schedule.specs.Bell.{advanced_of, bell_of, fallen_from}
-use Rattle.schedule.specs.Links.{same}
+use Rattle.schedule.proofs.WordsCases.{same_is}
 use Rattle.schedule.specs.declared.bell.Rung.{Rung}
 use Rattle.interrupt.specs.Plain.{Acknowledgement}
 use Rattle.interrupt.specs.declared.answers.Event.TheVariants.{Nothing, PortChange, TransferActivity, Stopped}
@@ -34,13 +35,13 @@ unfolding mask_word
 mask_off p i f e = rw e
 
 module _ (p i : ℕ) (f g : Bool) (w₀ w₁ w₂ : Writes) (m : ℕ) (e₀ : w₀ ≡ no_writes) (e₁ : w₁ ≡ and_then w₀ 4 p) (em : m ≡ mask_word p i f) (e₂ : w₂ ≡ and_then w₁ 8 m) where
-  pub writes_once : (t : Bool) → t ≡ same f g → t ≡ true → w₂ ≡ acknowledge_writes p i f g
+  pub writes_once : beq f g ≡ true → w₂ ≡ acknowledge_writes p i f g
   unfolding acknowledge_writes
-  writes_once t et h = rw (e₂, e₁, e₀, em, sym et ∙ h)
+  writes_once h = rw (e₂, e₁, e₀, em, sym (same_is f g) ∙ h)
 
-  pub writes_again : (t : Bool) → t ≡ same f g → t ≡ false → (n : ℕ) (w₃ : Writes) → n ≡ mask_word p i g → w₃ ≡ and_then w₂ 8 n → w₃ ≡ acknowledge_writes p i f g
+  pub writes_again : beq f g ≡ false → (n : ℕ) (w₃ : Writes) → n ≡ mask_word p i g → w₃ ≡ and_then w₂ 8 n → w₃ ≡ acknowledge_writes p i f g
   unfolding acknowledge_writes
-  writes_again t et h n w₃ en e₃ = rw (e₃, en, e₂, e₁, e₀, em, sym et ∙ h)
+  writes_again h n w₃ en e₃ = rw (e₃, en, e₂, e₁, e₀, em, sym (same_is f g) ∙ h)
 
 module _ (s : Ehci) (st i : ℕ) (f g : Bool) (b : Bool) (eb : b ≡ in_ranges s) (w : Writes) where
   pub ack_no : not b ≡ false → w ≡ no_writes → (p : ℕ) → p ≡ only_bits st 55 → p ≡ 0

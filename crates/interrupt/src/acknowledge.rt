@@ -5,7 +5,6 @@ ghost use Rattle.interrupt.specs.Interrupts.{mask_word, acknowledge_writes};
 use register::bits::{only_bits, without_bits};
 use register::operational::{USBINTR, USBINTR_ASYNC_ADVANCE, USBINTR_PORT_CHANGE, USBINTR_USBERRINT, USBINTR_USBINT, USBSTS, USBSTS_HOST_SYSTEM_ERROR, USBSTS_INTERRUPT_ASYNC_ADVANCE, USBSTS_PORT_CHANGE, USBSTS_USBERRINT, USBSTS_USBINT};
 use register::writes::Writes;
-use schedule::links::same;
 
 // What is enabled, and so what is masked.
 pub const MASKABLE: u32 = USBINTR_USBINT
@@ -37,7 +36,7 @@ pub fn acknowledge_writes(p: u32, interrupts: u32, flag: bool, again: bool) -> W
     let writes = Writes::none()
         .and_then(USBSTS, p)
         .and_then(USBINTR, mask_word(p, interrupts, flag));
-    if same(flag, again) {
+    if flag == again {
         return writes;
     }
     writes.and_then(USBINTR, mask_word(p, interrupts, again))

@@ -21,12 +21,11 @@ use crate::answers::Event;
 fn noted_after(doorbell: u8, noted: u8, p: u32) -> u8
     ensures { result ≡ note_if (any_of p 0x20 && doorbell == 1) noted }
 {
-    if any_of(p, USBSTS_INTERRUPT_ASYNC_ADVANCE) {
-        if doorbell == 1 {
-            return 1;
-        }
+    if any_of(p, USBSTS_INTERRUPT_ASYNC_ADVANCE) && doorbell == 1 {
+        1
+    } else {
+        noted
     }
-    noted
 }
 
 pub fn acknowledge(

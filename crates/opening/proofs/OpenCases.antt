@@ -29,8 +29,8 @@ pub count_refused : (a : (Result ⊤ Refusal)) (pool : ℕ) (r : Refusal) → a 
 count_refused a pool r e = rw e
 
 -- D records and the shared one
-pub none_fits : (d p : ℕ) → p ≡ 0 → false ≡ eqb p (d + 1)
-none_fits d p z = sym (ne_eqb p (d + 1) (λ e. omega (arith, z, e)))
+pub none_fits : (d p : ℕ) → p ≡ 0 → not (eqb p 0) ≡ eqb p (d + 1)
+none_fits d p z = ap not (eq-eqb p 0 z) ∙ sym (ne_eqb p (d + 1) (λ e. omega (arith, z, e)))
 
 pub one_less : (d p : ℕ) → (p ≡ 0 → ⊥) → eqb (p - 1) d ≡ eqb p (d + 1)
 one_less d p z = by (dec_eq (p - 1) d)

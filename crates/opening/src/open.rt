@@ -33,10 +33,7 @@ pub struct Opening {
 fn pool_fits(s: Settings, pool: u64) -> bool
     ensures { result ≡ (pool == pool_length s) }
 {
-    if pool == 0 {
-        return false;
-    }
-    pool - 1 == s.descriptors
+    pool != 0 && pool - 1 == s.descriptors
 }
 
 // Lengths other than those that opening fixes are refused by every call that is lent the rows.

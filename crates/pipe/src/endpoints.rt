@@ -1,6 +1,6 @@
 // A slot's endpoint: the numbers of a slot taken apart, and put together again.
 ghost use Rattle.std.specs.Prelude.{◌≡◌};
-ghost use Rattle.pipe.specs.Endpoints.{kind_of, kind_number, direction_of, direction_number, flag_number, pipe_of, request_of, boundary_of, decoded, boundary_number, slot_with, bare_slot, encoded, with_toggle};
+ghost use Rattle.pipe.specs.Endpoints.{kind_of, kind_number, direction_of, direction_number, pipe_of, request_of, boundary_of, decoded, boundary_number, slot_with, bare_slot, encoded, with_toggle};
 
 use common::kinds::{Direction, EndpointType};
 use slot::slot::Slot;
@@ -51,12 +51,7 @@ pub fn kind_of(number: u8) -> EndpointType
 pub fn kind_number(kind: EndpointType) -> u8
     ensures { result ≡ kind_number kind }
 {
-    match kind {
-        EndpointType::Control => 0,
-        EndpointType::Isochronous => 1,
-        EndpointType::Bulk => 2,
-        EndpointType::Interrupt => 3,
-    }
+    kind as u8
 }
 
 pub fn direction_of(number: u8) -> Direction
@@ -69,19 +64,10 @@ pub fn direction_of(number: u8) -> Direction
     }
 }
 
-fn direction_number(direction: Direction) -> u8
+pub fn direction_number(direction: Direction) -> u8
     ensures { result ≡ direction_number direction }
 {
-    match direction {
-        Direction::Out => 0,
-        Direction::In => 1,
-    }
-}
-
-fn flag_number(flag: bool) -> u8
-    ensures { result ≡ flag_number flag }
-{
-    if flag { 1 } else { 0 }
+    direction as u8
 }
 
 pub fn pipe_of(e: Slot) -> Pipe
@@ -98,13 +84,7 @@ pub fn pipe_of(e: Slot) -> Pipe
 pub fn with_toggle(p: Pipe, toggle: bool) -> Pipe
     ensures { result ≡ with_toggle p toggle }
 {
-    let kind = p.kind;
-    Pipe {
-        kind,
-        size: p.size,
-        toggle,
-        next: p.next,
-    }
+    Pipe { toggle, ..p }
 }
 
 fn request_of(e: Slot) -> Request
@@ -131,43 +111,35 @@ fn boundary_of(e: Slot) -> UnlinkBoundary
 pub fn decode(e: Slot) -> Endpoint
     ensures { result ≡ decoded e }
 {
-    let phase = e.phase;
-    if phase == 1 {
-        return Endpoint::Idle(pipe_of(e));
+    match e.phase {
+        1 => Endpoint::Idle(pipe_of(e)),
+        2 => Endpoint::Linked(pipe_of(e), request_of(e)),
+        3 => Endpoint::Unlinking(pipe_of(e), request_of(e), boundary_of(e)),
+        _ => Endpoint::Closed,
     }
-    if phase == 2 {
-        return Endpoint::Linked(pipe_of(e), request_of(e));
-    }
-    if phase == 3 {
-        return Endpoint::Unlinking(pipe_of(e), request_of(e), boundary_of(e));
-    }
-    Endpoint::Closed
 }
 
 fn boundary_number(boundary: UnlinkBoundary) -> u16
     ensures { result ≡ boundary_number boundary }
 {
     match boundary {
-        UnlinkBoundary::Async(n) => n,
-        UnlinkBoundary::Periodic(n) => n,
+        UnlinkBoundary::Async(n) | UnlinkBoundary::Periodic(n) => n,
     }
 }
 
 fn slot_with(phase: u8, p: Pipe, r: Request, boundary: u16) -> Slot
     ensures { result ≡ slot_with phase p r boundary }
 {
-    let kind = p.kind;
-    let direction = r.direction;
     Slot {
         phase,
-        kind: kind_number(kind),
+        kind: kind_number(p.kind),
         size: p.size,
-        toggle: flag_number(p.toggle),
+        toggle: u8::from(p.toggle),
         id: p.next,
         request: r.id,
-        direction: direction_number(direction),
+        direction: direction_number(r.direction),
         length: r.length,
-        cancel: flag_number(r.cancelled),
+        cancel: u8::from(r.cancelled),
         boundary,
     }
 }
@@ -194,10 +166,7 @@ pub fn encode(e: Endpoint) -> Slot
 {
     match e {
         Endpoint::Closed => bare_slot(0, 0, 0, 0, 1),
-        Endpoint::Idle(p) => {
-            let kind = p.kind;
-            bare_slot(1, kind_number(kind), p.size, flag_number(p.toggle), p.next)
-        }
+        Endpoint::Idle(p) => bare_slot(1, kind_number(p.kind), p.size, u8::from(p.toggle), p.next),
         Endpoint::Linked(p, r) => slot_with(2, p, r, 0),
         Endpoint::Unlinking(p, r, b) => slot_with(3, p, r, boundary_number(b)),
     }

@@ -30,8 +30,7 @@ pub fn pipe_at(slots: &[u64], k: u8) -> Pipe
 pub fn limit_of(limit: u64, p: Pipe) -> u64
     ensures { result ≡ working_limit p.kind limit p.size }
 {
-    let kind = p.kind;
-    working_limit(kind, limit, p.size as u64)
+    working_limit(p.kind, limit, p.size as u64)
 }
 
 // The slot's endpoint is replaced, its places stay.

@@ -13,13 +13,13 @@ use Rattle.common.specs.declared.answer.Refusal.TheVariants.{InvalidParameter, I
 use Rattle.request.specs.Submit.{buffer_good, control_good, judge_of, need_of_request, ranges_good}
 use Rattle.request.specs.declared.judge.TransferRequest.{TransferRequest}
 
-pub buffer_empty : (a n : ℕ) → n ≡ 0 → true ≡ buffer_good a n
+pub buffer_empty : (a n : ℕ) → n ≡ 0 → eqb n 0 ≡ buffer_good a n
 unfolding buffer_good
 buffer_empty a n e = rw (eq-eqb n 0 e)
 
-pub buffer_large : (a n : ℕ) → (n ≡ 0 → ⊥) → 4294967296 < n → false ≡ buffer_good a n
+pub buffer_large : (a n : ℕ) → (n ≡ 0 → ⊥) → 4294967296 < n → leb n 4294967296 ≡ buffer_good a n
 unfolding buffer_good
-buffer_large a n z h = rw (ne_eqb n 0 z) (sym (lt-leb (a + n) (2 ^ 32) (omega arith)))
+buffer_large a n z h = rw (ne_eqb n 0 z, lt-leb n 4294967296 h) (sym (lt-leb (a + n) (2 ^ 32) (omega arith)))
 
 pub buffer_is : (a n : ℕ) → (n ≡ 0 → ⊥) → n ≤ 4294967296 → leb a (4294967296 - n) ≡ buffer_good a n
 unfolding buffer_good

@@ -29,7 +29,7 @@ use Rattle.request.proofs.WritebackCases.{back_done, back_none}
 -- ---- `in_request`
 
 module _ (s : Settings) (r : Rest) (p : ℕ) where
-  pub taken_beyond : s.descriptors ≤ p → false ≡ taken_place s r p
+  pub taken_beyond : s.descriptors ≤ p → ltb p s.descriptors ≡ taken_place s r p
   unfolding taken_place
   taken_beyond h = rw (le-ltb p s.descriptors h)
 

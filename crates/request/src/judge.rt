@@ -3,12 +3,11 @@ ghost use Rattle.std.specs.Prelude.{◌≡◌};
 ghost use Rattle.words.specs.Good.{Good};
 ghost use Rattle.words.specs.View.{view};
 ghost use Rattle.request.specs.Submit.{judge_of, need_of_request, buffer_good, control_good, ranges_good};
-ghost use Rattle.pipe.specs.Endpoints.{direction_number};
 
 use bitset::places::count;
 use common::answer::Refusal;
 use common::kinds::{Direction, EndpointType, is_control, is_isochronous};
-use pipe::endpoints::kind_number;
+use pipe::endpoints::{direction_number, kind_number};
 use settings::settings::MEMORY_END;
 use words::cores::Core;
 use words::row::word_at;
@@ -28,41 +27,24 @@ pub struct TransferRequest {
     pub length: u64,
 }
 
-fn direction_bit(direction: Direction) -> u64
-    ensures { result ≡ direction_number direction }
-{
-    match direction {
-        Direction::Out => 0,
-        Direction::In => 1,
-    }
-}
-
 fn buffer_good(address: u64, length: u64) -> bool
     ensures { result ≡ buffer_good address length }
 {
-    if length == 0 {
-        return true;
-    }
-    if MEMORY_END < length {
-        return false;
-    }
-    address <= MEMORY_END - length
+    length == 0 || (length <= MEMORY_END && address <= MEMORY_END - length)
 }
 
 fn control_good(t: TransferRequest) -> bool
     ensures { result ≡ control_good t }
 {
-    let direction = t.direction;
-    let bit = direction_bit(direction);
+    let bit = direction_number(t.direction) as u64;
     (t.length <= CONTROL_MAX) & (t.setup / 128 % 2 == bit) & (t.setup < SETUP_END)
 }
 
 pub fn ranges_good(t: TransferRequest) -> bool
     ensures { result ≡ ranges_good t }
 {
-    let kind = t.kind;
     let buffer = buffer_good(t.address, t.length);
-    if is_control(kind) {
+    if is_control(t.kind) {
         return buffer & control_good(t);
     }
     buffer

@@ -65,8 +65,7 @@ pub fn put_setup(setups: &mut [u8], slot: u8, t: TransferRequest)
     requires { 8 * slot + 8 ≤ length setups.old }
     ensures { setups.new ≡ setups_with setups.old slot t }
 {
-    let kind = t.kind;
-    if is_control(kind) {
+    if is_control(t.kind) {
         let packet = setup_packet_bytes(t.setup, t.length);
         put_at(setups, 8 * (slot as usize), &packet);
     }
@@ -88,17 +87,16 @@ fn link_rows(
         ≡ linked_rows heads.old frames.old t.kind slot (qh_link (head_of core.settings slot)) (first_of core.settings places)
         (overlay_token t.kind toggle) }
 {
-    let kind = t.kind;
     let first = (core.settings.pool + 64 * (place_at(cursor_of(places)) as u64)) as u32;
     let link = ehci_qh_link(head_address(core, slot));
     link_head(
         heads,
         frames,
-        kind,
+        t.kind,
         slot,
         link,
         first,
-        overlay_token(kind, toggle),
+        overlay_token(t.kind, toggle),
     );
 }
 
@@ -108,17 +106,15 @@ fn put_request(slots: &mut [u64], slot: u8, t: TransferRequest, id: u64, places:
     ensures slots_after { slots.new ≡ put_places (put_slot slots.old slot (encoded (request_with t (word_at slots.old slot) id))) slot places }
     ensures slot_fits { SlotFits (encoded (request_with t (word_at slots.old slot) id)) }
 {
-    let kind = t.kind;
-    let direction = t.direction;
     let pipe = Pipe {
-        kind,
+        kind: t.kind,
         size: size_at(slots, slot),
         toggle: toggle_at(slots, slot) != 0,
         next: id_in(id),
     };
     let request = Request {
         id,
-        direction,
+        direction: t.direction,
         length: t.length as u32,
         cancelled: false,
     };
@@ -130,17 +126,15 @@ fn laying_for(core: Core, slot: u8, t: TransferRequest, limit: u64, places: [u64
     requires { (core.settings.setups ≤ 2 ^ 32) × (shared_address core.settings < 2 ^ 32) }
     ensures { result ≡ laying_for core.settings slot t limit places }
 {
-    let kind = t.kind;
-    let direction = t.direction;
     let setup = core.settings.setups + 8 * (slot as u64);
     let shared = (core.settings.pool + 64 * core.settings.descriptors) as u32;
-    let alternate = alternate_word(kind, direction, shared);
+    let alternate = alternate_word(t.kind, t.direction, shared);
     Laying {
         places,
         base: core.settings.pool,
         transfer: Transfer {
-            kind,
-            direction,
+            kind: t.kind,
+            direction: t.direction,
             address: t.address,
             length: t.length,
             limit,
@@ -172,9 +166,7 @@ fn accepted(
     ensures { result ≡ accepted_words core readings slot t limit id places }
 {
     let mut rest = core.rest;
-    let free = rest.free;
-    let left = without(free, places);
-    rest.free = left;
+    rest.free = without(rest.free, places);
     let word = command_word(with_bits(readings.command, USBCMD_SCHEDULES));
     Submitted {
         answer: Ok(id),
@@ -206,8 +198,7 @@ pub fn settle(
     ensures tidy { Tidy core.settings result.rest slots.new }
     ensures laying_good { LayingGood (pool_length core.settings) result.laying }
 {
-    let free = core.rest.free;
-    let places = lowest_places(free, wanted);
+    let places = lowest_places(core.rest.free, wanted);
     link_rows(
         core,
         heads,

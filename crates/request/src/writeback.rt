@@ -19,11 +19,7 @@ use words::cores::Core;
 fn in_request(core: Core, place: u64) -> bool
     ensures { result ≡ taken_place core.settings core.rest place }
 {
-    if core.settings.descriptors <= place {
-        return false;
-    }
-    let free = core.rest.free;
-    !has(free, place)
+    place < core.settings.descriptors && !has(core.rest.free, place)
 }
 
 // Only that descriptor's token is written.

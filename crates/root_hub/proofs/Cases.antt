@@ -163,7 +163,7 @@ module _ (h : EhciRootHub) where
   unfolding hub_good
   hub_is s p t es ep = rw (es, ep, t)
 
-  pub hub_not : within h.ports 1 15 ≡ false → false ≡ hub_good h
+  pub hub_not : within h.ports 1 15 ≡ false → within h.ports 1 15 ≡ hub_good h
   unfolding hub_good
   hub_not t = rw t
 

@@ -33,10 +33,8 @@ fn states_good(hub: EhciRootHub) -> bool
     ensures { result ≡ states_good 0 15 hub }
 {
     let mut good = true;
-    let mut k: usize = 0;
-    while k < 15 {
-        good = good & state_good(hub.ports, k as u64, hub.states[k]);
-        k += 1;
+    for k in 0..15 {
+        good &= state_good(hub.ports, k as u64, hub.states[k]);
     }
     good
 }
@@ -75,9 +73,5 @@ fn place_good(hub: EhciRootHub) -> bool
 pub fn hub_good(hub: EhciRootHub) -> bool
     ensures { result ≡ hub_good hub }
 {
-    let ports = hub.ports;
-    if (1 <= ports) & (ports <= 15) {
-        return states_good(hub) & place_good(hub);
-    }
-    false
+    (1 <= hub.ports) & (hub.ports <= 15) && (states_good(hub) & place_good(hub))
 }

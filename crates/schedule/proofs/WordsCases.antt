@@ -1,6 +1,7 @@
 -- The returns and the loop of the functions on links, over the row of slots.
 use Rattle.std.specs.Prelude.{◌≡◌, ℕ, ◌+◌, ◌-◌, ◌*◌, ◌/◌, ◌<◌, ◌≤◌, Bool, true, false, cond, not, ◌&&◌, eqb, List, length, get_or, set, replicate}
-use mathlib.Core.Path.{sym, ◌∙◌}
+use mathlib.Core.Bool.{beq}
+use mathlib.Core.Path.{refl, sym, ◌∙◌}
 use native.Mathlib.Nat.{sub-zero}
 use native.Mathlib.Omega.{arith}
 use borrow.Author.Tests.{eqb-true, eqb-false}
@@ -20,6 +21,12 @@ use Rattle.schedule.specs.Words.{precedes_word}
 use Rattle.schedule.proofs.LinkCases.{detach_frames, detach_ring, first_leads, found, not_first, not_here, nowhere}
 
 -- ---- `precedes`
+
+pub same_is : (a b : Bool) → beq a b ≡ same a b
+same_is true true = refl
+same_is true false = refl
+same_is false true = refl
+same_is false false = refl
 
 pub precedes_word_is : (j k mark : ℕ) (framed : Bool) (word address : ℕ) (t : Bool) → t ≡ same framed (eqb (kind_in mark) 3)
     → (not (eqb j k) && eqb (phase_in mark) 2 && t && leads_to word address) ≡ precedes_word j k mark framed word address

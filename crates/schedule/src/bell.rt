@@ -35,20 +35,17 @@ pub fn ring(bell: Bell, writes: Writes, command: u32) -> Rung
     requires { writes.count < 6 }
     ensures { result ≡ ring_of bell writes command }
 {
-    if bell.doorbell == 0 {
-        if 1 <= bell.unanswered {
-            return Rung {
-                bell: Bell {
-                    noted: bell.noted,
-                    doorbell: 1,
-                    unanswered: bell.unanswered,
-                },
-                writes: writes.and_then(
-                    USBCMD,
-                    with_bits(command, USBCMD_INT_ASYNC_ADVANCE_DOORBELL),
-                ),
-            };
-        }
+    if bell.doorbell == 0 && 1 <= bell.unanswered {
+        return Rung {
+            bell: Bell {
+                doorbell: 1,
+                ..bell
+            },
+            writes: writes.and_then(
+                USBCMD,
+                with_bits(command, USBCMD_INT_ASYNC_ADVANCE_DOORBELL),
+            ),
+        };
     }
     Rung { bell, writes }
 }
@@ -60,9 +57,8 @@ pub fn unlinked(bell: Bell, writes: Writes, command: u32) -> Rung
     ensures { result ≡ unlinked_of bell writes command }
 {
     let more = Bell {
-        noted: bell.noted,
-        doorbell: bell.doorbell,
         unanswered: bell.unanswered + 1,
+        ..bell
     };
     ring(more, writes, command)
 }

@@ -2,7 +2,7 @@
 ghost use Rattle.std.specs.Prelude.{◌≡◌, ◌+◌, ◌*◌, ◌^◌, ◌<◌, ◌≤◌, length, if◌then◌else◌};
 ghost use Rattle.words.specs.Good.{Good};
 ghost use Rattle.words.specs.View.{view};
-ghost use Rattle.schedule.specs.Links.{detach_of, detached, head_address, periodic, predecessor_of, search_from, same, attached_ring, attached_frames, links, with_link_word, started_overlay, ended_overlay};
+ghost use Rattle.schedule.specs.Links.{detach_of, detached, head_address, periodic, predecessor_of, search_from, attached_ring, attached_frames, links, with_link_word, started_overlay, ended_overlay};
 ghost use Rattle.schedule.specs.Words.{precedes_word};
 
 use common::rows::{fill, put_at};
@@ -25,8 +25,7 @@ pub fn attach_ring(heads: &mut [u32], k: u8, link: u32)
     ensures { heads.new ≡ attached_ring heads.old k link }
 {
     let at = 17 * (k as usize + 1);
-    let first = heads[0];
-    heads[at] = first;
+    heads[at] = heads[0];
     heads[0] = link;
 }
 
@@ -37,15 +36,8 @@ pub fn attach_frames(heads: &mut [u32], frames: &mut [u32], k: u8, link: u32)
     ensures { links heads.new frames.new ≡ attached_frames heads.old frames.old k link }
 {
     let at = 17 * (k as usize + 1);
-    let first = frames[0];
-    heads[at] = first;
+    heads[at] = frames[0];
     fill(frames, link);
-}
-
-pub fn same(a: bool, b: bool) -> bool
-    ensures { result ≡ same a b }
-{
-    if a { b } else { !b }
 }
 
 // A link word for slot j, where the row has that head.
@@ -89,7 +81,7 @@ pub fn head_address(core: Core, k: u8) -> u32
 fn precedes(j: u8, k: u8, mark: u64, framed: bool, word: u32, address: u32) -> bool
     ensures { result ≡ precedes_word j k mark framed word address }
 {
-    let together = same(framed, mark / 4 % 4 == 3);
+    let together = framed == (mark / 4 % 4 == 3);
     (j != k) & (mark % 4 == 2) & together & (word / 32 == address / 32)
 }
 
@@ -108,16 +100,13 @@ fn search(
     requires address_value { address ≡ head_address (view core slots.now) k }
     ensures { result ≡ search_from (view core slots.now) heads.now k 0 core.settings.endpoints }
 {
-    let endpoints = core.settings.endpoints;
-    let mut j: u8 = 0;
-    while j < endpoints {
+    for j in 0..core.settings.endpoints {
         let other = j as usize;
         let word = heads[17 * (other + 1)];
         let mark = slots[RECORD * other];
         if precedes(j, k, mark, framed, word, address) {
             return Predecessor::Head(j);
         }
-        j += 1;
     }
     Predecessor::Missing
 }

@@ -98,10 +98,6 @@ impl Settings {
     pub fn good(self) -> bool
         ensures { result ≡ settings_good self }
     {
-        if numbers_good(self) {
-            each_good(self) & no_overlap(self)
-        } else {
-            false
-        }
+        numbers_good(self) && (each_good(self) & no_overlap(self))
     }
 }

@@ -1,7 +1,6 @@
 -- The returns of the functions that judge the core: those of the state's ranges, at the state that the core stands for.
-use Rattle.std.specs.Prelude.{◌≡◌, ℕ, Bool, true, false, not, ◌&&◌, eqb, ltb, leb}
+use Rattle.std.specs.Prelude.{◌≡◌, ℕ, Bool, true, false, ◌&&◌, eqb, ltb, leb}
 use mathlib.Core.Path.{sym, ◌∙◌}
-use borrow.Author.Tests.{not-false, not-true}
 use Rattle.common.specs.Tests.{within}
 use Rattle.common.proofs.TestLaws.{every_3}
 use Rattle.register.specs.Bits.{without_bits}
@@ -32,10 +31,10 @@ module _ (s : Settings) (r : Rest) where
   unfolding scalars_good
   core_scalars m i d em ei ed = every_3 m i d ∙ rw (em, ei, ed)
 
-  pub core_not : (g : Bool) → g ≡ settings_good s → not g ≡ true → false ≡ core_good s r
+  pub core_not : (g : Bool) → g ≡ settings_good s → g ≡ false → g ≡ core_good s r
   unfolding core_good
-  core_not g eg t = rw (sym eg ∙ not-true g t)
+  core_not g eg f = f ∙ rw (sym eg ∙ f)
 
-  pub core_rest : (g c : Bool) → g ≡ settings_good s → not g ≡ false → c ≡ scalars_good s r → c ≡ core_good s r
+  pub core_rest : (g c : Bool) → g ≡ settings_good s → g ≡ true → c ≡ scalars_good s r → c ≡ core_good s r
   unfolding core_good
-  core_rest g c eg t ec = ec ∙ rw (sym eg ∙ not-false g t)
+  core_rest g c eg t ec = ec ∙ rw (sym eg ∙ t)

@@ -1,5 +1,5 @@
 -- The returns of the functions that look at one slot and at what all slots come to.
-use Rattle.std.specs.Prelude.{◌≡◌, ℕ, ◌-◌, ◌*◌, ◌%◌, ◌^◌, ◌<◌, ◌≤◌, Bool, true, false, not, ◌&&◌, eqb, ltb, leb, List, [], ◌∷◌, get_or}
+use Rattle.std.specs.Prelude.{◌≡◌, ℕ, ◌-◌, ◌*◌, ◌%◌, ◌^◌, ◌<◌, ◌≤◌, Bool, true, false, not, ◌&&◌, eqb, ltb, leb, List, get_or}
 use mathlib.Core.Path.{refl, ◌∙◌}
 use native.Mathlib.Decide.{ℕ_discrete as dec_eq}
 use native.Mathlib.Omega.{arith}
@@ -34,42 +34,42 @@ largest_fits phase h = by (dec_eq phase 0)
     by (yes q) = rw q (omega arith)
     by (no ne) = let one : phase ≡ 1 = omega arith in rw one (omega arith)
 
-module _ (s : Seen) (g : Bool) (word last w x y z : ℕ) where
+module _ (s : Seen) (g : Bool) (word last : ℕ) (p : List ℕ) where
   pub slot_empty : word % 4 < 2
       → ◌≡◌ {A = Seen}
       (record {
         good =
             s.good && g
-            && (eqb (bit_or (bit_or (bit_or w x) y) z) 0 && leb last (word % 4 * (2 ^ 64 - 2)));
+            && (eqb (bit_or (bit_or (bit_or (get_or p 0 0) (get_or p 1 0)) (get_or p 2 0)) (get_or p 3 0)) 0 && leb last (word % 4 * (2 ^ 64 - 2)));
         twice = s.twice;
         a = s.a;
         b = s.b;
         c = s.c;
         d = s.d;
       })
-      (see_of s g word last (w ∷ x ∷ y ∷ z ∷ []))
+      (see_of s g word last p)
   unfolding see_of held_good none_in
   slot_empty h =
       rw (
         lt-ltb (word % 4) 2 h,
         id_same (word % 4) last h,
-        or_test (bit_or (bit_or w x) y) z,
-        or_test (bit_or w x) y,
-        or_test w x,
-        both_assoc s.good g (eqb w 0 && eqb x 0 && eqb y 0 && eqb z 0 && idle_id (word % 4) last),
+        or_test (bit_or (bit_or (get_or p 0 0) (get_or p 1 0)) (get_or p 2 0)) (get_or p 3 0),
+        or_test (bit_or (get_or p 0 0) (get_or p 1 0)) (get_or p 2 0),
+        or_test (get_or p 0 0) (get_or p 1 0),
+        both_assoc s.good g (eqb (get_or p 0 0) 0 && eqb (get_or p 1 0) 0 && eqb (get_or p 2 0) 0 && eqb (get_or p 3 0) 0 && idle_id (word % 4) last),
       )
 
   pub slot_busy : 2 ≤ word % 4
       → ◌≡◌ {A = Seen}
       (record {
         good = s.good && g && not (eqb last 0);
-        twice = bit_or (bit_or (bit_or (bit_or s.twice (bit_and s.a w)) (bit_and s.b x)) (bit_and s.c y)) (bit_and s.d z);
-        a = bit_or s.a w;
-        b = bit_or s.b x;
-        c = bit_or s.c y;
-        d = bit_or s.d z;
+        twice = bit_or (bit_or (bit_or (bit_or s.twice (bit_and s.a (get_or p 0 0))) (bit_and s.b (get_or p 1 0))) (bit_and s.c (get_or p 2 0))) (bit_and s.d (get_or p 3 0));
+        a = bit_or s.a (get_or p 0 0);
+        b = bit_or s.b (get_or p 1 0);
+        c = bit_or s.c (get_or p 2 0);
+        d = bit_or s.d (get_or p 3 0);
       })
-      (see_of s g word last (w ∷ x ∷ y ∷ z ∷ []))
+      (see_of s g word last p)
   unfolding see_of held_good
   slot_busy h = rw (le-ltb (word % 4) 2 h, both_assoc s.good g (not (eqb last 0)))
 

@@ -6,7 +6,7 @@ use crate::bounds::{LAST, bounds_for, sizes_for};
 use crate::scalars::core_good;
 use crate::seen::{all_met, free_met, see_slot};
 use words::cores::Core;
-use words::row::RECORD;
+use words::row::{RECORD, places_at};
 
 fn slots_good(
     slots: &[u64],
@@ -22,24 +22,13 @@ fn slots_good(
     let bounds = bounds_for(unanswered);
     let sizes = sizes_for(limit);
     let mut s = free_met(free);
-    let end = RECORD * (endpoints as usize);
-    let mut at: usize = 0;
-    while at < end {
+    for k in 0..endpoints {
+        let at = RECORD * (k as usize);
         let word = slots[at];
         let bounded = word <= bounds[(word % 16) as usize];
         // The size less 1; 0 goes round to the last.
         let sized = (word / 16 % 2048 + LAST) % 2048 < sizes[(word % 16) as usize] as u64;
-        s = see_slot(
-            s,
-            bounded & sized,
-            word,
-            slots[at + 1],
-            slots[at + 2],
-            slots[at + 3],
-            slots[at + 4],
-            slots[at + 5],
-        );
-        at += RECORD;
+        s = see_slot(s, bounded & sized, word, slots[at + 1], places_at(slots, k));
     }
     all_met(s, descriptors)
 }
@@ -55,13 +44,12 @@ pub fn words_good(c: Core, slots: &[u64]) -> bool
     if slots.len() != RECORD * (endpoints as usize) {
         return false;
     }
-    let free = c.rest.free;
     slots_good(
         slots,
         endpoints,
         c.settings.descriptors,
         c.settings.limit,
         c.rest.unanswered,
-        free,
+        c.rest.free,
     )
 }

@@ -44,8 +44,5 @@ pub fn scalars_good(c: Core) -> bool
 pub fn core_good(c: Core) -> bool
     ensures { result ≡ core_good c.settings c.rest }
 {
-    if !c.settings.good() {
-        return false;
-    }
-    scalars_good(c)
+    c.settings.good() && scalars_good(c)
 }

@@ -1,5 +1,5 @@
 // What the slots that were looked at come to.
-ghost use Rattle.std.specs.Prelude.{◌≡◌, [], ◌∷◌};
+ghost use Rattle.std.specs.Prelude.{◌≡◌};
 ghost use Rattle.word_ranges.specs.Seen.{free_met, see_of, all_met};
 
 use bitset::places::all_below;
@@ -32,33 +32,28 @@ pub fn free_met(free: [u64; 4]) -> Seen
 }
 
 // One slot more: whether its first word is in its range, that word, its last id, its places. One with no request has no places to meet.
-pub fn see_slot(
-    s: Seen,
-    bounded: bool,
-    word: u64,
-    last: u64,
-    w: u64,
-    x: u64,
-    y: u64,
-    z: u64,
-) -> Seen
-    ensures { result ≡ see_of s bounded word last (w ∷ x ∷ y ∷ z ∷ []) }
+pub fn see_slot(s: Seen, bounded: bool, word: u64, last: u64, places: [u64; 4]) -> Seen
+    ensures { result ≡ see_of s bounded word last places }
 {
     let mut r = s;
     let good = s.good & bounded;
     let phase = word % 4;
     if phase < 2 {
-        let held = w | x | y | z;
+        let held = places[0] | places[1] | places[2] | places[3];
         let largest = phase * IDLE_LAST;
         r.good = good & ((held == 0) & (last <= largest));
         return r;
     }
     r.good = good & (last != 0);
-    r.twice = s.twice | (s.a & w) | (s.b & x) | (s.c & y) | (s.d & z);
-    r.a = s.a | w;
-    r.b = s.b | x;
-    r.c = s.c | y;
-    r.d = s.d | z;
+    r.twice = s.twice
+        | (s.a & places[0])
+        | (s.b & places[1])
+        | (s.c & places[2])
+        | (s.d & places[3]);
+    r.a = s.a | places[0];
+    r.b = s.b | places[1];
+    r.c = s.c | places[2];
+    r.d = s.d | places[3];
     r
 }
 

@@ -10,25 +10,19 @@ fn fallen_word(word: u64) -> u64
 {
     let phase = word % 4;
     let kind = word / 4 % 4;
-    if phase == 3 {
-        if kind != 3 {
-            if BOUNDARY <= word {
-                return word - BOUNDARY;
-            }
-        }
+    if phase == 3 && kind != 3 && BOUNDARY <= word {
+        word - BOUNDARY
+    } else {
+        word
     }
-    word
 }
 
 pub fn fall(slots: &mut [u64], endpoints: u8)
     requires { length slots.old ≡ 6 * endpoints }
     ensures { slots.new ≡ fall_to slots.old endpoints }
 {
-    let end = endpoints as usize;
-    let mut k: usize = 0;
-    while k < end {
+    for k in 0..endpoints as usize {
         let at = RECORD * k;
         slots[at] = fallen_word(slots[at]);
-        k += 1;
     }
 }

@@ -12,7 +12,7 @@ pub fn word_at(slots: &[u64], k: u8) -> u64
     ensures { result ≡ word_at slots.now k }
 {
     let at = RECORD * (k as usize);
-    if at < slots.len() { slots[at] } else { 0 }
+    slots.get(at).copied().unwrap_or(0)
 }
 
 pub fn size_at(slots: &[u64], k: u8) -> u16
@@ -31,7 +31,7 @@ fn last_at(slots: &[u64], k: u8) -> u64
     ensures { result ≡ last_at slots.now k }
 {
     let at = RECORD * (k as usize) + 1;
-    if at < slots.len() { slots[at] } else { 0 }
+    slots.get(at).copied().unwrap_or(0)
 }
 
 // A slot beyond the row is closed.

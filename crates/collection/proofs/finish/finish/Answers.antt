@@ -24,4 +24,4 @@ returns-clause-slots_after c = finishes_words c.args.core.settings c.args.core.r
 pub returns-clause-tidy : goal.returns-clause-tidy
 returns-clause-tidy c = tidy_finished c.args.core.settings c.args.core.rest c.args.slots.now c.requires.good c.args.k c.args.p c.args.r c.args.b
     c.requires.k_value (pipe_next_below c.args.p _ c.well_formed.1.1.1.1.0) c.args.overlay _ _ c.kept_toggle.ensures c.with_toggle-kept.ensures _ _
-    c.put_endpoint.ensures c.put_places.ensures _ _ c.places_at.ensures c.with-more.ensures
+    c.put_endpoint.ensures c.put_places.ensures _ _ c.places_at.ensures c.with-rest.ensures

@@ -1,9 +1,10 @@
+use mathlib.Core.Path.{◌≡◌, ◌∙◌}
 use native.Mathlib.Omega.{arith}
 use Rattle.endpoint.proofs.WordsCases.{good_most, lowest_is, seek_ends, seek_finds, seek_goes_on, seek_starts, word_inside}
 use Rattle.endpoint.proofs.lowest.lowest_closed.Goals as goal
 
 pub loop-k-init : goal.loop-k-init
-loop-k-init c = (omega arith, seek_starts c.args.slots.now c.args.core.settings.endpoints)
+loop-k-init c = seek_starts c.args.slots.now c.args.core.settings.endpoints
 
 pub bounds-slots-k : goal.bounds-slots-k
 bounds-slots-k c = search word_inside
@@ -12,17 +13,16 @@ pub returns-then-word-eq0 : goal.returns-then-word-eq0
 returns-then-word-eq0 c =
     let l = c.loop-k in
     lowest_is c.args.core.settings c.args.core.rest c.args.slots.now l.k
-    (seek_finds c.args.slots.now c.args.core.settings.endpoints l.k (omega arith) (good_most _ _ _ c.requires) c.if-word-eq0.true l.invariant.1)
+    (seek_finds c.args.slots.now c.args.core.settings.endpoints l.k (omega arith) (good_most _ _ _ c.requires) c.if-word-eq0.true l.invariant)
 
 pub loop-k-preserved : goal.loop-k-preserved
 loop-k-preserved c =
-    let l = c.loop-k in (
-      omega arith,
-      seek_goes_on c.args.slots.now c.args.core.settings.endpoints l.k (omega arith) (good_most _ _ _ c.requires) c.if-word-eq0.false l.invariant.1,
-    )
+    let l = c.loop-k in
+    seek_goes_on c.args.slots.now c.args.core.settings.endpoints l.k (omega arith) (good_most _ _ _ c.requires) c.if-word-eq0.false l.invariant
 
 pub returns : goal.returns
 returns c =
     let l = c.loop-k in
-    lowest_is c.args.core.settings c.args.core.rest c.args.slots.now l.k
-    (seek_ends c.args.slots.now c.args.core.settings.endpoints l.k (omega arith) l.invariant.1)
+    let done : c.args.core.settings.endpoints ≡ l.k = omega arith in
+    done ∙ lowest_is c.args.core.settings c.args.core.rest c.args.slots.now l.k
+    (seek_ends c.args.slots.now c.args.core.settings.endpoints l.k (omega arith) l.invariant)

@@ -1,8 +1,8 @@
 use Rattle.request.proofs.WordsWriteback.{taken_beyond, taken_free}
 use Rattle.request.proofs.writeback.in_request.Goals as goal
 
-pub returns-then-core-place : goal.returns-then-core-place
-returns-then-core-place c = search taken_beyond
+pub returns-then-place-core : goal.returns-then-place-core
+returns-then-place-core c = search taken_free
 
-pub returns : goal.returns
-returns c = search taken_free
+pub returns-else-place-core : goal.returns-else-place-core
+returns-else-place-core c = search taken_beyond

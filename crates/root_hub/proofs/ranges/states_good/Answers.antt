@@ -4,11 +4,11 @@ use mathlib.Core.Path.{refl, ◌∙◌}
 use Rattle.root_hub.proofs.ranges.states_good.Goals as goal
 
 pub loop-k-init : goal.loop-k-init
-loop-k-init c = (omega arith, refl)
+loop-k-init c = refl
 
 pub loop-k-preserved : goal.loop-k-preserved
 loop-k-preserved c = let l = c.loop-k in
-    (omega arith, ports_turn _ l.k l.good _ (omega arith) c.state_good-good.ensures ∙ l.invariant.1)
+    ports_turn _ l.k l.good _ (omega arith) c.state_good-good.ensures ∙ l.invariant
 
 pub returns : goal.returns
-returns c = ports_done _ _ _ _ c.loop-k-test.false c.loop-k.invariant.1
+returns c = ports_done _ _ _ _ (omega arith) c.loop-k.invariant

@@ -1,11 +1,8 @@
 use mathlib.Core.Bool.{◌&&◌}
-use Rattle.root_hub.specs.Ranges.{states_good}
 use mathlib.Core.Path.{◌≡◌}
-use Prim.Native.Nat.{◌≤◌, ◌-◌}
+use Prim.Native.Nat.{◌-◌}
+use Rattle.root_hub.specs.Ranges.{states_good}
 use Rattle.root_hub.proofs.ranges.states_good.Given as goal
 
 abbrev pub invariant-loop-k : goal.invariant-loop-k
-invariant-loop-k l = (l.k ≤ 15) × ((l.good && states_good l.k (15 - l.k) l.hub) ≡ states_good 0 15 l.hub)
-
-abbrev pub decreases-loop-k : goal.decreases-loop-k
-decreases-loop-k l = 15 - l.k
+invariant-loop-k l = (l.good && states_good l.k (15 - l.k) l.hub) ≡ states_good 0 15 l.hub
