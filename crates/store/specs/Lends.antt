@@ -1,9 +1,8 @@
 -- What is left where the first d records, k words of the slots, h words of the heads, all the entries and the first u bytes are lent: the lent
 -- parts as the call or the opening leaves them, and after each the rest of its row.
-use Rattle.std.specs.Prelude.{◌≡◌, ℕ, List, ◌++◌, length, take, drop}
+use Rattle.std.specs.Prelude.{◌≡◌, ℕ, ◌++◌, length, take, drop}
 use Rattle.common.specs.declared.answer.Answer.{Answer}
 use Rattle.common.specs.declared.answer.Answer.TheVariants.{Done, Refused}
-use Rattle.descriptor.specs.declared.qtd.QueueTransferDescriptor.{QueueTransferDescriptor}
 use Rattle.settings.specs.declared.settings.Settings.{Settings}
 use Rattle.words.specs.declared.cores.Core.{Core}
 use Rattle.words.specs.View.{view}
@@ -15,65 +14,45 @@ use Rattle.ehci.specs.declared.reply.Reply.{Reply}
 use Rattle.ehci.specs.WordsDoor.{WordsAfter, accepts_words, apply_words}
 use Rattle.store.specs.declared.store.Store.{Store}
 use Rattle.store.specs.declared.store.Called.{Called}
-use Rattle.store.specs.declared.store.OpenedRows.{OpenedRows}
+use Rattle.store.specs.declared.store.Rows.{Rows}
 use Rattle.store.specs.Plain as plain
 use Rattle.store.specs.Stores.{called_after}
 
 -- ---- an opening
 
-abbrev pub owned_rows : Opening → List QueueTransferDescriptor → List ℕ → List ℕ → List ℕ → List ℕ → OpenedRows
-owned_rows o pool slots heads frames setups =
-    record { opening = o; pool = pool; slots = slots; heads = heads; frames = frames; setups = setups }
-
 -- all but the words
-abbrev pub rows_left : OpenedRows → opening.OpenedRows
-rows_left o = opened_rows o.opening o.pool o.heads o.frames o.setups
+abbrev pub rows_left : Opening → Rows → opening.OpenedRows
+rows_left o r = opened_rows o r.pool r.heads r.frames r.setups
 
-abbrev pub whole_rows : opening.OpenedRows → List QueueTransferDescriptor → List ℕ → List ℕ → ℕ → ℕ → ℕ → opening.OpenedRows
-whole_rows o pool heads setups d h u =
+abbrev pub whole_rows : opening.OpenedRows → Rows → ℕ → ℕ → ℕ → opening.OpenedRows
+whole_rows o r d h u =
     record {
       answer = o.answer;
       hub = o.hub;
-      pool = o.pool ++ drop d pool;
-      heads = o.heads ++ drop h heads;
+      pool = o.pool ++ drop d r.pool;
+      heads = o.heads ++ drop h r.heads;
       frames = o.frames;
-      setups = o.setups ++ drop u setups;
+      setups = o.setups ++ drop u r.setups;
     }
 
-unfoldable pub open_lent :
-    Settings → List QueueTransferDescriptor → List ℕ → List ℕ → List ℕ → List ℕ → ℕ → ℕ → ℕ → ℕ → opening.OpenedRows
-open_lent s pool slots heads frames setups d k h u =
-    whole_rows (open_words s (take d pool) (take k slots) (take h heads) frames (take u setups)) pool heads setups d h u
+unfoldable pub open_lent : Settings → Rows → ℕ → ℕ → ℕ → ℕ → opening.OpenedRows
+open_lent s r d k h u =
+    whole_rows (open_words s (take d r.pool) (take k r.slots) (take h r.heads) r.frames (take u r.setups)) r d h u
 
 -- an opening that is accepted
-abbrev pub store_after : OpenedRows → Store
-store_after o =
-    record {
-      core = o.opening.core;
-      slots = o.slots;
-      pool = o.pool;
-      heads = o.heads;
-      frames = o.frames;
-      setups = o.setups;
-    }
+abbrev pub store_after : Opening → Rows → Store
+store_after o r = record { core = o.core; rows = r }
 
-abbrev pub store_opened : Answer → Store → OpenedRows → Store
-store_opened Done w o = store_after o
-store_opened (Refused r) w o = w
+abbrev pub store_opened : Answer → Store → Opening → Rows → Store
+store_opened Done w o r = store_after o r
+store_opened (Refused e) w o r = w
 
 -- ---- a call
 
-abbrev pub gathered_of : Core → Reply → List QueueTransferDescriptor → List ℕ → List ℕ → List ℕ → List ℕ → Called
-gathered_of core r pool slots heads frames setups =
+abbrev pub gathered_of : Core → Reply → Rows → Called
+gathered_of core r rows =
     record {
-      store = record {
-        core = record { settings = core.settings; rest = r.rest };
-        slots = slots;
-        pool = pool;
-        heads = heads;
-        frames = frames;
-        setups = setups;
-      };
+      store = record { core = record { settings = core.settings; rest = r.rest }; rows = rows };
       answer = r.answer;
       writes = r.writes;
     }
@@ -83,25 +62,25 @@ abbrev pub called_at : ℕ → Called → plain.Called
 called_at k c =
     record {
       store = record {
-        state = view c.store.core (take k c.store.slots);
-        pool = c.store.pool;
-        heads = c.store.heads;
-        frames = c.store.frames;
-        setups = c.store.setups;
+        state = view c.store.core (take k c.store.rows.slots);
+        pool = c.store.rows.pool;
+        heads = c.store.rows.heads;
+        frames = c.store.rows.frames;
+        setups = c.store.rows.setups;
       };
       answer = c.answer;
       writes = c.writes;
     }
 
-unfoldable pub call_lent :
-    Core → List QueueTransferDescriptor → List ℕ → List ℕ → List ℕ → List ℕ → ℕ → ℕ → ℕ → ℕ → Call → plain.Called
-call_lent core pool slots heads frames setups d k h u call =
-    called_after (apply_words core (take k slots) (take d pool) (take h heads) frames (take u setups) call) pool heads setups d h u
+unfoldable pub call_lent : Core → Rows → ℕ → ℕ → ℕ → ℕ → Call → plain.Called
+call_lent core r d k h u call =
+    called_after (apply_words core (take k r.slots) (take d r.pool) (take h r.heads) r.frames (take u r.setups) call)
+    r.pool r.heads r.setups d h u
 
 -- the core and the words of the slots then
-pub record LentCall (core : Core) (pool : List QueueTransferDescriptor) (slots heads frames setups : List ℕ) (d k h u : ℕ) (w : Store) : Type 0 where
+pub record LentCall (core : Core) (r : Rows) (d k h u : ℕ) (w : Store) : Type 0 where
   pub settings_stay : w.core.settings ≡ core.settings
   pub after :
       WordsAfter
-      (accepts_words core (take k slots) (length (take d pool)) (length (take h heads)) (length frames) (length (take u setups)))
-      core (take k slots) w.core.rest (take k w.slots)
+      (accepts_words core (take k r.slots) (length (take d r.pool)) (length (take h r.heads)) (length r.frames) (length (take u r.setups)))
+      core (take k r.slots) w.core.rest (take k w.rows.slots)

@@ -16,7 +16,7 @@ abbrev pub slots_lent : Settings → ℕ
 slots_lent s = min (6 * s.endpoints) 192
 
 abbrev pub lent_slots : Store → List ℕ
-lent_slots w = take (slots_lent w.core.settings) w.slots
+lent_slots w = take (slots_lent w.core.settings) w.rows.slots
 
 -- ---- what the words stand for
 
@@ -24,10 +24,10 @@ abbrev pub store_view : Store → plain.Store
 store_view w =
     record {
       state = view w.core (lent_slots w);
-      pool = w.pool;
-      heads = w.heads;
-      frames = w.frames;
-      setups = w.setups;
+      pool = w.rows.pool;
+      heads = w.rows.heads;
+      frames = w.rows.frames;
+      setups = w.rows.setups;
     }
 
 abbrev pub called_view : Called → plain.Called
