@@ -63,10 +63,10 @@ pub fn rows_of(k: Keeper) -> Rows
 {
     let store = k.store;
     let hub = k.hub;
-    let pool = store.pool;
-    let heads = store.heads;
-    let frames = store.frames;
-    let setups = store.setups;
+    let pool = store.rows.pool;
+    let heads = store.rows.heads;
+    let frames = store.rows.frames;
+    let setups = store.rows.setups;
     let ports = hub.states;
     Rows {
         pool,
