@@ -2,7 +2,7 @@
 use Rattle.std.specs.Prelude.{◌≡◌, ℕ, zero, suc, ◌^◌, ◌<◌, List, [], ◌∷◌, length, get_or, take}
 use lib.Dec.{lit<}
 use Rattle.bitset.specs.Places.{Words}
-use Rattle.store.specs.declared.store.Store.{Store}
+use Rattle.store.specs.declared.rows.Store.{Store}
 
 pub record Known (w : Store) : Type 0 where
   pub slots_length : length w.rows.slots ≡ 192

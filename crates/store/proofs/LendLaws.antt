@@ -1,6 +1,6 @@
 -- Where parts of the rows are lent: what came back, each before the rest of its row, is what the contract of the owner says.
 use Rattle.std.specs.Prelude.{◌≡◌, ℕ, ◌≤◌, List, ◌++◌, length, take, drop}
-use mathlib.Core.Path.{refl, sym, ap, subst, ◌∙◌}
+use mathlib.Core.Path.{sym, ap, subst, ◌∙◌}
 use lib.Seq.{take-append_seam}
 use lib.Seq.{length-take-le}
 use Rattle.descriptor.specs.declared.qtd.QueueTransferDescriptor.{QueueTransferDescriptor as Record}
@@ -13,9 +13,9 @@ use Rattle.ehci.specs.declared.call.Call.{Call}
 use Rattle.ehci.specs.declared.reply.Reply.{Reply}
 use Rattle.ehci.specs.Door.{Applied, applied}
 use Rattle.ehci.specs.WordsDoor.{WordsAfter, accepts_words, apply_words, reply_view}
-use Rattle.store.specs.declared.store.Rows.{Rows}
+use Rattle.store.specs.declared.rows.Rows.{Rows}
 use Rattle.store.specs.Stores.{called_after}
-use Rattle.store.specs.Lends.{LentCall, called_at, call_lent, gathered_of, open_lent, rows_left, whole_rows}
+use Rattle.store.specs.Lends.{LentCall, called_at, call_lent, open_lent, rows_left, whole_rows}
 
 -- the first k words are those that were lent
 lent_words : (ss ws : List ℕ) (k : ℕ) → length ss ≡ 192 → k ≤ 192 → length ws ≡ length (take k ss) → take k (ws ++ drop k ss) ≡ ws
@@ -42,20 +42,16 @@ module _ (r : Rows) (d k h u : ℕ) (wr : List Record) (ws wh wf wu : List ℕ) 
   module _ (core : Core) (c : Call) (o : Reply)
       (e : applied (reply_view core.settings o ws) wr wh wf wu ≡ apply_words core (take k r.slots) (take d r.pool) (take h r.heads) r.frames (take u r.setups) c)
       (after : WordsAfter (accepts_words core (take k r.slots) (length (take d r.pool)) (length (take h r.heads)) (length r.frames) (length (take u r.setups))) core (take k r.slots) o.rest ws) where
-    pub called_rows : called_at k (gathered_of core o rows_after) ≡ call_lent core r d k h u c
+    pub called_rows : called_at k core o rows_after ≡ call_lent core r d k h u c
     unfolding call_lent
     called_rows =
         ap (λ (l : List ℕ). called_after (applied (reply_view core.settings o l) wr wh wf wu) r.pool r.heads r.setups d h u) lent_again
         ∙ ap (λ (x : Applied). called_after x r.pool r.heads r.setups d h u) e
 
-    pub called_words : LentCall core r d k h u (gathered_of core o rows_after).store
+    pub called_words : LentCall core r d k h u o rows_after
     called_words =
-        record {
-          settings_stay = refl;
-          after =
-              subst (WordsAfter (accepts_words core (take k r.slots) (length (take d r.pool)) (length (take h r.heads)) (length r.frames) (length (take u r.setups))) core (take k r.slots) o.rest)
-              (sym lent_again) after;
-        }
+        subst (WordsAfter (accepts_words core (take k r.slots) (length (take d r.pool)) (length (take h r.heads)) (length r.frames) (length (take u r.setups))) core (take k r.slots) o.rest)
+        (sym lent_again) after
 
   module _ (s : Settings) (o : Opening)
       (e : opened_rows o wr wh wf wu ≡ open_words s (take d r.pool) (take k r.slots) (take h r.heads) r.frames (take u r.setups))

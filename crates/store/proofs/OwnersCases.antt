@@ -2,7 +2,7 @@
 use Rattle.std.specs.Prelude.{◌≡◌, ℕ, List, take}
 use mathlib.Core.Path.{ap, ◌∙◌}
 use Rattle.words.specs.View.{each_from, owner_from, state_of}
-use Rattle.store.specs.declared.store.Store.{Store}
+use Rattle.store.specs.declared.rows.Store.{Store}
 use Rattle.store.specs.Words.{slots_lent, store_view}
 
 module _ (w : Store) (k : ℕ) (ek : k ≡ slots_lent w.core.settings) where

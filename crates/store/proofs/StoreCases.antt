@@ -18,20 +18,20 @@ use Rattle.words.specs.Good.{Tidy}
 use Rattle.words.specs.View.{state_of, view}
 use Rattle.words.proofs.OpenedLaws.{view_opened}
 use Rattle.ehci.specs.declared.call.Call.{Call}
+use Rattle.ehci.specs.declared.reply.Reply.{Reply}
 use Rattle.ehci.specs.Door.{Applied}
 use Rattle.opening.specs.declared.open.Opening.{Opening}
 use Rattle.opening.specs.Opening.{Opened, fresh_state, no_settings, open_of}
 use Rattle.opening.specs.Words.{DecidedWords, OpensWords, blank_core, decide_words, decided_words, open_words, refused_words, rows_of, slots_fit}
 use Rattle.opening.specs.Words as opening
 use Rattle.opening.proofs.WordsGood.{blank_out, done_good}
-use Rattle.store.specs.declared.store.Called.{Called}
-use Rattle.store.specs.declared.store.OpenedStore.{OpenedStore}
-use Rattle.store.specs.declared.store.Rows.{Rows}
-use Rattle.store.specs.declared.store.Store.{Store}
+use Rattle.store.specs.declared.rows.Rows.{Rows}
+use Rattle.store.specs.declared.rows.Store.{Store}
 use Rattle.store.specs.Plain as plain
 use Rattle.store.specs.Stores.{blank_store, bytes_lent, call_rows, call_store, called_after, open_rows, open_store, records_lent, rows_after, store_opened as plain_opened, words_lent}
-use Rattle.store.specs.Words.{OpenedIn, Opens, Tended, Tends, called_view, lent_slots, opened_view, slots_lent, store_view}
-use Rattle.store.specs.Lends.{LentCall, called_at, call_lent, open_lent, rows_left, store_after, store_opened, whole_rows}
+use Rattle.store.specs.Words.{OpenedIn, lent_slots, rows_view, slots_lent, store_view}
+use Rattle.store.specs.Tended.{WordsOpened, WordsTended, lent_of}
+use Rattle.store.specs.Lends.{LentCall, called_at, call_lent, open_lent, rows_left, whole_rows}
 use Rattle.store.proofs.Known.{Known, free_fits, slots_fit_lem}
 use Rattle.store.proofs.OpenSame.{done_fresh, open_same}
 use Rattle.store.proofs.WordsLaws.{call_same, tended_after, tidy_after}
@@ -43,45 +43,38 @@ pub refused_core : (o : Opening) (w h f u : List ℕ)
 unfolding decide_words slots_fit refused_words
 refused_core o w h f u e = ap (λ (d : DecidedWords). d.opening.core) e
 
-abbrev blank_with : Core → Store
-blank_with c =
+abbrev blank_rows : Rows
+blank_rows =
     record {
-      core = c;
-      rows = record {
-        pool = replicate 257 blank;
-        slots = replicate 192 0;
-        heads = replicate 561 0;
-        frames = replicate 1024 0;
-        setups = replicate 256 0;
-      };
+      pool = replicate 257 blank;
+      slots = replicate 192 0;
+      heads = replicate 561 0;
+      frames = replicate 1024 0;
+      setups = replicate 256 0;
     }
 
 abbrev blank_at : Ehci → plain.Store
 blank_at e =
     record { state = e; pool = replicate 257 blank; heads = replicate 561 0; frames = replicate 1024 0; setups = replicate 256 0 }
 
-blank_view : store_view (blank_with blank_core) ≡ blank_store
+blank_view : rows_view blank_core blank_rows ≡ blank_store
 unfolding blank_store blank_core fresh_state
-blank_view =
-    ap blank_at (view_opened no_settings)
+blank_view = ap blank_at (view_opened no_settings)
 
-pub blank_done : (c : Core) → c ≡ blank_core → (store_view (blank_with c) ≡ blank_store) × Tended (blank_with c)
-blank_done c e =
-    subst (λ (x : Core). (store_view (blank_with x) ≡ blank_store) × Tended (blank_with x)) (sym e)
-    (blank_view, record { tidy = λ r. absurd (false_true (sym (blank_out (lent_slots (blank_with blank_core))) ∙ r)) })
+pub blank_done : (c : Core) → c ≡ blank_core → rows_view c blank_rows ≡ blank_store
+blank_done c e = ap (λ (x : Core). rows_view x blank_rows) e ∙ blank_view
+
+pub blank_tended : (c : Core) → c ≡ blank_core → WordsTended c blank_rows.slots
+blank_tended c e =
+    subst (λ (x : Core). WordsTended x blank_rows.slots) (sym e)
+    (λ r. absurd (false_true (sym (blank_out (lent_of blank_core blank_rows.slots)) ∙ r)))
 
 -- ---- an opening
 
-pub accepted_store : (a : Answer) (w : Store) (o : Opening) (r : Rows) (after : Store) → a ≡ Done → after ≡ store_after o r → after ≡ store_opened a w o r
-accepted_store a w o r after ea e = rw (ea, e)
-
-pub refused_store : (a : Answer) (w : Store) (o : Opening) (r : Rows) (after : Store) (f : Refusal) → a ≡ Refused f → after ≡ w → after ≡ store_opened a w o r
-refused_store a w o r after f ea e = rw (ea, e)
-
-module _ (w : Store) (s : Settings) (d k h u : ℕ) (o : Opening) (r : Rows) (after : Store) (long : length w.rows.slots ≡ 192) (tended : Tended w)
+module _ (w : Store) (s : Settings) (d k h u : ℕ) (o : Opening) (r : Rows) (long : length w.rows.slots ≡ 192)
     (ed : d ≡ records_lent s) (ek : k ≡ slots_lent s) (eh : h ≡ words_lent s) (eu : u ≡ bytes_lent s)
     (rows : rows_left o r ≡ open_lent s w.rows d k h u)
-    (words : OpensWords s o (take k w.rows.slots) (take k r.slots)) (ea : after ≡ store_opened o.answer w o r) where
+    (words : OpensWords s o (take k w.rows.slots) (take k r.slots)) where
   abbrev came : Opened
   came = open_of s (take d w.rows.pool) (take h w.rows.heads) w.rows.frames (take u w.rows.setups)
 
@@ -125,27 +118,21 @@ module _ (w : Store) (s : Settings) (d k h u : ℕ) (o : Opening) (r : Rows) (af
   abbrev unmoved : opening.OpenedRows → plain.OpenedStore
   unmoved x = record { store = store_view w; hub = x.hub; answer = x.answer }
 
-  abbrev result : OpenedStore
-  result = record { store = after; hub = o.hub; answer = o.answer }
-
   module _ (done : o.answer ≡ Done) where
-    is_after : after ≡ store_after o r
-    is_after = ea ∙ ap (λ (a : Answer). store_opened a w o r) done
-
     settings_are : o.core.settings ≡ s
     settings_are = (words.accepted done).same_settings
 
-    lent_are : lent_slots (store_after o r) ≡ take k r.slots
+    lent_are : lent_of o.core r.slots ≡ take k r.slots
     lent_are = ap (λ (t : Settings). take (slots_lent t) r.slots) settings_are ∙ ap (λ (m : ℕ). take m r.slots) (sym ek)
 
-    state_is : (store_view (store_after o r)).state ≡ came.opening.state
+    state_is : view o.core (lent_of o.core r.slots) ≡ came.opening.state
     state_is =
         ap (λ (l : List ℕ). view o.core l) lent_are
         ∙ ap (λ (t : Settings). state_of t o.core.rest (take k r.slots)) settings_are
         ∙ (words.accepted done).fresh
         ∙ sym (done_fresh s (take d w.rows.pool) (take h w.rows.heads) w.rows.frames (take u w.rows.setups) (sym answers ∙ done))
 
-    tidy_is : Tidy (store_after o r).core.settings (store_after o r).core.rest (lent_slots (store_after o r))
+    tidy_is : Tidy o.core.settings o.core.rest (lent_of o.core r.slots)
     tidy_is =
         subst (λ (l : List ℕ). Tidy o.core.settings o.core.rest l) (sym lent_are)
         (subst (λ (t : Settings). Tidy t o.core.rest (take k r.slots)) (sym settings_are) (words.accepted done).tidy)
@@ -156,69 +143,34 @@ module _ (w : Store) (s : Settings) (d k h u : ℕ) (o : Opening) (r : Rows) (af
         ∙ done_good s (take d w.rows.pool) (take k w.rows.slots) (take h w.rows.heads) w.rows.frames (take u w.rows.setups)
         (ap (λ (x : opening.OpenedRows). x.answer) same ∙ sym answers ∙ done)
 
-    opened_after : OpenedIn (store_after o r)
-    opened_after = record { settings_are_good = good_is; tidy = tidy_is }
+    pub done_opened : WordsOpened o.core r.slots
+    done_opened = record { settings_are_good = good_is; tidy = tidy_is }
 
-    done_target : shown (whole_rows (rows_of came) w.rows d h u) came.opening.state ≡ target
-    done_target =
-        ap (λ (a : Answer). target_by a) (sym done ∙ answers)
-
-    done_view : opened_view result ≡ target
+    pub done_view : record { store = rows_view o.core r; hub = o.hub; answer = o.answer } ≡ open_store (store_view w) s
     done_view =
-        ap (λ (x : Store). opened_view (record { store = x; hub = o.hub; answer = o.answer })) is_after
-        ∙ ap (shown (rows_left o r)) state_is
+        ap (shown (rows_left o r)) state_is
         ∙ ap (λ (x : opening.OpenedRows). shown x came.opening.state) left
-        ∙ done_target
+        ∙ ap (λ (a : Answer). target_by a) (sym done ∙ answers)
+        ∙ target_is
 
-    done_opens : Opens result
-    done_opens =
-        subst (λ (x : Store). Opens (record { store = x; hub = o.hub; answer = o.answer })) (sym is_after)
-        (record { tended = record { tidy = λ q. tidy_is }; opened = λ e. opened_after })
+  pub refused_view : (f : Refusal) → o.answer ≡ Refused f → record { store = store_view w; hub = o.hub; answer = o.answer } ≡ open_store (store_view w) s
+  refused_view f refused = ap unmoved left ∙ ap (λ (a : Answer). target_by a) (sym refused ∙ answers) ∙ target_is
 
-  module _ (f : Refusal) (refused : o.answer ≡ Refused f) where
-    is_same : after ≡ w
-    is_same = ea ∙ ap (λ (a : Answer). store_opened a w o r) refused
-
-    refused_view : opened_view result ≡ target
-    refused_view =
-        ap (λ (x : Store). opened_view (record { store = x; hub = o.hub; answer = o.answer })) is_same
-        ∙ ap unmoved left
-        ∙ ap (λ (a : Answer). target_by a) (sym refused ∙ answers)
-
-    refused_opens : Opens result
-    refused_opens =
-        subst (λ (x : Store). Opens (record { store = x; hub = o.hub; answer = o.answer })) (sym is_same)
-        (record { tended = tended; opened = λ e. absurd (answers_apart f (sym refused ∙ e)) })
-
-  pub opened_view_lem : opened_view result ≡ open_store (store_view w) s
-  opened_view_lem = by o.answer refl
-    where
-      by : (a : Answer) → o.answer ≡ a → opened_view result ≡ open_store (store_view w) s
-      by Done e = done_view e ∙ target_is
-      by (Refused f) e = refused_view f e ∙ target_is
-
-  pub opened_opens : Opens result
-  opened_opens = by o.answer refl
-    where
-      by : (a : Answer) → o.answer ≡ a → Opens result
-      by Done e = done_opens e
-      by (Refused f) e = refused_opens f e
+pub not_done : {P : Type 0} (a : Answer) (f : Refusal) → a ≡ Refused f → a ≡ Done → P
+not_done a f e d = absurd (answers_apart f (sym e ∙ d))
 
 -- ---- a call
 
-module _ (w : Store) (call : Call) (d k h u : ℕ) (r : Called) (known : Known w) (tended : Tended w)
+module _ (w : Store) (call : Call) (d k h u : ℕ) (o : Reply) (r : Rows) (known : Known w)
     (ed : d ≡ records_lent w.core.settings) (ek : k ≡ slots_lent w.core.settings) (eh : h ≡ words_lent w.core.settings) (eu : u ≡ bytes_lent w.core.settings)
-    (er : called_at k r ≡ call_lent w.core w.rows d k h u call)
-    (lent : LentCall w.core w.rows d k h u r.store) where
-  lent_again : slots_lent r.store.core.settings ≡ k
-  lent_again = ap slots_lent lent.settings_stay ∙ sym ek
-
+    (er : called_at k w.core o r ≡ call_lent w.core w.rows d k h u call)
+    (lent : LentCall w.core w.rows d k h u o r) where
   lent_is : take k w.rows.slots ≡ lent_slots w
   lent_is = ap (λ (m : ℕ). take m w.rows.slots) ek
 
   tended_here : in_ranges (view w.core (take k w.rows.slots)) ≡ true → Tidy w.core.settings w.core.rest (take k w.rows.slots)
   tended_here =
-      subst (λ (l : List ℕ). in_ranges (view w.core l) ≡ true → Tidy w.core.settings w.core.rest l) (sym lent_is) tended.tidy
+      subst (λ (l : List ℕ). in_ranges (view w.core l) ≡ true → Tidy w.core.settings w.core.rest l) (sym lent_is) w.tended
 
   settings_of_lem : (store_view w).state.settings ≡ w.core.settings
   unfolding state_of
@@ -230,36 +182,29 @@ module _ (w : Store) (call : Call) (d k h u : ℕ) (r : Called) (known : Known w
       ≡ call_rows (view w.core (lent_slots w)) w.rows.pool w.rows.heads w.rows.frames w.rows.setups (records_lent t) (words_lent t) (bytes_lent t) call
   rows_at t e = rw (e, lent_is, ed, eh, eu)
 
-  pub called_view_lem : called_view r ≡ call_store (store_view w) call
+  abbrev core_after : Core
+  core_after = record { settings = w.core.settings; rest = o.rest }
+
+  pub called_view_lem : record { store = rows_view core_after r; answer = o.answer; writes = o.writes } ≡ call_store (store_view w) call
   unfolding call_store call_rows call_lent
   called_view_lem =
-      ap (λ (m : ℕ). called_at m r) lent_again
+      ap (λ (m : ℕ). called_at m w.core o r) (sym ek)
       ∙ er
       ∙ ap (λ (x : Applied). called_after x w.rows.pool w.rows.heads w.rows.setups d h u)
       (call_same w.core (take k w.rows.slots) tended_here (free_fits w known) (slots_fit_lem w known k) (take d w.rows.pool) (take h w.rows.heads) w.rows.frames (take u w.rows.setups) call)
       ∙ rows_at (store_view w).state.settings settings_of_lem
 
-  -- of the words then
-  kept : (P : Settings → List ℕ → Type 0) → P w.core.settings (take k r.store.rows.slots) → P r.store.core.settings (lent_slots r.store)
-  kept P p =
-      subst (λ (m : ℕ). P r.store.core.settings (take m r.store.rows.slots)) (sym lent_again)
-      (subst (λ (t : Settings). P t (take k r.store.rows.slots)) (sym lent.settings_stay) p)
+  pub called_tended : WordsTended core_after r.slots
+  called_tended =
+      subst (λ (m : ℕ). in_ranges (state_of w.core.settings o.rest (take m r.slots)) ≡ true → Tidy w.core.settings o.rest (take m r.slots)) ek
+      (tended_after w.core (take k w.rows.slots) tended_here _ o.rest (take k r.slots) lent)
 
-  pub called_tends : Tends w r.store
-  called_tends =
+  pub called_opened : OpenedIn w → WordsOpened core_after r.slots
+  called_opened q =
       record {
-        tended = record {
-          tidy =
-              kept (λ t l. in_ranges (state_of t r.store.core.rest l) ≡ true → Tidy t r.store.core.rest l)
-              (tended_after w.core (take k w.rows.slots) tended_here _ r.store.core.rest (take k r.store.rows.slots) lent.after);
-        };
-        opened =
-            λ o.
-            record {
-              settings_are_good = ap settings_good lent.settings_stay ∙ o.settings_are_good;
-              tidy =
-                  kept (λ t l. Tidy t r.store.core.rest l)
-                  (tidy_after w.core (take k w.rows.slots) tended_here _ r.store.core.rest (take k r.store.rows.slots) lent.after
-                  (subst (Tidy w.core.settings w.core.rest) (sym lent_is) o.tidy));
-            };
+        settings_are_good = q.settings_are_good;
+        tidy =
+            subst (λ (m : ℕ). Tidy w.core.settings o.rest (take m r.slots)) ek
+            (tidy_after w.core (take k w.rows.slots) tended_here _ o.rest (take k r.slots) lent
+            (subst (Tidy w.core.settings w.core.rest) (sym lent_is) q.tidy));
       }

@@ -10,17 +10,10 @@ ghost use Rattle.store.specs.Stores.{
   open_store,
   call_store,
 };
-ghost use Rattle.store.specs.Words.{
-  Opens,
-  Tended,
-  Tends,
-  called_view,
-  opened_view,
-  slots_lent,
-  store_view,
-};
+ghost use Rattle.store.specs.Words.{OpenedIn, called_view, opened_view, slots_lent, store_view};
 ghost use Rattle.opening.specs.Words.{blank_core};
 
+pub use crate::rows::{Rows, Store};
 use common::answer::Answer;
 use descriptor::qtd::QueueTransferDescriptor;
 use ehci::call::Call;
@@ -33,21 +26,6 @@ use register::writes::Writes;
 use settings::settings::Settings;
 use words::cores::Core;
 use words::row::RECORD;
-
-#[derive(Clone, Copy)]
-pub struct Rows {
-    pub pool: [QueueTransferDescriptor; 257],
-    pub slots: [u64; 192],
-    pub heads: [u32; 561],
-    pub frames: [u32; 1024],
-    pub setups: [u8; 256],
-}
-
-#[derive(Clone, Copy)]
-pub struct Store {
-    pub core: Core,
-    pub rows: Rows,
-}
 
 #[derive(Clone, Copy)]
 pub struct Called {
@@ -116,8 +94,7 @@ fn blank_core() -> Core
 
 // No call accepts it; it is there to open a controller in.
 pub fn blank_store() -> Store
-    ensures result_value { store_view result ≡ blank_store }
-    ensures tended { Tended result }
+    ensures { store_view result ≡ blank_store }
 {
     let blank = QueueTransferDescriptor {
         next: 0,
@@ -140,9 +117,8 @@ pub fn blank_store() -> Store
 
 // A refused opening leaves the store as it was.
 pub fn open_in(store: Store, settings: Settings) -> OpenedStore
-    requires { Tended store }
     ensures result_value { opened_view result ≡ open_store (store_view store) settings }
-    ensures opens { Opens result }
+    ensures opens { result.answer ≡ Answer.Done → OpenedIn result.store }
 {
     let Rows {
         mut pool,
@@ -159,30 +135,32 @@ pub fn open_in(store: Store, settings: Settings) -> OpenedStore
         &mut frames,
         &mut setups[..bytes_lent(settings)],
     );
-    let store = match opening.answer {
-        Answer::Done => Store {
-            core: opening.core,
-            rows: Rows {
-                pool,
-                slots,
-                heads,
-                frames,
-                setups,
+    match opening.answer {
+        Answer::Done => OpenedStore {
+            store: Store {
+                core: opening.core,
+                rows: Rows {
+                    pool,
+                    slots,
+                    heads,
+                    frames,
+                    setups,
+                },
             },
+            hub: opening.hub,
+            answer: opening.answer,
         },
-        Answer::Refused(_) => store,
-    };
-    OpenedStore {
-        store,
-        hub: opening.hub,
-        answer: opening.answer,
+        Answer::Refused(_) => OpenedStore {
+            store,
+            hub: opening.hub,
+            answer: opening.answer,
+        },
     }
 }
 
 pub fn call_on(store: Store, call: Call) -> Called
-    requires { Tended store }
     ensures result_value { called_view result ≡ call_store (store_view store) call }
-    ensures tends { Tends store result.store }
+    ensures stays_open { OpenedIn store → OpenedIn result.store }
 {
     let settings = store.core.settings;
     let Rows {
