@@ -15,8 +15,8 @@ put_rows-ports-requires c =
     let p = c.put_line-rows in
     omega (arith, c.requires, p.ensures.value, p.auto.out, line_most a.first (search rules))
 
-pub put_port_rows-rest-requires : goal.put_port_rows-rest-requires
-put_port_rows-rest-requires c =
+pub put_ports-rest-requires-clause-after_in_bounds : goal.put_ports-rest-requires-clause-after_in_bounds
+put_ports-rest-requires-clause-after_in_bounds c =
     let a = c.args in
     let l = line_most a.first (search rules) in
     let m = rows_most a.before a.after (search rules) (search rules) in
@@ -31,7 +31,7 @@ put_rest-requires c =
     let m = rows_most a.before a.after (search rules) (search rules) in
     let p = c.put_line-rows in
     let q = c.put_rows-ports in
-    let u = c.put_port_rows-rest in
+    let u = c.put_ports-rest in
     let n = ports_most a.opening a.core.settings.ports a.before.ports a.after.ports (search rules) in
     omega (arith, c.requires, p.ensures.value, p.auto.out, q.ensures.value, q.auto.out, u.ensures.value, u.auto.out)
 
@@ -40,7 +40,7 @@ returns c =
     let a = c.args in
     let p = c.put_line-rows in
     let q = c.put_rows-ports in
-    let u = c.put_port_rows-rest in
+    let u = c.put_ports-rest in
     let t = c.put_rest in
     let room = block_fits (line_bytes a.first) a.opening a.before a.after a.opened a.core.settings.ports (shown_in a.core) a.writes
     (line_most a.first (search rules)) (search rules) (search rules) (search rules) (search rules) in
