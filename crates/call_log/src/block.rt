@@ -80,21 +80,21 @@ pub fn put_block(
     out: &mut [u8],
     first: Line,
     opening: bool,
-    before: Rows,
-    after: Rows,
+    before: &Rows,
+    after: &Rows,
     opened: bool,
     core: Core,
     writes: Writes,
 ) -> usize
     requires { 131072 ≤ length out.old }
     ensures by_index { (ws : List ℕ) → (opened ≡ true → Shows core ws)
-        → out.new ≡ put_at out.old 0 (block_of (line_bytes first) opening before after opened (view core ws) writes) }
+        → out.new ≡ put_at out.old 0 (block_of (line_bytes first) opening before.now after.now opened (view core ws) writes) }
     ensures by_index_2 { (ws : List ℕ) → (opened ≡ true → Shows core ws)
-        → result ≡ length (block_of (line_bytes first) opening before after opened (view core ws) writes) }
+        → result ≡ length (block_of (line_bytes first) opening before.now after.now opened (view core ws) writes) }
     ensures upper_bound { result ≤ length out.new }
 {
     let rows = put_line(out, 0, first);
-    let ports = put_rows(out, rows, &before, &after);
+    let ports = put_rows(out, rows, before, after);
     let rest = put_ports(
         out,
         ports,

@@ -1,8 +1,0 @@
-use Rattle.replayer.specs.Words.{Kept}
-use Rattle.replay_cases.proofs.main.Given as goal
-
-abbrev pub invariant-loop-left : goal.invariant-loop-left
-invariant-loop-left l = Kept l.log.keeper
-
-abbrev pub decreases-loop-left : goal.decreases-loop-left
-decreases-loop-left l = l.left
