@@ -1,5 +1,5 @@
 -- A record that is written is read as what was written, and nothing else is read as it.
-use Rattle.std.specs.Prelude.{◌≡◌, ℕ, ◌%◌, ◌^◌, ◌<◌, ◌≤◌, Bool, true, false, cond, ◌&&◌, eqb, ltb, leb, List, length}
+use Rattle.std.specs.Prelude.{◌≡◌, ℕ, ◌%◌, ◌^◌, ◌<◌, ◌≤◌, Bool, true, false, cond, ◌&&◌, eqb, ltb, leb, List, length, Option, Some, None}
 use mathlib.Core.Path.{refl, sym, ap, ◌∙◌}
 use native.Mathlib.Nat.{mod-eq_of_lt}
 use native.Mathlib.Omega.{arith}
@@ -17,7 +17,7 @@ use Rattle.call_log.specs.Fields.{bytes_of, bytes_spare, fields_of, numbers_spar
 use Rattle.call_log.specs.Records.{row, call_fields, fields_for, record_of, guarded, spare, is_word, plain, settings_of, open_entry, bring_up_step, open_endpoint, close, set_address, set_packet_size, submit, writeback, cancel, collect, acknowledge, drain, scan_step, port_power, clear_halt, judged_as, entry_from, entry_of, OwnCall, Own, Representable}
 use Rattle.call_log.specs.declared.fields.Fields.{Fields}
 use Rattle.call_log.specs.declared.record.Entry.{Entry}
-use Rattle.call_log.specs.declared.record.Entry.TheVariants.{Open, Call as ACall, StartScan, ScanStep, PortPower, Bad}
+use Rattle.call_log.specs.declared.record.Entry.TheVariants.{Open, Call as ACall, StartScan, ScanStep, PortPower}
 use Rattle.call_log.proofs.FieldsLaws.{bytes_length, fields_back, fields_ext, fields_read}
 use Rattle.text.proofs.NumberLaws.{Bytes}
 
@@ -185,16 +185,19 @@ plain_back f k e t =
     row_is f 0 0 t k _ _ _ _ _ _ _ (omega arith) e (spare_b1 f 0 0 t (omega arith)) (spare_b2 f 0 0 t (omega arith)) (spare_b3 f 0 0 t (omega arith))
     (spare_n1 f 0 0 t (omega arith)) (spare_n2 f 0 0 t (omega arith)) (spare_n3 f 0 0 t (omega arith)) (spare_n4 f 0 0 t (omega arith))
 
-module _ (f : Fields) (e : Entry) (ne : e ≡ Bad → ⊥) where
-  only : (t : Bool) (m : Entry) → guarded t m ≡ e → (t ≡ true → fields_for m ≡ f) → fields_for e ≡ f
-  only true m h k = ap fields_for (sym h) ∙ k refl
-  only false m h k = absurd (ne (sym h))
+some_same : {x y : Entry} → Some x ≡ Some y → x ≡ y
+some_same h = cc
 
-  or_else : (b : Bool) (x y : Entry) → cond b x y ≡ e → (b ≡ true → x ≡ e → fields_for e ≡ f) → (y ≡ e → fields_for e ≡ f) → fields_for e ≡ f
+module _ (f : Fields) (e : Entry) where
+  only : (t : Bool) (m : Entry) → guarded t m ≡ Some e → (t ≡ true → fields_for m ≡ f) → fields_for e ≡ f
+  only true m h k = ap fields_for (sym (some_same h)) ∙ k refl
+  only false m h k = absurd (cc)
+
+  or_else : (b : Bool) (x y : Option Entry) → cond b x y ≡ Some e → (b ≡ true → x ≡ Some e → fields_for e ≡ f) → (y ≡ Some e → fields_for e ≡ f) → fields_for e ≡ f
   or_else true x y h a b = a refl h
   or_else false x y h a b = b h
 
-  judged_only : entry_from f ≡ e → fields_for e ≡ f
+  judged_only : entry_from f ≡ Some e → fields_for e ≡ f
   unfolding judged_as plain open_entry bring_up_step open_endpoint close set_address set_packet_size submit writeback cancel collect acknowledge drain scan_step port_power clear_halt fields_for call_fields
   judged_only h =
       or_else (eqb f.number 1) _ _ h (λ q g. only _ _ g (open_back f (eqb-true f.number 1 q))) (λ h.
@@ -218,16 +221,16 @@ module _ (f : Fields) (e : Entry) (ne : e ≡ Bad → ⊥) where
       or_else (eqb f.number 19) _ _ h (λ q g. only _ _ g (word_back f 19 (eqb-true f.number 19 q))) (λ h.
       or_else (eqb f.number 20) _ _ h (λ q g. only _ _ g (power_back f (eqb-true f.number 20 q))) (λ h.
       or_else (eqb f.number 21) _ _ h (λ q g. only _ _ g (slot_back f 21 (eqb-true f.number 21 q))) (λ h.
-      absurd (ne (sym h)))))))))))))))))))))))
+      absurd (cc))))))))))))))))))))))
 
 -- what is read as an entry is its record
-pub entry_only : (bs : List ℕ) (e : Entry) → entry_of bs ≡ e → (e ≡ Bad → ⊥) → Bytes bs → bs ≡ record_of e
+pub entry_only : (bs : List ℕ) (e : Entry) → entry_of bs ≡ Some e → Bytes bs → bs ≡ record_of e
 unfolding entry_of record_of
-entry_only bs e h ne all = go (eqb (length bs) 64) refl h
+entry_only bs e h all = go (eqb (length bs) 64) refl h
   where
-    go : (b : Bool) → eqb (length bs) 64 ≡ b → cond b (entry_from (fields_of bs)) Bad ≡ e → bs ≡ bytes_of (fields_for e)
-    go true q g = sym (fields_back bs (eqb-true (length bs) 64 q) all) ∙ ap bytes_of (sym (judged_only (fields_of bs) e ne g))
-    go false q g = absurd (ne (sym g))
+    go : (b : Bool) → eqb (length bs) 64 ≡ b → cond b (entry_from (fields_of bs)) None ≡ Some e → bs ≡ bytes_of (fields_for e)
+    go true q g = sym (fields_back bs (eqb-true (length bs) 64 q) all) ∙ ap bytes_of (sym (judged_only (fields_of bs) e g))
+    go false q g = absurd (cc)
 
 -- ---- an entry that is written
 
@@ -248,7 +251,7 @@ flag_low : (b : Bool) → leb (flag_number b) 1 ≡ true
 flag_low true = refl
 flag_low false = refl
 
-call_back : (c : Call) → OwnCall c → entry_from (call_fields c) ≡ ACall c
+call_back : (c : Call) → OwnCall c → entry_from (call_fields c) ≡ Some (ACall c)
 unfolding judged_as plain bring_up_step open_endpoint close set_address set_packet_size submit writeback cancel collect acknowledge drain clear_halt call_fields bytes_spare numbers_spare
 call_back C.StartBringUp h = refl
 call_back (C.BringUpStep v) h = rw (word_in v h, mod-eq_of_lt h)
@@ -267,12 +270,12 @@ call_back (C.Submit k t r) h =
       direction_there t.direction,
       mod-eq_of_lt h.1,
     )
-    (ap (λ (z : ℕ). ACall (C.Submit k t (record { command = r.command; frame = z; overlay = 0 }))) (sym h.2)
-    ∙ ap (λ (z : ℕ). ACall (C.Submit k t (record { command = r.command; frame = r.frame; overlay = z }))) (sym h.3))
+    (ap (λ (z : ℕ). Some (ACall (C.Submit k t (record { command = r.command; frame = z; overlay = 0 })))) (sym h.2)
+    ∙ ap (λ (z : ℕ). Some (ACall (C.Submit k t (record { command = r.command; frame = r.frame; overlay = z })))) (sym h.3))
 call_back (C.Writeback p t) h = rw (word_in t h, mod-eq_of_lt h)
 call_back (C.Cancel k id r) h =
     rw (word_in r.command h.0, word_in r.frame h.1, mod-eq_of_lt h.0, mod-eq_of_lt h.1)
-    (ap (λ (z : ℕ). ACall (C.Cancel k id (record { command = r.command; frame = r.frame; overlay = z }))) (sym h.2))
+    (ap (λ (z : ℕ). Some (ACall (C.Cancel k id (record { command = r.command; frame = r.frame; overlay = z })))) (sym h.2))
 call_back (C.Collect k id r) h =
     rw (
       word_in r.command h.0,
@@ -299,16 +302,15 @@ call_back C.Enable h = refl
 call_back C.Disable h = refl
 call_back (C.ClearHalt k) h = refl
 
-judged_back : (e : Entry) → Own e → entry_from (fields_for e) ≡ e
+judged_back : (e : Entry) → Own e → entry_from (fields_for e) ≡ Some e
 unfolding judged_as plain open_entry scan_step port_power fields_for bytes_spare numbers_spare
 judged_back (Open s) h = refl
 judged_back (ACall c) h = call_back c h
 judged_back StartScan h = refl
 judged_back (ScanStep v) h = rw (word_in v h, mod-eq_of_lt h)
 judged_back (PortPower p v) h = rw (word_in v h, mod-eq_of_lt h)
-judged_back Bad h = absurd h
 
 -- a record that is written is read as what was written
-pub entry_reads : (e : Entry) → Representable e → entry_of (record_of e) ≡ e
+pub entry_reads : (e : Entry) → Representable e → entry_of (record_of e) ≡ Some e
 unfolding entry_of record_of
 entry_reads e r = rw (bytes_length (fields_for e), fields_read (fields_for e) r.numbers) (judged_back e r.own)

@@ -1,5 +1,5 @@
 -- The calls of a log: how each is written as a record, and which record says which call.
-use Rattle.std.specs.Prelude.{◌≡◌, ℕ, ◌%◌, ◌^◌, ◌<◌, Bool, true, false, cond, ◌&&◌, List, length, ◌==◌, nat_le, nat_lt}
+use Rattle.std.specs.Prelude.{◌≡◌, ℕ, ◌%◌, ◌^◌, ◌<◌, Bool, true, false, cond, ◌&&◌, Option, Some, None, List, length, ◌==◌, nat_le, nat_lt}
 use Rattle.controller.specs.declared.lent.Readings.{Readings}
 use Rattle.ehci.specs.declared.call.Call.{Call}
 use Rattle.ehci.specs.declared.call.Call.TheVariants as C
@@ -8,7 +8,7 @@ use Rattle.settings.specs.declared.settings.Settings.{Settings}
 use Rattle.call_log.specs.Fields.{bytes_of, bytes_spare, fields_of, numbers_spare}
 use Rattle.call_log.specs.declared.fields.Fields.{Fields}
 use Rattle.call_log.specs.declared.record.Entry.{Entry}
-use Rattle.call_log.specs.declared.record.Entry.TheVariants.{Open, Call as ACall, StartScan, ScanStep, PortPower, Bad}
+use Rattle.call_log.specs.declared.record.Entry.TheVariants.{Open, Call as ACall, StartScan, ScanStep, PortPower}
 
 -- ---- the writer: the call's number, b1 b2 b3, n1 n2 n3 n4; the others are 0
 
@@ -74,7 +74,6 @@ fields_for (ACall call) = call_fields call
 fields_for StartScan = row 18 0 0 0 0 0 0 0
 fields_for (ScanStep reading) = row 19 0 0 0 reading 0 0 0
 fields_for (PortPower port reading) = row 20 port 0 0 reading 0 0 0
-fields_for Bad = row 0 0 0 0 0 0 0 0
 
 -- the record of an entry that has one
 unfoldable pub record_of : Entry → List ℕ
@@ -82,9 +81,9 @@ record_of e = bytes_of (fields_for e)
 
 -- ---- the reader
 
-abbrev pub guarded : Bool → Entry → Entry
-guarded true e = e
-guarded false e = Bad
+abbrev pub guarded : {A : Type 0} → Bool → A → Option A
+guarded true x = Some x
+guarded false x = None
 
 abbrev pub spare : Fields → ℕ → ℕ → Bool
 spare f bytes numbers = bytes_spare f bytes && numbers_spare f numbers
@@ -92,7 +91,7 @@ spare f bytes numbers = bytes_spare f bytes && numbers_spare f numbers
 abbrev pub is_word : ℕ → Bool
 is_word n = nat_lt n (2 ^ 32)
 
-unfoldable pub plain : Fields → Entry → Entry
+unfoldable pub plain : Fields → Entry → Option Entry
 plain f e = guarded (spare f 0 0) e
 
 abbrev pub settings_of : Fields → Settings
@@ -109,27 +108,27 @@ settings_of f =
       setups = f.n7;
     }
 
-unfoldable pub open_entry : Fields → Entry
+unfoldable pub open_entry : Fields → Option Entry
 open_entry f = guarded (spare f 2 7) (Open (settings_of f))
 
-unfoldable pub bring_up_step : Fields → Entry
+unfoldable pub bring_up_step : Fields → Option Entry
 bring_up_step f = guarded (spare f 0 1 && is_word f.n1) (ACall (C.BringUpStep (f.n1 % 2 ^ 32)))
 
-unfoldable pub open_endpoint : Fields → Entry
+unfoldable pub open_endpoint : Fields → Option Entry
 open_endpoint f =
     guarded (spare f 3 1 && nat_le f.b1 3 && nat_lt f.n1 (2 ^ 16))
     (ACall (C.OpenEndpoint (record { kind = kind_of f.b1; address = f.b2; number = f.b3; packet = f.n1 % 2 ^ 16 })))
 
-unfoldable pub close : Fields → Entry
+unfoldable pub close : Fields → Option Entry
 close f = guarded (spare f 1 0) (ACall (C.Close f.b1))
 
-unfoldable pub set_address : Fields → Entry
+unfoldable pub set_address : Fields → Option Entry
 set_address f = guarded (spare f 2 0) (ACall (C.SetAddress f.b1 f.b2))
 
-unfoldable pub set_packet_size : Fields → Entry
+unfoldable pub set_packet_size : Fields → Option Entry
 set_packet_size f = guarded (spare f 2 0) (ACall (C.SetPacketSize f.b1 f.b2))
 
-unfoldable pub submit : Fields → Entry
+unfoldable pub submit : Fields → Option Entry
 submit f =
     guarded (spare f 3 4 && nat_le f.b2 3 && nat_le f.b3 1 && (nat_lt f.n1 (2 ^ 48) && is_word f.n4))
     (ACall
@@ -137,40 +136,40 @@ submit f =
     (record { kind = kind_of f.b2; direction = direction_of f.b3; setup = f.n1; address = f.n2; length = f.n3 })
     (record { command = f.n4 % 2 ^ 32; frame = 0; overlay = 0 })))
 
-unfoldable pub writeback : Fields → Entry
+unfoldable pub writeback : Fields → Option Entry
 writeback f = guarded (spare f 0 2 && is_word f.n2) (ACall (C.Writeback f.n1 (f.n2 % 2 ^ 32)))
 
 -- USBCMD and FRINDEX, n2 and n3; with the overlay's token
 abbrev pub readings_of : Fields → ℕ → Readings
 readings_of f overlay = record { command = f.n2 % 2 ^ 32; frame = f.n3 % 2 ^ 32; overlay = overlay }
 
-unfoldable pub cancel : Fields → Entry
+unfoldable pub cancel : Fields → Option Entry
 cancel f = guarded (spare f 1 3 && is_word f.n2 && is_word f.n3) (ACall (C.Cancel f.b1 f.n1 (readings_of f 0)))
 
 -- the overlay's token is n4
-unfoldable pub collect : Fields → Entry
+unfoldable pub collect : Fields → Option Entry
 collect f =
     guarded (spare f 1 4 && is_word f.n2 && is_word f.n3 && is_word f.n4)
     (ACall (C.Collect f.b1 f.n1 (readings_of f (f.n4 % 2 ^ 32))))
 
-unfoldable pub acknowledge : Fields → Entry
+unfoldable pub acknowledge : Fields → Option Entry
 acknowledge f =
     guarded (spare f 2 2 && (nat_le f.b1 1 && nat_le f.b2 1) && is_word f.n1 && is_word f.n2)
     (ACall (C.Acknowledge (record { status = f.n1 % 2 ^ 32; interrupts = f.n2 % 2 ^ 32; flag = flag_of f.b1; again = flag_of f.b2 })))
 
-unfoldable pub drain : Fields → Entry
+unfoldable pub drain : Fields → Option Entry
 drain f = guarded (spare f 0 1 && is_word f.n1) (ACall (C.Drain (f.n1 % 2 ^ 32)))
 
-unfoldable pub scan_step : Fields → Entry
+unfoldable pub scan_step : Fields → Option Entry
 scan_step f = guarded (spare f 0 1 && is_word f.n1) (ScanStep (f.n1 % 2 ^ 32))
 
-unfoldable pub port_power : Fields → Entry
+unfoldable pub port_power : Fields → Option Entry
 port_power f = guarded (spare f 1 1 && is_word f.n1) (PortPower f.b1 (f.n1 % 2 ^ 32))
 
-unfoldable pub clear_halt : Fields → Entry
+unfoldable pub clear_halt : Fields → Option Entry
 clear_halt f = guarded (spare f 1 0) (ACall (C.ClearHalt f.b1))
 
-unfoldable pub judged_as : ℕ → Fields → Entry
+unfoldable pub judged_as : ℕ → Fields → Option Entry
 judged_as n f =
     cond (n == 1) (open_entry f)
     (cond (n == 2) (plain f (ACall C.StartBringUp))
@@ -193,13 +192,13 @@ judged_as n f =
     (cond (n == 19) (scan_step f)
     (cond (n == 20) (port_power f)
     (cond (n == 21) (clear_halt f)
-    Bad))))))))))))))))))))
+    None))))))))))))))))))))
 
-abbrev pub entry_from : Fields → Entry
+abbrev pub entry_from : Fields → Option Entry
 entry_from f = judged_as f.number f
 
-unfoldable pub entry_of : List ℕ → Entry
-entry_of bs = cond (length bs == 64) (entry_from (fields_of bs)) Bad
+unfoldable pub entry_of : List ℕ → Option Entry
+entry_of bs = cond (length bs == 64) (entry_from (fields_of bs)) None
 
 -- ---- entries that have a record
 
@@ -229,7 +228,6 @@ Own (ACall call) = OwnCall call
 Own StartScan = Unit
 Own (ScanStep reading) = reading < 2 ^ 32
 Own (PortPower port reading) = reading < 2 ^ 32
-Own Bad = ⊥
 
 -- the seven numbers fit 64 bits
 pub record NumbersFit (f : Fields) : Type 0 where

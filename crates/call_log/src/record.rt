@@ -1,7 +1,10 @@
 // A record of a log: the call that it says.
-ghost use Rattle.std.specs.Prelude.{◌≡◌, ◌%◌, ◌^◌, ◌<◌, ◌≤◌};
+ghost use Rattle.std.specs.Prelude.{◌≡◌, ◌%◌, ◌^◌, ◌&&◌, nat_le, nat_lt};
+ghost use Rattle.call_log.specs.Fields.{bytes_spare, numbers_spare};
+ghost use Rattle.pipe.specs.Endpoints.{direction_of, flag_of, kind_of};
 ghost use Rattle.call_log.specs.Records.{
   guarded,
+  is_word,
   plain,
   open_entry,
   bring_up_step,
@@ -23,18 +26,14 @@ ghost use Rattle.call_log.specs.Records.{
 };
 
 use crate::fields::{Fields, RECORD, decode, spare};
-use common::kinds::KIND_MAX;
+use common::kinds::{Direction, EndpointType, KIND_MAX};
 use controller::lent::Readings;
 use ehci::call::{Call, EndpointFields, InterruptReadings};
 use pipe::endpoints::{direction_of, kind_of};
 use request::judge::TransferRequest;
 use settings::settings::Settings;
 
-// A register value or a token is below this, a packet size and six setup bytes below those.
-const WORD_END: u64 = 0x1_0000_0000;
-
-const SIZE_END: u64 = 0x1_0000;
-
+// Six setup bytes are below this.
 const SETUP_END: u64 = 0x1_0000_0000_0000;
 
 #[derive(Clone, Copy)]
@@ -44,35 +43,59 @@ pub enum Entry {
     StartScan,
     ScanStep(u32),
     PortPower(u8, u32),
-    Bad,
 }
 
-fn guard(fine: bool, entry: Entry) -> Entry
-    ensures { result ≡ guarded fine entry }
+// What a call does not use is 0.
+fn unused(f: Fields, bytes: u8, numbers: u8) -> Option<()>
+    ensures { result ≡ guarded (bytes_spare f bytes && numbers_spare f numbers) tt }
 {
-    if fine { entry } else { Entry::Bad }
+    spare(f, bytes, numbers).then_some(())
 }
 
-fn low_word(n: u64) -> u32
-    ensures { result ≡ n % 2 ^ 32 }
+fn word(n: u64) -> Option<u32>
+    ensures { result ≡ guarded (is_word n) (n % 2 ^ 32) }
 {
-    (n % WORD_END) as u32
+    u32::try_from(n).ok()
 }
 
-fn low_size(n: u64) -> u16
-    ensures { result ≡ n % 2 ^ 16 }
+fn size(n: u64) -> Option<u16>
+    ensures { result ≡ guarded (nat_lt n (2 ^ 16)) (n % 2 ^ 16) }
 {
-    (n % SIZE_END) as u16
+    u16::try_from(n).ok()
+}
+
+fn setup(n: u64) -> Option<u64>
+    ensures { result ≡ guarded (nat_lt n (2 ^ 48)) n }
+{
+    (n < SETUP_END).then_some(n)
+}
+
+fn kind(number: u8) -> Option<EndpointType>
+    ensures { result ≡ guarded (nat_le number 3) (kind_of number) }
+{
+    (number <= KIND_MAX).then_some(kind_of(number))
+}
+
+fn direction(number: u8) -> Option<Direction>
+    ensures { result ≡ guarded (nat_le number 1) (direction_of number) }
+{
+    (number <= 1).then_some(direction_of(number))
+}
+
+fn flag(number: u8) -> Option<bool>
+    ensures { result ≡ guarded (nat_le number 1) (flag_of number) }
+{
+    (number <= 1).then_some(number != 0)
 }
 
 // A call with no parameters.
-fn plain_entry(f: Fields, entry: Entry) -> Entry
+fn plain_entry(f: Fields, entry: Entry) -> Option<Entry>
     ensures { result ≡ plain f entry }
 {
-    guard(spare(f, 0, 0), entry)
+    spare(f, 0, 0).then_some(entry)
 }
 
-fn open(f: Fields) -> Entry
+fn open(f: Fields) -> Option<Entry>
     ensures { result ≡ open_entry f }
 {
     let settings = Settings {
@@ -86,166 +109,157 @@ fn open(f: Fields) -> Entry
         frames: f.n6,
         setups: f.n7,
     };
-    guard(spare(f, 2, 7), Entry::Open(settings))
+    spare(f, 2, 7).then_some(Entry::Open(settings))
 }
 
-fn bring_up_step(f: Fields) -> Entry
+#[tactic(auto, unfolding(crate::specs::Records::bring_up_step))]
+fn bring_up_step(f: Fields) -> Option<Entry>
     ensures { result ≡ bring_up_step f }
 {
-    guard(
-        spare(f, 0, 1) & (f.n1 < WORD_END),
-        Entry::Call(Call::BringUpStep(low_word(f.n1))),
-    )
+    unused(f, 0, 1)?;
+    let reading = word(f.n1)?;
+    Some(Entry::Call(Call::BringUpStep(reading)))
 }
 
-fn open_endpoint(f: Fields) -> Entry
+#[tactic(auto, unfolding(crate::specs::Records::open_endpoint))]
+fn open_endpoint(f: Fields) -> Option<Entry>
     ensures { result ≡ open_endpoint f }
 {
+    unused(f, 3, 1)?;
     let endpoint = EndpointFields {
-        kind: kind_of(f.b1),
+        kind: kind(f.b1)?,
         address: f.b2,
         number: f.b3,
-        packet: low_size(f.n1),
+        packet: size(f.n1)?,
     };
-    guard(
-        spare(f, 3, 1) & (f.b1 <= KIND_MAX) & (f.n1 < SIZE_END),
-        Entry::Call(Call::OpenEndpoint(endpoint)),
-    )
+    Some(Entry::Call(Call::OpenEndpoint(endpoint)))
 }
 
-fn close_slot(f: Fields) -> Entry
+fn close_slot(f: Fields) -> Option<Entry>
     ensures { result ≡ close f }
 {
-    guard(spare(f, 1, 0), Entry::Call(Call::Close(f.b1)))
+    spare(f, 1, 0).then_some(Entry::Call(Call::Close(f.b1)))
 }
 
-fn set_address(f: Fields) -> Entry
+fn set_address(f: Fields) -> Option<Entry>
     ensures { result ≡ set_address f }
 {
-    guard(spare(f, 2, 0), Entry::Call(Call::SetAddress(f.b1, f.b2)))
+    spare(f, 2, 0).then_some(Entry::Call(Call::SetAddress(f.b1, f.b2)))
 }
 
-fn set_packet_size(f: Fields) -> Entry
+fn set_packet_size(f: Fields) -> Option<Entry>
     ensures { result ≡ set_packet_size f }
 {
-    guard(spare(f, 2, 0), Entry::Call(Call::SetPacketSize(f.b1, f.b2)))
+    spare(f, 2, 0).then_some(Entry::Call(Call::SetPacketSize(f.b1, f.b2)))
 }
 
-fn submit_request(f: Fields) -> Entry
+#[tactic(auto, unfolding(crate::specs::Records::submit))]
+fn submit_request(f: Fields) -> Option<Entry>
     ensures { result ≡ submit f }
 {
+    unused(f, 3, 4)?;
     let request = TransferRequest {
-        kind: kind_of(f.b2),
-        direction: direction_of(f.b3),
-        setup: f.n1,
+        kind: kind(f.b2)?,
+        direction: direction(f.b3)?,
+        setup: setup(f.n1)?,
         address: f.n2,
         length: f.n3,
     };
     let readings = Readings {
-        command: low_word(f.n4),
+        command: word(f.n4)?,
         frame: 0,
         overlay: 0,
     };
-    let numbers = (f.n1 < SETUP_END) & (f.n4 < WORD_END);
-    guard(
-        spare(f, 3, 4) & (f.b2 <= KIND_MAX) & (f.b3 <= 1) & numbers,
-        Entry::Call(Call::Submit(f.b1, request, readings)),
-    )
+    Some(Entry::Call(Call::Submit(f.b1, request, readings)))
 }
 
-fn write_back(f: Fields) -> Entry
+#[tactic(auto, unfolding(crate::specs::Records::writeback))]
+fn write_back(f: Fields) -> Option<Entry>
     ensures { result ≡ writeback f }
 {
-    guard(
-        spare(f, 0, 2) & (f.n2 < WORD_END),
-        Entry::Call(Call::Writeback(f.n1, low_word(f.n2))),
-    )
+    unused(f, 0, 2)?;
+    let token = word(f.n2)?;
+    Some(Entry::Call(Call::Writeback(f.n1, token)))
 }
 
-fn cancel_request(f: Fields) -> Entry
+#[tactic(auto, unfolding(crate::specs::Records::cancel))]
+fn cancel_request(f: Fields) -> Option<Entry>
     ensures { result ≡ cancel f }
 {
+    unused(f, 1, 3)?;
     let readings = Readings {
-        command: low_word(f.n2),
-        frame: low_word(f.n3),
+        command: word(f.n2)?,
+        frame: word(f.n3)?,
         overlay: 0,
     };
-    guard(
-        spare(f, 1, 3) & (f.n2 < WORD_END) & (f.n3 < WORD_END),
-        Entry::Call(Call::Cancel(f.b1, f.n1, readings)),
-    )
+    Some(Entry::Call(Call::Cancel(f.b1, f.n1, readings)))
 }
 
-fn collect_request(f: Fields) -> Entry
+#[tactic(auto, unfolding(crate::specs::Records::collect))]
+fn collect_request(f: Fields) -> Option<Entry>
     ensures { result ≡ collect f }
 {
+    unused(f, 1, 4)?;
     let readings = Readings {
-        command: low_word(f.n2),
-        frame: low_word(f.n3),
-        overlay: low_word(f.n4),
+        command: word(f.n2)?,
+        frame: word(f.n3)?,
+        overlay: word(f.n4)?,
     };
-    guard(
-        spare(f, 1, 4) & (f.n2 < WORD_END) & (f.n3 < WORD_END) & (f.n4 < WORD_END),
-        Entry::Call(Call::Collect(f.b1, f.n1, readings)),
-    )
+    Some(Entry::Call(Call::Collect(f.b1, f.n1, readings)))
 }
 
-fn acknowledge_interrupt(f: Fields) -> Entry
+#[tactic(auto, unfolding(crate::specs::Records::acknowledge))]
+fn acknowledge_interrupt(f: Fields) -> Option<Entry>
     ensures { result ≡ acknowledge f }
 {
+    unused(f, 2, 2)?;
     let readings = InterruptReadings {
-        status: low_word(f.n1),
-        interrupts: low_word(f.n2),
-        flag: f.b1 != 0,
-        again: f.b2 != 0,
+        flag: flag(f.b1)?,
+        again: flag(f.b2)?,
+        status: word(f.n1)?,
+        interrupts: word(f.n2)?,
     };
-    let flags = (f.b1 <= 1) & (f.b2 <= 1);
-    guard(
-        spare(f, 2, 2) & flags & (f.n1 < WORD_END) & (f.n2 < WORD_END),
-        Entry::Call(Call::Acknowledge(readings)),
-    )
+    Some(Entry::Call(Call::Acknowledge(readings)))
 }
 
-fn drain_events(f: Fields) -> Entry
+#[tactic(auto, unfolding(crate::specs::Records::drain))]
+fn drain_events(f: Fields) -> Option<Entry>
     ensures { result ≡ drain f }
 {
-    guard(
-        spare(f, 0, 1) & (f.n1 < WORD_END),
-        Entry::Call(Call::Drain(low_word(f.n1))),
-    )
+    unused(f, 0, 1)?;
+    let command = word(f.n1)?;
+    Some(Entry::Call(Call::Drain(command)))
 }
 
-fn scan_step(f: Fields) -> Entry
+#[tactic(auto, unfolding(crate::specs::Records::scan_step))]
+fn scan_step(f: Fields) -> Option<Entry>
     ensures { result ≡ scan_step f }
 {
-    guard(
-        spare(f, 0, 1) & (f.n1 < WORD_END),
-        Entry::ScanStep(low_word(f.n1)),
-    )
+    unused(f, 0, 1)?;
+    let reading = word(f.n1)?;
+    Some(Entry::ScanStep(reading))
 }
 
-fn port_power(f: Fields) -> Entry
+#[tactic(auto, unfolding(crate::specs::Records::port_power))]
+fn port_power(f: Fields) -> Option<Entry>
     ensures { result ≡ port_power f }
 {
-    guard(
-        spare(f, 1, 1) & (f.n1 < WORD_END),
-        Entry::PortPower(f.b1, low_word(f.n1)),
-    )
+    unused(f, 1, 1)?;
+    let reading = word(f.n1)?;
+    Some(Entry::PortPower(f.b1, reading))
 }
 
-fn clear_halt(f: Fields) -> Entry
+fn clear_halt(f: Fields) -> Option<Entry>
     ensures { result ≡ clear_halt f }
 {
-    guard(spare(f, 1, 0), Entry::Call(Call::ClearHalt(f.b1)))
+    spare(f, 1, 0).then_some(Entry::Call(Call::ClearHalt(f.b1)))
 }
 
-// Calls 1 to 8, and 0, which is none.
-fn entry_first(f: Fields) -> Entry
-    requires { f.number ≤ 8 }
+// 0 is no call, and none is above 21.
+fn entry_from(f: Fields) -> Option<Entry>
     ensures { result ≡ entry_from f }
 {
-    let number = f.number;
-    match number {
+    match f.number {
         1 => open(f),
         2 => plain_entry(f, Entry::Call(Call::StartBringUp)),
         3 => bring_up_step(f),
@@ -254,33 +268,12 @@ fn entry_first(f: Fields) -> Entry
         6 => close_slot(f),
         7 => set_address(f),
         8 => set_packet_size(f),
-        _ => Entry::Bad,
-    }
-}
-
-// Calls 9 to 14.
-fn entry_second(f: Fields) -> Entry
-    requires { (8 < f.number) × (f.number ≤ 14) }
-    ensures { result ≡ entry_from f }
-{
-    let number = f.number;
-    match number {
         9 => submit_request(f),
         10 => write_back(f),
         11 => cancel_request(f),
         12 => collect_request(f),
         13 => acknowledge_interrupt(f),
-        _ => drain_events(f),
-    }
-}
-
-// Calls 15 to 21, and numbers that no call has.
-fn entry_third(f: Fields) -> Entry
-    requires { 14 < f.number }
-    ensures { result ≡ entry_from f }
-{
-    let number = f.number;
-    match number {
+        14 => drain_events(f),
         15 => plain_entry(f, Entry::Call(Call::Rearm)),
         16 => plain_entry(f, Entry::Call(Call::Enable)),
         17 => plain_entry(f, Entry::Call(Call::Disable)),
@@ -288,28 +281,16 @@ fn entry_third(f: Fields) -> Entry
         19 => scan_step(f),
         20 => port_power(f),
         21 => clear_halt(f),
-        _ => Entry::Bad,
+        _ => None,
     }
 }
 
-fn entry_from(f: Fields) -> Entry
-    ensures { result ≡ entry_from f }
-{
-    let number = f.number;
-    if number <= 8 {
-        return entry_first(f);
-    }
-    if number <= 14 {
-        return entry_second(f);
-    }
-    entry_third(f)
-}
-
-pub fn read_record(bytes: &[u8]) -> Entry
+// What is no record of a call is bad.
+pub fn read_record(bytes: &[u8]) -> Option<Entry>
     ensures { result ≡ entry_of bytes.now }
 {
     if bytes.len() != RECORD {
-        return Entry::Bad;
+        return None;
     }
     entry_from(decode(bytes))
 }

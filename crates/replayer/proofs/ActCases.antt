@@ -29,7 +29,7 @@ use Rattle.store.specs.declared.store.Called.{Called}
 use Rattle.store.specs.declared.store.OpenedStore.{OpenedStore}
 use Rattle.store.specs.declared.store.Store.{Store}
 use Rattle.replayer.specs.Plain as plain-keeper
-use Rattle.replayer.specs.Replays.{act_of, call_effect, fresh_keeper, no_effect, open_effect, power_effect, scan_effect}
+use Rattle.replayer.specs.Replays.{act_of, call_effect, fresh_keeper, open_effect, power_effect, scan_effect}
 use Rattle.replayer.specs.Words.{Kept, effect_of, keeper_view}
 use Rattle.replayer.specs.declared.keeper.Acted.{Acted}
 use Rattle.replayer.specs.declared.keeper.Keeper.{Keeper}
@@ -69,11 +69,6 @@ module _ (k : Keeper) (kept : Kept k) (n number : ℕ) (line : Line) (w : Writes
     pub open_refused : (refusal : Refusal) → o.answer ≡ A.Refused refusal → line_bytes line ≡ answered_line n number (R.Refused refusal)
         → (effect_of stays ≡ open_effect (keeper_view k) n number (open_store (store_view k.store) s)) × Kept k
     open_refused refusal a l = (refused_view refusal a l ∙ ap (open_effect (keeper_view k) n number) opened.0, kept)
-
-  pub nothing_done : line_bytes line ≡ answered_line n number R.Pending → w ≡ no_writes
-      → (effect_of stays ≡ no_effect (keeper_view k) n number) × Kept k
-  unfolding no_effect
-  nothing_done l none = (rw (l, none), kept)
 
 module _ (k : Keeper) (kept : Kept k) (n number : ℕ) (line : Line) where
   module _ (call : Call) (c : Called) (called : (called_view c ≡ call_store (store_view k.store) call) × Tends k.store c.store)

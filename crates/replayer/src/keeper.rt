@@ -4,7 +4,6 @@ ghost use Rattle.replayer.specs.Replays.{
   act_of,
   call_effect,
   fresh_keeper,
-  no_effect,
   open_effect,
   power_effect,
   rows_of,
@@ -58,22 +57,15 @@ pub fn fresh_keeper() -> Keeper
     }
 }
 
-pub fn rows_of(k: Keeper) -> Rows
-    ensures { result ≡ rows_of (keeper_view k) }
+pub fn rows_of(k: &Keeper) -> Rows
+    ensures { result ≡ rows_of (keeper_view k.now) }
 {
-    let store = k.store;
-    let hub = k.hub;
-    let pool = store.rows.pool;
-    let heads = store.rows.heads;
-    let frames = store.rows.frames;
-    let setups = store.rows.setups;
-    let ports = hub.states;
     Rows {
-        pool,
-        heads,
-        frames,
-        setups,
-        ports,
+        pool: k.store.rows.pool,
+        heads: k.store.rows.heads,
+        frames: k.store.rows.frames,
+        setups: k.store.rows.setups,
+        ports: k.hub.states,
     }
 }
 
@@ -83,16 +75,12 @@ fn act_open(k: Keeper, n: u64, number: u8, settings: Settings) -> Acted
     ensures result_value { effect_of result ≡ open_effect (keeper_view k) n number (open_store (store_view k.store) settings) }
     ensures kept { Kept result.keeper }
 {
-    let before = k.store;
-    let opened = open_in(before, settings);
-    let answer = opened.answer;
-    let store = opened.store;
-    let hub = opened.hub;
-    match answer {
+    let opened = open_in(k.store, settings);
+    match opened.answer {
         Answer::Done => Acted {
             keeper: Keeper {
-                store,
-                hub,
+                store: opened.store,
+                hub: opened.hub,
                 opened: true,
             },
             line: call_line(n, number, Answered::Done(Given::Nothing)),
@@ -113,22 +101,15 @@ fn act_call(k: Keeper, n: u64, number: u8, call: Call) -> Acted
     ensures result_value { effect_of result ≡ call_effect (keeper_view k) n number (call_store (store_view k.store) call) }
     ensures kept { Kept result.keeper }
 {
-    let before = k.store;
-    let hub = k.hub;
-    let called = call_on(before, call);
-    let store = called.store;
-    let answer = called.answer;
-    let writes = called.writes;
-    let line = call_line(n, number, answer);
+    let called = call_on(k.store, call);
     Acted {
         keeper: Keeper {
-            store,
-            hub,
-            opened: k.opened,
+            store: called.store,
+            ..k
         },
-        line,
+        line: call_line(n, number, called.answer),
         opening: false,
-        writes,
+        writes: called.writes,
     }
 }
 
@@ -137,23 +118,15 @@ fn act_scan(k: Keeper, n: u64, number: u8, scanned: Scanned) -> Acted
     ensures result_value { effect_of result ≡ scan_effect (keeper_view k) n number scanned }
     ensures kept { Kept result.keeper }
 {
-    let store = k.store;
-    let hub = scanned.hub;
     let reply = scanned.reply;
-    let answer = reply.answer;
-    let read = reply.read;
-    let event = reply.event;
-    let writes = reply.writes;
-    let line = scan_line(n, number, answer, read, reply.wait, event);
     Acted {
         keeper: Keeper {
-            store,
-            hub,
-            opened: k.opened,
+            hub: scanned.hub,
+            ..k
         },
-        line,
+        line: scan_line(n, number, reply.answer, reply.read, reply.wait, reply.event),
         opening: false,
-        writes,
+        writes: reply.writes,
     }
 }
 
@@ -163,14 +136,11 @@ fn act_power(k: Keeper, n: u64, number: u8, port: u8, reading: u32) -> Acted
     ensures result_value { effect_of result ≡ power_effect (keeper_view k) n number (power_of k.hub port reading) }
     ensures kept { Kept result.keeper }
 {
-    let hub = k.hub;
-    let powered = root_hub::calls::port_power(hub, port, reading);
-    let answer = powered.answer;
-    let writes = powered.writes;
+    let powered = root_hub::calls::port_power(k.hub, port, reading);
     let line = scan_line(
         n,
         number,
-        answer,
+        powered.answer,
         NextRead::Nothing,
         powered.wait,
         PortEvent::Nothing,
@@ -179,36 +149,20 @@ fn act_power(k: Keeper, n: u64, number: u8, port: u8, reading: u32) -> Acted
         keeper: k,
         line,
         opening: false,
-        writes,
+        writes: powered.writes,
     }
 }
 
-fn act_nothing(k: Keeper, n: u64, number: u8) -> Acted
-    requires { Kept k }
-    ensures result_value { effect_of result ≡ no_effect (keeper_view k) n number }
-    ensures kept { Kept result.keeper }
-{
-    Acted {
-        keeper: k,
-        line: call_line(n, number, Answered::Pending),
-        opening: false,
-        writes: Writes::none(),
-    }
-}
-
-// A bad record does nothing; the log ends at it.
 pub fn act(k: Keeper, n: u64, number: u8, entry: Entry) -> Acted
     requires { Kept k }
     ensures result_value { effect_of result ≡ act_of (keeper_view k) n number entry }
     ensures kept { Kept result.keeper }
 {
-    let hub = k.hub;
     match entry {
         Entry::Open(settings) => act_open(k, n, number, settings),
         Entry::Call(call) => act_call(k, n, number, call),
-        Entry::StartScan => act_scan(k, n, number, root_hub::calls::start(hub)),
-        Entry::ScanStep(reading) => act_scan(k, n, number, root_hub::calls::step(hub, reading)),
+        Entry::StartScan => act_scan(k, n, number, root_hub::calls::start(k.hub)),
+        Entry::ScanStep(reading) => act_scan(k, n, number, root_hub::calls::step(k.hub, reading)),
         Entry::PortPower(port, reading) => act_power(k, n, number, port, reading),
-        Entry::Bad => act_nothing(k, n, number),
     }
 }

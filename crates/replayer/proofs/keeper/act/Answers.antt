@@ -19,6 +19,3 @@ returns-in-ScanStep c = clauses (scanned_as _ _ _ _ _ _ _ _ c.in-ScanStep.is ref
 
 pub returns-in-PortPower : goal.returns-in-PortPower
 returns-in-PortPower c = clauses (act_as _ _ _ _ _ _ c.in-PortPower.is (c.act_power.ensures.result_value, c.act_power.ensures.kept))
-
-pub returns-in-Bad : goal.returns-in-Bad
-returns-in-Bad c = clauses (act_as _ _ _ _ _ _ c.in-Bad.is (c.act_nothing.ensures.result_value, c.act_nothing.ensures.kept))
