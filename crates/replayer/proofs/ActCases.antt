@@ -24,7 +24,7 @@ use Rattle.root_hub.specs.declared.ports.PortEvent.TheVariants as P
 use Rattle.settings.specs.declared.settings.Settings.{Settings}
 use Rattle.store.specs.Stores.{blank_store, call_store, open_store}
 use Rattle.store.specs.Plain as plain
-use Rattle.store.specs.Words.{Opens, Tended, Tends, called_view, opened_view, store_view}
+use Rattle.store.specs.Words.{OpenedIn, called_view, opened_view, store_view}
 use Rattle.store.specs.declared.store.Called.{Called}
 use Rattle.store.specs.declared.store.OpenedStore.{OpenedStore}
 use Rattle.store.specs.declared.store.Store.{Store}
@@ -37,17 +37,17 @@ use Rattle.replayer.specs.declared.keeper.Keeper.{Keeper}
 abbrev closed : plain.Store → EhciRootHub → plain-keeper.Keeper
 closed w h = record { store = w; hub = h; opened = false }
 
-pub fresh_kept : (w : Store) (h : EhciRootHub) → (store_view w ≡ blank_store) × Tended w → h ≡ opened_hub 0
+pub fresh_kept : (w : Store) (h : EhciRootHub) → store_view w ≡ blank_store → h ≡ opened_hub 0
     → (keeper_view (record { store = w; hub = h; opened = false }) ≡ fresh_keeper) × Kept (record { store = w; hub = h; opened = false })
 unfolding fresh_keeper
 fresh_kept w h e f =
-    (ap (λ (x : plain.Store). closed x h) e.0 ∙ ap (closed blank_store) f, record { tended = e.1; opened = λ q. absurd (false_true q) })
+    (ap (λ (x : plain.Store). closed x h) e ∙ ap (closed blank_store) f, record { opened = λ q. absurd (false_true q) })
 
 module _ (k : Keeper) (kept : Kept k) (n number : ℕ) (line : Line) (w : Writes) where
   abbrev stays : Acted
   stays = record { keeper = k; line = line; opening = false; writes = w }
 
-  module _ (s : Settings) (o : OpenedStore) (opened : (opened_view o ≡ open_store (store_view k.store) s) × Opens o) (none : w ≡ no_writes) where
+  module _ (s : Settings) (o : OpenedStore) (opened : (opened_view o ≡ open_store (store_view k.store) s) × (o.answer ≡ A.Done → OpenedIn o.store)) (none : w ≡ no_writes) where
     abbrev replaced : Acted
     replaced = record { keeper = record { store = o.store; hub = o.hub; opened = true }; line = line; opening = true; writes = w }
 
@@ -59,7 +59,7 @@ module _ (k : Keeper) (kept : Kept k) (n number : ℕ) (line : Line) (w : Writes
     pub open_done : o.answer ≡ A.Done → line_bytes line ≡ answered_line n number (R.Done G.Nothing)
         → (effect_of replaced ≡ open_effect (keeper_view k) n number (open_store (store_view k.store) s)) × Kept replaced.keeper
     open_done a l =
-        (done_view a l ∙ ap (open_effect (keeper_view k) n number) opened.0, record { tended = opened.1.tended; opened = λ _. opened.1.opened a })
+        (done_view a l ∙ ap (open_effect (keeper_view k) n number) opened.0, record { opened = λ _. opened.1 a })
 
     refused_view : (refusal : Refusal) → o.answer ≡ A.Refused refusal → line_bytes line ≡ answered_line n number (R.Refused refusal)
         → effect_of stays ≡ open_effect (keeper_view k) n number (opened_view o)
@@ -71,7 +71,7 @@ module _ (k : Keeper) (kept : Kept k) (n number : ℕ) (line : Line) (w : Writes
     open_refused refusal a l = (refused_view refusal a l ∙ ap (open_effect (keeper_view k) n number) opened.0, kept)
 
 module _ (k : Keeper) (kept : Kept k) (n number : ℕ) (line : Line) where
-  module _ (call : Call) (c : Called) (called : (called_view c ≡ call_store (store_view k.store) call) × Tends k.store c.store)
+  module _ (call : Call) (c : Called) (called : (called_view c ≡ call_store (store_view k.store) call) × (OpenedIn k.store → OpenedIn c.store))
       (l : line_bytes line ≡ answered_line n number c.answer) where
     abbrev after : Acted
     after = record { keeper = record { store = c.store; hub = k.hub; opened = k.opened }; line = line; opening = false; writes = c.writes }
@@ -83,7 +83,7 @@ module _ (k : Keeper) (kept : Kept k) (n number : ℕ) (line : Line) where
     pub call_done : (effect_of after ≡ call_effect (keeper_view k) n number (call_store (store_view k.store) call)) × Kept after.keeper
     call_done = (
       call_view ∙ ap (call_effect (keeper_view k) n number) called.0,
-      record { tended = called.1.tended; opened = λ e. called.1.opened (kept.opened e) },
+      record { opened = λ e. called.1 (kept.opened e) },
     )
 
   pub scan_done : (s : Scanned) → line_bytes line ≡ scan_line n number s.reply.answer s.reply.read s.reply.wait s.reply.event
@@ -91,7 +91,7 @@ module _ (k : Keeper) (kept : Kept k) (n number : ℕ) (line : Line) where
       ≡ scan_effect (keeper_view k) n number s)
       × Kept (record { store = k.store; hub = s.hub; opened = k.opened })
   unfolding scan_effect
-  scan_done s l = (rw l, record { tended = kept.tended; opened = kept.opened })
+  scan_done s l = (rw l, record { opened = kept.opened })
 
   pub power_done : (port reading : ℕ) (p : PortPower) → p ≡ power_of k.hub port reading
       → line_bytes line ≡ scan_line n number p.answer N.Nothing p.wait P.Nothing

@@ -1,7 +1,7 @@
 -- The keeper of the code: its words stand for the state of a plain one.
 use Rattle.std.specs.Prelude.{◌≡◌, true, option_map}
 use Rattle.call_log.specs.Lines.{line_bytes}
-use Rattle.store.specs.Words.{OpenedIn, Tended, store_view}
+use Rattle.store.specs.Words.{OpenedIn, store_view}
 use Rattle.replayer.specs.declared.keeper.Acted.{Acted}
 use Rattle.replayer.specs.declared.keeper.Keeper.{Keeper}
 use Rattle.replayer.specs.declared.turn.Turned.{Turned}
@@ -17,7 +17,6 @@ effect_of a = record { keeper = keeper_view a.keeper; first = line_bytes a.line;
 abbrev pub turned_view : Turned → plain.Turned
 turned_view t = record { keeper = option_map keeper_view t.keeper; end = t.end }
 
--- the words are tended, and tidy once a controller is opened
+-- a controller is opened in the store, once one was
 pub record Kept (k : Keeper) : Type 0 where
-  pub tended : Tended k.store
   pub opened : k.opened ≡ true → OpenedIn k.store

@@ -5,4 +5,4 @@ clauses : {A B : Type 0} → A × B → record { result_value : A; kept : B }
 clauses p = record { result_value = p.0; kept = p.1 }
 
 pub returns : goal.returns
-returns c = clauses (call_done _ c.requires _ _ _ _ _ (c.call_on-called.ensures.result_value, c.call_on-called.ensures.tends) c.call_line.ensures)
+returns c = clauses (call_done _ c.requires _ _ _ _ _ (c.call_on-called.ensures.result_value, c.call_on-called.ensures.stays_open) c.call_line.ensures)

@@ -5,4 +5,4 @@ clauses : {A B : Type 0} → A × B → record { result_value : A; kept : B }
 clauses p = record { result_value = p.0; kept = p.1 }
 
 pub returns : goal.returns
-returns c = clauses (fresh_kept _ _ (c.blank_store.ensures.result_value, c.blank_store.ensures.tended) c.new.ensures)
+returns c = clauses (fresh_kept _ _ c.blank_store.ensures c.new.ensures)
