@@ -20,9 +20,9 @@ use Rattle.call_log.specs.Words.{Shows}
 use Rattle.store.specs.Words.{lent_slots}
 use Rattle.words.specs.View.{view}
 use Rattle.replayer.specs.Replays.{act_of, bad_line, rows_of, said_of, shown_of, turned_of}
-use Rattle.replayer.specs.Words.{Kept, effect_of, keeper_view, turned_view}
+use Rattle.replayer.specs.Words.{effect_of, keeper_view, turned_view}
 use Rattle.replayer.specs.declared.keeper.Acted.{Acted}
-use Rattle.replayer.specs.declared.keeper.Keeper.{Keeper}
+use Rattle.replayer.specs.declared.kept.Keeper.{Keeper}
 
 -- what is put from the first byte on, and where it ends
 abbrev pub Said : List ℕ → List ℕ → ℕ → List ℕ → Type 0
@@ -48,12 +48,12 @@ Shown o p r a b f =
     → r ≡ length (block_of (line_bytes a.line) a.opening b f a.keeper.opened (view a.keeper.store.core ws) a.writes))
     × (r ≤ length p))
 
-pub shown_put : (k : Keeper) (a : Acted) (b f : Rows) (o p : List ℕ) (r : ℕ) → Kept a.keeper → b ≡ rows_of (keeper_view k) → f ≡ rows_of (keeper_view a.keeper)
+pub shown_put : (k : Keeper) (a : Acted) (b f : Rows) (o p : List ℕ) (r : ℕ) → b ≡ rows_of (keeper_view k) → f ≡ rows_of (keeper_view a.keeper)
     → Shown o p r a b f → Said o p r (shown_of (keeper_view k) (effect_of a))
 unfolding shown_of
-shown_put k a b f o p r kept e g s =
+shown_put k a b f o p r e g s =
     let ws = lent_slots a.keeper.store in
-    let shows : a.keeper.opened ≡ true → Shows a.keeper.store.core ws = λ q. record { settings_are_good = (kept.opened q).settings_are_good; tidy = (kept.opened q).tidy } in
+    let shows : a.keeper.opened ≡ true → Shows a.keeper.store.core ws = λ q. record { settings_are_good = (a.keeper.kept q).settings_are_good; tidy = (a.keeper.kept q).tidy } in
     rw (← e, ← g) (s.0 ws shows, (s.1.0 ws shows, s.1.1))
 
 module _ (k : Keeper) (n : ℕ) (bytes : List ℕ) (o p : List ℕ) (r : ℕ) where

@@ -1,9 +1,9 @@
 -- The keeper of the code: its words stand for the state of a plain one.
-use Rattle.std.specs.Prelude.{◌≡◌, true, option_map}
+use Rattle.std.specs.Prelude.{option_map}
 use Rattle.call_log.specs.Lines.{line_bytes}
-use Rattle.store.specs.Words.{OpenedIn, store_view}
+use Rattle.store.specs.Words.{store_view}
 use Rattle.replayer.specs.declared.keeper.Acted.{Acted}
-use Rattle.replayer.specs.declared.keeper.Keeper.{Keeper}
+use Rattle.replayer.specs.declared.kept.Keeper.{Keeper}
 use Rattle.replayer.specs.declared.turn.Turned.{Turned}
 use Rattle.replayer.specs.Plain as plain
 use Rattle.replayer.specs.Replays.{Effect}
@@ -16,7 +16,3 @@ effect_of a = record { keeper = keeper_view a.keeper; first = line_bytes a.line;
 
 abbrev pub turned_view : Turned → plain.Turned
 turned_view t = record { keeper = option_map keeper_view t.keeper; end = t.end }
-
--- a controller is opened in the store, once one was
-pub record Kept (k : Keeper) : Type 0 where
-  pub opened : k.opened ≡ true → OpenedIn k.store

@@ -9,11 +9,12 @@ ghost use Rattle.replayer.specs.Replays.{
   rows_of,
   scan_effect,
 };
-ghost use Rattle.replayer.specs.Words.{Kept, effect_of, keeper_view};
+ghost use Rattle.replayer.specs.Words.{effect_of, keeper_view};
 ghost use Rattle.root_hub.specs.Calls.{power_of};
 ghost use Rattle.store.specs.Stores.{call_store, open_store};
 ghost use Rattle.store.specs.Words.{store_view};
 
+pub use crate::kept::Keeper;
 use call_log::block::Rows;
 use call_log::call_line::{call_line, scan_line};
 use call_log::line::Line;
@@ -27,15 +28,7 @@ use register::writes::Writes;
 use root_hub::calls::Scanned;
 use root_hub::ports::PortEvent;
 use settings::settings::Settings;
-use store::store::{Store, blank_store, call_on, open_in};
-
-// Before a first accepted opening every call answers 1.
-#[derive(Clone, Copy)]
-pub struct Keeper {
-    pub store: Store,
-    pub hub: EhciRootHub,
-    pub opened: bool,
-}
+use store::store::{blank_store, call_on, open_in};
 
 // What is kept after a record, the first line of its block, and its writes.
 #[derive(Clone, Copy)]
@@ -47,8 +40,7 @@ pub struct Acted {
 }
 
 pub fn fresh_keeper() -> Keeper
-    ensures result_value { keeper_view result ≡ fresh_keeper }
-    ensures kept { Kept result }
+    ensures { keeper_view result ≡ fresh_keeper }
 {
     Keeper {
         store: blank_store(),
@@ -71,9 +63,7 @@ pub fn rows_of(k: &Keeper) -> Rows
 
 // A refused opening leaves the earlier controller as it was.
 fn act_open(k: Keeper, n: u64, number: u8, settings: Settings) -> Acted
-    requires { Kept k }
-    ensures result_value { effect_of result ≡ open_effect (keeper_view k) n number (open_store (store_view k.store) settings) }
-    ensures kept { Kept result.keeper }
+    ensures { effect_of result ≡ open_effect (keeper_view k) n number (open_store (store_view k.store) settings) }
 {
     let opened = open_in(k.store, settings);
     match opened.answer {
@@ -97,15 +87,14 @@ fn act_open(k: Keeper, n: u64, number: u8, settings: Settings) -> Acted
 }
 
 fn act_call(k: Keeper, n: u64, number: u8, call: Call) -> Acted
-    requires { Kept k }
-    ensures result_value { effect_of result ≡ call_effect (keeper_view k) n number (call_store (store_view k.store) call) }
-    ensures kept { Kept result.keeper }
+    ensures { effect_of result ≡ call_effect (keeper_view k) n number (call_store (store_view k.store) call) }
 {
     let called = call_on(k.store, call);
     Acted {
         keeper: Keeper {
             store: called.store,
-            ..k
+            hub: k.hub,
+            opened: k.opened,
         },
         line: call_line(n, number, called.answer),
         opening: false,
@@ -114,15 +103,14 @@ fn act_call(k: Keeper, n: u64, number: u8, call: Call) -> Acted
 }
 
 fn act_scan(k: Keeper, n: u64, number: u8, scanned: Scanned) -> Acted
-    requires { Kept k }
-    ensures result_value { effect_of result ≡ scan_effect (keeper_view k) n number scanned }
-    ensures kept { Kept result.keeper }
+    ensures { effect_of result ≡ scan_effect (keeper_view k) n number scanned }
 {
     let reply = scanned.reply;
     Acted {
         keeper: Keeper {
+            store: k.store,
             hub: scanned.hub,
-            ..k
+            opened: k.opened,
         },
         line: scan_line(n, number, reply.answer, reply.read, reply.wait, reply.event),
         opening: false,
@@ -132,9 +120,7 @@ fn act_scan(k: Keeper, n: u64, number: u8, scanned: Scanned) -> Acted
 
 // Port power reads nothing next and has no event.
 fn act_power(k: Keeper, n: u64, number: u8, port: u8, reading: u32) -> Acted
-    requires { Kept k }
-    ensures result_value { effect_of result ≡ power_effect (keeper_view k) n number (power_of k.hub port reading) }
-    ensures kept { Kept result.keeper }
+    ensures { effect_of result ≡ power_effect (keeper_view k) n number (power_of k.hub port reading) }
 {
     let powered = root_hub::calls::port_power(k.hub, port, reading);
     let line = scan_line(
@@ -154,9 +140,7 @@ fn act_power(k: Keeper, n: u64, number: u8, port: u8, reading: u32) -> Acted
 }
 
 pub fn act(k: Keeper, n: u64, number: u8, entry: Entry) -> Acted
-    requires { Kept k }
-    ensures result_value { effect_of result ≡ act_of (keeper_view k) n number entry }
-    ensures kept { Kept result.keeper }
+    ensures { effect_of result ≡ act_of (keeper_view k) n number entry }
 {
     match entry {
         Entry::Open(settings) => act_open(k, n, number, settings),

@@ -1,7 +1,4 @@
 // A log from standard input, and what each record did to standard output.
-ghost use Rattle.std.specs.Prelude.{IfSome};
-ghost use Rattle.replayer.specs.Words.{Kept};
-
 use crate::keeper::{Keeper, fresh_keeper};
 use crate::turn::turn;
 
@@ -10,10 +7,7 @@ const STDIN: i32 = 0;
 const STDOUT: i32 = 1;
 
 // One record: read, done, and written out before the next is read. None where the log ends.
-fn next_record(k: Keeper, n: u64) -> Option<Keeper>
-    requires { Kept k }
-    ensures { IfSome result Kept }
-{
+fn next_record(k: Keeper, n: u64) -> Option<Keeper> {
     let mut record = [0u8; 64];
     let got = io::read_full(STDIN, &mut record);
     if got == 0 {

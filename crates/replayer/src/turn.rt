@@ -1,5 +1,5 @@
 // One record of a log: read, done, and its block put over the bytes of a lent row.
-ghost use Rattle.std.specs.Prelude.{◌≡◌, ◌≤◌, IfSome, length};
+ghost use Rattle.std.specs.Prelude.{◌≡◌, ◌≤◌, length};
 ghost use Rattle.common.specs.Rows.{put_at};
 ghost use Rattle.replayer.specs.Replays.{
   bad_line,
@@ -7,7 +7,7 @@ ghost use Rattle.replayer.specs.Replays.{
   shown_of,
   turned_of,
 };
-ghost use Rattle.replayer.specs.Words.{Kept, effect_of, keeper_view, turned_view};
+ghost use Rattle.replayer.specs.Words.{effect_of, keeper_view, turned_view};
 
 use crate::keeper::{Acted, Keeper, act, rows_of};
 use call_log::block::put_block;
@@ -34,8 +34,7 @@ fn put_bad(out: &mut [u8], n: u64) -> usize
 }
 
 fn put_shown(out: &mut [u8], k: &Keeper, acted: Acted) -> usize
-    requires in_bounds { 131072 ≤ length out.old }
-    requires kept { Kept acted.keeper }
+    requires { 131072 ≤ length out.old }
     ensures out_after { out.new ≡ put_at out.old 0 (shown_of (keeper_view k.now) (effect_of acted)) }
     ensures value { result ≡ length (shown_of (keeper_view k.now) (effect_of acted)) }
     ensures upper_bound { result ≤ length out.new }
@@ -57,12 +56,10 @@ fn put_shown(out: &mut [u8], k: &Keeper, acted: Acted) -> usize
 
 // Record n, counted from 0; what is said of it is put from the first byte on.
 pub fn turn(out: &mut [u8], k: Keeper, n: u64, bytes: &[u8]) -> Turned
-    requires in_bounds { 131072 ≤ length out.old }
-    requires kept { Kept k }
+    requires { 131072 ≤ length out.old }
     ensures out_after { out.new ≡ put_at out.old 0 (said_of (keeper_view k) n bytes.now) }
     ensures result_value { turned_view result ≡ turned_of (keeper_view k) n bytes.now }
     ensures end_in_bounds { result.end ≤ length out.new }
-    ensures kept_2 { IfSome result.keeper Kept }
 {
     let Some(entry) = read_record(bytes) else {
         let end = put_bad(out, n);
