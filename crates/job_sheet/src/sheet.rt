@@ -14,7 +14,7 @@ pub struct Job {
 }
 
 #[derive(Clone, Copy)]
-pub struct Counts {
+struct Counts {
     pub endpoints: usize,
     pub requests: usize,
 }
