@@ -1,5 +1,6 @@
 -- The store of the code: its words stand for the state of a plain store. Of the row of slots the first places are lent too.
-use Rattle.std.specs.Prelude.{List, ℕ}
+use Rattle.std.specs.Prelude.{◌≡◌, List, ℕ}
+use Rattle.common.specs.declared.answer.Answer.TheVariants.{Done}
 use Rattle.words.specs.declared.cores.Core.{Core}
 use Rattle.words.specs.View.{view}
 use Rattle.store.specs.declared.rows.Rows.{Rows}
@@ -31,3 +32,7 @@ opened_view o = record { store = store_view o.store; hub = o.hub; answer = o.ans
 -- a controller was opened in it
 abbrev pub OpenedIn : Store → Type 0
 OpenedIn w = WordsOpened w.core w.rows.slots
+
+-- by an opening that is accepted
+abbrev pub Opens : OpenedStore → Type 0
+Opens o = o.answer ≡ Done → OpenedIn o.store

@@ -10,7 +10,7 @@ ghost use Rattle.store.specs.Stores.{
   open_store,
   call_store,
 };
-ghost use Rattle.store.specs.Words.{OpenedIn, called_view, opened_view, slots_lent, store_view};
+ghost use Rattle.store.specs.Words.{OpenedIn, Opens, called_view, opened_view, slots_lent, store_view};
 ghost use Rattle.opening.specs.Words.{blank_core};
 
 pub use crate::rows::{Rows, Store};
@@ -118,7 +118,7 @@ pub fn blank_store() -> Store
 // A refused opening leaves the store as it was.
 pub fn open_in(store: Store, settings: Settings) -> OpenedStore
     ensures result_value { opened_view result ≡ open_store (store_view store) settings }
-    ensures opens { result.answer ≡ Answer.Done → OpenedIn result.store }
+    ensures opens { Opens result }
 {
     let Rows {
         mut pool,
