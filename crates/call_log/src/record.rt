@@ -1,10 +1,10 @@
 // A record of a log: the call that it says.
-ghost use Rattle.std.specs.Prelude.{◌≡◌, ◌%◌, ◌^◌, ◌&&◌, nat_le, nat_lt};
-ghost use Rattle.call_log.specs.Fields.{bytes_spare, numbers_spare};
+ghost use Rattle.std.specs.Prelude.{◌≡◌, ◌%◌, ◌^◌, nat_le, nat_lt};
 ghost use Rattle.pipe.specs.Endpoints.{direction_of, flag_of, kind_of};
 ghost use Rattle.call_log.specs.Records.{
   guarded,
   is_word,
+  spare,
   plain,
   open_entry,
   bring_up_step,
@@ -47,7 +47,7 @@ pub enum Entry {
 
 // What a call does not use is 0.
 fn unused(f: Fields, bytes: u8, numbers: u8) -> Option<()>
-    ensures { result ≡ guarded (bytes_spare f bytes && numbers_spare f numbers) tt }
+    ensures { result ≡ guarded (spare f bytes numbers) tt }
 {
     spare(f, bytes, numbers).then_some(())
 }
@@ -99,15 +99,15 @@ fn open(f: Fields) -> Option<Entry>
     ensures { result ≡ open_entry f }
 {
     let settings = Settings {
-        descriptors: f.n1,
-        endpoints: f.b1,
-        ports: f.b2,
-        limit: f.n2,
-        wait: f.n3,
-        pool: f.n4,
-        heads: f.n5,
-        frames: f.n6,
-        setups: f.n7,
+        descriptors: f.numbers[0],
+        endpoints: f.bytes[0],
+        ports: f.bytes[1],
+        limit: f.numbers[1],
+        wait: f.numbers[2],
+        pool: f.numbers[3],
+        heads: f.numbers[4],
+        frames: f.numbers[5],
+        setups: f.numbers[6],
     };
     spare(f, 2, 7).then_some(Entry::Open(settings))
 }
@@ -117,7 +117,7 @@ fn bring_up_step(f: Fields) -> Option<Entry>
     ensures { result ≡ bring_up_step f }
 {
     unused(f, 0, 1)?;
-    let reading = word(f.n1)?;
+    let reading = word(f.numbers[0])?;
     Some(Entry::Call(Call::BringUpStep(reading)))
 }
 
@@ -127,10 +127,10 @@ fn open_endpoint(f: Fields) -> Option<Entry>
 {
     unused(f, 3, 1)?;
     let endpoint = EndpointFields {
-        kind: kind(f.b1)?,
-        address: f.b2,
-        number: f.b3,
-        packet: size(f.n1)?,
+        kind: kind(f.bytes[0])?,
+        address: f.bytes[1],
+        number: f.bytes[2],
+        packet: size(f.numbers[0])?,
     };
     Some(Entry::Call(Call::OpenEndpoint(endpoint)))
 }
@@ -138,19 +138,19 @@ fn open_endpoint(f: Fields) -> Option<Entry>
 fn close_slot(f: Fields) -> Option<Entry>
     ensures { result ≡ close f }
 {
-    spare(f, 1, 0).then_some(Entry::Call(Call::Close(f.b1)))
+    spare(f, 1, 0).then_some(Entry::Call(Call::Close(f.bytes[0])))
 }
 
 fn set_address(f: Fields) -> Option<Entry>
     ensures { result ≡ set_address f }
 {
-    spare(f, 2, 0).then_some(Entry::Call(Call::SetAddress(f.b1, f.b2)))
+    spare(f, 2, 0).then_some(Entry::Call(Call::SetAddress(f.bytes[0], f.bytes[1])))
 }
 
 fn set_packet_size(f: Fields) -> Option<Entry>
     ensures { result ≡ set_packet_size f }
 {
-    spare(f, 2, 0).then_some(Entry::Call(Call::SetPacketSize(f.b1, f.b2)))
+    spare(f, 2, 0).then_some(Entry::Call(Call::SetPacketSize(f.bytes[0], f.bytes[1])))
 }
 
 #[tactic(auto, unfolding(crate::specs::Records::submit))]
@@ -159,18 +159,18 @@ fn submit_request(f: Fields) -> Option<Entry>
 {
     unused(f, 3, 4)?;
     let request = TransferRequest {
-        kind: kind(f.b2)?,
-        direction: direction(f.b3)?,
-        setup: setup(f.n1)?,
-        address: f.n2,
-        length: f.n3,
+        kind: kind(f.bytes[1])?,
+        direction: direction(f.bytes[2])?,
+        setup: setup(f.numbers[0])?,
+        address: f.numbers[1],
+        length: f.numbers[2],
     };
     let readings = Readings {
-        command: word(f.n4)?,
+        command: word(f.numbers[3])?,
         frame: 0,
         overlay: 0,
     };
-    Some(Entry::Call(Call::Submit(f.b1, request, readings)))
+    Some(Entry::Call(Call::Submit(f.bytes[0], request, readings)))
 }
 
 #[tactic(auto, unfolding(crate::specs::Records::writeback))]
@@ -178,8 +178,8 @@ fn write_back(f: Fields) -> Option<Entry>
     ensures { result ≡ writeback f }
 {
     unused(f, 0, 2)?;
-    let token = word(f.n2)?;
-    Some(Entry::Call(Call::Writeback(f.n1, token)))
+    let token = word(f.numbers[1])?;
+    Some(Entry::Call(Call::Writeback(f.numbers[0], token)))
 }
 
 #[tactic(auto, unfolding(crate::specs::Records::cancel))]
@@ -188,11 +188,11 @@ fn cancel_request(f: Fields) -> Option<Entry>
 {
     unused(f, 1, 3)?;
     let readings = Readings {
-        command: word(f.n2)?,
-        frame: word(f.n3)?,
+        command: word(f.numbers[1])?,
+        frame: word(f.numbers[2])?,
         overlay: 0,
     };
-    Some(Entry::Call(Call::Cancel(f.b1, f.n1, readings)))
+    Some(Entry::Call(Call::Cancel(f.bytes[0], f.numbers[0], readings)))
 }
 
 #[tactic(auto, unfolding(crate::specs::Records::collect))]
@@ -201,11 +201,11 @@ fn collect_request(f: Fields) -> Option<Entry>
 {
     unused(f, 1, 4)?;
     let readings = Readings {
-        command: word(f.n2)?,
-        frame: word(f.n3)?,
-        overlay: word(f.n4)?,
+        command: word(f.numbers[1])?,
+        frame: word(f.numbers[2])?,
+        overlay: word(f.numbers[3])?,
     };
-    Some(Entry::Call(Call::Collect(f.b1, f.n1, readings)))
+    Some(Entry::Call(Call::Collect(f.bytes[0], f.numbers[0], readings)))
 }
 
 #[tactic(auto, unfolding(crate::specs::Records::acknowledge))]
@@ -214,10 +214,10 @@ fn acknowledge_interrupt(f: Fields) -> Option<Entry>
 {
     unused(f, 2, 2)?;
     let readings = InterruptReadings {
-        flag: flag(f.b1)?,
-        again: flag(f.b2)?,
-        status: word(f.n1)?,
-        interrupts: word(f.n2)?,
+        flag: flag(f.bytes[0])?,
+        again: flag(f.bytes[1])?,
+        status: word(f.numbers[0])?,
+        interrupts: word(f.numbers[1])?,
     };
     Some(Entry::Call(Call::Acknowledge(readings)))
 }
@@ -227,7 +227,7 @@ fn drain_events(f: Fields) -> Option<Entry>
     ensures { result ≡ drain f }
 {
     unused(f, 0, 1)?;
-    let command = word(f.n1)?;
+    let command = word(f.numbers[0])?;
     Some(Entry::Call(Call::Drain(command)))
 }
 
@@ -236,7 +236,7 @@ fn scan_step(f: Fields) -> Option<Entry>
     ensures { result ≡ scan_step f }
 {
     unused(f, 0, 1)?;
-    let reading = word(f.n1)?;
+    let reading = word(f.numbers[0])?;
     Some(Entry::ScanStep(reading))
 }
 
@@ -245,14 +245,14 @@ fn port_power(f: Fields) -> Option<Entry>
     ensures { result ≡ port_power f }
 {
     unused(f, 1, 1)?;
-    let reading = word(f.n1)?;
-    Some(Entry::PortPower(f.b1, reading))
+    let reading = word(f.numbers[0])?;
+    Some(Entry::PortPower(f.bytes[0], reading))
 }
 
 fn clear_halt(f: Fields) -> Option<Entry>
     ensures { result ≡ clear_halt f }
 {
-    spare(f, 1, 0).then_some(Entry::Call(Call::ClearHalt(f.b1)))
+    spare(f, 1, 0).then_some(Entry::Call(Call::ClearHalt(f.bytes[0])))
 }
 
 // 0 is no call, and none is above 21.

@@ -51,11 +51,11 @@ fn change_rest(rest: &mut Rest, field: u8, value: u64) {
     }
 }
 
-// One word and `b2` more.
+// One word and `b2` more: n2 to n7 at most.
 fn change_slots(slots: &mut [u64; 193], f: Fields) {
-    let values = [f.n2, f.n3, f.n4, f.n5, f.n6, f.n7];
-    let first = (f.n1 % 193) as usize;
-    for i in 0..values.len().min(f.b2 as usize + 1) {
+    let values = &f.numbers[1..];
+    let first = (f.numbers[0] % 193) as usize;
+    for i in 0..values.len().min(f.bytes[1] as usize + 1) {
         slots[(first + i) % 193] = values[i];
     }
 }
@@ -73,34 +73,34 @@ fn change_record(r: &mut QueueTransferDescriptor, word: u8, value: u32) {
 fn change_rows(rows: &mut Rows, f: Fields) {
     match f.number {
         66 => change_slots(&mut rows.slots, f),
-        67 => change_record(&mut rows.pool[(f.n1 % 258) as usize], f.b2, low_word(f.n2)),
-        68 => rows.heads[(f.n1 % 562) as usize] = low_word(f.n2),
-        69 => rows.frames[(f.n1 % 1025) as usize] = low_word(f.n2),
-        _ => rows.setups[(f.n1 % 257) as usize] = low_byte(f.n2),
+        67 => change_record(&mut rows.pool[(f.numbers[0] % 258) as usize], f.bytes[1], low_word(f.numbers[1])),
+        68 => rows.heads[(f.numbers[0] % 562) as usize] = low_word(f.numbers[1]),
+        69 => rows.frames[(f.numbers[0] % 1025) as usize] = low_word(f.numbers[1]),
+        _ => rows.setups[(f.numbers[0] % 257) as usize] = low_byte(f.numbers[1]),
     }
 }
 
 // One state and the place of a scan.
 fn change_hub(hub: &mut EhciRootHub, f: Fields) {
-    hub.ports = f.b1;
-    hub.port = f.b2;
-    hub.step = f.b3;
-    hub.states[(f.n1 % 15) as usize] = low_byte(f.n2);
+    hub.ports = f.bytes[0];
+    hub.port = f.bytes[1];
+    hub.step = f.bytes[2];
+    hub.states[(f.numbers[0] % 15) as usize] = low_byte(f.numbers[1]);
 }
 
 impl Kept {
     pub fn change(&mut self, f: Fields) {
         match f.number {
-            64 => change_settings(&mut self.core.settings, f.b2, f.n2),
-            65 => change_rest(&mut self.core.rest, f.b2, f.n2),
+            64 => change_settings(&mut self.core.settings, f.bytes[1], f.numbers[1]),
+            65 => change_rest(&mut self.core.rest, f.bytes[1], f.numbers[1]),
             66..=70 => change_rows(&mut self.rows, f),
             71 => {
                 self.lent = Lent {
-                    pool: f.n1,
-                    slots: f.n2,
-                    heads: f.n3,
-                    frames: f.n4,
-                    setups: f.n5,
+                    pool: f.numbers[0],
+                    slots: f.numbers[1],
+                    heads: f.numbers[2],
+                    frames: f.numbers[3],
+                    setups: f.numbers[4],
                 };
             }
             73 => change_hub(&mut self.hub, f),

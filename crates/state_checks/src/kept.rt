@@ -83,18 +83,18 @@ fn answered(answer: Answer) -> Answered {
 // A submit with any setup number: a log's are below 2^48.
 fn any_submit(f: Fields) -> Call {
     let request = TransferRequest {
-        kind: kind_of(f.b2),
-        direction: direction_of(f.b3),
-        setup: f.n1,
-        address: f.n2,
-        length: f.n3,
+        kind: kind_of(f.bytes[1]),
+        direction: direction_of(f.bytes[2]),
+        setup: f.numbers[0],
+        address: f.numbers[1],
+        length: f.numbers[2],
     };
     let readings = Readings {
         command: 0,
         frame: 0,
         overlay: 0,
     };
-    Call::Submit(f.b1, request, readings)
+    Call::Submit(f.bytes[0], request, readings)
 }
 
 impl Kept {
