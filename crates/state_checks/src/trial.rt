@@ -17,7 +17,8 @@ fn flipped(trial: Fields, bit: u8) -> Fields {
 
 // One line: how many were tried, and a sum over what would be shown of each. Nothing of them stays.
 pub fn show_tried(kept: &Kept, trial: Fields, n: u64, f: Fields, entry: Option<Entry>) {
-    let bits = trial.bytes[2] % 65;
+    let [_, _, bits, ..] = trial.bytes;
+    let bits = bits % 65;
     let mut sum: u32 = 0;
     for bit in 0..bits {
         let mut wrong = *kept;
