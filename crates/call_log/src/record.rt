@@ -1,10 +1,10 @@
 // A record of a log: the call that it says.
-ghost use Rattle.std.specs.Prelude.{◌≡◌, ◌%◌, ◌^◌, ◌&&◌, nat_le, nat_lt};
-ghost use Rattle.call_log.specs.Fields.{bytes_spare, numbers_spare};
+ghost use Rattle.std.specs.Prelude.{◌≡◌, ◌%◌, ◌^◌, nat_le, nat_lt};
 ghost use Rattle.pipe.specs.Endpoints.{direction_of, flag_of, kind_of};
 ghost use Rattle.call_log.specs.Records.{
   guarded,
   is_word,
+  spare,
   plain,
   open_entry,
   bring_up_step,
@@ -47,42 +47,42 @@ pub enum Entry {
 
 // What a call does not use is 0.
 fn unused(f: Fields, bytes: u8, numbers: u8) -> Option<()>
-    ensures { result ≡ guarded (bytes_spare f bytes && numbers_spare f numbers) tt }
+    ensures { result ≡ guarded (spare f bytes numbers) tt }
 {
     spare(f, bytes, numbers).then_some(())
 }
 
-fn word(n: u64) -> Option<u32>
+fn read_word(n: u64) -> Option<u32>
     ensures { result ≡ guarded (is_word n) (n % 2 ^ 32) }
 {
     u32::try_from(n).ok()
 }
 
-fn size(n: u64) -> Option<u16>
+fn read_size(n: u64) -> Option<u16>
     ensures { result ≡ guarded (nat_lt n (2 ^ 16)) (n % 2 ^ 16) }
 {
     u16::try_from(n).ok()
 }
 
-fn setup(n: u64) -> Option<u64>
+fn read_setup(n: u64) -> Option<u64>
     ensures { result ≡ guarded (nat_lt n (2 ^ 48)) n }
 {
     (n < SETUP_END).then_some(n)
 }
 
-fn kind(number: u8) -> Option<EndpointType>
+fn read_kind(number: u8) -> Option<EndpointType>
     ensures { result ≡ guarded (nat_le number 3) (kind_of number) }
 {
     (number <= KIND_MAX).then_some(kind_of(number))
 }
 
-fn direction(number: u8) -> Option<Direction>
+fn read_direction(number: u8) -> Option<Direction>
     ensures { result ≡ guarded (nat_le number 1) (direction_of number) }
 {
     (number <= 1).then_some(direction_of(number))
 }
 
-fn flag(number: u8) -> Option<bool>
+fn read_flag(number: u8) -> Option<bool>
     ensures { result ≡ guarded (nat_le number 1) (flag_of number) }
 {
     (number <= 1).then_some(number != 0)
@@ -98,16 +98,18 @@ fn plain_entry(f: Fields, entry: Entry) -> Option<Entry>
 fn open(f: Fields) -> Option<Entry>
     ensures { result ≡ open_entry f }
 {
+    let [endpoints, ports, ..] = f.bytes;
+    let [descriptors, limit, wait, pool, heads, frames, setups] = f.numbers;
     let settings = Settings {
-        descriptors: f.n1,
-        endpoints: f.b1,
-        ports: f.b2,
-        limit: f.n2,
-        wait: f.n3,
-        pool: f.n4,
-        heads: f.n5,
-        frames: f.n6,
-        setups: f.n7,
+        descriptors,
+        endpoints,
+        ports,
+        limit,
+        wait,
+        pool,
+        heads,
+        frames,
+        setups,
     };
     spare(f, 2, 7).then_some(Entry::Open(settings))
 }
@@ -117,7 +119,8 @@ fn bring_up_step(f: Fields) -> Option<Entry>
     ensures { result ≡ bring_up_step f }
 {
     unused(f, 0, 1)?;
-    let reading = word(f.n1)?;
+    let [reading, ..] = f.numbers;
+    let reading = read_word(reading)?;
     Some(Entry::Call(Call::BringUpStep(reading)))
 }
 
@@ -126,11 +129,13 @@ fn open_endpoint(f: Fields) -> Option<Entry>
     ensures { result ≡ open_endpoint f }
 {
     unused(f, 3, 1)?;
+    let [kind, address, number, ..] = f.bytes;
+    let [packet, ..] = f.numbers;
     let endpoint = EndpointFields {
-        kind: kind(f.b1)?,
-        address: f.b2,
-        number: f.b3,
-        packet: size(f.n1)?,
+        kind: read_kind(kind)?,
+        address,
+        number,
+        packet: read_size(packet)?,
     };
     Some(Entry::Call(Call::OpenEndpoint(endpoint)))
 }
@@ -138,19 +143,22 @@ fn open_endpoint(f: Fields) -> Option<Entry>
 fn close_slot(f: Fields) -> Option<Entry>
     ensures { result ≡ close f }
 {
-    spare(f, 1, 0).then_some(Entry::Call(Call::Close(f.b1)))
+    let [slot, ..] = f.bytes;
+    spare(f, 1, 0).then_some(Entry::Call(Call::Close(slot)))
 }
 
 fn set_address(f: Fields) -> Option<Entry>
     ensures { result ≡ set_address f }
 {
-    spare(f, 2, 0).then_some(Entry::Call(Call::SetAddress(f.b1, f.b2)))
+    let [slot, address, ..] = f.bytes;
+    spare(f, 2, 0).then_some(Entry::Call(Call::SetAddress(slot, address)))
 }
 
 fn set_packet_size(f: Fields) -> Option<Entry>
     ensures { result ≡ set_packet_size f }
 {
-    spare(f, 2, 0).then_some(Entry::Call(Call::SetPacketSize(f.b1, f.b2)))
+    let [slot, size, ..] = f.bytes;
+    spare(f, 2, 0).then_some(Entry::Call(Call::SetPacketSize(slot, size)))
 }
 
 #[tactic(auto, unfolding(crate::specs::Records::submit))]
@@ -158,19 +166,21 @@ fn submit_request(f: Fields) -> Option<Entry>
     ensures { result ≡ submit f }
 {
     unused(f, 3, 4)?;
+    let [slot, kind, direction, ..] = f.bytes;
+    let [setup, address, length, command, ..] = f.numbers;
     let request = TransferRequest {
-        kind: kind(f.b2)?,
-        direction: direction(f.b3)?,
-        setup: setup(f.n1)?,
-        address: f.n2,
-        length: f.n3,
+        kind: read_kind(kind)?,
+        direction: read_direction(direction)?,
+        setup: read_setup(setup)?,
+        address,
+        length,
     };
     let readings = Readings {
-        command: word(f.n4)?,
+        command: read_word(command)?,
         frame: 0,
         overlay: 0,
     };
-    Some(Entry::Call(Call::Submit(f.b1, request, readings)))
+    Some(Entry::Call(Call::Submit(slot, request, readings)))
 }
 
 #[tactic(auto, unfolding(crate::specs::Records::writeback))]
@@ -178,8 +188,9 @@ fn write_back(f: Fields) -> Option<Entry>
     ensures { result ≡ writeback f }
 {
     unused(f, 0, 2)?;
-    let token = word(f.n2)?;
-    Some(Entry::Call(Call::Writeback(f.n1, token)))
+    let [place, token, ..] = f.numbers;
+    let token = read_word(token)?;
+    Some(Entry::Call(Call::Writeback(place, token)))
 }
 
 #[tactic(auto, unfolding(crate::specs::Records::cancel))]
@@ -187,12 +198,14 @@ fn cancel_request(f: Fields) -> Option<Entry>
     ensures { result ≡ cancel f }
 {
     unused(f, 1, 3)?;
+    let [slot, ..] = f.bytes;
+    let [id, command, frame, ..] = f.numbers;
     let readings = Readings {
-        command: word(f.n2)?,
-        frame: word(f.n3)?,
+        command: read_word(command)?,
+        frame: read_word(frame)?,
         overlay: 0,
     };
-    Some(Entry::Call(Call::Cancel(f.b1, f.n1, readings)))
+    Some(Entry::Call(Call::Cancel(slot, id, readings)))
 }
 
 #[tactic(auto, unfolding(crate::specs::Records::collect))]
@@ -200,12 +213,14 @@ fn collect_request(f: Fields) -> Option<Entry>
     ensures { result ≡ collect f }
 {
     unused(f, 1, 4)?;
+    let [slot, ..] = f.bytes;
+    let [id, command, frame, overlay, ..] = f.numbers;
     let readings = Readings {
-        command: word(f.n2)?,
-        frame: word(f.n3)?,
-        overlay: word(f.n4)?,
+        command: read_word(command)?,
+        frame: read_word(frame)?,
+        overlay: read_word(overlay)?,
     };
-    Some(Entry::Call(Call::Collect(f.b1, f.n1, readings)))
+    Some(Entry::Call(Call::Collect(slot, id, readings)))
 }
 
 #[tactic(auto, unfolding(crate::specs::Records::acknowledge))]
@@ -213,11 +228,13 @@ fn acknowledge_interrupt(f: Fields) -> Option<Entry>
     ensures { result ≡ acknowledge f }
 {
     unused(f, 2, 2)?;
+    let [flag, again, ..] = f.bytes;
+    let [status, interrupts, ..] = f.numbers;
     let readings = InterruptReadings {
-        flag: flag(f.b1)?,
-        again: flag(f.b2)?,
-        status: word(f.n1)?,
-        interrupts: word(f.n2)?,
+        flag: read_flag(flag)?,
+        again: read_flag(again)?,
+        status: read_word(status)?,
+        interrupts: read_word(interrupts)?,
     };
     Some(Entry::Call(Call::Acknowledge(readings)))
 }
@@ -227,7 +244,8 @@ fn drain_events(f: Fields) -> Option<Entry>
     ensures { result ≡ drain f }
 {
     unused(f, 0, 1)?;
-    let command = word(f.n1)?;
+    let [command, ..] = f.numbers;
+    let command = read_word(command)?;
     Some(Entry::Call(Call::Drain(command)))
 }
 
@@ -236,7 +254,8 @@ fn scan_step(f: Fields) -> Option<Entry>
     ensures { result ≡ scan_step f }
 {
     unused(f, 0, 1)?;
-    let reading = word(f.n1)?;
+    let [reading, ..] = f.numbers;
+    let reading = read_word(reading)?;
     Some(Entry::ScanStep(reading))
 }
 
@@ -245,14 +264,17 @@ fn port_power(f: Fields) -> Option<Entry>
     ensures { result ≡ port_power f }
 {
     unused(f, 1, 1)?;
-    let reading = word(f.n1)?;
-    Some(Entry::PortPower(f.b1, reading))
+    let [port, ..] = f.bytes;
+    let [reading, ..] = f.numbers;
+    let reading = read_word(reading)?;
+    Some(Entry::PortPower(port, reading))
 }
 
 fn clear_halt(f: Fields) -> Option<Entry>
     ensures { result ≡ clear_halt f }
 {
-    spare(f, 1, 0).then_some(Entry::Call(Call::ClearHalt(f.b1)))
+    let [slot, ..] = f.bytes;
+    spare(f, 1, 0).then_some(Entry::Call(Call::ClearHalt(slot)))
 }
 
 // 0 is no call, and none is above 21.

@@ -51,11 +51,10 @@ fn change_rest(rest: &mut Rest, field: u8, value: u64) {
     }
 }
 
-// One word and `b2` more.
-fn change_slots(slots: &mut [u64; 193], f: Fields) {
-    let values = [f.n2, f.n3, f.n4, f.n5, f.n6, f.n7];
-    let first = (f.n1 % 193) as usize;
-    for i in 0..values.len().min(f.b2 as usize + 1) {
+// One word and `more` after it: n2 to n7 at most.
+fn change_slots(slots: &mut [u64; 193], at: u64, more: u8, values: &[u64]) {
+    let first = (at % 193) as usize;
+    for i in 0..values.len().min(more as usize + 1) {
         slots[(first + i) % 193] = values[i];
     }
 }
@@ -71,38 +70,47 @@ fn change_record(r: &mut QueueTransferDescriptor, word: u8, value: u32) {
 }
 
 fn change_rows(rows: &mut Rows, f: Fields) {
+    let [_, word, ..] = f.bytes;
+    let [at, value, ..] = f.numbers;
     match f.number {
-        66 => change_slots(&mut rows.slots, f),
-        67 => change_record(&mut rows.pool[(f.n1 % 258) as usize], f.b2, low_word(f.n2)),
-        68 => rows.heads[(f.n1 % 562) as usize] = low_word(f.n2),
-        69 => rows.frames[(f.n1 % 1025) as usize] = low_word(f.n2),
-        _ => rows.setups[(f.n1 % 257) as usize] = low_byte(f.n2),
+        66 => change_slots(&mut rows.slots, at, word, &f.numbers[1..]),
+        67 => change_record(&mut rows.pool[(at % 258) as usize], word, low_word(value)),
+        68 => rows.heads[(at % 562) as usize] = low_word(value),
+        69 => rows.frames[(at % 1025) as usize] = low_word(value),
+        _ => rows.setups[(at % 257) as usize] = low_byte(value),
+    }
+}
+
+fn lent_by(f: Fields) -> Lent {
+    let [pool, slots, heads, frames, setups, ..] = f.numbers;
+    Lent {
+        pool,
+        slots,
+        heads,
+        frames,
+        setups,
     }
 }
 
 // One state and the place of a scan.
 fn change_hub(hub: &mut EhciRootHub, f: Fields) {
-    hub.ports = f.b1;
-    hub.port = f.b2;
-    hub.step = f.b3;
-    hub.states[(f.n1 % 15) as usize] = low_byte(f.n2);
+    let [ports, port, step, ..] = f.bytes;
+    let [at, state, ..] = f.numbers;
+    hub.ports = ports;
+    hub.port = port;
+    hub.step = step;
+    hub.states[(at % 15) as usize] = low_byte(state);
 }
 
 impl Kept {
     pub fn change(&mut self, f: Fields) {
+        let [_, field, ..] = f.bytes;
+        let [_, value, ..] = f.numbers;
         match f.number {
-            64 => change_settings(&mut self.core.settings, f.b2, f.n2),
-            65 => change_rest(&mut self.core.rest, f.b2, f.n2),
+            64 => change_settings(&mut self.core.settings, field, value),
+            65 => change_rest(&mut self.core.rest, field, value),
             66..=70 => change_rows(&mut self.rows, f),
-            71 => {
-                self.lent = Lent {
-                    pool: f.n1,
-                    slots: f.n2,
-                    heads: f.n3,
-                    frames: f.n4,
-                    setups: f.n5,
-                };
-            }
+            71 => self.lent = lent_by(f),
             73 => change_hub(&mut self.hub, f),
             TRIAL => self.trial = Some(f),
             _ => {}

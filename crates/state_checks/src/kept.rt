@@ -82,19 +82,21 @@ fn answered(answer: Answer) -> Answered {
 
 // A submit with any setup number: a log's are below 2^48.
 fn any_submit(f: Fields) -> Call {
+    let [slot, kind, direction, ..] = f.bytes;
+    let [setup, address, length, ..] = f.numbers;
     let request = TransferRequest {
-        kind: kind_of(f.b2),
-        direction: direction_of(f.b3),
-        setup: f.n1,
-        address: f.n2,
-        length: f.n3,
+        kind: kind_of(kind),
+        direction: direction_of(direction),
+        setup,
+        address,
+        length,
     };
     let readings = Readings {
         command: 0,
         frame: 0,
         overlay: 0,
     };
-    Call::Submit(f.b1, request, readings)
+    Call::Submit(slot, request, readings)
 }
 
 impl Kept {

@@ -9,16 +9,16 @@ use call_log::record::Entry;
 pub const TRIAL: u8 = 74;
 
 fn flipped(trial: Fields, bit: u8) -> Fields {
-    Fields {
-        number: trial.b1,
-        n2: trial.n2 ^ (1 << (bit % 64)),
-        ..trial
-    }
+    let mut f = trial;
+    f.number = trial.bytes[0];
+    f.numbers[1] ^= 1 << (bit % 64);
+    f
 }
 
 // One line: how many were tried, and a sum over what would be shown of each. Nothing of them stays.
 pub fn show_tried(kept: &Kept, trial: Fields, n: u64, f: Fields, entry: Option<Entry>) {
-    let bits = trial.b3 % 65;
+    let [_, _, bits, ..] = trial.bytes;
+    let bits = bits % 65;
     let mut sum: u32 = 0;
     for bit in 0..bits {
         let mut wrong = *kept;
