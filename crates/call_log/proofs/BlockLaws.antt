@@ -13,7 +13,7 @@ use Rattle.text.proofs.Puts.{put_then}
 use Rattle.text.proofs.TextLaws.{decimal_length, hex_length}
 use Rattle.call_log.specs.Block.{rows_lines}
 use Rattle.call_log.specs.Changes.{frame_change, frame_lines, head_change, head_lines, port_change, port_lines, record_change, record_lines, setup_change, setup_lines, write_at, write_lines}
-use Rattle.call_log.specs.Lines.{line_bytes, line_of, shown_line, write_line}
+use Rattle.call_log.specs.Lines.{line_bytes, line_of, said_line, shown_line, write_line}
 use Rattle.call_log.specs.Words.{block_shown, rest_shown}
 use Rattle.call_log.specs.declared.block.Rows.{Rows}
 use Rattle.call_log.specs.declared.line.Line.{Line}
@@ -22,9 +22,9 @@ use Rattle.call_log.proofs.ChangeCases.{frame_most, head_most, port_most, record
 use Rattle.call_log.proofs.LineCases.{parts_most}
 
 -- any line that the code puts
-pub line_most : (line : Line) → length line.cells ≡ 14 → length (line_bytes line) ≤ 296
-unfolding line_bytes
-line_most line h = simp length-append (omega (arith, parts_most line.count line.cells 14 (omega arith)))
+pub line_most : (line : Line) → length line.row ≡ 14 → length (line_bytes line) ≤ 296
+unfolding line_bytes said_line
+line_most line h = simp length-append (omega (arith, parts_most line.count line.row 14 (omega arith)))
 
 shown_most : (x : Seen) → length (shown_line x) ≤ 174
 unfolding shown_line line_of

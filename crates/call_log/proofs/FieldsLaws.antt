@@ -1,5 +1,5 @@
 -- A record's numbers say its bytes, and its bytes the numbers.
-use Rattle.std.specs.Prelude.{◌≡◌, ℕ, ◌+◌, ◌≤◌, List, [], ◌∷◌, ◌++◌, length, take, drop}
+use Rattle.std.specs.Prelude.{◌≡◌, ℕ, ◌+◌, ◌≤◌, List, [], ◌∷◌, ◌++◌, length, take, drop, slice_index}
 use mathlib.Core.Path.{refl, ap, ◌∙◌}
 use native.Mathlib.Omega.{arith}
 use lib.ListN.{length-drop, take-append-drop}
@@ -10,41 +10,59 @@ use Rattle.call_log.specs.declared.fields.Fields.{Fields}
 use Rattle.text.specs.Numbers.{little_endian, number_at}
 use Rattle.text.proofs.NumberLaws.{Bytes, number_of_bytes, part_written}
 
+-- ---- a record has seven of each
+
+pub record Whole (f : Fields) : Type 0 where
+  pub seven_bytes : length f.bytes ≡ 7
+  pub seven_numbers : length f.numbers ≡ 7
+
+pub read_whole : (bs : List ℕ) → Whole (fields_of bs)
+unfolding fields_of
+read_whole bs = record { seven_bytes = refl; seven_numbers = refl }
+
+seven_is : (l : List ℕ) → length l ≡ 7
+    → slice_index l 0 ∷ slice_index l 1 ∷ slice_index l 2 ∷ slice_index l 3 ∷ slice_index l 4 ∷ slice_index l 5 ∷ slice_index l 6 ∷ [] ≡ l
+seven_is [] h = absurd (omega (arith, h))
+seven_is (a ∷ []) h = absurd (omega (arith, h))
+seven_is (a ∷ b ∷ []) h = absurd (omega (arith, h))
+seven_is (a ∷ b ∷ c ∷ []) h = absurd (omega (arith, h))
+seven_is (a ∷ b ∷ c ∷ d ∷ []) h = absurd (omega (arith, h))
+seven_is (a ∷ b ∷ c ∷ d ∷ e ∷ []) h = absurd (omega (arith, h))
+seven_is (a ∷ b ∷ c ∷ d ∷ e ∷ f ∷ []) h = absurd (omega (arith, h))
+seven_is (a ∷ b ∷ c ∷ d ∷ e ∷ f ∷ g ∷ []) h = refl
+seven_is (a ∷ b ∷ c ∷ d ∷ e ∷ f ∷ g ∷ k ∷ l) h = absurd (omega (arith, h))
+
 -- ---- two sets of fields are equal by their numbers
-pub fields_ext : (f : Fields) (number b1 b2 b3 b4 b5 b6 b7 n1 n2 n3 n4 n5 n6 n7 : ℕ) → number ≡ f.number
-    → b1 ≡ f.b1 → b2 ≡ f.b2 → b3 ≡ f.b3 → b4 ≡ f.b4 → b5 ≡ f.b5 → b6 ≡ f.b6 → b7 ≡ f.b7
-    → n1 ≡ f.n1 → n2 ≡ f.n2 → n3 ≡ f.n3 → n4 ≡ f.n4 → n5 ≡ f.n5 → n6 ≡ f.n6 → n7 ≡ f.n7
-    → record {
-      number = number;
-      b1 = b1;
-      b2 = b2;
-      b3 = b3;
-      b4 = b4;
-      b5 = b5;
-      b6 = b6;
-      b7 = b7;
-      n1 = n1;
-      n2 = n2;
-      n3 = n3;
-      n4 = n4;
-      n5 = n5;
-      n6 = n6;
-      n7 = n7;
-    } ≡ f
-fields_ext f number b1 b2 b3 b4 b5 b6 b7 n1 n2 n3 n4 n5 n6 n7 e0 e1 e2 e3 e4 e5 e6 e7 d1 d2 d3 d4 d5 d6 d7 =
+pub fields_ext : (f : Fields) → Whole f → (number b1 b2 b3 b4 b5 b6 b7 n1 n2 n3 n4 n5 n6 n7 : ℕ) → number ≡ f.number
+    → b1 ≡ slice_index f.bytes 0 → b2 ≡ slice_index f.bytes 1 → b3 ≡ slice_index f.bytes 2 → b4 ≡ slice_index f.bytes 3 → b5 ≡ slice_index f.bytes 4 → b6 ≡ slice_index f.bytes 5 → b7 ≡ slice_index f.bytes 6
+    → n1 ≡ slice_index f.numbers 0 → n2 ≡ slice_index f.numbers 1 → n3 ≡ slice_index f.numbers 2 → n4 ≡ slice_index f.numbers 3 → n5 ≡ slice_index f.numbers 4 → n6 ≡ slice_index f.numbers 5 → n7 ≡ slice_index f.numbers 6
+    → record { number = number; bytes = b1 ∷ b2 ∷ b3 ∷ b4 ∷ b5 ∷ b6 ∷ b7 ∷ []; numbers = n1 ∷ n2 ∷ n3 ∷ n4 ∷ n5 ∷ n6 ∷ n7 ∷ [] } ≡ f
+fields_ext f w number b1 b2 b3 b4 b5 b6 b7 n1 n2 n3 n4 n5 n6 n7 e0 e1 e2 e3 e4 e5 e6 e7 d1 d2 d3 d4 d5 d6 d7 =
     rw (e0, e1, e2, e3, e4, e5, e6, e7, d1, d2, d3, d4, d5, d6, d7)
+    (ap (λ (l : List ℕ). with_numbers l) (seven_is f.numbers w.seven_numbers) ∙ ap (λ (l : List ℕ). with_bytes l) (seven_is f.bytes w.seven_bytes))
+  where
+    with_bytes : List ℕ → Fields
+    with_bytes l = record { number = f.number; bytes = l; numbers = f.numbers }
+
+    with_numbers : List ℕ → Fields
+    with_numbers l =
+        record {
+          number = f.number;
+          bytes = slice_index f.bytes 0 ∷ slice_index f.bytes 1 ∷ slice_index f.bytes 2 ∷ slice_index f.bytes 3 ∷ slice_index f.bytes 4 ∷ slice_index f.bytes 5 ∷ slice_index f.bytes 6 ∷ [];
+          numbers = l;
+        }
 
 pub bytes_length : (f : Fields) → length (bytes_of f) ≡ 64
 unfolding bytes_of little_endian
 bytes_length f = refl
 
 -- what is written is read
-pub fields_read : (f : Fields) → NumbersFit f → fields_of (bytes_of f) ≡ f
+pub fields_read : (f : Fields) → Whole f → NumbersFit f → fields_of (bytes_of f) ≡ f
 unfolding bytes_of fields_of little_endian
-fields_read f h =
-    fields_ext f _ _ _ _ _ _ _ _ _ _ _ _ _ _ _ refl refl refl refl refl refl refl refl (number_of_bytes 8 f.n1 h.fit1)
-    (number_of_bytes 8 f.n2 h.fit2) (number_of_bytes 8 f.n3 h.fit3) (number_of_bytes 8 f.n4 h.fit4)
-    (number_of_bytes 8 f.n5 h.fit5) (number_of_bytes 8 f.n6 h.fit6) (number_of_bytes 8 f.n7 h.fit7)
+fields_read f w h =
+    fields_ext f w _ _ _ _ _ _ _ _ _ _ _ _ _ _ _ refl refl refl refl refl refl refl refl (number_of_bytes 8 (slice_index f.numbers 0) h.fit1)
+    (number_of_bytes 8 (slice_index f.numbers 1) h.fit2) (number_of_bytes 8 (slice_index f.numbers 2) h.fit3) (number_of_bytes 8 (slice_index f.numbers 3) h.fit4)
+    (number_of_bytes 8 (slice_index f.numbers 4) h.fit5) (number_of_bytes 8 (slice_index f.numbers 5) h.fit6) (number_of_bytes 8 (slice_index f.numbers 6) h.fit7)
 
 -- ---- and what is read was so written
 

@@ -1,7 +1,7 @@
 -- The returns of the functions that put a line.
 use Rattle.std.specs.Prelude.{◌≡◌, ℕ, zero, suc, ◌+◌, ◌*◌, ◌<◌, ◌≤◌, min, Bool, true, false, leb, List, [], ◌∷◌, ◌++◌, length, get_or, take}
 use borrow.Author.Tests.{leb-false, leb-true}
-use lib.Seq.{take_all}
+use lib.Seq.{take-append-add, take-append_seam, take_all}
 use mathlib.Core.Path.{refl, sym, ap, ◌∙◌}
 use mathlib.Core.List.{append_assoc, append-nil}
 use native.Mathlib.Numerals.{add-one}
@@ -11,8 +11,7 @@ use Rattle.common.specs.Rows.{put_at}
 use Rattle.text.specs.Text.{hex}
 use Rattle.text.proofs.Puts.{put_none, put_then}
 use Rattle.text.proofs.TextLaws.{decimal_length, hex_length}
-use Rattle.call_log.specs.Lines.{line_bytes, part_bytes, parts_bytes}
-use Rattle.call_log.specs.declared.line.Cell.{Cell}
+use Rattle.call_log.specs.Lines.{line_bytes, part_bytes, said, said_line}
 use Rattle.call_log.specs.declared.line.Line.{Line}
 use Rattle.call_log.specs.declared.line.Part.{Part}
 use Rattle.call_log.specs.declared.line.Part.TheVariants.{Decimal, Word, Byte, Joined, Dash}
@@ -55,52 +54,57 @@ part_length Dash = omega arith
 
 -- ---- the parts of a line
 
-parts_suc : (cells : List Cell) (i : ℕ) (d : Cell) → i < length cells
-    → parts_bytes (take (suc i) cells) ≡ parts_bytes (take i cells) ++ part_bytes (get_or cells i d).part
-unfolding parts_bytes
+parts_suc : (parts : List Part) (i : ℕ) (d : Part) → i < length parts
+    → said (take (suc i) parts) ≡ said (take i parts) ++ part_bytes (get_or parts i d)
+unfolding said
 parts_suc [] i d h = absurd (omega (arith, h))
-parts_suc (c ∷ cells) zero d h = append-nil (part_bytes c.part)
-parts_suc (c ∷ cells) (suc i) d h =
-    ap (λ (l : List ℕ). part_bytes c.part ++ l) (parts_suc cells i d (omega (arith, h)))
-    ∙ sym (append_assoc (part_bytes c.part) (parts_bytes (take i cells)) (part_bytes (get_or cells i d).part))
+parts_suc (c ∷ parts) zero d h = append-nil (part_bytes c)
+parts_suc (c ∷ parts) (suc i) d h =
+    ap (λ (l : List ℕ). part_bytes c ++ l) (parts_suc parts i d (omega (arith, h)))
+    ∙ sym (append_assoc (part_bytes c) (said (take i parts)) (part_bytes (get_or parts i d)))
 
-pub parts_none : (o : List ℕ) (at : ℕ) (cells : List Cell) → (o ≡ put_at o at (parts_bytes (take 0 cells))) × (at ≡ at + length (parts_bytes (take 0 cells)))
-unfolding parts_bytes
-parts_none o at cells = (put_none o at, omega arith)
+pub parts_none : (o : List ℕ) (at : ℕ) (parts : List Part) → (o ≡ put_at o at (said (take 0 parts))) × (at ≡ at + length (said (take 0 parts)))
+unfolding said
+parts_none o at parts = (put_none o at, omega arith)
 
-pub parts_turn : (o p q : List ℕ) (at place r i : ℕ) (cells : List Cell) (d : Cell) → at ≤ length o → i < length cells
-    → p ≡ put_at o at (parts_bytes (take i cells)) → place ≡ at + length (parts_bytes (take i cells))
-    → q ≡ put_at p place (part_bytes (get_or cells i d).part) → r ≡ place + length (part_bytes (get_or cells i d).part)
-    → (q ≡ put_at o at (parts_bytes (take (i + 1) cells))) × (r ≡ at + length (parts_bytes (take (i + 1) cells)))
-parts_turn o p q at place r i cells d room h e l f m =
-    rw (add-one i, parts_suc cells i d h)
-    (put_then o p q (parts_bytes (take i cells)) (part_bytes (get_or cells i d).part) at place r room e l f m)
+pub parts_turn : (o p q : List ℕ) (at place r i : ℕ) (parts : List Part) (d : Part) → at ≤ length o → i < length parts
+    → p ≡ put_at o at (said (take i parts)) → place ≡ at + length (said (take i parts))
+    → q ≡ put_at p place (part_bytes (get_or parts i d)) → r ≡ place + length (part_bytes (get_or parts i d))
+    → (q ≡ put_at o at (said (take (i + 1) parts))) × (r ≡ at + length (said (take (i + 1) parts)))
+parts_turn o p q at place r i parts d room h e l f m =
+    rw (add-one i, parts_suc parts i d h)
+    (put_then o p q (said (take i parts)) (part_bytes (get_or parts i d)) at place r room e l f m)
 
-cells_most : (cells : List Cell) → length (parts_bytes cells) ≤ 21 * length cells
-unfolding parts_bytes
-cells_most [] = omega arith
-cells_most (c ∷ cells) = simp length-append (omega (arith, part_length c.part, cells_most cells))
+said_most : (parts : List Part) → length (said parts) ≤ 21 * length parts
+unfolding said
+said_most [] = omega arith
+said_most (c ∷ parts) = simp length-append (omega (arith, part_length c, said_most parts))
 
-pub parts_most : (n : ℕ) (cells : List Cell) (m : ℕ) → min n (length cells) ≤ m → length (parts_bytes (take n cells)) ≤ 21 * m
-parts_most n cells m h = omega (arith, cells_most (take n cells), length-take n cells)
+pub parts_most : (n : ℕ) (parts : List Part) (m : ℕ) → min n (length parts) ≤ m → length (said (take n parts)) ≤ 21 * m
+parts_most n parts m h = omega (arith, said_most (take n parts), length-take n parts)
 
--- a line has no more parts than cells
-pub parts_there : (n m : ℕ) (cells : List Cell) → length cells ≡ m → take (min n m) cells ≡ take n cells
-parts_there n m cells e = go (leb n m) refl
+-- a line has no more parts than parts
+pub parts_there : (n m : ℕ) (parts : List Part) → length parts ≡ m → take (min n m) parts ≡ take n parts
+parts_there n m parts e = go (leb n m) refl
   where
-    go : (b : Bool) → leb n m ≡ b → take (min n m) cells ≡ take n cells
+    go : (b : Bool) → leb n m ≡ b → take (min n m) parts ≡ take n parts
     go true h = let few : min n m ≡ n = omega (arith, leb-true n m h) in rw few
     go false h =
         let all : min n m ≡ m = omega (arith, leb-false n m h) in
-        rw all (take_all m cells (omega arith) ∙ sym (take_all n cells (omega (arith, leb-false n m h))))
+        rw all (take_all m parts (omega arith) ∙ sym (take_all n parts (omega (arith, leb-false n m h))))
 
-pub line_put : (o p q s : List ℕ) (at i j r n : ℕ) (line : Line) → length line.cells ≡ 14 → n ≡ min line.count 14 → at ≤ length o
+pub line_put : (o p q s : List ℕ) (at i j r n : ℕ) (line : Line) → length line.row ≡ 14 → n ≡ min line.count 14 → at ≤ length o
     → p ≡ put_at o at (line.letter ∷ []) → i ≡ at + 1
-    → q ≡ put_at p i (parts_bytes (take n line.cells)) → j ≡ i + length (parts_bytes (take n line.cells))
+    → q ≡ put_at p i (said (take n line.row)) → j ≡ i + length (said (take n line.row))
     → s ≡ put_at q j (10 ∷ []) → r ≡ j + 1
     → (s ≡ put_at o at (line_bytes line)) × (r ≡ at + length (line_bytes line))
-unfolding line_bytes
+unfolding line_bytes said_line
 line_put o p q s at i j r n line whole few h e l f m g d =
-    let parts : take n line.cells ≡ take line.count line.cells = rw few (parts_there line.count 14 line.cells whole) in
-    let two = byte_then o p q (parts_bytes (take n line.cells)) at i j line.letter h e l f m in
-    rw (← parts) (put_then o q s (line.letter ∷ parts_bytes (take n line.cells)) (10 ∷ []) at j r h two.0 two.1 g d)
+    let parts : take n line.row ≡ take line.count line.row = rw few (parts_there line.count 14 line.row whole) in
+    let two = byte_then o p q (said (take n line.row)) at i j line.letter h e l f m in
+    rw (← parts) (put_then o q s (line.letter ∷ said (take n line.row)) (10 ∷ []) at j r h two.0 two.1 g d)
+
+-- three parts and then some more, of a row that goes on
+pub three_more : (a b c : Part) (values rest : List Part) → take (3 + length values) (a ∷ b ∷ c ∷ (values ++ rest)) ≡ a ∷ b ∷ c ∷ values
+three_more a b c values rest =
+    take-append-add (a ∷ b ∷ c ∷ []) (values ++ rest) (length values) ∙ ap (λ (l : List Part). a ∷ b ∷ c ∷ l) (take-append_seam values rest)

@@ -4,7 +4,6 @@ use Rattle.controller.specs.Readers.{free_count}
 use Rattle.descriptor.specs.declared.qtd.QueueTransferDescriptor.{QueueTransferDescriptor}
 use Rattle.state.specs.Plain.{Ehci}
 use Rattle.text.specs.Text.{decimal, hex}
-use Rattle.call_log.specs.declared.line.Cell.{Cell}
 use Rattle.call_log.specs.declared.line.Line.{Line}
 use Rattle.call_log.specs.declared.lines.Seen.{Seen}
 use Rattle.call_log.specs.declared.line.Part.{Part}
@@ -19,20 +18,17 @@ part_bytes (Byte n) = 32 ∷ hex n 2
 part_bytes (Joined n) = hex n 2
 part_bytes Dash = 32 ∷ 45 ∷ []
 
-unfoldable pub parts_bytes : List Cell → List ℕ
-parts_bytes [] = []
-parts_bytes (cell ∷ cells) = part_bytes cell.part ++ parts_bytes cells
-
-unfoldable pub line_bytes : Line → List ℕ
-line_bytes line = line.letter ∷ (parts_bytes (take line.count line.cells) ++ (10 ∷ []))
-
 -- some parts, as a line
-abbrev pub said : List Part → List ℕ
+unfoldable pub said : List Part → List ℕ
 said [] = []
 said (part ∷ parts) = part_bytes part ++ said parts
 
 unfoldable pub said_line : ℕ → List Part → List ℕ
 said_line letter parts = letter ∷ (said parts ++ (10 ∷ []))
+
+-- a line has the first so many parts of its row
+unfoldable pub line_bytes : Line → List ℕ
+line_bytes line = said_line line.letter (take line.count line.row)
 
 -- ---- the lines: a letter, its parts each after a space, and the line's end
 

@@ -1,14 +1,14 @@
 -- The calls of a log: how each is written as a record, and which record says which call.
-use Rattle.std.specs.Prelude.{◌≡◌, ℕ, ◌%◌, ◌^◌, ◌<◌, Bool, true, false, cond, ◌&&◌, List, length, ◌==◌, nat_le, nat_lt}
+use Rattle.std.specs.Prelude.{◌≡◌, ℕ, ◌%◌, ◌^◌, ◌<◌, Bool, true, false, cond, ◌&&◌, Option, Some, None, List, [], ◌∷◌, length, slice_index, ◌==◌, nat_le, nat_lt}
 use Rattle.controller.specs.declared.lent.Readings.{Readings}
 use Rattle.ehci.specs.declared.call.Call.{Call}
 use Rattle.ehci.specs.declared.call.Call.TheVariants as C
 use Rattle.pipe.specs.Endpoints.{direction_number, direction_of, flag_number, flag_of, kind_number, kind_of}
 use Rattle.settings.specs.declared.settings.Settings.{Settings}
-use Rattle.call_log.specs.Fields.{bytes_of, bytes_spare, fields_of, numbers_spare}
+use Rattle.call_log.specs.Fields.{bytes_of, fields_of, zero_after}
 use Rattle.call_log.specs.declared.fields.Fields.{Fields}
 use Rattle.call_log.specs.declared.record.Entry.{Entry}
-use Rattle.call_log.specs.declared.record.Entry.TheVariants.{Open, Call as ACall, StartScan, ScanStep, PortPower, Bad}
+use Rattle.call_log.specs.declared.record.Entry.TheVariants.{Open, Call as ACall, StartScan, ScanStep, PortPower}
 
 -- ---- the writer: the call's number, b1 b2 b3, n1 n2 n3 n4; the others are 0
 
@@ -16,20 +16,8 @@ abbrev pub row : ℕ → ℕ → ℕ → ℕ → ℕ → ℕ → ℕ → ℕ →
 row number b1 b2 b3 n1 n2 n3 n4 =
     record {
       number = number;
-      b1 = b1;
-      b2 = b2;
-      b3 = b3;
-      b4 = 0;
-      b5 = 0;
-      b6 = 0;
-      b7 = 0;
-      n1 = n1;
-      n2 = n2;
-      n3 = n3;
-      n4 = n4;
-      n5 = 0;
-      n6 = 0;
-      n7 = 0;
+      bytes = b1 ∷ b2 ∷ b3 ∷ 0 ∷ 0 ∷ 0 ∷ 0 ∷ [];
+      numbers = n1 ∷ n2 ∷ n3 ∷ n4 ∷ 0 ∷ 0 ∷ 0 ∷ [];
     }
 
 unfoldable pub call_fields : Call → Fields
@@ -55,26 +43,13 @@ unfoldable pub fields_for : Entry → Fields
 fields_for (Open s) =
     record {
       number = 1;
-      b1 = s.endpoints;
-      b2 = s.ports;
-      b3 = 0;
-      b4 = 0;
-      b5 = 0;
-      b6 = 0;
-      b7 = 0;
-      n1 = s.descriptors;
-      n2 = s.limit;
-      n3 = s.wait;
-      n4 = s.pool;
-      n5 = s.heads;
-      n6 = s.frames;
-      n7 = s.setups;
+      bytes = s.endpoints ∷ s.ports ∷ 0 ∷ 0 ∷ 0 ∷ 0 ∷ 0 ∷ [];
+      numbers = s.descriptors ∷ s.limit ∷ s.wait ∷ s.pool ∷ s.heads ∷ s.frames ∷ s.setups ∷ [];
     }
 fields_for (ACall call) = call_fields call
 fields_for StartScan = row 18 0 0 0 0 0 0 0
 fields_for (ScanStep reading) = row 19 0 0 0 reading 0 0 0
 fields_for (PortPower port reading) = row 20 port 0 0 reading 0 0 0
-fields_for Bad = row 0 0 0 0 0 0 0 0
 
 -- the record of an entry that has one
 unfoldable pub record_of : Entry → List ℕ
@@ -82,95 +57,95 @@ record_of e = bytes_of (fields_for e)
 
 -- ---- the reader
 
-abbrev pub guarded : Bool → Entry → Entry
-guarded true e = e
-guarded false e = Bad
+abbrev pub guarded : {A : Type 0} → Bool → A → Option A
+guarded true x = Some x
+guarded false x = None
 
 abbrev pub spare : Fields → ℕ → ℕ → Bool
-spare f bytes numbers = bytes_spare f bytes && numbers_spare f numbers
+spare f bytes numbers = zero_after bytes f.bytes && zero_after numbers f.numbers
 
 abbrev pub is_word : ℕ → Bool
 is_word n = nat_lt n (2 ^ 32)
 
-unfoldable pub plain : Fields → Entry → Entry
+unfoldable pub plain : Fields → Entry → Option Entry
 plain f e = guarded (spare f 0 0) e
 
 abbrev pub settings_of : Fields → Settings
 settings_of f =
     record {
-      descriptors = f.n1;
-      endpoints = f.b1;
-      ports = f.b2;
-      limit = f.n2;
-      wait = f.n3;
-      pool = f.n4;
-      heads = f.n5;
-      frames = f.n6;
-      setups = f.n7;
+      descriptors = slice_index f.numbers 0;
+      endpoints = slice_index f.bytes 0;
+      ports = slice_index f.bytes 1;
+      limit = slice_index f.numbers 1;
+      wait = slice_index f.numbers 2;
+      pool = slice_index f.numbers 3;
+      heads = slice_index f.numbers 4;
+      frames = slice_index f.numbers 5;
+      setups = slice_index f.numbers 6;
     }
 
-unfoldable pub open_entry : Fields → Entry
+unfoldable pub open_entry : Fields → Option Entry
 open_entry f = guarded (spare f 2 7) (Open (settings_of f))
 
-unfoldable pub bring_up_step : Fields → Entry
-bring_up_step f = guarded (spare f 0 1 && is_word f.n1) (ACall (C.BringUpStep (f.n1 % 2 ^ 32)))
+unfoldable pub bring_up_step : Fields → Option Entry
+bring_up_step f = guarded (spare f 0 1 && is_word (slice_index f.numbers 0)) (ACall (C.BringUpStep ((slice_index f.numbers 0) % 2 ^ 32)))
 
-unfoldable pub open_endpoint : Fields → Entry
+unfoldable pub open_endpoint : Fields → Option Entry
 open_endpoint f =
-    guarded (spare f 3 1 && nat_le f.b1 3 && nat_lt f.n1 (2 ^ 16))
-    (ACall (C.OpenEndpoint (record { kind = kind_of f.b1; address = f.b2; number = f.b3; packet = f.n1 % 2 ^ 16 })))
+    guarded (spare f 3 1 && nat_le (slice_index f.bytes 0) 3 && nat_lt (slice_index f.numbers 0) (2 ^ 16))
+    (ACall (C.OpenEndpoint (record { kind = kind_of (slice_index f.bytes 0); address = slice_index f.bytes 1; number = slice_index f.bytes 2; packet = (slice_index f.numbers 0) % 2 ^ 16 })))
 
-unfoldable pub close : Fields → Entry
-close f = guarded (spare f 1 0) (ACall (C.Close f.b1))
+unfoldable pub close : Fields → Option Entry
+close f = guarded (spare f 1 0) (ACall (C.Close (slice_index f.bytes 0)))
 
-unfoldable pub set_address : Fields → Entry
-set_address f = guarded (spare f 2 0) (ACall (C.SetAddress f.b1 f.b2))
+unfoldable pub set_address : Fields → Option Entry
+set_address f = guarded (spare f 2 0) (ACall (C.SetAddress (slice_index f.bytes 0) (slice_index f.bytes 1)))
 
-unfoldable pub set_packet_size : Fields → Entry
-set_packet_size f = guarded (spare f 2 0) (ACall (C.SetPacketSize f.b1 f.b2))
+unfoldable pub set_packet_size : Fields → Option Entry
+set_packet_size f = guarded (spare f 2 0) (ACall (C.SetPacketSize (slice_index f.bytes 0) (slice_index f.bytes 1)))
 
-unfoldable pub submit : Fields → Entry
+unfoldable pub submit : Fields → Option Entry
 submit f =
-    guarded (spare f 3 4 && nat_le f.b2 3 && nat_le f.b3 1 && (nat_lt f.n1 (2 ^ 48) && is_word f.n4))
+    guarded (spare f 3 4 && nat_le (slice_index f.bytes 1) 3 && nat_le (slice_index f.bytes 2) 1 && (nat_lt (slice_index f.numbers 0) (2 ^ 48) && is_word (slice_index f.numbers 3)))
     (ACall
-    (C.Submit f.b1
-    (record { kind = kind_of f.b2; direction = direction_of f.b3; setup = f.n1; address = f.n2; length = f.n3 })
-    (record { command = f.n4 % 2 ^ 32; frame = 0; overlay = 0 })))
+    (C.Submit (slice_index f.bytes 0)
+    (record { kind = kind_of (slice_index f.bytes 1); direction = direction_of (slice_index f.bytes 2); setup = slice_index f.numbers 0; address = slice_index f.numbers 1; length = (slice_index f.numbers 2) })
+    (record { command = (slice_index f.numbers 3) % 2 ^ 32; frame = 0; overlay = 0 })))
 
-unfoldable pub writeback : Fields → Entry
-writeback f = guarded (spare f 0 2 && is_word f.n2) (ACall (C.Writeback f.n1 (f.n2 % 2 ^ 32)))
+unfoldable pub writeback : Fields → Option Entry
+writeback f = guarded (spare f 0 2 && is_word (slice_index f.numbers 1)) (ACall (C.Writeback (slice_index f.numbers 0) ((slice_index f.numbers 1) % 2 ^ 32)))
 
 -- USBCMD and FRINDEX, n2 and n3; with the overlay's token
 abbrev pub readings_of : Fields → ℕ → Readings
-readings_of f overlay = record { command = f.n2 % 2 ^ 32; frame = f.n3 % 2 ^ 32; overlay = overlay }
+readings_of f overlay = record { command = (slice_index f.numbers 1) % 2 ^ 32; frame = (slice_index f.numbers 2) % 2 ^ 32; overlay = overlay }
 
-unfoldable pub cancel : Fields → Entry
-cancel f = guarded (spare f 1 3 && is_word f.n2 && is_word f.n3) (ACall (C.Cancel f.b1 f.n1 (readings_of f 0)))
+unfoldable pub cancel : Fields → Option Entry
+cancel f = guarded (spare f 1 3 && is_word (slice_index f.numbers 1) && is_word (slice_index f.numbers 2)) (ACall (C.Cancel (slice_index f.bytes 0) (slice_index f.numbers 0) (readings_of f 0)))
 
 -- the overlay's token is n4
-unfoldable pub collect : Fields → Entry
+unfoldable pub collect : Fields → Option Entry
 collect f =
-    guarded (spare f 1 4 && is_word f.n2 && is_word f.n3 && is_word f.n4)
-    (ACall (C.Collect f.b1 f.n1 (readings_of f (f.n4 % 2 ^ 32))))
+    guarded (spare f 1 4 && is_word (slice_index f.numbers 1) && is_word (slice_index f.numbers 2) && is_word (slice_index f.numbers 3))
+    (ACall (C.Collect (slice_index f.bytes 0) (slice_index f.numbers 0) (readings_of f ((slice_index f.numbers 3) % 2 ^ 32))))
 
-unfoldable pub acknowledge : Fields → Entry
+unfoldable pub acknowledge : Fields → Option Entry
 acknowledge f =
-    guarded (spare f 2 2 && (nat_le f.b1 1 && nat_le f.b2 1) && is_word f.n1 && is_word f.n2)
-    (ACall (C.Acknowledge (record { status = f.n1 % 2 ^ 32; interrupts = f.n2 % 2 ^ 32; flag = flag_of f.b1; again = flag_of f.b2 })))
+    guarded (spare f 2 2 && (nat_le (slice_index f.bytes 0) 1 && nat_le (slice_index f.bytes 1) 1) && is_word (slice_index f.numbers 0) && is_word (slice_index f.numbers 1))
+    (ACall (C.Acknowledge (record { status = (slice_index f.numbers 0) % 2 ^ 32; interrupts = (slice_index f.numbers 1) % 2 ^ 32; flag = flag_of (slice_index f.bytes 0); again = flag_of (slice_index f.bytes 1) })))
 
-unfoldable pub drain : Fields → Entry
-drain f = guarded (spare f 0 1 && is_word f.n1) (ACall (C.Drain (f.n1 % 2 ^ 32)))
+unfoldable pub drain : Fields → Option Entry
+drain f = guarded (spare f 0 1 && is_word (slice_index f.numbers 0)) (ACall (C.Drain ((slice_index f.numbers 0) % 2 ^ 32)))
 
-unfoldable pub scan_step : Fields → Entry
-scan_step f = guarded (spare f 0 1 && is_word f.n1) (ScanStep (f.n1 % 2 ^ 32))
+unfoldable pub scan_step : Fields → Option Entry
+scan_step f = guarded (spare f 0 1 && is_word (slice_index f.numbers 0)) (ScanStep ((slice_index f.numbers 0) % 2 ^ 32))
 
-unfoldable pub port_power : Fields → Entry
-port_power f = guarded (spare f 1 1 && is_word f.n1) (PortPower f.b1 (f.n1 % 2 ^ 32))
+unfoldable pub port_power : Fields → Option Entry
+port_power f = guarded (spare f 1 1 && is_word (slice_index f.numbers 0)) (PortPower (slice_index f.bytes 0) ((slice_index f.numbers 0) % 2 ^ 32))
 
-unfoldable pub clear_halt : Fields → Entry
-clear_halt f = guarded (spare f 1 0) (ACall (C.ClearHalt f.b1))
+unfoldable pub clear_halt : Fields → Option Entry
+clear_halt f = guarded (spare f 1 0) (ACall (C.ClearHalt (slice_index f.bytes 0)))
 
-unfoldable pub judged_as : ℕ → Fields → Entry
+unfoldable pub judged_as : ℕ → Fields → Option Entry
 judged_as n f =
     cond (n == 1) (open_entry f)
     (cond (n == 2) (plain f (ACall C.StartBringUp))
@@ -193,13 +168,13 @@ judged_as n f =
     (cond (n == 19) (scan_step f)
     (cond (n == 20) (port_power f)
     (cond (n == 21) (clear_halt f)
-    Bad))))))))))))))))))))
+    None))))))))))))))))))))
 
-abbrev pub entry_from : Fields → Entry
+abbrev pub entry_from : Fields → Option Entry
 entry_from f = judged_as f.number f
 
-unfoldable pub entry_of : List ℕ → Entry
-entry_of bs = cond (length bs == 64) (entry_from (fields_of bs)) Bad
+unfoldable pub entry_of : List ℕ → Option Entry
+entry_of bs = cond (length bs == 64) (entry_from (fields_of bs)) None
 
 -- ---- entries that have a record
 
@@ -229,17 +204,16 @@ Own (ACall call) = OwnCall call
 Own StartScan = Unit
 Own (ScanStep reading) = reading < 2 ^ 32
 Own (PortPower port reading) = reading < 2 ^ 32
-Own Bad = ⊥
 
 -- the seven numbers fit 64 bits
 pub record NumbersFit (f : Fields) : Type 0 where
-  pub fit1 : f.n1 < 2 ^ 64
-  pub fit2 : f.n2 < 2 ^ 64
-  pub fit3 : f.n3 < 2 ^ 64
-  pub fit4 : f.n4 < 2 ^ 64
-  pub fit5 : f.n5 < 2 ^ 64
-  pub fit6 : f.n6 < 2 ^ 64
-  pub fit7 : f.n7 < 2 ^ 64
+  pub fit1 : (slice_index f.numbers 0) < 2 ^ 64
+  pub fit2 : (slice_index f.numbers 1) < 2 ^ 64
+  pub fit3 : (slice_index f.numbers 2) < 2 ^ 64
+  pub fit4 : (slice_index f.numbers 3) < 2 ^ 64
+  pub fit5 : (slice_index f.numbers 4) < 2 ^ 64
+  pub fit6 : (slice_index f.numbers 5) < 2 ^ 64
+  pub fit7 : (slice_index f.numbers 6) < 2 ^ 64
 
 pub record Representable (e : Entry) : Type 0 where
   pub numbers : NumbersFit (fields_for e)

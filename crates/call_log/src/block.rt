@@ -30,62 +30,15 @@ pub struct Rows {
     pub ports: [u8; 15],
 }
 
-fn put_head_rows(out: &mut [u8], at: usize, before: [u32; 561], after: [u32; 561]) -> usize
-    requires { at + 30029 ≤ length out.old }
-    ensures out_after { out.new ≡ put_at out.old at (head_lines before after) }
-    ensures value { result ≡ at + length (head_lines before after) }
-{
-    put_heads(out, at, &before, &after)
-}
-
-fn put_frame_rows(out: &mut [u8], at: usize, before: [u32; 1024], after: [u32; 1024]) -> usize
-    requires { at + 54568 ≤ length out.old }
-    ensures out_after { out.new ≡ put_at out.old at (frame_lines before after) }
-    ensures value { result ≡ at + length (frame_lines before after) }
-{
-    put_frames(out, at, &before, &after)
-}
-
-fn put_setup_rows(out: &mut [u8], at: usize, before: [u8; 256], after: [u8; 256]) -> usize
-    requires { at + 1576 ≤ length out.old }
-    ensures out_after { out.new ≡ put_at out.old at (setup_lines 32 before after) }
-    ensures value { result ≡ at + length (setup_lines 32 before after) }
-{
-    put_setups(out, at, 32, &before, &after)
-}
-
-pub fn put_rows(out: &mut [u8], at: usize, before: Rows, after: Rows) -> usize
+pub fn put_rows(out: &mut [u8], at: usize, before: &Rows, after: &Rows) -> usize
     requires { at + 121561 ≤ length out.old }
-    ensures out_after { out.new ≡ put_at out.old at (rows_lines before after) }
-    ensures value { result ≡ at + length (rows_lines before after) }
+    ensures out_after { out.new ≡ put_at out.old at (rows_lines before.now after.now) }
+    ensures value { result ≡ at + length (rows_lines before.now after.now) }
 {
-    let old_pool = before.pool;
-    let new_pool = after.pool;
-    let heads = put_records(out, at, old_pool, new_pool);
-    let old_heads = before.heads;
-    let new_heads = after.heads;
-    let frames = put_head_rows(out, heads, old_heads, new_heads);
-    let old_frames = before.frames;
-    let new_frames = after.frames;
-    let setups = put_frame_rows(out, frames, old_frames, new_frames);
-    let old_setups = before.setups;
-    let new_setups = after.setups;
-    put_setup_rows(out, setups, old_setups, new_setups)
-}
-
-fn put_port_rows(
-    out: &mut [u8],
-    at: usize,
-    opening: bool,
-    ports: u8,
-    before: [u8; 15],
-    after: [u8; 15],
-) -> usize
-    requires { at + 956 ≤ length out.old }
-    ensures out_after { out.new ≡ put_at out.old at (port_lines opening ports before after) }
-    ensures value { result ≡ at + length (port_lines opening ports before after) }
-{
-    put_ports(out, at, opening, ports, &before, &after)
+    let heads = put_records(out, at, &before.pool, &after.pool);
+    let frames = put_heads(out, heads, &before.heads, &after.heads);
+    let setups = put_frames(out, frames, &before.frames, &after.frames);
+    put_setups(out, setups, 32, &before.setups, &after.setups)
 }
 
 // The controller's line, once one is opened.
@@ -127,30 +80,28 @@ pub fn put_block(
     out: &mut [u8],
     first: Line,
     opening: bool,
-    before: Rows,
-    after: Rows,
+    before: &Rows,
+    after: &Rows,
     opened: bool,
     core: Core,
     writes: Writes,
 ) -> usize
     requires { 131072 ≤ length out.old }
     ensures by_index { (ws : List ℕ) → (opened ≡ true → Shows core ws)
-        → out.new ≡ put_at out.old 0 (block_of (line_bytes first) opening before after opened (view core ws) writes) }
+        → out.new ≡ put_at out.old 0 (block_of (line_bytes first) opening before.now after.now opened (view core ws) writes) }
     ensures by_index_2 { (ws : List ℕ) → (opened ≡ true → Shows core ws)
-        → result ≡ length (block_of (line_bytes first) opening before after opened (view core ws) writes) }
+        → result ≡ length (block_of (line_bytes first) opening before.now after.now opened (view core ws) writes) }
     ensures upper_bound { result ≤ length out.new }
 {
     let rows = put_line(out, 0, first);
     let ports = put_rows(out, rows, before, after);
-    let old_ports = before.ports;
-    let new_ports = after.ports;
-    let rest = put_port_rows(
+    let rest = put_ports(
         out,
         ports,
         opening,
         core.settings.ports,
-        old_ports,
-        new_ports,
+        &before.ports,
+        &after.ports,
     );
     put_rest(out, rest, opened, core, writes)
 }

@@ -1,5 +1,5 @@
 // The first line of a block: the record's number, the call's, its answer, and what the answer gives.
-ghost use Rattle.std.specs.Prelude.{◌≡◌, [], ◌∷◌};
+ghost use Rattle.std.specs.Prelude.{◌≡◌, ◌≤◌, [], ◌∷◌, length};
 ghost use Rattle.text.specs.Text.{decimal};
 ghost use Rattle.ehci.specs.Replies.{event_value};
 ghost use Rattle.root_hub.specs.Ports.{port_event_number};
@@ -13,44 +13,38 @@ ghost use Rattle.call_log.specs.CallLine.{
 };
 ghost use Rattle.call_log.specs.Lines.{line_bytes, said_line};
 
-use crate::line::{Cell, Line, Part};
-use crate::lines::line_of_three;
+use crate::line::{Line, Part};
 use ehci::reply::{Answered, Given, event_number};
 use root_hub::ports::{PortEvent, event_port};
 use common::answer::Refusal;
 use interrupt::answers::Event;
 
+// The record's number, the call's, its answer, and what the answer gives.
+fn line_with(n: u64, call: u8, answer: u8, values: &[Part]) -> Line
+    requires { length values.now ≤ 11 }
+    ensures { line_bytes result ≡ said_line 67 (Part.Decimal n ∷ Part.Decimal call ∷ Part.Decimal answer ∷ values.now) }
+{
+    let mut parts = [Part::Dash; 14];
+    parts[0] = Part::Decimal(n);
+    parts[1] = Part::Decimal(call as u64);
+    parts[2] = Part::Decimal(answer as u64);
+    let end = 3 + values.len();
+    parts[3..end].copy_from_slice(values);
+    Line::of(b'C', &parts[..end])
+}
+
 // An answer that gives nothing.
 fn bare_line(n: u64, call: u8, answer: u8) -> Line
     ensures { line_bytes result ≡ call_line n call answer [] }
 {
-    line_of_three(
-        b'C',
-        Part::Decimal(n),
-        Part::Decimal(call as u64),
-        Part::Decimal(answer as u64),
-    )
+    line_with(n, call, answer, &[])
 }
 
-fn line_with(n: u64, call: u8, answer: u8, value: Part) -> Line
-    ensures { line_bytes result ≡ said_line 67 (Part.Decimal n ∷ Part.Decimal call ∷ Part.Decimal answer ∷ value ∷ []) }
+// One number with 0.
+fn line_with_one(n: u64, call: u8, value: u64) -> Line
+    ensures { line_bytes result ≡ call_line n call 0 (decimal value ∷ []) }
 {
-    let mut cells = [Cell { part: Part::Dash }; 14];
-    cells[0] = Cell {
-        part: Part::Decimal(n),
-    };
-    cells[1] = Cell {
-        part: Part::Decimal(call as u64),
-    };
-    cells[2] = Cell {
-        part: Part::Decimal(answer as u64),
-    };
-    cells[3] = Cell { part: value };
-    Line {
-        letter: b'C',
-        count: 4,
-        cells,
-    }
+    line_with(n, call, 0, &[Part::Decimal(value)])
 }
 
 fn event_value(event: Event) -> u64
@@ -68,27 +62,7 @@ fn event_value(event: Event) -> u64
 fn line_with_two(n: u64, call: u8, first: u64, second: u64) -> Line
     ensures { line_bytes result ≡ call_line n call 0 (decimal first ∷ decimal second ∷ []) }
 {
-    let mut cells = [Cell { part: Part::Dash }; 14];
-    cells[0] = Cell {
-        part: Part::Decimal(n),
-    };
-    cells[1] = Cell {
-        part: Part::Decimal(call as u64),
-    };
-    cells[2] = Cell {
-        part: Part::Decimal(0),
-    };
-    cells[3] = Cell {
-        part: Part::Decimal(first),
-    };
-    cells[4] = Cell {
-        part: Part::Decimal(second),
-    };
-    Line {
-        letter: b'C',
-        count: 5,
-        cells,
-    }
+    line_with(n, call, 0, &[Part::Decimal(first), Part::Decimal(second)])
 }
 
 fn register_part(read: Option<u32>) -> Part
@@ -104,31 +78,17 @@ fn register_part(read: Option<u32>) -> Part
 fn step_line(n: u64, call: u8, read: Part, wait: u32, event: u8, port: u8) -> Line
     ensures { line_bytes result ≡ said_line 67 (Part.Decimal n ∷ Part.Decimal call ∷ Part.Decimal 0 ∷ read ∷ Part.Decimal wait ∷ Part.Decimal event ∷ Part.Decimal port ∷ []) }
 {
-    let mut cells = [Cell { part: Part::Dash }; 14];
-    cells[0] = Cell {
-        part: Part::Decimal(n),
-    };
-    cells[1] = Cell {
-        part: Part::Decimal(call as u64),
-    };
-    cells[2] = Cell {
-        part: Part::Decimal(0),
-    };
-    cells[3] = Cell { part: read };
-    cells[4] = Cell {
-        part: Part::Decimal(wait as u64),
-    };
-    cells[5] = Cell {
-        part: Part::Decimal(event as u64),
-    };
-    cells[6] = Cell {
-        part: Part::Decimal(port as u64),
-    };
-    Line {
-        letter: b'C',
-        count: 7,
-        cells,
-    }
+    line_with(
+        n,
+        call,
+        0,
+        &[
+            read,
+            Part::Decimal(wait as u64),
+            Part::Decimal(event as u64),
+            Part::Decimal(port as u64),
+        ],
+    )
 }
 
 fn given_line(n: u64, call: u8, given: Given) -> Line
@@ -136,12 +96,12 @@ fn given_line(n: u64, call: u8, given: Given) -> Line
 {
     match given {
         Given::Nothing => bare_line(n, call, 0),
-        Given::Slot(slot) => line_with(n, call, 0, Part::Decimal(slot as u64)),
-        Given::Address(address) => line_with(n, call, 0, Part::Decimal(address as u64)),
-        Given::Id(id) => line_with(n, call, 0, Part::Decimal(id)),
+        Given::Slot(slot) => line_with_one(n, call, slot as u64),
+        Given::Address(address) => line_with_one(n, call, address as u64),
+        Given::Id(id) => line_with_one(n, call, id),
         Given::Length(length, retried) => line_with_two(n, call, length, retried as u64),
-        Given::No => line_with(n, call, 0, Part::Decimal(0)),
-        Given::Yes => line_with(n, call, 0, Part::Decimal(1)),
+        Given::No => line_with_one(n, call, 0),
+        Given::Yes => line_with_one(n, call, 1),
         Given::Event(event) => line_with_two(n, call, event_number(event), event_value(event)),
         Given::Next(read, wait) => step_line(n, call, register_part(read), wait, 0, 0),
     }
@@ -154,7 +114,7 @@ pub fn call_line(n: u64, call: u8, answered: Result<Answered, Refusal>) -> Line
         Ok(Answered::Done(given)) => given_line(n, call, given),
         Ok(Answered::Pending) => bare_line(n, call, 9),
         Ok(Answered::Cancelled) => bare_line(n, call, 10),
-        Ok(Answered::Failed(token)) => line_with(n, call, 11, Part::Word(token)),
+        Ok(Answered::Failed(token)) => line_with(n, call, 11, &[Part::Word(token)]),
         Err(refusal) => bare_line(n, call, refusal.number()),
     }
 }

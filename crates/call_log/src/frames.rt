@@ -59,13 +59,11 @@ pub fn put_frames(out: &mut [u8], at: usize, before: &[u32], after: &[u32]) -> u
 {
     let mut place = at;
     let mut first = 0;
-    let mut i = 0;
-    while i < after.len() {
+    for i in 0..after.len() {
         let on = goes_on(before, after, i);
         let ends = run_ends(before, after, i, on);
         place = put_frame(out, place, ends, first, i, after[i]);
         first = next_first(on, first, i);
-        i += 1;
     }
     place
 }

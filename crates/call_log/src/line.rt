@@ -1,12 +1,12 @@
 // A line: a letter, parts, and the line's end.
-ghost use Rattle.std.specs.Prelude.{◌≡◌, ◌+◌, ◌*◌, ◌≤◌, min, [], ◌∷◌, length, take};
+ghost use Rattle.std.specs.Prelude.{◌≡◌, ◌+◌, ◌*◌, ◌≤◌, [], ◌∷◌, length};
 ghost use Rattle.common.specs.Rows.{put_at};
 ghost use Rattle.text.specs.Text.{hex};
-ghost use Rattle.call_log.specs.Lines.{line_bytes, part_bytes, parts_bytes};
+ghost use Rattle.call_log.specs.Lines.{line_bytes, part_bytes, said, said_line};
 
 use text::digits::{put, put_decimal, put_hex};
 
-pub const PARTS: usize = 14;
+const PARTS: usize = 14;
 
 // Each after a space but `Joined`, which goes on with the bytes before it.
 #[derive(Clone, Copy)]
@@ -18,16 +18,27 @@ pub enum Part {
     Dash,
 }
 
-#[derive(Clone, Copy)]
-pub struct Cell {
-    pub part: Part,
-}
-
+// Fixed memory: the parts are the first `count` of the row.
 #[derive(Clone, Copy)]
 pub struct Line {
-    pub letter: u8,
-    pub count: usize,
-    pub cells: [Cell; 14],
+    letter: u8,
+    count: usize,
+    row: [Part; 14],
+}
+
+impl Line {
+    pub fn of(letter: u8, parts: &[Part]) -> Line
+        requires { length parts.now ≤ 14 }
+        ensures { line_bytes result ≡ said_line letter parts.now }
+    {
+        let mut row = [Part::Dash; 14];
+        row[..parts.len()].copy_from_slice(parts);
+        Line {
+            letter,
+            count: parts.len(),
+            row,
+        }
+    }
 }
 
 fn put_spaced_decimal(out: &mut [u8], at: usize, n: u64) -> usize
@@ -72,28 +83,16 @@ fn put_part(out: &mut [u8], at: usize, part: Part) -> usize
     }
 }
 
-fn put_parts(out: &mut [u8], at: usize, cells: [Cell; 14], count: usize) -> usize
-    requires count_bound { count ≤ 14 }
-    requires count_in_bounds { at + 21 * count ≤ length out.old }
-    ensures out_after { out.new ≡ put_at out.old at (parts_bytes (take count cells)) }
-    ensures value { result ≡ at + length (parts_bytes (take count cells)) }
+fn put_parts(out: &mut [u8], at: usize, parts: &[Part]) -> usize
+    requires { at + 21 * length parts.now ≤ length out.old }
+    ensures out_after { out.new ≡ put_at out.old at (said parts.now) }
+    ensures value { result ≡ at + length (said parts.now) }
 {
     let mut place = at;
-    let mut i = 0;
-    while i < count {
-        let cell = cells[i];
-        let part = cell.part;
-        place = put_part(out, place, part);
-        i += 1;
+    for part in parts {
+        place = put_part(out, place, *part);
     }
     place
-}
-
-// No more than there are.
-pub fn least(n: usize, most: usize) -> usize
-    ensures { result ≡ min n most }
-{
-    if n < most { n } else { most }
 }
 
 pub fn put_line(out: &mut [u8], at: usize, line: Line) -> usize
@@ -101,8 +100,7 @@ pub fn put_line(out: &mut [u8], at: usize, line: Line) -> usize
     ensures out_after { out.new ≡ put_at out.old at (line_bytes line) }
     ensures value { result ≡ at + length (line_bytes line) }
 {
-    let cells = line.cells;
     let first = put(out, at, line.letter);
-    let last = put_parts(out, first, cells, least(line.count, PARTS));
+    let last = put_parts(out, first, &line.row[..line.count.min(PARTS)]);
     put(out, last, b'\n')
 }

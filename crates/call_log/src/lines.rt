@@ -1,180 +1,97 @@
 // The lines of a block but the first: rows, ports, the controller, register writes.
-ghost use Rattle.std.specs.Prelude.{◌≡◌, [], ◌∷◌, ◌++◌};
+ghost use Rattle.std.specs.Prelude.{◌≡◌};
 ghost use Rattle.call_log.specs.Lines.{
   frame_line,
   head_line,
   line_bytes,
   port_line,
   record_line,
-  said_line,
   setup_line,
   shown_line,
   write_line,
 };
 ghost use Rattle.call_log.specs.Words.{shown_in};
 
-use crate::line::{Cell, Line, Part};
+use crate::line::{Line, Part};
 use controller::readers::free_count;
 use descriptor::qtd::QueueTransferDescriptor;
 use words::cores::Core;
 
-pub fn line_of_two(letter: u8, a: Part, b: Part) -> Line
-    ensures { line_bytes result ≡ said_line letter (a ∷ b ∷ []) }
-{
-    let mut cells = [Cell { part: Part::Dash }; 14];
-    cells[0] = Cell { part: a };
-    cells[1] = Cell { part: b };
-    Line {
-        letter,
-        count: 2,
-        cells,
-    }
-}
-
-pub fn line_of_three(letter: u8, a: Part, b: Part, c: Part) -> Line
-    ensures { line_bytes result ≡ said_line letter (a ∷ b ∷ c ∷ []) }
-{
-    let mut cells = [Cell { part: Part::Dash }; 14];
-    cells[0] = Cell { part: a };
-    cells[1] = Cell { part: b };
-    cells[2] = Cell { part: c };
-    Line {
-        letter,
-        count: 3,
-        cells,
-    }
-}
-
 pub fn head_line(place: u64, word: u64, value: u32) -> Line
     ensures { line_bytes result ≡ head_line place word value }
 {
-    line_of_three(
+    Line::of(
         b'H',
-        Part::Decimal(place),
-        Part::Decimal(word),
-        Part::Word(value),
+        &[Part::Decimal(place), Part::Decimal(word), Part::Word(value)],
     )
 }
 
 pub fn frame_line(first: u64, last: u64, value: u32) -> Line
     ensures { line_bytes result ≡ frame_line first last value }
 {
-    line_of_three(
+    Line::of(
         b'F',
-        Part::Decimal(first),
-        Part::Decimal(last),
-        Part::Word(value),
+        &[Part::Decimal(first), Part::Decimal(last), Part::Word(value)],
     )
 }
 
 pub fn port_line(port: u8, state: u8) -> Line
     ensures { line_bytes result ≡ port_line port state }
 {
-    line_of_two(
+    Line::of(
         b'U',
-        Part::Decimal(port as u64),
-        Part::Decimal(state as u64),
+        &[Part::Decimal(port as u64), Part::Decimal(state as u64)],
     )
 }
 
 pub fn write_line(offset: u32, value: u32) -> Line
     ensures { line_bytes result ≡ write_line offset value }
 {
-    line_of_two(b'W', Part::Byte(offset), Part::Word(value))
+    Line::of(b'W', &[Part::Byte(offset), Part::Word(value)])
 }
 
 pub fn record_line(place: u64, r: QueueTransferDescriptor) -> Line
     ensures { line_bytes result ≡ record_line place r }
 {
-    let pages = r.pages;
-    let upper = r.upper;
-    let mut cells = [Cell { part: Part::Dash }; 14];
-    cells[0] = Cell {
-        part: Part::Decimal(place),
-    };
-    cells[1] = Cell {
-        part: Part::Word(r.next),
-    };
-    cells[2] = Cell {
-        part: Part::Word(r.alternate),
-    };
-    cells[3] = Cell {
-        part: Part::Word(r.token),
-    };
-    cells[4] = Cell {
-        part: Part::Word(pages[0]),
-    };
-    cells[5] = Cell {
-        part: Part::Word(pages[1]),
-    };
-    cells[6] = Cell {
-        part: Part::Word(pages[2]),
-    };
-    cells[7] = Cell {
-        part: Part::Word(pages[3]),
-    };
-    cells[8] = Cell {
-        part: Part::Word(pages[4]),
-    };
-    cells[9] = Cell {
-        part: Part::Word(upper[0]),
-    };
-    cells[10] = Cell {
-        part: Part::Word(upper[1]),
-    };
-    cells[11] = Cell {
-        part: Part::Word(upper[2]),
-    };
-    cells[12] = Cell {
-        part: Part::Word(upper[3]),
-    };
-    cells[13] = Cell {
-        part: Part::Word(upper[4]),
-    };
-    Line {
-        letter: b'P',
-        count: 14,
-        cells,
-    }
+    Line::of(
+        b'P',
+        &[
+            Part::Decimal(place),
+            Part::Word(r.next),
+            Part::Word(r.alternate),
+            Part::Word(r.token),
+            Part::Word(r.pages[0]),
+            Part::Word(r.pages[1]),
+            Part::Word(r.pages[2]),
+            Part::Word(r.pages[3]),
+            Part::Word(r.pages[4]),
+            Part::Word(r.upper[0]),
+            Part::Word(r.upper[1]),
+            Part::Word(r.upper[2]),
+            Part::Word(r.upper[3]),
+            Part::Word(r.upper[4]),
+        ],
+    )
 }
 
 // The setup bytes are in memory order.
-pub fn setup_line(slot: u64, b0: u8, b1: u8, b2: u8, b3: u8, b4: u8, b5: u8, b6: u8, b7: u8) -> Line
-    ensures { line_bytes result ≡ setup_line slot (b0 ∷ b1 ∷ b2 ∷ b3 ∷ b4 ∷ b5 ∷ b6 ∷ b7 ∷ []) }
+pub fn setup_line(slot: u64, bytes: [u8; 8]) -> Line
+    ensures { line_bytes result ≡ setup_line slot bytes }
 {
-    let mut cells = [Cell { part: Part::Dash }; 14];
-    cells[0] = Cell {
-        part: Part::Decimal(slot),
-    };
-    cells[1] = Cell {
-        part: Part::Byte(b0 as u32),
-    };
-    cells[2] = Cell {
-        part: Part::Joined(b1 as u32),
-    };
-    cells[3] = Cell {
-        part: Part::Joined(b2 as u32),
-    };
-    cells[4] = Cell {
-        part: Part::Joined(b3 as u32),
-    };
-    cells[5] = Cell {
-        part: Part::Joined(b4 as u32),
-    };
-    cells[6] = Cell {
-        part: Part::Joined(b5 as u32),
-    };
-    cells[7] = Cell {
-        part: Part::Joined(b6 as u32),
-    };
-    cells[8] = Cell {
-        part: Part::Joined(b7 as u32),
-    };
-    Line {
-        letter: b'S',
-        count: 9,
-        cells,
-    }
+    Line::of(
+        b'S',
+        &[
+            Part::Decimal(slot),
+            Part::Byte(bytes[0] as u32),
+            Part::Joined(bytes[1] as u32),
+            Part::Joined(bytes[2] as u32),
+            Part::Joined(bytes[3] as u32),
+            Part::Joined(bytes[4] as u32),
+            Part::Joined(bytes[5] as u32),
+            Part::Joined(bytes[6] as u32),
+            Part::Joined(bytes[7] as u32),
+        ],
+    )
 }
 
 // What the log shows of a controller.
@@ -194,7 +111,6 @@ pub struct Seen {
 fn shown(core: Core) -> Seen
     ensures { result ≡ shown_in core }
 {
-    let free = free_count(core);
     Seen {
         running: core.rest.running,
         flag: core.rest.enabled,
@@ -203,7 +119,7 @@ fn shown(core: Core) -> Seen
         unanswered: core.rest.unanswered,
         pending: core.rest.pending,
         masked: core.rest.masked,
-        free,
+        free: free_count(core),
         address: core.rest.address,
     }
 }
@@ -211,39 +127,20 @@ fn shown(core: Core) -> Seen
 fn shown_line(x: Seen) -> Line
     ensures { line_bytes result ≡ shown_line x }
 {
-    let mut cells = [Cell { part: Part::Dash }; 14];
-    cells[0] = Cell {
-        part: Part::Decimal(x.running as u64),
-    };
-    cells[1] = Cell {
-        part: Part::Decimal(x.flag as u64),
-    };
-    cells[2] = Cell {
-        part: Part::Decimal(x.doorbell as u64),
-    };
-    cells[3] = Cell {
-        part: Part::Decimal(x.note as u64),
-    };
-    cells[4] = Cell {
-        part: Part::Decimal(x.unanswered as u64),
-    };
-    cells[5] = Cell {
-        part: Part::Word(x.pending),
-    };
-    cells[6] = Cell {
-        part: Part::Word(x.masked),
-    };
-    cells[7] = Cell {
-        part: Part::Decimal(x.free),
-    };
-    cells[8] = Cell {
-        part: Part::Decimal(x.address as u64),
-    };
-    Line {
-        letter: b'Q',
-        count: 9,
-        cells,
-    }
+    Line::of(
+        b'Q',
+        &[
+            Part::Decimal(x.running as u64),
+            Part::Decimal(x.flag as u64),
+            Part::Decimal(x.doorbell as u64),
+            Part::Decimal(x.note as u64),
+            Part::Decimal(x.unanswered as u64),
+            Part::Word(x.pending),
+            Part::Word(x.masked),
+            Part::Decimal(x.free),
+            Part::Decimal(x.address as u64),
+        ],
+    )
 }
 
 pub fn state_line(core: Core) -> Line

@@ -1,7 +1,10 @@
 // A record of a log: the call that it says.
-ghost use Rattle.std.specs.Prelude.{◌≡◌, ◌%◌, ◌^◌, ◌<◌, ◌≤◌};
+ghost use Rattle.std.specs.Prelude.{◌≡◌, ◌%◌, ◌^◌, nat_le, nat_lt};
+ghost use Rattle.pipe.specs.Endpoints.{direction_of, flag_of, kind_of};
 ghost use Rattle.call_log.specs.Records.{
   guarded,
+  is_word,
+  spare,
   plain,
   open_entry,
   bring_up_step,
@@ -23,18 +26,14 @@ ghost use Rattle.call_log.specs.Records.{
 };
 
 use crate::fields::{Fields, RECORD, decode, spare};
-use common::kinds::KIND_MAX;
+use common::kinds::{Direction, EndpointType, KIND_MAX};
 use controller::lent::Readings;
 use ehci::call::{Call, EndpointFields, InterruptReadings};
 use pipe::endpoints::{direction_of, kind_of};
 use request::judge::TransferRequest;
 use settings::settings::Settings;
 
-// A register value or a token is below this, a packet size and six setup bytes below those.
-const WORD_END: u64 = 0x1_0000_0000;
-
-const SIZE_END: u64 = 0x1_0000;
-
+// Six setup bytes are below this.
 const SETUP_END: u64 = 0x1_0000_0000_0000;
 
 #[derive(Clone, Copy)]
@@ -44,208 +43,245 @@ pub enum Entry {
     StartScan,
     ScanStep(u32),
     PortPower(u8, u32),
-    Bad,
 }
 
-fn guard(fine: bool, entry: Entry) -> Entry
-    ensures { result ≡ guarded fine entry }
+// What a call does not use is 0.
+fn unused(f: Fields, bytes: u8, numbers: u8) -> Option<()>
+    ensures { result ≡ guarded (spare f bytes numbers) tt }
 {
-    if fine { entry } else { Entry::Bad }
+    spare(f, bytes, numbers).then_some(())
 }
 
-fn low_word(n: u64) -> u32
-    ensures { result ≡ n % 2 ^ 32 }
+fn read_word(n: u64) -> Option<u32>
+    ensures { result ≡ guarded (is_word n) (n % 2 ^ 32) }
 {
-    (n % WORD_END) as u32
+    u32::try_from(n).ok()
 }
 
-fn low_size(n: u64) -> u16
-    ensures { result ≡ n % 2 ^ 16 }
+fn read_size(n: u64) -> Option<u16>
+    ensures { result ≡ guarded (nat_lt n (2 ^ 16)) (n % 2 ^ 16) }
 {
-    (n % SIZE_END) as u16
+    u16::try_from(n).ok()
+}
+
+fn read_setup(n: u64) -> Option<u64>
+    ensures { result ≡ guarded (nat_lt n (2 ^ 48)) n }
+{
+    (n < SETUP_END).then_some(n)
+}
+
+fn read_kind(number: u8) -> Option<EndpointType>
+    ensures { result ≡ guarded (nat_le number 3) (kind_of number) }
+{
+    (number <= KIND_MAX).then_some(kind_of(number))
+}
+
+fn read_direction(number: u8) -> Option<Direction>
+    ensures { result ≡ guarded (nat_le number 1) (direction_of number) }
+{
+    (number <= 1).then_some(direction_of(number))
+}
+
+fn read_flag(number: u8) -> Option<bool>
+    ensures { result ≡ guarded (nat_le number 1) (flag_of number) }
+{
+    (number <= 1).then_some(number != 0)
 }
 
 // A call with no parameters.
-fn plain_entry(f: Fields, entry: Entry) -> Entry
+fn plain_entry(f: Fields, entry: Entry) -> Option<Entry>
     ensures { result ≡ plain f entry }
 {
-    guard(spare(f, 0, 0), entry)
+    spare(f, 0, 0).then_some(entry)
 }
 
-fn open(f: Fields) -> Entry
+fn open(f: Fields) -> Option<Entry>
     ensures { result ≡ open_entry f }
 {
+    let [endpoints, ports, ..] = f.bytes;
+    let [descriptors, limit, wait, pool, heads, frames, setups] = f.numbers;
     let settings = Settings {
-        descriptors: f.n1,
-        endpoints: f.b1,
-        ports: f.b2,
-        limit: f.n2,
-        wait: f.n3,
-        pool: f.n4,
-        heads: f.n5,
-        frames: f.n6,
-        setups: f.n7,
+        descriptors,
+        endpoints,
+        ports,
+        limit,
+        wait,
+        pool,
+        heads,
+        frames,
+        setups,
     };
-    guard(spare(f, 2, 7), Entry::Open(settings))
+    spare(f, 2, 7).then_some(Entry::Open(settings))
 }
 
-fn bring_up_step(f: Fields) -> Entry
+#[tactic(auto, unfolding(crate::specs::Records::bring_up_step))]
+fn bring_up_step(f: Fields) -> Option<Entry>
     ensures { result ≡ bring_up_step f }
 {
-    guard(
-        spare(f, 0, 1) & (f.n1 < WORD_END),
-        Entry::Call(Call::BringUpStep(low_word(f.n1))),
-    )
+    unused(f, 0, 1)?;
+    let [reading, ..] = f.numbers;
+    let reading = read_word(reading)?;
+    Some(Entry::Call(Call::BringUpStep(reading)))
 }
 
-fn open_endpoint(f: Fields) -> Entry
+#[tactic(auto, unfolding(crate::specs::Records::open_endpoint))]
+fn open_endpoint(f: Fields) -> Option<Entry>
     ensures { result ≡ open_endpoint f }
 {
+    unused(f, 3, 1)?;
+    let [kind, address, number, ..] = f.bytes;
+    let [packet, ..] = f.numbers;
     let endpoint = EndpointFields {
-        kind: kind_of(f.b1),
-        address: f.b2,
-        number: f.b3,
-        packet: low_size(f.n1),
+        kind: read_kind(kind)?,
+        address,
+        number,
+        packet: read_size(packet)?,
     };
-    guard(
-        spare(f, 3, 1) & (f.b1 <= KIND_MAX) & (f.n1 < SIZE_END),
-        Entry::Call(Call::OpenEndpoint(endpoint)),
-    )
+    Some(Entry::Call(Call::OpenEndpoint(endpoint)))
 }
 
-fn close_slot(f: Fields) -> Entry
+fn close_slot(f: Fields) -> Option<Entry>
     ensures { result ≡ close f }
 {
-    guard(spare(f, 1, 0), Entry::Call(Call::Close(f.b1)))
+    let [slot, ..] = f.bytes;
+    spare(f, 1, 0).then_some(Entry::Call(Call::Close(slot)))
 }
 
-fn set_address(f: Fields) -> Entry
+fn set_address(f: Fields) -> Option<Entry>
     ensures { result ≡ set_address f }
 {
-    guard(spare(f, 2, 0), Entry::Call(Call::SetAddress(f.b1, f.b2)))
+    let [slot, address, ..] = f.bytes;
+    spare(f, 2, 0).then_some(Entry::Call(Call::SetAddress(slot, address)))
 }
 
-fn set_packet_size(f: Fields) -> Entry
+fn set_packet_size(f: Fields) -> Option<Entry>
     ensures { result ≡ set_packet_size f }
 {
-    guard(spare(f, 2, 0), Entry::Call(Call::SetPacketSize(f.b1, f.b2)))
+    let [slot, size, ..] = f.bytes;
+    spare(f, 2, 0).then_some(Entry::Call(Call::SetPacketSize(slot, size)))
 }
 
-fn submit_request(f: Fields) -> Entry
+#[tactic(auto, unfolding(crate::specs::Records::submit))]
+fn submit_request(f: Fields) -> Option<Entry>
     ensures { result ≡ submit f }
 {
+    unused(f, 3, 4)?;
+    let [slot, kind, direction, ..] = f.bytes;
+    let [setup, address, length, command, ..] = f.numbers;
     let request = TransferRequest {
-        kind: kind_of(f.b2),
-        direction: direction_of(f.b3),
-        setup: f.n1,
-        address: f.n2,
-        length: f.n3,
+        kind: read_kind(kind)?,
+        direction: read_direction(direction)?,
+        setup: read_setup(setup)?,
+        address,
+        length,
     };
     let readings = Readings {
-        command: low_word(f.n4),
+        command: read_word(command)?,
         frame: 0,
         overlay: 0,
     };
-    let numbers = (f.n1 < SETUP_END) & (f.n4 < WORD_END);
-    guard(
-        spare(f, 3, 4) & (f.b2 <= KIND_MAX) & (f.b3 <= 1) & numbers,
-        Entry::Call(Call::Submit(f.b1, request, readings)),
-    )
+    Some(Entry::Call(Call::Submit(slot, request, readings)))
 }
 
-fn write_back(f: Fields) -> Entry
+#[tactic(auto, unfolding(crate::specs::Records::writeback))]
+fn write_back(f: Fields) -> Option<Entry>
     ensures { result ≡ writeback f }
 {
-    guard(
-        spare(f, 0, 2) & (f.n2 < WORD_END),
-        Entry::Call(Call::Writeback(f.n1, low_word(f.n2))),
-    )
+    unused(f, 0, 2)?;
+    let [place, token, ..] = f.numbers;
+    let token = read_word(token)?;
+    Some(Entry::Call(Call::Writeback(place, token)))
 }
 
-fn cancel_request(f: Fields) -> Entry
+#[tactic(auto, unfolding(crate::specs::Records::cancel))]
+fn cancel_request(f: Fields) -> Option<Entry>
     ensures { result ≡ cancel f }
 {
+    unused(f, 1, 3)?;
+    let [slot, ..] = f.bytes;
+    let [id, command, frame, ..] = f.numbers;
     let readings = Readings {
-        command: low_word(f.n2),
-        frame: low_word(f.n3),
+        command: read_word(command)?,
+        frame: read_word(frame)?,
         overlay: 0,
     };
-    guard(
-        spare(f, 1, 3) & (f.n2 < WORD_END) & (f.n3 < WORD_END),
-        Entry::Call(Call::Cancel(f.b1, f.n1, readings)),
-    )
+    Some(Entry::Call(Call::Cancel(slot, id, readings)))
 }
 
-fn collect_request(f: Fields) -> Entry
+#[tactic(auto, unfolding(crate::specs::Records::collect))]
+fn collect_request(f: Fields) -> Option<Entry>
     ensures { result ≡ collect f }
 {
+    unused(f, 1, 4)?;
+    let [slot, ..] = f.bytes;
+    let [id, command, frame, overlay, ..] = f.numbers;
     let readings = Readings {
-        command: low_word(f.n2),
-        frame: low_word(f.n3),
-        overlay: low_word(f.n4),
+        command: read_word(command)?,
+        frame: read_word(frame)?,
+        overlay: read_word(overlay)?,
     };
-    guard(
-        spare(f, 1, 4) & (f.n2 < WORD_END) & (f.n3 < WORD_END) & (f.n4 < WORD_END),
-        Entry::Call(Call::Collect(f.b1, f.n1, readings)),
-    )
+    Some(Entry::Call(Call::Collect(slot, id, readings)))
 }
 
-fn acknowledge_interrupt(f: Fields) -> Entry
+#[tactic(auto, unfolding(crate::specs::Records::acknowledge))]
+fn acknowledge_interrupt(f: Fields) -> Option<Entry>
     ensures { result ≡ acknowledge f }
 {
+    unused(f, 2, 2)?;
+    let [flag, again, ..] = f.bytes;
+    let [status, interrupts, ..] = f.numbers;
     let readings = InterruptReadings {
-        status: low_word(f.n1),
-        interrupts: low_word(f.n2),
-        flag: f.b1 != 0,
-        again: f.b2 != 0,
+        flag: read_flag(flag)?,
+        again: read_flag(again)?,
+        status: read_word(status)?,
+        interrupts: read_word(interrupts)?,
     };
-    let flags = (f.b1 <= 1) & (f.b2 <= 1);
-    guard(
-        spare(f, 2, 2) & flags & (f.n1 < WORD_END) & (f.n2 < WORD_END),
-        Entry::Call(Call::Acknowledge(readings)),
-    )
+    Some(Entry::Call(Call::Acknowledge(readings)))
 }
 
-fn drain_events(f: Fields) -> Entry
+#[tactic(auto, unfolding(crate::specs::Records::drain))]
+fn drain_events(f: Fields) -> Option<Entry>
     ensures { result ≡ drain f }
 {
-    guard(
-        spare(f, 0, 1) & (f.n1 < WORD_END),
-        Entry::Call(Call::Drain(low_word(f.n1))),
-    )
+    unused(f, 0, 1)?;
+    let [command, ..] = f.numbers;
+    let command = read_word(command)?;
+    Some(Entry::Call(Call::Drain(command)))
 }
 
-fn scan_step(f: Fields) -> Entry
+#[tactic(auto, unfolding(crate::specs::Records::scan_step))]
+fn scan_step(f: Fields) -> Option<Entry>
     ensures { result ≡ scan_step f }
 {
-    guard(
-        spare(f, 0, 1) & (f.n1 < WORD_END),
-        Entry::ScanStep(low_word(f.n1)),
-    )
+    unused(f, 0, 1)?;
+    let [reading, ..] = f.numbers;
+    let reading = read_word(reading)?;
+    Some(Entry::ScanStep(reading))
 }
 
-fn port_power(f: Fields) -> Entry
+#[tactic(auto, unfolding(crate::specs::Records::port_power))]
+fn port_power(f: Fields) -> Option<Entry>
     ensures { result ≡ port_power f }
 {
-    guard(
-        spare(f, 1, 1) & (f.n1 < WORD_END),
-        Entry::PortPower(f.b1, low_word(f.n1)),
-    )
+    unused(f, 1, 1)?;
+    let [port, ..] = f.bytes;
+    let [reading, ..] = f.numbers;
+    let reading = read_word(reading)?;
+    Some(Entry::PortPower(port, reading))
 }
 
-fn clear_halt(f: Fields) -> Entry
+fn clear_halt(f: Fields) -> Option<Entry>
     ensures { result ≡ clear_halt f }
 {
-    guard(spare(f, 1, 0), Entry::Call(Call::ClearHalt(f.b1)))
+    let [slot, ..] = f.bytes;
+    spare(f, 1, 0).then_some(Entry::Call(Call::ClearHalt(slot)))
 }
 
-// Calls 1 to 8, and 0, which is none.
-fn entry_first(f: Fields) -> Entry
-    requires { f.number ≤ 8 }
+// 0 is no call, and none is above 21.
+fn entry_from(f: Fields) -> Option<Entry>
     ensures { result ≡ entry_from f }
 {
-    let number = f.number;
-    match number {
+    match f.number {
         1 => open(f),
         2 => plain_entry(f, Entry::Call(Call::StartBringUp)),
         3 => bring_up_step(f),
@@ -254,33 +290,12 @@ fn entry_first(f: Fields) -> Entry
         6 => close_slot(f),
         7 => set_address(f),
         8 => set_packet_size(f),
-        _ => Entry::Bad,
-    }
-}
-
-// Calls 9 to 14.
-fn entry_second(f: Fields) -> Entry
-    requires { (8 < f.number) × (f.number ≤ 14) }
-    ensures { result ≡ entry_from f }
-{
-    let number = f.number;
-    match number {
         9 => submit_request(f),
         10 => write_back(f),
         11 => cancel_request(f),
         12 => collect_request(f),
         13 => acknowledge_interrupt(f),
-        _ => drain_events(f),
-    }
-}
-
-// Calls 15 to 21, and numbers that no call has.
-fn entry_third(f: Fields) -> Entry
-    requires { 14 < f.number }
-    ensures { result ≡ entry_from f }
-{
-    let number = f.number;
-    match number {
+        14 => drain_events(f),
         15 => plain_entry(f, Entry::Call(Call::Rearm)),
         16 => plain_entry(f, Entry::Call(Call::Enable)),
         17 => plain_entry(f, Entry::Call(Call::Disable)),
@@ -288,28 +303,16 @@ fn entry_third(f: Fields) -> Entry
         19 => scan_step(f),
         20 => port_power(f),
         21 => clear_halt(f),
-        _ => Entry::Bad,
+        _ => None,
     }
 }
 
-fn entry_from(f: Fields) -> Entry
-    ensures { result ≡ entry_from f }
-{
-    let number = f.number;
-    if number <= 8 {
-        return entry_first(f);
-    }
-    if number <= 14 {
-        return entry_second(f);
-    }
-    entry_third(f)
-}
-
-pub fn read_record(bytes: &[u8]) -> Entry
+// What is no record of a call is bad.
+pub fn read_record(bytes: &[u8]) -> Option<Entry>
     ensures { result ≡ entry_of bytes.now }
 {
     if bytes.len() != RECORD {
-        return Entry::Bad;
+        return None;
     }
     entry_from(decode(bytes))
 }

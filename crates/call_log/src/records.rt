@@ -7,8 +7,6 @@ use crate::line::put_line;
 use crate::lines::record_line;
 use descriptor::qtd::QueueTransferDescriptor;
 
-const RECORDS: usize = 257;
-
 fn same_five(a: [u32; 5], b: [u32; 5]) -> bool
     ensures { result ≡ same_five a b }
 {
@@ -48,20 +46,16 @@ fn put_record(
 pub fn put_records(
     out: &mut [u8],
     at: usize,
-    before: [QueueTransferDescriptor; 257],
-    after: [QueueTransferDescriptor; 257],
+    before: &[QueueTransferDescriptor; 257],
+    after: &[QueueTransferDescriptor; 257],
 ) -> usize
     requires { at + 140 * 257 + 296 ≤ length out.old }
-    ensures out_after { out.new ≡ put_at out.old at (record_lines before after) }
-    ensures value { result ≡ at + length (record_lines before after) }
+    ensures out_after { out.new ≡ put_at out.old at (record_lines before.now after.now) }
+    ensures value { result ≡ at + length (record_lines before.now after.now) }
 {
     let mut place = at;
-    let mut i = 0;
-    while i < RECORDS {
-        let old = before[i];
-        let new = after[i];
-        place = put_record(out, place, i, old, new);
-        i += 1;
+    for i in 0..after.len() {
+        place = put_record(out, place, i, before[i], after[i]);
     }
     place
 }

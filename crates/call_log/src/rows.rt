@@ -8,7 +8,7 @@ ghost use Rattle.call_log.specs.Changes.{
   port_lines,
 };
 
-use crate::line::{least, put_line};
+use crate::line::put_line;
 use crate::lines::{head_line, port_line};
 use opening::heads::HEAD_WORDS;
 
@@ -31,10 +31,8 @@ pub fn put_heads(out: &mut [u8], at: usize, before: &[u32], after: &[u32]) -> us
     ensures value { result ≡ at + length (head_lines before.now after.now) }
 {
     let mut place = at;
-    let mut i = 0;
-    while i < after.len() {
+    for i in 0..after.len() {
         place = put_head(out, place, i, before[i], after[i]);
-        i += 1;
     }
     place
 }
@@ -68,12 +66,9 @@ pub fn put_ports(
     ensures out_after { out.new ≡ put_at out.old at (port_lines opening ports before.now after.now) }
     ensures value { result ≡ at + length (port_lines opening ports before.now after.now) }
 {
-    let count = least(ports as usize, after.len());
     let mut place = at;
-    let mut i = 0;
-    while i < count {
+    for i in 0..(ports as usize).min(after.len()) {
         place = put_port(out, place, i, opening, before[i], after[i]);
-        i += 1;
     }
     place
 }

@@ -3,7 +3,7 @@ ghost use Rattle.std.specs.Prelude.{◌≡◌, ◌+◌, ◌*◌, ◌≤◌, leng
 ghost use Rattle.common.specs.Rows.{put_at};
 ghost use Rattle.call_log.specs.Changes.{same_eight, setup_change, setup_lines};
 
-use crate::line::{Line, put_line};
+use crate::line::put_line;
 use crate::lines::setup_line;
 use text::number::number64;
 
@@ -29,14 +29,16 @@ fn put_setup(out: &mut [u8], at: usize, slot: usize, before: &[u8], after: &[u8]
     }
     let line = setup_line(
         slot as u64,
-        after[p],
-        after[p + 1],
-        after[p + 2],
-        after[p + 3],
-        after[p + 4],
-        after[p + 5],
-        after[p + 6],
-        after[p + 7],
+        [
+            after[p],
+            after[p + 1],
+            after[p + 2],
+            after[p + 3],
+            after[p + 4],
+            after[p + 5],
+            after[p + 6],
+            after[p + 7],
+        ],
     );
     put_line(out, at, line)
 }
@@ -50,10 +52,8 @@ pub fn put_setups(out: &mut [u8], at: usize, slots: usize, before: &[u8], after:
     ensures value { result ≡ at + length (setup_lines slots before.now after.now) }
 {
     let mut place = at;
-    let mut i = 0;
-    while i < slots {
-        place = put_setup(out, place, i, before, after);
-        i += 1;
+    for slot in 0..slots {
+        place = put_setup(out, place, slot, before, after);
     }
     place
 }

@@ -1,19 +1,20 @@
 -- Cases of what is printed, and that room for more than the longest sheet is enough.
 use Prim.Native.Nat.{ℕ, ◌+◌, ◌≤◌, ◌<◌}
 use mathlib.Core.Path.{◌≡◌, refl, sym, ap, ◌∙◌}
-use mathlib.Core.Bool.{Bool, true, false, not, cond}
+use mathlib.Core.Bool.{Bool, true, false}
 use mathlib.Core.List.{List}
-use borrow.Author.Tests.{ltb-false, ltb-true, not-false, not-true}
+use borrow.Author.Tests.{ltb-false, ltb-true}
 use native.Mathlib.Omega.{arith}
 use lib.Dec.{ltb}
 use lib.ListN.{length, take}
 use lib.Seq.{length-take-le, take_all}
+use Rattle.std.specs.Prelude.{Some, None}
 use Rattle.common.specs.Rows.{put_at}
 use Rattle.job_sheet.specs.declared.outcome.Outcome.{Outcome}
-use Rattle.job_sheet.specs.declared.sheet.Sheet.{Sheet}
+use Rattle.job_sheet.specs.declared.sheet.Job.{Job}
 use Rattle.job_sheet.specs.Listing.{bad_line}
 use Rattle.job_sheet.specs.Outcomes.{listing_of}
-use Rattle.job_sheet.specs.Reading.{bad_sheet, job_in, packed, sheet_fits, sheet_of, sizes_fit}
+use Rattle.job_sheet.specs.Reading.{if_good, job_in, packed, sheet_fits, sheet_of, sizes_fit}
 use Rattle.job_sheet.proofs.ReadCases.{sizes_fit_lem}
 use Rattle.common.proofs.TestLaws.{both_tells}
 use Rattle.store.specs.Words.{store_view}
@@ -24,31 +25,24 @@ use Rattle.job_run.specs.Prints.{RoomEnough, longest_sheet, outcome_of, print_sh
 use Rattle.job_run.specs.Runs.{run_of}
 
 pub outcome_is : (ran : code.Ran) (owner : List ℕ) → owner ≡ (store_view ran.store).state.owner
-    → record { opened = ran.opened; slots = ran.slots; submitted = ran.submitted; ids = ran.ids; owner = owner; pool = ran.store.pool } ≡ outcome_of (ran_view ran)
+    → record { opened = ran.opened; submitted = ran.submitted; owner = owner; pool = ran.store.rows.pool } ≡ outcome_of (ran_view ran)
 outcome_is ran owner e = rw e
 
-bad_prints : (s : Sheet) → s.good ≡ false → bad_line ≡ print_sheet s
-bad_prints s e = rw e
+module _ (bytes out after : List ℕ) (r : ℕ) where
+  printed : (line : List ℕ) → line ≡ printed_of bytes → after ≡ put_at out 0 line → r ≡ 0 + length line
+      → (after ≡ put_at out 0 (printed_of bytes)) × (r ≡ length (printed_of bytes))
+  printed line el ea er = (ea ∙ ap (put_at out 0) el, omega (arith, er, ap length el))
 
-good_prints : (s : Sheet) (o : Outcome) → s.good ≡ true → o ≡ outcome_of (run_of s.job) → listing_of s.job o ≡ print_sheet s
-good_prints s o e eo = rw (e, eo)
+  pub bad_printed : None ≡ sheet_of bytes → after ≡ put_at out 0 bad_line → r ≡ 0 + 10
+      → (after ≡ put_at out 0 (printed_of bytes)) × (r ≡ length (printed_of bytes))
+  unfolding bad_line printed_of
+  bad_printed e ea er = printed bad_line (ap print_sheet e) ea er
 
-module _ (bytes : List ℕ) (s : Sheet) (es : s ≡ sheet_of bytes) (out after : List ℕ) (r : ℕ) where
-  printed : (line : List ℕ) → line ≡ print_sheet s → after ≡ put_at out 0 line → r ≡ length line → (after ≡ put_at out 0 (printed_of bytes)) × (r ≡ length (printed_of bytes))
+  pub good_printed : (job : Job) (ran : Ran) (o : Outcome) → Some job ≡ sheet_of bytes → ran ≡ run_of job → o ≡ outcome_of ran
+      → after ≡ put_at out 0 (listing_of o) → r ≡ 0 + length (listing_of o) → (after ≡ put_at out 0 (printed_of bytes)) × (r ≡ length (printed_of bytes))
   unfolding printed_of
-  printed line el ea er =
-      let same : line ≡ print_sheet (sheet_of bytes) = el ∙ ap print_sheet es in
-      (ea ∙ ap (put_at out 0) same, er ∙ ap length same)
-
-  pub bad_printed : not s.good ≡ true → after ≡ put_at out 0 bad_line → r ≡ 0 + 10 → (after ≡ put_at out 0 (printed_of bytes)) × (r ≡ length (printed_of bytes))
-  unfolding bad_line
-  bad_printed bad ea er = printed bad_line (bad_prints s (not-true s.good bad)) ea er
-
-  pub good_printed : (ran : Ran) (o : Outcome) → not s.good ≡ false → ran ≡ run_of s.job → o ≡ outcome_of ran → after ≡ put_at out 0 (listing_of s.job o)
-      → r ≡ 0 + length (listing_of s.job o) → (after ≡ put_at out 0 (printed_of bytes)) × (r ≡ length (printed_of bytes))
-  good_printed ran o good er eo ea el =
-      let long : r ≡ length (listing_of s.job o) = omega (arith, el) in
-      printed (listing_of s.job o) (good_prints s o (not-false s.good good) (eo ∙ ap outcome_of er)) ea long
+  good_printed job ran o e er eo ea el =
+      printed (listing_of o) (ap listing_of (eo ∙ ap outcome_of er) ∙ ap print_sheet e) ea el
 
 pub front_taken : (n : ℕ) (l : List ℕ) → n ≤ length l → n ≡ length (take n l)
 front_taken n l h = sym (length-take-le n l h)
@@ -62,11 +56,11 @@ fits_short bytes f =
     omega (arith, s.whole, s.few, s.some)
 
 -- what is longer is no sheet
-long_bad : (bytes : List ℕ) → longest_sheet < length bytes → sheet_of bytes ≡ bad_sheet
+long_bad : (bytes : List ℕ) → longest_sheet < length bytes → sheet_of bytes ≡ None
 unfolding sheet_of
 long_bad bytes l = by (sheet_fits bytes) refl
   where
-    by : (b : Bool) → sheet_fits bytes ≡ b → cond b (record { good = true; job = packed (job_in bytes) }) bad_sheet ≡ bad_sheet
+    by : (b : Bool) → sheet_fits bytes ≡ b → if_good b (packed (job_in bytes)) ≡ None
     by true e = absurd (omega (arith, l, fits_short bytes e))
     by false e = refl
 

@@ -1,7 +1,7 @@
 -- What `sheet` prints of a sheet's bytes.
-use Rattle.std.specs.Prelude.{ℕ, ◌<◌, Bool, true, false, List, ◌≡◌, take}
+use Rattle.std.specs.Prelude.{ℕ, ◌<◌, Option, Some, None, List, ◌≡◌, take}
 use Rattle.job_sheet.specs.declared.outcome.Outcome.{Outcome}
-use Rattle.job_sheet.specs.declared.sheet.Sheet.{Sheet}
+use Rattle.job_sheet.specs.declared.sheet.Job.{Job}
 use Rattle.job_sheet.specs.Listing.{bad_line}
 use Rattle.job_sheet.specs.Outcomes.{listing_of}
 use Rattle.job_sheet.specs.Reading.{sheet_of}
@@ -12,20 +12,15 @@ use Rattle.job_run.specs.Runs.{run_of}
 abbrev pub outcome_of : Ran → Outcome
 outcome_of ran =
     record {
-      opened = ran.opened;
-      slots = ran.slots;
-      submitted = ran.submitted;
-      ids = ran.ids;
+      opened = record { items = ran.opened };
+      submitted = record { items = ran.submitted };
       owner = ran.store.state.owner;
       pool = ran.store.pool;
     }
 
-abbrev pub print_if : Bool → List ℕ → List ℕ
-print_if true listing = listing
-print_if false listing = bad_line
-
-abbrev pub print_sheet : Sheet → List ℕ
-print_sheet sheet = print_if sheet.good (listing_of sheet.job (outcome_of (run_of sheet.job)))
+abbrev pub print_sheet : Option Job → List ℕ
+print_sheet (Some job) = listing_of (outcome_of (run_of job))
+print_sheet None = bad_line
 
 -- the listing of the job that these bytes are, or "bad sheet" alone
 unfoldable pub printed_of : List ℕ → List ℕ

@@ -1,17 +1,15 @@
 -- Document 01, "Examples": a sheet's job on a running controller "with D 16, E 8, C 16384, areas 100000, 200000, 300000, 400000".
-use Rattle.std.specs.Prelude.{cond, ℕ, zero, suc, List, [], ◌∷◌, ltb, get_or, replicate, set, Err, Ok, Result}
+use Rattle.std.specs.Prelude.{ℕ, zero, suc, Option, Some, None, List, [], ◌∷◌, ◌++◌, get_or, length, unwrap_or, Ok, Result}
 use Rattle.common.specs.declared.kinds.EndpointType.{EndpointType}
-use Rattle.common.specs.declared.kinds.EndpointType.TheVariants.{Control}
 use Rattle.settings.specs.declared.settings.Settings.{Settings}
-use Rattle.pipe.specs.Endpoints.{direction_of, kind_of}
 use Rattle.ehci.specs.declared.call.Call.{Call}
 use Rattle.ehci.specs.declared.call.Call.TheVariants.{StartBringUp, BringUpStep, OpenEndpoint, Submit}
-use Rattle.ehci.specs.declared.reply.Answered.TheVariants.{Done, Pending, Cancelled, Failed}
-use Rattle.ehci.specs.declared.reply.Given.{Given}
+use Rattle.ehci.specs.declared.reply.Answered.TheVariants.{Done}
 use Rattle.ehci.specs.declared.reply.Given.TheVariants as G
 use Rattle.ehci.specs.Replies.{answered_number}
 use Rattle.store.specs.Plain.{Called, Store}
 use Rattle.store.specs.Stores.{blank_store, call_store, open_store}
+use Rattle.job_sheet.specs.declared.outcome.Opened.{Opened}
 use Rattle.job_sheet.specs.declared.record.EndpointRecord.{EndpointRecord}
 use Rattle.job_sheet.specs.declared.record.RequestRecord.{RequestRecord}
 use Rattle.job_sheet.specs.declared.sheet.Job.{Job}
@@ -61,117 +59,76 @@ running_store = after_calls (open_store blank_store sheet_settings).store bring_
 
 -- ---- what a call gave
 
-abbrev pub slot_given : Given → ℕ
-slot_given G.Nothing = 255
-slot_given (G.Slot k) = k
-slot_given (G.Address a) = 255
-slot_given (G.Id id) = 255
-slot_given (G.Length n retried) = 255
-slot_given G.No = 255
-slot_given G.Yes = 255
-slot_given (G.Event e) = 255
-slot_given (G.Next read wait) = 255
+-- the slot, where one was opened
+abbrev pub slot_told : Result Answered Refusal → Option ℕ
+slot_told (Ok (Done (G.Slot k))) = Some k
+slot_told _ = None
 
--- 255, which is no slot, for a record that was not opened
-abbrev pub slot_told : Result Answered Refusal → ℕ
-slot_told (Ok (Done given)) = slot_given given
-slot_told (Ok Pending) = 255
-slot_told (Ok Cancelled) = 255
-slot_told (Ok (Failed token)) = 255
-slot_told (Err r) = 255
-
-abbrev pub id_given : Given → ℕ
-id_given G.Nothing = 0
-id_given (G.Slot k) = 0
-id_given (G.Address a) = 0
-id_given (G.Id id) = id
-id_given (G.Length n retried) = 0
-id_given G.No = 0
-id_given G.Yes = 0
-id_given (G.Event e) = 0
-id_given (G.Next read wait) = 0
-
--- "id (0 if refused)"
-abbrev pub id_told : Result Answered Refusal → ℕ
-id_told (Ok (Done given)) = id_given given
-id_told (Ok Pending) = 0
-id_told (Ok Cancelled) = 0
-id_told (Ok (Failed token)) = 0
-id_told (Err r) = 0
+-- the id, where a request was accepted
+abbrev pub id_told : Result Answered Refusal → Option ℕ
+id_told (Ok (Done (G.Id id))) = Some id
+id_told _ = None
 
 -- ---- the endpoint records are opened, in order
 
 abbrev pub open_call : EndpointRecord → Call
-open_call e =
-    OpenEndpoint
-    (record { kind = kind_of e.kind; address = e.address; number = e.number; packet = e.packet })
+open_call e = OpenEndpoint (record { kind = e.kind; address = e.address; number = e.number; packet = e.packet })
 
-abbrev pub opening : Ran → ℕ → Called → Ran
-opening ran k c =
+abbrev pub opening : Ran → Called → Ran
+opening ran c =
     record {
       store = c.store;
-      opened = set ran.opened k (answered_number c.answer);
-      slots = set ran.slots k (slot_told c.answer);
+      opened = ran.opened ++ (record { answer = answered_number c.answer; slot = slot_told c.answer } ∷ []);
       submitted = ran.submitted;
-      ids = ran.ids;
     }
 
-unfoldable pub open_step : Ran → ℕ → EndpointRecord → Ran
-open_step ran k e = opening ran k (call_store ran.store (open_call e))
+unfoldable pub open_step : Ran → EndpointRecord → Ran
+open_step ran e = opening ran (call_store ran.store (open_call e))
 
 -- the first so many
 unfoldable pub opened_to : ℕ → Ran → Job → Ran
 opened_to zero start job = start
-opened_to (suc k) start job = open_step (opened_to k start job) k (get_or (job_of job).endpoints k no_endpoint)
+opened_to (suc k) start job = open_step (opened_to k start job) (get_or (job_of job).endpoints k no_endpoint)
 
 -- ---- then the requests are submitted, in order
 
--- A request's kind is its record's; one that is not there is refused whatever the kind
+-- a request's kind is its record's; one that is not there is refused whatever the kind
 abbrev pub kind_for : Job → ℕ → EndpointType
-kind_for job place =
-    cond (ltb place job.opens) (kind_of (get_or (job_of job).endpoints place no_endpoint).kind) Control
+kind_for job place = (get_or (job_of job).endpoints place no_endpoint).kind
 
-unfoldable pub submit_call : Job → List ℕ → RequestRecord → Call
-submit_call job slots t =
-    Submit (slot_of slots t.endpoint)
-    (record {
-      kind = kind_for job t.endpoint;
-      direction = direction_of t.direction;
-      setup = t.setup;
-      address = t.buffer;
-      length = t.length;
-    })
+-- the slot that its record's opening gave; 255, which is no slot, where it gave none
+abbrev pub slot_for : List Opened → ℕ → ℕ
+slot_for opened place = unwrap_or (slot_of opened place) 255
+
+abbrev pub submit_call : Job → ℕ → RequestRecord → Call
+submit_call job slot t =
+    Submit slot
+    (record { kind = kind_for job t.endpoint; direction = t.direction; setup = t.setup; address = t.buffer; length = t.length })
     (record { command = 0; frame = 0; overlay = 0 })
 
 abbrev pub submitting : Ran → ℕ → Called → Ran
-submitting ran k c =
+submitting ran slot c =
     record {
       store = c.store;
       opened = ran.opened;
-      slots = ran.slots;
-      submitted = set ran.submitted k (answered_number c.answer);
-      ids = set ran.ids k (id_told c.answer);
+      submitted = ran.submitted ++ (record { slot = slot; answer = answered_number c.answer; id = id_told c.answer } ∷ []);
     }
 
-unfoldable pub submit_step : Ran → Job → ℕ → RequestRecord → Ran
-submit_step ran job k t = submitting ran k (call_store ran.store (submit_call job ran.slots t))
+unfoldable pub submit_step : Ran → Job → RequestRecord → Ran
+submit_step ran job t =
+    let slot = slot_for ran.opened t.endpoint in
+    submitting ran slot (call_store ran.store (submit_call job slot t))
 
 unfoldable pub submitted_to : ℕ → Ran → Job → Ran
 submitted_to zero start job = start
 submitted_to (suc k) start job =
-    submit_step (submitted_to k start job) job k (get_or (job_of job).requests k no_request)
+    submit_step (submitted_to k start job) job (get_or (job_of job).requests k no_request)
 
 -- ---- the run of a job
 
 abbrev pub start_of : Ran
-start_of =
-    record {
-      store = running_store;
-      opened = replicate 8 0;
-      slots = replicate 8 255;
-      submitted = replicate 64 0;
-      ids = replicate 64 0;
-    }
+start_of = record { store = running_store; opened = []; submitted = [] }
 
 unfoldable pub run_of : Job → Ran
-run_of job = submitted_to job.submits (opened_to job.opens start_of job) job
+run_of job =
+    submitted_to (length (job_of job).requests) (opened_to (length (job_of job).endpoints) start_of job) job

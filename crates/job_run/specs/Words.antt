@@ -4,5 +4,4 @@ use Rattle.job_run.specs.declared.run.Ran.{Ran}
 use Rattle.job_run.specs.Plain as plain
 
 abbrev pub ran_view : Ran → plain.Ran
-ran_view r =
-    record { store = store_view r.store; opened = r.opened; slots = r.slots; submitted = r.submitted; ids = r.ids }
+ran_view r = record { store = store_view r.store; opened = r.opened.items; submitted = r.submitted.items }

@@ -1,7 +1,7 @@
 // The controller that a sheet's job is run on: opened in a store of its own, and brought up through its steps.
 ghost use Rattle.std.specs.Prelude.{◌≡◌};
 ghost use Rattle.job_run.specs.Runs.{sheet_settings, after_call, running_store};
-ghost use Rattle.store.specs.Words.{Tended, store_view};
+ghost use Rattle.store.specs.Words.{store_view};
 
 use ehci::call::Call;
 use settings::settings::Settings;
@@ -24,21 +24,16 @@ fn sheet_settings() -> Settings
 }
 
 fn after_call(store: Store, call: Call) -> Store
-    requires { Tended store }
-    ensures result_value { store_view result ≡ after_call (store_view store) call }
-    ensures tended { Tended result }
+    ensures { store_view result ≡ after_call (store_view store) call }
 {
-    let called = call_on(store, call);
-    called.store
+    call_on(store, call).store
 }
 
 // The six readings: USBCMD; USBSTS halted; USBCMD; USBCMD, reset over; USBCMD; USBSTS, not halted.
 pub fn running_store() -> Store
-    ensures result_value { store_view result ≡ running_store }
-    ensures tended { Tended result }
+    ensures { store_view result ≡ running_store }
 {
-    let opened = open_in(blank_store(), sheet_settings());
-    let fresh = opened.store;
+    let fresh = open_in(blank_store(), sheet_settings()).store;
     let started = after_call(fresh, Call::StartBringUp);
     let stopped = after_call(started, Call::BringUpStep(0));
     let halted = after_call(stopped, Call::BringUpStep(0x1000));

@@ -14,18 +14,11 @@ use store::owners::owners;
 fn outcome_of(ran: Ran) -> Outcome
     ensures { result ≡ outcome_of (ran_view ran) }
 {
-    let store = ran.store;
-    let opened = ran.opened;
-    let slots = ran.slots;
-    let submitted = ran.submitted;
-    let ids = ran.ids;
-    let owner = owners(store);
-    let pool = store.pool;
+    let owner = owners(ran.store);
+    let pool = ran.store.rows.pool;
     Outcome {
-        opened,
-        slots,
-        submitted,
-        ids,
+        opened: ran.opened,
+        submitted: ran.submitted,
         owner,
         pool,
     }
@@ -38,14 +31,10 @@ pub fn print_sheet(bytes: &[u8], out: &mut [u8]) -> usize
     ensures value { result ≡ length (printed_of bytes.now) }
     ensures upper_bound { result ≤ length out.new }
 {
-    let sheet = read_sheet(bytes);
-    let job = sheet.job;
-    let good = sheet.good;
-    if !good {
-        return put_bad(out, 0);
+    match read_sheet(bytes) {
+        Some(job) => put_listing(out, 0, &outcome_of(run(&job))),
+        None => put_bad(out, 0),
     }
-    let ran = run(job);
-    put_listing(out, 0, job, outcome_of(ran))
 }
 
 // The first n bytes of what was read: the room is for one byte more than the longest sheet, so that what is too long is seen

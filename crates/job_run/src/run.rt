@@ -1,103 +1,60 @@
 // A job's calls, one after the other: the endpoint records are opened, then the requests are submitted.
-ghost use Rattle.std.specs.Prelude.{◌≡◌, ◌≤◌, ◌<◌};
+ghost use Rattle.std.specs.Prelude.{◌≡◌, ◌<◌};
+ghost use Rattle.arrayvec.specs.ArrayVec.{array_vec_len};
 ghost use Rattle.job_run.specs.Runs.{
-  slot_given,
   slot_told,
-  id_given,
   id_told,
   open_call,
   open_step,
   opened_to,
   kind_for,
+  slot_for,
   submit_call,
   submit_step,
   submitted_to,
   run_of,
 };
 ghost use Rattle.job_run.specs.Words.{ran_view};
-ghost use Rattle.store.specs.Words.{Tended};
 
 use crate::controller_of::running_store;
+use arrayvec::ArrayVec;
 use common::kinds::EndpointType;
 use controller::lent::Readings;
 use ehci::call::{Call, EndpointFields};
 use ehci::reply::{Answered, Given, answered_number};
-use job_sheet::job::{endpoint_of, request_of};
-use job_sheet::outcome::slot_of;
+use job_sheet::outcome::{Submitted, slot_of};
 use job_sheet::record::{EndpointRecord, RequestRecord};
 use job_sheet::sheet::Job;
-use pipe::endpoints::{direction_of, kind_of};
 use request::judge::TransferRequest;
 use store::store::{Store, call_on};
 use common::answer::Refusal;
-use interrupt::answers::Event;
 
 // No slot has this number.
 pub const NO_SLOT: u8 = 255;
 
-// For each record the answer and the slot, NO_SLOT where none was opened; for each request the answer and the id.
-#[derive(Clone, Copy)]
+// What the endpoint records and the requests came to so far, and the store then.
+#[derive(Drop)]
 pub struct Ran {
     pub store: Store,
-    pub opened: [u8; 8],
-    pub slots: [u8; 8],
-    pub submitted: [u8; 64],
-    pub ids: [u64; 64],
+    pub opened: ArrayVec<Opened, 8>,
+    pub submitted: ArrayVec<Submitted, 64>,
 }
 
-fn slot_given(given: Given) -> u8
-    ensures { result ≡ slot_given given }
-{
-    match given {
-        Given::Nothing => NO_SLOT,
-        Given::Slot(slot) => slot,
-        Given::Address(_) => NO_SLOT,
-        Given::Id(_) => NO_SLOT,
-        Given::Length(_, _) => NO_SLOT,
-        Given::No => NO_SLOT,
-        Given::Yes => NO_SLOT,
-        Given::Event(_) => NO_SLOT,
-        Given::Next(_, _) => NO_SLOT,
-    }
-}
-
-fn slot_told(answer: Result<Answered, Refusal>) -> u8
+fn slot_told(answer: Result<Answered, Refusal>) -> Option<u8>
     ensures { result ≡ slot_told answer }
 {
     match answer {
-        Ok(Answered::Done(given)) => slot_given(given),
-        Ok(Answered::Pending) => NO_SLOT,
-        Ok(Answered::Cancelled) => NO_SLOT,
-        Ok(Answered::Failed(_)) => NO_SLOT,
-        Err(_) => NO_SLOT,
+        Ok(Answered::Done(Given::Slot(slot))) => Some(slot),
+        _ => None,
     }
 }
 
-fn id_given(given: Given) -> u64
-    ensures { result ≡ id_given given }
-{
-    match given {
-        Given::Nothing => 0,
-        Given::Slot(_) => 0,
-        Given::Address(_) => 0,
-        Given::Id(id) => id,
-        Given::Length(_, _) => 0,
-        Given::No => 0,
-        Given::Yes => 0,
-        Given::Event(_) => 0,
-        Given::Next(_, _) => 0,
-    }
-}
-
-fn id_told(answer: Result<Answered, Refusal>) -> u64
+fn id_told(answer: Result<Answered, Refusal>) -> Option<u64>
     ensures { result ≡ id_told answer }
 {
     match answer {
-        Ok(Answered::Done(given)) => id_given(given),
-        Ok(Answered::Pending) => 0,
-        Ok(Answered::Cancelled) => 0,
-        Ok(Answered::Failed(_)) => 0,
-        Err(_) => 0,
+        Ok(Answered::Done(Given::Id(id))) => Some(id),
+        _ => None,
     }
 }
 
@@ -105,129 +62,103 @@ fn open_call(e: EndpointRecord) -> Call
     ensures { result ≡ open_call e }
 {
     Call::OpenEndpoint(EndpointFields {
-        kind: kind_of(e.kind),
+        kind: e.kind,
         address: e.address,
         number: e.number,
         packet: e.packet,
     })
 }
 
-fn open_step(mut ran: Ran, k: usize, e: EndpointRecord) -> Ran
-    requires k_bound { k < 8 }
-    requires tended { Tended ran.store }
-    ensures result_value { ran_view result ≡ open_step (ran_view ran) k e }
-    ensures tended_2 { Tended result.store }
+fn open_step(ran: &mut Ran, e: EndpointRecord)
+    requires { array_vec_len ran.old.opened < 8 }
+    ensures { ran_view ran.new ≡ open_step (ran_view ran.old) e }
 {
-    let before = ran.store;
-    let called = call_on(before, open_call(e));
-    let answer = called.answer;
-    let after = called.store;
-    ran.store = after;
-    ran.opened[k] = answered_number(answer);
-    ran.slots[k] = slot_told(answer);
-    ran
+    let called = call_on(ran.store, open_call(e));
+    ran.store = called.store;
+    ran.opened.push(Opened {
+        answer: answered_number(called.answer),
+        slot: slot_told(called.answer),
+    });
 }
 
-fn open_all(start: Ran, job: Job) -> Ran
-    requires opens_bound { job.opens ≤ 8 }
-    requires tended { Tended start.store }
-    ensures result_value { ran_view result ≡ opened_to job.opens (ran_view start) job }
-    ensures tended_2 { Tended result.store }
+fn open_all(ran: &mut Ran, job: &Job)
+    requires { array_vec_len ran.old.opened ≡ 0 }
+    ensures { ran_view ran.new ≡ opened_to (array_vec_len job.now.endpoints) (ran_view ran.old) job.now }
 {
-    let mut ran = start;
-    let mut k: usize = 0;
-    while k < job.opens {
-        let e = endpoint_of(job, k);
-        ran = open_step(ran, k, e);
-        k += 1;
+    let endpoints = job.endpoints.as_slice();
+    for e in endpoints {
+        open_step(ran, *e);
     }
-    ran
 }
 
 // Its record's kind; a record that is not there is refused whatever the kind.
-fn kind_for(job: Job, place: u8) -> EndpointType
-    requires { job.opens ≤ 8 }
-    ensures { result ≡ kind_for job place }
+fn kind_for(job: &Job, place: u8) -> EndpointType
+    ensures { result ≡ kind_for job.now place }
 {
-    let k = place as usize;
-    let opens = job.opens;
-    if k < opens {
-        let e = endpoint_of(job, k);
-        kind_of(e.kind)
-    } else {
-        EndpointType::Control
+    match job.endpoints.as_slice().get(place as usize) {
+        Some(e) => e.kind,
+        None => EndpointType::Control,
     }
 }
 
-fn submit_call(job: Job, slots: [u8; 8], t: RequestRecord) -> Call
-    requires { job.opens ≤ 8 }
-    ensures { result ≡ submit_call job slots t }
+// The slot that its record's opening gave.
+fn slot_for(opened: &[Opened], place: u8) -> u8
+    ensures { result ≡ slot_for opened.now place }
 {
-    let slot = slot_of(slots, t.endpoint);
-    let kind = kind_for(job, t.endpoint);
-    let direction = direction_of(t.direction);
+    slot_of(opened, place).unwrap_or(NO_SLOT)
+}
+
+fn submit_call(job: &Job, slot: u8, t: RequestRecord) -> Call
+    ensures { result ≡ submit_call job.now slot t }
+{
     let request = TransferRequest {
-        kind,
-        direction,
+        kind: kind_for(job, t.endpoint),
+        direction: t.direction,
         setup: t.setup,
         address: t.buffer,
         length: t.length as u64,
     };
-    Call::Submit(
-        slot,
-        request,
-        Readings {
-            command: 0,
-            frame: 0,
-            overlay: 0,
-        },
-    )
-}
-
-fn submit_step(mut ran: Ran, job: Job, k: usize, t: RequestRecord) -> Ran
-    requires k_bound { (k < 64) × (job.opens ≤ 8) }
-    requires tended { Tended ran.store }
-    ensures result_value { ran_view result ≡ submit_step (ran_view ran) job k t }
-    ensures tended_2 { Tended result.store }
-{
-    let before = ran.store;
-    let slots = ran.slots;
-    let called = call_on(before, submit_call(job, slots, t));
-    let answer = called.answer;
-    let after = called.store;
-    ran.store = after;
-    ran.submitted[k] = answered_number(answer);
-    ran.ids[k] = id_told(answer);
-    ran
-}
-
-fn submit_all(start: Ran, job: Job) -> Ran
-    requires opens_bound { (job.opens ≤ 8) × (job.submits ≤ 64) }
-    requires tended { Tended start.store }
-    ensures result_value { ran_view result ≡ submitted_to job.submits (ran_view start) job }
-    ensures tended_2 { Tended result.store }
-{
-    let mut ran = start;
-    let mut k: usize = 0;
-    while k < job.submits {
-        let t = request_of(job, k);
-        ran = submit_step(ran, job, k, t);
-        k += 1;
-    }
-    ran
-}
-
-pub fn run(job: Job) -> Ran
-    requires { (job.opens ≤ 8) × (job.submits ≤ 64) }
-    ensures { ran_view result ≡ run_of job }
-{
-    let start = Ran {
-        store: running_store(),
-        opened: [0; 8],
-        slots: [NO_SLOT; 8],
-        submitted: [0; 64],
-        ids: [0; 64],
+    let readings = Readings {
+        command: 0,
+        frame: 0,
+        overlay: 0,
     };
-    let opened = open_all(start, job);
-    submit_all(opened, job)
+    Call::Submit(slot, request, readings)
+}
+
+fn submit_step(ran: &mut Ran, job: &Job, t: RequestRecord)
+    requires { array_vec_len ran.old.submitted < 64 }
+    ensures { ran_view ran.new ≡ submit_step (ran_view ran.old) job.now t }
+{
+    let slot = slot_for(ran.opened.as_slice(), t.endpoint);
+    let called = call_on(ran.store, submit_call(job, slot, t));
+    ran.store = called.store;
+    ran.submitted.push(Submitted {
+        slot,
+        answer: answered_number(called.answer),
+        id: id_told(called.answer),
+    });
+}
+
+fn submit_all(ran: &mut Ran, job: &Job)
+    requires { array_vec_len ran.old.submitted ≡ 0 }
+    ensures { ran_view ran.new ≡ submitted_to (array_vec_len job.now.requests) (ran_view ran.old) job.now }
+{
+    let requests = job.requests.as_slice();
+    for t in requests {
+        submit_step(ran, job, *t);
+    }
+}
+
+pub fn run(job: &Job) -> Ran
+    ensures { ran_view result ≡ run_of job.now }
+{
+    let mut ran = Ran {
+        store: running_store(),
+        opened: ArrayVec::new(),
+        submitted: ArrayVec::new(),
+    };
+    open_all(&mut ran, job);
+    submit_all(&mut ran, job);
+    ran
 }

@@ -7,26 +7,22 @@ use Rattle.pool.specs.Chains.{blank}
 use Rattle.text.specs.Text.{decimal, decimal_up_to, hex, lines_to}
 use Rattle.job_sheet.specs.declared.outcome.Outcome.{Outcome}
 use Rattle.job_sheet.specs.Sheets.{joined}
-use Rattle.job_sheet.specs.Reading.{filled, packed}
+use Rattle.std.specs.Prelude.{Some, replicate}
 use Rattle.job_sheet.specs.Listing.{descriptor_line, endpoint_line, number_field, request_line, word_field}
-use Rattle.job_sheet.specs.Outcomes.{answered_lines, listing_of, place_lines, slot_of}
-use Rattle.job_sheet.proofs.Examples.{example}
+use Rattle.job_sheet.specs.Outcomes.{answered_lines, listing_of, place_lines}
 
 -- slot 0 was opened and has the first three places; the request's id is 1
 ran : Outcome
 ran =
     record {
-      opened = filled 8 0 (0 ∷ []);
-      slots = filled 8 255 (0 ∷ []);
-      submitted = filled 64 0 (0 ∷ []);
-      ids = filled 64 0 (1 ∷ []);
-      owner = filled 256 0 (1 ∷ 1 ∷ 1 ∷ []);
+      opened = record { items = record { answer = 0; slot = Some 0 } ∷ [] };
+      submitted = record { items = record { slot = 0; answer = 0; id = Some 1 } ∷ [] };
+      owner = 1 ∷ 1 ∷ 1 ∷ replicate 253 0;
       pool =
-          filled 257 blank (
           record { next = 0x00100040; alternate = 0x00100040; token = 0x00080e80; pages = 0x00400000 ∷ 0 ∷ 0 ∷ 0 ∷ 0 ∷ []; upper = zero_slots }
           ∷ record { next = 0x00100080; alternate = 0x00100080; token = 0x80120d80; pages = 0x10000fff ∷ 0x10001000 ∷ 0 ∷ 0 ∷ 0 ∷ []; upper = zero_slots }
-          ∷ record { next = 0x00000001; alternate = 0x00000001; token = 0x80008c80; pages = 0 ∷ 0 ∷ 0 ∷ 0 ∷ 0 ∷ []; upper = zero_slots } ∷ []
-          );
+          ∷ record { next = 0x00000001; alternate = 0x00000001; token = 0x80008c80; pages = 0 ∷ 0 ∷ 0 ∷ 0 ∷ 0 ∷ []; upper = zero_slots }
+          ∷ replicate 254 blank;
     }
 
 -- "E 0 0"
@@ -60,11 +56,11 @@ third =
     48 ∷ 48 ∷ 48 ∷ 48 ∷ 48 ∷ 48 ∷ 32 ∷ 48 ∷ 48 ∷ 48 ∷ 48 ∷ 48 ∷ 48 ∷ 48 ∷ 48 ∷ 32 ∷ 48 ∷ 48 ∷ 48 ∷ 48 ∷ 48 ∷ 48 ∷ 48 ∷ 48 ∷
     32 ∷ 48 ∷ 48 ∷ 48 ∷ 48 ∷ 48 ∷ 48 ∷ 48 ∷ 48 ∷ 32 ∷ 48 ∷ 48 ∷ 48 ∷ 48 ∷ 48 ∷ 48 ∷ 48 ∷ 48 ∷ 10 ∷ []
 
-listed : listing_of (packed example) ran ≡ opened ++ (taken ++ (first ++ (second ++ third)))
-unfolding answered_lines decimal decimal_up_to descriptor_line endpoint_line example filled first hex joined lines_to listing_of number_field opened packed place_lines ran request_line second slot_of taken third word_field
+listed : listing_of ran ≡ opened ++ (taken ++ (first ++ (second ++ third)))
+unfolding answered_lines decimal decimal_up_to descriptor_line endpoint_line first hex joined lines_to listing_of number_field opened place_lines ran request_line second taken third word_field
 listed = refl
 
 -- an empty job prints nothing
-none : (r : Outcome) → listing_of (packed (record { endpoints = []; requests = [] })) r ≡ []
-unfolding filled lines_to listing_of packed
-none r = refl
+none : (o : Outcome) → o.opened.items ≡ [] → o.submitted.items ≡ [] → listing_of o ≡ []
+unfolding lines_to listing_of
+none o e f = rw (e, f)

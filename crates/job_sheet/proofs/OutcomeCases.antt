@@ -4,7 +4,7 @@ use mathlib.Core.Path.{◌≡◌, refl, ◌∙◌}
 use mathlib.Core.Bool.{Bool, true, false}
 use mathlib.Core.List.{List, [], ◌++◌, append-nil}
 use native.Mathlib.Omega.{arith}
-use borrow.Author.Tests.{le-ltb, lt-ltb, ne_eqb}
+use borrow.Author.Tests.{ne_eqb}
 use lib.Dec.{eqb}
 use lib.ListN.{get_or, length}
 use Rattle.descriptor.specs.declared.qtd.QueueTransferDescriptor.{QueueTransferDescriptor}
@@ -12,11 +12,12 @@ use Rattle.pool.specs.Chains.{blank}
 use Rattle.common.specs.Rows.{put_at}
 use Rattle.text.specs.Text.{lines_to, only_if}
 use Rattle.text.proofs.LineLaws.{get_d_any, hidden, lines_none, lines_turn, shown}
+use Rattle.std.specs.Prelude.{unwrap_or}
+use Rattle.job_sheet.specs.declared.outcome.Opened.{Opened}
 use Rattle.job_sheet.specs.declared.outcome.Outcome.{Outcome}
-use Rattle.job_sheet.specs.declared.sheet.Job.{Job}
-use Rattle.job_sheet.specs.Sheets.{no_request}
-use Rattle.job_sheet.specs.Listing.{descriptor_line, request_line}
-use Rattle.job_sheet.specs.Outcomes.{answered_lines, lines_of, place_line, place_lines, slot_of}
+use Rattle.job_sheet.specs.declared.outcome.Submitted.{Submitted}
+use Rattle.job_sheet.specs.Listing.{descriptor_line, endpoint_line, request_line}
+use Rattle.job_sheet.specs.Outcomes.{answered_lines, lines_of, not_opened, not_submitted, opened_line, place_line, place_lines}
 use Rattle.job_sheet.proofs.ListingCases.{then}
 
 -- what a function put, in at most so many bytes
@@ -55,21 +56,24 @@ module _ (o : List ℕ) (at : ℕ) where
       → Within o at (place_line owner pool slot k) q r most
   place_put owner pool slot k q r most h f = rw (get_d_any pool k blank absent h) f
 
-  pub slot_put : (job : Job) (ran : Outcome) (slot k : ℕ) (q : List ℕ) (r most : ℕ) → slot ≡ slot_of ran.slots (get_or job.requests k no_request).endpoint
-      → Within o at (answered_lines ran slot k) q r most → Within o at (lines_of job ran k) q r most
-  slot_put job ran slot k q r most e f = rw (← e) f
+  pub opened_put : (opened : List Opened) (k : ℕ) (d : Opened) (q : List ℕ) (r most : ℕ) → k < length opened
+      → Within o at (endpoint_line k (get_or opened k d).answer) q r most → Within o at (opened_line opened k) q r most
+  opened_put opened k d q r most h f = rw (get_d_any opened k not_opened d h) f
 
-  pub accepted_put : (ran : Outcome) (slot k : ℕ) (q : List ℕ) (r most : ℕ) → get_or ran.submitted k 0 ≡ 0
-      → Within o at (request_line k (get_or ran.submitted k 0) (get_or ran.ids k 0) ++ place_lines ran.owner ran.pool slot) q r most
-      → Within o at (answered_lines ran slot k) q r most
+  pub submitted_put : (ran : Outcome) (xs : List Submitted) (k : ℕ) (d : Submitted) (q : List ℕ) (r most : ℕ) → xs ≡ ran.submitted.items → k < length xs
+      → Within o at (answered_lines ran k (get_or xs k d)) q r most → Within o at (lines_of ran k) q r most
   unfolding answered_lines
-  accepted_put ran slot k q r most e f = rw e (rw e at f)
+  submitted_put ran xs k d q r most e h f = rw (← e, get_d_any xs k not_submitted d h) f
 
-  pub refused_put : (ran : Outcome) (slot k : ℕ) (q : List ℕ) (r : ℕ) → (get_or ran.submitted k 0 ≡ 0 → ⊥)
-      → Within o at (request_line k (get_or ran.submitted k 0) 0) q r 65 → Within o at (answered_lines ran slot k) q r 1441
-  unfolding answered_lines
-  refused_put ran slot k q r e f =
-      rw (ne_eqb (get_or ran.submitted k 0) 0 e, append-nil) (f.0, (f.1.0, omega (arith, f.1.1)))
+  module _ (ran : Outcome) (k id : ℕ) (s : Submitted) (q : List ℕ) (r : ℕ) (ei : id ≡ unwrap_or s.id 0) where
+    pub accepted_put : (most : ℕ) → s.answer ≡ 0 → Within o at (request_line k s.answer id ++ place_lines ran.owner ran.pool s.slot) q r most
+        → Within o at (answered_lines ran k s) q r most
+    unfolding answered_lines
+    accepted_put most e f = rw (← ei, e) (rw e at f)
+
+    pub refused_put : (s.answer ≡ 0 → ⊥) → Within o at (request_line k s.answer id) q r 65 → Within o at (answered_lines ran k s) q r 1441
+    unfolding answered_lines
+    refused_put e f = rw (← ei, ne_eqb s.answer 0 e, append-nil) (f.0, (f.1.0, omega (arith, f.1.1)))
 
   module _ (lines : ℕ → List ℕ) (each : ℕ) where
     pub lined_none : Lined lines each o at o at 0
@@ -89,11 +93,3 @@ module _ (o : List ℕ) (at : ℕ) where
     lined_done p i k n most a b m l =
         let all : k ≡ n = omega arith in
         rw (← all) (l.put, (l.place, omega (arith, l.few, rw (← all) at m)))
-
-pub slot_there : (slots : List ℕ) (k : ℕ) → k < 8 → get_or slots k 0 ≡ slot_of slots k
-unfolding slot_of
-slot_there slots k h = rw (lt-ltb k 8 h)
-
-pub slot_none : (slots : List ℕ) (k : ℕ) → 8 ≤ k → 255 ≡ slot_of slots k
-unfolding slot_of
-slot_none slots k h = rw (le-ltb k 8 h)

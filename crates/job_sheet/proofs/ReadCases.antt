@@ -1,75 +1,93 @@
 -- The cases of the functions that read a sheet.
 use mathlib.Core.Path.{◌≡◌, refl, sym, ap, ◌∙◌}
-use mathlib.Core.Bool.{Bool, true, false, ◌&&◌, and-false, false≢true, cond}
-use mathlib.Core.List.{List}
+use mathlib.Core.Bool.{Bool, true, false, ◌&&◌, ◌||◌, and-false}
+use mathlib.Core.List.{List, [], ◌∷◌, ◌++◌}
 use Prim.Native.Nat.{ℕ, ◌+◌, ◌*◌, ◌≤◌, ◌<◌}
 use native.Mathlib.Omega.{arith}
-use borrow.Author.Tests.{eqb-true, le-ltb, leb-true, lt-ltb, ne_eqb}
+use borrow.Author.Tests.{eq-eqb, eqb-true, le-leb, le-ltb, leb-true, lt-leb, lt-ltb, ne_eqb}
 use lib.Dec.{eqb, leb}
-use lib.ListN.{get_or, length, length-take, take}
-use lib.Seq.{get_or-take}
+use lib.ListN.{get_or, length}
+use Rattle.std.specs.Prelude.{Some, None}
+use Rattle.common.specs.declared.kinds.Direction.{Direction}
+use Rattle.common.specs.declared.kinds.EndpointType.{EndpointType}
+use Rattle.common.specs.declared.kinds.EndpointType.TheVariants.{Control, Isochronous, Bulk, Interrupt}
+use Rattle.common.specs.Kinds as kinds
+use Rattle.pipe.specs.Endpoints.{direction_of, kind_of}
 use Rattle.job_sheet.specs.declared.record.EndpointRecord.{EndpointRecord}
 use Rattle.job_sheet.specs.declared.record.RequestRecord.{RequestRecord}
-use Rattle.job_sheet.specs.declared.sheet.Endpoints.{Endpoints}
-use Rattle.job_sheet.specs.declared.sheet.Requests.{Requests}
-use Rattle.job_sheet.specs.declared.sheet.Sheet.{Sheet}
-use Rattle.job_sheet.specs.declared.sheet.Sizes.{Sizes}
+use Rattle.job_sheet.specs.declared.sheet.Counts.{Counts}
 use Rattle.text.specs.Numbers.{number_at}
-use Rattle.job_sheet.specs.Sheets.{is_control, no_endpoint, no_request}
-use Rattle.job_sheet.specs.Reading.{bad_sheet, endpoint_at, endpoints_fit, endpoints_in, endpoints_of, filled, job_in, no_sizes, opens_of, packed, request_at, request_fits, request_fits_at, requests_fit, requests_in, requests_of, sheet_fits, sheet_of, sizes_fit, sizes_of, submits_of}
-use Rattle.job_sheet.proofs.Rows.{up_length, up_taken}
+use Rattle.job_sheet.specs.Sheets.{is_control, no_endpoint}
+use Rattle.job_sheet.specs.Reading.{counts_of, endpoint_at, endpoint_fits, endpoint_record, endpoints_fit, endpoints_in, endpoints_of, every, if_good, job_in, opens_of, packed, request_at, request_fits, request_record, requests_fit, requests_of, sheet_fits, sheet_of, sizes_fit, submits_of, up_to}
+use Rattle.job_sheet.proofs.Rows.{every_more, every_not, up_length, up_more}
 use Rattle.common.proofs.TestLaws.{both_tells}
 
-pub endpoint_is : (bytes : List ℕ) (at packet : ℕ) → packet ≡ number_at bytes (at + 4) 2
-    → record { kind = get_or bytes at 0; address = get_or bytes (at + 1) 0; number = get_or bytes (at + 2) 0; packet = packet } ≡ endpoint_at bytes at
-unfolding endpoint_at
-endpoint_is bytes at packet e = rw e
+-- ---- a record
 
-pub request_is : (bytes : List ℕ) (at setup buffer size : ℕ) → setup ≡ number_at bytes (at + 2) 6 → buffer ≡ number_at bytes (at + 8) 8
-    → size ≡ number_at bytes (at + 16) 4
-    → record { endpoint = get_or bytes at 0; direction = get_or bytes (at + 1) 0; setup = setup; buffer = buffer; length = size } ≡ request_at bytes at
-unfolding request_at
-request_is bytes at setup buffer size s b l = rw (s, b, l)
+module _ (bytes : List ℕ) (at : ℕ) where
+  pub endpoint_is : (k : EndpointType) (packet : ℕ) → get_or bytes at 0 ≤ 3 → get_or bytes (at + 3) 0 ≡ 0 → k ≡ kind_of (get_or bytes at 0)
+      → packet ≡ number_at bytes (at + 4) 2
+      → Some (record { kind = k; address = get_or bytes (at + 1) 0; number = get_or bytes (at + 2) 0; packet = packet }) ≡ endpoint_record bytes at
+  unfolding endpoint_at endpoint_fits
+  endpoint_is k packet h z ek ep = rw (le-leb (get_or bytes at 0) 3 h, z, ek, ep)
 
-pub control_there : (row : List EndpointRecord) (n k : ℕ) → length row ≡ 8 → n ≤ 8 → k < n
-    → eqb (get_or row k no_endpoint).kind 0 ≡ is_control (take n row) k
-unfolding is_control
-control_there row n k l m h =
-    let within : k < length (take n row) = rw length-take (omega arith) in
-    rw (lt-ltb k (length (take n row)) within, get_or-take n row k no_endpoint h)
+  pub kind_bad : 3 < get_or bytes at 0 → None ≡ endpoint_record bytes at
+  unfolding endpoint_fits
+  kind_bad h = rw (lt-leb (get_or bytes at 0) 3 h)
 
-pub control_not : (row : List EndpointRecord) (n k : ℕ) → n ≤ k → false ≡ is_control (take n row) k
-unfolding is_control
-control_not row n k h =
-    let beyond : length (take n row) ≤ k = rw length-take (omega arith) in
-    rw (le-ltb k (length (take n row)) beyond)
+  pub zero_bad : (get_or bytes (at + 3) 0 ≡ 0 → ⊥) → None ≡ endpoint_record bytes at
+  unfolding endpoint_fits
+  zero_bad z = rw (ne_eqb (get_or bytes (at + 3) 0) 0 z, and-false)
 
-pub sizes_short : (bytes : List ℕ) → length bytes < 4 + 6 * opens_of bytes → no_sizes ≡ sizes_of bytes
-unfolding sizes_of sizes_fit
-sizes_short bytes h =
-    rw (ne_eqb (length bytes) (4 + 6 * opens_of bytes + 20 * submits_of bytes) (λ e. omega (arith, h, e)), and-false)
+  module _ (es : List EndpointRecord) (setup : ℕ) (s : setup ≡ number_at bytes (at + 2) 6) where
+    pub direction_bad : 1 < get_or bytes (at + 1) 0 → None ≡ request_record bytes es at
+    unfolding request_fits
+    direction_bad h = rw (lt-leb (get_or bytes (at + 1) 0) 1 h)
 
--- the tests on the counts as the code has them
-sizes_test : (bytes : List ℕ) (n m : ℕ) → n ≡ opens_of bytes → m ≡ number_at bytes (2 + 6 * n) 2
-    → (leb n 8 && leb m 64 && eqb (length bytes) (2 + 6 * n + 2 + 20 * m)) ≡ sizes_fit bytes
-unfolding sizes_fit
-sizes_test bytes n m e q =
-    let whole : 2 + 6 * n + 2 + 20 * m ≡ 4 + 6 * n + 20 * m = omega arith in
-    rw (whole, q, e)
+    pub setup_bad : (setup ≡ 0 → ⊥) → false ≡ is_control es (get_or bytes at 0) → None ≡ request_record bytes es at
+    unfolding request_fits
+    setup_bad z c = rw (← c, ne_eqb (number_at bytes (at + 2) 6) 0 (λ e. z (s ∙ e)), and-false)
 
-pub sizes_good : (bytes : List ℕ) (n m : ℕ) → n ≡ opens_of bytes → m ≡ number_at bytes (2 + 6 * n) 2
-    → (leb n 8 && leb m 64 && eqb (length bytes) (2 + 6 * n + 2 + 20 * m)) ≡ true
-    → record { good = true; endpoints = n; requests = m } ≡ sizes_of bytes
-unfolding sizes_of
-sizes_good bytes n m e q t = rw (sym (sizes_test bytes n m e q) ∙ t, q, e)
+    pub request_is : (d : Direction) (buffer size : ℕ) → get_or bytes (at + 1) 0 ≤ 1 → (is_control es (get_or bytes at 0) || eqb setup 0) ≡ true
+        → d ≡ direction_of (get_or bytes (at + 1) 0) → buffer ≡ number_at bytes (at + 8) 8 → size ≡ number_at bytes (at + 16) 4
+        → Some (record { endpoint = get_or bytes at 0; direction = d; setup = setup; buffer = buffer; length = size }) ≡ request_record bytes es at
+    unfolding request_at request_fits
+    request_is d buffer size h c ed eb el =
+        let t = rw s at c in
+        rw (le-leb (get_or bytes (at + 1) 0) 1 h, ed, eb, el, s, t)
 
-pub sizes_bad : (bytes : List ℕ) (n m : ℕ) → n ≡ opens_of bytes → m ≡ number_at bytes (2 + 6 * n) 2
-    → (leb n 8 && leb m 64 && eqb (length bytes) (2 + 6 * n + 2 + 20 * m)) ≡ false → no_sizes ≡ sizes_of bytes
-unfolding sizes_of
-sizes_bad bytes n m e q t = rw (sym (sizes_test bytes n m e q) ∙ t)
+-- what may set up
+pub no_setup : (control : Bool) (setup : ℕ) → setup ≡ 0 → (control || eqb setup 0) ≡ true
+no_setup true setup e = refl
+no_setup false setup e = eq-eqb setup 0 e
+
+pub may_set_up : (control : Bool) (setup : ℕ) → true ≡ control → (control || eqb setup 0) ≡ true
+may_set_up control setup e = rw (← e)
+
+-- ---- a control record
+
+not_control : (k : EndpointType) → (k ≡ Control → ⊥) → kinds.is_control k ≡ false
+not_control Control n = absurd (n refl)
+not_control Isochronous n = refl
+not_control Bulk n = refl
+not_control Interrupt n = refl
+
+module _ (es : List EndpointRecord) (k : ℕ) where
+  pub control_there : k < length es → (get_or es k no_endpoint).kind ≡ Control → true ≡ is_control es k
+  unfolding is_control
+  control_there h e = rw (lt-ltb k (length es) h, e)
+
+  pub control_other : k < length es → ((get_or es k no_endpoint).kind ≡ Control → ⊥) → false ≡ is_control es k
+  unfolding is_control
+  control_other h n = rw (lt-ltb k (length es) h, not_control (get_or es k no_endpoint).kind n)
+
+  pub control_none : length es ≤ k → false ≡ is_control es k
+  unfolding is_control
+  control_none h = rw (le-ltb k (length es) h)
+
+-- ---- the counts
 
 pub record Sized (bytes : List ℕ) (n m : ℕ) : Type 0 where
-  pub fits : sizes_fit bytes ≡ true
   pub opens : n ≡ opens_of bytes
   pub submits : m ≡ submits_of bytes
   pub few : n ≤ 8
@@ -82,7 +100,6 @@ sizes_fit_lem bytes t =
     let two = both_tells (leb (opens_of bytes) 8 && leb (submits_of bytes) 64) _ t in
     let one = both_tells (leb (opens_of bytes) 8) (leb (submits_of bytes) 64) two.0 in
     record {
-      fits = t;
       opens = refl;
       submits = refl;
       few = leb-true _ _ one.0;
@@ -90,74 +107,112 @@ sizes_fit_lem bytes t =
       whole = eqb-true _ _ two.1;
     }
 
-sizes_told : (bytes : List ℕ) (b : Bool) → sizes_fit bytes ≡ b
-    → (cond b (record { good = true; endpoints = opens_of bytes; requests = submits_of bytes }) no_sizes).good ≡ true
-    → Sized bytes (cond b (record { good = true; endpoints = opens_of bytes; requests = submits_of bytes }) no_sizes).endpoints
-    (cond b (record { good = true; endpoints = opens_of bytes; requests = submits_of bytes }) no_sizes).requests
-sizes_told bytes true e g = sizes_fit_lem bytes e
-sizes_told bytes false e g = absurd (false≢true g)
+-- what does not hold of the counts
+pub sizes_unfit : (bytes : List ℕ) → (Sized bytes (opens_of bytes) (submits_of bytes) → ⊥) → sizes_fit bytes ≡ false
+sizes_unfit bytes n = by (sizes_fit bytes) refl
+  where
+    by : (b : Bool) → sizes_fit bytes ≡ b → sizes_fit bytes ≡ false
+    by true e = absurd (n (sizes_fit_lem bytes e))
+    by false e = e
 
-pub sizes_known : (bytes : List ℕ) (n : Sizes) → n ≡ sizes_of bytes → n.good ≡ true → Sized bytes n.endpoints n.requests
-unfolding sizes_of
-sizes_known bytes n e g =
-    rw (sym e) at (sizes_told bytes (sizes_fit bytes) refl (ap (λ (s : Sizes). s.good) (sym e) ∙ g))
+pub counts_none : (bytes : List ℕ) → (Sized bytes (opens_of bytes) (submits_of bytes) → ⊥) → None ≡ counts_of bytes
+counts_none bytes n = rw (sizes_unfit bytes n)
 
-sizes_lost : (bytes : List ℕ) (b : Bool) → sizes_fit bytes ≡ b
-    → (cond b (record { good = true; endpoints = opens_of bytes; requests = submits_of bytes }) no_sizes).good ≡ false → sizes_fit bytes ≡ false
-sizes_lost bytes true e g = absurd (false≢true (sym g))
-sizes_lost bytes false e g = e
+pub counts_not : (bytes : List ℕ) (n m : ℕ) → n ≡ opens_of bytes → m ≡ number_at bytes (2 + 6 * n) 2
+    → (n ≤ 8 → m ≤ 64 → length bytes ≡ 2 + 6 * n + 2 + 20 * m → ⊥) → None ≡ counts_of bytes
+counts_not bytes n m e q f =
+    let same : m ≡ submits_of bytes = q ∙ ap (λ (k : ℕ). number_at bytes (2 + 6 * k) 2) e in
+    counts_none bytes
+    (λ z. f (omega (arith, e, z.few)) (omega (arith, same, z.some)) (omega (arith, e, same, z.whole)))
 
-pub sheet_sizes : (bytes : List ℕ) (n : Sizes) (s : Sheet) → n ≡ sizes_of bytes → n.good ≡ false → s ≡ bad_sheet → s ≡ sheet_of bytes
-unfolding sheet_of sheet_fits sizes_of
-sheet_sizes bytes n s e g b =
-    b ∙ rw (sizes_lost bytes (sizes_fit bytes) refl (ap (λ (s : Sizes). s.good) (sym e) ∙ g))
+pub counts_are : (bytes : List ℕ) (n m : ℕ) → n ≡ opens_of bytes → m ≡ number_at bytes (2 + 6 * n) 2 → n ≤ 8 → m ≤ 64
+    → length bytes ≡ 2 + 6 * n + 2 + 20 * m → Some (record { endpoints = n; requests = m }) ≡ counts_of bytes
+unfolding sizes_fit
+counts_are bytes n m e q few some whole =
+    let same : m ≡ submits_of bytes = q ∙ ap (λ (k : ℕ). number_at bytes (2 + 6 * k) 2) e in
+    let a : opens_of bytes ≤ 8 = omega (arith, e) in
+    let b : submits_of bytes ≤ 64 = omega (arith, same) in
+    let w : length bytes ≡ 4 + 6 * opens_of bytes + 20 * submits_of bytes = omega (arith, e, same) in
+    rw (le-leb (opens_of bytes) 8 a, le-leb (submits_of bytes) 64 b, eq-eqb (length bytes) _ w, e, same)
 
-pub endpoints_done : (bytes : List ℕ) (count i : ℕ) (row : List EndpointRecord) (good : Bool) → i ≤ count → count ≤ i
-    → row ≡ filled 8 no_endpoint (endpoints_in bytes i) → good ≡ endpoints_fit bytes i
-    → record { good = good; records = row } ≡ endpoints_of bytes count
-unfolding endpoints_of
-endpoints_done bytes count i row good a b e g =
-    let all : i ≡ count = omega arith in
-    rw (e, g, all)
+-- of the counts that are told
+pub counts_told : (bytes : List ℕ) (c : Counts) → Some c ≡ counts_of bytes → (sizes_fit bytes ≡ true) × Sized bytes c.endpoints c.requests
+counts_told bytes c e = by (sizes_fit bytes) refl e
+  where
+    by : (b : Bool) → sizes_fit bytes ≡ b → Some c ≡ if_good b (record { endpoints = opens_of bytes; requests = submits_of bytes })
+        → (sizes_fit bytes ≡ true) × Sized bytes c.endpoints c.requests
+    by true q t =
+        let same : c ≡ record { endpoints = opens_of bytes; requests = submits_of bytes } = cc in
+        rw same (q, sizes_fit_lem bytes q)
+    by false q t = cc
 
-pub requests_done : (bytes : List ℕ) (es : List EndpointRecord) (n count i : ℕ) (row : List RequestRecord) (good : Bool) → i ≤ count → count ≤ i
-    → row ≡ filled 64 no_request (requests_in bytes n i) → good ≡ requests_fit bytes es n i
-    → record { good = good; records = row } ≡ requests_of bytes es n count
-unfolding requests_of
-requests_done bytes es n count i row good a b e g =
-    let all : i ≡ count = omega arith in
-    rw (e, g, all)
+-- what is read is good, and is what there is
+pub told : {A : Type 0} (good : Bool) (x y : A) → Some x ≡ if_good good y → (good ≡ true) × (x ≡ y)
+told true x y e = let same : x ≡ y = cc in (refl, same)
+told false x y e = cc
 
-pub request_tested : (bytes : List ℕ) (es : List EndpointRecord) (at : ℕ) (r : RequestRecord) (control b : Bool) → r ≡ request_at bytes at
-    → control ≡ is_control es r.endpoint → b ≡ request_fits control r → b ≡ request_fits_at bytes es at
-request_tested bytes es at r control b e q t = t ∙ rw (q, e)
+pub untold : {A : Type 0} (good : Bool) (y : A) → None ≡ if_good good y → good ≡ false
+untold true y e = cc
+untold false y e = refl
 
--- the two tables of a sheet whose sizes fit, as the code joins them
-tables_test : (bytes : List ℕ) (e : Endpoints) (r : Requests) → e ≡ endpoints_of bytes (opens_of bytes)
-    → r ≡ requests_of bytes (take (opens_of bytes) e.records) (opens_of bytes) (submits_of bytes)
-    → sizes_fit bytes ≡ true → (e.good && r.good) ≡ sheet_fits bytes
-unfolding sheet_fits endpoints_of requests_of
-tables_test bytes e r p q t = rw (q, p, up_taken 8 no_endpoint _ (opens_of bytes), t)
+-- ---- the records, one after the other
 
-sheet_whole : (bytes : List ℕ) (e : Endpoints) (r : Requests) → sizes_fit bytes ≡ true → e ≡ endpoints_of bytes (opens_of bytes)
-    → r ≡ requests_of bytes (take (opens_of bytes) e.records) (opens_of bytes) (submits_of bytes) → (e.good && r.good) ≡ true
-    → record { good = true; job = record { opens = opens_of bytes; endpoints = e.records; submits = submits_of bytes; requests = r.records } } ≡ sheet_of bytes
-unfolding sheet_of job_in packed endpoints_of requests_of
-sheet_whole bytes e r f p q t = rw (sym (tables_test bytes e r p q f) ∙ t, q, p, up_length, up_length)
+module _ {A : Type 0} (fits : ℕ → Bool) (at : ℕ → A) where
+  -- one more that is good
+  pub good_more : (xs ys : List A) (i : ℕ) (x : A) → (xs ≡ up_to at i) × (every fits i ≡ true) → Some x ≡ if_good (fits i) (at i) → ys ≡ xs ++ (x ∷ [])
+      → (ys ≡ up_to at (i + 1)) × (every fits (i + 1) ≡ true)
+  good_more xs ys i x h e q =
+      let t = told (fits i) x (at i) e in
+      (q ∙ rw (h.0, t.1) (sym (up_more at i)), every_more fits i h.1 t.0)
 
-pub sheet_good : (bytes : List ℕ) (n m : ℕ) (e : Endpoints) (r : Requests) → Sized bytes n m → e ≡ endpoints_of bytes n
-    → r ≡ requests_of bytes (take n e.records) n m → (e.good && r.good) ≡ true
-    → record { good = true; job = record { opens = n; endpoints = e.records; submits = m; requests = r.records } } ≡ sheet_of bytes
-sheet_good bytes n m e r z p q t =
-    rw (z.opens, z.submits) (sheet_whole bytes e r z.fits (rw z.opens at p) (rw (z.opens, z.submits) at q) t)
+  pub good_few : (xs : List A) (i : ℕ) → (xs ≡ up_to at i) × (every fits i ≡ true) → length xs ≡ i
+  good_few xs i h = ap length h.0 ∙ up_length at i
 
-pub sheet_bad : (bytes : List ℕ) (n m : ℕ) (e : Endpoints) (r : Requests) (s : Sheet) → Sized bytes n m → e ≡ endpoints_of bytes n
-    → r ≡ requests_of bytes (take n e.records) n m → (e.good && r.good) ≡ false → s ≡ bad_sheet → s ≡ sheet_of bytes
-unfolding sheet_of
-sheet_bad bytes n m e r s z p q t b =
-    b ∙ rw (sym (tables_test bytes e r (rw z.opens at p) (rw (z.opens, z.submits) at q) z.fits) ∙ t)
+  -- one that is bad
+  pub good_not : (n i : ℕ) → i < n → None ≡ if_good (fits i) (at i) → None ≡ if_good (every fits n) (up_to at n)
+  good_not n i h e = rw (every_not fits n i h (untold (fits i) (at i) e))
 
--- the counts of a bad sheet
-pub bad_counts : (s : Sheet) → s ≡ bad_sheet → (s.job.opens ≤ 8) × (s.job.submits ≤ 64)
-unfolding bad_sheet packed
-bad_counts s e = rw e (omega arith)
+  pub good_all : (xs : List A) (n i : ℕ) → i ≡ n → (xs ≡ up_to at i) × (every fits i ≡ true) → Some xs ≡ if_good (every fits n) (up_to at n)
+  good_all xs n i e h =
+      let t = rw e at h.1 in
+      rw (t, h.0, e)
+
+-- ---- the sheet
+
+module _ (bytes : List ℕ) where
+  pub no_counts : None ≡ counts_of bytes → None ≡ sheet_of bytes
+  unfolding sheet_of sheet_fits
+  no_counts e = rw (untold (sizes_fit bytes) (record { endpoints = opens_of bytes; requests = submits_of bytes }) e)
+
+  module _ (c : Counts) (ec : Some c ≡ counts_of bytes) where
+    known : (sizes_fit bytes ≡ true) × (c ≡ record { endpoints = opens_of bytes; requests = submits_of bytes })
+    known = told (sizes_fit bytes) c (record { endpoints = opens_of bytes; requests = submits_of bytes }) ec
+
+    pub no_endpoints : None ≡ endpoints_of bytes c.endpoints → None ≡ sheet_of bytes
+    unfolding sheet_of sheet_fits
+    no_endpoints e =
+        let h = rw known.1 at e in
+        rw (known.0, untold (endpoints_fit bytes (opens_of bytes)) _ h)
+
+    module _ (es : List EndpointRecord) (ee : Some es ≡ endpoints_of bytes c.endpoints) where
+      known_endpoints : (endpoints_fit bytes (opens_of bytes) ≡ true) × (es ≡ endpoints_in bytes (opens_of bytes))
+      known_endpoints =
+          let h = rw known.1 at ee in
+          told (endpoints_fit bytes (opens_of bytes)) es _ h
+
+      pub many : length es ≡ opens_of bytes
+      many = ap length known_endpoints.1 ∙ up_length _ (opens_of bytes)
+
+      pub no_requests : None ≡ requests_of bytes es c.requests → None ≡ sheet_of bytes
+      unfolding sheet_of sheet_fits
+      no_requests e =
+          let h = rw (known.1, many, known_endpoints.1) at e in
+          rw (known.0, known_endpoints.0, untold (requests_fit bytes (endpoints_in bytes (opens_of bytes)) (opens_of bytes) (submits_of bytes)) _ h)
+
+      pub all_read : (rs : List RequestRecord) → Some rs ≡ requests_of bytes es c.requests
+          → Some (packed (record { endpoints = es; requests = rs })) ≡ sheet_of bytes
+      unfolding sheet_of sheet_fits job_in
+      all_read rs er =
+          let h = rw (known.1, many, known_endpoints.1) at er in
+          let t = told (requests_fit bytes (endpoints_in bytes (opens_of bytes)) (opens_of bytes) (submits_of bytes)) rs _ h in
+          rw (known.0, known_endpoints.0, t.0, t.1, known_endpoints.1)

@@ -1,16 +1,16 @@
--- A row that is filled from the front, and tests that are joined on the way.
-use mathlib.Core.Path.{◌≡◌, refl, sym, ap, ◌∙◌}
-use mathlib.Core.Bool.{Bool, true, false, ◌&&◌}
-use mathlib.Core.List.{List, [], ◌∷◌, ◌++◌, append_assoc}
-use Prim.Native.Nat.{ℕ, zero, suc, ◌+◌, ◌-◌, ◌<◌}
+-- A row of things one more, and tests that are joined on the way.
+use mathlib.Core.Path.{◌≡◌, refl, sym, ◌∙◌}
+use mathlib.Core.Bool.{Bool, true, false}
+use mathlib.Core.List.{List, [], ◌∷◌, ◌++◌}
+use Prim.Native.Nat.{ℕ, zero, suc, ◌+◌, ◌<◌}
 use native.Mathlib.Numerals.{add-one}
 use native.Mathlib.Omega.{arith}
 use borrow.Author.Tests.{ltb-false, ltb-true}
-use Rattle.common.proofs.TestLaws.{both_makes, both_tells}
+use Rattle.common.proofs.TestLaws.{both_makes, both_tells, false_true}
 use lib.Dec.{ltb}
-use lib.ListN.{get_or-append, get_or, length, length-append, replicate, set, take}
-use lib.Seq.{ext_get_or, get_or_at, set-append_seam, take-append_seam}
-use Rattle.job_sheet.specs.Reading.{every, filled, up_to}
+use lib.ListN.{get_or-append, get_or, length, length-append}
+use lib.Seq.{ext_get_or, get_or_at}
+use Rattle.job_sheet.specs.Reading.{every, up_to}
 
 module _ {A : Type 0} where
   pub up_length : (f : ℕ → A) (n : ℕ) → length (up_to f n) ≡ n
@@ -37,32 +37,13 @@ module _ {A : Type 0} where
       ext_get_or d (up_to f (length xs)) xs (up_length f (length xs))
       (λ i l. let h' : i < length xs = omega (arith, l, up_length f (length xs)) in up_at f (length xs) i d h' ∙ h i h')
 
-  filled_more : (size : ℕ) (none : A) (xs : List A) (x : A) → length xs < size
-      → set (filled size none xs) (length xs) x ≡ filled size none (xs ++ (x ∷ []))
-  unfolding filled
-  filled_more size none xs x h =
-      let rest : size - length xs ≡ suc (size - (length xs + 1)) = omega arith in
-      rw (rest, length-append) (set-append_seam xs _ _ x ∙ sym (append_assoc xs (x ∷ []) _))
-
-  pub stored : (size : ℕ) (none : A) (f : ℕ → A) (row : List A) (i : ℕ) (x : A) → i < size → row ≡ filled size none (up_to f i) → x ≡ f i
-      → set row i x ≡ filled size none (up_to f (i + 1))
+  pub up_more : (f : ℕ → A) (i : ℕ) → up_to f (i + 1) ≡ up_to f i ++ (f i ∷ [])
   unfolding up_to
-  stored size none f row i x h e q =
-      let l : length (up_to f i) < size = omega (arith, h, up_length f i) in
-      rw (e, q, add-one i) (ap (λ (k : ℕ). set (filled size none (up_to f i)) k (f i)) (sym (up_length f i))
-      ∙ filled_more size none (up_to f i) (f i) l)
+  up_more f i = rw (add-one i)
 
-  pub filled_taken : (size : ℕ) (none : A) (xs : List A) → take (length xs) (filled size none xs) ≡ xs
-  unfolding filled
-  filled_taken size none xs = take-append_seam xs (replicate (size - length xs) none)
-
-  pub up_taken : (size : ℕ) (none : A) (f : ℕ → A) (n : ℕ) → take n (filled size none (up_to f n)) ≡ up_to f n
-  up_taken size none f n =
-      ap (λ (k : ℕ). take k (filled size none (up_to f n))) (sym (up_length f n)) ∙ filled_taken size none (up_to f n)
-
-pub joins : (f : ℕ → Bool) (good : Bool) (i : ℕ) (b : Bool) → good ≡ every f i → b ≡ f i → (good && b) ≡ every f (i + 1)
+pub every_more : (f : ℕ → Bool) (i : ℕ) → every f i ≡ true → f i ≡ true → every f (i + 1) ≡ true
 unfolding every
-joins f good i b e q = rw (e, q, add-one i)
+every_more f i e q = rw (add-one i, e, q)
 
 pub every_all : (f : ℕ → Bool) (n : ℕ) → ((i : ℕ) → i < n → f i ≡ true) → every f n ≡ true
 unfolding every
@@ -79,3 +60,10 @@ every_each f (suc n) i e h = go (ltb i n) refl (both_tells (every f n) (f n) e) 
     go false q t rec =
         let last : i ≡ n = omega (arith, h, ltb-false i n q) in
         rw last t.1
+
+pub every_not : (f : ℕ → Bool) (n i : ℕ) → i < n → f i ≡ false → every f n ≡ false
+every_not f n i h e = by (every f n) refl
+  where
+    by : (b : Bool) → every f n ≡ b → every f n ≡ false
+    by true q = absurd (false_true (sym e ∙ every_each f n i q h))
+    by false q = q

@@ -2,8 +2,9 @@
 use Prim.Native.Nat.{ℕ}
 use mathlib.Core.List.{List}
 use mathlib.Core.Path.{◌≡◌, sym, ◌∙◌}
-use Rattle.job_sheet.specs.declared.sheet.Sheet.{Sheet}
+use Rattle.std.specs.Prelude.{Option}
+use Rattle.job_sheet.specs.declared.sheet.Job.{Job}
 use Rattle.job_sheet.specs.Reading.{sheet_of}
 
-pub same_sheet : (bytes : List ℕ) (a b : Sheet) → a ≡ sheet_of bytes → b ≡ sheet_of bytes → a ≡ b
+pub same_sheet : (bytes : List ℕ) (a b : Option Job) → a ≡ sheet_of bytes → b ≡ sheet_of bytes → a ≡ b
 same_sheet bytes a b e f = e ∙ sym f

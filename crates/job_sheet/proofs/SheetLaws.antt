@@ -1,39 +1,33 @@
 -- The reader answers a job exactly where the bytes are that job's.
 use mathlib.Core.Path.{◌≡◌, refl, sym, ap, ◌∙◌}
-use mathlib.Core.Bool.{Bool, true, false, false≢true, cond}
+use mathlib.Core.Bool.{true}
 use mathlib.Core.List.{List, [], ◌++◌, append-nil}
 use Prim.Native.Nat.{ℕ, suc, ◌+◌, ◌*◌, ◌≤◌, ◌<◌}
 use native.Mathlib.Omega.{arith}
 use borrow.Author.Tests.{eq-eqb, le-leb}
 use lib.ListN.{drop, get_or, length, length-append, length-drop, take, take-append-drop}
 use lib.Seq.{drop_at, drop-drop, take_all, take_at}
-use Rattle.job_sheet.specs.declared.sheet.Sheet.{Sheet}
+use Rattle.std.specs.Prelude.{Some, None}
+use Rattle.job_sheet.specs.declared.sheet.Job.{Job}
 use Rattle.text.specs.Numbers.{little_endian, number_of}
 use Rattle.job_sheet.specs.Sheets.{GoodEndpoint, GoodJob, GoodRequest, SheetJob, bytes_of, endpoint_bytes, job_of, joined, no_endpoint, no_request, request_bytes}
-use Rattle.job_sheet.specs.Reading.{bad_sheet, endpoint_at, endpoint_fits, endpoint_place, endpoints_fit, endpoints_in, job_in, opens_of, packed, request_at, request_fits_at, request_place, requests_fit, requests_in, sheet_fits, sheet_of, sizes_fit, submits_of}
+use Rattle.job_sheet.specs.Reading.{endpoint_at, endpoint_fits, endpoint_place, endpoints_fit, endpoints_in, job_in, opens_of, packed, request_at, request_fits, request_place, requests_fit, requests_in, sheet_fits, sheet_of, sizes_fit, submits_of}
 use Rattle.text.proofs.NumberLaws.{Bytes, bytes_length, number_of_bytes, part_written}
-use Rattle.job_sheet.proofs.Rows.{every_all, every_each, filled_taken, up_is, up_length}
+use Rattle.job_sheet.proofs.Rows.{every_all, every_each, up_is, up_length}
 use Rattle.common.proofs.TestLaws.{both_tells, both_makes}
-use Rattle.job_sheet.proofs.ReadCases.{Sized, sizes_fit_lem}
+use Rattle.job_sheet.proofs.ReadCases.{Sized, sizes_fit_lem, told}
 use Rattle.job_sheet.proofs.Tables.{all_at, joined_length, table_at, table_written, up_all}
 use Rattle.job_sheet.proofs.RecordLaws.{endpoint_good, endpoint_length, endpoint_passes, endpoint_read, endpoint_written, request_good, request_length, request_passes, request_read, request_written}
 
 -- the code's struct holds the job
 pub packed_holds : (j : SheetJob) → job_of (packed j) ≡ j
-unfolding packed
-packed_holds j = λ i. record { endpoints = filled_taken 8 no_endpoint j.endpoints i; requests = filled_taken 64 no_request j.requests i }
+packed_holds j = refl
 
-fits_told : (bytes : List ℕ) (b : Bool) → sheet_fits bytes ≡ b
-    → (cond b (record { good = true; job = packed (job_in bytes) }) bad_sheet).good ≡ true → sheet_fits bytes ≡ true
-unfolding bad_sheet
-fits_told bytes true e g = e
-fits_told bytes false e g = absurd (false≢true g)
-
-pub good_fits : (bytes : List ℕ) → (sheet_of bytes).good ≡ true → sheet_fits bytes ≡ true
+pub good_fits : (bytes : List ℕ) (job : Job) → Some job ≡ sheet_of bytes → (sheet_fits bytes ≡ true) × (job ≡ packed (job_in bytes))
 unfolding sheet_of
-good_fits bytes g = fits_told bytes (sheet_fits bytes) refl g
+good_fits bytes job e = told (sheet_fits bytes) job (packed (job_in bytes)) e
 
-pub fits_good : (bytes : List ℕ) → sheet_fits bytes ≡ true → sheet_of bytes ≡ record { good = true; job = packed (job_in bytes) }
+pub fits_good : (bytes : List ℕ) → sheet_fits bytes ≡ true → sheet_of bytes ≡ Some (packed (job_in bytes))
 unfolding sheet_of
 fits_good bytes f = rw f
 
@@ -50,9 +44,9 @@ module _ (bytes : List ℕ) (b : Bytes bytes) (f : sheet_fits bytes ≡ true) wh
   endpoint_fits_at : (i : ℕ) → i < opens_of bytes → endpoint_fits bytes (2 + 6 * i) ≡ true
   endpoint_fits_at i h = every_each (λ k. endpoint_fits bytes (endpoint_place k)) (opens_of bytes) i tables.0 h
 
-  request_fits_at_lem : (i : ℕ) → i < submits_of bytes → request_fits_at bytes (endpoints_in bytes (opens_of bytes)) (4 + 6 * opens_of bytes + 20 * i) ≡ true
-  request_fits_at_lem i h =
-      every_each (λ k. request_fits_at bytes (endpoints_in bytes (opens_of bytes)) (request_place (opens_of bytes) k)) (submits_of bytes) i tables.1 h
+  request_fits_at : (i : ℕ) → i < submits_of bytes → request_fits bytes (endpoints_in bytes (opens_of bytes)) (4 + 6 * opens_of bytes + 20 * i) ≡ true
+  request_fits_at i h =
+      every_each (λ k. request_fits bytes (endpoints_in bytes (opens_of bytes)) (request_place (opens_of bytes) k)) (submits_of bytes) i tables.1 h
 
   read_good : GoodJob (job_in bytes)
   unfolding job_in
@@ -60,10 +54,10 @@ module _ (bytes : List ℕ) (b : Bytes bytes) (f : sheet_fits bytes ≡ true) wh
       record {
         opens = rw up_length sized.few;
         submits = rw up_length sized.some;
-        endpoints = up_all GoodEndpoint _ (opens_of bytes) (λ i h. endpoint_good bytes (2 + 6 * i) b (omega (arith, sized.whole, h)) (endpoint_fits_at i h));
+        endpoints = up_all GoodEndpoint _ (opens_of bytes) (λ i h. endpoint_good bytes (2 + 6 * i) b (omega (arith, sized.whole, h)));
         requests =
             up_all (GoodRequest (endpoints_in bytes (opens_of bytes))) _ (submits_of bytes)
-            (λ i h. request_good bytes (endpoints_in bytes (opens_of bytes)) (4 + 6 * opens_of bytes + 20 * i) b (omega (arith, sized.whole, h)) (request_fits_at_lem i h));
+            (λ i h. request_good bytes (endpoints_in bytes (opens_of bytes)) (4 + 6 * opens_of bytes + 20 * i) b (omega (arith, sized.whole, h)) (request_fits_at i h));
       }
 
   -- some bytes from a place on, and the rest
@@ -80,18 +74,17 @@ module _ (bytes : List ℕ) (b : Bytes bytes) (f : sheet_fits bytes ≡ true) wh
       let es : joined endpoint_bytes (endpoints_in bytes n) ≡ take (6 * n) (drop 2 bytes) =
       table_written endpoint_bytes 6 2 bytes _ n (λ i h. endpoint_written bytes (2 + 6 * i) b (omega (arith, w, h)) (endpoint_fits_at i h)) in
       let rs : joined request_bytes (requests_in bytes n m) ≡ drop (4 + 6 * n) bytes =
-      table_written request_bytes 20 (4 + 6 * n) bytes _ m (λ i h. request_written bytes (4 + 6 * n + 20 * i) b (omega (arith, w, h)))
+      table_written request_bytes 20 (4 + 6 * n) bytes _ m (λ i h. request_written bytes (endpoints_in bytes n) (4 + 6 * n + 20 * i) b (omega (arith, w, h)) (request_fits_at i h))
       ∙ take_all (20 * m) (drop (4 + 6 * n) bytes) rest in
       let four : 4 + 6 * n ≡ 2 + 6 * n + 2 = omega arith in
       rw (up_length, up_length, es, rs, part_written bytes 0 2 b (omega (arith, w)), part_written bytes (2 + 6 * n) 2 b (omega (arith, w)), four, glue (2 + 6 * n) 2, glue 2 (6 * n))
       (glue 0 2)
 
-pub sound : (bytes : List ℕ) → Bytes bytes → (sheet_of bytes).good ≡ true
-    → GoodJob (job_of (sheet_of bytes).job) × (bytes_of (job_of (sheet_of bytes).job) ≡ bytes)
-sound bytes b g =
-    let f = good_fits bytes g in
-    let e : job_of (sheet_of bytes).job ≡ job_in bytes = ap (λ (s : Sheet). job_of s.job) (fits_good bytes f) ∙ packed_holds (job_in bytes) in
-    rw e (read_good bytes b f, read_written bytes b f)
+pub sound : (bytes : List ℕ) → Bytes bytes → (job : Job) → Some job ≡ sheet_of bytes → GoodJob (job_of job) × (bytes_of (job_of job) ≡ bytes)
+sound bytes b job e =
+    let f = good_fits bytes job e in
+    let same : job_of job ≡ job_in bytes = ap job_of f.1 in
+    rw same (read_good bytes b f.0, read_written bytes b f.0)
 
 -- written, then read
 module _ (j : SheetJob) (g : GoodJob j) (bytes : List ℕ) (e : bytes_of j ≡ bytes) where
@@ -178,8 +171,8 @@ module _ (j : SheetJob) (g : GoodJob j) (bytes : List ℕ) (e : bytes_of j ≡ b
 
   requests_pass : requests_fit bytes (endpoints_in bytes (opens_of bytes)) (opens_of bytes) (submits_of bytes) ≡ true
   requests_pass =
-      rw (submits_is, opens_is, endpoints_are) (every_all (λ i. request_fits_at bytes j.endpoints (request_place n i)) m
-      (λ i h. rw (request_is i h) (request_passes j.endpoints _ (good_request i h))))
+      rw (submits_is, opens_is, endpoints_are) (every_all (λ i. request_fits bytes j.endpoints (request_place n i)) m
+      (λ i h. request_passes j.endpoints bytes (4 + 6 * n + 20 * i) _ _ (good_request i h) (request_place_lem i h)))
 
   written_fits : sheet_fits bytes ≡ true
   unfolding sheet_fits
@@ -191,25 +184,15 @@ module _ (j : SheetJob) (g : GoodJob j) (bytes : List ℕ) (e : bytes_of j ≡ b
   written_job =
       rw (submits_is, opens_is) (λ i. record { endpoints = endpoints_are i; requests = requests_are i })
 
-pub complete : (j : SheetJob) → GoodJob j → (bytes : List ℕ) → bytes_of j ≡ bytes
-    → ((sheet_of bytes).good ≡ true) × (job_of (sheet_of bytes).job ≡ j)
+pub complete : (j : SheetJob) → GoodJob j → (bytes : List ℕ) → bytes_of j ≡ bytes → sheet_of bytes ≡ Some (packed j)
 complete j g bytes e =
-    let s = fits_good bytes (written_fits j g bytes e) in
-    (ap (λ (s : Sheet). s.good) s, ap (λ (s : Sheet). job_of s.job) s ∙ packed_holds (job_in bytes) ∙ written_job j g bytes e)
+    fits_good bytes (written_fits j g bytes e) ∙ ap (λ (x : SheetJob). Some (packed x)) (written_job j g bytes e)
 
--- a bad sheet is no job's, and has the empty job
-empty_told : (bytes : List ℕ) (b : Bool) → sheet_fits bytes ≡ b
-    → (cond b (record { good = true; job = packed (job_in bytes) }) bad_sheet).good ≡ false
-    → cond b (record { good = true; job = packed (job_in bytes) }) bad_sheet ≡ bad_sheet
-empty_told bytes true e g = absurd (false≢true (sym g))
-empty_told bytes false e g = refl
-
-pub bad_empty : (bytes : List ℕ) → (sheet_of bytes).good ≡ false → sheet_of bytes ≡ bad_sheet
-unfolding sheet_of
-bad_empty bytes g = empty_told bytes (sheet_fits bytes) refl g
-
-pub bad_sheet_lem : (bytes : List ℕ) → (sheet_of bytes).good ≡ false → (j : SheetJob) → GoodJob j → bytes_of j ≡ bytes → ⊥
-bad_sheet_lem bytes b j g e = false≢true (sym b ∙ (complete j g bytes e).0)
+-- a bad sheet is no job's
+pub bad_sheet_lem : (bytes : List ℕ) → None ≡ sheet_of bytes → (j : SheetJob) → GoodJob j → bytes_of j ≡ bytes → ⊥
+bad_sheet_lem bytes b j g e =
+    let some = complete j g bytes e in
+    cc
 
 -- no sheet is longer than the longest
 pub longest : (j : SheetJob) → GoodJob j → length (bytes_of j) ≤ 1332

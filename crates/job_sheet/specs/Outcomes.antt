@@ -1,13 +1,20 @@
 -- Document 01, the job sheet: the listing of a job that was run. All E lines, then for each request its R line followed at
 -- once by its D lines in chain order if accepted.
-use Rattle.std.specs.Prelude.{cond, ℕ, ◌+◌, List, ◌++◌, eqb, ltb, get_or}
+use Rattle.std.specs.Prelude.{ℕ, ◌+◌, Option, None, List, ◌++◌, eqb, get_or, length, unwrap_or}
 use Rattle.descriptor.specs.declared.qtd.QueueTransferDescriptor.{QueueTransferDescriptor}
 use Rattle.pool.specs.Chains.{blank}
 use Rattle.text.specs.Text.{lines_to, only_if}
+use Rattle.job_sheet.specs.declared.outcome.Opened.{Opened}
 use Rattle.job_sheet.specs.declared.outcome.Outcome.{Outcome}
-use Rattle.job_sheet.specs.declared.sheet.Job.{Job}
-use Rattle.job_sheet.specs.Sheets.{no_request}
+use Rattle.job_sheet.specs.declared.outcome.Submitted.{Submitted}
 use Rattle.job_sheet.specs.Listing.{descriptor_line, endpoint_line, request_line}
+
+-- what a record or a request that is not there came to
+abbrev pub not_opened : Opened
+not_opened = record { answer = 0; slot = None }
+
+abbrev pub not_submitted : Submitted
+not_submitted = record { slot = 0; answer = 0; id = None }
 
 -- a slot's descriptor: slot k has owner k + 1
 abbrev pub place_line : List ℕ → List QueueTransferDescriptor → ℕ → ℕ → List ℕ
@@ -17,28 +24,26 @@ place_line owner pool slot p = only_if (eqb (get_or owner p 0) (slot + 1)) (desc
 unfoldable pub place_lines : List ℕ → List QueueTransferDescriptor → ℕ → List ℕ
 place_lines owner pool slot = lines_to (place_line owner pool slot) 16
 
--- the slot of an endpoint record; 255, which is none, where the record is not there
-unfoldable pub slot_of : List ℕ → ℕ → ℕ
-slot_of slots k = cond (ltb k 8) (get_or slots k 0) 255
+-- the slot of an endpoint record
+unfoldable pub slot_of : List Opened → ℕ → Option ℕ
+slot_of opened k = (get_or opened k not_opened).slot
 
 -- a request's R line, "id (0 if refused)", and its D lines if accepted
-unfoldable pub answered_lines : Outcome → ℕ → ℕ → List ℕ
-answered_lines ran slot k =
-    let answer = get_or ran.submitted k 0 in
-    let accepted = eqb answer 0 in
-    request_line k answer (cond accepted (get_or ran.ids k 0) 0) ++ only_if accepted (place_lines ran.owner ran.pool slot)
+unfoldable pub answered_lines : Outcome → ℕ → Submitted → List ℕ
+answered_lines o k s =
+    request_line k s.answer (unwrap_or s.id 0) ++ only_if (eqb s.answer 0) (place_lines o.owner o.pool s.slot)
 
-abbrev pub lines_of : Job → Outcome → ℕ → List ℕ
-lines_of job ran k = answered_lines ran (slot_of ran.slots (get_or job.requests k no_request).endpoint) k
+abbrev pub lines_of : Outcome → ℕ → List ℕ
+lines_of o k = answered_lines o k (get_or o.submitted.items k not_submitted)
 
-abbrev pub request_lines : Job → Outcome → ℕ → List ℕ
-request_lines job ran n = lines_to (lines_of job ran) n
+abbrev pub request_lines : Outcome → List ℕ
+request_lines o = lines_to (lines_of o) (length o.submitted.items)
 
-abbrev pub opened_line : List ℕ → ℕ → List ℕ
-opened_line opened k = endpoint_line k (get_or opened k 0)
+abbrev pub opened_line : List Opened → ℕ → List ℕ
+opened_line opened k = endpoint_line k (get_or opened k not_opened).answer
 
-abbrev pub endpoint_lines : List ℕ → ℕ → List ℕ
-endpoint_lines opened n = lines_to (opened_line opened) n
+abbrev pub endpoint_lines : List Opened → List ℕ
+endpoint_lines opened = lines_to (opened_line opened) (length opened)
 
-unfoldable pub listing_of : Job → Outcome → List ℕ
-listing_of job ran = endpoint_lines ran.opened job.opens ++ request_lines job ran job.submits
+unfoldable pub listing_of : Outcome → List ℕ
+listing_of o = endpoint_lines o.opened.items ++ request_lines o

@@ -1,7 +1,6 @@
 // Job sheets: the bytes of a sheet read, and the lines of its listing.
 #![tactic(auto)]
 
-pub mod job;
 pub mod listing;
 pub mod outcome;
 pub mod record;

@@ -33,10 +33,8 @@ fn put_words(out: &mut [u8], at: usize, words: &[u32]) -> usize
     ensures value { result ≡ at + 9 * length words.now }
 {
     let mut next = at;
-    let mut i: usize = 0;
-    while i < words.len() {
-        next = put_word(out, next, words[i]);
-        i += 1;
+    for word in words {
+        next = put_word(out, next, *word);
     }
     next
 }

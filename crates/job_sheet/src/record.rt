@@ -1,82 +1,100 @@
 // One record of a sheet.
-ghost use Rattle.std.specs.Prelude.{◌≡◌, ◌+◌, ◌≤◌, length, take};
-ghost use Rattle.job_sheet.specs.Reading.{endpoint_at, endpoint_fits, request_at, request_fits, is_control};
+ghost use Rattle.std.specs.Prelude.{◌≡◌, ◌+◌, ◌≤◌, length};
+ghost use Rattle.job_sheet.specs.Reading.{endpoint_record, is_control, request_record};
 
-use common::kinds::KIND_MAX;
+use common::kinds::{Direction, EndpointType, KIND_MAX};
+use pipe::endpoints::{direction_of, kind_of};
 use text::number::{number16, number32, number48, number64};
 
 #[derive(Clone, Copy)]
 pub struct EndpointRecord {
-    pub kind: u8,
+    pub kind: EndpointType,
     pub address: u8,
     pub number: u8,
     pub packet: u16,
+}
+
+// What the places of a list that are not yet used hold.
+impl Default for EndpointRecord {
+    fn default() -> EndpointRecord {
+        EndpointRecord {
+            kind: EndpointType::Control,
+            address: 0,
+            number: 0,
+            packet: 0,
+        }
+    }
 }
 
 // The six setup bytes are one number, byte 0 lowest.
 #[derive(Clone, Copy)]
 pub struct RequestRecord {
     pub endpoint: u8,
-    pub direction: u8,
+    pub direction: Direction,
     pub setup: u64,
     pub buffer: u64,
     pub length: u32,
 }
 
-pub fn endpoint_at(bytes: &[u8], at: usize) -> EndpointRecord
-    requires { at + 6 ≤ length bytes.now }
-    ensures { result ≡ endpoint_at bytes.now at }
-{
-    let packet = number16(bytes, at + 4);
-    EndpointRecord {
-        kind: bytes[at],
-        address: bytes[at + 1],
-        number: bytes[at + 2],
-        packet,
+impl Default for RequestRecord {
+    fn default() -> RequestRecord {
+        RequestRecord {
+            endpoint: 0,
+            direction: Direction::Out,
+            setup: 0,
+            buffer: 0,
+            length: 0,
+        }
     }
 }
 
-pub fn endpoint_fits(bytes: &[u8], at: usize) -> bool
+// A kind that there is, and 0 in the byte that must be 0.
+pub fn endpoint_at(bytes: &[u8], at: usize) -> Option<EndpointRecord>
     requires { at + 6 ≤ length bytes.now }
-    ensures { result ≡ endpoint_fits bytes.now at }
+    ensures { result ≡ endpoint_record bytes.now at }
 {
     let kind = bytes[at];
     let zero = bytes[at + 3];
-    (kind <= KIND_MAX) & (zero == 0)
-}
-
-pub fn request_at(bytes: &[u8], at: usize) -> RequestRecord
-    requires { at + 20 ≤ length bytes.now }
-    ensures { result ≡ request_at bytes.now at }
-{
-    let setup = number48(bytes, at + 2);
-    let buffer = number64(bytes, at + 8);
-    let length = number32(bytes, at + 16);
-    RequestRecord {
-        endpoint: bytes[at],
-        direction: bytes[at + 1],
-        setup,
-        buffer,
-        length,
+    if kind > KIND_MAX || zero != 0 {
+        return None;
     }
+    Some(EndpointRecord {
+        kind: kind_of(kind),
+        address: bytes[at + 1],
+        number: bytes[at + 2],
+        packet: number16(bytes, at + 4),
+    })
 }
 
 // Whether the record is there, and control.
-pub fn is_control(endpoints: [EndpointRecord; 8], count: usize, k: u8) -> bool
-    requires { count ≤ 8 }
-    ensures { result ≡ is_control (take count endpoints) k }
+pub fn is_control(endpoints: &[EndpointRecord], k: u8) -> bool
+    ensures { result ≡ is_control endpoints.now k }
 {
-    let at = k as usize;
-    if at < count {
-        let e = endpoints[at];
-        e.kind == 0
-    } else {
-        false
+    match endpoints.get(k as usize) {
+        Some(e) => matches!(e.kind, EndpointType::Control),
+        None => false,
     }
 }
 
-pub fn request_fits(control: bool, r: RequestRecord) -> bool
-    ensures { result ≡ request_fits control r }
+// A direction that there is, and no setup bytes unless the endpoint is control.
+pub fn request_at(bytes: &[u8], at: usize, endpoints: &[EndpointRecord]) -> Option<RequestRecord>
+    requires { at + 20 ≤ length bytes.now }
+    ensures { result ≡ request_record bytes.now endpoints.now at }
 {
-    (r.direction <= 1) & (control | (r.setup == 0))
+    let endpoint = bytes[at];
+    let direction = bytes[at + 1];
+    let setup = number48(bytes, at + 2);
+    if direction > 1 {
+        return None;
+    }
+    if setup != 0 && !is_control(endpoints, endpoint) {
+        return None;
+    }
+    Some(RequestRecord {
+        endpoint,
+        direction: direction_of(direction),
+        setup,
+        buffer: number64(bytes, at + 8),
+        length: number32(bytes, at + 16),
+    })
 }

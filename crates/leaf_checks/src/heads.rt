@@ -1,4 +1,5 @@
 // Descriptors, setup packets, heads and links, the tables of EHCI 2.3 and the writes of an answer.
+use crate::Record;
 use crate::out::{bytes, low_byte, low_word, word, words};
 use crate::tokens::kind;
 use common::kinds::EndpointType;
@@ -15,13 +16,11 @@ use token::qtd::QtdToken;
 const TOP: u64 = 0x1_0000_0000;
 
 fn thirteen(d: QueueTransferDescriptor) {
-    let pages = d.pages;
-    let upper = d.upper;
     word(d.next);
     word(d.alternate);
     word(d.token);
-    words(&pages);
-    words(&upper);
+    words(&d.pages);
+    words(&d.upper);
 }
 
 // Fresh, and with a next one. A buffer that would end above 2^32 has no descriptor.
@@ -37,8 +36,7 @@ fn descriptor(token: QtdToken, address: u64, length: u64, next: u32) {
 }
 
 fn setup(setup: u64, length: u64) {
-    let packet = setup_packet_bytes(setup, length);
-    bytes(&packet);
+    bytes(&setup_packet_bytes(setup, length));
 }
 
 // Each number is in its range: the remainders are for the proof.
@@ -46,14 +44,12 @@ fn opened(kind: EndpointType, address: u64, number: u64, packet: u64) {
     let a = (address % 128) as u8;
     let n = (number % 16) as u8;
     let p = (packet % 1025) as u16;
-    let row = QueueHead::endpoint(kind, a, n, p).words();
-    words(&row);
+    words(&QueueHead::endpoint(kind, a, n, p).words());
 }
 
 // The ring head at an address, the words that lead to a head and to a descriptor there, and nowhere.
 fn ring(address: u32) {
-    let row = QueueHead::async_head(address).words();
-    words(&row);
+    words(&QueueHead::async_head(address).words());
     word(head::ehci_qh_link(address));
     word(next_word(Some(address)));
     word(next_word(None));
@@ -79,16 +75,11 @@ fn order() {
 }
 
 fn tables() {
-    let offsets = operational::offset_table();
-    words(&offsets);
-    let usbcmd = operational::usbcmd_table();
-    words(&usbcmd);
-    let usbsts = operational::usbsts_table();
-    words(&usbsts);
-    let usbintr = operational::usbintr_table();
-    words(&usbintr);
-    let portsc = EhciPortStatus::table();
-    words(&portsc);
+    words(&operational::offset_table());
+    words(&operational::usbcmd_table());
+    words(&operational::usbsts_table());
+    words(&operational::usbintr_table());
+    words(&EhciPortStatus::table());
 }
 
 fn write(w: Write) {
@@ -98,14 +89,10 @@ fn write(w: Write) {
 
 // The writes of an answer as they grow: the count, and every place.
 fn six(w: Writes) {
-    let all = w.writes;
     word(w.count);
-    write(all[0]);
-    write(all[1]);
-    write(all[2]);
-    write(all[3]);
-    write(all[4]);
-    write(all[5]);
+    for each in &w.writes {
+        write(*each);
+    }
 }
 
 fn grown(value: u32) {
@@ -126,7 +113,14 @@ fn offset(port: u8) {
     }
 }
 
-pub fn head_line(function: u64, a: u64, b: u64, c: u64, d: u64) {
+pub fn head_line(record: Record) {
+    let Record {
+        function,
+        a,
+        b,
+        c,
+        d,
+    } = record;
     match function {
         10 => descriptor(QtdToken(low_word(a)), b, c, low_word(d)),
         11 => setup(a, b),

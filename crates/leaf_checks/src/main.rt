@@ -9,56 +9,54 @@ mod tokens;
 
 use crate::heads::head_line;
 use crate::tokens::token_line;
-use turns::left::after_turn;
 
 const STDIN: i32 = 0;
 
-// The lower seven bytes move up, and one more comes in.
-fn shifted(value: u64, byte: u8) -> u64 {
-    value % 0x100_0000_0000_0000 * 256 + byte as u64
-}
-
-fn value_of(bytes: &[u8]) -> u64 {
-    let mut value: u64 = 0;
-    let mut left = bytes.len();
-    while 0 < left {
-        left -= 1;
-        value = shifted(value, bytes[left]);
-    }
-    value
+// A function's number, and what it is given.
+#[derive(Clone, Copy)]
+pub struct Record {
+    pub function: u64,
+    pub a: u64,
+    pub b: u64,
+    pub c: u64,
+    pub d: u64,
 }
 
 // Eight bytes, the lowest first; 0 at the end.
 fn next() -> u64 {
     let mut bytes = [0u8; 8];
     io::read_full(STDIN, &mut bytes);
-    value_of(&bytes)
+    u64::from_le_bytes(bytes)
 }
 
 // No function has the number 0: it is the end.
-fn turn() -> bool {
+fn next_record() -> Option<Record> {
     let function = next();
     let a = next();
     let b = next();
     let c = next();
     let d = next();
     if function == 0 {
-        return false;
+        return None;
     }
-    out::put(function);
-    if function < 10 || function == 20 {
-        token_line(function, a, b, c, d);
-    } else {
-        head_line(function, a, b, c, d);
-    }
-    io::write_all(out::STDOUT, b"\n");
-    true
+    Some(Record {
+        function,
+        a,
+        b,
+        c,
+        d,
+    })
 }
 
 fn main() {
-    let mut left: u64 = u64::MAX;
-    while left > 0 {
-        let more = turn();
-        left = after_turn(left, more);
+    for _ in 0..u64::MAX {
+        let Some(record) = next_record() else { break };
+        out::put(record.function);
+        if record.function < 10 || record.function == 20 {
+            token_line(record);
+        } else {
+            head_line(record);
+        }
+        io::write_all(out::STDOUT, b"\n");
     }
 }

@@ -7,26 +7,22 @@ pub fn put(value: u64) {
 }
 
 pub fn word(value: u32) {
-    put(value as u64);
-}
-
-fn byte(value: u8) {
-    put(value as u64);
+    put(u64::from(value));
 }
 
 pub fn flag(set: bool) {
-    put(if set { 1 } else { 0 });
+    put(u64::from(set));
 }
 
 pub fn words(values: &[u32]) {
-    for k in 0..values.len() {
-        word(values[k]);
+    for value in values {
+        word(*value);
     }
 }
 
 pub fn bytes(values: &[u8]) {
-    for k in 0..values.len() {
-        byte(values[k]);
+    for value in values {
+        put(u64::from(*value));
     }
 }
 

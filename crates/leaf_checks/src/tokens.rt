@@ -1,4 +1,5 @@
 // Register bits, tokens, plans and chunks, and the port's status.
+use crate::Record;
 use crate::out::{flag, low_byte, low_word, put, word};
 use common::kinds::{Direction, EndpointType};
 use register::bits;
@@ -91,7 +92,14 @@ fn port(raw: u32) {
     flag(status.is_high_speed_device_ready());
 }
 
-pub fn token_line(function: u64, a: u64, b: u64, c: u64, d: u64) {
+pub fn token_line(record: Record) {
+    let Record {
+        function,
+        a,
+        b,
+        c,
+        d,
+    } = record;
     match function {
         1 => bits(low_word(a), low_word(b)),
         2 => made(pid(a), b, c == 1, d == 1),

@@ -3,24 +3,21 @@
 // `tools/log_cases.py` makes the logs, and what is to be printed from document 01.
 #![tactic(auto)]
 
-ghost use Rattle.std.specs.Prelude.{◌≤◌};
+ghost use Rattle.std.specs.Prelude.{◌≤◌, IfSome};
 ghost use Rattle.replayer.specs.Words.{Kept};
 
 use replayer::keeper::{Keeper, fresh_keeper};
 use replayer::turn::turn;
-use turns::left::after_turn;
 
 const STDIN: i32 = 0;
 
 const STDOUT: i32 = 1;
 
-// A log so far: the number of its next record, whether it goes on, and whether anything comes after it.
+// A log that goes on: what is kept, and the number of its next record.
 #[derive(Clone, Copy)]
 struct Log {
     keeper: Keeper,
     number: u64,
-    going: bool,
-    more: bool,
 }
 
 fn fresh_log() -> Log
@@ -29,27 +26,13 @@ fn fresh_log() -> Log
     Log {
         keeper: fresh_keeper(),
         number: 0,
-        going: true,
-        more: true,
     }
 }
 
-fn ended(log: Log) -> Log
-    requires { Kept log.keeper }
-    ensures { Kept result.keeper }
-{
-    let keeper = log.keeper;
-    Log {
-        keeper,
-        number: log.number,
-        going: log.going,
-        more: false,
-    }
-}
-
-// No log has that many records: the bound is for the proof.
-fn after_number(n: u64) -> u64 {
-    if n < u64::MAX { n + 1 } else { n }
+fn next_byte() -> Option<u8> {
+    let mut byte = [0u8; 1];
+    let got = io::read_full(STDIN, &mut byte);
+    (got != 0).then_some(byte[0])
 }
 
 // The next n bytes, and zeros.
@@ -62,50 +45,39 @@ fn next_bytes(n: usize) -> [u8; 64]
 }
 
 // One record of a log, as `replay` does it.
-fn next_record(log: Log, n: usize) -> Log
-    requires n_bound { n ≤ 64 }
-    requires kept { Kept log.keeper }
-    ensures { Kept result.keeper }
+fn after_record(log: Log, bytes: &[u8]) -> Option<Log>
+    requires { Kept log.keeper }
+    ensures { IfSome result (λ after. Kept after.keeper) }
 {
-    let bytes = next_bytes(n);
-    if !log.going {
-        return log;
-    }
-    let keeper = log.keeper;
     let mut out = [0u8; 131072];
-    let turned = turn(&mut out, keeper, log.number, &bytes[..n]);
+    let turned = turn(&mut out, log.keeper, log.number, bytes);
     io::write_all(STDOUT, &out[..turned.end]);
-    let kept = turned.keeper;
-    Log {
-        keeper: kept,
-        number: after_number(log.number),
-        going: turned.more,
-        more: true,
-    }
+    let keeper = turned.keeper?;
+    Some(Log {
+        keeper,
+        number: log.number.saturating_add(1),
+    })
 }
 
-fn next(log: Log) -> Log
-    requires { Kept log.keeper }
-    ensures { Kept result.keeper }
+// A log that begins, or one more record, of which nothing is said once its log has ended.
+fn next(log: Option<Log>, said: u8) -> Option<Log>
+    requires { IfSome log (λ before. Kept before.keeper) }
+    ensures { IfSome result (λ after. Kept after.keeper) }
 {
-    let mut length = [0u8; 1];
-    let got = io::read_full(STDIN, &mut length);
-    if got == 0 {
-        return ended(log);
-    }
-    let said = length[0];
     if said > 64 {
         io::write_all(STDOUT, b"=\n");
-        return fresh_log();
+        return Some(fresh_log());
     }
-    next_record(log, said as usize)
+    let bytes = next_bytes(said as usize);
+    after_record(log?, &bytes[..said as usize])
 }
 
 fn main() {
-    let mut log = fresh_log();
-    let mut left: u64 = u64::MAX;
-    while left > 0 {
-        log = next(log);
-        left = after_turn(left, log.more);
+    let mut log = Some(fresh_log());
+    for _ in 0..u64::MAX {
+        let Some(said) = next_byte() else {
+            return;
+        };
+        log = next(log, said);
     }
 }

@@ -1,5 +1,5 @@
 -- What is kept from record to record, over a plain store. The words of the code's keeper stand for its state.
-use Rattle.std.specs.Prelude.{ℕ, Bool}
+use Rattle.std.specs.Prelude.{ℕ, Bool, Option}
 use Rattle.opening.specs.declared.hub.EhciRootHub.{EhciRootHub}
 use Rattle.store.specs.Plain.{Store}
 
@@ -8,8 +8,7 @@ pub record Keeper : Type 0 where
   pub hub : EhciRootHub
   pub opened : Bool
 
--- what is kept, where what is said ends, and whether the log goes on
+-- what is kept, where the log goes on, and where what is said ends
 pub record Turned : Type 0 where
-  pub keeper : Keeper
+  pub keeper : Option Keeper
   pub end : ℕ
-  pub more : Bool

@@ -1,5 +1,5 @@
 -- A log replayed: what one record does to the controller that is kept, and the block that is shown of it.
-use Rattle.std.specs.Prelude.{ℕ, Bool, true, false, cond, List, [], ◌∷◌, ◌++◌, get_or, length, Err, None, Ok, Result, ⊤}
+use Rattle.std.specs.Prelude.{ℕ, Bool, true, false, Option, Some, None, List, [], ◌∷◌, ◌++◌, get_or, length, Err, Ok, Result, ⊤}
 use Rattle.call_log.specs.Block.{block_of}
 use Rattle.call_log.specs.CallLine.{answered_line, scan_line}
 use Rattle.call_log.specs.Records.{entry_of}
@@ -82,10 +82,6 @@ unfoldable pub power_effect : Keeper → ℕ → ℕ → PortPower → Effect
 power_effect k n number p =
     record { keeper = k; first = scan_line n number p.answer None p.wait None; opening = false; writes = p.writes }
 
--- a bad record does nothing; no block is shown of it
-unfoldable pub no_effect : Keeper → ℕ → ℕ → Effect
-no_effect k n number = record { keeper = k; first = answered_line n number (Ok R.Pending); opening = false; writes = no_writes }
-
 -- the record's number, the call's number, the call
 abbrev pub act_of : Keeper → ℕ → ℕ → Entry → Effect
 act_of k n number (E.Open settings) = open_effect k n number (open_store k.store settings)
@@ -93,35 +89,30 @@ act_of k n number (E.Call call) = call_effect k n number (call_store k.store cal
 act_of k n number E.StartScan = scan_effect k n number (start_of k.hub)
 act_of k n number (E.ScanStep reading) = scan_effect k n number (step_of k.hub reading)
 act_of k n number (E.PortPower port reading) = power_effect k n number (power_of k.hub port reading)
-act_of k n number E.Bad = no_effect k n number
 
 -- the block: the rows are held against those before the call
 unfoldable pub shown_of : Keeper → Effect → List ℕ
 shown_of k e =
     block_of e.first e.opening (rows_of k) (rows_of e.keeper) e.keeper.opened e.keeper.store.state e.writes
 
-abbrev pub is_bad : Entry → Bool
-is_bad (E.Open settings) = false
-is_bad (E.Call call) = false
-is_bad E.StartScan = false
-is_bad (E.ScanStep reading) = false
-is_bad (E.PortPower port reading) = false
-is_bad E.Bad = true
-
 -- "`bad record N` (N from 0)"
 unfoldable pub bad_line : ℕ → List ℕ
 bad_line n = 98 ∷ 97 ∷ 100 ∷ 32 ∷ 114 ∷ 101 ∷ 99 ∷ 111 ∷ 114 ∷ 100 ∷ 32 ∷ (decimal n ++ (10 ∷ []))
 
--- what record n did, by its bytes
-unfoldable pub record_effect : Keeper → ℕ → List ℕ → Effect
-record_effect k n bytes = act_of k n (get_or bytes 0 0) (entry_of bytes)
+-- what is said of an entry with a call's number: its block, or that it is bad
+abbrev pub said_as : Keeper → ℕ → ℕ → Option Entry → List ℕ
+said_as k n number None = bad_line n
+said_as k n number (Some entry) = shown_of k (act_of k n number entry)
 
--- what is said of it: its block, or that it is bad
+-- what is said of record n, by its bytes
 unfoldable pub said_of : Keeper → ℕ → List ℕ → List ℕ
-said_of k n bytes = cond (is_bad (entry_of bytes)) (bad_line n) (shown_of k (record_effect k n bytes))
+said_of k n bytes = said_as k n (get_or bytes 0 0) (entry_of bytes)
 
--- and nothing after it
+-- a bad record does nothing, and the log ends at it
+abbrev pub kept_as : Keeper → ℕ → ℕ → Option Entry → Option Keeper
+kept_as k n number None = None
+kept_as k n number (Some entry) = Some (act_of k n number entry).keeper
+
 unfoldable pub turned_of : Keeper → ℕ → List ℕ → Turned
 turned_of k n bytes =
-    cond (is_bad (entry_of bytes)) (record { keeper = k; end = length (said_of k n bytes); more = false })
-    (record { keeper = (record_effect k n bytes).keeper; end = length (said_of k n bytes); more = true })
+    record { keeper = kept_as k n (get_or bytes 0 0) (entry_of bytes); end = length (said_of k n bytes) }

@@ -4,17 +4,17 @@ ghost use Rattle.replayer.specs.Replays.{
   act_of,
   call_effect,
   fresh_keeper,
-  no_effect,
   open_effect,
   power_effect,
   rows_of,
   scan_effect,
 };
-ghost use Rattle.replayer.specs.Words.{Kept, effect_of, keeper_view};
+ghost use Rattle.replayer.specs.Words.{effect_of, keeper_view};
 ghost use Rattle.root_hub.specs.Calls.{power_of};
 ghost use Rattle.store.specs.Stores.{call_store, open_store};
 ghost use Rattle.store.specs.Words.{store_view};
 
+pub use crate::kept::Keeper;
 use call_log::block::Rows;
 use call_log::call_line::{call_line, scan_line};
 use call_log::line::Line;
@@ -26,15 +26,7 @@ use register::writes::Writes;
 use root_hub::calls::Scanned;
 use root_hub::ports::PortEvent;
 use settings::settings::Settings;
-use store::store::{Store, blank_store, call_on, open_in};
-
-// Before a first accepted opening every call answers 1.
-#[derive(Clone, Copy)]
-pub struct Keeper {
-    pub store: Store,
-    pub hub: EhciRootHub,
-    pub opened: bool,
-}
+use store::store::{blank_store, call_on, open_in};
 
 // What is kept after a record, the first line of its block, and its writes.
 #[derive(Clone, Copy)]
@@ -46,8 +38,7 @@ pub struct Acted {
 }
 
 pub fn fresh_keeper() -> Keeper
-    ensures result_value { keeper_view result ≡ fresh_keeper }
-    ensures kept { Kept result }
+    ensures { keeper_view result ≡ fresh_keeper }
 {
     Keeper {
         store: blank_store(),
@@ -56,41 +47,28 @@ pub fn fresh_keeper() -> Keeper
     }
 }
 
-pub fn rows_of(k: Keeper) -> Rows
-    ensures { result ≡ rows_of (keeper_view k) }
+pub fn rows_of(k: &Keeper) -> Rows
+    ensures { result ≡ rows_of (keeper_view k.now) }
 {
-    let store = k.store;
-    let hub = k.hub;
-    let pool = store.pool;
-    let heads = store.heads;
-    let frames = store.frames;
-    let setups = store.setups;
-    let ports = hub.states;
     Rows {
-        pool,
-        heads,
-        frames,
-        setups,
-        ports,
+        pool: k.store.rows.pool,
+        heads: k.store.rows.heads,
+        frames: k.store.rows.frames,
+        setups: k.store.rows.setups,
+        ports: k.hub.states,
     }
 }
 
 // A refused opening leaves the earlier controller as it was.
 fn act_open(k: Keeper, n: u64, number: u8, settings: Settings) -> Acted
-    requires { Kept k }
-    ensures result_value { effect_of result ≡ open_effect (keeper_view k) n number (open_store (store_view k.store) settings) }
-    ensures kept { Kept result.keeper }
+    ensures { effect_of result ≡ open_effect (keeper_view k) n number (open_store (store_view k.store) settings) }
 {
-    let before = k.store;
-    let opened = open_in(before, settings);
-    let answer = opened.answer;
-    let store = opened.store;
-    let hub = opened.hub;
-    match answer {
+    let opened = open_in(k.store, settings);
+    match opened.answer {
         Ok(()) => Acted {
             keeper: Keeper {
-                store,
-                hub,
+                store: opened.store,
+                hub: opened.hub,
                 opened: true,
             },
             line: call_line(n, number, Ok(Answered::Done(Given::Nothing))),
@@ -107,68 +85,46 @@ fn act_open(k: Keeper, n: u64, number: u8, settings: Settings) -> Acted
 }
 
 fn act_call(k: Keeper, n: u64, number: u8, call: Call) -> Acted
-    requires { Kept k }
-    ensures result_value { effect_of result ≡ call_effect (keeper_view k) n number (call_store (store_view k.store) call) }
-    ensures kept { Kept result.keeper }
+    ensures { effect_of result ≡ call_effect (keeper_view k) n number (call_store (store_view k.store) call) }
 {
-    let before = k.store;
-    let hub = k.hub;
-    let called = call_on(before, call);
-    let store = called.store;
-    let answer = called.answer;
-    let writes = called.writes;
-    let line = call_line(n, number, answer);
+    let called = call_on(k.store, call);
     Acted {
         keeper: Keeper {
-            store,
-            hub,
+            store: called.store,
+            hub: k.hub,
             opened: k.opened,
         },
-        line,
+        line: call_line(n, number, called.answer),
         opening: false,
-        writes,
+        writes: called.writes,
     }
 }
 
 fn act_scan(k: Keeper, n: u64, number: u8, scanned: Scanned) -> Acted
-    requires { Kept k }
-    ensures result_value { effect_of result ≡ scan_effect (keeper_view k) n number scanned }
-    ensures kept { Kept result.keeper }
+    ensures { effect_of result ≡ scan_effect (keeper_view k) n number scanned }
 {
-    let store = k.store;
-    let hub = scanned.hub;
     let reply = scanned.reply;
-    let answer = reply.answer;
-    let read = reply.read;
-    let event = reply.event;
-    let writes = reply.writes;
-    let line = scan_line(n, number, answer, read, reply.wait, event);
     Acted {
         keeper: Keeper {
-            store,
-            hub,
+            store: k.store,
+            hub: scanned.hub,
             opened: k.opened,
         },
-        line,
+        line: scan_line(n, number, reply.answer, reply.read, reply.wait, reply.event),
         opening: false,
-        writes,
+        writes: reply.writes,
     }
 }
 
 // Port power reads nothing next and has no event.
 fn act_power(k: Keeper, n: u64, number: u8, port: u8, reading: u32) -> Acted
-    requires { Kept k }
-    ensures result_value { effect_of result ≡ power_effect (keeper_view k) n number (power_of k.hub port reading) }
-    ensures kept { Kept result.keeper }
+    ensures { effect_of result ≡ power_effect (keeper_view k) n number (power_of k.hub port reading) }
 {
-    let hub = k.hub;
-    let powered = root_hub::calls::port_power(hub, port, reading);
-    let answer = powered.answer;
-    let writes = powered.writes;
+    let powered = root_hub::calls::port_power(k.hub, port, reading);
     let line = scan_line(
         n,
         number,
-        answer,
+        powered.answer,
         None,
         powered.wait,
         None,
@@ -177,36 +133,18 @@ fn act_power(k: Keeper, n: u64, number: u8, port: u8, reading: u32) -> Acted
         keeper: k,
         line,
         opening: false,
-        writes,
+        writes: powered.writes,
     }
 }
 
-fn act_nothing(k: Keeper, n: u64, number: u8) -> Acted
-    requires { Kept k }
-    ensures result_value { effect_of result ≡ no_effect (keeper_view k) n number }
-    ensures kept { Kept result.keeper }
-{
-    Acted {
-        keeper: k,
-        line: call_line(n, number, Ok(Answered::Pending)),
-        opening: false,
-        writes: Writes::none(),
-    }
-}
-
-// A bad record does nothing; the log ends at it.
 pub fn act(k: Keeper, n: u64, number: u8, entry: Entry) -> Acted
-    requires { Kept k }
-    ensures result_value { effect_of result ≡ act_of (keeper_view k) n number entry }
-    ensures kept { Kept result.keeper }
+    ensures { effect_of result ≡ act_of (keeper_view k) n number entry }
 {
-    let hub = k.hub;
     match entry {
         Entry::Open(settings) => act_open(k, n, number, settings),
         Entry::Call(call) => act_call(k, n, number, call),
-        Entry::StartScan => act_scan(k, n, number, root_hub::calls::start(hub)),
-        Entry::ScanStep(reading) => act_scan(k, n, number, root_hub::calls::step(hub, reading)),
+        Entry::StartScan => act_scan(k, n, number, root_hub::calls::start(k.hub)),
+        Entry::ScanStep(reading) => act_scan(k, n, number, root_hub::calls::step(k.hub, reading)),
         Entry::PortPower(port, reading) => act_power(k, n, number, port, reading),
-        Entry::Bad => act_nothing(k, n, number),
     }
 }

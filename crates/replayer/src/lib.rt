@@ -2,5 +2,6 @@
 #![tactic(auto)]
 
 pub mod keeper;
+pub mod kept;
 pub mod run;
 pub mod turn;

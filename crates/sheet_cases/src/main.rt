@@ -7,7 +7,6 @@ ghost use Rattle.std.specs.Prelude.{◌≤◌};
 
 use job_run::print::print_sheet;
 use text::number::number16;
-use turns::left::after_turn;
 
 const STDIN: i32 = 0;
 
@@ -19,8 +18,7 @@ const LONGEST: usize = 1408;
 fn length_within(said: u16) -> usize
     ensures { result ≤ 1408 }
 {
-    let n = said as usize;
-    if n <= LONGEST { n } else { LONGEST }
+    (said as usize).min(LONGEST)
 }
 
 // The next n bytes, and zeros.
@@ -47,10 +45,11 @@ fn turn() -> bool {
     true
 }
 
+// No input has more turns.
 fn main() {
-    let mut left: u64 = u64::MAX;
-    while left > 0 {
-        let more = turn();
-        left = after_turn(left, more);
+    for _ in 0..u64::MAX {
+        if !turn() {
+            break;
+        }
     }
 }

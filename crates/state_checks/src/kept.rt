@@ -25,13 +25,12 @@ pub struct Kept {
     pub hub: EhciRootHub,
     pub rows: Rows,
     pub lent: Lent,
-    pub trial: Fields,
+    pub trial: Option<Fields>,
 }
 
-// What is kept after a call, its line, and its writes.
+// The line of a call, and its writes.
 #[derive(Clone, Copy)]
-pub struct Acted {
-    pub kept: Kept,
+pub struct Said {
     pub line: Line,
     pub writes: Writes,
 }
@@ -56,24 +55,6 @@ const NO_ROW: Lent = Lent {
     setups: 0,
 };
 
-const NO_TRIAL: Fields = Fields {
-    number: 0,
-    b1: 0,
-    b2: 0,
-    b3: 0,
-    b4: 0,
-    b5: 0,
-    b6: 0,
-    b7: 0,
-    n1: 0,
-    n2: 0,
-    n3: 0,
-    n4: 0,
-    n5: 0,
-    n6: 0,
-    n7: 0,
-};
-
 fn sevens() -> Rows {
     let seven = QueueTransferDescriptor {
         next: 7,
@@ -91,22 +72,6 @@ fn sevens() -> Rows {
     }
 }
 
-// Rows of sevens, and what a refused opening gives.
-pub fn blank() -> Kept {
-    let o = opened(NOTHING, sevens(), NO_ROW);
-    let rows = o.rows;
-    let opening = o.opening;
-    let core = opening.core;
-    let hub = opening.hub;
-    Kept {
-        core,
-        hub,
-        rows,
-        lent: NO_ROW,
-        trial: NO_TRIAL,
-    }
-}
-
 fn answered(answer: Result<(), Refusal>) -> Result<Answered, Refusal> {
     match answer {
         Ok(()) => Ok(Answered::Done(Given::Nothing)),
@@ -114,125 +79,96 @@ fn answered(answer: Result<(), Refusal>) -> Result<Answered, Refusal> {
     }
 }
 
-// What a refused opening gives is taken too: no call accepts it.
-fn act_open(k: Kept, n: u64, settings: Settings) -> Acted {
-    let before = k.rows;
-    let lent = k.lent;
-    let trial = k.trial;
-    let o = opened(settings, before, lent);
-    let rows = o.rows;
-    let opening = o.opening;
-    let core = opening.core;
-    let hub = opening.hub;
-    let answer = opening.answer;
-    Acted {
-        kept: Kept {
-            core,
-            hub,
-            rows,
-            lent,
-            trial,
-        },
-        line: call_line(n, 1, answered(answer)),
-        writes: Writes::none(),
-    }
-}
-
-fn act_call(k: Kept, n: u64, number: u8, call: Call) -> Acted {
-    let before = k.rows;
-    let core = k.core;
-    let hub = k.hub;
-    let lent = k.lent;
-    let trial = k.trial;
-    let settings = core.settings;
-    let x = called(core, before, lent, call);
-    let rows = x.rows;
-    let reply = x.reply;
-    let rest = reply.rest;
-    let answer = reply.answer;
-    let writes = reply.writes;
-    Acted {
-        kept: Kept {
-            core: Core { settings, rest },
-            hub,
-            rows,
-            lent,
-            trial,
-        },
-        line: call_line(n, number, answer),
-        writes,
-    }
-}
-
-fn act_scan(k: Kept, n: u64, number: u8, scanned: Scanned) -> Acted {
-    let core = k.core;
-    let rows = k.rows;
-    let lent = k.lent;
-    let trial = k.trial;
-    let hub = scanned.hub;
-    let reply = scanned.reply;
-    let answer = reply.answer;
-    let read = reply.read;
-    let event = reply.event;
-    let writes = reply.writes;
-    Acted {
-        kept: Kept {
-            core,
-            hub,
-            rows,
-            lent,
-            trial,
-        },
-        line: scan_line(n, number, answer, read, reply.wait, event),
-        writes,
-    }
-}
-
-fn act_power(k: Kept, n: u64, port: u8, reading: u32) -> Acted {
-    let hub = k.hub;
-    let powered = root_hub::calls::port_power(hub, port, reading);
-    let answer = powered.answer;
-    let writes = powered.writes;
-    Acted {
-        kept: k,
-        line: scan_line(
-            n,
-            20,
-            answer,
-            None,
-            powered.wait,
-            None,
-        ),
-        writes,
-    }
-}
-
 // A submit with any setup number: a log's are below 2^48.
 fn any_submit(f: Fields) -> Call {
+    let [slot, kind, direction, ..] = f.bytes;
+    let [setup, address, length, ..] = f.numbers;
     let request = TransferRequest {
-        kind: kind_of(f.b2),
-        direction: direction_of(f.b3),
-        setup: f.n1,
-        address: f.n2,
-        length: f.n3,
+        kind: kind_of(kind),
+        direction: direction_of(direction),
+        setup,
+        address,
+        length,
     };
     let readings = Readings {
         command: 0,
         frame: 0,
         overlay: 0,
     };
-    Call::Submit(f.b1, request, readings)
+    Call::Submit(slot, request, readings)
 }
 
-pub fn act(k: Kept, n: u64, f: Fields, entry: Entry) -> Acted {
-    let hub = k.hub;
-    let number = f.number;
-    match entry {
-        Entry::Open(settings) => act_open(k, n, settings),
-        Entry::Call(call) => act_call(k, n, number, call),
-        Entry::StartScan => act_scan(k, n, number, root_hub::calls::start(hub)),
-        Entry::ScanStep(reading) => act_scan(k, n, number, root_hub::calls::step(hub, reading)),
-        Entry::PortPower(port, reading) => act_power(k, n, port, reading),
-        Entry::Bad => act_call(k, n, number, any_submit(f)),
+impl Kept {
+    // Rows of sevens, and what a refused opening gives.
+    pub fn blank() -> Kept {
+        let mut rows = sevens();
+        let opening = opened(NOTHING, &mut rows, NO_ROW);
+        Kept {
+            core: opening.core,
+            hub: opening.hub,
+            rows,
+            lent: NO_ROW,
+            trial: None,
+        }
+    }
+
+    // What a refused opening gives is taken too: no call accepts it.
+    fn open(&mut self, n: u64, settings: Settings) -> Said {
+        let opening = opened(settings, &mut self.rows, self.lent);
+        self.core = opening.core;
+        self.hub = opening.hub;
+        Said {
+            line: call_line(n, 1, answered(opening.answer)),
+            writes: Writes::none(),
+        }
+    }
+
+    fn call(&mut self, n: u64, number: u8, call: Call) -> Said {
+        let reply = called(self.core, &mut self.rows, self.lent, call);
+        self.core.rest = reply.rest;
+        Said {
+            line: call_line(n, number, reply.answer),
+            writes: reply.writes,
+        }
+    }
+
+    fn scan(&mut self, n: u64, number: u8, scanned: Scanned) -> Said {
+        self.hub = scanned.hub;
+        let reply = scanned.reply;
+        Said {
+            line: scan_line(n, number, reply.answer, reply.read, reply.wait, reply.event),
+            writes: reply.writes,
+        }
+    }
+
+    // Port power reads nothing next and has no event.
+    fn power(&self, n: u64, port: u8, reading: u32) -> Said {
+        let powered = root_hub::calls::port_power(self.hub, port, reading);
+        Said {
+            line: scan_line(
+                n,
+                20,
+                powered.answer,
+                None,
+                powered.wait,
+                None,
+            ),
+            writes: powered.writes,
+        }
+    }
+
+    pub fn act(&mut self, n: u64, f: Fields, entry: Option<Entry>) -> Said {
+        let Some(entry) = entry else {
+            return self.call(n, f.number, any_submit(f));
+        };
+        match entry {
+            Entry::Open(settings) => self.open(n, settings),
+            Entry::Call(call) => self.call(n, f.number, call),
+            Entry::StartScan => self.scan(n, f.number, root_hub::calls::start(self.hub)),
+            Entry::ScanStep(reading) => {
+                self.scan(n, f.number, root_hub::calls::step(self.hub, reading))
+            }
+            Entry::PortPower(port, reading) => self.power(n, port, reading),
+        }
     }
 }

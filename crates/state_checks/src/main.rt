@@ -11,58 +11,39 @@ mod show;
 mod sums;
 mod trial;
 
-use crate::change::{CHANGES, changed};
-use crate::kept::{Kept, act, blank};
+use crate::change::CHANGES;
+use crate::kept::Kept;
 use crate::show::show;
-use crate::trial::{TRIAL, tried};
+use crate::trial::show_tried;
 use call_log::fields::decode;
 use call_log::record::read_record;
-use turns::left::after_turn;
 
 const STDIN: i32 = 0;
 
-#[derive(Clone, Copy)]
-struct Turned {
-    kept: Kept,
-    more: bool,
-}
-
-// One record. Of a change nothing is printed.
-fn turn(k: Kept, n: u64) -> Turned {
-    let mut record = [0u8; 64];
-    let got = io::read_full(STDIN, &mut record);
-    if got != 64 {
-        return Turned {
-            kept: k,
-            more: false,
-        };
-    }
-    let f = decode(&record);
+// Of a change nothing is printed.
+fn turn(kept: &mut Kept, n: u64, record: &[u8; 64]) {
+    let f = decode(record);
     if CHANGES <= f.number {
-        return Turned {
-            kept: changed(k, f),
-            more: true,
-        };
+        kept.change(f);
+        return;
     }
-    let trial = k.trial;
-    if trial.number == TRIAL {
-        return Turned {
-            kept: tried(k, n, f, read_record(&record)),
-            more: true,
-        };
+    let entry = read_record(record);
+    if let Some(trial) = kept.trial {
+        show_tried(kept, trial, n, f, entry);
+        kept.trial = None;
+        return;
     }
-    let acted = act(k, n, f, read_record(&record));
-    show(acted);
-    let kept = acted.kept;
-    Turned { kept, more: true }
+    let said = kept.act(n, f, entry);
+    show(said, kept);
 }
 
 fn main() {
-    let mut kept = blank();
-    let mut left: u64 = u64::MAX;
-    while left > 0 {
-        let turned = turn(kept, u64::MAX - left);
-        kept = turned.kept;
-        left = after_turn(left, turned.more);
+    let mut kept = Kept::blank();
+    for n in 0..u64::MAX {
+        let mut record = [0u8; 64];
+        if io::read_full(STDIN, &mut record) != 64 {
+            return;
+        }
+        turn(&mut kept, n, &record);
     }
 }

@@ -1,116 +1,80 @@
 // One word over many: the sum so far times a prime, plus the next, modulo 2^32.
 use descriptor::qtd::QueueTransferDescriptor;
 use opening::hub::EhciRootHub;
-use settings::settings::Settings;
-use words::cores::{Core, Rest};
+use words::cores::Core;
 
-fn mix(sum: u32, value: u32) -> u32 {
-    ((sum as u64 * 16777619 + value as u64) % 0x1_0000_0000) as u32
+const PRIME: u32 = 16777619;
+
+// What is summed: a word, or some words one after the other.
+pub trait Summed {
+    fn after(&self, sum: u32) -> u32;
+}
+
+impl Summed for u32 {
+    fn after(&self, sum: u32) -> u32 {
+        sum.wrapping_mul(PRIME).wrapping_add(*self)
+    }
+}
+
+impl Summed for u8 {
+    fn after(&self, sum: u32) -> u32 {
+        u32::from(*self).after(sum)
+    }
 }
 
 // The lower half, then the upper.
-fn long(sum: u32, value: u64) -> u32 {
-    let low = (value % 0x1_0000_0000) as u32;
-    let high = (value / 0x1_0000_0000 % 0x1_0000_0000) as u32;
-    mix(mix(sum, low), high)
+impl Summed for u64 {
+    fn after(&self, sum: u32) -> u32 {
+        let low = (*self % 0x1_0000_0000) as u32;
+        let high = (*self / 0x1_0000_0000) as u32;
+        high.after(low.after(sum))
+    }
 }
 
-fn words(sum: u32, row: &[u32]) -> u32 {
+impl Summed for QueueTransferDescriptor {
+    fn after(&self, sum: u32) -> u32 {
+        let first = self.token.after(self.alternate.after(self.next.after(sum)));
+        row_sum(row_sum(first, &self.pages), &self.upper)
+    }
+}
+
+pub fn row_sum<T: Summed>(sum: u32, row: &[T]) -> u32 {
     let mut all = sum;
-    for k in 0..row.len() {
-        all = mix(all, row[k]);
+    for value in row {
+        all = value.after(all);
     }
     all
-}
-
-fn longs(sum: u32, row: &[u64]) -> u32 {
-    let mut all = sum;
-    for k in 0..row.len() {
-        all = long(all, row[k]);
-    }
-    all
-}
-
-fn byte(sum: u32, value: u8) -> u32 {
-    mix(sum, value as u32)
-}
-
-pub fn bytes(sum: u32, row: &[u8]) -> u32 {
-    let mut all = sum;
-    for k in 0..row.len() {
-        all = byte(all, row[k]);
-    }
-    all
-}
-
-fn record_sum(sum: u32, r: QueueTransferDescriptor) -> u32 {
-    let first = mix(mix(mix(sum, r.next), r.alternate), r.token);
-    let pages = r.pages;
-    let upper = r.upper;
-    words(words(first, &pages), &upper)
-}
-
-pub fn pool_sum(pool: [QueueTransferDescriptor; 258]) -> u32 {
-    let mut all = 0;
-    for k in 0..258 {
-        all = record_sum(all, pool[k]);
-    }
-    all
-}
-
-pub fn slots_sum(slots: [u64; 193]) -> u32 {
-    longs(0, &slots)
-}
-
-pub fn heads_sum(heads: [u32; 562]) -> u32 {
-    words(0, &heads)
-}
-
-pub fn frames_sum(frames: [u32; 1025]) -> u32 {
-    words(0, &frames)
-}
-
-pub fn setups_sum(setups: [u8; 257]) -> u32 {
-    bytes(0, &setups)
-}
-
-fn settings_sum(s: Settings) -> u32 {
-    let given = long(
-        long(long(0, s.descriptors), s.endpoints as u64),
-        s.ports as u64,
-    );
-    let limits = long(long(given, s.limit), s.wait);
-    long(
-        long(long(long(limits, s.pool), s.heads), s.frames),
-        s.setups,
-    )
-}
-
-fn free_sum(sum: u32, free: [u64; 4]) -> u32 {
-    longs(sum, &free)
-}
-
-fn rest_sum(sum: u32, r: Rest) -> u32 {
-    let machine = long(long(long(sum, r.running as u64), r.step as u64), r.waited);
-    let heard = long(
-        long(long(machine, r.address as u64), r.enabled as u64),
-        r.pending as u64,
-    );
-    let rung = long(
-        long(long(heard, r.masked as u64), r.noted as u64),
-        r.doorbell as u64,
-    );
-    let free = r.free;
-    free_sum(long(rung, r.unanswered as u64), free)
 }
 
 // Each of the core's numbers as one of 64 bits.
 pub fn core_sum(core: Core) -> u32 {
     let settings = core.settings;
     let rest = core.rest;
-    rest_sum(settings_sum(settings), rest)
+    let numbers = [
+        settings.descriptors,
+        settings.endpoints as u64,
+        settings.ports as u64,
+        settings.limit,
+        settings.wait,
+        settings.pool,
+        settings.heads,
+        settings.frames,
+        settings.setups,
+        rest.running as u64,
+        rest.step as u64,
+        rest.waited,
+        rest.address as u64,
+        rest.enabled as u64,
+        rest.pending as u64,
+        rest.masked as u64,
+        rest.noted as u64,
+        rest.doorbell as u64,
+        rest.unanswered as u64,
+    ];
+    row_sum(row_sum(0, &numbers), &rest.free)
 }
 
-pub fn hub_sum(h: EhciRootHub) -> u32 {
-    byte(byte(bytes(byte(0, h.ports), &h.states), h.port), h.step)
+pub fn hub_sum(hub: EhciRootHub) -> u32 {
+    let states = row_sum(hub.ports.after(0), &hub.states);
+    hub.step.after(hub.port.after(states))
 }

@@ -2,11 +2,11 @@
 use Rattle.std.specs.Prelude.{◌≡◌, ℕ, zero, suc, ◌^◌, ◌<◌, List, [], ◌∷◌, length, get_or, take}
 use lib.Dec.{lit<}
 use Rattle.bitset.specs.Places.{Words}
-use Rattle.store.specs.declared.store.Store.{Store}
+use Rattle.store.specs.declared.rows.Store.{Store}
 
 pub record Known (w : Store) : Type 0 where
-  pub slots_length : length w.slots ≡ 192
-  pub slots_fit : (i : ℕ) → get_or w.slots i 0 < 2 ^ 64
+  pub slots_length : length w.rows.slots ≡ 192
+  pub slots_fit : (i : ℕ) → get_or w.rows.slots i 0 < 2 ^ 64
   pub free_fit : (i : ℕ) → get_or w.core.rest.free i 0 < 2 ^ 64
 
 -- a word of a row's first k, also beyond the row
@@ -18,8 +18,8 @@ fit_part (suc k) (w ∷ ws) f (suc i) = fit_part k ws (λ j. f (suc j)) i
 
 module _ (w : Store) (known : Known w) where
   -- of the words that are lent
-  pub slots_fit_lem : (k i : ℕ) → get_or (take k w.slots) i 0 < 2 ^ 64
-  slots_fit_lem k = fit_part k w.slots known.slots_fit
+  pub slots_fit_lem : (k i : ℕ) → get_or (take k w.rows.slots) i 0 < 2 ^ 64
+  slots_fit_lem k = fit_part k w.rows.slots known.slots_fit
 
   pub free_fits : Words w.core.rest.free
   free_fits =

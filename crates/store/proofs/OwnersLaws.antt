@@ -1,6 +1,7 @@
 -- Whose each place is: a slot more, and a place more.
 use Rattle.std.specs.Prelude.{◌≡◌, ℕ, suc, ◌+◌, ◌-◌, ◌<◌, ◌≤◌, Bool, true, false, cond, eqb, List, length, get_or, set}
 use mathlib.Core.Path.{refl, sym, ◌∙◌}
+use native.Mathlib.Numerals.{add-one}
 use native.Mathlib.Omega.{arith}
 use borrow.Author.Tests.{eqb-false, eqb-true}
 use lib.ListN.{length-set}
@@ -9,19 +10,26 @@ use Rattle.words.specs.View.{each_from, holds_bit, owner_from}
 use Rattle.words.proofs.Each.{each_here, each_length}
 
 module _ (ws : List ℕ) where
-  -- from the slot before slot k on
-  pub owner_turn_lem : (i k owner next : ℕ) (held : Bool) → 1 ≤ k → k ≤ 32 → owner ≡ owner_from k (32 - k) ws i → held ≡ eqb (holds_bit ws (k - 1) i) 1
-      → next ≡ cond held (k - 1 + 1) owner → next ≡ owner_from (k - 1) (32 - (k - 1)) ws i
-  unfolding owner_from
-  owner_turn_lem i k owner next held h l eo eh en =
-      let left : 32 - (k - 1) ≡ suc (32 - k) = omega arith in
-      let up : suc (k - 1) ≡ k = omega arith in
-      let same : k - 1 + 1 ≡ k = omega arith in
-      rw (left, up, en, same, eh, eo)
+  -- the slots before slot k do not have it
+  abbrev pub NoneTo : ℕ → ℕ → Type 0
+  NoneTo i k = owner_from 0 32 ws i ≡ owner_from k (32 - k) ws i
 
-  -- from the first on
-  pub owner_done : (i k owner : ℕ) → k ≤ 0 → owner ≡ owner_from k (32 - k) ws i → owner ≡ owner_from 0 32 ws i
-  owner_done i k owner h e = let z : k ≡ 0 = omega arith in rw z at e
+  turn : (i k : ℕ) (held : Bool) → k < 32 → held ≡ eqb (holds_bit ws k i) 1
+      → owner_from k (32 - k) ws i ≡ cond held (k + 1) (owner_from (k + 1) (32 - (k + 1)) ws i)
+  unfolding owner_from
+  turn i k held h e =
+      let left : 32 - k ≡ suc (32 - (k + 1)) = omega arith in
+      rw (left, e, add-one k)
+
+  pub owner_here : (i k : ℕ) (held : Bool) → k < 32 → NoneTo i k → held ≡ eqb (holds_bit ws k i) 1 → held ≡ true → k + 1 ≡ owner_from 0 32 ws i
+  owner_here i k held h n e t = sym (n ∙ turn i k held h e ∙ rw t)
+
+  pub owner_further : (i k : ℕ) (held : Bool) → k < 32 → NoneTo i k → held ≡ eqb (holds_bit ws k i) 1 → held ≡ false → NoneTo i (k + 1)
+  owner_further i k held h n e t = n ∙ turn i k held h e ∙ rw t
+
+  pub owner_none : (i k : ℕ) → k ≡ 32 → NoneTo i k → 0 ≡ owner_from 0 32 ws i
+  unfolding owner_from
+  owner_none i k e n = sym (rw e at n)
 
   abbrev pub RowTo : ℕ → List ℕ → Type 0
   RowTo i row = (length row ≡ 256) × ((j : ℕ) → j < i → get_or row j 0 ≡ owner_from 0 32 ws j)

@@ -1,4 +1,5 @@
 pub mod Plain
 pub mod Stores
+pub mod Tended
 pub mod Words
 pub mod Lends

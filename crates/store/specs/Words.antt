@@ -1,33 +1,26 @@
 -- The store of the code: its words stand for the state of a plain store. Of the row of slots the first places are lent too.
-use Rattle.std.specs.Prelude.{◌≡◌, ℕ, ◌*◌, min, true, List, take, Ok}
-use Rattle.settings.specs.declared.settings.Settings.{Settings}
-use Rattle.settings.specs.Settings.{settings_good}
-use Rattle.state.specs.Ranges.{in_ranges}
-use Rattle.words.specs.Good.{Tidy}
+use Rattle.std.specs.Prelude.{◌≡◌, List, ℕ, Ok}
+use Rattle.words.specs.declared.cores.Core.{Core}
 use Rattle.words.specs.View.{view}
-use Rattle.store.specs.declared.store.Store.{Store}
+use Rattle.store.specs.declared.rows.Rows.{Rows}
+use Rattle.store.specs.declared.rows.Store.{Store}
 use Rattle.store.specs.declared.store.Called.{Called}
 use Rattle.store.specs.declared.store.OpenedStore.{OpenedStore}
 use Rattle.store.specs.Plain as plain
-
--- how many words of the slots are lent: six a slot, and never more than there are
-abbrev pub slots_lent : Settings → ℕ
-slots_lent s = min (6 * s.endpoints) 192
+use Rattle.store.specs.Tended.{WordsOpened, lent_of}
+pub use Rattle.store.specs.Tended.{slots_lent}
 
 abbrev pub lent_slots : Store → List ℕ
-lent_slots w = take (slots_lent w.core.settings) w.slots
+lent_slots w = lent_of w.core w.rows.slots
 
 -- ---- what the words stand for
 
+abbrev pub rows_view : Core → Rows → plain.Store
+rows_view core r =
+    record { state = view core (lent_of core r.slots); pool = r.pool; heads = r.heads; frames = r.frames; setups = r.setups }
+
 abbrev pub store_view : Store → plain.Store
-store_view w =
-    record {
-      state = view w.core (lent_slots w);
-      pool = w.pool;
-      heads = w.heads;
-      frames = w.frames;
-      setups = w.setups;
-    }
+store_view w = rows_view w.core w.rows
 
 abbrev pub called_view : Called → plain.Called
 called_view c = record { store = store_view c.store; answer = c.answer; writes = c.writes }
@@ -35,23 +28,10 @@ called_view c = record { store = store_view c.store; answer = c.answer; writes =
 abbrev pub opened_view : OpenedStore → plain.OpenedStore
 opened_view o = record { store = store_view o.store; hub = o.hub; answer = o.answer }
 
--- ---- what is kept of the words
-
 -- a controller was opened in it
-pub record OpenedIn (w : Store) : Type 0 where
-  pub settings_are_good : settings_good w.core.settings ≡ true
-  pub tidy : Tidy w.core.settings w.core.rest (lent_slots w)
+abbrev pub OpenedIn : Store → Type 0
+OpenedIn w = WordsOpened w.core w.rows.slots
 
--- no call is refused for the words alone
-pub record Tended (w : Store) : Type 0 where
-  pub tidy : in_ranges (store_view w).state ≡ true → Tidy w.core.settings w.core.rest (lent_slots w)
-
--- by a call
-pub record Tends (w w' : Store) : Type 0 where
-  pub tended : Tended w'
-  pub opened : OpenedIn w → OpenedIn w'
-
--- by an opening
-pub record Opens (o : OpenedStore) : Type 0 where
-  pub tended : Tended o.store
-  pub opened : o.answer ≡ (Ok tt) → OpenedIn o.store
+-- by an opening that is accepted
+abbrev pub Opens : OpenedStore → Type 0
+Opens o = o.answer ≡ (Ok tt) → OpenedIn o.store

@@ -2,4 +2,5 @@
 #![tactic(auto)]
 
 pub mod owners;
+pub mod rows;
 pub mod store;

@@ -1,12 +1,13 @@
 -- Little-endian numbers: the bytes of a number and the number of bytes undo one another.
 use mathlib.Core.Path.{◌≡◌, refl, sym, ap, ◌∙◌}
-use mathlib.Core.List.{List, [], ◌∷◌, ◌++◌}
+use mathlib.Core.List.{List, [], ◌∷◌}
 use Prim.Native.Nat.{ℕ, zero, suc, ◌+◌, ◌*◌, ◌/◌, ◌%◌, ◌≤◌, ◌<◌, ◌^◌}
 use native.Mathlib.Nat.{add-mul-div_left, add-mul-mod_self_left, div-eq_of_lt, div-lt_iff_lt-mul, mod-add-div, mod-eq_of_lt, pow-suc}
+use native.Mathlib.Numerals.{add-one}
 use native.Mathlib.Omega.{arith}
 use lib.Dec.{lit<}
 use lib.ListN.{drop, get_or, length, length-drop, take}
-use lib.Seq.{drop-cons, drop-drop, get_or-drop, length-take-le, take-add}
+use lib.Seq.{drop-cons, get_or-drop, length-take-le}
 use Rattle.text.specs.Numbers.{little_endian, number_at, number_of}
 
 -- what is known of a slice of bytes
@@ -65,18 +66,17 @@ part_written bytes at w b h =
 pub part_below : (bytes : List ℕ) (at w : ℕ) → Bytes bytes → at + w ≤ length bytes → number_at bytes at w < 256 ^ w
 part_below bytes at w b h = rw (part_length bytes at w h) at (number_below (take w (drop at bytes)) (part_bytes_lem bytes at w b))
 
--- a number in two parts
-number_append : (a b : List ℕ) → number_of (a ++ b) ≡ number_of a + 256 ^ length a * number_of b
+-- a number's lowest byte and the number of the others, at a place some bytes on
+pub number_first : (bytes : List ℕ) (at w : ℕ) → at < length bytes → number_at bytes at (suc w) ≡ get_or bytes at 0 + 256 * number_at bytes (at + 1) w
 unfolding number_of
-number_append [] b = omega arith
-number_append (x ∷ a) b = rw (number_append a b, pow-suc) (omega arith)
+number_first bytes at w h = rw (drop-cons bytes at 0 h, add-one at)
 
-pub number_both : (bytes : List ℕ) (at a b p low high : ℕ) → at + a ≤ length bytes → p ≡ 256 ^ a → low ≡ number_at bytes at a
-    → high ≡ number_at bytes (at + a) b → low + p * high ≡ number_at bytes at (a + b)
-number_both bytes at a b p low high h e l u =
-    rw (e, l, u) (sym (ap number_of (take-add a b (drop at bytes)) ∙ number_append (take a (drop at bytes)) (take b (drop a (drop at bytes)))
-    ∙ rw (part_length bytes at a h, drop-drop)))
+pub number_next : (bytes : List ℕ) (at k w : ℕ) → at + k < length bytes
+    → number_at bytes (at + k) (suc w) ≡ get_or bytes (at + k) 0 + 256 * number_at bytes (at + suc k) w
+number_next bytes at k w h =
+    let e : at + k + 1 ≡ at + suc k = omega arith in
+    rw (number_first bytes (at + k) w h, e)
 
-pub number_one : (bytes : List ℕ) (at : ℕ) → at < length bytes → get_or bytes at 0 ≡ number_at bytes at 1
+pub number_end : (bytes : List ℕ) (at : ℕ) → number_at bytes at 0 ≡ 0
 unfolding number_of
-number_one bytes at h = rw (drop-cons bytes at 0 h) (omega arith)
+number_end bytes at = refl

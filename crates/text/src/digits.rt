@@ -19,7 +19,7 @@ fn decimal_digit(n: u64) -> u8
     requires { n < 10 }
     ensures { result ≡ 48 + n }
 {
-    48 + n as u8
+    b'0' + n as u8
 }
 
 // The digits before the last are those of a tenth.
@@ -50,7 +50,11 @@ fn hex_digit(n: u32) -> u8
     requires { n < 16 }
     ensures { result ≡ hex_digit n }
 {
-    if n < 10 { 48 + n as u8 } else { 87 + n as u8 }
+    if n < 10 {
+        b'0' + n as u8
+    } else {
+        b'a' - 10 + n as u8
+    }
 }
 
 pub fn put_hex(out: &mut [u8], at: usize, n: u32, digits: usize) -> usize

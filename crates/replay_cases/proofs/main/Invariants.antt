@@ -1,8 +1,6 @@
+use Rattle.std.specs.Prelude.{IfSome}
 use Rattle.replayer.specs.Words.{Kept}
 use Rattle.replay_cases.proofs.main.Given as goal
 
-abbrev pub invariant-loop-left : goal.invariant-loop-left
-invariant-loop-left l = Kept l.log.keeper
-
-abbrev pub decreases-loop-left : goal.decreases-loop-left
-decreases-loop-left l = l.left
+abbrev pub invariant-loop : goal.invariant-loop
+invariant-loop l = IfSome l.log (λ log. Kept log.keeper)

@@ -1,5 +1,5 @@
-use Rattle.call_log.specs.CallLine.{call_line, step_line}
-use Rattle.call_log.specs.Lines.{said_line, line_of}
+use Rattle.call_log.specs.CallLine.{call_line}
+use Rattle.call_log.specs.Lines.{line_of, said, said_line}
 use Rattle.call_log.proofs.call_line.call_line.Goals as goal
 
 pub returns-in-Done : goal.returns-in-Done
@@ -12,7 +12,7 @@ pub returns-in-Cancelled : goal.returns-in-Cancelled
 returns-in-Cancelled c = rw c.in-Cancelled.is c.bare_line-in-Cancelled.ensures
 
 pub returns-in-Failed : goal.returns-in-Failed
-unfolding said_line line_of call_line step_line
+unfolding said_line said line_of call_line
 returns-in-Failed c = rw c.in-Failed.is c.line_with.ensures
 
 pub returns-in-Refused : goal.returns-in-Refused

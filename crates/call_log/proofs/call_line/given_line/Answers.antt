@@ -10,15 +10,15 @@ returns-in-Nothing c = rw c.in-Nothing.is c.bare_line.ensures
 
 pub returns-in-Slot : goal.returns-in-Slot
 unfolding said_line line_of call_line step_line
-returns-in-Slot c = rw c.in-Slot.is c.line_with.ensures
+returns-in-Slot c = rw c.in-Slot.is c.line_with_one.ensures
 
 pub returns-in-Address : goal.returns-in-Address
 unfolding said_line line_of call_line step_line
-returns-in-Address c = rw c.in-Address.is c.line_with-in-Address.ensures
+returns-in-Address c = rw c.in-Address.is c.line_with_one-in-Address.ensures
 
 pub returns-in-Id : goal.returns-in-Id
 unfolding said_line line_of call_line step_line
-returns-in-Id c = rw c.in-Id.is c.line_with-in-Id.ensures
+returns-in-Id c = rw c.in-Id.is c.line_with_one-in-Id.ensures
 
 pub returns-in-Length : goal.returns-in-Length
 unfolding said_line line_of call_line step_line
@@ -26,11 +26,11 @@ returns-in-Length c = rw c.in-Length.is c.line_with_two.ensures
 
 pub returns-in-No : goal.returns-in-No
 unfolding said_line line_of call_line step_line
-returns-in-No c = rw c.in-No.is c.line_with-in-No.ensures
+returns-in-No c = rw c.in-No.is c.line_with_one-in-No.ensures
 
 pub returns-in-Yes : goal.returns-in-Yes
 unfolding said_line line_of call_line step_line
-returns-in-Yes c = rw c.in-Yes.is c.line_with-in-Yes.ensures
+returns-in-Yes c = rw c.in-Yes.is c.line_with_one-in-Yes.ensures
 
 pub returns-in-Event : goal.returns-in-Event
 unfolding said_line line_of call_line step_line

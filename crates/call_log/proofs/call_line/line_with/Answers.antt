@@ -1,7 +1,7 @@
-use mathlib.Core.Path.{refl}
-use Rattle.call_log.specs.Lines.{line_bytes, parts_bytes, said_line}
+use mathlib.Core.Path.{ap}
+use Rattle.call_log.specs.Lines.{said_line}
+use Rattle.call_log.proofs.LineCases.{three_more}
 use Rattle.call_log.proofs.call_line.line_with.Goals as goal
 
 pub returns : goal.returns
-unfolding line_bytes parts_bytes said_line
-returns c = refl
+returns c = rw (c.of.ensures, c.copy_from_slice.ensures.after) (ap (said_line 67) (three_more _ _ _ _ _))

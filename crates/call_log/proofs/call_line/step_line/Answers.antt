@@ -1,7 +1,4 @@
-use mathlib.Core.Path.{refl}
-use Rattle.call_log.specs.Lines.{line_bytes, parts_bytes, said_line}
 use Rattle.call_log.proofs.call_line.step_line.Goals as goal
 
 pub returns : goal.returns
-unfolding line_bytes parts_bytes said_line
-returns c = refl
+returns c = c.line_with.ensures

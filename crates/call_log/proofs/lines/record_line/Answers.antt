@@ -1,7 +1,6 @@
-use mathlib.Core.Path.{refl}
-use Rattle.call_log.specs.Lines.{line_bytes, parts_bytes, line_of, record_line}
+use Rattle.call_log.specs.Lines.{line_of, said, said_line, record_line}
 use Rattle.call_log.proofs.lines.record_line.Goals as goal
 
 pub returns : goal.returns
-unfolding line_bytes parts_bytes line_of record_line
-returns c = refl
+unfolding said_line said line_of record_line
+returns c = c.of.ensures

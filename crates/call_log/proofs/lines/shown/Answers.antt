@@ -3,4 +3,4 @@ use Rattle.call_log.proofs.lines.shown.Goals as goal
 
 pub returns : goal.returns
 unfolding shown_in
-returns c = rw c.free_count-free.ensures
+returns c = rw c.free_count.ensures

@@ -1,7 +1,6 @@
-use mathlib.Core.Path.{refl}
-use Rattle.call_log.specs.Lines.{line_bytes, parts_bytes, line_of, shown_line}
+use Rattle.call_log.specs.Lines.{line_of, said, said_line, shown_line}
 use Rattle.call_log.proofs.lines.shown_line.Goals as goal
 
 pub returns : goal.returns
-unfolding line_bytes parts_bytes line_of shown_line
-returns c = refl
+unfolding said_line said line_of shown_line
+returns c = c.of.ensures

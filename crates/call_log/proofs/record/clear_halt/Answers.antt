@@ -3,4 +3,4 @@ use Rattle.call_log.proofs.record.clear_halt.Goals as goal
 
 pub returns : goal.returns
 unfolding clear_halt
-returns c = rw (← c.spare.ensures) c.guard.ensures
+returns c = rw (← c.spare.ensures) c.then_some.ensures

@@ -3,4 +3,4 @@ use Rattle.call_log.proofs.record.set_packet_size.Goals as goal
 
 pub returns : goal.returns
 unfolding set_packet_size
-returns c = rw (← c.spare.ensures) c.guard.ensures
+returns c = rw (← c.spare.ensures) c.then_some.ensures

@@ -16,29 +16,29 @@ said_of before after i = record_change i (get_or before i blank) (get_or after i
 pub loop-i-init : goal.loop-i-init
 loop-i-init c =
     let a = c.args in
-    let none = lines_none (said_of c.args.before c.args.after) a.out.now a.at in
-    (omega arith, refl, none.0, none.1)
+    let none = lines_none (said_of c.args.before.now c.args.after.now) a.out.now a.at in
+    (refl, none.0, none.1)
 
 pub put_record-place-requires : goal.put_record-place-requires
-put_record-place-requires c = omega (arith, lines_most (said_of c.args.before c.args.after) 140 (λ i. record_most i _ _) c.loop-i.i, c.loop-i.invariant.1, c.loop-i.invariant.3, c.requires)
+put_record-place-requires c = omega (arith, lines_most (said_of c.args.before.now c.args.after.now) 140 (λ i. record_most i _ _) c.loop-i.i, c.loop-i.invariant.0, c.loop-i.invariant.2, c.requires)
 
 pub loop-i-preserved : goal.loop-i-preserved
 loop-i-preserved c =
     let a = c.args in
     let l = c.loop-i in
     let p = c.put_record-place in
-    let some : length a.before ≡ 257 = search rules in
-    let more : length a.after ≡ 257 = search rules in
-    let said = record_any a.before a.after l.i _ _ (omega arith) (omega arith) in
-    let turned = lines_turn (said_of a.before a.after) a.out.now l.out p.new.out a.at l.place p.result l.i (omega (arith, c.requires))
-    l.invariant.2 l.invariant.3 (p.ensures.out_after ∙ ap (put_at l.out l.place) said) (p.ensures.value ∙ ap (λ (x : List ℕ). l.place + length x) said) in
-    (omega arith, p.auto.out ∙ l.invariant.1, turned.0, turned.1)
+    let some : length a.before.now ≡ 257 = search rules in
+    let more : length a.after.now ≡ 257 = search rules in
+    let said = record_any a.before.now a.after.now l.i _ _ (omega arith) (omega arith) in
+    let turned = lines_turn (said_of a.before.now a.after.now) a.out.now l.out p.new.out a.at l.place p.result l.i (omega (arith, c.requires))
+    l.invariant.1 l.invariant.2 (p.ensures.out_after ∙ ap (put_at l.out l.place) said) (p.ensures.value ∙ ap (λ (x : List ℕ). l.place + length x) said) in
+    (p.auto.out ∙ l.invariant.0, turned.0, turned.1)
 
 pub shape_of-out : goal.shape_of-out
-shape_of-out c = c.loop-i.invariant.1
+shape_of-out c = c.loop-i.invariant.0
 
 pub returns : goal.returns
 returns c =
     let l = c.loop-i in
     let all : l.i ≡ 257 = omega arith in
-    record { out_after = l.invariant.2 ∙ rw all; value = l.invariant.3 ∙ rw all }
+    record { out_after = l.invariant.1 ∙ rw all; value = l.invariant.2 ∙ rw all }

@@ -1,6 +1,6 @@
 use Rattle.common.specs.Rows.{put_at}
 use Rattle.text.specs.Text.{lines_to}
-use Rattle.std.specs.Prelude.{◌≡◌, ℕ, ◌+◌, ◌-◌, ◌≤◌, List, length, get_or}
+use Rattle.std.specs.Prelude.{◌≡◌, ℕ, ◌+◌, List, length, get_or}
 use Rattle.call_log.specs.Changes.{head_change}
 use Rattle.call_log.proofs.rows.put_heads.Given as goal
 
@@ -8,7 +8,4 @@ abbrev said_of : List ℕ → List ℕ → ℕ → List ℕ
 said_of before after i = head_change i (get_or before i 0) (get_or after i 0)
 
 abbrev pub invariant-loop-i : goal.invariant-loop-i
-invariant-loop-i l = (l.i ≤ length l.after) × (length l.out ≡ length l.initial.out) × (l.out ≡ put_at l.initial.out l.at (lines_to (said_of l.before l.after) l.i)) × (l.place ≡ l.at + length (lines_to (said_of l.before l.after) l.i))
-
-abbrev pub decreases-loop-i : goal.decreases-loop-i
-decreases-loop-i l = length l.after - l.i
+invariant-loop-i l = (length l.out ≡ length l.initial.out) × (l.out ≡ put_at l.initial.out l.at (lines_to (said_of l.before l.after) l.i)) × (l.place ≡ l.at + length (lines_to (said_of l.before l.after) l.i))

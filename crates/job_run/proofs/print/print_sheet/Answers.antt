@@ -1,19 +1,18 @@
-use mathlib.Core.Bool.{not}
-use mathlib.Core.Path.{ap}
-use native.Mathlib.Omega.{arith}
+use Rattle.std.specs.Prelude.{Some, None}
+use Rattle.std.proofs.Common.{arith}
 use Rattle.job_run.proofs.PrintCases.{bad_printed, good_printed}
 use Rattle.job_run.proofs.print.print_sheet.Goals as goal
 
-pub returns-then-not-good : goal.returns-then-not-good
-returns-then-not-good c =
+pub returns-in-Some : goal.returns-in-Some
+returns-in-Some c =
     let a = c.args in
-    let w = c.put_bad in
-    let e = bad_printed a.bytes.now _ c.read_sheet-sheet.ensures.value a.out.now _ _ (ap not c.if-not-good.true) w.ensures.out_after w.ensures.value in
-    record { out_after = e.0; value = e.1; upper_bound = omega (arith, w.ensures.value, w.auto.out) }
+    let p = c.put_listing in
+    let e = good_printed a.bytes.now a.out.now _ _ c.in-Some.job _ _ c.in-Some.ensures.value c.run.ensures c.outcome_of.ensures p.ensures.out_after p.ensures.value in
+    record { out_after = e.0; value = e.1; upper_bound = omega (arith, p.ensures.upper_bound, p.auto.out) }
 
-pub returns : goal.returns
-returns c =
+pub returns-in-None : goal.returns-in-None
+returns-in-None c =
     let a = c.args in
-    let w = c.put_listing in
-    let e = good_printed a.bytes.now _ c.read_sheet-sheet.ensures.value a.out.now _ _ _ _ (ap not c.if-not-good.false) c.run-ran.ensures c.outcome_of.ensures w.ensures.out_after w.ensures.value in
-    record { out_after = e.0; value = e.1; upper_bound = omega (arith, w.ensures.upper_bound, w.auto.out) }
+    let p = c.put_bad in
+    let e = bad_printed a.bytes.now a.out.now _ _ c.in-None.ensures.value p.ensures.out_after p.ensures.value in
+    record { out_after = e.0; value = e.1; upper_bound = omega (arith, p.ensures.value, p.auto.out) }

@@ -1,12 +1,7 @@
-use mathlib.Core.Path.{◌≡◌}
-use Prim.Native.Nat.{◌≤◌, ◌-◌}
-use Rattle.store.specs.Words.{Tended}
-use Rattle.job_run.specs.Words.{ran_view}
+use Rattle.std.proofs.Common.{◌≡◌}
 use Rattle.job_run.specs.Runs.{submitted_to}
+use Rattle.job_run.specs.Words.{ran_view}
 use Rattle.job_run.proofs.run.submit_all.Given as goal
 
-abbrev pub invariant-loop-k : goal.invariant-loop-k
-invariant-loop-k l = (l.k ≤ l.job.submits) × ((ran_view l.ran ≡ submitted_to l.k (ran_view l.initial.ran) l.job) × Tended l.ran.store)
-
-abbrev pub decreases-loop-k : goal.decreases-loop-k
-decreases-loop-k l = l.job.submits - l.k
+abbrev pub invariant-loop-t : goal.invariant-loop-t
+invariant-loop-t l = ran_view l.ran ≡ submitted_to l.t-index (ran_view l.initial.ran) l.job

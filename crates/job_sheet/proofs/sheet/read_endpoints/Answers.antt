@@ -1,20 +1,22 @@
-use native.Mathlib.Omega.{arith}
-use mathlib.Core.Path.{refl}
-use Rattle.job_sheet.specs.Reading.{every, filled, no_endpoint, up_to}
-use Rattle.job_sheet.proofs.Rows.{joins, stored}
-use Rattle.job_sheet.proofs.ReadCases.{endpoints_done}
+use Rattle.std.proofs.Common.{arith, refl}
+use Rattle.job_sheet.specs.Reading.{endpoint_at, endpoint_fits, endpoint_place, every, up_to}
+use Rattle.job_sheet.proofs.ReadCases.{good_few, good_more, good_not}
 use Rattle.job_sheet.proofs.sheet.read_endpoints.Goals as goal
 
 pub loop-i-init : goal.loop-i-init
-unfolding filled up_to every
-loop-i-init c = (omega arith, refl, refl)
+unfolding every up_to
+loop-i-init c = (c.new-endpoints.ensures, refl)
+
+pub returns-in_err-endpoint_at : goal.returns-in_err-endpoint_at
+returns-in_err-endpoint_at c =
+    rw c.from_residual.ensures
+    (good_not (λ i. endpoint_fits c.args.bytes.now (endpoint_place i)) (λ i. endpoint_at c.args.bytes.now (endpoint_place i)) _ c.loop-i.i c.loop-i-test.true c.in_err-endpoint_at.ensures)
+
+pub push-requires : goal.push-requires
+push-requires c =
+    let few = good_few (λ i. endpoint_fits c.args.bytes.now (endpoint_place i)) (λ i. endpoint_at c.args.bytes.now (endpoint_place i)) _ c.loop-i.i c.loop-i.invariant in
+    (omega arith, omega (arith, few))
 
 pub loop-i-preserved : goal.loop-i-preserved
 loop-i-preserved c =
-    let l = c.loop-i in
-    (omega arith, stored 8 no_endpoint _ l.records l.i _ (omega arith) l.invariant.1 c.endpoint_at-e.ensures, joins _ l.good l.i _ l.invariant.2 c.endpoint_fits-fits.ensures)
-
-pub returns : goal.returns
-returns c =
-    let l = c.loop-i in
-    endpoints_done _ _ l.i _ _ l.invariant.0 c.loop-i-test.false l.invariant.1 l.invariant.2
+    good_more (λ i. endpoint_fits c.args.bytes.now (endpoint_place i)) (λ i. endpoint_at c.args.bytes.now (endpoint_place i)) _ _ c.loop-i.i _ c.loop-i.invariant c.in_ok-endpoint_at.ensures c.push.ensures.items

@@ -1,24 +1,22 @@
-use native.Mathlib.Omega.{arith}
-use mathlib.Core.Path.{refl}
-use Rattle.job_sheet.specs.Reading.{every, filled, no_request, up_to}
-use Rattle.job_sheet.proofs.Rows.{joins, stored}
-use Rattle.job_sheet.proofs.ReadCases.{request_tested, requests_done}
+use Rattle.std.proofs.Common.{arith, length, refl}
+use Rattle.job_sheet.specs.Reading.{request_at, request_fits, request_place, every, up_to}
+use Rattle.job_sheet.proofs.ReadCases.{good_few, good_more, good_not}
 use Rattle.job_sheet.proofs.sheet.read_requests.Goals as goal
 
 pub loop-i-init : goal.loop-i-init
-unfolding filled up_to every
-loop-i-init c = (omega arith, refl, refl)
+unfolding every up_to
+loop-i-init c = (c.new-requests.ensures, refl)
+
+pub returns-in_err-request_at : goal.returns-in_err-request_at
+returns-in_err-request_at c =
+    rw c.from_residual.ensures
+    (good_not (λ i. request_fits c.args.bytes.now c.args.endpoints.now (request_place (length c.args.endpoints.now) i)) (λ i. request_at c.args.bytes.now (request_place (length c.args.endpoints.now) i)) _ c.loop-i.i c.loop-i-test.true c.in_err-request_at.ensures)
+
+pub push-requires : goal.push-requires
+push-requires c =
+    let few = good_few (λ i. request_fits c.args.bytes.now c.args.endpoints.now (request_place (length c.args.endpoints.now) i)) (λ i. request_at c.args.bytes.now (request_place (length c.args.endpoints.now) i)) _ c.loop-i.i c.loop-i.invariant in
+    (omega arith, omega (arith, few))
 
 pub loop-i-preserved : goal.loop-i-preserved
 loop-i-preserved c =
-    let l = c.loop-i in
-    let r = c.request_at-r in (
-      omega arith,
-      stored 64 no_request _ l.records l.i _ (omega arith) l.invariant.1 r.ensures,
-      joins _ l.good l.i _ l.invariant.2 (request_tested _ _ _ r.result _ _ r.ensures c.is_control-control.ensures c.request_fits-fits.ensures),
-    )
-
-pub returns : goal.returns
-returns c =
-    let l = c.loop-i in
-    requests_done _ _ _ _ l.i _ _ l.invariant.0 c.loop-i-test.false l.invariant.1 l.invariant.2
+    good_more (λ i. request_fits c.args.bytes.now c.args.endpoints.now (request_place (length c.args.endpoints.now) i)) (λ i. request_at c.args.bytes.now (request_place (length c.args.endpoints.now) i)) _ _ c.loop-i.i _ c.loop-i.invariant c.in_ok-request_at.ensures c.push.ensures.items

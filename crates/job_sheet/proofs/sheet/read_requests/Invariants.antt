@@ -1,11 +1,7 @@
-use mathlib.Core.Path.{◌≡◌}
-use Prim.Native.Nat.{◌-◌, ◌≤◌}
-use lib.ListN.{take}
-use Rattle.job_sheet.specs.Reading.{filled, no_request, requests_fit, requests_in}
+use Rattle.std.proofs.Common.{◌≡◌, true, length}
+use Rattle.job_sheet.specs.Reading.{requests_fit, requests_in}
 use Rattle.job_sheet.proofs.sheet.read_requests.Given as goal
 
 abbrev pub invariant-loop-i : goal.invariant-loop-i
-invariant-loop-i l = (l.i ≤ l.count) × (l.records ≡ filled 64 no_request (requests_in l.bytes l.opens l.i)) × (l.good ≡ requests_fit l.bytes (take l.opens l.endpoints) l.opens l.i)
-
-abbrev pub decreases-loop-i : goal.decreases-loop-i
-decreases-loop-i l = l.count - l.i
+invariant-loop-i l =
+    (l.requests.items ≡ requests_in l.bytes (length l.endpoints) l.i) × (requests_fit l.bytes l.endpoints (length l.endpoints) l.i ≡ true)

@@ -1,11 +1,19 @@
-use Rattle.replayer.proofs.TurnCases.{turn_bad, turn_good}
+use Rattle.std.specs.Prelude.{◌≡◌, get_or, Some}
+use mathlib.Core.Path.{sym, ap, ◌∙◌}
+use Rattle.std.specs.Option.{unwrap_or}
+use Rattle.replayer.proofs.TurnCases.{first_is, turn_bad, turn_good}
 use Rattle.replayer.proofs.turn.turn.Goals as goal
 
-clauses : {A B C D : Type 0} → A × (B × (C × D)) → record { out_after : A; result_value : B; end_in_bounds : C; kept_2 : D }
-clauses p = record { out_after = p.0; result_value = p.1.0; end_in_bounds = p.1.1.0; kept_2 = p.1.1.1 }
-
-pub returns-then-is_bad : goal.returns-then-is_bad
-returns-then-is_bad c = clauses (turn_bad _ c.requires.kept _ _ _ _ _ _ _ c.read_record-entry.ensures c.is_bad.ensures c.if-is_bad.true (c.put_bad-end.ensures.out_after, (c.put_bad-end.ensures.value, c.put_bad-end.ensures.upper_bound)))
+pub returns-in_default : goal.returns-in_default
+returns-in_default c =
+    let b = c.put_bad-end.ensures in
+    let all = turn_bad c.args.k _ _ _ _ _ (sym c.read_record.ensures ∙ c.in_default.is) (b.out_after, (b.value, b.upper_bound)) in
+    record { out_after = all.0; result_value = all.1.0; end_in_bounds = all.1.1 }
 
 pub returns : goal.returns
-returns c = clauses (turn_good _ c.requires.kept _ _ _ _ _ _ _ c.read_record-entry.ensures c.is_bad.ensures _ _ c.first_byte.ensures (c.act-acted.ensures.result_value, c.act-acted.ensures.kept) c.if-is_bad.false (c.put_shown-end.ensures.out_after, (c.put_shown-end.ensures.value, c.put_shown-end.ensures.upper_bound)))
+returns c =
+    let s = c.put_shown-end.ensures in
+    let number : c.unwrap_or-number.result ≡ get_or c.args.bytes.now 0 0 =
+    c.unwrap_or-number.ensures ∙ (ap (λ x. unwrap_or x 0) (c.copied.ensures ∙ c.first.ensures.value) ∙ first_is c.args.bytes.now) in
+    let all = turn_good c.args.k _ _ _ _ _ _ _ c.act-acted.result (sym c.read_record.ensures ∙ c.in-Some.is) number c.act-acted.ensures (s.out_after, (s.value, s.upper_bound)) in
+    record { out_after = all.0; result_value = all.1.0; end_in_bounds = all.1.1 }

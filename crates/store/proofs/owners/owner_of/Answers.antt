@@ -1,14 +1,12 @@
-use Rattle.std.proofs.Common.{refl, arith}
-use Rattle.words.specs.View.{owner_from}
-use Rattle.store.proofs.OwnersLaws.{owner_done, owner_turn_lem}
+use Rattle.std.proofs.Common.{arith}
+use Rattle.store.proofs.OwnersLaws.{owner_further, owner_here, owner_none}
 use Rattle.store.proofs.owners.owner_of.Goals as goal
 
-pub loop-k-init : goal.loop-k-init
-unfolding owner_from
-loop-k-init c = (omega arith, refl)
+pub returns-then-holds : goal.returns-then-holds
+returns-then-holds c = owner_here _ _ c.loop-k.k _ c.loop-k-test.true c.loop-k.invariant c.holds.ensures c.if-holds.true
 
 pub loop-k-preserved : goal.loop-k-preserved
-loop-k-preserved c = (omega arith, search owner_turn_lem)
+loop-k-preserved c = owner_further _ _ c.loop-k.k _ c.loop-k-test.true c.loop-k.invariant c.holds.ensures c.if-holds.false
 
 pub returns : goal.returns
-returns c = search owner_done
+returns c = owner_none _ _ c.loop-k.k (omega arith) c.loop-k.invariant

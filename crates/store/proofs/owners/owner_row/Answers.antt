@@ -3,10 +3,10 @@ use Rattle.store.proofs.OwnersLaws.{row_done, row_turn}
 use Rattle.store.proofs.owners.owner_row.Goals as goal
 
 pub loop-i-init : goal.loop-i-init
-loop-i-init c = (omega arith, (refl, λ j h. absurd (omega (arith, h))))
+loop-i-init c = (refl, λ j h. absurd (omega (arith, h)))
 
 pub loop-i-preserved : goal.loop-i-preserved
-loop-i-preserved c = (omega arith, search row_turn)
+loop-i-preserved c = search row_turn
 
 pub returns : goal.returns
 returns c = search row_done

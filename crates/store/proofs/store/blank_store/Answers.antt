@@ -1,8 +1,8 @@
-use Rattle.store.proofs.StoreCases.{blank_done}
+use Rattle.store.proofs.StoreCases.{blank_done, blank_tended}
 use Rattle.store.proofs.store.blank_store.Goals as goal
 
-pub returns-clause-result_value : goal.returns-clause-result_value
-returns-clause-result_value c = (blank_done c.blank_core.result c.blank_core.ensures).0
+pub invariant_of-result : goal.invariant_of-result
+invariant_of-result c = record { tended = blank_tended c.blank_core.result c.blank_core.ensures }
 
-pub returns-clause-tended : goal.returns-clause-tended
-returns-clause-tended c = (blank_done c.blank_core.result c.blank_core.ensures).1
+pub returns : goal.returns
+returns c = blank_done c.blank_core.result c.blank_core.ensures

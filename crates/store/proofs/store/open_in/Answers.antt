@@ -1,15 +1,44 @@
-use Rattle.std.proofs.Common.{◌≡◌, length, arith}
-use Rattle.store.proofs.StoreCases.{opened_opens, opened_view_lem}
+use Rattle.std.proofs.Common.{◌≡◌, arith, length}
+use Rattle.store.proofs.LendLaws.{opened_rows_lem, opened_words}
+use Rattle.store.proofs.StoreCases.{done_opened, done_view, not_done, refused_view}
 use Rattle.store.proofs.store.open_in.Goals as goal
 
-pub returns : goal.returns
-returns c =
-    let long : length c.args.store.slots ≡ 192 = omega arith in
-    let rows = c.lend_open-o.ensures in
-    let view =
-    opened_view_lem c.args.store c.args.settings _ _ _ _ _ _ long c.requires c.records_lent-d.ensures c.slots_lent-k.ensures
-    c.words_lent-h.ensures c.bytes_lent-u.ensures rows.result_value rows.opens_words c.store_opened-after.ensures in
-    let opens =
-    opened_opens c.args.store c.args.settings _ _ _ _ _ _ long c.requires c.records_lent-d.ensures c.slots_lent-k.ensures
-    c.words_lent-h.ensures c.bytes_lent-u.ensures rows.result_value rows.opens_words c.store_opened-after.ensures in
-    record { result_value = view; opens = opens }
+pub returns-in-Done : goal.returns-in-Done
+returns-in-Done c =
+    let w = c.args.store in
+    let s = c.args.settings in
+    let d = c.records_lent in
+    let k = c.slots_lent in
+    let h = c.words_lent in
+    let u = c.bytes_lent in
+    let o = c.open-opening.result in
+    let long : length c.args.store.rows.slots ≡ 192 = omega arith in
+    let e = c.open-opening.ensures in
+    let rows =
+    opened_rows_lem w.rows d.result k.result h.result u.result _ _ _ _ _ long (omega arith) c.open-opening.auto.slots s o e.setups_after e.opens_words in
+    let words =
+    opened_words w.rows d.result k.result h.result u.result _ _ _ _ _ long (omega arith) c.open-opening.auto.slots s o e.setups_after e.opens_words in
+    record {
+      result_value = done_view w s d.result k.result h.result u.result o _ long d.ensures k.ensures h.ensures u.ensures rows words c.in-Done.is;
+      opens = λ e. done_opened w s d.result k.result h.result u.result o _ long d.ensures k.ensures h.ensures u.ensures rows words c.in-Done.is;
+    }
+
+pub returns-in-Refused : goal.returns-in-Refused
+returns-in-Refused c =
+    let w = c.args.store in
+    let s = c.args.settings in
+    let d = c.records_lent in
+    let k = c.slots_lent in
+    let h = c.words_lent in
+    let u = c.bytes_lent in
+    let o = c.open-opening.result in
+    let long : length c.args.store.rows.slots ≡ 192 = omega arith in
+    let e = c.open-opening.ensures in
+    let rows =
+    opened_rows_lem w.rows d.result k.result h.result u.result _ _ _ _ _ long (omega arith) c.open-opening.auto.slots s o e.setups_after e.opens_words in
+    let words =
+    opened_words w.rows d.result k.result h.result u.result _ _ _ _ _ long (omega arith) c.open-opening.auto.slots s o e.setups_after e.opens_words in
+    record {
+      result_value = refused_view w s d.result k.result h.result u.result o _ long d.ensures k.ensures h.ensures u.ensures rows words _ c.in-Refused.is;
+      opens = λ e. not_done _ _ c.in-Refused.is e;
+    }

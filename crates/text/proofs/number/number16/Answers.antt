@@ -1,9 +1,16 @@
-use mathlib.Core.Path.{refl}
 use Prim.Native.Nat.{◌+◌}
 use native.Mathlib.Omega.{arith}
-use Rattle.text.proofs.NumberLaws.{number_both, number_one}
+use Rattle.text.proofs.NumberLaws.{number_end, number_first, number_next}
 use Rattle.text.proofs.number.number16.Goals as goal
 
 pub returns : goal.returns
-returns c = let a = c.args in
-    number_both _ a.at 1 1 256 _ _ (omega arith) refl (number_one _ a.at (omega arith)) (number_one _ (a.at + 1) (omega arith))
+returns c =
+    let b = c.args.bytes.now in
+    let at = c.args.at in
+    omega (
+      arith,
+      c.from_le_bytes.ensures,
+      number_first b at 1 (omega arith),
+      number_next b at 1 0 (omega arith),
+      number_end b (at + 2),
+    )

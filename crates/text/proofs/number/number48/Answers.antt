@@ -1,7 +1,20 @@
-use mathlib.Core.Path.{refl}
+use Prim.Native.Nat.{◌+◌}
 use native.Mathlib.Omega.{arith}
-use Rattle.text.proofs.NumberLaws.{number_both}
+use Rattle.text.proofs.NumberLaws.{number_end, number_first, number_next}
 use Rattle.text.proofs.number.number48.Goals as goal
 
 pub returns : goal.returns
-returns c = number_both _ c.args.at 4 2 4294967296 _ _ (omega arith) refl c.number32-low.ensures c.number16-high.ensures
+returns c =
+    let b = c.args.bytes.now in
+    let at = c.args.at in
+    omega (
+      arith,
+      c.from_le_bytes.ensures,
+      number_first b at 5 (omega arith),
+      number_next b at 1 4 (omega arith),
+      number_next b at 2 3 (omega arith),
+      number_next b at 3 2 (omega arith),
+      number_next b at 4 1 (omega arith),
+      number_next b at 5 0 (omega arith),
+      number_end b (at + 6),
+    )

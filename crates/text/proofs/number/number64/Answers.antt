@@ -1,7 +1,22 @@
-use mathlib.Core.Path.{refl}
+use Prim.Native.Nat.{◌+◌}
 use native.Mathlib.Omega.{arith}
-use Rattle.text.proofs.NumberLaws.{number_both}
+use Rattle.text.proofs.NumberLaws.{number_end, number_first, number_next}
 use Rattle.text.proofs.number.number64.Goals as goal
 
 pub returns : goal.returns
-returns c = number_both _ c.args.at 4 4 4294967296 _ _ (omega arith) refl c.number32-low.ensures c.number32-high.ensures
+returns c =
+    let b = c.args.bytes.now in
+    let at = c.args.at in
+    omega (
+      arith,
+      c.from_le_bytes.ensures,
+      number_first b at 7 (omega arith),
+      number_next b at 1 6 (omega arith),
+      number_next b at 2 5 (omega arith),
+      number_next b at 3 4 (omega arith),
+      number_next b at 4 3 (omega arith),
+      number_next b at 5 2 (omega arith),
+      number_next b at 6 1 (omega arith),
+      number_next b at 7 0 (omega arith),
+      number_end b (at + 8),
+    )

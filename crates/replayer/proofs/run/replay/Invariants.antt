@@ -1,9 +1,0 @@
-use Prim.Native.Nat.{◌≤◌}
-use Rattle.replayer.specs.Words.{Kept}
-use Rattle.replayer.proofs.run.replay.Given as goal
-
-abbrev pub invariant-loop-left : goal.invariant-loop-left
-invariant-loop-left l = (l.left ≤ 18446744073709551615) × Kept l.keeper
-
-abbrev pub decreases-loop-left : goal.decreases-loop-left
-decreases-loop-left l = l.left
