@@ -1,7 +1,7 @@
 // A store: a controller's core, and the five rows that every call is lent. Of each row the first places are lent, as many as
 // the settings say; the rest stays as it was. Where the state that the words stand for is in its ranges they are tidy, so no
 // call is refused for them.
-ghost use Rattle.std.specs.Prelude.{◌≡◌};
+ghost use Rattle.std.specs.Prelude.{◌≡◌, ℕ, ◌^◌, ◌<◌, slice_index};
 ghost use Rattle.store.specs.Stores.{
   records_lent,
   words_lent,
@@ -14,6 +14,7 @@ ghost use Rattle.store.specs.Words.{OpenedIn, Opens, called_view, opened_view, s
 ghost use Rattle.opening.specs.Words.{blank_core};
 
 pub use crate::rows::{Rows, Store};
+use common::answer::Refusal;
 use descriptor::qtd::QueueTransferDescriptor;
 use ehci::call::Call;
 use ehci::door::apply;
@@ -25,7 +26,6 @@ use register::writes::Writes;
 use settings::settings::Settings;
 use words::cores::Core;
 use words::row::RECORD;
-use common::answer::Refusal;
 
 #[derive(Clone, Copy)]
 pub struct Called {
@@ -158,10 +158,17 @@ pub fn open_in(store: Store, settings: Settings) -> OpenedStore
     }
 }
 
+// What a row's type says of each word, in a place where the search finds it.
+fn words_fit(row: &[u64])
+    ensures { (i : ℕ) → slice_index row.now i < 2 ^ 64 }
+{}
+
 pub fn call_on(store: Store, call: Call) -> Called
     ensures result_value { called_view result ≡ call_store (store_view store) call }
     ensures stays_open { OpenedIn store → OpenedIn result.store }
 {
+    words_fit(&store.rows.slots);
+    words_fit(&store.core.rest.free);
     let settings = store.core.settings;
     let Rows {
         mut pool,

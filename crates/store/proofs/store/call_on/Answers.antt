@@ -1,4 +1,4 @@
-use Rattle.std.proofs.Common.{◌≡◌, arith, length, rules}
+use Rattle.std.proofs.Common.{◌≡◌, arith, length}
 use Rattle.store.proofs.Known.{Known}
 use Rattle.store.proofs.LendLaws.{called_rows, called_words}
 use Rattle.store.proofs.StoreCases.{called_opened, called_tended, called_view_lem}
@@ -12,7 +12,7 @@ invariant_of-result c =
     let k = c.slots_lent in
     let h = c.words_lent in
     let u = c.bytes_lent in
-    let known : Known c.args.store = record { slots_length = omega arith; slots_fit = λ i. search rules; free_fit = λ i. search rules } in
+    let known : Known c.args.store = record { slots_length = omega arith; slots_fit = c.words_fit.ensures; free_fit = c.words_fit-2.ensures } in
     let long : length c.args.store.rows.slots ≡ 192 = omega arith in
     let e = c.apply-reply.ensures in
     let rows =
@@ -31,7 +31,7 @@ returns c =
     let k = c.slots_lent in
     let h = c.words_lent in
     let u = c.bytes_lent in
-    let known : Known c.args.store = record { slots_length = omega arith; slots_fit = λ i. search rules; free_fit = λ i. search rules } in
+    let known : Known c.args.store = record { slots_length = omega arith; slots_fit = c.words_fit.ensures; free_fit = c.words_fit-2.ensures } in
     let long : length c.args.store.rows.slots ≡ 192 = omega arith in
     let e = c.apply-reply.ensures in
     let rows =

@@ -3,8 +3,8 @@ use Rattle.store.proofs.LendLaws.{opened_rows_lem, opened_words}
 use Rattle.store.proofs.StoreCases.{done_opened, done_view, not_done, refused_view}
 use Rattle.store.proofs.store.open_in.Goals as goal
 
-pub returns-in-Done : goal.returns-in-Done
-returns-in-Done c =
+pub returns-in-Ok : goal.returns-in-Ok
+returns-in-Ok c =
     let w = c.args.store in
     let s = c.args.settings in
     let d = c.records_lent in
@@ -19,12 +19,12 @@ returns-in-Done c =
     let words =
     opened_words w.rows d.result k.result h.result u.result _ _ _ _ _ long (omega arith) c.open-opening.auto.slots s o e.setups_after e.opens_words in
     record {
-      result_value = done_view w s d.result k.result h.result u.result o _ long d.ensures k.ensures h.ensures u.ensures rows words c.in-Done.is;
-      opens = λ e. done_opened w s d.result k.result h.result u.result o _ long d.ensures k.ensures h.ensures u.ensures rows words c.in-Done.is;
+      result_value = done_view w s d.result k.result h.result u.result o _ long d.ensures k.ensures h.ensures u.ensures rows words c.in-Ok.is;
+      opens = λ e. done_opened w s d.result k.result h.result u.result o _ long d.ensures k.ensures h.ensures u.ensures rows words c.in-Ok.is;
     }
 
-pub returns-in-Refused : goal.returns-in-Refused
-returns-in-Refused c =
+pub returns-in-Err : goal.returns-in-Err
+returns-in-Err c =
     let w = c.args.store in
     let s = c.args.settings in
     let d = c.records_lent in
@@ -39,6 +39,6 @@ returns-in-Refused c =
     let words =
     opened_words w.rows d.result k.result h.result u.result _ _ _ _ _ long (omega arith) c.open-opening.auto.slots s o e.setups_after e.opens_words in
     record {
-      result_value = refused_view w s d.result k.result h.result u.result o _ long d.ensures k.ensures h.ensures u.ensures rows words _ c.in-Refused.is;
-      opens = λ e. not_done _ _ c.in-Refused.is e;
+      result_value = refused_view w s d.result k.result h.result u.result o _ long d.ensures k.ensures h.ensures u.ensures rows words _ c.in-Err.is;
+      opens = λ e. not_done _ _ c.in-Err.is e;
     }
