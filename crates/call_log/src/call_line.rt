@@ -1,5 +1,5 @@
 // The first line of a block: the record's number, the call's, its answer, and what the answer gives.
-ghost use Rattle.std.specs.Prelude.{◌≡◌, ◌≤◌, [], ◌∷◌, length};
+ghost use Rattle.std.specs.Prelude.{◌≡◌, Ok, ◌≤◌, [], ◌∷◌, length};
 ghost use Rattle.text.specs.Text.{decimal};
 ghost use Rattle.ehci.specs.Replies.{event_value};
 ghost use Rattle.root_hub.specs.Ports.{port_event_number};
@@ -107,14 +107,22 @@ fn given_line(n: u64, call: u8, given: Given) -> Line
     }
 }
 
+fn answer_line(n: u64, call: u8, answer: Answered) -> Line
+    ensures { line_bytes result ≡ answered_line n call (Ok answer) }
+{
+    match answer {
+        Answered::Done(given) => given_line(n, call, given),
+        Answered::Pending => bare_line(n, call, 9),
+        Answered::Cancelled => bare_line(n, call, 10),
+        Answered::Failed(token) => line_with(n, call, 11, &[Part::Word(token)]),
+    }
+}
+
 pub fn call_line(n: u64, call: u8, answered: Result<Answered, Refusal>) -> Line
     ensures { line_bytes result ≡ answered_line n call answered }
 {
     match answered {
-        Ok(Answered::Done(given)) => given_line(n, call, given),
-        Ok(Answered::Pending) => bare_line(n, call, 9),
-        Ok(Answered::Cancelled) => bare_line(n, call, 10),
-        Ok(Answered::Failed(token)) => line_with(n, call, 11, &[Part::Word(token)]),
+        Ok(answer) => answer_line(n, call, answer),
         Err(refusal) => bare_line(n, call, refusal.number()),
     }
 }

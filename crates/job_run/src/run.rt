@@ -22,7 +22,7 @@ use common::kinds::EndpointType;
 use controller::lent::Readings;
 use ehci::call::{Call, EndpointFields};
 use ehci::reply::{Answered, Given, answered_number};
-use job_sheet::outcome::{Submitted, slot_of};
+use job_sheet::outcome::{Opened, Submitted, slot_of};
 use job_sheet::record::{EndpointRecord, RequestRecord};
 use job_sheet::sheet::Job;
 use request::judge::TransferRequest;
