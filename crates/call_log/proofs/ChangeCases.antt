@@ -1,8 +1,9 @@
 -- What a turn of a loop over a row puts, and that each line is short enough.
-use Rattle.std.specs.Prelude.{◌≡◌, ℕ, ◌+◌, ◌*◌, ◌/◌, ◌%◌, ◌<◌, ◌≤◌, Bool, true, false, cond, not, ◌||◌, eqb, List, [], ◌∷◌, length, get_or}
+use Rattle.std.specs.Prelude.{◌≡◌, ℕ, ◌+◌, ◌*◌, ◌/◌, ◌%◌, ◌<◌, ◌≤◌, Bool, true, false, cond, not, ◌&&◌, ◌||◌, eqb, List, [], ◌∷◌, length, get_or}
 use mathlib.Core.Path.{refl, sym, ap, ◌∙◌}
 use native.Mathlib.Numerals.{add-one}
 use native.Mathlib.Omega.{arith}
+use lib.Pointwise.{pointwise}
 use lib.ListN.{length-append}
 use Rattle.common.specs.Rows.{put_at}
 use Rattle.pool.specs.Chains.{blank}
@@ -12,7 +13,7 @@ use Rattle.text.specs.Text.{decimal, hex, only_if}
 use Rattle.text.proofs.LineLaws.{get_d_any, hidden, only_most, shown}
 use Rattle.text.proofs.TextLaws.{decimal_length, hex_length}
 use Rattle.descriptor.specs.declared.qtd.QueueTransferDescriptor.{QueueTransferDescriptor}
-use Rattle.call_log.specs.Changes.{first_of, frame_change, goes_further, head_change, port_change, record_change, run_ends, same_eight, same_record, setup_change}
+use Rattle.call_log.specs.Changes.{first_of, frame_change, goes_further, head_change, port_change, record_change, run_ends, same_eight, same_five, same_record, setup_change}
 use Rattle.call_log.specs.Lines.{frame_line, head_line, line_bytes, line_of, port_line, record_line, setup_line, write_line}
 use Rattle.call_log.specs.declared.line.Line.{Line}
 
@@ -109,3 +110,40 @@ pub write_any : (ws : List Write) (i : ℕ) (d : Write) → i < length ws
     → write_line (get_or ws i d).offset (get_or ws i d).value
     ≡ write_line (get_or ws i (write_of 0 0)).offset (get_or ws i (write_of 0 0)).value
 write_any ws i d h = rw (get_d_any ws i d (write_of 0 0) h)
+
+-- ---- two descriptors are the same by their words
+
+five_and : (a b c d e : Bool) → (a && (b && (c && (d && e)))) ≡ (a && b && c && d && e)
+five_and true true true true e = refl
+five_and true true true false e = refl
+five_and true true false d e = refl
+five_and true false c d e = refl
+five_and false b c d e = refl
+
+five_same : (a b : List ℕ) → length a ≡ 5 → length b ≡ 5 → pointwise eqb a b ≡ same_five a b
+unfolding same_five
+five_same [] b h g = absurd (omega (arith, h))
+five_same (x0 ∷ []) b h g = absurd (omega (arith, h))
+five_same (x0 ∷ x1 ∷ []) b h g = absurd (omega (arith, h))
+five_same (x0 ∷ x1 ∷ x2 ∷ []) b h g = absurd (omega (arith, h))
+five_same (x0 ∷ x1 ∷ x2 ∷ x3 ∷ []) b h g = absurd (omega (arith, h))
+five_same (x0 ∷ x1 ∷ x2 ∷ x3 ∷ x4 ∷ x5 ∷ a) b h g = absurd (omega (arith, h))
+five_same (x0 ∷ x1 ∷ x2 ∷ x3 ∷ x4 ∷ []) [] h g = absurd (omega (arith, g))
+five_same (x0 ∷ x1 ∷ x2 ∷ x3 ∷ x4 ∷ []) (y0 ∷ []) h g = absurd (omega (arith, g))
+five_same (x0 ∷ x1 ∷ x2 ∷ x3 ∷ x4 ∷ []) (y0 ∷ y1 ∷ []) h g = absurd (omega (arith, g))
+five_same (x0 ∷ x1 ∷ x2 ∷ x3 ∷ x4 ∷ []) (y0 ∷ y1 ∷ y2 ∷ []) h g = absurd (omega (arith, g))
+five_same (x0 ∷ x1 ∷ x2 ∷ x3 ∷ x4 ∷ []) (y0 ∷ y1 ∷ y2 ∷ y3 ∷ []) h g = absurd (omega (arith, g))
+five_same (x0 ∷ x1 ∷ x2 ∷ x3 ∷ x4 ∷ []) (y0 ∷ y1 ∷ y2 ∷ y3 ∷ y4 ∷ y5 ∷ b) h g = absurd (omega (arith, g))
+five_same (x0 ∷ x1 ∷ x2 ∷ x3 ∷ x4 ∷ []) (y0 ∷ y1 ∷ y2 ∷ y3 ∷ y4 ∷ []) h g = ap (λ (t : Bool). eqb x0 y0 && (eqb x1 y1 && (eqb x2 y2 && (eqb x3 y3 && t)))) (and_true (eqb x4 y4)) ∙ five_and (eqb x0 y0) (eqb x1 y1) (eqb x2 y2) (eqb x3 y3) (eqb x4 y4)
+  where
+    and_true : (t : Bool) → (t && true) ≡ t
+    and_true true = refl
+    and_true false = refl
+
+pub record_same : (a b : QueueTransferDescriptor) → length a.pages ≡ 5 → length b.pages ≡ 5 → length a.upper ≡ 5 → length b.upper ≡ 5
+    → (eqb a.next b.next && (eqb a.alternate b.alternate && (eqb a.token b.token && (pointwise eqb a.pages b.pages && pointwise eqb a.upper b.upper))))
+    ≡ same_record a b
+unfolding same_record
+record_same a b p q u v =
+    five_and (eqb a.next b.next) (eqb a.alternate b.alternate) (eqb a.token b.token) (pointwise eqb a.pages b.pages) (pointwise eqb a.upper b.upper)
+    ∙ rw (five_same a.pages b.pages p q, five_same a.upper b.upper u v)
