@@ -3,8 +3,7 @@
 // `tools/log_cases.py` makes the logs, and what is to be printed from document 01.
 #![tactic(auto)]
 
-ghost use Rattle.std.specs.Prelude.{◌≤◌, IfSome};
-ghost use Rattle.replayer.specs.Words.{Kept};
+ghost use Rattle.std.specs.Prelude.{◌≤◌};
 
 use replayer::keeper::{Keeper, fresh_keeper};
 use replayer::turn::turn;
@@ -20,9 +19,7 @@ struct Log {
     number: u64,
 }
 
-fn fresh_log() -> Log
-    ensures { Kept result.keeper }
-{
+fn fresh_log() -> Log {
     Log {
         keeper: fresh_keeper(),
         number: 0,
@@ -45,10 +42,7 @@ fn next_bytes(n: usize) -> [u8; 64]
 }
 
 // One record of a log, as `replay` does it.
-fn after_record(log: Log, bytes: &[u8]) -> Option<Log>
-    requires { Kept log.keeper }
-    ensures { IfSome result (λ after. Kept after.keeper) }
-{
+fn after_record(log: Log, bytes: &[u8]) -> Option<Log> {
     let mut out = [0u8; 131072];
     let turned = turn(&mut out, log.keeper, log.number, bytes);
     io::write_all(STDOUT, &out[..turned.end]);
@@ -60,10 +54,7 @@ fn after_record(log: Log, bytes: &[u8]) -> Option<Log>
 }
 
 // A log that begins, or one more record, of which nothing is said once its log has ended.
-fn next(log: Option<Log>, said: u8) -> Option<Log>
-    requires { IfSome log (λ before. Kept before.keeper) }
-    ensures { IfSome result (λ after. Kept after.keeper) }
-{
+fn next(log: Option<Log>, said: u8) -> Option<Log> {
     if said > 64 {
         io::write_all(STDOUT, b"=\n");
         return Some(fresh_log());
