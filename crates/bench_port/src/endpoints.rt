@@ -11,12 +11,14 @@ ghost use Rattle.bench_port.specs.Numbers.{pack_of, refused_numbers};
 ghost use Rattle.bench_port.specs.Border.{beside_heads, seen_allotted, seen_change, seen_changed, seen_in, seen_opened};
 
 use crate::numbers::{Replied, pack};
-use direct_calls::endpoints::{allocate_address, clear_halt, close, open_endpoint, set_address, set_packet_size};
+use controller::left::Left;
+use direct_calls::endpoints::{
+    allocate_address, clear_halt, close, open_endpoint, set_address, set_packet_size,
+};
 use ehci::reply::{allotted_answer, opened_answer, simple};
 use pipe::endpoints::kind_of;
 use register::writes::Writes;
 use words::cores::Core;
-use controller::left::Left;
 
 fn pack_allotted(x: Left<u8>) -> Replied
     ensures { result ≡ pack_of x.rest (allotted_answer x.answer) no_writes }

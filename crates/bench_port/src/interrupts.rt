@@ -8,11 +8,11 @@ ghost use Rattle.bench_port.specs.Numbers.{pack_of, refused_numbers};
 ghost use Rattle.bench_port.specs.Border.{seen_acknowledged, seen_drained, seen_in, seen_settled};
 
 use crate::numbers::{Replied, pack};
+use controller::left::Settled;
 use direct_calls::interrupts::{acknowledge, disable, drain, enable, rearm};
 use ehci::reply::{acknowledged_answer, drained_answer, simple};
-use words::cores::Core;
-use controller::left::Settled;
 use interrupt::answers::Event;
+use words::cores::Core;
 
 fn pack_acknowledged(x: Settled<bool>) -> Replied
     ensures { result ≡ pack_of x.rest (acknowledged_answer x.answer) x.writes }

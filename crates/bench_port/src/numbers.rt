@@ -2,11 +2,11 @@
 ghost use Rattle.std.specs.Prelude.{◌≡◌};
 ghost use Rattle.bench_port.specs.Numbers.{register_number, given_number, value_of, given_other, other_of, offsets_of, values_of, pack_of};
 
+use common::answer::Refusal;
 use ehci::reply::{Answered, Given, Reply, answered_number, event_number};
+use interrupt::answers::Event;
 use register::writes::{Write, Writes};
 use words::cores::Rest;
-use common::answer::Refusal;
-use interrupt::answers::Event;
 
 // Beyond every register's offset.
 pub const NO_REGISTER: u64 = 0x1_0000_0000;

@@ -3,8 +3,8 @@ ghost use Rattle.std.specs.Prelude.{◌≡◌};
 ghost use Rattle.opening.specs.Words.{open_words};
 ghost use Rattle.bench_port.specs.Opens.{OpensPort, beside_opened, pack_opening, seen_opening};
 
-use descriptor::qtd::QueueTransferDescriptor;
 use common::answer::number_of;
+use descriptor::qtd::QueueTransferDescriptor;
 use opening::hub::EhciRootHub;
 use opening::open::{Opening, open};
 use settings::settings::Settings;

@@ -8,11 +8,11 @@ ghost use Rattle.bench_port.specs.Numbers.{pack_of, refused_numbers};
 ghost use Rattle.bench_port.specs.Border.{beside_links, readings_of, seen_cancelled, seen_in};
 
 use crate::numbers::{Replied, pack};
+use controller::left::Settled;
 use controller::lent::Readings;
 use direct_calls::requests::cancel;
 use ehci::reply::simple;
 use words::cores::Core;
-use controller::left::Settled;
 
 fn pack_cancelled(x: Settled<()>) -> Replied
     ensures { result ≡ pack_of x.rest (simply x.answer) x.writes }

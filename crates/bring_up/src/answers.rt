@@ -1,7 +1,7 @@
 // What a start or a step of bring-up answers and leaves.
+use common::answer::Refusal;
 use register::writes::Writes;
 use words::cores::Rest;
-use common::answer::Refusal;
 
 // Its writes, then the milliseconds to wait, then the register to read.
 #[derive(Clone, Copy)]

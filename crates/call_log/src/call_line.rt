@@ -14,10 +14,10 @@ ghost use Rattle.call_log.specs.CallLine.{
 ghost use Rattle.call_log.specs.Lines.{line_bytes, said_line};
 
 use crate::line::{Line, Part};
-use ehci::reply::{Answered, Given, event_number};
-use root_hub::ports::{PortEvent, event_port};
 use common::answer::Refusal;
+use ehci::reply::{Answered, Given, event_number};
 use interrupt::answers::Event;
+use root_hub::ports::{PortEvent, event_port};
 
 // The record's number, the call's, its answer, and what the answer gives.
 fn line_with(n: u64, call: u8, answer: u8, values: &[Part]) -> Line

@@ -8,16 +8,16 @@ ghost use Rattle.collection.specs.Unlinks.{left};
 ghost use Rattle.collection.specs.Words.{cancelled_view, collected_view};
 
 use crate::answers::{refuse_cancel, refuse_collect, still_pending};
+use crate::collected::Collected;
 use crate::finish::{collect_linked, collect_unlinking};
 use crate::unlink::{mark, marked, unlink};
 use common::answer::Refusal;
+use controller::left::Settled;
 use controller::lent::Readings;
 use pipe::endpoints::Endpoint;
 use pipe::slots::endpoint_at;
 use pool::chain::View;
 use words::cores::Core;
-use controller::left::Settled;
-use crate::collected::Collected;
 
 // As many unlinks as there are slots: none can be that of a slot that is still linked.
 pub const UNLINKS: u8 = 32;

@@ -9,10 +9,11 @@ ghost use Rattle.collection.specs.Calls.{ended, finish_of, gathered, keeping, li
 ghost use Rattle.collection.specs.Words.{collected_view};
 
 use crate::answers::{refuse_collect, still_pending};
-use crate::collected::{outcome_of, pending_of};
+use crate::collected::{Collected, outcome_of, pending_of};
 use crate::unlink::{is_lost, passed, waiting};
 use bitset::places::with;
 use common::answer::Refusal;
+use controller::left::Settled;
 use controller::lent::Readings;
 use pipe::endpoints::{Endpoint, Pipe, Request, UnlinkBoundary, with_toggle};
 use pipe::slots::put_endpoint;
@@ -22,8 +23,6 @@ use schedule::links::end_overlay;
 use token::overlay::kept_toggle;
 use words::cores::Core;
 use words::row::{places_at, put_places};
-use controller::left::Settled;
-use crate::collected::Collected;
 
 // The slot is idle again with the toggle that the controller left, its descriptors are free.
 fn finish(

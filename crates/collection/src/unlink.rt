@@ -14,6 +14,7 @@ ghost use Rattle.pipe.specs.declared.endpoints.UnlinkBoundary.TheVariants.{Async
 use crate::answers::refuse_cancel;
 use common::answer::Refusal;
 use common::kinds::{EndpointType, is_interrupt};
+use controller::left::Settled;
 use controller::lent::Readings;
 use pipe::endpoints::{Endpoint, Pipe, Request, UnlinkBoundary};
 use pipe::slots::put_endpoint;
@@ -21,7 +22,6 @@ use register::writes::Writes;
 use schedule::bell::{Bell, Rung, frame_of, frames_passed, unlinked};
 use schedule::links::{Predecessor, detach, head_address};
 use words::cores::Core;
-use controller::left::Settled;
 
 // The boundary of a request that is unlinked, and the doorbell then.
 #[derive(Clone, Copy)]

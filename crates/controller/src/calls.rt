@@ -5,8 +5,8 @@ ghost use Rattle.words.specs.View.{view};
 ghost use Rattle.controller.specs.Address.{allot_of};
 ghost use Rattle.controller.specs.Words.{allotted_view};
 
-use common::answer::Refusal;
 use crate::left::Left;
+use common::answer::Refusal;
 use words::cores::Core;
 
 pub fn allocate_address(core: Core) -> Left<u8>

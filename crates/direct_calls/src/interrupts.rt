@@ -6,12 +6,12 @@ ghost use Rattle.direct_calls.specs.Refusals.{refused_acknowledgement, refused_d
 ghost use Rattle.direct_calls.specs.Shapes.{CoreCall, SlotsCall};
 
 use common::answer::Refusal;
+use controller::left::Settled;
+use interrupt::answers::Event;
 use register::writes::Writes;
 use word_ranges::judge::words_good;
 use word_ranges::scalars::core_good;
 use words::cores::{Core, Rest};
-use controller::left::Settled;
-use interrupt::answers::Event;
 
 // What rearm, enable and disable leave of a core that is not in its ranges.
 fn refuse(rest: Rest) -> Settled<()>

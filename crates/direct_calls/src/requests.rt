@@ -10,9 +10,9 @@ ghost use Rattle.direct_calls.specs.Shapes.{FramesCall};
 use crate::takes::takes_frames;
 use collection::answers::refuse_cancel;
 use common::answer::Refusal;
+use controller::left::Settled;
 use controller::lent::Readings;
 use words::cores::Core;
-use controller::left::Settled;
 
 pub fn cancel(
     core: Core,

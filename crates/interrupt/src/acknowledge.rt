@@ -3,7 +3,11 @@ ghost use Rattle.std.specs.Prelude.{◌≡◌};
 ghost use Rattle.interrupt.specs.Interrupts.{mask_word, acknowledge_writes};
 
 use register::bits::{only_bits, without_bits};
-use register::operational::{USBINTR, USBINTR_ASYNC_ADVANCE, USBINTR_PORT_CHANGE, USBINTR_USBERRINT, USBINTR_USBINT, USBSTS, USBSTS_HOST_SYSTEM_ERROR, USBSTS_INTERRUPT_ASYNC_ADVANCE, USBSTS_PORT_CHANGE, USBSTS_USBERRINT, USBSTS_USBINT};
+use register::operational::{
+    USBINTR, USBINTR_ASYNC_ADVANCE, USBINTR_PORT_CHANGE, USBINTR_USBERRINT, USBINTR_USBINT, USBSTS,
+    USBSTS_HOST_SYSTEM_ERROR, USBSTS_INTERRUPT_ASYNC_ADVANCE, USBSTS_PORT_CHANGE, USBSTS_USBERRINT,
+    USBSTS_USBINT,
+};
 use register::writes::Writes;
 
 // What is enabled, and so what is masked.

@@ -9,13 +9,13 @@ ghost use Rattle.words.specs.Good.{Good, Tidy};
 ghost use Rattle.words.specs.View.{view};
 
 use crate::acknowledge::{MASKABLE, PENDING, acknowledge_writes};
+use crate::answers::Event;
 use crate::drain::{clear_pending, count_noted};
+use controller::left::Settled;
 use register::bits::{any_of, only_bits, with_bits};
 use register::operational::{USBINTR, USBSTS_INTERRUPT_ASYNC_ADVANCE};
 use register::writes::Writes;
 use words::cores::Core;
-use controller::left::Settled;
-use crate::answers::Event;
 
 // An advance is noted only while the doorbell is up.
 fn noted_after(doorbell: u8, noted: u8, p: u32) -> u8

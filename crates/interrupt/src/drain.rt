@@ -5,13 +5,15 @@ ghost use Rattle.interrupt.specs.Words.{counted_view};
 ghost use Rattle.words.specs.Good.{Good, Tidy};
 ghost use Rattle.words.specs.View.{view};
 
+use crate::answers::Event;
 use register::bits::{any_of, without_bits};
-use register::operational::{USBSTS_INTERRUPT_ASYNC_ADVANCE, USBSTS_PORT_CHANGE, USBSTS_USBERRINT, USBSTS_USBINT};
+use register::operational::{
+    USBSTS_INTERRUPT_ASYNC_ADVANCE, USBSTS_PORT_CHANGE, USBSTS_USBERRINT, USBSTS_USBINT,
+};
 use register::writes::Writes;
 use schedule::bell::{Bell, advanced};
 use words::cores::{Core, Rest};
 use words::fall::fall;
-use crate::answers::Event;
 
 pub const ACTIVITY: u32 = USBSTS_USBINT | USBSTS_USBERRINT | USBSTS_INTERRUPT_ASYNC_ADVANCE;
 

@@ -18,6 +18,7 @@ ghost use Rattle.job_run.specs.Words.{ran_view};
 
 use crate::controller_of::running_store;
 use arrayvec::ArrayVec;
+use common::answer::Refusal;
 use common::kinds::EndpointType;
 use controller::lent::Readings;
 use ehci::call::{Call, EndpointFields};
@@ -27,7 +28,6 @@ use job_sheet::record::{EndpointRecord, RequestRecord};
 use job_sheet::sheet::Job;
 use request::judge::TransferRequest;
 use store::store::{Store, call_on};
-use common::answer::Refusal;
 
 // No slot has this number.
 pub const NO_SLOT: u8 = 255;

@@ -121,14 +121,7 @@ fn act_power(k: Keeper, n: u64, number: u8, port: u8, reading: u32) -> Acted
     ensures { effect_of result ≡ power_effect (keeper_view k) n number (power_of k.hub port reading) }
 {
     let powered = root_hub::calls::port_power(k.hub, port, reading);
-    let line = scan_line(
-        n,
-        number,
-        powered.answer,
-        None,
-        powered.wait,
-        None,
-    );
+    let line = scan_line(n, number, powered.answer, None, powered.wait, None);
     Acted {
         keeper: k,
         line,

@@ -51,7 +51,13 @@ pub fn ranges_good(t: TransferRequest) -> bool
 }
 
 // `wanted` is what the request needs.
-pub fn judge(core: Core, slots: &[u64], slot: u8, t: TransferRequest, wanted: u64) -> Result<(), Refusal>
+pub fn judge(
+    core: Core,
+    slots: &[u64],
+    slot: u8,
+    t: TransferRequest,
+    wanted: u64,
+) -> Result<(), Refusal>
     requires good { Good core.settings core.rest slots.now }
     requires wanted_value { wanted ≡ need_of_request (view core slots.now) slot t }
     ensures { result ≡ judge_of (view core slots.now) slot t }

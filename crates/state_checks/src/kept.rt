@@ -4,6 +4,7 @@ use call_log::call_line::{call_line, scan_line};
 use call_log::fields::Fields;
 use call_log::line::Line;
 use call_log::record::Entry;
+use common::answer::Refusal;
 use controller::lent::Readings;
 use descriptor::qtd::QueueTransferDescriptor;
 use ehci::call::Call;
@@ -16,7 +17,6 @@ use root_hub::calls::Scanned;
 use root_hub::ports::PortEvent;
 use settings::settings::Settings;
 use words::cores::Core;
-use common::answer::Refusal;
 
 // `trial` is the last record that told of a trial, until a call comes.
 #[derive(Clone, Copy)]
@@ -145,14 +145,7 @@ impl Kept {
     fn power(&self, n: u64, port: u8, reading: u32) -> Said {
         let powered = root_hub::calls::port_power(self.hub, port, reading);
         Said {
-            line: scan_line(
-                n,
-                20,
-                powered.answer,
-                None,
-                powered.wait,
-                None,
-            ),
+            line: scan_line(n, 20, powered.answer, None, powered.wait, None),
             writes: powered.writes,
         }
     }

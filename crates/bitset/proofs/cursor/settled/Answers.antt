@@ -5,17 +5,11 @@ use Rattle.bitset.specs.Rest.{coming_of, next_of, settled_of}
 use Rattle.bitset.proofs.CursorLaws.{coming_none, coming_next, coming_here, settled_none, settled_next, settled_here}
 use Rattle.bitset.proofs.cursor.settled.Goals as goal
 
-pub loop-at-init : goal.loop-at-init
-loop-at-init c = (refl, refl)
-
 pub returns-then-at-gt128 : goal.returns-then-at-gt128
 returns-then-at-gt128 c = (
   sym (settled_none c.loop-at.at c.if-at-gt128.true) ∙ c.loop-at.invariant.0,
   coming_none _ c.if-at-gt128.true c.loop-at-test.true ∙ c.loop-at.invariant.1,
 )
-
-pub next_word-at-requires : goal.next_word-at-requires
-next_word-at-requires c = c.if-at-gt128.false
 
 pub loop-at-smaller : goal.loop-at-smaller
 unfolding next_of

@@ -3,15 +3,6 @@ use Rattle.bitset.specs.Places.{set_places}
 use Rattle.bitset.proofs.PartLaws.{four_length}
 use Rattle.bitset.proofs.places.count.Goals as goal
 
-pub overflow_add-result : goal.overflow_add-result
-overflow_add-result c = omega arith
-
-pub overflow_add-result-2 : goal.overflow_add-result-2
-overflow_add-result-2 c = omega arith
-
-pub overflow_add-result-3 : goal.overflow_add-result-3
-overflow_add-result-3 c = omega arith
-
 pub returns : goal.returns
 unfolding set_places
 returns c = (

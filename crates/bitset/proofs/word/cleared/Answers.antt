@@ -3,9 +3,6 @@ use lib.Bits.{and_le_l}
 use Rattle.bitset.specs.Words.{cleared_of}
 use Rattle.bitset.proofs.word.cleared.Goals as goal
 
-pub overflow_sub-result : goal.overflow_sub-result
-overflow_sub-result c = and_le_l c.args.w c.args.x
-
 pub returns : goal.returns
 unfolding cleared_of
 returns c = refl

@@ -10,7 +10,3 @@ loop-init c = sym (drop_none 64 c.args.x c.ranges.x.fits)
 
 pub loop-preserved : goal.loop-preserved
 loop-preserved c = drop_turn _ _ _ _ c.ranges.x.fits c.requires c.loop-test.true c.loop.invariant _ c.drop_lowest-rest.ensures
-
-pub returns : goal.returns
-returns c = let done : c.loop.counter ≡ c.args.n = omega arith in
-    c.loop.invariant ∙ ap (drop_bits 64 c.args.x) done

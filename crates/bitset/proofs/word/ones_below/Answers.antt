@@ -6,9 +6,6 @@ use Rattle.bitset.specs.Words.{ones_below}
 use Rattle.bitset.proofs.BitLaws.{shifted}
 use Rattle.bitset.proofs.word.ones_below.Goals as goal
 
-pub overflow_sub-result : goal.overflow_sub-result
-overflow_sub-result c = let z : 1 * 2 ^ c.args.n % 2 ^ 64 ≡ 2 ^ c.args.n = shifted c.args.n c.if-n-ge64.false in rw z (pow_pos c.args.n)
-
 pub returns-then-n-ge64 : goal.returns-then-n-ge64
 unfolding ones_below
 returns-then-n-ge64 c = let m : min c.args.n 64 ≡ 64 = omega arith in rw m

@@ -2,8 +2,5 @@ use Rattle.collection.proofs.WordsAsk.{asked_limit, asked_words}
 use borrow.Author.Rules.{rules}
 use Rattle.collection.proofs.ask.ask_for.Goals as goal
 
-pub overflow_cast-limit : goal.overflow_cast-limit
-overflow_cast-limit c = search (asked_limit, rules)
-
 pub returns : goal.returns
 returns c = search asked_words

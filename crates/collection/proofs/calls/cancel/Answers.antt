@@ -7,44 +7,20 @@ use Rattle.collection.proofs.calls.cancel.Goals as goal
 pub returns-then-unanswered-ge-UNLINKS-clause-by_index : goal.returns-then-unanswered-ge-UNLINKS-clause-by_index
 returns-then-unanswered-ge-UNLINKS-clause-by_index c = λ pool setups fit. search cancels_crowded
 
-pub returns-then-unanswered-ge-UNLINKS-clause-tidy : goal.returns-then-unanswered-ge-UNLINKS-clause-tidy
-returns-then-unanswered-ge-UNLINKS-clause-tidy c = search tidy_refused_cancel
-
 pub returns-then-own-id-clause-by_index : goal.returns-then-own-id-clause-by_index
 returns-then-own-id-clause-by_index c = λ pool setups fit. search cancels_wrong
-
-pub returns-then-own-id-clause-tidy : goal.returns-then-own-id-clause-tidy
-returns-then-own-id-clause-tidy c = search tidy_refused_cancel
 
 pub unlink-requires-clause-k_lt_endpoints : goal.unlink-requires-clause-k_lt_endpoints
 unlink-requires-clause-k_lt_endpoints c = (search read_linked_within, search rules)
 
-pub unlink-requires-clause-own_request : goal.unlink-requires-clause-own_request
-unlink-requires-clause-own_request c = search (own_marked, read_is)
-
-pub unlink-requires-clause-heads_len : goal.unlink-requires-clause-heads_len
-unlink-requires-clause-heads_len c = (search rules, search rules)
-
 pub returns-then-own-id-2-clause-by_index : goal.returns-then-own-id-2-clause-by_index
 returns-then-own-id-2-clause-by_index c = λ pool setups fit. search cancels_other
-
-pub returns-then-own-id-2-clause-tidy : goal.returns-then-own-id-2-clause-tidy
-returns-then-own-id-2-clause-tidy c = search tidy_refused_cancel
-
-pub mark-requires-clause-k_value : goal.mark-requires-clause-k_value
-mark-requires-clause-k_value c = search read_is
 
 pub returns-in-Closed-clause-by_index : goal.returns-in-Closed-clause-by_index
 returns-in-Closed-clause-by_index c = λ pool setups fit. search cancels_closed
 
-pub returns-in-Closed-clause-tidy : goal.returns-in-Closed-clause-tidy
-returns-in-Closed-clause-tidy c = search tidy_refused_cancel
-
 pub returns-in-Idle-clause-by_index : goal.returns-in-Idle-clause-by_index
 returns-in-Idle-clause-by_index c = λ pool setups fit. search cancels_idle
-
-pub returns-in-Idle-clause-tidy : goal.returns-in-Idle-clause-tidy
-returns-in-Idle-clause-tidy c = search tidy_refused_cancel
 
 pub returns-else-own-id-clause-by_index : goal.returns-else-own-id-clause-by_index
 returns-else-own-id-clause-by_index c = λ pool setups fit.

@@ -7,41 +7,17 @@ use Rattle.collection.proofs.calls.collect.Goals as goal
 pub returns-then-unanswered-ge-UNLINKS-clause-by_index : goal.returns-then-unanswered-ge-UNLINKS-clause-by_index
 returns-then-unanswered-ge-UNLINKS-clause-by_index c = λ pool setups fit. search collects_crowded
 
-pub returns-then-unanswered-ge-UNLINKS-clause-tidy : goal.returns-then-unanswered-ge-UNLINKS-clause-tidy
-returns-then-unanswered-ge-UNLINKS-clause-tidy c = search tidy_refused_collect
-
 pub returns-then-own-id-clause-by_index : goal.returns-then-own-id-clause-by_index
 returns-then-own-id-clause-by_index c = λ pool setups fit. search collects_wrong
-
-pub returns-then-own-id-clause-tidy : goal.returns-then-own-id-clause-tidy
-returns-then-own-id-clause-tidy c = search tidy_refused_collect
-
-pub collect_linked-requires-clause-k_value : goal.collect_linked-requires-clause-k_value
-collect_linked-requires-clause-k_value c = (search read_is, search rules)
-
-pub collect_linked-requires-clause-heads_len : goal.collect_linked-requires-clause-heads_len
-collect_linked-requires-clause-heads_len c = (search rules, search rules)
 
 pub returns-then-own-id-2-clause-by_index : goal.returns-then-own-id-2-clause-by_index
 returns-then-own-id-2-clause-by_index c = λ pool setups fit. search collects_other
 
-pub returns-then-own-id-2-clause-tidy : goal.returns-then-own-id-2-clause-tidy
-returns-then-own-id-2-clause-tidy c = search tidy_refused_collect
-
-pub collect_unlinking-requires-clause-k_value : goal.collect_unlinking-requires-clause-k_value
-collect_unlinking-requires-clause-k_value c = search read_is
-
 pub returns-in-Closed-clause-by_index : goal.returns-in-Closed-clause-by_index
 returns-in-Closed-clause-by_index c = λ pool setups fit. search collects_closed
 
-pub returns-in-Closed-clause-tidy : goal.returns-in-Closed-clause-tidy
-returns-in-Closed-clause-tidy c = search tidy_refused_collect
-
 pub returns-in-Idle-clause-by_index : goal.returns-in-Idle-clause-by_index
 returns-in-Idle-clause-by_index c = λ pool setups fit. search collects_idle
-
-pub returns-in-Idle-clause-tidy : goal.returns-in-Idle-clause-tidy
-returns-in-Idle-clause-tidy c = search tidy_pending
 
 pub returns-else-own-id-clause-by_index : goal.returns-else-own-id-clause-by_index
 returns-else-own-id-clause-by_index c = λ pool setups fit.

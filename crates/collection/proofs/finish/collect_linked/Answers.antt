@@ -6,9 +6,6 @@ use Rattle.collection.proofs.finish.collect_linked.Goals as goal
 pub returns-then-stands_active-clause-frames_after : goal.returns-then-stands_active-clause-frames_after
 returns-then-stands_active-clause-frames_after c = search linked_waits_words
 
-pub returns-then-stands_active-clause-tidy : goal.returns-then-stands_active-clause-tidy
-returns-then-stands_active-clause-tidy c = search tidy_pending
-
 pub is_lost-requires-clause-k_lt_endpoints : goal.is_lost-requires-clause-k_lt_endpoints
 is_lost-requires-clause-k_lt_endpoints c = (search linked_within, search rules, search rules)
 
@@ -18,14 +15,8 @@ is_lost-requires-clause-kind_value c = search (own_framed, own_same)
 pub returns-then-is_lost-clause-frames_after : goal.returns-then-is_lost-clause-frames_after
 returns-then-is_lost-clause-frames_after c = search linked_lost_words
 
-pub returns-then-is_lost-clause-tidy : goal.returns-then-is_lost-clause-tidy
-returns-then-is_lost-clause-tidy c = search tidy_refused_collect
-
 pub waiting-left-requires-clause-k_lt_endpoints : goal.waiting-left-requires-clause-k_lt_endpoints
 waiting-left-requires-clause-k_lt_endpoints c = (search linked_within, search rules)
-
-pub waiting-left-requires-clause-own_request : goal.waiting-left-requires-clause-own_request
-waiting-left-requires-clause-own_request c = search own_same
 
 pub returns-clause-frames_after : goal.returns-clause-frames_after
 returns-clause-frames_after c = search linked_unlinks_words

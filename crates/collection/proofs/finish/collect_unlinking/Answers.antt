@@ -8,9 +8,6 @@ passed-requires c = search unlinking_frame
 pub returns-then-not-passed-clause-heads_after : goal.returns-then-not-passed-clause-heads_after
 returns-then-not-passed-clause-heads_after c = search unlinking_waits_words
 
-pub returns-then-not-passed-clause-tidy : goal.returns-then-not-passed-clause-tidy
-returns-then-not-passed-clause-tidy c = search tidy_pending
-
 pub end_overlay-requires : goal.end_overlay-requires
 end_overlay-requires c = search unlinking_head
 

@@ -3,17 +3,11 @@ use Rattle.collection.proofs.WordsSlots.{own_framed}
 use borrow.Author.Rules.{rules}
 use Rattle.collection.proofs.unlink.unlink.Goals as goal
 
-pub is_lost-requires-clause-k_lt_endpoints : goal.is_lost-requires-clause-k_lt_endpoints
-is_lost-requires-clause-k_lt_endpoints c = (search rules, search rules, search rules)
-
 pub is_lost-requires-clause-kind_value : goal.is_lost-requires-clause-kind_value
 is_lost-requires-clause-kind_value c = search own_framed
 
 pub returns-then-is_lost-clause-frames_after : goal.returns-then-is_lost-clause-frames_after
 returns-then-is_lost-clause-frames_after c = search unlinks_none
-
-pub returns-then-is_lost-clause-tidy : goal.returns-then-is_lost-clause-tidy
-returns-then-is_lost-clause-tidy c = search tidy_refused_cancel
 
 pub returns-clause-frames_after : goal.returns-clause-frames_after
 returns-clause-frames_after c = search unlinks_waits

@@ -3,9 +3,6 @@ use Rattle.collection.proofs.WordsCases.{tidy_waited, waited}
 use Rattle.collection.proofs.WordsSlots.{own_fits, slot_room}
 use Rattle.collection.proofs.unlink.waiting.Goals as goal
 
-pub put_endpoint-requires-clause-k_in_bounds : goal.put_endpoint-requires-clause-k_in_bounds
-put_endpoint-requires-clause-k_in_bounds c = search slot_room
-
 pub put_endpoint-requires-clause-slot_fits : goal.put_endpoint-requires-clause-slot_fits
 put_endpoint-requires-clause-slot_fits c = own_fits c.args.core.settings c.args.core.rest c.args.slots.now c.requires.good c.args.k c.args.p c.args.r c.requires.own_request
     (pipe_next_below c.args.p _ c.well_formed.1.1.1.1.0) _ _ _ c.boundary_now-until.ensures c.requires.k_lt_endpoints.1

@@ -4,11 +4,5 @@ use Rattle.controller.proofs.calls.allocate_address.Goals as goal
 pub returns-then-address-gt127-clause-by_index : goal.returns-then-address-gt127-clause-by_index
 returns-then-address-gt127-clause-by_index c = search address_none
 
-pub returns-then-address-gt127-clause-free_value : goal.returns-then-address-gt127-clause-free_value
-returns-then-address-gt127-clause-free_value c = search address_none
-
 pub returns-clause-by_index : goal.returns-clause-by_index
 returns-clause-by_index c = search address_next
-
-pub returns-clause-free_value : goal.returns-clause-free_value
-returns-clause-free_value c = search address_next

@@ -6,11 +6,6 @@ use Rattle.pool.specs.Plain as Deeds
 use Rattle.pool.proofs.WordTurns.{counted, fewer, filled_end, filled_on, here_in, more_on, more_stops, none_yet, rest_in, set_few, turn_good}
 use Rattle.pool.proofs.laying.lay_kind.Goals as goal
 
-pub loop-l-init : goal.loop-l-init
-loop-l-init g c =
-    let e = c.first_place-at.ensures in
-    rw e (record { long = refl; counted = none_yet _; within = c.requires.laying.within; whole = refl })
-
 pub next_record-r-requires-clause-turn : goal.next_record-r-requires-clause-turn
 next_record-r-requires-clause-turn g c =
     let some = more_on _ _ c.more.ensures c.loop-l-test.true in
@@ -30,11 +25,6 @@ overflow_add-k g c =
     let some = more_on _ _ c.more.ensures c.loop-l-test.true in
     let count = counted c.loop-l.at c.advance-at.result c.place_at-place.result some c.place_at-place.ensures.0 c.advance-at.ensures.1 c.loop-l.k _ c.loop-l.invariant.counted in
     omega (arith, count, set_few c.args.l.places)
-
-pub loop-l-smaller : goal.loop-l-smaller
-loop-l-smaller g c =
-    let some = more_on _ _ c.more.ensures c.loop-l-test.true in
-    fewer c.loop-l.at c.advance-at.result c.place_at-place.result some c.place_at-place.ensures.0 c.advance-at.ensures.1
 
 pub loop-l-preserved : goal.loop-l-preserved
 loop-l-preserved g c =

@@ -5,8 +5,5 @@ use Rattle.request.proofs.settle.put_request.Goals as goal
 pub put_endpoint-requires-clause-slot_fits : goal.put_endpoint-requires-clause-slot_fits
 put_endpoint-requires-clause-slot_fits c = search (request_fits_lem, rules)
 
-pub returns-clause-slots_after : goal.returns-clause-slots_after
-returns-clause-slots_after c = search request_put
-
 pub returns-clause-slot_fits : goal.returns-clause-slot_fits
 returns-clause-slot_fits c = search (own_request_fits, rules)

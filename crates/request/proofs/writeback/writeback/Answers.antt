@@ -5,17 +5,8 @@ use Rattle.request.proofs.writeback.writeback.Goals as goal
 pub returns-then-not-in_request-clause-by_index : goal.returns-then-not-in_request-clause-by_index
 returns-then-not-in_request-clause-by_index c = search back_refused
 
-pub returns-then-not-in_request-clause-rest_value : goal.returns-then-not-in_request-clause-rest_value
-returns-then-not-in_request-clause-rest_value c = refl
-
-pub returns-then-not-in_request-clause-marking_good : goal.returns-then-not-in_request-clause-marking_good
-returns-then-not-in_request-clause-marking_good c = search no_mark_good
-
 pub returns-clause-by_index : goal.returns-clause-by_index
 returns-clause-by_index c = search back_written
-
-pub returns-clause-rest_value : goal.returns-clause-rest_value
-returns-clause-rest_value c = refl
 
 pub returns-clause-marking_good : goal.returns-clause-marking_good
 returns-clause-marking_good c = search mark_good_lem

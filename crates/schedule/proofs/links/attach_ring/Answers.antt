@@ -4,9 +4,6 @@ use lib.ListN.{length-set}
 use mathlib.Core.Path.{refl}
 use Rattle.schedule.proofs.links.attach_ring.Goals as goal
 
-pub bounds-heads-0-2 : goal.bounds-heads-0-2
-bounds-heads-0-2 c = simp length-set (omega arith)
-
 pub returns : goal.returns
 unfolding attached_ring
 returns c = refl

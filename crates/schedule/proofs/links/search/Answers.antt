@@ -2,12 +2,6 @@ use native.Mathlib.Omega.{arith}
 use Rattle.schedule.proofs.WordsCases.{good_most, search_ends, search_finds, search_goes_on, search_starts, word_inside}
 use Rattle.schedule.proofs.links.search.Goals as goal
 
-pub loop-j-init : goal.loop-j-init
-loop-j-init c = search_starts _ _ _ _ _ _
-
-pub bounds-slots-other : goal.bounds-slots-other
-bounds-slots-other c = search word_inside
-
 pub returns-then-precedes : goal.returns-then-precedes
 returns-then-precedes c =
     let l = c.loop-j in

@@ -4,9 +4,6 @@ use lib.ListN.{length-set}
 use mathlib.Core.Path.{refl}
 use Rattle.schedule.proofs.links.start_overlay.Goals as goal
 
-pub bounds-heads-at-2 : goal.bounds-heads-at-2
-bounds-heads-at-2 c = simp length-set (omega arith)
-
 pub returns : goal.returns
 unfolding started_overlay
 returns c = refl

@@ -7,8 +7,5 @@ use Rattle.token.proofs.chunks.chunk_count.Goals as goal
 pub returns-then-length-eq0 : goal.returns-then-length-eq0
 returns-then-length-eq0 c = search count_empty_case
 
-pub overflow_add-result : goal.overflow_add-result
-overflow_add-result c = omega (arith, div-le_self (c.args.length - 1) c.args.limit)
-
 pub returns : goal.returns
 returns c = search count_data_case

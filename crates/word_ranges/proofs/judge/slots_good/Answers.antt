@@ -2,9 +2,6 @@ use native.Mathlib.Omega.{arith}
 use Rattle.word_ranges.proofs.JudgeCases.{seen_done, seen_start, seen_turn}
 use Rattle.word_ranges.proofs.judge.slots_good.Goals as goal
 
-pub loop-k-init : goal.loop-k-init
-loop-k-init c = seen_start _ _ _ _ _
-
 pub loop-k-preserved : goal.loop-k-preserved
 loop-k-preserved c = let l = c.loop-k in
     seen_turn _ _ _ _ _ _ l.k l.s _ _ c.places_at.ensures _ (omega arith) c.bounds_for-bounds.ensures

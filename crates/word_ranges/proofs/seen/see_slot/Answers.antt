@@ -2,9 +2,6 @@ use borrow.Author.Rules.{rules}
 use Rattle.word_ranges.proofs.SeenCases.{largest_fits, slot_busy, slot_empty}
 use Rattle.word_ranges.proofs.seen.see_slot.Goals as goal
 
-pub overflow_mul-largest : goal.overflow_mul-largest
-overflow_mul-largest c = record { fits = largest_fits _ (search rules) }
-
 pub returns-then-phase-lt2 : goal.returns-then-phase-lt2
 returns-then-phase-lt2 c = search slot_empty
 

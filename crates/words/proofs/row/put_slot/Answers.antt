@@ -3,9 +3,6 @@ use lib.ListN.{length-set}
 use Rattle.words.specs.Record.{put_slot}
 use Rattle.words.proofs.row.put_slot.Goals as goal
 
-pub bounds-slots-at-2 : goal.bounds-slots-at-2
-bounds-slots-at-2 c = simp length-set (omega arith)
-
 pub returns : goal.returns
 unfolding put_slot
 returns c = rw (c.last_of.ensures, c.word_of.ensures)
