@@ -14,7 +14,7 @@ use store::owners::owners;
 fn outcome_of(ran: Ran) -> Outcome
     ensures { result ≡ outcome_of (ran_view ran) }
 {
-    let owner = owners(ran.store);
+    let owner = owners(ran.store.core, &ran.store.rows.slots);
     let pool = ran.store.rows.pool;
     Outcome {
         opened: ran.opened,

@@ -6,7 +6,6 @@ ghost use Rattle.replayer.specs.Replays.{
   fresh_keeper,
   open_effect,
   power_effect,
-  rows_of,
   scan_effect,
 };
 ghost use Rattle.replayer.specs.Words.{effect_of, keeper_view};
@@ -15,7 +14,6 @@ ghost use Rattle.store.specs.Stores.{call_store, open_store};
 ghost use Rattle.store.specs.Words.{store_view};
 
 pub use crate::kept::Keeper;
-use call_log::block::Rows;
 use call_log::call_line::{call_line, scan_line};
 use call_log::line::Line;
 use call_log::record::Entry;
@@ -44,18 +42,6 @@ pub fn fresh_keeper() -> Keeper
         store: blank_store(),
         hub: EhciRootHub::new(0),
         opened: false,
-    }
-}
-
-pub fn rows_of(k: &Keeper) -> Rows
-    ensures { result ≡ rows_of (keeper_view k.now) }
-{
-    Rows {
-        pool: k.store.rows.pool,
-        heads: k.store.rows.heads,
-        frames: k.store.rows.frames,
-        setups: k.store.rows.setups,
-        ports: k.hub.states,
     }
 }
 

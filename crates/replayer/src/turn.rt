@@ -3,14 +3,15 @@ ghost use Rattle.std.specs.Prelude.{◌≡◌, ◌≤◌, length};
 ghost use Rattle.common.specs.Rows.{put_at};
 ghost use Rattle.replayer.specs.Replays.{
   bad_line,
+  rows_of,
   said_of,
   shown_of,
   turned_of,
 };
 ghost use Rattle.replayer.specs.Words.{effect_of, keeper_view, turned_view};
 
-use crate::keeper::{Acted, Keeper, act, rows_of};
-use call_log::block::put_block;
+use crate::keeper::{Acted, Keeper, act};
+use call_log::block::{Rows, put_block};
 use call_log::record::read_record;
 use common::rows::put_at;
 use text::digits::{put, put_decimal};
@@ -31,6 +32,18 @@ fn put_bad(out: &mut [u8], n: u64) -> usize
     put_at(out, 0, b"bad record ");
     let next = put_decimal(out, 11, n);
     put(out, next, b'\n')
+}
+
+fn rows_of(k: &Keeper) -> Rows
+    ensures { result ≡ rows_of (keeper_view k.now) }
+{
+    Rows {
+        pool: k.store.rows.pool,
+        heads: k.store.rows.heads,
+        frames: k.store.rows.frames,
+        setups: k.store.rows.setups,
+        ports: k.hub.states,
+    }
 }
 
 fn put_shown(out: &mut [u8], k: &Keeper, acted: Acted) -> usize

@@ -1,10 +1,11 @@
 // Whose each place of the pool is, by the words of the slots.
 ghost use Rattle.std.specs.Prelude.{◌≡◌, ◌==◌};
-ghost use Rattle.words.specs.View.{each_from, holds_bit, owner_from};
-ghost use Rattle.store.specs.Words.{store_view};
+ghost use Rattle.words.specs.View.{each_from, holds_bit, owner_from, view};
+ghost use Rattle.store.specs.Tended.{lent_of};
 
-use crate::store::{Store, slots_lent};
+use crate::store::slots_lent;
 use controller::readers::word_in;
+use words::cores::Core;
 use words::row::RECORD;
 
 fn holds(slots: &[u64], k: u8, place: u8) -> bool
@@ -38,10 +39,9 @@ fn owner_row(slots: &[u64]) -> [u8; 256]
     row
 }
 
-// The owner of each place.
-pub fn owners(store: Store) -> [u8; 256]
-    ensures { result ≡ (store_view store).state.owner }
+// The owner of each place, by the words that are lent.
+pub fn owners(core: Core, slots: &[u64; 192]) -> [u8; 256]
+    ensures { result ≡ (view core (lent_of core slots.now)).owner }
 {
-    let k = slots_lent(store.core.settings);
-    owner_row(&store.rows.slots[..k])
+    owner_row(&slots[..slots_lent(core.settings)])
 }

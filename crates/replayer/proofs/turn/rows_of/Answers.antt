@@ -1,6 +1,6 @@
 use mathlib.Core.Path.{refl}
 use Rattle.replayer.specs.Replays.{rows_of}
-use Rattle.replayer.proofs.keeper.rows_of.Goals as goal
+use Rattle.replayer.proofs.turn.rows_of.Goals as goal
 
 pub returns : goal.returns
 unfolding rows_of
