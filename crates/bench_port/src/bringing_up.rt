@@ -15,11 +15,7 @@ use words::cores::Core;
 fn pack_brought(x: BroughtUp) -> Replied
     ensures { result ≡ pack_of x.rest (brought_answer x.answer x.read x.wait) x.writes }
 {
-    let answer = x.answer;
-    let rest = x.rest;
-    let writes = x.writes;
-    let read = x.read;
-    pack(rest, brought_answer(answer, read, x.wait), writes)
+    pack(x.rest, brought_answer(x.answer, x.read, x.wait), x.writes)
 }
 
 #[unsafe(no_mangle)]

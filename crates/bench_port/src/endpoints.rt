@@ -23,25 +23,19 @@ use words::cores::Core;
 fn pack_allotted(x: Left<u8>) -> Replied
     ensures { result ≡ pack_of x.rest (allotted_answer x.answer) no_writes }
 {
-    let answer = x.answer;
-    let rest = x.rest;
-    pack(rest, allotted_answer(answer), Writes::none())
+    pack(x.rest, allotted_answer(x.answer), Writes::none())
 }
 
 fn pack_opened(x: Left<u8>) -> Replied
     ensures { result ≡ pack_of x.rest (opened_answer x.answer) no_writes }
 {
-    let answer = x.answer;
-    let rest = x.rest;
-    pack(rest, opened_answer(answer), Writes::none())
+    pack(x.rest, opened_answer(x.answer), Writes::none())
 }
 
 fn pack_change(x: Left<()>) -> Replied
     ensures { result ≡ pack_of x.rest (simply x.answer) no_writes }
 {
-    let answer = x.answer;
-    let rest = x.rest;
-    pack(rest, simple(answer), Writes::none())
+    pack(x.rest, simple(x.answer), Writes::none())
 }
 
 #[unsafe(no_mangle)]

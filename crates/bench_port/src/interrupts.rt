@@ -17,28 +17,19 @@ use words::cores::Core;
 fn pack_acknowledged(x: Settled<bool>) -> Replied
     ensures { result ≡ pack_of x.rest (acknowledged_answer x.answer) x.writes }
 {
-    let answer = x.answer;
-    let rest = x.rest;
-    let writes = x.writes;
-    pack(rest, acknowledged_answer(answer), writes)
+    pack(x.rest, acknowledged_answer(x.answer), x.writes)
 }
 
 fn pack_drained(x: Settled<Event>) -> Replied
     ensures { result ≡ pack_of x.rest (drained_answer x.answer) x.writes }
 {
-    let answer = x.answer;
-    let rest = x.rest;
-    let writes = x.writes;
-    pack(rest, drained_answer(answer), writes)
+    pack(x.rest, drained_answer(x.answer), x.writes)
 }
 
 fn pack_settled(x: Settled<()>) -> Replied
     ensures { result ≡ pack_of x.rest (simply x.answer) x.writes }
 {
-    let answer = x.answer;
-    let rest = x.rest;
-    let writes = x.writes;
-    pack(rest, simple(answer), writes)
+    pack(x.rest, simple(x.answer), x.writes)
 }
 
 // A flag is any number but 0.

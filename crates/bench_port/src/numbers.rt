@@ -129,8 +129,5 @@ pub fn pack(rest: Rest, answer: Result<Answered, Refusal>, writes: Writes) -> Re
 pub fn pack_reply(reply: Reply) -> Replied
     ensures { result ≡ pack_of reply.rest reply.answer reply.writes }
 {
-    let rest = reply.rest;
-    let answer = reply.answer;
-    let writes = reply.writes;
-    pack(rest, answer, writes)
+    pack(reply.rest, reply.answer, reply.writes)
 }

@@ -21,13 +21,10 @@ pub struct PortOpened {
 fn pack_opening(opening: Opening) -> PortOpened
     ensures { result ≡ pack_opening opening }
 {
-    let core = opening.core;
-    let hub = opening.hub;
-    let answer = opening.answer;
     PortOpened {
-        core,
-        hub,
-        number: number_of(answer),
+        core: opening.core,
+        hub: opening.hub,
+        number: number_of(opening.answer),
     }
 }
 

@@ -17,10 +17,7 @@ use words::cores::Core;
 fn pack_cancelled(x: Settled<()>) -> Replied
     ensures { result ≡ pack_of x.rest (simply x.answer) x.writes }
 {
-    let answer = x.answer;
-    let rest = x.rest;
-    let writes = x.writes;
-    pack(rest, simple(answer), writes)
+    pack(x.rest, simple(x.answer), x.writes)
 }
 
 #[unsafe(no_mangle)]

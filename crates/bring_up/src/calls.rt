@@ -89,7 +89,6 @@ pub fn step(core: Core, reading: u32) -> BroughtUp
     if is_ready(stage, reading) {
         let writes = stage_writes(stage, reading, core.settings.frames, core.settings.heads);
         let moved = moved_on(stage);
-        let read = moved.read;
         rest.running = moved.running;
         rest.step = moved.step;
         rest.waited = 0;
@@ -97,7 +96,7 @@ pub fn step(core: Core, reading: u32) -> BroughtUp
             answer: Ok(()),
             rest,
             writes,
-            read,
+            read: moved.read,
             wait: moved.wait,
         };
     }

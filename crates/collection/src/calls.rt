@@ -92,8 +92,7 @@ pub fn collect(
             if own != id {
                 return refuse_collect(core.rest, Refusal::InvalidEndpoint);
             }
-            let stage = seen.stage;
-            collect_linked(core, slots, heads, frames, readings, stage, slot, p, r)
+            collect_linked(core, slots, heads, frames, readings, seen.stage, slot, p, r)
         }
         Endpoint::Unlinking(p, r, b) => {
             let own = r.id;

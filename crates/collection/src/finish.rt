@@ -80,12 +80,10 @@ pub fn collect_linked(
     }
     let left = waiting(core, slots, readings, k, p, r);
     let answer = left.answer;
-    let rest = left.rest;
-    let writes = left.writes;
     Settled {
         answer: pending_of(answer),
-        rest,
-        writes,
+        rest: left.rest,
+        writes: left.writes,
     }
 }
 

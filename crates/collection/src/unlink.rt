@@ -105,12 +105,11 @@ pub fn waiting(
         unanswered: rest.unanswered,
     };
     let until = boundary_now(bell, p.kind, readings);
-    let boundary = until.boundary;
     rest.noted = until.rung.bell.noted;
     rest.doorbell = until.rung.bell.doorbell;
     rest.unanswered = until.rung.bell.unanswered;
     let writes = until.rung.writes;
-    put_endpoint(slots, k, Endpoint::Unlinking(p, r, boundary));
+    put_endpoint(slots, k, Endpoint::Unlinking(p, r, until.boundary));
     Settled {
         answer: Ok(()),
         rest,
@@ -178,11 +177,10 @@ pub fn mark(
     ensures slots_after { cancelled_view core.settings result slots.new ≡ marked_of (view core slots.old) k p r b }
     ensures tidy { Tidy core.settings result.rest slots.new }
 {
-    let rest = core.rest;
     put_endpoint(slots, k, Endpoint::Unlinking(p, marked(r), b));
     Settled {
         answer: Ok(()),
-        rest,
+        rest: core.rest,
         writes: Writes::none(),
     }
 }

@@ -36,9 +36,7 @@ fn on_allocate(core: Core) -> Decided
     ensures keeps { Keeps core result }
 {
     let a = allocate_address(core);
-    let answer = a.answer;
-    let rest = a.rest;
-    leave(rest, allotted_answer(answer), Writes::none())
+    leave(a.rest, allotted_answer(a.answer), Writes::none())
 }
 
 fn on_open(core: Core, slots: &mut [u64], heads: &mut [u32], fields: EndpointFields) -> Decided
@@ -81,16 +79,13 @@ fn on_submit(
 {
     let x = submit(core, slots, heads, frames, setups, readings, slot, request);
     let answer = x.answer;
-    let rest = x.rest;
-    let writes = x.writes;
-    let laying = x.laying;
     Decided {
         reply: Reply {
-            rest,
+            rest: x.rest,
             answer: submitted_answer(answer),
-            writes,
+            writes: x.writes,
         },
-        writing: laid(laying),
+        writing: laid(x.laying),
     }
 }
 
@@ -102,15 +97,13 @@ fn on_writeback(core: Core, place: u64, token: u32) -> Decided
 {
     let x = writeback(core, place, token);
     let answer = x.answer;
-    let rest = x.rest;
-    let marking = x.marking;
     Decided {
         reply: Reply {
-            rest,
+            rest: x.rest,
             answer: simple(answer),
             writes: Writes::none(),
         },
-        writing: marked(marking),
+        writing: marked(x.marking),
     }
 }
 
@@ -131,10 +124,7 @@ fn on_cancel(
     ensures tidies { Tidies core result slots.new }
 {
     let x = cancel(core, slots, heads, frames, readings, slot, id);
-    let answer = x.answer;
-    let rest = x.rest;
-    let writes = x.writes;
-    leave(rest, simple(answer), writes)
+    leave(x.rest, simple(x.answer), x.writes)
 }
 
 fn on_collect(
@@ -155,10 +145,7 @@ fn on_collect(
     ensures tidies { Tidies core result slots.new }
 {
     let x = collect(core, slots, heads, frames, readings, seen, slot, id);
-    let answer = x.answer;
-    let rest = x.rest;
-    let writes = x.writes;
-    leave(rest, collected_answer(answer), writes)
+    leave(x.rest, collected_answer(x.answer), x.writes)
 }
 
 fn on_acknowledge(core: Core, readings: InterruptReadings) -> Decided
@@ -172,10 +159,7 @@ fn on_acknowledge(core: Core, readings: InterruptReadings) -> Decided
         readings.flag,
         readings.again,
     );
-    let answer = x.answer;
-    let rest = x.rest;
-    let writes = x.writes;
-    leave(rest, acknowledged_answer(answer), writes)
+    leave(x.rest, acknowledged_answer(x.answer), x.writes)
 }
 
 fn on_drain(core: Core, slots: &mut [u64], command: u32) -> Decided
@@ -184,10 +168,7 @@ fn on_drain(core: Core, slots: &mut [u64], command: u32) -> Decided
     ensures tidies { Tidies core result slots.new }
 {
     let x = drain(core, slots, command);
-    let answer = x.answer;
-    let rest = x.rest;
-    let writes = x.writes;
-    leave(rest, drained_answer(answer), writes)
+    leave(x.rest, drained_answer(x.answer), x.writes)
 }
 
 // `good` is what `look` found, `seen` what the records of its ask say.

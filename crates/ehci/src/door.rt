@@ -5,36 +5,12 @@ ghost use Rattle.ehci.specs.WordsDoor.{WordsAfter, accepts_words, apply_words, r
 
 use crate::call::Call;
 use crate::decide::decide;
-use crate::look::{Looked, look};
-use crate::reply::{Decided, Reply};
+use crate::look::look;
+use crate::reply::Reply;
 use descriptor::qtd::QueueTransferDescriptor;
-use pool::asked::{AskWords, fold_places};
-use pool::writing::{Writing, write};
+use pool::asked::fold_places;
+use pool::writing::write;
 use words::cores::Core;
-
-fn ask_of(looked: Looked) -> AskWords
-    ensures { result ≡ looked.ask }
-{
-    looked.ask
-}
-
-fn good_of(looked: Looked) -> bool
-    ensures { result ≡ looked.good }
-{
-    looked.good
-}
-
-fn writing_of(decided: Decided) -> Writing
-    ensures { result ≡ decided.writing }
-{
-    decided.writing
-}
-
-fn reply_of(decided: Decided) -> Reply
-    ensures { result ≡ decided.reply }
-{
-    decided.reply
-}
 
 pub fn apply(
     core: Core,
@@ -59,7 +35,7 @@ pub fn apply(
         setups.len(),
         call,
     );
-    let seen = fold_places(rows, ask_of(looked));
+    let seen = fold_places(rows, looked.ask);
     let decided = decide(
         core,
         rows.len(),
@@ -67,10 +43,10 @@ pub fn apply(
         heads,
         frames,
         setups,
-        good_of(looked),
+        looked.good,
         seen,
         call,
     );
-    write(rows, writing_of(decided));
-    reply_of(decided)
+    write(rows, decided.writing);
+    decided.reply
 }

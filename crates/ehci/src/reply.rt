@@ -184,18 +184,11 @@ pub fn of_change(rest: Rest, answer: Result<(), Refusal>) -> Decided
 pub fn of_settled(x: Settled<()>) -> Decided
     ensures { result ≡ settled_words x }
 {
-    let answer = x.answer;
-    let rest = x.rest;
-    let writes = x.writes;
-    leave(rest, simple(answer), writes)
+    leave(x.rest, simple(x.answer), x.writes)
 }
 
 pub fn of_brought_up(b: BroughtUp) -> Decided
     ensures { result ≡ brought_words b }
 {
-    let answer = b.answer;
-    let rest = b.rest;
-    let writes = b.writes;
-    let read = b.read;
-    leave(rest, brought_answer(answer, read, b.wait), writes)
+    leave(b.rest, brought_answer(b.answer, b.read, b.wait), b.writes)
 }

@@ -1,9 +1,9 @@
 -- The loop and the returns of what the calls on endpoints over words ask.
-use Rattle.std.specs.Prelude.{◌≡◌, ℕ, ◌+◌, ◌-◌, ◌*◌, ◌<◌, ◌≤◌, Bool, true, false, not, List, length, Err, Ok}
-use mathlib.Core.Path.{sym, ◌∙◌}
+use Rattle.std.specs.Prelude.{◌≡◌, ℕ, ◌+◌, ◌-◌, ◌*◌, ◌<◌, ◌≤◌, Bool, true, false, cond, not, leb, List, length, Option, Some, None, Err, Ok, ok_or}
+use mathlib.Core.Path.{ap, refl, sym, ◌∙◌}
 use native.Mathlib.Nat.{sub-zero}
 use native.Mathlib.Omega.{arith}
-use borrow.Author.Tests.{le-leb, lt-leb, not-false, not-true}
+use borrow.Author.Tests.{le-leb, lt-leb, leb-false, leb-true, not-false, not-true}
 use Rattle.common.specs.declared.kinds.EndpointType.{EndpointType}
 use Rattle.common.specs.declared.answer.Refusal.TheVariants.{InvalidParameter, SlotLimitReached, InvalidEndpoint, QueueFull, NotSupported}
 use Rattle.common.specs.Kinds.{is_isochronous}
@@ -20,7 +20,7 @@ use Rattle.controller.specs.Words.{held_at, open_at}
 use Rattle.controller.proofs.WordsCases.{held_viewed, open_viewed}
 use Rattle.endpoint.specs.Calls.{lowest_slot}
 use Rattle.endpoint.specs.Lowest.{closed_from}
-use Rattle.endpoint.specs.Words.{chosen_words, verdict_words}
+use Rattle.endpoint.specs.Words.{chosen_words, lowest_of, verdict_words}
 use Rattle.endpoint.proofs.LowestCases.{found, not_here, nowhere}
 
 -- ---- `lowest_closed`: what is found from slot k on is what is found
@@ -79,16 +79,27 @@ module _ (s : Ehci) (kind : EndpointType) (good : Bool) (i : Bool) (ei : i ≡ i
     unfolding chosen_words
     one_below t t₁ h = rw (sym ei ∙ t, t₁, sym ek, lt-leb s.settings.endpoints k h)
 
-module _ (s : Settings) (r : Rest) (ws : List ℕ) (kind : EndpointType) (good : Bool) (i : Bool) (k : ℕ) where
-  pub words_none : i ≡ is_isochronous kind → k ≡ lowest_slot (state_of s r ws) → i ≡ false → not good ≡ false → s.endpoints ≤ k
-      → Err SlotLimitReached ≡ chosen_words (state_of s r ws) kind good
-  unfolding state_of
-  words_none ei ek t t₁ h = none_below (state_of s r ws) kind good i ei k ek t t₁ h
+  -- the slot that was found, or the refusal where none was
+  pub chosen_found : (o : Option ℕ) → o ≡ lowest_of s → i ≡ false → not good ≡ false → ok_or o SlotLimitReached ≡ chosen_words s kind good
+  chosen_found o eo t t₁ =
+      ap (λ (z : Option ℕ). ok_or z SlotLimitReached) eo ∙ by (leb s.settings.endpoints (lowest_slot s)) refl
+    where
+      by : (b : Bool) → leb s.settings.endpoints (lowest_slot s) ≡ b
+          → ok_or (cond b None (Some (lowest_slot s))) SlotLimitReached ≡ chosen_words s kind good
+      by true h = none_below (lowest_slot s) refl t t₁ (leb-true s.settings.endpoints (lowest_slot s) h)
+      by false h = one_below (lowest_slot s) refl t t₁ (leb-false s.settings.endpoints (lowest_slot s) h)
 
-  pub words_slot : i ≡ is_isochronous kind → k ≡ lowest_slot (state_of s r ws) → i ≡ false → not good ≡ false → k < s.endpoints
-      → Ok k ≡ chosen_words (state_of s r ws) kind good
-  unfolding state_of
-  words_slot ei ek t t₁ h = one_below (state_of s r ws) kind good i ei k ek t t₁ h
+module _ (s : Ehci) (k : ℕ) (ek : k ≡ lowest_slot s) where
+  pub lowest_found : k < s.settings.endpoints → Some k ≡ lowest_of s
+  lowest_found h = rw (sym ek, lt-leb s.settings.endpoints k h)
+
+  pub lowest_none : s.settings.endpoints ≤ k → None ≡ lowest_of s
+  lowest_none h = rw (sym ek, le-leb s.settings.endpoints k h)
+
+module _ (s : Settings) (r : Rest) (ws : List ℕ) (kind : EndpointType) (good : Bool) (i : Bool) where
+  pub words_chosen : (o : Option ℕ) → i ≡ is_isochronous kind → o ≡ lowest_of (state_of s r ws) → i ≡ false → not good ≡ false
+      → ok_or o SlotLimitReached ≡ chosen_words (state_of s r ws) kind good
+  words_chosen o ei eo t t₁ = chosen_found (state_of s r ws) kind good i ei o eo t t₁
 
 -- ---- `check_slot`
 

@@ -1,5 +1,5 @@
 -- What the calls over words leave, as the state that the words stand for; and their checks after the first, which the door asks.
-use Rattle.std.specs.Prelude.{ℕ, Bool, not, List, [], ◌∷◌, nat_le, Err, Ok, Result, ⊤}
+use Rattle.std.specs.Prelude.{ℕ, Bool, not, List, [], ◌∷◌, nat_le, Err, Ok, Result, ⊤, cond, None, Some, Option}
 use Rattle.common.specs.Answers.{first, settle}
 use Rattle.common.specs.Kinds.{is_isochronous}
 use Rattle.common.specs.declared.answer.Refusal.TheVariants.{InvalidParameter, SlotLimitReached, InvalidEndpoint, QueueFull, NotSupported}
@@ -19,6 +19,10 @@ opened_view s r ws = record { answer = r.answer; state = state_of s r.rest ws }
 
 abbrev pub changed_view : Settings → LeftWords ⊤ → List ℕ → Change
 changed_view s r ws = record { answer = r.answer; state = state_of s r.rest ws }
+
+-- the lowest closed slot, if one is below the number of slots
+abbrev pub lowest_of : Ehci → Option ℕ
+lowest_of s = cond (nat_le s.settings.endpoints (lowest_slot s)) None (Some (lowest_slot s))
 
 unfoldable pub chosen_words : Ehci → EndpointType → Bool → Result ℕ Refusal
 chosen_words s kind good =

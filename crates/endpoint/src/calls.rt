@@ -47,11 +47,7 @@ fn choose(core: Core, slots: &[u64], kind: EndpointType, good: bool) -> Result<u
     if !good {
         return Err(Refusal::InvalidParameter);
     }
-    let slot = lowest_closed(core, slots);
-    if core.settings.endpoints <= slot {
-        return Err(Refusal::SlotLimitReached);
-    }
-    Ok(slot)
+    lowest_closed(core, slots).ok_or(Refusal::SlotLimitReached)
 }
 
 pub fn open_endpoint(

@@ -67,10 +67,9 @@ pub fn drain(core: Core, slots: &mut [u64], command: u32) -> Settled<Event>
 {
     let pending = core.rest.pending;
     if pending == 0 {
-        let rest = core.rest;
         return Settled {
             answer: Ok(Event::Nothing),
-            rest,
+            rest: core.rest,
             writes: Writes::none(),
         };
     }
@@ -79,11 +78,10 @@ pub fn drain(core: Core, slots: &mut [u64], command: u32) -> Settled<Event>
     let mut rest = counted.rest;
     rest.pending = cleared.left;
     let answer = Ok(cleared.event);
-    let writes = counted.writes;
     Settled {
         answer,
         rest,
-        writes,
+        writes: counted.writes,
     }
 }
 

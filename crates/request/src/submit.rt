@@ -48,9 +48,8 @@ pub fn submit(
     ensures tidy { Tidy core.settings result.rest slots.new }
     ensures laying_good { LayingGood (pool_length core.settings) result.laying }
 {
-    let kind = request.kind;
     let limit = limit_of(core.settings.limit, pipe_at(slots, slot));
-    let wanted = need(kind, request.length, limit);
+    let wanted = need(request.kind, request.length, limit);
     match judge(core, slots, slot, request, wanted) {
         Err(refusal) => refuse(core.rest, refusal),
         Ok(()) => settle(

@@ -71,10 +71,7 @@ pub fn step(mut hub: EhciRootHub, reading: u32) -> Scanned
     let port = hub.port;
     let at = index_of(port);
     let turned = turn(awaited_of(now), hub.states[at], port, reading);
-    let change = turned.change;
-    let event = turned.event;
     let place = place_after(port, hub.ports, turned.step);
-    let read = place.read;
     hub.states[at] = turned.state;
     hub.port = place.port;
     hub.step = place.step;
@@ -82,9 +79,9 @@ pub fn step(mut hub: EhciRootHub, reading: u32) -> Scanned
         hub,
         reply: ScanReply {
             answer: Ok(()),
-            event,
-            writes: port_writes(port, change),
-            read,
+            event: turned.event,
+            writes: port_writes(port, turned.change),
+            read: place.read,
             wait: turned.wait,
         },
     }
@@ -112,8 +109,7 @@ pub fn port_power(hub: EhciRootHub, port: u8, reading: u32) -> PortPower
     if !hub_good(hub) {
         return no_power();
     }
-    let ports = hub.ports;
-    if !((1 <= port) & (port <= ports)) {
+    if !((1 <= port) & (port <= hub.ports)) {
         return no_power();
     }
     let value = with_bits(reading, EhciPortStatus::POWER);

@@ -1,4 +1,6 @@
-use Rattle.endpoint.proofs.WordsCases.{words_fields, words_kind, words_none, words_slot}
+use mathlib.Core.Bool.{not}
+use mathlib.Core.Path.{ap, ◌∙◌}
+use Rattle.endpoint.proofs.WordsCases.{words_chosen, words_fields, words_kind}
 use Rattle.endpoint.proofs.calls.choose.Goals as goal
 
 pub returns-then-is_isochronous : goal.returns-then-is_isochronous
@@ -7,8 +9,8 @@ returns-then-is_isochronous c = search words_kind
 pub returns-then-not-good : goal.returns-then-not-good
 returns-then-not-good c = search words_fields
 
-pub returns-then-core-slot : goal.returns-then-core-slot
-returns-then-core-slot c = search words_none
-
 pub returns : goal.returns
-returns c = search words_slot
+returns c =
+    c.ok_or.ensures.value
+    ∙ words_chosen c.args.core.settings c.args.core.rest c.args.slots.now c.args.kind c.args.good _ _ c.is_isochronous.ensures c.lowest_closed.ensures
+    c.if-is_isochronous.false (ap not c.if-not-good.false)
