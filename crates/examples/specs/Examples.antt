@@ -10,6 +10,7 @@ use Rattle.descriptor.specs.declared.qtd.QueueTransferDescriptor.{QueueTransferD
 use Rattle.descriptor.specs.Heads.{characteristics_of}
 use Rattle.descriptor.specs.Slots.{page_slots}
 use Rattle.pool.specs.Chains.{blank}
+use Rattle.pool.specs.declared.chain.Standing.TheVariants.{Inactive}
 use Rattle.settings.specs.declared.settings.Settings.{Settings}
 use Rattle.state.specs.Plain.{Ehci}
 use Rattle.pipe.specs.Endpoints.{flag_number}
@@ -160,7 +161,7 @@ drain_row r = answer_row r ++ (bell_row r.state ++ one (flag_number (some_ring (
 abbrev pub unlink_row : ℕ → List ℕ
 unlink_row now =
     distance 16380 now ∷ flag_number (frames_passed 16380 now)
-    ∷ collected_number (collected (one_request 3 3 0 16380 0) now (seen 0 0 20000) 0 1).came.answer ∷ []
+    ∷ collected_number (collected (one_request 3 3 0 16380 0) now (seen Inactive 0 20000) 0 1).came.answer ∷ []
 
 -- ---- the table
 
