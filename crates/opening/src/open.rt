@@ -93,21 +93,10 @@ pub fn slots_fit(s: Settings, words: usize) -> bool
 fn refuse(refusal: Refusal) -> Opening
     ensures { result ≡ refused_words refusal }
 {
-    let nothing = Settings {
-        descriptors: 0,
-        endpoints: 0,
-        ports: 0,
-        limit: 0,
-        wait: 0,
-        pool: 0,
-        heads: 0,
-        frames: 0,
-        setups: 0,
-    };
     Opening {
         answer: Err(refusal),
         core: Core {
-            settings: nothing,
+            settings: Settings::default(),
             rest: fresh_rest(0),
         },
         hub: EhciRootHub::new(0),

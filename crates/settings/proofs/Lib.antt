@@ -1,2 +1,3 @@
 pub mod SettingsCases
 pub mod SettingsLaws
+pub mod Nothing

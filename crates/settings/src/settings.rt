@@ -25,7 +25,7 @@ pub const MEMORY_END: u64 = 0x1_0000_0000;
 pub const FRAMES_SIZE: u64 = 4096;
 
 #[repr(C)]
-#[derive(Clone, Copy)]
+#[derive(Clone, Copy, Default)]
 pub struct Settings {
     pub descriptors: u64,
     pub endpoints: u8,

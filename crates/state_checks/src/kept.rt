@@ -35,18 +35,6 @@ pub struct Said {
     pub writes: Writes,
 }
 
-const NOTHING: Settings = Settings {
-    descriptors: 0,
-    endpoints: 0,
-    ports: 0,
-    limit: 0,
-    wait: 0,
-    pool: 0,
-    heads: 0,
-    frames: 0,
-    setups: 0,
-};
-
 const NO_ROW: Lent = Lent {
     pool: 0,
     slots: 0,
@@ -102,7 +90,7 @@ impl Kept {
     // Rows of sevens, and what a refused opening gives.
     pub fn blank() -> Kept {
         let mut rows = sevens();
-        let opening = opened(NOTHING, &mut rows, NO_ROW);
+        let opening = opened(Settings::default(), &mut rows, NO_ROW);
         Kept {
             core: opening.core,
             hub: opening.hub,

@@ -32,14 +32,20 @@ use Rattle.store.specs.Tended.{WordsOpened, WordsTended, lent_of}
 use Rattle.store.specs.Lends.{LentCall, called_at, call_lent, open_lent, rows_left, whole_rows}
 use Rattle.store.proofs.Known.{Known, free_fits, slots_fit_lem}
 use Rattle.store.proofs.OpenSame.{done_fresh, open_same}
+use Rattle.settings.proofs.Nothing.{Zeros, zeros_are}
 use Rattle.store.proofs.WordsLaws.{call_same, tended_after, tidy_after}
 
 -- ---- before any opening
 
-pub refused_core : (o : Opening) (w h f u : List ℕ)
+refused_core : (o : Opening) (w h f u : List ℕ)
     → decided_words o w h f u ≡ decide_words no_settings 0 (0 ∷ []) (0 ∷ []) (0 ∷ []) (0 ∷ []) → o.core ≡ blank_core
 unfolding decide_words slots_fit refused_words
 refused_core o w h f u e = ap (λ (d : DecidedWords). d.opening.core) e
+
+pub zeros_refused : (s : Settings) → Zeros s → (o : Opening) (w h f u : List ℕ)
+    → decided_words o w h f u ≡ decide_words s 0 (0 ∷ []) (0 ∷ []) (0 ∷ []) (0 ∷ []) → o.core ≡ blank_core
+zeros_refused s z o w h f u e =
+    refused_core o w h f u (e ∙ ap (λ (x : Settings). decide_words x 0 (0 ∷ []) (0 ∷ []) (0 ∷ []) (0 ∷ [])) (zeros_are s z))
 
 abbrev blank_rows : Rows
 blank_rows =

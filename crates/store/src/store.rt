@@ -73,22 +73,18 @@ fn bytes_lent(s: Settings) -> usize
 fn blank_core() -> Core
     ensures { result ≡ blank_core }
 {
-    let nothing = Settings {
-        descriptors: 0,
-        endpoints: 0,
-        ports: 0,
-        limit: 0,
-        wait: 0,
-        pool: 0,
-        heads: 0,
-        frames: 0,
-        setups: 0,
-    };
     let mut slots: [u64; 1] = [0; 1];
     let mut heads: [u32; 1] = [0; 1];
     let mut frames: [u32; 1] = [0; 1];
     let mut setups: [u8; 1] = [0; 1];
-    let refused = decide_open(nothing, 0, &mut slots, &mut heads, &mut frames, &mut setups);
+    let refused = decide_open(
+        Settings::default(),
+        0,
+        &mut slots,
+        &mut heads,
+        &mut frames,
+        &mut setups,
+    );
     refused.core
 }
 
