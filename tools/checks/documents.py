@@ -1,7 +1,7 @@
 """Every name and file that a document cites: does it exist, and is the name in the file it is cited with?"""
 import fnmatch, glob, os, re
 
-from .allowed import FILES, PORT, WORDS
+from .allowed import FILES, PASSES, WORDS
 from .edits import read
 from .names import OF_FUNCTION
 
@@ -22,7 +22,7 @@ BASES = {"docs/READING.md": "crates/promises", "oracle/README.md": "oracle"}
 def documents(top):
     found = glob.glob(os.path.join(top, "docs", "*.md"))
     found += [os.path.join(top, name) for name in ("README.md", "oracle/README.md")]
-    return sorted({os.path.relpath(path, top) for path in found if os.path.exists(path)} - {PORT})
+    return sorted({os.path.relpath(path, top) for path in found if os.path.exists(path)} - PASSES)
 
 
 def lines_of(top, doc):

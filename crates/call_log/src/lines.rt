@@ -1,11 +1,12 @@
 // The lines of a block but the first: rows, ports, the controller, register writes.
-ghost use Rattle.std.specs.Prelude.{◌≡◌};
+ghost use Rattle.std.specs.Prelude.{◌≡◌, [], ◌∷◌};
 ghost use Rattle.call_log.specs.Lines.{
   frame_line,
   head_line,
   line_bytes,
   port_line,
   record_line,
+  said_line,
   setup_line,
   shown_line,
   write_line,
@@ -17,37 +18,54 @@ use controller::readers::free_count;
 use descriptor::qtd::QueueTransferDescriptor;
 use words::cores::Core;
 
+pub fn line_of_two(letter: u8, a: Part, b: Part) -> Line
+    ensures { line_bytes result ≡ said_line letter (a ∷ b ∷ []) }
+{
+    Line::of(letter, &[a, b])
+}
+
+pub fn line_of_three(letter: u8, a: Part, b: Part, c: Part) -> Line
+    ensures { line_bytes result ≡ said_line letter (a ∷ b ∷ c ∷ []) }
+{
+    Line::of(letter, &[a, b, c])
+}
+
 pub fn head_line(place: u64, word: u64, value: u32) -> Line
     ensures { line_bytes result ≡ head_line place word value }
 {
-    Line::of(
+    line_of_three(
         b'H',
-        &[Part::Decimal(place), Part::Decimal(word), Part::Word(value)],
+        Part::Decimal(place),
+        Part::Decimal(word),
+        Part::Word(value),
     )
 }
 
 pub fn frame_line(first: u64, last: u64, value: u32) -> Line
     ensures { line_bytes result ≡ frame_line first last value }
 {
-    Line::of(
+    line_of_three(
         b'F',
-        &[Part::Decimal(first), Part::Decimal(last), Part::Word(value)],
+        Part::Decimal(first),
+        Part::Decimal(last),
+        Part::Word(value),
     )
 }
 
 pub fn port_line(port: u8, state: u8) -> Line
     ensures { line_bytes result ≡ port_line port state }
 {
-    Line::of(
+    line_of_two(
         b'U',
-        &[Part::Decimal(port as u64), Part::Decimal(state as u64)],
+        Part::Decimal(port as u64),
+        Part::Decimal(state as u64),
     )
 }
 
 pub fn write_line(offset: u32, value: u32) -> Line
     ensures { line_bytes result ≡ write_line offset value }
 {
-    Line::of(b'W', &[Part::Byte(offset), Part::Word(value)])
+    line_of_two(b'W', Part::Byte(offset), Part::Word(value))
 }
 
 pub fn record_line(place: u64, r: QueueTransferDescriptor) -> Line

@@ -65,15 +65,15 @@ module _ (o : List ℕ) (at : ℕ) where
   unfolding answered_lines
   submitted_put ran xs k d q r most e h f = rw (← e, get_d_any xs k not_submitted d h) f
 
-  module _ (ran : Outcome) (k id : ℕ) (s : Submitted) (q : List ℕ) (r : ℕ) (ei : id ≡ unwrap_or s.id 0) where
-    pub accepted_put : (most : ℕ) → s.answer ≡ 0 → Within o at (request_line k s.answer id ++ place_lines ran.owner ran.pool s.slot) q r most
-        → Within o at (answered_lines ran k s) q r most
+  module _ (ran : Outcome) (k : ℕ) (s : Submitted) (q : List ℕ) (r : ℕ) where
+    pub accepted_put : (id most : ℕ) → id ≡ unwrap_or s.id 0 → s.answer ≡ 0
+        → Within o at (request_line k 0 id ++ place_lines ran.owner ran.pool s.slot) q r most → Within o at (answered_lines ran k s) q r most
     unfolding answered_lines
-    accepted_put most e f = rw (← ei, e) (rw e at f)
+    accepted_put id most ei e f = rw (e, ← ei) f
 
-    pub refused_put : (s.answer ≡ 0 → ⊥) → Within o at (request_line k s.answer id) q r 65 → Within o at (answered_lines ran k s) q r 1441
+    pub refused_put : (s.answer ≡ 0 → ⊥) → Within o at (request_line k s.answer 0) q r 65 → Within o at (answered_lines ran k s) q r 1441
     unfolding answered_lines
-    refused_put e f = rw (← ei, ne_eqb s.answer 0 e, append-nil) (f.0, (f.1.0, omega (arith, f.1.1)))
+    refused_put e f = rw (ne_eqb s.answer 0 e, append-nil) (f.0, (f.1.0, omega (arith, f.1.1)))
 
   module _ (lines : ℕ → List ℕ) (each : ℕ) where
     pub lined_none : Lined lines each o at o at 0

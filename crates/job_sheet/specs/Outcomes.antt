@@ -1,6 +1,6 @@
 -- Document 01, the job sheet: the listing of a job that was run. All E lines, then for each request its R line followed at
 -- once by its D lines in chain order if accepted.
-use Rattle.std.specs.Prelude.{ℕ, ◌+◌, Option, None, List, ◌++◌, eqb, get_or, length, unwrap_or}
+use Rattle.std.specs.Prelude.{cond, ℕ, ◌+◌, Option, None, List, ◌++◌, eqb, get_or, length, unwrap_or}
 use Rattle.descriptor.specs.declared.qtd.QueueTransferDescriptor.{QueueTransferDescriptor}
 use Rattle.pool.specs.Chains.{blank}
 use Rattle.text.specs.Text.{lines_to, only_if}
@@ -31,7 +31,7 @@ slot_of opened k = (get_or opened k not_opened).slot
 -- a request's R line, "id (0 if refused)", and its D lines if accepted
 unfoldable pub answered_lines : Outcome → ℕ → Submitted → List ℕ
 answered_lines o k s =
-    request_line k s.answer (unwrap_or s.id 0) ++ only_if (eqb s.answer 0) (place_lines o.owner o.pool s.slot)
+    request_line k s.answer (cond (eqb s.answer 0) (unwrap_or s.id 0) 0) ++ only_if (eqb s.answer 0) (place_lines o.owner o.pool s.slot)
 
 abbrev pub lines_of : Outcome → ℕ → List ℕ
 lines_of o k = answered_lines o k (get_or o.submitted.items k not_submitted)

@@ -84,11 +84,11 @@ fn put_answered(out: &mut [u8], at: usize, k: u64, s: Submitted, outcome: &Outco
     ensures value { result ≡ at + length (answered_lines outcome.now k s) }
     ensures upper_bound { result ≤ at + (65 + 16 * 86) }
 {
-    let next = put_request(out, at, k, s.answer as u64, s.id.unwrap_or(0));
     if s.answer == 0 {
+        let next = put_request(out, at, k, 0, s.id.unwrap_or(0));
         put_places(out, next, s.slot, outcome)
     } else {
-        next
+        put_request(out, at, k, s.answer as u64, 0)
     }
 }
 

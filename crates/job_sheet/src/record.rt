@@ -1,6 +1,6 @@
 // One record of a sheet.
 ghost use Rattle.std.specs.Prelude.{◌≡◌, ◌+◌, ◌≤◌, length};
-ghost use Rattle.job_sheet.specs.Reading.{endpoint_record, is_control, request_record};
+ghost use Rattle.job_sheet.specs.Reading.{endpoint_at, endpoint_record, is_control, request_at, request_record};
 
 use common::kinds::{Direction, EndpointType, KIND_MAX};
 use pipe::endpoints::{direction_of, kind_of};
@@ -48,8 +48,21 @@ impl Default for RequestRecord {
     }
 }
 
+// Whatever the bytes are: a kind above the last is that.
+pub fn endpoint_at(bytes: &[u8], at: usize) -> EndpointRecord
+    requires { at + 6 ≤ length bytes.now }
+    ensures { result ≡ endpoint_at bytes.now at }
+{
+    EndpointRecord {
+        kind: kind_of(bytes[at]),
+        address: bytes[at + 1],
+        number: bytes[at + 2],
+        packet: number16(bytes, at + 4),
+    }
+}
+
 // A kind that there is, and 0 in the byte that must be 0.
-pub fn endpoint_at(bytes: &[u8], at: usize) -> Option<EndpointRecord>
+pub fn read_endpoint(bytes: &[u8], at: usize) -> Option<EndpointRecord>
     requires { at + 6 ≤ length bytes.now }
     ensures { result ≡ endpoint_record bytes.now at }
 {
@@ -58,12 +71,7 @@ pub fn endpoint_at(bytes: &[u8], at: usize) -> Option<EndpointRecord>
     if kind > KIND_MAX || zero != 0 {
         return None;
     }
-    Some(EndpointRecord {
-        kind: kind_of(kind),
-        address: bytes[at + 1],
-        number: bytes[at + 2],
-        packet: number16(bytes, at + 4),
-    })
+    Some(endpoint_at(bytes, at))
 }
 
 // Whether the record is there, and control.
@@ -76,8 +84,22 @@ pub fn is_control(endpoints: &[EndpointRecord], k: u8) -> bool
     }
 }
 
+// Whatever the bytes are: a direction above 1 is In.
+pub fn request_at(bytes: &[u8], at: usize) -> RequestRecord
+    requires { at + 20 ≤ length bytes.now }
+    ensures { result ≡ request_at bytes.now at }
+{
+    RequestRecord {
+        endpoint: bytes[at],
+        direction: direction_of(bytes[at + 1]),
+        setup: number48(bytes, at + 2),
+        buffer: number64(bytes, at + 8),
+        length: number32(bytes, at + 16),
+    }
+}
+
 // A direction that there is, and no setup bytes unless the endpoint is control.
-pub fn request_at(bytes: &[u8], at: usize, endpoints: &[EndpointRecord]) -> Option<RequestRecord>
+pub fn read_request(bytes: &[u8], at: usize, endpoints: &[EndpointRecord]) -> Option<RequestRecord>
     requires { at + 20 ≤ length bytes.now }
     ensures { result ≡ request_record bytes.now endpoints.now at }
 {
@@ -90,11 +112,5 @@ pub fn request_at(bytes: &[u8], at: usize, endpoints: &[EndpointRecord]) -> Opti
     if setup != 0 && !is_control(endpoints, endpoint) {
         return None;
     }
-    Some(RequestRecord {
-        endpoint,
-        direction: direction_of(direction),
-        setup,
-        buffer: number64(bytes, at + 8),
-        length: number32(bytes, at + 16),
-    })
+    Some(request_at(bytes, at))
 }

@@ -3,7 +3,7 @@ ghost use Rattle.std.specs.Prelude.{◌≡◌, ◌+◌, ◌*◌, ◌≤◌, leng
 ghost use Rattle.arrayvec.specs.ArrayVec.{array_vec_len};
 ghost use Rattle.job_sheet.specs.Reading.{counts_of, endpoints_of, requests_of, sheet_of};
 
-use crate::record::{EndpointRecord, RequestRecord, endpoint_at, request_at};
+use crate::record::{EndpointRecord, RequestRecord, read_endpoint, read_request};
 use arrayvec::ArrayVec;
 use text::number::number16;
 
@@ -49,7 +49,7 @@ fn read_endpoints(bytes: &[u8], count: usize) -> Option<ArrayVec<EndpointRecord,
 {
     let mut endpoints = ArrayVec::new();
     for i in 0..count {
-        endpoints.push(endpoint_at(bytes, 2 + 6 * i)?);
+        endpoints.push(read_endpoint(bytes, 2 + 6 * i)?);
     }
     Some(endpoints)
 }
@@ -66,7 +66,7 @@ fn read_requests(
     let first = 4 + 6 * endpoints.len();
     let mut requests = ArrayVec::new();
     for i in 0..count {
-        requests.push(request_at(bytes, first + 20 * i, endpoints)?);
+        requests.push(read_request(bytes, first + 20 * i, endpoints)?);
     }
     Some(requests)
 }

@@ -15,3 +15,4 @@ pub mod FoldTurns
 pub mod WordLaws
 pub mod WordExamples
 pub mod Element
+pub mod PartsLaws

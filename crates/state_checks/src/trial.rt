@@ -2,7 +2,8 @@
 use crate::kept::Kept;
 use crate::show::{show_line, shown_sum};
 use call_log::fields::Fields;
-use call_log::line::{Line, Part};
+use call_log::line::Part;
+use call_log::lines::line_of_two;
 use call_log::record::Entry;
 
 // The number of a record that tells of a trial: `b1` is the change's number, `b3` how many bits are flipped.
@@ -26,5 +27,5 @@ pub fn show_tried(kept: &Kept, trial: Fields, n: u64, f: Fields, entry: Option<E
         let said = wrong.act(n, f, entry);
         sum = shown_sum(sum, said, &wrong);
     }
-    show_line(Line::of(b'S', &[Part::Decimal(bits as u64), Part::Word(sum)]));
+    show_line(line_of_two(b'S', Part::Decimal(bits as u64), Part::Word(sum)));
 }

@@ -3,4 +3,4 @@ use Rattle.call_log.proofs.lines.head_line.Goals as goal
 
 pub returns : goal.returns
 unfolding said_line said line_of head_line
-returns c = c.of.ensures
+returns c = c.line_of_three.ensures

@@ -1,13 +1,6 @@
-use Rattle.job_sheet.proofs.ReadCases.{endpoint_is, kind_bad, zero_bad}
+use Rattle.job_sheet.specs.Reading.{endpoint_at}
 use Rattle.job_sheet.proofs.record.endpoint_at.Goals as goal
-use Rattle.job_sheet.proofs.record.endpoint_at.Goals.{then-kind-gt-KIND_MAX-via-then-kind-gt-KIND_MAX, then-kind-gt-KIND_MAX-via-else-kind-gt-KIND_MAX+then-zero-ne0}
-
-pub returns-then-kind-gt-KIND_MAX : goal.returns-then-kind-gt-KIND_MAX
-returns-then-kind-gt-KIND_MAX c =
-    elim c.then-kind-gt-KIND_MAX.branch [
-      | then-kind-gt-KIND_MAX-via-then-kind-gt-KIND_MAX w ↦ kind_bad _ _ w.if-kind-gt-KIND_MAX.true
-      | then-kind-gt-KIND_MAX-via-else-kind-gt-KIND_MAX+then-zero-ne0 w ↦ zero_bad _ _ w.if-zero-ne0.true
-    ]
 
 pub returns : goal.returns
-returns c = endpoint_is _ _ _ _ c.if-kind-gt-KIND_MAX.false c.if-zero-ne0.false c.kind_of.ensures c.number16.ensures
+unfolding endpoint_at
+returns c = rw (c.kind_of.ensures, c.number16.ensures)

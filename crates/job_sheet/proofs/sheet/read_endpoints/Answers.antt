@@ -7,10 +7,10 @@ pub loop-i-init : goal.loop-i-init
 unfolding every up_to
 loop-i-init c = (c.new-endpoints.ensures, refl)
 
-pub returns-in_err-endpoint_at : goal.returns-in_err-endpoint_at
-returns-in_err-endpoint_at c =
+pub returns-in_err-read_endpoint : goal.returns-in_err-read_endpoint
+returns-in_err-read_endpoint c =
     rw c.from_residual.ensures
-    (good_not (λ i. endpoint_fits c.args.bytes.now (endpoint_place i)) (λ i. endpoint_at c.args.bytes.now (endpoint_place i)) _ c.loop-i.i c.loop-i-test.true c.in_err-endpoint_at.ensures)
+    (good_not (λ i. endpoint_fits c.args.bytes.now (endpoint_place i)) (λ i. endpoint_at c.args.bytes.now (endpoint_place i)) _ c.loop-i.i c.loop-i-test.true c.in_err-read_endpoint.ensures)
 
 pub push-requires : goal.push-requires
 push-requires c =
@@ -19,4 +19,4 @@ push-requires c =
 
 pub loop-i-preserved : goal.loop-i-preserved
 loop-i-preserved c =
-    good_more (λ i. endpoint_fits c.args.bytes.now (endpoint_place i)) (λ i. endpoint_at c.args.bytes.now (endpoint_place i)) _ _ c.loop-i.i _ c.loop-i.invariant c.in_ok-endpoint_at.ensures c.push.ensures.items
+    good_more (λ i. endpoint_fits c.args.bytes.now (endpoint_place i)) (λ i. endpoint_at c.args.bytes.now (endpoint_place i)) _ _ c.loop-i.i _ c.loop-i.invariant c.in_ok-read_endpoint.ensures c.push.ensures.items

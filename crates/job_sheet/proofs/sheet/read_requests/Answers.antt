@@ -7,10 +7,10 @@ pub loop-i-init : goal.loop-i-init
 unfolding every up_to
 loop-i-init c = (c.new-requests.ensures, refl)
 
-pub returns-in_err-request_at : goal.returns-in_err-request_at
-returns-in_err-request_at c =
+pub returns-in_err-read_request : goal.returns-in_err-read_request
+returns-in_err-read_request c =
     rw c.from_residual.ensures
-    (good_not (λ i. request_fits c.args.bytes.now c.args.endpoints.now (request_place (length c.args.endpoints.now) i)) (λ i. request_at c.args.bytes.now (request_place (length c.args.endpoints.now) i)) _ c.loop-i.i c.loop-i-test.true c.in_err-request_at.ensures)
+    (good_not (λ i. request_fits c.args.bytes.now c.args.endpoints.now (request_place (length c.args.endpoints.now) i)) (λ i. request_at c.args.bytes.now (request_place (length c.args.endpoints.now) i)) _ c.loop-i.i c.loop-i-test.true c.in_err-read_request.ensures)
 
 pub push-requires : goal.push-requires
 push-requires c =
@@ -19,4 +19,4 @@ push-requires c =
 
 pub loop-i-preserved : goal.loop-i-preserved
 loop-i-preserved c =
-    good_more (λ i. request_fits c.args.bytes.now c.args.endpoints.now (request_place (length c.args.endpoints.now) i)) (λ i. request_at c.args.bytes.now (request_place (length c.args.endpoints.now) i)) _ _ c.loop-i.i _ c.loop-i.invariant c.in_ok-request_at.ensures c.push.ensures.items
+    good_more (λ i. request_fits c.args.bytes.now c.args.endpoints.now (request_place (length c.args.endpoints.now) i)) (λ i. request_at c.args.bytes.now (request_place (length c.args.endpoints.now) i)) _ _ c.loop-i.i _ c.loop-i.invariant c.in_ok-read_request.ensures c.push.ensures.items
