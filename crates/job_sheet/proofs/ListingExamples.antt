@@ -61,6 +61,6 @@ unfolding answered_lines decimal decimal_up_to descriptor_line endpoint_line fir
 listed = refl
 
 -- an empty job prints nothing
-none : (o : Outcome) → o.opened.items ≡ [] → o.submitted.items ≡ [] → listing_of o ≡ []
+pub none : (o : Outcome) → o.opened.items ≡ [] → o.submitted.items ≡ [] → listing_of o ≡ []
 unfolding lines_to listing_of
 none o e f = rw (e, f)
