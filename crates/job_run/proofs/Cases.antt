@@ -21,6 +21,7 @@ use Rattle.store.specs.Stores.{blank_store, call_store, open_store}
 use Rattle.job_sheet.specs.declared.record.EndpointRecord.{EndpointRecord}
 use Rattle.job_sheet.specs.declared.record.RequestRecord.{RequestRecord}
 use Rattle.job_sheet.specs.declared.sheet.Job.{Job}
+use Rattle.job_sheet.specs.Few.{items}
 use Rattle.job_sheet.specs.Sheets.{job_of, no_endpoint, no_request}
 use Rattle.job_run.specs.Plain.{Ran}
 use Rattle.job_run.specs.Runs.{after_call, after_calls, id_told, open_call, open_step, opened_to, opening, run_of, running_store, sheet_settings, slot_for, slot_told, submit_call, submit_step, submitted_to, submitting}
@@ -29,15 +30,15 @@ use Rattle.job_run.specs.Runs.{after_call, after_calls, id_told, open_call, open
 
 module _ (ran : code.Ran) (c : Called) (call : Call) (n : ℕ) (ec : called_view c ≡ call_store (store_view ran.store) call) (en : n ≡ answered_number c.answer) where
   pub open_step_is : (e : EndpointRecord) (slot : Option ℕ) (pushed : List Opened) → call ≡ open_call e → slot ≡ slot_told c.answer
-      → pushed ≡ ran.opened.items ++ (record { answer = n; slot = slot } ∷ [])
-      → record { store = store_view c.store; opened = pushed; submitted = ran.submitted.items } ≡ open_step (ran_view ran) e
+      → pushed ≡ items ran.opened ++ (record { answer = n; slot = slot } ∷ [])
+      → record { store = store_view c.store; opened = pushed; submitted = items ran.submitted } ≡ open_step (ran_view ran) e
   unfolding open_step
   open_step_is e slot pushed el es ep =
       rw (ep, en, es) (ap (opening (ran_view ran)) (ec ∙ ap (call_store (store_view ran.store)) el))
 
-  pub submit_step_is : (job : Job) (t : RequestRecord) (slot : ℕ) (id : Option ℕ) (pushed : List Submitted) → slot ≡ slot_for ran.opened.items t.endpoint
-      → call ≡ submit_call job slot t → id ≡ id_told c.answer → pushed ≡ ran.submitted.items ++ (record { slot = slot; answer = n; id = id } ∷ [])
-      → record { store = store_view c.store; opened = ran.opened.items; submitted = pushed } ≡ submit_step (ran_view ran) job t
+  pub submit_step_is : (job : Job) (t : RequestRecord) (slot : ℕ) (id : Option ℕ) (pushed : List Submitted) → slot ≡ slot_for (items ran.opened) t.endpoint
+      → call ≡ submit_call job slot t → id ≡ id_told c.answer → pushed ≡ items ran.submitted ++ (record { slot = slot; answer = n; id = id } ∷ [])
+      → record { store = store_view c.store; opened = items ran.opened; submitted = pushed } ≡ submit_step (ran_view ran) job t
   unfolding submit_step
   submit_step_is job t slot id pushed es el ei ep =
       rw (ep, en, ei, ← es) (ap (submitting (ran_view ran) slot) (ec ∙ ap (call_store (store_view ran.store)) el))
@@ -82,7 +83,7 @@ running_is b s o w₁ w₂ w₃ w₄ w₅ w₆ w₇ eb es eo e₁ e₂ e₃ e₄
 -- ---- the run
 
 pub run_is : (job : Job) (w : Store) (os : List Opened) (ss : List Submitted) (o r : Ran) → w ≡ running_store → os ≡ [] → ss ≡ []
-    → o ≡ opened_to (length job.endpoints.items) (record { store = w; opened = os; submitted = ss }) job
-    → r ≡ submitted_to (length job.requests.items) o job → r ≡ run_of job
+    → o ≡ opened_to (length (items job.endpoints)) (record { store = w; opened = os; submitted = ss }) job
+    → r ≡ submitted_to (length (items job.requests)) o job → r ≡ run_of job
 unfolding run_of
 run_is job w os ss o r ew en es eo er = er ∙ rw (eo, ew, en, es)

@@ -2,8 +2,9 @@
 use Rattle.std.specs.Prelude.{ℕ, ◌<◌, Option, Some, None, List, ◌≡◌, take}
 use Rattle.job_sheet.specs.declared.outcome.Outcome.{Outcome}
 use Rattle.job_sheet.specs.declared.sheet.Job.{Job}
+use Rattle.job_sheet.specs.Few.{few_of}
 use Rattle.job_sheet.specs.Listing.{bad_line}
-use Rattle.job_sheet.specs.Outcomes.{listing_of}
+use Rattle.job_sheet.specs.Outcomes.{listing_of, not_opened, not_submitted}
 use Rattle.job_sheet.specs.Reading.{sheet_of}
 use Rattle.job_run.specs.Plain.{Ran}
 use Rattle.job_run.specs.Runs.{run_of}
@@ -12,8 +13,8 @@ use Rattle.job_run.specs.Runs.{run_of}
 abbrev pub outcome_of : Ran → Outcome
 outcome_of ran =
     record {
-      opened = record { items = ran.opened };
-      submitted = record { items = ran.submitted };
+      opened = few_of 8 not_opened ran.opened;
+      submitted = few_of 64 not_submitted ran.submitted;
       owner = ran.store.state.owner;
       pool = ran.store.pool;
     }

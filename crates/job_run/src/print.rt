@@ -2,7 +2,7 @@
 ghost use Rattle.std.specs.Prelude.{◌≡◌, ◌+◌, ◌*◌, ◌≤◌, ◌<◌, length, take};
 ghost use Rattle.common.specs.Rows.{put_at};
 ghost use Rattle.job_run.specs.Prints.{outcome_of, printed_of, longest_sheet};
-ghost use Rattle.job_run.specs.Words.{ran_view};
+ghost use Rattle.job_run.specs.Words.{outcome_view, ran_view};
 
 use crate::run::{Ran, run};
 use job_sheet::listing::put_bad;
@@ -12,7 +12,7 @@ use store::owners::owners;
 
 // What the listing shows of a run: the pool at its end, and whose each place is.
 fn outcome_of(ran: Ran) -> Outcome
-    ensures { result ≡ outcome_of (ran_view ran) }
+    ensures { outcome_view result ≡ outcome_of (ran_view ran) }
 {
     let owner = owners(ran.store.core, &ran.store.rows.slots);
     let pool = ran.store.rows.pool;

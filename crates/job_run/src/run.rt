@@ -1,6 +1,6 @@
 // A job's calls, one after the other: the endpoint records are opened, then the requests are submitted.
-ghost use Rattle.std.specs.Prelude.{◌≡◌, ◌<◌};
-ghost use Rattle.arrayvec.specs.ArrayVec.{array_vec_len};
+ghost use Rattle.std.specs.Prelude.{◌≡◌, ◌<◌, length};
+ghost use Rattle.job_sheet.specs.Few.{items};
 ghost use Rattle.job_run.specs.Runs.{
   slot_told,
   id_told,
@@ -17,12 +17,12 @@ ghost use Rattle.job_run.specs.Runs.{
 ghost use Rattle.job_run.specs.Words.{ran_view};
 
 use crate::controller_of::running_store;
-use arrayvec::ArrayVec;
 use common::answer::Refusal;
 use common::kinds::EndpointType;
 use controller::lent::Readings;
 use ehci::call::{Call, EndpointFields};
 use ehci::reply::{Answered, Given, answered_number};
+use job_sheet::few::Few;
 use job_sheet::outcome::{Opened, Submitted, slot_of};
 use job_sheet::record::{EndpointRecord, RequestRecord};
 use job_sheet::sheet::Job;
@@ -33,11 +33,11 @@ use store::store::{Store, call_on};
 pub const NO_SLOT: u8 = 255;
 
 // What the endpoint records and the requests came to so far, and the store then.
-#[derive(Drop)]
+#[derive(Clone, Copy)]
 pub struct Ran {
     pub store: Store,
-    pub opened: ArrayVec<Opened, 8>,
-    pub submitted: ArrayVec<Submitted, 64>,
+    pub opened: Few<Opened, 8>,
+    pub submitted: Few<Submitted, 64>,
 }
 
 fn slot_told(answer: Result<Answered, Refusal>) -> Option<u8>
@@ -70,7 +70,7 @@ fn open_call(e: EndpointRecord) -> Call
 }
 
 fn open_step(ran: &mut Ran, e: EndpointRecord)
-    requires { array_vec_len ran.old.opened < 8 }
+    requires { length (items ran.old.opened) < 8 }
     ensures { ran_view ran.new ≡ open_step (ran_view ran.old) e }
 {
     let called = call_on(ran.store, open_call(e));
@@ -82,8 +82,8 @@ fn open_step(ran: &mut Ran, e: EndpointRecord)
 }
 
 fn open_all(ran: &mut Ran, job: &Job)
-    requires { array_vec_len ran.old.opened ≡ 0 }
-    ensures { ran_view ran.new ≡ opened_to (array_vec_len job.now.endpoints) (ran_view ran.old) job.now }
+    requires { length (items ran.old.opened) ≡ 0 }
+    ensures { ran_view ran.new ≡ opened_to (length (items job.now.endpoints)) (ran_view ran.old) job.now }
 {
     let endpoints = job.endpoints.as_slice();
     for e in endpoints {
@@ -127,7 +127,7 @@ fn submit_call(job: &Job, slot: u8, t: RequestRecord) -> Call
 }
 
 fn submit_step(ran: &mut Ran, job: &Job, t: RequestRecord)
-    requires { array_vec_len ran.old.submitted < 64 }
+    requires { length (items ran.old.submitted) < 64 }
     ensures { ran_view ran.new ≡ submit_step (ran_view ran.old) job.now t }
 {
     let slot = slot_for(ran.opened.as_slice(), t.endpoint);
@@ -141,8 +141,8 @@ fn submit_step(ran: &mut Ran, job: &Job, t: RequestRecord)
 }
 
 fn submit_all(ran: &mut Ran, job: &Job)
-    requires { array_vec_len ran.old.submitted ≡ 0 }
-    ensures { ran_view ran.new ≡ submitted_to (array_vec_len job.now.requests) (ran_view ran.old) job.now }
+    requires { length (items ran.old.submitted) ≡ 0 }
+    ensures { ran_view ran.new ≡ submitted_to (length (items job.now.requests)) (ran_view ran.old) job.now }
 {
     let requests = job.requests.as_slice();
     for t in requests {
@@ -155,8 +155,8 @@ pub fn run(job: &Job) -> Ran
 {
     let mut ran = Ran {
         store: running_store(),
-        opened: ArrayVec::new(),
-        submitted: ArrayVec::new(),
+        opened: Few::new(),
+        submitted: Few::new(),
     };
     open_all(&mut ran, job);
     submit_all(&mut ran, job);

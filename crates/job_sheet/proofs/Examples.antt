@@ -6,7 +6,8 @@ use Rattle.common.specs.declared.kinds.EndpointType.TheVariants.{Control}
 use mathlib.Core.List.{List, [], ◌∷◌, ◌++◌}
 use Prim.Native.Nat.{ℕ}
 use Rattle.text.specs.Numbers.{little_endian, number_of}
-use Rattle.job_sheet.specs.Sheets.{SheetJob, bytes_of, endpoint_bytes, is_control, joined, request_bytes}
+use Rattle.job_sheet.specs.Few.{filled}
+use Rattle.job_sheet.specs.Sheets.{SheetJob, bytes_of, endpoint_bytes, is_control, job_of, joined, request_bytes}
 use Rattle.job_sheet.specs.Reading.{endpoint_at, endpoint_fits, every, job_in, packed, request_at, request_fits, sheet_fits, sheet_of, sizes_fit, up_to}
 
 opened : List ℕ
@@ -29,11 +30,15 @@ unfolding opened asked example little_endian bytes_of endpoint_bytes joined requ
 written = refl
 
 read : sheet_of (opened ++ asked) ≡ Some (packed example)
-unfolding opened asked example number_of is_control endpoint_at endpoint_fits every job_in packed request_at request_fits sheet_fits sheet_of sizes_fit up_to
+unfolding opened asked example number_of is_control endpoint_at endpoint_fits every filled job_in packed request_at request_fits sheet_fits sheet_of sizes_fit up_to
 read = refl
 
+held : job_of (packed example) ≡ example
+unfolding example filled
+held = refl
+
 empty : sheet_of (0 ∷ 0 ∷ 0 ∷ 0 ∷ []) ≡ Some (packed (record { endpoints = []; requests = [] }))
-unfolding number_of every job_in sheet_fits up_to sheet_of sizes_fit
+unfolding number_of every filled job_in sheet_fits up_to sheet_of sizes_fit
 empty = refl
 
 -- nothing, a count alone, a byte too few, a byte too many, kind 4, count 9

@@ -1,4 +1,5 @@
 pub mod Examples
+pub mod FewLaws
 pub mod Rows
 pub mod ReadCases
 pub mod Tables

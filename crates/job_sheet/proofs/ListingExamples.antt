@@ -6,17 +6,18 @@ use Rattle.descriptor.specs.Slots.{zero_slots}
 use Rattle.pool.specs.Chains.{blank}
 use Rattle.text.specs.Text.{decimal, decimal_up_to, hex, lines_to}
 use Rattle.job_sheet.specs.declared.outcome.Outcome.{Outcome}
+use Rattle.job_sheet.specs.Few.{few_of, filled, items}
 use Rattle.job_sheet.specs.Sheets.{joined}
 use Rattle.std.specs.Prelude.{Some, replicate}
 use Rattle.job_sheet.specs.Listing.{descriptor_line, endpoint_line, number_field, request_line, word_field}
-use Rattle.job_sheet.specs.Outcomes.{answered_lines, listing_of, place_lines}
+use Rattle.job_sheet.specs.Outcomes.{answered_lines, listing_of, not_opened, not_submitted, place_lines}
 
 -- slot 0 was opened and has the first three places; the request's id is 1
 ran : Outcome
 ran =
     record {
-      opened = record { items = record { answer = 0; slot = Some 0 } ∷ [] };
-      submitted = record { items = record { slot = 0; answer = 0; id = Some 1 } ∷ [] };
+      opened = few_of 8 not_opened (record { answer = 0; slot = Some 0 } ∷ []);
+      submitted = few_of 64 not_submitted (record { slot = 0; answer = 0; id = Some 1 } ∷ []);
       owner = 1 ∷ 1 ∷ 1 ∷ replicate 253 0;
       pool =
           record { next = 0x00100040; alternate = 0x00100040; token = 0x00080e80; pages = 0x00400000 ∷ 0 ∷ 0 ∷ 0 ∷ 0 ∷ []; upper = zero_slots }
@@ -57,10 +58,10 @@ third =
     32 ∷ 48 ∷ 48 ∷ 48 ∷ 48 ∷ 48 ∷ 48 ∷ 48 ∷ 48 ∷ 32 ∷ 48 ∷ 48 ∷ 48 ∷ 48 ∷ 48 ∷ 48 ∷ 48 ∷ 48 ∷ 10 ∷ []
 
 listed : listing_of ran ≡ opened ++ (taken ++ (first ++ (second ++ third)))
-unfolding answered_lines decimal decimal_up_to descriptor_line endpoint_line first hex joined lines_to listing_of number_field opened place_lines ran request_line second taken third word_field
+unfolding answered_lines decimal decimal_up_to descriptor_line endpoint_line filled first hex joined lines_to listing_of number_field opened place_lines ran request_line second taken third word_field
 listed = refl
 
 -- an empty job prints nothing
-pub none : (o : Outcome) → o.opened.items ≡ [] → o.submitted.items ≡ [] → listing_of o ≡ []
+pub none : (o : Outcome) → items o.opened ≡ [] → items o.submitted ≡ [] → listing_of o ≡ []
 unfolding lines_to listing_of
 none o e f = rw (e, f)

@@ -16,6 +16,7 @@ use Rattle.std.specs.Prelude.{unwrap_or}
 use Rattle.job_sheet.specs.declared.outcome.Opened.{Opened}
 use Rattle.job_sheet.specs.declared.outcome.Outcome.{Outcome}
 use Rattle.job_sheet.specs.declared.outcome.Submitted.{Submitted}
+use Rattle.job_sheet.specs.Few.{items}
 use Rattle.job_sheet.specs.Listing.{descriptor_line, endpoint_line, request_line}
 use Rattle.job_sheet.specs.Outcomes.{answered_lines, lines_of, not_opened, not_submitted, opened_line, place_line, place_lines}
 use Rattle.job_sheet.proofs.ListingCases.{then}
@@ -60,7 +61,7 @@ module _ (o : List ℕ) (at : ℕ) where
       → Within o at (endpoint_line k (get_or opened k d).answer) q r most → Within o at (opened_line opened k) q r most
   opened_put opened k d q r most h f = rw (get_d_any opened k not_opened d h) f
 
-  pub submitted_put : (ran : Outcome) (xs : List Submitted) (k : ℕ) (d : Submitted) (q : List ℕ) (r most : ℕ) → xs ≡ ran.submitted.items → k < length xs
+  pub submitted_put : (ran : Outcome) (xs : List Submitted) (k : ℕ) (d : Submitted) (q : List ℕ) (r most : ℕ) → xs ≡ items ran.submitted → k < length xs
       → Within o at (answered_lines ran k (get_or xs k d)) q r most → Within o at (lines_of ran k) q r most
   unfolding answered_lines
   submitted_put ran xs k d q r most e h f = rw (← e, get_d_any xs k not_submitted d h) f

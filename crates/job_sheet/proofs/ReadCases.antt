@@ -1,24 +1,27 @@
 -- The cases of the functions that read a sheet.
-use mathlib.Core.Path.{◌≡◌, refl, sym, ap, ◌∙◌}
+use mathlib.Core.Path.{◌≡◌, refl, ap, ◌∙◌}
 use mathlib.Core.Bool.{Bool, true, false, ◌&&◌, ◌||◌, and-false}
-use mathlib.Core.List.{List, [], ◌∷◌, ◌++◌}
+use mathlib.Core.List.{List}
 use Prim.Native.Nat.{ℕ, ◌+◌, ◌*◌, ◌≤◌, ◌<◌}
 use native.Mathlib.Omega.{arith}
 use borrow.Author.Tests.{eq-eqb, eqb-true, le-leb, le-ltb, leb-true, lt-leb, lt-ltb, ne_eqb}
 use lib.Dec.{eqb, leb}
 use lib.ListN.{get_or, length}
-use Rattle.std.specs.Prelude.{Some, None}
+use Rattle.std.specs.Prelude.{Some, None, option_map}
 use Rattle.common.specs.declared.kinds.Direction.{Direction}
 use Rattle.common.specs.declared.kinds.EndpointType.{EndpointType}
 use Rattle.common.specs.declared.kinds.EndpointType.TheVariants.{Control, Isochronous, Bulk, Interrupt}
 use Rattle.common.specs.Kinds as kinds
 use Rattle.pipe.specs.Endpoints.{direction_of, kind_of}
+use Rattle.job_sheet.specs.declared.few.Few.{Few}
 use Rattle.job_sheet.specs.declared.record.EndpointRecord.{EndpointRecord}
 use Rattle.job_sheet.specs.declared.record.RequestRecord.{RequestRecord}
 use Rattle.job_sheet.specs.declared.sheet.Counts.{Counts}
 use Rattle.text.specs.Numbers.{number_at}
-use Rattle.job_sheet.specs.Sheets.{is_control, no_endpoint}
-use Rattle.job_sheet.specs.Reading.{counts_of, endpoint_at, endpoint_fits, endpoint_record, endpoints_fit, endpoints_in, endpoints_of, every, if_good, job_in, opens_of, packed, request_at, request_fits, request_record, requests_fit, requests_of, sheet_fits, sheet_of, sizes_fit, submits_of, up_to}
+use Rattle.job_sheet.specs.Few.{few_of, items, pushed}
+use Rattle.job_sheet.specs.Sheets.{is_control, no_endpoint, no_request}
+use Rattle.job_sheet.specs.Reading.{counts_of, endpoint_at, endpoint_fits, endpoint_record, endpoints_fit, endpoints_in, endpoints_of, every, if_good, job_in, opens_of, request_at, request_fits, request_record, requests_fit, requests_of, sheet_fits, sheet_of, sizes_fit, submits_of, up_to}
+use Rattle.job_sheet.proofs.FewLaws.{few_more, filled_taken}
 use Rattle.job_sheet.proofs.Rows.{every_more, every_not, up_length, up_more}
 use Rattle.common.proofs.TestLaws.{both_tells}
 
@@ -155,24 +158,33 @@ pub untold : {A : Type 0} (good : Bool) (y : A) → None ≡ if_good good y → 
 untold true y e = cc
 untold false y e = refl
 
+pub told_as : {A B : Type 0} (f : A → B) (good : Bool) (x : B) (y : A) → Some x ≡ option_map f (if_good good y) → (good ≡ true) × (x ≡ f y)
+told_as f true x y e = let same : x ≡ f y = cc in (refl, same)
+told_as f false x y e = cc
+
+pub untold_as : {A B : Type 0} (f : A → B) (good : Bool) (y : A) → None ≡ option_map f (if_good good y) → good ≡ false
+untold_as f true y e = cc
+untold_as f false y e = refl
+
 -- ---- the records, one after the other
 
-module _ {A : Type 0} (fits : ℕ → Bool) (at : ℕ → A) where
+module _ {A : Type 0} (size : ℕ) (none : A) (fits : ℕ → Bool) (at : ℕ → A) where
   -- one more that is good
-  pub good_more : (xs ys : List A) (i : ℕ) (x : A) → (xs ≡ up_to at i) × (every fits i ≡ true) → Some x ≡ if_good (fits i) (at i) → ys ≡ xs ++ (x ∷ [])
-      → (ys ≡ up_to at (i + 1)) × (every fits (i + 1) ≡ true)
-  good_more xs ys i x h e q =
+  pub good_more : (xs ys : Few A size) (i : ℕ) (x : A) → i < size → (xs ≡ few_of size none (up_to at i)) × (every fits i ≡ true)
+      → Some x ≡ if_good (fits i) (at i) → ys ≡ pushed xs x → (ys ≡ few_of size none (up_to at (i + 1))) × (every fits (i + 1) ≡ true)
+  good_more xs ys i x l h e q =
       let t = told (fits i) x (at i) e in
-      (q ∙ rw (h.0, t.1) (sym (up_more at i)), every_more fits i h.1 t.0)
+      (q ∙ rw (h.0, t.1, up_more at i) (few_more size none (up_to at i) (at i) (omega (arith, l, up_length at i))), every_more fits i h.1 t.0)
 
-  pub good_few : (xs : List A) (i : ℕ) → (xs ≡ up_to at i) × (every fits i ≡ true) → length xs ≡ i
-  good_few xs i h = ap length h.0 ∙ up_length at i
+  pub good_few : (xs : Few A size) (i : ℕ) → (xs ≡ few_of size none (up_to at i)) × (every fits i ≡ true) → length (items xs) ≡ i
+  good_few xs i h = rw h.0 (ap length (filled_taken size none (up_to at i)) ∙ up_length at i)
 
   -- one that is bad
-  pub good_not : (n i : ℕ) → i < n → None ≡ if_good (fits i) (at i) → None ≡ if_good (every fits n) (up_to at n)
+  pub good_not : (n i : ℕ) → i < n → None ≡ if_good (fits i) (at i) → None ≡ option_map (few_of size none) (if_good (every fits n) (up_to at n))
   good_not n i h e = rw (every_not fits n i h (untold (fits i) (at i) e))
 
-  pub good_all : (xs : List A) (n i : ℕ) → i ≡ n → (xs ≡ up_to at i) × (every fits i ≡ true) → Some xs ≡ if_good (every fits n) (up_to at n)
+  pub good_all : (xs : Few A size) (n i : ℕ) → i ≡ n → (xs ≡ few_of size none (up_to at i)) × (every fits i ≡ true)
+      → Some xs ≡ option_map (few_of size none) (if_good (every fits n) (up_to at n))
   good_all xs n i e h =
       let t = rw e at h.1 in
       rw (t, h.0, e)
@@ -188,31 +200,34 @@ module _ (bytes : List ℕ) where
     known : (sizes_fit bytes ≡ true) × (c ≡ record { endpoints = opens_of bytes; requests = submits_of bytes })
     known = told (sizes_fit bytes) c (record { endpoints = opens_of bytes; requests = submits_of bytes }) ec
 
-    pub no_endpoints : None ≡ endpoints_of bytes c.endpoints → None ≡ sheet_of bytes
+    pub no_endpoints : None ≡ option_map (few_of 8 no_endpoint) (endpoints_of bytes c.endpoints) → None ≡ sheet_of bytes
     unfolding sheet_of sheet_fits
     no_endpoints e =
         let h = rw known.1 at e in
-        rw (known.0, untold (endpoints_fit bytes (opens_of bytes)) _ h)
+        rw (known.0, untold_as (few_of 8 no_endpoint) (endpoints_fit bytes (opens_of bytes)) _ h)
 
-    module _ (es : List EndpointRecord) (ee : Some es ≡ endpoints_of bytes c.endpoints) where
-      known_endpoints : (endpoints_fit bytes (opens_of bytes) ≡ true) × (es ≡ endpoints_in bytes (opens_of bytes))
+    module _ (es : Few EndpointRecord 8) (ee : Some es ≡ option_map (few_of 8 no_endpoint) (endpoints_of bytes c.endpoints)) where
+      known_endpoints : (endpoints_fit bytes (opens_of bytes) ≡ true) × (es ≡ few_of 8 no_endpoint (endpoints_in bytes (opens_of bytes)))
       known_endpoints =
           let h = rw known.1 at ee in
-          told (endpoints_fit bytes (opens_of bytes)) es _ h
+          told_as (few_of 8 no_endpoint) (endpoints_fit bytes (opens_of bytes)) es _ h
 
-      pub many : length es ≡ opens_of bytes
-      many = ap length known_endpoints.1 ∙ up_length _ (opens_of bytes)
+      these : items es ≡ endpoints_in bytes (opens_of bytes)
+      these = rw known_endpoints.1 (filled_taken 8 no_endpoint (endpoints_in bytes (opens_of bytes)))
 
-      pub no_requests : None ≡ requests_of bytes es c.requests → None ≡ sheet_of bytes
+      pub many : length (items es) ≡ opens_of bytes
+      many = ap length these ∙ up_length _ (opens_of bytes)
+
+      pub no_requests : None ≡ option_map (few_of 64 no_request) (requests_of bytes (items es) c.requests) → None ≡ sheet_of bytes
       unfolding sheet_of sheet_fits
       no_requests e =
-          let h = rw (known.1, many, known_endpoints.1) at e in
-          rw (known.0, known_endpoints.0, untold (requests_fit bytes (endpoints_in bytes (opens_of bytes)) (opens_of bytes) (submits_of bytes)) _ h)
+          let h = rw (known.1, many, these) at e in
+          rw (known.0, known_endpoints.0, untold_as (few_of 64 no_request) (requests_fit bytes (endpoints_in bytes (opens_of bytes)) (opens_of bytes) (submits_of bytes)) _ h)
 
-      pub all_read : (rs : List RequestRecord) → Some rs ≡ requests_of bytes es c.requests
-          → Some (packed (record { endpoints = es; requests = rs })) ≡ sheet_of bytes
+      pub all_read : (rs : Few RequestRecord 64) → Some rs ≡ option_map (few_of 64 no_request) (requests_of bytes (items es) c.requests)
+          → Some (record { endpoints = es; requests = rs }) ≡ sheet_of bytes
       unfolding sheet_of sheet_fits job_in
       all_read rs er =
-          let h = rw (known.1, many, known_endpoints.1) at er in
-          let t = told (requests_fit bytes (endpoints_in bytes (opens_of bytes)) (opens_of bytes) (submits_of bytes)) rs _ h in
+          let h = rw (known.1, many, these) at er in
+          let t = told_as (few_of 64 no_request) (requests_fit bytes (endpoints_in bytes (opens_of bytes)) (opens_of bytes) (submits_of bytes)) rs _ h in
           rw (known.0, known_endpoints.0, t.0, t.1, known_endpoints.1)

@@ -13,6 +13,7 @@ use Rattle.text.specs.Numbers.{little_endian, number_of}
 use Rattle.job_sheet.specs.Sheets.{GoodEndpoint, GoodJob, GoodRequest, SheetJob, bytes_of, endpoint_bytes, job_of, joined, no_endpoint, no_request, request_bytes}
 use Rattle.job_sheet.specs.Reading.{endpoint_at, endpoint_fits, endpoint_place, endpoints_fit, endpoints_in, job_in, opens_of, packed, request_at, request_fits, request_place, requests_fit, requests_in, sheet_fits, sheet_of, sizes_fit, submits_of}
 use Rattle.text.proofs.NumberLaws.{Bytes, bytes_length, number_of_bytes, part_written}
+use Rattle.job_sheet.proofs.FewLaws.{filled_taken}
 use Rattle.job_sheet.proofs.Rows.{every_all, every_each, up_is, up_length}
 use Rattle.common.proofs.TestLaws.{both_tells, both_makes}
 use Rattle.job_sheet.proofs.ReadCases.{Sized, sizes_fit_lem, told}
@@ -21,7 +22,7 @@ use Rattle.job_sheet.proofs.RecordLaws.{endpoint_good, endpoint_length, endpoint
 
 -- the code's struct holds the job
 pub packed_holds : (j : SheetJob) → job_of (packed j) ≡ j
-packed_holds j = refl
+packed_holds j = λ i. record { endpoints = filled_taken 8 no_endpoint j.endpoints i; requests = filled_taken 64 no_request j.requests i }
 
 pub good_fits : (bytes : List ℕ) (job : Job) → Some job ≡ sheet_of bytes → (sheet_fits bytes ≡ true) × (job ≡ packed (job_in bytes))
 unfolding sheet_of
@@ -83,7 +84,7 @@ module _ (bytes : List ℕ) (b : Bytes bytes) (f : sheet_fits bytes ≡ true) wh
 pub sound : (bytes : List ℕ) → Bytes bytes → (job : Job) → Some job ≡ sheet_of bytes → GoodJob (job_of job) × (bytes_of (job_of job) ≡ bytes)
 sound bytes b job e =
     let f = good_fits bytes job e in
-    let same : job_of job ≡ job_in bytes = ap job_of f.1 in
+    let same : job_of job ≡ job_in bytes = ap job_of f.1 ∙ packed_holds (job_in bytes) in
     rw same (read_good bytes b f.0, read_written bytes b f.0)
 
 -- written, then read

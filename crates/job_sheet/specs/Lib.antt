@@ -1,3 +1,4 @@
+pub mod Few
 pub mod Sheets
 pub mod Reading
 pub mod Listing

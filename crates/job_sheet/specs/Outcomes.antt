@@ -7,6 +7,7 @@ use Rattle.text.specs.Text.{lines_to, only_if}
 use Rattle.job_sheet.specs.declared.outcome.Opened.{Opened}
 use Rattle.job_sheet.specs.declared.outcome.Outcome.{Outcome}
 use Rattle.job_sheet.specs.declared.outcome.Submitted.{Submitted}
+use Rattle.job_sheet.specs.Few.{items}
 use Rattle.job_sheet.specs.Listing.{descriptor_line, endpoint_line, request_line}
 
 -- what a record or a request that is not there came to
@@ -34,10 +35,10 @@ answered_lines o k s =
     request_line k s.answer (cond (eqb s.answer 0) (unwrap_or s.id 0) 0) ++ only_if (eqb s.answer 0) (place_lines o.owner o.pool s.slot)
 
 abbrev pub lines_of : Outcome → ℕ → List ℕ
-lines_of o k = answered_lines o k (get_or o.submitted.items k not_submitted)
+lines_of o k = answered_lines o k (get_or (items o.submitted) k not_submitted)
 
 abbrev pub request_lines : Outcome → List ℕ
-request_lines o = lines_to (lines_of o) (length o.submitted.items)
+request_lines o = lines_to (lines_of o) (length (items o.submitted))
 
 abbrev pub opened_line : List Opened → ℕ → List ℕ
 opened_line opened k = endpoint_line k (get_or opened k not_opened).answer
@@ -46,4 +47,4 @@ abbrev pub endpoint_lines : List Opened → List ℕ
 endpoint_lines opened = lines_to (opened_line opened) (length opened)
 
 unfoldable pub listing_of : Outcome → List ℕ
-listing_of o = endpoint_lines o.opened.items ++ request_lines o
+listing_of o = endpoint_lines (items o.opened) ++ request_lines o

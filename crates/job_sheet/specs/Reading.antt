@@ -6,7 +6,8 @@ use Rattle.job_sheet.specs.declared.record.RequestRecord.{RequestRecord}
 use Rattle.job_sheet.specs.declared.sheet.Counts.{Counts}
 use Rattle.job_sheet.specs.declared.sheet.Job.{Job}
 use Rattle.text.specs.Numbers.{number_at}
-pub use Rattle.job_sheet.specs.Sheets.{SheetJob, is_control}
+use Rattle.job_sheet.specs.Few.{few_of}
+pub use Rattle.job_sheet.specs.Sheets.{SheetJob, is_control, no_endpoint, no_request}
 
 -- what is read, where it is good
 abbrev pub if_good : {A : Type 0} → Bool → A → Option A
@@ -103,7 +104,7 @@ job_in bytes =
 
 -- a job as the code's struct holds it
 abbrev pub packed : SheetJob → Job
-packed j = record { endpoints = record { items = j.endpoints }; requests = record { items = j.requests } }
+packed j = record { endpoints = few_of 8 no_endpoint j.endpoints; requests = few_of 64 no_request j.requests }
 
 unfoldable pub sheet_fits : List ℕ → Bool
 sheet_fits bytes =

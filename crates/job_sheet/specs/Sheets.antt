@@ -7,6 +7,7 @@ use Rattle.pipe.specs.Endpoints.{direction_number, kind_number}
 use Rattle.job_sheet.specs.declared.record.EndpointRecord.{EndpointRecord}
 use Rattle.job_sheet.specs.declared.record.RequestRecord.{RequestRecord}
 use Rattle.job_sheet.specs.declared.sheet.Job.{Job}
+use Rattle.job_sheet.specs.Few.{items}
 use Rattle.text.specs.Numbers.{little_endian}
 
 pub record SheetJob : Type 0 where
@@ -66,4 +67,4 @@ pub record GoodJob (j : SheetJob) : Type 0 where
 
 -- the job that the code's struct holds
 abbrev pub job_of : Job → SheetJob
-job_of job = record { endpoints = job.endpoints.items; requests = job.requests.items }
+job_of job = record { endpoints = items job.endpoints; requests = items job.requests }

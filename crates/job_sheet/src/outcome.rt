@@ -12,8 +12,8 @@ ghost use Rattle.job_sheet.specs.Outcomes.{
   listing_of,
 };
 
+use crate::few::Few;
 use crate::listing::{put_descriptor, put_endpoint, put_request};
-use arrayvec::ArrayVec;
 use descriptor::qtd::QueueTransferDescriptor;
 
 // An endpoint record's answer, and its slot if one was opened.
@@ -32,10 +32,10 @@ pub struct Submitted {
 }
 
 // Of each endpoint record and each request what it came to, and the pool at the end with each place's owner (slot + 1).
-#[derive(Drop)]
+#[derive(Clone, Copy)]
 pub struct Outcome {
-    pub opened: ArrayVec<Opened, 8>,
-    pub submitted: ArrayVec<Submitted, 64>,
+    pub opened: Few<Opened, 8>,
+    pub submitted: Few<Submitted, 64>,
     pub owner: [u8; 256],
     pub pool: [QueueTransferDescriptor; 257],
 }

@@ -1,6 +1,7 @@
 // One record of a sheet.
 ghost use Rattle.std.specs.Prelude.{◌≡◌, ◌+◌, ◌≤◌, length};
 ghost use Rattle.job_sheet.specs.Reading.{endpoint_at, endpoint_record, is_control, request_at, request_record};
+ghost use Rattle.job_sheet.specs.Sheets.{no_endpoint, no_request};
 
 use common::kinds::{Direction, EndpointType, KIND_MAX};
 use pipe::endpoints::{direction_of, kind_of};
@@ -16,6 +17,8 @@ pub struct EndpointRecord {
 
 // What the places of a list that are not yet used hold.
 impl Default for EndpointRecord {
+    ghost is_default = { λ e. e ≡ no_endpoint };
+
     fn default() -> EndpointRecord {
         EndpointRecord {
             kind: EndpointType::Control,
@@ -37,6 +40,8 @@ pub struct RequestRecord {
 }
 
 impl Default for RequestRecord {
+    ghost is_default = { λ r. r ≡ no_request };
+
     fn default() -> RequestRecord {
         RequestRecord {
             endpoint: 0,

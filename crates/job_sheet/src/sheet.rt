@@ -1,16 +1,17 @@
 // A sheet's bytes read: its job, unless it is bad.
 ghost use Rattle.std.specs.Prelude.{◌≡◌, ◌+◌, ◌*◌, ◌≤◌, length, option_map, IfSome};
-ghost use Rattle.arrayvec.specs.ArrayVec.{array_vec_len};
+ghost use Rattle.job_sheet.specs.Few.{few_of, items};
 ghost use Rattle.job_sheet.specs.Reading.{counts_of, endpoints_of, requests_of, sheet_of};
+ghost use Rattle.job_sheet.specs.Sheets.{no_endpoint, no_request};
 
+use crate::few::Few;
 use crate::record::{EndpointRecord, RequestRecord, read_endpoint, read_request};
-use arrayvec::ArrayVec;
 use text::number::number16;
 
-#[derive(Drop)]
+#[derive(Clone, Copy)]
 pub struct Job {
-    pub endpoints: ArrayVec<EndpointRecord, 8>,
-    pub requests: ArrayVec<RequestRecord, 64>,
+    pub endpoints: Few<EndpointRecord, 8>,
+    pub requests: Few<RequestRecord, 64>,
 }
 
 #[derive(Clone, Copy)]
@@ -43,11 +44,11 @@ fn read_counts(bytes: &[u8]) -> Option<Counts>
     }
 }
 
-fn read_endpoints(bytes: &[u8], count: usize) -> Option<ArrayVec<EndpointRecord, 8>>
+fn read_endpoints(bytes: &[u8], count: usize) -> Option<Few<EndpointRecord, 8>>
     requires { (count ≤ 8) × (2 + 6 * count ≤ length bytes.now) }
-    ensures { option_map (λ v. v.items) result ≡ endpoints_of bytes.now count }
+    ensures { result ≡ option_map (few_of 8 no_endpoint) (endpoints_of bytes.now count) }
 {
-    let mut endpoints = ArrayVec::new();
+    let mut endpoints = Few::new();
     for i in 0..count {
         endpoints.push(read_endpoint(bytes, 2 + 6 * i)?);
     }
@@ -58,13 +59,13 @@ fn read_requests(
     bytes: &[u8],
     endpoints: &[EndpointRecord],
     count: usize,
-) -> Option<ArrayVec<RequestRecord, 64>>
+) -> Option<Few<RequestRecord, 64>>
     requires few { (length endpoints.now ≤ 8) × (count ≤ 64) }
     requires whole { 4 + 6 * length endpoints.now + 20 * count ≤ length bytes.now }
-    ensures { option_map (λ v. v.items) result ≡ requests_of bytes.now endpoints.now count }
+    ensures { result ≡ option_map (few_of 64 no_request) (requests_of bytes.now endpoints.now count) }
 {
     let first = 4 + 6 * endpoints.len();
-    let mut requests = ArrayVec::new();
+    let mut requests = Few::new();
     for i in 0..count {
         requests.push(read_request(bytes, first + 20 * i, endpoints)?);
     }
@@ -73,11 +74,11 @@ fn read_requests(
 
 pub fn read_sheet(bytes: &[u8]) -> Option<Job>
     ensures value { result ≡ sheet_of bytes.now }
-    ensures few { IfSome result (λ job. (array_vec_len job.endpoints ≤ 8) × (array_vec_len job.requests ≤ 64)) }
+    ensures few { IfSome result (λ job. (length (items job.endpoints) ≤ 8) × (length (items job.requests) ≤ 64)) }
 {
     let counts = read_counts(bytes)?;
     let endpoints = read_endpoints(bytes, counts.endpoints)?;
-    let requests = read_requests(bytes, &endpoints, counts.requests)?;
+    let requests = read_requests(bytes, endpoints.as_slice(), counts.requests)?;
     Some(Job {
         endpoints,
         requests,

@@ -1,4 +1,3 @@
-use Rattle.std.specs.Prelude.{Some, None}
 use Rattle.std.proofs.Common.{arith}
 use Rattle.job_run.proofs.PrintCases.{bad_printed, good_printed}
 use Rattle.job_run.proofs.print.print_sheet.Goals as goal

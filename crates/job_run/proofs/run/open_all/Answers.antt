@@ -1,5 +1,6 @@
 use Rattle.std.proofs.Common.{◌≡◌, ◌∙◌, ap, arith, get_or, length, List, refl}
 use Rattle.job_sheet.specs.declared.record.EndpointRecord.{EndpointRecord}
+use Rattle.job_sheet.specs.Few.{items}
 use Rattle.job_sheet.specs.Sheets.{no_endpoint}
 use Rattle.job_run.specs.Plain.{Ran}
 use Rattle.job_run.specs.Runs.{opened_to}
@@ -29,5 +30,5 @@ loop-e-preserved c =
 pub returns : goal.returns
 returns c =
     let l = c.loop-e in
-    let all : l.e-index ≡ length c.args.job.now.endpoints.items = omega (arith, ap length c.as_slice-endpoints.ensures.value) in
+    let all : l.e-index ≡ length (items c.args.job.now.endpoints) = omega (arith, ap length c.as_slice-endpoints.ensures.value) in
     rw (← all) l.invariant

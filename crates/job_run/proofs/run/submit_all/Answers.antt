@@ -1,5 +1,6 @@
 use Rattle.std.proofs.Common.{◌≡◌, ◌∙◌, ap, arith, get_or, length, List, refl}
 use Rattle.job_sheet.specs.declared.record.RequestRecord.{RequestRecord}
+use Rattle.job_sheet.specs.Few.{items}
 use Rattle.job_sheet.specs.Sheets.{no_request}
 use Rattle.job_run.specs.Plain.{Ran}
 use Rattle.job_run.specs.Runs.{submitted_to}
@@ -29,5 +30,5 @@ loop-t-preserved c =
 pub returns : goal.returns
 returns c =
     let l = c.loop-t in
-    let all : l.t-index ≡ length c.args.job.now.requests.items = omega (arith, ap length c.as_slice-requests.ensures.value) in
+    let all : l.t-index ≡ length (items c.args.job.now.requests) = omega (arith, ap length c.as_slice-requests.ensures.value) in
     rw (← all) l.invariant

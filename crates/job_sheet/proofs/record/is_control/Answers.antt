@@ -1,4 +1,3 @@
-use Rattle.std.specs.Prelude.{Some, None}
 use mathlib.Core.Path.{◌∙◌, ap, sym}
 use Rattle.job_sheet.specs.declared.record.EndpointRecord.{EndpointRecord}
 use Rattle.job_sheet.specs.Sheets.{no_endpoint}

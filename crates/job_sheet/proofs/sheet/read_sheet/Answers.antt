@@ -17,20 +17,20 @@ returns-in_err-endpoints-clause-value c =
 pub read_requests-requires-clause-few : goal.read_requests-requires-clause-few
 read_requests-requires-clause-few c =
     let z = (counts_told _ _ c.in_ok-counts.ensures).1 in
-    (c.deref.ensures.1, z.some)
+    (c.as_slice.ensures.fits, z.some)
 
 pub read_requests-requires-clause-whole : goal.read_requests-requires-clause-whole
 read_requests-requires-clause-whole c =
     let z = (counts_told _ _ c.in_ok-counts.ensures).1 in
     let n = many _ _ c.in_ok-counts.ensures _ c.in_ok-endpoints.ensures in
-    omega (arith, ap length c.deref.ensures.0, n, z.opens, z.whole)
+    omega (arith, ap length c.as_slice.ensures.value, n, z.opens, z.whole)
 
 pub returns-in_err-requests-clause-value : goal.returns-in_err-requests-clause-value
 returns-in_err-requests-clause-value c =
-    let h = rw c.deref.ensures.0 at c.in_err-requests.ensures in
+    let h = rw c.as_slice.ensures.value at c.in_err-requests.ensures in
     rw c.from_residual-in_err-requests.ensures (no_requests _ _ c.in_ok-counts.ensures _ c.in_ok-endpoints.ensures h)
 
 pub returns-clause-value : goal.returns-clause-value
 returns-clause-value c =
-    let h = rw c.deref.ensures.0 at c.in_ok-requests.ensures in
+    let h = rw c.as_slice.ensures.value at c.in_ok-requests.ensures in
     all_read _ _ c.in_ok-counts.ensures _ c.in_ok-endpoints.ensures _ h
