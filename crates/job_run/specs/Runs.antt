@@ -2,6 +2,7 @@
 use Rattle.std.specs.Prelude.{ℕ, zero, suc, Option, Some, None, List, [], ◌∷◌, ◌++◌, get_or, length, unwrap_or, Ok, Result}
 use Rattle.common.specs.declared.kinds.EndpointType.{EndpointType}
 use Rattle.settings.specs.declared.settings.Settings.{Settings}
+use Rattle.pipe.specs.Endpoints.{direction_of, kind_of}
 use Rattle.ehci.specs.declared.call.Call.{Call}
 use Rattle.ehci.specs.declared.call.Call.TheVariants.{StartBringUp, BringUpStep, OpenEndpoint, Submit}
 use Rattle.ehci.specs.declared.reply.Answered.TheVariants.{Done}
@@ -72,7 +73,7 @@ id_told _ = None
 -- ---- the endpoint records are opened, in order
 
 abbrev pub open_call : EndpointRecord → Call
-open_call e = OpenEndpoint (record { kind = e.kind; address = e.address; number = e.number; packet = e.packet })
+open_call e = OpenEndpoint (record { kind = kind_of e.kind; address = e.address; number = e.number; packet = e.packet })
 
 abbrev pub opening : Ran → Called → Ran
 opening ran c =
@@ -94,7 +95,7 @@ opened_to (suc k) start job = open_step (opened_to k start job) (get_or (job_of 
 
 -- a request's kind is its record's; one that is not there is refused whatever the kind
 abbrev pub kind_for : Job → ℕ → EndpointType
-kind_for job place = (get_or (job_of job).endpoints place no_endpoint).kind
+kind_for job place = kind_of (get_or (job_of job).endpoints place no_endpoint).kind
 
 -- the slot that its record's opening gave; 255, which is no slot, where it gave none
 abbrev pub slot_for : List Opened → ℕ → ℕ
@@ -103,7 +104,7 @@ slot_for opened place = unwrap_or (slot_of opened place) 255
 abbrev pub submit_call : Job → ℕ → RequestRecord → Call
 submit_call job slot t =
     Submit slot
-    (record { kind = kind_for job t.endpoint; direction = t.direction; setup = t.setup; address = t.buffer; length = t.length })
+    (record { kind = kind_for job t.endpoint; direction = direction_of t.direction; setup = t.setup; address = t.buffer; length = t.length })
     (record { command = 0; frame = 0; overlay = 0 })
 
 abbrev pub submitting : Ran → ℕ → Called → Ran

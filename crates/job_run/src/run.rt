@@ -26,6 +26,7 @@ use job_sheet::few::Few;
 use job_sheet::outcome::{Opened, Submitted, slot_of};
 use job_sheet::record::{EndpointRecord, RequestRecord};
 use job_sheet::sheet::Job;
+use pipe::endpoints::{direction_of, kind_of};
 use request::judge::TransferRequest;
 use store::store::{Store, call_on};
 
@@ -62,7 +63,7 @@ fn open_call(e: EndpointRecord) -> Call
     ensures { result ≡ open_call e }
 {
     Call::OpenEndpoint(EndpointFields {
-        kind: e.kind,
+        kind: kind_of(e.kind),
         address: e.address,
         number: e.number,
         packet: e.packet,
@@ -96,7 +97,7 @@ fn kind_for(job: &Job, place: u8) -> EndpointType
     ensures { result ≡ kind_for job.now place }
 {
     match job.endpoints.as_slice().get(place as usize) {
-        Some(e) => e.kind,
+        Some(e) => kind_of(e.kind),
         None => EndpointType::Control,
     }
 }
@@ -113,7 +114,7 @@ fn submit_call(job: &Job, slot: u8, t: RequestRecord) -> Call
 {
     let request = TransferRequest {
         kind: kind_for(job, t.endpoint),
-        direction: t.direction,
+        direction: direction_of(t.direction),
         setup: t.setup,
         address: t.buffer,
         length: t.length as u64,

@@ -1,8 +1,6 @@
 -- Sheets by computation: the document's example, the empty sheet, and bad ones.
 use mathlib.Core.Path.{◌≡◌, refl}
 use Rattle.std.specs.Prelude.{Some, None}
-use Rattle.common.specs.declared.kinds.Direction.TheVariants.{In}
-use Rattle.common.specs.declared.kinds.EndpointType.TheVariants.{Control}
 use mathlib.Core.List.{List, [], ◌∷◌, ◌++◌}
 use Prim.Native.Nat.{ℕ}
 use Rattle.text.specs.Numbers.{little_endian, number_of}
@@ -21,8 +19,8 @@ asked =
 unfoldable pub example : SheetJob
 example =
     record {
-      endpoints = record { kind = Control; address = 0; number = 0; packet = 64 } ∷ [];
-      requests = record { endpoint = 0; direction = In; setup = 0x01000680; buffer = 0x10000fff; length = 18 } ∷ [];
+      endpoints = record { kind = 0; address = 0; number = 0; packet = 64 } ∷ [];
+      requests = record { endpoint = 0; direction = 1; setup = 0x01000680; buffer = 0x10000fff; length = 18 } ∷ [];
     }
 
 written : bytes_of example ≡ opened ++ asked

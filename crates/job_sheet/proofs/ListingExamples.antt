@@ -1,23 +1,34 @@
 -- The document's example by computation: the whole listing of its sheet; and an empty job's.
 use mathlib.Core.Path.{◌≡◌, refl}
-use mathlib.Core.List.{List, [], ◌∷◌, ◌++◌}
+use mathlib.Core.List.{List, [], ◌∷◌, ◌++◌, map}
 use Prim.Native.Nat.{ℕ}
 use Rattle.descriptor.specs.Slots.{zero_slots}
 use Rattle.pool.specs.Chains.{blank}
 use Rattle.text.specs.Text.{decimal, decimal_up_to, hex, lines_to}
+use Rattle.job_sheet.specs.declared.outcome.Opened.{Opened}
 use Rattle.job_sheet.specs.declared.outcome.Outcome.{Outcome}
+use Rattle.job_sheet.specs.declared.outcome.Submitted.{Submitted}
+use Rattle.job_sheet.specs.declared.record.RequestRecord.{RequestRecord}
 use Rattle.job_sheet.specs.Few.{few_of, filled, items}
 use Rattle.job_sheet.specs.Sheets.{joined}
-use Rattle.std.specs.Prelude.{Some, replicate}
+use Rattle.std.specs.Prelude.{Some, replicate, unwrap_or}
 use Rattle.job_sheet.specs.Listing.{descriptor_line, endpoint_line, number_field, request_line, word_field}
-use Rattle.job_sheet.specs.Outcomes.{answered_lines, listing_of, not_opened, not_submitted, place_lines}
+use Rattle.job_sheet.specs.Outcomes.{answered_lines, listing_of, not_opened, not_submitted, place_lines, slot_of}
+use Rattle.job_sheet.proofs.Examples.{example}
 
--- slot 0 was opened and has the first three places; the request's id is 1
+-- slot 0 was opened and has the first three places
+told : List Opened
+told = record { answer = 0; slot = Some 0 } ∷ []
+
+-- a request of the job, accepted with id 1 on the slot that its record's opening gave
+accepted : RequestRecord → Submitted
+accepted r = record { slot = unwrap_or (slot_of told r.endpoint) 255; answer = 0; id = Some 1 }
+
 ran : Outcome
 ran =
     record {
-      opened = few_of 8 not_opened (record { answer = 0; slot = Some 0 } ∷ []);
-      submitted = few_of 64 not_submitted (record { slot = 0; answer = 0; id = Some 1 } ∷ []);
+      opened = few_of 8 not_opened told;
+      submitted = few_of 64 not_submitted (map accepted example.requests);
       owner = 1 ∷ 1 ∷ 1 ∷ replicate 253 0;
       pool =
           record { next = 0x00100040; alternate = 0x00100040; token = 0x00080e80; pages = 0x00400000 ∷ 0 ∷ 0 ∷ 0 ∷ 0 ∷ []; upper = zero_slots }
@@ -58,7 +69,7 @@ third =
     32 ∷ 48 ∷ 48 ∷ 48 ∷ 48 ∷ 48 ∷ 48 ∷ 48 ∷ 48 ∷ 32 ∷ 48 ∷ 48 ∷ 48 ∷ 48 ∷ 48 ∷ 48 ∷ 48 ∷ 48 ∷ 10 ∷ []
 
 listed : listing_of ran ≡ opened ++ (taken ++ (first ++ (second ++ third)))
-unfolding answered_lines decimal decimal_up_to descriptor_line endpoint_line filled first hex joined lines_to listing_of number_field opened place_lines ran request_line second taken third word_field
+unfolding accepted answered_lines decimal decimal_up_to descriptor_line endpoint_line example filled first hex joined lines_to listing_of number_field opened place_lines ran request_line second slot_of taken third told word_field
 listed = refl
 
 -- an empty job prints nothing

@@ -8,11 +8,6 @@ use borrow.Author.Tests.{eq-eqb, eqb-true, le-leb, le-ltb, leb-true, lt-leb, lt-
 use lib.Dec.{eqb, leb}
 use lib.ListN.{get_or, length}
 use Rattle.std.specs.Prelude.{Some, None, option_map}
-use Rattle.common.specs.declared.kinds.Direction.{Direction}
-use Rattle.common.specs.declared.kinds.EndpointType.{EndpointType}
-use Rattle.common.specs.declared.kinds.EndpointType.TheVariants.{Control, Isochronous, Bulk, Interrupt}
-use Rattle.common.specs.Kinds as kinds
-use Rattle.pipe.specs.Endpoints.{direction_of, kind_of}
 use Rattle.job_sheet.specs.declared.few.Few.{Few}
 use Rattle.job_sheet.specs.declared.record.EndpointRecord.{EndpointRecord}
 use Rattle.job_sheet.specs.declared.record.RequestRecord.{RequestRecord}
@@ -28,7 +23,7 @@ use Rattle.common.proofs.TestLaws.{both_tells}
 -- ---- a record
 
 module _ (bytes : List ℕ) (at : ℕ) where
-  pub endpoint_is : (k : EndpointType) (packet : ℕ) → get_or bytes at 0 ≤ 3 → get_or bytes (at + 3) 0 ≡ 0 → k ≡ kind_of (get_or bytes at 0)
+  pub endpoint_is : (k packet : ℕ) → get_or bytes at 0 ≤ 3 → get_or bytes (at + 3) 0 ≡ 0 → k ≡ get_or bytes at 0
       → packet ≡ number_at bytes (at + 4) 2
       → Some (record { kind = k; address = get_or bytes (at + 1) 0; number = get_or bytes (at + 2) 0; packet = packet }) ≡ endpoint_record bytes at
   unfolding endpoint_at endpoint_fits
@@ -51,8 +46,8 @@ module _ (bytes : List ℕ) (at : ℕ) where
     unfolding request_fits
     setup_bad z c = rw (← c, ne_eqb (number_at bytes (at + 2) 6) 0 (λ e. z (s ∙ e)), and-false)
 
-    pub request_is : (d : Direction) (buffer size : ℕ) → get_or bytes (at + 1) 0 ≤ 1 → (is_control es (get_or bytes at 0) || eqb setup 0) ≡ true
-        → d ≡ direction_of (get_or bytes (at + 1) 0) → buffer ≡ number_at bytes (at + 8) 8 → size ≡ number_at bytes (at + 16) 4
+    pub request_is : (d buffer size : ℕ) → get_or bytes (at + 1) 0 ≤ 1 → (is_control es (get_or bytes at 0) || eqb setup 0) ≡ true
+        → d ≡ get_or bytes (at + 1) 0 → buffer ≡ number_at bytes (at + 8) 8 → size ≡ number_at bytes (at + 16) 4
         → Some (record { endpoint = get_or bytes at 0; direction = d; setup = setup; buffer = buffer; length = size }) ≡ request_record bytes es at
     unfolding request_at request_fits
     request_is d buffer size h c ed eb el =
@@ -69,20 +64,10 @@ may_set_up control setup e = rw (← e)
 
 -- ---- a control record
 
-not_control : (k : EndpointType) → (k ≡ Control → ⊥) → kinds.is_control k ≡ false
-not_control Control n = absurd (n refl)
-not_control Isochronous n = refl
-not_control Bulk n = refl
-not_control Interrupt n = refl
-
 module _ (es : List EndpointRecord) (k : ℕ) where
-  pub control_there : k < length es → (get_or es k no_endpoint).kind ≡ Control → true ≡ is_control es k
+  pub control_there : k < length es → (e : EndpointRecord) → e ≡ get_or es k no_endpoint → eqb e.kind 0 ≡ is_control es k
   unfolding is_control
-  control_there h e = rw (lt-ltb k (length es) h, e)
-
-  pub control_other : k < length es → ((get_or es k no_endpoint).kind ≡ Control → ⊥) → false ≡ is_control es k
-  unfolding is_control
-  control_other h n = rw (lt-ltb k (length es) h, not_control (get_or es k no_endpoint).kind n)
+  control_there h e q = rw (lt-ltb k (length es) h, q)
 
   pub control_none : length es ≤ k → false ≡ is_control es k
   unfolding is_control

@@ -6,11 +6,7 @@ use Prim.Native.Nat.{ℕ, suc, ◌+◌, ◌≤◌, ◌<◌}
 use native.Mathlib.Numerals.{add-one}
 use native.Mathlib.Omega.{arith}
 use borrow.Author.Tests.{eq-eqb, eqb-true, le-leb, leb-true}
-use lib.Dec.{eqb, leb, lit≤}
-use Rattle.common.specs.declared.kinds.Direction.{Direction}
-use Rattle.common.specs.declared.kinds.Direction.TheVariants.{Out, In}
-use Rattle.common.specs.declared.kinds.EndpointType.{EndpointType}
-use Rattle.common.specs.declared.kinds.EndpointType.TheVariants.{Control, Isochronous, Bulk, Interrupt}
+use lib.Dec.{eqb, leb}
 use lib.ListN.{drop, get_or, length, take}
 use lib.Seq.{drop-cons, drop-drop, get_or-drop, take-add}
 use Rattle.job_sheet.specs.declared.record.EndpointRecord.{EndpointRecord}
@@ -18,8 +14,6 @@ use Rattle.job_sheet.specs.declared.record.RequestRecord.{RequestRecord}
 use Rattle.text.specs.Numbers.{little_endian, number_at}
 use Rattle.job_sheet.specs.Sheets.{GoodEndpoint, GoodRequest, endpoint_bytes, is_control, request_bytes}
 use Rattle.job_sheet.specs.Reading.{endpoint_at, endpoint_fits, request_at, request_fits}
-use Rattle.pipe.specs.Endpoints.{direction_number, direction_of, kind_number, kind_of}
-use Rattle.pipe.proofs.EndpointLaws.{direction_back, direction_there, kind_back, kind_there}
 use Rattle.text.proofs.NumberLaws.{Bytes, number_of_bytes, part_below, part_written}
 use Rattle.common.proofs.TestLaws.{both_tells, both_makes}
 
@@ -47,33 +41,22 @@ request_there : (bytes : List ℕ) (at : ℕ) → request_at bytes at ≡ reques
 unfolding request_at
 request_there bytes at = simp (get_or-drop, drop-drop) (rw (zero_end at))
 
--- the numbers that are written
-kind_most : (k : EndpointType) → kind_number k ≤ 3
-kind_most Control = lit≤ tt
-kind_most Isochronous = lit≤ tt
-kind_most Bulk = lit≤ tt
-kind_most Interrupt = lit≤ tt
-
-direction_most : (d : Direction) → direction_number d ≤ 1
-direction_most Out = lit≤ tt
-direction_most In = lit≤ tt
-
 -- written and read
 endpoint_front : (e : EndpointRecord) (post : List ℕ) → GoodEndpoint e → endpoint_at (endpoint_bytes e ++ post) 0 ≡ e
 unfolding endpoint_at endpoint_bytes little_endian
 endpoint_front e post g =
-    λ i. record { kind = kind_there e.kind i; address = e.address; number = e.number; packet = number_of_bytes 2 e.packet g.packet i }
+    λ i. record { kind = e.kind; address = e.address; number = e.number; packet = number_of_bytes 2 e.packet g.packet i }
 
 endpoint_fits_front : (e : EndpointRecord) (post : List ℕ) → GoodEndpoint e → endpoint_fits (endpoint_bytes e ++ post) 0 ≡ true
 unfolding endpoint_fits endpoint_bytes
-endpoint_fits_front e post g = both_makes (leb (kind_number e.kind) 3) (eqb 0 0) (le-leb (kind_number e.kind) 3 (kind_most e.kind)) refl
+endpoint_fits_front e post g = both_makes (leb e.kind 3) (eqb 0 0) (le-leb e.kind 3 g.kind) refl
 
 request_front : (es : List EndpointRecord) (r : RequestRecord) (post : List ℕ) → GoodRequest es r → request_at (request_bytes r ++ post) 0 ≡ r
 unfolding request_at request_bytes little_endian
 request_front es r post g =
     λ i. record {
       endpoint = r.endpoint;
-      direction = direction_there r.direction i;
+      direction = r.direction;
       setup = number_of_bytes 6 r.setup g.setup i;
       buffer = number_of_bytes 8 r.buffer g.buffer i;
       length = number_of_bytes 4 r.length g.length i;
@@ -106,8 +89,8 @@ request_fits_front : (es : List EndpointRecord) (r : RequestRecord) (post : List
 unfolding request_fits request_bytes little_endian
 request_fits_front es r post g =
     rw (number_of_bytes 6 r.setup g.setup)
-    (both_makes (leb (direction_number r.direction) 1) (is_control es r.endpoint || eqb r.setup 0)
-    (le-leb (direction_number r.direction) 1 (direction_most r.direction)) (either_true (is_control es r.endpoint) r.setup g.no_setup))
+    (both_makes (leb r.direction 1) (is_control es r.endpoint || eqb r.setup 0)
+    (le-leb r.direction 1 g.direction) (either_true (is_control es r.endpoint) r.setup g.no_setup))
 
 pub request_passes : (es : List EndpointRecord) (bytes : List ℕ) (at : ℕ) (r : RequestRecord) (post : List ℕ) → GoodRequest es r
     → drop at bytes ≡ request_bytes r ++ post → request_fits bytes es at ≡ true
@@ -134,25 +117,25 @@ pub endpoint_written : (bytes : List ℕ) (at : ℕ) → Bytes bytes → at + 6 
     → endpoint_bytes (endpoint_at bytes at) ≡ take 6 (drop at bytes)
 unfolding endpoint_fits endpoint_bytes endpoint_at
 endpoint_written bytes at b h f =
-    let t = both_tells (leb (get_or bytes at 0) 3) _ f in
-    let z : get_or bytes (at + 3) 0 ≡ 0 = eqb-true (get_or bytes (at + 3) 0) 0 t.1 in
-    let k : kind_number (kind_of (get_or bytes at 0)) ≡ get_or bytes at 0 = kind_back _ (leb-true _ 3 t.0) in
+    let z : get_or bytes (at + 3) 0 ≡ 0 = eqb-true (get_or bytes (at + 3) 0) 0 (both_tells (leb (get_or bytes at 0) 3) _ f).1 in
     rw (first bytes at 5 (omega arith), next bytes at 1 4 (omega arith), next bytes at 2 3 (omega arith), next bytes at 3 2 (omega arith), z)
-    (λ i. k i ∷ get_or bytes (at + 1) 0 ∷ get_or bytes (at + 2) 0 ∷ 0 ∷ part_written bytes (at + 4) 2 b (omega arith) i)
+    (ap (λ (l : List ℕ). get_or bytes at 0 ∷ get_or bytes (at + 1) 0 ∷ get_or bytes (at + 2) 0 ∷ 0 ∷ l) (part_written bytes (at + 4) 2 b (omega arith)))
 
-pub endpoint_good : (bytes : List ℕ) (at : ℕ) → Bytes bytes → at + 6 ≤ length bytes → GoodEndpoint (endpoint_at bytes at)
-unfolding endpoint_at
-endpoint_good bytes at b h =
-    record { address = b (at + 1); number = b (at + 2); packet = part_below bytes (at + 4) 2 b (omega arith) }
+pub endpoint_good : (bytes : List ℕ) (at : ℕ) → Bytes bytes → at + 6 ≤ length bytes → endpoint_fits bytes at ≡ true → GoodEndpoint (endpoint_at bytes at)
+unfolding endpoint_fits endpoint_at
+endpoint_good bytes at b h f =
+    record {
+      kind = leb-true (get_or bytes at 0) 3 (both_tells (leb (get_or bytes at 0) 3) _ f).0;
+      address = b (at + 1);
+      number = b (at + 2);
+      packet = part_below bytes (at + 4) 2 b (omega arith);
+    }
 
-pub request_written : (bytes : List ℕ) (es : List EndpointRecord) (at : ℕ) → Bytes bytes → at + 20 ≤ length bytes → request_fits bytes es at ≡ true
-    → request_bytes (request_at bytes at) ≡ take 20 (drop at bytes)
-unfolding request_fits request_bytes request_at
-request_written bytes es at b h f =
-    let d : direction_number (direction_of (get_or bytes (at + 1) 0)) ≡ get_or bytes (at + 1) 0 =
-    direction_back _ (leb-true _ 1 (both_tells (leb (get_or bytes (at + 1) 0) 1) _ f).0) in
+pub request_written : (bytes : List ℕ) (at : ℕ) → Bytes bytes → at + 20 ≤ length bytes → request_bytes (request_at bytes at) ≡ take 20 (drop at bytes)
+unfolding request_bytes request_at
+request_written bytes at b h =
     rw (first bytes at 19 (omega arith), next bytes at 1 18 (omega arith), cut bytes at 2 6 12, cut bytes at 8 8 4)
-    (λ i. get_or bytes at 0 ∷ d i ∷ (part_written bytes (at + 2) 6 b (omega arith) i
+    (λ i. get_or bytes at 0 ∷ get_or bytes (at + 1) 0 ∷ (part_written bytes (at + 2) 6 b (omega arith) i
     ++ (part_written bytes (at + 8) 8 b (omega arith) i ++ part_written bytes (at + 16) 4 b (omega arith) i)))
 
 none_else : (control : Bool) (setup : ℕ) → (control || eqb setup 0) ≡ true → control ≡ false → setup ≡ 0
@@ -163,10 +146,12 @@ pub request_good : (bytes : List ℕ) (es : List EndpointRecord) (at : ℕ) → 
     → GoodRequest es (request_at bytes at)
 unfolding request_fits request_at
 request_good bytes es at b h f =
+    let two = both_tells (leb (get_or bytes (at + 1) 0) 1) _ f in
     record {
       endpoint = b at;
+      direction = leb-true (get_or bytes (at + 1) 0) 1 two.0;
       setup = part_below bytes (at + 2) 6 b (omega arith);
       buffer = part_below bytes (at + 8) 8 b (omega arith);
       length = part_below bytes (at + 16) 4 b (omega arith);
-      no_setup = none_else (is_control es (get_or bytes at 0)) (number_at bytes (at + 2) 6) (both_tells (leb (get_or bytes (at + 1) 0) 1) _ f).1;
+      no_setup = none_else (is_control es (get_or bytes at 0)) (number_at bytes (at + 2) 6) two.1;
     }

@@ -55,7 +55,7 @@ module _ (bytes : List ℕ) (b : Bytes bytes) (f : sheet_fits bytes ≡ true) wh
       record {
         opens = rw up_length sized.few;
         submits = rw up_length sized.some;
-        endpoints = up_all GoodEndpoint _ (opens_of bytes) (λ i h. endpoint_good bytes (2 + 6 * i) b (omega (arith, sized.whole, h)));
+        endpoints = up_all GoodEndpoint _ (opens_of bytes) (λ i h. endpoint_good bytes (2 + 6 * i) b (omega (arith, sized.whole, h)) (endpoint_fits_at i h));
         requests =
             up_all (GoodRequest (endpoints_in bytes (opens_of bytes))) _ (submits_of bytes)
             (λ i h. request_good bytes (endpoints_in bytes (opens_of bytes)) (4 + 6 * opens_of bytes + 20 * i) b (omega (arith, sized.whole, h)) (request_fits_at i h));
@@ -75,7 +75,7 @@ module _ (bytes : List ℕ) (b : Bytes bytes) (f : sheet_fits bytes ≡ true) wh
       let es : joined endpoint_bytes (endpoints_in bytes n) ≡ take (6 * n) (drop 2 bytes) =
       table_written endpoint_bytes 6 2 bytes _ n (λ i h. endpoint_written bytes (2 + 6 * i) b (omega (arith, w, h)) (endpoint_fits_at i h)) in
       let rs : joined request_bytes (requests_in bytes n m) ≡ drop (4 + 6 * n) bytes =
-      table_written request_bytes 20 (4 + 6 * n) bytes _ m (λ i h. request_written bytes (endpoints_in bytes n) (4 + 6 * n + 20 * i) b (omega (arith, w, h)) (request_fits_at i h))
+      table_written request_bytes 20 (4 + 6 * n) bytes _ m (λ i h. request_written bytes (4 + 6 * n + 20 * i) b (omega (arith, w, h)))
       ∙ take_all (20 * m) (drop (4 + 6 * n) bytes) rest in
       let four : 4 + 6 * n ≡ 2 + 6 * n + 2 = omega arith in
       rw (up_length, up_length, es, rs, part_written bytes 0 2 b (omega (arith, w)), part_written bytes (2 + 6 * n) 2 b (omega (arith, w)), four, glue (2 + 6 * n) 2, glue 2 (6 * n))

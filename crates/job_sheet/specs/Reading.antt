@@ -1,6 +1,5 @@
 -- Document 01, the job sheet: the job of a sheet's bytes, each field by its place, and whether the sheet is good.
 use Rattle.std.specs.Prelude.{ℕ, zero, suc, ◌+◌, ◌*◌, Bool, true, ◌&&◌, ◌||◌, cond, Option, Some, None, List, [], ◌∷◌, ◌++◌, eqb, leb, get_or, length}
-use Rattle.pipe.specs.Endpoints.{direction_of, kind_of}
 use Rattle.job_sheet.specs.declared.record.EndpointRecord.{EndpointRecord}
 use Rattle.job_sheet.specs.declared.record.RequestRecord.{RequestRecord}
 use Rattle.job_sheet.specs.declared.sheet.Counts.{Counts}
@@ -16,7 +15,7 @@ if_good good x = cond good (Some x) None
 unfoldable pub endpoint_at : List ℕ → ℕ → EndpointRecord
 endpoint_at bytes at =
     record {
-      kind = kind_of (get_or bytes at 0);
+      kind = get_or bytes at 0;
       address = get_or bytes (at + 1) 0;
       number = get_or bytes (at + 2) 0;
       packet = number_at bytes (at + 4) 2;
@@ -33,7 +32,7 @@ unfoldable pub request_at : List ℕ → ℕ → RequestRecord
 request_at bytes at =
     record {
       endpoint = get_or bytes at 0;
-      direction = direction_of (get_or bytes (at + 1) 0);
+      direction = get_or bytes (at + 1) 0;
       setup = number_at bytes (at + 2) 6;
       buffer = number_at bytes (at + 8) 8;
       length = number_at bytes (at + 16) 4;

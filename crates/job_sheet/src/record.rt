@@ -3,13 +3,13 @@ ghost use Rattle.std.specs.Prelude.{◌≡◌, ◌+◌, ◌≤◌, length};
 ghost use Rattle.job_sheet.specs.Reading.{endpoint_at, endpoint_record, is_control, request_at, request_record};
 ghost use Rattle.job_sheet.specs.Sheets.{no_endpoint, no_request};
 
-use common::kinds::{Direction, EndpointType, KIND_MAX};
-use pipe::endpoints::{direction_of, kind_of};
+use common::kinds::KIND_MAX;
 use text::number::{number16, number32, number48, number64};
 
+// The kind is a number, as in the bytes: a record is read whatever they are.
 #[derive(Clone, Copy)]
 pub struct EndpointRecord {
-    pub kind: EndpointType,
+    pub kind: u8,
     pub address: u8,
     pub number: u8,
     pub packet: u16,
@@ -21,7 +21,7 @@ impl Default for EndpointRecord {
 
     fn default() -> EndpointRecord {
         EndpointRecord {
-            kind: EndpointType::Control,
+            kind: 0,
             address: 0,
             number: 0,
             packet: 0,
@@ -29,11 +29,11 @@ impl Default for EndpointRecord {
     }
 }
 
-// The six setup bytes are one number, byte 0 lowest.
+// The direction is a number too. The six setup bytes are one number, byte 0 lowest.
 #[derive(Clone, Copy)]
 pub struct RequestRecord {
     pub endpoint: u8,
-    pub direction: Direction,
+    pub direction: u8,
     pub setup: u64,
     pub buffer: u64,
     pub length: u32,
@@ -45,7 +45,7 @@ impl Default for RequestRecord {
     fn default() -> RequestRecord {
         RequestRecord {
             endpoint: 0,
-            direction: Direction::Out,
+            direction: 0,
             setup: 0,
             buffer: 0,
             length: 0,
@@ -53,13 +53,12 @@ impl Default for RequestRecord {
     }
 }
 
-// Whatever the bytes are: a kind above the last is that.
 pub fn endpoint_at(bytes: &[u8], at: usize) -> EndpointRecord
     requires { at + 6 ≤ length bytes.now }
     ensures { result ≡ endpoint_at bytes.now at }
 {
     EndpointRecord {
-        kind: kind_of(bytes[at]),
+        kind: bytes[at],
         address: bytes[at + 1],
         number: bytes[at + 2],
         packet: number16(bytes, at + 4),
@@ -84,19 +83,18 @@ pub fn is_control(endpoints: &[EndpointRecord], k: u8) -> bool
     ensures { result ≡ is_control endpoints.now k }
 {
     match endpoints.get(k as usize) {
-        Some(e) => matches!(e.kind, EndpointType::Control),
+        Some(e) => e.kind == 0,
         None => false,
     }
 }
 
-// Whatever the bytes are: a direction above 1 is In.
 pub fn request_at(bytes: &[u8], at: usize) -> RequestRecord
     requires { at + 20 ≤ length bytes.now }
     ensures { result ≡ request_at bytes.now at }
 {
     RequestRecord {
         endpoint: bytes[at],
-        direction: direction_of(bytes[at + 1]),
+        direction: bytes[at + 1],
         setup: number48(bytes, at + 2),
         buffer: number64(bytes, at + 8),
         length: number32(bytes, at + 16),

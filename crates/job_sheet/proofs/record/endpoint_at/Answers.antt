@@ -3,4 +3,4 @@ use Rattle.job_sheet.proofs.record.endpoint_at.Goals as goal
 
 pub returns : goal.returns
 unfolding endpoint_at
-returns c = rw (c.kind_of.ensures, c.number16.ensures)
+returns c = rw c.number16.ensures
