@@ -1,6 +1,7 @@
 -- A record that is written is read as what was written, and nothing else is read as it.
-use Rattle.std.specs.Prelude.{◌≡◌, ℕ, zero, suc, ◌%◌, ◌^◌, ◌<◌, ◌≤◌, Bool, true, false, cond, ◌&&◌, eqb, ltb, leb, List, [], ◌∷◌, length, get_or, slice_index, Option, Some, None}
+use Rattle.std.specs.Prelude.{◌≡◌, ℕ, zero, suc, ◌%◌, ◌^◌, ◌<◌, ◌≤◌, Bool, true, false, cond, ◌&&◌, eqb, ltb, leb, List, [], ◌∷◌, length, get_or, min, slice_index, Option, Some, None}
 use Rattle.std.specs.List.{list_all}
+use Rattle.std.proofs.Math.Nat.{min-le_left, min-le_right}
 use mathlib.Core.Path.{refl, sym, ap, ◌∙◌}
 use native.Mathlib.Nat.{mod-eq_of_lt}
 use native.Mathlib.Omega.{arith}
@@ -14,7 +15,7 @@ use Rattle.common.specs.declared.kinds.Direction.{Direction}
 use Rattle.common.specs.declared.kinds.Direction.TheVariants as D
 use Rattle.pipe.proofs.EndpointLaws.{direction_back, direction_there, flag_back, flag_there, kind_back, kind_there}
 use Rattle.common.proofs.TestLaws.{both_first, both_second, both_tells}
-use Rattle.call_log.specs.Fields.{bytes_of, fields_of, zero_after}
+use Rattle.call_log.specs.Fields.{bytes_of, bytes_spare, fields_of, zero_after}
 use Rattle.call_log.specs.Records.{row, call_fields, fields_for, record_of, guarded, spare, is_word, plain, settings_of, open_entry, bring_up_step, open_endpoint, close, set_address, set_packet_size, submit, writeback, cancel, collect, acknowledge, drain, scan_step, port_power, clear_halt, judged_as, entry_from, entry_of, OwnCall, Own, Representable}
 use Rattle.call_log.specs.declared.fields.Fields.{Fields}
 use Rattle.call_log.specs.declared.record.Entry.{Entry}
@@ -39,46 +40,46 @@ zero_at (suc used) (x ∷ l) (suc k) t h = zero_at used l k t (omega (arith, h))
 -- of a Fields whose spare parameters are 0, those after the first so many
 module _ (f : Fields) (bytes numbers : ℕ) (t : spare f bytes numbers ≡ true) where
   spare_b1 : bytes < 1 → 0 ≡ slice_index f.bytes 0
-  spare_b1 h = zero_at bytes f.bytes 0 (both_first (zero_after bytes f.bytes) (zero_after numbers f.numbers) t) (omega (arith, h))
+  spare_b1 h = zero_at (min bytes 3) f.bytes 0 (both_first (bytes_spare f bytes) (zero_after numbers f.numbers) t) (omega (arith, h, min-le_left bytes 3))
 
   spare_b2 : bytes < 2 → 0 ≡ slice_index f.bytes 1
-  spare_b2 h = zero_at bytes f.bytes 1 (both_first (zero_after bytes f.bytes) (zero_after numbers f.numbers) t) (omega (arith, h))
+  spare_b2 h = zero_at (min bytes 3) f.bytes 1 (both_first (bytes_spare f bytes) (zero_after numbers f.numbers) t) (omega (arith, h, min-le_left bytes 3))
 
   spare_b3 : bytes < 3 → 0 ≡ slice_index f.bytes 2
-  spare_b3 h = zero_at bytes f.bytes 2 (both_first (zero_after bytes f.bytes) (zero_after numbers f.numbers) t) (omega (arith, h))
+  spare_b3 h = zero_at (min bytes 3) f.bytes 2 (both_first (bytes_spare f bytes) (zero_after numbers f.numbers) t) (omega (arith, h, min-le_left bytes 3))
 
   spare_b4 : bytes < 4 → 0 ≡ slice_index f.bytes 3
-  spare_b4 h = zero_at bytes f.bytes 3 (both_first (zero_after bytes f.bytes) (zero_after numbers f.numbers) t) (omega (arith, h))
+  spare_b4 h = zero_at (min bytes 3) f.bytes 3 (both_first (bytes_spare f bytes) (zero_after numbers f.numbers) t) (omega (arith, h, min-le_right bytes 3))
 
   spare_b5 : bytes < 5 → 0 ≡ slice_index f.bytes 4
-  spare_b5 h = zero_at bytes f.bytes 4 (both_first (zero_after bytes f.bytes) (zero_after numbers f.numbers) t) (omega (arith, h))
+  spare_b5 h = zero_at (min bytes 3) f.bytes 4 (both_first (bytes_spare f bytes) (zero_after numbers f.numbers) t) (omega (arith, h, min-le_right bytes 3))
 
   spare_b6 : bytes < 6 → 0 ≡ slice_index f.bytes 5
-  spare_b6 h = zero_at bytes f.bytes 5 (both_first (zero_after bytes f.bytes) (zero_after numbers f.numbers) t) (omega (arith, h))
+  spare_b6 h = zero_at (min bytes 3) f.bytes 5 (both_first (bytes_spare f bytes) (zero_after numbers f.numbers) t) (omega (arith, h, min-le_right bytes 3))
 
   spare_b7 : bytes < 7 → 0 ≡ slice_index f.bytes 6
-  spare_b7 h = zero_at bytes f.bytes 6 (both_first (zero_after bytes f.bytes) (zero_after numbers f.numbers) t) (omega (arith, h))
+  spare_b7 h = zero_at (min bytes 3) f.bytes 6 (both_first (bytes_spare f bytes) (zero_after numbers f.numbers) t) (omega (arith, h, min-le_right bytes 3))
 
   spare_n1 : numbers < 1 → 0 ≡ slice_index f.numbers 0
-  spare_n1 h = zero_at numbers f.numbers 0 (both_second (zero_after bytes f.bytes) (zero_after numbers f.numbers) t) (omega (arith, h))
+  spare_n1 h = zero_at numbers f.numbers 0 (both_second (bytes_spare f bytes) (zero_after numbers f.numbers) t) (omega (arith, h))
 
   spare_n2 : numbers < 2 → 0 ≡ slice_index f.numbers 1
-  spare_n2 h = zero_at numbers f.numbers 1 (both_second (zero_after bytes f.bytes) (zero_after numbers f.numbers) t) (omega (arith, h))
+  spare_n2 h = zero_at numbers f.numbers 1 (both_second (bytes_spare f bytes) (zero_after numbers f.numbers) t) (omega (arith, h))
 
   spare_n3 : numbers < 3 → 0 ≡ slice_index f.numbers 2
-  spare_n3 h = zero_at numbers f.numbers 2 (both_second (zero_after bytes f.bytes) (zero_after numbers f.numbers) t) (omega (arith, h))
+  spare_n3 h = zero_at numbers f.numbers 2 (both_second (bytes_spare f bytes) (zero_after numbers f.numbers) t) (omega (arith, h))
 
   spare_n4 : numbers < 4 → 0 ≡ slice_index f.numbers 3
-  spare_n4 h = zero_at numbers f.numbers 3 (both_second (zero_after bytes f.bytes) (zero_after numbers f.numbers) t) (omega (arith, h))
+  spare_n4 h = zero_at numbers f.numbers 3 (both_second (bytes_spare f bytes) (zero_after numbers f.numbers) t) (omega (arith, h))
 
   spare_n5 : numbers < 5 → 0 ≡ slice_index f.numbers 4
-  spare_n5 h = zero_at numbers f.numbers 4 (both_second (zero_after bytes f.bytes) (zero_after numbers f.numbers) t) (omega (arith, h))
+  spare_n5 h = zero_at numbers f.numbers 4 (both_second (bytes_spare f bytes) (zero_after numbers f.numbers) t) (omega (arith, h))
 
   spare_n6 : numbers < 6 → 0 ≡ slice_index f.numbers 5
-  spare_n6 h = zero_at numbers f.numbers 5 (both_second (zero_after bytes f.bytes) (zero_after numbers f.numbers) t) (omega (arith, h))
+  spare_n6 h = zero_at numbers f.numbers 5 (both_second (bytes_spare f bytes) (zero_after numbers f.numbers) t) (omega (arith, h))
 
   spare_n7 : numbers < 7 → 0 ≡ slice_index f.numbers 6
-  spare_n7 h = zero_at numbers f.numbers 6 (both_second (zero_after bytes f.bytes) (zero_after numbers f.numbers) t) (omega (arith, h))
+  spare_n7 h = zero_at numbers f.numbers 6 (both_second (bytes_spare f bytes) (zero_after numbers f.numbers) t) (omega (arith, h))
 
   -- a row: three small parameters and four numbers
   row_is : Whole f → (n b1 b2 b3 n1 n2 n3 n4 : ℕ) → bytes ≤ 3 → numbers ≤ 4 → f.number ≡ n → b1 ≡ (slice_index f.bytes 0) → b2 ≡ (slice_index f.bytes 1) → b3 ≡ (slice_index f.bytes 2)

@@ -1,5 +1,5 @@
 -- A record: 64 bytes, byte 0 the call's number, bytes 1 to 7 small parameters, then seven 64-bit little-endian numbers.
-use Rattle.std.specs.Prelude.{ℕ, Bool, List, [], ◌∷◌, ◌++◌, ◌==◌, drop, slice_index}
+use Rattle.std.specs.Prelude.{ℕ, Bool, List, [], ◌∷◌, ◌++◌, ◌==◌, drop, min, slice_index}
 use Rattle.std.specs.List.{list_all}
 use Rattle.text.specs.Numbers.{little_endian, number_at}
 use Rattle.call_log.specs.declared.fields.Fields.{Fields}
@@ -25,3 +25,7 @@ fields_of bs =
 -- parameters after the first so many are 0: a call uses those
 unfoldable pub zero_after : ℕ → List ℕ → Bool
 zero_after used parameters = list_all (λ x. x == 0) (drop used parameters)
+
+-- small parameters after the first so many are 0: no call uses more than three
+abbrev pub bytes_spare : Fields → ℕ → Bool
+bytes_spare f used = zero_after (min used 3) f.bytes

@@ -5,7 +5,7 @@ use Rattle.ehci.specs.declared.call.Call.{Call}
 use Rattle.ehci.specs.declared.call.Call.TheVariants as C
 use Rattle.pipe.specs.Endpoints.{direction_number, direction_of, flag_number, flag_of, kind_number, kind_of}
 use Rattle.settings.specs.declared.settings.Settings.{Settings}
-use Rattle.call_log.specs.Fields.{bytes_of, fields_of, zero_after}
+use Rattle.call_log.specs.Fields.{bytes_of, bytes_spare, fields_of, zero_after}
 use Rattle.call_log.specs.declared.fields.Fields.{Fields}
 use Rattle.call_log.specs.declared.record.Entry.{Entry}
 use Rattle.call_log.specs.declared.record.Entry.TheVariants.{Open, Call as ACall, StartScan, ScanStep, PortPower}
@@ -62,7 +62,7 @@ guarded true x = Some x
 guarded false x = None
 
 abbrev pub spare : Fields → ℕ → ℕ → Bool
-spare f bytes numbers = zero_after bytes f.bytes && zero_after numbers f.numbers
+spare f bytes numbers = bytes_spare f bytes && zero_after numbers f.numbers
 
 abbrev pub is_word : ℕ → Bool
 is_word n = nat_lt n (2 ^ 32)

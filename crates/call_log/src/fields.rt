@@ -1,7 +1,7 @@
 // The numbers of a record: the call's, seven small parameters, and seven of 64 bits, the lowest byte first.
 ghost use Rattle.std.specs.Prelude.{◌≡◌, ◌&&◌, drop, length};
 ghost use Rattle.std.specs.List.{list_all};
-ghost use Rattle.call_log.specs.Fields.{fields_of, zero_after};
+ghost use Rattle.call_log.specs.Fields.{bytes_spare, fields_of, zero_after};
 
 use text::number::number64;
 
@@ -44,9 +44,10 @@ fn all_after<T: PartialEq + Copy>(row: &[T], used: usize, zero: T) -> bool
 }
 
 // What a call does not use is 0: it uses the first so many of the small parameters and of the numbers.
+// No call uses more than three of the small parameters, whatever is asked.
 #[tactic(auto, unfolding(crate::specs::Fields::zero_after))]
 pub fn spare(f: Fields, bytes: u8, numbers: u8) -> bool
-    ensures { result ≡ (zero_after bytes f.bytes && zero_after numbers f.numbers) }
+    ensures { result ≡ (bytes_spare f bytes && zero_after numbers f.numbers) }
 {
-    all_after(&f.bytes, bytes as usize, 0) & all_after(&f.numbers, numbers as usize, 0)
+    all_after(&f.bytes, bytes.min(3) as usize, 0) & all_after(&f.numbers, numbers as usize, 0)
 }

@@ -9,6 +9,7 @@ mod tokens;
 
 use crate::heads::head_line;
 use crate::tokens::token_line;
+use turns::left::after_turn;
 
 const STDIN: i32 = 0;
 
@@ -48,15 +49,25 @@ fn next_record() -> Option<Record> {
     })
 }
 
+// Whether there was one more record.
+fn turn() -> bool {
+    let Some(record) = next_record() else {
+        return false;
+    };
+    out::put(record.function);
+    if record.function < 10 || record.function == 20 {
+        token_line(record);
+    } else {
+        head_line(record);
+    }
+    io::write_all(out::STDOUT, b"\n");
+    true
+}
+
 fn main() {
-    for _ in 0..u64::MAX {
-        let Some(record) = next_record() else { break };
-        out::put(record.function);
-        if record.function < 10 || record.function == 20 {
-            token_line(record);
-        } else {
-            head_line(record);
-        }
-        io::write_all(out::STDOUT, b"\n");
+    let mut left: u64 = u64::MAX;
+    while left > 0 {
+        let more = turn();
+        left = after_turn(left, more);
     }
 }

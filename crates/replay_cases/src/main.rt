@@ -7,6 +7,7 @@ ghost use Rattle.std.specs.Prelude.{◌≤◌};
 
 use replayer::keeper::{Keeper, fresh_keeper};
 use replayer::turn::turn;
+use turns::left::after_turn;
 
 const STDIN: i32 = 0;
 
@@ -65,10 +66,12 @@ fn next(log: Option<Log>, said: u8) -> Option<Log> {
 
 fn main() {
     let mut log = Some(fresh_log());
-    for _ in 0..u64::MAX {
-        let Some(said) = next_byte() else {
-            return;
-        };
-        log = next(log, said);
+    let mut left: u64 = u64::MAX;
+    while left > 0 {
+        let byte = next_byte();
+        if let Some(said) = byte {
+            log = next(log, said);
+        }
+        left = after_turn(left, byte.is_some());
     }
 }

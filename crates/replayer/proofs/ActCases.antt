@@ -1,5 +1,5 @@
 -- The returns of what a record does.
-use Rattle.std.specs.Prelude.{Err, None, Ok}
+use Rattle.std.specs.Prelude.{Err, None, Ok, Option}
 use Prim.Native.Nat.{ℕ}
 use mathlib.Core.Bool.{Bool, true, false}
 use mathlib.Core.Path.{◌≡◌, sym, ap, ◌∙◌}
@@ -26,7 +26,7 @@ use Rattle.store.specs.Words.{called_view, opened_view, store_view}
 use Rattle.store.specs.declared.store.Called.{Called}
 use Rattle.store.specs.declared.store.OpenedStore.{OpenedStore}
 use Rattle.replayer.specs.Plain as plain-keeper
-use Rattle.replayer.specs.Replays.{Effect, act_of, call_effect, fresh_keeper, open_effect, power_effect, scan_effect}
+use Rattle.replayer.specs.Replays.{Effect, act_of, call_effect, fresh_keeper, no_effect, open_effect, power_effect, scan_effect}
 use Rattle.replayer.specs.Words.{keeper_view}
 use Rattle.replayer.specs.declared.kept.Keeper.{Keeper}
 
@@ -59,6 +59,10 @@ module _ (k : Keeper) (n number : ℕ) (line : Line) (w : Writes) where
     pub open_refused : (refusal : Refusal) → o.answer ≡ Err refusal → line_bytes line ≡ answered_line n number (Err refusal)
         → done (keeper_view k) false ≡ open_effect (keeper_view k) n number (open_store (store_view k.store) s)
     open_refused refusal a l = refused_view refusal a l ∙ ap (open_effect (keeper_view k) n number) opened
+
+  pub nothing_done : line_bytes line ≡ answered_line n number (Ok R.Pending) → w ≡ no_writes → done (keeper_view k) false ≡ no_effect (keeper_view k) n number
+  unfolding no_effect
+  nothing_done l none = rw (l, none)
 
 module _ (k : Keeper) (n number : ℕ) (line : Line) where
   module _ (call : Call) (c : Called) (called : called_view c ≡ call_store (store_view k.store) call) (l : line_bytes line ≡ answered_line n number c.answer) where
@@ -96,11 +100,11 @@ module _ (k : Keeper) (n number : ℕ) (line : Line) where
   unfolding power_effect
   power_done port reading p e l = rw (← e, l)
 
-module _ (k : Keeper) (n number : ℕ) (entry : Entry) (r : Effect) where
-  pub act_as : (e : Entry) → entry ≡ e → r ≡ act_of (keeper_view k) n number e → r ≡ act_of (keeper_view k) n number entry
+module _ (k : Keeper) (n number : ℕ) (entry : Option Entry) (r : Effect) where
+  pub act_as : (e : Option Entry) → entry ≡ e → r ≡ act_of (keeper_view k) n number e → r ≡ act_of (keeper_view k) n number entry
   act_as e f g = rw f g
 
   -- where what was done is told by a scan of its own
-  pub scanned_as : (e : Entry) (s t : Scanned) → entry ≡ e → act_of (keeper_view k) n number e ≡ scan_effect (keeper_view k) n number t → s ≡ t
+  pub scanned_as : (e : Option Entry) (s t : Scanned) → entry ≡ e → act_of (keeper_view k) n number e ≡ scan_effect (keeper_view k) n number t → s ≡ t
       → r ≡ scan_effect (keeper_view k) n number s → r ≡ act_of (keeper_view k) n number entry
   scanned_as e s t f a q g = rw f (g ∙ ap (scan_effect (keeper_view k) n number) q ∙ sym a)

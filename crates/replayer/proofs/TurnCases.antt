@@ -64,10 +64,10 @@ module _ (k : Keeper) (n : ℕ) (bytes : List ℕ) (o p : List ℕ) (r : ℕ) wh
   turn_bad e s = rw e (s.0, (rw s.1.0, s.1.1))
 
   pub turn_good : (entry : Entry) (number : ℕ) (a : Acted) → entry_of bytes ≡ Some entry → number ≡ get_or bytes 0 0
-      → effect_of a ≡ act_of (keeper_view k) n number entry → Said o p r (shown_of (keeper_view k) (effect_of a))
+      → effect_of a ≡ act_of (keeper_view k) n number (Some entry) → Said o p r (shown_of (keeper_view k) (effect_of a))
       → (p ≡ put_at o 0 (said_of (keeper_view k) n bytes))
       × ((turned_view (record { keeper = Some a.keeper; end = r }) ≡ turned_of (keeper_view k) n bytes) × (r ≤ length p))
-  unfolding said_of turned_of
+  unfolding said_of turned_of shown_of
   turn_good entry number a e first does s = rw (e, ← first, ← does) (s.0, (rw s.1.0, s.1.1))
 
 pub first_is : (bytes : List ℕ) → unwrap_or (slice_get bytes 0) 0 ≡ get_or bytes 0 0

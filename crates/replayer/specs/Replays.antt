@@ -82,13 +82,18 @@ unfoldable pub power_effect : Keeper → ℕ → ℕ → PortPower → Effect
 power_effect k n number p =
     record { keeper = k; first = scan_line n number p.answer None p.wait None; opening = false; writes = p.writes }
 
--- the record's number, the call's number, the call
-abbrev pub act_of : Keeper → ℕ → ℕ → Entry → Effect
-act_of k n number (E.Open settings) = open_effect k n number (open_store k.store settings)
-act_of k n number (E.Call call) = call_effect k n number (call_store k.store call)
-act_of k n number E.StartScan = scan_effect k n number (start_of k.hub)
-act_of k n number (E.ScanStep reading) = scan_effect k n number (step_of k.hub reading)
-act_of k n number (E.PortPower port reading) = power_effect k n number (power_of k.hub port reading)
+-- a bad record does nothing; no block is shown of it
+unfoldable pub no_effect : Keeper → ℕ → ℕ → Effect
+no_effect k n number = record { keeper = k; first = answered_line n number (Ok R.Pending); opening = false; writes = no_writes }
+
+-- the record's number, the call's number, the call; a bad record has none
+abbrev pub act_of : Keeper → ℕ → ℕ → Option Entry → Effect
+act_of k n number (Some (E.Open settings)) = open_effect k n number (open_store k.store settings)
+act_of k n number (Some (E.Call call)) = call_effect k n number (call_store k.store call)
+act_of k n number (Some E.StartScan) = scan_effect k n number (start_of k.hub)
+act_of k n number (Some (E.ScanStep reading)) = scan_effect k n number (step_of k.hub reading)
+act_of k n number (Some (E.PortPower port reading)) = power_effect k n number (power_of k.hub port reading)
+act_of k n number None = no_effect k n number
 
 -- the block: the rows are held against those before the call
 unfoldable pub shown_of : Keeper → Effect → List ℕ
@@ -102,7 +107,7 @@ bad_line n = 98 ∷ 97 ∷ 100 ∷ 32 ∷ 114 ∷ 101 ∷ 99 ∷ 111 ∷ 114 ∷
 -- what is said of an entry with a call's number: its block, or that it is bad
 abbrev pub said_as : Keeper → ℕ → ℕ → Option Entry → List ℕ
 said_as k n number None = bad_line n
-said_as k n number (Some entry) = shown_of k (act_of k n number entry)
+said_as k n number (Some entry) = shown_of k (act_of k n number (Some entry))
 
 -- what is said of record n, by its bytes
 unfoldable pub said_of : Keeper → ℕ → List ℕ → List ℕ
@@ -111,7 +116,7 @@ said_of k n bytes = said_as k n (get_or bytes 0 0) (entry_of bytes)
 -- a bad record does nothing, and the log ends at it
 abbrev pub kept_as : Keeper → ℕ → ℕ → Option Entry → Option Keeper
 kept_as k n number None = None
-kept_as k n number (Some entry) = Some (act_of k n number entry).keeper
+kept_as k n number (Some entry) = Some (act_of k n number (Some entry)).keeper
 
 unfoldable pub turned_of : Keeper → ℕ → List ℕ → Turned
 turned_of k n bytes =

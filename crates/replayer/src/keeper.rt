@@ -4,6 +4,7 @@ ghost use Rattle.replayer.specs.Replays.{
   act_of,
   call_effect,
   fresh_keeper,
+  no_effect,
   open_effect,
   power_effect,
   scan_effect,
@@ -116,9 +117,24 @@ fn act_power(k: Keeper, n: u64, number: u8, port: u8, reading: u32) -> Acted
     }
 }
 
-pub fn act(k: Keeper, n: u64, number: u8, entry: Entry) -> Acted
+fn act_nothing(k: Keeper, n: u64, number: u8) -> Acted
+    ensures { effect_of result ≡ no_effect (keeper_view k) n number }
+{
+    Acted {
+        keeper: k,
+        line: call_line(n, number, Ok(Answered::Pending)),
+        opening: false,
+        writes: Writes::none(),
+    }
+}
+
+// None is a bad record, which does nothing: the log ends at it.
+pub fn act(k: Keeper, n: u64, number: u8, entry: Option<Entry>) -> Acted
     ensures { effect_of result ≡ act_of (keeper_view k) n number entry }
 {
+    let Some(entry) = entry else {
+        return act_nothing(k, n, number);
+    };
     match entry {
         Entry::Open(settings) => act_open(k, n, number, settings),
         Entry::Call(call) => act_call(k, n, number, call),

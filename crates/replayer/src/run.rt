@@ -1,6 +1,7 @@
 // A log from standard input, and what each record did to standard output.
 use crate::keeper::{Keeper, fresh_keeper};
 use crate::turn::turn;
+use turns::left::after_turn;
 
 const STDIN: i32 = 0;
 
@@ -21,10 +22,12 @@ fn next_record(k: Keeper, n: u64) -> Option<Keeper> {
 
 pub fn replay() {
     let mut keeper = fresh_keeper();
-    for n in 0..u64::MAX {
-        let Some(next) = next_record(keeper, n) else {
-            return;
-        };
-        keeper = next;
+    let mut left: u64 = u64::MAX;
+    while left > 0 {
+        let next = next_record(keeper, u64::MAX - left);
+        if let Some(kept) = next {
+            keeper = kept;
+        }
+        left = after_turn(left, next.is_some());
     }
 }

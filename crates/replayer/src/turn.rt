@@ -79,7 +79,7 @@ pub fn turn(out: &mut [u8], k: Keeper, n: u64, bytes: &[u8]) -> Turned
         return Turned { keeper: None, end };
     };
     let number = bytes.first().copied().unwrap_or(0);
-    let acted = act(k, n, number, entry);
+    let acted = act(k, n, number, Some(entry));
     let end = put_shown(out, &k, acted);
     Turned {
         keeper: Some(acted.keeper),

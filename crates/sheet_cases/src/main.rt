@@ -7,6 +7,7 @@ ghost use Rattle.std.specs.Prelude.{◌≤◌};
 
 use job_run::print::print_sheet;
 use text::number::number16;
+use turns::left::after_turn;
 
 const STDIN: i32 = 0;
 
@@ -45,11 +46,10 @@ fn turn() -> bool {
     true
 }
 
-// No input has more turns.
 fn main() {
-    for _ in 0..u64::MAX {
-        if !turn() {
-            break;
-        }
+    let mut left: u64 = u64::MAX;
+    while left > 0 {
+        let more = turn();
+        left = after_turn(left, more);
     }
 }

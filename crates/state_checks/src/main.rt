@@ -17,6 +17,7 @@ use crate::show::show;
 use crate::trial::show_tried;
 use call_log::fields::decode;
 use call_log::record::read_record;
+use turns::left::after_turn;
 
 const STDIN: i32 = 0;
 
@@ -39,11 +40,13 @@ fn turn(kept: &mut Kept, n: u64, record: &[u8; 64]) {
 
 fn main() {
     let mut kept = Kept::blank();
-    for n in 0..u64::MAX {
+    let mut left: u64 = u64::MAX;
+    while left > 0 {
         let mut record = [0u8; 64];
-        if io::read_full(STDIN, &mut record) != 64 {
-            return;
+        let more = io::read_full(STDIN, &mut record) == 64;
+        if more {
+            turn(&mut kept, u64::MAX - left, &record);
         }
-        turn(&mut kept, n, &record);
+        left = after_turn(left, more);
     }
 }
