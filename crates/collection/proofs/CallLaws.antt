@@ -1,5 +1,5 @@
 -- A refusal changes nothing; the rows of a collect; the writes of both calls; collect while the request is linked.
-use Rattle.std.specs.Prelude.{◌≡◌, ℕ, ◌+◌, ◌*◌, ◌<◌, ◌≤◌, Bool, true, false, eqb, ◌≢◌, ◌⊎◌, List, length, Err, Ok, Result, ⊤}
+use Rattle.std.specs.Prelude.{◌≡◌, ℕ, ◌+◌, ◌*◌, ◌<◌, ◌≤◌, Bool, true, false, cond, eqb, ◌≢◌, ◌⊎◌, List, length, Err, Ok, Result, ⊤}
 use mathlib.Core.Path.{refl, sym, ap, ◌∙◌}
 use mathlib.Core.Logic.{inl, inr}
 use native.Mathlib.Omega.{arith}
@@ -9,6 +9,8 @@ use Rattle.common.specs.declared.kinds.EndpointType.{EndpointType}
 use Rattle.common.specs.declared.kinds.EndpointType.TheVariants.{Control, Isochronous, Bulk, Interrupt}
 use Rattle.pool.specs.declared.chain.Standing.TheVariants.{Active}
 use Rattle.pool.specs.declared.chain.View.{View}
+use Rattle.pool.specs.Chains.{standing_numbered}
+use Rattle.pool.proofs.StandingLaws.{numbered_active, numbered_other, numbered_stands}
 use Rattle.common.proofs.TestLaws.{false_true}
 use Rattle.state.specs.Plain.{Ehci}
 use Rattle.pipe.specs.Endpoints.{endpoint_at}
@@ -28,7 +30,7 @@ use Rattle.schedule.specs.declared.bell.Bell.{Bell}
 use Rattle.collection.specs.declared.collected.Collected.TheVariants.{Complete, Pending, Cancelled, Failed}
 use Rattle.collection.specs.Answers.{outcome_of, pending_collect, refused_cancel, refused_collect}
 use Rattle.collection.specs.Unlinks.{Left, bounded_of, left, unlink_of, waiting_of}
-use Rattle.collection.specs.Calls.{Gathered, cancel_of, collect_of, finish_of, gathered, marked, pending_left}
+use Rattle.collection.specs.Calls.{Gathered, cancel_of, collect_of, finish_of, gathered, linked_of, marked, pending_left}
 use Rattle.collection.proofs.CallCases.{collect_looks, linked_unlinks, linked_waits}
 use Rattle.collection.proofs.CollectLaws.{ended_length, ended_others}
 use Rattle.collection.proofs.Splits.{cancel_split, collect_split, unlink_split}
@@ -175,6 +177,12 @@ module _ (s : Ehci) (pool : ℕ) (h f : List ℕ) (setups : ℕ) (rd : Readings)
 
 -- ---- boundary not set
 
+-- where a number says how the descriptors stand, 2 alone leaves the request linked
+pub linked_numbered : (s : Ehci) (h f : List ℕ) (rd : Readings) (n k : ℕ) (p : Pipe) (r : Request)
+    → linked_of s h f rd (standing_numbered n) k p r ≡ cond (eqb n 2) (gathered (pending_collect s) h f) (pending_left (unlink_of s h f rd k p r))
+unfolding linked_of
+linked_numbered s h f rd n k p r = rw (numbered_stands n)
+
 module _ (s : Ehci) (pool : ℕ) (h f : List ℕ) (setups : ℕ) (rd : Readings) (v : View) (k : ℕ) (p : Pipe) (r : Request)
     (ok : accepts_of s (lengths pool (length h) (length f) setups) ≡ true) (e : endpoint_at s k ≡ Linked p r) (few : s.unanswered < 32) where
   -- an active descriptor comes first: Pending, and nothing changes
@@ -190,3 +198,12 @@ module _ (s : Ehci) (pool : ℕ) (h f : List ℕ) (setups : ℕ) (rd : Readings)
       let g = pending_left l in
       sym (collect_looks s pool h f setups rd v k r.id true (sym ok) g.came refl (endpoint_at s k) refl p r l.rows.heads l.rows.frames e
       (linked_unlinks s h f rd v.stage k p r l.came g.came.answer l.rows.heads l.rows.frames refl refl n) few refl)
+
+  -- the same of a view whose standing a number says, for every number
+  pub collect_active_numbered : (n : ℕ) → v.stage ≡ standing_numbered n → n ≡ 2
+      → collect_of s pool h f setups rd v k r.id ≡ gathered (pending_collect s) h f
+  collect_active_numbered n t two = collect_active (t ∙ numbered_active n two)
+
+  pub collect_unlinks_numbered : (n : ℕ) → v.stage ≡ standing_numbered n → n ≢ 2
+      → collect_of s pool h f setups rd v k r.id ≡ pending_left (unlink_of s h f rd k p r)
+  collect_unlinks_numbered n t other = collect_unlinks (λ q. numbered_other n other (sym t ∙ q))

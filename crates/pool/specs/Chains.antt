@@ -119,6 +119,10 @@ stands_active Inactive = false
 stands_active Erring = false
 stands_active Active = true
 
+-- the standing that a number says: a number that is not 0 stays whatever comes later, and 2 alone is active
+abbrev pub standing_numbered : ℕ → Standing
+standing_numbered n = cond (eqb n 0) Inactive (cond (eqb n 2) Active Erring)
+
 -- the first erring token, 0 where none is
 unfoldable pub first_error : List Seen → ℕ
 first_error [] = 0

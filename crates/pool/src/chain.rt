@@ -1,7 +1,7 @@
 // What the tokens of a request say, one after another.
 ghost use Rattle.std.specs.Prelude.{◌≡◌, [], ◌-◌, ◌<◌};
 ghost use Rattle.token.specs.EhciQtd.{total_bytes};
-ghost use Rattle.pool.specs.Chains.{blank, is_active, is_erring, is_retried, is_short, number_if, or_else, stage_else, stage_of, view_of, stands_active};
+ghost use Rattle.pool.specs.Chains.{blank, is_active, is_erring, is_retried, is_short, number_if, or_else, stage_else, stage_of, standing_numbered, view_of, stands_active};
 
 use descriptor::qtd::QueueTransferDescriptor;
 use token::qtd::QtdToken;
@@ -19,6 +19,17 @@ impl Standing {
         ensures { result ≡ stands_active self }
     {
         matches!(self, Standing::Active)
+    }
+}
+
+// For callers that hold a number: 0 is inactive, 2 active. Any other is erring, as no later token changes it.
+pub fn standing_numbered(number: u8) -> Standing
+    ensures { result ≡ standing_numbered number }
+{
+    match number {
+        0 => Standing::Inactive,
+        2 => Standing::Active,
+        _ => Standing::Erring,
     }
 }
 
