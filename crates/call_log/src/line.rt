@@ -27,6 +27,8 @@ pub struct Line {
 }
 
 impl Line {
+    // Not inlined: where it is, its whole row is made for each word that is held against another, shown or not.
+    #[inline(never)]
     pub fn of(letter: u8, parts: &[Part]) -> Line
         requires { length parts.now ≤ 14 }
         ensures { line_bytes result ≡ said_line letter parts.now }
