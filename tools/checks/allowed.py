@@ -1,7 +1,7 @@
 """Words in code font that are no names of the repository, each with its reason."""
 
 # the pages that lay older names and texts beside those of today: they are not held to the repository
-PASSES = {"docs/PORT.md", "docs/DESIGN-PASS.md"}
+PASSES = {"docs/PORT.md", "docs/DESIGN-PASS.md", "docs/LOOK-BACK.md"}
 
 # paths that are not the repository's
 FILES = {
