@@ -8,6 +8,7 @@ use Rattle.text.specs.Text.{decimal, decimal_up_to, hex, lines_to}
 use Rattle.job_sheet.specs.declared.outcome.Opened.{Opened}
 use Rattle.job_sheet.specs.declared.outcome.Outcome.{Outcome}
 use Rattle.job_sheet.specs.declared.outcome.Submitted.{Submitted}
+use Rattle.job_sheet.specs.declared.record.EndpointRecord.{EndpointRecord}
 use Rattle.job_sheet.specs.declared.record.RequestRecord.{RequestRecord}
 use Rattle.job_sheet.specs.Few.{few_of, filled, items}
 use Rattle.job_sheet.specs.Sheets.{joined}
@@ -16,9 +17,9 @@ use Rattle.job_sheet.specs.Listing.{descriptor_line, endpoint_line, number_field
 use Rattle.job_sheet.specs.Outcomes.{answered_lines, listing_of, not_opened, not_submitted, place_lines, slot_of}
 use Rattle.job_sheet.proofs.Examples.{example}
 
--- slot 0 was opened and has the first three places
+-- a record of the job, opened on slot 0, which has the first three places
 told : List Opened
-told = record { answer = 0; slot = Some 0 } ∷ []
+told = map (λ (e : EndpointRecord). record { answer = 0; slot = Some 0 }) example.endpoints
 
 -- a request of the job, accepted with id 1 on the slot that its record's opening gave
 accepted : RequestRecord → Submitted

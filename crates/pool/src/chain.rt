@@ -75,6 +75,20 @@ pub fn stage_with(stage: Standing, token: QtdToken) -> Standing
     }
 }
 
+// The same over numbers, for callers that hold one: any number but 0 is kept.
+pub fn stage_numbered_with(stage: u8, token: QtdToken) -> u8
+    ensures { result ≡ or_else stage (number_if (is_active token.0) 2 (number_if (is_erring token.0) 1 0)) }
+{
+    if stage != 0 {
+        return stage;
+    }
+    match stage_of(token) {
+        Standing::Inactive => 0,
+        Standing::Erring => 1,
+        Standing::Active => 2,
+    }
+}
+
 pub fn failed_with(failed: u32, token: QtdToken) -> u32
     ensures { result ≡ or_else failed (number_if (is_erring token.0) token.0 0) }
 {
