@@ -32,7 +32,7 @@ pub outcome_is : (ran : code.Ran) (owner : List ℕ) → owner ≡ (store_view r
 outcome_is ran owner e = rw e
 
 -- the listing shows the things of an outcome's lists alone
-view_listed : (o : Outcome) → listing_of o ≡ listing_of (outcome_view o)
+pub view_listed : (o : Outcome) → listing_of o ≡ listing_of (outcome_view o)
 unfolding answered_lines listing_of
 view_listed o =
     let opened = sym (filled_taken 8 not_opened (items o.opened)) in
